@@ -1,0 +1,4 @@
+pub mod Maps
+pub mod Scope
+pub mod Term
+pub mod Laws
