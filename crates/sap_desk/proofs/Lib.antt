@@ -1,0 +1,11 @@
+pub mod Steps
+pub mod Places
+pub mod Lines
+pub mod WholeFiles
+pub mod Files
+pub mod Channels
+pub mod Rooms
+pub mod Added
+pub mod Told
+pub mod Shown
+pub mod Written

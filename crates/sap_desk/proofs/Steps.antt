@@ -1,0 +1,182 @@
+-- What calls in a row make of a desk.
+use Rattle.std.proofs.Common.{◌≡◌, ℕ, ◌+◌, ◌<◌, Bool, true, false, cond, List, [], ◌++◌, length, take, drop, append_assoc, refl, sym, ◌∙◌, ap, subst, arith, inl, inr}
+use Rattle.std.specs.Prelude.{eqb, Option, Some, None, option_map}
+use Rattle.std.proofs.lemmas.Bool.{cases_eq}
+use Rattle.std.proofs.lemmas.Slice.Eq.{bytes_eq-Decides}
+use Rattle.std.proofs.lemmas.Bool.Decides.{nat_tests}
+use Rattle.std.proofs.lemmas.List.{drop-drop, take-append-drop, append-nil}
+use Rattle.std.proofs.Math.Seq.{drop-nil}
+use Rattle.sap_desk.specs.Cause.{Gave}
+use Rattle.std.specs.Prelude.{bytes_eq, ltb, IfSome, IsSome, unwrap_or, Result, Ok, Err, OnErr}
+use Rattle.sap_desk.specs.Desk.{Told, Use, at_name, added, added_to, closed, reads, writes, stream, at_number, rest_of, rest_of_use, moved, moved_use, opened, bytes_of}
+
+pub option_map-twice : {A B C : Type 0} (f : B → C) (g : A → B) (o : Option A) → option_map f (option_map g o) ≡ option_map (λ a. f (g a)) o
+option_map-twice f g None = refl
+option_map-twice f g (Some a) = refl
+
+pub option_map-same : {A B : Type 0} (f g : A → B) (o : Option A) → ((a : A) → f a ≡ g a) → option_map f o ≡ option_map g o
+option_map-same f g None h = refl
+option_map-same f g (Some a) h = ap Some (h a)
+
+pub option_map-id : {A : Type 0} (f : A → A) (o : Option A) → ((a : A) → f a ≡ a) → o ≡ option_map f o
+option_map-id f None h = refl
+option_map-id f (Some a) h = ap Some (sym (h a))
+
+pub eqb-same : (k : ℕ) → eqb k k ≡ true
+eqb-same k = grind (arith, nat_tests)
+
+pub at_number-same : {A : Type 0} (k : ℕ) (x : A) (f : ℕ → A) → at_number k x f k ≡ x
+at_number-same k x f = rw (eqb-same k) refl
+
+at_number-twice-at : {A : Type 0} (k : ℕ) (x y : A) (f : ℕ → A) (n : ℕ) → at_number k y (at_number k x f) n ≡ at_number k y f n
+at_number-twice-at k x y f n = elim (eqb n k) as (λ b. cond b y (cond b x (f n)) ≡ cond b y (f n)) [ true ↦ refl | false ↦ refl ]
+
+pub at_number-twice : {A : Type 0} (k : ℕ) (x y : A) (f : ℕ → A) → at_number k y (at_number k x f) ≡ at_number k y f
+at_number-twice k x y f = λ i n. at_number-twice-at k x y f n i
+
+at_number-keeps-at : {A : Type 0} (k : ℕ) (x : A) (f : ℕ → A) → f k ≡ x → (n : ℕ) → at_number k x f n ≡ f n
+at_number-keeps-at k x f h n = elim (cases_eq n k) [
+  | inl same ↦ rw (same, eqb-same k) (sym h)
+  | inr other ↦ let no : eqb n k ≡ false = grind (arith, nat_tests) in rw no refl
+]
+
+pub at_number-keeps : {A : Type 0} (k : ℕ) (x : A) (f : ℕ → A) → f k ≡ x → at_number k x f ≡ f
+at_number-keeps k x f h = λ i n. at_number-keeps-at k x f h n i
+
+moved_use-twice : (m n : ℕ) (u : Use) → moved_use n (moved_use m u) ≡ moved_use (m + n) u
+moved_use-twice m n (reads name p) = ap (reads name) (omega arith)
+moved_use-twice m n (writes name) = refl
+moved_use-twice m n closed = refl
+moved_use-twice m n stream = refl
+
+moved_use-none : (u : Use) → u ≡ moved_use 0 u
+moved_use-none (reads name p) = ap (reads name) (omega arith)
+moved_use-none (writes name) = refl
+moved_use-none closed = refl
+moved_use-none stream = refl
+
+pub moved-none : (channel : ℕ) (t : Told) → moved channel 0 t ≡ t
+moved-none channel t = λ i. record t { uses = at_number-keeps channel (moved_use 0 (t.uses channel)) t.uses (moved_use-none (t.uses channel)) i }
+
+pub moved-twice : (channel m n : ℕ) (t : Told) → moved channel n (moved channel m t) ≡ moved channel (m + n) t
+moved-twice channel m n t =
+    let use_is : moved_use n (at_number channel (moved_use m (t.uses channel)) t.uses channel) ≡ moved_use (m + n) (t.uses channel)
+    = ap (moved_use n) (at_number-same channel (moved_use m (t.uses channel)) t.uses) ∙ moved_use-twice m n (t.uses channel) in
+    let uses_are = ap (λ (u : Use). at_number channel u (at_number channel (moved_use m (t.uses channel)) t.uses)) use_is
+    ∙ at_number-twice channel (moved_use m (t.uses channel)) (moved_use (m + n) (t.uses channel)) t.uses in
+    λ i. record t { uses = uses_are i }
+
+rest-moved_use : (t : Told) (n : ℕ) (u : Use) → rest_of_use t (moved_use n u) ≡ drop n (rest_of_use t u)
+rest-moved_use t n (reads name p) = sym (drop-drop n p (bytes_of t name))
+rest-moved_use t n (writes name) = sym (drop-nil n)
+rest-moved_use t n closed = sym (drop-nil n)
+rest-moved_use t n stream = sym (drop-nil n)
+
+rest-moved_files : (channel n : ℕ) (t : Told) (u : Use) → rest_of_use (moved channel n t) u ≡ rest_of_use t u
+rest-moved_files channel n t (reads name p) = refl
+rest-moved_files channel n t (writes name) = refl
+rest-moved_files channel n t closed = refl
+rest-moved_files channel n t stream = refl
+
+pub rest-moved : (channel n : ℕ) (t : Told) → rest_of (moved channel n t) channel ≡ drop n (rest_of t channel)
+rest-moved channel n t =
+    ap (rest_of_use (moved channel n t)) (at_number-same channel (moved_use n (t.uses channel)) t.uses)
+    ∙ rest-moved_files channel n t (moved_use n (t.uses channel)) ∙ rest-moved_use t n (t.uses channel)
+
+-- one more piece, and what was read and what is left are still all
+pub read_more : (channel len count : ℕ) (bytes before after : List ℕ) (old mid : Option Told)
+    → mid ≡ option_map (moved channel len) old
+    → IfSome old (λ t. bytes ++ drop len (rest_of t channel) ≡ rest_of t channel)
+    → IfSome mid (λ t. Gave t channel count before after)
+    → IfSome old (λ t. (bytes ++ take count after) ++ drop (len + count) (rest_of t channel) ≡ rest_of t channel)
+read_more channel len count bytes before after None mid is so_far gave = tt
+read_more channel len count bytes before after (Some t) mid is so_far gave =
+    let g : Gave (moved channel len t) channel count before after = let P : Option Told → Type 0 = λ o. IfSome o (λ t. Gave t channel count before after) in subst P is gave in
+    let rest = rest-moved channel len t in
+    let piece : take count after ≡ take count (drop len (rest_of t channel)) = g.piece ∙ ap (take count) rest in
+    rw (piece, ← drop-drop count len (rest_of t channel), append_assoc bytes _ _, take-append-drop count (drop len (rest_of t channel))) so_far
+
+pub read_end : (channel len : ℕ) (bytes before after : List ℕ) (old mid : Option Told)
+    → mid ≡ option_map (moved channel len) old
+    → IfSome old (λ t. bytes ++ drop len (rest_of t channel) ≡ rest_of t channel)
+    → IfSome mid (λ t. Gave t channel 0 before after)
+    → (length before ≡ 0 → ⊥)
+    → IfSome old (λ t. bytes ≡ rest_of t channel)
+read_end channel len bytes before after None mid is so_far gave some = tt
+read_end channel len bytes before after (Some t) mid is so_far gave some =
+    let g : Gave (moved channel len t) channel 0 before after = let P : Option Told → Type 0 = λ o. IfSome o (λ t. Gave t channel 0 before after) in subst P is gave in
+    elim (g.end refl) [
+      | inl none ↦ absurd (some none)
+      | inr done ↦
+          let left : drop len (rest_of t channel) ≡ [] = sym (rest-moved channel len t) ∙ done in
+          sym (append-nil bytes) ∙ rw left at so_far
+    ]
+
+pub told_more : (channel len count : ℕ) (old mid new : Option Told)
+    → mid ≡ option_map (moved channel len) old → new ≡ option_map (moved channel count) mid
+    → new ≡ option_map (moved channel (len + count)) old
+told_more channel len count old mid new is more =
+    more ∙ ap (option_map (moved channel count)) is ∙ option_map-twice (moved channel count) (moved channel len) old
+    ∙ option_map-same _ _ old (moved-twice channel len count)
+
+file_there : (o : Option (List ℕ)) → IsSome o → o ≡ Some (unwrap_or o [])
+file_there None h = cc
+file_there (Some x) h = refl
+
+-- an opened channel has the whole file left
+pub rest-opened : (channel : ℕ) (name bytes : List ℕ) (old mid : Option Told)
+    → mid ≡ option_map (opened channel name) old
+    → IfSome old (λ t. IsSome (t.files name))
+    → IfSome mid (λ t. bytes ≡ rest_of t channel)
+    → IfSome old (λ t. t.files name ≡ Some bytes)
+rest-opened channel name bytes None mid is there rest = tt
+rest-opened channel name bytes (Some t) mid is there rest =
+    let all : bytes ≡ rest_of (opened channel name t) channel = let P : Option Told → Type 0 = λ o. IfSome o (λ t. bytes ≡ rest_of t channel) in subst P is rest in
+    let whole : bytes ≡ bytes_of t name = all ∙ ap (rest_of_use (opened channel name t)) (at_number-same channel (reads name 0) t.uses) in
+    rw whole (file_there (t.files name) there)
+
+pub bytes_eq-same : (k : List ℕ) → bytes_eq k k ≡ true
+bytes_eq-same k = grind (arith, bytes_eq-Decides k k)
+
+pub at_name-same : {A : Type 0} (k : List ℕ) (x : A) (f : List ℕ → A) → at_name k x f k ≡ x
+at_name-same k x f = let same : bytes_eq k k ≡ true = bytes_eq-same k in rw same refl
+
+at_name-twice-at : {A : Type 0} (k : List ℕ) (x y : A) (f : List ℕ → A) (n : List ℕ) → at_name k y (at_name k x f) n ≡ at_name k y f n
+at_name-twice-at k x y f n = elim (bytes_eq n k) as (λ b. cond b y (cond b x (f n)) ≡ cond b y (f n)) [ true ↦ refl | false ↦ refl ]
+
+pub at_name-twice : {A : Type 0} (k : List ℕ) (x y : A) (f : List ℕ → A) → at_name k y (at_name k x f) ≡ at_name k y f
+at_name-twice k x y f = λ i n. at_name-twice-at k x y f n i
+
+pub number-at : {A : Type 0} (k : ℕ) (x : A) (f h : ℕ → A) → h ≡ at_number k x f → h k ≡ x
+number-at {A = A} k x f h e = ap (λ (q : ℕ → A). q k) e ∙ at_number-same k x f
+
+pub other_number : (n k : ℕ) → n < k → eqb n k ≡ false
+other_number n k h = grind (arith, nat_tests)
+
+added_to-twice : (u : Use) (a b : List ℕ) (files : List ℕ → Option (List ℕ)) → added_to u b (added_to u a files) ≡ added_to u (a ++ b) files
+added_to-twice (reads name p) a b files = refl
+added_to-twice (writes name) a b files =
+    ap (λ (o : Option (List ℕ)). at_name name (Some (unwrap_or o [] ++ b)) (at_name name (Some (unwrap_or (files name) [] ++ a)) files)) (at_name-same name (Some (unwrap_or (files name) [] ++ a)) files)
+    ∙ at_name-twice name (Some (unwrap_or (files name) [] ++ a)) (Some ((unwrap_or (files name) [] ++ a) ++ b)) files
+    ∙ ap (λ (l : List ℕ). at_name name (Some l) files) (append_assoc (unwrap_or (files name) []) a b)
+added_to-twice closed a b files = refl
+added_to-twice stream a b files = refl
+
+added_files-twice : (above : Bool) (u : Use) (a b : List ℕ) (files : List ℕ → Option (List ℕ))
+    → cond above (added_to u b (cond above (added_to u a files) files)) (cond above (added_to u a files) files) ≡ cond above (added_to u (a ++ b) files) files
+added_files-twice true u a b files = added_to-twice u a b files
+added_files-twice false u a b files = refl
+
+-- two pieces in turn are one piece
+pub added-twice : (channel : ℕ) (a b : List ℕ) (t : Told) → added channel b (added channel a t) ≡ added channel (a ++ b) t
+added-twice channel a b t =
+    let files_are = added_files-twice (ltb 2 channel) (t.uses channel) a b t.files in
+    let piece_is : at_number channel (t.written channel ++ a) t.written channel ++ b ≡ t.written channel ++ (a ++ b)
+    = ap (λ (l : List ℕ). l ++ b) (at_number-same channel (t.written channel ++ a) t.written) ∙ append_assoc (t.written channel) a b in
+    let written_are = ap (λ (l : List ℕ). at_number channel l (at_number channel (t.written channel ++ a) t.written)) piece_is
+    ∙ at_number-twice channel (t.written channel ++ a) (t.written channel ++ (a ++ b)) t.written in
+    λ i. record t { files = files_are i; written = written_are i }
+
+pub on_err : {T E P : Type 0} (r : Result T E) → P → OnErr r P
+on_err (Ok v) p = tt
+on_err (Err e) p = p

@@ -1,0 +1,12 @@
+use Rattle.std.proofs.Common.{refl, length}
+use Rattle.std.proofs.lemmas.Option.{slice_get_read}
+use Rattle.sap_desk.proofs.store.advance.Goals as goal
+
+pub returns : goal.returns
+returns c = record {
+  before = c.index_mut-channel.result.now;
+  after = _;
+  was = slice_get_read c.args.channels.now.items (length c.args.channels.now.items) c.args.k c.index_mut-channel.result.now refl c.requires.there c.index_mut-channel.ensures.value;
+  now = refl;
+  by = refl;
+}

@@ -1,0 +1,143 @@
+-- What a desk holds, as far as it tells, and what each call makes of it.
+use Rattle.std.specs.Prelude.{ℕ, ◌+◌, cond, eqb, ltb, List, [], ◌++◌, drop, bytes_eq, codes, Option, Some, unwrap_or, option_map, slice_get}
+
+-- what a channel is open for
+pub data Use : Type 0 where
+  -- for nothing: it was never opened, or it was finished
+  closed : Use
+  -- for reading the file of a name, from a position on
+  reads : List ℕ → ℕ → Use
+  -- for writing the file of a name
+  writes : List ℕ → Use
+  -- for writing a standard stream: channels 1 and 2
+  stream : Use
+
+-- names and contents are bytes, and a channel is its number
+pub record Told : Type 0 where
+  -- the bytes of the file of a name, if there is one
+  pub files : List ℕ → Option (List ℕ)
+  -- what each channel is open for
+  pub uses : ℕ → Use
+  -- what was written on each channel since it was opened: it stays when the channel is finished
+  pub written : ℕ → List ℕ
+  -- whom the last failed call blames that counted as a fault: a file's name, or `output`
+  pub blame : List ℕ
+  -- how many bytes a channel takes
+  pub room : ℕ
+
+-- the function with another value at one number
+abbrev pub at_number : {A : Type 0} → ℕ → A → (ℕ → A) → ℕ → A
+at_number k x f n = cond (eqb n k) x (f n)
+
+-- the function with another value at one name
+abbrev pub at_name : {A : Type 0} → List ℕ → A → (List ℕ → A) → List ℕ → A
+at_name k x f n = cond (bytes_eq n k) x (f n)
+
+-- the bytes of a file, none where there is no file
+abbrev pub bytes_of : Told → List ℕ → List ℕ
+bytes_of t name = unwrap_or (t.files name) []
+
+abbrev pub rest_of_use : Told → Use → List ℕ
+rest_of_use t (reads name position) = drop position (bytes_of t name)
+rest_of_use t (writes name) = []
+rest_of_use t closed = []
+rest_of_use t stream = []
+
+-- the bytes that a channel has left to read
+abbrev pub rest_of : Told → ℕ → List ℕ
+rest_of t channel = rest_of_use t (t.uses channel)
+
+-- open for reading
+abbrev pub IsReading : Use → Type 0
+IsReading (reads name position) = Unit {0}
+IsReading (writes name) = ⊥
+IsReading closed = ⊥
+IsReading stream = ⊥
+
+-- open for writing
+abbrev pub IsWriting : Use → Type 0
+IsWriting (reads name position) = ⊥
+IsWriting (writes name) = Unit {0}
+IsWriting closed = ⊥
+IsWriting stream = Unit {0}
+
+-- open for either
+abbrev pub IsOpen : Use → Type 0
+IsOpen (reads name position) = Unit {0}
+IsOpen (writes name) = Unit {0}
+IsOpen closed = ⊥
+IsOpen stream = Unit {0}
+
+-- What a call makes of the desk where it answers Ok.
+
+-- `open_in`: the channel reads the file of the name, from its first byte
+abbrev pub opened : ℕ → List ℕ → Told → Told
+opened channel name t = record t { uses = at_number channel (reads name 0) t.uses }
+
+abbrev pub moved_use : ℕ → Use → Use
+moved_use count (reads name position) = reads name (position + count)
+moved_use count (writes name) = writes name
+moved_use count closed = closed
+moved_use count stream = stream
+
+-- `read`: the position moves on by what was given
+abbrev pub moved : ℕ → ℕ → Told → Told
+moved channel count t = record t { uses = at_number channel (moved_use count (t.uses channel)) t.uses }
+
+-- `create`: the file of the name is empty, and the channel writes it, with nothing written yet
+abbrev pub created : ℕ → List ℕ → Told → Told
+created channel name t = record t {
+  files = at_name name (Some []) t.files;
+  uses = at_number channel (writes name) t.uses;
+  written = at_number channel [] t.written;
+}
+
+abbrev pub added_to : Use → List ℕ → (List ℕ → Option (List ℕ)) → List ℕ → Option (List ℕ)
+added_to (reads name position) piece files = files
+added_to (writes name) piece files = at_name name (Some (unwrap_or (files name) [] ++ piece)) files
+added_to closed piece files = files
+added_to stream piece files = files
+
+-- `write`: the channel has the piece more, and so has its file where the channel is above 2
+abbrev pub added : ℕ → List ℕ → Told → Told
+added channel piece t = record t {
+  files = cond (ltb 2 channel) (added_to (t.uses channel) piece t.files) t.files;
+  written = at_number channel (t.written channel ++ piece) t.written;
+}
+
+-- `finish`: the channel is open for nothing
+abbrev pub finished : ℕ → Told → Told
+finished channel t = record t { uses = at_number channel closed t.uses }
+
+-- What a call makes of the desk where it answers Failed.
+
+abbrev pub blamed : List ℕ → Told → Told
+blamed name t = record t { blame = name }
+
+-- a call on channel 2 blames nobody, one on channel 1 the output, and one on another channel its file
+abbrev pub blame_at : ℕ → List ℕ → Told → Told
+blame_at channel name t = cond (eqb channel 2) t (blamed (cond (eqb channel 1) (codes "output") name) t)
+
+-- the file that a failed call blames: none where the channel isn't open for the call
+
+abbrev pub name_if_reading : Use → List ℕ
+name_if_reading (reads name position) = name
+name_if_reading (writes name) = []
+name_if_reading closed = []
+name_if_reading stream = []
+
+abbrev pub name_if_writing : Use → List ℕ
+name_if_writing (reads name position) = []
+name_if_writing (writes name) = name
+name_if_writing closed = []
+name_if_writing stream = []
+
+abbrev pub name_if_open : Use → List ℕ
+name_if_open (reads name position) = name
+name_if_open (writes name) = name
+name_if_open closed = []
+name_if_open stream = []
+
+-- what a list tells by place, and past its end
+abbrev pub placed : {X A : Type 0} → (X → A) → A → List X → ℕ → A
+placed f none xs k = unwrap_or (option_map f (slice_get xs k)) none

@@ -1,0 +1,9 @@
+pub mod Desk
+pub mod Cause
+pub mod Whole
+pub mod Host
+pub mod Memory
+pub mod MemoryCalls
+pub mod Room
+pub mod Store
+pub mod Told

@@ -1,0 +1,85 @@
+-- What a whole file or a whole line makes of a desk.
+use Rattle.std.specs.Prelude.{◌≡◌, ◌⊎◌, ℕ, ◌^◌, ◌<◌, ◌≤◌, List, [], ◌∷◌, ◌++◌, take, length, codes, Option, Some, None, IfSome, IsSomeAnd, option_map, Result, OnOk, OnErr}
+use Rattle.std.specs.List.{flat_map}
+use Rattle.std.specs.Borrow.{Bor}
+use Rattle.sap_desk.specs.Desk.{Told, IsOpen, at_name, bytes_of, blamed, added}
+use Rattle.sap_desk.specs.Cause.{counted}
+
+-- what holds of the contents before and after, where the desk tells
+abbrev pub Between : Option Told → Option Told → (Told → Told → Type 0) → Type 0
+Between before after R = IfSome before (λ t. IsSomeAnd after (λ n. R t n))
+
+-- channels 1 and 2, each channel that was open, and the room are as before
+pub record SameChannels (t n : Told) : Type 0 where
+  pub room : n.room ≡ t.room
+  pub output_use : n.uses 1 ≡ t.uses 1
+  pub output : n.written 1 ≡ t.written 1
+  pub lines_use : n.uses 2 ≡ t.uses 2
+  pub lines : n.written 2 ≡ t.written 2
+  pub open_use : (k : ℕ) → IsOpen (t.uses k) → n.uses k ≡ t.uses k
+  pub open_written : (k : ℕ) → IsOpen (t.uses k) → n.written k ≡ t.written k
+
+-- reading stopped for want of memory: a channel may be open that wasn't
+pub record StoppedReading (t n : Told) : Type 0 where
+  pub files : n.files ≡ t.files
+  pub blame : n.blame ≡ t.blame
+  pub channels : SameChannels t n
+
+-- a call failed that reads the file of a name
+pub record FailedReading (name : List ℕ) (t n : Told) : Type 0 where
+  pub files : n.files ≡ t.files
+  pub blame : n.blame ≡ name
+  pub channels : SameChannels t n
+
+-- why reading a file fails at a sure desk
+abbrev pub MissingOrLong : List ℕ → Told → Type 0
+MissingOrLong name t = (t.files name ≡ None) ⊎ (2 ^ 32 ≤ length (bytes_of t name))
+
+-- the file of a name has these bytes, and no other file changed
+pub record Wrote (name bytes : List ℕ) (t n : Told) : Type 0 where
+  pub files : n.files ≡ at_name name (Some bytes) t.files
+  pub blame : n.blame ≡ t.blame
+  pub channels : SameChannels t n
+
+-- the file of a name has a prefix of these bytes, and no other file changed
+pub record WrotePrefix (name bytes : List ℕ) (t n : Told) : Type 0 where
+  pub count : ℕ
+  pub within : count ≤ length bytes
+  pub files : n.files ≡ at_name name (Some (take count bytes)) t.files
+
+-- a call failed that writes the file of a name: the files are as before, or that one has a prefix
+pub record FailedWriting (name bytes : List ℕ) (t n : Told) : Type 0 where
+  pub files : (n.files ≡ t.files) ⊎ WrotePrefix name bytes t n
+  pub blame : n.blame ≡ name
+  pub channels : SameChannels t n
+
+-- why writing a file fails at a sure desk: it is longer than the room, which it fills
+pub record FillsFile (name bytes : List ℕ) (t n : Told) : Type 0 where
+  pub beyond : t.room < length bytes
+  pub full : n.files ≡ at_name name (Some (take t.room bytes)) t.files
+
+-- a count after a call that counts there where it fails
+pub record CountsFailed {T E : Type 0} (before now : ℕ) (result : Result T E) : Type 0 where
+  pub ok : OnOk result (now ≡ before)
+  pub failed : OnErr result (now ≡ counted before)
+  pub later : before ≤ now
+
+-- channel 1 got a prefix of the bytes, and is blamed
+pub record CutOutput (bytes : List ℕ) (before after : Option Told) : Type 0 where
+  pub count : ℕ
+  pub within : count ≤ length bytes
+  pub told : after ≡ option_map (λ t. blamed (codes "output") (added 1 (take count bytes) t)) before
+
+-- channel 2 got a prefix of the line
+pub record CutLine (line : List ℕ) (before after : Option Told) : Type 0 where
+  pub count : ℕ
+  pub within : count ≤ length line
+  pub told : after ≡ option_map (added 2 (take count line)) before
+
+-- the parts one after another
+abbrev pub joined : List (Bor (List ℕ)) → List ℕ
+joined parts = flat_map (λ part. part.now) parts
+
+-- and the end of the line
+abbrev pub line_of : List (Bor (List ℕ)) → List ℕ
+line_of parts = joined parts ++ 10 ∷ []

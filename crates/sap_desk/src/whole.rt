@@ -1,0 +1,64 @@
+// Whole files through a desk.
+ghost use Rattle.std.specs.Prelude.{◌≡◌, ◌⊎◌, ◌+◌, ◌<◌, ◌≤◌, ◌^◌, ℕ, Some, length, IfOk, OnOk, OnErr, IfSome, IsErrOf, option_map};
+ghost use Rattle.sap_desk.specs.Desk.{rest_of, moved, name_if_reading, blamed, IsReading};
+ghost use Rattle.sap_desk.specs.Cause.{CountsOpen};
+ghost use Rattle.sap_desk.specs.Whole.{Between, StoppedReading, FailedReading, MissingOrLong, Wrote, FailedWriting, FillsFile};
+
+use crate::{Bytes, Desk, DeskError};
+use std::alloc::Global;
+
+// Reads what a channel has left.
+fn read_rest<D: Desk>(alloc: Global, desk: &mut D, channel: usize) -> Result<Vec<u8>, DeskError>
+    requires { 2 < channel }
+    ensures bytes { IfOk result (λ bytes. IfSome (D.told desk.old) (λ t. bytes.items ≡ rest_of t channel)) }
+    ensures told { IfOk result (λ bytes. D.told desk.new ≡ option_map (moved channel (length bytes.items)) (D.told desk.old)) }
+    ensures failed { IsErrOf result DeskError.Failed → (count : ℕ) × (D.told desk.new ≡ option_map (λ t. blamed (name_if_reading (t.uses channel)) (moved channel count t)) (D.told desk.old)) }
+    ensures memory { IsErrOf result DeskError.Memory → (count : ℕ) × (D.told desk.new ≡ option_map (moved channel count) (D.told desk.old)) }
+    ensures counts { CountsOpen (D.faults desk.old) (D.faults desk.new) (D.lost desk.old) (D.lost desk.new) result }
+    ensures sure { D.sure desk.old → D.sure desk.new }
+    ensures cause { IsErrOf result DeskError.Failed → D.sure desk.old → IfSome (D.told desk.old) (λ t. (¬ IsReading (t.uses channel)) ⊎ (2 ^ 32 ≤ D.given desk.old channel + length (rest_of t channel))) }
+{
+    let mut bytes = Vec::new(alloc);
+    let mut piece = [0u8; 4096];
+    loop {
+        let count = desk.read(channel, &mut piece)?;
+        if count == 0 {
+            break;
+        }
+        bytes.extend_from_slice(&piece[..count])?;
+    }
+    Ok(bytes)
+}
+
+/// Reads the whole file of a name, in pieces of 4096 bytes. After a failed call it makes no further one.
+pub fn read_file<D: Desk>(alloc: Global, desk: &mut D, name: &str) -> Result<Bytes, DeskError>
+    ensures bytes { IfOk result (λ bytes. IfSome (D.told desk.old) (λ t. t.files name.now ≡ Some bytes)) }
+    ensures told { OnOk result (D.told desk.new ≡ D.told desk.old) }
+    ensures failed { IsErrOf result DeskError.Failed → Between (D.told desk.old) (D.told desk.new) (FailedReading name.now) }
+    ensures memory { IsErrOf result DeskError.Memory → Between (D.told desk.old) (D.told desk.new) StoppedReading }
+    ensures counts { CountsOpen (D.faults desk.old) (D.faults desk.new) (D.lost desk.old) (D.lost desk.new) result }
+    ensures sure { D.sure desk.old → D.sure desk.new }
+    ensures cause { IsErrOf result DeskError.Failed → D.sure desk.old → IfSome (D.told desk.old) (MissingOrLong name.now) }
+{
+    let channel = desk.open_in(name)?;
+    let bytes = read_rest(alloc, desk, channel)?;
+    desk.finish(channel)?;
+    Ok(Bytes::new(bytes))
+}
+
+/// Makes a file of these bytes, in one piece. It takes no memory once the file is made, and after a failed call it makes
+/// no further one.
+pub fn write_file<D: Desk>(desk: &mut D, name: &str, bytes: &[u8]) -> Result<(), DeskError>
+    ensures ok { OnOk result (Between (D.told desk.old) (D.told desk.new) (Wrote name.now bytes.now)) }
+    ensures failed { IsErrOf result DeskError.Failed → Between (D.told desk.old) (D.told desk.new) (FailedWriting name.now bytes.now) }
+    ensures memory { IsErrOf result DeskError.Memory → D.told desk.new ≡ D.told desk.old }
+    ensures given { D.given desk.new ≡ D.given desk.old }
+    ensures counts { CountsOpen (D.faults desk.old) (D.faults desk.new) (D.lost desk.old) (D.lost desk.new) result }
+    ensures sure { D.sure desk.old → D.sure desk.new }
+    ensures cause { IsErrOf result DeskError.Failed → D.sure desk.old → Between (D.told desk.old) (D.told desk.new) (FillsFile name.now bytes.now) }
+{
+    let channel = desk.create(name)?;
+    desk.write(channel, bytes)?;
+    desk.finish(channel)?;
+    Ok(())
+}
