@@ -1,17 +1,16 @@
 -- Values of expressions.
-use Rattle.std.proofs.Common.{◌≡◌, ◌<◌, ◌≤◌, ◌^◌, ◌+◌, ◌-◌, ◌*◌, ◌/◌, ◌%◌, ◌==◌, ℕ, Bool, true, false, refl, ap, ap₂, sym, ◌∙◌, subst, arith, if◌then◌else◌}
+use Rattle.std.proofs.Common.{◌≡◌, ◌<◌, ◌^◌, ◌+◌, ◌-◌, ◌*◌, ◌/◌, ◌==◌, ℕ, Bool, true, false, refl, ap, ap₂, sym, subst, arith, if◌then◌else◌}
 use Rattle.std.proofs.Math.Pow.{pow_pos}
 use Rattle.std.proofs.Math.Nat.{mod-lt}
 use Rattle.std.proofs.lemmas.Nat.{pow-add}
-use Rattle.sap_bits.specs.declared.Op1.{Op1}
 use Rattle.sap_bits.specs.declared.Op2.{Op2}
 use Rattle.sap_bits.specs.declared.Op2.TheVariants.{Add, Sub, Mul, And, Or, Xor, Eq, Ne, Lt, Le, Shl, Shr}
-use Rattle.sap_bits.specs.Arithmetic.{value1, value2, width1, width2, RightFits, joined}
+use Rattle.sap_bits.specs.Arithmetic.{width1, width2, RightFits, joined}
 use Rattle.sap_bits.proofs.Within.{value1_below, value2_below}
 use Rattle.sap_maps.specs.Term.{Term, constant, read, cell, one, two, choose, join, part, term_width, term_value, map_term, TermFits, CountFits}
 
 -- the second operand is what the operator asks for
-right_fits : (op : Op2) (w u b : ℕ) → CountFits op w u → b < 2 ^ u → RightFits op w b
+pub right_fits : (op : Op2) (w u b : ℕ) → CountFits op w u → b < 2 ^ u → RightFits op w b
 right_fits Shl w u b c h = tt
 right_fits Shr w u b c h = tt
 right_fits Add w u b c h = subst (λ (k : ℕ). b < 2 ^ k) c h
@@ -25,14 +24,14 @@ right_fits Ne w u b c h = subst (λ (k : ℕ). b < 2 ^ k) c h
 right_fits Lt w u b c h = subst (λ (k : ℕ). b < 2 ^ k) c h
 right_fits Le w u b c h = subst (λ (k : ℕ). b < 2 ^ k) c h
 
-below_both : (b : Bool) (x y n : ℕ) → x < n → y < n → (if b then x else y) < n
+pub below_both : (b : Bool) (x y n : ℕ) → x < n → y < n → (if b then x else y) < n
 below_both true x y n h k = h
 below_both false x y n h k = k
 
 product_below : (a m b n : ℕ) → a < m → b < n → a * n + b < m * n
 product_below a m b n h k = grind arith
 
-joined_below : (a b u w : ℕ) → a < 2 ^ u → b < 2 ^ w → joined a w b < 2 ^ (u + w)
+pub joined_below : (a b u w : ℕ) → a < 2 ^ u → b < 2 ^ w → joined a w b < 2 ^ (u + w)
 joined_below a b u w h k = subst (λ (n : ℕ). a * 2 ^ w + b < n) (sym (pow-add 2 u w)) (product_below a (2 ^ u) b (2 ^ w) h k)
 
 pub term_within : {N : Type 0} (widths : N → ℕ) (value : N → ℕ) (cells : N → ℕ → ℕ) (t : Term N) → TermFits widths t

@@ -1,6 +1,6 @@
 -- Expressions over names of any type: the widths of names and of memories' cells, the numbers behind names and the cells of memories are given from outside.
-use Rattle.std.specs.Prelude.{◌≡◌, ◌<◌, ◌≤◌, ◌⊎◌, ℕ, ◌+◌, ◌-◌, ◌*◌, ◌/◌, ◌%◌, ◌^◌, ◌==◌, if◌then◌else◌}
-use Rattle.sap_bits.specs.Arithmetic.{value1, value2, width1, width2, slice_of, joined, RightFits}
+use Rattle.std.specs.Prelude.{◌≡◌, ◌<◌, ◌≤◌, ℕ, ◌+◌, ◌-◌, ◌^◌, ◌==◌, if◌then◌else◌}
+use Rattle.sap_bits.specs.Arithmetic.{value1, value2, width1, width2, slice_of, joined}
 use Rattle.sap_bits.specs.declared.Op1.{Op1}
 use Rattle.sap_bits.specs.declared.Op2.{Op2}
 use Rattle.sap_bits.specs.declared.Op2.TheVariants.{Shl, Shr}

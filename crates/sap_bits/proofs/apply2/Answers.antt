@@ -1,5 +1,5 @@
-use Rattle.std.proofs.Common.{◌≡◌, ℕ, ◌+◌, ◌-◌, ◌*◌, ◌<◌, ◌≤◌, sym, ap, ◌∙◌, subst, arith}
-use Rattle.sap_bits.specs.Arithmetic.{value2, RightFits}
+use Rattle.std.proofs.Common.{◌+◌, ◌*◌, ◌∙◌, subst}
+use Rattle.sap_bits.specs.Arithmetic.{RightFits}
 use Rattle.sap_bits.specs.declared.Op2.{Op2}
 use Rattle.sap_bits.proofs.Low.{low_bits, low_difference}
 use Rattle.sap_bits.proofs.apply2.Goals as goal

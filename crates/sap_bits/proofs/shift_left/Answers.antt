@@ -1,4 +1,4 @@
-use Rattle.std.proofs.Common.{◌≡◌, sym, arith}
+use Rattle.std.proofs.Common.{sym, arith}
 use Rattle.sap_bits.proofs.Low.{low_bits, shl_past}
 use Rattle.sap_bits.proofs.shift_left.Goals as goal
 

@@ -1,4 +1,4 @@
-use Rattle.std.proofs.Common.{◌≡◌, sym, arith}
+use Rattle.std.proofs.Common.{sym, arith}
 use Rattle.sap_bits.proofs.Low.{shr_past}
 use Rattle.sap_bits.proofs.shift_right.Goals as goal
 
