@@ -1,0 +1,12 @@
+pub mod Answered
+pub mod Binary
+pub mod CodeLaws
+pub mod Covers
+pub mod Encoded
+pub mod Judged
+pub mod KeptLemmas
+pub mod NameLemmas
+pub mod Numbers
+pub mod Orders
+pub mod PairLemmas
+pub mod RowLemmas

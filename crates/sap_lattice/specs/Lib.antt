@@ -1,0 +1,13 @@
+pub mod Built
+pub mod Closure
+pub mod Codes
+pub mod Finite
+pub mod Kept
+pub mod Lawful
+pub mod Levels
+pub mod Order
+pub mod Pairs
+pub mod Related
+pub mod Rows
+pub mod Rules
+pub mod Words

@@ -1,0 +1,10 @@
+// Pairs of names.
+
+use crate::name::Name;
+
+/// A pair of a lattice file: the lower level is at or below the upper.
+#[derive(Debug, Drop)]
+pub struct Pair {
+    pub lower: Name,
+    pub upper: Name,
+}
