@@ -1,0 +1,7 @@
+-- The tree of a design.
+use Rattle.sap_tree.specs.Parts.{tree_of}
+use Rattle.sap_tree.specs.Syntax.{DesignTree}
+use Rattle.sap_tree.specs.declared.design.Design.{Design}
+
+abbrev pub design_of : Design → DesignTree
+design_of design = tree_of design.declarations.items design.states.items

@@ -1,0 +1,12 @@
+pub mod Syntax
+pub mod Trees
+pub mod Spots
+pub mod Limits
+pub mod Words
+pub mod Precedence
+pub mod Extent
+pub mod Whole
+pub mod Touches
+pub mod Bare
+pub mod Parts
+pub mod Designs

@@ -1,0 +1,38 @@
+-- The limits of a design.
+use Rattle.std.specs.Prelude.{ℕ}
+
+-- bytes of a name
+abbrev pub most_name_bytes : ℕ
+most_name_bytes = 40
+
+abbrev pub most_inputs : ℕ
+most_inputs = 64
+
+abbrev pub most_registers : ℕ
+most_registers = 256
+
+abbrev pub most_memories : ℕ
+most_memories = 16
+
+abbrev pub most_states : ℕ
+most_states = 256
+
+-- levels of states, the top-level states being one
+abbrev pub most_nesting : ℕ
+most_nesting = 16
+
+-- commands of all bodies, those in blocks counted
+abbrev pub most_commands : ℕ
+most_commands = 4096
+
+-- levels of commands, those in no block being one
+abbrev pub most_blocks : ℕ
+most_blocks = 64
+
+-- brackets that are open at once in an expression that stands in no other
+abbrev pub most_brackets : ℕ
+most_brackets = 64
+
+-- tokens of an expression that stands in no other
+abbrev pub most_tokens : ℕ
+most_tokens = 256

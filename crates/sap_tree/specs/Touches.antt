@@ -1,0 +1,107 @@
+-- What a command touches: the dynamic entities whose tags tell whether it ran.
+use Rattle.std.specs.Prelude.{ℕ, Bool, true, false, ◌&&◌, ◌||◌, List}
+use Rattle.std.specs.List.{list_any}
+use Rattle.std.specs.Str.{bytes_eq}
+use Rattle.sap_tree.specs.Syntax.{SimpleCommand, Assign, Write, SetTag, SetCellTag, Goto, Fall, Command, Do, Try, If, CommandBlock, Commands, ElseBlock, NoElse, Else, CommandList, NoCommand, AndCommand, StateTree, StateOf, StateList, NoState, AndState, DesignTree}
+use Rattle.sap_tree.specs.declared.syntax.Decl.TheVariants as d
+use Rattle.sap_tree.specs.declared.syntax.Decl.{Decl}
+use Rattle.sap_tree.specs.declared.syntax.Kind.TheVariants as k
+use Rattle.sap_tree.specs.declared.syntax.Kind.{Kind}
+
+-- dynamic entities
+
+abbrev pub is_dynamic : Kind → Bool
+is_dynamic (k.Dynamic place) = true
+is_dynamic (k.Enforced level authority) = false
+
+-- whether x is declared here as a dynamic register or memory
+abbrev pub declares_dynamic : List ℕ → Decl → Bool
+declares_dynamic x (d.Input place name width) = false
+declares_dynamic x (d.Register place name width kind start) = bytes_eq name.name x && is_dynamic kind
+declares_dynamic x (d.Memory place name width depth kind) = bytes_eq name.name x && is_dynamic kind
+
+unfoldable pub is_dynamic_store : List Decl → List ℕ → Bool
+is_dynamic_store declarations x = list_any (declares_dynamic x) declarations
+
+-- whether x is one of these states and dynamic
+unfoldable pub is_dynamic_child : StateList → List ℕ → Bool
+is_dynamic_child NoState x = false
+is_dynamic_child (AndState (StateOf place name kind body children) states) x = (bytes_eq name.name x && is_dynamic kind) || is_dynamic_child states x
+
+-- whether a command assigns x, as a register or as a memory
+
+abbrev pub simple_assigns : SimpleCommand → List ℕ → Bool
+simple_assigns (Assign register e) x = bytes_eq register.name x
+simple_assigns (Write memory index e) x = bytes_eq memory.name x
+simple_assigns (SetTag place name n) x = false
+simple_assigns (SetCellTag place memory index n) x = false
+simple_assigns (Goto place target) x = false
+simple_assigns (Fall place) x = false
+
+unfoldable mutual
+  pub assigns : Command → List ℕ → Bool
+  assigns (Do c) x = simple_assigns c x
+  assigns (Try c place handler) x = simple_assigns c x || block_assigns handler x
+  assigns (If place e one other) x = block_assigns one x || else_assigns other x
+
+  pub block_assigns : CommandBlock → List ℕ → Bool
+  block_assigns (Commands list after) x = list_assigns list x
+
+  pub else_assigns : ElseBlock → List ℕ → Bool
+  else_assigns NoElse x = false
+  else_assigns (Else block) x = block_assigns block x
+
+  pub list_assigns : CommandList → List ℕ → Bool
+  list_assigns NoCommand x = false
+  list_assigns (AndCommand c list) x = assigns c x || list_assigns list x
+
+-- whether the body of one of these states or of their descendants assigns x
+unfoldable mutual
+  pub state_assigns : StateTree → List ℕ → Bool
+  state_assigns (StateOf place name kind body children) x = block_assigns body x || states_assign children x
+
+  pub states_assign : StateList → List ℕ → Bool
+  states_assign NoState x = false
+  states_assign (AndState s states) x = state_assigns s x || states_assign states x
+
+-- the state in whose body a command stands
+pub record Home : Type 0 where
+  pub name : List ℕ
+  pub dynamic : Bool
+  pub children : StateList
+
+abbrev pub home_of : StateTree → Home
+home_of (StateOf place name kind body children) = record { name = name.name; dynamic = is_dynamic kind; children = children }
+
+-- what a `fall` into one of these states touches: the dynamic ones of them, and each dynamic register or memory that they or their descendants assign
+unfoldable pub fall_touches : List Decl → StateList → List ℕ → Bool
+fall_touches declarations states x = is_dynamic_child states x || (is_dynamic_store declarations x && states_assign states x)
+
+unfoldable pub simple_touches : List Decl → Home → SimpleCommand → List ℕ → Bool
+simple_touches declarations home (Assign register e) x = is_dynamic_store declarations x && bytes_eq register.name x
+simple_touches declarations home (Write memory index e) x = is_dynamic_store declarations x && bytes_eq memory.name x
+simple_touches declarations home (SetTag place name n) x = false
+simple_touches declarations home (SetCellTag place memory index n) x = false
+simple_touches declarations home (Goto place target) x = home.dynamic && bytes_eq home.name x
+simple_touches declarations home (Fall place) x = fall_touches declarations home.children x
+
+unfoldable mutual
+  pub touches : List Decl → Home → Command → List ℕ → Bool
+  touches declarations home (Do c) x = simple_touches declarations home c x
+  touches declarations home (Try c place handler) x = simple_touches declarations home c x || block_touches declarations home handler x
+  touches declarations home (If place e one other) x = block_touches declarations home one x || else_touches declarations home other x
+
+  pub block_touches : List Decl → Home → CommandBlock → List ℕ → Bool
+  block_touches declarations home (Commands list after) x = list_touches declarations home list x
+
+  pub else_touches : List Decl → Home → ElseBlock → List ℕ → Bool
+  else_touches declarations home NoElse x = false
+  else_touches declarations home (Else block) x = block_touches declarations home block x
+
+  pub list_touches : List Decl → Home → CommandList → List ℕ → Bool
+  list_touches declarations home NoCommand x = false
+  list_touches declarations home (AndCommand c list) x = touches declarations home c x || list_touches declarations home list x
+
+-- the root's fall
+abbrev pub root_touches : DesignTree → List ℕ → Bool
+root_touches design x = fall_touches design.declarations design.states x

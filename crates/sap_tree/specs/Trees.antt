@@ -1,0 +1,95 @@
+-- The tree of each part of a design.
+use Rattle.std.specs.Prelude.{List, [], ◌∷◌, Option, Some, None}
+use Rattle.sap_tree.specs.declared.syntax.Block.{Block}
+use Rattle.sap_tree.specs.declared.syntax.Cmd.{Cmd, Row_of-Cmd, end_of-Cmd, more_of-Cmd, Held-Cmd-If-3}
+use Rattle.sap_tree.specs.declared.syntax.Cmd.TheVariants as c
+use Rattle.sap_tree.specs.declared.syntax.Cmd.{None', Some'}
+use Rattle.sap_tree.specs.declared.syntax.Expr.{Expr, Row_of-Expr, end_of-Expr, more_of-Expr}
+use Rattle.sap_tree.specs.declared.syntax.Expr.TheVariants as e
+use Rattle.sap_tree.specs.declared.syntax.Simple.{Simple}
+use Rattle.sap_tree.specs.declared.syntax.Simple.TheVariants as s
+use Rattle.sap_tree.specs.declared.syntax.State.{State, State', Row_of-State, end_of-State, more_of-State}
+use Rattle.sap_tree.specs.declared.syntax.TagExpr.{TagExpr, Row_of-TagExpr, end_of-TagExpr, more_of-TagExpr}
+use Rattle.sap_tree.specs.declared.syntax.TagExpr.TheVariants as t
+use Rattle.sap_tree.specs.Syntax
+
+unfoldable mutual
+  pub expression_of : Expr → Syntax.Expression
+  expression_of (e.Number spot n) = Syntax.Number spot n
+  expression_of (e.Sized spot w n) = Syntax.Sized spot w n
+  expression_of (e.Read spot name) = Syntax.Read spot name
+  expression_of (e.Cell' spot name p index) = Syntax.Cell spot name (expression_of index)
+  expression_of (e.Unary' spot o p x) = Syntax.Unary spot o (expression_of x)
+  expression_of (e.Binary' spot o p x q y) = Syntax.Binary spot o (expression_of x) (expression_of y)
+  expression_of (e.Choose' spot p x q y r z) = Syntax.Choose spot (expression_of x) (expression_of y) (expression_of z)
+  expression_of (e.Slice' spot p x high low) = Syntax.Slice spot (expression_of x) high low
+  expression_of (e.Concat' spot shape row) = Syntax.Concat spot (expression_row_of row)
+  expression_of (e.Zext' spot p x w) = Syntax.Zext spot (expression_of x) w
+
+  pub expression_row_of : {n : _} → Row_of-Expr n → Syntax.Expressions
+  expression_row_of end_of-Expr = Syntax.NoPart
+  expression_row_of (more_of-Expr x rest) = Syntax.AndPart (expression_of x) (expression_row_of rest)
+
+abbrev pub expressions_of : List Expr → Syntax.Expressions
+expressions_of [] = Syntax.NoPart
+expressions_of (x ∷ xs) = Syntax.AndPart (expression_of x) (expressions_of xs)
+
+unfoldable mutual
+  pub tag_of : TagExpr → Syntax.TagExpression
+  tag_of (t.Level name) = Syntax.Level name
+  tag_of (t.TagOf place x) = Syntax.TagOf place (expression_of x)
+  tag_of (t.LevelAt place x) = Syntax.LevelAt place (expression_of x)
+  tag_of (t.Join' place shape row) = Syntax.Join place (tag_row_of row)
+
+  pub tag_row_of : {n : _} → Row_of-TagExpr n → Syntax.TagExpressions
+  tag_row_of end_of-TagExpr = Syntax.NoTag
+  tag_row_of (more_of-TagExpr x rest) = Syntax.AndTag (tag_of x) (tag_row_of rest)
+
+abbrev pub tags_of : List TagExpr → Syntax.TagExpressions
+tags_of [] = Syntax.NoTag
+tags_of (x ∷ xs) = Syntax.AndTag (tag_of x) (tags_of xs)
+
+abbrev pub simple_of : Simple → Syntax.SimpleCommand
+simple_of (s.Assign name x) = Syntax.Assign name (expression_of x)
+simple_of (s.Write name i x) = Syntax.Write name (expression_of i) (expression_of x)
+simple_of (s.SetTag place name n) = Syntax.SetTag place name (tag_of n)
+simple_of (s.SetCellTag place name i n) = Syntax.SetCellTag place name (expression_of i) (tag_of n)
+simple_of (s.Goto place target) = Syntax.Goto place target
+simple_of (s.Fall place) = Syntax.Fall place
+
+unfoldable mutual
+  pub command_of : Cmd → Syntax.Command
+  command_of (c.Do k) = Syntax.Do (simple_of k)
+  command_of (c.Try' k place shape row after) = Syntax.Try (simple_of k) place (Syntax.Commands (command_row_of row) after)
+  command_of (c.If' place x shape row after other) = Syntax.If place (expression_of x) (Syntax.Commands (command_row_of row) after) (held_of other)
+
+  pub held_of : Held-Cmd-If-3 → Syntax.ElseBlock
+  held_of None' = Syntax.NoElse
+  held_of (Some' shape row after) = Syntax.Else (Syntax.Commands (command_row_of row) after)
+
+  pub command_row_of : {n : _} → Row_of-Cmd n → Syntax.CommandList
+  command_row_of end_of-Cmd = Syntax.NoCommand
+  command_row_of (more_of-Cmd x rest) = Syntax.AndCommand (command_of x) (command_row_of rest)
+
+abbrev pub commands_of : List Cmd → Syntax.CommandList
+commands_of [] = Syntax.NoCommand
+commands_of (x ∷ xs) = Syntax.AndCommand (command_of x) (commands_of xs)
+
+abbrev pub block_of : Block → Syntax.CommandBlock
+block_of b = Syntax.Commands (commands_of b.commands.items) b.after
+
+abbrev pub else_of : Option Block → Syntax.ElseBlock
+else_of None = Syntax.NoElse
+else_of (Some b) = Syntax.Else (block_of b)
+
+unfoldable mutual
+  pub state_of : State → Syntax.StateTree
+  state_of (State' place name kind body shape row) = Syntax.StateOf place name kind (block_of body) (state_row_of row)
+
+  pub state_row_of : {n : _} → Row_of-State n → Syntax.StateList
+  state_row_of end_of-State = Syntax.NoState
+  state_row_of (more_of-State x rest) = Syntax.AndState (state_of x) (state_row_of rest)
+
+abbrev pub states_of : List State → Syntax.StateList
+states_of [] = Syntax.NoState
+states_of (x ∷ xs) = Syntax.AndState (state_of x) (states_of xs)

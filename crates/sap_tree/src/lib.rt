@@ -1,0 +1,11 @@
+//! The syntax tree of a design.
+#![tactic(auto)]
+
+pub mod design;
+pub mod make;
+pub mod name;
+pub mod place;
+pub mod syntax;
+#[cfg(test)]
+mod tests;
+pub mod whole;
