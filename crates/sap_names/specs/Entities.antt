@@ -1,0 +1,61 @@
+-- The entities of a design: its inputs, registers, memories and states, in the order of the text.
+use Rattle.std.specs.Prelude.{ℕ, zero, suc, List, [], ◌∷◌, ◌++◌, Option, Some, None, Bool, true, false, bytes_eq, eqb, leb, ◌&&◌, ◌^◌, ◌+◌, if◌then◌else◌, option_map}
+use Rattle.sap_tree.specs.declared.name.Mention.{Mention}
+use Rattle.sap_tree.specs.declared.place.Place.{Place}
+use Rattle.sap_tree.specs.declared.syntax.Kind.{Kind}
+use Rattle.sap_tree.specs.declared.syntax.Kind.TheVariants.{Dynamic, Enforced}
+use Rattle.sap_names.specs.declared.kind.Declared.{Declared}
+use Rattle.sap_names.specs.declared.kind.Declared.TheVariants as what
+use Rattle.sap_tree.specs.declared.syntax.Decl.{Decl}
+use Rattle.sap_tree.specs.declared.syntax.Decl.TheVariants.{Input, Register, Memory}
+use Rattle.sap_tree.specs.Syntax.{CommandBlock, StateTree, StateOf, StateList, NoState, AndState, DesignTree}
+
+-- a declared name: where it is declared, what it is, and whether it is dynamic, as inputs are
+pub record Entity : Type 0 where
+  pub name : Mention
+  pub what : Declared
+  pub dynamic : Bool
+
+abbrev pub is_dynamic_kind : Kind → Bool
+is_dynamic_kind (Dynamic place) = true
+is_dynamic_kind (Enforced level under) = false
+
+abbrev pub entity_of : Decl → Entity
+entity_of (Input place name width) = record { name = name; what = what.Input width.value; dynamic = true }
+entity_of (Register place name width kind start) = record { name = name; what = what.Register width.value; dynamic = is_dynamic_kind kind }
+entity_of (Memory place name width depth kind) =
+    record { name = name; what = what.Memory width.value depth.value; dynamic = is_dynamic_kind kind }
+
+abbrev pub declared_in : List Decl → List Entity
+declared_in [] = []
+declared_in (d ∷ ds) = entity_of d ∷ declared_in ds
+
+-- a state stands before its children
+abbrev mutual
+  pub state_entities : StateTree → List Entity
+  state_entities (StateOf place name kind body children) =
+      let e : Entity = record { name = name; what = what.State; dynamic = is_dynamic_kind kind } in e ∷ group_entities children
+
+  pub group_entities : StateList → List Entity
+  group_entities NoState = []
+  group_entities (AndState s rest) = state_entities s ++ group_entities rest
+
+abbrev pub entities_of : DesignTree → List Entity
+entities_of d = declared_in d.declarations ++ group_entities d.states
+
+-- what is known of each name
+abbrev pub Lookup : Type 0
+Lookup = List ℕ → Option Declared
+
+-- the first declaration of a name counts
+abbrev pub find : List Entity → List ℕ → Option Entity
+find [] name = None
+find (e ∷ es) name = if bytes_eq e.name.name name then Some e else find es name
+
+-- its number, from 0 in the order of the text
+abbrev pub number_of : List Entity → List ℕ → Option ℕ
+number_of [] name = None
+number_of (e ∷ es) name = if bytes_eq e.name.name name then Some 0 else option_map (λ n. n + 1) (number_of es name)
+
+abbrev pub what_is : List Entity → Lookup
+what_is es name = option_map (λ e. e.what) (find es name)

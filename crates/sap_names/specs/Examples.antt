@@ -1,0 +1,75 @@
+-- Worked examples of the faults of names and widths.
+use Rattle.std.specs.Prelude.{◌≡◌, ℕ, List, [], ◌∷◌, Option, Some, None, Bool, true, false, codes, leb}
+use Rattle.sap_tree.specs.declared.name.Mention.{Mention}
+use Rattle.sap_tree.specs.declared.place.Place.{Place}
+use Rattle.sap_tree.specs.declared.place.Spot.{Spot}
+use Rattle.sap_tree.specs.declared.syntax.Numeral.{Numeral}
+use Rattle.sap_tree.specs.declared.syntax.Kind.{Kind}
+use Rattle.sap_tree.specs.declared.syntax.Kind.TheVariants.{Dynamic, Enforced}
+use Rattle.sap_tree.specs.declared.syntax.Decl.{Decl}
+use Rattle.sap_tree.specs.declared.syntax.Decl.TheVariants.{Input, Register, Memory}
+use Rattle.sap_tree.specs.declared.syntax.BinaryOperator.TheVariants.{Add}
+use Rattle.sap_tree.specs.Syntax.{Expression, Number, Sized, Read, Binary, TagExpression, TagOf, SimpleCommand, Assign, SetTag, Goto, Command, Do, CommandBlock, Commands, CommandList, NoCommand, AndCommand, StateTree, StateOf, StateList, NoState, AndState, DesignTree}
+use Rattle.sap_names.specs.Fault.{Fault}
+use Rattle.sap_names.specs.declared.kind.Code.{Code}
+use Rattle.sap_names.specs.declared.kind.Code.TheVariants.{E4, E7, E8}
+use Rattle.sap_names.specs.Entities.{Entity, Lookup, entities_of}
+use Rattle.sap_names.specs.NameFaults.{design_name_faults, expression_faults, tag_faults}
+
+abbrev pub at : ℕ → Place
+at column = record { line = 1; column = column }
+
+abbrev pub spot : ℕ → Spot
+spot column = record { first = at column; at = at column }
+
+abbrev pub inside : ℕ → ℕ → Spot
+inside first column = record { first = at first; at = at column }
+
+abbrev pub named : ℕ → List ℕ → Mention
+named column name = record { place = at column; name = name }
+
+abbrev pub fault : Code → ℕ → Fault
+fault code column = record { code = code; place = at column }
+
+abbrev pub nothing : Lookup
+nothing name = None
+
+abbrev pub levels : List (List ℕ)
+levels = codes "low" ∷ codes "high" ∷ []
+
+abbrev pub below : ℕ → ℕ → Bool
+below a b = leb a b
+
+abbrev pub low : ℕ → Kind
+low column = Enforced (named column (codes "low")) None
+
+abbrev pub body : CommandList → StateList
+body cs = AndState (StateOf (at 1) (named 1 (codes "S")) (low 1) (Commands cs (at 90)) NoState) NoState
+
+abbrev pub only : Command → StateList
+only c = body (AndCommand c NoCommand)
+
+-- reg x : 8 dynamic = 256;
+abbrev pub LargeStart : Type 0
+LargeStart = design_name_faults levels below (record {
+  declarations = Register (at 1) (named 5 (codes "x")) (record { place = at 9; value = 8 }) (Dynamic (at 11)) (Some (record { place = at 21; value = 256 })) ∷ [];
+  states = only (Do (Goto (at 30) (named 35 (codes "S"))));
+}) ≡ fault E8 21 ∷ []
+
+-- reg x : 8 dynamic; .. x := 99'd300;
+abbrev pub WideNumber : Type 0
+WideNumber = design_name_faults levels below (record {
+  declarations = Register (at 1) (named 5 (codes "x")) (record { place = at 9; value = 8 }) (Dynamic (at 11)) None ∷ [];
+  states = only (Do (Assign (named 43 (codes "x")) (Sized (spot 48) 99 300)));
+}) ≡ fault E7 48 ∷ []
+
+-- tag(zz), tag((zz)) and tag(1 + zz)
+abbrev pub UnknownPlain : Type 0
+UnknownPlain = tag_faults levels nothing (TagOf (at 1) (Read (spot 5) (codes "zz"))) ≡ fault E7 5 ∷ fault E4 5 ∷ []
+
+abbrev pub UnknownInside : Type 0
+UnknownInside = tag_faults levels nothing (TagOf (at 1) (Read (inside 5 6) (codes "zz"))) ≡ fault E7 5 ∷ fault E4 6 ∷ []
+
+abbrev pub UnknownBehind : Type 0
+UnknownBehind = tag_faults levels nothing (TagOf (at 1) (Binary (inside 5 7) Add (Number (spot 5) 1) (Read (spot 9) (codes "zz"))))
+    ≡ fault E7 5 ∷ fault E7 5 ∷ fault E7 9 ∷ fault E4 9 ∷ []

@@ -1,0 +1,247 @@
+-- The faults of names and widths, E3 to E9: each sentence once, over the tree. A list has the faults that stand, in no order that counts.
+use Rattle.std.specs.Prelude.{ℕ, zero, suc, List, [], ◌∷◌, ◌++◌, Option, Some, None, Bool, true, false, not, eqb, leb, ◌&&◌, ◌^◌, ◌+◌, if◌then◌else◌, bytes_eq}
+use Rattle.sap_tree.specs.declared.name.Mention.{Mention}
+use Rattle.sap_tree.specs.declared.place.Place.{Place}
+use Rattle.sap_tree.specs.declared.place.Spot.{Spot}
+use Rattle.sap_tree.specs.declared.syntax.Numeral.{Numeral}
+use Rattle.sap_tree.specs.declared.syntax.Under.{Under}
+use Rattle.sap_tree.specs.declared.syntax.Kind.{Kind}
+use Rattle.sap_tree.specs.declared.syntax.Kind.TheVariants.{Dynamic, Enforced}
+use Rattle.sap_tree.specs.declared.syntax.Decl.{Decl}
+use Rattle.sap_tree.specs.declared.syntax.Decl.TheVariants.{Input, Register, Memory}
+use Rattle.sap_tree.specs.Syntax.{Expression, Number, Sized, Read, Cell, Unary, Binary, Choose, Slice, Concat, Zext, Expressions, NoPart, AndPart, TagExpression, Level, TagOf, LevelAt, Join, TagExpressions, NoTag, AndTag, SimpleCommand, Assign, Write, SetTag, SetCellTag, Goto, Fall, Command, Do, Try, If, CommandBlock, Commands, ElseBlock, NoElse, Else, CommandList, NoCommand, AndCommand, StateTree, StateOf, StateList, NoState, AndState, DesignTree}
+use Rattle.sap_names.specs.Fault.{Fault}
+use Rattle.sap_names.specs.declared.kind.Declared.{Declared}
+use Rattle.sap_names.specs.declared.kind.Declared.TheVariants as d
+use Rattle.sap_names.specs.declared.kind.Code.{Code}
+use Rattle.sap_names.specs.declared.kind.Code.TheVariants.{E3, E4, E5, E6, E7, E8, E9}
+use Rattle.sap_names.specs.Entities.{Entity, Lookup, what_is, entities_of}
+use Rattle.sap_names.specs.Widths.{sound_width, index_bits, register_width, cell_width, index_width, own, own_parts, width_of, family, own_binary, asked_left, asked_right, asked_one, is_reduction, is_sound, all_sound, else_of}
+
+-- a fault where the test holds
+abbrev pub fault_if : Bool → Code → Place → List Fault
+fault_if test code place = if test then (let f : Fault = record { code = code; place = place } in f ∷ []) else []
+
+-- own and asked-for width differ, or neither is there
+abbrev pub unsettled : (own asked : Option ℕ) → Bool
+unsettled None None = true
+unsettled None (Some r) = false
+unsettled (Some w) None = false
+unsettled (Some w) (Some r) = not (eqb w r)
+
+-- a number that a width can't hold
+abbrev pub too_large : Option ℕ → (value : ℕ) → Bool
+too_large None value = false
+too_large (Some w) value = leb (2 ^ w) value
+
+-- E4 where a used name is declared nowhere, E5 where it is of the wrong kind
+pub data Uses : Type 0 where
+  assigned : Uses
+  indexed : Uses
+  read : Uses
+  entered : Uses
+  retagged : Uses
+
+abbrev pub fits_use : Uses → Declared → Bool
+fits_use assigned (d.Input width) = false
+fits_use assigned (d.Register width) = true
+fits_use assigned (d.Memory width depth) = false
+fits_use assigned d.State = false
+fits_use indexed (d.Input width) = false
+fits_use indexed (d.Register width) = false
+fits_use indexed (d.Memory width depth) = true
+fits_use indexed d.State = false
+fits_use read (d.Input width) = true
+fits_use read (d.Register width) = true
+fits_use read (d.Memory width depth) = false
+fits_use read d.State = false
+fits_use entered (d.Input width) = false
+fits_use entered (d.Register width) = false
+fits_use entered (d.Memory width depth) = false
+fits_use entered d.State = true
+fits_use retagged (d.Input width) = false
+fits_use retagged (d.Register width) = true
+fits_use retagged (d.Memory width depth) = false
+fits_use retagged d.State = true
+
+abbrev pub use_faults : Uses → Option Declared → Place → List Fault
+use_faults how None place = fault_if true E4 place
+use_faults how (Some declared) place = fault_if (not (fits_use how declared)) E5 place
+
+abbrev pub name_faults : Uses → Lookup → Mention → List Fault
+name_faults how what m = use_faults how (what m.name) m.place
+
+-- what stands in an expression, where its place asks for a width or for none
+abbrev mutual
+  pub expression_faults : Lookup → Expression → (asked : Option ℕ) → List Fault
+  expression_faults what (Number spot value) asked =
+      fault_if (unsettled None asked) E7 spot.first ++ fault_if (too_large asked value) E8 spot.at
+  expression_faults what (Sized spot width value) asked =
+      fault_if (unsettled (sound_width width) asked) E7 spot.first
+      ++ fault_if (not (is_sound (sound_width width))) E7 spot.at
+      ++ fault_if (too_large (sound_width width) value) E8 spot.at
+  expression_faults what (Read spot name) asked =
+      fault_if (unsettled (own what (Read spot name)) asked) E7 spot.first ++ use_faults read (what name) spot.at
+  expression_faults what (Cell spot name index) asked =
+      fault_if (unsettled (own what (Cell spot name index)) asked) E7 spot.first
+      ++ use_faults indexed (what name) spot.at
+      ++ expression_faults what index (index_width (what name))
+  expression_faults what (Unary spot operator e) asked =
+      let whole = width_of what (Unary spot operator e) asked in
+      fault_if (unsettled (own what (Unary spot operator e)) asked) E7 spot.first
+      ++ expression_faults what e (asked_one operator whole)
+  expression_faults what (Binary spot operator a b) asked =
+      let whole = width_of what (Binary spot operator a b) asked in
+      fault_if (unsettled (own what (Binary spot operator a b)) asked) E7 spot.first
+      ++ expression_faults what a (asked_left (family operator) whole (own what a) (own what b))
+      ++ expression_faults what b (asked_right (family operator) whole (own what a) (own what b))
+  expression_faults what (Choose spot condition a b) asked =
+      let whole = width_of what (Choose spot condition a b) asked in
+      fault_if (unsettled (own what (Choose spot condition a b)) asked) E7 spot.first
+      ++ expression_faults what condition (Some 1)
+      ++ expression_faults what a whole
+      ++ expression_faults what b whole
+  expression_faults what (Slice spot e high low) asked =
+      let mine = own what (Slice spot e high low) in
+      fault_if (unsettled mine asked) E7 spot.first
+      ++ fault_if (not (is_sound mine) && is_sound (own what e)) E7 spot.first
+      ++ expression_faults what e None
+  expression_faults what (Concat spot parts) asked =
+      let mine = own what (Concat spot parts) in
+      fault_if (unsettled mine asked) E7 spot.first
+      ++ fault_if (not (is_sound mine) && all_sound what parts) E7 spot.first
+      ++ parts_faults what parts
+  expression_faults what (Zext spot e width) asked =
+      let mine = own what (Zext spot e width) in
+      fault_if (unsettled mine asked) E7 spot.first
+      ++ fault_if (not (is_sound mine) && is_sound (own what e)) E7 spot.first
+      ++ expression_faults what e None
+
+  pub parts_faults : Lookup → Expressions → List Fault
+  parts_faults what NoPart = []
+  parts_faults what (AndPart e parts) = expression_faults what e None ++ parts_faults what parts
+
+-- the number of a level's name, from 0, where the levels begin with the number n
+abbrev pub level_from : (n : ℕ) → List (List ℕ) → List ℕ → Option ℕ
+level_from n [] name = None
+level_from n (l ∷ ls) name = if bytes_eq l name then Some n else level_from (n + 1) ls name
+
+abbrev pub level_number : List (List ℕ) → List ℕ → Option ℕ
+level_number levels name = level_from 0 levels name
+
+abbrev pub is_some : Option ℕ → Bool
+is_some None = false
+is_some (Some n) = true
+
+-- E6: a level name that is no level
+abbrev pub is_level : List (List ℕ) → List ℕ → Bool
+is_level levels name = is_some (level_number levels name)
+
+-- both are levels, and the first is not at or le the second
+abbrev pub not_below : (ℕ → ℕ → Bool) → Option ℕ → Option ℕ → Bool
+not_below le (Some a) (Some b) = not (le a b)
+not_below le (Some a) None = false
+not_below le None b = false
+
+abbrev pub level_faults : List (List ℕ) → Mention → List Fault
+level_faults levels m = fault_if (not (is_level levels m.name)) E6 m.place
+
+abbrev mutual
+  pub tag_faults : List (List ℕ) → Lookup → TagExpression → List Fault
+  tag_faults levels what (Level m) = level_faults levels m
+  tag_faults levels what (TagOf place e) = expression_faults what e None
+  tag_faults levels what (LevelAt place e) = expression_faults what e None
+  tag_faults levels what (Join place parts) = tags_faults levels what parts
+
+  pub tags_faults : List (List ℕ) → Lookup → TagExpressions → List Fault
+  tags_faults levels what NoTag = []
+  tags_faults levels what (AndTag t parts) = tag_faults levels what t ++ tags_faults levels what parts
+
+abbrev pub simple_faults : List (List ℕ) → Lookup → SimpleCommand → List Fault
+simple_faults levels what (Assign target e) =
+    name_faults assigned what target ++ expression_faults what e (register_width (what target.name))
+simple_faults levels what (Write target index e) =
+    name_faults indexed what target
+    ++ expression_faults what index (index_width (what target.name))
+    ++ expression_faults what e (cell_width (what target.name))
+simple_faults levels what (SetTag place target tag) = name_faults retagged what target ++ tag_faults levels what tag
+simple_faults levels what (SetCellTag place target index tag) =
+    name_faults indexed what target
+    ++ expression_faults what index (index_width (what target.name))
+    ++ tag_faults levels what tag
+simple_faults levels what (Goto place target) = name_faults entered what target
+simple_faults levels what (Fall place) = []
+
+abbrev mutual
+  pub command_faults : List (List ℕ) → Lookup → Command → List Fault
+  command_faults levels what (Do k) = simple_faults levels what k
+  command_faults levels what (Try k place handler) = simple_faults levels what k ++ block_faults levels what handler
+  command_faults levels what (If place condition then_block else_block) =
+      expression_faults what condition (Some 1) ++ block_faults levels what then_block ++ else_faults levels what else_block
+
+  pub block_faults : List (List ℕ) → Lookup → CommandBlock → List Fault
+  block_faults levels what (Commands cs after) = commands_faults levels what cs
+
+  pub else_faults : List (List ℕ) → Lookup → ElseBlock → List Fault
+  else_faults levels what NoElse = []
+  else_faults levels what (Else b) = block_faults levels what b
+
+  pub commands_faults : List (List ℕ) → Lookup → CommandList → List Fault
+  commands_faults levels what NoCommand = []
+  commands_faults levels what (AndCommand c cs) = command_faults levels what c ++ commands_faults levels what cs
+
+-- what a kind says: E6 at a level name that is no level, E9 where the authority isn't at or le the level; `le` is the order of the levels
+abbrev pub under_faults : List (List ℕ) → (le : ℕ → ℕ → Bool) → Mention → Option Under → List Fault
+under_faults levels le level None = []
+under_faults levels le level (Some under) =
+    level_faults levels under.level
+    ++ fault_if (not_below le (level_number levels under.level.name) (level_number levels level.name)) E9 level.place
+
+abbrev pub kind_faults : List (List ℕ) → (le : ℕ → ℕ → Bool) → Kind → List Fault
+kind_faults levels le (Dynamic place) = []
+kind_faults levels le (Enforced level under) = level_faults levels level ++ under_faults levels le level under
+
+abbrev pub width_faults : Numeral → List Fault
+width_faults width = fault_if (not (is_sound (sound_width width.value))) E7 width.place
+
+abbrev pub start_faults : ℕ → Option Numeral → List Fault
+start_faults width None = []
+start_faults width (Some start) = fault_if (too_large (sound_width width) start.value) E8 start.place
+
+abbrev pub declaration_faults : List (List ℕ) → (le : ℕ → ℕ → Bool) → Decl → List Fault
+declaration_faults levels le (Input place name width) = width_faults width
+declaration_faults levels le (Register place name width kind start) =
+    width_faults width ++ kind_faults levels le kind ++ start_faults width.value start
+declaration_faults levels le (Memory place name width depth kind) =
+    width_faults width
+    ++ fault_if (not (is_sound (index_bits depth.value))) E7 depth.place
+    ++ kind_faults levels le kind
+
+abbrev pub declarations_faults : List (List ℕ) → (le : ℕ → ℕ → Bool) → List Decl → List Fault
+declarations_faults levels le [] = []
+declarations_faults levels le (d ∷ ds) = declaration_faults levels le d ++ declarations_faults levels le ds
+
+abbrev mutual
+  pub state_faults : List (List ℕ) → (le : ℕ → ℕ → Bool) → Lookup → StateTree → List Fault
+  state_faults levels le what (StateOf place name kind body children) =
+      kind_faults levels le kind ++ block_faults levels what body ++ states_faults levels le what children
+
+  pub states_faults : List (List ℕ) → (le : ℕ → ℕ → Bool) → Lookup → StateList → List Fault
+  states_faults levels le what NoState = []
+  states_faults levels le what (AndState s rest) = state_faults levels le what s ++ states_faults levels le what rest
+
+-- E3: a declared name that is declared earlier
+abbrev pub is_declared : List Entity → List ℕ → Bool
+is_declared [] name = false
+is_declared (e ∷ es) name = if bytes_eq e.name.name name then true else is_declared es name
+
+-- the entities that stand before, and those that follow
+abbrev pub twice : List Entity → List Entity → List Fault
+twice before [] = []
+twice before (e ∷ es) = fault_if (is_declared before e.name.name) E3 e.name.place ++ twice (before ++ e ∷ []) es
+
+-- all of a design
+abbrev pub design_name_faults : List (List ℕ) → (le : ℕ → ℕ → Bool) → DesignTree → List Fault
+design_name_faults levels le d =
+    let es = entities_of d in
+    twice [] es ++ declarations_faults levels le d.declarations ++ states_faults levels le (what_is es) d.states

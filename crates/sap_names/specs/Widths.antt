@@ -1,0 +1,150 @@
+-- Own widths and asked-for widths of expressions. `Some w` is a width, `None` says that there is none.
+use Rattle.std.specs.Prelude.{ℕ, zero, suc, List, [], ◌∷◌, Option, Some, None, Bool, true, false, eqb, leb, ltb, ◌&&◌, ◌^◌, ◌+◌, ◌-◌, if◌then◌else◌}
+use Rattle.sap_tree.specs.declared.syntax.UnaryOperator.{UnaryOperator}
+use Rattle.sap_tree.specs.declared.syntax.UnaryOperator.TheVariants.{Not, Neg, AllOnes, AnyOne, Odd}
+use Rattle.sap_tree.specs.declared.syntax.BinaryOperator.{BinaryOperator}
+use Rattle.sap_tree.specs.declared.syntax.BinaryOperator.TheVariants.{Or, Xor, And, Eq, Ne, Lt, Le, Shl, Shr, Add, Sub, Mul}
+use Rattle.sap_tree.specs.Syntax.{Expression, Number, Sized, Read, Cell, Unary, Binary, Choose, Slice, Concat, Zext, Expressions, NoPart, AndPart}
+use Rattle.sap_names.specs.declared.kind.Declared.{Declared}
+use Rattle.sap_names.specs.declared.kind.Declared.TheVariants.{Input, Register, Memory, State}
+use Rattle.sap_names.specs.declared.kind.Family.{Family}
+use Rattle.sap_names.specs.declared.kind.Family.TheVariants.{Arithmetic, Shift, Comparison}
+use Rattle.sap_names.specs.Entities.{Lookup}
+
+-- a width is from 1 to 64
+abbrev pub sound_width : ℕ → Option ℕ
+sound_width w = if leb 1 w && leb w 64 then Some w else None
+
+-- of a memory of depth 2 to the b, b from 1 to 12, the b bits of its index
+abbrev pub bits_up_to : ℕ → ℕ → Option ℕ
+bits_up_to zero depth = None
+bits_up_to (suc b) depth = if eqb depth (2 ^ suc b) then Some (suc b) else bits_up_to b depth
+
+abbrev pub index_bits : ℕ → Option ℕ
+index_bits depth = bits_up_to 12 depth
+
+-- the width of what is read by a plain name: an input or a register
+abbrev pub plain_width : Option Declared → Option ℕ
+plain_width None = None
+plain_width (Some (Input width)) = sound_width width
+plain_width (Some (Register width)) = sound_width width
+plain_width (Some (Memory width depth)) = None
+plain_width (Some State) = None
+
+-- the width of a register, for an assignment
+abbrev pub register_width : Option Declared → Option ℕ
+register_width None = None
+register_width (Some (Input width)) = None
+register_width (Some (Register width)) = sound_width width
+register_width (Some (Memory width depth)) = None
+register_width (Some State) = None
+
+-- the width of a memory's cells, and of its index
+abbrev pub cell_width : Option Declared → Option ℕ
+cell_width None = None
+cell_width (Some (Input width)) = None
+cell_width (Some (Register width)) = None
+cell_width (Some (Memory width depth)) = sound_width width
+cell_width (Some State) = None
+
+abbrev pub index_width : Option Declared → Option ℕ
+index_width None = None
+index_width (Some (Input width)) = None
+index_width (Some (Register width)) = None
+index_width (Some (Memory width depth)) = index_bits depth
+index_width (Some State) = None
+
+abbrev pub else_of : Option ℕ → Option ℕ → Option ℕ
+else_of None other = other
+else_of (Some w) other = Some w
+
+abbrev pub extended : Option ℕ → ℕ → Option ℕ
+extended None width = None
+extended (Some w) width = if leb w width && leb width 64 then Some width else None
+
+abbrev pub sliced : Option ℕ → ℕ → ℕ → Option ℕ
+sliced None high low = None
+sliced (Some w) high low = if leb low high && ltb high w then Some (high - low + 1) else None
+
+-- both together, at most 64
+abbrev pub joined : Option ℕ → Option ℕ → Option ℕ
+joined None other = None
+joined (Some w) None = None
+joined (Some w) (Some u) = if leb (w + u) 64 then Some (w + u) else None
+
+abbrev pub family : BinaryOperator → Family
+family Or = Arithmetic
+family Xor = Arithmetic
+family And = Arithmetic
+family Add = Arithmetic
+family Sub = Arithmetic
+family Mul = Arithmetic
+family Eq = Comparison
+family Ne = Comparison
+family Lt = Comparison
+family Le = Comparison
+family Shl = Shift
+family Shr = Shift
+
+-- of two operands
+abbrev pub own_binary : Family → Option ℕ → Option ℕ → Option ℕ
+own_binary Arithmetic left right = else_of left right
+own_binary Shift left right = left
+own_binary Comparison left right = Some 1
+
+-- reductions give one bit
+abbrev pub is_reduction : UnaryOperator → Bool
+is_reduction Not = false
+is_reduction Neg = false
+is_reduction AllOnes = true
+is_reduction AnyOne = true
+is_reduction Odd = true
+
+abbrev mutual
+  pub own : Lookup → Expression → Option ℕ
+  own what (Number spot value) = None
+  own what (Sized spot width value) = sound_width width
+  own what (Read spot name) = plain_width (what name)
+  own what (Cell spot name index) = cell_width (what name)
+  own what (Unary spot operator e) = if is_reduction operator then Some 1 else own what e
+  own what (Binary spot operator a b) = own_binary (family operator) (own what a) (own what b)
+  own what (Choose spot condition a b) = else_of (own what a) (own what b)
+  own what (Slice spot e high low) = sliced (own what e) high low
+  own what (Concat spot parts) = own_parts what parts
+  own what (Zext spot e width) = extended (own what e) width
+
+  -- of parts one behind the other
+  pub own_parts : Lookup → Expressions → Option ℕ
+  own_parts what NoPart = Some 0
+  own_parts what (AndPart e parts) = joined (own what e) (own_parts what parts)
+
+-- the width of an expression where a place asks for a width, or for none
+abbrev pub width_of : Lookup → Expression → (asked : Option ℕ) → Option ℕ
+width_of what e asked = else_of (own what e) asked
+
+-- what an operator asks of its operands, where the whole's width is this one
+abbrev pub asked_left : Family → (whole left right : Option ℕ) → Option ℕ
+asked_left Arithmetic whole left right = whole
+asked_left Shift whole left right = whole
+asked_left Comparison whole left right = else_of left right
+
+abbrev pub asked_count : Option ℕ → Option ℕ
+asked_count None = Some 64
+asked_count (Some w) = None
+
+abbrev pub asked_right : Family → (whole left right : Option ℕ) → Option ℕ
+asked_right Arithmetic whole left right = whole
+asked_right Shift whole left right = asked_count right
+asked_right Comparison whole left right = else_of left right
+
+abbrev pub asked_one : UnaryOperator → Option ℕ → Option ℕ
+asked_one operator whole = if is_reduction operator then None else whole
+
+-- have all parts a width of their own?
+abbrev pub is_sound : Option ℕ → Bool
+is_sound None = false
+is_sound (Some w) = true
+
+abbrev pub all_sound : Lookup → Expressions → Bool
+all_sound what NoPart = true
+all_sound what (AndPart e parts) = is_sound (own what e) && all_sound what parts

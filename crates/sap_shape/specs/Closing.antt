@@ -1,0 +1,76 @@
+-- E10: a body must close. A transfer is a `goto` or a `fall`; it stands last, and only there.
+use Rattle.std.specs.Prelude.{List, [], ◌∷◌, ◌++◌, Bool, true, false, if◌then◌else◌}
+use Rattle.sap_tree.specs.declared.place.Place.{Place}
+use Rattle.sap_tree.specs.Syntax.{SimpleCommand, Assign, Write, SetTag, SetCellTag, Goto, Fall, Command, Do, Try, If, CommandBlock, Commands, ElseBlock, NoElse, Else, CommandList, NoCommand, AndCommand}
+use Rattle.sap_names.specs.declared.fault.Fault.{Fault}
+use Rattle.sap_names.specs.declared.kind.Code.TheVariants.{E10}
+use Rattle.sap_names.specs.NameFaults.{fault_if}
+
+abbrev pub transfer_faults : SimpleCommand → List Fault
+transfer_faults (Assign target e) = []
+transfer_faults (Write target index e) = []
+transfer_faults (SetTag place target tag) = []
+transfer_faults (SetCellTag place target index tag) = []
+transfer_faults (Goto place target) = fault_if true E10 place
+transfer_faults (Fall place) = fault_if true E10 place
+
+-- a command that must be open: no transfer in it
+abbrev mutual
+  pub open_faults : Command → List Fault
+  open_faults (Do k) = transfer_faults k
+  open_faults (Try k place handler) = transfer_faults k ++ open_block_faults handler
+  open_faults (If place condition then_block else_block) = open_block_faults then_block ++ open_else_faults else_block
+
+  pub open_block_faults : CommandBlock → List Fault
+  open_block_faults (Commands cs after) = open_list_faults cs
+
+  pub open_else_faults : ElseBlock → List Fault
+  open_else_faults NoElse = []
+  open_else_faults (Else b) = open_block_faults b
+
+  pub open_list_faults : CommandList → List Fault
+  open_list_faults NoCommand = []
+  open_list_faults (AndCommand c cs) = open_faults c ++ open_list_faults cs
+
+-- the last command of a list that must close; `after` is the place of the token after the list
+abbrev pub last_simple_faults : SimpleCommand → (after : Place) → List Fault
+last_simple_faults (Assign target e) after = fault_if true E10 after
+last_simple_faults (Write target index e) after = fault_if true E10 after
+last_simple_faults (SetTag place target tag) after = fault_if true E10 after
+last_simple_faults (SetCellTag place target index tag) after = fault_if true E10 after
+last_simple_faults (Goto place target) after = []
+last_simple_faults (Fall place) after = []
+
+-- the handler of the last command: that of a transfer must close, another must be open
+abbrev pub last_handler_faults : SimpleCommand → (opened closing : List Fault) → List Fault
+last_handler_faults (Assign target e) opened closing = opened
+last_handler_faults (Write target index e) opened closing = opened
+last_handler_faults (SetTag place target tag) opened closing = opened
+last_handler_faults (SetCellTag place target index tag) opened closing = opened
+last_handler_faults (Goto place target) opened closing = closing
+last_handler_faults (Fall place) opened closing = closing
+
+abbrev pub is_end : CommandList → Bool
+is_end NoCommand = true
+is_end (AndCommand c cs) = false
+
+abbrev mutual
+  pub last_faults : Command → (after : Place) → List Fault
+  last_faults (Do k) after = last_simple_faults k after
+  last_faults (Try k place handler) after =
+      last_simple_faults k after ++ last_handler_faults k (open_block_faults handler) (closing_faults handler)
+  last_faults (If place condition then_block else_block) after = closing_faults then_block ++ closing_else_faults else_block place
+
+  -- without `else` the fault is at the `if`
+  pub closing_else_faults : ElseBlock → Place → List Fault
+  closing_else_faults NoElse place = fault_if true E10 place
+  closing_else_faults (Else b) place = closing_faults b
+
+  -- a list that must close: every command but the last must be open
+  pub closing_faults : CommandBlock → List Fault
+  closing_faults (Commands cs after) = closing_list_faults cs after
+
+  pub closing_list_faults : CommandList → (after : Place) → List Fault
+  closing_list_faults NoCommand after = fault_if true E10 after
+  closing_list_faults (AndCommand c cs) after =
+      if is_end cs then last_faults c after else (open_faults c ++ closing_list_faults cs after)

@@ -1,0 +1,5 @@
+pub mod Closing
+pub mod Sites
+pub mod Paths
+pub mod ShapeFaults
+pub mod Examples

@@ -1,0 +1,94 @@
+-- The faults of shape, E10 to E17: each sentence once, over the tree of a design without faults of names and widths.
+use Rattle.std.specs.Prelude.{ℕ, List, [], ◌∷◌, ◌++◌, Bool, true, false, not, ◌||◌, if◌then◌else◌, bytes_eq}
+use Rattle.sap_tree.specs.declared.name.Mention.{Mention}
+use Rattle.sap_tree.specs.declared.place.Place.{Place}
+use Rattle.sap_tree.specs.declared.syntax.Kind.{Kind}
+use Rattle.sap_tree.specs.Syntax.{SimpleCommand, Assign, Write, SetTag, SetCellTag, Goto, Fall, Command, Do, Try, If, CommandBlock, Commands, ElseBlock, NoElse, Else, CommandList, NoCommand, AndCommand, StateTree, StateOf, StateList, NoState, AndState, DesignTree}
+use Rattle.sap_names.specs.declared.fault.Fault.{Fault}
+use Rattle.sap_names.specs.declared.kind.Code.TheVariants.{E11, E12, E15, E16, E17}
+use Rattle.sap_names.specs.NameFaults.{fault_if}
+use Rattle.sap_names.specs.Entities.{Entity, entities_of}
+use Rattle.sap_shape.specs.Closing.{closing_faults}
+use Rattle.sap_shape.specs.Sites.{is_site, is_dynamic}
+use Rattle.sap_shape.specs.Paths.{fresh, second_states}
+
+-- where a body stands: its state's kind, the group it is of, its children, and the states above it
+pub record Body : Type 0 where
+  pub name : List ℕ
+  pub kind : Kind
+  pub group : StateList
+  pub children : StateList
+  pub above : List (List ℕ)
+
+abbrev pub name_of : StateTree → List ℕ
+name_of (StateOf place name kind body children) = name.name
+
+abbrev pub is_among : StateList → List ℕ → Bool
+is_among NoState name = false
+is_among (AndState s rest) name = bytes_eq (name_of s) name || is_among rest name
+
+-- in this state or below it
+abbrev mutual
+  pub is_within : StateTree → List ℕ → Bool
+  is_within (StateOf place own kind body children) name = bytes_eq own.name name || is_in_group children name
+
+  pub is_in_group : StateList → List ℕ → Bool
+  is_in_group NoState name = false
+  is_in_group (AndState s rest) name = is_within s name || is_in_group rest name
+
+abbrev pub is_in : List (List ℕ) → List ℕ → Bool
+is_in [] name = false
+is_in (n ∷ ns) name = bytes_eq n name || is_in ns name
+
+abbrev pub is_leaf : StateList → Bool
+is_leaf NoState = true
+is_leaf (AndState s rest) = false
+
+-- the state of a body, an ancestor of it, or a descendant
+abbrev pub is_comparable : Body → List ℕ → Bool
+is_comparable at name = bytes_eq at.name name || is_in at.above name || is_in_group at.children name
+
+-- E11 a target of a `goto` in another group; E12 a `fall` in a leaf; E16 a `setTag` of a dynamic entity; E17 a `setTag` of a comparable state
+abbrev pub simple_shape : List Entity → Body → SimpleCommand → List Fault
+simple_shape es at (Assign target e) = []
+simple_shape es at (Write target index e) = []
+simple_shape es at (SetTag place target tag) =
+    fault_if (is_dynamic es target.name) E16 target.place ++ fault_if (is_comparable at target.name) E17 target.place
+simple_shape es at (SetCellTag place target index tag) = fault_if (is_dynamic es target.name) E16 target.place
+simple_shape es at (Goto place target) = fault_if (not (is_among at.group target.name)) E11 target.place
+simple_shape es at (Fall place) = fault_if (is_leaf at.children) E12 place
+
+abbrev mutual
+  pub command_shape : List Entity → Body → Command → List Fault
+  command_shape es at (Do k) = simple_shape es at k
+  -- E15: a handler that can never run
+  command_shape es at (Try k place handler) =
+      simple_shape es at k ++ fault_if (not (is_site es at.kind at.children k)) E15 place ++ block_shape es at handler
+  command_shape es at (If place condition then_block else_block) = block_shape es at then_block ++ else_shape es at else_block
+
+  pub block_shape : List Entity → Body → CommandBlock → List Fault
+  block_shape es at (Commands cs after) = list_shape es at cs
+
+  pub else_shape : List Entity → Body → ElseBlock → List Fault
+  else_shape es at NoElse = []
+  else_shape es at (Else b) = block_shape es at b
+
+  pub list_shape : List Entity → Body → CommandList → List Fault
+  list_shape es at NoCommand = []
+  list_shape es at (AndCommand c cs) = command_shape es at c ++ list_shape es at cs
+
+-- a state of a group, and a group, with the states above
+abbrev mutual
+  pub state_shape : List Entity → (group : StateList) → (above : List (List ℕ)) → StateTree → List Fault
+  state_shape es group above (StateOf place name kind body children) =
+      closing_faults body
+      ++ block_shape es (record { name = name.name; kind = kind; group = group; children = children; above = above }) body
+      ++ states_shape es children (name.name ∷ above) children
+
+  pub states_shape : List Entity → (group : StateList) → (above : List (List ℕ)) → StateList → List Fault
+  states_shape es group above NoState = []
+  states_shape es group above (AndState s rest) = state_shape es group above s ++ states_shape es group above rest
+
+-- all of a design
+abbrev pub design_shape_faults : DesignTree → List Fault
+design_shape_faults d = states_shape (entities_of d) d.states [] d.states ++ second_states d.states fresh
