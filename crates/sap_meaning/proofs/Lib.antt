@@ -1,0 +1,10 @@
+pub mod Bools
+pub mod Slots
+pub mod Trees
+pub mod Keeps
+pub mod Holding
+mod Listed
+mod Fitting
+mod Rising
+mod Computed
+mod Sampled

@@ -1,0 +1,89 @@
+-- Exact lists raise what is touched.
+use Rattle.std.proofs.Common.{◌≡◌, ℕ, zero, suc, Bool, ◌∷◌, ◌++◌, refl, ap, nat_eq, inl, inr}
+use Rattle.std.proofs.lemmas.Bool.{cases_Bool}
+use Rattle.sap_maps.specs.Term.{Term}
+use Rattle.sap_meaning.specs.Program.{World, root, listed, Step, Set, Write, Retag, RetagCell, Goto, Fall, Command, Do, Try, If, Block, End, Then, State, Node, Group, None, More}
+use Rattle.sap_meaning.specs.Store.{Store, child, settle, After, and_then}
+use Rattle.sap_meaning.specs.Expressions.{value}
+use Rattle.sap_meaning.specs.Checks.{Spot, site_of, guard, test}
+use Rattle.sap_meaning.specs.Touches.{raised_alone, root_touches}
+use Rattle.sap_meaning.specs.Does.{effect, attempt, select, branch, does, does_block, does_state, does_child}
+use Rattle.sap_meaning.specs.Runs.{listed_alone, run, run_block, run_state, run_child}
+use Rattle.sap_meaning.specs.Cycle.{set_inputs, root_fall, cycle, cycle_listed}
+use Rattle.sap_meaning.specs.Fine.{ExactStep, Exact, ExactBlock, ExactState, ExactGroup}
+use Rattle.sap_meaning.specs.Laws.{ListsServe}
+
+abbrev Alike : (ℕ → Store → After) → (ℕ → Store → After) → Type 0
+Alike f g = (pc : ℕ) (s : Store) → f pc s ≡ g pc s
+
+same_test : (h k : ℕ → Bool) → ((x : ℕ) → h x ≡ k x) → h ≡ k
+same_test h k e = λ i x. e x i
+
+then_same : (a b : After) (f g : Store → After) → a ≡ b → ((s : Store) → f s ≡ g s) → and_then a f ≡ and_then b g
+then_same a b f g e h = rw e (ap (λ (r : After). let z : After = record { store = r.store; refused = b.refused ++ r.refused } in z) (h b.store))
+
+module _ (w : World) (at : Spot) (enter enter' : ℕ → ℕ → Store → After) (same : (n : ℕ) → Alike (enter n) (enter' n)) where
+  effect_same : (k : Step) (pc : ℕ) (b s : Store) → effect w at enter k pc b s ≡ effect w at enter' k pc b s
+  unfolding effect
+  effect_same (Set site x e) pc b s = refl
+  effect_same (Write site m i e) pc b s = refl
+  effect_same (Retag site x n) pc b s = refl
+  effect_same (RetagCell site m j n) pc b s = refl
+  effect_same (Goto site target) pc b s = refl
+  effect_same (Fall site hang) pc b s = same _ _ s
+
+  attempt_same : (k : Step) (h i : ℕ → Bool) (f g : ℕ → Store → After) → ((x : ℕ) → h x ≡ i x) → Alike f g → Alike (attempt w at enter k h f) (attempt w at enter' k i g)
+  unfolding attempt
+  attempt_same k h i f g e a pc s = rw (same_test h i e) (elim (cases_Bool (test w at k pc s)) [
+    | inl t ↦ rw t (effect_same k pc s _)
+    | inr t ↦ rw t (ap (λ (r : After). let z : After = record { store = r.store; refused = record { site = site_of k; level = w.order.join pc (guard w at k s) } ∷ r.refused } in z) (a _ _))
+  ])
+
+  select_same : (e : Term ℕ) (h i : ℕ → Bool) (f g j k : ℕ → Store → After) → ((x : ℕ) → h x ≡ i x) → Alike f j → Alike g k → Alike (select w e h (branch f g)) (select w e i (branch j k))
+  unfolding select
+  select_same e h i f g j k c a b pc s = rw (same_test h i c) (elim (cases_Bool (nat_eq (value w e s) 0)) [ inl t ↦ rw t (b _ _) | inr t ↦ rw t (a _ _) ])
+
+  alone_same : (k : Step) → ExactStep w at k → (x : ℕ) → listed_alone w at k x ≡ raised_alone w at k x
+  alone_same (Set site y e) fine x = refl
+  alone_same (Write site m i e) fine x = refl
+  alone_same (Retag site y n) fine x = refl
+  alone_same (RetagCell site m j n) fine x = refl
+  alone_same (Goto site target) fine x = refl
+  alone_same (Fall site hang) fine x = fine x
+
+  mutual
+    unfolding run run_block does does_block
+
+    run_same : (c : Command) → Exact w at c → Alike (run w at enter c) (does w at enter' c)
+    run_same (Do k) fine = attempt_same k _ _ _ _ (alone_same k fine) (λ pc s. refl)
+    run_same (Try k hang h) fine = attempt_same k _ _ _ _ fine.0 (block_same h fine.1)
+    run_same (If hang e a b) fine = select_same e _ _ _ _ _ _ fine.0 (block_same a fine.1) (block_same b fine.2)
+
+    pub block_same : (b : Block) → ExactBlock w at b → Alike (run_block w at enter b) (does_block w at enter' b)
+    block_same End fine pc s = refl
+    block_same (Then c cs) fine pc s = then_same _ _ _ _ (run_same c fine.0 pc s) (λ r. block_same cs fine.1 pc r)
+
+module _ (w : World) where
+  mutual
+    unfolding run_state run_child does_state does_child
+
+    pub state_same : (t : State) (p : ℕ) → ExactState w p t → Alike (run_state w t p) (does_state w t p)
+    state_same (Node e b g) p fine pc s = block_same w (record { state = e; parent = p; children = g }) (run_child w g e) (does_child w g e) (λ n. child_same g e fine.1 n) b fine.0 pc s
+
+    pub child_same : (g : Group) (p : ℕ) → ExactGroup w p g → (n : ℕ) → Alike (run_child w g p n) (does_child w g p n)
+    child_same None p fine n pc s = refl
+    child_same (More t g) p fine zero pc s = state_same t p fine.0 pc s
+    child_same (More t g) p fine (suc n) pc s = child_same g p fine.1 n pc s
+
+root_same : (w : World) (h i : ℕ → Bool) (p : ℕ) → ((x : ℕ) → h x ≡ i x) → (g : Group) → ExactGroup w p g → (n : ℕ) (s : Store) → root_fall w h (λ t. run_state w t p) g n s ≡ root_fall w i (λ t. does_state w t p) g n s
+unfolding root_fall
+root_same w h i p e None fine n s = refl
+root_same w h i p e (More (Node c b k) g) fine zero s = rw (same_test h i e) (state_same w (Node c b k) p fine.0 _ _)
+root_same w h i p e (More t g) fine (suc n) s = root_same w h i p e g fine.1 n s
+
+pub lists_law : ListsServe
+unfolding cycle cycle_listed
+lists_law p exact inputs s =
+    let begun = set_inputs p.world inputs s in
+    ap (λ (a : After). let z : After = record { store = settle a.store; refused = a.refused } in z)
+    (root_same p.world (listed p.hang) (root_touches p.world p.states) (root p.world) exact.hang p.states exact.lists (child (root p.world) begun) begun)

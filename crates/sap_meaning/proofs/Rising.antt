@@ -1,0 +1,183 @@
+-- What is refused in a cycle stands in the order of the text.
+use Rattle.std.proofs.Common.{◌≡◌, ℕ, zero, suc, ◌≤◌, Bool, true, false, not, List, [], ◌∷◌, ◌++◌, append_assoc, refl, sym, ap, subst, arith, inl, inr}
+use Rattle.std.proofs.lemmas.Bool.{cases_Bool}
+use Rattle.sap_maps.specs.Term.{Term}
+use Rattle.sap_meaning.specs.Program.{World, is_dynamic, root, Step, Set, Write, Retag, RetagCell, Goto, Fall, Command, Do, Try, If, Block, End, Then, State, Node, Group, None, More}
+use Rattle.sap_meaning.specs.Store.{Store, child, Refusal, After, stay}
+use Rattle.sap_meaning.specs.Checks.{Spot, child_opens, test}
+use Rattle.sap_meaning.specs.Touches.{touches, raised_alone, root_touches}
+use Rattle.sap_meaning.specs.Does.{effect, attempt, select, branch, does, does_block, does_state, does_child}
+use Rattle.sap_meaning.specs.Cycle.{set_inputs, root_fall, cycle}
+use Rattle.sap_meaning.specs.Fine.{transfers, Open, OpenBlock, Closes, Final, FineState, FineGroup}
+use Rattle.sap_meaning.specs.Sites.{some_enforced, is_site, step_sites, sites, block_sites, state_sites, group_sites, program_sites, refused_sites, Sublist, RisesFrom}
+use Rattle.sap_meaning.specs.Laws.{SitesInOrder}
+use Rattle.sap_meaning.proofs.Bools.{and_both, or_left, neither_left, neither_right}
+use Rattle.sap_meaning.proofs.Keeps.{branch_all}
+
+skip : (xs zs ys : List ℕ) → Sublist xs ys → Sublist xs (zs ++ ys)
+skip [] zs ys h = tt
+skip (x ∷ xs) [] ys h = h
+skip (x ∷ xs) (z ∷ zs) ys h = inr (skip (x ∷ xs) zs ys h)
+
+more : (xs ys zs : List ℕ) → Sublist xs ys → Sublist xs (ys ++ zs)
+more [] ys zs h = tt
+more (x ∷ xs) [] zs h = absurd h
+more (x ∷ xs) (y ∷ ys) zs h = elim h [ inl q ↦ inl (q.0, more xs ys zs q.1) | inr q ↦ inr (more (x ∷ xs) ys zs q) ]
+
+-- one list behind another
+joins : (as' bs cs ds : List ℕ) → Sublist as' bs → Sublist cs ds → Sublist (as' ++ cs) (bs ++ ds)
+joins [] bs cs ds h k = skip cs bs ds k
+joins (a ∷ as') [] cs ds h k = absurd h
+joins (a ∷ as') (b ∷ bs) cs ds h k = elim h [ inl q ↦ inl (q.0, joins as' bs cs ds q.1 k) | inr q ↦ inr (joins (a ∷ as') bs cs ds q k) ]
+
+between : (xs as' bs gs : List ℕ) → Sublist xs (as' ++ gs) → Sublist xs ((as' ++ bs) ++ gs)
+between [] as' bs gs h = tt
+between (x ∷ xs) [] bs gs h = skip (x ∷ xs) bs gs h
+between (x ∷ xs) (a ∷ as') bs gs h = elim h [ inl q ↦ inl (q.0, between xs as' bs gs q.1) | inr q ↦ inr (between (x ∷ xs) as' bs gs q) ]
+
+refused-append : (a b : List Refusal) → refused_sites (a ++ b) ≡ refused_sites a ++ refused_sites b
+refused-append [] b = refl
+refused-append (r ∷ a) b = ap (λ xs. r.site ∷ xs) (refused-append a b)
+
+later_rises : (xs : List ℕ) (n m : ℕ) → n ≤ m → RisesFrom m xs → RisesFrom n xs
+later_rises [] n m h r = tt
+later_rises (x ∷ xs) n m h r = let k = r.0 in (omega arith, r.1)
+
+sublist_rises : (xs ys : List ℕ) (n : ℕ) → Sublist xs ys → RisesFrom n ys → RisesFrom n xs
+sublist_rises [] ys n h r = tt
+sublist_rises (x ∷ xs) [] n h r = absurd h
+sublist_rises (x ∷ xs) (y ∷ ys) n h r = elim h [
+  | inl q ↦ (subst (λ (k : ℕ). n ≤ k) (sym q.0) r.0, sublist_rises xs ys (suc x) q.1 (subst (λ k. RisesFrom (suc k) ys) (sym q.0) r.1))
+  | inr q ↦ (let k = r.0 in sublist_rises (x ∷ xs) ys n q (later_rises ys n (suc y) (omega arith) r.1))
+]
+
+is_true : (b : Bool) → not b ≡ false → b ≡ true
+is_true true h = refl
+is_true false h = cc
+
+module _ (w : World) where
+  opens_all : (g : Group) → some_enforced w g ≡ false → (n pc : ℕ) (s : Store) → child_opens w g n pc s ≡ true
+  opens_all None h n pc s = refl
+  opens_all (More (Node c b k) None) h n pc s = or_left _ _ (is_true (is_dynamic w c) (neither_left _ _ h))
+  opens_all (More (Node c b k) (More t g)) h zero pc s = or_left _ _ (is_true (is_dynamic w c) (neither_left _ _ h))
+  opens_all (More (Node c b k) (More t g)) h (suc n) pc s = opens_all (More t g) (neither_right (not (is_dynamic w c)) _ h) n pc s
+
+  -- what is no check site is not refused
+  serves : (at : Spot) (k : Step) → is_site w at.state at.children k ≡ false → (pc : ℕ) (s : Store) → test w at k pc s ≡ true
+  serves at (Set site x e) h pc s = or_left _ _ (is_true (is_dynamic w x) h)
+  serves at (Write site m i e) h pc s = or_left _ _ (is_true (is_dynamic w m) h)
+  serves at (Retag site x n) h pc s = cc
+  serves at (RetagCell site m j n) h pc s = cc
+  serves at (Goto site target) h pc s =
+      and_both _ _ (or_left _ _ (is_true (is_dynamic w target) (neither_right (not (is_dynamic w at.state)) _ h))) (or_left _ _ (is_true (is_dynamic w at.state) (neither_left _ _ h)))
+  serves at (Fall site hang) h pc s = opens_all at.children h (child at.state s) pc s
+
+  -- what is refused
+  abbrev From : After → List ℕ → Type 0
+  From a ys = Sublist (refused_sites a.refused) ys
+
+  module _ (at : Spot) (enter : ℕ → ℕ → Store → After) (below : List ℕ) (entering : (n pc : ℕ) (s : Store) → From (enter n pc s) below) where
+    abbrev Own : Step → List ℕ
+    Own k = step_sites w at.state at.children k
+
+    abbrev OwnBlock : Block → List ℕ
+    OwnBlock b = block_sites w at.state at.children b
+
+    effect_from : (k : Step) (pc : ℕ) (b s : Store) → From (effect w at enter k pc b s) below
+    unfolding effect
+    effect_from (Set site x e) pc b s = tt
+    effect_from (Write site m i e) pc b s = tt
+    effect_from (Retag site x n) pc b s = tt
+    effect_from (RetagCell site m j n) pc b s = tt
+    effect_from (Goto site target) pc b s = tt
+    effect_from (Fall site hang) pc b s = entering _ _ s
+
+    effect_none : (k : Step) → transfers k ≡ false → (pc : ℕ) (b s : Store) → From (effect w at enter k pc b s) []
+    unfolding effect
+    effect_none (Set site x e) plain pc b s = tt
+    effect_none (Write site m i e) plain pc b s = tt
+    effect_none (Retag site x n) plain pc b s = tt
+    effect_none (RetagCell site m j n) plain pc b s = tt
+    effect_none (Goto site target) plain pc b s = cc
+    effect_none (Fall site hang) plain pc b s = cc
+
+    -- a step whose effect refuses some of ys, and whose handler some of zs
+    attempt_from : (k : Step) (hang : ℕ → Bool) (h : ℕ → Store → After) (ys zs : List ℕ) → ((pc : ℕ) (b s : Store) → From (effect w at enter k pc b s) ys) → ((xs : List ℕ) → Sublist xs ys → Sublist xs zs) → ((p : ℕ) (t : Store) → From (h p t) zs) → (pc : ℕ) (s : Store) → From (attempt w at enter k hang h pc s) (Own k ++ zs)
+    unfolding attempt
+    attempt_from k hang h ys zs f into g pc s = elim (cases_Bool (test w at k pc s)) [
+      | inl t ↦ rw t (skip _ (Own k) zs (into _ (f pc s _)))
+      | inr t ↦ rw t (elim (cases_Bool (is_site w at.state at.children k)) [
+        | inl i ↦ rw i (inl (refl, g _ _))
+        | inr i ↦ (let no = serves at k i pc s in cc)
+      ])
+    ]
+
+    select_from : (e : Term ℕ) (hang : ℕ → Bool) (a b : ℕ → Store → After) (ys : List ℕ) → ((p : ℕ) (t : Store) → From (a p t) ys) → ((p : ℕ) (t : Store) → From (b p t) ys) → (pc : ℕ) (s : Store) → From (select w e hang (branch a b) pc s) ys
+    unfolding select
+    select_from e hang a b ys f g pc s = branch_all (λ z. From z ys) a b _ _ _ (f _ _) (g _ _)
+
+    none : (xs ys : List ℕ) → Sublist xs [] → Sublist xs ys
+    none [] ys h = tt
+    none (x ∷ xs) ys h = absurd h
+
+    append-nil : (xs : List ℕ) → xs ++ [] ≡ xs
+    append-nil [] = refl
+    append-nil (x ∷ xs) = ap (λ ys. x ∷ ys) (append-nil xs)
+
+    mutual
+      unfolding does does_block
+
+      open_from : (c : Command) → Open c → (pc : ℕ) (s : Store) → From (does w at enter c pc s) (sites w at.state at.children c)
+      open_from (Do k) plain pc s = subst (λ ys. From (attempt w at enter k (raised_alone w at k) (λ p t. stay t) pc s) ys) (append-nil (Own k)) (attempt_from k (raised_alone w at k) (λ p t. stay t) [] [] (effect_none k plain) (λ xs h. h) (λ p t. tt) pc s)
+      open_from (Try k hang h) plain pc s = attempt_from k (touches w at (Try k hang h)) (does_block w at enter h) [] (OwnBlock h) (effect_none k plain.0) (λ xs i. none xs (OwnBlock h) i) (λ p t. open_list h plain.1 p t) pc s
+      open_from (If hang e a b) plain pc s = select_from e (touches w at (If hang e a b)) (does_block w at enter a) (does_block w at enter b) (OwnBlock a ++ OwnBlock b) (λ p t. more _ (OwnBlock a) (OwnBlock b) (open_list a plain.0 p t)) (λ p t. skip _ (OwnBlock a) (OwnBlock b) (open_list b plain.1 p t)) pc s
+
+      open_list : (b : Block) → OpenBlock b → (pc : ℕ) (s : Store) → From (does_block w at enter b pc s) (OwnBlock b)
+      open_list End plain pc s = tt
+      open_list (Then c cs) plain pc s = rw (refused-append (does w at enter c pc s).refused) (joins _ (sites w at.state at.children c) _ (OwnBlock cs) (open_from c plain.0 pc s) (open_list cs plain.1 pc _))
+
+    mutual
+      unfolding does does_block
+
+      final_from : (c : Command) → Final c → (pc : ℕ) (s : Store) → From (does w at enter c pc s) (sites w at.state at.children c ++ below)
+      final_from (Do k) final pc s = attempt_from k (raised_alone w at k) (λ p t. stay t) below below (effect_from k) (λ xs h. h) (λ p t. tt) pc s
+      final_from (Try k hang h) final pc s =
+          subst (λ ys. From (attempt w at enter k (touches w at (Try k hang h)) (does_block w at enter h) pc s) ys) (sym (append_assoc (Own k) (OwnBlock h) below))
+          (attempt_from k (touches w at (Try k hang h)) (does_block w at enter h) below (OwnBlock h ++ below) (effect_from k) (λ xs i. skip xs (OwnBlock h) below i) (λ p t. closing_from h final.1 p t) pc s)
+      final_from (If hang e a b) final pc s =
+          select_from e (touches w at (If hang e a b)) (does_block w at enter a) (does_block w at enter b) ((OwnBlock a ++ OwnBlock b) ++ below)
+          (λ p t. between _ (OwnBlock a) (OwnBlock b) below (closing_from a final.0 p t))
+          (λ p t. subst (λ ys. From (does_block w at enter b p t) ys) (sym (append_assoc (OwnBlock a) (OwnBlock b) below)) (skip _ (OwnBlock a) (OwnBlock b ++ below) (closing_from b final.1 p t))) pc s
+
+      pub closing_from : (b : Block) → Closes b → (pc : ℕ) (s : Store) → From (does_block w at enter b pc s) (OwnBlock b ++ below)
+      closing_from End closes pc s = absurd closes
+      closing_from (Then c End) closes pc s =
+          rw (refused-append (does w at enter c pc s).refused, append-nil (refused_sites (does w at enter c pc s).refused), append-nil (sites w at.state at.children c)) (final_from c closes pc s)
+      closing_from (Then c (Then d ds)) closes pc s =
+          rw (refused-append (does w at enter c pc s).refused)
+          (subst (λ ys. Sublist (refused_sites (does w at enter c pc s).refused ++ refused_sites (does_block w at enter (Then d ds) pc (does w at enter c pc s).store).refused) ys) (sym (append_assoc (sites w at.state at.children c) (OwnBlock (Then d ds)) below))
+          (joins _ (sites w at.state at.children c) _ (OwnBlock (Then d ds) ++ below) (open_from c closes.0 pc s) (closing_from (Then d ds) closes.1 pc _)))
+
+  mutual
+    unfolding does_state does_child
+
+    state_from : (t : State) (p : ℕ) (q : Group) (n : ℕ) → FineState w q n t → (pc : ℕ) (s : Store) → From (does_state w t p pc s) (state_sites w t)
+    state_from (Node e b g) p q n fine pc s = closing_from (record { state = e; parent = p; children = g }) (does_child w g e) (group_sites w g) (λ m z u. child_from g e g 0 fine.1 m z u) b fine.0.closes pc s
+
+    child_from : (g : Group) (p : ℕ) (q : Group) (n : ℕ) → FineGroup w q n g → (m pc : ℕ) (s : Store) → From (does_child w g p m pc s) (group_sites w g)
+    child_from None p q n fine m pc s = tt
+    child_from (More t g) p q n fine zero pc s = more _ (state_sites w t) (group_sites w g) (state_from t p q n fine.0 pc s)
+    child_from (More t g) p q n fine (suc m) pc s = skip _ (state_sites w t) (group_sites w g) (child_from g p q (suc n) fine.1 m pc s)
+
+  root_from : (hang : ℕ → Bool) (p : ℕ) (g : Group) (q : Group) (n : ℕ) → FineGroup w q n g → (m : ℕ) (s : Store) → From (root_fall w hang (λ t. does_state w t p) g m s) (group_sites w g)
+  unfolding root_fall
+  root_from hang p None q n fine m s = tt
+  root_from hang p (More (Node c b k) g) q n fine zero s = more _ (state_sites w (Node c b k)) (group_sites w g) (state_from (Node c b k) p q n fine.0 _ _)
+  root_from hang p (More (Node c b k) g) q n fine (suc m) s = skip _ (state_sites w (Node c b k)) (group_sites w g) (root_from hang p g q (suc n) fine.1 m s)
+
+pub sites_law : SitesInOrder
+unfolding cycle
+sites_law p fine inputs s =
+    let begun = set_inputs p.world inputs s in
+    let f = root_from p.world (root_touches p.world p.states) (root p.world) p.states p.states 0 fine.states (child (root p.world) begun) begun in
+    (f, λ n h. sublist_rises _ (program_sites p) n f h)

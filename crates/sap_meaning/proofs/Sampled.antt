@@ -1,0 +1,284 @@
+-- The sample program meets the premises.
+use Rattle.std.proofs.Common.{◌≡◌, ℕ, zero, suc, ◌<◌, ◌^◌, Bool, true, false, ◌&&◌, ◌||◌, [], refl, arith, nat_eq, inl, inr, if◌then◌else◌}
+use Rattle.std.proofs.lemmas.Bool.{cases_Bool}
+use Rattle.std.proofs.lemmas.Grind.{common_steps}
+use Rattle.sap_lattice.specs.Order.{Laws}
+use Rattle.sap_maps.specs.Term.{constant, read, cell, two}
+use Rattle.sap_bits.specs.declared.Op2.TheVariants.{Eq}
+use Rattle.sap_meaning.specs.Program.{entity, is_dynamic, is_input, authority, width, below, listed, Set, Write, Goto, Fall, Command, Do, Try, If, End, Then, Node, None, More}
+use Rattle.sap_meaning.proofs.Bools.{or_of, same_number}
+use Rattle.sap_meaning.specs.Checks.{Spot}
+use Rattle.sap_meaning.specs.Touches.{touches, root_touches}
+use Rattle.sap_meaning.specs.Fine.{FineNode, FineProgram, ExactProgram, ExactList, reaches, block_reaches, inside}
+use Rattle.sap_meaning.specs.Sized.{SizedProgram}
+use Rattle.sap_meaning.specs.Examples.{two_levels}
+use Rattle.sap_meaning.specs.Sample.{sample_world, on_fall, on_root, body_c, body_d, body_q, body_p, sample_kids, sample_states, sample, Meets}
+
+level_of : (b : Bool) → (if b then 1 else 0) < 2
+level_of true = omega arith
+level_of false = omega arith
+
+one_of : (b : Bool) → nat_eq (if b then 1 else 0) 1 ≡ b
+one_of true = refl
+one_of false = refl
+
+itself : (a : Bool) → (if a then a else true) ≡ true
+itself true = refl
+itself false = refl
+
+onward : (a b c : Bool) → (if a then b else true) ≡ true → (if b then c else true) ≡ true → (if a then c else true) ≡ true
+onward true true c h k = k
+onward true false c h k = cc
+onward false b c h k = refl
+
+first_in : (a b : Bool) → (if a then (a || b) else true) ≡ true
+first_in true b = refl
+first_in false b = refl
+
+second_in : (a b : Bool) → (if b then (a || b) else true) ≡ true
+second_in true true = refl
+second_in true false = refl
+second_in false true = refl
+second_in false false = refl
+
+joined : (a b c : Bool) → (if a then c else true) ≡ true → (if b then c else true) ≡ true → (if a || b then c else true) ≡ true
+joined true b c h k = h
+joined false b c h k = k
+
+always : (a : Bool) → (if a then true else true) ≡ true
+always true = refl
+always false = refl
+
+lawful : Laws two_levels
+lawful = record {
+  least_of_all = λ x. refl;
+  self = λ x. itself (nat_eq x 1);
+  trans = λ x y z h k. onward (nat_eq x 1) (nat_eq y 1) (nat_eq z 1) h k;
+  left = λ x y. rw (one_of (nat_eq x 1 || nat_eq y 1)) (first_in (nat_eq x 1) (nat_eq y 1));
+  right = λ x y. rw (one_of (nat_eq x 1 || nat_eq y 1)) (second_in (nat_eq x 1) (nat_eq y 1));
+  least = λ x y z h k. rw (one_of (nat_eq x 1 || nat_eq y 1)) (joined (nat_eq x 1) (nat_eq y 1) (nat_eq z 1) h k);
+  greatest_of_all = λ x. always (nat_eq x 1);
+  bottom_is_level = omega arith;
+  top_is_level = omega arith;
+  join_is_level = λ x y. level_of (nat_eq x 1 || nat_eq y 1);
+}
+
+-- past the last entity
+far : (x k : ℕ) → k < 9 → nat_eq (suc (suc (suc (suc (suc (suc (suc (suc (suc x))))))))) k ≡ false
+far x k h = grind (arith, common_steps)
+
+-- what holds at each entity, and past the last
+each : (f g : ℕ → Bool) → f 0 ≡ g 0 → f 1 ≡ g 1 → f 2 ≡ g 2 → f 3 ≡ g 3 → f 4 ≡ g 4 → f 5 ≡ g 5 → f 6 ≡ g 6 → f 7 ≡ g 7 → f 8 ≡ g 8 → ((x : ℕ) → f (suc (suc (suc (suc (suc (suc (suc (suc (suc x))))))))) ≡ g (suc (suc (suc (suc (suc (suc (suc (suc (suc x)))))))))) → (x : ℕ) → f x ≡ g x
+each f g h0 h1 h2 h3 h4 h5 h6 h7 h8 h9 zero = h0
+each f g h0 h1 h2 h3 h4 h5 h6 h7 h8 h9 (suc zero) = h1
+each f g h0 h1 h2 h3 h4 h5 h6 h7 h8 h9 (suc (suc zero)) = h2
+each f g h0 h1 h2 h3 h4 h5 h6 h7 h8 h9 (suc (suc (suc zero))) = h3
+each f g h0 h1 h2 h3 h4 h5 h6 h7 h8 h9 (suc (suc (suc (suc zero)))) = h4
+each f g h0 h1 h2 h3 h4 h5 h6 h7 h8 h9 (suc (suc (suc (suc (suc zero))))) = h5
+each f g h0 h1 h2 h3 h4 h5 h6 h7 h8 h9 (suc (suc (suc (suc (suc (suc zero)))))) = h6
+each f g h0 h1 h2 h3 h4 h5 h6 h7 h8 h9 (suc (suc (suc (suc (suc (suc (suc zero))))))) = h7
+each f g h0 h1 h2 h3 h4 h5 h6 h7 h8 h9 (suc (suc (suc (suc (suc (suc (suc (suc zero)))))))) = h8
+each f g h0 h1 h2 h3 h4 h5 h6 h7 h8 h9 (suc (suc (suc (suc (suc (suc (suc (suc (suc x))))))))) = h9 x
+
+abbrev spot_p : Spot
+spot_p = record { state = 5; parent = 9; children = sample_kids }
+
+abbrev handled : Command
+handled = Try (Set 1 2 (cell 3 (read 0))) [] (Then (Do (Set 2 2 (constant 8 9))) End)
+
+abbrev falling : Command
+falling = Try (Fall 5 on_fall) on_fall (Then (Do (Goto 6 5)) End)
+
+abbrev choosing : Command
+choosing = If on_fall (two Eq (read 0) (constant 2 1)) (Then (Do (Goto 4 8)) End) (Then falling End)
+
+handled_exact : ExactList sample_world spot_p [] handled
+handled_exact = each (listed []) (touches sample_world spot_p handled) refl refl refl refl refl refl refl refl refl (λ x. rw (far x 2 (omega arith)) refl)
+
+falling_exact : ExactList sample_world spot_p on_fall falling
+falling_exact = each (listed on_fall) (touches sample_world spot_p falling) refl refl refl refl refl refl refl refl refl
+    (λ x. rw (far x 6 (omega arith), far x 7 (omega arith), far x 3 (omega arith), far x 1 (omega arith), far x 5 (omega arith)) refl)
+
+choosing_exact : ExactList sample_world spot_p on_fall choosing
+choosing_exact = each (listed on_fall) (touches sample_world spot_p choosing) refl refl refl refl refl refl refl refl refl
+    (λ x. rw (far x 5 (omega arith), far x 6 (omega arith), far x 7 (omega arith), far x 3 (omega arith), far x 1 (omega arith)) refl)
+
+root_exact : (x : ℕ) → listed on_root x ≡ root_touches sample_world sample_states x
+root_exact = each (listed on_root) (root_touches sample_world sample_states) refl refl refl refl refl refl refl refl refl
+    (λ x. rw (far x 5 (omega arith), far x 8 (omega arith), far x 2 (omega arith), far x 4 (omega arith), far x 3 (omega arith), far x 1 (omega arith)) refl)
+
+exact : ExactProgram sample
+exact = record {
+  lists = (
+    (
+      ((handled_exact, (tt, tt)), (tt, ((choosing_exact, (tt, tt), ((falling_exact, (tt, tt)), tt)), tt))),
+      (((tt, (tt, (tt, tt))), tt), (((tt, (tt, tt)), tt), tt)),
+    ),
+    (((tt, (tt, (tt, tt))), tt), tt),
+  );
+  hang = root_exact;
+}
+
+inputs : (x : ℕ) → is_input sample_world x ≡ true → is_dynamic sample_world x ≡ true
+inputs zero h = refl
+inputs (suc zero) h = refl
+inputs (suc (suc zero)) h = cc
+inputs (suc (suc (suc zero))) h = refl
+inputs (suc (suc (suc (suc zero)))) h = cc
+inputs (suc (suc (suc (suc (suc zero))))) h = cc
+inputs (suc (suc (suc (suc (suc (suc zero)))))) h = refl
+inputs (suc (suc (suc (suc (suc (suc (suc zero))))))) h = cc
+inputs (suc (suc (suc (suc (suc (suc (suc (suc zero)))))))) h = cc
+inputs (suc (suc (suc (suc (suc (suc (suc (suc (suc x))))))))) h = refl
+
+above : (x : ℕ) → two_levels.le (authority sample_world x) (entity sample_world x).declared ≡ true
+above = each (λ x. two_levels.le (authority sample_world x) (entity sample_world x).declared) (λ x. true) refl refl refl refl refl refl refl refl refl (λ x. refl)
+
+in_kids : (x : ℕ) → inside sample_kids x ≡ true → below sample_world 5 x ≡ true
+in_kids x h = elim (or_of (nat_eq x 6) _ h) [
+  | inl e ↦ rw (same_number x 6 e) refl
+  | inr e ↦ elim (or_of (nat_eq x 7) false e) [ inl f ↦ rw (same_number x 7 f) refl | inr f ↦ cc ]
+]
+
+nothing : (b : Bool) → (b && false) ≡ false
+nothing true = refl
+nothing false = refl
+
+differ : (m j k : ℕ) → nat_eq j k ≡ false → nat_eq m j ≡ true → nat_eq m k ≡ false
+differ m j k e h = rw (same_number m j h) e
+
+apart : (m : ℕ) → (reaches sample_kids (Do (Write 3 4 (read 0) (read 1))) m && block_reaches sample_kids (Then choosing End) m) ≡ false
+apart m = elim (cases_Bool (nat_eq m 4)) [
+  | inl e ↦ rw (e, differ m 4 3 refl e) refl
+  | inr e ↦ rw e refl
+]
+
+after_seven : (x : ℕ) → inside (More (Node 8 body_q None) None) x ≡ true → 7 < x
+after_seven x h = elim (or_of (nat_eq x 8) false h) [ inl e ↦ (let f = same_number x 8 e in omega arith) | inr e ↦ cc ]
+
+after_six : (x : ℕ) → inside (More (Node 7 body_d None) None) x ≡ true → 6 < x
+after_six x h = elim (or_of (nat_eq x 7) false h) [ inl e ↦ (let f = same_number x 7 e in omega arith) | inr e ↦ cc ]
+
+node_p : FineNode sample_world sample_states 0 5 body_p sample_kids
+node_p = record {
+  kind = refl;
+  placed = refl;
+  count = refl;
+  numbers = in_kids;
+  itself = omega arith;
+  declared = omega arith;
+  steps = ((((refl, (refl, refl)), ((refl, tt), tt)), ((refl, refl, refl), (((refl, tt), (refl, tt), ((omega arith, (refl, tt)), tt)), tt))));
+  closes = ((refl, (refl, tt)), (refl, (refl, (refl, refl))));
+  once = (
+    ((tt, tt, λ m. refl), λ m. refl),
+    (tt, (((tt, tt, λ m. refl), (((tt, tt, λ m. refl), λ m. refl), tt, λ m. nothing _)), tt, λ m. nothing _), apart),
+    λ m. refl,
+  );
+  retags_itself = refl;
+  retags_below = λ x h. refl;
+}
+
+node_c : FineNode sample_world sample_kids 0 6 body_c None
+node_c = record {
+  kind = refl;
+  placed = refl;
+  count = refl;
+  numbers = λ x h. cc;
+  itself = omega arith;
+  declared = omega arith;
+  steps = ((refl, refl, tt), ((refl, (refl, refl)), (refl, tt)));
+  closes = (refl, (refl, refl));
+  once = (tt, (tt, (tt, tt, λ m. refl), λ m. refl), λ m. nothing (nat_eq m 3));
+  retags_itself = refl;
+  retags_below = λ x h. cc;
+}
+
+node_d : FineNode sample_world sample_kids 1 7 body_d None
+node_d = record {
+  kind = refl;
+  placed = refl;
+  count = refl;
+  numbers = λ x h. cc;
+  itself = omega arith;
+  declared = omega arith;
+  steps = ((refl, refl, omega arith), (refl, tt));
+  closes = (refl, refl);
+  once = (tt, (tt, tt, λ m. refl), λ m. refl);
+  retags_itself = refl;
+  retags_below = λ x h. cc;
+}
+
+node_q : FineNode sample_world sample_states 1 8 body_q None
+node_q = record {
+  kind = refl;
+  placed = refl;
+  count = refl;
+  numbers = λ x h. cc;
+  itself = omega arith;
+  declared = omega arith;
+  steps = ((refl, refl, refl, refl), ((refl, refl, refl), (refl, tt)));
+  closes = (refl, (refl, refl));
+  once = (tt, (tt, (tt, tt, λ m. refl), λ m. refl), λ m. nothing (nat_eq m 4));
+  retags_itself = refl;
+  retags_below = λ x h. cc;
+}
+
+fine : FineProgram sample
+fine = record {
+  order = lawful;
+  states = ((node_p, ((node_c, tt), ((node_d, tt), tt, λ x h. cc), after_six)), ((node_q, tt), tt, λ x h. cc), after_seven);
+  count = refl;
+  inputs = inputs;
+  above = λ x d. above x;
+}
+
+initials : (x : ℕ) → (entity sample_world x).initial < 2 ^ width sample_world x
+initials zero = omega arith
+initials (suc zero) = omega arith
+initials (suc (suc zero)) = omega arith
+initials (suc (suc (suc zero))) = omega arith
+initials (suc (suc (suc (suc zero)))) = omega arith
+initials (suc (suc (suc (suc (suc zero))))) = omega arith
+initials (suc (suc (suc (suc (suc (suc zero)))))) = omega arith
+initials (suc (suc (suc (suc (suc (suc (suc zero))))))) = omega arith
+initials (suc (suc (suc (suc (suc (suc (suc (suc zero)))))))) = omega arith
+initials (suc (suc (suc (suc (suc (suc (suc (suc (suc x))))))))) = omega arith
+
+declared : (x : ℕ) → (entity sample_world x).declared < 2
+declared zero = omega arith
+declared (suc zero) = omega arith
+declared (suc (suc zero)) = omega arith
+declared (suc (suc (suc zero))) = omega arith
+declared (suc (suc (suc (suc zero)))) = omega arith
+declared (suc (suc (suc (suc (suc zero))))) = omega arith
+declared (suc (suc (suc (suc (suc (suc zero)))))) = omega arith
+declared (suc (suc (suc (suc (suc (suc (suc zero))))))) = omega arith
+declared (suc (suc (suc (suc (suc (suc (suc (suc zero)))))))) = omega arith
+declared (suc (suc (suc (suc (suc (suc (suc (suc (suc x))))))))) = omega arith
+
+sized : SizedProgram sample
+sized = record {
+  states = (
+    (
+      (
+        (((tt, (refl, tt)), refl), (((omega arith, tt), refl), tt)),
+        (
+          ((tt, tt), refl, (tt, tt), refl),
+          ((((tt, omega arith, refl), (tt, tt)), refl, (tt, tt), ((tt, (tt, tt)), tt)), tt),
+        ),
+      ),
+      (((((tt, tt), refl, (omega arith, tt), refl), (((tt, (refl, tt)), refl), (tt, tt))), tt), (((tt, (tt, tt)), tt), tt)),
+    ),
+    (((((tt, tt), refl, (tt, tt)), ((tt, tt), (tt, tt))), tt), tt),
+  );
+  initials = initials;
+  declared = declared;
+}
+
+pub meets : Meets
+meets = record {
+  fine = fine;
+  exact = exact;
+  sized = sized;
+  sites = (omega arith, (omega arith, (omega arith, (omega arith, (omega arith, (omega arith, (omega arith, (omega arith, (omega arith, (omega arith, (omega arith, (omega arith, tt))))))))))));
+}

@@ -1,0 +1,92 @@
+-- When streams, states and refusals agree at a level l.
+use Rattle.std.specs.Prelude.{◌≡◌, ℕ, zero, suc, true, false, List, [], ◌∷◌, ◌⊎◌, if◌then◌else◌}
+use Rattle.sap_lattice.specs.Order.{Order}
+use Rattle.sap_meaning.specs.Program.{World, Program, is_dynamic, is_register, is_memory, authority, root, Node, Group, None, More}
+use Rattle.sap_meaning.specs.Store.{Store, Slot, own, start, next, start_whole, next_whole, owner, held, number, level, child, Refusal, After}
+use Rattle.sap_meaning.specs.Checks.{child_level}
+use Rattle.sap_meaning.specs.Cycle.{Tagged}
+
+-- t is at or below l
+abbrev pub Low : Order → ℕ → ℕ → Type 0
+Low o l t = o.le t l ≡ true
+
+-- t is not at or below l
+abbrev pub High : Order → ℕ → ℕ → Type 0
+High o l t = o.le t l ≡ false
+
+-- The numbers n and m with the levels t and u look alike: they are equal, with equal levels at or below l, or neither
+-- level is at or below l.
+abbrev pub Alike : Order → ℕ → (n t m u : ℕ) → Type 0
+Alike o l n t m u = ((n ≡ m) × (t ≡ u) × Low o l t) ⊎ (High o l t × High o l u)
+
+abbrev pub SlotsAlike : World → ℕ → Slot → Store → Store → Type 0
+SlotsAlike w l z s t = Alike w.order l (number z s) (level w z s) (number z t) (level w z t)
+
+-- One part of a dynamic memory, whose level is kept at `whole`: all cells and the level are equal, with the level at
+-- or below l, or neither level is at or below l.
+abbrev pub PartsAlike : World → ℕ → (cell : ℕ → Slot) → (whole : Slot) → Store → Store → Type 0
+PartsAlike w l cell whole s t =
+    (((i : ℕ) → number (cell i) s ≡ number (cell i) t) × (level w whole s ≡ level w whole t) × Low w.order l (level w whole s))
+    ⊎ (High w.order l (level w whole s) × High w.order l (level w whole t))
+
+-- How the walk goes on from the parent p: at a leaf it ends; the current children are the same state, from which
+-- `onward` tells more; or neither child's level is at or below l, and it ends.
+abbrev pub Meets : World → ℕ → (p : ℕ) → Group → Store → Store → (onward : ℕ → Type 0) → Type 0
+Meets w l p None s t onward = Unit {0}
+Meets w l p (More a g) s t onward =
+    ((child p s ≡ child p t) × onward (child p s))
+    ⊎ (High w.order l (child_level w (More a g) (child p s) s) × High w.order l (child_level w (More a g) (child p t) t))
+
+-- the n-th of a group has equal levels at or below l, and the walk goes on below it
+abbrev pub Onward : World → ℕ → Group → (n : ℕ) → Store → Store → Type 0
+Onward w l None n s t = ⊥
+Onward w l (More (Node c b k) g) zero s t =
+    (level w (own c) s ≡ level w (own c) t) × Low w.order l (level w (own c) s) × Meets w l c k s t (λ n. Onward w l k n s t)
+Onward w l (More a g) (suc n) s t = Onward w l g n s t
+
+-- the active paths from a parent down
+abbrev pub PathsAgree : World → ℕ → (p : ℕ) → Group → Store → Store → Type 0
+PathsAgree w l p g s t = Meets w l p g s t (λ n. Onward w l g n s t)
+
+-- Two states look alike at or below l. Of inputs, of current children and of dynamic states off the walked path nothing
+-- is asked.
+pub record StatesAgree (p : Program) (l : ℕ) (s t : Store) : Type 0 where
+  pub registers : (x : ℕ) → is_register p.world x ≡ true → SlotsAlike p.world l (own x) s t
+  pub enforced_memories : (m i : ℕ) → is_memory p.world m ≡ true → is_dynamic p.world m ≡ false
+      → SlotsAlike p.world l (start m i) s t × SlotsAlike p.world l (next m i) s t
+  pub dynamic_memories : (m : ℕ) → is_memory p.world m ≡ true → is_dynamic p.world m ≡ true
+      → PartsAlike p.world l (start m) (start_whole m) s t × PartsAlike p.world l (next m) (next_whole m) s t
+  -- of registers, cells and states, whether active or not
+  pub enforced_levels : (z : Slot) → held p.world z ≡ true → is_dynamic p.world (owner z) ≡ false → Low p.world.order l (authority p.world (owner z))
+      → level p.world z s ≡ level p.world z t
+  pub paths : PathsAgree p.world l (root p.world) p.states s t
+
+-- the refusals whose level is at or below l
+abbrev pub seen : Order → ℕ → List Refusal → List Refusal
+seen o l [] = []
+seen o l (r ∷ rs) = if o.le r.level l then r ∷ seen o l rs else seen o l rs
+
+abbrev pub RefusalsAgree : Order → ℕ → List Refusal → List Refusal → Type 0
+RefusalsAgree o l rs qs = seen o l rs ≡ seen o l qs
+
+-- as many inputs, and each alike
+abbrev pub InputsAgree : Order → ℕ → List Tagged → List Tagged → Type 0
+InputsAgree o l [] [] = Unit {0}
+InputsAgree o l [] (b ∷ bs) = ⊥
+InputsAgree o l (a ∷ as') [] = ⊥
+InputsAgree o l (a ∷ as') (b ∷ bs) = Alike o l a.number a.level b.number b.level × InputsAgree o l as' bs
+
+-- as many cycles, and in each the inputs agree
+abbrev pub StreamsAgree : Order → ℕ → List (List Tagged) → List (List Tagged) → Type 0
+StreamsAgree o l [] [] = Unit {0}
+StreamsAgree o l [] (b ∷ bs) = ⊥
+StreamsAgree o l (a ∷ as') [] = ⊥
+StreamsAgree o l (a ∷ as') (b ∷ bs) = InputsAgree o l a b × StreamsAgree o l as' bs
+
+-- as many cycles, and in each the states and the refusals agree
+abbrev pub RunsAgree : Program → ℕ → List After → List After → Type 0
+RunsAgree p l [] [] = Unit {0}
+RunsAgree p l [] (b ∷ bs) = ⊥
+RunsAgree p l (a ∷ as') [] = ⊥
+RunsAgree p l (a ∷ as') (b ∷ bs) =
+    StatesAgree p l a.store b.store × RefusalsAgree p.world.order l a.refused b.refused × RunsAgree p l as' bs

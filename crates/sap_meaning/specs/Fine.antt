@@ -1,0 +1,252 @@
+-- What a program has that comes from a well-formed design.
+use Rattle.std.specs.Prelude.{◌≡◌, ℕ, zero, suc, ◌<◌, ◌≤◌, Bool, true, false, ◌&&◌, ◌||◌, List, nat_eq}
+use Rattle.sap_lattice.specs.Order.{Laws}
+use Rattle.sap_maps.specs.Term.{Term, constant, read, cell, one, two, choose, join, part}
+use Rattle.sap_meaning.specs.Program.{World, Program, entity, is_dynamic, is_input, is_register, is_memory, is_state, authority, children, root, place, last, below, listed, LevelTerm, fixed, of, at_place, both, Step, Set, Write, Retag, RetagCell, Goto, Fall, Command, Do, Try, If, Block, End, Then, State, Node, Group, None, More}
+use Rattle.sap_meaning.specs.Checks.{Spot}
+use Rattle.sap_meaning.specs.Touches.{among, touches, root_touches}
+
+-- What is read plain is an input or a register, and what is read by an index is a memory.
+abbrev pub FineTerm : World → Term ℕ → Type 0
+FineTerm w (constant u n) = Unit {0}
+FineTerm w (read x) = (is_input w x || is_register w x) ≡ true
+FineTerm w (cell m i) = (is_memory w m ≡ true) × FineTerm w i
+FineTerm w (one op a) = FineTerm w a
+FineTerm w (two op a b) = FineTerm w a × FineTerm w b
+FineTerm w (choose c a b) = FineTerm w c × FineTerm w a × FineTerm w b
+FineTerm w (join a b) = FineTerm w a × FineTerm w b
+FineTerm w (part a hi lo) = FineTerm w a
+
+-- a written level is one of the lattice
+abbrev pub FineLevel : World → LevelTerm → Type 0
+FineLevel w (fixed n) = n < w.order.count
+FineLevel w (of e) = FineTerm w e
+FineLevel w (at_place e) = FineTerm w e
+FineLevel w (both a b) = FineLevel w a × FineLevel w b
+
+-- how many states a group has
+abbrev pub size : Group → ℕ
+size None = 0
+size (More t g) = suc (size g)
+
+-- What is assigned is a register or a memory, what gets a level is enforced, and a goto's target is one of the states
+-- of the group in which the body's state is. A fall has children to fall into.
+abbrev pub FineStep : World → (siblings children : Group) → Step → Type 0
+FineStep w q g (Set site x e) = (is_register w x ≡ true) × FineTerm w e
+FineStep w q g (Write site m i e) = (is_memory w m ≡ true) × FineTerm w i × FineTerm w e
+FineStep w q g (Retag site x n) = ((is_register w x || is_state w x) ≡ true) × (is_dynamic w x ≡ false) × FineLevel w n
+FineStep w q g (RetagCell site m j n) = (is_memory w m ≡ true) × (is_dynamic w m ≡ false) × FineTerm w j × FineLevel w n
+FineStep w q g (Goto site target) = among q target ≡ true
+FineStep w q g (Fall site hang) = 0 < size g
+
+abbrev mutual
+  pub FineCommand : World → (siblings children : Group) → Command → Type 0
+  FineCommand w q g (Do k) = FineStep w q g k
+  FineCommand w q g (Try k hang h) = FineStep w q g k × FineBlock w q g h
+  FineCommand w q g (If hang e a b) = FineTerm w e × FineBlock w q g a × FineBlock w q g b
+
+  pub FineBlock : World → (siblings children : Group) → Block → Type 0
+  FineBlock w q g End = Unit {0}
+  FineBlock w q g (Then c cs) = FineCommand w q g c × FineBlock w q g cs
+
+-- a goto or a fall
+abbrev pub transfers : Step → Bool
+transfers (Set site x e) = false
+transfers (Write site m i e) = false
+transfers (Retag site x n) = false
+transfers (RetagCell site m j n) = false
+transfers (Goto site target) = true
+transfers (Fall site hang) = true
+
+-- no transfer stands in it
+abbrev mutual
+  pub Open : Command → Type 0
+  Open (Do k) = transfers k ≡ false
+  Open (Try k hang h) = (transfers k ≡ false) × OpenBlock h
+  Open (If hang e a b) = OpenBlock a × OpenBlock b
+
+  pub OpenBlock : Block → Type 0
+  OpenBlock End = Unit {0}
+  OpenBlock (Then c cs) = Open c × OpenBlock cs
+
+-- A list closes: its last command is a transfer, whose handler closes, or an `if` whose branches close, and all before
+-- it are open.
+abbrev mutual
+  pub Closes : Block → Type 0
+  Closes End = ⊥
+  Closes (Then c End) = Final c
+  Closes (Then c (Then d ds)) = Open c × Closes (Then d ds)
+
+  pub Final : Command → Type 0
+  Final (Do k) = transfers k ≡ true
+  Final (Try k hang h) = (transfers k ≡ true) × Closes h
+  Final (If hang e a b) = Closes a × Closes b
+
+-- a step writes or retags a cell of the memory m
+abbrev pub step_writes : Step → ℕ → Bool
+step_writes (Set site x e) m = false
+step_writes (Write site n i e) m = nat_eq m n
+step_writes (Retag site x n) m = false
+step_writes (RetagCell site n j t) m = nat_eq m n
+step_writes (Goto site target) m = false
+step_writes (Fall site hang) m = false
+
+abbrev mutual
+  pub writes : Command → ℕ → Bool
+  writes (Do k) m = step_writes k m
+  writes (Try k hang h) m = step_writes k m || block_writes h m
+  writes (If hang e a b) m = block_writes a m || block_writes b m
+
+  pub block_writes : Block → ℕ → Bool
+  block_writes End m = false
+  block_writes (Then c cs) m = writes c m || block_writes cs m
+
+-- the body of a state, or of one below it, writes m
+abbrev mutual
+  pub state_writes : State → ℕ → Bool
+  state_writes (Node s b g) m = block_writes b m || group_writes g m
+
+  pub group_writes : Group → ℕ → Bool
+  group_writes None m = false
+  group_writes (More t g) m = state_writes t m || group_writes g m
+
+-- it writes m, or a body that it may fall into does, where g are the children
+abbrev pub step_reaches : Group → Step → ℕ → Bool
+step_reaches g (Set site x e) m = false
+step_reaches g (Write site n i e) m = nat_eq m n
+step_reaches g (Retag site x n) m = false
+step_reaches g (RetagCell site n j t) m = nat_eq m n
+step_reaches g (Goto site target) m = false
+step_reaches g (Fall site hang) m = group_writes g m
+
+abbrev mutual
+  pub reaches : Group → Command → ℕ → Bool
+  reaches g (Do k) m = step_reaches g k m
+  reaches g (Try k hang h) m = step_reaches g k m || block_reaches g h m
+  reaches g (If hang e a b) m = block_reaches g a m || block_reaches g b m
+
+  pub block_reaches : Group → Block → ℕ → Bool
+  block_reaches g End m = false
+  block_reaches g (Then c cs) m = reaches g c m || block_reaches g cs m
+
+-- No memory is written after it was written, on any path: a refused fall has entered no child before its handler.
+abbrev mutual
+  pub Once : Group → Command → Type 0
+  Once g (Do k) = Unit {0}
+  Once g (Try k hang h) = OnceBlock g h × ((m : ℕ) → (step_writes k m && block_reaches g h m) ≡ false)
+  Once g (If hang e a b) = OnceBlock g a × OnceBlock g b
+
+  pub OnceBlock : Group → Block → Type 0
+  OnceBlock g End = Unit {0}
+  OnceBlock g (Then c cs) = Once g c × OnceBlock g cs × ((m : ℕ) → (reaches g c m && block_reaches g cs m) ≡ false)
+
+-- a step gives the register or state x a level
+abbrev pub step_retags : Step → ℕ → Bool
+step_retags (Set site y e) x = false
+step_retags (Write site m i e) x = false
+step_retags (Retag site y n) x = nat_eq x y
+step_retags (RetagCell site m j n) x = false
+step_retags (Goto site target) x = false
+step_retags (Fall site hang) x = false
+
+abbrev mutual
+  pub retags : Command → ℕ → Bool
+  retags (Do k) x = step_retags k x
+  retags (Try k hang h) x = step_retags k x || block_retags h x
+  retags (If hang e a b) x = block_retags a x || block_retags b x
+
+  pub block_retags : Block → ℕ → Bool
+  block_retags End x = false
+  block_retags (Then c cs) x = retags c x || block_retags cs x
+
+abbrev mutual
+  pub state_retags : State → ℕ → Bool
+  state_retags (Node s b g) x = block_retags b x || group_retags g x
+
+  pub group_retags : Group → ℕ → Bool
+  group_retags None x = false
+  group_retags (More t g) x = state_retags t x || group_retags g x
+
+-- x is a state of the group, or below one
+abbrev pub inside : Group → ℕ → Bool
+inside None x = false
+inside (More (Node s b k) g) x = nat_eq x s || (inside k x || inside g x)
+
+abbrev pub number_of : State → ℕ
+number_of (Node s b g) = s
+
+abbrev pub kids_of : State → Group
+kids_of (Node s b g) = g
+
+-- the state is the n-th of the group
+abbrev pub Nth : Group → ℕ → State → Type 0
+Nth None n t = ⊥
+Nth (More a g) zero t = a ≡ t
+Nth (More a g) (suc n) t = Nth g n t
+
+-- A state with its body and its children g, the n-th of its group q.
+pub record FineNode (w : World) (q : Group) (n s : ℕ) (b : Block) (g : Group) : Type 0 where
+  pub kind : is_state w s ≡ true
+  pub placed : place w s ≡ n
+  pub count : children w s ≡ size g
+  -- the states below it have the numbers after its own, up to its last
+  pub numbers : (x : ℕ) → inside g x ≡ true → below w s x ≡ true
+  pub itself : s ≤ last w s
+  pub declared : last w s < root w
+  pub steps : FineBlock w q g b
+  pub closes : Closes b
+  pub once : OnceBlock g b
+  -- a body retags neither its own state nor one above or below it
+  pub retags_itself : (block_retags b s || group_retags g s) ≡ false
+  pub retags_below : (x : ℕ) → inside g x ≡ true → block_retags b x ≡ false
+
+abbrev mutual
+  pub FineState : World → (siblings : Group) → (place : ℕ) → State → Type 0
+  FineState w q n (Node s b g) = FineNode w q n s b g × FineGroup w g 0 g
+
+  -- the states of q from the n-th on, each with numbers before those of the later ones
+  pub FineGroup : World → (siblings : Group) → (place : ℕ) → Group → Type 0
+  FineGroup w q n None = Unit {0}
+  FineGroup w q n (More t g) = FineState w q n t × FineGroup w q (suc n) g × ((x : ℕ) → inside g x ≡ true → last w (number_of t) < x)
+
+-- each list in the program has exactly what hangs
+abbrev pub ExactList : World → Spot → List Bool → Command → Type 0
+ExactList w at hang c = (x : ℕ) → listed hang x ≡ touches w at c x
+
+abbrev pub ExactStep : World → Spot → Step → Type 0
+ExactStep w at (Set site x e) = Unit {0}
+ExactStep w at (Write site m i e) = Unit {0}
+ExactStep w at (Retag site x n) = Unit {0}
+ExactStep w at (RetagCell site m j n) = Unit {0}
+ExactStep w at (Goto site target) = Unit {0}
+ExactStep w at (Fall site hang) = ExactList w at hang (Do (Fall site hang))
+
+abbrev mutual
+  pub Exact : World → Spot → Command → Type 0
+  Exact w at (Do k) = ExactStep w at k
+  Exact w at (Try k hang h) = ExactList w at hang (Try k hang h) × ExactBlock w at h
+  Exact w at (If hang e a b) = ExactList w at hang (If hang e a b) × ExactBlock w at a × ExactBlock w at b
+
+  pub ExactBlock : World → Spot → Block → Type 0
+  ExactBlock w at End = Unit {0}
+  ExactBlock w at (Then c cs) = Exact w at c × ExactBlock w at cs
+
+abbrev mutual
+  pub ExactState : World → (parent : ℕ) → State → Type 0
+  ExactState w p (Node s b g) = ExactBlock w (record { state = s; parent = p; children = g }) b × ExactGroup w s g
+
+  pub ExactGroup : World → (parent : ℕ) → Group → Type 0
+  ExactGroup w p None = Unit {0}
+  ExactGroup w p (More t g) = ExactState w p t × ExactGroup w p g
+
+pub record ExactProgram (p : Program) : Type 0 where
+  pub lists : ExactGroup p.world (root p.world) p.states
+  pub hang : (x : ℕ) → listed p.hang x ≡ root_touches p.world p.states x
+
+pub record FineProgram (p : Program) : Type 0 where
+  pub order : Laws p.world.order
+  pub states : FineGroup p.world p.states 0 p.states
+  pub count : children p.world (root p.world) ≡ size p.states
+  pub inputs : (x : ℕ) → is_input p.world x ≡ true → is_dynamic p.world x ≡ true
+  -- each enforced entity starts at or above its authority
+  pub above : (x : ℕ) → is_dynamic p.world x ≡ false → p.world.order.le (authority p.world x) (entity p.world x).declared ≡ true

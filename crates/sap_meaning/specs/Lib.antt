@@ -1,0 +1,16 @@
+pub mod Program
+pub mod Store
+pub mod Expressions
+pub mod Checks
+pub mod Touches
+pub mod Does
+pub mod Runs
+pub mod Cycle
+pub mod State
+pub mod Agree
+pub mod Fine
+pub mod Sized
+pub mod Sites
+pub mod Laws
+pub mod Examples
+pub mod Sample

@@ -1,0 +1,59 @@
+-- A small program that has all that a well-formed design gives: the premises of the laws can be met.
+use Rattle.std.specs.Prelude.{Bool, true, false, List, [], ◌∷◌}
+use Rattle.sap_maps.specs.Term.{constant, read, cell, two}
+use Rattle.sap_bits.specs.declared.Op2.TheVariants.{Eq}
+use Rattle.sap_meaning.specs.Program.{Entity, World, fixed, of, at_place, Set, Write, Retag, RetagCell, Goto, Fall, Do, Try, If, Block, End, Then, Node, Group, None, More, Program}
+use Rattle.sap_meaning.specs.Examples.{two_levels, an_input, a_register, held_register, a_memory, held_memory, a_state, held_state}
+use Rattle.sap_meaning.specs.Fine.{FineProgram, ExactProgram}
+use Rattle.sap_meaning.specs.Sized.{SizedProgram}
+use Rattle.sap_meaning.specs.Sites.{RisesFrom, program_sites}
+
+-- input a : 2; reg x : 8 dynamic; reg y : 8 enforced low = 7; mem m : 8[4] dynamic; mem k : 8[4] enforced low;
+-- and the states P, with the children C and D, and Q, which have the numbers 5, 6, 7 and 8
+abbrev pub sample_entities : List Entity
+sample_entities = an_input 2 ∷ a_register 8 ∷ held_register 8 0 7 ∷ a_memory 8 4 ∷ held_memory 8 4 0
+    ∷ held_state 0 7 0 ∷ a_state 0 6 ∷ held_state 1 7 1 ∷ held_state 1 8 1 ∷ []
+
+abbrev pub sample_world : World
+sample_world = record { order = two_levels; entities = sample_entities; children = 0 ∷ 0 ∷ 0 ∷ 0 ∷ 0 ∷ 2 ∷ 0 ∷ 0 ∷ 0 ∷ 2 ∷ [] }
+
+-- x, m and C hang on the fall, x and m on the root's
+abbrev pub on_fall : List Bool
+on_fall = false ∷ true ∷ false ∷ true ∷ false ∷ false ∷ true ∷ []
+
+abbrev pub on_root : List Bool
+on_root = false ∷ true ∷ false ∷ true ∷ []
+
+-- m[a] := 5; x := m[a]; goto D;
+abbrev pub body_c : Block
+body_c = Then (Do (Write 0 3 (read 0) (constant 8 5))) (Then (Do (Set 0 1 (cell 3 (read 0)))) (Then (Do (Goto 7 7)) End))
+
+-- setTag(y, high); goto C;
+abbrev pub body_d : Block
+body_d = Then (Do (Retag 8 2 (fixed 1))) (Then (Do (Goto 9 6)) End)
+
+-- setTag(k[a], level(a)); setTag(D, tag(x)); goto P;
+abbrev pub body_q : Block
+body_q = Then (Do (RetagCell 10 4 (read 0) (at_place (read 0)))) (Then (Do (Retag 11 7 (of (read 1)))) (Then (Do (Goto 12 5)) End))
+
+-- y := m[a] otherwise { y := 9; } k[a] := x; if (a == 1) { goto Q; } else { fall otherwise { goto P; } }
+abbrev pub body_p : Block
+body_p = Then (Try (Set 1 2 (cell 3 (read 0))) [] (Then (Do (Set 2 2 (constant 8 9))) End))
+    (Then (Do (Write 3 4 (read 0) (read 1)))
+    (Then (If on_fall (two Eq (read 0) (constant 2 1)) (Then (Do (Goto 4 8)) End) (Then (Try (Fall 5 on_fall) on_fall (Then (Do (Goto 6 5)) End)) End)) End))
+
+abbrev pub sample_kids : Group
+sample_kids = More (Node 6 body_c None) (More (Node 7 body_d None) None)
+
+abbrev pub sample_states : Group
+sample_states = More (Node 5 body_p sample_kids) (More (Node 8 body_q None) None)
+
+abbrev pub sample : Program
+sample = record { world = sample_world; states = sample_states; hang = on_root }
+
+-- all of it holds of the sample
+pub record Meets : Type 0 where
+  pub fine : FineProgram sample
+  pub exact : ExactProgram sample
+  pub sized : SizedProgram sample
+  pub sites : RisesFrom 1 (program_sites sample)

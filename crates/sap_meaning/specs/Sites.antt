@@ -1,0 +1,59 @@
+-- The check sites of a program, in the order of the text.
+use Rattle.std.specs.Prelude.{◌≡◌, ℕ, ◌≤◌, suc, Bool, true, false, not, ◌||◌, List, [], ◌∷◌, ◌++◌, ◌⊎◌, if◌then◌else◌}
+use Rattle.sap_meaning.specs.Program.{World, Program, is_dynamic, Step, Set, Write, Retag, RetagCell, Goto, Fall, Command, Do, Try, If, Block, End, Then, State, Node, Group, None, More}
+use Rattle.sap_meaning.specs.Store.{Refusal}
+use Rattle.sap_meaning.specs.Checks.{site_of}
+
+-- one of the states of a group is enforced
+abbrev pub some_enforced : World → Group → Bool
+some_enforced w None = false
+some_enforced w (More (Node c b k) g) = not (is_dynamic w c) || some_enforced w g
+
+-- A step in the body of the state s with children g may be refused: an assignment or a write to what is enforced, every
+-- setTag, a goto from or to an enforced state, a fall where a child is enforced.
+abbrev pub is_site : World → ℕ → Group → Step → Bool
+is_site w s g (Set site x e) = not (is_dynamic w x)
+is_site w s g (Write site m i e) = not (is_dynamic w m)
+is_site w s g (Retag site x n) = true
+is_site w s g (RetagCell site m j n) = true
+is_site w s g (Goto site target) = not (is_dynamic w s) || not (is_dynamic w target)
+is_site w s g (Fall site hang) = some_enforced w g
+
+abbrev pub step_sites : World → ℕ → Group → Step → List ℕ
+step_sites w s g k = if is_site w s g k then site_of k ∷ [] else []
+
+abbrev mutual
+  pub sites : World → ℕ → Group → Command → List ℕ
+  sites w s g (Do k) = step_sites w s g k
+  sites w s g (Try k hang h) = step_sites w s g k ++ block_sites w s g h
+  sites w s g (If hang e a b) = block_sites w s g a ++ block_sites w s g b
+
+  pub block_sites : World → ℕ → Group → Block → List ℕ
+  block_sites w s g End = []
+  block_sites w s g (Then c cs) = sites w s g c ++ block_sites w s g cs
+
+abbrev mutual
+  pub state_sites : World → State → List ℕ
+  state_sites w (Node s b g) = block_sites w s g b ++ group_sites w g
+
+  pub group_sites : World → Group → List ℕ
+  group_sites w None = []
+  group_sites w (More t g) = state_sites w t ++ group_sites w g
+
+abbrev pub program_sites : Program → List ℕ
+program_sites p = group_sites p.world p.states
+
+abbrev pub refused_sites : List Refusal → List ℕ
+refused_sites [] = []
+refused_sites (r ∷ rs) = r.site ∷ refused_sites rs
+
+-- the first list is the second with some items left out
+abbrev pub Sublist : List ℕ → List ℕ → Type 0
+Sublist [] ys = Unit {0}
+Sublist (x ∷ xs) [] = ⊥
+Sublist (x ∷ xs) (y ∷ ys) = ((x ≡ y) × Sublist xs ys) ⊎ Sublist (x ∷ xs) ys
+
+-- numbers from n on, each above the one before
+abbrev pub RisesFrom : ℕ → List ℕ → Type 0
+RisesFrom n [] = Unit {0}
+RisesFrom n (x ∷ xs) = (n ≤ x) × RisesFrom (suc x) xs

@@ -1,0 +1,63 @@
+-- The widths of a program: what has a width fits where it stands.
+use Rattle.std.specs.Prelude.{◌≡◌, ℕ, ◌<◌, ◌^◌}
+use Rattle.sap_maps.specs.Term.{Term, constant, read, cell, one, two, choose, join, part, TermFits}
+use Rattle.sap_meaning.specs.Program.{World, Program, entity, width, depth_of, LevelTerm, fixed, of, at_place, both, Step, Set, Write, Retag, RetagCell, Goto, Fall, Command, Do, Try, If, Block, End, Then, State, Node, Group, None, More}
+use Rattle.sap_meaning.specs.Expressions.{width_of}
+
+abbrev pub depth : World → ℕ → ℕ
+depth w m = depth_of (entity w m).kind
+
+-- an index has as many bits as its memory's depth asks for
+abbrev pub Indexes : World → ℕ → Term ℕ → Type 0
+Indexes w m i = 2 ^ width_of w i ≡ depth w m
+
+-- so it is with each index in a term
+abbrev pub Indexed : World → Term ℕ → Type 0
+Indexed w (constant u n) = Unit {0}
+Indexed w (read x) = Unit {0}
+Indexed w (cell m i) = Indexes w m i × Indexed w i
+Indexed w (one op a) = Indexed w a
+Indexed w (two op a b) = Indexed w a × Indexed w b
+Indexed w (choose c a b) = Indexed w c × Indexed w a × Indexed w b
+Indexed w (join a b) = Indexed w a × Indexed w b
+Indexed w (part a hi lo) = Indexed w a
+
+abbrev pub SizedTerm : World → Term ℕ → Type 0
+SizedTerm w e = TermFits (width w) e × Indexed w e
+
+abbrev pub SizedLevel : World → LevelTerm → Type 0
+SizedLevel w (fixed n) = Unit {0}
+SizedLevel w (of e) = SizedTerm w e
+SizedLevel w (at_place e) = SizedTerm w e
+SizedLevel w (both a b) = SizedLevel w a × SizedLevel w b
+
+abbrev pub SizedStep : World → Step → Type 0
+SizedStep w (Set site x e) = SizedTerm w e × (width_of w e ≡ width w x)
+SizedStep w (Write site m i e) = SizedTerm w i × Indexes w m i × SizedTerm w e × (width_of w e ≡ width w m)
+SizedStep w (Retag site x n) = SizedLevel w n
+SizedStep w (RetagCell site m j n) = SizedTerm w j × Indexes w m j × SizedLevel w n
+SizedStep w (Goto site target) = Unit {0}
+SizedStep w (Fall site hang) = Unit {0}
+
+abbrev mutual
+  pub Sized : World → Command → Type 0
+  Sized w (Do k) = SizedStep w k
+  Sized w (Try k hang h) = SizedStep w k × SizedBlock w h
+  Sized w (If hang e a b) = SizedTerm w e × (width_of w e ≡ 1) × SizedBlock w a × SizedBlock w b
+
+  pub SizedBlock : World → Block → Type 0
+  SizedBlock w End = Unit {0}
+  SizedBlock w (Then c cs) = Sized w c × SizedBlock w cs
+
+abbrev mutual
+  pub SizedState : World → State → Type 0
+  SizedState w (Node s b g) = SizedBlock w b × SizedGroup w g
+
+  pub SizedGroup : World → Group → Type 0
+  SizedGroup w None = Unit {0}
+  SizedGroup w (More t g) = SizedState w t × SizedGroup w g
+
+pub record SizedProgram (p : Program) : Type 0 where
+  pub states : SizedGroup p.world p.states
+  pub initials : (x : ℕ) → (entity p.world x).initial < 2 ^ width p.world x
+  pub declared : (x : ℕ) → (entity p.world x).declared < p.world.order.count

@@ -1,0 +1,126 @@
+-- What changes while a program runs.
+use Rattle.std.specs.Prelude.{ℕ, Bool, false, not, ◌&&◌, List, [], ◌++◌, nat_eq, if◌then◌else◌}
+use Rattle.sap_lattice.specs.Order.{Order}
+use Rattle.sap_meaning.specs.Program.{World, is_dynamic, is_memory, below}
+
+-- Where a number or a level is kept: an entity's own; a memory's cell, as the cycle began and as the next one begins;
+-- a dynamic memory as a whole, as the cycle began and as the next one begins.
+pub data Slot : Type 0 where
+  own : (entity : ℕ) → Slot
+  start : (memory index : ℕ) → Slot
+  next : (memory index : ℕ) → Slot
+  start_whole : (memory : ℕ) → Slot
+  next_whole : (memory : ℕ) → Slot
+
+-- `child` has the place of the current child of each state with children, and of the root.
+pub record Store : Type 0 where
+  pub number : Slot → ℕ
+  pub level : Slot → ℕ
+  pub child : ℕ → ℕ
+
+-- the entity to which a slot belongs
+abbrev pub owner : Slot → ℕ
+owner (own x) = x
+owner (start m i) = m
+owner (next m i) = m
+owner (start_whole m) = m
+owner (next_whole m) = m
+
+-- Where the level of a slot is kept: the cells of a dynamic memory have one level.
+abbrev pub home : World → Slot → Slot
+home w (own x) = own x
+home w (start m i) = if is_dynamic w m then start_whole m else start m i
+home w (next m i) = if is_dynamic w m then next_whole m else next m i
+home w (start_whole m) = start_whole m
+home w (next_whole m) = next_whole m
+
+-- Whether a slot has a number, and a level of its own where its entity is enforced: that of an entity that is no memory,
+-- or of a memory's cell.
+abbrev pub held : World → Slot → Bool
+held w (own x) = not (is_memory w x)
+held w (start m i) = is_memory w m
+held w (next m i) = is_memory w m
+held w (start_whole m) = false
+held w (next_whole m) = false
+
+abbrev pub number : Slot → Store → ℕ
+number z s = s.number z
+
+abbrev pub level : World → Slot → Store → ℕ
+level w z s = s.level (home w z)
+
+abbrev pub child : ℕ → Store → ℕ
+child p s = s.child p
+
+abbrev pub same_slot : Slot → Slot → Bool
+same_slot (own x) (own y) = nat_eq x y
+same_slot (start m i) (start n j) = nat_eq m n && nat_eq i j
+same_slot (next m i) (next n j) = nat_eq m n && nat_eq i j
+same_slot (start_whole m) (start_whole n) = nat_eq m n
+same_slot (next_whole m) (next_whole n) = nat_eq m n
+same_slot _ _ = false
+
+unfoldable pub put_number : Slot → ℕ → Store → Store
+put_number z n s = record s { number = λ y. if same_slot y z then n else s.number y }
+
+unfoldable pub put_level : World → Slot → ℕ → Store → Store
+put_level w z t s = record s { level = λ y. if same_slot y (home w z) then t else s.level y }
+
+unfoldable pub put_child : ℕ → ℕ → Store → Store
+put_child p n s = record s { child = λ q. if nat_eq q p then n else s.child q }
+
+-- The slots whose level a raise changes: a state's or a register's own, and a memory's next part. Enforced entities,
+-- and so single cells, are never raised.
+abbrev pub raised : (ℕ → Bool) → Slot → Bool
+raised hangs (own x) = hangs x
+raised hangs (start m i) = false
+raised hangs (next m i) = false
+raised hangs (start_whole m) = false
+raised hangs (next_whole m) = hangs m
+
+-- the level of all that hangs becomes its join with t
+unfoldable pub raise : Order → (ℕ → Bool) → ℕ → Store → Store
+raise o hangs t s = record s { level = λ z. if raised hangs z then o.join (s.level z) t else s.level z }
+
+-- the slots of the dynamic states below a state
+abbrev pub lowered : World → ℕ → Slot → Bool
+lowered w target (own x) = below w target x && is_dynamic w x
+lowered w target (start m i) = false
+lowered w target (next m i) = false
+lowered w target (start_whole m) = false
+lowered w target (next_whole m) = false
+
+-- every group under a state returns to its first child, and the dynamic states below it get the bottom
+unfoldable pub reset : World → ℕ → Store → Store
+reset w target s = record s {
+  level = λ z. if lowered w target z then w.order.bottom else s.level z;
+  child = λ p. if nat_eq p target then 0 else if below w target p then 0 else s.child p;
+}
+
+-- from where a slot takes its content when a cycle ends
+abbrev pub source : Slot → Slot
+source (own x) = own x
+source (start m i) = next m i
+source (next m i) = next m i
+source (start_whole m) = next_whole m
+source (next_whole m) = next_whole m
+
+-- the next parts of memories become the start parts
+unfoldable pub settle : Store → Store
+settle s = record s { number = λ z. s.number (source z); level = λ z. s.level (source z) }
+
+-- a refused check site, with its level
+pub record Refusal : Type 0 where
+  pub site : ℕ
+  pub level : ℕ
+
+-- the store after, and what was refused, in order
+pub record After : Type 0 where
+  pub store : Store
+  pub refused : List Refusal
+
+abbrev pub stay : Store → After
+stay s = record { store = s; refused = [] }
+
+abbrev pub and_then : After → (Store → After) → After
+and_then a f = let b = f a.store in record { store = b.store; refused = a.refused ++ b.refused }
