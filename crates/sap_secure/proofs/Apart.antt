@@ -1,0 +1,214 @@
+-- What registers, memories and states have apart.
+use Rattle.std.proofs.Common.{◌≡◌, ℕ, suc, Bool, true, false, ◌||◌, refl, nat_eq, inl, inr}
+use Rattle.sap_meaning.specs.Program.{World, Kind, input, register, memory, state, entity, is_register, is_memory, is_state, kind_is_register, kind_is_memory, kind_is_state, Step, Set, Write, Retag, RetagCell, Goto, Fall, Command, Do, Try, If, Block, End, Then, State, Node, Group, None, More}
+use Rattle.sap_meaning.specs.Touches.{among, step_assigns, assigns, block_assigns, state_assigns, group_assigns, step_hangs, hangs, block_hangs}
+use Rattle.sap_meaning.specs.Fine.{FineStep, FineCommand, FineBlock, FineState, FineGroup, inside, step_writes, writes, block_writes, state_writes, group_writes, step_reaches, reaches, block_reaches}
+use Rattle.sap_meaning.proofs.Bools.{and_left, or_left, or_right, or_of, or_false, not_true, same_number, eq_not}
+
+either_of : (a b c d : Bool) → (a ≡ true → c ≡ true) → (b ≡ true → d ≡ true) → (a || b) ≡ true → (c || d) ≡ true
+either_of a b c d f g h = elim (or_of a b h) [ inl i ↦ or_left c d (f i) | inr i ↦ or_right c d (g i) ]
+
+register_state : (k : Kind) → kind_is_register k ≡ true → kind_is_state k ≡ false
+register_state input h = cc
+register_state register h = refl
+register_state (memory d) h = cc
+register_state (state p n) h = cc
+
+memory_state : (k : Kind) → kind_is_memory k ≡ true → kind_is_state k ≡ false
+memory_state input h = cc
+memory_state register h = cc
+memory_state (memory d) h = refl
+memory_state (state p n) h = cc
+
+register_memory : (k : Kind) → kind_is_register k ≡ true → kind_is_memory k ≡ false
+register_memory input h = cc
+register_memory register h = refl
+register_memory (memory d) h = cc
+register_memory (state p n) h = cc
+
+module _ (w : World) where
+  pub register_apart : (x y : ℕ) → is_state w x ≡ true → is_register w y ≡ true → nat_eq x y ≡ false
+  register_apart x y s r = eq_not x y (λ e. let r' = rw (← e) at r in let f = register_state (entity w x).kind r' in cc)
+
+  pub memory_apart : (x y : ℕ) → is_state w x ≡ true → is_memory w y ≡ true → nat_eq x y ≡ false
+  memory_apart x y s r = eq_not x y (λ e. let r' = rw (← e) at r in let f = memory_state (entity w x).kind r' in cc)
+
+  pub cell_apart : (m y : ℕ) → is_memory w m ≡ true → is_register w y ≡ true → nat_eq m y ≡ false
+  cell_apart m y s r = eq_not m y (λ e. let r' = rw (← e) at r in let f = register_memory (entity w m).kind r' in cc)
+
+  pub state_no_register : (x : ℕ) → is_state w x ≡ true → is_register w x ≡ false
+  state_no_register x s = not_true _ (λ r. let f = register_state (entity w x).kind r in cc)
+
+  pub state_no_memory : (x : ℕ) → is_state w x ≡ true → is_memory w x ≡ false
+  state_no_memory x s = not_true _ (λ r. let f = memory_state (entity w x).kind r in cc)
+
+  pub no_state : (x : ℕ) → (is_register w x || is_memory w x) ≡ true → is_state w x ≡ false
+  no_state x h = elim (or_of _ _ h) [ inl r ↦ register_state (entity w x).kind r | inr m ↦ memory_state (entity w x).kind m ]
+
+  -- what is neither register nor memory is assigned nowhere
+  module _ (x : ℕ) (r : is_register w x ≡ false) (m : is_memory w x ≡ false) where
+    step_unassigned : (q j : Group) (k : Step) → FineStep w q j k → step_assigns k x ≡ false
+    step_unassigned q j (Set site y e) fine = eq_not x y (λ h. let yes : is_register w y ≡ true = fine.0 in let r' = rw h at r in cc)
+    step_unassigned q j (Write site n i e) fine = eq_not x n (λ h. let yes : is_memory w n ≡ true = fine.0 in let m' = rw h at m in cc)
+    step_unassigned q j (Retag site y n) fine = refl
+    step_unassigned q j (RetagCell site n d t) fine = refl
+    step_unassigned q j (Goto site target) fine = refl
+    step_unassigned q j (Fall site hang) fine = refl
+
+    mutual
+      pub unassigned : (q j : Group) (c : Command) → FineCommand w q j c → assigns c x ≡ false
+      unassigned q j (Do k) fine = step_unassigned q j k fine
+      unassigned q j (Try k hang h) fine = or_false _ _ (step_unassigned q j k fine.0) (block_unassigned q j h fine.1)
+      unassigned q j (If hang e a b) fine = or_false _ _ (block_unassigned q j a fine.1) (block_unassigned q j b fine.2)
+
+      pub block_unassigned : (q j : Group) (b : Block) → FineBlock w q j b → block_assigns b x ≡ false
+      block_unassigned q j End fine = refl
+      block_unassigned q j (Then c cs) fine = or_false _ _ (unassigned q j c fine.0) (block_unassigned q j cs fine.1)
+
+    mutual
+      pub state_unassigned : (q : Group) (n : ℕ) (t : State) → FineState w q n t → state_assigns t x ≡ false
+      state_unassigned q n (Node e b g) fine = or_false _ _ (block_unassigned q g b fine.0.steps) (group_unassigned g 0 g fine.1)
+
+      pub group_unassigned : (q : Group) (n : ℕ) (g : Group) → FineGroup w q n g → group_assigns g x ≡ false
+      group_unassigned q n None fine = refl
+      group_unassigned q n (More t g) fine = or_false _ _ (state_unassigned q n t fine.0) (group_unassigned q (suc n) g fine.1)
+
+  -- what is assigned to a memory is a write
+  module _ (m : ℕ) (mem : is_memory w m ≡ true) where
+    step_written : (q j : Group) (k : Step) → FineStep w q j k → step_assigns k m ≡ true → step_writes k m ≡ true
+    step_written q j (Set site y e) fine h = let no = cell_apart m y mem fine.0 in cc
+    step_written q j (Write site n i e) fine h = h
+    step_written q j (Retag site y n) fine h = cc
+    step_written q j (RetagCell site n d t) fine h = cc
+    step_written q j (Goto site target) fine h = cc
+    step_written q j (Fall site hang) fine h = cc
+
+    mutual
+      written : (q j : Group) (c : Command) → FineCommand w q j c → assigns c m ≡ true → writes c m ≡ true
+      written q j (Do k) fine h = step_written q j k fine h
+      written q j (Try k hang b) fine h = either_of (step_assigns k m) (block_assigns b m) (step_writes k m) (block_writes b m) (step_written q j k fine.0) (block_written q j b fine.1) h
+      written q j (If hang e a b) fine h = either_of (block_assigns a m) (block_assigns b m) (block_writes a m) (block_writes b m) (block_written q j a fine.1) (block_written q j b fine.2) h
+
+      block_written : (q j : Group) (b : Block) → FineBlock w q j b → block_assigns b m ≡ true → block_writes b m ≡ true
+      block_written q j End fine h = h
+      block_written q j (Then c cs) fine h = either_of (assigns c m) (block_assigns cs m) (writes c m) (block_writes cs m) (written q j c fine.0) (block_written q j cs fine.1) h
+
+    mutual
+      pub state_written : (q : Group) (n : ℕ) (t : State) → FineState w q n t → state_assigns t m ≡ true → state_writes t m ≡ true
+      state_written q n (Node e b g) fine h = either_of (block_assigns b m) (group_assigns g m) (block_writes b m) (group_writes g m) (block_written q g b fine.0.steps) (group_written g 0 g fine.1) h
+
+      pub group_written : (q : Group) (n : ℕ) (g : Group) → FineGroup w q n g → group_assigns g m ≡ true → group_writes g m ≡ true
+      group_written q n None fine h = h
+      group_written q n (More t g) fine h = either_of (state_assigns t m) (group_assigns g m) (state_writes t m) (group_writes g m) (state_written q n t fine.0) (group_written q (suc n) g fine.1) h
+
+    -- a memory that hangs is reached
+    module _ (e : ℕ) (g : Group) (own : nat_eq m e ≡ false) (kids : among g m ≡ false) (below : group_assigns g m ≡ true → group_writes g m ≡ true) where
+      step_hung : (q j : Group) (k : Step) → FineStep w q j k → step_hangs e g k m ≡ true → step_reaches g k m ≡ true
+      step_hung q j (Set site y e') fine h = let no = cell_apart m y mem fine.0 in cc
+      step_hung q j (Write site n i e') fine h = h
+      step_hung q j (Retag site y n) fine h = cc
+      step_hung q j (RetagCell site n d t) fine h = cc
+      step_hung q j (Goto site target) fine h = cc
+      step_hung q j (Fall site hang) fine h = below (rw kids at h)
+
+      mutual
+        pub hung : (q j : Group) (c : Command) → FineCommand w q j c → hangs e g c m ≡ true → reaches g c m ≡ true
+        hung q j (Do k) fine h = step_hung q j k fine h
+        hung q j (Try k hang b) fine h = either_of (step_hangs e g k m) (block_hangs e g b m) (step_reaches g k m) (block_reaches g b m) (step_hung q j k fine.0) (block_hung q j b fine.1) h
+        hung q j (If hang t a b) fine h = either_of (block_hangs e g a m) (block_hangs e g b m) (block_reaches g a m) (block_reaches g b m) (block_hung q j a fine.1) (block_hung q j b fine.2) h
+
+        pub block_hung : (q j : Group) (b : Block) → FineBlock w q j b → block_hangs e g b m ≡ true → block_reaches g b m ≡ true
+        block_hung q j End fine h = h
+        block_hung q j (Then c cs) fine h = either_of (hangs e g c m) (block_hangs e g cs m) (reaches g c m) (block_reaches g cs m) (hung q j c fine.0) (block_hung q j cs fine.1) h
+
+  -- a state that is neither the body's own nor a child hangs on nothing
+  module _ (x : ℕ) (s : is_state w x ≡ true) (e : ℕ) (g : Group) (own : nat_eq x e ≡ false) (kids : among g x ≡ false) (free : group_assigns g x ≡ false) where
+    pub step_unhung : (q : Group) (k : Step) → FineStep w q g k → step_hangs e g k x ≡ false
+    step_unhung q (Set site y t) fine = register_apart x y s fine.0
+    step_unhung q (Write site m i t) fine = memory_apart x m s fine.0
+    step_unhung q (Retag site y n) fine = refl
+    step_unhung q (RetagCell site m j n) fine = refl
+    step_unhung q (Goto site target) fine = own
+    step_unhung q (Fall site hang) fine = or_false _ _ kids free
+
+    mutual
+      pub unhung : (q : Group) (c : Command) → FineCommand w q g c → hangs e g c x ≡ false
+      unhung q (Do k) fine = step_unhung q k fine
+      unhung q (Try k hang h) fine = or_false _ _ (step_unhung q k fine.0) (block_unhung q h fine.1)
+      unhung q (If hang t a b) fine = or_false _ _ (block_unhung q a fine.1) (block_unhung q b fine.2)
+
+      pub block_unhung : (q : Group) (b : Block) → FineBlock w q g b → block_hangs e g b x ≡ false
+      block_unhung q End fine = refl
+      block_unhung q (Then c cs) fine = or_false _ _ (unhung q c fine.0) (block_unhung q cs fine.1)
+
+  -- what writes, reaches
+  module _ (g : Group) (m : ℕ) where
+    step_within : (k : Step) → step_writes k m ≡ true → step_reaches g k m ≡ true
+    step_within (Set site y e) h = cc
+    step_within (Write site n i e) h = h
+    step_within (Retag site y n) h = cc
+    step_within (RetagCell site n d t) h = h
+    step_within (Goto site target) h = cc
+    step_within (Fall site hang) h = cc
+
+    mutual
+      pub writes_within : (c : Command) → writes c m ≡ true → reaches g c m ≡ true
+      writes_within (Do k) h = step_within k h
+      writes_within (Try k hang b) h = either_of (step_writes k m) (block_writes b m) (step_reaches g k m) (block_reaches g b m) (step_within k) (block_within b) h
+      writes_within (If hang e a b) h = either_of (block_writes a m) (block_writes b m) (block_reaches g a m) (block_reaches g b m) (block_within a) (block_within b) h
+
+      block_within : (b : Block) → block_writes b m ≡ true → block_reaches g b m ≡ true
+      block_within End h = h
+      block_within (Then c cs) h = either_of (writes c m) (block_writes cs m) (reaches g c m) (block_reaches g cs m) (writes_within c) (block_within cs) h
+
+-- a register or memory that hangs on a block is assigned in it or in a body below
+module _ (e : ℕ) (g : Group) (x : ℕ) (own : nat_eq x e ≡ false) (kids : among g x ≡ false) where
+  abbrev Found : Bool → Bool → Type 0
+  Found h a = h ≡ true → (a || group_assigns g x) ≡ true
+
+  either_side : (h i a b : Bool) → Found h a → Found i b → Found (h || i) (a || b)
+  either_side true i true b f k j = refl
+  either_side true i false b f k j = or_right b (group_assigns g x) (f refl)
+  either_side false i true b f k j = refl
+  either_side false i false b f k j = k j
+
+  step_found : (k : Step) → Found (step_hangs e g k x) (step_assigns k x)
+  step_found (Set site y t) h = or_left _ _ h
+  step_found (Write site m i t) h = or_left _ _ h
+  step_found (Retag site y n) h = cc
+  step_found (RetagCell site m d n) h = cc
+  step_found (Goto site target) h = cc
+  step_found (Fall site hang) h = rw kids at h
+
+  mutual
+    pub found : (c : Command) → Found (hangs e g c x) (assigns c x)
+    found (Do k) = step_found k
+    found (Try k hang h) = either_side (step_hangs e g k x) (block_hangs e g h x) (step_assigns k x) (block_assigns h x) (step_found k) (block_found h)
+    found (If hang t a b) = either_side (block_hangs e g a x) (block_hangs e g b x) (block_assigns a x) (block_assigns b x) (block_found a) (block_found b)
+
+    pub block_found : (b : Block) → Found (block_hangs e g b x) (block_assigns b x)
+    block_found End = λ h. cc
+    block_found (Then c cs) = either_side (hangs e g c x) (block_hangs e g cs x) (assigns c x) (block_assigns cs x) (found c) (block_found cs)
+
+-- the states of a group are inside it
+pub inside_among : (g : Group) (x : ℕ) → among g x ≡ true → inside g x ≡ true
+inside_among None x h = h
+inside_among (More (Node c b k) g) x h = elim (or_of (nat_eq x c) (among g x) h) [
+  | inl e ↦ or_left _ _ e
+  | inr e ↦ or_right (nat_eq x c) _ (or_right (inside k x) _ (inside_among g x e))
+]
+
+module _ (w : World) where
+  -- and are states
+  pub inside_state : (q : Group) (n : ℕ) (g : Group) → FineGroup w q n g → (x : ℕ) → inside g x ≡ true → is_state w x ≡ true
+  inside_state q n None fine x h = cc
+  inside_state q n (More (Node c b k) g) fine x h = elim (or_of (nat_eq x c) _ h) [
+    | inl e ↦ rw (same_number x c e) fine.0.0.kind
+    | inr e ↦ elim (or_of (inside k x) (inside g x) e) [
+      | inl i ↦ and_left _ _ (fine.0.0.numbers x i)
+      | inr i ↦ inside_state q (suc n) g fine.1 x i
+    ]
+  ]
+
+  pub apart_of : (q : Group) (n : ℕ) (g : Group) → FineGroup w q n g → (x : ℕ) → is_state w x ≡ false → among g x ≡ false
+  apart_of q n g fine x s = not_true (among g x) (λ h. let k = inside_state q n g fine x (inside_among g x h) in cc)

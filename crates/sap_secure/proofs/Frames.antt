@@ -1,0 +1,267 @@
+-- What runs leave alone.
+use Rattle.std.proofs.Common.{◌≡◌, ℕ, zero, suc, Bool, true, false, ◌&&◌, ◌||◌, refl, sym, ap, ◌∙◌, nat_eq, inl, inr}
+use Rattle.std.proofs.lemmas.Bool.{cases_Bool}
+use Rattle.sap_maps.specs.Term.{Term}
+use Rattle.sap_meaning.specs.Program.{World, is_dynamic, is_memory, is_state, place, below, Step, Set, Write, Retag, RetagCell, Goto, Fall, Command, Do, Try, If, Block, End, Then, State, Node, Group, None, More}
+use Rattle.sap_meaning.specs.Store.{Slot, own, start, next, Store, owner, home, level, child, same_slot, put_number, put_level, put_child, raised, raise, lowered, reset, After, stay}
+use Rattle.sap_meaning.specs.Expressions.{value, tag}
+use Rattle.sap_meaning.specs.Checks.{Spot, guard, test}
+use Rattle.sap_meaning.specs.Touches.{among, step_hangs, hangs, block_hangs, touches, raised_alone, group_assigns}
+use Rattle.sap_meaning.specs.Does.{effect, attempt, select, branch, does, does_block, does_state, does_child}
+use Rattle.sap_meaning.specs.Fine.{FineStep, FineCommand, FineBlock, FineState, FineGroup, transfers, Open, OpenBlock, step_writes, writes, block_writes, step_retags, retags, block_retags, state_retags, group_retags, inside}
+use Rattle.sap_meaning.proofs.Bools.{or_left, or_right, or_of, or_false, neither_left, neither_right, not_true, eq_self}
+use Rattle.sap_meaning.proofs.Slots.{slot_same, home_next, home_start, owner_home}
+use Rattle.sap_meaning.proofs.Keeps.{branch_all}
+use Rattle.sap_secure.proofs.Apart.{register_apart, memory_apart, state_no_register, state_no_memory, group_unassigned, inside_among, unhung}
+use Rattle.sap_secure.proofs.Sites.{Site, spot, Proper, ProperBlock, ProperStep}
+
+-- the level of z and the current child of q
+pub record Kept (w : World) (z : Slot) (q : ℕ) (s t : Store) : Type 0 where
+  pub level : level w z t ≡ level w z s
+  pub seat : child q t ≡ child q s
+
+pub kept_self : (w : World) (z : Slot) (q : ℕ) (s : Store) → Kept w z q s s
+kept_self w z q s = record { level = refl; seat = refl }
+
+pub kept_next : (w : World) (z : Slot) (q : ℕ) (s t u : Store) → Kept w z q s t → Kept w z q t u → Kept w z q s u
+kept_next w z q s t u h k = record { level = k.level ∙ h.level; seat = k.seat ∙ h.seat }
+
+pub kept_number : (w : World) (z : Slot) (q : ℕ) (s : Store) (y : Slot) (n : ℕ) → Kept w z q s (put_number y n s)
+unfolding put_number
+kept_number w z q s y n = record { level = refl; seat = refl }
+
+pub kept_level : (w : World) (z : Slot) (q : ℕ) (s : Store) (y : Slot) (t : ℕ) → same_slot (home w z) (home w y) ≡ false → Kept w z q s (put_level w y t s)
+unfolding put_level
+kept_level w z q s y t h = record { level = rw h refl; seat = refl }
+
+pub kept_raise : (w : World) (z : Slot) (q : ℕ) (s : Store) (h : ℕ → Bool) (a : ℕ) → raised h (home w z) ≡ false → Kept w z q s (raise w.order h a s)
+unfolding raise
+kept_raise w z q s h a e = record { level = rw e refl; seat = refl }
+
+pub kept_child : (w : World) (z : Slot) (q : ℕ) (s : Store) (p n : ℕ) → nat_eq q p ≡ false → Kept w z q s (put_child p n s)
+unfolding put_child
+kept_child w z q s p n h = record { level = refl; seat = rw h refl }
+
+pub kept_reset : (w : World) (z : Slot) (q : ℕ) (s : Store) (target : ℕ) → lowered w target (home w z) ≡ false → (nat_eq q target || below w target q) ≡ false → Kept w z q s (reset w target s)
+unfolding reset
+kept_reset w z q s target h k = record { level = rw h refl; seat = rw (neither_left (nat_eq q target) (below w target q) k, neither_right (nat_eq q target) (below w target q) k) refl }
+
+module _ (w : World) (z : Slot) (q : ℕ) where
+  pub kept_attempt : (at : Spot) (enter : ℕ → ℕ → Store → After) (k : Step) (hang : ℕ → Bool) (h : ℕ → Store → After) (pc : ℕ) (s : Store) → raised hang (home w z) ≡ false → ((b t : Store) → Kept w z q t (effect w at enter k pc b t).store) → ((p : ℕ) (t : Store) → Kept w z q t (h p t).store) → Kept w z q s (attempt w at enter k hang h pc s).store
+  unfolding attempt
+  kept_attempt at enter k hang h pc s off g f =
+      let up = kept_raise w z q s hang (guard w at k s) off in
+      elim (cases_Bool (test w at k pc s)) [ inl t ↦ rw t (kept_next w z q _ _ _ up (g s _)) | inr t ↦ rw t (kept_next w z q _ _ _ up (f _ _)) ]
+
+  pub kept_select : (e : Term ℕ) (hang : ℕ → Bool) (a b : ℕ → Store → After) (pc : ℕ) (s : Store) → raised hang (home w z) ≡ false → ((p : ℕ) (t : Store) → Kept w z q t (a p t).store) → ((p : ℕ) (t : Store) → Kept w z q t (b p t).store) → Kept w z q s (select w e hang (branch a b) pc s).store
+  unfolding select
+  kept_select e hang a b pc s off f g =
+      kept_next w z q _ _ _ (kept_raise w z q s hang (tag w e s) off) (branch_all (λ r. Kept w z q (raise w.order hang (tag w e s) s) r.store) a b _ _ _ (f _ _) (g _ _))
+
+-- open commands in the body of a state
+module _ (w : World) (i : Site w) (q : ℕ) where
+  -- the state x, at the place or below it
+  module _ (x : ℕ) (s : is_state w x ≡ true) where
+    pub open_step : (k : Step) → ProperStep w i k → transfers k ≡ false → step_retags k x ≡ false → (pc : ℕ) (b t : Store) → Kept w (own x) q t (effect w (spot i) i.enter k pc b t).store
+    unfolding effect
+    open_step (Set site y e) fine plain un pc b t = kept_next w (own x) q _ _ _ (kept_number w (own x) q t (own y) _) (kept_level w (own x) q _ (own y) _ (register_apart w x y s fine.0.0))
+    open_step (Write site m j e) fine plain un pc b t = elim (cases_Bool (is_dynamic w m)) [
+      | inl d ↦ rw d (kept_next w (own x) q _ _ _ (kept_raise w (own x) q t (λ y. nat_eq y m) _ (memory_apart w x m s fine.0.0)) (kept_number w (own x) q _ (next m _) _))
+      | inr d ↦ rw d (kept_number w (own x) q t (next m _) _)
+    ]
+    open_step (Retag site y n) fine plain un pc b t = kept_next w (own x) q _ _ _ (kept_number w (own x) q t (own y) _) (kept_level w (own x) q _ (own y) _ un)
+    open_step (RetagCell site m j n) fine plain un pc b t = kept_next w (own x) q _ _ _ (kept_number w (own x) q t (next m _) _) (kept_level w (own x) q _ (next m _) _ (cells_apart m (value w j b)))
+      where
+        cells_apart : (m j : ℕ) → same_slot (own x) (home w (next m j)) ≡ false
+        cells_apart m j = elim (cases_Bool (is_dynamic w m)) [ inl d ↦ rw d refl | inr d ↦ rw d refl ]
+    open_step (Goto site target) fine plain un pc b t = cc
+    open_step (Fall site hang) fine plain un pc b t = cc
+
+    step_off : (k : Step) → ProperStep w i k → transfers k ≡ false → step_hangs i.state i.kids k x ≡ false
+    step_off (Set site y e) fine plain = register_apart w x y s fine.0.0
+    step_off (Write site m j e) fine plain = memory_apart w x m s fine.0.0
+    step_off (Retag site y n) fine plain = refl
+    step_off (RetagCell site m j n) fine plain = refl
+    step_off (Goto site target) fine plain = cc
+    step_off (Fall site hang) fine plain = cc
+
+    alone_off : (k : Step) → transfers k ≡ false → raised_alone w (spot i) k x ≡ false
+    alone_off (Set site y e) plain = refl
+    alone_off (Write site m j e) plain = refl
+    alone_off (Retag site y n) plain = refl
+    alone_off (RetagCell site m j n) plain = refl
+    alone_off (Goto site target) plain = cc
+    alone_off (Fall site hang) plain = cc
+
+    mutual
+      command_off : (c : Command) → Proper w i c → Open c → hangs i.state i.kids c x ≡ false
+      command_off (Do k) fine plain = step_off k fine plain
+      command_off (Try k hang h) fine plain = or_false _ _ (step_off k fine.0 plain.0) (block_off h fine.1 plain.1)
+      command_off (If hang e a b) fine plain = or_false _ _ (block_off a fine.1 plain.0) (block_off b fine.2 plain.1)
+
+      block_off : (b : Block) → ProperBlock w i b → OpenBlock b → block_hangs i.state i.kids b x ≡ false
+      block_off End fine plain = refl
+      block_off (Then c cs) fine plain = or_false _ _ (command_off c fine.0 plain.0) (block_off cs fine.1 plain.1)
+
+    untouched : (d a : Bool) → a ≡ false → (d && a) ≡ false
+    untouched true a h = h
+    untouched false a h = refl
+
+    mutual
+      unfolding does does_block
+
+      pub open_kept : (c : Command) → Proper w i c → Open c → retags c x ≡ false → (pc : ℕ) (t : Store) → Kept w (own x) q t (does w (spot i) i.enter c pc t).store
+      open_kept (Do k) fine plain un pc t =
+          kept_attempt w (own x) q (spot i) i.enter k (raised_alone w (spot i) k) (λ p t. stay t) pc t (alone_off k plain) (λ b r. open_step k fine plain un pc b r) (λ p t. kept_self w (own x) q t)
+      open_kept (Try k hang h) fine plain un pc t =
+          kept_attempt w (own x) q (spot i) i.enter k (touches w (spot i) (Try k hang h)) (does_block w (spot i) i.enter h) pc t (untouched (is_dynamic w x) _ (command_off (Try k hang h) fine plain))
+          (λ b r. open_step k fine.0 plain.0 (neither_left _ _ un) pc b r) (λ p t. open_list h fine.1 plain.1 (neither_right (step_retags k x) _ un) p t)
+      open_kept (If hang e a b) fine plain un pc t =
+          kept_select w (own x) q e (touches w (spot i) (If hang e a b)) (does_block w (spot i) i.enter a) (does_block w (spot i) i.enter b) pc t (untouched (is_dynamic w x) _ (command_off (If hang e a b) fine plain))
+          (λ p t. open_list a fine.1 plain.0 (neither_left _ _ un) p t) (λ p t. open_list b fine.2 plain.1 (neither_right (block_retags a x) _ un) p t)
+
+      open_list : (b : Block) → ProperBlock w i b → OpenBlock b → block_retags b x ≡ false → (pc : ℕ) (t : Store) → Kept w (own x) q t (does_block w (spot i) i.enter b pc t).store
+      open_list End fine plain un pc t = kept_self w (own x) q t
+      open_list (Then c cs) fine plain un pc t = kept_next w (own x) q _ _ _ (open_kept c fine.0 plain.0 (neither_left _ _ un) pc t) (open_list cs fine.1 plain.1 (neither_right (retags c x) _ un) pc _)
+
+  -- a cell z of the enforced memory m
+  module _ (m : ℕ) (mem : is_memory w m ≡ true) (d : is_dynamic w m ≡ false) (z : Slot) (cell : (h : ℕ → Bool) → raised h (home w z) ≡ false) (at : owner z ≡ m) (lone : (x : ℕ) → same_slot (home w z) (own x) ≡ false) where
+    cell_step : (k : Step) → transfers k ≡ false → step_writes k m ≡ false → (pc : ℕ) (b t : Store) → Kept w z q t (effect w (spot i) i.enter k pc b t).store
+    unfolding effect
+    cell_step (Set site y e) plain un pc b t = kept_next w z q _ _ _ (kept_number w z q t (own y) _) (kept_level w z q _ (own y) _ (lone y))
+    cell_step (Write site n j e) plain un pc b t = elim (cases_Bool (is_dynamic w n)) [
+      | inl y ↦ rw y (kept_next w z q _ _ _ (kept_raise w z q t (λ y. nat_eq y n) _ (cell (λ y. nat_eq y n))) (kept_number w z q _ (next n _) _))
+      | inr y ↦ rw y (kept_number w z q t (next n _) _)
+    ]
+    cell_step (Retag site y n) plain un pc b t = kept_next w z q _ _ _ (kept_number w z q t (own y) _) (kept_level w z q _ (own y) _ (lone y))
+    cell_step (RetagCell site n j t') plain un pc b t = kept_next w z q _ _ _ (kept_number w z q t (next n _) _) (kept_level w z q _ (next n _) _ (other (value w j b)))
+      where
+        other : (j : ℕ) → same_slot (home w z) (home w (next n j)) ≡ false
+        other j = not_true _ (λ h.
+            let e : owner (home w z) ≡ owner (home w (next n j)) = ap owner (slot_same (home w z) (home w (next n j)) h) in
+            let f : m ≡ n = sym at ∙ sym (owner_home w z) ∙ e ∙ owner_home w (next n j) in
+            let g : nat_eq m n ≡ true = rw f (eq_self n) in cc)
+    cell_step (Goto site target) plain un pc b t = cc
+    cell_step (Fall site hang) plain un pc b t = cc
+
+    mutual
+      unfolding does does_block
+
+      pub cell_kept : (c : Command) → Open c → writes c m ≡ false → (pc : ℕ) (t : Store) → Kept w z q t (does w (spot i) i.enter c pc t).store
+      cell_kept (Do k) plain un pc t =
+          kept_attempt w z q (spot i) i.enter k (raised_alone w (spot i) k) (λ p t. stay t) pc t (cell _) (λ b r. cell_step k plain un pc b r) (λ p t. kept_self w z q t)
+      cell_kept (Try k hang h) plain un pc t =
+          kept_attempt w z q (spot i) i.enter k (touches w (spot i) (Try k hang h)) (does_block w (spot i) i.enter h) pc t (cell _)
+          (λ b r. cell_step k plain.0 (neither_left _ _ un) pc b r) (λ p t. cell_list h plain.1 (neither_right (step_writes k m) _ un) p t)
+      cell_kept (If hang e a b) plain un pc t =
+          kept_select w z q e (touches w (spot i) (If hang e a b)) (does_block w (spot i) i.enter a) (does_block w (spot i) i.enter b) pc t (cell _)
+          (λ p t. cell_list a plain.0 (neither_left _ _ un) p t) (λ p t. cell_list b plain.1 (neither_right (block_writes a m) _ un) p t)
+
+      cell_list : (b : Block) → OpenBlock b → block_writes b m ≡ false → (pc : ℕ) (t : Store) → Kept w z q t (does_block w (spot i) i.enter b pc t).store
+      cell_list End plain un pc t = kept_self w z q t
+      cell_list (Then c cs) plain un pc t = kept_next w z q _ _ _ (cell_kept c plain.0 (neither_left _ _ un) pc t) (cell_list cs plain.1 (neither_right (writes c m) _ un) pc _)
+
+-- the parts of an enforced memory's cell
+module _ (w : World) (i : Site w) (q m : ℕ) (mem : is_memory w m ≡ true) (d : is_dynamic w m ≡ false) (c : Command) (plain : Open c) (un : writes c m ≡ false) (pc : ℕ) (t : Store) where
+  pub start_kept : (j : ℕ) → Kept w (start m j) q t (does w (spot i) i.enter c pc t).store
+  start_kept j = cell_kept w i q m mem d (start m j) (λ h. rw (home_start w m j d) refl) refl (λ x. rw (home_start w m j d) refl) c plain un pc t
+
+  pub next_kept : (j : ℕ) → Kept w (next m j) q t (does w (spot i) i.enter c pc t).store
+  next_kept j = cell_kept w i q m mem d (next m j) (λ h. rw (home_next w m j d) refl) refl (λ x. rw (home_next w m j d) refl) c plain un pc t
+
+-- Commands in the bodies below a state e, whose parent is p.
+module _ (w : World) (e p : ℕ) (s : is_state w e ≡ true) where
+  -- x and all below it are other than e and p
+  abbrev Beyond : ℕ → Type 0
+  Beyond x = ((nat_eq e x || below w x e) ≡ false) × ((nat_eq p x || below w x p) ≡ false)
+
+  abbrev pub Under : Group → Type 0
+  Under g = (x : ℕ) → inside g x ≡ true → Beyond x
+
+  -- in the body of the state c, with children k, in the group g of r
+  module _ (c r : ℕ) (k g : Group) (enter : ℕ → ℕ → Store → After) (out : Under g) (own_out : nat_eq e c ≡ false) (kids_out : among k e ≡ false) (free : group_assigns k e ≡ false) (away : nat_eq p r ≡ false) (entering : (n pc : ℕ) (t : Store) → Kept w (own e) p t (enter n pc t).store) where
+    abbrev Here : Spot
+    Here = record { state = c; parent = r; children = k }
+
+    under_step : (j : Step) → FineStep w g k j → step_retags j e ≡ false → (pc : ℕ) (b t : Store) → Kept w (own e) p t (effect w Here enter j pc b t).store
+    unfolding effect
+    under_step (Set site y t') fine un pc b t = kept_next w (own e) p _ _ _ (kept_number w (own e) p t (own y) _) (kept_level w (own e) p _ (own y) _ (register_apart w e y s fine.0))
+    under_step (Write site m j t') fine un pc b t = elim (cases_Bool (is_dynamic w m)) [
+      | inl d ↦ rw d (kept_next w (own e) p _ _ _ (kept_raise w (own e) p t (λ y. nat_eq y m) _ (memory_apart w e m s fine.0)) (kept_number w (own e) p _ (next m _) _))
+      | inr d ↦ rw d (kept_number w (own e) p t (next m _) _)
+    ]
+    under_step (Retag site y n) fine un pc b t = kept_next w (own e) p _ _ _ (kept_number w (own e) p t (own y) _) (kept_level w (own e) p _ (own y) _ un)
+    under_step (RetagCell site m j n) fine un pc b t = kept_next w (own e) p _ _ _ (kept_number w (own e) p t (next m _) _) (kept_level w (own e) p _ (next m _) _ (cells_apart m (value w j b)))
+      where
+        cells_apart : (m j : ℕ) → same_slot (own e) (home w (next m j)) ≡ false
+        cells_apart m j = elim (cases_Bool (is_dynamic w m)) [ inl d ↦ rw d refl | inr d ↦ rw d refl ]
+    under_step (Goto site target) fine un pc b t =
+        let f = out target (inside_among g target fine) in
+        let one = kept_child w (own e) p t r (place w target) away in
+        let two = kept_reset w (own e) p (put_child r (place w target) t) target (unlowered (below w target e) (is_dynamic w e) (neither_right (nat_eq e target) (below w target e) f.0)) f.1 in
+        let both = kept_next w (own e) p _ _ _ one two in
+        elim (cases_Bool (is_dynamic w target)) [
+          | inl d ↦ rw d (kept_next w (own e) p _ _ _ both (kept_level w (own e) p _ (own target) _ (neither_left (nat_eq e target) (below w target e) f.0)))
+          | inr d ↦ rw d both
+        ]
+      where
+        unlowered : (a b : Bool) → a ≡ false → (a && b) ≡ false
+        unlowered true b h = cc
+        unlowered false b h = refl
+    under_step (Fall site hang) fine un pc b t = entering _ _ t
+
+    not_touched : (d a : Bool) → a ≡ false → (d && a) ≡ false
+    not_touched true a h = h
+    not_touched false a h = refl
+
+    alone_free : (j : Step) → FineStep w g k j → raised_alone w Here j e ≡ false
+    alone_free (Set site y t) fine = refl
+    alone_free (Write site m i t) fine = refl
+    alone_free (Retag site y n) fine = refl
+    alone_free (RetagCell site m i n) fine = refl
+    alone_free (Goto site target) fine = not_touched (is_dynamic w e) _ own_out
+    alone_free (Fall site hang) fine = not_touched (is_dynamic w e) _ (or_false _ _ kids_out free)
+
+    mutual
+      unfolding does does_block
+
+      pub under_kept : (j : Command) → FineCommand w g k j → retags j e ≡ false → (pc : ℕ) (t : Store) → Kept w (own e) p t (does w Here enter j pc t).store
+      under_kept (Do j) fine un pc t =
+          kept_attempt w (own e) p Here enter j (raised_alone w Here j) (λ q t. stay t) pc t (alone_free j fine) (λ b r. under_step j fine un pc b r) (λ q t. kept_self w (own e) p t)
+      under_kept (Try j hang h) fine un pc t =
+          kept_attempt w (own e) p Here enter j (touches w Here (Try j hang h)) (does_block w Here enter h) pc t (not_touched (is_dynamic w e) _ (unhung w e s c k own_out kids_out free g (Try j hang h) fine))
+          (λ b r. under_step j fine.0 (neither_left _ _ un) pc b r) (λ q t. under_list h fine.1 (neither_right (step_retags j e) _ un) q t)
+      under_kept (If hang u a b) fine un pc t =
+          kept_select w (own e) p u (touches w Here (If hang u a b)) (does_block w Here enter a) (does_block w Here enter b) pc t (not_touched (is_dynamic w e) _ (unhung w e s c k own_out kids_out free g (If hang u a b) fine))
+          (λ q t. under_list a fine.1 (neither_left _ _ un) q t) (λ q t. under_list b fine.2 (neither_right (block_retags a e) _ un) q t)
+
+      under_list : (b : Block) → FineBlock w g k b → block_retags b e ≡ false → (pc : ℕ) (t : Store) → Kept w (own e) p t (does_block w Here enter b pc t).store
+      under_list End fine un pc t = kept_self w (own e) p t
+      under_list (Then j js) fine un pc t = kept_next w (own e) p _ _ _ (under_kept j fine.0 (neither_left _ _ un) pc t) (under_list js fine.1 (neither_right (retags j e) _ un) pc _)
+
+  outside : (g : Group) → Under g → among g e ≡ false
+  outside g out = not_true (among g e) (λ h. let f = neither_left (nat_eq e e) _ (out e (inside_among g e h)).0 in let k = eq_self e in cc)
+
+  mutual
+    unfolding does_state does_child
+
+    state_under : (t : State) (r : ℕ) (q : Group) (n : ℕ) → FineState w q n t → Under q → ((x : ℕ) → inside (More t None) x ≡ true → inside q x ≡ true) → nat_eq p r ≡ false → state_retags t e ≡ false → (pc : ℕ) (u : Store) → Kept w (own e) p u (does_state w t r pc u).store
+    state_under (Node c b k) r q n fine out within away un pc u =
+        let below_out : Under k = λ x h. out x (within x (or_right (nat_eq x c) _ (or_left _ _ h))) in
+        let here = out c (within c (or_left (nat_eq c c) _ (eq_self c))) in
+        under_list c r k q (does_child w k c) out (neither_left _ _ here.0) (outside k below_out) (group_unassigned w e (state_no_register w e s) (state_no_memory w e s) k 0 k fine.1) away
+        (λ m z v. child_under k c k 0 fine.1 below_out (λ x h. h) (neither_left _ _ here.1) (neither_right (block_retags b e) _ un) m z v)
+        b fine.0.steps (neither_left _ _ un) pc u
+
+    pub child_under : (g : Group) (r : ℕ) (q : Group) (n : ℕ) → FineGroup w q n g → Under q → ((x : ℕ) → inside g x ≡ true → inside q x ≡ true) → nat_eq p r ≡ false → group_retags g e ≡ false → (m pc : ℕ) (u : Store) → Kept w (own e) p u (does_child w g r m pc u).store
+    child_under None r q n fine out within away un m pc u = kept_self w (own e) p u
+    child_under (More (Node c b k) g) r q n fine out within away un zero pc u =
+        state_under (Node c b k) r q n fine.0 out (λ x h. within x (first x h)) away (neither_left _ _ un) pc u
+      where
+        first : (x : ℕ) → inside (More (Node c b k) None) x ≡ true → inside (More (Node c b k) g) x ≡ true
+        first x h = elim (or_of (nat_eq x c) _ h) [
+          | inl i ↦ or_left _ _ i
+          | inr i ↦ or_right (nat_eq x c) _ (elim (or_of (inside k x) false i) [ inl j ↦ or_left _ _ j | inr j ↦ cc ])
+        ]
+    child_under (More (Node c b k) g) r q n fine out within away un (suc m) pc u =
+        child_under g r q (suc n) fine.1 out (λ x h. within x (or_right (nat_eq x c) _ (or_right (inside k x) _ h))) away (neither_right (state_retags (Node c b k) e) _ un) m pc u

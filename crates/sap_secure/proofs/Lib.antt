@@ -1,0 +1,16 @@
+mod Levels
+mod Agreeing
+mod Apart
+mod Sites
+mod Frames
+mod Confined
+mod Walks
+mod Still
+mod Over
+mod Arrive
+mod Twin
+mod Pairs
+mod Relations
+mod Cycles
+mod Runs
+mod Unseen

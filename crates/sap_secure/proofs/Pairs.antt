@@ -1,0 +1,319 @@
+-- Two runs of a list that closes, from stores that look alike on the active path too.
+use Rattle.std.proofs.Common.{◌≡◌, ℕ, Bool, true, false, ◌&&◌, ◌||◌, List, [], ◌∷◌, refl, sym, ap, ◌∙◌, subst, inl, inr}
+use Rattle.std.proofs.lemmas.Bool.{cases_Bool}
+use Rattle.sap_lattice.specs.Order.{Laws}
+use Rattle.sap_maps.specs.Term.{Term}
+use Rattle.sap_meaning.specs.Program.{World, is_dynamic, Step, Set, Write, Retag, RetagCell, Goto, Fall, Command, Do, Try, If, Block, End, Then, State, Node, Group}
+use Rattle.sap_meaning.specs.Store.{Slot, own, Store, owner, level, child, raise, After, stay}
+use Rattle.sap_meaning.specs.State.{Holds}
+use Rattle.sap_meaning.specs.Expressions.{value, tag}
+use Rattle.sap_meaning.specs.Checks.{Spot, site_of, child_level, guard, test}
+use Rattle.sap_meaning.specs.Touches.{among, step_hangs, hangs, block_hangs, touches, raised_alone, group_assigns}
+use Rattle.sap_meaning.specs.Does.{effect, attempt, select, branch, does, does_block}
+use Rattle.sap_meaning.specs.Agree.{Low, High}
+use Rattle.sap_meaning.specs.Fine.{FineTerm, transfers, Closes, Final, number_of}
+use Rattle.sap_meaning.proofs.Bools.{or_left, or_right}
+use Rattle.sap_meaning.proofs.Slots.{child_raise, held_state}
+use Rattle.sap_meaning.proofs.Trees.{Nth, nth_same}
+use Rattle.sap_meaning.proofs.Keeps.{OfDynamic, branch_all, holds_raise, alone_dynamic}
+use Rattle.sap_secure.proofs.Levels.{Like, high_right, low_join, seen_parts}
+use Rattle.sap_secure.proofs.Agreeing.{Agree, agree_raised, raise_low, raise_to}
+use Rattle.sap_secure.proofs.Apart.{inside_state, inside_among}
+use Rattle.sap_secure.proofs.Sites.{spot, Proper, ProperBlock, ProperStep}
+use Rattle.sap_secure.proofs.Confined.{Confined, Quiet, Even, confined_self, quiet_raise, even_raise, even_next, landing, keeps, attempt_confined, select_confined, block_confined, touches_dynamic}
+use Rattle.sap_secure.proofs.Walks.{Stop, path, one, path_here, heads, heads_low, from_raised}
+use Rattle.sap_secure.proofs.Still.{Scene, Cover, child_level_nth, child_opens_nth, touched_in, current, here_path, like_path, attempt_still, select_still, block_still, clear_own, clear_path}
+use Rattle.sap_secure.proofs.Arrive.{goto_pair}
+use Rattle.sap_secure.proofs.Twin.{Twin, twin_confined, branch_both, value_low, tag_low, tag_same, does_twin}
+
+-- two results that look alike, the path included
+pub record Pair (w : World) (l p : ℕ) (q : Group) (a b : After) : Type 0 where
+  pub twin : Twin w l a b
+  pub path : path w l p q a.store ≡ path w l p q b.store
+
+-- what two runs of the children do, where the current one is low
+abbrev pub Paired : World → ℕ → ℕ → Group → (ℕ → ℕ → Store → After) → Type 0
+Paired w l e g enter = (m r : ℕ) (s t : Store) (a : State) → Nth g m a → Holds w s → Holds w t → Low w.order l r → Agree w l s t → Even w (group_assigns g) s → Even w (group_assigns g) t → path w l e g s ≡ path w l e g t → child e s ≡ m → child e t ≡ m → Low w.order l (level w (own (number_of a)) s) → Pair w l e g (enter m r s) (enter m r t)
+
+module _ (w : World) (laws : Laws w.order) (l : ℕ) where
+  -- the current children in two stores with the same path
+  pub falls : (e n m : ℕ) (g : Group) (s t : Store) (a b : State) → child e s ≡ n → child e t ≡ m → Nth g n a → Nth g m b → path w l e g s ≡ path w l e g t → Like w.order l (level w (own (number_of a)) s) (level w (own (number_of b)) t) × (Low w.order l (level w (own (number_of a)) s) → n ≡ m)
+  falls e n m g s t (Node c i h) (Node d j k) here there na nb p =
+      let p' : one w l n c h s ≡ one w l m d k t = sym (path_here w l e n c i h g s na here) ∙ p ∙ path_here w l e m d j k g t nb there in
+      ((heads_low w laws l n m c d h k s t p', λ low. (heads w laws l n m c d h k s t p' low).1), λ low. (heads w laws l n m c d h k s t p' low).0)
+
+  module _ (c : Scene w l) (paired : Paired w l c.site.state c.site.kids c.site.enter) where
+    abbrev At : Spot
+    At = spot c.site
+
+    abbrev Path : Store → List Stop
+    Path s = path w l c.site.parent c.site.siblings s
+
+    abbrev IsLow : ℕ → Type 0
+    IsLow t = Low w.order l t
+
+    abbrev Far : ℕ → Type 0
+    Far t = High w.order l t
+
+    -- the two stores look alike, and the state is current and low in both
+    pub record Meets (h : ℕ → Bool) (s t : Store) : Type 0 where
+      pub first : Holds w s
+      pub second : Holds w t
+      pub like : Agree w l s t
+      pub path : path w l c.site.parent c.site.siblings s ≡ path w l c.site.parent c.site.siblings t
+      pub here : child c.site.parent s ≡ c.site.index
+      pub there : child c.site.parent t ≡ c.site.index
+      pub low : Low w.order l (level w (own c.site.state) s)
+      pub even : Even w h s
+      pub even2 : Even w h t
+
+    meets_part : (h i : ℕ → Bool) (s t : Store) → ((x : ℕ) → i x ≡ true → h x ≡ true) → Meets h s t → Meets i s t
+    meets_part h i s t f m = record { first = m.first; second = m.second; like = m.like; path = m.path; here = m.here; there = m.there; low = m.low; even = λ z g d j. m.even z g d (f (owner z) j); even2 = λ z g d j. m.even2 z g d (f (owner z) j) }
+
+    abbrev Both : After → After → Type 0
+    Both a b = Pair w l c.site.parent c.site.siblings a b
+
+    own_heads : (h : ℕ → Bool) (s t : Store) → Meets h s t → (c.site.index ≡ c.site.index) × (level w (own c.site.state) s ≡ level w (own c.site.state) t) × (path w l c.site.state c.site.kids s ≡ path w l c.site.state c.site.kids t)
+    own_heads h s t m = heads w laws l c.site.index c.site.index c.site.state c.site.state c.site.kids c.site.kids s t (sym (here_path w laws l c s m.here) ∙ m.path ∙ here_path w laws l c t m.there) m.low
+
+    path_raised : (h : ℕ → Bool) (s t : Store) (hang : ℕ → Bool) (a b : ℕ) → Meets h s t → Like w.order l a b → Path (raise w.order hang a s) ≡ Path (raise w.order hang b t)
+    path_raised h s t hang a b m like =
+        rw (child_raise w.order c.site.parent hang a s, child_raise w.order c.site.parent hang b t, m.here, m.there)
+        (from_raised w laws l c.site.siblings c.site.index c.site.index s t hang a b like (rw (m.here, m.there) at m.path))
+
+    meets_raised : (h : ℕ → Bool) (s t : Store) (hang : ℕ → Bool) (a b : ℕ) → OfDynamic w hang → Meets h s t → Like w.order l a b → IsLow a → Meets h (raise w.order hang a s) (raise w.order hang b t)
+    meets_raised h s t hang a b dyn m like low = record {
+      first = holds_raise w s hang a dyn m.first;
+      second = holds_raise w t hang b dyn m.second;
+      like = agree_raised w laws l s t hang a b dyn m.like like;
+      path = path_raised h s t hang a b m like;
+      here = child_raise w.order c.site.parent hang a s ∙ m.here;
+      there = child_raise w.order c.site.parent hang b t ∙ m.there;
+      low = raise_low w laws l s hang a (own c.site.state) low m.low;
+      even = even_raise w laws l h hang s a dyn m.even;
+      even2 = even_raise w laws l h hang t b dyn m.even2;
+    }
+
+    -- the current children at a fall
+    fall_like : (h : ℕ → Bool) (site : ℕ) (hang : List Bool) (fine : ProperStep w c.site (Fall site hang)) (s t : Store) (m : Meets h s t) → Like w.order l (child_level w c.site.kids (child c.site.state s) s) (child_level w c.site.kids (child c.site.state t) t) × (Low w.order l (child_level w c.site.kids (child c.site.state s) s) → child c.site.state s ≡ child c.site.state t)
+    fall_like h site hang fine s t m =
+        let f = current w laws l c site hang fine s m.first in
+        let g = current w laws l c site hang fine t m.second in
+        let r = falls c.site.state (child c.site.state s) (child c.site.state t) c.site.kids s t f.0 g.0 refl refl f.1 g.1 (own_heads h s t m).2 in
+        rw (child_level_nth w c.site.kids (child c.site.state s) f.0 s f.1, child_level_nth w c.site.kids (child c.site.state t) g.0 t g.1) r
+
+    guard_like : (h : ℕ → Bool) (k : Step) → transfers k ≡ true → ProperStep w c.site k → (s t : Store) → Meets h s t → Like w.order l (guard w At k s) (guard w At k t)
+    guard_like h (Set site x e) moves fine s t m = cc
+    guard_like h (Write site x j e) moves fine s t m = cc
+    guard_like h (Retag site x n) moves fine s t m = cc
+    guard_like h (RetagCell site x j n) moves fine s t m = cc
+    guard_like h (Goto site target) moves fine s t m = (refl, λ y. refl)
+    guard_like h (Fall site hang) moves fine s t m = (fall_like h site hang fine s t m).0
+
+    test_same : (h : ℕ → Bool) (k : Step) → transfers k ≡ true → ProperStep w c.site k → (pc : ℕ) (s t : Store) → Meets h s t → IsLow (guard w At k s) → test w At k pc s ≡ test w At k pc t
+    test_same h (Set site x e) moves fine pc s t m low = cc
+    test_same h (Write site x j e) moves fine pc s t m low = cc
+    test_same h (Retag site x n) moves fine pc s t m low = cc
+    test_same h (RetagCell site x j n) moves fine pc s t m low = cc
+    test_same h (Goto site target) moves fine pc s t m low =
+        let e = (own_heads h s t m).1 in
+        elim (cases_Bool (is_dynamic w target)) [
+          | inl d ↦ rw (d, e) refl
+          | inr d ↦ (let f = m.like.tags (own target) (held_state w target (inside_state w c.site.siblings 0 c.site.siblings c.site.around.fine target (inside_among c.site.siblings target fine.0))) d (rw d at low) in rw (d, e, f) refl)
+        ]
+    test_same h (Fall site hang) moves fine pc s t m low =
+        let a = current w laws l c site hang fine s m.first in
+        let b = current w laws l c site hang fine t m.second in
+        let f = fall_like h site hang fine s t m in
+        let n : child c.site.state s ≡ child c.site.state t = f.1 low in
+        let e : a.0 ≡ b.0 = nth_same c.site.kids (child c.site.state s) a.0 b.0 a.1 (subst (λ i. Nth c.site.kids i b.0) (sym n) b.1) in
+        let v : level w (own (number_of a.0)) s ≡ level w (own (number_of b.0)) t =
+        sym (child_level_nth w c.site.kids (child c.site.state s) a.0 s a.1) ∙ f.0.1 low ∙ child_level_nth w c.site.kids (child c.site.state t) b.0 t b.1 in
+        child_opens_nth w c.site.kids (child c.site.state s) a.0 pc s a.1
+        ∙ alike (is_dynamic w (number_of a.0)) (is_dynamic w (number_of b.0)) (ap (λ x. is_dynamic w (number_of x)) e) (level w (own (number_of a.0)) s) (level w (own (number_of b.0)) t) v
+        ∙ sym (child_opens_nth w c.site.kids (child c.site.state t) b.0 pc t b.1)
+      where
+        alike : (i j : Bool) → i ≡ j → (y z : ℕ) → y ≡ z → (i || w.order.le pc y) ≡ (j || w.order.le pc z)
+        alike i j e y z v = rw (e, v) refl
+
+    -- the effects of a transfer under a low guard, from the raised stores
+    effect_pair : (h : ℕ → Bool) (k : Step) → ((x : ℕ) → step_hangs c.site.state c.site.kids k x ≡ true → h x ≡ true) → transfers k ≡ true → ProperStep w c.site k → (pc : ℕ) (s t r u : Store) → child c.site.state r ≡ child c.site.state s → child c.site.state u ≡ child c.site.state t → Meets h s t → Meets h r u → IsLow pc → IsLow (guard w At k s) → ((z : Slot) → Low w.order l (level w z s) → Low w.order l (level w z r)) → Both (effect w At c.site.enter k pc s r) (effect w At c.site.enter k pc t u)
+    unfolding effect
+    effect_pair h (Set site x e) inn moves fine pc s t r u cs ct m v lowpc low up = cc
+    effect_pair h (Write site x j e) inn moves fine pc s t r u cs ct m v lowpc low up = cc
+    effect_pair h (Retag site x n) inn moves fine pc s t r u cs ct m v lowpc low up = cc
+    effect_pair h (RetagCell site x j n) inn moves fine pc s t r u cs ct m v lowpc low up = cc
+    effect_pair h (Goto site target) inn moves fine pc s t r u cs ct m v lowpc low up =
+        let a = goto_pair w laws l c site target fine pc c.site.enter s t r u v.first v.second v.like in
+        record { twin = record { same = a.same; refused = refl }; path = a.path }
+    effect_pair h (Fall site hang) inn moves fine pc s t r u cs ct m v lowpc low up =
+        let f = fall_like h site hang fine s t m in
+        let g = current w laws l c site hang fine s m.first in
+        let q = w.order.join pc (child_level w c.site.kids (child c.site.state s) s) in
+        let down : Low w.order l (level w (own (number_of g.0)) r) = up (own (number_of g.0)) (subst (λ y. Low w.order l y) (child_level_nth w c.site.kids (child c.site.state s) g.0 s g.1) low) in
+        let x = paired (child c.site.state s) q r u g.0 g.1 v.first v.second (low_join w.order laws l _ _ lowpc low) v.like
+        (λ z g d j. v.even z g d (inn (owner z) (or_right (among c.site.kids (owner z)) _ j)))
+        (λ z g d j. v.even2 z g d (inn (owner z) (or_right (among c.site.kids (owner z)) _ j)))
+        (own_heads h r u v).2 cs (ct ∙ sym (f.1 low)) down in
+        let i = c.kept (child c.site.state s) q r in
+        let j = c.kept (child c.site.state s) q u in
+        let res : Both (c.site.enter (child c.site.state s) q r) (c.site.enter (child c.site.state s) q u) = record {
+          twin = x.twin;
+          path = like_path w laws l c (c.site.enter (child c.site.state s) q r).store (c.site.enter (child c.site.state s) q u).store (i.seat ∙ v.here) (j.seat ∙ v.there)
+              (i.level ∙ (own_heads h r u v).1 ∙ sym j.level) x.path;
+        } in
+        subst (λ n. Both (c.site.enter (child c.site.state s) q r) (c.site.enter n (w.order.join pc (child_level w c.site.kids (child c.site.state t) t)) u)) (f.1 low)
+        (subst (λ y. Both (c.site.enter (child c.site.state s) q r) (c.site.enter (child c.site.state s) (w.order.join pc y) u)) (f.0.1 low) res)
+
+    -- what a high context does from a raised store
+    abbrev Side : (Store → After) → Store → Type 0
+    Side f r = Confined w l r (f r) × (Path (f r).store ≡ Path r)
+
+    pair_sides : (r u : Store) (a b : After) → Agree w l r u → Path r ≡ Path u → Confined w l r a × (Path a.store ≡ Path r) → Confined w l u b × (Path b.store ≡ Path u) → Both a b
+    pair_sides r u a b e p f g = record { twin = twin_confined w laws l r u a b e f.0 g.0; path = f.1 ∙ p ∙ sym g.1 }
+
+    -- what is raised to a high level is covered
+    cover_raised : (h hang : ℕ → Bool) (a : ℕ) (s : Store) → ((x : ℕ) → h x ≡ true → hang x ≡ true) → Far a → Cover w l c.site.state c.site.kids h (raise w.order hang a s)
+    cover_raised h hang a s inn far = record {
+      own_high = λ i. raise_to w laws l s hang a (own c.site.state) (inn _ i) far;
+      kid_high = λ b n low i. raise_to w laws l s hang a (own (number_of b)) (inn _ i) far;
+    }
+
+    -- under a low guard
+    lower_pair : (h : ℕ → Bool) (k : Step) → ((x : ℕ) → step_hangs c.site.state c.site.kids k x ≡ true → h x ≡ true) → transfers k ≡ true → ProperStep w c.site k → (hang : ℕ → Bool) (f : ℕ → Store → After) (pc : ℕ) (s t : Store) → OfDynamic w hang → Meets h s t → IsLow pc → ((r : ℕ) (v z : Store) → IsLow r → Meets h v z → Both (f r v) (f r z)) → IsLow (guard w At k s) → Both (attempt w At c.site.enter k hang f pc s) (attempt w At c.site.enter k hang f pc t)
+    unfolding attempt
+    lower_pair h k inn moves fine hang f pc s t dyn m lowpc handler low = elim (cases_Bool (test w At k pc s)) [
+      | inl a ↦ rw (a, sym (test_same h k moves fine pc s t m low) ∙ a)
+          (effect_pair h k inn moves fine pc s t r u (child_raise w.order c.site.state hang _ s) (child_raise w.order c.site.state hang _ t) m meet lowpc low (λ z up. raise_low w laws l s hang (guard w At k s) z low up))
+      | inr a ↦ rw (a, sym (test_same h k moves fine pc s t m low) ∙ a) (again (guard w At k t) ((guard_like h k moves fine s t m).1 low))
+    ]
+      where
+        r : Store
+        r = raise w.order hang (guard w At k s) s
+
+        u : Store
+        u = raise w.order hang (guard w At k t) t
+
+        meet : Meets h r u
+        meet = meets_raised h s t hang _ _ dyn m (guard_like h k moves fine s t m) low
+
+        again : (v : ℕ) → guard w At k s ≡ v → Both (record { store = (f (w.order.join pc (guard w At k s)) r).store; refused = record { site = site_of k; level = w.order.join pc (guard w At k s) } ∷ (f (w.order.join pc (guard w At k s)) r).refused }) (record { store = (f (w.order.join pc v) u).store; refused = record { site = site_of k; level = w.order.join pc v } ∷ (f (w.order.join pc v) u).refused })
+        again v e = rw (← e) (
+            let up : Low w.order l (w.order.join pc (guard w At k s)) = low_join w.order laws l _ _ lowpc low in
+            let g = handler (w.order.join pc (guard w At k s)) r u up meet in
+            record { twin = record { same = g.twin.same; refused = rw up (ap (λ rs. record { site = site_of k; level = w.order.join pc (guard w At k s) } ∷ rs) g.twin.refused) }; path = g.path })
+
+    lower_select : (h : ℕ → Bool) (e : Term ℕ) → FineTerm w e → (hang : ℕ → Bool) (pick : ℕ → ℕ → Store → After) (pc : ℕ) (s t : Store) → OfDynamic w hang → Meets h s t → IsLow pc → ((i r : ℕ) (v z : Store) → IsLow r → Meets h v z → Both (pick i r v) (pick i r z)) → IsLow (tag w e s) → Both (select w e hang pick pc s) (select w e hang pick pc t)
+    unfolding select
+    lower_select h e fe hang pick pc s t dyn m lowpc f low =
+        let i = value_low w laws l e fe s t m.like low in
+        let v = tag_low w laws l e fe s t m.like low in
+        let up = low_join w.order laws l pc (tag w e s) lowpc low in
+        let r = raise w.order hang (tag w e s) s in
+        let u = raise w.order hang (tag w e s) t in
+        let g = f (value w e s) (w.order.join pc (tag w e s)) r u up (meets_raised h s t hang (tag w e s) (tag w e s) dyn m (refl, λ _. refl) low) in
+        subst (λ n. Both (pick (value w e s) (w.order.join pc (tag w e s)) r) (pick n (w.order.join pc (tag w e t)) (raise w.order hang (tag w e t) t))) i
+        (subst (λ n. Both (pick (value w e s) (w.order.join pc (tag w e s)) r) (pick (value w e s) (w.order.join pc n) (raise w.order hang n t))) v g)
+
+    -- a step alone raises all that it touches
+    alone_all : (k : Step) → transfers k ≡ true → (x : ℕ) → (is_dynamic w x && step_hangs c.site.state c.site.kids k x) ≡ true → raised_alone w At k x ≡ true
+    alone_all (Set site y e) moves x h = cc
+    alone_all (Write site y j e) moves x h = cc
+    alone_all (Retag site y n) moves x h = cc
+    alone_all (RetagCell site y j n) moves x h = cc
+    alone_all (Goto site target) moves x h = h
+    alone_all (Fall site hang) moves x h = h
+
+    high_side : (b : Block) → ProperBlock w c.site b → Closes b → (hang : ℕ → Bool) (a : ℕ) → ((x : ℕ) → (is_dynamic w x && block_hangs c.site.state c.site.kids b x) ≡ true → hang x ≡ true) → OfDynamic w hang → (r : ℕ) (v : Store) → Far r → Far a → Holds w v → Even w (block_hangs c.site.state c.site.kids b) v → child c.site.parent v ≡ c.site.index → Side (does_block w At c.site.enter b r) (raise w.order hang a v)
+    high_side b fine closes hang a inn dyn r v far fa hv ev here =
+        let q : Quiet w l (block_hangs c.site.state c.site.kids b) (raise w.order hang a v) = quiet_raise w laws l (block_hangs c.site.state c.site.kids b) hang a v inn dyn fa ev in (
+          block_confined w laws l c.site c.entering c.holding b fine r (raise w.order hang a v) (holds_raise w v hang a dyn hv) far q,
+          block_still w laws l c b fine closes r (raise w.order hang a v) (holds_raise w v hang a dyn hv) far q (child_raise w.order c.site.parent hang a v ∙ here) (cover_raised _ hang a v inn fa),
+        )
+
+    attempt_pair : (h : ℕ → Bool) (k : Step) → ((x : ℕ) → step_hangs c.site.state c.site.kids k x ≡ true → h x ≡ true) → transfers k ≡ true → ProperStep w c.site k → (hang : ℕ → Bool) (f : ℕ → Store → After) (pc : ℕ) (s t : Store) → OfDynamic w hang → ((x : ℕ) → (is_dynamic w x && step_hangs c.site.state c.site.kids k x) ≡ true → hang x ≡ true) → Meets h s t → IsLow pc → ((r : ℕ) (v z : Store) → IsLow r → Meets h v z → Both (f r v) (f r z)) → ((r a : ℕ) (v : Store) → Far r → Far a → Holds w v → Even w h v → child c.site.parent v ≡ c.site.index → Side (f r) (raise w.order hang a v)) → Both (attempt w At c.site.enter k hang f pc s) (attempt w At c.site.enter k hang f pc t)
+    attempt_pair h k zin moves fine hang f pc s t dyn inn m lowpc handler side' = elim (cases_Bool (w.order.le (guard w At k s) l)) [
+      | inl low ↦ lower_pair h k zin moves fine hang f pc s t dyn m lowpc handler low
+      | inr high ↦ (
+          let like = guard_like h k moves fine s t m in
+          let high' : Far (guard w At k t) = sym like.0 ∙ high in
+          pair_sides (raise w.order hang (guard w At k s) s) (raise w.order hang (guard w At k t) t) _ _ (agree_raised w laws l s t hang _ _ dyn m.like like) (path_raised h s t hang _ _ m like)
+          (side s high m.first m.even m.here) (side t high' m.second m.even2 m.there))
+    ]
+      where
+        side : (v : Store) → Far (guard w At k v) → Holds w v → Even w h v → child c.site.parent v ≡ c.site.index → Side (λ r. attempt w At c.site.enter k hang f pc v) (raise w.order hang (guard w At k v) v)
+        side v high holds ev here =
+            let q : Quiet w l (step_hangs c.site.state c.site.kids k) (raise w.order hang (guard w At k v) v) = quiet_raise w laws l (step_hangs c.site.state c.site.kids k) hang _ v inn dyn high (λ z g d j. ev z g d (zin (owner z) j)) in (
+              attempt_confined w laws l c.site c.entering c.holding k fine hang f pc v dyn holds q (inr high) (λ r far. (side' r (guard w At k v) v far high holds ev here).0),
+              attempt_still w laws l c k moves fine hang f pc v dyn holds q here (cover_raised _ hang _ v inn high) (inr high) (λ r far. (side' r (guard w At k v) v far high holds ev here).1),
+            )
+
+    select_pair : (h : ℕ → Bool) (e : Term ℕ) → FineTerm w e → (hang : ℕ → Bool) (pick : ℕ → ℕ → Store → After) (pc : ℕ) (s t : Store) → OfDynamic w hang → Meets h s t → IsLow pc → ((i r : ℕ) (v z : Store) → IsLow r → Meets h v z → Both (pick i r v) (pick i r z)) → ((i r a : ℕ) (v : Store) → Far r → Far a → Holds w v → Even w h v → child c.site.parent v ≡ c.site.index → Side (pick i r) (raise w.order hang a v)) → Both (select w e hang pick pc s) (select w e hang pick pc t)
+    select_pair h e fe hang pick pc s t dyn m lowpc f g = elim (cases_Bool (w.order.le (tag w e s) l)) [
+      | inl low ↦ lower_select h e fe hang pick pc s t dyn m lowpc f low
+      | inr high ↦ (
+          let same = tag_same w laws l e fe s t m.like in
+          let high' : Far (tag w e t) = sym same ∙ high in
+          let like : Like w.order l (tag w e s) (tag w e t) = (same, λ low. cc) in
+          pair_sides (raise w.order hang (tag w e s) s) (raise w.order hang (tag w e t) t) _ _ (agree_raised w laws l s t hang _ _ dyn m.like like) (path_raised h s t hang _ _ m like)
+          (side s high m.first m.even m.here) (side t high' m.second m.even2 m.there))
+    ]
+      where
+        side : (v : Store) → Far (tag w e v) → Holds w v → Even w h v → child c.site.parent v ≡ c.site.index → Side (λ r. select w e hang pick pc v) (raise w.order hang (tag w e v) v)
+        side v high holds ev here = (
+          select_confined w laws l c.site c.entering c.holding e hang pick pc v (high_right w.order laws l pc _ high) (λ i r far. (g i r (tag w e v) v far high holds ev here).0),
+          select_still w laws l c e hang pick pc v (high_right w.order laws l pc _ high) (λ i r far. (g i r (tag w e v) v far high holds ev here).1),
+        )
+
+    mutual
+      unfolding does does_block
+
+      pub does_pair : (d : Command) → Proper w c.site d → Final d → (pc : ℕ) (s t : Store) → IsLow pc → Meets (hangs c.site.state c.site.kids d) s t → Both (does w At c.site.enter d pc s) (does w At c.site.enter d pc t)
+      does_pair (Do k) fine final pc s t low m =
+          let hang = raised_alone w At k in
+          let dyn : OfDynamic w hang = alone_dynamic w At c.site.siblings (landing w laws l c.site c.entering c.holding) c.site.enter c.holding k in
+          attempt_pair (step_hangs c.site.state c.site.kids k) k (λ x i. i) final fine hang (λ r v. stay v) pc s t dyn (alone_all k final) m low
+          (λ r v z lr mv. record { twin = record { same = mv.like; refused = refl }; path = mv.path })
+          (λ r a v far fa hv ev here. (confined_self w laws l _, refl))
+      does_pair (Try k hang h) fine final pc s t low m =
+          let hung = touches w At (Try k hang h) in
+          let dyn : OfDynamic w hung = touches_dynamic w laws l c.site c.entering c.holding (Try k hang h) in
+          attempt_pair (hangs c.site.state c.site.kids (Try k hang h)) k (λ x i. or_left _ (block_hangs c.site.state c.site.kids h x) i) final.0 fine.0 hung (does_block w At c.site.enter h) pc s t dyn
+          (λ x. touched_in (is_dynamic w x) _ _ (λ i. or_left _ (block_hangs c.site.state c.site.kids h x) i)) m low
+          (λ r v z lr mv. block_pair h fine.1 final.1 r v z lr (meets_part (hangs c.site.state c.site.kids (Try k hang h)) (block_hangs c.site.state c.site.kids h) v z (λ x i. or_right (step_hangs c.site.state c.site.kids k x) _ i) mv))
+          (λ r a v far fa hv ev here. high_side h fine.1 final.1 hung a (λ x. touched_in (is_dynamic w x) _ _ (λ i. or_right (step_hangs c.site.state c.site.kids k x) _ i)) dyn r v far fa hv (λ z g d i. ev z g d (or_right (step_hangs c.site.state c.site.kids k (owner z)) _ i)) here)
+      does_pair (If hang e a b) fine final pc s t low m =
+          let hung = touches w At (If hang e a b) in
+          let dyn : OfDynamic w hung = touches_dynamic w laws l c.site c.entering c.holding (If hang e a b) in
+          select_pair (hangs c.site.state c.site.kids (If hang e a b)) e fine.0 hung (branch (does_block w At c.site.enter a) (does_block w At c.site.enter b)) pc s t dyn m low
+          (λ i r v z lr mv. branch_both (λ x y. Both x y) (does_block w At c.site.enter a) (does_block w At c.site.enter b) i r v z
+          (block_pair a fine.1 final.0 r v z lr (meets_part (hangs c.site.state c.site.kids (If hang e a b)) (block_hangs c.site.state c.site.kids a) v z (λ x i. or_left _ (block_hangs c.site.state c.site.kids b x) i) mv))
+          (block_pair b fine.2 final.1 r v z lr (meets_part (hangs c.site.state c.site.kids (If hang e a b)) (block_hangs c.site.state c.site.kids b) v z (λ x i. or_right (block_hangs c.site.state c.site.kids a x) _ i) mv)))
+          (λ i r q v far fa hv ev here. branch_all (λ z. Confined w l (raise w.order hung q v) z × (Path z.store ≡ Path (raise w.order hung q v))) (does_block w At c.site.enter a) (does_block w At c.site.enter b) i r (raise w.order hung q v)
+          (high_side a fine.1 final.0 hung q (λ x. touched_in (is_dynamic w x) _ _ (λ i. or_left _ (block_hangs c.site.state c.site.kids b x) i)) dyn r v far fa hv (λ z g d i. ev z g d (or_left _ (block_hangs c.site.state c.site.kids b (owner z)) i)) here)
+          (high_side b fine.2 final.1 hung q (λ x. touched_in (is_dynamic w x) _ _ (λ i. or_right (block_hangs c.site.state c.site.kids a x) _ i)) dyn r v far fa hv (λ z g d i. ev z g d (or_right (block_hangs c.site.state c.site.kids a (owner z)) _ i)) here))
+
+      pub block_pair : (b : Block) → ProperBlock w c.site b → Closes b → (pc : ℕ) (s t : Store) → IsLow pc → Meets (block_hangs c.site.state c.site.kids b) s t → Both (does_block w At c.site.enter b pc s) (does_block w At c.site.enter b pc t)
+      block_pair End fine closes pc s t low m = absurd closes
+      block_pair (Then d End) fine closes pc s t low m =
+          let f = does_pair d fine.0 closes pc s t low (meets_part (block_hangs c.site.state c.site.kids (Then d End)) (hangs c.site.state c.site.kids d) s t (λ x i. or_left _ false i) m) in
+          record { twin = record { same = f.twin.same; refused = seen_parts w.order laws l _ [] _ [] f.twin.refused refl }; path = f.path }
+      block_pair (Then d (Then j js)) fine closes pc s t low m =
+          let f = does_twin w laws l c.site c.entering c.holding d fine.0 closes.0 pc s t m.first m.second low m.like
+          (λ z g e i. m.even z g e (or_left _ (block_hangs c.site.state c.site.kids (Then j js) (owner z)) i))
+          (λ z g e i. m.even2 z g e (or_left _ (block_hangs c.site.state c.site.kids (Then j js) (owner z)) i)) in
+          let a = clear_own w laws l c d fine.0 closes.0 pc s in
+          let b = clear_own w laws l c d fine.0 closes.0 pc t in
+          let next : Meets (block_hangs c.site.state c.site.kids (Then j js)) (does w At c.site.enter d pc s).store (does w At c.site.enter d pc t).store = record {
+            first = keeps w laws l c.site c.entering c.holding d fine.0 pc s m.first;
+            second = keeps w laws l c.site c.entering c.holding d fine.0 pc t m.second;
+            like = f.same;
+            path = clear_path w laws l c d fine.0 closes.0 pc s m.here ∙ m.path ∙ sym (clear_path w laws l c d fine.0 closes.0 pc t m.there);
+            here = a.seat ∙ m.here;
+            there = b.seat ∙ m.there;
+            low = subst (λ v. Low w.order l v) (sym a.level) m.low;
+            even = even_next w laws l c.site c.entering c.holding d (Then j js) fine.2 pc s (λ z g e i. m.even z g e (or_right (hangs c.site.state c.site.kids d (owner z)) _ i));
+            even2 = even_next w laws l c.site c.entering c.holding d (Then j js) fine.2 pc t (λ z g e i. m.even2 z g e (or_right (hangs c.site.state c.site.kids d (owner z)) _ i));
+          } in
+          let g = block_pair (Then j js) fine.1 closes.1 pc (does w At c.site.enter d pc s).store (does w At c.site.enter d pc t).store low next in
+          record { twin = record { same = g.twin.same; refused = seen_parts w.order laws l _ _ _ _ f.refused g.twin.refused }; path = g.path }

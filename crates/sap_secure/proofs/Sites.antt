@@ -1,0 +1,195 @@
+-- A state in its group, with what is known of both, and commands in its body.
+use Rattle.std.proofs.Common.{◌≡◌, ℕ, suc, ◌+◌, ◌<◌, ◌≤◌, Bool, true, false, ◌&&◌, ◌||◌, refl, arith, nat_eq, nat_lt, nat_le, inl, inr, ◌⊎◌}
+use Rattle.std.proofs.lemmas.Grind.{common_steps}
+use Rattle.sap_meaning.specs.Program.{World, children, is_memory, is_state, last, below, root, Step, Command, Do, Try, If, Block, End, Then, Node, Group, None, More}
+use Rattle.sap_meaning.specs.Store.{Store, After}
+use Rattle.sap_meaning.specs.Checks.{Spot}
+use Rattle.sap_meaning.specs.Touches.{among, block_hangs}
+use Rattle.sap_meaning.specs.Fine.{FineTerm, FineStep, FineCommand, FineBlock, FineNode, FineState, FineGroup, Open, OpenBlock, Closes, Final, Once, OnceBlock, writes, reaches, block_reaches, step_retags, retags, block_retags, inside, size}
+use Rattle.sap_meaning.proofs.Bools.{and_left, and_right, and_false, or_right, or_of, or_false, neither_left, neither_right, not_true, same_number}
+use Rattle.sap_meaning.proofs.Trees.{Nth, nth_fine}
+use Rattle.sap_secure.proofs.Apart.{no_state, writes_within, block_hung, group_written, apart_of, inside_state}
+
+-- a group and its parent, which is not inside it and which no state of it spans
+pub record Around (w : World) (p : ℕ) (q : Group) : Type 0 where
+  pub fine : FineGroup w q 0 q
+  pub count : children w p ≡ size q
+  pub apart : (x : ℕ) → inside q x ≡ true → (nat_eq p x || below w x p) ≡ false
+
+-- a state, by its number, with its body and children, the index-th of its group, and what its children do
+pub record Site (w : World) : Type 0 where
+  pub state : ℕ
+  pub parent : ℕ
+  pub index : ℕ
+  pub body : Block
+  pub kids : Group
+  pub siblings : Group
+  pub around : Around w parent siblings
+  pub self : Nth siblings index (Node state body kids)
+  pub enter : ℕ → ℕ → Store → After
+
+abbrev pub spot : {w : World} → Site w → Spot
+spot i = record { state = i.state; parent = i.parent; children = i.kids }
+
+-- the state or one below it
+abbrev pub mine : {w : World} → Site w → ℕ → Bool
+mine i x = nat_eq x i.state || inside i.kids x
+
+module _ (w : World) where
+  pub own_fine : (i : Site w) → FineState w i.siblings i.index (Node i.state i.body i.kids)
+  own_fine i =
+      let e : 0 + i.index ≡ i.index = omega arith in
+      rw e at (nth_fine w i.siblings 0 i.siblings i.index (Node i.state i.body i.kids) i.self i.around.fine)
+
+  pub node : (i : Site w) → FineNode w i.siblings i.index i.state i.body i.kids
+  node i = (own_fine i).0
+
+  not_after : (e x : ℕ) → nat_lt e x ≡ true → nat_lt x e ≡ false
+  not_after e x h = grind (arith, common_steps)
+
+  not_same : (e x : ℕ) → nat_lt e x ≡ true → nat_eq e x ≡ false
+  not_same e x h = grind (arith, common_steps)
+
+  and_falsely : (a b c : Bool) → b ≡ false → (a && (b && c)) ≡ false
+  and_falsely true b c h = rw h refl
+  and_falsely false b c h = refl
+
+  pub kids_apart : (e : ℕ) (g : Group) → ((x : ℕ) → inside g x ≡ true → below w e x ≡ true) → (x : ℕ) → inside g x ≡ true → (nat_eq e x || below w x e) ≡ false
+  kids_apart e g f x h =
+      let k = and_left _ _ (and_right (is_state w x) _ (f x h)) in
+      or_false _ _ (not_same e x k) (and_falsely (is_state w e) (nat_lt x e) (nat_le e (last w x)) (not_after e x k))
+
+  -- the children of a state with the state
+  pub around_kids : (q : Group) (n e : ℕ) (b : Block) (g : Group) → FineState w q n (Node e b g) → Around w e g
+  around_kids q n e b g fine = record { fine = fine.1; count = fine.0.count; apart = kids_apart e g fine.0.numbers }
+
+  pub kids_around : (i : Site w) → Around w i.state i.kids
+  kids_around i = around_kids i.siblings i.index i.state i.body i.kids (own_fine i)
+
+  inside_root : (q : Group) (n : ℕ) (g : Group) → FineGroup w q n g → (x : ℕ) → inside g x ≡ true → x ≤ last w x × (last w x < root w)
+  inside_root q n None fine x h = cc
+  inside_root q n (More (Node c b k) g) fine x h = elim (or_of (nat_eq x c) _ h) [
+    | inl e ↦ rw (same_number x c e) (fine.0.0.itself, fine.0.0.declared)
+    | inr e ↦ elim (or_of (inside k x) (inside g x) e) [
+      | inl i ↦ inside_root k 0 k fine.0.1 x i
+      | inr i ↦ inside_root q (suc n) g fine.1 x i
+    ]
+  ]
+
+  root_out : (r x m : ℕ) (a : Bool) → x ≤ m → m < r → (nat_eq r x || (a && (nat_lt x r && nat_le r m))) ≡ false
+  root_out r x m true h k = grind (arith, common_steps)
+  root_out r x m false h k = grind (arith, common_steps)
+
+  -- the top-level states with the root
+  pub around_root : (g : Group) → FineGroup w g 0 g → children w (root w) ≡ size g → Around w (root w) g
+  around_root g fine count = record { fine = fine; count = count; apart = λ x h. let k = inside_root g 0 g fine x h in root_out (root w) x (last w x) (is_state w (root w)) k.0 k.1 }
+
+  -- the states at a place
+  pub mine_state : (i : Site w) (x : ℕ) → mine i x ≡ true → is_state w x ≡ true
+  mine_state i x h = elim (or_of (nat_eq x i.state) _ h) [
+    | inl e ↦ rw (same_number x i.state e) (node i).kind
+    | inr e ↦ inside_state w i.kids 0 i.kids (own_fine i).1 x e
+  ]
+
+  pub not_mine : (i : Site w) (x : ℕ) → is_state w x ≡ false → mine i x ≡ false
+  not_mine i x s = not_true _ (λ h. let k = mine_state i x h in cc)
+
+  pub not_own : (i : Site w) (x : ℕ) → is_state w x ≡ false → nat_eq x i.state ≡ false
+  not_own i x s = neither_left _ _ (not_mine i x s)
+
+  pub no_kid : (i : Site w) (x : ℕ) → is_state w x ≡ false → among i.kids x ≡ false
+  no_kid i x s = apart_of w i.kids 0 i.kids (own_fine i).1 x s
+
+-- What is known of a command in a state's body. Before a list that assigns a memory, a command is open and does not
+-- write that memory.
+abbrev pub ProperStep : (w : World) → Site w → Step → Type 0
+ProperStep w i k = FineStep w i.siblings i.kids k × ((x : ℕ) → mine i x ≡ true → step_retags k x ≡ false)
+
+abbrev pub Disjoint : (w : World) → Site w → Command → Block → Type 0
+Disjoint w i c cs = (m : ℕ) → is_memory w m ≡ true → block_hangs i.state i.kids cs m ≡ true → Open c × (writes c m ≡ false)
+
+abbrev mutual
+  pub Proper : (w : World) → Site w → Command → Type 0
+  Proper w i (Do k) = ProperStep w i k
+  Proper w i (Try k hang h) = ProperStep w i k × ProperBlock w i h
+  Proper w i (If hang e a b) = FineTerm w e × ProperBlock w i a × ProperBlock w i b
+
+  pub ProperBlock : (w : World) → Site w → Block → Type 0
+  ProperBlock w i End = Unit {0}
+  ProperBlock w i (Then c cs) = Proper w i c × ProperBlock w i cs × Disjoint w i c cs
+
+-- whether it closes or is open
+abbrev pub Shut : Block → Type 0
+Shut b = Closes b ⊎ OpenBlock b
+
+abbrev pub Ended : Command → Type 0
+Ended c = Final c ⊎ Open c
+
+module _ (w : World) (i : Site w) where
+  abbrev Unmarked : Command → Type 0
+  Unmarked c = (x : ℕ) → mine i x ≡ true → retags c x ≡ false
+
+  abbrev UnmarkedBlock : Block → Type 0
+  UnmarkedBlock b = (x : ℕ) → mine i x ≡ true → block_retags b x ≡ false
+
+  apart_from : (c : Command) (cs : Block) → FineBlock w i.siblings i.kids cs → Open c → ((m : ℕ) → (reaches i.kids c m && block_reaches i.kids cs m) ≡ false) → Disjoint w i c cs
+  apart_from c cs fine open_ once m mem h =
+      let s : is_state w m ≡ false = no_state w m (or_right _ _ mem) in
+      let r : block_reaches i.kids cs m ≡ true = block_hung w m mem i.state i.kids (not_own w i m s) (no_kid w i m s) (group_written w m mem i.kids 0 i.kids (own_fine w i).1) i.siblings i.kids cs fine h in
+      let n : reaches i.kids c m ≡ false = and_false _ _ (once m) r in
+      (open_, not_true (writes c m) (λ y. let z = writes_within w i.kids m c y in cc))
+
+  mutual
+    pub proper : (c : Command) → FineCommand w i.siblings i.kids c → Once i.kids c → Unmarked c → Ended c → Proper w i c
+    proper (Do k) fine once un ends = (fine, un)
+    proper (Try k hang h) fine once un ends = (
+      (fine.0, λ x m. neither_left _ _ (un x m)),
+      proper_block h fine.1 once.0 (λ x m. neither_right (step_retags k x) _ (un x m)) (elim ends [ inl f ↦ inl f.1 | inr f ↦ inr f.1 ]),
+    )
+    proper (If hang e a b) fine once un ends = (
+      fine.0,
+      proper_block a fine.1 once.0 (λ x m. neither_left _ _ (un x m)) (elim ends [ inl f ↦ inl f.0 | inr f ↦ inr f.0 ]),
+      proper_block b fine.2 once.1 (λ x m. neither_right (block_retags a x) _ (un x m)) (elim ends [ inl f ↦ inl f.1 | inr f ↦ inr f.1 ]),
+    )
+
+    pub proper_block : (b : Block) → FineBlock w i.siblings i.kids b → OnceBlock i.kids b → UnmarkedBlock b → Shut b → ProperBlock w i b
+    proper_block End fine once un shut = tt
+    proper_block (Then c End) fine once un shut =
+        (proper c fine.0 once.0 (λ x m. neither_left _ _ (un x m)) (elim shut [ inl f ↦ inl f | inr f ↦ inr f.0 ]), tt, λ m mem h. cc)
+    proper_block (Then c (Then d ds)) fine once un shut =
+        let opened : Open c = elim shut [ inl f ↦ f.0 | inr f ↦ f.0 ] in (
+          proper c fine.0 once.0 (λ x m. neither_left _ _ (un x m)) (inr opened),
+          proper_block (Then d ds) fine.1 once.1 (λ x m. neither_right (retags c x) _ (un x m)) (elim shut [ inl f ↦ inl f.1 | inr f ↦ inr f.1 ]),
+          apart_from c (Then d ds) fine.1 opened once.2,
+        )
+
+  body_unmarked : UnmarkedBlock i.body
+  body_unmarked x h = elim (or_of (nat_eq x i.state) _ h) [
+    | inl e ↦ rw (same_number x i.state e) (neither_left _ _ (node w i).retags_itself)
+    | inr e ↦ (node w i).retags_below x e
+  ]
+
+  pub proper_body : ProperBlock w i i.body
+  proper_body = proper_block i.body (node w i).steps (node w i).once body_unmarked (inl (node w i).closes)
+
+-- what the keeping of states asks of it
+mutual
+  pub fine_command : (w : World) (i : Site w) (c : Command) → Proper w i c → FineCommand w i.siblings i.kids c
+  fine_command w i (Do k) p = p.0
+  fine_command w i (Try k hang h) p = (p.0.0, fine_block w i h p.1)
+  fine_command w i (If hang e a b) p = (p.0, fine_block w i a p.1, fine_block w i b p.2)
+
+  pub fine_block : (w : World) (i : Site w) (b : Block) → ProperBlock w i b → FineBlock w i.siblings i.kids b
+  fine_block w i End p = tt
+  fine_block w i (Then c cs) p = (fine_command w i c p.0, fine_block w i cs p.1)
+
+-- nor does it retag the state or one below it
+mutual
+  pub unmarked : (w : World) (i : Site w) (c : Command) → Proper w i c → (x : ℕ) → mine i x ≡ true → retags c x ≡ false
+  unmarked w i (Do k) p x m = p.1 x m
+  unmarked w i (Try k hang h) p x m = or_false _ _ (p.0.1 x m) (block_unmarked w i h p.1 x m)
+  unmarked w i (If hang e a b) p x m = or_false _ _ (block_unmarked w i a p.1 x m) (block_unmarked w i b p.2 x m)
+
+  pub block_unmarked : (w : World) (i : Site w) (b : Block) → ProperBlock w i b → (x : ℕ) → mine i x ≡ true → block_retags b x ≡ false
+  block_unmarked w i End p x m = refl
+  block_unmarked w i (Then c cs) p x m = or_false _ _ (unmarked w i c p.0 x m) (block_unmarked w i cs p.1 x m)

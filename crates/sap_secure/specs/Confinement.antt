@@ -1,0 +1,113 @@
+-- What a command does in a context that is not at or below l, as far as can be seen at l.
+use Rattle.std.specs.Prelude.{◌≡◌, ℕ, Bool, true, false, ◌||◌, List, [], ◌∷◌, ◌⊎◌, if◌then◌else◌}
+use Rattle.sap_meaning.specs.Program.{World, Program, is_dynamic, is_register, is_memory, root, Step, Set, Write, Retag, RetagCell, Goto, Fall, Command, Do, Try, If, Block, End, Then, State, Node, Group}
+use Rattle.sap_meaning.specs.Store.{Store, Slot, own, start, next, next_whole, number, level, child}
+use Rattle.sap_meaning.specs.Touches.{touches}
+use Rattle.sap_meaning.specs.Does.{does, does_child}
+use Rattle.sap_meaning.specs.State.{Holds}
+use Rattle.sap_meaning.specs.Agree.{High, StatesAgree, seen}
+use Rattle.sap_meaning.specs.Fine.{FineProgram, reaches, number_of, kids_of, Nth}
+
+-- The group in which the way ends that begins in a group and goes down through those states, and that group's parent.
+abbrev pub last_group : Group → (way : List State) → Group
+last_group g [] = g
+last_group g (t ∷ way) = last_group (kids_of t) way
+
+abbrev pub last_parent : ℕ → (way : List State) → ℕ
+last_parent p [] = p
+last_parent p (t ∷ way) = last_parent (number_of t) way
+
+-- The states of the way, and then t, are each the current child of the one before, the first that of p.
+abbrev pub Active : (p : ℕ) → Group → Store → (way : List State) → State → Type 0
+Active p g s [] t = Nth g (child p s) t
+Active p g s (a ∷ way) t = Nth g (child p s) a × Active (number_of a) (kids_of a) s way t
+
+-- c stands in a command, or in a list
+abbrev mutual
+  pub StandsIn : Command → Command → Type 0
+  StandsIn c (Do k) = c ≡ Do k
+  StandsIn c (Try k hang h) = (c ≡ Try k hang h) ⊎ StandsInBlock c h
+  StandsIn c (If hang e a b) = (c ≡ If hang e a b) ⊎ (StandsInBlock c a ⊎ StandsInBlock c b)
+
+  pub StandsInBlock : Command → Block → Type 0
+  StandsInBlock c End = ⊥
+  StandsInBlock c (Then d ds) = StandsIn c d ⊎ StandsInBlock c ds
+
+abbrev pub is_goto : Step → Bool
+is_goto (Set site x e) = false
+is_goto (Write site m i e) = false
+is_goto (Retag site x n) = false
+is_goto (RetagCell site m j n) = false
+is_goto (Goto site target) = true
+is_goto (Fall site hang) = false
+
+abbrev pub is_fall : Step → Bool
+is_fall (Set site x e) = false
+is_fall (Write site m i e) = false
+is_fall (Retag site x n) = false
+is_fall (RetagCell site m j n) = false
+is_fall (Goto site target) = false
+is_fall (Fall site hang) = true
+
+-- a goto stands in it
+abbrev mutual
+  pub has_goto : Command → Bool
+  has_goto (Do k) = is_goto k
+  has_goto (Try k hang h) = is_goto k || block_has_goto h
+  has_goto (If hang e a b) = block_has_goto a || block_has_goto b
+
+  pub block_has_goto : Block → Bool
+  block_has_goto End = false
+  block_has_goto (Then c cs) = has_goto c || block_has_goto cs
+
+-- a fall stands in it
+abbrev mutual
+  pub has_fall : Command → Bool
+  has_fall (Do k) = is_fall k
+  has_fall (Try k hang h) = is_fall k || block_has_fall h
+  has_fall (If hang e a b) = block_has_fall a || block_has_fall b
+
+  pub block_has_fall : Block → Bool
+  block_has_fall End = false
+  block_has_fall (Then c cs) = has_fall c || block_has_fall cs
+
+-- the slot of an entity's level; of a memory its next part counts
+abbrev pub level_slot : World → ℕ → Slot
+level_slot w x = if is_memory w x then next_whole x else own x
+
+-- the two parts of a memory are equal
+abbrev pub EqualParts : World → ℕ → Store → Type 0
+EqualParts w m s = (i : ℕ) → (number (start m i) s ≡ number (next m i) s) × (level w (start m i) s ≡ level w (next m i) s)
+
+-- one of the states has a level that is not at or below l
+abbrev pub SomeHigh : World → ℕ → Store → List State → Type 0
+SomeHigh w l s [] = ⊥
+SomeHigh w l s (t ∷ ts) = High w.order l (level w (own (number_of t)) s) ⊎ SomeHigh w l s ts
+
+-- Of the state e with its children g: it is not dynamic where c has a goto, and its current child is no dynamic state
+-- with a level at or below l where c has a fall.
+abbrev pub Guarded : World → ℕ → ℕ → Group → Command → Store → Type 0
+Guarded w l e g c s = (has_goto c ≡ true → is_dynamic w e ≡ false)
+    × (has_fall c ≡ true → (t : State) → Nth g (child e s) t → is_dynamic w (number_of t) ≡ true → High w.order l (level w (own (number_of t)) s))
+
+-- The conditions: the state e with its body b and children g is on the active path, behind the states of `way`, and c
+-- stands in its body; the context, ..
+pub record Hidden (p : Program) (l : ℕ) (s : Store) (way : List State) (e : ℕ) (b : Block) (g : Group) (c : Command) (pc : ℕ) : Type 0 where
+  pub holds : Holds p.world s
+  pub active : Active (root p.world) p.states s way (Node e b g)
+  pub command : StandsInBlock c b
+  pub context : High p.world.order l pc
+  -- .. and each dynamic register or memory that c touches, is not at or below l;
+  pub touched : (x : ℕ) → (is_register p.world x || is_memory p.world x) ≡ true → touches p.world (record { state = e; parent = last_parent (root p.world) way; children = g }) c x ≡ true
+      → High p.world.order l (s.level (level_slot p.world x))
+  -- each enforced memory that c writes, or a body that it may fall into, has equal parts;
+  pub parts : (m : ℕ) → is_memory p.world m ≡ true → is_dynamic p.world m ≡ false → reaches g c m ≡ true → EqualParts p.world m s
+  -- and the state or one above it is not at or below l, or its goto and its fall are guarded
+  pub above : SomeHigh p.world l s (Node e b g ∷ way) ⊎ Guarded p.world l e g c s
+
+-- Then what c does leaves a state that agrees at l with the one before, and nothing that is refused is at or below l.
+abbrev pub Confinement : Type 0
+Confinement = (p : Program) → FineProgram p → (l : ℕ) (s : Store) (way : List State) (e : ℕ) (b : Block) (g : Group) (c : Command) (pc : ℕ)
+    → Hidden p l s way e b g c pc
+    → StatesAgree p l s (does p.world (record { state = e; parent = last_parent (root p.world) way; children = g }) (does_child p.world g e) c pc s).store
+    × (seen p.world.order l (does p.world (record { state = e; parent = last_parent (root p.world) way; children = g }) (does_child p.world g e) c pc s).refused ≡ [])
