@@ -1,0 +1,6 @@
+pub mod Worlds
+pub mod Sites
+pub mod Terms
+pub mod Resolve
+pub mod Fill
+pub mod Examples

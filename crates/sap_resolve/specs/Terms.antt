@@ -1,0 +1,88 @@
+-- Expressions with numbers for names and a width for each number.
+use Rattle.std.specs.Prelude.{ℕ, zero, suc, ◌-◌, List, Option, Some, None, eqb, if◌then◌else◌}
+use Rattle.sap_bits.specs.declared.Op1.{Op1}
+use Rattle.sap_bits.specs.declared.Op1.TheVariants as one
+use Rattle.sap_bits.specs.declared.Op2.{Op2}
+use Rattle.sap_bits.specs.declared.Op2.TheVariants as two
+use Rattle.sap_tree.specs.declared.syntax.UnaryOperator.{UnaryOperator}
+use Rattle.sap_tree.specs.declared.syntax.UnaryOperator.TheVariants as unary
+use Rattle.sap_tree.specs.declared.syntax.BinaryOperator.{BinaryOperator}
+use Rattle.sap_tree.specs.declared.syntax.BinaryOperator.TheVariants as binary
+use Rattle.sap_tree.specs.Syntax.{Expression, Number, Sized, Read, Cell, Unary, Binary, Choose, Slice, Concat, Zext, Expressions, NoPart, AndPart, TagExpression, Level, TagOf, LevelAt, Join, TagExpressions, NoTag, AndTag}
+use Rattle.sap_names.specs.Entities.{Entity, number_of, what_is}
+use Rattle.sap_names.specs.Widths.{own, width_of, family, asked_left, asked_right, asked_one, index_width}
+use Rattle.sap_maps.specs.Term.{Term}
+use Rattle.sap_maps.specs.Term as term
+use Rattle.sap_meaning.specs.Program.{LevelTerm, fixed, of, at_place, both}
+use Rattle.sap_lattice.specs.Levels.{Levels, order_of}
+use Rattle.sap_resolve.specs.Worlds.{level_number}
+
+abbrev pub one_of : UnaryOperator → Op1
+one_of unary.Not = one.Not
+one_of unary.Neg = one.Neg
+one_of unary.AllOnes = one.AllOnes
+one_of unary.AnyOne = one.AnyOne
+one_of unary.Odd = one.Odd
+
+abbrev pub two_of : BinaryOperator → Op2
+two_of binary.Or = two.Or
+two_of binary.Xor = two.Xor
+two_of binary.And = two.And
+two_of binary.Eq = two.Eq
+two_of binary.Ne = two.Ne
+two_of binary.Lt = two.Lt
+two_of binary.Le = two.Le
+two_of binary.Shl = two.Shl
+two_of binary.Shr = two.Shr
+two_of binary.Add = two.Add
+two_of binary.Sub = two.Sub
+two_of binary.Mul = two.Mul
+
+-- a number that is there in every well-formed design
+abbrev pub known : Option ℕ → ℕ
+known None = 0
+known (Some n) = n
+
+abbrev pub entity_number : List Entity → List ℕ → ℕ
+entity_number es name = known (number_of es name)
+
+-- filled with zeros in front, from one width to another
+abbrev pub widened : (from width : ℕ) → Term ℕ → Term ℕ
+widened from width t = if eqb from width then t else term.join (term.constant (width - from) 0) t
+
+abbrev mutual
+  pub term_of : List Entity → Expression → (asked : Option ℕ) → Term ℕ
+  term_of es (Number spot value) asked = term.constant (known asked) value
+  term_of es (Sized spot width value) asked = term.constant width value
+  term_of es (Read spot name) asked = term.read (entity_number es name)
+  term_of es (Cell spot name index) asked = term.cell (entity_number es name) (term_of es index (index_width (what_is es name)))
+  term_of es (Unary spot operator e) asked =
+      term.one (one_of operator) (term_of es e (asked_one operator (width_of (what_is es) (Unary spot operator e) asked)))
+  term_of es (Binary spot operator a b) asked =
+      let whole = width_of (what_is es) (Binary spot operator a b) asked in
+      term.two (two_of operator) (term_of es a (asked_left (family operator) whole (own (what_is es) a) (own (what_is es) b)))
+      (term_of es b (asked_right (family operator) whole (own (what_is es) a) (own (what_is es) b)))
+  term_of es (Choose spot condition a b) asked =
+      let whole = width_of (what_is es) (Choose spot condition a b) asked in
+      term.choose (term_of es condition (Some 1)) (term_of es a whole) (term_of es b whole)
+  term_of es (Slice spot e high low) asked = term.part (term_of es e None) high low
+  term_of es (Concat spot parts) asked = parts_of es parts
+  term_of es (Zext spot e width) asked = widened (known (own (what_is es) e)) width (term_of es e None)
+
+  -- two parts or more, one in front of the others
+  pub parts_of : List Entity → Expressions → Term ℕ
+  parts_of es NoPart = term.constant 0 0
+  parts_of es (AndPart e NoPart) = term_of es e None
+  parts_of es (AndPart e (AndPart f parts)) = term.join (term_of es e None) (parts_of es (AndPart f parts))
+
+abbrev mutual
+  pub level_term : Levels → List Entity → TagExpression → LevelTerm
+  level_term ls es (Level m) = fixed (level_number ls m)
+  level_term ls es (TagOf place e) = of (term_of es e None)
+  level_term ls es (LevelAt place e) = at_place (term_of es e None)
+  level_term ls es (Join place parts) = level_terms ls es parts
+
+  pub level_terms : Levels → List Entity → TagExpressions → LevelTerm
+  level_terms ls es NoTag = fixed (order_of ls).bottom
+  level_terms ls es (AndTag t NoTag) = level_term ls es t
+  level_terms ls es (AndTag t (AndTag u parts)) = both (level_term ls es t) (level_terms ls es (AndTag u parts))

@@ -1,0 +1,125 @@
+-- What stays while a design runs: its entities, by number in the order of the text, over the levels of a lattice.
+use Rattle.std.specs.Prelude.{ℕ, zero, suc, ◌+◌, List, [], ◌∷◌, ◌++◌, length, Option, Some, None, Bool, true, false, bytes_eq, if◌then◌else◌}
+use Rattle.sap_tree.specs.declared.name.Mention.{Mention}
+use Rattle.sap_tree.specs.declared.syntax.Numeral.{Numeral}
+use Rattle.sap_tree.specs.declared.syntax.Under.{Under}
+use Rattle.sap_tree.specs.declared.syntax.Kind.{Kind}
+use Rattle.sap_tree.specs.declared.syntax.Kind.TheVariants.{Dynamic, Enforced}
+use Rattle.sap_tree.specs.declared.syntax.Decl.{Decl}
+use Rattle.sap_tree.specs.declared.syntax.Decl.TheVariants.{Input, Register, Memory}
+use Rattle.sap_tree.specs.Syntax.{CommandBlock, StateTree, StateOf, StateList, NoState, AndState, DesignTree}
+use Rattle.sap_lattice.specs.Levels.{Levels, order_of}
+use Rattle.sap_meaning.specs.Program.{World, Entity}
+use Rattle.sap_meaning.specs.Program as program
+
+-- the number of a level's name
+abbrev pub position : List (List ℕ) → List ℕ → ℕ
+position [] name = 0
+position (l ∷ ls) name = if bytes_eq l name then 0 else 1 + position ls name
+
+abbrev pub level_number : Levels → Mention → ℕ
+level_number ls m = position ls.names m.name
+
+abbrev pub declared_level : Levels → Kind → ℕ
+declared_level ls (Dynamic place) = (order_of ls).bottom
+declared_level ls (Enforced level under) = level_number ls level
+
+abbrev pub authority_level : Levels → Option Under → ℕ
+authority_level ls None = (order_of ls).bottom
+authority_level ls (Some under) = level_number ls under.level
+
+-- bottom where it isn't written
+abbrev pub authority_of : Levels → Kind → ℕ
+authority_of ls (Dynamic place) = (order_of ls).bottom
+authority_of ls (Enforced level under) = authority_level ls under
+
+abbrev pub is_dynamic_kind : Kind → Bool
+is_dynamic_kind (Dynamic place) = true
+is_dynamic_kind (Enforced level under) = false
+
+-- a register starts at its written number, else at 0
+abbrev pub initial_of : Option Numeral → ℕ
+initial_of None = 0
+initial_of (Some n) = n.value
+
+abbrev pub declared : Levels → Decl → Entity
+declared ls (Input place name width) = record {
+  kind = program.input;
+  width = width.value;
+  dynamic = true;
+  declared = (order_of ls).bottom;
+  authority = (order_of ls).bottom;
+  initial = 0;
+}
+declared ls (Register place name width kind start) = record {
+  kind = program.register;
+  width = width.value;
+  dynamic = is_dynamic_kind kind;
+  declared = declared_level ls kind;
+  authority = authority_of ls kind;
+  initial = initial_of start;
+}
+declared ls (Memory place name width depth kind) = record {
+  kind = program.memory depth.value;
+  width = width.value;
+  dynamic = is_dynamic_kind kind;
+  declared = declared_level ls kind;
+  authority = authority_of ls kind;
+  initial = 0;
+}
+
+abbrev pub all_declared : Levels → List Decl → List Entity
+all_declared ls [] = []
+all_declared ls (d ∷ ds) = declared ls d ∷ all_declared ls ds
+
+-- how many states there are in a state, itself included, and in a group
+abbrev mutual
+  pub states_in : StateTree → ℕ
+  states_in (StateOf place name kind body children) = 1 + states_below children
+
+  pub states_below : StateList → ℕ
+  states_below NoState = 0
+  states_below (AndState s rest) = states_in s + states_below rest
+
+-- the length of a group
+abbrev pub group_length : StateList → ℕ
+group_length NoState = 0
+group_length (AndState s rest) = 1 + group_length rest
+
+-- The states of a group, the first of them with this place in the group and this number; a state stands before its children.
+abbrev mutual
+  pub state_entities : Levels → (place number : ℕ) → StateTree → List Entity
+  state_entities ls n x (StateOf place name kind body children) =
+      let e : Entity = record {
+        kind = program.state n (x + states_below children);
+        width = 0;
+        dynamic = is_dynamic_kind kind;
+        declared = declared_level ls kind;
+        authority = authority_of ls kind;
+        initial = 0;
+      } in
+      e ∷ group_entities ls 0 (x + 1) children
+
+  pub group_entities : Levels → (place number : ℕ) → StateList → List Entity
+  group_entities ls n x NoState = []
+  group_entities ls n x (AndState s rest) = state_entities ls n x s ++ group_entities ls (n + 1) (x + states_in s) rest
+
+-- the number of children of each state, in the order of the text
+abbrev mutual
+  pub state_children : StateTree → List ℕ
+  state_children (StateOf place name kind body children) = group_length children ∷ group_children children
+
+  pub group_children : StateList → List ℕ
+  group_children NoState = []
+  group_children (AndState s rest) = state_children s ++ group_children rest
+
+abbrev pub no_children : List Decl → List ℕ
+no_children [] = []
+no_children (d ∷ ds) = 0 ∷ no_children ds
+
+abbrev pub world_of : Levels → DesignTree → World
+world_of ls d = record {
+  order = order_of ls;
+  entities = all_declared ls d.declarations ++ group_entities ls 0 (length d.declarations) d.states;
+  children = no_children d.declarations ++ group_children d.states ++ group_length d.states ∷ [];
+}
