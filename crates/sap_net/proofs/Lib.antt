@@ -1,0 +1,7 @@
+pub mod Settle
+pub mod Unique
+pub mod Same
+pub mod Within
+pub mod Exists
+pub mod Observed
+pub mod Examples

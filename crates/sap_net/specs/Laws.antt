@@ -1,0 +1,54 @@
+-- What holds of the runs of every netlist.
+use Rattle.std.specs.Prelude.{◌≡◌, ℕ, List, [], ◌∷◌, Option, Some, None}
+use Rattle.sap_maps.specs.Maps.{Name, Valuation}
+use Rattle.sap_maps.specs.Scope.{find}
+use Rattle.sap_net.specs.Net.{Net}
+use Rattle.sap_net.specs.IsNetlist.{readable, shapes, width_of}
+use Rattle.sap_net.specs.Values.{Holds}
+use Rattle.sap_net.specs.Runs.{IsWithin, Begins, InputsFit, InputsAre, AllFit, IsCycle, IsRun}
+
+-- equal numbers at all inputs, registers and wires, and in all memories
+pub record AreSame (n : Net) (v w : Valuation) : Type 0 where
+  pub value : (x : Name) (u : ℕ) → find (readable n) x ≡ Some u → v.value x ≡ w.value x
+  pub cell : (m : Name) (s : ℕ × ℕ) → find (shapes n) m ≡ Some s → (i : ℕ) → v.cell m i ≡ w.cell m i
+
+-- equal numbers in each cycle
+abbrev pub AreSameRuns : Net → List Valuation → List Valuation → Type 0
+AreSameRuns n [] [] = Unit {0}
+AreSameRuns n [] (w ∷ ws) = ⊥
+AreSameRuns n (v ∷ vs) [] = ⊥
+AreSameRuns n (v ∷ vs) (w ∷ ws) = AreSame n v w × AreSameRuns n vs ws
+
+-- a run on each list of inputs that fit
+abbrev pub SomeRun : Net → Type 0
+SomeRun n = (xss : List (List ℕ)) → AllFit n.inputs xss → (vs : List Valuation) × IsRun n xss vs
+
+-- and no other
+abbrev pub OneRun : Net → Type 0
+OneRun n = (xss : List (List ℕ)) (vs ws : List Valuation) → IsRun n xss vs → IsRun n xss ws → AreSameRuns n vs ws
+
+abbrev pub WithinBefore : Net → Option Valuation → Type 0
+WithinBefore n None = Unit {0}
+WithinBefore n (Some p) = IsWithin n p
+
+abbrev pub SameBefore : Net → Option Valuation → Option Valuation → Type 0
+SameBefore n None None = Unit {0}
+SameBefore n None (Some q) = ⊥
+SameBefore n (Some p) None = ⊥
+SameBefore n (Some p) (Some q) = AreSame n p q
+
+-- a cycle after each one whose numbers are within their widths, and a first one
+abbrev pub SomeCycle : Net → Type 0
+SomeCycle n =
+    (before : Option Valuation) (xs : List ℕ) → WithinBefore n before → InputsFit n.inputs xs → (v : Valuation) × IsCycle n before xs v
+
+-- and no other
+abbrev pub OneCycle : Net → Type 0
+OneCycle n =
+    (p q : Option Valuation) (xs : List ℕ) (v w : Valuation) → SameBefore n p q → IsCycle n p xs v → IsCycle n q xs w → AreSame n v w
+
+-- The equations keep every number within its width.
+abbrev pub EquationsKeepWidths : Net → Type 0
+EquationsKeepWidths n =
+    (before : Option Valuation) (xs : List ℕ) (v : Valuation) → WithinBefore n before → InputsFit n.inputs xs → Begins n before v
+    → InputsAre v n.inputs xs → Holds (width_of n) v n.wires → IsWithin n v

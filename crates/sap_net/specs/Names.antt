@@ -1,0 +1,55 @@
+-- What the module subset takes as a name, and lists of names.
+use Rattle.std.specs.Prelude.{◌≡◌, ℕ, Bool, false, not, ◌||◌, ◌&&◌, ◌==◌, List, [], ◌∷◌, codes}
+use Rattle.std.specs.Char.{is_ascii_alphabetic, is_ascii_alphanumeric}
+use Rattle.std.specs.List.{list_all, list_any}
+use Rattle.std.specs.Str.{bytes_eq}
+use Rattle.sap_maps.specs.Maps.{Name}
+
+-- a letter or `_`
+abbrev pub is_initial : ℕ → Bool
+is_initial c = is_ascii_alphabetic c || c == 95
+
+-- a letter, a digit or `_`
+abbrev pub is_inner : ℕ → Bool
+is_inner c = is_ascii_alphanumeric c || c == 95
+
+-- a letter or `_`, and then letters, digits and `_`
+abbrev pub is_word : List ℕ → Bool
+is_word [] = false
+is_word (c ∷ cs) = is_initial c && list_all is_inner cs
+
+-- the keywords of the module subset
+abbrev pub keywords : List (List ℕ)
+keywords =
+    codes "module"
+    ∷ codes "endmodule"
+    ∷ codes "input"
+    ∷ codes "output"
+    ∷ codes "reg"
+    ∷ codes "wire"
+    ∷ codes "assign"
+    ∷ codes "initial"
+    ∷ codes "always"
+    ∷ codes "posedge"
+    ∷ codes "if"
+    ∷ codes "for"
+    ∷ codes "integer"
+    ∷ codes "clk"
+    ∷ codes "i"
+    ∷ []
+
+abbrev pub is_keyword : List ℕ → Bool
+is_keyword name = list_any (bytes_eq name) keywords
+
+unfoldable pub is_name : List ℕ → Bool
+is_name name = is_word name && not (is_keyword name)
+
+-- the name stands on the list
+abbrev pub is_among : Name → List Name → Bool
+is_among x [] = false
+is_among x (y ∷ ys) = bytes_eq x y || is_among x ys
+
+-- no name stands on the list twice
+abbrev pub AreDistinct : List Name → Type 0
+AreDistinct [] = Unit {0}
+AreDistinct (x ∷ xs) = (is_among x xs ≡ false) × AreDistinct xs

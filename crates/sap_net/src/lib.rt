@@ -1,0 +1,8 @@
+//! Netlists: named wires with one operator each, registers and memories, as the small subset of Verilog has them.
+#![tactic(auto)]
+
+pub mod laws;
+pub mod netlist;
+pub mod parts;
+#[cfg(test)]
+mod tests;
