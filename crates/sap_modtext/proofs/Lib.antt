@@ -1,0 +1,7 @@
+pub mod Bare
+pub mod BareFaults
+pub mod BareNet
+pub mod Good
+pub mod OneFile
+pub mod OneLexing
+pub mod Tokens

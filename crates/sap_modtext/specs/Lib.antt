@@ -1,0 +1,6 @@
+pub mod Faults
+pub mod Grammar
+pub mod Items
+pub mod Lexing
+pub mod Modules
+pub mod Tokens
