@@ -1,0 +1,3 @@
+pub mod PortNames
+pub mod StandsFor
+pub mod Interface
