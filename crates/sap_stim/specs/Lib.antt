@@ -1,0 +1,3 @@
+pub mod Stimulus
+pub mod Rows
+pub mod Examples
