@@ -20,7 +20,7 @@ rank (NoJoin a b) = 7
 rank NoLeast = 8
 rank Memory = 9
 
-cases_memory : (f : LatFault) → (f ≡ Memory) ⊎ (f ≢ Memory)
+pub cases_memory : (f : LatFault) → (f ≡ Memory) ⊎ (f ≢ Memory)
 cases_memory Memory = inl refl
 cases_memory (Count n) = inr (λ e. cc)
 cases_memory (Bad p) = inr (λ e. cc)
@@ -147,7 +147,11 @@ module _ (names : List (List ℕ)) (pairs : List Pair) where
   same_answer Memory g e ne a b = absurd (ne refl)
   same_answer f g e ne a b = absurd (omega arith)
 
-  one_answer : (f g : LatFault) → f ≢ Memory → g ≢ Memory → FirstBroken names pairs f → FirstBroken names pairs g → f ≡ g
+  -- where all rules are kept none is broken
+  pub none_broken : (f : LatFault) → f ≢ Memory → KeepsAll names pairs → ¬ FirstBroken names pairs f
+  none_broken f ne all broken = broken_not_kept f ne broken (all_kept f all)
+
+  pub one_answer : (f g : LatFault) → f ≢ Memory → g ≢ Memory → FirstBroken names pairs f → FirstBroken names pairs g → f ≡ g
   one_answer f g nf ng a b =
       elim (cases_order (rank f) (rank g)) [
         | inl e ↦ same_answer f g e nf a b
@@ -164,11 +168,11 @@ module _ (names : List (List ℕ)) (pairs : List Pair) where
   valid_answer (Err f) refused all =
       elim (cases_memory f) [
         | inl e ↦ e
-        | inr ne ↦ absurd (broken_not_kept f ne refused (all_kept f all))
+        | inr ne ↦ absurd (none_broken f ne all refused)
       ]
 
   pub exact_answer : (r : Result Levels LatFault) → IfOk r (λ l. IsLatticeOf names pairs l) → IfErr r (λ f. FirstBroken names pairs f) → (f : LatFault) → f ≢ Memory → FirstBroken names pairs f → IsErrOf r f ⊎ IsErrOf r Memory
-  exact_answer (Ok l) accepted refused f ne broken = absurd (broken_not_kept f ne broken (all_kept f accepted.kept))
+  exact_answer (Ok l) accepted refused f ne broken = absurd (none_broken f ne accepted.kept broken)
   exact_answer (Err g) accepted refused f ne broken =
       elim (cases_memory g) [
         | inl e ↦ inr (ap Err e)

@@ -1,0 +1,9 @@
+-- A fault of names and pairs as one of a file: want of memory stays want of memory.
+use Rattle.sap_lattice.specs.declared.fault.LatFault.{LatFault}
+use Rattle.sap_lattice.specs.declared.fault.LatFault.TheVariants as rule
+use Rattle.sap_latfile.specs.declared.fault.LatFileFault.{LatFileFault}
+use Rattle.sap_latfile.specs.declared.fault.LatFileFault.TheVariants.{Rule, Memory}
+
+abbrev pub wrapped : LatFault → LatFileFault
+wrapped rule.Memory = Memory
+wrapped fault = Rule fault

@@ -1,0 +1,11 @@
+//! Lattice files: TOML documents with the two keys `levels` and `below`.
+#![tactic(auto)]
+
+pub mod fault;
+mod listing;
+mod read;
+#[cfg(test)]
+mod tests;
+
+pub use fault::LatFileFault;
+pub use read::read_lattice;

@@ -1,0 +1,107 @@
+// The names and the pairs that a document lists.
+
+ghost use Rattle.std.specs.Prelude.{◌≡◌, ℕ, List, Some, IfOk, MatchOption, codes, option_map};
+ghost use Rattle.toml.specs.Data.{as_str};
+ghost use Rattle.toml.specs.View.{view, table_view, items_view, array_view};
+ghost use Rattle.sap_latfile.specs.Document.{texts_of, pair_in, pair_of, pairs_of, array_at, Lists};
+ghost use Rattle.sap_lattice.specs.declared.pair.Pair.{Pair as PairOfNames};
+
+use sap_lattice::{Name, Pair};
+use std::alloc::{AllocError, Global};
+use toml::{Table, Value};
+
+/// The text of a value that is a string.
+fn text_of(alloc: Global, value: &Value) -> Result<Option<Name>, AllocError>
+    ensures { IfOk result (λ name. name ≡ as_str (view value.now)) }
+{
+    match value.as_str() {
+        Some(text) => Ok(Some(Name::new(text.as_bytes().to_vec(alloc)?))),
+        None => Ok(None),
+    }
+}
+
+/// The texts of values that are all strings.
+fn texts_of(alloc: Global, values: &[Value]) -> Result<Option<Vec<Name>>, AllocError>
+    ensures { IfOk result (λ names. option_map (λ v. v.items) names ≡ texts_of (items_view values.now)) }
+{
+    let mut names = Vec::new(alloc);
+    for value in values {
+        match text_of(alloc, value)? {
+            Some(name) => names.push(name)?,
+            None => return Ok(None),
+        }
+    }
+    Ok(Some(names))
+}
+
+/// The pair of a value that is an array of two strings.
+fn pair_of(alloc: Global, value: &Value) -> Result<Option<Pair>, AllocError>
+    ensures { IfOk result (λ pair. pair ≡ pair_of (view value.now)) }
+{
+    match value.as_array() {
+        Some(parts) => pair_in(alloc, parts.as_slice()),
+        None => Ok(None),
+    }
+}
+
+/// The pair of two values that are strings.
+fn pair_in(alloc: Global, parts: &[Value]) -> Result<Option<Pair>, AllocError>
+    ensures { IfOk result (λ pair. pair ≡ pair_in (items_view parts.now)) }
+{
+    if parts.len() != 2 {
+        return Ok(None);
+    }
+    match (text_of(alloc, &parts[0])?, text_of(alloc, &parts[1])?) {
+        (Some(lower), Some(upper)) => Ok(Some(Pair { lower, upper })),
+        _ => Ok(None),
+    }
+}
+
+/// The pairs of values that are all pairs.
+fn pairs_of(alloc: Global, values: &[Value]) -> Result<Option<Vec<Pair>>, AllocError>
+    ensures { IfOk result (λ pairs. option_map (λ v. v.items) pairs ≡ pairs_of (items_view values.now)) }
+{
+    let mut pairs = Vec::new(alloc);
+    for value in values {
+        match pair_of(alloc, value)? {
+            Some(pair) => pairs.push(pair)?,
+            None => return Ok(None),
+        }
+    }
+    Ok(Some(pairs))
+}
+
+/// The array at a key.
+fn array_at<'a>(table: &'a Table, key: &str) -> Option<&'a Vec<Value>>
+    ensures { option_map (λ v. array_view v.now) result ≡ array_at key.now (table_view table.now) }
+{
+    match table.get(key) {
+        Some(value) => value.as_array(),
+        None => None,
+    }
+}
+
+/// The names and the pairs that a document lists.
+pub fn listing(
+    alloc: Global,
+    document: &Table,
+) -> Result<Option<(Vec<Name>, Vec<Pair>)>, AllocError>
+    ensures { IfOk result (λ listed.
+        MatchOption listed
+        ((names : List (List ℕ)) (pairs : List PairOfNames) → ¬ Lists (table_view document.now) names pairs)
+        (λ p. Lists (table_view document.now) p.0.items p.1.items)) }
+{
+    if document.len() != 2 {
+        return Ok(None);
+    }
+    let (Some(levels), Some(below)) = (array_at(document, "levels"), array_at(document, "below"))
+    else {
+        return Ok(None);
+    };
+    let names = texts_of(alloc, levels.as_slice())?;
+    let pairs = pairs_of(alloc, below.as_slice())?;
+    match (names, pairs) {
+        (Some(names), Some(pairs)) => Ok(Some((names, pairs))),
+        _ => Ok(None),
+    }
+}
