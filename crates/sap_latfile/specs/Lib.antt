@@ -1,3 +1,4 @@
 pub mod Document
 pub mod LatticeFile
+pub mod OneLattice
 pub mod Wrapped
