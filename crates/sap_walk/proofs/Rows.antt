@@ -1,0 +1,97 @@
+-- What the rows of a table say of the walk.
+use Rattle.std.proofs.Common.{◌≡◌, ◌≢◌, List, [], ◌∷◌, ◌++◌, Ok, Err, Bool, true, false, refl, sym, ap, ◌∙◌, append_assoc}
+use Rattle.sap_walk.specs.Rows.{push, first_then, firsts}
+use Rattle.sap_walk.specs.Walk.{Next, Take, Skip, Stop, Table, at_token, Move, Unneeded, Refused, chosen, entered, if_empty, Point, settle, at_end, walk, read, steps}
+use Rattle.sap_walk.proofs.Walking.{append_none, after, walk_steps}
+
+pub push_push : {S R : Type 0} (n : Next S R) (σ τ : List S) → push (push n σ) τ ≡ push n (σ ++ τ)
+push_push (Take role ρ) σ τ = ap (λ x. Take role x) (append_assoc ρ σ τ)
+push_push Skip σ τ = refl
+push_push Stop σ τ = refl
+
+pub push_none : {S R : Type 0} (n : Next S R) → push n [] ≡ n
+push_none (Take role ρ) = ap (λ x. Take role x) (append_none ρ)
+push_none Skip = refl
+push_none Stop = refl
+
+pub push_taken : {S R : Type 0} (n : Next S R) (σ : List S) → n ≢ Skip → push n σ ≢ Skip
+push_taken (Take role ρ) σ h e = cc
+push_taken Skip σ h e = h e
+push_taken Stop σ h e = cc
+
+-- where the first symbol is never empty, the others come behind it
+pub push_first : {S R : Type 0} (n : Next S R) (σ : List S) (m : Next S R) → n ≢ Skip → push n σ ≡ first_then n σ m
+push_first (Take role ρ) σ m h = refl
+push_first Skip σ m h = absurd (h refl)
+push_first Stop σ m h = refl
+
+pub firsts_append : {S R : Type 0} (row : S → Next S R) (α γ : List S) → firsts row (α ++ γ) ≡ first_then (firsts row α) γ (firsts row γ)
+firsts_append row [] γ = refl
+firsts_append row (s ∷ α) γ = by_row (row s) (firsts_append row α γ) where
+  by_row : (n : Next _ _) → firsts row (α ++ γ) ≡ first_then (firsts row α) γ (firsts row γ)
+      → first_then n (α ++ γ) (firsts row (α ++ γ)) ≡ first_then (first_then n α (firsts row α)) γ (firsts row γ)
+  by_row (Take role σ) e = ap (λ x. Take role x) (sym (append_assoc σ α γ))
+  by_row Skip e = e
+  by_row Stop e = refl
+
+module _ (W : Table) where
+  -- whether each of the symbols may be empty
+  abbrev pub all_empty : List W.Symbol → Bool
+  all_empty [] = true
+  all_empty (s ∷ γ) = if_empty (W.may_be_empty s) (all_empty γ) false
+
+  abbrev as_move : W.Token → W.Past → Next W.Symbol W.Role → Move W.Past W.Symbol W.Limit
+  as_move t past n = chosen n (λ role σ. entered (W.enter role t past) σ) Unneeded Refused
+
+  pub settle_firsts : (t : W.Token) (past : W.Past) (γ : List W.Symbol) → settle W t past γ ≡ as_move t past (firsts (λ s. W.next s t) γ)
+  unfolding settle
+  settle_firsts t past [] = refl
+  settle_firsts t past (s ∷ γ) = by_next (W.next s t) (settle_firsts t past γ) where
+    by_next : (n : Next W.Symbol W.Role) → settle W t past γ ≡ as_move t past (firsts (λ s. W.next s t) γ)
+        → chosen n (λ role σ. entered (W.enter role t past) (σ ++ γ)) (settle W t past γ) Refused ≡ as_move t past (first_then n γ (firsts (λ s. W.next s t) γ))
+    by_next (Take role σ) e = refl
+    by_next Skip e = e
+    by_next Stop e = refl
+
+  -- at a token that does with the symbol what it does with the others
+  pub read_as : (s : W.Symbol) (γ : List W.Symbol) (t : W.Token) (ts : List W.Token) (past : W.Past) → W.next s t ≡ firsts (λ x. W.next x t) γ
+      → read W s (record { past = past; left = t ∷ ts }) ≡ steps W γ (record { past = past; left = t ∷ ts })
+  unfolding read walk
+  read_as s γ t ts past e =
+      ap (λ m. after W t ts past m)
+      (settle_firsts t past (s ∷ []) ∙ ap (as_move t past) (alone (W.next s t)) ∙ ap (as_move t past) e ∙ sym (settle_firsts t past γ))
+      ∙ walk_steps W γ (record { past = past; left = t ∷ ts }) where
+        alone : (n : Next W.Symbol W.Role) → first_then n [] Skip ≡ n
+        alone (Take role σ) = ap (λ x. Take role x) (append_none σ)
+        alone Skip = refl
+        alone Stop = refl
+
+  end_of : (past : W.Past) (γ : List W.Symbol)
+      → at_end W past γ ≡ if_empty (all_empty γ) (Ok (record { past = past; left = [] })) (Err (at_token (record { past = past; left = [] })))
+  unfolding at_end
+  end_of past [] = refl
+  end_of past (s ∷ γ) = by_empty (W.may_be_empty s) (end_of past γ) where
+    by_empty : (b : Bool) → at_end W past γ ≡ if_empty (all_empty γ) (Ok (record { past = past; left = [] })) (Err (at_token (record { past = past; left = [] })))
+        → if_empty b (at_end W past γ) (Err (at_token (record { past = past; left = [] })))
+        ≡ if_empty (if_empty b (all_empty γ) false) (Ok (record { past = past; left = [] })) (Err (at_token (record { past = past; left = [] })))
+    by_empty true e = e
+    by_empty false e = refl
+
+  -- at the end of the text
+  pub end_as : (s : W.Symbol) (γ : List W.Symbol) (past : W.Past) → W.may_be_empty s ≡ all_empty γ
+      → read W s (record { past = past; left = [] }) ≡ steps W γ (record { past = past; left = [] })
+  unfolding read walk
+  end_as s γ past e =
+      end_of past (s ∷ []) ∙ ap (λ b. if_empty b (Ok (record { past = past; left = [] })) (Err (at_token (record { past = past; left = [] })))) (alone (W.may_be_empty s) ∙ e)
+      ∙ sym (end_of past γ) ∙ walk_steps W γ (record { past = past; left = [] }) where
+        alone : (b : Bool) → if_empty b true false ≡ b
+        alone true = refl
+        alone false = refl
+
+  -- a symbol that stands for others
+  pub becomes : (s : W.Symbol) (γ : List W.Symbol) → ((t : W.Token) → W.next s t ≡ firsts (λ x. W.next x t) γ) → W.may_be_empty s ≡ all_empty γ
+      → (p : Point W) → read W s p ≡ steps W γ p
+  becomes s γ h e p = by_left p.left p.past where
+    by_left : (ts : List W.Token) (past : W.Past) → read W s (record { past = past; left = ts }) ≡ steps W γ (record { past = past; left = ts })
+    by_left [] past = end_as s γ past e
+    by_left (t ∷ ts) past = read_as s γ t ts past (h t)

@@ -1,0 +1,95 @@
+-- A walk over the tokens of a text, with a stack of what is to come, for any grammar that tells by the next token what it begins.
+use Rattle.std.specs.Prelude.{List, [], ◌∷◌, ◌++◌, Result, Ok, Err, Bool, true, false}
+
+-- What the next token does with the symbol that is to come: it is the first token of it, in this role, and these symbols come behind it; the
+-- symbol is empty here; or the token cannot stand here.
+pub data Next (Symbol Role : Type 0) : Type 0 where
+  Take : Role → List Symbol → Next Symbol Role
+  Skip Stop : Next Symbol Role
+
+-- A grammar as the walk reads it. `Past` is what is kept of the tokens that went by, and `enter` adds to it a token in its role, or says which
+-- limit that token breaks.
+pub record Table : Type 1 where
+  pub Symbol : Type 0
+  pub Role : Type 0
+  pub Token : Type 0
+  pub Past : Type 0
+  pub Limit : Type 0
+  pub next : Symbol → Token → Next Symbol Role
+  pub may_be_empty : Symbol → Bool
+  pub enter : Role → Token → Past → Result Past Limit
+
+-- a place in the text: what is kept of the tokens before it, and the tokens from there on
+pub record Stage (Past Token : Type 0) : Type 0 where
+  pub past : Past
+  pub left : List Token
+
+-- why the walk stops, and where: the token there cannot follow, or the text cannot end there; or the token there breaks a limit
+pub data Halt (S Limit : Type 0) : Type 0 where
+  at_token : S → Halt S Limit
+  at_limit : Limit → S → Halt S Limit
+
+-- what a token does with all that is to come: it is taken, and then this is kept and that is to come; it is not needed; it cannot stand here;
+-- or it breaks a limit
+pub data Move (Past Symbol Limit : Type 0) : Type 0 where
+  Taken : Past → List Symbol → Move Past Symbol Limit
+  Unneeded Refused : Move Past Symbol Limit
+  Breaks : Limit → Move Past Symbol Limit
+
+infixl 10 ◌>>=◌
+abbrev pub ◌>>=◌ : {S E : Type 0} → Result S E → (S → Result S E) → Result S E
+(Ok p) >>= f = f p
+(Err e) >>= f = Err e
+
+abbrev pub entered : {Past Symbol Limit : Type 0} → Result Past Limit → List Symbol → Move Past Symbol Limit
+entered (Ok past) σ = Taken past σ
+entered (Err limit) σ = Breaks limit
+
+abbrev pub chosen : {Symbol Role A : Type 0} → Next Symbol Role → (Role → List Symbol → A) → A → A → A
+chosen (Take role σ) take skip stop = take role σ
+chosen Skip take skip stop = skip
+chosen Stop take skip stop = stop
+
+abbrev pub moved : {Past Symbol Limit A : Type 0} → Move Past Symbol Limit → (Past → List Symbol → A) → A → A → (Limit → A) → A
+moved (Taken past σ) taken unneeded refused breaks = taken past σ
+moved Unneeded taken unneeded refused breaks = unneeded
+moved Refused taken unneeded refused breaks = refused
+moved (Breaks limit) taken unneeded refused breaks = breaks limit
+
+abbrev pub if_empty : {A : Type 0} → Bool → A → A → A
+if_empty true a b = a
+if_empty false a b = b
+
+module _ (W : Table) where
+  abbrev pub Point : Type 0
+  Point = Stage W.Past W.Token
+
+  abbrev pub Outcome : Type 0
+  Outcome = Result Point (Halt Point W.Limit)
+
+  unfoldable pub settle : W.Token → W.Past → List W.Symbol → Move W.Past W.Symbol W.Limit
+  settle t past [] = Unneeded
+  settle t past (s ∷ γ) = chosen (W.next s t) (λ role σ. entered (W.enter role t past) (σ ++ γ)) (settle t past γ) Refused
+
+  unfoldable pub at_end : W.Past → List W.Symbol → Outcome
+  at_end past [] = Ok (record { past = past; left = [] })
+  at_end past (s ∷ γ) = if_empty (W.may_be_empty s) (at_end past γ) (Err (at_token (record { past = past; left = [] })))
+
+  -- reads what is to come, or as far as the tokens follow
+  unfoldable pub walk : List W.Token → W.Past → List W.Symbol → Outcome
+  walk [] past γ = at_end past γ
+  walk (t ∷ ts) past γ =
+      moved (settle t past γ)
+      (λ q σ. walk ts q σ)
+      (Ok (record { past = past; left = t ∷ ts }))
+      (Err (at_token (record { past = past; left = t ∷ ts })))
+      (λ limit. Err (at_limit limit (record { past = past; left = t ∷ ts })))
+
+  -- reads one symbol
+  unfoldable pub read : W.Symbol → Point → Outcome
+  read s p = walk p.left p.past (s ∷ [])
+
+  -- reads symbols, one after another
+  abbrev pub steps : List W.Symbol → Point → Outcome
+  steps [] p = Ok p
+  steps (s ∷ γ) p = read s p >>= steps γ
