@@ -13,7 +13,7 @@ use Rattle.sap_tree.specs.declared.syntax.Expr.{Expr, Row_of-Expr, end_of-Expr, 
 use Rattle.sap_tree.specs.declared.syntax.Expr.TheBlock.{hidden-the_row-Expr-0}
 use Rattle.sap_tree.specs.declared.syntax.Expr.TheVariants as e
 use Rattle.sap_tree.specs.declared.syntax.Simple.{Simple}
-use Rattle.sap_tree.specs.declared.syntax.State.{State, State', Row_of-State, end_of-State, more_of-State, items-the_row-State, items_shown-the_row-State-0, out-State}
+use Rattle.sap_tree.specs.declared.syntax.State.{State, State', Row_of-State, end_of-State, more_of-State, items-the_row-State, items_shown-the_row-State-0, out-State, roll-State, out-roll-State, State-F}
 use Rattle.sap_tree.specs.declared.syntax.State.TheBlock.{shown-the_row-State-0}
 use Rattle.sap_tree.specs.declared.syntax.TagExpr.{TagExpr, Row_of-TagExpr, end_of-TagExpr, more_of-TagExpr, items-the_row-TagExpr, items_hidden-the_row-TagExpr-0}
 use Rattle.sap_tree.specs.declared.syntax.TagExpr.TheBlock.{hidden-the_row-TagExpr-0}
@@ -141,4 +141,10 @@ unfolding state_of out-State shown-the_row-State-0 out
 state_of-out (State' place name kind body shape row) =
     ap (λ xs. Syntax.StateOf place name kind (block_of body) xs) (state_row_of-items row ∙ ap states_of (sym (items_shown-the_row-State-0 shape row)))
 
-pub ruleset views = (expression_of-number, expression_of-sized, expression_of-read, expression_of-cell, expression_of-unary, expression_of-binary, expression_of-choose, expression_of-slice, expression_of-concat, expression_of-zext, tag_of-level, tag_of-tag, tag_of-level_at, tag_of-join, command_of-do, command_of-try, command_of-if, state_of-out)
+pub state_of-roll : (x : State-F State)
+    → state_of (roll-State x) ≡ Syntax.StateOf x.place x.name x.kind (block_of x.body) (states_of x.children.items)
+state_of-roll x =
+    state_of-out (roll-State x)
+    ∙ ap (λ (y : State-F State). Syntax.StateOf y.place y.name y.kind (block_of y.body) (states_of y.children.items)) (out-roll-State x)
+
+pub ruleset views = (expression_of-number, expression_of-sized, expression_of-read, expression_of-cell, expression_of-unary, expression_of-binary, expression_of-choose, expression_of-slice, expression_of-concat, expression_of-zext, tag_of-level, tag_of-tag, tag_of-level_at, tag_of-join, command_of-do, command_of-try, command_of-if, state_of-out, state_of-roll)

@@ -1,13 +1,15 @@
-//! Makes expressions, tag expressions and commands.
+//! Makes expressions, tag expressions, commands and states.
 
 ghost use Rattle.std.specs.Prelude.{◌≡◌, IfOk};
 ghost use Rattle.sap_tree.specs.Spots.{enclosed, first_of, from_place, spot_of};
 ghost use Rattle.sap_tree.specs.Syntax;
-ghost use Rattle.sap_tree.specs.Trees.{expression_of, expressions_of, tag_of, tags_of};
+ghost use Rattle.sap_tree.specs.Trees.{block_of, command_of, else_of, expression_of, expressions_of, simple_of, state_of, states_of, tag_of, tags_of};
 
 use crate::name::{Mention, Name};
 use crate::place::{Place, Spot};
-use crate::syntax::{BinaryOperator, Expr, TagExpr, UnaryOperator};
+use crate::syntax::{
+    BinaryOperator, Block, Cmd, Expr, Kind, Simple, State, TagExpr, UnaryOperator,
+};
 use std::alloc::{AllocError, Global};
 
 impl Expr {
@@ -201,5 +203,43 @@ impl TagExpr {
         ensures { tag_of result ≡ Syntax.Join place (tags_of parts.items) }
     {
         TagExpr::Join(place, parts)
+    }
+}
+
+impl Cmd {
+    #[tactic(auto, using(crate::proofs::Views::views))]
+    pub fn plain(command: Simple) -> Cmd
+        ensures { command_of result ≡ Syntax.Do (simple_of command) }
+    {
+        Cmd::Do(command)
+    }
+
+    #[tactic(auto, using(crate::proofs::Views::views))]
+    pub fn handled(command: Simple, otherwise: Place, handler: Block) -> Cmd
+        ensures { command_of result ≡ Syntax.Try (simple_of command) otherwise (block_of handler) }
+    {
+        Cmd::Try(command, otherwise, handler)
+    }
+
+    #[tactic(auto, using(crate::proofs::Views::views))]
+    pub fn branch(place: Place, condition: Expr, block: Block, other: Option<Block>) -> Cmd
+        ensures { command_of result ≡ Syntax.If place (expression_of condition) (block_of block) (else_of other) }
+    {
+        Cmd::If(place, condition, block, other)
+    }
+}
+
+impl State {
+    #[tactic(auto, using(crate::proofs::Views::views))]
+    pub fn new(place: Place, name: Mention, kind: Kind, body: Block, children: Vec<State>) -> State
+        ensures { state_of result ≡ Syntax.StateOf place name kind (block_of body) (states_of children.items) }
+    {
+        State {
+            place,
+            name,
+            kind,
+            body,
+            children,
+        }
     }
 }
