@@ -1,0 +1,182 @@
+-- What the tokens between two stages of a text within the limits give.
+use Rattle.std.proofs.Common.{◌≡◌, ◌<◌, ◌≤◌, ◌+◌, ◌-◌, ◌^◌, ℕ, zero, suc, List, [], ◌∷◌, length, Option, Some, None, Bool, true, false, cond, not, refl, sym, ap, subst, ◌∙◌, arith}
+use Rattle.std.proofs.lemmas.Bool.Decides.{nat_tests}
+use Rattle.std.specs.Prelude.{nat_le, nat_lt, ◌&&◌}
+use Rattle.std.specs.List.{All}
+use Rattle.sap_parse.specs.Limits.{Counts, tally, breach, breach_of_name, breach_of_role, above, ◌or_else◌}
+use Rattle.sap_parse.specs.Spelled.{HasText, Spells, SpellsSized, decimal, hexadecimal, text_of}
+use Rattle.sap_parse.specs.Stages.{Stage, IsToken}
+use Rattle.sap_parse.specs.declared.limit.Limit.TheVariants as l
+use Rattle.sap_parse.specs.declared.limit.Limit.{Limit}
+use Rattle.sap_parse.specs.declared.limit.Role.TheVariants as r
+use Rattle.sap_parse.specs.declared.limit.Role.{Role}
+use Rattle.sap_parse.specs.declared.token.Kind.TheVariants as k
+use Rattle.sap_parse.specs.declared.token.Kind.{Kind}
+use Rattle.sap_parse.specs.declared.token.Token.{Token}
+use Rattle.sap_tree.specs.Whole.{is_number}
+use Rattle.sap_tree.specs.Words.{is_word, is_keyword, is_name}
+use Rattle.sap_walk.specs.Limits.{first_of}
+
+-- tests
+
+pub all_true : {a b : Bool} → a ≡ true → b ≡ true → (a && b) ≡ true
+all_true e f = cc (e, f)
+
+pub le_true : {a b : ℕ} → a ≤ b → nat_le a b ≡ true
+le_true h = grind (arith, nat_tests)
+
+pub number_true : {n : ℕ} → n < 2 ^ 64 → is_number n ≡ true
+number_true h = grind (arith, nat_tests)
+
+-- names and numbers as the lexer gives them
+
+abbrev pub IsGood : Kind → Type 0
+IsGood (k.Name name) = (is_word name ≡ true) × (is_keyword name ≡ false)
+IsGood (k.Number n) = n < 2 ^ 64
+IsGood (k.Sized width n) = (width < 2 ^ 64) × (n < 2 ^ 64)
+IsGood (k.Word word) = Unit {0}
+IsGood (k.Sign sign) = Unit {0}
+
+abbrev pub AreGood : List Token → Type 0
+AreGood [] = Unit {0}
+AreGood (t ∷ ts) = IsGood t.kind × AreGood ts
+
+sized_good : {width n : ℕ} {text : List ℕ} → SpellsSized width n text → (width < 2 ^ 64) × (n < 2 ^ 64)
+sized_good (decimal front digits e a b) = (a.fits, b.fits)
+sized_good (hexadecimal front digits e a b) = (a.fits, b.fits)
+
+spelled_good : (kind : Kind) (text : List ℕ) → Spells kind text → IsGood kind
+spelled_good (k.Name name) text h = (h.1, h.2)
+spelled_good (k.Number n) text h = h.fits
+spelled_good (k.Sized width n) text h = sized_good h
+spelled_good (k.Word word) text h = tt
+spelled_good (k.Sign sign) text h = tt
+
+pub texts_good : (source : List ℕ) (ts : List Token) → All (HasText source) ts → AreGood ts
+texts_good source [] h = tt
+texts_good source (t ∷ ts) h = (spelled_good t.kind (text_of source t) (h 0 t (omega arith)), texts_good source ts (λ i d e. h (suc i) d (omega arith)))
+
+-- from tokens that are good, and where no limit is broken at the end: none was at the beginning, and this holds
+pub record Between (p q : Stage) (F : Type 0) : Type 0 where
+  pub good : AreGood p.left → AreGood q.left
+  pub back : AreGood p.left → q.past.first ≡ None → (p.past.first ≡ None) × F
+
+infixr 10 ◌then◌
+pub ◌then◌ : {p q r : Stage} {F G : Type 0} → Between p q F → Between q r G → Between p r (F × G)
+a then b = record {
+  good = λ g. b.good (a.good g);
+  back = λ g e. let y = b.back (a.good g) e in let x = a.back g y.0 in (x.0, (x.1, y.1));
+}
+
+pub gives : {p q : Stage} {F G : Type 0} → Between p q F → (F → G) → Between p q G
+gives a f = record { good = a.good; back = λ g e. let x = a.back g e in (x.0, f x.1) }
+
+pub still : {p : Stage} {F : Type 0} → F → Between p p F
+still f = record { good = λ g. g; back = λ g e. (e, f) }
+
+-- single tokens
+
+abbrev pub KindFact : Kind → Type 0
+KindFact (k.Name name) = is_name name ≡ true
+KindFact (k.Number n) = is_number n ≡ true
+KindFact (k.Sized width n) = (is_number width ≡ true) × (is_number n ≡ true)
+KindFact (k.Word word) = Unit {0}
+KindFact (k.Sign sign) = Unit {0}
+
+-- a token that stands in no expression, and begins so many inputs, registers, memories, states and commands
+pub record Plainly (i r m s n : ℕ) (c d : Counts) : Type 0 where
+  pub inputs : d.inputs ≡ c.inputs + i
+  pub registers : d.registers ≡ c.registers + r
+  pub memories : d.memories ≡ c.memories + m
+  pub states : d.states ≡ c.states + s
+  pub commands : d.commands ≡ c.commands + n
+  pub tokens : d.tokens ≡ 0
+  pub brackets : d.brackets ≡ 0
+
+-- a token of an expression
+pub record Inside (c d : Counts) : Type 0 where
+  pub tokens : d.tokens ≡ c.tokens + 1
+  pub room : d.tokens ≤ 256
+  pub states : d.states ≡ c.states
+  pub commands : d.commands ≡ c.commands
+
+abbrev pub RoleFact : Role → Counts → Counts → Type 0
+RoleFact r.Plain c d = Plainly 0 0 0 0 0 c d
+RoleFact r.Input c d = Plainly 1 0 0 0 0 c d × (d.inputs ≤ 64)
+RoleFact r.Register c d = Plainly 0 1 0 0 0 c d × (d.registers ≤ 256)
+RoleFact r.Memory c d = Plainly 0 0 1 0 0 c d × (d.memories ≤ 16)
+RoleFact (r.State depth) c d = Plainly 0 0 0 1 0 c d × (d.states ≤ 256) × (depth ≤ 16)
+RoleFact (r.Command depth) c d = Plainly 0 0 0 0 1 c d × (d.commands ≤ 4096) × (depth ≤ 64)
+RoleFact r.Inner c d = Inside c d × (d.brackets ≡ c.brackets)
+RoleFact r.Opening c d = Inside c d × (d.brackets ≡ c.brackets + 1) × (d.brackets ≤ 64)
+RoleFact r.Closing c d = Inside c d × (d.brackets ≡ c.brackets - 1)
+
+above_none : (most n : ℕ) (limit : Limit) → above most n limit ≡ None → n ≤ most
+above_none most n limit = by_test (nat_lt most n) refl where
+  by_test : (b : Bool) → nat_lt most n ≡ b → cond b (Some limit) None ≡ None → n ≤ most
+  by_test true h e = absurd (let f : ◌≡◌ {A = Option Limit} (Some limit) None = e in cc)
+  by_test false h e = grind (arith, nat_tests)
+
+both_none : (a b : Option Limit) → (a or_else b) ≡ None → (a ≡ None) × (b ≡ None)
+both_none None b e = (refl, e)
+both_none (Some limit) b e = absurd (cc)
+
+first_none : (f : Option (ℕ × Limit)) (n : ℕ) (b : Option Limit) → first_of f n b ≡ None → (f ≡ None) × (b ≡ None)
+first_none None n None e = (refl, refl)
+first_none None n (Some limit) e = absurd (cc)
+first_none (Some x) n b e = absurd (cc)
+
+role_fact : (c : Counts) (role : Role) (t : Token) → breach_of_role c role ≡ None → RoleFact role c (tally c role t)
+role_fact c r.Plain t e = record { inputs = omega arith; registers = omega arith; memories = omega arith; states = omega arith; commands = omega arith; tokens = refl; brackets = refl }
+role_fact c r.Input t e =
+    (record { inputs = refl; registers = omega arith; memories = omega arith; states = omega arith; commands = omega arith; tokens = refl; brackets = refl }, above_none 64 (c.inputs + 1) l.Inputs e)
+role_fact c r.Register t e =
+    (record { inputs = omega arith; registers = refl; memories = omega arith; states = omega arith; commands = omega arith; tokens = refl; brackets = refl }, above_none 256 (c.registers + 1) l.Registers e)
+role_fact c r.Memory t e =
+    (record { inputs = omega arith; registers = omega arith; memories = refl; states = omega arith; commands = omega arith; tokens = refl; brackets = refl }, above_none 16 (c.memories + 1) l.Memories e)
+role_fact c (r.State depth) t e =
+    let b = both_none (above 256 (c.states + 1) l.States) (above 16 depth l.Nesting) e in (
+      record { inputs = omega arith; registers = omega arith; memories = omega arith; states = refl; commands = omega arith; tokens = refl; brackets = refl },
+      above_none 256 (c.states + 1) l.States b.0,
+      above_none 16 depth l.Nesting b.1,
+    )
+role_fact c (r.Command depth) t e =
+    let b = both_none (above 4096 (c.commands + 1) l.Commands) (above 64 depth l.Blocks) e in (
+      record { inputs = omega arith; registers = omega arith; memories = omega arith; states = omega arith; commands = refl; tokens = refl; brackets = refl },
+      above_none 4096 (c.commands + 1) l.Commands b.0,
+      above_none 64 depth l.Blocks b.1,
+    )
+role_fact c r.Inner t e = (record { tokens = refl; room = above_none 256 (c.tokens + 1) l.Expression e; states = refl; commands = refl }, refl)
+role_fact c r.Opening t e =
+    let b = both_none (above 64 (c.brackets + 1) l.Brackets) (above 256 (c.tokens + 1) l.Expression) e in
+    (record { tokens = refl; room = above_none 256 (c.tokens + 1) l.Expression b.1; states = refl; commands = refl }, refl, above_none 64 (c.brackets + 1) l.Brackets b.0)
+role_fact c r.Closing t e = (record { tokens = refl; room = above_none 256 (c.tokens + 1) l.Expression e; states = refl; commands = refl }, refl)
+
+kind_fact : (kind : Kind) → IsGood kind → breach_of_name kind ≡ None → KindFact kind
+unfolding is_name
+kind_fact (k.Name name) g e = all_true (all_true g.0 (ap not g.1)) (le_true (above_none 40 (length name) l.Name e))
+kind_fact (k.Number n) g e = number_true g
+kind_fact (k.Sized width n) g e = (number_true g.0, number_true g.1)
+kind_fact (k.Word word) g e = tt
+kind_fact (k.Sign sign) g e = tt
+
+-- a token that stands between these stages
+pub stands : {p q : Stage} {role : Role} {kind : Kind} → IsToken p role kind q → Between p q (KindFact kind × RoleFact role p.past.counts q.past.counts)
+stands {p} {q} {role} {kind} h = record {
+  good = λ g. (split g).1;
+  back = λ g e. broken (split g).0 (sym (ap (λ x. x.first) h.past) ∙ e);
+} where
+  split : AreGood p.left → IsGood h.token.kind × AreGood q.left
+  split g = subst AreGood h.left g
+
+  broken : IsGood h.token.kind → first_of p.past.first p.past.before (breach p.past.counts role h.token) ≡ None
+      → (p.past.first ≡ None) × (KindFact kind × RoleFact role p.past.counts q.past.counts)
+  broken g e =
+      let f = first_none p.past.first p.past.before (breach p.past.counts role h.token) e in
+      let b = both_none (breach_of_name h.token.kind) (breach_of_role p.past.counts role) f.1 in (
+        f.0,
+        (
+          subst KindFact h.is (kind_fact h.token.kind g b.0),
+          subst (RoleFact role p.past.counts) (sym (ap (λ x. x.counts) h.past)) (role_fact p.past.counts role h.token b.1),
+        ),
+      )

@@ -1,0 +1,273 @@
+-- What the grammar spells in commands, declarations and states, the walk reads.
+use Rattle.std.proofs.Common.{◌≡◌, ◌≢◌, ◌+◌, ℕ, List, [], ◌∷◌, Option, Some, None, Result, Ok, Err, Bool, true, false, refl, sym, ap, subst, ◌∙◌}
+use Rattle.sap_parse.specs.Grammar as g
+use Rattle.sap_parse.specs.Stages.{Stage, IsToken}
+use Rattle.sap_parse.specs.Table as s
+use Rattle.sap_parse.specs.Table.{Symbol, next, design_symbols}
+use Rattle.sap_parse.specs.declared.limit.Role.TheVariants as r
+use Rattle.sap_parse.specs.declared.token.Kind.TheVariants as k
+use Rattle.sap_parse.specs.declared.token.Kind.{Kind}
+use Rattle.sap_parse.specs.declared.token.Sign.TheVariants as j
+use Rattle.sap_parse.specs.declared.token.Word.TheVariants as w
+use Rattle.sap_parse.specs.declared.token.Word.{Word as WordOf}
+use Rattle.sap_tree.specs.Syntax as t
+use Rattle.sap_tree.specs.declared.syntax.Decl.{Decl}
+use Rattle.sap_tree.specs.declared.syntax.Kind.{Kind as KindTree}
+use Rattle.sap_tree.specs.declared.syntax.Numeral.{Numeral}
+use Rattle.sap_tree.specs.declared.syntax.Under.{Under}
+use Rattle.sap_parse.proofs.Complete.{ends_expr, expr_reads, not_kind}
+use Rattle.sap_parse.proofs.Known.{R, Rs, at_kind, at_token_of, first_is, first_kind, kind_in, name_reads, number_reads, sign_reads, skipped, stands_for, word_reads}
+use Rattle.sap_walk.specs.Walk.{Next, Take, Skip, Stop}
+use Rattle.sap_walk.proofs.Walking.{bind_ok}
+
+-- tag expressions
+
+skip_texprs : (i : Kind) → i ≢ k.Sign j.Comma → next s.Texprs i ≡ Skip
+skip_texprs (k.Sign j.Comma) ne = absurd (ne refl)
+skip_texprs (k.Sign _) ne = refl
+skip_texprs (k.Word x) ne = refl
+skip_texprs (k.Name x) ne = refl
+skip_texprs (k.Number x) ne = refl
+skip_texprs (k.Sized x n) ne = refl
+
+mutual
+  pub texpr_reads : {p q : Stage} {x : t.TagExpression} → g.Texpr p x q → R s.Texpr p ≡ Ok q
+  texpr_reads (g.level n) = at_token_of s.Texpr (s.Name r.Inner ∷ []) n refl ∙ bind_ok _ _ _ (name_reads n)
+  texpr_reads (g.tag_of word o x z) =
+      at_token_of s.Texpr (s.Word r.Inner w.Tag ∷ s.Sign r.Opening j.OpenParen ∷ s.Expr ∷ s.Sign r.Closing j.CloseParen ∷ []) word refl
+      ∙ bind_ok _ _ _ (word_reads word) ∙ bind_ok _ _ _ (sign_reads o) ∙ bind_ok _ _ _ (expr_reads x (ap ends_expr (first_is z))) ∙ bind_ok _ _ _ (sign_reads z)
+  texpr_reads (g.level_at word o x z) =
+      at_token_of s.Texpr (s.Word r.Inner w.Level ∷ s.Sign r.Opening j.OpenParen ∷ s.Expr ∷ s.Sign r.Closing j.CloseParen ∷ []) word refl
+      ∙ bind_ok _ _ _ (word_reads word) ∙ bind_ok _ _ _ (sign_reads o) ∙ bind_ok _ _ _ (expr_reads x (ap ends_expr (first_is z))) ∙ bind_ok _ _ _ (sign_reads z)
+  texpr_reads (g.join word o x comma y more z) =
+      at_token_of s.Texpr (s.Word r.Inner w.Join ∷ s.Sign r.Opening j.OpenParen ∷ s.Texpr ∷ s.Sign r.Inner j.Comma ∷ s.Texpr ∷ s.Texprs ∷ s.Sign r.Closing j.CloseParen ∷ []) word refl
+      ∙ bind_ok _ _ _ (word_reads word) ∙ bind_ok _ _ _ (sign_reads o) ∙ bind_ok _ _ _ (texpr_reads x) ∙ bind_ok _ _ _ (sign_reads comma) ∙ bind_ok _ _ _ (texpr_reads y)
+      ∙ bind_ok _ _ _ (texprs_read more (λ e. let f = first_is z in absurd (cc))) ∙ bind_ok _ _ _ (sign_reads z)
+
+  pub texprs_read : {p q : Stage} {xs : t.TagExpressions} → g.Texprs p xs q → first_kind q ≢ Some (k.Sign j.Comma) → R s.Texprs p ≡ Ok q
+  texprs_read {p} g.no_tag ne = skipped s.Texprs p refl (λ i e. skip_texprs i (not_kind (k.Sign j.Comma) p ne e))
+  texprs_read (g.tag comma x more) ne =
+      at_token_of s.Texprs (s.Sign r.Inner j.Comma ∷ s.Texpr ∷ s.Texprs ∷ []) comma refl ∙ bind_ok _ _ _ (sign_reads comma) ∙ bind_ok _ _ _ (texpr_reads x) ∙ bind_ok _ _ _ (texprs_read more ne)
+
+-- commands
+
+comma_skips : {p q : Stage} → IsToken p r.Plain (k.Sign j.Comma) q → R s.CellPart p ≡ Ok p
+comma_skips {p} h = skipped s.CellPart p refl (λ i e. subst (λ i. next s.CellPart i ≡ Skip) (same i e) refl) where
+  same : (i : Kind) → first_kind p ≡ Some i → k.Sign j.Comma ≡ i
+  same i e = let f = first_is h in cc
+
+pub simple_reads : {d : ℕ} {p q : Stage} {c : t.SimpleCommand} → g.Simple d p c q → ends_expr (first_kind q) ≡ true → R (s.Simple d) p ≡ Ok q
+simple_reads {d} (g.assign n b x) h =
+    at_token_of (s.Simple d) (s.Name (r.Command d) ∷ s.Target ∷ []) n refl ∙ bind_ok _ _ _ (name_reads n)
+    ∙ bind_ok _ _ _ (at_token_of s.Target (s.Sign r.Plain j.Becomes ∷ s.Expr ∷ []) b refl ∙ bind_ok _ _ _ (sign_reads b) ∙ bind_ok _ _ _ (expr_reads x h))
+simple_reads {d} (g.write n o i z b x) h =
+    at_token_of (s.Simple d) (s.Name (r.Command d) ∷ s.Target ∷ []) n refl ∙ bind_ok _ _ _ (name_reads n)
+    ∙ bind_ok _ _ _ (at_token_of s.Target (s.Sign r.Plain j.OpenBracket ∷ s.Expr ∷ s.Sign r.Plain j.CloseBracket ∷ s.Sign r.Plain j.Becomes ∷ s.Expr ∷ []) o refl
+    ∙ bind_ok _ _ _ (sign_reads o) ∙ bind_ok _ _ _ (expr_reads i (ap ends_expr (first_is z))) ∙ bind_ok _ _ _ (sign_reads z) ∙ bind_ok _ _ _ (sign_reads b) ∙ bind_ok _ _ _ (expr_reads x h))
+simple_reads {d} (g.set_tag word o n comma x z) h =
+    at_token_of (s.Simple d) (s.Word (r.Command d) w.SetTag ∷ s.Sign r.Plain j.OpenParen ∷ s.Name r.Plain ∷ s.CellPart ∷ s.Sign r.Plain j.Comma ∷ s.Texpr ∷ s.Sign r.Plain j.CloseParen ∷ []) word refl
+    ∙ bind_ok _ _ _ (word_reads word) ∙ bind_ok _ _ _ (sign_reads o) ∙ bind_ok _ _ _ (name_reads n) ∙ bind_ok _ _ _ (comma_skips comma) ∙ bind_ok _ _ _ (sign_reads comma)
+    ∙ bind_ok _ _ _ (texpr_reads x) ∙ bind_ok _ _ _ (sign_reads z)
+simple_reads {d} (g.set_cell_tag word o n b i e comma x z) h =
+    at_token_of (s.Simple d) (s.Word (r.Command d) w.SetTag ∷ s.Sign r.Plain j.OpenParen ∷ s.Name r.Plain ∷ s.CellPart ∷ s.Sign r.Plain j.Comma ∷ s.Texpr ∷ s.Sign r.Plain j.CloseParen ∷ []) word refl
+    ∙ bind_ok _ _ _ (word_reads word) ∙ bind_ok _ _ _ (sign_reads o) ∙ bind_ok _ _ _ (name_reads n)
+    ∙ bind_ok _ _ _ (at_token_of s.CellPart (s.Sign r.Plain j.OpenBracket ∷ s.Expr ∷ s.Sign r.Plain j.CloseBracket ∷ []) b refl
+    ∙ bind_ok _ _ _ (sign_reads b) ∙ bind_ok _ _ _ (expr_reads i (ap ends_expr (first_is e))) ∙ bind_ok _ _ _ (sign_reads e))
+    ∙ bind_ok _ _ _ (sign_reads comma) ∙ bind_ok _ _ _ (texpr_reads x) ∙ bind_ok _ _ _ (sign_reads z)
+simple_reads {d} (g.goto word n) h = at_token_of (s.Simple d) (s.Word (r.Command d) w.Goto ∷ s.Name r.Plain ∷ []) word refl ∙ bind_ok _ _ _ (word_reads word) ∙ bind_ok _ _ _ (name_reads n)
+simple_reads {d} (g.fall word) h = at_token_of (s.Simple d) (s.Word (r.Command d) w.Fall ∷ []) word refl ∙ bind_ok _ _ _ (word_reads word)
+
+-- where a list of commands may end
+abbrev pub ends_cmds : Option Kind → Bool
+ends_cmds None = true
+ends_cmds (Some (k.Sign x)) = true
+ends_cmds (Some (k.Word w.State)) = true
+ends_cmds (Some kind) = false
+
+simple_cmd : {d : ℕ} {p q : Stage} {c : t.SimpleCommand} → g.Simple d p c q → R (s.Cmd d) p ≡ Rs (s.Simple d ∷ s.Ending d ∷ []) p
+simple_cmd {d} (g.assign n b x) = at_token_of (s.Cmd d) (s.Simple d ∷ s.Ending d ∷ []) n refl
+simple_cmd {d} (g.write n o i z b x) = at_token_of (s.Cmd d) (s.Simple d ∷ s.Ending d ∷ []) n refl
+simple_cmd {d} (g.set_tag word o n comma x z) = at_token_of (s.Cmd d) (s.Simple d ∷ s.Ending d ∷ []) word refl
+simple_cmd {d} (g.set_cell_tag word o n b i e comma x z) = at_token_of (s.Cmd d) (s.Simple d ∷ s.Ending d ∷ []) word refl
+simple_cmd {d} (g.goto word n) = at_token_of (s.Cmd d) (s.Simple d ∷ s.Ending d ∷ []) word refl
+simple_cmd {d} (g.fall word) = at_token_of (s.Cmd d) (s.Simple d ∷ s.Ending d ∷ []) word refl
+
+simple_cmds : {d : ℕ} {p q : Stage} {c : t.SimpleCommand} → g.Simple d p c q → R (s.Cmds d) p ≡ Rs (s.Cmd d ∷ s.Cmds d ∷ []) p
+simple_cmds {d} (g.assign n b x) = at_token_of (s.Cmds d) (s.Cmd d ∷ s.Cmds d ∷ []) n refl
+simple_cmds {d} (g.write n o i z b x) = at_token_of (s.Cmds d) (s.Cmd d ∷ s.Cmds d ∷ []) n refl
+simple_cmds {d} (g.set_tag word o n comma x z) = at_token_of (s.Cmds d) (s.Cmd d ∷ s.Cmds d ∷ []) word refl
+simple_cmds {d} (g.set_cell_tag word o n b i e comma x z) = at_token_of (s.Cmds d) (s.Cmd d ∷ s.Cmds d ∷ []) word refl
+simple_cmds {d} (g.goto word n) = at_token_of (s.Cmds d) (s.Cmd d ∷ s.Cmds d ∷ []) word refl
+simple_cmds {d} (g.fall word) = at_token_of (s.Cmds d) (s.Cmd d ∷ s.Cmds d ∷ []) word refl
+
+cmd_cmds : {d : ℕ} {p q : Stage} {c : t.Command} → g.Cmd d p c q → R (s.Cmds d) p ≡ Rs (s.Cmd d ∷ s.Cmds d ∷ []) p
+cmd_cmds (g.unhandled c z) = simple_cmds c
+cmd_cmds (g.handled c word h) = simple_cmds c
+cmd_cmds {d} (g.branch word o x z one other) = at_token_of (s.Cmds d) (s.Cmd d ∷ s.Cmds d ∷ []) word refl
+
+pub simple_not_else : {d : ℕ} {p q : Stage} {c : t.SimpleCommand} → g.Simple d p c q → first_kind p ≢ Some (k.Word w.Else)
+simple_not_else (g.assign n b x) e = let f = first_is n in absurd (cc)
+simple_not_else (g.write n o i z b x) e = let f = first_is n in absurd (cc)
+simple_not_else (g.set_tag word o n comma x z) e = let f = first_is word in absurd (cc)
+simple_not_else (g.set_cell_tag word o n b i z comma x c) e = let f = first_is word in absurd (cc)
+simple_not_else (g.goto word n) e = let f = first_is word in absurd (cc)
+simple_not_else (g.fall word) e = let f = first_is word in absurd (cc)
+
+cmd_not_else : {d : ℕ} {p q : Stage} {c : t.Command} → g.Cmd d p c q → first_kind p ≢ Some (k.Word w.Else)
+cmd_not_else (g.unhandled c z) e = simple_not_else c e
+cmd_not_else (g.handled c word h) e = simple_not_else c e
+cmd_not_else (g.branch word o x z one other) e = let f = first_is word in absurd (cc)
+
+ends_not_else : (i : Option Kind) → ends_cmds i ≡ true → i ≢ Some (k.Word w.Else)
+ends_not_else i h e = let z : ends_cmds (Some (k.Word w.Else)) ≡ true = subst (λ x. ends_cmds x ≡ true) e h in cc
+
+pub cmds_not_else : {d : ℕ} {p q : Stage} {cs : t.CommandList} → g.Cmds d p cs q → ends_cmds (first_kind q) ≡ true → first_kind p ≢ Some (k.Word w.Else)
+cmds_not_else {p = p} g.no_cmd h = ends_not_else (first_kind p) h
+cmds_not_else (g.cmd c more) h = cmd_not_else c
+
+skip_cmds : (d : ℕ) (i : Kind) → ends_cmds (Some i) ≡ true → next (s.Cmds d) i ≡ Skip
+skip_cmds d (k.Sign x) h = refl
+skip_cmds d (k.Word w.State) h = refl
+skip_cmds d (k.Word _) h = absurd (cc)
+skip_cmds d (k.Name x) h = absurd (cc)
+skip_cmds d (k.Number x) h = absurd (cc)
+skip_cmds d (k.Sized x n) h = absurd (cc)
+
+skip_else : (d : ℕ) (i : Kind) → i ≢ k.Word w.Else → next (s.Else d) i ≡ Skip
+skip_else d (k.Word w.Else) ne = absurd (ne refl)
+skip_else d (k.Word _) ne = refl
+skip_else d (k.Sign x) ne = refl
+skip_else d (k.Name x) ne = refl
+skip_else d (k.Number x) ne = refl
+skip_else d (k.Sized x n) ne = refl
+
+mutual
+  pub cmd_reads : {d : ℕ} {p q : Stage} {c : t.Command} → g.Cmd d p c q → first_kind q ≢ Some (k.Word w.Else) → R (s.Cmd d) p ≡ Ok q
+  cmd_reads {d} (g.unhandled c z) ne =
+      simple_cmd c ∙ bind_ok _ _ _ (simple_reads c (ap ends_expr (first_is z)))
+      ∙ bind_ok _ _ _ (at_token_of (s.Ending d) (s.Sign r.Plain j.Semicolon ∷ []) z refl ∙ bind_ok _ _ _ (sign_reads z))
+  cmd_reads {d} (g.handled c word h) ne =
+      simple_cmd c ∙ bind_ok _ _ _ (simple_reads c (ap ends_expr (first_is word)))
+      ∙ bind_ok _ _ _ (at_token_of (s.Ending d) (s.Word r.Plain w.Otherwise ∷ s.Block (d + 1) ∷ []) word refl ∙ bind_ok _ _ _ (word_reads word) ∙ bind_ok _ _ _ (block_reads h))
+  cmd_reads {d} (g.branch word o x z one other) ne =
+      at_token_of (s.Cmd d) (s.Word (r.Command d) w.If ∷ s.Sign r.Plain j.OpenParen ∷ s.Expr ∷ s.Sign r.Plain j.CloseParen ∷ s.Block (d + 1) ∷ s.Else (d + 1) ∷ []) word refl
+      ∙ bind_ok _ _ _ (word_reads word) ∙ bind_ok _ _ _ (sign_reads o) ∙ bind_ok _ _ _ (expr_reads x (ap ends_expr (first_is z))) ∙ bind_ok _ _ _ (sign_reads z)
+      ∙ bind_ok _ _ _ (block_reads one) ∙ bind_ok _ _ _ (else_reads other ne)
+
+  pub else_reads : {d : ℕ} {p q : Stage} {x : t.ElseBlock} → g.Else d p x q → first_kind q ≢ Some (k.Word w.Else) → R (s.Else d) p ≡ Ok q
+  else_reads {d} {p} g.no_else ne = skipped (s.Else d) p refl (λ i e. skip_else d i (not_kind (k.Word w.Else) p ne e))
+  else_reads {d} (g.else word x) ne = at_token_of (s.Else d) (s.Word r.Plain w.Else ∷ s.Block d ∷ []) word refl ∙ bind_ok _ _ _ (word_reads word) ∙ bind_ok _ _ _ (block_reads x)
+
+  pub block_reads : {d : ℕ} {p q : Stage} {x : t.CommandBlock} → g.Block d p x q → R (s.Block d) p ≡ Ok q
+  block_reads {d} (g.block o cs z) =
+      at_token_of (s.Block d) (s.Sign r.Plain j.OpenBrace ∷ s.Cmds d ∷ s.Sign r.Plain j.CloseBrace ∷ []) o refl
+      ∙ bind_ok _ _ _ (sign_reads o) ∙ bind_ok _ _ _ (cmds_read cs (ap ends_cmds (first_is z))) ∙ bind_ok _ _ _ (sign_reads z)
+
+  pub cmds_read : {d : ℕ} {p q : Stage} {cs : t.CommandList} → g.Cmds d p cs q → ends_cmds (first_kind q) ≡ true → R (s.Cmds d) p ≡ Ok q
+  cmds_read {d} {p} g.no_cmd h = skipped (s.Cmds d) p refl (λ i e. skip_cmds d i (subst (λ x. ends_cmds x ≡ true) e h))
+  cmds_read (g.cmd c more) h = cmd_cmds c ∙ bind_ok _ _ _ (cmd_reads c (cmds_not_else more h)) ∙ bind_ok _ _ _ (cmds_read more h)
+
+-- kinds and declarations
+
+skip_authority : (i : Kind) → i ≢ k.Word w.Under → next s.Authority i ≡ Skip
+skip_authority (k.Word w.Under) ne = absurd (ne refl)
+skip_authority (k.Word _) ne = refl
+skip_authority (k.Sign x) ne = refl
+skip_authority (k.Name x) ne = refl
+skip_authority (k.Number x) ne = refl
+skip_authority (k.Sized x n) ne = refl
+
+skip_initial : (i : Kind) → i ≢ k.Sign j.Is → next s.Initial i ≡ Skip
+skip_initial (k.Sign j.Is) ne = absurd (ne refl)
+skip_initial (k.Sign _) ne = refl
+skip_initial (k.Word x) ne = refl
+skip_initial (k.Name x) ne = refl
+skip_initial (k.Number x) ne = refl
+skip_initial (k.Sized x n) ne = refl
+
+pub authority_reads : {p q : Stage} {x : Option Under} → g.Authority p x q → first_kind q ≢ Some (k.Word w.Under) → R s.Authority p ≡ Ok q
+authority_reads {p} g.no_authority ne = skipped s.Authority p refl (λ i e. skip_authority i (not_kind (k.Word w.Under) p ne e))
+authority_reads (g.authority word n) ne = at_token_of s.Authority (s.Word r.Plain w.Under ∷ s.Name r.Plain ∷ []) word refl ∙ bind_ok _ _ _ (word_reads word) ∙ bind_ok _ _ _ (name_reads n)
+
+pub kind_reads : {p q : Stage} {x : KindTree} → g.KindOf p x q → first_kind q ≢ Some (k.Word w.Under) → R s.KindOf p ≡ Ok q
+kind_reads (g.dynamic word) ne = at_token_of s.KindOf (s.Word r.Plain w.Dynamic ∷ []) word refl ∙ bind_ok _ _ _ (word_reads word)
+kind_reads (g.enforced word n under) ne =
+    at_token_of s.KindOf (s.Word r.Plain w.Enforced ∷ s.Name r.Plain ∷ s.Authority ∷ []) word refl
+    ∙ bind_ok _ _ _ (word_reads word) ∙ bind_ok _ _ _ (name_reads n) ∙ bind_ok _ _ _ (authority_reads under ne)
+
+pub initial_reads : {p q : Stage} {x : Option Numeral} → g.Initial p x q → first_kind q ≢ Some (k.Sign j.Is) → R s.Initial p ≡ Ok q
+initial_reads {p} g.no_initial ne = skipped s.Initial p refl (λ i e. skip_initial i (not_kind (k.Sign j.Is) p ne e))
+initial_reads (g.initial sign n) ne = at_token_of s.Initial (s.Sign r.Plain j.Is ∷ s.Number r.Plain ∷ []) sign refl ∙ bind_ok _ _ _ (sign_reads sign) ∙ bind_ok _ _ _ (number_reads n)
+
+pub initial_not_under : {p q : Stage} {x : Option Numeral} → g.Initial p x q → first_kind q ≢ Some (k.Word w.Under) → first_kind p ≢ Some (k.Word w.Under)
+initial_not_under g.no_initial ne e = ne e
+initial_not_under (g.initial sign n) ne e = let f = first_is sign in absurd (cc)
+
+pub declaration_reads : {p q : Stage} {x : Decl} → g.Declaration p x q → R s.Declaration p ≡ Ok q
+declaration_reads (g.input word n colon width z) =
+    at_token_of s.Declaration (s.Word r.Input w.Input ∷ s.Name r.Plain ∷ s.Sign r.Plain j.Colon ∷ s.Number r.Plain ∷ s.Sign r.Plain j.Semicolon ∷ []) word refl
+    ∙ bind_ok _ _ _ (word_reads word) ∙ bind_ok _ _ _ (name_reads n) ∙ bind_ok _ _ _ (sign_reads colon) ∙ bind_ok _ _ _ (number_reads width) ∙ bind_ok _ _ _ (sign_reads z)
+declaration_reads (g.register word n colon width kind start z) =
+    at_token_of s.Declaration (s.Word r.Register w.Reg ∷ s.Name r.Plain ∷ s.Sign r.Plain j.Colon ∷ s.Number r.Plain ∷ s.KindOf ∷ s.Initial ∷ s.Sign r.Plain j.Semicolon ∷ []) word refl
+    ∙ bind_ok _ _ _ (word_reads word) ∙ bind_ok _ _ _ (name_reads n) ∙ bind_ok _ _ _ (sign_reads colon) ∙ bind_ok _ _ _ (number_reads width)
+    ∙ bind_ok _ _ _ (kind_reads kind (initial_not_under start (λ e. let f = first_is z in absurd (cc))))
+    ∙ bind_ok _ _ _ (initial_reads start (λ e. let f = first_is z in absurd (cc))) ∙ bind_ok _ _ _ (sign_reads z)
+declaration_reads (g.memory word n colon width o depth c kind z) =
+    at_token_of s.Declaration (s.Word r.Memory w.Mem ∷ s.Name r.Plain ∷ s.Sign r.Plain j.Colon ∷ s.Number r.Plain ∷ s.Sign r.Plain j.OpenBracket ∷ s.Number r.Plain ∷ s.Sign r.Plain j.CloseBracket ∷ s.KindOf ∷ s.Sign r.Plain j.Semicolon ∷ []) word refl
+    ∙ bind_ok _ _ _ (word_reads word) ∙ bind_ok _ _ _ (name_reads n) ∙ bind_ok _ _ _ (sign_reads colon) ∙ bind_ok _ _ _ (number_reads width)
+    ∙ bind_ok _ _ _ (sign_reads o) ∙ bind_ok _ _ _ (number_reads depth) ∙ bind_ok _ _ _ (sign_reads c)
+    ∙ bind_ok _ _ _ (kind_reads kind (λ e. let f = first_is z in absurd (cc))) ∙ bind_ok _ _ _ (sign_reads z)
+
+declaration_more : {p q : Stage} {x : Decl} → g.Declaration p x q → R s.Declarations p ≡ Rs (s.Declaration ∷ s.Declarations ∷ []) p
+declaration_more (g.input word n colon width z) = at_token_of s.Declarations (s.Declaration ∷ s.Declarations ∷ []) word refl
+declaration_more (g.register word n colon width kind start z) = at_token_of s.Declarations (s.Declaration ∷ s.Declarations ∷ []) word refl
+declaration_more (g.memory word n colon width o depth c kind z) = at_token_of s.Declarations (s.Declaration ∷ s.Declarations ∷ []) word refl
+
+state_skips : (x : Symbol) (p : Stage) → s.may_be_empty x ≡ true → next x (k.Word w.State) ≡ Skip → first_kind p ≡ Some (k.Word w.State) → R x p ≡ Ok p
+state_skips x p h row e = skipped x p h (λ i f. subst (λ i. next x i ≡ Skip) (same i f) row) where
+  same : (i : Kind) → first_kind p ≡ Some i → k.Word w.State ≡ i
+  same i f = cc
+
+pub declarations_read : {p q : Stage} {xs : List Decl} → g.Declarations p xs q → first_kind q ≡ Some (k.Word w.State) → R s.Declarations p ≡ Ok q
+declarations_read {p} g.no_declaration e = state_skips s.Declarations p refl refl e
+declarations_read (g.declaration x more) e = declaration_more x ∙ bind_ok _ _ _ (declaration_reads x) ∙ bind_ok _ _ _ (declarations_read more e)
+
+-- states
+
+pub state_first : {d : ℕ} {p q : Stage} {x : t.StateTree} → g.State d p x q → first_kind p ≡ Some (k.Word w.State)
+state_first (g.state word n kind o cs children z) = first_is word
+
+pub states_end_cmds : {d : ℕ} {p q : Stage} {xs : t.StateList} → g.States d p xs q → ends_cmds (first_kind q) ≡ true → ends_cmds (first_kind p) ≡ true
+states_end_cmds g.no_state h = h
+states_end_cmds (g.and_state x more) h = ap ends_cmds (state_first x)
+
+skip_states : (d : ℕ) (i : Kind) → i ≢ k.Word w.State → next (s.States d) i ≡ Skip
+skip_states d (k.Word w.State) ne = absurd (ne refl)
+skip_states d (k.Word _) ne = refl
+skip_states d (k.Sign x) ne = refl
+skip_states d (k.Name x) ne = refl
+skip_states d (k.Number x) ne = refl
+skip_states d (k.Sized x n) ne = refl
+
+mutual
+  pub state_reads : {d : ℕ} {p q : Stage} {x : t.StateTree} → g.State d p x q → R (s.State d) p ≡ Ok q
+  state_reads {d} (g.state word n kind o cs children z) =
+      at_token_of (s.State d) (s.Word (r.State d) w.State ∷ s.Name r.Plain ∷ s.KindOf ∷ s.Sign r.Plain j.OpenBrace ∷ s.Cmds 1 ∷ s.States (d + 1) ∷ s.Sign r.Plain j.CloseBrace ∷ []) word refl
+      ∙ bind_ok _ _ _ (word_reads word) ∙ bind_ok _ _ _ (name_reads n) ∙ bind_ok _ _ _ (kind_reads kind (λ e. let f = first_is o in absurd (cc))) ∙ bind_ok _ _ _ (sign_reads o)
+      ∙ bind_ok _ _ _ (cmds_read cs (states_end_cmds children (ap ends_cmds (first_is z))))
+      ∙ bind_ok _ _ _ (states_read children (λ e. let f = first_is z in absurd (cc))) ∙ bind_ok _ _ _ (sign_reads z)
+
+  pub states_read : {d : ℕ} {p q : Stage} {xs : t.StateList} → g.States d p xs q → first_kind q ≢ Some (k.Word w.State) → R (s.States d) p ≡ Ok q
+  states_read {d} {p} g.no_state ne = skipped (s.States d) p refl (λ i e. skip_states d i (not_kind (k.Word w.State) p ne e))
+  states_read {d} {p} (g.and_state x more) ne =
+      at_kind (s.States d) (s.State d ∷ s.States d ∷ []) (k.Word w.State) p (state_first x) refl ∙ bind_ok _ _ _ (state_reads x) ∙ bind_ok _ _ _ (states_read more ne)
+
+last_states_read : {p q : Stage} {xs : t.StateList} → g.States 1 p xs q → q.left ≡ [] → R s.LastStates p ≡ Ok q
+last_states_read {p} g.no_state e = skipped s.LastStates p refl (λ i f. let z : None ≡ Some i = sym (ap kind_in e) ∙ f in absurd (cc))
+last_states_read {p} (g.and_state x more) e =
+    at_kind s.LastStates (s.State 1 ∷ s.LastStates ∷ []) (k.Word w.State) p (state_first x) refl ∙ bind_ok _ _ _ (state_reads x) ∙ bind_ok _ _ _ (last_states_read more e)
+
+-- a whole design
+pub design_reads : {p q : Stage} {x : t.DesignTree} → g.Design p x q → q.left ≡ [] → R s.Design p ≡ Ok q
+design_reads {p} (g.design ds x more) e =
+    stands_for s.Design design_symbols (λ i. refl) refl p ∙ bind_ok _ _ _ (declarations_read ds (state_first x)) ∙ bind_ok _ _ _ (state_reads x) ∙ bind_ok _ _ _ (last_states_read more e)

@@ -1,0 +1,161 @@
+-- What the walk reads where the first token is known, or where it is known that a symbol is read.
+use Rattle.std.proofs.Common.{◌≡◌, ◌≢◌, ◌+◌, ℕ, List, [], ◌∷◌, ◌++◌, Option, Some, None, Result, Ok, Err, Bool, true, false, refl, sym, ap, subst, ◌∙◌, arith, eqb}
+use Rattle.sap_parse.specs.Limits.{Counts, tally, breach}
+use Rattle.sap_parse.specs.Reading.{Enter, Outcome, leniently, read_by, steps_by, table}
+use Rattle.sap_parse.specs.Stages.{Stage, IsToken}
+use Rattle.sap_parse.specs.Table as s
+use Rattle.sap_parse.specs.Table.{Symbol, Row, may_be_empty, next}
+use Rattle.sap_parse.specs.declared.limit.Limit.{Limit}
+use Rattle.sap_parse.specs.declared.limit.Role.{Role}
+use Rattle.sap_parse.specs.declared.token.Kind.TheVariants as k
+use Rattle.sap_parse.specs.declared.token.Kind.{Kind}
+use Rattle.sap_parse.specs.declared.token.Sign.{Sign as SignOf}
+use Rattle.sap_parse.specs.declared.token.Token.{Token}
+use Rattle.sap_parse.specs.declared.token.Word.{Word as WordOf}
+use Rattle.sap_walk.specs.Limits.{Past, passed}
+use Rattle.sap_walk.specs.Rows.{push, optional, ◌or◌, firsts, first_then}
+use Rattle.sap_walk.specs.Walk.{Next, Take, Skip, Stop, at_token, ◌>>=◌, steps}
+use Rattle.sap_walk.proofs.Rows.{all_empty, becomes, end_as, push_first, read_as}
+use Rattle.sap_walk.proofs.Walking.{bind_bind, bind_same, read_empty, read_skip, read_stop, read_end, read_take}
+
+-- the kind of the first token that is left
+abbrev pub kind_in : List Token → Option Kind
+kind_in [] = None
+kind_in (t ∷ ts) = Some t.kind
+
+abbrev pub first_kind : Stage → Option Kind
+first_kind p = kind_in p.left
+
+pub first_is : {p q : Stage} {role : Role} {kind : Kind} → IsToken p role kind q → first_kind p ≡ Some kind
+first_is h = ap kind_in h.left ∙ ap (λ x. Some x) h.is
+
+-- a token that stands here, in any role
+pub stands_here : (p : Stage) (role : Role) (kind : Kind) → first_kind p ≡ Some kind → (q : Stage) × IsToken p role kind q
+stands_here p role kind e = by_left p.left refl where
+  by_left : (left : List Token) → p.left ≡ left → (q : Stage) × IsToken p role kind q
+  by_left [] none = absurd (let z : None ≡ Some kind = sym (ap kind_in none) ∙ e in cc)
+  by_left (t ∷ ts) some =
+      (record { past = passed tally breach role t p.past; left = ts }, record { token = t; left = some; past = refl; is = let z : Some t.kind ≡ Some kind = sym (ap kind_in some) ∙ e in cc })
+
+-- the walk that goes past each limit
+abbrev pub R : Symbol → Stage → Outcome
+R = read_by leniently
+
+abbrev pub Rs : List Symbol → Stage → Outcome
+Rs = steps_by leniently
+
+steps_are : (σ : List Symbol) (p : Stage) → steps (table leniently) σ p ≡ Rs σ p
+unfolding read_by
+steps_are [] p = refl
+steps_are (x ∷ σ) p = bind_same (R x p) (steps (table leniently) σ) (Rs σ) (steps_are σ)
+
+pub steps_append : (σ τ : List Symbol) (p : Stage) → Rs (σ ++ τ) p ≡ (Rs σ p >>= Rs τ)
+steps_append [] τ p = refl
+steps_append (x ∷ σ) τ p = bind_same (R x p) (Rs (σ ++ τ)) (λ q. Rs σ q >>= Rs τ) (steps_append σ τ) ∙ sym (bind_bind (R x p) (Rs σ) (Rs τ))
+
+-- symbols that stand at the token's kind for others
+
+pub at_kind : (x : Symbol) (σ : List Symbol) (kind : Kind) (p : Stage) → first_kind p ≡ Some kind → next x kind ≡ firsts (λ y. next y kind) σ → R x p ≡ Rs σ p
+unfolding read_by
+at_kind x σ kind p e row = by_left p.left refl where
+  by_left : (left : List Token) → p.left ≡ left → R x p ≡ Rs σ p
+  by_left [] none = absurd (let z : None ≡ Some kind = sym (ap kind_in none) ∙ e in cc)
+  by_left (t ∷ ts) some =
+      let same : t.kind ≡ kind = let z : Some t.kind ≡ Some kind = sym (ap kind_in some) ∙ e in cc in
+      let here : next x t.kind ≡ firsts (λ y. next y t.kind) σ = subst (λ i. next x i ≡ firsts (λ y. next y i) σ) (sym same) row in
+      ap (λ l. R x (record { past = p.past; left = l })) some
+      ∙ read_as (table leniently) x σ t ts p.past here
+      ∙ steps_are σ (record { past = p.past; left = t ∷ ts })
+      ∙ ap (λ l. Rs σ (record { past = p.past; left = l })) (sym some)
+
+pub at_token_of : (x : Symbol) (σ : List Symbol) {p q : Stage} {role : Role} {kind : Kind} → IsToken p role kind q → next x kind ≡ firsts (λ y. next y kind) σ → R x p ≡ Rs σ p
+at_token_of x σ {p} {kind = kind} h row = at_kind x σ kind p (first_is h) row
+
+pub at_none : (x : Symbol) (σ : List Symbol) (p : Stage) → first_kind p ≡ None → may_be_empty x ≡ all_empty (table leniently) σ → R x p ≡ Rs σ p
+unfolding read_by
+at_none x σ p e same = by_left p.left refl where
+  by_left : (left : List Token) → p.left ≡ left → R x p ≡ Rs σ p
+  by_left [] none =
+      ap (λ l. R x (record { past = p.past; left = l })) none ∙ end_as (table leniently) x σ p.past same ∙ steps_are σ (record { past = p.past; left = [] })
+      ∙ ap (λ l. Rs σ (record { past = p.past; left = l })) (sym none)
+  by_left (t ∷ ts) some = absurd (let z : Some t.kind ≡ None = sym (ap kind_in some) ∙ e in cc)
+
+-- symbols that stand for others everywhere
+pub stands_for : (x : Symbol) (σ : List Symbol) → ((i : Kind) → next x i ≡ firsts (λ y. next y i) σ) → may_be_empty x ≡ all_empty (table leniently) σ → (p : Stage) → R x p ≡ Rs σ p
+unfolding read_by
+stands_for x σ row e p = becomes (table leniently) x σ (λ t. row t.kind) e p ∙ steps_are σ p
+
+-- single tokens
+
+token_reads : (x : Symbol) {p q : Stage} {role : Role} {kind : Kind} → IsToken p role kind q → next x kind ≡ Take role [] → R x p ≡ Ok q
+unfolding read_by leniently
+token_reads x {p} {q} {role} {kind} h row =
+    let here : next x h.token.kind ≡ Take role [] = subst (λ i. next x i ≡ Take role []) (sym h.is) row in
+    ap (λ l. R x (record { past = p.past; left = l })) h.left
+    ∙ read_take (table leniently) x h.token q.left p.past role [] (passed tally breach role h.token p.past) here refl
+    ∙ ap (λ past. Ok (record { past = past; left = q.left })) (sym h.past)
+
+same_test : (n : ℕ) → eqb n n ≡ true
+same_test n = grind arith
+
+pub sign_reads : {p q : Stage} {role : Role} {sign : SignOf} → IsToken p role (k.Sign sign) q → R (s.Sign role sign) p ≡ Ok q
+sign_reads {role = role} {sign = sign} h = token_reads (s.Sign role sign) h (ap (s.if_same role) (same_test (s.sign_number sign)))
+
+pub word_reads : {p q : Stage} {role : Role} {word : WordOf} → IsToken p role (k.Word word) q → R (s.Word role word) p ≡ Ok q
+word_reads {role = role} {word = word} h = token_reads (s.Word role word) h (ap (s.if_same role) (same_test (s.word_number word)))
+
+pub name_reads : {p q : Stage} {role : Role} {name : List ℕ} → IsToken p role (k.Name name) q → R (s.Name role) p ≡ Ok q
+name_reads {role = role} h = token_reads (s.Name role) h refl
+
+pub sized_reads : {p q : Stage} {role : Role} {width n : ℕ} → IsToken p role (k.Sized width n) q → R (s.Sized role) p ≡ Ok q
+sized_reads {role = role} h = token_reads (s.Sized role) h refl
+
+pub number_reads : {p q : Stage} {role : Role} {n : ℕ} → IsToken p role (k.Number n) q → R (s.Number role) p ≡ Ok q
+number_reads {role = role} h = token_reads (s.Number role) h refl
+
+-- what is left out
+
+pub skipped : (x : Symbol) (p : Stage) → may_be_empty x ≡ true → ((i : Kind) → first_kind p ≡ Some i → next x i ≡ Skip) → R x p ≡ Ok p
+unfolding read_by
+skipped x p e row = by_left p.left refl where
+  by_left : (left : List Token) → p.left ≡ left → R x p ≡ Ok p
+  by_left [] none = ap (λ l. R x (record { past = p.past; left = l })) none ∙ read_empty (table leniently) x p.past e ∙ ap (λ l. Ok (record { past = p.past; left = l })) (sym none)
+  by_left (t ∷ ts) some =
+      ap (λ l. R x (record { past = p.past; left = l })) some ∙ read_skip (table leniently) x t ts p.past (row t.kind (ap kind_in some)) ∙ ap (λ l. Ok (record { past = p.past; left = l })) (sym some)
+
+-- what is read, and may not be empty, takes the first token
+
+pub record Taken (x : Symbol) (p : Stage) : Type 0 where
+  pub kind : Kind
+  pub here : first_kind p ≡ Some kind
+  pub role : Role
+  pub behind : List Symbol
+  pub row : next x kind ≡ Take role behind
+
+pub takes : (x : Symbol) (p q : Stage) → may_be_empty x ≡ false → ((i : Kind) → next x i ≢ Skip) → R x p ≡ Ok q → Taken x p
+unfolding read_by
+takes x p q e full h = by_left p.left refl where
+  ok_not : {a : Stage} (o : Outcome) → o ≡ Ok q → o ≡ Err (at_token a) → ⊥
+  ok_not o f g = cc
+
+  by_next : (t : Token) (ts : List Token) → p.left ≡ t ∷ ts → (n : Row) → next x t.kind ≡ n → Taken x p
+  by_next t ts some (Take role σ) w = record { kind = t.kind; here = ap kind_in some; role = role; behind = σ; row = w }
+  by_next t ts some Skip w = absurd (full t.kind w)
+  by_next t ts some Stop w = absurd (ok_not (R x p) h (ap (λ l. R x (record { past = p.past; left = l })) some ∙ read_stop (table leniently) x t ts p.past w))
+
+  by_left : (left : List Token) → p.left ≡ left → Taken x p
+  by_left [] none = absurd (ok_not (R x p) h (ap (λ l. R x (record { past = p.past; left = l })) none ∙ read_end (table leniently) x p.past e))
+  by_left (t ∷ ts) some = by_next t ts some (next x t.kind) refl
+
+-- so a repetition, an option or a choice whose first symbol it is goes on with it
+pub goes_with : (x f : Symbol) (σ : List Symbol) (p q : Stage) → may_be_empty f ≡ false → ((i : Kind) → next f i ≢ Skip) → R f p ≡ Ok q
+    → ((i : Kind) (role : Role) (ρ : List Symbol) → next f i ≡ Take role ρ → next x i ≡ push (next f i) σ) → R x p ≡ Rs (f ∷ σ) p
+goes_with x f σ p q e full h row =
+    let t = takes f p q e full h in
+    at_kind x (f ∷ σ) t.kind p t.here (row t.kind t.role t.behind t.row ∙ push_first (next f t.kind) σ (firsts (λ y. next y t.kind) σ) (full t.kind))
+
+pub optional_taken : (n : Row) {role : Role} {ρ : List Symbol} (σ : List Symbol) → n ≡ Take role ρ → optional (push n σ) ≡ push n σ
+optional_taken n σ e = ap (λ m. optional (push m σ)) e ∙ ap (λ m. push m σ) (sym e)
+
+pub or_taken : (n m : Row) {role : Role} {ρ : List Symbol} (σ : List Symbol) → n ≡ Take role ρ → (push n σ) or m ≡ push n σ
+or_taken n m σ e = ap (λ x. (push x σ) or m) e ∙ ap (λ x. push x σ) (sym e)

@@ -1,0 +1,339 @@
+-- What the walk does with a symbol that is a single token.
+use Rattle.std.proofs.Common.{◌≡◌, ◌≢◌, ℕ, List, [], ◌∷◌, Option, Some, None, Result, Ok, Err, Bool, true, false, refl, sym, ap, ◌∙◌, arith}
+use Rattle.std.proofs.lemmas.Bool.Decides.{nat_tests}
+use Rattle.std.specs.Prelude.{◌==◌, if◌then◌else◌, IfErr, IfOk}
+use Rattle.sap_parse.specs.Limits.{breach, tally}
+use Rattle.sap_parse.specs.Reading.{Breaks, Goes, IsBroken, Passes, ahead, ahead_of, front_name, front_number, front_sized, name_in, number_in, read_by, reads, sized_in, strictly, table}
+use Rattle.sap_parse.specs.Stages.{Stage, IsToken}
+use Rattle.sap_parse.specs.Table.{Symbol, Sign, Word, Name, Number, Sized, grammar, next, may_be_empty, sign_number, word_number, if_same}
+use Rattle.sap_parse.specs.declared.cursor.Ahead.TheVariants as a
+use Rattle.sap_parse.specs.declared.cursor.Ahead.{Ahead}
+use Rattle.sap_parse.specs.declared.cursor.Fault.TheVariants as f
+use Rattle.sap_parse.specs.declared.cursor.Fault.{Fault}
+use Rattle.sap_parse.specs.declared.limit.Limit.{Limit}
+use Rattle.sap_parse.specs.declared.limit.Role.{Role}
+use Rattle.sap_parse.specs.declared.token.Kind.TheVariants as k
+use Rattle.sap_parse.specs.declared.token.Kind.{Kind}
+use Rattle.sap_parse.specs.declared.token.Sign.TheVariants as s
+use Rattle.sap_parse.specs.declared.token.Sign.{Sign as SignOf}
+use Rattle.sap_parse.specs.declared.token.Token.{Token}
+use Rattle.sap_parse.specs.declared.token.Word.TheVariants as w
+use Rattle.sap_parse.specs.declared.token.Word.{Word as WordOf}
+use Rattle.sap_walk.specs.Limits.{passed, unless_broken}
+use Rattle.sap_walk.specs.Walk.{Take, Stop, at_token, at_limit}
+use Rattle.sap_walk.proofs.Walking.{read_take, read_break, read_stop, read_end}
+
+-- one token is all that s is
+taken : (s : Symbol) (p : Stage) (role : Role) (t : Token) (q : Stage) → next s t.kind ≡ Take role [] → Passes p role t q → reads s p ≡ Ok q
+unfolding read_by strictly
+taken s p role t q h passes =
+    let entered : unless_broken (breach p.past.counts role t) (passed tally breach role t p.past) ≡ Ok q.past
+    = ap (λ b. unless_broken b (passed tally breach role t p.past)) passes.free ∙ ap (λ past. Ok past) (sym passes.past) in
+    ap (λ left. reads s (record { past = p.past; left = left })) passes.left ∙ read_take (table strictly) s t q.left p.past role [] q.past h entered
+
+broken : (s : Symbol) (p : Stage) (role : Role) (limit : Limit) → (b : Breaks p role limit) → next s b.token.kind ≡ Take role [] → reads s p ≡ Err (at_limit limit p)
+unfolding read_by strictly
+broken s p role limit b h =
+    ap (λ left. reads s (record { past = p.past; left = left })) b.left
+    ∙ read_break (table strictly) s b.token b.rest p.past role [] limit h (ap (λ x. unless_broken x (passed tally breach role b.token p.past)) b.broken)
+    ∙ ap (λ left. Err (at_limit limit (record { past = p.past; left = left }))) (sym b.left)
+
+refused : (s : Symbol) (p : Stage) → may_be_empty s ≡ false → ((t : Token) (ts : List Token) → p.left ≡ t ∷ ts → next s t.kind ≡ Stop) → reads s p ≡ Err (at_token p)
+unfolding read_by strictly
+refused s p full h = by_left p.left refl where
+  by_left : (left : List Token) → p.left ≡ left → reads s p ≡ Err (at_token p)
+  by_left [] e = ap (λ l. reads s (record { past = p.past; left = l })) e ∙ read_end (table strictly) s p.past full ∙ ap (λ l. Err (at_token (record { past = p.past; left = l }))) (sym e)
+  by_left (t ∷ ts) e =
+      ap (λ l. reads s (record { past = p.past; left = l })) e ∙ read_stop (table strictly) s t ts p.past (h t ts e) ∙ ap (λ l. Err (at_token (record { past = p.past; left = l }))) (sym e)
+
+pub same_number : (n : ℕ) → (n == n) ≡ true
+same_number n = grind (arith, nat_tests)
+
+pub sign_by : ℕ → SignOf
+sign_by n = if n == 0 then s.Becomes else (if n == 1 then s.Equal else (if n == 2 then s.NotEqual else (if n == 3 then s.LessOrEqual else (if n == 4 then s.ShiftLeft else (if n == 5 then s.ShiftRight else (if n == 6 then s.OpenParen else (if n == 7 then s.CloseParen else (if n == 8 then s.OpenBrace else (if n == 9 then s.CloseBrace else (if n == 10 then s.OpenBracket else (if n == 11 then s.CloseBracket else (if n == 12 then s.Colon else (if n == 13 then s.Semicolon else (if n == 14 then s.Comma else (if n == 15 then s.Question else (if n == 16 then s.Is else (if n == 17 then s.Less else (if n == 18 then s.Plus else (if n == 19 then s.Minus else (if n == 20 then s.Star else (if n == 21 then s.Ampersand else (if n == 22 then s.Bar else (if n == 23 then s.Caret else (s.Tilde))))))))))))))))))))))))
+
+pub sign_back : (x : SignOf) → sign_by (sign_number x) ≡ x
+unfolding sign_by
+sign_back s.Becomes = refl
+sign_back s.Equal = refl
+sign_back s.NotEqual = refl
+sign_back s.LessOrEqual = refl
+sign_back s.ShiftLeft = refl
+sign_back s.ShiftRight = refl
+sign_back s.OpenParen = refl
+sign_back s.CloseParen = refl
+sign_back s.OpenBrace = refl
+sign_back s.CloseBrace = refl
+sign_back s.OpenBracket = refl
+sign_back s.CloseBracket = refl
+sign_back s.Colon = refl
+sign_back s.Semicolon = refl
+sign_back s.Comma = refl
+sign_back s.Question = refl
+sign_back s.Is = refl
+sign_back s.Less = refl
+sign_back s.Plus = refl
+sign_back s.Minus = refl
+sign_back s.Star = refl
+sign_back s.Ampersand = refl
+sign_back s.Bar = refl
+sign_back s.Caret = refl
+sign_back s.Tilde = refl
+
+signs_apart : (x y : SignOf) → x ≢ y → (sign_number x == sign_number y) ≡ false
+signs_apart x y ne = by_test (sign_number x == sign_number y) refl where
+  by_test : (b : Bool) → (sign_number x == sign_number y) ≡ b → b ≡ false
+  by_test true e = (let same : sign_number x ≡ sign_number y = grind (arith, nat_tests) in absurd (ne (sym (sign_back x) ∙ ap sign_by same ∙ sign_back y)))
+  by_test false e = refl
+
+word_by : ℕ → WordOf
+word_by n = if n == 0 then w.Input else (if n == 1 then w.Reg else (if n == 2 then w.Mem else (if n == 3 then w.State else (if n == 4 then w.Dynamic else (if n == 5 then w.Enforced else (if n == 6 then w.Under else (if n == 7 then w.If else (if n == 8 then w.Else else (if n == 9 then w.Goto else (if n == 10 then w.Fall else (if n == 11 then w.SetTag else (if n == 12 then w.Otherwise else (if n == 13 then w.Tag else (if n == 14 then w.Level else (if n == 15 then w.Join else (w.Zext))))))))))))))))
+
+word_back : (x : WordOf) → word_by (word_number x) ≡ x
+unfolding word_by
+word_back w.Input = refl
+word_back w.Reg = refl
+word_back w.Mem = refl
+word_back w.State = refl
+word_back w.Dynamic = refl
+word_back w.Enforced = refl
+word_back w.Under = refl
+word_back w.If = refl
+word_back w.Else = refl
+word_back w.Goto = refl
+word_back w.Fall = refl
+word_back w.SetTag = refl
+word_back w.Otherwise = refl
+word_back w.Tag = refl
+word_back w.Level = refl
+word_back w.Join = refl
+word_back w.Zext = refl
+
+words_apart : (x y : WordOf) → x ≢ y → (word_number x == word_number y) ≡ false
+words_apart x y ne = by_test (word_number x == word_number y) refl where
+  by_test : (b : Bool) → (word_number x == word_number y) ≡ b → b ≡ false
+  by_test true e = (let same : word_number x ≡ word_number y = grind (arith, nat_tests) in absurd (ne (sym (word_back x) ∙ ap word_by same ∙ word_back y)))
+  by_test false e = refl
+
+-- what stands at the front
+
+pub kind_ahead : (i : Kind) (j : SignOf) → ahead_of i ≡ a.Sign j → i ≡ k.Sign j
+kind_ahead (k.Sign i) j e = cc
+kind_ahead (k.Word i) j e = absurd (cc)
+kind_ahead (k.Name i) j e = absurd (cc)
+kind_ahead (k.Number i) j e = absurd (cc)
+kind_ahead (k.Sized i n) j e = absurd (cc)
+
+pub word_kind_ahead : (i : Kind) (j : WordOf) → ahead_of i ≡ a.Word j → i ≡ k.Word j
+word_kind_ahead (k.Word i) j e = cc
+word_kind_ahead (k.Sign i) j e = absurd (cc)
+word_kind_ahead (k.Name i) j e = absurd (cc)
+word_kind_ahead (k.Number i) j e = absurd (cc)
+word_kind_ahead (k.Sized i n) j e = absurd (cc)
+
+number_kind : (i : Kind) (n : ℕ) → number_in i ≡ Some n → i ≡ k.Number n
+number_kind (k.Number i) n e = cc
+number_kind (k.Word i) n e = absurd (cc)
+number_kind (k.Sign i) n e = absurd (cc)
+number_kind (k.Name i) n e = absurd (cc)
+number_kind (k.Sized i m) n e = absurd (cc)
+
+name_kind : (i : Kind) (n : List ℕ) → name_in i ≡ Some n → i ≡ k.Name n
+name_kind (k.Name i) n e = cc
+name_kind (k.Word i) n e = absurd (cc)
+name_kind (k.Sign i) n e = absurd (cc)
+name_kind (k.Number i) n e = absurd (cc)
+name_kind (k.Sized i m) n e = absurd (cc)
+
+sized_kind : (i : Kind) (v : ℕ × ℕ) → sized_in i ≡ Some v → i ≡ k.Sized v.0 v.1
+sized_kind (k.Sized i m) v e = (let same : (i, m) ≡ v = cc in ap (λ (x : ℕ × ℕ). k.Sized x.0 x.1) same)
+sized_kind (k.Word i) v e = absurd (cc)
+sized_kind (k.Sign i) v e = absurd (cc)
+sized_kind (k.Name i) v e = absurd (cc)
+sized_kind (k.Number i) v e = absurd (cc)
+
+pub ahead_front : {left : List Token} {x : Ahead} (t : Token) (ts : List Token) → ahead left ≡ x → left ≡ t ∷ ts → ahead_of t.kind ≡ x
+unfolding ahead
+ahead_front t ts e h = sym (ap ahead h) ∙ e
+
+number_front : {left : List Token} {x : Option ℕ} (t : Token) (ts : List Token) → front_number left ≡ x → left ≡ t ∷ ts → number_in t.kind ≡ x
+unfolding front_number
+number_front t ts e h = sym (ap front_number h) ∙ e
+
+name_front : {left : List Token} {x : Option (List ℕ)} (t : Token) (ts : List Token) → front_name left ≡ x → left ≡ t ∷ ts → name_in t.kind ≡ x
+unfolding front_name
+name_front t ts e h = sym (ap front_name h) ∙ e
+
+sized_front : {left : List Token} {x : Option (ℕ × ℕ)} (t : Token) (ts : List Token) → front_sized left ≡ x → left ≡ t ∷ ts → sized_in t.kind ≡ x
+unfolding front_sized
+sized_front t ts e h = sym (ap front_sized h) ∙ e
+
+token_is : {p q : Stage} {role : Role} {t : Token} {kind : Kind} → Passes p role t q → t.kind ≡ kind → IsToken p role kind q
+token_is {t = t} passes e = record { token = t; left = passes.left; past = passes.past; is = e }
+
+-- signs
+
+pub next_sign : (role : Role) (j : SignOf) (i : Kind) → i ≡ k.Sign j → next (Sign role j) i ≡ Take role []
+next_sign role j i e = ap (next (Sign role j)) e ∙ ap (if_same role) (same_number (sign_number j))
+
+pub next_not_sign : (role : Role) (j : SignOf) (i : Kind) → ahead_of i ≢ a.Sign j → next (Sign role j) i ≡ Stop
+next_not_sign role j (k.Sign i) ne = ap (if_same role) (signs_apart i j (λ e. ne (ap a.Sign e)))
+next_not_sign role j (k.Word i) ne = refl
+next_not_sign role j (k.Name i) ne = refl
+next_not_sign role j (k.Number i) ne = refl
+next_not_sign role j (k.Sized i n) ne = refl
+
+pub sign_is : (p q : Stage) (role : Role) (j : SignOf) (t : Token) → ahead p.left ≡ a.Sign j → Passes p role t q → IsToken p role (k.Sign j) q
+sign_is p q role j t e passes = token_is passes (kind_ahead t.kind j (ahead_front t q.left e passes.left))
+
+pub sign_read : (p q : Stage) (role : Role) (j : SignOf) (t : Token) → ahead p.left ≡ a.Sign j → Passes p role t q → reads (Sign role j) p ≡ Ok q
+sign_read p q role j t e passes = taken (Sign role j) p role t q (next_sign role j t.kind (kind_ahead t.kind j (ahead_front t q.left e passes.left))) passes
+
+pub sign_broken : (p : Stage) (role : Role) (j : SignOf) (limit : Limit) → ahead p.left ≡ a.Sign j → Breaks p role limit → reads (Sign role j) p ≡ Err (at_limit limit p)
+sign_broken p role j limit e b = broken (Sign role j) p role limit b (next_sign role j b.token.kind (kind_ahead b.token.kind j (ahead_front b.token b.rest e b.left)))
+
+pub ahead_back : {left : List Token} {x : Ahead} (t : Token) (ts : List Token) → ahead_of t.kind ≡ x → left ≡ t ∷ ts → ahead left ≡ x
+unfolding ahead
+ahead_back t ts h e = ap ahead e ∙ h
+
+pub sign_refused : (p : Stage) (role : Role) (j : SignOf) → ahead p.left ≢ a.Sign j → reads (Sign role j) p ≡ Err (at_token p)
+sign_refused p role j ne = refused (Sign role j) p refl (λ t ts e. next_not_sign role j t.kind (λ h. ne (ahead_back t ts h e)))
+
+pub ruleset signs = (sign_is, sign_read, sign_broken, sign_refused)
+
+-- words
+
+pub next_word : (role : Role) (j : WordOf) (i : Kind) → i ≡ k.Word j → next (Word role j) i ≡ Take role []
+next_word role j i e = ap (next (Word role j)) e ∙ ap (if_same role) (same_number (word_number j))
+
+pub next_not_word : (role : Role) (j : WordOf) (i : Kind) → ahead_of i ≢ a.Word j → next (Word role j) i ≡ Stop
+next_not_word role j (k.Word i) ne = ap (if_same role) (words_apart i j (λ e. ne (ap a.Word e)))
+next_not_word role j (k.Sign i) ne = refl
+next_not_word role j (k.Name i) ne = refl
+next_not_word role j (k.Number i) ne = refl
+next_not_word role j (k.Sized i n) ne = refl
+
+pub word_is : (p q : Stage) (role : Role) (j : WordOf) (t : Token) → ahead p.left ≡ a.Word j → Passes p role t q → IsToken p role (k.Word j) q
+word_is p q role j t e passes = token_is passes (word_kind_ahead t.kind j (ahead_front t q.left e passes.left))
+
+pub word_read : (p q : Stage) (role : Role) (j : WordOf) (t : Token) → ahead p.left ≡ a.Word j → Passes p role t q → reads (Word role j) p ≡ Ok q
+word_read p q role j t e passes = taken (Word role j) p role t q (next_word role j t.kind (word_kind_ahead t.kind j (ahead_front t q.left e passes.left))) passes
+
+pub word_broken : (p : Stage) (role : Role) (j : WordOf) (limit : Limit) → ahead p.left ≡ a.Word j → Breaks p role limit → reads (Word role j) p ≡ Err (at_limit limit p)
+word_broken p role j limit e b = broken (Word role j) p role limit b (next_word role j b.token.kind (word_kind_ahead b.token.kind j (ahead_front b.token b.rest e b.left)))
+
+pub word_refused : (p : Stage) (role : Role) (j : WordOf) → ahead p.left ≢ a.Word j → reads (Word role j) p ≡ Err (at_token p)
+word_refused p role j ne = refused (Word role j) p refl (λ t ts e. next_not_word role j t.kind (λ h. ne (ahead_back t ts h e)))
+
+pub ruleset words = (word_is, word_read, word_broken, word_refused)
+
+-- numbers
+
+next_not_number : (role : Role) (i : Kind) → number_in i ≡ None → next (Number role) i ≡ Stop
+next_not_number role (k.Number n) e = absurd (cc)
+next_not_number role (k.Word i) e = refl
+next_not_number role (k.Sign i) e = refl
+next_not_number role (k.Name i) e = refl
+next_not_number role (k.Sized i n) e = refl
+
+pub number_is : (p q : Stage) (role : Role) (n : ℕ) (t : Token) → front_number p.left ≡ Some n → Passes p role t q → IsToken p role (k.Number n) q
+number_is p q role n t e passes = token_is passes (number_kind t.kind n (number_front t q.left e passes.left))
+
+pub number_read : (p q : Stage) (role : Role) (n : ℕ) (t : Token) → front_number p.left ≡ Some n → Passes p role t q → reads (Number role) p ≡ Ok q
+number_read p q role n t e passes = taken (Number role) p role t q (ap (next (Number role)) (number_kind t.kind n (number_front t q.left e passes.left))) passes
+
+pub number_broken : (p : Stage) (role : Role) (n : ℕ) (limit : Limit) → front_number p.left ≡ Some n → Breaks p role limit → reads (Number role) p ≡ Err (at_limit limit p)
+number_broken p role n limit e b = broken (Number role) p role limit b (ap (next (Number role)) (number_kind b.token.kind n (number_front b.token b.rest e b.left)))
+
+pub number_refused : (p : Stage) (role : Role) → front_number p.left ≡ None → reads (Number role) p ≡ Err (at_token p)
+number_refused p role e = refused (Number role) p refl (λ t ts h. next_not_number role t.kind (number_front t ts e h))
+
+pub ruleset numbers = (number_is, number_read, number_broken, number_refused)
+
+-- names
+
+next_not_name : (role : Role) (i : Kind) → name_in i ≡ None → next (Name role) i ≡ Stop
+next_not_name role (k.Name n) e = absurd (cc)
+next_not_name role (k.Word i) e = refl
+next_not_name role (k.Sign i) e = refl
+next_not_name role (k.Number i) e = refl
+next_not_name role (k.Sized i n) e = refl
+
+pub name_is : (p q : Stage) (role : Role) (n : List ℕ) (t : Token) → front_name p.left ≡ Some n → Passes p role t q → IsToken p role (k.Name n) q
+name_is p q role n t e passes = token_is passes (name_kind t.kind n (name_front t q.left e passes.left))
+
+pub name_read : (p q : Stage) (role : Role) (n : List ℕ) (t : Token) → front_name p.left ≡ Some n → Passes p role t q → reads (Name role) p ≡ Ok q
+name_read p q role n t e passes = taken (Name role) p role t q (ap (next (Name role)) (name_kind t.kind n (name_front t q.left e passes.left))) passes
+
+pub name_broken : (p : Stage) (role : Role) (n : List ℕ) (limit : Limit) → front_name p.left ≡ Some n → Breaks p role limit → reads (Name role) p ≡ Err (at_limit limit p)
+name_broken p role n limit e b = broken (Name role) p role limit b (ap (next (Name role)) (name_kind b.token.kind n (name_front b.token b.rest e b.left)))
+
+pub name_refused : (p : Stage) (role : Role) → front_name p.left ≡ None → reads (Name role) p ≡ Err (at_token p)
+name_refused p role e = refused (Name role) p refl (λ t ts h. next_not_name role t.kind (name_front t ts e h))
+
+pub ruleset names = (name_is, name_read, name_broken, name_refused)
+
+-- numbers with a width
+
+next_not_sized : (role : Role) (i : Kind) → sized_in i ≡ None → next (Sized role) i ≡ Stop
+next_not_sized role (k.Sized n m) e = absurd (cc)
+next_not_sized role (k.Word i) e = refl
+next_not_sized role (k.Sign i) e = refl
+next_not_sized role (k.Name i) e = refl
+next_not_sized role (k.Number i) e = refl
+
+pub sized_is : (p q : Stage) (role : Role) (v : ℕ × ℕ) (t : Token) → front_sized p.left ≡ Some v → Passes p role t q → IsToken p role (k.Sized v.0 v.1) q
+sized_is p q role v t e passes = token_is passes (sized_kind t.kind v (sized_front t q.left e passes.left))
+
+pub sized_read : (p q : Stage) (role : Role) (v : ℕ × ℕ) (t : Token) → front_sized p.left ≡ Some v → Passes p role t q → reads (Sized role) p ≡ Ok q
+sized_read p q role v t e passes = taken (Sized role) p role t q (ap (next (Sized role)) (sized_kind t.kind v (sized_front t q.left e passes.left))) passes
+
+pub sized_broken : (p : Stage) (role : Role) (v : ℕ × ℕ) (limit : Limit) → front_sized p.left ≡ Some v → Breaks p role limit → reads (Sized role) p ≡ Err (at_limit limit p)
+sized_broken p role v limit e b = broken (Sized role) p role limit b (ap (next (Sized role)) (sized_kind b.token.kind v (sized_front b.token b.rest e b.left)))
+
+pub sized_refused : (p : Stage) (role : Role) → front_sized p.left ≡ None → reads (Sized role) p ≡ Err (at_token p)
+sized_refused p role e = refused (Sized role) p refl (λ t ts h. next_not_sized role t.kind (sized_front t ts e h))
+
+pub ruleset sizeds = (sized_is, sized_read, sized_broken, sized_refused)
+
+-- whatever passing it answers
+
+pub sign_goes : {A : Type 0} (r : Result A Fault) (old new : Stage) (role : Role) (j : SignOf) → ahead old.left ≡ a.Sign j
+    → IfOk r (λ x. (t : Token) × Passes old role t new) → IfErr r (IsBroken old role new) → Goes (Sign role j) old r new
+sign_goes (Ok x) old new role j e passes breaks = sign_read old new role j passes.0 e passes.1
+sign_goes (Err f.Token) old new role j e passes breaks = absurd breaks
+sign_goes (Err f.Memory) old new role j e passes breaks = absurd breaks
+sign_goes (Err (f.Limit limit)) old new role j e passes breaks = sign_broken old role j limit e breaks.0 ∙ ap (λ p. Err (at_limit limit p)) (sym breaks.1)
+
+pub word_goes : {A : Type 0} (r : Result A Fault) (old new : Stage) (role : Role) (j : WordOf) → ahead old.left ≡ a.Word j
+    → IfOk r (λ x. (t : Token) × Passes old role t new) → IfErr r (IsBroken old role new) → Goes (Word role j) old r new
+word_goes (Ok x) old new role j e passes breaks = word_read old new role j passes.0 e passes.1
+word_goes (Err f.Token) old new role j e passes breaks = absurd breaks
+word_goes (Err f.Memory) old new role j e passes breaks = absurd breaks
+word_goes (Err (f.Limit limit)) old new role j e passes breaks = word_broken old role j limit e breaks.0 ∙ ap (λ p. Err (at_limit limit p)) (sym breaks.1)
+
+pub number_goes : {A : Type 0} (r : Result A Fault) (old new : Stage) (role : Role) (n : ℕ) → front_number old.left ≡ Some n
+    → IfOk r (λ x. (t : Token) × Passes old role t new) → IfErr r (IsBroken old role new) → Goes (Number role) old r new
+number_goes (Ok x) old new role n e passes breaks = number_read old new role n passes.0 e passes.1
+number_goes (Err f.Token) old new role n e passes breaks = absurd breaks
+number_goes (Err f.Memory) old new role n e passes breaks = absurd breaks
+number_goes (Err (f.Limit limit)) old new role n e passes breaks = number_broken old role n limit e breaks.0 ∙ ap (λ p. Err (at_limit limit p)) (sym breaks.1)
+
+pub sized_goes : {A : Type 0} (r : Result A Fault) (old new : Stage) (role : Role) (v : ℕ × ℕ) → front_sized old.left ≡ Some v
+    → IfOk r (λ x. (t : Token) × Passes old role t new) → IfErr r (IsBroken old role new) → Goes (Sized role) old r new
+sized_goes (Ok x) old new role v e passes breaks = sized_read old new role v passes.0 e passes.1
+sized_goes (Err f.Token) old new role v e passes breaks = absurd breaks
+sized_goes (Err f.Memory) old new role v e passes breaks = absurd breaks
+sized_goes (Err (f.Limit limit)) old new role v e passes breaks = sized_broken old role v limit e breaks.0 ∙ ap (λ p. Err (at_limit limit p)) (sym breaks.1)
+
+pub name_goes : {A : Type 0} (r : Result A Fault) (old new : Stage) (role : Role) (n : List ℕ) → front_name old.left ≡ Some n
+    → IfOk r (λ x. (t : Token) × Passes old role t new) → IfErr r (IsBroken old role new) → Goes (Name role) old r new
+name_goes (Ok x) old new role n e passes breaks = name_read old new role n passes.0 e passes.1
+name_goes (Err f.Token) old new role n e passes breaks = absurd breaks
+name_goes (Err f.Memory) old new role n e passes breaks = absurd breaks
+name_goes (Err (f.Limit limit)) old new role n e passes breaks = name_broken old role n limit e breaks.0 ∙ ap (λ p. Err (at_limit limit p)) (sym breaks.1)
+
+pub token_tree : {A : Type 0} (r : Result A Fault) (old new : Stage) (role : Role) (kind : Kind) → ((t : Token) → Passes old role t new → IsToken old role kind new)
+    → IfOk r (λ x. (t : Token) × Passes old role t new) → IfOk r (λ x. IsToken old role kind new)
+token_tree (Ok x) old new role kind h passes = h passes.0 passes.1
+token_tree (Err e) old new role kind h passes = tt

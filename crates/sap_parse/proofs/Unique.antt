@@ -1,0 +1,383 @@
+-- Tokens have at most one tree: expressions.
+use Rattle.std.proofs.Common.{◌≡◌, ◌≢◌, ◌<◌, ◌≤◌, ◌+◌, ℕ, List, [], ◌∷◌, Option, Some, None, Result, Ok, Err, Bool, true, false, refl, sym, ap, subst, ◌∙◌, arith}
+use Rattle.std.specs.Prelude.{nat_lt}
+use Rattle.std.proofs.lemmas.Bool.Decides.{nat_tests}
+use Rattle.sap_parse.specs.Grammar as g
+use Rattle.sap_parse.specs.Grammar.{sign_of, unary_sign_of}
+use Rattle.sap_parse.specs.Limits.{Counts, tally, breach}
+use Rattle.sap_parse.specs.Reading.{Outcome}
+use Rattle.sap_parse.specs.Stages.{Stage, IsToken, IsSign, IsName, IsNumber, here, spot_here}
+use Rattle.sap_parse.specs.Table as s
+use Rattle.sap_parse.specs.Table.{Symbol}
+use Rattle.sap_parse.specs.declared.limit.Limit.{Limit}
+use Rattle.sap_parse.specs.declared.limit.Role.TheVariants as r
+use Rattle.sap_parse.specs.declared.limit.Role.{Role}
+use Rattle.sap_parse.specs.declared.token.Kind.TheVariants as k
+use Rattle.sap_parse.specs.declared.token.Kind.{Kind}
+use Rattle.sap_parse.specs.declared.token.Sign.TheVariants as j
+use Rattle.sap_parse.specs.declared.token.Sign.{Sign as SignOf}
+use Rattle.sap_parse.specs.declared.token.Token.{Token}
+use Rattle.sap_parse.specs.declared.token.Word.TheVariants as w
+use Rattle.sap_tree.specs.Precedence.{precedence, unary_precedence}
+use Rattle.sap_tree.specs.Spots.{first_of, enclosed}
+use Rattle.sap_tree.specs.Syntax as t
+use Rattle.sap_tree.specs.declared.name.Mention.{Mention}
+use Rattle.sap_tree.specs.declared.place.Place.{Place}
+use Rattle.sap_tree.specs.declared.place.Spot.{Spot}
+use Rattle.sap_tree.specs.declared.syntax.BinaryOperator.TheVariants as b
+use Rattle.sap_tree.specs.declared.syntax.BinaryOperator.{BinaryOperator}
+use Rattle.sap_tree.specs.declared.syntax.UnaryOperator.TheVariants as u
+use Rattle.sap_tree.specs.declared.syntax.UnaryOperator.{UnaryOperator}
+use Rattle.sap_parse.proofs.Complete.{ends, ends_expr, expr_bin_ends, no_bracket, no_colon, no_question, bounds_first, bounds_read, bin_reads, expr_reads, others_end, parts_end, parts_read, unary_reads}
+use Rattle.sap_parse.proofs.Known.{R, first_is, first_kind}
+use Rattle.sap_walk.specs.Limits.{Past, passed}
+use Rattle.sap_walk.specs.Walk.{Stage as StageOf}
+
+-- what is read from one stage ends at one stage
+ok_one : {a b : Stage} (o : Outcome) → o ≡ Ok a → o ≡ Ok b → a ≡ b
+ok_one o e f = cc
+
+pub same_rest : (x : Symbol) {p p' q q' : Stage} → p ≡ p' → R x p ≡ Ok q → R x p' ≡ Ok q' → q ≡ q'
+same_rest x {p} e a b = ok_one (R x p) a (ap (λ z. R x z) e ∙ b)
+
+-- one token stands at one stage
+
+tail_of : List Token → List Token
+tail_of [] = []
+tail_of (t ∷ ts) = ts
+
+heads : {x y : Token} {xs ys : List Token} → x ∷ xs ≡ y ∷ ys → x ≡ y
+heads e = cc
+
+tails : {x y : Token} {xs ys : List Token} → x ∷ xs ≡ y ∷ ys → xs ≡ ys
+tails e = cc
+
+pub same_token : {p p' q q' : Stage} {role role' : Role} {i j : Kind} → p ≡ p' → IsToken p role i q → IsToken p' role' j q' → i ≡ j
+same_token e a b = let lists = sym a.left ∙ ap (λ (p : Stage). p.left) e ∙ b.left in sym a.is ∙ ap (λ (t : Token). t.kind) (heads lists) ∙ b.is
+
+pub same_behind : {p p' q q' : Stage} {role : Role} {i j : Kind} → p ≡ p' → IsToken p role i q → IsToken p' role j q' → q ≡ q'
+same_behind {p} {p'} {q} {q'} {role} e a b =
+    let lists = sym a.left ∙ ap (λ (p : Stage). p.left) e ∙ b.left in
+    let token = heads lists in
+    let left : q.left ≡ q'.left = tails lists in
+    let past : q.past ≡ q'.past =
+    a.past ∙ ap (λ t. passed tally breach role t p.past) token ∙ ap (λ (z : Stage). passed tally breach role b.token z.past) e ∙ sym b.past in
+    ap (λ x. stage x q.left) past ∙ ap (λ x. stage q'.past x) left where
+      stage : Past Counts Limit → List Token → Stage
+      stage x ts = record { past = x; left = ts }
+
+pub name_same : {n m : List ℕ} → k.Name n ≡ k.Name m → n ≡ m
+name_same e = cc
+
+pub number_same : {n m : ℕ} → k.Number n ≡ k.Number m → n ≡ m
+number_same e = cc
+
+width_same : {v w n m : ℕ} → k.Sized v n ≡ k.Sized w m → v ≡ w
+width_same e = cc
+
+sized_same : {v w n m : ℕ} → k.Sized v n ≡ k.Sized w m → n ≡ m
+sized_same e = cc
+
+pub sign_same : {x y : SignOf} → k.Sign x ≡ k.Sign y → x ≡ y
+sign_same e = cc
+
+operator_by : SignOf → BinaryOperator
+operator_by j.Bar = b.Or
+operator_by j.Caret = b.Xor
+operator_by j.Ampersand = b.And
+operator_by j.Equal = b.Eq
+operator_by j.NotEqual = b.Ne
+operator_by j.Less = b.Lt
+operator_by j.LessOrEqual = b.Le
+operator_by j.ShiftLeft = b.Shl
+operator_by j.ShiftRight = b.Shr
+operator_by j.Plus = b.Add
+operator_by j.Minus = b.Sub
+operator_by x = b.Mul
+
+operator_back : (o : BinaryOperator) → operator_by (sign_of o) ≡ o
+unfolding operator_by
+operator_back b.Or = refl
+operator_back b.Xor = refl
+operator_back b.And = refl
+operator_back b.Eq = refl
+operator_back b.Ne = refl
+operator_back b.Lt = refl
+operator_back b.Le = refl
+operator_back b.Shl = refl
+operator_back b.Shr = refl
+operator_back b.Add = refl
+operator_back b.Sub = refl
+operator_back b.Mul = refl
+
+operator_same : (o o' : BinaryOperator) → sign_of o ≡ sign_of o' → o ≡ o'
+operator_same o o' e = sym (operator_back o) ∙ ap operator_by e ∙ operator_back o'
+
+unary_by : SignOf → UnaryOperator
+unary_by j.Tilde = u.Not
+unary_by j.Minus = u.Neg
+unary_by j.Ampersand = u.AllOnes
+unary_by j.Bar = u.AnyOne
+unary_by x = u.Odd
+
+unary_back : (o : UnaryOperator) → unary_by (unary_sign_of o) ≡ o
+unfolding unary_by
+unary_back u.Not = refl
+unary_back u.Neg = refl
+unary_back u.AllOnes = refl
+unary_back u.AnyOne = refl
+unary_back u.Odd = refl
+
+unary_same : (o o' : UnaryOperator) → unary_sign_of o ≡ unary_sign_of o' → o ≡ o'
+unary_same o o' e = sym (unary_back o) ∙ ap unary_by e ∙ unary_back o'
+
+-- no operator of the precedence is next where an expression of it ends
+at_own : (o : BinaryOperator) → ends (precedence o) (Some (k.Sign (sign_of o))) ≡ true → ⊥
+at_own b.Or e = cc
+at_own b.Xor e = cc
+at_own b.And e = cc
+at_own b.Eq e = cc
+at_own b.Ne e = cc
+at_own b.Lt e = cc
+at_own b.Le e = cc
+at_own b.Shl e = cc
+at_own b.Shr e = cc
+at_own b.Add e = cc
+at_own b.Sub e = cc
+at_own b.Mul e = cc
+
+not_end : {l : ℕ} {p p' q : Stage} → p ≡ p' → (o : BinaryOperator) → precedence o ≡ l → IsSign p' r.Inner (sign_of o) q → ends l (first_kind p) ≡ true → ⊥
+not_end {l} {p} e o at sign h =
+    let here : ends l (Some (k.Sign (sign_of o))) ≡ true = subst (λ i. ends l i ≡ true) (ap first_kind e ∙ first_is sign) h in
+    at_own o (subst (λ n. ends n (Some (k.Sign (sign_of o))) ≡ true) (sym at) here)
+
+-- the kinds with which operands begin
+abbrev tag : {p q : Stage} {x : t.Expression} → g.Prim p x q → ℕ
+tag (g.number n) = 0
+tag (g.sized n) = 1
+tag (g.read n) = 2
+tag (g.cell n o x z) = 2
+tag (g.parentheses o x z) = 3
+tag (g.concat o x c y more z) = 4
+tag (g.zext word o x c n z) = 5
+
+kind_tag : Option Kind → ℕ
+kind_tag (Some (k.Number n)) = 0
+kind_tag (Some (k.Sized width n)) = 1
+kind_tag (Some (k.Name n)) = 2
+kind_tag (Some (k.Sign j.OpenParen)) = 3
+kind_tag (Some (k.Sign sign)) = 4
+kind_tag i = 5
+
+tag_is : {p q : Stage} {x : t.Expression} (h : g.Prim p x q) → tag h ≡ kind_tag (first_kind p)
+unfolding kind_tag
+tag_is (g.number n) = sym (ap kind_tag (first_is n))
+tag_is (g.sized n) = sym (ap kind_tag (first_is n))
+tag_is (g.read n) = sym (ap kind_tag (first_is n))
+tag_is (g.cell n o x z) = sym (ap kind_tag (first_is n))
+tag_is (g.parentheses o x z) = sym (ap kind_tag (first_is o))
+tag_is (g.concat o x c y more z) = sym (ap kind_tag (first_is o))
+tag_is (g.zext word o x c n z) = sym (ap kind_tag (first_is word))
+
+same_tag : {p p' q q' : Stage} {x y : t.Expression} → p ≡ p' → (a : g.Prim p x q) (b : g.Prim p' y q') → tag a ≡ tag b
+same_tag e a b = tag_is a ∙ ap (λ z. kind_tag (first_kind z)) e ∙ sym (tag_is b)
+
+-- operands begin with no unary operator
+unary_kind : Option Kind → Bool
+unary_kind (Some (k.Sign j.Tilde)) = true
+unary_kind (Some (k.Sign j.Minus)) = true
+unary_kind (Some (k.Sign j.Ampersand)) = true
+unary_kind (Some (k.Sign j.Bar)) = true
+unary_kind (Some (k.Sign j.Caret)) = true
+unary_kind i = false
+
+signed_kind : (o : UnaryOperator) → unary_kind (Some (k.Sign (unary_sign_of o))) ≡ true
+unfolding unary_kind
+signed_kind u.Not = refl
+signed_kind u.Neg = refl
+signed_kind u.AllOnes = refl
+signed_kind u.AnyOne = refl
+signed_kind u.Odd = refl
+
+prim_kind : {p q : Stage} {x : t.Expression} → g.Prim p x q → unary_kind (first_kind p) ≡ false
+unfolding unary_kind
+prim_kind (g.number n) = ap unary_kind (first_is n)
+prim_kind (g.sized n) = ap unary_kind (first_is n)
+prim_kind (g.read n) = ap unary_kind (first_is n)
+prim_kind (g.cell n o x z) = ap unary_kind (first_is n)
+prim_kind (g.parentheses o x z) = ap unary_kind (first_is o)
+prim_kind (g.concat o x c y more z) = ap unary_kind (first_is o)
+prim_kind (g.zext word o x c n z) = ap unary_kind (first_is word)
+
+not_signed : {p p' q q' : Stage} {x : t.Expression} → p ≡ p' → (o : UnaryOperator) → IsSign p r.Inner (unary_sign_of o) q → g.Prim p' x q' → ⊥
+not_signed e o sign h =
+    let yes' : true ≡ false = sym (signed_kind o) ∙ sym (ap unary_kind (first_is sign)) ∙ ap (λ z. unary_kind (first_kind z)) e ∙ prim_kind h in
+    absurd (cc)
+
+-- equal parts make equal trees
+
+binary_same : {s s' : Spot} {o o' : BinaryOperator} {x x' y y' : t.Expression} → s ≡ s' → o ≡ o' → x ≡ x' → y ≡ y' → t.Binary s o x y ≡ t.Binary s' o' x' y'
+binary_same a b c d = cc
+
+unary_tree : {s s' : Spot} {o o' : UnaryOperator} {x x' : t.Expression} → s ≡ s' → o ≡ o' → x ≡ x' → t.Unary s o x ≡ t.Unary s' o' x'
+unary_tree a b c = cc
+
+choose_same : {s s' : Spot} {x x' y y' z z' : t.Expression} → s ≡ s' → x ≡ x' → y ≡ y' → z ≡ z' → t.Choose s x y z ≡ t.Choose s' x' y' z'
+choose_same a b c d = cc
+
+slice_same : {s s' : Spot} {x x' : t.Expression} {h h' l l' : ℕ} → s ≡ s' → x ≡ x' → h ≡ h' → l ≡ l' → t.Slice s x h l ≡ t.Slice s' x' h' l'
+slice_same a b c d = cc
+
+spot_same : {p p' q q' : Place} → p ≡ p' → q ≡ q' → ◌≡◌ {A = Spot} (record { first = p; at = q }) (record { first = p'; at = q' })
+spot_same a b = cc
+
+part_same : {x x' : t.Expression} {xs xs' : t.Expressions} → x ≡ x' → xs ≡ xs' → t.AndPart x xs ≡ t.AndPart x' xs'
+part_same a b = cc
+
+pub here_same : {p p' : Stage} → p ≡ p' → here p ≡ here p'
+here_same e = ap here e
+
+pub spot_here_same : {p p' : Stage} → p ≡ p' → ◌≡◌ {A = Spot} (record { first = here p; at = here p }) (record { first = here p'; at = here p' })
+spot_here_same e = spot_same (here_same e) (here_same e)
+
+joined_spot : {p p' : Stage} {x x' : t.Expression} → p ≡ p' → x ≡ x' → ◌≡◌ {A = Spot} (record { first = first_of x; at = here p }) (record { first = first_of x'; at = here p' })
+joined_spot e f = spot_same (ap first_of f) (here_same e)
+
+number_tree : {p p' : Stage} {n n' : ℕ} → p ≡ p' → n ≡ n' → t.Number (spot_here p) n ≡ t.Number (spot_here p') n'
+number_tree e f = let s = spot_here_same e in cc
+
+sized_tree : {p p' : Stage} {v v' n n' : ℕ} → p ≡ p' → v ≡ v' → n ≡ n' → t.Sized (spot_here p) v n ≡ t.Sized (spot_here p') v' n'
+sized_tree e f h = let s = spot_here_same e in cc
+
+read_tree : {p p' : Stage} {n n' : List ℕ} → p ≡ p' → n ≡ n' → t.Read (spot_here p) n ≡ t.Read (spot_here p') n'
+read_tree e f = let s = spot_here_same e in cc
+
+cell_tree : {p p' : Stage} {n n' : List ℕ} {x x' : t.Expression} → p ≡ p' → n ≡ n' → x ≡ x' → t.Cell (spot_here p) n x ≡ t.Cell (spot_here p') n' x'
+cell_tree e f h = let s = spot_here_same e in cc
+
+enclosed_tree : {p p' : Stage} {x x' : t.Expression} → p ≡ p' → x ≡ x' → enclosed (here p) x ≡ enclosed (here p') x'
+enclosed_tree e f = let s = here_same e in cc
+
+concat_tree : {p p' : Stage} {x x' y y' : t.Expression} {xs xs' : t.Expressions} → p ≡ p' → x ≡ x' → y ≡ y' → xs ≡ xs'
+    → t.Concat (spot_here p) (t.AndPart x (t.AndPart y xs)) ≡ t.Concat (spot_here p') (t.AndPart x' (t.AndPart y' xs'))
+concat_tree e f h i = let s = spot_here_same e in cc
+
+zext_tree : {p p' : Stage} {x x' : t.Expression} {n n' : ℕ} → p ≡ p' → x ≡ x' → n ≡ n' → t.Zext (spot_here p) x n ≡ t.Zext (spot_here p') x' n'
+zext_tree e f h = let s = spot_here_same e in cc
+
+-- behind a name no text is both slices and an index
+read_cell : {p p' q m o : Stage} {x y : t.Expression} → p ≡ p' → g.Cuts x p y q → IsSign p' r.Opening j.OpenBracket m → R s.Expr m ≡ Ok o
+    → first_kind o ≡ Some (k.Sign j.CloseBracket) → first_kind q ≢ Some (k.Sign j.OpenBracket) → ⊥
+read_cell e g.no_cut sign h f ne = ne (ap first_kind e ∙ first_is sign)
+read_cell {m = m} {o = o} e (g.cut (g.bounds b high colon low z) c) sign h f ne =
+    let same = same_behind e b sign in
+    no_colon _ _ o _ high (ap (λ x. R s.Expr x) same ∙ h) f (first_is colon)
+
+-- the numbers of a slice
+bounds_one : {p p' q q' : Stage} {h h' l l' : ℕ} → p ≡ p' → g.Bounds p h l q → g.Bounds p' h' l' q' → (h ≡ h') × (l ≡ l')
+bounds_one e (g.bounds o n c m z) (g.bounds o' n' c' m' z') =
+    let e2 = same_behind e o o' in
+    let e3 = same_behind e2 n n' in
+    let e4 = same_behind e3 c c' in
+    (number_same (same_token e2 n n'), number_same (same_token e4 m m'))
+
+cuts_one : {p p' q q' : Stage} {x x' y y' : t.Expression} → p ≡ p' → x ≡ x' → g.Cuts x p y q → g.Cuts x' p' y' q' → first_kind q ≢ Some (k.Sign j.OpenBracket) → first_kind q' ≢ Some (k.Sign j.OpenBracket) → y ≡ y'
+cuts_one e f g.no_cut g.no_cut h h' = f
+cuts_one e f g.no_cut (g.cut b c) h h' = absurd (h (ap first_kind e ∙ bounds_first b))
+cuts_one e f (g.cut b c) g.no_cut h h' = absurd (h' (sym (ap first_kind e) ∙ bounds_first b))
+cuts_one e f (g.cut b c) (g.cut b' c') h h' =
+    let n = bounds_one e b b' in
+    cuts_one (same_rest s.Slice e (bounds_read b) (bounds_read b')) (slice_same (joined_spot e f) f n.0 n.1) c c' h h'
+
+mutual
+  pub expr_one : {p p' q q' : Stage} {x y : t.Expression} → p ≡ p' → g.Expr p x q → g.Expr p' y q' → ends_expr (first_kind q) ≡ true → ends_expr (first_kind q') ≡ true → x ≡ y
+  expr_one {q = q} {q' = q'} e (g.only x) (g.only x') h h' = bin_one e x x' (expr_bin_ends (first_kind q) h) (expr_bin_ends (first_kind q') h')
+  expr_one {q = q} e (g.only x) (g.choice x' o y' c z') h h' =
+      let m = same_rest (s.Bin 1) e (bin_reads x (expr_bin_ends (first_kind q) h)) (bin_reads x' (ap (ends 1) (first_is o))) in
+      absurd (no_question (first_kind q) h (ap first_kind m ∙ first_is o))
+  expr_one {q' = q'} e (g.choice x o y c z) (g.only x') h h' =
+      let m = same_rest (s.Bin 1) e (bin_reads x (ap (ends 1) (first_is o))) (bin_reads x' (expr_bin_ends (first_kind q') h')) in
+      absurd (no_question (first_kind q') h' (sym (ap first_kind m) ∙ first_is o))
+  expr_one e (g.choice x o y c z) (g.choice x' o' y' c' z') h h' =
+      let ex = ap (ends 1) (first_is o) in let ex' = ap (ends 1) (first_is o') in
+      let ey = ap ends_expr (first_is c) in let ey' = ap ends_expr (first_is c') in
+      let m2 = same_rest (s.Bin 1) e (bin_reads x ex) (bin_reads x' ex') in
+      let m3 = same_behind m2 o o' in
+      let m4 = same_rest s.Expr m3 (expr_reads y ey) (expr_reads y' ey') in
+      let m5 = same_behind m4 c c' in
+      let tree = bin_one e x x' ex ex' in
+      choose_same (joined_spot m2 tree) tree (expr_one m3 y y' ey ey') (expr_one m5 z z' h h')
+
+  pub bin_one : {l : ℕ} {p p' q q' : Stage} {x y : t.Expression} → p ≡ p' → g.Bin l p x q → g.Bin l p' y q' → ends l (first_kind q) ≡ true → ends l (first_kind q') ≡ true → x ≡ y
+  bin_one {q = q} {q' = q'} e (g.operand x) (g.operand x') h h' = unary_one e x x' (no_bracket unary_precedence (first_kind q) h) (no_bracket unary_precedence (first_kind q') h')
+  bin_one e (g.operand x) (g.chain lt x' more') h h' = absurd (omega arith)
+  bin_one e (g.chain lt x more) (g.operand x') h h' = absurd (omega arith)
+  bin_one {l} e (g.chain lt x more) (g.chain lt' x' more') h h' =
+      let m = same_rest (s.Bin (l + 1)) e (bin_reads x (others_end more h)) (bin_reads x' (others_end more' h')) in
+      others_one m (bin_one e x x' (others_end more h) (others_end more' h')) more more' h h'
+
+  others_one : {l : ℕ} {p p' q q' : Stage} {x x' y y' : t.Expression} → p ≡ p' → x ≡ x' → g.Others l x p y q → g.Others l x' p' y' q' → ends l (first_kind q) ≡ true → ends l (first_kind q') ≡ true → y ≡ y'
+  others_one e f g.no_other g.no_other h h' = f
+  others_one e f g.no_other (g.other o at sign y more) h h' = absurd (not_end e o at sign h)
+  others_one e f (g.other o at sign y more) g.no_other h h' = absurd (not_end (sym e) o at sign h')
+  others_one {l} e f (g.other o at sign y more) (g.other o' at' sign' y' more') h h' =
+      let m = same_behind e sign sign' in
+      let n = same_rest (s.Bin (l + 1)) m (bin_reads y (others_end more h)) (bin_reads y' (others_end more' h')) in
+      others_one n (binary_same (joined_spot e f) (operator_same o o' (sign_same (same_token e sign sign'))) f (bin_one m y y' (others_end more h) (others_end more' h'))) more more' h h'
+
+  unary_one : {p p' q q' : Stage} {x y : t.Expression} → p ≡ p' → g.Unary p x q → g.Unary p' y q' → first_kind q ≢ Some (k.Sign j.OpenBracket) → first_kind q' ≢ Some (k.Sign j.OpenBracket) → x ≡ y
+  unary_one e (g.signed o sign x) (g.signed o' sign' x') h h' = unary_tree (spot_here_same e) (unary_same o o' (sign_same (same_token e sign sign'))) (unary_one (same_behind e sign sign') x x' h h')
+  unary_one e (g.signed o sign x) (g.unsigned (g.post x' c')) h h' = absurd (not_signed e o sign x')
+  unary_one e (g.unsigned (g.post x c)) (g.signed o' sign' x') h h' = absurd (not_signed (sym e) o' sign' x)
+  unary_one e (g.unsigned (g.post x c)) (g.unsigned (g.post x' c')) h h' = post_one e x c x' c' h h'
+
+  -- an operand and slices of it
+  post_one : {p p' m m' q q' : Stage} {x x' y y' : t.Expression} → p ≡ p' → g.Prim p x m → g.Cuts x m y q → g.Prim p' x' m' → g.Cuts x' m' y' q'
+      → first_kind q ≢ Some (k.Sign j.OpenBracket) → first_kind q' ≢ Some (k.Sign j.OpenBracket) → y ≡ y'
+  post_one e (g.number n) c (g.number n') c' h h' = cuts_one (same_behind e n n') (number_tree e (number_same (same_token e n n'))) c c' h h'
+  post_one e (g.sized n) c (g.sized n') c' h h' = cuts_one (same_behind e n n') (sized_tree e (width_same (same_token e n n')) (sized_same (same_token e n n'))) c c' h h'
+  post_one e (g.read n) c (g.read n') c' h h' = cuts_one (same_behind e n n') (read_tree e (name_same (same_token e n n'))) c c' h h'
+  post_one e (g.read n) c (g.cell n' o x z) c' h h' = absurd (read_cell (same_behind e n n') c o (expr_reads x (ap ends_expr (first_is z))) (first_is z) h)
+  post_one e (g.cell n o x z) c (g.read n') c' h h' = absurd (read_cell (sym (same_behind e n n')) c' o (expr_reads x (ap ends_expr (first_is z))) (first_is z) h')
+  post_one e (g.cell n o x z) c (g.cell n' o' x' z') c' h h' =
+      let ex = ap ends_expr (first_is z) in let ex' = ap ends_expr (first_is z') in
+      let m2 = same_behind e n n' in
+      let m3 = same_behind m2 o o' in
+      let m4 = same_rest s.Expr m3 (expr_reads x ex) (expr_reads x' ex') in
+      cuts_one (same_behind m4 z z') (cell_tree e (name_same (same_token e n n')) (expr_one m3 x x' ex ex')) c c' h h'
+  post_one e (g.parentheses o x z) c (g.parentheses o' x' z') c' h h' =
+      let ex = ap ends_expr (first_is z) in let ex' = ap ends_expr (first_is z') in
+      let m2 = same_behind e o o' in
+      let m3 = same_rest s.Expr m2 (expr_reads x ex) (expr_reads x' ex') in
+      cuts_one (same_behind m3 z z') (enclosed_tree e (expr_one m2 x x' ex ex')) c c' h h'
+  post_one e (g.concat o x a y more z) c (g.concat o' x' a' y' more' z') c' h h' =
+      let ex = ap ends_expr (first_is a) in let ex' = ap ends_expr (first_is a') in
+      let ez = ap ends_expr (first_is z) in let ez' = ap ends_expr (first_is z') in
+      let m2 = same_behind e o o' in
+      let m3 = same_rest s.Expr m2 (expr_reads x ex) (expr_reads x' ex') in
+      let m4 = same_behind m3 a a' in
+      let m5 = same_rest s.Expr m4 (expr_reads y (parts_end more ez)) (expr_reads y' (parts_end more' ez')) in
+      let m6 = same_rest s.Parts m5 (parts_read more ez (λ e. let f = first_is z in absurd (cc))) (parts_read more' ez' (λ e. let f = first_is z' in absurd (cc))) in
+      cuts_one (same_behind m6 z z')
+      (concat_tree e (expr_one m2 x x' ex ex') (expr_one m4 y y' (parts_end more ez) (parts_end more' ez'))
+      (parts_one m5 more more' ez ez' (λ e. let f = first_is z in absurd (cc)) (λ e. let f = first_is z' in absurd (cc))))
+      c c' h h'
+  post_one e (g.zext word o x a n z) c (g.zext word' o' x' a' n' z') c' h h' =
+      let ex = ap ends_expr (first_is a) in let ex' = ap ends_expr (first_is a') in
+      let m2 = same_behind e word word' in
+      let m3 = same_behind m2 o o' in
+      let m4 = same_rest s.Expr m3 (expr_reads x ex) (expr_reads x' ex') in
+      let m5 = same_behind m4 a a' in
+      let m6 = same_behind m5 n n' in
+      cuts_one (same_behind m6 z z') (zext_tree e (expr_one m3 x x' ex ex') (number_same (same_token m5 n n'))) c c' h h'
+  post_one e a c b c' h h' = let t = same_tag e a b in absurd (cc)
+
+  pub parts_one : {p p' q q' : Stage} {xs ys : t.Expressions} → p ≡ p' → g.Parts p xs q → g.Parts p' ys q' → ends_expr (first_kind q) ≡ true → ends_expr (first_kind q') ≡ true
+      → first_kind q ≢ Some (k.Sign j.Comma) → first_kind q' ≢ Some (k.Sign j.Comma) → xs ≡ ys
+  parts_one e g.no_part g.no_part h h' n n' = refl
+  parts_one e g.no_part (g.part a x more) h h' n n' = absurd (n (ap first_kind e ∙ first_is a))
+  parts_one e (g.part a x more) g.no_part h h' n n' = absurd (n' (sym (ap first_kind e) ∙ first_is a))
+  parts_one e (g.part a x more) (g.part a' x' more') h h' n n' =
+      let m2 = same_behind e a a' in
+      let m3 = same_rest s.Expr m2 (expr_reads x (parts_end more h)) (expr_reads x' (parts_end more' h')) in
+      part_same (expr_one m2 x x' (parts_end more h) (parts_end more' h')) (parts_one m3 more more' h h' n n')

@@ -1,0 +1,355 @@
+-- Tokens have at most one tree: tag expressions, commands, declarations, states and designs.
+use Rattle.std.proofs.Common.{◌≡◌, ◌≢◌, ◌+◌, ℕ, List, [], ◌∷◌, Option, Some, None, Ok, Bool, true, false, refl, sym, ap, subst, ◌∙◌}
+use Rattle.sap_parse.specs.Grammar as g
+use Rattle.sap_parse.specs.Stages.{Stage, here, mention, numeral}
+use Rattle.sap_parse.specs.Table as s
+use Rattle.sap_parse.specs.declared.token.Kind.TheVariants as k
+use Rattle.sap_parse.specs.declared.token.Kind.{Kind}
+use Rattle.sap_parse.specs.declared.token.Sign.TheVariants as j
+use Rattle.sap_parse.specs.declared.token.Word.TheVariants as w
+use Rattle.sap_tree.specs.Syntax as t
+use Rattle.sap_tree.specs.declared.name.Mention.{Mention}
+use Rattle.sap_tree.specs.declared.place.Place.{Place}
+use Rattle.sap_tree.specs.declared.syntax.Decl.TheVariants as d
+use Rattle.sap_tree.specs.declared.syntax.Decl.{Decl}
+use Rattle.sap_tree.specs.declared.syntax.Kind.TheVariants as kd
+use Rattle.sap_tree.specs.declared.syntax.Kind.{Kind as KindTree}
+use Rattle.sap_tree.specs.declared.syntax.Numeral.{Numeral}
+use Rattle.sap_tree.specs.declared.syntax.Under.{Under}
+use Rattle.sap_parse.proofs.Complete.{ends_expr, expr_reads}
+use Rattle.sap_parse.proofs.CompleteDesign.{authority_reads, block_reads, cmd_reads, cmds_not_else, cmds_read, declaration_reads, declarations_read, else_reads, ends_cmds, initial_not_under, initial_reads, kind_reads, simple_reads, state_first, state_reads, states_end_cmds, states_read, texpr_reads, texprs_read}
+use Rattle.sap_parse.proofs.Known.{R, first_is, first_kind, kind_in}
+use Rattle.sap_parse.proofs.Unique.{expr_one, here_same, name_same, number_same, same_behind, same_rest, same_token}
+
+mention_same : {p p' : Stage} {n n' : List ℕ} → p ≡ p' → n ≡ n' → mention p n ≡ mention p' n'
+mention_same e f = let h = here_same e in cc
+
+numeral_same : {p p' : Stage} {n n' : ℕ} → p ≡ p' → n ≡ n' → numeral p n ≡ numeral p' n'
+numeral_same e f = let h = here_same e in cc
+
+-- tag expressions
+
+abbrev tag_kind : {p q : Stage} {x : t.TagExpression} → g.Texpr p x q → Kind
+tag_kind (g.level {name = name} n) = k.Name name
+tag_kind (g.tag_of word o x z) = k.Word w.Tag
+tag_kind (g.level_at word o x z) = k.Word w.Level
+tag_kind (g.join word o x c y more z) = k.Word w.Join
+
+tag_first : {p q : Stage} {x : t.TagExpression} (h : g.Texpr p x q) → first_kind p ≡ Some (tag_kind h)
+tag_first (g.level n) = first_is n
+tag_first (g.tag_of word o x z) = first_is word
+tag_first (g.level_at word o x z) = first_is word
+tag_first (g.join word o x c y more z) = first_is word
+
+some_same : {i j : Kind} → ◌≡◌ {A = Option Kind} (Some i) (Some j) → i ≡ j
+some_same e = cc
+
+same_first : {p p' q q' : Stage} {x y : t.TagExpression} → p ≡ p' → (a : g.Texpr p x q) (b : g.Texpr p' y q') → tag_kind a ≡ tag_kind b
+same_first e a b = some_same (sym (tag_first a) ∙ ap first_kind e ∙ tag_first b)
+
+level_tree : {m m' : Mention} → m ≡ m' → t.Level m ≡ t.Level m'
+level_tree e = cc
+
+tag_of_tree : {p p' : Place} {x x' : t.Expression} → p ≡ p' → x ≡ x' → t.TagOf p x ≡ t.TagOf p' x'
+tag_of_tree e f = cc
+
+level_at_tree : {p p' : Place} {x x' : t.Expression} → p ≡ p' → x ≡ x' → t.LevelAt p x ≡ t.LevelAt p' x'
+level_at_tree e f = cc
+
+join_tree : {p p' : Place} {x x' y y' : t.TagExpression} {xs xs' : t.TagExpressions} → p ≡ p' → x ≡ x' → y ≡ y' → xs ≡ xs'
+    → t.Join p (t.AndTag x (t.AndTag y xs)) ≡ t.Join p' (t.AndTag x' (t.AndTag y' xs'))
+join_tree e f h i = cc
+
+and_tag : {x x' : t.TagExpression} {xs xs' : t.TagExpressions} → x ≡ x' → xs ≡ xs' → t.AndTag x xs ≡ t.AndTag x' xs'
+and_tag e f = cc
+
+mutual
+  pub texpr_one : {p p' q q' : Stage} {x y : t.TagExpression} → p ≡ p' → g.Texpr p x q → g.Texpr p' y q' → x ≡ y
+  texpr_one e (g.level n) (g.level n') = level_tree (mention_same e (name_same (same_token e n n')))
+  texpr_one e (g.tag_of word o x z) (g.tag_of word' o' x' z') =
+      tag_of_tree (here_same e) (expr_one (same_behind (same_behind e word word') o o') x x' (ap ends_expr (first_is z)) (ap ends_expr (first_is z')))
+  texpr_one e (g.level_at word o x z) (g.level_at word' o' x' z') =
+      level_at_tree (here_same e) (expr_one (same_behind (same_behind e word word') o o') x x' (ap ends_expr (first_is z)) (ap ends_expr (first_is z')))
+  texpr_one e (g.join word o x c y more z) (g.join word' o' x' c' y' more' z') =
+      let m3 = same_behind (same_behind e word word') o o' in
+      let m5 = same_behind (same_rest s.Texpr m3 (texpr_reads x) (texpr_reads x')) c c' in
+      let m6 = same_rest s.Texpr m5 (texpr_reads y) (texpr_reads y') in
+      join_tree (here_same e) (texpr_one m3 x x') (texpr_one m5 y y')
+      (texprs_one m6 more more' (λ e. let f = first_is z in absurd (cc)) (λ e. let f = first_is z' in absurd (cc)))
+  texpr_one e a b = let t = same_first e a b in absurd (cc)
+
+  pub texprs_one : {p p' q q' : Stage} {xs ys : t.TagExpressions} → p ≡ p' → g.Texprs p xs q → g.Texprs p' ys q' → first_kind q ≢ Some (k.Sign j.Comma) → first_kind q' ≢ Some (k.Sign j.Comma) → xs ≡ ys
+  texprs_one e g.no_tag g.no_tag n n' = refl
+  texprs_one e g.no_tag (g.tag c x more) n n' = absurd (n (ap first_kind e ∙ first_is c))
+  texprs_one e (g.tag c x more) g.no_tag n n' = absurd (n' (sym (ap first_kind e) ∙ first_is c))
+  texprs_one e (g.tag c x more) (g.tag c' x' more') n n' =
+      let m2 = same_behind e c c' in
+      and_tag (texpr_one m2 x x') (texprs_one (same_rest s.Texpr m2 (texpr_reads x) (texpr_reads x')) more more' n n')
+
+-- simple commands
+
+abbrev simple_kind : {depth : ℕ} {p q : Stage} {c : t.SimpleCommand} → g.Simple depth p c q → Kind
+simple_kind (g.assign {name = name} n b x) = k.Name name
+simple_kind (g.write {name = name} n o i z b x) = k.Name name
+simple_kind (g.set_tag word o n c x z) = k.Word w.SetTag
+simple_kind (g.set_cell_tag word o n b i e c x z) = k.Word w.SetTag
+simple_kind (g.goto word n) = k.Word w.Goto
+simple_kind (g.fall word) = k.Word w.Fall
+
+simple_first : {depth : ℕ} {p q : Stage} {c : t.SimpleCommand} (h : g.Simple depth p c q) → first_kind p ≡ Some (simple_kind h)
+simple_first (g.assign n b x) = first_is n
+simple_first (g.write n o i z b x) = first_is n
+simple_first (g.set_tag word o n c x z) = first_is word
+simple_first (g.set_cell_tag word o n b i e c x z) = first_is word
+simple_first (g.goto word n) = first_is word
+simple_first (g.fall word) = first_is word
+
+simple_same : {depth : ℕ} {p p' q q' : Stage} {c c' : t.SimpleCommand} → p ≡ p' → (a : g.Simple depth p c q) (b : g.Simple depth p' c' q') → simple_kind a ≡ simple_kind b
+simple_same e a b = some_same (sym (simple_first a) ∙ ap first_kind e ∙ simple_first b)
+
+assign_tree : {m m' : Mention} {x x' : t.Expression} → m ≡ m' → x ≡ x' → t.Assign m x ≡ t.Assign m' x'
+assign_tree e f = cc
+
+write_tree : {m m' : Mention} {i i' x x' : t.Expression} → m ≡ m' → i ≡ i' → x ≡ x' → t.Write m i x ≡ t.Write m' i' x'
+write_tree e f h = cc
+
+set_tag_tree : {p p' : Place} {m m' : Mention} {x x' : t.TagExpression} → p ≡ p' → m ≡ m' → x ≡ x' → t.SetTag p m x ≡ t.SetTag p' m' x'
+set_tag_tree e f h = cc
+
+set_cell_tag_tree : {p p' : Place} {m m' : Mention} {i i' : t.Expression} {x x' : t.TagExpression} → p ≡ p' → m ≡ m' → i ≡ i' → x ≡ x' → t.SetCellTag p m i x ≡ t.SetCellTag p' m' i' x'
+set_cell_tag_tree e f h i = cc
+
+goto_tree : {p p' : Place} {m m' : Mention} → p ≡ p' → m ≡ m' → t.Goto p m ≡ t.Goto p' m'
+goto_tree e f = cc
+
+pub simple_one : {depth : ℕ} {p p' q q' : Stage} {c c' : t.SimpleCommand} → p ≡ p' → g.Simple depth p c q → g.Simple depth p' c' q' → ends_expr (first_kind q) ≡ true → ends_expr (first_kind q') ≡ true → c ≡ c'
+simple_one e (g.assign n b x) (g.assign n' b' x') h h' =
+    assign_tree (mention_same e (name_same (same_token e n n'))) (expr_one (same_behind (same_behind e n n') b b') x x' h h')
+simple_one e (g.assign n b x) (g.write n' o' i' z' b' x') h h' = let t = same_token (same_behind e n n') b o' in absurd (cc)
+simple_one e (g.write n o i z b x) (g.assign n' b' x') h h' = let t = same_token (same_behind e n n') o b' in absurd (cc)
+simple_one e (g.write n o i z b x) (g.write n' o' i' z' b' x') h h' =
+    let ez = ap ends_expr (first_is z) in let ez' = ap ends_expr (first_is z') in
+    let m3 = same_behind (same_behind e n n') o o' in
+    let m4 = same_rest s.Expr m3 (expr_reads i ez) (expr_reads i' ez') in
+    write_tree (mention_same e (name_same (same_token e n n'))) (expr_one m3 i i' ez ez') (expr_one (same_behind (same_behind m4 z z') b b') x x' h h')
+simple_one e (g.set_tag word o n c x z) (g.set_tag word' o' n' c' x' z') h h' =
+    let m3 = same_behind (same_behind e word word') o o' in
+    set_tag_tree (here_same e) (mention_same m3 (name_same (same_token m3 n n'))) (texpr_one (same_behind (same_behind m3 n n') c c') x x')
+simple_one e (g.set_tag word o n c x z) (g.set_cell_tag word' o' n' b' i' e' c' x' z') h h' =
+    let m3 = same_behind (same_behind e word word') o o' in
+    let t = same_token (same_behind m3 n n') c b' in absurd (cc)
+simple_one e (g.set_cell_tag word o n b i z c x y) (g.set_tag word' o' n' c' x' z') h h' =
+    let m3 = same_behind (same_behind e word word') o o' in
+    let t = same_token (same_behind m3 n n') b c' in absurd (cc)
+simple_one e (g.set_cell_tag word o n b i z c x y) (g.set_cell_tag word' o' n' b' i' z' c' x' y') h h' =
+    let ez = ap ends_expr (first_is z) in let ez' = ap ends_expr (first_is z') in
+    let m3 = same_behind (same_behind e word word') o o' in
+    let m5 = same_behind (same_behind m3 n n') b b' in
+    let m6 = same_rest s.Expr m5 (expr_reads i ez) (expr_reads i' ez') in
+    set_cell_tag_tree (here_same e) (mention_same m3 (name_same (same_token m3 n n'))) (expr_one m5 i i' ez ez') (texpr_one (same_behind (same_behind m6 z z') c c') x x')
+simple_one e (g.goto word n) (g.goto word' n') h h' = let m2 = same_behind e word word' in goto_tree (here_same e) (mention_same m2 (name_same (same_token m2 n n')))
+simple_one e (g.fall word) (g.fall word') h h' = ap t.Fall (here_same e)
+simple_one e a b h h' = let t = simple_same e a b in absurd (cc)
+
+-- commands
+
+not_if : {depth : ℕ} {p p' q : Stage} {c : t.SimpleCommand} → p ≡ p' → g.Simple depth p c q → first_kind p' ≡ Some (k.Word w.If) → ⊥
+not_if e h f = by_kind h (some_same (sym (simple_first h) ∙ ap first_kind e ∙ f)) where
+  by_kind : {depth : ℕ} {p q : Stage} {c : t.SimpleCommand} (h : g.Simple depth p c q) → simple_kind h ≡ k.Word w.If → ⊥
+  by_kind (g.assign n b x) e = cc
+  by_kind (g.write n o i z b x) e = cc
+  by_kind (g.set_tag word o n c x z) e = cc
+  by_kind (g.set_cell_tag word o n b i z c x y) e = cc
+  by_kind (g.goto word n) e = cc
+  by_kind (g.fall word) e = cc
+
+simple_begins : {depth : ℕ} {p q : Stage} {c : t.SimpleCommand} → g.Simple depth p c q → ends_cmds (first_kind p) ≡ false
+simple_begins (g.assign n b x) = ap ends_cmds (first_is n)
+simple_begins (g.write n o i z b x) = ap ends_cmds (first_is n)
+simple_begins (g.set_tag word o n c x z) = ap ends_cmds (first_is word)
+simple_begins (g.set_cell_tag word o n b i z c x y) = ap ends_cmds (first_is word)
+simple_begins (g.goto word n) = ap ends_cmds (first_is word)
+simple_begins (g.fall word) = ap ends_cmds (first_is word)
+
+cmd_begins : {depth : ℕ} {p q : Stage} {c : t.Command} → g.Cmd depth p c q → ends_cmds (first_kind p) ≡ false
+cmd_begins (g.unhandled c z) = simple_begins c
+cmd_begins (g.handled c word h) = simple_begins c
+cmd_begins (g.branch word o x z one other) = ap ends_cmds (first_is word)
+
+no_begin : {depth : ℕ} {p p' q : Stage} {c : t.Command} → p ≡ p' → ends_cmds (first_kind p) ≡ true → g.Cmd depth p' c q → ⊥
+no_begin e h c = let t : true ≡ false = sym h ∙ ap (λ z. ends_cmds (first_kind z)) e ∙ cmd_begins c in cc
+
+try_tree : {c c' : t.SimpleCommand} {p p' : Place} {b b' : t.CommandBlock} → c ≡ c' → p ≡ p' → b ≡ b' → t.Try c p b ≡ t.Try c' p' b'
+try_tree e f h = cc
+
+if_tree : {p p' : Place} {x x' : t.Expression} {b b' : t.CommandBlock} {o o' : t.ElseBlock} → p ≡ p' → x ≡ x' → b ≡ b' → o ≡ o' → t.If p x b o ≡ t.If p' x' b' o'
+if_tree e f h i = cc
+
+commands_tree : {cs cs' : t.CommandList} {p p' : Place} → cs ≡ cs' → p ≡ p' → t.Commands cs p ≡ t.Commands cs' p'
+commands_tree e f = cc
+
+and_command : {c c' : t.Command} {cs cs' : t.CommandList} → c ≡ c' → cs ≡ cs' → t.AndCommand c cs ≡ t.AndCommand c' cs'
+and_command e f = cc
+
+mutual
+  pub cmd_one : {depth : ℕ} {p p' q q' : Stage} {c c' : t.Command} → p ≡ p' → g.Cmd depth p c q → g.Cmd depth p' c' q' → first_kind q ≢ Some (k.Word w.Else) → first_kind q' ≢ Some (k.Word w.Else) → c ≡ c'
+  cmd_one e (g.unhandled c z) (g.unhandled c' z') n n' = ap t.Do (simple_one e c c' (ap ends_expr (first_is z)) (ap ends_expr (first_is z')))
+  cmd_one {depth} e (g.unhandled c z) (g.handled c' word' h') n n' =
+      let m = same_rest (s.Simple depth) e (simple_reads c (ap ends_expr (first_is z))) (simple_reads c' (ap ends_expr (first_is word'))) in
+      let t = same_token m z word' in absurd (cc)
+  cmd_one {depth} e (g.handled c word h) (g.unhandled c' z') n n' =
+      let m = same_rest (s.Simple depth) e (simple_reads c (ap ends_expr (first_is word))) (simple_reads c' (ap ends_expr (first_is z'))) in
+      let t = same_token m word z' in absurd (cc)
+  cmd_one {depth} e (g.handled c word h) (g.handled c' word' h') n n' =
+      let m = same_rest (s.Simple depth) e (simple_reads c (ap ends_expr (first_is word))) (simple_reads c' (ap ends_expr (first_is word'))) in
+      try_tree (simple_one e c c' (ap ends_expr (first_is word)) (ap ends_expr (first_is word'))) (here_same m) (block_one (same_behind m word word') h h')
+  cmd_one e (g.unhandled c z) (g.branch word' o' x' z' one' other') n n' = absurd (not_if e c (first_is word'))
+  cmd_one e (g.handled c word h) (g.branch word' o' x' z' one' other') n n' = absurd (not_if e c (first_is word'))
+  cmd_one e (g.branch word o x z one other) (g.unhandled c' z') n n' = absurd (not_if (sym e) c' (first_is word))
+  cmd_one e (g.branch word o x z one other) (g.handled c' word' h') n n' = absurd (not_if (sym e) c' (first_is word))
+  cmd_one {depth} e (g.branch word o x z one other) (g.branch word' o' x' z' one' other') n n' =
+      let ez = ap ends_expr (first_is z) in let ez' = ap ends_expr (first_is z') in
+      let m3 = same_behind (same_behind e word word') o o' in
+      let m5 = same_behind (same_rest s.Expr m3 (expr_reads x ez) (expr_reads x' ez')) z z' in
+      let m6 = same_rest (s.Block (depth + 1)) m5 (block_reads one) (block_reads one') in
+      if_tree (here_same e) (expr_one m3 x x' ez ez') (block_one m5 one one') (else_one m6 other other' n n')
+
+  pub else_one : {depth : ℕ} {p p' q q' : Stage} {x x' : t.ElseBlock} → p ≡ p' → g.Else depth p x q → g.Else depth p' x' q' → first_kind q ≢ Some (k.Word w.Else) → first_kind q' ≢ Some (k.Word w.Else) → x ≡ x'
+  else_one e g.no_else g.no_else n n' = refl
+  else_one e g.no_else (g.else word b) n n' = absurd (n (ap first_kind e ∙ first_is word))
+  else_one e (g.else word b) g.no_else n n' = absurd (n' (sym (ap first_kind e) ∙ first_is word))
+  else_one e (g.else word b) (g.else word' b') n n' = ap t.Else (block_one (same_behind e word word') b b')
+
+  pub block_one : {depth : ℕ} {p p' q q' : Stage} {x x' : t.CommandBlock} → p ≡ p' → g.Block depth p x q → g.Block depth p' x' q' → x ≡ x'
+  block_one {depth} e (g.block o cs z) (g.block o' cs' z') =
+      let m2 = same_behind e o o' in
+      let ez = ap ends_cmds (first_is z) in let ez' = ap ends_cmds (first_is z') in
+      commands_tree (cmds_one m2 cs cs' ez ez') (here_same (same_rest (s.Cmds depth) m2 (cmds_read cs ez) (cmds_read cs' ez')))
+
+  pub cmds_one : {depth : ℕ} {p p' q q' : Stage} {cs cs' : t.CommandList} → p ≡ p' → g.Cmds depth p cs q → g.Cmds depth p' cs' q' → ends_cmds (first_kind q) ≡ true → ends_cmds (first_kind q') ≡ true → cs ≡ cs'
+  cmds_one e g.no_cmd g.no_cmd h h' = refl
+  cmds_one e g.no_cmd (g.cmd c more) h h' = absurd (no_begin e h c)
+  cmds_one e (g.cmd c more) g.no_cmd h h' = absurd (no_begin (sym e) h' c)
+  cmds_one {depth} e (g.cmd c more) (g.cmd c' more') h h' =
+      let n = cmds_not_else more h in let n' = cmds_not_else more' h' in
+      and_command (cmd_one e c c' n n') (cmds_one (same_rest (s.Cmd depth) e (cmd_reads c n) (cmd_reads c' n')) more more' h h')
+
+-- kinds and declarations
+
+under_same : {a b a' b' : Stage} {n n' : List ℕ} → a ≡ a' → b ≡ b' → n ≡ n'
+    → ◌≡◌ {A = Option Under} (Some (record { place = here a; level = mention b n })) (Some (record { place = here a'; level = mention b' n' }))
+under_same e f h = let p = here_same e in let m = mention_same f h in cc
+
+authority_one : {p p' q q' : Stage} {x x' : Option Under} → p ≡ p' → g.Authority p x q → g.Authority p' x' q' → first_kind q ≢ Some (k.Word w.Under) → first_kind q' ≢ Some (k.Word w.Under) → x ≡ x'
+authority_one e g.no_authority g.no_authority n n' = refl
+authority_one e g.no_authority (g.authority word m) n n' = absurd (n (ap first_kind e ∙ first_is word))
+authority_one e (g.authority word m) g.no_authority n n' = absurd (n' (sym (ap first_kind e) ∙ first_is word))
+authority_one e (g.authority word m) (g.authority word' m') n n' = let b = same_behind e word word' in under_same e b (name_same (same_token b m m'))
+
+enforced_tree : {m m' : Mention} {u u' : Option Under} → m ≡ m' → u ≡ u' → kd.Enforced m u ≡ kd.Enforced m' u'
+enforced_tree e f = cc
+
+pub kind_one : {p p' q q' : Stage} {x x' : KindTree} → p ≡ p' → g.KindOf p x q → g.KindOf p' x' q' → first_kind q ≢ Some (k.Word w.Under) → first_kind q' ≢ Some (k.Word w.Under) → x ≡ x'
+kind_one e (g.dynamic word) (g.dynamic word') n n' = ap kd.Dynamic (here_same e)
+kind_one e (g.dynamic word) (g.enforced word' m' u') n n' = let t = same_token e word word' in absurd (cc)
+kind_one e (g.enforced word m u) (g.dynamic word') n n' = let t = same_token e word word' in absurd (cc)
+kind_one e (g.enforced word m u) (g.enforced word' m' u') n n' =
+    let b = same_behind e word word' in
+    enforced_tree (mention_same b (name_same (same_token b m m'))) (authority_one (same_behind b m m') u u' n n')
+
+initial_one : {p p' q q' : Stage} {x x' : Option Numeral} → p ≡ p' → g.Initial p x q → g.Initial p' x' q' → first_kind q ≢ Some (k.Sign j.Is) → first_kind q' ≢ Some (k.Sign j.Is) → x ≡ x'
+initial_one e g.no_initial g.no_initial n n' = refl
+initial_one e g.no_initial (g.initial sign m) n n' = absurd (n (ap first_kind e ∙ first_is sign))
+initial_one e (g.initial sign m) g.no_initial n n' = absurd (n' (sym (ap first_kind e) ∙ first_is sign))
+initial_one e (g.initial sign m) (g.initial sign' m') n n' = let b = same_behind e sign sign' in ap (λ x. Some x) (numeral_same b (number_same (same_token b m m')))
+
+input_tree : {p p' : Place} {m m' : Mention} {v v' : Numeral} → p ≡ p' → m ≡ m' → v ≡ v' → d.Input p m v ≡ d.Input p' m' v'
+input_tree e f h = cc
+
+register_tree : {p p' : Place} {m m' : Mention} {v v' : Numeral} {x x' : KindTree} {y y' : Option Numeral} → p ≡ p' → m ≡ m' → v ≡ v' → x ≡ x' → y ≡ y' → d.Register p m v x y ≡ d.Register p' m' v' x' y'
+register_tree e f h i l = cc
+
+memory_tree : {p p' : Place} {m m' : Mention} {v v' u u' : Numeral} {x x' : KindTree} → p ≡ p' → m ≡ m' → v ≡ v' → u ≡ u' → x ≡ x' → d.Memory p m v u x ≡ d.Memory p' m' v' u' x'
+memory_tree e f h i l = cc
+
+pub declaration_one : {p p' q q' : Stage} {x x' : Decl} → p ≡ p' → g.Declaration p x q → g.Declaration p' x' q' → x ≡ x'
+declaration_one e (g.input word n c v z) (g.input word' n' c' v' z') =
+    let m2 = same_behind e word word' in
+    let m4 = same_behind (same_behind m2 n n') c c' in
+    input_tree (here_same e) (mention_same m2 (name_same (same_token m2 n n'))) (numeral_same m4 (number_same (same_token m4 v v')))
+declaration_one e (g.register word n c v kind start z) (g.register word' n' c' v' kind' start' z') =
+    let m2 = same_behind e word word' in
+    let m4 = same_behind (same_behind m2 n n') c c' in
+    let m5 = same_behind m4 v v' in
+    let u = initial_not_under start (λ e. let f = first_is z in absurd (cc)) in
+    let u' = initial_not_under start' (λ e. let f = first_is z' in absurd (cc)) in
+    let m6 = same_rest s.KindOf m5 (kind_reads kind u) (kind_reads kind' u') in
+    register_tree (here_same e) (mention_same m2 (name_same (same_token m2 n n'))) (numeral_same m4 (number_same (same_token m4 v v'))) (kind_one m5 kind kind' u u')
+    (initial_one m6 start start' (λ e. let f = first_is z in absurd (cc)) (λ e. let f = first_is z' in absurd (cc)))
+declaration_one e (g.memory word n c v o depth b kind z) (g.memory word' n' c' v' o' depth' b' kind' z') =
+    let m2 = same_behind e word word' in
+    let m4 = same_behind (same_behind m2 n n') c c' in
+    let m6 = same_behind (same_behind m4 v v') o o' in
+    let m8 = same_behind (same_behind m6 depth depth') b b' in
+    memory_tree (here_same e) (mention_same m2 (name_same (same_token m2 n n'))) (numeral_same m4 (number_same (same_token m4 v v'))) (numeral_same m6 (number_same (same_token m6 depth depth')))
+    (kind_one m8 kind kind' (λ e. let f = first_is z in absurd (cc)) (λ e. let f = first_is z' in absurd (cc)))
+declaration_one e (g.input word n c v z) (g.register word' n' c' v' kind' start' z') = let t = same_token e word word' in absurd (cc)
+declaration_one e (g.input word n c v z) (g.memory word' n' c' v' o' depth' b' kind' z') = let t = same_token e word word' in absurd (cc)
+declaration_one e (g.register word n c v kind start z) (g.input word' n' c' v' z') = let t = same_token e word word' in absurd (cc)
+declaration_one e (g.register word n c v kind start z) (g.memory word' n' c' v' o' depth' b' kind' z') = let t = same_token e word word' in absurd (cc)
+declaration_one e (g.memory word n c v o depth b kind z) (g.input word' n' c' v' z') = let t = same_token e word word' in absurd (cc)
+declaration_one e (g.memory word n c v o depth b kind z) (g.register word' n' c' v' kind' start' z') = let t = same_token e word word' in absurd (cc)
+
+declaration_not_state : {p q : Stage} {x : Decl} → g.Declaration p x q → first_kind p ≡ Some (k.Word w.State) → ⊥
+declaration_not_state (g.input word n c v z) e = let f = first_is word in cc
+declaration_not_state (g.register word n c v kind start z) e = let f = first_is word in cc
+declaration_not_state (g.memory word n c v o depth b kind z) e = let f = first_is word in cc
+
+and_declaration : {x x' : Decl} {xs xs' : List Decl} → x ≡ x' → xs ≡ xs' → x ∷ xs ≡ x' ∷ xs'
+and_declaration e f = cc
+
+pub declarations_one : {p p' q q' : Stage} {xs ys : List Decl} → p ≡ p' → g.Declarations p xs q → g.Declarations p' ys q' → first_kind q ≡ Some (k.Word w.State) → first_kind q' ≡ Some (k.Word w.State) → xs ≡ ys
+declarations_one e g.no_declaration g.no_declaration h h' = refl
+declarations_one e g.no_declaration (g.declaration x more) h h' = absurd (declaration_not_state x (sym (ap first_kind e) ∙ h))
+declarations_one e (g.declaration x more) g.no_declaration h h' = absurd (declaration_not_state x (ap first_kind e ∙ h'))
+declarations_one e (g.declaration x more) (g.declaration x' more') h h' =
+    and_declaration (declaration_one e x x') (declarations_one (same_rest s.Declaration e (declaration_reads x) (declaration_reads x')) more more' h h')
+
+-- states
+
+state_tree : {p p' : Place} {m m' : Mention} {x x' : KindTree} {b b' : t.CommandBlock} {c c' : t.StateList} → p ≡ p' → m ≡ m' → x ≡ x' → b ≡ b' → c ≡ c' → t.StateOf p m x b c ≡ t.StateOf p' m' x' b' c'
+state_tree e f h i l = cc
+
+and_state : {x x' : t.StateTree} {xs xs' : t.StateList} → x ≡ x' → xs ≡ xs' → t.AndState x xs ≡ t.AndState x' xs'
+and_state e f = cc
+
+mutual
+  pub state_one : {depth : ℕ} {p p' q q' : Stage} {x x' : t.StateTree} → p ≡ p' → g.State depth p x q → g.State depth p' x' q' → x ≡ x'
+  state_one {depth} e (g.state word n kind o cs children z) (g.state word' n' kind' o' cs' children' z') =
+      let m2 = same_behind e word word' in
+      let m3 = same_behind m2 n n' in
+      let m5 = same_behind (same_rest s.KindOf m3 (kind_reads kind (λ e. let f = first_is o in absurd (cc))) (kind_reads kind' (λ e. let f = first_is o' in absurd (cc)))) o o' in
+      let h = states_end_cmds children (ap ends_cmds (first_is z)) in
+      let h' = states_end_cmds children' (ap ends_cmds (first_is z')) in
+      let m6 = same_rest (s.Cmds 1) m5 (cmds_read cs h) (cmds_read cs' h') in
+      state_tree (here_same e) (mention_same m2 (name_same (same_token m2 n n'))) (kind_one m3 kind kind' (λ e. let f = first_is o in absurd (cc)) (λ e. let f = first_is o' in absurd (cc)))
+      (commands_tree (cmds_one m5 cs cs' h h') (here_same m6))
+      (states_one m6 children children' (λ e. let f = first_is z in absurd (cc)) (λ e. let f = first_is z' in absurd (cc)))
+
+  pub states_one : {depth : ℕ} {p p' q q' : Stage} {xs ys : t.StateList} → p ≡ p' → g.States depth p xs q → g.States depth p' ys q' → first_kind q ≢ Some (k.Word w.State) → first_kind q' ≢ Some (k.Word w.State) → xs ≡ ys
+  states_one e g.no_state g.no_state n n' = refl
+  states_one e g.no_state (g.and_state x more) n n' = absurd (n (ap first_kind e ∙ state_first x))
+  states_one e (g.and_state x more) g.no_state n n' = absurd (n' (sym (ap first_kind e) ∙ state_first x))
+  states_one {depth} e (g.and_state x more) (g.and_state x' more') n n' =
+      and_state (state_one e x x') (states_one (same_rest (s.State depth) e (state_reads x) (state_reads x')) more more' n n')
+
+design_tree : {xs xs' : List Decl} {y y' : t.StateTree} {ys ys' : t.StateList} → xs ≡ xs' → y ≡ y' → ys ≡ ys'
+    → ◌≡◌ {A = t.DesignTree} (record { declarations = xs; states = t.AndState y ys }) (record { declarations = xs'; states = t.AndState y' ys' })
+design_tree e f h = cc
+
+pub design_one : {p p' q q' : Stage} {x y : t.DesignTree} → p ≡ p' → g.Design p x q → g.Design p' y q' → q.left ≡ [] → q'.left ≡ [] → x ≡ y
+design_one e (g.design ds x more) (g.design ds' x' more') h h' =
+    let m2 = same_rest s.Declarations e (declarations_read ds (state_first x)) (declarations_read ds' (state_first x')) in
+    let m3 = same_rest (s.State 1) m2 (state_reads x) (state_reads x') in
+    design_tree (declarations_one e ds ds' (state_first x) (state_first x')) (state_one m2 x x')
+    (states_one m3 more more' (λ e. let f : None ≡ Some (k.Word w.State) = sym (ap kind_in h) ∙ e in absurd (cc)) (λ e. let f : None ≡ Some (k.Word w.State) = sym (ap kind_in h') ∙ e in absurd (cc)))

@@ -1,0 +1,64 @@
+use Rattle.std.proofs.Common.{◌≡◌, ◌∙◌, ◌+◌, ◌++◌, ◌∷◌, [], List, sym, ap, subst, refl, rules, arith}
+use Rattle.sap_parse.specs.Grammar as g
+use Rattle.sap_parse.specs.Joining.{join_commands}
+use Rattle.sap_parse.specs.Reading.{steps_by, strictly}
+use Rattle.sap_parse.specs.Table as s
+use Rattle.sap_parse.specs.declared.limit.Role.TheVariants as r
+use Rattle.sap_parse.specs.declared.token.Sign.TheVariants as j
+use Rattle.sap_tree.specs.Syntax as t
+use Rattle.sap_tree.specs.Trees.{command_of, commands_of, expression_of, simple_of}
+use Rattle.sap_tree.specs.declared.syntax.Expr.{Expr}
+use Rattle.sap_tree.specs.declared.syntax.Simple.{Simple}
+use Rattle.sap_parse.proofs.CommandLaws.{cmd_simple, cmds_missing, cmds_there, ending_unhandled}
+use Rattle.sap_parse.proofs.CommandMakes.{block_tree, branch_tree, handled_tree, join_commands_none, join_commands_push, plain_tree}
+use Rattle.sap_parse.proofs.Faults.{fault_goes}
+use Rattle.sap_walk.specs.Walk.{◌>>=◌}
+use Rattle.sap_walk.proofs.Walking.{bind_ok, bind_pure}
+use Rattle.sap_parse.proofs.command.+command.Goals as goal
+
+pub commands-returns-in_err-next-clause-goes : goal.commands-returns-in_err-next-clause-goes
+commands-returns-in_err-next-clause-goes m c =
+    fault_goes (s.Cmds c.args.depth) (s.Cmd c.args.depth) c.args.tokens.now c.commands.tokens c.command.new.tokens (steps_by strictly (s.Cmds c.args.depth ∷ [])) c.in_err-next.field-0.0 c.from_residual.result (search rules)
+    (c.commands.invariant.goes ∙ cmds_there strictly c.args.depth c.commands.tokens (c.commands-test.ensures.yes refl)) c.in_err-next.ensures.goes
+
+pub commands-commands-preserved : goal.commands-commands-preserved
+commands-commands-preserved m c = record {
+  goes = c.commands.invariant.goes ∙ cmds_there strictly c.args.depth c.commands.tokens (c.commands-test.ensures.yes refl) ∙ bind_ok _ _ _ c.in_ok-next.ensures.goes ∙ bind_pure _;
+  tree = λ ys q rest.
+      subst (λ xs. g.Cmds c.args.depth c.args.tokens.now xs q) (sym (ap (λ items. join_commands (commands_of items) ys) c.in_ok-push.ensures.items ∙ join_commands_push _ _ ys))
+      (c.commands.invariant.tree (t.AndCommand (command_of c.in_ok-next.next) ys) q (g.cmd c.in_ok-next.ensures.tree rest));
+  no_longer = omega (arith, c.in_ok-next.ensures.shorter);
+}
+
+pub commands-returns-clause-tree : goal.commands-returns-clause-tree
+commands-returns-clause-tree m c =
+    subst (λ xs. g.Cmds c.args.depth c.args.tokens.now xs c.commands.tokens) (join_commands_none _) (c.commands.invariant.tree t.NoCommand c.commands.tokens g.no_cmd)
+
+pub command-returns-in_err-sign-clause-goes : goal.command-returns-in_err-sign-clause-goes
+command-returns-in_err-sign-clause-goes m c =
+    fault_goes (s.Cmd c.args.depth) (s.Sign r.Plain j.Semicolon) c.args.tokens.now c.simple.new.tokens c.sign.new.self (steps_by strictly []) c.in_err-sign.field-0.0 c.from_residual-in_err-sign.result (search rules)
+    (cmd_simple strictly c.args.depth c.args.tokens.now (c.if-at_word.ensures.no refl) ∙ bind_ok _ _ _ c.in_ok-read.ensures.goes ∙ ap (λ o. o >>= steps_by strictly []) (ending_unhandled strictly c.args.depth c.simple.new.tokens (c.if-not-at_word.ensures.no refl)))
+    c.in_err-sign.ensures.goes
+
+pub command-returns-then-not-at_word-clause-tree : goal.command-returns-then-not-at_word-clause-tree
+command-returns-then-not-at_word-clause-tree m c =
+    plain_tree c.in_ok-read.ensures.tree c.in_ok-sign.ensures.tree (ap (λ (x : Simple). simple_of x) (c.into_inner.ensures ∙ c.in_ok-first.ensures.ok)) c.plain.ensures
+
+pub command-returns-clause-tree : goal.command-returns-clause-tree
+command-returns-clause-tree m c =
+    handled_tree c.in_ok-read.ensures.tree c.in_ok-place.ensures.tree c.in_ok-handler.ensures.tree c.in_ok-place.ensures.place
+    (ap (λ (x : Simple). simple_of x) (c.into_inner-2.ensures ∙ c.in_ok-first.ensures.ok)) c.handled.ensures
+
+pub branch-returns-clause-tree : goal.branch-returns-clause-tree
+branch-returns-clause-tree m c =
+    branch_tree c.in_ok-place.ensures.tree c.in_ok-sign.ensures.tree c.in_ok-read.ensures.tree c.in_ok-sign-2.ensures.tree c.in_ok-one.ensures.tree c.in_ok-other.ensures.tree c.in_ok-place.ensures.place
+    (ap (λ (x : Expr). expression_of x) (c.into_inner.ensures ∙ c.in_ok-condition.ensures.ok)) c.branch-place-2.ensures
+
+pub otherwise-returns-then-not-at_word-clause-tree : goal.otherwise-returns-then-not-at_word-clause-tree
+otherwise-returns-then-not-at_word-clause-tree m c = g.no_else
+
+pub otherwise-returns-clause-tree : goal.otherwise-returns-clause-tree
+otherwise-returns-clause-tree m c = g.else c.in_ok-word.ensures.tree c.in_ok-other.ensures.tree
+
+pub block-returns-clause-tree : goal.block-returns-clause-tree
+block-returns-clause-tree m c = block_tree c.in_ok-sign.ensures.tree c.in_ok-commands.ensures.tree c.in_ok-after.ensures.tree c.in_ok-after.ensures.place

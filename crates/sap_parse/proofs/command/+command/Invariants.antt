@@ -1,0 +1,35 @@
+-- What the loop keeps, and why the calls end.
+use Rattle.std.proofs.Common.{◌≡◌, ◌≤◌, length, ◌+◌, ◌*◌}
+use Rattle.sap_parse.specs.Grammar as g
+use Rattle.sap_parse.specs.Joining.{join_commands}
+use Rattle.sap_parse.specs.Reading.{reads}
+use Rattle.sap_parse.specs.Stages.{Stage}
+use Rattle.sap_parse.specs.Table as s
+use Rattle.sap_tree.specs.Syntax.{CommandList}
+use Rattle.sap_tree.specs.Trees.{commands_of}
+use Rattle.sap_parse.proofs.command.+command.Given as goal
+
+abbrev pub decreases-commands : goal.decreases-commands
+decreases-commands l = 4 * length l.tokens.now.left + 3
+
+abbrev pub decreases-command : goal.decreases-command
+decreases-command l = 4 * length l.tokens.now.left + 2
+
+abbrev pub decreases-branch : goal.decreases-branch
+decreases-branch l = 4 * length l.tokens.now.left + 1
+
+abbrev pub decreases-otherwise : goal.decreases-otherwise
+decreases-otherwise l = 4 * length l.tokens.now.left + 1
+
+abbrev pub decreases-block : goal.decreases-block
+decreases-block l = 4 * length l.tokens.now.left
+
+abbrev pub invariant-commands-commands : goal.invariant-commands-commands
+invariant-commands-commands l = record {
+  goes : reads (s.Cmds l.depth) l.fn.tokens ≡ reads (s.Cmds l.depth) l.tokens;
+  tree : (ys : CommandList) (q : Stage) → g.Cmds l.depth l.tokens ys q → g.Cmds l.depth l.fn.tokens (join_commands (commands_of l.list.items) ys) q;
+  no_longer : length l.tokens.left ≤ length l.fn.tokens.left;
+}
+
+abbrev pub decreases-commands-commands : goal.decreases-commands-commands
+decreases-commands-commands l = length l.tokens.left

@@ -1,0 +1,9 @@
+use Rattle.sap_parse.specs.Grammar.{no_authority}
+use Rattle.sap_parse.proofs.DesignMakes.{authority_tree}
+use Rattle.sap_parse.proofs.declaration.authority.Goals as goal
+
+pub returns-then-not-at_word-clause-tree : goal.returns-then-not-at_word-clause-tree
+returns-then-not-at_word-clause-tree c = no_authority
+
+pub returns-clause-tree : goal.returns-clause-tree
+returns-clause-tree c = authority_tree c.in_ok-place.ensures.tree c.in_ok-level.ensures.tree c.in_ok-place.ensures.place c.in_ok-level.ensures.place

@@ -1,0 +1,57 @@
+use Rattle.std.proofs.Common.{◌-◌, ◌∙◌, ◌+◌, sym, ap, subst, refl, arith, length-drop, length-take, length, take, drop}
+use Rattle.sap_walk.specs.Reached.{start, blank, token}
+use Rattle.sap_parse.specs.Lexemes.{lexeme_of}
+use Rattle.sap_parse.specs.Lexing.{Reached, IsWithin, place_of}
+use Rattle.sap_parse.proofs.Places.{advanced}
+use Rattle.std.specs.List.{All}
+use Rattle.sap_parse.specs.Spelled.{AreInOrder, HasText}
+use Rattle.sap_parse.proofs.Runs.{rest_from}
+use Rattle.sap_parse.proofs.TokenTexts.{texts_are, in_order}
+use Rattle.sap_parse.proofs.lexer.lex.Goals as goal
+
+pub lexemes-init : goal.lexemes-init
+unfolding place_of
+lexemes-init c = record {
+  within = omega arith;
+  reached = subst (Reached c.args.text.now 0) (sym c.new-tokens.ensures.items) start;
+  place = refl;
+  positive = omega arith;
+  bound = omega arith;
+}
+
+pub lexemes-preserved-in-Blank : goal.lexemes-preserved-in-Blank
+lexemes-preserved-in-Blank c =
+    let same = rest_from c.args.text.now c.lexemes.n in
+    let fits = subst (IsWithin (take (length c.args.text.now - c.lexemes.n) (drop c.lexemes.n c.args.text.now))) c.in-Blank.is c.in_ok-len.ensures.within in
+    record {
+      within = omega (arith, fits.1, ap length same, length-drop c.lexemes.n c.args.text.now);
+      reached = blank c.in-Blank.len c.lexemes.invariant.reached (ap lexeme_of (sym same) ∙ sym c.in_ok-len.ensures.value ∙ c.in-Blank.is);
+      place = advanced c.args.text.now c.lexemes.n c.in-Blank.len c.lexemes.invariant.place same c.advance-place.ensures.value;
+      positive = c.advance-place.ensures.positive;
+      bound = omega (arith, length-take c.in-Blank.len (take (length c.args.text.now - c.lexemes.n) (drop c.lexemes.n c.args.text.now)));
+    }
+
+pub lexemes-preserved : goal.lexemes-preserved
+lexemes-preserved c =
+    let same = rest_from c.args.text.now c.lexemes.n in
+    let fits = subst (IsWithin (take (length c.args.text.now - c.lexemes.n) (drop c.lexemes.n c.args.text.now))) c.in-Token.is c.in_ok-len.ensures.within in
+    record {
+      within = omega (arith, fits.1, ap length same, length-drop c.lexemes.n c.args.text.now);
+      reached = subst (Reached c.args.text.now (c.lexemes.n + c.in-Token.len)) (sym c.in_ok-push-in-Token.ensures.items)
+          (token _ c.in-Token.len c.lexemes.invariant.reached (record {
+            lexeme = ap lexeme_of (sym same) ∙ sym c.in_ok-len.ensures.value ∙ c.in-Token.is;
+            place = c.lexemes.invariant.place;
+            from = refl;
+            to = refl;
+          }));
+      place = advanced c.args.text.now c.lexemes.n c.in-Token.len c.lexemes.invariant.place same c.advance-place-in-Token.ensures.value;
+      positive = c.advance-place-in-Token.ensures.positive;
+      bound = omega (arith, length-take c.in-Token.len (take (length c.args.text.now - c.lexemes.n) (drop c.lexemes.n c.args.text.now)));
+    }
+
+pub returns-clause-texts : goal.returns-clause-texts
+returns-clause-texts c = subst (All (HasText c.args.text.now)) (sym c.new.ensures) (texts_are c.args.text.now c.lexemes.invariant.reached)
+
+pub returns-clause-order : goal.returns-clause-order
+returns-clause-order c =
+    subst (AreInOrder 0 (length c.args.text.now)) (sym c.new.ensures) (in_order c.args.text.now c.lexemes.n c.lexemes.tokens.items c.lexemes.invariant.reached c.lexemes.invariant.within)

@@ -1,0 +1,52 @@
+-- Parts of productions, as functions of the reader take them.
+use Rattle.std.specs.Prelude.{◌≡◌, ℕ, List}
+use Rattle.sap_parse.specs.Grammar as g
+use Rattle.sap_parse.specs.Stages.{Stage, IsNumber, IsSign}
+use Rattle.sap_parse.specs.declared.limit.Role.TheVariants as r
+use Rattle.sap_parse.specs.declared.token.Sign.TheVariants as s
+use Rattle.sap_tree.specs.Syntax as t
+use Rattle.sap_tree.specs.Trees.{expressions_of, states_of, tags_of}
+use Rattle.sap_tree.specs.declared.place.Place.{Place}
+use Rattle.sap_tree.specs.declared.place.Spot.{Spot}
+use Rattle.sap_tree.specs.declared.syntax.Expr.{Expr}
+use Rattle.sap_tree.specs.declared.syntax.State.{State}
+use Rattle.sap_tree.specs.declared.syntax.TagExpr.{TagExpr}
+
+abbrev pub join : t.Expressions → t.Expressions → t.Expressions
+join t.NoPart ys = ys
+join (t.AndPart x xs) ys = t.AndPart x (join xs ys)
+
+-- the tokens between are the expressions that were added, each behind a comma
+abbrev pub Collects : Stage → List Expr → List Expr → Stage → Type 0
+Collects old before after new = (xs : t.Expressions) × (expressions_of after ≡ join (expressions_of before) xs) × g.Parts old xs new
+
+-- behind the `[` of an index: the index, `]`, and slices of the cell
+pub data Indexes (spot : Spot) (memory : List ℕ) : Stage → t.Expression → Stage → Type 0 where
+  indexes : {p1 p2 p3 q : Stage} {i x : t.Expression} → g.Expr p1 i p2 → IsSign p2 r.Closing s.CloseBracket p3 → g.Cuts (t.Cell spot memory i) p3 x q
+      → Indexes spot memory p1 x q
+
+-- behind the `[` of a slice of x: the bounds, `]`, and slices of the slice
+pub data Slices (spot : Spot) (of : t.Expression) : Stage → t.Expression → Stage → Type 0 where
+  slices : {p1 p2 p3 p4 p5 q : Stage} {high low : ℕ} {x : t.Expression}
+      → IsNumber p1 r.Inner high p2 → IsSign p2 r.Inner s.Colon p3 → IsNumber p3 r.Inner low p4 → IsSign p4 r.Closing s.CloseBracket p5
+      → g.Cuts (t.Slice spot of high low) p5 x q → Slices spot of p1 x q
+
+abbrev pub join_tags : t.TagExpressions → t.TagExpressions → t.TagExpressions
+join_tags t.NoTag ys = ys
+join_tags (t.AndTag x xs) ys = t.AndTag x (join_tags xs ys)
+
+-- the tokens between are the tag expressions that were added, each behind a comma
+abbrev pub CollectsTags : Stage → List TagExpr → List TagExpr → Stage → Type 0
+CollectsTags old before after new = (xs : t.TagExpressions) × (tags_of after ≡ join_tags (tags_of before) xs) × g.Texprs old xs new
+
+abbrev pub join_commands : t.CommandList → t.CommandList → t.CommandList
+join_commands t.NoCommand ys = ys
+join_commands (t.AndCommand x xs) ys = t.AndCommand x (join_commands xs ys)
+
+abbrev pub join_states : t.StateList → t.StateList → t.StateList
+join_states t.NoState ys = ys
+join_states (t.AndState x xs) ys = t.AndState x (join_states xs ys)
+
+-- the tokens between are the top-level states that were added
+abbrev pub CollectsStates : Stage → List State → List State → Stage → Type 0
+CollectsStates old before after new = (xs : t.StateList) × (states_of after ≡ join_states (states_of before) xs) × g.States 1 old xs new

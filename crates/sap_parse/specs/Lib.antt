@@ -1,0 +1,14 @@
+pub mod Spelling
+pub mod Lexemes
+pub mod Lexing
+pub mod Spelled
+pub mod Fault
+pub mod Grammar
+pub mod Limits
+pub mod Stages
+pub mod Table
+pub mod Counting
+pub mod Reading
+pub mod Choices
+pub mod Joining
+pub mod Text

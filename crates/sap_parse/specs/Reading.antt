@@ -1,0 +1,133 @@
+-- What the reader's functions answer.
+use Rattle.std.specs.Prelude.{◌≡◌, ℕ, List, [], ◌∷◌, drop, Option, Some, None, Result, Ok, Err}
+use Rattle.sap_parse.specs.Limits.{Counts, breach, tally}
+use Rattle.sap_parse.specs.Stages.{Stage}
+use Rattle.sap_parse.specs.Table.{Symbol, may_be_empty, next}
+use Rattle.sap_parse.specs.declared.cursor.Ahead.TheVariants as a
+use Rattle.sap_parse.specs.declared.cursor.Ahead.{Ahead}
+use Rattle.sap_parse.specs.declared.cursor.Fault.TheVariants as f
+use Rattle.sap_parse.specs.declared.cursor.Fault.{Fault}
+use Rattle.sap_parse.specs.declared.limit.Limit.{Limit}
+use Rattle.sap_parse.specs.declared.limit.Role.{Role}
+use Rattle.sap_parse.specs.declared.token.Kind.TheVariants as k
+use Rattle.sap_parse.specs.declared.token.Kind.{Kind}
+use Rattle.sap_parse.specs.declared.token.Token.{Token}
+use Rattle.sap_walk.specs.Limits.{Past, passed, unless_broken}
+use Rattle.sap_walk.specs.Walk as walk
+use Rattle.sap_walk.specs.Walk.{◌>>=◌}
+
+-- where a reader is: behind so many of the tokens, none of which broke a limit
+abbrev pub stage_at : List Token → ℕ → Counts → Stage
+stage_at ts n counts = record { past = record { before = n; counts = counts; first = None }; left = drop n ts }
+
+-- what kind of token stands at the front
+
+abbrev pub ahead_of : Kind → Ahead
+ahead_of (k.Word word) = a.Word word
+ahead_of (k.Sign sign) = a.Sign sign
+ahead_of (k.Name name) = a.Name
+ahead_of (k.Number n) = a.Number
+ahead_of (k.Sized width n) = a.Sized
+
+unfoldable pub ahead : List Token → Ahead
+ahead [] = a.Nothing
+ahead (t ∷ ts) = ahead_of t.kind
+
+-- and behind it
+unfoldable pub second : List Token → Ahead
+second [] = a.Nothing
+second (t ∷ ts) = ahead ts
+
+-- the walk by the table of the design grammar; `enter` says how a token is gone past
+
+abbrev pub Enter : Type 0
+Enter = Role → Token → Past Counts Limit → Result (Past Counts Limit) Limit
+
+abbrev pub table : Enter → walk.Table
+table enter = record {
+  Symbol = Symbol;
+  Role = Role;
+  Token = Token;
+  Past = Past Counts Limit;
+  Limit = Limit;
+  next = λ s t. next s t.kind;
+  may_be_empty = may_be_empty;
+  enter = enter;
+}
+
+abbrev pub Outcome : Type 0
+Outcome = Result Stage (walk.Halt Stage Limit)
+
+unfoldable pub read_by : Enter → Symbol → Stage → Outcome
+read_by enter s p = walk.read (table enter) s p
+
+abbrev pub steps_by : Enter → List Symbol → Stage → Outcome
+steps_by enter [] p = Ok p
+steps_by enter (s ∷ σ) p = read_by enter s p >>= steps_by enter σ
+
+-- the walk that stops where a limit is broken, and the one that goes past each
+
+unfoldable pub strictly : Enter
+strictly role t past = unless_broken (breach past.counts role t) (passed tally breach role t past)
+
+unfoldable pub leniently : Enter
+leniently role t past = Ok (passed tally breach role t past)
+
+abbrev pub reads : Symbol → Stage → Outcome
+reads = read_by strictly
+
+-- a reader of s that faults there does as the walk does, and stays there
+abbrev pub Stops : Symbol → Stage → Fault → Stage → Type 0
+Stops s old f.Token new = reads s old ≡ Err (walk.at_token new)
+Stops s old (f.Limit limit) new = reads s old ≡ Err (walk.at_limit limit new)
+Stops s old f.Memory new = Unit {0}
+
+-- a reader of s that answers this between these stages does as the walk does
+abbrev pub Goes : {A : Type 0} → Symbol → Stage → Result A Fault → Stage → Type 0
+Goes s old (Ok x) new = reads s old ≡ Ok new
+Goes s old (Err e) new = Stops s old e new
+
+-- the token that stands at p is passed in this role, and breaks no limit; q comes behind it
+pub record Passes (p : Stage) (role : Role) (token : Token) (q : Stage) : Type 0 where
+  pub left : p.left ≡ token ∷ q.left
+  pub past : q.past ≡ passed tally breach role token p.past
+  pub free : breach p.past.counts role token ≡ None
+
+-- the token that stands at p breaks a limit in this role
+pub record Breaks (p : Stage) (role : Role) (limit : Limit) : Type 0 where
+  pub token : Token
+  pub rest : List Token
+  pub left : p.left ≡ token ∷ rest
+  pub broken : breach p.past.counts role token ≡ Some limit
+
+-- the reader stops there, and stays
+abbrev pub IsBroken : Stage → Role → Stage → Fault → Type 0
+IsBroken old role new f.Token = ⊥
+IsBroken old role new (f.Limit limit) = Breaks old role limit × (new ≡ old)
+IsBroken old role new f.Memory = ⊥
+
+-- the number that stands at the front, the name, and the number with a width
+
+abbrev pub number_in : Kind → Option ℕ
+number_in (k.Number n) = Some n
+number_in kind = None
+
+unfoldable pub front_number : List Token → Option ℕ
+front_number [] = None
+front_number (t ∷ ts) = number_in t.kind
+
+abbrev pub name_in : Kind → Option (List ℕ)
+name_in (k.Name name) = Some name
+name_in kind = None
+
+unfoldable pub front_name : List Token → Option (List ℕ)
+front_name [] = None
+front_name (t ∷ ts) = name_in t.kind
+
+abbrev pub sized_in : Kind → Option (ℕ × ℕ)
+sized_in (k.Sized width n) = Some (width, n)
+sized_in kind = None
+
+unfoldable pub front_sized : List Token → Option (ℕ × ℕ)
+front_sized [] = None
+front_sized (t ∷ ts) = sized_in t.kind

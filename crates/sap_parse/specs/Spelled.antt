@@ -1,0 +1,43 @@
+-- What the text of a token is, and where the tokens of a text lie.
+use Rattle.std.specs.Prelude.{◌≡◌, ℕ, ◌-◌, ◌^◌, ◌<◌, ◌≤◌, List, [], ◌∷◌, ◌++◌, length, take, drop, true, false, codes}
+use Rattle.std.specs.List.{list_all}
+use Rattle.sap_tree.specs.Words.{is_word, is_keyword}
+use Rattle.sap_parse.specs.Lexemes.{is_in, value_of}
+use Rattle.sap_parse.specs.Spelling.{word_text, sign_text}
+use Rattle.sap_parse.specs.declared.lexeme.Class.TheVariants as c
+use Rattle.sap_parse.specs.declared.lexeme.Class.{Class}
+use Rattle.sap_parse.specs.declared.token.Kind.TheVariants as k
+use Rattle.sap_parse.specs.declared.token.Kind.{Kind}
+use Rattle.sap_parse.specs.declared.token.Token.{Token}
+
+-- digits of a base that spell n, which is below 2^64
+pub record SpellsNumber (class : Class) (base n : ℕ) (text : List ℕ) : Type 0 where
+  pub some : 0 < length text
+  pub digits : list_all (is_in class) text ≡ true
+  pub value : value_of base text ≡ n
+  pub fits : n < 2 ^ 64
+
+pub data SpellsSized (width n : ℕ) (text : List ℕ) : Type 0 where
+  decimal : (front digits : List ℕ) → text ≡ front ++ (codes "'d" ++ digits) → SpellsNumber c.Decimal 10 width front → SpellsNumber c.Decimal 10 n digits
+      → SpellsSized width n text
+  hexadecimal : (front digits : List ℕ) → text ≡ front ++ (codes "'h" ++ digits) → SpellsNumber c.Decimal 10 width front → SpellsNumber c.Hexadecimal 16 n digits
+      → SpellsSized width n text
+
+abbrev pub Spells : Kind → List ℕ → Type 0
+Spells (k.Word word) text = text ≡ word_text word
+Spells (k.Sign sign) text = text ≡ sign_text sign
+Spells (k.Name name) text = (text ≡ name) × (is_word name ≡ true) × (is_keyword name ≡ false)
+Spells (k.Number n) text = SpellsNumber c.Decimal 10 n text
+Spells (k.Sized width n) text = SpellsSized width n text
+
+-- the slice of the source at a token's span
+abbrev pub text_of : List ℕ → Token → List ℕ
+text_of source token = take (token.to - token.from) (drop token.from source)
+
+abbrev pub HasText : List ℕ → Token → Type 0
+HasText source token = Spells token.kind (text_of source token)
+
+-- each span begins where the last one ends, or behind it, and has a byte; they lie between these two bytes
+abbrev pub AreInOrder : ℕ → ℕ → List Token → Type 0
+AreInOrder from to [] = from ≤ to
+AreInOrder from to (token ∷ tokens) = (from ≤ token.from) × (token.from < token.to) × AreInOrder token.to to tokens

@@ -1,0 +1,329 @@
+//! What stands at the front of a text.
+
+ghost use Rattle.std.specs.Prelude.{◌≡◌, ◌≤◌, ◌<◌, ◌+◌, IfOk, length, slice_index, take, true};
+ghost use Rattle.std.specs.Char.{digit_value};
+ghost use Rattle.sap_parse.specs.Lexemes.{clings, is_blank, is_comment, is_in, lexeme_of, name_at, number_at, number_of, run, sign_at, sized_at, sized_in};
+ghost use Rattle.sap_parse.specs.Lexing.{IsWithin};
+ghost use Rattle.sap_parse.specs.Spelling.{sign_of, word_of};
+ghost use Rattle.sap_tree.specs.Words.{is_initial, is_inner};
+
+use crate::token::{Kind, Sign, Word};
+use sap_tree::name::Name;
+use std::alloc::{AllocError, Global};
+
+/// What stands at the front of a text, with its number of bytes.
+#[derive(Drop)]
+pub enum Lexeme {
+    /// White space or a comment.
+    Blank(usize),
+    Token(Kind, usize),
+    Bad,
+}
+
+/// Kinds of bytes that stand in a row.
+#[derive(Clone, Copy, PartialEq, Eq, Debug)]
+pub enum Class {
+    /// What a name goes on with.
+    Inner,
+    Decimal,
+    Hexadecimal,
+    Comment,
+}
+
+fn is_in(class: Class, b: u8) -> bool
+    ensures { result ≡ is_in class b }
+{
+    match class {
+        Class::Inner => b.is_ascii_alphanumeric() || b == b'_',
+        Class::Decimal => b.is_ascii_digit(),
+        Class::Hexadecimal => b.is_ascii_hexdigit(),
+        Class::Comment => b != b'\n',
+    }
+}
+
+#[tactic(auto, using(crate::proofs::Runs::runs))]
+fn run_len(class: Class, bytes: &[u8]) -> usize
+    ensures value { result ≡ run class bytes.now }
+    ensures within { result ≤ length bytes.now }
+{
+    let mut n = 0;
+    'run: while n < bytes.len() && is_in(class, bytes[n]) {
+        n += 1;
+    }
+    n
+}
+
+fn byte_at(bytes: &[u8], i: usize) -> u8
+    ensures { result ≡ slice_index bytes.now i }
+{
+    if i < bytes.len() { bytes[i] } else { 0 }
+}
+
+fn word(text: &[u8]) -> Option<Word>
+    ensures { result ≡ word_of text.now }
+{
+    if text == b"input".as_slice() {
+        Some(Word::Input)
+    } else if text == b"reg".as_slice() {
+        Some(Word::Reg)
+    } else if text == b"mem".as_slice() {
+        Some(Word::Mem)
+    } else if text == b"state".as_slice() {
+        Some(Word::State)
+    } else if text == b"dynamic".as_slice() {
+        Some(Word::Dynamic)
+    } else if text == b"enforced".as_slice() {
+        Some(Word::Enforced)
+    } else if text == b"under".as_slice() {
+        Some(Word::Under)
+    } else if text == b"if".as_slice() {
+        Some(Word::If)
+    } else if text == b"else".as_slice() {
+        Some(Word::Else)
+    } else if text == b"goto".as_slice() {
+        Some(Word::Goto)
+    } else if text == b"fall".as_slice() {
+        Some(Word::Fall)
+    } else if text == b"setTag".as_slice() {
+        Some(Word::SetTag)
+    } else if text == b"otherwise".as_slice() {
+        Some(Word::Otherwise)
+    } else if text == b"tag".as_slice() {
+        Some(Word::Tag)
+    } else if text == b"level".as_slice() {
+        Some(Word::Level)
+    } else if text == b"join".as_slice() {
+        Some(Word::Join)
+    } else if text == b"zext".as_slice() {
+        Some(Word::Zext)
+    } else {
+        None
+    }
+}
+
+#[tactic(auto, unfolding(crate::specs::Lexemes::name_at))]
+fn name(alloc: Global, bytes: &[u8]) -> Result<Lexeme, AllocError>
+    requires { is_initial (slice_index bytes.now 0) ≡ true }
+    ensures value { IfOk result (λ lexeme. lexeme ≡ name_at bytes.now) }
+    ensures within { IfOk result (IsWithin bytes.now) }
+{
+    let n = run_len(Class::Inner, bytes);
+    let text = &bytes[..n];
+    match word(text) {
+        Some(word) => Ok(Lexeme::Token(Kind::Word(word), n)),
+        None => {
+            let copy = text.to_vec(alloc)?;
+            Ok(Lexeme::Token(Kind::Name(Name::new(copy)), n))
+        }
+    }
+}
+
+/// The value of a digit of any base up to 36, in letters of either case.
+fn digit_value(d: u8) -> u8
+    ensures { result ≡ digit_value d }
+{
+    match d {
+        b'0'..=b'9' => d - b'0',
+        b'A'..=b'Z' => d - 55,
+        b'a'..=b'z' => d - 87,
+        _ => 36,
+    }
+}
+
+/// The number that digits spell, if it is below 2^64.
+#[tactic(auto, using(crate::proofs::Runs::digits))]
+fn number(base: u64, digits: &[u8]) -> Option<u64>
+    requires { 1 ≤ base }
+    ensures { result ≡ number_of base digits.now }
+{
+    let mut n: u64 = 0;
+    'digits: for d in digits {
+        n = n
+            .checked_mul(base)?
+            .checked_add(u64::from(digit_value(*d)))?;
+    }
+    Some(n)
+}
+
+fn clings(b: u8) -> bool
+    ensures { result ≡ clings b }
+{
+    is_in(Class::Inner, b) || b == b'\''
+}
+
+#[tactic(auto, unfolding(crate::specs::Lexemes::sized_in))]
+fn sized_in(class: Class, base: u64, width: usize, bytes: &[u8]) -> Lexeme
+    requires based { 1 ≤ base }
+    requires within { width + 2 ≤ length bytes.now }
+    ensures value { result ≡ sized_in class base width bytes.now }
+    ensures within { IsWithin bytes.now result }
+{
+    let rest = &bytes[width + 2..];
+    let digits = run_len(class, rest);
+    if digits == 0 {
+        return Lexeme::Bad;
+    }
+    if clings(byte_at(bytes, width + 2 + digits)) {
+        return Lexeme::Bad;
+    }
+    match (number(10, &bytes[..width]), number(base, &rest[..digits])) {
+        (Some(w), Some(n)) => Lexeme::Token(Kind::Sized(w, n), width + 2 + digits),
+        _ => Lexeme::Bad,
+    }
+}
+
+#[tactic(auto, unfolding(crate::specs::Lexemes::sized_at))]
+fn sized(width: usize, bytes: &[u8]) -> Lexeme
+    requires { width ≤ length bytes.now }
+    ensures value { result ≡ sized_at width bytes.now }
+    ensures within { IsWithin bytes.now result }
+{
+    if width + 2 > bytes.len() {
+        return Lexeme::Bad;
+    }
+    match bytes[width + 1] {
+        b'd' => sized_in(Class::Decimal, 10, width, bytes),
+        b'h' => sized_in(Class::Hexadecimal, 16, width, bytes),
+        _ => Lexeme::Bad,
+    }
+}
+
+#[tactic(auto, unfolding(crate::specs::Lexemes::number_at))]
+fn numeral(bytes: &[u8]) -> Lexeme
+    requires { is_in Class.Decimal (slice_index bytes.now 0) ≡ true }
+    ensures value { result ≡ number_at bytes.now }
+    ensures within { IsWithin bytes.now result }
+{
+    let digits = run_len(Class::Decimal, bytes);
+    let next = byte_at(bytes, digits);
+    if next == b'\'' {
+        return sized(digits, bytes);
+    }
+    match number(10, &bytes[..digits]) {
+        Some(n) if !clings(next) => Lexeme::Token(Kind::Number(n), digits),
+        _ => Lexeme::Bad,
+    }
+}
+
+fn spelled_sign(text: &[u8]) -> Option<Sign>
+    ensures { result ≡ sign_of text.now }
+{
+    if text == b":=".as_slice() {
+        Some(Sign::Becomes)
+    } else if text == b"==".as_slice() {
+        Some(Sign::Equal)
+    } else if text == b"!=".as_slice() {
+        Some(Sign::NotEqual)
+    } else if text == b"<=".as_slice() {
+        Some(Sign::LessOrEqual)
+    } else if text == b"<<".as_slice() {
+        Some(Sign::ShiftLeft)
+    } else if text == b">>".as_slice() {
+        Some(Sign::ShiftRight)
+    } else if text == b"(".as_slice() {
+        Some(Sign::OpenParen)
+    } else if text == b")".as_slice() {
+        Some(Sign::CloseParen)
+    } else if text == b"{".as_slice() {
+        Some(Sign::OpenBrace)
+    } else if text == b"}".as_slice() {
+        Some(Sign::CloseBrace)
+    } else if text == b"[".as_slice() {
+        Some(Sign::OpenBracket)
+    } else if text == b"]".as_slice() {
+        Some(Sign::CloseBracket)
+    } else if text == b":".as_slice() {
+        Some(Sign::Colon)
+    } else if text == b";".as_slice() {
+        Some(Sign::Semicolon)
+    } else if text == b",".as_slice() {
+        Some(Sign::Comma)
+    } else if text == b"?".as_slice() {
+        Some(Sign::Question)
+    } else if text == b"=".as_slice() {
+        Some(Sign::Is)
+    } else if text == b"<".as_slice() {
+        Some(Sign::Less)
+    } else if text == b"+".as_slice() {
+        Some(Sign::Plus)
+    } else if text == b"-".as_slice() {
+        Some(Sign::Minus)
+    } else if text == b"*".as_slice() {
+        Some(Sign::Star)
+    } else if text == b"&".as_slice() {
+        Some(Sign::Ampersand)
+    } else if text == b"|".as_slice() {
+        Some(Sign::Bar)
+    } else if text == b"^".as_slice() {
+        Some(Sign::Caret)
+    } else if text == b"~".as_slice() {
+        Some(Sign::Tilde)
+    } else {
+        None
+    }
+}
+
+/// At most the first n bytes.
+fn at_most(bytes: &[u8], n: usize) -> &[u8]
+    requires { (0 < n) × (0 < length bytes.now) }
+    ensures value { result.now ≡ take n bytes.now }
+    ensures within { (0 < length result.now) × (length result.now ≤ length bytes.now) }
+{
+    &bytes[..n.min(bytes.len())]
+}
+
+#[tactic(auto, unfolding(crate::specs::Lexemes::sign_at))]
+fn sign(bytes: &[u8]) -> Lexeme
+    requires { 0 < length bytes.now }
+    ensures value { result ≡ sign_at bytes.now }
+    ensures within { IsWithin bytes.now result }
+{
+    let pair = at_most(bytes, 2);
+    let one = at_most(bytes, 1);
+    match spelled_sign(pair) {
+        Some(sign) => Lexeme::Token(Kind::Sign(sign), pair.len()),
+        None => match spelled_sign(one) {
+            Some(sign) => Lexeme::Token(Kind::Sign(sign), one.len()),
+            None => Lexeme::Bad,
+        },
+    }
+}
+
+fn is_blank(b: u8) -> bool
+    ensures { result ≡ is_blank b }
+{
+    b == b' ' || b == b'\t' || b == b'\r' || b == b'\n'
+}
+
+fn is_comment(bytes: &[u8]) -> bool
+    ensures { result ≡ is_comment bytes.now }
+{
+    byte_at(bytes, 0) == b'/' && byte_at(bytes, 1) == b'/'
+}
+
+fn is_initial(b: u8) -> bool
+    ensures { result ≡ is_initial b }
+{
+    b.is_ascii_alphabetic() || b == b'_'
+}
+
+/// What stands at the front of a text, longest first.
+#[tactic(auto, unfolding(crate::specs::Lexemes::lexeme_of))]
+pub fn front_lexeme(alloc: Global, bytes: &[u8]) -> Result<Lexeme, AllocError>
+    requires { 0 < length bytes.now }
+    ensures value { IfOk result (λ lexeme. lexeme ≡ lexeme_of bytes.now) }
+    ensures within { IfOk result (IsWithin bytes.now) }
+{
+    let first = bytes[0];
+    if is_blank(first) {
+        Ok(Lexeme::Blank(1))
+    } else if is_comment(bytes) {
+        Ok(Lexeme::Blank(run_len(Class::Comment, bytes)))
+    } else if is_initial(first) {
+        name(alloc, bytes)
+    } else if first.is_ascii_digit() {
+        Ok(numeral(bytes))
+    } else {
+        Ok(sign(bytes))
+    }
+}

@@ -1,0 +1,113 @@
+//! The reader of states.
+
+ghost use Rattle.std.specs.Prelude.{◌≡◌, ◌≤◌, ◌<◌, ◌+◌, ◌^◌, [], IfOk, length};
+ghost use Rattle.sap_parse.specs.Grammar as g;
+ghost use Rattle.sap_parse.specs.Joining.{CollectsStates};
+ghost use Rattle.sap_parse.specs.Reading.{Goes};
+ghost use Rattle.sap_parse.specs.Table as s;
+ghost use Rattle.sap_parse.specs.Stages.{here};
+ghost use Rattle.sap_tree.specs.Parts.{tree_of};
+ghost use Rattle.sap_tree.specs.Trees.{commands_of, state_of, states_of};
+
+use crate::command::commands;
+use crate::cursor::{Cursor, Fault};
+use crate::declaration::{declarations, kind};
+use crate::limit::Role;
+use crate::token::{Sign, Word};
+use sap_tree::syntax::{Block, Decl, State};
+use std::alloc::Global;
+
+/// The states that come next, at this depth.
+#[cycle(state)]
+#[tactic(auto, using(crate::proofs::Walks::state_list))]
+fn states(alloc: Global, tokens: &mut Cursor<'_>, depth: u64) -> Result<Vec<State>, Fault>
+    requires { depth + length tokens.old.left < 2 ^ 64 }
+    ensures goes { Goes (s.States depth) tokens.old result tokens.new }
+    ensures tree { IfOk result (λ list. g.States depth tokens.old (states_of list.items) tokens.new) }
+    ensures no_longer { IfOk result (λ _. length tokens.new.left ≤ length tokens.old.left) }
+{
+    let mut list = Vec::new(alloc);
+    'states: while tokens.at_word(Word::State) {
+        let next = state(alloc, tokens, depth)?;
+        list.push(next)?;
+    }
+    Ok(list)
+}
+
+#[cycle(state)]
+#[tactic(auto, using(crate::proofs::Walks::one_state))]
+fn state(alloc: Global, tokens: &mut Cursor<'_>, depth: u64) -> Result<State, Fault>
+    requires { depth + length tokens.old.left < 2 ^ 64 }
+    ensures goes { Goes (s.State depth) tokens.old result tokens.new }
+    ensures tree { IfOk result (λ x. g.State depth tokens.old (state_of x) tokens.new) }
+    ensures shorter { IfOk result (λ _. length tokens.new.left < length tokens.old.left) }
+{
+    let place = tokens.word(Role::State(depth), Word::State)?;
+    let name = tokens.name(alloc, Role::Plain)?;
+    let read = kind(alloc, tokens)?;
+    let kind = Box::new(alloc, read)?;
+    tokens.sign(Role::Plain, Sign::OpenBrace)?;
+    let body = body(alloc, tokens)?;
+    let children = states(alloc, tokens, depth + 1)?;
+    tokens.sign(Role::Plain, Sign::CloseBrace)?;
+    Ok(State::new(place, name, Box::into_inner(kind), body, children))
+}
+
+/// The commands of a state's body.
+#[tactic(auto, using(crate::proofs::Walks::binding))]
+fn body(alloc: Global, tokens: &mut Cursor<'_>) -> Result<Block, Fault>
+    requires { 1 + length tokens.old.left < 2 ^ 64 }
+    ensures goes { Goes (s.Cmds 1) tokens.old result tokens.new }
+    ensures tree { IfOk result (λ b. g.Cmds 1 tokens.old (commands_of b.commands.items) tokens.new) }
+    ensures after { IfOk result (λ b. b.after ≡ here tokens.new) }
+    ensures no_longer { IfOk result (λ _. length tokens.new.left ≤ length tokens.old.left) }
+{
+    let commands = commands(alloc, tokens, 1)?;
+    let after = tokens.here();
+    Ok(Block { commands, after })
+}
+
+/// The last of the top-level states, up to the end.
+#[tactic(auto, using(crate::proofs::Walks::last_states))]
+fn last_states(alloc: Global, tokens: &mut Cursor<'_>, list: &mut Vec<State>) -> Result<(), Fault>
+    requires { 1 + length tokens.old.left < 2 ^ 64 }
+    ensures goes { Goes s.LastStates tokens.old result tokens.new }
+    ensures tree { IfOk result (λ _. CollectsStates tokens.old list.old.items list.new.items tokens.new) }
+    ensures end { IfOk result (λ _. tokens.new.left ≡ []) }
+{
+    'states: while tokens.at_word(Word::State) {
+        let next = state(alloc, tokens, 1)?;
+        list.push(next)?;
+    }
+    if tokens.at_end() {
+        Ok(())
+    } else {
+        Err(Fault::Token)
+    }
+}
+
+/// The declarations and the top-level states of a design.
+#[derive(Drop)]
+pub struct Parts {
+    pub declarations: Vec<Decl>,
+    pub states: Vec<State>,
+}
+
+/// A whole design.
+#[tactic(auto, using(crate::proofs::Walks::designs))]
+pub fn design(alloc: Global, tokens: &mut Cursor<'_>) -> Result<Parts, Fault>
+    requires { 1 + length tokens.old.left < 2 ^ 64 }
+    ensures goes { Goes s.Design tokens.old result tokens.new }
+    ensures tree { IfOk result (λ d. g.Design tokens.old (tree_of d.declarations.items d.states.items) tokens.new) }
+    ensures end { IfOk result (λ _. tokens.new.left ≡ []) }
+{
+    let declarations = declarations(alloc, tokens)?;
+    let first = state(alloc, tokens, 1)?;
+    let mut states = Vec::new(alloc);
+    states.push(first)?;
+    last_states(alloc, tokens, &mut states)?;
+    Ok(Parts {
+        declarations,
+        states,
+    })
+}
