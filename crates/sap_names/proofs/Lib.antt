@@ -1,0 +1,12 @@
+pub mod Weights
+pub mod Faults
+pub mod First
+pub mod Parts
+pub mod Lists
+pub mod Groups
+pub mod Levels
+pub mod Commands
+pub mod Numbers
+pub mod Twice
+pub mod Built
+pub mod Sample

@@ -1,20 +1,16 @@
 -- The entities of a design: its inputs, registers, memories and states, in the order of the text.
-use Rattle.std.specs.Prelude.{ℕ, zero, suc, List, [], ◌∷◌, ◌++◌, Option, Some, None, Bool, true, false, bytes_eq, eqb, leb, ◌&&◌, ◌^◌, ◌+◌, if◌then◌else◌, option_map}
-use Rattle.sap_tree.specs.declared.name.Mention.{Mention}
-use Rattle.sap_tree.specs.declared.place.Place.{Place}
+use Rattle.std.specs.Prelude.{◌≤◌, ℕ, List, [], ◌∷◌, ◌++◌, Option, Some, None, Bool, true, false, not, bytes_eq, ◌+◌, if◌then◌else◌, option_map}
 use Rattle.sap_tree.specs.declared.syntax.Kind.{Kind}
 use Rattle.sap_tree.specs.declared.syntax.Kind.TheVariants.{Dynamic, Enforced}
 use Rattle.sap_names.specs.declared.kind.Declared.{Declared}
 use Rattle.sap_names.specs.declared.kind.Declared.TheVariants as what
+use Rattle.sap_names.specs.declared.kind.EntityKind.{EntityKind}
+use Rattle.sap_names.specs.declared.kind.EntityKind.TheVariants as kinds
 use Rattle.sap_tree.specs.declared.syntax.Decl.{Decl}
 use Rattle.sap_tree.specs.declared.syntax.Decl.TheVariants.{Input, Register, Memory}
-use Rattle.sap_tree.specs.Syntax.{CommandBlock, StateTree, StateOf, StateList, NoState, AndState, DesignTree}
-
+use Rattle.sap_tree.specs.Syntax.{StateTree, StateOf, StateList, NoState, AndState, DesignTree}
 -- a declared name: where it is declared, what it is, and whether it is dynamic, as inputs are
-pub record Entity : Type 0 where
-  pub name : Mention
-  pub what : Declared
-  pub dynamic : Bool
+pub use Rattle.sap_names.specs.declared.entity.Entity.{Entity}
 
 abbrev pub is_dynamic_kind : Kind → Bool
 is_dynamic_kind (Dynamic place) = true
@@ -59,3 +55,36 @@ number_of (e ∷ es) name = if bytes_eq e.name.name name then Some 0 else option
 
 abbrev pub what_is : List Entity → Lookup
 what_is es name = option_map (λ e. e.what) (find es name)
+
+-- what stands for a name is dynamic; is enforced
+abbrev pub dynamic_of : Option Entity → Bool
+dynamic_of None = false
+dynamic_of (Some e) = e.dynamic
+
+abbrev pub enforced_of : Option Entity → Bool
+enforced_of None = false
+enforced_of (Some e) = not e.dynamic
+
+abbrev pub kind_of : Declared → EntityKind
+kind_of (what.Input width) = kinds.Input
+kind_of (what.Register width) = kinds.Register
+kind_of (what.Memory width depth) = kinds.Memory
+kind_of what.State = kinds.State
+
+-- the declared width, 0 for a state
+abbrev pub declared_width : Declared → ℕ
+declared_width (what.Input width) = width
+declared_width (what.Register width) = width
+declared_width (what.Memory width depth) = width
+declared_width what.State = 0
+
+-- an entity that is no state has a width from 1 to 64
+abbrev pub HasWidth : Declared → Type 0
+HasWidth (what.Input width) = (1 ≤ width) × (width ≤ 64)
+HasWidth (what.Register width) = (1 ≤ width) × (width ≤ 64)
+HasWidth (what.Memory width depth) = (1 ≤ width) × (width ≤ 64)
+HasWidth what.State = Unit {0}
+
+abbrev pub HaveWidths : List Entity → Type 0
+HaveWidths [] = Unit {0}
+HaveWidths (e ∷ es) = HasWidth e.what × HaveWidths es

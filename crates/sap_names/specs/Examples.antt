@@ -1,20 +1,18 @@
 -- Worked examples of the faults of names and widths.
-use Rattle.std.specs.Prelude.{◌≡◌, ℕ, List, [], ◌∷◌, Option, Some, None, Bool, true, false, codes, leb}
+use Rattle.std.specs.Prelude.{◌≡◌, ℕ, List, [], ◌∷◌, Some, None, Bool, codes, leb}
 use Rattle.sap_tree.specs.declared.name.Mention.{Mention}
 use Rattle.sap_tree.specs.declared.place.Place.{Place}
 use Rattle.sap_tree.specs.declared.place.Spot.{Spot}
-use Rattle.sap_tree.specs.declared.syntax.Numeral.{Numeral}
 use Rattle.sap_tree.specs.declared.syntax.Kind.{Kind}
 use Rattle.sap_tree.specs.declared.syntax.Kind.TheVariants.{Dynamic, Enforced}
-use Rattle.sap_tree.specs.declared.syntax.Decl.{Decl}
-use Rattle.sap_tree.specs.declared.syntax.Decl.TheVariants.{Input, Register, Memory}
+use Rattle.sap_tree.specs.declared.syntax.Decl.TheVariants.{Register}
 use Rattle.sap_tree.specs.declared.syntax.BinaryOperator.TheVariants.{Add}
-use Rattle.sap_tree.specs.Syntax.{Expression, Number, Sized, Read, Binary, TagExpression, TagOf, SimpleCommand, Assign, SetTag, Goto, Command, Do, CommandBlock, Commands, CommandList, NoCommand, AndCommand, StateTree, StateOf, StateList, NoState, AndState, DesignTree}
+use Rattle.sap_tree.specs.Syntax.{Number, Sized, Read, Binary, TagOf, Assign, Goto, Command, Do, Commands, CommandList, NoCommand, AndCommand, StateOf, StateList, NoState, AndState, DesignTree}
 use Rattle.sap_names.specs.Fault.{Fault}
 use Rattle.sap_names.specs.declared.kind.Code.{Code}
 use Rattle.sap_names.specs.declared.kind.Code.TheVariants.{E4, E7, E8}
-use Rattle.sap_names.specs.Entities.{Entity, Lookup, entities_of}
-use Rattle.sap_names.specs.NameFaults.{design_name_faults, expression_faults, tag_faults}
+use Rattle.sap_names.specs.Entities.{Lookup}
+use Rattle.sap_names.specs.NameFaults.{design_name_faults, tag_faults}
 
 abbrev pub at : ℕ → Place
 at column = record { line = 1; column = column }
@@ -49,12 +47,16 @@ body cs = AndState (StateOf (at 1) (named 1 (codes "S")) (low 1) (Commands cs (a
 abbrev pub only : Command → StateList
 only c = body (AndCommand c NoCommand)
 
+-- reg x : 8 dynamic = START; and a state
+abbrev pub starting : (start : ℕ) → DesignTree
+starting start = record {
+  declarations = Register (at 1) (named 5 (codes "x")) (record { place = at 9; value = 8 }) (Dynamic (at 11)) (Some (record { place = at 21; value = start })) ∷ [];
+  states = only (Do (Goto (at 30) (named 35 (codes "S"))));
+}
+
 -- reg x : 8 dynamic = 256;
 abbrev pub LargeStart : Type 0
-LargeStart = design_name_faults levels below (record {
-  declarations = Register (at 1) (named 5 (codes "x")) (record { place = at 9; value = 8 }) (Dynamic (at 11)) (Some (record { place = at 21; value = 256 })) ∷ [];
-  states = only (Do (Goto (at 30) (named 35 (codes "S"))));
-}) ≡ fault E8 21 ∷ []
+LargeStart = design_name_faults levels below (starting 256) ≡ fault E8 21 ∷ []
 
 -- reg x : 8 dynamic; .. x := 99'd300;
 abbrev pub WideNumber : Type 0

@@ -1,8 +1,7 @@
 -- The faults of names and widths, E3 to E9: each sentence once, over the tree. A list has the faults that stand, in no order that counts.
-use Rattle.std.specs.Prelude.{ℕ, zero, suc, List, [], ◌∷◌, ◌++◌, Option, Some, None, Bool, true, false, not, eqb, leb, ◌&&◌, ◌^◌, ◌+◌, if◌then◌else◌, bytes_eq}
+use Rattle.std.specs.Prelude.{ℕ, List, [], ◌∷◌, ◌++◌, Option, Some, None, Bool, true, false, not, eqb, leb, ◌&&◌, ◌^◌, ◌+◌, if◌then◌else◌, bytes_eq}
 use Rattle.sap_tree.specs.declared.name.Mention.{Mention}
 use Rattle.sap_tree.specs.declared.place.Place.{Place}
-use Rattle.sap_tree.specs.declared.place.Spot.{Spot}
 use Rattle.sap_tree.specs.declared.syntax.Numeral.{Numeral}
 use Rattle.sap_tree.specs.declared.syntax.Under.{Under}
 use Rattle.sap_tree.specs.declared.syntax.Kind.{Kind}
@@ -13,10 +12,12 @@ use Rattle.sap_tree.specs.Syntax.{Expression, Number, Sized, Read, Cell, Unary, 
 use Rattle.sap_names.specs.Fault.{Fault}
 use Rattle.sap_names.specs.declared.kind.Declared.{Declared}
 use Rattle.sap_names.specs.declared.kind.Declared.TheVariants as d
+use Rattle.sap_names.specs.declared.kind.Use.{Use}
+use Rattle.sap_names.specs.declared.kind.Use.TheVariants as u
 use Rattle.sap_names.specs.declared.kind.Code.{Code}
 use Rattle.sap_names.specs.declared.kind.Code.TheVariants.{E3, E4, E5, E6, E7, E8, E9}
 use Rattle.sap_names.specs.Entities.{Entity, Lookup, what_is, entities_of}
-use Rattle.sap_names.specs.Widths.{sound_width, index_bits, register_width, cell_width, index_width, own, own_parts, width_of, family, own_binary, asked_left, asked_right, asked_one, is_reduction, is_sound, all_sound, else_of}
+use Rattle.sap_names.specs.Widths.{sound_width, index_bits, register_width, cell_width, index_width, own, width_of, family, asked_left, asked_right, asked_one, is_sound, all_sound}
 
 -- a fault where the test holds
 abbrev pub fault_if : Bool → Code → Place → List Fault
@@ -35,40 +36,33 @@ too_large None value = false
 too_large (Some w) value = leb (2 ^ w) value
 
 -- E4 where a used name is declared nowhere, E5 where it is of the wrong kind
-pub data Uses : Type 0 where
-  assigned : Uses
-  indexed : Uses
-  read : Uses
-  entered : Uses
-  retagged : Uses
+abbrev pub fits_use : Use → Declared → Bool
+fits_use u.Assigned (d.Input width) = false
+fits_use u.Assigned (d.Register width) = true
+fits_use u.Assigned (d.Memory width depth) = false
+fits_use u.Assigned d.State = false
+fits_use u.Indexed (d.Input width) = false
+fits_use u.Indexed (d.Register width) = false
+fits_use u.Indexed (d.Memory width depth) = true
+fits_use u.Indexed d.State = false
+fits_use u.Read (d.Input width) = true
+fits_use u.Read (d.Register width) = true
+fits_use u.Read (d.Memory width depth) = false
+fits_use u.Read d.State = false
+fits_use u.Entered (d.Input width) = false
+fits_use u.Entered (d.Register width) = false
+fits_use u.Entered (d.Memory width depth) = false
+fits_use u.Entered d.State = true
+fits_use u.Retagged (d.Input width) = false
+fits_use u.Retagged (d.Register width) = true
+fits_use u.Retagged (d.Memory width depth) = false
+fits_use u.Retagged d.State = true
 
-abbrev pub fits_use : Uses → Declared → Bool
-fits_use assigned (d.Input width) = false
-fits_use assigned (d.Register width) = true
-fits_use assigned (d.Memory width depth) = false
-fits_use assigned d.State = false
-fits_use indexed (d.Input width) = false
-fits_use indexed (d.Register width) = false
-fits_use indexed (d.Memory width depth) = true
-fits_use indexed d.State = false
-fits_use read (d.Input width) = true
-fits_use read (d.Register width) = true
-fits_use read (d.Memory width depth) = false
-fits_use read d.State = false
-fits_use entered (d.Input width) = false
-fits_use entered (d.Register width) = false
-fits_use entered (d.Memory width depth) = false
-fits_use entered d.State = true
-fits_use retagged (d.Input width) = false
-fits_use retagged (d.Register width) = true
-fits_use retagged (d.Memory width depth) = false
-fits_use retagged d.State = true
-
-abbrev pub use_faults : Uses → Option Declared → Place → List Fault
+abbrev pub use_faults : Use → Option Declared → Place → List Fault
 use_faults how None place = fault_if true E4 place
 use_faults how (Some declared) place = fault_if (not (fits_use how declared)) E5 place
 
-abbrev pub name_faults : Uses → Lookup → Mention → List Fault
+abbrev pub name_faults : Use → Lookup → Mention → List Fault
 name_faults how what m = use_faults how (what m.name) m.place
 
 -- what stands in an expression, where its place asks for a width or for none
@@ -81,10 +75,10 @@ abbrev mutual
       ++ fault_if (not (is_sound (sound_width width))) E7 spot.at
       ++ fault_if (too_large (sound_width width) value) E8 spot.at
   expression_faults what (Read spot name) asked =
-      fault_if (unsettled (own what (Read spot name)) asked) E7 spot.first ++ use_faults read (what name) spot.at
+      fault_if (unsettled (own what (Read spot name)) asked) E7 spot.first ++ use_faults u.Read (what name) spot.at
   expression_faults what (Cell spot name index) asked =
       fault_if (unsettled (own what (Cell spot name index)) asked) E7 spot.first
-      ++ use_faults indexed (what name) spot.at
+      ++ use_faults u.Indexed (what name) spot.at
       ++ expression_faults what index (index_width (what name))
   expression_faults what (Unary spot operator e) asked =
       let whole = width_of what (Unary spot operator e) asked in
@@ -159,17 +153,17 @@ abbrev mutual
 
 abbrev pub simple_faults : List (List ℕ) → Lookup → SimpleCommand → List Fault
 simple_faults levels what (Assign target e) =
-    name_faults assigned what target ++ expression_faults what e (register_width (what target.name))
+    name_faults u.Assigned what target ++ expression_faults what e (register_width (what target.name))
 simple_faults levels what (Write target index e) =
-    name_faults indexed what target
+    name_faults u.Indexed what target
     ++ expression_faults what index (index_width (what target.name))
     ++ expression_faults what e (cell_width (what target.name))
-simple_faults levels what (SetTag place target tag) = name_faults retagged what target ++ tag_faults levels what tag
+simple_faults levels what (SetTag place target tag) = name_faults u.Retagged what target ++ tag_faults levels what tag
 simple_faults levels what (SetCellTag place target index tag) =
-    name_faults indexed what target
+    name_faults u.Indexed what target
     ++ expression_faults what index (index_width (what target.name))
     ++ tag_faults levels what tag
-simple_faults levels what (Goto place target) = name_faults entered what target
+simple_faults levels what (Goto place target) = name_faults u.Entered what target
 simple_faults levels what (Fall place) = []
 
 abbrev mutual

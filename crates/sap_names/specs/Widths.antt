@@ -1,5 +1,5 @@
 -- Own widths and asked-for widths of expressions. `Some w` is a width, `None` says that there is none.
-use Rattle.std.specs.Prelude.{ℕ, zero, suc, List, [], ◌∷◌, Option, Some, None, Bool, true, false, eqb, leb, ltb, ◌&&◌, ◌^◌, ◌+◌, ◌-◌, if◌then◌else◌}
+use Rattle.std.specs.Prelude.{ℕ, zero, suc, Option, Some, None, Bool, true, false, eqb, leb, ltb, ◌&&◌, ◌^◌, ◌+◌, ◌-◌, if◌then◌else◌}
 use Rattle.sap_tree.specs.declared.syntax.UnaryOperator.{UnaryOperator}
 use Rattle.sap_tree.specs.declared.syntax.UnaryOperator.TheVariants.{Not, Neg, AllOnes, AnyOne, Odd}
 use Rattle.sap_tree.specs.declared.syntax.BinaryOperator.{BinaryOperator}

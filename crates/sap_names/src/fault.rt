@@ -2,15 +2,44 @@
 
 ghost use Rattle.std.specs.Prelude.{◌≡◌};
 ghost use Rattle.sap_names.specs.Fault.{number};
+ghost use Rattle.sap_names.specs.declared.fault.CheckFault.TheVariants.{Memory};
+ghost use Rattle.sap_names.specs.Best.{better, best_of, comes_first};
+ghost use Rattle.sap_names.specs.NameFaults.{fault_if};
 
 use crate::kind::Code;
 use sap_tree::place::Place;
+use std::alloc::{AllocError, AllocFailed};
 
 /// A code where it stands.
 #[derive(Clone, Copy, PartialEq, Eq, Debug)]
 pub struct Fault {
     pub code: Code,
     pub place: Place,
+}
+
+/// Why a design is not taken.
+#[derive(Clone, Copy, PartialEq, Eq, Debug)]
+pub enum CheckFault {
+    /// The first fault, by place and then by code.
+    Rule(Code, Place),
+    /// Want of memory.
+    Memory,
+}
+
+impl From<AllocError> for CheckFault {
+    ghost from_gives = { λ _ fault. fault ≡ Memory };
+
+    fn from(_error: AllocError) -> CheckFault {
+        CheckFault::Memory
+    }
+}
+
+impl<T: Drop> From<AllocFailed<T>> for CheckFault {
+    ghost from_gives = { λ _ fault. fault ≡ Memory };
+
+    fn from(_error: AllocFailed<T>) -> CheckFault {
+        CheckFault::Memory
+    }
 }
 
 impl Code {
@@ -34,5 +63,42 @@ impl Code {
             Code::E16 => 16,
             Code::E17 => 17,
         }
+    }
+}
+
+fn comes_first(a: &Fault, b: &Fault) -> bool
+    ensures { result ≡ comes_first a.now b.now }
+{
+    let one = a.place;
+    let other = b.place;
+    one.line < other.line
+        || (one.line == other.line
+            && (one.column < other.column
+                || (one.column == other.column && a.code.number() <= b.code.number())))
+}
+
+/// The first of the best so far and a fault.
+pub fn better(best: Option<Fault>, fault: Fault) -> Option<Fault>
+    ensures { result ≡ better best fault }
+{
+    match best {
+        Some(first) => {
+            if comes_first(&first, &fault) {
+                Some(first)
+            } else {
+                Some(fault)
+            }
+        }
+        None => Some(fault),
+    }
+}
+
+/// Notes a fault where the test holds.
+#[tactic(auto, using(crate::proofs::Faults::noting))]
+pub fn note(best: &mut Option<Fault>, test: bool, code: Code, place: Place)
+    ensures { best.new ≡ best_of best.old (fault_if test code place) }
+{
+    if test {
+        *best = better(*best, Fault { code, place });
     }
 }

@@ -1,5 +1,14 @@
 //! What a declared name is, and the codes of faults.
 
+/// What a declared name is.
+#[derive(Clone, Copy, PartialEq, Eq, Debug)]
+pub enum EntityKind {
+    Input,
+    Register,
+    Memory,
+    State,
+}
+
 /// What a declaration says of its name: the width, and of a memory the depth, as they are written.
 #[derive(Clone, Copy, PartialEq, Eq, Debug)]
 pub enum Declared {
@@ -7,6 +16,21 @@ pub enum Declared {
     Register(u64),
     Memory(u64, u64),
     State,
+}
+
+/// What a command or an expression uses a name as.
+#[derive(Clone, Copy, PartialEq, Eq, Debug)]
+pub enum Use {
+    /// Assigned plain.
+    Assigned,
+    /// Read, written or retagged with an index.
+    Indexed,
+    /// Read plain.
+    Read,
+    /// The target of a `goto`.
+    Entered,
+    /// The plain target of a `setTag`.
+    Retagged,
 }
 
 /// How an operator's width comes from those of its operands.

@@ -1,0 +1,90 @@
+-- The sizes of trees, by which recursions end.
+use Rattle.std.proofs.Common.{◌≡◌, ℕ, zero, suc, ◌+◌, ◌<◌, length, get_or, arith, List, [], ◌∷◌, ap, sym, subst, ◌∙◌}
+use Rattle.std.specs.Prelude.{Option}
+use Rattle.sap_tree.specs.declared.place.Place.{Place}
+use Rattle.sap_tree.specs.declared.syntax.Block.{Block}
+use Rattle.sap_tree.specs.declared.syntax.Expr.{Expr}
+use Rattle.sap_tree.specs.declared.syntax.Cmd.TheVariants as c
+use Rattle.sap_tree.specs.Trees.{else_of}
+use Rattle.sap_tree.proofs.Views.{command_of-if}
+use Rattle.sap_tree.specs.declared.syntax.Cmd.{Cmd}
+use Rattle.sap_tree.specs.declared.syntax.TagExpr.{TagExpr}
+use Rattle.sap_tree.specs.declared.syntax.State.{State}
+use Rattle.sap_tree.specs.Trees.{tag_of, tags_of, command_of, commands_of, state_of, states_of}
+use Rattle.sap_tree.specs.Syntax.{Expression, Number, Sized, Read, Cell, Unary, Binary, Choose, Slice, Concat, Zext, Expressions, NoPart, AndPart, TagExpression, Level, TagOf, LevelAt, Join, TagExpressions, NoTag, AndTag, Command, Do, Try, If, CommandBlock, Commands, ElseBlock, NoElse, Else, CommandList, NoCommand, AndCommand, StateTree, StateOf, StateList, NoState, AndState}
+
+abbrev mutual
+  pub weight : Expression → ℕ
+  weight (Number spot n) = 1
+  weight (Sized spot w n) = 1
+  weight (Read spot name) = 1
+  weight (Cell spot name i) = weight i + 1
+  weight (Unary spot o x) = weight x + 1
+  weight (Binary spot o x y) = weight x + weight y + 1
+  weight (Choose spot x y z) = weight x + weight y + weight z + 1
+  weight (Slice spot x high low) = weight x + 1
+  weight (Concat spot parts) = parts_weight parts + 1
+  weight (Zext spot x w) = weight x + 1
+
+  pub parts_weight : Expressions → ℕ
+  parts_weight NoPart = 1
+  parts_weight (AndPart x parts) = weight x + parts_weight parts + 1
+
+abbrev mutual
+  pub tag_weight : TagExpression → ℕ
+  tag_weight (Level m) = 1
+  tag_weight (TagOf place x) = 1
+  tag_weight (LevelAt place x) = 1
+  tag_weight (Join place parts) = tags_weight parts + 1
+
+  pub tags_weight : TagExpressions → ℕ
+  tags_weight NoTag = 1
+  tags_weight (AndTag t parts) = tag_weight t + tags_weight parts + 1
+
+abbrev mutual
+  pub command_weight : Command → ℕ
+  command_weight (Do k) = 1
+  command_weight (Try k place handler) = block_weight handler + 2
+  command_weight (If place x yes_block no_block) = block_weight yes_block + else_weight no_block + 2
+
+  pub block_weight : CommandBlock → ℕ
+  block_weight (Commands cs after) = commands_weight cs
+
+  pub else_weight : ElseBlock → ℕ
+  else_weight NoElse = 1
+  else_weight (Else b) = block_weight b
+
+  pub commands_weight : CommandList → ℕ
+  commands_weight NoCommand = 1
+  commands_weight (AndCommand c cs) = command_weight c + commands_weight cs + 1
+
+abbrev mutual
+  pub state_weight : StateTree → ℕ
+  state_weight (StateOf place name kind body children) = states_weight children + 1
+
+  pub states_weight : StateList → ℕ
+  states_weight NoState = 1
+  states_weight (AndState s rest) = state_weight s + states_weight rest + 1
+
+pub tags_weight-in : (ts : List TagExpr) (n : ℕ) (d : TagExpr) → n < length ts → tag_weight (tag_of (get_or ts n d)) < tags_weight (tags_of ts)
+tags_weight-in [] n d h = absurd (omega arith)
+tags_weight-in (t ∷ ts) zero d h = omega arith
+tags_weight-in (t ∷ ts) (suc n) d h = let r = tags_weight-in ts n d (omega arith) in omega arith
+
+pub commands_weight-in : (cs : List Cmd) (n : ℕ) (d : Cmd) → n < length cs → command_weight (command_of (get_or cs n d)) < commands_weight (commands_of cs)
+commands_weight-in [] n d h = absurd (omega arith)
+commands_weight-in (c ∷ cs) zero d h = omega arith
+commands_weight-in (c ∷ cs) (suc n) d h = let r = commands_weight-in cs n d (omega arith) in omega arith
+
+pub states_weight-in : (ss : List State) (n : ℕ) (d : State) → n < length ss → state_weight (state_of (get_or ss n d)) < states_weight (states_of ss)
+states_weight-in [] n d h = absurd (omega arith)
+states_weight-in (s ∷ ss) zero d h = omega arith
+states_weight-in (s ∷ ss) (suc n) d h = let r = states_weight-in ss n d (omega arith) in omega arith
+
+-- an `else` weighs less than its `if`
+pub else_lighter : (x : Cmd) (place : Place) (e : Expr) (one : Block) (other : Option Block) → x ≡ c.If place e one other
+    → else_weight (else_of other) + 1 < command_weight (command_of x)
+else_lighter x place e one other is =
+    subst (λ (y : Command). else_weight (else_of other) + 1 < command_weight y) (sym (ap command_of is ∙ command_of-if place e one other)) (omega arith)
+
+pub ruleset weights = (tags_weight-in, commands_weight-in, states_weight-in)

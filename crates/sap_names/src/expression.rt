@@ -1,0 +1,221 @@
+//! Faults of expressions.
+
+ghost use Rattle.std.specs.Prelude.{◌≡◌, ◌&&◌, not};
+ghost use Rattle.sap_names.specs.Widths as widths;
+ghost use Rattle.sap_names.specs.NameFaults as faults;
+ghost use Rattle.sap_names.specs.Best.{best_of};
+ghost use Rattle.sap_names.specs.Entities.{what_is};
+ghost use Rattle.sap_tree.specs.Trees.{expression_of, expressions_of};
+
+use crate::entities::Entities;
+use crate::fault::{Fault, note};
+use crate::kind::{Code, Family, Use};
+use crate::usage::note_use;
+use crate::width::{else_of, family, index_width, is_reduction, own, sound_width};
+use sap_tree::syntax::{Expr, UnaryOperator};
+
+fn unsettled(own: Option<u64>, asked: Option<u64>) -> bool
+    ensures { result ≡ faults.unsettled own asked }
+{
+    match own {
+        Some(w) => match asked {
+            Some(r) => w != r,
+            None => false,
+        },
+        None => asked.is_none(),
+    }
+}
+
+pub fn too_large(width: Option<u64>, value: u64) -> bool
+    ensures { result ≡ faults.too_large width value }
+{
+    match width {
+        Some(w) => holds_no(w, value),
+        None => false,
+    }
+}
+
+fn holds_no(width: u64, value: u64) -> bool
+    ensures { result ≡ faults.too_large (Some width) value }
+{
+    if width < 64 {
+        value >= 1 << width
+    } else {
+        false
+    }
+}
+
+fn asked_count(count: Option<u64>) -> Option<u64>
+    ensures { result ≡ widths.asked_count count }
+{
+    match count {
+        Some(_) => None,
+        None => Some(64),
+    }
+}
+
+fn asked_left(
+    family: Family,
+    whole: Option<u64>,
+    left: Option<u64>,
+    right: Option<u64>,
+) -> Option<u64>
+    ensures { result ≡ widths.asked_left family whole left right }
+{
+    match family {
+        Family::Arithmetic => whole,
+        Family::Shift => whole,
+        Family::Comparison => else_of(left, right),
+    }
+}
+
+fn asked_right(
+    family: Family,
+    whole: Option<u64>,
+    left: Option<u64>,
+    right: Option<u64>,
+) -> Option<u64>
+    ensures { result ≡ widths.asked_right family whole left right }
+{
+    match family {
+        Family::Arithmetic => whole,
+        Family::Shift => asked_count(right),
+        Family::Comparison => else_of(left, right),
+    }
+}
+
+fn asked_one(operator: UnaryOperator, whole: Option<u64>) -> Option<u64>
+    ensures { result ≡ widths.asked_one operator whole }
+{
+    if is_reduction(operator) { None } else { whole }
+}
+
+// There is no own width, though all operands have one.
+fn lacks(mine: Option<u64>, operands: bool) -> bool
+    ensures { result ≡ (not (widths.is_sound mine) && operands) }
+{
+    mine.is_none() && operands
+}
+
+/// The best so far of the faults of an expression where its place asks for a width, or for none.
+#[cycle(faults)]
+#[tactic(auto, using(sap_tree::proofs::Views::views, crate::proofs::Faults::noting))]
+pub fn expression_faults(names: &Entities, e: &Expr, asked: Option<u64>, best: &mut Option<Fault>)
+    ensures { best.new ≡ best_of best.old (faults.expression_faults (what_is names.now) (expression_of e.now) asked) }
+{
+    let mine = own(names, e);
+    match e {
+        Expr::Number(spot, value) => {
+            note(best, unsettled(None, asked), Code::E7, spot.first);
+            note(best, too_large(asked, *value), Code::E8, spot.at);
+        }
+        Expr::Sized(spot, width, value) => {
+            let sound = sound_width(*width);
+            note(best, unsettled(sound, asked), Code::E7, spot.first);
+            note(best, sound.is_none(), Code::E7, spot.at);
+            note(best, too_large(sound, *value), Code::E8, spot.at);
+        }
+        Expr::Read(spot, name) => {
+            note(best, unsettled(mine, asked), Code::E7, spot.first);
+            note_use(best, Use::Read, names.look(name), spot.at);
+        }
+        Expr::Cell(spot, name, index) => {
+            let what = names.look(name);
+            note(best, unsettled(mine, asked), Code::E7, spot.first);
+            note_use(best, Use::Indexed, what, spot.at);
+            expression_faults(names, index, index_width(what), best);
+        }
+        Expr::Unary(spot, operator, operand) => {
+            let whole = else_of(mine, asked);
+            note(best, unsettled(mine, asked), Code::E7, spot.first);
+            expression_faults(names, operand, asked_one(*operator, whole), best);
+        }
+        Expr::Binary(spot, operator, left, right) => {
+            let whole = else_of(mine, asked);
+            let one = own(names, left);
+            let other = own(names, right);
+            note(best, unsettled(mine, asked), Code::E7, spot.first);
+            expression_faults(
+                names,
+                left,
+                asked_left(family(*operator), whole, one, other),
+                best,
+            );
+            expression_faults(
+                names,
+                right,
+                asked_right(family(*operator), whole, one, other),
+                best,
+            );
+        }
+        Expr::Choose(spot, condition, one, other) => {
+            let whole = else_of(mine, asked);
+            note(best, unsettled(mine, asked), Code::E7, spot.first);
+            expression_faults(names, condition, Some(1), best);
+            expression_faults(names, one, whole, best);
+            expression_faults(names, other, whole, best);
+        }
+        Expr::Slice(spot, operand, _, _) => {
+            let inner = own(names, operand);
+            note(best, unsettled(mine, asked), Code::E7, spot.first);
+            note(
+                best,
+                mine.is_none() && inner.is_some(),
+                Code::E7,
+                spot.first,
+            );
+            expression_faults(names, operand, None, best);
+        }
+        Expr::Concat(spot, parts) => {
+            let list = parts.as_slice();
+            let operands = all_sound(names, list);
+            note(best, unsettled(mine, asked), Code::E7, spot.first);
+            note(best, lacks(mine, operands), Code::E7, spot.first);
+            parts_faults(names, list, best);
+        }
+        Expr::Zext(spot, operand, _) => {
+            let inner = own(names, operand);
+            note(best, unsettled(mine, asked), Code::E7, spot.first);
+            note(
+                best,
+                mine.is_none() && inner.is_some(),
+                Code::E7,
+                spot.first,
+            );
+            expression_faults(names, operand, None, best);
+        }
+    }
+}
+
+#[cycle(faults)]
+#[tactic(auto, using(crate::proofs::Parts::parts, crate::proofs::Faults::noting))]
+fn parts_faults(names: &Entities, parts: &[Expr], best: &mut Option<Fault>)
+    ensures { best.new ≡ best_of best.old (faults.parts_faults (what_is names.now) (expressions_of parts.now)) }
+{
+    match parts {
+        [first, rest @ ..] => {
+            expression_faults(names, first, None, best);
+            parts_faults(names, rest, best);
+        }
+        [] => (),
+    }
+}
+
+fn and_sound(width: Option<u64>, others: bool) -> bool
+    ensures { result ≡ (widths.is_sound width && others) }
+{
+    width.is_some() && others
+}
+
+fn all_sound(names: &Entities, parts: &[Expr]) -> bool
+    ensures { result ≡ widths.all_sound (what_is names.now) (expressions_of parts.now) }
+{
+    match parts {
+        [first, rest @ ..] => {
+            let width = own(names, first);
+            let others = all_sound(names, rest);
+            and_sound(width, others)
+        }
+        [] => true,
+    }
+}
