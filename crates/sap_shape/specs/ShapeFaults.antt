@@ -7,7 +7,8 @@ use Rattle.sap_tree.specs.Syntax.{SimpleCommand, Assign, Write, SetTag, SetCellT
 use Rattle.sap_names.specs.declared.fault.Fault.{Fault}
 use Rattle.sap_names.specs.declared.kind.Code.TheVariants.{E11, E12, E15, E16, E17}
 use Rattle.sap_names.specs.NameFaults.{fault_if}
-use Rattle.sap_names.specs.Entities.{Entity, entities_of}
+use Rattle.sap_names.specs.declared.entity.Entity.{Entity}
+use Rattle.sap_names.specs.Entities.{entities_of}
 use Rattle.sap_shape.specs.Closing.{closing_faults}
 use Rattle.sap_shape.specs.Sites.{is_site, is_dynamic}
 use Rattle.sap_shape.specs.Paths.{fresh, second_states}

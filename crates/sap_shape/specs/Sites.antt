@@ -1,22 +1,15 @@
 -- Check sites: the commands that may be refused.
-use Rattle.std.specs.Prelude.{List, [], ◌∷◌, Option, Some, None, Bool, true, false, not, ◌||◌, ℕ}
+use Rattle.std.specs.Prelude.{List, [], ◌∷◌, Bool, true, false, ◌||◌, ℕ}
 use Rattle.sap_tree.specs.declared.name.Mention.{Mention}
 use Rattle.sap_tree.specs.declared.syntax.Kind.{Kind}
 use Rattle.sap_tree.specs.declared.syntax.Kind.TheVariants.{Dynamic, Enforced}
 use Rattle.sap_tree.specs.Syntax.{SimpleCommand, Assign, Write, SetTag, SetCellTag, Goto, Fall, StateTree, StateOf, StateList, NoState, AndState}
-use Rattle.sap_names.specs.Entities.{Entity, find}
+use Rattle.sap_names.specs.declared.entity.Entity.{Entity}
+use Rattle.sap_names.specs.Entities.{find, enforced_of, dynamic_of}
 
 abbrev pub is_enforced_kind : Kind → Bool
 is_enforced_kind (Dynamic place) = false
 is_enforced_kind (Enforced level under) = true
-
-abbrev pub enforced_of : Option Entity → Bool
-enforced_of None = false
-enforced_of (Some e) = not e.dynamic
-
-abbrev pub dynamic_of : Option Entity → Bool
-dynamic_of None = false
-dynamic_of (Some e) = e.dynamic
 
 -- what the name stands for is enforced; is dynamic
 abbrev pub is_enforced : List Entity → List ℕ → Bool

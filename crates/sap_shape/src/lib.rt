@@ -1,7 +1,13 @@
-//! The shape of a design, as definitions: closed bodies, targets of transfers, paths of writes, handlers and retagging, and which commands
-//! are check sites.
-//!
-//! The definitions stand in `specs/`.
+//! The shape of a design: closed bodies, targets of transfers, paths of writes, handlers and retagging, and which commands are check sites.
 #![tactic(auto)]
 
+mod body;
+mod closing;
 pub mod examples;
+mod home;
+mod paths;
+mod place;
+pub mod shape;
+pub mod sites;
+mod states;
+mod written;

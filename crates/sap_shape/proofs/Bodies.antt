@@ -1,0 +1,44 @@
+-- The faults of the commands of a body, from a place on.
+use Rattle.std.proofs.Common.{◌≡◌, ℕ, zero, suc, ◌+◌, ◌<◌, ◌≤◌, List, [], ◌∷◌, ◌++◌, length, get_or, drop, refl, sym, ap, ◌∙◌, arith, add-one, Some}
+use Rattle.std.specs.Prelude.{Option}
+use Rattle.sap_tree.specs.declared.syntax.Cmd.{Cmd}
+use Rattle.sap_tree.specs.declared.syntax.Block.{Block}
+use Rattle.sap_tree.specs.Trees.{command_of, commands_of, block_of, else_of}
+use Rattle.sap_names.specs.declared.fault.Fault.{Fault}
+use Rattle.sap_names.specs.Best.{best_of}
+use Rattle.sap_names.specs.declared.entity.Entity.{Entity}
+use Rattle.sap_names.proofs.Faults.{both}
+use Rattle.sap_shape.specs.ShapeFaults.{Body, command_shape, block_shape, else_shape}
+use Rattle.sap_shape.specs.Lists.{list_shape}
+
+pub list_shape-drop : (es : List Entity) (at : Body) (cs : List Cmd) (n : ℕ) (d : Cmd) → n < length cs
+    → list_shape es at (drop n cs) ≡ command_shape es at (command_of (get_or cs n d)) ++ list_shape es at (drop (n + 1) cs)
+unfolding list_shape
+list_shape-drop es at [] n d h = absurd (omega arith)
+list_shape-drop es at (c ∷ cs) zero d h = refl
+list_shape-drop es at (c ∷ cs) (suc n) d h = let r = list_shape-drop es at cs n d (omega arith) in simp (add-one) (simp (add-one) at r)
+
+pub list_shape-past : (es : List Entity) (at : Body) (cs : List Cmd) (n : ℕ) → length cs ≤ n → list_shape es at (drop n cs) ≡ []
+unfolding list_shape
+list_shape-past es at [] zero h = refl
+list_shape-past es at [] (suc n) h = refl
+list_shape-past es at (c ∷ cs) zero h = absurd (omega arith)
+list_shape-past es at (c ∷ cs) (suc n) h = list_shape-past es at cs n (omega arith)
+
+pub shape_step : (es : List Entity) (at : Body) (cs : List Cmd) (n : ℕ) (d : Cmd) (o m : Option Fault) → n < length cs → d ≡ get_or cs n d
+    → m ≡ best_of o (command_shape es at (command_of d)) → best_of m (list_shape es at (drop (n + 1) cs)) ≡ best_of o (list_shape es at (drop n cs))
+shape_step es at cs n d o m h e k =
+    both o m _ (command_shape es at (command_of d)) (list_shape es at (drop (n + 1) cs)) _ k refl
+    (list_shape-drop es at cs n d h ∙ ap (λ (c : Cmd). command_shape es at (command_of c) ++ list_shape es at (drop (n + 1) cs)) (sym e))
+
+pub block_shape-is : (es : List Entity) (at : Body) (b : Block) → block_shape es at (block_of b) ≡ list_shape es at b.commands.items
+unfolding list_shape
+block_shape-is es at b = refl
+
+pub else_shape-is : (es : List Entity) (at : Body) (b : Block) → else_shape es at (else_of (Some b)) ≡ list_shape es at b.commands.items
+unfolding list_shape
+else_shape-is es at b = refl
+
+pub ruleset bodies = (list_shape-drop, list_shape-past)
+
+pub ruleset blocks = (block_shape-is, else_shape-is)

@@ -1,0 +1,82 @@
+-- The faults of groups of states, from a place on.
+use Rattle.std.proofs.Common.{◌≡◌, ℕ, zero, suc, ◌+◌, ◌<◌, ◌≤◌, List, [], ◌∷◌, ◌++◌, length, get_or, drop, refl, sym, ap, ◌∙◌, arith, add-one, None, append_assoc}
+use Rattle.std.specs.Prelude.{Option}
+use Rattle.sap_tree.specs.declared.syntax.State.{State, out-State}
+use Rattle.sap_tree.specs.Trees.{state_of, states_of, block_of}
+use Rattle.sap_tree.specs.declared.syntax.Decl.{Decl}
+use Rattle.sap_tree.specs.Parts.{tree_of}
+use Rattle.sap_tree.specs.Syntax.{StateTree, StateList, DesignTree}
+use Rattle.sap_tree.proofs.Views.{state_of-out}
+use Rattle.sap_names.specs.declared.fault.Fault.{Fault}
+use Rattle.sap_names.specs.Best.{best_of}
+use Rattle.sap_names.specs.declared.entity.Entity.{Entity}
+use Rattle.sap_names.specs.Entities.{entities_of}
+use Rattle.sap_names.proofs.Faults.{both}
+use Rattle.sap_shape.specs.Paths.{Written, fresh, either, second_state}
+use Rattle.sap_shape.specs.ShapeFaults.{Body, state_shape, design_shape_faults}
+use Rattle.sap_shape.specs.Lists.{closing_list, list_shape, group_shape, entering_list, second_list, second_states}
+
+module _ (es : List Entity) (group : List State) (above : List (List ℕ)) where
+  pub group_shape-drop : (ss : List State) (n : ℕ) (d : State) → n < length ss
+      → group_shape es group above (drop n ss) ≡ state_shape es (states_of group) above (state_of (get_or ss n d)) ++ group_shape es group above (drop (n + 1) ss)
+  unfolding group_shape
+  group_shape-drop [] n d h = absurd (omega arith)
+  group_shape-drop (s ∷ ss) zero d h = refl
+  group_shape-drop (s ∷ ss) (suc n) d h = let r = group_shape-drop ss n d (omega arith) in simp (add-one) (simp (add-one) at r)
+
+  pub group_shape-past : (ss : List State) (n : ℕ) → length ss ≤ n → group_shape es group above (drop n ss) ≡ []
+  unfolding group_shape
+  group_shape-past [] zero h = refl
+  group_shape-past [] (suc n) h = refl
+  group_shape-past (s ∷ ss) zero h = absurd (omega arith)
+  group_shape-past (s ∷ ss) (suc n) h = group_shape-past ss n (omega arith)
+
+  pub shape_step : (ss : List State) (n : ℕ) (d : State) (o m : Option Fault) → n < length ss → d ≡ get_or ss n d
+      → m ≡ best_of o (state_shape es (states_of group) above (state_of d)) → best_of m (group_shape es group above (drop (n + 1) ss)) ≡ best_of o (group_shape es group above (drop n ss))
+  shape_step ss n d o m h e k =
+      both o m _ (state_shape es (states_of group) above (state_of d)) (group_shape es group above (drop (n + 1) ss)) _ k refl
+      (group_shape-drop ss n d h ∙ ap (λ (s : State). state_shape es (states_of group) above (state_of s) ++ group_shape es group above (drop (n + 1) ss)) (sym e))
+
+  pub state_shape-is : (s : State) → state_shape es (states_of group) above (state_of s)
+      ≡ closing_list (out-State s).body.commands.items (out-State s).body.after
+      ++ list_shape es (record { name = (out-State s).name.name; kind = (out-State s).kind; group = states_of group; children = states_of (out-State s).children.items; above = above })
+      (out-State s).body.commands.items
+      ++ group_shape es (out-State s).children.items ((out-State s).name.name ∷ above) (out-State s).children.items
+  unfolding closing_list list_shape group_shape
+  state_shape-is s = ap (λ (t : StateTree). state_shape es (states_of group) above t) (state_of-out s)
+
+module _ (p : Written) where
+  pub second_states-drop : (ss : List State) (n : ℕ) (d : State) → n < length ss
+      → second_states (drop n ss) p ≡ second_state (state_of (get_or ss n d)) p ++ second_states (drop (n + 1) ss) p
+  unfolding second_states
+  second_states-drop [] n d h = absurd (omega arith)
+  second_states-drop (s ∷ ss) zero d h = refl
+  second_states-drop (s ∷ ss) (suc n) d h = let r = second_states-drop ss n d (omega arith) in simp (add-one) (simp (add-one) at r)
+
+  pub second_states-past : (ss : List State) (n : ℕ) → length ss ≤ n → second_states (drop n ss) p ≡ []
+  unfolding second_states
+  second_states-past [] zero h = refl
+  second_states-past [] (suc n) h = refl
+  second_states-past (s ∷ ss) zero h = absurd (omega arith)
+  second_states-past (s ∷ ss) (suc n) h = second_states-past ss n (omega arith)
+
+  pub paths_step : (ss : List State) (n : ℕ) (d : State) (o m : Option Fault) → n < length ss → d ≡ get_or ss n d
+      → m ≡ best_of o (second_state (state_of d) p) → best_of m (second_states (drop (n + 1) ss) p) ≡ best_of o (second_states (drop n ss) p)
+  paths_step ss n d o m h e k =
+      both o m _ (second_state (state_of d) p) (second_states (drop (n + 1) ss) p) _ k refl
+      (second_states-drop ss n d h ∙ ap (λ (s : State). second_state (state_of s) p ++ second_states (drop (n + 1) ss) p) (sym e))
+
+  pub second_state-is : (s : State) → second_state (state_of s) p
+      ≡ second_list (out-State s).body.commands.items p ++ second_states (out-State s).children.items (entering_list (out-State s).body.commands.items p)
+  unfolding second_list second_states entering_list
+  second_state-is s = ap (λ (t : StateTree). second_state t p) (state_of-out s)
+
+pub design_is : (ds : List Decl) (ss ts us rs : List State) (es : List Entity) (above : List (List ℕ)) (w : Written)
+    → es ≡ entities_of (tree_of ds ss) → ts ≡ ss → us ≡ ss → rs ≡ ss → above ≡ [] → w ≡ fresh
+    → design_shape_faults (tree_of ds ss) ≡ group_shape es ts above us ++ second_states rs w
+unfolding group_shape second_states
+design_is ds ss ts us rs es above w a b c d e f = rw (a, b, c, d, e, f) refl
+
+pub ruleset states = (state_shape-is, second_state-is)
+
+pub ruleset groups = (group_shape-past, second_states-past)

@@ -1,0 +1,47 @@
+-- The sizes of commands and states, by which recursions end.
+use Rattle.std.proofs.Common.{◌≡◌, ap, ℕ, zero, suc, ◌+◌, ◌<◌, length, get_or, arith, List, [], ◌∷◌}
+use Rattle.sap_tree.specs.declared.syntax.Cmd.{Cmd}
+use Rattle.sap_tree.specs.declared.syntax.State.{State, out-State}
+use Rattle.sap_tree.specs.Trees.{command_of, commands_of, state_of, states_of}
+use Rattle.sap_tree.proofs.Views.{state_of-out}
+use Rattle.sap_tree.specs.Syntax.{Command, Do, Try, If, CommandBlock, Commands, ElseBlock, NoElse, Else, CommandList, NoCommand, AndCommand, StateTree, StateOf, StateList, NoState, AndState}
+
+abbrev mutual
+  pub command_weight : Command → ℕ
+  command_weight (Do k) = 1
+  command_weight (Try k place handler) = block_weight handler + 3
+  command_weight (If place x yes_block no_block) = block_weight yes_block + else_weight no_block + 2
+
+  pub block_weight : CommandBlock → ℕ
+  block_weight (Commands cs after) = commands_weight cs
+
+  pub else_weight : ElseBlock → ℕ
+  else_weight NoElse = 1
+  else_weight (Else b) = block_weight b
+
+  pub commands_weight : CommandList → ℕ
+  commands_weight NoCommand = 1
+  commands_weight (AndCommand c cs) = command_weight c + commands_weight cs + 1
+
+abbrev mutual
+  pub state_weight : StateTree → ℕ
+  state_weight (StateOf place name kind body children) = states_weight children + 1
+
+  pub states_weight : StateList → ℕ
+  states_weight NoState = 1
+  states_weight (AndState s rest) = state_weight s + states_weight rest + 1
+
+pub commands_weight-in : (cs : List Cmd) (n : ℕ) (d : Cmd) → n < length cs → command_weight (command_of (get_or cs n d)) < commands_weight (commands_of cs)
+commands_weight-in [] n d h = absurd (omega arith)
+commands_weight-in (c ∷ cs) zero d h = omega arith
+commands_weight-in (c ∷ cs) (suc n) d h = let r = commands_weight-in cs n d (omega arith) in omega arith
+
+pub states_weight-in : (ss : List State) (n : ℕ) (d : State) → n < length ss → state_weight (state_of (get_or ss n d)) < states_weight (states_of ss)
+states_weight-in [] n d h = absurd (omega arith)
+states_weight-in (s ∷ ss) zero d h = omega arith
+states_weight-in (s ∷ ss) (suc n) d h = let r = states_weight-in ss n d (omega arith) in omega arith
+
+pub state_weight-is : (s : State) → state_weight (state_of s) ≡ states_weight (states_of (out-State s).children.items) + 1
+state_weight-is s = ap state_weight (state_of-out s)
+
+pub ruleset weights = (commands_weight-in, states_weight-in, state_weight-is)

@@ -1,0 +1,10 @@
+use Rattle.std.proofs.Common.{◌∙◌, arith}
+use Rattle.sap_shape.specs.Homes.{body_of}
+use Rattle.sap_shape.proofs.Bodies.{shape_step}
+use Rattle.sap_shape.proofs.body.+body.Goals as goal
+
+pub list_shape-loop-command-preserved : goal.list_shape-loop-command-preserved
+list_shape-loop-command-preserved t c =
+    shape_step c.args.names.now (body_of c.args.home.now) c.args.commands.now c.loop-command.command-index c.command-item.result _ _ (omega arith) c.command-item.is
+    c.command_shape.ensures
+    ∙ c.loop-command.invariant

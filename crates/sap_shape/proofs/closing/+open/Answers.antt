@@ -1,0 +1,8 @@
+use Rattle.std.proofs.Common.{◌∙◌, arith}
+use Rattle.sap_shape.proofs.Opens.{open_step}
+use Rattle.sap_shape.proofs.closing.+open.Goals as goal
+
+pub open_list-loop-command-preserved : goal.open_list-loop-command-preserved
+open_list-loop-command-preserved t c =
+    open_step c.args.commands.now c.loop-command.command-index c.command-item.result _ _ (omega arith) c.command-item.is c.open_faults.ensures
+    ∙ c.loop-command.invariant

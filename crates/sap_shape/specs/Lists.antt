@@ -1,0 +1,41 @@
+-- The faults of shape of lists of commands and of states.
+use Rattle.std.specs.Prelude.{ℕ, List}
+use Rattle.sap_tree.specs.declared.place.Place.{Place}
+use Rattle.sap_tree.specs.declared.syntax.Cmd.{Cmd}
+use Rattle.sap_tree.specs.declared.syntax.State.{State}
+use Rattle.sap_tree.specs.Trees.{commands_of, states_of}
+use Rattle.sap_names.specs.declared.fault.Fault.{Fault}
+use Rattle.sap_names.specs.declared.entity.Entity.{Entity}
+use Rattle.sap_shape.specs.Closing as closing
+use Rattle.sap_shape.specs.Paths as paths
+use Rattle.sap_shape.specs.Paths.{Written}
+use Rattle.sap_shape.specs.ShapeFaults as shape
+use Rattle.sap_shape.specs.ShapeFaults.{Body, is_in}
+
+unfoldable pub open_list : List Cmd → List Fault
+open_list cs = closing.open_list_faults (commands_of cs)
+
+unfoldable pub closing_list : List Cmd → (after : Place) → List Fault
+closing_list cs after = closing.closing_list_faults (commands_of cs) after
+
+unfoldable pub list_shape : List Entity → Body → List Cmd → List Fault
+list_shape es at cs = shape.list_shape es at (commands_of cs)
+
+unfoldable pub group_shape : List Entity → (group : List State) → (above : List (List ℕ)) → List State → List Fault
+group_shape es group above states = shape.states_shape es (states_of group) above (states_of states)
+
+-- the memories of these names
+unfoldable pub written_in : List (List ℕ) → Written
+written_in names m = is_in names m
+
+unfoldable pub past_list : List Cmd → Written → Written
+past_list cs p = paths.past_list (commands_of cs) p
+
+unfoldable pub entering_list : List Cmd → Written → Written
+entering_list cs p = paths.entering_list (commands_of cs) p
+
+unfoldable pub second_list : List Cmd → Written → List Fault
+second_list cs p = paths.second_list (commands_of cs) p
+
+unfoldable pub second_states : List State → Written → List Fault
+second_states states p = paths.second_states (states_of states) p

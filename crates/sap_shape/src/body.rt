@@ -1,0 +1,99 @@
+//! E11, E12, E15, E16 and E17: the commands of a body.
+
+ghost use Rattle.std.specs.Prelude.{◌≡◌};
+ghost use Rattle.sap_names.specs.Best.{best_of};
+ghost use Rattle.sap_shape.specs.Homes.{body_of};
+ghost use Rattle.sap_shape.specs.Lists as lists;
+ghost use Rattle.sap_shape.specs.ShapeFaults as shape;
+ghost use Rattle.sap_tree.specs.Trees.{command_of, else_of, simple_of};
+
+use crate::home::{is_among, is_comparable, is_leaf};
+use crate::place::Home;
+use crate::sites::is_site;
+use sap_names::fault::{Fault, note};
+use sap_names::kind::Code;
+use sap_names::table::Names;
+use sap_tree::syntax::{Block, Cmd, Simple};
+
+#[tactic(auto, using(sap_names::proofs::Faults::noting))]
+fn simple_shape(names: &Names, home: &Home<'_>, command: &Simple, best: &mut Option<Fault>)
+    ensures { best.new ≡ best_of best.old (shape.simple_shape names.now (body_of home.now) (simple_of command.now)) }
+{
+    match command {
+        Simple::Assign(_, _) => (),
+        Simple::Write(_, _, _) => (),
+        Simple::SetTag(_, target, _) => {
+            note(
+                best,
+                names.is_dynamic(&target.name),
+                Code::E16,
+                target.place,
+            );
+            note(
+                best,
+                is_comparable(home, &target.name),
+                Code::E17,
+                target.place,
+            );
+        }
+        Simple::SetCellTag(_, target, _, _) => note(
+            best,
+            names.is_dynamic(&target.name),
+            Code::E16,
+            target.place,
+        ),
+        Simple::Goto(_, target) => note(
+            best,
+            !is_among(home.group, &target.name),
+            Code::E11,
+            target.place,
+        ),
+        Simple::Fall(place) => note(best, is_leaf(home.children), Code::E12, *place),
+    }
+}
+
+#[cycle(body)]
+#[tactic(auto, using(sap_tree::proofs::Views::views, crate::proofs::Bodies::blocks, crate::proofs::Weights::weights, sap_names::proofs::Faults::noting))]
+fn command_shape(names: &Names, home: &Home<'_>, command: &Cmd, best: &mut Option<Fault>)
+    ensures { best.new ≡ best_of best.old (shape.command_shape names.now (body_of home.now) (command_of command.now)) }
+{
+    match command {
+        Cmd::Do(simple) => simple_shape(names, home, simple, best),
+        Cmd::Try(simple, otherwise, handler) => {
+            simple_shape(names, home, simple, best);
+            note(
+                best,
+                !is_site(names, home.kind, home.children, simple),
+                Code::E15,
+                *otherwise,
+            );
+            list_shape(names, home, handler.commands.as_slice(), best);
+        }
+        Cmd::If(_, _, one, other) => {
+            list_shape(names, home, one.commands.as_slice(), best);
+            else_shape(names, home, other, best);
+        }
+    }
+}
+
+#[cycle(body)]
+#[tactic(auto, using(crate::proofs::Bodies::blocks, crate::proofs::Weights::weights, sap_names::proofs::Faults::noting))]
+fn else_shape(names: &Names, home: &Home<'_>, other: &Option<Block>, best: &mut Option<Fault>)
+    ensures { best.new ≡ best_of best.old (shape.else_shape names.now (body_of home.now) (else_of other.now)) }
+{
+    match other {
+        Some(block) => list_shape(names, home, block.commands.as_slice(), best),
+        None => (),
+    }
+}
+
+/// The best so far of the faults of commands, but for E10 and E14.
+#[cycle(body)]
+#[tactic(auto, using(crate::proofs::Bodies::bodies, crate::proofs::Weights::weights, sap_names::proofs::Faults::noting))]
+pub(crate) fn list_shape(names: &Names, home: &Home<'_>, commands: &[Cmd], best: &mut Option<Fault>)
+    ensures { best.new ≡ best_of best.old (lists.list_shape names.now (body_of home.now) commands.now) }
+{
+    for command in commands {
+        command_shape(names, home, command, best);
+    }
+}

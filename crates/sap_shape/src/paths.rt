@@ -1,0 +1,138 @@
+//! E14: no path of one cycle writes a memory twice.
+
+ghost use Rattle.std.specs.Prelude.{◌≡◌, OnOk};
+ghost use Rattle.sap_names.specs.Best.{best_of};
+ghost use Rattle.sap_shape.specs.Lists as lists;
+ghost use Rattle.sap_shape.specs.Lists.{written_in};
+ghost use Rattle.sap_shape.specs.Paths as paths;
+ghost use Rattle.sap_shape.specs.Paths.{either, writing};
+ghost use Rattle.sap_names.specs.NameFaults.{fault_if};
+ghost use Rattle.sap_names.specs.declared.kind.Code.TheVariants.{E14};
+ghost use Rattle.sap_tree.specs.Trees.{command_of, else_of, simple_of, state_of};
+
+use crate::written::Written;
+use sap_names::fault::{Fault, note};
+use sap_names::kind::Code;
+use sap_tree::name::Name;
+use sap_tree::place::Place;
+use sap_tree::syntax::{Block, Cmd, Simple, State};
+use std::alloc::{AllocError, Global};
+
+// A cell of a memory is written.
+fn cell_paths(
+    alloc: Global,
+    memory: &Name,
+    place: Place,
+    here: &mut Written,
+    best: &mut Option<Fault>,
+) -> Result<(), AllocError>
+    ensures past { OnOk result (written_in here.new ≡ writing memory.now (written_in here.old)) }
+    ensures second { OnOk result (best.new ≡ best_of best.old (fault_if (written_in here.old memory.now) E14 place)) }
+{
+    note(best, here.contains(memory), Code::E14, place);
+    here.add(alloc, memory)
+}
+
+// `here` goes past the command, and `entered` takes in the paths that enter a child in it.
+#[tactic(auto, using(crate::proofs::Sets::sets, sap_names::proofs::Faults::noting))]
+fn simple_paths(
+    alloc: Global,
+    command: &Simple,
+    here: &mut Written,
+    entered: &mut Written,
+    best: &mut Option<Fault>,
+) -> Result<(), AllocError>
+    ensures past { OnOk result (written_in here.new ≡ paths.past_simple (simple_of command.now) (written_in here.old)) }
+    ensures entering { OnOk result (written_in entered.new
+        ≡ either (written_in entered.old) (paths.entering_simple (simple_of command.now) (written_in here.old))) }
+    ensures second { OnOk result (best.new ≡ best_of best.old (paths.second_simple (simple_of command.now) (written_in here.old))) }
+{
+    match command {
+        Simple::Write(target, _, _) => cell_paths(alloc, &target.name, target.place, here, best),
+        Simple::SetCellTag(place, target, _, _) => cell_paths(
+            alloc,
+            &target.name,
+            *place,
+            here,
+            best,
+        ),
+        Simple::Fall(_) => entered.join(alloc, here),
+        Simple::Assign(_, _) => Ok(()),
+        Simple::SetTag(_, _, _) => Ok(()),
+        Simple::Goto(_, _) => Ok(()),
+    }
+}
+
+#[cycle(paths)]
+#[tactic(auto, using(sap_tree::proofs::Views::views, crate::proofs::Walks::blocks, crate::proofs::Weights::weights, crate::proofs::Sets::sets, sap_names::proofs::Faults::noting))]
+fn command_paths(
+    alloc: Global,
+    command: &Cmd,
+    here: &mut Written,
+    entered: &mut Written,
+    best: &mut Option<Fault>,
+) -> Result<(), AllocError>
+    ensures past { OnOk result (written_in here.new ≡ paths.past (command_of command.now) (written_in here.old)) }
+    ensures entering { OnOk result (written_in entered.new ≡ either (written_in entered.old) (paths.entering (command_of command.now) (written_in here.old))) }
+    ensures second { OnOk result (best.new ≡ best_of best.old (paths.second (command_of command.now) (written_in here.old))) }
+{
+    match command {
+        Cmd::Do(simple) => simple_paths(alloc, simple, here, entered, best),
+        Cmd::Try(simple, _, handler) => {
+            simple_paths(alloc, simple, here, entered, best)?;
+            let mut handled = here.copy(alloc)?;
+            list_paths(
+                alloc,
+                handler.commands.as_slice(),
+                &mut handled,
+                entered,
+                best,
+            )?;
+            here.join(alloc, &handled)
+        }
+        Cmd::If(_, _, one, other) => {
+            let mut beside = here.copy(alloc)?;
+            list_paths(alloc, one.commands.as_slice(), here, entered, best)?;
+            else_paths(alloc, other, &mut beside, entered, best)?;
+            here.join(alloc, &beside)
+        }
+    }
+}
+
+#[cycle(paths)]
+#[tactic(auto, using(crate::proofs::Walks::blocks, crate::proofs::Weights::weights, crate::proofs::Sets::sets, sap_names::proofs::Faults::noting))]
+fn else_paths(
+    alloc: Global,
+    other: &Option<Block>,
+    here: &mut Written,
+    entered: &mut Written,
+    best: &mut Option<Fault>,
+) -> Result<(), AllocError>
+    ensures past { OnOk result (written_in here.new ≡ paths.past_else (else_of other.now) (written_in here.old)) }
+    ensures entering { OnOk result (written_in entered.new ≡ either (written_in entered.old) (paths.entering_else (else_of other.now) (written_in here.old))) }
+    ensures second { OnOk result (best.new ≡ best_of best.old (paths.second_else (else_of other.now) (written_in here.old))) }
+{
+    match other {
+        Some(block) => list_paths(alloc, block.commands.as_slice(), here, entered, best),
+        None => Ok(()),
+    }
+}
+
+#[cycle(paths)]
+#[tactic(auto, using(crate::proofs::Walks::walks, crate::proofs::Weights::weights, crate::proofs::Sets::sets, sap_names::proofs::Faults::noting))]
+pub(crate) fn list_paths(
+    alloc: Global,
+    commands: &[Cmd],
+    here: &mut Written,
+    entered: &mut Written,
+    best: &mut Option<Fault>,
+) -> Result<(), AllocError>
+    ensures past { OnOk result (written_in here.new ≡ lists.past_list commands.now (written_in here.old)) }
+    ensures entering { OnOk result (written_in entered.new ≡ either (written_in entered.old) (lists.entering_list commands.now (written_in here.old))) }
+    ensures second { OnOk result (best.new ≡ best_of best.old (lists.second_list commands.now (written_in here.old))) }
+{
+    for command in commands {
+        command_paths(alloc, command, here, entered, best)?;
+    }
+    Ok(())
+}
