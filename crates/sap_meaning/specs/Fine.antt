@@ -101,33 +101,43 @@ abbrev mutual
   block_writes End m = false
   block_writes (Then c cs) m = writes c m || block_writes cs m
 
--- the body of a state, or of one below it, writes m
-abbrev mutual
-  pub state_writes : State → ℕ → Bool
-  state_writes (Node s b g) m = block_writes b m || group_writes g m
+-- it writes m, or falls, where m is written by what a fall leads to
+abbrev pub step_reaching : (falls : ℕ → Bool) → Step → ℕ → Bool
+step_reaching falls (Set site x e) m = false
+step_reaching falls (Write site n i e) m = nat_eq m n
+step_reaching falls (Retag site x n) m = false
+step_reaching falls (RetagCell site n j t) m = nat_eq m n
+step_reaching falls (Goto site target) m = false
+step_reaching falls (Fall site hang) m = falls m
 
-  pub group_writes : Group → ℕ → Bool
-  group_writes None m = false
-  group_writes (More t g) m = state_writes t m || group_writes g m
+abbrev mutual
+  pub reaching : (falls : ℕ → Bool) → Command → ℕ → Bool
+  reaching falls (Do k) m = step_reaching falls k m
+  reaching falls (Try k hang h) m = step_reaching falls k m || block_reaching falls h m
+  reaching falls (If hang e a b) m = block_reaching falls a m || block_reaching falls b m
+
+  pub block_reaching : (falls : ℕ → Bool) → Block → ℕ → Bool
+  block_reaching falls End m = false
+  block_reaching falls (Then c cs) m = reaching falls c m || block_reaching falls cs m
+
+-- the body of a state writes m, or one that it may fall into does
+abbrev mutual
+  pub state_reaches : State → ℕ → Bool
+  state_reaches (Node s b g) m = block_reaching (group_reaches g) b m
+
+  pub group_reaches : Group → ℕ → Bool
+  group_reaches None m = false
+  group_reaches (More t g) m = state_reaches t m || group_reaches g m
 
 -- it writes m, or a body that it may fall into does, where g are the children
 abbrev pub step_reaches : Group → Step → ℕ → Bool
-step_reaches g (Set site x e) m = false
-step_reaches g (Write site n i e) m = nat_eq m n
-step_reaches g (Retag site x n) m = false
-step_reaches g (RetagCell site n j t) m = nat_eq m n
-step_reaches g (Goto site target) m = false
-step_reaches g (Fall site hang) m = group_writes g m
+step_reaches g k m = step_reaching (group_reaches g) k m
 
-abbrev mutual
-  pub reaches : Group → Command → ℕ → Bool
-  reaches g (Do k) m = step_reaches g k m
-  reaches g (Try k hang h) m = step_reaches g k m || block_reaches g h m
-  reaches g (If hang e a b) m = block_reaches g a m || block_reaches g b m
+abbrev pub reaches : Group → Command → ℕ → Bool
+reaches g c m = reaching (group_reaches g) c m
 
-  pub block_reaches : Group → Block → ℕ → Bool
-  block_reaches g End m = false
-  block_reaches g (Then c cs) m = reaches g c m || block_reaches g cs m
+abbrev pub block_reaches : Group → Block → ℕ → Bool
+block_reaches g b m = block_reaching (group_reaches g) b m
 
 -- No memory is written after it was written, on any path: a refused fall has entered no child before its handler.
 abbrev mutual

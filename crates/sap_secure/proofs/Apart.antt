@@ -1,8 +1,9 @@
 -- What registers, memories and states have apart.
-use Rattle.std.proofs.Common.{◌≡◌, ℕ, suc, Bool, true, false, ◌||◌, refl, nat_eq, inl, inr}
-use Rattle.sap_meaning.specs.Program.{World, Kind, input, register, memory, state, entity, is_register, is_memory, is_state, kind_is_register, kind_is_memory, kind_is_state, Step, Set, Write, Retag, RetagCell, Goto, Fall, Command, Do, Try, If, Block, End, Then, State, Node, Group, None, More}
+use Rattle.std.proofs.Common.{◌≡◌, ℕ, suc, Bool, true, false, ◌||◌, refl, sym, ◌∙◌, nat_eq, inl, inr}
+use Rattle.sap_meaning.specs.Program.{World, is_dynamic, Kind, input, register, memory, state, entity, is_register, is_memory, is_state, kind_is_register, kind_is_memory, kind_is_state, Step, Set, Write, Retag, RetagCell, Goto, Fall, Command, Do, Try, If, Block, End, Then, State, Node, Group, None, More}
 use Rattle.sap_meaning.specs.Touches.{among, step_assigns, assigns, block_assigns, state_assigns, group_assigns, step_hangs, hangs, block_hangs}
-use Rattle.sap_meaning.specs.Fine.{FineStep, FineCommand, FineBlock, FineState, FineGroup, inside, step_writes, writes, block_writes, state_writes, group_writes, step_reaches, reaches, block_reaches}
+use Rattle.sap_meaning.specs.Fine.{FineStep, FineCommand, FineBlock, FineState, FineGroup, inside, step_writes, writes, block_writes, step_reaches, reaches, block_reaches}
+use Rattle.sap_secure.proofs.Concerns.{parted_of, group_parted, step_concerns, concerns, block_concerns}
 use Rattle.sap_meaning.proofs.Bools.{and_left, or_left, or_right, or_of, or_false, not_true, same_number, eq_not}
 
 either_of : (a b c d : Bool) → (a ≡ true → c ≡ true) → (b ≡ true → d ≡ true) → (a || b) ≡ true → (c || d) ≡ true
@@ -73,53 +74,25 @@ module _ (w : World) where
       group_unassigned q n None fine = refl
       group_unassigned q n (More t g) fine = or_false _ _ (state_unassigned q n t fine.0) (group_unassigned q (suc n) g fine.1)
 
-  -- what is assigned to a memory is a write
-  module _ (m : ℕ) (mem : is_memory w m ≡ true) where
-    step_written : (q j : Group) (k : Step) → FineStep w q j k → step_assigns k m ≡ true → step_writes k m ≡ true
-    step_written q j (Set site y e) fine h = let no = cell_apart m y mem fine.0 in cc
-    step_written q j (Write site n i e) fine h = h
-    step_written q j (Retag site y n) fine h = cc
-    step_written q j (RetagCell site n d t) fine h = cc
-    step_written q j (Goto site target) fine h = cc
-    step_written q j (Fall site hang) fine h = cc
+  -- an enforced memory that concerns a body is reached
+  module _ (m : ℕ) (mem : is_memory w m ≡ true) (d : is_dynamic w m ≡ false) (e : ℕ) (g : Group) (own : nat_eq m e ≡ false) (kids : among g m ≡ false) where
+    step_hung : (q j : Group) (k : Step) → FineStep w q j k → step_concerns w e g k m ≡ true → step_reaches g k m ≡ true
+    step_hung q j (Set site y e') fine h = let no = cell_apart m y mem fine.0 in cc
+    step_hung q j (Write site n i e') fine h = h
+    step_hung q j (Retag site y n) fine h = cc
+    step_hung q j (RetagCell site n i t) fine h = cc
+    step_hung q j (Goto site target) fine h = cc
+    step_hung q j (Fall site hang) fine h = sym (group_parted w m (parted_of w m mem d) g) ∙ rw kids at h
 
     mutual
-      written : (q j : Group) (c : Command) → FineCommand w q j c → assigns c m ≡ true → writes c m ≡ true
-      written q j (Do k) fine h = step_written q j k fine h
-      written q j (Try k hang b) fine h = either_of (step_assigns k m) (block_assigns b m) (step_writes k m) (block_writes b m) (step_written q j k fine.0) (block_written q j b fine.1) h
-      written q j (If hang e a b) fine h = either_of (block_assigns a m) (block_assigns b m) (block_writes a m) (block_writes b m) (block_written q j a fine.1) (block_written q j b fine.2) h
+      pub hung : (q j : Group) (c : Command) → FineCommand w q j c → concerns w e g c m ≡ true → reaches g c m ≡ true
+      hung q j (Do k) fine h = step_hung q j k fine h
+      hung q j (Try k hang b) fine h = either_of (step_concerns w e g k m) (block_concerns w e g b m) (step_reaches g k m) (block_reaches g b m) (step_hung q j k fine.0) (block_hung q j b fine.1) h
+      hung q j (If hang t a b) fine h = either_of (block_concerns w e g a m) (block_concerns w e g b m) (block_reaches g a m) (block_reaches g b m) (block_hung q j a fine.1) (block_hung q j b fine.2) h
 
-      block_written : (q j : Group) (b : Block) → FineBlock w q j b → block_assigns b m ≡ true → block_writes b m ≡ true
-      block_written q j End fine h = h
-      block_written q j (Then c cs) fine h = either_of (assigns c m) (block_assigns cs m) (writes c m) (block_writes cs m) (written q j c fine.0) (block_written q j cs fine.1) h
-
-    mutual
-      pub state_written : (q : Group) (n : ℕ) (t : State) → FineState w q n t → state_assigns t m ≡ true → state_writes t m ≡ true
-      state_written q n (Node e b g) fine h = either_of (block_assigns b m) (group_assigns g m) (block_writes b m) (group_writes g m) (block_written q g b fine.0.steps) (group_written g 0 g fine.1) h
-
-      pub group_written : (q : Group) (n : ℕ) (g : Group) → FineGroup w q n g → group_assigns g m ≡ true → group_writes g m ≡ true
-      group_written q n None fine h = h
-      group_written q n (More t g) fine h = either_of (state_assigns t m) (group_assigns g m) (state_writes t m) (group_writes g m) (state_written q n t fine.0) (group_written q (suc n) g fine.1) h
-
-    -- a memory that hangs is reached
-    module _ (e : ℕ) (g : Group) (own : nat_eq m e ≡ false) (kids : among g m ≡ false) (below : group_assigns g m ≡ true → group_writes g m ≡ true) where
-      step_hung : (q j : Group) (k : Step) → FineStep w q j k → step_hangs e g k m ≡ true → step_reaches g k m ≡ true
-      step_hung q j (Set site y e') fine h = let no = cell_apart m y mem fine.0 in cc
-      step_hung q j (Write site n i e') fine h = h
-      step_hung q j (Retag site y n) fine h = cc
-      step_hung q j (RetagCell site n d t) fine h = cc
-      step_hung q j (Goto site target) fine h = cc
-      step_hung q j (Fall site hang) fine h = below (rw kids at h)
-
-      mutual
-        pub hung : (q j : Group) (c : Command) → FineCommand w q j c → hangs e g c m ≡ true → reaches g c m ≡ true
-        hung q j (Do k) fine h = step_hung q j k fine h
-        hung q j (Try k hang b) fine h = either_of (step_hangs e g k m) (block_hangs e g b m) (step_reaches g k m) (block_reaches g b m) (step_hung q j k fine.0) (block_hung q j b fine.1) h
-        hung q j (If hang t a b) fine h = either_of (block_hangs e g a m) (block_hangs e g b m) (block_reaches g a m) (block_reaches g b m) (block_hung q j a fine.1) (block_hung q j b fine.2) h
-
-        pub block_hung : (q j : Group) (b : Block) → FineBlock w q j b → block_hangs e g b m ≡ true → block_reaches g b m ≡ true
-        block_hung q j End fine h = h
-        block_hung q j (Then c cs) fine h = either_of (hangs e g c m) (block_hangs e g cs m) (reaches g c m) (block_reaches g cs m) (hung q j c fine.0) (block_hung q j cs fine.1) h
+      pub block_hung : (q j : Group) (b : Block) → FineBlock w q j b → block_concerns w e g b m ≡ true → block_reaches g b m ≡ true
+      block_hung q j End fine h = h
+      block_hung q j (Then c cs) fine h = either_of (concerns w e g c m) (block_concerns w e g cs m) (reaches g c m) (block_reaches g cs m) (hung q j c fine.0) (block_hung q j cs fine.1) h
 
   -- a state that is neither the body's own nor a child hangs on nothing
   module _ (x : ℕ) (s : is_state w x ≡ true) (e : ℕ) (g : Group) (own : nat_eq x e ≡ false) (kids : among g x ≡ false) (free : group_assigns g x ≡ false) where

@@ -8,7 +8,7 @@ use Rattle.sap_meaning.specs.Store.{Slot, own, start, next, start_whole, next_wh
 use Rattle.sap_meaning.specs.State.{Holds}
 use Rattle.sap_meaning.specs.Expressions.{value, tag, new_level, told}
 use Rattle.sap_meaning.specs.Checks.{Spot, guard, test}
-use Rattle.sap_meaning.specs.Touches.{among, step_hangs, hangs, block_hangs, touches, raised_alone, group_assigns, block_assigns, state_assigns}
+use Rattle.sap_meaning.specs.Touches.{among, step_hangs, touches, raised_alone}
 use Rattle.sap_meaning.specs.Does.{effect, attempt, select, branch, does, does_block, does_state, does_child}
 use Rattle.sap_meaning.specs.Agree.{High, seen}
 use Rattle.sap_meaning.proofs.Bools.{and_left, and_right, and_both, or_left, or_right, or_of, not_true, same_number, eq_self}
@@ -17,8 +17,9 @@ use Rattle.sap_meaning.proofs.Trees.{Nth, lands}
 use Rattle.sap_meaning.proofs.Keeps.{OfDynamic, Keeps, branch_all, raise_keeps, holds_raise, does_holds, block_holds, alone_dynamic, child_holds}
 use Rattle.sap_secure.proofs.Levels.{high_above, high_left, high_right, low_join, same_high, seen_nothing}
 use Rattle.sap_secure.proofs.Agreeing.{compared, not_both, Agree, sole_own, sole_cell, agree_self, agree_next, agree_over, agree_hidden, agree_raise, raise_high, raise_to, agree_child, agree_reset, agree_state}
-use Rattle.sap_secure.proofs.Apart.{block_found, inside_state, inside_among, no_state}
-use Rattle.sap_secure.proofs.Sites.{Around, Site, spot, Proper, ProperBlock, ProperStep, Disjoint, fine_command, fine_block, kids_around, not_own, no_kid, proper_body}
+use Rattle.sap_secure.proofs.Concerns.{parted, dynamic_whole, block_whole, concerned, step_concerns, concerns, block_concerns, state_concerns, group_concerns}
+use Rattle.sap_secure.proofs.Apart.{block_hung, block_found, inside_state, inside_among, no_state}
+use Rattle.sap_secure.proofs.Sites.{Around, Site, spot, Proper, ProperBlock, ProperStep, Disjoint, fine_command, fine_block, kids_around, node, not_own, no_kid, proper_body}
 use Rattle.sap_secure.proofs.Frames.{start_kept, next_kept}
 
 -- what commands can raise or write
@@ -83,7 +84,7 @@ pub record Confined (w : World) (l : ℕ) (s : Store) (a : After) : Type 0 where
 
 -- what children do in a high context
 abbrev pub Entering : World → ℕ → Group → (ℕ → ℕ → Store → After) → Type 0
-Entering w l g enter = (n pc : ℕ) (s : Store) → Holds w s → High w.order l pc → Quiet w l (group_assigns g) s → Confined w l s (enter n pc s)
+Entering w l g enter = (n pc : ℕ) (s : Store) → Holds w s → High w.order l pc → Quiet w l (group_concerns w g) s → Confined w l s (enter n pc s)
 
 module _ (w : World) (laws : Laws w.order) (l : ℕ) where
   -- raises keep it
@@ -128,23 +129,23 @@ module _ (w : World) (laws : Laws w.order) (l : ℕ) where
     keeps_block b fine pc = block_holds w At i.siblings landing i.enter holding b (fine_block w i b fine) pc
 
     -- commands before those that touch a slot keep it quiet
-    pub hush_next : (c : Command) (cs : Block) → Disjoint w i c cs → (pc : ℕ) (s : Store) → Agree w l s (does w At i.enter c pc s).store → (z : Slot) → changing w z ≡ true → block_hangs i.state i.kids cs (owner z) ≡ true → Hush w l z s → Hush w l z (does w At i.enter c pc s).store
+    pub hush_next : (c : Command) (cs : Block) → Disjoint w i c cs → (pc : ℕ) (s : Store) → Agree w l s (does w At i.enter c pc s).store → (z : Slot) → changing w z ≡ true → block_concerns w i.state i.kids cs (owner z) ≡ true → Hush w l z s → Hush w l z (does w At i.enter c pc s).store
     hush_next c cs apart pc s same z g h q = (λ d. sym (same.cells z (changing_compared w z g)).low ∙ q.0 d, λ d. part z g h d (q.1 d))
       where
-        part : (z : Slot) → changing w z ≡ true → block_hangs i.state i.kids cs (owner z) ≡ true → is_dynamic w (owner z) ≡ false → level w (begun z) s ≡ level w z s → level w (begun z) (does w (spot i) i.enter c pc s).store ≡ level w z (does w (spot i) i.enter c pc s).store
+        part : (z : Slot) → changing w z ≡ true → block_concerns w i.state i.kids cs (owner z) ≡ true → is_dynamic w (owner z) ≡ false → level w (begun z) s ≡ level w z s → level w (begun z) (does w (spot i) i.enter c pc s).store ≡ level w z (does w (spot i) i.enter c pc s).store
         part (own x) g h d e = refl
         part (start m j) g h d e = refl
-        part (next m j) g h d e = let a = apart m g h in (start_kept w i 0 m g d c a.0 a.1 pc s j).level ∙ e ∙ sym (next_kept w i 0 m g d c a.0 a.1 pc s j).level
+        part (next m j) g h d e = let a = apart m g d h in (start_kept w i 0 m g d c a.0 a.1 pc s j).level ∙ e ∙ sym (next_kept w i 0 m g d c a.0 a.1 pc s j).level
         part (start_whole m) g h d e = refl
         part (next_whole m) g h d e = refl
 
-    pub even_next : (c : Command) (cs : Block) → Disjoint w i c cs → (pc : ℕ) (s : Store) → Even w (block_hangs i.state i.kids cs) s → Even w (block_hangs i.state i.kids cs) (does w At i.enter c pc s).store
+    pub even_next : (c : Command) (cs : Block) → Disjoint w i c cs → (pc : ℕ) (s : Store) → Even w (block_concerns w i.state i.kids cs) s → Even w (block_concerns w i.state i.kids cs) (does w At i.enter c pc s).store
     even_next c cs apart pc s e z g d h = part z g h d (e z g d h)
       where
-        part : (z : Slot) → changing w z ≡ true → block_hangs i.state i.kids cs (owner z) ≡ true → is_dynamic w (owner z) ≡ false → level w (begun z) s ≡ level w z s → level w (begun z) (does w (spot i) i.enter c pc s).store ≡ level w z (does w (spot i) i.enter c pc s).store
+        part : (z : Slot) → changing w z ≡ true → block_concerns w i.state i.kids cs (owner z) ≡ true → is_dynamic w (owner z) ≡ false → level w (begun z) s ≡ level w z s → level w (begun z) (does w (spot i) i.enter c pc s).store ≡ level w z (does w (spot i) i.enter c pc s).store
         part (own x) g h d e = refl
         part (start m j) g h d e = refl
-        part (next m j) g h d e = let a = apart m g h in (start_kept w i 0 m g d c a.0 a.1 pc s j).level ∙ e ∙ sym (next_kept w i 0 m g d c a.0 a.1 pc s j).level
+        part (next m j) g h d e = let a = apart m g d h in (start_kept w i 0 m g d c a.0 a.1 pc s j).level ∙ e ∙ sym (next_kept w i 0 m g d c a.0 a.1 pc s j).level
         part (start_whole m) g h d e = refl
         part (next_whole m) g h d e = refl
 
@@ -186,7 +187,7 @@ module _ (w : World) (laws : Laws w.order) (l : ℕ) where
     held_target x h = elim (or_of _ _ h) [ inl r ↦ held_register w x r | inr s ↦ held_state w x s ]
 
     -- the effect of a step, from the raised store r
-    pub step_confined : (k : Step) → ProperStep w i k → (pc : ℕ) (b r : Store) → ((z : Slot) → is_dynamic w (owner z) ≡ false → level w z r ≡ level w z b) → Holds w r → Quiet w l (step_hangs i.state i.kids k) r → test w At k pc b ≡ true → Up pc k b → Confined w l r (effect w At i.enter k pc b r)
+    pub step_confined : (k : Step) → ProperStep w i k → (pc : ℕ) (b r : Store) → ((z : Slot) → is_dynamic w (owner z) ≡ false → level w z r ≡ level w z b) → Holds w r → Quiet w l (step_concerns w i.state i.kids k) r → test w At k pc b ≡ true → Up pc k b → Confined w l r (effect w At i.enter k pc b r)
     unfolding effect
     step_confined (Set site x e) fine pc b r kept holds quiet t up =
         let over = agree_over w laws l r (own x) (value w e b) in
@@ -240,7 +241,7 @@ module _ (w : World) (laws : Laws w.order) (l : ℕ) where
         entering (child i.state b) _ r holds (up_join pc (Fall site hang) b up) (λ z g h. quiet z g (or_right (among i.kids (owner z)) _ h))
 
     -- from the raised store on, with the handler h
-    pub attempt_confined : (k : Step) → ProperStep w i k → (hang : ℕ → Bool) (h : ℕ → Store → After) (pc : ℕ) (s : Store) → OfDynamic w hang → Holds w s → Quiet w l (step_hangs i.state i.kids k) (raise w.order hang (guard w At k s) s) → Up pc k s → ((q : ℕ) → High w.order l q → Confined w l (raise w.order hang (guard w At k s) s) (h q (raise w.order hang (guard w At k s) s))) → Confined w l (raise w.order hang (guard w At k s) s) (attempt w At i.enter k hang h pc s)
+    pub attempt_confined : (k : Step) → ProperStep w i k → (hang : ℕ → Bool) (h : ℕ → Store → After) (pc : ℕ) (s : Store) → OfDynamic w hang → Holds w s → Quiet w l (step_concerns w i.state i.kids k) (raise w.order hang (guard w At k s) s) → Up pc k s → ((q : ℕ) → High w.order l q → Confined w l (raise w.order hang (guard w At k s) s) (h q (raise w.order hang (guard w At k s) s))) → Confined w l (raise w.order hang (guard w At k s) s) (attempt w At i.enter k hang h pc s)
     unfolding attempt
     attempt_confined k fine hang h pc s dyn holds quiet up handler = elim (cases_Bool (test w At k pc s)) [
       | inl t ↦ rw t (step_confined k fine pc s _ (raise_keeps w s hang _ dyn) (holds_raise w s hang _ dyn holds) quiet t up)
@@ -277,37 +278,37 @@ module _ (w : World) (laws : Laws w.order) (l : ℕ) where
     mutual
       unfolding does does_block
 
-      pub does_confined : (c : Command) → Proper w i c → (pc : ℕ) (s : Store) → Holds w s → High w.order l pc → Quiet w l (hangs i.state i.kids c) s → Confined w l s (does w At i.enter c pc s)
+      pub does_confined : (c : Command) → Proper w i c → (pc : ℕ) (s : Store) → Holds w s → High w.order l pc → Quiet w l (concerns w i.state i.kids c) s → Confined w l s (does w At i.enter c pc s)
       does_confined (Do k) fine pc s holds high quiet =
           let hang = raised_alone w At k in
           let dyn : OfDynamic w hang = alone_dynamic w At i.siblings landing i.enter holding k in
-          let e = agree_raise w laws l s hang (guard w At k s) dyn (hushed (step_hangs i.state i.kids k) hang s (alone_within k) quiet) in
-          confined_from s _ _ e (attempt_confined k fine hang (λ q s. stay s) pc s dyn holds (quiet_kept (step_hangs i.state i.kids k) hang (guard w At k s) s dyn quiet) (inl high) (λ q up. confined_self _))
+          let e = agree_raise w laws l s hang (guard w At k s) dyn (hushed (step_concerns w i.state i.kids k) hang s (λ x j. concerned w i.state i.kids (Do k) x (alone_within k x j)) quiet) in
+          confined_from s _ _ e (attempt_confined k fine hang (λ q s. stay s) pc s dyn holds (quiet_kept (step_concerns w i.state i.kids k) hang (guard w At k s) s dyn quiet) (inl high) (λ q up. confined_self _))
       does_confined (Try k hang h) fine pc s holds high quiet =
           let hung = touches w At (Try k hang h) in
           let dyn : OfDynamic w hung = touches_dynamic (Try k hang h) in
-          let e = agree_raise w laws l s hung (guard w At k s) dyn (hushed (hangs i.state i.kids (Try k hang h)) hung s (λ x i. i) quiet) in
+          let e = agree_raise w laws l s hung (guard w At k s) dyn (hushed (concerns w i.state i.kids (Try k hang h)) hung s (concerned w i.state i.kids (Try k hang h)) quiet) in
           let r' = raise w.order hung (guard w At k s) s in
-          let q = quiet_kept (hangs i.state i.kids (Try k hang h)) hung (guard w At k s) s dyn quiet in
-          confined_from s _ _ e (attempt_confined k fine.0 hung (does_block w At i.enter h) pc s dyn holds (quiet_left (step_hangs i.state i.kids k) (block_hangs i.state i.kids h) r' q) (inl high)
-          (λ r up. block_confined h fine.1 r _ (holds_raise w s hung _ dyn holds) up (quiet_right (step_hangs i.state i.kids k) (block_hangs i.state i.kids h) r' q)))
+          let q = quiet_kept (concerns w i.state i.kids (Try k hang h)) hung (guard w At k s) s dyn quiet in
+          confined_from s _ _ e (attempt_confined k fine.0 hung (does_block w At i.enter h) pc s dyn holds (quiet_left (step_concerns w i.state i.kids k) (block_concerns w i.state i.kids h) r' q) (inl high)
+          (λ r up. block_confined h fine.1 r _ (holds_raise w s hung _ dyn holds) up (quiet_right (step_concerns w i.state i.kids k) (block_concerns w i.state i.kids h) r' q)))
       does_confined (If hang e a b) fine pc s holds high quiet =
           let hung = touches w At (If hang e a b) in
           let dyn : OfDynamic w hung = touches_dynamic (If hang e a b) in
-          let same = agree_raise w laws l s hung (tag w e s) dyn (hushed (hangs i.state i.kids (If hang e a b)) hung s (λ x i. i) quiet) in
+          let same = agree_raise w laws l s hung (tag w e s) dyn (hushed (concerns w i.state i.kids (If hang e a b)) hung s (concerned w i.state i.kids (If hang e a b)) quiet) in
           let r' = raise w.order hung (tag w e s) s in
-          let q = quiet_kept (hangs i.state i.kids (If hang e a b)) hung (tag w e s) s dyn quiet in
+          let q = quiet_kept (concerns w i.state i.kids (If hang e a b)) hung (tag w e s) s dyn quiet in
           confined_from s _ _ same (select_confined e hung (branch (does_block w At i.enter a) (does_block w At i.enter b)) pc s (high_left w.order laws l pc _ high)
           (λ v r up. branch_all (λ z. Confined w l (raise w.order hung (tag w e s) s) z) (does_block w At i.enter a) (does_block w At i.enter b) v r (raise w.order hung (tag w e s) s)
-          (block_confined a fine.1 r _ (holds_raise w s hung _ dyn holds) up (quiet_left (block_hangs i.state i.kids a) (block_hangs i.state i.kids b) r' q))
-          (block_confined b fine.2 r _ (holds_raise w s hung _ dyn holds) up (quiet_right (block_hangs i.state i.kids a) (block_hangs i.state i.kids b) r' q))))
+          (block_confined a fine.1 r _ (holds_raise w s hung _ dyn holds) up (quiet_left (block_concerns w i.state i.kids a) (block_concerns w i.state i.kids b) r' q))
+          (block_confined b fine.2 r _ (holds_raise w s hung _ dyn holds) up (quiet_right (block_concerns w i.state i.kids a) (block_concerns w i.state i.kids b) r' q))))
 
-      pub block_confined : (b : Block) → ProperBlock w i b → (pc : ℕ) (s : Store) → Holds w s → High w.order l pc → Quiet w l (block_hangs i.state i.kids b) s → Confined w l s (does_block w At i.enter b pc s)
+      pub block_confined : (b : Block) → ProperBlock w i b → (pc : ℕ) (s : Store) → Holds w s → High w.order l pc → Quiet w l (block_concerns w i.state i.kids b) s → Confined w l s (does_block w At i.enter b pc s)
       block_confined End fine pc s holds high quiet = confined_self s
       block_confined (Then c cs) fine pc s holds high quiet =
-          let f = does_confined c fine.0 pc s holds high (quiet_left (hangs i.state i.kids c) (block_hangs i.state i.kids cs) s quiet) in
+          let f = does_confined c fine.0 pc s holds high (quiet_left (concerns w i.state i.kids c) (block_concerns w i.state i.kids cs) s quiet) in
           let s' = (does w At i.enter c pc s).store in
-          let g = block_confined cs fine.1 pc s' (keeps c fine.0 pc s holds) high (λ z g h. hush_next c cs fine.2 pc s f.same z g h (quiet z g (or_right (hangs i.state i.kids c (owner z)) _ h))) in
+          let g = block_confined cs fine.1 pc s' (keeps c fine.0 pc s holds) high (λ z g h. hush_next c cs fine.2 pc s f.same z g h (quiet z g (or_right (concerns w i.state i.kids c (owner z)) _ h))) in
           record { same = agree_next w laws l _ _ _ f.same g.same; quiet = seen_nothing w.order laws l _ _ f.quiet g.quiet }
 
 -- a slot that changes belongs to no state
@@ -319,16 +320,18 @@ changing_no_state w (start_whole m) g = cc
 changing_no_state w (next_whole m) g = cc
 
 module _ (w : World) (laws : Laws w.order) (l : ℕ) where
-  -- what a body touches is assigned in it or below it
-  pub body_quiet : (i : Site w) (b : Block) (s : Store) → Quiet w l (λ x. block_assigns b x || group_assigns i.kids x) s → Quiet w l (block_hangs i.state i.kids b) s
-  body_quiet i b s q z g h =
-      let st = changing_no_state w z g in
-      q z g (block_found i.state i.kids (owner z) (not_own w i (owner z) st) (no_kid w i (owner z) st) b h)
+  -- what concerns a state's body, concerns the state
+  body_concerned : (i : Site w) (x : ℕ) → is_state w x ≡ false → block_concerns w i.state i.kids i.body x ≡ true → state_concerns w (Node i.state i.body i.kids) x ≡ true
+  body_concerned i x st h = elim (cases_Bool (parted w x)) [
+    | inl p ↦ rw p (block_hung w x (and_left (is_memory w x) _ p) (not_true (is_dynamic w x) (λ d. let no = dynamic_whole w x d in cc)) i.state i.kids (not_own w i x st) (no_kid w i x st) i.siblings i.kids i.body (node w i).steps h)
+    | inr p ↦ rw p (block_found i.state i.kids x (not_own w i x st) (no_kid w i x st) i.body (sym (block_whole w x p i.state i.kids i.body) ∙ h))
+  ]
 
-  pub body_even : (i : Site w) (b : Block) (s : Store) → Even w (λ x. block_assigns b x || group_assigns i.kids x) s → Even w (block_hangs i.state i.kids b) s
-  body_even i b s q z g d h =
-      let st = changing_no_state w z g in
-      q z g d (block_found i.state i.kids (owner z) (not_own w i (owner z) st) (no_kid w i (owner z) st) b h)
+  pub body_quiet : (i : Site w) (s : Store) → Quiet w l (state_concerns w (Node i.state i.body i.kids)) s → Quiet w l (block_concerns w i.state i.kids i.body) s
+  body_quiet i s q z g h = q z g (body_concerned i (owner z) (changing_no_state w z g) h)
+
+  pub body_even : (i : Site w) (s : Store) → Even w (state_concerns w (Node i.state i.body i.kids)) s → Even w (block_concerns w i.state i.kids i.body) s
+  body_even i s q z g d h = q z g d (body_concerned i (owner z) (changing_no_state w z g) h)
 
 -- the state that is the n-th of a group, with what its children do
 abbrev pub site_at : (w : World) (p n e : ℕ) (b : Block) (g q : Group) → Around w p q → Nth q n (Node e b g) → Site w
@@ -341,18 +344,18 @@ module _ (w : World) (laws : Laws w.order) (l : ℕ) where
   mutual
     unfolding does_state does_child
 
-    state_confined : (t : State) (p n : ℕ) (q : Group) → Around w p q → Nth q n t → (pc : ℕ) (s : Store) → Holds w s → High w.order l pc → Quiet w l (state_assigns t) s → Confined w l s (does_state w t p pc s)
+    state_confined : (t : State) (p n : ℕ) (q : Group) → Around w p q → Nth q n t → (pc : ℕ) (s : Store) → Holds w s → High w.order l pc → Quiet w l (state_concerns w t) s → Confined w l s (does_state w t p pc s)
     state_confined (Node e b g) p n q around self pc s holds high quiet =
         let i = site_at w p n e b g q around self in
         let kids = kids_around w i in
-        block_confined w laws l i (λ m r t. from_confined g e g 0 kids (λ m a h. let e : 0 + m ≡ m = omega arith in rw e h) m r t) (kids_hold e g kids) b (proper_body w i) pc s holds high (body_quiet w laws l i b s quiet)
+        block_confined w laws l i (λ m r t. from_confined g e g 0 kids (λ m a h. let e : 0 + m ≡ m = omega arith in rw e h) m r t) (kids_hold e g kids) b (proper_body w i) pc s holds high (body_quiet w laws l i s quiet)
 
     -- the states of the parent's group q from the k-th on
-    from_confined : (g : Group) (p : ℕ) (q : Group) (k : ℕ) → Around w p q → ((m : ℕ) (a : State) → Nth g m a → Nth q (k + m) a) → (m pc : ℕ) (s : Store) → Holds w s → High w.order l pc → Quiet w l (group_assigns g) s → Confined w l s (does_child w g p m pc s)
+    from_confined : (g : Group) (p : ℕ) (q : Group) (k : ℕ) → Around w p q → ((m : ℕ) (a : State) → Nth g m a → Nth q (k + m) a) → (m pc : ℕ) (s : Store) → Holds w s → High w.order l pc → Quiet w l (group_concerns w g) s → Confined w l s (does_child w g p m pc s)
     from_confined None p q k around place m pc s holds high quiet = confined_self w laws l s
     from_confined (More t g) p q k around place zero pc s holds high quiet = state_confined t p (k + 0) q around (place zero t refl) pc s holds high (λ z j h. quiet z j (or_left _ _ h))
     from_confined (More t g) p q k around place (suc m) pc s holds high quiet =
-        from_confined g p q (suc k) around (λ m a h. let e : suc k + m ≡ k + suc m = omega arith in rw e (place (suc m) a h)) m pc s holds high (λ z j h. quiet z j (or_right (state_assigns t (owner z)) _ h))
+        from_confined g p q (suc k) around (λ m a h. let e : suc k + m ≡ k + suc m = omega arith in rw e (place (suc m) a h)) m pc s holds high (λ z j h. quiet z j (or_right (state_concerns w t (owner z)) _ h))
 
   pub child_confined : (p : ℕ) (q : Group) → Around w p q → Entering w l q (does_child w q p)
   child_confined p q around m pc s = from_confined q p q 0 around (λ m a h. let e : 0 + m ≡ m = omega arith in rw e h) m pc s

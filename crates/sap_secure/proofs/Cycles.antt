@@ -5,7 +5,7 @@ use Rattle.sap_lattice.specs.Order.{Laws}
 use Rattle.sap_meaning.specs.Program.{World, is_dynamic, children, State, Node, Group, None, More}
 use Rattle.sap_meaning.specs.Store.{own, Store, owner, level, child, raise, After}
 use Rattle.sap_meaning.specs.State.{Holds}
-use Rattle.sap_meaning.specs.Touches.{among, root_touches, state_assigns, group_assigns}
+use Rattle.sap_meaning.specs.Touches.{among, root_touches}
 use Rattle.sap_meaning.specs.Does.{does_state, does_child}
 use Rattle.sap_meaning.specs.Cycle.{root_fall}
 use Rattle.sap_meaning.specs.Agree.{Low, High}
@@ -15,22 +15,23 @@ use Rattle.sap_meaning.proofs.Slots.{child_raise}
 use Rattle.sap_meaning.proofs.Trees.{Nth, nth_of}
 use Rattle.sap_meaning.proofs.Keeps.{OfDynamic, holds_raise}
 use Rattle.sap_secure.proofs.Agreeing.{Agree, agree_raised, raise_high, raise_low}
+use Rattle.sap_secure.proofs.Concerns.{state_concerns, group_concerns, group_hanging}
 use Rattle.sap_secure.proofs.Sites.{Around, node, kids_around, proper_body}
 use Rattle.sap_secure.proofs.Confined.{Confined, Quiet, Even, quiet_raise, even_raise, child_confined, site_at, body_even}
 use Rattle.sap_secure.proofs.Walks.{path, from_raised}
-use Rattle.sap_secure.proofs.Over.{nth_does, nth_assigns, covered_by, scene_at}
+use Rattle.sap_secure.proofs.Over.{nth_does, nth_concerns, covered_by, scene_at}
 use Rattle.sap_secure.proofs.Twin.{twin_confined}
 use Rattle.sap_secure.proofs.Pairs.{Pair, Paired, falls, block_pair}
 
 module _ (w : World) (laws : Laws w.order) (l : ℕ) where
   -- two runs of a state that is current and low
   abbrev Law : State → Type 0
-  Law t = (p n : ℕ) (q : Group) → Around w p q → Nth q n t → (pc : ℕ) (s u : Store) → Holds w s → Holds w u → Low w.order l pc → Agree w l s u → Even w (state_assigns t) s → Even w (state_assigns t) u → path w l p q s ≡ path w l p q u → child p s ≡ n → child p u ≡ n → Low w.order l (level w (own (number_of t)) s) → Pair w l p q (does_state w t p pc s) (does_state w t p pc u)
+  Law t = (p n : ℕ) (q : Group) → Around w p q → Nth q n t → (pc : ℕ) (s u : Store) → Holds w s → Holds w u → Low w.order l pc → Agree w l s u → Even w (state_concerns w t) s → Even w (state_concerns w t) u → path w l p q s ≡ path w l p q u → child p s ≡ n → child p u ≡ n → Low w.order l (level w (own (number_of t)) s) → Pair w l p q (does_state w t p pc s) (does_state w t p pc u)
 
   lift : (g : Group) (e : ℕ) → Around w e g → ((m : ℕ) (a : State) → Nth g m a → Law a) → Paired w l e g (does_child w g e)
   lift g e around laws' m r s u a nth hs hu low like es eu p here there down =
       rw (nth_does w g e m a nth r s, nth_does w g e m a nth r u)
-      (laws' m a nth e m g around nth r s u hs hu low like (λ z j d h. es z j d (nth_assigns g m a nth (owner z) h)) (λ z j d h. eu z j d (nth_assigns g m a nth (owner z) h)) p here there down)
+      (laws' m a nth e m g around nth r s u hs hu low like (λ z j d h. es z j d (nth_concerns w g m a nth (owner z) h)) (λ z j d h. eu z j d (nth_concerns w g m a nth (owner z) h)) p here there down)
 
   mutual
     unfolding does_state scene_at
@@ -39,7 +40,7 @@ module _ (w : World) (laws : Laws w.order) (l : ℕ) where
     state_pair (Node e b g) p n q around self pc s u hs hu low like es eu path here there down =
         let i = site_at w p n e b g q around self in
         block_pair w laws l (scene_at w laws l p n e b g q around self) (lift g e (kids_around w i) (λ m a h. group_pair g m a h)) b (proper_body w i) (node w i).closes pc s u low
-        (record { first = hs; second = hu; like = like; path = path; here = here; there = there; low = down; even = body_even w laws l i b s es; even2 = body_even w laws l i b u eu })
+        (record { first = hs; second = hu; like = like; path = path; here = here; there = there; low = down; even = body_even w laws l i s es; even2 = body_even w laws l i u eu })
 
     group_pair : (g : Group) (m : ℕ) (a : State) → Nth g m a → Law a
     group_pair None m a h = absurd h
@@ -67,16 +68,16 @@ module _ (w : World) (laws : Laws w.order) (l : ℕ) (p : ℕ) (g : Group) (arou
   Fall s = root_fall w (root_touches w g) (λ t. does_state w t p) g (child p s) s
 
   -- a cycle whose first state is high
-  side : (m t : ℕ) (a : State) (s : Store) → Nth g m a → child p s ≡ m → Holds w s → High w.order l t → High w.order l (level w (own (number_of a)) s) → Even w (group_assigns g) s → Confined w l (raise w.order (root_touches w g) t s) (does_child w g p m t (raise w.order (root_touches w g) t s)) × (path w l p g (does_child w g p m t (raise w.order (root_touches w g) t s)).store ≡ [])
+  side : (m t : ℕ) (a : State) (s : Store) → Nth g m a → child p s ≡ m → Holds w s → High w.order l t → High w.order l (level w (own (number_of a)) s) → Even w (group_concerns w g) s → Confined w l (raise w.order (root_touches w g) t s) (does_child w g p m t (raise w.order (root_touches w g) t s)) × (path w l p g (does_child w g p m t (raise w.order (root_touches w g) t s)).store ≡ [])
   side m t a s nth here hs high up ev =
       let r = raise w.order (root_touches w g) t s in
       let hr = holds_raise w s (root_touches w g) t dyn hs in
-      let quiet : Quiet w l (group_assigns g) r = quiet_raise w laws l (group_assigns g) (root_touches w g) t s (λ x i. and_both _ _ (and_left (is_dynamic w x) _ i) (or_right (among g x) _ (and_right (is_dynamic w x) _ i))) dyn high ev in (
+      let quiet : Quiet w l (group_concerns w g) r = quiet_raise w laws l (group_concerns w g) (root_touches w g) t s (λ x i. and_both _ _ (and_left (is_dynamic w x) _ i) (or_right (among g x) _ (and_right (is_dynamic w x) _ (group_hanging w p g x i)))) dyn high ev in (
         child_confined w laws l p g around m t r hr high quiet,
         covered_by w laws l g p around m t r a nth hr high quiet (child_raise w.order p (root_touches w g) t s ∙ here) (raise_high w laws l s (root_touches w g) t (own (number_of a)) up),
       )
 
-  lower : (m k : ℕ) (a : State) (s u : Store) → Nth g m a → (c d : ℕ) → child p s ≡ m → child p u ≡ k → level w (own (number_of a)) s ≡ c → m ≡ k → c ≡ d → Low w.order l c → Holds w s → Holds w u → Agree w l s u → Even w (group_assigns g) s → Even w (group_assigns g) u → path w l p g s ≡ path w l p g u → Pair w l p g (does_child w g p m c (raise w.order (root_touches w g) c s)) (does_child w g p k d (raise w.order (root_touches w g) d u))
+  lower : (m k : ℕ) (a : State) (s u : Store) → Nth g m a → (c d : ℕ) → child p s ≡ m → child p u ≡ k → level w (own (number_of a)) s ≡ c → m ≡ k → c ≡ d → Low w.order l c → Holds w s → Holds w u → Agree w l s u → Even w (group_concerns w g) s → Even w (group_concerns w g) u → path w l p g s ≡ path w l p g u → Pair w l p g (does_child w g p m c (raise w.order (root_touches w g) c s)) (does_child w g p k d (raise w.order (root_touches w g) d u))
   lower m k a s u nth c d here there mine mk cd low hs hu like es eu e =
       let r = raise w.order (root_touches w g) c s in
       let v = raise w.order (root_touches w g) c u in
@@ -84,14 +85,14 @@ module _ (w : World) (laws : Laws w.order) (l : ℕ) (p : ℕ) (g : Group) (arou
       let there' : child p v ≡ m = child_raise w.order p (root_touches w g) c u ∙ there ∙ sym mk in
       let res = paired_by w laws l g p around m c r v a nth (holds_raise w s (root_touches w g) c dyn hs) (holds_raise w u (root_touches w g) c dyn hu) low
       (agree_raised w laws l s u (root_touches w g) c c dyn like (refl, λ _. refl))
-      (even_raise w laws l (group_assigns g) (root_touches w g) s c dyn es) (even_raise w laws l (group_assigns g) (root_touches w g) u c dyn eu)
+      (even_raise w laws l (group_concerns w g) (root_touches w g) s c dyn es) (even_raise w laws l (group_concerns w g) (root_touches w g) u c dyn eu)
       (rw (here', there') (from_raised w laws l g m m s u (root_touches w g) c c (refl, λ _. refl) (rw (here, there, ← mk) at e)))
       here' there' (raise_low w laws l s (root_touches w g) c (own (number_of a)) low (subst (λ v. Low w.order l v) (sym mine) low)) in
       subst (λ n. Pair w l p g (does_child w g p m c r) (does_child w g p n d (raise w.order (root_touches w g) d u))) mk
       (subst (λ n. Pair w l p g (does_child w g p m c r) (does_child w g p m n (raise w.order (root_touches w g) n u))) cd res)
 
   -- with a current child in both
-  fall_with : (s u : Store) (a b : State) → Nth g (child p s) a → Nth g (child p u) b → Holds w s → Holds w u → Agree w l s u → Even w (group_assigns g) s → Even w (group_assigns g) u → path w l p g s ≡ path w l p g u → Pair w l p g (Fall s) (Fall u)
+  fall_with : (s u : Store) (a b : State) → Nth g (child p s) a → Nth g (child p u) b → Holds w s → Holds w u → Agree w l s u → Even w (group_concerns w g) s → Even w (group_concerns w g) u → path w l p g s ≡ path w l p g u → Pair w l p g (Fall s) (Fall u)
   fall_with s u a b na nb hs hu like es eu e =
       let both = falls w laws l p (child p s) (child p u) g s u a b refl refl na nb e in
       rw (root_nth w (root_touches w g) p g (child p s) a s na, root_nth w (root_touches w g) p g (child p u) b u nb) (
@@ -108,7 +109,7 @@ module _ (w : World) (laws : Laws w.order) (l : ℕ) (p : ℕ) (g : Group) (arou
       ])
 
 module _ (w : World) (laws : Laws w.order) (l : ℕ) where
-  pub fall_pair : (p : ℕ) (g : Group) (around : Around w p g) (s u : Store) → Holds w s → Holds w u → Agree w l s u → Even w (group_assigns g) s → Even w (group_assigns g) u → path w l p g s ≡ path w l p g u → Pair w l p g (root_fall w (root_touches w g) (λ t. does_state w t p) g (child p s) s) (root_fall w (root_touches w g) (λ t. does_state w t p) g (child p u) u)
+  pub fall_pair : (p : ℕ) (g : Group) (around : Around w p g) (s u : Store) → Holds w s → Holds w u → Agree w l s u → Even w (group_concerns w g) s → Even w (group_concerns w g) u → path w l p g s ≡ path w l p g u → Pair w l p g (root_fall w (root_touches w g) (λ t. does_state w t p) g (child p s) s) (root_fall w (root_touches w g) (λ t. does_state w t p) g (child p u) u)
   unfolding root_fall
   fall_pair p None around s u hs hu like es eu e = record { twin = record { same = like; refused = refl }; path = e }
   fall_pair p (More t g) around s u hs hu like es eu e =

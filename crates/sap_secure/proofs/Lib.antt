@@ -1,5 +1,6 @@
 mod Levels
 mod Agreeing
+mod Concerns
 mod Apart
 mod Sites
 mod Frames

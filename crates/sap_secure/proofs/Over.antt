@@ -4,12 +4,12 @@ use Rattle.sap_lattice.specs.Order.{Laws}
 use Rattle.sap_meaning.specs.Program.{World, below, Block, State, Node, Group, None, More}
 use Rattle.sap_meaning.specs.Store.{own, Store, owner, level, child}
 use Rattle.sap_meaning.specs.State.{Holds}
-use Rattle.sap_meaning.specs.Touches.{state_assigns, group_assigns}
 use Rattle.sap_meaning.specs.Does.{does_state, does_child}
 use Rattle.sap_meaning.specs.Agree.{High}
 use Rattle.sap_meaning.specs.Fine.{inside, number_of, block_retags}
 use Rattle.sap_meaning.proofs.Bools.{or_left, or_right, neither_left, neither_right, eq_self}
 use Rattle.sap_meaning.proofs.Trees.{Nth}
+use Rattle.sap_secure.proofs.Concerns.{state_concerns, group_concerns}
 use Rattle.sap_secure.proofs.Sites.{Around, node, own_fine, kids_around, proper_body}
 use Rattle.sap_secure.proofs.Frames.{Kept, child_under}
 use Rattle.sap_secure.proofs.Confined.{Quiet, body_quiet, site_at, child_confined, kids_hold}
@@ -32,10 +32,10 @@ nth_does w None p m a h pc s = absurd h
 nth_does w (More c g) p zero a h pc s = ap (λ t. does_state w t p pc s) h
 nth_does w (More c g) p (suc m) a h pc s = nth_does w g p m a h pc s
 
-pub nth_assigns : (g : Group) (m : ℕ) (a : State) → Nth g m a → (x : ℕ) → state_assigns a x ≡ true → group_assigns g x ≡ true
-nth_assigns None m a h x i = absurd h
-nth_assigns (More c g) zero a h x i = or_left _ _ (subst (λ t. state_assigns t x ≡ true) (sym h) i)
-nth_assigns (More c g) (suc m) a h x i = or_right (state_assigns c x) _ (nth_assigns g m a h x i)
+pub nth_concerns : (w : World) (g : Group) (m : ℕ) (a : State) → Nth g m a → (x : ℕ) → state_concerns w a x ≡ true → group_concerns w g x ≡ true
+nth_concerns w None m a h x i = absurd h
+nth_concerns w (More c g) zero a h x i = or_left _ _ (subst (λ t. state_concerns w t x ≡ true) (sym h) i)
+nth_concerns w (More c g) (suc m) a h x i = or_right (state_concerns w c x) _ (nth_concerns w g m a h x i)
 
 -- the children of a state leave its level and its group's current child alone
 pub kids_kept : (w : World) (p n e : ℕ) (b : Block) (g q : Group) (around : Around w p q) (self : Nth q n (Node e b g)) → (m r : ℕ) (s : Store) → Kept w (own e) p s (does_child w g e m r s).store
@@ -49,11 +49,11 @@ kids_kept w p n e b g q around self m r s =
 module _ (w : World) (laws : Laws w.order) (l : ℕ) where
   -- in a high context, a state whose level is high, and current
   abbrev Law : State → Type 0
-  Law t = (p n : ℕ) (q : Group) → Around w p q → Nth q n t → (pc : ℕ) (s : Store) → Holds w s → High w.order l pc → Quiet w l (state_assigns t) s → child p s ≡ n → High w.order l (level w (own (number_of t)) s) → path w l p q (does_state w t p pc s).store ≡ []
+  Law t = (p n : ℕ) (q : Group) → Around w p q → Nth q n t → (pc : ℕ) (s : Store) → Holds w s → High w.order l pc → Quiet w l (state_concerns w t) s → child p s ≡ n → High w.order l (level w (own (number_of t)) s) → path w l p q (does_state w t p pc s).store ≡ []
 
   lift : (g : Group) (e : ℕ) → Around w e g → ((m : ℕ) (a : State) → Nth g m a → Law a) → Covered w l e g (does_child w g e)
   lift g e around laws' m r s a nth holds high quiet here up =
-      rw (nth_does w g e m a nth r s) (laws' m a nth e m g around nth r s holds high (λ z j h. quiet z j (nth_assigns g m a nth (owner z) h)) here up)
+      rw (nth_does w g e m a nth r s) (laws' m a nth e m g around nth r s holds high (λ z j h. quiet z j (nth_concerns w g m a nth (owner z) h)) here up)
 
   scene_with : (p n e : ℕ) (b : Block) (g q : Group) (around : Around w p q) (self : Nth q n (Node e b g)) → Covered w l e g (does_child w g e) → Scene w l
   scene_with p n e b g q around self covered = record {
@@ -71,7 +71,7 @@ module _ (w : World) (laws : Laws w.order) (l : ℕ) where
     state_over (Node e b g) p n q around self pc s holds high quiet here up =
         let i = site_at w p n e b g q around self in
         let c = scene_with p n e b g q around self (lift g e (kids_around w i) (λ m a h. group_over g m a h)) in
-        block_still w laws l c b (proper_body w i) (node w i).closes pc s holds high (body_quiet w laws l i b s quiet) here (record { own_high = λ h. up; kid_high = λ a k low h. cc })
+        block_still w laws l c b (proper_body w i) (node w i).closes pc s holds high (body_quiet w laws l i s quiet) here (record { own_high = λ h. up; kid_high = λ a k low h. cc })
         ∙ path_high w laws l p n q (Node e b g) s self here up
 
     group_over : (g : Group) (m : ℕ) (a : State) → Nth g m a → Law a

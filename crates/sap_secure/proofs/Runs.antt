@@ -5,7 +5,6 @@ use Rattle.sap_lattice.specs.Order.{Order, Laws}
 use Rattle.sap_meaning.specs.Program.{World, Program, Kind, input, register, memory, state, entity, kind_is_input, kind_is_state, kind_is_memory, is_dynamic, is_input, root}
 use Rattle.sap_meaning.specs.Store.{Slot, own, start, next, start_whole, next_whole, Store, owner, home, number, level, child, source, settle}
 use Rattle.sap_meaning.specs.State.{Rests, Resting, first}
-use Rattle.sap_meaning.specs.Touches.{group_assigns}
 use Rattle.sap_meaning.specs.Cycle.{Tagged, given, inputs_before, at_inputs, set_inputs, cycle}
 use Rattle.sap_meaning.specs.Agree.{InputsAgree, StatesAgree, RefusalsAgree}
 use Rattle.sap_meaning.specs.Fine.{FineProgram}
@@ -16,6 +15,7 @@ use Rattle.sap_secure.specs.Laws.{OneCycle, LaterRunsAgree, LabelledRunsAgree}
 use Rattle.sap_secure.proofs.Levels.{Same, same_self}
 use Rattle.sap_secure.proofs.Agreeing.{compared, Agree, agree_self}
 use Rattle.sap_secure.proofs.Apart.{inside_state}
+use Rattle.sap_secure.proofs.Concerns.{group_concerns}
 use Rattle.sap_secure.proofs.Sites.{Around, around_root}
 use Rattle.sap_secure.proofs.Confined.{Even}
 use Rattle.sap_secure.proofs.Walks.{path, from_same}
@@ -112,7 +112,7 @@ module _ (p : Program) (fine : FineProgram p) (l : ℕ) where
       rw (inputs_child p.world a s (root p.world)) (from_same p.world l p.states (child (root p.world) s) (child (root p.world) s) (set_inputs p.world a s) s
       (λ x h. (inputs_level p.world a s (own x) (state_no_input (entity p.world x).kind (inside_state p.world p.states 0 p.states fine.states x h)), inputs_child p.world a s x)))
 
-  even_inputs : (s : Store) (a : List Tagged) → Rests p.world s → Even p.world (group_assigns p.states) (set_inputs p.world a s)
+  even_inputs : (s : Store) (a : List Tagged) → Rests p.world s → Even p.world (group_concerns p.world p.states) (set_inputs p.world a s)
   even_inputs s a rests (own x) g d h = refl
   even_inputs s a rests (start m i) g d h = refl
   even_inputs s a rests (next m i) g d h = inputs_keep p.world s a fine.inputs (start m i) d ∙ rests.levels m i ∙ sym (inputs_keep p.world s a fine.inputs (next m i) d)

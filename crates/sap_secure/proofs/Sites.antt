@@ -1,14 +1,15 @@
 -- A state in its group, with what is known of both, and commands in its body.
 use Rattle.std.proofs.Common.{◌≡◌, ℕ, suc, ◌+◌, ◌<◌, ◌≤◌, Bool, true, false, ◌&&◌, ◌||◌, refl, arith, nat_eq, nat_lt, nat_le, inl, inr, ◌⊎◌}
 use Rattle.std.proofs.lemmas.Grind.{common_steps}
-use Rattle.sap_meaning.specs.Program.{World, children, is_memory, is_state, last, below, root, Step, Command, Do, Try, If, Block, End, Then, Node, Group, None, More}
+use Rattle.sap_meaning.specs.Program.{World, children, is_dynamic, is_memory, is_state, last, below, root, Step, Command, Do, Try, If, Block, End, Then, Node, Group, None, More}
 use Rattle.sap_meaning.specs.Store.{Store, After}
 use Rattle.sap_meaning.specs.Checks.{Spot}
-use Rattle.sap_meaning.specs.Touches.{among, block_hangs}
+use Rattle.sap_meaning.specs.Touches.{among}
 use Rattle.sap_meaning.specs.Fine.{FineTerm, FineStep, FineCommand, FineBlock, FineNode, FineState, FineGroup, Open, OpenBlock, Closes, Final, Once, OnceBlock, writes, reaches, block_reaches, step_retags, retags, block_retags, inside, size}
 use Rattle.sap_meaning.proofs.Bools.{and_left, and_right, and_false, or_right, or_of, or_false, neither_left, neither_right, not_true, same_number}
 use Rattle.sap_meaning.proofs.Trees.{Nth, nth_fine}
-use Rattle.sap_secure.proofs.Apart.{no_state, writes_within, block_hung, group_written, apart_of, inside_state}
+use Rattle.sap_secure.proofs.Concerns.{block_concerns}
+use Rattle.sap_secure.proofs.Apart.{no_state, writes_within, block_hung, apart_of, inside_state}
 
 -- a group and its parent, which is not inside it and which no state of it spans
 pub record Around (w : World) (p : ℕ) (q : Group) : Type 0 where
@@ -100,13 +101,13 @@ module _ (w : World) where
   pub no_kid : (i : Site w) (x : ℕ) → is_state w x ≡ false → among i.kids x ≡ false
   no_kid i x s = apart_of w i.kids 0 i.kids (own_fine i).1 x s
 
--- What is known of a command in a state's body. Before a list that assigns a memory, a command is open and does not
--- write that memory.
+-- What is known of a command in a state's body. Before a list that an enforced memory concerns, a command is open and does
+-- not write that memory.
 abbrev pub ProperStep : (w : World) → Site w → Step → Type 0
 ProperStep w i k = FineStep w i.siblings i.kids k × ((x : ℕ) → mine i x ≡ true → step_retags k x ≡ false)
 
 abbrev pub Disjoint : (w : World) → Site w → Command → Block → Type 0
-Disjoint w i c cs = (m : ℕ) → is_memory w m ≡ true → block_hangs i.state i.kids cs m ≡ true → Open c × (writes c m ≡ false)
+Disjoint w i c cs = (m : ℕ) → is_memory w m ≡ true → is_dynamic w m ≡ false → block_concerns w i.state i.kids cs m ≡ true → Open c × (writes c m ≡ false)
 
 abbrev mutual
   pub Proper : (w : World) → Site w → Command → Type 0
@@ -133,9 +134,9 @@ module _ (w : World) (i : Site w) where
   UnmarkedBlock b = (x : ℕ) → mine i x ≡ true → block_retags b x ≡ false
 
   apart_from : (c : Command) (cs : Block) → FineBlock w i.siblings i.kids cs → Open c → ((m : ℕ) → (reaches i.kids c m && block_reaches i.kids cs m) ≡ false) → Disjoint w i c cs
-  apart_from c cs fine open_ once m mem h =
+  apart_from c cs fine open_ once m mem d h =
       let s : is_state w m ≡ false = no_state w m (or_right _ _ mem) in
-      let r : block_reaches i.kids cs m ≡ true = block_hung w m mem i.state i.kids (not_own w i m s) (no_kid w i m s) (group_written w m mem i.kids 0 i.kids (own_fine w i).1) i.siblings i.kids cs fine h in
+      let r : block_reaches i.kids cs m ≡ true = block_hung w m mem d i.state i.kids (not_own w i m s) (no_kid w i m s) i.siblings i.kids cs fine h in
       let n : reaches i.kids c m ≡ false = and_false _ _ (once m) r in
       (open_, not_true (writes c m) (λ y. let z = writes_within w i.kids m c y in cc))
 
@@ -155,7 +156,7 @@ module _ (w : World) (i : Site w) where
     pub proper_block : (b : Block) → FineBlock w i.siblings i.kids b → OnceBlock i.kids b → UnmarkedBlock b → Shut b → ProperBlock w i b
     proper_block End fine once un shut = tt
     proper_block (Then c End) fine once un shut =
-        (proper c fine.0 once.0 (λ x m. neither_left _ _ (un x m)) (elim shut [ inl f ↦ inl f | inr f ↦ inr f.0 ]), tt, λ m mem h. cc)
+        (proper c fine.0 once.0 (λ x m. neither_left _ _ (un x m)) (elim shut [ inl f ↦ inl f | inr f ↦ inr f.0 ]), tt, λ m mem d h. cc)
     proper_block (Then c (Then d ds)) fine once un shut =
         let opened : Open c = elim shut [ inl f ↦ f.0 | inr f ↦ f.0 ] in (
           proper c fine.0 once.0 (λ x m. neither_left _ _ (un x m)) (inr opened),

@@ -9,7 +9,7 @@ use Rattle.sap_meaning.specs.Store.{Slot, own, Store, owner, level, child, put_l
 use Rattle.sap_meaning.specs.State.{Holds}
 use Rattle.sap_meaning.specs.Expressions.{tag}
 use Rattle.sap_meaning.specs.Checks.{Spot, child_level, opens, child_opens, guard, test}
-use Rattle.sap_meaning.specs.Touches.{among, step_hangs, hangs, block_hangs, touches, raised_alone, group_assigns}
+use Rattle.sap_meaning.specs.Touches.{among, step_hangs, hangs, block_hangs, touches, raised_alone}
 use Rattle.sap_meaning.specs.Does.{effect, attempt, select, branch, does, does_block}
 use Rattle.sap_meaning.specs.Agree.{Low, High}
 use Rattle.sap_meaning.specs.Fine.{transfers, Open, Closes, Final, number_of}
@@ -20,6 +20,7 @@ use Rattle.sap_meaning.proofs.Keeps.{OfDynamic, Keeps, branch_all, raise_keeps, 
 use Rattle.sap_secure.proofs.Levels.{Like, high_above, high_left}
 use Rattle.sap_secure.proofs.Agreeing.{raise_high}
 use Rattle.sap_secure.proofs.Apart.{inside_state, inside_among, group_unassigned, state_no_register, state_no_memory, unhung}
+use Rattle.sap_secure.proofs.Concerns.{step_concerns, concerns, block_concerns, group_concerns}
 use Rattle.sap_secure.proofs.Sites.{Site, spot, mine, Proper, ProperBlock, ProperStep, node, own_fine, unmarked, mine_state, fine_command}
 use Rattle.sap_secure.proofs.Frames.{Kept, kept_raise, open_kept}
 use Rattle.sap_secure.proofs.Confined.{Entering, Quiet, Up, up_join, landing, keeps, does_confined, hush_next, quiet_left, quiet_right, quiet_kept, touches_dynamic, alone_within}
@@ -27,7 +28,7 @@ use Rattle.sap_secure.proofs.Walks.{Stop, path, one, path_here, path_high, from_
 
 -- what children do, where the current one is high
 abbrev pub Covered : World → ℕ → ℕ → Group → (ℕ → ℕ → Store → After) → Type 0
-Covered w l e g enter = (m r : ℕ) (s : Store) (a : State) → Nth g m a → Holds w s → High w.order l r → Quiet w l (group_assigns g) s → child e s ≡ m → High w.order l (level w (own (number_of a)) s) → path w l e g (enter m r s).store ≡ []
+Covered w l e g enter = (m r : ℕ) (s : Store) (a : State) → Nth g m a → Holds w s → High w.order l r → Quiet w l (group_concerns w g) s → child e s ≡ m → High w.order l (level w (own (number_of a)) s) → path w l e g (enter m r s).store ≡ []
 
 -- a state in its group, with what its children do
 pub record Scene (w : World) (l : ℕ) : Type 0 where
@@ -175,7 +176,7 @@ module _ (w : World) (laws : Laws w.order) (l : ℕ) where
         nth_of c.site.kids (child c.site.state s) (rw (node w c.site).count at (holds.seated c.site.state n))
 
     -- the effect of a transfer, from the raised store r
-    step_still : (k : Step) → transfers k ≡ true → ProperStep w c.site k → (pc : ℕ) (b r : Store) → child c.site.state r ≡ child c.site.state b → ((z : Slot) → is_dynamic w (owner z) ≡ false → level w z r ≡ level w z b) → Holds w r → Quiet w l (step_hangs c.site.state c.site.kids k) r → Here r → Mine (λ x. is_dynamic w x && step_hangs c.site.state c.site.kids k x) r → test w At k pc b ≡ true → UpAt pc k b → PathOf (effect w At c.site.enter k pc b r).store ≡ PathOf r
+    step_still : (k : Step) → transfers k ≡ true → ProperStep w c.site k → (pc : ℕ) (b r : Store) → child c.site.state r ≡ child c.site.state b → ((z : Slot) → is_dynamic w (owner z) ≡ false → level w z r ≡ level w z b) → Holds w r → Quiet w l (step_concerns w c.site.state c.site.kids k) r → Here r → Mine (λ x. is_dynamic w x && step_hangs c.site.state c.site.kids k x) r → test w At k pc b ≡ true → UpAt pc k b → PathOf (effect w At c.site.enter k pc b r).store ≡ PathOf r
     unfolding effect
     step_still (Set site x e) moves fine pc b r seats same holds quiet here cover t up = cc
     step_still (Write site m j e) moves fine pc b r seats same holds quiet here cover t up = cc
@@ -203,7 +204,7 @@ module _ (w : World) (laws : Laws w.order) (l : ℕ) where
         k : Kept w (own c.site.state) c.site.parent r (c.site.enter (child c.site.state b) (w.order.join pc (child_level w c.site.kids (child c.site.state b) b)) r).store
         k = c.kept _ _ r
 
-        quieter : Quiet w l (group_assigns c.site.kids) r
+        quieter : Quiet w l (group_concerns w c.site.kids) r
         quieter z g h = quiet z g (or_right (among c.site.kids (owner z)) _ h)
 
         kid : Low w.order l (level w (own c.site.state) r) → ((is_dynamic w (number_of a.0) ≡ true) ⊎ (is_dynamic w (number_of a.0) ≡ false)) → High w.order l (level w (own (number_of a.0)) r)
@@ -260,7 +261,7 @@ module _ (w : World) (laws : Laws w.order) (l : ℕ) where
             differ : (e x : ℕ) → nat_lt e x ≡ true → nat_eq x e ≡ false
             differ e x h = grind (arith, common_steps)
 
-    pub attempt_still : (k : Step) → transfers k ≡ true → ProperStep w c.site k → (hang : ℕ → Bool) (h : ℕ → Store → After) (pc : ℕ) (s : Store) → OfDynamic w hang → Holds w s → Quiet w l (step_hangs c.site.state c.site.kids k) (raise w.order hang (guard w At k s) s) → Here s → Mine (λ x. is_dynamic w x && step_hangs c.site.state c.site.kids k x) (raise w.order hang (guard w At k s) s) → UpAt pc k s → ((r : ℕ) → High w.order l r → PathOf (h r (raise w.order hang (guard w At k s) s)).store ≡ PathOf (raise w.order hang (guard w At k s) s)) → PathOf (attempt w At c.site.enter k hang h pc s).store ≡ PathOf (raise w.order hang (guard w At k s) s)
+    pub attempt_still : (k : Step) → transfers k ≡ true → ProperStep w c.site k → (hang : ℕ → Bool) (h : ℕ → Store → After) (pc : ℕ) (s : Store) → OfDynamic w hang → Holds w s → Quiet w l (step_concerns w c.site.state c.site.kids k) (raise w.order hang (guard w At k s) s) → Here s → Mine (λ x. is_dynamic w x && step_hangs c.site.state c.site.kids k x) (raise w.order hang (guard w At k s) s) → UpAt pc k s → ((r : ℕ) → High w.order l r → PathOf (h r (raise w.order hang (guard w At k s) s)).store ≡ PathOf (raise w.order hang (guard w At k s) s)) → PathOf (attempt w At c.site.enter k hang h pc s).store ≡ PathOf (raise w.order hang (guard w At k s) s)
     unfolding attempt
     attempt_still k moves fine hang h pc s dyn holds quiet here cover up handler = elim (cases_Bool (test w At k pc s)) [
       | inl t ↦ rw t (step_still k moves fine pc s (raise w.order hang (guard w At k s) s) (child_raise w.order c.site.state hang (guard w At k s) s) (raise_keeps w s hang _ dyn) (holds_raise w s hang _ dyn holds) quiet (child_raise w.order c.site.parent hang (guard w At k s) s ∙ here) cover t up)
@@ -291,49 +292,49 @@ module _ (w : World) (laws : Laws w.order) (l : ℕ) where
     mutual
       unfolding does does_block
 
-      pub does_still : (d : Command) → Proper w c.site d → Final d → (pc : ℕ) (s : Store) → Holds w s → High w.order l pc → Quiet w l (hangs c.site.state c.site.kids d) s → Here s → Mine (touches w At d) s → PathOf (does w At c.site.enter d pc s).store ≡ PathOf s
+      pub does_still : (d : Command) → Proper w c.site d → Final d → (pc : ℕ) (s : Store) → Holds w s → High w.order l pc → Quiet w l (concerns w c.site.state c.site.kids d) s → Here s → Mine (touches w At d) s → PathOf (does w At c.site.enter d pc s).store ≡ PathOf s
       does_still (Do k) fine final pc s holds high quiet here cover =
           let hang = raised_alone w At k in
           let dyn : OfDynamic w hang = alone_dynamic w At c.site.siblings (landing w laws l c.site c.entering c.holding) c.site.enter c.holding k in
           let inn = alone_within w laws l c.site c.entering c.holding k in
-          attempt_still k final fine hang (λ r t. stay t) pc s dyn holds (quiet_kept w laws l c.site c.entering c.holding (step_hangs c.site.state c.site.kids k) hang _ s dyn quiet) here (cover_raise _ _ _ s _ _ cover) (inl high) (λ r u. refl)
+          attempt_still k final fine hang (λ r t. stay t) pc s dyn holds (quiet_kept w laws l c.site c.entering c.holding (step_concerns w c.site.state c.site.kids k) hang _ s dyn quiet) here (cover_raise _ _ _ s _ _ cover) (inl high) (λ r u. refl)
           ∙ raised_path hang _ s here (cover_part _ _ _ _ s inn cover) (λ x h. not_true _ (λ i. let no = shallow (Do k) fine x h in let yes = inn x i in cc))
       does_still (Try k hang h) fine final pc s holds high quiet here cover =
           let hung = touches w At (Try k hang h) in
           let dyn : OfDynamic w hung = touches_dynamic w laws l c.site c.entering c.holding (Try k hang h) in
           let r' = raise w.order hung (guard w At k s) s in
-          let q = quiet_kept w laws l c.site c.entering c.holding (hangs c.site.state c.site.kids (Try k hang h)) hung (guard w At k s) s dyn quiet in
+          let q = quiet_kept w laws l c.site c.entering c.holding (concerns w c.site.state c.site.kids (Try k hang h)) hung (guard w At k s) s dyn quiet in
           let cov = cover_raise _ _ _ s hung (guard w At k s) cover in
-          attempt_still k final.0 fine.0 hung (does_block w At c.site.enter h) pc s dyn holds (quiet_left w laws l c.site c.entering c.holding (step_hangs c.site.state c.site.kids k) (block_hangs c.site.state c.site.kids h) r' q) here
+          attempt_still k final.0 fine.0 hung (does_block w At c.site.enter h) pc s dyn holds (quiet_left w laws l c.site c.entering c.holding (step_concerns w c.site.state c.site.kids k) (block_concerns w c.site.state c.site.kids h) r' q) here
           (cover_part _ _ _ _ r' (λ x. touched_in (is_dynamic w x) _ _ (λ i. or_left _ (block_hangs c.site.state c.site.kids h x) i)) cov) (inl high)
-          (λ r u. block_still h fine.1 final.1 r _ (holds_raise w s hung _ dyn holds) u (quiet_right w laws l c.site c.entering c.holding (step_hangs c.site.state c.site.kids k) (block_hangs c.site.state c.site.kids h) r' q) (child_raise w.order c.site.parent hung (guard w At k s) s ∙ here)
+          (λ r u. block_still h fine.1 final.1 r _ (holds_raise w s hung _ dyn holds) u (quiet_right w laws l c.site c.entering c.holding (step_concerns w c.site.state c.site.kids k) (block_concerns w c.site.state c.site.kids h) r' q) (child_raise w.order c.site.parent hung (guard w At k s) s ∙ here)
           (cover_part _ _ _ _ r' (λ x. touched_in (is_dynamic w x) _ _ (λ i. or_right (step_hangs c.site.state c.site.kids k x) _ i)) cov))
           ∙ raised_path hung _ s here cover (shallow (Try k hang h) fine)
       does_still (If hang e a b) fine final pc s holds high quiet here cover =
           let hung = touches w At (If hang e a b) in
           let dyn : OfDynamic w hung = touches_dynamic w laws l c.site c.entering c.holding (If hang e a b) in
           let r' = raise w.order hung (tag w e s) s in
-          let q = quiet_kept w laws l c.site c.entering c.holding (hangs c.site.state c.site.kids (If hang e a b)) hung (tag w e s) s dyn quiet in
+          let q = quiet_kept w laws l c.site c.entering c.holding (concerns w c.site.state c.site.kids (If hang e a b)) hung (tag w e s) s dyn quiet in
           let cov = cover_raise _ _ _ s hung (tag w e s) cover in
           let here' = child_raise w.order c.site.parent hung (tag w e s) s ∙ here in
           select_still e hung (branch (does_block w At c.site.enter a) (does_block w At c.site.enter b)) pc s (high_left w.order laws l pc _ high)
           (λ v r u. branch_all (λ z. PathOf z.store ≡ PathOf r') (does_block w At c.site.enter a) (does_block w At c.site.enter b) v r r'
-          (block_still a fine.1 final.0 r _ (holds_raise w s hung _ dyn holds) u (quiet_left w laws l c.site c.entering c.holding (block_hangs c.site.state c.site.kids a) (block_hangs c.site.state c.site.kids b) r' q) here'
+          (block_still a fine.1 final.0 r _ (holds_raise w s hung _ dyn holds) u (quiet_left w laws l c.site c.entering c.holding (block_concerns w c.site.state c.site.kids a) (block_concerns w c.site.state c.site.kids b) r' q) here'
           (cover_part _ _ _ _ r' (λ x. touched_in (is_dynamic w x) _ _ (λ i. or_left _ (block_hangs c.site.state c.site.kids b x) i)) cov))
-          (block_still b fine.2 final.1 r _ (holds_raise w s hung _ dyn holds) u (quiet_right w laws l c.site c.entering c.holding (block_hangs c.site.state c.site.kids a) (block_hangs c.site.state c.site.kids b) r' q) here'
+          (block_still b fine.2 final.1 r _ (holds_raise w s hung _ dyn holds) u (quiet_right w laws l c.site c.entering c.holding (block_concerns w c.site.state c.site.kids a) (block_concerns w c.site.state c.site.kids b) r' q) here'
           (cover_part _ _ _ _ r' (λ x. touched_in (is_dynamic w x) _ _ (λ i. or_right (block_hangs c.site.state c.site.kids a x) _ i)) cov)))
           ∙ raised_path hung _ s here cover (shallow (If hang e a b) fine)
 
-      pub block_still : (b : Block) → ProperBlock w c.site b → Closes b → (pc : ℕ) (s : Store) → Holds w s → High w.order l pc → Quiet w l (block_hangs c.site.state c.site.kids b) s → Here s → Mine (λ x. is_dynamic w x && block_hangs c.site.state c.site.kids b x) s → PathOf (does_block w At c.site.enter b pc s).store ≡ PathOf s
+      pub block_still : (b : Block) → ProperBlock w c.site b → Closes b → (pc : ℕ) (s : Store) → Holds w s → High w.order l pc → Quiet w l (block_concerns w c.site.state c.site.kids b) s → Here s → Mine (λ x. is_dynamic w x && block_hangs c.site.state c.site.kids b x) s → PathOf (does_block w At c.site.enter b pc s).store ≡ PathOf s
       block_still End fine closes pc s holds high quiet here cover = absurd closes
       block_still (Then d End) fine closes pc s holds high quiet here cover =
           does_still d fine.0 closes pc s holds high (λ z g h. quiet z g (or_left _ false h)) here (cover_part _ _ _ _ s (λ x. touched_in (is_dynamic w x) _ _ (λ i. or_left _ false i)) cover)
       block_still (Then d (Then j js)) fine closes pc s holds high quiet here cover =
-          let f = does_confined w laws l c.site c.entering c.holding d fine.0 pc s holds high (quiet_left w laws l c.site c.entering c.holding (hangs c.site.state c.site.kids d) (block_hangs c.site.state c.site.kids (Then j js)) s quiet) in
+          let f = does_confined w laws l c.site c.entering c.holding d fine.0 pc s holds high (quiet_left w laws l c.site c.entering c.holding (concerns w c.site.state c.site.kids d) (block_concerns w c.site.state c.site.kids (Then j js)) s quiet) in
           let s' = (does w At c.site.enter d pc s).store in
           let k = clear_own d fine.0 closes.0 pc s in
           block_still (Then j js) fine.1 closes.1 pc s' (keeps w laws l c.site c.entering c.holding d fine.0 pc s holds) high
-          (λ z g h. hush_next w laws l c.site c.entering c.holding d (Then j js) fine.2 pc s f.same z g h (quiet z g (or_right (hangs c.site.state c.site.kids d (owner z)) _ h)))
+          (λ z g h. hush_next w laws l c.site c.entering c.holding d (Then j js) fine.2 pc s f.same z g h (quiet z g (or_right (concerns w c.site.state c.site.kids d (owner z)) _ h)))
           (k.seat ∙ here)
           (cover_kept c.site _ s s' (λ x m. clear d fine.0 closes.0 pc s c.site.state x m) (cover_part _ _ _ _ s (λ x. touched_in (is_dynamic w x) _ _ (λ i. or_right (hangs c.site.state c.site.kids d x) _ i)) cover))
           ∙ clear_path d fine.0 closes.0 pc s here

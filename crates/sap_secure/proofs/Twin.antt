@@ -8,7 +8,7 @@ use Rattle.sap_meaning.specs.Store.{own, start, next, Store, owner, number, leve
 use Rattle.sap_meaning.specs.State.{Holds}
 use Rattle.sap_meaning.specs.Expressions.{value, tag, level_at, new_level, told}
 use Rattle.sap_meaning.specs.Checks.{Spot, site_of, guard, test}
-use Rattle.sap_meaning.specs.Touches.{step_hangs, hangs, block_hangs, touches, raised_alone}
+use Rattle.sap_meaning.specs.Touches.{touches, raised_alone}
 use Rattle.sap_meaning.specs.Does.{effect, attempt, select, branch, does, does_block}
 use Rattle.sap_meaning.specs.Agree.{Low, High, seen}
 use Rattle.sap_meaning.specs.Fine.{FineTerm, FineLevel, transfers, Open, OpenBlock}
@@ -17,6 +17,7 @@ use Rattle.sap_meaning.proofs.Slots.{held_register}
 use Rattle.sap_meaning.proofs.Keeps.{OfDynamic, Keeps, branch_all, holds_raise, alone_dynamic}
 use Rattle.sap_secure.proofs.Levels.{Like, Same, high_right, low_below, low_left, low_right, low_join, not_below, same_high, seen_parts}
 use Rattle.sap_secure.proofs.Agreeing.{compared, Agree, sole_own, sole_cell, agree_flip, agree_next, agree_number, agree_write, agree_hidden, agree_raised, raise_to}
+use Rattle.sap_secure.proofs.Concerns.{step_concerns, concerns, block_concerns, hanging}
 use Rattle.sap_secure.proofs.Sites.{Site, spot, Proper, ProperBlock, ProperStep}
 use Rattle.sap_secure.proofs.Confined.{held_target, Confined, Entering, Quiet, Even, confined_self, quiet_raise, even_raise, even_next, landing, keeps, attempt_confined, select_confined, block_confined, touches_dynamic, quiet_left, quiet_right}
 
@@ -305,14 +306,14 @@ module _ (w : World) (laws : Laws w.order) (l : ℕ) where
         (subst (λ m. Twin w l (pick (value w e s) (w.order.join pc (tag w e s)) r) (pick (value w e s) (w.order.join pc m) (raise w.order hang m t))) v c)
 
     -- a step alone whose guard is high touches nothing that it does not raise
-    alone_quiet : (k : Step) → ProperStep w i k → transfers k ≡ false → (s : Store) → Even w (step_hangs i.state i.kids k) s → High w.order l (guard w At k s) → Quiet w l (step_hangs i.state i.kids k) (raise w.order (raised_alone w At k) (guard w At k s) s)
+    alone_quiet : (k : Step) → ProperStep w i k → transfers k ≡ false → (s : Store) → Even w (step_concerns w i.state i.kids k) s → High w.order l (guard w At k s) → Quiet w l (step_concerns w i.state i.kids k) (raise w.order (raised_alone w At k) (guard w At k s) s)
     alone_quiet (Set site x e) fine plain s even high z g h = (
       λ d. (let dx : is_dynamic w x ≡ true = rw (same_number (owner z) x h) at d in let high' = rw dx at high in let low = laws.least_of_all l in cc),
-      λ d. even_raise w laws l (step_hangs i.state i.kids (Set site x e)) (λ y. false) s _ (λ y h. cc) even z g d h,
+      λ d. even_raise w laws l (step_concerns w i.state i.kids (Set site x e)) (λ y. false) s _ (λ y h. cc) even z g d h,
     )
     alone_quiet (Write site m j e) fine plain s even high z g h = (
       λ d. (let dx : is_dynamic w m ≡ true = rw (same_number (owner z) m h) at d in let high' = rw dx at high in let low = laws.least_of_all l in cc),
-      λ d. even_raise w laws l (step_hangs i.state i.kids (Write site m j e)) (λ y. false) s _ (λ y h. cc) even z g d h,
+      λ d. even_raise w laws l (step_concerns w i.state i.kids (Write site m j e)) (λ y. false) s _ (λ y h. cc) even z g d h,
     )
     alone_quiet (Retag site x n) fine plain s even high z g h = cc
     alone_quiet (RetagCell site m j n) fine plain s even high z g h = cc
@@ -326,32 +327,32 @@ module _ (w : World) (laws : Laws w.order) (l : ℕ) where
     pub even_right : (a b : ℕ → Bool) (s : Store) → Even w (λ x. a x || b x) s → Even w b s
     even_right a b s e z g d h = e z g d (or_right (a (owner z)) (b (owner z)) h)
 
-    pub try_side : (k : Step) (hang : List Bool) (h : Block) → Proper w i (Try k hang h) → (pc : ℕ) (s : Store) → Holds w s → Even w (hangs i.state i.kids (Try k hang h)) s → High w.order l (guard w At k s) → Confined w l (raise w.order (touches w At (Try k hang h)) (guard w At k s) s) (does w At i.enter (Try k hang h) pc s)
+    pub try_side : (k : Step) (hang : List Bool) (h : Block) → Proper w i (Try k hang h) → (pc : ℕ) (s : Store) → Holds w s → Even w (concerns w i.state i.kids (Try k hang h)) s → High w.order l (guard w At k s) → Confined w l (raise w.order (touches w At (Try k hang h)) (guard w At k s) s) (does w At i.enter (Try k hang h) pc s)
     unfolding does
     try_side k hang h fine pc s hs even g =
         let hung = touches w At (Try k hang h) in
         let dyn : OfDynamic w hung = touches_dynamic w laws l i entering holding (Try k hang h) in
         let r = raise w.order hung (guard w At k s) s in
-        let q : Quiet w l (hangs i.state i.kids (Try k hang h)) r = quiet_raise w laws l (hangs i.state i.kids (Try k hang h)) hung _ s (λ x i. i) dyn g even in
-        attempt_confined w laws l i entering holding k fine.0 hung (does_block w At i.enter h) pc s dyn hs (quiet_left w laws l i entering holding (step_hangs i.state i.kids k) (block_hangs i.state i.kids h) r q) (inr g)
-        (λ z up. block_confined w laws l i entering holding h fine.1 z r (holds_raise w s hung _ dyn hs) up (quiet_right w laws l i entering holding (step_hangs i.state i.kids k) (block_hangs i.state i.kids h) r q))
+        let q : Quiet w l (concerns w i.state i.kids (Try k hang h)) r = quiet_raise w laws l (concerns w i.state i.kids (Try k hang h)) hung _ s (hanging w i.state i.kids (Try k hang h)) dyn g even in
+        attempt_confined w laws l i entering holding k fine.0 hung (does_block w At i.enter h) pc s dyn hs (quiet_left w laws l i entering holding (step_concerns w i.state i.kids k) (block_concerns w i.state i.kids h) r q) (inr g)
+        (λ z up. block_confined w laws l i entering holding h fine.1 z r (holds_raise w s hung _ dyn hs) up (quiet_right w laws l i entering holding (step_concerns w i.state i.kids k) (block_concerns w i.state i.kids h) r q))
 
-    pub if_side : (hang : List Bool) (e : Term ℕ) (a b : Block) → Proper w i (If hang e a b) → (pc : ℕ) (s : Store) → Holds w s → Even w (hangs i.state i.kids (If hang e a b)) s → High w.order l (tag w e s) → Confined w l (raise w.order (touches w At (If hang e a b)) (tag w e s) s) (does w At i.enter (If hang e a b) pc s)
+    pub if_side : (hang : List Bool) (e : Term ℕ) (a b : Block) → Proper w i (If hang e a b) → (pc : ℕ) (s : Store) → Holds w s → Even w (concerns w i.state i.kids (If hang e a b)) s → High w.order l (tag w e s) → Confined w l (raise w.order (touches w At (If hang e a b)) (tag w e s) s) (does w At i.enter (If hang e a b) pc s)
     unfolding does
     if_side hang e a b fine pc s hs even g =
         let hung = touches w At (If hang e a b) in
         let dyn : OfDynamic w hung = touches_dynamic w laws l i entering holding (If hang e a b) in
         let r = raise w.order hung (tag w e s) s in
-        let q : Quiet w l (hangs i.state i.kids (If hang e a b)) r = quiet_raise w laws l (hangs i.state i.kids (If hang e a b)) hung _ s (λ x i. i) dyn g even in
+        let q : Quiet w l (concerns w i.state i.kids (If hang e a b)) r = quiet_raise w laws l (concerns w i.state i.kids (If hang e a b)) hung _ s (hanging w i.state i.kids (If hang e a b)) dyn g even in
         select_confined w laws l i entering holding e hung (branch (does_block w At i.enter a) (does_block w At i.enter b)) pc s (high_right w.order laws l pc _ g)
         (λ v z up. branch_all (λ y. Confined w l r y) (does_block w At i.enter a) (does_block w At i.enter b) v z r
-        (block_confined w laws l i entering holding a fine.1 z r (holds_raise w s hung _ dyn hs) up (quiet_left w laws l i entering holding (block_hangs i.state i.kids a) (block_hangs i.state i.kids b) r q))
-        (block_confined w laws l i entering holding b fine.2 z r (holds_raise w s hung _ dyn hs) up (quiet_right w laws l i entering holding (block_hangs i.state i.kids a) (block_hangs i.state i.kids b) r q)))
+        (block_confined w laws l i entering holding a fine.1 z r (holds_raise w s hung _ dyn hs) up (quiet_left w laws l i entering holding (block_concerns w i.state i.kids a) (block_concerns w i.state i.kids b) r q))
+        (block_confined w laws l i entering holding b fine.2 z r (holds_raise w s hung _ dyn hs) up (quiet_right w laws l i entering holding (block_concerns w i.state i.kids a) (block_concerns w i.state i.kids b) r q)))
 
     mutual
       unfolding does does_block
 
-      pub does_twin : (c : Command) → Proper w i c → Open c → (pc : ℕ) (s t : Store) → Holds w s → Holds w t → IsLow pc → Agree w l s t → Even w (hangs i.state i.kids c) s → Even w (hangs i.state i.kids c) t → Twin w l (does w At i.enter c pc s) (does w At i.enter c pc t)
+      pub does_twin : (c : Command) → Proper w i c → Open c → (pc : ℕ) (s t : Store) → Holds w s → Holds w t → IsLow pc → Agree w l s t → Even w (concerns w i.state i.kids c) s → Even w (concerns w i.state i.kids c) t → Twin w l (does w At i.enter c pc s) (does w At i.enter c pc t)
       does_twin (Do k) fine plain pc s t hs ht low like es et =
           let hang = raised_alone w At k in
           let dyn : OfDynamic w hang = alone_dynamic w At i.siblings (landing w laws l i entering holding) i.enter holding k in
@@ -367,8 +368,8 @@ module _ (w : World) (laws : Laws w.order) (l : ℕ) where
           let hung = touches w At (Try k hang h) in
           let dyn : OfDynamic w hung = touches_dynamic w laws l i entering holding (Try k hang h) in
           elim (cases_Bool (w.order.le (guard w At k s) l)) [
-            | inl g ↦ attempt_low k fine.0 plain.0 hung (does_block w At i.enter h) pc s t dyn hs ht low like g (block_hangs i.state i.kids h)
-                (even_right (step_hangs i.state i.kids k) (block_hangs i.state i.kids h) s es) (even_right (step_hangs i.state i.kids k) (block_hangs i.state i.kids h) t et)
+            | inl g ↦ attempt_low k fine.0 plain.0 hung (does_block w At i.enter h) pc s t dyn hs ht low like g (block_concerns w i.state i.kids h)
+                (even_right (step_concerns w i.state i.kids k) (block_concerns w i.state i.kids h) s es) (even_right (step_concerns w i.state i.kids k) (block_concerns w i.state i.kids h) t et)
                 (λ q r u hr hu lq e er eu. block_twin h fine.1 plain.1 q r u hr hu lq e er eu)
             | inr g ↦ (
                 let g' = sym (guard_same k fine.0 plain.0 s t like) ∙ g in
@@ -380,20 +381,20 @@ module _ (w : World) (laws : Laws w.order) (l : ℕ) where
           let hung = touches w At (If hang e a b) in
           let dyn : OfDynamic w hung = touches_dynamic w laws l i entering holding (If hang e a b) in
           elim (cases_Bool (w.order.le (tag w e s) l)) [
-            | inl g ↦ select_low e fine.0 hung (branch (does_block w At i.enter a) (does_block w At i.enter b)) pc s t dyn hs ht low like g (hangs i.state i.kids (If hang e a b)) es et
+            | inl g ↦ select_low e fine.0 hung (branch (does_block w At i.enter a) (does_block w At i.enter b)) pc s t dyn hs ht low like g (concerns w i.state i.kids (If hang e a b)) es et
                 (λ v q r u hr hu lq k er eu. branch_both (λ y z. Twin w l y z) (does_block w At i.enter a) (does_block w At i.enter b) v q r u
-                (block_twin a fine.1 plain.0 q r u hr hu lq k (even_left (block_hangs i.state i.kids a) (block_hangs i.state i.kids b) r er) (even_left (block_hangs i.state i.kids a) (block_hangs i.state i.kids b) u eu))
-                (block_twin b fine.2 plain.1 q r u hr hu lq k (even_right (block_hangs i.state i.kids a) (block_hangs i.state i.kids b) r er) (even_right (block_hangs i.state i.kids a) (block_hangs i.state i.kids b) u eu)))
+                (block_twin a fine.1 plain.0 q r u hr hu lq k (even_left (block_concerns w i.state i.kids a) (block_concerns w i.state i.kids b) r er) (even_left (block_concerns w i.state i.kids a) (block_concerns w i.state i.kids b) u eu))
+                (block_twin b fine.2 plain.1 q r u hr hu lq k (even_right (block_concerns w i.state i.kids a) (block_concerns w i.state i.kids b) r er) (even_right (block_concerns w i.state i.kids a) (block_concerns w i.state i.kids b) u eu)))
             | inr g ↦ twin_confined (raise w.order hung (tag w e s) s) (raise w.order hung (tag w e t) t) _ _ (agree_raised w laws l s t hung _ _ dyn like (tag_same e fine.0 s t like, λ lo. tag_low e fine.0 s t like lo))
                 (if_side hang e a b fine pc s hs es g)
                 (if_side hang e a b fine pc t ht et (sym (tag_same e fine.0 s t like) ∙ g))
           ]
 
-      pub block_twin : (b : Block) → ProperBlock w i b → OpenBlock b → (pc : ℕ) (s t : Store) → Holds w s → Holds w t → IsLow pc → Agree w l s t → Even w (block_hangs i.state i.kids b) s → Even w (block_hangs i.state i.kids b) t → Twin w l (does_block w At i.enter b pc s) (does_block w At i.enter b pc t)
+      pub block_twin : (b : Block) → ProperBlock w i b → OpenBlock b → (pc : ℕ) (s t : Store) → Holds w s → Holds w t → IsLow pc → Agree w l s t → Even w (block_concerns w i.state i.kids b) s → Even w (block_concerns w i.state i.kids b) t → Twin w l (does_block w At i.enter b pc s) (does_block w At i.enter b pc t)
       block_twin End fine plain pc s t hs ht low like es et = record { same = like; refused = refl }
       block_twin (Then c cs) fine plain pc s t hs ht low like es et =
-          let f = does_twin c fine.0 plain.0 pc s t hs ht low like (even_left (hangs i.state i.kids c) (block_hangs i.state i.kids cs) s es) (even_left (hangs i.state i.kids c) (block_hangs i.state i.kids cs) t et) in
+          let f = does_twin c fine.0 plain.0 pc s t hs ht low like (even_left (concerns w i.state i.kids c) (block_concerns w i.state i.kids cs) s es) (even_left (concerns w i.state i.kids c) (block_concerns w i.state i.kids cs) t et) in
           let g = block_twin cs fine.1 plain.1 pc (does w At i.enter c pc s).store (does w At i.enter c pc t).store (keeps w laws l i entering holding c fine.0 pc s hs) (keeps w laws l i entering holding c fine.0 pc t ht) low f.same
-          (even_next w laws l i entering holding c cs fine.2 pc s (even_right (hangs i.state i.kids c) (block_hangs i.state i.kids cs) s es))
-          (even_next w laws l i entering holding c cs fine.2 pc t (even_right (hangs i.state i.kids c) (block_hangs i.state i.kids cs) t et)) in
+          (even_next w laws l i entering holding c cs fine.2 pc s (even_right (concerns w i.state i.kids c) (block_concerns w i.state i.kids cs) s es))
+          (even_next w laws l i entering holding c cs fine.2 pc t (even_right (concerns w i.state i.kids c) (block_concerns w i.state i.kids cs) t et)) in
           record { same = g.same; refused = seen_parts w.order laws l _ _ _ _ f.refused g.refused }

@@ -10,7 +10,8 @@ use Rattle.sap_meaning.specs.Agree.{High}
 use Rattle.sap_meaning.specs.Fine.{FineStep, FineCommand, FineBlock, step_retags, retags, block_retags, state_retags, group_retags, reaches, inside, number_of, kids_of, Nth}
 use Rattle.sap_meaning.proofs.Bools.{and_left, and_right, and_both, or_left, or_right, or_of, or_false, neither_left, neither_right, not_true, eq_self, eq_not}
 use Rattle.sap_secure.specs.Confinement.{last_group, last_parent, Active, StandsIn, StandsInBlock, is_goto, is_fall, has_goto, block_has_goto, has_fall, block_has_fall, level_slot, EqualParts, SomeHigh, Guarded, Confinement}
-use Rattle.sap_secure.proofs.Apart.{found, hung, unassigned, group_unassigned, group_written, inside_state, inside_among, state_no_register, state_no_memory, register_apart, memory_apart}
+use Rattle.sap_secure.proofs.Apart.{found, hung, unassigned, group_unassigned, inside_state, inside_among, state_no_register, state_no_memory, register_apart, memory_apart}
+use Rattle.sap_secure.proofs.Concerns.{concerns, hanging}
 use Rattle.sap_secure.proofs.Sites.{Around, Site, spot, Proper, ProperBlock, Ended, Shut, node, own_fine, kids_around, around_root, proper_body, fine_command, not_own, no_kid}
 use Rattle.sap_secure.proofs.Frames.{Kept, child_under, under_kept}
 use Rattle.sap_secure.proofs.Confined.{Confined, Quiet, changing_no_state, site_at, keeps, does_confined}
@@ -236,25 +237,25 @@ module _ (w : World) (laws : Laws w.order) (l : ℕ) where
 
 module _ (w : World) (laws : Laws w.order) (l : ℕ) (i : Site w) (c : Command) (fine : Proper w i c) (s : Store) where
   -- what the conditions say of the slots that it touches
-  quiet_of : ((x : ℕ) → (is_register w x || is_memory w x) ≡ true → touches w (spot i) c x ≡ true → High w.order l (s.level (level_slot w x))) → ((m : ℕ) → is_memory w m ≡ true → is_dynamic w m ≡ false → reaches i.kids c m ≡ true → EqualParts w m s) → Quiet w l (hangs i.state i.kids c) s
+  quiet_of : ((x : ℕ) → (is_register w x || is_memory w x) ≡ true → touches w (spot i) c x ≡ true → High w.order l (s.level (level_slot w x))) → ((m : ℕ) → is_memory w m ≡ true → is_dynamic w m ≡ false → reaches i.kids c m ≡ true → EqualParts w m s) → Quiet w l (concerns w i.state i.kids c) s
   quiet_of f g (own x) k h = (λ d. dynamic d (cases_Bool (is_register w x)), λ d. refl)
     where
       dynamic : is_dynamic w x ≡ true → ((is_register w x ≡ true) ⊎ (is_register w x ≡ false)) → High w.order l (s.level (own x))
       dynamic d (inl r) =
           let n : is_memory w x ≡ false = register_no_memory (entity w x).kind r in
-          let high = f x (or_left _ _ r) (and_both _ _ d h) in
+          let high = f x (or_left _ _ r) (hanging w i.state i.kids c x (and_both _ _ d h)) in
           rw n at high
       dynamic d (inr r) =
           let z = input_alone (entity w x).kind r k in
           let st = changing_no_state w (own x) k in
-          let y = found i.state i.kids x (not_own w i x st) (no_kid w i x st) c h in
+          let y = found i.state i.kids x (not_own w i x st) (no_kid w i x st) c (and_right (is_dynamic w x) _ (hanging w i.state i.kids c x (and_both _ _ d h))) in
           let no = or_false _ _ (unassigned w x z.0 z.1 i.siblings i.kids c (fine_command w i c fine)) (group_unassigned w x z.0 z.1 i.kids 0 i.kids (own_fine w i).1) in
           cc
   quiet_of f g (start m j) k h = cc
   quiet_of f g (next m j) k h = (
-    λ d. (let high = f m (or_right _ _ k) (and_both _ _ d h) in let high' = rw k at high in subst (λ z. High w.order l (s.level z)) (sym (whole m j d)) high'),
+    λ d. (let high = f m (or_right _ _ k) (hanging w i.state i.kids c m (and_both _ _ d h)) in let high' = rw k at high in subst (λ z. High w.order l (s.level z)) (sym (whole m j d)) high'),
     λ d. (let st = changing_no_state w (next m j) k in
-        let r = hung w m k i.state i.kids (not_own w i m st) (no_kid w i m st) (group_written w m k i.kids 0 i.kids (own_fine w i).1) i.siblings i.kids c (fine_command w i c fine) h in
+        let r = hung w m k d i.state i.kids (not_own w i m st) (no_kid w i m st) i.siblings i.kids c (fine_command w i c fine) h in
         (g m k d r j).1),
   )
     where
@@ -305,7 +306,7 @@ confinement_law p fine l s way e b g c pc h =
     proper : Proper p.world i c × Ended c
     proper = proper_in_block p.world i c b h.command (proper_body p.world i) (inl (node p.world i).closes)
 
-    quiet : Quiet p.world l (hangs e g c) s
+    quiet : Quiet p.world l (concerns p.world e g c) s
     quiet = quiet_of p.world fine.order l i c proper.0 s h.touched h.parts
 
     conf : Confined p.world l s (does p.world (spot i) (does_child p.world g e) c pc s)

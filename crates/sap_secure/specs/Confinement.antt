@@ -106,8 +106,12 @@ pub record Hidden (p : Program) (l : ℕ) (s : Store) (way : List State) (e : �
   pub above : SomeHigh p.world l s (Node e b g ∷ way) ⊎ Guarded p.world l e g c s
 
 -- Then what c does leaves a state that agrees at l with the one before, and nothing that is refused is at or below l.
-abbrev pub Confinement : Type 0
-Confinement = (p : Program) → FineProgram p → (l : ℕ) (s : Store) (way : List State) (e : ℕ) (b : Block) (g : Group) (c : Command) (pc : ℕ)
+abbrev pub Confines : Program → Type 0
+Confines p = (l : ℕ) (s : Store) (way : List State) (e : ℕ) (b : Block) (g : Group) (c : Command) (pc : ℕ)
     → Hidden p l s way e b g c pc
     → StatesAgree p l s (does p.world (record { state = e; parent = last_parent (root p.world) way; children = g }) (does_child p.world g e) c pc s).store
     × (seen p.world.order l (does p.world (record { state = e; parent = last_parent (root p.world) way; children = g }) (does_child p.world g e) c pc s).refused ≡ [])
+
+-- so it is in every fine program
+abbrev pub Confinement : Type 0
+Confinement = (p : Program) → FineProgram p → Confines p

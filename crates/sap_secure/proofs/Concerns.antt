@@ -1,0 +1,98 @@
+-- What concerns a command: what hangs on it; but an enforced memory only where it, or a body that it may fall into, writes a cell.
+use Rattle.std.proofs.Common.{◌≡◌, ℕ, Bool, true, false, not, ◌&&◌, ◌||◌, refl, sym, ap, ◌∙◌, nat_eq, if◌then◌else◌}
+use Rattle.sap_meaning.specs.Program.{World, is_dynamic, is_memory, Step, Set, Write, Retag, RetagCell, Goto, Fall, Command, Do, Try, If, Block, End, Then, State, Node, Group, None, More}
+use Rattle.sap_meaning.specs.Touches.{among, block_assigns, state_assigns, group_assigns, step_hangs, hangs, block_hangs}
+use Rattle.sap_meaning.specs.Fine.{block_reaches, state_reaches, group_reaches}
+use Rattle.sap_meaning.proofs.Bools.{and_both}
+
+-- an enforced memory
+abbrev pub parted : World → ℕ → Bool
+parted w x = is_memory w x && not (is_dynamic w x)
+
+abbrev pub state_concerns : World → State → ℕ → Bool
+state_concerns w (Node s b g) x = if parted w x then block_reaches g b x else block_assigns b x || group_assigns g x
+
+abbrev pub group_concerns : World → Group → ℕ → Bool
+group_concerns w None x = false
+group_concerns w (More t g) x = state_concerns w t x || group_concerns w g x
+
+abbrev pub step_concerns : World → ℕ → Group → Step → ℕ → Bool
+step_concerns w s g (Set site y e) x = nat_eq x y
+step_concerns w s g (Write site m i e) x = nat_eq x m
+step_concerns w s g (Retag site y n) x = false
+step_concerns w s g (RetagCell site m j n) x = false
+step_concerns w s g (Goto site target) x = nat_eq x s
+step_concerns w s g (Fall site hang) x = among g x || group_concerns w g x
+
+abbrev mutual
+  pub concerns : World → ℕ → Group → Command → ℕ → Bool
+  concerns w s g (Do k) x = step_concerns w s g k x
+  concerns w s g (Try k hang h) x = step_concerns w s g k x || block_concerns w s g h x
+  concerns w s g (If hang e a b) x = block_concerns w s g a x || block_concerns w s g b x
+
+  pub block_concerns : World → ℕ → Group → Block → ℕ → Bool
+  block_concerns w s g End x = false
+  block_concerns w s g (Then c cs) x = concerns w s g c x || block_concerns w s g cs x
+
+or_same : (a b c d : Bool) → a ≡ c → b ≡ d → (a || b) ≡ (c || d)
+or_same a b c d e f = ap (λ (r : Bool). r || b) e ∙ ap (λ (r : Bool). c || r) f
+
+module _ (w : World) (x : ℕ) where
+  pub parted_of : is_memory w x ≡ true → is_dynamic w x ≡ false → parted w x ≡ true
+  parted_of m d = and_both (is_memory w x) (not (is_dynamic w x)) m (rw d refl)
+
+  and_not : (a b : Bool) → b ≡ true → (a && not b) ≡ false
+  and_not true b h = rw h refl
+  and_not false b h = refl
+
+  pub dynamic_whole : is_dynamic w x ≡ true → parted w x ≡ false
+  dynamic_whole d = and_not (is_memory w x) (is_dynamic w x) d
+
+  -- of an enforced memory
+  pub group_parted : parted w x ≡ true → (g : Group) → group_concerns w g x ≡ group_reaches g x
+  group_parted p None = refl
+  group_parted p (More (Node s b k) g) =
+      or_same (state_concerns w (Node s b k) x) (group_concerns w g x) (state_reaches (Node s b k) x) (group_reaches g x) (rw p refl) (group_parted p g)
+
+  -- of what is none
+  module _ (p : parted w x ≡ false) where
+    group_whole : (g : Group) → group_concerns w g x ≡ group_assigns g x
+    group_whole None = refl
+    group_whole (More (Node s b k) g) =
+        or_same (state_concerns w (Node s b k) x) (group_concerns w g x) (state_assigns (Node s b k) x) (group_assigns g x) (rw p refl) (group_whole g)
+
+    step_whole : (s : ℕ) (g : Group) (k : Step) → step_concerns w s g k x ≡ step_hangs s g k x
+    step_whole s g (Set site y e) = refl
+    step_whole s g (Write site m i e) = refl
+    step_whole s g (Retag site y n) = refl
+    step_whole s g (RetagCell site m j n) = refl
+    step_whole s g (Goto site target) = refl
+    step_whole s g (Fall site hang) = ap (λ (r : Bool). among g x || r) (group_whole g)
+
+    mutual
+      pub whole : (s : ℕ) (g : Group) (c : Command) → concerns w s g c x ≡ hangs s g c x
+      whole s g (Do k) = step_whole s g k
+      whole s g (Try k hang h) = or_same (step_concerns w s g k x) (block_concerns w s g h x) (step_hangs s g k x) (block_hangs s g h x) (step_whole s g k) (block_whole s g h)
+      whole s g (If hang e a b) = or_same (block_concerns w s g a x) (block_concerns w s g b x) (block_hangs s g a x) (block_hangs s g b x) (block_whole s g a) (block_whole s g b)
+
+      pub block_whole : (s : ℕ) (g : Group) (b : Block) → block_concerns w s g b x ≡ block_hangs s g b x
+      block_whole s g End = refl
+      block_whole s g (Then c cs) = or_same (concerns w s g c x) (block_concerns w s g cs x) (hangs s g c x) (block_hangs s g cs x) (whole s g c) (block_whole s g cs)
+
+with_both : (a b c : Bool) → (a ≡ true → b ≡ c) → (a && b) ≡ true → (a && c) ≡ true
+with_both true b c f h = sym (f refl) ∙ h
+with_both false b c f h = h
+
+module _ (w : World) (s : ℕ) (g : Group) where
+  -- what is dynamic concerns a command where it hangs on it
+  pub concerned : (c : Command) (x : ℕ) → (is_dynamic w x && hangs s g c x) ≡ true → (is_dynamic w x && concerns w s g c x) ≡ true
+  concerned c x h = with_both (is_dynamic w x) (hangs s g c x) (concerns w s g c x) (λ d. sym (whole w x (dynamic_whole w x d) s g c)) h
+
+  pub hanging : (c : Command) (x : ℕ) → (is_dynamic w x && concerns w s g c x) ≡ true → (is_dynamic w x && hangs s g c x) ≡ true
+  hanging c x h = with_both (is_dynamic w x) (concerns w s g c x) (hangs s g c x) (λ d. whole w x (dynamic_whole w x d) s g c) h
+
+  pub block_hanging : (b : Block) (x : ℕ) → (is_dynamic w x && block_concerns w s g b x) ≡ true → (is_dynamic w x && block_hangs s g b x) ≡ true
+  block_hanging b x h = with_both (is_dynamic w x) (block_concerns w s g b x) (block_hangs s g b x) (λ d. block_whole w x (dynamic_whole w x d) s g b) h
+
+  pub group_hanging : (x : ℕ) → (is_dynamic w x && group_concerns w g x) ≡ true → (is_dynamic w x && group_assigns g x) ≡ true
+  group_hanging x h = with_both (is_dynamic w x) (group_concerns w g x) (group_assigns g x) (λ d. group_whole w x (dynamic_whole w x d) g) h
