@@ -4,3 +4,4 @@ pub mod Terms
 pub mod Resolve
 pub mod Fill
 pub mod Examples
+pub mod Named

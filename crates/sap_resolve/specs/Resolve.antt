@@ -5,7 +5,8 @@ use Rattle.sap_tree.specs.declared.syntax.Kind.{Kind}
 use Rattle.sap_tree.specs.declared.name.Mention.{Mention}
 use Rattle.sap_tree.specs.Syntax.{SimpleCommand, Assign, Write, SetTag, SetCellTag, CommandBlock, Commands, ElseBlock, NoElse, Else, CommandList, NoCommand, AndCommand, StateTree, StateOf, StateList, NoState, AndState, DesignTree}
 use Rattle.sap_tree.specs.Syntax as tree
-use Rattle.sap_names.specs.Entities.{Entity, what_is, entities_of}
+use Rattle.sap_names.specs.Entities.{what_is, entities_of}
+use Rattle.sap_names.specs.declared.entity.Entity.{Entity}
 use Rattle.sap_names.specs.Widths.{register_width, cell_width, index_width}
 use Rattle.sap_meaning.specs.Program.{Step, Set, Retag, RetagCell, Goto, Fall, Command, Do, Try, If, Block, End, Then, State, Node, Group, None, More}
 use Rattle.sap_meaning.specs.Program as program

@@ -9,7 +9,8 @@ use Rattle.sap_tree.specs.declared.syntax.UnaryOperator.TheVariants as unary
 use Rattle.sap_tree.specs.declared.syntax.BinaryOperator.{BinaryOperator}
 use Rattle.sap_tree.specs.declared.syntax.BinaryOperator.TheVariants as binary
 use Rattle.sap_tree.specs.Syntax.{Expression, Number, Sized, Read, Cell, Unary, Binary, Choose, Slice, Concat, Zext, Expressions, NoPart, AndPart, TagExpression, Level, TagOf, LevelAt, Join, TagExpressions, NoTag, AndTag}
-use Rattle.sap_names.specs.Entities.{Entity, number_of, what_is}
+use Rattle.sap_names.specs.Entities.{number_of, what_is}
+use Rattle.sap_names.specs.declared.entity.Entity.{Entity}
 use Rattle.sap_names.specs.Widths.{own, width_of, family, asked_left, asked_right, asked_one, index_width}
 use Rattle.sap_maps.specs.Term.{Term}
 use Rattle.sap_maps.specs.Term as term

@@ -1,0 +1,14 @@
+pub mod Faultless
+pub mod Declared
+pub mod Operators
+pub mod Expressions
+pub mod Tags
+pub mod Commands
+pub mod Filled
+pub mod Starts
+pub mod Programs
+pub mod OwnWidths
+pub mod RangedTerms
+pub mod RangedCommands
+pub mod RangedPrograms
+pub mod Sampled

@@ -1,0 +1,3 @@
+pub mod Ranges
+pub mod Sound
+pub mod Examples
