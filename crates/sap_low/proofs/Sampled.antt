@@ -1,0 +1,8 @@
+-- No fault stands in the sample.
+use Rattle.std.proofs.Common.{refl}
+use Rattle.sap_lattice.specs.Levels.{order_of, order_by}
+use Rattle.sap_low.specs.Examples.{Formed}
+
+pub formed : Formed
+unfolding order_of order_by
+formed = record { names = refl; shape = refl }

@@ -1,0 +1,14 @@
+pub mod Faultless
+pub mod Commands
+pub mod Filling
+pub mod Places
+pub mod Lookups
+pub mod Numbers
+pub mod Closed
+pub mod Once
+pub mod Steps
+pub mod Groups
+pub mod Worlds
+pub mod Lists
+pub mod Rises
+pub mod Programs

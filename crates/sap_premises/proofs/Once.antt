@@ -1,0 +1,290 @@
+-- Where no path writes a memory twice, no memory is written after it was written, with numbers for names.
+use Rattle.std.proofs.Common.{◌≡◌, ℕ, ◌+◌, Bool, true, false, ◌&&◌, List, [], refl, ap, ◌∙◌, subst, nat_eq, inl, inr, ◌⊎◌, bytes_eq}
+use Rattle.sap_tree.specs.declared.name.Mention.{Mention}
+use Rattle.sap_tree.specs.declared.place.Place.{Place}
+use Rattle.sap_tree.specs.Syntax.{SimpleCommand, Assign, Write, SetTag, SetCellTag, Goto, Fall, Command, Do, Try, If, CommandBlock, Commands, ElseBlock, NoElse, Else, CommandList, NoCommand, AndCommand, StateTree, StateOf, StateList, NoState, AndState}
+use Rattle.sap_lattice.specs.Levels.{Levels}
+use Rattle.sap_names.specs.declared.kind.Code.TheVariants.{E14}
+use Rattle.sap_names.specs.Entities.{Lookup, what_is}
+use Rattle.sap_names.specs.declared.entity.Entity.{Entity}
+use Rattle.sap_names.specs.declared.kind.Use.TheVariants.{Indexed as indexed}
+use Rattle.sap_names.specs.NameFaults.{name_faults, fault_if, simple_faults, command_faults, block_faults, else_faults, commands_faults, state_faults, states_faults}
+use Rattle.sap_shape.specs.Closing.{transfer_faults, open_faults, open_block_faults, open_else_faults, open_list_faults, last_faults, closing_faults, closing_else_faults, closing_list_faults}
+use Rattle.sap_shape.specs.Paths.{Written, writing, past_simple, past, past_block, past_else, past_list, entering_simple, entering, entering_block, entering_else, entering_list, second_simple, second, second_block, second_else, second_list, second_state, second_states}
+use Rattle.sap_meaning.specs.Program.{World, Group}
+use Rattle.sap_meaning.specs.Fine.{step_writes, step_reaching, reaching, block_reaching, state_reaches, group_reaches, Once, OnceBlock}
+use Rattle.sap_meaning.proofs.Bools.{or_left, or_right, or_of, or_false, not_true, same_number}
+use Rattle.sap_resolve.specs.Worlds.{states_in}
+use Rattle.sap_resolve.specs.Sites.{Home, simple_sites, block_sites, command_sites, state_sites}
+use Rattle.sap_resolve.specs.Resolve.{site_number, step_of, command_of, block_of, else_of, list_of, state_of, group_of}
+use Rattle.sap_resolve.specs.Terms.{entity_number}
+use Rattle.sap_resolve.proofs.Lookup.{AllMatch}
+use Rattle.sap_premises.proofs.Commands.{write_named, cell_named, if_first, if_other, body_fits}
+use Rattle.sap_premises.proofs.Faultless.{nil_left, nil_right, no_fault}
+use Rattle.sap_premises.proofs.Places.{name_at}
+use Rattle.sap_premises.proofs.Lookups.{same_name, named}
+
+-- what was written before, is still afterwards
+module _ (a : List ℕ) where
+  past_step : (c : SimpleCommand) (p : Written) → p a ≡ true → past_simple c p a ≡ true
+  past_step (Assign target e) p h = h
+  past_step (Write target index e) p h = or_right _ _ h
+  past_step (SetTag place target tag) p h = h
+  past_step (SetCellTag place target index tag) p h = or_right _ _ h
+  past_step (Goto place target) p h = h
+  past_step (Fall place) p h = h
+
+  mutual
+    past_command : (c : Command) (p : Written) → p a ≡ true → past c p a ≡ true
+    past_command (Do c) p h = past_step c p h
+    past_command (Try c place b) p h = or_left _ _ (past_step c p h)
+    past_command (If place e b other) p h = or_left _ _ (past_body b p h)
+
+    past_body : (b : CommandBlock) (p : Written) → p a ≡ true → past_block b p a ≡ true
+    past_body (Commands cs after) p h = past_commands cs p h
+
+    past_commands : (cs : CommandList) (p : Written) → p a ≡ true → past_list cs p a ≡ true
+    past_commands NoCommand p h = h
+    past_commands (AndCommand c cs) p h = past_commands cs (past c p) (past_command c p h)
+
+module _ (ls : Levels) (levels : List (List ℕ)) (h : Home) (w : World) (match : AllMatch h.entities w.entities) where
+  abbrev What : Lookup
+  What = what_is h.entities
+
+  abbrev Fits : CommandBlock → Type 0
+  Fits b = block_faults levels What b ≡ []
+
+  -- a memory's number and its name
+  target_of : (target : Mention) (m : ℕ) → name_faults indexed What target ≡ [] → nat_eq m (entity_number h.entities target.name) ≡ true
+      → name_at h.entities m ≡ target.name
+  target_of target m f e = ap (λ n. name_at h.entities n) (same_number m (entity_number h.entities target.name) e) ∙ named h.entities w match indexed target f
+
+  writes_target : (target : Mention) (m : ℕ) (p : Written) → name_faults indexed What target ≡ [] → nat_eq m (entity_number h.entities target.name) ≡ true
+      → writing target.name p (name_at h.entities m) ≡ true
+  writes_target target m p f e =
+      or_left (bytes_eq target.name (name_at h.entities m)) (p (name_at h.entities m)) (rw (target_of target m f e) (same_name target.name))
+
+  -- what a step writes, is written behind it
+  step_written : (n : ℕ) (c : SimpleCommand) → simple_faults levels What c ≡ [] → (m : ℕ) (p : Written) → step_writes (step_of ls h n c) m ≡ true
+      → past_simple c p (name_at h.entities m) ≡ true
+  step_written n (Assign target e) f m p i = cc
+  step_written n (Write target index e) f m p i = writes_target target m p (write_named levels What target index e f) i
+  step_written n (SetTag place target tag) f m p i = cc
+  step_written n (SetCellTag place target index tag) f m p i = writes_target target m p (cell_named levels What place target index tag f) i
+  step_written n (Goto place target) f m p i = cc
+  step_written n (Fall place) f m p i = cc
+
+  module _ (falls : ℕ → Bool) where
+    open_written : (n : ℕ) (c : SimpleCommand) → simple_faults levels What c ≡ [] → transfer_faults c ≡ [] → (m : ℕ) (p : Written)
+        → step_reaching falls (step_of ls h n c) m ≡ true → past_simple c p (name_at h.entities m) ≡ true
+    open_written n (Assign target e) f o m p i = cc
+    open_written n (Write target index e) f o m p i = writes_target target m p (write_named levels What target index e f) i
+    open_written n (SetTag place target tag) f o m p i = cc
+    open_written n (SetCellTag place target index tag) f o m p i = writes_target target m p (cell_named levels What place target index tag f) i
+    open_written n (Goto place target) f o m p i = cc
+    open_written n (Fall place) f o m p i = cc
+
+    -- what an open command reaches, is written behind it
+    mutual
+      command_written : (k : ℕ) (c : Command) → command_faults levels What c ≡ [] → open_faults c ≡ [] → (m : ℕ) (p : Written)
+          → reaching falls (command_of ls h k c) m ≡ true → past c p (name_at h.entities m) ≡ true
+      command_written k (Do c) f o m p i = open_written (site_number h k c) c f o m p i
+      command_written k (Try c place b) f o m p i =
+          elim (or_of (step_reaching falls (step_of ls h (site_number h k c) c) m) (block_reaching falls (block_of ls h (k + simple_sites h c) b) m) i) [
+            | inl j ↦ or_left _ _
+                (open_written (site_number h k c) c (nil_left _ _ f) (nil_left _ _ o) m p j)
+            | inr j ↦ or_right _ _
+                (block_written (k + simple_sites h c) b (nil_right _ _ f) (nil_right _ _ o) m (past_simple c p) j)
+          ]
+      command_written k (If place e b other) f o m p i =
+          elim (or_of (block_reaching falls (block_of ls h k b) m) (block_reaching falls (else_of ls h (k + block_sites h b) other) m) i) [
+            | inl j ↦ or_left _ _ (block_written k b (if_first levels What place e b other f) (nil_left _ _ o) m p j)
+            | inr j ↦ or_right _ _ (else_written (k + block_sites h b) other (if_other levels What place e b other f) (nil_right _ _ o) m p j)
+          ]
+
+      block_written : (k : ℕ) (b : CommandBlock) → Fits b → open_block_faults b ≡ [] → (m : ℕ) (p : Written)
+          → block_reaching falls (block_of ls h k b) m ≡ true → past_block b p (name_at h.entities m) ≡ true
+      block_written k (Commands cs after) f o m p i = list_written k cs f o m p i
+
+      else_written : (k : ℕ) (b : ElseBlock) → else_faults levels What b ≡ [] → open_else_faults b ≡ [] → (m : ℕ) (p : Written)
+          → block_reaching falls (else_of ls h k b) m ≡ true → past_else b p (name_at h.entities m) ≡ true
+      else_written k NoElse f o m p i = cc
+      else_written k (Else b) f o m p i = block_written k b f o m p i
+
+      list_written : (k : ℕ) (cs : CommandList) → commands_faults levels What cs ≡ [] → open_list_faults cs ≡ [] → (m : ℕ) (p : Written)
+          → block_reaching falls (list_of ls h k cs) m ≡ true → past_list cs p (name_at h.entities m) ≡ true
+      list_written k NoCommand f o m p i = cc
+      list_written k (AndCommand c cs) f o m p i =
+          elim (or_of (reaching falls (command_of ls h k c) m) (block_reaching falls (list_of ls h (k + command_sites h c) cs) m) i) [
+            | inl j ↦ past_commands (name_at h.entities m) cs (past c p)
+                (command_written k c (nil_left _ _ f) (nil_left _ _ o) m p j)
+            | inr j ↦ list_written (k + command_sites h c) cs (nil_right _ _ f) (nil_right _ _ o) m (past c p) j
+          ]
+
+    -- what was written before is reached no more, unless a fall leads to it
+    module _ (m : ℕ) where
+      abbrev Safe : Bool → Type 0
+      Safe entered = entered ≡ true → falls m ≡ false
+
+      target_unwritten : (target : Mention) (place : Place) → name_faults indexed What target ≡ [] → (p : Written) → p (name_at h.entities m) ≡ true
+          → fault_if (p target.name) E14 place ≡ [] → nat_eq m (entity_number h.entities target.name) ≡ false
+      target_unwritten target place f p i s = not_true (nat_eq m (entity_number h.entities target.name)) (λ j.
+          let e : name_at h.entities m ≡ target.name = target_of target m f j in
+          let no : p target.name ≡ false = no_fault (p target.name) E14 place s in
+          let yes : p target.name ≡ true = subst (λ a. p a ≡ true) e i in
+          cc)
+
+      step_unreached : (n : ℕ) (c : SimpleCommand) → simple_faults levels What c ≡ [] → (p : Written) → p (name_at h.entities m) ≡ true
+          → second_simple c p ≡ [] → Safe (entering_simple c p (name_at h.entities m)) → step_reaching falls (step_of ls h n c) m ≡ false
+      step_unreached n (Assign target e) f p i s d = refl
+      step_unreached n (Write target index e) f p i s d = target_unwritten target target.place (write_named levels What target index e f) p i s
+      step_unreached n (SetTag place target tag) f p i s d = refl
+      step_unreached n (SetCellTag place target index tag) f p i s d = target_unwritten target place (cell_named levels What place target index tag f) p i s
+      step_unreached n (Goto place target) f p i s d = refl
+      step_unreached n (Fall place) f p i s d = d i
+
+      mutual
+        command_unreached : (k : ℕ) (c : Command) → command_faults levels What c ≡ [] → (p : Written) → p (name_at h.entities m) ≡ true → second c p ≡ []
+            → Safe (entering c p (name_at h.entities m)) → reaching falls (command_of ls h k c) m ≡ false
+        command_unreached k (Do c) f p i s d = step_unreached (site_number h k c) c f p i s d
+        command_unreached k (Try c place b) f p i s d =
+            or_false (step_reaching falls (step_of ls h (site_number h k c) c) m) (block_reaching falls (block_of ls h (k + simple_sites h c) b) m)
+            (step_unreached (site_number h k c) c (nil_left _ _ f) p i (nil_left _ _ s)
+            (λ j. d (or_left _ _ j)))
+            (body_unreached (k + simple_sites h c) b (nil_right _ _ f) (past_simple c p) (past_step (name_at h.entities m) c p i)
+            (nil_right _ _ s) (λ j. d (or_right _ _ j)))
+        command_unreached k (If place e b other) f p i s d =
+            or_false (block_reaching falls (block_of ls h k b) m) (block_reaching falls (else_of ls h (k + block_sites h b) other) m)
+            (body_unreached k b (if_first levels What place e b other f) p i (nil_left _ _ s) (λ j. d (or_left _ _ j)))
+            (else_unreached (k + block_sites h b) other (if_other levels What place e b other f) p i (nil_right _ _ s) (λ j. d (or_right _ _ j)))
+
+        pub body_unreached : (k : ℕ) (b : CommandBlock) → Fits b → (p : Written) → p (name_at h.entities m) ≡ true → second_block b p ≡ []
+            → Safe (entering_block b p (name_at h.entities m)) → block_reaching falls (block_of ls h k b) m ≡ false
+        body_unreached k (Commands cs after) f p i s d = list_unreached k cs f p i s d
+
+        else_unreached : (k : ℕ) (b : ElseBlock) → else_faults levels What b ≡ [] → (p : Written) → p (name_at h.entities m) ≡ true → second_else b p ≡ []
+            → Safe (entering_else b p (name_at h.entities m)) → block_reaching falls (else_of ls h k b) m ≡ false
+        else_unreached k NoElse f p i s d = refl
+        else_unreached k (Else b) f p i s d = body_unreached k b f p i s d
+
+        list_unreached : (k : ℕ) (cs : CommandList) → commands_faults levels What cs ≡ [] → (p : Written) → p (name_at h.entities m) ≡ true
+            → second_list cs p ≡ [] → Safe (entering_list cs p (name_at h.entities m)) → block_reaching falls (list_of ls h k cs) m ≡ false
+        list_unreached k NoCommand f p i s d = refl
+        list_unreached k (AndCommand c cs) f p i s d =
+            or_false (reaching falls (command_of ls h k c) m) (block_reaching falls (list_of ls h (k + command_sites h c) cs) m)
+            (command_unreached k c (nil_left _ _ f) p i (nil_left _ _ s)
+            (λ j. d (or_left _ _ j)))
+            (list_unreached (k + command_sites h c) cs (nil_right _ _ f) (past c p) (past_command (name_at h.entities m) c p i)
+            (nil_right _ _ s) (λ j. d (or_right _ _ j)))
+
+  -- a handler closes or is open, as its command does
+  handler_closed : (c : SimpleCommand) (place : Place) (b : CommandBlock) (after : Place) → last_faults (Try c place b) after ≡ [] → closing_faults b ≡ []
+  handler_closed (Assign target e) place b after f = cc
+  handler_closed (Write target index e) place b after f = cc
+  handler_closed (SetTag p target tag) place b after f = cc
+  handler_closed (SetCellTag p target index tag) place b after f = cc
+  handler_closed (Goto p target) place b after f = f
+  handler_closed (Fall p) place b after f = f
+
+  and_if : (a b : Bool) → (a ≡ true → b ≡ false) → (a && b) ≡ false
+  and_if true b f = f refl
+  and_if false b f = refl
+
+  abbrev Shut : CommandBlock → Type 0
+  Shut b = (open_block_faults b ≡ []) ⊎ (closing_faults b ≡ [])
+
+  abbrev ShutElse : ElseBlock → Type 0
+  ShutElse b = (open_else_faults b ≡ []) ⊎ ((place : Place) × (closing_else_faults b place ≡ []))
+
+  abbrev ShutList : CommandList → Type 0
+  ShutList cs = (open_list_faults cs ≡ []) ⊎ ((after : Place) × (closing_list_faults cs after ≡ []))
+
+  abbrev Ended : Command → Type 0
+  Ended c = (open_faults c ≡ []) ⊎ ((after : Place) × (last_faults c after ≡ []))
+
+  module _ (g : Group) where
+    -- where each fall leads to nothing that was written
+    abbrev Free : Written → Type 0
+    Free entered = (m : ℕ) → entered (name_at h.entities m) ≡ true → group_reaches g m ≡ false
+
+    mutual
+      once_command : (k : ℕ) (c : Command) → command_faults levels What c ≡ [] → Ended c → (p : Written) → second c p ≡ [] → Free (entering c p)
+          → Once g (command_of ls h k c)
+      once_command k (Do c) f o p s d = tt
+      once_command k (Try c place b) f o p s d = (
+        once_body (k + simple_sites h c) b (nil_right _ _ f)
+            (elim o [ inl i ↦ inl (nil_right _ _ i) | inr i ↦ inr (handler_closed c place b i.0 i.1) ])
+            (past_simple c p) (nil_right _ _ s)
+            (λ m j. d m (or_right _ _ j)),
+        λ m. and_if (step_writes (step_of ls h (site_number h k c) c) m) (block_reaching (group_reaches g) (block_of ls h (k + simple_sites h c) b) m) (λ i.
+            body_unreached (group_reaches g) m (k + simple_sites h c) b (nil_right _ _ f) (past_simple c p)
+            (step_written (site_number h k c) c (nil_left _ _ f) m p i)
+            (nil_right _ _ s)
+            (λ j. d m (or_right _ _ j))),
+      )
+      once_command k (If place e b other) f o p s d = (
+        once_body k b (if_first levels What place e b other f)
+            (elim o [ inl i ↦ inl (nil_left _ _ i) | inr i ↦ inr (nil_left _ _ i.1) ])
+            p (nil_left _ _ s) (λ m j. d m (or_left _ _ j)),
+        once_else (k + block_sites h b) other (if_other levels What place e b other f)
+            (elim o [ inl i ↦ inl (nil_right _ _ i) | inr i ↦ inr (place, nil_right _ _ i.1) ])
+            p (nil_right _ _ s) (λ m j. d m (or_right _ _ j)),
+      )
+
+      pub once_body : (k : ℕ) (b : CommandBlock) → Fits b → Shut b → (p : Written) → second_block b p ≡ [] → Free (entering_block b p)
+          → OnceBlock g (block_of ls h k b)
+      once_body k (Commands cs after) f o p s d = once_list k cs f (elim o [ inl i ↦ inl i | inr i ↦ inr (after, i) ]) p s d
+
+      once_else : (k : ℕ) (b : ElseBlock) → else_faults levels What b ≡ [] → ShutElse b → (p : Written) → second_else b p ≡ [] → Free (entering_else b p)
+          → OnceBlock g (else_of ls h k b)
+      once_else k NoElse f o p s d = tt
+      once_else k (Else b) f o p s d = once_body k b f (elim o [ inl i ↦ inl i | inr i ↦ inr i.1 ]) p s d
+
+      once_list : (k : ℕ) (cs : CommandList) → commands_faults levels What cs ≡ [] → ShutList cs → (p : Written) → second_list cs p ≡ []
+          → Free (entering_list cs p) → OnceBlock g (list_of ls h k cs)
+      once_list k NoCommand f o p s d = tt
+      once_list k (AndCommand c NoCommand) f o p s d = (
+        once_command k c (nil_left _ _ f)
+            (elim o [ inl i ↦ inl (nil_left _ _ i) | inr i ↦ inr i ])
+            p (nil_left _ _ s) (λ m j. d m (or_left _ _ j)),
+        tt,
+        λ m. and_if (reaching (group_reaches g) (command_of ls h k c) m) false (λ i. refl),
+      )
+      once_list k (AndCommand c (AndCommand e es)) f o p s d =
+          let cs : CommandList = AndCommand e es in
+          let opened : open_faults c ≡ [] = elim o [ inl i ↦ nil_left _ _ i | inr i ↦ nil_left _ _ i.1 ] in
+          let first = nil_left _ _ f in
+          let rest = nil_right _ _ f in
+          let later = nil_right _ _ s in (
+            once_command k c first (inl opened) p (nil_left _ _ s)
+                (λ m j. d m (or_left _ _ j)),
+            once_list (k + command_sites h c) (AndCommand e es) rest
+                (elim o [ inl i ↦ inl (nil_right _ _ i) | inr i ↦ inr (i.0, nil_right _ _ i.1) ])
+                (past c p) later (λ m j. d m (or_right _ _ j)),
+            λ m. and_if (reaching (group_reaches g) (command_of ls h k c) m) (block_reaching (group_reaches g) (list_of ls h (k + command_sites h c) cs) m)
+                (λ i.
+                list_unreached (group_reaches g) m (k + command_sites h c) cs rest (past c p) (command_written (group_reaches g) k c first opened m p i) later
+                (λ j. d m (or_right _ _ j))),
+          )
+
+-- the same of states that are entered after a memory was written
+module _ (ls : Levels) (levels : List (List ℕ)) (le : ℕ → ℕ → Bool) (es : List Entity) (w : World) (match : AllMatch es w.entities) (m : ℕ) where
+  mutual
+    state_unreached : (k x : ℕ) (s : StateTree) → state_faults levels le (what_is es) s ≡ [] → (p : Written) → p (name_at es m) ≡ true → second_state s p ≡ []
+        → state_reaches (state_of ls es k x s) m ≡ false
+    state_unreached k x (StateOf place name kind body children) f p i s =
+        let h : Home = record { entities = es; kind = kind; children = children } in
+        let g : Group = group_of ls es (k + block_sites h body) (x + 1) children in
+        body_unreached ls levels h w match (group_reaches g) m k body
+        (body_fits levels (what_is es) le place name kind body children f)
+        p i (nil_left _ _ s)
+        (λ j. group_unreached (k + block_sites h body) (x + 1) children (nil_right _ _ f)
+        (entering_block body p) j (nil_right _ _ s))
+
+    pub group_unreached : (k x : ℕ) (g : StateList) → states_faults levels le (what_is es) g ≡ [] → (p : Written) → p (name_at es m) ≡ true
+        → second_states g p ≡ [] → group_reaches (group_of ls es k x g) m ≡ false
+    group_unreached k x NoState f p i s = refl
+    group_unreached k x (AndState t rest) f p i s =
+        or_false (state_reaches (state_of ls es k x t) m) (group_reaches (group_of ls es (k + state_sites es t) (x + states_in t) rest) m)
+        (state_unreached k x t (nil_left _ _ f) p i (nil_left _ _ s))
+        (group_unreached (k + state_sites es t) (x + states_in t) rest (nil_right _ _ f) p i (nil_right _ _ s))
