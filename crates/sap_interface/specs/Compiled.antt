@@ -1,0 +1,33 @@
+-- When a netlist stands for a design.
+use Rattle.std.specs.Prelude.{◌≡◌, ℕ, List, [], ◌∷◌, map}
+use Rattle.sap_maps.specs.Maps.{Valuation}
+use Rattle.sap_meaning.specs.Cycle.{Tagged}
+use Rattle.sap_meaning.specs.Store.{After}
+use Rattle.sap_meaning.specs.State.{StreamFits, labelled_run}
+use Rattle.sap_net.specs.Net.{Net}
+use Rattle.sap_net.specs.Runs.{AllFit, IsRun, observed}
+use Rattle.sap_interface.specs.StandsFor.{Named, world, StandsFor}
+use Rattle.sap_interface.specs.Interface.{HasInterface}
+
+-- what a module's ports are given in a cycle: each input's number, and the code of its level
+abbrev pub coded : (code : ℕ → ℕ) → List Tagged → List ℕ
+coded code [] = []
+coded code (t ∷ ts) = t.number ∷ code t.level ∷ coded code ts
+
+abbrev pub coded_stream : (code : ℕ → ℕ) → List (List Tagged) → List (List ℕ)
+coded_stream code stream = map (coded code) stream
+
+-- each cycle of a module stands for the same cycle of a labelled run
+abbrev pub CyclesStand : Named → (sites : ℕ) → List Valuation → List After → Type 0
+CyclesStand d sites [] [] = Unit {0}
+CyclesStand d sites [] (a ∷ rest) = ⊥
+CyclesStand d sites (v ∷ vs) [] = ⊥
+CyclesStand d sites (v ∷ vs) (a ∷ rest) = StandsFor d sites v a.store a.refused × CyclesStand d sites vs rest
+
+-- It has the interface; and on every stream that fits the design, its levels given as codes, what is seen of its run in each cycle stands for the
+-- same cycle of the labelled run. `tag` is the width of tags.
+pub record NetStandsFor (d : Named) (tag sites : ℕ) (n : Net) : Type 0 where
+  pub interface : HasInterface d tag sites n
+  pub takes : (stream : List (List Tagged)) → StreamFits (world d) stream → AllFit n.inputs (coded_stream d.code stream)
+  pub stands : (stream : List (List Tagged)) → StreamFits (world d) stream
+      → (vs : List Valuation) → IsRun n (coded_stream d.code stream) vs → CyclesStand d sites (map (observed n) vs) (labelled_run d.program stream)

@@ -1,0 +1,23 @@
+-- The module of a design.
+use Rattle.std.specs.Prelude.{ℕ, map}
+use Rattle.sap_tree.specs.Syntax.{DesignTree}
+use Rattle.sap_lattice.specs.Levels.{Levels, order_of}
+use Rattle.sap_lattice.specs.Codes.{code_of, width_of}
+use Rattle.sap_names.specs.Entities.{entities_of}
+use Rattle.sap_resolve.specs.Sites.{group_sites}
+use Rattle.sap_resolve.specs.Fill.{program_of}
+use Rattle.sap_net.specs.Net.{Net}
+use Rattle.sap_interface.specs.StandsFor.{Named}
+use Rattle.sap_interface.specs.Compiled.{NetStandsFor}
+
+-- the program of a design over the levels of a lattice, with the names of its entities and the codes of its levels
+abbrev pub named_of : Levels → DesignTree → Named
+named_of ls d = record { program = program_of ls d; names = map (λ e. e.name.name) (entities_of d); code = code_of (order_of ls) }
+
+-- how many check sites a design has
+abbrev pub sites_of : DesignTree → ℕ
+sites_of d = group_sites (entities_of d) d.states
+
+-- the netlist stands for the design
+abbrev pub StandsForDesign : Levels → DesignTree → Net → Type 0
+StandsForDesign ls d n = NetStandsFor (named_of ls d) (width_of (order_of ls)) (sites_of d) n
