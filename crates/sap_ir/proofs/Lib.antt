@@ -1,0 +1,4 @@
+pub mod Declared
+pub mod Tested
+pub mod Passes
+pub mod Views

@@ -1,0 +1,6 @@
+//! Intermediate programs: assignments over names, each under a condition.
+#![tactic(auto)]
+
+pub mod calc;
+pub mod guarded;
+pub mod program;
