@@ -1,0 +1,17 @@
+pub mod Declared
+pub mod LookedUp
+pub mod Names
+pub mod Operands
+pub mod Edges
+pub mod Entities
+pub mod PrintedModule
+pub mod ReadBack
+pub mod SameNet
+pub mod Spaced
+pub mod Stages
+pub mod Spelled
+pub mod SwappingRules
+pub mod Texts
+pub mod Whole
+pub mod WholeText
+pub mod Written

@@ -1,0 +1,172 @@
+-- Pieces that don't run into one another are read as the tokens that they stand for.
+use Rattle.std.proofs.Common.{◌≡◌, ◌+◌, ℕ, List, [], ◌∷◌, ◌++◌, length, drop, Bool, true, false, eqb, refl, sym, subst}
+use Rattle.std.proofs.lemmas.Grind.{common_steps}
+use Rattle.std.proofs.Common.{arith}
+use Rattle.std.specs.Prelude.{slice_index, ◌||◌, ◌&&◌, decimal}
+use Rattle.sap_net.specs.Names.{is_inner}
+use Rattle.sap_modtext.specs.Items.{Operand, Constant, Right, Item, Port, Direction, File}
+use Rattle.sap_modtext.specs.Items as item
+use Rattle.sap_modtext.specs.Lexing.{word_text, sign_text, Lexed, end, blank_first, token_first}
+use Rattle.sap_modtext.specs.Tokens.{Word, Sign, Kind, Token}
+use Rattle.sap_modtext.specs.Tokens as t
+use Rattle.sap_vprint.specs.Text.{Piece, space, line, zero, one, word, sign, name, number, operand, operand_text, piece_text, text_of}
+use Rattle.sap_vprint.proofs.Spelled.{clings, IsSpelled, piece_spelled}
+
+abbrev pub is_blank : Piece → Bool
+is_blank space = true
+is_blank line = true
+is_blank _ = false
+
+-- it ends a name or a number
+abbrev pub ends_run : Piece → Bool
+ends_run (sign s) = true
+ends_run q = is_blank q
+
+-- the second may stand right behind the first
+abbrev pub may_follow : Piece → Piece → Bool
+may_follow (sign t.Is) q = is_blank q
+may_follow (sign t.Less) q = is_blank q
+may_follow (sign s) q = true
+may_follow space q = true
+may_follow line q = true
+may_follow p q = ends_run q
+
+abbrev pub follows : Piece → List Piece → Bool
+follows p [] = true
+follows p (q ∷ qs) = may_follow p q
+
+abbrev pub is_spaced : List Piece → Bool
+is_spaced [] = true
+is_spaced (p ∷ ps) = follows p ps && is_spaced ps
+
+abbrev pub AreSpelled : List Piece → Type 0
+AreSpelled [] = Unit {0}
+AreSpelled (name n ∷ ps) = IsSpelled (name n) × AreSpelled ps
+AreSpelled (number n ∷ ps) = IsSpelled (number n) × AreSpelled ps
+AreSpelled (operand x ∷ ps) = IsSpelled (operand x) × AreSpelled ps
+AreSpelled (p ∷ ps) = AreSpelled ps
+
+abbrev pub kind_of_operand : Operand → Kind
+kind_of_operand (item.named x) = t.name x.name
+kind_of_operand (item.constant c) = t.constant c.width c.value
+
+abbrev at_place : ℕ → Kind → Token
+at_place place kind = record { place = place; kind = kind }
+
+-- the tokens of pieces that begin at a place
+abbrev pub tokens_at : ℕ → List Piece → List Token
+tokens_at from [] = []
+tokens_at from (space ∷ ps) = tokens_at (from + 1) ps
+tokens_at from (line ∷ ps) = tokens_at (from + 1) ps
+tokens_at from (zero ∷ ps) = at_place from (t.number 0 1) ∷ tokens_at (from + 1) ps
+tokens_at from (one ∷ ps) = at_place from (t.number 1 1) ∷ tokens_at (from + 1) ps
+tokens_at from (word w ∷ ps) = at_place from (t.word w) ∷ tokens_at (from + length (word_text w)) ps
+tokens_at from (sign s ∷ ps) = at_place from (t.sign s) ∷ tokens_at (from + length (sign_text s)) ps
+tokens_at from (name n ∷ ps) = at_place from (t.name n) ∷ tokens_at (from + length n) ps
+tokens_at from (number n ∷ ps) = at_place from (t.number n (length (decimal n))) ∷ tokens_at (from + length (decimal n)) ps
+tokens_at from (operand x ∷ ps) = at_place from (kind_of_operand x) ∷ tokens_at (from + length (operand_text x)) ps
+
+-- no piece joins what may follow it
+behind_sign : (s : Sign) (rest : List ℕ) → (is_inner (slice_index (sign_text s ++ rest) 0) || eqb (slice_index (sign_text s ++ rest) 0) 39) ≡ false
+behind_sign t.OpenParen rest = refl
+behind_sign _ rest = refl
+
+behind_run : (q : Piece) (rest : List ℕ) → ends_run q ≡ true → (is_inner (slice_index (piece_text q ++ rest) 0) || eqb (slice_index (piece_text q ++ rest) 0) 39) ≡ false
+behind_run space rest h = refl
+behind_run line rest h = refl
+behind_run (sign s) rest h = behind_sign s rest
+behind_run zero rest h = absurd (cc)
+behind_run one rest h = absurd (cc)
+behind_run (word w) rest h = absurd (cc)
+behind_run (name n) rest h = absurd (cc)
+behind_run (number n) rest h = absurd (cc)
+behind_run (operand x) rest h = absurd (cc)
+
+behind_open : (s : Sign) (q : Piece) (rest : List ℕ) → is_blank q ≡ true → clings (sign s) (slice_index (piece_text q ++ rest) 0) ≡ false
+behind_open s space rest h = blank_byte s where
+  blank_byte : (s : Sign) → clings (sign s) 32 ≡ false
+  blank_byte t.Is = refl
+  blank_byte _ = refl
+behind_open s line rest h = line_byte s where
+  line_byte : (s : Sign) → clings (sign s) 10 ≡ false
+  line_byte t.Is = refl
+  line_byte _ = refl
+behind_open s zero rest h = absurd (cc)
+behind_open s one rest h = absurd (cc)
+behind_open s (sign u) rest h = absurd (cc)
+behind_open s (word w) rest h = absurd (cc)
+behind_open s (name n) rest h = absurd (cc)
+behind_open s (number n) rest h = absurd (cc)
+behind_open s (operand x) rest h = absurd (cc)
+
+sign_apart : (s : Sign) (q : Piece) (rest : List ℕ) → may_follow (sign s) q ≡ true → clings (sign s) (slice_index (piece_text q ++ rest) 0) ≡ false
+sign_apart t.Is q rest h = behind_open t.Is q rest h
+sign_apart t.Less q rest h = behind_open t.Less q rest h
+sign_apart _ q rest h = refl
+
+apart : (p q : Piece) (rest : List ℕ) → may_follow p q ≡ true → clings p (slice_index (piece_text q ++ rest) 0) ≡ false
+apart (sign s) q rest h = sign_apart s q rest h
+apart space q rest h = refl
+apart line q rest h = refl
+apart zero q rest h = behind_run q rest h
+apart _ q rest h = behind_run q rest h
+
+behind : (p : Piece) (qs : List Piece) → follows p qs ≡ true → clings p (slice_index (text_of qs) 0) ≡ false
+behind p [] h = at_end p where
+  at_end : (p : Piece) → clings p 0 ≡ false
+  at_end (sign t.Is) = refl
+  at_end (sign t.Less) = refl
+  at_end (sign s) = refl
+  at_end _ = refl
+behind p (q ∷ qs) h = apart p q (text_of qs) h
+
+cut : (a b : List ℕ) → drop (length a) (a ++ b) ≡ b
+cut a b = grind (arith, common_steps)
+
+both_true : (a b : Bool) → (a && b) ≡ true → (a ≡ true) × (b ≡ true)
+both_true true b h = (refl, h)
+both_true false b h = absurd (cc)
+
+-- what is left behind a piece
+lexed_behind : (p : Piece) (qs : List Piece) (from : ℕ) (ts : List Token) → Lexed (from + length (piece_text p)) (text_of qs) ts
+    → Lexed (from + length (piece_text p)) (drop (length (piece_text p)) (piece_text p ++ text_of qs)) ts
+lexed_behind p qs from ts h = subst (λ bs. Lexed (from + length (piece_text p)) bs ts) (sym (cut (piece_text p) (text_of qs))) h
+
+pub pieces_lexed : (ps : List Piece) (from : ℕ) → AreSpelled ps → is_spaced ps ≡ true → Lexed from (text_of ps) (tokens_at from ps)
+pieces_lexed [] from h sp = end
+pieces_lexed (space ∷ ps) from h sp =
+    let w = both_true (follows space ps) (is_spaced ps) sp in
+    blank_first 1 (piece_spelled space (text_of ps) tt (behind space ps w.0)) (pieces_lexed ps (from + 1) h w.1)
+pieces_lexed (line ∷ ps) from h sp =
+    let w = both_true (follows line ps) (is_spaced ps) sp in
+    blank_first 1 (piece_spelled line (text_of ps) tt (behind line ps w.0)) (pieces_lexed ps (from + 1) h w.1)
+pieces_lexed (zero ∷ ps) from h sp =
+    let w = both_true (follows zero ps) (is_spaced ps) sp in
+    token_first (t.number 0 1) 1 (piece_spelled zero (text_of ps) tt (behind zero ps w.0)) (pieces_lexed ps (from + 1) h w.1)
+pieces_lexed (one ∷ ps) from h sp =
+    let w = both_true (follows one ps) (is_spaced ps) sp in
+    token_first (t.number 1 1) 1 (piece_spelled one (text_of ps) tt (behind one ps w.0)) (pieces_lexed ps (from + 1) h w.1)
+pieces_lexed (word w ∷ ps) from h sp =
+    let v = both_true (follows (word w) ps) (is_spaced ps) sp in
+    let p = word w in
+    token_first (t.word w) (length (piece_text p)) (piece_spelled p (text_of ps) tt (behind p ps v.0)) (lexed_behind p ps from _ (pieces_lexed ps (from + length (piece_text p)) h v.1))
+pieces_lexed (sign s ∷ ps) from h sp =
+    let v = both_true (follows (sign s) ps) (is_spaced ps) sp in
+    let p = sign s in
+    token_first (t.sign s) (length (piece_text p)) (piece_spelled p (text_of ps) tt (behind p ps v.0)) (lexed_behind p ps from _ (pieces_lexed ps (from + length (piece_text p)) h v.1))
+pieces_lexed (name n ∷ ps) from h sp =
+    let v = both_true (follows (name n) ps) (is_spaced ps) sp in
+    let p = name n in
+    token_first (t.name n) (length (piece_text p)) (piece_spelled p (text_of ps) h.0 (behind p ps v.0)) (lexed_behind p ps from _ (pieces_lexed ps (from + length (piece_text p)) h.1 v.1))
+pieces_lexed (number n ∷ ps) from h sp =
+    let v = both_true (follows (number n) ps) (is_spaced ps) sp in
+    let p = number n in
+    token_first (t.number n (length (decimal n))) (length (piece_text p)) (piece_spelled p (text_of ps) h.0 (behind p ps v.0)) (lexed_behind p ps from _ (pieces_lexed ps (from + length (piece_text p)) h.1 v.1))
+pieces_lexed (operand (item.named x) ∷ ps) from h sp =
+    let p = operand (item.named x) in
+    let v = both_true (follows p ps) (is_spaced ps) sp in
+    token_first (t.name x.name) (length (piece_text p)) (piece_spelled p (text_of ps) h.0 (behind p ps v.0)) (lexed_behind p ps from _ (pieces_lexed ps (from + length (piece_text p)) h.1 v.1))
+pieces_lexed (operand (item.constant c) ∷ ps) from h sp =
+    let p = operand (item.constant c) in
+    let v = both_true (follows p ps) (is_spaced ps) sp in
+    token_first (t.constant c.width c.value) (length (piece_text p)) (piece_spelled p (text_of ps) h.0 (behind p ps v.0)) (lexed_behind p ps from _ (pieces_lexed ps (from + length (piece_text p)) h.1 v.1))

@@ -1,0 +1,346 @@
+-- The printed file is good.
+use Rattle.std.proofs.Common.{◌≡◌, ℕ, ◌-◌, ◌^◌, ◌≤◌, arith, List, [], ◌∷◌, ◌++◌, Bool, true, false, Option, Some, None, refl, sym, ap, ◌∙◌, subst, inl, inr, ⊎_elim, append_assoc}
+use Rattle.std.specs.Prelude.{◌⊎◌, ◌||◌, map, flat_map}
+use Rattle.std.specs.List.{AllByRecursion}
+use Rattle.std.specs.Str.{bytes_eq}
+use Rattle.std.proofs.lemmas.Bool.{cases_Bool}
+use Rattle.sap_maps.specs.Maps.{Name}
+use Rattle.sap_maps.specs.Scope.{find}
+use Rattle.sap_maps.proofs.Scopes.{name_is}
+use Rattle.sap_net.specs.declared.parts.Port.{Port}
+use Rattle.sap_net.specs.declared.parts.Input.{Input}
+use Rattle.sap_net.specs.declared.parts.Register.{Register}
+use Rattle.sap_net.specs.declared.parts.Memory.{Memory}
+use Rattle.sap_net.specs.Names.{is_among, AreDistinct}
+use Rattle.sap_net.specs.Net.{Net}
+use Rattle.sap_net.specs.Rules.{IsWidth, IsRegister, IsMemory}
+use Rattle.sap_net.specs.IsNetlist.{IsNetlist, PortShows, register_names, wire_names, memory_names, first_readable, readable, shapes}
+use Rattle.sap_modtext.specs.Items as item
+use Rattle.sap_modtext.specs.Faults.{Shape, input, wire, register, memory, port_shape, declarations, item_declarations, shape_in, Setting, assign, initial, always, target_of, is_target, is_set, has_integer, value_width, needs, Among}
+use Rattle.sap_modtext.proofs.Good.{above_of, AreGood, IsSet, IsGood}
+use Rattle.sap_modtext.proofs.NameLists.{found_all, or_here, among_name, flat_map_append, not_among, all_from}
+use Rattle.sap_vprint.specs.Printed.{entities, width_or_0, direction_of, printed_port, declarations_of, integer_of, assign_of, initial_of, initial_cells_of, always_of, always_cell_of, items_of, file_of}
+use Rattle.sap_vprint.proofs.Entities.{IsShape, names_apart, entities_fit}
+use Rattle.sap_vprint.proofs.Declared.{declare, or_input, all_declared, shape_found, inner_names, inner_is, IsInner, register_found, wire_found, memory_found, wire_named, register_named, memory_named, port_found, width_of_port}
+use Rattle.sap_vprint.proofs.Operands.{Sees, same_power}
+use Rattle.sap_vprint.proofs.Stages.{append_nil, set_append, integer_append, eq_back, good_append, declares_nothing, ports, declarations_good, declarations_set, declarations_integer, integer_good, assigns_good, assigns_seen}
+use Rattle.sap_vprint.proofs.Edges.{or_left, IsQuiet, Stage, stage_more, AreRegisters, AreStores, initials_good, initial_cells_good, always_good, always_cells_good}
+
+-- what a list of items that are made alike sets
+module _ {A : Type 0} (s : Setting) (x : Name) (f : A → item.Item) where
+  pub sets_none : ((y : A) → is_target s x (target_of (f y)) ≡ false) → (ys : List A) → is_set s x (map f ys) ≡ false
+  sets_none e [] = refl
+  sets_none e (y ∷ ys) = ap (λ b. b || is_set s x (map f ys)) (e y) ∙ sets_none e ys
+
+  pub sets_named : (name : A → Name) → ((y : A) → is_target s x (target_of (f y)) ≡ bytes_eq (name y) x) → (ys : List A) → is_set s x (map f ys) ≡ is_among x (map name ys)
+  sets_named name e [] = refl
+  sets_named name e (y ∷ ys) =
+      ap (λ b. b || is_set s x (map f ys)) (e y ∙ eq_back (name y) x) ∙ ap (λ b. bytes_eq x (name y) || b) (sets_named name e ys)
+
+declares_none : {A : Type 0} (f : A → item.Item) → ((y : A) → item_declarations (f y) ≡ []) → (ys : List A) → flat_map item_declarations (map f ys) ≡ []
+declares_none f e [] = refl
+declares_none f e (y ∷ ys) = ap (λ z. z ++ flat_map item_declarations (map f ys)) (e y) ∙ declares_none f e ys
+
+integer_declares : (ms : List Memory) → flat_map item_declarations (integer_of ms) ≡ []
+integer_declares [] = refl
+integer_declares (m ∷ ms) = refl
+
+integer_set : (s : Setting) (x : Name) (ms : List Memory) → is_set s x (integer_of ms) ≡ false
+integer_set s x [] = refl
+integer_set s x (m ∷ ms) = refl
+
+none_both : (xs ys : List item.Item) → flat_map item_declarations xs ≡ [] → flat_map item_declarations ys ≡ [] → flat_map item_declarations (xs ++ ys) ≡ []
+none_both xs ys p q = flat_map_append item_declarations xs ys ∙ ap (λ z. z ++ flat_map item_declarations ys) p ∙ q
+
+all_alike : {A : Type 0} (P : A → Type 0) (xs : List A) → ((x : A) → Among x xs → P x) → AllByRecursion P xs
+all_alike P [] f = tt
+all_alike P (x ∷ xs) f = (f x (inl refl), all_alike P xs (λ y m. f y (inr m)))
+
+all_pairs : {A : Type 0} (P Q R : A → Type 0) (xs : List A) → AllByRecursion P xs → AllByRecursion Q xs → AllByRecursion R xs → AllByRecursion (λ x. P x × Q x × R x) xs
+all_pairs P Q R [] p q r = tt
+all_pairs P Q R (x ∷ xs) p q r = ((p.0, q.0, r.0), all_pairs P Q R xs p.1 q.1 r.1)
+
+not_both : (xs : List Name) (x : Name) → (is_among x xs ≡ true → ⊥) → is_among x xs ≡ false
+not_both xs x f = ⊎_elim (λ t. absurd (f t)) (λ e. e) (cases_Bool (is_among x xs))
+
+module _ (n : Net) (h : IsNetlist n) where
+  abbrev inner : List Name
+  inner = inner_names n h
+
+  abbrev declared : List item.Item
+  declared = declarations_of n inner
+
+  abbrev first_items : List item.Item
+  first_items = declared ++ integer_of n.memories
+
+  -- inputs and registers are found as such
+  inputs_first : (is : List Input) (rs : List Register) (es : List (Name × Shape)) (x : Name) (w : ℕ) → find (map (λ i. (i.name, i.width)) is ++ map (λ r. (r.name, r.width)) rs) x ≡ Some w
+      → (find (map (λ i. (i.name, input i.width)) is ++ (map (λ r. (r.name, register r.width)) rs ++ es)) x ≡ Some (input w))
+      ⊎ (find (map (λ i. (i.name, input i.width)) is ++ (map (λ r. (r.name, register r.width)) rs ++ es)) x ≡ Some (register w))
+  inputs_first [] [] es x w f = absurd (cc)
+  inputs_first [] (r ∷ rs) es x w f =
+      ⊎_elim
+      (λ t. let g : Some r.width ≡ Some w = rw t at f in inr (rw t (some_register r.width w g)))
+      (λ t. rw t (inputs_first [] rs es x w (rw t at f)))
+      (cases_Bool (bytes_eq r.name x)) where
+        some_register : (a b : ℕ) → Some a ≡ Some b → Some (register a) ≡ Some (register b)
+        some_register a b e = cc
+  inputs_first (i ∷ is) rs es x w f =
+      ⊎_elim
+      (λ t. let g : Some i.width ≡ Some w = rw t at f in inl (rw t (some_input i.width w g)))
+      (λ t. rw t (inputs_first is rs es x w (rw t at f)))
+      (cases_Bool (bytes_eq i.name x)) where
+        some_input : (a b : ℕ) → Some a ≡ Some b → Some (input a) ≡ Some (input b)
+        some_input a b e = cc
+
+  pub first_found : (x : Name) (w : ℕ) → find (first_readable n) x ≡ Some w → (b : Bool) → value_width (find (entities n) x) b ≡ Some w
+  first_found x w f b =
+      ⊎_elim
+      (λ e. ap (λ o. value_width o b) e)
+      (λ e. ap (λ o. value_width o b) e)
+      (inputs_first n.inputs n.registers (map (λ z. (z.name, wire z.width)) n.wires ++ map (λ z. (z.name, memory z.width z.depth)) n.memories) x w f)
+
+  -- memories are found as such
+  cell_found : (ms : List Memory) (x : Name) (w d : ℕ) → ◌≡◌ {A = Option (ℕ × ℕ)} (find {X = ℕ × ℕ} (map (λ m. (m.name, (m.width, m.depth))) ms) x) (Some (w, d))
+      → (m : Memory) × Among m ms × (m.name ≡ x) × (m.width ≡ w) × (m.depth ≡ d)
+  cell_found [] x w d f = absurd (cc)
+  cell_found (m ∷ ms) x w d f =
+      ⊎_elim
+      (λ t. let g : ◌≡◌ {A = Option (ℕ × ℕ)} (Some (m.width, m.depth)) (Some (w, d)) = rw t at f in (m, inl refl, name_is m.name x t, (some_pair m.width m.depth w d g).0, (some_pair m.width m.depth w d g).1))
+      (λ t. let r = cell_found ms x w d (rw t at f) in (r.0, inr r.1, r.2, r.3, r.4))
+      (cases_Bool (bytes_eq m.name x)) where
+        first_or : Option (ℕ × ℕ) → ℕ
+        first_or None = 0
+        first_or (Some p) = p.0
+
+        second_or : Option (ℕ × ℕ) → ℕ
+        second_or None = 0
+        second_or (Some p) = p.1
+
+        some_pair : (a b c e : ℕ) → ◌≡◌ {A = Option (ℕ × ℕ)} (Some (a, b)) (Some (c, e)) → (a ≡ c) × (b ≡ e)
+        some_pair a b c e q = (ap first_or q, ap second_or q)
+
+  pub cells_found : (x : Name) (w d : ℕ) → ◌≡◌ {A = Option (ℕ × ℕ)} (find (shapes n) x) (Some (w, d)) → find (entities n) x ≡ Some (memory w d)
+  cells_found x w d f =
+      let r = cell_found n.memories x w d f in
+      subst (λ z. find (entities n) z ≡ Some (memory w d)) r.2
+      (memory_found n h r.0 r.1 ∙ ap (λ z. Some (memory z r.0.depth)) r.3 ∙ ap (λ z. Some (memory w z)) r.4)
+
+  pub cells_deep : (x : Name) (w b : ℕ) → ◌≡◌ {A = Option (ℕ × ℕ)} (find (shapes n) x) (Some (w, 2 ^ b)) → IsWidth b
+  cells_deep x w b f =
+      let s = found_all IsShape (entities n) x (memory w (2 ^ b)) (entities_fit n h) (cells_found x w (2 ^ b) f) in
+      let d = s.1 in
+      let same = same_power b d.0 d.3 in
+      let low = d.1 in let top = d.2 in
+      (omega arith, omega arith)
+
+  -- behind the declarations all names are declared
+  declared_all : (xs : List item.Item) → flat_map item_declarations xs ≡ [] → declarations (ports n h) (declared ++ xs) ≡ map (declare n) n.names
+  declared_all xs e = declares_nothing (ports n h) declared xs e ∙ all_declared n h
+
+  -- what each list sets
+  declared_sets : (s : Setting) (x : Name) → is_set s x first_items ≡ false
+  declared_sets s x = set_append s x declared (integer_of n.memories) ∙ ap (λ b. b || is_set s x (integer_of n.memories)) (declarations_set n h s x inner) ∙ integer_set s x n.memories
+
+  first_seen : Sees n (above_of (ports n h) first_items) (first_readable n)
+  first_seen = record {
+    found = λ x. ap (λ ds. shape_in ds x) (declared_all (integer_of n.memories) (integer_declares n.memories)) ∙ shape_found n h x;
+    values = λ x w f. first_found x w f (is_set assign x first_items);
+    cells = cells_found;
+    deep = cells_deep;
+  }
+
+  pub wires_found : AllByRecursion (λ w. find (entities n) w.name ≡ Some (wire w.width)) n.wires
+  wires_found = all_alike (λ w. find (entities n) w.name ≡ Some (wire w.width)) n.wires (wire_found n h)
+
+  abbrev assigned_items : List item.Item
+  assigned_items = first_items ++ map assign_of n.wires
+
+  integer_there : (m : Memory) (ms : List Memory) → n.memories ≡ m ∷ ms → has_integer assigned_items ≡ true
+  integer_there m ms e =
+      integer_append first_items (map assign_of n.wires)
+      ∙ or_left (has_integer first_items) _
+      (integer_append declared (integer_of n.memories) ∙ or_here (has_integer declared) _ (ap (λ z. has_integer (integer_of z)) e))
+
+  assigned_stage : Stage n h assigned_items
+  assigned_stage = record { sees = assigns_seen n h n.wires (first_readable n) first_items first_seen wires_found; integer = integer_there }
+
+  stage_list : {A : Type 0} (f : A → item.Item) → ((x : A) → IsQuiet (f x)) → (xs : List A) (before : List item.Item) → Stage n h before → Stage n h (before ++ map f xs)
+  stage_list f q [] before g = subst (Stage n h) (sym (append_nil before)) g
+  stage_list f q (x ∷ xs) before g = subst (Stage n h) (append_assoc before (f x ∷ []) (map f xs)) (stage_list f q xs (before ++ (f x ∷ [])) (stage_more n h before (f x) (q x) g))
+
+  abbrev started_items : List item.Item
+  started_items = assigned_items ++ map initial_of n.registers
+
+  abbrev filled_items : List item.Item
+  filled_items = started_items ++ map initial_cells_of n.memories
+
+  abbrev stepped_items : List item.Item
+  stepped_items = filled_items ++ map always_of n.registers
+
+  started_stage : Stage n h started_items
+  started_stage = stage_list initial_of (λ r. record { declares = refl; assigns = λ x. refl }) n.registers assigned_items assigned_stage
+
+  filled_stage : Stage n h filled_items
+  filled_stage = stage_list initial_cells_of (λ r. record { declares = refl; assigns = λ x. refl }) n.memories started_items started_stage
+
+  stepped_stage : Stage n h stepped_items
+  stepped_stage = stage_list always_of (λ r. record { declares = refl; assigns = λ x. refl }) n.registers filled_items filled_stage
+
+  -- what is set at each stage
+  assigned_initial : (x : Name) → is_set initial x assigned_items ≡ false
+  assigned_initial x = set_append initial x first_items (map assign_of n.wires) ∙ ap (λ b. b || is_set initial x (map assign_of n.wires)) (declared_sets initial x) ∙ sets_none initial x assign_of (λ y. refl) n.wires
+
+  started_initial : (x : Name) → is_set initial x started_items ≡ is_among x (register_names n)
+  started_initial x =
+      set_append initial x assigned_items (map initial_of n.registers) ∙ ap (λ b. b || is_set initial x (map initial_of n.registers)) (assigned_initial x)
+      ∙ sets_named initial x initial_of (λ r. r.name) (λ y. refl) n.registers
+
+  filled_always : (x : Name) → is_set always x filled_items ≡ false
+  filled_always x =
+      set_append always x started_items (map initial_cells_of n.memories)
+      ∙ ap (λ b. b || is_set always x (map initial_cells_of n.memories))
+      (set_append always x assigned_items (map initial_of n.registers)
+      ∙ ap (λ b. b || is_set always x (map initial_of n.registers))
+      (set_append always x first_items (map assign_of n.wires) ∙ ap (λ b. b || is_set always x (map assign_of n.wires)) (declared_sets always x) ∙ sets_none always x assign_of (λ y. refl) n.wires)
+      ∙ sets_none always x initial_of (λ y. refl) n.registers)
+      ∙ sets_none always x initial_cells_of (λ y. refl) n.memories
+
+  stepped_always : (x : Name) → is_set always x stepped_items ≡ is_among x (register_names n)
+  stepped_always x =
+      set_append always x filled_items (map always_of n.registers) ∙ ap (λ b. b || is_set always x (map always_of n.registers)) (filled_always x)
+      ∙ sets_named always x always_of (λ r. r.name) (λ y. refl) n.registers
+
+  pub no_register : (m : Memory) → Among m n.memories → is_among m.name (register_names n) ≡ false
+  no_register m a = not_both (register_names n) m.name (λ t. not_among (register_names n) (memory_names n) m.name (names_apart n h).registers_memories (among_name (λ (z : Memory). z.name) m n.memories a) t)
+
+  pub registers_are : AreRegisters n h n.registers
+  registers_are =
+      all_pairs (λ r. find (entities n) r.name ≡ Some (register r.width)) (λ r. IsWidth r.width) (IsRegister (readable n)) n.registers
+      (all_alike (λ r. find (entities n) r.name ≡ Some (register r.width)) n.registers (register_found n h))
+      (all_alike (λ r. IsWidth r.width) n.registers (λ r m. found_all IsShape (entities n) r.name (register r.width) (entities_fit n h) (register_found n h r m)))
+      h.nexts
+
+  pub stores_are : AreStores n h n.memories
+  stores_are =
+      all_pairs (λ m. find (entities n) m.name ≡ Some (memory m.width m.depth)) (λ m. IsWidth m.width) (IsMemory (readable n)) n.memories
+      (all_alike (λ m. find (entities n) m.name ≡ Some (memory m.width m.depth)) n.memories (memory_found n h))
+      (all_alike (λ m. IsWidth m.width) n.memories (λ m a. (found_all IsShape (entities n) m.name (memory m.width m.depth) (entities_fit n h) (memory_found n h m a)).0))
+      h.writes
+
+  pub inner_all : AllByRecursion (IsInner n h) inner
+  inner_all = all_from (IsInner n h) inner inner (inner_is n h) (λ x m. m)
+
+  items_good : AreGood (ports n h) [] (items_of n)
+  items_good =
+      let apart = names_apart n h in
+      good_append (ports n h) [] declared _ (declarations_good n h inner [] inner_all)
+      (good_append (ports n h) declared (integer_of n.memories) _ (integer_good n h n.memories declared (declarations_integer n h inner))
+      (good_append (ports n h) first_items (map assign_of n.wires) _ (assigns_good n h n.wires (first_readable n) first_items first_seen (λ x f. declared_sets assign x) h.assigns wires_found)
+      (good_append (ports n h) assigned_items (map initial_of n.registers) _
+      (initials_good n h n.registers assigned_items assigned_stage (all_alike (λ r. is_set initial r.name assigned_items ≡ false) n.registers (λ r m. assigned_initial r.name)) apart.registers registers_are)
+      (good_append (ports n h) started_items (map initial_cells_of n.memories) _
+      (initial_cells_good n h n.memories [] started_items refl started_stage
+      (all_alike (λ m. is_set initial m.name started_items ≡ false) n.memories (λ m a. started_initial m.name ∙ no_register m a)) apart.memories stores_are)
+      (good_append (ports n h) filled_items (map always_of n.registers) _
+      (always_good n h n.registers filled_items filled_stage (all_alike (λ r. is_set always r.name filled_items ≡ false) n.registers (λ r m. filled_always r.name)) apart.registers registers_are)
+      (always_cells_good n h n.memories stepped_items stepped_stage
+      (all_alike (λ m. is_set always m.name stepped_items ≡ false) n.memories (λ m a. stepped_always m.name ∙ no_register m a)) apart.memories stores_are))))))
+
+  -- everything is set
+  whole_set : (s : Setting) (x : Name) → is_set s x (items_of n)
+      ≡ (is_set s x declared || (is_set s x (integer_of n.memories) || (is_set s x (map assign_of n.wires) || (is_set s x (map initial_of n.registers)
+      || (is_set s x (map initial_cells_of n.memories) || (is_set s x (map always_of n.registers) || is_set s x (map always_cell_of n.memories)))))))
+  whole_set s x =
+      set_append s x declared _ ∙ ap (λ b. is_set s x declared || b) (set_append s x (integer_of n.memories) _ ∙ ap (λ b. is_set s x (integer_of n.memories) || b)
+      (set_append s x (map assign_of n.wires) _ ∙ ap (λ b. is_set s x (map assign_of n.wires) || b) (set_append s x (map initial_of n.registers) _ ∙ ap (λ b. is_set s x (map initial_of n.registers) || b)
+      (set_append s x (map initial_cells_of n.memories) _ ∙ ap (λ b. is_set s x (map initial_cells_of n.memories) || b) (set_append s x (map always_of n.registers) (map always_cell_of n.memories))))))
+
+  -- the later of two tests
+  later : (a b : Bool) → b ≡ true → (a || b) ≡ true
+  later a b e = or_here a b e
+
+  assigns_set : (x : Name) → is_among x (wire_names n) ≡ true → is_set assign x (items_of n) ≡ true
+  assigns_set x m =
+      whole_set assign x ∙ later (is_set assign x declared) _ (later (is_set assign x (integer_of n.memories)) _
+      (or_left (is_set assign x (map assign_of n.wires)) _ (sets_named assign x assign_of (λ w. w.name) (λ y. refl) n.wires ∙ m)))
+
+  register_started : (x : Name) → is_among x (register_names n) ≡ true → is_set initial x (items_of n) ≡ true
+  register_started x m =
+      whole_set initial x ∙ later (is_set initial x declared) _ (later (is_set initial x (integer_of n.memories)) _ (later (is_set initial x (map assign_of n.wires)) _
+      (or_left (is_set initial x (map initial_of n.registers)) _ (sets_named initial x initial_of (λ r. r.name) (λ y. refl) n.registers ∙ m))))
+
+  memory_started : (x : Name) → is_among x (memory_names n) ≡ true → is_set initial x (items_of n) ≡ true
+  memory_started x m =
+      whole_set initial x ∙ later (is_set initial x declared) _ (later (is_set initial x (integer_of n.memories)) _ (later (is_set initial x (map assign_of n.wires)) _
+      (later (is_set initial x (map initial_of n.registers)) _ (or_left (is_set initial x (map initial_cells_of n.memories)) _ (sets_named initial x initial_cells_of (λ r. r.name) (λ y. refl) n.memories ∙ m)))))
+
+  register_stepped : (x : Name) → is_among x (register_names n) ≡ true → is_set always x (items_of n) ≡ true
+  register_stepped x m =
+      whole_set always x ∙ later (is_set always x declared) _ (later (is_set always x (integer_of n.memories)) _ (later (is_set always x (map assign_of n.wires)) _
+      (later (is_set always x (map initial_of n.registers)) _ (later (is_set always x (map initial_cells_of n.memories)) _
+      (or_left (is_set always x (map always_of n.registers)) _ (sets_named always x always_of (λ r. r.name) (λ y. refl) n.registers ∙ m))))))
+
+  memory_stepped : (x : Name) → is_among x (memory_names n) ≡ true → is_set always x (items_of n) ≡ true
+  memory_stepped x m =
+      whole_set always x ∙ later (is_set always x declared) _ (later (is_set always x (integer_of n.memories)) _ (later (is_set always x (map assign_of n.wires)) _
+      (later (is_set always x (map initial_of n.registers)) _ (later (is_set always x (map initial_cells_of n.memories)) _
+      (later (is_set always x (map always_of n.registers)) _ (sets_named always x always_cell_of (λ r. r.name) (λ y. refl) n.memories ∙ m))))))
+
+  shape_set : (x : Name) (o : Option Shape) → find (entities n) x ≡ o → (s : Setting) → needs (or_input o) s ≡ true → is_set s x (items_of n) ≡ true
+  shape_set x None f s e = absurd (cc)
+  shape_set x (Some (input w)) f s e = absurd (cc)
+  shape_set x (Some (wire w)) f assign e = assigns_set x (wire_named n h x w f)
+  shape_set x (Some (wire w)) f initial e = absurd (cc)
+  shape_set x (Some (wire w)) f always e = absurd (cc)
+  shape_set x (Some (register w)) f assign e = absurd (cc)
+  shape_set x (Some (register w)) f initial e = register_started x (register_named n h x w f)
+  shape_set x (Some (register w)) f always e = register_stepped x (register_named n h x w f)
+  shape_set x (Some (memory w d)) f assign e = absurd (cc)
+  shape_set x (Some (memory w d)) f initial e = memory_started x (memory_named n h x w d f)
+  shape_set x (Some (memory w d)) f always e = memory_stepped x (memory_named n h x w d f)
+
+  names_set : (xs : List Name) → AllByRecursion (IsSet (items_of n)) (map (declare n) xs)
+  names_set [] = tt
+  names_set (x ∷ xs) = (λ s e. shape_set x (find (entities n) x) refl s e, names_set xs)
+
+  others_declare : flat_map item_declarations
+      (integer_of n.memories ++ (map assign_of n.wires ++ (map initial_of n.registers ++ (map initial_cells_of n.memories ++ (map always_of n.registers ++ map always_cell_of n.memories))))) ≡ []
+  others_declare =
+      none_both (integer_of n.memories) _ (integer_declares n.memories)
+      (none_both (map assign_of n.wires) _ (declares_none assign_of (λ y. refl) n.wires)
+      (none_both (map initial_of n.registers) _ (declares_none initial_of (λ y. refl) n.registers)
+      (none_both (map initial_cells_of n.memories) _ (declares_none initial_cells_of (λ y. refl) n.memories)
+      (none_both (map always_of n.registers) (map always_cell_of n.memories) (declares_none always_of (λ y. refl) n.registers) (declares_none always_cell_of (λ y. refl) n.memories)))))
+
+  pub whole_declared : declarations (ports n h) (items_of n) ≡ map (declare n) n.names
+  whole_declared = declared_all _ others_declare
+
+  declared_names : (xs : List Name) → map (λ d. d.name.name) (map (declare n) xs) ≡ xs
+  declared_names [] = refl
+  declared_names (x ∷ xs) = ap (λ z. x ∷ z) (declared_names xs)
+
+  pub port_small : (p : Port) → PortShows n p.kind p.name → width_or_0 (find (entities n) p.name) - 1 ≤ 63
+  port_small p m =
+      let f = port_found n h p.kind p.name m in
+      let shape = port_shape (direction_of p.kind) f.0 in
+      let fits = found_all IsShape (entities n) p.name shape (entities_fit n h) f.1 in
+      let e : width_or_0 (find (entities n) p.name) ≡ f.0 = ap width_or_0 f.1 ∙ width_of_port n h p.kind f.0 in
+      let top = port_top (direction_of p.kind) f.0 fits in
+      omega arith where
+        port_top : (d : item.Direction) (w : ℕ) → IsShape (port_shape d w) → w ≤ 64
+        port_top item.input w g = g.1
+        port_top item.output_register w g = g.1
+        port_top item.output_wire w g = g.1
+
+  ports_small : (ps : List Port) → AllByRecursion (λ p. PortShows n p.kind p.name) ps → AllByRecursion (λ p. p.range.value ≤ 63) (map (printed_port n) ps)
+  ports_small [] m = tt
+  ports_small (p ∷ ps) m = (port_small p m.0, ports_small ps m.1)
+
+  pub printed_good : IsGood (file_of n)
+  printed_good = record {
+    names = subst (λ ds. AreDistinct (map (λ d. d.name.name) ds)) (sym whole_declared) (subst AreDistinct (sym (declared_names n.names)) h.declared_once);
+    ports = ports_small n.ports h.ports_show;
+    items = items_good;
+    set = subst (AllByRecursion (IsSet (items_of n))) (sym whole_declared) (names_set n.names);
+  }

@@ -1,0 +1,8 @@
+use Rattle.std.proofs.Common.{◌≡◌, ◌++◌, take}
+use Rattle.std.specs.Prelude.{flat_map}
+use Rattle.sap_vprint.specs.Printed.{always_of}
+use Rattle.sap_vprint.specs.Text.{item_text}
+use Rattle.sap_vprint.proofs.lines.steps.Given as goal
+
+abbrev pub invariant-loop-register : goal.invariant-loop-register
+invariant-loop-register l = l.out.items ≡ l.initial.out.items ++ flat_map (λ r. item_text (always_of r)) (take l.register-index l.registers)

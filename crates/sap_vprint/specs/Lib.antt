@@ -1,0 +1,5 @@
+pub mod Lookup
+pub mod Parts
+pub mod Printed
+pub mod Swapping
+pub mod Text

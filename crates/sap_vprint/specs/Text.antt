@@ -1,0 +1,140 @@
+-- How a module is laid out: one port a line, one item a line.
+use Rattle.std.specs.Prelude.{ℕ, List, [], ◌∷◌, ◌++◌, codes, decimal, flat_map}
+use Rattle.sap_bits.specs.declared.Op1.{Op1}
+use Rattle.sap_bits.specs.declared.Op2.{Op2}
+use Rattle.sap_modtext.specs.Grammar.{unary_sign, binary_sign}
+use Rattle.sap_modtext.specs.Items.{Mention, Number, Constant, Operand, Right, Direction, Port, Item, File}
+use Rattle.sap_modtext.specs.Items as item
+use Rattle.sap_modtext.specs.Lexing.{word_text, sign_text}
+use Rattle.sap_modtext.specs.Tokens.{Word, Sign}
+use Rattle.sap_modtext.specs.Tokens as t
+
+-- a piece of the text: a token, a space, or the end of a line; the numbers 0 and 1 where the grammar asks for them are pieces of their own
+pub data Piece : Type 0 where
+  space line : Piece
+  zero one : Piece
+  word : Word → Piece
+  sign : Sign → Piece
+  name : List ℕ → Piece
+  number : ℕ → Piece
+  operand : Operand → Piece
+
+abbrev pub operand_text : Operand → List ℕ
+operand_text (item.named x) = x.name
+operand_text (item.constant c) = decimal c.width ++ (codes "'d" ++ decimal c.value)
+
+abbrev pub piece_text : Piece → List ℕ
+piece_text space = 32 ∷ []
+piece_text line = 10 ∷ []
+piece_text zero = codes "0"
+piece_text one = codes "1"
+piece_text (word w) = word_text w
+piece_text (sign s) = sign_text s
+piece_text (name n) = n
+piece_text (number n) = decimal n
+piece_text (operand x) = operand_text x
+
+abbrev pub text_of : List Piece → List ℕ
+text_of ps = flat_map piece_text ps
+
+-- `[n:0] `
+abbrev pub range_pieces : ℕ → List Piece
+range_pieces n = sign t.OpenBracket ∷ number n ∷ sign t.Colon ∷ zero ∷ sign t.CloseBracket ∷ space ∷ []
+
+abbrev pub unary_text : Op1 → List ℕ
+unary_text op = sign_text (unary_sign op)
+
+-- with a space on each side
+abbrev pub binary_text : Op2 → List ℕ
+binary_text op = 32 ∷ (sign_text (binary_sign op) ++ (32 ∷ []))
+
+abbrev pub part_pieces : Operand → List Piece
+part_pieces x = sign t.Comma ∷ space ∷ operand x ∷ []
+
+-- the parts of a `{}`, with commas between them
+abbrev pub parts_pieces : List Operand → List Piece
+parts_pieces [] = []
+parts_pieces (x ∷ xs) = operand x ∷ flat_map part_pieces xs
+
+abbrev pub right_pieces : Right → List Piece
+right_pieces (item.copy x) = operand x ∷ []
+right_pieces (item.one op x) = sign (unary_sign op) ∷ operand x ∷ []
+right_pieces (item.two op x y) = operand x ∷ space ∷ sign (binary_sign op) ∷ space ∷ operand y ∷ []
+right_pieces (item.choose c x y) = operand c ∷ space ∷ sign t.Question ∷ space ∷ operand x ∷ space ∷ sign t.Colon ∷ space ∷ operand y ∷ []
+right_pieces (item.concat xs) = sign t.OpenBrace ∷ (parts_pieces xs ++ (sign t.CloseBrace ∷ []))
+right_pieces (item.slice x high low) = name x.name ∷ sign t.OpenBracket ∷ number high ∷ sign t.Colon ∷ number low ∷ sign t.CloseBracket ∷ []
+right_pieces (item.cell m index) = name m.name ∷ sign t.OpenBracket ∷ operand index ∷ sign t.CloseBracket ∷ []
+
+-- `always @(posedge clk) `
+abbrev pub clocked_pieces : List Piece
+clocked_pieces =
+    word t.Always ∷ space ∷ sign t.At ∷ sign t.OpenParen ∷ word t.Posedge ∷ space ∷ word t.Clk ∷ sign t.CloseParen ∷ space ∷ []
+
+-- `for (i = 0; i < n; i = i + 1) `
+abbrev pub loop_pieces : ℕ → List Piece
+loop_pieces n =
+    word t.For ∷ space ∷ sign t.OpenParen ∷ word t.I ∷ space ∷ sign t.Is ∷ space ∷ zero ∷ sign t.Semicolon
+    ∷ space ∷ word t.I ∷ space ∷ sign t.Less ∷ space ∷ number n ∷ sign t.Semicolon
+    ∷ space ∷ word t.I ∷ space ∷ sign t.Is ∷ space ∷ word t.I ∷ space ∷ sign t.Plus ∷ space ∷ one ∷ sign t.CloseParen ∷ space ∷ []
+
+abbrev pub end_of_item : List Piece
+end_of_item = sign t.Semicolon ∷ line ∷ []
+
+abbrev pub item_pieces : Item → List Piece
+item_pieces (item.wire n x) = word t.Wire ∷ space ∷ (range_pieces n.value ++ (name x.name ∷ end_of_item))
+item_pieces (item.register n x) = word t.Reg ∷ space ∷ (range_pieces n.value ++ (name x.name ∷ end_of_item))
+item_pieces (item.memory n x last) =
+    word t.Reg ∷ space ∷ (range_pieces n.value
+    ++ (name x.name ∷ space ∷ sign t.OpenBracket ∷ zero ∷ sign t.Colon ∷ number last.value ∷ sign t.CloseBracket ∷ end_of_item))
+item_pieces (item.integer place) = word t.Integer ∷ space ∷ word t.I ∷ end_of_item
+item_pieces (item.assign x right) = word t.Assign ∷ space ∷ name x.name ∷ space ∷ sign t.Is ∷ space ∷ (right_pieces right ++ end_of_item)
+item_pieces (item.initial x value) =
+    word t.Initial ∷ space ∷ name x.name ∷ space ∷ sign t.Is ∷ space ∷ operand (item.constant value) ∷ end_of_item
+item_pieces (item.initial_cells place n x value) =
+    word t.Initial ∷ space ∷ (loop_pieces n.value
+    ++ (name x.name ∷ sign t.OpenBracket ∷ word t.I ∷ sign t.CloseBracket ∷ space ∷ sign t.Is ∷ space ∷ operand (item.constant value) ∷ end_of_item))
+item_pieces (item.always x next) = clocked_pieces ++ (name x.name ∷ space ∷ sign t.LessOrEqual ∷ space ∷ operand next ∷ end_of_item)
+item_pieces (item.always_cell condition x index value) =
+    clocked_pieces
+    ++ (word t.If ∷ space ∷ sign t.OpenParen ∷ operand condition ∷ sign t.CloseParen ∷ space ∷ name x.name ∷ sign t.OpenBracket ∷ operand index
+    ∷ sign t.CloseBracket ∷ space ∷ sign t.LessOrEqual ∷ space ∷ operand value ∷ end_of_item)
+
+unfoldable pub item_text : Item → List ℕ
+item_text x = text_of (item_pieces x)
+
+abbrev pub items_text : List Item → List ℕ
+items_text xs = text_of (flat_map item_pieces xs)
+
+unfoldable pub clocked_text : List ℕ
+clocked_text = text_of clocked_pieces
+
+unfoldable pub loop_text : ℕ → List ℕ
+loop_text n = text_of (loop_pieces n)
+
+-- before each port but `input clk`, and where it stands
+abbrev pub new_port : List Piece
+new_port = sign t.Comma ∷ line ∷ space ∷ space ∷ []
+
+abbrev pub direction_pieces : Direction → List Piece
+direction_pieces item.input = word t.Input ∷ space ∷ []
+direction_pieces item.output_register = word t.Output ∷ space ∷ word t.Reg ∷ space ∷ []
+direction_pieces item.output_wire = word t.Output ∷ space ∷ word t.Wire ∷ space ∷ []
+
+abbrev pub port_pieces : Port → List Piece
+port_pieces p = new_port ++ (direction_pieces p.direction ++ (range_pieces p.range.value ++ (name p.name.name ∷ [])))
+
+unfoldable pub port_text : Port → List ℕ
+port_text p = text_of (port_pieces p)
+
+-- `module NAME(` and `input clk`
+abbrev pub head_pieces : List ℕ → List Piece
+head_pieces n = word t.Module ∷ space ∷ name n ∷ sign t.OpenParen ∷ line ∷ space ∷ space ∷ word t.Input ∷ space ∷ word t.Clk ∷ []
+
+abbrev pub end_of_ports : List Piece
+end_of_ports = line ∷ sign t.CloseParen ∷ sign t.Semicolon ∷ line ∷ []
+
+abbrev pub end_of_file : List Piece
+end_of_file = word t.Endmodule ∷ line ∷ []
+
+abbrev pub file_pieces : File → List Piece
+file_pieces f = head_pieces f.module_name ++ (flat_map port_pieces f.ports ++ (end_of_ports ++ (flat_map item_pieces f.items ++ end_of_file)))
