@@ -1,0 +1,114 @@
+-- How many sites and points a design has, by its commands.
+use Rattle.std.proofs.Common.{ℕ, ◌+◌, ◌*◌, ◌^◌, ◌<◌, ◌≤◌, List, ◌++◌, Bool, ◌&&◌, length, length-append, arith, inl, inr}
+use Rattle.std.proofs.lemmas.Bool.{cases_Bool}
+use Rattle.std.proofs.lemmas.Grind.{common_steps}
+use Rattle.std.specs.Bool.{IsTrue}
+use Rattle.std.specs.List.{count_by}
+use Rattle.std.specs.Prelude.{nat_le}
+use Rattle.sap_tree.specs.Syntax.{SimpleCommand, Assign, Write, SetTag, SetCellTag, Goto, Fall, Command, Do, Try, If, CommandBlock, Commands, ElseBlock, NoElse, Else, CommandList, NoCommand, AndCommand, StateTree, StateOf, StateList, NoState, AndState, DesignTree}
+use Rattle.sap_tree.specs.Whole.{command_count, block_count, else_count, list_count, state_commands, states_commands, states_count, states_depth, is_whole, is_tree, is_input, is_register, is_memory}
+use Rattle.sap_names.specs.declared.entity.Entity.{Entity}
+use Rattle.sap_names.specs.Entities.{entities_of}
+use Rattle.sap_shape.specs.Sites.{is_site}
+use Rattle.sap_check.specs.declared.site.Site.{Site}
+use Rattle.sap_check.specs.declared.point.Point.{Point}
+use Rattle.sap_check.specs.Sites.{Home, simple_sites, command_sites, block_sites, else_sites, list_sites, state_sites, states_sites, sites_of}
+use Rattle.sap_check.specs.Points.{simple_points, command_points, block_points, else_points, list_points, state_points, states_points, points_of}
+
+both_sites : (a b : List Site) (m n : ℕ) → length a ≤ m → length b ≤ n → length (a ++ b) ≤ m + n
+both_sites a b m n h k = rw length-append (omega arith)
+
+both_points : (a b : List Point) (m n : ℕ) → length a ≤ 2 * m → length b ≤ 2 * n → length (a ++ b) ≤ 2 * (m + n)
+both_points a b m n h k = rw length-append (omega arith)
+
+simple_sites-few : (h : Home) (k : SimpleCommand) → length (simple_sites h k) ≤ 1
+simple_sites-few h k = elim (cases_Bool (is_site h.entities h.kind h.children k)) [ inl e ↦ rw e (omega arith) | inr e ↦ rw e (omega arith) ]
+
+simple_points-few : (k : SimpleCommand) → length (simple_points k) ≤ 1
+simple_points-few (Assign target e) = omega arith
+simple_points-few (Write target index e) = omega arith
+simple_points-few (SetTag place target tag) = omega arith
+simple_points-few (SetCellTag place target index tag) = omega arith
+simple_points-few (Goto place target) = omega arith
+simple_points-few (Fall place) = omega arith
+
+module _ (h : Home) where
+  mutual
+    unfolding command_count block_count else_count list_count
+
+    command_sites-few : (c : Command) → length (command_sites h c) ≤ command_count c
+    command_sites-few (Do k) = simple_sites-few h k
+    command_sites-few (Try k place handler) = both_sites (simple_sites h k) (block_sites h handler) 1 (block_count handler) (simple_sites-few h k) (block_sites-few handler)
+    command_sites-few (If place e one other) =
+        let r = both_sites (block_sites h one) (else_sites h other) (block_count one) (else_count other) (block_sites-few one) (else_sites-few other) in omega arith
+
+    block_sites-few : (b : CommandBlock) → length (block_sites h b) ≤ block_count b
+    block_sites-few (Commands cs after) = list_sites-few cs
+
+    else_sites-few : (b : ElseBlock) → length (else_sites h b) ≤ else_count b
+    else_sites-few NoElse = omega arith
+    else_sites-few (Else b) = block_sites-few b
+
+    list_sites-few : (cs : CommandList) → length (list_sites h cs) ≤ list_count cs
+    list_sites-few NoCommand = omega arith
+    list_sites-few (AndCommand c cs) = both_sites (command_sites h c) (list_sites h cs) (command_count c) (list_count cs) (command_sites-few c) (list_sites-few cs)
+
+module _ (es : List Entity) where
+  mutual
+    unfolding state_commands states_commands
+
+    state_sites-few : (s : StateTree) → length (state_sites es s) ≤ state_commands s
+    state_sites-few (StateOf place name kind body children) =
+        both_sites (block_sites (record { entities = es; name = name.name; kind = kind; children = children }) body) (states_sites es children)
+        (block_count body) (states_commands children) (block_sites-few _ body) (states_sites-few children)
+
+    states_sites-few : (ss : StateList) → length (states_sites es ss) ≤ states_commands ss
+    states_sites-few NoState = omega arith
+    states_sites-few (AndState s ss) = both_sites (state_sites es s) (states_sites es ss) (state_commands s) (states_commands ss) (state_sites-few s) (states_sites-few ss)
+
+mutual
+  unfolding command_count block_count else_count list_count
+
+  command_points-few : (c : Command) → length (command_points c) ≤ 2 * command_count c
+  command_points-few (Do k) = let r = simple_points-few k in omega arith
+  command_points-few (Try k place handler) = let r = simple_points-few k in let b = block_points-few handler in rw length-append (omega arith)
+  command_points-few (If place e one other) =
+      let r = both_points (block_points one) (else_points other) (block_count one) (else_count other) (block_points-few one) (else_points-few other) in omega arith
+
+  block_points-few : (b : CommandBlock) → length (block_points b) ≤ 2 * block_count b
+  block_points-few (Commands cs after) = list_points-few cs
+
+  else_points-few : (b : ElseBlock) → length (else_points b) ≤ 2 * else_count b
+  else_points-few NoElse = omega arith
+  else_points-few (Else b) = block_points-few b
+
+  list_points-few : (cs : CommandList) → length (list_points cs) ≤ 2 * list_count cs
+  list_points-few NoCommand = omega arith
+  list_points-few (AndCommand c cs) = both_points (command_points c) (list_points cs) (command_count c) (list_count cs) (command_points-few c) (list_points-few cs)
+
+mutual
+  unfolding state_commands states_commands
+
+  state_points-few : (s : StateTree) → length (state_points s) ≤ 2 * state_commands s
+  state_points-few (StateOf place name kind body children) =
+      both_points (block_points body) (states_points children) (block_count body) (states_commands children) (block_points-few body) (states_points-few children)
+
+  states_points-few : (ss : StateList) → length (states_points ss) ≤ 2 * states_commands ss
+  states_points-few NoState = omega arith
+  states_points-few (AndState s ss) = both_points (state_points s) (states_points ss) (state_commands s) (states_commands ss) (state_points-few s) (states_points-few ss)
+
+limited : (t : Bool) (i r m s d c : ℕ) → IsTrue (t && (nat_le i 64 && nat_le r 256 && nat_le m 16 && nat_le s 256 && nat_le d 16 && nat_le c 4096)) → c ≤ 4096
+limited t i r m s d c h = grind (arith, common_steps)
+
+few_commands : (d : DesignTree) → IsTrue (is_whole d) → states_commands d.states ≤ 4096
+unfolding is_whole
+few_commands d h =
+    limited (is_tree d) (count_by is_input d.declarations) (count_by is_register d.declarations) (count_by is_memory d.declarations) (states_count d.states) (states_depth d.states) (states_commands d.states) h
+
+pub few_sites : (d : DesignTree) → IsTrue (is_whole d) → length (sites_of d) < 2 ^ 32
+few_sites d h = let r = states_sites-few (entities_of d) d.states in let m = few_commands d h in omega arith
+
+pub few_points : (d : DesignTree) → IsTrue (is_whole d) → length (points_of d) < 2 ^ 32
+few_points d h = let r = states_points-few d.states in let m = few_commands d h in omega arith
+
+pub ruleset counts = (few_sites, few_points)

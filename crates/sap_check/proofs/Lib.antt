@@ -1,0 +1,4 @@
+pub mod SiteLists
+pub mod PointLists
+pub mod Counts
+mod Sample

@@ -1,0 +1,106 @@
+-- The points of lists of commands and of states, from a place on.
+use Rattle.std.proofs.Common.{◌≡◌, ℕ, zero, suc, ◌+◌, ◌<◌, ◌≤◌, List, [], ◌∷◌, ◌++◌, length, get_or, drop, refl, sym, ap, ◌∙◌, arith, add-one, append_assoc, Some}
+use Rattle.sap_tree.specs.declared.syntax.Block.{Block}
+use Rattle.sap_tree.specs.declared.syntax.Cmd.{Cmd}
+use Rattle.sap_tree.specs.declared.syntax.State.{State, out-State}
+use Rattle.sap_tree.specs.declared.syntax.Decl.{Decl}
+use Rattle.sap_tree.specs.Parts.{tree_of}
+use Rattle.sap_tree.specs.declared.place.Place.{Place}
+use Rattle.sap_tree.specs.Syntax.{Expression, Command, If, ElseBlock, StateTree}
+use Rattle.std.proofs.lemmas.Grind.{common_steps}
+use Rattle.sap_check.specs.declared.point.PointKind.TheVariants as kind
+use Rattle.sap_tree.specs.Trees.{command_of, block_of, else_of, state_of}
+use Rattle.sap_tree.proofs.Views.{state_of-out}
+use Rattle.sap_check.specs.declared.point.Point.{Point}
+use Rattle.sap_check.specs.Points.{point, command_points, block_points, else_points, state_points, points_of}
+use Rattle.sap_check.specs.Lists.{list_points, group_points}
+
+-- one part, and those behind it
+after_part : (old new part rest all : List Point) → new ≡ old ++ part → all ≡ part ++ rest → new ++ rest ≡ old ++ all
+after_part old new part rest all h e =
+    ap (λ (l : List Point). l ++ rest) h ∙ append_assoc old part rest ∙ ap (λ (l : List Point). old ++ l) (sym e)
+
+list_points-drop : (cs : List Cmd) (n : ℕ) (d : Cmd) → n < length cs → d ≡ get_or cs n d
+    → list_points (drop n cs) ≡ command_points (command_of d) ++ list_points (drop (n + 1) cs)
+unfolding list_points
+list_points-drop [] n d l e = absurd (omega arith)
+list_points-drop (c ∷ cs) zero d l e = ap (λ (x : Cmd). command_points (command_of x) ++ list_points cs) (sym e)
+list_points-drop (c ∷ cs) (suc n) d l e = let r = list_points-drop cs n d (omega arith) e in simp (add-one) (simp (add-one) at r)
+
+pub list_points-past : (cs : List Cmd) (n : ℕ) → length cs ≤ n → list_points (drop n cs) ≡ []
+unfolding list_points
+list_points-past [] zero l = refl
+list_points-past [] (suc n) l = refl
+list_points-past (c ∷ cs) zero l = absurd (omega arith)
+list_points-past (c ∷ cs) (suc n) l = list_points-past cs n (omega arith)
+
+pub points_step : (cs : List Cmd) (n : ℕ) (d : Cmd) (old new : List Point) → n < length cs → d ≡ get_or cs n d → new ≡ old ++ command_points (command_of d)
+    → new ++ list_points (drop (n + 1) cs) ≡ old ++ list_points (drop n cs)
+points_step cs n d old new l e k = after_part old new _ _ _ k (list_points-drop cs n d l e)
+
+pub block_points-is : (b : Block) → block_points (block_of b) ≡ list_points b.commands.items
+unfolding list_points
+block_points-is b = refl
+
+pub else_points-is : (b : Block) → else_points (else_of (Some b)) ≡ list_points b.commands.items
+unfolding list_points
+else_points-is b = refl
+
+group_points-drop : (ss : List State) (n : ℕ) (d : State) → n < length ss → d ≡ get_or ss n d
+    → group_points (drop n ss) ≡ state_points (state_of d) ++ group_points (drop (n + 1) ss)
+unfolding group_points
+group_points-drop [] n d l e = absurd (omega arith)
+group_points-drop (s ∷ ss) zero d l e = ap (λ (x : State). state_points (state_of x) ++ group_points ss) (sym e)
+group_points-drop (s ∷ ss) (suc n) d l e = let r = group_points-drop ss n d (omega arith) e in simp (add-one) (simp (add-one) at r)
+
+pub group_points-past : (ss : List State) (n : ℕ) → length ss ≤ n → group_points (drop n ss) ≡ []
+unfolding group_points
+group_points-past [] zero l = refl
+group_points-past [] (suc n) l = refl
+group_points-past (s ∷ ss) zero l = absurd (omega arith)
+group_points-past (s ∷ ss) (suc n) l = group_points-past ss n (omega arith)
+
+pub states_step : (ss : List State) (n : ℕ) (d : State) (old new : List Point) → n < length ss → d ≡ get_or ss n d → new ≡ old ++ state_points (state_of d)
+    → new ++ group_points (drop (n + 1) ss) ≡ old ++ group_points (drop n ss)
+states_step ss n d old new l e k = after_part old new _ _ _ k (group_points-drop ss n d l e)
+
+pub state_points-is : (s : State) → state_points (state_of s) ≡ list_points (out-State s).body.commands.items ++ group_points (out-State s).children.items
+unfolding list_points group_points
+state_points-is s = ap (λ (t : StateTree). state_points t) (state_of-out s)
+
+pub points_whole : (ds : List Decl) (ss : List State) (old new : List Point) (seen : List State) → seen ≡ ss → old ≡ [] → new ≡ old ++ group_points seen
+    → new ≡ points_of (tree_of ds ss)
+unfolding group_points
+points_whole ds ss old new seen b c h = h ∙ rw (b, c) refl
+
+append_none : (l : List Point) → l ++ [] ≡ l
+append_none l = grind (arith, common_steps)
+
+-- at the end nothing is left
+pub list_end : (cs : List Cmd) (n : ℕ) (new all : List Point) → length cs ≤ n → new ++ list_points (drop n cs) ≡ all → new ≡ all
+list_end cs n new all l h = sym (append_none new) ∙ ap (λ (r : List Point). new ++ r) (sym (list_points-past cs n l)) ∙ h
+
+pub group_end : (ss : List State) (n : ℕ) (new all : List Point) → length ss ≤ n → new ++ group_points (drop n ss) ≡ all → new ≡ all
+group_end ss n new all l h = sym (append_none new) ∙ ap (λ (r : List Point). new ++ r) (sym (group_points-past ss n l)) ∙ h
+
+if_whole : (x : Expression) (place : Place) (one : Block) (other : ElseBlock)
+    → command_points (If place x (block_of one) other) ≡ (point kind.If place ∷ []) ++ (list_points one.commands.items ++ else_points other)
+unfolding list_points
+if_whole x place one other = refl
+
+pub if_points : (c : Command) (x : Expression) (place : Place) (one : Block) (list : List Cmd) (other : ElseBlock) (old first second new : List Point)
+    → c ≡ If place x (block_of one) other → list ≡ one.commands.items → first ≡ old ++ point kind.If place ∷ [] → second ≡ first ++ list_points list
+    → new ≡ second ++ else_points other → new ≡ old ++ command_points c
+if_points c x place one list other old first second new h e a b d =
+    let p = point kind.If place ∷ [] in
+    let all : (((old ++ p) ++ list_points one.commands.items) ++ else_points other) ≡ (old ++ (p ++ (list_points one.commands.items ++ else_points other))) =
+    ap (λ (l : List Point). l ++ else_points other) (append_assoc old p (list_points one.commands.items))
+    ∙ append_assoc old (p ++ list_points one.commands.items) (else_points other)
+    ∙ ap (λ (l : List Point). old ++ l) (append_assoc p (list_points one.commands.items) (else_points other)) in
+    rw (d, b, a, e, all, h, if_whole x place one other) refl
+
+pub ruleset lists = (list_points-past, group_points-past)
+
+pub ruleset blocks = (block_points-is, else_points-is, append_assoc)
+
+pub ruleset states = (state_points-is, append_assoc)

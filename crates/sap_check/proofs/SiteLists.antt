@@ -1,0 +1,95 @@
+-- The sites of lists of commands and of states, from a place on.
+use Rattle.std.proofs.Common.{◌≡◌, ℕ, zero, suc, ◌+◌, ◌<◌, ◌≤◌, List, [], ◌∷◌, ◌++◌, length, get_or, drop, refl, sym, ap, ◌∙◌, arith, add-one, append_assoc, Some}
+use Rattle.sap_tree.specs.declared.syntax.Block.{Block}
+use Rattle.sap_tree.specs.declared.syntax.Cmd.{Cmd}
+use Rattle.sap_tree.specs.declared.syntax.State.{State, out-State}
+use Rattle.sap_tree.specs.declared.syntax.Decl.{Decl}
+use Rattle.sap_tree.specs.Parts.{tree_of}
+use Rattle.sap_names.specs.Entities.{entities_of}
+use Rattle.std.proofs.lemmas.Grind.{common_steps}
+use Rattle.sap_tree.specs.Syntax.{StateTree}
+use Rattle.sap_tree.specs.Trees.{command_of, block_of, else_of, state_of, states_of}
+use Rattle.sap_tree.proofs.Views.{state_of-out}
+use Rattle.sap_names.specs.declared.entity.Entity.{Entity}
+use Rattle.sap_check.specs.declared.site.Site.{Site}
+use Rattle.sap_check.specs.Sites.{Home, command_sites, block_sites, else_sites, state_sites, sites_of}
+use Rattle.sap_check.specs.Lists.{list_sites, group_sites}
+
+-- one part, and those behind it
+pub after_part : (old new part rest all : List Site) → new ≡ old ++ part → all ≡ part ++ rest → new ++ rest ≡ old ++ all
+after_part old new part rest all h e =
+    ap (λ (l : List Site). l ++ rest) h ∙ append_assoc old part rest ∙ ap (λ (l : List Site). old ++ l) (sym e)
+
+module _ (h : Home) where
+  list_sites-drop : (cs : List Cmd) (n : ℕ) (d : Cmd) → n < length cs → d ≡ get_or cs n d
+      → list_sites h (drop n cs) ≡ command_sites h (command_of d) ++ list_sites h (drop (n + 1) cs)
+  unfolding list_sites
+  list_sites-drop [] n d l e = absurd (omega arith)
+  list_sites-drop (c ∷ cs) zero d l e = ap (λ (x : Cmd). command_sites h (command_of x) ++ list_sites h cs) (sym e)
+  list_sites-drop (c ∷ cs) (suc n) d l e = let r = list_sites-drop cs n d (omega arith) e in simp (add-one) (simp (add-one) at r)
+
+  pub list_sites-past : (cs : List Cmd) (n : ℕ) → length cs ≤ n → list_sites h (drop n cs) ≡ []
+  unfolding list_sites
+  list_sites-past [] zero l = refl
+  list_sites-past [] (suc n) l = refl
+  list_sites-past (c ∷ cs) zero l = absurd (omega arith)
+  list_sites-past (c ∷ cs) (suc n) l = list_sites-past cs n (omega arith)
+
+  pub sites_step : (cs : List Cmd) (n : ℕ) (d : Cmd) (old new : List Site) → n < length cs → d ≡ get_or cs n d → new ≡ old ++ command_sites h (command_of d)
+      → new ++ list_sites h (drop (n + 1) cs) ≡ old ++ list_sites h (drop n cs)
+  sites_step cs n d old new l e k = after_part old new _ _ _ k (list_sites-drop cs n d l e)
+
+  pub block_sites-is : (b : Block) → block_sites h (block_of b) ≡ list_sites h b.commands.items
+  unfolding list_sites
+  block_sites-is b = refl
+
+  pub else_sites-is : (b : Block) → else_sites h (else_of (Some b)) ≡ list_sites h b.commands.items
+  unfolding list_sites
+  else_sites-is b = refl
+
+module _ (es : List Entity) where
+  group_sites-drop : (ss : List State) (n : ℕ) (d : State) → n < length ss → d ≡ get_or ss n d
+      → group_sites es (drop n ss) ≡ state_sites es (state_of d) ++ group_sites es (drop (n + 1) ss)
+  unfolding group_sites
+  group_sites-drop [] n d l e = absurd (omega arith)
+  group_sites-drop (s ∷ ss) zero d l e = ap (λ (x : State). state_sites es (state_of x) ++ group_sites es ss) (sym e)
+  group_sites-drop (s ∷ ss) (suc n) d l e = let r = group_sites-drop ss n d (omega arith) e in simp (add-one) (simp (add-one) at r)
+
+  pub group_sites-past : (ss : List State) (n : ℕ) → length ss ≤ n → group_sites es (drop n ss) ≡ []
+  unfolding group_sites
+  group_sites-past [] zero l = refl
+  group_sites-past [] (suc n) l = refl
+  group_sites-past (s ∷ ss) zero l = absurd (omega arith)
+  group_sites-past (s ∷ ss) (suc n) l = group_sites-past ss n (omega arith)
+
+  pub states_step : (ss : List State) (n : ℕ) (d : State) (old new : List Site) → n < length ss → d ≡ get_or ss n d → new ≡ old ++ state_sites es (state_of d)
+      → new ++ group_sites es (drop (n + 1) ss) ≡ old ++ group_sites es (drop n ss)
+  states_step ss n d old new l e k = after_part old new _ _ _ k (group_sites-drop ss n d l e)
+
+  pub state_sites-is : (s : State) → state_sites es (state_of s)
+      ≡ list_sites (record { entities = es; name = (out-State s).name.name; kind = (out-State s).kind; children = states_of (out-State s).children.items })
+      (out-State s).body.commands.items
+      ++ group_sites es (out-State s).children.items
+  unfolding list_sites group_sites
+  state_sites-is s = ap (λ (t : StateTree). state_sites es t) (state_of-out s)
+
+pub sites_whole : (ds : List Decl) (ss : List State) (es : List Entity) (old new : List Site) (seen : List State) → es ≡ entities_of (tree_of ds ss) → seen ≡ ss
+    → old ≡ [] → new ≡ old ++ group_sites es seen → new ≡ sites_of (tree_of ds ss)
+unfolding group_sites
+sites_whole ds ss es old new seen a b c h = h ∙ rw (a, b, c) refl
+
+append_none : (l : List Site) → l ++ [] ≡ l
+append_none l = grind (arith, common_steps)
+
+-- at the end nothing is left
+pub list_end : (h : Home) (cs : List Cmd) (n : ℕ) (new all : List Site) → length cs ≤ n → new ++ list_sites h (drop n cs) ≡ all → new ≡ all
+list_end h cs n new all l e = sym (append_none new) ∙ ap (λ (r : List Site). new ++ r) (sym (list_sites-past h cs n l)) ∙ e
+
+pub group_end : (es : List Entity) (ss : List State) (n : ℕ) (new all : List Site) → length ss ≤ n → new ++ group_sites es (drop n ss) ≡ all → new ≡ all
+group_end es ss n new all l e = sym (append_none new) ∙ ap (λ (r : List Site). new ++ r) (sym (group_sites-past es ss n l)) ∙ e
+
+pub ruleset lists = (list_sites-past, group_sites-past)
+
+pub ruleset blocks = (block_sites-is, else_sites-is, append_assoc)
+
+pub ruleset states = (state_sites-is, append_assoc)

@@ -1,0 +1,14 @@
+use Rattle.std.proofs.Common.{◌∙◌, arith}
+use Rattle.sap_check.specs.Lists.{home_of}
+use Rattle.sap_check.proofs.SiteLists.{list_end, sites_step}
+use Rattle.sap_check.proofs.sites.+body.Goals as goal
+
+pub add_list-loop-command-preserved : goal.add_list-loop-command-preserved
+add_list-loop-command-preserved t c =
+    sites_step (home_of c.args.names.now c.args.body.now) c.args.commands.now c.loop-command.command-index c.command-item.result _ _ (omega arith) c.command-item.is
+    c.in_ok-add_command.ensures
+    ∙ c.loop-command.invariant
+
+pub add_list-returns : goal.add_list-returns
+add_list-returns t c =
+    list_end (home_of c.args.names.now c.args.body.now) c.args.commands.now c.loop-command.command-index _ _ (omega arith) c.loop-command.invariant

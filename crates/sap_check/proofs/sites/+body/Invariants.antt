@@ -1,0 +1,8 @@
+use Rattle.std.proofs.Common.{◌≡◌, ◌++◌, drop}
+use Rattle.sap_check.specs.Lists.{home_of, list_sites}
+use Rattle.sap_check.proofs.sites.+body.Given as goal
+
+-- with those of what is left
+abbrev pub invariant-add_list-loop-command : goal.invariant-add_list-loop-command
+invariant-add_list-loop-command l =
+    l.sites.items ++ list_sites (home_of l.names l.body) (drop l.command-index l.commands) ≡ l.initial.sites.items ++ list_sites (home_of l.names l.body) l.commands

@@ -1,0 +1,16 @@
+-- What a checked design is of.
+use Rattle.sap_tree.specs.Designs.{design_of}
+use Rattle.sap_tree.specs.Syntax.{DesignTree}
+use Rattle.sap_tree.specs.declared.design.Design.{Design}
+use Rattle.sap_lattice.specs.Levels.{Levels}
+use Rattle.sap_check.specs.declared.checked.Checked.{Checked}
+
+-- the design that was checked, its tree, and the levels that it was checked for
+abbrev pub design_in : Checked → Design
+design_in c = c.design
+
+abbrev pub tree_in : Checked → DesignTree
+tree_in c = design_of c.design
+
+abbrev pub levels_in : Checked → Levels
+levels_in c = c.lattice

@@ -1,0 +1,56 @@
+-- The check sites and points of small designs, worked out.
+use Rattle.std.specs.Prelude.{◌≡◌, ℕ, [], ◌∷◌, Some, codes}
+use Rattle.sap_tree.specs.declared.syntax.Decl.TheVariants.{Register}
+use Rattle.sap_tree.specs.Syntax.{Read, Assign, Goto, Fall, Command, Do, Try, If, CommandBlock, Else, StateOf, NoState, AndState, DesignTree, AndCommand, NoCommand}
+use Rattle.sap_check.specs.declared.point.PointKind.TheVariants as points
+use Rattle.sap_check.specs.declared.site.Site.{Site}
+use Rattle.sap_check.specs.declared.site.SiteKind.{SiteKind}
+use Rattle.sap_check.specs.declared.site.SiteKind.TheVariants as sites
+use Rattle.sap_check.specs.Points.{point, points_of}
+use Rattle.sap_check.specs.Sites.{sites_of}
+use Rattle.sap_shape.specs.Examples.{at, spot, named, number, block, one, low, leaf, home}
+
+abbrev pub site : ℕ → SiteKind → ℕ → Site
+site column kind entity = record { place = at column; kind = kind; entity = entity }
+
+-- x := 0; goto S;
+abbrev pub assigning : CommandBlock
+assigning = block 56 (AndCommand (Do (Assign (named 40 (codes "x")) (number 45 0))) (AndCommand (home 48) NoCommand))
+
+-- goto S otherwise { goto S; }
+abbrev pub leaving : CommandBlock
+leaving = one 87 (Try (Goto (at 60) (named 65 (codes "S"))) (at 67) (one 85 (home 77)))
+
+-- if (x) { x := 0; goto S; } else { goto S otherwise { goto S; } }
+abbrev pub choosing : Command
+choosing = If (at 30) (Read (spot 34) (codes "x")) assigning (Else leaving)
+
+-- reg x : 1 enforced low = START; state S enforced low { .. }
+abbrev pub small : ℕ → DesignTree
+small start = record {
+  declarations = Register (at 1) (named 5 (codes "x")) (record { place = at 9; value = 1 }) low (Some (record { place = at 21; value = start })) ∷ [];
+  states = AndState (leaf (codes "S") low (one 90 choosing)) NoState;
+}
+
+abbrev pub SmallSites : Type 0
+SmallSites = sites_of (small 0) ≡ site 40 sites.Write 0 ∷ site 48 sites.Goto 1 ∷ site 60 sites.Goto 1 ∷ site 77 sites.Goto 1 ∷ []
+
+abbrev pub SmallPoints : Type 0
+SmallPoints = points_of (small 0) ≡ point points.If (at 30) ∷ point points.Otherwise (at 67) ∷ []
+
+-- state P enforced low { fall otherwise { goto P; } state S enforced low { goto S; } }
+abbrev pub nested : DesignTree
+nested = record {
+  declarations = [];
+  states = AndState
+      (StateOf (at 1) (named 7 (codes "P")) low (one 60 (Try (Fall (at 25)) (at 30) (one 50 (Do (Goto (at 42) (named 47 (codes "P")))))))
+      (AndState (leaf (codes "S") low (one 90 (home 80))) NoState))
+      NoState;
+}
+
+-- a `fall` is a site of its own state
+abbrev pub NestedSites : Type 0
+NestedSites = sites_of nested ≡ site 25 sites.Fall 0 ∷ site 42 sites.Goto 0 ∷ site 80 sites.Goto 1 ∷ []
+
+abbrev pub NestedPoints : Type 0
+NestedPoints = points_of nested ≡ point points.Fall (at 25) ∷ point points.Otherwise (at 30) ∷ []

@@ -1,0 +1,5 @@
+pub mod Sites
+pub mod Points
+pub mod Lists
+pub mod Checked
+pub mod Examples

@@ -1,0 +1,27 @@
+-- The sites and points of lists of commands and of states.
+use Rattle.std.specs.Prelude.{List}
+use Rattle.sap_tree.specs.declared.syntax.Cmd.{Cmd}
+use Rattle.sap_tree.specs.declared.syntax.State.{State}
+use Rattle.sap_tree.specs.Trees.{commands_of, states_of}
+use Rattle.sap_names.specs.declared.entity.Entity.{Entity}
+use Rattle.sap_check.specs.declared.body.Body.{Body}
+use Rattle.sap_check.specs.declared.point.Point.{Point}
+use Rattle.sap_check.specs.declared.site.Site.{Site}
+use Rattle.sap_check.specs.Points as points
+use Rattle.sap_check.specs.Sites as sites
+use Rattle.sap_check.specs.Sites.{Home}
+
+abbrev pub home_of : List Entity → Body → Home
+home_of es b = record { entities = es; name = b.name.now; kind = b.kind.now; children = states_of b.children.now }
+
+unfoldable pub list_sites : Home → List Cmd → List Site
+list_sites h cs = sites.list_sites h (commands_of cs)
+
+unfoldable pub group_sites : List Entity → List State → List Site
+group_sites es states = sites.states_sites es (states_of states)
+
+unfoldable pub list_points : List Cmd → List Point
+list_points cs = points.list_points (commands_of cs)
+
+unfoldable pub group_points : List State → List Point
+group_points states = points.states_points (states_of states)

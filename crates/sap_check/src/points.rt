@@ -1,0 +1,91 @@
+//! The points of a design.
+
+ghost use Rattle.std.specs.Prelude.{◌≡◌, ◌++◌, ◌∷◌, [], OnOk};
+ghost use Rattle.sap_check.specs.Lists as lists;
+ghost use Rattle.sap_check.specs.Points as spec;
+ghost use Rattle.sap_tree.specs.Trees.{command_of, else_of, simple_of, state_of};
+
+use crate::point::{Point, PointKind};
+use sap_tree::place::Place;
+use sap_tree::syntax::{Block, Cmd, Simple, State};
+use std::alloc::AllocError;
+
+fn add_point(kind: PointKind, place: Place, points: &mut Vec<Point>) -> Result<(), AllocError>
+    ensures { OnOk result (points.new.items ≡ points.old.items ++ spec.point kind place ∷ []) }
+{
+    points.push(Point { kind, place })?;
+    Ok(())
+}
+
+fn add_simple(command: &Simple, points: &mut Vec<Point>) -> Result<(), AllocError>
+    ensures { OnOk result (points.new.items ≡ points.old.items ++ spec.simple_points (simple_of command.now)) }
+{
+    if let Simple::Fall(place) = command {
+        add_point(PointKind::Fall, *place, points)?;
+    }
+    Ok(())
+}
+
+#[cycle(body)]
+#[tactic(auto, using(sap_tree::proofs::Views::views, crate::proofs::PointLists::blocks))]
+fn add_command(command: &Cmd, points: &mut Vec<Point>) -> Result<(), AllocError>
+    ensures { OnOk result (points.new.items ≡ points.old.items ++ spec.command_points (command_of command.now)) }
+{
+    match command {
+        Cmd::Do(simple) => add_simple(simple, points),
+        Cmd::If(place, _, one, other) => {
+            add_point(PointKind::If, *place, points)?;
+            add_list(one.commands.as_slice(), points)?;
+            add_else(other, points)?;
+            Ok(())
+        }
+        Cmd::Try(simple, place, handler) => {
+            add_simple(simple, points)?;
+            add_point(PointKind::Otherwise, *place, points)?;
+            add_list(handler.commands.as_slice(), points)
+        }
+    }
+}
+
+#[cycle(body)]
+#[tactic(auto, using(crate::proofs::PointLists::blocks))]
+fn add_else(other: &Option<Block>, points: &mut Vec<Point>) -> Result<(), AllocError>
+    ensures { OnOk result (points.new.items ≡ points.old.items ++ spec.else_points (else_of other.now)) }
+{
+    match other {
+        Some(block) => add_list(block.commands.as_slice(), points),
+        None => Ok(()),
+    }
+}
+
+#[cycle(body)]
+#[tactic(auto, using(crate::proofs::PointLists::lists))]
+fn add_list(commands: &[Cmd], points: &mut Vec<Point>) -> Result<(), AllocError>
+    ensures { OnOk result (points.new.items ≡ points.old.items ++ lists.list_points commands.now) }
+{
+    for command in commands {
+        add_command(command, points)?;
+    }
+    Ok(())
+}
+
+#[cycle(states)]
+#[tactic(auto, using(crate::proofs::PointLists::states))]
+fn add_state(state: &State, points: &mut Vec<Point>) -> Result<(), AllocError>
+    ensures { OnOk result (points.new.items ≡ points.old.items ++ spec.state_points (state_of state.now)) }
+{
+    add_list(state.body.commands.as_slice(), points)?;
+    add_states(state.children.as_slice(), points)
+}
+
+/// Adds the points of states and of those below them.
+#[cycle(states)]
+#[tactic(auto, using(crate::proofs::PointLists::lists))]
+pub(crate) fn add_states(states: &[State], points: &mut Vec<Point>) -> Result<(), AllocError>
+    ensures { OnOk result (points.new.items ≡ points.old.items ++ lists.group_points states.now) }
+{
+    for state in states {
+        add_state(state, points)?;
+    }
+    Ok(())
+}
