@@ -1,0 +1,12 @@
+pub mod Found
+pub mod Slots
+pub mod Cells
+pub mod Settled
+pub mod Distinct
+pub mod Cycle
+pub mod Looked
+pub mod Kept
+pub mod Learned
+pub mod Compiling
+pub mod First
+pub mod Examples

@@ -1,0 +1,48 @@
+use Rattle.std.proofs.Common.{◌≡◌, List, map, sym, ap, ◌∙◌, subst}
+use Rattle.std.specs.List.{AllByRecursion}
+use Rattle.sap_net.specs.declared.parts.Register.{Register}
+use Rattle.sap_net.specs.IsNetlist.{width_of}
+use Rattle.sap_cycle.specs.declared.steps.Slot.{Slot}
+use Rattle.sap_cycle.specs.declared.steps.WritePort.{WritePort}
+use Rattle.sap_cycle.specs.Known.{Knows, IsKnownOperand, IsKnownPort, slot_found, ports_found}
+use Rattle.sap_cycle.specs.Loaded.{bases_of}
+use Rattle.sap_cycle.specs.Means.{NextsMean, PortsMean}
+use Rattle.sap_cycle.specs.Running.{value_names}
+use Rattle.sap_cycle.proofs.Compiling.{nexts_known, ports_known, nexts_mean, ports_mean}
+use Rattle.sap_cycle.proofs.load.make_program.Goals as goal
+
+pub next_slots-requires : goal.next_slots-requires
+next_slots-requires c =
+    let n = c.args.netlist.now in
+    let k = c.compile.new.known in
+    subst (AllByRecursion (λ (r : Register). IsKnownOperand k r.next)) (sym c.registers.ensures) (nexts_known n c.rules.ensures k c.in_ok-compiled.ensures.knows)
+
+pub write_ports-requires-clause-operands : goal.write_ports-requires-clause-operands
+write_ports-requires-clause-operands c =
+    let n = c.args.netlist.now in
+    let k = c.compile.new.known in
+    subst (AllByRecursion (IsKnownPort k)) (sym c.memories.ensures) (ports_known n c.rules.ensures k c.in_ok-compiled.ensures.knows)
+
+pub write_ports-requires-clause-bases : goal.write_ports-requires-clause-bases
+write_ports-requires-clause-bases c =
+    let n = c.args.netlist.now in
+    let k : Knows (width_of n) n.memories (value_names n) c.compile.new.known = c.in_ok-compiled.ensures.knows in
+    k.bases ∙ ap (bases_of 0) (sym c.memories.ensures)
+
+pub returns-clause-program : goal.returns-clause-program
+returns-clause-program c =
+    let n = c.args.netlist.now in
+    let k = c.compile.new.known in
+    let knows : Knows (width_of n) n.memories (value_names n) k = c.in_ok-compiled.ensures.knows in
+    let en : c.in_ok-nexts.nexts.items ≡ map (λ (r : Register). slot_found k r.next) n.registers =
+    c.in_ok-nexts.ensures {u = tt} ∙ ap (map (λ (r : Register). slot_found k r.next)) c.registers.ensures in
+    let ep : c.in_ok-ports.ports.items ≡ ports_found k 0 n.memories = c.in_ok-ports.ensures {u = tt} ∙ ap (ports_found k 0) c.memories.ensures in
+    record {
+      steps = c.in_ok-compiled.ensures.mean;
+      nexts =
+          subst (λ (l : List Slot). NextsMean (value_names n) l n.registers) (sym en)
+          (nexts_mean (width_of n) n.memories (value_names n) k knows n.registers (nexts_known n c.rules.ensures k knows));
+      ports =
+          subst (λ (l : List WritePort). PortsMean (value_names n) 0 l n.memories) (sym ep)
+          (ports_mean (width_of n) n.memories (value_names n) k knows n.memories 0 (ports_known n c.rules.ensures k knows));
+    }

@@ -1,0 +1,96 @@
+-- What is known of names while a netlist is loaded, and the steps that are made of it.
+use Rattle.std.specs.Prelude.{◌≡◌, ℕ, ◌+◌, ◌<◌, List, [], ◌∷◌, ◌++◌, Some, length, map, replicate, slice_index, unwrap_or}
+use Rattle.std.specs.List.{AllByRecursion, flat_map}
+use Rattle.sap_maps.specs.Maps.{Name}
+use Rattle.sap_net.specs.declared.parts.Operand.{Operand}
+use Rattle.sap_net.specs.declared.parts.Operand.TheVariants.{Named, Constant}
+use Rattle.sap_net.specs.declared.parts.Right.{Right}
+use Rattle.sap_net.specs.declared.parts.Right.TheVariants as right
+use Rattle.sap_net.specs.declared.parts.Memory.{Memory}
+use Rattle.sap_cycle.specs.declared.known.Known.{Known}
+use Rattle.sap_cycle.specs.declared.steps.Slot.{Slot}
+use Rattle.sap_cycle.specs.declared.steps.Slot.TheVariants.{At, Number}
+use Rattle.sap_cycle.specs.declared.steps.Part.{Part}
+use Rattle.sap_cycle.specs.declared.steps.Step.{Step}
+use Rattle.sap_cycle.specs.declared.steps.Step.TheVariants.{Copy, One, Two, Choose, Concat, Slice, Cell}
+use Rattle.sap_net.specs.Net.{Net}
+use Rattle.sap_cycle.specs.declared.steps.WritePort.{WritePort}
+use Rattle.sap_cycle.specs.Places.{Places, Finds, place_in}
+use Rattle.sap_cycle.specs.Loaded.{bases_of}
+
+-- the names, each with its width, and the memories
+pub record Knows (widths : Name → ℕ) (ms : List Memory) (names : List Name) (k : Known) : Type 0 where
+  pub places : Finds k.places names
+  pub widths_are : k.widths.items ≡ map widths names
+  pub memories : Finds k.memories (map (λ m. m.name) ms)
+  pub bases : k.bases.items ≡ bases_of 0 ms
+
+pub record IsKnown (k : Known) (x : Name) : Type 0 where
+  pub place : ℕ
+  pub found : place_in k.places x ≡ Some place
+  pub within : place < length k.widths.items
+
+pub record IsKnownMemory (k : Known) (x : Name) : Type 0 where
+  pub number : ℕ
+  pub found : place_in k.memories x ≡ Some number
+  pub within : number < length k.bases.items
+
+abbrev pub IsKnownOperand : Known → Operand → Type 0
+IsKnownOperand k (Named x) = IsKnown k x
+IsKnownOperand k (Constant w n) = Unit {0}
+
+abbrev pub IsKnownRight : Known → Right → Type 0
+IsKnownRight k (right.Copy a) = IsKnownOperand k a
+IsKnownRight k (right.One op a) = IsKnownOperand k a
+IsKnownRight k (right.Two op a b) = IsKnownOperand k a × IsKnownOperand k b
+IsKnownRight k (right.Choose c a b) = IsKnownOperand k c × IsKnownOperand k a × IsKnownOperand k b
+IsKnownRight k (right.Concat os) = AllByRecursion (IsKnownOperand k) os
+IsKnownRight k (right.Slice x hi lo) = IsKnown k x
+IsKnownRight k (right.Cell m i) = IsKnownMemory k m × IsKnownOperand k i
+
+abbrev pub slot_found : Known → Operand → Slot
+slot_found k (Named x) = At (unwrap_or (place_in k.places x) 0)
+slot_found k (Constant w n) = Number n
+
+abbrev pub width_found : Known → Operand → ℕ
+width_found k (Named x) = slice_index k.widths.items (unwrap_or (place_in k.places x) 0)
+width_found k (Constant w n) = w
+
+abbrev pub part_found : Known → Operand → Part
+part_found k o = record { slot = slot_found k o; width = width_found k o }
+
+abbrev pub base_found : Known → Name → ℕ
+base_found k x = slice_index k.bases.items (unwrap_or (place_in k.memories x) 0)
+
+-- the step of a right side whose parts, if it has any, stand from a place on
+abbrev pub step_found : Known → (from : ℕ) → Right → Step
+step_found k from (right.Copy a) = Copy (slot_found k a)
+step_found k from (right.One op a) = One op (width_found k a) (slot_found k a)
+step_found k from (right.Two op a b) = Two op (width_found k a) (slot_found k a) (slot_found k b)
+step_found k from (right.Choose c a b) = Choose (slot_found k c) (slot_found k a) (slot_found k b)
+step_found k from (right.Concat os) = Concat from (from + length os)
+step_found k from (right.Slice x hi lo) = Slice (At (unwrap_or (place_in k.places x) 0)) hi lo
+step_found k from (right.Cell m i) = Cell (base_found k m) (slot_found k i)
+
+abbrev pub parts_found : Known → Right → List Part
+parts_found k (right.Concat os) = map (part_found k) os
+parts_found k _ = []
+
+abbrev pub IsKnownPort : Known → Memory → Type 0
+IsKnownPort k m = IsKnownOperand k m.enable × IsKnownOperand k m.index × IsKnownOperand k m.value
+
+-- the write ports of memories whose cells stand behind some
+abbrev pub ports_found : Known → (behind : ℕ) → List Memory → List WritePort
+ports_found k b [] = []
+ports_found k b (m ∷ ms) =
+    record { base = b; enable = slot_found k m.enable; index = slot_found k m.index; value = slot_found k m.value } ∷ ports_found k (b + m.depth) ms
+
+-- The names of the memories, where the cells of each begin, and what the cells are first.
+pub record AreStored (ms : List Memory) (numbers : Places) (bases : List ℕ) (cells : List ℕ) : Type 0 where
+  pub found : Finds numbers (map (λ m. m.name) ms)
+  pub bases_are : bases ≡ bases_of 0 ms
+  pub cells_are : cells ≡ flat_map (λ m. replicate m.depth m.start) ms
+
+-- what inputs, registers and wires have first
+abbrev pub first_numbers : Net → List ℕ
+first_numbers n = replicate (length n.inputs) 0 ++ (map (λ r. r.start) n.registers ++ replicate (length n.wires) 0)

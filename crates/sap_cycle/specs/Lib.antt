@@ -1,0 +1,8 @@
+pub mod Steps
+pub mod Turned
+pub mod Means
+pub mod Places
+pub mod Running
+pub mod Loaded
+pub mod Known
+pub mod Trying

@@ -1,0 +1,88 @@
+-- What steps over an array of values and an array of cells give.
+use Rattle.std.specs.Prelude.{ℕ, ◌+◌, ◌-◌, ◌^◌, ◌<◌, ◌≤◌, ◌==◌, List, [], ◌∷◌, ◌++◌, if◌then◌else◌, length, take, drop, slice_index, slice_set}
+use Rattle.std.specs.List.{AllByRecursion}
+use Rattle.sap_bits.specs.Arithmetic.{value1, value2, slice_of, joined, RightFits}
+use Rattle.sap_cycle.specs.declared.steps.Slot.{Slot}
+use Rattle.sap_cycle.specs.declared.steps.Slot.TheVariants.{At, Number}
+use Rattle.sap_cycle.specs.declared.steps.Part.{Part}
+use Rattle.sap_cycle.specs.declared.steps.Step.{Step}
+use Rattle.sap_cycle.specs.declared.steps.Step.TheVariants.{Copy, One, Two, Choose, Concat, Slice, Cell}
+use Rattle.sap_cycle.specs.declared.steps.WritePort.{WritePort}
+
+abbrev pub slot_value : (values : List ℕ) → Slot → ℕ
+slot_value values (At k) = slice_index values k
+slot_value values (Number x) = x
+
+-- the parts behind a number
+abbrev pub joined_from : (values : List ℕ) → (front : ℕ) → List Part → ℕ
+joined_from values front [] = front
+joined_from values front (p ∷ ps) = joined_from values (joined front p.width (slot_value values p.slot)) ps
+
+-- the elements from one place up to another
+abbrev pub between : {X : Type 0} → (from to : ℕ) → List X → List X
+between from to xs = take (to - from) (drop from xs)
+
+abbrev pub step_value : (values cells : List ℕ) → List Part → Step → ℕ
+step_value values cells parts (Copy a) = slot_value values a
+step_value values cells parts (One op w a) = value1 op w (slot_value values a)
+step_value values cells parts (Two op w a b) = value2 op w (slot_value values a) (slot_value values b)
+step_value values cells parts (Choose c a b) = if slot_value values c == 0 then slot_value values b else slot_value values a
+step_value values cells parts (Concat from to) = joined_from values 0 (between from to parts)
+step_value values cells parts (Slice a hi lo) = slice_of (slot_value values a) hi lo
+step_value values cells parts (Cell base i) = slice_index cells (base + slot_value values i)
+
+abbrev pub SlotIn : (values : List ℕ) → Slot → Type 0
+SlotIn values (At k) = k < length values
+SlotIn values (Number x) = Unit {0}
+
+abbrev pub AreIn : (values : List ℕ) → List Slot → Type 0
+AreIn values slots = AllByRecursion (SlotIn values) slots
+
+-- the parts fit into 64 bits behind a number
+abbrev pub ArePartsReady : (values : List ℕ) → (front : ℕ) → List Part → Type 0
+ArePartsReady values front [] = Unit {0}
+ArePartsReady values front (p ∷ ps) =
+    SlotIn values p.slot × (1 ≤ p.width) × (p.width ≤ 64) × (front < 2 ^ (64 - p.width)) × (slot_value values p.slot < 2 ^ p.width)
+    × ArePartsReady values (joined front p.width (slot_value values p.slot)) ps
+
+-- what a step asks of the numbers
+abbrev pub IsReady : (values cells : List ℕ) → List Part → Step → Type 0
+IsReady values cells parts (Copy a) = SlotIn values a
+IsReady values cells parts (One op w a) = (1 ≤ w) × (w ≤ 64) × SlotIn values a × (slot_value values a < 2 ^ w)
+IsReady values cells parts (Two op w a b) =
+    (1 ≤ w) × (w ≤ 64) × SlotIn values a × SlotIn values b × (slot_value values a < 2 ^ w) × RightFits op w (slot_value values b)
+IsReady values cells parts (Choose c a b) = SlotIn values c × SlotIn values a × SlotIn values b
+IsReady values cells parts (Concat from to) = (from ≤ to) × (to ≤ length parts) × ArePartsReady values 0 (between from to parts)
+IsReady values cells parts (Slice a hi lo) = SlotIn values a × (hi < 64) × (lo ≤ hi)
+IsReady values cells parts (Cell base i) = SlotIn values i × (base + slot_value values i < length cells)
+
+-- the array after some steps, from a place on
+abbrev pub settled : (cells : List ℕ) → List Part → (place : ℕ) → List Step → List ℕ → List ℕ
+settled cells parts k [] values = values
+settled cells parts k (s ∷ ss) values = settled cells parts (k + 1) ss (slice_set values k (step_value values cells parts s))
+
+abbrev pub AreReady : (cells : List ℕ) → List Part → (place : ℕ) → List Step → List ℕ → Type 0
+AreReady cells parts k [] values = Unit {0}
+AreReady cells parts k (s ∷ ss) values =
+    IsReady values cells parts s × AreReady cells parts (k + 1) ss (slice_set values k (step_value values cells parts s))
+
+-- the array with other numbers at a place
+abbrev pub copied : (place : ℕ) → List ℕ → List ℕ → List ℕ
+copied k xs values = take k values ++ (xs ++ drop (k + length xs) values)
+
+-- the cells after a write
+abbrev pub stored_one : (values : List ℕ) → WritePort → List ℕ → List ℕ
+stored_one values p cells =
+    if slot_value values p.enable == 1 then slice_set cells (p.base + slot_value values p.index) (slot_value values p.value) else cells
+
+abbrev pub stored : (values : List ℕ) → List WritePort → List ℕ → List ℕ
+stored values [] cells = cells
+stored values (p ∷ ps) cells = stored values ps (stored_one values p cells)
+
+abbrev pub IsPortReady : (values : List ℕ) → WritePort → List ℕ → Type 0
+IsPortReady values p cells =
+    SlotIn values p.enable × SlotIn values p.index × SlotIn values p.value × (p.base + slot_value values p.index < length cells)
+
+abbrev pub ArePortsReady : (values : List ℕ) → List WritePort → List ℕ → Type 0
+ArePortsReady values [] cells = Unit {0}
+ArePortsReady values (p ∷ ps) cells = IsPortReady values p cells × ArePortsReady values ps (stored_one values p cells)

@@ -1,0 +1,13 @@
+//! A simulator of netlists, one clock cycle a step.
+//!
+//! `Runner::load` numbers the names once, so a step takes time in proportion to the netlist, and no memory.
+#![tactic(auto)]
+
+mod known;
+mod load;
+mod places;
+mod program;
+pub mod runner;
+mod steps;
+#[cfg(test)]
+mod tests;

@@ -1,0 +1,37 @@
+//! The steps of a netlist, and a cycle of them.
+
+ghost use Rattle.std.specs.Prelude.{◌≡◌, length};
+ghost use Rattle.sap_cycle.specs.Turned.{CanTurn, values_turned, cells_turned};
+
+use crate::steps::{Part, Slot, Step, WritePort, copy_to, read_all, settle, store_all};
+
+/// The steps of the wires in order, with the parts of all concatenations; what each register takes at the edge, and the
+/// write port of each memory.
+#[derive(Debug, Drop)]
+pub struct Program {
+    pub parts: Vec<Part>,
+    pub steps: Vec<Step>,
+    pub nexts: Vec<Slot>,
+    pub ports: Vec<WritePort>,
+}
+
+/// A cycle: the inputs, the wires, and then the edge. All that registers take is read before any of them changes.
+pub fn turn(
+    values: &mut [u64],
+    cells: &mut [u64],
+    edge: &mut [u64],
+    inputs: &[u64],
+    program: &Program,
+)
+    requires same { length edge.old ≡ length program.now.nexts.items }
+    requires can { CanTurn program.now inputs.now values.old cells.old }
+    ensures values { values.new ≡ values_turned program.now inputs.now values.old cells.old }
+    ensures cells { cells.new ≡ cells_turned program.now inputs.now values.old cells.old }
+{
+    copy_to(values, 0, inputs);
+    let first_wire = inputs.len() + edge.len();
+    settle(values, cells, &program.parts, first_wire, &program.steps);
+    read_all(edge, values, &program.nexts);
+    store_all(cells, values, &program.ports);
+    copy_to(values, inputs.len(), edge);
+}
