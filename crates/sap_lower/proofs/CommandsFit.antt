@@ -1,0 +1,247 @@
+-- The wires of all assignments and writes fit.
+use Rattle.std.proofs.Common.{◌≡◌, ℕ, ◌+◌, ◌^◌, ◌<◌, ◌≤◌, List, [], ◌∷◌, ◌++◌, Option, Some, None, Bool, true, false, length, sym, ap, ◌∙◌, subst, refl, arith, inl, inr}
+use Rattle.std.specs.Prelude.{unwrap_or, nat_lt}
+use Rattle.std.specs.Str.{bytes_eq}
+use Rattle.std.specs.List.{AllByRecursion}
+use Rattle.std.proofs.Math.Pow.{pow-lt, pow_pos}
+use Rattle.std.proofs.lemmas.Bool.{cases_Bool}
+use Rattle.std.proofs.lemmas.Bool.Decides.{Decides-ltb, nat_tests}
+use Rattle.sap_maps.specs.Maps.{Name}
+use Rattle.sap_maps.specs.Scope.{Scope, find}
+use Rattle.sap_maps.specs.Term.{Term}
+use Rattle.sap_maps.proofs.Scopes.{name_is}
+use Rattle.sap_net.specs.Rules.{Shapes, IsWidth, IsDepth, IsOperand, IsRight, readable_after}
+use Rattle.sap_net.specs.declared.parts.Operand.TheVariants.{Named, Constant}
+use Rattle.sap_net.specs.declared.parts.Right.TheVariants.{Choose}
+use Rattle.sap_net.specs.declared.parts.Wire.{Wire}
+use Rattle.sap_ir.specs.Source.{Action, set, put, Command}
+use Rattle.sap_ir.specs.IsGuarded.{TermFine}
+use Rattle.sap_lower.specs.declared.parts.Part.{Part}
+use Rattle.sap_lower.specs.declared.parts.WritePort.{WritePort}
+use Rattle.sap_lower.specs.Lowering.{nothing, present, Low, plus, low}
+use Rattle.sap_lower.specs.Places.{replaced}
+use Rattle.sap_lower.specs.Commands.{State, no_port, port_of, low_set, low_put, low_action, low_command, low_commands}
+use Rattle.sap_lower.proofs.Stands.{HasEntries, replaced_same, replaced_other, replaced_has}
+use Rattle.sap_lower.proofs.Standing.{ActionOk, CommandOk}
+use Rattle.sap_lower.proofs.Fits.{Fits, NoHelpers, Grows, EnvFits, env_grows, operand_grows, Lowered, plus_at, plus_long, low_long, low_fits}
+
+abbrev pub AllWide : Scope → Type 0
+AllWide vars = (n : Name) (u : ℕ) → find vars n ≡ Some u → IsWidth u
+
+abbrev pub AllCellsWide : Shapes → Type 0
+AllCellsWide ms = (m : Name) (e : ℕ × ℕ) → find ms m ≡ Some e → IsWidth e.0
+
+-- a memory's write port fits the memory
+pub record PortFits (sc : Scope) (p : WritePort) (width depth : ℕ) : Type 0 where
+  pub wide : p.width ≡ width
+  pub deep : IsDepth depth p.bits
+  pub enable : IsOperand sc 1 p.enable
+  pub index : IsOperand sc p.bits p.index
+  pub value : IsOperand sc width p.value
+
+abbrev pub PortsFit : Shapes → Scope → List (Name × WritePort) → Type 0
+PortsFit ms sc ps = (m : Name) (e : ℕ × ℕ) → find ms m ≡ Some e → PortFits sc (port_of ps m) e.0 e.1
+
+pub record StateFits (ms : Shapes) (sc vars : Scope) (s : State) : Type 0 where
+  pub fits : Fits ms sc s.wires
+  pub env : EnvFits (readable_after sc s.wires) vars s.entries
+  pub has : HasEntries vars s.entries
+  pub has_ports : HasEntries ms s.ports
+  pub ports : PortsFit ms (readable_after sc s.wires) s.ports
+
+port_grows : (sc sd : Scope) → Grows sc sd → (p : WritePort) (w d : ℕ) → PortFits sc p w d → PortFits sd p w d
+port_grows sc sd g p w d f =
+    record {
+      wide = f.wide;
+      deep = f.deep;
+      enable = operand_grows sc sd g 1 p.enable f.enable;
+      index = operand_grows sc sd g p.bits p.index f.index;
+      value = operand_grows sc sd g w p.value f.value;
+    }
+
+neither : (a b : ℕ) → nat_lt a b ≡ false → nat_lt b a ≡ false → a ≡ b
+neither a b f g = grind (arith, nat_tests)
+
+pub same_power : (a b : ℕ) → 2 ^ a ≡ 2 ^ b → a ≡ b
+same_power a b e =
+    elim (cases_Bool (nat_lt a b)) [
+      | inl t ↦ absurd (let l : a < b = (Decides-ltb a b).0 t in let k = pow-lt l in omega (arith, k, e))
+      | inr f ↦
+          elim (cases_Bool (nat_lt b a)) [
+            | inl t ↦ absurd (let l : b < a = (Decides-ltb b a).0 t in let k = pow-lt l in omega (arith, k, e))
+            | inr g ↦ neither a b f g
+          ]
+    ]
+
+set_long : (ms : Shapes) (s : State) (c : Term Name) (n : Name) (t : Term Name) → length s.wires ≤ length (low_set ms s c n t).wires
+set_long ms s c n t =
+    let es = s.entries in
+    let z = low ms es c s.wires in
+    let x = low ms es t z.wires in
+    let old = present es n in
+    omega (arith, low_long ms es c s.wires, low_long ms es t z.wires, plus_long x.wires old.width (Choose z.part.operand x.part.operand old.operand))
+
+put_long : (ms : Shapes) (es : List (Name × Part)) (p : WritePort) (c i t : Term Name) (ws : List Wire) → length ws ≤ length (low_put ms es p c i t ws).wires
+put_long ms es p c i t ws =
+    let z = low ms es c ws in
+    let y = low ms es i z.wires in
+    let x = low ms es t y.wires in
+    let re = Choose z.part.operand (Constant 1 1) p.enable in
+    let e = plus x.wires 1 re in
+    let rj = Choose z.part.operand y.part.operand p.index in
+    let j = plus e.wires p.bits rj in
+    let rl = Choose z.part.operand x.part.operand p.value in
+    omega (arith, low_long ms es c ws, low_long ms es i z.wires, low_long ms es t y.wires, plus_long x.wires 1 re, plus_long e.wires p.bits rj, plus_long j.wires p.width rl)
+
+action_long : (ms : Shapes) (s : State) (c : Term Name) (a : Action) → length s.wires ≤ length (low_action ms s c a).wires
+action_long ms s c (set x t) = set_long ms s c x t
+action_long ms s c (put m i t) = put_long ms s.entries (port_of s.ports m) c i t s.wires
+
+commands_long : (ms : Shapes) (cs : List Command) (s : State) → length s.wires ≤ length (low_commands ms s cs).wires
+commands_long ms [] s = omega arith
+commands_long ms (c ∷ cs) s = omega (arith, action_long ms s c.when c.act, commands_long ms cs (low_command ms s c))
+
+one_wide : IsWidth 1
+one_wide = (omega arith, omega arith)
+
+ports_grow : (ms : Shapes) (sc sd : Scope) (ps : List (Name × WritePort)) → Grows sc sd → PortsFit ms sc ps → PortsFit ms sd ps
+ports_grow ms sc sd ps g f m e h = port_grows sc sd g (port_of ps m) e.0 e.1 (f m e h)
+
+set_fits : (ms : Shapes) (sc vars : Scope) → NoHelpers ms → AllWide vars → (s : State) (c : Term Name) (n : Name) (t : Term Name) (u : ℕ) → find vars n ≡ Some u → TermFine ms vars 1 c → TermFine ms vars u t → StateFits ms sc vars s → length (low_set ms s c n t).wires < 2 ^ 64
+    → Lowered ms sc s.wires (low_set ms s c n t).wires (low_set ms s c n t).part u
+set_fits ms sc vars apart wide s c n t u found fc ft k l =
+    let es = s.entries in
+    let z = low ms es c s.wires in
+    let x = low ms es t z.wires in
+    let o = present es n in
+    let r = Choose z.part.operand x.part.operand o.operand in
+    let e = plus_long x.wires o.width r in
+    let lx = low_long ms es t z.wires in
+    let iu = wide n u found in
+    let c' = low_fits ms sc vars es apart 1 c one_wide fc s.wires k.env k.fits (omega (arith, e, lx)) in
+    let ez = env_grows (readable_after sc s.wires) (readable_after sc z.wires) vars es c'.grows k.env in
+    let t' = low_fits ms sc vars es apart u t iu ft z.wires ez c'.fits (omega (arith, e)) in
+    let ex = env_grows (readable_after sc z.wires) (readable_after sc x.wires) vars es t'.grows ez in
+    let old = ex n u found in
+    let oc = operand_grows (readable_after sc z.wires) (readable_after sc x.wires) t'.grows 1 z.part.operand c'.operand in
+    let p = plus_at ms sc x.wires o.width u r old.1 apart t'.fits iu (oc, t'.operand, old.0) (omega (arith, e)) in
+    record {
+      fits = p.fits;
+      grows = λ m q h. p.grows m q (t'.grows m q (c'.grows m q h));
+      operand = p.operand;
+      width = p.width;
+    }
+
+set_state_fits : (ms : Shapes) (sc vars : Scope) → NoHelpers ms → AllWide vars → (s : State) (c : Term Name) (n : Name) (t : Term Name) (u : ℕ) → find vars n ≡ Some u → TermFine ms vars 1 c → TermFine ms vars u t → StateFits ms sc vars s → length (low_set ms s c n t).wires < 2 ^ 64
+    → StateFits ms sc vars (low_action ms s c (set n t))
+set_state_fits ms sc vars apart wide s c n t u found fc ft k l =
+    let p = set_fits ms sc vars apart wide s c n t u found fc ft k l in
+    let m = low_set ms s c n t in
+    let y = m.part in
+    let em = env_grows (readable_after sc s.wires) (readable_after sc m.wires) vars s.entries p.grows k.env in
+    record {
+      fits = p.fits;
+      has = replaced_has vars s.entries n y k.has;
+      has_ports = k.has_ports;
+      ports = ports_grow ms (readable_after sc s.wires) (readable_after sc m.wires) s.ports p.grows k.ports;
+      env = λ q w h.
+          elim (cases_Bool (bytes_eq n q)) [
+            | inl same ↦
+                let nq : n ≡ q = name_is n q same in
+                let found' : find vars q ≡ Some u = subst (λ (a : Name). find vars a ≡ Some u) nq found in
+                let uw : u ≡ w = cc in
+                let old = k.has n u found in
+                let z : present (replaced s.entries n y) n ≡ y = ap (λ o. unwrap_or o nothing) (replaced_same s.entries n y old.0 old.1) in
+                let there : IsOperand (readable_after sc m.wires) u (present (replaced s.entries n y) n).operand × ((present (replaced s.entries n y) n).width ≡ u) = rw z (p.operand, p.width) in
+                subst (λ (a : Name). IsOperand (readable_after sc m.wires) w (present (replaced s.entries n y) a).operand × ((present (replaced s.entries n y) a).width ≡ w)) nq (subst (λ (b : ℕ). IsOperand (readable_after sc m.wires) b (present (replaced s.entries n y) n).operand × ((present (replaced s.entries n y) n).width ≡ b)) uw there)
+            | inr d ↦
+                let z : present (replaced s.entries n y) q ≡ present s.entries q = ap (λ o. unwrap_or o nothing) (replaced_other s.entries n q y d) in
+                rw z (em q w h)
+          ];
+    }
+
+put_state_fits : (ms : Shapes) (sc vars : Scope) → NoHelpers ms → AllCellsWide ms → (s : State) (c : Term Name) (m : Name) (i t : Term Name) (w b : ℕ) → IsWidth b → find ms m ≡ Some (w, 2 ^ b) → TermFine ms vars 1 c → TermFine ms vars b i → TermFine ms vars w t → StateFits ms sc vars s → length (low_action ms s c (put m i t)).wires < 2 ^ 64
+    → StateFits ms sc vars (low_action ms s c (put m i t))
+put_state_fits ms sc vars apart wide s c m i t w b ib found fc fi ft k len =
+    let es = s.entries in
+    let p = port_of s.ports m in
+    let pf = k.ports m (w, 2 ^ b) found in
+    let z = low ms es c s.wires in
+    let y = low ms es i z.wires in
+    let x = low ms es t y.wires in
+    let re = Choose z.part.operand (Constant 1 1) p.enable in
+    let e = plus x.wires 1 re in
+    let rj = Choose z.part.operand y.part.operand p.index in
+    let j = plus e.wires p.bits rj in
+    let rl = Choose z.part.operand x.part.operand p.value in
+    let l = plus j.wires p.width rl in
+    let ll = plus_long j.wires p.width rl in
+    let lj = plus_long e.wires p.bits rj in
+    let le = plus_long x.wires 1 re in
+    let lx = low_long ms es t y.wires in
+    let ly = low_long ms es i z.wires in
+    let iw = wide m (w, 2 ^ b) found in
+    let bits : b ≡ p.bits = same_power b p.bits pf.deep.2 in
+    let s0 = readable_after sc s.wires in
+    let sz = readable_after sc z.wires in
+    let sy = readable_after sc y.wires in
+    let sx = readable_after sc x.wires in
+    let se = readable_after sc e.wires in
+    let sj = readable_after sc j.wires in
+    let sl = readable_after sc l.wires in
+    let c' = low_fits ms sc vars es apart 1 c one_wide fc s.wires k.env k.fits (omega (arith, ll, lj, le, lx, ly)) in
+    let ez = env_grows s0 sz vars es c'.grows k.env in
+    let i' = low_fits ms sc vars es apart b i ib fi z.wires ez c'.fits (omega (arith, ll, lj, le, lx)) in
+    let ey = env_grows sz sy vars es i'.grows ez in
+    let t' = low_fits ms sc vars es apart w t iw ft y.wires ey i'.fits (omega (arith, ll, lj, le)) in
+    let g0x : Grows s0 sx = λ n q h. t'.grows n q (i'.grows n q (c'.grows n q h)) in
+    let px = port_grows s0 sx g0x p w (2 ^ b) pf in
+    let oc = operand_grows sy sx t'.grows 1 z.part.operand (operand_grows sz sy i'.grows 1 z.part.operand c'.operand) in
+    let oi = operand_grows sy sx t'.grows b y.part.operand i'.operand in
+    let e' = plus_at ms sc x.wires 1 1 re refl apart t'.fits one_wide (oc, (refl, omega arith), px.enable) (omega (arith, ll, lj, le)) in
+    let pe = port_grows sx se e'.grows p w (2 ^ b) px in
+    let oi' = subst (λ (q : ℕ). IsOperand se q y.part.operand) bits (operand_grows sx se e'.grows b y.part.operand oi) in
+    let j' = plus_at ms sc e.wires p.bits p.bits rj refl apart e'.fits (subst (λ (q : ℕ). IsWidth q) bits ib) (operand_grows sx se e'.grows 1 z.part.operand oc, oi', pe.index) (omega (arith, ll, lj)) in
+    let pj = port_grows se sj j'.grows p w (2 ^ b) pe in
+    let ot = operand_grows se sj j'.grows w x.part.operand (operand_grows sx se e'.grows w x.part.operand t'.operand) in
+    let ocj = operand_grows se sj j'.grows 1 z.part.operand (operand_grows sx se e'.grows 1 z.part.operand oc) in
+    let l' = plus_at ms sc j.wires p.width w rl pf.wide apart j'.fits iw (ocj, ot, pj.value) (omega (arith, ll)) in
+    let g0l : Grows s0 sl = λ n q h. l'.grows n q (j'.grows n q (e'.grows n q (g0x n q h))) in
+    let port = (low_put ms es p c i t s.wires).port in
+    let here : PortFits sl port w (2 ^ b) = record {
+      wide = pf.wide;
+      deep = pf.deep;
+      enable = operand_grows sj sl l'.grows 1 e.part.operand (operand_grows se sj j'.grows 1 e.part.operand e'.operand);
+      index = operand_grows sj sl l'.grows p.bits j.part.operand j'.operand;
+      value = l'.operand;
+    } in
+    record {
+      fits = l'.fits;
+      env = env_grows s0 sl vars es g0l k.env;
+      has = k.has;
+      has_ports = replaced_has ms s.ports m port k.has_ports;
+      ports = λ n q h.
+          elim (cases_Bool (bytes_eq m n)) [
+            | inl same ↦
+                let mn : m ≡ n = name_is m n same in
+                let found' : find ms n ≡ Some (w, 2 ^ b) = subst (λ (a : Name). find ms a ≡ Some (w, 2 ^ b)) mn found in
+                let eq : (w, 2 ^ b) ≡ q = cc in
+                let old = k.has_ports m (w, 2 ^ b) found in
+                let r : port_of (replaced s.ports m port) m ≡ port = ap (λ o. unwrap_or o no_port) (replaced_same s.ports m port old.0 old.1) in
+                let there : PortFits sl (port_of (replaced s.ports m port) m) w (2 ^ b) = rw r here in
+                subst (λ (a : Name). PortFits sl (port_of (replaced s.ports m port) a) q.0 q.1) mn (subst (λ (d : ℕ × ℕ). PortFits sl (port_of (replaced s.ports m port) m) d.0 d.1) eq there)
+            | inr d ↦
+                let r : port_of (replaced s.ports m port) n ≡ port_of s.ports n = ap (λ o. unwrap_or o no_port) (replaced_other s.ports m n port d) in
+                rw r (port_grows s0 sl g0l (port_of s.ports n) q.0 q.1 (k.ports n q h))
+          ];
+    }
+
+action_fits : (ms : Shapes) (sc vars : Scope) → NoHelpers ms → AllWide vars → AllCellsWide ms → (s : State) (c : Term Name) (a : Action) → TermFine ms vars 1 c → ActionOk ms vars a → StateFits ms sc vars s → length (low_action ms s c a).wires < 2 ^ 64 → StateFits ms sc vars (low_action ms s c a)
+action_fits ms sc vars apart wide cells s c (set x t) fc f k l = set_state_fits ms sc vars apart wide s c x t f.0 f.1 fc f.2 k l
+action_fits ms sc vars apart wide cells s c (put m i t) fc f k l = put_state_fits ms sc vars apart cells s c m i t f.0 f.1 f.2 f.3 fc f.4 f.5 k l
+
+pub commands_fit : (ms : Shapes) (sc vars : Scope) → NoHelpers ms → AllWide vars → AllCellsWide ms → (cs : List Command) (s : State) → AllByRecursion (CommandOk ms vars) cs → StateFits ms sc vars s → length (low_commands ms s cs).wires < 2 ^ 64 → StateFits ms sc vars (low_commands ms s cs)
+commands_fit ms sc vars apart wide cells [] s f k l = k
+commands_fit ms sc vars apart wide cells (c ∷ cs) s f k l =
+    let one = action_fits ms sc vars apart wide cells s c.when c.act f.0.0 f.0.1 k (omega (arith, commands_long ms cs (low_command ms s c))) in
+    commands_fit ms sc vars apart wide cells cs (low_command ms s c) f.1 one l

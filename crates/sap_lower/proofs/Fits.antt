@@ -1,0 +1,259 @@
+-- The wires of an expression are declared once, read after they are assigned, and fit.
+use Rattle.std.proofs.Common.{◌≡◌, ℕ, suc, ◌+◌, ◌-◌, ◌*◌, ◌/◌, ◌%◌, ◌^◌, ◌<◌, ◌≤◌, List, [], ◌∷◌, ◌++◌, Option, Some, None, Bool, true, false, length, sym, ap, ap₂, ◌∙◌, subst, refl, arith, inl, inr, length-append}
+use Rattle.std.specs.Prelude.{if◌then◌else◌, unwrap_or}
+use Rattle.std.specs.Str.{bytes_eq}
+use Rattle.std.specs.Fmt.{decimal}
+use Rattle.std.proofs.Math.Pow.{pow_pos}
+use Rattle.std.proofs.Math.Nat.{mod-lt}
+use Rattle.std.proofs.lemmas.Fmt.{decimal_injective}
+use Rattle.std.proofs.lemmas.Bool.{cases_Bool}
+use Rattle.sap_bits.specs.Arithmetic.{width1, width2, slice_of}
+use Rattle.sap_bits.specs.declared.Op2.{Op2}
+use Rattle.sap_bits.specs.declared.Op2.TheVariants.{Add, Sub, Mul, And, Or, Xor, Eq, Ne, Lt, Le, Shl, Shr}
+use Rattle.sap_maps.specs.Maps.{Name}
+use Rattle.sap_maps.specs.Scope.{Scope, find}
+use Rattle.sap_maps.specs.Term.{Term, constant, read, cell, one, two, choose, join, part, CountFits}
+use Rattle.sap_maps.proofs.Scopes.{same_name, name_is, found_here, found_behind}
+use Rattle.sap_net.specs.Rules.{Shapes, IsWidth, IsOperand, AreOperands, IsRight, AreWires, readable_after}
+use Rattle.sap_net.specs.declared.parts.Operand.{Operand}
+use Rattle.sap_net.specs.declared.parts.Operand.TheVariants.{Named, Constant}
+use Rattle.sap_net.specs.declared.parts.Right.{Right}
+use Rattle.sap_net.specs.declared.parts.Right.TheVariants.{One, Two, Choose, Concat, Slice, Cell}
+use Rattle.sap_net.specs.declared.parts.Wire.{Wire}
+use Rattle.sap_ir.specs.IsGuarded.{TermFine, is_helping}
+use Rattle.sap_lower.proofs.Helping.{other_name, helper_is_name}
+use Rattle.sap_lower.proofs.Order.{all_append}
+use Rattle.sap_net.specs.Names.{is_name}
+use Rattle.std.specs.List.{AllByRecursion}
+use Rattle.sap_lower.specs.declared.parts.Part.{Part}
+use Rattle.sap_lower.specs.Lowering.{helper, present, Low, plus, leaves_nothing, is_past, low_two, sliced, is_outside, low_slice, low_join, cell_width, low, nothing}
+use Rattle.sap_lower.proofs.Means.{small_sum, slice_inside}
+
+-- the wires fit, have names, the helping names from the next on are new, and no other name is added
+pub record Fits (ms : Shapes) (sc : Scope) (ws : List Wire) : Type 0 where
+  pub wires : AreWires ms sc ws
+  pub fresh : (k : ℕ) → length ws ≤ k → k < 2 ^ 64 → find (readable_after sc ws) (helper k) ≡ None
+  pub named : AllByRecursion (λ w. is_name w.name ≡ true) ws
+  pub others : (n : Name) → is_helping n ≡ false → find (readable_after sc ws) n ≡ find sc n
+
+-- no memory has a helping name
+abbrev pub NoHelpers : Shapes → Type 0
+NoHelpers ms = (k : ℕ) → k < 2 ^ 64 → find ms (helper k) ≡ None
+
+abbrev pub Grows : Scope → Scope → Type 0
+Grows sc sd = (n : Name) (u : ℕ) → find sc n ≡ Some u → find sd n ≡ Some u
+
+abbrev pub EnvFits : (sc vars : Scope) → List (Name × Part) → Type 0
+EnvFits sc vars es = (n : Name) (u : ℕ) → find vars n ≡ Some u → IsOperand sc u (present es n).operand × ((present es n).width ≡ u)
+
+pub operand_grows : (sc sd : Scope) → Grows sc sd → (u : ℕ) (o : Operand) → IsOperand sc u o → IsOperand sd u o
+operand_grows sc sd g u (Named n) h = g n u h
+operand_grows sc sd g u (Constant w x) h = h
+
+pub env_grows : (sc sd vars : Scope) (es : List (Name × Part)) → Grows sc sd → EnvFits sc vars es → EnvFits sd vars es
+env_grows sc sd vars es g e n u h = (operand_grows sc sd g u _ (e n u h).0, (e n u h).1)
+
+pub readable_push : (ws : List Wire) (sc : Scope) (w : Wire) → readable_after sc (ws ++ w ∷ []) ≡ (w.name, w.width) ∷ readable_after sc ws
+readable_push [] sc w = refl
+readable_push (x ∷ ws) sc w = readable_push ws ((x.name, x.width) ∷ sc) w
+
+pub wires_push : (ms : Shapes) (ws : List Wire) (sc : Scope) (w : Wire) → AreWires ms sc ws → IsWidth w.width → find (readable_after sc ws) w.name ≡ None → find ms w.name ≡ None → IsRight ms (readable_after sc ws) w.width w.right → AreWires ms sc (ws ++ w ∷ [])
+wires_push ms [] sc w f i n k r = (i, n, k, r, tt)
+wires_push ms (x ∷ ws) sc w f i n k r = (f.0, f.1, f.2, f.3, wires_push ms ws _ w f.4 i n k r)
+
+helpers_differ : (j k : ℕ) → j < 2 ^ 64 → k < 2 ^ 64 → j < k → bytes_eq (helper j) (helper k) ≡ false
+unfolding helper
+helpers_differ j k a b l =
+    elim (cases_Bool (bytes_eq (helper j) (helper k))) [
+      | inl t ↦ absurd (let e : helper j ≡ helper k = name_is (helper j) (helper k) t in let d : decimal j ≡ decimal k = cc in let s : j ≡ k = decimal_injective j k a b d in omega arith)
+      | inr f ↦ f
+    ]
+
+pub record Lowered (ms : Shapes) (sc : Scope) (ws after : List Wire) (p : Part) (u : ℕ) : Type 0 where
+  pub fits : Fits ms sc after
+  pub grows : Grows (readable_after sc ws) (readable_after sc after)
+  pub operand : IsOperand (readable_after sc after) u p.operand
+  pub width : p.width ≡ u
+
+pub plus_long : (ws : List Wire) (u : ℕ) (r : Right) → length (plus ws u r).wires ≡ length ws + 1
+plus_long ws u r = omega (arith, length-append ws (record { name = helper (length ws); width = u; right = r } ∷ []))
+
+plus_fits : (ms : Shapes) (sc : Scope) (ws : List Wire) (u : ℕ) (r : Right) → NoHelpers ms → Fits ms sc ws → IsWidth u → IsRight ms (readable_after sc ws) u r → length ws + 1 < 2 ^ 64 → Lowered ms sc ws (plus ws u r).wires (plus ws u r).part u
+plus_fits ms sc ws u r apart fits i f l =
+    let n = helper (length ws) in
+    let w : Wire = record { name = n; width = u; right = r } in
+    let new = fits.fresh (length ws) (omega arith) (omega arith) in
+    let e = readable_push ws sc w in
+    record {
+      fits = record {
+        wires = wires_push ms ws sc w fits.wires i new (apart (length ws) (omega arith)) f;
+        fresh = λ k le lt.
+            let lp : length ws + 1 ≤ k = omega (arith, plus_long ws u r) in
+            let d = helpers_differ (length ws) k (omega arith) lt (omega arith) in
+            rw (e, d) (fits.fresh k (omega arith) lt);
+        named = all_append (λ (x : Wire). is_name x.name ≡ true) ws (w ∷ []) fits.named (helper_is_name (length ws) (omega arith), tt);
+        others = λ m h. let d = other_name (length ws) (omega arith) m h in rw (e, d) (fits.others m h);
+      };
+      grows = λ m w h. rw e (found_behind (readable_after sc ws) n u new m w h);
+      operand = rw e (found_here n u (readable_after sc ws));
+      width = refl;
+    }
+
+-- at a width that is equal to the one that is written
+pub plus_at : (ms : Shapes) (sc : Scope) (ws : List Wire) (w u : ℕ) (r : Right) → w ≡ u → NoHelpers ms → Fits ms sc ws → IsWidth u → IsRight ms (readable_after sc ws) u r → length ws + 1 < 2 ^ 64 → Lowered ms sc ws (plus ws w r).wires (plus ws w r).part u
+plus_at ms sc ws w u r e apart fits i f l =
+    subst (λ (k : ℕ). Lowered ms sc ws (plus ws k r).wires (plus ws k r).part u) (sym e) (plus_fits ms sc ws u r apart fits i f l)
+
+-- no wire is lost
+
+two_long_at : (b : Bool) (ws : List Wire) (p : Part) (u : ℕ) (r : Right) → length ws ≤ length (if b then record { wires = ws; part = p } else plus ws u r).wires
+two_long_at true ws p u r = omega arith
+two_long_at false ws p u r = omega (arith, plus_long ws u r)
+
+pub two_long : (op : Op2) (x y : Part) (ws : List Wire) → length ws ≤ length (low_two op x y ws).wires
+two_long op x y ws = two_long_at (leaves_nothing op x.width y.operand) ws _ _ _
+
+sliced_long : (b : Bool) (o : Operand) (hi lo : ℕ) (ws : List Wire) (p : Part) → length ws ≤ length (if b then record { wires = ws; part = p } else sliced o hi lo ws).wires
+sliced_long true o hi lo ws p = omega arith
+sliced_long false (Named x) hi lo ws p = omega (arith, plus_long ws (hi + 1 - lo) (Slice x hi lo))
+sliced_long false (Constant w n) hi lo ws p = omega arith
+
+pub slice_long : (o : Operand) (hi lo : ℕ) (ws : List Wire) → length ws ≤ length (low_slice o hi lo ws).wires
+slice_long o hi lo ws = sliced_long (is_outside hi lo) o hi lo ws nothing
+
+pub low_long : (ms : Shapes) (es : List (Name × Part)) (t : Term Name) (ws : List Wire) → length ws ≤ length (low ms es t ws).wires
+low_long ms es (constant w x) ws = omega arith
+low_long ms es (read n) ws = omega arith
+low_long ms es (cell m i) ws =
+    let y = low ms es i ws in
+    omega (arith, low_long ms es i ws, plus_long y.wires (cell_width ms m) (Cell m y.part.operand))
+low_long ms es (one op a) ws =
+    let x = low ms es a ws in
+    omega (arith, low_long ms es a ws, plus_long x.wires (width1 op x.part.width) (One op x.part.operand))
+low_long ms es (two op a b) ws =
+    let x = low ms es a ws in
+    let y = low ms es b x.wires in
+    omega (arith, low_long ms es a ws, low_long ms es b x.wires, two_long op x.part y.part y.wires)
+low_long ms es (choose c a b) ws =
+    let z = low ms es c ws in
+    let x = low ms es a z.wires in
+    let y = low ms es b x.wires in
+    let e = plus_long y.wires x.part.width (Choose z.part.operand x.part.operand y.part.operand) in
+    omega (arith, low_long ms es c ws, low_long ms es a z.wires, low_long ms es b x.wires, e)
+low_long ms es (join a b) ws =
+    let x = low ms es a ws in
+    let y = low ms es b x.wires in
+    let e = plus_long y.wires ((x.part.width + y.part.width) % 4294967296) (Concat (x.part.operand ∷ y.part.operand ∷ [])) in
+    omega (arith, low_long ms es a ws, low_long ms es b x.wires, e)
+low_long ms es (part a hi lo) ws =
+    let x = low ms es a ws in
+    omega (arith, low_long ms es a ws, slice_long x.part.operand hi lo x.wires)
+
+-- one step after another
+pub followed : (ms : Shapes) (sc : Scope) (ws xs ys : List Wire) (p q : Part) (u w : ℕ) → Lowered ms sc ws xs p u → Lowered ms sc xs ys q w → Lowered ms sc ws ys q w
+followed ms sc ws xs ys p q u w a b = record { fits = b.fits; grows = λ n k h. b.grows n k (a.grows n k h); operand = b.operand; width = b.width }
+
+shift_width : (op : Op2) (w : ℕ) (o : Operand) → leaves_nothing op w o ≡ true → width2 op w ≡ w
+shift_width Shl w o h = refl
+shift_width Shr w o h = refl
+shift_width Add w o h = absurd (cc)
+shift_width Sub w o h = absurd (cc)
+shift_width Mul w o h = absurd (cc)
+shift_width And w o h = absurd (cc)
+shift_width Or w o h = absurd (cc)
+shift_width Xor w o h = absurd (cc)
+shift_width Eq w o h = absurd (cc)
+shift_width Ne w o h = absurd (cc)
+shift_width Lt w o h = absurd (cc)
+shift_width Le w o h = absurd (cc)
+
+two_fits : (ms : Shapes) (sc : Scope) (op : Op2) (x y : Part) (ws : List Wire) (w t u : ℕ) → NoHelpers ms → Fits ms sc ws → IsWidth w → IsWidth t → IsWidth u → IsOperand (readable_after sc ws) w x.operand → x.width ≡ w → IsOperand (readable_after sc ws) t y.operand → CountFits op w t → u ≡ width2 op w → length (low_two op x y ws).wires < 2 ^ 64 → Lowered ms sc ws (low_two op x y ws).wires (low_two op x y ws).part u
+two_fits ms sc op x y ws w t u apart fits iw it iu ox xw oy cf e l =
+    elim (cases_Bool (leaves_nothing op x.width y.operand)) [
+      | inl b ↦
+          let g : width2 op x.width ≡ x.width = shift_width op x.width y.operand b in
+          let k : x.width ≡ u = sym g ∙ ap (λ (n : ℕ). width2 op n) xw ∙ sym e in
+          rw b (record { fits = fits; grows = λ n q h. h; operand = (k, pow_pos u); width = k })
+      | inr b ↦
+          let l' : length (plus ws (width2 op x.width) (Two op x.operand y.operand)).wires < 2 ^ 64 = rw b at l in
+          let p = plus_at ms sc ws (width2 op x.width) u (Two op x.operand y.operand) (ap (λ (n : ℕ). width2 op n) xw ∙ sym e) apart fits iu (w, t, iw, it, ox, oy, cf, e) (omega (arith, plus_long ws (width2 op x.width) (Two op x.operand y.operand))) in
+          rw b p
+    ]
+
+slice_fits : (ms : Shapes) (sc : Scope) (o : Operand) (hi lo : ℕ) (ws : List Wire) (w u : ℕ) → NoHelpers ms → Fits ms sc ws → IsWidth w → IsWidth u → IsOperand (readable_after sc ws) w o → lo ≤ hi → hi < w → u ≡ hi + 1 - lo → length (sliced o hi lo ws).wires < 2 ^ 64 → Lowered ms sc ws (sliced o hi lo ws).wires (sliced o hi lo ws).part u
+slice_fits ms sc (Named x) hi lo ws w u apart fits iw iu o a b e l =
+    plus_at ms sc ws (hi + 1 - lo) u (Slice x hi lo) (sym e) apart fits iu (w, iw, o, a, b, e) (omega (arith, plus_long ws (hi + 1 - lo) (Slice x hi lo)))
+slice_fits ms sc (Constant k n) hi lo ws w u apart fits iw iu o a b e l =
+    record {
+      fits = fits;
+      grows = λ m q h. h;
+      operand = (sym e, subst (λ (q : ℕ). slice_of n hi lo < 2 ^ q) (sym e) (mod-lt (n / 2 ^ lo) (pow_pos (hi + 1 - lo))));
+      width = sym e;
+    }
+
+pub low_fits : (ms : Shapes) (sc vars : Scope) (es : List (Name × Part)) → NoHelpers ms → (u : ℕ) (t : Term Name) → IsWidth u → TermFine ms vars u t → (ws : List Wire) → EnvFits (readable_after sc ws) vars es → Fits ms sc ws → length (low ms es t ws).wires < 2 ^ 64 → Lowered ms sc ws (low ms es t ws).wires (low ms es t ws).part u
+low_fits ms sc vars es apart u (constant w x) iu f ws env fits l =
+    record { fits = fits; grows = λ n k h. h; operand = (f.0, f.1); width = f.0 }
+low_fits ms sc vars es apart u (read n) iu f ws env fits l =
+    record { fits = fits; grows = λ m k h. h; operand = (env n u f).0; width = (env n u f).1 }
+low_fits ms sc vars es apart u (cell m i) iu f ws env fits l =
+    let y = low ms es i ws in
+    let e = plus_long y.wires (cell_width ms m) (Cell m y.part.operand) in
+    let i' = low_fits ms sc vars es apart f.0 i f.1 f.3 ws env fits (omega (arith, e)) in
+    let w : cell_width ms m ≡ u = ap (λ (o : Option (ℕ × ℕ)). (unwrap_or o (0, 0)).0) f.2 in
+    let p = plus_at ms sc y.wires (cell_width ms m) u (Cell m y.part.operand) w apart i'.fits iu (f.0, f.2, i'.operand) (omega (arith, e)) in
+    followed ms sc ws y.wires _ y.part _ f.0 u i' p
+low_fits ms sc vars es apart u (one op a) iu f ws env fits l =
+    let x = low ms es a ws in
+    let e = plus_long x.wires (width1 op x.part.width) (One op x.part.operand) in
+    let a' = low_fits ms sc vars es apart f.0 a f.1 f.2 ws env fits (omega (arith, e)) in
+    let w : width1 op x.part.width ≡ u = ap (λ (n : ℕ). width1 op n) a'.width ∙ sym f.3 in
+    let p = plus_at ms sc x.wires (width1 op x.part.width) u (One op x.part.operand) w apart a'.fits iu (f.0, f.1, a'.operand, f.3) (omega (arith, e)) in
+    followed ms sc ws x.wires _ x.part _ f.0 u a' p
+low_fits ms sc vars es apart u (two op a b) iu f ws env fits l =
+    let x = low ms es a ws in
+    let y = low ms es b x.wires in
+    let e = two_long op x.part y.part y.wires in
+    let lb = low_long ms es b x.wires in
+    let a' = low_fits ms sc vars es apart f.0 a f.2 f.4 ws env fits (omega (arith, e, lb)) in
+    let b' = low_fits ms sc vars es apart f.1 b f.3 f.5 x.wires (env_grows _ _ vars es a'.grows env) a'.fits (omega (arith, e)) in
+    let o = operand_grows (readable_after sc x.wires) (readable_after sc y.wires) b'.grows f.0 x.part.operand a'.operand in
+    let p = two_fits ms sc op x.part y.part y.wires f.0 f.1 u apart b'.fits f.2 f.3 iu o a'.width b'.operand f.6 f.7 l in
+    followed ms sc ws y.wires _ y.part _ f.1 u (followed ms sc ws x.wires y.wires x.part y.part f.0 f.1 a' b') p
+low_fits ms sc vars es apart u (choose c a b) iu f ws env fits l =
+    let z = low ms es c ws in
+    let x = low ms es a z.wires in
+    let y = low ms es b x.wires in
+    let e = plus_long y.wires x.part.width (Choose z.part.operand x.part.operand y.part.operand) in
+    let lb = low_long ms es b x.wires in
+    let la = low_long ms es a z.wires in
+    let c' = low_fits ms sc vars es apart 1 c (omega arith, omega arith) f.0 ws env fits (omega (arith, e, lb, la)) in
+    let ea = env_grows _ _ vars es c'.grows env in
+    let a' = low_fits ms sc vars es apart u a iu f.1 z.wires ea c'.fits (omega (arith, e, lb)) in
+    let eb = env_grows _ _ vars es a'.grows ea in
+    let b' = low_fits ms sc vars es apart u b iu f.2 x.wires eb a'.fits (omega (arith, e)) in
+    let oc = operand_grows (readable_after sc x.wires) (readable_after sc y.wires) b'.grows 1 z.part.operand (operand_grows (readable_after sc z.wires) (readable_after sc x.wires) a'.grows 1 z.part.operand c'.operand) in
+    let oa = operand_grows (readable_after sc x.wires) (readable_after sc y.wires) b'.grows u x.part.operand a'.operand in
+    let p = plus_at ms sc y.wires x.part.width u (Choose z.part.operand x.part.operand y.part.operand) a'.width apart b'.fits iu (oc, oa, b'.operand) (omega (arith, e)) in
+    followed ms sc ws y.wires _ y.part _ u u (followed ms sc ws x.wires y.wires x.part y.part u u (followed ms sc ws z.wires x.wires z.part x.part 1 u c' a') b') p
+low_fits ms sc vars es apart u (join a b) iu f ws env fits l =
+    let x = low ms es a ws in
+    let y = low ms es b x.wires in
+    let w = (x.part.width + y.part.width) % 4294967296 in
+    let r = Concat (x.part.operand ∷ y.part.operand ∷ []) in
+    let e = plus_long y.wires w r in
+    let lb = low_long ms es b x.wires in
+    let a' = low_fits ms sc vars es apart f.0 a f.2 f.4 ws env fits (omega (arith, e, lb)) in
+    let b' = low_fits ms sc vars es apart f.1 b f.3 f.5 x.wires (env_grows _ _ vars es a'.grows env) a'.fits (omega (arith, e)) in
+    let o = operand_grows (readable_after sc x.wires) (readable_after sc y.wires) b'.grows f.0 x.part.operand a'.operand in
+    let wu : w ≡ u = ap₂ (λ (j k : ℕ). (j + k) % 4294967296) a'.width b'.width ∙ small_sum f.0 f.1 f.2.1 f.3.1 ∙ sym f.6 in
+    let p = plus_at ms sc y.wires w u r wu apart b'.fits iu (omega arith, (f.0, f.1, f.2, o, (f.1, 0, f.3, b'.operand, refl, omega arith), f.6)) (omega (arith, e)) in
+    followed ms sc ws y.wires _ y.part _ f.1 u (followed ms sc ws x.wires y.wires x.part y.part f.0 f.1 a' b') p
+low_fits ms sc vars es apart u (part a hi lo) iu f ws env fits l =
+    let x = low ms es a ws in
+    let e = slice_long x.part.operand hi lo x.wires in
+    let a' = low_fits ms sc vars es apart f.0 a f.1 f.2 ws env fits (omega (arith, e)) in
+    let there = slice_inside f.0 hi lo f.3 f.4 f.1.1 in
+    let l' : length (sliced x.part.operand hi lo x.wires).wires < 2 ^ 64 = rw there at l in
+    let p = slice_fits ms sc x.part.operand hi lo x.wires f.0 u apart a'.fits f.1 iu a'.operand f.3 f.4 f.5 l' in
+    rw there (followed ms sc ws x.wires (sliced x.part.operand hi lo x.wires).wires x.part (sliced x.part.operand hi lo x.wires).part f.0 u a' p)

@@ -1,0 +1,135 @@
+-- What is made of a program is its netlist, with all that is known of it.
+use Rattle.std.proofs.Common.{◌≡◌, ℕ, ◌^◌, ◌<◌, List, [], ◌∷◌, ◌++◌, map, length, Option, Some, None, Bool, true, false, sym, ap, ap₂, ◌∙◌, subst, refl}
+use Rattle.std.specs.List.{AllByRecursion}
+use Rattle.sap_maps.specs.Maps.{Name}
+use Rattle.sap_maps.specs.Scope.{Scope, find}
+use Rattle.sap_net.specs.Names.{is_among, AreDistinct}
+use Rattle.sap_net.specs.Net.{Net}
+use Rattle.sap_net.specs.Rules.{Shapes, readable_after}
+use Rattle.sap_net.specs.IsNetlist.{readable, shapes, IsNetlist}
+use Rattle.sap_net.proofs.Within.{readable_to_the_end}
+use Rattle.sap_net.specs.declared.parts.Wire.{Wire}
+use Rattle.sap_net.specs.declared.parts.Register.{Register}
+use Rattle.sap_net.specs.declared.parts.Memory.{Memory}
+use Rattle.sap_ir.specs.declared.guarded.Var.{Var}
+use Rattle.sap_ir.specs.declared.guarded.Store.{Store}
+use Rattle.sap_ir.specs.Source.{Source, Command}
+use Rattle.sap_ir.specs.Source as source
+use Rattle.sap_ir.specs.IsGuarded as ir
+use Rattle.sap_ir.specs.IsGuarded.{variable_names, declared, IsGuarded}
+use Rattle.sap_ir.proofs.Declared.{among_front, not_front, distinct_front, distinct_behind, apart_lists, apart_lists_back, not_found, found_second}
+use Rattle.sap_lower.specs.declared.parts.Part.{Part}
+use Rattle.sap_lower.specs.declared.parts.WritePort.{WritePort}
+use Rattle.sap_lower.specs.Commands.{State, low_commands}
+use Rattle.sap_lower.specs.Lookup.{shapes_of}
+use Rattle.sap_lower.specs.Lowered.{named_entry, zero_entry, first_entries, first_port, first_state, last_state, out_wire, register_of, memory_of, registers_declared, all_wires, wire_list_names, net_declared, lowered}
+use Rattle.sap_lower.specs.Places.{names_of}
+use Rattle.sap_lower.specs.Same.{Declares}
+use Rattle.sap_lower.proofs.Steps.{same_state}
+use Rattle.sap_lower.proofs.Order.{same_found, found_of}
+use Rattle.sap_lower.proofs.Begins.{scope_of}
+use Rattle.sap_lower.proofs.Cycle.{Known}
+use Rattle.sap_lower.proofs.Netlist.{first_scope, first_found, last_fits, entries_have, ports_have, source_commands}
+use Rattle.sap_lower.proofs.Rules.{first_readable_is, shapes_are, each_variable, kind_found, found_mapped}
+use Rattle.sap_lower.proofs.Names.{outs_named, wires_distinct}
+use Rattle.sap_lower.proofs.Whole.{last_short, wires_are, registers_found, wires_found, stores_found, both_hold}
+use Rattle.sap_lower.proofs.Final.{lowered_rules, scopes_append, distinct_values}
+
+not_both_lists : (I R B : List Name) → AreDistinct (I ++ (R ++ B)) → (n : Name) → is_among n I ≡ true → is_among n R ≡ false
+not_both_lists I R B d n h = not_front n R B (apart_lists_back I (R ++ B) d n h)
+
+pub known_of : (s : Source) → IsGuarded s → length (all_wires s) < 2 ^ 64 → Known s
+known_of s g l =
+    let I = variable_names s.inputs in
+    let R = variable_names s.registers in
+    let W = variable_names s.wires in
+    let M = ir.memory_names s.memories in
+    let d1 = distinct_behind I (R ++ (W ++ M)) g.declared_once in
+    let d2 = distinct_behind R (W ++ M) d1 in
+    let dr = distinct_front R (W ++ M) d1 in
+    let fits = last_fits s g (last_short s l) in
+    let wires = wires_are s g fits in
+    let each = kind_found (s.inputs ++ s.registers) (distinct_values s.inputs s.registers (distinct_front I (R ++ (W ++ M)) g.declared_once) dr (λ n h. not_both_lists I R (W ++ M) g.declared_once n h)) in
+    record {
+      rules = g;
+      netlist = lowered_rules s g l;
+      commands = source_commands s g;
+      entries = entries_have s;
+      ports = ports_have s;
+      found = found_mapped (λ x. find (scope_of (s.inputs ++ s.registers)) x.name ≡ Some x.width) (λ x. find (readable (lowered s)) x.name ≡ Some x.width) (s.inputs ++ s.registers)
+          (λ x h.
+          let e : find (first_scope s) x.name ≡ Some x.width = first_found s x.name ∙ subst (λ (sc : Scope). find sc x.name ≡ Some x.width) (scopes_append s.inputs s.registers) h in
+          let r = readable_to_the_end (source.shapes s) (all_wires s) (first_scope s) wires x.name x.width e in
+          subst (λ (sc : Scope). find (readable_after sc (all_wires s)) x.name ≡ Some x.width) (sym (first_readable_is s)) r)
+          each;
+      shapes = shapes_are s;
+      registers_readable = registers_found s g;
+      wires_readable = wires_found s g;
+      memories_found = stores_found s.memories (distinct_behind W M d2);
+      registers_differ = dr;
+    }
+
+-- what is declared
+
+register_pairs : (es : List (Name × Part)) (xs : List Var) → ◌≡◌ {A = List (Name × (ℕ × ℕ))} (map (λ (r : Register). (r.name, (r.width, r.start))) (map (register_of es) xs)) (map (λ x. (x.name, (x.width, x.start))) xs)
+register_pairs es [] = refl
+register_pairs es (x ∷ xs) = ap (λ (l : List (Name × (ℕ × ℕ))). (x.name, (x.width, x.start)) ∷ l) (register_pairs es xs)
+
+memory_parts : (ps : List (Name × WritePort)) (ms : List Store) → ◌≡◌ {A = List (Name × (ℕ × (ℕ × ℕ)))} (map (λ (m : Memory). (m.name, (m.width, (m.depth, m.start)))) (map (memory_of ps) ms)) (map (λ m. (m.name, (m.width, (m.depth, m.start)))) ms)
+memory_parts ps [] = refl
+memory_parts ps (m ∷ ms) = ap (λ (l : List (Name × (ℕ × (ℕ × ℕ)))). (m.name, (m.width, (m.depth, m.start))) ∷ l) (memory_parts ps ms)
+
+outs_scope : (es : List (Name × Part)) (ws : List Wire) (xs : List Var) → ◌≡◌ {A = Scope} (map (λ (w : Wire). (w.name, w.width)) (ws ++ map (out_wire es) xs)) (map (λ w. (w.name, w.width)) ws ++ scope_of xs)
+outs_scope es (w ∷ ws) xs = ap (λ (l : Scope). (w.name, w.width) ∷ l) (outs_scope es ws xs)
+outs_scope es [] [] = refl
+outs_scope es [] (x ∷ xs) = ap (λ (l : Scope). (x.name, x.width) ∷ l) (outs_scope es [] xs)
+
+pub declares_all : (s : Source) → IsGuarded s → length (all_wires s) < 2 ^ 64 → Declares s (lowered s)
+declares_all s g l =
+    let t = last_state s in
+    let W = variable_names s.wires in
+    let M = ir.memory_names s.memories in
+    let fits = last_fits s g (last_short s l) in
+    let wires = wires_are s g fits in
+    let d2 = distinct_behind (variable_names s.registers) (W ++ M) (distinct_behind (variable_names s.inputs) (variable_names s.registers ++ (W ++ M)) g.declared_once) in
+    let apart : AreDistinct (wire_list_names t.wires ++ W) = subst AreDistinct (outs_named t.entries t.wires s.wires) (wires_distinct (source.shapes s) (all_wires s) (first_scope s) wires) in
+    record {
+      module_name = refl;
+      ports = refl;
+      inputs = refl;
+      registers = λ x. ap (λ (es : List (Name × (ℕ × ℕ))). find es x) (register_pairs t.entries (registers_declared s)) ∙ found_of (λ (y : Var). (y.width, y.start)) (registers_declared s) s.registers x (same_found s.registers s.ports x);
+      memories = memory_parts t.ports s.memories;
+      wires = both_hold (λ x. find (scope_of s.wires) x.name ≡ Some x.width) (λ x. is_among x.name W ≡ true) (λ x. find (map (λ w. (w.name, w.width)) (all_wires s)) x.name ≡ Some x.width) s.wires
+          (λ x f a. ap (λ (es : Scope). find es x.name) (outs_scope t.entries t.wires s.wires) ∙ found_second (map (λ w. (w.name, w.width)) t.wires) (scope_of s.wires) x.name (not_found {X = ℕ} (λ (w : Wire). w.name) (λ w. w.width) t.wires x.name (apart_lists (wire_list_names t.wires) W apart x.name a)) ∙ f)
+          (kind_found s.wires (distinct_front W M d2)) (each_variable (λ x. is_among x.name W ≡ true) s.wires (λ x a. a));
+    }
+
+-- what the code makes
+
+pub first_ports_named : (ms : List Store) → names_of (map first_port ms) ≡ map (λ m. m.name) ms
+first_ports_named [] = refl
+first_ports_named (m ∷ ms) = ap (λ (ns : List Name). m.name ∷ ns) (first_ports_named ms)
+
+pub made_is : (s : Source) (net : Net) (is rs ws outs : List Var) (ms : List Store) (cs : List Command) (w0 w1 w2 : List Wire) (e0 e1 e2 e3 : List (Name × Part)) (p0 p1 p2 : List (Name × WritePort))
+    → is ≡ s.inputs → rs ≡ s.registers → ws ≡ s.wires → outs ≡ s.wires → ms ≡ s.memories → cs ≡ s.commands
+    → e0 ≡ map named_entry is ++ map named_entry rs ++ map zero_entry ws → p0 ≡ map first_port ms → w0 ≡ []
+    → w1 ≡ (low_commands (shapes_of ms) (record { wires = w0; entries = e0; ports = p0 }) cs).wires
+    → e1 ≡ (low_commands (shapes_of ms) (record { wires = w0; entries = e0; ports = p0 }) cs).entries
+    → p1 ≡ (low_commands (shapes_of ms) (record { wires = w0; entries = e0; ports = p0 }) cs).ports
+    → e2 ≡ e1 → e3 ≡ e1 → p2 ≡ p1
+    → w2 ≡ w1 ++ map (out_wire e2) outs → net ≡ net_declared s w2 e3 p2 → (net ≡ lowered s) × (w2 ≡ all_wires s)
+made_is s net is rs ws outs ms cs w0 w1 w2 e0 e1 e2 e3 p0 p1 p2 ei er ew eo em ec he hp hw h1 h2 h3 k2 k3 k4 hw2 hn =
+    let fe : e0 ≡ first_entries s = he ∙ ap (λ (l : List Var). map named_entry l ++ map named_entry rs ++ map zero_entry ws) ei ∙ ap (λ (l : List Var). map named_entry s.inputs ++ map named_entry l ++ map zero_entry ws) er ∙ ap (λ (l : List Var). map named_entry s.inputs ++ map named_entry s.registers ++ map zero_entry l) ew in
+    let fp : p0 ≡ map first_port s.memories = hp ∙ ap (λ (l : List Store). map first_port l) em in
+    let st = same_state w0 [] e0 (first_entries s) p0 (map first_port s.memories) hw fe fp in
+    let t = last_state s in
+    let last : low_commands (shapes_of ms) (record { wires = w0; entries = e0; ports = p0 }) cs ≡ t =
+    ap (λ (l : List Store). low_commands (shapes_of l) (record { wires = w0; entries = e0; ports = p0 }) cs) em
+    ∙ ap (λ (q : State). low_commands (source.shapes s) q cs) st ∙ ap (λ (l : List Command). low_commands (source.shapes s) (first_state s) l) ec in
+    let a1 : w1 ≡ t.wires = h1 ∙ ap (λ (q : State). q.wires) last in
+    let a2 : e1 ≡ t.entries = h2 ∙ ap (λ (q : State). q.entries) last in
+    let a3 : p1 ≡ t.ports = h3 ∙ ap (λ (q : State). q.ports) last in
+    let wi : w2 ≡ all_wires s = hw2 ∙ ap₂ (λ (x : List Wire) (y : List (Name × Part)). x ++ map (out_wire y) outs) a1 (k2 ∙ a2) ∙ ap (λ (l : List Var). t.wires ++ map (out_wire t.entries) l) eo in (
+      hn ∙ ap (λ (x : List Wire). net_declared s x e3 p2) wi ∙ ap (λ (y : List (Name × Part)). net_declared s (all_wires s) y p2) (k3 ∙ a2) ∙ ap (λ (z : List (Name × WritePort)). net_declared s (all_wires s) t.entries z) (k4 ∙ a3),
+      wi,
+    )

@@ -1,0 +1,164 @@
+-- The names of the netlist of a program, and the whole of its rules.
+use Rattle.std.proofs.Common.{◌≡◌, ℕ, zero, suc, ◌+◌, ◌^◌, ◌<◌, ◌≤◌, ◌&&◌, ◌||◌, List, [], ◌∷◌, ◌++◌, map, filter, take, length, Option, Some, None, Bool, true, false, not, sym, ap, ap₂, ◌∙◌, subst, refl, arith, inl, inr, append_assoc}
+use Rattle.std.specs.Prelude.{if◌then◌else◌, codes}
+use Rattle.std.specs.Str.{bytes_eq}
+use Rattle.std.specs.List.{AllByRecursion}
+use Rattle.std.proofs.lemmas.Bool.{cases_Bool}
+use Rattle.sap_maps.specs.Maps.{Name}
+use Rattle.sap_maps.specs.Scope.{Scope, find}
+use Rattle.sap_maps.proofs.Scopes.{same_name, name_is, apart_back, found_here, not_behind}
+use Rattle.sap_net.specs.Names.{is_name, is_among, AreDistinct}
+use Rattle.sap_net.specs.Rules.{Shapes, IsWidth, AreWires, readable_after, IsRegister, IsMemory, AreValues}
+use Rattle.sap_net.specs.declared.parts.PortKind.TheVariants as kind
+use Rattle.sap_net.specs.declared.parts.Port.{Port}
+use Rattle.sap_net.specs.declared.parts.Input.{Input}
+use Rattle.sap_net.specs.declared.parts.Wire.{Wire}
+use Rattle.sap_net.specs.declared.parts.Register.{Register}
+use Rattle.sap_net.specs.declared.parts.Memory.{Memory}
+use Rattle.sap_net.specs.IsNetlist.{input_names, wire_names, register_names, memory_names, first_readable, readable, shapes, PortShows, is_input, IsNetlist}
+use Rattle.sap_ir.specs.declared.guarded.Var.{Var}
+use Rattle.sap_ir.specs.declared.guarded.Store.{Store}
+use Rattle.sap_ir.specs.Source.{Source}
+use Rattle.sap_ir.specs.IsGuarded as ir
+use Rattle.sap_ir.specs.IsGuarded.{variable_names, declared, IsGuarded}
+use Rattle.sap_ir.proofs.Declared.{among_append, among_front, among_behind, distinct_front, distinct_behind, apart_lists, apart_lists_back, found_first, found_second}
+use Rattle.sap_lower.specs.declared.parts.Part.{Part}
+use Rattle.sap_lower.specs.declared.parts.WritePort.{WritePort}
+use Rattle.sap_lower.specs.Lowered.{out_wire, register_of, memory_of, input_of, input_port, kind_shown, port_shown, picked, unlisted, unported, registers_declared, all_wires, wire_list_names, names_declared, last_state, lowered}
+use Rattle.sap_lower.proofs.Order.{all_append}
+use Rattle.sap_lower.proofs.Begins.{scope_of}
+use Rattle.sap_lower.proofs.Declares.{register_among, unported_among, filter_append, filter_none, filter_all, filter_same, each_among, among_each, distinct_both, unported_distinct, unlisted_names, picked_names}
+
+-- names of the parts
+
+pub inputs_named : (xs : List Var) → map (λ (x : Input). x.name) (map input_of xs) ≡ variable_names xs
+inputs_named [] = refl
+inputs_named (x ∷ xs) = ap (λ (ns : List Name). x.name ∷ ns) (inputs_named xs)
+
+pub registers_named : (es : List (Name × Part)) (xs : List Var) → map (λ (r : Register). r.name) (map (register_of es) xs) ≡ variable_names xs
+registers_named es [] = refl
+registers_named es (x ∷ xs) = ap (λ (ns : List Name). x.name ∷ ns) (registers_named es xs)
+
+pub memories_named : (ps : List (Name × WritePort)) (ms : List Store) → map (λ (m : Memory). m.name) (map (memory_of ps) ms) ≡ ir.memory_names ms
+memories_named ps [] = refl
+memories_named ps (m ∷ ms) = ap (λ (ns : List Name). m.name ∷ ns) (memories_named ps ms)
+
+pub outs_named : (es : List (Name × Part)) (ws : List Wire) (xs : List Var) → wire_list_names (ws ++ map (out_wire es) xs) ≡ wire_list_names ws ++ variable_names xs
+outs_named es (w ∷ ws) xs = ap (λ (ns : List Name). w.name ∷ ns) (outs_named es ws xs)
+outs_named es [] [] = refl
+outs_named es [] (x ∷ xs) = ap (λ (ns : List Name). x.name ∷ ns) (outs_named es [] xs)
+
+variables_append : (xs ys : List Var) → variable_names (xs ++ ys) ≡ variable_names xs ++ variable_names ys
+variables_append [] ys = refl
+variables_append (x ∷ xs) ys = ap (λ (ns : List Name). x.name ∷ ns) (variables_append xs ys)
+
+pub declared_named : (rs : List Var) (ps : List Name) → variable_names (picked rs ps ++ unlisted ps rs) ≡ filter (register_among rs) ps ++ unported ps (variable_names rs)
+declared_named rs ps = variables_append (picked rs ps) (unlisted ps rs) ∙ ap₂ (λ (a b : List Name). a ++ b) (sym (picked_names rs ps)) (unlisted_names ps rs)
+
+both_off : (b : Bool) → (b && false) ≡ false
+both_off true = refl
+both_off false = refl
+
+-- what is on a filtered list
+pub filter_among : (f : Name → Bool) (xs : List Name) (n : Name) → is_among n (filter f xs) ≡ (is_among n xs && f n)
+filter_among f [] n = refl
+filter_among f (x ∷ xs) n =
+    elim (cases_Bool (bytes_eq n x)) [
+      | inl t ↦
+          let e : n ≡ x = name_is n x t in
+          elim (cases_Bool (f n)) [
+            | inl a ↦ let a' : f x ≡ true = subst (λ (y : Name). f y ≡ true) e a in rw (a', t, a) refl
+            | inr b ↦
+                let b' : f x ≡ false = subst (λ (y : Name). f y ≡ false) e b in
+                let r : is_among n (filter f xs) ≡ (is_among n xs && f n) = filter_among f xs n in
+                rw (b', t, b) (r ∙ rw b (both_off (is_among n xs)))
+          ]
+      | inr g ↦
+          elim (cases_Bool (f x)) [
+            | inl a ↦ rw (a, g) (filter_among f xs n)
+            | inr b ↦ rw (b, g) (filter_among f xs n)
+          ]
+    ]
+
+pub filter_distinct : (f : Name → Bool) (xs : List Name) → AreDistinct xs → AreDistinct (filter f xs)
+filter_distinct f [] d = tt
+filter_distinct f (x ∷ xs) d =
+    elim (cases_Bool (f x)) [
+      | inl a ↦ rw a (filter_among f xs x ∙ rw d.0 refl, filter_distinct f xs d.1)
+      | inr b ↦ rw b (filter_distinct f xs d.1)
+    ]
+
+either_part : (p r : Bool) → ((p && r) || (r && not p)) ≡ r
+either_part true true = refl
+either_part true false = refl
+either_part false true = refl
+either_part false false = refl
+
+pub declared_among : (rs : List Var) (ps : List Name) (n : Name) → is_among n (variable_names (picked rs ps ++ unlisted ps rs)) ≡ is_among n (variable_names rs)
+declared_among rs ps n =
+    ap (λ (ns : List Name). is_among n ns) (declared_named rs ps)
+    ∙ among_append n (filter (register_among rs) ps) (unported ps (variable_names rs))
+    ∙ ap₂ (λ (a b : Bool). a || b) (filter_among (register_among rs) ps n) (unported_among ps (variable_names rs) n)
+    ∙ either_part (is_among n ps) (is_among n (variable_names rs))
+
+not_both : (p r : Bool) → (p && r) ≡ true → (r && not p) ≡ false
+not_both true true h = refl
+not_both true false h = refl
+not_both false true h = absurd (cc)
+not_both false false h = refl
+
+pub declared_distinct : (rs : List Var) (ps : List Name) → AreDistinct (variable_names rs) → AreDistinct ps → AreDistinct (variable_names (picked rs ps ++ unlisted ps rs))
+declared_distinct rs ps d e =
+    subst AreDistinct (sym (declared_named rs ps))
+    (distinct_both (filter (register_among rs) ps) (unported ps (variable_names rs)) (filter_distinct (register_among rs) ps e) (unported_distinct ps (variable_names rs) d)
+    (λ n h. unported_among ps (variable_names rs) n ∙ not_both (is_among n ps) (is_among n (variable_names rs)) (sym (filter_among (register_among rs) ps n) ∙ h)))
+
+-- names of wires are new
+
+pub wires_new : (ms : Shapes) (ws : List Wire) (sc : Scope) → AreWires ms sc ws → (n : Name) → is_among n (wire_list_names ws) ≡ true → (find sc n ≡ None) × (find ms n ≡ None)
+wires_new ms [] sc a n h = absurd (cc)
+wires_new ms (w ∷ ws) sc a n h =
+    elim (cases_Bool (bytes_eq n w.name)) [
+      | inl t ↦
+          let e : w.name ≡ n = sym (name_is n w.name t) in
+          (subst (λ (y : Name). find sc y ≡ None) e a.1, subst (λ (y : Name). find ms y ≡ None) e a.2)
+      | inr f ↦
+          let r = wires_new ms ws ((w.name, w.width) ∷ sc) a.4 n (rw f at h) in
+          (not_behind (w.name, w.width) sc n r.0, r.1)
+    ]
+
+pub wires_distinct : (ms : Shapes) (ws : List Wire) (sc : Scope) → AreWires ms sc ws → AreDistinct (wire_list_names ws)
+wires_distinct ms [] sc a = tt
+wires_distinct ms (w ∷ ws) sc a = (
+  elim (cases_Bool (is_among w.name (wire_list_names ws))) [
+    | inl t ↦ absurd (let e = wires_new ms ws ((w.name, w.width) ∷ sc) a.4 w.name t in let g : find ((w.name, w.width) ∷ sc) w.name ≡ Some w.width = found_here w.name w.width sc in let q = e.0 in cc)
+    | inr f ↦ f
+  ],
+  wires_distinct ms ws ((w.name, w.width) ∷ sc) a.4,
+)
+
+among_found : (xs : List Var) (n : Name) → is_among n (variable_names xs) ≡ true → (u : ℕ) × (find (scope_of xs) n ≡ Some u)
+among_found [] n h = absurd (cc)
+among_found (x ∷ xs) n h =
+    elim (cases_Bool (bytes_eq x.name n)) [
+      | inl t ↦ (x.width, rw t refl)
+      | inr f ↦ let g = apart_back x.name n f in let r = among_found xs n (rw g at h) in (r.0, rw f r.1)
+    ]
+
+pub new_to_first : (is rs : List Var) (n : Name) → find (scope_of is ++ scope_of rs) n ≡ None → is_among n (variable_names is) ≡ false
+new_to_first is rs n h =
+    elim (cases_Bool (is_among n (variable_names is))) [
+      | inl t ↦ absurd (let r = among_found is n t in let g = found_first (scope_of is) (scope_of rs) n r.0 r.1 in cc)
+      | inr f ↦ f
+    ]
+
+no_none : (es fs : Scope) (n : Name) (u : ℕ) → find fs n ≡ Some u → find (es ++ fs) n ≡ None → ⊥
+no_none [] fs n u a h = cc
+no_none (e ∷ es) fs n u a h = no_none es fs n u a (not_behind e (es ++ fs) n h)
+
+pub new_to_second : (is rs : List Var) (n : Name) → find (scope_of is ++ scope_of rs) n ≡ None → is_among n (variable_names rs) ≡ false
+new_to_second is rs n h =
+    elim (cases_Bool (is_among n (variable_names rs))) [
+      | inl t ↦ absurd (let r = among_found rs n t in no_none (scope_of is) (scope_of rs) n r.0 r.1 h)
+      | inr f ↦ f
+    ]

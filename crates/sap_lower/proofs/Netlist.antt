@@ -1,0 +1,234 @@
+-- The netlist of a program follows the rules of netlists.
+use Rattle.std.proofs.Common.{◌≡◌, ℕ, zero, suc, ◌+◌, ◌^◌, ◌<◌, ◌≤◌, ◌==◌, ◌&&◌, ◌||◌, List, [], ◌∷◌, ◌++◌, map, filter, take, length, Option, Some, None, Bool, true, false, not, sym, ap, ap₂, ◌∙◌, subst, refl, arith, inl, inr, append_assoc}
+use Rattle.std.specs.Prelude.{if◌then◌else◌, unwrap_or}
+use Rattle.std.specs.Str.{bytes_eq}
+use Rattle.std.specs.List.{AllByRecursion}
+use Rattle.std.proofs.Math.Pow.{pow_pos}
+use Rattle.std.proofs.lemmas.Bool.{cases_Bool}
+use Rattle.sap_maps.specs.Maps.{Name}
+use Rattle.sap_maps.specs.Scope.{Scope, find}
+use Rattle.sap_maps.proofs.Scopes.{same_name, name_is, apart_back, found_here, found_behind}
+use Rattle.sap_net.specs.Names.{is_name, is_among, AreDistinct}
+use Rattle.sap_net.specs.Rules.{Shapes, IsWidth, IsDepth, IsOperand, IsRight, AreWires, readable_after, IsRegister, IsMemory, AreValues, AreMemories}
+use Rattle.sap_net.specs.declared.parts.Operand.{Operand}
+use Rattle.sap_net.specs.declared.parts.Operand.TheVariants.{Named, Constant}
+use Rattle.sap_net.specs.declared.parts.Wire.{Wire}
+use Rattle.sap_net.proofs.Within.{readable_to_the_end}
+use Rattle.sap_ir.specs.declared.guarded.Var.{Var}
+use Rattle.sap_ir.specs.declared.guarded.Store.{Store}
+use Rattle.sap_ir.specs.Source.{Source, Action, set, put, Command}
+use Rattle.sap_ir.specs.Source as source
+use Rattle.sap_ir.specs.IsGuarded.{variable_names, memory_names, declared, is_helping, IsPlainVar, IsRegisterVar, IsStore, ActionFine, CommandFine, IsGuarded}
+use Rattle.sap_ir.proofs.Declared.{among_append, among_front, among_behind, not_front, not_behind_list, distinct_front, distinct_behind, apart_lists, apart_lists_back, not_found, found_among, found_first, found_second, assignable_readable}
+use Rattle.sap_lower.specs.declared.parts.Part.{Part}
+use Rattle.sap_lower.specs.declared.parts.WritePort.{WritePort}
+use Rattle.sap_lower.specs.Lowering.{helper, nothing, present}
+use Rattle.sap_lower.specs.Commands.{State, no_port, port_of, low_commands}
+use Rattle.sap_lower.specs.Lowered.{named_entry, zero_entry, first_entries, first_port, index_bits, first_state, last_state, out_wire, register_of, memory_of, input_of, registers_declared, all_wires, lowered}
+use Rattle.sap_lower.proofs.Standing.{ActionOk, CommandOk}
+use Rattle.sap_lower.proofs.Stands.{HasEntries}
+use Rattle.sap_lower.proofs.Fits.{Fits, NoHelpers, EnvFits, operand_grows}
+use Rattle.sap_lower.proofs.CommandsFit.{AllWide, AllCellsWide, PortFits, PortsFit, StateFits, commands_fit}
+use Rattle.sap_lower.proofs.Order.{under_names, same_found, found_of, to_declared, all_append, map_all}
+use Rattle.sap_lower.proofs.Begins.{scope_of, shapes_list, port_at_first, first_port_found, bits_of_depth}
+use Rattle.sap_lower.proofs.Helping.{helper_is_helping, other_name}
+use Rattle.sap_lower.proofs.Declares.{among_each, each_among}
+
+-- what each name is at first
+
+has_named : (f : Var → Part) (n : Name) (u : ℕ) (xs : List Var) (sc : Scope) (es : List (Name × Part)) → (find sc n ≡ Some u → (x : Part) × (find es n ≡ Some x)) → find (scope_of xs ++ sc) n ≡ Some u → (x : Part) × (find (map (λ x. (x.name, f x)) xs ++ es) n ≡ Some x)
+has_named f n u [] sc es k h = k h
+has_named f n u (x ∷ xs) sc es k h =
+    elim (cases_Bool (bytes_eq x.name n)) [
+      | inl t ↦ (f x, rw t refl)
+      | inr e ↦ let r = has_named f n u xs sc es k (rw e at h) in (r.0, rw e r.1)
+    ]
+
+abbrev named_part : Var → Part
+named_part x = record { operand = Named x.name; width = x.width }
+
+abbrev zero_part : Var → Part
+zero_part x = record { operand = Constant x.width 0; width = x.width }
+
+has_zero : (n : Name) (u : ℕ) (xs : List Var) → find (scope_of xs) n ≡ Some u → (x : Part) × (find (map zero_entry xs) n ≡ Some x)
+has_zero n u [] h = absurd (cc)
+has_zero n u (x ∷ xs) h =
+    elim (cases_Bool (bytes_eq x.name n)) [
+      | inl t ↦ (zero_part x, rw t refl)
+      | inr e ↦ let r = has_zero n u xs (rw e at h) in (r.0, rw e r.1)
+    ]
+
+pub entries_have : (s : Source) → HasEntries (source.readable s) (first_entries s)
+entries_have s n u h =
+    let a = append_assoc (scope_of s.inputs) (scope_of s.registers) (scope_of s.wires) in
+    let g : find (scope_of s.inputs ++ (scope_of s.registers ++ scope_of s.wires)) n ≡ Some u = subst (λ (sc : Scope). find sc n ≡ Some u) a h in
+    let r = has_named named_part n u s.inputs (scope_of s.registers ++ scope_of s.wires) (map named_entry s.registers ++ map zero_entry s.wires)
+    (λ k. has_named named_part n u s.registers (scope_of s.wires) (map zero_entry s.wires) (λ j. has_zero n u s.wires j) k) g in
+    (r.0, subst (λ (es : List (Name × Part)). find es n ≡ Some r.0) (sym (append_assoc (map named_entry s.inputs) (map named_entry s.registers) (map zero_entry s.wires))) r.1)
+
+pub ports_have : (s : Source) → HasEntries (source.shapes s) (map first_port s.memories)
+ports_have s n e h = (port_at_first e, first_port_found s.memories n e h)
+
+abbrev PartFits : Scope → (u : ℕ) → Part → Type 0
+PartFits sc u p = IsOperand sc u p.operand × (p.width ≡ u)
+
+named_fits : (n : Name) (u : ℕ) (sc : Scope) (xs : List Var) (sd : Scope) (es : List (Name × Part)) → (find (scope_of xs) n ≡ Some u → find sc n ≡ Some u) → (find (scope_of xs) n ≡ None → find sd n ≡ Some u → PartFits sc u (present es n)) → find (scope_of xs ++ sd) n ≡ Some u → PartFits sc u (present (map named_entry xs ++ es) n)
+named_fits n u sc [] sd es k j h = j refl h
+named_fits n u sc (x ∷ xs) sd es k j h =
+    elim (cases_Bool (bytes_eq x.name n)) [
+      | inl t ↦
+          let q : Some x.width ≡ Some u = rw t at h in
+          let w : x.width ≡ u = cc in
+          let here : find (scope_of (x ∷ xs)) n ≡ Some u = rw t q in
+          rw t (subst (λ (y : Name). find sc y ≡ Some u) (sym (name_is x.name n t)) (k here), w)
+      | inr f ↦ rw f (named_fits n u sc xs sd es (λ g. k (rw f g)) (λ g. j (rw f g)) (rw f at h))
+    ]
+
+zero_fits : (n : Name) (u : ℕ) (sc : Scope) (xs : List Var) → find (scope_of xs) n ≡ Some u → PartFits sc u (present (map zero_entry xs) n)
+zero_fits n u sc [] h = absurd (cc)
+zero_fits n u sc (x ∷ xs) h =
+    elim (cases_Bool (bytes_eq x.name n)) [
+      | inl t ↦
+          let q : Some x.width ≡ Some u = rw t at h in
+          let w : x.width ≡ u = cc in
+          rw t ((w, pow_pos u), w)
+      | inr f ↦ rw f (zero_fits n u sc xs (rw f at h))
+    ]
+
+-- the inputs, and the registers in the order of their declaration
+abbrev pub first_scope : Source → Scope
+first_scope s = scope_of s.inputs ++ scope_of (registers_declared s)
+
+registers_scope : (s : Source) (n : Name) → find (scope_of (registers_declared s)) n ≡ find (scope_of s.registers) n
+registers_scope s n = found_of (λ x. x.width) (registers_declared s) s.registers n (same_found s.registers s.ports n)
+
+same_behind : (es fs gs : Scope) (n : Name) → find fs n ≡ find gs n → find (es ++ fs) n ≡ find (es ++ gs) n
+same_behind [] fs gs n h = h
+same_behind (e ∷ es) fs gs n h = ap (λ o. if bytes_eq e.0 n then Some e.1 else o) (same_behind es fs gs n h)
+
+pub first_found : (s : Source) (n : Name) → find (first_scope s) n ≡ find (scope_of s.inputs ++ scope_of s.registers) n
+first_found s n = same_behind (scope_of s.inputs) (scope_of (registers_declared s)) (scope_of s.registers) n (registers_scope s n)
+
+first_env : (s : Source) → EnvFits (first_scope s) (source.readable s) (first_entries s)
+first_env s n u h =
+    let is = scope_of s.inputs in
+    let rs = scope_of s.registers in
+    let ws = scope_of s.wires in
+    let sc = first_scope s in
+    let g : find (is ++ (rs ++ ws)) n ≡ Some u = subst (λ (sd : Scope). find sd n ≡ Some u) (append_assoc is rs ws) h in
+    let r = named_fits n u sc s.inputs (rs ++ ws) (map named_entry s.registers ++ map zero_entry s.wires)
+    (λ k. found_first is (scope_of (registers_declared s)) n u k)
+    (λ z k. named_fits n u sc s.registers ws (map zero_entry s.wires) (λ j. found_second is (scope_of (registers_declared s)) n z ∙ registers_scope s n ∙ j) (λ y j. zero_fits n u sc s.wires j) k) g in
+    subst (λ (es : List (Name × Part)). PartFits sc u (present es n)) (sym (append_assoc (map named_entry s.inputs) (map named_entry s.registers) (map zero_entry s.wires))) r
+
+-- widths
+
+plain_wide : (xs : List Var) → AllByRecursion IsPlainVar xs → AllByRecursion (λ x. IsWidth x.width) xs
+plain_wide [] a = tt
+plain_wide (x ∷ xs) a = (a.0.0, plain_wide xs a.1)
+
+register_wide : (xs : List Var) → AllByRecursion IsRegisterVar xs → AllByRecursion (λ x. IsWidth x.width) xs
+register_wide [] a = tt
+register_wide (x ∷ xs) a = (a.0.0, register_wide xs a.1)
+
+wide_found : (xs : List Var) (sc : Scope) → AllByRecursion (λ x. IsWidth x.width) xs → AllWide sc → AllWide (scope_of xs ++ sc)
+wide_found [] sc a k n u h = k n u h
+wide_found (x ∷ xs) sc a k n u h =
+    elim (cases_Bool (bytes_eq x.name n)) [
+      | inl t ↦ let q : Some x.width ≡ Some u = rw t at h in let w : x.width ≡ u = cc in subst IsWidth w a.0
+      | inr f ↦ wide_found xs sc a.1 k n u (rw f at h)
+    ]
+
+none_wide : AllWide []
+none_wide n u h = absurd (cc)
+
+nothing_behind : (sc : Scope) → sc ++ [] ≡ sc
+nothing_behind [] = refl
+nothing_behind (e ∷ sc) = ap (λ sd. e ∷ sd) (nothing_behind sc)
+
+readable_wide : (s : Source) → IsGuarded s → AllWide (source.readable s)
+readable_wide s g n u h =
+    let k : find (scope_of s.inputs ++ (scope_of s.registers ++ (scope_of s.wires ++ []))) n ≡ Some u =
+    subst (λ (sc : Scope). find sc n ≡ Some u) (append_assoc (scope_of s.inputs) (scope_of s.registers) (scope_of s.wires) ∙ ap (λ (sc : Scope). scope_of s.inputs ++ (scope_of s.registers ++ sc)) (sym (nothing_behind (scope_of s.wires)))) h in
+    wide_found s.inputs _ (plain_wide s.inputs g.inputs) (wide_found s.registers _ (register_wide s.registers g.registers) (wide_found s.wires [] (plain_wide s.wires g.wires) none_wide)) n u k
+
+store_found : (ms : List Store) → AllByRecursion IsStore ms → (n : Name) (e : ℕ × ℕ) → find (shapes_list ms) n ≡ Some e → IsWidth e.0 × ((b : ℕ) × IsDepth e.1 b)
+store_found [] a n e h = absurd (cc)
+store_found (m ∷ ms) a n e h =
+    elim (cases_Bool (bytes_eq m.name n)) [
+      | inl t ↦ let q : Some (m.width, m.depth) ≡ Some e = rw t at h in let w : (m.width, m.depth) ≡ e = cc in subst (λ (d : ℕ × ℕ). IsWidth d.0 × ((b : ℕ) × IsDepth d.1 b)) w (a.0.0, a.0.1)
+      | inr f ↦ store_found ms a.1 n e (rw f at h)
+    ]
+
+first_ports_fit : (s : Source) → IsGuarded s → (sc : Scope) → PortsFit (source.shapes s) sc (map first_port s.memories)
+first_ports_fit s g sc m e h =
+    let f = store_found s.memories g.memories m e h in
+    let b = f.1.0 in
+    let d = f.1.1 in
+    let k : index_bits e.1 ≡ b = bits_of_depth 12 e.1 b d.1 d.0 d.2 in
+    let p : port_of (map first_port s.memories) m ≡ port_at_first e = ap (λ o. unwrap_or o no_port) (first_port_found s.memories m e h) in
+    rw p (record {
+      wide = refl;
+      deep = subst (λ (q : ℕ). IsDepth e.1 q) (sym k) d;
+      enable = (refl, pow_pos 1);
+      index = (refl, pow_pos (index_bits e.1));
+      value = (refl, pow_pos e.0);
+    })
+
+-- no declared name is a helping one
+
+pub helpers_apart : (s : Source) → IsGuarded s → (k : ℕ) → k < 2 ^ 64 → is_among (helper k) (declared s) ≡ false
+helpers_apart s g k l =
+    elim (cases_Bool (is_among (helper k) (declared s))) [
+      | inl t ↦ absurd (let f : is_helping (helper k) ≡ false = among_each (λ x. is_helping x ≡ false) (declared s) g.not_helping (helper k) t in let h = helper_is_helping k l in cc)
+      | inr f ↦ f
+    ]
+
+-- the assignments in terms of what can be read
+
+action_ok : (s : Source) → AreDistinct (declared s) → (a : Action) → ActionFine s a → ActionOk (source.shapes s) (source.readable s) a
+action_ok s d (set x t) f = (f.0, assignable_readable s d x f.0 f.1, f.2)
+action_ok s d (put m i t) f = f
+
+commands_ok : (s : Source) → AreDistinct (declared s) → (cs : List Command) → AllByRecursion (CommandFine s) cs → AllByRecursion (CommandOk (source.shapes s) (source.readable s)) cs
+commands_ok s d [] f = tt
+commands_ok s d (c ∷ cs) f = ((f.0.0, action_ok s d c.act f.0.1), commands_ok s d cs f.1)
+
+pub source_commands : (s : Source) → IsGuarded s → AllByRecursion (CommandOk (source.shapes s) (source.readable s)) s.commands
+source_commands s g = commands_ok s g.declared_once s.commands g.commands
+
+-- the state after all assignments fits
+
+no_helping_memory : (s : Source) → IsGuarded s → NoHelpers (source.shapes s)
+no_helping_memory s g k l =
+    let is = variable_names s.inputs in
+    let rs = variable_names s.registers in
+    let ws = variable_names s.wires in
+    let ms = memory_names s.memories in
+    let a = not_behind_list (helper k) is (rs ++ (ws ++ ms)) (helpers_apart s g k l) in
+    let b = not_behind_list (helper k) ws ms (not_behind_list (helper k) rs (ws ++ ms) a) in
+    not_found {X = ℕ × ℕ} (λ (m : Store). m.name) (λ m. (m.width, m.depth)) s.memories (helper k) b
+
+no_helping_value : (s : Source) → IsGuarded s → (k : ℕ) → k < 2 ^ 64 → find (first_scope s) (helper k) ≡ None
+no_helping_value s g k l =
+    let is = variable_names s.inputs in
+    let rs = variable_names s.registers in
+    let ws = variable_names s.wires in
+    let ms = memory_names s.memories in
+    let h = helpers_apart s g k l in
+    let a = not_front (helper k) is (rs ++ (ws ++ ms)) h in
+    let b = not_front (helper k) rs (ws ++ ms) (not_behind_list (helper k) is (rs ++ (ws ++ ms)) h) in
+    first_found s (helper k)
+    ∙ found_second (scope_of s.inputs) (scope_of s.registers) (helper k) (not_found {X = ℕ} (λ (x : Var). x.name) (λ x. x.width) s.inputs (helper k) a)
+    ∙ not_found {X = ℕ} (λ (x : Var). x.name) (λ x. x.width) s.registers (helper k) b
+
+pub last_fits : (s : Source) → IsGuarded s → length (last_state s).wires < 2 ^ 64 → StateFits (source.shapes s) (first_scope s) (source.readable s) (last_state s)
+last_fits s g l =
+    let first : StateFits (source.shapes s) (first_scope s) (source.readable s) (first_state s) = record {
+      fits = record { wires = tt; named = tt; fresh = λ k a b. no_helping_value s g k b; others = λ n h. refl };
+      env = first_env s;
+      has = entries_have s;
+      has_ports = ports_have s;
+      ports = first_ports_fit s g (first_scope s);
+    } in
+    commands_fit (source.shapes s) (first_scope s) (source.readable s) (no_helping_memory s g) (readable_wide s g) (λ m e h. (store_found s.memories g.memories m e h).0) s.commands (first_state s) (source_commands s g) first l

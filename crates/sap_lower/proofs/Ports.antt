@@ -1,0 +1,107 @@
+-- One write port for a memory: its condition, index and value are merged over the writes.
+use Rattle.std.proofs.Common.{◌≡◌, ℕ, ◌+◌, ◌^◌, ◌==◌, ◌&&◌, List, [], ◌∷◌, ◌++◌, Option, Some, Bool, true, false, sym, ap, ap₂, ◌∙◌, subst, refl, inl, inr}
+use Rattle.std.specs.Prelude.{if◌then◌else◌, unwrap_or}
+use Rattle.std.specs.Str.{bytes_eq}
+use Rattle.std.proofs.lemmas.Bool.{cases_Bool}
+use Rattle.std.proofs.lemmas.Bool.Decides.{Decides-eqb}
+use Rattle.sap_maps.specs.Maps.{Name, Valuation, set_value}
+use Rattle.sap_maps.specs.Scope.{Scope, find}
+use Rattle.sap_maps.specs.Term.{Term}
+use Rattle.sap_maps.proofs.Scopes.{same_name, name_is, apart_back}
+use Rattle.sap_net.specs.Rules.{Shapes}
+use Rattle.sap_net.specs.Values.{operand_value}
+use Rattle.sap_net.specs.declared.parts.Operand.{Operand}
+use Rattle.sap_net.specs.declared.parts.Operand.TheVariants.{Named, Constant}
+use Rattle.sap_net.specs.declared.parts.Right.TheVariants.{Choose}
+use Rattle.sap_net.specs.declared.parts.Wire.{Wire}
+use Rattle.sap_ir.specs.Guarded.{Going, value_in, set_cell}
+use Rattle.sap_ir.specs.IsGuarded.{TermFine}
+use Rattle.sap_lower.specs.declared.parts.Part.{Part}
+use Rattle.sap_lower.specs.declared.parts.WritePort.{WritePort}
+use Rattle.sap_lower.specs.Lowering.{Low, plus, low}
+use Rattle.sap_lower.specs.Places.{replaced}
+use Rattle.sap_lower.specs.Commands.{port_of, low_put}
+use Rattle.sap_lower.proofs.Means.{Gives, Shows, Around, gives_front, plus_shows, low_front, low_stands}
+use Rattle.sap_lower.proofs.Stands.{replaced_same, replaced_other, HasEntries}
+
+-- what a port says of the memory's next contents; `done`: whether it was written so far
+pub record PortIs (v : Valuation) (p : WritePort) (m : Name) (g : Going) (done : Bool) : Type 0 where
+  pub written : (operand_value v p.enable == 1) ≡ done
+  pub next : (j : ℕ) → g.next m j ≡ (if operand_value v p.enable == 1 && operand_value v p.index == j then operand_value v p.value else g.now.cell m j)
+
+same_test : (a b : ℕ) → (a == b) ≡ (b == a)
+same_test a b =
+    elim (cases_Bool (a == b)) [
+      | inl t ↦ t ∙ sym ((Decides-eqb b a).1 (sym ((Decides-eqb a b).0 t)))
+      | inr f ↦ elim (cases_Bool (b == a)) [ inl t ↦ absurd (let e : (a == b) ≡ true = (Decides-eqb a b).1 (sym ((Decides-eqb b a).0 t)) in cc) | inr e ↦ f ∙ sym e ]
+    ]
+
+-- on numbers: where the condition holds nothing was written before
+write_is : (off : Bool) (e i x y t : ℕ) (cells nexts : Name → ℕ → ℕ) (m : Name) (done : Bool) → (off ≡ false → done ≡ false) → (e == 1) ≡ done → ((j : ℕ) → nexts m j ≡ (if e == 1 && i == j then x else cells m j)) → (j : ℕ) → (if off then nexts else set_cell nexts m y t) m j ≡ (if (if off then e else 1) == 1 && (if off then i else y) == j then (if off then x else t) else cells m j)
+write_is true e i x y t cells nexts m done once w n j = n j
+write_is false e i x y t cells nexts m done once w n j =
+    let q : (e == 1) ≡ false = w ∙ once refl in
+    let r : nexts m j ≡ cells m j = n j ∙ rw q refl in
+    rw (same_name m, same_test j y, r) refl
+
+bit_is : (off : Bool) (e : ℕ) (done : Bool) → (e == 1) ≡ done → ((if off then e else 1) == 1) ≡ (if off then done else true)
+bit_is true e done w = w
+bit_is false e done w = refl
+
+next_of : (off : Bool) (g : Going) (m : Name) (i t : ℕ) (n : Name) (j : ℕ) → (if off then g else record { now = g.now; next = set_cell g.next m i t }).next n j ≡ (if off then g.next else set_cell g.next m i t) n j
+next_of true g m i t n j = refl
+next_of false g m i t n j = refl
+
+pub now_of : (off : Bool) (g : Going) (m : Name) (i t : ℕ) → (if off then g else record { now = g.now; next = set_cell g.next m i t }).now ≡ g.now
+now_of true g m i t = refl
+now_of false g m i t = refl
+
+merged : (c d old new x : ℕ) → c ≡ d → new ≡ x → (if c == 0 then old else new) ≡ (if d == 0 then old else x)
+merged c d old new x e f = cc
+
+pub put_front : (widths : Name → ℕ) (v : Valuation) (ms : Shapes) (es : List (Name × Part)) (p : WritePort) (c i t : Term Name) (ws : List Wire) → Gives widths v (low_put ms es p c i t ws).wires → Gives widths v ws
+put_front widths v ms es p c i t ws h =
+    let hx = gives_front widths v _ _ (gives_front widths v _ _ (gives_front widths v _ _ h)) in
+    low_front widths v ms es c ws (low_front widths v ms es i _ (low_front widths v ms es t _ hx))
+
+pub put_is : (ms : Shapes) (vars : Scope) (vw widths : Name → ℕ) (v : Valuation) (es : List (Name × Part)) (g : Going) → Around ms vars vw widths v es g.now.value g.now.cell → (p : WritePort) (m : Name) (done : Bool) → PortIs v p m g done → (c i t : Term Name) (b w : ℕ) → TermFine ms vars 1 c → TermFine ms vars b i → TermFine ms vars w t → ((value_in vw g c == 0) ≡ false → done ≡ false) → (ws : List Wire) → Gives widths v (low_put ms es p c i t ws).wires
+    → PortIs v (low_put ms es p c i t ws).port m (if value_in vw g c == 0 then g else record { now = g.now; next = set_cell g.next m (value_in vw g i) (value_in vw g t) }) (if value_in vw g c == 0 then done else true)
+put_is ms vars vw widths v es g k p m done is c i t b w fc fi ft once ws h =
+    let z = low ms es c ws in
+    let y = low ms es i z.wires in
+    let x = low ms es t y.wires in
+    let e = plus x.wires 1 (Choose z.part.operand (Constant 1 1) p.enable) in
+    let j = plus e.wires p.bits (Choose z.part.operand y.part.operand p.index) in
+    let l = plus j.wires p.width (Choose z.part.operand x.part.operand p.value) in
+    let hj = gives_front widths v j.wires _ h in
+    let he = gives_front widths v e.wires _ hj in
+    let hx = gives_front widths v x.wires _ he in
+    let hy = low_front widths v ms es t y.wires hx in
+    let hz = low_front widths v ms es i z.wires hy in
+    let sz = low_stands ms vars vw widths v es g.now.value g.now.cell k 1 c fc ws hz in
+    let sy = low_stands ms vars vw widths v es g.now.value g.now.cell k b i fi z.wires hy in
+    let sx = low_stands ms vars vw widths v es g.now.value g.now.cell k w t ft y.wires hx in
+    let pl = plus_shows widths v j.wires p.width (Choose z.part.operand x.part.operand p.value) h in
+    let pj = plus_shows widths v e.wires p.bits (Choose z.part.operand y.part.operand p.index) hj in
+    let pe = plus_shows widths v x.wires 1 (Choose z.part.operand (Constant 1 1) p.enable) he in
+    let off = value_in vw g c == 0 in
+    let ve : operand_value v e.part.operand ≡ (if off then operand_value v p.enable else 1) = pe.value ∙ ap (λ (q : ℕ). if q == 0 then operand_value v p.enable else 1) sz.shows.value in
+    let vj : operand_value v j.part.operand ≡ (if off then operand_value v p.index else value_in vw g i) = pj.value ∙ merged _ _ _ _ _ sz.shows.value sy.shows.value in
+    let vl : operand_value v l.part.operand ≡ (if off then operand_value v p.value else value_in vw g t) = pl.value ∙ merged _ _ _ _ _ sz.shows.value sx.shows.value in
+    record {
+      written = ap (λ (q : ℕ). q == 1) ve ∙ bit_is off (operand_value v p.enable) done is.written;
+      next = λ n.
+          next_of off g m (value_in vw g i) (value_in vw g t) m n
+          ∙ write_is off (operand_value v p.enable) (operand_value v p.index) (operand_value v p.value) (value_in vw g i) (value_in vw g t) g.now.cell g.next m done once is.written is.next n
+          ∙ rw (ve, vj, vl, now_of off g m (value_in vw g i) (value_in vw g t)) refl;
+    }
+
+-- another memory is left alone
+pub other_is : (v : Valuation) (p : WritePort) (n : Name) (g : Going) (done : Bool) → PortIs v p n g done → (off : Bool) (m : Name) (i t : ℕ) → bytes_eq m n ≡ false → PortIs v p n (if off then g else record { now = g.now; next = set_cell g.next m i t }) done
+other_is v p n g done is true m i t d = record { written = is.written; next = is.next }
+other_is v p n g done is false m i t d = record { written = is.written; next = λ j. rw (apart_back m n d) (is.next j) }
+
+-- an assignment changes no memory
+pub set_is : (v : Valuation) (p : WritePort) (n : Name) (g : Going) (done : Bool) → PortIs v p n g done → (off : Bool) (x : Name) (a : ℕ) → PortIs v p n (if off then g else record { now = set_value g.now x a; next = g.next }) done
+set_is v p n g done is true x a = record { written = is.written; next = is.next }
+set_is v p n g done is false x a = record { written = is.written; next = is.next }

@@ -1,0 +1,108 @@
+-- After the assignments each name's operand has its value.
+use Rattle.std.proofs.Common.{◌≡◌, ℕ, ◌+◌, ◌<◌, ◌^◌, ◌==◌, List, [], ◌∷◌, ◌++◌, Option, Some, None, Bool, true, false, sym, ap, ◌∙◌, subst, refl, inl, inr}
+use Rattle.std.specs.Prelude.{if◌then◌else◌, unwrap_or}
+use Rattle.std.specs.Str.{bytes_eq}
+use Rattle.std.proofs.lemmas.Bool.{cases_Bool}
+use Rattle.sap_maps.specs.Maps.{Name, Valuation, set_value}
+use Rattle.sap_maps.specs.Scope.{Scope, find}
+use Rattle.sap_maps.specs.Term.{Term, term_value}
+use Rattle.sap_maps.proofs.Scopes.{same_name, name_is, apart_back}
+use Rattle.sap_maps.proofs.Terms.{below_both}
+use Rattle.sap_net.specs.Rules.{Shapes}
+use Rattle.sap_net.specs.Values.{operand_value}
+use Rattle.sap_net.specs.declared.parts.Right.TheVariants.{Choose}
+use Rattle.sap_net.specs.declared.parts.Wire.{Wire}
+use Rattle.sap_ir.specs.Source.{Action, set, put, Command}
+use Rattle.sap_ir.specs.Guarded.{Going, value_in}
+use Rattle.sap_ir.specs.IsGuarded.{TermFine}
+use Rattle.sap_lower.specs.declared.parts.Part.{Part}
+use Rattle.sap_lower.specs.Lowering.{nothing, present, Low, plus, low}
+use Rattle.sap_lower.specs.Places.{replaced}
+use Rattle.sap_lower.specs.Commands.{State, low_set}
+use Rattle.sap_lower.proofs.Means.{Gives, Shows, Stands, Env, Around, gives_front, plus_shows, low_front, low_stands}
+
+-- entries
+
+pub replaced_same : {X : Type 0} (es : List (Name × X)) (n : Name) (x y : X) → find es n ≡ Some y → find (replaced es n x) n ≡ Some x
+replaced_same [] n x y h = absurd (cc)
+replaced_same (e ∷ es) n x y h =
+    elim (cases_Bool (bytes_eq e.0 n)) [ inl t ↦ rw (t, t) refl | inr f ↦ rw (f, f) (replaced_same es n x y (rw f at h)) ]
+
+pub replaced_other : {X : Type 0} (es : List (Name × X)) (n m : Name) (x : X) → bytes_eq n m ≡ false → find (replaced es n x) m ≡ find es m
+replaced_other [] n m x d = refl
+replaced_other (e ∷ es) n m x d =
+    elim (cases_Bool (bytes_eq e.0 n)) [
+      | inl t ↦ let k : bytes_eq e.0 m ≡ false = subst (λ (a : Name). bytes_eq a m ≡ false) (sym (name_is e.0 n t)) d in rw (t, k) refl
+      | inr f ↦ rw f (ap (λ o. if bytes_eq e.0 m then Some e.1 else o) (replaced_other es n m x d))
+    ]
+
+-- each name of some has an entry
+abbrev pub HasEntries : {X Y : Type 0} → List (Name × Y) → List (Name × X) → Type 0
+HasEntries {X} {Y} vars es = (n : Name) (u : Y) → find vars n ≡ Some u → (x : X) × (find es n ≡ Some x)
+
+pub replaced_has : {X Y : Type 0} (vars : List (Name × Y)) (es : List (Name × X)) (n : Name) (x : X) → HasEntries vars es → HasEntries vars (replaced es n x)
+replaced_has vars es n x h m u f =
+    let g = h m u f in
+    elim (cases_Bool (bytes_eq n m)) [
+      | inl t ↦
+          let e : n ≡ m = name_is n m t in
+          let q : find es n ≡ Some g.0 = subst (λ (a : Name). find es a ≡ Some g.0) (sym e) g.1 in
+          (x, subst (λ (a : Name). find (replaced es n x) a ≡ Some x) e (replaced_same es n x g.0 q))
+      | inr d ↦ (g.0, replaced_other es n m x d ∙ g.1)
+    ]
+
+-- the number of a name after one assignment under a condition
+
+set_at_other : (b : Bool) (g : Going) (n m : Name) (a : ℕ) → bytes_eq m n ≡ false → (if b then g else record { now = set_value g.now n a; next = g.next }).now.value m ≡ g.now.value m
+set_at_other true g n m a d = refl
+set_at_other false g n m a d = rw d
+
+set_at_same : (b : Bool) (g : Going) (n : Name) (a : ℕ) → (if b then g else record { now = set_value g.now n a; next = g.next }).now.value n ≡ (if b then g.now.value n else a)
+set_at_same true g n a = refl
+set_at_same false g n a = rw (same_name n) refl
+
+pub set_front : (widths : Name → ℕ) (v : Valuation) (ms : Shapes) (s : State) (c : Term Name) (n : Name) (t : Term Name) → Gives widths v (low_set ms s c n t).wires → Gives widths v s.wires
+set_front widths v ms s c n t h =
+    low_front widths v ms s.entries c s.wires (low_front widths v ms s.entries t _ (gives_front widths v _ _ h))
+
+-- one assignment: what the name stands for, and the others as before
+set_here : (ms : Shapes) (vars : Scope) (vw widths : Name → ℕ) (v : Valuation) (s : State) (g : Going) → Around ms vars vw widths v s.entries g.now.value g.now.cell → (c : Term Name) (n : Name) (t : Term Name) (u : ℕ) → find vars n ≡ Some u → TermFine ms vars 1 c → TermFine ms vars u t → Gives widths v (low_set ms s c n t).wires → Stands widths v (low_set ms s c n t).part u (if value_in vw g c == 0 then g.now.value n else value_in vw g t)
+set_here ms vars vw widths v s g k c n t u found fc ft h =
+    let es = s.entries in
+    let z = low ms es c s.wires in
+    let x = low ms es t z.wires in
+    let old = present es n in
+    let hx = gives_front widths v x.wires _ h in
+    let sz = low_stands ms vars vw widths v es g.now.value g.now.cell k 1 c fc s.wires (low_front widths v ms es t z.wires hx) in
+    let sx = low_stands ms vars vw widths v es g.now.value g.now.cell k u t ft z.wires hx in
+    let so = k.env n u found in
+    let p = plus_shows widths v x.wires old.width (Choose z.part.operand x.part.operand old.operand) h in
+    let e1 = sz.shows.value in let e2 = sx.shows.value in let e3 = so.shows.value in
+    record {
+      shows = record { value = p.value ∙ rw (e1, e2, e3) refl; wide = p.wide ∙ so.shows.width; width = so.shows.width };
+      below = below_both (value_in vw g c == 0) (g.now.value n) (value_in vw g t) (2 ^ u) so.below sx.below;
+    }
+
+pub set_stands : (ms : Shapes) (vars : Scope) (vw widths : Name → ℕ) (v : Valuation) (s : State) (g : Going) → Around ms vars vw widths v s.entries g.now.value g.now.cell → HasEntries vars s.entries → (c : Term Name) (n : Name) (t : Term Name) (u : ℕ) → find vars n ≡ Some u → TermFine ms vars 1 c → TermFine ms vars u t → Gives widths v (low_set ms s c n t).wires
+    → Env widths v vars (replaced s.entries n (low_set ms s c n t).part) (if value_in vw g c == 0 then g else record { now = set_value g.now n (value_in vw g t); next = g.next }).now.value
+set_stands ms vars vw widths v s g k has c n t u found fc ft h m w f =
+    let b = value_in vw g c == 0 in
+    let a = value_in vw g t in
+    let y = (low_set ms s c n t).part in
+    let after : Going = if b then g else record { now = set_value g.now n a; next = g.next } in
+    elim (cases_Bool (bytes_eq n m)) [
+      | inl same ↦
+          let e : n ≡ m = name_is n m same in
+          let found' : find vars n ≡ Some w = subst (λ (q : Name). find vars q ≡ Some w) (sym e) f in
+          let uw : u ≡ w = cc in
+          let old = has n u found in
+          let here = set_here ms vars vw widths v s g k c n t u found fc ft h in
+          let r : present (replaced s.entries n y) n ≡ y = ap (λ o. unwrap_or o nothing) (replaced_same s.entries n y old.0 old.1) in
+          let there : Stands widths v (present (replaced s.entries n y) n) u (after.now.value n) = rw (r, set_at_same b g n a) here in
+          subst (λ (q : Name). Stands widths v (present (replaced s.entries n y) q) w (after.now.value q)) e (subst (λ (q : ℕ). Stands widths v (present (replaced s.entries n y) n) q (after.now.value n)) uw there)
+      | inr d ↦
+          let o = k.env m w f in
+          let r : present (replaced s.entries n y) m ≡ present s.entries m = ap (λ o. unwrap_or o nothing) (replaced_other s.entries n m y d) in
+          let d' : bytes_eq m n ≡ false = apart_back n m d in
+          rw (r, set_at_other b g n m a d') o
+    ]

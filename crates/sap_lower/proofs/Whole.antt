@@ -1,0 +1,163 @@
+-- The netlist of a program is a netlist, and declares what the program declares.
+use Rattle.std.proofs.Common.{◌≡◌, ℕ, zero, suc, ◌+◌, ◌^◌, ◌<◌, ◌≤◌, ◌==◌, ◌&&◌, ◌||◌, List, [], ◌∷◌, ◌++◌, map, filter, take, length, Option, Some, None, Bool, true, false, not, sym, ap, ap₂, ◌∙◌, subst, refl, arith, inl, inr, append_assoc}
+use Rattle.std.specs.Prelude.{if◌then◌else◌, unwrap_or, codes}
+use Rattle.std.specs.Str.{bytes_eq}
+use Rattle.std.specs.List.{AllByRecursion}
+use Rattle.std.proofs.lemmas.Bool.{cases_Bool}
+use Rattle.sap_maps.specs.Maps.{Name}
+use Rattle.sap_maps.specs.Scope.{Scope, find}
+use Rattle.sap_maps.proofs.Scopes.{same_name, name_is, found_here, found_behind}
+use Rattle.sap_net.specs.Names.{is_name, is_among, AreDistinct}
+use Rattle.sap_net.specs.Rules.{Shapes, IsWidth, IsDepth, IsOperand, AreWires, readable_after, IsRegister, IsMemory, AreValues, AreMemories}
+use Rattle.sap_net.specs.declared.parts.PortKind.TheVariants as kind
+use Rattle.sap_net.specs.declared.parts.Port.{Port}
+use Rattle.sap_net.specs.declared.parts.Input.{Input}
+use Rattle.sap_net.specs.declared.parts.Wire.{Wire}
+use Rattle.sap_net.specs.declared.parts.Register.{Register}
+use Rattle.sap_net.specs.declared.parts.Memory.{Memory}
+use Rattle.sap_net.specs.IsNetlist.{first_readable, readable, shapes, PortShows, is_input, IsNetlist}
+use Rattle.sap_net.proofs.Within.{readable_to_the_end}
+use Rattle.sap_ir.specs.declared.guarded.Var.{Var}
+use Rattle.sap_ir.specs.declared.guarded.Store.{Store}
+use Rattle.sap_ir.specs.Source.{Source}
+use Rattle.sap_ir.specs.Source as source
+use Rattle.sap_ir.specs.IsGuarded.{variable_names, memory_names, declared, is_helping, IsPlainVar, IsRegisterVar, IsStore, IsGuarded}
+use Rattle.sap_ir.proofs.Declared.{among_append, among_front, among_behind, distinct_front, distinct_behind, apart_lists, apart_lists_back, not_found, found_among, found_first, found_second}
+use Rattle.sap_lower.specs.declared.parts.Part.{Part}
+use Rattle.sap_lower.specs.declared.parts.WritePort.{WritePort}
+use Rattle.sap_lower.specs.Lowering.{helper, present}
+use Rattle.sap_lower.specs.Commands.{port_of}
+use Rattle.sap_lower.specs.Lowered.{out_wire, register_of, memory_of, input_of, input_port, kind_shown, port_shown, picked, unlisted, unported, registers_declared, all_wires, wire_list_names, last_state, lowered}
+use Rattle.sap_lower.proofs.Fits.{EnvFits, Grows, operand_grows, env_grows}
+use Rattle.sap_lower.proofs.CommandsFit.{PortFits, PortsFit, StateFits}
+use Rattle.sap_lower.proofs.Order.{from_declared, to_declared, all_append, all_map, map_all}
+use Rattle.sap_lower.proofs.Begins.{scope_of, shapes_list}
+use Rattle.sap_lower.proofs.Declares.{unported_among, filter_append, filter_none, filter_all, filter_same, each_among, among_each, distinct_both, unported_distinct, unlisted_names, picked_names}
+use Rattle.sap_lower.proofs.Netlist.{first_scope, first_found, last_fits}
+use Rattle.sap_lower.proofs.Rules.{first_readable_is, shapes_are, wires_append, readable_append, outs_fit, wire_among, each_variable, kind_found, found_mapped}
+
+long_front : (ws vs : List Wire) → length ws ≤ length (ws ++ vs)
+long_front [] vs = omega arith
+long_front (w ∷ ws) vs = omega (arith, long_front ws vs)
+
+pub last_short : (s : Source) → length (all_wires s) < 2 ^ 64 → length (last_state s).wires < 2 ^ 64
+last_short s l = omega (arith, long_front (last_state s).wires (map (out_wire (last_state s).entries) s.wires))
+
+pub plain_wide : (xs : List Var) → AllByRecursion IsPlainVar xs → AllByRecursion (λ x. IsWidth x.width) xs
+plain_wide [] a = tt
+plain_wide (x ∷ xs) a = (a.0.0, plain_wide xs a.1)
+
+pub register_wide : (xs : List Var) → AllByRecursion IsRegisterVar xs → AllByRecursion (λ x. IsWidth x.width) xs
+register_wide [] a = tt
+register_wide (x ∷ xs) a = (a.0.0, register_wide xs a.1)
+
+pub both_hold : (P Q R : Var → Type 0) (xs : List Var) → ((x : Var) → P x → Q x → R x) → AllByRecursion P xs → AllByRecursion Q xs → AllByRecursion R xs
+both_hold P Q R [] h a b = tt
+both_hold P Q R (x ∷ xs) h a b = (h x a.0 b.0, both_hold P Q R xs h a.1 b.1)
+
+wire_plain : (s : Source) → IsGuarded s → (n : Name) → is_among n (variable_names s.wires) ≡ true → is_helping n ≡ false
+wire_plain s g n a =
+    let is = variable_names s.inputs in
+    let rs = variable_names s.registers in
+    let ws = variable_names s.wires in
+    let ms = memory_names s.memories in
+    among_each (λ x. is_helping x ≡ false) (declared s) g.not_helping n (among_behind n is (rs ++ (ws ++ ms)) (among_behind n rs (ws ++ ms) (among_front n ws ms a)))
+
+pub registers_found : (s : Source) → IsGuarded s → AllByRecursion (λ x. find (source.readable s) x.name ≡ Some x.width) s.registers
+registers_found s g =
+    let is = variable_names s.inputs in
+    let rs = variable_names s.registers in
+    let ws = variable_names s.wires in
+    let ms = memory_names s.memories in
+    let d1 = distinct_behind is (rs ++ (ws ++ ms)) g.declared_once in
+    let k = kind_found s.registers (distinct_front rs (ws ++ ms) d1) in
+    both_hold (λ x. find (scope_of s.registers) x.name ≡ Some x.width) (λ x. is_among x.name rs ≡ true) (λ x. find (source.readable s) x.name ≡ Some x.width) s.registers
+    (λ x f a. found_first (scope_of s.inputs ++ scope_of s.registers) (scope_of s.wires) x.name x.width
+    (found_second (scope_of s.inputs) (scope_of s.registers) x.name (not_found {X = ℕ} (λ (y : Var). y.name) (λ y. y.width) s.inputs x.name (apart_lists is (rs ++ (ws ++ ms)) g.declared_once x.name (among_front x.name rs (ws ++ ms) a))) ∙ f))
+    k (each_variable (λ x. is_among x.name rs ≡ true) s.registers (λ x a. a))
+
+pub wires_found : (s : Source) → IsGuarded s → AllByRecursion (λ x. find (source.readable s) x.name ≡ Some x.width) s.wires
+wires_found s g =
+    let is = variable_names s.inputs in
+    let rs = variable_names s.registers in
+    let ws = variable_names s.wires in
+    let ms = memory_names s.memories in
+    let d2 = distinct_behind rs (ws ++ ms) (distinct_behind is (rs ++ (ws ++ ms)) g.declared_once) in
+    let k = kind_found s.wires (distinct_front ws ms d2) in
+    both_hold (λ x. find (scope_of s.wires) x.name ≡ Some x.width) (λ x. is_among x.name ws ≡ true) (λ x. find (source.readable s) x.name ≡ Some x.width) s.wires
+    (λ x f a. let o = wire_among s g.declared_once x.name a in
+    found_second (scope_of s.inputs ++ scope_of s.registers) (scope_of s.wires) x.name
+    (found_second (scope_of s.inputs) (scope_of s.registers) x.name (not_found {X = ℕ} (λ (y : Var). y.name) (λ y. y.width) s.inputs x.name o.0) ∙ not_found {X = ℕ} (λ (y : Var). y.name) (λ y. y.width) s.registers x.name o.1) ∙ f)
+    k (each_variable (λ x. is_among x.name ws ≡ true) s.wires (λ x a. a))
+
+-- the operands of entries fit behind all wires
+env_operands : (sc vars : Scope) (es : List (Name × Part)) → EnvFits sc vars es → (xs : List Var) → AllByRecursion (λ x. find vars x.name ≡ Some x.width) xs → AllByRecursion (λ x. IsOperand sc x.width (present es x.name).operand) xs
+env_operands sc vars es e [] f = tt
+env_operands sc vars es e (x ∷ xs) f = ((e x.name x.width f.0).0, env_operands sc vars es e xs f.1)
+
+abbrev outs : Source → List Wire
+outs s = map (out_wire (last_state s).entries) s.wires
+
+outs_are : (s : Source) → IsGuarded s → StateFits (source.shapes s) (first_scope s) (source.readable s) (last_state s) → AreWires (source.shapes s) (readable_after (first_scope s) (last_state s).wires) (outs s)
+outs_are s g k =
+    let t = last_state s in
+    let sc = readable_after (first_scope s) t.wires in
+    let d2 = distinct_behind (variable_names s.registers) (variable_names s.wires ++ memory_names s.memories) (distinct_behind (variable_names s.inputs) (variable_names s.registers ++ (variable_names s.wires ++ memory_names s.memories)) g.declared_once) in
+    outs_fit (source.shapes s) t.entries s.wires sc (distinct_front (variable_names s.wires) (memory_names s.memories) d2) (plain_wide s.wires g.wires)
+    (each_variable (λ x. find sc x.name ≡ None) s.wires (λ x a.
+    let o = wire_among s g.declared_once x.name a in
+    let h : is_helping x.name ≡ false = wire_plain s g x.name a in
+    k.fits.others x.name h ∙ first_found s x.name
+    ∙ found_second (scope_of s.inputs) (scope_of s.registers) x.name (not_found {X = ℕ} (λ (y : Var). y.name) (λ y. y.width) s.inputs x.name o.0) ∙ not_found {X = ℕ} (λ (y : Var). y.name) (λ y. y.width) s.registers x.name o.1))
+    (each_variable (λ x. find (source.shapes s) x.name ≡ None) s.wires (λ x a. not_found {X = ℕ × ℕ} (λ (m : Store). m.name) (λ m. (m.width, m.depth)) s.memories x.name (wire_among s g.declared_once x.name a).2))
+    (env_operands sc (source.readable s) t.entries k.env s.wires (wires_found s g))
+
+pub wires_are : (s : Source) → IsGuarded s → StateFits (source.shapes s) (first_scope s) (source.readable s) (last_state s) → AreWires (source.shapes s) (first_scope s) (all_wires s)
+wires_are s g k = wires_append (source.shapes s) (last_state s).wires (outs s) (first_scope s) k.fits.wires (outs_are s g k)
+
+-- what can be read behind the helping wires can be read behind all
+pub grows_to_all : (s : Source) → IsGuarded s → (k : StateFits (source.shapes s) (first_scope s) (source.readable s) (last_state s)) → Grows (readable_after (first_scope s) (last_state s).wires) (readable_after (first_scope s) (all_wires s))
+grows_to_all s g k n u h =
+    let sc = readable_after (first_scope s) (last_state s).wires in
+    subst (λ (sd : Scope). find sd n ≡ Some u) (sym (readable_append (last_state s).wires (outs s) (first_scope s))) (readable_to_the_end (source.shapes s) (outs s) sc (outs_are s g k) n u h)
+
+pub nexts_are : (sc sd vars : Scope) (es : List (Name × Part)) → Grows sc sd → EnvFits sc vars es → (xs : List Var) → AllByRecursion (λ x. find vars x.name ≡ Some x.width) xs → AllByRecursion IsRegisterVar xs → AllByRecursion (λ x. IsRegister sd (register_of es x)) xs
+nexts_are sc sd vars es g e [] f a = tt
+nexts_are sc sd vars es g e (x ∷ xs) f a =
+    ((a.0.1, operand_grows sc sd g x.width (present es x.name).operand (e x.name x.width f.0).0), nexts_are sc sd vars es g e xs f.1 a.1)
+
+pub writes_are : (ms : Shapes) (sc sd : Scope) (ps : List (Name × WritePort)) → Grows sc sd → PortsFit ms sc ps → (xs : List Store) → AllByRecursion (λ m. find ms m.name ≡ Some (m.width, m.depth)) xs → AllByRecursion IsStore xs → AllByRecursion (λ m. IsMemory sd (memory_of ps m)) xs
+writes_are ms sc sd ps g k [] f a = tt
+writes_are ms sc sd ps g k (m ∷ xs) f a =
+    let p = port_of ps m.name in
+    let h = k m.name (m.width, m.depth) f.0 in (
+      record {
+        bits = p.bits;
+        depth = h.deep;
+        start = a.0.2;
+        enable = operand_grows sc sd g 1 p.enable h.enable;
+        index = operand_grows sc sd g p.bits p.index h.index;
+        value = operand_grows sc sd g m.width p.value h.value;
+      },
+      writes_are ms sc sd ps g k xs f.1 a.1,
+    )
+
+stores_kept : (n : Name) (e : ℕ × ℕ) (sh : Shapes) (ms : List Store) → is_among n (memory_names ms) ≡ false → AllByRecursion (λ m. find sh m.name ≡ Some (m.width, m.depth)) ms → AllByRecursion (λ m. find ((n, e) ∷ sh) m.name ≡ Some (m.width, m.depth)) ms
+stores_kept n e sh [] d a = tt
+stores_kept n e sh (m ∷ ms) d a =
+    elim (cases_Bool (bytes_eq n m.name)) [
+      | inl t ↦ absurd (let q : is_among n (memory_names (m ∷ ms)) ≡ true = rw t refl in cc)
+      | inr f ↦ (rw f a.0, stores_kept n e sh ms (rw f at d) a.1)
+    ]
+
+pub stores_found : (ms : List Store) → AreDistinct (memory_names ms) → AllByRecursion (λ m. find (shapes_list ms) m.name ≡ Some (m.width, m.depth)) ms
+stores_found [] d = tt
+stores_found (m ∷ ms) d = (found_here m.name (m.width, m.depth) (shapes_list ms), stores_kept m.name (m.width, m.depth) (shapes_list ms) ms d.0 (stores_found ms d.1))
+
+pub values_are : (ms : Shapes) (xs : List Var) → AreDistinct (variable_names xs) → AllByRecursion (λ x. IsWidth x.width) xs → AllByRecursion (λ x. find ms x.name ≡ None) xs → AreValues ms (scope_of xs)
+values_are ms [] d w n = tt
+values_are ms (x ∷ xs) d w n = (w.0, not_found {X = ℕ} (λ (y : Var). y.name) (λ y. y.width) xs x.name d.0, n.0, values_are ms xs d.1 w.1 n.1)
+
+pub memories_are : (ms : List Store) → AreDistinct (memory_names ms) → AllByRecursion IsStore ms → AreMemories (shapes_list ms)
+memories_are [] d a = tt
+memories_are (m ∷ ms) d a = (a.0.0, not_found {X = ℕ × ℕ} (λ (y : Store). y.name) (λ y. (y.width, y.depth)) ms m.name d.0, memories_are ms d.1 a.1)

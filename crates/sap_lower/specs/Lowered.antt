@@ -1,0 +1,122 @@
+-- The netlist of a flat program.
+use Rattle.std.specs.Prelude.{ℕ, zero, suc, ◌^◌, ◌==◌, Bool, not, List, [], ◌∷◌, ◌++◌, map, filter, Option, Some, None, codes, if◌then◌else◌}
+use Rattle.sap_maps.specs.Maps.{Name}
+use Rattle.sap_maps.specs.Scope.{find}
+use Rattle.sap_net.specs.Names.{is_among}
+use Rattle.sap_net.specs.Net.{Net}
+use Rattle.sap_net.specs.declared.parts.Operand.TheVariants.{Named, Constant}
+use Rattle.sap_net.specs.declared.parts.Right.TheVariants.{Copy}
+use Rattle.sap_net.specs.declared.parts.PortKind.{PortKind}
+use Rattle.sap_net.specs.declared.parts.PortKind.TheVariants as kind
+use Rattle.sap_net.specs.declared.parts.Port.{Port}
+use Rattle.sap_net.specs.declared.parts.Input.{Input}
+use Rattle.sap_net.specs.declared.parts.Wire.{Wire}
+use Rattle.sap_net.specs.declared.parts.Register.{Register}
+use Rattle.sap_net.specs.declared.parts.Memory.{Memory}
+use Rattle.sap_ir.specs.declared.guarded.Var.{Var}
+use Rattle.sap_ir.specs.declared.guarded.Store.{Store}
+use Rattle.sap_ir.specs.Source.{Source, shapes}
+use Rattle.sap_ir.specs.IsGuarded.{variable_names, memory_names}
+use Rattle.sap_lower.specs.declared.parts.Part.{Part}
+use Rattle.sap_lower.specs.declared.parts.WritePort.{WritePort}
+use Rattle.sap_lower.specs.Lowering.{present}
+use Rattle.sap_lower.specs.Commands.{State, port_of, low_commands}
+
+-- Inputs and registers stand for themselves at first, wires for 0.
+
+abbrev pub named_entry : Var → Name × Part
+named_entry x = (x.name, record { operand = Named x.name; width = x.width })
+
+abbrev pub zero_entry : Var → Name × Part
+zero_entry x = (x.name, record { operand = Constant x.width 0; width = x.width })
+
+abbrev pub first_entries : Source → List (Name × Part)
+first_entries s = map named_entry s.inputs ++ map named_entry s.registers ++ map zero_entry s.wires
+
+-- the bits of an index, where the depth is a power of two up to 2 ^ most
+abbrev pub bits_within : (most depth : ℕ) → ℕ
+bits_within zero d = zero
+bits_within (suc k) d = if d == 2 ^ suc k then suc k else bits_within k d
+
+abbrev pub index_bits : (depth : ℕ) → ℕ
+index_bits d = bits_within 12 d
+
+abbrev pub first_port : Store → Name × WritePort
+first_port m =
+    (m.name, record { width = m.width; bits = index_bits m.depth; enable = Constant 1 0; index = Constant (index_bits m.depth) 0; value = Constant m.width 0 })
+
+abbrev pub first_state : Source → State
+first_state s = record { wires = []; entries = first_entries s; ports = map first_port s.memories }
+
+abbrev pub last_state : Source → State
+last_state s = low_commands (shapes s) (first_state s) s.commands
+
+-- each wire is a copy of what it stands for at the end
+abbrev pub out_wire : List (Name × Part) → Var → Wire
+out_wire es x = record { name = x.name; width = x.width; right = Copy (present es x.name).operand }
+
+abbrev pub register_of : List (Name × Part) → Var → Register
+register_of es x = record { name = x.name; width = x.width; start = x.start; next = (present es x.name).operand }
+
+abbrev pub memory_of : List (Name × WritePort) → Store → Memory
+memory_of ps m =
+    let p = port_of ps m.name in
+    record { name = m.name; width = m.width; depth = m.depth; start = m.start; enable = p.enable; index = p.index; value = p.value }
+
+abbrev pub input_of : Var → Input
+input_of x = record { name = x.name; width = x.width }
+
+-- Registers that are ports are declared first, in port order.
+
+abbrev pub in_front : {X : Type 0} → Option X → List X → List X
+in_front None xs = xs
+in_front (Some x) xs = x ∷ xs
+
+abbrev pub picked : List Var → List Name → List Var
+picked rs [] = []
+picked rs (p ∷ ps) = in_front (find (map (λ r. (r.name, r)) rs) p) (picked rs ps)
+
+abbrev pub unlisted : List Name → List Var → List Var
+unlisted ps xs = filter (λ x. not (is_among x.name ps)) xs
+
+abbrev pub registers_declared : Source → List Var
+registers_declared s = picked s.registers s.ports ++ unlisted s.ports s.registers
+
+abbrev pub input_port : Var → Port
+input_port x = record { name = x.name; kind = kind.Input }
+
+abbrev pub kind_shown : (is_register : Bool) → PortKind
+kind_shown b = if b then kind.Register else kind.Wire
+
+abbrev pub port_shown : List Var → Name → Port
+port_shown rs p = record { name = p; kind = kind_shown (is_among p (variable_names rs)) }
+
+abbrev pub all_wires : Source → List Wire
+all_wires s = let t = last_state s in t.wires ++ map (out_wire t.entries) s.wires
+
+abbrev pub wire_list_names : List Wire → List Name
+wire_list_names ws = map (λ w. w.name) ws
+
+-- what no port declares
+abbrev pub unported : List Name → List Name → List Name
+unported ps xs = filter (λ x. not (is_among x ps)) xs
+
+abbrev pub names_declared : Source → List Wire → List Name
+names_declared s ws =
+    variable_names s.inputs ++ (s.ports ++ (unported s.ports (wire_list_names ws) ++ (unported s.ports (variable_names s.registers) ++ memory_names s.memories)))
+
+-- the netlist of these wires, where each name and each memory stands for these operands at the end
+abbrev pub net_declared : Source → List Wire → List (Name × Part) → List (Name × WritePort) → Net
+net_declared s ws es ps =
+    record {
+      module_name = codes "top";
+      names = names_declared s ws;
+      ports = map input_port s.inputs ++ map (port_shown s.registers) s.ports;
+      inputs = map input_of s.inputs;
+      wires = ws;
+      registers = map (register_of es) (registers_declared s);
+      memories = map (memory_of ps) s.memories;
+    }
+
+abbrev pub lowered : Source → Net
+lowered s = net_declared s (all_wires s) (last_state s).entries (last_state s).ports

@@ -1,0 +1,53 @@
+-- What the netlist of a flat program declares, and whose numbers its runs have.
+use Rattle.std.specs.Prelude.{◌≡◌, ℕ, List, [], ◌∷◌, ◌++◌, map, Some, codes, if◌then◌else◌}
+use Rattle.std.specs.List.{AllByRecursion}
+use Rattle.sap_maps.specs.Maps.{Name, Valuation}
+use Rattle.sap_maps.specs.Scope.{find}
+use Rattle.sap_net.specs.Names.{is_among}
+use Rattle.sap_net.specs.Net.{Net}
+use Rattle.sap_net.specs.Runs.{IsRun, AllFit, observed}
+use Rattle.sap_net.specs.declared.parts.PortKind.TheVariants as kind
+use Rattle.sap_net.specs.declared.parts.Port.{Port}
+use Rattle.sap_net.specs.declared.parts.Input.{Input}
+use Rattle.sap_ir.specs.declared.guarded.Var.{Var}
+use Rattle.sap_ir.specs.Source.{Source}
+use Rattle.sap_ir.specs.Guarded.{guarded_run}
+use Rattle.sap_ir.specs.IsGuarded.{variable_names}
+
+abbrev input_declared : Var → Input
+input_declared x = record { name = x.name; width = x.width }
+
+abbrev input_port_declared : Var → Port
+input_port_declared x = record { name = x.name; kind = kind.Input }
+
+-- a port of a register or of a wire
+abbrev port_declared : Source → Name → Port
+port_declared s x = record { name = x; kind = if is_among x (variable_names s.registers) then kind.Register else kind.Wire }
+
+pub record Declares (s : Source) (n : Net) : Type 0 where
+  pub module_name : n.module_name ≡ codes "top"
+  -- the inputs, and then the source's ports, in order
+  pub ports : n.ports ≡ map input_port_declared s.inputs ++ map (port_declared s) s.ports
+  pub inputs : n.inputs ≡ map input_declared s.inputs
+  -- the source's registers under their names, with their widths and starts
+  pub registers : (x : Name) → find {X = ℕ × ℕ} (map (λ r. (r.name, (r.width, r.start))) n.registers) x ≡ find {X = ℕ × ℕ} (map (λ r. (r.name, (r.width, r.start))) s.registers) x
+  pub memories : map {B = Name × (ℕ × (ℕ × ℕ))} (λ m. (m.name, (m.width, (m.depth, m.start)))) n.memories ≡ map (λ m. (m.name, (m.width, (m.depth, m.start)))) s.memories
+  -- each wire of the source is a wire with its width
+  pub wires : AllByRecursion (λ x. find {X = ℕ} (map (λ w. (w.name, w.width)) n.wires) x.name ≡ Some x.width) s.wires
+
+-- Registers and memories after the edge, and the source's wires before it, have the numbers of `end`.
+pub record SameNumbers (s : Source) (n : Net) (v end : Valuation) : Type 0 where
+  pub registers : AllByRecursion (λ x. (observed n v).value x.name ≡ end.value x.name) s.registers
+  pub wires : AllByRecursion (λ x. (observed n v).value x.name ≡ end.value x.name) s.wires
+  pub memories : AllByRecursion (λ m. (i : ℕ) → (observed n v).cell m.name i ≡ end.cell m.name i) s.memories
+
+-- in each cycle
+abbrev pub AllSame : Source → Net → List Valuation → List Valuation → Type 0
+AllSame s n [] [] = Unit {0}
+AllSame s n [] (e ∷ es) = ⊥
+AllSame s n (v ∷ vs) [] = ⊥
+AllSame s n (v ∷ vs) (e ∷ es) = SameNumbers s n v e × AllSame s n vs es
+
+-- On all inputs that fit, each run of the netlist has the numbers of the source's run.
+abbrev pub RunsAlike : Source → Net → Type 0
+RunsAlike s n = (xss : List (List ℕ)) (vs : List Valuation) → AllFit n.inputs xss → IsRun n xss vs → AllSame s n vs (guarded_run s xss)

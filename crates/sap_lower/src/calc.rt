@@ -1,0 +1,261 @@
+//! Expressions to wires of one operator each.
+
+ghost use Rattle.std.specs.Prelude.{◌≡◌, ◌-◌, ◌+◌, ◌<◌, ◌≤◌, map, IfOk, OnOk};
+ghost use Rattle.sap_bits.specs.Arithmetic.{width1, width2, slice_of};
+ghost use Rattle.sap_ir.specs.Calcs.{term_of};
+ghost use Rattle.sap_lower.specs.Index.{Indexes};
+ghost use Rattle.sap_lower.specs.Lowering.{cell_width, leaves_nothing, low, low_join, low_slice, low_two, nothing, present};
+ghost use Rattle.sap_lower.specs.Parts.{glued, low_all};
+ghost use Rattle.sap_lower.specs.Places.{names_of};
+ghost use Rattle.sap_lower.specs.Lookup.{shapes_of};
+
+use crate::parts::{Part, emit};
+use crate::places::place;
+use sap_bits::{Op1, Op2, slice};
+use sap_ir::guarded::{Calc, Store};
+use sap_net::parts::{Name, Operand, Operands, Right, Wire};
+use std::alloc::{AllocError, Global};
+use std::collections::HashMap;
+
+/// The operand of what has no part.
+fn nothing_yet() -> Part
+    ensures { result ≡ nothing }
+{
+    Part {
+        operand: Operand::Constant { width: 0, value: 0 },
+        width: 0,
+    }
+}
+
+/// What a name stands for.
+pub fn present_part(
+    alloc: Global,
+    places: &HashMap<Vec<u8>, usize>,
+    entries: &[(Name, Part)],
+    name: &Name,
+) -> Result<Part, AllocError>
+    requires { Indexes places.now (names_of entries.now) }
+    ensures { IfOk result (λ p. p ≡ present entries.now name.now) }
+{
+    match place(places, name) {
+        Some(k) => entries[k].1.copy(alloc),
+        None => Ok(nothing_yet()),
+    }
+}
+
+/// The width of a memory's cells.
+fn width_of_cells(places: &HashMap<Vec<u8>, usize>, stores: &[Store], memory: &Name) -> u32
+    requires { Indexes places.now (map (λ m. m.name) stores.now) }
+    ensures { result ≡ cell_width (shapes_of stores.now) memory.now }
+{
+    match place(places, memory) {
+        Some(k) => stores[k].width,
+        None => 0,
+    }
+}
+
+fn width_one(op: Op1, w: u32) -> u32
+    ensures { result ≡ width1 op w }
+{
+    match op {
+        Op1::Not | Op1::Neg => w,
+        _ => 1,
+    }
+}
+
+fn width_two(op: Op2, w: u32) -> u32
+    ensures { result ≡ width2 op w }
+{
+    match op {
+        Op2::Eq | Op2::Ne | Op2::Lt | Op2::Le => 1,
+        _ => w,
+    }
+}
+
+/// Whether a shift by this count leaves nothing, as is known from the count alone.
+fn is_shift_past(op: Op2, width: u32, count: &Operand) -> bool
+    ensures { result ≡ leaves_nothing op width count.now }
+{
+    match (op, count) {
+        (Op2::Shl | Op2::Shr, Operand::Constant { value, .. }) => u64::from(width) <= *value,
+        _ => false,
+    }
+}
+
+fn lower_two(
+    alloc: Global,
+    wires: &mut Vec<Wire>,
+    op: Op2,
+    a: Part,
+    b: Part,
+) -> Result<Part, AllocError>
+    ensures wires { OnOk result (wires.new.items ≡ (low_two op a b wires.old.items).wires) }
+    ensures part { IfOk result (λ p. p ≡ (low_two op a b wires.old.items).part) }
+{
+    if is_shift_past(op, a.width, &b.operand) {
+        return Ok(Part {
+            operand: Operand::Constant {
+                width: a.width,
+                value: 0,
+            },
+            width: a.width,
+        });
+    }
+    emit(
+        alloc,
+        wires,
+        width_two(op, a.width),
+        Right::Two(op, a.operand, b.operand),
+    )
+}
+
+fn lower_slice(
+    alloc: Global,
+    wires: &mut Vec<Wire>,
+    of: Operand,
+    hi: u32,
+    lo: u32,
+) -> Result<Part, AllocError>
+    ensures wires { OnOk result (wires.new.items ≡ (low_slice of hi lo wires.old.items).wires) }
+    ensures part { IfOk result (λ p. p ≡ (low_slice of hi lo wires.old.items).part) }
+{
+    if hi < lo || 63 < hi {
+        return Ok(nothing_yet());
+    }
+    let width = hi + 1 - lo;
+    match of {
+        Operand::Named(name) => emit(alloc, wires, width, Right::Slice { name, hi, lo }),
+        Operand::Constant { value, .. } => Ok(Part {
+            operand: Operand::Constant {
+                width,
+                value: slice(value, hi, lo),
+            },
+            width,
+        }),
+    }
+}
+
+/// The first in front of the second. Widths are at most 64 in all.
+fn lower_join(alloc: Global, wires: &mut Vec<Wire>, a: Part, b: Part) -> Result<Part, AllocError>
+    ensures wires { OnOk result (wires.new.items ≡ (low_join a b wires.old.items).wires) }
+    ensures part { IfOk result (λ p. p ≡ (low_join a b wires.old.items).part) }
+{
+    let width = a.width.wrapping_add(b.width);
+    let operands = vec![in alloc; a.operand, b.operand]?;
+    emit(alloc, wires, width, Right::Concat(Operands::new(operands)))
+}
+
+/// The parts one behind another.
+fn glue(alloc: Global, wires: &mut Vec<Wire>, parts: Vec<Part>) -> Result<Part, AllocError>
+    ensures wires { OnOk result (wires.new.items ≡ (glued wires.old.items parts.items).wires) }
+    ensures part { IfOk result (λ p. p ≡ (glued wires.old.items parts.items).part) }
+{
+    let mut front = parts;
+    let Some(last) = front.pop() else {
+        return Ok(nothing_yet());
+    };
+    let mut whole = last;
+    while let Some(part) = front.pop() {
+        whole = lower_join(alloc, wires, part, whole)?;
+    }
+    Ok(whole)
+}
+
+/// The operand that has an expression's value, after some more wires.
+#[cycle(lower)]
+pub fn lower_calc(
+    alloc: Global,
+    wires: &mut Vec<Wire>,
+    places: &HashMap<Vec<u8>, usize>,
+    entries: &[(Name, Part)],
+    store_places: &HashMap<Vec<u8>, usize>,
+    stores: &[Store],
+    calc: &Calc,
+) -> Result<Part, AllocError>
+    requires places { Indexes places.now (names_of entries.now) }
+    requires stores { Indexes store_places.now (map (λ m. m.name) stores.now) }
+    ensures wires { OnOk result (wires.new.items ≡ (low (shapes_of stores.now) entries.now (term_of calc.now) wires.old.items).wires) }
+    ensures part { IfOk result (λ p. p ≡ (low (shapes_of stores.now) entries.now (term_of calc.now) wires.old.items).part) }
+{
+    match calc {
+        Calc::Constant { width, value } => Ok(Part {
+            operand: Operand::Constant {
+                width: *width,
+                value: *value,
+            },
+            width: *width,
+        }),
+        Calc::Read(name) => present_part(alloc, places, entries, name),
+        Calc::Cell { memory, index } => {
+            let index = lower_calc(alloc, wires, places, entries, store_places, stores, index)?;
+            let width = width_of_cells(store_places, stores, memory);
+            let memory = memory.copy(alloc)?;
+            emit(
+                alloc,
+                wires,
+                width,
+                Right::Cell {
+                    memory,
+                    index: index.operand,
+                },
+            )
+        }
+        Calc::One(op, a) => {
+            let a = lower_calc(alloc, wires, places, entries, store_places, stores, a)?;
+            emit(
+                alloc,
+                wires,
+                width_one(*op, a.width),
+                Right::One(*op, a.operand),
+            )
+        }
+        Calc::Two(op, a, b) => {
+            let a = lower_calc(alloc, wires, places, entries, store_places, stores, a)?;
+            let b = lower_calc(alloc, wires, places, entries, store_places, stores, b)?;
+            lower_two(alloc, wires, *op, a, b)
+        }
+        Calc::Choose(c, a, b) => {
+            let c = lower_calc(alloc, wires, places, entries, store_places, stores, c)?;
+            let a = lower_calc(alloc, wires, places, entries, store_places, stores, a)?;
+            let b = lower_calc(alloc, wires, places, entries, store_places, stores, b)?;
+            emit(
+                alloc,
+                wires,
+                a.width,
+                Right::Choose(c.operand, a.operand, b.operand),
+            )
+        }
+        Calc::Concat(parts) => {
+            let parts = lower_all(alloc, wires, places, entries, store_places, stores, parts)?;
+            glue(alloc, wires, parts)
+        }
+        Calc::Slice { of, hi, lo } => {
+            let of = lower_calc(alloc, wires, places, entries, store_places, stores, of)?;
+            lower_slice(alloc, wires, of.operand, *hi, *lo)
+        }
+    }
+}
+
+/// The operands of some expressions, one after another.
+#[cycle(lower)]
+fn lower_all(
+    alloc: Global,
+    wires: &mut Vec<Wire>,
+    places: &HashMap<Vec<u8>, usize>,
+    entries: &[(Name, Part)],
+    store_places: &HashMap<Vec<u8>, usize>,
+    stores: &[Store],
+    calcs: &[Calc],
+) -> Result<Vec<Part>, AllocError>
+    requires places { Indexes places.now (names_of entries.now) }
+    requires stores { Indexes store_places.now (map (λ m. m.name) stores.now) }
+    ensures wires { OnOk result (wires.new.items ≡ (low_all (shapes_of stores.now) entries.now (map term_of calcs.now) wires.old.items).wires) }
+    ensures parts { IfOk result (λ ps. ps.items ≡ (low_all (shapes_of stores.now) entries.now (map term_of calcs.now) wires.old.items).parts) }
+{
+    let mut parts = Vec::new(alloc);
+    for calc in calcs {
+        let part = lower_calc(alloc, wires, places, entries, store_places, stores, calc)?;
+        parts.push(part)?;
+    }
+    Ok(parts)
+}

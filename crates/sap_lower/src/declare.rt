@@ -1,0 +1,393 @@
+//! The declarations of the netlist.
+
+ghost use Rattle.std.specs.Prelude.{◌≡◌, [], ◌∷◌, ◌++◌, map, IfOk, OnOk};
+ghost use Rattle.sap_net.specs.Names.{is_among};
+ghost use Rattle.sap_ir.specs.IsGuarded.{memory_names, variable_names};
+ghost use Rattle.sap_lower.specs.Index.{Indexes};
+ghost use Rattle.sap_lower.specs.Lowered.{input_of, input_port, memory_of, net_declared, out_wire, picked, port_shown, register_of, unlisted, unported, wire_list_names};
+ghost use Rattle.sap_lower.specs.Places.{names_of};
+
+use crate::calc::present_part;
+use crate::commands::present_port;
+use crate::parts::{Part, WritePort};
+use crate::places::place;
+use sap_ir::guarded::{Store, Var};
+use sap_net::parts::{Input, Memory, Name, Port, PortKind, Register, Right, Wire};
+use std::alloc::{AllocError, Global};
+use std::collections::HashMap;
+
+/// Whether a name is on a list.
+fn is_listed(places: &HashMap<Vec<u8>, usize>, names: &[Name], name: &Name) -> bool
+    requires { Indexes places.now names.now }
+    ensures { result ≡ is_among name.now names.now }
+{
+    let _ = names;
+    place(places, name).is_some()
+}
+
+/// Whether a name is that of a register.
+fn is_register(places: &HashMap<Vec<u8>, usize>, registers: &[Var], name: &Name) -> bool
+    requires { Indexes places.now (map (λ x. x.name) registers.now) }
+    ensures { result ≡ is_among name.now (variable_names registers.now) }
+{
+    let _ = registers;
+    place(places, name).is_some()
+}
+
+fn register(
+    alloc: Global,
+    places: &HashMap<Vec<u8>, usize>,
+    entries: &[(Name, Part)],
+    variable: &Var,
+) -> Result<Register, AllocError>
+    requires { Indexes places.now (names_of entries.now) }
+    ensures { IfOk result (λ r. r ≡ register_of entries.now variable.now) }
+{
+    let name = variable.name.copy(alloc)?;
+    let next = present_part(alloc, places, entries, &variable.name)?;
+    Ok(Register {
+        name,
+        width: variable.width,
+        start: variable.start,
+        next: next.operand,
+    })
+}
+
+fn wire(
+    alloc: Global,
+    places: &HashMap<Vec<u8>, usize>,
+    entries: &[(Name, Part)],
+    variable: &Var,
+) -> Result<Wire, AllocError>
+    requires { Indexes places.now (names_of entries.now) }
+    ensures { IfOk result (λ w. w ≡ out_wire entries.now variable.now) }
+{
+    let name = variable.name.copy(alloc)?;
+    let end = present_part(alloc, places, entries, &variable.name)?;
+    Ok(Wire {
+        name,
+        width: variable.width,
+        right: Right::Copy(end.operand),
+    })
+}
+
+fn memory(
+    alloc: Global,
+    places: &HashMap<Vec<u8>, usize>,
+    ports: &[(Name, WritePort)],
+    store: &Store,
+) -> Result<Memory, AllocError>
+    requires { Indexes places.now (names_of ports.now) }
+    ensures { IfOk result (λ m. m ≡ memory_of ports.now store.now) }
+{
+    let name = store.name.copy(alloc)?;
+    let port = present_port(alloc, places, ports, &store.name)?;
+    Ok(Memory {
+        name,
+        width: store.width,
+        depth: store.depth,
+        start: store.start,
+        enable: port.enable,
+        index: port.index,
+        value: port.value,
+    })
+}
+
+/// Each wire of the program, as a copy of what it stands for at the end.
+pub fn out_wires(
+    alloc: Global,
+    wires: &mut Vec<Wire>,
+    places: &HashMap<Vec<u8>, usize>,
+    entries: &[(Name, Part)],
+    variables: &[Var],
+) -> Result<(), AllocError>
+    requires { Indexes places.now (names_of entries.now) }
+    ensures { OnOk result (wires.new.items ≡ wires.old.items ++ map (out_wire entries.now) variables.now) }
+{
+    for variable in variables {
+        wires.push(wire(alloc, places, entries, variable)?)?;
+    }
+    Ok(())
+}
+
+pub fn memories(
+    alloc: Global,
+    places: &HashMap<Vec<u8>, usize>,
+    ports: &[(Name, WritePort)],
+    stores: &[Store],
+) -> Result<Vec<Memory>, AllocError>
+    requires { Indexes places.now (names_of ports.now) }
+    ensures { IfOk result (λ ms. ms.items ≡ map (memory_of ports.now) stores.now) }
+{
+    let mut made = Vec::new(alloc);
+    for store in stores {
+        made.push(memory(alloc, places, ports, store)?)?;
+    }
+    Ok(made)
+}
+
+/// The register of a port, if it is one.
+fn port_register(
+    alloc: Global,
+    made: &mut Vec<Register>,
+    places: &HashMap<Vec<u8>, usize>,
+    entries: &[(Name, Part)],
+    register_places: &HashMap<Vec<u8>, usize>,
+    registers: &[Var],
+    port: &Name,
+) -> Result<(), AllocError>
+    requires entries { Indexes places.now (names_of entries.now) }
+    requires registers { Indexes register_places.now (map (λ x. x.name) registers.now) }
+    ensures { OnOk result (made.new.items ≡ made.old.items ++ map (register_of entries.now) (picked registers.now (port.now ∷ []))) }
+{
+    match place(register_places, port) {
+        Some(k) => {
+            let next = register(alloc, places, entries, &registers[k])?;
+            made.push(next)?;
+            Ok(())
+        }
+        None => Ok(()),
+    }
+}
+
+/// The registers that are ports, in port order.
+fn port_registers(
+    alloc: Global,
+    made: &mut Vec<Register>,
+    places: &HashMap<Vec<u8>, usize>,
+    entries: &[(Name, Part)],
+    register_places: &HashMap<Vec<u8>, usize>,
+    registers: &[Var],
+    ports: &[Name],
+) -> Result<(), AllocError>
+    requires entries { Indexes places.now (names_of entries.now) }
+    requires registers { Indexes register_places.now (map (λ x. x.name) registers.now) }
+    ensures { OnOk result (made.new.items ≡ made.old.items ++ map (register_of entries.now) (picked registers.now ports.now)) }
+{
+    for port in ports {
+        port_register(
+            alloc,
+            made,
+            places,
+            entries,
+            register_places,
+            registers,
+            port,
+        )?;
+    }
+    Ok(())
+}
+
+/// The other registers.
+fn other_registers(
+    alloc: Global,
+    made: &mut Vec<Register>,
+    places: &HashMap<Vec<u8>, usize>,
+    entries: &[(Name, Part)],
+    port_places: &HashMap<Vec<u8>, usize>,
+    ports: &[Name],
+    registers: &[Var],
+) -> Result<(), AllocError>
+    requires entries { Indexes places.now (names_of entries.now) }
+    requires ports { Indexes port_places.now ports.now }
+    ensures { OnOk result (made.new.items ≡ made.old.items ++ map (register_of entries.now) (unlisted ports.now registers.now)) }
+{
+    for variable in registers {
+        if !is_listed(port_places, ports, &variable.name) {
+            made.push(register(alloc, places, entries, variable)?)?;
+        }
+    }
+    Ok(())
+}
+
+/// The registers in the order of their declaration.
+pub fn registers(
+    alloc: Global,
+    places: &HashMap<Vec<u8>, usize>,
+    entries: &[(Name, Part)],
+    register_places: &HashMap<Vec<u8>, usize>,
+    variables: &[Var],
+    port_places: &HashMap<Vec<u8>, usize>,
+    ports: &[Name],
+) -> Result<Vec<Register>, AllocError>
+    requires entries { Indexes places.now (names_of entries.now) }
+    requires registers { Indexes register_places.now (map (λ x. x.name) variables.now) }
+    requires ports { Indexes port_places.now ports.now }
+    ensures { IfOk result (λ rs. rs.items ≡ map (register_of entries.now) (picked variables.now ports.now) ++ map (register_of entries.now) (unlisted ports.now variables.now)) }
+{
+    let mut made = Vec::new(alloc);
+    port_registers(
+        alloc,
+        &mut made,
+        places,
+        entries,
+        register_places,
+        variables,
+        ports,
+    )?;
+    other_registers(
+        alloc,
+        &mut made,
+        places,
+        entries,
+        port_places,
+        ports,
+        variables,
+    )?;
+    Ok(made)
+}
+
+pub fn inputs(alloc: Global, variables: &[Var]) -> Result<Vec<Input>, AllocError>
+    ensures { IfOk result (λ is. is.items ≡ map input_of variables.now) }
+{
+    let mut made = Vec::new(alloc);
+    for variable in variables {
+        let name = variable.name.copy(alloc)?;
+        made.push(Input {
+            name,
+            width: variable.width,
+        })?;
+    }
+    Ok(made)
+}
+
+fn input_ports(alloc: Global, variables: &[Var]) -> Result<Vec<Port>, AllocError>
+    ensures { IfOk result (λ ps. ps.items ≡ map input_port variables.now) }
+{
+    let mut made = Vec::new(alloc);
+    for variable in variables {
+        let name = variable.name.copy(alloc)?;
+        made.push(Port {
+            name,
+            kind: PortKind::Input,
+        })?;
+    }
+    Ok(made)
+}
+
+/// A port of a register or of a wire.
+fn shown(
+    alloc: Global,
+    register_places: &HashMap<Vec<u8>, usize>,
+    registers: &[Var],
+    name: &Name,
+) -> Result<Port, AllocError>
+    requires { Indexes register_places.now (map (λ x. x.name) registers.now) }
+    ensures { IfOk result (λ p. p ≡ port_shown registers.now name.now) }
+{
+    let copy = name.copy(alloc)?;
+    if is_register(register_places, registers, name) {
+        Ok(Port {
+            name: copy,
+            kind: PortKind::Register,
+        })
+    } else {
+        Ok(Port {
+            name: copy,
+            kind: PortKind::Wire,
+        })
+    }
+}
+
+/// The ports: the inputs and then these, in order.
+pub fn ports(
+    alloc: Global,
+    variables: &[Var],
+    register_places: &HashMap<Vec<u8>, usize>,
+    registers: &[Var],
+    names: &[Name],
+) -> Result<Vec<Port>, AllocError>
+    requires { Indexes register_places.now (map (λ x. x.name) registers.now) }
+    ensures { IfOk result (λ ps. ps.items ≡ map input_port variables.now ++ map (port_shown registers.now) names.now) }
+{
+    let mut made = input_ports(alloc, variables)?;
+    for name in names {
+        made.push(shown(alloc, register_places, registers, name)?)?;
+    }
+    Ok(made)
+}
+
+fn add_variables(alloc: Global, made: &mut Vec<Name>, variables: &[Var]) -> Result<(), AllocError>
+    ensures { OnOk result (made.new.items ≡ made.old.items ++ variable_names variables.now) }
+{
+    for variable in variables {
+        made.push(variable.name.copy(alloc)?)?;
+    }
+    Ok(())
+}
+
+fn add_names(alloc: Global, made: &mut Vec<Name>, names: &[Name]) -> Result<(), AllocError>
+    ensures { OnOk result (made.new.items ≡ made.old.items ++ names.now) }
+{
+    for name in names {
+        made.push(name.copy(alloc)?)?;
+    }
+    Ok(())
+}
+
+fn add_wires(
+    alloc: Global,
+    made: &mut Vec<Name>,
+    port_places: &HashMap<Vec<u8>, usize>,
+    ports: &[Name],
+    wires: &[Wire],
+) -> Result<(), AllocError>
+    requires { Indexes port_places.now ports.now }
+    ensures { OnOk result (made.new.items ≡ made.old.items ++ unported ports.now (wire_list_names wires.now)) }
+{
+    for wire in wires {
+        if !is_listed(port_places, ports, &wire.name) {
+            made.push(wire.name.copy(alloc)?)?;
+        }
+    }
+    Ok(())
+}
+
+fn add_registers(
+    alloc: Global,
+    made: &mut Vec<Name>,
+    port_places: &HashMap<Vec<u8>, usize>,
+    ports: &[Name],
+    registers: &[Var],
+) -> Result<(), AllocError>
+    requires { Indexes port_places.now ports.now }
+    ensures { OnOk result (made.new.items ≡ made.old.items ++ unported ports.now (variable_names registers.now)) }
+{
+    for variable in registers {
+        if !is_listed(port_places, ports, &variable.name) {
+            made.push(variable.name.copy(alloc)?)?;
+        }
+    }
+    Ok(())
+}
+
+fn add_memories(alloc: Global, made: &mut Vec<Name>, stores: &[Store]) -> Result<(), AllocError>
+    ensures { OnOk result (made.new.items ≡ made.old.items ++ memory_names stores.now) }
+{
+    for store in stores {
+        made.push(store.name.copy(alloc)?)?;
+    }
+    Ok(())
+}
+
+/// All names in the order of their declaration: ports first, then the other wires, registers and memories.
+pub fn names(
+    alloc: Global,
+    inputs: &[Var],
+    port_places: &HashMap<Vec<u8>, usize>,
+    ports: &[Name],
+    wires: &[Wire],
+    registers: &[Var],
+    stores: &[Store],
+) -> Result<Vec<Name>, AllocError>
+    requires { Indexes port_places.now ports.now }
+    ensures { IfOk result (λ ns. ns.items ≡ variable_names inputs.now ++ (ports.now ++ (unported ports.now (wire_list_names wires.now) ++ (unported ports.now (variable_names registers.now) ++ memory_names stores.now)))) }
+{
+    let mut made = Vec::new(alloc);
+    add_variables(alloc, &mut made, inputs)?;
+    add_names(alloc, &mut made, ports)?;
+    add_wires(alloc, &mut made, port_places, ports, wires)?;
+    add_registers(alloc, &mut made, port_places, ports, registers)?;
+    add_memories(alloc, &mut made, stores)?;
+    Ok(made)
+}

@@ -1,0 +1,111 @@
+//! Whole programs.
+
+ghost use Rattle.std.specs.Prelude.{◌≡◌, map, codes, IfOk};
+ghost use Rattle.sap_net.specs.Net.{net_of};
+ghost use Rattle.sap_ir.specs.Program.{source_of};
+ghost use Rattle.sap_ir.specs.Writes.{WritesOnce};
+ghost use Rattle.sap_lower.specs.Index.{Indexes};
+ghost use Rattle.sap_lower.specs.Lowered.{net_declared};
+ghost use Rattle.sap_lower.specs.Places.{names_of};
+ghost use Rattle.sap_lower.specs.Same.{Declares, RunsAlike};
+
+use crate::commands::lower_commands;
+use crate::parts::{Part, WritePort};
+use crate::places::{index_entries, index_names, index_stores, index_variables};
+use crate::{declare, first};
+use sap_ir::program::Guarded;
+use sap_net::netlist::Netlist;
+use sap_net::parts::{Name, Parts, Wire};
+use std::alloc::{AllocError, Global};
+use std::collections::HashMap;
+
+/// The netlist of these wires.
+fn parts(
+    alloc: Global,
+    source: &Guarded,
+    wires: Vec<Wire>,
+    places: &HashMap<Vec<u8>, usize>,
+    entries: &[(Name, Part)],
+    store_places: &HashMap<Vec<u8>, usize>,
+    ports: &[(Name, WritePort)],
+) -> Result<Parts, AllocError>
+    requires places { Indexes places.now (names_of entries.now) }
+    requires ports { Indexes store_places.now (names_of ports.now) }
+    ensures { IfOk result (λ p. net_of p ≡ net_declared (source_of source.now) wires.items entries.now ports.now) }
+{
+    let port_places = index_names(alloc, source.ports())?;
+    let register_places = index_variables(alloc, source.registers())?;
+    let module_name = Name::new(b"top".to_vec(alloc)?);
+    let names = declare::names(
+        alloc,
+        source.inputs(),
+        &port_places,
+        source.ports(),
+        &wires,
+        source.registers(),
+        source.memories(),
+    )?;
+    let shown = declare::ports(
+        alloc,
+        source.inputs(),
+        &register_places,
+        source.registers(),
+        source.ports(),
+    )?;
+    let inputs = declare::inputs(alloc, source.inputs())?;
+    let registers = declare::registers(
+        alloc,
+        places,
+        entries,
+        &register_places,
+        source.registers(),
+        &port_places,
+        source.ports(),
+    )?;
+    let memories = declare::memories(alloc, store_places, ports, source.memories())?;
+    Ok(Parts {
+        module_name,
+        names,
+        ports: shown,
+        inputs,
+        wires,
+        registers,
+        memories,
+    })
+}
+
+/// The netlist of a program that writes no memory twice in a cycle.
+pub fn lower(alloc: Global, source: &Guarded) -> Result<Netlist, AllocError>
+    requires { WritesOnce (source_of source.now) }
+    ensures declares { IfOk result (λ n. Declares (source_of source.now) n) }
+    ensures same { IfOk result (λ n. RunsAlike (source_of source.now) n) }
+{
+    source.rules();
+    let stores = source.memories();
+    let mut entries = first::entries(alloc, source.inputs(), source.registers(), source.wires())?;
+    let mut ports = first::ports(alloc, stores)?;
+    let places = index_entries(alloc, &entries)?;
+    let store_places = index_stores(alloc, stores)?;
+    let mut wires = Vec::new(alloc);
+    lower_commands(
+        alloc,
+        &mut wires,
+        &places,
+        &mut entries,
+        &store_places,
+        stores,
+        &mut ports,
+        source.cmds(),
+    )?;
+    declare::out_wires(alloc, &mut wires, &places, &entries, source.wires())?;
+    let made = parts(
+        alloc,
+        source,
+        wires,
+        &places,
+        &entries,
+        &store_places,
+        &ports,
+    )?;
+    Ok(Netlist::new(made))
+}
