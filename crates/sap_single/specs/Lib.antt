@@ -1,0 +1,5 @@
+pub mod Early
+pub mod Guards
+pub mod Source
+pub mod Law
+pub mod Built
