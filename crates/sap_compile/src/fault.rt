@@ -1,0 +1,17 @@
+//! Why a text gives no module.
+
+use sap_names::fault::CheckFault;
+use sap_parse::fault::ReadFault;
+use sap_tree::place::Place;
+
+/// Why a text gives no module over a lattice: its first fault.
+#[derive(Debug, Drop)]
+pub enum DesignFault {
+    /// The text is no design within the limits; never want of memory.
+    Read(ReadFault),
+    /// The design has a construct that isn't compiled yet: the place of the first.
+    Early(Place),
+    /// The design isn't well formed; never want of memory.
+    Check(CheckFault),
+    Memory,
+}

@@ -1,0 +1,10 @@
+//! From the text of a design to the text of its module.
+#![tactic(auto)]
+
+mod compiler;
+pub mod fault;
+#[cfg(test)]
+mod tests;
+
+pub use compiler::{Compiled, compile};
+pub use fault::DesignFault;
