@@ -1,26 +1,75 @@
--- How a call ends.
-use Rattle.std.specs.Prelude.{◌≡◌, ◌⊎◌, ℕ, List, [], ◌∷◌, ◌++◌, take, length, codes}
-use Rattle.sap_desk.specs.Desk.{Told, stream}
+-- What stands after a call.
+use Rattle.std.specs.Prelude.{◌≡◌, ◌⊎◌, ℕ, ◌≤◌, List, ◌++◌, take, length, Option, Some, None}
+use Rattle.sap_desk.specs.Desk.{Told, at_name}
 use Rattle.sap_desk.specs.Cause.{Rose}
+use Rattle.sap_lattice.specs.Levels.{Levels}
+use Rattle.sap_tree.specs.Syntax.{DesignTree}
+use Rattle.sap_net.specs.Net.{Net}
+use Rattle.sap_compile.specs.Compiles.{IsModuleFor}
+use Rattle.sapper.specs.Words.{Words, compile, command_of}
+use Rattle.sapper.specs.Ending.{Ending, done, no_command, lattice_refused, design_refused, failed, no_memory, status_of, line_of}
+use Rattle.sapper.specs.Causes.{FileHas, LatticeStands, CauseOf}
 
--- the line that tells that the words are no command
-abbrev pub words_line : List ℕ
-words_line = codes "words" ++ 10 ∷ []
+-- the files of a desk, by name
+abbrev pub Files : Type 0
+Files = List ℕ → Option (List ℕ)
 
--- channel 2 gained a line, or a part of it where a call on it failed
-abbrev pub Gained : List ℕ → (lost lost_now : ℕ) → Told → Told → Type 0
+-- the text is one of a module for the command's design over its lattice
+abbrev pub IsModuleText : Words → Told → (design text : List ℕ) → Type 0
+IsModuleText c t design text =
+    (ls : Levels) × (d : DesignTree) × (net : Net) × LatticeStands c t ls × FileHas t design (λ source. IsModuleFor ls source d net text)
+
+-- a part of a text from its first byte on
+abbrev pub IsPrefix : (part whole : List ℕ) → Type 0
+IsPrefix part whole = (k : ℕ) × (k ≤ length whole) × (part ≡ take k whole)
+
+-- what a command that is done leaves: OUT has the text of a module, and all other files are as before
+abbrev pub Done : Words → Told → Files → Type 0
+Done (compile lattice design out) t files =
+    (text : List ℕ) × IsModuleText (compile lattice design out) t design text × (files ≡ at_name out (Some text) t.files)
+
+-- one that failed: OUT is as before, or a prefix of such a text
+abbrev pub Failed : Words → Told → Files → Type 0
+Failed (compile lattice design out) t files =
+    (files ≡ t.files)
+    ⊎ ((text : List ℕ) × (part : List ℕ) × IsModuleText (compile lattice design out) t design text × IsPrefix part text × (files ≡ at_name out (Some part) t.files))
+
+-- the files after a command, by its ending
+abbrev pub Leaves : Words → Told → Files → Ending → Type 0
+Leaves c t files done = Done c t files
+Leaves c t files (failed name) = Failed c t files
+Leaves c t files no_memory = files ≡ t.files
+Leaves c t files no_command = files ≡ t.files
+Leaves c t files (lattice_refused fault) = files ≡ t.files
+Leaves c t files (design_refused fault) = files ≡ t.files
+
+-- words that are no command leave all as before
+abbrev pub LeavesOf : Option Words → Told → Files → Ending → Type 0
+LeavesOf None t files ending = files ≡ t.files
+LeavesOf (Some c) t files ending = Leaves c t files ending
+
+-- a failed call blames its file, or the output
+abbrev pub Blames : (blame : List ℕ) → Ending → Type 0
+Blames blame done = Unit {0}
+Blames blame no_command = Unit {0}
+Blames blame (lattice_refused fault) = Unit {0}
+Blames blame (design_refused fault) = Unit {0}
+Blames blame (failed name) = blame ≡ name
+Blames blame no_memory = Unit {0}
+
+-- channel 2 gained a line, or a prefix of it where a call on it failed
+abbrev pub Gained : (line : List ℕ) → (lost lost_now : ℕ) → Told → Told → Type 0
 Gained line lost lost_now t n =
-    (n.written 2 ≡ t.written 2 ++ line) ⊎ (Rose lost lost_now × ((k : ℕ) × (n.written 2 ≡ t.written 2 ++ take k line)))
+    (n.written 2 ≡ t.written 2 ++ line) ⊎ (Rose lost lost_now × ((part : List ℕ) × IsPrefix part line × (n.written 2 ≡ t.written 2 ++ part)))
 
--- the words are no command: channel 2 tells it, and all else is as before
-pub record Answers (lost lost_now : ℕ) (t n : Told) : Type 0 where
-  pub line : Gained words_line lost lost_now t n
-  pub files : n.files ≡ t.files
+-- a whole call: some ending, with its status and its line, and what it leaves
+pub record Answers (words : List (List ℕ)) (lost lost_now answer : ℕ) (t n : Told) : Type 0 where
+  pub ending : Ending
+  pub status : answer ≡ status_of ending
+  pub line : Gained (line_of ending) lost lost_now t n
+  pub leaves : LeavesOf (command_of words) t n.files ending
+  -- no command writes on channel 1
   pub output : n.written 1 ≡ t.written 1
-  pub blame : n.blame ≡ t.blame
-  pub uses : n.uses ≡ t.uses
-  pub room : n.room ≡ t.room
-
--- channel 2, open before the call, holds as much as there is room for
-abbrev pub FullLines : Told → Told → Type 0
-FullLines t n = t.uses 2 ≡ stream → length (n.written 2) ≡ n.room
+  pub blames : Blames n.blame ending
+  -- but for a failed call and want of memory the words and files have the ending's cause
+  pub cause : ((name : List ℕ) → ending ≡ failed name → ⊥) → (ending ≡ no_memory → ⊥) → CauseOf (command_of words) t ending

@@ -1,1 +1,7 @@
+pub mod Words
+pub mod Ending
+pub mod Causes
 pub mod Ends
+pub mod Exact
+pub mod Outside
+pub mod Steps

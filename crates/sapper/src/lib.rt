@@ -2,5 +2,10 @@
 #![tactic(auto)]
 
 mod call;
+mod command;
+mod compiling;
+mod failure;
+mod inputs;
+mod texts;
 
 pub use call::sapper;

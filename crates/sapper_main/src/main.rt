@@ -26,7 +26,7 @@ fn main(rt: HostRuntime) -> ExitCode {
     let errors = rt.stderr();
     let status = match words(&rt) {
         Ok(words) => match HostDesk::new(alloc, rt, output, errors) {
-            Ok(mut desk) => sapper::sapper(&words, &mut desk),
+            Ok(mut desk) => sapper::sapper(alloc, &words, &mut desk),
             Err(_) => NO_MEMORY,
         },
         Err(_) => NO_MEMORY,

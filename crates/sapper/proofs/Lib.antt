@@ -1,0 +1,4 @@
+pub mod Lattices
+pub mod Designs
+pub mod Endings
+pub mod Calls

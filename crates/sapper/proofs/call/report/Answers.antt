@@ -1,0 +1,39 @@
+use Rattle.std.proofs.Common.{◌≡◌, rules, refl, sym, subst}
+use Rattle.std.specs.Prelude.{codes}
+use Rattle.sap_desk.specs.Whole.{Between}
+use Rattle.sapper.specs.Ending.{lattice_refused, design_refused, lattice_text, design_text}
+use Rattle.sapper.specs.Steps.{IsStatus, Tells, ending, line_told}
+use Rattle.sapper.specs.declared.failure.Failure.{Failure}
+use Rattle.sapper.specs.declared.failure.Failure.TheVariants.{Lattice, Design}
+use Rattle.sapper.proofs.Calls.{refused_line, refused_status}
+use Rattle.sapper.proofs.call.report.Goals as goal
+
+pub returns-in-Lattice-clause-status : goal.returns-in-Lattice-clause-status
+returns-in-Lattice-clause-status g c =
+    let is : c.args.failure.now ≡ Lattice c.in-Lattice.fault = search rules in
+    subst (λ (f : Failure). IsStatus (ending f) c.refuse.result) (sym is)
+    (refused_status c.lattice_text-text.result c.refuse.result 3 c.refuse.ensures.status c.refuse.ensures.memory)
+
+pub returns-in-Lattice-clause-tells : goal.returns-in-Lattice-clause-tells
+returns-in-Lattice-clause-tells g c =
+    let is : c.args.failure.now ≡ Lattice c.in-Lattice.fault = search rules in
+    subst
+    (λ (f : Failure). Between (g.D.Desk.told c.args.desk.now) (g.D.Desk.told c.refuse.new.desk) (Tells (line_told (ending f) c.refuse.result) (g.D.Desk.lost c.args.desk.now) (g.D.Desk.lost c.refuse.new.desk)))
+    (sym is)
+    (refused_line c.lattice_text-text.result (lattice_refused c.in-Lattice.fault) 3 _ _ _ (codes "lattice: ") (lattice_text c.in-Lattice.fault) _ _ refl
+    c.refuse.ensures.status c.refuse.ensures.memory c.lattice_text-text.ensures c.refuse.ensures.tells c.refuse.ensures.tells_memory)
+
+pub returns-in-Design-clause-status : goal.returns-in-Design-clause-status
+returns-in-Design-clause-status g c =
+    let is : c.args.failure.now ≡ Design c.in-Design.fault = search rules in
+    subst (λ (f : Failure). IsStatus (ending f) c.refuse-in-Design.result) (sym is)
+    (refused_status c.design_text-text.result c.refuse-in-Design.result 1 c.refuse-in-Design.ensures.status c.refuse-in-Design.ensures.memory)
+
+pub returns-in-Design-clause-tells : goal.returns-in-Design-clause-tells
+returns-in-Design-clause-tells g c =
+    let is : c.args.failure.now ≡ Design c.in-Design.fault = search rules in
+    subst
+    (λ (f : Failure). Between (g.D.Desk.told c.args.desk.now) (g.D.Desk.told c.refuse-in-Design.new.desk) (Tells (line_told (ending f) c.refuse-in-Design.result) (g.D.Desk.lost c.args.desk.now) (g.D.Desk.lost c.refuse-in-Design.new.desk)))
+    (sym is)
+    (refused_line c.design_text-text.result (design_refused c.in-Design.fault) 1 _ _ _ (codes "design: ") (design_text c.in-Design.fault) _ _ refl
+    c.refuse-in-Design.ensures.status c.refuse-in-Design.ensures.memory c.design_text-text.ensures c.refuse-in-Design.ensures.tells c.refuse-in-Design.ensures.tells_memory)

@@ -1,0 +1,26 @@
+//! Why a command ends without its result.
+
+use sap_compile::DesignFault;
+use sap_latfile::LatFileFault;
+use std::alloc::AllocError;
+
+/// Why a command ends without its result.
+#[derive(Debug, Drop)]
+pub enum Failure<'a> {
+    Lattice(LatFileFault),
+    Design(DesignFault),
+    /// A call failed on the file of this name.
+    Desk(&'a str),
+    Memory,
+}
+
+impl From<AllocError> for Failure<'_> {
+    ghost use Rattle.std.specs.Prelude.{◌≡◌};
+    ghost use Rattle.sapper.specs.declared.failure.Failure.TheVariants.{Memory};
+
+    ghost from_gives = { λ _ e. e ≡ Memory };
+
+    fn from(_: AllocError) -> Self {
+        Failure::Memory
+    }
+}

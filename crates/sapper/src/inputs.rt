@@ -1,0 +1,115 @@
+//! The files that a command reads.
+
+ghost use Rattle.std.specs.Prelude.{◌≡◌, ◌≢◌, IfOk, IfErr, OnOk, IfSome, IsSomeAnd, Some};
+ghost use Rattle.sap_desk.specs.Whole.{Between, MissingOrLong};
+ghost use Rattle.sap_compile.specs.Compiles.{IsCompiled};
+ghost use Rattle.sapper.specs.Words.{Words, lattice_of, design_of};
+ghost use Rattle.sapper.specs.Causes.{FileHas};
+ghost use Rattle.sapper.specs.Ending.{done};
+ghost use Rattle.sapper.specs.Steps.{Counted, DesignCompiled, Ends, HasLattice, InputEnds, Justified, LatticeRead, design_failure, ending, ending_of, lattice_failure};
+
+use crate::failure::Failure;
+use sap_compile::{Compiled, DesignFault, compile};
+use sap_desk::{Bytes, Desk, DeskError, read_file};
+use sap_latfile::laws::one_lattice;
+use sap_latfile::{LatFileFault, read_lattice};
+use sap_lattice::Lattice;
+use std::alloc::Global;
+
+/// The bytes of a file.
+fn bytes_of<'a, D: Desk>(alloc: Global, desk: &mut D, name: &'a str) -> Result<Bytes, Failure<'a>>
+    ensures bytes { IfOk result (λ bytes. IfSome (D.told desk.old) (λ t. t.files name.now ≡ Some bytes)) }
+    ensures told { OnOk result (D.told desk.new ≡ D.told desk.old) }
+    ensures stops { IfErr result (λ e. Between (D.told desk.old) (D.told desk.new) (InputEnds name.now (ending e))) }
+    ensures counted { Counted (D.faults desk.old) (D.faults desk.new) (ending_of result) }
+    ensures lost { D.lost desk.new ≡ D.lost desk.old }
+    ensures sure { D.sure desk.old → D.sure desk.new }
+    ensures outside { (D.faults desk.new ≢ D.faults desk.old) → D.sure desk.old → IfSome (D.told desk.old) (MissingOrLong name.now) }
+{
+    match read_file(alloc, desk, name) {
+        Ok(bytes) => Ok(bytes),
+        Err(DeskError::Failed) => Err(Failure::Desk(name)),
+        Err(DeskError::Memory) => Err(Failure::Memory),
+    }
+}
+
+fn lattice_failure<'a>(fault: LatFileFault) -> Failure<'a>
+    ensures { result ≡ lattice_failure fault }
+{
+    match fault {
+        LatFileFault::Memory => Failure::Memory,
+        fault => Failure::Lattice(fault),
+    }
+}
+
+/// The lattice of a lattice file's bytes.
+fn lattice_from<'a>(alloc: Global, bytes: &[u8]) -> Result<Lattice, Failure<'a>>
+    ensures { LatticeRead bytes.now result }
+{
+    match read_lattice(alloc, bytes) {
+        Ok(lattice) => Ok(lattice),
+        Err(fault) => Err(lattice_failure(fault)),
+    }
+}
+
+/// The lattice of a command's lattice file.
+pub fn lattice_in<'a, D: Desk>(
+    alloc: Global,
+    desk: &mut D,
+    name: &'a str,
+) -> Result<Lattice, Failure<'a>>
+    ensures has { IfOk result (λ l. (c : Words) → lattice_of c ≡ name.now → IfSome (D.told desk.old) (λ t. HasLattice c t l)) }
+    ensures told { OnOk result (D.told desk.new ≡ D.told desk.old) }
+    ensures stops { IfErr result (λ e. (c : Words) → lattice_of c ≡ name.now → Between (D.told desk.old) (D.told desk.new) (Ends c (ending e))) }
+    ensures counted { Counted (D.faults desk.old) (D.faults desk.new) (ending_of result) }
+    ensures lost { D.lost desk.new ≡ D.lost desk.old }
+    ensures sure { D.sure desk.old → D.sure desk.new }
+    ensures outside { (D.faults desk.new ≢ D.faults desk.old) → D.sure desk.old → IfSome (D.told desk.old) (MissingOrLong name.now) }
+{
+    let bytes = bytes_of(alloc, desk, name)?;
+    lattice_from(alloc, bytes.as_slice())
+}
+
+fn design_failure<'a>(fault: DesignFault) -> Failure<'a>
+    ensures { result ≡ design_failure fault }
+{
+    match fault {
+        DesignFault::Memory => Failure::Memory,
+        fault => Failure::Design(fault),
+    }
+}
+
+/// What a design file's bytes compile to over a lattice.
+fn compiled_from<'a>(
+    alloc: Global,
+    lattice: &Lattice,
+    bytes: &[u8],
+) -> Result<Compiled, Failure<'a>>
+    ensures { DesignCompiled lattice.now bytes.now result }
+{
+    match compile(alloc, lattice, bytes) {
+        Ok(compiled) => Ok(compiled),
+        Err(fault) => Err(design_failure(fault)),
+    }
+}
+
+/// The design of a command's design file, compiled over the lattice of its lattice file.
+pub fn compiled_in<'a, D: Desk>(
+    alloc: Global,
+    desk: &mut D,
+    lattice: &Lattice,
+    name: &'a str,
+) -> Result<Compiled, Failure<'a>>
+    ensures compiled { IfOk result (λ m. IfSome (D.told desk.old) (λ t. FileHas t name.now (λ source. IsCompiled lattice.now source m))) }
+    ensures justified { OnOk result ((c : Words) → design_of c ≡ name.now → IfSome (D.told desk.old) (λ t. HasLattice c t lattice.now → Justified c t done)) }
+    ensures told { OnOk result (D.told desk.new ≡ D.told desk.old) }
+    ensures stops { IfErr result (λ e. (c : Words) → design_of c ≡ name.now → IfSome (D.told desk.old) (λ t. HasLattice c t lattice.now → IsSomeAnd (D.told desk.new) (Ends c (ending e) t))) }
+    ensures counted { Counted (D.faults desk.old) (D.faults desk.new) (ending_of result) }
+    ensures lost { D.lost desk.new ≡ D.lost desk.old }
+    ensures sure { D.sure desk.old → D.sure desk.new }
+    ensures outside { (D.faults desk.new ≢ D.faults desk.old) → D.sure desk.old → IfSome (D.told desk.old) (MissingOrLong name.now) }
+{
+    let bytes = bytes_of(alloc, desk, name)?;
+    one_lattice();
+    compiled_from(alloc, lattice, bytes.as_slice())
+}
