@@ -1,0 +1,237 @@
+//! The top call over a desk in memory, by rows.
+#![tactic(auto)]
+
+#[cfg(test)]
+mod tests {
+    use sap_desk::MemoryDesk;
+    use sapper::sapper;
+    use std::alloc::{AllocError, Global};
+    use std::test::Fail;
+
+    const ROOM: usize = 100_000;
+
+    const LATTICE: &str = "levels = [\"low\", \"high\"]\nbelow = [[\"low\", \"high\"]]\n";
+
+    const DESIGN: &str =
+        "input a : 8;\nreg x : 8 dynamic;\nstate S enforced low {\n  x := a;\n  goto S;\n}\n";
+
+    const OLD: &[u8] = b"old";
+
+    fn words(alloc: Global, list: &[&str]) -> Result<Vec<String>, AllocError> {
+        let mut words = Vec::new(alloc);
+        for word in list {
+            words.push(String::from_str(alloc, word)?)?;
+        }
+        Ok(words)
+    }
+
+    fn desk(alloc: Global, lattice: &str, design: &str) -> Result<MemoryDesk, AllocError> {
+        let mut desk = MemoryDesk::new(alloc, ROOM)?;
+        desk.put_file("L", lattice.as_bytes())?;
+        desk.put_file("D", design.as_bytes())?;
+        desk.put_file("O", OLD)?;
+        Ok(desk)
+    }
+
+    // Words that are no command. The only call is the write of the line: its first part fails.
+    static NO_COMMANDS: [&[&str]; 9] = [
+        &[],
+        &["compile"],
+        &["compile", "L", "D"],
+        &["compile", "L", "D", "O", "O"],
+        &["Compile", "L", "D", "O"],
+        &["", "L", "D", "O"],
+        &["compile", "-L", "D", "O"],
+        &["compile", "L", "-", "O"],
+        &["compile", "L", "D", "--"],
+    ];
+
+    #[test]
+    fn refuses_words(rt: HostRuntime) -> Result<(), Fail> {
+        let alloc = rt.alloc();
+        for list in &NO_COMMANDS {
+            let words = words(alloc, list)?;
+            let mut first = desk(alloc, LATTICE, DESIGN)?;
+            assert_eq!(rt; sapper(alloc, &words, &mut first), 2);
+            assert_eq!(rt; first.fault_text(), b"words\n".as_slice());
+            assert_eq!(rt; first.output(), b"".as_slice());
+            assert_eq!(rt; first.file("O"), Some(OLD));
+            let mut second = desk(alloc, LATTICE, DESIGN)?;
+            second.fail_at(1)?;
+            assert_eq!(rt; sapper(alloc, &words, &mut second), 2);
+            assert_eq!(rt; second.fault_text(), b"wo".as_slice());
+        }
+        Ok(())
+    }
+
+    struct Failing {
+        call: u64,
+        line: &'static str,
+        untouched: bool,
+    }
+
+    // The lattice: 1 opens, 2 reads, 3 reads its end, 4 finishes; the design: 5 to 8; OUT: 9 creates, 10 writes, 11 finishes.
+    static FAILING: [Failing; 11] = [
+        Failing {
+            call: 1,
+            line: "desk: L\n",
+            untouched: true,
+        },
+        Failing {
+            call: 2,
+            line: "desk: L\n",
+            untouched: true,
+        },
+        Failing {
+            call: 3,
+            line: "desk: L\n",
+            untouched: true,
+        },
+        Failing {
+            call: 4,
+            line: "desk: L\n",
+            untouched: true,
+        },
+        Failing {
+            call: 5,
+            line: "desk: D\n",
+            untouched: true,
+        },
+        Failing {
+            call: 6,
+            line: "desk: D\n",
+            untouched: true,
+        },
+        Failing {
+            call: 7,
+            line: "desk: D\n",
+            untouched: true,
+        },
+        Failing {
+            call: 8,
+            line: "desk: D\n",
+            untouched: true,
+        },
+        Failing {
+            call: 9,
+            line: "desk: O\n",
+            untouched: true,
+        },
+        Failing {
+            call: 10,
+            line: "desk: O\n",
+            untouched: false,
+        },
+        Failing {
+            call: 11,
+            line: "desk: O\n",
+            untouched: false,
+        },
+    ];
+
+    #[test]
+    fn each_call_fails_in_turn(rt: HostRuntime) -> Result<(), Fail> {
+        let alloc = rt.alloc();
+        let words = words(alloc, &["compile", "L", "D", "O"])?;
+        let mut whole = desk(alloc, LATTICE, DESIGN)?;
+        assert_eq!(rt; sapper(alloc, &words, &mut whole), 0);
+        assert_eq!(rt; whole.fault_text(), b"".as_slice());
+        assert_eq!(rt; whole.output(), b"".as_slice());
+        let text = match whole.file("O") {
+            Some(text) => text,
+            None => panic!(rt; "no module was written"),
+        };
+        assert!(rt; text.starts_with(b"module "));
+        for row in &FAILING {
+            let call = row.call;
+            let mut desk = desk(alloc, LATTICE, DESIGN)?;
+            desk.fail_at(call)?;
+            assert_eq!(rt; sapper(alloc, &words, &mut desk), 6, "call {call}");
+            assert_eq!(rt; desk.fault_text(), row.line.as_bytes(), "call {call}");
+            assert_eq!(rt; desk.output(), b"".as_slice(), "call {call}");
+            let held = match desk.file("O") {
+                Some(held) => held,
+                None => panic!(rt; "OUT is gone at call {call}"),
+            };
+            if row.untouched {
+                assert_eq!(rt; held, OLD, "call {call}");
+            } else {
+                assert!(rt; text.starts_with(held), "call {call}");
+            }
+        }
+        Ok(())
+    }
+
+    struct Refused {
+        lattice: &'static str,
+        design: &'static str,
+        status: u8,
+        line: &'static str,
+    }
+
+    static REFUSED: [Refused; 8] = [
+        Refused {
+            lattice: "levels",
+            design: DESIGN,
+            status: 3,
+            line: "lattice: L1\n",
+        },
+        Refused {
+            lattice: "",
+            design: DESIGN,
+            status: 3,
+            line: "lattice: L2\n",
+        },
+        Refused {
+            lattice: "levels = [\"low\"]\nbelow = []\n",
+            design: DESIGN,
+            status: 3,
+            line: "lattice: L3 1\n",
+        },
+        Refused {
+            lattice: "levels = [\"low\", \"a\", \"b\"]\nbelow = [[\"low\", \"a\"], [\"low\", \"b\"]]\n",
+            design: DESIGN,
+            status: 3,
+            line: "lattice: L7 a b\n",
+        },
+        Refused {
+            lattice: LATTICE,
+            design: "reg x : 8 dynamic = 256;\nstate S enforced low {\n  x := 1;\n  goto S;\n}\n",
+            status: 1,
+            line: "design: E8 1:21\n",
+        },
+        Refused {
+            lattice: LATTICE,
+            design: "",
+            status: 1,
+            line: "design: E2 1:1\n",
+        },
+        Refused {
+            lattice: LATTICE,
+            design: "reg x : 8 dynamic;\nstate S enforced low {\n  if (x == 0) { x := 1; }\n  goto S;\n}\n",
+            status: 1,
+            line: "design: early 3:3\n",
+        },
+        // the lattice comes first
+        Refused {
+            lattice: "levels",
+            design: "",
+            status: 3,
+            line: "lattice: L1\n",
+        },
+    ];
+
+    #[test]
+    fn tells_why_a_file_is_refused(rt: HostRuntime) -> Result<(), Fail> {
+        let alloc = rt.alloc();
+        let words = words(alloc, &["compile", "L", "D", "O"])?;
+        for row in &REFUSED {
+            let mut desk = desk(alloc, row.lattice, row.design)?;
+            assert_eq!(rt; sapper(alloc, &words, &mut desk), row.status);
+            assert_eq!(rt; desk.fault_text(), row.line.as_bytes());
+            assert_eq!(rt; desk.output(), b"".as_slice());
+            assert_eq!(rt; desk.file("O"), Some(OLD));
+        }
+        Ok(())
+    }
+}
