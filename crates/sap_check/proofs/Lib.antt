@@ -1,4 +1,3 @@
 pub mod SiteLists
 pub mod PointLists
 pub mod Counts
-mod Sample

@@ -11,7 +11,5 @@ mod points;
 mod readers;
 pub mod site;
 mod sites;
-#[cfg(test)]
-mod tests;
 
 pub use checked::{Checked, Refused};

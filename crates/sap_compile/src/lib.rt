@@ -3,8 +3,6 @@
 
 mod compiler;
 pub mod fault;
-#[cfg(test)]
-mod tests;
 
 pub use compiler::{Compiled, compile};
 pub use fault::DesignFault;

@@ -9,4 +9,3 @@ pub mod Kept
 pub mod Learned
 pub mod Compiling
 pub mod First
-pub mod Examples

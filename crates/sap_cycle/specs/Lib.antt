@@ -5,4 +5,3 @@ pub mod Places
 pub mod Running
 pub mod Loaded
 pub mod Known
-pub mod Trying

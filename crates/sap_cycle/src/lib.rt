@@ -9,5 +9,3 @@ mod places;
 mod program;
 pub mod runner;
 mod steps;
-#[cfg(test)]
-mod tests;

@@ -9,4 +9,3 @@ pub mod Commands
 pub mod Numbers
 pub mod Twice
 pub mod Built
-pub mod Sample

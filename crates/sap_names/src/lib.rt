@@ -17,7 +17,5 @@ pub mod fault;
 pub mod kind;
 mod level;
 pub mod table;
-#[cfg(test)]
-mod tests;
 mod usage;
 mod width;

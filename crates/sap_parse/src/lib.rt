@@ -17,8 +17,6 @@ pub mod limit;
 mod read;
 mod state;
 mod tag;
-#[cfg(test)]
-mod tests;
 pub mod token;
 
 pub use fault::ReadFault;

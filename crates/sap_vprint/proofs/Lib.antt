@@ -10,7 +10,6 @@ pub mod SameNet
 pub mod Spaced
 pub mod Stages
 pub mod Spelled
-pub mod SwappingRules
 pub mod Texts
 pub mod Whole
 pub mod WholeText

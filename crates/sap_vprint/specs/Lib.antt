@@ -1,5 +1,4 @@
 pub mod Lookup
 pub mod Parts
 pub mod Printed
-pub mod Swapping
 pub mod Text

@@ -4,8 +4,6 @@
 mod head;
 mod lines;
 mod lookup;
-#[cfg(test)]
-mod tests;
 mod words;
 
 ghost use Rattle.std.specs.Prelude.{◌≡◌, ◌++◌, OnOk, IfOk};

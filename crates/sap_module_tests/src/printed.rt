@@ -2,7 +2,7 @@
 
 ghost use Rattle.std.specs.Prelude.{◌≡◌, IfOk};
 
-use crate::print;
+use sap_vprint::print;
 use sap_net::parts::{Name, Operand, Port, PortKind, Register};
 use std::alloc::{AllocError, Global};
 use std::test::Fail;

@@ -1,5 +1,5 @@
-use Rattle.sap_vprint.proofs.SwappingRules.{swapping_rules}
-use Rattle.sap_vprint.proofs.tests.swapped.netlist.Goals as goal
+use Rattle.sap_module_tests.proofs.SwappingRules.{swapping_rules}
+use Rattle.sap_module_tests.proofs.printed.swapped.netlist.Goals as goal
 
 pub new-requires-4 : goal.new-requires-4
 new-requires-4 c =

@@ -3,7 +3,7 @@ use Rattle.std.proofs.Common.{refl, lit<, lit≤}
 use Rattle.sap_net.specs.Names.{is_name}
 use Rattle.sap_net.specs.Rules.{IsWidth}
 use Rattle.sap_net.specs.IsNetlist.{IsNetlist}
-use Rattle.sap_vprint.specs.Swapping.{swapping}
+use Rattle.sap_module_tests.specs.Swapping.{swapping}
 
 eight : IsWidth 8
 eight = (lit≤ tt, lit≤ tt)

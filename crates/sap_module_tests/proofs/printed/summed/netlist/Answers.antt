@@ -1,5 +1,5 @@
 use Rattle.sap_net.proofs.Examples.{summing_rules}
-use Rattle.sap_vprint.proofs.tests.summed.netlist.Goals as goal
+use Rattle.sap_module_tests.proofs.printed.summed.netlist.Goals as goal
 
 pub new-requires : goal.new-requires
 new-requires c =

@@ -1,10 +1,6 @@
 //! Texts by example.
 
-use crate::fault::ReadFault;
-use crate::lexer::lex;
-use crate::limit::Limit;
-use crate::read::parse;
-use crate::token::{Kind, Sign, Token};
+use sap_parse::{Kind, Limit, ReadFault, Sign, Token, lex, parse};
 use sap_tree::design::Design;
 use sap_tree::place::Place;
 use sap_tree::syntax::{BinaryOperator, Cmd, Decl, Expr, Simple};

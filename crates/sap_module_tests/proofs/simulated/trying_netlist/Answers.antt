@@ -1,5 +1,5 @@
-use Rattle.sap_cycle.proofs.Examples.{trying_rules}
-use Rattle.sap_cycle.proofs.tests.trying_netlist.Goals as goal
+use Rattle.sap_module_tests.proofs.TryingRules.{trying_rules}
+use Rattle.sap_module_tests.proofs.simulated.trying_netlist.Goals as goal
 
 pub new-requires : goal.new-requires
 new-requires c =

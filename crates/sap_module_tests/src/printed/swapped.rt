@@ -2,7 +2,7 @@
 
 ghost use Rattle.std.specs.Prelude.{◌≡◌, IfOk};
 ghost use Rattle.sap_net.specs.Net.{net_of};
-ghost use Rattle.sap_vprint.specs.Swapping.{swapping, swapping_names, swapping_ports, swapping_registers};
+ghost use Rattle.sap_module_tests.specs.Swapping.{swapping, swapping_names, swapping_ports, swapping_registers};
 
 use super::{named, port, register};
 use sap_net::netlist::Netlist;

@@ -2,9 +2,9 @@
 
 ghost use Rattle.std.specs.Prelude.{◌≡◌, ◌∷◌, [], codes, IfOk};
 ghost use Rattle.sap_net.specs.declared.parts.Operand.TheVariants.{Named, Constant};
-ghost use Rattle.sap_cycle.specs.Trying.{trying, trying_inputs, trying_wires, trying_registers, trying_memories, trying_names, trying_ports};
+ghost use Rattle.sap_module_tests.specs.Trying.{trying, trying_inputs, trying_wires, trying_registers, trying_memories, trying_names, trying_ports};
 
-use crate::runner::Runner;
+use sap_cycle::runner::Runner;
 use sap_bits::Op2;
 use sap_net::netlist::Netlist;
 use sap_net::parts::{

@@ -1,7 +1,7 @@
 use Rattle.std.proofs.Common.{◌<◌, ◌^◌, [], ◌∷◌, sym, subst, rules}
 use Rattle.sap_net.specs.Net.{Net}
 use Rattle.sap_net.specs.Runs.{InputsFit}
-use Rattle.sap_cycle.proofs.tests.step_on.Goals as goal
+use Rattle.sap_module_tests.proofs.simulated.step_on.Goals as goal
 
 pub step-requires : goal.step-requires
 step-requires c =

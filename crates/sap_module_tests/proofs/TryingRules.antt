@@ -3,7 +3,7 @@ use Rattle.std.proofs.Common.{refl, lit<, lit≤}
 use Rattle.sap_net.specs.Names.{is_name}
 use Rattle.sap_net.specs.Rules.{IsWidth}
 use Rattle.sap_net.specs.IsNetlist.{IsNetlist}
-use Rattle.sap_cycle.specs.Trying.{trying}
+use Rattle.sap_module_tests.specs.Trying.{trying}
 
 byte_wide : IsWidth 8
 byte_wide = (lit≤ tt, lit≤ tt)

@@ -1,0 +1,11 @@
+//! Designs by example: their texts read, their names numbered, and the check.
+#![tactic(auto)]
+
+#[cfg(test)]
+mod checked;
+#[cfg(test)]
+mod named;
+#[cfg(test)]
+mod sample;
+#[cfg(test)]
+mod texts;

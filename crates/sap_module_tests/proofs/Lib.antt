@@ -1,0 +1,2 @@
+pub mod SwappingRules
+pub mod TryingRules

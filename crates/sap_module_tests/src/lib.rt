@@ -1,0 +1,7 @@
+//! Netlists by example: printed, and simulated.
+#![tactic(auto)]
+
+#[cfg(test)]
+mod printed;
+#[cfg(test)]
+mod simulated;
