@@ -1,59 +1,94 @@
 -- Worked examples of stimulus files and rows, over the levels low and high, for one input of 8 bits.
-use Rattle.std.specs.Prelude.{◌≡◌, ℕ, List, [], ◌∷◌, ◌++◌, Option, Some, None, codes}
-use Rattle.sap_stim.specs.Stimulus.{Field, tagged, plain, Input, Read, stimulus_of}
-use Rattle.sap_stim.specs.Rows.{Shown, row_text}
+use Rattle.std.specs.Prelude.{◌≡◌, ℕ, List, [], ◌∷◌, ◌++◌, Some, None, true, false, codes}
+use Rattle.sap_lattice.specs.Levels.{Levels}
+use Rattle.sap_stim.specs.declared.fault.StimCode.{StimCode}
+use Rattle.sap_stim.specs.declared.fault.StimCode.TheVariants.{S1, S2, S3, S4, S5}
+use Rattle.sap_stim.specs.declared.field.Field.TheVariants.{Tagged, Plain}
+use Rattle.sap_stim.specs.declared.input.Input.{Input}
+use Rattle.sap_stim.specs.declared.stimulus.Parsed.{Parsed}
+use Rattle.sap_stim.specs.Stimulus.{stimulus_of}
+use Rattle.sap_stim.specs.Rows.{row_text, shown_of}
 
-abbrev pub levels : List (List ℕ)
-levels = codes "low" ∷ codes "high" ∷ []
+-- low is below high
+abbrev pub levels : Levels
+levels = record { names = codes "low" ∷ codes "high" ∷ []; table = (true ∷ true ∷ []) ∷ (false ∷ true ∷ []) ∷ [] }
+
+abbrev pub input : ℕ → ℕ → Input
+input value level = record { value = value; level = level }
 
 abbrev pub given : ℕ → ℕ → List Input
-given value level = record { value = value; level = level } ∷ []
+given value level = input value level ∷ []
 
 -- a text of lines: each with its LF
 abbrev pub line : List ℕ → List ℕ
 line text = text ++ 10 ∷ []
 
-abbrev pub read : List ℕ → Read
-read bytes = stimulus_of levels 0 (tagged 8 ∷ []) bytes
+abbrev pub read : List ℕ → Parsed
+read bytes = stimulus_of levels (Tagged 8 ∷ []) bytes
 
-abbrev pub stops : List (List Input) → (line code : ℕ) → Read
-stops stream line code = record { stream = stream; refusal = Some (line, code) }
+abbrev pub ends : List (List Input) → Parsed
+ends stream = record { stream = stream; fault = None }
+
+abbrev pub stops : List (List Input) → (line : ℕ) → StimCode → Parsed
+stops stream line code = record { stream = stream; fault = Some (record { line = line; code = code }) }
 
 abbrev pub Empty : Type 0
-Empty = read [] ≡ record { stream = []; refusal = None }
+Empty = read [] ≡ ends []
 
 abbrev pub TwoLines : Type 0
-TwoLines = read (line (codes "5@low") ++ line (codes "255@high")) ≡ record { stream = given 5 0 ∷ given 255 1 ∷ []; refusal = None }
+TwoLines = read (line (codes "5@low") ++ line (codes "255@high")) ≡ ends (given 5 0 ∷ given 255 1 ∷ [])
 
 -- the last line has no LF; the value of the second line isn't below 256; an unknown level; no level; a missing field; one too many
 abbrev pub NotEnded : Type 0
-NotEnded = read (codes "5@low") ≡ stops [] 1 5
+NotEnded = read (codes "5@low") ≡ stops [] 1 S5
 
 abbrev pub TooLarge : Type 0
-TooLarge = read (line (codes "5@low") ++ line (codes "256@low")) ≡ stops (given 5 0 ∷ []) 2 2
+TooLarge = read (line (codes "5@low") ++ line (codes "256@low")) ≡ stops (given 5 0 ∷ []) 2 S2
 
 abbrev pub UnknownLevel : Type 0
-UnknownLevel = read (line (codes "5@mid")) ≡ stops [] 1 3
+UnknownLevel = read (line (codes "5@mid")) ≡ stops [] 1 S3
 
 abbrev pub NoLevel : Type 0
-NoLevel = read (line (codes "5@")) ≡ stops [] 1 1
+NoLevel = read (line (codes "5@")) ≡ stops [] 1 S1
 
 abbrev pub NoField : Type 0
-NoField = read (line []) ≡ stops [] 1 4
+NoField = read (line []) ≡ stops [] 1 S4
 
 abbrev pub TrailingSpace : Type 0
-TrailingSpace = read (line (codes "5@low ")) ≡ stops [] 1 4
+TrailingSpace = read (line (codes "5@low ")) ≡ stops [] 1 S4
 
 -- the first `@` ends the value; a plain field has none
 abbrev pub TwoMarks : Type 0
-TwoMarks = read (line (codes "5@low@")) ≡ stops [] 1 3
+TwoMarks = read (line (codes "5@low@")) ≡ stops [] 1 S3
 
 abbrev pub PlainField : Type 0
-PlainField = stimulus_of levels 0 (plain 8 ∷ []) (line (codes "7")) ≡ record { stream = given 7 0 ∷ []; refusal = None }
+PlainField = stimulus_of levels (Plain 8 ∷ []) (line (codes "7")) ≡ ends (given 7 0 ∷ [])
 
 abbrev pub MarkedPlain : Type 0
-MarkedPlain = stimulus_of levels 0 (plain 8 ∷ []) (line (codes "7@low")) ≡ stops [] 1 1
+MarkedPlain = stimulus_of levels (Plain 8 ∷ []) (line (codes "7@low")) ≡ stops [] 1 S1
 
+-- two fields; with two spaces between them the line has three, of which the middle one is empty: S4 where two are asked for, S1 where three are
+abbrev pub TwoFields : Type 0
+TwoFields = stimulus_of levels (Tagged 8 ∷ Plain 1 ∷ []) (line (codes "5@high 1")) ≡ ends ((input 5 1 ∷ input 1 0 ∷ []) ∷ [])
+
+abbrev pub TwoSpaces : Type 0
+TwoSpaces = stimulus_of levels (Tagged 8 ∷ Tagged 8 ∷ []) (line (codes "5@low  5@low")) ≡ stops [] 1 S4
+
+abbrev pub EmptyField : Type 0
+EmptyField = stimulus_of levels (Tagged 8 ∷ Tagged 8 ∷ Tagged 8 ∷ []) (line (codes "5@low  5@low")) ≡ stops [] 1 S1
+
+-- 21 digits are no value, 20 are one
+abbrev pub TooLong : Type 0
+TooLong = read (line (codes "000000000000000000005@low")) ≡ stops [] 1 S1
+
+abbrev pub LongEnough : Type 0
+LongEnough = read (line (codes "00000000000000000005@low")) ≡ ends (given 5 0 ∷ [])
+
+-- 0 is the code of low and 1 that of high; 3 is none
 abbrev pub Row : Type 0
 Row = row_text 1 (record { name = codes "x"; value = 6; level = Some (codes "low"); tag = 0 } ∷ record { name = codes "y"; value = 0; level = None; tag = 3 } ∷ [])
     ≡ line (codes "cycle 1: x=6@low y=0@#3")
+
+abbrev pub RowOfTags : Type 0
+RowOfTags = row_text 12 (shown_of levels (codes "x" ∷ codes "y" ∷ codes "z" ∷ []) (6 ∷ 0 ∷ 70 ∷ []) (0 ∷ 3 ∷ 1 ∷ []))
+    ≡ line (codes "cycle 12: x=6@low y=0@#3 z=70@high")

@@ -1,3 +1,6 @@
+pub mod Code
+pub mod Line
 pub mod Stimulus
+pub mod Fits
 pub mod Rows
 pub mod Examples

@@ -1,17 +1,35 @@
 -- The row of a cycle: `cycle N:`, then ` NAME=VALUE@LEVEL` for each register in order, then LF.
-use Rattle.std.specs.Prelude.{ℕ, List, [], ◌∷◌, ◌++◌, codes, Option, Some, None}
+use Rattle.std.specs.Prelude.{ℕ, List, [], ◌∷◌, ◌++◌, ◌==◌, codes, length, find, Option, Some, None, option_map}
 use Rattle.std.specs.Fmt.{decimal}
+use Rattle.sap_lattice.specs.Closure.{name_at}
+use Rattle.sap_lattice.specs.Codes.{code_of}
+use Rattle.sap_lattice.specs.Levels.{Levels, order_of, numbers}
 
--- a level by its name; a tag that is no code as `#` and its number
-abbrev pub level_text : Option (List ℕ) → (tag : ℕ) → List ℕ
-level_text (Some name) tag = name
-level_text None tag = codes "#" ++ decimal tag
-
+-- a register with its value and its tag; the level is the name of that whose code is the tag
 pub record Shown : Type 0 where
   pub name : List ℕ
   pub value : ℕ
   pub level : Option (List ℕ)
   pub tag : ℕ
+
+-- the level whose code is this number
+abbrev pub level_coded : Levels → ℕ → Option ℕ
+level_coded ls code = find (λ level. code_of (order_of ls) level == code) (numbers (length ls.names))
+
+abbrev pub shown : Levels → (name : List ℕ) → (value tag : ℕ) → Shown
+shown ls name value tag = record { name = name; value = value; level = option_map (name_at ls.names) (level_coded ls tag); tag = tag }
+
+-- registers by their names, values and tags
+abbrev pub shown_of : Levels → (names : List (List ℕ)) → (values tags : List ℕ) → List Shown
+shown_of ls [] values tags = []
+shown_of ls (name ∷ names) [] tags = []
+shown_of ls (name ∷ names) (value ∷ values) [] = []
+shown_of ls (name ∷ names) (value ∷ values) (tag ∷ tags) = shown ls name value tag ∷ shown_of ls names values tags
+
+-- a level by its name; a tag that is no code as `#` and its number
+abbrev pub level_text : Option (List ℕ) → (tag : ℕ) → List ℕ
+level_text (Some name) tag = name
+level_text None tag = codes "#" ++ decimal tag
 
 abbrev pub shown_text : Shown → List ℕ
 shown_text s = codes " " ++ s.name ++ codes "=" ++ decimal s.value ++ codes "@" ++ level_text s.level s.tag

@@ -1,22 +1,56 @@
-//! Stimulus files and rows, as definitions.
+//! Stimulus files, line by line, and the rows of a run.
 //!
-//! The definitions stand in `specs/`.
+//! `parse_stream` reads the lines of a stimulus file before the first that is refused, and says which
+//! one that is and why. `push_row` and `row` print a cycle's registers.
 #![tactic(auto)]
 
-ghost use Rattle.sap_stim.specs.Examples.{Empty, TwoLines, NotEnded, TooLarge, UnknownLevel, NoLevel, NoField, TrailingSpace, TwoMarks, PlainField, MarkedPlain, Row};
+pub mod fault;
+pub mod field;
+pub mod input;
+mod line;
+pub mod rows;
+pub mod stimulus;
+mod text;
+mod value;
 
-/// What small stimulus files give, and a row, worked out.
+ghost use Rattle.sap_stim.specs.Fits.{StimulusFits};
+ghost use Rattle.sap_stim.specs.Examples as examples;
+
+pub use fault::{StimCode, StimFault};
+pub use field::{Field, Fields};
+pub use input::{Input, Inputs, Stream};
+pub use rows::{push_row, row};
+pub use stimulus::{Parsed, parse_stream};
+
+/// The largest number of bytes in a line, without its LF.
+pub const MOST_LINE_BYTES: usize = 65_536;
+
+/// The largest number of digits in a value.
+pub const MOST_DIGITS: usize = 20;
+
+/// Every line of what a stimulus gives fits its fields.
+pub fn stimulus_fits()
+    ensures { StimulusFits }
+{}
+
+/// What small stimulus files give, and rows, worked out.
 pub fn worked_texts()
-    ensures empty { Empty }
-    ensures two_lines { TwoLines }
-    ensures not_ended { NotEnded }
-    ensures too_large { TooLarge }
-    ensures unknown_level { UnknownLevel }
-    ensures no_level { NoLevel }
-    ensures no_field { NoField }
-    ensures trailing_space { TrailingSpace }
-    ensures two_marks { TwoMarks }
-    ensures plain_field { PlainField }
-    ensures marked_plain { MarkedPlain }
-    ensures row { Row }
+    ensures empty { examples.Empty }
+    ensures two_lines { examples.TwoLines }
+    ensures not_ended { examples.NotEnded }
+    ensures too_large { examples.TooLarge }
+    ensures unknown_level { examples.UnknownLevel }
+    ensures no_level { examples.NoLevel }
+    ensures no_field { examples.NoField }
+    ensures trailing_space { examples.TrailingSpace }
+    ensures two_marks { examples.TwoMarks }
+    ensures plain_field { examples.PlainField }
+    ensures marked_plain { examples.MarkedPlain }
+    ensures two_fields { examples.TwoFields }
+    ensures two_spaces { examples.TwoSpaces }
+    ensures empty_field { examples.EmptyField }
+    ensures too_long { examples.TooLong }
+    ensures long_enough { examples.LongEnough }
+    ensures row { examples.Row }
+    ensures row_of_tags { examples.RowOfTags }
 {}

@@ -1,0 +1,63 @@
+-- The texts of rows, from left to right.
+use Rattle.std.proofs.Common.{◌≡◌, ◌+◌, ◌<◌, ◌≤◌, ◌^◌, ◌/◌, ◌%◌, ℕ, zero, suc, List, [], ◌∷◌, ◌++◌, length, get_or, drop, refl, sym, ap, ◌∙◌, append_assoc, arith, Option, Some, Result, Ok, Err, OnOk, if◌then◌else◌}
+use Rattle.std.specs.Prelude.{decimal, is_ok, option_map}
+use Rattle.std.proofs.lemmas.Fmt.{decimal_digit, decimal_step}
+use Rattle.std.proofs.Math.Seq.{drop-cons}
+use Rattle.sap_lattice.specs.Closure.{name_at}
+use Rattle.sap_lattice.specs.Levels.{Levels, level_in}
+use Rattle.sap_stim.proofs.Named.{level_in_place}
+use Rattle.sap_stim.specs.Rows.{shown, shown_of, shown_text, all_shown, level_coded, level_text}
+
+pub one_digit : (out old : List ℕ) (n d : ℕ) → n < 10 → out ≡ old ++ (d ∷ []) → d ≡ 48 + n → out ≡ old ++ decimal n
+one_digit out old n d h e f = e ∙ ap (λ x. old ++ (x ∷ [])) f ∙ ap (λ z. old ++ z) (sym (decimal_digit n h))
+
+pub more_digits : (out mid old : List ℕ) (n d : ℕ) → 10 ≤ n → n < 2 ^ 64 → mid ≡ old ++ decimal (n / 10) → out ≡ mid ++ (d ∷ []) → d ≡ 48 + n % 10 → out ≡ old ++ decimal n
+more_digits out mid old n d h small e f g =
+    f ∙ ap (λ z. z ++ (d ∷ [])) e ∙ append_assoc old (decimal (n / 10)) (d ∷ []) ∙ ap (λ x. old ++ (decimal (n / 10) ++ (x ∷ []))) g
+    ∙ ap (λ z. old ++ z) (sym (decimal_step n h small))
+
+-- the registers from a place on
+abbrev pub shown_from : Levels → List (List ℕ) → List ℕ → List ℕ → ℕ → List ℕ
+shown_from ls names values tags i = all_shown (shown_of ls (drop i names) (drop i values) (drop i tags))
+
+pub shown_more : (ls : Levels) (names : List (List ℕ)) (values tags : List ℕ) (i : ℕ) (name : List ℕ) → i < length names → length values ≡ length names → length tags ≡ length names → name ≡ get_or names i name
+    → shown_from ls names values tags i ≡ shown_text (shown ls name (get_or values i 0) (get_or tags i 0)) ++ shown_from ls names values tags (i + 1)
+shown_more ls names values tags i name h v t e =
+    let s : suc i ≡ i + 1 = omega arith in
+    let a : drop i names ≡ name ∷ drop (i + 1) names = drop-cons names i name h ∙ ap (λ (x : List ℕ). x ∷ drop (suc i) names) (sym e) ∙ ap (λ (k : ℕ). name ∷ drop k names) s in
+    let b : drop i values ≡ get_or values i 0 ∷ drop (i + 1) values = drop-cons values i 0 (omega arith) ∙ ap (λ (k : ℕ). get_or values i 0 ∷ drop k values) s in
+    let c : drop i tags ≡ get_or tags i 0 ∷ drop (i + 1) tags = drop-cons tags i 0 (omega arith) ∙ ap (λ (k : ℕ). get_or tags i 0 ∷ drop k tags) s in
+    ap (λ (x : List (List ℕ)). all_shown (shown_of ls x (drop i values) (drop i tags))) a
+    ∙ ap (λ (x : List ℕ). all_shown (shown_of ls (name ∷ drop (i + 1) names) x (drop i tags))) b
+    ∙ ap (λ (x : List ℕ). all_shown (shown_of ls (name ∷ drop (i + 1) names) (get_or values i 0 ∷ drop (i + 1) values) x)) c
+
+shown_past : (ls : Levels) (names : List (List ℕ)) (values tags : List ℕ) (i : ℕ) → length names ≤ i → shown_from ls names values tags i ≡ 10 ∷ []
+shown_past ls names values tags i h = ap (λ (x : List (List ℕ)). all_shown (shown_of ls x (drop i values) (drop i tags))) (past names i h) where
+  past : (xs : List (List ℕ)) (k : ℕ) → length xs ≤ k → drop k xs ≡ []
+  past [] zero h = refl
+  past [] (suc k) h = refl
+  past (x ∷ xs) zero h = absurd (omega arith)
+  past (x ∷ xs) (suc k) h = past xs k (omega arith)
+
+-- one register more is written
+pub row_grows : (ls : Levels) (names : List (List ℕ)) (values tags : List ℕ) (i : ℕ) (name out old next : List ℕ) → i < length names → length values ≡ length names → length tags ≡ length names → name ≡ get_or names i name
+    → out ++ shown_from ls names values tags i ≡ old → next ≡ out ++ shown_text (shown ls name (get_or values i 0) (get_or tags i 0)) → next ++ shown_from ls names values tags (i + 1) ≡ old
+row_grows ls names values tags i name out old next h v t e before grown =
+    ap (λ (x : List ℕ). x ++ shown_from ls names values tags (i + 1)) grown
+    ∙ append_assoc out (shown_text (shown ls name (get_or values i 0) (get_or tags i 0))) (shown_from ls names values tags (i + 1))
+    ∙ ap (λ (x : List ℕ). out ++ x) (sym (shown_more ls names values tags i name h v t e))
+    ∙ before
+
+pub row_ends : (ls : Levels) (names : List (List ℕ)) (values tags : List ℕ) (i : ℕ) (out old next : List ℕ) → length names ≤ i → out ++ shown_from ls names values tags i ≡ old → next ≡ out ++ 10 ∷ [] → next ≡ old
+row_ends ls names values tags i out old next h before grown = grown ∙ ap (λ (x : List ℕ). out ++ x) (sym (shown_past ls names values tags i h)) ∙ before
+
+-- what is written last
+on_last : {E : Type 0} (r : Result (Unit {0}) E) (new a t x : List ℕ) → new ≡ (if is_ok r then a ++ t else a) → t ≡ x → OnOk r (new ≡ a ++ x)
+on_last (Ok u) new a t x e f = e ∙ ap (λ (z : List ℕ). a ++ z) f
+on_last (Err e) new a t x p f = tt
+
+pub level_written : {E : Type 0} (ls : Levels) (tag level : ℕ) (text old new : List ℕ) (r : Result (Unit {0}) E) → Some level ≡ level_coded ls tag → level < length ls.names → text ≡ get_or ls.names (level_in (length ls.names) level) []
+    → new ≡ (if is_ok r then old ++ text else old) → OnOk r (new ≡ old ++ level_text (option_map (name_at ls.names) (level_coded ls tag)) tag)
+level_written ls tag level text old new r coded small t e =
+    on_last r new old text (level_text (option_map (name_at ls.names) (level_coded ls tag)) tag) e
+    (t ∙ ap (λ (k : ℕ). get_or ls.names k []) (level_in_place (length ls.names) level small) ∙ ap (λ (o : Option ℕ). level_text (option_map (name_at ls.names) o) tag) coded)

@@ -1,0 +1,89 @@
+-- What a line of a stimulus file gives, or the code that stands in it.
+use Rattle.std.specs.Prelude.{ℕ, List, [], ◌∷◌, length, Option, Some, None, Result, Ok, Err, Bool, not, nat_lt, nat_le, ◌==◌, ◌&&◌, ◌^◌, ◌≤◌, position, if◌then◌else◌}
+use Rattle.std.specs.Char.{is_ascii_digit}
+use Rattle.std.specs.List.{list_all, before_first, after_first}
+use Rattle.std.specs.Str.{bytes_eq}
+use Rattle.std.specs.Str.Parse.{digits_value}
+use Rattle.sap_lattice.specs.Levels.{Levels, order_of}
+use Rattle.sap_stim.specs.declared.TheConstants.{MOST_LINE_BYTES, MOST_DIGITS}
+use Rattle.sap_stim.specs.declared.fault.StimCode.{StimCode}
+use Rattle.sap_stim.specs.declared.fault.StimCode.TheVariants.{S1, S2, S3, S4, S5}
+use Rattle.sap_stim.specs.declared.field.Field.{Field}
+use Rattle.sap_stim.specs.declared.field.Field.TheVariants.{Tagged, Plain}
+use Rattle.sap_stim.specs.declared.input.Input.{Input}
+
+-- the width of a field's value, from 1 to 64
+abbrev pub field_width : Field → ℕ
+field_width (Tagged width) = width
+field_width (Plain width) = width
+
+abbrev pub IsSized : Field → Type 0
+IsSized f = (1 ≤ field_width f) × (field_width f ≤ 64)
+
+-- the pieces of a text between the bytes of this value: one more than there are such bytes
+abbrev pub pushed : ℕ → List (List ℕ) → List (List ℕ)
+pushed b [] = (b ∷ []) ∷ []
+pushed b (piece ∷ pieces) = (b ∷ piece) ∷ pieces
+
+abbrev pub split_at : ℕ → List ℕ → List (List ℕ)
+split_at mark [] = [] ∷ []
+split_at mark (b ∷ bs) = if b == mark then [] ∷ split_at mark bs else pushed b (split_at mark bs)
+
+-- the fields of a line: split at each space, an empty line has none
+abbrev pub fields_of : List ℕ → List (List ℕ)
+fields_of [] = []
+fields_of (b ∷ bs) = split_at 32 (b ∷ bs)
+
+abbrev pub and_then : {A B : Type 0} → Result A StimCode → (A → Result B StimCode) → Result B StimCode
+and_then (Ok x) f = f x
+and_then (Err code) f = Err code
+
+-- 1 to 20 decimal digits
+abbrev pub is_value : List ℕ → Bool
+is_value text = list_all is_ascii_digit text && nat_le 1 (length text) && nat_le (length text) MOST_DIGITS
+
+-- S1 where the text is no value, S2 where the value isn't below 2 to the width
+abbrev pub value_of : (width : ℕ) → List ℕ → Result ℕ StimCode
+value_of width text =
+    if not (is_value text) then Err S1
+    else (if nat_lt (digits_value 10 text) (2 ^ width) then Ok (digits_value 10 text) else Err S2)
+
+-- the number of the level of this name
+abbrev pub level_named : (names : List (List ℕ)) → List ℕ → Option ℕ
+level_named names name = position (λ level. bytes_eq level name) names
+
+-- S3 where the level is none
+abbrev pub with_level : (value : ℕ) → Option ℕ → Result Input StimCode
+with_level value None = Err S3
+with_level value (Some level) = Ok (record { value = value; level = level })
+
+-- the value stands before the first `@` and the level's name behind it; S1 where there is no `@`, or nothing behind it
+abbrev pub tagged_of : Levels → (width : ℕ) → List ℕ → Result Input StimCode
+tagged_of ls width text =
+    let name = after_first (λ b. b == 64) text in
+    if length name == 0 then Err S1
+    else and_then (value_of width (before_first (λ b. b == 64) text)) (λ value. with_level value (level_named ls.names name))
+
+-- the level of a plain field is bottom
+abbrev pub plain_of : Levels → (width : ℕ) → List ℕ → Result Input StimCode
+plain_of ls width text = and_then (value_of width text) (λ value. Ok (record { value = value; level = (order_of ls).bottom }))
+
+abbrev pub field_of : Levels → Field → List ℕ → Result Input StimCode
+field_of ls (Tagged width) text = tagged_of ls width text
+field_of ls (Plain width) text = plain_of ls width text
+
+-- the fields from the left; S4 where their number is another
+abbrev pub inputs_of : Levels → List Field → List (List ℕ) → Result (List Input) StimCode
+inputs_of ls [] [] = Ok []
+inputs_of ls [] (text ∷ texts) = Err S4
+inputs_of ls (f ∷ fs) [] = Err S4
+inputs_of ls (f ∷ fs) (text ∷ texts) =
+    and_then (field_of ls f text) (λ input. and_then (inputs_of ls fs texts) (λ inputs. Ok (input ∷ inputs)))
+
+-- a line without its LF: first its length, then S5 where it has no LF, then S4, then its fields
+abbrev pub line_of : Levels → List Field → (ended : Bool) → List ℕ → Result (List Input) StimCode
+line_of ls fs ended text =
+    if nat_lt MOST_LINE_BYTES (length text) then Err S1
+    else (if not ended then Err S5
+    else (if not (length (fields_of text) == length fs) then Err S4
+    else inputs_of ls fs (fields_of text)))

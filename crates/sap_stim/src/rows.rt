@@ -1,0 +1,114 @@
+//! Rows.
+
+ghost use Rattle.std.specs.Prelude.{◌≡◌, ◌<◌, ◌++◌, IfOk, IfSome, OnOk, length, Option, option_map};
+ghost use Rattle.std.specs.Fmt.{decimal};
+ghost use Rattle.sap_lattice.specs.Closure.{name_at};
+ghost use Rattle.sap_stim.specs.Rows.{row_text, shown, shown_of, shown_text, level_coded, level_text, all_shown};
+
+use sap_desk::Bytes;
+use sap_lattice::lattice::Lattice;
+use sap_lattice::level::Level;
+use sap_lattice::name::Name;
+use std::alloc::{AllocError, Global};
+
+fn number(out: &mut Vec<u8>, n: u64) -> Result<(), AllocError>
+    ensures { OnOk result (out.new.items ≡ out.old.items ++ decimal n) }
+{
+    if n < 10 {
+        out.push(b'0' + n as u8)?;
+        return Ok(());
+    }
+    number(out, n / 10)?;
+    out.push(b'0' + (n % 10) as u8)?;
+    Ok(())
+}
+
+/// The level whose code is the tag.
+fn level_of_tag(lattice: &Lattice, tag: u64) -> Option<Level>
+    ensures coded { result ≡ level_coded lattice.now tag }
+    ensures level { IfSome result (λ x. x < length lattice.now.names) }
+{
+    lattice.lawful();
+    lattice.level_of_code(tag)
+}
+
+fn push_level(out: &mut Vec<u8>, tag: u64, lattice: &Lattice) -> Result<(), AllocError>
+    ensures { OnOk result (out.new.items ≡ out.old.items ++ level_text (option_map (name_at lattice.now.names) (level_coded lattice.now tag)) tag) }
+{
+    match level_of_tag(lattice, tag) {
+        Some(level) => out.extend_from_slice(lattice.name(level).as_bytes()),
+        None => {
+            out.extend_from_slice(b"#")?;
+            number(out, tag)
+        }
+    }
+}
+
+fn push_shown(
+    out: &mut Vec<u8>,
+    name: &Name,
+    value: u64,
+    tag: u64,
+    lattice: &Lattice,
+) -> Result<(), AllocError>
+    ensures { OnOk result (out.new.items ≡ out.old.items ++ shown_text (shown lattice.now name.now value tag)) }
+{
+    out.extend_from_slice(b" ")?;
+    out.extend_from_slice(name.as_bytes())?;
+    out.extend_from_slice(b"=")?;
+    number(out, value)?;
+    out.extend_from_slice(b"@")?;
+    push_level(out, tag, lattice)
+}
+
+fn push_all(
+    out: &mut Vec<u8>,
+    names: &[Name],
+    values: &[u64],
+    tags: &[u64],
+    lattice: &Lattice,
+) -> Result<(), AllocError>
+    requires values { length values.now ≡ length names.now }
+    requires tags { length tags.now ≡ length names.now }
+    ensures { OnOk result (out.new.items ≡ out.old.items ++ all_shown (shown_of lattice.now names.now values.now tags.now)) }
+{
+    for i in 0..names.len() {
+        push_shown(out, &names[i], values[i], tags[i], lattice)?;
+    }
+    out.extend_from_slice(b"\n")
+}
+
+/// Appends the row of a cycle: the registers of these names, with their values and tags.
+pub fn push_row(
+    out: &mut Vec<u8>,
+    cycle: u64,
+    names: &[Name],
+    values: &[u64],
+    tags: &[u64],
+    lattice: &Lattice,
+) -> Result<(), AllocError>
+    requires lengths { (length values.now ≡ length names.now) × (length tags.now ≡ length names.now) }
+    ensures { OnOk result (out.new.items ≡ out.old.items ++ row_text cycle (shown_of lattice.now names.now values.now tags.now)) }
+{
+    out.extend_from_slice(b"cycle ")?;
+    number(out, cycle)?;
+    out.extend_from_slice(b":")?;
+    push_all(out, names, values, tags, lattice)
+}
+
+/// The bytes of the row of a cycle.
+pub fn row(
+    alloc: Global,
+    cycle: u64,
+    names: &[Name],
+    values: &[u64],
+    tags: &[u64],
+    lattice: &Lattice,
+) -> Result<Bytes, AllocError>
+    requires lengths { (length values.now ≡ length names.now) × (length tags.now ≡ length names.now) }
+    ensures { IfOk result (λ text. text ≡ row_text cycle (shown_of lattice.now names.now values.now tags.now)) }
+{
+    let mut out = Vec::new(alloc);
+    push_row(&mut out, cycle, names, values, tags, lattice)?;
+    Ok(Bytes::new(out))
+}

@@ -1,0 +1,40 @@
+//! Pieces of texts.
+
+ghost use Rattle.std.specs.Prelude.{◌≡◌, ◌==◌, ◌≤◌, length, position, count_by};
+ghost use Rattle.std.specs.List.{before_first, after_first};
+ghost use Rattle.sap_stim.specs.Line.{fields_of};
+ghost use Rattle.sap_stim.specs.declared.TheConstants.{MOST_LINE_BYTES};
+
+fn find(text: &[u8], mark: u8) -> Option<usize>
+    ensures { result ≡ position (λ b. b == mark) text.now }
+{
+    text.iter().position(|b| *b == mark)
+}
+
+/// What stands before the first `mark`, or all where there is none, and what stands behind it.
+pub fn cut(text: &[u8], mark: u8) -> (&[u8], &[u8])
+    ensures before { result.0.now ≡ before_first (λ b. b == mark) text.now }
+    ensures behind { result.1.now ≡ after_first (λ b. b == mark) text.now }
+{
+    match find(text, mark) {
+        Some(at) => (&text[..at], &text[at + 1..]),
+        None => (text, &text[text.len()..]),
+    }
+}
+
+fn count_spaces(line: &[u8]) -> usize
+    ensures { result ≡ count_by (λ b. b == 32) line.now }
+{
+    line.iter().filter(|b| **b == b' ').count()
+}
+
+/// How many fields a line has.
+pub fn count_fields(line: &[u8]) -> usize
+    requires { length line.now ≤ MOST_LINE_BYTES }
+    ensures { result ≡ length (fields_of line.now) }
+{
+    if line.is_empty() {
+        return 0;
+    }
+    count_spaces(line) + 1
+}

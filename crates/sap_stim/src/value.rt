@@ -1,0 +1,114 @@
+//! Values and levels of a field.
+
+ghost use Rattle.std.specs.Prelude.{◌≡◌, ◌≤◌, ◌<◌, ◌^◌, ◌==◌, SomeIff, true, nat_lt};
+ghost use Rattle.std.specs.Char.{is_ascii_digit};
+ghost use Rattle.std.specs.List.{list_all};
+ghost use Rattle.std.specs.Str.Parse.{digits_value};
+ghost use Rattle.sap_stim.specs.Line.{is_value, value_of, level_named, tagged_of, plain_of, field_of, IsSized};
+
+use crate::MOST_DIGITS;
+use crate::fault::StimCode;
+use crate::field::Field;
+use crate::input::Input;
+use crate::text::cut;
+use sap_lattice::lattice::Lattice;
+use sap_lattice::level::Level;
+
+fn are_digits(text: &[u8]) -> bool
+    ensures { result ≡ list_all is_ascii_digit text.now }
+{
+    text.iter().all(|b| b.is_ascii_digit())
+}
+
+fn is_value(text: &[u8]) -> bool
+    ensures { result ≡ is_value text.now }
+{
+    are_digits(text) && 1 <= text.len() && text.len() <= MOST_DIGITS
+}
+
+/// The number of these digits, where it has at most 64 bits.
+fn number(digits: &[u8]) -> Option<u64>
+    requires { list_all is_ascii_digit digits.now ≡ true }
+    ensures { SomeIff result (digits_value 10 digits.now < 2 ^ 64) (digits_value 10 digits.now) }
+{
+    let mut n = 0u64;
+    for b in digits {
+        n = n.checked_mul(10)?.checked_add(u64::from(*b - b'0'))?;
+    }
+    Some(n)
+}
+
+/// Whether a number has at most `width` bits.
+fn is_within(value: u64, width: u32) -> bool
+    requires wide { 1 ≤ width }
+    requires narrow { width ≤ 64 }
+    ensures { result ≡ nat_lt value (2 ^ width) }
+{
+    width == 64 || value < 1 << width
+}
+
+fn read_value(text: &[u8], width: u32) -> Result<u64, StimCode>
+    requires wide { 1 ≤ width }
+    requires narrow { width ≤ 64 }
+    ensures { result ≡ value_of width text.now }
+{
+    if !is_value(text) {
+        return Err(StimCode::S1);
+    }
+    match number(text) {
+        Some(value) if is_within(value, width) => Ok(value),
+        _ => Err(StimCode::S2),
+    }
+}
+
+/// The level of this name.
+fn find_level(lattice: &Lattice, name: &[u8]) -> Option<Level>
+    ensures { result ≡ level_named lattice.now.names name.now }
+{
+    for place in 0..u64::from(lattice.count()) {
+        let level = lattice.level_at(place);
+        if lattice.name(level).as_bytes() == name {
+            return Some(level);
+        }
+    }
+    None
+}
+
+fn read_tagged(text: &[u8], width: u32, lattice: &Lattice) -> Result<Input, StimCode>
+    requires wide { 1 ≤ width }
+    requires narrow { width ≤ 64 }
+    ensures { result ≡ tagged_of lattice.now width text.now }
+{
+    let (digits, name) = cut(text, b'@');
+    if name.is_empty() {
+        return Err(StimCode::S1);
+    }
+    let value = read_value(digits, width)?;
+    match find_level(lattice, name) {
+        Some(level) => Ok(Input { value, level }),
+        None => Err(StimCode::S3),
+    }
+}
+
+fn read_plain(text: &[u8], width: u32, lattice: &Lattice) -> Result<Input, StimCode>
+    requires wide { 1 ≤ width }
+    requires narrow { width ≤ 64 }
+    ensures { result ≡ plain_of lattice.now width text.now }
+{
+    let value = read_value(text, width)?;
+    Ok(Input {
+        value,
+        level: lattice.bottom(),
+    })
+}
+
+/// What a field of a line gives.
+pub fn read_field(text: &[u8], field: Field, lattice: &Lattice) -> Result<Input, StimCode>
+    requires { IsSized field }
+    ensures { result ≡ field_of lattice.now field text.now }
+{
+    match field {
+        Field::Tagged(width) => read_tagged(text, width, lattice),
+        Field::Plain(width) => read_plain(text, width, lattice),
+    }
+}
