@@ -7,19 +7,15 @@ use Rattle.sap_names.specs.NameFaults.{design_name_faults}
 use Rattle.sap_names.specs.declared.fault.CheckFault.{CheckFault}
 use Rattle.sap_names.specs.declared.fault.CheckFault.TheVariants as check
 use Rattle.sap_tree.specs.Syntax.{DesignTree}
-use Rattle.sap_tree.specs.Designs.{design_of}
 use Rattle.sap_tree.specs.declared.place.Place.{Place}
 use Rattle.sap_parse.specs.Text.{IsText, IsReadFault}
 use Rattle.sap_parse.specs.declared.fault.ReadFault.{ReadFault}
 use Rattle.sap_shape.specs.WellFormed.{WellFormed, IsFirstFault}
 use Rattle.sap_shape.specs.ShapeFaults.{design_shape_faults}
-use Rattle.sap_modtext.specs.Modules.{IsModule}
-use Rattle.sap_interface.specs.Designs.{StandsForDesign}
 use Rattle.sap_single.specs.Early.{early_of}
-use Rattle.sap_compile.specs.declared.compiler.Compiled.{Compiled}
 use Rattle.sap_compile.specs.declared.fault.DesignFault.{DesignFault}
 use Rattle.sap_compile.specs.declared.fault.DesignFault.TheVariants.{Read, Early, Check, Memory}
-use Rattle.sap_compile.specs.Compiles.{IsModuleFor, IsCompiled, IsReadRefusal, IsCheckFault, IsFaultOfTree, IsFaultOf}
+use Rattle.sap_compile.specs.Compiles.{IsReadRefusal, IsCheckFault, IsFaultOfTree, IsFaultOf}
 
 -- what a fault before the netlist says of the text
 
@@ -37,12 +33,6 @@ of_checking ls source d Memory t e h = tt
 
 pub of_memory : (ls : Levels) (source : List ℕ) (fault : DesignFault) → fault ≡ Memory → IsFaultOf ls source fault
 of_memory ls source fault e = subst (λ (f : DesignFault). IsFaultOf ls source f) (sym e) tt
-
--- what stands of the design of a text stands of what is compiled
-pub compiled_is : (ls : Levels) (source : List ℕ) (d : DesignTree) (c : Compiled) → design_of c.design ≡ d → IsText source d → WellFormed ls d → IsModule c.module c.netlist
-    → StandsForDesign ls d c.netlist → IsCompiled ls source c
-compiled_is ls source d c e t w m s =
-    subst (λ (x : DesignTree). IsModuleFor ls source x c.netlist c.module) (sym e) (record { is_text = t; well_formed = w; is_module = m; stands = s })
 
 -- a well-formed design has no fault
 

@@ -11,16 +11,20 @@ use Rattle.sap_net.specs.Net.{Net}
 use Rattle.sap_modtext.specs.Modules.{IsModule}
 use Rattle.sap_interface.specs.Designs.{StandsForDesign}
 use Rattle.sap_single.specs.Early.{early_of}
+use Rattle.sap_compile.specs.Agree.{RunsAgree, RunsLookAlike}
 use Rattle.sap_compile.specs.declared.compiler.Compiled.{Compiled}
 use Rattle.sap_compile.specs.declared.fault.DesignFault.{DesignFault}
 use Rattle.sap_compile.specs.declared.fault.DesignFault.TheVariants.{Read, Early, Check, Memory}
 
--- The source is the text of a well-formed design, the text is that of a module, and the module stands for the design.
+-- The source is the text of a well-formed design, the text is that of a module, the module stands for the design, and on
+-- streams that agree at or below a level its runs agree there in every cycle.
 pub record IsModuleFor (ls : Levels) (source : List ℕ) (d : DesignTree) (net : Net) (text : List ℕ) : Type 0 where
   pub is_text : IsText source d
   pub well_formed : WellFormed ls d
   pub is_module : IsModule text net
   pub stands : StandsForDesign ls d net
+  pub agrees : RunsAgree ls d net
+  pub looks_alike : RunsLookAlike ls d net
 
 abbrev pub IsCompiled : Levels → List ℕ → Compiled → Type 0
 IsCompiled ls source c = IsModuleFor ls source (design_of c.design) c.netlist c.module

@@ -7,9 +7,11 @@ ghost use Rattle.sap_tree.specs.Syntax.{DesignTree};
 ghost use Rattle.sap_parse.specs.Text.{IsText};
 ghost use Rattle.sap_shape.specs.WellFormed.{WellFormed};
 ghost use Rattle.sap_single.specs.Early.{early_of};
+ghost use Rattle.sap_compile.specs.Agree.{RunsAgree, RunsLookAlike};
 ghost use Rattle.sap_compile.specs.Compiles.{IsCompiled, IsFaultOf, IsFaultOfTree, IsReadRefusal};
 ghost use Rattle.sap_modtext.specs.Modules.{IsModule};
 ghost use Rattle.sap_interface.specs.Designs.{StandsForDesign};
+ghost use Rattle.sap_net.specs.Net.{Net};
 ghost use Rattle.sap_compile.specs.declared.fault.DesignFault.{DesignFault as AnyFault};
 ghost use Rattle.sap_compile.specs.declared.fault.DesignFault.TheVariants.{Memory};
 
@@ -76,6 +78,16 @@ fn check(alloc: Global, design: &Design, lattice: &Lattice) -> Result<Names, Des
     }
 }
 
+// A netlist that stands for a well-formed design has runs that agree where their streams do.
+fn runs_agree(lattice: &Lattice)
+    ensures agree { (d : DesignTree) (n : Net) → WellFormed lattice.now d → StandsForDesign lattice.now d n → RunsAgree lattice.now d n }
+    ensures look_alike { (d : DesignTree) (n : Net) → WellFormed lattice.now d → StandsForDesign lattice.now d n → RunsLookAlike lattice.now d n }
+{
+    lattice.lawful();
+    sap_low::runs_agree();
+    sap_low::states_keep()
+}
+
 // Compiles a design, and tells want of memory as such.
 fn module(
     alloc: Global,
@@ -88,9 +100,12 @@ fn module(
     requires compiled { early_of (design_of design) ≡ None }
     ensures same { IfOk result (λ c. design_of c.design ≡ design_of design) }
     ensures stands { IfOk result (λ c. StandsForDesign lattice.now (design_of design) c.netlist) }
+    ensures agrees { IfOk result (λ c. RunsAgree lattice.now (design_of design) c.netlist) }
+    ensures looks_alike { IfOk result (λ c. RunsLookAlike lattice.now (design_of design) c.netlist) }
     ensures written { IfOk result (λ c. IsModule c.module c.netlist) }
     ensures memory { IfErr result (λ fault. fault ≡ Memory) }
 {
+    runs_agree(lattice);
     let Ok(netlist) = netlist(alloc, &design, names, lattice) else {
         return Err(DesignFault::Memory);
     };
