@@ -1,0 +1,4 @@
+mod Counts
+mod Reached
+mod Cells
+mod Computed

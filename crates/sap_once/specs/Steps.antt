@@ -1,0 +1,74 @@
+-- The steps that a cycle comes to, in order: those that have their effect and those that are refused. What a step does to the store
+-- is told by `does`; here stands which step comes next.
+use Rattle.std.specs.Prelude.{ℕ, zero, suc, Bool, List, [], ◌∷◌, ◌++◌, if◌then◌else◌, nat_eq}
+use Rattle.sap_maps.specs.Term.{Term}
+use Rattle.sap_meaning.specs.Program.{World, root, Step, Set, Write, Retag, RetagCell, Goto, Fall, Command, Do, Try, If, Block, End, Then, State, Node, Group, None, More, Program}
+use Rattle.sap_meaning.specs.Store.{Store, own, level, child, raise}
+use Rattle.sap_meaning.specs.Expressions.{value, tag}
+use Rattle.sap_meaning.specs.Checks.{Spot, child_level, guard, test}
+use Rattle.sap_meaning.specs.Touches.{touches, root_touches, raised_alone}
+use Rattle.sap_meaning.specs.Does.{does, does_child}
+use Rattle.sap_meaning.specs.Cycle.{Tagged, set_inputs}
+
+-- What comes after a step whose test held in `before`: for a fall the steps of the current child's body, `entered n` being those of
+-- the n-th child's in a context; for every other step nothing.
+abbrev pub onward : World → Spot → (entered : ℕ → ℕ → Store → List Step) → Step → ℕ → (before : Store) → Store → List Step
+onward w at entered (Set site x e) pc before s = []
+onward w at entered (Write site m i e) pc before s = []
+onward w at entered (Retag site x n) pc before s = []
+onward w at entered (RetagCell site m j n) pc before s = []
+onward w at entered (Goto site target) pc before s = []
+onward w at entered (Fall site hang) pc before s =
+    entered (child at.state before) (w.order.join pc (child_level w at.children (child at.state before) before)) s
+
+-- a step, and what comes after it; where it is refused, the steps of its handler
+unfoldable pub tried : World → Spot → (entered : ℕ → ℕ → Store → List Step) → Step → (hangs : ℕ → Bool) → (handler : ℕ → Store → List Step) → ℕ → Store → List Step
+tried w at entered k hangs handler pc s =
+    let g = guard w at k s in
+    let r = raise w.order hangs g s in
+    k ∷ (if test w at k pc s then onward w at entered k pc s r else handler (w.order.join pc g) r)
+
+-- the steps of the branch that is taken
+unfoldable pub chosen : World → Term ℕ → (hangs : ℕ → Bool) → (then_steps else_steps : ℕ → Store → List Step) → ℕ → Store → List Step
+chosen w e hangs then_steps else_steps pc s =
+    let t = tag w e s in
+    let r = raise w.order hangs t s in
+    if nat_eq (value w e s) 0 then else_steps (w.order.join pc t) r else then_steps (w.order.join pc t) r
+
+unfoldable mutual
+  pub steps : World → Spot → (entered : ℕ → ℕ → Store → List Step) → Command → ℕ → Store → List Step
+  steps w at entered (Do k) = tried w at entered k (raised_alone w at k) (λ pc s. [])
+  steps w at entered (Try k hang h) = tried w at entered k (touches w at (Try k hang h)) (block_steps w at entered h)
+  steps w at entered (If hang e a b) = chosen w e (touches w at (If hang e a b)) (block_steps w at entered a) (block_steps w at entered b)
+
+  -- of a list of commands, each in the store that the ones before it leave
+  pub block_steps : World → Spot → (entered : ℕ → ℕ → Store → List Step) → Block → ℕ → Store → List Step
+  block_steps w at entered End pc s = []
+  block_steps w at entered (Then c cs) pc s =
+      steps w at entered c pc s ++ block_steps w at entered cs pc (does w at (does_child w at.children at.state) c pc s).store
+
+unfoldable mutual
+  -- of a state's body
+  pub state_steps : World → State → (parent : ℕ) → ℕ → Store → List Step
+  state_steps w (Node s b g) parent pc st = block_steps w (record { state = s; parent = parent; children = g }) (child_steps w g s) b pc st
+
+  -- of the body of the n-th state of the parent's group
+  pub child_steps : World → Group → (parent n : ℕ) → ℕ → Store → List Step
+  child_steps w None parent n pc st = []
+  child_steps w (More t g) parent zero pc st = state_steps w t parent pc st
+  child_steps w (More t g) parent (suc n) pc st = child_steps w g parent n pc st
+
+-- of the root's fall into the n-th top-level state
+unfoldable pub root_steps : World → (hangs : ℕ → Bool) → Group → (n : ℕ) → Store → List Step
+root_steps w hangs None n s = []
+root_steps w hangs (More (Node c b k) g) zero s =
+    let t = level w (own c) s in
+    state_steps w (Node c b k) (root w) t (raise w.order hangs t s)
+root_steps w hangs (More t g) (suc n) s = root_steps w hangs g n s
+
+-- of a cycle
+unfoldable pub cycle_steps : Program → List Tagged → Store → List Step
+cycle_steps p inputs s =
+    let w = p.world in
+    let begun = set_inputs w inputs s in
+    root_steps w (root_touches w p.states) p.states (child (root w) begun) begun
