@@ -1,0 +1,4 @@
+mod Names
+mod Keeping
+mod Designs
+mod Computed

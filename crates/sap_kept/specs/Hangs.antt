@@ -1,0 +1,57 @@
+-- What hangs on each command of a design that has a list of it, by name.
+use Rattle.std.specs.Prelude.{ℕ, Bool, true, false, List, [], ◌∷◌, ◌++◌, map}
+use Rattle.sap_tree.specs.Syntax.{DesignTree}
+use Rattle.sap_lattice.specs.Levels.{Levels}
+use Rattle.sap_names.specs.Entities.{entities_of}
+use Rattle.sap_meaning.specs.Program.{Step, Set, Write, Retag, RetagCell, Goto, Fall, Command, Do, Try, If, Block, End, Then, State, Node, Group, None, More}
+use Rattle.sap_resolve.specs.Fill.{program_of}
+
+-- an `if`, an `otherwise` or a `fall`, with the names of what hangs on it
+pub data Point : Type 0 where
+  AtIf : List (List ℕ) → Point
+  AtOtherwise : List (List ℕ) → Point
+  AtFall : List (List ℕ) → Point
+
+-- the names whose entry is true, in the order of declaration
+abbrev pub hanging : (names : List (List ℕ)) → List Bool → List (List ℕ)
+hanging [] hang = []
+hanging (n ∷ ns) [] = []
+hanging (n ∷ ns) (true ∷ hang) = n ∷ hanging ns hang
+hanging (n ∷ ns) (false ∷ hang) = hanging ns hang
+
+abbrev pub step_points : List (List ℕ) → Step → List Point
+step_points names (Set site x e) = []
+step_points names (Write site m i e) = []
+step_points names (Retag site x n) = []
+step_points names (RetagCell site m j n) = []
+step_points names (Goto site target) = []
+step_points names (Fall site hang) = AtFall (hanging names hang) ∷ []
+
+-- in the order of the words
+abbrev mutual
+  pub points : List (List ℕ) → Command → List Point
+  points names (Do k) = step_points names k
+  points names (Try k hang h) = step_points names k ++ AtOtherwise (hanging names hang) ∷ block_points names h
+  points names (If hang e a b) = AtIf (hanging names hang) ∷ block_points names a ++ block_points names b
+
+  pub block_points : List (List ℕ) → Block → List Point
+  block_points names End = []
+  block_points names (Then c cs) = points names c ++ block_points names cs
+
+abbrev mutual
+  pub state_points : List (List ℕ) → State → List Point
+  state_points names (Node s b g) = block_points names b ++ group_points names g
+
+  pub group_points : List (List ℕ) → Group → List Point
+  group_points names None = []
+  group_points names (More t g) = state_points names t ++ group_points names g
+
+abbrev pub names_of : DesignTree → List (List ℕ)
+names_of d = map (λ e. e.name.name) (entities_of d)
+
+-- of a design; and what hangs on the root's fall
+abbrev pub hang_table : Levels → DesignTree → List Point
+hang_table ls d = group_points (names_of d) (program_of ls d).states
+
+abbrev pub hang_at_root : Levels → DesignTree → List (List ℕ)
+hang_at_root ls d = hanging (names_of d) (program_of ls d).hang
