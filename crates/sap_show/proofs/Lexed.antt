@@ -1,0 +1,343 @@
+-- Each piece is taken as the token that it stands for.
+use Rattle.std.proofs.Common.{◌≡◌, ◌<◌, ◌+◌, ◌*◌, ◌^◌, ℕ, suc, List, [], ◌∷◌, ◌++◌, length, take, drop, Bool, true, false, cond, refl, sym, ap, ◌∙◌, arith, Option, Some, None, length-append, append_assoc, rules}
+use Rattle.std.proofs.lemmas.Bool.Decides.{nat_tests}
+use Rattle.std.proofs.lemmas.Grind.{common_steps}
+use Rattle.std.proofs.lemmas.Str.Parse.{IsNumeralModel, numerals_by_value}
+use Rattle.std.proofs.lemmas.Fmt.{digits_decimal, digits_value-decimal, decimal_nonempty}
+use Rattle.std.specs.Char.{is_ascii_digit, digit_value}
+use Rattle.std.specs.List.{prefix_len, list_all, list_any, find}
+use Rattle.std.specs.Prelude.{slice_index, ◌||◌, ◌&&◌, ◌==◌, nat_lt, nat_le, not, decimal}
+use Rattle.std.specs.Str.{bytes_eq}
+use Rattle.std.specs.Str.Parse.{digits_value, digits_value_after}
+use Rattle.sap_parse.specs.Lexemes.{is_blank, is_comment, clings, word_or_name, name_at, value_after, value_of, number_of, number_lexeme, sized_lexeme, sized_in, sized_at, number_at, sign_or, sign_at, lexeme_of}
+use Rattle.sap_parse.specs.Spelling.{word_text, sign_text, words, word_of}
+use Rattle.sap_parse.specs.declared.lexeme.Class.TheVariants as c
+use Rattle.sap_parse.specs.declared.lexeme.Lexeme.TheVariants as l
+use Rattle.sap_parse.specs.declared.token.Kind.TheVariants as k
+use Rattle.sap_parse.specs.declared.token.Kind.{Kind}
+use Rattle.sap_parse.specs.declared.token.Sign.TheVariants as s
+use Rattle.sap_parse.specs.declared.token.Sign.{Sign}
+use Rattle.sap_parse.specs.declared.token.Word.TheVariants as w
+use Rattle.sap_parse.specs.declared.token.Word.{Word}
+use Rattle.sap_show.proofs.Pieces.{Piece, space, line, token, bytes_of, kind_bytes}
+use Rattle.sap_show.proofs.ReadBack.{both}
+use Rattle.sap_show.proofs.Spaced.{ends_run, ends_sign, follows, is_spelled, apart}
+use Rattle.sap_tree.specs.Limits.{most_name_bytes}
+use Rattle.sap_tree.specs.Whole.{is_number}
+use Rattle.sap_tree.specs.Words.{is_name, is_word, is_keyword, is_initial, is_inner}
+
+and_true : (a b : Bool) → a ≡ true → b ≡ true → (a && b) ≡ true
+and_true a b p q = ap (λ x. x && b) p ∙ q
+
+and_false : (a b : Bool) → a ≡ false → (a && b) ≡ false
+and_false a b h = ap (λ x. x && b) h
+
+-- runs and parts of lists
+
+run_of : (p : ℕ → Bool) (ds rest : List ℕ) → list_all p ds ≡ true → p (slice_index rest 0) ≡ false → prefix_len p (ds ++ rest) ≡ length ds
+run_of p [] [] all stop = refl
+run_of p [] (x ∷ xs) all stop = ap (λ b. cond b (1 + prefix_len p xs) 0) stop
+run_of p (d ∷ ds) rest all stop =
+    let f = both (p d) (list_all p ds) all in
+    ap (λ b. cond b (1 + prefix_len p (ds ++ rest)) 0) f.0 ∙ (let ih = run_of p ds rest f.1 stop in omega arith)
+
+front_part : (a b : List ℕ) → take (length a) (a ++ b) ≡ a
+front_part a b = grind (arith, common_steps)
+
+back_part : (a b : List ℕ) → drop (length a) (a ++ b) ≡ b
+back_part a b = grind (arith, common_steps)
+
+byte_after : (a b : List ℕ) → slice_index (a ++ b) (length a) ≡ slice_index b 0
+byte_after [] b = refl
+byte_after (x ∷ a) b = byte_after a b
+
+-- which arm of a chain of tests
+
+third : {A : Type 0} (a b c : Bool) (x y z w : A) → a ≡ false → b ≡ false → c ≡ true → cond a x (cond b y (cond c z w)) ≡ z
+third a b c x y z w p q r = cc
+
+fourth : {A : Type 0} (a b c d : Bool) (x y z v w : A) → a ≡ false → b ≡ false → c ≡ false → d ≡ true → cond a x (cond b y (cond c z (cond d v w))) ≡ v
+fourth a b c d x y z v w p q r s = cc
+
+record NameStart (b : ℕ) : Type 0 where
+  white : is_blank b ≡ false
+  slash : (b == 47) ≡ false
+
+name_start : (b : ℕ) → is_initial b ≡ true → NameStart b
+name_start b h = record { white = grind (arith, nat_tests); slash = grind (arith, nat_tests) }
+
+record DigitStart (b : ℕ) : Type 0 where
+  white : is_blank b ≡ false
+  slash : (b == 47) ≡ false
+  name : is_initial b ≡ false
+
+digit_start : (b : ℕ) → is_ascii_digit b ≡ true → DigitStart b
+digit_start b h = record { white = grind (arith, nat_tests); slash = grind (arith, nat_tests); name = grind (arith, nat_tests) }
+
+record StopsRun (b : ℕ) : Type 0 where
+  inner : is_inner b ≡ false
+  digit : is_ascii_digit b ≡ false
+  quote : (b == 39) ≡ false
+
+stops_run : (b : ℕ) → clings b ≡ false → StopsRun b
+stops_run b h = record { inner = grind (arith, nat_tests); digit = grind (arith, nat_tests); quote = grind (arith, nat_tests) }
+
+-- words and names
+
+name_taken : (b : ℕ) (bs rest : List ℕ) → is_initial b ≡ true → list_all is_inner (b ∷ bs) ≡ true → is_inner (slice_index rest 0) ≡ false
+    → lexeme_of ((b ∷ bs) ++ rest) ≡ word_or_name (word_of (b ∷ bs)) (b ∷ bs) (length (b ∷ bs))
+unfolding lexeme_of name_at
+name_taken b bs rest start all stop =
+    let f = name_start b start in
+    let whole = (b ∷ bs) ++ rest in
+    third (is_blank b) (is_comment whole) (is_initial b) _ _ _ _ f.white (and_false (b == 47) _ f.slash) start
+    ∙ ap (λ n. word_or_name (word_of (take n whole)) (take n whole) n) (run_of is_inner (b ∷ bs) rest all stop)
+    ∙ ap (λ x. word_or_name (word_of x) x (length (b ∷ bs))) (front_part (b ∷ bs) rest)
+
+word_at : (x : Word) (rest : List ℕ) → is_initial (slice_index (word_text x) 0) ≡ true → list_all is_inner (slice_index (word_text x) 0 ∷ drop 1 (word_text x)) ≡ true
+    → word_of (slice_index (word_text x) 0 ∷ drop 1 (word_text x)) ≡ Some x → clings (slice_index rest 0) ≡ false
+    → lexeme_of ((slice_index (word_text x) 0 ∷ drop 1 (word_text x)) ++ rest) ≡ l.Token (k.Word x) (length (slice_index (word_text x) 0 ∷ drop 1 (word_text x)))
+word_at x rest start all is stop =
+    let b = slice_index (word_text x) 0 in
+    let bs = drop 1 (word_text x) in
+    name_taken b bs rest start all (stops_run (slice_index rest 0) stop).inner ∙ ap (λ o. word_or_name o (b ∷ bs) (length (b ∷ bs))) is
+
+word_lexed : (x : Word) (rest : List ℕ) → clings (slice_index rest 0) ≡ false → lexeme_of (word_text x ++ rest) ≡ l.Token (k.Word x) (length (word_text x))
+word_lexed w.Input rest stop = word_at w.Input rest refl refl refl stop
+word_lexed w.Reg rest stop = word_at w.Reg rest refl refl refl stop
+word_lexed w.Mem rest stop = word_at w.Mem rest refl refl refl stop
+word_lexed w.State rest stop = word_at w.State rest refl refl refl stop
+word_lexed w.Dynamic rest stop = word_at w.Dynamic rest refl refl refl stop
+word_lexed w.Enforced rest stop = word_at w.Enforced rest refl refl refl stop
+word_lexed w.Under rest stop = word_at w.Under rest refl refl refl stop
+word_lexed w.If rest stop = word_at w.If rest refl refl refl stop
+word_lexed w.Else rest stop = word_at w.Else rest refl refl refl stop
+word_lexed w.Goto rest stop = word_at w.Goto rest refl refl refl stop
+word_lexed w.Fall rest stop = word_at w.Fall rest refl refl refl stop
+word_lexed w.SetTag rest stop = word_at w.SetTag rest refl refl refl stop
+word_lexed w.Otherwise rest stop = word_at w.Otherwise rest refl refl refl stop
+word_lexed w.Tag rest stop = word_at w.Tag rest refl refl refl stop
+word_lexed w.Level rest stop = word_at w.Level rest refl refl refl stop
+word_lexed w.Join rest stop = word_at w.Join rest refl refl refl stop
+word_lexed w.Zext rest stop = word_at w.Zext rest refl refl refl stop
+
+-- one test that failed, and the others
+found_step : {X : Type 0} (b : Bool) (y : X) (any : Bool) (found : Option X) → (b || any) ≡ false → (any ≡ false → found ≡ None) → cond b (Some y) found ≡ None
+found_step true y any found h ih = absurd (cc)
+found_step false y any found h ih = ih h
+
+none_found : {X : Type 0} (p : X → Bool) (xs : List X) → list_any p xs ≡ false → find p xs ≡ None
+none_found p [] e = refl
+none_found p (y ∷ ys) e = found_step (p y) y (list_any p ys) (find p ys) e (λ h. none_found p ys h)
+
+no_word : (n : List ℕ) → is_keyword n ≡ false → word_of n ≡ None
+no_word n h = none_found (λ word. bytes_eq n (word_text word)) words h
+
+from_not : (b : Bool) → not b ≡ true → b ≡ false
+from_not true h = absurd (cc)
+from_not false h = refl
+
+initial_inner : (b : ℕ) → is_initial b ≡ true → is_inner b ≡ true
+initial_inner b h = grind (arith, nat_tests)
+
+name_lexed : (n rest : List ℕ) → is_name n ≡ true → clings (slice_index rest 0) ≡ false → lexeme_of (n ++ rest) ≡ l.Token (k.Name n) (length n)
+unfolding is_name
+name_lexed n rest h stop = by_list n f.0 (from_not (is_keyword n) f.1) where
+  f : (is_word n ≡ true) × (not (is_keyword n) ≡ true)
+  f = both (is_word n) (not (is_keyword n)) (both (is_word n && not (is_keyword n)) (nat_le (length n) most_name_bytes) h).0
+
+  by_list : (m : List ℕ) → is_word m ≡ true → is_keyword m ≡ false → lexeme_of (m ++ rest) ≡ l.Token (k.Name m) (length m)
+  by_list [] p q = absurd (cc)
+  by_list (b ∷ bs) p q =
+      let g = both (is_initial b) (list_all is_inner bs) p in
+      name_taken b bs rest g.0 (and_true (is_inner b) (list_all is_inner bs) (initial_inner b g.0) g.1) (stops_run (slice_index rest 0) stop).inner
+      ∙ ap (λ o. word_or_name o (b ∷ bs) (length (b ∷ bs))) (no_word (b ∷ bs) q)
+
+-- numbers
+
+record IsDigits (ds : List ℕ) : Type 0 where
+  first : ℕ
+  others : List ℕ
+  parts : ds ≡ first ∷ others
+  all : list_all is_ascii_digit ds ≡ true
+
+digits_taken : (ds rest : List ℕ) → IsDigits ds → lexeme_of (ds ++ rest) ≡ number_at (ds ++ rest)
+unfolding lexeme_of
+digits_taken ds rest h =
+    let all : list_all is_ascii_digit (h.first ∷ h.others) ≡ true = ap (list_all is_ascii_digit) (sym h.parts) ∙ h.all in
+    let start = (both (is_ascii_digit h.first) (list_all is_ascii_digit h.others) all).0 in
+    let f = digit_start h.first start in
+    let whole = (h.first ∷ h.others) ++ rest in
+    ap (λ x. lexeme_of (x ++ rest)) h.parts
+    ∙ fourth (is_blank h.first) (is_comment whole) (is_initial h.first) (is_ascii_digit h.first) _ _ _ _ _ f.white (and_false (h.first == 47) _ f.slash) f.name start
+    ∙ ap (λ x. number_at (x ++ rest)) (sym h.parts)
+
+own : IsNumeralModel (λ ds. list_all is_ascii_digit ds ≡ true) (digits_value 10)
+own = numerals_by_value _ (search rules)
+
+decimal_digits : (n : ℕ) → n < 2 ^ 64 → IsDigits (decimal n)
+decimal_digits n h = by_list (decimal n) (decimal_nonempty n h) (digits_decimal own n h) where
+  by_list : (ds : List ℕ) → 0 < length ds → list_all is_ascii_digit ds ≡ true → IsDigits ds
+  by_list [] p q = absurd (omega arith)
+  by_list (d ∷ ds) p q = record { first = d; others = ds; parts = refl; all = q }
+
+same_value : (n : ℕ) (ds : List ℕ) → value_after 10 n ds ≡ digits_value_after 10 n ds
+same_value n [] = refl
+same_value n (d ∷ ds) = same_value (n * 10 + digit_value d) ds
+
+below : (n : ℕ) → is_number n ≡ true → n < 2 ^ 64
+below n h = grind (arith, nat_tests)
+
+number_is : (n : ℕ) → is_number n ≡ true → number_of 10 (decimal n) ≡ Some n
+number_is n h =
+    let value : value_of 10 (decimal n) ≡ n = same_value 0 (decimal n) ∙ digits_value-decimal own n (below n h) in
+    ap (λ v. cond (nat_lt v (2 ^ 64)) (Some v) None) value ∙ ap (λ b. cond b (Some n) None) h
+
+number_lexed : (n : ℕ) (rest : List ℕ) → is_number n ≡ true → clings (slice_index rest 0) ≡ false
+    → lexeme_of (decimal n ++ rest) ≡ l.Token (k.Number n) (length (decimal n))
+unfolding number_at
+number_lexed n rest h stop =
+    let ds = decimal n in
+    let whole = ds ++ rest in
+    let len = length ds in
+    let f = stops_run (slice_index rest 0) stop in
+    let digits = decimal_digits n (below n h) in
+    digits_taken ds rest digits
+    ∙ ap (λ m. cond (slice_index whole m == 39) (sized_at m whole) (number_lexeme (number_of 10 (take m whole)) (clings (slice_index whole m)) m))
+    (run_of is_ascii_digit ds rest digits.all f.digit)
+    ∙ ap (λ b. cond (b == 39) (sized_at len whole) (number_lexeme (number_of 10 (take len whole)) (clings b) len)) (byte_after ds rest)
+    ∙ ap (λ t. cond t (sized_at len whole) (number_lexeme (number_of 10 (take len whole)) (clings (slice_index rest 0)) len)) f.quote
+    ∙ ap (λ x. number_lexeme (number_of 10 x) (clings (slice_index rest 0)) len) (front_part ds rest)
+    ∙ ap (λ x. number_lexeme x (clings (slice_index rest 0)) len) (number_is n h)
+    ∙ ap (λ t. number_lexeme (Some n) t len) stop
+
+-- numbers with a width
+
+next_byte : (a : List ℕ) (x y : ℕ) (b : List ℕ) → slice_index (a ++ (x ∷ y ∷ b)) (length a + 1) ≡ y
+next_byte a x y b = grind (arith, common_steps)
+
+behind_two : (a : List ℕ) (x y : ℕ) (b : List ℕ) → drop (length a + 2) (a ++ (x ∷ y ∷ b)) ≡ b
+behind_two [] x y b = refl
+behind_two (z ∷ a) x y b = let e : length (z ∷ a) + 2 ≡ suc (length a + 2) = omega arith in ap (λ n. drop n (z ∷ (a ++ (x ∷ y ∷ b)))) e ∙ behind_two a x y b
+
+byte_behind : (a : List ℕ) (x y : ℕ) (b d : List ℕ) → slice_index (a ++ (x ∷ y ∷ (b ++ d))) (length a + 2 + length b) ≡ slice_index d 0
+byte_behind a x y b d =
+    let e : length a + 2 + length b ≡ length (a ++ (x ∷ y ∷ b)) = length_is a x y b in
+    ap (λ n. slice_index (a ++ (x ∷ y ∷ (b ++ d))) n) e ∙ ap (λ z. slice_index z (length (a ++ (x ∷ y ∷ b)))) (sym (append_assoc a (x ∷ y ∷ b) d)) ∙ byte_after (a ++ (x ∷ y ∷ b)) d
+  where
+    length_is : (a : List ℕ) (x y : ℕ) (b : List ℕ) → length a + 2 + length b ≡ length (a ++ (x ∷ y ∷ b))
+    length_is a x y b = simp length-append (omega arith)
+
+length_of : (a b : List ℕ) → length a + 2 + length b ≡ length (a ++ (39 ∷ 100 ∷ b))
+length_of a b = simp length-append (omega arith)
+
+some_length : (n : ℕ) → 0 < n → (n == 0) ≡ false
+some_length n h = grind (arith, nat_tests)
+
+sized_lexed : (width n : ℕ) (rest : List ℕ) → is_number width ≡ true → is_number n ≡ true → clings (slice_index rest 0) ≡ false
+    → lexeme_of ((decimal width ++ (39 ∷ 100 ∷ decimal n)) ++ rest) ≡ l.Token (k.Sized width n) (length (decimal width ++ (39 ∷ 100 ∷ decimal n)))
+unfolding number_at sized_at sized_in
+sized_lexed width n rest h g stop =
+    let ds = decimal width in
+    let vs = decimal n in
+    let after = 39 ∷ 100 ∷ (vs ++ rest) in
+    let whole = ds ++ after in
+    let len = length ds in
+    let more = length vs in
+    let f = stops_run (slice_index rest 0) stop in
+    let digits = decimal_digits width (below width h) in
+    let others = decimal_digits n (below n g) in
+    ap lexeme_of (append_assoc ds (39 ∷ 100 ∷ vs) rest)
+    ∙ digits_taken ds after digits
+    ∙ ap (λ m. cond (slice_index whole m == 39) (sized_at m whole) (number_lexeme (number_of 10 (take m whole)) (clings (slice_index whole m)) m))
+    (run_of is_ascii_digit ds after digits.all refl)
+    ∙ ap (λ b. cond (b == 39) (sized_at len whole) (number_lexeme (number_of 10 (take len whole)) (clings b) len)) (byte_after ds after)
+    ∙ ap (λ b. cond (b == 100) (sized_in c.Decimal 10 len whole) (cond (b == 104) (sized_in c.Hexadecimal 16 len whole) l.Bad)) (next_byte ds 39 100 (vs ++ rest))
+    ∙ ap (λ z. cond (prefix_len is_ascii_digit z == 0) l.Bad (sized_lexeme (number_of 10 (take len whole)) (number_of 10 (take (prefix_len is_ascii_digit z) z))
+    (clings (slice_index whole (len + 2 + prefix_len is_ascii_digit z))) (len + 2 + prefix_len is_ascii_digit z))) (behind_two ds 39 100 (vs ++ rest))
+    ∙ ap (λ m. cond (m == 0) l.Bad (sized_lexeme (number_of 10 (take len whole)) (number_of 10 (take m (vs ++ rest))) (clings (slice_index whole (len + 2 + m))) (len + 2 + m)))
+    (run_of is_ascii_digit vs rest others.all f.digit)
+    ∙ ap (λ t. cond t l.Bad (sized_lexeme (number_of 10 (take len whole)) (number_of 10 (take more (vs ++ rest))) (clings (slice_index whole (len + 2 + more))) (len + 2 + more)))
+    (some_length more (decimal_nonempty n (below n g)))
+    ∙ ap (λ x. sized_lexeme (number_of 10 x) (number_of 10 (take more (vs ++ rest))) (clings (slice_index whole (len + 2 + more))) (len + 2 + more)) (front_part ds after)
+    ∙ ap (λ x. sized_lexeme x (number_of 10 (take more (vs ++ rest))) (clings (slice_index whole (len + 2 + more))) (len + 2 + more)) (number_is width h)
+    ∙ ap (λ x. sized_lexeme (Some width) (number_of 10 x) (clings (slice_index whole (len + 2 + more))) (len + 2 + more)) (front_part vs rest)
+    ∙ ap (λ x. sized_lexeme (Some width) x (clings (slice_index whole (len + 2 + more))) (len + 2 + more)) (number_is n g)
+    ∙ ap (λ b. sized_lexeme (Some width) (Some n) (clings b) (len + 2 + more)) (byte_behind ds 39 100 vs rest)
+    ∙ ap (λ t. sized_lexeme (Some width) (Some n) t (len + 2 + more)) stop
+    ∙ ap (λ m. l.Token (k.Sized width n) m) (length_of ds vs)
+
+-- signs
+
+abbrev pub clings_to : Sign → ℕ → Bool
+clings_to s.Colon b = b == 61
+clings_to s.Is b = b == 61
+clings_to s.Less b = b == 61 || b == 60
+clings_to x b = false
+
+not_either : (b : ℕ) → (b == 61 || b == 60) ≡ false → ((b == 61) ≡ false) × ((b == 60) ≡ false)
+not_either b h = (grind (arith, nat_tests), grind (arith, nat_tests))
+
+sign_lexed : (x : Sign) (rest : List ℕ) → clings_to x (slice_index rest 0) ≡ false → lexeme_of (sign_text x ++ rest) ≡ l.Token (k.Sign x) (length (sign_text x))
+unfolding lexeme_of sign_at
+sign_lexed s.Colon [] stop = refl
+sign_lexed s.Colon (b ∷ rest) stop = ap (λ t. sign_or (cond (t && true) (Some s.Becomes) None) 2 (l.Token (k.Sign s.Colon) 1)) stop
+sign_lexed s.Is [] stop = refl
+sign_lexed s.Is (b ∷ rest) stop = ap (λ t. sign_or (cond (t && true) (Some s.Equal) None) 2 (l.Token (k.Sign s.Is) 1)) stop
+sign_lexed s.Less [] stop = refl
+sign_lexed s.Less (b ∷ rest) stop =
+    let f = not_either b stop in
+    ap (λ t. sign_or (cond (t && true) (Some s.LessOrEqual) (cond ((b == 60) && true) (Some s.ShiftLeft) None)) 2 (l.Token (k.Sign s.Less) 1)) f.0
+    ∙ ap (λ t. sign_or (cond (t && true) (Some s.ShiftLeft) None) 2 (l.Token (k.Sign s.Less) 1)) f.1
+sign_lexed _ [] stop = refl
+sign_lexed _ (b ∷ rest) stop = refl
+
+-- what stands behind a piece
+
+first_digit : (ds rest : List ℕ) → IsDigits ds → is_ascii_digit (slice_index (ds ++ rest) 0) ≡ true
+first_digit ds rest h =
+    let all : list_all is_ascii_digit (h.first ∷ h.others) ≡ true = ap (list_all is_ascii_digit) (sym h.parts) ∙ h.all in
+    ap (λ x. is_ascii_digit (slice_index (x ++ rest) 0)) h.parts ∙ (both (is_ascii_digit h.first) (list_all is_ascii_digit h.others) all).0
+
+no_sign_byte : (b : ℕ) → is_ascii_digit b ≡ true → (b == 61 || b == 60) ≡ false
+no_sign_byte b h = grind (arith, nat_tests)
+
+first_of_sign : (x : Sign) (rest : List ℕ) → clings (slice_index (sign_text x ++ rest) 0) ≡ false
+first_of_sign s.OpenParen rest = refl
+first_of_sign _ rest = refl
+
+behind_run : (ps : List Piece) → ends_run ps ≡ true → clings (slice_index (bytes_of ps) 0) ≡ false
+behind_run [] h = refl
+behind_run (space ∷ ps) h = refl
+behind_run (line ∷ ps) h = refl
+behind_run (token role (k.Sign x) ∷ ps) h = first_of_sign x (bytes_of ps)
+behind_run (token role (k.Word x) ∷ ps) h = absurd (cc)
+behind_run (token role (k.Name n) ∷ ps) h = absurd (cc)
+behind_run (token role (k.Number n) ∷ ps) h = absurd (cc)
+behind_run (token role (k.Sized width n) ∷ ps) h = absurd (cc)
+
+behind_sign : (ps : List Piece) → ends_sign ps ≡ true → apart ps ≡ true → (slice_index (bytes_of ps) 0 == 61 || slice_index (bytes_of ps) 0 == 60) ≡ false
+behind_sign [] h a = refl
+behind_sign (space ∷ ps) h a = refl
+behind_sign (line ∷ ps) h a = refl
+behind_sign (token role (k.Number n) ∷ ps) h a =
+    let f = both (is_number n) (follows (k.Number n) ps && apart ps) a in
+    no_sign_byte (slice_index (decimal n ++ bytes_of ps) 0) (first_digit (decimal n) (bytes_of ps) (decimal_digits n (below n f.0)))
+behind_sign (token role (k.Sign x) ∷ ps) h a = absurd (cc)
+behind_sign (token role (k.Word x) ∷ ps) h a = absurd (cc)
+behind_sign (token role (k.Name n) ∷ ps) h a = absurd (cc)
+behind_sign (token role (k.Sized width n) ∷ ps) h a = absurd (cc)
+
+sign_behind : (x : Sign) (ps : List Piece) → follows (k.Sign x) ps ≡ true → apart ps ≡ true → clings_to x (slice_index (bytes_of ps) 0) ≡ false
+sign_behind s.Colon ps h a = (not_either (slice_index (bytes_of ps) 0) (behind_sign ps h a)).0
+sign_behind s.Is ps h a = (not_either (slice_index (bytes_of ps) 0) (behind_sign ps h a)).0
+sign_behind s.Less ps h a = behind_sign ps h a
+sign_behind _ ps h a = refl
+
+pub piece_lexed : (x : Kind) (ps : List Piece) → is_spelled x ≡ true → follows x ps ≡ true → apart ps ≡ true
+    → lexeme_of (kind_bytes x ++ bytes_of ps) ≡ l.Token x (length (kind_bytes x))
+piece_lexed (k.Word x) ps h e a = word_lexed x (bytes_of ps) (behind_run ps e)
+piece_lexed (k.Sign x) ps h e a = sign_lexed x (bytes_of ps) (sign_behind x ps e a)
+piece_lexed (k.Name n) ps h e a = name_lexed n (bytes_of ps) h (behind_run ps e)
+piece_lexed (k.Number n) ps h e a = number_lexed n (bytes_of ps) h (behind_run ps e)
+piece_lexed (k.Sized width n) ps h e a = let f = both (is_number width) (is_number n) h in sized_lexed width n (bytes_of ps) f.0 f.1 (behind_run ps e)

@@ -1,0 +1,12 @@
+pub mod Lexed
+pub mod PieceTexts
+pub mod Pieces
+pub mod PlacesAside
+pub mod ReadBack
+pub mod ReadDesign
+pub mod Shown
+pub mod Spaced
+pub mod Texts
+pub mod Weights
+pub mod Within
+pub mod WithinDesign

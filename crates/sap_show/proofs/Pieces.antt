@@ -1,0 +1,189 @@
+-- The pieces of a canonical text: tokens with their roles, and the blanks between them. The pieces of each construct stand in front of those that follow.
+use Rattle.std.proofs.Common.{ℕ, zero, suc, ◌+◌, List, [], ◌∷◌, ◌++◌, Bool, true, false, Option, Some, None}
+use Rattle.std.specs.Prelude.{codes, decimal, nat_lt, flat_map}
+use Rattle.sap_parse.specs.Grammar.{sign_of, unary_sign_of}
+use Rattle.sap_parse.specs.Spelling.{word_text, sign_text}
+use Rattle.sap_parse.specs.declared.limit.Role.TheVariants as r
+use Rattle.sap_parse.specs.declared.limit.Role.{Role}
+use Rattle.sap_parse.specs.declared.token.Kind.TheVariants as k
+use Rattle.sap_parse.specs.declared.token.Kind.{Kind}
+use Rattle.sap_parse.specs.declared.token.Sign.TheVariants as s
+use Rattle.sap_parse.specs.declared.token.Sign.{Sign}
+use Rattle.sap_parse.specs.declared.token.Word.TheVariants as w
+use Rattle.sap_parse.specs.declared.token.Word.{Word}
+use Rattle.sap_tree.specs.Precedence.{precedence, unary_precedence, slice_precedence, precedence_of}
+use Rattle.sap_tree.specs.Syntax.{Expression, Expressions, Number, Sized, Read, Cell, Unary, Binary, Choose, Slice, Concat, Zext, NoPart, AndPart, TagExpression, TagExpressions, Level, TagOf, LevelAt, Join, NoTag, AndTag, SimpleCommand, Assign, Write, SetTag, SetCellTag, Goto, Fall, Command, Do, Try, If, CommandBlock, Commands, ElseBlock, NoElse, Else, CommandList, NoCommand, AndCommand, StateTree, StateOf, StateList, NoState, AndState, DesignTree}
+use Rattle.sap_tree.specs.declared.syntax.Decl.TheVariants as d
+use Rattle.sap_tree.specs.declared.syntax.Decl.{Decl}
+use Rattle.sap_tree.specs.declared.syntax.Kind.TheVariants as how
+use Rattle.sap_tree.specs.declared.syntax.Kind.{Kind as KindTree}
+use Rattle.sap_tree.specs.declared.syntax.Numeral.{Numeral}
+use Rattle.sap_tree.specs.declared.syntax.Under.{Under}
+
+pub data Piece : Type 0 where
+  space line : Piece
+  token : Role → Kind → Piece
+
+abbrev pub kind_bytes : Kind → List ℕ
+kind_bytes (k.Word x) = word_text x
+kind_bytes (k.Sign x) = sign_text x
+kind_bytes (k.Name n) = n
+kind_bytes (k.Number n) = decimal n
+kind_bytes (k.Sized width n) = decimal width ++ (codes "'d" ++ decimal n)
+
+abbrev pub piece_bytes : Piece → List ℕ
+piece_bytes space = 32 ∷ []
+piece_bytes line = 10 ∷ []
+piece_bytes (token role kind) = kind_bytes kind
+
+abbrev pub bytes_of : List Piece → List ℕ
+bytes_of ps = flat_map piece_bytes ps
+
+abbrev pub sign : Role → Sign → Piece
+sign role x = token role (k.Sign x)
+
+abbrev pub word : Role → Word → Piece
+word role x = token role (k.Word x)
+
+abbrev pub name : Role → List ℕ → Piece
+name role n = token role (k.Name n)
+
+abbrev pub number : Role → ℕ → Piece
+number role n = token role (k.Number n)
+
+-- expressions
+
+abbrev pub wrapped : Bool → (List Piece → List Piece) → List Piece → List Piece
+wrapped true inner rest = sign r.Opening s.OpenParen ∷ inner (sign r.Closing s.CloseParen ∷ rest)
+wrapped false inner rest = inner rest
+
+abbrev pub bounds : ℕ → ℕ → List Piece → List Piece
+bounds high low rest = sign r.Opening s.OpenBracket ∷ number r.Inner high ∷ sign r.Inner s.Colon ∷ number r.Inner low ∷ sign r.Closing s.CloseBracket ∷ rest
+
+abbrev mutual
+  pub expression : Expression → List Piece → List Piece
+  expression (Number spot n) rest = number r.Inner n ∷ rest
+  expression (Sized spot width n) rest = token r.Inner (k.Sized width n) ∷ rest
+  expression (Read spot n) rest = name r.Inner n ∷ rest
+  expression (Cell spot n i) rest = name r.Inner n ∷ sign r.Opening s.OpenBracket ∷ expression i (sign r.Closing s.CloseBracket ∷ rest)
+  expression (Unary spot o x) rest = sign r.Inner (unary_sign_of o) ∷ wrapped (nat_lt (precedence_of x) unary_precedence) (λ ps. expression x ps) rest
+  expression (Binary spot o x y) rest =
+      wrapped (nat_lt (precedence_of x) (precedence o)) (λ ps. expression x ps)
+      (space ∷ sign r.Inner (sign_of o) ∷ space ∷ wrapped (nat_lt (precedence_of y) (precedence o + 1)) (λ ps. expression y ps) rest)
+  expression (Choose spot x y z) rest =
+      wrapped (nat_lt (precedence_of x) 1) (λ ps. expression x ps)
+      (space ∷ sign r.Inner s.Question ∷ space ∷ expression y (space ∷ sign r.Inner s.Colon ∷ space ∷ expression z rest))
+  expression (Slice spot x high low) rest = wrapped (nat_lt (precedence_of x) slice_precedence) (λ ps. expression x ps) (bounds high low rest)
+  expression (Concat spot xs) rest = sign r.Opening s.OpenBrace ∷ parts xs (sign r.Closing s.CloseBrace ∷ rest)
+  expression (Zext spot x width) rest =
+      word r.Inner w.Zext ∷ sign r.Opening s.OpenParen
+      ∷ expression x (sign r.Inner s.Comma ∷ space ∷ number r.Inner width ∷ sign r.Closing s.CloseParen ∷ rest)
+
+  pub parts : Expressions → List Piece → List Piece
+  parts NoPart rest = rest
+  parts (AndPart x xs) rest = expression x (more_parts xs rest)
+
+  pub more_parts : Expressions → List Piece → List Piece
+  more_parts NoPart rest = rest
+  more_parts (AndPart x xs) rest = sign r.Inner s.Comma ∷ space ∷ expression x (more_parts xs rest)
+
+abbrev mutual
+  pub tag : TagExpression → List Piece → List Piece
+  tag (Level n) rest = name r.Inner n.name ∷ rest
+  tag (TagOf place x) rest = word r.Inner w.Tag ∷ sign r.Opening s.OpenParen ∷ expression x (sign r.Closing s.CloseParen ∷ rest)
+  tag (LevelAt place x) rest = word r.Inner w.Level ∷ sign r.Opening s.OpenParen ∷ expression x (sign r.Closing s.CloseParen ∷ rest)
+  tag (Join place xs) rest = word r.Inner w.Join ∷ sign r.Opening s.OpenParen ∷ tags xs (sign r.Closing s.CloseParen ∷ rest)
+
+  pub tags : TagExpressions → List Piece → List Piece
+  tags NoTag rest = rest
+  tags (AndTag x xs) rest = tag x (more_tags xs rest)
+
+  pub more_tags : TagExpressions → List Piece → List Piece
+  more_tags NoTag rest = rest
+  more_tags (AndTag x xs) rest = sign r.Inner s.Comma ∷ space ∷ tag x (more_tags xs rest)
+
+-- commands, at a level of indentation and at a depth
+
+abbrev pub cell : Role → List ℕ → Expression → List Piece → List Piece
+cell role n i rest = name role n ∷ sign r.Plain s.OpenBracket ∷ expression i (sign r.Plain s.CloseBracket ∷ rest)
+
+abbrev pub simple : ℕ → SimpleCommand → List Piece → List Piece
+simple depth (Assign n x) rest = name (r.Command depth) n.name ∷ space ∷ sign r.Plain s.Becomes ∷ space ∷ expression x rest
+simple depth (Write n i x) rest = cell (r.Command depth) n.name i (space ∷ sign r.Plain s.Becomes ∷ space ∷ expression x rest)
+simple depth (SetTag place n x) rest =
+    word (r.Command depth) w.SetTag ∷ sign r.Plain s.OpenParen ∷ name r.Plain n.name ∷ sign r.Plain s.Comma ∷ space ∷ tag x (sign r.Plain s.CloseParen ∷ rest)
+simple depth (SetCellTag place n i x) rest =
+    word (r.Command depth) w.SetTag ∷ sign r.Plain s.OpenParen ∷ cell r.Plain n.name i (sign r.Plain s.Comma ∷ space ∷ tag x (sign r.Plain s.CloseParen ∷ rest))
+simple depth (Goto place n) rest = word (r.Command depth) w.Goto ∷ space ∷ name r.Plain n.name ∷ rest
+simple depth (Fall place) rest = word (r.Command depth) w.Fall ∷ rest
+
+abbrev pub margin : ℕ → List Piece → List Piece
+margin zero rest = rest
+margin (suc level) rest = space ∷ space ∷ margin level rest
+
+abbrev mutual
+  pub command : Command → ℕ → ℕ → List Piece → List Piece
+  command (Do c) level depth rest = margin level (simple depth c (sign r.Plain s.Semicolon ∷ line ∷ rest))
+  command (Try c place handler) level depth rest = margin level (simple depth c (space ∷ word r.Plain w.Otherwise ∷ block handler level depth (line ∷ rest)))
+  command (If place x one other) level depth rest =
+      margin level (word (r.Command depth) w.If ∷ space ∷ sign r.Plain s.OpenParen
+      ∷ expression x (sign r.Plain s.CloseParen ∷ block one level depth (else_part other level depth (line ∷ rest))))
+
+  pub block : CommandBlock → ℕ → ℕ → List Piece → List Piece
+  block (Commands cs after) level depth rest =
+      space ∷ sign r.Plain s.OpenBrace ∷ line ∷ commands cs (suc level) (depth + 1) (margin level (sign r.Plain s.CloseBrace ∷ rest))
+
+  pub else_part : ElseBlock → ℕ → ℕ → List Piece → List Piece
+  else_part NoElse level depth rest = rest
+  else_part (Else b) level depth rest = space ∷ word r.Plain w.Else ∷ block b level depth rest
+
+  pub commands : CommandList → ℕ → ℕ → List Piece → List Piece
+  commands NoCommand level depth rest = rest
+  commands (AndCommand c cs) level depth rest = command c level depth (commands cs level depth rest)
+
+-- declarations
+
+abbrev pub authority : Option Under → List Piece → List Piece
+authority None rest = rest
+authority (Some under) rest = space ∷ word r.Plain w.Under ∷ space ∷ name r.Plain under.level.name ∷ rest
+
+abbrev pub kind : KindTree → List Piece → List Piece
+kind (how.Dynamic place) rest = word r.Plain w.Dynamic ∷ rest
+kind (how.Enforced n under) rest = word r.Plain w.Enforced ∷ space ∷ name r.Plain n.name ∷ authority under rest
+
+abbrev pub start : Option Numeral → List Piece → List Piece
+start None rest = rest
+start (Some n) rest = space ∷ sign r.Plain s.Is ∷ space ∷ number r.Plain n.value ∷ rest
+
+abbrev pub declared : Role → Word → List ℕ → ℕ → List Piece → List Piece
+declared role x n width rest = word role x ∷ space ∷ name r.Plain n ∷ space ∷ sign r.Plain s.Colon ∷ space ∷ number r.Plain width ∷ rest
+
+abbrev pub declaration : Decl → List Piece → List Piece
+declaration (d.Input place n width) rest = declared r.Input w.Input n.name width.value (sign r.Plain s.Semicolon ∷ line ∷ rest)
+declaration (d.Register place n width x initial) rest =
+    declared r.Register w.Reg n.name width.value (space ∷ kind x (start initial (sign r.Plain s.Semicolon ∷ line ∷ rest)))
+declaration (d.Memory place n width depth x) rest =
+    declared r.Memory w.Mem n.name width.value
+    (sign r.Plain s.OpenBracket ∷ number r.Plain depth.value ∷ sign r.Plain s.CloseBracket ∷ space ∷ kind x (sign r.Plain s.Semicolon ∷ line ∷ rest))
+
+abbrev pub declarations : List Decl → List Piece → List Piece
+declarations [] rest = rest
+declarations (x ∷ xs) rest = declaration x (declarations xs rest)
+
+-- states
+
+abbrev pub body : CommandBlock → ℕ → List Piece → List Piece
+body (Commands cs after) level rest = commands cs level 1 rest
+
+abbrev mutual
+  pub state : StateTree → ℕ → ℕ → List Piece → List Piece
+  state (StateOf place n x inner children) level depth rest =
+      margin level (word (r.State depth) w.State ∷ space ∷ name r.Plain n.name ∷ space ∷ kind x (space ∷ sign r.Plain s.OpenBrace ∷ line
+      ∷ body inner (suc level) (states children (suc level) (depth + 1) (margin level (sign r.Plain s.CloseBrace ∷ line ∷ rest)))))
+
+  pub states : StateList → ℕ → ℕ → List Piece → List Piece
+  states NoState level depth rest = rest
+  states (AndState x xs) level depth rest = state x level depth (states xs level depth rest)
+
+abbrev pub design : DesignTree → List Piece
+design x = declarations x.declarations (states x.states 0 1 [])

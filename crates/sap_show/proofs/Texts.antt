@@ -1,0 +1,355 @@
+-- The text of each construct, from left to right.
+use Rattle.std.proofs.Common.{◌≡◌, ℕ, zero, suc, ◌+◌, ◌-◌, ◌<◌, ◌≤◌, List, [], ◌∷◌, ◌++◌, length, get_or, drop, take, refl, sym, ap, ◌∙◌, arith, add-one, append_assoc, Some, None, if◌then◌else◌, Result, Ok, Err, OnOk, true, false, cond, Bool}
+use Rattle.std.proofs.lemmas.Bool.Decides.{nat_tests}
+use Rattle.std.proofs.lemmas.Grind.{common_steps}
+use Rattle.std.proofs.lemmas.Fmt.{decimal_digit, decimal_step}
+use Rattle.std.specs.Prelude.{codes, decimal, nat_lt, is_ok, flat_map, ◌/◌, ◌%◌, ◌^◌}
+use Rattle.sap_show.specs.Canonical.{unary_text, binary_text, operand_text, bounds_text, expression_text, parts_text, more_parts_text, tag_text, tags_text, more_tags_text, cell_text, simple_text, command_text, block_text, else_text, declaration_text, head_text, state_text, canonical_text}
+use Rattle.sap_show.specs.Lists.{list_text, group_text}
+use Rattle.sap_tree.specs.Parts.{tree_of}
+use Rattle.sap_tree.specs.declared.syntax.Decl.{Decl}
+use Rattle.sap_tree.specs.Precedence.{precedence, unary_precedence, slice_precedence, precedence_of}
+use Rattle.sap_tree.specs.Syntax
+use Rattle.sap_tree.specs.Syntax.{Expression, Expressions, TagExpression, TagExpressions, StateTree}
+use Rattle.sap_tree.specs.Trees.{expression_of, expressions_of, tag_of, tags_of, command_of, block_of, else_of, state_of}
+use Rattle.sap_tree.specs.declared.name.Mention.{Mention}
+use Rattle.sap_tree.specs.declared.place.Place.{Place}
+use Rattle.sap_tree.specs.declared.place.Spot.{Spot}
+use Rattle.sap_tree.specs.declared.syntax.BinaryOperator.{BinaryOperator}
+use Rattle.sap_tree.specs.declared.syntax.UnaryOperator.{UnaryOperator}
+use Rattle.sap_tree.specs.declared.syntax.Block.{Block}
+use Rattle.sap_tree.specs.declared.syntax.Cmd.{Cmd}
+use Rattle.sap_tree.specs.declared.syntax.Expr.{Expr}
+use Rattle.sap_tree.specs.declared.syntax.State.{State, out-State}
+use Rattle.sap_tree.specs.declared.syntax.TagExpr.{TagExpr}
+use Rattle.sap_tree.proofs.Views.{state_of-out}
+
+-- digits
+
+pub one_digit : (out old : List ℕ) (n d : ℕ) → n < 10 → out ≡ old ++ (d ∷ []) → d ≡ 48 + n → out ≡ old ++ decimal n
+one_digit out old n d h e f = e ∙ ap (λ x. old ++ (x ∷ [])) f ∙ ap (λ z. old ++ z) (sym (decimal_digit n h))
+
+pub more_digits : (out mid old : List ℕ) (n d : ℕ) → 10 ≤ n → n < 2 ^ 64 → mid ≡ old ++ decimal (n / 10) → out ≡ mid ++ (d ∷ []) → d ≡ 48 + n % 10 → out ≡ old ++ decimal n
+more_digits out mid old n d h small e f g =
+    f ∙ ap (λ z. z ++ (d ∷ [])) e ∙ append_assoc old (decimal (n / 10)) (d ∷ []) ∙ ap (λ x. old ++ (decimal (n / 10) ++ (x ∷ []))) g
+    ∙ ap (λ z. old ++ z) (sym (decimal_step n h small))
+
+-- operands
+
+pub operand_closed : (asked : ℕ) (x : Expression) (text : List ℕ) → precedence_of x < asked → operand_text asked x text ≡ codes "(" ++ (text ++ codes ")")
+unfolding operand_text
+operand_closed asked x text h = let e : nat_lt (precedence_of x) asked ≡ true = grind (arith, nat_tests) in ap (λ b. cond b (codes "(" ++ (text ++ codes ")")) text) e
+
+pub operand_bare : (asked : ℕ) (x : Expression) (text : List ℕ) → asked ≤ precedence_of x → operand_text asked x text ≡ text
+unfolding operand_text
+operand_bare asked x text h = let e : nat_lt (precedence_of x) asked ≡ false = grind (arith, nat_tests) in ap (λ b. cond b (codes "(" ++ (text ++ codes ")")) text) e
+
+-- expressions
+
+pub text_number : (spot : Spot) (n : ℕ) → expression_text (Syntax.Number spot n) ≡ decimal n
+unfolding expression_text
+text_number spot n = refl
+
+pub text_sized : (spot : Spot) (w n : ℕ) → expression_text (Syntax.Sized spot w n) ≡ decimal w ++ (codes "'d" ++ decimal n)
+unfolding expression_text
+text_sized spot w n = refl
+
+pub text_read : (spot : Spot) (name : List ℕ) → expression_text (Syntax.Read spot name) ≡ name
+unfolding expression_text
+text_read spot name = refl
+
+pub text_cell : (spot : Spot) (name : List ℕ) (i : Expression) → expression_text (Syntax.Cell spot name i) ≡ name ++ (codes "[" ++ (expression_text i ++ codes "]"))
+unfolding expression_text
+text_cell spot name i = refl
+
+pub text_unary : (spot : Spot) (o : UnaryOperator) (x : Expression)
+    → expression_text (Syntax.Unary spot o x) ≡ unary_text o ++ operand_text unary_precedence x (expression_text x)
+unfolding expression_text
+text_unary spot o x = refl
+
+pub text_binary : (spot : Spot) (o : BinaryOperator) (x y : Expression)
+    → expression_text (Syntax.Binary spot o x y)
+    ≡ operand_text (precedence o) x (expression_text x) ++ (binary_text o ++ operand_text (precedence o + 1) y (expression_text y))
+unfolding expression_text
+text_binary spot o x y = refl
+
+pub text_choose : (spot : Spot) (x y z : Expression)
+    → expression_text (Syntax.Choose spot x y z) ≡ operand_text 1 x (expression_text x) ++ (codes " ? " ++ (expression_text y ++ (codes " : " ++ expression_text z)))
+unfolding expression_text
+text_choose spot x y z = refl
+
+pub text_slice : (spot : Spot) (x : Expression) (high low : ℕ)
+    → expression_text (Syntax.Slice spot x high low) ≡ operand_text slice_precedence x (expression_text x) ++ bounds_text high low
+unfolding expression_text
+text_slice spot x high low = refl
+
+pub text_concat : (spot : Spot) (parts : Expressions) → expression_text (Syntax.Concat spot parts) ≡ codes "{" ++ (parts_text parts ++ codes "}")
+unfolding expression_text
+text_concat spot parts = refl
+
+pub text_zext : (spot : Spot) (x : Expression) (w : ℕ)
+    → expression_text (Syntax.Zext spot x w) ≡ codes "zext(" ++ (expression_text x ++ (codes ", " ++ (decimal w ++ codes ")")))
+unfolding expression_text
+text_zext spot x w = refl
+
+-- what is written behind what is there
+
+pub on_ok : {E : Type 0} (r : Result (Unit {0}) E) (P Q : Type 0) → (P → Q) → OnOk r P → OnOk r Q
+on_ok (Ok u) P Q f h = f h
+on_ok (Err e) P Q f h = tt
+
+pub grow_two : (old a new p q all : List ℕ) → a ≡ old ++ p → new ≡ a ++ q → all ≡ p ++ q → new ≡ old ++ all
+grow_two old a new p q all e f g = f ∙ ap (λ z. z ++ q) e ∙ append_assoc old p q ∙ ap (λ z. old ++ z) (sym g)
+
+pub grow_three : (old a b new p q r all : List ℕ) → a ≡ old ++ p → b ≡ a ++ q → new ≡ b ++ r → all ≡ p ++ (q ++ r) → new ≡ old ++ all
+grow_three old a b new p q r all e f h g = grow_two old a new p (q ++ r) all e (grow_two a b new q r (q ++ r) f h refl) g
+
+pub grow_four : (old a b c new p q r s all : List ℕ) → a ≡ old ++ p → b ≡ a ++ q → c ≡ b ++ r → new ≡ c ++ s → all ≡ p ++ (q ++ (r ++ s)) → new ≡ old ++ all
+grow_four old a b c new p q r s all e f h i g = grow_two old a new p (q ++ (r ++ s)) all e (grow_three a b c new q r s (q ++ (r ++ s)) f h i refl) g
+
+pub grow_five : (old a b c d new p q r s t all : List ℕ) → a ≡ old ++ p → b ≡ a ++ q → c ≡ b ++ r → d ≡ c ++ s → new ≡ d ++ t
+    → all ≡ p ++ (q ++ (r ++ (s ++ t))) → new ≡ old ++ all
+grow_five old a b c d new p q r s t all e f h i j g =
+    grow_two old a new p (q ++ (r ++ (s ++ t))) all e (grow_four a b c d new q r s t (q ++ (r ++ (s ++ t))) f h i j refl) g
+
+pub grow_seven : (old a b c d e f new p q r s t u v all : List ℕ) → a ≡ old ++ p → b ≡ a ++ q → c ≡ b ++ r → d ≡ c ++ s → e ≡ d ++ t → f ≡ e ++ u → new ≡ f ++ v
+    → all ≡ p ++ (q ++ (r ++ (s ++ (t ++ (u ++ v))))) → new ≡ old ++ all
+grow_seven old a b c d e f new p q r s t u v all h i j k l m n g =
+    grow_three old a b new p q (r ++ (s ++ (t ++ (u ++ v)))) all h i (grow_five b c d e f new r s t u v (r ++ (s ++ (t ++ (u ++ v)))) j k l m n refl) g
+
+append_none : (l : List ℕ) → l ++ [] ≡ l
+append_none l = grind (arith, common_steps)
+
+pub nothing_more : (old t : List ℕ) → t ≡ [] → old ≡ old ++ t
+nothing_more old t e = sym (append_none old) ∙ ap (λ z. old ++ z) (sym e)
+
+-- what is written last
+pub on_last : {E : Type 0} (r : Result (Unit {0}) E) (new a t x : List ℕ) → new ≡ (if is_ok r then a ++ t else a) → a ++ t ≡ x → OnOk r (new ≡ x)
+on_last (Ok u) new a t x e f = e ∙ f
+on_last (Err e) new a t x p f = tt
+
+-- parts, the first of them in front; a pattern's rest is seen as what is left behind the first
+
+rest_of : {A : Type 0} (x : A) (xs : List A) → take (length (x ∷ xs) - 1) (drop 1 (x ∷ xs)) ≡ xs
+rest_of x xs = grind (arith, common_steps)
+
+pub parts_none : (xs : List Expr) → length xs < 1 → parts_text (expressions_of xs) ≡ []
+unfolding expression_text
+parts_none [] h = refl
+parts_none (x ∷ xs) h = absurd (omega arith)
+
+pub more_parts_none : (xs : List Expr) → length xs < 1 → more_parts_text (expressions_of xs) ≡ []
+unfolding expression_text
+more_parts_none [] h = refl
+more_parts_none (x ∷ xs) h = absurd (omega arith)
+
+pub parts_first : (xs : List Expr) (d : Expr) → 1 ≤ length xs → d ≡ get_or xs 0 d
+    → parts_text (expressions_of xs) ≡ expression_text (expression_of d) ++ more_parts_text (expressions_of (take (length xs - 1) (drop 1 xs)))
+unfolding expression_text
+parts_first [] d h e = absurd (omega arith)
+parts_first (x ∷ xs) d h e =
+    ap (λ (r : List Expr). expression_text (expression_of x) ++ more_parts_text (expressions_of r)) (sym (rest_of x xs))
+    ∙ ap (λ (y : Expr). expression_text (expression_of y) ++ more_parts_text (expressions_of (take (length (x ∷ xs) - 1) (drop 1 (x ∷ xs))))) (sym e)
+
+pub more_parts_first : (xs : List Expr) (d : Expr) → 1 ≤ length xs → d ≡ get_or xs 0 d
+    → more_parts_text (expressions_of xs) ≡ codes ", " ++ (expression_text (expression_of d) ++ more_parts_text (expressions_of (take (length xs - 1) (drop 1 xs))))
+unfolding expression_text
+more_parts_first [] d h e = absurd (omega arith)
+more_parts_first (x ∷ xs) d h e =
+    ap (λ (r : List Expr). codes ", " ++ (expression_text (expression_of x) ++ more_parts_text (expressions_of r))) (sym (rest_of x xs))
+    ∙ ap (λ (y : Expr). codes ", " ++ (expression_text (expression_of y) ++ more_parts_text (expressions_of (take (length (x ∷ xs) - 1) (drop 1 (x ∷ xs)))))) (sym e)
+
+pub tags_none : (xs : List TagExpr) → length xs < 1 → tags_text (tags_of xs) ≡ []
+unfolding tag_text
+tags_none [] h = refl
+tags_none (x ∷ xs) h = absurd (omega arith)
+
+pub more_tags_none : (xs : List TagExpr) → length xs < 1 → more_tags_text (tags_of xs) ≡ []
+unfolding tag_text
+more_tags_none [] h = refl
+more_tags_none (x ∷ xs) h = absurd (omega arith)
+
+pub tags_first : (xs : List TagExpr) (d : TagExpr) → 1 ≤ length xs → d ≡ get_or xs 0 d
+    → tags_text (tags_of xs) ≡ tag_text (tag_of d) ++ more_tags_text (tags_of (take (length xs - 1) (drop 1 xs)))
+unfolding tag_text
+tags_first [] d h e = absurd (omega arith)
+tags_first (x ∷ xs) d h e =
+    ap (λ (r : List TagExpr). tag_text (tag_of x) ++ more_tags_text (tags_of r)) (sym (rest_of x xs))
+    ∙ ap (λ (y : TagExpr). tag_text (tag_of y) ++ more_tags_text (tags_of (take (length (x ∷ xs) - 1) (drop 1 (x ∷ xs))))) (sym e)
+
+pub more_tags_first : (xs : List TagExpr) (d : TagExpr) → 1 ≤ length xs → d ≡ get_or xs 0 d
+    → more_tags_text (tags_of xs) ≡ codes ", " ++ (tag_text (tag_of d) ++ more_tags_text (tags_of (take (length xs - 1) (drop 1 xs))))
+unfolding tag_text
+more_tags_first [] d h e = absurd (omega arith)
+more_tags_first (x ∷ xs) d h e =
+    ap (λ (r : List TagExpr). codes ", " ++ (tag_text (tag_of x) ++ more_tags_text (tags_of r))) (sym (rest_of x xs))
+    ∙ ap (λ (y : TagExpr). codes ", " ++ (tag_text (tag_of y) ++ more_tags_text (tags_of (take (length (x ∷ xs) - 1) (drop 1 (x ∷ xs)))))) (sym e)
+
+-- tag expressions
+
+pub text_level : (level : Mention) → tag_text (Syntax.Level level) ≡ level.name
+unfolding tag_text
+text_level level = refl
+
+pub text_tag_of : (place : Place) (x : Expression) → tag_text (Syntax.TagOf place x) ≡ codes "tag(" ++ (expression_text x ++ codes ")")
+unfolding tag_text
+text_tag_of place x = refl
+
+pub text_level_at : (place : Place) (x : Expression) → tag_text (Syntax.LevelAt place x) ≡ codes "level(" ++ (expression_text x ++ codes ")")
+unfolding tag_text
+text_level_at place x = refl
+
+pub text_join : (place : Place) (parts : TagExpressions) → tag_text (Syntax.Join place parts) ≡ codes "join(" ++ (tags_text parts ++ codes ")")
+unfolding tag_text
+text_join place parts = refl
+
+-- commands
+
+pub text_assign : (name : Mention) (x : Expression) → simple_text (Syntax.Assign name x) ≡ name.name ++ (codes " := " ++ expression_text x)
+unfolding simple_text
+text_assign name x = refl
+
+pub text_write : (name : Mention) (i x : Expression) → simple_text (Syntax.Write name i x) ≡ cell_text name.name i ++ (codes " := " ++ expression_text x)
+unfolding simple_text
+text_write name i x = refl
+
+pub text_set_tag : (place : Place) (name : Mention) (x : TagExpression)
+    → simple_text (Syntax.SetTag place name x) ≡ codes "setTag(" ++ (name.name ++ (codes ", " ++ (tag_text x ++ codes ")")))
+unfolding simple_text
+text_set_tag place name x = refl
+
+pub text_set_cell_tag : (place : Place) (name : Mention) (i : Expression) (x : TagExpression)
+    → simple_text (Syntax.SetCellTag place name i x) ≡ codes "setTag(" ++ (cell_text name.name i ++ (codes ", " ++ (tag_text x ++ codes ")")))
+unfolding simple_text
+text_set_cell_tag place name i x = refl
+
+pub text_goto : (place : Place) (name : Mention) → simple_text (Syntax.Goto place name) ≡ codes "goto " ++ name.name
+unfolding simple_text
+text_goto place name = refl
+
+pub text_fall : (place : Place) → simple_text (Syntax.Fall place) ≡ codes "fall"
+unfolding simple_text
+text_fall place = refl
+
+pub text_do : (margin : List ℕ) (c : Syntax.SimpleCommand) → command_text margin (Syntax.Do c) ≡ margin ++ (simple_text c ++ codes ";\n")
+unfolding command_text
+text_do margin c = refl
+
+pub text_try : (margin : List ℕ) (c : Syntax.SimpleCommand) (place : Place) (handler : Syntax.CommandBlock)
+    → command_text margin (Syntax.Try c place handler) ≡ margin ++ (simple_text c ++ (codes " otherwise" ++ (block_text margin handler ++ codes "\n")))
+unfolding command_text
+text_try margin c place handler = refl
+
+pub text_if : (margin : List ℕ) (place : Place) (x : Expression) (one : Syntax.CommandBlock) (other : Syntax.ElseBlock)
+    → command_text margin (Syntax.If place x one other)
+    ≡ margin ++ (codes "if (" ++ (expression_text x ++ (codes ")" ++ (block_text margin one ++ (else_text margin other ++ codes "\n")))))
+unfolding command_text
+text_if margin place x one other = refl
+
+pub if_grows : (margin : List ℕ) (whole : Syntax.Command) (place : Place) (x : Expression) (one : Syntax.CommandBlock) (other : Syntax.ElseBlock) (old a b c d e f : List ℕ)
+    → whole ≡ Syntax.If place x one other → a ≡ old ++ margin → b ≡ a ++ codes "if (" → c ≡ b ++ expression_text x → d ≡ c ++ codes ")" → e ≡ d ++ block_text margin one
+    → f ≡ e ++ else_text margin other → f ++ codes "\n" ≡ old ++ command_text margin whole
+if_grows margin whole place x one other old a b c d e f w h i j k l m =
+    grow_seven old a b c d e f (f ++ codes "\n") margin (codes "if (") (expression_text x) (codes ")") (block_text margin one) (else_text margin other) (codes "\n") _ h i j k l m refl
+    (ap (command_text margin) w ∙ text_if margin place x one other)
+
+pub text_block : (margin : List ℕ) (b : Block)
+    → block_text margin (block_of b) ≡ codes " {\n" ++ (list_text (margin ++ codes "  ") b.commands.items ++ (margin ++ codes "}"))
+unfolding command_text list_text
+text_block margin b = refl
+
+pub text_no_else : (margin : List ℕ) → else_text margin (else_of None) ≡ []
+unfolding command_text
+text_no_else margin = refl
+
+pub text_else : (margin : List ℕ) (b : Block) → else_text margin (else_of (Some b)) ≡ codes " else" ++ block_text margin (block_of b)
+unfolding command_text
+text_else margin b = refl
+
+-- lists of commands, from a place on
+
+list_text-drop : (margin : List ℕ) (cs : List Cmd) (n : ℕ) (d : Cmd) → n < length cs → d ≡ get_or cs n d
+    → list_text margin (drop n cs) ≡ command_text margin (command_of d) ++ list_text margin (drop (n + 1) cs)
+unfolding list_text command_text
+list_text-drop margin [] n d l e = absurd (omega arith)
+list_text-drop margin (c ∷ cs) zero d l e = ap (λ (x : Cmd). command_text margin (command_of x) ++ list_text margin cs) (sym e)
+list_text-drop margin (c ∷ cs) (suc n) d l e = let r = list_text-drop margin cs n d (omega arith) e in simp (add-one) (simp (add-one) at r)
+
+pub list_text-past : (margin : List ℕ) (cs : List Cmd) (n : ℕ) → length cs ≤ n → list_text margin (drop n cs) ≡ []
+unfolding list_text command_text
+list_text-past margin [] zero l = refl
+list_text-past margin [] (suc n) l = refl
+list_text-past margin (c ∷ cs) zero l = absurd (omega arith)
+list_text-past margin (c ∷ cs) (suc n) l = list_text-past margin cs n (omega arith)
+
+-- one part, and those behind it
+after_part : (old new part rest all : List ℕ) → new ≡ old ++ part → all ≡ part ++ rest → new ++ rest ≡ old ++ all
+after_part old new part rest all h e = ap (λ l. l ++ rest) h ∙ append_assoc old part rest ∙ ap (λ l. old ++ l) (sym e)
+
+pub commands_step : (margin : List ℕ) (cs : List Cmd) (n : ℕ) (d : Cmd) (old new : List ℕ) → n < length cs → d ≡ get_or cs n d
+    → new ≡ old ++ command_text margin (command_of d) → new ++ list_text margin (drop (n + 1) cs) ≡ old ++ list_text margin (drop n cs)
+commands_step margin cs n d old new l e k = after_part old new _ _ _ k (list_text-drop margin cs n d l e)
+
+-- at the end nothing is left
+pub list_end : (margin : List ℕ) (cs : List Cmd) (n : ℕ) (new all : List ℕ) → length cs ≤ n → new ++ list_text margin (drop n cs) ≡ all → new ≡ all
+list_end margin cs n new all l h = sym (append_none new) ∙ ap (λ r. new ++ r) (sym (list_text-past margin cs n l)) ∙ h
+
+-- states
+
+group_text-drop : (margin : List ℕ) (ss : List State) (n : ℕ) (d : State) → n < length ss → d ≡ get_or ss n d
+    → group_text margin (drop n ss) ≡ state_text margin (state_of d) ++ group_text margin (drop (n + 1) ss)
+unfolding group_text state_text
+group_text-drop margin [] n d l e = absurd (omega arith)
+group_text-drop margin (s ∷ ss) zero d l e = ap (λ (x : State). state_text margin (state_of x) ++ group_text margin ss) (sym e)
+group_text-drop margin (s ∷ ss) (suc n) d l e = let r = group_text-drop margin ss n d (omega arith) e in simp (add-one) (simp (add-one) at r)
+
+pub group_text-past : (margin : List ℕ) (ss : List State) (n : ℕ) → length ss ≤ n → group_text margin (drop n ss) ≡ []
+unfolding group_text state_text
+group_text-past margin [] zero l = refl
+group_text-past margin [] (suc n) l = refl
+group_text-past margin (s ∷ ss) zero l = absurd (omega arith)
+group_text-past margin (s ∷ ss) (suc n) l = group_text-past margin ss n (omega arith)
+
+pub states_step : (margin : List ℕ) (ss : List State) (n : ℕ) (d : State) (old new : List ℕ) → n < length ss → d ≡ get_or ss n d
+    → new ≡ old ++ state_text margin (state_of d) → new ++ group_text margin (drop (n + 1) ss) ≡ old ++ group_text margin (drop n ss)
+states_step margin ss n d old new l e k = after_part old new _ _ _ k (group_text-drop margin ss n d l e)
+
+pub group_end : (margin : List ℕ) (ss : List State) (n : ℕ) (new all : List ℕ) → length ss ≤ n → new ++ group_text margin (drop n ss) ≡ all → new ≡ all
+group_end margin ss n new all l h = sym (append_none new) ∙ ap (λ r. new ++ r) (sym (group_text-past margin ss n l)) ∙ h
+
+pub text_state : (margin : List ℕ) (s : State)
+    → state_text margin (state_of s)
+    ≡ margin
+    ++ (head_text (out-State s).name.name (out-State s).kind
+    ++ (list_text (margin ++ codes "  ") (out-State s).body.commands.items ++ (group_text (margin ++ codes "  ") (out-State s).children.items ++ (margin ++ codes "}\n"))))
+unfolding list_text group_text state_text
+text_state margin s = ap (λ (t : StateTree). state_text margin t) (state_of-out s)
+
+pub whole_text : (ds listed : List Decl) (ss : List State) (seen : List State) (old a b result margin : List ℕ) → old ≡ [] → listed ≡ ds → seen ≡ ss → margin ≡ []
+    → a ≡ old ++ flat_map declaration_text listed → b ≡ a ++ group_text margin seen → result ≡ b → result ≡ canonical_text (tree_of ds ss)
+unfolding canonical_text group_text
+whole_text ds listed ss seen old a b result margin e i j m f g h =
+    h ∙ g
+    ∙ ap (λ z. z ++ group_text margin seen) (f ∙ ap (λ z. z ++ flat_map declaration_text listed) e ∙ ap (λ z. flat_map declaration_text z) i)
+    ∙ ap (λ z. flat_map declaration_text ds ++ group_text z seen) m
+    ∙ ap (λ z. flat_map declaration_text ds ++ group_text [] z) j
+
+pub ruleset operands = (operand_closed, operand_bare, append_assoc)
+
+pub ruleset expressions = (text_number, text_sized, text_read, text_cell, text_unary, text_binary, text_choose, text_slice, text_concat, text_zext, append_assoc)
+
+pub ruleset parts = (parts_none, more_parts_none)
+
+pub ruleset tags = (text_level, text_tag_of, text_level_at, text_join, append_assoc)
+
+pub ruleset tag_lists = (tags_none, more_tags_none)
+
+pub ruleset simples = (text_assign, text_write, text_set_tag, text_set_cell_tag, text_goto, text_fall, append_assoc)
+
+pub ruleset commands = (text_do, text_try, text_if, append_assoc)
+
+pub ruleset blocks = (text_block, text_no_else, text_else, append_assoc)
+
+pub ruleset lists = (list_text-past, group_text-past)
+
+pub ruleset bodies = (text_state, append_assoc)

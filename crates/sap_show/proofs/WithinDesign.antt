@@ -1,0 +1,431 @@
+-- The same of tag expressions, commands, declarations and states.
+use Rattle.std.proofs.Common.{◌≡◌, ◌≤◌, ◌+◌, ℕ, zero, suc, List, [], ◌∷◌, max, Bool, true, cond, refl, ap, ◌∙◌, arith, subst, Option, Some, None}
+use Rattle.std.proofs.lemmas.Bool.Decides.{nat_tests}
+use Rattle.std.proofs.lemmas.List.Sums.{sum_by-cons}
+use Rattle.std.specs.List.{list_all, count_by}
+use Rattle.std.specs.Prelude.{nat_le, ◌&&◌}
+use Rattle.sap_parse.specs.Limits.{Counts, none_yet, breach_of_name, above, ◌or_else◌}
+use Rattle.sap_parse.specs.declared.limit.Limit.TheVariants as l
+use Rattle.sap_parse.specs.declared.limit.Role.TheVariants as r
+use Rattle.sap_parse.specs.declared.token.Kind.TheVariants as k
+use Rattle.sap_parse.specs.declared.token.Kind.{Kind}
+use Rattle.sap_parse.specs.declared.token.Sign.TheVariants as s
+use Rattle.sap_parse.specs.declared.token.Word.TheVariants as w
+use Rattle.sap_show.proofs.Pieces.{Piece, space, line, token, sign, word, name, number, expression, tag, tags, more_tags, simple, margin, command, block, else_part, commands, authority, kind, start, declarations, state, states, design}
+use Rattle.sap_show.proofs.ReadBack.{both}
+use Rattle.sap_show.proofs.Within.{Within, at, Counted, inner_step, inner_free, opening_free, closing_step, not_above, short_name, expression_counted}
+use Rattle.sap_tree.specs.Extent.{tokens, brackets, tag_tokens, tag_part_tokens, tag_brackets, tag_part_brackets, fits, tag_fits}
+use Rattle.sap_tree.specs.Limits.{most_brackets, most_tokens, most_commands, most_blocks, most_states, most_nesting, most_inputs, most_registers, most_memories}
+use Rattle.sap_tree.specs.Syntax.{Expression, TagExpression, TagExpressions, Level, TagOf, LevelAt, Join, NoTag, AndTag, SimpleCommand, Assign, Write, SetTag, SetCellTag, Goto, Fall, Command, Do, Try, If, CommandBlock, Commands, ElseBlock, NoElse, Else, CommandList, NoCommand, AndCommand, StateTree, StateOf, StateList, NoState, AndState, DesignTree}
+use Rattle.sap_tree.specs.Whole.{is_expression, is_tag, are_tags, has_two_tags, is_outermost, is_outermost_tag, is_simple, is_command, is_block, is_else, are_commands, is_kind, is_authority, is_start, is_number, is_declaration, is_input, is_register, is_memory, is_state, are_states, has_state, command_count, block_count, else_count, list_count, command_depth, block_depth, else_depth, list_depth, state_count, states_count, state_depth, states_depth, state_commands, states_commands, is_tree, is_within_limits, is_whole}
+use Rattle.sap_tree.specs.Words.{is_name}
+use Rattle.sap_tree.specs.declared.syntax.Decl.TheVariants as d
+use Rattle.sap_tree.specs.declared.syntax.Decl.{Decl}
+use Rattle.sap_tree.specs.declared.syntax.Kind.TheVariants as how
+use Rattle.sap_tree.specs.declared.syntax.Kind.{Kind as KindTree}
+use Rattle.sap_tree.specs.declared.syntax.Numeral.{Numeral}
+use Rattle.sap_tree.specs.declared.syntax.Under.{Under}
+
+pub from_le : (n m : ℕ) → nat_le n m ≡ true → n ≤ m
+from_le n m h = grind (arith, nat_tests)
+
+-- tag expressions
+module _ (c : Counts) where
+  mutual
+    unfolding is_tag tag_tokens tag_brackets
+
+    pub tag_counted : (x : TagExpression) → is_tag x ≡ true → Counted c (tag_tokens x) (tag_brackets x) (tag x)
+    tag_counted (Level n) h t u b rest e top room a = inner_step c t u b (k.Name n.name) rest (short_name n.name h) e top a
+    tag_counted (TagOf place x) h t u b rest e top room a =
+        let same : u ≡ t + (tokens x + 3) = e in
+        let fits : b + (1 + brackets x) ≤ most_brackets = room in (
+          inner_free t (k.Word w.Tag) refl (omega arith),
+          (
+            opening_free (t + 1) b (omega arith) (omega arith),
+            (expression_counted c x h (t + 1 + 1) (t + 1 + 1 + tokens x) (b + 1) (sign r.Closing s.CloseParen ∷ rest) refl (omega arith) (omega arith)
+                (closing_step c (t + 1 + 1 + tokens x) u b s.CloseParen rest (omega arith) top a)),
+          ),
+        )
+    tag_counted (LevelAt place x) h t u b rest e top room a =
+        let same : u ≡ t + (tokens x + 3) = e in
+        let fits : b + (1 + brackets x) ≤ most_brackets = room in (
+          inner_free t (k.Word w.Level) refl (omega arith),
+          (
+            opening_free (t + 1) b (omega arith) (omega arith),
+            (expression_counted c x h (t + 1 + 1) (t + 1 + 1 + tokens x) (b + 1) (sign r.Closing s.CloseParen ∷ rest) refl (omega arith) (omega arith)
+                (closing_step c (t + 1 + 1 + tokens x) u b s.CloseParen rest (omega arith) top a)),
+          ),
+        )
+    tag_counted (Join place xs) h t u b rest e top room a =
+        let f = both (has_two_tags xs) (are_tags xs) h in
+        let same : u ≡ t + (2 + tag_part_tokens xs) = e in
+        let fits : b + (1 + tag_part_brackets xs) ≤ most_brackets = room in
+        (inner_free t (k.Word w.Join) refl (omega arith), (opening_free (t + 1) b (omega arith) (omega arith), (tags_counted xs f.0 f.1 (t + 1 + 1) u b rest (omega arith) top fits a)))
+
+    tags_counted : (xs : TagExpressions) → has_two_tags xs ≡ true → are_tags xs ≡ true → (t u b : ℕ) (rest : List Piece) → u ≡ t + tag_part_tokens xs → u ≤ most_tokens
+        → b + (1 + tag_part_brackets xs) ≤ most_brackets → Within (at c u b) rest → Within (at c t (b + 1)) (tags xs (sign r.Closing s.CloseParen ∷ rest))
+    tags_counted NoTag two h t u b rest e top room a = absurd (cc)
+    tags_counted (AndTag x xs) two h t u b rest e top room a =
+        let f = both (is_tag x) (are_tags xs) h in
+        let same : u ≡ t + (tag_tokens x + 1 + tag_part_tokens xs) = e in
+        let fits : b + (1 + max (tag_brackets x) (tag_part_brackets xs)) ≤ most_brackets = room in
+        tag_counted x f.0 t (t + tag_tokens x) (b + 1) (more_tags xs (sign r.Closing s.CloseParen ∷ rest)) refl (omega arith) (omega arith)
+        (more_tags_counted xs f.1 (t + tag_tokens x) u b rest (omega arith) top (omega arith) a)
+
+    more_tags_counted : (xs : TagExpressions) → are_tags xs ≡ true → (t u b : ℕ) (rest : List Piece) → u ≡ t + (1 + tag_part_tokens xs) → u ≤ most_tokens
+        → b + (1 + tag_part_brackets xs) ≤ most_brackets → Within (at c u b) rest → Within (at c t (b + 1)) (more_tags xs (sign r.Closing s.CloseParen ∷ rest))
+    more_tags_counted NoTag h t u b rest e top room a = closing_step c t u b s.CloseParen rest e top a
+    more_tags_counted (AndTag x xs) h t u b rest e top room a =
+        let f = both (is_tag x) (are_tags xs) h in
+        let same : u ≡ t + (1 + (tag_tokens x + 1 + tag_part_tokens xs)) = e in
+        let fits : b + (1 + max (tag_brackets x) (tag_part_brackets xs)) ≤ most_brackets = room in (
+          inner_free t (k.Sign s.Comma) refl (omega arith),
+          (tag_counted x f.0 (t + 1) (t + 1 + tag_tokens x) (b + 1) (more_tags xs (sign r.Closing s.CloseParen ∷ rest)) refl (omega arith) (omega arith)
+              (more_tags_counted xs f.1 (t + 1 + tag_tokens x) u b rest (omega arith) top (omega arith) a)),
+        )
+
+-- with whatever is counted of the expression before
+abbrev Always : Counts → List Piece → Type 0
+Always c ps = (t b : ℕ) → Within (at c t b) ps
+
+plain_free : (kind : Kind) → breach_of_name kind ≡ None → (breach_of_name kind or_else None) ≡ None
+plain_free kind free = ap (λ o. o or_else None) free
+
+plain : (c : Counts) (kind : Kind) (ps : List Piece) → breach_of_name kind ≡ None → Within (at c 0 0) ps → Always c (token r.Plain kind ∷ ps)
+plain c kind ps free h t b = (ap (λ o. o or_else None) free, h)
+
+-- an expression that stands in no other, in front of a token that stands in none
+outermost : (c : Counts) (x : Expression) (rest : List Piece) → is_outermost x ≡ true → Always c rest → Within (at c 0 0) (expression x rest)
+outermost c x rest h a =
+    let f = both (is_expression x) (fits x) h in
+    let g = both (nat_le (tokens x) most_tokens) (nat_le (brackets x) most_brackets) f.1 in
+    expression_counted c x f.0 0 (tokens x) 0 rest (zero_more (tokens x)) (from_le (tokens x) most_tokens g.0) (none_open (brackets x) (from_le (brackets x) most_brackets g.1)) (a (tokens x) 0)
+  where
+    zero_more : (n : ℕ) → n ≡ 0 + n
+    zero_more n = omega arith
+
+    none_open : (n : ℕ) → n ≤ most_brackets → 0 + n ≤ most_brackets
+    none_open n h = omega arith
+
+outermost_tag : (c : Counts) (x : TagExpression) (rest : List Piece) → is_outermost_tag x ≡ true → Always c rest → Within (at c 0 0) (tag x rest)
+outermost_tag c x rest h a =
+    let f = both (is_tag x) (tag_fits x) h in
+    let g = both (nat_le (tag_tokens x) most_tokens) (nat_le (tag_brackets x) most_brackets) f.1 in
+    tag_counted c x f.0 0 (tag_tokens x) 0 rest (zero_more (tag_tokens x)) (from_le (tag_tokens x) most_tokens g.0) (none_open (tag_brackets x) (from_le (tag_brackets x) most_brackets g.1)) (a (tag_tokens x) 0)
+  where
+    zero_more : (n : ℕ) → n ≡ 0 + n
+    zero_more n = omega arith
+
+    none_open : (n : ℕ) → n ≤ most_brackets → 0 + n ≤ most_brackets
+    none_open n h = omega arith
+
+-- commands
+
+abbrev with_commands : Counts → ℕ → Counts
+with_commands c n = record c { commands = n }
+
+begins_free : (c : Counts) (depth : ℕ) (kind : Kind) → breach_of_name kind ≡ None → c.commands + 1 ≤ most_commands → depth ≤ most_blocks
+    → (breach_of_name kind or_else (above most_commands (c.commands + 1) l.Commands or_else above most_blocks depth l.Blocks)) ≡ None
+begins_free c depth kind free n m =
+    ap (λ o. o or_else (above most_commands (c.commands + 1) l.Commands or_else above most_blocks depth l.Blocks)) free
+    ∙ ap (λ o. o or_else above most_blocks depth l.Blocks) (not_above most_commands (c.commands + 1) l.Commands n) ∙ not_above most_blocks depth l.Blocks m
+
+begins_command : (c : Counts) (depth : ℕ) (kind : Kind) (ps : List Piece) → breach_of_name kind ≡ None → c.commands + 1 ≤ most_commands → depth ≤ most_blocks
+    → Within (at (with_commands c (c.commands + 1)) 0 0) ps → Always c (token (r.Command depth) kind ∷ ps)
+begins_command c depth kind ps free n m h t b = (
+  ap (λ o. o or_else (above most_commands (c.commands + 1) l.Commands or_else above most_blocks depth l.Blocks)) free
+      ∙ ap (λ o. o or_else above most_blocks depth l.Blocks) (not_above most_commands (c.commands + 1) l.Commands n) ∙ not_above most_blocks depth l.Blocks m,
+  h,
+)
+
+simple_within : (depth : ℕ) (x : SimpleCommand) → is_simple x ≡ true → (c : Counts) (rest : List Piece) → c.commands + 1 ≤ most_commands → depth ≤ most_blocks
+    → Always (with_commands c (c.commands + 1)) rest → Always c (simple depth x rest)
+unfolding is_simple
+simple_within depth (Assign n x) h c rest m p a =
+    let f = both (is_name n.name) (is_outermost x) h in
+    let c' : Counts = with_commands c (c.commands + 1) in
+    (λ t b. (begins_free c depth (k.Name n.name) (short_name n.name f.0) m p, (plain_free (k.Sign s.Becomes) refl, (outermost c' x rest f.1 a))))
+simple_within depth (Write n i x) h c rest m p a =
+    let f = both (is_name n.name && is_outermost i) (is_outermost x) h in
+    let g = both (is_name n.name) (is_outermost i) f.0 in
+    let c' : Counts = with_commands c (c.commands + 1) in
+    (λ t b. (
+      begins_free c depth (k.Name n.name) (short_name n.name g.0) m p,
+      (
+        plain_free (k.Sign s.OpenBracket) refl,
+        (outermost c' i (sign r.Plain s.CloseBracket ∷ space ∷ sign r.Plain s.Becomes ∷ space ∷ expression x rest) g.1
+            (plain c' (k.Sign s.CloseBracket) (space ∷ sign r.Plain s.Becomes ∷ space ∷ expression x rest) refl
+            (plain c' (k.Sign s.Becomes) (space ∷ expression x rest) refl (outermost c' x rest f.1 a) 0 0))),
+      ),
+    ))
+simple_within depth (SetTag place n x) h c rest m p a =
+    let f = both (is_name n.name) (is_outermost_tag x) h in
+    let c' : Counts = with_commands c (c.commands + 1) in
+    (λ t b. (begins_free c depth (k.Word w.SetTag) refl m p, (plain_free (k.Sign s.OpenParen) refl, (plain_free (k.Name n.name) (short_name n.name f.0), (plain_free (k.Sign s.Comma) refl, (outermost_tag c' x (sign r.Plain s.CloseParen ∷ rest) f.1 (plain c' (k.Sign s.CloseParen) rest refl (a 0 0))))))))
+simple_within depth (SetCellTag place n i x) h c rest m p a =
+    let f = both (is_name n.name && is_outermost i) (is_outermost_tag x) h in
+    let g = both (is_name n.name) (is_outermost i) f.0 in
+    let c' : Counts = with_commands c (c.commands + 1) in
+    (λ t b. (
+      begins_free c depth (k.Word w.SetTag) refl m p,
+      (
+        plain_free (k.Sign s.OpenParen) refl,
+        (
+          plain_free (k.Name n.name) (short_name n.name g.0),
+          (
+            plain_free (k.Sign s.OpenBracket) refl,
+            (outermost c' i (sign r.Plain s.CloseBracket ∷ sign r.Plain s.Comma ∷ space ∷ tag x (sign r.Plain s.CloseParen ∷ rest)) g.1
+                (plain c' (k.Sign s.CloseBracket) (sign r.Plain s.Comma ∷ space ∷ tag x (sign r.Plain s.CloseParen ∷ rest)) refl
+                (plain c' (k.Sign s.Comma) (space ∷ tag x (sign r.Plain s.CloseParen ∷ rest)) refl
+                (outermost_tag c' x (sign r.Plain s.CloseParen ∷ rest) f.1 (plain c' (k.Sign s.CloseParen) rest refl (a 0 0))) 0 0))),
+          ),
+        ),
+      ),
+    ))
+simple_within depth (Goto place n) h c rest m p a =
+    let c' : Counts = with_commands c (c.commands + 1) in
+    (λ t b. (begins_free c depth (k.Word w.Goto) refl m p, (plain c' (k.Name n.name) rest (short_name n.name h) (a 0 0) 0 0)))
+simple_within depth (Fall place) h c rest m p a = begins_command c depth (k.Word w.Fall) rest refl m p (a 0 0)
+
+margin_within : (level : ℕ) (c : Counts) (rest : List Piece) → Within c rest → Within c (margin level rest)
+margin_within zero c rest h = h
+margin_within (suc level) c rest h = margin_within level c rest h
+
+mutual
+  unfolding is_command command_count command_depth
+
+  command_within : (x : Command) (level depth : ℕ) → is_command x ≡ true → (c : Counts) (n m : ℕ) (rest : List Piece) → m ≡ n + command_count x → m ≤ most_commands
+      → depth + command_depth x ≤ most_blocks + 1 → Always (with_commands c m) rest → Always (with_commands c n) (command x level depth rest)
+  command_within (Do x) level depth h c n m rest e top deep a t b =
+      margin_within level _ _
+      (simple_within depth x h (with_commands c n) (sign r.Plain s.Semicolon ∷ line ∷ rest) (omega arith) (omega arith)
+      (plain (with_commands c (n + 1)) (k.Sign s.Semicolon) (line ∷ rest) refl (subst (λ i. Within (at (with_commands c i) 0 0) rest) e (a 0 0))) t b)
+  command_within (Try x place handler) level depth h c n m rest e top deep a t b =
+      let f = both (is_simple x) (is_block handler) h in
+      let same : m ≡ n + (1 + block_count handler) = e in
+      let fits : depth + (1 + block_depth handler) ≤ most_blocks + 1 = deep in
+      margin_within level _ _
+      (simple_within depth x f.0 (with_commands c n) (space ∷ word r.Plain w.Otherwise ∷ block handler level depth (line ∷ rest)) (omega arith) (omega arith)
+      (plain (with_commands c (n + 1)) (k.Word w.Otherwise) (block handler level depth (line ∷ rest)) refl
+      (block_within handler level depth f.1 c (n + 1) m (line ∷ rest) (omega arith) top (omega arith) a 0 0)) t b)
+  command_within (If place x one other) level depth h c n m rest e top deep a t b =
+      let f = both (is_outermost x && is_block one) (is_else other) h in
+      let g = both (is_outermost x) (is_block one) f.0 in
+      let same : m ≡ n + (1 + block_count one + else_count other) = e in
+      let fits : depth + (1 + max (block_depth one) (else_depth other)) ≤ most_blocks + 1 = deep in
+      let c' : Counts = with_commands c (n + 1) in
+      let blocks = block one level depth (else_part other level depth (line ∷ rest)) in
+      margin_within level _ _ (
+        begins_free (with_commands c n) depth (k.Word w.If) refl (omega arith) (omega arith),
+        (
+          plain_free (k.Sign s.OpenParen) refl,
+          outermost c' x (sign r.Plain s.CloseParen ∷ blocks) g.0
+              (plain c' (k.Sign s.CloseParen) blocks refl
+              (block_within one level depth g.1 c (n + 1) (n + 1 + block_count one) (else_part other level depth (line ∷ rest)) refl (omega arith) (omega arith)
+              (else_within other level depth f.1 c (n + 1 + block_count one) m (line ∷ rest) (omega arith) top (omega arith) a) 0 0)),
+        ),
+      )
+
+  block_within : (x : CommandBlock) (level depth : ℕ) → is_block x ≡ true → (c : Counts) (n m : ℕ) (rest : List Piece) → m ≡ n + block_count x → m ≤ most_commands
+      → depth + 1 + block_depth x ≤ most_blocks + 1 → Always (with_commands c m) rest → Always (with_commands c n) (block x level depth rest)
+  block_within (Commands cs behind) level depth h c n m rest e top deep a =
+      (λ t b. (
+        plain_free (k.Sign s.OpenBrace) refl,
+        (commands_within cs (suc level) (depth + 1) h c n m (margin level (sign r.Plain s.CloseBrace ∷ rest)) e top deep
+            (λ t b. margin_within level _ _ (plain (with_commands c m) (k.Sign s.CloseBrace) rest refl (a 0 0) t b)) 0 0),
+      ))
+
+  else_within : (x : ElseBlock) (level depth : ℕ) → is_else x ≡ true → (c : Counts) (n m : ℕ) (rest : List Piece) → m ≡ n + else_count x → m ≤ most_commands
+      → depth + 1 + else_depth x ≤ most_blocks + 1 → Always (with_commands c m) rest → Always (with_commands c n) (else_part x level depth rest)
+  else_within NoElse level depth h c n m rest e top deep a =
+      let same : m ≡ n = omega arith in subst (λ i. Always (with_commands c i) rest) same a
+  else_within (Else x) level depth h c n m rest e top deep a =
+      (λ t b. (plain_free (k.Word w.Else) refl, (block_within x level depth h c n m rest e top deep a 0 0)))
+
+  commands_within : (cs : CommandList) (level depth : ℕ) → are_commands cs ≡ true → (c : Counts) (n m : ℕ) (rest : List Piece) → m ≡ n + list_count cs → m ≤ most_commands
+      → depth + list_depth cs ≤ most_blocks + 1 → Always (with_commands c m) rest → Always (with_commands c n) (commands cs level depth rest)
+  commands_within NoCommand level depth h c n m rest e top deep a =
+      let same : m ≡ n = omega arith in subst (λ i. Always (with_commands c i) rest) same a
+  commands_within (AndCommand x cs) level depth h c n m rest e top deep a =
+      let f = both (is_command x) (are_commands cs) h in
+      let same : m ≡ n + (command_count x + list_count cs) = e in
+      let fits : depth + max (command_depth x) (list_depth cs) ≤ most_blocks + 1 = deep in
+      command_within x level depth f.0 c n (n + command_count x) (commands cs level depth rest) refl (omega arith) (omega arith)
+      (commands_within cs level depth f.1 c (n + command_count x) m rest (omega arith) top (omega arith) a)
+
+-- kinds and declarations
+
+authority_within : (x : Option Under) → is_authority x ≡ true → (c : Counts) (rest : List Piece) → Within (at c 0 0) rest → Within (at c 0 0) (authority x rest)
+authority_within None h c rest a = a
+authority_within (Some under) h c rest a = (plain_free (k.Word w.Under) refl, (plain c (k.Name under.level.name) rest (short_name under.level.name h) a 0 0))
+
+kind_within : (x : KindTree) → is_kind x ≡ true → (c : Counts) (rest : List Piece) → Within (at c 0 0) rest → Within (at c 0 0) (kind x rest)
+kind_within (how.Dynamic place) h c rest a = plain c (k.Word w.Dynamic) rest refl a 0 0
+kind_within (how.Enforced n under) h c rest a =
+    let f = both (is_name n.name) (is_authority under) h in
+    (plain_free (k.Word w.Enforced) refl, (plain_free (k.Name n.name) (short_name n.name f.0), (authority_within under f.1 c rest a)))
+
+start_within : (x : Option Numeral) (c : Counts) (rest : List Piece) → Within (at c 0 0) rest → Within (at c 0 0) (start x rest)
+start_within None c rest a = a
+start_within (Some n) c rest a = (plain_free (k.Sign s.Is) refl, (plain c (k.Number n.value) rest refl a 0 0))
+
+-- behind the word of a declaration
+declared_within : (n : List ℕ) (width : ℕ) → is_name n ≡ true → (c : Counts) (rest : List Piece) → Within (at c 0 0) rest
+    → Within (at c 0 0) (space ∷ name r.Plain n ∷ space ∷ sign r.Plain s.Colon ∷ space ∷ number r.Plain width ∷ rest)
+declared_within n width h c rest a = (plain_free (k.Name n) (short_name n h), (plain_free (k.Sign s.Colon) refl, (plain c (k.Number width) rest refl a 0 0)))
+
+-- as many declarations of a sort, this one counted
+one_counted : (sort : Decl → Bool) (x : Decl) (xs : List Decl) (before all one : ℕ) → cond (sort x) 1 0 ≡ one → all ≡ before + count_by sort (x ∷ xs)
+    → all ≡ before + (one + count_by sort xs)
+one_counted sort x xs before all one o e =
+    e ∙ ap (λ n. before + n) (sum_by-cons (λ y. cond (sort y) 1 0) x xs) ∙ ap (λ n. before + (n + count_by sort xs)) o
+
+abbrev with_declared : Counts → ℕ → ℕ → ℕ → Counts
+with_declared c i n m = record c { inputs = i; registers = n; memories = m }
+
+pub declarations_within : (xs : List Decl) → list_all is_declaration xs ≡ true → (c : Counts) (rest : List Piece) (i n m : ℕ)
+    → i ≡ c.inputs + count_by is_input xs → n ≡ c.registers + count_by is_register xs → m ≡ c.memories + count_by is_memory xs
+    → i ≤ most_inputs → n ≤ most_registers → m ≤ most_memories → Within (at (with_declared c i n m) 0 0) rest → Within (at c 0 0) (declarations xs rest)
+declarations_within [] h c rest i n m e f g p q o a =
+    let no_inputs : i ≡ c.inputs + 0 = e in
+    let no_registers : n ≡ c.registers + 0 = f in
+    let no_memories : m ≡ c.memories + 0 = g in
+    let x : i ≡ c.inputs = omega arith in
+    let y : n ≡ c.registers = omega arith in
+    let z : m ≡ c.memories = omega arith in
+    subst (λ v. Within (at (with_declared c c.inputs c.registers v) 0 0) rest) z
+    (subst (λ v. Within (at (with_declared c c.inputs v m) 0 0) rest) y (subst (λ v. Within (at (with_declared c v n m) 0 0) rest) x a))
+declarations_within (d.Input place x width ∷ xs) h c rest i n m e f g p q o a =
+    let u = both (is_name x.name && is_number width.value) (list_all is_declaration xs) h in
+    let v = both (is_name x.name) (is_number width.value) u.0 in
+    let c' : Counts = with_declared c (c.inputs + 1) c.registers c.memories in
+    let all_inputs : i ≡ c.inputs + (1 + count_by is_input xs) = one_counted is_input (d.Input place x width) xs c.inputs i 1 refl e in
+    let all_registers : n ≡ c.registers + (0 + count_by is_register xs) = one_counted is_register (d.Input place x width) xs c.registers n 0 refl f in
+    let all_memories : m ≡ c.memories + (0 + count_by is_memory xs) = one_counted is_memory (d.Input place x width) xs c.memories m 0 refl g in
+    let inputs_left : i ≡ c.inputs + 1 + count_by is_input xs = omega arith in
+    let registers_left : n ≡ c.registers + count_by is_register xs = omega arith in
+    let memories_left : m ≡ c.memories + count_by is_memory xs = omega arith in (
+      not_above most_inputs (c.inputs + 1) l.Inputs (omega arith),
+      declared_within x.name width.value v.0 c' (sign r.Plain s.Semicolon ∷ line ∷ declarations xs rest)
+          (plain_free (k.Sign s.Semicolon) refl, (declarations_within xs u.1 c' rest i n m inputs_left registers_left memories_left p q o a)),
+    )
+declarations_within (d.Register place x width y initial ∷ xs) h c rest i n m e f g p q o a =
+    let u = both (is_name x.name && is_number width.value && is_kind y && is_start initial) (list_all is_declaration xs) h in
+    let v = both (is_name x.name && is_number width.value) (is_kind y) (both (is_name x.name && is_number width.value && is_kind y) (is_start initial) u.0).0 in
+    let z = both (is_name x.name) (is_number width.value) v.0 in
+    let c' : Counts = with_declared c c.inputs (c.registers + 1) c.memories in
+    let all_inputs : i ≡ c.inputs + (0 + count_by is_input xs) = one_counted is_input (d.Register place x width y initial) xs c.inputs i 0 refl e in
+    let all_registers : n ≡ c.registers + (1 + count_by is_register xs) = one_counted is_register (d.Register place x width y initial) xs c.registers n 1 refl f in
+    let all_memories : m ≡ c.memories + (0 + count_by is_memory xs) = one_counted is_memory (d.Register place x width y initial) xs c.memories m 0 refl g in
+    let inputs_left : i ≡ c.inputs + count_by is_input xs = omega arith in
+    let registers_left : n ≡ c.registers + 1 + count_by is_register xs = omega arith in
+    let memories_left : m ≡ c.memories + count_by is_memory xs = omega arith in
+    let last = sign r.Plain s.Semicolon ∷ line ∷ declarations xs rest in (
+      not_above most_registers (c.registers + 1) l.Registers (omega arith),
+      declared_within x.name width.value z.0 c' (space ∷ kind y (start initial last))
+          (kind_within y v.1 c' (start initial last) (start_within initial c' last (plain_free (k.Sign s.Semicolon) refl, (declarations_within xs u.1 c' rest i n m inputs_left registers_left memories_left p q o a)))),
+    )
+declarations_within (d.Memory place x width depth y ∷ xs) h c rest i n m e f g p q o a =
+    let u = both (is_name x.name && is_number width.value && is_number depth.value && is_kind y) (list_all is_declaration xs) h in
+    let v = both (is_name x.name && is_number width.value && is_number depth.value) (is_kind y) u.0 in
+    let z = both (is_name x.name) (is_number width.value) (both (is_name x.name && is_number width.value) (is_number depth.value) v.0).0 in
+    let c' : Counts = with_declared c c.inputs c.registers (c.memories + 1) in
+    let all_inputs : i ≡ c.inputs + (0 + count_by is_input xs) = one_counted is_input (d.Memory place x width depth y) xs c.inputs i 0 refl e in
+    let all_registers : n ≡ c.registers + (0 + count_by is_register xs) = one_counted is_register (d.Memory place x width depth y) xs c.registers n 0 refl f in
+    let all_memories : m ≡ c.memories + (1 + count_by is_memory xs) = one_counted is_memory (d.Memory place x width depth y) xs c.memories m 1 refl g in
+    let inputs_left : i ≡ c.inputs + count_by is_input xs = omega arith in
+    let registers_left : n ≡ c.registers + count_by is_register xs = omega arith in
+    let memories_left : m ≡ c.memories + 1 + count_by is_memory xs = omega arith in
+    let last = sign r.Plain s.Semicolon ∷ line ∷ declarations xs rest in (
+      not_above most_memories (c.memories + 1) l.Memories (omega arith),
+      declared_within x.name width.value z.0 c' (sign r.Plain s.OpenBracket ∷ number r.Plain depth.value ∷ sign r.Plain s.CloseBracket ∷ space ∷ kind y last)
+          (plain_free (k.Sign s.OpenBracket) refl, (plain_free (k.Number depth.value) refl, (plain_free (k.Sign s.CloseBracket) refl, (kind_within y v.1 c' last (plain_free (k.Sign s.Semicolon) refl, (declarations_within xs u.1 c' rest i n m inputs_left registers_left memories_left p q o a)))))),
+    )
+
+-- states
+
+abbrev with_states : Counts → ℕ → ℕ → Counts
+with_states c i n = record c { states = i; commands = n }
+
+begins_state : (n depth : ℕ) → n + 1 ≤ most_states → depth ≤ most_nesting
+    → (breach_of_name (k.Word w.State) or_else (above most_states (n + 1) l.States or_else above most_nesting depth l.Nesting)) ≡ None
+begins_state n depth h m = ap (λ o. o or_else above most_nesting depth l.Nesting) (not_above most_states (n + 1) l.States h) ∙ not_above most_nesting depth l.Nesting m
+
+mutual
+  unfolding is_state is_command state_count state_commands state_depth command_count command_depth
+
+  state_within : (x : StateTree) (level depth : ℕ) → is_state x ≡ true → (c : Counts) (i j n m : ℕ) (rest : List Piece) → j ≡ i + state_count x → j ≤ most_states
+      → m ≡ n + state_commands x → m ≤ most_commands → depth + state_depth x ≤ most_nesting + 1
+      → Always (with_states c j m) rest → Always (with_states c i n) (state x level depth rest)
+  state_within (StateOf place name x (Commands cs behind) children) level depth h c i j n m rest e top f much deep a t b =
+      let inside = Commands cs behind in
+      let u = both (is_name name.name && is_kind x && is_block inside && nat_le (block_depth inside) most_blocks) (are_states children) h in
+      let v = both (is_name name.name && is_kind x && is_block inside) (nat_le (block_depth inside) most_blocks) u.0 in
+      let y = both (is_name name.name && is_kind x) (is_block inside) v.0 in
+      let z = both (is_name name.name) (is_kind x) y.0 in
+      let states_are : j ≡ i + (1 + states_count children) = e in
+      let commands_are : m ≡ n + (list_count cs + states_commands children) = f in
+      let fits : depth + (1 + states_depth children) ≤ most_nesting + 1 = deep in
+      let short : list_depth cs ≤ most_blocks = from_le (list_depth cs) most_blocks v.1 in
+      let last = margin level (sign r.Plain s.CloseBrace ∷ line ∷ rest) in
+      let below = states children (suc level) (depth + 1) last in
+      let c' : Counts = with_states c (i + 1) n in
+      margin_within level _ _ (
+        begins_state i depth (omega arith) (omega arith),
+        (
+          plain_free (k.Name name.name) (short_name name.name z.0),
+          (kind_within x z.1 c' (space ∷ sign r.Plain s.OpenBrace ∷ line ∷ commands cs (suc level) 1 below) (
+            plain_free (k.Sign s.OpenBrace) refl,
+            (commands_within cs (suc level) 1 y.1 c' n (n + list_count cs) below refl (omega arith) (omega arith)
+                (states_within children (suc level) (depth + 1) u.1 c (i + 1) j (n + list_count cs) m last (omega arith) top (omega arith) much (omega arith)
+                (λ t b. margin_within level _ _ (plain (with_states c j m) (k.Sign s.CloseBrace) (line ∷ rest) refl (a 0 0) t b))) 0 0),
+          )),
+        ),
+      )
+
+  states_within : (xs : StateList) (level depth : ℕ) → are_states xs ≡ true → (c : Counts) (i j n m : ℕ) (rest : List Piece) → j ≡ i + states_count xs → j ≤ most_states
+      → m ≡ n + states_commands xs → m ≤ most_commands → depth + states_depth xs ≤ most_nesting + 1
+      → Always (with_states c j m) rest → Always (with_states c i n) (states xs level depth rest)
+  states_within NoState level depth h c i j n m rest e top f much deep a =
+      let x : j ≡ i = omega arith in
+      let y : m ≡ n = omega arith in
+      subst (λ v. Always (with_states c i v) rest) y (subst (λ v. Always (with_states c v m) rest) x a)
+  states_within (AndState x xs) level depth h c i j n m rest e top f much deep a =
+      let g = both (is_state x) (are_states xs) h in
+      let states_are : j ≡ i + (state_count x + states_count xs) = e in
+      let commands_are : m ≡ n + (state_commands x + states_commands xs) = f in
+      let fits : depth + max (state_depth x) (states_depth xs) ≤ most_nesting + 1 = deep in
+      state_within x level depth g.0 c i (i + state_count x) n (n + state_commands x) (states xs level depth rest) refl (omega arith) refl (omega arith) (omega arith)
+      (states_within xs level depth g.1 c (i + state_count x) j (n + state_commands x) m rest (omega arith) top (omega arith) much (omega arith) a)
+
+pub design_within : (x : DesignTree) → is_whole x ≡ true → Within none_yet (design x)
+unfolding is_whole
+design_within x h =
+    let f = both (is_tree x) (is_within_limits x) h in
+    let g = both (list_all is_declaration x.declarations && has_state x.states) (are_states x.states) f.0 in
+    let g' = both (list_all is_declaration x.declarations) (has_state x.states) g.0 in
+    let in1 = nat_le (count_by is_input x.declarations) most_inputs in
+    let in2 = nat_le (count_by is_register x.declarations) most_registers in
+    let in3 = nat_le (count_by is_memory x.declarations) most_memories in
+    let in4 = nat_le (states_count x.states) most_states in
+    let in5 = nat_le (states_depth x.states) most_nesting in
+    let in6 = nat_le (states_commands x.states) most_commands in
+    let l1 = both (in1 && in2 && in3 && in4 && in5) in6 f.1 in
+    let l2 = both (in1 && in2 && in3 && in4) in5 l1.0 in
+    let l3 = both (in1 && in2 && in3) in4 l2.0 in
+    let l4 = both (in1 && in2) in3 l3.0 in
+    let l5 = both in1 in2 l4.0 in
+    let i = count_by is_input x.declarations in
+    let n = count_by is_register x.declarations in
+    let m = count_by is_memory x.declarations in
+    declarations_within x.declarations g'.0 none_yet (states x.states 0 1 []) i n m (zero_more i) (zero_more n) (zero_more m)
+    (from_le i most_inputs l5.0) (from_le n most_registers l5.1) (from_le m most_memories l4.1)
+    (states_within x.states 0 1 g.1 (with_declared none_yet i n m) 0 (states_count x.states) 0 (states_commands x.states) [] (zero_more (states_count x.states))
+    (from_le (states_count x.states) most_states l3.1) (zero_more (states_commands x.states)) (from_le (states_commands x.states) most_commands l1.1)
+    (one_more (states_depth x.states) (from_le (states_depth x.states) most_nesting l2.1)) (λ t b. tt) 0 0)
+  where
+    zero_more : (n : ℕ) → n ≡ 0 + n
+    zero_more n = omega arith
+
+    one_more : (n : ℕ) → n ≤ most_nesting → 1 + n ≤ most_nesting + 1
+    one_more n h = omega arith

@@ -1,0 +1,12 @@
+use Rattle.sap_tree.specs.Trees.{tag_of, tags_of}
+use Rattle.sap_show.proofs.Weights.{tag_weight, tags_weight}
+use Rattle.sap_show.proofs.expression.+tag.Given as goal
+
+abbrev pub decreases-tag : goal.decreases-tag
+decreases-tag l = tag_weight (tag_of l.x.now)
+
+abbrev pub decreases-tags : goal.decreases-tags
+decreases-tags l = tags_weight (tags_of l.list.now)
+
+abbrev pub decreases-more_tags : goal.decreases-more_tags
+decreases-more_tags l = tags_weight (tags_of l.list.now)

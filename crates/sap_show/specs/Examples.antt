@@ -1,0 +1,106 @@
+-- Worked examples of canonical texts.
+use Rattle.std.specs.Prelude.{◌≡◌, ℕ, List, [], ◌∷◌, ◌++◌, Some, None, codes}
+use Rattle.sap_tree.specs.Bare.{nowhere, no_spot}
+use Rattle.sap_tree.specs.Syntax.{Expression, Number, Sized, Read, Unary, Binary, Choose, Slice, Concat, Zext, NoPart, AndPart, Level, TagOf, Join, NoTag, AndTag, Assign, Write, SetCellTag, Goto, Fall, Command, Do, Try, If, CommandBlock, Commands, Else, CommandList, NoCommand, AndCommand, StateOf, NoState, AndState, DesignTree}
+use Rattle.sap_tree.specs.declared.name.Mention.{Mention}
+use Rattle.sap_tree.specs.declared.syntax.BinaryOperator.TheVariants as b
+use Rattle.sap_tree.specs.declared.syntax.Decl.TheVariants as d
+use Rattle.sap_tree.specs.declared.syntax.Kind.TheVariants as k
+use Rattle.sap_tree.specs.declared.syntax.Kind.{Kind}
+use Rattle.sap_tree.specs.declared.syntax.Numeral.{Numeral}
+use Rattle.sap_tree.specs.declared.syntax.UnaryOperator.TheVariants as u
+use Rattle.sap_show.specs.Canonical.{canonical_text}
+
+abbrev pub named : List ℕ → Mention
+named name = record { place = nowhere; name = name }
+
+abbrev pub numeral : ℕ → Numeral
+numeral n = record { place = nowhere; value = n }
+
+abbrev pub number : ℕ → Expression
+number n = Number no_spot n
+
+abbrev pub read : List ℕ → Expression
+read name = Read no_spot name
+
+abbrev pub level : List ℕ → Kind
+level name = k.Enforced (named name) None
+
+abbrev pub block : CommandList → CommandBlock
+block commands = Commands commands nowhere
+
+-- input a:8;reg x:8 dynamic;state S enforced low{x:=(a+1)&(a|x);goto S;}
+abbrev pub adder : DesignTree
+adder = record {
+  declarations = d.Input nowhere (named (codes "a")) (numeral 8) ∷ d.Register nowhere (named (codes "x")) (numeral 8) (k.Dynamic nowhere) None ∷ [];
+  states = AndState (StateOf nowhere (named (codes "S")) (level (codes "low")) (block
+      (AndCommand (Do (Assign (named (codes "x"))
+      (Binary no_spot b.And (Binary no_spot b.Add (read (codes "a")) (number 1)) (Binary no_spot b.Or (read (codes "a")) (read (codes "x"))))))
+      (AndCommand (Do (Goto nowhere (named (codes "S")))) NoCommand)))
+      NoState) NoState;
+}
+
+abbrev pub Adder : Type 0
+Adder = canonical_text adder ≡ codes "input a : 8;\nreg x : 8 dynamic;\nstate S enforced low {\n  x := a + 1 & (a | x);\n  goto S;\n}\n"
+
+-- the four low bits of x
+abbrev pub low_bits : Expression
+low_bits = Slice no_spot (read (codes "x")) 3 0
+
+-- a command that stores a cell, and one that chooses, with an empty handler
+abbrev pub stores : Command
+stores = Do (Write (named (codes "m")) (read (codes "i")) (Zext no_spot low_bits 8))
+
+abbrev pub chooses : Command
+chooses = Try
+    (Assign (named (codes "x")) (Choose no_spot (read (codes "i"))
+    (Concat no_spot (AndPart (Sized no_spot 4 1) (AndPart low_bits NoPart)))
+    (Unary no_spot u.Neg (Unary no_spot u.Neg (read (codes "x"))))))
+    nowhere (block NoCommand)
+
+abbrev pub retags : Command
+retags = Try
+    (SetCellTag nowhere (named (codes "m")) (number 0)
+    (Join nowhere (AndTag (Level (named (codes "high"))) (AndTag (TagOf nowhere (read (codes "x"))) NoTag))))
+    nowhere (block (AndCommand (Do (Fall nowhere)) NoCommand))
+
+abbrev pub nested : DesignTree
+nested = record {
+  declarations = d.Input nowhere (named (codes "i")) (numeral 8)
+      ∷ d.Register nowhere (named (codes "x")) (numeral 8)
+      (k.Enforced (named (codes "low")) (Some (record { place = nowhere; level = named (codes "low") }))) (Some (numeral 7))
+      ∷ d.Memory nowhere (named (codes "m")) (numeral 8) (numeral 4) (k.Dynamic nowhere) ∷ [];
+  states = AndState (StateOf nowhere (named (codes "S")) (k.Dynamic nowhere)
+      (block
+      (AndCommand (If nowhere (Binary no_spot b.Lt (read (codes "i")) (number 3)) (block (AndCommand stores NoCommand)) (Else (block (AndCommand chooses NoCommand))))
+      (AndCommand retags NoCommand)))
+      (AndState (StateOf nowhere (named (codes "T")) (level (codes "high")) (block (AndCommand (Do (Goto nowhere (named (codes "T")))) NoCommand)) NoState) NoState))
+      NoState;
+}
+
+-- each line with its end
+abbrev pub lines : List (List ℕ) → List ℕ
+lines [] = []
+lines (line ∷ rest) = line ++ (codes "\n" ++ lines rest)
+
+abbrev pub Nested : Type 0
+Nested = canonical_text nested
+    ≡ lines
+    (codes "input i : 8;"
+    ∷ codes "reg x : 8 enforced low under low = 7;"
+    ∷ codes "mem m : 8[4] dynamic;"
+    ∷ codes "state S dynamic {"
+    ∷ codes "  if (i < 3) {"
+    ∷ codes "    m[i] := zext(x[3:0], 8);"
+    ∷ codes "  } else {"
+    ∷ codes "    x := i ? {4'd1, x[3:0]} : --x otherwise {"
+    ∷ codes "    }"
+    ∷ codes "  }"
+    ∷ codes "  setTag(m[0], join(high, tag(x))) otherwise {"
+    ∷ codes "    fall;"
+    ∷ codes "  }"
+    ∷ codes "  state T enforced high {"
+    ∷ codes "    goto T;"
+    ∷ codes "  }"
+    ∷ codes "}"
+    ∷ [])

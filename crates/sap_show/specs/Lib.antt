@@ -1,0 +1,4 @@
+pub mod Canonical
+pub mod Lists
+pub mod Examples
+pub mod Reading
