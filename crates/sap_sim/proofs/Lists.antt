@@ -1,0 +1,34 @@
+-- Lists, an element at a time.
+use Rattle.std.proofs.Common.{◌≡◌, ℕ, ◌+◌, ◌<◌, List, [], ◌∷◌, ◌++◌, Bool, true, false, length, get_or, take, map, sym, ap, ◌∙◌, refl}
+use Rattle.std.specs.Prelude.{filter}
+use Rattle.std.proofs.lemmas.List.{take_more, map-append}
+use Rattle.std.proofs.lemmas.List.Elements.{filter-append}
+
+-- one element more
+pub taken : {X : Type 0} (xs : List X) (k : ℕ) (x : X) → k < length xs → x ≡ get_or xs k x → take (k + 1) xs ≡ take k xs ++ x ∷ []
+taken {X} xs k x h e = take_more xs k x h ∙ ap (λ (y : X). take k xs ++ y ∷ []) (sym e)
+
+pub mapped_more : {X Y : Type 0} (f : X → Y) (xs : List X) (k : ℕ) (x : X) → k < length xs → x ≡ get_or xs k x → map f (take (k + 1) xs) ≡ map f (take k xs) ++ f x ∷ []
+mapped_more {X} {Y} f xs k x h e = ap (map f) (taken xs k x h e) ∙ map-append f (take k xs) (x ∷ [])
+
+pub passed : {X : Type 0} (p : X → Bool) (x : X) → p x ≡ true → filter p (x ∷ []) ≡ x ∷ []
+passed {X} p x h = rw h refl
+
+pub dropped : {X : Type 0} (p : X → Bool) (x : X) → p x ≡ false → filter p (x ∷ []) ≡ []
+dropped {X} p x h = rw h refl
+
+append_nil : {X : Type 0} (xs : List X) → xs ++ [] ≡ xs
+append_nil [] = refl
+append_nil (x ∷ xs) = ap (λ ys. x ∷ ys) (append_nil xs)
+
+pub filtered_more : {X Y : Type 0} (p : X → Bool) (f : X → Y) (xs : List X) (k : ℕ) (x : X) → k < length xs → x ≡ get_or xs k x → p x ≡ true
+    → map f (filter p (take (k + 1) xs)) ≡ map f (filter p (take k xs)) ++ f x ∷ []
+filtered_more {X} {Y} p f xs k x h e t =
+    ap (λ (ys : List X). map f (filter p ys)) (taken xs k x h e) ∙ ap (map f) (filter-append p (take k xs) (x ∷ []) ∙ ap (λ (ys : List X). filter p (take k xs) ++ ys) (passed p x t))
+    ∙ map-append f (filter p (take k xs)) (x ∷ [])
+
+pub filtered_same : {X Y : Type 0} (p : X → Bool) (f : X → Y) (xs : List X) (k : ℕ) (x : X) → k < length xs → x ≡ get_or xs k x → p x ≡ false
+    → map f (filter p (take (k + 1) xs)) ≡ map f (filter p (take k xs))
+filtered_same {X} {Y} p f xs k x h e t =
+    ap (λ (ys : List X). map f (filter p ys)) (taken xs k x h e)
+    ∙ ap (map f) (filter-append p (take k xs) (x ∷ []) ∙ ap (λ (ys : List X). filter p (take k xs) ++ ys) (dropped p x t) ∙ append_nil (filter p (take k xs)))

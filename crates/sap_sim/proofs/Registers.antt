@@ -1,0 +1,235 @@
+-- The registers of a netlist, and those that rows show.
+use Rattle.std.proofs.Common.{◌≡◌, ℕ, zero, suc, ◌+◌, ◌<◌, ◌≤◌, List, [], ◌∷◌, ◌++◌, Bool, true, false, ◌||◌, ◌&&◌, Option, Some, None, length, get_or, take, map, sym, ap, ◌∙◌, subst, refl, arith, bytes_eq, inl, inr, ◌⊎◌, ⊎_elim, lit<}
+use Rattle.std.specs.Prelude.{slice_index, ◌==◌, nat_le}
+use Rattle.std.specs.List.{AllByRecursion, list_all}
+use Rattle.std.specs.Char.{is_ascii_alphabetic, is_ascii_alphanumeric}
+use Rattle.std.specs.Int.{is_in_range}
+use Rattle.std.specs.Str.{IsAscii, IsUtf8}
+use Rattle.std.proofs.lemmas.Bool.{cases_Bool, false≢true, leb-true}
+use Rattle.std.proofs.lemmas.Bool.Decides.{Decides-eqb}
+use Rattle.std.proofs.lemmas.Str.{IsUtf8-from_ascii}
+use Rattle.sap_maps.specs.Maps.{Name}
+use Rattle.sap_maps.specs.Scope.{Scope, find}
+use Rattle.sap_maps.proofs.Scopes.{name_is, same_name}
+use Rattle.sap_net.specs.declared.parts.Port.{Port}
+use Rattle.sap_net.specs.declared.parts.PortKind.{PortKind}
+use Rattle.sap_net.specs.declared.parts.PortKind.TheVariants as kind
+use Rattle.sap_net.specs.declared.parts.Register.{Register}
+use Rattle.sap_net.specs.Net.{Net}
+use Rattle.sap_net.specs.Names.{is_among, is_name, is_word, is_initial, is_inner}
+use Rattle.sap_net.specs.IsNetlist.{IsNetlist, readable, register_names, input_names, wire_names, memory_names, PortShows}
+use Rattle.sap_cycle.proofs.Distinct.{registers_readable}
+use Rattle.sap_sim.specs.Ports.{value_name, tag_name, value_of, behind}
+use Rattle.sap_sim.specs.Shown.{register_ports, has_tag, shown_by, shown_among}
+use Rattle.sap_sim.proofs.Lists.{taken}
+
+pub and_left : (p q : Bool) → (p && q) ≡ true → p ≡ true
+and_left true q h = refl
+and_left false q h = h
+
+pub and_right : (p q : Bool) → (p && q) ≡ true → q ≡ true
+and_right true q h = h
+and_right false q h = cc
+
+-- what holds of each name of a list holds of one that is among them
+pub among_all : (P : Name → Type 0) (ns : List Name) (x : Name) → AllByRecursion P ns → is_among x ns ≡ true → P x
+among_all P [] x all h = absurd (false≢true h)
+among_all P (n ∷ ns) x all h =
+    elim (cases_Bool (bytes_eq x n)) [
+      | inl t ↦ subst P (sym (name_is x n t)) all.0
+      | inr f ↦ among_all P ns x all.1 (rw f at h)
+    ]
+
+pub among_behind : (x : Name) (xs ys : List Name) → is_among x ys ≡ true → is_among x (xs ++ ys) ≡ true
+among_behind x [] ys h = h
+among_behind x (y ∷ xs) ys h = elim (cases_Bool (bytes_eq x y)) [ inl t ↦ rw t refl | inr t ↦ rw t (among_behind x xs ys h) ]
+
+pub among_front : (x : Name) (xs ys : List Name) → is_among x xs ≡ true → is_among x (xs ++ ys) ≡ true
+among_front x [] ys h = absurd (false≢true h)
+among_front x (y ∷ xs) ys h = elim (cases_Bool (bytes_eq x y)) [ inl t ↦ rw t refl | inr t ↦ rw t (among_front x xs ys (rw t at h)) ]
+
+-- what holds of the names of a list's elements
+pub all_names : {A : Type 0} (key : A → Name) (P : Name → Type 0) (list : List A) → AllByRecursion (λ a. P (key a)) list → AllByRecursion P (map key list)
+all_names {A} key P [] h = tt
+all_names {A} key P (a ∷ list) h = (h.0, all_names key P list h.1)
+
+some_none : {X : Type 0} (o : Option X) (x : X) → o ≡ Some x → o ≡ None → ⊥
+some_none {X} o x h k = cc
+
+not_none : (sc : Scope) (x : Name) (w : ℕ) → find sc x ≡ Some w → find sc x ≡ None → ⊥
+not_none sc x w h k = some_none (find sc x) w h k
+
+weaker : {A : Type 0} (P Q : A → Type 0) → ((a : A) → P a → Q a) → (list : List A) → AllByRecursion P list → AllByRecursion Q list
+weaker {A} P Q f [] h = tt
+weaker {A} P Q f (a ∷ list) h = (f a h.0, weaker P Q f list h.1)
+
+pub register_found : (n : Net) → IsNetlist n → (x : Name) → is_among x (register_names n) ≡ true → find (readable n) x ≡ None → ⊥
+register_found n net x h none =
+    among_all (λ (y : Name). find (readable n) y ≡ None → ⊥) (register_names n) x
+    (all_names (λ (r : Register). r.name) (λ (y : Name). find (readable n) y ≡ None → ⊥) n.registers
+    (weaker (λ (r : Register). find (readable n) r.name ≡ Some r.width) (λ (r : Register). find (readable n) r.name ≡ None → ⊥) (λ r e. not_none (readable n) r.name r.width e) n.registers
+    (registers_readable n net)))
+    h none
+
+pub register_declared : (n : Net) → IsNetlist n → (x : Name) → is_among x (register_names n) ≡ true → is_among x n.names ≡ true
+register_declared n net x h =
+    net.declared x ∙ among_front x (input_names n ++ wire_names n ++ register_names n) (memory_names n) (among_behind x (input_names n ++ wire_names n) (register_names n) h)
+
+-- names are ASCII
+
+or_cases : (p q : Bool) → (p || q) ≡ true → (p ≡ true) ⊎ (q ≡ true)
+or_cases true q h = inl refl
+or_cases false q h = inr h
+
+in_range : (lo hi c : ℕ) → is_in_range lo hi c ≡ true → c ≤ hi
+in_range lo hi c h = leb-true c hi (and_right (nat_le lo c) (nat_le c hi) h)
+
+range_small : (lo hi c : ℕ) → hi < 128 → is_in_range lo hi c ≡ true → c < 128
+range_small lo hi c l h = let k : c ≤ hi = in_range lo hi c h in omega arith
+
+mark_small : (c : ℕ) → (c == 95) ≡ true → c < 128
+mark_small c h = let e : c ≡ 95 = (Decides-eqb c 95).0 h in omega arith
+
+letter_small : (c : ℕ) → is_ascii_alphabetic c ≡ true → c < 128
+letter_small c h =
+    ⊎_elim (range_small 65 90 c (lit< tt)) (range_small 97 122 c (lit< tt)) (or_cases (is_in_range 65 90 c) (is_in_range 97 122 c) h)
+
+digit_or_letter_small : (c : ℕ) → is_ascii_alphanumeric c ≡ true → c < 128
+digit_or_letter_small c h =
+    ⊎_elim (λ g. ⊎_elim (range_small 48 57 c (lit< tt)) (range_small 65 90 c (lit< tt)) (or_cases (is_in_range 48 57 c) (is_in_range 65 90 c) g)) (range_small 97 122 c (lit< tt))
+    (or_cases (is_in_range 48 57 c || is_in_range 65 90 c) (is_in_range 97 122 c) h)
+
+inner_small : (c : ℕ) → is_inner c ≡ true → c < 128
+inner_small c h = ⊎_elim (digit_or_letter_small c) (mark_small c) (or_cases (is_ascii_alphanumeric c) (c == 95) h)
+
+initial_small : (c : ℕ) → is_initial c ≡ true → c < 128
+initial_small c h = ⊎_elim (letter_small c) (mark_small c) (or_cases (is_ascii_alphabetic c) (c == 95) h)
+
+inners_at : (c : ℕ) (cs : List ℕ) → list_all is_inner (c ∷ cs) ≡ true → IsAscii cs → (i : ℕ) → slice_index (c ∷ cs) i < 128
+inners_at c cs h rest zero = inner_small c (and_left (is_inner c) (list_all is_inner cs) h)
+inners_at c cs h rest (suc i) = rest i
+
+inners_ascii : (cs : List ℕ) → list_all is_inner cs ≡ true → IsAscii cs
+inners_ascii [] h = λ i. omega arith
+inners_ascii (c ∷ cs) h = λ i. inners_at c cs h (inners_ascii cs (and_right (is_inner c) (list_all is_inner cs) h)) i
+
+word_at : (c : ℕ) (cs : List ℕ) → is_word (c ∷ cs) ≡ true → IsAscii cs → (i : ℕ) → slice_index (c ∷ cs) i < 128
+word_at c cs h rest zero = initial_small c (and_left (is_initial c) (list_all is_inner cs) h)
+word_at c cs h rest (suc i) = rest i
+
+word_ascii : (x : Name) → is_word x ≡ true → IsAscii x
+word_ascii [] h = λ i. omega arith
+word_ascii (c ∷ cs) h = λ i. word_at c cs h (inners_ascii cs (and_right (is_initial c) (list_all is_inner cs) h)) i
+
+name_utf8 : (x : Name) → is_name x ≡ true → IsUtf8 x
+unfolding is_name
+name_utf8 x h = IsUtf8-from_ascii x (word_ascii x (and_left (is_word x) _ h))
+
+pub register_utf8 : (n : Net) → IsNetlist n → (x : Name) → is_among x (register_names n) ≡ true → IsUtf8 x
+register_utf8 n net x h = name_utf8 x (among_all (λ (y : Name). is_name y ≡ true) n.names x net.named (register_declared n net x h))
+
+-- what rows show
+
+append_nil : (xs : List Name) → xs ++ [] ≡ xs
+append_nil [] = refl
+append_nil (x ∷ xs) = ap (λ ys. x ∷ ys) (append_nil xs)
+
+append_three : (xs ys zs : List Name) → xs ++ (ys ++ zs) ≡ (xs ++ ys) ++ zs
+append_three [] ys zs = refl
+append_three (x ∷ xs) ys zs = ap (λ ws. x ∷ ws) (append_three xs ys zs)
+
+shown_push : (tag : ℕ) (n : Net) (ps : List Name) (p : Name) → shown_among tag n (ps ++ p ∷ []) ≡ shown_among tag n ps ++ shown_by tag n (value_of p)
+shown_push tag n [] p = append_nil (shown_by tag n (value_of p))
+shown_push tag n (q ∷ ps) p =
+    ap (λ (ys : List Name). shown_by tag n (value_of q) ++ ys) (shown_push tag n ps p)
+    ∙ append_three (shown_by tag n (value_of q)) (shown_among tag n ps) (shown_by tag n (value_of p))
+
+pub shown_more : (tag : ℕ) (n : Net) (ps : List Name) (k : ℕ) (p : Name) → k < length ps → p ≡ get_or ps k p
+    → shown_among tag n (take (k + 1) ps) ≡ shown_among tag n (take k ps) ++ shown_by tag n (value_of p)
+shown_more tag n ps k p h e = ap (shown_among tag n) (taken ps k p h e) ∙ shown_push tag n (take k ps) p
+
+of_kind : (n : Net) (p : Port) (ps : List Port) → AllByRecursion (λ (x : Name). is_among x (register_names n) ≡ true) (register_ports ps) → (k : PortKind) → p.kind ≡ k → PortShows n p.kind p.name
+    → AllByRecursion (λ (x : Name). is_among x (register_names n) ≡ true) (register_ports (p ∷ ps))
+of_kind n p ps rest kind.Input e h = rw e rest
+of_kind n p ps rest kind.Register e h = rw e (rw e at h, rest)
+of_kind n p ps rest kind.Wire e h = rw e rest
+
+port_is_register : (n : Net) (ps : List Port) → AllByRecursion (λ p. PortShows n p.kind p.name) ps → AllByRecursion (λ (x : Name). is_among x (register_names n) ≡ true) (register_ports ps)
+port_is_register n [] h = tt
+port_is_register n (p ∷ ps) h = of_kind n p ps (port_is_register n ps h.1) p.kind refl h.0
+
+pub register_port_is : (n : Net) → IsNetlist n → (x : Name) → is_among x (register_ports n.ports) ≡ true → is_among x (register_names n) ≡ true
+register_port_is n net x h = among_all (λ (y : Name). is_among y (register_names n) ≡ true) (register_ports n.ports) x (port_is_register n n.ports net.ports_show) h
+
+-- a name is the letter, `_` and what is behind them
+pub behind_is : (letter : ℕ) (p x : Name) → behind letter p ≡ Some x → p ≡ letter ∷ (95 ∷ x)
+behind_is letter [] x h = cc
+behind_is letter (a ∷ []) x h = cc
+behind_is letter (a ∷ (b ∷ [])) x h = cc
+behind_is letter (a ∷ (b ∷ (c ∷ p))) x h =
+    elim (cases_Bool (a == letter && b == 95)) [
+      | inl t ↦ (
+          let i : a ≡ letter = (Decides-eqb a letter).0 (and_left (a == letter) (b == 95) t) in
+          let j : b ≡ 95 = (Decides-eqb b 95).0 (and_right (a == letter) (b == 95) t) in
+          let k : Some (c ∷ p) ≡ Some x = rw t at h in
+          cc
+          )
+      | inr f ↦ (let k : None ≡ Some x = rw f at h in cc)
+    ]
+
+-- both names of what is shown are among the ports
+abbrev pub IsShown : List Name → List Name → Name → Type 0
+IsShown ps all x = (is_among (value_name x) ps ≡ true) × (is_among (tag_name x) all ≡ true)
+
+all_join : (P : Name → Type 0) (xs ys : List Name) → AllByRecursion P xs → AllByRecursion P ys → AllByRecursion P (xs ++ ys)
+all_join P [] ys h k = k
+all_join P (x ∷ xs) ys h k = (h.0, all_join P xs ys h.1 k)
+
+among_first : (p : Name) (ps : List Name) → is_among p (p ∷ ps) ≡ true
+among_first p ps = rw (same_name p) refl
+
+among_rest : (x p : Name) (ps : List Name) → is_among x ps ≡ true → is_among x (p ∷ ps) ≡ true
+among_rest x p ps h = elim (cases_Bool (bytes_eq x p)) [ inl t ↦ rw t refl | inr f ↦ rw f h ]
+
+shown_here : (tag : ℕ) (n : Net) (p : Name) (ps : List Name) (o : Option Name) → value_of p ≡ o → AllByRecursion (IsShown (p ∷ ps) (register_ports n.ports)) (shown_by tag n o)
+shown_here tag n p ps None e = tt
+shown_here tag n p ps (Some x) e =
+    elim (cases_Bool (has_tag tag n x)) as (λ v. AllByRecursion (IsShown (p ∷ ps) (register_ports n.ports)) (shown_by tag n (Some x))) [
+      | inl t ↦ (
+          let i : is_among (value_name x) (p ∷ ps) ≡ true = subst (λ (y : Name). is_among y (p ∷ ps) ≡ true) (behind_is 118 p x e) (among_first p ps) in
+          let j : is_among (tag_name x) (register_ports n.ports) ≡ true = and_left (is_among (tag_name x) (register_ports n.ports)) _ t in
+          rw t ((i, j), tt)
+          )
+      | inr f ↦ rw f tt
+    ]
+
+pub all_shown : (tag : ℕ) (n : Net) (ps : List Name) → AllByRecursion (IsShown ps (register_ports n.ports)) (shown_among tag n ps)
+all_shown tag n [] = tt
+all_shown tag n (p ∷ ps) =
+    all_join (IsShown (p ∷ ps) (register_ports n.ports)) (shown_by tag n (value_of p)) (shown_among tag n ps)
+    (shown_here tag n p ps (value_of p) refl)
+    (weaker (IsShown ps (register_ports n.ports)) (IsShown (p ∷ ps) (register_ports n.ports)) (λ x h. (among_rest (value_name x) p ps h.0, h.1)) (shown_among tag n ps) (all_shown tag n ps))
+
+-- the facts of a list by places
+pub each : {A : Type 0} (P : A → Type 0) (list : List A) → AllByRecursion P list → (k : ℕ) (d : A) → k < length list → P (get_or list k d)
+each {A} P [] h k d l = absurd (omega arith)
+each {A} P (a ∷ list) h zero d l = h.0
+each {A} P (a ∷ list) h (suc k) d l = each P list h.1 k d (omega arith)
+
+pub values_are : (tag : ℕ) (n : Net) → IsNetlist n → (xs : List Name) → xs ≡ shown_among tag n (register_ports n.ports)
+    → (k : ℕ) (d : Name) → k < length xs → is_among (118 ∷ (95 ∷ get_or xs k d)) (register_names n) ≡ true
+values_are tag n net xs e k d l =
+    each (λ (x : Name). is_among (118 ∷ (95 ∷ x)) (register_names n) ≡ true) xs
+    (subst (λ (ys : List Name). AllByRecursion (λ (x : Name). is_among (118 ∷ (95 ∷ x)) (register_names n) ≡ true) ys) (sym e)
+    (weaker (IsShown (register_ports n.ports) (register_ports n.ports)) (λ (x : Name). is_among (118 ∷ (95 ∷ x)) (register_names n) ≡ true) (λ x h. register_port_is n net (value_name x) h.0) _
+    (all_shown tag n (register_ports n.ports))))
+    k d l
+
+pub tags_are : (tag : ℕ) (n : Net) → IsNetlist n → (xs : List Name) → xs ≡ shown_among tag n (register_ports n.ports)
+    → (k : ℕ) (d : Name) → k < length xs → is_among (116 ∷ (95 ∷ get_or xs k d)) (register_names n) ≡ true
+tags_are tag n net xs e k d l =
+    each (λ (x : Name). is_among (116 ∷ (95 ∷ x)) (register_names n) ≡ true) xs
+    (subst (λ (ys : List Name). AllByRecursion (λ (x : Name). is_among (116 ∷ (95 ∷ x)) (register_names n) ≡ true) ys) (sym e)
+    (weaker (IsShown (register_ports n.ports) (register_ports n.ports)) (λ (x : Name). is_among (116 ∷ (95 ∷ x)) (register_names n) ≡ true) (λ x h. register_port_is n net (tag_name x) h.1) _
+    (all_shown tag n (register_ports n.ports))))
+    k d l

@@ -1,0 +1,66 @@
+-- A worked example: a netlist with a tagged input, whose tag comes first, a plain input, a register with a tag and one without.
+use Rattle.std.specs.Prelude.{◌≡◌, ℕ, List, [], ◌∷◌, true, false, codes}
+use Rattle.sap_lattice.specs.Levels.{Levels}
+use Rattle.sap_net.specs.declared.parts.Operand.TheVariants.{Constant}
+use Rattle.sap_net.specs.declared.parts.PortKind.TheVariants as kind
+use Rattle.sap_net.specs.declared.parts.Port.{Port}
+use Rattle.sap_net.specs.declared.parts.Input.{Input}
+use Rattle.sap_net.specs.declared.parts.Register.{Register}
+use Rattle.sap_net.specs.Net.{Net}
+use Rattle.sap_stim.specs.declared.field.Field.TheVariants.{Tagged, Plain}
+use Rattle.sap_stim.specs.declared.input.Input.{Input as Given}
+use Rattle.sap_sim.specs.Fields.{fields_of}
+use Rattle.sap_sim.specs.Numbers.{numbers_of}
+use Rattle.sap_sim.specs.Shown.{shown_registers}
+
+-- low is below high
+abbrev pub levels : Levels
+levels = record { names = codes "low" ∷ codes "high" ∷ []; table = (true ∷ true ∷ []) ∷ (false ∷ true ∷ []) ∷ [] }
+
+abbrev pub register : List ℕ → (width : ℕ) → Register
+register name width = record { name = name; width = width; start = 0; next = Constant width 0 }
+
+abbrev pub inputs : List Input
+inputs =
+    record { name = codes "t_a"; width = 1 }
+    ∷ record { name = codes "v_a"; width = 8 }
+    ∷ record { name = codes "b"; width = 4 }
+    ∷ []
+
+abbrev pub registers : List Register
+registers = register (codes "v_x") 8 ∷ register (codes "t_x") 1 ∷ register (codes "v_y") 8 ∷ []
+
+abbrev pub ports : List Port
+ports =
+    record { name = codes "t_a"; kind = kind.Input }
+    ∷ record { name = codes "v_a"; kind = kind.Input }
+    ∷ record { name = codes "b"; kind = kind.Input }
+    ∷ record { name = codes "v_x"; kind = kind.Register }
+    ∷ record { name = codes "t_x"; kind = kind.Register }
+    ∷ record { name = codes "v_y"; kind = kind.Register }
+    ∷ []
+
+abbrev pub small : Net
+small =
+    record {
+      module_name = codes "top";
+      names = codes "t_a" ∷ codes "v_a" ∷ codes "b" ∷ codes "v_x" ∷ codes "t_x" ∷ codes "v_y" ∷ [];
+      ports = ports;
+      inputs = inputs;
+      wires = [];
+      registers = registers;
+      memories = [];
+    }
+
+abbrev pub given : (value level : ℕ) → Given
+given value level = record { value = value; level = level }
+
+abbrev pub Fields : Type 0
+Fields = fields_of levels small ≡ Tagged 8 ∷ Plain 4 ∷ []
+
+-- the line `5@high 3`: 1 is the code of high
+abbrev pub Numbers : Type 0
+Numbers = numbers_of levels small (given 5 1 ∷ given 3 0 ∷ []) ≡ 1 ∷ 5 ∷ 3 ∷ []
+
+abbrev pub Registers : Type 0
+Registers = shown_registers levels small ≡ codes "x" ∷ []

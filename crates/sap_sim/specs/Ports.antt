@@ -1,0 +1,34 @@
+-- Names of ports: `v_x` has the number of x, and `t_x` the code of its level.
+use Rattle.std.specs.Prelude.{ℕ, Bool, false, ◌==◌, ◌&&◌, [], ◌∷◌, ◌++◌, Option, Some, None, codes, if◌then◌else◌}
+use Rattle.sap_maps.specs.Maps.{Name}
+
+abbrev pub value_name : Name → Name
+value_name x = codes "v_" ++ x
+
+abbrev pub tag_name : Name → Name
+tag_name x = codes "t_" ++ x
+
+-- x, where the name is this letter, `_` and x, a byte or more
+abbrev pub behind : (letter : ℕ) → Name → Option Name
+behind letter [] = None
+behind letter (a ∷ []) = None
+behind letter (a ∷ (b ∷ [])) = None
+behind letter (a ∷ (b ∷ (c ∷ x))) = if a == letter && b == 95 then Some (c ∷ x) else None
+
+-- x of `v_x`
+abbrev pub value_of : Name → Option Name
+value_of n = behind 118 n
+
+-- x of `t_x`
+abbrev pub tag_of : Name → Option Name
+tag_of n = behind 116 n
+
+-- there is such an x, and it passes a test
+abbrev pub passes : (Name → Bool) → Option Name → Bool
+passes test None = false
+passes test (Some x) = test x
+
+-- there is a number, and it is this one
+abbrev pub is_number : ℕ → Option ℕ → Bool
+is_number n None = false
+is_number n (Some k) = k == n

@@ -1,0 +1,55 @@
+//! The rows of a netlist on a stimulus.
+
+ghost use Rattle.std.specs.Prelude.{IfOk};
+ghost use Rattle.sap_sim.specs.Simulated.{IsSimulated};
+
+use crate::fields::line_of;
+use crate::lookup::input_widths;
+use crate::shown::shown_of;
+use crate::sources::sources;
+use crate::steps::{Plan, rows};
+use sap_cycle::runner::Runner;
+use sap_desk::Bytes;
+use sap_lattice::Lattice;
+use sap_net::laws::one_run;
+use sap_net::netlist::Netlist;
+use sap_stim::{StimFault, parse_stream, stimulus_fits};
+use std::alloc::{AllocError, Global};
+
+/// The rows of the cycles before the first refused line of a stimulus, and that line, where there is one.
+#[derive(Debug, Drop)]
+pub struct Rows {
+    pub text: Bytes,
+    pub fault: Option<StimFault>,
+}
+
+/// The rows of a netlist on the bytes of a stimulus, its levels those of a lattice.
+pub fn simulate(
+    alloc: Global,
+    lattice: &Lattice,
+    netlist: Netlist,
+    stimulus: &[u8],
+) -> Result<Rows, AllocError>
+    ensures rows { IfOk result (λ rows. IsSimulated lattice.now netlist stimulus.now rows) }
+{
+    netlist.rules();
+    lattice.lawful();
+    stimulus_fits();
+    one_run(&netlist);
+    let tag = lattice.width();
+    let widths = input_widths(alloc, netlist.inputs())?;
+    let line = line_of(alloc, &widths, tag, netlist.inputs())?;
+    let parsed = parse_stream(alloc, stimulus, &line.fields, lattice)?;
+    let sources = sources(alloc, &widths, tag, netlist.inputs(), &line.names)?;
+    let mut runner = match Runner::load(alloc, netlist) {
+        Ok(runner) => runner,
+        Err((_, fault)) => return Err(fault),
+    };
+    let shown = shown_of(alloc, &runner, tag)?;
+    let plan = Plan { sources, shown };
+    let text = rows(alloc, lattice, &mut runner, &plan, parsed.stream.as_slice())?;
+    Ok(Rows {
+        text: Bytes::new(text),
+        fault: parsed.fault,
+    })
+}

@@ -1,0 +1,121 @@
+//! A cycle after another.
+
+ghost use Rattle.std.specs.Prelude.{◌≡◌, ◌<◌, ◌++◌, [], List, Option, Some, None, All, map, length, get_or, IfOk, OnOk};
+ghost use Rattle.sap_maps.specs.Maps.{Valuation};
+ghost use Rattle.sap_net.specs.Runs.{InputsFit, AllFit, IsCycle, IsRun, observed};
+ghost use Rattle.sap_cycle.specs.Running.{Shows, seen, value_names};
+ghost use Rattle.sap_stim.specs.declared.input.Input.{Input as OfLine};
+ghost use Rattle.sap_sim.specs.Fields.{fields_of};
+ghost use Rattle.sap_sim.specs.Numbers.{numbers_of};
+ghost use Rattle.sap_sim.specs.Shown.{shown_registers, row_of, rows_from};
+ghost use Rattle.sap_sim.specs.Layout.{IsPlan, number_from, seen_at, source_place};
+
+use crate::shown::Shown;
+use crate::sources::Source;
+use sap_cycle::runner::{Place, Runner};
+use sap_lattice::Lattice;
+use sap_stim::{Input, Inputs, push_row};
+use std::alloc::{AllocError, Global};
+
+/// Where the numbers of inputs come from, and what rows show.
+#[derive(Drop)]
+pub struct Plan {
+    pub sources: Vec<Source>,
+    pub shown: Shown,
+}
+
+/// The numbers that a line gives the inputs.
+fn numbers(
+    alloc: Global,
+    lattice: &Lattice,
+    sources: &[Source],
+    line: &[Input],
+) -> Result<Vec<u64>, AllocError>
+    requires { All (λ s. source_place s < length line.now) sources.now }
+    ensures { IfOk result (λ xs. xs.items ≡ map (number_from lattice.now line.now) sources.now) }
+{
+    let mut numbers = Vec::new(alloc);
+    for source in sources {
+        numbers.push(number(lattice, *source, line))?;
+    }
+    Ok(numbers)
+}
+
+fn number(lattice: &Lattice, source: Source, line: &[Input]) -> u64
+    requires { source_place source < length line.now }
+    ensures { result ≡ number_from lattice.now line.now source }
+{
+    match source {
+        Source::Value(place) => line[place].value,
+        Source::Code(place) => lattice.code(line[place].level),
+    }
+}
+
+/// The numbers at places of a runner.
+fn seen(alloc: Global, runner: &Runner, places: &[Place]) -> Result<Vec<u64>, AllocError>
+    requires { All (λ k. k < length (value_names runner.now.net)) places.now }
+    ensures count { IfOk result (λ xs. length xs.items ≡ length places.now) }
+    ensures seen { IfOk result (λ xs. (cycle : Option Valuation) → Shows runner.now cycle → xs.items ≡ seen_at runner.now.net (seen runner.now.net cycle) places.now) }
+{
+    let mut numbers = Vec::new(alloc);
+    for place in places {
+        numbers.push(runner.at(*place))?;
+    }
+    Ok(numbers)
+}
+
+/// Steps a runner on a line, and adds the row of the cycle.
+fn step(
+    alloc: Global,
+    lattice: &Lattice,
+    runner: &mut Runner,
+    plan: &Plan,
+    cycle: u64,
+    line: &[Input],
+    out: &mut Vec<u8>,
+) -> Result<(), AllocError>
+    requires plan { IsPlan lattice.now runner.old.net plan.now }
+    requires count { length line.now ≡ length (fields_of lattice.now runner.old.net) }
+    requires fits { InputsFit runner.old.net.inputs (numbers_of lattice.now runner.old.net line.now) }
+    ensures netlist { runner.new.net ≡ runner.old.net }
+    ensures shows { OnOk result ((before : Option Valuation) (v : Valuation) → Shows runner.old before → IsCycle runner.old.net before (numbers_of lattice.now runner.old.net line.now) v → Shows runner.new (Some v)) }
+    ensures row { OnOk result ((before : Option Valuation) (v : Valuation) → Shows runner.old before → IsCycle runner.old.net before (numbers_of lattice.now runner.old.net line.now) v
+        → out.new.items ≡ out.old.items ++ row_of lattice.now (shown_registers lattice.now runner.old.net) cycle (observed runner.old.net v)) }
+{
+    let inputs = numbers(alloc, lattice, &plan.sources, line)?;
+    runner.step(&inputs);
+    let values = seen(alloc, runner, &plan.shown.values)?;
+    let tags = seen(alloc, runner, &plan.shown.tags)?;
+    push_row(out, cycle, &plan.shown.names, &values, &tags, lattice)?;
+    Ok(())
+}
+
+/// The rows of all cycles.
+pub fn rows(
+    alloc: Global,
+    lattice: &Lattice,
+    runner: &mut Runner,
+    plan: &Plan,
+    stream: &[Inputs],
+) -> Result<Vec<u8>, AllocError>
+    requires plan { IsPlan lattice.now runner.old.net plan.now }
+    requires unstepped { Shows runner.old None }
+    requires counts { All (λ xs. length xs ≡ length (fields_of lattice.now runner.old.net)) stream.now }
+    requires fits { AllFit runner.old.net.inputs (map (numbers_of lattice.now runner.old.net) stream.now) }
+    ensures { IfOk result (λ text. (vs : List Valuation) → IsRun runner.old.net (map (numbers_of lattice.now runner.old.net) stream.now) vs
+        → text.items ≡ rows_from lattice.now (shown_registers lattice.now runner.old.net) 1 (map (observed runner.old.net) vs)) }
+{
+    let mut out = Vec::new(alloc);
+    for (k, line) in stream.iter().enumerate() {
+        step(
+            alloc,
+            lattice,
+            runner,
+            plan,
+            k as u64 + 1,
+            line.as_slice(),
+            &mut out,
+        )?;
+    }
+    Ok(out)
+}
