@@ -1,0 +1,7 @@
+pub mod Levels
+pub mod Ports
+pub mod Words
+pub mod Inputs
+pub mod Registers
+pub mod Cycles
+pub mod Designs

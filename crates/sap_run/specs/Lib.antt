@@ -1,0 +1,4 @@
+pub mod Fields
+pub mod LabelledRows
+pub mod RunOf
+pub mod Examples

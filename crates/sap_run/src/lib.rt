@@ -1,0 +1,39 @@
+//! The rows of the labelled run of a design.
+#![tactic(auto)]
+
+ghost use Rattle.std.specs.Prelude.{IfOk};
+ghost use Rattle.sap_tree.specs.Designs.{design_of};
+ghost use Rattle.sap_interface.specs.Designs.{StandsForDesign};
+ghost use Rattle.sap_run.specs.RunOf.{IsRunOf};
+ghost use Rattle.sap_run.specs.Examples.{AddsOne};
+
+use sap_lattice::Lattice;
+use sap_net::netlist::Netlist;
+use sap_sim::{Rows, simulate};
+use sap_stim::stimulus_fits;
+use sap_tree::design::Design;
+use sap_tree::whole::design_is_whole;
+use std::alloc::{AllocError, Global};
+
+/// The rows of a design on the bytes of a stimulus, by a netlist that stands for the design over the lattice.
+pub fn run(
+    alloc: Global,
+    lattice: &Lattice,
+    design: &Design,
+    netlist: Netlist,
+    stimulus: &[u8],
+) -> Result<Rows, AllocError>
+    requires stands { StandsForDesign lattice.now (design_of design.now) netlist }
+    ensures rows { IfOk result (λ rows. IsRunOf lattice.now (design_of design.now) stimulus.now rows) }
+{
+    design_is_whole(design);
+    netlist.rules();
+    lattice.lawful();
+    stimulus_fits();
+    simulate(alloc, lattice, netlist, stimulus)
+}
+
+/// The rows of a small design on two cycles, worked out.
+pub fn worked_rows()
+    ensures adds_one { AddsOne }
+{}
