@@ -5,16 +5,21 @@ use Rattle.std.specs.Prelude.{Vec}
 use Rattle.std.specs.declared.alloc.Global.{Global}
 use Rattle.std.proofs.lemmas.List.{append-nil}
 use Rattle.sap_desk.specs.Desk.{Told}
+use Rattle.sap_latfile.specs.declared.fault.LatFileFault.{LatFileFault}
+use Rattle.sap_compile.specs.declared.fault.DesignFault.{DesignFault}
+use Rattle.sap_stim.specs.declared.fault.StimFault.{StimFault}
 use Rattle.sap_desk.specs.Cause.{Rose, counted}
 use Rattle.sap_desk.specs.Whole.{Between}
-use Rattle.sapper.specs.Words.{Words, compile, command_of}
-use Rattle.sapper.specs.Ending.{Ending, done, no_command, lattice_refused, design_refused, failed, no_memory, status_of, line, line_of}
+use Rattle.sapper.specs.Words.{Words, compile, run, fmt, command_of}
+use Rattle.sapper.specs.Ending.{Ending, done, no_command, lattice_refused, design_refused, stimulus_refused, failed, no_memory, status_of, line, line_of}
 use Rattle.sapper.specs.Causes.{Cause, CauseOf}
-use Rattle.sapper.specs.Ends.{Answers, Blames, Files, Gained, Leaves, LeavesOf}
+use Rattle.sapper.specs.Output.{Output}
+use Rattle.sapper.specs.Ends.{Answers, Blames, Files, Gained, Leaves, LeavesOf, OutputOf}
 use Rattle.sapper.specs.Exact.{Exact}
-use Rattle.sapper.specs.Outside.{Outside, OutsideOf, FullLines}
+use Rattle.sapper.specs.Outside.{Outside, OutsideOf, FullFile, FullLines, FullOutput}
 use Rattle.sapper.specs.Steps.{Counted, Ends, IsFree, IsStatus, Justified, Tells, line_told}
 use Rattle.sapper.proofs.Lattices.{same_Some}
+use Rattle.sapper.proofs.Endings.{whole_prefix}
 
 -- the cause of an ending
 
@@ -23,6 +28,7 @@ not_free done free named none = free
 not_free no_command free named none = free
 not_free (lattice_refused fault) free named none = free
 not_free (design_refused fault) free named none = free
+not_free (stimulus_refused fault) free named none = free
 not_free (failed name) free named none = named name refl
 not_free no_memory free named none = none refl
 
@@ -36,6 +42,7 @@ status_cases done answer s = absurd s
 status_cases no_command answer s = absurd s
 status_cases (lattice_refused fault) answer s = s
 status_cases (design_refused fault) answer s = s
+status_cases (stimulus_refused fault) answer s = s
 status_cases (failed name) answer s = inl s
 status_cases no_memory answer s = inl s
 
@@ -44,6 +51,7 @@ free_status done answer s free = absurd s
 free_status no_command answer s free = absurd s
 free_status (lattice_refused fault) answer s free = absurd free
 free_status (design_refused fault) answer s free = absurd free
+free_status (stimulus_refused fault) answer s free = absurd free
 free_status (failed name) answer s free = inl s
 free_status no_memory answer s free = inr s
 
@@ -52,6 +60,7 @@ not_two done answer s two = s
 not_two no_command answer s two = s
 not_two (lattice_refused fault) answer s two = elim s [ inl three ↦ absurd (omega (arith, three, two)) | inr seven ↦ absurd (omega (arith, seven, two)) ]
 not_two (design_refused fault) answer s two = elim s [ inl one ↦ absurd (omega (arith, one, two)) | inr seven ↦ absurd (omega (arith, seven, two)) ]
+not_two (stimulus_refused fault) answer s two = elim s [ inl four ↦ absurd (omega (arith, four, two)) | inr seven ↦ absurd (omega (arith, seven, two)) ]
 not_two (failed name) answer s two = absurd (omega (arith, s, two))
 not_two no_memory answer s two = absurd (omega (arith, s, two))
 
@@ -68,6 +77,8 @@ six_rose (lattice_refused fault) answer old mid new s h stands six =
     absurd (elim s [ inl three ↦ absurd (omega (arith, three, six)) | inr seven ↦ absurd (omega (arith, seven, six)) ])
 six_rose (design_refused fault) answer old mid new s h stands six =
     absurd (elim s [ inl one ↦ absurd (omega (arith, one, six)) | inr seven ↦ absurd (omega (arith, seven, six)) ])
+six_rose (stimulus_refused fault) answer old mid new s h stands six =
+    absurd (elim s [ inl four ↦ absurd (omega (arith, four, six)) | inr seven ↦ absurd (omega (arith, seven, six)) ])
 six_rose (failed name) answer old mid new s h stands six = rose_from old mid new h stands
 six_rose no_memory answer old mid new s h stands six = absurd (omega (arith, s, six))
 
@@ -76,6 +87,7 @@ not_six_stands done answer old mid new s h stands other = absurd s
 not_six_stands no_command answer old mid new s h stands other = absurd s
 not_six_stands (lattice_refused fault) answer old mid new s h stands other = stands ∙ h
 not_six_stands (design_refused fault) answer old mid new s h stands other = stands ∙ h
+not_six_stands (stimulus_refused fault) answer old mid new s h stands other = stands ∙ h
 not_six_stands (failed name) answer old mid new s h stands other = absurd (other s)
 not_six_stands no_memory answer old mid new s h stands other = stands ∙ h
 
@@ -93,9 +105,29 @@ gained_from text mid lost now t m n same is g = elim g [
   | inr cut ↦ inr (subst (λ (k : ℕ). Rose k now) is cut.0, (cut.1.0, cut.1.1, cut.1.2 ∙ ap (λ (l : List ℕ). l ++ cut.1.0) same))
 ]
 
+-- what is left where a file was refused is left for want of memory
+
+lattice_leaves : (c : Words) (t : Told) (files : Files) (fault : LatFileFault) → Leaves c t files (lattice_refused fault) → Leaves c t files no_memory
+lattice_leaves (compile lattice design out) t files fault is = is
+lattice_leaves (run lattice design stimulus) t files fault is = is
+lattice_leaves (fmt design) t files fault is = is
+
+design_leaves : (c : Words) (t : Told) (files : Files) (fault : DesignFault) → Leaves c t files (design_refused fault) → Leaves c t files no_memory
+design_leaves (compile lattice design out) t files fault is = is
+design_leaves (run lattice design stimulus) t files fault is = is
+design_leaves (fmt design) t files fault is = is
+
+stimulus_leaves : (c : Words) (t : Told) (files : Files) (fault : StimFault) → Leaves c t files (stimulus_refused fault) → Leaves c t files no_memory
+stimulus_leaves (compile lattice design out) t files fault is = is
+stimulus_leaves (run lattice design stimulus) t files fault is = is
+stimulus_leaves (fmt design) t files fault is = is
+
 module _ (words : List (List ℕ)) (c : Words) (is : command_of words ≡ Some c) where
   leaves_words : (t : Told) (files : Files) (e : Ending) → Leaves c t files e → LeavesOf (command_of words) t files e
   leaves_words t files e h = subst (λ (w : Option Words). LeavesOf w t files e) (sym is) h
+
+  shows_words : (t : Told) (gained : List ℕ) (e : Ending) → Output c t gained e → OutputOf (command_of words) t gained e
+  shows_words t gained e h = subst (λ (w : Option Words). OutputOf w t gained e) (sym is) h
 
   cause_words : (t : Told) (e : Ending) → Cause c t e → CauseOf (command_of words) t e
   cause_words t e h = subst (λ (w : Option Words). CauseOf w t e) (sym is) h
@@ -111,7 +143,9 @@ module _ (words : List (List ℕ)) (c : Words) (is : command_of words ≡ Some c
     status = refl;
     line = inl (o.same.lines ∙ sym (append-nil (t.written 2)));
     leaves = leaves_words t n.files done o.leaves;
-    output = o.same.output;
+    gained = o.gained;
+    output = o.output;
+    shows = shows_words t o.gained done o.shows;
     blames = tt;
     cause = λ named none. cause_words t done (cause_stands c t done o.justified named none);
   }
@@ -123,16 +157,18 @@ module _ (words : List (List ℕ)) (c : Words) (is : command_of words ≡ Some c
 
   -- one that ends otherwise, and its line
 
-  with_line : (e f : Ending) (answer lost mid now : ℕ) (t m n : Told) → mid ≡ lost → answer ≡ status_of f → Ends c e t m
-      → Leaves c t m.files f → Blames m.blame f
+  with_line : (e f : Ending) (answer lost mid now : ℕ) (t m n : Told) → mid ≡ lost → answer ≡ status_of f → (o : Ends c e t m)
+      → Leaves c t m.files f → Output c t o.gained f → Blames m.blame f
       → (((name : List ℕ) → f ≡ failed name → ⊥) → (f ≡ no_memory → ⊥) → Cause c t f)
       → Tells (line_of f) mid now m n → Answers words lost now answer t n
-  with_line e f answer lost mid now t m n same status o leaves blames cause w = record {
+  with_line e f answer lost mid now t m n same status o leaves shows blames cause w = record {
     ending = f;
     status = status;
     line = gained_from (line_of f) mid lost now t m n o.same.lines same w.gained;
     leaves = leaves_words t n.files f (subst (λ (files : Files). Leaves c t files f) (sym w.files) leaves);
-    output = w.output ∙ o.same.output;
+    gained = o.gained;
+    output = w.output ∙ o.output;
+    shows = shows_words t o.gained f shows;
     blames = subst (λ (blame : List ℕ). Blames blame f) (sym w.blame) blames;
     cause = λ named none. cause_words t f (cause named none);
   }
@@ -145,22 +181,31 @@ module _ (words : List (List ℕ)) (c : Words) (is : command_of words ≡ Some c
   ends_told done answer lost mid now t m n same s o w = absurd s
   ends_told no_command answer lost mid now t m n same s o w = absurd s
   ends_told (lattice_refused fault) answer lost mid now t m n same s o w = elim s [
-    | inl three ↦ with_line (lattice_refused fault) (lattice_refused fault) answer lost mid now t m n same three o o.leaves tt
+    | inl three ↦ with_line (lattice_refused fault) (lattice_refused fault) answer lost mid now t m n same three o o.leaves o.shows tt
         (cause_stands c t (lattice_refused fault) o.justified) (line_at (lattice_refused fault) answer 3 mid now m n three w)
-    | inr seven ↦ with_line (lattice_refused fault) no_memory answer lost mid now t m n same seven o o.leaves tt
+    | inr seven ↦ with_line (lattice_refused fault) no_memory answer lost mid now t m n same seven o
+        (lattice_leaves c t m.files fault o.leaves) (inl o.shows) tt
         (λ named none. absurd (none refl)) (line_at (lattice_refused fault) answer 7 mid now m n seven w)
   ]
   ends_told (design_refused fault) answer lost mid now t m n same s o w = elim s [
-    | inl one ↦ with_line (design_refused fault) (design_refused fault) answer lost mid now t m n same one o o.leaves tt
+    | inl one ↦ with_line (design_refused fault) (design_refused fault) answer lost mid now t m n same one o o.leaves o.shows tt
         (cause_stands c t (design_refused fault) o.justified) (line_at (design_refused fault) answer 1 mid now m n one w)
-    | inr seven ↦ with_line (design_refused fault) no_memory answer lost mid now t m n same seven o o.leaves tt
+    | inr seven ↦ with_line (design_refused fault) no_memory answer lost mid now t m n same seven o
+        (design_leaves c t m.files fault o.leaves) (inl o.shows) tt
         (λ named none. absurd (none refl)) (line_at (design_refused fault) answer 7 mid now m n seven w)
   ]
+  ends_told (stimulus_refused fault) answer lost mid now t m n same s o w = elim s [
+    | inl four ↦ with_line (stimulus_refused fault) (stimulus_refused fault) answer lost mid now t m n same four o o.leaves o.shows tt
+        (cause_stands c t (stimulus_refused fault) o.justified) (line_at (stimulus_refused fault) answer 4 mid now m n four w)
+    | inr seven ↦ with_line (stimulus_refused fault) no_memory answer lost mid now t m n same seven o
+        (stimulus_leaves c t m.files fault o.leaves) (inr (o.gained, o.shows, whole_prefix o.gained)) tt
+        (λ named none. absurd (none refl)) (line_at (stimulus_refused fault) answer 7 mid now m n seven w)
+  ]
   ends_told (failed name) answer lost mid now t m n same s o w =
-      with_line (failed name) (failed name) answer lost mid now t m n same s o o.leaves o.blames
+      with_line (failed name) (failed name) answer lost mid now t m n same s o o.leaves o.shows o.blames
       (λ named none. absurd (named name refl)) (line_at (failed name) answer 6 mid now m n s w)
   ends_told no_memory answer lost mid now t m n same s o w =
-      with_line no_memory no_memory answer lost mid now t m n same s o o.leaves tt
+      with_line no_memory no_memory answer lost mid now t m n same s o o.leaves o.shows tt
       (λ named none. absurd (none refl)) (line_at no_memory answer 7 mid now m n s w)
 
   pub answers_ended : (e : Ending) (answer lost mid now : ℕ) (old one new : Option Told) → mid ≡ lost → IsStatus e answer
@@ -208,14 +253,22 @@ module _ (words : List (List ℕ)) (c : Words) (is : command_of words ≡ Some c
 
   -- where a fault comes from
 
+  full_file : (name text : List ℕ) (lost now : ℕ) (t m n : Told) → FullFile name t m → Tells text lost now m n → FullFile name t n
+  full_file name text lost now t m n full w = ap (λ (files : Files). length (unwrap_or (files name) [])) w.files ∙ full ∙ sym w.room
+
+  full_output : (text : List ℕ) (lost now : ℕ) (t m n : Told) → FullOutput t m → Tells text lost now m n → FullOutput t n
+  full_output text lost now t m n full w = λ open_now. ap length w.output ∙ full open_now ∙ sym w.room
+
   outside_after : (text : List ℕ) (lost now : ℕ) (d : Words) (t m n : Told) → OutsideOf d t m → Tells text lost now m n → OutsideOf d t n
-  outside_after text lost now (compile lattice design out) t m n h w = elim h [
-    | inl missing ↦ inl missing
-    | inr other ↦ elim other [
-      | inl missing ↦ inr (inl missing)
-      | inr full ↦ inr (inr (ap (λ (files : Files). length (unwrap_or (files out) [])) w.files ∙ full ∙ sym w.room))
-    ]
-  ]
+  outside_after text lost now (compile lattice design out) t m n (inl missing) w = inl missing
+  outside_after text lost now (compile lattice design out) t m n (inr (inl missing)) w = inr (inl missing)
+  outside_after text lost now (compile lattice design out) t m n (inr (inr full)) w = inr (inr (full_file out text lost now t m n full w))
+  outside_after text lost now (run lattice design stimulus) t m n (inl missing) w = inl missing
+  outside_after text lost now (run lattice design stimulus) t m n (inr (inl missing)) w = inr (inl missing)
+  outside_after text lost now (run lattice design stimulus) t m n (inr (inr (inl missing))) w = inr (inr (inl missing))
+  outside_after text lost now (run lattice design stimulus) t m n (inr (inr (inr full))) w = inr (inr (inr (full_output text lost now t m n full w)))
+  outside_after text lost now (fmt design) t m n (inl missing) w = inl missing
+  outside_after text lost now (fmt design) t m n (inr full) w = inr (full_output text lost now t m n full w)
 
   outside_words : (t n : Told) → OutsideOf c t n → Outside words t n
   outside_words t n h d named = subst (λ (w : Words). OutsideOf w t n) (same_Some (command_of words) c d is named) h
@@ -242,7 +295,9 @@ module _ (words : List (List ℕ)) (is : command_of words ≡ None) where
     status = refl;
     line = subst (λ (l : List ℕ). Gained l lost now t n) is_line w.gained;
     leaves = subst (λ (o : Option Words). LeavesOf o t n.files no_command) (sym is) w.files;
-    output = w.output;
+    gained = [];
+    output = w.output ∙ sym (append-nil (t.written 1));
+    shows = subst (λ (o : Option Words). OutputOf o t [] no_command) (sym is) refl;
     blames = tt;
     cause = λ named none. subst (λ (o : Option Words). CauseOf o t no_command) (sym is) refl;
   }

@@ -7,15 +7,14 @@ use Rattle.sap_lattice.specs.Levels.{Levels}
 use Rattle.sap_lattice.specs.Rules.{KeepsAll}
 use Rattle.sap_lattice.specs.declared.pair.Pair.{Pair}
 use Rattle.sap_latfile.specs.LatticeFile.{FirstFault, IsFileOf, IsLatticeOfFile}
+use Rattle.sap_latfile.specs.OneLattice.{AreSame, OneLattice}
 use Rattle.sap_latfile.specs.declared.fault.LatFileFault.{LatFileFault}
 use Rattle.sap_latfile.specs.declared.fault.LatFileFault.TheVariants as lattice
-use Rattle.sapper.specs.Words.{Words, compile, lattice_of}
-use Rattle.sapper.specs.Ending.{Ending, done, no_command, lattice_refused, design_refused, failed, no_memory, status_of}
-use Rattle.sapper.specs.Causes.{Cause, LatticeStands}
-use Rattle.sapper.specs.Ends.{Failed, Files}
-use Rattle.sapper.specs.Steps.{Counted, Ends, HasLattice, InputEnds, LatticeRead, Same, ending, ending_of, lattice_failure}
+use Rattle.sapper.specs.Ending.{Ending}
+use Rattle.sapper.specs.Causes.{LatticeStands}
+use Rattle.sapper.specs.Steps.{Counted, HasLattice, LatticeEnds, LatticeRead, LatticeStops, Never, Same, Stops, Unchanged, ending, ending_of, lattice_failure}
 use Rattle.sapper.specs.declared.failure.Failure.{Failure}
-use Rattle.sapper.specs.declared.failure.Failure.TheVariants.{Lattice, Design, Desk, Memory}
+use Rattle.sapper.specs.declared.failure.Failure.TheVariants.{Lattice, Design, Stimulus, Desk, Memory}
 
 pub same_Some : {A : Type 0} (o : Option A) (a b : A) → o ≡ Some a → o ≡ Some b → a ≡ b
 same_Some o a b p q = cc
@@ -25,25 +24,21 @@ on_ok (Ok x) p = p
 on_ok (Err e) p = tt
 
 pub same_self : (t : Told) → Same t t
-same_self t = record { output = refl; lines = refl; lines_use = refl; room = refl }
+same_self t = record { lines = refl; lines_use = refl; room = refl }
 
--- a file could not be read
+pub unchanged_self : (t : Told) → Unchanged t t
+unchanged_self t = record { files = refl; output = refl; same = same_self t }
 
-failed_before : (c : Words) (t : Told) (files : Files) → files ≡ t.files → Failed c t files
-failed_before (compile l d o) t files is = inl is
+-- a file could not be read, which is a reason to stop for every reader
 
-input_ends : (c : Words) (name : List ℕ) (e : Ending) (t n : Told) → InputEnds name e t n → Ends c e t n
-input_ends c name (failed blamed) t n i = record { leaves = failed_before c t n.files i.2; blames = i.1 ∙ sym i.0; same = i.3; justified = inl tt }
-input_ends c name no_memory t n i = record { leaves = i.0; blames = tt; same = i.1; justified = inl tt }
-input_ends c name done t n i = absurd i
-input_ends c name no_command t n i = absurd i
-input_ends c name (lattice_refused fault) t n i = absurd i
-input_ends c name (design_refused fault) t n i = absurd i
+stops_told : (reason : Ending → Type 0) (e : Ending) (t n : Told) → Stops Never e t n → Stops reason e t n
+stops_told reason e t n s = record { unchanged = s.unchanged; blames = s.blames; why = elim s.why [ inl free ↦ inl free | inr never ↦ absurd never ] }
 
-pub input_stops : (c : Words) (name : List ℕ) (e : Ending) (old new : Option Told) → Between old new (InputEnds name e) → Between old new (Ends c e)
-input_stops c name e None new i = tt
-input_stops c name e (Some t) None i = i
-input_stops c name e (Some t) (Some n) i = input_ends c name e t n i
+pub stops_unread : (reason : Told → Ending → Type 0) (e : Ending) (old new : Option Told) → Between old new (Stops Never e)
+    → Between old new (λ t n. Stops (reason t) e t n)
+stops_unread reason e None new s = tt
+stops_unread reason e (Some t) None s = s
+stops_unread reason e (Some t) (Some n) s = stops_told (reason t) e t n s
 
 -- the bytes of a lattice file
 
@@ -73,69 +68,63 @@ pub lattice_unread : (bytes : List ℕ) (fault : LatFileFault) (failure : Failur
     → LatticeRead bytes (Err failure)
 lattice_unread bytes fault failure is first valid = subst (λ (f : Failure). LatticeRead bytes (Err f)) (sym is) (unread bytes fault first valid)
 
--- the lattice file of a command
+-- a lattice file
 
-module _ (c : Words) (t : Told) (bytes : List ℕ) (file : t.files (lattice_of c) ≡ Some bytes) where
-  has : (ls : Levels) → LatticeRead bytes (Ok ls) → HasLattice c t ls
+module _ (t : Told) (name bytes : List ℕ) (file : t.files name ≡ Some bytes) where
+  stands_in : (ls : Levels) → LatticeStands t name ls → IsLatticeOfFile bytes ls
+  stands_in ls (other, there, is) = subst (λ (b : List ℕ). IsLatticeOfFile b ls) (same_Some (t.files name) other bytes there file) is
+
+  has : OneLattice → (ls : Levels) → LatticeRead bytes (Ok ls) → HasLattice t name ls
   unfolding LatticeRead
-  has ls r = record {
+  has one ls r = record {
     stands = (bytes, file, r.0);
     unbroken = λ fault broken.
         let (other, there, first) = broken.1 in
-        r.1 fault broken.0 (subst (λ (b : List ℕ). FirstFault b fault) (same_Some (t.files (lattice_of c)) other bytes there file) first);
+        r.1 fault broken.0 (subst (λ (b : List ℕ). FirstFault b fault) (same_Some (t.files name) other bytes there file) first);
+    only = λ other stands. one bytes other ls (stands_in other stands) r.0;
   }
 
-  none_stands : ((ls : Levels) → IsLatticeOfFile bytes ls → ⊥) → (ls : Levels) → LatticeStands c t ls → ⊥
-  none_stands none ls (other, there, is) = none ls (subst (λ (b : List ℕ). IsLatticeOfFile b ls) (same_Some (t.files (lattice_of c)) other bytes there file) is)
-
-  only_refused : ((ls : Levels) → IsLatticeOfFile bytes ls → ⊥) → (e : Ending) → Cause c t e → status_of e ≡ 3
-  only_refused none done cause = absurd (none_stands none cause.0 cause.2)
-  only_refused none no_command cause = absurd cause
-  only_refused none (lattice_refused fault) cause = refl
-  only_refused none (design_refused fault) cause = absurd (none_stands none cause.0 cause.1)
-  only_refused none (failed name) cause = absurd cause
-  only_refused none no_memory cause = absurd cause
-
-  ends : (failure : Failure) → LatticeRead bytes (Err failure) → Ends c (ending failure) t t
+  stops : (failure : Failure) → LatticeRead bytes (Err failure) → LatticeStops name (ending failure) t t
   unfolding LatticeRead
-  ends (Lattice fault) r = record {
-    leaves = refl;
+  stops (Lattice fault) r = record {
+    unchanged = unchanged_self t;
     blames = tt;
-    same = same_self t;
-    justified = inr ((r.0, (bytes, file, r.1)), only_refused r.2);
+    why = inr ((r.0, (bytes, file, r.1)), λ ls stands. r.2 ls (stands_in ls stands));
   }
-  ends Memory r = record { leaves = refl; blames = tt; same = same_self t; justified = inl tt }
-  ends (Design fault) r = absurd r
-  ends (Desk name) r = absurd r
+  stops Memory r = record { unchanged = unchanged_self t; blames = tt; why = inl tt }
+  stops (Design fault) r = absurd r
+  stops (Stimulus fault) r = absurd r
+  stops (Desk blamed) r = absurd r
 
 -- over a desk that may tell
 
-has_told : (c : Words) (name bytes seen : List ℕ) (ls : Levels) (old : Option Told) → lattice_of c ≡ name → IfSome old (λ t. t.files name ≡ Some bytes)
-    → seen ≡ bytes → LatticeRead seen (Ok ls) → IfSome old (λ t. HasLattice c t ls)
-has_told c name bytes seen ls None named file is r = tt
-has_told c name bytes seen ls (Some t) named file is r = has c t seen (ap t.files named ∙ file ∙ ap Some (sym is)) ls r
+has_told : OneLattice → (name bytes seen : List ℕ) (ls : Levels) (old : Option Told) → IfSome old (λ t. t.files name ≡ Some bytes)
+    → seen ≡ bytes → LatticeRead seen (Ok ls) → IfSome old (λ t. HasLattice t name ls)
+has_told one name bytes seen ls None file is r = tt
+has_told one name bytes seen ls (Some t) file is r = has t name seen (file ∙ ap Some (sym is)) one ls r
 
-pub lattice_has : (name bytes seen : List ℕ) (r : Result Levels Failure) (old : Option Told) → IfSome old (λ t. t.files name ≡ Some bytes)
-    → seen ≡ bytes → LatticeRead seen r → IfOk r (λ l. (c : Words) → lattice_of c ≡ name → IfSome old (λ t. HasLattice c t l))
-lattice_has name bytes seen (Ok ls) old file is r = λ c named. has_told c name bytes seen ls old named file is r
-lattice_has name bytes seen (Err e) old file is r = tt
+pub lattice_has : OneLattice → (name bytes seen : List ℕ) (r : Result Levels Failure) (old : Option Told) → IfSome old (λ t. t.files name ≡ Some bytes)
+    → seen ≡ bytes → LatticeRead seen r → IfOk r (λ l. IfSome old (λ t. HasLattice t name l))
+lattice_has one name bytes seen (Ok ls) old file is r = has_told one name bytes seen ls old file is r
+lattice_has one name bytes seen (Err e) old file is r = tt
 
-ends_told : (c : Words) (name bytes seen : List ℕ) (e : Failure) (old : Option Told) → lattice_of c ≡ name → IfSome old (λ t. t.files name ≡ Some bytes)
-    → seen ≡ bytes → LatticeRead seen (Err e) → Between old old (Ends c (ending e))
-ends_told c name bytes seen e None named file is r = tt
-ends_told c name bytes seen e (Some t) named file is r = ends c t seen (ap t.files named ∙ file ∙ ap Some (sym is)) e r
+stops_read : (name bytes seen : List ℕ) (e : Failure) (old : Option Told) → IfSome old (λ t. t.files name ≡ Some bytes)
+    → seen ≡ bytes → LatticeRead seen (Err e) → Between old old (LatticeStops name (ending e))
+stops_read name bytes seen e None file is r = tt
+stops_read name bytes seen e (Some t) file is r = stops t name seen (file ∙ ap Some (sym is)) e r
 
 pub lattice_stops : (name bytes seen : List ℕ) (r : Result Levels Failure) (old new : Option Told) → IfSome old (λ t. t.files name ≡ Some bytes)
     → seen ≡ bytes → new ≡ old → LatticeRead seen r
-    → IfErr r (λ e. (c : Words) → lattice_of c ≡ name → Between old new (Ends c (ending e)))
+    → IfErr r (λ e. Between old new (LatticeStops name (ending e)))
 lattice_stops name bytes seen (Ok ls) old new file is stands r = tt
-lattice_stops name bytes seen (Err e) old new file is stands r = λ c named.
-    subst (λ (n : Option Told). Between old n (Ends c (ending e))) (sym stands) (ends_told c name bytes seen e old named file is r)
+lattice_stops name bytes seen (Err e) old new file is stands r =
+    subst (λ (n : Option Told). Between old n (LatticeStops name (ending e))) (sym stands) (stops_read name bytes seen e old file is r)
 
 pub lattice_counts : (bytes : List ℕ) (r : Result Levels Failure) (faults now : ℕ) → LatticeRead bytes r → now ≡ faults → Counted faults now (ending_of r)
 unfolding LatticeRead
 lattice_counts bytes (Ok ls) faults now r stands = stands
 lattice_counts bytes (Err (Lattice fault)) faults now r stands = stands
 lattice_counts bytes (Err (Design fault)) faults now r stands = absurd r
+lattice_counts bytes (Err (Stimulus fault)) faults now r stands = absurd r
 lattice_counts bytes (Err (Desk name)) faults now r stands = absurd r
 lattice_counts bytes (Err Memory) faults now r stands = stands

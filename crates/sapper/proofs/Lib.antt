@@ -1,4 +1,12 @@
 pub mod Lattices
 pub mod Designs
+pub mod DesignTexts
+pub mod Programs
+pub mod Stimuli
+pub mod Alike
 pub mod Endings
+pub mod CompileEnds
+pub mod OneText
+pub mod RunEnds
+pub mod FmtEnds
 pub mod Calls

@@ -4,48 +4,96 @@ use Rattle.sap_desk.specs.Desk.{Told}
 use Rattle.sap_lattice.specs.Levels.{Levels}
 use Rattle.sap_latfile.specs.LatticeFile.{IsLatticeOfFile, FirstFault}
 use Rattle.sap_latfile.specs.declared.fault.LatFileFault.{LatFileFault}
-use Rattle.sap_latfile.specs.declared.fault.LatFileFault.TheVariants as lattice
-use Rattle.sap_parse.specs.Text.{IsText}
+use Rattle.sap_latfile.specs.declared.fault.LatFileFault.TheVariants as lattice_fault
+use Rattle.sap_parse.specs.Text.{IsText, IsReadFault}
 use Rattle.sap_shape.specs.WellFormed.{WellFormed}
 use Rattle.sap_single.specs.Early.{early_of}
 use Rattle.sap_tree.specs.Syntax.{DesignTree}
 use Rattle.sap_compile.specs.Compiles.{IsFaultOf}
 use Rattle.sap_compile.specs.declared.fault.DesignFault.{DesignFault}
-use Rattle.sap_compile.specs.declared.fault.DesignFault.TheVariants as design
-use Rattle.sapper.specs.Words.{Words, lattice_of, design_of}
-use Rattle.sapper.specs.Ending.{Ending, done, no_command, lattice_refused, design_refused, failed, no_memory}
+use Rattle.sap_compile.specs.declared.fault.DesignFault.TheVariants as design_fault
+use Rattle.sap_stim.specs.declared.fault.StimFault.{StimFault}
+use Rattle.sap_stim.specs.declared.stimulus.Parsed.{Parsed}
+use Rattle.sap_run.specs.RunOf.{read_for as design_stimulus}
+use Rattle.sapper.specs.Words.{Words, compile, run, fmt}
+use Rattle.sapper.specs.Ending.{Ending, done, no_command, lattice_refused, design_refused, stimulus_refused, failed, no_memory}
 
 -- there is a file of this name, and this holds of its bytes
 abbrev pub FileHas : Told → (name : List ℕ) → (List ℕ → Type 0) → Type 0
 FileHas t name P = (bytes : List ℕ) × (t.files name ≡ Some bytes) × P bytes
 
--- the command's lattice file is one of these levels; a rule is broken in it, this one first
-abbrev pub LatticeStands : Words → Told → Levels → Type 0
-LatticeStands c t ls = FileHas t (lattice_of c) (λ bytes. IsLatticeOfFile bytes ls)
+-- a lattice file is one of these levels; a rule is broken in it, this one first
+abbrev pub LatticeStands : Told → (name : List ℕ) → Levels → Type 0
+LatticeStands t name ls = FileHas t name (λ bytes. IsLatticeOfFile bytes ls)
 
-abbrev pub LatticeRefused : Words → Told → LatFileFault → Type 0
-LatticeRefused c t fault = (fault ≢ lattice.Memory) × FileHas t (lattice_of c) (λ bytes. FirstFault bytes fault)
+abbrev pub LatticeRefused : Told → (name : List ℕ) → LatFileFault → Type 0
+LatticeRefused t name fault = (fault ≢ lattice_fault.Memory) × FileHas t name (λ bytes. FirstFault bytes fault)
 
--- its design file is the text of a design that is well formed over the levels, all of whose constructs are compiled; or it has this fault
+-- a design file is the text of a design that is well formed over the levels, all of whose constructs are compiled; or it has this fault
 pub record Compiles (ls : Levels) (source : List ℕ) (d : DesignTree) : Type 0 where
   pub is_text : IsText source d
   pub compiled : early_of d ≡ None
   pub well_formed : WellFormed ls d
 
-abbrev pub DesignStands : Words → Told → Levels → DesignTree → Type 0
-DesignStands c t ls d = FileHas t (design_of c) (λ source. Compiles ls source d)
+abbrev pub DesignStands : Told → (name : List ℕ) → Levels → DesignTree → Type 0
+DesignStands t name ls d = FileHas t name (λ source. Compiles ls source d)
 
-abbrev pub DesignRefused : Words → Told → Levels → DesignFault → Type 0
-DesignRefused c t ls fault = (fault ≢ design.Memory) × FileHas t (design_of c) (λ source. IsFaultOf ls source fault)
+abbrev pub DesignRefused : Told → (name : List ℕ) → Levels → DesignFault → Type 0
+DesignRefused t name ls fault = (fault ≢ design_fault.Memory) × FileHas t name (λ source. IsFaultOf ls source fault)
+
+-- a design file is the text of a design within the limits; or it has this read fault
+abbrev pub TextStands : Told → (name : List ℕ) → DesignTree → Type 0
+TextStands t name d = FileHas t name (λ source. IsText source d)
+
+abbrev pub IsTextFault : (source : List ℕ) → DesignFault → Type 0
+IsTextFault source (design_fault.Read fault) = IsReadFault source fault
+IsTextFault source (design_fault.Early place) = ⊥
+IsTextFault source (design_fault.Check fault) = ⊥
+IsTextFault source design_fault.Memory = ⊥
+
+abbrev pub TextRefused : Told → (name : List ℕ) → DesignFault → Type 0
+TextRefused t name fault = FileHas t name (λ source. IsTextFault source fault)
+
+-- the first fault of a stimulus file, if any, by what its bytes are read as
+abbrev pub StimulusHas : Told → (name : List ℕ) → (List ℕ → Parsed) → Option StimFault → Type 0
+StimulusHas t name read fault = FileHas t name (λ bytes. (read bytes).fault ≡ fault)
 
 -- The cause of each ending of a command, in the order of its files. A failed call and want of memory have no cause in words and files.
+
+abbrev pub CompileCause : (lattice design : List ℕ) → Told → Ending → Type 0
+CompileCause lattice design t done = (ls : Levels) × (d : DesignTree) × LatticeStands t lattice ls × DesignStands t design ls d
+CompileCause lattice design t (lattice_refused fault) = LatticeRefused t lattice fault
+CompileCause lattice design t (design_refused fault) = (ls : Levels) × LatticeStands t lattice ls × DesignRefused t design ls fault
+CompileCause lattice design t (stimulus_refused fault) = ⊥
+CompileCause lattice design t no_command = ⊥
+CompileCause lattice design t (failed name) = ⊥
+CompileCause lattice design t no_memory = ⊥
+
+abbrev pub RunCause : (lattice design stimulus : List ℕ) → Told → Ending → Type 0
+RunCause lattice design stimulus t done =
+    (ls : Levels) × (d : DesignTree) × LatticeStands t lattice ls × DesignStands t design ls d × StimulusHas t stimulus (design_stimulus ls d) None
+RunCause lattice design stimulus t (lattice_refused fault) = LatticeRefused t lattice fault
+RunCause lattice design stimulus t (design_refused fault) = (ls : Levels) × LatticeStands t lattice ls × DesignRefused t design ls fault
+RunCause lattice design stimulus t (stimulus_refused fault) =
+    (ls : Levels) × (d : DesignTree) × LatticeStands t lattice ls × DesignStands t design ls d × StimulusHas t stimulus (design_stimulus ls d) (Some fault)
+RunCause lattice design stimulus t no_command = ⊥
+RunCause lattice design stimulus t (failed name) = ⊥
+RunCause lattice design stimulus t no_memory = ⊥
+
+-- a design that is written anew needs no lattice, and may have constructs that aren't compiled yet
+abbrev pub FmtCause : (design : List ℕ) → Told → Ending → Type 0
+FmtCause design t done = (d : DesignTree) × TextStands t design d
+FmtCause design t (design_refused fault) = TextRefused t design fault
+FmtCause design t (lattice_refused fault) = ⊥
+FmtCause design t (stimulus_refused fault) = ⊥
+FmtCause design t no_command = ⊥
+FmtCause design t (failed name) = ⊥
+FmtCause design t no_memory = ⊥
+
 abbrev pub Cause : Words → Told → Ending → Type 0
-Cause c t done = (ls : Levels) × (d : DesignTree) × LatticeStands c t ls × DesignStands c t ls d
-Cause c t no_command = ⊥
-Cause c t (lattice_refused fault) = LatticeRefused c t fault
-Cause c t (design_refused fault) = (ls : Levels) × LatticeStands c t ls × DesignRefused c t ls fault
-Cause c t (failed name) = ⊥
-Cause c t no_memory = ⊥
+Cause (compile lattice design out) t ending = CompileCause lattice design t ending
+Cause (run lattice design stimulus) t ending = RunCause lattice design stimulus t ending
+Cause (fmt design) t ending = FmtCause design t ending
 
 -- and of a whole call
 abbrev pub CauseOf : Option Words → Told → Ending → Type 0

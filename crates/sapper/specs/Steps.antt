@@ -1,33 +1,43 @@
 -- What the steps of a command leave.
-use Rattle.std.specs.Prelude.{◌≡◌, ◌≢◌, ◌⊎◌, ◌==◌, ℕ, List, Some, None, Result, Ok, Err, if◌then◌else◌}
+use Rattle.std.specs.Prelude.{◌≡◌, ◌≢◌, ◌⊎◌, ◌==◌, ◌++◌, ℕ, List, Option, Some, None, Result, Ok, Err, if◌then◌else◌}
 use Rattle.sap_desk.specs.Desk.{Told, at_name}
 use Rattle.sap_desk.specs.Cause.{counted}
 use Rattle.sap_lattice.specs.Levels.{Levels}
 use Rattle.sap_latfile.specs.LatticeFile.{IsLatticeOfFile, FirstFault}
+use Rattle.sap_latfile.specs.OneLattice.{AreSame}
 use Rattle.sap_latfile.specs.declared.fault.LatFileFault.{LatFileFault}
 use Rattle.sap_latfile.specs.declared.fault.LatFileFault.TheVariants as lattice_fault
+use Rattle.sap_parse.specs.Text.{IsText, IsReadFault}
+use Rattle.sap_parse.specs.declared.fault.ReadFault.{ReadFault}
+use Rattle.sap_parse.specs.declared.fault.ReadFault.TheVariants as read_fault
 use Rattle.sap_single.specs.Early.{early_of}
 use Rattle.sap_tree.specs.Designs.{design_of}
 use Rattle.sap_tree.specs.Syntax.{DesignTree}
+use Rattle.sap_tree.specs.declared.design.Design.{Design as AnyDesign}
 use Rattle.sap_compile.specs.Compiles.{IsCompiled, IsFaultOf}
 use Rattle.sap_compile.specs.declared.compiler.Compiled.{Compiled}
 use Rattle.sap_compile.specs.declared.fault.DesignFault.{DesignFault}
 use Rattle.sap_compile.specs.declared.fault.DesignFault.TheVariants as design_fault
-use Rattle.sapper.specs.Words.{Words, compile}
-use Rattle.sapper.specs.Ending.{Ending, done, no_command, lattice_refused, design_refused, failed, no_memory, status_of, line_of}
-use Rattle.sapper.specs.Causes.{Compiles, LatticeRefused, LatticeStands, Cause}
-use Rattle.sapper.specs.Ends.{Files, Leaves, Blames, Gained, IsPrefix}
+use Rattle.sap_stim.specs.declared.fault.StimFault.{StimFault}
+use Rattle.sapper.specs.Words.{Words, compile, run, fmt}
+use Rattle.sapper.specs.Ending.{Ending, done, no_command, lattice_refused, design_refused, stimulus_refused, failed, no_memory, status_of, line_of}
+use Rattle.sapper.specs.Causes.{Cause, Compiles, DesignRefused, DesignStands, FileHas, IsTextFault, LatticeRefused, LatticeStands, TextRefused, TextStands}
+use Rattle.sapper.specs.Output.{IsOutput, IsPrefix, Output}
+use Rattle.sapper.specs.Ends.{Files, Leaves, Blames, Gained}
 use Rattle.sapper.specs.declared.command.Command.{Command}
-use Rattle.sapper.specs.declared.command.Command.TheVariants.{Compile}
+use Rattle.sapper.specs.declared.command.Command.TheVariants.{Compile, Run, Fmt}
 use Rattle.sapper.specs.declared.failure.Failure.{Failure}
-use Rattle.sapper.specs.declared.failure.Failure.TheVariants.{Lattice, Design, Desk, Memory}
+use Rattle.sapper.specs.declared.failure.Failure.TheVariants.{Lattice, Design, Stimulus, Desk, Memory}
 
 abbrev pub words_of : Command → Words
 words_of (Compile lattice design out) = compile lattice.now design.now out.now
+words_of (Run lattice design stimulus) = run lattice.now design.now stimulus.now
+words_of (Fmt design) = fmt design.now
 
 abbrev pub ending : Failure → Ending
 ending (Lattice fault) = lattice_refused fault
 ending (Design fault) = design_refused fault
+ending (Stimulus fault) = stimulus_refused fault
 ending (Desk name) = failed name.now
 ending Memory = no_memory
 
@@ -44,11 +54,21 @@ abbrev pub design_failure : DesignFault → Failure
 design_failure design_fault.Memory = Memory
 design_failure fault = Design fault
 
+abbrev pub read_failure : ReadFault → Failure
+read_failure read_fault.Memory = Memory
+read_failure fault = Design (design_fault.Read fault)
+
+-- how a command ends whose stimulus has this fault, if any
+abbrev pub last_of : Option StimFault → Ending
+last_of None = done
+last_of (Some fault) = stimulus_refused fault
+
 -- what the bytes of a lattice file give: their lattice, and then no rule is broken; or the rule that is broken first, and then they are no lattice
 unfoldable pub LatticeRead : (bytes : List ℕ) → Result Levels Failure → Type 0
 LatticeRead bytes (Ok ls) = IsLatticeOfFile bytes ls × ((fault : LatFileFault) → fault ≢ lattice_fault.Memory → FirstFault bytes fault → ⊥)
 LatticeRead bytes (Err (Lattice fault)) = (fault ≢ lattice_fault.Memory) × FirstFault bytes fault × ((ls : Levels) → IsLatticeOfFile bytes ls → ⊥)
 LatticeRead bytes (Err (Design fault)) = ⊥
+LatticeRead bytes (Err (Stimulus fault)) = ⊥
 LatticeRead bytes (Err (Desk name)) = ⊥
 LatticeRead bytes (Err Memory) = Unit {0}
 
@@ -58,24 +78,40 @@ DesignCompiled ls source (Ok m) =
     IsCompiled ls source m × (early_of (design_of m.design) ≡ None) × ((fault : DesignFault) → fault ≢ design_fault.Memory → IsFaultOf ls source fault → ⊥)
 DesignCompiled ls source (Err (Design fault)) = (fault ≢ design_fault.Memory) × IsFaultOf ls source fault × ((d : DesignTree) → Compiles ls source d → ⊥)
 DesignCompiled ls source (Err (Lattice fault)) = ⊥
+DesignCompiled ls source (Err (Stimulus fault)) = ⊥
 DesignCompiled ls source (Err (Desk name)) = ⊥
 DesignCompiled ls source (Err Memory) = Unit {0}
 
--- the count of faults: it rises where a call on a file failed, and else stands
+-- the same without a lattice: their tree, and then they have no read fault; or their read fault, and then they have no tree
+unfoldable pub TextRead : (source : List ℕ) → Result AnyDesign Failure → Type 0
+TextRead source (Ok d) = IsText source (design_of d) × ((fault : DesignFault) → IsTextFault source fault → ⊥)
+TextRead source (Err (Design fault)) = IsTextFault source fault × ((d : DesignTree) → IsText source d → ⊥)
+TextRead source (Err (Lattice fault)) = ⊥
+TextRead source (Err (Stimulus fault)) = ⊥
+TextRead source (Err (Desk name)) = ⊥
+TextRead source (Err Memory) = Unit {0}
+
+-- the count of faults: it rises where a call on a file or on channel 1 failed, and else stands
 abbrev pub Counted : (faults now : ℕ) → Ending → Type 0
 Counted faults now (failed name) = now ≡ counted faults
 Counted faults now done = now ≡ faults
 Counted faults now no_command = now ≡ faults
 Counted faults now (lattice_refused fault) = now ≡ faults
 Counted faults now (design_refused fault) = now ≡ faults
+Counted faults now (stimulus_refused fault) = now ≡ faults
 Counted faults now no_memory = now ≡ faults
 
 -- what no step changes
 pub record Same (t n : Told) : Type 0 where
-  pub output : n.written 1 ≡ t.written 1
   pub lines : n.written 2 ≡ t.written 2
   pub lines_use : n.uses 2 ≡ t.uses 2
   pub room : n.room ≡ t.room
+
+-- what a step leaves that writes nothing
+pub record Unchanged (t n : Told) : Type 0 where
+  pub files : n.files ≡ t.files
+  pub output : n.written 1 ≡ t.written 1
+  pub same : Same t n
 
 -- the ending has no cause in words and files
 abbrev pub IsFree : Ending → Type 0
@@ -83,6 +119,7 @@ IsFree done = ⊥
 IsFree no_command = ⊥
 IsFree (lattice_refused fault) = ⊥
 IsFree (design_refused fault) = ⊥
+IsFree (stimulus_refused fault) = ⊥
 IsFree (failed name) = Unit {0}
 IsFree no_memory = Unit {0}
 
@@ -93,36 +130,118 @@ Justified c t e = IsFree e ⊎ (Cause c t e × ((f : Ending) → Cause c t f →
 -- a command ended so, and its line isn't written yet
 pub record Ends (c : Words) (e : Ending) (t n : Told) : Type 0 where
   pub leaves : Leaves c t n.files e
+  pub gained : List ℕ
+  pub output : n.written 1 ≡ t.written 1 ++ gained
+  pub shows : Output c t gained e
   pub blames : Blames n.blame e
   pub same : Same t n
   pub justified : Justified c t e
 
--- the lattice file has these levels, and no rule is broken in it
-pub record HasLattice (c : Words) (t : Told) (ls : Levels) : Type 0 where
-  pub stands : LatticeStands c t ls
-  pub unbroken : (fault : LatFileFault) → LatticeRefused c t fault → ⊥
+-- a step that reads a file ended a command, for want of memory, by a failed call or for this reason: all is as before but the blame
+pub record Stops (reason : Ending → Type 0) (e : Ending) (t n : Told) : Type 0 where
+  pub unchanged : Unchanged t n
+  pub blames : Blames n.blame e
+  pub why : IsFree e ⊎ reason e
 
--- a file could not be read: all is as before but the blame and what no step's end depends on
-abbrev pub InputEnds : (name : List ℕ) → Ending → Told → Told → Type 0
-InputEnds name (failed blamed) t n = (blamed ≡ name) × (n.blame ≡ name) × (n.files ≡ t.files) × Same t n
-InputEnds name no_memory t n = (n.files ≡ t.files) × Same t n
-InputEnds name done t n = ⊥
-InputEnds name no_command t n = ⊥
-InputEnds name (lattice_refused fault) t n = ⊥
-InputEnds name (design_refused fault) t n = ⊥
+-- for no further reason; for a lattice file; for a design over the levels of a lattice; for a design without one
+abbrev pub Never : Ending → Type 0
+Never e = ⊥
 
--- the text was written, or the call failed and the file is as before or has a prefix, or nothing is changed
+abbrev pub LatticeEnds : Told → (name : List ℕ) → Ending → Type 0
+LatticeEnds t name (lattice_refused fault) = LatticeRefused t name fault × ((ls : Levels) → LatticeStands t name ls → ⊥)
+LatticeEnds t name done = ⊥
+LatticeEnds t name no_command = ⊥
+LatticeEnds t name (design_refused fault) = ⊥
+LatticeEnds t name (stimulus_refused fault) = ⊥
+LatticeEnds t name (failed blamed) = ⊥
+LatticeEnds t name no_memory = ⊥
+
+abbrev pub DesignEnds : Levels → Told → (name : List ℕ) → Ending → Type 0
+DesignEnds ls t name (design_refused fault) = DesignRefused t name ls fault × ((d : DesignTree) → DesignStands t name ls d → ⊥)
+DesignEnds ls t name done = ⊥
+DesignEnds ls t name no_command = ⊥
+DesignEnds ls t name (lattice_refused fault) = ⊥
+DesignEnds ls t name (stimulus_refused fault) = ⊥
+DesignEnds ls t name (failed blamed) = ⊥
+DesignEnds ls t name no_memory = ⊥
+
+abbrev pub TextEnds : Told → (name : List ℕ) → Ending → Type 0
+TextEnds t name (design_refused fault) = TextRefused t name fault × ((d : DesignTree) → TextStands t name d → ⊥)
+TextEnds t name done = ⊥
+TextEnds t name no_command = ⊥
+TextEnds t name (lattice_refused fault) = ⊥
+TextEnds t name (stimulus_refused fault) = ⊥
+TextEnds t name (failed blamed) = ⊥
+TextEnds t name no_memory = ⊥
+
+abbrev pub LatticeStops : (name : List ℕ) → Ending → Told → Told → Type 0
+LatticeStops name e t n = Stops (LatticeEnds t name) e t n
+
+abbrev pub DesignStops : Levels → (name : List ℕ) → Ending → Told → Told → Type 0
+DesignStops ls name e t n = Stops (DesignEnds ls t name) e t n
+
+abbrev pub TextStops : (name : List ℕ) → Ending → Told → Told → Type 0
+TextStops name e t n = Stops (TextEnds t name) e t n
+
+-- a lattice file is one of these levels and no other, and no rule is broken in it
+pub record HasLattice (t : Told) (name : List ℕ) (ls : Levels) : Type 0 where
+  pub stands : LatticeStands t name ls
+  pub unbroken : (fault : LatFileFault) → LatticeRefused t name fault → ⊥
+  pub only : (other : Levels) → LatticeStands t name other → AreSame other ls
+
+-- a design file is compiled to this over the levels, has no fault, and is no other design
+pub record HasDesign (ls : Levels) (t : Told) (name : List ℕ) (m : Compiled) : Type 0 where
+  pub stands : FileHas t name (λ source. IsCompiled ls source m)
+  pub compiled : early_of (design_of m.design) ≡ None
+  pub faultless : (fault : DesignFault) → DesignRefused t name ls fault → ⊥
+  pub only : (other : DesignTree) → TextStands t name other → other ≡ design_of m.design
+
+-- a design file is this design and no other, and has no read fault
+pub record HasText (t : Told) (name : List ℕ) (d : DesignTree) : Type 0 where
+  pub stands : TextStands t name d
+  pub faultless : (fault : DesignFault) → TextRefused t name fault → ⊥
+  pub only : (other : DesignTree) → TextStands t name other → other ≡ d
+
+-- the words and files of a command ask for this text, and for this ending behind it
+pub record HasOutput (c : Words) (t : Told) (text : List ℕ) (last : Ending) : Type 0 where
+  pub asked : IsOutput c t text
+  pub shows : Output c t text last
+  pub justified : Justified c t last
+
+-- the module was written, or the call failed and the file is as before or has a prefix, or nothing is changed
 abbrev pub WrittenFiles : (name text : List ℕ) → Ending → Told → Files → Type 0
 WrittenFiles name text done t files = files ≡ at_name name (Some text) t.files
-WrittenFiles name text (failed blamed) t files =
-    (blamed ≡ name) × ((files ≡ t.files) ⊎ ((part : List ℕ) × IsPrefix part text × (files ≡ at_name name (Some part) t.files)))
+WrittenFiles name text (failed blamed) t files = (files ≡ t.files) ⊎ ((part : List ℕ) × IsPrefix part text × (files ≡ at_name name (Some part) t.files))
 WrittenFiles name text no_memory t files = files ≡ t.files
 WrittenFiles name text no_command t files = ⊥
 WrittenFiles name text (lattice_refused fault) t files = ⊥
 WrittenFiles name text (design_refused fault) t files = ⊥
+WrittenFiles name text (stimulus_refused fault) t files = ⊥
 
 pub record Written (name text : List ℕ) (e : Ending) (t n : Told) : Type 0 where
   pub files : WrittenFiles name text e t n.files
+  pub output : n.written 1 ≡ t.written 1
+  pub blames : Blames n.blame e
+  pub same : Same t n
+
+abbrev pub IsFailed : Ending → Type 0
+IsFailed (failed name) = Unit {0}
+IsFailed done = ⊥
+IsFailed no_command = ⊥
+IsFailed (lattice_refused fault) = ⊥
+IsFailed (design_refused fault) = ⊥
+IsFailed (stimulus_refused fault) = ⊥
+IsFailed no_memory = ⊥
+
+-- channel 1 gained a text, and the command ends as it is to end behind it; or a call failed, and it gained a prefix
+abbrev pub PutPart : (text : List ℕ) (last : Ending) (gained : List ℕ) → Ending → Type 0
+PutPart text last gained e = ((e ≡ last) × (gained ≡ text)) ⊎ (IsFailed e × IsPrefix gained text)
+
+pub record Put (text : List ℕ) (last e : Ending) (t n : Told) : Type 0 where
+  pub files : n.files ≡ t.files
+  pub gained : List ℕ
+  pub output : n.written 1 ≡ t.written 1 ++ gained
+  pub part : PutPart text last gained e
   pub blames : Blames n.blame e
   pub same : Same t n
 
@@ -140,6 +259,7 @@ IsStatus done answer = ⊥
 IsStatus no_command answer = ⊥
 IsStatus (lattice_refused fault) answer = (answer ≡ 3) ⊎ (answer ≡ 7)
 IsStatus (design_refused fault) answer = (answer ≡ 1) ⊎ (answer ≡ 7)
+IsStatus (stimulus_refused fault) answer = (answer ≡ 4) ⊎ (answer ≡ 7)
 IsStatus (failed name) answer = answer ≡ 6
 IsStatus no_memory answer = answer ≡ 7
 

@@ -4,20 +4,25 @@ use Rattle.std.specs.Prelude.{ℕ, Bool, true, not, ◌&&◌, List, [], ◌∷�
 -- each operand is the name of a file
 pub data Words : Type 0 where
   compile : (lattice design out : List ℕ) → Words
+  run : (lattice design stimulus : List ℕ) → Words
+  fmt : (design : List ℕ) → Words
 
 -- an operand begins with no `-`
 abbrev pub is_operand : List ℕ → Bool
 is_operand [] = true
 is_operand (c ∷ cs) = not (eqb c 45)
 
+-- a command of one operand, and one of three
+abbrev pub one_operand : (word a : List ℕ) → Option Words
+one_operand word a = if bytes_eq word (codes "fmt") then Some (fmt a) else None
+
+abbrev pub three_operands : (word a b c : List ℕ) → Option Words
+three_operands word a b c =
+    if bytes_eq word (codes "compile") then Some (compile a b c)
+    else (if bytes_eq word (codes "run") then Some (run a b c) else None)
+
 -- the command that the words are, if they are one
 abbrev pub command_of : List (List ℕ) → Option Words
-command_of (word ∷ a ∷ b ∷ c ∷ []) =
-    if bytes_eq word (codes "compile") && (is_operand a && (is_operand b && is_operand c)) then Some (compile a b c) else None
+command_of (word ∷ a ∷ []) = if is_operand a then one_operand word a else None
+command_of (word ∷ a ∷ b ∷ c ∷ []) = if is_operand a && (is_operand b && is_operand c) then three_operands word a b c else None
 command_of _ = None
-
-abbrev pub lattice_of : Words → List ℕ
-lattice_of (compile lattice design out) = lattice
-
-abbrev pub design_of : Words → List ℕ
-design_of (compile lattice design out) = design

@@ -13,11 +13,17 @@ ghost use Rattle.sapper.specs.Steps.{Counted, Ends, IsStatus, Tells, ending, end
 use crate::command::{Command, command_of};
 use crate::compiling::compile;
 use crate::failure::Failure;
-use crate::texts::{design_text, lattice_text};
+use crate::running::run;
+use crate::showing::format;
+use crate::texts::{design_text, lattice_text, stimulus_text};
 use sap_desk::{Desk, write_line};
 use std::alloc::{AllocError, Global};
 
-fn run<'a, D: Desk>(alloc: Global, desk: &mut D, command: Command<'a>) -> Result<(), Failure<'a>>
+fn perform<'a, D: Desk>(
+    alloc: Global,
+    desk: &mut D,
+    command: Command<'a>,
+) -> Result<(), Failure<'a>>
     ensures ends { Between (D.told desk.old) (D.told desk.new) (Ends (words_of command.entry) (ending_of result)) }
     ensures counted { Counted (D.faults desk.old) (D.faults desk.new) (ending_of result) }
     ensures lost { D.lost desk.new ≡ D.lost desk.old }
@@ -30,6 +36,12 @@ fn run<'a, D: Desk>(alloc: Global, desk: &mut D, command: Command<'a>) -> Result
             design,
             out,
         } => compile(alloc, desk, lattice, design, out),
+        Command::Run {
+            lattice,
+            design,
+            stimulus,
+        } => run(alloc, desk, lattice, design, stimulus),
+        Command::Fmt { design } => format(alloc, desk, design),
     }
 }
 
@@ -82,6 +94,10 @@ fn report<D: Desk>(alloc: Global, desk: &mut D, failure: &Failure<'_>) -> u8
             let text = design_text(alloc, fault);
             refuse(desk, 1, b"design: ", text)
         }
+        Failure::Stimulus(fault) => {
+            let text = stimulus_text(alloc, fault);
+            refuse(desk, 4, b"stimulus 1: ", text)
+        }
         Failure::Desk(name) => {
             tell(desk, b"desk: ", name.as_bytes());
             6
@@ -106,7 +122,7 @@ pub fn sapper<D: Desk>(alloc: Global, words: &[String], desk: &mut D) -> u8
     ensures sure { D.sure desk.old → D.sure desk.new }
 {
     match command_of(words) {
-        Some(command) => match run(alloc, desk, command) {
+        Some(command) => match perform(alloc, desk, command) {
             Ok(()) => 0,
             Err(failure) => report(alloc, desk, &failure),
         },

@@ -1,7 +1,7 @@
 //! The words of a command line as a command.
 
 ghost use Rattle.std.specs.Prelude.{◌≡◌, map, string_bytes, option_map};
-ghost use Rattle.sapper.specs.Words.{is_operand, command_of as words_for};
+ghost use Rattle.sapper.specs.Words.{is_operand, command_of as words_for, one_operand, three_operands};
 ghost use Rattle.sapper.specs.Steps.{words_of};
 
 /// A command with its operands, the names of files.
@@ -12,6 +12,14 @@ pub enum Command<'a> {
         design: &'a str,
         out: &'a str,
     },
+    Run {
+        lattice: &'a str,
+        design: &'a str,
+        stimulus: &'a str,
+    },
+    Fmt {
+        design: &'a str,
+    },
 }
 
 fn is_operand(word: &str) -> bool
@@ -20,22 +28,51 @@ fn is_operand(word: &str) -> bool
     !word.starts_with('-')
 }
 
+fn one_operand<'a>(word: &str, design: &'a str) -> Option<Command<'a>>
+    ensures { option_map words_of result ≡ one_operand word.now design.now }
+{
+    if word == "fmt" {
+        Some(Command::Fmt { design })
+    } else {
+        None
+    }
+}
+
+fn three_operands<'a>(word: &str, a: &'a str, b: &'a str, c: &'a str) -> Option<Command<'a>>
+    ensures { option_map words_of result ≡ three_operands word.now a.now b.now c.now }
+{
+    if word == "compile" {
+        Some(Command::Compile {
+            lattice: a,
+            design: b,
+            out: c,
+        })
+    } else if word == "run" {
+        Some(Command::Run {
+            lattice: a,
+            design: b,
+            stimulus: c,
+        })
+    } else {
+        None
+    }
+}
+
 /// The command that the words are, if they are one.
 pub fn command_of<'a>(list: &'a [String]) -> Option<Command<'a>>
     ensures { option_map words_of result ≡ words_for (map string_bytes list.now) }
 {
     match list {
-        [word, lattice, design, out] => {
-            if word.as_str() == "compile"
-                && is_operand(lattice)
-                && is_operand(design)
-                && is_operand(out)
-            {
-                Some(Command::Compile {
-                    lattice,
-                    design,
-                    out,
-                })
+        [word, a] => {
+            if is_operand(a) {
+                one_operand(word, a)
+            } else {
+                None
+            }
+        }
+        [word, a, b, c] => {
+            if is_operand(a) && is_operand(b) && is_operand(c) {
+                three_operands(word, a, b, c)
             } else {
                 None
             }

@@ -2,6 +2,7 @@
 
 use sap_compile::DesignFault;
 use sap_latfile::LatFileFault;
+use sap_stim::fault::StimFault;
 use std::alloc::AllocError;
 
 /// Why a command ends without its result.
@@ -9,7 +10,8 @@ use std::alloc::AllocError;
 pub enum Failure<'a> {
     Lattice(LatFileFault),
     Design(DesignFault),
-    /// A call failed on the file of this name.
+    Stimulus(StimFault),
+    /// A call failed on the file of this name, or on the output.
     Desk(&'a str),
     Memory,
 }

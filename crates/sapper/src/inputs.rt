@@ -1,12 +1,10 @@
 //! The files that a command reads.
 
-ghost use Rattle.std.specs.Prelude.{◌≡◌, ◌≢◌, IfOk, IfErr, OnOk, IfSome, IsSomeAnd, Some};
+ghost use Rattle.std.specs.Prelude.{◌≡◌, ◌≢◌, IfOk, IfErr, OnOk, IfSome, Some};
 ghost use Rattle.sap_desk.specs.Whole.{Between, MissingOrLong};
-ghost use Rattle.sap_compile.specs.Compiles.{IsCompiled};
-ghost use Rattle.sapper.specs.Words.{Words, lattice_of, design_of};
-ghost use Rattle.sapper.specs.Causes.{FileHas};
-ghost use Rattle.sapper.specs.Ending.{done};
-ghost use Rattle.sapper.specs.Steps.{Counted, DesignCompiled, Ends, HasLattice, InputEnds, Justified, LatticeRead, design_failure, ending, ending_of, lattice_failure};
+ghost use Rattle.sap_interface.specs.Designs.{StandsForDesign};
+ghost use Rattle.sap_tree.specs.Designs.{design_of};
+ghost use Rattle.sapper.specs.Steps.{Counted, DesignCompiled, DesignStops, HasDesign, HasLattice, HasText, LatticeRead, LatticeStops, Never, Stops, TextRead, TextStops, design_failure, ending, ending_of, lattice_failure, read_failure};
 
 use crate::failure::Failure;
 use sap_compile::{Compiled, DesignFault, compile};
@@ -14,13 +12,21 @@ use sap_desk::{Bytes, Desk, DeskError, read_file};
 use sap_latfile::laws::one_lattice;
 use sap_latfile::{LatFileFault, read_lattice};
 use sap_lattice::Lattice;
+use sap_parse::fault::ReadFault;
+use sap_parse::law::one_reading;
+use sap_parse::parse;
+use sap_tree::design::Design;
 use std::alloc::Global;
 
 /// The bytes of a file.
-fn bytes_of<'a, D: Desk>(alloc: Global, desk: &mut D, name: &'a str) -> Result<Bytes, Failure<'a>>
+pub fn bytes_of<'a, D: Desk>(
+    alloc: Global,
+    desk: &mut D,
+    name: &'a str,
+) -> Result<Bytes, Failure<'a>>
     ensures bytes { IfOk result (λ bytes. IfSome (D.told desk.old) (λ t. t.files name.now ≡ Some bytes)) }
     ensures told { OnOk result (D.told desk.new ≡ D.told desk.old) }
-    ensures stops { IfErr result (λ e. Between (D.told desk.old) (D.told desk.new) (InputEnds name.now (ending e))) }
+    ensures stops { IfErr result (λ e. Between (D.told desk.old) (D.told desk.new) (Stops Never (ending e))) }
     ensures counted { Counted (D.faults desk.old) (D.faults desk.new) (ending_of result) }
     ensures lost { D.lost desk.new ≡ D.lost desk.old }
     ensures sure { D.sure desk.old → D.sure desk.new }
@@ -52,21 +58,22 @@ fn lattice_from<'a>(alloc: Global, bytes: &[u8]) -> Result<Lattice, Failure<'a>>
     }
 }
 
-/// The lattice of a command's lattice file.
+/// The lattice of a lattice file.
 pub fn lattice_in<'a, D: Desk>(
     alloc: Global,
     desk: &mut D,
     name: &'a str,
 ) -> Result<Lattice, Failure<'a>>
-    ensures has { IfOk result (λ l. (c : Words) → lattice_of c ≡ name.now → IfSome (D.told desk.old) (λ t. HasLattice c t l)) }
+    ensures has { IfOk result (λ l. IfSome (D.told desk.old) (λ t. HasLattice t name.now l)) }
     ensures told { OnOk result (D.told desk.new ≡ D.told desk.old) }
-    ensures stops { IfErr result (λ e. (c : Words) → lattice_of c ≡ name.now → Between (D.told desk.old) (D.told desk.new) (Ends c (ending e))) }
+    ensures stops { IfErr result (λ e. Between (D.told desk.old) (D.told desk.new) (LatticeStops name.now (ending e))) }
     ensures counted { Counted (D.faults desk.old) (D.faults desk.new) (ending_of result) }
     ensures lost { D.lost desk.new ≡ D.lost desk.old }
     ensures sure { D.sure desk.old → D.sure desk.new }
     ensures outside { (D.faults desk.new ≢ D.faults desk.old) → D.sure desk.old → IfSome (D.told desk.old) (MissingOrLong name.now) }
 {
     let bytes = bytes_of(alloc, desk, name)?;
+    one_lattice();
     lattice_from(alloc, bytes.as_slice())
 }
 
@@ -93,23 +100,62 @@ fn compiled_from<'a>(
     }
 }
 
-/// The design of a command's design file, compiled over the lattice of its lattice file.
+/// The design of a design file, compiled over a lattice.
 pub fn compiled_in<'a, D: Desk>(
     alloc: Global,
     desk: &mut D,
     lattice: &Lattice,
     name: &'a str,
 ) -> Result<Compiled, Failure<'a>>
-    ensures compiled { IfOk result (λ m. IfSome (D.told desk.old) (λ t. FileHas t name.now (λ source. IsCompiled lattice.now source m))) }
-    ensures justified { OnOk result ((c : Words) → design_of c ≡ name.now → IfSome (D.told desk.old) (λ t. HasLattice c t lattice.now → Justified c t done)) }
+    ensures has { IfOk result (λ m. IfSome (D.told desk.old) (λ t. HasDesign lattice.now t name.now m)) }
+    ensures stands { IfOk result (λ m. StandsForDesign lattice.now (design_of m.design) m.netlist) }
     ensures told { OnOk result (D.told desk.new ≡ D.told desk.old) }
-    ensures stops { IfErr result (λ e. (c : Words) → design_of c ≡ name.now → IfSome (D.told desk.old) (λ t. HasLattice c t lattice.now → IsSomeAnd (D.told desk.new) (Ends c (ending e) t))) }
+    ensures stops { IfErr result (λ e. Between (D.told desk.old) (D.told desk.new) (DesignStops lattice.now name.now (ending e))) }
     ensures counted { Counted (D.faults desk.old) (D.faults desk.new) (ending_of result) }
     ensures lost { D.lost desk.new ≡ D.lost desk.old }
     ensures sure { D.sure desk.old → D.sure desk.new }
     ensures outside { (D.faults desk.new ≢ D.faults desk.old) → D.sure desk.old → IfSome (D.told desk.old) (MissingOrLong name.now) }
 {
     let bytes = bytes_of(alloc, desk, name)?;
-    one_lattice();
+    one_reading();
     compiled_from(alloc, lattice, bytes.as_slice())
+}
+
+fn read_failure<'a>(fault: ReadFault) -> Failure<'a>
+    ensures { result ≡ read_failure fault }
+{
+    match fault {
+        ReadFault::Memory => Failure::Memory,
+        fault => Failure::Design(DesignFault::Read(fault)),
+    }
+}
+
+/// The design of a design file's bytes.
+fn text_from<'a>(alloc: Global, bytes: &[u8]) -> Result<Design, Failure<'a>>
+    ensures { TextRead bytes.now result }
+{
+    one_reading();
+    match parse(alloc, bytes) {
+        Ok(design) => Ok(design),
+        Err(fault) => Err(read_failure(fault)),
+    }
+}
+
+/// The design of a design file.
+pub fn text_in<'a, D: Desk>(
+    alloc: Global,
+    desk: &mut D,
+    name: &'a str,
+) -> Result<Design, Failure<'a>>
+    ensures has { IfOk result (λ d. IfSome (D.told desk.old) (λ t. HasText t name.now (design_of d))) }
+    ensures told { OnOk result (D.told desk.new ≡ D.told desk.old) }
+    ensures stops { IfErr result (λ e. Between (D.told desk.old) (D.told desk.new) (TextStops name.now (ending e))) }
+    ensures counted { Counted (D.faults desk.old) (D.faults desk.new) (ending_of result) }
+    ensures lost { D.lost desk.new ≡ D.lost desk.old }
+    ensures sure { D.sure desk.old → D.sure desk.new }
+    ensures outside { (D.faults desk.new ≢ D.faults desk.old) → D.sure desk.old → IfSome (D.told desk.old) (MissingOrLong name.now) }
+{
+    let bytes = bytes_of(alloc, desk, name)?;
+    one_reading();
+    text_from(alloc, bytes.as_slice())
 }

@@ -6,6 +6,11 @@ mod command;
 mod compiling;
 mod failure;
 mod inputs;
+mod laws;
+mod output;
+mod running;
+mod showing;
 mod texts;
 
 pub use call::sapper;
+pub use laws::one_output;

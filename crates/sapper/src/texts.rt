@@ -10,6 +10,7 @@ use sap_lattice::LatFault;
 use sap_names::fault::CheckFault;
 use sap_parse::fault::ReadFault;
 use sap_parse::limit::Limit;
+use sap_stim::fault::StimFault;
 use sap_tree::place::Place;
 use std::alloc::{AllocError, Global};
 
@@ -147,5 +148,17 @@ pub fn design_text(alloc: Global, fault: &DesignFault) -> Result<Vec<u8>, AllocE
         DesignFault::Check(fault) => check(&mut out, alloc, fault)?,
         DesignFault::Memory => out.extend_from_slice(b"memory")?,
     }
+    Ok(out)
+}
+
+/// What a refused stimulus is told by.
+pub fn stimulus_text(alloc: Global, fault: &StimFault) -> Result<Vec<u8>, AllocError>
+    ensures { IfOk result (λ text. text.items ≡ texts.stimulus_text fault.now) }
+{
+    let mut out = Vec::new(alloc);
+    out.extend_from_slice(b"S")?;
+    number(&mut out, alloc, u64::from(fault.code.number()))?;
+    out.extend_from_slice(b" line ")?;
+    number(&mut out, alloc, fault.line)?;
     Ok(out)
 }

@@ -2,6 +2,9 @@
 #![tactic(auto)]
 
 #[cfg(test)]
+mod rows;
+
+#[cfg(test)]
 mod tests {
     use sap_desk::MemoryDesk;
     use sapper::sapper;

@@ -1,10 +1,10 @@
 use Rattle.std.proofs.Common.{◌≡◌, rules, refl, sym, subst}
 use Rattle.std.specs.Prelude.{codes}
 use Rattle.sap_desk.specs.Whole.{Between}
-use Rattle.sapper.specs.Ending.{lattice_refused, design_refused, lattice_text, design_text}
+use Rattle.sapper.specs.Ending.{lattice_refused, design_refused, stimulus_refused, lattice_text, design_text, stimulus_text}
 use Rattle.sapper.specs.Steps.{IsStatus, Tells, ending, line_told}
 use Rattle.sapper.specs.declared.failure.Failure.{Failure}
-use Rattle.sapper.specs.declared.failure.Failure.TheVariants.{Lattice, Design}
+use Rattle.sapper.specs.declared.failure.Failure.TheVariants.{Lattice, Design, Stimulus}
 use Rattle.sapper.proofs.Calls.{refused_line, refused_status}
 use Rattle.sapper.proofs.call.report.Goals as goal
 
@@ -37,3 +37,18 @@ returns-in-Design-clause-tells g c =
     (sym is)
     (refused_line c.design_text-text.result (design_refused c.in-Design.fault) 1 _ _ _ (codes "design: ") (design_text c.in-Design.fault) _ _ refl
     c.refuse-in-Design.ensures.status c.refuse-in-Design.ensures.memory c.design_text-text.ensures c.refuse-in-Design.ensures.tells c.refuse-in-Design.ensures.tells_memory)
+
+pub returns-in-Stimulus-clause-status : goal.returns-in-Stimulus-clause-status
+returns-in-Stimulus-clause-status g c =
+    let is : c.args.failure.now ≡ Stimulus c.in-Stimulus.fault = search rules in
+    subst (λ (f : Failure). IsStatus (ending f) c.refuse-in-Stimulus.result) (sym is)
+    (refused_status c.stimulus_text-text.result c.refuse-in-Stimulus.result 4 c.refuse-in-Stimulus.ensures.status c.refuse-in-Stimulus.ensures.memory)
+
+pub returns-in-Stimulus-clause-tells : goal.returns-in-Stimulus-clause-tells
+returns-in-Stimulus-clause-tells g c =
+    let is : c.args.failure.now ≡ Stimulus c.in-Stimulus.fault = search rules in
+    subst
+    (λ (f : Failure). Between (g.D.Desk.told c.args.desk.now) (g.D.Desk.told c.refuse-in-Stimulus.new.desk) (Tells (line_told (ending f) c.refuse-in-Stimulus.result) (g.D.Desk.lost c.args.desk.now) (g.D.Desk.lost c.refuse-in-Stimulus.new.desk)))
+    (sym is)
+    (refused_line c.stimulus_text-text.result (stimulus_refused c.in-Stimulus.fault) 4 _ _ _ (codes "stimulus 1: ") (stimulus_text c.in-Stimulus.fault) _ _ refl
+    c.refuse-in-Stimulus.ensures.status c.refuse-in-Stimulus.ensures.memory c.stimulus_text-text.ensures c.refuse-in-Stimulus.ensures.tells c.refuse-in-Stimulus.ensures.tells_memory)

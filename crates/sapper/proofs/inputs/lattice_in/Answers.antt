@@ -1,15 +1,17 @@
 use Rattle.std.proofs.Common.{◌≡◌, rules}
 use Rattle.std.specs.Prelude.{Err}
-use Rattle.sapper.proofs.Lattices.{input_stops, lattice_counts, lattice_has, lattice_stops, on_ok}
+use Rattle.sapper.specs.Steps.{LatticeEnds}
+use Rattle.sapper.proofs.Lattices.{lattice_counts, lattice_has, lattice_stops, on_ok, stops_unread}
 use Rattle.sapper.proofs.inputs.lattice_in.Goals as goal
 
 pub returns-in_err-bytes-clause-stops : goal.returns-in_err-bytes-clause-stops
 returns-in_err-bytes-clause-stops g c =
     let is : c.from_residual.result ≡ Err c.in_err-bytes.field-0.0 = search rules in
-    rw is (λ w named. input_stops w _ _ _ _ c.in_err-bytes.ensures.stops)
+    rw is (stops_unread (λ t. LatticeEnds t c.args.name.now) _ _ _ c.in_err-bytes.ensures.stops)
 
 pub returns-clause-has : goal.returns-clause-has
-returns-clause-has g c = lattice_has c.args.name.now c.in_ok-bytes.bytes c.as_slice.result.now c.lattice_from.result _ c.in_ok-bytes.ensures.bytes c.as_slice.ensures c.lattice_from.ensures
+returns-clause-has g c =
+    lattice_has c.one_lattice.ensures c.args.name.now c.in_ok-bytes.bytes c.as_slice.result.now c.lattice_from.result _ c.in_ok-bytes.ensures.bytes c.as_slice.ensures c.lattice_from.ensures
 
 pub returns-clause-told : goal.returns-clause-told
 returns-clause-told g c = on_ok c.lattice_from.result c.in_ok-bytes.ensures.told

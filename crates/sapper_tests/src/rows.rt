@@ -1,0 +1,302 @@
+//! What `run` and `fmt` write, by rows.
+
+use sap_desk::MemoryDesk;
+use sapper::sapper;
+use std::alloc::{AllocError, Global};
+use std::test::Fail;
+
+const ROOM: usize = 100_000;
+
+const TWO: &str = "levels = [\"low\", \"high\"]\nbelow = [[\"low\", \"high\"]]\n";
+
+const DIAMOND: &str =
+    "levels = [\"low\", \"a\", \"b\", \"high\"]\nbelow = [[\"low\", \"a\"], [\"low\", \"b\"], [\"a\", \"high\"], [\"b\", \"high\"]]\n";
+
+const ADDS_ONE: &str =
+    "input a : 8; reg x : 8 dynamic;\nstate S enforced low { x := a + 1; goto S; }\n";
+
+struct Row {
+    words: &'static [&'static str],
+    lattice: &'static str,
+    design: &'static str,
+    stimulus: &'static str,
+    status: u8,
+    output: &'static str,
+    line: &'static str,
+}
+
+static RUN: &[&str] = &["run", "L", "D", "S"];
+
+static FMT: &[&str] = &["fmt", "D"];
+
+static ROWS: [Row; 18] = [
+    Row {
+        words: RUN,
+        lattice: TWO,
+        design: ADDS_ONE,
+        stimulus: "5@low\n255@high\n",
+        status: 0,
+        output: "cycle 1: x=6@low\ncycle 2: x=0@high\n",
+        line: "",
+    },
+    // a write that would raise an enforced register is refused
+    Row {
+        words: RUN,
+        lattice: TWO,
+        design: "input a : 8; reg y : 8 enforced low = 7;\nstate S enforced low { y := a; goto S; }\n",
+        stimulus: "5@high\n5@low\n",
+        status: 0,
+        output: "cycle 1: y=7@low\ncycle 2: y=5@low\n",
+        line: "",
+    },
+    Row {
+        words: RUN,
+        lattice: TWO,
+        design: "input a : 8; input b : 8; reg y : 8 enforced low = 3;\nstate S enforced low { y := a & b; goto S; }\n",
+        stimulus: "6@low 3@high\n6@low 3@low\n",
+        status: 0,
+        output: "cycle 1: y=3@low\ncycle 2: y=2@low\n",
+        line: "",
+    },
+    // a sum goes round, and a shift by the width or more gives 0
+    Row {
+        words: RUN,
+        lattice: TWO,
+        design: "reg x : 64 dynamic = 18446744073709551615;\nstate S enforced low { x := x + 1; goto S; }\n",
+        stimulus: "\n",
+        status: 0,
+        output: "cycle 1: x=0@low\n",
+        line: "",
+    },
+    Row {
+        words: RUN,
+        lattice: TWO,
+        design: "input a : 8; reg x : 8 dynamic;\nstate S enforced low { x := a >> 9; goto S; }\n",
+        stimulus: "255@low\n",
+        status: 0,
+        output: "cycle 1: x=0@low\n",
+        line: "",
+    },
+    Row {
+        words: RUN,
+        lattice: TWO,
+        design: "input a : 8; reg x : 8 dynamic; reg y : 8 dynamic;\nstate S enforced low { x := {a[3:0], 4'd9}; y := -a; goto S; }\n",
+        stimulus: "171@low\n",
+        status: 0,
+        output: "cycle 1: x=185@low y=85@low\n",
+        line: "",
+    },
+    // a join of two levels that neither is above
+    Row {
+        words: RUN,
+        lattice: DIAMOND,
+        design: "input a : 8; input c : 8; reg x : 8 dynamic;\nstate S enforced low { x := a + c; goto S; }\n",
+        stimulus: "1@a 2@b\n",
+        status: 0,
+        output: "cycle 1: x=3@high\n",
+        line: "",
+    },
+    // no lines, a line without its end, and a value that is too large
+    Row {
+        words: RUN,
+        lattice: TWO,
+        design: ADDS_ONE,
+        stimulus: "",
+        status: 0,
+        output: "",
+        line: "",
+    },
+    Row {
+        words: RUN,
+        lattice: TWO,
+        design: ADDS_ONE,
+        stimulus: "5@low",
+        status: 4,
+        output: "",
+        line: "stimulus 1: S5 line 1\n",
+    },
+    Row {
+        words: RUN,
+        lattice: TWO,
+        design: ADDS_ONE,
+        stimulus: "5@low\n256@low\n",
+        status: 4,
+        output: "cycle 1: x=6@low\n",
+        line: "stimulus 1: S2 line 2\n",
+    },
+    // files are refused in the order of the words
+    Row {
+        words: RUN,
+        lattice: "levels",
+        design: "",
+        stimulus: "5@low",
+        status: 3,
+        output: "",
+        line: "lattice: L1\n",
+    },
+    Row {
+        words: RUN,
+        lattice: TWO,
+        design: "",
+        stimulus: "5@low",
+        status: 1,
+        output: "",
+        line: "design: E2 1:1\n",
+    },
+    Row {
+        words: &["run", "N", "D", "S"],
+        lattice: TWO,
+        design: "",
+        stimulus: "",
+        status: 6,
+        output: "",
+        line: "desk: N\n",
+    },
+    Row {
+        words: &["run", "L", "D", "N"],
+        lattice: TWO,
+        design: ADDS_ONE,
+        stimulus: "",
+        status: 6,
+        output: "",
+        line: "desk: N\n",
+    },
+    // the canonical text, with parentheses only where they are needed
+    Row {
+        words: FMT,
+        lattice: "",
+        design: "input a:8;reg x:8 dynamic;state S enforced low{x:=(a+1)&(a|x);goto S;}",
+        stimulus: "",
+        status: 0,
+        output: "input a : 8;\nreg x : 8 dynamic;\nstate S enforced low {\n  x := a + 1 & (a | x);\n  goto S;\n}\n",
+        line: "",
+    },
+    // a design that isn't compiled yet
+    Row {
+        words: FMT,
+        lattice: "",
+        design: "reg x:8 dynamic;state S enforced low{if(x==0){x:=1;}goto S;}",
+        stimulus: "",
+        status: 0,
+        output: "reg x : 8 dynamic;\nstate S enforced low {\n  if (x == 0) {\n    x := 1;\n  }\n  goto S;\n}\n",
+        line: "",
+    },
+    Row {
+        words: FMT,
+        lattice: "",
+        design: "",
+        stimulus: "",
+        status: 1,
+        output: "",
+        line: "design: E2 1:1\n",
+    },
+    Row {
+        words: &["fmt", "N"],
+        lattice: "",
+        design: "",
+        stimulus: "",
+        status: 6,
+        output: "",
+        line: "desk: N\n",
+    },
+];
+
+fn words(alloc: Global, list: &[&str]) -> Result<Vec<String>, AllocError> {
+    let mut words = Vec::new(alloc);
+    for word in list {
+        words.push(String::from_str(alloc, word)?)?;
+    }
+    Ok(words)
+}
+
+fn desk(
+    alloc: Global,
+    lattice: &str,
+    design: &str,
+    stimulus: &str,
+) -> Result<MemoryDesk, AllocError> {
+    let mut desk = MemoryDesk::new(alloc, ROOM)?;
+    desk.put_file("L", lattice.as_bytes())?;
+    desk.put_file("D", design.as_bytes())?;
+    desk.put_file("S", stimulus.as_bytes())?;
+    Ok(desk)
+}
+
+#[test]
+fn writes_what_the_files_ask_for(rt: HostRuntime) -> Result<(), Fail> {
+    let alloc = rt.alloc();
+    for (row, case) in ROWS.iter().enumerate() {
+        let words = words(alloc, case.words)?;
+        let mut desk = desk(alloc, case.lattice, case.design, case.stimulus)?;
+        assert_eq!(rt; sapper(alloc, &words, &mut desk), case.status, "row {row}");
+        assert_eq!(rt; desk.output(), case.output.as_bytes(), "row {row}");
+        assert_eq!(rt; desk.fault_text(), case.line.as_bytes(), "row {row}");
+        assert_eq!(rt; desk.file("L"), Some(case.lattice.as_bytes()), "row {row}");
+        assert_eq!(rt; desk.file("D"), Some(case.design.as_bytes()), "row {row}");
+        assert_eq!(rt; desk.file("S"), Some(case.stimulus.as_bytes()), "row {row}");
+    }
+    Ok(())
+}
+
+// Words that are no command.
+static NO_COMMANDS: [&[&str]; 9] = [
+    &["run"],
+    &["run", "L", "D"],
+    &["run", "L", "D", "S", "S"],
+    &["Run", "L", "D", "S"],
+    &["run", "L", "D", "-S"],
+    &["fmt"],
+    &["fmt", "-D"],
+    &["fmt", "D", "D"],
+    &["fmt", "L", "D", "S"],
+];
+
+#[test]
+fn refuses_words(rt: HostRuntime) -> Result<(), Fail> {
+    let alloc = rt.alloc();
+    for list in &NO_COMMANDS {
+        let words = words(alloc, list)?;
+        let mut desk = desk(alloc, TWO, ADDS_ONE, "5@low\n")?;
+        assert_eq!(rt; sapper(alloc, &words, &mut desk), 2);
+        assert_eq!(rt; desk.fault_text(), b"words\n".as_slice());
+        assert_eq!(rt; desk.output(), b"".as_slice());
+    }
+    Ok(())
+}
+
+// Each file is opened, read, read to its end and finished; then the rows are written.
+static BLAMED: [&str; 13] = [
+    "desk: L\n",
+    "desk: L\n",
+    "desk: L\n",
+    "desk: L\n",
+    "desk: D\n",
+    "desk: D\n",
+    "desk: D\n",
+    "desk: D\n",
+    "desk: S\n",
+    "desk: S\n",
+    "desk: S\n",
+    "desk: S\n",
+    "desk: output\n",
+];
+
+#[test]
+fn each_call_of_a_run_fails_in_turn(rt: HostRuntime) -> Result<(), Fail> {
+    let alloc = rt.alloc();
+    let words = words(alloc, RUN)?;
+    for (before, line) in BLAMED.iter().enumerate() {
+        let mut desk = desk(alloc, TWO, ADDS_ONE, "5@low\n255@high\n")?;
+        desk.fail_at(before as u64 + 1)?;
+        assert_eq!(rt; sapper(alloc, &words, &mut desk), 6, "call {before}");
+        assert_eq!(rt; desk.fault_text(), line.as_bytes(), "call {before}");
+        // a failing write takes the first half of the rows
+        let cut = if before == 12 {
+            "cycle 1: x=6@low\n"
+        } else {
+            ""
+        };
+        assert_eq!(rt; desk.output(), cut.as_bytes(), "call {before}");
+    }
+    Ok(())
+}
