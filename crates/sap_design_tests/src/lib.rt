@@ -4,6 +4,12 @@
 #[cfg(test)]
 mod checked;
 #[cfg(test)]
+mod cut;
+#[cfg(test)]
+mod faults;
+#[cfg(test)]
+mod limits;
+#[cfg(test)]
 mod named;
 #[cfg(test)]
 mod sample;

@@ -2,8 +2,8 @@
 
 ghost use Rattle.std.specs.Prelude.{◌≡◌, IfOk};
 
-use sap_vprint::print;
 use sap_net::parts::{Name, Operand, Port, PortKind, Register};
+use sap_vprint::print;
 use std::alloc::{AllocError, Global};
 use std::test::Fail;
 

@@ -4,8 +4,8 @@ ghost use Rattle.std.specs.Prelude.{◌≡◌, ◌∷◌, [], codes, IfOk};
 ghost use Rattle.sap_net.specs.declared.parts.Operand.TheVariants.{Named, Constant};
 ghost use Rattle.sap_module_tests.specs.Trying.{trying, trying_inputs, trying_wires, trying_registers, trying_memories, trying_names, trying_ports};
 
-use sap_cycle::runner::Runner;
 use sap_bits::Op2;
+use sap_cycle::runner::Runner;
 use sap_net::netlist::Netlist;
 use sap_net::parts::{
     Input, Memory, Name, Operand, Operands, Parts, Port, PortKind, Register, Right, Wire,

@@ -2,6 +2,8 @@
 #![tactic(auto)]
 
 #[cfg(test)]
+mod lattices;
+#[cfg(test)]
 mod rows;
 
 #[cfg(test)]

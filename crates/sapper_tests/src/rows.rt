@@ -25,9 +25,9 @@ struct Row {
     line: &'static str,
 }
 
-static RUN: &[&str] = &["run", "L", "D", "S"];
+const RUN: &[&str] = &["run", "L", "D", "S"];
 
-static FMT: &[&str] = &["fmt", "D"];
+const FMT: &[&str] = &["fmt", "D"];
 
 static ROWS: [Row; 18] = [
     Row {
