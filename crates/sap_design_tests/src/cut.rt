@@ -155,15 +155,13 @@ fn each_prefix_is_refused(rt: HostRuntime) -> Result<(), Fail> {
     let mut text = Vec::new(alloc);
     for (token, within) in &TOKENS {
         let first = text.len() + 1;
-        let mut at = 0usize;
-        for byte in token.as_bytes() {
+        for (at, byte) in token.as_bytes().iter().enumerate() {
             let (column, bad) = expected(*within, at, first, text.len() + 1);
             assert!(rt;
                 is_refused(alloc, text.as_slice(), column, bad),
                 "{token} at {at}"
             );
             text.push(*byte)?;
-            at += 1;
         }
         text.push(b' ')?;
     }

@@ -183,9 +183,7 @@ fn bytes_on_both_sides(rt: HostRuntime) -> Result<(), Fail> {
     let alloc = rt.alloc();
     let mut text = Vec::new(alloc);
     push_all(&mut text, "state S dynamic { }", 1)?;
-    while text.len() < 1_048_576 {
-        text.push(b' ')?;
-    }
+    push_all(&mut text, " ", 1_048_557)?;
     assert!(rt; parse(alloc, text.as_slice()).is_ok());
     text.push(b' ')?;
     let place = Place { line: 1, column: 1 };
