@@ -1,0 +1,13 @@
+pub mod Behind
+pub mod Complete
+pub mod Faults
+pub mod FrontIs
+pub mod Fronts
+pub mod Laws
+pub mod Lists
+pub mod Makes
+pub mod OneReading
+pub mod Runs
+pub mod Single
+pub mod Viable
+pub mod Walks

@@ -1,0 +1,434 @@
+-- What the walk does with a symbol that is a single token.
+use Rattle.std.proofs.Common.{◌≡◌, ◌≢◌, ◌<◌, ℕ, List, [], ◌∷◌, length, Option, Some, None, Ok, Err, Bool, true, false, refl, sym, ap, ◌∙◌, arith, eqb}
+use Rattle.std.proofs.lemmas.Bool.Decides.{nat_tests}
+use Rattle.std.specs.Prelude.{◌==◌, ◌&&◌, if◌then◌else◌}
+use Rattle.sap_modtext.specs.Tokens as t
+use Rattle.sap_modtext.specs.Tokens.{IsToken}
+use Rattle.sap_vparse.specs.Reading.{Passes, Head, ahead_of, constant_in, front_constant, front_name, front_number, head, head_of, name_in, number_in, of_name, of_nothing, of_number, of_sign, of_word, plain, reads, steps}
+use Rattle.sap_vparse.specs.Spelling.{sign_of, word_of}
+use Rattle.sap_vparse.specs.Table as s
+use Rattle.sap_vparse.specs.Table.{Symbol, Row, first, grammar, if_same, may_be_empty, next, sign_number, word_number}
+use Rattle.sap_vparse.specs.declared.cursor.Ahead.TheVariants as a
+use Rattle.sap_vparse.specs.declared.cursor.Ahead.{Ahead}
+use Rattle.sap_vparse.specs.declared.token.Sign.TheVariants as j
+use Rattle.sap_vparse.specs.declared.token.Sign.{Sign}
+use Rattle.sap_vparse.specs.declared.token.Word.TheVariants as w
+use Rattle.sap_vparse.specs.declared.token.Word.{Word}
+use Rattle.sap_walk.specs.Walk as walk
+use Rattle.sap_walk.specs.Walk.{Take, Stop, ◌>>=◌}
+use Rattle.sap_walk.proofs.Walking.{read_take, read_stop, read_end}
+
+-- the laws of the walk, over plain lists of tokens
+
+plain_bind : (o : walk.Outcome grammar) (σ : List Symbol) → ((p : walk.Point grammar) → plain (walk.steps grammar σ p) ≡ steps σ p.left)
+    → plain (o >>= walk.steps grammar σ) ≡ (plain o >>= steps σ)
+plain_bind (Ok p) σ h = h p
+plain_bind (Err (walk.at_token p)) σ h = refl
+plain_bind (Err (walk.at_limit limit p)) σ h = refl
+
+plain_steps : (σ : List Symbol) (p : walk.Point grammar) → plain (walk.steps grammar σ p) ≡ steps σ p.left
+unfolding reads
+plain_steps [] p = refl
+plain_steps (x ∷ σ) p = plain_bind (walk.read grammar x p) σ (plain_steps σ)
+
+pub reads_first : (x : Symbol) (y : t.Token) (ts : List t.Token) (σ : List Symbol) → next x y.kind ≡ first σ → reads x (y ∷ ts) ≡ steps σ ts
+unfolding reads
+reads_first x y ts σ e = ap plain (read_take grammar x y ts tt tt σ tt e refl) ∙ plain_steps σ (record { past = tt; left = ts })
+
+pub reads_stop : (x : Symbol) (y : t.Token) (ts : List t.Token) → next x y.kind ≡ Stop → reads x (y ∷ ts) ≡ Err (y ∷ ts)
+unfolding reads
+reads_stop x y ts e = ap plain (read_stop grammar x y ts tt e)
+
+pub reads_none : (x : Symbol) → may_be_empty x ≡ false → reads x [] ≡ Err []
+unfolding reads
+reads_none x e = ap plain (read_end grammar x tt e)
+
+-- one token is all that x is
+passed : (x : Symbol) {p q : List t.Token} {place : ℕ} (h : Passes p place q) → next x h.token.kind ≡ first [] → reads x p ≡ Ok q
+passed x {p} {q} h e = ap (reads x) h.parts ∙ reads_first x h.token q [] e
+
+pub refused : (x : Symbol) (p : List t.Token) → may_be_empty x ≡ false → ((y : t.Token) (ts : List t.Token) → p ≡ y ∷ ts → next x y.kind ≡ Stop) → reads x p ≡ Err p
+refused x [] full h = reads_none x full
+refused x (y ∷ ts) full h = reads_stop x y ts (h y ts refl)
+
+passed_is : {p q : List t.Token} {place : ℕ} {kind : t.Kind} (h : Passes p place q) → h.token.kind ≡ kind → IsToken p place kind q
+passed_is {q = q} {place} {kind} h e = record {
+  parts =
+      h.parts ∙ ap (λ n. (let y : t.Token = record { place = n; kind = h.token.kind } in y) ∷ q) (sym h.there)
+      ∙ ap (λ k. (let y : t.Token = record { place = place; kind = k } in y) ∷ q) e;
+}
+
+-- signs and words by number
+
+pub same_number : (n : ℕ) → eqb n n ≡ true
+same_number n = grind (arith, nat_tests)
+
+same_test : (n m : ℕ) → eqb n m ≡ true → n ≡ m
+same_test n m e = grind (arith, nat_tests)
+
+pub sign_by : ℕ → t.Sign
+sign_by n = if n == 0 then t.OpenParen else (if n == 1 then t.CloseParen else (if n == 2 then t.OpenBrace else (if n == 3 then t.CloseBrace else (if n == 4 then t.OpenBracket else (if n == 5 then t.CloseBracket else (if n == 6 then t.Comma else (if n == 7 then t.Semicolon else (if n == 8 then t.Colon else (if n == 9 then t.Question else (if n == 10 then t.At else (if n == 11 then t.Is else (if n == 12 then t.Equal else (if n == 13 then t.NotEqual else (if n == 14 then t.Less else (if n == 15 then t.LessOrEqual else (if n == 16 then t.ShiftLeft else (if n == 17 then t.ShiftRight else (if n == 18 then t.Plus else (if n == 19 then t.Minus else (if n == 20 then t.Star else (if n == 21 then t.Ampersand else (if n == 22 then t.Bar else (if n == 23 then t.Caret else (t.Tilde))))))))))))))))))))))))
+
+sign_back : (x : t.Sign) → sign_by (sign_number x) ≡ x
+unfolding sign_by
+sign_back t.OpenParen = refl
+sign_back t.CloseParen = refl
+sign_back t.OpenBrace = refl
+sign_back t.CloseBrace = refl
+sign_back t.OpenBracket = refl
+sign_back t.CloseBracket = refl
+sign_back t.Comma = refl
+sign_back t.Semicolon = refl
+sign_back t.Colon = refl
+sign_back t.Question = refl
+sign_back t.At = refl
+sign_back t.Is = refl
+sign_back t.Equal = refl
+sign_back t.NotEqual = refl
+sign_back t.Less = refl
+sign_back t.LessOrEqual = refl
+sign_back t.ShiftLeft = refl
+sign_back t.ShiftRight = refl
+sign_back t.Plus = refl
+sign_back t.Minus = refl
+sign_back t.Star = refl
+sign_back t.Ampersand = refl
+sign_back t.Bar = refl
+sign_back t.Caret = refl
+sign_back t.Tilde = refl
+
+pub word_by : ℕ → t.Word
+word_by n = if n == 0 then t.Module else (if n == 1 then t.Endmodule else (if n == 2 then t.Input else (if n == 3 then t.Output else (if n == 4 then t.Reg else (if n == 5 then t.Wire else (if n == 6 then t.Assign else (if n == 7 then t.Initial else (if n == 8 then t.Always else (if n == 9 then t.Posedge else (if n == 10 then t.If else (if n == 11 then t.For else (if n == 12 then t.Integer else (if n == 13 then t.Clk else (t.I))))))))))))))
+
+word_back : (x : t.Word) → word_by (word_number x) ≡ x
+unfolding word_by
+word_back t.Module = refl
+word_back t.Endmodule = refl
+word_back t.Input = refl
+word_back t.Output = refl
+word_back t.Reg = refl
+word_back t.Wire = refl
+word_back t.Assign = refl
+word_back t.Initial = refl
+word_back t.Always = refl
+word_back t.Posedge = refl
+word_back t.If = refl
+word_back t.For = refl
+word_back t.Integer = refl
+word_back t.Clk = refl
+word_back t.I = refl
+
+pub sign_same : (x y : t.Sign) → eqb (sign_number x) (sign_number y) ≡ true → x ≡ y
+sign_same x y e = sym (sign_back x) ∙ ap sign_by (same_test (sign_number x) (sign_number y) e) ∙ sign_back y
+
+pub word_same : (x y : t.Word) → eqb (word_number x) (word_number y) ≡ true → x ≡ y
+word_same x y e = sym (word_back x) ∙ ap word_by (same_test (word_number x) (word_number y) e) ∙ word_back y
+
+signs_apart : (x y : t.Sign) → x ≢ y → eqb (sign_number x) (sign_number y) ≡ false
+signs_apart x y ne = by_test (eqb (sign_number x) (sign_number y)) refl where
+  by_test : (b : Bool) → eqb (sign_number x) (sign_number y) ≡ b → b ≡ false
+  by_test true e = absurd (ne (sign_same x y e))
+  by_test false e = refl
+
+words_apart : (x y : t.Word) → x ≢ y → eqb (word_number x) (word_number y) ≡ false
+words_apart x y ne = by_test (eqb (word_number x) (word_number y)) refl where
+  by_test : (b : Bool) → eqb (word_number x) (word_number y) ≡ b → b ≡ false
+  by_test true e = absurd (ne (word_same x y e))
+  by_test false e = refl
+
+-- what stands at the front
+
+pub kind_of_sign : (i : t.Kind) (x : t.Sign) → head_of i ≡ of_sign x → i ≡ t.sign x
+kind_of_sign (t.sign i) x e = cc
+kind_of_sign (t.word i) x e = absurd (cc)
+kind_of_sign (t.name i) x e = absurd (cc)
+kind_of_sign (t.number i n) x e = absurd (cc)
+kind_of_sign (t.constant i n) x e = absurd (cc)
+
+pub kind_of_word : (i : t.Kind) (x : t.Word) → head_of i ≡ of_word x → i ≡ t.word x
+kind_of_word (t.word i) x e = cc
+kind_of_word (t.sign i) x e = absurd (cc)
+kind_of_word (t.name i) x e = absurd (cc)
+kind_of_word (t.number i n) x e = absurd (cc)
+kind_of_word (t.constant i n) x e = absurd (cc)
+
+number_kind : (i : t.Kind) (v : ℕ × ℕ) → number_in i ≡ Some v → i ≡ t.number v.0 v.1
+number_kind (t.number i n) v e = (let same : (i, n) ≡ v = cc in ap (λ (x : ℕ × ℕ). t.number x.0 x.1) same)
+number_kind (t.word i) v e = absurd (cc)
+number_kind (t.sign i) v e = absurd (cc)
+number_kind (t.name i) v e = absurd (cc)
+number_kind (t.constant i n) v e = absurd (cc)
+
+constant_kind : (i : t.Kind) (v : ℕ × ℕ) → constant_in i ≡ Some v → i ≡ t.constant v.0 v.1
+constant_kind (t.constant i n) v e = (let same : (i, n) ≡ v = cc in ap (λ (x : ℕ × ℕ). t.constant x.0 x.1) same)
+constant_kind (t.word i) v e = absurd (cc)
+constant_kind (t.sign i) v e = absurd (cc)
+constant_kind (t.name i) v e = absurd (cc)
+constant_kind (t.number i n) v e = absurd (cc)
+
+name_kind : (i : t.Kind) (n : List ℕ) → name_in i ≡ Some n → i ≡ t.name n
+name_kind (t.name i) n e = cc
+name_kind (t.word i) n e = absurd (cc)
+name_kind (t.sign i) n e = absurd (cc)
+name_kind (t.number i m) n e = absurd (cc)
+name_kind (t.constant i m) n e = absurd (cc)
+
+pub head_front : {left : List t.Token} {x : Head} (y : t.Token) (ts : List t.Token) → head left ≡ x → left ≡ y ∷ ts → head_of y.kind ≡ x
+unfolding head
+head_front y ts e h = sym (ap head h) ∙ e
+
+pub head_back : {left : List t.Token} {x : Head} (y : t.Token) (ts : List t.Token) → head_of y.kind ≡ x → left ≡ y ∷ ts → head left ≡ x
+unfolding head
+head_back y ts h e = ap head e ∙ h
+
+number_front : {left : List t.Token} {x : Option (ℕ × ℕ)} (y : t.Token) (ts : List t.Token) → front_number left ≡ x → left ≡ y ∷ ts → number_in y.kind ≡ x
+unfolding front_number
+number_front y ts e h = sym (ap front_number h) ∙ e
+
+constant_front : {left : List t.Token} {x : Option (ℕ × ℕ)} (y : t.Token) (ts : List t.Token) → front_constant left ≡ x → left ≡ y ∷ ts → constant_in y.kind ≡ x
+unfolding front_constant
+constant_front y ts e h = sym (ap front_constant h) ∙ e
+
+name_front : {left : List t.Token} {x : Option (List ℕ)} (y : t.Token) (ts : List t.Token) → front_name left ≡ x → left ≡ y ∷ ts → name_in y.kind ≡ x
+unfolding front_name
+name_front y ts e h = sym (ap front_name h) ∙ e
+
+pub some_number : (left : List t.Token) (v : ℕ × ℕ) → front_number left ≡ Some v → 0 < length left
+unfolding front_number
+some_number [] v e = absurd (cc)
+some_number (y ∷ ts) v e = omega arith
+
+pub some_constant : (left : List t.Token) (v : ℕ × ℕ) → front_constant left ≡ Some v → 0 < length left
+unfolding front_constant
+some_constant [] v e = absurd (cc)
+some_constant (y ∷ ts) v e = omega arith
+
+pub some_name : (left : List t.Token) (n : List ℕ) → front_name left ≡ Some n → 0 < length left
+unfolding front_name
+some_name [] n e = absurd (cc)
+some_name (y ∷ ts) n e = omega arith
+
+-- signs
+
+sign_kind : {p q : List t.Token} {place : ℕ} (x : t.Sign) → head p ≡ of_sign x → (h : Passes p place q) → h.token.kind ≡ t.sign x
+sign_kind {q = q} x e h = kind_of_sign h.token.kind x (head_front h.token q e h.parts)
+
+pub sign_is : (p q : List t.Token) (place : ℕ) (x : t.Sign) → head p ≡ of_sign x → Passes p place q → IsToken p place (t.sign x) q
+sign_is p q place x e h = passed_is h (sign_kind x e h)
+
+pub next_sign : (x : t.Sign) (i : t.Kind) → i ≡ t.sign x → next (s.Sign x) i ≡ first []
+next_sign x i e = ap (next (s.Sign x)) e ∙ ap if_same (same_number (sign_number x))
+
+pub next_not_sign : (x : t.Sign) (i : t.Kind) → head_of i ≢ of_sign x → next (s.Sign x) i ≡ Stop
+next_not_sign x (t.sign i) ne = ap if_same (signs_apart i x (λ e. ne (ap of_sign e)))
+next_not_sign x (t.word i) ne = refl
+next_not_sign x (t.name i) ne = refl
+next_not_sign x (t.number i n) ne = refl
+next_not_sign x (t.constant i n) ne = refl
+
+pub sign_read : (p q : List t.Token) (place : ℕ) (x : t.Sign) → head p ≡ of_sign x → Passes p place q → reads (s.Sign x) p ≡ Ok q
+sign_read p q place x e h = passed (s.Sign x) h (next_sign x h.token.kind (sign_kind x e h))
+
+pub sign_refused : (p : List t.Token) (x : t.Sign) → head p ≢ of_sign x → reads (s.Sign x) p ≡ Err p
+sign_refused p x ne = refused (s.Sign x) p refl (λ y ts e. next_not_sign x y.kind (λ h. ne (head_back y ts h e)))
+
+-- words
+
+word_kind : {p q : List t.Token} {place : ℕ} (x : t.Word) → head p ≡ of_word x → (h : Passes p place q) → h.token.kind ≡ t.word x
+word_kind {q = q} x e h = kind_of_word h.token.kind x (head_front h.token q e h.parts)
+
+pub word_is : (p q : List t.Token) (place : ℕ) (x : t.Word) → head p ≡ of_word x → Passes p place q → IsToken p place (t.word x) q
+word_is p q place x e h = passed_is h (word_kind x e h)
+
+pub next_word : (x : t.Word) (i : t.Kind) → i ≡ t.word x → next (s.Word x) i ≡ first []
+next_word x i e = ap (next (s.Word x)) e ∙ ap if_same (same_number (word_number x))
+
+pub next_not_word : (x : t.Word) (i : t.Kind) → head_of i ≢ of_word x → next (s.Word x) i ≡ Stop
+next_not_word x (t.word i) ne = ap if_same (words_apart i x (λ e. ne (ap of_word e)))
+next_not_word x (t.sign i) ne = refl
+next_not_word x (t.name i) ne = refl
+next_not_word x (t.number i n) ne = refl
+next_not_word x (t.constant i n) ne = refl
+
+pub word_read : (p q : List t.Token) (place : ℕ) (x : t.Word) → head p ≡ of_word x → Passes p place q → reads (s.Word x) p ≡ Ok q
+word_read p q place x e h = passed (s.Word x) h (next_word x h.token.kind (word_kind x e h))
+
+pub word_refused : (p : List t.Token) (x : t.Word) → head p ≢ of_word x → reads (s.Word x) p ≡ Err p
+word_refused p x ne = refused (s.Word x) p refl (λ y ts e. next_not_word x y.kind (λ h. ne (head_back y ts h e)))
+
+-- numbers
+
+next_not_number : (i : t.Kind) → number_in i ≡ None → next s.Number i ≡ Stop
+next_not_number (t.number n digits) e = absurd (cc)
+next_not_number (t.word i) e = refl
+next_not_number (t.sign i) e = refl
+next_not_number (t.name i) e = refl
+next_not_number (t.constant i n) e = refl
+
+pub number_is : (p q : List t.Token) (place : ℕ) (v : ℕ × ℕ) → front_number p ≡ Some v → Passes p place q → IsToken p place (t.number v.0 v.1) q
+number_is p q place v e h = passed_is h (number_kind h.token.kind v (number_front h.token q e h.parts))
+
+pub number_read : (p q : List t.Token) (place : ℕ) (v : ℕ × ℕ) → front_number p ≡ Some v → Passes p place q → reads s.Number p ≡ Ok q
+number_read p q place v e h = passed s.Number h (ap (next s.Number) (number_kind h.token.kind v (number_front h.token q e h.parts)))
+
+pub number_refused : (p : List t.Token) → front_number p ≡ None → reads s.Number p ≡ Err p
+number_refused p e = refused s.Number p refl (λ y ts h. next_not_number y.kind (number_front y ts e h))
+
+next_not_digit : (n : ℕ) (i : t.Kind) → number_in i ≡ None → next (s.Digit n) i ≡ Stop
+next_not_digit n (t.number i digits) e = absurd (cc)
+next_not_digit n (t.word i) e = refl
+next_not_digit n (t.sign i) e = refl
+next_not_digit n (t.name i) e = refl
+next_not_digit n (t.constant i m) e = refl
+
+pub digit_read : (p q : List t.Token) (place : ℕ) (n : ℕ) → front_number p ≡ Some (n, 1) → Passes p place q → reads (s.Digit n) p ≡ Ok q
+digit_read p q place n e h =
+    passed (s.Digit n) h (ap (next (s.Digit n)) (number_kind h.token.kind (n, 1) (number_front h.token q e h.parts)) ∙ ap (λ b. if_same (b && true)) (same_number n))
+
+pub digit_refused : (p : List t.Token) (n : ℕ) → front_number p ≡ None → reads (s.Digit n) p ≡ Err p
+digit_refused p n e = refused (s.Digit n) p refl (λ y ts h. next_not_digit n y.kind (number_front y ts e h))
+
+pub digit_other : (p : List t.Token) (n : ℕ) (v : ℕ × ℕ) → front_number p ≡ Some v → (eqb v.0 n && eqb v.1 1) ≡ false → reads (s.Digit n) p ≡ Err p
+digit_other p n v e ne = refused (s.Digit n) p refl (λ y ts h. ap (next (s.Digit n)) (number_kind y.kind v (number_front y ts e h)) ∙ ap if_same ne)
+
+-- constants
+
+next_not_constant : (i : t.Kind) → constant_in i ≡ None → next s.Constant i ≡ Stop
+next_not_constant (t.constant n m) e = absurd (cc)
+next_not_constant (t.word i) e = refl
+next_not_constant (t.sign i) e = refl
+next_not_constant (t.name i) e = refl
+next_not_constant (t.number i n) e = refl
+
+pub constant_is : (p q : List t.Token) (place : ℕ) (v : ℕ × ℕ) → front_constant p ≡ Some v → Passes p place q → IsToken p place (t.constant v.0 v.1) q
+constant_is p q place v e h = passed_is h (constant_kind h.token.kind v (constant_front h.token q e h.parts))
+
+pub constant_read : (p q : List t.Token) (place : ℕ) (v : ℕ × ℕ) → front_constant p ≡ Some v → Passes p place q → reads s.Constant p ≡ Ok q
+constant_read p q place v e h = passed s.Constant h (ap (next s.Constant) (constant_kind h.token.kind v (constant_front h.token q e h.parts)))
+
+pub constant_refused : (p : List t.Token) → front_constant p ≡ None → reads s.Constant p ≡ Err p
+constant_refused p e = refused s.Constant p refl (λ y ts h. next_not_constant y.kind (constant_front y ts e h))
+
+-- names
+
+next_not_name : (i : t.Kind) → name_in i ≡ None → next s.Name i ≡ Stop
+next_not_name (t.name n) e = absurd (cc)
+next_not_name (t.word i) e = refl
+next_not_name (t.sign i) e = refl
+next_not_name (t.number i n) e = refl
+next_not_name (t.constant i n) e = refl
+
+pub name_is : (p q : List t.Token) (place : ℕ) (n : List ℕ) → front_name p ≡ Some n → Passes p place q → IsToken p place (t.name n) q
+name_is p q place n e h = passed_is h (name_kind h.token.kind n (name_front h.token q e h.parts))
+
+pub name_read : (p q : List t.Token) (place : ℕ) (n : List ℕ) → front_name p ≡ Some n → Passes p place q → reads s.Name p ≡ Ok q
+name_read p q place n e h = passed s.Name h (ap (next s.Name) (name_kind h.token.kind n (name_front h.token q e h.parts)))
+
+pub name_refused : (p : List t.Token) → front_name p ≡ None → reads s.Name p ≡ Err p
+name_refused p e = refused s.Name p refl (λ y ts h. next_not_name y.kind (name_front y ts e h))
+
+-- what the reader sees ahead, back from its head
+
+declared_sign : ℕ → Sign
+declared_sign n = if n == 0 then j.OpenParen else (if n == 1 then j.CloseParen else (if n == 2 then j.OpenBrace else (if n == 3 then j.CloseBrace else (if n == 4 then j.OpenBracket else (if n == 5 then j.CloseBracket else (if n == 6 then j.Comma else (if n == 7 then j.Semicolon else (if n == 8 then j.Colon else (if n == 9 then j.Question else (if n == 10 then j.At else (if n == 11 then j.Is else (if n == 12 then j.Equal else (if n == 13 then j.NotEqual else (if n == 14 then j.Less else (if n == 15 then j.LessOrEqual else (if n == 16 then j.ShiftLeft else (if n == 17 then j.ShiftRight else (if n == 18 then j.Plus else (if n == 19 then j.Minus else (if n == 20 then j.Star else (if n == 21 then j.Ampersand else (if n == 22 then j.Bar else (if n == 23 then j.Caret else (j.Tilde))))))))))))))))))))))))
+
+declared_sign_back : (x : Sign) → declared_sign (sign_number (sign_of x)) ≡ x
+unfolding declared_sign
+declared_sign_back j.OpenParen = refl
+declared_sign_back j.CloseParen = refl
+declared_sign_back j.OpenBrace = refl
+declared_sign_back j.CloseBrace = refl
+declared_sign_back j.OpenBracket = refl
+declared_sign_back j.CloseBracket = refl
+declared_sign_back j.Comma = refl
+declared_sign_back j.Semicolon = refl
+declared_sign_back j.Colon = refl
+declared_sign_back j.Question = refl
+declared_sign_back j.At = refl
+declared_sign_back j.Is = refl
+declared_sign_back j.Equal = refl
+declared_sign_back j.NotEqual = refl
+declared_sign_back j.Less = refl
+declared_sign_back j.LessOrEqual = refl
+declared_sign_back j.ShiftLeft = refl
+declared_sign_back j.ShiftRight = refl
+declared_sign_back j.Plus = refl
+declared_sign_back j.Minus = refl
+declared_sign_back j.Star = refl
+declared_sign_back j.Ampersand = refl
+declared_sign_back j.Bar = refl
+declared_sign_back j.Caret = refl
+declared_sign_back j.Tilde = refl
+
+declared_word : ℕ → Word
+declared_word n = if n == 0 then w.Module else (if n == 1 then w.Endmodule else (if n == 2 then w.Input else (if n == 3 then w.Output else (if n == 4 then w.Reg else (if n == 5 then w.Wire else (if n == 6 then w.Assign else (if n == 7 then w.Initial else (if n == 8 then w.Always else (if n == 9 then w.Posedge else (if n == 10 then w.If else (if n == 11 then w.For else (if n == 12 then w.Integer else (if n == 13 then w.Clk else (w.I))))))))))))))
+
+declared_word_back : (x : Word) → declared_word (word_number (word_of x)) ≡ x
+unfolding declared_word
+declared_word_back w.Module = refl
+declared_word_back w.Endmodule = refl
+declared_word_back w.Input = refl
+declared_word_back w.Output = refl
+declared_word_back w.Reg = refl
+declared_word_back w.Wire = refl
+declared_word_back w.Assign = refl
+declared_word_back w.Initial = refl
+declared_word_back w.Always = refl
+declared_word_back w.Posedge = refl
+declared_word_back w.If = refl
+declared_word_back w.For = refl
+declared_word_back w.Integer = refl
+declared_word_back w.Clk = refl
+declared_word_back w.I = refl
+
+one_sign_of : (x y : Sign) → sign_of x ≡ sign_of y → x ≡ y
+one_sign_of x y e = sym (declared_sign_back x) ∙ ap (λ z. declared_sign (sign_number z)) e ∙ declared_sign_back y
+
+one_word_of : (x y : Word) → word_of x ≡ word_of y → x ≡ y
+one_word_of x y e = sym (declared_word_back x) ∙ ap (λ z. declared_word (word_number z)) e ∙ declared_word_back y
+
+head_sign : {x y : t.Sign} → of_sign x ≡ of_sign y → x ≡ y
+head_sign e = cc
+
+head_word : {x y : t.Word} → of_word x ≡ of_word y → x ≡ y
+head_word e = cc
+
+pub ahead_sign : (x : Ahead) (y : Sign) → ahead_of x ≡ of_sign (sign_of y) → x ≡ a.Sign y
+ahead_sign (a.Sign x) y e = ap a.Sign (one_sign_of x y (head_sign e))
+ahead_sign (a.Word x) y e = absurd (cc)
+ahead_sign a.Name y e = absurd (cc)
+ahead_sign a.Number y e = absurd (cc)
+ahead_sign a.Constant y e = absurd (cc)
+ahead_sign a.Nothing y e = absurd (cc)
+
+pub ahead_word : (x : Ahead) (y : Word) → ahead_of x ≡ of_word (word_of y) → x ≡ a.Word y
+ahead_word (a.Word x) y e = ap a.Word (one_word_of x y (head_word e))
+ahead_word (a.Sign x) y e = absurd (cc)
+ahead_word a.Name y e = absurd (cc)
+ahead_word a.Number y e = absurd (cc)
+ahead_word a.Constant y e = absurd (cc)
+ahead_word a.Nothing y e = absurd (cc)
+
+pub ahead_name : (x : Ahead) → ahead_of x ≡ of_name → x ≡ a.Name
+ahead_name a.Name e = refl
+ahead_name (a.Word x) e = absurd (cc)
+ahead_name (a.Sign x) e = absurd (cc)
+ahead_name a.Number e = absurd (cc)
+ahead_name a.Constant e = absurd (cc)
+ahead_name a.Nothing e = absurd (cc)
+
+pub ahead_number : (x : Ahead) → ahead_of x ≡ of_number → x ≡ a.Number
+ahead_number a.Number e = refl
+ahead_number (a.Word x) e = absurd (cc)
+ahead_number (a.Sign x) e = absurd (cc)
+ahead_number a.Name e = absurd (cc)
+ahead_number a.Constant e = absurd (cc)
+ahead_number a.Nothing e = absurd (cc)
+
+pub ahead_nothing : (x : Ahead) → ahead_of x ≡ of_nothing → x ≡ a.Nothing
+ahead_nothing a.Nothing e = refl
+ahead_nothing (a.Word x) e = absurd (cc)
+ahead_nothing (a.Sign x) e = absurd (cc)
+ahead_nothing a.Name e = absurd (cc)
+ahead_nothing a.Number e = absurd (cc)
+ahead_nothing a.Constant e = absurd (cc)

@@ -1,0 +1,32 @@
+use Rattle.sap_vparse.proofs.Makes.{two_tree}
+use Rattle.std.proofs.Common.{[], ◌∷◌, ◌∙◌, rules}
+use Rattle.sap_modtext.specs.Grammar.{binary_sign}
+use Rattle.sap_modtext.specs.Tokens as t
+use Rattle.sap_vparse.specs.Reading.{steps}
+use Rattle.sap_vparse.specs.Table as s
+use Rattle.sap_vparse.proofs.Faults.{fault_goes}
+use Rattle.sap_vparse.proofs.Laws.{after_two}
+use Rattle.sap_walk.proofs.Walking.{bind_ok}
+use Rattle.sap_vparse.proofs.right.two.Goals as goal
+
+pub returns-in_err-binary-clause-goes : goal.returns-in_err-binary-clause-goes
+returns-in_err-binary-clause-goes c =
+    fault_goes s.AfterOperand (s.Sign (binary_sign c.args.op)) c.args.tokens.now c.args.tokens.now c.binary.new.tokens (steps (s.Operand ∷ s.Sign t.Semicolon ∷ [])) c.in_err-binary.field-0.0 c.from_residual.result
+    (search rules) (after_two c.args.tokens.now c.args.op c.requires) c.in_err-binary.ensures.goes
+
+pub returns-in_err-second-clause-goes : goal.returns-in_err-second-clause-goes
+returns-in_err-second-clause-goes c =
+    fault_goes s.AfterOperand s.Operand c.args.tokens.now c.binary.new.tokens c.operand.new.tokens (steps (s.Sign t.Semicolon ∷ [])) c.in_err-second.field-0.0 c.from_residual-in_err-second.result
+    (search rules) (after_two c.args.tokens.now c.args.op c.requires ∙ bind_ok _ _ _ c.in_ok-binary.ensures.goes) c.in_err-second.ensures.goes
+
+pub returns-in_err-sign-clause-goes : goal.returns-in_err-sign-clause-goes
+returns-in_err-sign-clause-goes c =
+    fault_goes s.AfterOperand (s.Sign t.Semicolon) c.args.tokens.now c.operand.new.tokens c.sign.new.self (steps []) c.in_err-sign.field-0.0 c.from_residual-in_err-sign.result
+    (search rules) (after_two c.args.tokens.now c.args.op c.requires ∙ bind_ok _ _ _ c.in_ok-binary.ensures.goes ∙ bind_ok _ _ _ c.in_ok-second.ensures.goes) c.in_err-sign.ensures.goes
+
+pub returns-clause-goes : goal.returns-clause-goes
+returns-clause-goes c =
+    after_two c.args.tokens.now c.args.op c.requires ∙ bind_ok _ _ _ c.in_ok-binary.ensures.goes ∙ bind_ok _ _ _ c.in_ok-second.ensures.goes ∙ bind_ok _ _ _ c.in_ok-sign.ensures.goes
+
+pub returns-clause-tree : goal.returns-clause-tree
+returns-clause-tree c = two_tree c.args.op c.in_ok-binary.ensures.tree c.in_ok-second.ensures.tree c.in_ok-sign.ensures.tree c.into_inner.ensures

@@ -1,0 +1,12 @@
+use Rattle.std.proofs.Common.{subst}
+use Rattle.std.specs.Prelude.{IfOk}
+use Rattle.sap_modtext.specs.Grammar as g
+use Rattle.sap_vparse.specs.Reading.{Goes}
+use Rattle.sap_vparse.specs.Table as s
+use Rattle.sap_vparse.proofs.right.unary.Goals as goal
+
+pub returns-clause-goes : goal.returns-clause-goes
+returns-clause-goes c = subst (λ j. Goes (s.Sign j) c.args.tokens.now c.sign.result c.sign.new.self) c.unary_sign.ensures c.sign.ensures.goes
+
+pub returns-clause-tree : goal.returns-clause-tree
+returns-clause-tree c = subst (λ j. IfOk c.sign.result (λ _. g.IsSign c.args.tokens.now j c.sign.new.self)) c.unary_sign.ensures c.sign.ensures.tree

@@ -1,0 +1,9 @@
+pub mod Choices
+pub mod Lexemes
+pub mod Lexing
+pub mod Parts
+pub mod Reading
+pub mod Spelling
+pub mod Table
+pub mod Text
+pub mod Views

@@ -1,0 +1,22 @@
+//! Reads the text of a module.
+//!
+//! `parse` reads the file of a text by the module grammar, or says where the text goes wrong and how.
+#![tactic(auto)]
+
+mod choice;
+mod cursor;
+pub mod fault;
+mod file;
+mod item;
+pub mod items;
+pub mod law;
+mod lexeme;
+mod lexer;
+mod operand;
+mod port;
+mod read;
+mod right;
+mod token;
+
+pub use fault::ReadFault;
+pub use read::parse;
