@@ -1,0 +1,12 @@
+pub mod Noting
+pub mod Parts
+pub mod Lists
+pub mod Loops
+pub mod Tabled
+pub mod Powers
+pub mod Above
+pub mod First
+pub mod WidthLemmas
+pub mod Found
+pub mod Complete
+pub mod Judged

@@ -1,0 +1,13 @@
+use Rattle.std.proofs.Common.{◌≡◌, drop}
+use Rattle.sap_vjudge.specs.Best.{best_of}
+use Rattle.sap_vjudge.specs.Known.{after_ports}
+use Rattle.sap_vjudge.specs.Listed.{ports_faults}
+use Rattle.sap_vjudge.specs.Tables.{known_of}
+use Rattle.sap_vparse.specs.Views.{ports_of}
+use Rattle.sap_vjudge.proofs.items.read_ports.Given as goal
+
+-- what is left gives the first of all, and what is known in the end
+abbrev pub invariant-loop-port : goal.invariant-loop-port
+invariant-loop-port l =
+    (best_of l.best (ports_faults (known_of l.table) (ports_of (drop l.port-index l.ports))) ≡ best_of l.initial.best (ports_faults (known_of l.initial.table) (ports_of l.ports)))
+    × (after_ports (known_of l.table) (ports_of (drop l.port-index l.ports)) ≡ after_ports (known_of l.initial.table) (ports_of l.ports))

@@ -1,0 +1,14 @@
+use Rattle.std.proofs.Common.{◌∙◌, sym}
+use Rattle.sap_vparse.specs.Views.{file_of}
+use Rattle.sap_vjudge.proofs.Judged.{named_first, faultless_none, none_stands}
+use Rattle.sap_vjudge.proofs.judging.judge.Goals as goal
+
+pub returns-in-Some-clause-first : goal.returns-in-Some-clause-first
+returns-in-Some-clause-first c = λ code place same.
+    named_first (file_of c.args.file.now) c.in-Some.fault code place (sym c.in-Some.is ∙ c.in_ok-fault.ensures) (cc) (cc)
+
+pub returns-in-Some-clause-accepted : goal.returns-in-Some-clause-accepted
+returns-in-Some-clause-accepted c = λ faultless. absurd (faultless_none (file_of c.args.file.now) c.in-Some.fault (sym c.in-Some.is ∙ c.in_ok-fault.ensures) faultless)
+
+pub returns-in-None-clause-faultless : goal.returns-in-None-clause-faultless
+returns-in-None-clause-faultless c = none_stands (file_of c.args.file.now) (sym c.in-None.is ∙ c.in_ok-fault.ensures)

@@ -1,0 +1,221 @@
+-- The faults of a module, listed in the order in which they are looked for: each item's faults by what is known where it stands.
+use Rattle.std.specs.Prelude.{ℕ, ◌+◌, ◌^◌, List, [], ◌∷◌, ◌++◌, Bool, true, false, not, ◌&&◌, ◌||◌, ◌==◌, nat_lt, nat_le, Option, Some, None, is_some, map, flat_map}
+use Rattle.std.specs.List.{list_any}
+use Rattle.std.specs.Int.{is_power_of_two}
+use Rattle.sap_modtext.specs.Items.{Mention, Number, Constant, Operand, Right, Port, Item, File}
+use Rattle.sap_modtext.specs.Items as item
+use Rattle.sap_modtext.specs.Faults.{Shape, wire, memory, shape_width, Declaration, port_declaration, item_declarations, Setting, assign, initial, always, Target, target_of, is_settable, needs, Manner, as_value, Use, uses, suits, constants, constant_fits, constant_width, ranges, indexes, operand_place, value_width, wire_width, register_width, memory_width, add_widths, slice_width, Pairs, unary_rule, binary_rule, unary_pairs, binary_pairs}
+use Rattle.sap_vjudge.specs.declared.code.Code.TheVariants.{V3, V4, V5, V6, V7}
+use Rattle.sap_vjudge.specs.Best.{Fault, fault_if}
+use Rattle.sap_vjudge.specs.Known.{Known, nothing_known, after_port, after_ports, after_item, after_items}
+
+-- What is declared or set a second time, and the `integer` of a `for`.
+
+abbrev pub twice_faults : Known → Declaration → List Fault
+twice_faults k d = fault_if (is_some (k.shape d.name.name)) V3 d.name.place
+
+abbrev pub target_faults : Known → Option Target → List Fault
+target_faults k None = []
+target_faults k (Some t) = fault_if (is_settable (k.shape t.name.name) && k.set t.setting t.name.name) V3 t.name.place
+
+unfoldable pub declarations_faults : Known → List Declaration → List Fault
+declarations_faults k ds = flat_map (twice_faults k) ds
+
+abbrev pub integer_faults : Known → Item → List Fault
+integer_faults k (item.integer place) = fault_if k.integer V3 place
+integer_faults k (item.initial_cells place bound x value) = fault_if (not k.integer) V4 place
+integer_faults k _ = []
+
+-- What is used.
+
+-- an operand that is a wire not assigned before
+abbrev pub is_unassigned : Manner → Shape → Bool → Bool
+is_unassigned as_value (wire width) assigned = not assigned
+is_unassigned _ _ assigned = false
+
+abbrev pub shape_faults : Manner → Option Shape → Bool → ℕ → List Fault
+shape_faults manner None assigned place = fault_if true V4 place
+shape_faults manner (Some shape) assigned place = fault_if (is_unassigned manner shape assigned) V4 place ++ fault_if (not (suits manner shape)) V7 place
+
+abbrev pub use_faults : Known → Use → List Fault
+use_faults k u = shape_faults u.manner (k.shape u.name.name) (k.set assign u.name.name) u.name.place
+
+abbrev pub used : Manner → Mention → Use
+used manner x = record { manner = manner; name = x }
+
+unfoldable pub uses_faults : Known → List Use → List Fault
+uses_faults k us = flat_map (use_faults k) us
+
+-- Numbers and widths.
+
+abbrev pub range_faults : Number → List Fault
+range_faults n = fault_if (nat_lt 63 n.value) V5 n.place
+
+unfoldable pub ranges_faults : List Number → List Fault
+ranges_faults ns = flat_map range_faults ns
+
+abbrev pub constant_faults : Constant → List Fault
+constant_faults c = fault_if (not (constant_fits c)) V5 c.place
+
+unfoldable pub constants_faults : List Constant → List Fault
+constants_faults cs = flat_map constant_faults cs
+
+abbrev pub operand_width : Known → Operand → Option ℕ
+operand_width k (item.named x) = value_width (k.shape x.name) (k.set assign x.name)
+operand_width k (item.constant c) = constant_width c
+
+unfoldable pub parts_width : Known → List Operand → Option ℕ
+parts_width k [] = Some 0
+parts_width k (x ∷ xs) = add_widths (operand_width k x) (parts_width k xs)
+
+-- of `?:`: of the condition and 1, and of the target and the arms
+abbrev pub arm_pairs : Option ℕ → Option ℕ → Option ℕ → Option ℕ → Pairs
+arm_pairs condition target x y = (condition, Some 1) ∷ (target, x) ∷ (target, y) ∷ (x, y) ∷ []
+
+abbrev pub right_pairs : Known → Option ℕ → Right → Pairs
+right_pairs k target (item.copy x) = (target, operand_width k x) ∷ []
+right_pairs k target (item.one op x) = unary_pairs (unary_rule op) target (operand_width k x)
+right_pairs k target (item.two op x y) = binary_pairs (binary_rule op) target (operand_width k x) (operand_width k y)
+right_pairs k target (item.choose c x y) = arm_pairs (operand_width k c) target (operand_width k x) (operand_width k y)
+right_pairs k target (item.concat xs) = (target, parts_width k xs) ∷ []
+right_pairs k target (item.slice x high low) = (target, slice_width (operand_width k (item.named x)) high low) ∷ []
+right_pairs k target (item.cell m index) = (target, memory_width (k.shape m.name)) ∷ []
+
+abbrev pub pairs : Known → Item → Pairs
+pairs k (item.assign x right) = right_pairs k (wire_width (k.shape x.name)) right
+pairs k (item.initial x value) = (register_width (k.shape x.name), constant_width value) ∷ []
+pairs k (item.initial_cells place bound x value) = (memory_width (k.shape x.name), constant_width value) ∷ []
+pairs k (item.always x next) = (register_width (k.shape x.name), operand_width k next) ∷ []
+pairs k (item.always_cell condition x index value) =
+    (operand_width k condition, Some 1) ∷ (memory_width (k.shape x.name), operand_width k value) ∷ []
+pairs k _ = []
+
+-- both widths are there, and they differ
+abbrev pub differ : Option ℕ × Option ℕ → Bool
+differ (Some u, Some w) = not (u == w)
+differ _ = false
+
+abbrev pub too_wide : Option ℕ → Bool
+too_wide (Some width) = nat_lt 64 width
+too_wide None = false
+
+abbrev pub right_too_wide : Known → Right → Bool
+right_too_wide k (item.concat parts) = too_wide (parts_width k parts)
+right_too_wide k _ = false
+
+abbrev pub item_too_wide : Known → Item → Bool
+item_too_wide k (item.assign x right) = right_too_wide k right
+item_too_wide k _ = false
+
+abbrev pub at_target : Bool → Option Target → List Fault
+at_target test None = []
+at_target test (Some t) = fault_if test V5 t.name.place
+
+-- two widths differ that have to be equal, or a `{}` is too wide
+abbrev pub item_differs : Known → Item → Bool
+item_differs k x = list_any differ (pairs k x) || item_too_wide k x
+
+abbrev pub target_width_faults : Known → Item → List Fault
+target_width_faults k x = at_target (item_differs k x) (target_of x)
+
+abbrev pub past_shape : Option Shape → ℕ → ℕ → ℕ → List Fault
+past_shape None high low place = []
+past_shape (Some shape) high low place = fault_if (not (nat_le low high && nat_lt high (shape_width shape))) V5 place
+
+abbrev pub right_slice_faults : Known → Right → List Fault
+right_slice_faults k (item.slice x high low) = past_shape (k.shape x.name) high low x.place
+right_slice_faults k _ = []
+
+abbrev pub slice_faults : Known → Item → List Fault
+slice_faults k (item.assign x right) = right_slice_faults k right
+slice_faults k _ = []
+
+abbrev pub widths_faults : Known → Item → List Fault
+widths_faults k x = target_width_faults k x ++ slice_faults k x
+
+-- Memories.
+
+abbrev pub is_depth : ℕ → Bool
+is_depth depth = is_power_of_two depth && (nat_le 2 depth && nat_le depth 4096)
+
+abbrev pub depth_faults : Item → List Fault
+depth_faults (item.memory range x last) = fault_if (not (is_depth (last.value + 1))) V7 last.place
+depth_faults _ = []
+
+abbrev pub other_bound : Option Shape → Number → List Fault
+other_bound (Some (memory width depth)) bound = fault_if (not (bound.value == depth)) V7 bound.place
+other_bound _ bound = []
+
+abbrev pub bound_faults : Known → Item → List Fault
+bound_faults k (item.initial_cells place bound x value) = other_bound (k.shape x.name) bound
+bound_faults k _ = []
+
+-- a width of an index that isn't that of a depth
+abbrev pub is_other : ℕ → ℕ → Bool
+is_other depth width = is_power_of_two depth && not (depth == 2 ^ width)
+
+abbrev pub depth_index : ℕ → Option ℕ → ℕ → List Fault
+depth_index depth (Some width) place = fault_if (is_other depth width) V7 place
+depth_index depth None place = []
+
+abbrev pub other_index : Option Shape → Option ℕ → ℕ → List Fault
+other_index (Some (memory width depth)) given place = depth_index depth given place
+other_index _ given place = []
+
+abbrev pub index_faults : Known → Mention × Operand → List Fault
+index_faults k p = other_index (k.shape p.0.name) (operand_width k p.1) (operand_place p.1)
+
+unfoldable pub indexes_faults : Known → List (Mention × Operand) → List Fault
+indexes_faults k ps = flat_map (index_faults k) ps
+
+-- All of them.
+
+abbrev pub declared_faults : Known → Item → List Fault
+declared_faults k x = declarations_faults k (item_declarations x) ++ (target_faults k (target_of x) ++ integer_faults k x)
+
+abbrev pub sized_faults : Known → Item → List Fault
+sized_faults k x = ranges_faults (ranges x) ++ (constants_faults (constants x) ++ widths_faults k x)
+
+abbrev pub memory_faults : Known → Item → List Fault
+memory_faults k x = depth_faults x ++ (bound_faults k x ++ indexes_faults k (indexes x))
+
+unfoldable pub item_faults : Known → Item → List Fault
+item_faults k x = declared_faults k x ++ (uses_faults k (uses x) ++ (sized_faults k x ++ memory_faults k x))
+
+unfoldable pub port_faults : Known → Port → List Fault
+port_faults k p = twice_faults k (port_declaration p) ++ range_faults p.range
+
+unfoldable pub ports_faults : Known → List Port → List Fault
+ports_faults k [] = []
+ports_faults k (p ∷ ps) = port_faults k p ++ ports_faults (after_port k p) ps
+
+unfoldable pub items_faults : Known → List Item → List Fault
+items_faults k [] = []
+items_faults k (x ∷ xs) = item_faults k x ++ items_faults (after_item k x) xs
+
+-- a declaration's setting that isn't there
+abbrev pub lacks : Known → Declaration → Setting → Bool
+lacks k d s = needs d.shape s && not (k.set s d.name.name)
+
+abbrev pub unset_faults : Known → Declaration → List Fault
+unset_faults k d = fault_if (lacks k d assign || (lacks k d initial || lacks k d always)) V6 d.name.place
+
+abbrev pub declaration_of : Mention → Shape → Declaration
+declaration_of x shape = record { name = x; shape = shape }
+
+unfoldable pub unsets_faults : Known → List Declaration → List Fault
+unsets_faults k ds = flat_map (unset_faults k) ds
+
+unfoldable pub ports_unset : Known → List Port → List Fault
+ports_unset k ps = unsets_faults k (map port_declaration ps)
+
+unfoldable pub items_unset : Known → List Item → List Fault
+items_unset k xs = unsets_faults k (flat_map item_declarations xs)
+
+abbrev pub known_at_end : File → Known
+known_at_end f = after_items (after_ports nothing_known f.ports) f.items
+
+unfoldable pub file_faults : File → List Fault
+file_faults f =
+    ports_faults nothing_known f.ports
+    ++ (items_faults (after_ports nothing_known f.ports) f.items ++ (ports_unset (known_at_end f) f.ports ++ items_unset (known_at_end f) f.items))

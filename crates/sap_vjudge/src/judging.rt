@@ -1,0 +1,43 @@
+//! The first fault of a module's tree.
+
+ghost use Rattle.std.specs.Prelude.{◌≡◌, ℕ, None, IfErr, IfOk, IsErrOf, OnOk};
+ghost use Rattle.sap_modtext.specs.Faults.{IsFaultless};
+ghost use Rattle.sap_vjudge.specs.Best.{best_of};
+ghost use Rattle.sap_vjudge.specs.FirstFault.{IsFirstFault};
+ghost use Rattle.sap_vjudge.specs.Listed.{file_faults};
+ghost use Rattle.sap_vjudge.specs.declared.code.Code.{Code};
+ghost use Rattle.sap_vjudge.specs.declared.fault.JudgeFault.TheVariants.{Memory, Rule};
+ghost use Rattle.sap_vparse.specs.Views.{file_of};
+
+use crate::fault::{Fault, JudgeFault};
+use crate::items::{read_items, read_ports};
+use crate::table::Table;
+use crate::unset::{note_unset_items, note_unset_ports};
+use sap_vparse::items::File;
+use std::alloc::{AllocError, Global};
+
+#[tactic(auto, using(crate::proofs::Noting::noting, crate::proofs::Lists::files))]
+fn first_fault(alloc: Global, file: &File) -> Result<Option<Fault>, AllocError>
+    ensures { IfOk result (λ best. best ≡ best_of None (file_faults (file_of file.now))) }
+{
+    let mut best = None;
+    let mut table = Table::new(alloc);
+    read_ports(alloc, file.ports.as_slice(), &mut table, &mut best)?;
+    read_items(alloc, file.items.as_slice(), &mut table, &mut best)?;
+    note_unset_ports(&table, file.ports.as_slice(), &mut best);
+    note_unset_items(&table, file.items.as_slice(), &mut best);
+    Ok(best)
+}
+
+/// Whether none of V3 to V7 stands in a module's tree; else the first fault, by place and then by code.
+pub fn judge(alloc: Global, file: &File) -> Result<(), JudgeFault>
+    ensures faultless { OnOk result (IsFaultless (file_of file.now)) }
+    ensures first { (code : Code) (place : ℕ) → IsErrOf result (Rule code place) → IsFirstFault (file_of file.now) code place }
+    // A faultless tree is refused for want of memory alone.
+    ensures accepted { IsFaultless (file_of file.now) → IfErr result (λ e. e ≡ Memory) }
+{
+    match first_fault(alloc, file)? {
+        Some(fault) => Err(JudgeFault::Rule(fault.code, fault.place)),
+        None => Ok(()),
+    }
+}
