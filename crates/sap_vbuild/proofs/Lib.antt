@@ -1,0 +1,13 @@
+pub mod Entries
+pub mod Sound
+pub mod Parts
+pub mod Readable
+pub mod WiresFit
+pub mod EdgesFit
+pub mod Netlist
+pub mod Narrowed
+pub mod SpelledNames
+pub mod Tabled
+pub mod NotedLists
+pub mod Views
+pub mod BuiltNet
