@@ -1,0 +1,17 @@
+-- Places behind bytes.
+use Rattle.std.proofs.Common.{◌≡◌, ◌<◌, ◌≤◌, ◌+◌, ℕ, List, length, take, drop, get_or, arith}
+use Rattle.std.proofs.lemmas.Grind.{common_steps}
+use Rattle.std.proofs.lemmas.List.{at_drop_more, at_drop_all}
+use Rattle.sap_vread.specs.declared.place.Place.{Place}
+use Rattle.sap_vread.specs.Places.{next_place, place_after}
+
+pub place_more : (p : Place) (bs : List ℕ) (i : ℕ) → i < length bs → place_after p (drop i bs) ≡ place_after (next_place p (get_or bs i 0)) (drop (i + 1) bs)
+place_more p bs i h = at_drop_more (place_after p) bs i 0 h
+
+pub place_all : (p : Place) (bs : List ℕ) (i : ℕ) → length bs ≤ i → place_after p (drop i bs) ≡ p
+place_all p bs i h = at_drop_all (place_after p) bs i h
+
+pub ruleset places = (place_more, place_all)
+
+pub take_all : (bs : List ℕ) (n : ℕ) → length bs ≤ n → take n bs ≡ bs
+take_all bs n h = grind (arith, common_steps)
