@@ -4,4 +4,6 @@
 #[cfg(test)]
 mod printed;
 #[cfg(test)]
+mod read;
+#[cfg(test)]
 mod simulated;
