@@ -8,10 +8,11 @@ use Rattle.sap_desk.specs.Desk.{Told}
 use Rattle.sap_latfile.specs.declared.fault.LatFileFault.{LatFileFault}
 use Rattle.sap_compile.specs.declared.fault.DesignFault.{DesignFault}
 use Rattle.sap_stim.specs.declared.fault.StimFault.{StimFault}
+use Rattle.sap_vread.specs.declared.fault.ModFault.{ModFault}
 use Rattle.sap_desk.specs.Cause.{Rose, counted}
 use Rattle.sap_desk.specs.Whole.{Between}
-use Rattle.sapper.specs.Words.{Words, compile, run, fmt, command_of}
-use Rattle.sapper.specs.Ending.{Ending, done, no_command, lattice_refused, design_refused, stimulus_refused, failed, no_memory, status_of, line, line_of}
+use Rattle.sapper.specs.Words.{Words, compile, run, fmt, sim, command_of}
+use Rattle.sapper.specs.Ending.{Ending, done, no_command, lattice_refused, design_refused, stimulus_refused, module_refused, failed, no_memory, status_of, line, line_of}
 use Rattle.sapper.specs.Causes.{Cause, CauseOf}
 use Rattle.sapper.specs.Output.{Output}
 use Rattle.sapper.specs.Ends.{Answers, Blames, Files, Gained, Leaves, LeavesOf, OutputOf}
@@ -29,6 +30,7 @@ not_free no_command free named none = free
 not_free (lattice_refused fault) free named none = free
 not_free (design_refused fault) free named none = free
 not_free (stimulus_refused fault) free named none = free
+not_free (module_refused fault) free named none = free
 not_free (failed name) free named none = named name refl
 not_free no_memory free named none = none refl
 
@@ -43,6 +45,7 @@ status_cases no_command answer s = absurd s
 status_cases (lattice_refused fault) answer s = s
 status_cases (design_refused fault) answer s = s
 status_cases (stimulus_refused fault) answer s = s
+status_cases (module_refused fault) answer s = s
 status_cases (failed name) answer s = inl s
 status_cases no_memory answer s = inl s
 
@@ -52,6 +55,7 @@ free_status no_command answer s free = absurd s
 free_status (lattice_refused fault) answer s free = absurd free
 free_status (design_refused fault) answer s free = absurd free
 free_status (stimulus_refused fault) answer s free = absurd free
+free_status (module_refused fault) answer s free = absurd free
 free_status (failed name) answer s free = inl s
 free_status no_memory answer s free = inr s
 
@@ -61,6 +65,7 @@ not_two no_command answer s two = s
 not_two (lattice_refused fault) answer s two = elim s [ inl three ↦ absurd (omega (arith, three, two)) | inr seven ↦ absurd (omega (arith, seven, two)) ]
 not_two (design_refused fault) answer s two = elim s [ inl one ↦ absurd (omega (arith, one, two)) | inr seven ↦ absurd (omega (arith, seven, two)) ]
 not_two (stimulus_refused fault) answer s two = elim s [ inl four ↦ absurd (omega (arith, four, two)) | inr seven ↦ absurd (omega (arith, seven, two)) ]
+not_two (module_refused fault) answer s two = elim s [ inl five ↦ absurd (omega (arith, five, two)) | inr seven ↦ absurd (omega (arith, seven, two)) ]
 not_two (failed name) answer s two = absurd (omega (arith, s, two))
 not_two no_memory answer s two = absurd (omega (arith, s, two))
 
@@ -79,6 +84,8 @@ six_rose (design_refused fault) answer old mid new s h stands six =
     absurd (elim s [ inl one ↦ absurd (omega (arith, one, six)) | inr seven ↦ absurd (omega (arith, seven, six)) ])
 six_rose (stimulus_refused fault) answer old mid new s h stands six =
     absurd (elim s [ inl four ↦ absurd (omega (arith, four, six)) | inr seven ↦ absurd (omega (arith, seven, six)) ])
+six_rose (module_refused fault) answer old mid new s h stands six =
+    absurd (elim s [ inl five ↦ absurd (omega (arith, five, six)) | inr seven ↦ absurd (omega (arith, seven, six)) ])
 six_rose (failed name) answer old mid new s h stands six = rose_from old mid new h stands
 six_rose no_memory answer old mid new s h stands six = absurd (omega (arith, s, six))
 
@@ -88,6 +95,7 @@ not_six_stands no_command answer old mid new s h stands other = absurd s
 not_six_stands (lattice_refused fault) answer old mid new s h stands other = stands ∙ h
 not_six_stands (design_refused fault) answer old mid new s h stands other = stands ∙ h
 not_six_stands (stimulus_refused fault) answer old mid new s h stands other = stands ∙ h
+not_six_stands (module_refused fault) answer old mid new s h stands other = stands ∙ h
 not_six_stands (failed name) answer old mid new s h stands other = absurd (other s)
 not_six_stands no_memory answer old mid new s h stands other = stands ∙ h
 
@@ -111,16 +119,25 @@ lattice_leaves : (c : Words) (t : Told) (files : Files) (fault : LatFileFault) �
 lattice_leaves (compile lattice design out) t files fault is = is
 lattice_leaves (run lattice design stimulus) t files fault is = is
 lattice_leaves (fmt design) t files fault is = is
+lattice_leaves (sim lattice verilog stimulus) t files fault is = is
 
 design_leaves : (c : Words) (t : Told) (files : Files) (fault : DesignFault) → Leaves c t files (design_refused fault) → Leaves c t files no_memory
 design_leaves (compile lattice design out) t files fault is = is
 design_leaves (run lattice design stimulus) t files fault is = is
 design_leaves (fmt design) t files fault is = is
+design_leaves (sim lattice verilog stimulus) t files fault is = is
 
 stimulus_leaves : (c : Words) (t : Told) (files : Files) (fault : StimFault) → Leaves c t files (stimulus_refused fault) → Leaves c t files no_memory
 stimulus_leaves (compile lattice design out) t files fault is = is
 stimulus_leaves (run lattice design stimulus) t files fault is = is
 stimulus_leaves (fmt design) t files fault is = is
+stimulus_leaves (sim lattice verilog stimulus) t files fault is = is
+
+module_leaves : (c : Words) (t : Told) (files : Files) (fault : ModFault) → Leaves c t files (module_refused fault) → Leaves c t files no_memory
+module_leaves (compile lattice design out) t files fault is = is
+module_leaves (run lattice design stimulus) t files fault is = is
+module_leaves (fmt design) t files fault is = is
+module_leaves (sim lattice verilog stimulus) t files fault is = is
 
 module _ (words : List (List ℕ)) (c : Words) (is : command_of words ≡ Some c) where
   leaves_words : (t : Told) (files : Files) (e : Ending) → Leaves c t files e → LeavesOf (command_of words) t files e
@@ -201,6 +218,13 @@ module _ (words : List (List ℕ)) (c : Words) (is : command_of words ≡ Some c
         (stimulus_leaves c t m.files fault o.leaves) (inr (o.gained, o.shows, whole_prefix o.gained)) tt
         (λ named none. absurd (none refl)) (line_at (stimulus_refused fault) answer 7 mid now m n seven w)
   ]
+  ends_told (module_refused fault) answer lost mid now t m n same s o w = elim s [
+    | inl five ↦ with_line (module_refused fault) (module_refused fault) answer lost mid now t m n same five o o.leaves o.shows tt
+        (cause_stands c t (module_refused fault) o.justified) (line_at (module_refused fault) answer 5 mid now m n five w)
+    | inr seven ↦ with_line (module_refused fault) no_memory answer lost mid now t m n same seven o
+        (module_leaves c t m.files fault o.leaves) (inl o.shows) tt
+        (λ named none. absurd (none refl)) (line_at (module_refused fault) answer 7 mid now m n seven w)
+  ]
   ends_told (failed name) answer lost mid now t m n same s o w =
       with_line (failed name) (failed name) answer lost mid now t m n same s o o.leaves o.shows o.blames
       (λ named none. absurd (named name refl)) (line_at (failed name) answer 6 mid now m n s w)
@@ -267,6 +291,10 @@ module _ (words : List (List ℕ)) (c : Words) (is : command_of words ≡ Some c
   outside_after text lost now (run lattice design stimulus) t m n (inr (inl missing)) w = inr (inl missing)
   outside_after text lost now (run lattice design stimulus) t m n (inr (inr (inl missing))) w = inr (inr (inl missing))
   outside_after text lost now (run lattice design stimulus) t m n (inr (inr (inr full))) w = inr (inr (inr (full_output text lost now t m n full w)))
+  outside_after text lost now (sim lattice verilog stimulus) t m n (inl missing) w = inl missing
+  outside_after text lost now (sim lattice verilog stimulus) t m n (inr (inl missing)) w = inr (inl missing)
+  outside_after text lost now (sim lattice verilog stimulus) t m n (inr (inr (inl missing))) w = inr (inr (inl missing))
+  outside_after text lost now (sim lattice verilog stimulus) t m n (inr (inr (inr full))) w = inr (inr (inr (full_output text lost now t m n full w)))
   outside_after text lost now (fmt design) t m n (inl missing) w = inl missing
   outside_after text lost now (fmt design) t m n (inr full) w = inr (full_output text lost now t m n full w)
 

@@ -9,7 +9,7 @@ use Rattle.sap_tree.specs.Syntax.{DesignTree}
 use Rattle.sap_tree.specs.Designs.{design_of as design_tree}
 use Rattle.sap_compile.specs.declared.compiler.Compiled.{Compiled}
 use Rattle.sapper.specs.Words.{compile}
-use Rattle.sapper.specs.Ending.{Ending, done, no_command, lattice_refused, design_refused, stimulus_refused, failed, no_memory, status_of}
+use Rattle.sapper.specs.Ending.{Ending, done, no_command, lattice_refused, design_refused, stimulus_refused, module_refused, failed, no_memory, status_of}
 use Rattle.sapper.specs.Causes.{CompileCause, DesignStands, LatticeStands}
 use Rattle.sapper.specs.Output.{IsPrefix}
 use Rattle.sapper.specs.Ends.{CompileLeaves, Files, IsModuleText, ModuleCut}
@@ -25,6 +25,7 @@ keeps lattice design out t files no_command not is = is
 keeps lattice design out t files (lattice_refused fault) not is = is
 keeps lattice design out t files (design_refused fault) not is = is
 keeps lattice design out t files (stimulus_refused fault) not is = is
+keeps lattice design out t files (module_refused fault) not is = is
 keeps lattice design out t files no_memory not is = is
 
 module _ (lattice design out : List ℕ) (t : Told) where
@@ -35,6 +36,7 @@ module _ (lattice design out : List ℕ) (t : Told) where
   lattice_alone none (lattice_refused fault) cause = refl
   lattice_alone none (design_refused fault) cause = absurd (none cause.0 cause.1)
   lattice_alone none (stimulus_refused fault) cause = absurd cause
+  lattice_alone none (module_refused fault) cause = absurd cause
   lattice_alone none no_command cause = absurd cause
   lattice_alone none (failed name) cause = absurd cause
   lattice_alone none no_memory cause = absurd cause
@@ -45,6 +47,7 @@ module _ (lattice design out : List ℕ) (t : Told) where
   lattice_caused no_command r = absurd r
   lattice_caused (design_refused fault) r = absurd r
   lattice_caused (stimulus_refused fault) r = absurd r
+  lattice_caused (module_refused fault) r = absurd r
   lattice_caused (failed name) r = absurd r
   lattice_caused no_memory r = absurd r
 
@@ -56,6 +59,7 @@ module _ (lattice design out : List ℕ) (t : Told) where
     design_alone none (lattice_refused fault) cause = absurd (has.unbroken fault cause)
     design_alone none (design_refused fault) cause = refl
     design_alone none (stimulus_refused fault) cause = absurd cause
+    design_alone none (module_refused fault) cause = absurd cause
     design_alone none no_command cause = absurd cause
     design_alone none (failed name) cause = absurd cause
     design_alone none no_memory cause = absurd cause
@@ -66,6 +70,7 @@ module _ (lattice design out : List ℕ) (t : Told) where
     design_caused no_command r = absurd r
     design_caused (lattice_refused fault) r = absurd r
     design_caused (stimulus_refused fault) r = absurd r
+    design_caused (module_refused fault) r = absurd r
     design_caused (failed name) r = absurd r
     design_caused no_memory r = absurd r
 
@@ -78,6 +83,7 @@ module _ (lattice design out : List ℕ) (t : Told) where
       done_alone (design_refused fault) cause =
           absurd (compiled.faultless fault (refused_over t design cause.0 ls fault (has.only cause.0 cause.1) cause.2))
       done_alone (stimulus_refused fault) cause = absurd cause
+      done_alone (module_refused fault) cause = absurd cause
       done_alone no_command cause = absurd cause
       done_alone (failed name) cause = absurd cause
       done_alone no_memory cause = absurd cause
@@ -123,6 +129,7 @@ module _ (lattice design out : List ℕ) (t : Told) where
       ends_told (lattice_refused fault) n w = absurd w.files
       ends_told (design_refused fault) n w = absurd w.files
       ends_told (stimulus_refused fault) n w = absurd w.files
+      ends_told (module_refused fault) n w = absurd w.files
 
 -- over a desk that may tell
 

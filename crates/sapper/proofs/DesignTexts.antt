@@ -14,7 +14,7 @@ use Rattle.sap_compile.specs.declared.fault.DesignFault.TheVariants as design
 use Rattle.sapper.specs.Causes.{IsTextFault, TextRefused, TextStands}
 use Rattle.sapper.specs.Steps.{Counted, HasText, TextRead, TextStops, ending, ending_of, read_failure}
 use Rattle.sapper.specs.declared.failure.Failure.{Failure}
-use Rattle.sapper.specs.declared.failure.Failure.TheVariants.{Lattice, Design, Stimulus, Desk, Memory}
+use Rattle.sapper.specs.declared.failure.Failure.TheVariants.{Lattice, Design, Stimulus, Module, Desk, Memory}
 use Rattle.sapper.proofs.Lattices.{same_Some, unchanged_self}
 use Rattle.sapper.proofs.Designs.{OneDesign}
 
@@ -77,6 +77,7 @@ module _ (t : Told) (name source : List ℕ) (file : t.files name ≡ Some sourc
   stops Memory r = record { unchanged = unchanged_self t; blames = tt; why = inl tt }
   stops (Lattice fault) r = absurd r
   stops (Stimulus fault) r = absurd r
+  stops (Module fault) r = absurd r
   stops (Desk blamed) r = absurd r
 
 -- over a desk that may tell
@@ -108,5 +109,6 @@ text_counts source (Ok d) faults now r stands = stands
 text_counts source (Err (Design fault)) faults now r stands = stands
 text_counts source (Err (Lattice fault)) faults now r stands = absurd r
 text_counts source (Err (Stimulus fault)) faults now r stands = absurd r
+text_counts source (Err (Module fault)) faults now r stands = absurd r
 text_counts source (Err (Desk name)) faults now r stands = absurd r
 text_counts source (Err Memory) faults now r stands = stands

@@ -28,7 +28,7 @@ use Rattle.sapper.specs.Ending.{Ending}
 use Rattle.sapper.specs.Causes.{Compiles, DesignRefused, DesignStands, IsTextFault, TextRefused, TextStands}
 use Rattle.sapper.specs.Steps.{Counted, DesignCompiled, DesignStops, HasDesign, HasText, TextRead, TextStops, design_failure, ending, ending_of, read_failure}
 use Rattle.sapper.specs.declared.failure.Failure.{Failure}
-use Rattle.sapper.specs.declared.failure.Failure.TheVariants.{Lattice, Design, Stimulus, Desk, Memory}
+use Rattle.sapper.specs.declared.failure.Failure.TheVariants.{Lattice, Design, Stimulus, Module, Desk, Memory}
 use Rattle.sapper.proofs.Lattices.{same_Some, unchanged_self}
 
 -- a text is at most one design
@@ -116,6 +116,7 @@ module _ (t : Told) (name : List ℕ) (ls : Levels) (source : List ℕ) (file : 
   stops Memory r = record { unchanged = unchanged_self t; blames = tt; why = inl tt }
   stops (Lattice fault) r = absurd r
   stops (Stimulus fault) r = absurd r
+  stops (Module fault) r = absurd r
   stops (Desk blamed) r = absurd r
 
 -- over a desk that may tell
@@ -156,5 +157,6 @@ design_counts ls source (Ok m) faults now r stands = stands
 design_counts ls source (Err (Design fault)) faults now r stands = stands
 design_counts ls source (Err (Lattice fault)) faults now r stands = absurd r
 design_counts ls source (Err (Stimulus fault)) faults now r stands = absurd r
+design_counts ls source (Err (Module fault)) faults now r stands = absurd r
 design_counts ls source (Err (Desk name)) faults now r stands = absurd r
 design_counts ls source (Err Memory) faults now r stands = stands

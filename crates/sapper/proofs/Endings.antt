@@ -13,12 +13,12 @@ use Rattle.sap_compile.specs.declared.compiler.Compiled.{Compiled}
 use Rattle.sap_compile.specs.declared.fault.DesignFault.{DesignFault}
 use Rattle.sap_stim.specs.declared.fault.StimFault.{StimFault}
 use Rattle.sapper.specs.Words.{Words}
-use Rattle.sapper.specs.Ending.{Ending, done, no_command, lattice_refused, design_refused, stimulus_refused, failed, no_memory, status_of}
+use Rattle.sapper.specs.Ending.{Ending, done, no_command, lattice_refused, design_refused, stimulus_refused, module_refused, failed, no_memory, status_of}
 use Rattle.sapper.specs.Causes.{Cause, DesignRefused, DesignStands}
 use Rattle.sapper.specs.Output.{IsPrefix, Output}
 use Rattle.sapper.specs.Ends.{Files, Leaves}
 use Rattle.sapper.specs.Outside.{OutsideOf, FullOutput}
-use Rattle.sapper.specs.Steps.{Counted, DesignEnds, Ends, HasDesign, HasOutput, IsFailed, IsFree, Justified, LatticeEnds, Put, PutPart, Same, Stops, TextEnds, ending_of, last_of}
+use Rattle.sapper.specs.Steps.{Counted, DesignEnds, Ends, HasDesign, HasOutput, IsFailed, IsFree, Justified, LatticeEnds, ModuleEnds, Put, PutPart, Same, Stops, TextEnds, ending_of, last_of}
 use Rattle.sapper.specs.declared.failure.Failure.{Failure}
 use Rattle.sapper.specs.declared.failure.Failure.TheVariants.{Memory}
 use Rattle.sapper.proofs.Designs.{compiles_in, fault_in}
@@ -67,6 +67,7 @@ free_shown c t no_command free = absurd free
 free_shown c t (lattice_refused fault) free = absurd free
 free_shown c t (design_refused fault) free = absurd free
 free_shown c t (stimulus_refused fault) free = absurd free
+free_shown c t (module_refused fault) free = absurd free
 
 pub lattice_shown : (c : Words) (t : Told) (name : List ℕ) (e : Ending) → LatticeEnds t name e → Output c t [] e
 lattice_shown c t name (lattice_refused fault) r = refl
@@ -74,6 +75,7 @@ lattice_shown c t name done r = absurd r
 lattice_shown c t name no_command r = absurd r
 lattice_shown c t name (design_refused fault) r = absurd r
 lattice_shown c t name (stimulus_refused fault) r = absurd r
+lattice_shown c t name (module_refused fault) r = absurd r
 lattice_shown c t name (failed blamed) r = absurd r
 lattice_shown c t name no_memory r = absurd r
 
@@ -83,6 +85,7 @@ design_shown c ls t name done r = absurd r
 design_shown c ls t name no_command r = absurd r
 design_shown c ls t name (lattice_refused fault) r = absurd r
 design_shown c ls t name (stimulus_refused fault) r = absurd r
+design_shown c ls t name (module_refused fault) r = absurd r
 design_shown c ls t name (failed blamed) r = absurd r
 design_shown c ls t name no_memory r = absurd r
 
@@ -92,8 +95,19 @@ text_shown c t name done r = absurd r
 text_shown c t name no_command r = absurd r
 text_shown c t name (lattice_refused fault) r = absurd r
 text_shown c t name (stimulus_refused fault) r = absurd r
+text_shown c t name (module_refused fault) r = absurd r
 text_shown c t name (failed blamed) r = absurd r
 text_shown c t name no_memory r = absurd r
+
+pub module_shown : (c : Words) (t : Told) (name : List ℕ) (e : Ending) → ModuleEnds t name e → Output c t [] e
+module_shown c t name (design_refused fault) r = absurd r
+module_shown c t name done r = absurd r
+module_shown c t name no_command r = absurd r
+module_shown c t name (lattice_refused fault) r = absurd r
+module_shown c t name (stimulus_refused fault) r = absurd r
+module_shown c t name (module_refused fault) r = refl
+module_shown c t name (failed blamed) r = absurd r
+module_shown c t name no_memory r = absurd r
 
 not_done : (reason : Ending → Type 0) (e : Ending) → (reason done → ⊥) → IsFree e ⊎ reason e → e ≡ done → ⊥
 not_done reason e never why is = elim why [ inl free ↦ subst IsFree is free | inr r ↦ never (subst reason is r) ]
@@ -191,6 +205,7 @@ put_shown c text last t no_command gained has (inr (is, prefix)) = absurd is
 put_shown c text last t (lattice_refused fault) gained has (inr (is, prefix)) = absurd is
 put_shown c text last t (design_refused fault) gained has (inr (is, prefix)) = absurd is
 put_shown c text last t (stimulus_refused fault) gained has (inr (is, prefix)) = absurd is
+put_shown c text last t (module_refused fault) gained has (inr (is, prefix)) = absurd is
 put_shown c text last t no_memory gained has (inr (is, prefix)) = absurd is
 
 failed_free : (e : Ending) → IsFailed e → IsFree e
@@ -200,6 +215,7 @@ failed_free no_command is = absurd is
 failed_free (lattice_refused fault) is = absurd is
 failed_free (design_refused fault) is = absurd is
 failed_free (stimulus_refused fault) is = absurd is
+failed_free (module_refused fault) is = absurd is
 failed_free no_memory is = absurd is
 
 put_justified : (c : Words) (text : List ℕ) (last : Ending) (t : Told) (e : Ending) (gained : List ℕ) → HasOutput c t text last → PutPart text last gained e → Justified c t e

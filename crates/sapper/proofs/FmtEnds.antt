@@ -6,7 +6,7 @@ use Rattle.sap_desk.specs.Whole.{Between}
 use Rattle.sap_tree.specs.Syntax.{DesignTree}
 use Rattle.sap_show.specs.Canonical.{canonical_text}
 use Rattle.sapper.specs.Words.{fmt}
-use Rattle.sapper.specs.Ending.{Ending, done, no_command, lattice_refused, design_refused, stimulus_refused, failed, no_memory, status_of}
+use Rattle.sapper.specs.Ending.{Ending, done, no_command, lattice_refused, design_refused, stimulus_refused, module_refused, failed, no_memory, status_of}
 use Rattle.sapper.specs.Causes.{FmtCause, TextStands}
 use Rattle.sapper.specs.Output.{IsOutput}
 use Rattle.sapper.specs.Steps.{Ends, HasOutput, HasText, TextEnds, TextStops, ending}
@@ -23,6 +23,7 @@ module _ (design : List ℕ) (t : Told) where
   text_alone none (design_refused fault) cause = refl
   text_alone none (lattice_refused fault) cause = absurd cause
   text_alone none (stimulus_refused fault) cause = absurd cause
+  text_alone none (module_refused fault) cause = absurd cause
   text_alone none no_command cause = absurd cause
   text_alone none (failed name) cause = absurd cause
   text_alone none no_memory cause = absurd cause
@@ -33,6 +34,7 @@ module _ (design : List ℕ) (t : Told) where
   text_caused no_command r = absurd r
   text_caused (lattice_refused fault) r = absurd r
   text_caused (stimulus_refused fault) r = absurd r
+  text_caused (module_refused fault) r = absurd r
   text_caused (failed name) r = absurd r
   text_caused no_memory r = absurd r
 
@@ -44,6 +46,7 @@ module _ (design : List ℕ) (t : Told) where
     done_alone (design_refused fault) cause = absurd (has.faultless fault cause)
     done_alone (lattice_refused fault) cause = absurd cause
     done_alone (stimulus_refused fault) cause = absurd cause
+    done_alone (module_refused fault) cause = absurd cause
     done_alone no_command cause = absurd cause
     done_alone (failed name) cause = absurd cause
     done_alone no_memory cause = absurd cause

@@ -14,7 +14,7 @@ use Rattle.sapper.specs.Ending.{Ending}
 use Rattle.sapper.specs.Causes.{LatticeStands}
 use Rattle.sapper.specs.Steps.{Counted, HasLattice, LatticeEnds, LatticeRead, LatticeStops, Never, Same, Stops, Unchanged, ending, ending_of, lattice_failure}
 use Rattle.sapper.specs.declared.failure.Failure.{Failure}
-use Rattle.sapper.specs.declared.failure.Failure.TheVariants.{Lattice, Design, Stimulus, Desk, Memory}
+use Rattle.sapper.specs.declared.failure.Failure.TheVariants.{Lattice, Design, Stimulus, Module, Desk, Memory}
 
 pub same_Some : {A : Type 0} (o : Option A) (a b : A) → o ≡ Some a → o ≡ Some b → a ≡ b
 same_Some o a b p q = cc
@@ -94,6 +94,7 @@ module _ (t : Told) (name bytes : List ℕ) (file : t.files name ≡ Some bytes)
   stops Memory r = record { unchanged = unchanged_self t; blames = tt; why = inl tt }
   stops (Design fault) r = absurd r
   stops (Stimulus fault) r = absurd r
+  stops (Module fault) r = absurd r
   stops (Desk blamed) r = absurd r
 
 -- over a desk that may tell
@@ -126,5 +127,6 @@ lattice_counts bytes (Ok ls) faults now r stands = stands
 lattice_counts bytes (Err (Lattice fault)) faults now r stands = stands
 lattice_counts bytes (Err (Design fault)) faults now r stands = absurd r
 lattice_counts bytes (Err (Stimulus fault)) faults now r stands = absurd r
+lattice_counts bytes (Err (Module fault)) faults now r stands = absurd r
 lattice_counts bytes (Err (Desk name)) faults now r stands = absurd r
 lattice_counts bytes (Err Memory) faults now r stands = stands

@@ -6,7 +6,11 @@ pub mod Stimuli
 pub mod Alike
 pub mod Endings
 pub mod CompileEnds
+pub mod Netlists
+pub mod NetsAlike
 pub mod OneText
 pub mod RunEnds
+pub mod Modules
+pub mod SimEnds
 pub mod FmtEnds
 pub mod Calls

@@ -13,7 +13,7 @@ use Rattle.sap_sim.specs.declared.rows.Rows.{Rows}
 use Rattle.sap_stim.specs.declared.stimulus.Parsed.{Parsed}
 use Rattle.sap_run.specs.RunOf.{IsRunOf, read_for as design_stimulus}
 use Rattle.sapper.specs.Words.{run}
-use Rattle.sapper.specs.Ending.{Ending, done, no_command, lattice_refused, design_refused, stimulus_refused, failed, no_memory, status_of}
+use Rattle.sapper.specs.Ending.{Ending, done, no_command, lattice_refused, design_refused, stimulus_refused, module_refused, failed, no_memory, status_of}
 use Rattle.sapper.specs.Causes.{DesignRefused, DesignStands, LatticeStands, RunCause}
 use Rattle.sapper.specs.Output.{IsOutput, Output}
 use Rattle.sapper.specs.Steps.{DesignEnds, DesignStops, Ends, HasDesign, HasLattice, HasOutput, Justified, LatticeEnds, LatticeStops, Never, Stops, ending, last_of}
@@ -34,6 +34,7 @@ module _ (lattice design stimulus : List ℕ) (t : Told) where
   lattice_alone none (lattice_refused fault) cause = refl
   lattice_alone none (design_refused fault) cause = absurd (none cause.0 cause.1)
   lattice_alone none (stimulus_refused fault) cause = absurd (none cause.0 cause.2)
+  lattice_alone none (module_refused fault) cause = absurd cause
   lattice_alone none no_command cause = absurd cause
   lattice_alone none (failed name) cause = absurd cause
   lattice_alone none no_memory cause = absurd cause
@@ -44,6 +45,7 @@ module _ (lattice design stimulus : List ℕ) (t : Told) where
   lattice_caused no_command r = absurd r
   lattice_caused (design_refused fault) r = absurd r
   lattice_caused (stimulus_refused fault) r = absurd r
+  lattice_caused (module_refused fault) r = absurd r
   lattice_caused (failed name) r = absurd r
   lattice_caused no_memory r = absurd r
 
@@ -58,6 +60,7 @@ module _ (lattice design stimulus : List ℕ) (t : Told) where
     design_alone none (lattice_refused fault) cause = absurd (has.unbroken fault cause)
     design_alone none (design_refused fault) cause = refl
     design_alone none (stimulus_refused fault) cause = absurd (none_over none cause.0 cause.1 cause.2 cause.3)
+    design_alone none (module_refused fault) cause = absurd cause
     design_alone none no_command cause = absurd cause
     design_alone none (failed name) cause = absurd cause
     design_alone none no_memory cause = absurd cause
@@ -68,6 +71,7 @@ module _ (lattice design stimulus : List ℕ) (t : Told) where
     design_caused no_command r = absurd r
     design_caused (lattice_refused fault) r = absurd r
     design_caused (stimulus_refused fault) r = absurd r
+    design_caused (module_refused fault) r = absurd r
     design_caused (failed name) r = absurd r
     design_caused no_memory r = absurd r
 
@@ -93,6 +97,7 @@ module _ (lattice design stimulus : List ℕ) (t : Told) where
       none_alone none (design_refused fault) cause = absurd (no_fault cause.0 fault cause.1 cause.2)
       none_alone none (stimulus_refused fault) (other, d, stands, compiles, (found, there, is)) =
           absurd (some_none _ fault (sym (same_refusal other d found stands compiles there) ∙ is) none)
+      none_alone none (module_refused fault) cause = absurd cause
       none_alone none no_command cause = absurd cause
       none_alone none (failed name) cause = absurd cause
       none_alone none no_memory cause = absurd cause
@@ -104,6 +109,7 @@ module _ (lattice design stimulus : List ℕ) (t : Told) where
       some_alone first some (lattice_refused fault) cause = absurd (has.unbroken fault cause)
       some_alone first some (design_refused fault) cause = absurd (no_fault cause.0 fault cause.1 cause.2)
       some_alone first some (stimulus_refused fault) cause = refl
+      some_alone first some (module_refused fault) cause = absurd cause
       some_alone first some no_command cause = absurd cause
       some_alone first some (failed name) cause = absurd cause
       some_alone first some no_memory cause = absurd cause

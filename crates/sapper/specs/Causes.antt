@@ -15,8 +15,14 @@ use Rattle.sap_compile.specs.declared.fault.DesignFault.TheVariants as design_fa
 use Rattle.sap_stim.specs.declared.fault.StimFault.{StimFault}
 use Rattle.sap_stim.specs.declared.stimulus.Parsed.{Parsed}
 use Rattle.sap_run.specs.RunOf.{read_for as design_stimulus}
-use Rattle.sapper.specs.Words.{Words, compile, run, fmt}
-use Rattle.sapper.specs.Ending.{Ending, done, no_command, lattice_refused, design_refused, stimulus_refused, failed, no_memory}
+use Rattle.sap_net.specs.Net.{Net}
+use Rattle.sap_modtext.specs.Modules.{IsModule}
+use Rattle.sap_vread.specs.ModuleFault.{IsModuleFault}
+use Rattle.sap_vread.specs.declared.fault.ModFault.{ModFault}
+use Rattle.sap_vread.specs.declared.fault.ModFault.TheVariants as module_fault
+use Rattle.sap_sim.specs.Simulated.{read_for as module_stimulus}
+use Rattle.sapper.specs.Words.{Words, compile, run, fmt, sim}
+use Rattle.sapper.specs.Ending.{Ending, done, no_command, lattice_refused, design_refused, stimulus_refused, module_refused, failed, no_memory}
 
 -- there is a file of this name, and this holds of its bytes
 abbrev pub FileHas : Told → (name : List ℕ) → (List ℕ → Type 0) → Type 0
@@ -54,6 +60,13 @@ IsTextFault source design_fault.Memory = ⊥
 abbrev pub TextRefused : Told → (name : List ℕ) → DesignFault → Type 0
 TextRefused t name fault = FileHas t name (λ source. IsTextFault source fault)
 
+-- a module file is the text of this module; or it has this fault
+abbrev pub ModuleStands : Told → (name : List ℕ) → Net → Type 0
+ModuleStands t name net = FileHas t name (λ text. IsModule text net)
+
+abbrev pub ModuleRefused : Told → (name : List ℕ) → ModFault → Type 0
+ModuleRefused t name fault = (fault ≢ module_fault.Memory) × FileHas t name (λ text. IsModuleFault text fault)
+
 -- the first fault of a stimulus file, if any, by what its bytes are read as
 abbrev pub StimulusHas : Told → (name : List ℕ) → (List ℕ → Parsed) → Option StimFault → Type 0
 StimulusHas t name read fault = FileHas t name (λ bytes. (read bytes).fault ≡ fault)
@@ -65,6 +78,7 @@ CompileCause lattice design t done = (ls : Levels) × (d : DesignTree) × Lattic
 CompileCause lattice design t (lattice_refused fault) = LatticeRefused t lattice fault
 CompileCause lattice design t (design_refused fault) = (ls : Levels) × LatticeStands t lattice ls × DesignRefused t design ls fault
 CompileCause lattice design t (stimulus_refused fault) = ⊥
+CompileCause lattice design t (module_refused fault) = ⊥
 CompileCause lattice design t no_command = ⊥
 CompileCause lattice design t (failed name) = ⊥
 CompileCause lattice design t no_memory = ⊥
@@ -76,9 +90,22 @@ RunCause lattice design stimulus t (lattice_refused fault) = LatticeRefused t la
 RunCause lattice design stimulus t (design_refused fault) = (ls : Levels) × LatticeStands t lattice ls × DesignRefused t design ls fault
 RunCause lattice design stimulus t (stimulus_refused fault) =
     (ls : Levels) × (d : DesignTree) × LatticeStands t lattice ls × DesignStands t design ls d × StimulusHas t stimulus (design_stimulus ls d) (Some fault)
+RunCause lattice design stimulus t (module_refused fault) = ⊥
 RunCause lattice design stimulus t no_command = ⊥
 RunCause lattice design stimulus t (failed name) = ⊥
 RunCause lattice design stimulus t no_memory = ⊥
+
+abbrev pub SimCause : (lattice verilog stimulus : List ℕ) → Told → Ending → Type 0
+SimCause lattice verilog stimulus t done =
+    (ls : Levels) × (net : Net) × LatticeStands t lattice ls × ModuleStands t verilog net × StimulusHas t stimulus (module_stimulus ls net) None
+SimCause lattice verilog stimulus t (lattice_refused fault) = LatticeRefused t lattice fault
+SimCause lattice verilog stimulus t (module_refused fault) = (ls : Levels) × LatticeStands t lattice ls × ModuleRefused t verilog fault
+SimCause lattice verilog stimulus t (stimulus_refused fault) =
+    (ls : Levels) × (net : Net) × LatticeStands t lattice ls × ModuleStands t verilog net × StimulusHas t stimulus (module_stimulus ls net) (Some fault)
+SimCause lattice verilog stimulus t (design_refused fault) = ⊥
+SimCause lattice verilog stimulus t no_command = ⊥
+SimCause lattice verilog stimulus t (failed name) = ⊥
+SimCause lattice verilog stimulus t no_memory = ⊥
 
 -- a design that is written anew needs no lattice, and may have constructs that aren't compiled yet
 abbrev pub FmtCause : (design : List ℕ) → Told → Ending → Type 0
@@ -86,6 +113,7 @@ FmtCause design t done = (d : DesignTree) × TextStands t design d
 FmtCause design t (design_refused fault) = TextRefused t design fault
 FmtCause design t (lattice_refused fault) = ⊥
 FmtCause design t (stimulus_refused fault) = ⊥
+FmtCause design t (module_refused fault) = ⊥
 FmtCause design t no_command = ⊥
 FmtCause design t (failed name) = ⊥
 FmtCause design t no_memory = ⊥
@@ -94,6 +122,7 @@ abbrev pub Cause : Words → Told → Ending → Type 0
 Cause (compile lattice design out) t ending = CompileCause lattice design t ending
 Cause (run lattice design stimulus) t ending = RunCause lattice design stimulus t ending
 Cause (fmt design) t ending = FmtCause design t ending
+Cause (sim lattice verilog stimulus) t ending = SimCause lattice verilog stimulus t ending
 
 -- and of a whole call
 abbrev pub CauseOf : Option Words → Told → Ending → Type 0

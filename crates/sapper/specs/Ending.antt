@@ -15,6 +15,9 @@ use Rattle.sap_names.specs.declared.fault.CheckFault.{CheckFault}
 use Rattle.sap_names.specs.declared.fault.CheckFault.TheVariants as check
 use Rattle.sap_compile.specs.declared.fault.DesignFault.{DesignFault}
 use Rattle.sap_compile.specs.declared.fault.DesignFault.TheVariants as design
+use Rattle.sap_vread.specs.Codes.{number as module_number}
+use Rattle.sap_vread.specs.declared.fault.ModFault.{ModFault}
+use Rattle.sap_vread.specs.declared.fault.ModFault.TheVariants as verilog
 use Rattle.sap_stim.specs.Code.{number as stimulus_number}
 use Rattle.sap_stim.specs.declared.fault.StimFault.{StimFault}
 
@@ -24,6 +27,7 @@ pub data Ending : Type 0 where
   lattice_refused : LatFileFault → Ending
   design_refused : DesignFault → Ending
   stimulus_refused : StimFault → Ending
+  module_refused : ModFault → Ending
   -- a call on a file or on the output failed: the file's name, or `output`
   failed : List ℕ → Ending
   no_memory : Ending
@@ -34,6 +38,7 @@ status_of (design_refused fault) = 1
 status_of no_command = 2
 status_of (lattice_refused fault) = 3
 status_of (stimulus_refused fault) = 4
+status_of (module_refused fault) = 5
 status_of (failed name) = 6
 status_of no_memory = 7
 
@@ -94,6 +99,10 @@ design_text design.Memory = codes "memory"
 abbrev pub stimulus_text : StimFault → List ℕ
 stimulus_text fault = codes "S" ++ decimal (stimulus_number fault.code) ++ codes " line " ++ decimal fault.line
 
+abbrev pub module_text : ModFault → List ℕ
+module_text (verilog.Rule code place) = codes "V" ++ decimal (module_number code) ++ codes " " ++ (decimal place.line ++ codes ":" ++ decimal place.column)
+module_text verilog.Memory = codes "memory"
+
 -- nothing where the call is done
 abbrev pub line_of : Ending → List ℕ
 line_of done = []
@@ -101,5 +110,6 @@ line_of no_command = line (codes "words")
 line_of (lattice_refused fault) = line (codes "lattice: " ++ lattice_text fault)
 line_of (design_refused fault) = line (codes "design: " ++ design_text fault)
 line_of (stimulus_refused fault) = line (codes "stimulus 1: " ++ stimulus_text fault)
+line_of (module_refused fault) = line (codes "module: " ++ module_text fault)
 line_of (failed name) = line (codes "desk: " ++ name)
 line_of no_memory = line (codes "memory")

@@ -6,8 +6,8 @@ use Rattle.sap_lattice.specs.Levels.{Levels}
 use Rattle.sap_tree.specs.Syntax.{DesignTree}
 use Rattle.sap_net.specs.Net.{Net}
 use Rattle.sap_compile.specs.Compiles.{IsModuleFor}
-use Rattle.sapper.specs.Words.{Words, compile, run, fmt, command_of}
-use Rattle.sapper.specs.Ending.{Ending, done, no_command, lattice_refused, design_refused, stimulus_refused, failed, no_memory, status_of, line_of}
+use Rattle.sapper.specs.Words.{Words, compile, run, fmt, sim, command_of}
+use Rattle.sapper.specs.Ending.{Ending, done, no_command, lattice_refused, design_refused, stimulus_refused, module_refused, failed, no_memory, status_of, line_of}
 use Rattle.sapper.specs.Causes.{FileHas, LatticeStands, CauseOf}
 use Rattle.sapper.specs.Output.{IsPrefix, Output}
 
@@ -38,12 +38,14 @@ CompileLeaves lattice design out t files no_command = files ≡ t.files
 CompileLeaves lattice design out t files (lattice_refused fault) = files ≡ t.files
 CompileLeaves lattice design out t files (design_refused fault) = files ≡ t.files
 CompileLeaves lattice design out t files (stimulus_refused fault) = files ≡ t.files
+CompileLeaves lattice design out t files (module_refused fault) = files ≡ t.files
 
 -- the files after a command, by its ending: no command but `compile` changes any
 abbrev pub Leaves : Words → Told → Files → Ending → Type 0
 Leaves (compile lattice design out) t files ending = CompileLeaves lattice design out t files ending
 Leaves (run lattice design stimulus) t files ending = files ≡ t.files
 Leaves (fmt design) t files ending = files ≡ t.files
+Leaves (sim lattice verilog stimulus) t files ending = files ≡ t.files
 
 -- words that are no command leave all as before, and nothing is written on channel 1
 abbrev pub LeavesOf : Option Words → Told → Files → Ending → Type 0
@@ -62,6 +64,7 @@ Blames blame no_command = Unit {0}
 Blames blame (lattice_refused fault) = Unit {0}
 Blames blame (design_refused fault) = Unit {0}
 Blames blame (stimulus_refused fault) = Unit {0}
+Blames blame (module_refused fault) = Unit {0}
 Blames blame no_memory = Unit {0}
 
 -- channel 2 gained a line, or a prefix of it where a call on it failed

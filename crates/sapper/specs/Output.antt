@@ -5,10 +5,12 @@ use Rattle.sap_lattice.specs.Levels.{Levels}
 use Rattle.sap_tree.specs.Syntax.{DesignTree}
 use Rattle.sap_stim.specs.declared.fault.StimFault.{StimFault}
 use Rattle.sap_run.specs.RunOf.{IsRunOf}
+use Rattle.sap_net.specs.Net.{Net}
+use Rattle.sap_sim.specs.Simulated.{IsSimulated}
 use Rattle.sap_show.specs.Canonical.{canonical_text}
-use Rattle.sapper.specs.Words.{Words, compile, run, fmt}
-use Rattle.sapper.specs.Ending.{Ending, done, no_command, lattice_refused, design_refused, stimulus_refused, failed, no_memory}
-use Rattle.sapper.specs.Causes.{FileHas, LatticeStands, DesignStands, TextStands}
+use Rattle.sapper.specs.Words.{Words, compile, run, fmt, sim}
+use Rattle.sapper.specs.Ending.{Ending, done, no_command, lattice_refused, design_refused, stimulus_refused, module_refused, failed, no_memory}
+use Rattle.sapper.specs.Causes.{FileHas, LatticeStands, DesignStands, ModuleStands, TextStands}
 
 -- a part of a text from its first byte on
 abbrev pub IsPrefix : (part whole : List ℕ) → Type 0
@@ -18,14 +20,20 @@ IsPrefix part whole = (k : ℕ) × (k ≤ length whole) × (part ≡ take k whol
 abbrev pub AreDesignRows : Levels → DesignTree → (bytes text : List ℕ) → Type 0
 AreDesignRows ls d bytes text = (fault : Option StimFault) × IsRunOf ls d bytes (record { text = text; fault = fault })
 
--- The text that the words and files of a command ask for: none for `compile`; for `run` the rows of the design's run on the stimulus; for `fmt`
--- the canonical text of the design.
+-- and those of a module's run
+abbrev pub AreModuleRows : Levels → Net → (bytes text : List ℕ) → Type 0
+AreModuleRows ls net bytes text = (fault : Option StimFault) × IsSimulated ls net bytes (record { text = text; fault = fault })
+
+-- The text that the words and files of a command ask for: none for `compile`; for `run` and `sim` the rows of the design's or the
+-- module's run on the stimulus; for `fmt` the canonical text of the design.
 abbrev pub IsOutput : Words → Told → (text : List ℕ) → Type 0
 IsOutput (compile lattice design out) t text = text ≡ []
 IsOutput (run lattice design stimulus) t text =
     (ls : Levels) × (d : DesignTree) × LatticeStands t lattice ls × DesignStands t design ls d
     × FileHas t stimulus (λ bytes. AreDesignRows ls d bytes text)
 IsOutput (fmt design) t text = (d : DesignTree) × TextStands t design d × (text ≡ canonical_text d)
+IsOutput (sim lattice verilog stimulus) t text =
+    (ls : Levels) × (net : Net) × LatticeStands t lattice ls × ModuleStands t verilog net × FileHas t stimulus (λ bytes. AreModuleRows ls net bytes text)
 
 -- a prefix of that text, or nothing
 abbrev pub IsCut : Words → Told → (gained : List ℕ) → Type 0
@@ -40,6 +48,7 @@ Output c t gained no_memory = IsCut c t gained
 Output c t gained no_command = gained ≡ []
 Output c t gained (lattice_refused fault) = gained ≡ []
 Output c t gained (design_refused fault) = gained ≡ []
+Output c t gained (module_refused fault) = gained ≡ []
 
 -- the words and files of a command ask for one text
 abbrev pub OneOutput : Type 0

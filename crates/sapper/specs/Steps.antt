@@ -18,26 +18,33 @@ use Rattle.sap_compile.specs.Compiles.{IsCompiled, IsFaultOf}
 use Rattle.sap_compile.specs.declared.compiler.Compiled.{Compiled}
 use Rattle.sap_compile.specs.declared.fault.DesignFault.{DesignFault}
 use Rattle.sap_compile.specs.declared.fault.DesignFault.TheVariants as design_fault
+use Rattle.sap_net.specs.Net.{Net}
+use Rattle.sap_modtext.specs.Modules.{IsModule}
+use Rattle.sap_vread.specs.ModuleFault.{IsModuleFault}
+use Rattle.sap_vread.specs.declared.fault.ModFault.{ModFault}
+use Rattle.sap_vread.specs.declared.fault.ModFault.TheVariants as module_fault
 use Rattle.sap_stim.specs.declared.fault.StimFault.{StimFault}
-use Rattle.sapper.specs.Words.{Words, compile, run, fmt}
-use Rattle.sapper.specs.Ending.{Ending, done, no_command, lattice_refused, design_refused, stimulus_refused, failed, no_memory, status_of, line_of}
-use Rattle.sapper.specs.Causes.{Cause, Compiles, DesignRefused, DesignStands, FileHas, IsTextFault, LatticeRefused, LatticeStands, TextRefused, TextStands}
+use Rattle.sapper.specs.Words.{Words, compile, run, fmt, sim}
+use Rattle.sapper.specs.Ending.{Ending, done, no_command, lattice_refused, design_refused, stimulus_refused, module_refused, failed, no_memory, status_of, line_of}
+use Rattle.sapper.specs.Causes.{Cause, Compiles, DesignRefused, DesignStands, FileHas, IsTextFault, LatticeRefused, LatticeStands, ModuleRefused, ModuleStands, TextRefused, TextStands}
 use Rattle.sapper.specs.Output.{IsOutput, IsPrefix, Output}
 use Rattle.sapper.specs.Ends.{Files, Leaves, Blames, Gained}
 use Rattle.sapper.specs.declared.command.Command.{Command}
-use Rattle.sapper.specs.declared.command.Command.TheVariants.{Compile, Run, Fmt}
+use Rattle.sapper.specs.declared.command.Command.TheVariants.{Compile, Run, Fmt, Sim}
 use Rattle.sapper.specs.declared.failure.Failure.{Failure}
-use Rattle.sapper.specs.declared.failure.Failure.TheVariants.{Lattice, Design, Stimulus, Desk, Memory}
+use Rattle.sapper.specs.declared.failure.Failure.TheVariants.{Lattice, Design, Stimulus, Module, Desk, Memory}
 
 abbrev pub words_of : Command → Words
 words_of (Compile lattice design out) = compile lattice.now design.now out.now
 words_of (Run lattice design stimulus) = run lattice.now design.now stimulus.now
 words_of (Fmt design) = fmt design.now
+words_of (Sim lattice verilog stimulus) = sim lattice.now verilog.now stimulus.now
 
 abbrev pub ending : Failure → Ending
 ending (Lattice fault) = lattice_refused fault
 ending (Design fault) = design_refused fault
 ending (Stimulus fault) = stimulus_refused fault
+ending (Module fault) = module_refused fault
 ending (Desk name) = failed name.now
 ending Memory = no_memory
 
@@ -58,6 +65,10 @@ abbrev pub read_failure : ReadFault → Failure
 read_failure read_fault.Memory = Memory
 read_failure fault = Design (design_fault.Read fault)
 
+abbrev pub module_failure : ModFault → Failure
+module_failure module_fault.Memory = Memory
+module_failure fault = Module fault
+
 -- how a command ends whose stimulus has this fault, if any
 abbrev pub last_of : Option StimFault → Ending
 last_of None = done
@@ -69,6 +80,7 @@ LatticeRead bytes (Ok ls) = IsLatticeOfFile bytes ls × ((fault : LatFileFault) 
 LatticeRead bytes (Err (Lattice fault)) = (fault ≢ lattice_fault.Memory) × FirstFault bytes fault × ((ls : Levels) → IsLatticeOfFile bytes ls → ⊥)
 LatticeRead bytes (Err (Design fault)) = ⊥
 LatticeRead bytes (Err (Stimulus fault)) = ⊥
+LatticeRead bytes (Err (Module fault)) = ⊥
 LatticeRead bytes (Err (Desk name)) = ⊥
 LatticeRead bytes (Err Memory) = Unit {0}
 
@@ -79,6 +91,7 @@ DesignCompiled ls source (Ok m) =
 DesignCompiled ls source (Err (Design fault)) = (fault ≢ design_fault.Memory) × IsFaultOf ls source fault × ((d : DesignTree) → Compiles ls source d → ⊥)
 DesignCompiled ls source (Err (Lattice fault)) = ⊥
 DesignCompiled ls source (Err (Stimulus fault)) = ⊥
+DesignCompiled ls source (Err (Module fault)) = ⊥
 DesignCompiled ls source (Err (Desk name)) = ⊥
 DesignCompiled ls source (Err Memory) = Unit {0}
 
@@ -88,8 +101,19 @@ TextRead source (Ok d) = IsText source (design_of d) × ((fault : DesignFault) �
 TextRead source (Err (Design fault)) = IsTextFault source fault × ((d : DesignTree) → IsText source d → ⊥)
 TextRead source (Err (Lattice fault)) = ⊥
 TextRead source (Err (Stimulus fault)) = ⊥
+TextRead source (Err (Module fault)) = ⊥
 TextRead source (Err (Desk name)) = ⊥
 TextRead source (Err Memory) = Unit {0}
+
+-- what the bytes of a module file give: the netlist of their module, and then they have no fault; or their fault, and then they are no module
+unfoldable pub ModuleRead : (text : List ℕ) → Result Net Failure → Type 0
+ModuleRead text (Ok net) = IsModule text net × ((fault : ModFault) → fault ≢ module_fault.Memory → IsModuleFault text fault → ⊥)
+ModuleRead text (Err (Module fault)) = (fault ≢ module_fault.Memory) × IsModuleFault text fault × ((net : Net) → IsModule text net → ⊥)
+ModuleRead text (Err (Lattice fault)) = ⊥
+ModuleRead text (Err (Design fault)) = ⊥
+ModuleRead text (Err (Stimulus fault)) = ⊥
+ModuleRead text (Err (Desk name)) = ⊥
+ModuleRead text (Err Memory) = Unit {0}
 
 -- the count of faults: it rises where a call on a file or on channel 1 failed, and else stands
 abbrev pub Counted : (faults now : ℕ) → Ending → Type 0
@@ -99,6 +123,7 @@ Counted faults now no_command = now ≡ faults
 Counted faults now (lattice_refused fault) = now ≡ faults
 Counted faults now (design_refused fault) = now ≡ faults
 Counted faults now (stimulus_refused fault) = now ≡ faults
+Counted faults now (module_refused fault) = now ≡ faults
 Counted faults now no_memory = now ≡ faults
 
 -- what no step changes
@@ -120,6 +145,7 @@ IsFree no_command = ⊥
 IsFree (lattice_refused fault) = ⊥
 IsFree (design_refused fault) = ⊥
 IsFree (stimulus_refused fault) = ⊥
+IsFree (module_refused fault) = ⊥
 IsFree (failed name) = Unit {0}
 IsFree no_memory = Unit {0}
 
@@ -143,7 +169,7 @@ pub record Stops (reason : Ending → Type 0) (e : Ending) (t n : Told) : Type 0
   pub blames : Blames n.blame e
   pub why : IsFree e ⊎ reason e
 
--- for no further reason; for a lattice file; for a design over the levels of a lattice; for a design without one
+-- for no further reason; for a lattice file; for a design over the levels of a lattice; for a design without one; for a module
 abbrev pub Never : Ending → Type 0
 Never e = ⊥
 
@@ -153,6 +179,7 @@ LatticeEnds t name done = ⊥
 LatticeEnds t name no_command = ⊥
 LatticeEnds t name (design_refused fault) = ⊥
 LatticeEnds t name (stimulus_refused fault) = ⊥
+LatticeEnds t name (module_refused fault) = ⊥
 LatticeEnds t name (failed blamed) = ⊥
 LatticeEnds t name no_memory = ⊥
 
@@ -162,6 +189,7 @@ DesignEnds ls t name done = ⊥
 DesignEnds ls t name no_command = ⊥
 DesignEnds ls t name (lattice_refused fault) = ⊥
 DesignEnds ls t name (stimulus_refused fault) = ⊥
+DesignEnds ls t name (module_refused fault) = ⊥
 DesignEnds ls t name (failed blamed) = ⊥
 DesignEnds ls t name no_memory = ⊥
 
@@ -171,8 +199,19 @@ TextEnds t name done = ⊥
 TextEnds t name no_command = ⊥
 TextEnds t name (lattice_refused fault) = ⊥
 TextEnds t name (stimulus_refused fault) = ⊥
+TextEnds t name (module_refused fault) = ⊥
 TextEnds t name (failed blamed) = ⊥
 TextEnds t name no_memory = ⊥
+
+abbrev pub ModuleEnds : Told → (name : List ℕ) → Ending → Type 0
+ModuleEnds t name (module_refused fault) = ModuleRefused t name fault × ((net : Net) → ModuleStands t name net → ⊥)
+ModuleEnds t name done = ⊥
+ModuleEnds t name no_command = ⊥
+ModuleEnds t name (lattice_refused fault) = ⊥
+ModuleEnds t name (design_refused fault) = ⊥
+ModuleEnds t name (stimulus_refused fault) = ⊥
+ModuleEnds t name (failed blamed) = ⊥
+ModuleEnds t name no_memory = ⊥
 
 abbrev pub LatticeStops : (name : List ℕ) → Ending → Told → Told → Type 0
 LatticeStops name e t n = Stops (LatticeEnds t name) e t n
@@ -182,6 +221,9 @@ DesignStops ls name e t n = Stops (DesignEnds ls t name) e t n
 
 abbrev pub TextStops : (name : List ℕ) → Ending → Told → Told → Type 0
 TextStops name e t n = Stops (TextEnds t name) e t n
+
+abbrev pub ModuleStops : (name : List ℕ) → Ending → Told → Told → Type 0
+ModuleStops name e t n = Stops (ModuleEnds t name) e t n
 
 -- a lattice file is one of these levels and no other, and no rule is broken in it
 pub record HasLattice (t : Told) (name : List ℕ) (ls : Levels) : Type 0 where
@@ -202,6 +244,12 @@ pub record HasText (t : Told) (name : List ℕ) (d : DesignTree) : Type 0 where
   pub faultless : (fault : DesignFault) → TextRefused t name fault → ⊥
   pub only : (other : DesignTree) → TextStands t name other → other ≡ d
 
+-- a module file is this module and no other, and has no fault
+pub record HasModule (t : Told) (name : List ℕ) (net : Net) : Type 0 where
+  pub stands : ModuleStands t name net
+  pub faultless : (fault : ModFault) → ModuleRefused t name fault → ⊥
+  pub only : (other : Net) → ModuleStands t name other → other ≡ net
+
 -- the words and files of a command ask for this text, and for this ending behind it
 pub record HasOutput (c : Words) (t : Told) (text : List ℕ) (last : Ending) : Type 0 where
   pub asked : IsOutput c t text
@@ -217,6 +265,7 @@ WrittenFiles name text no_command t files = ⊥
 WrittenFiles name text (lattice_refused fault) t files = ⊥
 WrittenFiles name text (design_refused fault) t files = ⊥
 WrittenFiles name text (stimulus_refused fault) t files = ⊥
+WrittenFiles name text (module_refused fault) t files = ⊥
 
 pub record Written (name text : List ℕ) (e : Ending) (t n : Told) : Type 0 where
   pub files : WrittenFiles name text e t n.files
@@ -231,6 +280,7 @@ IsFailed no_command = ⊥
 IsFailed (lattice_refused fault) = ⊥
 IsFailed (design_refused fault) = ⊥
 IsFailed (stimulus_refused fault) = ⊥
+IsFailed (module_refused fault) = ⊥
 IsFailed no_memory = ⊥
 
 -- channel 1 gained a text, and the command ends as it is to end behind it; or a call failed, and it gained a prefix
@@ -260,6 +310,7 @@ IsStatus no_command answer = ⊥
 IsStatus (lattice_refused fault) answer = (answer ≡ 3) ⊎ (answer ≡ 7)
 IsStatus (design_refused fault) answer = (answer ≡ 1) ⊎ (answer ≡ 7)
 IsStatus (stimulus_refused fault) answer = (answer ≡ 4) ⊎ (answer ≡ 7)
+IsStatus (module_refused fault) answer = (answer ≡ 5) ⊎ (answer ≡ 7)
 IsStatus (failed name) answer = answer ≡ 6
 IsStatus no_memory answer = answer ≡ 7
 

@@ -6,6 +6,7 @@ pub data Words : Type 0 where
   compile : (lattice design out : List ℕ) → Words
   run : (lattice design stimulus : List ℕ) → Words
   fmt : (design : List ℕ) → Words
+  sim : (lattice verilog stimulus : List ℕ) → Words
 
 -- an operand begins with no `-`
 abbrev pub is_operand : List ℕ → Bool
@@ -19,7 +20,8 @@ one_operand word a = if bytes_eq word (codes "fmt") then Some (fmt a) else None
 abbrev pub three_operands : (word a b c : List ℕ) → Option Words
 three_operands word a b c =
     if bytes_eq word (codes "compile") then Some (compile a b c)
-    else (if bytes_eq word (codes "run") then Some (run a b c) else None)
+    else (if bytes_eq word (codes "run") then Some (run a b c)
+    else (if bytes_eq word (codes "sim") then Some (sim a b c) else None))
 
 -- the command that the words are, if they are one
 abbrev pub command_of : List (List ℕ) → Option Words

@@ -15,7 +15,8 @@ use crate::compiling::compile;
 use crate::failure::Failure;
 use crate::running::run;
 use crate::showing::format;
-use crate::texts::{design_text, lattice_text, stimulus_text};
+use crate::simulating::simulate;
+use crate::texts::{design_text, lattice_text, module_text, stimulus_text};
 use sap_desk::{Desk, write_line};
 use std::alloc::{AllocError, Global};
 
@@ -42,6 +43,11 @@ fn perform<'a, D: Desk>(
             stimulus,
         } => run(alloc, desk, lattice, design, stimulus),
         Command::Fmt { design } => format(alloc, desk, design),
+        Command::Sim {
+            lattice,
+            verilog,
+            stimulus,
+        } => simulate(alloc, desk, lattice, verilog, stimulus),
     }
 }
 
@@ -97,6 +103,10 @@ fn report<D: Desk>(alloc: Global, desk: &mut D, failure: &Failure<'_>) -> u8
         Failure::Stimulus(fault) => {
             let text = stimulus_text(alloc, fault);
             refuse(desk, 4, b"stimulus 1: ", text)
+        }
+        Failure::Module(fault) => {
+            let text = module_text(alloc, fault);
+            refuse(desk, 5, b"module: ", text)
         }
         Failure::Desk(name) => {
             tell(desk, b"desk: ", name.as_bytes());

@@ -20,6 +20,11 @@ pub enum Command<'a> {
     Fmt {
         design: &'a str,
     },
+    Sim {
+        lattice: &'a str,
+        verilog: &'a str,
+        stimulus: &'a str,
+    },
 }
 
 fn is_operand(word: &str) -> bool
@@ -51,6 +56,12 @@ fn three_operands<'a>(word: &str, a: &'a str, b: &'a str, c: &'a str) -> Option<
         Some(Command::Run {
             lattice: a,
             design: b,
+            stimulus: c,
+        })
+    } else if word == "sim" {
+        Some(Command::Sim {
+            lattice: a,
+            verilog: b,
             stimulus: c,
         })
     } else {

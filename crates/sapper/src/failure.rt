@@ -3,6 +3,7 @@
 use sap_compile::DesignFault;
 use sap_latfile::LatFileFault;
 use sap_stim::fault::StimFault;
+use sap_vread::fault::ModFault;
 use std::alloc::AllocError;
 
 /// Why a command ends without its result.
@@ -11,6 +12,7 @@ pub enum Failure<'a> {
     Lattice(LatFileFault),
     Design(DesignFault),
     Stimulus(StimFault),
+    Module(ModFault),
     /// A call failed on the file of this name, or on the output.
     Desk(&'a str),
     Memory,

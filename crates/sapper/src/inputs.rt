@@ -4,7 +4,7 @@ ghost use Rattle.std.specs.Prelude.{◌≡◌, ◌≢◌, IfOk, IfErr, OnOk, IfS
 ghost use Rattle.sap_desk.specs.Whole.{Between, MissingOrLong};
 ghost use Rattle.sap_interface.specs.Designs.{StandsForDesign};
 ghost use Rattle.sap_tree.specs.Designs.{design_of};
-ghost use Rattle.sapper.specs.Steps.{Counted, DesignCompiled, DesignStops, HasDesign, HasLattice, HasText, LatticeRead, LatticeStops, Never, Stops, TextRead, TextStops, design_failure, ending, ending_of, lattice_failure, read_failure};
+ghost use Rattle.sapper.specs.Steps.{Counted, DesignCompiled, DesignStops, HasDesign, HasLattice, HasModule, HasText, LatticeRead, LatticeStops, ModuleRead, ModuleStops, Never, Stops, TextRead, TextStops, design_failure, ending, ending_of, lattice_failure, module_failure, read_failure};
 
 use crate::failure::Failure;
 use sap_compile::{Compiled, DesignFault, compile};
@@ -12,10 +12,14 @@ use sap_desk::{Bytes, Desk, DeskError, read_file};
 use sap_latfile::laws::one_lattice;
 use sap_latfile::{LatFileFault, read_lattice};
 use sap_lattice::Lattice;
+use sap_net::netlist::Netlist;
 use sap_parse::fault::ReadFault;
 use sap_parse::law::one_reading;
 use sap_parse::parse;
 use sap_tree::design::Design;
+use sap_vread::fault::ModFault;
+use sap_vread::law::one_module_or_fault;
+use sap_vread::read as read_module;
 use std::alloc::Global;
 
 /// The bytes of a file.
@@ -158,4 +162,43 @@ pub fn text_in<'a, D: Desk>(
     let bytes = bytes_of(alloc, desk, name)?;
     one_reading();
     text_from(alloc, bytes.as_slice())
+}
+
+fn module_failure<'a>(fault: ModFault) -> Failure<'a>
+    ensures { result ≡ module_failure fault }
+{
+    match fault {
+        ModFault::Memory => Failure::Memory,
+        fault => Failure::Module(fault),
+    }
+}
+
+/// The netlist of a module file's bytes.
+fn module_from<'a>(alloc: Global, bytes: &[u8]) -> Result<Netlist, Failure<'a>>
+    ensures { ModuleRead bytes.now result }
+{
+    one_module_or_fault();
+    match read_module(alloc, bytes) {
+        Ok(netlist) => Ok(netlist),
+        Err(fault) => Err(module_failure(fault)),
+    }
+}
+
+/// The netlist of a module file.
+pub fn module_in<'a, D: Desk>(
+    alloc: Global,
+    desk: &mut D,
+    name: &'a str,
+) -> Result<Netlist, Failure<'a>>
+    ensures has { IfOk result (λ n. IfSome (D.told desk.old) (λ t. HasModule t name.now n)) }
+    ensures told { OnOk result (D.told desk.new ≡ D.told desk.old) }
+    ensures stops { IfErr result (λ e. Between (D.told desk.old) (D.told desk.new) (ModuleStops name.now (ending e))) }
+    ensures counted { Counted (D.faults desk.old) (D.faults desk.new) (ending_of result) }
+    ensures lost { D.lost desk.new ≡ D.lost desk.old }
+    ensures sure { D.sure desk.old → D.sure desk.new }
+    ensures outside { (D.faults desk.new ≢ D.faults desk.old) → D.sure desk.old → IfSome (D.told desk.old) (MissingOrLong name.now) }
+{
+    let bytes = bytes_of(alloc, desk, name)?;
+    one_module_or_fault();
+    module_from(alloc, bytes.as_slice())
 }

@@ -10,6 +10,7 @@ mod laws;
 mod output;
 mod running;
 mod showing;
+mod simulating;
 mod texts;
 
 pub use call::sapper;

@@ -12,6 +12,7 @@ use sap_parse::fault::ReadFault;
 use sap_parse::limit::Limit;
 use sap_stim::fault::StimFault;
 use sap_tree::place::Place;
+use sap_vread::fault::ModFault;
 use std::alloc::{AllocError, Global};
 
 fn number(out: &mut Vec<u8>, alloc: Global, n: u64) -> Result<(), AllocError>
@@ -160,5 +161,24 @@ pub fn stimulus_text(alloc: Global, fault: &StimFault) -> Result<Vec<u8>, AllocE
     number(&mut out, alloc, u64::from(fault.code.number()))?;
     out.extend_from_slice(b" line ")?;
     number(&mut out, alloc, fault.line)?;
+    Ok(out)
+}
+
+/// What a refused module is told by.
+pub fn module_text(alloc: Global, fault: &ModFault) -> Result<Vec<u8>, AllocError>
+    ensures { IfOk result (λ text. text.items ≡ texts.module_text fault.now) }
+{
+    let mut out = Vec::new(alloc);
+    match fault {
+        ModFault::Rule(code, at) => {
+            out.extend_from_slice(b"V")?;
+            number(&mut out, alloc, u64::from(code.number()))?;
+            out.extend_from_slice(b" ")?;
+            number(&mut out, alloc, at.line)?;
+            out.extend_from_slice(b":")?;
+            number(&mut out, alloc, at.column)?;
+        }
+        ModFault::Memory => out.extend_from_slice(b"memory")?,
+    }
     Ok(out)
 }

@@ -1,4 +1,4 @@
-//! What `run` and `fmt` write, by rows.
+//! What `run`, `fmt` and `sim` write, by rows.
 
 use sap_desk::MemoryDesk;
 use sapper::sapper;
@@ -239,7 +239,7 @@ fn writes_what_the_files_ask_for(rt: HostRuntime) -> Result<(), Fail> {
 }
 
 // Words that are no command.
-static NO_COMMANDS: [&[&str]; 9] = [
+static NO_COMMANDS: [&[&str]; 12] = [
     &["run"],
     &["run", "L", "D"],
     &["run", "L", "D", "S", "S"],
@@ -249,6 +249,9 @@ static NO_COMMANDS: [&[&str]; 9] = [
     &["fmt", "-D"],
     &["fmt", "D", "D"],
     &["fmt", "L", "D", "S"],
+    &["sim", "L", "D"],
+    &["sim", "L", "D", "S", "S"],
+    &["sim", "-", "D", "S"],
 ];
 
 #[test]
@@ -297,6 +300,75 @@ fn each_call_of_a_run_fails_in_turn(rt: HostRuntime) -> Result<(), Fail> {
             ""
         };
         assert_eq!(rt; desk.output(), cut.as_bytes(), "call {before}");
+    }
+    Ok(())
+}
+
+struct Module {
+    text: &'static str,
+    status: u8,
+    output: &'static str,
+    line: &'static str,
+}
+
+static MODULES: [Module; 3] = [
+    // a name that is used before it is declared
+    Module {
+        text: "module top(input clk, output reg [7:0] v_x);\nwire [7:0] n1;\nwire [7:0] n2;\nassign n1 = v_x;\nassign n2 = n3 + n1;\nwire [7:0] n3;\nassign n3 = 8'd1;\ninitial v_x = 8'd0;\nalways @(posedge clk) v_x <= n2;\nendmodule\n",
+        status: 5,
+        output: "",
+        line: "module: V4 5:13\n",
+    },
+    // registers step at once
+    Module {
+        text: "module top(input clk, output reg [7:0] v_x, output reg [0:0] t_x, output reg [7:0] v_y, output reg [0:0] t_y);\ninitial v_x = 8'd1;\ninitial t_x = 1'd0;\ninitial v_y = 8'd2;\ninitial t_y = 1'd0;\nalways @(posedge clk) v_x <= v_y;\nalways @(posedge clk) t_x <= t_y;\nalways @(posedge clk) v_y <= v_x;\nalways @(posedge clk) t_y <= t_x;\nendmodule\n",
+        status: 0,
+        output: "cycle 1: x=2@low y=1@low\n",
+        line: "",
+    },
+    Module {
+        text: "",
+        status: 5,
+        output: "",
+        line: "module: V2 1:1\n",
+    },
+];
+
+#[test]
+fn simulates_modules(rt: HostRuntime) -> Result<(), Fail> {
+    let alloc = rt.alloc();
+    let words = words(alloc, &["sim", "L", "D", "S"])?;
+    for (row, case) in MODULES.iter().enumerate() {
+        let mut desk = desk(alloc, TWO, case.text, "\n")?;
+        assert_eq!(rt;
+            sapper(alloc, &words, &mut desk),
+            case.status,
+            "module {row}"
+        );
+        assert_eq!(rt; desk.output(), case.output.as_bytes(), "module {row}");
+        assert_eq!(rt; desk.fault_text(), case.line.as_bytes(), "module {row}");
+    }
+    Ok(())
+}
+
+// The first ten rows are runs of designs that compile.
+const COMPILED: usize = 10;
+
+#[test]
+fn a_written_module_has_the_rows_of_its_design(rt: HostRuntime) -> Result<(), Fail> {
+    let alloc = rt.alloc();
+    let compile = words(alloc, &["compile", "L", "D", "O"])?;
+    let simulate = words(alloc, &["sim", "L", "O", "S"])?;
+    for (row, case) in ROWS.iter().take(COMPILED).enumerate() {
+        let mut desk = desk(alloc, case.lattice, case.design, case.stimulus)?;
+        assert_eq!(rt; sapper(alloc, &compile, &mut desk), 0, "row {row}");
+        assert_eq!(rt;
+            sapper(alloc, &simulate, &mut desk),
+            case.status,
+            "row {row}"
+        );
+        assert_eq!(rt; desk.output(), case.output.as_bytes(), "row {row}");
+        assert_eq!(rt; desk.fault_text(), case.line.as_bytes(), "row {row}");
     }
     Ok(())
 }

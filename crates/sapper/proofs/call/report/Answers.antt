@@ -1,10 +1,10 @@
 use Rattle.std.proofs.Common.{◌≡◌, rules, refl, sym, subst}
 use Rattle.std.specs.Prelude.{codes}
 use Rattle.sap_desk.specs.Whole.{Between}
-use Rattle.sapper.specs.Ending.{lattice_refused, design_refused, stimulus_refused, lattice_text, design_text, stimulus_text}
+use Rattle.sapper.specs.Ending.{lattice_refused, design_refused, stimulus_refused, module_refused, lattice_text, design_text, stimulus_text, module_text}
 use Rattle.sapper.specs.Steps.{IsStatus, Tells, ending, line_told}
 use Rattle.sapper.specs.declared.failure.Failure.{Failure}
-use Rattle.sapper.specs.declared.failure.Failure.TheVariants.{Lattice, Design, Stimulus}
+use Rattle.sapper.specs.declared.failure.Failure.TheVariants.{Lattice, Design, Stimulus, Module}
 use Rattle.sapper.proofs.Calls.{refused_line, refused_status}
 use Rattle.sapper.proofs.call.report.Goals as goal
 
@@ -52,3 +52,18 @@ returns-in-Stimulus-clause-tells g c =
     (sym is)
     (refused_line c.stimulus_text-text.result (stimulus_refused c.in-Stimulus.fault) 4 _ _ _ (codes "stimulus 1: ") (stimulus_text c.in-Stimulus.fault) _ _ refl
     c.refuse-in-Stimulus.ensures.status c.refuse-in-Stimulus.ensures.memory c.stimulus_text-text.ensures c.refuse-in-Stimulus.ensures.tells c.refuse-in-Stimulus.ensures.tells_memory)
+
+pub returns-in-Module-clause-status : goal.returns-in-Module-clause-status
+returns-in-Module-clause-status g c =
+    let is : c.args.failure.now ≡ Module c.in-Module.fault = search rules in
+    subst (λ (f : Failure). IsStatus (ending f) c.refuse-in-Module.result) (sym is)
+    (refused_status c.module_text-text.result c.refuse-in-Module.result 5 c.refuse-in-Module.ensures.status c.refuse-in-Module.ensures.memory)
+
+pub returns-in-Module-clause-tells : goal.returns-in-Module-clause-tells
+returns-in-Module-clause-tells g c =
+    let is : c.args.failure.now ≡ Module c.in-Module.fault = search rules in
+    subst
+    (λ (f : Failure). Between (g.D.Desk.told c.args.desk.now) (g.D.Desk.told c.refuse-in-Module.new.desk) (Tells (line_told (ending f) c.refuse-in-Module.result) (g.D.Desk.lost c.args.desk.now) (g.D.Desk.lost c.refuse-in-Module.new.desk)))
+    (sym is)
+    (refused_line c.module_text-text.result (module_refused c.in-Module.fault) 5 _ _ _ (codes "module: ") (module_text c.in-Module.fault) _ _ refl
+    c.refuse-in-Module.ensures.status c.refuse-in-Module.ensures.memory c.module_text-text.ensures c.refuse-in-Module.ensures.tells c.refuse-in-Module.ensures.tells_memory)

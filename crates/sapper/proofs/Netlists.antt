@@ -1,0 +1,12 @@
+-- The netlist of a module's text is one that the type of netlists takes.
+use Rattle.std.proofs.Common.{ℕ, List, subst}
+use Rattle.sap_net.specs.Net.{Net}
+use Rattle.sap_net.specs.IsNetlist.{IsNetlist}
+use Rattle.sap_modtext.specs.Modules.{IsModule}
+use Rattle.sap_vbuild.proofs.Netlist.{file_netlist}
+use Rattle.sap_vbuild.proofs.SpelledNames.{spelled_written}
+use Rattle.sap_vread.proofs.Faults.{text_of}
+
+pub module_netlist : (text : List ℕ) (n : Net) → IsModule text n → IsNetlist n
+module_netlist text n m =
+    subst IsNetlist m.netlist (file_netlist m.file (spelled_written m.file (record { text = text; is = text_of text n m })) m.faultless)

@@ -1,0 +1,19 @@
+use Rattle.std.proofs.Common.{◌≡◌, rules, refl, ◌∙◌, inl, inr}
+use Rattle.std.specs.Prelude.{Err}
+use Rattle.sapper.specs.Words.{sim}
+use Rattle.sapper.specs.Steps.{last_of}
+use Rattle.sapper.proofs.Endings.{counted_from, ends_at_output, outside_output}
+use Rattle.sapper.proofs.simulating.simulate.Goals as goal
+
+pub returns-clause-ends : goal.returns-clause-ends
+returns-clause-ends g c =
+    ends_at_output (sim c.args.lattice.now c.args.verilog.now c.args.stimulus.now) c.in_ok-rows.rows.text c.as_slice.result.now (last_of c.in_ok-rows.rows.fault) _ _ _ _
+    (λ t n is. is) c.in_ok-rows.ensures.told c.as_slice.ensures c.in_ok-rows.ensures.has c.put.ensures.put
+
+pub returns-clause-counted : goal.returns-clause-counted
+returns-clause-counted g c = counted_from _ _ _ _ c.in_ok-rows.ensures.counted c.put.ensures.counted
+
+pub returns-clause-outside : goal.returns-clause-outside
+returns-clause-outside g c = λ changed sure.
+    outside_output (sim c.args.lattice.now c.args.verilog.now c.args.stimulus.now) _ _ _ (λ t n full. inr (inr (inr full))) c.in_ok-rows.ensures.told
+    (c.put.ensures.full (λ stands. changed (stands ∙ c.in_ok-rows.ensures.counted)) (c.in_ok-rows.ensures.sure sure))
