@@ -1,4 +1,4 @@
-//! Designs by example: their texts read, their names numbered, and the check.
+//! Designs by example: their texts read and shown, their names numbered, and the check.
 #![tactic(auto)]
 
 #[cfg(test)]
@@ -13,5 +13,7 @@ mod limits;
 mod named;
 #[cfg(test)]
 mod sample;
+#[cfg(test)]
+mod shown;
 #[cfg(test)]
 mod texts;

@@ -174,7 +174,7 @@ mod tests {
         line: &'static str,
     }
 
-    static REFUSED: [Refused; 8] = [
+    static REFUSED: [Refused; 11] = [
         Refused {
             lattice: "levels",
             design: DESIGN,
@@ -216,6 +216,24 @@ mod tests {
             design: "reg x : 8 dynamic;\nstate S enforced low {\n  if (x == 0) { x := 1; }\n  goto S;\n}\n",
             status: 1,
             line: "design: early 3:3\n",
+        },
+        Refused {
+            lattice: LATTICE,
+            design: "reg x : 8 dynamic; state S enforced low { if (1) { x := 1; } goto S; }",
+            status: 1,
+            line: "design: early 1:43\n",
+        },
+        Refused {
+            lattice: LATTICE,
+            design: "reg x : 8 dynamic; state S enforced low { x := 99'd300; goto S; }",
+            status: 1,
+            line: "design: E7 1:48\n",
+        },
+        Refused {
+            lattice: LATTICE,
+            design: "input aaaaaaaaaaaaaaaaaaaaaaaaaaaaaaaaaaaaaaaaa : 8;",
+            status: 1,
+            line: "design: E18 1:7 name\n",
         },
         // the lattice comes first
         Refused {

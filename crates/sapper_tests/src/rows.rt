@@ -12,6 +12,9 @@ const TWO: &str = "levels = [\"low\", \"high\"]\nbelow = [[\"low\", \"high\"]]\n
 const DIAMOND: &str =
     "levels = [\"low\", \"a\", \"b\", \"high\"]\nbelow = [[\"low\", \"a\"], [\"low\", \"b\"], [\"a\", \"high\"], [\"b\", \"high\"]]\n";
 
+const PENTAGON: &str =
+    "levels = [\"bot\", \"p\", \"q\", \"r\", \"top\"]\nbelow = [[\"bot\", \"p\"], [\"p\", \"q\"], [\"q\", \"top\"], [\"bot\", \"r\"], [\"r\", \"top\"]]\n";
+
 const ADDS_ONE: &str =
     "input a : 8; reg x : 8 dynamic;\nstate S enforced low { x := a + 1; goto S; }\n";
 
@@ -305,32 +308,117 @@ fn each_call_of_a_run_fails_in_turn(rt: HostRuntime) -> Result<(), Fail> {
 }
 
 struct Module {
+    lattice: &'static str,
     text: &'static str,
+    stimulus: &'static str,
     status: u8,
     output: &'static str,
     line: &'static str,
 }
 
-static MODULES: [Module; 3] = [
+static MODULES: [Module; 12] = [
     // a name that is used before it is declared
     Module {
+        lattice: TWO,
         text: "module top(input clk, output reg [7:0] v_x);\nwire [7:0] n1;\nwire [7:0] n2;\nassign n1 = v_x;\nassign n2 = n3 + n1;\nwire [7:0] n3;\nassign n3 = 8'd1;\ninitial v_x = 8'd0;\nalways @(posedge clk) v_x <= n2;\nendmodule\n",
+        stimulus: "\n",
         status: 5,
         output: "",
         line: "module: V4 5:13\n",
     },
     // registers step at once
     Module {
+        lattice: TWO,
         text: "module top(input clk, output reg [7:0] v_x, output reg [0:0] t_x, output reg [7:0] v_y, output reg [0:0] t_y);\ninitial v_x = 8'd1;\ninitial t_x = 1'd0;\ninitial v_y = 8'd2;\ninitial t_y = 1'd0;\nalways @(posedge clk) v_x <= v_y;\nalways @(posedge clk) t_x <= t_y;\nalways @(posedge clk) v_y <= v_x;\nalways @(posedge clk) t_y <= t_x;\nendmodule\n",
+        stimulus: "\n",
         status: 0,
         output: "cycle 1: x=2@low y=1@low\n",
         line: "",
     },
+    // the other codes
     Module {
+        lattice: TWO,
         text: "",
+        stimulus: "\n",
         status: 5,
         output: "",
         line: "module: V2 1:1\n",
+    },
+    Module {
+        lattice: TWO,
+        text: "module top(input clk);\n#\nendmodule\n",
+        stimulus: "\n",
+        status: 5,
+        output: "",
+        line: "module: V1 2:1\n",
+    },
+    Module {
+        lattice: TWO,
+        text: "module top(input clk, input [7:0] a, input [7:0] a); endmodule",
+        stimulus: "\n",
+        status: 5,
+        output: "",
+        line: "module: V3 1:50\n",
+    },
+    Module {
+        lattice: TWO,
+        text: "module top(input clk);\nwire [64:0] n;\nassign n = 1'd0;\nendmodule\n",
+        stimulus: "\n",
+        status: 5,
+        output: "",
+        line: "module: V5 2:7\n",
+    },
+    Module {
+        lattice: TWO,
+        text: "module top(input clk);\nwire [7:0] n;\nendmodule\n",
+        stimulus: "\n",
+        status: 5,
+        output: "",
+        line: "module: V6 2:12\n",
+    },
+    Module {
+        lattice: TWO,
+        text: "module top(input clk);\nreg [7:0] m [0:2];\ninteger i;\ninitial for (i = 0; i < 3; i = i + 1) m[i] = 8'd0;\nalways @(posedge clk) if (1'd0) m[1'd0] <= 8'd0;\nendmodule\n",
+        stimulus: "\n",
+        status: 5,
+        output: "",
+        line: "module: V7 2:16\n",
+    },
+    // a plain input, and a value that is too large for it
+    Module {
+        lattice: TWO,
+        text: "module top(input clk, input [3:0] b, output reg [7:0] v_x, output reg [0:0] t_x);\nwire [7:0] n;\nassign n = {4'd0, b};\ninitial v_x = 8'd0;\ninitial t_x = 1'd1;\nalways @(posedge clk) v_x <= n;\nalways @(posedge clk) t_x <= t_x;\nendmodule\n",
+        stimulus: "9\n16\n3\n",
+        status: 4,
+        output: "cycle 1: x=9@high\n",
+        line: "stimulus 1: S2 line 2\n",
+    },
+    // a tag that stands before its value
+    Module {
+        lattice: TWO,
+        text: "module top(input clk, input [0:0] t_a, input [7:0] v_a, output reg [7:0] v_x, output reg [0:0] t_x);\ninitial v_x = 8'd0;\ninitial t_x = 1'd0;\nalways @(posedge clk) v_x <= v_a;\nalways @(posedge clk) t_x <= t_a;\nendmodule\n",
+        stimulus: "7@high\n",
+        status: 0,
+        output: "cycle 1: x=7@high\n",
+        line: "",
+    },
+    // no registers, and registers without a tag or with a wide one
+    Module {
+        lattice: TWO,
+        text: "module top(input clk, output wire [0:0] n, output reg [7:0] v_x, output reg [7:0] v_y, output reg [1:0] t_y);\nassign n = 1'd1;\ninitial v_x = 8'd0;\ninitial v_y = 8'd0;\ninitial t_y = 2'd0;\nalways @(posedge clk) v_x <= v_y;\nalways @(posedge clk) v_y <= v_x;\nalways @(posedge clk) t_y <= t_y;\nendmodule\n",
+        stimulus: "\n\n",
+        status: 0,
+        output: "cycle 1:\ncycle 2:\n",
+        line: "",
+    },
+    // a tag that is no level's code
+    Module {
+        lattice: PENTAGON,
+        text: "module top(input clk, output reg [7:0] v_x, output reg [2:0] t_x);\ninitial v_x = 8'd6;\ninitial t_x = 3'd1;\nalways @(posedge clk) v_x <= v_x;\nalways @(posedge clk) t_x <= t_x;\nendmodule\n",
+        stimulus: "\n",
+        status: 0,
+        output: "cycle 1: x=6@#1\n",
+        line: "",
     },
 ];
 
@@ -339,14 +427,11 @@ fn simulates_modules(rt: HostRuntime) -> Result<(), Fail> {
     let alloc = rt.alloc();
     let words = words(alloc, &["sim", "L", "D", "S"])?;
     for (row, case) in MODULES.iter().enumerate() {
-        let mut desk = desk(alloc, TWO, case.text, "\n")?;
-        assert_eq!(rt;
-            sapper(alloc, &words, &mut desk),
-            case.status,
-            "module {row}"
-        );
-        assert_eq!(rt; desk.output(), case.output.as_bytes(), "module {row}");
+        let mut desk = desk(alloc, case.lattice, case.text, case.stimulus)?;
+        let status = sapper(alloc, &words, &mut desk);
         assert_eq!(rt; desk.fault_text(), case.line.as_bytes(), "module {row}");
+        assert_eq!(rt; status, case.status, "module {row}");
+        assert_eq!(rt; desk.output(), case.output.as_bytes(), "module {row}");
     }
     Ok(())
 }
