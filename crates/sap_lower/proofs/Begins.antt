@@ -1,6 +1,5 @@
 -- How a cycle begins: what each name and each write port stand for at first.
-use Rattle.std.proofs.Common.{◌≡◌, ℕ, zero, suc, ◌+◌, ◌^◌, ◌<◌, ◌≤◌, ◌==◌, List, [], ◌∷◌, ◌++◌, map, Option, Some, None, Bool, true, false, sym, ap, ◌∙◌, subst, refl, arith, inl, inr, append_assoc}
-use Rattle.std.specs.Prelude.{if◌then◌else◌, unwrap_or}
+use Rattle.std.proofs.Common.{◌≡◌, ℕ, zero, suc, ◌^◌, ◌<◌, ◌≤◌, ◌==◌, List, [], ◌∷◌, ◌++◌, map, Option, Some, true, false, sym, ap, ◌∙◌, subst, refl, arith, inl, inr, append_assoc}
 use Rattle.std.specs.Str.{bytes_eq}
 use Rattle.std.specs.List.{AllByRecursion}
 use Rattle.std.proofs.Math.Pow.{pow_pos}
@@ -9,19 +8,17 @@ use Rattle.std.proofs.lemmas.Bool.Decides.{Decides-eqb, nat_tests}
 use Rattle.sap_maps.specs.Maps.{Name, Valuation}
 use Rattle.sap_maps.specs.Scope.{Scope, find}
 use Rattle.sap_maps.proofs.Scopes.{name_is}
-use Rattle.sap_net.specs.Rules.{Shapes, IsDepth}
+use Rattle.sap_net.specs.Rules.{Shapes}
 use Rattle.sap_net.specs.Runs.{InputsAre}
-use Rattle.sap_net.specs.declared.parts.Operand.TheVariants.{Named, Constant}
+use Rattle.sap_net.specs.declared.parts.Operand.TheVariants.{Constant}
 use Rattle.sap_ir.specs.declared.guarded.Var.{Var}
 use Rattle.sap_ir.specs.declared.guarded.Store.{Store}
 use Rattle.sap_ir.specs.Source.{Source}
 use Rattle.sap_ir.specs.Guarded.{first_number, register_number, number_at_start, first_cell, cell_at_start}
 use Rattle.sap_lower.specs.declared.parts.Part.{Part}
 use Rattle.sap_lower.specs.declared.parts.WritePort.{WritePort}
-use Rattle.sap_lower.specs.Lowering.{present}
-use Rattle.sap_lower.specs.Commands.{port_of, no_port}
 use Rattle.sap_lower.specs.Lowered.{named_entry, zero_entry, first_entries, first_port, bits_within, index_bits, input_of}
-use Rattle.sap_lower.proofs.Means.{Stands, Env, SameCells}
+use Rattle.sap_lower.proofs.Means.{Env}
 use Rattle.sap_lower.proofs.CommandsFit.{same_power}
 
 abbrev pub scope_of : List Var → Scope

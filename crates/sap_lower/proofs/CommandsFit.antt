@@ -1,24 +1,24 @@
 -- The wires of all assignments and writes fit.
-use Rattle.std.proofs.Common.{◌≡◌, ℕ, ◌+◌, ◌^◌, ◌<◌, ◌≤◌, List, [], ◌∷◌, ◌++◌, Option, Some, None, Bool, true, false, length, sym, ap, ◌∙◌, subst, refl, arith, inl, inr}
+use Rattle.std.proofs.Common.{◌≡◌, ℕ, ◌^◌, ◌<◌, ◌≤◌, List, [], ◌∷◌, Some, false, length, ap, subst, refl, arith, inl, inr}
 use Rattle.std.specs.Prelude.{unwrap_or, nat_lt}
 use Rattle.std.specs.Str.{bytes_eq}
 use Rattle.std.specs.List.{AllByRecursion}
-use Rattle.std.proofs.Math.Pow.{pow-lt, pow_pos}
+use Rattle.std.proofs.Math.Pow.{pow-lt}
 use Rattle.std.proofs.lemmas.Bool.{cases_Bool}
 use Rattle.std.proofs.lemmas.Bool.Decides.{Decides-ltb, nat_tests}
 use Rattle.sap_maps.specs.Maps.{Name}
 use Rattle.sap_maps.specs.Scope.{Scope, find}
 use Rattle.sap_maps.specs.Term.{Term}
 use Rattle.sap_maps.proofs.Scopes.{name_is}
-use Rattle.sap_net.specs.Rules.{Shapes, IsWidth, IsDepth, IsOperand, IsRight, readable_after}
-use Rattle.sap_net.specs.declared.parts.Operand.TheVariants.{Named, Constant}
+use Rattle.sap_net.specs.Rules.{Shapes, IsWidth, IsDepth, IsOperand, readable_after}
+use Rattle.sap_net.specs.declared.parts.Operand.TheVariants.{Constant}
 use Rattle.sap_net.specs.declared.parts.Right.TheVariants.{Choose}
 use Rattle.sap_net.specs.declared.parts.Wire.{Wire}
 use Rattle.sap_ir.specs.Source.{Action, set, put, Command}
 use Rattle.sap_ir.specs.IsGuarded.{TermFine}
 use Rattle.sap_lower.specs.declared.parts.Part.{Part}
 use Rattle.sap_lower.specs.declared.parts.WritePort.{WritePort}
-use Rattle.sap_lower.specs.Lowering.{nothing, present, Low, plus, low}
+use Rattle.sap_lower.specs.Lowering.{nothing, present, plus, low}
 use Rattle.sap_lower.specs.Places.{replaced}
 use Rattle.sap_lower.specs.Commands.{State, no_port, port_of, low_set, low_put, low_action, low_command, low_commands}
 use Rattle.sap_lower.proofs.Stands.{HasEntries, replaced_same, replaced_other, replaced_has}
@@ -124,7 +124,7 @@ set_fits ms sc vars apart wide s c n t u found fc ft k l =
     let ex = env_grows (readable_after sc z.wires) (readable_after sc x.wires) vars es t'.grows ez in
     let old = ex n u found in
     let oc = operand_grows (readable_after sc z.wires) (readable_after sc x.wires) t'.grows 1 z.part.operand c'.operand in
-    let p = plus_at ms sc x.wires o.width u r old.1 apart t'.fits iu (oc, t'.operand, old.0) (omega (arith, e)) in
+    let p = plus_at ms sc x.wires o.width u r old.1 apart t'.fits iu (oc, t'.operand, old.0) l in
     record {
       fits = p.fits;
       grows = λ m q h. p.grows m q (t'.grows m q (c'.grows m q h));
@@ -198,14 +198,14 @@ put_state_fits ms sc vars apart wide s c m i t w b ib found fc fi ft k len =
     let px = port_grows s0 sx g0x p w (2 ^ b) pf in
     let oc = operand_grows sy sx t'.grows 1 z.part.operand (operand_grows sz sy i'.grows 1 z.part.operand c'.operand) in
     let oi = operand_grows sy sx t'.grows b y.part.operand i'.operand in
-    let e' = plus_at ms sc x.wires 1 1 re refl apart t'.fits one_wide (oc, (refl, omega arith), px.enable) (omega (arith, ll, lj, le)) in
+    let e' = plus_at ms sc x.wires 1 1 re refl apart t'.fits one_wide (oc, (refl, omega arith), px.enable) (omega (arith, ll, lj)) in
     let pe = port_grows sx se e'.grows p w (2 ^ b) px in
     let oi' = subst (λ (q : ℕ). IsOperand se q y.part.operand) bits (operand_grows sx se e'.grows b y.part.operand oi) in
-    let j' = plus_at ms sc e.wires p.bits p.bits rj refl apart e'.fits (subst (λ (q : ℕ). IsWidth q) bits ib) (operand_grows sx se e'.grows 1 z.part.operand oc, oi', pe.index) (omega (arith, ll, lj)) in
+    let j' = plus_at ms sc e.wires p.bits p.bits rj refl apart e'.fits (subst (λ (q : ℕ). IsWidth q) bits ib) (operand_grows sx se e'.grows 1 z.part.operand oc, oi', pe.index) (omega (arith, ll)) in
     let pj = port_grows se sj j'.grows p w (2 ^ b) pe in
     let ot = operand_grows se sj j'.grows w x.part.operand (operand_grows sx se e'.grows w x.part.operand t'.operand) in
     let ocj = operand_grows se sj j'.grows 1 z.part.operand (operand_grows sx se e'.grows 1 z.part.operand oc) in
-    let l' = plus_at ms sc j.wires p.width w rl pf.wide apart j'.fits iw (ocj, ot, pj.value) (omega (arith, ll)) in
+    let l' = plus_at ms sc j.wires p.width w rl pf.wide apart j'.fits iw (ocj, ot, pj.value) len in
     let g0l : Grows s0 sl = λ n q h. l'.grows n q (j'.grows n q (e'.grows n q (g0x n q h))) in
     let port = (low_put ms es p c i t s.wires).port in
     let here : PortFits sl port w (2 ^ b) = record {

@@ -1,20 +1,16 @@
 -- A cycle of the netlist has the numbers of the program's cycle.
-use Rattle.std.proofs.Common.{◌≡◌, ℕ, ◌+◌, ◌^◌, ◌<◌, ◌==◌, ◌&&◌, List, [], ◌∷◌, ◌++◌, map, Option, Some, None, Bool, true, false, sym, ap, ◌∙◌, subst, refl, inl, inr}
+use Rattle.std.proofs.Common.{◌≡◌, ℕ, ◌^◌, ◌<◌, ◌==◌, ◌&&◌, List, [], ◌∷◌, ◌++◌, map, Option, Some, None, Bool, false, sym, ap, ◌∙◌, subst, refl}
 use Rattle.std.specs.Prelude.{if◌then◌else◌, unwrap_or}
-use Rattle.std.specs.Str.{bytes_eq}
 use Rattle.std.specs.List.{AllByRecursion}
-use Rattle.std.proofs.lemmas.Bool.{cases_Bool}
 use Rattle.sap_maps.specs.Maps.{Name, Valuation}
 use Rattle.sap_maps.specs.Scope.{Scope, find}
-use Rattle.sap_maps.proofs.Scopes.{same_name, found_here, not_first}
-use Rattle.sap_net.specs.Names.{is_among, AreDistinct}
+use Rattle.sap_maps.proofs.Scopes.{found_here}
+use Rattle.sap_net.specs.Names.{AreDistinct}
 use Rattle.sap_net.specs.Net.{Net}
 use Rattle.sap_net.specs.Rules.{Shapes, AreWires, readable_after}
 use Rattle.sap_net.specs.Values.{operand_value, Holds}
 use Rattle.sap_net.specs.IsNetlist.{first_readable, readable, shapes, width_of, IsNetlist}
-use Rattle.sap_net.specs.Runs.{written, IsWithin, InputsAre, IsCycle, IsRunAfter, IsRun, AllFit, observed}
-use Rattle.sap_net.specs.declared.parts.Register.{Register}
-use Rattle.sap_net.specs.declared.parts.Memory.{Memory}
+use Rattle.sap_net.specs.Runs.{written, IsWithin, InputsAre, IsCycle, IsRunAfter, observed}
 use Rattle.sap_net.specs.declared.parts.Wire.{Wire}
 use Rattle.sap_net.proofs.Within.{WidthsAre, widths_are, readable_to_the_end}
 use Rattle.sap_net.proofs.Observed.{observed_registers, observed_wires, observed_memories}
@@ -22,22 +18,22 @@ use Rattle.sap_ir.specs.declared.guarded.Var.{Var}
 use Rattle.sap_ir.specs.declared.guarded.Store.{Store}
 use Rattle.sap_ir.specs.Source.{Command, Source}
 use Rattle.sap_ir.specs.Source as source
-use Rattle.sap_ir.specs.Guarded.{Going, first_number, first_cell, number_at_start, cell_at_start, begun, after, ended, cycle, run_after, guarded_run}
-use Rattle.sap_ir.specs.IsGuarded.{variable_names, memory_names, declared, IsGuarded}
-use Rattle.sap_ir.specs.Writes.{memories_written, AreWithin, WithinBefore, NumbersFit, WritesOnce}
+use Rattle.sap_ir.specs.Guarded.{Going, first_number, first_cell, begun, after, cycle, run_after}
+use Rattle.sap_ir.specs.IsGuarded.{variable_names, IsGuarded}
+use Rattle.sap_ir.specs.Writes.{memories_written, WithinBefore, NumbersFit, WritesOnce}
 use Rattle.sap_ir.proofs.Passes.{source_widths}
 use Rattle.sap_lower.specs.declared.parts.Part.{Part}
 use Rattle.sap_lower.specs.declared.parts.WritePort.{WritePort}
 use Rattle.sap_lower.specs.Lowering.{present}
-use Rattle.sap_lower.specs.Commands.{State, port_of, no_port}
-use Rattle.sap_lower.specs.Lowered.{named_entry, first_entries, first_port, input_of, out_wire, register_of, memory_of, registers_declared, first_state, last_state, all_wires, lowered}
+use Rattle.sap_lower.specs.Commands.{port_of, no_port}
+use Rattle.sap_lower.specs.Lowered.{first_entries, first_port, input_of, out_wire, register_of, memory_of, registers_declared, first_state, last_state, lowered}
 use Rattle.sap_lower.specs.Same.{SameNumbers, AllSame, RunsAlike}
-use Rattle.sap_lower.proofs.Means.{Gives, Stands, Env, SameCells, Around, gives_front, gives_behind}
+use Rattle.sap_lower.proofs.Shared.{Gives}
+use Rattle.sap_lower.proofs.Means.{Env, SameCells, Around, gives_front, gives_behind}
 use Rattle.sap_lower.proofs.Stands.{HasEntries}
-use Rattle.sap_lower.proofs.Ports.{PortIs}
 use Rattle.sap_lower.proofs.Standing.{CommandOk, PortsAre, Standing, Later, commands_stand}
-use Rattle.sap_lower.proofs.Order.{from_declared, all_map, map_all, all_append, all_behind}
-use Rattle.sap_lower.proofs.Begins.{IsKnown, env_first, shapes_list, cells_first, first_port_found}
+use Rattle.sap_lower.proofs.Order.{from_declared, all_map, all_behind}
+use Rattle.sap_lower.proofs.Begins.{IsKnown, env_first, cells_first, first_port_found}
 
 -- What is known of a program whose netlist follows the rules.
 pub record Known (s : Source) : Type 0 where

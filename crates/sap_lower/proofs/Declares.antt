@@ -1,24 +1,17 @@
 -- The names of the netlist of a program.
-use Rattle.std.proofs.Common.{◌≡◌, ℕ, suc, ◌+◌, ◌^◌, ◌<◌, ◌≤◌, ◌==◌, ◌&&◌, ◌||◌, List, [], ◌∷◌, ◌++◌, map, filter, take, length, Option, Some, None, Bool, true, false, not, sym, ap, ap₂, ◌∙◌, subst, refl, arith, inl, inr, append_assoc}
-use Rattle.std.specs.Prelude.{if◌then◌else◌, codes}
-use Rattle.std.specs.Char.{is_ascii_digit, is_ascii_alphanumeric}
-use Rattle.std.specs.Fmt.{decimal}
+use Rattle.std.proofs.Common.{◌≡◌, ◌&&◌, ◌||◌, List, [], ◌∷◌, ◌++◌, map, filter, Option, Some, None, Bool, true, false, not, sym, ap, ap₂, ◌∙◌, subst, refl, inl, inr}
+use Rattle.std.specs.Prelude.{if◌then◌else◌}
 use Rattle.std.specs.Str.{bytes_eq}
-use Rattle.std.specs.List.{AllByRecursion, list_all}
-use Rattle.std.proofs.lemmas.Bool.{cases_Bool, and_from, and_parts}
+use Rattle.std.specs.List.{AllByRecursion}
+use Rattle.std.proofs.lemmas.Bool.{cases_Bool}
 use Rattle.sap_maps.specs.Maps.{Name}
-use Rattle.sap_maps.specs.Scope.{Scope, find}
+use Rattle.sap_maps.specs.Scope.{find}
 use Rattle.sap_maps.proofs.Scopes.{same_name, name_is, apart_back}
-use Rattle.sap_net.specs.Names.{is_name, is_among, is_inner, AreDistinct}
-use Rattle.sap_net.specs.Rules.{Shapes, AreWires}
-use Rattle.sap_net.specs.declared.parts.PortKind.TheVariants as kind
-use Rattle.sap_net.specs.declared.parts.Wire.{Wire}
-use Rattle.sap_net.specs.IsNetlist.{PortShows, is_input}
+use Rattle.sap_net.specs.Names.{is_among, AreDistinct}
 use Rattle.sap_ir.specs.declared.guarded.Var.{Var}
-use Rattle.sap_ir.specs.Source.{Source}
-use Rattle.sap_ir.specs.IsGuarded.{variable_names, memory_names, declared}
-use Rattle.sap_ir.proofs.Declared.{among_append, among_front, among_behind, not_front, not_behind_list, not_found}
-use Rattle.sap_lower.specs.Lowered.{in_front, picked, unlisted, unported, wire_list_names, register_of, input_port, input_of}
+use Rattle.sap_ir.specs.IsGuarded.{variable_names}
+use Rattle.sap_ir.proofs.Declared.{among_append}
+use Rattle.sap_lower.specs.Lowered.{in_front, picked, unlisted, unported}
 
 and_off : (b : Bool) → (b && false) ≡ false
 and_off true = refl

@@ -1,6 +1,6 @@
 -- The netlist of a program is a netlist that declares what the program declares.
-use Rattle.std.proofs.Common.{◌≡◌, ℕ, zero, suc, ◌+◌, ◌^◌, ◌<◌, ◌≤◌, ◌&&◌, ◌||◌, List, [], ◌∷◌, ◌++◌, map, filter, take, length, Option, Some, None, Bool, true, false, not, sym, ap, ap₂, ◌∙◌, subst, refl, arith, inl, inr, append_assoc}
-use Rattle.std.specs.Prelude.{if◌then◌else◌, codes}
+use Rattle.std.proofs.Common.{◌≡◌, ℕ, ◌^◌, ◌<◌, ◌||◌, List, [], ◌∷◌, ◌++◌, map, take, length, Some, None, Bool, true, false, sym, ap, ◌∙◌, subst, refl, inl, inr, append_assoc}
+use Rattle.std.specs.Prelude.{codes}
 use Rattle.std.specs.Str.{bytes_eq}
 use Rattle.std.specs.List.{AllByRecursion}
 use Rattle.std.proofs.lemmas.Bool.{cases_Bool}
@@ -8,36 +8,25 @@ use Rattle.sap_maps.specs.Maps.{Name}
 use Rattle.sap_maps.specs.Scope.{Scope, find}
 use Rattle.sap_maps.proofs.Scopes.{apart_back}
 use Rattle.sap_net.specs.Names.{is_name, is_among, AreDistinct}
-use Rattle.sap_net.specs.Rules.{Shapes, IsWidth, AreWires, readable_after, IsRegister, IsMemory, AreValues, AreMemories}
-use Rattle.sap_net.specs.declared.parts.PortKind.TheVariants as kind
-use Rattle.sap_net.specs.declared.parts.Port.{Port}
-use Rattle.sap_net.specs.declared.parts.Input.{Input}
+use Rattle.sap_net.specs.Rules.{IsWidth, AreWires, readable_after, IsRegister, IsMemory, AreValues}
 use Rattle.sap_net.specs.declared.parts.Wire.{Wire}
-use Rattle.sap_net.specs.declared.parts.Register.{Register}
-use Rattle.sap_net.specs.declared.parts.Memory.{Memory}
-use Rattle.sap_net.specs.IsNetlist.{input_names, wire_names, register_names, memory_names, first_readable, readable, shapes, PortShows, is_input, IsNetlist}
-use Rattle.sap_net.proofs.Within.{readable_to_the_end}
+use Rattle.sap_net.specs.IsNetlist.{input_names, register_names, memory_names, readable, PortShows, IsNetlist}
 use Rattle.sap_ir.specs.declared.guarded.Var.{Var}
 use Rattle.sap_ir.specs.declared.guarded.Store.{Store}
 use Rattle.sap_ir.specs.Source.{Source}
 use Rattle.sap_ir.specs.Source as source
 use Rattle.sap_ir.specs.IsGuarded as ir
 use Rattle.sap_ir.specs.IsGuarded.{variable_names, declared, IsGuarded, IsRegisterVar, IsStore}
-use Rattle.sap_ir.proofs.Declared.{among_append, among_front, among_behind, distinct_front, distinct_behind, apart_lists, apart_lists_back, not_found, found_first}
-use Rattle.sap_lower.specs.declared.parts.Part.{Part}
-use Rattle.sap_lower.specs.declared.parts.WritePort.{WritePort}
-use Rattle.sap_lower.specs.Lowered.{out_wire, register_of, memory_of, input_of, input_port, kind_shown, port_shown, picked, unlisted, unported, registers_declared, all_wires, wire_list_names, names_declared, last_state, lowered}
-use Rattle.sap_lower.specs.Same.{Declares}
-use Rattle.sap_lower.proofs.CommandsFit.{StateFits}
-use Rattle.sap_lower.proofs.Order.{all_append, to_declared, map_all, same_found, found_of}
+use Rattle.sap_ir.proofs.Declared.{among_append, among_front, among_behind, distinct_front, distinct_behind, apart_lists, apart_lists_back, not_found}
+use Rattle.sap_lower.specs.Lowered.{register_of, memory_of, input_port, port_shown, registers_declared, all_wires, wire_list_names, names_declared, last_state, lowered}
+use Rattle.sap_lower.proofs.Order.{all_append, to_declared, map_all}
 use Rattle.sap_lower.proofs.Begins.{scope_of}
-use Rattle.sap_lower.proofs.Cycle.{Known}
-use Rattle.sap_lower.proofs.Declares.{distinct_both, register_among, each_among, among_each, filter_same}
-use Rattle.sap_lower.proofs.Netlist.{first_scope, first_found, last_fits, entries_have, ports_have, source_commands}
-use Rattle.sap_lower.proofs.Rules.{first_readable_is, shapes_are, wire_among, each_variable, kind_found}
+use Rattle.sap_lower.proofs.Declares.{distinct_both, each_among, among_each, filter_same}
+use Rattle.sap_lower.proofs.Netlist.{first_scope, first_found, last_fits}
+use Rattle.sap_lower.proofs.Rules.{first_readable_is, shapes_are, each_variable}
 use Rattle.sap_lower.proofs.Names.{inputs_named, registers_named, memories_named, outs_named, declared_named, declared_among, declared_distinct, wires_new, wires_distinct, new_to_first, new_to_second}
-use Rattle.sap_lower.proofs.Whole.{last_short, wires_are, registers_found, wires_found, nexts_are, writes_are, grows_to_all, stores_found, values_are, memories_are, plain_wide, register_wide, both_hold}
-use Rattle.sap_lower.proofs.Result.{Kinds, all_names, names_distinct, names_among, registers_ordered, memories_ordered, ports_named, take_front, inputs_shown, of_unported}
+use Rattle.sap_lower.proofs.Whole.{last_short, wires_are, registers_found, nexts_are, writes_are, grows_to_all, stores_found, values_are, memories_are, plain_wide, register_wide}
+use Rattle.sap_lower.proofs.Result.{Kinds, names_distinct, names_among, registers_ordered, memories_ordered, ports_named, take_front, inputs_shown, of_unported}
 
 or_more : (r w a : Bool) → (w ≡ true → a ≡ true) → (r || w) ≡ true → (r || a) ≡ true
 or_more true w a k h = refl

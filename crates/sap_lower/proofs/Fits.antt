@@ -1,5 +1,5 @@
 -- The wires of an expression are declared once, read after they are assigned, and fit.
-use Rattle.std.proofs.Common.{◌≡◌, ℕ, suc, ◌+◌, ◌-◌, ◌*◌, ◌/◌, ◌%◌, ◌^◌, ◌<◌, ◌≤◌, List, [], ◌∷◌, ◌++◌, Option, Some, None, Bool, true, false, length, sym, ap, ap₂, ◌∙◌, subst, refl, arith, inl, inr, length-append}
+use Rattle.std.proofs.Common.{◌≡◌, ℕ, ◌+◌, ◌-◌, ◌/◌, ◌%◌, ◌^◌, ◌<◌, ◌≤◌, List, [], ◌∷◌, ◌++◌, Option, Some, None, Bool, true, false, length, sym, ap, ap₂, ◌∙◌, subst, refl, arith, inl, inr, length-append}
 use Rattle.std.specs.Prelude.{if◌then◌else◌, unwrap_or}
 use Rattle.std.specs.Str.{bytes_eq}
 use Rattle.std.specs.Fmt.{decimal}
@@ -13,8 +13,8 @@ use Rattle.sap_bits.specs.declared.Op2.TheVariants.{Add, Sub, Mul, And, Or, Xor,
 use Rattle.sap_maps.specs.Maps.{Name}
 use Rattle.sap_maps.specs.Scope.{Scope, find}
 use Rattle.sap_maps.specs.Term.{Term, constant, read, cell, one, two, choose, join, part, CountFits}
-use Rattle.sap_maps.proofs.Scopes.{same_name, name_is, found_here, found_behind}
-use Rattle.sap_net.specs.Rules.{Shapes, IsWidth, IsOperand, AreOperands, IsRight, AreWires, readable_after}
+use Rattle.sap_maps.proofs.Scopes.{name_is, found_here, found_behind}
+use Rattle.sap_net.specs.Rules.{Shapes, IsWidth, IsOperand, IsRight, AreWires, readable_after}
 use Rattle.sap_net.specs.declared.parts.Operand.{Operand}
 use Rattle.sap_net.specs.declared.parts.Operand.TheVariants.{Named, Constant}
 use Rattle.sap_net.specs.declared.parts.Right.{Right}
@@ -26,8 +26,10 @@ use Rattle.sap_lower.proofs.Order.{all_append}
 use Rattle.sap_net.specs.Names.{is_name}
 use Rattle.std.specs.List.{AllByRecursion}
 use Rattle.sap_lower.specs.declared.parts.Part.{Part}
-use Rattle.sap_lower.specs.Lowering.{helper, present, Low, plus, leaves_nothing, is_past, low_two, sliced, is_outside, low_slice, low_join, cell_width, low, nothing}
+use Rattle.sap_lower.specs.Keys.{key}
+use Rattle.sap_lower.specs.Lowering.{helper, present, rights, shared, plus, leaves_nothing, low_two, sliced, is_outside, low_slice, cell_width, low, nothing}
 use Rattle.sap_lower.proofs.Means.{small_sum, slice_inside}
+use Rattle.sap_lower.proofs.Shared.{known_readable}
 
 -- the wires fit, have names, the helping names from the next on are new, and no other name is added
 pub record Fits (ms : Shapes) (sc : Scope) (ws : List Wire) : Type 0 where
@@ -75,24 +77,31 @@ pub record Lowered (ms : Shapes) (sc : Scope) (ws after : List Wire) (p : Part) 
   pub operand : IsOperand (readable_after sc after) u p.operand
   pub width : p.width ≡ u
 
-pub plus_long : (ws : List Wire) (u : ℕ) (r : Right) → length (plus ws u r).wires ≡ length ws + 1
-plus_long ws u r = omega (arith, length-append ws (record { name = helper (length ws); width = u; right = r } ∷ []))
+shared_long : (ws : List Wire) (u : ℕ) (r : Right) (o : Option Name) → length ws ≤ length (shared o ws u r).wires
+shared_long ws u r (Some n) = omega arith
+shared_long ws u r None = omega (arith, length-append ws (record { name = helper (length ws); width = u; right = r } ∷ []))
 
-plus_fits : (ms : Shapes) (sc : Scope) (ws : List Wire) (u : ℕ) (r : Right) → NoHelpers ms → Fits ms sc ws → IsWidth u → IsRight ms (readable_after sc ws) u r → length ws + 1 < 2 ^ 64 → Lowered ms sc ws (plus ws u r).wires (plus ws u r).part u
-plus_fits ms sc ws u r apart fits i f l =
+pub plus_long : (ws : List Wire) (u : ℕ) (r : Right) → length ws ≤ length (plus ws u r).wires
+plus_long ws u r = shared_long ws u r (find (rights ws) (key u r))
+
+shared_fits : (ms : Shapes) (sc : Scope) (ws : List Wire) (u : ℕ) (r : Right) → NoHelpers ms → Fits ms sc ws → IsWidth u → IsRight ms (readable_after sc ws) u r → (o : Option Name) → find (rights ws) (key u r) ≡ o → length (shared o ws u r).wires < 2 ^ 64 → Lowered ms sc ws (shared o ws u r).wires (shared o ws u r).part u
+shared_fits ms sc ws u r apart fits i f (Some n) e l =
+    record { fits = fits; grows = λ m k h. h; operand = known_readable ms ws sc u r n e fits.wires; width = refl }
+shared_fits ms sc ws u r apart fits i f None e l =
     let n = helper (length ws) in
     let w : Wire = record { name = n; width = u; right = r } in
-    let new = fits.fresh (length ws) (omega arith) (omega arith) in
+    let long : length (ws ++ w ∷ []) ≡ length ws + 1 = length-append ws (w ∷ []) in
+    let new = fits.fresh (length ws) (omega arith) (omega (arith, long)) in
     let e = readable_push ws sc w in
     record {
       fits = record {
-        wires = wires_push ms ws sc w fits.wires i new (apart (length ws) (omega arith)) f;
+        wires = wires_push ms ws sc w fits.wires i new (apart (length ws) (omega (arith, long))) f;
         fresh = λ k le lt.
-            let lp : length ws + 1 ≤ k = omega (arith, plus_long ws u r) in
-            let d = helpers_differ (length ws) k (omega arith) lt (omega arith) in
+            let lp : length ws + 1 ≤ k = omega (arith, long) in
+            let d = helpers_differ (length ws) k (omega (arith, long)) lt (omega arith) in
             rw (e, d) (fits.fresh k (omega arith) lt);
-        named = all_append (λ (x : Wire). is_name x.name ≡ true) ws (w ∷ []) fits.named (helper_is_name (length ws) (omega arith), tt);
-        others = λ m h. let d = other_name (length ws) (omega arith) m h in rw (e, d) (fits.others m h);
+        named = all_append (λ (x : Wire). is_name x.name ≡ true) ws (w ∷ []) fits.named (helper_is_name (length ws) (omega (arith, long)), tt);
+        others = λ m h. let d = other_name (length ws) (omega (arith, long)) m h in rw (e, d) (fits.others m h);
       };
       grows = λ m w h. rw e (found_behind (readable_after sc ws) n u new m w h);
       operand = rw e (found_here n u (readable_after sc ws));
@@ -100,9 +109,10 @@ plus_fits ms sc ws u r apart fits i f l =
     }
 
 -- at a width that is equal to the one that is written
-pub plus_at : (ms : Shapes) (sc : Scope) (ws : List Wire) (w u : ℕ) (r : Right) → w ≡ u → NoHelpers ms → Fits ms sc ws → IsWidth u → IsRight ms (readable_after sc ws) u r → length ws + 1 < 2 ^ 64 → Lowered ms sc ws (plus ws w r).wires (plus ws w r).part u
+pub plus_at : (ms : Shapes) (sc : Scope) (ws : List Wire) (w u : ℕ) (r : Right) → w ≡ u → NoHelpers ms → Fits ms sc ws → IsWidth u → IsRight ms (readable_after sc ws) u r → length (plus ws w r).wires < 2 ^ 64 → Lowered ms sc ws (plus ws w r).wires (plus ws w r).part u
 plus_at ms sc ws w u r e apart fits i f l =
-    subst (λ (k : ℕ). Lowered ms sc ws (plus ws k r).wires (plus ws k r).part u) (sym e) (plus_fits ms sc ws u r apart fits i f l)
+    let k : length (plus ws u r).wires < 2 ^ 64 = subst (λ (k : ℕ). length (plus ws k r).wires < 2 ^ 64) e l in
+    subst (λ (k : ℕ). Lowered ms sc ws (plus ws k r).wires (plus ws k r).part u) (sym e) (shared_fits ms sc ws u r apart fits i f (find (rights ws) (key u r)) refl k)
 
 -- no wire is lost
 
@@ -176,13 +186,13 @@ two_fits ms sc op x y ws w t u apart fits iw it iu ox xw oy cf e l =
           rw b (record { fits = fits; grows = λ n q h. h; operand = (k, pow_pos u); width = k })
       | inr b ↦
           let l' : length (plus ws (width2 op x.width) (Two op x.operand y.operand)).wires < 2 ^ 64 = rw b at l in
-          let p = plus_at ms sc ws (width2 op x.width) u (Two op x.operand y.operand) (ap (λ (n : ℕ). width2 op n) xw ∙ sym e) apart fits iu (w, t, iw, it, ox, oy, cf, e) (omega (arith, plus_long ws (width2 op x.width) (Two op x.operand y.operand))) in
+          let p = plus_at ms sc ws (width2 op x.width) u (Two op x.operand y.operand) (ap (λ (n : ℕ). width2 op n) xw ∙ sym e) apart fits iu (w, t, iw, it, ox, oy, cf, e) l' in
           rw b p
     ]
 
 slice_fits : (ms : Shapes) (sc : Scope) (o : Operand) (hi lo : ℕ) (ws : List Wire) (w u : ℕ) → NoHelpers ms → Fits ms sc ws → IsWidth w → IsWidth u → IsOperand (readable_after sc ws) w o → lo ≤ hi → hi < w → u ≡ hi + 1 - lo → length (sliced o hi lo ws).wires < 2 ^ 64 → Lowered ms sc ws (sliced o hi lo ws).wires (sliced o hi lo ws).part u
 slice_fits ms sc (Named x) hi lo ws w u apart fits iw iu o a b e l =
-    plus_at ms sc ws (hi + 1 - lo) u (Slice x hi lo) (sym e) apart fits iu (w, iw, o, a, b, e) (omega (arith, plus_long ws (hi + 1 - lo) (Slice x hi lo)))
+    plus_at ms sc ws (hi + 1 - lo) u (Slice x hi lo) (sym e) apart fits iu (w, iw, o, a, b, e) l
 slice_fits ms sc (Constant k n) hi lo ws w u apart fits iw iu o a b e l =
     record {
       fits = fits;
@@ -201,14 +211,14 @@ low_fits ms sc vars es apart u (cell m i) iu f ws env fits l =
     let e = plus_long y.wires (cell_width ms m) (Cell m y.part.operand) in
     let i' = low_fits ms sc vars es apart f.0 i f.1 f.3 ws env fits (omega (arith, e)) in
     let w : cell_width ms m ≡ u = ap (λ (o : Option (ℕ × ℕ)). (unwrap_or o (0, 0)).0) f.2 in
-    let p = plus_at ms sc y.wires (cell_width ms m) u (Cell m y.part.operand) w apart i'.fits iu (f.0, f.2, i'.operand) (omega (arith, e)) in
+    let p = plus_at ms sc y.wires (cell_width ms m) u (Cell m y.part.operand) w apart i'.fits iu (f.0, f.2, i'.operand) l in
     followed ms sc ws y.wires _ y.part _ f.0 u i' p
 low_fits ms sc vars es apart u (one op a) iu f ws env fits l =
     let x = low ms es a ws in
     let e = plus_long x.wires (width1 op x.part.width) (One op x.part.operand) in
     let a' = low_fits ms sc vars es apart f.0 a f.1 f.2 ws env fits (omega (arith, e)) in
     let w : width1 op x.part.width ≡ u = ap (λ (n : ℕ). width1 op n) a'.width ∙ sym f.3 in
-    let p = plus_at ms sc x.wires (width1 op x.part.width) u (One op x.part.operand) w apart a'.fits iu (f.0, f.1, a'.operand, f.3) (omega (arith, e)) in
+    let p = plus_at ms sc x.wires (width1 op x.part.width) u (One op x.part.operand) w apart a'.fits iu (f.0, f.1, a'.operand, f.3) l in
     followed ms sc ws x.wires _ x.part _ f.0 u a' p
 low_fits ms sc vars es apart u (two op a b) iu f ws env fits l =
     let x = low ms es a ws in
@@ -234,7 +244,7 @@ low_fits ms sc vars es apart u (choose c a b) iu f ws env fits l =
     let b' = low_fits ms sc vars es apart u b iu f.2 x.wires eb a'.fits (omega (arith, e)) in
     let oc = operand_grows (readable_after sc x.wires) (readable_after sc y.wires) b'.grows 1 z.part.operand (operand_grows (readable_after sc z.wires) (readable_after sc x.wires) a'.grows 1 z.part.operand c'.operand) in
     let oa = operand_grows (readable_after sc x.wires) (readable_after sc y.wires) b'.grows u x.part.operand a'.operand in
-    let p = plus_at ms sc y.wires x.part.width u (Choose z.part.operand x.part.operand y.part.operand) a'.width apart b'.fits iu (oc, oa, b'.operand) (omega (arith, e)) in
+    let p = plus_at ms sc y.wires x.part.width u (Choose z.part.operand x.part.operand y.part.operand) a'.width apart b'.fits iu (oc, oa, b'.operand) l in
     followed ms sc ws y.wires _ y.part _ u u (followed ms sc ws x.wires y.wires x.part y.part u u (followed ms sc ws z.wires x.wires z.part x.part 1 u c' a') b') p
 low_fits ms sc vars es apart u (join a b) iu f ws env fits l =
     let x = low ms es a ws in
@@ -247,7 +257,7 @@ low_fits ms sc vars es apart u (join a b) iu f ws env fits l =
     let b' = low_fits ms sc vars es apart f.1 b f.3 f.5 x.wires (env_grows _ _ vars es a'.grows env) a'.fits (omega (arith, e)) in
     let o = operand_grows (readable_after sc x.wires) (readable_after sc y.wires) b'.grows f.0 x.part.operand a'.operand in
     let wu : w ≡ u = ap₂ (λ (j k : ℕ). (j + k) % 4294967296) a'.width b'.width ∙ small_sum f.0 f.1 f.2.1 f.3.1 ∙ sym f.6 in
-    let p = plus_at ms sc y.wires w u r wu apart b'.fits iu (omega arith, (f.0, f.1, f.2, o, (f.1, 0, f.3, b'.operand, refl, omega arith), f.6)) (omega (arith, e)) in
+    let p = plus_at ms sc y.wires w u r wu apart b'.fits iu (omega arith, (f.0, f.1, f.2, o, (f.1, 0, f.3, b'.operand, refl, omega arith), f.6)) l in
     followed ms sc ws y.wires _ y.part _ f.1 u (followed ms sc ws x.wires y.wires x.part y.part f.0 f.1 a' b') p
 low_fits ms sc vars es apart u (part a hi lo) iu f ws env fits l =
     let x = low ms es a ws in

@@ -1,12 +1,12 @@
 -- The parts of a concatenation, lowered one after another and joined from the last one on.
-use Rattle.std.proofs.Common.{◌≡◌, ℕ, List, [], ◌∷◌, ◌++◌, sym, ap, ◌∙◌, refl}
+use Rattle.std.proofs.Common.{◌≡◌, List, [], ◌∷◌, ◌++◌, ap, refl}
 use Rattle.sap_maps.specs.Maps.{Name}
-use Rattle.sap_maps.specs.Term.{Term, constant, join}
+use Rattle.sap_maps.specs.Term.{Term}
 use Rattle.sap_net.specs.Rules.{Shapes}
 use Rattle.sap_net.specs.declared.parts.Wire.{Wire}
 use Rattle.sap_ir.specs.Calcs.{joined_behind, joined_terms}
 use Rattle.sap_lower.specs.declared.parts.Part.{Part}
-use Rattle.sap_lower.specs.Lowering.{nothing, Low, low, low_join}
+use Rattle.sap_lower.specs.Lowering.{Low, low, low_join}
 use Rattle.sap_lower.specs.Parts.{Lows, low_all, glued_behind, glued}
 
 -- two parts at the end are joined first

@@ -1,9 +1,11 @@
 -- A map from names to places, as one more name is added.
-use Rattle.std.proofs.Common.{◌≡◌, ℕ, zero, suc, ◌+◌, List, [], ◌∷◌, ◌++◌, Option, Some, None, Bool, true, false, length, is_some, sym, ap, ◌∙◌, subst, refl, inl, inr}
+use Rattle.std.proofs.Common.{◌≡◌, ℕ, zero, List, [], ◌∷◌, ◌++◌, Option, Some, None, Bool, true, false, length, is_some, sym, ap, ◌∙◌, subst, refl, inl, inr}
 use Rattle.std.specs.Prelude.{if◌then◌else◌}
 use Rattle.std.specs.Str.{bytes_eq}
 use Rattle.std.specs.Map.{lookup, IsKeyTest, AreApart, KeepsOthers}
 use Rattle.std.specs.HashMap as hash
+use Rattle.std.specs.declared.hash.FoldHasher.{FoldHasher}
+use Rattle.std.specs.declared.hash.BuildHasherDefault.{BuildHasherDefault}
 use Rattle.std.specs.declared.vec.Vec.{Vec}
 use Rattle.std.specs.declared.alloc.Global.{Global}
 use Rattle.std.proofs.lemmas.Bool.{cases_Bool}
@@ -25,8 +27,12 @@ tests_apart bs cs ks n y = apart_back ks cs (subst (λ (m : Name). bytes_eq m cs
 abbrev pub same_bytes : Vec ℕ Global → Vec ℕ Global → Bool
 same_bytes x y = bytes_eq x.items y.items
 
--- what an insertion leaves at each name
-pub at_other : (m n : PlaceMap) (bs : Name) (w : Option ℕ) → hash.UpdatesBy same_bytes (λ k. bytes_eq bs k.items) m n w → (cs : Name) → bytes_eq bs cs ≡ false → at_name n cs ≡ at_name m cs
+abbrev pub ListMap : Type 0 → Type 0
+ListMap X = hash.HashMap (Vec ℕ Global) X (BuildHasherDefault FoldHasher)
+
+-- what an insertion leaves at each other list
+pub at_other : {X : Type 0} (m n : ListMap X) (bs : Name) (w : Option X) → hash.UpdatesBy same_bytes (λ k. bytes_eq bs k.items) m n w → (cs : Name) → bytes_eq bs cs ≡ false
+    → hash.get_by (λ k. bytes_eq cs k.items) n ≡ hash.get_by (λ k. bytes_eq cs k.items) m
 at_other m n bs w h cs e =
     others_kept same_bytes (λ k. bytes_eq bs k.items) m.entries n.entries h.3 (λ k. bytes_eq cs k.items) (λ x y. key_test cs x.items y.items) (λ k. tests_apart bs cs k.items e)
 

@@ -1,4 +1,7 @@
+pub mod Decoding
+pub mod Shared
 pub mod Index
+pub mod Rights
 pub mod Lookups
 pub mod Glue
 pub mod Means
@@ -20,3 +23,4 @@ pub mod Names
 pub mod Result
 pub mod Final
 pub mod Made
+pub mod Sharing

@@ -1,6 +1,6 @@
 -- What stands at the place of a name.
-use Rattle.std.proofs.Common.{◌≡◌, ℕ, zero, suc, ◌+◌, ◌<◌, List, [], ◌∷◌, ◌++◌, Option, Some, None, Bool, true, false, map, length, take, drop, get_or, is_some, sym, ap, ◌∙◌, subst, refl, inl, inr, arith}
-use Rattle.std.specs.Prelude.{if◌then◌else◌, slice_set}
+use Rattle.std.proofs.Common.{◌≡◌, ℕ, zero, suc, ◌<◌, List, [], ◌∷◌, ◌++◌, Option, Some, None, true, map, length, take, get_or, is_some, sym, ap, ◌∙◌, subst, refl, inl, inr, arith}
+use Rattle.std.specs.Prelude.{slice_set}
 use Rattle.std.specs.Str.{bytes_eq}
 use Rattle.std.proofs.lemmas.Bool.{cases_Bool}
 use Rattle.sap_maps.specs.Maps.{Name}

@@ -1,12 +1,11 @@
 -- What is made of a program is its netlist, with all that is known of it.
-use Rattle.std.proofs.Common.{◌≡◌, ℕ, ◌^◌, ◌<◌, List, [], ◌∷◌, ◌++◌, map, length, Option, Some, None, Bool, true, false, sym, ap, ap₂, ◌∙◌, subst, refl}
-use Rattle.std.specs.List.{AllByRecursion}
+use Rattle.std.proofs.Common.{◌≡◌, ℕ, ◌^◌, ◌<◌, List, [], ◌∷◌, ◌++◌, map, length, Some, true, false, sym, ap, ap₂, ◌∙◌, subst, refl}
 use Rattle.sap_maps.specs.Maps.{Name}
 use Rattle.sap_maps.specs.Scope.{Scope, find}
 use Rattle.sap_net.specs.Names.{is_among, AreDistinct}
 use Rattle.sap_net.specs.Net.{Net}
-use Rattle.sap_net.specs.Rules.{Shapes, readable_after}
-use Rattle.sap_net.specs.IsNetlist.{readable, shapes, IsNetlist}
+use Rattle.sap_net.specs.Rules.{readable_after}
+use Rattle.sap_net.specs.IsNetlist.{readable}
 use Rattle.sap_net.proofs.Within.{readable_to_the_end}
 use Rattle.sap_net.specs.declared.parts.Wire.{Wire}
 use Rattle.sap_net.specs.declared.parts.Register.{Register}
@@ -17,7 +16,7 @@ use Rattle.sap_ir.specs.Source.{Source, Command}
 use Rattle.sap_ir.specs.Source as source
 use Rattle.sap_ir.specs.IsGuarded as ir
 use Rattle.sap_ir.specs.IsGuarded.{variable_names, declared, IsGuarded}
-use Rattle.sap_ir.proofs.Declared.{among_front, not_front, distinct_front, distinct_behind, apart_lists, apart_lists_back, not_found, found_second}
+use Rattle.sap_ir.proofs.Declared.{not_front, distinct_front, distinct_behind, apart_lists, apart_lists_back, not_found, found_second}
 use Rattle.sap_lower.specs.declared.parts.Part.{Part}
 use Rattle.sap_lower.specs.declared.parts.WritePort.{WritePort}
 use Rattle.sap_lower.specs.Commands.{State, low_commands}

@@ -1,6 +1,6 @@
 -- In every solution of the wires' equations the operand of an expression has its value.
-use Rattle.std.proofs.Common.{◌≡◌, ℕ, zero, ◌+◌, ◌-◌, ◌*◌, ◌%◌, ◌/◌, ◌^◌, ◌<◌, ◌≤◌, ◌==◌, List, [], ◌∷◌, ◌++◌, Option, Some, None, Bool, true, false, length, sym, ap, ap₂, ◌∙◌, subst, refl, arith, inl, inr}
-use Rattle.std.specs.Prelude.{if◌then◌else◌, unwrap_or, nat_le, nat_lt, ◌||◌}
+use Rattle.std.proofs.Common.{◌≡◌, ℕ, ◌+◌, ◌-◌, ◌%◌, ◌/◌, ◌^◌, ◌<◌, ◌≤◌, ◌==◌, List, [], ◌∷◌, ◌++◌, Option, Some, None, Bool, true, false, length, sym, ap, ap₂, ◌∙◌, subst, refl, arith, inl, inr}
+use Rattle.std.specs.Prelude.{if◌then◌else◌, unwrap_or, nat_lt}
 use Rattle.std.proofs.Math.Pow.{pow_pos}
 use Rattle.std.proofs.Math.Nat.{mod-lt, mod-eq_of_lt}
 use Rattle.std.proofs.lemmas.Bool.{cases_Bool}
@@ -12,9 +12,9 @@ use Rattle.sap_bits.proofs.Low.{shl_past, shr_past}
 use Rattle.sap_bits.proofs.Within.{value1_below, value2_below}
 use Rattle.sap_maps.specs.Maps.{Name, Valuation}
 use Rattle.sap_maps.specs.Scope.{Scope, find}
-use Rattle.sap_maps.specs.Term.{Term, constant, read, cell, one, two, choose, join, part, term_width, term_value, CountFits}
+use Rattle.sap_maps.specs.Term.{Term, constant, read, cell, one, two, choose, join, part, term_width, term_value}
 use Rattle.sap_maps.proofs.Terms.{right_fits, below_both, joined_below}
-use Rattle.sap_net.specs.Rules.{Shapes, IsWidth}
+use Rattle.sap_net.specs.Rules.{Shapes}
 use Rattle.sap_net.specs.Values.{operand_value, operand_width, right_value}
 use Rattle.sap_net.specs.declared.parts.Operand.{Operand}
 use Rattle.sap_net.specs.declared.parts.Operand.TheVariants.{Named, Constant}
@@ -24,12 +24,9 @@ use Rattle.sap_net.specs.declared.parts.Wire.{Wire}
 use Rattle.sap_ir.specs.IsGuarded.{TermFine}
 use Rattle.sap_ir.proofs.Passes.{WidthsDeclared, fine_width}
 use Rattle.sap_lower.specs.declared.parts.Part.{Part}
-use Rattle.sap_lower.specs.Lowering.{helper, present, Low, plus, is_past, leaves_nothing, low_two, sliced, is_outside, low_slice, low_join, cell_width, low, nothing}
-
--- the equations of some wires, and their widths
-abbrev pub Gives : (Name → ℕ) → Valuation → List Wire → Type 0
-Gives widths v [] = Unit {0}
-Gives widths v (w ∷ ws) = (v.value w.name ≡ right_value widths v w.right) × (widths w.name ≡ w.width) × Gives widths v ws
+use Rattle.sap_lower.specs.Keys.{key}
+use Rattle.sap_lower.specs.Lowering.{helper, present, rights, shared, plus, is_past, leaves_nothing, low_two, sliced, is_outside, low_slice, low_join, cell_width, low, nothing}
+use Rattle.sap_lower.proofs.Shared.{Gives, known_gives}
 
 -- a part has this width and value
 pub record Shows (widths : Name → ℕ) (v : Valuation) (p : Part) (u x : ℕ) : Type 0 where
@@ -63,26 +60,36 @@ gives_last : (widths : Name → ℕ) (v : Valuation) (ws : List Wire) (w : Wire)
 gives_last widths v [] w h = (h.0, h.1)
 gives_last widths v (x ∷ ws) w h = gives_last widths v ws w h.2
 
--- an added wire stands for its right side
-pub plus_shows : (widths : Name → ℕ) (v : Valuation) (ws : List Wire) (u : ℕ) (r : Right) → Gives widths v (plus ws u r).wires → Shows widths v (plus ws u r).part u (right_value widths v r)
-plus_shows widths v ws u r h =
+-- a wire stands for its right side, whether it was there or is added
+
+shared_shows : (widths : Name → ℕ) (v : Valuation) (ws : List Wire) (u : ℕ) (r : Right) (o : Option Name) → find (rights ws) (key u r) ≡ o → Gives widths v (shared o ws u r).wires → Shows widths v (shared o ws u r).part u (right_value widths v r)
+shared_shows widths v ws u r (Some n) e h =
+    let g = known_gives widths v ws u r n e h in record { value = g.0; wide = g.1; width = refl }
+shared_shows widths v ws u r None e h =
     let g = gives_last widths v ws (record { name = helper (length ws); width = u; right = r }) h in record { value = g.0; wide = g.1; width = refl }
+
+pub plus_shows : (widths : Name → ℕ) (v : Valuation) (ws : List Wire) (u : ℕ) (r : Right) → Gives widths v (plus ws u r).wires → Shows widths v (plus ws u r).part u (right_value widths v r)
+plus_shows widths v ws u r h = shared_shows widths v ws u r (find (rights ws) (key u r)) refl h
 
 -- the wires before are kept
 
+shared_front : (widths : Name → ℕ) (v : Valuation) (ws : List Wire) (u : ℕ) (r : Right) (o : Option Name) → Gives widths v (shared o ws u r).wires → Gives widths v ws
+shared_front widths v ws u r (Some n) h = h
+shared_front widths v ws u r None h = gives_front widths v ws _ h
+
 pub plus_front : (widths : Name → ℕ) (v : Valuation) (ws : List Wire) (u : ℕ) (r : Right) → Gives widths v (plus ws u r).wires → Gives widths v ws
-plus_front widths v ws u r h = gives_front widths v ws _ h
+plus_front widths v ws u r h = shared_front widths v ws u r (find (rights ws) (key u r)) h
 
 two_front_at : (b : Bool) (widths : Name → ℕ) (v : Valuation) (ws : List Wire) (p : Part) (u : ℕ) (r : Right) → Gives widths v (if b then record { wires = ws; part = p } else plus ws u r).wires → Gives widths v ws
 two_front_at true widths v ws p u r h = h
-two_front_at false widths v ws p u r h = gives_front widths v ws _ h
+two_front_at false widths v ws p u r h = plus_front widths v ws u r h
 
 two_front : (widths : Name → ℕ) (v : Valuation) (op : Op2) (x y : Part) (ws : List Wire) → Gives widths v (low_two op x y ws).wires → Gives widths v ws
 two_front widths v op x y ws h = two_front_at (leaves_nothing op x.width y.operand) widths v ws _ _ _ h
 
 sliced_front : (b : Bool) (widths : Name → ℕ) (v : Valuation) (o : Operand) (hi lo : ℕ) (ws : List Wire) (p : Part) → Gives widths v (if b then record { wires = ws; part = p } else sliced o hi lo ws).wires → Gives widths v ws
 sliced_front true widths v o hi lo ws p h = h
-sliced_front false widths v (Named x) hi lo ws p h = gives_front widths v ws _ h
+sliced_front false widths v (Named x) hi lo ws p h = plus_front widths v ws (hi + 1 - lo) (Slice x hi lo) h
 sliced_front false widths v (Constant w n) hi lo ws p h = h
 
 slice_front : (widths : Name → ℕ) (v : Valuation) (o : Operand) (hi lo : ℕ) (ws : List Wire) → Gives widths v (low_slice o hi lo ws).wires → Gives widths v ws
@@ -94,19 +101,30 @@ slice_inside w hi lo a b c =
     let q : nat_lt 63 hi ≡ false = grind (arith, nat_tests) in
     rw (p, q) refl
 
+join_front : (widths : Name → ℕ) (v : Valuation) (x y : Part) (ws : List Wire) → Gives widths v (low_join x y ws).wires → Gives widths v ws
+join_front widths v x y ws h = plus_front widths v ws ((x.width + y.width) % 4294967296) (Concat (x.operand ∷ y.operand ∷ [])) h
+
 pub low_front : (widths : Name → ℕ) (v : Valuation) (ms : Shapes) (es : List (Name × Part)) (t : Term Name) (ws : List Wire) → Gives widths v (low ms es t ws).wires → Gives widths v ws
 low_front widths v ms es (constant w x) ws h = h
 low_front widths v ms es (read n) ws h = h
-low_front widths v ms es (cell m i) ws h = low_front widths v ms es i ws (gives_front widths v _ _ h)
-low_front widths v ms es (one op a) ws h = low_front widths v ms es a ws (gives_front widths v _ _ h)
+low_front widths v ms es (cell m i) ws h =
+    let y = low ms es i ws in low_front widths v ms es i ws (plus_front widths v y.wires (cell_width ms m) (Cell m y.part.operand) h)
+low_front widths v ms es (one op a) ws h =
+    let x = low ms es a ws in low_front widths v ms es a ws (plus_front widths v x.wires (width1 op x.part.width) (One op x.part.operand) h)
 low_front widths v ms es (two op a b) ws h =
     let x = low ms es a ws in
     let y = low ms es b x.wires in
     low_front widths v ms es a ws (low_front widths v ms es b x.wires (two_front widths v op x.part y.part y.wires h))
 low_front widths v ms es (choose c a b) ws h =
-    low_front widths v ms es c ws (low_front widths v ms es a _ (low_front widths v ms es b _ (gives_front widths v _ _ h)))
+    let z = low ms es c ws in
+    let x = low ms es a z.wires in
+    let y = low ms es b x.wires in
+    let hb = plus_front widths v y.wires x.part.width (Choose z.part.operand x.part.operand y.part.operand) h in
+    low_front widths v ms es c ws (low_front widths v ms es a z.wires (low_front widths v ms es b x.wires hb))
 low_front widths v ms es (join a b) ws h =
-    low_front widths v ms es a ws (low_front widths v ms es b _ (gives_front widths v _ _ h))
+    let x = low ms es a ws in
+    let y = low ms es b x.wires in
+    low_front widths v ms es a ws (low_front widths v ms es b x.wires (join_front widths v x.part y.part y.wires h))
 low_front widths v ms es (part a hi lo) ws h =
     let x = low ms es a ws in low_front widths v ms es a ws (slice_front widths v x.part.operand hi lo x.wires h)
 
@@ -143,13 +161,13 @@ two_shows widths v op x y ws w t a b sx sy h =
           let p = plus_shows widths v ws (width2 op x.width) (Two op x.operand y.operand) g in
           let vx = sx.shows.value in let wx = sx.shows.wide in let ux = sx.shows.width in let vy = sy.shows.value in
           let pv = p.value in let pw = p.wide in
-          rw e (record { value = pv ∙ rw (wx, vx, vy) refl; wide = pw ∙ ap (λ (k : ℕ). width2 op k) ux; width = ap (λ (k : ℕ). width2 op k) ux })
+          rw e (record { value = pv ∙ rw (wx, vx, vy) refl; wide = pw ∙ ap (λ (k : ℕ). width2 op k) ux; width = p.width ∙ ap (λ (k : ℕ). width2 op k) ux })
     ]
 
 slice_shows : (widths : Name → ℕ) (v : Valuation) (o : Operand) (hi lo : ℕ) (ws : List Wire) (x : ℕ) → operand_value v o ≡ x → Gives widths v (sliced o hi lo ws).wires → Shows widths v (sliced o hi lo ws).part (hi + 1 - lo) (slice_of x hi lo)
 slice_shows widths v (Named n) hi lo ws x e h =
     let p = plus_shows widths v ws (hi + 1 - lo) (Slice n hi lo) h in
-    record { value = p.value ∙ ap (λ (k : ℕ). slice_of k hi lo) e; wide = p.wide; width = refl }
+    record { value = p.value ∙ ap (λ (k : ℕ). slice_of k hi lo) e; wide = p.wide; width = p.width }
 slice_shows widths v (Constant w n) hi lo ws x e h =
     record { value = ap (λ (k : ℕ). slice_of k hi lo) e; wide = refl; width = refl }
 
@@ -174,7 +192,7 @@ join_shows widths v x y ws w t a b hw ht sx sy h =
     let vx = sx.shows.value in let vy = sy.shows.value in let wy = sy.shows.wide in
     let z : operand_width widths y.operand + 0 ≡ t = wide_last (operand_width widths y.operand) t wy in
     let l : joined (operand_value v y.operand) 0 0 ≡ b = value_last (operand_value v y.operand) b vy in
-    record { value = p.value ∙ same_join (operand_value v x.operand) a (operand_width widths y.operand + 0) t (joined (operand_value v y.operand) 0 0) b vx z l; wide = p.wide ∙ e; width = e }
+    record { value = p.value ∙ same_join (operand_value v x.operand) a (operand_width widths y.operand + 0) t (joined (operand_value v y.operand) 0 0) b vx z l; wide = p.wide ∙ e; width = p.width ∙ e }
 
 -- what surrounds an expression
 pub record Around (ms : Shapes) (vars : Scope) (vw widths : Name → ℕ) (v : Valuation) (es : List (Name × Part)) (value : Name → ℕ) (cells : Name → ℕ → ℕ) : Type 0 where
@@ -188,25 +206,27 @@ low_stands ms vars vw widths v es value cells k u (constant w x) f ws h =
 low_stands ms vars vw widths v es value cells k u (read n) f ws h = k.env n u f
 low_stands ms vars vw widths v es value cells k u (cell m i) f ws h =
     let y = low ms es i ws in
-    let sy = low_stands ms vars vw widths v es value cells k f.0 i f.3 ws (gives_front widths v _ _ h) in
+    let hy = plus_front widths v y.wires (cell_width ms m) (Cell m y.part.operand) h in
+    let sy = low_stands ms vars vw widths v es value cells k f.0 i f.3 ws hy in
     let p = plus_shows widths v y.wires (cell_width ms m) (Cell m y.part.operand) h in
     let e : cell_width ms m ≡ u = ap (λ (o : Option (ℕ × ℕ)). (unwrap_or o (0, 0)).0) f.2 in
     let j = term_value vw value cells i in
     let s = k.memories.same m (u, 2 ^ f.0) f.2 j in
     record {
-      shows = record { value = p.value ∙ ap (λ (n : ℕ). v.cell m n) sy.shows.value ∙ s; wide = p.wide ∙ e; width = e };
+      shows = record { value = p.value ∙ ap (λ (n : ℕ). v.cell m n) sy.shows.value ∙ s; wide = p.wide ∙ e; width = p.width ∙ e };
       below = subst (λ (n : ℕ). n < 2 ^ u) s (k.memories.below m (u, 2 ^ f.0) f.2 j);
     }
 low_stands ms vars vw widths v es value cells k u (one op a) f ws h =
     let x = low ms es a ws in
-    let sx = low_stands ms vars vw widths v es value cells k f.0 a f.2 ws (gives_front widths v _ _ h) in
+    let hx = plus_front widths v x.wires (width1 op x.part.width) (One op x.part.operand) h in
+    let sx = low_stands ms vars vw widths v es value cells k f.0 a f.2 ws hx in
     let p = plus_shows widths v x.wires (width1 op x.part.width) (One op x.part.operand) h in
     let d = fine_width ms vars vw k.declared f.0 a f.2 in
     let tv = term_value vw value cells a in
     let e : width1 op x.part.width ≡ u = ap (λ (n : ℕ). width1 op n) sx.shows.width ∙ sym f.3 in
     let q : value1 op (operand_width widths x.part.operand) (operand_value v x.part.operand) ≡ value1 op (term_width vw a) tv = ap₂ (λ (n o : ℕ). value1 op n o) (sx.shows.wide ∙ sym d) sx.shows.value in
     record {
-      shows = record { value = p.value ∙ q; wide = p.wide ∙ e; width = e };
+      shows = record { value = p.value ∙ q; wide = p.wide ∙ e; width = p.width ∙ e };
       below = subst (λ (n : ℕ). value1 op (term_width vw a) tv < 2 ^ n) (sym f.3) (subst (λ (n : ℕ). value1 op n tv < 2 ^ width1 op f.0) (sym d) (value1_below op f.0 tv sx.below));
     }
 low_stands ms vars vw widths v es value cells k u (two op a b) f ws h =
@@ -228,7 +248,7 @@ low_stands ms vars vw widths v es value cells k u (choose c a b) f ws h =
     let z = low ms es c ws in
     let x = low ms es a z.wires in
     let y = low ms es b x.wires in
-    let hb = gives_front widths v y.wires _ h in
+    let hb = plus_front widths v y.wires x.part.width (Choose z.part.operand x.part.operand y.part.operand) h in
     let ha = low_front widths v ms es b x.wires hb in
     let sz = low_stands ms vars vw widths v es value cells k 1 c f.0 ws (low_front widths v ms es a z.wires ha) in
     let sx = low_stands ms vars vw widths v es value cells k u a f.1 z.wires ha in
@@ -236,13 +256,13 @@ low_stands ms vars vw widths v es value cells k u (choose c a b) f ws h =
     let p = plus_shows widths v y.wires x.part.width (Choose z.part.operand x.part.operand y.part.operand) h in
     let e1 = sz.shows.value in let e2 = sx.shows.value in let e3 = sy.shows.value in
     record {
-      shows = record { value = p.value ∙ rw (e1, e2, e3) refl; wide = p.wide ∙ sx.shows.width; width = sx.shows.width };
+      shows = record { value = p.value ∙ rw (e1, e2, e3) refl; wide = p.wide ∙ sx.shows.width; width = p.width ∙ sx.shows.width };
       below = below_both (term_value vw value cells c == 0) (term_value vw value cells b) (term_value vw value cells a) (2 ^ u) sy.below sx.below;
     }
 low_stands ms vars vw widths v es value cells k u (join a b) f ws h =
     let x = low ms es a ws in
     let y = low ms es b x.wires in
-    let hb = gives_front widths v y.wires _ h in
+    let hb = join_front widths v x.part y.part y.wires h in
     let sx = low_stands ms vars vw widths v es value cells k f.0 a f.4 ws (low_front widths v ms es b x.wires hb) in
     let sy = low_stands ms vars vw widths v es value cells k f.1 b f.5 x.wires hb in
     let d = fine_width ms vars vw k.declared f.1 b f.5 in

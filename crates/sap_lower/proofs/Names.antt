@@ -1,33 +1,26 @@
 -- The names of the netlist of a program, and the whole of its rules.
-use Rattle.std.proofs.Common.{◌≡◌, ℕ, zero, suc, ◌+◌, ◌^◌, ◌<◌, ◌≤◌, ◌&&◌, ◌||◌, List, [], ◌∷◌, ◌++◌, map, filter, take, length, Option, Some, None, Bool, true, false, not, sym, ap, ap₂, ◌∙◌, subst, refl, arith, inl, inr, append_assoc}
-use Rattle.std.specs.Prelude.{if◌then◌else◌, codes}
+use Rattle.std.proofs.Common.{◌≡◌, ℕ, ◌&&◌, ◌||◌, List, [], ◌∷◌, ◌++◌, map, filter, Some, None, Bool, true, false, not, sym, ap, ap₂, ◌∙◌, subst, refl, inl, inr}
 use Rattle.std.specs.Str.{bytes_eq}
-use Rattle.std.specs.List.{AllByRecursion}
 use Rattle.std.proofs.lemmas.Bool.{cases_Bool}
 use Rattle.sap_maps.specs.Maps.{Name}
 use Rattle.sap_maps.specs.Scope.{Scope, find}
-use Rattle.sap_maps.proofs.Scopes.{same_name, name_is, apart_back, found_here, not_behind}
-use Rattle.sap_net.specs.Names.{is_name, is_among, AreDistinct}
-use Rattle.sap_net.specs.Rules.{Shapes, IsWidth, AreWires, readable_after, IsRegister, IsMemory, AreValues}
-use Rattle.sap_net.specs.declared.parts.PortKind.TheVariants as kind
-use Rattle.sap_net.specs.declared.parts.Port.{Port}
+use Rattle.sap_maps.proofs.Scopes.{name_is, apart_back, found_here, not_behind}
+use Rattle.sap_net.specs.Names.{is_among, AreDistinct}
+use Rattle.sap_net.specs.Rules.{Shapes, AreWires}
 use Rattle.sap_net.specs.declared.parts.Input.{Input}
 use Rattle.sap_net.specs.declared.parts.Wire.{Wire}
 use Rattle.sap_net.specs.declared.parts.Register.{Register}
 use Rattle.sap_net.specs.declared.parts.Memory.{Memory}
-use Rattle.sap_net.specs.IsNetlist.{input_names, wire_names, register_names, memory_names, first_readable, readable, shapes, PortShows, is_input, IsNetlist}
 use Rattle.sap_ir.specs.declared.guarded.Var.{Var}
 use Rattle.sap_ir.specs.declared.guarded.Store.{Store}
-use Rattle.sap_ir.specs.Source.{Source}
 use Rattle.sap_ir.specs.IsGuarded as ir
 use Rattle.sap_ir.specs.IsGuarded.{variable_names, declared, IsGuarded}
-use Rattle.sap_ir.proofs.Declared.{among_append, among_front, among_behind, distinct_front, distinct_behind, apart_lists, apart_lists_back, found_first, found_second}
+use Rattle.sap_ir.proofs.Declared.{among_append, found_first}
 use Rattle.sap_lower.specs.declared.parts.Part.{Part}
 use Rattle.sap_lower.specs.declared.parts.WritePort.{WritePort}
-use Rattle.sap_lower.specs.Lowered.{out_wire, register_of, memory_of, input_of, input_port, kind_shown, port_shown, picked, unlisted, unported, registers_declared, all_wires, wire_list_names, names_declared, last_state, lowered}
-use Rattle.sap_lower.proofs.Order.{all_append}
+use Rattle.sap_lower.specs.Lowered.{out_wire, register_of, memory_of, input_of, picked, unlisted, unported, wire_list_names}
 use Rattle.sap_lower.proofs.Begins.{scope_of}
-use Rattle.sap_lower.proofs.Declares.{register_among, unported_among, filter_append, filter_none, filter_all, filter_same, each_among, among_each, distinct_both, unported_distinct, unlisted_names, picked_names}
+use Rattle.sap_lower.proofs.Declares.{register_among, unported_among, distinct_both, unported_distinct, unlisted_names, picked_names}
 
 -- names of the parts
 

@@ -1,5 +1,5 @@
 -- The netlist of a program follows the rules of netlists.
-use Rattle.std.proofs.Common.{◌≡◌, ℕ, zero, suc, ◌+◌, ◌^◌, ◌<◌, ◌≤◌, ◌==◌, ◌&&◌, ◌||◌, List, [], ◌∷◌, ◌++◌, map, filter, take, length, Option, Some, None, Bool, true, false, not, sym, ap, ap₂, ◌∙◌, subst, refl, arith, inl, inr, append_assoc}
+use Rattle.std.proofs.Common.{◌≡◌, ℕ, ◌^◌, ◌<◌, List, [], ◌∷◌, ◌++◌, map, length, Some, None, false, sym, ap, ◌∙◌, subst, refl, inl, inr, append_assoc}
 use Rattle.std.specs.Prelude.{if◌then◌else◌, unwrap_or}
 use Rattle.std.specs.Str.{bytes_eq}
 use Rattle.std.specs.List.{AllByRecursion}
@@ -7,32 +7,28 @@ use Rattle.std.proofs.Math.Pow.{pow_pos}
 use Rattle.std.proofs.lemmas.Bool.{cases_Bool}
 use Rattle.sap_maps.specs.Maps.{Name}
 use Rattle.sap_maps.specs.Scope.{Scope, find}
-use Rattle.sap_maps.proofs.Scopes.{same_name, name_is, apart_back, found_here, found_behind}
-use Rattle.sap_net.specs.Names.{is_name, is_among, AreDistinct}
-use Rattle.sap_net.specs.Rules.{Shapes, IsWidth, IsDepth, IsOperand, IsRight, AreWires, readable_after, IsRegister, IsMemory, AreValues, AreMemories}
-use Rattle.sap_net.specs.declared.parts.Operand.{Operand}
+use Rattle.sap_maps.proofs.Scopes.{name_is}
+use Rattle.sap_net.specs.Names.{is_among, AreDistinct}
+use Rattle.sap_net.specs.Rules.{IsWidth, IsDepth, IsOperand}
 use Rattle.sap_net.specs.declared.parts.Operand.TheVariants.{Named, Constant}
-use Rattle.sap_net.specs.declared.parts.Wire.{Wire}
-use Rattle.sap_net.proofs.Within.{readable_to_the_end}
 use Rattle.sap_ir.specs.declared.guarded.Var.{Var}
 use Rattle.sap_ir.specs.declared.guarded.Store.{Store}
 use Rattle.sap_ir.specs.Source.{Source, Action, set, put, Command}
 use Rattle.sap_ir.specs.Source as source
 use Rattle.sap_ir.specs.IsGuarded.{variable_names, memory_names, declared, is_helping, IsPlainVar, IsRegisterVar, IsStore, ActionFine, CommandFine, IsGuarded}
-use Rattle.sap_ir.proofs.Declared.{among_append, among_front, among_behind, not_front, not_behind_list, distinct_front, distinct_behind, apart_lists, apart_lists_back, not_found, found_among, found_first, found_second, assignable_readable}
+use Rattle.sap_ir.proofs.Declared.{not_front, not_behind_list, not_found, found_first, found_second, assignable_readable}
 use Rattle.sap_lower.specs.declared.parts.Part.{Part}
-use Rattle.sap_lower.specs.declared.parts.WritePort.{WritePort}
-use Rattle.sap_lower.specs.Lowering.{helper, nothing, present}
-use Rattle.sap_lower.specs.Commands.{State, no_port, port_of, low_commands}
-use Rattle.sap_lower.specs.Lowered.{named_entry, zero_entry, first_entries, first_port, index_bits, first_state, last_state, out_wire, register_of, memory_of, input_of, registers_declared, all_wires, lowered}
+use Rattle.sap_lower.specs.Lowering.{helper, present}
+use Rattle.sap_lower.specs.Commands.{no_port, port_of}
+use Rattle.sap_lower.specs.Lowered.{named_entry, zero_entry, first_entries, first_port, index_bits, first_state, last_state, registers_declared}
 use Rattle.sap_lower.proofs.Standing.{ActionOk, CommandOk}
 use Rattle.sap_lower.proofs.Stands.{HasEntries}
-use Rattle.sap_lower.proofs.Fits.{Fits, NoHelpers, EnvFits, operand_grows}
-use Rattle.sap_lower.proofs.CommandsFit.{AllWide, AllCellsWide, PortFits, PortsFit, StateFits, commands_fit}
-use Rattle.sap_lower.proofs.Order.{under_names, same_found, found_of, to_declared, all_append, map_all}
+use Rattle.sap_lower.proofs.Fits.{NoHelpers, EnvFits}
+use Rattle.sap_lower.proofs.CommandsFit.{AllWide, PortsFit, StateFits, commands_fit}
+use Rattle.sap_lower.proofs.Order.{same_found, found_of}
 use Rattle.sap_lower.proofs.Begins.{scope_of, shapes_list, port_at_first, first_port_found, bits_of_depth}
-use Rattle.sap_lower.proofs.Helping.{helper_is_helping, other_name}
-use Rattle.sap_lower.proofs.Declares.{among_each, each_among}
+use Rattle.sap_lower.proofs.Helping.{helper_is_helping}
+use Rattle.sap_lower.proofs.Declares.{among_each}
 
 -- what each name is at first
 

@@ -1,28 +1,26 @@
 -- One write port for a memory: its condition, index and value are merged over the writes.
-use Rattle.std.proofs.Common.{◌≡◌, ℕ, ◌+◌, ◌^◌, ◌==◌, ◌&&◌, List, [], ◌∷◌, ◌++◌, Option, Some, Bool, true, false, sym, ap, ap₂, ◌∙◌, subst, refl, inl, inr}
-use Rattle.std.specs.Prelude.{if◌then◌else◌, unwrap_or}
+use Rattle.std.proofs.Common.{◌≡◌, ℕ, ◌==◌, ◌&&◌, List, Bool, true, false, sym, ap, ◌∙◌, refl, inl, inr}
+use Rattle.std.specs.Prelude.{if◌then◌else◌}
 use Rattle.std.specs.Str.{bytes_eq}
 use Rattle.std.proofs.lemmas.Bool.{cases_Bool}
 use Rattle.std.proofs.lemmas.Bool.Decides.{Decides-eqb}
 use Rattle.sap_maps.specs.Maps.{Name, Valuation, set_value}
-use Rattle.sap_maps.specs.Scope.{Scope, find}
+use Rattle.sap_maps.specs.Scope.{Scope}
 use Rattle.sap_maps.specs.Term.{Term}
-use Rattle.sap_maps.proofs.Scopes.{same_name, name_is, apart_back}
+use Rattle.sap_maps.proofs.Scopes.{same_name, apart_back}
 use Rattle.sap_net.specs.Rules.{Shapes}
 use Rattle.sap_net.specs.Values.{operand_value}
-use Rattle.sap_net.specs.declared.parts.Operand.{Operand}
-use Rattle.sap_net.specs.declared.parts.Operand.TheVariants.{Named, Constant}
+use Rattle.sap_net.specs.declared.parts.Operand.TheVariants.{Constant}
 use Rattle.sap_net.specs.declared.parts.Right.TheVariants.{Choose}
 use Rattle.sap_net.specs.declared.parts.Wire.{Wire}
 use Rattle.sap_ir.specs.Guarded.{Going, value_in, set_cell}
 use Rattle.sap_ir.specs.IsGuarded.{TermFine}
 use Rattle.sap_lower.specs.declared.parts.Part.{Part}
 use Rattle.sap_lower.specs.declared.parts.WritePort.{WritePort}
-use Rattle.sap_lower.specs.Lowering.{Low, plus, low}
-use Rattle.sap_lower.specs.Places.{replaced}
-use Rattle.sap_lower.specs.Commands.{port_of, low_put}
-use Rattle.sap_lower.proofs.Means.{Gives, Shows, Around, gives_front, plus_shows, low_front, low_stands}
-use Rattle.sap_lower.proofs.Stands.{replaced_same, replaced_other, HasEntries}
+use Rattle.sap_lower.specs.Lowering.{plus, low}
+use Rattle.sap_lower.specs.Commands.{low_put}
+use Rattle.sap_lower.proofs.Shared.{Gives}
+use Rattle.sap_lower.proofs.Means.{Around, plus_front, plus_shows, low_front, low_stands}
 
 -- what a port says of the memory's next contents; `done`: whether it was written so far
 pub record PortIs (v : Valuation) (p : WritePort) (m : Name) (g : Going) (done : Bool) : Type 0 where
@@ -61,8 +59,15 @@ merged c d old new x e f = cc
 
 pub put_front : (widths : Name → ℕ) (v : Valuation) (ms : Shapes) (es : List (Name × Part)) (p : WritePort) (c i t : Term Name) (ws : List Wire) → Gives widths v (low_put ms es p c i t ws).wires → Gives widths v ws
 put_front widths v ms es p c i t ws h =
-    let hx = gives_front widths v _ _ (gives_front widths v _ _ (gives_front widths v _ _ h)) in
-    low_front widths v ms es c ws (low_front widths v ms es i _ (low_front widths v ms es t _ hx))
+    let z = low ms es c ws in
+    let y = low ms es i z.wires in
+    let x = low ms es t y.wires in
+    let re = Choose z.part.operand (Constant 1 1) p.enable in
+    let e = plus x.wires 1 re in
+    let rj = Choose z.part.operand y.part.operand p.index in
+    let j = plus e.wires p.bits rj in
+    let he = plus_front widths v e.wires p.bits rj (plus_front widths v j.wires p.width (Choose z.part.operand x.part.operand p.value) h) in
+    low_front widths v ms es c ws (low_front widths v ms es i z.wires (low_front widths v ms es t y.wires (plus_front widths v x.wires 1 re he)))
 
 pub put_is : (ms : Shapes) (vars : Scope) (vw widths : Name → ℕ) (v : Valuation) (es : List (Name × Part)) (g : Going) → Around ms vars vw widths v es g.now.value g.now.cell → (p : WritePort) (m : Name) (done : Bool) → PortIs v p m g done → (c i t : Term Name) (b w : ℕ) → TermFine ms vars 1 c → TermFine ms vars b i → TermFine ms vars w t → ((value_in vw g c == 0) ≡ false → done ≡ false) → (ws : List Wire) → Gives widths v (low_put ms es p c i t ws).wires
     → PortIs v (low_put ms es p c i t ws).port m (if value_in vw g c == 0 then g else record { now = g.now; next = set_cell g.next m (value_in vw g i) (value_in vw g t) }) (if value_in vw g c == 0 then done else true)
@@ -73,9 +78,9 @@ put_is ms vars vw widths v es g k p m done is c i t b w fc fi ft once ws h =
     let e = plus x.wires 1 (Choose z.part.operand (Constant 1 1) p.enable) in
     let j = plus e.wires p.bits (Choose z.part.operand y.part.operand p.index) in
     let l = plus j.wires p.width (Choose z.part.operand x.part.operand p.value) in
-    let hj = gives_front widths v j.wires _ h in
-    let he = gives_front widths v e.wires _ hj in
-    let hx = gives_front widths v x.wires _ he in
+    let hj = plus_front widths v j.wires p.width (Choose z.part.operand x.part.operand p.value) h in
+    let he = plus_front widths v e.wires p.bits (Choose z.part.operand y.part.operand p.index) hj in
+    let hx = plus_front widths v x.wires 1 (Choose z.part.operand (Constant 1 1) p.enable) he in
     let hy = low_front widths v ms es t y.wires hx in
     let hz = low_front widths v ms es i z.wires hy in
     let sz = low_stands ms vars vw widths v es g.now.value g.now.cell k 1 c fc ws hz in

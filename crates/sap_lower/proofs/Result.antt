@@ -1,38 +1,15 @@
 -- All rules of netlists, for the netlist of a program.
-use Rattle.std.proofs.Common.{◌≡◌, ℕ, zero, suc, ◌+◌, ◌^◌, ◌<◌, ◌≤◌, ◌&&◌, ◌||◌, List, [], ◌∷◌, ◌++◌, map, filter, take, length, Option, Some, None, Bool, true, false, not, sym, ap, ap₂, ◌∙◌, subst, refl, arith, inl, inr, append_assoc}
-use Rattle.std.specs.Prelude.{if◌then◌else◌, codes}
-use Rattle.std.specs.Str.{bytes_eq}
-use Rattle.std.specs.List.{AllByRecursion}
+use Rattle.std.proofs.Common.{◌≡◌, ◌&&◌, ◌||◌, List, [], ◌∷◌, ◌++◌, map, filter, take, length, Bool, true, false, not, sym, ap, ap₂, ◌∙◌, refl, inl, inr}
 use Rattle.std.proofs.lemmas.Bool.{cases_Bool}
 use Rattle.sap_maps.specs.Maps.{Name}
-use Rattle.sap_maps.specs.Scope.{Scope, find}
-use Rattle.sap_net.specs.Names.{is_name, is_among, AreDistinct}
-use Rattle.sap_net.specs.Rules.{Shapes, IsWidth, AreWires, readable_after, IsRegister, IsMemory, AreValues, AreMemories}
-use Rattle.sap_net.specs.declared.parts.PortKind.TheVariants as kind
+use Rattle.sap_net.specs.Names.{is_among, AreDistinct}
 use Rattle.sap_net.specs.declared.parts.Port.{Port}
-use Rattle.sap_net.specs.declared.parts.Input.{Input}
-use Rattle.sap_net.specs.declared.parts.Wire.{Wire}
-use Rattle.sap_net.specs.declared.parts.Register.{Register}
-use Rattle.sap_net.specs.declared.parts.Memory.{Memory}
-use Rattle.sap_net.specs.IsNetlist.{input_names, wire_names, register_names, memory_names, first_readable, readable, shapes, PortShows, is_input, IsNetlist}
+use Rattle.sap_net.specs.IsNetlist.{is_input}
 use Rattle.sap_ir.specs.declared.guarded.Var.{Var}
-use Rattle.sap_ir.specs.declared.guarded.Store.{Store}
-use Rattle.sap_ir.specs.Source.{Source}
-use Rattle.sap_ir.specs.Source as source
-use Rattle.sap_ir.specs.IsGuarded as ir
-use Rattle.sap_ir.specs.IsGuarded.{variable_names, declared, IsGuarded, IsRegisterVar, IsStore}
-use Rattle.sap_ir.proofs.Declared.{among_append, among_front, among_behind, distinct_front, distinct_behind, apart_lists, apart_lists_back, not_found}
-use Rattle.sap_lower.specs.declared.parts.Part.{Part}
-use Rattle.sap_lower.specs.declared.parts.WritePort.{WritePort}
-use Rattle.sap_lower.specs.Lowered.{out_wire, register_of, memory_of, input_of, input_port, kind_shown, port_shown, picked, unlisted, unported, registers_declared, all_wires, wire_list_names, names_declared, last_state, lowered}
-use Rattle.sap_lower.proofs.CommandsFit.{StateFits}
-use Rattle.sap_lower.proofs.Order.{all_append, to_declared, map_all}
-use Rattle.sap_lower.proofs.Begins.{scope_of}
-use Rattle.sap_lower.proofs.Declares.{register_among, unported_among, filter_append, filter_none, filter_all, filter_same, each_among, among_each, distinct_both, unported_distinct}
-use Rattle.sap_lower.proofs.Netlist.{first_scope, last_fits}
-use Rattle.sap_lower.proofs.Rules.{first_readable_is, shapes_are}
-use Rattle.sap_lower.proofs.Names.{inputs_named, registers_named, memories_named, outs_named, declared_named, declared_among, declared_distinct, wires_new, wires_distinct, new_to_first, new_to_second}
-use Rattle.sap_lower.proofs.Whole.{last_short, wires_are, registers_found, nexts_are, writes_are, grows_to_all, stores_found, values_are, memories_are, plain_wide, register_wide}
+use Rattle.sap_ir.specs.IsGuarded.{variable_names}
+use Rattle.sap_ir.proofs.Declared.{among_append}
+use Rattle.sap_lower.specs.Lowered.{input_port, port_shown, unported}
+use Rattle.sap_lower.proofs.Declares.{unported_among, filter_append, filter_none, filter_all, each_among, distinct_both, unported_distinct}
 
 -- What is known of the names: the inputs I, registers R, wires W and memories M of a program, its ports P, and all wires A of its netlist.
 pub record Kinds (I R W M P A : List Name) : Type 0 where

@@ -1,5 +1,5 @@
 -- After all assignments and writes each name and each memory has its number.
-use Rattle.std.proofs.Common.{◌≡◌, ℕ, ◌+◌, ◌^◌, ◌==◌, ◌&&◌, ◌||◌, List, [], ◌∷◌, ◌++◌, Option, Some, Bool, true, false, sym, ap, ◌∙◌, subst, refl, inl, inr}
+use Rattle.std.proofs.Common.{◌≡◌, ℕ, ◌^◌, ◌==◌, ◌||◌, List, [], ◌∷◌, Some, Bool, true, false, sym, ap, subst, refl, inl, inr}
 use Rattle.std.specs.Prelude.{if◌then◌else◌, unwrap_or}
 use Rattle.std.specs.Str.{bytes_eq}
 use Rattle.std.specs.List.{AllByRecursion}
@@ -10,17 +10,15 @@ use Rattle.sap_maps.specs.Term.{Term}
 use Rattle.sap_maps.proofs.Scopes.{same_name, name_is, apart_back}
 use Rattle.sap_net.specs.Names.{is_among, AreDistinct}
 use Rattle.sap_net.specs.Rules.{Shapes, IsWidth}
-use Rattle.sap_net.specs.declared.parts.Wire.{Wire}
 use Rattle.sap_ir.specs.Source.{Action, set, put, Command}
 use Rattle.sap_ir.specs.Guarded.{Going, value_in, set_cell, after_action, after_command, after}
 use Rattle.sap_ir.specs.IsGuarded.{TermFine}
 use Rattle.sap_ir.specs.Writes.{with_memory, memories_written}
-use Rattle.sap_lower.specs.declared.parts.Part.{Part}
 use Rattle.sap_lower.specs.declared.parts.WritePort.{WritePort}
-use Rattle.sap_lower.specs.Lowering.{present, low}
 use Rattle.sap_lower.specs.Places.{replaced}
 use Rattle.sap_lower.specs.Commands.{State, no_port, port_of, low_set, low_put, low_action, low_command, low_commands}
-use Rattle.sap_lower.proofs.Means.{Gives, Stands, Env, SameCells, Around}
+use Rattle.sap_lower.proofs.Shared.{Gives}
+use Rattle.sap_lower.proofs.Means.{SameCells, Around}
 use Rattle.sap_lower.proofs.Stands.{HasEntries, replaced_same, replaced_other, replaced_has, set_front, set_stands}
 use Rattle.sap_lower.proofs.Ports.{PortIs, now_of, put_front, put_is, other_is, set_is}
 

@@ -1,25 +1,22 @@
 -- After the assignments each name's operand has its value.
-use Rattle.std.proofs.Common.{◌≡◌, ℕ, ◌+◌, ◌<◌, ◌^◌, ◌==◌, List, [], ◌∷◌, ◌++◌, Option, Some, None, Bool, true, false, sym, ap, ◌∙◌, subst, refl, inl, inr}
+use Rattle.std.proofs.Common.{◌≡◌, ℕ, ◌^◌, ◌==◌, List, [], ◌∷◌, Some, Bool, true, false, sym, ap, ◌∙◌, subst, refl, inl, inr}
 use Rattle.std.specs.Prelude.{if◌then◌else◌, unwrap_or}
 use Rattle.std.specs.Str.{bytes_eq}
 use Rattle.std.proofs.lemmas.Bool.{cases_Bool}
 use Rattle.sap_maps.specs.Maps.{Name, Valuation, set_value}
 use Rattle.sap_maps.specs.Scope.{Scope, find}
-use Rattle.sap_maps.specs.Term.{Term, term_value}
+use Rattle.sap_maps.specs.Term.{Term}
 use Rattle.sap_maps.proofs.Scopes.{same_name, name_is, apart_back}
 use Rattle.sap_maps.proofs.Terms.{below_both}
 use Rattle.sap_net.specs.Rules.{Shapes}
-use Rattle.sap_net.specs.Values.{operand_value}
 use Rattle.sap_net.specs.declared.parts.Right.TheVariants.{Choose}
-use Rattle.sap_net.specs.declared.parts.Wire.{Wire}
-use Rattle.sap_ir.specs.Source.{Action, set, put, Command}
 use Rattle.sap_ir.specs.Guarded.{Going, value_in}
 use Rattle.sap_ir.specs.IsGuarded.{TermFine}
-use Rattle.sap_lower.specs.declared.parts.Part.{Part}
-use Rattle.sap_lower.specs.Lowering.{nothing, present, Low, plus, low}
+use Rattle.sap_lower.specs.Lowering.{nothing, present, low}
 use Rattle.sap_lower.specs.Places.{replaced}
 use Rattle.sap_lower.specs.Commands.{State, low_set}
-use Rattle.sap_lower.proofs.Means.{Gives, Shows, Stands, Env, Around, gives_front, plus_shows, low_front, low_stands}
+use Rattle.sap_lower.proofs.Shared.{Gives}
+use Rattle.sap_lower.proofs.Means.{Stands, Env, Around, plus_front, plus_shows, low_front, low_stands}
 
 -- entries
 
@@ -63,7 +60,12 @@ set_at_same false g n a = rw (same_name n) refl
 
 pub set_front : (widths : Name → ℕ) (v : Valuation) (ms : Shapes) (s : State) (c : Term Name) (n : Name) (t : Term Name) → Gives widths v (low_set ms s c n t).wires → Gives widths v s.wires
 set_front widths v ms s c n t h =
-    low_front widths v ms s.entries c s.wires (low_front widths v ms s.entries t _ (gives_front widths v _ _ h))
+    let es = s.entries in
+    let z = low ms es c s.wires in
+    let x = low ms es t z.wires in
+    let old = present es n in
+    let hx = plus_front widths v x.wires old.width (Choose z.part.operand x.part.operand old.operand) h in
+    low_front widths v ms es c s.wires (low_front widths v ms es t z.wires hx)
 
 -- one assignment: what the name stands for, and the others as before
 set_here : (ms : Shapes) (vars : Scope) (vw widths : Name → ℕ) (v : Valuation) (s : State) (g : Going) → Around ms vars vw widths v s.entries g.now.value g.now.cell → (c : Term Name) (n : Name) (t : Term Name) (u : ℕ) → find vars n ≡ Some u → TermFine ms vars 1 c → TermFine ms vars u t → Gives widths v (low_set ms s c n t).wires → Stands widths v (low_set ms s c n t).part u (if value_in vw g c == 0 then g.now.value n else value_in vw g t)
@@ -72,14 +74,14 @@ set_here ms vars vw widths v s g k c n t u found fc ft h =
     let z = low ms es c s.wires in
     let x = low ms es t z.wires in
     let old = present es n in
-    let hx = gives_front widths v x.wires _ h in
+    let hx = plus_front widths v x.wires old.width (Choose z.part.operand x.part.operand old.operand) h in
     let sz = low_stands ms vars vw widths v es g.now.value g.now.cell k 1 c fc s.wires (low_front widths v ms es t z.wires hx) in
     let sx = low_stands ms vars vw widths v es g.now.value g.now.cell k u t ft z.wires hx in
     let so = k.env n u found in
     let p = plus_shows widths v x.wires old.width (Choose z.part.operand x.part.operand old.operand) h in
     let e1 = sz.shows.value in let e2 = sx.shows.value in let e3 = so.shows.value in
     record {
-      shows = record { value = p.value ∙ rw (e1, e2, e3) refl; wide = p.wide ∙ so.shows.width; width = so.shows.width };
+      shows = record { value = p.value ∙ rw (e1, e2, e3) refl; wide = p.wide ∙ so.shows.width; width = p.width ∙ so.shows.width };
       below = below_both (value_in vw g c == 0) (g.now.value n) (value_in vw g t) (2 ^ u) so.below sx.below;
     }
 

@@ -1,12 +1,11 @@
 -- One command more.
-use Rattle.std.proofs.Common.{◌≡◌, ℕ, suc, ◌+◌, ◌<◌, List, [], ◌∷◌, map, length, drop, get_or, sym, ap, ◌∙◌, refl, add-one, drop-cons}
+use Rattle.std.proofs.Common.{◌≡◌, ℕ, suc, ◌+◌, ◌<◌, List, ◌∷◌, length, drop, get_or, sym, ap, ◌∙◌, refl, add-one, drop-cons}
 use Rattle.sap_maps.specs.Maps.{Name}
 use Rattle.sap_net.specs.Rules.{Shapes}
 use Rattle.sap_net.specs.declared.parts.Wire.{Wire}
 use Rattle.sap_ir.specs.declared.guarded.GuardedCmd.{GuardedCmd}
 use Rattle.sap_ir.specs.Calcs.{command_of, commands_of}
 use Rattle.sap_ir.specs.Source.{Command, Action, set, put}
-use Rattle.sap_ir.specs.Calcs.{term_of, action_of}
 use Rattle.sap_lower.specs.declared.parts.Part.{Part}
 use Rattle.sap_lower.specs.declared.parts.WritePort.{WritePort}
 use Rattle.sap_lower.specs.Commands.{State, low_action, low_command, low_commands}

@@ -1,40 +1,32 @@
 -- The netlist of a program is a netlist, and declares what the program declares.
-use Rattle.std.proofs.Common.{◌≡◌, ℕ, zero, suc, ◌+◌, ◌^◌, ◌<◌, ◌≤◌, ◌==◌, ◌&&◌, ◌||◌, List, [], ◌∷◌, ◌++◌, map, filter, take, length, Option, Some, None, Bool, true, false, not, sym, ap, ap₂, ◌∙◌, subst, refl, arith, inl, inr, append_assoc}
-use Rattle.std.specs.Prelude.{if◌then◌else◌, unwrap_or, codes}
+use Rattle.std.proofs.Common.{◌≡◌, ℕ, ◌^◌, ◌<◌, ◌≤◌, List, [], ◌∷◌, ◌++◌, map, length, Some, None, true, false, sym, ◌∙◌, subst, refl, arith, inl, inr}
 use Rattle.std.specs.Str.{bytes_eq}
 use Rattle.std.specs.List.{AllByRecursion}
 use Rattle.std.proofs.lemmas.Bool.{cases_Bool}
 use Rattle.sap_maps.specs.Maps.{Name}
 use Rattle.sap_maps.specs.Scope.{Scope, find}
-use Rattle.sap_maps.proofs.Scopes.{same_name, name_is, found_here, found_behind}
-use Rattle.sap_net.specs.Names.{is_name, is_among, AreDistinct}
-use Rattle.sap_net.specs.Rules.{Shapes, IsWidth, IsDepth, IsOperand, AreWires, readable_after, IsRegister, IsMemory, AreValues, AreMemories}
-use Rattle.sap_net.specs.declared.parts.PortKind.TheVariants as kind
-use Rattle.sap_net.specs.declared.parts.Port.{Port}
-use Rattle.sap_net.specs.declared.parts.Input.{Input}
+use Rattle.sap_maps.proofs.Scopes.{found_here}
+use Rattle.sap_net.specs.Names.{is_among, AreDistinct}
+use Rattle.sap_net.specs.Rules.{Shapes, IsWidth, IsOperand, AreWires, readable_after, IsRegister, IsMemory, AreValues, AreMemories}
 use Rattle.sap_net.specs.declared.parts.Wire.{Wire}
-use Rattle.sap_net.specs.declared.parts.Register.{Register}
-use Rattle.sap_net.specs.declared.parts.Memory.{Memory}
-use Rattle.sap_net.specs.IsNetlist.{first_readable, readable, shapes, PortShows, is_input, IsNetlist}
 use Rattle.sap_net.proofs.Within.{readable_to_the_end}
 use Rattle.sap_ir.specs.declared.guarded.Var.{Var}
 use Rattle.sap_ir.specs.declared.guarded.Store.{Store}
 use Rattle.sap_ir.specs.Source.{Source}
 use Rattle.sap_ir.specs.Source as source
 use Rattle.sap_ir.specs.IsGuarded.{variable_names, memory_names, declared, is_helping, IsPlainVar, IsRegisterVar, IsStore, IsGuarded}
-use Rattle.sap_ir.proofs.Declared.{among_append, among_front, among_behind, distinct_front, distinct_behind, apart_lists, apart_lists_back, not_found, found_among, found_first, found_second}
+use Rattle.sap_ir.proofs.Declared.{among_front, among_behind, distinct_front, distinct_behind, apart_lists, not_found, found_first, found_second}
 use Rattle.sap_lower.specs.declared.parts.Part.{Part}
 use Rattle.sap_lower.specs.declared.parts.WritePort.{WritePort}
-use Rattle.sap_lower.specs.Lowering.{helper, present}
+use Rattle.sap_lower.specs.Lowering.{present}
 use Rattle.sap_lower.specs.Commands.{port_of}
-use Rattle.sap_lower.specs.Lowered.{out_wire, register_of, memory_of, input_of, input_port, kind_shown, port_shown, picked, unlisted, unported, registers_declared, all_wires, wire_list_names, last_state, lowered}
-use Rattle.sap_lower.proofs.Fits.{EnvFits, Grows, operand_grows, env_grows}
-use Rattle.sap_lower.proofs.CommandsFit.{PortFits, PortsFit, StateFits}
-use Rattle.sap_lower.proofs.Order.{from_declared, to_declared, all_append, all_map, map_all}
+use Rattle.sap_lower.specs.Lowered.{out_wire, register_of, memory_of, all_wires, last_state}
+use Rattle.sap_lower.proofs.Fits.{EnvFits, Grows, operand_grows}
+use Rattle.sap_lower.proofs.CommandsFit.{PortsFit, StateFits}
 use Rattle.sap_lower.proofs.Begins.{scope_of, shapes_list}
-use Rattle.sap_lower.proofs.Declares.{unported_among, filter_append, filter_none, filter_all, filter_same, each_among, among_each, distinct_both, unported_distinct, unlisted_names, picked_names}
-use Rattle.sap_lower.proofs.Netlist.{first_scope, first_found, last_fits}
-use Rattle.sap_lower.proofs.Rules.{first_readable_is, shapes_are, wires_append, readable_append, outs_fit, wire_among, each_variable, kind_found, found_mapped}
+use Rattle.sap_lower.proofs.Declares.{among_each}
+use Rattle.sap_lower.proofs.Netlist.{first_scope, first_found}
+use Rattle.sap_lower.proofs.Rules.{wires_append, readable_append, outs_fit, wire_among, each_variable, kind_found}
 
 long_front : (ws vs : List Wire) → length ws ≤ length (ws ++ vs)
 long_front [] vs = omega arith

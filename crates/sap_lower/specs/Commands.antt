@@ -1,11 +1,11 @@
 -- The wires that assignments become, and what each name stands for after them.
-use Rattle.std.specs.Prelude.{ℕ, List, [], ◌∷◌, unwrap_or}
+use Rattle.std.specs.Prelude.{List, [], ◌∷◌, unwrap_or}
 use Rattle.sap_maps.specs.Maps.{Name}
 use Rattle.sap_maps.specs.Scope.{find}
 use Rattle.sap_maps.specs.Term.{Term}
 use Rattle.sap_net.specs.Rules.{Shapes}
 use Rattle.sap_net.specs.declared.parts.Operand.{Operand}
-use Rattle.sap_net.specs.declared.parts.Operand.TheVariants.{Named, Constant}
+use Rattle.sap_net.specs.declared.parts.Operand.TheVariants.{Constant}
 use Rattle.sap_net.specs.declared.parts.Right.TheVariants.{Choose}
 use Rattle.sap_net.specs.declared.parts.Wire.{Wire}
 use Rattle.sap_ir.specs.Source.{Action, set, put, Command}

@@ -1,3 +1,4 @@
+pub mod Keys
 pub mod Lowering
 pub mod Parts
 pub mod Places
@@ -6,3 +7,4 @@ pub mod Lookup
 pub mod Commands
 pub mod Lowered
 pub mod Same
+pub mod Rights

@@ -1,5 +1,5 @@
 -- The wires that an expression becomes.
-use Rattle.std.specs.Prelude.{ℕ, ◌+◌, ◌-◌, ◌%◌, ◌==◌, nat_le, nat_lt, ◌||◌, Bool, true, false, List, [], ◌∷◌, ◌++◌, length, Option, Some, None, unwrap_or, if◌then◌else◌}
+use Rattle.std.specs.Prelude.{ℕ, ◌+◌, ◌-◌, ◌%◌, nat_le, nat_lt, ◌||◌, Bool, false, List, [], ◌∷◌, ◌++◌, length, map, Option, Some, None, unwrap_or, if◌then◌else◌}
 use Rattle.std.specs.Fmt.{decimal}
 use Rattle.sap_bits.specs.Arithmetic.{width1, width2, slice_of}
 use Rattle.sap_bits.specs.declared.Op2.{Op2}
@@ -14,6 +14,7 @@ use Rattle.sap_net.specs.declared.parts.Right.{Right}
 use Rattle.sap_net.specs.declared.parts.Right.TheVariants.{One, Two, Choose, Concat, Slice, Cell}
 use Rattle.sap_net.specs.declared.parts.Wire.{Wire}
 use Rattle.sap_lower.specs.declared.parts.Part.{Part}
+use Rattle.sap_lower.specs.Keys.{key}
 
 -- the name of a helping wire: an n and its number
 unfoldable pub helper : ℕ → Name
@@ -31,13 +32,22 @@ pub record Low : Type 0 where
   pub wires : List Wire
   pub part : Part
 
--- one more wire
-abbrev pub plus : List Wire → (width : ℕ) → Right → Low
-plus ws w r =
+-- the right sides so far, each with the name of its wire
+abbrev pub rights : List Wire → List (Name × Name)
+rights ws = map (λ w. (key w.width w.right, w.name)) ws
+
+-- a wire that is there, or one more wire
+abbrev pub shared : Option Name → List Wire → (width : ℕ) → Right → Low
+shared (Some n) ws w r = record { wires = ws; part = record { operand = Named n; width = w } }
+shared None ws w r =
     record {
       wires = ws ++ record { name = helper (length ws); width = w; right = r } ∷ [];
       part = record { operand = Named (helper (length ws)); width = w };
     }
+
+-- the wire of this width and right side
+abbrev pub plus : List Wire → (width : ℕ) → Right → Low
+plus ws w r = shared (find (rights ws) (key w r)) ws w r
 
 -- a shift by a constant that leaves nothing
 abbrev pub is_past : (width : ℕ) → Operand → Bool

@@ -1,5 +1,5 @@
 -- Where a name stands on a list.
-use Rattle.std.specs.Prelude.{ℕ, suc, ◌+◌, zero, List, [], ◌∷◌, Option, Some, None, if◌then◌else◌, bytes_eq}
+use Rattle.std.specs.Prelude.{ℕ, suc, zero, List, [], ◌∷◌, Option, Some, None, if◌then◌else◌, bytes_eq}
 use Rattle.sap_maps.specs.Maps.{Name}
 
 abbrev pub one_further : Option ℕ → Option ℕ

@@ -1,5 +1,5 @@
 -- What the netlist of a flat program declares, and whose numbers its runs have.
-use Rattle.std.specs.Prelude.{◌≡◌, ℕ, List, [], ◌∷◌, ◌++◌, map, Some, codes, if◌then◌else◌}
+use Rattle.std.specs.Prelude.{◌≡◌, ℕ, List, [], ◌∷◌, ◌++◌, map, filter, not, Some, codes, if◌then◌else◌}
 use Rattle.std.specs.List.{AllByRecursion}
 use Rattle.sap_maps.specs.Maps.{Name, Valuation}
 use Rattle.sap_maps.specs.Scope.{find}
@@ -9,6 +9,7 @@ use Rattle.sap_net.specs.Runs.{IsRun, AllFit, observed}
 use Rattle.sap_net.specs.declared.parts.PortKind.TheVariants as kind
 use Rattle.sap_net.specs.declared.parts.Port.{Port}
 use Rattle.sap_net.specs.declared.parts.Input.{Input}
+use Rattle.sap_net.specs.declared.parts.Wire.{Wire}
 use Rattle.sap_ir.specs.declared.guarded.Var.{Var}
 use Rattle.sap_ir.specs.Source.{Source}
 use Rattle.sap_ir.specs.Guarded.{guarded_run}
@@ -51,3 +52,19 @@ AllSame s n (v ∷ vs) (e ∷ es) = SameNumbers s n v e × AllSame s n vs es
 -- On all inputs that fit, each run of the netlist has the numbers of the source's run.
 abbrev pub RunsAlike : Source → Net → Type 0
 RunsAlike s n = (xss : List (List ℕ)) (vs : List Valuation) → AllFit n.inputs xss → IsRun n xss vs → AllSame s n vs (guarded_run s xss)
+
+-- Each wire differs from all behind it in its width or its right side.
+abbrev pub DifferFrom : Wire → List Wire → Type 0
+DifferFrom w ws = AllByRecursion (λ x. x.width ≡ w.width → x.right ≡ w.right → ⊥) ws
+
+abbrev pub AllDiffer : List Wire → Type 0
+AllDiffer [] = Unit {0}
+AllDiffer (w ∷ ws) = DifferFrom w ws × AllDiffer ws
+
+-- the wires that are none of the source's
+abbrev pub helping : Source → List Wire → List Wire
+helping s ws = filter (λ w. not (is_among w.name (variable_names s.wires))) ws
+
+-- No two helping wires have the same width and the same right side.
+abbrev pub SharesWires : Source → Net → Type 0
+SharesWires s n = AllDiffer (helping s n.wires)

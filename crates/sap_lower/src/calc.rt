@@ -9,11 +9,12 @@ ghost use Rattle.sap_lower.specs.Parts.{glued, low_all};
 ghost use Rattle.sap_lower.specs.Places.{names_of};
 ghost use Rattle.sap_lower.specs.Lookup.{shapes_of};
 
-use crate::parts::{Part, emit};
+use crate::parts::Part;
 use crate::places::place;
+use crate::wires::Wires;
 use sap_bits::{Op1, Op2, slice};
 use sap_ir::guarded::{Calc, Store};
-use sap_net::parts::{Name, Operand, Operands, Right, Wire};
+use sap_net::parts::{Name, Operand, Operands, Right};
 use std::alloc::{AllocError, Global};
 use std::collections::HashMap;
 
@@ -84,13 +85,13 @@ fn is_shift_past(op: Op2, width: u32, count: &Operand) -> bool
 
 fn lower_two(
     alloc: Global,
-    wires: &mut Vec<Wire>,
+    wires: &mut Wires,
     op: Op2,
     a: Part,
     b: Part,
 ) -> Result<Part, AllocError>
-    ensures wires { OnOk result (wires.new.items ≡ (low_two op a b wires.old.items).wires) }
-    ensures part { IfOk result (λ p. p ≡ (low_two op a b wires.old.items).part) }
+    ensures wires { OnOk result (wires.new ≡ (low_two op a b wires.old).wires) }
+    ensures part { IfOk result (λ p. p ≡ (low_two op a b wires.old).part) }
 {
     if is_shift_past(op, a.width, &b.operand) {
         return Ok(Part {
@@ -101,9 +102,8 @@ fn lower_two(
             width: a.width,
         });
     }
-    emit(
+    wires.add(
         alloc,
-        wires,
         width_two(op, a.width),
         Right::Two(op, a.operand, b.operand),
     )
@@ -111,20 +111,20 @@ fn lower_two(
 
 fn lower_slice(
     alloc: Global,
-    wires: &mut Vec<Wire>,
+    wires: &mut Wires,
     of: Operand,
     hi: u32,
     lo: u32,
 ) -> Result<Part, AllocError>
-    ensures wires { OnOk result (wires.new.items ≡ (low_slice of hi lo wires.old.items).wires) }
-    ensures part { IfOk result (λ p. p ≡ (low_slice of hi lo wires.old.items).part) }
+    ensures wires { OnOk result (wires.new ≡ (low_slice of hi lo wires.old).wires) }
+    ensures part { IfOk result (λ p. p ≡ (low_slice of hi lo wires.old).part) }
 {
     if hi < lo || 63 < hi {
         return Ok(nothing_yet());
     }
     let width = hi + 1 - lo;
     match of {
-        Operand::Named(name) => emit(alloc, wires, width, Right::Slice { name, hi, lo }),
+        Operand::Named(name) => wires.add(alloc, width, Right::Slice { name, hi, lo }),
         Operand::Constant { value, .. } => Ok(Part {
             operand: Operand::Constant {
                 width,
@@ -136,19 +136,19 @@ fn lower_slice(
 }
 
 /// The first in front of the second. Widths are at most 64 in all.
-fn lower_join(alloc: Global, wires: &mut Vec<Wire>, a: Part, b: Part) -> Result<Part, AllocError>
-    ensures wires { OnOk result (wires.new.items ≡ (low_join a b wires.old.items).wires) }
-    ensures part { IfOk result (λ p. p ≡ (low_join a b wires.old.items).part) }
+fn lower_join(alloc: Global, wires: &mut Wires, a: Part, b: Part) -> Result<Part, AllocError>
+    ensures wires { OnOk result (wires.new ≡ (low_join a b wires.old).wires) }
+    ensures part { IfOk result (λ p. p ≡ (low_join a b wires.old).part) }
 {
     let width = a.width.wrapping_add(b.width);
     let operands = vec![in alloc; a.operand, b.operand]?;
-    emit(alloc, wires, width, Right::Concat(Operands::new(operands)))
+    wires.add(alloc, width, Right::Concat(Operands::new(operands)))
 }
 
 /// The parts one behind another.
-fn glue(alloc: Global, wires: &mut Vec<Wire>, parts: Vec<Part>) -> Result<Part, AllocError>
-    ensures wires { OnOk result (wires.new.items ≡ (glued wires.old.items parts.items).wires) }
-    ensures part { IfOk result (λ p. p ≡ (glued wires.old.items parts.items).part) }
+fn glue(alloc: Global, wires: &mut Wires, parts: Vec<Part>) -> Result<Part, AllocError>
+    ensures wires { OnOk result (wires.new ≡ (glued wires.old parts.items).wires) }
+    ensures part { IfOk result (λ p. p ≡ (glued wires.old parts.items).part) }
 {
     let mut front = parts;
     let Some(last) = front.pop() else {
@@ -165,7 +165,7 @@ fn glue(alloc: Global, wires: &mut Vec<Wire>, parts: Vec<Part>) -> Result<Part, 
 #[cycle(lower)]
 pub fn lower_calc(
     alloc: Global,
-    wires: &mut Vec<Wire>,
+    wires: &mut Wires,
     places: &HashMap<Vec<u8>, usize>,
     entries: &[(Name, Part)],
     store_places: &HashMap<Vec<u8>, usize>,
@@ -174,8 +174,8 @@ pub fn lower_calc(
 ) -> Result<Part, AllocError>
     requires places { Indexes places.now (names_of entries.now) }
     requires stores { Indexes store_places.now (map (λ m. m.name) stores.now) }
-    ensures wires { OnOk result (wires.new.items ≡ (low (shapes_of stores.now) entries.now (term_of calc.now) wires.old.items).wires) }
-    ensures part { IfOk result (λ p. p ≡ (low (shapes_of stores.now) entries.now (term_of calc.now) wires.old.items).part) }
+    ensures wires { OnOk result (wires.new ≡ (low (shapes_of stores.now) entries.now (term_of calc.now) wires.old).wires) }
+    ensures part { IfOk result (λ p. p ≡ (low (shapes_of stores.now) entries.now (term_of calc.now) wires.old).part) }
 {
     match calc {
         Calc::Constant { width, value } => Ok(Part {
@@ -190,9 +190,8 @@ pub fn lower_calc(
             let index = lower_calc(alloc, wires, places, entries, store_places, stores, index)?;
             let width = width_of_cells(store_places, stores, memory);
             let memory = memory.copy(alloc)?;
-            emit(
+            wires.add(
                 alloc,
-                wires,
                 width,
                 Right::Cell {
                     memory,
@@ -202,12 +201,7 @@ pub fn lower_calc(
         }
         Calc::One(op, a) => {
             let a = lower_calc(alloc, wires, places, entries, store_places, stores, a)?;
-            emit(
-                alloc,
-                wires,
-                width_one(*op, a.width),
-                Right::One(*op, a.operand),
-            )
+            wires.add(alloc, width_one(*op, a.width), Right::One(*op, a.operand))
         }
         Calc::Two(op, a, b) => {
             let a = lower_calc(alloc, wires, places, entries, store_places, stores, a)?;
@@ -218,9 +212,8 @@ pub fn lower_calc(
             let c = lower_calc(alloc, wires, places, entries, store_places, stores, c)?;
             let a = lower_calc(alloc, wires, places, entries, store_places, stores, a)?;
             let b = lower_calc(alloc, wires, places, entries, store_places, stores, b)?;
-            emit(
+            wires.add(
                 alloc,
-                wires,
                 a.width,
                 Right::Choose(c.operand, a.operand, b.operand),
             )
@@ -240,7 +233,7 @@ pub fn lower_calc(
 #[cycle(lower)]
 fn lower_all(
     alloc: Global,
-    wires: &mut Vec<Wire>,
+    wires: &mut Wires,
     places: &HashMap<Vec<u8>, usize>,
     entries: &[(Name, Part)],
     store_places: &HashMap<Vec<u8>, usize>,
@@ -249,8 +242,8 @@ fn lower_all(
 ) -> Result<Vec<Part>, AllocError>
     requires places { Indexes places.now (names_of entries.now) }
     requires stores { Indexes store_places.now (map (λ m. m.name) stores.now) }
-    ensures wires { OnOk result (wires.new.items ≡ (low_all (shapes_of stores.now) entries.now (map term_of calcs.now) wires.old.items).wires) }
-    ensures parts { IfOk result (λ ps. ps.items ≡ (low_all (shapes_of stores.now) entries.now (map term_of calcs.now) wires.old.items).parts) }
+    ensures wires { OnOk result (wires.new ≡ (low_all (shapes_of stores.now) entries.now (map term_of calcs.now) wires.old).wires) }
+    ensures parts { IfOk result (λ ps. ps.items ≡ (low_all (shapes_of stores.now) entries.now (map term_of calcs.now) wires.old).parts) }
 {
     let mut parts = Vec::new(alloc);
     for calc in calcs {

@@ -8,10 +8,11 @@ ghost use Rattle.sap_lower.specs.Lookup.{shapes_of};
 ghost use Rattle.sap_lower.specs.Places.{names_of, replaced};
 
 use crate::calc::{lower_calc, present_part};
-use crate::parts::{Part, WritePort, emit};
+use crate::parts::{Part, WritePort};
 use crate::places::place;
+use crate::wires::Wires;
 use sap_ir::guarded::{Act, Calc, GuardedCmd, Store};
-use sap_net::parts::{Name, Operand, Right, Wire};
+use sap_net::parts::{Name, Operand, Right};
 use std::alloc::{AllocError, Global};
 use std::collections::HashMap;
 
@@ -72,7 +73,7 @@ pub fn present_port(
 /// The part that a name stands for after an assignment under a condition.
 fn lower_set(
     alloc: Global,
-    wires: &mut Vec<Wire>,
+    wires: &mut Wires,
     places: &HashMap<Vec<u8>, usize>,
     entries: &[(Name, Part)],
     store_places: &HashMap<Vec<u8>, usize>,
@@ -83,15 +84,14 @@ fn lower_set(
 ) -> Result<Part, AllocError>
     requires places { Indexes places.now (names_of entries.now) }
     requires stores { Indexes store_places.now (map (λ m. m.name) stores.now) }
-    ensures wires { OnOk result (wires.new.items ≡ (low_chosen (shapes_of stores.now) entries.now wires.old.items (term_of when.now) name.now (term_of value.now)).wires) }
-    ensures part { IfOk result (λ p. p ≡ (low_chosen (shapes_of stores.now) entries.now wires.old.items (term_of when.now) name.now (term_of value.now)).part) }
+    ensures wires { OnOk result (wires.new ≡ (low_chosen (shapes_of stores.now) entries.now wires.old (term_of when.now) name.now (term_of value.now)).wires) }
+    ensures part { IfOk result (λ p. p ≡ (low_chosen (shapes_of stores.now) entries.now wires.old (term_of when.now) name.now (term_of value.now)).part) }
 {
     let when = lower_calc(alloc, wires, places, entries, store_places, stores, when)?;
     let value = lower_calc(alloc, wires, places, entries, store_places, stores, value)?;
     let old = present_part(alloc, places, entries, name)?;
-    emit(
+    wires.add(
         alloc,
-        wires,
         old.width,
         Right::Choose(when.operand, value.operand, old.operand),
     )
@@ -100,7 +100,7 @@ fn lower_set(
 /// The write port of a memory after one more write under a condition.
 fn lower_put(
     alloc: Global,
-    wires: &mut Vec<Wire>,
+    wires: &mut Wires,
     places: &HashMap<Vec<u8>, usize>,
     entries: &[(Name, Part)],
     store_places: &HashMap<Vec<u8>, usize>,
@@ -112,8 +112,8 @@ fn lower_put(
 ) -> Result<WritePort, AllocError>
     requires places { Indexes places.now (names_of entries.now) }
     requires stores { Indexes store_places.now (map (λ m. m.name) stores.now) }
-    ensures wires { OnOk result (wires.new.items ≡ (low_put (shapes_of stores.now) entries.now port (term_of when.now) (term_of index.now) (term_of value.now) wires.old.items).wires) }
-    ensures port { IfOk result (λ p. p ≡ (low_put (shapes_of stores.now) entries.now port (term_of when.now) (term_of index.now) (term_of value.now) wires.old.items).port) }
+    ensures wires { OnOk result (wires.new ≡ (low_put (shapes_of stores.now) entries.now port (term_of when.now) (term_of index.now) (term_of value.now) wires.old).wires) }
+    ensures port { IfOk result (λ p. p ≡ (low_put (shapes_of stores.now) entries.now port (term_of when.now) (term_of index.now) (term_of value.now) wires.old).port) }
 {
     let when = lower_calc(alloc, wires, places, entries, store_places, stores, when)?;
     let index = lower_calc(alloc, wires, places, entries, store_places, stores, index)?;
@@ -131,31 +131,21 @@ fn lower_put(
 /// A write merged into what its memory's port did so far.
 fn merge(
     alloc: Global,
-    wires: &mut Vec<Wire>,
+    wires: &mut Wires,
     port: WritePort,
     when: Operand,
     index: Operand,
     value: Operand,
 ) -> Result<WritePort, AllocError>
-    ensures wires { OnOk result (wires.new.items ≡ (merged_port port when index value wires.old.items).wires) }
-    ensures port { IfOk result (λ p. p ≡ (merged_port port when index value wires.old.items).port) }
+    ensures wires { OnOk result (wires.new ≡ (merged_port port when index value wires.old).wires) }
+    ensures port { IfOk result (λ p. p ≡ (merged_port port when index value wires.old).port) }
 {
     let first = when.copy(alloc)?;
     let second = when.copy(alloc)?;
     let one = Operand::Constant { width: 1, value: 1 };
-    let enable = emit(alloc, wires, 1, Right::Choose(first, one, port.enable))?;
-    let index = emit(
-        alloc,
-        wires,
-        port.bits,
-        Right::Choose(second, index, port.index),
-    )?;
-    let value = emit(
-        alloc,
-        wires,
-        port.width,
-        Right::Choose(when, value, port.value),
-    )?;
+    let enable = wires.add(alloc, 1, Right::Choose(first, one, port.enable))?;
+    let index = wires.add(alloc, port.bits, Right::Choose(second, index, port.index))?;
+    let value = wires.add(alloc, port.width, Right::Choose(when, value, port.value))?;
     Ok(WritePort {
         width: port.width,
         bits: port.bits,
@@ -168,7 +158,7 @@ fn merge(
 /// One assignment or write under its condition.
 fn lower_command(
     alloc: Global,
-    wires: &mut Vec<Wire>,
+    wires: &mut Wires,
     places: &HashMap<Vec<u8>, usize>,
     entries: &mut Vec<(Name, Part)>,
     store_places: &HashMap<Vec<u8>, usize>,
@@ -179,9 +169,9 @@ fn lower_command(
     requires places { Indexes places.now (names_of entries.old.items) }
     requires stores { Indexes store_places.now (map (λ m. m.name) stores.now) }
     requires ports { Indexes store_places.now (names_of ports.old.items) }
-    ensures wires { OnOk result (wires.new.items ≡ (low_action (shapes_of stores.now) (record { wires = wires.old.items; entries = entries.old.items; ports = ports.old.items }) (term_of cmd.now.when) (action_of cmd.now.act)).wires) }
-    ensures entries { OnOk result (entries.new.items ≡ (low_action (shapes_of stores.now) (record { wires = wires.old.items; entries = entries.old.items; ports = ports.old.items }) (term_of cmd.now.when) (action_of cmd.now.act)).entries) }
-    ensures ports { OnOk result (ports.new.items ≡ (low_action (shapes_of stores.now) (record { wires = wires.old.items; entries = entries.old.items; ports = ports.old.items }) (term_of cmd.now.when) (action_of cmd.now.act)).ports) }
+    ensures wires { OnOk result (wires.new ≡ (low_action (shapes_of stores.now) (record { wires = wires.old; entries = entries.old.items; ports = ports.old.items }) (term_of cmd.now.when) (action_of cmd.now.act)).wires) }
+    ensures entries { OnOk result (entries.new.items ≡ (low_action (shapes_of stores.now) (record { wires = wires.old; entries = entries.old.items; ports = ports.old.items }) (term_of cmd.now.when) (action_of cmd.now.act)).entries) }
+    ensures ports { OnOk result (ports.new.items ≡ (low_action (shapes_of stores.now) (record { wires = wires.old; entries = entries.old.items; ports = ports.old.items }) (term_of cmd.now.when) (action_of cmd.now.act)).ports) }
 {
     match &cmd.act {
         Act::Set(name, value) => {
@@ -226,7 +216,7 @@ fn lower_command(
 /// All assignments and writes, in order.
 pub fn lower_commands(
     alloc: Global,
-    wires: &mut Vec<Wire>,
+    wires: &mut Wires,
     places: &HashMap<Vec<u8>, usize>,
     entries: &mut Vec<(Name, Part)>,
     store_places: &HashMap<Vec<u8>, usize>,
@@ -237,9 +227,9 @@ pub fn lower_commands(
     requires places { Indexes places.now (names_of entries.old.items) }
     requires stores { Indexes store_places.now (map (λ m. m.name) stores.now) }
     requires ports { Indexes store_places.now (names_of ports.old.items) }
-    ensures wires { OnOk result (wires.new.items ≡ (low_commands (shapes_of stores.now) (record { wires = wires.old.items; entries = entries.old.items; ports = ports.old.items }) (commands_of cmds.now)).wires) }
-    ensures entries { OnOk result (entries.new.items ≡ (low_commands (shapes_of stores.now) (record { wires = wires.old.items; entries = entries.old.items; ports = ports.old.items }) (commands_of cmds.now)).entries) }
-    ensures ports { OnOk result (ports.new.items ≡ (low_commands (shapes_of stores.now) (record { wires = wires.old.items; entries = entries.old.items; ports = ports.old.items }) (commands_of cmds.now)).ports) }
+    ensures wires { OnOk result (wires.new ≡ (low_commands (shapes_of stores.now) (record { wires = wires.old; entries = entries.old.items; ports = ports.old.items }) (commands_of cmds.now)).wires) }
+    ensures entries { OnOk result (entries.new.items ≡ (low_commands (shapes_of stores.now) (record { wires = wires.old; entries = entries.old.items; ports = ports.old.items }) (commands_of cmds.now)).entries) }
+    ensures ports { OnOk result (ports.new.items ≡ (low_commands (shapes_of stores.now) (record { wires = wires.old; entries = entries.old.items; ports = ports.old.items }) (commands_of cmds.now)).ports) }
     ensures places { OnOk result (Indexes places.now (names_of entries.new.items)) }
     ensures port_places { OnOk result (Indexes store_places.now (names_of ports.new.items)) }
 {

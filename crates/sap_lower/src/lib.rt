@@ -5,6 +5,8 @@ mod calc;
 mod commands;
 mod declare;
 mod first;
+mod keys;
 pub mod lower;
 mod parts;
 mod places;
+mod wires;

@@ -7,11 +7,12 @@ ghost use Rattle.sap_ir.specs.Writes.{WritesOnce};
 ghost use Rattle.sap_lower.specs.Index.{Indexes};
 ghost use Rattle.sap_lower.specs.Lowered.{net_declared};
 ghost use Rattle.sap_lower.specs.Places.{names_of};
-ghost use Rattle.sap_lower.specs.Same.{Declares, RunsAlike};
+ghost use Rattle.sap_lower.specs.Same.{Declares, RunsAlike, SharesWires};
 
 use crate::commands::lower_commands;
 use crate::parts::{Part, WritePort};
 use crate::places::{index_entries, index_names, index_stores, index_variables};
+use crate::wires::Wires;
 use crate::{declare, first};
 use sap_ir::program::Guarded;
 use sap_net::netlist::Netlist;
@@ -79,6 +80,7 @@ pub fn lower(alloc: Global, source: &Guarded) -> Result<Netlist, AllocError>
     requires { WritesOnce (source_of source.now) }
     ensures declares { IfOk result (λ n. Declares (source_of source.now) n) }
     ensures same { IfOk result (λ n. RunsAlike (source_of source.now) n) }
+    ensures shared { IfOk result (λ n. SharesWires (source_of source.now) n) }
 {
     source.rules();
     let stores = source.memories();
@@ -86,10 +88,10 @@ pub fn lower(alloc: Global, source: &Guarded) -> Result<Netlist, AllocError>
     let mut ports = first::ports(alloc, stores)?;
     let places = index_entries(alloc, &entries)?;
     let store_places = index_stores(alloc, stores)?;
-    let mut wires = Vec::new(alloc);
+    let mut helpers = Wires::new(alloc);
     lower_commands(
         alloc,
-        &mut wires,
+        &mut helpers,
         &places,
         &mut entries,
         &store_places,
@@ -97,6 +99,7 @@ pub fn lower(alloc: Global, source: &Guarded) -> Result<Netlist, AllocError>
         &mut ports,
         source.cmds(),
     )?;
+    let mut wires = helpers.into_vec();
     declare::out_wires(alloc, &mut wires, &places, &entries, source.wires())?;
     let made = parts(
         alloc,

@@ -1,9 +1,8 @@
-//! Operands with their widths, and the wires behind them.
+//! Operands with their widths, and the write ports of memories.
 
-ghost use Rattle.std.specs.Prelude.{◌≡◌, IfOk, OnOk, length};
-ghost use Rattle.sap_lower.specs.Lowering.{helper, plus};
+ghost use Rattle.std.specs.Prelude.{◌≡◌, IfOk};
 
-use sap_net::parts::{Name, Operand, Right, Wire};
+use sap_net::parts::Operand;
 use std::alloc::{AllocError, Global};
 
 /// An operand and its width.
@@ -50,32 +49,4 @@ impl WritePort {
             value,
         })
     }
-}
-
-/// The name of the helping wire of a number.
-#[tactic(auto, unfolding(crate::specs::Lowering::helper))]
-fn helper_name(alloc: Global, k: usize) -> Result<Name, AllocError>
-    ensures { IfOk result (λ n. n ≡ helper k) }
-{
-    let text = format!(in alloc; "n{k}")?;
-    Ok(Name::new(text.into_bytes()))
-}
-
-/// One more wire.
-pub fn emit(
-    alloc: Global,
-    wires: &mut Vec<Wire>,
-    width: u32,
-    right: Right,
-) -> Result<Part, AllocError>
-    ensures wires { OnOk result (wires.new.items ≡ (plus wires.old.items width right).wires) }
-    ensures part { IfOk result (λ p. p ≡ (plus wires.old.items width right).part) }
-{
-    let name = helper_name(alloc, wires.len())?;
-    let copy = name.copy(alloc)?;
-    wires.push(Wire { name, width, right })?;
-    Ok(Part {
-        operand: Operand::Named(copy),
-        width,
-    })
 }

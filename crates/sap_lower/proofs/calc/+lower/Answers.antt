@@ -1,4 +1,4 @@
-use Rattle.std.proofs.Common.{◌≡◌, ◌∙◌, List, map, sym, ap, ap₂, subst, rules, OnOk, IfOk}
+use Rattle.std.proofs.Common.{◌≡◌, ◌∙◌, List, map, sym, ap, ap₂, subst, OnOk, IfOk}
 use Rattle.sap_maps.specs.Maps.{Name}
 use Rattle.sap_maps.specs.Term.{Term}
 use Rattle.sap_net.specs.declared.parts.Wire.{Wire}
@@ -18,14 +18,14 @@ lower_calc-returns-in_ok-parts-in-Concat-clause-wires t c =
     let cs : List Calc = c.deref-in-Concat.result.now in
     let ms = shapes_of c.args.stores.now in
     let es = c.args.entries.now in
-    let ws = c.args.wires.now.items in
-    let ew : c.lower_all.new.wires.items ≡ (low_all ms es (map term_of cs) ws).wires = c.in_ok-parts-in-Concat.ensures.wires in
+    let ws = c.args.wires.now in
+    let ew : c.lower_all.new.wires ≡ (low_all ms es (map term_of cs) ws).wires = c.in_ok-parts-in-Concat.ensures.wires in
     let ep : c.in_ok-parts-in-Concat.parts.items ≡ (low_all ms es (map term_of cs) ws).parts = c.in_ok-parts-in-Concat.ensures.parts in
     let k : joined_terms (map term_of cs) ≡ term_of c.args.calc.now =
     ap (λ (xs : List Calc). joined_terms (map term_of xs)) c.deref-in-Concat.ensures.value ∙ sym (concat_term c.in-Concat.parts) ∙ sym (ap term_of c.in-Concat.is) in
-    let e : glued c.lower_all.new.wires.items c.in_ok-parts-in-Concat.parts.items ≡ low ms es (term_of c.args.calc.now) ws =
+    let e : glued c.lower_all.new.wires c.in_ok-parts-in-Concat.parts.items ≡ low ms es (term_of c.args.calc.now) ws =
     ap₂ (λ (w : List Wire) (p : List Part). glued w p) ew ep ∙ sym (low_joined ms es (map term_of cs) ws) ∙ ap (λ (u : Term Name). low ms es u ws) k in
-    subst (λ (l : Low). OnOk c.glue.result (c.glue.new.wires.items ≡ l.wires)) e c.glue.ensures.wires
+    subst (λ (l : Low). OnOk c.glue.result (c.glue.new.wires ≡ l.wires)) e c.glue.ensures.wires
 
 pub lower_calc-returns-in_ok-parts-in-Concat-clause-part :
     goal.lower_calc-returns-in_ok-parts-in-Concat-clause-part
@@ -33,11 +33,11 @@ lower_calc-returns-in_ok-parts-in-Concat-clause-part t c =
     let cs : List Calc = c.deref-in-Concat.result.now in
     let ms = shapes_of c.args.stores.now in
     let es = c.args.entries.now in
-    let ws = c.args.wires.now.items in
-    let ew : c.lower_all.new.wires.items ≡ (low_all ms es (map term_of cs) ws).wires = c.in_ok-parts-in-Concat.ensures.wires in
+    let ws = c.args.wires.now in
+    let ew : c.lower_all.new.wires ≡ (low_all ms es (map term_of cs) ws).wires = c.in_ok-parts-in-Concat.ensures.wires in
     let ep : c.in_ok-parts-in-Concat.parts.items ≡ (low_all ms es (map term_of cs) ws).parts = c.in_ok-parts-in-Concat.ensures.parts in
     let k : joined_terms (map term_of cs) ≡ term_of c.args.calc.now =
     ap (λ (xs : List Calc). joined_terms (map term_of xs)) c.deref-in-Concat.ensures.value ∙ sym (concat_term c.in-Concat.parts) ∙ sym (ap term_of c.in-Concat.is) in
-    let e : glued c.lower_all.new.wires.items c.in_ok-parts-in-Concat.parts.items ≡ low ms es (term_of c.args.calc.now) ws =
+    let e : glued c.lower_all.new.wires c.in_ok-parts-in-Concat.parts.items ≡ low ms es (term_of c.args.calc.now) ws =
     ap₂ (λ (w : List Wire) (p : List Part). glued w p) ew ep ∙ sym (low_joined ms es (map term_of cs) ws) ∙ ap (λ (u : Term Name). low ms es u ws) k in
     subst (λ (l : Low). IfOk c.glue.result (λ p. p ≡ l.part)) e c.glue.ensures.part

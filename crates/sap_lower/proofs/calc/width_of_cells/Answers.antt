@@ -1,4 +1,4 @@
-use Rattle.std.proofs.Common.{◌≡◌, ◌∙◌, ◌<◌, sym, ap, length, get_or, arith, Some, None, Option, ℕ}
+use Rattle.std.proofs.Common.{◌∙◌, ◌<◌, sym, ap, length, arith, Option, ℕ}
 use Rattle.std.specs.Prelude.{unwrap_or}
 use Rattle.sap_ir.specs.declared.guarded.Store.{Store}
 use Rattle.sap_lower.proofs.Lookups.{item_found, item_missing}

@@ -1,4 +1,4 @@
-use Rattle.std.proofs.Common.{◌≡◌, ◌∙◌, ◌+◌, ◌<◌, List, sym, ap, length, get_or, drop, arith}
+use Rattle.std.proofs.Common.{◌≡◌, ◌∙◌, ◌<◌, List, sym, ap, length, arith}
 use Rattle.sap_maps.specs.Maps.{Name}
 use Rattle.sap_ir.specs.Calcs.{command_of, commands_of}
 use Rattle.sap_lower.specs.Commands.{State, low_command, low_commands}
@@ -11,9 +11,9 @@ pub loop-cmd-preserved : goal.loop-cmd-preserved
 loop-cmd-preserved c =
     let i = c.loop-cmd.invariant in
     let ms = shapes_of c.args.stores.now in
-    let now : State = record { wires = c.loop-cmd.wires.items; entries = c.loop-cmd.entries.items; ports = c.loop-cmd.ports.items } in
-    let new : State = record { wires = c.lower_command.new.wires.items; entries = c.lower_command.new.entries.items; ports = c.lower_command.new.ports.items } in
-    let first : State = record { wires = c.args.wires.now.items; entries = c.args.entries.now.items; ports = c.args.ports.now.items } in
+    let now : State = record { wires = c.loop-cmd.wires; entries = c.loop-cmd.entries.items; ports = c.loop-cmd.ports.items } in
+    let new : State = record { wires = c.lower_command.new.wires; entries = c.lower_command.new.entries.items; ports = c.lower_command.new.ports.items } in
+    let first : State = record { wires = c.args.wires.now; entries = c.args.entries.now.items; ports = c.args.ports.now.items } in
     let item = c.cmd-item.result in
     let w : new.wires ≡ (low_command ms now (command_of item)).wires = c.in_ok-lower_command.ensures.wires in
     let n : new.entries ≡ (low_command ms now (command_of item)).entries = c.in_ok-lower_command.ensures.entries in

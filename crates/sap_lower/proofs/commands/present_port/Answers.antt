@@ -1,4 +1,4 @@
-use Rattle.std.proofs.Common.{◌≡◌, ◌∙◌, ◌<◌, sym, ap, subst, length, get_or, arith, Some, None, IfOk}
+use Rattle.std.proofs.Common.{◌≡◌, ◌∙◌, ◌<◌, sym, ap, subst, length, arith, IfOk}
 use Rattle.std.specs.Prelude.{unwrap_or}
 use Rattle.sap_lower.specs.declared.parts.WritePort.{WritePort}
 use Rattle.sap_lower.specs.Commands.{no_port}

@@ -1,4 +1,4 @@
-use Rattle.std.proofs.Common.{◌≡◌, ◌∙◌, ◌<◌, sym, length, arith}
+use Rattle.std.proofs.Common.{◌∙◌, ◌<◌, sym, length, arith}
 use Rattle.sap_lower.proofs.Lookups.{entry_found, set_replaced, missing_replaced}
 use Rattle.sap_lower.proofs.commands.replace_port.Goals as goal
 

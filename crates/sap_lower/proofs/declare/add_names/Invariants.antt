@@ -1,4 +1,4 @@
-use Rattle.std.proofs.Common.{◌≡◌, ◌++◌, map, drop}
+use Rattle.std.proofs.Common.{◌≡◌, ◌++◌, drop}
 use Rattle.sap_lower.proofs.declare.add_names.Given as goal
 
 abbrev pub invariant-loop-name : goal.invariant-loop-name

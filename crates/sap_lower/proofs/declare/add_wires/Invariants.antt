@@ -1,4 +1,4 @@
-use Rattle.std.proofs.Common.{◌≡◌, ◌++◌, map, drop}
+use Rattle.std.proofs.Common.{◌≡◌, ◌++◌, drop}
 use Rattle.sap_lower.specs.Lowered.{unported, wire_list_names}
 use Rattle.sap_lower.proofs.declare.add_wires.Given as goal
 

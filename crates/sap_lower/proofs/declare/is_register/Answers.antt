@@ -1,4 +1,4 @@
-use Rattle.std.proofs.Common.{◌≡◌, ◌∙◌, sym, ap, is_some, Option, ℕ}
+use Rattle.std.proofs.Common.{◌∙◌, ap, is_some, Option, ℕ}
 use Rattle.sap_ir.specs.IsGuarded.{variable_names}
 use Rattle.sap_lower.proofs.Lookups.{placed}
 use Rattle.sap_lower.proofs.declare.is_register.Goals as goal

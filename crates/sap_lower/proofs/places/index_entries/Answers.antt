@@ -1,4 +1,4 @@
-use Rattle.std.proofs.Common.{◌≡◌, ◌∙◌, ◌+◌, ◌++◌, [], ◌∷◌, ℕ, take, length, sym, ap, arith}
+use Rattle.std.proofs.Common.{◌≡◌, ◌∙◌, ◌+◌, ◌++◌, [], ◌∷◌, take, length, sym, ap, arith}
 use Rattle.std.proofs.lemmas.List.{take_more, length-take-le}
 use Rattle.sap_lower.specs.Places.{names_of}
 use Rattle.sap_lower.proofs.Lookups.{named_push, names_long}
