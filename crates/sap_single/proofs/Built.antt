@@ -36,7 +36,7 @@ use Rattle.sap_single.specs.Guards.{number_term, level_term, step_guards, block_
 use Rattle.sap_single.specs.Built as built
 use Rattle.sap_single.specs.Built.{simple_guards, list_guards, taken, all_taken, assigned, raise_if, raise_of, raises_of, small, built_of, built_in}
 use Rattle.sap_single.specs.Law.{IsSingle, source_of}
-use Rattle.sap_single.specs.Early.{early_list, early_declarations}
+use Rattle.sap_single.specs.Plain.{PlainCommands, PlainDeclarations}
 use Rattle.sap_single.proofs.Relation.{Single, Plain, PlainStep}
 use Rattle.sap_single.proofs.Trees.{last_is, declared_length}
 use Rattle.sap_single.proofs.Numbers.{dynamic_matches}
@@ -242,9 +242,9 @@ module _ (ls : Levels) (ds : List Decl) (place after : Place) (nm lvl : Mention)
   abbrev B : Block
   B = list_of ls home 1 cs
 
-  module _ (sg : IsSingle ls T) (early : early_list cs ≡ None) (early_ds : early_declarations ds ≡ None) where
+  module _ (sg : IsSingle ls T) (plain_cs : PlainCommands cs) (plain_ds : PlainDeclarations ds) where
     all : Single (named_of ls T) (codes.width_of (order_of ls)) (sites_of T) n B
-    all = single ls ds place after nm lvl cs sg early early_ds
+    all = single ls ds place after nm lvl cs sg plain_cs plain_ds
 
     row : RowOf ls (world_of ls T).entities here 0 ds
     row = row_of ls ds here
@@ -296,4 +296,4 @@ module _ (ls : Levels) (ds : List Decl) (place after : Place) (nm lvl : Mention)
 pub built_is : (ls : Levels) (t : DesignTree) → IsSingle ls t → built_in ls (entities_of t) t.declarations t.states ≡ source_of ls t
 built_is ls t sg =
     of_form ls (λ (t : DesignTree). built_in ls (entities_of t) t.declarations t.states ≡ source_of ls t)
-    (λ ds place after nm lvl cs sg early early_ds. form_built ls ds place after nm lvl cs sg early early_ds) t sg
+    (λ ds place after nm lvl cs sg plain_cs plain_ds. form_built ls ds place after nm lvl cs sg plain_cs plain_ds) t sg

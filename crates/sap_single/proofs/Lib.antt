@@ -14,7 +14,6 @@ pub mod Shown
 pub mod Conditions
 pub mod Trees
 pub mod Singles
-pub mod Walks
 pub mod Once
 pub mod Lowered
 pub mod Numbers

@@ -6,7 +6,6 @@ use Rattle.std.specs.List.{list_all}
 use Rattle.std.proofs.lemmas.Bool.Decides.{Decides-eqb, nat_tests}
 use Rattle.sap_tree.specs.declared.name.Mention.{Mention}
 use Rattle.sap_tree.specs.declared.place.Place.{Place}
-use Rattle.sap_tree.specs.declared.syntax.Kind.{Kind}
 use Rattle.sap_tree.specs.declared.syntax.Kind.TheVariants.{Dynamic, Enforced}
 use Rattle.sap_tree.specs.declared.syntax.Decl.{Decl}
 use Rattle.sap_tree.specs.declared.syntax.Decl.TheVariants as decl
@@ -49,15 +48,15 @@ use Rattle.sap_premises.proofs.Worlds.{root_children}
 use Rattle.sap_net.specs.Names.{is_inner}
 use Rattle.sap_interface.specs.StandsFor.{Named, name}
 use Rattle.sap_interface.specs.Designs.{named_of, sites_of}
-use Rattle.sap_single.specs.Early.{◌or_else◌, early_simple, early_list, early_state_kind, early_more, early_declarations}
 use Rattle.sap_single.specs.Law.{IsSingle, GuardsStand, GuardsAreGuarded, SourceStandsForDesign, source_of}
+use Rattle.sap_single.specs.Plain.{PlainCommands, PlainDeclarations}
 use Rattle.sap_ir.specs.IsGuarded.{IsGuarded}
 use Rattle.sap_single.proofs.Members.{name_is}
 use Rattle.sap_single.proofs.Members as members
 use Rattle.sap_single.proofs.Keys.{same_test}
 use Rattle.sap_single.proofs.Relation.{Single, Plain}
 use Rattle.sap_single.proofs.Shown.{stands, guarded}
-use Rattle.sap_single.proofs.Trees.{neither_left, neither_right, some_none, unfilled, plain, AllNoState, declared_no_state, only_last, none_memory, last_is, declared_length}
+use Rattle.sap_single.proofs.Trees.{unfilled, plain, AllNoState, declared_no_state, only_last, none_memory, last_is, declared_length}
 
 and_left : (p q : Bool) → (p && q) ≡ true → p ≡ true
 and_left true q h = refl
@@ -172,13 +171,13 @@ module _ (ls : Levels) (ds : List Decl) (place after : Place) (nm lvl : Mention)
   abbrev here : program.Entity
   here = record { kind = program.state 0 (n + 0); width = 0; dynamic = false; declared = worlds.level_number ls lvl; authority = (order_of ls).bottom; initial = 0 }
 
-  module _ (sg : IsSingle ls D) (early : early_list cs ≡ None) (early_ds : early_declarations ds ≡ None) where
+  module _ (sg : IsSingle ls D) (plain_cs : PlainCommands cs) (plain_ds : PlainDeclarations ds) where
     split : (is_tree D ≡ true) × (is_within_limits D ≡ true)
     unfolding is_whole
     split = (and_left (is_tree D) (is_within_limits D) sg.whole, and_right (is_tree D) (is_within_limits D) sg.whole)
 
     same_body : F ≡ B
-    same_body = unfilled ls h w at 1 cs early
+    same_body = unfilled ls h w at 1 cs plain_cs
 
     state_faultless : state_faults ls.names (order_of ls).le (what_is es) state ≡ []
     state_faultless =
@@ -206,14 +205,14 @@ module _ (ls : Levels) (ds : List Decl) (place after : Place) (nm lvl : Mention)
 
     plain_body : Plain w n B
     plain_body =
-        plain ls h w known n F 1 cs early body_faultless
+        plain ls h w known n F 1 cs plain_cs body_faultless
         (subst (λ (b : Block). FineBlock w siblings program.None b) same_body fine.states.0.0.steps)
         (subst (λ (b : Block). SizedBlock w b) same_body sized.states.0.0)
         (subst (λ (b : Block). RangedBlock w b) same_body ranged.states.0.0)
 
     -- entities
     no_states : AllNoState (all_declared ls ds)
-    no_states = declared_no_state ls ds early_ds
+    no_states = declared_no_state ls ds plain_ds
 
     here_is : entity w n ≡ here
     here_is = ap (λ (i : ℕ). get_or w.entities i program.nothing) (sym (declared_length ls ds)) ∙ last_is (all_declared ls ds) here
@@ -229,15 +228,15 @@ module _ (ls : Levels) (ds : List Decl) (place after : Place) (nm lvl : Mention)
     sites_are : sites_of D ≡ list_sites h cs
     sites_are = (let z : list_sites h cs + 0 + 0 ≡ list_sites h cs = omega arith in z)
 
-    sites_few : (xs : CommandList) → early_list xs ≡ None → list_sites h xs ≤ list_count xs
+    sites_few : (xs : CommandList) → PlainCommands xs → list_sites h xs ≤ list_count xs
     unfolding list_count command_count block_count
     sites_few NoCommand e = omega arith
     sites_few (AndCommand (tree.Do c) xs) e =
-        let i : list_sites h xs ≤ list_count xs = sites_few xs (neither_right (early_simple c) (early_list xs) e) in
+        let i : list_sites h xs ≤ list_count xs = sites_few xs e.1 in
         let j : tree_sites.simple_sites h c ≤ 1 = one_if _ in
         omega arith
-    sites_few (AndCommand (tree.Try c p b) xs) e = absurd (some_none (early_simple c) p (neither_left (early_simple c or_else Some p) (early_list xs) e))
-    sites_few (AndCommand (tree.If p x b c) xs) e = cc
+    sites_few (AndCommand (tree.Try c p b) xs) e = absurd e.0
+    sites_few (AndCommand (tree.If p x b c) xs) e = absurd e.0
 
     commands_few : list_count cs ≤ 4096
     unfolding states_commands state_commands block_count
@@ -247,7 +246,7 @@ module _ (ls : Levels) (ds : List Decl) (place after : Place) (nm lvl : Mention)
 
     limit : 1 + sites_of D ≤ 2 ^ 64
     limit =
-        (let i : list_sites h cs ≤ list_count cs = sites_few cs early in
+        (let i : list_sites h cs ≤ list_count cs = sites_few cs plain_cs in
         let j : list_count cs ≤ 4096 = commands_few in
         let k : sites_of D ≡ list_sites h cs = sites_are in
         site_limit (sites_of D) (omega arith))
@@ -325,50 +324,26 @@ module _ (ls : Levels) (ds : List Decl) (place after : Place) (nm lvl : Mention)
     pub design_guarded : IsGuarded (source_of ls D)
     design_guarded = guarded d (width_of (order_of ls)) (sites_of D) n B single
 
--- every design without early constructs is of that form
+-- every plain design is of that form
 
 -- what holds of all designs of that form
 abbrev pub HoldsOfForm : Levels → (DesignTree → Type 0) → Type 0
 HoldsOfForm ls P =
     (ds : List Decl) (place after : Place) (nm lvl : Mention) (cs : CommandList) → IsSingle ls (D ls ds place after nm lvl cs)
-    → early_list cs ≡ None → early_declarations ds ≡ None → P (D ls ds place after nm lvl cs)
+    → PlainCommands cs → PlainDeclarations ds → P (D ls ds place after nm lvl cs)
 
-no_more : (g : StateList) → early_more g ≡ None → g ≡ NoState
-no_more NoState e = refl
-no_more (AndState s rest) e = cc
-
-has_one : (ls : Levels) (t : DesignTree) → IsSingle ls t → has_state t.states ≡ true
-unfolding is_whole
-has_one ls t sg = and_right (list_all is_declaration t.declarations) (has_state t.states) (and_left _ (are_states t.states) (and_left (is_tree t) (is_within_limits t) sg.whole))
-
-of_kind : (ls : Levels) (P : DesignTree → Type 0) → HoldsOfForm ls P → (ds : List Decl) (place after : Place) (nm : Mention) (kind : Kind) (cs : CommandList) (children rest : StateList)
-    → children ≡ NoState → rest ≡ NoState
-    → IsSingle ls (record { declarations = ds; states = AndState (StateOf place nm kind (Commands cs after) children) rest })
-    → early_declarations ds ≡ None → early_state_kind kind ≡ None → early_list cs ≡ None
-    → P (record { declarations = ds; states = AndState (StateOf place nm kind (Commands cs after) children) rest })
-of_kind ls P f ds place after nm (Dynamic p) cs children rest e g sg ed ek el = cc
-of_kind ls P f ds place after nm (Enforced lvl (Some under)) cs children rest e g sg ed ek el = cc
-of_kind ls P f ds place after nm (Enforced lvl None) cs NoState NoState e g sg ed ek el = f ds place after nm lvl cs sg el ed
-of_kind ls P f ds place after nm (Enforced lvl None) cs (AndState s more) rest e g sg ed ek el = cc
-of_kind ls P f ds place after nm (Enforced lvl None) cs NoState (AndState s more) e g sg ed ek el = cc
-
-of_states : (ls : Levels) (P : DesignTree → Type 0) → HoldsOfForm ls P → (ds : List Decl) (g : StateList) → has_state g ≡ true
+of_states : (ls : Levels) (P : DesignTree → Type 0) → HoldsOfForm ls P → (ds : List Decl) (g : StateList)
     → IsSingle ls (record { declarations = ds; states = g }) → P (record { declarations = ds; states = g })
-of_states ls P f ds NoState one sg = cc
-of_states ls P f ds (AndState (StateOf place nm kind (Commands cs after) children) rest) one sg =
-    let e : (early_declarations ds or_else ((early_state_kind kind or_else early_list cs or_else early_more children) or_else early_more rest)) ≡ None = sg.early in
-    let ed : early_declarations ds ≡ None = neither_left (early_declarations ds) ((early_state_kind kind or_else early_list cs or_else early_more children) or_else early_more rest) e in
-    let es : ((early_state_kind kind or_else early_list cs or_else early_more children) or_else early_more rest) ≡ None =
-    neither_right (early_declarations ds) ((early_state_kind kind or_else early_list cs or_else early_more children) or_else early_more rest) e in
-    let er : early_more rest ≡ None = neither_right (early_state_kind kind or_else early_list cs or_else early_more children) (early_more rest) es in
-    let eh : (early_state_kind kind or_else early_list cs or_else early_more children) ≡ None = neither_left (early_state_kind kind or_else early_list cs or_else early_more children) (early_more rest) es in
-    let ek : early_state_kind kind ≡ None = neither_left (early_state_kind kind) (early_list cs or_else early_more children) eh in
-    let eb : (early_list cs or_else early_more children) ≡ None = neither_right (early_state_kind kind) (early_list cs or_else early_more children) eh in
-    of_kind ls P f ds place after nm kind cs children rest (no_more children (neither_right (early_list cs) (early_more children) eb)) (no_more rest er) sg ed ek
-    (neither_left (early_list cs) (early_more children) eb)
+of_states ls P f ds NoState sg = absurd sg.plain.states
+of_states ls P f ds (AndState (StateOf place nm (Enforced lvl None) (Commands cs after) NoState) NoState) sg =
+    f ds place after nm lvl cs sg sg.plain.states.1 sg.plain.declarations
+of_states ls P f ds (AndState (StateOf place nm (Enforced lvl (Some under)) (Commands cs after) NoState) NoState) sg = absurd sg.plain.states.0
+of_states ls P f ds (AndState (StateOf place nm (Dynamic p) (Commands cs after) NoState) NoState) sg = absurd sg.plain.states.0
+of_states ls P f ds (AndState (StateOf place nm kind (Commands cs after) (AndState child others)) NoState) sg = absurd sg.plain.states
+of_states ls P f ds (AndState s (AndState other others)) sg = absurd sg.plain.states
 
 pub of_form : (ls : Levels) (P : DesignTree → Type 0) → HoldsOfForm ls P → (t : DesignTree) → IsSingle ls t → P t
-of_form ls P f t sg = of_states ls P f t.declarations t.states (has_one ls t sg) sg
+of_form ls P f t sg = of_states ls P f t.declarations t.states sg
 
 pub guards_stand : GuardsStand
 guards_stand ls t sg =

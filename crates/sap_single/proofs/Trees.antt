@@ -1,8 +1,7 @@
 -- A design of one state has what the law asks for.
-use Rattle.std.proofs.Common.{◌≡◌, ℕ, zero, suc, ◌+◌, ◌<◌, List, [], ◌∷◌, ◌++◌, length, true, false, ◌||◌, Option, Some, None, inl, inr, refl, sym, ap, ◌∙◌, arith, nat_eq, get_or}
+use Rattle.std.proofs.Common.{◌≡◌, ℕ, zero, suc, ◌+◌, ◌<◌, List, [], ◌∷◌, ◌++◌, length, true, false, ◌||◌, inl, inr, refl, sym, ap, ◌∙◌, arith, nat_eq, get_or}
 use Rattle.std.proofs.lemmas.Bool.{cases_Bool}
 use Rattle.std.proofs.lemmas.Bool.Decides.{Decides-eqb}
-use Rattle.sap_tree.specs.declared.place.Place.{Place}
 use Rattle.sap_tree.specs.declared.syntax.Decl.{Decl}
 use Rattle.sap_tree.specs.declared.syntax.Decl.TheVariants as decl
 use Rattle.sap_tree.specs.Syntax.{SimpleCommand, Assign, Write, SetTag, SetCellTag, Goto, Fall, CommandList, NoCommand, AndCommand, CommandBlock, Commands, StateTree, StateOf, StateList, NoState, AndState, DesignTree}
@@ -24,41 +23,28 @@ use Rattle.sap_resolve.specs.Sites.{Home, command_sites}
 use Rattle.sap_resolve.specs.Worlds.{all_declared}
 use Rattle.sap_resolve.specs.Resolve.{list_of, site_number, step_of, command_of}
 use Rattle.sap_resolve.specs.Fill.{filled_block}
-use Rattle.sap_single.specs.Early.{◌or_else◌, early_simple, early_list, early_declarations, early_kind}
+use Rattle.sap_single.specs.Plain.{PlainSimple, PlainCommands, PlainDeclarations}
 use Rattle.sap_single.proofs.Conditions.{conditions}
 use Rattle.sap_single.proofs.Relation.{Plain}
 
--- nothing is early in either
-pub neither_left : (a b : Option Place) → (a or_else b) ≡ None → a ≡ None
-neither_left None b h = refl
-neither_left (Some p) b h = cc
-
-pub neither_right : (a b : Option Place) → (a or_else b) ≡ None → b ≡ None
-neither_right None b h = h
-neither_right (Some p) b h = cc
-
-pub some_none : (a : Option Place) (p : Place) → (a or_else Some p) ≡ None → ⊥
-some_none a p h = (let e : Some p ≡ None = neither_right a (Some p) h in cc)
-
 -- filling in what hangs leaves the body
-pub unfilled : (ls : Levels) (h : Home) (w : World) (at : Spot) (k : ℕ) (cs : CommandList) → early_list cs ≡ None
+pub unfilled : (ls : Levels) (h : Home) (w : World) (at : Spot) (k : ℕ) (cs : CommandList) → PlainCommands cs
     → filled_block w at (list_of ls h k cs) ≡ list_of ls h k cs
 unfilled ls h w at k NoCommand e = refl
 unfilled ls h w at k (AndCommand (tree.Do c) cs) e =
-    simple_kept c (neither_left (early_simple c) (early_list cs) e) (unfilled ls h w at (k + command_sites h (tree.Do c)) cs (neither_right (early_simple c) (early_list cs) e))
+    simple_kept c e.0 (unfilled ls h w at (k + command_sites h (tree.Do c)) cs e.1)
   where
-    simple_kept : (c : SimpleCommand) → early_simple c ≡ None
+    simple_kept : (c : SimpleCommand) → PlainSimple c
         → filled_block w at (list_of ls h (k + command_sites h (tree.Do c)) cs) ≡ list_of ls h (k + command_sites h (tree.Do c)) cs
         → filled_block w at (list_of ls h k (AndCommand (tree.Do c) cs)) ≡ list_of ls h k (AndCommand (tree.Do c) cs)
     simple_kept (Assign target x) e f = ap (λ (b : Block). Then (command_of ls h k (tree.Do (Assign target x))) b) f
     simple_kept (Goto place target) e f = ap (λ (b : Block). Then (command_of ls h k (tree.Do (Goto place target))) b) f
-    simple_kept (Write target index x) e f = cc
-    simple_kept (SetTag place target tag) e f = cc
-    simple_kept (SetCellTag place target index tag) e f = cc
-    simple_kept (Fall place) e f = cc
-unfilled ls h w at k (AndCommand (tree.Try c place block) cs) e =
-    absurd (some_none (early_simple c) place (neither_left (early_simple c or_else Some place) (early_list cs) e))
-unfilled ls h w at k (AndCommand (tree.If place x b c) cs) e = cc
+    simple_kept (Write target index x) e f = absurd e
+    simple_kept (SetTag place target tag) e f = absurd e
+    simple_kept (SetCellTag place target index tag) e f = absurd e
+    simple_kept (Fall place) e f = absurd e
+unfilled ls h w at k (AndCommand (tree.Try c place block) cs) e = absurd e.0
+unfilled ls h w at k (AndCommand (tree.If place x b c) cs) e = absurd e.0
 
 -- the body has assignments that fit, and gotos to its state
 module _ (ls : Levels) (h : Home) (w : World) (r : Resolved h.entities w) (s : ℕ) (body : Block) where
@@ -68,7 +54,7 @@ module _ (ls : Levels) (h : Home) (w : World) (r : Resolved h.entities w) (s : �
   only : (x : ℕ) → (nat_eq x s || false) ≡ true → x ≡ s
   only x e = elim (cases_Bool (nat_eq x s)) [ inl t ↦ (Decides-eqb x s).0 t | inr t ↦ (let i : false ≡ true = rw t at e in cc) ]
 
-  plain_simple : (k : ℕ) (c : SimpleCommand) (cs : CommandList) (rest : Block) → early_simple c ≡ None → simple_faults ls.names (what_is h.entities) c ≡ []
+  plain_simple : (k : ℕ) (c : SimpleCommand) (cs : CommandList) (rest : Block) → PlainSimple c → simple_faults ls.names (what_is h.entities) c ≡ []
       → FineBlock w siblings program.None (Then (Do (step_of ls h k c)) rest)
       → SizedBlock w (Then (Do (step_of ls h k c)) rest) → RangedBlock w (Then (Do (step_of ls h k c)) rest)
       → Plain w s rest → Plain w s (Then (Do (step_of ls h k c)) rest)
@@ -76,21 +62,20 @@ module _ (ls : Levels) (h : Home) (w : World) (r : Resolved h.entities w) (s : �
       let n = none_two (name_faults assigned (what_is h.entities) target) (expression_faults (what_is h.entities) x (register_width (what_is h.entities target.name))) f in
       ((fine.0.0, fine.0.1, sized.0.0, ranged.0, sized.0.1, conditions h.entities w r x (register_width (what_is h.entities target.name)) n.1), p)
   plain_simple k (Goto place target) cs rest e f fine sized ranged p = (only _ fine.0, p)
-  plain_simple k (Write target index x) cs rest e f fine sized ranged p = cc
-  plain_simple k (SetTag place target tag) cs rest e f fine sized ranged p = cc
-  plain_simple k (SetCellTag place target index tag) cs rest e f fine sized ranged p = cc
-  plain_simple k (Fall place) cs rest e f fine sized ranged p = cc
+  plain_simple k (Write target index x) cs rest e f fine sized ranged p = absurd e
+  plain_simple k (SetTag place target tag) cs rest e f fine sized ranged p = absurd e
+  plain_simple k (SetCellTag place target index tag) cs rest e f fine sized ranged p = absurd e
+  plain_simple k (Fall place) cs rest e f fine sized ranged p = absurd e
 
-  pub plain : (k : ℕ) (cs : CommandList) → early_list cs ≡ None → commands_faults ls.names (what_is h.entities) cs ≡ []
+  pub plain : (k : ℕ) (cs : CommandList) → PlainCommands cs → commands_faults ls.names (what_is h.entities) cs ≡ []
       → FineBlock w siblings program.None (list_of ls h k cs) → SizedBlock w (list_of ls h k cs) → RangedBlock w (list_of ls h k cs) → Plain w s (list_of ls h k cs)
   plain k NoCommand e f fine sized ranged = tt
   plain k (AndCommand (tree.Do c) cs) e f fine sized ranged =
       let n = none_two (simple_faults ls.names (what_is h.entities) c) (commands_faults ls.names (what_is h.entities) cs) f in
-      plain_simple (site_number h k c) c cs (list_of ls h (k + command_sites h (tree.Do c)) cs) (neither_left (early_simple c) (early_list cs) e) n.0 fine sized ranged
-      (plain (k + command_sites h (tree.Do c)) cs (neither_right (early_simple c) (early_list cs) e) n.1 fine.1 sized.1 ranged.1)
-  plain k (AndCommand (tree.Try c place block) cs) e f fine sized ranged =
-      absurd (some_none (early_simple c) place (neither_left (early_simple c or_else Some place) (early_list cs) e))
-  plain k (AndCommand (tree.If place x b c) cs) e f fine sized ranged = cc
+      plain_simple (site_number h k c) c cs (list_of ls h (k + command_sites h (tree.Do c)) cs) e.0 n.0 fine sized ranged
+      (plain (k + command_sites h (tree.Do c)) cs e.1 n.1 fine.1 sized.1 ranged.1)
+  plain k (AndCommand (tree.Try c place block) cs) e f fine sized ranged = absurd e.0
+  plain k (AndCommand (tree.If place x b c) cs) e f fine sized ranged = absurd e.0
 
 -- entities that aren't states, and one behind them
 
@@ -101,11 +86,11 @@ abbrev pub AllNoState : List Entity → Type 0
 AllNoState [] = Unit {0}
 AllNoState (e ∷ es) = NoStateOf e × AllNoState es
 
-pub declared_no_state : (ls : Levels) (ds : List Decl) → early_declarations ds ≡ None → AllNoState (all_declared ls ds)
+pub declared_no_state : (ls : Levels) (ds : List Decl) → PlainDeclarations ds → AllNoState (all_declared ls ds)
 declared_no_state ls [] e = tt
-declared_no_state ls (decl.Input place name width ∷ ds) e = ((refl, refl), declared_no_state ls ds e)
-declared_no_state ls (decl.Register place name width kind start ∷ ds) e = ((refl, refl), declared_no_state ls ds (neither_right (early_kind kind) (early_declarations ds) e))
-declared_no_state ls (decl.Memory place name width depth kind ∷ ds) e = cc
+declared_no_state ls (decl.Input place name width ∷ ds) e = ((refl, refl), declared_no_state ls ds e.1)
+declared_no_state ls (decl.Register place name width kind start ∷ ds) e = ((refl, refl), declared_no_state ls ds e.1)
+declared_no_state ls (decl.Memory place name width depth kind ∷ ds) e = absurd e.0
 
 pub only_last : (es : List Entity) (st : Entity) → AllNoState es → (x : ℕ) → x < length (es ++ st ∷ []) → kind_is_state (get_or (es ++ st ∷ []) x nothing).kind ≡ true → x ≡ length es
 only_last [] st a zero l h = refl

@@ -1,5 +1,5 @@
 -- The law of designs of one state.
-use Rattle.std.specs.Prelude.{◌≡◌, IsTrue, None}
+use Rattle.std.specs.Prelude.{IsTrue}
 use Rattle.sap_tree.specs.Syntax.{DesignTree}
 use Rattle.sap_tree.specs.Whole.{is_whole}
 use Rattle.sap_lattice.specs.Levels.{Levels, order_of}
@@ -9,8 +9,8 @@ use Rattle.sap_shape.specs.WellFormed.{WellFormed}
 use Rattle.sap_ir.specs.Source.{Source}
 use Rattle.sap_ir.specs.IsGuarded.{IsGuarded}
 use Rattle.sap_interface.specs.Designs.{named_of, sites_of}
-use Rattle.sap_single.specs.Early.{early_of}
 use Rattle.sap_single.specs.Guards.{guards_of}
+use Rattle.sap_single.specs.Plain.{IsPlain}
 use Rattle.sap_single.specs.Source.{SourceStandsFor}
 
 -- the assignments of a design
@@ -21,12 +21,12 @@ source_of ls d = guards_of (named_of ls d) (width_of (order_of ls)) (sites_of d)
 abbrev pub SourceStandsForDesign : Levels → DesignTree → Source → Type 0
 SourceStandsForDesign ls d s = SourceStandsFor (named_of ls d) (width_of (order_of ls)) (sites_of d) s
 
--- a whole design that is well-formed, has no construct that isn't compiled yet, over a lattice
+-- a whole design that is well-formed over a lattice, and of the constructs that are compiled
 pub record IsSingle (ls : Levels) (d : DesignTree) : Type 0 where
   pub lattice : IsLattice ls
   pub whole : IsTrue (is_whole d)
   pub formed : WellFormed ls d
-  pub early : early_of d ≡ None
+  pub plain : IsPlain d
 
 abbrev pub GuardsStand : Type 0
 GuardsStand = (ls : Levels) (d : DesignTree) → IsSingle ls d → SourceStandsForDesign ls d (source_of ls d)

@@ -1,4 +1,4 @@
-pub mod Early
+pub mod Plain
 pub mod Guards
 pub mod Source
 pub mod Law

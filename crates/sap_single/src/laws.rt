@@ -4,8 +4,8 @@
 
 ghost use Rattle.sap_single.specs.Law.{GuardsAreGuarded, GuardsStand};
 
-/// The assignments of a whole and well-formed design over a lattice, with nothing in it that isn't compiled yet, stand for the
-/// design, and keep the rules of guarded programs.
+/// The assignments of a whole and well-formed design over a lattice, of the constructs that are compiled, stand for the design, and
+/// keep the rules of guarded programs.
 pub fn guards_stand()
     ensures stand { GuardsStand }
     ensures guarded { GuardsAreGuarded }

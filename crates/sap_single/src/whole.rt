@@ -1,6 +1,6 @@
 //! Whole designs.
 
-ghost use Rattle.std.specs.Prelude.{◌≡◌, ◌++◌, None, IfOk};
+ghost use Rattle.std.specs.Prelude.{◌≡◌, ◌++◌, IfOk};
 ghost use Rattle.sap_interface.specs.Designs.{StandsForDesign};
 ghost use Rattle.sap_ir.specs.Calcs.{commands_of};
 ghost use Rattle.sap_ir.specs.Parts.{parts_source};
@@ -8,9 +8,9 @@ ghost use Rattle.sap_ir.specs.Program.{source_of};
 ghost use Rattle.sap_names.specs.Entities.{entities_of};
 ghost use Rattle.sap_shape.specs.WellFormed.{WellFormed};
 ghost use Rattle.sap_single.specs.Built as spec;
-ghost use Rattle.sap_single.specs.Early.{early_of};
 ghost use Rattle.sap_single.specs.Guards.{names_of};
 ghost use Rattle.sap_single.specs.Law as law;
+ghost use Rattle.sap_single.specs.Plain.{IsPlain};
 ghost use Rattle.sap_tree.specs.Designs.{design_of};
 ghost use Rattle.sap_tree.specs.Trees as trees;
 
@@ -136,7 +136,7 @@ fn parts(
     }
 }
 
-/// The assignments of a well-formed design all of whose constructs are compiled. The names are that design's.
+/// The assignments of a well-formed design. The names are that design's.
 pub fn guards(
     alloc: Global,
     design: &Design,
@@ -145,7 +145,7 @@ pub fn guards(
 ) -> Result<Guarded, AllocError>
     requires names { names.now ≡ entities_of (design_of design.now) }
     requires well_formed { WellFormed lattice.now (design_of design.now) }
-    requires compiled { early_of (design_of design.now) ≡ None }
+    requires plain { IsPlain (design_of design.now) }
     ensures { IfOk result (λ g. source_of g ≡ law.source_of lattice.now (design_of design.now)) }
 {
     guards_stand();
@@ -161,7 +161,7 @@ pub fn guards(
     Ok(Guarded::new(made))
 }
 
-/// The netlist of a well-formed design all of whose constructs are compiled. The names are that design's.
+/// The netlist of a well-formed design. The names are that design's.
 pub fn netlist(
     alloc: Global,
     design: &Design,
@@ -170,7 +170,7 @@ pub fn netlist(
 ) -> Result<Netlist, AllocError>
     requires names { names.now ≡ entities_of (design_of design.now) }
     requires well_formed { WellFormed lattice.now (design_of design.now) }
-    requires compiled { early_of (design_of design.now) ≡ None }
+    requires plain { IsPlain (design_of design.now) }
     ensures { IfOk result (λ n. StandsForDesign lattice.now (design_of design.now) n) }
 {
     guards_stand();

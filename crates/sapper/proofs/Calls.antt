@@ -6,7 +6,7 @@ use Rattle.std.specs.declared.alloc.Global.{Global}
 use Rattle.std.proofs.lemmas.List.{append-nil}
 use Rattle.sap_desk.specs.Desk.{Told}
 use Rattle.sap_latfile.specs.declared.fault.LatFileFault.{LatFileFault}
-use Rattle.sap_compile.specs.declared.fault.DesignFault.{DesignFault}
+use Rattle.sapper.specs.declared.fault.DesignFault.{DesignFault}
 use Rattle.sap_stim.specs.declared.fault.StimFault.{StimFault}
 use Rattle.sap_vread.specs.declared.fault.ModFault.{ModFault}
 use Rattle.sap_desk.specs.Cause.{Rose, counted}

@@ -92,7 +92,7 @@ module _ (lattice design out : List ℕ) (t : Told) where
       done_justified = inr ((ls, design_tree m.design, has.stands, compiled_stands ls t design m compiled), done_alone)
 
       module_text : IsModuleText lattice design t m.module
-      module_text = (ls, design_tree m.design, m.netlist, has.stands, compiled.stands)
+      module_text = (ls, design_tree m.design, m.netlist, has.stands, compiled.stands, compiled.is_module)
 
       cut : (files : Files) (part : List ℕ) → IsPrefix part m.module → files ≡ at_name out (Some part) t.files → ModuleCut lattice design out t files
       cut files part prefix is = inr (m.module, part, module_text, prefix, is)

@@ -9,8 +9,8 @@ use Rattle.sap_tree.specs.declared.design.Design.{Design as AnyDesign}
 use Rattle.sap_parse.specs.Text.{IsText, IsReadFault}
 use Rattle.sap_parse.specs.declared.fault.ReadFault.{ReadFault}
 use Rattle.sap_parse.specs.declared.fault.ReadFault.TheVariants as read
-use Rattle.sap_compile.specs.declared.fault.DesignFault.{DesignFault}
-use Rattle.sap_compile.specs.declared.fault.DesignFault.TheVariants as design
+use Rattle.sapper.specs.declared.fault.DesignFault.{DesignFault}
+use Rattle.sapper.specs.declared.fault.DesignFault.TheVariants as design
 use Rattle.sapper.specs.Causes.{IsTextFault, TextRefused, TextStands}
 use Rattle.sapper.specs.Steps.{Counted, HasText, TextRead, TextStops, ending, ending_of, read_failure}
 use Rattle.sapper.specs.declared.failure.Failure.{Failure}

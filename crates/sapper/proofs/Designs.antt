@@ -19,11 +19,12 @@ use Rattle.sap_names.specs.NameFaults.{design_name_faults}
 use Rattle.sap_shape.specs.ShapeFaults.{design_shape_faults}
 use Rattle.sap_shape.specs.WellFormed.{WellFormed, IsFirstFault}
 use Rattle.sap_interface.specs.Designs.{StandsForDesign}
-use Rattle.sap_single.specs.Early.{early_of}
-use Rattle.sap_compile.specs.Compiles.{IsCompiled, IsFaultOf}
+use Rattle.sapper.specs.Early.{early_of}
+use Rattle.sap_compile.specs.Compiles.{IsModuleFor}
 use Rattle.sap_compile.specs.declared.compiler.Compiled.{Compiled}
-use Rattle.sap_compile.specs.declared.fault.DesignFault.{DesignFault}
-use Rattle.sap_compile.specs.declared.fault.DesignFault.TheVariants as design
+use Rattle.sapper.specs.declared.fault.DesignFault.{DesignFault}
+use Rattle.sapper.specs.declared.fault.DesignFault.TheVariants as design
+use Rattle.sapper.specs.DesignFaults.{IsFaultOf}
 use Rattle.sapper.specs.Ending.{Ending}
 use Rattle.sapper.specs.Causes.{Compiles, DesignRefused, DesignStands, IsTextFault, TextRefused, TextStands}
 use Rattle.sapper.specs.Steps.{Counted, DesignCompiled, DesignStops, HasDesign, HasText, TextRead, TextStops, design_failure, ending, ending_of, read_failure}
@@ -37,11 +38,12 @@ OneDesign = (text : List ℕ) (one other : DesignTree) → IsText text one → I
 
 -- the bytes of a design file, over the levels of a lattice
 
-pub design_accepted : (ls : Levels) (source : List ℕ) (m : Compiled) → IsCompiled ls source m → early_of (design_tree m.design) ≡ None
+pub design_accepted : (ls : Levels) (source : List ℕ) (m : Compiled) → IsText source (design_tree m.design)
+    → IsModuleFor ls (design_tree m.design) m.netlist m.module → early_of (design_tree m.design) ≡ None
     → ((fault : DesignFault) → fault ≢ design.Memory → IsFaultOf ls source fault → false ≡ true)
     → DesignCompiled ls source (Ok m)
 unfolding DesignCompiled
-design_accepted ls source m is compiled exact = (is, compiled, λ fault ne first. let h = exact fault ne first in cc)
+design_accepted ls source m is is_module compiled exact = (is, is_module, compiled, λ fault ne first. let h = exact fault ne first in cc)
 
 module _ (ls : Levels) (source : List ℕ) (fault : DesignFault) (first : IsFaultOf ls source fault)
     (valid : (d : DesignTree) → IsText source d → early_of d ≡ None → WellFormed ls d → fault ≡ design.Memory) where
@@ -100,11 +102,12 @@ module _ (t : Told) (name : List ℕ) (ls : Levels) (source : List ℕ) (file : 
   unfolding DesignCompiled
   has one m r = record {
     stands = (source, file, r.0);
-    compiled = r.1;
+    is_module = r.1;
+    compiled = r.2;
     faultless = λ fault refused.
         let (other, there, first) = refused.1 in
-        r.2 fault refused.0 (subst (λ (b : List ℕ). IsFaultOf ls b fault) (same_Some (t.files name) other source there file) first);
-    only = λ other stands. one source other (design_tree m.design) (is_text_in other stands) r.0.is_text;
+        r.3 fault refused.0 (subst (λ (b : List ℕ). IsFaultOf ls b fault) (same_Some (t.files name) other source there file) first);
+    only = λ other stands. one source other (design_tree m.design) (is_text_in other stands) r.0;
   }
 
   none_stands : ((d : DesignTree) → Compiles ls source d → ⊥) → (d : DesignTree) → DesignStands t name ls d → ⊥
@@ -135,7 +138,7 @@ design_has one name bytes seen ls (Err e) old file is r = tt
 pub design_stands : (ls : Levels) (source : List ℕ) (r : Result Compiled Failure) → DesignCompiled ls source r
     → IfOk r (λ m. StandsForDesign ls (design_tree m.design) m.netlist)
 unfolding DesignCompiled
-design_stands ls source (Ok m) r = r.0.stands
+design_stands ls source (Ok m) r = r.1.stands
 design_stands ls source (Err e) r = tt
 
 stops_read : (name bytes seen : List ℕ) (ls : Levels) (e : Failure) (old : Option Told) → IfSome old (λ t. t.files name ≡ Some bytes)

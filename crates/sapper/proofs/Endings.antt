@@ -10,7 +10,7 @@ use Rattle.sap_latfile.specs.OneLattice.{AreSame}
 use Rattle.sap_tree.specs.Syntax.{DesignTree}
 use Rattle.sap_tree.specs.Designs.{design_of as design_tree}
 use Rattle.sap_compile.specs.declared.compiler.Compiled.{Compiled}
-use Rattle.sap_compile.specs.declared.fault.DesignFault.{DesignFault}
+use Rattle.sapper.specs.declared.fault.DesignFault.{DesignFault}
 use Rattle.sap_stim.specs.declared.fault.StimFault.{StimFault}
 use Rattle.sapper.specs.Words.{Words}
 use Rattle.sapper.specs.Ending.{Ending, done, no_command, lattice_refused, design_refused, stimulus_refused, module_refused, failed, no_memory, status_of}
@@ -142,7 +142,7 @@ refused_over t name l m fault same r = (r.0, (r.1.0, r.1.1, fault_in l m r.1.0 f
 pub compiled_stands : (ls : Levels) (t : Told) (name : List ℕ) (m : Compiled) → HasDesign ls t name m → DesignStands t name ls (design_tree m.design)
 compiled_stands ls t name m has =
     let (source, file, is) = has.stands in
-    (source, file, record { is_text = is.is_text; compiled = has.compiled; well_formed = is.well_formed })
+    (source, file, record { is_text = is; compiled = has.compiled; well_formed = has.is_module.well_formed })
 
 -- a text on channel 1
 

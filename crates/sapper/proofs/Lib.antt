@@ -1,4 +1,7 @@
 pub mod Lattices
+pub mod EarlyWalks
+pub mod Plain
+pub mod DesignFaults
 pub mod Designs
 pub mod DesignTexts
 pub mod Programs

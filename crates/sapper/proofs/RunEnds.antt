@@ -7,7 +7,7 @@ use Rattle.sap_lattice.specs.Levels.{Levels}
 use Rattle.sap_tree.specs.Syntax.{DesignTree}
 use Rattle.sap_tree.specs.Designs.{design_of as design_tree}
 use Rattle.sap_compile.specs.declared.compiler.Compiled.{Compiled}
-use Rattle.sap_compile.specs.declared.fault.DesignFault.{DesignFault}
+use Rattle.sapper.specs.declared.fault.DesignFault.{DesignFault}
 use Rattle.sap_stim.specs.declared.fault.StimFault.{StimFault}
 use Rattle.sap_sim.specs.declared.rows.Rows.{Rows}
 use Rattle.sap_stim.specs.declared.stimulus.Parsed.{Parsed}

@@ -7,11 +7,11 @@ use Rattle.sap_latfile.specs.declared.fault.LatFileFault.{LatFileFault}
 use Rattle.sap_latfile.specs.declared.fault.LatFileFault.TheVariants as lattice_fault
 use Rattle.sap_parse.specs.Text.{IsText, IsReadFault}
 use Rattle.sap_shape.specs.WellFormed.{WellFormed}
-use Rattle.sap_single.specs.Early.{early_of}
+use Rattle.sapper.specs.Early.{early_of}
 use Rattle.sap_tree.specs.Syntax.{DesignTree}
-use Rattle.sap_compile.specs.Compiles.{IsFaultOf}
-use Rattle.sap_compile.specs.declared.fault.DesignFault.{DesignFault}
-use Rattle.sap_compile.specs.declared.fault.DesignFault.TheVariants as design_fault
+use Rattle.sapper.specs.DesignFaults.{IsFaultOf}
+use Rattle.sapper.specs.declared.fault.DesignFault.{DesignFault}
+use Rattle.sapper.specs.declared.fault.DesignFault.TheVariants as design_fault
 use Rattle.sap_stim.specs.declared.fault.StimFault.{StimFault}
 use Rattle.sap_stim.specs.declared.stimulus.Parsed.{Parsed}
 use Rattle.sap_run.specs.RunOf.{read_for as design_stimulus}

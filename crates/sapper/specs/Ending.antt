@@ -13,8 +13,8 @@ use Rattle.sap_parse.specs.declared.fault.ReadFault.TheVariants as read
 use Rattle.sap_names.specs.Fault.{number as code_number}
 use Rattle.sap_names.specs.declared.fault.CheckFault.{CheckFault}
 use Rattle.sap_names.specs.declared.fault.CheckFault.TheVariants as check
-use Rattle.sap_compile.specs.declared.fault.DesignFault.{DesignFault}
-use Rattle.sap_compile.specs.declared.fault.DesignFault.TheVariants as design
+use Rattle.sapper.specs.declared.fault.DesignFault.{DesignFault}
+use Rattle.sapper.specs.declared.fault.DesignFault.TheVariants as design
 use Rattle.sap_vread.specs.Codes.{number as module_number}
 use Rattle.sap_vread.specs.declared.fault.ModFault.{ModFault}
 use Rattle.sap_vread.specs.declared.fault.ModFault.TheVariants as verilog

@@ -8,7 +8,7 @@ use Rattle.sap_net.specs.Net.{Net}
 use Rattle.sap_compile.specs.Compiles.{IsModuleFor}
 use Rattle.sapper.specs.Words.{Words, compile, run, fmt, sim, command_of}
 use Rattle.sapper.specs.Ending.{Ending, done, no_command, lattice_refused, design_refused, stimulus_refused, module_refused, failed, no_memory, status_of, line_of}
-use Rattle.sapper.specs.Causes.{FileHas, LatticeStands, CauseOf}
+use Rattle.sapper.specs.Causes.{LatticeStands, TextStands, CauseOf}
 use Rattle.sapper.specs.Output.{IsPrefix, Output}
 
 -- the files of a desk, by name
@@ -18,7 +18,7 @@ Files = List ℕ → Option (List ℕ)
 -- the text is one of a module for the design of a file over the lattice of another
 abbrev pub IsModuleText : (lattice design : List ℕ) → Told → (text : List ℕ) → Type 0
 IsModuleText lattice design t text =
-    (ls : Levels) × (d : DesignTree) × (net : Net) × LatticeStands t lattice ls × FileHas t design (λ source. IsModuleFor ls source d net text)
+    (ls : Levels) × (d : DesignTree) × (net : Net) × LatticeStands t lattice ls × TextStands t design d × IsModuleFor ls d net text
 
 -- what `compile` leaves where it is done: OUT has the text of a module, and all other files are as before
 abbrev pub ModuleWritten : (lattice design out : List ℕ) → Told → Files → Type 0

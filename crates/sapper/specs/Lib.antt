@@ -1,4 +1,6 @@
 pub mod Words
+pub mod Early
+pub mod DesignFaults
 pub mod Ending
 pub mod Causes
 pub mod Output

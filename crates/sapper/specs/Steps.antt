@@ -10,14 +10,14 @@ use Rattle.sap_latfile.specs.declared.fault.LatFileFault.TheVariants as lattice_
 use Rattle.sap_parse.specs.Text.{IsText, IsReadFault}
 use Rattle.sap_parse.specs.declared.fault.ReadFault.{ReadFault}
 use Rattle.sap_parse.specs.declared.fault.ReadFault.TheVariants as read_fault
-use Rattle.sap_single.specs.Early.{early_of}
+use Rattle.sapper.specs.Early.{early_of}
 use Rattle.sap_tree.specs.Designs.{design_of}
 use Rattle.sap_tree.specs.Syntax.{DesignTree}
 use Rattle.sap_tree.specs.declared.design.Design.{Design as AnyDesign}
-use Rattle.sap_compile.specs.Compiles.{IsCompiled, IsFaultOf}
+use Rattle.sap_compile.specs.Compiles.{IsModuleFor}
 use Rattle.sap_compile.specs.declared.compiler.Compiled.{Compiled}
-use Rattle.sap_compile.specs.declared.fault.DesignFault.{DesignFault}
-use Rattle.sap_compile.specs.declared.fault.DesignFault.TheVariants as design_fault
+use Rattle.sapper.specs.declared.fault.DesignFault.{DesignFault}
+use Rattle.sapper.specs.declared.fault.DesignFault.TheVariants as design_fault
 use Rattle.sap_net.specs.Net.{Net}
 use Rattle.sap_modtext.specs.Modules.{IsModule}
 use Rattle.sap_vread.specs.ModuleFault.{IsModuleFault}
@@ -25,6 +25,7 @@ use Rattle.sap_vread.specs.declared.fault.ModFault.{ModFault}
 use Rattle.sap_vread.specs.declared.fault.ModFault.TheVariants as module_fault
 use Rattle.sap_stim.specs.declared.fault.StimFault.{StimFault}
 use Rattle.sapper.specs.Words.{Words, compile, run, fmt, sim}
+use Rattle.sapper.specs.DesignFaults.{IsFaultOf}
 use Rattle.sapper.specs.Ending.{Ending, done, no_command, lattice_refused, design_refused, stimulus_refused, module_refused, failed, no_memory, status_of, line_of}
 use Rattle.sapper.specs.Causes.{Cause, Compiles, DesignRefused, DesignStands, FileHas, IsTextFault, LatticeRefused, LatticeStands, ModuleRefused, ModuleStands, TextRefused, TextStands}
 use Rattle.sapper.specs.Output.{IsOutput, IsPrefix, Output}
@@ -87,7 +88,8 @@ LatticeRead bytes (Err Memory) = Unit {0}
 -- what the bytes of a design file give: what they are compiled to, and then they have no fault; or their fault, and then they are no design that compiles
 unfoldable pub DesignCompiled : Levels → (source : List ℕ) → Result Compiled Failure → Type 0
 DesignCompiled ls source (Ok m) =
-    IsCompiled ls source m × (early_of (design_of m.design) ≡ None) × ((fault : DesignFault) → fault ≢ design_fault.Memory → IsFaultOf ls source fault → ⊥)
+    IsText source (design_of m.design) × IsModuleFor ls (design_of m.design) m.netlist m.module × (early_of (design_of m.design) ≡ None)
+    × ((fault : DesignFault) → fault ≢ design_fault.Memory → IsFaultOf ls source fault → ⊥)
 DesignCompiled ls source (Err (Design fault)) = (fault ≢ design_fault.Memory) × IsFaultOf ls source fault × ((d : DesignTree) → Compiles ls source d → ⊥)
 DesignCompiled ls source (Err (Lattice fault)) = ⊥
 DesignCompiled ls source (Err (Stimulus fault)) = ⊥
@@ -233,7 +235,8 @@ pub record HasLattice (t : Told) (name : List ℕ) (ls : Levels) : Type 0 where
 
 -- a design file is compiled to this over the levels, has no fault, and is no other design
 pub record HasDesign (ls : Levels) (t : Told) (name : List ℕ) (m : Compiled) : Type 0 where
-  pub stands : FileHas t name (λ source. IsCompiled ls source m)
+  pub stands : TextStands t name (design_of m.design)
+  pub is_module : IsModuleFor ls (design_of m.design) m.netlist m.module
   pub compiled : early_of (design_of m.design) ≡ None
   pub faultless : (fault : DesignFault) → DesignRefused t name ls fault → ⊥
   pub only : (other : DesignTree) → TextStands t name other → other ≡ design_of m.design

@@ -1,6 +1,6 @@
 //! Why a command ends without its result.
 
-use sap_compile::DesignFault;
+use crate::fault::DesignFault;
 use sap_latfile::LatFileFault;
 use sap_stim::fault::StimFault;
 use sap_vread::fault::ModFault;

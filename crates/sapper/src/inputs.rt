@@ -6,8 +6,10 @@ ghost use Rattle.sap_interface.specs.Designs.{StandsForDesign};
 ghost use Rattle.sap_tree.specs.Designs.{design_of};
 ghost use Rattle.sapper.specs.Steps.{Counted, DesignCompiled, DesignStops, HasDesign, HasLattice, HasModule, HasText, LatticeRead, LatticeStops, ModuleRead, ModuleStops, Never, Stops, TextRead, TextStops, design_failure, ending, ending_of, lattice_failure, module_failure, read_failure};
 
+use crate::compiler::compile_text;
 use crate::failure::Failure;
-use sap_compile::{Compiled, DesignFault, compile};
+use crate::fault::DesignFault;
+use sap_compile::Compiled;
 use sap_desk::{Bytes, Desk, DeskError, read_file};
 use sap_latfile::laws::one_lattice;
 use sap_latfile::{LatFileFault, read_lattice};
@@ -98,7 +100,7 @@ fn compiled_from<'a>(
 ) -> Result<Compiled, Failure<'a>>
     ensures { DesignCompiled lattice.now bytes.now result }
 {
-    match compile(alloc, lattice, bytes) {
+    match compile_text(alloc, lattice, bytes) {
         Ok(compiled) => Ok(compiled),
         Err(fault) => Err(design_failure(fault)),
     }

@@ -3,8 +3,11 @@
 
 mod call;
 mod command;
+mod compiler;
 mod compiling;
+mod early;
 mod failure;
+pub mod fault;
 mod inputs;
 mod laws;
 mod output;
@@ -14,4 +17,5 @@ mod simulating;
 mod texts;
 
 pub use call::sapper;
+pub use fault::DesignFault;
 pub use laws::one_output;

@@ -4,7 +4,7 @@ ghost use Rattle.std.specs.Prelude.{◌≡◌, ◌++◌, IfOk, OnOk};
 ghost use Rattle.std.specs.Fmt.{decimal};
 ghost use Rattle.sapper.specs.Ending as texts;
 
-use sap_compile::DesignFault;
+use crate::fault::DesignFault;
 use sap_latfile::LatFileFault;
 use sap_lattice::LatFault;
 use sap_names::fault::CheckFault;

@@ -457,3 +457,35 @@ fn a_written_module_has_the_rows_of_its_design(rt: HostRuntime) -> Result<(), Fa
     }
     Ok(())
 }
+
+// Designs, and how many sums their modules have: an expression that is needed again is the wire that it was.
+static SUMS: [(&str, usize); 3] = [
+    (
+        "input a : 8;\ninput b : 8;\nreg x : 8 dynamic;\nreg y : 8 dynamic;\nstate S enforced low {\n  y := a + b;\n  x := (a + b) * (a + b);\n  goto S;\n}\n",
+        1,
+    ),
+    (
+        "input a : 8;\ninput b : 8;\nreg x : 8 dynamic;\nreg y : 8 enforced low;\nstate S enforced low {\n  y := a + b;\n  y := a + b;\n  x := a + b;\n  goto S;\n}\n",
+        1,
+    ),
+    (
+        "input a : 8;\ninput b : 8;\nreg x : 8 dynamic;\nreg y : 8 dynamic;\nstate S enforced low {\n  y := a + b;\n  x := b + a;\n  goto S;\n}\n",
+        2,
+    ),
+];
+
+fn sums(text: &[u8]) -> usize {
+    text.iter().filter(|byte| **byte == b'+').count()
+}
+
+#[test]
+fn an_expression_is_built_once(rt: HostRuntime) -> Result<(), Fail> {
+    let alloc = rt.alloc();
+    let compile = words(alloc, &["compile", "L", "D", "O"])?;
+    for (row, (design, found)) in SUMS.iter().enumerate() {
+        let mut desk = desk(alloc, TWO, design, "")?;
+        assert_eq!(rt; sapper(alloc, &compile, &mut desk), 0, "row {row}");
+        assert_eq!(rt; sums(desk.file("O").unwrap_or(b"")), *found, "row {row}");
+    }
+    Ok(())
+}

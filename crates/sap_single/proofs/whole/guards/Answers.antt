@@ -16,7 +16,7 @@ new-requires c =
       lattice = record { names = c.lawful.ensures.names; laws = c.lawful.ensures.order; antisymmetric = c.lawful.ensures.antisymmetric; codes = c.lawful.ensures.codes; narrow = c.lawful.ensures.narrow };
       whole = c.design_is_whole.ensures;
       formed = c.requires.well_formed;
-      early = c.requires.compiled;
+      plain = c.requires.plain;
     } in
     let e : parts_source c.in_ok-made.made ≡ source_of ls t =
     made_is ls t c.args.names.now c.as_slice.result.now (states_of c.as_slice-2.result.now) (parts_source c.in_ok-made.made) (c.in_ok-made.ensures {u = tt}) c.requires.names
@@ -31,7 +31,7 @@ returns c =
       lattice = record { names = c.lawful.ensures.names; laws = c.lawful.ensures.order; antisymmetric = c.lawful.ensures.antisymmetric; codes = c.lawful.ensures.codes; narrow = c.lawful.ensures.narrow };
       whole = c.design_is_whole.ensures;
       formed = c.requires.well_formed;
-      early = c.requires.compiled;
+      plain = c.requires.plain;
     } in
     let e : parts_source c.in_ok-made.made ≡ source_of ls t =
     made_is ls t c.args.names.now c.as_slice.result.now (states_of c.as_slice-2.result.now) (parts_source c.in_ok-made.made) (c.in_ok-made.ensures {u = tt}) c.requires.names

@@ -12,7 +12,7 @@ lower-requires c =
       lattice = record { names = c.lawful.ensures.names; laws = c.lawful.ensures.order; antisymmetric = c.lawful.ensures.antisymmetric; codes = c.lawful.ensures.codes; narrow = c.lawful.ensures.narrow };
       whole = c.design_is_whole.ensures;
       formed = c.requires.well_formed;
-      early = c.requires.compiled;
+      plain = c.requires.plain;
     } in
     source_once ls t (source_of c.in_ok-source.source) (c.in_ok-source.ensures {u = tt}) (c.guards_stand.ensures.guarded ls t sg)
 
@@ -24,7 +24,7 @@ returns c =
       lattice = record { names = c.lawful.ensures.names; laws = c.lawful.ensures.order; antisymmetric = c.lawful.ensures.antisymmetric; codes = c.lawful.ensures.codes; narrow = c.lawful.ensures.narrow };
       whole = c.design_is_whole.ensures;
       formed = c.requires.well_formed;
-      early = c.requires.compiled;
+      plain = c.requires.plain;
     } in
     design_stands c.guards_stand.ensures.stand c.guards_stand.ensures.guarded ls t (source_of c.in_ok-source.source) c.in_ok-net.net sg (c.in_ok-source.ensures {u = tt})
     c.in_ok-net.ensures.declares c.in_ok-net.ensures.same

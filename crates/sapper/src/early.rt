@@ -1,8 +1,8 @@
 //! The first construct of a design that isn't compiled yet.
 
 ghost use Rattle.std.specs.Prelude.{◌≡◌};
-ghost use Rattle.sap_single.specs.Early as spec;
-ghost use Rattle.sap_single.specs.Early.{◌or_else◌};
+ghost use Rattle.sapper.specs.Early as spec;
+ghost use Rattle.sapper.specs.Early.{◌or_else◌};
 ghost use Rattle.sap_tree.specs.Designs.{design_of};
 ghost use Rattle.sap_tree.specs.Trees.{command_of, commands_of, expression_of, expressions_of, simple_of, state_of, states_of};
 

@@ -1,10 +1,10 @@
-//! Why a text gives no module.
+//! Why the text of a design gives no module.
 
 use sap_names::fault::CheckFault;
 use sap_parse::fault::ReadFault;
 use sap_tree::place::Place;
 
-/// Why a text gives no module over a lattice: its first fault.
+/// Why the text of a design gives no module over a lattice: its first fault.
 #[derive(Debug, Drop)]
 pub enum DesignFault {
     /// The text is no design within the limits; never want of memory.

@@ -1,6 +1,6 @@
 use Rattle.std.proofs.Common.{◌≡◌, drop}
-use Rattle.sap_single.specs.Early.{early_declarations}
-use Rattle.sap_single.proofs.early.declarations.Given as goal
+use Rattle.sapper.specs.Early.{early_declarations}
+use Rattle.sapper.proofs.early.declarations.Given as goal
 
 -- what is left has the first of all
 abbrev pub invariant-loop-one : goal.invariant-loop-one

@@ -7,7 +7,7 @@ use Rattle.sap_tree.specs.declared.syntax.State.{State, out-State}
 use Rattle.sap_tree.specs.Syntax.{StateTree}
 use Rattle.sap_tree.specs.Trees.{command_of, commands_of, state_of, states_of}
 use Rattle.sap_tree.proofs.Views.{state_of-out}
-use Rattle.sap_single.specs.Early.{◌or_else◌, early_command, early_list, early_declaration, early_declarations, early_state, early_states, early_more, state_place}
+use Rattle.sapper.specs.Early.{◌or_else◌, early_command, early_list, early_declaration, early_declarations, early_state, early_states, early_more, state_place}
 
 pub commands_drop : (cs : List Cmd) (n : ℕ) (d : Cmd) → n < length cs
     → early_list (commands_of (drop n cs)) ≡ (early_command (command_of (get_or cs n d)) or_else early_list (commands_of (drop (n + 1) cs)))

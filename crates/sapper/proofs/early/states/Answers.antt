@@ -1,6 +1,6 @@
 use Rattle.std.proofs.Common.{sym}
-use Rattle.sap_single.proofs.Walks.{states_first}
-use Rattle.sap_single.proofs.early.states.Goals as goal
+use Rattle.sapper.proofs.EarlyWalks.{states_first}
+use Rattle.sapper.proofs.early.states.Goals as goal
 
 pub returns-in-len1-up : goal.returns-in-len1-up
 returns-in-len1-up c =

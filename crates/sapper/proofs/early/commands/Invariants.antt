@@ -1,7 +1,7 @@
 use Rattle.std.proofs.Common.{◌≡◌, drop}
 use Rattle.sap_tree.specs.Trees.{commands_of}
-use Rattle.sap_single.specs.Early.{early_list}
-use Rattle.sap_single.proofs.early.commands.Given as goal
+use Rattle.sapper.specs.Early.{early_list}
+use Rattle.sapper.proofs.early.commands.Given as goal
 
 -- what is left has the first of all
 abbrev pub invariant-loop-one : goal.invariant-loop-one
