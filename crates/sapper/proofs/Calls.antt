@@ -11,7 +11,7 @@ use Rattle.sap_stim.specs.declared.fault.StimFault.{StimFault}
 use Rattle.sap_vread.specs.declared.fault.ModFault.{ModFault}
 use Rattle.sap_desk.specs.Cause.{Rose, counted}
 use Rattle.sap_desk.specs.Whole.{Between}
-use Rattle.sapper.specs.Words.{Words, compile, run, fmt, sim, command_of}
+use Rattle.sapper.specs.Words.{Words, compile, run, fmt, sim, report, command_of}
 use Rattle.sapper.specs.Ending.{Ending, done, no_command, lattice_refused, design_refused, stimulus_refused, module_refused, failed, no_memory, status_of, line, line_of}
 use Rattle.sapper.specs.Causes.{Cause, CauseOf}
 use Rattle.sapper.specs.Output.{Output}
@@ -120,24 +120,28 @@ lattice_leaves (compile lattice design out) t files fault is = is
 lattice_leaves (run lattice design stimulus) t files fault is = is
 lattice_leaves (fmt design) t files fault is = is
 lattice_leaves (sim lattice verilog stimulus) t files fault is = is
+lattice_leaves (report lattice design) t files fault is = is
 
 design_leaves : (c : Words) (t : Told) (files : Files) (fault : DesignFault) → Leaves c t files (design_refused fault) → Leaves c t files no_memory
 design_leaves (compile lattice design out) t files fault is = is
 design_leaves (run lattice design stimulus) t files fault is = is
 design_leaves (fmt design) t files fault is = is
 design_leaves (sim lattice verilog stimulus) t files fault is = is
+design_leaves (report lattice design) t files fault is = is
 
 stimulus_leaves : (c : Words) (t : Told) (files : Files) (fault : StimFault) → Leaves c t files (stimulus_refused fault) → Leaves c t files no_memory
 stimulus_leaves (compile lattice design out) t files fault is = is
 stimulus_leaves (run lattice design stimulus) t files fault is = is
 stimulus_leaves (fmt design) t files fault is = is
 stimulus_leaves (sim lattice verilog stimulus) t files fault is = is
+stimulus_leaves (report lattice design) t files fault is = is
 
 module_leaves : (c : Words) (t : Told) (files : Files) (fault : ModFault) → Leaves c t files (module_refused fault) → Leaves c t files no_memory
 module_leaves (compile lattice design out) t files fault is = is
 module_leaves (run lattice design stimulus) t files fault is = is
 module_leaves (fmt design) t files fault is = is
 module_leaves (sim lattice verilog stimulus) t files fault is = is
+module_leaves (report lattice design) t files fault is = is
 
 module _ (words : List (List ℕ)) (c : Words) (is : command_of words ≡ Some c) where
   leaves_words : (t : Told) (files : Files) (e : Ending) → Leaves c t files e → LeavesOf (command_of words) t files e
@@ -297,6 +301,9 @@ module _ (words : List (List ℕ)) (c : Words) (is : command_of words ≡ Some c
   outside_after text lost now (sim lattice verilog stimulus) t m n (inr (inr (inr full))) w = inr (inr (inr (full_output text lost now t m n full w)))
   outside_after text lost now (fmt design) t m n (inl missing) w = inl missing
   outside_after text lost now (fmt design) t m n (inr full) w = inr (full_output text lost now t m n full w)
+  outside_after text lost now (report lattice design) t m n (inl missing) w = inl missing
+  outside_after text lost now (report lattice design) t m n (inr (inl missing)) w = inr (inl missing)
+  outside_after text lost now (report lattice design) t m n (inr (inr full)) w = inr (inr (full_output text lost now t m n full w))
 
   outside_words : (t n : Told) → OutsideOf c t n → Outside words t n
   outside_words t n h d named = subst (λ (w : Words). OutsideOf w t n) (same_Some (command_of words) c d is named) h

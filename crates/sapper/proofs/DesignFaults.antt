@@ -37,14 +37,14 @@ of_checking ls source d fault failure is t e first =
     subst (λ (f : DesignFault). IsFaultOf ls source f) (sym is) (checked ls source d fault t e first)
 
 -- a well-formed design has no fault
-no_check : (ls : Levels) (d : DesignTree) (f : CheckFault) → WellFormed ls d → IsCheckFault ls d f → ⊥
+pub no_check : (ls : Levels) (d : DesignTree) (f : CheckFault) → WellFormed ls d → IsCheckFault ls d f → ⊥
 no_check ls d (check.Rule code place) w h = no_first ls d (record { code = code; place = place }) w h
 no_check ls d check.Memory w h = h
 
 abbrev OneDesign : Type 0
 OneDesign = (text : List ℕ) (one other : DesignTree) → IsText text one → IsText text other → one ≡ other
 
-abbrev NotBoth : Type 0
+abbrev pub NotBoth : Type 0
 NotBoth = (text : List ℕ) (design : DesignTree) (fault : ReadFault) → IsText text design → IsReadFault text fault → ⊥
 
 module _ (one : OneDesign) (both : NotBoth) (ls : Levels) (source : List ℕ) where

@@ -1,6 +1,6 @@
 -- What reading and compiling a design file come to.
-use Rattle.std.proofs.Common.{◌≡◌, ◌≢◌, ℕ, true, false, List, [], refl, sym, ◌∙◌, ap, subst, inl, inr, ◌⊎◌, Result, Ok, Err}
-use Rattle.std.specs.Prelude.{Option, Some, None, IfSome, IfOk, IfErr, OnOk}
+use Rattle.std.proofs.Common.{◌≡◌, ◌≢◌, ℕ, true, false, List, [], sym, ◌∙◌, ap, subst, inl, inr, ◌⊎◌, Result, Ok, Err}
+use Rattle.std.specs.Prelude.{Option, Some, None, IfSome, IfOk, IfErr}
 use Rattle.sap_desk.specs.Desk.{Told}
 use Rattle.sap_desk.specs.Whole.{Between}
 use Rattle.sap_lattice.specs.Levels.{Levels, order_of}
@@ -8,10 +8,7 @@ use Rattle.sap_lattice.specs.Order.{Order}
 use Rattle.sap_latfile.specs.OneLattice.{AreSame}
 use Rattle.sap_tree.specs.Syntax.{DesignTree}
 use Rattle.sap_tree.specs.Designs.{design_of as design_tree}
-use Rattle.sap_tree.specs.declared.design.Design.{Design as AnyDesign}
-use Rattle.sap_parse.specs.Text.{IsText, IsReadFault}
-use Rattle.sap_parse.specs.declared.fault.ReadFault.{ReadFault}
-use Rattle.sap_parse.specs.declared.fault.ReadFault.TheVariants as read
+use Rattle.sap_parse.specs.Text.{IsText}
 use Rattle.sap_names.specs.Fault.{First}
 use Rattle.sap_names.specs.declared.fault.Fault.{Fault}
 use Rattle.sap_names.specs.declared.fault.CheckFault.TheVariants as check
@@ -25,9 +22,8 @@ use Rattle.sap_compile.specs.declared.compiler.Compiled.{Compiled}
 use Rattle.sapper.specs.declared.fault.DesignFault.{DesignFault}
 use Rattle.sapper.specs.declared.fault.DesignFault.TheVariants as design
 use Rattle.sapper.specs.DesignFaults.{IsFaultOf}
-use Rattle.sapper.specs.Ending.{Ending}
-use Rattle.sapper.specs.Causes.{Compiles, DesignRefused, DesignStands, IsTextFault, TextRefused, TextStands}
-use Rattle.sapper.specs.Steps.{Counted, DesignCompiled, DesignStops, HasDesign, HasText, TextRead, TextStops, design_failure, ending, ending_of, read_failure}
+use Rattle.sapper.specs.Causes.{Compiles, DesignStands, TextStands}
+use Rattle.sapper.specs.Steps.{Counted, DesignCompiled, DesignStops, HasDesign, design_failure, ending, ending_of}
 use Rattle.sapper.specs.declared.failure.Failure.{Failure}
 use Rattle.sapper.specs.declared.failure.Failure.TheVariants.{Lattice, Design, Stimulus, Module, Desk, Memory}
 use Rattle.sapper.proofs.Lattices.{same_Some, unchanged_self}
@@ -74,13 +70,13 @@ same_faults l m d s =
     ap (λ (names : List (List ℕ)). design_name_faults names (order_of l).le d) s.names
     ∙ ap (λ (o : Order). design_name_faults m.names o.le d) s.order
 
-well_formed_in : (l m : Levels) (d : DesignTree) → AreSame l m → WellFormed l d → WellFormed m d
+pub well_formed_in : (l m : Levels) (d : DesignTree) → AreSame l m → WellFormed l d → WellFormed m d
 well_formed_in l m d s w = record { names = sym (same_faults l m d s) ∙ w.names; shape = w.shape }
 
 pub compiles_in : (l m : Levels) (source : List ℕ) (d : DesignTree) → AreSame l m → Compiles l source d → Compiles m source d
 compiles_in l m source d s w = record { is_text = w.is_text; compiled = w.compiled; well_formed = well_formed_in l m d s w.well_formed }
 
-first_fault_in : (l m : Levels) (d : DesignTree) (f : Fault) → AreSame l m → IsFirstFault l d f → IsFirstFault m d f
+pub first_fault_in : (l m : Levels) (d : DesignTree) (f : Fault) → AreSame l m → IsFirstFault l d f → IsFirstFault m d f
 first_fault_in l m d f s first =
     let P : List Fault → Type 0 = λ faults. First (Some f) faults ⊎ ((faults ≡ []) × First (Some f) (design_shape_faults d)) in
     subst P (same_faults l m d s) first

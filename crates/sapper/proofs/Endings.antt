@@ -1,9 +1,9 @@
 -- The steps of a command joined: what all commands share.
-use Rattle.std.proofs.Common.{◌≡◌, ℕ, ◌≤◌, List, [], ◌++◌, length, take, refl, sym, ◌∙◌, ap, subst, inl, inr, ◌⊎◌, arith}
+use Rattle.std.proofs.Common.{◌≡◌, ℕ, ◌≤◌, List, [], length, take, refl, sym, ◌∙◌, subst, inl, inr, ◌⊎◌, arith}
 use Rattle.std.specs.Prelude.{Option, Some, None, option_map, codes, IfSome, IfErr, Result, Ok, Err}
 use Rattle.std.proofs.lemmas.List.{append-nil, take_all}
-use Rattle.sap_desk.specs.Desk.{Told, added, blamed, stream, IsWriting, Use}
-use Rattle.sap_desk.specs.Cause.{FillsRoom, counted}
+use Rattle.sap_desk.specs.Desk.{Told, added, blamed, IsWriting}
+use Rattle.sap_desk.specs.Cause.{FillsRoom}
 use Rattle.sap_desk.specs.Whole.{Between, CutOutput, MissingOrLong}
 use Rattle.sap_lattice.specs.Levels.{Levels}
 use Rattle.sap_latfile.specs.OneLattice.{AreSame}
@@ -16,9 +16,9 @@ use Rattle.sapper.specs.Words.{Words}
 use Rattle.sapper.specs.Ending.{Ending, done, no_command, lattice_refused, design_refused, stimulus_refused, module_refused, failed, no_memory, status_of}
 use Rattle.sapper.specs.Causes.{Cause, DesignRefused, DesignStands}
 use Rattle.sapper.specs.Output.{IsPrefix, Output}
-use Rattle.sapper.specs.Ends.{Files, Leaves}
+use Rattle.sapper.specs.Ends.{Leaves}
 use Rattle.sapper.specs.Outside.{OutsideOf, FullOutput}
-use Rattle.sapper.specs.Steps.{Counted, DesignEnds, Ends, HasDesign, HasOutput, IsFailed, IsFree, Justified, LatticeEnds, ModuleEnds, Put, PutPart, Same, Stops, TextEnds, ending_of, last_of}
+use Rattle.sapper.specs.Steps.{Counted, DesignEnds, Ends, HasDesign, HasOutput, IsFailed, IsFree, Justified, LatticeEnds, ModuleEnds, Put, PutPart, Stops, TextEnds, WellFormedEnds, ending_of, last_of}
 use Rattle.sapper.specs.declared.failure.Failure.{Failure}
 use Rattle.sapper.specs.declared.failure.Failure.TheVariants.{Memory}
 use Rattle.sapper.proofs.Designs.{compiles_in, fault_in}
@@ -98,6 +98,16 @@ text_shown c t name (stimulus_refused fault) r = absurd r
 text_shown c t name (module_refused fault) r = absurd r
 text_shown c t name (failed blamed) r = absurd r
 text_shown c t name no_memory r = absurd r
+
+pub well_formed_shown : (c : Words) (ls : Levels) (t : Told) (name : List ℕ) (e : Ending) → WellFormedEnds ls t name e → Output c t [] e
+well_formed_shown c ls t name (design_refused fault) r = refl
+well_formed_shown c ls t name done r = absurd r
+well_formed_shown c ls t name no_command r = absurd r
+well_formed_shown c ls t name (lattice_refused fault) r = absurd r
+well_formed_shown c ls t name (stimulus_refused fault) r = absurd r
+well_formed_shown c ls t name (module_refused fault) r = absurd r
+well_formed_shown c ls t name (failed blamed) r = absurd r
+well_formed_shown c ls t name no_memory r = absurd r
 
 pub module_shown : (c : Words) (t : Told) (name : List ℕ) (e : Ending) → ModuleEnds t name e → Output c t [] e
 module_shown c t name (design_refused fault) r = absurd r

@@ -1,5 +1,5 @@
 -- The command `fmt`: its steps joined.
-use Rattle.std.proofs.Common.{◌≡◌, ℕ, List, refl, subst, inl, inr, Result, Ok, Err}
+use Rattle.std.proofs.Common.{◌≡◌, ℕ, List, refl, inl, inr, Result, Ok, Err}
 use Rattle.std.specs.Prelude.{Option, Some, None, IfSome, IfOk, IfErr}
 use Rattle.sap_desk.specs.Desk.{Told}
 use Rattle.sap_desk.specs.Whole.{Between}
@@ -8,7 +8,6 @@ use Rattle.sap_show.specs.Canonical.{canonical_text}
 use Rattle.sapper.specs.Words.{fmt}
 use Rattle.sapper.specs.Ending.{Ending, done, no_command, lattice_refused, design_refused, stimulus_refused, module_refused, failed, no_memory, status_of}
 use Rattle.sapper.specs.Causes.{FmtCause, TextStands}
-use Rattle.sapper.specs.Output.{IsOutput}
 use Rattle.sapper.specs.Steps.{Ends, HasOutput, HasText, TextEnds, TextStops, ending}
 use Rattle.sapper.specs.declared.failure.Failure.{Failure}
 use Rattle.sapper.specs.declared.failure.Failure.TheVariants.{Memory}

@@ -7,12 +7,12 @@ use Rattle.sap_lattice.specs.Levels.{Levels}
 use Rattle.sap_lattice.specs.Rules.{KeepsAll}
 use Rattle.sap_lattice.specs.declared.pair.Pair.{Pair}
 use Rattle.sap_latfile.specs.LatticeFile.{FirstFault, IsFileOf, IsLatticeOfFile}
-use Rattle.sap_latfile.specs.OneLattice.{AreSame, OneLattice}
+use Rattle.sap_latfile.specs.OneLattice.{OneLattice}
 use Rattle.sap_latfile.specs.declared.fault.LatFileFault.{LatFileFault}
 use Rattle.sap_latfile.specs.declared.fault.LatFileFault.TheVariants as lattice
 use Rattle.sapper.specs.Ending.{Ending}
 use Rattle.sapper.specs.Causes.{LatticeStands}
-use Rattle.sapper.specs.Steps.{Counted, HasLattice, LatticeEnds, LatticeRead, LatticeStops, Never, Same, Stops, Unchanged, ending, ending_of, lattice_failure}
+use Rattle.sapper.specs.Steps.{Counted, HasLattice, LatticeRead, LatticeStops, Never, Same, Stops, Unchanged, ending, ending_of, lattice_failure}
 use Rattle.sapper.specs.declared.failure.Failure.{Failure}
 use Rattle.sapper.specs.declared.failure.Failure.TheVariants.{Lattice, Design, Stimulus, Module, Desk, Memory}
 

@@ -4,6 +4,7 @@ pub mod Plain
 pub mod DesignFaults
 pub mod Designs
 pub mod DesignTexts
+pub mod CheckedDesigns
 pub mod Programs
 pub mod Stimuli
 pub mod Alike
@@ -11,9 +12,11 @@ pub mod Endings
 pub mod CompileEnds
 pub mod Netlists
 pub mod NetsAlike
+pub mod ReportsAlike
 pub mod OneText
 pub mod RunEnds
 pub mod Modules
 pub mod SimEnds
 pub mod FmtEnds
+pub mod ReportEnds
 pub mod Calls

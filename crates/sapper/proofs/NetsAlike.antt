@@ -1,6 +1,6 @@
 -- A module has one text of rows on a stimulus, whichever of two lattices that are the same is taken.
-use Rattle.std.proofs.Common.{◌≡◌, ℕ, ◌+◌, Bool, true, false, List, [], ◌∷◌, ◌++◌, map, Option, Some, None, refl, sym, ◌∙◌, ap, subst, inl, inr, ◌⊎◌}
-use Rattle.std.specs.Prelude.{◌&&◌, ◌==◌, bytes_eq, find as find_level, if◌then◌else◌, length, option_map}
+use Rattle.std.proofs.Common.{◌≡◌, ℕ, ◌+◌, true, false, List, [], ◌∷◌, ◌++◌, map, None, refl, sym, ◌∙◌, ap, subst, inl, inr}
+use Rattle.std.specs.Prelude.{◌==◌, bytes_eq, find as find_level, if◌then◌else◌, length, option_map}
 use Rattle.std.specs.List.{AllByRecursion}
 use Rattle.std.proofs.lemmas.Bool.{cases_Bool, false≢true}
 use Rattle.sap_lattice.specs.Closure.{name_at}
@@ -12,8 +12,6 @@ use Rattle.sap_maps.specs.Maps.{Name, Valuation}
 use Rattle.sap_maps.specs.Scope.{find}
 use Rattle.sap_maps.proofs.Scopes.{name_is, same_name}
 use Rattle.sap_net.specs.declared.parts.Input.{Input}
-use Rattle.sap_net.specs.declared.parts.Operand.{Operand}
-use Rattle.sap_net.specs.declared.parts.Port.{Port}
 use Rattle.sap_net.specs.declared.parts.Register.{Register}
 use Rattle.sap_net.specs.Net.{Net}
 use Rattle.sap_net.specs.Names.{is_among}
@@ -32,7 +30,7 @@ use Rattle.sap_sim.specs.Fields.{field_of, fields_of, is_tag, with_field}
 use Rattle.sap_sim.specs.Numbers.{given, numbers_of, value_for}
 use Rattle.sap_sim.specs.Ports.{value_name, tag_name}
 use Rattle.sap_sim.specs.Shown.{register_ports, row_of, rows_from, shown_among, shown_registers}
-use Rattle.sap_sim.specs.Simulated.{IsSimulated, read_for}
+use Rattle.sap_sim.specs.Simulated.{read_for}
 use Rattle.sap_sim.proofs.Registers.{IsShown, all_shown, register_port_is}
 use Rattle.sapper.specs.Output.{AreModuleRows}
 use Rattle.sapper.proofs.Stimuli.{stimulus_in}

@@ -9,14 +9,16 @@ use Rattle.sap_parse.specs.Text.{IsText}
 use Rattle.sap_net.specs.Net.{Net}
 use Rattle.sap_modtext.specs.Modules.{IsModule, OneModule}
 use Rattle.sap_show.specs.Canonical.{canonical_text}
-use Rattle.sapper.specs.Words.{Words, compile, run, fmt, sim}
-use Rattle.sapper.specs.Causes.{DesignStands, LatticeStands, ModuleStands, TextStands}
+use Rattle.sap_report.specs.Report.{report_text}
+use Rattle.sapper.specs.Words.{Words, compile, run, fmt, sim, report}
+use Rattle.sapper.specs.Causes.{DesignStands, LatticeStands, ModuleStands, TextStands, WellFormedStands}
 use Rattle.sapper.specs.Output.{AreDesignRows, AreModuleRows, IsOutput, OneOutput}
 use Rattle.sapper.proofs.Lattices.{same_Some}
 use Rattle.sapper.proofs.Designs.{OneDesign}
 use Rattle.sapper.proofs.Alike.{rows_in}
 use Rattle.sapper.proofs.Netlists.{module_netlist}
 use Rattle.sapper.proofs.NetsAlike.{net_rows_in}
+use Rattle.sapper.proofs.ReportsAlike.{reports_same}
 
 module _ (one_lattice : OneLattice) (one_design : OneDesign) (one_module : OneModule) (t : Told) where
   same_levels : (name : List ℕ) (l m : Levels) → LatticeStands t name l → LatticeStands t name m → AreSame l m
@@ -33,6 +35,9 @@ module _ (one_lattice : OneLattice) (one_design : OneDesign) (one_module : OneMo
 
   is_text : (name : List ℕ) (ls : Levels) (d : DesignTree) → DesignStands t name ls d → TextStands t name d
   is_text name ls d s = (s.0, s.1, s.2.is_text)
+
+  is_well_formed_text : (name : List ℕ) (ls : Levels) (d : DesignTree) → WellFormedStands t name ls d → TextStands t name d
+  is_well_formed_text name ls d s = (s.0, s.1, s.2.is_text)
 
   one_text : (c : Words) (text other : List ℕ) → IsOutput c t text → IsOutput c t other → text ≡ other
   one_text (compile lattice design out) text other a b = a ∙ sym b
@@ -52,6 +57,13 @@ module _ (one_lattice : OneLattice) (one_design : OneDesign) (one_module : OneMo
       net_rows_in l m (same_levels lattice l m stands others) n (module_netlist is_module.0 n is_module.2) bytes text other rows
       (subst P (same_module verilog o n are_module is_module) (subst Q (same_Some (t.files stimulus) found bytes there file) again))
   one_text (fmt design) text other a b = a.2 ∙ ap canonical_text (same_design design a.0 b.0 a.1 b.1) ∙ sym b.2
+  one_text (report lattice design) text other a b =
+      let (l, d, stands, is_design, is) = a in
+      let (m, e, others, are_design, are) = b in
+      is
+      ∙ reports_same l m (same_levels lattice l m stands others) d
+      ∙ ap (report_text m) (same_design design d e (is_well_formed_text design l d is_design) (is_well_formed_text design m e are_design))
+      ∙ sym are
 
 pub one_output_lem : OneLattice → OneDesign → OneModule → OneOutput
 one_output_lem one_lattice one_design one_module = λ c t text other a b. one_text one_lattice one_design one_module t c text other a b

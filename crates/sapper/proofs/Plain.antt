@@ -9,7 +9,7 @@ use Rattle.sap_tree.specs.declared.syntax.Decl.TheVariants.{Input, Register, Mem
 use Rattle.sap_tree.specs.Syntax.{Expression, Number, Sized, Read, Cell, Unary, Binary, Choose, Slice, Concat, Zext, Expressions, NoPart, AndPart, SimpleCommand, Assign, Write, SetTag, SetCellTag, Goto, Fall, Command, Do, Try, If, CommandBlock, Commands, CommandList, NoCommand, AndCommand, StateTree, StateOf, StateList, NoState, AndState, DesignTree}
 use Rattle.sap_tree.specs.Whole.{is_declaration, has_state, are_states, is_tree, is_within_limits, is_whole}
 use Rattle.sap_single.specs.Plain.{PlainExpression, PlainExpressions, PlainSimple, PlainCommand, PlainCommands, PlainBody, PlainKind, PlainStateKind, PlainDeclaration, PlainDeclarations, PlainState, PlainStates, IsPlain}
-use Rattle.sapper.specs.Early.{◌or_else◌, early_expression, early_parts, early_simple, early_command, early_list, early_body, early_kind, early_state_kind, early_declaration, early_declarations, early_more, early_state, early_states, early_of, state_place}
+use Rattle.sapper.specs.Early.{◌or_else◌, early_expression, early_parts, early_simple, early_command, early_list, early_body, early_kind, early_state_kind, early_declaration, early_declarations, early_state, early_states, early_of, state_place}
 
 -- nothing is early in either
 neither_left : (a b : Option Place) → (a or_else b) ≡ None → a ≡ None

@@ -1,5 +1,5 @@
 -- Two lattices that are the same give a design the same program.
-use Rattle.std.proofs.Common.{◌≡◌, ℕ, ◌+◌, List, [], ◌∷◌, ◌++◌, length, refl, ◌∙◌, ap}
+use Rattle.std.proofs.Common.{◌≡◌, ℕ, ◌+◌, List, [], ◌∷◌, length, refl, ◌∙◌, ap}
 use Rattle.std.specs.Prelude.{Option, Some, None}
 use Rattle.sap_lattice.specs.Levels.{Levels, order_of}
 use Rattle.sap_lattice.specs.Order.{Order}
@@ -12,13 +12,12 @@ use Rattle.sap_tree.specs.declared.syntax.Decl.{Decl}
 use Rattle.sap_tree.specs.declared.syntax.Decl.TheVariants.{Input, Register, Memory}
 use Rattle.sap_tree.specs.Syntax.{TagExpression, Level, TagOf, LevelAt, Join, TagExpressions, NoTag, AndTag, SimpleCommand, Assign, Write, SetTag, SetCellTag, CommandBlock, Commands, ElseBlock, NoElse, Else, CommandList, NoCommand, AndCommand, StateTree, StateOf, StateList, NoState, AndState, DesignTree}
 use Rattle.sap_tree.specs.Syntax as tree
-use Rattle.sap_names.specs.Entities.{entities_of, what_is}
+use Rattle.sap_names.specs.Entities.{entities_of}
 use Rattle.sap_names.specs.declared.entity.Entity.{Entity as Named}
-use Rattle.sap_names.specs.Widths.{index_width}
-use Rattle.sap_meaning.specs.Program.{World, Entity, LevelTerm, both, Step, Retag, RetagCell, Command, Do, Try, If, Block, Then, State, Node, Group, More, Program, root}
+use Rattle.sap_meaning.specs.Program.{World, Group, Program, root}
 use Rattle.sap_meaning.specs.Touches.{root_touches}
 use Rattle.sap_resolve.specs.Worlds.{position, level_number, declared_level, authority_level, authority_of, declared, all_declared, states_in, state_entities, group_entities, world_of}
-use Rattle.sap_resolve.specs.Terms.{entity_number, term_of, level_term, level_terms}
+use Rattle.sap_resolve.specs.Terms.{level_term, level_terms}
 use Rattle.sap_resolve.specs.Sites.{Home, simple_sites, command_sites, block_sites, state_sites}
 use Rattle.sap_resolve.specs.Resolve.{site_number, step_of, command_of, block_of, else_of, list_of, state_of, group_of, states_of}
 use Rattle.sap_resolve.specs.Fill.{filled_group, table, program_of}

@@ -1,12 +1,9 @@
 -- Two lattices that are the same read a stimulus alike.
-use Rattle.std.proofs.Common.{◌≡◌, ℕ, ◌+◌, Bool, true, false, List, [], ◌∷◌, refl, ap, Result}
-use Rattle.sap_lattice.specs.Levels.{Levels, order_of}
-use Rattle.sap_lattice.specs.Order.{Order}
+use Rattle.std.proofs.Common.{◌≡◌, ℕ, ◌+◌, Bool, true, false, List, [], ◌∷◌, refl}
+use Rattle.sap_lattice.specs.Levels.{Levels}
 use Rattle.sap_latfile.specs.OneLattice.{AreSame}
 use Rattle.sap_stim.specs.declared.field.Field.{Field}
 use Rattle.sap_stim.specs.declared.field.Field.TheVariants.{Tagged, Plain}
-use Rattle.sap_stim.specs.declared.fault.StimCode.{StimCode}
-use Rattle.sap_stim.specs.declared.input.Input.{Input}
 use Rattle.sap_stim.specs.Line.{field_of, fields_of, inputs_of, line_of, split_at}
 use Rattle.sap_stim.specs.Stimulus.{read_pieces, stimulus_of}
 

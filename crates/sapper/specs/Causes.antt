@@ -9,7 +9,7 @@ use Rattle.sap_parse.specs.Text.{IsText, IsReadFault}
 use Rattle.sap_shape.specs.WellFormed.{WellFormed}
 use Rattle.sapper.specs.Early.{early_of}
 use Rattle.sap_tree.specs.Syntax.{DesignTree}
-use Rattle.sapper.specs.DesignFaults.{IsFaultOf}
+use Rattle.sapper.specs.DesignFaults.{IsDesignFault, IsFaultOf}
 use Rattle.sapper.specs.declared.fault.DesignFault.{DesignFault}
 use Rattle.sapper.specs.declared.fault.DesignFault.TheVariants as design_fault
 use Rattle.sap_stim.specs.declared.fault.StimFault.{StimFault}
@@ -21,7 +21,7 @@ use Rattle.sap_vread.specs.ModuleFault.{IsModuleFault}
 use Rattle.sap_vread.specs.declared.fault.ModFault.{ModFault}
 use Rattle.sap_vread.specs.declared.fault.ModFault.TheVariants as module_fault
 use Rattle.sap_sim.specs.Simulated.{read_for as module_stimulus}
-use Rattle.sapper.specs.Words.{Words, compile, run, fmt, sim}
+use Rattle.sapper.specs.Words.{Words, compile, run, fmt, sim, report}
 use Rattle.sapper.specs.Ending.{Ending, done, no_command, lattice_refused, design_refused, stimulus_refused, module_refused, failed, no_memory}
 
 -- there is a file of this name, and this holds of its bytes
@@ -59,6 +59,17 @@ IsTextFault source design_fault.Memory = ⊥
 
 abbrev pub TextRefused : Told → (name : List ℕ) → DesignFault → Type 0
 TextRefused t name fault = FileHas t name (λ source. IsTextFault source fault)
+
+-- a design file is the text of a design that is well formed over the levels, whether it is compiled yet or not; or it has this fault
+pub record IsWellFormedText (ls : Levels) (source : List ℕ) (d : DesignTree) : Type 0 where
+  pub is_text : IsText source d
+  pub well_formed : WellFormed ls d
+
+abbrev pub WellFormedStands : Told → (name : List ℕ) → Levels → DesignTree → Type 0
+WellFormedStands t name ls d = FileHas t name (λ source. IsWellFormedText ls source d)
+
+abbrev pub WellFormedRefused : Told → (name : List ℕ) → Levels → DesignFault → Type 0
+WellFormedRefused t name ls fault = FileHas t name (λ source. IsDesignFault ls source fault)
 
 -- a module file is the text of this module; or it has this fault
 abbrev pub ModuleStands : Told → (name : List ℕ) → Net → Type 0
@@ -118,11 +129,23 @@ FmtCause design t no_command = ⊥
 FmtCause design t (failed name) = ⊥
 FmtCause design t no_memory = ⊥
 
+-- a design that is reported may have such constructs too
+abbrev pub ReportCause : (lattice design : List ℕ) → Told → Ending → Type 0
+ReportCause lattice design t done = (ls : Levels) × (d : DesignTree) × LatticeStands t lattice ls × WellFormedStands t design ls d
+ReportCause lattice design t (lattice_refused fault) = LatticeRefused t lattice fault
+ReportCause lattice design t (design_refused fault) = (ls : Levels) × LatticeStands t lattice ls × WellFormedRefused t design ls fault
+ReportCause lattice design t (stimulus_refused fault) = ⊥
+ReportCause lattice design t (module_refused fault) = ⊥
+ReportCause lattice design t no_command = ⊥
+ReportCause lattice design t (failed name) = ⊥
+ReportCause lattice design t no_memory = ⊥
+
 abbrev pub Cause : Words → Told → Ending → Type 0
 Cause (compile lattice design out) t ending = CompileCause lattice design t ending
 Cause (run lattice design stimulus) t ending = RunCause lattice design stimulus t ending
 Cause (fmt design) t ending = FmtCause design t ending
 Cause (sim lattice verilog stimulus) t ending = SimCause lattice verilog stimulus t ending
+Cause (report lattice design) t ending = ReportCause lattice design t ending
 
 -- and of a whole call
 abbrev pub CauseOf : Option Words → Told → Ending → Type 0

@@ -1,4 +1,4 @@
--- Why the text of a design gives no module.
+-- Why the text of a design gives no module, or no report.
 use Rattle.std.specs.Prelude.{◌≡◌, ℕ, List, Some, None}
 use Rattle.sap_lattice.specs.Levels.{Levels}
 use Rattle.sap_names.specs.declared.fault.CheckFault.{CheckFault}
@@ -34,3 +34,10 @@ IsFaultOf ls source (Read fault) = IsReadFault source fault
 IsFaultOf ls source (Early place) = (d : DesignTree) × IsText source d × (early_of d ≡ Some place)
 IsFaultOf ls source (Check fault) = (d : DesignTree) × IsText source d × (early_of d ≡ None) × IsCheckFault ls d fault
 IsFaultOf ls source Memory = Unit {0}
+
+-- The same where all constructs are taken: the text's read fault, or the first fault of its design.
+abbrev pub IsDesignFault : Levels → List ℕ → DesignFault → Type 0
+IsDesignFault ls source (Read fault) = IsReadFault source fault
+IsDesignFault ls source (Check fault) = (d : DesignTree) × IsText source d × IsCheckFault ls d fault
+IsDesignFault ls source (Early place) = ⊥
+IsDesignFault ls source Memory = ⊥

@@ -8,9 +8,10 @@ use Rattle.sap_run.specs.RunOf.{IsRunOf}
 use Rattle.sap_net.specs.Net.{Net}
 use Rattle.sap_sim.specs.Simulated.{IsSimulated}
 use Rattle.sap_show.specs.Canonical.{canonical_text}
-use Rattle.sapper.specs.Words.{Words, compile, run, fmt, sim}
+use Rattle.sap_report.specs.Report.{report_text}
+use Rattle.sapper.specs.Words.{Words, compile, run, fmt, sim, report}
 use Rattle.sapper.specs.Ending.{Ending, done, no_command, lattice_refused, design_refused, stimulus_refused, module_refused, failed, no_memory}
-use Rattle.sapper.specs.Causes.{FileHas, LatticeStands, DesignStands, ModuleStands, TextStands}
+use Rattle.sapper.specs.Causes.{FileHas, LatticeStands, DesignStands, ModuleStands, TextStands, WellFormedStands}
 
 -- a part of a text from its first byte on
 abbrev pub IsPrefix : (part whole : List ℕ) → Type 0
@@ -25,7 +26,7 @@ abbrev pub AreModuleRows : Levels → Net → (bytes text : List ℕ) → Type 0
 AreModuleRows ls net bytes text = (fault : Option StimFault) × IsSimulated ls net bytes (record { text = text; fault = fault })
 
 -- The text that the words and files of a command ask for: none for `compile`; for `run` and `sim` the rows of the design's or the
--- module's run on the stimulus; for `fmt` the canonical text of the design.
+-- module's run on the stimulus; for `fmt` the canonical text of the design; for `report` its report over the levels.
 abbrev pub IsOutput : Words → Told → (text : List ℕ) → Type 0
 IsOutput (compile lattice design out) t text = text ≡ []
 IsOutput (run lattice design stimulus) t text =
@@ -34,6 +35,8 @@ IsOutput (run lattice design stimulus) t text =
 IsOutput (fmt design) t text = (d : DesignTree) × TextStands t design d × (text ≡ canonical_text d)
 IsOutput (sim lattice verilog stimulus) t text =
     (ls : Levels) × (net : Net) × LatticeStands t lattice ls × ModuleStands t verilog net × FileHas t stimulus (λ bytes. AreModuleRows ls net bytes text)
+IsOutput (report lattice design) t text =
+    (ls : Levels) × (d : DesignTree) × LatticeStands t lattice ls × WellFormedStands t design ls d × (text ≡ report_text ls d)
 
 -- a prefix of that text, or nothing
 abbrev pub IsCut : Words → Told → (gained : List ℕ) → Type 0

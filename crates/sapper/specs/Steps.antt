@@ -7,13 +7,17 @@ use Rattle.sap_latfile.specs.LatticeFile.{IsLatticeOfFile, FirstFault}
 use Rattle.sap_latfile.specs.OneLattice.{AreSame}
 use Rattle.sap_latfile.specs.declared.fault.LatFileFault.{LatFileFault}
 use Rattle.sap_latfile.specs.declared.fault.LatFileFault.TheVariants as lattice_fault
-use Rattle.sap_parse.specs.Text.{IsText, IsReadFault}
+use Rattle.sap_parse.specs.Text.{IsText}
 use Rattle.sap_parse.specs.declared.fault.ReadFault.{ReadFault}
 use Rattle.sap_parse.specs.declared.fault.ReadFault.TheVariants as read_fault
 use Rattle.sapper.specs.Early.{early_of}
 use Rattle.sap_tree.specs.Designs.{design_of}
 use Rattle.sap_tree.specs.Syntax.{DesignTree}
 use Rattle.sap_tree.specs.declared.design.Design.{Design as AnyDesign}
+use Rattle.sap_names.specs.declared.fault.CheckFault.{CheckFault}
+use Rattle.sap_names.specs.declared.fault.CheckFault.TheVariants as check_fault
+use Rattle.sap_check.specs.Checked.{levels_in, tree_in}
+use Rattle.sap_check.specs.declared.checked.Checked.{Checked}
 use Rattle.sap_compile.specs.Compiles.{IsModuleFor}
 use Rattle.sap_compile.specs.declared.compiler.Compiled.{Compiled}
 use Rattle.sapper.specs.declared.fault.DesignFault.{DesignFault}
@@ -24,14 +28,14 @@ use Rattle.sap_vread.specs.ModuleFault.{IsModuleFault}
 use Rattle.sap_vread.specs.declared.fault.ModFault.{ModFault}
 use Rattle.sap_vread.specs.declared.fault.ModFault.TheVariants as module_fault
 use Rattle.sap_stim.specs.declared.fault.StimFault.{StimFault}
-use Rattle.sapper.specs.Words.{Words, compile, run, fmt, sim}
-use Rattle.sapper.specs.DesignFaults.{IsFaultOf}
+use Rattle.sapper.specs.Words.{Words, compile, run, fmt, sim, report}
+use Rattle.sapper.specs.DesignFaults.{IsDesignFault, IsFaultOf}
 use Rattle.sapper.specs.Ending.{Ending, done, no_command, lattice_refused, design_refused, stimulus_refused, module_refused, failed, no_memory, status_of, line_of}
-use Rattle.sapper.specs.Causes.{Cause, Compiles, DesignRefused, DesignStands, FileHas, IsTextFault, LatticeRefused, LatticeStands, ModuleRefused, ModuleStands, TextRefused, TextStands}
+use Rattle.sapper.specs.Causes.{Cause, Compiles, DesignRefused, DesignStands, IsTextFault, IsWellFormedText, LatticeRefused, LatticeStands, ModuleRefused, ModuleStands, TextRefused, TextStands, WellFormedRefused, WellFormedStands}
 use Rattle.sapper.specs.Output.{IsOutput, IsPrefix, Output}
 use Rattle.sapper.specs.Ends.{Files, Leaves, Blames, Gained}
 use Rattle.sapper.specs.declared.command.Command.{Command}
-use Rattle.sapper.specs.declared.command.Command.TheVariants.{Compile, Run, Fmt, Sim}
+use Rattle.sapper.specs.declared.command.Command.TheVariants.{Compile, Run, Fmt, Sim, Report}
 use Rattle.sapper.specs.declared.failure.Failure.{Failure}
 use Rattle.sapper.specs.declared.failure.Failure.TheVariants.{Lattice, Design, Stimulus, Module, Desk, Memory}
 
@@ -40,6 +44,7 @@ words_of (Compile lattice design out) = compile lattice.now design.now out.now
 words_of (Run lattice design stimulus) = run lattice.now design.now stimulus.now
 words_of (Fmt design) = fmt design.now
 words_of (Sim lattice verilog stimulus) = sim lattice.now verilog.now stimulus.now
+words_of (Report lattice design) = report lattice.now design.now
 
 abbrev pub ending : Failure → Ending
 ending (Lattice fault) = lattice_refused fault
@@ -65,6 +70,10 @@ design_failure fault = Design fault
 abbrev pub read_failure : ReadFault → Failure
 read_failure read_fault.Memory = Memory
 read_failure fault = Design (design_fault.Read fault)
+
+abbrev pub shape_failure : CheckFault → Failure
+shape_failure check_fault.Memory = Memory
+shape_failure fault = Design (design_fault.Check fault)
 
 abbrev pub module_failure : ModFault → Failure
 module_failure module_fault.Memory = Memory
@@ -106,6 +115,17 @@ TextRead source (Err (Stimulus fault)) = ⊥
 TextRead source (Err (Module fault)) = ⊥
 TextRead source (Err (Desk name)) = ⊥
 TextRead source (Err Memory) = Unit {0}
+
+-- the same over a lattice, whatever its constructs: the design, well formed, and then it has no fault; or its first fault, and then they are no well-formed design
+unfoldable pub DesignChecked : Levels → (source : List ℕ) → Result Checked Failure → Type 0
+DesignChecked ls source (Ok c) =
+    IsWellFormedText ls source (tree_in c) × (levels_in c ≡ ls) × ((fault : DesignFault) → IsDesignFault ls source fault → ⊥)
+DesignChecked ls source (Err (Design fault)) = IsDesignFault ls source fault × ((d : DesignTree) → IsWellFormedText ls source d → ⊥)
+DesignChecked ls source (Err (Lattice fault)) = ⊥
+DesignChecked ls source (Err (Stimulus fault)) = ⊥
+DesignChecked ls source (Err (Module fault)) = ⊥
+DesignChecked ls source (Err (Desk name)) = ⊥
+DesignChecked ls source (Err Memory) = Unit {0}
 
 -- what the bytes of a module file give: the netlist of their module, and then they have no fault; or their fault, and then they are no module
 unfoldable pub ModuleRead : (text : List ℕ) → Result Net Failure → Type 0
@@ -171,7 +191,8 @@ pub record Stops (reason : Ending → Type 0) (e : Ending) (t n : Told) : Type 0
   pub blames : Blames n.blame e
   pub why : IsFree e ⊎ reason e
 
--- for no further reason; for a lattice file; for a design over the levels of a lattice; for a design without one; for a module
+-- for no further reason; for a lattice file; for a design that isn't compiled over the levels of a lattice; for a design without one; for a design that isn't
+-- well formed over such levels; for a module
 abbrev pub Never : Ending → Type 0
 Never e = ⊥
 
@@ -205,6 +226,16 @@ TextEnds t name (module_refused fault) = ⊥
 TextEnds t name (failed blamed) = ⊥
 TextEnds t name no_memory = ⊥
 
+abbrev pub WellFormedEnds : Levels → Told → (name : List ℕ) → Ending → Type 0
+WellFormedEnds ls t name (design_refused fault) = WellFormedRefused t name ls fault × ((d : DesignTree) → WellFormedStands t name ls d → ⊥)
+WellFormedEnds ls t name done = ⊥
+WellFormedEnds ls t name no_command = ⊥
+WellFormedEnds ls t name (lattice_refused fault) = ⊥
+WellFormedEnds ls t name (stimulus_refused fault) = ⊥
+WellFormedEnds ls t name (module_refused fault) = ⊥
+WellFormedEnds ls t name (failed blamed) = ⊥
+WellFormedEnds ls t name no_memory = ⊥
+
 abbrev pub ModuleEnds : Told → (name : List ℕ) → Ending → Type 0
 ModuleEnds t name (module_refused fault) = ModuleRefused t name fault × ((net : Net) → ModuleStands t name net → ⊥)
 ModuleEnds t name done = ⊥
@@ -223,6 +254,9 @@ DesignStops ls name e t n = Stops (DesignEnds ls t name) e t n
 
 abbrev pub TextStops : (name : List ℕ) → Ending → Told → Told → Type 0
 TextStops name e t n = Stops (TextEnds t name) e t n
+
+abbrev pub WellFormedStops : Levels → (name : List ℕ) → Ending → Told → Told → Type 0
+WellFormedStops ls name e t n = Stops (WellFormedEnds ls t name) e t n
 
 abbrev pub ModuleStops : (name : List ℕ) → Ending → Told → Told → Type 0
 ModuleStops name e t n = Stops (ModuleEnds t name) e t n
@@ -246,6 +280,11 @@ pub record HasText (t : Told) (name : List ℕ) (d : DesignTree) : Type 0 where
   pub stands : TextStands t name d
   pub faultless : (fault : DesignFault) → TextRefused t name fault → ⊥
   pub only : (other : DesignTree) → TextStands t name other → other ≡ d
+
+-- a design file is this design, well formed over the levels, and has no fault
+pub record HasWellFormed (ls : Levels) (t : Told) (name : List ℕ) (d : DesignTree) : Type 0 where
+  pub stands : WellFormedStands t name ls d
+  pub faultless : (fault : DesignFault) → WellFormedRefused t name ls fault → ⊥
 
 -- a module file is this module and no other, and has no fault
 pub record HasModule (t : Told) (name : List ℕ) (net : Net) : Type 0 where

@@ -7,15 +7,19 @@ pub data Words : Type 0 where
   run : (lattice design stimulus : List ℕ) → Words
   fmt : (design : List ℕ) → Words
   sim : (lattice verilog stimulus : List ℕ) → Words
+  report : (lattice design : List ℕ) → Words
 
 -- an operand begins with no `-`
 abbrev pub is_operand : List ℕ → Bool
 is_operand [] = true
 is_operand (c ∷ cs) = not (eqb c 45)
 
--- a command of one operand, and one of three
+-- a command of one operand, one of two, and one of three
 abbrev pub one_operand : (word a : List ℕ) → Option Words
 one_operand word a = if bytes_eq word (codes "fmt") then Some (fmt a) else None
+
+abbrev pub two_operands : (word a b : List ℕ) → Option Words
+two_operands word a b = if bytes_eq word (codes "report") then Some (report a b) else None
 
 abbrev pub three_operands : (word a b c : List ℕ) → Option Words
 three_operands word a b c =
@@ -26,5 +30,6 @@ three_operands word a b c =
 -- the command that the words are, if they are one
 abbrev pub command_of : List (List ℕ) → Option Words
 command_of (word ∷ a ∷ []) = if is_operand a then one_operand word a else None
+command_of (word ∷ a ∷ b ∷ []) = if is_operand a && is_operand b then two_operands word a b else None
 command_of (word ∷ a ∷ b ∷ c ∷ []) = if is_operand a && (is_operand b && is_operand c) then three_operands word a b c else None
 command_of _ = None

@@ -13,6 +13,7 @@ ghost use Rattle.sapper.specs.Steps.{Counted, Ends, IsStatus, Tells, ending, end
 use crate::command::{Command, command_of};
 use crate::compiling::compile;
 use crate::failure::Failure;
+use crate::reporting::report_design;
 use crate::running::run;
 use crate::showing::format;
 use crate::simulating::simulate;
@@ -48,6 +49,7 @@ fn perform<'a, D: Desk>(
             verilog,
             stimulus,
         } => simulate(alloc, desk, lattice, verilog, stimulus),
+        Command::Report { lattice, design } => report_design(alloc, desk, lattice, design),
     }
 }
 

@@ -1,7 +1,7 @@
 //! The words of a command line as a command.
 
 ghost use Rattle.std.specs.Prelude.{◌≡◌, map, string_bytes, option_map};
-ghost use Rattle.sapper.specs.Words.{is_operand, command_of as words_for, one_operand, three_operands};
+ghost use Rattle.sapper.specs.Words.{is_operand, command_of as words_for, one_operand, two_operands, three_operands};
 ghost use Rattle.sapper.specs.Steps.{words_of};
 
 /// A command with its operands, the names of files.
@@ -25,6 +25,10 @@ pub enum Command<'a> {
         verilog: &'a str,
         stimulus: &'a str,
     },
+    Report {
+        lattice: &'a str,
+        design: &'a str,
+    },
 }
 
 fn is_operand(word: &str) -> bool
@@ -38,6 +42,19 @@ fn one_operand<'a>(word: &str, design: &'a str) -> Option<Command<'a>>
 {
     if word == "fmt" {
         Some(Command::Fmt { design })
+    } else {
+        None
+    }
+}
+
+fn two_operands<'a>(word: &str, a: &'a str, b: &'a str) -> Option<Command<'a>>
+    ensures { option_map words_of result ≡ two_operands word.now a.now b.now }
+{
+    if word == "report" {
+        Some(Command::Report {
+            lattice: a,
+            design: b,
+        })
     } else {
         None
     }
@@ -77,6 +94,13 @@ pub fn command_of<'a>(list: &'a [String]) -> Option<Command<'a>>
         [word, a] => {
             if is_operand(a) {
                 one_operand(word, a)
+            } else {
+                None
+            }
+        }
+        [word, a, b] => {
+            if is_operand(a) && is_operand(b) {
+                two_operands(word, a, b)
             } else {
                 None
             }

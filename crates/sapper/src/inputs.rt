@@ -1,19 +1,23 @@
 //! The files that a command reads.
 
 ghost use Rattle.std.specs.Prelude.{◌≡◌, ◌≢◌, IfOk, IfErr, OnOk, IfSome, Some};
+ghost use Rattle.sap_check.specs.Checked.{levels_in, tree_in};
 ghost use Rattle.sap_desk.specs.Whole.{Between, MissingOrLong};
 ghost use Rattle.sap_interface.specs.Designs.{StandsForDesign};
 ghost use Rattle.sap_tree.specs.Designs.{design_of};
-ghost use Rattle.sapper.specs.Steps.{Counted, DesignCompiled, DesignStops, HasDesign, HasLattice, HasModule, HasText, LatticeRead, LatticeStops, ModuleRead, ModuleStops, Never, Stops, TextRead, TextStops, design_failure, ending, ending_of, lattice_failure, module_failure, read_failure};
+ghost use Rattle.sapper.specs.Steps.{Counted, DesignChecked, DesignCompiled, DesignStops, HasDesign, HasLattice, HasModule, HasText, HasWellFormed, LatticeRead, LatticeStops, ModuleRead, ModuleStops, Never, Stops, TextRead, TextStops, WellFormedStops, design_failure, ending, ending_of, lattice_failure, module_failure, read_failure, shape_failure};
 
 use crate::compiler::compile_text;
 use crate::failure::Failure;
 use crate::fault::DesignFault;
+use sap_check::Checked;
+use sap_check::check::check;
 use sap_compile::Compiled;
 use sap_desk::{Bytes, Desk, DeskError, read_file};
 use sap_latfile::laws::one_lattice;
 use sap_latfile::{LatFileFault, read_lattice};
 use sap_lattice::Lattice;
+use sap_names::fault::CheckFault;
 use sap_net::netlist::Netlist;
 use sap_parse::fault::ReadFault;
 use sap_parse::law::one_reading;
@@ -164,6 +168,47 @@ pub fn text_in<'a, D: Desk>(
     let bytes = bytes_of(alloc, desk, name)?;
     one_reading();
     text_from(alloc, bytes.as_slice())
+}
+
+fn shape_failure<'a>(fault: CheckFault) -> Failure<'a>
+    ensures { result ≡ shape_failure fault }
+{
+    match fault {
+        CheckFault::Memory => Failure::Memory,
+        fault => Failure::Design(DesignFault::Check(fault)),
+    }
+}
+
+/// The design of a design file's bytes, checked over a lattice.
+fn checked_from<'a>(alloc: Global, lattice: &Lattice, bytes: &[u8]) -> Result<Checked, Failure<'a>>
+    ensures { DesignChecked lattice.now bytes.now result }
+{
+    one_reading();
+    let design = text_from(alloc, bytes)?;
+    match check(alloc, design, lattice) {
+        Ok(checked) => Ok(checked),
+        Err(refused) => Err(shape_failure(refused.fault)),
+    }
+}
+
+/// The design of a design file, checked over a lattice.
+pub fn checked_in<'a, D: Desk>(
+    alloc: Global,
+    desk: &mut D,
+    lattice: &Lattice,
+    name: &'a str,
+) -> Result<Checked, Failure<'a>>
+    ensures has { IfOk result (λ c. IfSome (D.told desk.old) (λ t. HasWellFormed lattice.now t name.now (tree_in c))) }
+    ensures levels { IfOk result (λ c. levels_in c ≡ lattice.now) }
+    ensures told { OnOk result (D.told desk.new ≡ D.told desk.old) }
+    ensures stops { IfErr result (λ e. Between (D.told desk.old) (D.told desk.new) (WellFormedStops lattice.now name.now (ending e))) }
+    ensures counted { Counted (D.faults desk.old) (D.faults desk.new) (ending_of result) }
+    ensures lost { D.lost desk.new ≡ D.lost desk.old }
+    ensures sure { D.sure desk.old → D.sure desk.new }
+    ensures outside { (D.faults desk.new ≢ D.faults desk.old) → D.sure desk.old → IfSome (D.told desk.old) (MissingOrLong name.now) }
+{
+    let bytes = bytes_of(alloc, desk, name)?;
+    checked_from(alloc, lattice, bytes.as_slice())
 }
 
 fn module_failure<'a>(fault: ModFault) -> Failure<'a>

@@ -11,6 +11,7 @@ pub mod fault;
 mod inputs;
 mod laws;
 mod output;
+mod reporting;
 mod running;
 mod showing;
 mod simulating;

@@ -1,4 +1,4 @@
-//! What `run`, `fmt` and `sim` write, by rows.
+//! What `run`, `fmt`, `sim` and `report` write, by rows.
 
 use sap_desk::MemoryDesk;
 use sapper::sapper;
@@ -32,7 +32,9 @@ const RUN: &[&str] = &["run", "L", "D", "S"];
 
 const FMT: &[&str] = &["fmt", "D"];
 
-static ROWS: [Row; 18] = [
+const REPORT: &[&str] = &["report", "L", "D"];
+
+static ROWS: [Row; 27] = [
     Row {
         words: RUN,
         lattice: TWO,
@@ -202,6 +204,89 @@ static ROWS: [Row; 18] = [
         output: "",
         line: "desk: N\n",
     },
+    // reports, of designs that aren't compiled yet too
+    Row {
+        words: REPORT,
+        lattice: DIAMOND,
+        design: "input a : 8;\nreg x : 8 dynamic;\nstate S enforced low {\n  if (a == 1) { x := 1; }\n  goto S;\n}\n",
+        stimulus: "",
+        status: 0,
+        output: "level low 0\nlevel a 2\nlevel b 1\nlevel high 3\nif 4:3 hangs x\nsite 1 5:3 goto S\n",
+        line: "",
+    },
+    Row {
+        words: REPORT,
+        lattice: PENTAGON,
+        design: "state S enforced bot { goto S; }",
+        stimulus: "",
+        status: 0,
+        output: "level bot 0\nlevel p 4\nlevel q 5\nlevel r 3\nlevel top 7\nsite 1 1:24 goto S\n",
+        line: "",
+    },
+    // a `fall` is no check site where the children are dynamic
+    Row {
+        words: REPORT,
+        lattice: TWO,
+        design: "input a : 8;\nreg x : 8 dynamic;\nreg y : 8 enforced low;\nstate P enforced low {\n  y := a otherwise { x := 1; }\n  if (a == 1) { y := 2; }\n  fall;\n  state C dynamic {\n    x := a;\n    goto C;\n  }\n}\n",
+        stimulus: "",
+        status: 0,
+        output: "level low 0\nlevel high 1\notherwise 5:10 hangs x\nif 6:3 hangs -\nfall 7:3 hangs x C\nsite 1 5:3 write y\nsite 2 6:17 write y\n",
+        line: "",
+    },
+    Row {
+        words: REPORT,
+        lattice: TWO,
+        design: "input a : 8;\nreg z : 8 enforced low;\nstate P enforced low {\n  setTag(z, level(a));\n  fall;\n  state S dynamic {\n    if (a == 1) { goto T; } else { goto S; }\n  }\n  state T enforced high {\n    goto S;\n  }\n}\n",
+        stimulus: "",
+        status: 0,
+        output: "level low 0\nlevel high 1\nfall 5:3 hangs S\nif 7:5 hangs S\nsite 1 4:3 setTag z\nsite 2 5:3 fall P\nsite 3 7:19 goto T\nsite 4 10:5 goto S\n",
+        line: "",
+    },
+    Row {
+        words: REPORT,
+        lattice: "levels = [\"low\", \"a\", \"b\"]\nbelow = [[\"low\", \"a\"], [\"low\", \"b\"]]\n",
+        design: "",
+        stimulus: "",
+        status: 3,
+        output: "",
+        line: "lattice: L7 a b\n",
+    },
+    Row {
+        words: REPORT,
+        lattice: TWO,
+        design: "",
+        stimulus: "",
+        status: 1,
+        output: "",
+        line: "design: E2 1:1\n",
+    },
+    Row {
+        words: REPORT,
+        lattice: TWO,
+        design: "reg x : 8 dynamic;\nstate S enforced low {\n  if (y == 0) { x := 1; }\n  goto S;\n}\n",
+        stimulus: "",
+        status: 1,
+        output: "",
+        line: "design: E4 3:7\n",
+    },
+    Row {
+        words: REPORT,
+        lattice: TWO,
+        design: "mem m : 8[4] dynamic;\nstate S enforced low {\n  m[0] := 1;\n  m[1] := 2;\n  goto S;\n}\n",
+        stimulus: "",
+        status: 1,
+        output: "",
+        line: "design: E14 4:3\n",
+    },
+    Row {
+        words: &["report", "L", "N"],
+        lattice: TWO,
+        design: "",
+        stimulus: "",
+        status: 6,
+        output: "",
+        line: "desk: N\n",
+    },
 ];
 
 fn words(alloc: Global, list: &[&str]) -> Result<Vec<String>, AllocError> {
@@ -242,7 +327,7 @@ fn writes_what_the_files_ask_for(rt: HostRuntime) -> Result<(), Fail> {
 }
 
 // Words that are no command.
-static NO_COMMANDS: [&[&str]; 12] = [
+static NO_COMMANDS: [&[&str]; 17] = [
     &["run"],
     &["run", "L", "D"],
     &["run", "L", "D", "S", "S"],
@@ -255,6 +340,11 @@ static NO_COMMANDS: [&[&str]; 12] = [
     &["sim", "L", "D"],
     &["sim", "L", "D", "S", "S"],
     &["sim", "-", "D", "S"],
+    &["report", "L"],
+    &["report", "L", "D", "D"],
+    &["report", "-L", "D"],
+    &["report", "L", "-"],
+    &["Report", "L", "D"],
 ];
 
 #[test]
@@ -302,6 +392,26 @@ fn each_call_of_a_run_fails_in_turn(rt: HostRuntime) -> Result<(), Fail> {
         } else {
             ""
         };
+        assert_eq!(rt; desk.output(), cut.as_bytes(), "call {before}");
+    }
+    Ok(())
+}
+
+#[test]
+fn each_call_of_a_report_fails_in_turn(rt: HostRuntime) -> Result<(), Fail> {
+    let alloc = rt.alloc();
+    let words = words(alloc, REPORT)?;
+    for before in 0..9_usize {
+        let mut desk = desk(alloc, TWO, "state S enforced low { goto S; }", "")?;
+        desk.fail_at(before as u64 + 1)?;
+        assert_eq!(rt; sapper(alloc, &words, &mut desk), 6, "call {before}");
+        let (line, cut) = if before < 8 {
+            (BLAMED[before], "")
+        } else {
+            // a failing write takes the first half of the report
+            ("desk: output\n", "level low 0\nlevel high")
+        };
+        assert_eq!(rt; desk.fault_text(), line.as_bytes(), "call {before}");
         assert_eq!(rt; desk.output(), cut.as_bytes(), "call {before}");
     }
     Ok(())

@@ -1,4 +1,3 @@
-use Rattle.std.specs.Prelude.{codes}
 use Rattle.sapper.specs.Steps.{last_of}
 use Rattle.sapper.proofs.Endings.{last_counted, put_all, put_cut, put_full}
 use Rattle.sapper.proofs.output.put.Goals as goal

@@ -1,5 +1,4 @@
-use Rattle.std.proofs.Common.{◌≡◌, rules, refl, ◌∙◌, inl, inr}
-use Rattle.std.specs.Prelude.{Err}
+use Rattle.std.proofs.Common.{◌∙◌, inr}
 use Rattle.sapper.specs.Words.{fmt}
 use Rattle.sapper.specs.Ending.{done}
 use Rattle.sapper.proofs.Endings.{counted_from, ends_at_output, outside_output}

@@ -1,0 +1,202 @@
+-- The columns of lists of commands and of states, from a place on.
+use Rattle.std.proofs.Common.{◌≡◌, ℕ, zero, suc, ◌+◌, ◌<◌, ◌≤◌, List, [], ◌∷◌, ◌++◌, ◌||◌, ◌&&◌, Bool, true, false, length, set, get_or, drop, refl, sym, ap, ◌∙◌, arith, add-one, append_assoc, Some}
+use Rattle.std.proofs.lemmas.Grind.{common_steps}
+use Rattle.std.proofs.lemmas.List.{map-append}
+use Rattle.std.proofs.Math.Seq.{set-append_seam}
+use Rattle.sap_tree.specs.declared.place.Place.{Place}
+use Rattle.sap_tree.specs.declared.syntax.Block.{Block}
+use Rattle.sap_tree.specs.declared.syntax.Cmd.{Cmd}
+use Rattle.sap_tree.specs.declared.syntax.Decl.{Decl}
+use Rattle.sap_tree.specs.declared.syntax.State.{State, out-State}
+use Rattle.sap_tree.specs.Parts.{tree_of}
+use Rattle.sap_tree.specs.Syntax.{Expression, SimpleCommand, Fall, Command, Do, Try, If, ElseBlock, NoElse, Else, StateTree}
+use Rattle.sap_tree.specs.Touches.{Home, home_of, is_dynamic, touches, simple_touches, else_touches, is_dynamic_child, is_dynamic_store, states_assign, fall_touches}
+use Rattle.sap_tree.specs.Touches as tree
+use Rattle.sap_tree.specs.Trees.{command_of, commands_of, block_of, else_of, state_of, states_of}
+use Rattle.sap_tree.proofs.Views.{state_of-out}
+use Rattle.sap_hang.proofs.Walks.{touches-do, touches-try, touches-if}
+use Rattle.sap_hang.specs.Points.{Point, command_points, simple_points, block_points, else_points, state_points, points_of}
+use Rattle.sap_hang.specs.Points as points
+use Rattle.sap_hang.specs.Columns.{touching, list_touches, list_column, group_column}
+
+-- one part, and those behind it
+after_part : (old new part rest all : List Bool) → new ≡ old ++ part → all ≡ part ++ rest → new ++ rest ≡ old ++ all
+after_part old new part rest all h e =
+    ap (λ (l : List Bool). l ++ rest) h ∙ append_assoc old part rest ∙ ap (λ (l : List Bool). old ++ l) (sym e)
+
+append_none : (l : List Bool) → l ++ [] ≡ l
+append_none l = grind (arith, common_steps)
+
+-- points of two parts
+touching-both : (ds : List Decl) (x : List ℕ) (p q : List Point) → touching ds x (p ++ q) ≡ touching ds x p ++ touching ds x q
+touching-both ds x p q = map-append (λ (a : Point). touches ds a.home a.command x) p q
+
+module _ (ds : List Decl) (h : Home) (x : List ℕ) where
+  list_column-drop : (cs : List Cmd) (n : ℕ) (d : Cmd) → n < length cs → d ≡ get_or cs n d
+      → list_column ds h x (drop n cs) ≡ touching ds x (command_points h (command_of d)) ++ list_column ds h x (drop (n + 1) cs)
+  unfolding list_column
+  list_column-drop [] n d l e = absurd (omega arith)
+  list_column-drop (c ∷ cs) zero d l e =
+      touching-both ds x (command_points h (command_of c)) (points.list_points h (commands_of cs))
+      ∙ ap (λ (k : Cmd). touching ds x (command_points h (command_of k)) ++ touching ds x (points.list_points h (commands_of cs))) (sym e)
+  list_column-drop (c ∷ cs) (suc n) d l e = let r = list_column-drop cs n d (omega arith) e in simp (add-one) (simp (add-one) at r)
+
+  pub list_column-past : (cs : List Cmd) (n : ℕ) → length cs ≤ n → list_column ds h x (drop n cs) ≡ []
+  unfolding list_column
+  list_column-past [] zero l = refl
+  list_column-past [] (suc n) l = refl
+  list_column-past (c ∷ cs) zero l = absurd (omega arith)
+  list_column-past (c ∷ cs) (suc n) l = list_column-past cs n (omega arith)
+
+  pub column_step : (cs : List Cmd) (n : ℕ) (d : Cmd) (old new : List Bool) → n < length cs → d ≡ get_or cs n d
+      → new ≡ old ++ touching ds x (command_points h (command_of d)) → new ++ list_column ds h x (drop (n + 1) cs) ≡ old ++ list_column ds h x (drop n cs)
+  column_step cs n d old new l e k = after_part old new _ _ _ k (list_column-drop cs n d l e)
+
+  pub column_end : (cs : List Cmd) (n : ℕ) (new all : List Bool) → length cs ≤ n → new ++ list_column ds h x (drop n cs) ≡ all → new ≡ all
+  column_end cs n new all l e = sym (append_none new) ∙ ap (λ (r : List Bool). new ++ r) (sym (list_column-past cs n l)) ∙ e
+
+  list_touches-drop : (cs : List Cmd) (n : ℕ) (d : Cmd) → n < length cs → d ≡ get_or cs n d
+      → list_touches ds h (drop n cs) x ≡ (touches ds h (command_of d) x || list_touches ds h (drop (n + 1) cs) x)
+  unfolding list_touches tree.list_touches
+  list_touches-drop [] n d l e = absurd (omega arith)
+  list_touches-drop (c ∷ cs) zero d l e = ap (λ (k : Cmd). touches ds h (command_of k) x || tree.list_touches ds h (commands_of cs) x) (sym e)
+  list_touches-drop (c ∷ cs) (suc n) d l e = let r = list_touches-drop cs n d (omega arith) e in simp (add-one) (simp (add-one) at r)
+
+  pub list_touches-past : (cs : List Cmd) (n : ℕ) → length cs ≤ n → list_touches ds h (drop n cs) x ≡ false
+  unfolding list_touches tree.list_touches
+  list_touches-past [] zero l = refl
+  list_touches-past [] (suc n) l = refl
+  list_touches-past (c ∷ cs) zero l = absurd (omega arith)
+  list_touches-past (c ∷ cs) (suc n) l = list_touches-past cs n (omega arith)
+
+  or_assoc : (a b c : Bool) → ((a || b) || c) ≡ (a || (b || c))
+  or_assoc true b c = refl
+  or_assoc false b c = refl
+
+  or_none : (a : Bool) → (a || false) ≡ a
+  or_none true = refl
+  or_none false = refl
+
+  -- a command more
+  pub touched_step : (cs : List Cmd) (n : ℕ) (d : Cmd) (old here new all : Bool) → n < length cs → d ≡ get_or cs n d → here ≡ touches ds h (command_of d) x → new ≡ (old || here)
+      → (old || list_touches ds h (drop n cs) x) ≡ all → (new || list_touches ds h (drop (n + 1) cs) x) ≡ all
+  touched_step cs n d old here new all l e t k i =
+      ap (λ (b : Bool). b || list_touches ds h (drop (n + 1) cs) x) (k ∙ ap (λ (b : Bool). old || b) t)
+      ∙ or_assoc old (touches ds h (command_of d) x) (list_touches ds h (drop (n + 1) cs) x)
+      ∙ ap (λ (b : Bool). old || b) (sym (list_touches-drop cs n d l e)) ∙ i
+
+  pub touched_end : (cs : List Cmd) (n : ℕ) (b all : Bool) → length cs ≤ n → (b || list_touches ds h (drop n cs) x) ≡ all → b ≡ all
+  touched_end cs n b all l i = sym (or_none b) ∙ ap (λ (r : Bool). b || r) (sym (list_touches-past cs n l)) ∙ i
+
+  pub block_column : (b : Block) → touching ds x (block_points h (block_of b)) ≡ list_column ds h x b.commands.items
+  unfolding list_column
+  block_column b = refl
+
+  pub else_column : (b : Block) → touching ds x (else_points h (else_of (Some b))) ≡ list_column ds h x b.commands.items
+  unfolding list_column
+  else_column b = refl
+
+  try_column : (k : SimpleCommand) (place : Place) (b : Block)
+      → touching ds x (command_points h (Try k place (block_of b))) ≡ touching ds x (simple_points h k) ++ touches ds h (Try k place (block_of b)) x ∷ list_column ds h x b.commands.items
+  unfolding list_column
+  try_column k place b = touching-both ds x (simple_points h k) _
+
+  if_column : (place : Place) (e : Expression) (one : Block) (other : ElseBlock)
+      → touching ds x (command_points h (If place e (block_of one) other))
+      ≡ touches ds h (If place e (block_of one) other) x ∷ list_column ds h x one.commands.items ++ touching ds x (else_points h other)
+  unfolding list_column
+  if_column place e one other =
+      ap (λ (l : List Bool). touches ds h (If place e (block_of one) other) x ∷ l) (touching-both ds x (points.list_points h (commands_of one.commands.items)) (else_points h other))
+
+  pub fall_column : (c : SimpleCommand) (place : Place) (b : Bool) (old new : List Bool) → c ≡ Fall place → b ≡ simple_touches ds h c x → new ≡ old ++ b ∷ []
+      → new ≡ old ++ touching ds x (simple_points h c)
+  fall_column c place b old new ec eb en =
+      en ∙ ap (λ (z : Bool). old ++ z ∷ []) (eb ∙ ap (λ (k : SimpleCommand). simple_touches ds h k x) ec ∙ sym (touches-do ds h (Fall place) x))
+      ∙ ap (λ (k : SimpleCommand). old ++ touching ds x (simple_points h k)) (sym ec)
+
+  -- a column with a place that is filled in at the end
+  pub try_filled : (c : Command) (k : SimpleCommand) (place : Place) (b : Block) (list : List Cmd) (own handled : Bool) (old simple pushed inside : List Bool) (at : ℕ)
+      → c ≡ Try k place (block_of b) → list ≡ b.commands.items → simple ≡ old ++ touching ds x (simple_points h k) → at ≡ length simple → pushed ≡ simple ++ false ∷ []
+      → inside ≡ pushed ++ list_column ds h x list → own ≡ simple_touches ds h k x → handled ≡ list_touches ds h list x
+      → set inside at (own || handled) ≡ old ++ touching ds x (command_points h c)
+  try_filled c k place b list own handled old simple pushed inside at ec el es ea ep ei eo eh =
+      let new = own || handled in
+      let l = list_column ds h x b.commands.items in
+      let i : inside ≡ simple ++ false ∷ l =
+      ei ∙ ap (λ (z : List Cmd). pushed ++ list_column ds h x z) el ∙ ap (λ (z : List Bool). z ++ l) ep ∙ append_assoc simple (false ∷ []) l in
+      let en : new ≡ touches ds h (Try k place (block_of b)) x =
+      ap (λ (a : Bool). a || handled) eo ∙ ap (λ (a : Bool). simple_touches ds h k x || a) (eh ∙ ap (λ (z : List Cmd). list_touches ds h z x) el) ∙ sym (touches-try ds h k place b x) in
+      ap (λ (z : List Bool). set z at new) i ∙ ap (λ (z : ℕ). set (simple ++ false ∷ l) z new) ea ∙ set-append_seam simple false l new
+      ∙ ap (λ (z : List Bool). z ++ new ∷ l) es ∙ append_assoc old (touching ds x (simple_points h k)) (new ∷ l)
+      ∙ ap (λ (z : Bool). old ++ (touching ds x (simple_points h k) ++ z ∷ l)) en
+      ∙ ap (λ (z : List Bool). old ++ z) (sym (try_column k place b)) ∙ ap (λ (z : Command). old ++ touching ds x (command_points h z)) (sym ec)
+
+  pub if_filled : (c : Command) (place : Place) (e : Expression) (one : Block) (list : List Cmd) (other : ElseBlock) (taken left : Bool) (old pushed first second : List Bool) (at : ℕ)
+      → c ≡ If place e (block_of one) other → list ≡ one.commands.items → at ≡ length old → pushed ≡ old ++ false ∷ []
+      → first ≡ pushed ++ list_column ds h x list → second ≡ first ++ touching ds x (else_points h other) → taken ≡ list_touches ds h list x → left ≡ else_touches ds h other x
+      → set second at (taken || left) ≡ old ++ touching ds x (command_points h c)
+  if_filled c place e one list other taken left old pushed first second at ec el ea ep ei ej et er =
+      let new = taken || left in
+      let l = list_column ds h x one.commands.items in
+      let r = touching ds x (else_points h other) in
+      let i : second ≡ old ++ false ∷ (l ++ r) =
+      ej ∙ ap (λ (z : List Bool). z ++ r) (ei ∙ ap (λ (z : List Cmd). pushed ++ list_column ds h x z) el ∙ ap (λ (z : List Bool). z ++ l) ep ∙ append_assoc old (false ∷ []) l)
+      ∙ append_assoc old (false ∷ l) r in
+      let en : new ≡ touches ds h (If place e (block_of one) other) x =
+      ap (λ (a : Bool). a || left) (et ∙ ap (λ (z : List Cmd). list_touches ds h z x) el) ∙ ap (λ (a : Bool). list_touches ds h one.commands.items x || a) er
+      ∙ sym (touches-if ds h place e one other x) in
+      ap (λ (z : List Bool). set z at new) i ∙ ap (λ (z : ℕ). set (old ++ false ∷ (l ++ r)) z new) ea ∙ set-append_seam old false (l ++ r) new
+      ∙ ap (λ (z : Bool). old ++ z ∷ (l ++ r)) en
+      ∙ ap (λ (z : List Bool). old ++ z) (sym (if_column place e one other)) ∙ ap (λ (z : Command). old ++ touching ds x (command_points h z)) (sym ec)
+
+module _ (ds : List Decl) (x : List ℕ) where
+  group_column-drop : (ss : List State) (n : ℕ) (d : State) → n < length ss → d ≡ get_or ss n d
+      → group_column ds x (drop n ss) ≡ touching ds x (state_points (state_of d)) ++ group_column ds x (drop (n + 1) ss)
+  unfolding group_column
+  group_column-drop [] n d l e = absurd (omega arith)
+  group_column-drop (s ∷ ss) zero d l e =
+      touching-both ds x (state_points (state_of s)) (points.states_points (states_of ss))
+      ∙ ap (λ (k : State). touching ds x (state_points (state_of k)) ++ touching ds x (points.states_points (states_of ss))) (sym e)
+  group_column-drop (s ∷ ss) (suc n) d l e = let r = group_column-drop ss n d (omega arith) e in simp (add-one) (simp (add-one) at r)
+
+  pub group_column-past : (ss : List State) (n : ℕ) → length ss ≤ n → group_column ds x (drop n ss) ≡ []
+  unfolding group_column
+  group_column-past [] zero l = refl
+  group_column-past [] (suc n) l = refl
+  group_column-past (s ∷ ss) zero l = absurd (omega arith)
+  group_column-past (s ∷ ss) (suc n) l = group_column-past ss n (omega arith)
+
+  pub group_step : (ss : List State) (n : ℕ) (d : State) (old new : List Bool) → n < length ss → d ≡ get_or ss n d
+      → new ≡ old ++ touching ds x (state_points (state_of d)) → new ++ group_column ds x (drop (n + 1) ss) ≡ old ++ group_column ds x (drop n ss)
+  group_step ss n d old new l e k = after_part old new _ _ _ k (group_column-drop ss n d l e)
+
+  pub group_end : (ss : List State) (n : ℕ) (new all : List Bool) → length ss ≤ n → new ++ group_column ds x (drop n ss) ≡ all → new ≡ all
+  group_end ss n new all l e = sym (append_none new) ∙ ap (λ (r : List Bool). new ++ r) (sym (group_column-past ss n l)) ∙ e
+
+  pub state_column : (s : State) → touching ds x (state_points (state_of s))
+      ≡ list_column ds (record { name = (out-State s).name.name; dynamic = is_dynamic (out-State s).kind; children = states_of (out-State s).children.items }) x (out-State s).body.commands.items
+      ++ group_column ds x (out-State s).children.items
+  unfolding list_column group_column
+  state_column s =
+      ap (λ (t : StateTree). touching ds x (state_points t)) (state_of-out s)
+      ∙ touching-both ds x
+      (points.list_points (record { name = (out-State s).name.name; dynamic = is_dynamic (out-State s).kind; children = states_of (out-State s).children.items }) (commands_of (out-State s).body.commands.items))
+      (points.states_points (states_of (out-State s).children.items))
+
+-- what a `fall` into states touches
+pub falls_are : (ds : List Decl) (ss : List State) (x : List ℕ) (store falls : Bool) → store ≡ is_dynamic_store ds x
+    → falls ≡ (is_dynamic_child (states_of ss) x || (store && states_assign (states_of ss) x)) → falls ≡ fall_touches ds (states_of ss) x
+unfolding fall_touches
+falls_are ds ss x store falls h e = e ∙ ap (λ (b : Bool). is_dynamic_child (states_of ss) x || (b && states_assign (states_of ss) x)) h
+
+-- the column of a design
+pub column_whole : (ds : List Decl) (ss : List State) (x : List ℕ) (declared : List Decl) (seen : List State) (old new : List Bool) → declared ≡ ds → seen ≡ ss → old ≡ []
+    → new ≡ old ++ group_column declared x seen → new ≡ touching ds x (points_of (tree_of ds ss))
+unfolding group_column
+column_whole ds ss x declared seen old new a b c h = h ∙ rw (a, b, c) refl
+
+pub ruleset lists = (list_column-past, group_column-past)
+
+pub ruleset blocks = (block_column, else_column, append_assoc)
+
+pub ruleset states = (state_column, append_assoc)

@@ -1,0 +1,4 @@
+pub mod Walks
+pub mod Columns
+pub mod Tables
+pub mod Lookup

@@ -1,0 +1,130 @@
+-- Whether some part of a list passes a test, from a place on; and what the definitions of assigning and touching say of each construct.
+use Rattle.std.proofs.Common.{◌≡◌, ℕ, zero, suc, ◌+◌, ◌<◌, ◌≤◌, List, [], ◌∷◌, ◌||◌, ◌&&◌, Bool, true, false, length, get_or, drop, refl, sym, ap, ◌∙◌, arith, add-one, bytes_eq, Some}
+use Rattle.sap_tree.specs.declared.place.Place.{Place}
+use Rattle.sap_tree.specs.declared.syntax.Block.{Block}
+use Rattle.sap_tree.specs.declared.syntax.Cmd.{Cmd}
+use Rattle.sap_tree.specs.declared.syntax.Decl.{Decl}
+use Rattle.sap_tree.specs.declared.syntax.State.{State, out-State}
+use Rattle.sap_tree.specs.Syntax.{Expression, SimpleCommand, Command, Do, Try, If, CommandBlock, ElseBlock, NoElse, Else, StateTree, StateOf, StateList, NoState, AndState}
+use Rattle.sap_tree.specs.Touches.{Home, is_dynamic, is_dynamic_child, simple_assigns, assigns, block_assigns, else_assigns, list_assigns, state_assigns, states_assign, simple_touches, touches, block_touches, else_touches}
+use Rattle.sap_tree.specs.Trees.{command_of, commands_of, block_of, else_of, state_of, states_of}
+use Rattle.sap_tree.proofs.Views.{state_of-out}
+use Rattle.sap_hang.specs.Columns.{list_touches}
+
+module _ {X : Type 0} (test : X → Bool) (any : List X → Bool) (none : any [] ≡ false) (more : (x : X) (xs : List X) → any (x ∷ xs) ≡ (test x || any xs)) where
+  any_drop : (xs : List X) (n : ℕ) (d : X) → n < length xs → any (drop n xs) ≡ (test (get_or xs n d) || any (drop (n + 1) xs))
+  any_drop [] n d h = absurd (omega arith)
+  any_drop (x ∷ xs) zero d h = more x xs
+  any_drop (x ∷ xs) (suc n) d h = let r = any_drop xs n d (omega arith) in simp (add-one) (simp (add-one) at r)
+
+  pub any_past : (xs : List X) (n : ℕ) → length xs ≤ n → any (drop n xs) ≡ false
+  any_past [] zero h = none
+  any_past [] (suc n) h = none
+  any_past (x ∷ xs) zero h = absurd (omega arith)
+  any_past (x ∷ xs) (suc n) h = any_past xs n (omega arith)
+
+  pub any_here : (xs : List X) (n : ℕ) (d : X) (b : Bool) → n < length xs → d ≡ get_or xs n d → b ≡ test d → any (drop n xs) ≡ (b || any (drop (n + 1) xs))
+  any_here xs n d b h e t = any_drop xs n d h ∙ ap (λ (x : Bool). x || any (drop (n + 1) xs)) (ap test (sym e) ∙ sym t)
+
+-- commands of which one assigns
+
+pub commands_here : (name : List ℕ) (cs : List Cmd) (n : ℕ) (d : Cmd) (b : Bool) → n < length cs → d ≡ get_or cs n d → b ≡ assigns (command_of d) name
+    → list_assigns (commands_of (drop n cs)) name ≡ (b || list_assigns (commands_of (drop (n + 1) cs)) name)
+unfolding list_assigns
+commands_here name cs n d b h e t = any_here (λ (c : Cmd). assigns (command_of c) name) (λ (l : List Cmd). list_assigns (commands_of l) name) refl (λ c l. refl) cs n d b h e t
+
+pub commands_past : (name : List ℕ) (cs : List Cmd) (n : ℕ) → length cs ≤ n → list_assigns (commands_of (drop n cs)) name ≡ false
+unfolding list_assigns
+commands_past name cs n h = any_past (λ (c : Cmd). assigns (command_of c) name) (λ (l : List Cmd). list_assigns (commands_of l) name) refl (λ c l. refl) cs n h
+
+-- states of which one assigns
+
+pub states_here : (name : List ℕ) (ss : List State) (n : ℕ) (d : State) (b : Bool) → n < length ss → d ≡ get_or ss n d → b ≡ state_assigns (state_of d) name
+    → states_assign (states_of (drop n ss)) name ≡ (b || states_assign (states_of (drop (n + 1) ss)) name)
+unfolding states_assign
+states_here name ss n d b h e t = any_here (λ (s : State). state_assigns (state_of s) name) (λ (l : List State). states_assign (states_of l) name) refl (λ s l. refl) ss n d b h e t
+
+pub states_past : (name : List ℕ) (ss : List State) (n : ℕ) → length ss ≤ n → states_assign (states_of (drop n ss)) name ≡ false
+unfolding states_assign
+states_past name ss n h = any_past (λ (s : State). state_assigns (state_of s) name) (λ (l : List State). states_assign (states_of l) name) refl (λ s l. refl) ss n h
+
+-- states of which one is the dynamic one of this name
+
+abbrev bears : List ℕ → StateTree → Bool
+bears name (StateOf place other kind body children) = bytes_eq other.name name && is_dynamic kind
+
+child_more : (name : List ℕ) (s : StateTree) (l : StateList) → is_dynamic_child (AndState s l) name ≡ (bears name s || is_dynamic_child l name)
+unfolding is_dynamic_child
+child_more name (StateOf place other kind body children) l = refl
+
+child_none : (name : List ℕ) → is_dynamic_child NoState name ≡ false
+unfolding is_dynamic_child
+child_none name = refl
+
+pub child_here : (name : List ℕ) (ss : List State) (n : ℕ) (d : State) (b : Bool) → n < length ss → d ≡ get_or ss n d
+    → b ≡ (bytes_eq (out-State d).name.name name && is_dynamic (out-State d).kind)
+    → is_dynamic_child (states_of (drop n ss)) name ≡ (b || is_dynamic_child (states_of (drop (n + 1) ss)) name)
+child_here name ss n d b h e t =
+    any_here (λ (s : State). bears name (state_of s)) (λ (l : List State). is_dynamic_child (states_of l) name) (child_none name) (λ s l. child_more name (state_of s) (states_of l)) ss n d b h e
+    (t ∙ sym (ap (λ (s : StateTree). bears name s) (state_of-out d)))
+
+pub child_past : (name : List ℕ) (ss : List State) (n : ℕ) → length ss ≤ n → is_dynamic_child (states_of (drop n ss)) name ≡ false
+child_past name ss n h = any_past (λ (s : State). bears name (state_of s)) (λ (l : List State). is_dynamic_child (states_of l) name) (child_none name) (λ s l. child_more name (state_of s) (states_of l)) ss n h
+
+pub ruleset pasts = (commands_past, states_past, child_past)
+
+-- what is assigned
+
+pub assigns-do : (k : SimpleCommand) (x : List ℕ) → assigns (Do k) x ≡ simple_assigns k x
+unfolding assigns
+assigns-do k x = refl
+
+pub assigns-try : (k : SimpleCommand) (place : Place) (h : Block) (x : List ℕ) → assigns (Try k place (block_of h)) x ≡ (simple_assigns k x || list_assigns (commands_of h.commands.items) x)
+unfolding assigns block_assigns
+assigns-try k place h x = refl
+
+pub assigns-if : (place : Place) (e : Expression) (one : Block) (other : ElseBlock) (x : List ℕ)
+    → assigns (If place e (block_of one) other) x ≡ (list_assigns (commands_of one.commands.items) x || else_assigns other x)
+unfolding assigns block_assigns
+assigns-if place e one other x = refl
+
+pub else_assigns-none : (x : List ℕ) → else_assigns NoElse x ≡ false
+unfolding else_assigns
+else_assigns-none x = refl
+
+pub else_assigns-some : (b : Block) (x : List ℕ) → else_assigns (else_of (Some b)) x ≡ list_assigns (commands_of b.commands.items) x
+unfolding else_assigns block_assigns
+else_assigns-some b x = refl
+
+pub state_assigns-is : (s : State) (x : List ℕ)
+    → state_assigns (state_of s) x ≡ (list_assigns (commands_of (out-State s).body.commands.items) x || states_assign (states_of (out-State s).children.items) x)
+unfolding state_assigns block_assigns
+state_assigns-is s x = ap (λ (t : StateTree). state_assigns t x) (state_of-out s)
+
+pub ruleset assigning = (assigns-do, assigns-try, assigns-if, else_assigns-none, else_assigns-some, state_assigns-is)
+
+-- what is touched
+
+pub touches-do : (ds : List Decl) (h : Home) (k : SimpleCommand) (x : List ℕ) → touches ds h (Do k) x ≡ simple_touches ds h k x
+unfolding touches
+touches-do ds h k x = refl
+
+pub touches-try : (ds : List Decl) (h : Home) (k : SimpleCommand) (place : Place) (b : Block) (x : List ℕ)
+    → touches ds h (Try k place (block_of b)) x ≡ (simple_touches ds h k x || list_touches ds h b.commands.items x)
+unfolding touches block_touches list_touches
+touches-try ds h k place b x = refl
+
+pub touches-if : (ds : List Decl) (h : Home) (place : Place) (e : Expression) (one : Block) (other : ElseBlock) (x : List ℕ)
+    → touches ds h (If place e (block_of one) other) x ≡ (list_touches ds h one.commands.items x || else_touches ds h other x)
+unfolding touches block_touches list_touches
+touches-if ds h place e one other x = refl
+
+pub else_touches-none : (ds : List Decl) (h : Home) (x : List ℕ) → else_touches ds h NoElse x ≡ false
+unfolding else_touches
+else_touches-none ds h x = refl
+
+pub else_touches-some : (ds : List Decl) (h : Home) (b : Block) (x : List ℕ) → else_touches ds h (else_of (Some b)) x ≡ list_touches ds h b.commands.items x
+unfolding else_touches block_touches list_touches
+else_touches-some ds h b x = refl
+
+pub ruleset touching_rules = (touches-do, touches-try, touches-if, else_touches-none, else_touches-some)

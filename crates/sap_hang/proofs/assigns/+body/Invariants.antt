@@ -1,0 +1,8 @@
+use Rattle.std.proofs.Common.{◌≡◌, drop}
+use Rattle.sap_tree.specs.Touches.{list_assigns}
+use Rattle.sap_tree.specs.Trees.{commands_of}
+use Rattle.sap_hang.proofs.assigns.+body.Given as goal
+
+-- the commands that are left say the same
+abbrev pub invariant-list_assigns-loop-command : goal.invariant-list_assigns-loop-command
+invariant-list_assigns-loop-command l = list_assigns (commands_of (drop l.command-index l.commands)) l.name ≡ list_assigns (commands_of l.commands) l.name

@@ -1,0 +1,35 @@
+use Rattle.std.proofs.Common.{◌≡◌, ◌∙◌, sym, ap, refl, arith}
+use Rattle.sap_tree.specs.Trees.{command_of}
+use Rattle.sap_tree.proofs.Views.{command_of-if, command_of-try}
+use Rattle.sap_hang.specs.Columns.{home_of}
+use Rattle.sap_hang.proofs.Columns.{column_end, column_step, if_filled, touched_end, touched_step, try_filled}
+use Rattle.sap_hang.proofs.column.+body.Goals as goal
+
+pub add_command-returns-in_ok-handled-in-Try-clause-column : goal.add_command-returns-in_ok-handled-in-Try-clause-column
+add_command-returns-in_ok-handled-in-Try-clause-column t c =
+    try_filled c.args.seat.now.declarations.now (home_of c.args.seat.now) c.args.seat.now.entity.now _ _ _ c.in-Try.handler _ _ _ _ _ _ _ _ (ap command_of c.in-Try.is ∙ command_of-try _ _ _)
+    c.as_slice.ensures.value c.in_ok-own-in-Try.ensures.column (omega (arith, c.len-at.ensures, c.add_simple-in-Try.new.column.ok.0)) c.in_ok-push-in-Try.ensures.items c.in_ok-handled-in-Try.ensures.column c.in_ok-own-in-Try.ensures.touched
+    c.in_ok-handled-in-Try.ensures.touched
+
+pub add_command-returns-in_ok-left-in-If-clause-column : goal.add_command-returns-in_ok-left-in-If-clause-column
+add_command-returns-in_ok-left-in-If-clause-column t c =
+    if_filled c.args.seat.now.declarations.now (home_of c.args.seat.now) c.args.seat.now.entity.now _ _ _ c.in-If.one _ _ _ _ _ _ _ _ _ (ap command_of c.in-If.is ∙ command_of-if _ _ _ _)
+    c.as_slice-in-If.ensures.value (omega (arith, c.len-at-in-If.ensures, c.args.column.now.ok.0)) c.in_ok-push-in-If.ensures.items c.in_ok-taken-in-If.ensures.column c.in_ok-left-in-If.ensures.column c.in_ok-taken-in-If.ensures.touched
+    c.in_ok-left-in-If.ensures.touched
+
+pub add_list-loop-command-preserved : goal.add_list-loop-command-preserved
+add_list-loop-command-preserved t c = (
+  touched_step c.args.seat.now.declarations.now (home_of c.args.seat.now) c.args.seat.now.entity.now c.args.commands.now c.loop-command.command-index c.command-item.result _ _ _ _ (omega arith) c.command-item.is
+      c.in_ok-here.ensures.touched refl c.loop-command.invariant.0,
+  column_step c.args.seat.now.declarations.now (home_of c.args.seat.now) c.args.seat.now.entity.now c.args.commands.now c.loop-command.command-index c.command-item.result _ _ (omega arith) c.command-item.is
+      c.in_ok-here.ensures.column
+      ∙ c.loop-command.invariant.1,
+)
+
+pub add_list-returns-clause-touched : goal.add_list-returns-clause-touched
+add_list-returns-clause-touched t c =
+    touched_end c.args.seat.now.declarations.now (home_of c.args.seat.now) c.args.seat.now.entity.now c.args.commands.now c.loop-command.command-index _ _ (omega arith) c.loop-command.invariant.0
+
+pub add_list-returns-clause-column : goal.add_list-returns-clause-column
+add_list-returns-clause-column t c =
+    column_end c.args.seat.now.declarations.now (home_of c.args.seat.now) c.args.seat.now.entity.now c.args.commands.now c.loop-command.command-index _ _ (omega arith) c.loop-command.invariant.1

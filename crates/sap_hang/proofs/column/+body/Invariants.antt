@@ -1,0 +1,10 @@
+use Rattle.std.proofs.Common.{◌≡◌, ◌||◌, ◌++◌, drop}
+use Rattle.sap_hang.specs.Columns.{home_of, list_touches, list_column}
+use Rattle.sap_hang.proofs.column.+body.Given as goal
+
+-- with what the commands that are left touch, and their points
+abbrev pub invariant-add_list-loop-command : goal.invariant-add_list-loop-command
+invariant-add_list-loop-command l =
+    ((l.touched || list_touches l.seat.declarations.now (home_of l.seat) (drop l.command-index l.commands) l.seat.entity.now) ≡ list_touches l.seat.declarations.now (home_of l.seat) l.commands l.seat.entity.now)
+    × (l.column.items ++ list_column l.seat.declarations.now (home_of l.seat) l.seat.entity.now (drop l.command-index l.commands)
+    ≡ l.initial.column.items ++ list_column l.seat.declarations.now (home_of l.seat) l.seat.entity.now l.commands)

@@ -1,0 +1,42 @@
+-- How a table is kept: for each entity a column, which says of each point whether the entity hangs on it.
+use Rattle.std.specs.Prelude.{◌≡◌, ℕ, Bool, List, Vec, map}
+use Rattle.std.specs.Global.{Global}
+use Rattle.sap_tree.specs.declared.syntax.Cmd.{Cmd}
+use Rattle.sap_tree.specs.declared.syntax.Decl.{Decl}
+use Rattle.sap_tree.specs.declared.syntax.State.{State}
+use Rattle.sap_tree.specs.Trees.{commands_of, states_of}
+use Rattle.sap_tree.specs.Touches.{Home, touches, is_dynamic_store, fall_touches}
+use Rattle.sap_tree.specs.Touches as tree
+use Rattle.sap_names.specs.declared.entity.Entity.{Entity}
+use Rattle.sap_hang.specs.Points.{Point}
+use Rattle.sap_hang.specs.Points as points
+use Rattle.sap_hang.specs.declared.seat.Seat.{Seat}
+
+-- whether the entity of this name hangs on each of the points
+abbrev pub touching : List Decl → (name : List ℕ) → List Point → List Bool
+touching ds name ps = map (λ (p : Point). touches ds p.home p.command name) ps
+
+abbrev pub home_of : Seat → Home
+home_of s = record { name = s.state.now; dynamic = s.dynamic; children = states_of s.children.now }
+
+-- what is known of the entity is so
+abbrev pub Sees : Seat → Type 0
+Sees s = (s.store ≡ is_dynamic_store s.declarations.now s.entity.now)
+    × (s.falls ≡ fall_touches s.declarations.now (states_of s.children.now) s.entity.now)
+
+-- of lists of commands and of states
+unfoldable pub list_touches : List Decl → Home → List Cmd → (name : List ℕ) → Bool
+list_touches ds h cs name = tree.list_touches ds h (commands_of cs) name
+
+unfoldable pub list_column : List Decl → Home → (name : List ℕ) → List Cmd → List Bool
+list_column ds h name cs = touching ds name (points.list_points h (commands_of cs))
+
+unfoldable pub group_column : List Decl → (name : List ℕ) → List State → List Bool
+group_column ds name states = touching ds name (points.states_points (states_of states))
+
+-- the columns of these entities at these points
+abbrev pub columns_of : List Decl → List Entity → List Point → List (List Bool)
+columns_of ds es ps = map (λ (e : Entity). touching ds e.name.name ps) es
+
+abbrev pub items_of : List (Vec Bool Global) → List (List Bool)
+items_of columns = map (λ (c : Vec Bool Global). c.items) columns

@@ -1,0 +1,35 @@
+-- What hangs on the points of a design: what the commands that they are touch. Points are numbered from 1 and entities from 0; on a number that is no
+-- point nothing hangs, and a number that is no entity hangs nowhere.
+use Rattle.std.specs.Prelude.{◌≡◌, ℕ, zero, suc, Bool, false, List, Option, Some, None, slice_get, unwrap_or}
+use Rattle.sap_tree.specs.declared.syntax.Decl.{Decl}
+use Rattle.sap_tree.specs.Syntax.{DesignTree}
+use Rattle.sap_tree.specs.Touches.{touches}
+use Rattle.sap_names.specs.declared.entity.Entity.{Entity}
+use Rattle.sap_names.specs.Entities.{entities_of}
+use Rattle.sap_hang.specs.Points.{Point, points_of}
+
+abbrev pub touches_entity : List Decl → Option Point → Option Entity → Bool
+touches_entity ds None e = false
+touches_entity ds (Some p) None = false
+touches_entity ds (Some p) (Some e) = touches ds p.home p.command e.name.name
+
+abbrev pub hangs : DesignTree → (point entity : ℕ) → Bool
+hangs d zero x = false
+hangs d (suc p) x = touches_entity d.declarations (slice_get (points_of d) p) (slice_get (entities_of d) x)
+
+-- a table: for each entity a column, which says of each point whether the entity hangs on it
+abbrev pub Table : Type 0
+Table = List (List Bool)
+
+abbrev pub bit_of : Option (List Bool) → (place : ℕ) → Bool
+bit_of None p = false
+bit_of (Some column) p = unwrap_or (slice_get column p) false
+
+-- what a table says
+abbrev pub says : Table → (point entity : ℕ) → Bool
+says table zero x = false
+says table (suc p) x = bit_of (slice_get table x) p
+
+-- a table of what hangs in a design
+abbrev pub IsHangTable : DesignTree → Table → Type 0
+IsHangTable d table = (p x : ℕ) → says table p x ≡ hangs d p x

@@ -1,0 +1,85 @@
+//! Which commands assign a register or a memory.
+
+ghost use Rattle.std.specs.Prelude.{◌≡◌};
+ghost use Rattle.sap_tree.specs.Touches as tree;
+ghost use Rattle.sap_tree.specs.Trees.{command_of, commands_of, else_of, simple_of, state_of, states_of};
+
+use sap_tree::name::Name;
+use sap_tree::syntax::{Block, Cmd, Simple, State};
+
+/// Whether a command that can have a handler assigns the entity of this name.
+pub(crate) fn simple_assigns(command: &Simple, name: &Name) -> bool
+    ensures { result ≡ tree.simple_assigns (simple_of command.now) name.now }
+{
+    match command {
+        Simple::Assign(target, _) => target.name.same(name),
+        Simple::Write(target, _, _) => target.name.same(name),
+        Simple::SetTag(_, _, _) => false,
+        Simple::SetCellTag(_, _, _, _) => false,
+        Simple::Goto(_, _) => false,
+        Simple::Fall(_) => false,
+    }
+}
+
+#[cycle(body)]
+#[tactic(auto, using(sap_tree::proofs::Views::views, crate::proofs::Walks::assigning))]
+fn assigns(command: &Cmd, name: &Name) -> bool
+    ensures { result ≡ tree.assigns (command_of command.now) name.now }
+{
+    match command {
+        Cmd::Do(simple) => simple_assigns(simple, name),
+        Cmd::Try(simple, _, handler) => {
+            simple_assigns(simple, name) || list_assigns(handler.commands.as_slice(), name)
+        }
+        Cmd::If(_, _, one, other) => {
+            list_assigns(one.commands.as_slice(), name) || else_assigns(other, name)
+        }
+    }
+}
+
+#[cycle(body)]
+#[tactic(auto, using(crate::proofs::Walks::assigning))]
+fn else_assigns(other: &Option<Block>, name: &Name) -> bool
+    ensures { result ≡ tree.else_assigns (else_of other.now) name.now }
+{
+    match other {
+        Some(block) => list_assigns(block.commands.as_slice(), name),
+        None => false,
+    }
+}
+
+#[cycle(body)]
+#[tactic(auto, using(crate::proofs::Walks::pasts))]
+fn list_assigns(commands: &[Cmd], name: &Name) -> bool
+    ensures { result ≡ tree.list_assigns (commands_of commands.now) name.now }
+{
+    for command in commands {
+        if assigns(command, name) {
+            return true;
+        }
+    }
+    false
+}
+
+#[cycle(states)]
+#[tactic(auto, using(crate::proofs::Walks::assigning))]
+fn state_assigns(state: &State, name: &Name) -> bool
+    ensures { result ≡ tree.state_assigns (state_of state.now) name.now }
+{
+    list_assigns(state.body.commands.as_slice(), name)
+        || states_assign(state.children.as_slice(), name)
+}
+
+/// Whether the body of one of these states or of one below them assigns the entity of this name.
+#[cycle(states)]
+#[tactic(auto, using(crate::proofs::Walks::pasts))]
+pub(crate) fn states_assign(states: &[State], name: &Name) -> bool
+    ensures { result ≡ tree.states_assign (states_of states.now) name.now }
+{
+    for state in states {
+        if state_assigns(state, name) {
+            return true;
+        }
+    }
+    false
+}

@@ -1,0 +1,151 @@
+//! On which points of a design one entity hangs.
+
+ghost use Rattle.std.specs.Prelude.{◌≡◌, ◌++◌, IfOk, OnOk};
+ghost use Rattle.sap_hang.specs.Columns as columns;
+ghost use Rattle.sap_hang.specs.Columns.{Sees, home_of, touching};
+ghost use Rattle.sap_hang.specs.Points as points;
+ghost use Rattle.sap_tree.specs.Designs.{design_of};
+ghost use Rattle.sap_tree.specs.Touches as tree;
+ghost use Rattle.sap_tree.specs.Trees.{command_of, else_of, simple_of, state_of};
+
+use crate::seat::Seat;
+use crate::touches::{fall_touches, is_dynamic, is_dynamic_store, simple_touches};
+use sap_tree::design::Design;
+use sap_tree::name::Name;
+use sap_tree::syntax::{Block, Cmd, Decl, Simple, State};
+use std::alloc::{AllocError, Global};
+
+fn add_simple(seat: &Seat<'_>, command: &Simple, column: &mut Vec<bool>) -> Result<bool, AllocError>
+    requires { Sees seat.now }
+    ensures touched { IfOk result (λ b. b ≡ tree.simple_touches seat.now.declarations.now (home_of seat.now) (simple_of command.now) seat.now.entity.now) }
+    ensures column { OnOk result (column.new.items ≡ column.old.items ++ touching seat.now.declarations.now seat.now.entity.now (points.simple_points (home_of seat.now) (simple_of command.now))) }
+{
+    let touched = simple_touches(seat, command);
+    if let Simple::Fall(_) = command {
+        column.push(touched)?;
+    }
+    Ok(touched)
+}
+
+#[cycle(body)]
+#[tactic(auto, using(sap_tree::proofs::Views::views, crate::proofs::Columns::blocks, crate::proofs::Walks::touching_rules))]
+fn add_command(seat: &Seat<'_>, command: &Cmd, column: &mut Vec<bool>) -> Result<bool, AllocError>
+    requires { Sees seat.now }
+    ensures touched { IfOk result (λ b. b ≡ tree.touches seat.now.declarations.now (home_of seat.now) (command_of command.now) seat.now.entity.now) }
+    ensures column { OnOk result (column.new.items ≡ column.old.items ++ touching seat.now.declarations.now seat.now.entity.now (points.command_points (home_of seat.now) (command_of command.now))) }
+{
+    match command {
+        Cmd::Do(simple) => add_simple(seat, simple, column),
+        Cmd::Try(simple, _, handler) => {
+            let own = add_simple(seat, simple, column)?;
+            let at = column.len();
+            column.push(false)?;
+            let handled = add_list(seat, handler.commands.as_slice(), column)?;
+            let touched = own | handled;
+            column[at] = touched;
+            Ok(touched)
+        }
+        Cmd::If(_, _, one, other) => {
+            let at = column.len();
+            column.push(false)?;
+            let taken = add_list(seat, one.commands.as_slice(), column)?;
+            let left = add_else(seat, other, column)?;
+            let touched = taken | left;
+            column[at] = touched;
+            Ok(touched)
+        }
+    }
+}
+
+#[cycle(body)]
+#[tactic(auto, using(crate::proofs::Columns::blocks, crate::proofs::Walks::touching_rules))]
+fn add_else(
+    seat: &Seat<'_>,
+    other: &Option<Block>,
+    column: &mut Vec<bool>,
+) -> Result<bool, AllocError>
+    requires { Sees seat.now }
+    ensures touched { IfOk result (λ b. b ≡ tree.else_touches seat.now.declarations.now (home_of seat.now) (else_of other.now) seat.now.entity.now) }
+    ensures column { OnOk result (column.new.items ≡ column.old.items ++ touching seat.now.declarations.now seat.now.entity.now (points.else_points (home_of seat.now) (else_of other.now))) }
+{
+    match other {
+        Some(block) => add_list(seat, block.commands.as_slice(), column),
+        None => Ok(false),
+    }
+}
+
+#[cycle(body)]
+#[tactic(auto, using(crate::proofs::Columns::lists))]
+fn add_list(seat: &Seat<'_>, commands: &[Cmd], column: &mut Vec<bool>) -> Result<bool, AllocError>
+    requires { Sees seat.now }
+    ensures touched { IfOk result (λ b. b ≡ columns.list_touches seat.now.declarations.now (home_of seat.now) commands.now seat.now.entity.now) }
+    ensures column { OnOk result (column.new.items ≡ column.old.items ++ columns.list_column seat.now.declarations.now (home_of seat.now) seat.now.entity.now commands.now) }
+{
+    let mut touched = false;
+    for command in commands {
+        let here = add_command(seat, command, column)?;
+        touched |= here;
+    }
+    Ok(touched)
+}
+
+#[cycle(states)]
+#[tactic(auto, using(crate::proofs::Columns::states))]
+fn add_state(
+    declarations: &[Decl],
+    entity: &Name,
+    store: bool,
+    state: &State,
+    column: &mut Vec<bool>,
+) -> Result<(), AllocError>
+    requires { store ≡ tree.is_dynamic_store declarations.now entity.now }
+    ensures { OnOk result (column.new.items ≡ column.old.items ++ touching declarations.now entity.now (points.state_points (state_of state.now))) }
+{
+    let children = state.children.as_slice();
+    let seat = Seat {
+        declarations,
+        entity,
+        store,
+        state: &state.name.name,
+        dynamic: is_dynamic(&state.kind),
+        children,
+        falls: fall_touches(store, children, entity),
+    };
+    add_list(&seat, state.body.commands.as_slice(), column)?;
+    add_states(declarations, entity, store, children, column)
+}
+
+#[cycle(states)]
+#[tactic(auto, using(crate::proofs::Columns::lists))]
+fn add_states(
+    declarations: &[Decl],
+    entity: &Name,
+    store: bool,
+    states: &[State],
+    column: &mut Vec<bool>,
+) -> Result<(), AllocError>
+    requires { store ≡ tree.is_dynamic_store declarations.now entity.now }
+    ensures { OnOk result (column.new.items ≡ column.old.items ++ columns.group_column declarations.now entity.now states.now) }
+{
+    for state in states {
+        add_state(declarations, entity, store, state, column)?;
+    }
+    Ok(())
+}
+
+/// Whether the entity of this name hangs on each of the points of a design.
+pub(crate) fn column(alloc: Global, design: &Design, entity: &Name) -> Result<Vec<bool>, AllocError>
+    ensures { IfOk result (λ v. v.items ≡ touching (design_of design.now).declarations entity.now (points.points_of (design_of design.now))) }
+{
+    let declarations = design.declarations.as_slice();
+    let store = is_dynamic_store(declarations, entity);
+    let mut column = Vec::new(alloc);
+    add_states(
+        declarations,
+        entity,
+        store,
+        design.states.as_slice(),
+        &mut column,
+    )?;
+    Ok(column)
+}

@@ -1,0 +1,33 @@
+-- The lines of levels, from a place on.
+use Rattle.std.proofs.Common.{◌≡◌, ℕ, zero, suc, ◌+◌, ◌<◌, ◌≤◌, List, [], ◌∷◌, ◌++◌, length, drop, refl, sym, ap, ◌∙◌, arith}
+use Rattle.std.proofs.Math.Seq.{drop-cons}
+use Rattle.std.proofs.lemmas.Bool.Decides.{nat_tests}
+use Rattle.std.specs.Prelude.{nat_lt, if◌then◌else◌}
+use Rattle.sap_lattice.specs.Closure.{name_at}
+use Rattle.sap_lattice.specs.Codes.{code_of}
+use Rattle.sap_lattice.specs.Levels.{Levels, level_in, order_of}
+use Rattle.sap_report.specs.Report.{level_line, level_lines}
+use Rattle.sap_report.proofs.Lists.{after_part, at_end, drop-past}
+
+-- the level at a place of the file
+pub at_place : (n place top : ℕ) → place < n → (if nat_lt place n then place else top) ≡ place
+at_place n place top h = grind (arith, nat_tests)
+
+pub level_is : (n place : ℕ) → place < n → level_in n place ≡ place
+level_is n place h = grind (arith, nat_tests)
+
+pub ruleset levels = (at_place, level_is)
+
+level_lines-drop : (ls : Levels) (n : ℕ) → n < length ls.names
+    → level_lines ls n (drop n ls.names) ≡ level_line (name_at ls.names n) (code_of (order_of ls) n) ++ level_lines ls (n + 1) (drop (n + 1) ls.names)
+level_lines-drop ls n h =
+    let s : suc n ≡ n + 1 = omega arith in
+    ap (λ (l : List (List ℕ)). level_lines ls n l) (drop-cons ls.names n [] h)
+    ∙ ap (λ (k : ℕ). level_line (name_at ls.names n) (code_of (order_of ls) n) ++ level_lines ls (n + 1) (drop k ls.names)) s
+
+pub levels_step : (ls : Levels) (n : ℕ) (old new all : List ℕ) → n < length ls.names → new ≡ old ++ level_line (name_at ls.names n) (code_of (order_of ls) n)
+    → old ++ level_lines ls n (drop n ls.names) ≡ all → new ++ level_lines ls (n + 1) (drop (n + 1) ls.names) ≡ all
+levels_step ls n old new all h e i = after_part old new _ _ _ e (level_lines-drop ls n h) ∙ i
+
+pub levels_end : (ls : Levels) (n : ℕ) (new all : List ℕ) → length ls.names ≤ n → new ++ level_lines ls n (drop n ls.names) ≡ all → new ≡ all
+levels_end ls n new all h i = at_end new _ all (ap (λ (l : List (List ℕ)). level_lines ls n l) (drop-past ls.names n h)) i

@@ -1,0 +1,6 @@
+pub mod Lists
+pub mod Names
+pub mod LevelLines
+pub mod PointLines
+pub mod SiteLines
+mod Agreeing

@@ -1,0 +1,129 @@
+-- The lines of check sites, from a place on; and that the entity of each site is one of the design.
+use Rattle.std.proofs.Common.{◌≡◌, ℕ, zero, suc, ◌+◌, ◌-◌, ◌<◌, ◌≤◌, List, [], ◌∷◌, ◌++◌, length, drop, refl, sym, ap, ◌∙◌, subst, arith, Bool, true, false}
+use Rattle.std.specs.Prelude.{Option, Some, None, slice_get, unwrap_or, option_map, if◌then◌else◌}
+use Rattle.std.specs.Str.{bytes_eq}
+use Rattle.std.proofs.lemmas.List.{length-append}
+use Rattle.sap_tree.specs.Syntax.{SimpleCommand, Command, Do, Try, If, CommandBlock, Commands, ElseBlock, NoElse, Else, CommandList, NoCommand, AndCommand, StateTree, StateOf, StateList, NoState, AndState, DesignTree}
+use Rattle.sap_names.specs.declared.entity.Entity.{Entity}
+use Rattle.sap_names.specs.Entities.{entities_of, declared_in, group_entities, number_of}
+use Rattle.sap_shape.specs.Sites.{is_site}
+use Rattle.sap_check.specs.declared.site.Site.{Site}
+use Rattle.sap_check.specs.Sites.{Home, entity_number, target_of, site_of, simple_sites, command_sites, block_sites, else_sites, list_sites, state_sites, states_sites, sites_of}
+use Rattle.sap_report.specs.Report.{site_line, site_lines}
+use Rattle.sap_report.proofs.Lists.{after_part, at_end, drop-at, drop-past}
+
+site_lines-drop : (es : List Entity) (ss : List Site) (n : ℕ) (s : Site) → slice_get ss ((n + 1) - 1) ≡ Some s
+    → site_lines es (n + 1) (drop n ss) ≡ site_line es (n + 1) s ++ site_lines es ((n + 1) + 1) (drop (n + 1) ss)
+site_lines-drop es ss n s h =
+    let e : (n + 1) - 1 ≡ n = omega arith in
+    ap (λ (l : List Site). site_lines es (n + 1) l) (drop-at ss n s (ap (λ (k : ℕ). slice_get ss k) (sym e) ∙ h))
+
+pub sites_step : (es : List Entity) (ss : List Site) (n : ℕ) (s : Site) (old new all : List ℕ) → slice_get ss ((n + 1) - 1) ≡ Some s → new ≡ old ++ site_line es (n + 1) s
+    → old ++ site_lines es (n + 1) (drop n ss) ≡ all → new ++ site_lines es ((n + 1) + 1) (drop (n + 1) ss) ≡ all
+sites_step es ss n s old new all h e i = after_part old new _ _ _ e (site_lines-drop es ss n s h) ∙ i
+
+pub sites_end : (es : List Entity) (ss : List Site) (n : ℕ) (new all : List ℕ) → length ss ≤ n → new ++ site_lines es (n + 1) (drop n ss) ≡ all → new ≡ all
+sites_end es ss n new all h i = at_end new _ all (ap (λ (l : List Site). site_lines es (n + 1) l) (drop-past ss n h)) i
+
+-- numbers of names
+
+Within : Option ℕ → ℕ → Type 0
+Within None n = Unit {0}
+Within (Some k) n = k < n
+
+-- a name's number is below the count
+within-later : (o : Option ℕ) (n : ℕ) → Within o n → Within (option_map (λ k. k + 1) o) (suc n)
+unfolding Within
+within-later None n h = tt
+within-later (Some k) n h = omega arith
+
+within-choice : (b : Bool) (o : Option ℕ) (n : ℕ) → Within o n → Within (if b then Some 0 else option_map (λ k. k + 1) o) (suc n)
+unfolding Within
+within-choice true o n h = omega arith
+within-choice false o n h = within-later o n h
+
+number-within : (es : List Entity) (name : List ℕ) → Within (number_of es name) (length es)
+unfolding Within
+number-within [] name = tt
+number-within (e ∷ es) name = within-choice (bytes_eq e.name.name name) (number_of es name) (length es) (number-within es name)
+
+or_first : (o : Option ℕ) (n : ℕ) → 0 < n → Within o n → unwrap_or o 0 < n
+unfolding Within
+or_first None n p h = p
+or_first (Some k) n p h = h
+
+number-small : (es : List Entity) (name : List ℕ) → 0 < length es → entity_number es name < length es
+number-small es name p = or_first (number_of es name) (length es) p (number-within es name)
+
+-- sites whose entities are below a number
+
+Small : ℕ → List Site → Type 0
+Small n [] = Unit {0}
+Small n (s ∷ ss) = (s.entity < n) × Small n ss
+
+small-both : (n : ℕ) (a b : List Site) → Small n a → Small n b → Small n (a ++ b)
+unfolding Small
+small-both n [] b p q = q
+small-both n (s ∷ a) b p q = (p.0, small-both n a b p.1 q)
+
+small-at : (n : ℕ) (ss : List Site) (k : ℕ) (s : Site) → Small n ss → slice_get ss k ≡ Some s → s.entity < n
+unfolding Small
+small-at n [] k s p h = absurd (cc h)
+small-at n (x ∷ ss) zero s p h = let e : x.entity ≡ s.entity = ap (λ (o : Option Site). (unwrap_or o x).entity) h in omega (arith, p.0)
+small-at n (x ∷ ss) (suc k) s p h = small-at n ss k s p.1 h
+
+small-choice : (n : ℕ) (b : Bool) (s : Site) → s.entity < n → Small n (if b then s ∷ [] else [])
+unfolding Small
+small-choice n true s h = (h, tt)
+small-choice n false s h = tt
+
+module _ (h : Home) (p : 0 < length h.entities) where
+  simple-small : (k : SimpleCommand) → Small (length h.entities) (simple_sites h k)
+  simple-small k = small-choice (length h.entities) (is_site h.entities h.kind h.children k) (site_of h k) (number-small h.entities (target_of h k) p)
+
+  mutual
+    unfolding Small
+
+    command-small : (c : Command) → Small (length h.entities) (command_sites h c)
+    command-small (Do k) = simple-small k
+    command-small (Try k place handler) = small-both (length h.entities) (simple_sites h k) (block_sites h handler) (simple-small k) (block-small handler)
+    command-small (If place condition one other) = small-both (length h.entities) (block_sites h one) (else_sites h other) (block-small one) (else-small other)
+
+    block-small : (b : CommandBlock) → Small (length h.entities) (block_sites h b)
+    block-small (Commands cs after) = list-small cs
+
+    else-small : (b : ElseBlock) → Small (length h.entities) (else_sites h b)
+    else-small NoElse = tt
+    else-small (Else b) = block-small b
+
+    list-small : (cs : CommandList) → Small (length h.entities) (list_sites h cs)
+    list-small NoCommand = tt
+    list-small (AndCommand c cs) = small-both (length h.entities) (command_sites h c) (list_sites h cs) (command-small c) (list-small cs)
+
+module _ (es : List Entity) (p : 0 < length es) where
+  mutual
+    unfolding Small
+
+    state-small : (s : StateTree) → Small (length es) (state_sites es s)
+    state-small (StateOf place name kind body children) =
+        let h : Home = record { entities = es; name = name.name; kind = kind; children = children } in
+        small-both (length es) (block_sites h body) (states_sites es children) (block-small h p body) (states-small children)
+
+    states-small : (ss : StateList) → Small (length es) (states_sites es ss)
+    states-small NoState = tt
+    states-small (AndState s ss) = small-both (length es) (state_sites es s) (states_sites es ss) (state-small s) (states-small ss)
+
+-- a design with a state has an entity
+some-entity : (s : StateTree) (ss : StateList) (es : List Entity) → 0 < length (es ++ group_entities (AndState s ss))
+some-entity (StateOf place name kind body children) ss es =
+    let n = length-append es (group_entities (AndState (StateOf place name kind body children) ss)) in omega (arith, n)
+
+all-small : (d : DesignTree) (ss : StateList) → d.states ≡ ss → Small (length (entities_of d)) (states_sites (entities_of d) ss)
+unfolding Small
+all-small d NoState e = tt
+all-small d (AndState s ss) e =
+    let some : 0 < length (entities_of d) = subst (λ (g : StateList). 0 < length (declared_in d.declarations ++ group_entities g)) (sym e) (some-entity s ss (declared_in d.declarations)) in
+    states-small (entities_of d) some (AndState s ss)
+
+pub site-within : (d : DesignTree) (k : ℕ) (s : Site) → slice_get (sites_of d) k ≡ Some s → s.entity < length (entities_of d)
+site-within d k s h = small-at (length (entities_of d)) (sites_of d) k s (all-small d d.states refl) h
