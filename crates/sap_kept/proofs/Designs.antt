@@ -4,6 +4,7 @@ use Rattle.sap_tree.specs.declared.name.Mention.{Mention}
 use Rattle.sap_tree.specs.declared.syntax.Numeral.{Numeral}
 use Rattle.sap_tree.specs.declared.syntax.Decl.{Decl}
 use Rattle.sap_tree.specs.declared.syntax.Decl.TheVariants.{Input, Register, Memory}
+use Rattle.sap_tree.specs.Syntax.{DesignTree}
 use Rattle.sap_lattice.specs.Levels.{Levels, order_of}
 use Rattle.sap_names.specs.declared.entity.Entity.{Entity}
 use Rattle.sap_names.specs.declared.kind.Code.TheVariants.{E7}
@@ -59,25 +60,31 @@ module _ (ls : Levels) (le : ℕ → ℕ → Bool) (es : List Entity) (w : World
         declarations_kept (x + 1) ds (part_tail es x (entity_of d) (declared_in ds) p) (part_tail w.entities x (declared ls d) (all_declared ls ds) q) n.1,
       )
 
-pub kept : ResolvingKeeps
-kept ls d h =
-    let le = (order_of ls).le in
+-- a used name without faults is that of the entity of its number
+pub known_names : (ls : Levels) (d : DesignTree) → Known (entities_of d)
+known_names ls d =
     let es = entities_of d in
     let w = world_of ls d in
-    let n = none_three (twice [] es) (declarations_faults ls.names le d.declarations) (states_faults ls.names le (what_is es) d.states) h in
-    let k : Known es = record {
+    record {
       named = λ how name place f.
           let m : Mention = record { place = place; name = name } in
           let e = found es w (entities_match ls d) how m f in
           let l : entity_number es name < root w = entity_within ls d name e.0 e.1 in
           let s : root w ≡ length es = entities_length ls d in
           named_at es (entity_number es name) name (omega arith) (named es w (entities_match ls d) how m f);
-    } in
+    }
+
+pub kept : ResolvingKeeps
+kept ls d h =
+    let le = (order_of ls).le in
+    let es = entities_of d in
+    let w = world_of ls d in
+    let n = none_three (twice [] es) (declarations_faults ls.names le d.declarations) (states_faults ls.names le (what_is es) d.states) h in
     record {
       declarations =
           declarations_kept ls le es w 0 d.declarations (record { front = []; back = group_entities d.states; is = refl; count = refl })
           (record { front = []; back = world.group_entities ls 0 (length d.declarations) d.states; is = refl; count = refl }) n.1;
-      states = group_kept ls le es w k (root w) 1 0 (length d.declarations) d.states (laid ls d) n.2;
+      states = group_kept ls le es w (known_names ls d) (root w) 1 0 (length d.declarations) d.states (laid ls d) n.2;
       entities = entities_length ls d;
       one_name = λ x y name i j. one_name es n.0 x y name i j;
     }

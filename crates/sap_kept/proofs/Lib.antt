@@ -1,4 +1,6 @@
 mod Names
 mod Keeping
 mod Designs
+mod Stores
+mod Hanging
 mod Computed

@@ -1,8 +1,12 @@
--- What hangs on each command of a design that has a list of it, by name.
+-- What hangs on each command of a design that has a list of it: by name; as the list itself; and as what the command touches in the tree.
 use Rattle.std.specs.Prelude.{ℕ, Bool, true, false, List, [], ◌∷◌, ◌++◌, map}
+use Rattle.sap_tree.specs.declared.syntax.Decl.{Decl}
 use Rattle.sap_tree.specs.Syntax.{DesignTree}
+use Rattle.sap_tree.specs.Touches as tree
 use Rattle.sap_lattice.specs.Levels.{Levels}
+use Rattle.sap_names.specs.declared.entity.Entity.{Entity}
 use Rattle.sap_names.specs.Entities.{entities_of}
+use Rattle.sap_hang.specs.Points as hang
 use Rattle.sap_meaning.specs.Program.{Step, Set, Write, Retag, RetagCell, Goto, Fall, Command, Do, Try, If, Block, End, Then, State, Node, Group, None, More}
 use Rattle.sap_resolve.specs.Fill.{program_of}
 
@@ -55,3 +59,40 @@ hang_table ls d = group_points (names_of d) (program_of ls d).states
 
 abbrev pub hang_at_root : Levels → DesignTree → List (List ℕ)
 hang_at_root ls d = hanging (names_of d) (program_of ls d).hang
+
+-- the lists themselves, each over the entities' numbers, in the same order
+abbrev pub step_rows : Step → List (List Bool)
+step_rows (Set site x e) = []
+step_rows (Write site m i e) = []
+step_rows (Retag site x n) = []
+step_rows (RetagCell site m j n) = []
+step_rows (Goto site target) = []
+step_rows (Fall site hang) = hang ∷ []
+
+abbrev mutual
+  pub rows : Command → List (List Bool)
+  rows (Do k) = step_rows k
+  rows (Try k hang h) = step_rows k ++ hang ∷ block_rows h
+  rows (If hang e a b) = hang ∷ block_rows a ++ block_rows b
+
+  pub block_rows : Block → List (List Bool)
+  block_rows End = []
+  block_rows (Then c cs) = rows c ++ block_rows cs
+
+abbrev mutual
+  pub state_rows : State → List (List Bool)
+  state_rows (Node s b g) = block_rows b ++ group_rows g
+
+  pub group_rows : Group → List (List Bool)
+  group_rows None = []
+  group_rows (More t g) = state_rows t ++ group_rows g
+
+-- the same over the tree: of each entity, in the order of declaration, whether the command at the point touches its name
+abbrev pub row_of : List Entity → (List ℕ → Bool) → List Bool
+row_of es test = map (λ e. test e.name.name) es
+
+abbrev pub point_row : List Decl → List Entity → hang.Point → List Bool
+point_row ds es p = row_of es (tree.touches ds p.home p.command)
+
+abbrev pub rows_of : DesignTree → List (List Bool)
+rows_of d = map (point_row d.declarations (entities_of d)) (hang.points_of d)
