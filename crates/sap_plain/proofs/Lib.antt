@@ -1,0 +1,5 @@
+pub mod SeatWidths
+pub mod Actions
+pub mod Tested
+pub mod Passes
+pub mod Views
