@@ -1,9 +1,11 @@
 -- Registers of current children, and their widths.
-use Rattle.std.proofs.Common.{◌≡◌, ℕ, zero, suc, ◌+◌, ◌-◌, ◌^◌, ◌<◌, ◌≤◌, ◌==◌, List, [], ◌∷◌, map, Option, Some, None, Bool, true, false, ap, ap₂, ◌∙◌, refl, arith, inl, inr}
+use Rattle.std.proofs.Common.{◌≡◌, ℕ, zero, suc, ◌+◌, ◌-◌, ◌*◌, ◌%◌, ◌^◌, ◌<◌, ◌≤◌, ◌==◌, List, [], ◌∷◌, map, Option, Some, None, Bool, true, false, sym, ap, ap₂, ◌∙◌, refl, arith, inl, inr}
 use Rattle.std.specs.Prelude.{nat_le}
 use Rattle.std.specs.Str.{bytes_eq}
 use Rattle.std.proofs.lemmas.Bool.{cases_Bool}
 use Rattle.std.proofs.lemmas.Bool.Decides.{Decides-eqb, nat_tests}
+use Rattle.std.proofs.Math.Nat.{mod-eq_of_lt}
+use Rattle.std.proofs.Math.Pow.{pow-lt}
 use Rattle.sap_maps.specs.Maps.{Name}
 use Rattle.sap_maps.specs.Scope.{find}
 use Rattle.sap_ir.specs.declared.guarded.Var.{Var}
@@ -108,3 +110,8 @@ width_next u count l h = let e : 64 - u ≡ suc (64 - (u + 1)) = omega arith in 
 
 pub width_last : (u count : ℕ) → 64 ≤ u → width_from (64 - u) u count ≡ u
 width_last u count h = let e : 64 - u ≡ 0 = omega arith in rw e refl
+
+pub shifted : (u : ℕ) → u < 64 → 1 * 2 ^ u % 18446744073709551616 ≡ 2 ^ u
+shifted u l =
+    let e : 1 * 2 ^ u ≡ 2 ^ u = omega arith in
+    ap (λ (n : ℕ). n % 18446744073709551616) e ∙ mod-eq_of_lt (pow-lt {i = u} {j = 64} l)
