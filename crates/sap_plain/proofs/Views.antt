@@ -10,8 +10,9 @@ use Rattle.sap_plain.specs.declared.nested.PlainCmd.{PlainCmd, Row_of-PlainCmd, 
 use Rattle.sap_plain.specs.declared.nested.PlainCmd.TheBlock.{hidden-the_row-PlainCmd-0}
 use Rattle.sap_plain.specs.declared.nested.PlainCmd.TheVariants as cmd
 use Rattle.sap_plain.specs.declared.nested.PlainCmd.TheViews as shown
-use Rattle.sap_plain.specs.declared.nested.PlainState.{PlainState, PlainState', Row_of-PlainState, end_of-PlainState, more_of-PlainState, items-the_row-PlainState, items_hidden-the_row-PlainState-0}
-use Rattle.sap_plain.specs.declared.nested.PlainState.TheBlock.{hidden-the_row-PlainState-0}
+use Rattle.sap_plain.specs.declared.nested.PlainState.{PlainState, PlainState', Row_of-PlainState, end_of-PlainState, more_of-PlainState, items-the_row-PlainState, items_shown-the_row-PlainState-0, out-PlainState, roll-PlainState, out-roll-PlainState, PlainState-F}
+use Rattle.sap_plain.specs.declared.nested.PlainState.TheBlock.{shown-the_row-PlainState-0}
+use denote.Hole.Carrier.{out}
 use Rattle.sap_plain.specs.Nested.{Body, stop, act, cases, goto, fall, Forest, none, state}
 use Rattle.sap_plain.specs.Views.{command_before, row_body, body_of, state_before, row_forest, forest_of, follow, planted}
 
@@ -65,7 +66,7 @@ follow-more (cases t y n rest) b c = ap (cases t y n) (follow-more rest b c)
 follow-more (goto x rest) b c = ap (goto x) (follow-more rest b c)
 follow-more (fall rest) b c = ap fall (follow-more rest b c)
 
-follow-before : (c : PlainCmd) (a b : Body) → follow (command_before c a) b ≡ command_before c (follow a b)
+pub follow-before : (c : PlainCmd) (a b : Body) → follow (command_before c a) b ≡ command_before c (follow a b)
 unfolding command_before
 follow-before (cmd.Do d) a b = refl
 follow-before (cmd.If' t n y m o) a b = refl
@@ -85,8 +86,17 @@ unfolding row_forest forest_of
 row_forest-items end_of-PlainState = refl
 row_forest-items (more_of-PlainState s rest) = ap (state_before s) (row_forest-items rest)
 
-row_forest-vec : (v : Vec PlainState Global) → row_forest (hidden-the_row-PlainState-0 v) ≡ forest_of v.items
-row_forest-vec v = row_forest-items (hidden-the_row-PlainState-0 v) ∙ ap forest_of (items_hidden-the_row-PlainState-0 v)
+-- a state as code takes it
+pub state_before-out : (s : PlainState) (f : Forest) → state_before s f ≡ state (out-PlainState s).name (body_of (out-PlainState s).cmds.items) (forest_of (out-PlainState s).children.items) f
+unfolding state_before out-PlainState shown-the_row-PlainState-0 out
+state_before-out (PlainState' x cs shape row) f =
+    ap (λ (kids : Forest). state x (body_of cs.items) kids f) (row_forest-items row ∙ ap forest_of (sym (items_shown-the_row-PlainState-0 shape row)))
+
+-- and as code makes it
+pub state_before-roll : (s : PlainState-F PlainState) (f : Forest) → state_before (roll-PlainState s) f ≡ state s.name (body_of s.cmds.items) (forest_of s.children.items) f
+state_before-roll s f =
+    state_before-out (roll-PlainState s) f
+    ∙ ap (λ (y : PlainState-F PlainState). state y.name (body_of y.cmds.items) (forest_of y.children.items) f) (out-roll-PlainState s)
 
 pub forest_of-none : forest_of [] ≡ none
 unfolding forest_of
@@ -95,3 +105,22 @@ forest_of-none = refl
 pub forest_of-more : (s : PlainState) (ss : List PlainState) → forest_of (s ∷ ss) ≡ state_before s (forest_of ss)
 unfolding forest_of
 forest_of-more s ss = refl
+
+planted-end : (f : Forest) → planted f none ≡ f
+planted-end none = refl
+planted-end (state x b kids rest) = ap (state x b kids) (planted-end rest)
+
+-- a state that stands in front of none stands in front of all behind it
+pub planted-before : (s : PlainState) (f g : Forest) → planted (state_before s f) g ≡ state_before s (planted f g)
+unfolding state_before
+planted-before (PlainState' x cs n kids) f g = refl
+
+-- a pushed state stands behind the others
+pub forest_of-push : (ss : List PlainState) (s : PlainState) → forest_of (ss ++ s ∷ []) ≡ planted (forest_of ss) (state_before s none)
+unfolding forest_of
+forest_of-push [] s = refl
+forest_of-push (r ∷ ss) s = ap (state_before r) (forest_of-push ss s) ∙ sym (planted-before r (forest_of ss) (state_before s none))
+
+pub ruleset commands = (body_of-none, body_of-push, before-do, before-if, before-goto, before-fall)
+pub ruleset states = (forest_of-none, forest_of-push, state_before-out, state_before-roll)
+pub ruleset views = (before-do, before-if, before-goto, before-fall, state_before-out, state_before-roll)
