@@ -62,11 +62,11 @@ body_from s a g k ss gs nested (act d rest) h =
     (action_from s g d p.0, p.1, body_from s a g k ss gs nested rest p.2)
 body_from s a g k ss gs nested (cases t y n rest) h =
     let p = and_parts (value_is_fine s t 1 && body_is_fine s ss gs nested y && body_is_fine s ss gs nested n) (body_is_fine s ss gs nested rest) h in
-    let q = three (value_is_fine s t 1) (body_is_fine s ss gs nested y) (body_is_fine s ss gs nested n) p.0 in
-    ( test_from s a g k t q.0
-    , body_from s a g k ss gs nested y q.1
-    , body_from s a g k ss gs nested n q.2
-    , body_from s a g k ss gs nested rest p.1
+    let q = three (value_is_fine s t 1) (body_is_fine s ss gs nested y) (body_is_fine s ss gs nested n) p.0 in (
+      test_from s a g k t q.0,
+      body_from s a g k ss gs nested y q.1,
+      body_from s a g k ss gs nested n q.2,
+      body_from s a g k ss gs nested rest p.1,
     )
 body_from s a g k ss gs nested (goto x rest) h =
     let p = and_parts (is_among x gs) (body_is_fine s ss gs nested rest) h in (p.0, body_from s a g k ss gs nested rest p.1)
@@ -90,12 +90,12 @@ seat_from s x (state y b kids rest) h = seat_is s x (size (state y b kids rest))
 forest_from : (s : Source) (a : Action) → is_guarded s ≡ true → action_is_fine s a ≡ true → (ss gs : List Name) (f : Forest) → forest_is_fine s ss gs f ≡ true → ForestFine s ss gs f
 forest_from s a g k ss gs none h = tt
 forest_from s a g k ss gs (state x b kids rest) h =
-    let p = five (body_is_fine s ss gs (has_states kids) b) (ends_in_transfers b) (seat_is_fine s (seat_name x) kids) (forest_is_fine s ss (group_names kids) kids) (forest_is_fine s ss gs rest) h in
-    ( body_from s a g k ss gs (has_states kids) b p.0
-    , p.1
-    , seat_from s (seat_name x) kids p.2
-    , forest_from s a g k ss (group_names kids) kids p.3
-    , forest_from s a g k ss gs rest p.4
+    let p = five (body_is_fine s ss gs (has_states kids) b) (ends_in_transfers b) (seat_is_fine s (seat_name x) kids) (forest_is_fine s ss (group_names kids) kids) (forest_is_fine s ss gs rest) h in (
+      body_from s a g k ss gs (has_states kids) b p.0,
+      p.1,
+      seat_from s (seat_name x) kids p.2,
+      forest_from s a g k ss (group_names kids) kids p.3,
+      forest_from s a g k ss gs rest p.4,
     )
 
 pub plain_from : (p : Nested) → is_plain p ≡ true → IsPlain p

@@ -122,5 +122,7 @@ forest_of-push [] s = refl
 forest_of-push (r ∷ ss) s = ap (state_before r) (forest_of-push ss s) ∙ sym (planted-before r (forest_of ss) (state_before s none))
 
 pub ruleset commands = (body_of-none, body_of-push, before-do, before-if, before-goto, before-fall)
+
 pub ruleset states = (forest_of-none, forest_of-push, state_before-out, state_before-roll)
+
 pub ruleset views = (before-do, before-if, before-goto, before-fall, state_before-out, state_before-roll)

@@ -1,0 +1,17 @@
+pub mod GateNames
+pub mod Runs
+pub mod Alike
+pub mod Reached
+pub mod Off
+pub mod Moved
+pub mod On
+pub mod Group
+pub mod Listed
+pub mod Grows
+pub mod Fits
+pub mod Declared
+pub mod Whole
+pub mod Weights
+pub mod Makes
+pub mod Steps
+pub mod Result

@@ -1,0 +1,4 @@
+pub mod Gates
+pub mod Flat
+pub mod Lists
+pub mod Same

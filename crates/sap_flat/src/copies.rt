@@ -1,0 +1,83 @@
+//! Copies of declarations and actions.
+
+ghost use Rattle.std.specs.Prelude.{◌≡◌, ◌++◌, IfOk, OnOk};
+ghost use Rattle.sap_ir.specs.Calcs.{action_of};
+
+use sap_ir::guarded::{Act, Store, Var};
+use sap_net::parts::Name;
+use std::alloc::{AllocError, Global};
+
+pub fn act(alloc: Global, act: &Act) -> Result<Act, AllocError>
+    ensures { IfOk result (λ a. action_of a ≡ action_of act.now) }
+{
+    match act {
+        Act::Set(name, value) => {
+            let name = name.copy(alloc)?;
+            let value = value.copy(alloc)?;
+            Ok(Act::Set(name, value))
+        }
+        Act::Put {
+            memory,
+            index,
+            value,
+        } => {
+            let memory = memory.copy(alloc)?;
+            let index = index.copy(alloc)?;
+            let value = value.copy(alloc)?;
+            Ok(Act::Put {
+                memory,
+                index,
+                value,
+            })
+        }
+    }
+}
+
+pub fn variables(alloc: Global, variables: &[Var]) -> Result<Vec<Var>, AllocError>
+    ensures { IfOk result (λ v. v.items ≡ variables.now) }
+{
+    let mut copies = Vec::new(alloc);
+    for variable in variables {
+        let name = variable.name.copy(alloc)?;
+        copies.push(Var {
+            name,
+            width: variable.width,
+            start: variable.start,
+        })?;
+    }
+    Ok(copies)
+}
+
+pub fn stores(alloc: Global, stores: &[Store]) -> Result<Vec<Store>, AllocError>
+    ensures { IfOk result (λ v. v.items ≡ stores.now) }
+{
+    let mut copies = Vec::new(alloc);
+    for store in stores {
+        let name = store.name.copy(alloc)?;
+        copies.push(Store {
+            name,
+            width: store.width,
+            depth: store.depth,
+            start: store.start,
+        })?;
+    }
+    Ok(copies)
+}
+
+pub fn names(alloc: Global, names: &[Name]) -> Result<Vec<Name>, AllocError>
+    ensures { IfOk result (λ v. v.items ≡ names.now) }
+{
+    let mut copies = Vec::new(alloc);
+    for name in names {
+        copies.push(name.copy(alloc)?)?;
+    }
+    Ok(copies)
+}
+
+/// The second list behind the first.
+pub fn joined(mut variables: Vec<Var>, mut others: Vec<Var>) -> Result<Vec<Var>, AllocError>
+    ensures { IfOk result (λ v. v.items ≡ variables.items ++ others.items) }
+{
+    variables.append(&mut others)?;
+    Ok(variables)
+}

@@ -1,0 +1,76 @@
+//! Whole programs.
+
+ghost use Rattle.std.specs.Prelude.{◌≡◌, ◌<◌, ◌^◌, IfOk, OnOk};
+ghost use Rattle.sap_ir.specs.Calcs.{commands_of};
+ghost use Rattle.sap_ir.specs.Parts.{parts_source};
+ghost use Rattle.sap_ir.specs.Program.{source_of};
+ghost use Rattle.sap_ir.specs.Writes.{WritesOnce};
+ghost use Rattle.sap_plain.specs.Program.{nested_of};
+ghost use Rattle.sap_plain.specs.Writes.{PlainWritesOnce};
+ghost use Rattle.sap_flat.specs.Flat.{flat_states, flattened};
+ghost use Rattle.sap_flat.specs.Same.{Declares, RunsAlike};
+
+use crate::copies;
+use crate::gates::Gates;
+use crate::groups::{mark, states};
+use sap_ir::guarded::{Calc, GuardedCmd, GuardedParts};
+use sap_ir::program::Guarded;
+use sap_plain::program::Plain;
+use sap_plain::seats;
+use std::alloc::{AllocError, Global};
+
+/// The commands of all states of a program, whose gates are the first.
+fn all_commands(
+    alloc: Global,
+    program: &Plain,
+    gates: &mut Gates,
+) -> Result<Vec<GuardedCmd>, AllocError>
+    requires { gates.old ≡ 0 }
+    ensures commands { IfOk result (λ v. commands_of v.items ≡ (flat_states (nested_of program.now).states).commands) }
+    ensures gates { OnOk result (gates.new ≡ (flat_states (nested_of program.now).states).next) }
+{
+    let group = program.states();
+    let mut out = Vec::new(alloc);
+    gates.add_all(alloc, group.len())?;
+    let _end = gates.len();
+    let seat = seats::of_root(alloc)?;
+    let always = Calc::Constant { width: 1, value: 1 };
+    mark(alloc, &mut out, &always, &seat, group, 0)?;
+    states(alloc, &mut out, gates, &seat, group, 0)?;
+    Ok(out)
+}
+
+/// The parts of the flat program.
+fn parts(alloc: Global, program: &Plain) -> Result<GuardedParts, AllocError>
+    ensures source { IfOk result (λ q. parts_source q ≡ flattened (nested_of program.now)) }
+    ensures count { OnOk result ((flat_states (nested_of program.now).states).next < 2 ^ 64) }
+{
+    let mut gates = Gates::new(alloc);
+    let cmds = all_commands(alloc, program, &mut gates)?;
+    let _count = gates.len();
+    let inputs = copies::variables(alloc, program.inputs())?;
+    let own = copies::variables(alloc, program.wires())?;
+    let wires = copies::joined(own, gates.into_wires())?;
+    let registers = copies::variables(alloc, program.registers())?;
+    let memories = copies::stores(alloc, program.memories())?;
+    let ports = copies::names(alloc, program.ports())?;
+    Ok(GuardedParts {
+        inputs,
+        wires,
+        registers,
+        memories,
+        ports,
+        cmds,
+    })
+}
+
+/// The flat program of nested states.
+pub fn flatten(alloc: Global, program: &Plain) -> Result<Guarded, AllocError>
+    ensures declares { IfOk result (λ g. Declares (nested_of program.now) (source_of g)) }
+    ensures same { IfOk result (λ g. RunsAlike (nested_of program.now) (source_of g)) }
+    ensures once { IfOk result (λ g. PlainWritesOnce (nested_of program.now) → WritesOnce (source_of g)) }
+{
+    program.rules();
+    let parts = parts(alloc, program)?;
+    Ok(Guarded::new(parts))
+}
