@@ -1,0 +1,4 @@
+//! Tag insertion: from a well-formed design to its plain program, nested states whose tags are ordinary variables.
+#![tactic(auto)]
+
+pub mod laws;
