@@ -1,20 +1,20 @@
 -- Numbers that are equal but for gates.
-use Rattle.std.proofs.Common.{◌≡◌, ℕ, ◌+◌, ◌<◌, ◌≤◌, ◌^◌, ◌&&◌, ◌==◌, List, [], ◌∷◌, ◌++◌, map, Option, Some, None, Bool, true, false, sym, ap, ap₂, ◌∙◌, subst, refl, arith, inl, inr}
+use Rattle.std.proofs.Common.{◌≡◌, ℕ, ◌≤◌, ◌&&◌, ◌==◌, map, Some, None, Bool, true, false, sym, ap, ap₂, ◌∙◌, refl, inl, inr}
 use Rattle.std.specs.Prelude.{if◌then◌else◌}
 use Rattle.std.specs.Str.{bytes_eq}
 use Rattle.std.proofs.lemmas.Bool.{cases_Bool}
 use Rattle.sap_bits.specs.Arithmetic.{value1, value2, slice_of, joined}
-use Rattle.sap_maps.specs.Maps.{Name, Valuation, set_value}
-use Rattle.sap_maps.specs.Scope.{Scope, find}
+use Rattle.sap_maps.specs.Maps.{Name}
+use Rattle.sap_maps.specs.Scope.{find}
 use Rattle.sap_maps.specs.Term.{Term, constant, read, cell, one, two, choose, join, part, term_width}
 use Rattle.sap_maps.proofs.Scopes.{same_name, apart, apart_back}
-use Rattle.sap_net.specs.Names.{is_among, AreDistinct}
+use Rattle.sap_net.specs.Names.{AreDistinct}
 use Rattle.sap_ir.specs.Source.{Action, set, put, Source, readable, shapes}
-use Rattle.sap_ir.specs.Guarded.{Going, value_in, after_action, set_cell}
-use Rattle.sap_ir.specs.IsGuarded.{TermFine, assignable, ActionFine, declared}
+use Rattle.sap_ir.specs.Guarded.{Going, value_in, after_action}
+use Rattle.sap_ir.specs.IsGuarded.{TermFine, ActionFine, declared}
 use Rattle.sap_ir.proofs.Declared.{found_first, assignable_readable}
 use Rattle.sap_ir.proofs.Passes.{WidthsDeclared, fine_width}
-use Rattle.sap_plain.specs.Nested.{Forest, none, state, has_states, size, seat_width}
+use Rattle.sap_plain.specs.Nested.{Forest, has_states, size, seat_width}
 use Rattle.sap_plain.specs.Does.{put_value}
 use Rattle.sap_plain.specs.IsPlain.{SeatFine}
 use Rattle.sap_plain.proofs.SeatWidths.{seat_register}

@@ -1,14 +1,14 @@
 -- What the flat program declares, and that it is one.
-use Rattle.std.proofs.Common.{◌≡◌, ℕ, ◌+◌, ◌^◌, ◌<◌, ◌≤◌, ◌||◌, List, [], ◌∷◌, ◌++◌, map, Option, Some, None, Bool, true, false, sym, ap, ap₂, ◌∙◌, subst, refl, arith, append_assoc}
+use Rattle.std.proofs.Common.{◌≡◌, ℕ, ◌^◌, ◌≤◌, List, [], ◌∷◌, ◌++◌, map, None, true, false, sym, ap, ◌∙◌, subst, refl, arith, append_assoc}
 use Rattle.std.specs.List.{AllByRecursion}
 use Rattle.sap_maps.specs.Maps.{Name}
 use Rattle.sap_maps.specs.Scope.{Scope, find}
 use Rattle.sap_net.specs.Names.{is_name, is_among, AreDistinct}
 use Rattle.sap_ir.specs.declared.guarded.Var.{Var}
-use Rattle.sap_ir.specs.Source.{Command, Source, readable, shapes, width_of}
-use Rattle.sap_ir.specs.IsGuarded.{assignable, variable_names, memory_names, declared, is_helping, IsPlainVar, CommandFine, IsGuarded}
-use Rattle.sap_ir.proofs.Declared.{among_append, among_front, found_first, found_second, not_found, not_front, not_behind_list, readable_width, shape_width}
-use Rattle.sap_ir.proofs.Passes.{WidthsDeclared, source_widths}
+use Rattle.sap_ir.specs.Source.{readable, width_of}
+use Rattle.sap_ir.specs.IsGuarded.{assignable, variable_names, memory_names, declared, is_helping, IsPlainVar, IsGuarded}
+use Rattle.sap_ir.proofs.Declared.{among_front, found_first, found_second, not_found, not_front, not_behind_list, readable_width, shape_width}
+use Rattle.sap_ir.proofs.Passes.{source_widths}
 use Rattle.sap_plain.specs.Nested.{Nested, declarations, root_seat, seats}
 use Rattle.sap_plain.specs.IsPlain.{IsPlain}
 use Rattle.sap_flat.specs.Gates.{gate_name, gate_wires}

@@ -1,23 +1,22 @@
 -- The flat program's commands use names as what they are, and all widths fit.
-use Rattle.std.proofs.Common.{◌≡◌, ℕ, zero, suc, ◌+◌, ◌-◌, ◌^◌, ◌<◌, ◌≤◌, ◌==◌, List, [], ◌∷◌, ◌++◌, map, Some, Bool, true, false, ap, ◌∙◌, subst, refl, arith, inl, inr}
+use Rattle.std.proofs.Common.{◌≡◌, ℕ, ◌+◌, ◌^◌, ◌<◌, ◌≤◌, List, ◌++◌, map, Some, Bool, true, refl, arith, inl, inr}
 use Rattle.std.specs.Str.{bytes_eq}
 use Rattle.std.specs.List.{AllByRecursion}
 use Rattle.std.proofs.lemmas.Bool.{cases_Bool}
-use Rattle.sap_bits.specs.declared.Op2.TheVariants.{Eq}
 use Rattle.sap_maps.specs.Maps.{Name}
 use Rattle.sap_maps.specs.Scope.{Scope, find}
 use Rattle.sap_maps.specs.Term.{Term, constant, read, cell, one, two, choose, join, part}
 use Rattle.sap_maps.proofs.Scopes.{apart_back}
 use Rattle.sap_net.specs.Names.{is_among}
 use Rattle.sap_net.specs.Rules.{Shapes, IsWidth}
-use Rattle.sap_ir.specs.Source.{Action, set, put, Command, Source, readable, shapes}
+use Rattle.sap_ir.specs.Source.{Action, set, put, Command, readable, shapes}
 use Rattle.sap_ir.specs.IsGuarded.{TermFine, assignable, ActionFine, CommandFine}
 use Rattle.sap_ir.proofs.Declared.{found_first}
 use Rattle.sap_plain.specs.Nested.{Body, stop, act, cases, goto, fall, Forest, none, state, Nested, declarations, has_states, size, group_names, place, children_of, seat_name, seat_width}
 use Rattle.sap_plain.specs.IsPlain.{BodyFine, SeatFine, ForestFine}
 use Rattle.sap_plain.proofs.SeatWidths.{seat_positive, seat_within, seat_register}
 use Rattle.sap_flat.specs.Gates.{gate_name}
-use Rattle.sap_flat.specs.Flat.{Flat, under, is_number, seated, flat_first, flat_restart, flat_goto, flat_body, flat_gates, flat_group, flattened}
+use Rattle.sap_flat.specs.Flat.{under, is_number, seated, flat_first, flat_restart, flat_goto, flat_body, flat_gates, flat_group, flattened}
 use Rattle.sap_flat.proofs.Listed.{all_behind}
 use Rattle.sap_flat.proofs.Grows.{body_grows, group_grows}
 use Rattle.sap_flat.proofs.Moved.{among_some, children_seat, children_fine}

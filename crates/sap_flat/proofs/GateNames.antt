@@ -1,5 +1,5 @@
 -- The names of gates.
-use Rattle.std.proofs.Common.{◌≡◌, ℕ, zero, suc, ◌+◌, ◌%◌, ◌/◌, ◌^◌, ◌<◌, ◌≤◌, ◌&&◌, ◌==◌, List, [], ◌∷◌, ◌++◌, length, replicate, Bool, true, false, sym, ap, ◌∙◌, refl, arith, inl, inr}
+use Rattle.std.proofs.Common.{◌≡◌, ℕ, zero, suc, ◌+◌, ◌%◌, ◌/◌, ◌^◌, ◌<◌, ◌≤◌, ◌==◌, List, [], ◌∷◌, ◌++◌, length, replicate, true, false, sym, ap, ◌∙◌, refl, arith, inl, inr}
 use Rattle.std.specs.Prelude.{nat_lt}
 use Rattle.std.specs.Char.{is_ascii_digit}
 use Rattle.std.specs.Fmt.{decimal}
@@ -10,8 +10,8 @@ use Rattle.std.proofs.lemmas.List.{length-replicate}
 use Rattle.std.proofs.lemmas.Bool.{and_from, and_parts, cases_Bool, eq-eqb}
 use Rattle.std.proofs.lemmas.Bool.Decides.{nat_tests}
 use Rattle.sap_maps.specs.Maps.{Name}
-use Rattle.sap_maps.proofs.Scopes.{name_is, apart_back}
-use Rattle.sap_net.specs.Names.{is_inner, is_word, is_name, is_among}
+use Rattle.sap_maps.proofs.Scopes.{name_is}
+use Rattle.sap_net.specs.Names.{is_inner, is_name, is_among}
 use Rattle.sap_ir.specs.IsGuarded.{is_helping}
 use Rattle.sap_plain.specs.IsPlain.{is_gate}
 use Rattle.sap_flat.specs.Gates.{gate_name}

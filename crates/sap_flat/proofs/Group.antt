@@ -4,8 +4,8 @@ use Rattle.std.specs.Prelude.{if◌then◌else◌}
 use Rattle.std.proofs.lemmas.Bool.{ne_eqb, eq-eqb}
 use Rattle.sap_maps.specs.Maps.{Name}
 use Rattle.sap_maps.specs.Scope.{find}
-use Rattle.sap_maps.specs.Term.{Term, constant, read, two}
-use Rattle.sap_ir.specs.Source.{Action, set, Command, Source, readable}
+use Rattle.sap_maps.specs.Term.{Term, read}
+use Rattle.sap_ir.specs.Source.{set, Command, Source, readable}
 use Rattle.sap_ir.specs.Guarded.{Going, value_in, after_action}
 use Rattle.sap_plain.specs.Nested.{Body, Forest, none, state, has_states, size, group_names, seat_name, seat_width}
 use Rattle.sap_plain.specs.Does.{put_value, enter, child_does, falls_of}

@@ -1,5 +1,5 @@
 -- Names on lists with gates among them.
-use Rattle.std.proofs.Common.{◌≡◌, ℕ, zero, suc, ◌+◌, ◌<◌, ◌≤◌, ◌^◌, ◌||◌, ◌==◌, List, [], ◌∷◌, ◌++◌, map, Option, Some, None, Bool, true, false, sym, ap, ◌∙◌, subst, refl, arith, inl, inr, append_assoc}
+use Rattle.std.proofs.Common.{◌≡◌, ℕ, zero, suc, ◌+◌, ◌<◌, ◌≤◌, ◌^◌, ◌==◌, List, [], ◌∷◌, ◌++◌, map, Some, None, true, false, sym, ap, ◌∙◌, subst, refl, arith, inl, inr}
 use Rattle.std.specs.Str.{bytes_eq}
 use Rattle.std.specs.List.{AllByRecursion}
 use Rattle.std.proofs.lemmas.Bool.{cases_Bool, ne_eqb, eqb-true}
@@ -11,9 +11,8 @@ use Rattle.sap_net.specs.Names.{is_name, is_among, AreDistinct}
 use Rattle.sap_ir.specs.declared.guarded.Var.{Var}
 use Rattle.sap_ir.specs.Source.{Source, readable}
 use Rattle.sap_ir.specs.IsGuarded.{variable_names, memory_names, declared, is_helping, IsPlainVar}
-use Rattle.sap_ir.proofs.Declared.{among_append, among_front, among_behind, not_front, not_behind_list, not_found, found_second}
-use Rattle.sap_plain.specs.IsPlain.{is_gate}
-use Rattle.sap_flat.specs.Gates.{gate_name, gate_wire, gate_wires}
+use Rattle.sap_ir.proofs.Declared.{among_append, among_behind, not_front, not_behind_list, not_found, found_second}
+use Rattle.sap_flat.specs.Gates.{gate_name, gate_wires}
 use Rattle.sap_flat.specs.Same.{IsGate}
 use Rattle.sap_flat.proofs.GateNames.{gate_is_gate, gate_is_name, gate_is_not_helping, gate_differs}
 

@@ -7,12 +7,10 @@ use Rattle.std.specs.Str.{bytes_eq}
 use Rattle.std.proofs.lemmas.Bool.{cases_Bool}
 use Rattle.sap_maps.specs.Maps.{Name}
 use Rattle.sap_maps.specs.Term.{Term, constant, read}
-use Rattle.sap_maps.proofs.Scopes.{name_is}
 use Rattle.sap_ir.specs.declared.guarded.Var.{Var}
 use Rattle.sap_ir.specs.declared.guarded.Act.{Act}
 use Rattle.sap_ir.specs.declared.guarded.Calc.{Calc}
-use Rattle.sap_ir.specs.declared.guarded.GuardedCmd.{GuardedCmd}
-use Rattle.sap_ir.specs.Calcs.{term_of, action_of, command_of, commands_of}
+use Rattle.sap_ir.specs.Calcs.{term_of, action_of}
 use Rattle.sap_ir.specs.Source.{set, Command}
 use Rattle.sap_plain.specs.declared.nested.PlainCmd.{PlainCmd}
 use Rattle.sap_plain.specs.declared.nested.PlainCmd.TheVariants as cmd

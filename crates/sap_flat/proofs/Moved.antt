@@ -1,16 +1,15 @@
 -- A goto, under a gate that is not 0.
-use Rattle.std.proofs.Common.{◌≡◌, ℕ, ◌+◌, ◌<◌, ◌≤◌, ◌==◌, List, [], ◌∷◌, ◌++◌, map, Some, Bool, true, false, sym, ap, ◌∙◌, subst, refl, arith, inl, inr}
+use Rattle.std.proofs.Common.{◌≡◌, ℕ, ◌==◌, List, [], ◌∷◌, ◌++◌, Some, true, false, ap, ◌∙◌, subst, refl, inl, inr}
 use Rattle.std.specs.Str.{bytes_eq}
 use Rattle.std.proofs.lemmas.Bool.{cases_Bool}
 use Rattle.sap_maps.specs.Maps.{Name}
 use Rattle.sap_maps.specs.Scope.{find}
-use Rattle.sap_maps.specs.Term.{constant, read}
 use Rattle.sap_maps.proofs.Scopes.{name_is}
 use Rattle.sap_net.specs.Names.{is_among}
-use Rattle.sap_ir.specs.Source.{Source, readable, set}
-use Rattle.sap_ir.specs.Guarded.{Going, value_in}
+use Rattle.sap_ir.specs.Source.{Source, readable}
+use Rattle.sap_ir.specs.Guarded.{Going}
 use Rattle.sap_ir.specs.Source.{Command}
-use Rattle.sap_plain.specs.Nested.{Body, Forest, none, state, has_states, size, group_names, place, children_of, seat_name, seat_width}
+use Rattle.sap_plain.specs.Nested.{Forest, none, state, has_states, size, group_names, place, children_of, seat_name, seat_width}
 use Rattle.sap_plain.specs.Does.{put_value, first_child, restart, enter}
 use Rattle.sap_plain.specs.IsPlain.{SeatFine, ForestFine}
 use Rattle.sap_flat.specs.Gates.{gate_name}

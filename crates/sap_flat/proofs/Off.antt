@@ -1,8 +1,8 @@
 -- Where a gate is 0, what stands under it does nothing.
-use Rattle.std.proofs.Common.{◌≡◌, ℕ, ◌+◌, ◌<◌, ◌≤◌, ◌==◌, List, [], ◌∷◌, ◌++◌, Bool, true, false, ap, ◌∙◌, refl, arith}
+use Rattle.std.proofs.Common.{◌≡◌, ℕ, ◌+◌, ◌<◌, ◌≤◌, [], ◌∷◌, ◌++◌, ◌∙◌, arith}
 use Rattle.sap_maps.specs.Maps.{Name}
-use Rattle.sap_maps.specs.Term.{Term, constant, read, two}
-use Rattle.sap_ir.specs.Source.{Action, set, put, Command}
+use Rattle.sap_maps.specs.Term.{Term, constant, read}
+use Rattle.sap_ir.specs.Source.{set, Command}
 use Rattle.sap_ir.specs.Guarded.{Going, value_in}
 use Rattle.sap_plain.specs.Nested.{Body, stop, act, cases, goto, fall, Forest, none, state, size, place, children_of, seat_name, seat_width}
 use Rattle.sap_flat.specs.Gates.{gate_name}

@@ -1,22 +1,22 @@
 -- A body, under a gate that is not 0: its commands do what it does until it falls, and then its other gate is 1.
-use Rattle.std.proofs.Common.{◌≡◌, ℕ, suc, ◌+◌, ◌<◌, ◌≤◌, ◌&&◌, ◌||◌, ◌==◌, List, [], ◌∷◌, ◌++◌, Bool, true, false, sym, ap, ◌∙◌, subst, refl, arith}
+use Rattle.std.proofs.Common.{◌≡◌, ℕ, ◌+◌, ◌<◌, ◌≤◌, ◌==◌, List, [], ◌∷◌, ◌++◌, Bool, true, false, ap, ◌∙◌, refl, arith}
 use Rattle.std.specs.Prelude.{if◌then◌else◌}
 use Rattle.std.proofs.lemmas.Bool.{ne_eqb, eqb-true}
 use Rattle.sap_maps.specs.Maps.{Name}
-use Rattle.sap_maps.specs.Term.{Term, constant, read, two}
+use Rattle.sap_maps.specs.Term.{Term, constant, read}
 use Rattle.sap_net.specs.Names.{is_among}
-use Rattle.sap_ir.specs.Source.{Action, set, put, Command, Source, readable, shapes}
+use Rattle.sap_ir.specs.Source.{Action, set, Command, Source, readable, shapes}
 use Rattle.sap_ir.specs.IsGuarded.{TermFine, ActionFine}
 use Rattle.sap_ir.specs.Guarded.{Going, value_in, after_action}
-use Rattle.sap_plain.specs.Nested.{Body, stop, act, cases, goto, fall, Forest, none, state, group_names}
+use Rattle.sap_plain.specs.Nested.{Body, stop, act, cases, goto, fall, Forest, group_names}
 use Rattle.sap_plain.specs.Does.{put_value, enter}
 use Rattle.sap_plain.specs.IsPlain.{BodyFine, is_stop, ends_in_transfers, SeatFine, ForestFine}
 use Rattle.sap_flat.specs.Gates.{gate_name}
-use Rattle.sap_flat.specs.Flat.{Flat, under, is_number, flat_goto, flat_body}
+use Rattle.sap_flat.specs.Flat.{under, is_number, flat_goto, flat_body}
 use Rattle.sap_flat.proofs.Runs.{Runs, runs_none, runs_on, runs_append, runs_end, runs_last}
 use Rattle.sap_flat.proofs.Alike.{World, Alike, Zero, term_alike, act_alike, gate_alike, at_gate, past_gate, past_action}
 use Rattle.sap_flat.proofs.Reached.{Reached, behind_if, reached, Ending, ending, last_of_branch}
-use Rattle.sap_flat.proofs.Off.{IsOff, body_off}
+use Rattle.sap_flat.proofs.Off.{body_off}
 use Rattle.sap_flat.proofs.Moved.{goto_moved}
 
 -- What a body's commands lead to: where it was reached, with the gate `fell` telling of the fall; gates below k are kept, and those from `next` on are 0.

@@ -1,5 +1,5 @@
 -- One command, one state more, and the ends of loops over them.
-use Rattle.std.proofs.Common.{◌≡◌, ℕ, zero, suc, ◌+◌, ◌<◌, ◌≤◌, List, [], ◌∷◌, ◌++◌, length, get_or, drop, Some, None, Bool, true, false, refl, sym, ap, ap₂, ◌∙◌, subst, arith, append_assoc}
+use Rattle.std.proofs.Common.{◌≡◌, ℕ, suc, ◌+◌, ◌<◌, ◌≤◌, List, [], ◌∷◌, ◌++◌, length, get_or, drop, Some, None, Bool, true, false, refl, sym, ap, ap₂, ◌∙◌, arith, append_assoc}
 use Rattle.std.specs.Prelude.{slice_get, if◌then◌else◌}
 use Rattle.std.specs.Str.{bytes_eq}
 use Rattle.std.specs.declared.vec.Vec.{Vec}
@@ -20,7 +20,7 @@ use Rattle.sap_plain.specs.Nested.{Forest, seat_name, root_seat, seat_width}
 use Rattle.sap_plain.specs.Views.{body_of, forest_of}
 use Rattle.sap_flat.specs.Gates.{gate_name}
 use Rattle.sap_flat.specs.Flat.{Flat, under, is_number, flat_states}
-use Rattle.sap_flat.specs.Lists.{first_commands, restart_commands, restart_one, place_in, goto_commands, choice_commands, commands_flat, command_flat, gates_commands, states_flat, state_flat}
+use Rattle.sap_flat.specs.Lists.{first_commands, restart_commands, place_in, goto_commands, choice_commands, commands_flat, command_flat, gates_commands, states_flat, state_flat}
 use Rattle.sap_flat.proofs.Grows.{body_grows}
 use Rattle.sap_flat.proofs.Makes.{list_none, made, then_flat, commands-drop, commands-past, command_do, command_if, command_goto, command_fall, place-drop, gates-drop, gates-past, state_is, states-drop, states-past, goto_some, goto_none, whole_is}
 

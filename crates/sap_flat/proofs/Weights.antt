@@ -1,8 +1,7 @@
 -- The sizes of bodies and groups, by which recursions end.
-use Rattle.std.proofs.Common.{◌≡◌, ℕ, zero, suc, ◌+◌, ◌<◌, ◌≤◌, length, get_or, List, [], ◌∷◌, sym, ap, ◌∙◌, subst, arith}
+use Rattle.std.proofs.Common.{◌≡◌, ℕ, zero, suc, ◌+◌, ◌<◌, ◌≤◌, length, get_or, List, [], ◌∷◌, sym, ap, ◌∙◌, arith}
 use Rattle.std.specs.declared.vec.Vec.{Vec}
 use Rattle.std.specs.declared.alloc.Global.{Global}
-use Rattle.sap_ir.specs.Calcs.{term_of}
 use Rattle.sap_ir.specs.declared.guarded.Calc.{Calc}
 use Rattle.sap_plain.specs.declared.nested.PlainCmd.{PlainCmd}
 use Rattle.sap_plain.specs.declared.nested.PlainCmd.TheViews as shown

@@ -1,5 +1,5 @@
 -- Cycles and runs.
-use Rattle.std.proofs.Common.{◌≡◌, ℕ, ◌+◌, ◌<◌, ◌≤◌, ◌==◌, List, [], ◌∷◌, ◌++◌, Option, Some, None, Bool, true, false, sym, ap, ◌∙◌, subst, refl, arith, inl, inr}
+use Rattle.std.proofs.Common.{◌≡◌, ℕ, List, [], ◌∷◌, ◌++◌, Option, Some, None, true, false, sym, ap, subst, refl, arith, inl, inr}
 use Rattle.std.specs.Prelude.{if◌then◌else◌}
 use Rattle.std.specs.Str.{bytes_eq}
 use Rattle.std.specs.List.{AllByRecursion}
@@ -11,11 +11,11 @@ use Rattle.sap_maps.proofs.Scopes.{apart_back}
 use Rattle.sap_net.specs.Names.{is_among, AreDistinct}
 use Rattle.sap_ir.specs.declared.guarded.Var.{Var}
 use Rattle.sap_ir.specs.declared.guarded.Store.{Store}
-use Rattle.sap_ir.specs.Source.{Command, Source, readable, width_of}
+use Rattle.sap_ir.specs.Source.{Source, readable, width_of}
 use Rattle.sap_ir.specs.Guarded as flat
 use Rattle.sap_ir.specs.Guarded.{Going, first_number, register_number, number_at_start, first_cell, cell_at_start, begun, ended}
-use Rattle.sap_ir.specs.Writes.{AreWithin, WithinBefore, NumbersFit, WritesOnce}
-use Rattle.sap_ir.specs.IsGuarded.{variable_names, memory_names, declared}
+use Rattle.sap_ir.specs.Writes.{WithinBefore, WritesOnce}
+use Rattle.sap_ir.specs.IsGuarded.{variable_names, memory_names}
 use Rattle.sap_ir.proofs.Declared.{not_front, not_behind_list}
 use Rattle.sap_plain.specs.Nested.{Nested, declarations, has_states, size, root_seat, seats, seat_width}
 use Rattle.sap_plain.specs.Does as plain

@@ -3,3 +3,4 @@ pub mod Actions
 pub mod Tested
 pub mod Passes
 pub mod Views
+pub mod Worked

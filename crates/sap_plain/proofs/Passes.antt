@@ -1,5 +1,5 @@
 -- What the type keeps passes the test.
-use Rattle.std.proofs.Common.{◌≡◌, ℕ, ◌^◌, ◌≤◌, ◌&&◌, ◌==◌, List, [], ◌∷◌, map, Option, Some, Bool, true, false, not, ap, ◌∙◌, refl, arith, eq-eqb}
+use Rattle.std.proofs.Common.{◌≡◌, ℕ, ◌^◌, ◌≤◌, ◌&&◌, ◌==◌, List, [], ◌∷◌, map, Option, Some, Bool, true, not, ap, ◌∙◌, refl, arith, eq-eqb}
 use Rattle.std.specs.List.{AllByRecursion, list_all}
 use Rattle.std.specs.Prelude.{nat_le}
 use Rattle.std.proofs.lemmas.Bool.{and_from}
@@ -10,11 +10,11 @@ use Rattle.sap_net.specs.Names.{is_word, is_among, AreDistinct}
 use Rattle.sap_maps.specs.Term.{read}
 use Rattle.sap_ir.specs.Source.{Action, set, Source}
 use Rattle.sap_ir.specs.IsGuarded.{ActionFine, declared, IsGuarded}
-use Rattle.sap_ir.specs.Test.{of_shape, value_is_fine, action_is_fine, are_distinct, is_guarded}
+use Rattle.sap_ir.specs.Test.{of_shape, value_is_fine, are_distinct}
 use Rattle.sap_ir.proofs.Passes.{guarded_to}
 use Rattle.sap_plain.specs.Nested.{Body, stop, act, cases, goto, fall, Forest, none, state, Nested, declarations, has_states, size, group_names, state_names, seat_name, root_seat, seats, seat_width}
-use Rattle.sap_plain.specs.IsPlain.{is_gate, keeps_seats, BodyFine, ends_in_transfers, IsSeat, SeatFine, ForestFine, IsPlain}
-use Rattle.sap_plain.specs.Test.{body_is_fine, is_seat, seat_is_fine, forest_is_fine, is_plain}
+use Rattle.sap_plain.specs.IsPlain.{is_gate, BodyFine, SeatFine, ForestFine, IsPlain}
+use Rattle.sap_plain.specs.Test.{body_is_fine, seat_is_fine, forest_is_fine, is_plain}
 use Rattle.sap_plain.proofs.SeatWidths.{seat_register}
 use Rattle.sap_plain.proofs.Actions.{action_to, test_to, itself_fine}
 

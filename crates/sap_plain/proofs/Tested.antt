@@ -6,7 +6,7 @@ use Rattle.std.proofs.lemmas.Bool.{and_parts}
 use Rattle.std.proofs.lemmas.Bool.Decides.{Decides-eqb, nat_tests}
 use Rattle.sap_maps.specs.Maps.{Name}
 use Rattle.sap_maps.specs.Scope.{find}
-use Rattle.sap_maps.specs.Term.{Term, read}
+use Rattle.sap_maps.specs.Term.{read}
 use Rattle.sap_net.specs.Names.{is_word, is_among, AreDistinct}
 use Rattle.sap_ir.specs.Source.{Action, set, Source}
 use Rattle.sap_ir.specs.IsGuarded.{declared}

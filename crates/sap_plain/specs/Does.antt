@@ -1,8 +1,7 @@
 -- What nested states do: in each cycle the body of the current top-level state is done, and, where it falls, that of its current child.
 use Rattle.std.specs.Prelude.{ℕ, zero, suc, ◌==◌, List, [], ◌∷◌, Option, Some, None, if◌then◌else◌}
 use Rattle.sap_maps.specs.Maps.{Name, Valuation, set_value}
-use Rattle.sap_maps.specs.Term.{Term}
-use Rattle.sap_ir.specs.Source.{Action, width_of}
+use Rattle.sap_ir.specs.Source.{width_of}
 use Rattle.sap_ir.specs.Guarded.{Going, value_in, after_action, begun, ended}
 use Rattle.sap_plain.specs.Nested.{Body, stop, act, cases, goto, fall, Forest, none, state, Nested, declarations, place, children_of, seat_name, root_seat}
 

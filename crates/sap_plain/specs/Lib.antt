@@ -6,3 +6,4 @@ pub mod Test
 pub mod Views
 pub mod Parts
 pub mod Program
+pub mod Examples

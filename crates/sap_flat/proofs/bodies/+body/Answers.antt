@@ -1,4 +1,4 @@
-use Rattle.std.proofs.Common.{◌≡◌, ◌∙◌, ap, sym, arith}
+use Rattle.std.proofs.Common.{◌∙◌, arith}
 use Rattle.sap_ir.specs.Calcs.{action_of, commands_of}
 use Rattle.sap_flat.specs.Lists.{commands_flat}
 use Rattle.sap_flat.proofs.Steps.{commands_step, commands_rest, do_made, if_made, goto_made, fall_made}

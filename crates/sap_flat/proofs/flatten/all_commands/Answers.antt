@@ -1,4 +1,4 @@
-use Rattle.std.proofs.Common.{◌≡◌, length, ap, arith}
+use Rattle.std.proofs.Common.{ap, arith}
 use Rattle.sap_ir.specs.Calcs.{commands_of}
 use Rattle.sap_plain.specs.Program.{nested_of}
 use Rattle.sap_flat.proofs.Steps.{all_made}

@@ -1,4 +1,4 @@
-use Rattle.std.proofs.Common.{◌≡◌, ◌≤◌, ◌^◌, sym, subst, arith}
+use Rattle.std.proofs.Common.{sym, subst, arith}
 use Rattle.sap_ir.specs.Parts.{parts_source}
 use Rattle.sap_ir.specs.Program.{source_of}
 use Rattle.sap_ir.specs.IsGuarded.{IsGuarded}

@@ -1,4 +1,4 @@
-use Rattle.std.proofs.Common.{◌≡◌, ◌∙◌, ap, arith}
+use Rattle.std.proofs.Common.{◌∙◌, ap, arith}
 use Rattle.sap_maps.specs.Term.{read}
 use Rattle.sap_ir.specs.Calcs.{term_of}
 use Rattle.sap_flat.specs.Flat.{is_number}

@@ -1,4 +1,4 @@
-use Rattle.std.proofs.Common.{◌≡◌, sym, arith}
+use Rattle.std.proofs.Common.{sym, arith}
 use Rattle.sap_flat.proofs.Steps.{place_found, place_next}
 use Rattle.sap_flat.proofs.moves.place.Goals as goal
 

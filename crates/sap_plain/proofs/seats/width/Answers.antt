@@ -1,6 +1,5 @@
-use Rattle.std.proofs.Common.{◌≡◌, ℕ, ◌+◌, ◌-◌, ◌^◌, ◌<◌, ◌≤◌, sym, ◌∙◌, arith}
-use Rattle.sap_plain.specs.Nested.{seat_width}
-use Rattle.sap_plain.proofs.SeatWidths.{width_start, width_found, width_next, shifted}
+use Rattle.std.proofs.Common.{sym, ◌∙◌, arith}
+use Rattle.sap_plain.proofs.SeatWidths.{width_start, width_next, shifted}
 use Rattle.sap_plain.proofs.seats.width.Goals as goal
 
 pub loop-bits-init : goal.loop-bits-init

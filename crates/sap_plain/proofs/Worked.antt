@@ -1,0 +1,19 @@
+-- The small program, computed.
+use Rattle.std.proofs.Common.{◌≡◌, true, refl}
+use Rattle.sap_net.specs.Names.{is_name}
+use Rattle.sap_ir.specs.Test.{is_guarded}
+use Rattle.sap_plain.specs.Nested.{seat_width}
+use Rattle.sap_plain.specs.IsPlain.{IsPlain}
+use Rattle.sap_plain.specs.Test.{is_plain}
+use Rattle.sap_plain.specs.Examples.{Counts, counting}
+use Rattle.sap_plain.proofs.Tested.{plain_from}
+
+pub counts : Counts
+counts = refl
+
+passes : is_plain counting ≡ true
+unfolding is_plain is_guarded is_name seat_width
+passes = refl
+
+pub is_program : IsPlain counting
+is_program = plain_from counting passes
