@@ -1,0 +1,24 @@
+//! The last passes joined: from nested states to a netlist.
+#![tactic(auto)]
+
+ghost use Rattle.std.specs.Prelude.{IfOk};
+ghost use Rattle.sap_plain.specs.Program.{nested_of};
+ghost use Rattle.sap_plain.specs.Writes.{PlainWritesOnce};
+ghost use Rattle.sap_stages.specs.Stages.{StandsForTheSame};
+
+use sap_flat::flatten::flatten;
+use sap_lower::lower::lower;
+use sap_net::netlist::Netlist;
+use sap_plain::program::Plain;
+use std::alloc::{AllocError, Global};
+
+/// The netlist of nested states that write no memory twice in a cycle.
+pub fn netlist(alloc: Global, program: &Plain) -> Result<Netlist, AllocError>
+    requires once { PlainWritesOnce (nested_of program.now) }
+    ensures stands { IfOk result (λ n. StandsForTheSame (nested_of program.now) n) }
+{
+    program.rules();
+    let source = flatten(alloc, program)?;
+    let net = lower(alloc, &source)?;
+    Ok(net)
+}
