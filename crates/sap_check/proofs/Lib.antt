@@ -1,3 +1,4 @@
 pub mod SiteLists
 pub mod PointLists
 pub mod Counts
+pub mod Accepted

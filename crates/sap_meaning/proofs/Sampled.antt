@@ -9,7 +9,7 @@ use Rattle.sap_meaning.specs.Program.{entity, is_dynamic, is_input, authority, w
 use Rattle.sap_meaning.proofs.Bools.{or_of, same_number}
 use Rattle.sap_meaning.specs.Checks.{Spot}
 use Rattle.sap_meaning.specs.Touches.{touches, root_touches}
-use Rattle.sap_meaning.specs.Fine.{FineNode, FineProgram, ExactProgram, ExactList, reaches, block_reaches, inside}
+use Rattle.sap_meaning.specs.Fine.{FineNode, FineProgram, ExactProgram, ExactList, reaches, block_reaches, OnceState, inside}
 use Rattle.sap_meaning.specs.Sized.{SizedProgram}
 use Rattle.sap_meaning.specs.Examples.{two_levels}
 use Rattle.sap_meaning.specs.Sample.{sample_world, on_fall, on_root, body_c, body_d, body_q, body_p, sample_kids, sample_states, sample, Meets}
@@ -169,11 +169,6 @@ node_p = record {
   declared = omega arith;
   steps = ((((refl, (refl, refl)), ((refl, tt), tt)), ((refl, refl, refl), (((refl, tt), (refl, tt), ((omega arith, (refl, tt)), tt)), tt))));
   closes = ((refl, (refl, tt)), (refl, (refl, (refl, refl))));
-  once = (
-    ((tt, tt, λ m. refl), λ m. refl),
-    (tt, (((tt, tt, λ m. refl), (((tt, tt, λ m. refl), λ m. refl), tt, λ m. nothing _)), tt, λ m. nothing _), apart),
-    λ m. refl,
-  );
   retags_itself = refl;
   retags_below = λ x h. refl;
 }
@@ -188,7 +183,6 @@ node_c = record {
   declared = omega arith;
   steps = ((refl, refl, tt), ((refl, (refl, refl)), (refl, tt)));
   closes = (refl, (refl, refl));
-  once = (tt, (tt, (tt, tt, λ m. refl), λ m. refl), λ m. nothing (nat_eq m 3));
   retags_itself = refl;
   retags_below = λ x h. cc;
 }
@@ -203,7 +197,6 @@ node_d = record {
   declared = omega arith;
   steps = ((refl, refl, omega arith), (refl, tt));
   closes = (refl, refl);
-  once = (tt, (tt, tt, λ m. refl), λ m. refl);
   retags_itself = refl;
   retags_below = λ x h. cc;
 }
@@ -218,16 +211,32 @@ node_q = record {
   declared = omega arith;
   steps = ((refl, refl, refl, refl), ((refl, refl, refl), (refl, tt)));
   closes = (refl, (refl, refl));
-  once = (tt, (tt, (tt, tt, λ m. refl), λ m. refl), λ m. nothing (nat_eq m 4));
   retags_itself = refl;
   retags_below = λ x h. cc;
 }
+
+once_c : OnceState (Node 6 body_c None)
+once_c = (tt, (tt, (tt, tt, λ m. refl), λ m. refl), λ m. nothing (nat_eq m 3))
+
+once_d : OnceState (Node 7 body_d None)
+once_d = (tt, (tt, tt, λ m. refl), λ m. refl)
+
+once_q : OnceState (Node 8 body_q None)
+once_q = (tt, (tt, (tt, tt, λ m. refl), λ m. refl), λ m. nothing (nat_eq m 4))
+
+once_p : OnceState (Node 5 body_p sample_kids)
+once_p = (
+  (tt, (tt, tt, λ m. refl), λ m. refl),
+  (tt, (((tt, tt, λ m. refl), (((once_c, (once_d, tt)), (tt, tt, λ m. refl), λ m. refl), tt, λ m. nothing _)), tt, λ m. nothing _), apart),
+  λ m. refl,
+)
 
 fine : FineProgram sample
 fine = record {
   order = lawful;
   states = ((node_p, ((node_c, tt), ((node_d, tt), tt, λ x h. cc), after_six)), ((node_q, tt), tt, λ x h. cc), after_seven);
   count = refl;
+  once = (once_p, (once_q, tt));
   inputs = inputs;
   above = λ x d. above x;
 }

@@ -139,16 +139,34 @@ reaches g c m = reaching (group_reaches g) c m
 abbrev pub block_reaches : Group → Block → ℕ → Bool
 block_reaches g b m = block_reaching (group_reaches g) b m
 
+-- a fall asks for what has to hold where it leads
+abbrev pub OnceStep : (below : Type 0) → Step → Type 0
+OnceStep below (Set site x e) = Unit {0}
+OnceStep below (Write site m i e) = Unit {0}
+OnceStep below (Retag site x n) = Unit {0}
+OnceStep below (RetagCell site m j n) = Unit {0}
+OnceStep below (Goto site target) = Unit {0}
+OnceStep below (Fall site hang) = below
+
 -- No memory is written after it was written, on any path: a refused fall has entered no child before its handler.
 abbrev mutual
-  pub Once : Group → Command → Type 0
-  Once g (Do k) = Unit {0}
-  Once g (Try k hang h) = OnceBlock g h × ((m : ℕ) → (step_writes k m && block_reaches g h m) ≡ false)
-  Once g (If hang e a b) = OnceBlock g a × OnceBlock g b
+  pub Once : Group → (below : Type 0) → Command → Type 0
+  Once g below (Do k) = OnceStep below k
+  Once g below (Try k hang h) = OnceStep below k × OnceBlock g below h × ((m : ℕ) → (step_writes k m && block_reaches g h m) ≡ false)
+  Once g below (If hang e a b) = OnceBlock g below a × OnceBlock g below b
 
-  pub OnceBlock : Group → Block → Type 0
-  OnceBlock g End = Unit {0}
-  OnceBlock g (Then c cs) = Once g c × OnceBlock g cs × ((m : ℕ) → (reaches g c m && block_reaches g cs m) ≡ false)
+  pub OnceBlock : Group → (below : Type 0) → Block → Type 0
+  OnceBlock g below End = Unit {0}
+  OnceBlock g below (Then c cs) = Once g below c × OnceBlock g below cs × ((m : ℕ) → (reaches g c m && block_reaches g cs m) ≡ false)
+
+-- So it is in the bodies of these states, and in all bodies that they may fall into. No path comes to any other.
+abbrev mutual
+  pub OnceState : State → Type 0
+  OnceState (Node s b g) = OnceBlock g (OnceGroup g) b
+
+  pub OnceGroup : Group → Type 0
+  OnceGroup None = Unit {0}
+  OnceGroup (More t g) = OnceState t × OnceGroup g
 
 -- a step gives the register or state x a level
 abbrev pub step_retags : Step → ℕ → Bool
@@ -205,7 +223,6 @@ pub record FineNode (w : World) (q : Group) (n s : ℕ) (b : Block) (g : Group) 
   pub declared : last w s < root w
   pub steps : FineBlock w q g b
   pub closes : Closes b
-  pub once : OnceBlock g b
   -- a body retags neither its own state nor one above or below it
   pub retags_itself : (block_retags b s || group_retags g s) ≡ false
   pub retags_below : (x : ℕ) → inside g x ≡ true → block_retags b x ≡ false
@@ -257,6 +274,7 @@ pub record FineProgram (p : Program) : Type 0 where
   pub order : Laws p.world.order
   pub states : FineGroup p.world p.states 0 p.states
   pub count : children p.world (root p.world) ≡ size p.states
+  pub once : OnceGroup p.states
   pub inputs : (x : ℕ) → is_input p.world x ≡ true → is_dynamic p.world x ≡ true
   -- each enforced entity starts at or above its authority
   pub above : (x : ℕ) → is_dynamic p.world x ≡ false → p.world.order.le (authority p.world x) (entity p.world x).declared ≡ true

@@ -9,7 +9,7 @@ use Rattle.sap_meaning.specs.Checks.{Spot, guard, test}
 use Rattle.sap_meaning.specs.Touches.{touches, root_touches, raised_alone}
 use Rattle.sap_meaning.specs.Does.{does, does_child}
 use Rattle.sap_meaning.specs.Cycle.{set_inputs}
-use Rattle.sap_meaning.specs.Fine.{step_writes, step_reaching, reaching, block_reaching, state_reaches, group_reaches, Once, OnceBlock, FineState, FineGroup, FineProgram}
+use Rattle.sap_meaning.specs.Fine.{step_writes, step_reaching, reaching, block_reaching, state_reaches, group_reaches, OnceStep, Once, OnceBlock, OnceState, OnceGroup, FineProgram}
 use Rattle.sap_meaning.proofs.Bools.{neither_left, neither_right, and_false, not_true}
 use Rattle.sap_once.specs.Steps.{onward, tried, chosen, steps, block_steps, state_steps, child_steps, root_steps, cycle_steps}
 use Rattle.sap_once.specs.Once.{writes_to, WritesOnce}
@@ -20,7 +20,7 @@ abbrev pub AllCounted : ℕ → Bool → (ℕ → Store → List Step) → Type 
 AllCounted m may f = (pc : ℕ) (s : Store) → Counted m may (f pc s)
 
 module _ (w : World) (m : ℕ) (at : Spot) (entered : ℕ → ℕ → Store → List Step)
-    (below : (n : ℕ) → AllCounted m (group_reaches at.children m) (entered n)) where
+    (beyond : Type 0) (below : beyond → (n : ℕ) → AllCounted m (group_reaches at.children m) (entered n)) where
   -- a step that writes leads to no other
   onward_nothing : (k : Step) (pc : ℕ) (b s : Store) → step_writes k m ≡ true → writes_to m (onward w at entered k pc b s) ≡ 0
   onward_nothing (Set site x e) pc b s h = refl
@@ -30,13 +30,13 @@ module _ (w : World) (m : ℕ) (at : Spot) (entered : ℕ → ℕ → Store → 
   onward_nothing (Goto site target) pc b s h = refl
   onward_nothing (Fall site hang) pc b s h = cc
 
-  onward_counted : (k : Step) (pc : ℕ) (b s : Store) → Counted m (step_reaching (group_reaches at.children) k m) (onward w at entered k pc b s)
-  onward_counted (Set site x e) pc b s = counted_nothing m
-  onward_counted (Write site n i e) pc b s = counted_weaker m false (nat_eq m n) [] (λ h. refl) (counted_nothing m)
-  onward_counted (Retag site x n) pc b s = counted_nothing m
-  onward_counted (RetagCell site n j t) pc b s = counted_weaker m false (nat_eq m n) [] (λ h. refl) (counted_nothing m)
-  onward_counted (Goto site target) pc b s = counted_nothing m
-  onward_counted (Fall site hang) pc b s = below _ _ _
+  onward_counted : (k : Step) → OnceStep beyond k → (pc : ℕ) (b s : Store) → Counted m (step_reaching (group_reaches at.children) k m) (onward w at entered k pc b s)
+  onward_counted (Set site x e) once pc b s = counted_nothing m
+  onward_counted (Write site n i e) once pc b s = counted_weaker m false (nat_eq m n) [] (λ h. refl) (counted_nothing m)
+  onward_counted (Retag site x n) once pc b s = counted_nothing m
+  onward_counted (RetagCell site n j t) once pc b s = counted_weaker m false (nat_eq m n) [] (λ h. refl) (counted_nothing m)
+  onward_counted (Goto site target) once pc b s = counted_nothing m
+  onward_counted (Fall site hang) once pc b s = below once _ _ _
 
   -- what may not be reached isn't written
   reached : (k : Step) → step_reaching (group_reaches at.children) k m ≡ false → step_writes k m ≡ false
@@ -48,7 +48,7 @@ module _ (w : World) (m : ℕ) (at : Spot) (entered : ℕ → ℕ → Store → 
   reached (Fall site hang) h = refl
 
   -- what comes behind a step
-  module _ (k : Step) (may : Bool) (apart : (step_writes k m && may) ≡ false) where
+  module _ (k : Step) (once : OnceStep beyond k) (may : Bool) (apart : (step_writes k m && may) ≡ false) where
     behind : (b : Bool) (xs ys : List Step) → Counted m (step_reaching (group_reaches at.children) k m) xs → (step_writes k m ≡ true → writes_to m xs ≡ 0) → Counted m may ys
         → Counted m (step_reaching (group_reaches at.children) k m || may) (k ∷ (if b then xs else ys))
     behind true xs ys c z d =
@@ -101,7 +101,7 @@ module _ (w : World) (m : ℕ) (at : Spot) (entered : ℕ → ℕ → Store → 
     unfolding tried
     tried_counted hangs handler c pc s =
         let r = raise w.order hangs (guard w at k s) s in
-        behind (test w at k pc s) (onward w at entered k pc s r) (handler (w.order.join pc (guard w at k s)) r) (onward_counted k pc s r)
+        behind (test w at k pc s) (onward w at entered k pc s r) (handler (w.order.join pc (guard w at k s)) r) (onward_counted k once pc s r)
         (onward_nothing k pc s r) (c (w.order.join pc (guard w at k s)) r)
 
   chosen_counted : (e : Term ℕ) (hangs : ℕ → Bool) (a b : Bool) (xs ys : ℕ → Store → List Step) → AllCounted m a xs → AllCounted m b ys
@@ -125,19 +125,19 @@ module _ (w : World) (m : ℕ) (at : Spot) (entered : ℕ → ℕ → Store → 
   mutual
     unfolding steps block_steps
 
-    steps_counted : (c : Command) → Once at.children c → AllCounted m (reaching (group_reaches at.children) c m) (steps w at entered c)
+    steps_counted : (c : Command) → Once at.children beyond c → AllCounted m (reaching (group_reaches at.children) c m) (steps w at entered c)
     steps_counted (Do k) once pc s =
         counted_weaker m (step_reaching (group_reaches at.children) k m || false) (step_reaching (group_reaches at.children) k m) _
         (or_nothing (step_reaching (group_reaches at.children) k m))
-        (tried_counted k false (alone k) (raised_alone w at k) (λ pc s. []) (λ pc s. counted_nothing m) pc s)
+        (tried_counted k once false (alone k) (raised_alone w at k) (λ pc s. []) (λ pc s. counted_nothing m) pc s)
     steps_counted (Try k hang h) once pc s =
-        tried_counted k (block_reaching (group_reaches at.children) h m) (once.1 m) (touches w at (Try k hang h)) (block_steps w at entered h)
-        (block_counted h once.0) pc s
+        tried_counted k once.0 (block_reaching (group_reaches at.children) h m) (once.2 m) (touches w at (Try k hang h)) (block_steps w at entered h)
+        (block_counted h once.1) pc s
     steps_counted (If hang e a b) once pc s =
         chosen_counted e (touches w at (If hang e a b)) (block_reaching (group_reaches at.children) a m) (block_reaching (group_reaches at.children) b m)
         (block_steps w at entered a) (block_steps w at entered b) (block_counted a once.0) (block_counted b once.1) pc s
 
-    pub block_counted : (b : Block) → OnceBlock at.children b → AllCounted m (block_reaching (group_reaches at.children) b m) (block_steps w at entered b)
+    pub block_counted : (b : Block) → OnceBlock at.children beyond b → AllCounted m (block_reaching (group_reaches at.children) b m) (block_steps w at entered b)
     block_counted End once pc s = counted_nothing m
     block_counted (Then c cs) once pc s =
         counted_both m (reaching (group_reaches at.children) c m) (block_reaching (group_reaches at.children) cs m) (steps w at entered c pc s)
@@ -148,30 +148,30 @@ module _ (w : World) (m : ℕ) where
   mutual
     unfolding state_steps child_steps
 
-    pub state_counted : (q : Group) (n : ℕ) (t : State) → FineState w q n t → (parent : ℕ) → AllCounted m (state_reaches t m) (state_steps w t parent)
-    state_counted q n (Node s b g) fine parent pc st =
+    pub state_counted : (t : State) → OnceState t → (parent : ℕ) → AllCounted m (state_reaches t m) (state_steps w t parent)
+    state_counted (Node s b g) once parent pc st =
         let at : Spot = record { state = s; parent = parent; children = g } in
-        block_counted w m at (child_steps w g s) (λ i. group_counted g 0 g fine.1 s i) b fine.0.once pc st
+        block_counted w m at (child_steps w g s) (OnceGroup g) (λ o i. group_counted g o s i) b once pc st
 
-    group_counted : (q : Group) (n : ℕ) (g : Group) → FineGroup w q n g → (parent i : ℕ) → AllCounted m (group_reaches g m) (child_steps w g parent i)
-    group_counted q n None fine parent i pc st = counted_nothing m
-    group_counted q n (More t g) fine parent zero pc st =
+    group_counted : (g : Group) → OnceGroup g → (parent i : ℕ) → AllCounted m (group_reaches g m) (child_steps w g parent i)
+    group_counted None once parent i pc st = counted_nothing m
+    group_counted (More t g) once parent zero pc st =
         counted_weaker m (state_reaches t m) (state_reaches t m || group_reaches g m) _ (neither_left (state_reaches t m) (group_reaches g m))
-        (state_counted q n t fine.0 parent pc st)
-    group_counted q n (More t g) fine parent (suc i) pc st =
+        (state_counted t once.0 parent pc st)
+    group_counted (More t g) once parent (suc i) pc st =
         counted_weaker m (group_reaches g m) (state_reaches t m || group_reaches g m) _ (neither_right (state_reaches t m) (group_reaches g m))
-        (group_counted q (suc n) g fine.1 parent i pc st)
+        (group_counted g once.1 parent i pc st)
 
-  root_once : (hangs : ℕ → Bool) (q : Group) (n : ℕ) (g : Group) → FineGroup w q n g → (i : ℕ) (s : Store) → writes_to m (root_steps w hangs g i s) ≤ 1
+  root_once : (hangs : ℕ → Bool) (g : Group) → OnceGroup g → (i : ℕ) (s : Store) → writes_to m (root_steps w hangs g i s) ≤ 1
   unfolding root_steps
-  root_once hangs q n None fine i s = omega arith
-  root_once hangs q n (More (Node c b k) g) fine zero s =
-      (state_counted q n (Node c b k) fine.0 (root w) (level w (own c) s) (raise w.order hangs (level w (own c) s) s)).once
-  root_once hangs q n (More (Node c b k) g) fine (suc i) s = root_once hangs q (suc n) g fine.1 i s
+  root_once hangs None once i s = omega arith
+  root_once hangs (More (Node c b k) g) once zero s =
+      (state_counted (Node c b k) once.0 (root w) (level w (own c) s) (raise w.order hangs (level w (own c) s) s)).once
+  root_once hangs (More (Node c b k) g) once (suc i) s = root_once hangs g once.1 i s
 
 pub writes_once : (p : Program) → FineProgram p → WritesOnce p
 unfolding cycle_steps
 writes_once p fine inputs s m =
     let w = p.world in
     let begun = set_inputs w inputs s in
-    root_once w m (root_touches w p.states) p.states 0 p.states fine.states (child (root w) begun) begun
+    root_once w m (root_touches w p.states) p.states fine.once (child (root w) begun) begun

@@ -3,7 +3,7 @@ use Rattle.std.proofs.Common.{◌≡◌, ℕ, suc, ◌<◌, Bool, ◌||◌, refl
 use Rattle.sap_meaning.specs.Program.{World, Step, Set, Write, Retag, RetagCell, Goto, Fall, Command, Do, Try, If, Block, End, Then, State, Node, Group, None, More}
 use Rattle.sap_meaning.specs.Checks.{Spot}
 use Rattle.sap_meaning.specs.Touches.{step_assigns, assigns, block_assigns, state_assigns, group_assigns, among, step_hangs, hangs, block_hangs}
-use Rattle.sap_meaning.specs.Fine.{size, inside, transfers, Open, OpenBlock, Closes, Final, step_writes, step_reaching, reaching, block_reaching, state_reaches, group_reaches, Once, OnceBlock, step_retags, retags, block_retags, state_retags, group_retags, FineStep, FineCommand, FineBlock, FineNode, FineState, FineGroup, number_of}
+use Rattle.sap_meaning.specs.Fine.{size, inside, transfers, Open, OpenBlock, Closes, Final, step_writes, step_reaching, reaching, block_reaching, state_reaches, group_reaches, OnceStep, Once, OnceBlock, OnceState, OnceGroup, step_retags, retags, block_retags, state_retags, group_retags, FineStep, FineCommand, FineBlock, FineNode, FineState, FineGroup, number_of}
 use Rattle.sap_resolve.specs.Fill.{filled_step, filled, filled_block, filled_state, filled_group}
 use Rattle.sap_resolve.specs.Named.{NamedStep, Named, NamedBlock, NamedState, NamedGroup}
 use Rattle.sap_premises.proofs.Faultless.{or_same}
@@ -227,19 +227,38 @@ module _ (w : World) where
     same_reach : (b : Block) → Same b
     same_reach b m = block_reaching_filled at (group_reaches (filled_group w p g)) (group_reaches g) (λ n. group_reaches_filled p g n) b m
 
-    mutual
-      once_filled : (c : Command) → Once g c → Once (filled_group w p g) (filled w at c)
-      once_filled (Do k) h = h
-      once_filled (Try k hang b) h = (once_block_filled b h.0, λ m. rw (step_writes_filled at k m, same_reach b m) (h.1 m))
-      once_filled (If hang e a b) h = (once_block_filled a h.0, once_block_filled b h.1)
+    -- where a fall leads to what has to hold there
+    module _ (below behind : Type 0) (lead : below → behind) where
+      once_step_filled : (k : Step) → OnceStep below k → OnceStep behind (filled_step w at k)
+      once_step_filled (Set site x e) h = h
+      once_step_filled (Write site m i e) h = h
+      once_step_filled (Retag site x n) h = h
+      once_step_filled (RetagCell site m j n) h = h
+      once_step_filled (Goto site target) h = h
+      once_step_filled (Fall site hang) h = lead h
 
-      once_block_filled : (b : Block) → OnceBlock g b → OnceBlock (filled_group w p g) (filled_block w at b)
-      once_block_filled End h = h
-      once_block_filled (Then c cs) h = (
-        once_filled c h.0,
-        once_block_filled cs h.1,
-        λ m. rw (reaching_filled at (group_reaches (filled_group w p g)) (group_reaches g) (λ n. group_reaches_filled p g n) c m, same_reach cs m) (h.2 m),
-      )
+      mutual
+        once_filled : (c : Command) → Once g below c → Once (filled_group w p g) behind (filled w at c)
+        once_filled (Do k) h = once_step_filled k h
+        once_filled (Try k hang b) h = (once_step_filled k h.0, once_block_filled b h.1, λ m. rw (step_writes_filled at k m, same_reach b m) (h.2 m))
+        once_filled (If hang e a b) h = (once_block_filled a h.0, once_block_filled b h.1)
+
+        once_block_filled : (b : Block) → OnceBlock g below b → OnceBlock (filled_group w p g) behind (filled_block w at b)
+        once_block_filled End h = h
+        once_block_filled (Then c cs) h = (
+          once_filled c h.0,
+          once_block_filled cs h.1,
+          λ m. rw (reaching_filled at (group_reaches (filled_group w p g)) (group_reaches g) (λ n. group_reaches_filled p g n) c m, same_reach cs m) (h.2 m),
+        )
+
+  mutual
+    once_state_filled : (p : ℕ) (t : State) → OnceState t → OnceState (filled_state w p t)
+    once_state_filled p (Node s b g) h =
+        once_block_filled (record { state = s; parent = p; children = g }) s g (OnceGroup g) (OnceGroup (filled_group w s g)) (λ once. once_group_filled s g once) b h
+
+    pub once_group_filled : (p : ℕ) (g : Group) → OnceGroup g → OnceGroup (filled_group w p g)
+    once_group_filled p None h = h
+    once_group_filled p (More t g) h = (once_state_filled p t h.0, once_group_filled p g h.1)
 
   -- what a program has from a well-formed design
   mutual
@@ -256,7 +275,6 @@ module _ (w : World) where
           declared = node.declared;
           steps = fine_block_filled at q (filled_group w p q) g (filled_group w s g) (among_filled p q) (size_filled s g) b node.steps;
           closes = closes_filled at b node.closes;
-          once = once_block_filled at s g b node.once;
           retags_itself = or_same _ _ _ _ (block_retags_filled at b s) (group_retags_filled s g s) ∙ node.retags_itself;
           retags_below = λ x i. block_retags_filled at b x ∙ node.retags_below x (sym (inside_filled s g x) ∙ i);
         } in

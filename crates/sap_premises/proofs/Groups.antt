@@ -1,12 +1,11 @@
 -- The groups of states of a design without faults are fine.
-use Rattle.std.proofs.Common.{◌≡◌, ℕ, suc, ◌+◌, ◌<◌, Bool, true, List, [], ◌∷◌, ◌++◌, length, sym, ◌∙◌, arith, inr, bytes_eq}
+use Rattle.std.proofs.Common.{◌≡◌, ℕ, suc, ◌+◌, ◌<◌, Bool, true, List, [], ◌∷◌, ◌++◌, length, sym, ◌∙◌, arith, bytes_eq}
 use Rattle.sap_tree.specs.Syntax.{StateTree, StateOf, StateList, NoState, AndState}
 use Rattle.sap_lattice.specs.Levels.{Levels}
 use Rattle.sap_names.specs.Entities.{what_is}
 use Rattle.sap_names.specs.declared.entity.Entity.{Entity}
 use Rattle.sap_names.specs.NameFaults.{block_faults, state_faults, states_faults}
 use Rattle.sap_shape.specs.Closing.{closing_faults}
-use Rattle.sap_shape.specs.Paths.{Written, entering_block, second_block, second_state, second_states}
 use Rattle.sap_shape.specs.ShapeFaults.{Body, is_among, block_shape, state_shape, states_shape}
 use Rattle.sap_meaning.specs.Program.{World, Block, Group, last}
 use Rattle.sap_meaning.specs.Touches.{among}
@@ -24,7 +23,6 @@ use Rattle.sap_premises.proofs.Places.{Laid, LaidState, laid_first, laid_rest, l
 use Rattle.sap_premises.proofs.Lookups.{same_name}
 use Rattle.sap_premises.proofs.Numbers.{size_of, Inside, inside_of, among_of, here_state, here_placed, here_last, here_below, here_itself, here_declared}
 use Rattle.sap_premises.proofs.Closed.{closed_body}
-use Rattle.sap_premises.proofs.Once.{once_body, group_unreached}
 use Rattle.sap_premises.proofs.Steps.{some_child, block_unmarked, group_unmarked, fine_body}
 
 last_before : (ls : Levels) (es : List Entity) (w : World) (k n x : ℕ) (s : StateTree) → LaidState ls es w n x s
@@ -40,8 +38,8 @@ module _ (ls : Levels) (levels : List (List ℕ)) (le : ℕ → ℕ → Bool) (e
   mutual
     fine_state : (k n x : ℕ) (q : Group) (group : StateList) (above : List (List ℕ)) (s : StateTree) → LaidState ls es w n x s → Targets q group
         → state_faults levels le (what_is es) s ≡ [] → state_shape es group above s ≡ []
-        → (p : Written) → second_state s p ≡ [] → NamedState w (state_of ls es k x s) → FineState w q n (state_of ls es k x s)
-    fine_state k n x q group above (StateOf place name kind body children) laid targets f s p once i =
+        → NamedState w (state_of ls es k x s) → FineState w q n (state_of ls es k x s)
+    fine_state k n x q group above (StateOf place name kind body children) laid targets f s i =
         let h : Home = record { entities = es; kind = kind; children = children } in
         let at : Body = record { name = name.name; kind = kind; group = group; children = children; above = above } in
         let b : Block = block_of ls h k body in
@@ -54,8 +52,6 @@ module _ (ls : Levels) (levels : List (List ℕ)) (le : ℕ → ℕ → Bool) (e
         let closing : closing_faults body ≡ [] = nil_left _ _ front in
         let shaped : block_shape es at body ≡ [] = nil_right _ _ front in
         let shaped_below : states_shape es children (name.name ∷ above) children ≡ [] = nil_right _ _ s in
-        let once_here : second_block body p ≡ [] = nil_left _ _ once in
-        let once_below : second_states children (entering_block body p) ≡ [] = nil_right _ _ once in
         let own_name : bytes_eq name.name (name_at es x) ≡ true = rw (laid_name ls es w n x place name kind body children laid) (same_name name.name) in
         let node : FineNode w q n x b g = record {
           kind = here_state ls es w n x place name kind body children laid;
@@ -66,8 +62,6 @@ module _ (ls : Levels) (levels : List (List ℕ)) (le : ℕ → ℕ → Bool) (e
           declared = here_declared ls es w n x place name kind body children laid;
           steps = fine_body ls levels h w match at q g targets (some_child ls es k' (x + 1) children) k body fitting shaped i.0;
           closes = closed_body ls h k body closing;
-          once = once_body ls levels h w match g k body fitting (inr closing) p once_here
-              (λ m j. group_unreached ls levels le es w match m k' (x + 1) children fitting_below (entering_block body p) j once_below);
           retags_itself = or_false _ _
               (block_unmarked ls levels h w match at x (or_left _ _ (or_left _ _ own_name)) k body fitting shaped)
               (group_unmarked ls levels le es w match x k' (x + 1) children (name.name ∷ above) children (or_left _ _ own_name) fitting_below shaped_below);
@@ -75,17 +69,17 @@ module _ (ls : Levels) (levels : List (List ℕ)) (le : ℕ → ℕ → Bool) (e
               block_unmarked ls levels h w match at y (or_right _ _ (inside_of ls es w k' 0 (x + 1) children below y j).name) k body fitting shaped;
         } in
         let targets_below : Targets g children = among_of ls es w numbered k' 0 (x + 1) children below in
-        (node, fine_group k' 0 (x + 1) g children (name.name ∷ above) children below targets_below fitting_below shaped_below (entering_block body p) once_below i.1)
+        (node, fine_group k' 0 (x + 1) g children (name.name ∷ above) children below targets_below fitting_below shaped_below i.1)
 
     pub fine_group : (k n x : ℕ) (q : Group) (group : StateList) (above : List (List ℕ)) (g : StateList) → Laid ls es w n x g → Targets q group
         → states_faults levels le (what_is es) g ≡ [] → states_shape es group above g ≡ []
-        → (p : Written) → second_states g p ≡ [] → NamedGroup w (group_of ls es k x g) → FineGroup w q n (group_of ls es k x g)
-    fine_group k n x q group above NoState laid targets f s p once i = tt
-    fine_group k n x q group above (AndState t rest) laid targets f s p once i = (
+        → NamedGroup w (group_of ls es k x g) → FineGroup w q n (group_of ls es k x g)
+    fine_group k n x q group above NoState laid targets f s i = tt
+    fine_group k n x q group above (AndState t rest) laid targets f s i = (
       fine_state k n x q group above t (laid_first ls es w n x t rest laid) targets (nil_left _ _ f)
-          (nil_left _ _ s) p (nil_left _ _ once) i.0,
+          (nil_left _ _ s) i.0,
       fine_group (k + state_sites es t) (suc n) (x + states_in t) q group above rest (laid_rest ls es w n x t rest laid) targets (nil_right _ _ f)
-          (nil_right _ _ s) p (nil_right _ _ once) i.1,
+          (nil_right _ _ s) i.1,
       λ y j.
           let later : Laid ls es w (suc n) (x + states_in t) rest = laid_rest ls es w n x t rest laid in
           let r : Inside ls es w (x + states_in t) rest y = inside_of ls es w (k + state_sites es t) (suc n) (x + states_in t) rest later y j in

@@ -6,7 +6,6 @@ use Rattle.sap_tree.specs.declared.place.Place.{Place}
 use Rattle.sap_tree.specs.declared.syntax.Kind.{Kind}
 use Rattle.sap_tree.specs.Syntax.{CommandBlock, StateTree, StateOf, StateList, NoState, AndState}
 use Rattle.sap_lattice.specs.Levels.{Levels}
-use Rattle.sap_names.specs.Entities as tree
 use Rattle.sap_names.specs.declared.entity.Entity as declared_entity
 use Rattle.sap_shape.specs.ShapeFaults.{is_among, is_within, is_in_group}
 use Rattle.sap_meaning.specs.Program.{World, Entity, is_state, is_dynamic, root, place, last, below, last_of, place_of, kind_is_state, Group}

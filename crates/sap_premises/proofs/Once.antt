@@ -1,25 +1,27 @@
 -- Where no path writes a memory twice, no memory is written after it was written, with numbers for names.
-use Rattle.std.proofs.Common.{◌≡◌, ℕ, ◌+◌, Bool, true, false, ◌&&◌, List, [], refl, ap, ◌∙◌, subst, nat_eq, inl, inr, ◌⊎◌, bytes_eq}
+use Rattle.std.proofs.Common.{◌≡◌, ℕ, ◌+◌, Bool, true, false, ◌&&◌, ◌||◌, List, [], ◌∷◌, ◌++◌, if◌then◌else◌, refl, ap, ◌∙◌, subst, nat_eq, inl, inr, ◌⊎◌, bytes_eq}
 use Rattle.sap_tree.specs.declared.name.Mention.{Mention}
 use Rattle.sap_tree.specs.declared.place.Place.{Place}
 use Rattle.sap_tree.specs.Syntax.{SimpleCommand, Assign, Write, SetTag, SetCellTag, Goto, Fall, Command, Do, Try, If, CommandBlock, Commands, ElseBlock, NoElse, Else, CommandList, NoCommand, AndCommand, StateTree, StateOf, StateList, NoState, AndState}
 use Rattle.sap_lattice.specs.Levels.{Levels}
+use Rattle.sap_names.specs.declared.fault.Fault.{Fault}
 use Rattle.sap_names.specs.declared.kind.Code.TheVariants.{E14}
 use Rattle.sap_names.specs.Entities.{Lookup, what_is}
 use Rattle.sap_names.specs.declared.entity.Entity.{Entity}
 use Rattle.sap_names.specs.declared.kind.Use.TheVariants.{Indexed as indexed}
 use Rattle.sap_names.specs.NameFaults.{name_faults, fault_if, simple_faults, command_faults, block_faults, else_faults, commands_faults, state_faults, states_faults}
 use Rattle.sap_shape.specs.Closing.{transfer_faults, open_faults, open_block_faults, open_else_faults, open_list_faults, last_faults, closing_faults, closing_else_faults, closing_list_faults}
-use Rattle.sap_shape.specs.Paths.{Written, writing, past_simple, past, past_block, past_else, past_list, entering_simple, entering, entering_block, entering_else, entering_list, second_simple, second, second_block, second_else, second_list, second_state, second_states}
+use Rattle.sap_shape.specs.Walk.{Written, writing, past_simple, past, past_block, past_else, past_list, is_fall, falls, falls_block, falls_else, falls_list, entering_simple, entering, entering_block, entering_else, entering_list, second_simple, second, second_block, second_else, second_list, second_state, second_states}
+use Rattle.sap_shape.specs.ShapeFaults.{state_shape, states_shape}
 use Rattle.sap_meaning.specs.Program.{World, Group}
-use Rattle.sap_meaning.specs.Fine.{step_writes, step_reaching, reaching, block_reaching, state_reaches, group_reaches, Once, OnceBlock}
+use Rattle.sap_meaning.specs.Fine.{step_writes, step_reaching, reaching, block_reaching, state_reaches, group_reaches, OnceStep, Once, OnceBlock, OnceState, OnceGroup}
 use Rattle.sap_meaning.proofs.Bools.{or_left, or_right, or_of, or_false, not_true, same_number}
 use Rattle.sap_resolve.specs.Worlds.{states_in}
 use Rattle.sap_resolve.specs.Sites.{Home, simple_sites, block_sites, command_sites, state_sites}
 use Rattle.sap_resolve.specs.Resolve.{site_number, step_of, command_of, block_of, else_of, list_of, state_of, group_of}
 use Rattle.sap_resolve.specs.Terms.{entity_number}
 use Rattle.sap_resolve.proofs.Lookup.{AllMatch}
-use Rattle.sap_premises.proofs.Commands.{write_named, cell_named, if_first, if_other, body_fits}
+use Rattle.sap_premises.proofs.Commands.{write_named, cell_named, if_first, if_other, body_fits, below_fits}
 use Rattle.sap_premises.proofs.Faultless.{nil_left, nil_right, no_fault}
 use Rattle.sap_premises.proofs.Places.{name_at}
 use Rattle.sap_premises.proofs.Lookups.{same_name, named}
@@ -202,70 +204,125 @@ module _ (ls : Levels) (levels : List (List ℕ)) (h : Home) (w : World) (match 
   abbrev Ended : Command → Type 0
   Ended c = (open_faults c ≡ []) ⊎ ((after : Place) × (last_faults c after ≡ []))
 
-  module _ (g : Group) where
+  module _ (g : Group) (below : Type 0) where
+    -- what holds where a fall leads
+    once_step : (n : ℕ) (c : SimpleCommand) → (is_fall c ≡ true → below) → OnceStep below (step_of ls h n c)
+    once_step n (Assign target e) f = tt
+    once_step n (Write target index e) f = tt
+    once_step n (SetTag place target tag) f = tt
+    once_step n (SetCellTag place target index tag) f = tt
+    once_step n (Goto place target) f = tt
+    once_step n (Fall place) f = f refl
+
     -- where each fall leads to nothing that was written
     abbrev Free : Written → Type 0
     Free entered = (m : ℕ) → entered (name_at h.entities m) ≡ true → group_reaches g m ≡ false
 
     mutual
       once_command : (k : ℕ) (c : Command) → command_faults levels What c ≡ [] → Ended c → (p : Written) → second c p ≡ [] → Free (entering c p)
-          → Once g (command_of ls h k c)
-      once_command k (Do c) f o p s d = tt
-      once_command k (Try c place b) f o p s d = (
+          → (falls c ≡ true → below) → Once g below (command_of ls h k c)
+      once_command k (Do c) f o p s d i = once_step (site_number h k c) c i
+      once_command k (Try c place b) f o p s d i = (
+        once_step (site_number h k c) c (λ j. i (or_left _ _ j)),
         once_body (k + simple_sites h c) b (nil_right _ _ f)
             (elim o [ inl i ↦ inl (nil_right _ _ i) | inr i ↦ inr (handler_closed c place b i.0 i.1) ])
             (past_simple c p) (nil_right _ _ s)
-            (λ m j. d m (or_right _ _ j)),
-        λ m. and_if (step_writes (step_of ls h (site_number h k c) c) m) (block_reaching (group_reaches g) (block_of ls h (k + simple_sites h c) b) m) (λ i.
+            (λ m j. d m (or_right _ _ j)) (λ j. i (or_right _ _ j)),
+        λ m. and_if (step_writes (step_of ls h (site_number h k c) c) m) (block_reaching (group_reaches g) (block_of ls h (k + simple_sites h c) b) m) (λ w.
             body_unreached (group_reaches g) m (k + simple_sites h c) b (nil_right _ _ f) (past_simple c p)
-            (step_written (site_number h k c) c (nil_left _ _ f) m p i)
+            (step_written (site_number h k c) c (nil_left _ _ f) m p w)
             (nil_right _ _ s)
             (λ j. d m (or_right _ _ j))),
       )
-      once_command k (If place e b other) f o p s d = (
+      once_command k (If place e b other) f o p s d i = (
         once_body k b (if_first levels What place e b other f)
             (elim o [ inl i ↦ inl (nil_left _ _ i) | inr i ↦ inr (nil_left _ _ i.1) ])
-            p (nil_left _ _ s) (λ m j. d m (or_left _ _ j)),
+            p (nil_left _ _ s) (λ m j. d m (or_left _ _ j)) (λ j. i (or_left _ _ j)),
         once_else (k + block_sites h b) other (if_other levels What place e b other f)
             (elim o [ inl i ↦ inl (nil_right _ _ i) | inr i ↦ inr (place, nil_right _ _ i.1) ])
-            p (nil_right _ _ s) (λ m j. d m (or_right _ _ j)),
+            p (nil_right _ _ s) (λ m j. d m (or_right _ _ j)) (λ j. i (or_right _ _ j)),
       )
 
       pub once_body : (k : ℕ) (b : CommandBlock) → Fits b → Shut b → (p : Written) → second_block b p ≡ [] → Free (entering_block b p)
-          → OnceBlock g (block_of ls h k b)
-      once_body k (Commands cs after) f o p s d = once_list k cs f (elim o [ inl i ↦ inl i | inr i ↦ inr (after, i) ]) p s d
+          → (falls_block b ≡ true → below) → OnceBlock g below (block_of ls h k b)
+      once_body k (Commands cs after) f o p s d i = once_list k cs f (elim o [ inl i ↦ inl i | inr i ↦ inr (after, i) ]) p s d i
 
       once_else : (k : ℕ) (b : ElseBlock) → else_faults levels What b ≡ [] → ShutElse b → (p : Written) → second_else b p ≡ [] → Free (entering_else b p)
-          → OnceBlock g (else_of ls h k b)
-      once_else k NoElse f o p s d = tt
-      once_else k (Else b) f o p s d = once_body k b f (elim o [ inl i ↦ inl i | inr i ↦ inr i.1 ]) p s d
+          → (falls_else b ≡ true → below) → OnceBlock g below (else_of ls h k b)
+      once_else k NoElse f o p s d i = tt
+      once_else k (Else b) f o p s d i = once_body k b f (elim o [ inl i ↦ inl i | inr i ↦ inr i.1 ]) p s d i
 
       once_list : (k : ℕ) (cs : CommandList) → commands_faults levels What cs ≡ [] → ShutList cs → (p : Written) → second_list cs p ≡ []
-          → Free (entering_list cs p) → OnceBlock g (list_of ls h k cs)
-      once_list k NoCommand f o p s d = tt
-      once_list k (AndCommand c NoCommand) f o p s d = (
+          → Free (entering_list cs p) → (falls_list cs ≡ true → below) → OnceBlock g below (list_of ls h k cs)
+      once_list k NoCommand f o p s d i = tt
+      once_list k (AndCommand c NoCommand) f o p s d i = (
         once_command k c (nil_left _ _ f)
             (elim o [ inl i ↦ inl (nil_left _ _ i) | inr i ↦ inr i ])
-            p (nil_left _ _ s) (λ m j. d m (or_left _ _ j)),
+            p (nil_left _ _ s) (λ m j. d m (or_left _ _ j)) (λ j. i (or_left _ _ j)),
         tt,
         λ m. and_if (reaching (group_reaches g) (command_of ls h k c) m) false (λ i. refl),
       )
-      once_list k (AndCommand c (AndCommand e es)) f o p s d =
+      once_list k (AndCommand c (AndCommand e es)) f o p s d i =
           let cs : CommandList = AndCommand e es in
           let opened : open_faults c ≡ [] = elim o [ inl i ↦ nil_left _ _ i | inr i ↦ nil_left _ _ i.1 ] in
           let first = nil_left _ _ f in
           let rest = nil_right _ _ f in
           let later = nil_right _ _ s in (
             once_command k c first (inl opened) p (nil_left _ _ s)
-                (λ m j. d m (or_left _ _ j)),
+                (λ m j. d m (or_left _ _ j)) (λ j. i (or_left _ _ j)),
             once_list (k + command_sites h c) (AndCommand e es) rest
                 (elim o [ inl i ↦ inl (nil_right _ _ i) | inr i ↦ inr (i.0, nil_right _ _ i.1) ])
-                (past c p) later (λ m j. d m (or_right _ _ j)),
+                (past c p) later (λ m j. d m (or_right _ _ j)) (λ j. i (or_right _ _ j)),
             λ m. and_if (reaching (group_reaches g) (command_of ls h k c) m) (block_reaching (group_reaches g) (list_of ls h (k + command_sites h c) cs) m)
-                (λ i.
-                list_unreached (group_reaches g) m (k + command_sites h c) cs rest (past c p) (command_written (group_reaches g) k c first opened m p i) later
+                (λ w.
+                list_unreached (group_reaches g) m (k + command_sites h c) cs rest (past c p) (command_written (group_reaches g) k c first opened m p w) later
                 (λ j. d m (or_right _ _ j))),
           )
+
+-- where something is written up to a fall, a fall stands
+module _ (m : List ℕ) where
+  step_falls : (c : SimpleCommand) (p : Written) → entering_simple c p m ≡ true → is_fall c ≡ true
+  step_falls (Assign target e) p h = cc
+  step_falls (Write target index e) p h = cc
+  step_falls (SetTag place target tag) p h = cc
+  step_falls (SetCellTag place target index tag) p h = cc
+  step_falls (Goto place target) p h = cc
+  step_falls (Fall place) p h = refl
+
+  either_falls : (a b c d : Bool) → (a ≡ true → c ≡ true) → (b ≡ true → d ≡ true) → (a || b) ≡ true → (c || d) ≡ true
+  either_falls a b c d f g h = elim (or_of a b h) [ inl i ↦ or_left c d (f i) | inr i ↦ or_right c d (g i) ]
+
+  mutual
+    command_falls : (c : Command) (p : Written) → entering c p m ≡ true → falls c ≡ true
+    command_falls (Do c) p h = step_falls c p h
+    command_falls (Try c place b) p h =
+        either_falls (entering_simple c p m) (entering_block b (past_simple c p) m) (is_fall c) (falls_block b) (step_falls c p) (body_falls b (past_simple c p)) h
+    command_falls (If place e b other) p h =
+        either_falls (entering_block b p m) (entering_else other p m) (falls_block b) (falls_else other) (body_falls b p) (else_falls other p) h
+
+    body_falls : (b : CommandBlock) (p : Written) → entering_block b p m ≡ true → falls_block b ≡ true
+    body_falls (Commands cs after) p h = list_falls cs p h
+
+    else_falls : (b : ElseBlock) (p : Written) → entering_else b p m ≡ true → falls_else b ≡ true
+    else_falls NoElse p h = cc
+    else_falls (Else b) p h = body_falls b p h
+
+    list_falls : (cs : CommandList) (p : Written) → entering_list cs p m ≡ true → falls_list cs ≡ true
+    list_falls NoCommand p h = cc
+    list_falls (AndCommand c cs) p h =
+        either_falls (entering c p m) (entering_list cs (past c p) m) (falls c) (falls_list cs) (command_falls c p) (list_falls cs (past c p)) h
+
+-- the faults below a body that falls
+nil_below : (test : Bool) (fs : List Fault) → (if test then fs else []) ≡ [] → test ≡ true → fs ≡ []
+nil_below true fs h e = h
+nil_below false fs h e = cc
+
+module _ (body : CommandBlock) (children : StateList) (p : Written) (once : second_block body p ++ (if falls_block body then second_states children (entering_block body p) else []) ≡ []) where
+  once_within : second_block body p ≡ []
+  once_within = nil_left _ _ once
+
+  once_down : falls_block body ≡ true → second_states children (entering_block body p) ≡ []
+  once_down e = nil_below (falls_block body) (second_states children (entering_block body p)) (nil_right (second_block body p) _ once) e
 
 -- the same of states that are entered after a memory was written
 module _ (ls : Levels) (levels : List (List ℕ)) (le : ℕ → ℕ → Bool) (es : List Entity) (w : World) (match : AllMatch es w.entities) (m : ℕ) where
@@ -277,9 +334,9 @@ module _ (ls : Levels) (levels : List (List ℕ)) (le : ℕ → ℕ → Bool) (e
         let g : Group = group_of ls es (k + block_sites h body) (x + 1) children in
         body_unreached ls levels h w match (group_reaches g) m k body
         (body_fits levels (what_is es) le place name kind body children f)
-        p i (nil_left _ _ s)
+        p i (once_within body children p s)
         (λ j. group_unreached (k + block_sites h body) (x + 1) children (nil_right _ _ f)
-        (entering_block body p) j (nil_right _ _ s))
+        (entering_block body p) j (once_down body children p s (body_falls (name_at es m) body p j)))
 
     pub group_unreached : (k x : ℕ) (g : StateList) → states_faults levels le (what_is es) g ≡ [] → (p : Written) → p (name_at es m) ≡ true
         → second_states g p ≡ [] → group_reaches (group_of ls es k x g) m ≡ false
@@ -288,3 +345,30 @@ module _ (ls : Levels) (levels : List (List ℕ)) (le : ℕ → ℕ → Bool) (e
         or_false (state_reaches (state_of ls es k x t) m) (group_reaches (group_of ls es (k + state_sites es t) (x + states_in t) rest) m)
         (state_unreached k x t (nil_left _ _ f) p i (nil_left _ _ s))
         (group_unreached (k + state_sites es t) (x + states_in t) rest (nil_right _ _ f) p i (nil_right _ _ s))
+
+-- Where no path writes a memory twice, no body that a path comes to writes one after it was written.
+module _ (ls : Levels) (levels : List (List ℕ)) (le : ℕ → ℕ → Bool) (es : List Entity) (w : World) (match : AllMatch es w.entities) where
+  mutual
+    once_state : (k x : ℕ) (group : StateList) (above : List (List ℕ)) (s : StateTree) → state_faults levels le (what_is es) s ≡ [] → state_shape es group above s ≡ []
+        → (p : Written) → second_state s p ≡ [] → OnceState (state_of ls es k x s)
+    once_state k x group above (StateOf place name kind body children) f s p once =
+        let h : Home = record { entities = es; kind = kind; children = children } in
+        let g : Group = group_of ls es (k + block_sites h body) (x + 1) children in
+        let fitting = below_fits levels (what_is es) le place name kind body children f in
+        let closing : closing_faults body ≡ [] = nil_left _ _ (nil_left _ _ s) in
+        once_body ls levels h w match g (OnceGroup g) k body (body_fits levels (what_is es) le place name kind body children f) (inr closing) p
+        (once_within body children p once)
+        (λ m j. group_unreached ls levels le es w match m (k + block_sites h body) (x + 1) children fitting (entering_block body p) j
+        (once_down body children p once (body_falls (name_at es m) body p j)))
+        (λ i. once_group (k + block_sites h body) (x + 1) children (name.name ∷ above) children fitting (nil_right _ _ s) (entering_block body p)
+        (once_down body children p once i))
+
+    pub once_group : (k x : ℕ) (group : StateList) (above : List (List ℕ)) (g : StateList) → states_faults levels le (what_is es) g ≡ []
+        → states_shape es group above g ≡ [] → (p : Written) → second_states g p ≡ [] → OnceGroup (group_of ls es k x g)
+    once_group k x group above NoState f s p once = tt
+    once_group k x group above (AndState t rest) f s p once = (
+      once_state k x group above t (nil_left _ _ f)
+          (nil_left _ _ s) p (nil_left _ _ once),
+      once_group (k + state_sites es t) (x + states_in t) group above rest (nil_right _ _ f)
+          (nil_right _ _ s) p (nil_right _ _ once),
+    )

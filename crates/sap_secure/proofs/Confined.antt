@@ -66,9 +66,10 @@ raises_home w hang (next m i) g d h = rw d h
 raises_home w hang (start_whole m) g d h = cc
 raises_home w hang (next_whole m) g d h = cc
 
--- a slot is high, if it is dynamic; else its level is that with which the cycle began
+-- A slot is high, if it is dynamic; else its level is that with which the cycle began, or its authority is high.
 abbrev pub Hush : World → ℕ → Slot → Store → Type 0
-Hush w l z s = (is_dynamic w (owner z) ≡ true → High w.order l (level w z s)) × (is_dynamic w (owner z) ≡ false → level w (begun z) s ≡ level w z s)
+Hush w l z s = (is_dynamic w (owner z) ≡ true → High w.order l (level w z s))
+    × (is_dynamic w (owner z) ≡ false → (level w (begun z) s ≡ level w z s) ⊎ High w.order l (authority w (owner z)))
 
 -- so is each slot of those entities
 abbrev pub Quiet : World → ℕ → (ℕ → Bool) → Store → Type 0
@@ -91,7 +92,10 @@ module _ (w : World) (laws : Laws w.order) (l : ℕ) where
   pub hush_raise : (s : Store) (hang : ℕ → Bool) (a : ℕ) → OfDynamic w hang → (z : Slot) → Hush w l z s → Hush w l z (raise w.order hang a s)
   hush_raise s hang a dyn z q = (
     λ d. raise_high w laws l s hang a z (q.0 d),
-    λ d. raise_keeps w s hang a dyn (begun z) (rw (owner_begun z) d) ∙ q.1 d ∙ sym (raise_keeps w s hang a dyn z d),
+    λ d. elim (q.1 d) [
+      | inl e ↦ inl (raise_keeps w s hang a dyn (begun z) (rw (owner_begun z) d) ∙ e ∙ sym (raise_keeps w s hang a dyn z d))
+      | inr h ↦ inr h
+    ],
   )
 
   pub even_raise : (h hang : ℕ → Bool) (s : Store) (a : ℕ) → OfDynamic w hang → Even w h s → Even w h (raise w.order hang a s)
@@ -107,13 +111,29 @@ module _ (w : World) (laws : Laws w.order) (l : ℕ) where
   -- what is raised to a high level is quiet
   pub quiet_raise : (h hang : ℕ → Bool) (a : ℕ) (s : Store) → ((x : ℕ) → (is_dynamic w x && h x) ≡ true → hang x ≡ true) → OfDynamic w hang → High w.order l a → Even w h s → Quiet w l h (raise w.order hang a s)
   quiet_raise h hang a s inn dyn far e z g i =
-      (λ d. raise_to w laws l s hang a z (raises_home w hang z g d (inn (owner z) (and_both _ _ d i))) far, λ d. even_raise h hang s a dyn e z g d i)
+      (λ d. raise_to w laws l s hang a z (raises_home w hang z g d (inn (owner z) (and_both _ _ d i))) far, λ d. inl (even_raise h hang s a dyn e z g d i))
 
   pub confined_self : (s : Store) → Confined w l s (stay s)
   confined_self s = record { same = agree_self w laws l s; quiet = refl }
 
   pub confined_from : (s r : Store) (a : After) → Agree w l s r → Confined w l r a → Confined w l s a
   confined_from s r a e c = record { same = agree_next w laws l s r a.store e c.same; quiet = c.quiet }
+
+  -- what leaves a state that agrees with the one before keeps a slot quiet
+  pub hush_next : (s t : Store) → Agree w l s t → (z : Slot) → changing w z ≡ true → Hush w l z s → Hush w l z t
+  hush_next s t same z g q = (λ d. sym (same.cells z (changing_compared w z g)).low ∙ q.0 d, λ d. part z g d (q.1 d))
+    where
+      part : (z : Slot) → changing w z ≡ true → is_dynamic w (owner z) ≡ false → (level w (begun z) s ≡ level w z s) ⊎ High w.order l (authority w (owner z))
+          → (level w (begun z) t ≡ level w z t) ⊎ High w.order l (authority w (owner z))
+      part (own x) g d e = inl refl
+      part (start m j) g d e = inl refl
+      part (next m j) g d (inr h) = inr h
+      part (next m j) g d (inl e) = elim (cases_Bool (w.order.le (authority w m) l)) [
+        | inl low ↦ inl (sym (same.tags (start m j) g d low) ∙ e ∙ same.tags (next m j) g d low)
+        | inr high ↦ inr high
+      ]
+      part (start_whole m) g d e = inl refl
+      part (next_whole m) g d e = inl refl
 
   module _ (i : Site w) (entering : Entering w l i.kids i.enter) (holding : (n pc : ℕ) → Keeps w (i.enter n pc)) where
     abbrev At : Spot
@@ -128,17 +148,7 @@ module _ (w : World) (laws : Laws w.order) (l : ℕ) where
     pub keeps_block : (b : Block) → ProperBlock w i b → (pc : ℕ) → Keeps w (does_block w At i.enter b pc)
     keeps_block b fine pc = block_holds w At i.siblings landing i.enter holding b (fine_block w i b fine) pc
 
-    -- commands before those that touch a slot keep it quiet
-    pub hush_next : (c : Command) (cs : Block) → Disjoint w i c cs → (pc : ℕ) (s : Store) → Agree w l s (does w At i.enter c pc s).store → (z : Slot) → changing w z ≡ true → block_concerns w i.state i.kids cs (owner z) ≡ true → Hush w l z s → Hush w l z (does w At i.enter c pc s).store
-    hush_next c cs apart pc s same z g h q = (λ d. sym (same.cells z (changing_compared w z g)).low ∙ q.0 d, λ d. part z g h d (q.1 d))
-      where
-        part : (z : Slot) → changing w z ≡ true → block_concerns w i.state i.kids cs (owner z) ≡ true → is_dynamic w (owner z) ≡ false → level w (begun z) s ≡ level w z s → level w (begun z) (does w (spot i) i.enter c pc s).store ≡ level w z (does w (spot i) i.enter c pc s).store
-        part (own x) g h d e = refl
-        part (start m j) g h d e = refl
-        part (next m j) g h d e = let a = apart m g d h in (start_kept w i 0 m g d c a.0 a.1 pc s j).level ∙ e ∙ sym (next_kept w i 0 m g d c a.0 a.1 pc s j).level
-        part (start_whole m) g h d e = refl
-        part (next_whole m) g h d e = refl
-
+    -- commands before those that touch the cells of a memory leave both parts as they were
     pub even_next : (c : Command) (cs : Block) → Disjoint w i c cs → (pc : ℕ) (s : Store) → Even w (block_concerns w i.state i.kids cs) s → Even w (block_concerns w i.state i.kids cs) (does w At i.enter c pc s).store
     even_next c cs apart pc s e z g d h = part z g h d (e z g d h)
       where
@@ -216,11 +226,16 @@ module _ (w : World) (laws : Laws w.order) (l : ℕ) where
             quiet = refl;
           })
       | inr d ↦ rw d (
-          let q = (quiet (next m (value w j b)) fine.0.0 (eq_self m)).1 d in
-          let same : level w (start m (value w j b)) b ≡ level w (next m (value w j b)) r = sym (kept (start m (value w j b)) d) ∙ q in
-          let was : High w.order l (level w (next m (value w j b)) r) = rw (← same) (write_high site m j e pc b d t up) in
+          let was : High w.order l (level w (next m (value w j b)) r) = cell_was d ((quiet (next m (value w j b)) fine.0.0 (eq_self m)).1 d) in
           record { same = agree_hidden w laws l r (next m (value w j b)) _ (λ _. was); quiet = refl })
     ]
+      where
+        cell_was : is_dynamic w m ≡ false → (level w (start m (value w j b)) r ≡ level w (next m (value w j b)) r) ⊎ High w.order l (authority w m)
+            → High w.order l (level w (next m (value w j b)) r)
+        cell_was d (inl q) =
+            let same : level w (start m (value w j b)) b ≡ level w (next m (value w j b)) r = sym (kept (start m (value w j b)) d) ∙ q in
+            rw (← same) (write_high site m j e pc b d t up)
+        cell_was d (inr h) = high_above w.order laws l _ _ (holds.above (next m (value w j b)) fine.0.0 d) h
     step_confined (Retag site x n) fine pc b r kept holds quiet t up =
         let a = retag_high site x n pc b t up in
         let high : High w.order l (new_level w n b) = high_above w.order laws l (authority w x) (new_level w n b) (and_right (w.order.le (w.order.join pc (told w n b)) (authority w x)) _ t) a in
@@ -308,7 +323,7 @@ module _ (w : World) (laws : Laws w.order) (l : ℕ) where
       block_confined (Then c cs) fine pc s holds high quiet =
           let f = does_confined c fine.0 pc s holds high (quiet_left (concerns w i.state i.kids c) (block_concerns w i.state i.kids cs) s quiet) in
           let s' = (does w At i.enter c pc s).store in
-          let g = block_confined cs fine.1 pc s' (keeps c fine.0 pc s holds) high (λ z g h. hush_next c cs fine.2 pc s f.same z g h (quiet z g (or_right (concerns w i.state i.kids c (owner z)) _ h))) in
+          let g = block_confined cs fine.1 pc s' (keeps c fine.0 pc s holds) high (λ z g h. hush_next s s' f.same z g (quiet z g (or_right (concerns w i.state i.kids c (owner z)) _ h))) in
           record { same = agree_next w laws l _ _ _ f.same g.same; quiet = seen_nothing w.order laws l _ _ f.quiet g.quiet }
 
 -- a slot that changes belongs to no state

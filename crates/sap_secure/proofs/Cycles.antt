@@ -9,7 +9,7 @@ use Rattle.sap_meaning.specs.Touches.{among, root_touches}
 use Rattle.sap_meaning.specs.Does.{does_state, does_child}
 use Rattle.sap_meaning.specs.Cycle.{root_fall}
 use Rattle.sap_meaning.specs.Agree.{Low, High}
-use Rattle.sap_meaning.specs.Fine.{number_of}
+use Rattle.sap_meaning.specs.Fine.{OnceState, OnceGroup, number_of}
 use Rattle.sap_meaning.proofs.Bools.{and_left, and_right, and_both, or_right}
 use Rattle.sap_meaning.proofs.Slots.{child_raise}
 use Rattle.sap_meaning.proofs.Trees.{Nth, nth_of}
@@ -23,23 +23,28 @@ use Rattle.sap_secure.proofs.Over.{nth_does, nth_concerns, covered_by, scene_at}
 use Rattle.sap_secure.proofs.Twin.{twin_confined}
 use Rattle.sap_secure.proofs.Pairs.{Pair, Paired, falls, block_pair}
 
+nth_once : (g : Group) (m : ℕ) (a : State) → Nth g m a → OnceGroup g → OnceState a
+nth_once None m a h once = absurd h
+nth_once (More t g) zero a h once = subst OnceState h once.0
+nth_once (More t g) (suc m) a h once = nth_once g m a h once.1
+
 module _ (w : World) (laws : Laws w.order) (l : ℕ) where
   -- two runs of a state that is current and low
   abbrev Law : State → Type 0
-  Law t = (p n : ℕ) (q : Group) → Around w p q → Nth q n t → (pc : ℕ) (s u : Store) → Holds w s → Holds w u → Low w.order l pc → Agree w l s u → Even w (state_concerns w t) s → Even w (state_concerns w t) u → path w l p q s ≡ path w l p q u → child p s ≡ n → child p u ≡ n → Low w.order l (level w (own (number_of t)) s) → Pair w l p q (does_state w t p pc s) (does_state w t p pc u)
+  Law t = OnceState t → (p n : ℕ) (q : Group) → Around w p q → Nth q n t → (pc : ℕ) (s u : Store) → Holds w s → Holds w u → Low w.order l pc → Agree w l s u → Even w (state_concerns w t) s → Even w (state_concerns w t) u → path w l p q s ≡ path w l p q u → child p s ≡ n → child p u ≡ n → Low w.order l (level w (own (number_of t)) s) → Pair w l p q (does_state w t p pc s) (does_state w t p pc u)
 
-  lift : (g : Group) (e : ℕ) → Around w e g → ((m : ℕ) (a : State) → Nth g m a → Law a) → Paired w l e g (does_child w g e)
-  lift g e around laws' m r s u a nth hs hu low like es eu p here there down =
+  lift : (g : Group) (e : ℕ) → Around w e g → ((m : ℕ) (a : State) → Nth g m a → Law a) → OnceGroup g → Paired w l e g (does_child w g e)
+  lift g e around laws' once m r s u a nth hs hu low like es eu p here there down =
       rw (nth_does w g e m a nth r s, nth_does w g e m a nth r u)
-      (laws' m a nth e m g around nth r s u hs hu low like (λ z j d h. es z j d (nth_concerns w g m a nth (owner z) h)) (λ z j d h. eu z j d (nth_concerns w g m a nth (owner z) h)) p here there down)
+      (laws' m a nth (nth_once g m a nth once) e m g around nth r s u hs hu low like (λ z j d h. es z j d (nth_concerns w g m a nth (owner z) h)) (λ z j d h. eu z j d (nth_concerns w g m a nth (owner z) h)) p here there down)
 
   mutual
     unfolding does_state scene_at
 
     state_pair : (t : State) → Law t
-    state_pair (Node e b g) p n q around self pc s u hs hu low like es eu path here there down =
+    state_pair (Node e b g) once p n q around self pc s u hs hu low like es eu path here there down =
         let i = site_at w p n e b g q around self in
-        block_pair w laws l (scene_at w laws l p n e b g q around self) (lift g e (kids_around w i) (λ m a h. group_pair g m a h)) b (proper_body w i) (node w i).closes pc s u low
+        block_pair w laws l (scene_at w laws l p n e b g q around self) (OnceGroup g) (lift g e (kids_around w i) (λ m a h. group_pair g m a h)) b (proper_body w i) once (node w i).closes pc s u low
         (record { first = hs; second = hu; like = like; path = path; here = here; there = there; low = down; even = body_even w laws l i s es; even2 = body_even w laws l i u eu })
 
     group_pair : (g : Group) (m : ℕ) (a : State) → Nth g m a → Law a
@@ -47,7 +52,7 @@ module _ (w : World) (laws : Laws w.order) (l : ℕ) where
     group_pair (More c g) zero a h = subst Law h (state_pair c)
     group_pair (More c g) (suc m) a h = group_pair g m a h
 
-  pub paired_by : (g : Group) (e : ℕ) → Around w e g → Paired w l e g (does_child w g e)
+  pub paired_by : (g : Group) (e : ℕ) → Around w e g → OnceGroup g → Paired w l e g (does_child w g e)
   paired_by g e around = lift g e around (λ m a h. group_pair g m a h)
 
 -- the root's fall is the body of the current top-level state, after the raises
@@ -57,7 +62,7 @@ root_nth w hang p None n a s h = absurd h
 root_nth w hang p (More (Node c b k) g) zero a s h = ap (λ x. does_state w (Node c b k) p (level w (own (number_of x)) s) (raise w.order hang (level w (own (number_of x)) s) s)) h
 root_nth w hang p (More t g) (suc n) a s h = root_nth w hang p g n a s h
 
-module _ (w : World) (laws : Laws w.order) (l : ℕ) (p : ℕ) (g : Group) (around : Around w p g) where
+module _ (w : World) (laws : Laws w.order) (l : ℕ) (p : ℕ) (g : Group) (around : Around w p g) (once : OnceGroup g) where
   abbrev Hung : ℕ → Bool
   Hung = root_touches w g
 
@@ -83,7 +88,7 @@ module _ (w : World) (laws : Laws w.order) (l : ℕ) (p : ℕ) (g : Group) (arou
       let v = raise w.order (root_touches w g) c u in
       let here' : child p r ≡ m = child_raise w.order p (root_touches w g) c s ∙ here in
       let there' : child p v ≡ m = child_raise w.order p (root_touches w g) c u ∙ there ∙ sym mk in
-      let res = paired_by w laws l g p around m c r v a nth (holds_raise w s (root_touches w g) c dyn hs) (holds_raise w u (root_touches w g) c dyn hu) low
+      let res = paired_by w laws l g p around once m c r v a nth (holds_raise w s (root_touches w g) c dyn hs) (holds_raise w u (root_touches w g) c dyn hu) low
       (agree_raised w laws l s u (root_touches w g) c c dyn like (refl, λ _. refl))
       (even_raise w laws l (group_concerns w g) (root_touches w g) s c dyn es) (even_raise w laws l (group_concerns w g) (root_touches w g) u c dyn eu)
       (rw (here', there') (from_raised w laws l g m m s u (root_touches w g) c c (refl, λ _. refl) (rw (here, there, ← mk) at e)))
@@ -109,11 +114,11 @@ module _ (w : World) (laws : Laws w.order) (l : ℕ) (p : ℕ) (g : Group) (arou
       ])
 
 module _ (w : World) (laws : Laws w.order) (l : ℕ) where
-  pub fall_pair : (p : ℕ) (g : Group) (around : Around w p g) (s u : Store) → Holds w s → Holds w u → Agree w l s u → Even w (group_concerns w g) s → Even w (group_concerns w g) u → path w l p g s ≡ path w l p g u → Pair w l p g (root_fall w (root_touches w g) (λ t. does_state w t p) g (child p s) s) (root_fall w (root_touches w g) (λ t. does_state w t p) g (child p u) u)
+  pub fall_pair : (p : ℕ) (g : Group) (around : Around w p g) (once : OnceGroup g) (s u : Store) → Holds w s → Holds w u → Agree w l s u → Even w (group_concerns w g) s → Even w (group_concerns w g) u → path w l p g s ≡ path w l p g u → Pair w l p g (root_fall w (root_touches w g) (λ t. does_state w t p) g (child p s) s) (root_fall w (root_touches w g) (λ t. does_state w t p) g (child p u) u)
   unfolding root_fall
-  fall_pair p None around s u hs hu like es eu e = record { twin = record { same = like; refused = refl }; path = e }
-  fall_pair p (More t g) around s u hs hu like es eu e =
+  fall_pair p None around once s u hs hu like es eu e = record { twin = record { same = like; refused = refl }; path = e }
+  fall_pair p (More t g) around once s u hs hu like es eu e =
       let some : 0 < children w p = rw around.count (omega arith) in
       let a = nth_of (More t g) (child p s) (rw around.count at (hs.seated p some)) in
       let b = nth_of (More t g) (child p u) (rw around.count at (hu.seated p some)) in
-      fall_with w laws l p (More t g) around s u a.0 b.0 a.1 b.1 hs hu like es eu e
+      fall_with w laws l p (More t g) around once s u a.0 b.0 a.1 b.1 hs hu like es eu e

@@ -11,7 +11,7 @@ use Rattle.sap_meaning.specs.Checks.{Spot, site_of, child_level, guard, test}
 use Rattle.sap_meaning.specs.Touches.{among, step_hangs, block_hangs, touches, raised_alone}
 use Rattle.sap_meaning.specs.Does.{effect, attempt, select, branch, does, does_block}
 use Rattle.sap_meaning.specs.Agree.{Low, High}
-use Rattle.sap_meaning.specs.Fine.{FineTerm, transfers, Closes, Final, number_of}
+use Rattle.sap_meaning.specs.Fine.{FineTerm, transfers, Closes, Final, OnceStep, Once, OnceBlock, number_of}
 use Rattle.sap_meaning.proofs.Bools.{or_left, or_right}
 use Rattle.sap_meaning.proofs.Slots.{child_raise, held_state}
 use Rattle.sap_meaning.proofs.Trees.{Nth, nth_same}
@@ -20,7 +20,7 @@ use Rattle.sap_secure.proofs.Levels.{Like, high_right, low_join, seen_parts}
 use Rattle.sap_secure.proofs.Agreeing.{Agree, agree_raised, raise_low, raise_to}
 use Rattle.sap_secure.proofs.Apart.{inside_state, inside_among}
 use Rattle.sap_secure.proofs.Concerns.{step_concerns, concerns, block_concerns, group_concerns, hanging, block_hanging}
-use Rattle.sap_secure.proofs.Sites.{spot, Proper, ProperBlock, ProperStep}
+use Rattle.sap_secure.proofs.Sites.{spot, Proper, ProperBlock, ProperStep, fine_block, apart_from}
 use Rattle.sap_secure.proofs.Confined.{Confined, Quiet, Even, confined_self, quiet_raise, even_raise, even_next, landing, keeps, attempt_confined, select_confined, block_confined, touches_dynamic}
 use Rattle.sap_secure.proofs.Walks.{Stop, path, one, path_here, heads, heads_low, from_raised}
 use Rattle.sap_secure.proofs.Still.{Scene, Cover, child_level_nth, child_opens_nth, touched_in, current, here_path, like_path, attempt_still, select_still, block_still, clear_own, clear_path}
@@ -43,7 +43,7 @@ module _ (w : World) (laws : Laws w.order) (l : ℕ) where
       let p' : one w l n c h s ≡ one w l m d k t = sym (path_here w l e n c i h g s na here) ∙ p ∙ path_here w l e m d j k g t nb there in
       ((heads_low w laws l n m c d h k s t p', λ low. (heads w laws l n m c d h k s t p' low).1), λ low. (heads w laws l n m c d h k s t p' low).0)
 
-  module _ (c : Scene w l) (paired : Paired w l c.site.state c.site.kids c.site.enter) where
+  module _ (c : Scene w l) (below : Type 0) (paired : below → Paired w l c.site.state c.site.kids c.site.enter) where
     abbrev At : Spot
     At = spot c.site
 
@@ -138,21 +138,21 @@ module _ (w : World) (laws : Laws w.order) (l : ℕ) where
         alike i j e y z v = rw (e, v) refl
 
     -- the effects of a transfer under a low guard, from the raised stores
-    effect_pair : (h : ℕ → Bool) (k : Step) → ((x : ℕ) → step_concerns w c.site.state c.site.kids k x ≡ true → h x ≡ true) → transfers k ≡ true → ProperStep w c.site k → (pc : ℕ) (s t r u : Store) → child c.site.state r ≡ child c.site.state s → child c.site.state u ≡ child c.site.state t → Meets h s t → Meets h r u → IsLow pc → IsLow (guard w At k s) → ((z : Slot) → Low w.order l (level w z s) → Low w.order l (level w z r)) → Both (effect w At c.site.enter k pc s r) (effect w At c.site.enter k pc t u)
+    effect_pair : (h : ℕ → Bool) (k : Step) → ((x : ℕ) → step_concerns w c.site.state c.site.kids k x ≡ true → h x ≡ true) → transfers k ≡ true → ProperStep w c.site k → OnceStep below k → (pc : ℕ) (s t r u : Store) → child c.site.state r ≡ child c.site.state s → child c.site.state u ≡ child c.site.state t → Meets h s t → Meets h r u → IsLow pc → IsLow (guard w At k s) → ((z : Slot) → Low w.order l (level w z s) → Low w.order l (level w z r)) → Both (effect w At c.site.enter k pc s r) (effect w At c.site.enter k pc t u)
     unfolding effect
-    effect_pair h (Set site x e) inn moves fine pc s t r u cs ct m v lowpc low up = cc
-    effect_pair h (Write site x j e) inn moves fine pc s t r u cs ct m v lowpc low up = cc
-    effect_pair h (Retag site x n) inn moves fine pc s t r u cs ct m v lowpc low up = cc
-    effect_pair h (RetagCell site x j n) inn moves fine pc s t r u cs ct m v lowpc low up = cc
-    effect_pair h (Goto site target) inn moves fine pc s t r u cs ct m v lowpc low up =
+    effect_pair h (Set site x e) inn moves fine once pc s t r u cs ct m v lowpc low up = cc
+    effect_pair h (Write site x j e) inn moves fine once pc s t r u cs ct m v lowpc low up = cc
+    effect_pair h (Retag site x n) inn moves fine once pc s t r u cs ct m v lowpc low up = cc
+    effect_pair h (RetagCell site x j n) inn moves fine once pc s t r u cs ct m v lowpc low up = cc
+    effect_pair h (Goto site target) inn moves fine once pc s t r u cs ct m v lowpc low up =
         let a = goto_pair w laws l c site target fine pc c.site.enter s t r u v.first v.second v.like in
         record { twin = record { same = a.same; refused = refl }; path = a.path }
-    effect_pair h (Fall site hang) inn moves fine pc s t r u cs ct m v lowpc low up =
+    effect_pair h (Fall site hang) inn moves fine once pc s t r u cs ct m v lowpc low up =
         let f = fall_like h site hang fine s t m in
         let g = current w laws l c site hang fine s m.first in
         let q = w.order.join pc (child_level w c.site.kids (child c.site.state s) s) in
         let down : Low w.order l (level w (own (number_of g.0)) r) = up (own (number_of g.0)) (subst (λ y. Low w.order l y) (child_level_nth w c.site.kids (child c.site.state s) g.0 s g.1) low) in
-        let x = paired (child c.site.state s) q r u g.0 g.1 v.first v.second (low_join w.order laws l _ _ lowpc low) v.like
+        let x = paired once (child c.site.state s) q r u g.0 g.1 v.first v.second (low_join w.order laws l _ _ lowpc low) v.like
         (λ z g d j. v.even z g d (inn (owner z) (or_right (among c.site.kids (owner z)) _ j)))
         (λ z g d j. v.even2 z g d (inn (owner z) (or_right (among c.site.kids (owner z)) _ j)))
         (own_heads h r u v).2 cs (ct ∙ sym (f.1 low)) down in
@@ -181,11 +181,11 @@ module _ (w : World) (laws : Laws w.order) (l : ℕ) where
     }
 
     -- under a low guard
-    lower_pair : (h : ℕ → Bool) (k : Step) → ((x : ℕ) → step_concerns w c.site.state c.site.kids k x ≡ true → h x ≡ true) → transfers k ≡ true → ProperStep w c.site k → (hang : ℕ → Bool) (f : ℕ → Store → After) (pc : ℕ) (s t : Store) → OfDynamic w hang → Meets h s t → IsLow pc → ((r : ℕ) (v z : Store) → IsLow r → Meets h v z → Both (f r v) (f r z)) → IsLow (guard w At k s) → Both (attempt w At c.site.enter k hang f pc s) (attempt w At c.site.enter k hang f pc t)
+    lower_pair : (h : ℕ → Bool) (k : Step) → ((x : ℕ) → step_concerns w c.site.state c.site.kids k x ≡ true → h x ≡ true) → transfers k ≡ true → ProperStep w c.site k → OnceStep below k → (hang : ℕ → Bool) (f : ℕ → Store → After) (pc : ℕ) (s t : Store) → OfDynamic w hang → Meets h s t → IsLow pc → ((r : ℕ) (v z : Store) → IsLow r → Meets h v z → Both (f r v) (f r z)) → IsLow (guard w At k s) → Both (attempt w At c.site.enter k hang f pc s) (attempt w At c.site.enter k hang f pc t)
     unfolding attempt
-    lower_pair h k inn moves fine hang f pc s t dyn m lowpc handler low = elim (cases_Bool (test w At k pc s)) [
+    lower_pair h k inn moves fine once hang f pc s t dyn m lowpc handler low = elim (cases_Bool (test w At k pc s)) [
       | inl a ↦ rw (a, sym (test_same h k moves fine pc s t m low) ∙ a)
-          (effect_pair h k inn moves fine pc s t r u (child_raise w.order c.site.state hang _ s) (child_raise w.order c.site.state hang _ t) m meet lowpc low (λ z up. raise_low w laws l s hang (guard w At k s) z low up))
+          (effect_pair h k inn moves fine once pc s t r u (child_raise w.order c.site.state hang _ s) (child_raise w.order c.site.state hang _ t) m meet lowpc low (λ z up. raise_low w laws l s hang (guard w At k s) z low up))
       | inr a ↦ rw (a, sym (test_same h k moves fine pc s t m low) ∙ a) (again (guard w At k t) ((guard_like h k moves fine s t m).1 low))
     ]
       where
@@ -232,9 +232,9 @@ module _ (w : World) (laws : Laws w.order) (l : ℕ) where
           block_still w laws l c b fine closes r (raise w.order hang a v) (holds_raise w v hang a dyn hv) far q (child_raise w.order c.site.parent hang a v ∙ here) (cover_raised _ hang a v inn fa),
         )
 
-    attempt_pair : (h : ℕ → Bool) (k : Step) → ((x : ℕ) → step_concerns w c.site.state c.site.kids k x ≡ true → h x ≡ true) → transfers k ≡ true → ProperStep w c.site k → (hang : ℕ → Bool) (f : ℕ → Store → After) (pc : ℕ) (s t : Store) → OfDynamic w hang → ((x : ℕ) → (is_dynamic w x && step_hangs c.site.state c.site.kids k x) ≡ true → hang x ≡ true) → Meets h s t → IsLow pc → ((r : ℕ) (v z : Store) → IsLow r → Meets h v z → Both (f r v) (f r z)) → ((r a : ℕ) (v : Store) → Far r → Far a → Holds w v → Even w h v → child c.site.parent v ≡ c.site.index → Side (f r) (raise w.order hang a v)) → Both (attempt w At c.site.enter k hang f pc s) (attempt w At c.site.enter k hang f pc t)
-    attempt_pair h k zin moves fine hang f pc s t dyn inn m lowpc handler side' = elim (cases_Bool (w.order.le (guard w At k s) l)) [
-      | inl low ↦ lower_pair h k zin moves fine hang f pc s t dyn m lowpc handler low
+    attempt_pair : (h : ℕ → Bool) (k : Step) → ((x : ℕ) → step_concerns w c.site.state c.site.kids k x ≡ true → h x ≡ true) → transfers k ≡ true → ProperStep w c.site k → OnceStep below k → (hang : ℕ → Bool) (f : ℕ → Store → After) (pc : ℕ) (s t : Store) → OfDynamic w hang → ((x : ℕ) → (is_dynamic w x && step_hangs c.site.state c.site.kids k x) ≡ true → hang x ≡ true) → Meets h s t → IsLow pc → ((r : ℕ) (v z : Store) → IsLow r → Meets h v z → Both (f r v) (f r z)) → ((r a : ℕ) (v : Store) → Far r → Far a → Holds w v → Even w h v → child c.site.parent v ≡ c.site.index → Side (f r) (raise w.order hang a v)) → Both (attempt w At c.site.enter k hang f pc s) (attempt w At c.site.enter k hang f pc t)
+    attempt_pair h k zin moves fine once hang f pc s t dyn inn m lowpc handler side' = elim (cases_Bool (w.order.le (guard w At k s) l)) [
+      | inl low ↦ lower_pair h k zin moves fine once hang f pc s t dyn m lowpc handler low
       | inr high ↦ (
           let like = guard_like h k moves fine s t m in
           let high' : Far (guard w At k t) = sym like.0 ∙ high in
@@ -269,38 +269,39 @@ module _ (w : World) (laws : Laws w.order) (l : ℕ) where
     mutual
       unfolding does does_block
 
-      pub does_pair : (d : Command) → Proper w c.site d → Final d → (pc : ℕ) (s t : Store) → IsLow pc → Meets (concerns w c.site.state c.site.kids d) s t → Both (does w At c.site.enter d pc s) (does w At c.site.enter d pc t)
-      does_pair (Do k) fine final pc s t low m =
+      pub does_pair : (d : Command) → Proper w c.site d → Once c.site.kids below d → Final d → (pc : ℕ) (s t : Store) → IsLow pc → Meets (concerns w c.site.state c.site.kids d) s t → Both (does w At c.site.enter d pc s) (does w At c.site.enter d pc t)
+      does_pair (Do k) fine once final pc s t low m =
           let hang = raised_alone w At k in
           let dyn : OfDynamic w hang = alone_dynamic w At c.site.siblings (landing w laws l c.site c.entering c.holding) c.site.enter c.holding k in
-          attempt_pair (step_concerns w c.site.state c.site.kids k) k (λ x i. i) final fine hang (λ r v. stay v) pc s t dyn (alone_all k final) m low
+          attempt_pair (step_concerns w c.site.state c.site.kids k) k (λ x i. i) final fine once hang (λ r v. stay v) pc s t dyn (alone_all k final) m low
           (λ r v z lr mv. record { twin = record { same = mv.like; refused = refl }; path = mv.path })
           (λ r a v far fa hv ev here. (confined_self w laws l _, refl))
-      does_pair (Try k hang h) fine final pc s t low m =
+      does_pair (Try k hang h) fine once final pc s t low m =
           let hung = touches w At (Try k hang h) in
           let dyn : OfDynamic w hung = touches_dynamic w laws l c.site c.entering c.holding (Try k hang h) in
-          attempt_pair (concerns w c.site.state c.site.kids (Try k hang h)) k (λ x i. or_left _ (block_concerns w c.site.state c.site.kids h x) i) final.0 fine.0 hung (does_block w At c.site.enter h) pc s t dyn
+          attempt_pair (concerns w c.site.state c.site.kids (Try k hang h)) k (λ x i. or_left _ (block_concerns w c.site.state c.site.kids h x) i) final.0 fine.0 once.0 hung (does_block w At c.site.enter h) pc s t dyn
           (λ x. touched_in (is_dynamic w x) _ _ (λ i. or_left _ (block_hangs c.site.state c.site.kids h x) i)) m low
-          (λ r v z lr mv. block_pair h fine.1 final.1 r v z lr (meets_part (concerns w c.site.state c.site.kids (Try k hang h)) (block_concerns w c.site.state c.site.kids h) v z (λ x i. or_right (step_concerns w c.site.state c.site.kids k x) _ i) mv))
+          (λ r v z lr mv. block_pair h fine.1 once.1 final.1 r v z lr (meets_part (concerns w c.site.state c.site.kids (Try k hang h)) (block_concerns w c.site.state c.site.kids h) v z (λ x i. or_right (step_concerns w c.site.state c.site.kids k x) _ i) mv))
           (λ r a v far fa hv ev here. high_side h fine.1 final.1 hung a (λ x. touched_in (is_dynamic w x) _ _ (λ i. or_right (step_hangs c.site.state c.site.kids k x) _ i)) dyn r v far fa hv (λ z g d i. ev z g d (or_right (step_concerns w c.site.state c.site.kids k (owner z)) _ i)) here)
-      does_pair (If hang e a b) fine final pc s t low m =
+      does_pair (If hang e a b) fine once final pc s t low m =
           let hung = touches w At (If hang e a b) in
           let dyn : OfDynamic w hung = touches_dynamic w laws l c.site c.entering c.holding (If hang e a b) in
           select_pair (concerns w c.site.state c.site.kids (If hang e a b)) e fine.0 hung (branch (does_block w At c.site.enter a) (does_block w At c.site.enter b)) pc s t dyn m low
           (λ i r v z lr mv. branch_both (λ x y. Both x y) (does_block w At c.site.enter a) (does_block w At c.site.enter b) i r v z
-          (block_pair a fine.1 final.0 r v z lr (meets_part (concerns w c.site.state c.site.kids (If hang e a b)) (block_concerns w c.site.state c.site.kids a) v z (λ x i. or_left _ (block_concerns w c.site.state c.site.kids b x) i) mv))
-          (block_pair b fine.2 final.1 r v z lr (meets_part (concerns w c.site.state c.site.kids (If hang e a b)) (block_concerns w c.site.state c.site.kids b) v z (λ x i. or_right (block_concerns w c.site.state c.site.kids a x) _ i) mv)))
+          (block_pair a fine.1 once.0 final.0 r v z lr (meets_part (concerns w c.site.state c.site.kids (If hang e a b)) (block_concerns w c.site.state c.site.kids a) v z (λ x i. or_left _ (block_concerns w c.site.state c.site.kids b x) i) mv))
+          (block_pair b fine.2 once.1 final.1 r v z lr (meets_part (concerns w c.site.state c.site.kids (If hang e a b)) (block_concerns w c.site.state c.site.kids b) v z (λ x i. or_right (block_concerns w c.site.state c.site.kids a x) _ i) mv)))
           (λ i r q v far fa hv ev here. branch_all (λ z. Confined w l (raise w.order hung q v) z × (Path z.store ≡ Path (raise w.order hung q v))) (does_block w At c.site.enter a) (does_block w At c.site.enter b) i r (raise w.order hung q v)
           (high_side a fine.1 final.0 hung q (λ x. touched_in (is_dynamic w x) _ _ (λ i. or_left _ (block_hangs c.site.state c.site.kids b x) i)) dyn r v far fa hv (λ z g d i. ev z g d (or_left _ (block_concerns w c.site.state c.site.kids b (owner z)) i)) here)
           (high_side b fine.2 final.1 hung q (λ x. touched_in (is_dynamic w x) _ _ (λ i. or_right (block_hangs c.site.state c.site.kids a x) _ i)) dyn r v far fa hv (λ z g d i. ev z g d (or_right (block_concerns w c.site.state c.site.kids a (owner z)) _ i)) here))
 
-      pub block_pair : (b : Block) → ProperBlock w c.site b → Closes b → (pc : ℕ) (s t : Store) → IsLow pc → Meets (block_concerns w c.site.state c.site.kids b) s t → Both (does_block w At c.site.enter b pc s) (does_block w At c.site.enter b pc t)
-      block_pair End fine closes pc s t low m = absurd closes
-      block_pair (Then d End) fine closes pc s t low m =
-          let f = does_pair d fine.0 closes pc s t low (meets_part (block_concerns w c.site.state c.site.kids (Then d End)) (concerns w c.site.state c.site.kids d) s t (λ x i. or_left _ false i) m) in
+      pub block_pair : (b : Block) → ProperBlock w c.site b → OnceBlock c.site.kids below b → Closes b → (pc : ℕ) (s t : Store) → IsLow pc → Meets (block_concerns w c.site.state c.site.kids b) s t → Both (does_block w At c.site.enter b pc s) (does_block w At c.site.enter b pc t)
+      block_pair End fine once closes pc s t low m = absurd closes
+      block_pair (Then d End) fine once closes pc s t low m =
+          let f = does_pair d fine.0 once.0 closes pc s t low (meets_part (block_concerns w c.site.state c.site.kids (Then d End)) (concerns w c.site.state c.site.kids d) s t (λ x i. or_left _ false i) m) in
           record { twin = record { same = f.twin.same; refused = seen_parts w.order laws l _ [] _ [] f.twin.refused refl }; path = f.path }
-      block_pair (Then d (Then j js)) fine closes pc s t low m =
-          let f = does_twin w laws l c.site c.entering c.holding d fine.0 closes.0 pc s t m.first m.second low m.like
+      block_pair (Then d (Then j js)) fine once closes pc s t low m =
+          let apart = apart_from w c.site d (Then j js) (fine_block w c.site (Then j js) fine.1) closes.0 once.2 in
+          let f = does_twin w laws l c.site c.entering c.holding below d fine.0 once.0 closes.0 pc s t m.first m.second low m.like
           (λ z g e i. m.even z g e (or_left _ (block_concerns w c.site.state c.site.kids (Then j js) (owner z)) i))
           (λ z g e i. m.even2 z g e (or_left _ (block_concerns w c.site.state c.site.kids (Then j js) (owner z)) i)) in
           let a = clear_own w laws l c d fine.0 closes.0 pc s in
@@ -313,8 +314,8 @@ module _ (w : World) (laws : Laws w.order) (l : ℕ) where
             here = a.seat ∙ m.here;
             there = b.seat ∙ m.there;
             low = subst (λ v. Low w.order l v) (sym a.level) m.low;
-            even = even_next w laws l c.site c.entering c.holding d (Then j js) fine.2 pc s (λ z g e i. m.even z g e (or_right (concerns w c.site.state c.site.kids d (owner z)) _ i));
-            even2 = even_next w laws l c.site c.entering c.holding d (Then j js) fine.2 pc t (λ z g e i. m.even2 z g e (or_right (concerns w c.site.state c.site.kids d (owner z)) _ i));
+            even = even_next w laws l c.site c.entering c.holding d (Then j js) apart pc s (λ z g e i. m.even z g e (or_right (concerns w c.site.state c.site.kids d (owner z)) _ i));
+            even2 = even_next w laws l c.site c.entering c.holding d (Then j js) apart pc t (λ z g e i. m.even2 z g e (or_right (concerns w c.site.state c.site.kids d (owner z)) _ i));
           } in
-          let g = block_pair (Then j js) fine.1 closes.1 pc (does w At c.site.enter d pc s).store (does w At c.site.enter d pc t).store low next in
+          let g = block_pair (Then j js) fine.1 once.1 closes.1 pc (does w At c.site.enter d pc s).store (does w At c.site.enter d pc t).store low next in
           record { twin = record { same = g.twin.same; refused = seen_parts w.order laws l _ _ _ _ f.refused g.twin.refused }; path = g.path }

@@ -142,7 +142,7 @@ module _ (p : Program) (fine : FineProgram p) (l : ℕ) where
       let t' = set_inputs p.world b t in
       let like = agree_inputs s t a b r same in
       let e = path_inputs s a ∙ paths_same p.world fine.order l (root p.world) p.states around s t rs.holds rt.holds r.paths ∙ sym (path_inputs t b) in
-      let f = fall_pair p.world fine.order l (root p.world) p.states around s' t' (holds_inputs p.world s a fine.inputs rs.holds) (holds_inputs p.world t b fine.inputs rt.holds) like (even_inputs s a rs.rests) (even_inputs t b rt.rests) e in
+      let f = fall_pair p.world fine.order l (root p.world) p.states around fine.once s' t' (holds_inputs p.world s a fine.inputs rs.holds) (holds_inputs p.world t b fine.inputs rt.holds) like (even_inputs s a rs.rests) (even_inputs t b rt.rests) e in
       (states_agree p fine.order l _ _ around (cycle_rests p fine a s rs).holds (cycle_rests p fine b t rt).holds (agree_settle _ _ f.twin.same) (path_settle _ ∙ f.path ∙ sym (path_settle _)), f.twin.refused)
 
 pub one_cycle_law : OneCycle

@@ -5,7 +5,7 @@ use Rattle.sap_meaning.specs.Program.{World, children, is_dynamic, is_memory, is
 use Rattle.sap_meaning.specs.Store.{Store, After}
 use Rattle.sap_meaning.specs.Checks.{Spot}
 use Rattle.sap_meaning.specs.Touches.{among}
-use Rattle.sap_meaning.specs.Fine.{FineTerm, FineStep, FineCommand, FineBlock, FineNode, FineState, FineGroup, Open, OpenBlock, Closes, Final, Once, OnceBlock, writes, reaches, block_reaches, step_retags, retags, block_retags, inside, size}
+use Rattle.sap_meaning.specs.Fine.{FineTerm, FineStep, FineCommand, FineBlock, FineNode, FineState, FineGroup, Open, OpenBlock, Closes, Final, writes, reaches, block_reaches, step_retags, retags, block_retags, inside, size}
 use Rattle.sap_meaning.proofs.Bools.{and_left, and_right, and_false, or_right, or_of, or_false, neither_left, neither_right, not_true, same_number}
 use Rattle.sap_meaning.proofs.Trees.{Nth, nth_fine}
 use Rattle.sap_secure.proofs.Concerns.{block_concerns}
@@ -101,11 +101,11 @@ module _ (w : World) where
   pub no_kid : (i : Site w) (x : ℕ) → is_state w x ≡ false → among i.kids x ≡ false
   no_kid i x s = apart_of w i.kids 0 i.kids (own_fine i).1 x s
 
--- What is known of a command in a state's body. Before a list that an enforced memory concerns, a command is open and does
--- not write that memory.
+-- what is known of a command in a state's body
 abbrev pub ProperStep : (w : World) → Site w → Step → Type 0
 ProperStep w i k = FineStep w i.siblings i.kids k × ((x : ℕ) → mine i x ≡ true → step_retags k x ≡ false)
 
+-- before a list that an enforced memory concerns, a command is open and does not write that memory
 abbrev pub Disjoint : (w : World) → Site w → Command → Block → Type 0
 Disjoint w i c cs = (m : ℕ) → is_memory w m ≡ true → is_dynamic w m ≡ false → block_concerns w i.state i.kids cs m ≡ true → Open c × (writes c m ≡ false)
 
@@ -117,7 +117,7 @@ abbrev mutual
 
   pub ProperBlock : (w : World) → Site w → Block → Type 0
   ProperBlock w i End = Unit {0}
-  ProperBlock w i (Then c cs) = Proper w i c × ProperBlock w i cs × Disjoint w i c cs
+  ProperBlock w i (Then c cs) = Proper w i c × ProperBlock w i cs
 
 -- whether it closes or is open
 abbrev pub Shut : Block → Type 0
@@ -133,7 +133,7 @@ module _ (w : World) (i : Site w) where
   abbrev UnmarkedBlock : Block → Type 0
   UnmarkedBlock b = (x : ℕ) → mine i x ≡ true → block_retags b x ≡ false
 
-  apart_from : (c : Command) (cs : Block) → FineBlock w i.siblings i.kids cs → Open c → ((m : ℕ) → (reaches i.kids c m && block_reaches i.kids cs m) ≡ false) → Disjoint w i c cs
+  pub apart_from : (c : Command) (cs : Block) → FineBlock w i.siblings i.kids cs → Open c → ((m : ℕ) → (reaches i.kids c m && block_reaches i.kids cs m) ≡ false) → Disjoint w i c cs
   apart_from c cs fine open_ once m mem d h =
       let s : is_state w m ≡ false = no_state w m (or_right _ _ mem) in
       let r : block_reaches i.kids cs m ≡ true = block_hung w m mem d i.state i.kids (not_own w i m s) (no_kid w i m s) i.siblings i.kids cs fine h in
@@ -141,28 +141,22 @@ module _ (w : World) (i : Site w) where
       (open_, not_true (writes c m) (λ y. let z = writes_within w i.kids m c y in cc))
 
   mutual
-    pub proper : (c : Command) → FineCommand w i.siblings i.kids c → Once i.kids c → Unmarked c → Ended c → Proper w i c
-    proper (Do k) fine once un ends = (fine, un)
-    proper (Try k hang h) fine once un ends = (
+    pub proper : (c : Command) → FineCommand w i.siblings i.kids c → Unmarked c → Proper w i c
+    proper (Do k) fine un = (fine, un)
+    proper (Try k hang h) fine un = (
       (fine.0, λ x m. neither_left _ _ (un x m)),
-      proper_block h fine.1 once.0 (λ x m. neither_right (step_retags k x) _ (un x m)) (elim ends [ inl f ↦ inl f.1 | inr f ↦ inr f.1 ]),
+      proper_block h fine.1 (λ x m. neither_right (step_retags k x) _ (un x m)),
     )
-    proper (If hang e a b) fine once un ends = (
+    proper (If hang e a b) fine un = (
       fine.0,
-      proper_block a fine.1 once.0 (λ x m. neither_left _ _ (un x m)) (elim ends [ inl f ↦ inl f.0 | inr f ↦ inr f.0 ]),
-      proper_block b fine.2 once.1 (λ x m. neither_right (block_retags a x) _ (un x m)) (elim ends [ inl f ↦ inl f.1 | inr f ↦ inr f.1 ]),
+      proper_block a fine.1 (λ x m. neither_left _ _ (un x m)),
+      proper_block b fine.2 (λ x m. neither_right (block_retags a x) _ (un x m)),
     )
 
-    pub proper_block : (b : Block) → FineBlock w i.siblings i.kids b → OnceBlock i.kids b → UnmarkedBlock b → Shut b → ProperBlock w i b
-    proper_block End fine once un shut = tt
-    proper_block (Then c End) fine once un shut =
-        (proper c fine.0 once.0 (λ x m. neither_left _ _ (un x m)) (elim shut [ inl f ↦ inl f | inr f ↦ inr f.0 ]), tt, λ m mem d h. cc)
-    proper_block (Then c (Then d ds)) fine once un shut =
-        let opened : Open c = elim shut [ inl f ↦ f.0 | inr f ↦ f.0 ] in (
-          proper c fine.0 once.0 (λ x m. neither_left _ _ (un x m)) (inr opened),
-          proper_block (Then d ds) fine.1 once.1 (λ x m. neither_right (retags c x) _ (un x m)) (elim shut [ inl f ↦ inl f.1 | inr f ↦ inr f.1 ]),
-          apart_from c (Then d ds) fine.1 opened once.2,
-        )
+    pub proper_block : (b : Block) → FineBlock w i.siblings i.kids b → UnmarkedBlock b → ProperBlock w i b
+    proper_block End fine un = tt
+    proper_block (Then c cs) fine un =
+        (proper c fine.0 (λ x m. neither_left _ _ (un x m)), proper_block cs fine.1 (λ x m. neither_right (retags c x) _ (un x m)))
 
   body_unmarked : UnmarkedBlock i.body
   body_unmarked x h = elim (or_of (nat_eq x i.state) _ h) [
@@ -171,7 +165,7 @@ module _ (w : World) (i : Site w) where
   ]
 
   pub proper_body : ProperBlock w i i.body
-  proper_body = proper_block i.body (node w i).steps (node w i).once body_unmarked (inl (node w i).closes)
+  proper_body = proper_block i.body (node w i).steps body_unmarked
 
 -- what the keeping of states asks of it
 mutual

@@ -334,7 +334,7 @@ module _ (w : World) (laws : Laws w.order) (l : ℕ) where
           let s' = (does w At c.site.enter d pc s).store in
           let k = clear_own d fine.0 closes.0 pc s in
           block_still (Then j js) fine.1 closes.1 pc s' (keeps w laws l c.site c.entering c.holding d fine.0 pc s holds) high
-          (λ z g h. hush_next w laws l c.site c.entering c.holding d (Then j js) fine.2 pc s f.same z g h (quiet z g (or_right (concerns w c.site.state c.site.kids d (owner z)) _ h)))
+          (λ z g h. hush_next w laws l s s' f.same z g (quiet z g (or_right (concerns w c.site.state c.site.kids d (owner z)) _ h)))
           (k.seat ∙ here)
           (cover_kept c.site _ s s' (λ x m. clear d fine.0 closes.0 pc s c.site.state x m) (cover_part _ _ _ _ s (λ x. touched_in (is_dynamic w x) _ _ (λ i. or_right (hangs c.site.state c.site.kids d x) _ i)) cover))
           ∙ clear_path d fine.0 closes.0 pc s here

@@ -11,14 +11,14 @@ use Rattle.sap_meaning.specs.Checks.{Spot, site_of, guard, test}
 use Rattle.sap_meaning.specs.Touches.{touches, raised_alone}
 use Rattle.sap_meaning.specs.Does.{effect, attempt, select, branch, does, does_block}
 use Rattle.sap_meaning.specs.Agree.{Low, High, seen}
-use Rattle.sap_meaning.specs.Fine.{FineTerm, FineLevel, transfers, Open, OpenBlock}
+use Rattle.sap_meaning.specs.Fine.{FineTerm, FineLevel, transfers, Open, OpenBlock, Once, OnceBlock}
 use Rattle.sap_meaning.proofs.Bools.{and_left, or_left, or_right, same_number, eq_self}
 use Rattle.sap_meaning.proofs.Slots.{held_register}
 use Rattle.sap_meaning.proofs.Keeps.{OfDynamic, Keeps, branch_all, holds_raise, alone_dynamic}
 use Rattle.sap_secure.proofs.Levels.{Like, Same, high_right, low_below, low_left, low_right, low_join, not_below, same_high, seen_parts}
 use Rattle.sap_secure.proofs.Agreeing.{compared, Agree, sole_own, sole_cell, agree_flip, agree_next, agree_number, agree_write, agree_hidden, agree_raised, raise_to}
 use Rattle.sap_secure.proofs.Concerns.{step_concerns, concerns, block_concerns, hanging}
-use Rattle.sap_secure.proofs.Sites.{Site, spot, Proper, ProperBlock, ProperStep}
+use Rattle.sap_secure.proofs.Sites.{Site, spot, Proper, ProperBlock, ProperStep, fine_block, apart_from}
 use Rattle.sap_secure.proofs.Confined.{held_target, Confined, Entering, Quiet, Even, confined_self, quiet_raise, even_raise, even_next, landing, keeps, attempt_confined, select_confined, block_confined, touches_dynamic, quiet_left, quiet_right}
 
 -- two results that look alike
@@ -309,11 +309,11 @@ module _ (w : World) (laws : Laws w.order) (l : ℕ) where
     alone_quiet : (k : Step) → ProperStep w i k → transfers k ≡ false → (s : Store) → Even w (step_concerns w i.state i.kids k) s → High w.order l (guard w At k s) → Quiet w l (step_concerns w i.state i.kids k) (raise w.order (raised_alone w At k) (guard w At k s) s)
     alone_quiet (Set site x e) fine plain s even high z g h = (
       λ d. (let dx : is_dynamic w x ≡ true = rw (same_number (owner z) x h) at d in let high' = rw dx at high in let low = laws.least_of_all l in cc),
-      λ d. even_raise w laws l (step_concerns w i.state i.kids (Set site x e)) (λ y. false) s _ (λ y h. cc) even z g d h,
+      λ d. inl (even_raise w laws l (step_concerns w i.state i.kids (Set site x e)) (λ y. false) s _ (λ y h. cc) even z g d h),
     )
     alone_quiet (Write site m j e) fine plain s even high z g h = (
       λ d. (let dx : is_dynamic w m ≡ true = rw (same_number (owner z) m h) at d in let high' = rw dx at high in let low = laws.least_of_all l in cc),
-      λ d. even_raise w laws l (step_concerns w i.state i.kids (Write site m j e)) (λ y. false) s _ (λ y h. cc) even z g d h,
+      λ d. inl (even_raise w laws l (step_concerns w i.state i.kids (Write site m j e)) (λ y. false) s _ (λ y h. cc) even z g d h),
     )
     alone_quiet (Retag site x n) fine plain s even high z g h = cc
     alone_quiet (RetagCell site m j n) fine plain s even high z g h = cc
@@ -349,52 +349,54 @@ module _ (w : World) (laws : Laws w.order) (l : ℕ) where
         (block_confined w laws l i entering holding a fine.1 z r (holds_raise w s hung _ dyn hs) up (quiet_left w laws l i entering holding (block_concerns w i.state i.kids a) (block_concerns w i.state i.kids b) r q))
         (block_confined w laws l i entering holding b fine.2 z r (holds_raise w s hung _ dyn hs) up (quiet_right w laws l i entering holding (block_concerns w i.state i.kids a) (block_concerns w i.state i.kids b) r q)))
 
-    mutual
-      unfolding does does_block
+    module _ (below : Type 0) where
+      mutual
+        unfolding does does_block
 
-      pub does_twin : (c : Command) → Proper w i c → Open c → (pc : ℕ) (s t : Store) → Holds w s → Holds w t → IsLow pc → Agree w l s t → Even w (concerns w i.state i.kids c) s → Even w (concerns w i.state i.kids c) t → Twin w l (does w At i.enter c pc s) (does w At i.enter c pc t)
-      does_twin (Do k) fine plain pc s t hs ht low like es et =
-          let hang = raised_alone w At k in
-          let dyn : OfDynamic w hang = alone_dynamic w At i.siblings (landing w laws l i entering holding) i.enter holding k in
-          elim (cases_Bool (w.order.le (guard w At k s) l)) [
-            | inl g ↦ attempt_low k fine plain hang (λ q s. stay s) pc s t dyn hs ht low like g (λ x. false) (λ z g d h. cc) (λ z g d h. cc) (λ q r u hr hu lq e er eu. record { same = e; refused = refl })
-            | inr g ↦ (
-                let g' = sym (guard_same k fine plain s t like) ∙ g in
-                twin_confined (raise w.order hang (guard w At k s) s) (raise w.order hang (guard w At k t) t) _ _ (agree_raised w laws l s t hang _ _ dyn like (guard_same k fine plain s t like, λ lo. guard_low k fine plain s t like lo))
-                (attempt_confined w laws l i entering holding k fine hang (λ q s. stay s) pc s dyn hs (alone_quiet k fine plain s es g) (inr g) (λ q up. confined_self w laws l _))
-                (attempt_confined w laws l i entering holding k fine hang (λ q s. stay s) pc t dyn ht (alone_quiet k fine plain t et g') (inr g') (λ q up. confined_self w laws l _)))
-          ]
-      does_twin (Try k hang h) fine plain pc s t hs ht low like es et =
-          let hung = touches w At (Try k hang h) in
-          let dyn : OfDynamic w hung = touches_dynamic w laws l i entering holding (Try k hang h) in
-          elim (cases_Bool (w.order.le (guard w At k s) l)) [
-            | inl g ↦ attempt_low k fine.0 plain.0 hung (does_block w At i.enter h) pc s t dyn hs ht low like g (block_concerns w i.state i.kids h)
-                (even_right (step_concerns w i.state i.kids k) (block_concerns w i.state i.kids h) s es) (even_right (step_concerns w i.state i.kids k) (block_concerns w i.state i.kids h) t et)
-                (λ q r u hr hu lq e er eu. block_twin h fine.1 plain.1 q r u hr hu lq e er eu)
-            | inr g ↦ (
-                let g' = sym (guard_same k fine.0 plain.0 s t like) ∙ g in
-                twin_confined (raise w.order hung (guard w At k s) s) (raise w.order hung (guard w At k t) t) _ _ (agree_raised w laws l s t hung _ _ dyn like (guard_same k fine.0 plain.0 s t like, λ lo. guard_low k fine.0 plain.0 s t like lo))
-                (try_side k hang h fine pc s hs es g)
-                (try_side k hang h fine pc t ht et g'))
-          ]
-      does_twin (If hang e a b) fine plain pc s t hs ht low like es et =
-          let hung = touches w At (If hang e a b) in
-          let dyn : OfDynamic w hung = touches_dynamic w laws l i entering holding (If hang e a b) in
-          elim (cases_Bool (w.order.le (tag w e s) l)) [
-            | inl g ↦ select_low e fine.0 hung (branch (does_block w At i.enter a) (does_block w At i.enter b)) pc s t dyn hs ht low like g (concerns w i.state i.kids (If hang e a b)) es et
-                (λ v q r u hr hu lq k er eu. branch_both (λ y z. Twin w l y z) (does_block w At i.enter a) (does_block w At i.enter b) v q r u
-                (block_twin a fine.1 plain.0 q r u hr hu lq k (even_left (block_concerns w i.state i.kids a) (block_concerns w i.state i.kids b) r er) (even_left (block_concerns w i.state i.kids a) (block_concerns w i.state i.kids b) u eu))
-                (block_twin b fine.2 plain.1 q r u hr hu lq k (even_right (block_concerns w i.state i.kids a) (block_concerns w i.state i.kids b) r er) (even_right (block_concerns w i.state i.kids a) (block_concerns w i.state i.kids b) u eu)))
-            | inr g ↦ twin_confined (raise w.order hung (tag w e s) s) (raise w.order hung (tag w e t) t) _ _ (agree_raised w laws l s t hung _ _ dyn like (tag_same e fine.0 s t like, λ lo. tag_low e fine.0 s t like lo))
-                (if_side hang e a b fine pc s hs es g)
-                (if_side hang e a b fine pc t ht et (sym (tag_same e fine.0 s t like) ∙ g))
-          ]
+        pub does_twin : (c : Command) → Proper w i c → Once i.kids below c → Open c → (pc : ℕ) (s t : Store) → Holds w s → Holds w t → IsLow pc → Agree w l s t → Even w (concerns w i.state i.kids c) s → Even w (concerns w i.state i.kids c) t → Twin w l (does w At i.enter c pc s) (does w At i.enter c pc t)
+        does_twin (Do k) fine once plain pc s t hs ht low like es et =
+            let hang = raised_alone w At k in
+            let dyn : OfDynamic w hang = alone_dynamic w At i.siblings (landing w laws l i entering holding) i.enter holding k in
+            elim (cases_Bool (w.order.le (guard w At k s) l)) [
+              | inl g ↦ attempt_low k fine plain hang (λ q s. stay s) pc s t dyn hs ht low like g (λ x. false) (λ z g d h. cc) (λ z g d h. cc) (λ q r u hr hu lq e er eu. record { same = e; refused = refl })
+              | inr g ↦ (
+                  let g' = sym (guard_same k fine plain s t like) ∙ g in
+                  twin_confined (raise w.order hang (guard w At k s) s) (raise w.order hang (guard w At k t) t) _ _ (agree_raised w laws l s t hang _ _ dyn like (guard_same k fine plain s t like, λ lo. guard_low k fine plain s t like lo))
+                  (attempt_confined w laws l i entering holding k fine hang (λ q s. stay s) pc s dyn hs (alone_quiet k fine plain s es g) (inr g) (λ q up. confined_self w laws l _))
+                  (attempt_confined w laws l i entering holding k fine hang (λ q s. stay s) pc t dyn ht (alone_quiet k fine plain t et g') (inr g') (λ q up. confined_self w laws l _)))
+            ]
+        does_twin (Try k hang h) fine once plain pc s t hs ht low like es et =
+            let hung = touches w At (Try k hang h) in
+            let dyn : OfDynamic w hung = touches_dynamic w laws l i entering holding (Try k hang h) in
+            elim (cases_Bool (w.order.le (guard w At k s) l)) [
+              | inl g ↦ attempt_low k fine.0 plain.0 hung (does_block w At i.enter h) pc s t dyn hs ht low like g (block_concerns w i.state i.kids h)
+                  (even_right (step_concerns w i.state i.kids k) (block_concerns w i.state i.kids h) s es) (even_right (step_concerns w i.state i.kids k) (block_concerns w i.state i.kids h) t et)
+                  (λ q r u hr hu lq e er eu. block_twin h fine.1 once.1 plain.1 q r u hr hu lq e er eu)
+              | inr g ↦ (
+                  let g' = sym (guard_same k fine.0 plain.0 s t like) ∙ g in
+                  twin_confined (raise w.order hung (guard w At k s) s) (raise w.order hung (guard w At k t) t) _ _ (agree_raised w laws l s t hung _ _ dyn like (guard_same k fine.0 plain.0 s t like, λ lo. guard_low k fine.0 plain.0 s t like lo))
+                  (try_side k hang h fine pc s hs es g)
+                  (try_side k hang h fine pc t ht et g'))
+            ]
+        does_twin (If hang e a b) fine once plain pc s t hs ht low like es et =
+            let hung = touches w At (If hang e a b) in
+            let dyn : OfDynamic w hung = touches_dynamic w laws l i entering holding (If hang e a b) in
+            elim (cases_Bool (w.order.le (tag w e s) l)) [
+              | inl g ↦ select_low e fine.0 hung (branch (does_block w At i.enter a) (does_block w At i.enter b)) pc s t dyn hs ht low like g (concerns w i.state i.kids (If hang e a b)) es et
+                  (λ v q r u hr hu lq k er eu. branch_both (λ y z. Twin w l y z) (does_block w At i.enter a) (does_block w At i.enter b) v q r u
+                  (block_twin a fine.1 once.0 plain.0 q r u hr hu lq k (even_left (block_concerns w i.state i.kids a) (block_concerns w i.state i.kids b) r er) (even_left (block_concerns w i.state i.kids a) (block_concerns w i.state i.kids b) u eu))
+                  (block_twin b fine.2 once.1 plain.1 q r u hr hu lq k (even_right (block_concerns w i.state i.kids a) (block_concerns w i.state i.kids b) r er) (even_right (block_concerns w i.state i.kids a) (block_concerns w i.state i.kids b) u eu)))
+              | inr g ↦ twin_confined (raise w.order hung (tag w e s) s) (raise w.order hung (tag w e t) t) _ _ (agree_raised w laws l s t hung _ _ dyn like (tag_same e fine.0 s t like, λ lo. tag_low e fine.0 s t like lo))
+                  (if_side hang e a b fine pc s hs es g)
+                  (if_side hang e a b fine pc t ht et (sym (tag_same e fine.0 s t like) ∙ g))
+            ]
 
-      pub block_twin : (b : Block) → ProperBlock w i b → OpenBlock b → (pc : ℕ) (s t : Store) → Holds w s → Holds w t → IsLow pc → Agree w l s t → Even w (block_concerns w i.state i.kids b) s → Even w (block_concerns w i.state i.kids b) t → Twin w l (does_block w At i.enter b pc s) (does_block w At i.enter b pc t)
-      block_twin End fine plain pc s t hs ht low like es et = record { same = like; refused = refl }
-      block_twin (Then c cs) fine plain pc s t hs ht low like es et =
-          let f = does_twin c fine.0 plain.0 pc s t hs ht low like (even_left (concerns w i.state i.kids c) (block_concerns w i.state i.kids cs) s es) (even_left (concerns w i.state i.kids c) (block_concerns w i.state i.kids cs) t et) in
-          let g = block_twin cs fine.1 plain.1 pc (does w At i.enter c pc s).store (does w At i.enter c pc t).store (keeps w laws l i entering holding c fine.0 pc s hs) (keeps w laws l i entering holding c fine.0 pc t ht) low f.same
-          (even_next w laws l i entering holding c cs fine.2 pc s (even_right (concerns w i.state i.kids c) (block_concerns w i.state i.kids cs) s es))
-          (even_next w laws l i entering holding c cs fine.2 pc t (even_right (concerns w i.state i.kids c) (block_concerns w i.state i.kids cs) t et)) in
-          record { same = g.same; refused = seen_parts w.order laws l _ _ _ _ f.refused g.refused }
+        pub block_twin : (b : Block) → ProperBlock w i b → OnceBlock i.kids below b → OpenBlock b → (pc : ℕ) (s t : Store) → Holds w s → Holds w t → IsLow pc → Agree w l s t → Even w (block_concerns w i.state i.kids b) s → Even w (block_concerns w i.state i.kids b) t → Twin w l (does_block w At i.enter b pc s) (does_block w At i.enter b pc t)
+        block_twin End fine once plain pc s t hs ht low like es et = record { same = like; refused = refl }
+        block_twin (Then c cs) fine once plain pc s t hs ht low like es et =
+            let apart = apart_from w i c cs (fine_block w i cs fine.1) plain.0 once.2 in
+            let f = does_twin c fine.0 once.0 plain.0 pc s t hs ht low like (even_left (concerns w i.state i.kids c) (block_concerns w i.state i.kids cs) s es) (even_left (concerns w i.state i.kids c) (block_concerns w i.state i.kids cs) t et) in
+            let g = block_twin cs fine.1 once.1 plain.1 pc (does w At i.enter c pc s).store (does w At i.enter c pc t).store (keeps w laws l i entering holding c fine.0 pc s hs) (keeps w laws l i entering holding c fine.0 pc t ht) low f.same
+            (even_next w laws l i entering holding c cs apart pc s (even_right (concerns w i.state i.kids c) (block_concerns w i.state i.kids cs) s es))
+            (even_next w laws l i entering holding c cs apart pc t (even_right (concerns w i.state i.kids c) (block_concerns w i.state i.kids cs) t et)) in
+            record { same = g.same; refused = seen_parts w.order laws l _ _ _ _ f.refused g.refused }

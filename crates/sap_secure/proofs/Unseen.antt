@@ -238,7 +238,7 @@ module _ (w : World) (laws : Laws w.order) (l : ℕ) where
 module _ (w : World) (laws : Laws w.order) (l : ℕ) (i : Site w) (c : Command) (fine : Proper w i c) (s : Store) where
   -- what the conditions say of the slots that it touches
   quiet_of : ((x : ℕ) → (is_register w x || is_memory w x) ≡ true → touches w (spot i) c x ≡ true → High w.order l (s.level (level_slot w x))) → ((m : ℕ) → is_memory w m ≡ true → is_dynamic w m ≡ false → reaches i.kids c m ≡ true → EqualParts w m s) → Quiet w l (concerns w i.state i.kids c) s
-  quiet_of f g (own x) k h = (λ d. dynamic d (cases_Bool (is_register w x)), λ d. refl)
+  quiet_of f g (own x) k h = (λ d. dynamic d (cases_Bool (is_register w x)), λ d. inl refl)
     where
       dynamic : is_dynamic w x ≡ true → ((is_register w x ≡ true) ⊎ (is_register w x ≡ false)) → High w.order l (s.level (own x))
       dynamic d (inl r) =
@@ -256,7 +256,7 @@ module _ (w : World) (laws : Laws w.order) (l : ℕ) (i : Site w) (c : Command) 
     λ d. (let high = f m (or_right _ _ k) (hanging w i.state i.kids c m (and_both _ _ d h)) in let high' = rw k at high in subst (λ z. High w.order l (s.level z)) (sym (whole m j d)) high'),
     λ d. (let st = changing_no_state w (next m j) k in
         let r = hung w m k d i.state i.kids (not_own w i m st) (no_kid w i m st) i.siblings i.kids c (fine_command w i c fine) h in
-        (g m k d r j).1),
+        inl (g m k d r j).1),
   )
     where
       whole : (m j : ℕ) → is_dynamic w m ≡ true → home w (next m j) ≡ next_whole m

@@ -3,7 +3,7 @@ use Rattle.std.proofs.Common.{◌≡◌, ℕ, zero, suc, ◌+◌, ◌<◌, ◌�
 use Rattle.std.specs.Prelude.{Option}
 use Rattle.sap_tree.specs.declared.syntax.Cmd.{Cmd}
 use Rattle.sap_tree.specs.declared.syntax.Block.{Block}
-use Rattle.sap_tree.specs.Trees.{command_of, commands_of, block_of, else_of}
+use Rattle.sap_tree.specs.Trees.{command_of, block_of, else_of}
 use Rattle.sap_names.specs.declared.fault.Fault.{Fault}
 use Rattle.sap_names.specs.Best.{best_of}
 use Rattle.sap_names.specs.declared.entity.Entity.{Entity}

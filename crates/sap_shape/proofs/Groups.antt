@@ -1,20 +1,20 @@
 -- The faults of groups of states, from a place on.
-use Rattle.std.proofs.Common.{◌≡◌, ℕ, zero, suc, ◌+◌, ◌<◌, ◌≤◌, List, [], ◌∷◌, ◌++◌, length, get_or, drop, refl, sym, ap, ◌∙◌, arith, add-one, None, append_assoc}
+use Rattle.std.proofs.Common.{◌≡◌, ℕ, zero, suc, ◌+◌, ◌<◌, ◌≤◌, List, [], ◌∷◌, ◌++◌, length, get_or, drop, refl, sym, ap, ◌∙◌, arith, add-one, append-nil, Bool, true, false, if◌then◌else◌}
 use Rattle.std.specs.Prelude.{Option}
 use Rattle.sap_tree.specs.declared.syntax.State.{State, out-State}
-use Rattle.sap_tree.specs.Trees.{state_of, states_of, block_of}
+use Rattle.sap_tree.specs.Trees.{state_of, states_of}
 use Rattle.sap_tree.specs.declared.syntax.Decl.{Decl}
 use Rattle.sap_tree.specs.Parts.{tree_of}
-use Rattle.sap_tree.specs.Syntax.{StateTree, StateList, DesignTree}
+use Rattle.sap_tree.specs.Syntax.{StateTree}
 use Rattle.sap_tree.proofs.Views.{state_of-out}
 use Rattle.sap_names.specs.declared.fault.Fault.{Fault}
 use Rattle.sap_names.specs.Best.{best_of}
 use Rattle.sap_names.specs.declared.entity.Entity.{Entity}
 use Rattle.sap_names.specs.Entities.{entities_of}
 use Rattle.sap_names.proofs.Faults.{both}
-use Rattle.sap_shape.specs.Paths.{Written, fresh, either, second_state}
-use Rattle.sap_shape.specs.ShapeFaults.{Body, state_shape, design_shape_faults}
-use Rattle.sap_shape.specs.Lists.{closing_list, list_shape, group_shape, entering_list, second_list, second_states}
+use Rattle.sap_shape.specs.Walk.{Written, fresh, second_state}
+use Rattle.sap_shape.specs.ShapeFaults.{state_shape}
+use Rattle.sap_shape.specs.Lists.{closing_list, list_shape, group_shape, entering_list, falls_list, second_list, second_states, shape_faults}
 
 module _ (es : List Entity) (group : List State) (above : List (List ℕ)) where
   pub group_shape-drop : (ss : List State) (n : ℕ) (d : State) → n < length ss
@@ -67,16 +67,33 @@ module _ (p : Written) where
       (second_states-drop ss n d h ∙ ap (λ (s : State). second_state (state_of s) p ++ second_states (drop (n + 1) ss) p) (sym e))
 
   pub second_state-is : (s : State) → second_state (state_of s) p
-      ≡ second_list (out-State s).body.commands.items p ++ second_states (out-State s).children.items (entering_list (out-State s).body.commands.items p)
-  unfolding second_list second_states entering_list
+      ≡ second_list (out-State s).body.commands.items p
+      ++ (if falls_list (out-State s).body.commands.items then second_states (out-State s).children.items (entering_list (out-State s).body.commands.items p) else [])
+  unfolding second_list second_states entering_list falls_list
   second_state-is s = ap (λ (t : StateTree). second_state t p) (state_of-out s)
+
+  -- where the body falls into its children, and where it doesn't
+  pub state_falling : (s : State) (b : Bool) → b ≡ falls_list (out-State s).body.commands.items → b ≡ true → second_state (state_of s) p
+      ≡ second_list (out-State s).body.commands.items p ++ second_states (out-State s).children.items (entering_list (out-State s).body.commands.items p)
+  state_falling s b e t =
+      second_state-is s
+      ∙ ap (λ (x : Bool). second_list (out-State s).body.commands.items p
+      ++ (if x then second_states (out-State s).children.items (entering_list (out-State s).body.commands.items p) else [])) (sym e ∙ t)
+
+  pub state_staying : (s : State) (b : Bool) → b ≡ falls_list (out-State s).body.commands.items → b ≡ false → second_state (state_of s) p
+      ≡ second_list (out-State s).body.commands.items p
+  state_staying s b e t =
+      second_state-is s
+      ∙ ap (λ (x : Bool). second_list (out-State s).body.commands.items p
+      ++ (if x then second_states (out-State s).children.items (entering_list (out-State s).body.commands.items p) else [])) (sym e ∙ t)
+      ∙ append-nil (second_list (out-State s).body.commands.items p)
 
 pub design_is : (ds : List Decl) (ss ts us rs : List State) (es : List Entity) (above : List (List ℕ)) (w : Written)
     → es ≡ entities_of (tree_of ds ss) → ts ≡ ss → us ≡ ss → rs ≡ ss → above ≡ [] → w ≡ fresh
-    → design_shape_faults (tree_of ds ss) ≡ group_shape es ts above us ++ second_states rs w
+    → shape_faults (tree_of ds ss) ≡ group_shape es ts above us ++ second_states rs w
 unfolding group_shape second_states
 design_is ds ss ts us rs es above w a b c d e f = rw (a, b, c, d, e, f) refl
 
-pub ruleset states = (state_shape-is, second_state-is)
+pub ruleset states = (state_shape-is, state_falling, state_staying)
 
 pub ruleset groups = (group_shape-past, second_states-past)

@@ -4,4 +4,7 @@ pub mod Opens
 pub mod Bodies
 pub mod Sets
 pub mod Walks
+pub mod Falling
+pub mod Followed
+pub mod Again
 pub mod Groups

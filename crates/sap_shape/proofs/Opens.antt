@@ -1,11 +1,11 @@
 -- The faults of lists that must be open or must close.
-use Rattle.std.proofs.Common.{◌≡◌, ℕ, zero, suc, ◌+◌, ◌-◌, ◌<◌, ◌≤◌, List, [], ◌∷◌, ◌++◌, length, get_or, take, drop, refl, sym, ap, ◌∙◌, arith, add-one, Some, Bool, true, append_assoc}
+use Rattle.std.proofs.Common.{◌≡◌, ℕ, zero, suc, ◌+◌, ◌-◌, ◌<◌, ◌≤◌, List, [], ◌∷◌, ◌++◌, length, get_or, take, drop, refl, sym, ap, ◌∙◌, arith, add-one, Some, true, append_assoc}
 use Rattle.std.specs.Prelude.{Option}
 use Rattle.sap_tree.specs.declared.place.Place.{Place}
 use Rattle.sap_tree.specs.declared.syntax.Cmd.{Cmd}
 use Rattle.sap_tree.specs.declared.syntax.Block.{Block}
 use Rattle.sap_tree.specs.Syntax.{Expression, Command, If, ElseBlock}
-use Rattle.sap_tree.specs.Trees.{command_of, commands_of, block_of, else_of}
+use Rattle.sap_tree.specs.Trees.{command_of, block_of, else_of}
 use Rattle.sap_names.specs.declared.fault.Fault.{Fault}
 use Rattle.sap_names.specs.declared.kind.Code.TheVariants.{E10}
 use Rattle.sap_names.specs.NameFaults.{fault_if}

@@ -4,7 +4,7 @@ use mathlib.Core.Path.{fun_ext}
 use Rattle.std.proofs.lemmas.Bool.{cases_Bool}
 use Rattle.std.proofs.lemmas.Slice.Eq.{bytes_eq-Decides}
 use Rattle.sap_shape.specs.Lists.{written_in}
-use Rattle.sap_shape.specs.Paths.{Written, either, fresh, writing}
+use Rattle.sap_shape.specs.Walk.{Written, either, fresh, writing}
 use Rattle.sap_shape.specs.ShapeFaults.{is_in}
 
 or_swap : (a b c : Bool) → (a || (b || c)) ≡ (b || (a || c))

@@ -3,11 +3,11 @@ use Rattle.std.proofs.Common.{◌≡◌, ℕ, zero, suc, ◌+◌, ◌<◌, ◌�
 use Rattle.std.specs.Prelude.{Option}
 use Rattle.sap_tree.specs.declared.syntax.Cmd.{Cmd}
 use Rattle.sap_tree.specs.declared.syntax.Block.{Block}
-use Rattle.sap_tree.specs.Trees.{command_of, commands_of, block_of, else_of}
+use Rattle.sap_tree.specs.Trees.{command_of, block_of, else_of}
 use Rattle.sap_names.specs.declared.fault.Fault.{Fault}
 use Rattle.sap_names.specs.Best.{best_of}
 use Rattle.sap_names.proofs.Faults.{both}
-use Rattle.sap_shape.specs.Paths.{Written, either, fresh, past, past_block, past_else, entering, entering_block, entering_else, second, second_block, second_else}
+use Rattle.sap_shape.specs.Walk.{Written, either, fresh, past, past_block, past_else, entering, entering_block, entering_else, second, second_block, second_else}
 use Rattle.sap_shape.specs.Lists.{past_list, entering_list, second_list}
 use Rattle.sap_shape.proofs.Sets.{either_assoc}
 

@@ -1,18 +1,17 @@
 -- Worked examples of the faults of shape.
-use Rattle.std.specs.Prelude.{◌≡◌, ◌+◌, ℕ, List, [], ◌∷◌, Option, Some, None, Bool, true, false, codes}
+use Rattle.std.specs.Prelude.{◌+◌, ℕ, List, [], ◌∷◌, None, codes}
 use Rattle.sap_tree.specs.declared.name.Mention.{Mention}
 use Rattle.sap_tree.specs.declared.place.Place.{Place}
 use Rattle.sap_tree.specs.declared.place.Spot.{Spot}
-use Rattle.sap_tree.specs.declared.syntax.Numeral.{Numeral}
 use Rattle.sap_tree.specs.declared.syntax.Kind.{Kind}
 use Rattle.sap_tree.specs.declared.syntax.Kind.TheVariants.{Dynamic, Enforced}
-use Rattle.sap_tree.specs.declared.syntax.Decl.{Decl}
-use Rattle.sap_tree.specs.declared.syntax.Decl.TheVariants.{Input, Register, Memory}
-use Rattle.sap_tree.specs.Syntax.{Expression, Number, Sized, Read, TagExpression, Level, SimpleCommand, Assign, Write, SetTag, Goto, Fall, Command, Do, Try, If, CommandBlock, Commands, ElseBlock, NoElse, Else, CommandList, NoCommand, AndCommand, StateTree, StateOf, StateList, NoState, AndState, DesignTree}
+use Rattle.sap_tree.specs.declared.syntax.Decl.TheVariants.{Register, Memory}
+use Rattle.sap_tree.specs.Syntax.{Expression, Number, Level, Assign, Write, SetTag, Goto, Fall, Command, Do, Try, If, CommandBlock, Commands, NoElse, Else, CommandList, NoCommand, AndCommand, StateTree, StateOf, NoState, AndState, DesignTree}
 use Rattle.sap_names.specs.declared.fault.Fault.{Fault}
 use Rattle.sap_names.specs.declared.kind.Code.{Code}
 use Rattle.sap_names.specs.declared.kind.Code.TheVariants.{E10, E11, E12, E14, E15, E16, E17}
-use Rattle.sap_shape.specs.ShapeFaults.{design_shape_faults}
+use Rattle.sap_names.specs.Fault.{StandsIn}
+use Rattle.sap_shape.specs.ShapeFaults.{IsShapeFault}
 
 abbrev pub at : ℕ → Place
 at column = record { line = 1; column = column }
@@ -54,37 +53,41 @@ writes column = Do (Write (named column (codes "m")) (number (column + 2) 0) (nu
 abbrev pub home : ℕ → Command
 home column = Do (Goto (at column) (named (column + 5) (codes "S")))
 
+-- the faults of shape of a design of that body are these
+abbrev pub Faults : CommandBlock → List Fault → Type 0
+Faults body fs = (f : Fault) → (IsShapeFault (design body) f → StandsIn f fs) × (StandsIn f fs → IsShapeFault (design body) f)
+
 -- m[0] := 1; m[1] := 2; goto S;
 abbrev pub TwiceWritten : Type 0
-TwiceWritten = design_shape_faults (design (block 90 (AndCommand (writes 20) (AndCommand (writes 40) (AndCommand (home 60) NoCommand))))) ≡ fault E14 40 ∷ []
+TwiceWritten = Faults (block 90 (AndCommand (writes 20) (AndCommand (writes 40) (AndCommand (home 60) NoCommand)))) (fault E14 40 ∷ [])
 
 -- if (..) { m[0] := 1; } else { m[1] := 2; } goto S;
 abbrev pub InTwoBranches : Type 0
-InTwoBranches = design_shape_faults (design (block 90
-    (AndCommand (If (at 20) (number 24 1) (one 30 (writes 28)) (Else (one 40 (writes 36)))) (AndCommand (home 60) NoCommand)))) ≡ []
+InTwoBranches = Faults (block 90
+    (AndCommand (If (at 20) (number 24 1) (one 30 (writes 28)) (Else (one 40 (writes 36)))) (AndCommand (home 60) NoCommand))) []
 
 -- a body without a transfer, a transfer that isn't last, and an `if` at the end without `else`
 abbrev pub NotClosed : Type 0
-NotClosed = design_shape_faults (design (block 90 (AndCommand (writes 20) NoCommand))) ≡ fault E10 90 ∷ []
+NotClosed = Faults (block 90 (AndCommand (writes 20) NoCommand)) (fault E10 90 ∷ [])
 
 abbrev pub NotLast : Type 0
-NotLast = design_shape_faults (design (block 90 (AndCommand (home 20) (AndCommand (home 40) NoCommand)))) ≡ fault E10 20 ∷ []
+NotLast = Faults (block 90 (AndCommand (home 20) (AndCommand (home 40) NoCommand))) (fault E10 20 ∷ [])
 
 abbrev pub WithoutElse : Type 0
-WithoutElse = design_shape_faults (design (one 90 (If (at 20) (number 24 1) (one 30 (home 26)) NoElse))) ≡ fault E10 20 ∷ []
+WithoutElse = Faults (one 90 (If (at 20) (number 24 1) (one 30 (home 26)) NoElse)) (fault E10 20 ∷ [])
 
 -- a `fall` in a leaf, a `goto` to no sibling, a handler of a command that can't be refused, a `setTag` of a dynamic register and of the state itself
 abbrev pub FallsInLeaf : Type 0
-FallsInLeaf = design_shape_faults (design (one 90 (Do (Fall (at 20))))) ≡ fault E12 20 ∷ []
+FallsInLeaf = Faults (one 90 (Do (Fall (at 20)))) (fault E12 20 ∷ [])
 
 abbrev pub ToNoSibling : Type 0
-ToNoSibling = design_shape_faults (design (one 90 (Do (Goto (at 20) (named 25 (codes "T")))))) ≡ fault E11 25 ∷ []
+ToNoSibling = Faults (one 90 (Do (Goto (at 20) (named 25 (codes "T"))))) (fault E11 25 ∷ [])
 
 abbrev pub NeverRefused : Type 0
-NeverRefused = design_shape_faults (design (block 90 (AndCommand (Try (Assign (named 20 (codes "x")) (number 25 1)) (at 27) (one 50 (writes 40))) (AndCommand (home 60) NoCommand)))) ≡ fault E15 27 ∷ []
+NeverRefused = Faults (block 90 (AndCommand (Try (Assign (named 20 (codes "x")) (number 25 1)) (at 27) (one 50 (writes 40))) (AndCommand (home 60) NoCommand))) (fault E15 27 ∷ [])
 
 abbrev pub DynamicRetagged : Type 0
-DynamicRetagged = design_shape_faults (design (block 90 (AndCommand (Do (SetTag (at 20) (named 27 (codes "x")) (Level (named 30 (codes "low"))))) (AndCommand (home 60) NoCommand)))) ≡ fault E16 27 ∷ []
+DynamicRetagged = Faults (block 90 (AndCommand (Do (SetTag (at 20) (named 27 (codes "x")) (Level (named 30 (codes "low"))))) (AndCommand (home 60) NoCommand))) (fault E16 27 ∷ [])
 
 abbrev pub ItselfRetagged : Type 0
-ItselfRetagged = design_shape_faults (design (block 90 (AndCommand (Do (SetTag (at 20) (named 27 (codes "S")) (Level (named 30 (codes "low"))))) (AndCommand (home 60) NoCommand)))) ≡ fault E17 27 ∷ []
+ItselfRetagged = Faults (block 90 (AndCommand (Do (SetTag (at 20) (named 27 (codes "S")) (Level (named 30 (codes "low"))))) (AndCommand (home 60) NoCommand))) (fault E17 27 ∷ [])

@@ -1,6 +1,7 @@
 pub mod Closing
 pub mod Sites
 pub mod Paths
+pub mod Walk
 pub mod ShapeFaults
 pub mod Lists
 pub mod Homes

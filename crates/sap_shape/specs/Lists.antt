@@ -1,14 +1,16 @@
 -- The faults of shape of lists of commands and of states.
-use Rattle.std.specs.Prelude.{ℕ, List}
+use Rattle.std.specs.Prelude.{ℕ, List, [], ◌++◌, Bool}
 use Rattle.sap_tree.specs.declared.place.Place.{Place}
 use Rattle.sap_tree.specs.declared.syntax.Cmd.{Cmd}
 use Rattle.sap_tree.specs.declared.syntax.State.{State}
 use Rattle.sap_tree.specs.Trees.{commands_of, states_of}
 use Rattle.sap_names.specs.declared.fault.Fault.{Fault}
 use Rattle.sap_names.specs.declared.entity.Entity.{Entity}
+use Rattle.sap_names.specs.Entities.{entities_of}
+use Rattle.sap_tree.specs.Syntax.{DesignTree}
 use Rattle.sap_shape.specs.Closing as closing
-use Rattle.sap_shape.specs.Paths as paths
-use Rattle.sap_shape.specs.Paths.{Written}
+use Rattle.sap_shape.specs.Walk as paths
+use Rattle.sap_shape.specs.Walk.{Written}
 use Rattle.sap_shape.specs.ShapeFaults as shape
 use Rattle.sap_shape.specs.ShapeFaults.{Body, is_in}
 
@@ -34,8 +36,15 @@ past_list cs p = paths.past_list (commands_of cs) p
 unfoldable pub entering_list : List Cmd → Written → Written
 entering_list cs p = paths.entering_list (commands_of cs) p
 
+unfoldable pub falls_list : List Cmd → Bool
+falls_list cs = paths.falls_list (commands_of cs)
+
 unfoldable pub second_list : List Cmd → Written → List Fault
 second_list cs p = paths.second_list (commands_of cs) p
 
 unfoldable pub second_states : List State → Written → List Fault
 second_states states p = paths.second_states (states_of states) p
+
+-- all faults of shape that are found in a design
+abbrev pub shape_faults : DesignTree → List Fault
+shape_faults d = shape.states_shape (entities_of d) d.states [] d.states ++ paths.second_states d.states paths.fresh

@@ -1,110 +1,168 @@
--- E14: no path of one cycle writes a memory twice. A path goes through the bodies of the ancestors up to a `fall`, then into the body of any child; through either
--- branch of an `if`; and through k, or through k and then h, of `k otherwise { h }`, where the k of a refused `fall` has entered no child.
-use Rattle.std.specs.Prelude.{ℕ, List, [], ◌∷◌, ◌++◌, Bool, true, false, ◌||◌, bytes_eq}
+-- E14: no path of one cycle writes a memory twice.
+use Rattle.std.specs.Prelude.{◌≡◌, ◌⊎◌, ◌+◌, ℕ, List, [], ◌∷◌, ◌++◌, None, codes}
 use Rattle.sap_tree.specs.declared.name.Mention.{Mention}
 use Rattle.sap_tree.specs.declared.place.Place.{Place}
-use Rattle.sap_tree.specs.Syntax.{SimpleCommand, Assign, Write, SetTag, SetCellTag, Goto, Fall, Command, Do, Try, If, CommandBlock, Commands, ElseBlock, NoElse, Else, CommandList, NoCommand, AndCommand, StateTree, StateOf, StateList, NoState, AndState}
+use Rattle.sap_tree.specs.declared.place.Spot.{Spot}
+use Rattle.sap_tree.specs.declared.syntax.Kind.{Kind}
+use Rattle.sap_tree.specs.declared.syntax.Kind.TheVariants.{Dynamic, Enforced}
+use Rattle.sap_tree.specs.declared.syntax.Decl.TheVariants.{Memory}
+use Rattle.sap_tree.specs.Syntax.{Expression, Number, SimpleCommand, Assign, Write, SetTag, SetCellTag, Goto, Fall, Command, Do, Try, If, CommandBlock, Commands, ElseBlock, NoElse, Else, CommandList, NoCommand, AndCommand, StateTree, StateOf, StateList, NoState, AndState, DesignTree}
 use Rattle.sap_names.specs.declared.fault.Fault.{Fault}
 use Rattle.sap_names.specs.declared.kind.Code.TheVariants.{E14}
-use Rattle.sap_names.specs.NameFaults.{fault_if}
 
--- The memories of which some path up to a place has written a cell, or set its tag. Whether a state is ever entered is not looked at: in the
--- children of a state without a `fall` paths begin afresh.
-abbrev pub Written : Type 0
-Written = List ℕ → Bool
+-- A path: commands that one cycle may come to, in their order. Those that are refused are among them.
+abbrev pub Path : Type 0
+Path = List SimpleCommand
 
-abbrev pub fresh : Written
-fresh m = false
-
-abbrev pub either : Written → Written → Written
-either p q m = p m || q m
-
-abbrev pub writing : List ℕ → Written → Written
-writing m p n = bytes_eq m n || p n
-
-abbrev pub past_simple : SimpleCommand → Written → Written
-past_simple (Assign target e) p = p
-past_simple (Write target index e) p = writing target.name p
-past_simple (SetTag place target tag) p = p
-past_simple (SetCellTag place target index tag) p = writing target.name p
-past_simple (Goto place target) p = p
-past_simple (Fall place) p = p
-
--- where a command ends
+-- Through a command: k, and for `k otherwise { h }` also k and then h, where k is refused; for an `if` a path through either branch.
 abbrev mutual
-  pub past : Command → Written → Written
-  past (Do k) p = past_simple k p
-  past (Try k place handler) p = either (past_simple k p) (past_block handler (past_simple k p))
-  past (If place condition then_block else_block) p = either (past_block then_block p) (past_else else_block p)
+  pub Through : Command → Path → Type 0
+  Through (Do k) path = path ≡ k ∷ []
+  Through (Try k place handler) path = (path ≡ k ∷ []) ⊎ ((handled : Path) × ThroughBlock handler handled × (path ≡ k ∷ handled))
+  Through (If place condition then_block else_block) path = ThroughBlock then_block path ⊎ ThroughElse else_block path
 
-  pub past_block : CommandBlock → Written → Written
-  past_block (Commands cs after) p = past_list cs p
+  pub ThroughBlock : CommandBlock → Path → Type 0
+  ThroughBlock (Commands cs after) path = ThroughList cs path
 
-  pub past_else : ElseBlock → Written → Written
-  past_else NoElse p = p
-  past_else (Else b) p = past_block b p
+  pub ThroughElse : ElseBlock → Path → Type 0
+  ThroughElse NoElse path = path ≡ []
+  ThroughElse (Else b) path = ThroughBlock b path
 
-  pub past_list : CommandList → Written → Written
-  past_list NoCommand p = p
-  past_list (AndCommand c cs) p = past_list cs (past c p)
+  -- one command after another
+  pub ThroughList : CommandList → Path → Type 0
+  ThroughList NoCommand path = path ≡ []
+  ThroughList (AndCommand c cs) path = (first : Path) × (rest : Path) × Through c first × ThroughList cs rest × (path ≡ first ++ rest)
 
--- up to each `fall`, where a child is entered
-abbrev pub entering_simple : SimpleCommand → Written → Written
-entering_simple (Assign target e) p = fresh
-entering_simple (Write target index e) p = fresh
-entering_simple (SetTag place target tag) p = fresh
-entering_simple (SetCellTag place target index tag) p = fresh
-entering_simple (Goto place target) p = fresh
-entering_simple (Fall place) p = p
+abbrev pub IsFall : SimpleCommand → Type 0
+IsFall (Assign target e) = ⊥
+IsFall (Write target index e) = ⊥
+IsFall (SetTag place target tag) = ⊥
+IsFall (SetCellTag place target index tag) = ⊥
+IsFall (Goto place target) = ⊥
+IsFall (Fall place) = Unit {0}
 
+-- Up to a `fall` that enters a child. In `fall otherwise { h }` it is this one, or it is refused, has entered no child, and the path goes
+-- on up to a `fall` in h.
 abbrev mutual
-  pub entering : Command → Written → Written
-  entering (Do k) p = entering_simple k p
-  entering (Try k place handler) p = either (entering_simple k p) (entering_block handler (past_simple k p))
-  entering (If place condition then_block else_block) p = either (entering_block then_block p) (entering_else else_block p)
+  pub UpToFall : Command → Path → Type 0
+  UpToFall (Do k) path = IsFall k × (path ≡ k ∷ [])
+  UpToFall (Try k place handler) path =
+      (IsFall k × (path ≡ k ∷ [])) ⊎ ((handled : Path) × UpToFallBlock handler handled × (path ≡ k ∷ handled))
+  UpToFall (If place condition then_block else_block) path = UpToFallBlock then_block path ⊎ UpToFallElse else_block path
 
-  pub entering_block : CommandBlock → Written → Written
-  entering_block (Commands cs after) p = entering_list cs p
+  pub UpToFallBlock : CommandBlock → Path → Type 0
+  UpToFallBlock (Commands cs after) path = UpToFallList cs path
 
-  pub entering_else : ElseBlock → Written → Written
-  entering_else NoElse p = fresh
-  entering_else (Else b) p = entering_block b p
+  pub UpToFallElse : ElseBlock → Path → Type 0
+  UpToFallElse NoElse path = ⊥
+  UpToFallElse (Else b) path = UpToFallBlock b path
 
-  pub entering_list : CommandList → Written → Written
-  entering_list NoCommand p = fresh
-  entering_list (AndCommand c cs) p = either (entering c p) (entering_list cs (past c p))
-
--- a second write of a memory on a path, at the command's first token
-abbrev pub second_simple : SimpleCommand → Written → List Fault
-second_simple (Assign target e) p = []
-second_simple (Write target index e) p = fault_if (p target.name) E14 target.place
-second_simple (SetTag place target tag) p = []
-second_simple (SetCellTag place target index tag) p = fault_if (p target.name) E14 place
-second_simple (Goto place target) p = []
-second_simple (Fall place) p = []
+  -- in the first command, or through it and then in one of the others
+  pub UpToFallList : CommandList → Path → Type 0
+  UpToFallList NoCommand path = ⊥
+  UpToFallList (AndCommand c cs) path =
+      UpToFall c path ⊎ ((first : Path) × (rest : Path) × Through c first × UpToFallList cs rest × (path ≡ first ++ rest))
 
 abbrev mutual
-  pub second : Command → Written → List Fault
-  second (Do k) p = second_simple k p
-  second (Try k place handler) p = second_simple k p ++ second_block handler (past_simple k p)
-  second (If place condition then_block else_block) p = second_block then_block p ++ second_else else_block p
+  -- From a state on: through its body, or up to a `fall` in it and then from any of its children on.
+  pub FromState : StateTree → Path → Type 0
+  FromState (StateOf place name kind body children) path =
+      ThroughBlock body path ⊎ ((above : Path) × (below : Path) × UpToFallBlock body above × FromAny children below × (path ≡ above ++ below))
 
-  pub second_block : CommandBlock → Written → List Fault
-  second_block (Commands cs after) p = second_list cs p
+  pub FromAny : StateList → Path → Type 0
+  FromAny NoState path = ⊥
+  FromAny (AndState s rest) path = FromState s path ⊎ FromAny rest path
 
-  pub second_else : ElseBlock → Written → List Fault
-  second_else NoElse p = []
-  second_else (Else b) p = second_block b p
+-- A path of a design begins with any top-level state.
+abbrev pub IsPath : DesignTree → Path → Type 0
+IsPath d path = FromAny d.states path
 
-  pub second_list : CommandList → Written → List Fault
-  second_list NoCommand p = []
-  second_list (AndCommand c cs) p = second c p ++ second_list cs (past c p)
+-- a write or a `setTag` of a cell of this memory
+abbrev pub IsOfMemory : SimpleCommand → List ℕ → Type 0
+IsOfMemory (Assign target e) memory = ⊥
+IsOfMemory (Write target index e) memory = target.name ≡ memory
+IsOfMemory (SetTag place target tag) memory = ⊥
+IsOfMemory (SetCellTag place target index tag) memory = target.name ≡ memory
+IsOfMemory (Goto place target) memory = ⊥
+IsOfMemory (Fall place) memory = ⊥
 
--- in a state that is entered after these, and below it
-abbrev mutual
-  pub second_state : StateTree → Written → List Fault
-  second_state (StateOf place name kind body children) p = second_block body p ++ second_states children (entering_block body p)
+-- Some path comes to the command `again` behind another one of the same memory, `first`.
+pub record WritesAgain (d : DesignTree) (again : SimpleCommand) : Type 0 where
+  pub before : Path
+  pub first : SimpleCommand
+  pub between : Path
+  pub after : Path
+  pub path : IsPath d (before ++ first ∷ (between ++ again ∷ after))
+  pub memory : List ℕ
+  pub one : IsOfMemory first memory
+  pub other : IsOfMemory again memory
 
-  pub second_states : StateList → Written → List Fault
-  second_states NoState p = []
-  second_states (AndState s rest) p = second_state s p ++ second_states rest p
+-- the place of a command's first token
+abbrev pub place_of : SimpleCommand → Place
+place_of (Assign target e) = target.place
+place_of (Write target index e) = target.place
+place_of (SetTag place target tag) = place
+place_of (SetCellTag place target index tag) = place
+place_of (Goto place target) = place
+place_of (Fall place) = place
+
+abbrev pub twice_at : Place → Fault
+twice_at p = record { code = E14; place = p }
+
+-- E14 stands at the first token of such a command.
+abbrev pub PathFault : DesignTree → Fault → Type 0
+PathFault d f = (again : SimpleCommand) × WritesAgain d again × (f ≡ twice_at (place_of again))
+
+-- Two designs of four lines of text:
+--     mem m : 8[4] dynamic;
+--     state P enforced low {
+--     goto P;
+--     state C enforced low { m[0] := 1; m[1] := 2; goto C; } }
+-- and, with other lines 3 and 4,
+--     m[0] := 1; fall otherwise { m[1] := 2; goto P; }
+--     state C enforced low { goto C; } }
+
+abbrev pub at : (line column : ℕ) → Place
+at l c = record { line = l; column = c }
+
+abbrev pub mention : Place → List ℕ → Mention
+mention p n = record { place = p; name = n }
+
+abbrev pub number : Place → ℕ → Expression
+number p value = let here : Spot = record { first = p; at = p } in Number here value
+
+-- m[index] := value
+abbrev pub put : (line column index value : ℕ) → SimpleCommand
+put l c index value = Write (mention (at l c) (codes "m")) (number (at l (c + 2)) index) (number (at l (c + 8)) value)
+
+abbrev pub goto : (line column : ℕ) → (target : List ℕ) → SimpleCommand
+goto l c target = Goto (at l c) (mention (at l (c + 5)) target)
+
+abbrev pub low : Place → Kind
+low p = Enforced (mention p (codes "low")) None
+
+abbrev pub two_states : (parent child : CommandBlock) → DesignTree
+two_states parent child = record {
+  declarations = Memory (at 1 1) (mention (at 1 5) (codes "m")) (record { place = at 1 9; value = 8 }) (record { place = at 1 11; value = 4 }) (Dynamic (at 1 14)) ∷ [];
+  states = AndState (StateOf (at 2 1) (mention (at 2 7) (codes "P")) (low (at 2 18)) parent
+      (AndState (StateOf (at 4 1) (mention (at 4 7) (codes "C")) (low (at 4 18)) child NoState) NoState)) NoState;
+}
+
+abbrev pub without_fall : DesignTree
+without_fall = two_states
+    (Commands (AndCommand (Do (goto 3 1 (codes "P"))) NoCommand) (at 4 1))
+    (Commands (AndCommand (Do (put 4 24 0 1)) (AndCommand (Do (put 4 35 1 2)) (AndCommand (Do (goto 4 46 (codes "C"))) NoCommand))) (at 4 54))
+
+abbrev pub with_handler : DesignTree
+with_handler = two_states
+    (Commands (AndCommand (Do (put 3 1 0 1)) (AndCommand (Try (Fall (at 3 12)) (at 3 17)
+    (Commands (AndCommand (Do (put 3 29 1 2)) (AndCommand (Do (goto 3 40 (codes "P"))) NoCommand)) (at 3 48))) NoCommand)) (at 4 1))
+    (Commands (AndCommand (Do (goto 4 24 (codes "C"))) NoCommand) (at 4 32))
+
+-- In the first no path enters C, so E14 stands nowhere.
+abbrev pub NoneWithoutFall : Type 0
+NoneWithoutFall = (f : Fault) → PathFault without_fall f → ⊥
+
+-- In the second it stands at the write in the handler, and nowhere else.
+abbrev pub OneInHandler : Type 0
+OneInHandler = (f : Fault) → (PathFault with_handler f → f ≡ twice_at (at 3 29)) × (f ≡ twice_at (at 3 29) → PathFault with_handler f)

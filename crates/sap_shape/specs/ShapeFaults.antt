@@ -1,7 +1,5 @@
 -- The faults of shape, E10 to E17: each sentence once, over the tree of a design without faults of names and widths.
-use Rattle.std.specs.Prelude.{ℕ, List, [], ◌∷◌, ◌++◌, Bool, true, false, not, ◌||◌, if◌then◌else◌, bytes_eq}
-use Rattle.sap_tree.specs.declared.name.Mention.{Mention}
-use Rattle.sap_tree.specs.declared.place.Place.{Place}
+use Rattle.std.specs.Prelude.{◌⊎◌, ℕ, List, [], ◌∷◌, ◌++◌, Bool, true, false, not, ◌||◌, bytes_eq}
 use Rattle.sap_tree.specs.declared.syntax.Kind.{Kind}
 use Rattle.sap_tree.specs.Syntax.{SimpleCommand, Assign, Write, SetTag, SetCellTag, Goto, Fall, Command, Do, Try, If, CommandBlock, Commands, ElseBlock, NoElse, Else, CommandList, NoCommand, AndCommand, StateTree, StateOf, StateList, NoState, AndState, DesignTree}
 use Rattle.sap_names.specs.declared.fault.Fault.{Fault}
@@ -11,7 +9,8 @@ use Rattle.sap_names.specs.declared.entity.Entity.{Entity}
 use Rattle.sap_names.specs.Entities.{entities_of}
 use Rattle.sap_shape.specs.Closing.{closing_faults}
 use Rattle.sap_shape.specs.Sites.{is_site, is_dynamic}
-use Rattle.sap_shape.specs.Paths.{fresh, second_states}
+use Rattle.sap_names.specs.Fault.{StandsIn, Before}
+use Rattle.sap_shape.specs.Paths.{PathFault}
 
 -- where a body stands: its state's kind, the group it is of, its children, and the states above it
 pub record Body : Type 0 where
@@ -90,6 +89,14 @@ abbrev mutual
   states_shape es group above NoState = []
   states_shape es group above (AndState s rest) = state_shape es group above s ++ states_shape es group above rest
 
--- all of a design
-abbrev pub design_shape_faults : DesignTree → List Fault
-design_shape_faults d = states_shape (entities_of d) d.states [] d.states ++ second_states d.states fresh
+-- Of a design: those of its states, and E14 where a path writes a memory again.
+abbrev pub IsShapeFault : DesignTree → Fault → Type 0
+IsShapeFault d f = StandsIn f (states_shape (entities_of d) d.states [] d.states) ⊎ PathFault d f
+
+-- none stands anywhere
+abbrev pub HasShape : DesignTree → Type 0
+HasShape d = (f : Fault) → IsShapeFault d f → ⊥
+
+-- it stands, and before all others
+abbrev pub IsFirstShapeFault : DesignTree → Fault → Type 0
+IsFirstShapeFault d f = IsShapeFault d f × ((other : Fault) → IsShapeFault d other → Before f other)

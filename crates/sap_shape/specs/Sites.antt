@@ -1,6 +1,5 @@
 -- Check sites: the commands that may be refused.
-use Rattle.std.specs.Prelude.{List, [], ◌∷◌, Bool, true, false, ◌||◌, ℕ}
-use Rattle.sap_tree.specs.declared.name.Mention.{Mention}
+use Rattle.std.specs.Prelude.{List, Bool, true, false, ◌||◌, ℕ}
 use Rattle.sap_tree.specs.declared.syntax.Kind.{Kind}
 use Rattle.sap_tree.specs.declared.syntax.Kind.TheVariants.{Dynamic, Enforced}
 use Rattle.sap_tree.specs.Syntax.{SimpleCommand, Assign, Write, SetTag, SetCellTag, Goto, Fall, StateTree, StateOf, StateList, NoState, AndState}

@@ -1,6 +1,7 @@
 //! Small designs and their faults of shape.
 
 ghost use Rattle.sap_shape.specs.Examples.{TwiceWritten, InTwoBranches, NotClosed, NotLast, WithoutElse, FallsInLeaf, ToNoSibling, NeverRefused, DynamicRetagged, ItselfRetagged};
+ghost use Rattle.sap_shape.specs.Paths.{NoneWithoutFall, OneInHandler};
 
 /// The faults of small designs, worked out.
 pub fn worked_faults()
@@ -14,4 +15,6 @@ pub fn worked_faults()
     ensures never_refused { NeverRefused }
     ensures dynamic_retagged { DynamicRetagged }
     ensures itself_retagged { ItselfRetagged }
+    ensures none_without_fall { NoneWithoutFall }
+    ensures one_in_handler { OneInHandler }
 {}

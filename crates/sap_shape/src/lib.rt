@@ -4,6 +4,7 @@
 mod body;
 mod closing;
 pub mod examples;
+mod falls;
 mod home;
 mod paths;
 mod place;

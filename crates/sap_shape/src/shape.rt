@@ -1,12 +1,12 @@
 //! The first fault of shape of a design.
 
-ghost use Rattle.std.specs.Prelude.{◌≡◌, [], IfOk, OnOk, IsErrOf, Some, None};
+ghost use Rattle.std.specs.Prelude.{◌≡◌, IfOk, OnOk, IsErrOf, None};
 ghost use Rattle.sap_names.specs.Best.{best_of};
 ghost use Rattle.sap_names.specs.Entities.{entities_of};
-ghost use Rattle.sap_names.specs.Fault.{First};
 ghost use Rattle.sap_names.specs.declared.fault.CheckFault.TheVariants.{Rule};
 ghost use Rattle.sap_names.specs.declared.kind.Code.{Code};
-ghost use Rattle.sap_shape.specs.ShapeFaults.{design_shape_faults};
+ghost use Rattle.sap_shape.specs.Lists.{shape_faults};
+ghost use Rattle.sap_shape.specs.ShapeFaults.{HasShape, IsFirstShapeFault};
 ghost use Rattle.sap_tree.specs.Designs.{design_of};
 ghost use Rattle.sap_tree.specs.declared.place.Place.{Place};
 
@@ -20,7 +20,7 @@ use std::alloc::{AllocError, Global};
 #[tactic(auto, using(crate::proofs::Sets::sets, sap_names::proofs::Faults::noting))]
 fn first_fault(alloc: Global, design: &Design, names: &Names) -> Result<Option<Fault>, AllocError>
     requires { names.now ≡ entities_of (design_of design.now) }
-    ensures { IfOk result (λ best. best ≡ best_of None (design_shape_faults (design_of design.now))) }
+    ensures { IfOk result (λ best. best ≡ best_of None (shape_faults (design_of design.now))) }
 {
     let mut best = None;
     let above = Vec::new(alloc);
@@ -39,9 +39,9 @@ fn first_fault(alloc: Global, design: &Design, names: &Names) -> Result<Option<F
 /// Whether a design has the shape that E10 to E17 ask for, or the first fault of it. The names are that design's.
 pub fn shape(alloc: Global, design: &Design, names: &Names) -> Result<(), CheckFault>
     requires { names.now ≡ entities_of (design_of design.now) }
-    ensures faultless { OnOk result (design_shape_faults (design_of design.now) ≡ []) }
+    ensures faultless { OnOk result (HasShape (design_of design.now)) }
     ensures first { (code : Code) (place : Place) → IsErrOf result (Rule code place)
-        → First (Some (record { code = code; place = place })) (design_shape_faults (design_of design.now)) }
+        → IsFirstShapeFault (design_of design.now) (record { code = code; place = place }) }
 {
     match first_fault(alloc, design, names) {
         Ok(None) => Ok(()),

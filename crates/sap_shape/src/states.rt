@@ -4,12 +4,13 @@ ghost use Rattle.std.specs.Prelude.{◌≡◌, ◌∷◌, IfOk, OnOk};
 ghost use Rattle.sap_names.specs.Best.{best_of};
 ghost use Rattle.sap_shape.specs.Lists as lists;
 ghost use Rattle.sap_shape.specs.Lists.{written_in};
-ghost use Rattle.sap_shape.specs.Paths as paths;
+ghost use Rattle.sap_shape.specs.Walk as paths;
 ghost use Rattle.sap_shape.specs.ShapeFaults as shape;
 ghost use Rattle.sap_tree.specs.Trees.{state_of, states_of};
 
 use crate::body::list_shape;
 use crate::closing::closing_list;
+use crate::falls::has_fall;
 use crate::paths::list_paths;
 use crate::place::Home;
 use crate::written::Written;
@@ -92,19 +93,17 @@ fn state_paths(
 ) -> Result<(), AllocError>
     ensures { OnOk result (best.new ≡ best_of best.old (paths.second_state (state_of state.now) (written_in entered.now))) }
 {
+    let commands = state.body.commands.as_slice();
     let mut here = entered.copy(alloc)?;
     let mut inside = Written::new(alloc);
-    list_paths(
-        alloc,
-        state.body.commands.as_slice(),
-        &mut here,
-        &mut inside,
-        best,
-    )?;
-    group_paths(alloc, state.children.as_slice(), &inside, best)
+    list_paths(alloc, commands, &mut here, &mut inside, best)?;
+    if has_fall(commands) {
+        group_paths(alloc, state.children.as_slice(), &inside, best)?;
+    }
+    Ok(())
 }
 
-/// The best so far of E14 in states that are entered after some writes, and in those below them.
+/// The best so far of E14 in states that are entered after some writes, and in those that they may fall into.
 #[cycle(paths)]
 #[tactic(auto, using(crate::proofs::Groups::groups, crate::proofs::Weights::weights, sap_names::proofs::Faults::noting))]
 pub(crate) fn group_paths(

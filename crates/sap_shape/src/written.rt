@@ -2,7 +2,7 @@
 
 ghost use Rattle.std.specs.Prelude.{◌≡◌, IfOk, OnOk};
 ghost use Rattle.sap_shape.specs.Lists.{written_in};
-ghost use Rattle.sap_shape.specs.Paths.{either, fresh, writing};
+ghost use Rattle.sap_shape.specs.Walk.{either, fresh, writing};
 
 use crate::home::is_in;
 use sap_tree::name::Name;

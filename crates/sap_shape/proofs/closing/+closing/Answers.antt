@@ -1,4 +1,4 @@
-use Rattle.std.proofs.Common.{ap, ◌∙◌, arith}
+use Rattle.std.proofs.Common.{ap, ◌∙◌}
 use Rattle.sap_tree.specs.Trees.{command_of}
 use Rattle.sap_tree.proofs.Views.{command_of-if}
 use Rattle.sap_names.proofs.Faults.{both}

@@ -1,4 +1,4 @@
-use Rattle.std.proofs.Common.{◌≡◌, ◌∙◌, List, sym, ap, refl, arith}
+use Rattle.std.proofs.Common.{◌∙◌, List, sym, ap, refl, arith}
 use Rattle.sap_tree.specs.declared.syntax.State.{State}
 use Rattle.sap_tree.specs.Trees.{states_of}
 use Rattle.sap_shape.specs.ShapeFaults.{is_in_group}

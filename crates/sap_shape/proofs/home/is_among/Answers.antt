@@ -1,4 +1,4 @@
-use Rattle.std.proofs.Common.{◌≡◌, ◌∙◌, sym, arith}
+use Rattle.std.proofs.Common.{◌∙◌, sym, arith}
 use Rattle.sap_shape.proofs.Members.{among_here}
 use Rattle.sap_shape.proofs.home.is_among.Goals as goal
 

@@ -1,6 +1,6 @@
-use Rattle.std.proofs.Common.{◌≡◌, ◌∙◌, ap, sym, arith}
+use Rattle.std.proofs.Common.{◌∙◌, ap, sym, arith}
 use Rattle.sap_shape.specs.Lists.{written_in}
-use Rattle.sap_shape.specs.Paths.{Written, either}
+use Rattle.sap_shape.specs.Walk.{Written, either}
 use Rattle.sap_shape.proofs.Sets.{either_fresh}
 use Rattle.sap_shape.proofs.Walks.{past_step, entering_step, second_step, entering_list-past}
 use Rattle.sap_shape.proofs.paths.+paths.Goals as goal

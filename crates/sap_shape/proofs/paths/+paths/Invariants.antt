@@ -1,7 +1,7 @@
 use Rattle.std.proofs.Common.{◌≡◌, drop}
 use Rattle.sap_names.specs.Best.{best_of}
 use Rattle.sap_shape.specs.Lists.{written_in, past_list, entering_list, second_list}
-use Rattle.sap_shape.specs.Paths.{either}
+use Rattle.sap_shape.specs.Walk.{either}
 use Rattle.sap_shape.proofs.paths.+paths.Given as goal
 
 -- what is left gives all

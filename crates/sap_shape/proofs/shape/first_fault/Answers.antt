@@ -1,4 +1,4 @@
-use Rattle.std.proofs.Common.{◌≡◌, ◌∙◌}
+use Rattle.std.proofs.Common.{◌∙◌}
 use Rattle.sap_names.proofs.Faults.{both}
 use Rattle.sap_shape.proofs.Groups.{design_is}
 use Rattle.sap_shape.proofs.shape.first_fault.Goals as goal

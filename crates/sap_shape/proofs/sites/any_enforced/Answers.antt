@@ -1,4 +1,4 @@
-use Rattle.std.proofs.Common.{◌≡◌, ◌∙◌, sym, arith}
+use Rattle.std.proofs.Common.{◌∙◌, sym, arith}
 use Rattle.sap_shape.proofs.Members.{enforced_here}
 use Rattle.sap_shape.proofs.sites.any_enforced.Goals as goal
 

@@ -1,6 +1,6 @@
-use Rattle.std.proofs.Common.{◌≡◌, ◌∙◌, ap, sym, arith}
+use Rattle.std.proofs.Common.{◌∙◌, ap, sym, arith}
 use Rattle.sap_shape.specs.Lists.{written_in}
-use Rattle.sap_shape.specs.Paths.{Written, either}
+use Rattle.sap_shape.specs.Walk.{Written, either}
 use Rattle.sap_shape.proofs.Sets.{join_step, either_fresh, written-past}
 use Rattle.sap_shape.proofs.written.Written.join.Goals as goal
 

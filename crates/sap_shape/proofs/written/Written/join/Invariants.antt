@@ -1,6 +1,6 @@
 use Rattle.std.proofs.Common.{◌≡◌, drop}
 use Rattle.sap_shape.specs.Lists.{written_in}
-use Rattle.sap_shape.specs.Paths.{either}
+use Rattle.sap_shape.specs.Walk.{either}
 use Rattle.sap_shape.proofs.written.Written.join.Given as goal
 
 -- with what is left of the other set

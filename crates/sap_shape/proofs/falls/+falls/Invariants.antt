@@ -1,0 +1,7 @@
+use Rattle.std.proofs.Common.{◌≡◌, drop}
+use Rattle.sap_shape.specs.Lists.{falls_list}
+use Rattle.sap_shape.proofs.falls.+falls.Given as goal
+
+-- what is left tells of all
+abbrev pub invariant-has_fall-loop-command : goal.invariant-has_fall-loop-command
+invariant-has_fall-loop-command l = falls_list (drop l.command-index l.commands) ≡ falls_list l.commands
