@@ -4,6 +4,7 @@
 mod assigns;
 mod column;
 pub mod hang;
+pub mod root;
 mod seat;
 pub mod table;
 mod touches;

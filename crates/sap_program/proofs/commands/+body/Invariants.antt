@@ -1,0 +1,26 @@
+use Rattle.std.proofs.Common.{◌≡◌, ◌+◌, drop, length}
+use Rattle.sap_names.proofs.Weights.{command_weight, commands_weight, else_weight}
+use Rattle.sap_tree.specs.Trees.{command_of, commands_of, else_of}
+use Rattle.sap_program.specs.Homes.{home_of, rows_of}
+use Rattle.sap_program.specs.Lists.{list_from, list_sites}
+use Rattle.sap_program.specs.Rows.{block_points, block_with}
+use Rattle.sap_program.specs.Views.{block_of, followed}
+use Rattle.sap_program.proofs.commands.+body.Given as goal
+
+-- with those of what is left
+abbrev pub invariant-commands-loop-c : goal.invariant-commands-loop-c
+invariant-commands-loop-c l =
+    (followed (block_of (length l.seat.names.now) l.made.items) (block_with (rows_of l.seat) l.point (list_from l.seat.lattice.now (home_of l.seat) l.next (drop l.c-index l.list)))
+    ≡ block_with (rows_of l.seat) l.initial.point (list_from l.seat.lattice.now (home_of l.seat) l.initial.next l.list))
+    × (l.next + list_sites (home_of l.seat) (drop l.c-index l.list) ≡ l.initial.next + list_sites (home_of l.seat) l.list)
+    × (l.point + block_points (list_from l.seat.lattice.now (home_of l.seat) l.next (drop l.c-index l.list))
+    ≡ l.initial.point + block_points (list_from l.seat.lattice.now (home_of l.seat) l.initial.next l.list))
+
+abbrev pub decreases-command : goal.decreases-command
+decreases-command l = command_weight (command_of l.c.now)
+
+abbrev pub decreases-otherwise : goal.decreases-otherwise
+decreases-otherwise l = else_weight (else_of l.other.now) + 1
+
+abbrev pub decreases-commands : goal.decreases-commands
+decreases-commands l = commands_weight (commands_of l.list.now)

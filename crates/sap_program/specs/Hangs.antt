@@ -1,0 +1,20 @@
+-- What hangs on a command: as the numbers of entities, and as what is said of each entity.
+use Rattle.std.specs.Prelude.{ℕ, Bool, true, false, List, [], ◌∷◌, nat_eq, nat_lt, ◌||◌, ◌&&◌}
+use Rattle.sap_resolve.specs.Fill.{table}
+
+-- each number of a list is above the one before it
+abbrev pub rises_from : ℕ → List ℕ → Bool
+rises_from x [] = true
+rises_from x (y ∷ ys) = nat_lt x y && rises_from y ys
+
+abbrev pub rises : List ℕ → Bool
+rises [] = true
+rises (x ∷ xs) = rises_from x xs
+
+abbrev pub hangs : List ℕ → ℕ → Bool
+hangs [] x = false
+hangs (y ∷ ys) x = nat_eq y x || hangs ys x
+
+-- of each of the n entities, whether it hangs
+abbrev pub flags : (n : ℕ) → List ℕ → List Bool
+flags n hang = table n (hangs hang)

@@ -1,0 +1,104 @@
+-- What the parts of a program are seen as. What hangs on a command is told of each of n entities.
+use Rattle.std.specs.Prelude.{ℕ, List, [], ◌∷◌, length, map}
+use Rattle.sap_maps.specs.Term.{Term, constant, read, cell, one, two, choose, join, part}
+use Rattle.sap_meaning.specs.Program.{LevelTerm, fixed, of, at_place, both, Block, End, Then, Group, None, More}
+use Rattle.sap_meaning.specs.Program as program
+use Rattle.sap_lattice.specs.Order.{Order}
+use Rattle.sap_program.specs.Hangs.{flags}
+use Rattle.sap_program.specs.declared.program.Program.{Program}
+use Rattle.sap_program.specs.declared.program.Sort.{Sort}
+use Rattle.sap_program.specs.declared.program.Sort.TheVariants as sort
+use Rattle.sap_program.specs.declared.program.Entity.{Entity}
+use Rattle.sap_program.specs.declared.program.Number.{Number}
+use Rattle.sap_program.specs.declared.program.Number.TheVariants as number
+use Rattle.sap_program.specs.declared.program.TagOf.{TagOf}
+use Rattle.sap_program.specs.declared.program.TagOf.TheVariants as tag
+use Rattle.sap_program.specs.declared.program.Step.{Step}
+use Rattle.sap_program.specs.declared.program.Step.TheVariants as step
+use Rattle.sap_program.specs.declared.program.Command.{Command, Row_of-Command, end_of-Command, more_of-Command}
+use Rattle.sap_program.specs.declared.program.Command.TheVariants as command
+use Rattle.sap_program.specs.declared.program.State.{State, State', Row_of-State, end_of-State, more_of-State}
+
+abbrev pub kind_of : Sort → program.Kind
+kind_of sort.Input = program.input
+kind_of sort.Register = program.register
+kind_of (sort.Memory depth) = program.memory depth
+kind_of (sort.State place last) = program.state place last
+
+abbrev pub entity_of : Entity → program.Entity
+entity_of e = record { kind = kind_of e.sort; width = e.width; dynamic = e.dynamic; declared = e.declared; authority = e.authority; initial = e.initial }
+
+abbrev pub term_of : Number → Term ℕ
+term_of (number.Constant u n) = constant u n
+term_of (number.Read x) = read x
+term_of (number.Cell' m p i) = cell m (term_of i)
+term_of (number.One' op p a) = one op (term_of a)
+term_of (number.Two' op p a q b) = two op (term_of a) (term_of b)
+term_of (number.Choose' p c q a r b) = choose (term_of c) (term_of a) (term_of b)
+term_of (number.Join' p a q b) = join (term_of a) (term_of b)
+term_of (number.Part' p a hi lo) = part (term_of a) hi lo
+
+abbrev pub level_of : TagOf → LevelTerm
+level_of (tag.Fixed l) = fixed l
+level_of (tag.Of e) = of (term_of e)
+level_of (tag.AtPlace e) = at_place (term_of e)
+level_of (tag.Both' p a q b) = both (level_of a) (level_of b)
+
+abbrev pub step_of : (n : ℕ) → Step → program.Step
+step_of n (step.Set k x e) = program.Set k x (term_of e)
+step_of n (step.Write k m i e) = program.Write k m (term_of i) (term_of e)
+step_of n (step.Retag k x t) = program.Retag k x (level_of t)
+step_of n (step.RetagCell k m i t) = program.RetagCell k m (term_of i) (level_of t)
+step_of n (step.Goto k s) = program.Goto k s
+step_of n (step.Fall k hang) = program.Fall k (flags n hang)
+
+unfoldable mutual
+  pub command_of : (n : ℕ) → Command → program.Command
+  command_of n (command.Do s) = program.Do (step_of n s)
+  command_of n (command.Try' s hang k handler) = program.Try (step_of n s) (flags n hang) (row_block n handler)
+  command_of n (command.If' hang e k then_part m else_part) = program.If (flags n hang) (term_of e) (row_block n then_part) (row_block n else_part)
+
+  pub row_block : (n : ℕ) → {k : _} → Row_of-Command k → Block
+  row_block n end_of-Command = End
+  row_block n (more_of-Command c rest) = Then (command_of n c) (row_block n rest)
+
+unfoldable pub block_of : (n : ℕ) → List Command → Block
+block_of n [] = End
+block_of n (c ∷ cs) = Then (command_of n c) (block_of n cs)
+
+unfoldable mutual
+  pub state_of : (n : ℕ) → State → program.State
+  state_of n (State' x body k children) = program.Node x (block_of n body.items) (row_group n children)
+
+  pub row_group : (n : ℕ) → {k : _} → Row_of-State k → Group
+  row_group n end_of-State = None
+  row_group n (more_of-State s rest) = More (state_of n s) (row_group n rest)
+
+unfoldable pub group_of : (n : ℕ) → List State → Group
+group_of n [] = None
+group_of n (s ∷ ss) = More (state_of n s) (group_of n ss)
+
+-- one block behind another
+abbrev pub followed : Block → Block → Block
+followed End b = b
+followed (Then c cs) b = Then c (followed cs b)
+
+-- one group behind another
+abbrev pub joined : Group → Group → Group
+joined None g = g
+joined (More s rest) g = More s (joined rest g)
+
+-- how many entities there are
+abbrev pub count : Program → ℕ
+count p = length p.entities.items
+
+abbrev pub names_in : Program → List (List ℕ)
+names_in p = map (λ e. e.name) p.entities.items
+
+-- over levels of this order
+abbrev pub program_in : Order → Program → program.Program
+program_in o p = record {
+  world = record { order = o; entities = map entity_of p.entities.items; children = p.children.items };
+  states = group_of (count p) p.states.items;
+  hang = flags (count p) p.hang;
+}
