@@ -1,5 +1,6 @@
 -- The interface of a compiled module: its ports in order, and what else it declares, with their widths.
 use Rattle.std.specs.Prelude.{◌≡◌, ◌<◌, ◌≤◌, ◌⊎◌, ◌^◌, ◌+◌, ◌-◌, ℕ, zero, suc, Bool, true, false, List, [], ◌∷◌, ◌++◌, map, get_or, if◌then◌else◌}
+use Rattle.std.specs.List.{AllByRecursion}
 use Rattle.sap_meaning.specs.Program.{World, Entity, entity, root, children, width, is_input, is_register, is_memory, is_state, is_dynamic}
 use Rattle.sap_net.specs.declared.parts.PortKind.{PortKind}
 use Rattle.sap_net.specs.declared.parts.PortKind.TheVariants as kind
@@ -11,6 +12,8 @@ use Rattle.sap_net.specs.declared.parts.Memory.{Memory}
 use Rattle.sap_net.specs.Net.{Net}
 use Rattle.sap_interface.specs.PortNames.{value_name, tag_name, seat_name, root_seat, refused_name, level_name, top_name}
 use Rattle.sap_interface.specs.StandsFor.{Named, name, world, depth}
+use Rattle.sap_net.specs.Names.{IsHelpingName}
+use Rattle.sap_interface.specs.InterfaceNames.{IsInterfaceName}
 
 -- a port's name with what it is
 abbrev pub Shown : Type 0
@@ -75,3 +78,5 @@ pub record HasInterface (d : Named) (tag sites : ℕ) (n : Net) : Type 0 where
   pub state_tags : (x : ℕ) → is_state (world d) x ≡ true → x < root (world d) → HasRegister n.registers (tag_name (name d x)) tag
   pub seats : (p : ℕ) → p < root (world d) → 0 < children (world d) p → HasSeat n (children (world d) p) (seat_name (name d p))
   pub root_seat : HasSeat n (children (world d) (root (world d))) root_seat
+  -- it declares nothing else but helping wires
+  pub names : AllByRecursion (λ x. IsInterfaceName d sites x ⊎ IsHelpingName x) n.names

@@ -1,5 +1,6 @@
 pub mod PortNames
 pub mod StandsFor
+pub mod InterfaceNames
 pub mod Interface
 pub mod Compiled
 pub mod Designs

@@ -13,7 +13,7 @@ use Rattle.sap_net.specs.IsNetlist.{first_readable, readable, shapes, width_of, 
 use Rattle.sap_net.specs.Runs.{written, IsWithin, InputsAre, IsCycle, IsRunAfter, observed}
 use Rattle.sap_net.specs.declared.parts.Wire.{Wire}
 use Rattle.sap_net.proofs.Within.{WidthsAre, widths_are, readable_to_the_end}
-use Rattle.sap_net.proofs.Observed.{observed_registers, observed_wires, observed_memories}
+use Rattle.sap_net.proofs.Observed.{observed_inputs, observed_registers, observed_wires, observed_memories}
 use Rattle.sap_ir.specs.declared.guarded.Var.{Var}
 use Rattle.sap_ir.specs.declared.guarded.Store.{Store}
 use Rattle.sap_ir.specs.Source.{Command, Source}
@@ -26,7 +26,7 @@ use Rattle.sap_lower.specs.declared.parts.Part.{Part}
 use Rattle.sap_lower.specs.declared.parts.WritePort.{WritePort}
 use Rattle.sap_lower.specs.Lowering.{present}
 use Rattle.sap_lower.specs.Commands.{port_of, no_port}
-use Rattle.sap_lower.specs.Lowered.{first_entries, first_port, input_of, out_wire, register_of, memory_of, registers_declared, first_state, last_state, lowered}
+use Rattle.sap_lower.specs.Lowered.{first_entries, first_port, input_of, listed, out_wire, register_of, memory_of, registers_declared, first_state, last_state, lowered}
 use Rattle.sap_lower.specs.Same.{SameNumbers, AllSame, RunsAlike}
 use Rattle.sap_lower.proofs.Shared.{Gives}
 use Rattle.sap_lower.proofs.Means.{Env, SameCells, Around, gives_front, gives_behind}
@@ -34,6 +34,8 @@ use Rattle.sap_lower.proofs.Stands.{HasEntries}
 use Rattle.sap_lower.proofs.Standing.{CommandOk, PortsAre, Standing, Later, commands_stand}
 use Rattle.sap_lower.proofs.Order.{from_declared, all_map, all_behind}
 use Rattle.sap_lower.proofs.Begins.{IsKnown, env_first, cells_first, first_port_found}
+use Rattle.sap_lower.proofs.Listed.{listed_holds}
+use Rattle.sap_lower.proofs.Inputs.{inputs_same}
 
 -- What is known of a program whose netlist follows the rules.
 pub record Known (s : Source) : Type 0 where
@@ -149,7 +151,8 @@ memories_same ms v ps g done k c (m ∷ xs) f =
 -- equal numbers of one cycle, as the edge leaves them and as they are seen
 pub record CycleSame (s : Source) (v e : Valuation) : Type 0 where
   pub after : SameAfter s v e
-  pub wires : AllByRecursion (λ x. v.value x.name ≡ e.value x.name) s.wires
+  pub inputs : AllByRecursion (λ x. v.value x.name ≡ e.value x.name) s.inputs
+  pub wires : AllByRecursion (λ x. v.value x.name ≡ e.value x.name) (listed s.ports s.wires)
 
 pub cycle_same : (s : Source) → Known s → WritesOnce s → (p e : Option Valuation) (xs : List ℕ) (v : Valuation) → SameBefore s p e → IsCycle (lowered s) p xs v → CycleSame s v (cycle s e xs)
 cycle_same s k once p e xs v b c =
@@ -160,6 +163,7 @@ cycle_same s k once p e xs v b c =
     let vw = source.width_of s in
     let g = begun s e xs in
     let t = last_state s in
+    let shown = listed s.ports s.wires in
     let w = c.valuation.within in
     let gives = gives_from widths v (shapes n) n.wires (first_readable n) k.netlist.assigns (widths_are n) c.valuation.equations in
     let known = split_all (IsKnown widths v) s.inputs s.registers (known_from n v w (s.inputs ++ s.registers) k.found) in
@@ -178,7 +182,7 @@ cycle_same s k once p e xs v b c =
     let fits = within_before s k e v below (all_below widths v s.registers known.1) starts cells in
     let given = numbers_fit s.inputs xs v c.given (all_below widths v s.inputs known.0) in
     let later : Later (λ m. false) (memories_written vw g s.commands) = record { distinct = once e xs fits given; apart = λ m h. refl } in
-    let last = commands_stand ms vars vw widths v s.commands (first_state s) g (λ m. false) first k.commands later (gives_front widths v t.wires (map (out_wire t.entries) s.wires) gives) in
+    let last = commands_stand ms vars vw widths v s.commands (first_state s) g (λ m. false) first k.commands later (gives_front widths v t.wires (map (out_wire t.entries) shown) gives) in
     let end = after vw g s.commands in
     let l = last.1 in
     let ends = ends_same widths v vars t.entries end.now.value l.around.env in
@@ -187,7 +191,9 @@ cycle_same s k once p e xs v b c =
         registers = ends s.registers k.registers_readable;
         memories = memories_same ms v t.ports end last.0 l.ports l.around.memories s.memories k.memories_found;
       };
-      wires = outs_same widths v t.entries end.now.value s.wires (gives_behind widths v t.wires (map (out_wire t.entries) s.wires) gives) (ends s.wires k.wires_readable);
+      inputs = inputs_same s k.rules e xs v c.given;
+      wires = outs_same widths v t.entries end.now.value shown (gives_behind widths v t.wires (map (out_wire t.entries) shown) gives)
+          (ends shown (listed_holds (λ x. find vars x.name ≡ Some x.width) s.ports s.wires k.wires_readable));
     }
 
 -- what is seen of a cycle
@@ -195,14 +201,17 @@ pub cycle_seen : (s : Source) → Known s → (v e : Valuation) → CycleSame s 
 cycle_seen s k v e same =
     let n = lowered s in
     let t = last_state s in
+    let shown = listed s.ports s.wires in
     let rs = from_declared (λ x. (observed n v).value x.name ≡ operand_value v (present t.entries x.name).operand) s.registers s.ports k.registers_differ
     (all_map (λ r. (observed n v).value r.name ≡ operand_value v r.next) (register_of t.entries) (registers_declared s) (observed_registers n k.netlist v)) in
-    let ws = all_map (λ w. (observed n v).value w.name ≡ v.value w.name) (out_wire t.entries) s.wires
-    (all_behind (λ w. (observed n v).value w.name ≡ v.value w.name) t.wires (map (out_wire t.entries) s.wires) (observed_wires n k.netlist v)) in
+    let is = all_map (λ i. (observed n v).value i.name ≡ v.value i.name) input_of s.inputs (observed_inputs n k.netlist v) in
+    let ws = all_map (λ w. (observed n v).value w.name ≡ v.value w.name) (out_wire t.entries) shown
+    (all_behind (λ w. (observed n v).value w.name ≡ v.value w.name) t.wires (map (out_wire t.entries) shown) (observed_wires n k.netlist v)) in
     let ms = all_map (λ m. (i : ℕ) → (observed n v).cell m.name i ≡ written v m i) (memory_of t.ports) s.memories (observed_memories n k.netlist v) in
     record {
+      inputs = joined_all (λ (x : Var). (observed n v).value x.name) (λ x. v.value x.name) (λ x. e.value x.name) s.inputs is same.inputs;
       registers = joined_all (λ (x : Var). (observed n v).value x.name) (λ x. operand_value v (present t.entries x.name).operand) (λ x. e.value x.name) s.registers rs same.after.registers;
-      wires = joined_all (λ (x : Var). (observed n v).value x.name) (λ x. v.value x.name) (λ x. e.value x.name) s.wires ws same.wires;
+      wires = joined_all (λ (x : Var). (observed n v).value x.name) (λ x. v.value x.name) (λ x. e.value x.name) shown ws same.wires;
       memories = joined_all_at (λ (m : Store) i. (observed n v).cell m.name i) (λ m i. written v (memory_of t.ports m) i) (λ m i. e.cell m.name i) s.memories ms same.after.memories;
     }
 

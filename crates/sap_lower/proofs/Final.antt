@@ -18,13 +18,14 @@ use Rattle.sap_ir.specs.Source as source
 use Rattle.sap_ir.specs.IsGuarded as ir
 use Rattle.sap_ir.specs.IsGuarded.{variable_names, declared, IsGuarded, IsRegisterVar, IsStore}
 use Rattle.sap_ir.proofs.Declared.{among_append, among_front, among_behind, distinct_front, distinct_behind, apart_lists, apart_lists_back, not_found}
-use Rattle.sap_lower.specs.Lowered.{register_of, memory_of, input_port, port_shown, registers_declared, all_wires, wire_list_names, names_declared, last_state, lowered}
+use Rattle.sap_lower.specs.Lowered.{listed, register_of, memory_of, input_port, port_shown, registers_declared, all_wires, wire_list_names, names_declared, last_state, lowered}
 use Rattle.sap_lower.proofs.Order.{all_append, to_declared, map_all}
 use Rattle.sap_lower.proofs.Begins.{scope_of}
 use Rattle.sap_lower.proofs.Declares.{distinct_both, each_among, among_each, filter_same}
 use Rattle.sap_lower.proofs.Netlist.{first_scope, first_found, last_fits}
 use Rattle.sap_lower.proofs.Rules.{first_readable_is, shapes_are, each_variable}
 use Rattle.sap_lower.proofs.Names.{inputs_named, registers_named, memories_named, outs_named, declared_named, declared_among, declared_distinct, wires_new, wires_distinct, new_to_first, new_to_second}
+use Rattle.sap_lower.proofs.Listed.{into_listed, of_listed}
 use Rattle.sap_lower.proofs.Whole.{last_short, wires_are, registers_found, nexts_are, writes_are, grows_to_all, stores_found, values_are, memories_are, plain_wide, register_wide}
 use Rattle.sap_lower.proofs.Result.{Kinds, names_distinct, names_among, registers_ordered, memories_ordered, ports_named, take_front, inputs_shown, of_unported}
 
@@ -89,7 +90,7 @@ kinds_of s g w =
       wires = wires_distinct (source.shapes s) (all_wires s) (first_scope s) w;
       port_is = λ n h.
           let e : (is_among n R || is_among n W) ≡ true = sym (among_append n R W) ∙ port n h in
-          or_more (is_among n R) (is_among n W) (is_among n (wire_list_names (all_wires s))) (λ t. rw (outs_named (last_state s).entries (last_state s).wires s.wires) (among_behind n (wire_list_names (last_state s).wires) W t)) e;
+          or_more (is_among n R) (is_among n W) (is_among n (wire_list_names (all_wires s))) (λ t. rw (outs_named (last_state s).entries (last_state s).wires (listed s.ports s.wires)) (among_behind n (wire_list_names (last_state s).wires) (variable_names (listed s.ports s.wires)) (into_listed s.ports s.wires n t h))) e;
       port_no_input = λ n h. apart_lists I (R ++ (W ++ M)) d n (subst (λ (l : List Name). is_among n l ≡ true) (append_assoc R W M) (among_front n (R ++ W) M (port n h)));
       port_no_memory = λ n h. apart_lists_back (R ++ W) M (subst AreDistinct (sym (append_assoc R W M)) d1) n (port n h);
       register_no_input = λ n h. apart_lists I (R ++ (W ++ M)) d n (among_front n R (W ++ M) h);
@@ -129,6 +130,7 @@ lowered_rules s g l =
     let P = s.ports in
     let A = wire_list_names (all_wires s) in
     let D = registers_declared s in
+    let shown = listed s.ports s.wires in
     let fits = last_fits s g (last_short s l) in
     let wires = wires_are s g fits in
     let k = kinds_of s g wires in
@@ -141,7 +143,8 @@ lowered_rules s g l =
     let rm : (x : Name) → is_among x M ≡ true → is_name x ≡ true = λ x h. among_all x (among_behind x I (R ++ (W ++ M)) (among_behind x R (W ++ M) (among_behind x W M h))) in
     let rw' : (x : Name) → is_among x W ≡ true → is_name x ≡ true = λ x h. among_all x (among_behind x I (R ++ (W ++ M)) (among_behind x R (W ++ M) (among_front x W M h))) in
     let names_a : AllByRecursion (λ x. is_name x ≡ true) A =
-    rw (outs_named t.entries t.wires s.wires) (all_append (λ x. is_name x ≡ true) (wire_list_names t.wires) W (named_wires t.wires fits.fits.named) (each_among (λ x. is_name x ≡ true) W rw')) in
+    rw (outs_named t.entries t.wires shown)
+    (all_append (λ x. is_name x ≡ true) (wire_list_names t.wires) (variable_names shown) (named_wires t.wires fits.fits.named) (each_among (λ x. is_name x ≡ true) (variable_names shown) (λ x h. rw' x (of_listed s.ports s.wires x h)))) in
     let ra : (x : Name) → is_among x A ≡ true → is_name x ≡ true = λ x h. among_each (λ y. is_name y ≡ true) A names_a x h in
     let rp : (x : Name) → is_among x P ≡ true → is_name x ≡ true = λ x h. or_else (is_among x R) (is_among x A) (is_name x ≡ true) (rr x) (ra x) (k.port_is x h) in
     let N = λ (x : Name). is_name x ≡ true in

@@ -31,11 +31,16 @@ use Rattle.sap_lower.specs.Lowering.{helper, present, rights, shared, plus, leav
 use Rattle.sap_lower.proofs.Means.{small_sum, slice_inside}
 use Rattle.sap_lower.proofs.Shared.{known_readable}
 
--- the wires fit, have names, the helping names from the next on are new, and no other name is added
+-- a helping wire by its name
+abbrev pub IsHelper : Wire → Type 0
+IsHelper w = (k : ℕ) × (k < 2 ^ 64) × (w.name ≡ helper k)
+
+-- the wires fit, have helping names, the helping names from the next on are new, and no other name is added
 pub record Fits (ms : Shapes) (sc : Scope) (ws : List Wire) : Type 0 where
   pub wires : AreWires ms sc ws
   pub fresh : (k : ℕ) → length ws ≤ k → k < 2 ^ 64 → find (readable_after sc ws) (helper k) ≡ None
   pub named : AllByRecursion (λ w. is_name w.name ≡ true) ws
+  pub helping : AllByRecursion IsHelper ws
   pub others : (n : Name) → is_helping n ≡ false → find (readable_after sc ws) n ≡ find sc n
 
 -- no memory has a helping name
@@ -101,6 +106,7 @@ shared_fits ms sc ws u r apart fits i f None e l =
             let d = helpers_differ (length ws) k (omega (arith, long)) lt (omega arith) in
             rw (e, d) (fits.fresh k (omega arith) lt);
         named = all_append (λ (x : Wire). is_name x.name ≡ true) ws (w ∷ []) fits.named (helper_is_name (length ws) (omega (arith, long)), tt);
+        helping = all_append IsHelper ws (w ∷ []) fits.helping ((length ws, omega (arith, long), refl), tt);
         others = λ m h. let d = other_name (length ws) (omega (arith, long)) m h in rw (e, d) (fits.others m h);
       };
       grows = λ m w h. rw e (found_behind (readable_after sc ws) n u new m w h);

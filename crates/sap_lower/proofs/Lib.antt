@@ -12,6 +12,7 @@ pub mod Fits
 pub mod CommandsFit
 pub mod Order
 pub mod Begins
+pub mod Inputs
 pub mod Cycle
 pub mod Declares
 pub mod Steps
@@ -20,7 +21,9 @@ pub mod Netlist
 pub mod Rules
 pub mod Whole
 pub mod Names
+pub mod Listed
 pub mod Result
+pub mod Kept
 pub mod Final
 pub mod Made
 pub mod Sharing

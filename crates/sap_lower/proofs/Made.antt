@@ -21,13 +21,15 @@ use Rattle.sap_lower.specs.declared.parts.Part.{Part}
 use Rattle.sap_lower.specs.declared.parts.WritePort.{WritePort}
 use Rattle.sap_lower.specs.Commands.{State, low_commands}
 use Rattle.sap_lower.specs.Lookup.{shapes_of}
-use Rattle.sap_lower.specs.Lowered.{named_entry, zero_entry, first_entries, first_port, first_state, last_state, out_wire, register_of, memory_of, registers_declared, all_wires, wire_list_names, net_declared, lowered}
+use Rattle.sap_lower.specs.Lowered.{named_entry, zero_entry, first_entries, first_port, first_state, last_state, listed, out_wire, register_of, memory_of, registers_declared, all_wires, wire_list_names, net_declared, lowered}
 use Rattle.sap_lower.specs.Places.{names_of}
 use Rattle.sap_lower.specs.Same.{Declares}
 use Rattle.sap_lower.proofs.Steps.{same_state}
 use Rattle.sap_lower.proofs.Order.{same_found, found_of}
 use Rattle.sap_lower.proofs.Begins.{scope_of}
 use Rattle.sap_lower.proofs.Cycle.{Known}
+use Rattle.sap_lower.proofs.Kept.{names_kept}
+use Rattle.sap_lower.proofs.Listed.{listed_distinct}
 use Rattle.sap_lower.proofs.Netlist.{first_scope, first_found, last_fits, entries_have, ports_have, source_commands}
 use Rattle.sap_lower.proofs.Rules.{first_readable_is, shapes_are, each_variable, kind_found, found_mapped}
 use Rattle.sap_lower.proofs.Names.{outs_named, wires_distinct}
@@ -86,21 +88,24 @@ outs_scope es [] (x ∷ xs) = ap (λ (l : Scope). (x.name, x.width) ∷ l) (outs
 pub declares_all : (s : Source) → IsGuarded s → length (all_wires s) < 2 ^ 64 → Declares s (lowered s)
 declares_all s g l =
     let t = last_state s in
-    let W = variable_names s.wires in
     let M = ir.memory_names s.memories in
+    let shown = listed s.ports s.wires in
+    let W = variable_names shown in
     let fits = last_fits s g (last_short s l) in
     let wires = wires_are s g fits in
-    let d2 = distinct_behind (variable_names s.registers) (W ++ M) (distinct_behind (variable_names s.inputs) (variable_names s.registers ++ (W ++ M)) g.declared_once) in
-    let apart : AreDistinct (wire_list_names t.wires ++ W) = subst AreDistinct (outs_named t.entries t.wires s.wires) (wires_distinct (source.shapes s) (all_wires s) (first_scope s) wires) in
+    let all = variable_names s.wires in
+    let d2 = distinct_behind (variable_names s.registers) (all ++ M) (distinct_behind (variable_names s.inputs) (variable_names s.registers ++ (all ++ M)) g.declared_once) in
+    let apart : AreDistinct (wire_list_names t.wires ++ W) = subst AreDistinct (outs_named t.entries t.wires shown) (wires_distinct (source.shapes s) (all_wires s) (first_scope s) wires) in
     record {
       module_name = refl;
       ports = refl;
       inputs = refl;
       registers = λ x. ap (λ (es : List (Name × (ℕ × ℕ))). find es x) (register_pairs t.entries (registers_declared s)) ∙ found_of (λ (y : Var). (y.width, y.start)) (registers_declared s) s.registers x (same_found s.registers s.ports x);
       memories = memory_parts t.ports s.memories;
-      wires = both_hold (λ x. find (scope_of s.wires) x.name ≡ Some x.width) (λ x. is_among x.name W ≡ true) (λ x. find (map (λ w. (w.name, w.width)) (all_wires s)) x.name ≡ Some x.width) s.wires
-          (λ x f a. ap (λ (es : Scope). find es x.name) (outs_scope t.entries t.wires s.wires) ∙ found_second (map (λ w. (w.name, w.width)) t.wires) (scope_of s.wires) x.name (not_found {X = ℕ} (λ (w : Wire). w.name) (λ w. w.width) t.wires x.name (apart_lists (wire_list_names t.wires) W apart x.name a)) ∙ f)
-          (kind_found s.wires (distinct_front W M d2)) (each_variable (λ x. is_among x.name W ≡ true) s.wires (λ x a. a));
+      wires = both_hold (λ x. find (scope_of shown) x.name ≡ Some x.width) (λ x. is_among x.name W ≡ true) (λ x. find (map (λ w. (w.name, w.width)) (all_wires s)) x.name ≡ Some x.width) shown
+          (λ x f a. ap (λ (es : Scope). find es x.name) (outs_scope t.entries t.wires shown) ∙ found_second (map (λ w. (w.name, w.width)) t.wires) (scope_of shown) x.name (not_found {X = ℕ} (λ (w : Wire). w.name) (λ w. w.width) t.wires x.name (apart_lists (wire_list_names t.wires) W apart x.name a)) ∙ f)
+          (kind_found shown (listed_distinct s.ports s.wires (distinct_front all M d2))) (each_variable (λ x. is_among x.name W ≡ true) shown (λ x a. a));
+      names = names_kept s g fits.fits.helping;
     }
 
 -- what the code makes
@@ -109,15 +114,15 @@ pub first_ports_named : (ms : List Store) → names_of (map first_port ms) ≡ m
 first_ports_named [] = refl
 first_ports_named (m ∷ ms) = ap (λ (ns : List Name). m.name ∷ ns) (first_ports_named ms)
 
-pub made_is : (s : Source) (net : Net) (is rs ws outs : List Var) (ms : List Store) (cs : List Command) (w0 w1 w2 : List Wire) (e0 e1 e2 e3 : List (Name × Part)) (p0 p1 p2 : List (Name × WritePort))
-    → is ≡ s.inputs → rs ≡ s.registers → ws ≡ s.wires → outs ≡ s.wires → ms ≡ s.memories → cs ≡ s.commands
+pub made_is : (s : Source) (net : Net) (is rs ws outs : List Var) (shown : List Name) (ms : List Store) (cs : List Command) (w0 w1 w2 : List Wire) (e0 e1 e2 e3 : List (Name × Part)) (p0 p1 p2 : List (Name × WritePort))
+    → is ≡ s.inputs → rs ≡ s.registers → ws ≡ s.wires → outs ≡ s.wires → shown ≡ s.ports → ms ≡ s.memories → cs ≡ s.commands
     → e0 ≡ map named_entry is ++ map named_entry rs ++ map zero_entry ws → p0 ≡ map first_port ms → w0 ≡ []
     → w1 ≡ (low_commands (shapes_of ms) (record { wires = w0; entries = e0; ports = p0 }) cs).wires
     → e1 ≡ (low_commands (shapes_of ms) (record { wires = w0; entries = e0; ports = p0 }) cs).entries
     → p1 ≡ (low_commands (shapes_of ms) (record { wires = w0; entries = e0; ports = p0 }) cs).ports
     → e2 ≡ e1 → e3 ≡ e1 → p2 ≡ p1
-    → w2 ≡ w1 ++ map (out_wire e2) outs → net ≡ net_declared s w2 e3 p2 → (net ≡ lowered s) × (w2 ≡ all_wires s)
-made_is s net is rs ws outs ms cs w0 w1 w2 e0 e1 e2 e3 p0 p1 p2 ei er ew eo em ec he hp hw h1 h2 h3 k2 k3 k4 hw2 hn =
+    → w2 ≡ w1 ++ map (out_wire e2) (listed shown outs) → net ≡ net_declared s w2 e3 p2 → (net ≡ lowered s) × (w2 ≡ all_wires s)
+made_is s net is rs ws outs shown ms cs w0 w1 w2 e0 e1 e2 e3 p0 p1 p2 ei er ew eo es em ec he hp hw h1 h2 h3 k2 k3 k4 hw2 hn =
     let fe : e0 ≡ first_entries s = he ∙ ap (λ (l : List Var). map named_entry l ++ map named_entry rs ++ map zero_entry ws) ei ∙ ap (λ (l : List Var). map named_entry s.inputs ++ map named_entry l ++ map zero_entry ws) er ∙ ap (λ (l : List Var). map named_entry s.inputs ++ map named_entry s.registers ++ map zero_entry l) ew in
     let fp : p0 ≡ map first_port s.memories = hp ∙ ap (λ (l : List Store). map first_port l) em in
     let st = same_state w0 [] e0 (first_entries s) p0 (map first_port s.memories) hw fe fp in
@@ -128,7 +133,8 @@ made_is s net is rs ws outs ms cs w0 w1 w2 e0 e1 e2 e3 p0 p1 p2 ei er ew eo em e
     let a1 : w1 ≡ t.wires = h1 ∙ ap (λ (q : State). q.wires) last in
     let a2 : e1 ≡ t.entries = h2 ∙ ap (λ (q : State). q.entries) last in
     let a3 : p1 ≡ t.ports = h3 ∙ ap (λ (q : State). q.ports) last in
-    let wi : w2 ≡ all_wires s = hw2 ∙ ap₂ (λ (x : List Wire) (y : List (Name × Part)). x ++ map (out_wire y) outs) a1 (k2 ∙ a2) ∙ ap (λ (l : List Var). t.wires ++ map (out_wire t.entries) l) eo in (
+    let wi : w2 ≡ all_wires s = hw2 ∙ ap₂ (λ (x : List Wire) (y : List (Name × Part)). x ++ map (out_wire y) (listed shown outs)) a1 (k2 ∙ a2)
+    ∙ ap₂ (λ (l : List Var) (ps : List Name). t.wires ++ map (out_wire t.entries) (listed ps l)) eo es in (
       hn ∙ ap (λ (x : List Wire). net_declared s x e3 p2) wi ∙ ap (λ (y : List (Name × Part)). net_declared s (all_wires s) y p2) (k3 ∙ a2) ∙ ap (λ (z : List (Name × WritePort)). net_declared s (all_wires s) t.entries z) (k4 ∙ a3),
       wi,
     )

@@ -221,7 +221,7 @@ no_helping_value s g k l =
 pub last_fits : (s : Source) → IsGuarded s → length (last_state s).wires < 2 ^ 64 → StateFits (source.shapes s) (first_scope s) (source.readable s) (last_state s)
 last_fits s g l =
     let first : StateFits (source.shapes s) (first_scope s) (source.readable s) (first_state s) = record {
-      fits = record { wires = tt; named = tt; fresh = λ k a b. no_helping_value s g k b; others = λ n h. refl };
+      fits = record { wires = tt; named = tt; helping = tt; fresh = λ k a b. no_helping_value s g k b; others = λ n h. refl };
       env = first_env s;
       has = entries_have s;
       has_ports = ports_have s;

@@ -9,7 +9,7 @@ use Rattle.sap_maps.specs.Maps.{Name}
 use Rattle.sap_maps.specs.Scope.{find}
 use Rattle.sap_maps.specs.Term.{Term, constant, read, cell, one, two, choose, join, part}
 use Rattle.sap_maps.proofs.Scopes.{same_name, not_behind}
-use Rattle.sap_net.specs.Names.{is_among, AreDistinct}
+use Rattle.sap_net.specs.Names.{is_among}
 use Rattle.sap_net.specs.Rules.{Shapes}
 use Rattle.sap_net.specs.declared.parts.Operand.{Operand}
 use Rattle.sap_net.specs.declared.parts.Operand.TheVariants.{Named, Constant}
@@ -18,19 +18,20 @@ use Rattle.sap_net.specs.declared.parts.Right.TheVariants.{One, Two, Choose, Con
 use Rattle.sap_net.specs.declared.parts.Wire.{Wire}
 use Rattle.sap_ir.specs.declared.guarded.Var.{Var}
 use Rattle.sap_ir.specs.Source.{Source, Command, Action, set, put, shapes}
-use Rattle.sap_ir.specs.IsGuarded.{variable_names, IsGuarded}
-use Rattle.sap_ir.proofs.Declared.{not_behind_list}
+use Rattle.sap_ir.specs.IsGuarded.{variable_names, memory_names, IsGuarded}
+use Rattle.sap_ir.proofs.Declared.{not_front, not_behind_list}
 use Rattle.sap_lower.specs.declared.parts.Part.{Part}
 use Rattle.sap_lower.specs.declared.parts.WritePort.{WritePort}
 use Rattle.sap_lower.specs.Keys.{key}
 use Rattle.sap_lower.specs.Lowering.{helper, present, rights, shared, plus, leaves_nothing, sliced, is_outside, cell_width, low, nothing}
 use Rattle.sap_lower.specs.Commands.{State, port_of, low_set, low_put, low_action, low_command, low_commands}
-use Rattle.sap_lower.specs.Lowered.{out_wire, all_wires, wire_list_names, first_state, last_state, lowered}
+use Rattle.sap_lower.specs.Lowered.{listed, out_wire, all_wires, first_state, last_state, lowered}
 use Rattle.sap_lower.specs.Same.{DifferFrom, AllDiffer, SharesWires}
-use Rattle.sap_lower.proofs.Names.{outs_named, wires_distinct}
-use Rattle.sap_lower.proofs.Netlist.{first_scope, last_fits}
+use Rattle.sap_lower.proofs.Fits.{IsHelper}
+use Rattle.sap_lower.proofs.Listed.{listed_holds}
+use Rattle.sap_lower.proofs.Netlist.{helpers_apart, last_fits}
 use Rattle.sap_lower.proofs.Rules.{each_variable}
-use Rattle.sap_lower.proofs.Whole.{last_short, wires_are}
+use Rattle.sap_lower.proofs.Whole.{last_short}
 
 -- one more wire whose right side is new
 
@@ -127,19 +128,29 @@ commands_differ ms (c ∷ cs) s a = commands_differ ms cs (low_command ms s c) (
 
 -- the helping wires are those of the commands
 
-helping_is : (names : List Name) (es : List (Name × Part)) (ws : List Wire) (xs : List Var) → AreDistinct (wire_list_names ws ++ names) → AllByRecursion (λ x. is_among x.name names ≡ true) xs
+helping_is : (names : List Name) (es : List (Name × Part)) (ws : List Wire) (xs : List Var) → AllByRecursion (λ w. is_among w.name names ≡ false) ws → AllByRecursion (λ x. is_among x.name names ≡ true) xs
     → filter (λ w. not (is_among w.name names)) (ws ++ map (out_wire es) xs) ≡ ws
-helping_is names es (w ∷ ws) xs d a =
-    let f = not_behind_list w.name (wire_list_names ws) names d.0 in rw f (ap (λ (r : List Wire). w ∷ r) (helping_is names es ws xs d.1 a))
+helping_is names es (w ∷ ws) xs d a = let f = d.0 in rw f (ap (λ (r : List Wire). w ∷ r) (helping_is names es ws xs d.1 a))
 helping_is names es [] [] d a = refl
 helping_is names es [] (x ∷ xs) d a = let t = a.0 in rw t (helping_is names es [] xs d a.1)
+
+no_wire : (s : Source) → IsGuarded s → (k : ℕ) → k < 2 ^ 64 → is_among (helper k) (variable_names s.wires) ≡ false
+no_wire s g k l =
+    let ws = variable_names s.wires in
+    let ms = memory_names s.memories in
+    let a = not_behind_list (helper k) (variable_names s.inputs) (variable_names s.registers ++ (ws ++ ms)) (helpers_apart s g k l) in
+    not_front (helper k) ws ms (not_behind_list (helper k) (variable_names s.registers) (ws ++ ms) a)
+
+no_wires : (s : Source) → IsGuarded s → (ws : List Wire) → AllByRecursion IsHelper ws → AllByRecursion (λ w. is_among w.name (variable_names s.wires) ≡ false) ws
+no_wires s g [] a = tt
+no_wires s g (w ∷ ws) a =
+    (subst (λ (n : Name). is_among n (variable_names s.wires) ≡ false) (sym a.0.2) (no_wire s g a.0.0 a.0.1), no_wires s g ws a.1)
 
 pub shares_wires : (s : Source) → IsGuarded s → length (all_wires s) < 2 ^ 64 → SharesWires s (lowered s)
 shares_wires s g l =
     let t = last_state s in
     let names = variable_names s.wires in
     let fits = last_fits s g (last_short s l) in
-    let wires = wires_are s g fits in
-    let apart : AreDistinct (wire_list_names t.wires ++ names) = subst AreDistinct (outs_named t.entries t.wires s.wires) (wires_distinct (shapes s) (all_wires s) (first_scope s) wires) in
-    let e = helping_is names t.entries t.wires s.wires apart (each_variable (λ x. is_among x.name names ≡ true) s.wires (λ x a. a)) in
+    let there = each_variable (λ x. is_among x.name names ≡ true) s.wires (λ x a. a) in
+    let e = helping_is names t.entries t.wires (listed s.ports s.wires) (no_wires s g t.wires fits.fits.helping) (listed_holds (λ x. is_among x.name names ≡ true) s.ports s.wires there) in
     subst AllDiffer (sym e) (commands_differ (shapes s) s.commands (first_state s) tt)

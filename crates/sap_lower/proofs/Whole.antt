@@ -20,12 +20,13 @@ use Rattle.sap_lower.specs.declared.parts.Part.{Part}
 use Rattle.sap_lower.specs.declared.parts.WritePort.{WritePort}
 use Rattle.sap_lower.specs.Lowering.{present}
 use Rattle.sap_lower.specs.Commands.{port_of}
-use Rattle.sap_lower.specs.Lowered.{out_wire, register_of, memory_of, all_wires, last_state}
+use Rattle.sap_lower.specs.Lowered.{listed, out_wire, register_of, memory_of, all_wires, last_state}
 use Rattle.sap_lower.proofs.Fits.{EnvFits, Grows, operand_grows}
 use Rattle.sap_lower.proofs.CommandsFit.{PortsFit, StateFits}
 use Rattle.sap_lower.proofs.Begins.{scope_of, shapes_list}
 use Rattle.sap_lower.proofs.Declares.{among_each}
 use Rattle.sap_lower.proofs.Netlist.{first_scope, first_found}
+use Rattle.sap_lower.proofs.Listed.{listed_distinct, listed_holds}
 use Rattle.sap_lower.proofs.Rules.{wires_append, readable_append, outs_fit, wire_among, each_variable, kind_found}
 
 long_front : (ws vs : List Wire) → length ws ≤ length (ws ++ vs)
@@ -33,7 +34,7 @@ long_front [] vs = omega arith
 long_front (w ∷ ws) vs = omega (arith, long_front ws vs)
 
 pub last_short : (s : Source) → length (all_wires s) < 2 ^ 64 → length (last_state s).wires < 2 ^ 64
-last_short s l = omega (arith, long_front (last_state s).wires (map (out_wire (last_state s).entries) s.wires))
+last_short s l = omega (arith, long_front (last_state s).wires (map (out_wire (last_state s).entries) (listed s.ports s.wires)))
 
 pub plain_wide : (xs : List Var) → AllByRecursion IsPlainVar xs → AllByRecursion (λ x. IsWidth x.width) xs
 plain_wide [] a = tt
@@ -88,21 +89,23 @@ env_operands sc vars es e [] f = tt
 env_operands sc vars es e (x ∷ xs) f = ((e x.name x.width f.0).0, env_operands sc vars es e xs f.1)
 
 abbrev outs : Source → List Wire
-outs s = map (out_wire (last_state s).entries) s.wires
+outs s = map (out_wire (last_state s).entries) (listed s.ports s.wires)
 
 outs_are : (s : Source) → IsGuarded s → StateFits (source.shapes s) (first_scope s) (source.readable s) (last_state s) → AreWires (source.shapes s) (readable_after (first_scope s) (last_state s).wires) (outs s)
 outs_are s g k =
     let t = last_state s in
     let sc = readable_after (first_scope s) t.wires in
     let d2 = distinct_behind (variable_names s.registers) (variable_names s.wires ++ memory_names s.memories) (distinct_behind (variable_names s.inputs) (variable_names s.registers ++ (variable_names s.wires ++ memory_names s.memories)) g.declared_once) in
-    outs_fit (source.shapes s) t.entries s.wires sc (distinct_front (variable_names s.wires) (memory_names s.memories) d2) (plain_wide s.wires g.wires)
-    (each_variable (λ x. find sc x.name ≡ None) s.wires (λ x a.
+    let P = s.ports in
+    let W = s.wires in
+    outs_fit (source.shapes s) t.entries (listed P W) sc (listed_distinct P W (distinct_front (variable_names W) (memory_names s.memories) d2)) (listed_holds (λ x. IsWidth x.width) P W (plain_wide W g.wires))
+    (listed_holds (λ x. find sc x.name ≡ None) P W (each_variable (λ x. find sc x.name ≡ None) W (λ x a.
     let o = wire_among s g.declared_once x.name a in
     let h : is_helping x.name ≡ false = wire_plain s g x.name a in
     k.fits.others x.name h ∙ first_found s x.name
-    ∙ found_second (scope_of s.inputs) (scope_of s.registers) x.name (not_found {X = ℕ} (λ (y : Var). y.name) (λ y. y.width) s.inputs x.name o.0) ∙ not_found {X = ℕ} (λ (y : Var). y.name) (λ y. y.width) s.registers x.name o.1))
-    (each_variable (λ x. find (source.shapes s) x.name ≡ None) s.wires (λ x a. not_found {X = ℕ × ℕ} (λ (m : Store). m.name) (λ m. (m.width, m.depth)) s.memories x.name (wire_among s g.declared_once x.name a).2))
-    (env_operands sc (source.readable s) t.entries k.env s.wires (wires_found s g))
+    ∙ found_second (scope_of s.inputs) (scope_of s.registers) x.name (not_found {X = ℕ} (λ (y : Var). y.name) (λ y. y.width) s.inputs x.name o.0) ∙ not_found {X = ℕ} (λ (y : Var). y.name) (λ y. y.width) s.registers x.name o.1)))
+    (listed_holds (λ x. find (source.shapes s) x.name ≡ None) P W (each_variable (λ x. find (source.shapes s) x.name ≡ None) W (λ x a. not_found {X = ℕ × ℕ} (λ (m : Store). m.name) (λ m. (m.width, m.depth)) s.memories x.name (wire_among s g.declared_once x.name a).2)))
+    (env_operands sc (source.readable s) t.entries k.env (listed P W) (listed_holds (λ x. find (source.readable s) x.name ≡ Some x.width) P W (wires_found s g)))
 
 pub wires_are : (s : Source) → IsGuarded s → StateFits (source.shapes s) (first_scope s) (source.readable s) (last_state s) → AreWires (source.shapes s) (first_scope s) (all_wires s)
 wires_are s g k = wires_append (source.shapes s) (last_state s).wires (outs s) (first_scope s) k.fits.wires (outs_are s g k)

@@ -51,7 +51,7 @@ first_state s = record { wires = []; entries = first_entries s; ports = map firs
 abbrev pub last_state : Source → State
 last_state s = low_commands (shapes s) (first_state s) s.commands
 
--- each wire is a copy of what it stands for at the end
+-- a copy of what a wire stands for at the end
 abbrev pub out_wire : List (Name × Part) → Var → Wire
 out_wire es x = record { name = x.name; width = x.width; right = Copy (present es x.name).operand }
 
@@ -79,6 +79,10 @@ picked rs (p ∷ ps) = in_front (find (map (λ r. (r.name, r)) rs) p) (picked rs
 abbrev pub unlisted : List Name → List Var → List Var
 unlisted ps xs = filter (λ x. not (is_among x.name ps)) xs
 
+-- the variables that are ports
+abbrev pub listed : List Name → List Var → List Var
+listed ps xs = filter (λ x. is_among x.name ps) xs
+
 abbrev pub registers_declared : Source → List Var
 registers_declared s = picked s.registers s.ports ++ unlisted s.ports s.registers
 
@@ -92,7 +96,7 @@ abbrev pub port_shown : List Var → Name → Port
 port_shown rs p = record { name = p; kind = kind_shown (is_among p (variable_names rs)) }
 
 abbrev pub all_wires : Source → List Wire
-all_wires s = let t = last_state s in t.wires ++ map (out_wire t.entries) s.wires
+all_wires s = let t = last_state s in t.wires ++ map (out_wire t.entries) (listed s.ports s.wires)
 
 abbrev pub wire_list_names : List Wire → List Name
 wire_list_names ws = map (λ w. w.name) ws

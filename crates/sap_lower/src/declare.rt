@@ -4,7 +4,7 @@ ghost use Rattle.std.specs.Prelude.{◌≡◌, [], ◌∷◌, ◌++◌, map, IfO
 ghost use Rattle.sap_net.specs.Names.{is_among};
 ghost use Rattle.sap_ir.specs.IsGuarded.{memory_names, variable_names};
 ghost use Rattle.sap_lower.specs.Index.{Indexes};
-ghost use Rattle.sap_lower.specs.Lowered.{input_of, input_port, memory_of, net_declared, out_wire, picked, port_shown, register_of, unlisted, unported, wire_list_names};
+ghost use Rattle.sap_lower.specs.Lowered.{input_of, input_port, listed, memory_of, net_declared, out_wire, picked, port_shown, register_of, unlisted, unported, wire_list_names};
 ghost use Rattle.sap_lower.specs.Places.{names_of};
 
 use crate::calc::present_part;
@@ -93,19 +93,24 @@ fn memory(
     })
 }
 
-/// Each wire of the program, as a copy of what it stands for at the end.
+/// Each wire that is a port, as a copy of what it stands for at the end.
 pub fn out_wires(
     alloc: Global,
     wires: &mut Vec<Wire>,
     places: &HashMap<Vec<u8>, usize>,
     entries: &[(Name, Part)],
+    port_places: &HashMap<Vec<u8>, usize>,
+    ports: &[Name],
     variables: &[Var],
 ) -> Result<(), AllocError>
-    requires { Indexes places.now (names_of entries.now) }
-    ensures { OnOk result (wires.new.items ≡ wires.old.items ++ map (out_wire entries.now) variables.now) }
+    requires entries { Indexes places.now (names_of entries.now) }
+    requires ports { Indexes port_places.now ports.now }
+    ensures { OnOk result (wires.new.items ≡ wires.old.items ++ map (out_wire entries.now) (listed ports.now variables.now)) }
 {
     for variable in variables {
-        wires.push(wire(alloc, places, entries, variable)?)?;
+        if is_listed(port_places, ports, &variable.name) {
+            wires.push(wire(alloc, places, entries, variable)?)?;
+        }
     }
     Ok(())
 }

@@ -29,18 +29,19 @@ fn parts(
     entries: &[(Name, Part)],
     store_places: &HashMap<Vec<u8>, usize>,
     ports: &[(Name, WritePort)],
+    port_places: &HashMap<Vec<u8>, usize>,
 ) -> Result<Parts, AllocError>
     requires places { Indexes places.now (names_of entries.now) }
     requires ports { Indexes store_places.now (names_of ports.now) }
+    requires shown { Indexes port_places.now (source_of source.now).ports }
     ensures { IfOk result (λ p. net_of p ≡ net_declared (source_of source.now) wires.items entries.now ports.now) }
 {
-    let port_places = index_names(alloc, source.ports())?;
     let register_places = index_variables(alloc, source.registers())?;
     let module_name = Name::new(b"top".to_vec(alloc)?);
     let names = declare::names(
         alloc,
         source.inputs(),
-        &port_places,
+        port_places,
         source.ports(),
         &wires,
         source.registers(),
@@ -60,7 +61,7 @@ fn parts(
         entries,
         &register_places,
         source.registers(),
-        &port_places,
+        port_places,
         source.ports(),
     )?;
     let memories = declare::memories(alloc, store_places, ports, source.memories())?;
@@ -75,7 +76,9 @@ fn parts(
     })
 }
 
-/// The netlist of a program that writes no memory twice in a cycle.
+/// The netlist of a program that writes no memory twice in a cycle. It declares the program's inputs, registers and memories, those of its
+/// wires that are ports, and helping wires. On every stream and in each cycle it has the program's number at each input, register, memory cell
+/// and port.
 pub fn lower(alloc: Global, source: &Guarded) -> Result<Netlist, AllocError>
     requires { WritesOnce (source_of source.now) }
     ensures declares { IfOk result (λ n. Declares (source_of source.now) n) }
@@ -99,8 +102,17 @@ pub fn lower(alloc: Global, source: &Guarded) -> Result<Netlist, AllocError>
         &mut ports,
         source.cmds(),
     )?;
+    let port_places = index_names(alloc, source.ports())?;
     let mut wires = helpers.into_vec();
-    declare::out_wires(alloc, &mut wires, &places, &entries, source.wires())?;
+    declare::out_wires(
+        alloc,
+        &mut wires,
+        &places,
+        &entries,
+        &port_places,
+        source.ports(),
+        source.wires(),
+    )?;
     let made = parts(
         alloc,
         source,
@@ -109,6 +121,7 @@ pub fn lower(alloc: Global, source: &Guarded) -> Result<Netlist, AllocError>
         &entries,
         &store_places,
         &ports,
+        &port_places,
     )?;
     Ok(Netlist::new(made))
 }

@@ -1,6 +1,7 @@
 -- What the module subset takes as a name, and lists of names.
-use Rattle.std.specs.Prelude.{◌≡◌, ℕ, Bool, false, not, ◌||◌, ◌&&◌, ◌==◌, List, [], ◌∷◌, codes}
+use Rattle.std.specs.Prelude.{◌≡◌, ℕ, Bool, false, not, ◌||◌, ◌&&◌, ◌==◌, List, [], ◌∷◌, ◌++◌, codes}
 use Rattle.std.specs.Char.{is_ascii_alphabetic, is_ascii_alphanumeric}
+use Rattle.std.specs.Fmt.{decimal}
 use Rattle.std.specs.List.{list_all, list_any}
 use Rattle.std.specs.Str.{bytes_eq}
 use Rattle.sap_maps.specs.Maps.{Name}
@@ -53,3 +54,7 @@ is_among x (y ∷ ys) = bytes_eq x y || is_among x ys
 abbrev pub AreDistinct : List Name → Type 0
 AreDistinct [] = Unit {0}
 AreDistinct (x ∷ xs) = (is_among x xs ≡ false) × AreDistinct xs
+
+-- the name of a helping wire: an `n` and a number
+abbrev pub IsHelpingName : Name → Type 0
+IsHelpingName x = (k : ℕ) × (x ≡ codes "n" ++ decimal k)

@@ -4,5 +4,3 @@
 pub mod laws;
 pub mod netlist;
 pub mod parts;
-#[cfg(test)]
-mod tests;

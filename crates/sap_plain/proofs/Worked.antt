@@ -1,6 +1,7 @@
 -- The small program, computed.
 use Rattle.std.proofs.Common.{◌≡◌, true, refl}
 use Rattle.sap_net.specs.Names.{is_name}
+use Rattle.sap_tree.specs.Words as words
 use Rattle.sap_ir.specs.Test.{is_guarded}
 use Rattle.sap_plain.specs.Nested.{seat_width}
 use Rattle.sap_plain.specs.IsPlain.{IsPlain}
@@ -12,7 +13,7 @@ pub counts : Counts
 counts = refl
 
 passes : is_plain counting ≡ true
-unfolding is_plain is_guarded is_name seat_width
+unfolding is_plain is_guarded is_name words.is_name seat_width
 passes = refl
 
 pub is_program : IsPlain counting

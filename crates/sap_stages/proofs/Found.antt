@@ -1,5 +1,5 @@
 -- What is declared under a name, from one program to the next.
-use Rattle.std.proofs.Common.{◌≡◌, ℕ, List, [], ◌∷◌, ◌++◌, map, Bool, true, false, Option, Some, None, inl, inr, refl, sym, ap, ◌∙◌, subst, if◌then◌else◌, bytes_eq}
+use Rattle.std.proofs.Common.{◌≡◌, ℕ, List, [], ◌∷◌, ◌++◌, map, filter, Bool, true, false, Option, Some, None, inl, inr, refl, sym, ap, ◌∙◌, subst, if◌then◌else◌, bytes_eq}
 use Rattle.std.specs.List.{AllByRecursion}
 use Rattle.std.proofs.lemmas.Bool.{cases_Bool}
 use Rattle.sap_maps.specs.Maps.{Name}
@@ -60,6 +60,17 @@ wire_found ws [] n u a h = absurd h
 wire_found ws (x ∷ xs) n u a (inl e) =
     sym (ap (λ (m : Name). find {X = ℕ} (map (λ w. (w.name, w.width)) ws) m) e.0) ∙ a.0 ∙ ap (λ (k : ℕ). Some k) e.1
 wire_found ws (x ∷ xs) n u a (inr h) = wire_found ws xs n u a.1 h
+
+-- a variable that is a port
+pub listed_variable : (ps : List Name) (xs : List Var) (n : Name) (u : ℕ) → HasVariable xs n u → is_among n ps ≡ true → HasVariable (filter (λ x. is_among x.name ps) xs) n u
+listed_variable ps [] n u h p = absurd h
+listed_variable ps (x ∷ xs) n u (inl e) p =
+    let t : is_among x.name ps ≡ true = subst (λ (m : Name). is_among m ps ≡ true) (sym e.0) p in rw t (inl e)
+listed_variable ps (x ∷ xs) n u (inr h) p =
+    elim (cases_Bool (is_among x.name ps)) [
+      | inl t ↦ rw t (inr (listed_variable ps xs n u h p))
+      | inr f ↦ rw f (listed_variable ps xs n u h p)
+    ]
 
 -- registers
 

@@ -1,11 +1,12 @@
 -- The netlist of nested states that stand for a design stands for it too.
-use Rattle.std.proofs.Common.{◌≡◌, ℕ, List, [], ◌∷◌, ◌++◌, map, ◌↔◌, refl, sym, ap, ap₂, ◌∙◌, subst, if◌then◌else◌}
+use Rattle.std.proofs.Common.{◌≡◌, ◌≤◌, ◌⊎◌, ℕ, List, [], ◌∷◌, ◌++◌, map, true, inl, inr, ◌↔◌, refl, sym, ap, ap₂, ◌∙◌, subst, if◌then◌else◌}
+use Rattle.std.specs.List.{AllByRecursion}
 use Rattle.sap_maps.specs.Maps.{Name, Valuation}
 use Rattle.sap_maps.specs.Scope.{find}
 use Rattle.sap_meaning.specs.Cycle.{Tagged}
 use Rattle.sap_meaning.specs.Store.{Store, After, Refusal}
 use Rattle.sap_meaning.specs.State.{StreamFits, labelled_run}
-use Rattle.sap_net.specs.Names.{is_among, AreDistinct}
+use Rattle.sap_net.specs.Names.{is_among, AreDistinct, IsHelpingName}
 use Rattle.sap_net.specs.Net.{Net}
 use Rattle.sap_net.specs.Runs.{AllFit, observed}
 use Rattle.sap_net.specs.declared.parts.PortKind.TheVariants as kind
@@ -22,12 +23,17 @@ use Rattle.sap_plain.specs.Does.{plain_run}
 use Rattle.sap_plain.specs.IsPlain.{IsPlain}
 use Rattle.sap_flat.specs.Same as flat
 use Rattle.sap_lower.specs.Same as low
+use Rattle.sap_lower.proofs.Listed.{listed_port}
+use Rattle.sap_interface.specs.PortNames.{refused_name, level_name}
 use Rattle.sap_interface.specs.StandsFor.{Named, world, StandsFor, IsRefused}
+use Rattle.sap_interface.specs.InterfaceNames.{IsInterfaceName}
 use Rattle.sap_interface.specs.Interface.{Shown, HasInput, HasWire, HasRegister, HasMemory, HasSeat, HasInterface, ports_of}
 use Rattle.sap_interface.specs.Compiled.{coded_stream, CyclesStand, NetStandsFor}
-use Rattle.sap_tags.specs.Law.{HasVariable, HasStore, HasSeatRegister, AreSites, RefusalsAreSites, PlainStandsFor}
+use Rattle.sap_tags.specs.Law.{HasVariable, HasStore, HasSeatRegister, AreSites, RefusalsAreSites, shows, shown, PlainStandsFor}
+use Rattle.sap_tags.proofs.Members.{In}
 use Rattle.sap_stages.specs.Stages.{StandsForTheSame}
-use Rattle.sap_stages.proofs.Found.{as_input, Shape, store_stored, has_front, input_there, wire_there, wire_found, register_there, variable_found, memory_there, same_at, same_cells, all_fit}
+use Rattle.sap_stages.proofs.Ports.{all_front, all_behind, all_of_map, all_follow, named_among, variable_among, store_among, refused_port, level_port, ports_named, wire_among}
+use Rattle.sap_stages.proofs.Found.{as_input, Shape, store_stored, has_front, input_there, wire_there, wire_found, listed_variable, register_there, variable_found, memory_there, same_at, same_cells, all_fit}
 
 -- ports
 
@@ -81,8 +87,22 @@ module _ (d : Named) (tag sites : ℕ) (p : Nested) (s : Source) (n : Net) (from
   wires_in : (x : Name) (u : ℕ) → HasVariable p.wires x u → HasVariable s.wires x u
   wires_in x u h = subst (λ (ws : List Var). HasVariable ws x u) (sym flattens.wires.1) (has_front p.wires flattens.wires.0 x u h)
 
-  has_wire : (x : Name) (u : ℕ) → HasVariable p.wires x u → HasWire n.wires x u
-  has_wire x u h = wire_there n.wires x u (wire_found n.wires s.wires x u lowers.wires (wires_in x u h))
+  port_in : (x : Name) (u : ℕ) → HasVariable p.wires x u → is_among x p.ports ≡ true → HasVariable (low.port_wires s) x u
+  port_in x u h port =
+      listed_variable s.ports s.wires x u (wires_in x u h) (subst (λ (ns : List Name). is_among x ns ≡ true) (sym flattens.ports) port)
+
+  has_wire : (x : Name) (u : ℕ) → HasVariable p.wires x u → is_among x p.ports ≡ true → HasWire n.wires x u
+  has_wire x u h port = wire_there n.wires x u (wire_found n.wires (low.port_wires s) x u lowers.wires (port_in x u h port))
+
+  refused_shown : (k : ℕ) → 1 ≤ k → k ≤ sites → is_among (refused_name k) p.ports ≡ true
+  refused_shown k i j =
+      wire_among p.inputs (shows p) p.ports (refused_name k)
+      (subst (λ (qs : List Shown). In qs (refused_name k, kind.Wire)) (sym from.interface.ports) (refused_port d sites k i j))
+
+  level_shown : (k : ℕ) → 1 ≤ k → k ≤ sites → is_among (level_name k) p.ports ≡ true
+  level_shown k i j =
+      wire_among p.inputs (shows p) p.ports (level_name k)
+      (subst (λ (qs : List Shown). In qs (level_name k, kind.Wire)) (sym from.interface.ports) (level_port d sites k i j))
 
   has_memory : (x : Name) (u k : ℕ) → HasStore p.memories x u k → HasMemory n.memories x u k
   has_memory x u k h =
@@ -106,19 +126,51 @@ module _ (d : Named) (tag sites : ℕ) (p : Nested) (s : Source) (n : Net) (from
       ∙ ap₂ (λ (xs ys : List Shown). xs ++ ys) (inputs_shown p.inputs) (names_shown p.registers p.ports)
       ∙ from.interface.ports
 
+  -- names
+
+  abbrev IsNamed : Name → Type 0
+  IsNamed x = IsInterfaceName d sites x
+
+  all_shown : AllByRecursion (λ q. IsInterfaceName d sites q.0) (shown p)
+  all_shown = subst (λ (qs : List Shown). AllByRecursion (λ q. IsInterfaceName d sites q.0) qs) (sym from.interface.ports) (ports_named d sites)
+
+  inputs_named : AllByRecursion (λ x. IsNamed x.name) p.inputs
+  inputs_named =
+      all_of_map (λ (q : Shown). IsNamed q.0) input_shown p.inputs
+      (all_front (λ (q : Shown). IsNamed q.0) (map input_shown p.inputs) (map (λ x. (x, shows p x)) p.ports) all_shown)
+
+  outputs_named : AllByRecursion IsNamed p.ports
+  outputs_named =
+      all_of_map (λ (q : Shown). IsNamed q.0) (λ (x : Name). (x, shows p x)) p.ports
+      (all_behind (λ (q : Shown). IsNamed q.0) (map input_shown p.inputs) (map (λ x. (x, shows p x)) p.ports) all_shown)
+
+  kept_named : (x : Name) → low.IsKept s x → IsNamed x
+  kept_named x (inl h) = variable_among IsNamed p.inputs inputs_named x (subst (λ (is : List Var). is_among x (variable_names is) ≡ true) flattens.inputs h)
+  kept_named x (inr (inl h)) =
+      variable_among IsNamed p.registers from.interface.register_names x (subst (λ (rs : List Var). is_among x (variable_names rs) ≡ true) flattens.registers h)
+  kept_named x (inr (inr (inl h))) =
+      store_among IsNamed p.memories from.interface.memory_names x (subst (λ (ms : List ir.Store). is_among x (memory_names ms) ≡ true) flattens.memories h)
+  kept_named x (inr (inr (inr h))) =
+      named_among IsNamed p.ports outputs_named x (subst (λ (ns : List Name). is_among x ns ≡ true) flattens.ports (listed_port s.ports s.wires x h))
+
+  name_is : (x : Name) → low.IsKept s x ⊎ IsHelpingName x → IsInterfaceName d sites x ⊎ IsHelpingName x
+  name_is x (inl h) = inl (kept_named x h)
+  name_is x (inr h) = inr h
+
   interface : HasInterface d tag sites n
   interface = record {
     module_name = lowers.module_name;
     ports = ports_shown;
     inputs = λ x h. (has_input _ _ (from.interface.inputs x h).0, has_input _ _ (from.interface.inputs x h).1);
     registers = λ x h. (has_register _ _ (from.interface.registers x h).0, has_register _ _ (from.interface.registers x h).1);
-    site_wires = λ k h i. (has_wire _ _ (from.interface.site_wires k h i).0, has_wire _ _ (from.interface.site_wires k h i).1);
+    site_wires = λ k h i. (has_wire _ _ (from.interface.site_wires k h i).0 (refused_shown k h i), has_wire _ _ (from.interface.site_wires k h i).1 (level_shown k h i));
     memories = λ m h. has_memory _ _ _ (from.interface.memories m h);
     cell_tags = λ m h i. has_memory _ _ _ (from.interface.cell_tags m h i);
     memory_tags = λ m h i. has_register _ _ (from.interface.memory_tags m h i);
     state_tags = λ x h i. has_register _ _ (from.interface.state_tags x h i);
     seats = λ x h i. has_seat _ _ (from.interface.seats x h i);
     root_seat = has_seat _ _ from.interface.root_seat;
+    names = all_follow (λ (x : Name). low.IsKept s x ⊎ IsHelpingName x) (λ x. IsInterfaceName d sites x ⊎ IsHelpingName x) n.names name_is lowers.names;
   }
 
   takes : (stream : List (List Tagged)) → StreamFits (world d) stream → AllFit n.inputs (coded_stream d.code stream)
@@ -135,9 +187,9 @@ module _ (d : Named) (tag sites : ℕ) (p : Nested) (s : Source) (n : Net) (from
         same_at seen e.value s.registers x u lowered.registers (subst (λ (rs : List Var). HasVariable rs x u) (sym flattens.registers) h)
         ∙ same_at e.value f.value p.registers x u flattened.registers h
 
-    of_wire : (x : Name) (u : ℕ) → HasVariable p.wires x u → seen x ≡ f.value x
-    of_wire x u h =
-        same_at seen e.value s.wires x u lowered.wires (wires_in x u h) ∙ same_at e.value f.value p.wires x u flattened.wires h
+    of_wire : (x : Name) (u : ℕ) → HasVariable p.wires x u → is_among x p.ports ≡ true → seen x ≡ f.value x
+    of_wire x u h port =
+        same_at seen e.value (low.port_wires s) x u lowered.wires (port_in x u h port) ∙ same_at e.value f.value p.wires x u flattened.wires h
 
     of_cell : (x : Name) (u k : ℕ) → HasStore p.memories x u k → (i : ℕ) → (observed n v).cell x i ≡ f.cell x i
     of_cell x u k h i =
@@ -155,8 +207,8 @@ module _ (d : Named) (tag sites : ℕ) (p : Nested) (s : Source) (n : Net) (from
       state_tags = λ x k l. of_register _ _ (from.interface.state_tags x k l) ∙ h.state_tags x k l;
       seats = λ x k l. of_register _ _ (from.interface.seats x k l).2 ∙ h.seats x k l;
       root_seat = of_register _ _ from.interface.root_seat.2 ∙ h.root_seat;
-      refusals = λ k i j. subst (λ (z : ℕ). (z ≡ 1) ↔ IsRefused rs k) (sym (of_wire _ _ (from.interface.site_wires k i j).0)) (h.refusals k i j);
-      refusal_levels = λ k l i. (let a = are k l i in of_wire _ _ (from.interface.site_wires k a.0 a.1).1 ∙ h.refusal_levels k l i);
+      refusals = λ k i j. subst (λ (z : ℕ). (z ≡ 1) ↔ IsRefused rs k) (sym (of_wire _ _ (from.interface.site_wires k i j).0 (refused_shown k i j))) (h.refusals k i j);
+      refusal_levels = λ k l i. (let a = are k l i in of_wire _ _ (from.interface.site_wires k a.0 a.1).1 (level_shown k a.0 a.1) ∙ h.refusal_levels k l i);
     }
 
   cycles_stand : (vs es fs : List Valuation) (run : List After) → low.AllSame s n vs es → flat.AllSame p es fs → RefusalsAreSites sites run → CyclesStand d sites fs run

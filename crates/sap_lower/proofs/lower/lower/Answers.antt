@@ -30,9 +30,9 @@ new-requires c =
     let p0 = c.in_ok-ports.ports.items in
     let p1 = c.lower_commands.new.ports.items in
     let h0 : w0 ≡ [] = search rules in
-    let e = made_is s (net_of c.in_ok-made.made) c.inputs.result.now c.registers.result.now c.wires.result.now c.wires-2.result.now c.memories-stores.result.now (commands_of c.cmds.result.now)
+    let e = made_is s (net_of c.in_ok-made.made) c.inputs.result.now c.registers.result.now c.wires.result.now c.wires-2.result.now c.ports-3.result.now c.memories-stores.result.now (commands_of c.cmds.result.now)
     w0 w1 w2 e0 e1 c.deref-2.result.now c.deref-3.result.now p0 p1 c.deref-4.result.now
-    c.inputs.ensures c.registers.ensures c.wires.ensures c.wires-2.ensures c.memories-stores.ensures c.cmds.ensures
+    c.inputs.ensures c.registers.ensures c.wires.ensures c.wires-2.ensures c.ports-3.ensures c.memories-stores.ensures c.cmds.ensures
     (c.in_ok-entries.ensures {u = tt}) (c.in_ok-ports.ensures {u = tt}) h0
     (c.into_vec-wires.ensures ∙ c.in_ok-lower_commands.ensures.wires) c.in_ok-lower_commands.ensures.entries c.in_ok-lower_commands.ensures.ports
     c.deref-2.ensures.value c.deref-3.ensures.value c.deref-4.ensures.value
@@ -54,9 +54,9 @@ returns-clause-declares c =
     let p0 = c.in_ok-ports.ports.items in
     let p1 = c.lower_commands.new.ports.items in
     let h0 : w0 ≡ [] = search rules in
-    let e = made_is s (net_of c.in_ok-made.made) c.inputs.result.now c.registers.result.now c.wires.result.now c.wires-2.result.now c.memories-stores.result.now (commands_of c.cmds.result.now)
+    let e = made_is s (net_of c.in_ok-made.made) c.inputs.result.now c.registers.result.now c.wires.result.now c.wires-2.result.now c.ports-3.result.now c.memories-stores.result.now (commands_of c.cmds.result.now)
     w0 w1 w2 e0 e1 c.deref-2.result.now c.deref-3.result.now p0 p1 c.deref-4.result.now
-    c.inputs.ensures c.registers.ensures c.wires.ensures c.wires-2.ensures c.memories-stores.ensures c.cmds.ensures
+    c.inputs.ensures c.registers.ensures c.wires.ensures c.wires-2.ensures c.ports-3.ensures c.memories-stores.ensures c.cmds.ensures
     (c.in_ok-entries.ensures {u = tt}) (c.in_ok-ports.ensures {u = tt}) h0
     (c.into_vec-wires.ensures ∙ c.in_ok-lower_commands.ensures.wires) c.in_ok-lower_commands.ensures.entries c.in_ok-lower_commands.ensures.ports
     c.deref-2.ensures.value c.deref-3.ensures.value c.deref-4.ensures.value
@@ -78,9 +78,9 @@ returns-clause-same c =
     let p0 = c.in_ok-ports.ports.items in
     let p1 = c.lower_commands.new.ports.items in
     let h0 : w0 ≡ [] = search rules in
-    let e = made_is s (net_of c.in_ok-made.made) c.inputs.result.now c.registers.result.now c.wires.result.now c.wires-2.result.now c.memories-stores.result.now (commands_of c.cmds.result.now)
+    let e = made_is s (net_of c.in_ok-made.made) c.inputs.result.now c.registers.result.now c.wires.result.now c.wires-2.result.now c.ports-3.result.now c.memories-stores.result.now (commands_of c.cmds.result.now)
     w0 w1 w2 e0 e1 c.deref-2.result.now c.deref-3.result.now p0 p1 c.deref-4.result.now
-    c.inputs.ensures c.registers.ensures c.wires.ensures c.wires-2.ensures c.memories-stores.ensures c.cmds.ensures
+    c.inputs.ensures c.registers.ensures c.wires.ensures c.wires-2.ensures c.ports-3.ensures c.memories-stores.ensures c.cmds.ensures
     (c.in_ok-entries.ensures {u = tt}) (c.in_ok-ports.ensures {u = tt}) h0
     (c.into_vec-wires.ensures ∙ c.in_ok-lower_commands.ensures.wires) c.in_ok-lower_commands.ensures.entries c.in_ok-lower_commands.ensures.ports
     c.deref-2.ensures.value c.deref-3.ensures.value c.deref-4.ensures.value
@@ -102,9 +102,9 @@ returns-clause-shared c =
     let p0 = c.in_ok-ports.ports.items in
     let p1 = c.lower_commands.new.ports.items in
     let h0 : w0 ≡ [] = search rules in
-    let e = made_is s (net_of c.in_ok-made.made) c.inputs.result.now c.registers.result.now c.wires.result.now c.wires-2.result.now c.memories-stores.result.now (commands_of c.cmds.result.now)
+    let e = made_is s (net_of c.in_ok-made.made) c.inputs.result.now c.registers.result.now c.wires.result.now c.wires-2.result.now c.ports-3.result.now c.memories-stores.result.now (commands_of c.cmds.result.now)
     w0 w1 w2 e0 e1 c.deref-2.result.now c.deref-3.result.now p0 p1 c.deref-4.result.now
-    c.inputs.ensures c.registers.ensures c.wires.ensures c.wires-2.ensures c.memories-stores.ensures c.cmds.ensures
+    c.inputs.ensures c.registers.ensures c.wires.ensures c.wires-2.ensures c.ports-3.ensures c.memories-stores.ensures c.cmds.ensures
     (c.in_ok-entries.ensures {u = tt}) (c.in_ok-ports.ensures {u = tt}) h0
     (c.into_vec-wires.ensures ∙ c.in_ok-lower_commands.ensures.wires) c.in_ok-lower_commands.ensures.entries c.in_ok-lower_commands.ensures.ports
     c.deref-2.ensures.value c.deref-3.ensures.value c.deref-4.ensures.value
