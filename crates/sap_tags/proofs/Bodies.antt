@@ -29,7 +29,7 @@ use Rattle.sap_tags.specs.Commands.{gives, stores, sweep, raises, looks, resets,
 use Rattle.sap_tags.specs.States.{saved}
 use Rattle.sap_tags.specs.Stands.{has_tag}
 use Rattle.sap_tags.proofs.Bools.{apart_tests, both_true, either_second, register_within, value_no_memory, kept_no_memory, enforced_within, tagged, tagged_memory}
-use Rattle.sap_tags.proofs.Steps.{Placed}
+use Rattle.sap_tags.proofs.StepTerms.{Placed}
 use Rattle.sap_tags.proofs.Ends.{Among}
 use Rattle.sap_tags.proofs.Conditions.{StepConditions, CommandConditions, BlockConditions}
 use Rattle.sap_tags.proofs.Fits.{Declares, Fine, number_fine, level_fine, lub_fine, bits_fine, yes_fine, guard_fine, test_fine, written_fine, stays_fine, ranged_width}

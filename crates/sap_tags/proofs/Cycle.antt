@@ -34,7 +34,7 @@ use Rattle.sap_tags.specs.Plain.{variable, level_at_start, value_var, tag_var, s
 use Rattle.sap_tags.specs.Stands.{Lawful, at, has_tag, tag_slot, refused_after}
 use Rattle.sap_tags.specs.Law.{AreSites, RefusalsAreSites, AllNumbersFit, RunStands}
 use Rattle.sap_tags.proofs.Bools.{apart_tests, both_true, second, either_second, value_within, register_within, memory_within, tagged_within}
-use Rattle.sap_tags.proofs.Names.{names_apart}
+use Rattle.sap_tags.proofs.KeyNames.{names_apart}
 use Rattle.sap_tags.proofs.Members.{In, among_in, find_in, number_in, number_out, start_out, in_front, in_behind, in_entities, reached, among_store, cell_in, find_store}
 use Rattle.sap_tags.proofs.Inputs.{From, GivenAt, given_at, numbers_fit}
 use Rattle.sap_tags.proofs.Groups.{LawfulStates, goes_run}

@@ -32,7 +32,7 @@ use Rattle.sap_interface.specs.Designs.{named_of, sites_of}
 use Rattle.sap_meaning.specs.Laws.{ListsServe, SitesInOrder}
 use Rattle.sap_tags.specs.Law.{IsSound, PlainStands}
 use Rattle.sap_tags.proofs.Bools.{both_true}
-use Rattle.sap_tags.proofs.Names.{NamesApart, same_name, name_is, same_test}
+use Rattle.sap_tags.proofs.KeyNames.{NamesApart, same_name, name_is, same_test}
 use Rattle.sap_tags.proofs.Distinct.{distinct}
 use Rattle.sap_tags.proofs.Premises.{Design}
 use Rattle.sap_tags.proofs.Cycle.{run_stands}
@@ -45,46 +45,46 @@ and_left p q h = (both_true p q h).0
 and_right : (p q : Bool) → (p && q) ≡ true → q ≡ true
 and_right p q h = (both_true p q h).1
 
--- names are words
+-- names are those of the design language, and so words
 
 word_of : (n : List ℕ) → words.is_name n ≡ true → words.is_word n ≡ true
 unfolding words.is_name
 word_of n h = and_left (words.is_word n) _ (and_left _ _ h)
 
-abbrev AllWords : List Entity → Type 0
-AllWords [] = Unit {0}
-AllWords (e ∷ es) = (words.is_word e.name.name ≡ true) × AllWords es
+abbrev AllNamed : List Entity → Type 0
+AllNamed [] = Unit {0}
+AllNamed (e ∷ es) = (words.is_name e.name.name ≡ true) × AllNamed es
 
-words_join : (es fs : List Entity) → AllWords es → AllWords fs → AllWords (es ++ fs)
-words_join [] fs a b = b
-words_join (e ∷ es) fs a b = (a.0, words_join es fs a.1 b)
+named_join : (es fs : List Entity) → AllNamed es → AllNamed fs → AllNamed (es ++ fs)
+named_join [] fs a b = b
+named_join (e ∷ es) fs a b = (a.0, named_join es fs a.1 b)
 
-declaration_word : (d : Decl) → is_declaration d ≡ true → words.is_word (entity_of d).name.name ≡ true
-declaration_word (decl.Input place name width) h = word_of name.name (and_left _ _ h)
-declaration_word (decl.Register place name width kind start) h = word_of name.name (and_left _ _ (and_left _ _ (and_left _ _ h)))
-declaration_word (decl.Memory place name width depth kind) h = word_of name.name (and_left _ _ (and_left _ _ (and_left _ _ h)))
+declaration_named : (d : Decl) → is_declaration d ≡ true → words.is_name (entity_of d).name.name ≡ true
+declaration_named (decl.Input place name width) h = and_left _ _ h
+declaration_named (decl.Register place name width kind start) h = and_left _ _ (and_left _ _ (and_left _ _ h))
+declaration_named (decl.Memory place name width depth kind) h = and_left _ _ (and_left _ _ (and_left _ _ h))
 
-declared_words : (ds : List Decl) → list_all is_declaration ds ≡ true → AllWords (declared_in ds)
-declared_words [] h = tt
-declared_words (d ∷ ds) h =
-    (declaration_word d (and_left (is_declaration d) (list_all is_declaration ds) h), declared_words ds (and_right (is_declaration d) (list_all is_declaration ds) h))
+declared_named : (ds : List Decl) → list_all is_declaration ds ≡ true → AllNamed (declared_in ds)
+declared_named [] h = tt
+declared_named (d ∷ ds) h =
+    (declaration_named d (and_left (is_declaration d) (list_all is_declaration ds) h), declared_named ds (and_right (is_declaration d) (list_all is_declaration ds) h))
 
 mutual
   unfolding is_state are_states
 
-  state_words : (s : StateTree) → is_state s ≡ true → AllWords (state_entities s)
-  state_words (StateOf place name kind body children) h =
-      (word_of name.name (and_left _ _ (and_left _ _ (and_left _ _ (and_left _ _ h)))), states_words children (and_right _ (are_states children) h))
+  state_named : (s : StateTree) → is_state s ≡ true → AllNamed (state_entities s)
+  state_named (StateOf place name kind body children) h =
+      (and_left _ _ (and_left _ _ (and_left _ _ (and_left _ _ h))), states_named children (and_right _ (are_states children) h))
 
-  states_words : (g : StateList) → are_states g ≡ true → AllWords (group_entities g)
-  states_words NoState h = tt
-  states_words (AndState s rest) h =
-      words_join (state_entities s) (group_entities rest) (state_words s (and_left (is_state s) (are_states rest) h)) (states_words rest (and_right (is_state s) (are_states rest) h))
+  states_named : (g : StateList) → are_states g ≡ true → AllNamed (group_entities g)
+  states_named NoState h = tt
+  states_named (AndState s rest) h =
+      named_join (state_entities s) (group_entities rest) (state_named s (and_left (is_state s) (are_states rest) h)) (states_named rest (and_right (is_state s) (are_states rest) h))
 
-word_at : (es : List Entity) → AllWords es → (x : ℕ) → x < length es → words.is_word (name_at es x) ≡ true
-word_at [] a x l = absurd (omega arith)
-word_at (e ∷ es) a zero l = a.0
-word_at (e ∷ es) a (suc x) l = word_at es a.1 x (omega arith)
+named_at : (es : List Entity) → AllNamed es → (x : ℕ) → x < length es → words.is_name (name_at es x) ≡ true
+named_at [] a x l = absurd (omega arith)
+named_at (e ∷ es) a zero l = a.0
+named_at (e ∷ es) a (suc x) l = named_at es a.1 x (omega arith)
 
 names_at : (es : List Entity) (x : ℕ) → get_or (map (λ (e : Entity). e.name.name) es) x [] ≡ name_at es x
 names_at [] x = refl
@@ -209,11 +209,14 @@ module _ (ls : Levels) (D : DesignTree) (sg : IsSound ls D) where
   number_at : (x : ℕ) → nat_lt x (root w) ≡ true → entity_number es (name d x) ≡ x
   number_at x l = ap (λ (a : List ℕ). entity_number es a) (names_at es x) ∙ unique es no_name_twice x (in_length x l)
 
-  all_words : AllWords es
-  all_words =
-      words_join (declared_in D.declarations) (group_entities D.states)
-      (declared_words D.declarations (and_left (list_all is_declaration D.declarations) (has_state D.states) (and_left (list_all is_declaration D.declarations && has_state D.states) (are_states D.states) split.0)))
-      (states_words D.states (and_right (list_all is_declaration D.declarations && has_state D.states) (are_states D.states) split.0))
+  all_named : AllNamed es
+  all_named =
+      named_join (declared_in D.declarations) (group_entities D.states)
+      (declared_named D.declarations (and_left (list_all is_declaration D.declarations) (has_state D.states) (and_left (list_all is_declaration D.declarations && has_state D.states) (are_states D.states) split.0)))
+      (states_named D.states (and_right (list_all is_declaration D.declarations && has_state D.states) (are_states D.states) split.0))
+
+  is_named : (x : ℕ) → nat_lt x (root w) ≡ true → words.is_name (name d x) ≡ true
+  is_named x l = ap words.is_name (names_at es x) ∙ named_at es all_named x (in_length x l)
 
   pub names : NamesApart d
   names = record {
@@ -221,7 +224,8 @@ module _ (ls : Levels) (D : DesignTree) (sg : IsSound ls D) where
         same_test (bytes_eq (name d x) (name d y)) (nat_eq x y)
         (λ i. eq-eqb x y (sym (number_at x l) ∙ ap (λ (a : List ℕ). entity_number es a) (name_is (name d x) (name d y) i) ∙ number_at y m))
         (λ i. subst (λ (z : ℕ). bytes_eq (name d x) (name d z) ≡ true) (eqb-true x y i) (same_name (name d x)));
-    words = λ x l. ap words.is_word (names_at es x) ∙ word_at es all_words x (in_length x l);
+    words = λ x l. word_of (name d x) (is_named x l);
+    named = is_named;
   }
 
   few_sites : 1 + sites_of D ≤ 2 ^ 64

@@ -15,7 +15,7 @@ use Rattle.sap_tags.specs.Commands.{wires, wires_block}
 use Rattle.sap_tags.specs.States.{wires_state, wires_group, saved}
 use Rattle.sap_tags.specs.Plain.{names_of, level_at_start, for_entities, shown_registers, has_own_tag, tag_registers, seat_var, seat_registers, site_wires, step_wires, command_wires, block_wires, state_wires, group_wires, top_wires, first_wires, memory_of, tags_of, plain_of}
 use Rattle.sap_tags.proofs.Bools.{apart_tests, refuted}
-use Rattle.sap_tags.proofs.Names.{NamesApart, names_apart, same_is}
+use Rattle.sap_tags.proofs.KeyNames.{NamesApart, names_apart, same_is}
 
 -- lists of keys
 

@@ -20,7 +20,7 @@ use Rattle.sap_tags.specs.Commands.{effect_of}
 use Rattle.sap_tags.specs.Stands.{Lawful, at, is_value, has_tag, Stands, Turns}
 use Rattle.sap_tags.proofs.Bools.{apart_tests, either_second, register_within, tagged, value_no_memory, kept_no_memory}
 use Rattle.sap_tags.proofs.Terms.{bit, expr_value, own_tag}
-use Rattle.sap_tags.proofs.Steps.{level_written, number_stays}
+use Rattle.sap_tags.proofs.StepTerms.{level_written, number_stays}
 use Rattle.sap_tags.proofs.Puts.{put_to, at_put, kept_next, kept_put, memory_put, stands_set, stands_aside}
 use Rattle.sap_tags.proofs.Looks.{Quiet, quiet_next, turns_after, turns_stay, quiet_wire, aside_wire, here_wire}
 

@@ -21,7 +21,7 @@ use Rattle.sap_tags.specs.States.{wires_group, group_plain, saved, saves, top_pl
 use Rattle.sap_tags.specs.Stands.{Lawful, at, is_value, has_tag, tag_slot, Stands, refused_after, level_after, Turns}
 use Rattle.sap_tags.proofs.Bools.{both_true, both, either_first, either_second, tagged, tagged_memory, memory_within}
 use Rattle.sap_tags.proofs.Terms.{own_tag}
-use Rattle.sap_tags.proofs.Steps.{Placed}
+use Rattle.sap_tags.proofs.StepTerms.{Placed}
 use Rattle.sap_tags.proofs.Puts.{put_to, at_put, does_gives, swept, does_sweep, between, swept_is, within_all}
 use Rattle.sap_tags.proofs.Looks.{Quiet, quiet_none, quiet_next, turns_after, turns_stay, wired, raised_quiet, raises_turn}
 use Rattle.sap_tags.proofs.Effects.{FallsRun}

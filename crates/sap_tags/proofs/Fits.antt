@@ -29,7 +29,7 @@ use Rattle.sap_tags.specs.States.{saved}
 use Rattle.sap_tags.specs.Stands.{is_value, has_tag}
 use Rattle.sap_tags.proofs.Bools.{either_first, either_second, value_within, value_no_memory, kept_no_memory, enforced_within, tagged}
 use Rattle.sap_tags.proofs.Terms.{AllTagged}
-use Rattle.sap_tags.proofs.Steps.{Placed}
+use Rattle.sap_tags.proofs.StepTerms.{Placed}
 use Rattle.sap_tags.proofs.Conditions.{Conditions, LevelConditions, StepConditions}
 
 -- what a program declares for a design, with what levels are like

@@ -54,7 +54,7 @@ module _ (w : World) where
     group_filled p None = refl
     group_filled p (More t g) = ap₂ (λ (m n : ℕ). m + n) (state_filled p t) (group_filled p g)
 
-  top_filled : (d : Named) (tag p : ℕ) (g : Group) → top_count d tag (filled_group w p g) ≡ top_count d tag g
+  pub top_filled : (d : Named) (tag p : ℕ) (g : Group) → top_count d tag (filled_group w p g) ≡ top_count d tag g
   top_filled d tag p None = refl
   top_filled d tag p (More (Node s b g) rest) = ap₂ (λ (m n : ℕ). 1 + m + n) (state_filled p (Node s b g)) (top_filled d tag p rest)
 
@@ -96,7 +96,7 @@ module _ (ls : Levels) (es : List Entity) where
     group_few k x (tree.AndState s rest) =
         let i = state_few k x s in let j = group_few (k + state_sites es s) (x + states_in s) rest in omega (arith, i, j)
 
-  top_few : (d : Named) (tag k x : ℕ) (g : tree.StateList) → top_count d tag (group_of ls es k x g) ≤ 5 * states_commands g + 2 * states_count g
+  pub top_few : (d : Named) (tag k x : ℕ) (g : tree.StateList) → top_count d tag (group_of ls es k x g) ≤ 5 * states_commands g + 2 * states_count g
   unfolding state_count states_count state_commands states_commands
   top_few d tag k x tree.NoState = omega arith
   top_few d tag k x (tree.AndState (tree.StateOf place name kind body kids) rest) =
@@ -108,7 +108,7 @@ module _ (ls : Levels) (es : List Entity) where
 limited : (t : Bool) (i r m s d c : ℕ) → IsTrue (t && (nat_le i 64 && nat_le r 256 && nat_le m 16 && nat_le s 256 && nat_le d 16 && nat_le c 4096)) → (s ≤ 256) × (c ≤ 4096)
 limited t i r m s d c h = (grind (arith, common_steps), grind (arith, common_steps))
 
-limits : (d : DesignTree) → IsTrue (is_whole d) → (states_count d.states ≤ 256) × (states_commands d.states ≤ 4096)
+pub limits : (d : DesignTree) → IsTrue (is_whole d) → (states_count d.states ≤ 256) × (states_commands d.states ≤ 4096)
 unfolding is_whole
 limits d h =
     limited (is_tree d) (count_by is_input d.declarations) (count_by is_register d.declarations) (count_by is_memory d.declarations) (states_count d.states) (states_depth d.states) (states_commands d.states) h
@@ -116,7 +116,7 @@ limits d h =
 few_in_all : (n s c : ℕ) → n ≤ 5 * c + 2 * s → s ≤ 256 → c ≤ 4096 → n ≤ 2 ^ 64
 few_in_all n s c h i j = omega arith
 
-tree_of : (d : DesignTree) → IsTrue (is_whole d) → is_tree d ≡ true
+pub tree_of : (d : DesignTree) → IsTrue (is_whole d) → is_tree d ≡ true
 unfolding is_whole
 tree_of d h = (both_true (is_tree d) _ h).0
 

@@ -25,7 +25,7 @@ use Rattle.sap_tags.specs.Commands.{gives, raises, wires, wires_block, block_pla
 use Rattle.sap_tags.specs.States.{wires_group, group_plain, saved, saves, top_plain}
 use Rattle.sap_tags.specs.Plain.{wire, step_wires, command_wires, block_wires, state_wires, group_wires, top_wires}
 use Rattle.sap_tags.proofs.Bools.{apart_tests, second, either_second, both_true, tagged_memory}
-use Rattle.sap_tags.proofs.Names.{same_name}
+use Rattle.sap_tags.proofs.KeyNames.{same_name}
 use Rattle.sap_tags.proofs.Groups.{LawfulStates, Shaped, group_states}
 use Rattle.sap_tags.proofs.Falls.{placed_in, shaped_group}
 use Rattle.sap_tags.proofs.Members.{In, in_front, in_behind}

@@ -14,7 +14,7 @@ use Rattle.sap_ir.specs.declared.guarded.Var.{Var}
 use Rattle.sap_tags.specs.Keys.{Key, Value, Tag, key_name}
 use Rattle.sap_tags.specs.Plain.{for_entities, value_var, tag_var}
 use Rattle.sap_tags.proofs.Bools.{refuted}
-use Rattle.sap_tags.proofs.Names.{NamesApart, names_apart}
+use Rattle.sap_tags.proofs.KeyNames.{NamesApart, names_apart}
 
 is_other : (x y : ℕ) → (x ≡ y → ⊥) → nat_eq x y ≡ false
 is_other x y f = refuted (nat_eq x y) (λ e. f ((Decides-eqb x y).0 e))

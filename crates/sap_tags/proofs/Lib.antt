@@ -1,6 +1,6 @@
 pub mod Bools
 pub mod Terms
-pub mod Steps
+pub mod StepTerms
 pub mod Puts
 pub mod Looks
 pub mod Effects
@@ -9,12 +9,13 @@ pub mod Gotos
 pub mod Runs
 pub mod Groups
 pub mod Falls
-pub mod Names
+pub mod KeyNames
 pub mod Members
 pub mod Inputs
 pub mod Ends
 pub mod Premises
 pub mod Cycle
+pub mod Named
 pub mod Distinct
 pub mod Shown
 pub mod Counts
@@ -30,3 +31,14 @@ pub mod Rules
 pub mod Plains
 pub mod Once
 pub mod Fitted
+pub mod Walked
+pub mod OfEntities
+pub mod Wirings
+pub mod Found
+pub mod Words
+pub mod Children
+pub mod Raised
+pub mod Pushed
+pub mod Listed
+pub mod Commanded
+pub mod Planted

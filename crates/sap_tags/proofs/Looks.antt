@@ -17,7 +17,7 @@ use Rattle.sap_tags.specs.Commands.{raises, looks}
 use Rattle.sap_tags.specs.Stands.{Lawful, at, has_tag, tag_slot, Stands, refused_after, level_after, Turns}
 use Rattle.sap_tags.proofs.Bools.{tagged_within}
 use Rattle.sap_tags.proofs.Terms.{bit, lub_value}
-use Rattle.sap_tags.proofs.Steps.{Placed, level_written, number_stays, guard_value, test_value, written_value, stays_value}
+use Rattle.sap_tags.proofs.StepTerms.{Placed, level_written, number_stays, guard_value, test_value, written_value, stays_value}
 use Rattle.sap_tags.proofs.Puts.{put_to, at_put, Kept, kept_put, swept, does_sweep, between, swept_is, within_all, Aside, stands_aside, stands_raise}
 
 -- what is not in a store stays, but for the wires from k on

@@ -11,7 +11,7 @@ use Rattle.sap_ir.specs.declared.guarded.Store.{Store}
 use Rattle.sap_ir.specs.IsGuarded.{memory_names}
 use Rattle.sap_ir.specs.Guarded.{first_number, register_number, number_at_start, first_cell, cell_at_start}
 use Rattle.sap_tags.specs.Plain.{names_of, for_entities}
-use Rattle.sap_tags.proofs.Names.{same_name, name_is}
+use Rattle.sap_tags.proofs.KeyNames.{same_name, name_is}
 
 -- it stands on the list
 abbrev pub In : {A : Type 0} → List A → A → Type 0

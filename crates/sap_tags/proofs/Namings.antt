@@ -17,7 +17,7 @@ use Rattle.sap_interface.specs.StandsFor.{Named, name, world}
 use Rattle.sap_tags.specs.Keys.{Key, Value, Tag, Seat, Refused, Level, Wire, First, entity_word, seat_word, is_known, known_name, key_name}
 use Rattle.sap_tags.specs.Setting.{Setting}
 use Rattle.sap_tags.proofs.Bools.{apart_tests, both_true, second, either_first, either_second, refuted}
-use Rattle.sap_tags.proofs.Names.{NamesApart, decimal_digits}
+use Rattle.sap_tags.proofs.KeyNames.{NamesApart, decimal_digits}
 use Rattle.sap_tags.proofs.Groups.{LawfulStates, Shaped, IsState, node_state}
 
 pub all_join : {A : Type 0} (P : A → Type 0) (xs ys : List A) → AllByRecursion P xs → AllByRecursion P ys → AllByRecursion P (xs ++ ys)

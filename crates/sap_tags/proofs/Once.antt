@@ -7,7 +7,7 @@ use Rattle.sap_maps.specs.Term.{Term}
 use Rattle.sap_meaning.specs.Program.{root, is_dynamic, is_register, listed, Step, Set, Write, Retag, RetagCell, Goto, Fall, Command, Do, Try, If, Block, End, Then, Node, Group, None, More}
 use Rattle.sap_meaning.specs.Checks.{Spot}
 use Rattle.sap_meaning.specs.Runs.{listed_alone}
-use Rattle.sap_meaning.specs.Fine.{step_reaching, reaching, block_reaching, group_reaches, Once, OnceBlock, FineGroup, FineProgram}
+use Rattle.sap_meaning.specs.Fine.{step_reaching, reaching, block_reaching, group_reaches, OnceStep, Once, OnceBlock, OnceGroup, FineProgram}
 use Rattle.sap_net.specs.Names.{is_among, AreDistinct}
 use Rattle.sap_ir.specs.Source.{set, put}
 use Rattle.sap_ir.specs.Source.{width_of}
@@ -24,7 +24,7 @@ use Rattle.sap_tags.specs.Levels.{var, lub, bits, expr, always}
 use Rattle.sap_tags.specs.Commands.{gives, sweep, raises, resets, effect_of, refusal, outcome, attempt_of, select_of, wires, wires_block, command_plain, block_plain}
 use Rattle.sap_tags.specs.States.{wires_group, group_plain, saved, top_plain}
 use Rattle.sap_tags.proofs.Bools.{apart_tests, either_first, either_second}
-use Rattle.sap_tags.proofs.Names.{NamesApart, names_apart}
+use Rattle.sap_tags.proofs.KeyNames.{NamesApart, names_apart}
 
 -- a name of one of some memories: of its contents, or of its cells' tags
 pub record OfMemory (d : Setting) (P : ℕ → Bool) (n : Name) : Type 0 where
@@ -138,38 +138,38 @@ module _ (d : Setting) (apart : (a b : Key) → bytes_eq (d.name a) (d.name b) �
       all = (record { memory = m; picked = h; named = inr refl }, (record { memory = m; picked = h; named = inl refl }, tt));
     }
 
-    module _ (reach : ℕ → Bool) (falls : (g : Going) → Written d reach (below g)) where
-      effect_writes : (base k : ℕ) (t : Step) → Writes (step_reaching reach t) (effect_of d base k t)
-      effect_writes base k (Set site x e) g = elim (cases_Bool (is_dynamic d.world x)) [
+    module _ (reach : ℕ → Bool) (beyond : Type 0) (falls : beyond → (g : Going) → Written d reach (below g)) where
+      effect_writes : (base k : ℕ) (t : Step) → OnceStep beyond t → Writes (step_reaching reach t) (effect_of d base k t)
+      effect_writes base k (Set site x e) o g = elim (cases_Bool (is_dynamic d.world x)) [
         | inl i ↦ rw i (written_none (step_reaching reach (Set site x e)))
         | inr i ↦ rw i (written_none (step_reaching reach (Set site x e)))
       ]
-      effect_writes base k (Write site m i e) g = elim (cases_Bool (is_dynamic d.world m)) [
+      effect_writes base k (Write site m i e) o g = elim (cases_Bool (is_dynamic d.world m)) [
         | inl j ↦ rw j (one_written (step_reaching reach (Write site m i e)) m (eq-eqb m m refl))
         | inr j ↦ rw j (one_written (step_reaching reach (Write site m i e)) m (eq-eqb m m refl))
       ]
-      effect_writes base k (Retag site x n) g = elim (cases_Bool (is_register d.world x)) [
+      effect_writes base k (Retag site x n) o g = elim (cases_Bool (is_register d.world x)) [
         | inl i ↦ rw i (written_none (step_reaching reach (Retag site x n)))
         | inr i ↦ rw i (written_none (step_reaching reach (Retag site x n)))
       ]
-      effect_writes base k (RetagCell site m j n) g = two_written (step_reaching reach (RetagCell site m j n)) m (eq-eqb m m refl)
-      effect_writes base k (Goto site target) g0 =
+      effect_writes base k (RetagCell site m j n) o g = two_written (step_reaching reach (RetagCell site m j n)) m (eq-eqb m m refl)
+      effect_writes base k (Goto site target) o g0 =
           sweep_writes (step_reaching reach (Goto site target)) Tag (resets d.world target) (λ x. bits d d.world.order.bottom) 0 (root d.world)
           (if is_dynamic d.world target then gives d (Tag target) (var d (Wire (k + 3))) (goto (d.state_name target) stop) else goto (d.state_name target) stop)
           (λ g. elim (cases_Bool (is_dynamic d.world target)) [
             | inl i ↦ rw i (written_none (step_reaching reach (Goto site target)))
             | inr i ↦ rw i (written_none (step_reaching reach (Goto site target)))
           ]) g0
-      effect_writes base k (Fall site hang) g =
+      effect_writes base k (Fall site hang) o g =
           let g1 = after_action widths g (set (d.name (Wire base)) (var d (Wire (k + 2)))) in
-          subst (λ (ns : List Name). Written d (step_reaching reach (Fall site hang)) ns) (sym (append_none (below g1))) (falls g1)
+          subst (λ (ns : List Name). Written d (step_reaching reach (Fall site hang)) ns) (sym (append_none (below g1))) (falls o g1)
 
       module _ (sp : Spot) where
-        attempt_writes : (base p k : ℕ) (t : Step) (hangs : ℕ → Bool) (h : Body) (P : ℕ → Bool) → ((m : ℕ) → step_reaching reach t m ≡ true → P m ≡ true) → Writes P h
+        attempt_writes : (base p k : ℕ) (t : Step) (o : OnceStep beyond t) (hangs : ℕ → Bool) (h : Body) (P : ℕ → Bool) → ((m : ℕ) → step_reaching reach t m ≡ true → P m ≡ true) → Writes P h
             → Writes P (attempt_of d sp base p k t hangs h)
         unfolding attempt_of
-        attempt_writes base p k t hangs h P more w g0 =
-            let e : Writes P (effect_of d base k t) = λ g. written_more (step_reaching reach t) P more _ (effect_writes base k t g) in
+        attempt_writes base p k t o hangs h P more w g0 =
+            let e : Writes P (effect_of d base k t) = λ g. written_more (step_reaching reach t) P more _ (effect_writes base k t o g) in
             let after : Writes P (outcome d sp base k t h) =
             λ g. elim (cases_Bool (always d.world sp t)) [
               | inl i ↦ rw i (e g)
@@ -185,13 +185,13 @@ module _ (d : Setting) (apart : (a b : Key) → bytes_eq (d.name a) (d.name b) �
         mutual
           unfolding command_plain block_plain
 
-          command_writes : (grp : Group) (same_reach : (m : ℕ) → reach m ≡ group_reaches grp m) (base p k : ℕ) (c : Command) → Once grp c → Writes (reaching reach c) (command_plain d sp base p k c)
-          command_writes grp e base p k (Do t) o = attempt_writes base p k t (listed_alone d.world sp t) stop (reaching reach (Do t)) (λ m h. h) (λ g. written_none (reaching reach (Do t)))
+          command_writes : (grp : Group) (same_reach : (m : ℕ) → reach m ≡ group_reaches grp m) (base p k : ℕ) (c : Command) → Once grp beyond c → Writes (reaching reach c) (command_plain d sp base p k c)
+          command_writes grp e base p k (Do t) o = attempt_writes base p k t o (listed_alone d.world sp t) stop (reaching reach (Do t)) (λ m h. h) (λ g. written_none (reaching reach (Do t)))
           command_writes grp e base p k (Try t hang b) o =
-              attempt_writes base p k t (listed hang) (block_plain d sp base (k + 2) (k + 5) b) (reaching reach (Try t hang b))
+              attempt_writes base p k t o.0 (listed hang) (block_plain d sp base (k + 2) (k + 5) b) (reaching reach (Try t hang b))
               (λ m h. either_first (step_reaching reach t m) (block_reaching reach b m) h)
               (λ g. written_more (block_reaching reach b) (reaching reach (Try t hang b)) (λ m h. either_second (step_reaching reach t m) (block_reaching reach b m) h) _
-              (block_writes_once grp e base (k + 2) (k + 5) b o.0 g))
+              (block_writes_once grp e base (k + 2) (k + 5) b o.1 g))
           command_writes grp e base p k (If hang c a b) o =
               select_writes p k c (listed hang) (block_plain d sp base (k + 1) (k + 2) a) (block_plain d sp base (k + 1) (k + 2 + wires_block a) b) (reaching reach (If hang c a b))
               (λ g. written_more (block_reaching reach a) (reaching reach (If hang c a b)) (λ m h. either_first (block_reaching reach a m) (block_reaching reach b m) h) _
@@ -199,7 +199,7 @@ module _ (d : Setting) (apart : (a b : Key) → bytes_eq (d.name a) (d.name b) �
               (λ g. written_more (block_reaching reach b) (reaching reach (If hang c a b)) (λ m h. either_second (block_reaching reach a m) (block_reaching reach b m) h) _
               (block_writes_once grp e base (k + 1) (k + 2 + wires_block a) b o.1 g))
 
-          block_writes_once : (grp : Group) (same_reach : (m : ℕ) → reach m ≡ group_reaches grp m) (base p k : ℕ) (b : Block) → OnceBlock grp b → Writes (block_reaching reach b) (block_plain d sp base p k b)
+          block_writes_once : (grp : Group) (same_reach : (m : ℕ) → reach m ≡ group_reaches grp m) (base p k : ℕ) (b : Block) → OnceBlock grp beyond b → Writes (block_reaching reach b) (block_plain d sp base p k b)
           block_writes_once grp e base p k End o g = written_none (block_reaching reach End)
           block_writes_once grp e base p k (Then c cs) o g =
               let a = command_plain d sp base p k c in
@@ -212,28 +212,28 @@ module _ (d : Setting) (apart : (a b : Key) → bytes_eq (d.name a) (d.name b) �
               (command_writes grp e base p k c o.0 g) (block_writes_once grp e base p (k + wires c) cs o.1 (body_does widths f go a g)))
 
   -- the states of a group
-  group_writes : (widths : Name → ℕ) (grp q : Group) (n0 parent p k : ℕ) (go : Name → Going → Going) → FineGroup d.world q n0 grp → (n : ℕ) (g : Going)
+  group_writes : (widths : Name → ℕ) (grp : Group) (parent p k : ℕ) (go : Name → Going → Going) → OnceGroup grp → (n : ℕ) (g : Going)
       → Written d (group_reaches grp) (child_writes widths go (group_plain d parent p k grp) n g)
   unfolding group_plain
-  group_writes widths None q n0 parent p k go fine n g = written_none (group_reaches None)
-  group_writes widths (More (Node x b kids) rest) q n0 parent p k go fine zero g =
+  group_writes widths None parent p k go once n g = written_none (group_reaches None)
+  group_writes widths (More (Node x b kids) rest) parent p k go once zero g =
       let base = k + wires_block b in
       let forest = group_plain d x base (base + 1) kids in
       let seat = seat_name (d.state_name x) in
       let below : Going → List Name = λ h. child_writes widths (enter seat forest) forest (h.now.value seat) h in
       written_more (block_reaching (group_reaches kids) b) (group_reaches (More (Node x b kids) rest)) (λ m h. either_first (block_reaching (group_reaches kids) b m) (group_reaches rest m) h) _
-      (block_writes_once widths (falls_of widths seat forest) below go (group_reaches kids)
-      (λ h. group_writes widths kids kids 0 x base (base + 1) (enter seat forest) fine.0.1 (h.now.value seat) h) (record { state = x; parent = parent; children = kids }) kids (λ m. refl) base p k b
-      fine.0.0.once g)
-  group_writes widths (More (Node x b kids) rest) q n0 parent p k go fine (suc n) g =
+      (block_writes_once widths (falls_of widths seat forest) below go (group_reaches kids) (OnceGroup kids)
+      (λ o h. group_writes widths kids x base (base + 1) (enter seat forest) o (h.now.value seat) h) (record { state = x; parent = parent; children = kids }) kids (λ m. refl) base p k b
+      once.0 g)
+  group_writes widths (More (Node x b kids) rest) parent p k go once (suc n) g =
       written_more (group_reaches rest) (group_reaches (More (Node x b kids) rest)) (λ m h. either_second (block_reaching (group_reaches kids) b m) (group_reaches rest m) h) _
-      (group_writes widths rest q (suc n0) parent p (k + (wires_block b + 1 + wires_group kids)) go fine.1 n g)
+      (group_writes widths rest parent p (k + (wires_block b + 1 + wires_group kids)) go once.1 n g)
 
-  pub top_writes : (widths : Name → ℕ) (hangs : ℕ → Bool) (grp q : Group) (n0 k : ℕ) (go : Name → Going → Going) → FineGroup d.world q n0 grp → (n : ℕ) (g : Going)
+  pub top_writes : (widths : Name → ℕ) (hangs : ℕ → Bool) (grp : Group) (k : ℕ) (go : Name → Going → Going) → OnceGroup grp → (n : ℕ) (g : Going)
       → Written d (group_reaches grp) (child_writes widths go (top_plain d hangs k grp) n g)
   unfolding top_plain
-  top_writes widths hangs None q n0 k go fine n g = written_none (group_reaches None)
-  top_writes widths hangs (More (Node x b kids) rest) q n0 k go fine zero g =
+  top_writes widths hangs None k go once n g = written_none (group_reaches None)
+  top_writes widths hangs (More (Node x b kids) rest) k go once zero g =
       let base = k + 1 + wires_block b in
       let forest = group_plain d x base (base + 1) kids in
       let seat = seat_name (d.state_name x) in
@@ -242,15 +242,15 @@ module _ (d : Setting) (apart : (a b : Key) → bytes_eq (d.name a) (d.name b) �
       let P = block_reaching (group_reaches kids) b in
       let body = block_plain d (record { state = x; parent = root d.world; children = kids }) base k (k + 1) b in
       let own : (g : Going) → Written d P (body_writes widths f below go body g) =
-      λ g. block_writes_once widths f below go (group_reaches kids) (λ h. group_writes widths kids kids 0 x base (base + 1) (enter seat forest) fine.0.1 (h.now.value seat) h)
-      (record { state = x; parent = root d.world; children = kids }) kids (λ m. refl) base k (k + 1) b fine.0.0.once g in
+      λ g. block_writes_once widths f below go (group_reaches kids) (OnceGroup kids) (λ o h. group_writes widths kids x base (base + 1) (enter seat forest) o (h.now.value seat) h)
+      (record { state = x; parent = root d.world; children = kids }) kids (λ m. refl) base k (k + 1) b once.0 g in
       let raised : (g : Going) → Written d P (body_writes widths f below go (raises d hangs k body) g) =
       sweep_writes widths f below go P Tag hangs (λ x. lub (var d (Tag x)) (var d (Wire k))) 0 (root d.world) body own in
       written_more P (group_reaches (More (Node x b kids) rest)) (λ m h. either_first (P m) (group_reaches rest m) h) _
       (sweep_writes widths f below go P First (saved d.world) (λ m. var d (Tag m)) 0 (root d.world) (gives d (Wire k) (var d (Tag x)) (raises d hangs k body)) (λ g. raised _) g)
-  top_writes widths hangs (More (Node x b kids) rest) q n0 k go fine (suc n) g =
+  top_writes widths hangs (More (Node x b kids) rest) k go once (suc n) g =
       written_more (group_reaches rest) (group_reaches (More (Node x b kids) rest)) (λ m h. either_second (block_reaching (group_reaches kids) b m) (group_reaches rest m) h) _
-      (top_writes widths hangs rest q (suc n0) (k + (1 + (wires_block b + 1 + wires_group kids))) go fine.1 n g)
+      (top_writes widths hangs rest (k + (1 + (wires_block b + 1 + wires_group kids))) go once.1 n g)
 
 pub writes_once : (d : Named) (tag sites : ℕ) → NamesApart d → FineProgram d.program → PlainWritesOnce (plain_of d tag sites)
 writes_once d tag sites names fine before numbers within fit =
@@ -258,4 +258,4 @@ writes_once d tag sites names fine before numbers within fit =
     let set = setting_of d tag in
     let forest = top_plain set (listed d.program.hang) 0 d.program.states in
     let g = begun src before numbers in
-    (top_writes set (names_apart d names) (width_of src) (listed d.program.hang) d.program.states d.program.states 0 0 (enter root_seat forest) fine.states (g.now.value root_seat) g).once
+    (top_writes set (names_apart d names) (width_of src) (listed d.program.hang) d.program.states 0 (enter root_seat forest) fine.once (g.now.value root_seat) g).once

@@ -7,7 +7,8 @@ use Rattle.sap_maps.specs.Scope.{Scope, find}
 use Rattle.sap_meaning.specs.Program.{World, Group, entity, root, children, is_input, is_register, is_memory, is_dynamic, listed}
 use Rattle.sap_meaning.specs.Fine.{size}
 use Rattle.sap_meaning.specs.Sites as sites_of_program
-use Rattle.sap_net.specs.Names.{is_word, is_among, AreDistinct}
+use Rattle.sap_tree.specs.Words.{is_name}
+use Rattle.sap_net.specs.Names.{is_among, AreDistinct}
 use Rattle.sap_ir.specs.declared.guarded.Var.{Var}
 use Rattle.sap_ir.specs.declared.guarded.Store.{Store}
 use Rattle.sap_ir.specs.Source.{Source, readable}
@@ -25,7 +26,7 @@ use Rattle.sap_tags.specs.States.{saved, top_plain}
 use Rattle.sap_tags.specs.Plain.{variable, level_at_start, value_var, tag_var, seat_var, site_wires, top_wires, first_wires, memory_of, plain_of}
 use Rattle.sap_tags.specs.Stands.{has_tag}
 use Rattle.sap_tags.proofs.Bools.{second, either_second, both_true, refuted, value_within, memory_within, tagged_within}
-use Rattle.sap_tags.proofs.Names.{names_apart}
+use Rattle.sap_tags.proofs.KeyNames.{names_apart}
 use Rattle.sap_tags.proofs.Members.{In, among_in, in_front, in_behind}
 use Rattle.sap_tags.proofs.Groups.{LawfulStates, Shaped}
 use Rattle.sap_tags.proofs.Falls.{shaped_top}
@@ -236,7 +237,7 @@ module _ (d : Named) (tag sites : ℕ) (design : Design d tag sites) (fit : Fitt
         declares = guarded d tag sites design fit;
         not_gates = all_names d tag sites design fit (λ (x : Name). is_gate x ≡ false) (key_no_gate d design.names);
         some_state = some_states set g forest shape l;
-        states_named = all_states set (λ (x : Name). is_word x ≡ true) g forest shape (λ t i. let l = (inside_state w g 0 g f.states t i).declared in ap is_word (ap (λ (b : Bool). if b then name d t else decimal t) l) ∙ design.names.words t l);
+        states_named = all_states set (λ (x : Name). is_name x ≡ true) g forest shape (λ t i. let l = (inside_state w g 0 g f.states t i).declared in ap is_name (ap (λ (b : Bool). if b then name d t else decimal t) l) ∙ design.names.named t l);
         states_differ = states_once set states g 0 g forest f.states shape;
         root = seat_is_fine set src seat_registers declares.few_children (root w) nested.root_seat g forest states.root_seat f.count shape;
         states_fine =

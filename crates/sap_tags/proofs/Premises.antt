@@ -9,7 +9,7 @@ use Rattle.sap_ir.specs.IsGuarded.{declared}
 use Rattle.sap_plain.specs.Nested.{declarations}
 use Rattle.sap_interface.specs.StandsFor.{Named, world}
 use Rattle.sap_tags.specs.Plain.{plain_of}
-use Rattle.sap_tags.proofs.Names.{NamesApart}
+use Rattle.sap_tags.proofs.KeyNames.{NamesApart}
 use Rattle.sap_tags.proofs.Groups.{Tidy}
 
 pub record Design (d : Named) (tag sites : ℕ) : Type 0 where

@@ -23,7 +23,7 @@ use Rattle.sap_tags.specs.Commands.{wires, wires_block}
 use Rattle.sap_tags.specs.States.{saved, wires_group}
 use Rattle.sap_tags.specs.Plain.{variable, wire, names_of, level_at_start, value_var, tag_var, seat_var, for_entities, shown_registers, has_own_tag, tag_registers, seat_registers, site_wires, step_wires, command_wires, block_wires, state_wires, group_wires, top_wires, first_wires, memory_of, tags_of, plain_of}
 use Rattle.sap_tags.proofs.Bools.{apart_tests, either_second}
-use Rattle.sap_tags.proofs.Names.{same_name}
+use Rattle.sap_tags.proofs.KeyNames.{same_name}
 use Rattle.sap_tags.proofs.Members.{In, among_in, in_front, other}
 use Rattle.sap_tags.proofs.Premises.{Design}
 use Rattle.sap_tags.proofs.Distinct.{Every, every_join, once_join, lists_apart, distinct_keys, map_join, entities_once, entities_all, entities_named, site_keys, wire_keys, sites_once, sites_named, top_count, list_number, all_keys, all_named, register_lists}

@@ -20,7 +20,7 @@ use Rattle.sap_tags.specs.Commands.{raises, effect_of, refusal, outcome, attempt
 use Rattle.sap_tags.specs.Stands.{Lawful, at, Stands, refused_after, level_after, Turns}
 use Rattle.sap_tags.proofs.Bools.{flipped}
 use Rattle.sap_tags.proofs.Terms.{bit, expr_value, tag_value, lub_value}
-use Rattle.sap_tags.proofs.Steps.{Placed, always_holds}
+use Rattle.sap_tags.proofs.StepTerms.{Placed, always_holds}
 use Rattle.sap_tags.proofs.Puts.{put_to, at_put, kept_put, kept_next, does_follow, Aside, stands_aside}
 use Rattle.sap_tags.proofs.Looks.{quiet_none, quiet_next, turns_then, turns_after, turns_stay, wired, looked, raised_quiet, raises_turn}
 use Rattle.sap_tags.proofs.Effects.{Begins, FallsRun, set_effect, retag_effect, fall_effect}

@@ -19,6 +19,7 @@ use Rattle.sap_tags.specs.Plain.{names_of, for_entities, value_var, tag_var, sea
 use Rattle.sap_tags.specs.Law.{HasVariable, HasStore, HasSeatRegister, shows, shown, PlainInterface}
 use Rattle.sap_tags.proofs.Bools.{apart_tests, value_within, register_within, memory_within}
 use Rattle.sap_tags.proofs.Members.{In, among_in, in_front}
+use Rattle.sap_tags.proofs.Named.{registers_named, memories_named}
 use Rattle.sap_tags.proofs.Premises.{Design}
 use Rattle.sap_tags.proofs.Cycle.{value_known, tag_known, seat_known, root_known, refused_known, level_known, refused_in, level_in, test_of_lt, in_all, in_value, in_tag, in_own_tag, in_seat, in_memory, in_tags, in_input, behind_inputs, site_bound}
 
@@ -172,4 +173,6 @@ module _ (d : Named) (tag sites : ℕ) (design : Design d tag sites) where
         tag_has p.registers x (level_at_start d x) (test_of_lt x (root w) l) (in_own_tag d tag sites design x (test_of_lt x (root w) l) (rw (state_no_memory (entity w x).kind h) h));
     seats = λ q l h. seat_has q (seat_name (name d q)) (seat_known d design.few_entities q (test_of_lt q (root w) l)) h;
     root_seat = seat_has (root w) root_seat (root_known d design.few_entities) some;
+    register_names = registers_named d tag sites design;
+    memory_names = memories_named d tag sites design;
   }

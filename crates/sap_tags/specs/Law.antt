@@ -1,5 +1,6 @@
 -- When a plain program stands for a design, and the law of this pass.
 use Rattle.std.specs.Prelude.{◌≡◌, ◌<◌, ◌≤◌, ℕ, true, false, IsTrue, List, [], ◌∷◌, ◌++◌, ◌⊎◌, map, if◌then◌else◌}
+use Rattle.std.specs.List.{AllByRecursion}
 use Rattle.sap_maps.specs.Maps.{Name}
 use Rattle.sap_tree.specs.Syntax.{DesignTree}
 use Rattle.sap_tree.specs.Whole.{is_whole}
@@ -23,6 +24,7 @@ use Rattle.sap_plain.specs.IsPlain.{IsPlain}
 use Rattle.sap_plain.specs.Writes.{PlainWritesOnce}
 use Rattle.sap_interface.specs.PortNames.{value_name, tag_name, seat_name, root_seat, refused_name, level_name}
 use Rattle.sap_interface.specs.StandsFor.{Named, name, world, depth, IsRefusedAt}
+use Rattle.sap_interface.specs.InterfaceNames.{IsInterfaceName}
 use Rattle.sap_interface.specs.Interface.{Shown, IsSeatWidth, ports_of}
 use Rattle.sap_interface.specs.Compiled.{coded_stream, CyclesStand}
 use Rattle.sap_interface.specs.Designs.{named_of, sites_of}
@@ -62,6 +64,9 @@ pub record PlainInterface (d : Named) (tag sites : ℕ) (p : Nested) : Type 0 wh
   pub state_tags : (x : ℕ) → is_state (world d) x ≡ true → x < root (world d) → HasVariable p.registers (tag_name (name d x)) tag
   pub seats : (p' : ℕ) → p' < root (world d) → 0 < children (world d) p' → HasSeatRegister p.registers (children (world d) p') (seat_name (name d p'))
   pub root_seat : HasSeatRegister p.registers (children (world d) (root (world d))) root_seat
+  -- its registers and memories have no other names
+  pub register_names : AllByRecursion (λ x. IsInterfaceName d sites x.name) p.registers
+  pub memory_names : AllByRecursion (λ m. IsInterfaceName d sites m.name) p.memories
 
 -- each list has one number for each input, within its width
 abbrev pub AllNumbersFit : List Var → List (List ℕ) → Type 0

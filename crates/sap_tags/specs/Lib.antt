@@ -6,3 +6,5 @@ pub mod States
 pub mod Stands
 pub mod Plain
 pub mod Law
+pub mod Code
+pub mod Built

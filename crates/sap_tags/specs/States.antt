@@ -16,6 +16,11 @@ abbrev mutual
   wires_group None = 0
   wires_group (More t g) = wires_state t + wires_group g
 
+-- how many wires the top-level states have: each has one for its own level
+abbrev pub wires_top : Group → ℕ
+wires_top None = 0
+wires_top (More (Node s b g) rest) = 1 + (wires_block b + 1 + wires_group g) + wires_top rest
+
 -- The states of a group, from wire k on. Their context is in wire p; that of a state's children is in the wire behind those of its body.
 unfoldable pub group_plain : Setting → (parent p k : ℕ) → Group → Forest
 group_plain d parent p k None = none

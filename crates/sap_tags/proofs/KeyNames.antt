@@ -11,6 +11,7 @@ use Rattle.std.proofs.lemmas.Fmt.{decimal_injective, decimal_digit, digits_decim
 use Rattle.std.proofs.lemmas.Slice.Eq.{bytes_eq-Decides}
 use Rattle.sap_maps.specs.Maps.{Name}
 use Rattle.sap_meaning.specs.Program.{root}
+use Rattle.sap_tree.specs.Words.{is_name}
 use Rattle.sap_net.specs.Names.{is_initial, is_word}
 use Rattle.sap_interface.specs.StandsFor.{Named, name, world}
 use Rattle.sap_tags.specs.Keys.{Key, Value, Tag, Seat, Refused, Level, Wire, First, sort, index, same, entity_word, seat_word, is_known, known_name, spare_name, key_name}
@@ -37,10 +38,11 @@ decimals_apart j k l m =
     (λ h. eq-eqb j k (decimal_injective j k (below_limit j l) (below_limit k m) (name_is (decimal j) (decimal k) h)))
     (λ h. subst (λ (i : ℕ). bytes_eq (decimal j) (decimal i) ≡ true) (eqb-true j k h) (same_name (decimal j)))
 
--- entities have names of their own, which are words
+-- entities have names of their own, which are words, and which the design language takes as names
 pub record NamesApart (d : Named) : Type 0 where
   pub apart : (x y : ℕ) → nat_lt x (root (world d)) ≡ true → nat_lt y (root (world d)) ≡ true → bytes_eq (name d x) (name d y) ≡ nat_eq x y
   pub words : (x : ℕ) → nat_lt x (root (world d)) ≡ true → is_word (name d x) ≡ true
+  pub named : (x : ℕ) → nat_lt x (root (world d)) ≡ true → is_name (name d x) ≡ true
 
 digits_own : IsNumeralModel (λ ds. list_all is_ascii_digit ds ≡ true) (digits_value 10)
 digits_own = numerals_by_value _ (search rules)

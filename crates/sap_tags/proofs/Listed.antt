@@ -1,0 +1,202 @@
+-- Lists of commands and of states, and what they are seen as.
+use Rattle.std.proofs.Common.{◌≡◌, ℕ, zero, suc, ◌+◌, ◌<◌, ◌≤◌, List, [], ◌∷◌, length, get_or, drop, refl, sym, ap, ap₂, ◌∙◌, arith, add-one}
+use Rattle.std.specs.declared.vec.Vec.{Vec}
+use Rattle.std.specs.declared.alloc.Global.{Global}
+use Rattle.sap_program.specs.declared.program.Number.{Number}
+use Rattle.sap_program.specs.declared.program.Step.{Step}
+use Rattle.sap_program.specs.declared.program.Command.{Command, Row_of-Command, end_of-Command, more_of-Command, items-the_row-Command, items_hidden-the_row-Command-0}
+use Rattle.sap_program.specs.declared.program.Command.TheBlock.{hidden-the_row-Command-0}
+use Rattle.sap_program.specs.declared.program.Command.TheVariants as command
+use Rattle.sap_program.specs.declared.program.Command.TheViews as shown
+use Rattle.sap_program.specs.declared.program.State.{State, State', Row_of-State, end_of-State, more_of-State, items-the_row-State, items_shown-the_row-State-0, out-State}
+use Rattle.sap_program.specs.declared.program.State.TheBlock.{shown-the_row-State-0}
+use denote.Hole.Carrier.{out}
+use Rattle.sap_meaning.specs.Program.{Block, End, Then, Group, None, More}
+use Rattle.sap_meaning.specs.Program as program
+use Rattle.sap_program.specs.Hangs.{flags}
+use Rattle.sap_program.specs.Views.{term_of, step_of, command_of, row_block, block_of, state_of, row_group, group_of}
+use Rattle.sap_tags.specs.Commands.{wires, wires_block}
+use Rattle.sap_tags.specs.States.{wires_state, wires_group, wires_top}
+use Rattle.sap_tags.specs.Built.{command_wires, commands_wires, state_wires, states_wires, tops_wires}
+
+-- commands
+
+row_block-items : (n : ℕ) {k : _} (row : Row_of-Command k) → row_block n row ≡ block_of n (items-the_row-Command k row)
+unfolding row_block block_of
+row_block-items n end_of-Command = refl
+row_block-items n (more_of-Command c rest) = ap (Then (command_of n c)) (row_block-items n rest)
+
+row_block-vec : (n : ℕ) (v : Vec Command Global) → row_block n (hidden-the_row-Command-0 v) ≡ block_of n v.items
+row_block-vec n v = row_block-items n (hidden-the_row-Command-0 v) ∙ ap (block_of n) (items_hidden-the_row-Command-0 v)
+
+pub command_of-do : (n : ℕ) (s : Step) → command_of n (command.Do s) ≡ program.Do (step_of n s)
+unfolding command_of
+command_of-do n s = refl
+
+pub command_of-try : (n : ℕ) (s : Step) (hang : List ℕ) (cs : Vec Command Global) → command_of n (shown.Try s hang cs) ≡ program.Try (step_of n s) (flags n hang) (block_of n cs.items)
+unfolding command_of
+command_of-try n s hang cs = ap (program.Try (step_of n s) (flags n hang)) (row_block-vec n cs)
+
+pub command_of-if : (n : ℕ) (hang : List ℕ) (e : Number) (ys ns : Vec Command Global)
+    → command_of n (shown.If hang e ys ns) ≡ program.If (flags n hang) (term_of e) (block_of n ys.items) (block_of n ns.items)
+unfolding command_of
+command_of-if n hang e ys ns =
+    ap (λ u. program.If (flags n hang) (term_of e) u (row_block n (hidden-the_row-Command-0 ns))) (row_block-vec n ys)
+    ∙ ap (λ u. program.If (flags n hang) (term_of e) (block_of n ys.items) u) (row_block-vec n ns)
+
+pub block_of-none : (n : ℕ) → block_of n [] ≡ End
+unfolding block_of
+block_of-none n = refl
+
+pub block_of-more : (n : ℕ) (c : Command) (cs : List Command) → block_of n (c ∷ cs) ≡ Then (command_of n c) (block_of n cs)
+unfolding block_of
+block_of-more n c cs = refl
+
+-- states
+
+row_group-items : (n : ℕ) {k : _} (row : Row_of-State k) → row_group n row ≡ group_of n (items-the_row-State k row)
+unfolding row_group group_of
+row_group-items n end_of-State = refl
+row_group-items n (more_of-State s rest) = ap (More (state_of n s)) (row_group-items n rest)
+
+pub state_of-out : (n : ℕ) (s : State) → state_of n s ≡ program.Node (out-State s).number (block_of n (out-State s).body.items) (group_of n (out-State s).children.items)
+unfolding state_of out-State shown-the_row-State-0 out
+state_of-out n (State' x body shape row) =
+    ap (λ (g : Group). program.Node x (block_of n body.items) g) (row_group-items n row ∙ ap (group_of n) (sym (items_shown-the_row-State-0 shape row)))
+
+pub group_of-none : (n : ℕ) → group_of n [] ≡ None
+unfolding group_of
+group_of-none n = refl
+
+pub group_of-more : (n : ℕ) (s : State) (ss : List State) → group_of n (s ∷ ss) ≡ More (state_of n s) (group_of n ss)
+unfolding group_of
+group_of-more n s ss = refl
+
+-- their wires, whatever hangs
+
+module _ (n : ℕ) where
+  mutual
+    unfolding command_of row_block
+
+    same_wires : (c : Command) → wires (command_of n c) ≡ wires (command_of 0 c)
+    same_wires (command.Do s) = refl
+    same_wires (command.Try' s hang k handler) = ap (λ (m : ℕ). 5 + m) (same_row handler)
+    same_wires (command.If' hang e k ys m ns) = ap₂ (λ (a b : ℕ). 2 + a + b) (same_row ys) (same_row ns)
+
+    same_row : {k : _} (row : Row_of-Command k) → wires_block (row_block n row) ≡ wires_block (row_block 0 row)
+    same_row end_of-Command = refl
+    same_row (more_of-Command c rest) = ap₂ (λ (a b : ℕ). a + b) (same_wires c) (same_row rest)
+
+  pub wires_are : (c : Command) → wires (command_of n c) ≡ command_wires c
+  unfolding command_wires
+  wires_are c = same_wires c
+
+  pub wires_block_are : (cs : List Command) → wires_block (block_of n cs) ≡ commands_wires cs
+  unfolding commands_wires block_of
+  wires_block_are [] = refl
+  wires_block_are (c ∷ cs) = ap₂ (λ (a b : ℕ). a + b) (same_wires c) (wires_block_are cs)
+
+pub wires_do : (s : Step) → command_wires (command.Do s) ≡ 5
+unfolding command_wires
+wires_do s = ap wires (command_of-do 0 s)
+
+pub wires_try : (s : Step) (hang : List ℕ) (cs : Vec Command Global) → command_wires (shown.Try s hang cs) ≡ 5 + commands_wires cs.items
+unfolding command_wires commands_wires
+wires_try s hang cs = ap wires (command_of-try 0 s hang cs)
+
+pub wires_if : (hang : List ℕ) (e : Number) (ys ns : Vec Command Global) → command_wires (shown.If hang e ys ns) ≡ 2 + commands_wires ys.items + commands_wires ns.items
+unfolding command_wires commands_wires
+wires_if hang e ys ns = ap wires (command_of-if 0 hang e ys ns)
+
+pub wires_none : commands_wires [] ≡ 0
+unfolding commands_wires
+wires_none = ap wires_block (block_of-none 0)
+
+pub wires_more : (c : Command) (cs : List Command) → commands_wires (c ∷ cs) ≡ command_wires c + commands_wires cs
+unfolding commands_wires command_wires
+wires_more c cs = ap wires_block (block_of-more 0 c cs)
+
+pub wires_drop : (cs : List Command) (i : ℕ) (e : Command) → i < length cs → commands_wires (drop i cs) ≡ command_wires (get_or cs i e) + commands_wires (drop (i + 1) cs)
+wires_drop [] i e l = absurd (omega arith)
+wires_drop (c ∷ cs) zero e l = wires_more c cs
+wires_drop (c ∷ cs) (suc i) e l = let r = wires_drop cs i e (omega arith) in simp (add-one) (simp (add-one) at r)
+
+pub wires_past : (cs : List Command) (i : ℕ) → length cs ≤ i → commands_wires (drop i cs) ≡ 0
+wires_past [] zero l = wires_none
+wires_past [] (suc i) l = wires_none
+wires_past (c ∷ cs) zero l = absurd (omega arith)
+wires_past (c ∷ cs) (suc i) l = wires_past cs i (omega arith)
+
+pub wires_in : (cs : List Command) (i : ℕ) (e : Command) → i < length cs → command_wires (get_or cs i e) ≤ commands_wires cs
+wires_in [] i e l = absurd (omega arith)
+wires_in (c ∷ cs) zero e l = let m = wires_more c cs in omega (arith, m)
+wires_in (c ∷ cs) (suc i) e l = let m = wires_more c cs in let r = wires_in cs i e (omega arith) in omega (arith, m, r)
+
+-- states
+
+module _ (n : ℕ) where
+  mutual
+    unfolding state_of row_group
+
+    same_state : (t : State) → wires_state (state_of n t) ≡ wires_state (state_of 0 t)
+    same_state (State' x body k row) = ap₂ (λ (a b : ℕ). a + 1 + b) (wires_block_are n body.items ∙ sym (wires_block_are 0 body.items)) (same_states row)
+
+    same_states : {k : _} (row : Row_of-State k) → wires_group (row_group n row) ≡ wires_group (row_group 0 row)
+    same_states end_of-State = refl
+    same_states (more_of-State t rest) = ap₂ (λ (a b : ℕ). a + b) (same_state t) (same_states rest)
+
+  pub wires_state_are : (t : State) → wires_state (state_of n t) ≡ state_wires t
+  unfolding state_wires
+  wires_state_are t = same_state t
+
+pub state_wires_are : (t : State) → state_wires t ≡ commands_wires (out-State t).body.items + 1 + states_wires (out-State t).children.items
+unfolding state_wires commands_wires states_wires
+state_wires_are t = ap wires_state (state_of-out 0 t)
+
+states_none : states_wires [] ≡ 0
+unfolding states_wires
+states_none = ap wires_group (group_of-none 0)
+
+states_more : (t : State) (ts : List State) → states_wires (t ∷ ts) ≡ state_wires t + states_wires ts
+unfolding states_wires state_wires
+states_more t ts = ap wires_group (group_of-more 0 t ts)
+
+pub states_drop : (ts : List State) (i : ℕ) (e : State) → i < length ts → states_wires (drop i ts) ≡ state_wires (get_or ts i e) + states_wires (drop (i + 1) ts)
+states_drop [] i e l = absurd (omega arith)
+states_drop (t ∷ ts) zero e l = states_more t ts
+states_drop (t ∷ ts) (suc i) e l = let r = states_drop ts i e (omega arith) in simp (add-one) (simp (add-one) at r)
+
+pub states_past : (ts : List State) (i : ℕ) → length ts ≤ i → states_wires (drop i ts) ≡ 0
+states_past [] zero l = states_none
+states_past [] (suc i) l = states_none
+states_past (t ∷ ts) zero l = absurd (omega arith)
+states_past (t ∷ ts) (suc i) l = states_past ts i (omega arith)
+
+pub states_in : (ts : List State) (i : ℕ) (e : State) → i < length ts → state_wires (get_or ts i e) ≤ states_wires ts
+states_in [] i e l = absurd (omega arith)
+states_in (t ∷ ts) zero e l = let m = states_more t ts in omega (arith, m)
+states_in (t ∷ ts) (suc i) e l = let m = states_more t ts in let r = states_in ts i e (omega arith) in omega (arith, m, r)
+
+-- the top-level states
+
+wires_top_one : (t : program.State) (g : Group) → wires_top (More t g) ≡ 1 + wires_state t + wires_top g
+wires_top_one (program.Node x b k) g = refl
+
+pub tops_are : (n : ℕ) (ts : List State) → wires_top (group_of n ts) ≡ tops_wires ts
+unfolding tops_wires group_of
+tops_are n [] = refl
+tops_are n (t ∷ ts) =
+    wires_top_one (state_of n t) (group_of n ts)
+    ∙ ap₂ (λ (a b : ℕ). 1 + a + b) (same_state n t) (tops_are n ts)
+    ∙ sym (wires_top_one (state_of 0 t) (group_of 0 ts))
+
+tops_more : (t : State) (ts : List State) → tops_wires (t ∷ ts) ≡ 1 + state_wires t + tops_wires ts
+unfolding tops_wires state_wires group_of
+tops_more t ts = wires_top_one (state_of 0 t) (group_of 0 ts)
+
+pub tops_drop : (ts : List State) (i : ℕ) (e : State) → i < length ts → tops_wires (drop i ts) ≡ 1 + state_wires (get_or ts i e) + tops_wires (drop (i + 1) ts)
+tops_drop [] i e l = absurd (omega arith)
+tops_drop (t ∷ ts) zero e l = tops_more t ts
+tops_drop (t ∷ ts) (suc i) e l = let r = tops_drop ts i e (omega arith) in simp (add-one) (simp (add-one) at r)
+
+pub ruleset counts = (wires_do, wires_try, wires_if, wires_drop, wires_past, wires_in)

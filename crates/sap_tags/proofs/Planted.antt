@@ -1,0 +1,250 @@
+-- What a group is after a state, and after each of a list.
+use Rattle.std.proofs.Common.{◌≡◌, ℕ, Bool, zero, suc, ◌+◌, ◌<◌, ◌≤◌, List, [], ◌∷◌, ◌++◌, length, get_or, drop, refl, sym, ap, ap₂, ◌∙◌, subst, arith, add-one}
+use Rattle.sap_maps.specs.Maps.{Name}
+use Rattle.sap_meaning.specs.Program.{root, listed, Block, State, Node, Group, None, More}
+use Rattle.sap_meaning.specs.Checks as checks
+use Rattle.sap_plain.specs.Nested.{Body, stop, Forest, none, state}
+use Rattle.sap_plain.specs.declared.nested.PlainState.{PlainState, PlainState-F, roll-PlainState}
+use Rattle.sap_plain.specs.Views.{body_of, follow, forest_of, state_before, planted}
+use Rattle.sap_plain.proofs.Views.{follow-more, forest_of-none, forest_of-push, state_before-roll}
+use Rattle.sap_program.specs.Hangs.{flags}
+use Rattle.sap_program.specs.declared.program.State.{State as StateCode, out-State}
+use Rattle.sap_program.specs.declared.program.Command.{Command}
+use Rattle.sap_program.specs.Views.{block_of, state_of, group_of}
+use Rattle.sap_sized.specs.Ranges.{RangedBlock, RangedState, RangedGroup}
+use Rattle.sap_tags.specs.Built.{CommandsRanged, StateRanged, StatesRanged, commands_body, commands_wires, state_forest, state_wires, states_forest, states_wires, top_forest, tops_forest, tops_wires}
+use Rattle.sap_tags.specs.Code.{named_in, entities_in, setting_in, spot_in, world_in}
+use Rattle.sap_tags.specs.Keys.{First, Tag, Wire, entity_word}
+use Rattle.sap_tags.specs.Levels.{var}
+use Rattle.sap_tags.specs.Commands.{gives, raises, block_plain, wires_block}
+use Rattle.sap_tags.specs.Setting as pass
+use Rattle.sap_tags.specs.States.{wires_state, saves, saved, group_plain, top_plain}
+use Rattle.sap_tags.specs.declared.setting.Setting.{Setting}
+use Rattle.sap_tags.specs.declared.setting.Spot.{Spot}
+use Rattle.sap_tags.proofs.Listed.{state_of-out, group_of-more, wires_block_are, wires_state_are, state_wires_are, states_drop, tops_drop}
+use Rattle.sap_tags.proofs.Raised.{raises_follow, entities_count}
+use Rattle.sap_tags.proofs.Pushed.{for_each_follow}
+
+-- groups, one state more
+
+planted_end : (f : Forest) → planted f none ≡ f
+planted_end none = refl
+planted_end (state x b kids rest) = ap (state x b kids) (planted_end rest)
+
+planted_more : (a b c : Forest) → planted (planted a b) c ≡ planted a (planted b c)
+planted_more none b c = refl
+planted_more (state x d kids rest) b c = ap (state x d kids) (planted_more rest b c)
+
+group_one : (d : pass.Setting) (parent p k : ℕ) (t : State) (g : Group) → group_plain d parent p k (More t g) ≡ planted (group_plain d parent p k (More t None)) (group_plain d parent p (k + wires_state t) g)
+unfolding group_plain
+group_one d parent p k (Node x b kids) g = refl
+
+top_one : (d : pass.Setting) (hangs : ℕ → Bool) (k : ℕ) (t : State) (g : Group) → top_plain d hangs k (More t g) ≡ planted (top_plain d hangs k (More t None)) (top_plain d hangs (k + (1 + wires_state t)) g)
+unfolding top_plain
+top_one d hangs k (Node x b kids) g = refl
+
+module _ (s : Setting) where
+  -- widths
+
+  ranged_state : (t : StateCode) → StateRanged s t → RangedBlock (world_in s) (block_of (entities_in s) (out-State t).body.items) × RangedGroup (world_in s) (group_of (entities_in s) (out-State t).children.items)
+  unfolding StateRanged
+  ranged_state t r = subst (RangedState (world_in s)) (state_of-out (entities_in s) t) r
+
+  pub ranged_body : (t : StateCode) (l : List Command) → l ≡ (out-State t).body.items → StateRanged s t → CommandsRanged s l
+  unfolding CommandsRanged
+  ranged_body t l e r = subst (λ (l : List Command). RangedBlock (world_in s) (block_of (entities_in s) l)) (sym e) (ranged_state t r).0
+
+  pub ranged_children : (t : StateCode) (l : List StateCode) → l ≡ (out-State t).children.items → StateRanged s t → StatesRanged s l
+  unfolding StatesRanged
+  ranged_children t l e r = subst (λ (l : List StateCode). RangedGroup (world_in s) (group_of (entities_in s) l)) (sym e) (ranged_state t r).1
+
+  pub ranged_one : (ts : List StateCode) (i : ℕ) (e : StateCode) → i < length ts → StatesRanged s ts → StateRanged s (get_or ts i e)
+  unfolding StatesRanged StateRanged group_of
+  ranged_one [] i e l r = absurd (omega arith)
+  ranged_one (t ∷ ts) zero e l r = r.0
+  ranged_one (t ∷ ts) (suc i) e l r = ranged_one ts i e (omega arith) r.1
+
+  pub ranged_all : (ts : List StateCode) → RangedGroup (world_in s) (group_of (entities_in s) ts) → StatesRanged s ts
+  unfolding StatesRanged
+  ranged_all ts r = r
+
+  -- a state
+
+  node_forest : (d : pass.Setting) (parent p k x : ℕ) (b : Block) (kids : Group) → group_plain d parent p k (More (Node x b kids) None)
+      ≡ state (d.state_name x) (block_plain d (record { state = x; parent = parent; children = kids }) (k + wires_block b) p k b) (group_plain d x (k + wires_block b) (k + wires_block b + 1) kids) none
+  unfolding group_plain
+  node_forest d parent p k x b kids = refl
+
+  pub state_made : (parent p k base : ℕ) (t : StateCode) (at : Spot) (bl : List Command) (kl : List StateCode) (y : PlainState-F PlainState)
+      → at.state ≡ (out-State t).number → at.parent ≡ parent → at.children.now ≡ kl → bl ≡ (out-State t).body.items → kl ≡ (out-State t).children.items → base ≡ k + commands_wires bl
+      → y.name ≡ entity_word (named_in s) (out-State t).number
+      → body_of y.cmds.items ≡ commands_body s at base p k bl
+      → forest_of y.children.items ≡ states_forest s (out-State t).number base (base + 1) kl
+      → state_before (roll-PlainState y) none ≡ state_forest s parent p k t
+  unfolding state_forest states_forest commands_body
+  state_made parent p k base t at bl kl y xe pe ce be ke we ne body kids =
+      let d = setting_in s in
+      let n = entities_in s in
+      let x = (out-State t).number in
+      let b = block_of n (out-State t).body.items in
+      let g = group_of n (out-State t).children.items in
+      let here : ℕ → ℕ → List StateCode → checks.Spot = λ q r l. record { state = q; parent = r; children = group_of n l } in
+      let e : base ≡ k + wires_block b = we ∙ ap (λ (l : List Command). k + commands_wires l) be ∙ ap (λ (w : ℕ). k + w) (sym (wires_block_are n (out-State t).body.items)) in
+      let first : body_of y.cmds.items ≡ block_plain d (here x parent (out-State t).children.items) (k + wires_block b) p k b =
+      body
+      ∙ ap₂ (λ (q r : ℕ). block_plain d (here q r at.children.now) base p k (block_of n bl)) xe pe
+      ∙ ap (λ (l : List StateCode). block_plain d (here x parent l) base p k (block_of n bl)) (ce ∙ ke)
+      ∙ ap₂ (λ (j : ℕ) (l : List Command). block_plain d (here x parent (out-State t).children.items) j p k (block_of n l)) e be in
+      let second : forest_of y.children.items ≡ group_plain d x (k + wires_block b) (k + wires_block b + 1) g =
+      kids ∙ ap₂ (λ (j : ℕ) (l : List StateCode). group_plain d x j (j + 1) (group_of n l)) e ke in
+      state_before-roll y none
+      ∙ ap₂ (λ (m : Name) (c : Body). state m c (forest_of y.children.items) none) ne first
+      ∙ ap (λ (f : Forest). state (d.state_name x) (block_plain d (here x parent (out-State t).children.items) (k + wires_block b) p k b) f none) second
+      ∙ sym (ap (λ (q : State). group_plain d parent p k (More q None)) (state_of-out n t) ∙ node_forest d parent p k x b g)
+
+  -- the states of a group
+
+  module _ (parent p : ℕ) where
+    pub forest_past : (k : ℕ) (ts : List StateCode) (i : ℕ) → length ts ≤ i → states_forest s parent p k (drop i ts) ≡ none
+    unfolding states_forest group_plain group_of
+    forest_past k [] zero l = refl
+    forest_past k [] (suc i) l = refl
+    forest_past k (t ∷ ts) zero l = absurd (omega arith)
+    forest_past k (t ∷ ts) (suc i) l = forest_past k ts i (omega arith)
+
+    forest_more : (k : ℕ) (t : StateCode) (ts : List StateCode) → states_forest s parent p k (t ∷ ts) ≡ planted (state_forest s parent p k t) (states_forest s parent p (k + state_wires t) ts)
+    unfolding states_forest state_forest
+    forest_more k t ts =
+        let d = setting_in s in
+        let n = entities_in s in
+        ap (group_plain d parent p k) (group_of-more n t ts)
+        ∙ group_one d parent p k (state_of n t) (group_of n ts)
+        ∙ ap (λ (w : ℕ). planted (group_plain d parent p k (More (state_of n t) None)) (group_plain d parent p (k + w) (group_of n ts))) (wires_state_are n t)
+
+    forest_drop : (k : ℕ) (ts : List StateCode) (i : ℕ) (e : StateCode) → i < length ts → states_forest s parent p k (drop i ts) ≡ planted (state_forest s parent p k (get_or ts i e)) (states_forest s parent p (k + state_wires (get_or ts i e)) (drop (i + 1) ts))
+    forest_drop k [] i e l = absurd (omega arith)
+    forest_drop k (t ∷ ts) zero e l = forest_more k t ts
+    forest_drop k (t ∷ ts) (suc i) e l = let r = forest_drop k ts i e (omega arith) in simp (add-one) (simp (add-one) at r)
+
+    pub states_step : (ts : List StateCode) (i : ℕ) (t : StateCode) (k m : ℕ) (now new : List PlainState) (r : PlainState) (all : Forest) → i < length ts → t ≡ get_or ts i t → new ≡ now ++ r ∷ [] → state_before r none ≡ state_forest s parent p k t → m ≡ k + state_wires t
+        → planted (forest_of now) (states_forest s parent p k (drop i ts)) ≡ all → planted (forest_of new) (states_forest s parent p m (drop (i + 1) ts)) ≡ all
+    states_step ts i t k m now new r all l e f g w h =
+        ap₂ (λ (b : Forest) (j : ℕ). planted b (states_forest s parent p j (drop (i + 1) ts))) (ap forest_of f ∙ forest_of-push now r ∙ ap (planted (forest_of now)) g) w
+        ∙ planted_more (forest_of now) (state_forest s parent p k t) (states_forest s parent p (k + state_wires t) (drop (i + 1) ts))
+        ∙ ap (λ (y : StateCode). planted (forest_of now) (planted (state_forest s parent p k y) (states_forest s parent p (k + state_wires y) (drop (i + 1) ts)))) e
+        ∙ ap (planted (forest_of now)) (sym (forest_drop k ts i t l)) ∙ h
+
+    pub states_rest : (ts : List StateCode) (i k : ℕ) (now all : Forest) → length ts ≤ i → planted now (states_forest s parent p k (drop i ts)) ≡ all → now ≡ all
+    states_rest ts i k now all l h = sym (planted_end now) ∙ ap (planted now) (sym (forest_past k ts i l)) ∙ h
+
+  -- the top-level states
+
+  top_node : (d : pass.Setting) (hangs : ℕ → Bool) (k x : ℕ) (b : Block) (kids : Group) → top_plain d hangs k (More (Node x b kids) None)
+      ≡ state (d.state_name x) (saves d (gives d (Wire k) (var d (Tag x)) (raises d hangs k (block_plain d (record { state = x; parent = root d.world; children = kids }) (k + 1 + wires_block b) k (k + 1) b)))) (group_plain d x (k + 1 + wires_block b) (k + 1 + wires_block b + 1) kids) none
+  unfolding top_plain
+  top_node d hangs k x b kids = refl
+
+  -- the body of a top-level state
+  top_body : (hl : List ℕ) (k x : ℕ) (b0 b1 b2 b3 b4 c : Body) → hl ≡ s.program.now.hang → b1 ≡ saves (setting_in s) stop
+      → b2 ≡ follow b1 (gives (setting_in s) (Wire k) (var (setting_in s) (Tag x)) stop)
+      → b3 ≡ follow b2 (raises (setting_in s) (listed (flags (entities_in s) hl)) k stop)
+      → b4 ≡ follow b3 c
+      → b4 ≡ saves (setting_in s) (gives (setting_in s) (Wire k) (var (setting_in s) (Tag x)) (raises (setting_in s) (listed (flags (entities_in s) s.program.now.hang)) k c))
+  top_body hl k x b0 b1 b2 b3 b4 c he e1 e2 e3 e4 =
+      let d = setting_in s in
+      let level : Body = gives d (Wire k) (var d (Tag x)) stop in
+      let raise : Body = raises d (listed (flags (entities_in s) hl)) k stop in
+      e4 ∙ ap (λ (b : Body). follow b c) (e3 ∙ ap (λ (b : Body). follow b raise) (e2 ∙ ap (λ (b : Body). follow b level) e1))
+      ∙ follow-more (follow (saves d stop) level) raise c
+      ∙ follow-more (saves d stop) level (follow raise c)
+      ∙ for_each_follow d First (saved d.world) (λ m. var d (Tag m)) (gives d (Wire k) (var d (Tag x)) (follow raise c))
+      ∙ ap (λ (b : Body). saves d (gives d (Wire k) (var d (Tag x)) b)) (sym (raises_follow d (listed (flags (entities_in s) hl)) k c))
+      ∙ ap (λ (l : List ℕ). saves d (gives d (Wire k) (var d (Tag x)) (raises d (listed (flags (entities_in s) l)) k c))) he
+
+  pub top_made : (k base : ℕ) (t : StateCode) (at : Spot) (hl : List ℕ) (bl : List Command) (kl : List StateCode) (y : PlainState-F PlainState) (b1 b2 b3 : Body)
+      → at.state ≡ (out-State t).number → at.parent ≡ entities_in s → at.children.now ≡ kl → hl ≡ s.program.now.hang → bl ≡ (out-State t).body.items → kl ≡ (out-State t).children.items → base ≡ k + 1 + commands_wires bl
+      → y.name ≡ entity_word (named_in s) (out-State t).number
+      → b1 ≡ saves (setting_in s) stop
+      → b2 ≡ follow b1 (gives (setting_in s) (Wire k) (var (setting_in s) (Tag (out-State t).number)) stop)
+      → b3 ≡ follow b2 (raises (setting_in s) (listed (flags (entities_in s) hl)) k stop)
+      → body_of y.cmds.items ≡ follow b3 (commands_body s at base k (k + 1) bl)
+      → forest_of y.children.items ≡ states_forest s (out-State t).number base (base + 1) kl
+      → state_before (roll-PlainState y) none ≡ top_forest s k t
+  unfolding top_forest states_forest commands_body
+  top_made k base t at hl bl kl y b1 b2 b3 xe pe ce he be ke we ne e1 e2 e3 body kids =
+      let d = setting_in s in
+      let n = entities_in s in
+      let x = (out-State t).number in
+      let b = block_of n (out-State t).body.items in
+      let g = group_of n (out-State t).children.items in
+      let here : ℕ → ℕ → List StateCode → checks.Spot = λ q r l. record { state = q; parent = r; children = group_of n l } in
+      let e : base ≡ k + 1 + wires_block b = we ∙ ap (λ (l : List Command). k + 1 + commands_wires l) be ∙ ap (λ (w : ℕ). k + 1 + w) (sym (wires_block_are n (out-State t).body.items)) in
+      let r : at.parent ≡ root d.world = pe ∙ sym (entities_count s.program.now.entities.items) in
+      let front : Body → Body = λ c. saves d (gives d (Wire k) (var d (Tag x)) (raises d (listed (flags n s.program.now.hang)) k c)) in
+      let first : body_of y.cmds.items ≡ front (block_plain d (here x (root d.world) (out-State t).children.items) (k + 1 + wires_block b) k (k + 1) b) =
+      top_body hl k x stop b1 b2 b3 (body_of y.cmds.items) (block_plain d (spot_in s at) base k (k + 1) (block_of n bl)) he e1 e2 e3 body
+      ∙ ap₂ (λ (q r : ℕ). front (block_plain d (here q r at.children.now) base k (k + 1) (block_of n bl))) xe r
+      ∙ ap (λ (l : List StateCode). front (block_plain d (here x (root d.world) l) base k (k + 1) (block_of n bl))) (ce ∙ ke)
+      ∙ ap₂ (λ (j : ℕ) (l : List Command). front (block_plain d (here x (root d.world) (out-State t).children.items) j k (k + 1) (block_of n l))) e be in
+      let second : forest_of y.children.items ≡ group_plain d x (k + 1 + wires_block b) (k + 1 + wires_block b + 1) g =
+      kids ∙ ap₂ (λ (j : ℕ) (l : List StateCode). group_plain d x j (j + 1) (group_of n l)) e ke in
+      state_before-roll y none
+      ∙ ap₂ (λ (m : Name) (c : Body). state m c (forest_of y.children.items) none) ne first
+      ∙ ap (λ (f : Forest). state (d.state_name x) (front (block_plain d (here x (root d.world) (out-State t).children.items) (k + 1 + wires_block b) k (k + 1) b)) f none) second
+      ∙ sym (ap (λ (q : State). top_plain d (listed (flags n s.program.now.hang)) k (More q None)) (state_of-out n t) ∙ top_node d (listed (flags n s.program.now.hang)) k x b g)
+
+  tops_past : (k : ℕ) (ts : List StateCode) (i : ℕ) → length ts ≤ i → tops_forest s k (drop i ts) ≡ none
+  unfolding tops_forest top_plain group_of
+  tops_past k [] zero l = refl
+  tops_past k [] (suc i) l = refl
+  tops_past k (t ∷ ts) zero l = absurd (omega arith)
+  tops_past k (t ∷ ts) (suc i) l = tops_past k ts i (omega arith)
+
+  tops_more : (k : ℕ) (t : StateCode) (ts : List StateCode) → tops_forest s k (t ∷ ts) ≡ planted (top_forest s k t) (tops_forest s (k + (1 + state_wires t)) ts)
+  unfolding tops_forest top_forest
+  tops_more k t ts =
+      let d = setting_in s in
+      let n = entities_in s in
+      let hangs = listed (flags n s.program.now.hang) in
+      ap (top_plain d hangs k) (group_of-more n t ts)
+      ∙ top_one d hangs k (state_of n t) (group_of n ts)
+      ∙ ap (λ (w : ℕ). planted (top_plain d hangs k (More (state_of n t) None)) (top_plain d hangs (k + (1 + w)) (group_of n ts))) (wires_state_are n t)
+
+  tops_at : (k : ℕ) (ts : List StateCode) (i : ℕ) (e : StateCode) → i < length ts → tops_forest s k (drop i ts) ≡ planted (top_forest s k (get_or ts i e)) (tops_forest s (k + (1 + state_wires (get_or ts i e))) (drop (i + 1) ts))
+  tops_at k [] i e l = absurd (omega arith)
+  tops_at k (t ∷ ts) zero e l = tops_more k t ts
+  tops_at k (t ∷ ts) (suc i) e l = let r = tops_at k ts i e (omega arith) in simp (add-one) (simp (add-one) at r)
+
+  pub tops_step : (ts : List StateCode) (i : ℕ) (t : StateCode) (k m : ℕ) (now new : List PlainState) (r : PlainState) (all : Forest) → i < length ts → t ≡ get_or ts i t → new ≡ now ++ r ∷ [] → state_before r none ≡ top_forest s k t → m ≡ k + 1 + state_wires t
+      → planted (forest_of now) (tops_forest s k (drop i ts)) ≡ all → planted (forest_of new) (tops_forest s m (drop (i + 1) ts)) ≡ all
+  tops_step ts i t k m now new r all l e f g w h =
+      let v : m ≡ k + (1 + state_wires t) = omega (arith, w) in
+      ap₂ (λ (b : Forest) (j : ℕ). planted b (tops_forest s j (drop (i + 1) ts))) (ap forest_of f ∙ forest_of-push now r ∙ ap (planted (forest_of now)) g) v
+      ∙ planted_more (forest_of now) (top_forest s k t) (tops_forest s (k + (1 + state_wires t)) (drop (i + 1) ts))
+      ∙ ap (λ (y : StateCode). planted (forest_of now) (planted (top_forest s k y) (tops_forest s (k + (1 + state_wires y)) (drop (i + 1) ts)))) e
+      ∙ ap (planted (forest_of now)) (sym (tops_at k ts i t l)) ∙ h
+
+  pub tops_rest : (ts : List StateCode) (i k : ℕ) (now all : Forest) → length ts ≤ i → planted now (tops_forest s k (drop i ts)) ≡ all → now ≡ all
+  tops_rest ts i k now all l h = sym (planted_end now) ∙ ap (planted now) (sym (tops_past k ts i l)) ∙ h
+
+  pub tops_are_plain : (k : ℕ) (ts : List StateCode) → tops_forest s k ts ≡ top_plain (setting_in s) (listed (flags (entities_in s) s.program.now.hang)) k (group_of (entities_in s) ts)
+  unfolding tops_forest
+  tops_are_plain k ts = refl
+
+-- before the first of a list
+pub planted_none : (ss : List PlainState) (f : Forest) → ss ≡ [] → planted (forest_of ss) f ≡ f
+planted_none ss f e = ap (λ (l : List PlainState). planted (forest_of l) f) e ∙ ap (λ (g : Forest). planted g f) forest_of-none
+
+pub states_wires_step : (ts : List StateCode) (i : ℕ) (t : StateCode) (k m all : ℕ) → i < length ts → t ≡ get_or ts i t → m ≡ k + state_wires t → k + states_wires (drop i ts) ≡ all → m + states_wires (drop (i + 1) ts) ≡ all
+states_wires_step ts i t k m all l e f h =
+    let q = states_drop ts i t l ∙ ap (λ (y : StateCode). state_wires y + states_wires (drop (i + 1) ts)) (sym e) in
+    omega (arith, q, f, h)
+
+pub tops_wires_step : (ts : List StateCode) (i : ℕ) (t : StateCode) (k m all : ℕ) → i < length ts → t ≡ get_or ts i t → m ≡ k + 1 + state_wires t → k + tops_wires (drop i ts) ≡ all → m + tops_wires (drop (i + 1) ts) ≡ all
+tops_wires_step ts i t k m all l e f h =
+    let q = tops_drop ts i t l ∙ ap (λ (y : StateCode). 1 + state_wires y + tops_wires (drop (i + 1) ts)) (sym e) in
+    omega (arith, q, f, h)
+
+-- what a state has, and its body with its own wire
+pub room : (t : StateCode) (bl : List Command) (kl : List StateCode) → bl ≡ (out-State t).body.items → kl ≡ (out-State t).children.items → state_wires t ≡ commands_wires bl + 1 + states_wires kl
+room t bl kl be ke = state_wires_are t ∙ ap₂ (λ (b : List Command) (g : List StateCode). commands_wires b + 1 + states_wires g) (sym be) (sym ke)

@@ -1,0 +1,196 @@
+-- The wires of lists of commands and of states, from a place on.
+use Rattle.std.proofs.Common.{◌≡◌, ℕ, zero, suc, ◌+◌, ◌<◌, ◌≤◌, ◌^◌, List, [], ◌∷◌, ◌++◌, length, get_or, drop, refl, sym, ap, ◌∙◌, subst, arith, add-one, append_assoc}
+use Rattle.std.specs.declared.vec.Vec.{Vec}
+use Rattle.std.specs.declared.alloc.Global.{Global}
+use Rattle.sap_ir.specs.declared.guarded.Var.{Var}
+use Rattle.sap_meaning.specs.Program as program
+use Rattle.sap_meaning.specs.Program.{Block, End, Then, Group, None, More, Node}
+use Rattle.sap_program.specs.declared.program.Number.{Number}
+use Rattle.sap_program.specs.declared.program.Step.{Step}
+use Rattle.sap_program.specs.declared.program.Command.{Command}
+use Rattle.sap_program.specs.declared.program.Command.TheViews as shown
+use Rattle.sap_program.specs.declared.program.State.{State, out-State}
+use Rattle.sap_program.specs.Views.{command_of, block_of, state_of, group_of}
+use Rattle.sap_interface.specs.StandsFor.{Named}
+use Rattle.sap_tags.specs.Commands.{wires, wires_block}
+use Rattle.sap_tags.specs.States.{wires_state, wires_group, wires_top}
+use Rattle.sap_tags.specs.Plain.{wire, site_wires, command_wires, block_wires, state_wires, group_wires, top_wires}
+use Rattle.sap_tags.proofs.Walked.{command_of-do, command_of-try, command_of-if, state_of-out}
+
+pub append_none : (l : List Var) → l ++ [] ≡ l
+append_none [] = refl
+append_none (x ∷ l) = ap (λ (r : List Var). x ∷ r) (append_none l)
+
+-- sites
+
+site_more : (d : Named) (tag k n : ℕ) → site_wires d tag k (suc n) ≡ site_wires d tag k n ++ site_wires d tag (k + n) 1
+site_more d tag k zero = let z : k + 0 ≡ k = omega arith in rw z refl
+site_more d tag k (suc n) =
+    let z : k + 1 + n ≡ k + suc n = omega arith in
+    ap (λ (r : List Var). site_wires d tag k 1 ++ r) (site_more d tag (k + 1) n ∙ ap (λ m. site_wires d tag (k + 1) n ++ site_wires d tag m 1) z)
+
+pub site_step : (d : Named) (tag n : ℕ) (front old new : List Var) → old ≡ front ++ site_wires d tag 1 n → new ≡ old ++ site_wires d tag (n + 1) 1
+    → new ≡ front ++ site_wires d tag 1 (n + 1)
+site_step d tag n front old new e f =
+    let z : n + 1 ≡ 1 + n = omega arith in
+    let a : front ++ site_wires d tag 1 (n + 1) ≡ front ++ (site_wires d tag 1 n ++ site_wires d tag (n + 1) 1) =
+    ap (λ m. front ++ site_wires d tag 1 m) (add-one n) ∙ ap (λ (r : List Var). front ++ r) (site_more d tag 1 n)
+    ∙ ap (λ m. front ++ (site_wires d tag 1 n ++ site_wires d tag m 1)) (sym z) in
+    f ∙ ap (λ (r : List Var). r ++ site_wires d tag (n + 1) 1) e ∙ append_assoc front (site_wires d tag 1 n) (site_wires d tag (n + 1) 1) ∙ sym a
+
+-- lists from a place on
+
+pub block-drop : (n : ℕ) (cs : List Command) (i : ℕ) (c : Command) → i < length cs → c ≡ get_or cs i c
+    → block_of n (drop i cs) ≡ Then (command_of n c) (block_of n (drop (i + 1) cs))
+unfolding block_of
+block-drop n [] i c l e = absurd (omega arith)
+block-drop n (b ∷ cs) zero c l e = ap (λ (x : Command). Then (command_of n x) (block_of n cs)) (sym e)
+block-drop n (b ∷ cs) (suc i) c l e = let r = block-drop n cs i c (omega arith) e in simp (add-one) (simp (add-one) at r)
+
+pub block-past : (n : ℕ) (cs : List Command) (i : ℕ) → length cs ≤ i → block_of n (drop i cs) ≡ End
+unfolding block_of
+block-past n [] zero l = refl
+block-past n [] (suc i) l = refl
+block-past n (c ∷ cs) zero l = absurd (omega arith)
+block-past n (c ∷ cs) (suc i) l = block-past n cs i (omega arith)
+
+pub group-drop : (n : ℕ) (ss : List State) (i : ℕ) (s : State) → i < length ss → s ≡ get_or ss i s
+    → group_of n (drop i ss) ≡ More (state_of n s) (group_of n (drop (i + 1) ss))
+unfolding group_of
+group-drop n [] i s l e = absurd (omega arith)
+group-drop n (t ∷ ss) zero s l e = ap (λ (x : State). More (state_of n x) (group_of n ss)) (sym e)
+group-drop n (t ∷ ss) (suc i) s l e = let r = group-drop n ss i s (omega arith) e in simp (add-one) (simp (add-one) at r)
+
+pub group-past : (n : ℕ) (ss : List State) (i : ℕ) → length ss ≤ i → group_of n (drop i ss) ≡ None
+unfolding group_of
+group-past n [] zero l = refl
+group-past n [] (suc i) l = refl
+group-past n (s ∷ ss) zero l = absurd (omega arith)
+group-past n (s ∷ ss) (suc i) l = group-past n ss i (omega arith)
+
+-- how many wires parts have
+
+pub block_in : (n : ℕ) (cs : List Command) (i : ℕ) (c : Command) → i < length cs → c ≡ get_or cs i c → wires (command_of n c) ≤ wires_block (block_of n cs)
+unfolding block_of
+block_in n [] i c l e = absurd (omega arith)
+block_in n (b ∷ cs) zero c l e = let r : wires (command_of n c) ≡ wires (command_of n b) = ap (λ (x : Command). wires (command_of n x)) e in omega (arith, r)
+block_in n (b ∷ cs) (suc i) c l e = let r = block_in n cs i c (omega arith) e in omega (arith, r)
+
+pub group_in : (n : ℕ) (ss : List State) (i : ℕ) (s : State) → i < length ss → s ≡ get_or ss i s → wires_state (state_of n s) ≤ wires_group (group_of n ss)
+unfolding group_of
+group_in n [] i s l e = absurd (omega arith)
+group_in n (t ∷ ss) zero s l e = let r : wires_state (state_of n s) ≡ wires_state (state_of n t) = ap (λ (x : State). wires_state (state_of n x)) e in omega (arith, r)
+group_in n (t ∷ ss) (suc i) s l e = let r = group_in n ss i s (omega arith) e in omega (arith, r)
+
+pub try_count : (n : ℕ) (c : Command) (s : Step) (hang : List ℕ) (handler : Vec Command Global) (cs : List Command) → c ≡ shown.Try s hang handler → cs ≡ handler.items
+    → wires (command_of n c) ≡ 5 + wires_block (block_of n cs)
+try_count n c s hang handler cs e f =
+    ap (λ (x : Command). wires (command_of n x)) e ∙ ap wires (command_of-try n s hang handler) ∙ ap (λ (x : List Command). 5 + wires_block (block_of n x)) (sym f)
+
+pub if_count : (n : ℕ) (c : Command) (hang : List ℕ) (e : Number) (ys ns : Vec Command Global) → c ≡ shown.If hang e ys ns
+    → wires (command_of n c) ≡ 2 + wires_block (block_of n ys.items) + wires_block (block_of n ns.items)
+if_count n c hang e ys ns f = ap (λ (x : Command). wires (command_of n x)) f ∙ ap wires (command_of-if n hang e ys ns)
+
+pub state_count : (n : ℕ) (s : State)
+    → wires_state (state_of n s) ≡ wires_block (block_of n (out-State s).body.items) + 1 + wires_group (group_of n (out-State s).children.items)
+state_count n s = ap wires_state (state_of-out n s)
+
+-- a state and those behind it
+
+group_wires-more : (d : Named) (tag k : ℕ) (t : program.State) (g : Group) → group_wires d tag k (More t g) ≡ state_wires d tag k t ++ group_wires d tag (k + wires_state t) g
+group_wires-more d tag k (Node s b kids) g = refl
+
+top_wires-more : (d : Named) (tag k : ℕ) (t : program.State) (g : Group)
+    → top_wires d tag k (More t g) ≡ wire d k tag ∷ (state_wires d tag (k + 1) t ++ top_wires d tag (k + (1 + wires_state t)) g)
+top_wires-more d tag k (Node s b kids) g = refl
+
+top_count-more : (t : program.State) (g : Group) → wires_top (More t g) ≡ 1 + wires_state t + wires_top g
+top_count-more (Node s b kids) g = refl
+
+-- one part, and those behind it
+after_part : (old new part rest all : List Var) → new ≡ old ++ part → old ++ (part ++ rest) ≡ all → new ++ rest ≡ all
+after_part old new part rest all h e = ap (λ (l : List Var). l ++ rest) h ∙ append_assoc old part rest ∙ e
+
+module _ (d : Named) (tag n : ℕ) where
+  module _ (cs : List Command) (i : ℕ) where
+    module _ (c : Command) (k next total : ℕ) (l : i < length cs) (is : c ≡ get_or cs i c) where
+      pub block_count : k + wires_block (block_of n (drop i cs)) ≡ total → k + (wires (command_of n c) + wires_block (block_of n (drop (i + 1) cs))) ≡ total
+      block_count e = ap (λ (b : Block). k + wires_block b) (sym (block-drop n cs i c l is)) ∙ e
+
+      pub block_room : k + wires_block (block_of n (drop i cs)) ≡ total → total < 2 ^ 32 → k + wires (command_of n c) < 2 ^ 32
+      block_room e m = let r = block_count e in omega (arith, r, m)
+
+      pub block_next : next ≡ k + wires (command_of n c) → k + wires_block (block_of n (drop i cs)) ≡ total → next + wires_block (block_of n (drop (i + 1) cs)) ≡ total
+      block_next q e = let r = block_count e in omega (arith, q, r)
+
+      pub block_step : (old new all : List Var) → new ≡ old ++ command_wires d tag k (command_of n c) → next ≡ k + wires (command_of n c)
+          → old ++ block_wires d tag k (block_of n (drop i cs)) ≡ all → new ++ block_wires d tag next (block_of n (drop (i + 1) cs)) ≡ all
+      block_step old new all h q e =
+          after_part old new (command_wires d tag k (command_of n c)) (block_wires d tag next (block_of n (drop (i + 1) cs))) all h
+          (ap (λ m. old ++ (command_wires d tag k (command_of n c) ++ block_wires d tag m (block_of n (drop (i + 1) cs)))) q
+          ∙ ap (λ (b : Block). old ++ block_wires d tag k b) (sym (block-drop n cs i c l is)) ∙ e)
+
+    pub block_end : (k : ℕ) (new all : List Var) → length cs ≤ i → new ++ block_wires d tag k (block_of n (drop i cs)) ≡ all → new ≡ all
+    block_end k new all l e = sym (append_none new) ∙ ap (λ (b : Block). new ++ block_wires d tag k b) (sym (block-past n cs i l)) ∙ e
+
+    pub block_last : (k total : ℕ) → length cs ≤ i → k + wires_block (block_of n (drop i cs)) ≡ total → k ≡ total
+    block_last k total l e = let r = ap (λ (b : Block). k + wires_block b) (sym (block-past n cs i l)) ∙ e in omega (arith, r)
+
+  module _ (ss : List State) (i : ℕ) where
+    module _ (s : State) (k next total : ℕ) (l : i < length ss) (is : s ≡ get_or ss i s) where
+      pub group_count : k + wires_group (group_of n (drop i ss)) ≡ total → k + (wires_state (state_of n s) + wires_group (group_of n (drop (i + 1) ss))) ≡ total
+      group_count e = ap (λ (g : Group). k + wires_group g) (sym (group-drop n ss i s l is)) ∙ e
+
+      pub group_room : k + wires_group (group_of n (drop i ss)) ≡ total → total < 2 ^ 32 → k + wires_state (state_of n s) < 2 ^ 32
+      group_room e m = let r = group_count e in omega (arith, r, m)
+
+      pub group_next : next ≡ k + wires_state (state_of n s) → k + wires_group (group_of n (drop i ss)) ≡ total → next + wires_group (group_of n (drop (i + 1) ss)) ≡ total
+      group_next q e = let r = group_count e in omega (arith, q, r)
+
+      pub group_step : (old new all : List Var) → new ≡ old ++ state_wires d tag k (state_of n s) → next ≡ k + wires_state (state_of n s)
+          → old ++ group_wires d tag k (group_of n (drop i ss)) ≡ all → new ++ group_wires d tag next (group_of n (drop (i + 1) ss)) ≡ all
+      group_step old new all h q e =
+          let rest = group_of n (drop (i + 1) ss) in
+          after_part old new (state_wires d tag k (state_of n s)) (group_wires d tag next rest) all h
+          (ap (λ m. old ++ (state_wires d tag k (state_of n s) ++ group_wires d tag m rest)) q
+          ∙ ap (λ (r : List Var). old ++ r) (sym (group_wires-more d tag k (state_of n s) rest))
+          ∙ ap (λ (g : Group). old ++ group_wires d tag k g) (sym (group-drop n ss i s l is)) ∙ e)
+
+      top_count : k + wires_top (group_of n (drop i ss)) ≡ total → k + (1 + wires_state (state_of n s) + wires_top (group_of n (drop (i + 1) ss))) ≡ total
+      top_count e =
+          ap (λ m. k + m) (sym (top_count-more (state_of n s) (group_of n (drop (i + 1) ss)))) ∙ ap (λ (g : Group). k + wires_top g) (sym (group-drop n ss i s l is)) ∙ e
+
+      pub top_room : k + wires_top (group_of n (drop i ss)) ≡ total → total < 2 ^ 32 → k + 1 + wires_state (state_of n s) < 2 ^ 32
+      top_room e m = let r = top_count e in omega (arith, r, m)
+
+      pub top_next : next ≡ k + 1 + wires_state (state_of n s) → k + wires_top (group_of n (drop i ss)) ≡ total → next + wires_top (group_of n (drop (i + 1) ss)) ≡ total
+      top_next q e = let r = top_count e in omega (arith, q, r)
+
+      pub top_step : (old mid new all : List Var) → mid ≡ old ++ wire d k tag ∷ [] → new ≡ mid ++ state_wires d tag (k + 1) (state_of n s)
+          → next ≡ k + 1 + wires_state (state_of n s)
+          → old ++ top_wires d tag k (group_of n (drop i ss)) ≡ all → new ++ top_wires d tag next (group_of n (drop (i + 1) ss)) ≡ all
+      top_step old mid new all f h q e =
+          let rest = group_of n (drop (i + 1) ss) in
+          let z : k + 1 + wires_state (state_of n s) ≡ k + (1 + wires_state (state_of n s)) = omega arith in
+          after_part mid new (state_wires d tag (k + 1) (state_of n s)) (top_wires d tag next rest) all h
+          (after_part old mid (wire d k tag ∷ []) (state_wires d tag (k + 1) (state_of n s) ++ top_wires d tag next rest) all f
+          (ap (λ m. old ++ (wire d k tag ∷ (state_wires d tag (k + 1) (state_of n s) ++ top_wires d tag m rest))) (q ∙ z)
+          ∙ ap (λ (r : List Var). old ++ r) (sym (top_wires-more d tag k (state_of n s) rest))
+          ∙ ap (λ (g : Group). old ++ top_wires d tag k g) (sym (group-drop n ss i s l is)) ∙ e))
+
+    pub group_end : (k : ℕ) (new all : List Var) → length ss ≤ i → new ++ group_wires d tag k (group_of n (drop i ss)) ≡ all → new ≡ all
+    group_end k new all l e = sym (append_none new) ∙ ap (λ (g : Group). new ++ group_wires d tag k g) (sym (group-past n ss i l)) ∙ e
+
+    pub group_last : (k total : ℕ) → length ss ≤ i → k + wires_group (group_of n (drop i ss)) ≡ total → k ≡ total
+    group_last k total l e = let r = ap (λ (g : Group). k + wires_group g) (sym (group-past n ss i l)) ∙ e in omega (arith, r)
+
+    pub top_end : (k : ℕ) (new all : List Var) → length ss ≤ i → new ++ top_wires d tag k (group_of n (drop i ss)) ≡ all → new ≡ all
+    top_end k new all l e = sym (append_none new) ∙ ap (λ (g : Group). new ++ top_wires d tag k g) (sym (group-past n ss i l)) ∙ e
+
+pub ruleset commands = (command_of-do, command_of-try, command_of-if, append_assoc)
+
+pub ruleset blocks = (append_none)
+
+pub ruleset states = (state_of-out, append_assoc)
+
+pub ruleset groups = (append_none)

@@ -1,0 +1,36 @@
+use Rattle.std.proofs.Common.{sym, ◌∙◌, subst}
+use Rattle.sap_check.specs.Checked.{levels_in, tree_in}
+use Rattle.sap_plain.specs.IsPlain.{IsPlain}
+use Rattle.sap_plain.specs.Writes.{PlainWritesOnce}
+use Rattle.sap_tags.specs.Law.{PlainStandsForDesign}
+use Rattle.sap_tags.proofs.Found.{few_found, plain_found, ranged_found}
+use Rattle.sap_tags.proofs.insert.insert.Goals as goal
+
+pub parts-requires-clause-ranged : goal.parts-requires-clause-ranged
+parts-requires-clause-ranged c =
+    ranged_found c.lattice.result.now (levels_in c.args.checked.now) (tree_in c.args.checked.now) c.args.program.now c.lattice.ensures c.requires c.widths_in_range.ensures c.is_sound.ensures
+
+pub parts-requires-clause-few : goal.parts-requires-clause-few
+parts-requires-clause-few c =
+    few_found c.lattice.result.now (levels_in c.args.checked.now) (tree_in c.args.checked.now) c.args.program.now c.lattice.ensures c.requires c.is_sound.ensures
+
+pub new-requires : goal.new-requires
+new-requires c =
+    let ls = levels_in c.args.checked.now in
+    let d = tree_in c.args.checked.now in
+    let e = c.in_ok-parts.ensures ∙ plain_found c.lattice.result.now ls d c.args.program.now c.lattice.ensures c.requires in
+    subst (λ p. IsPlain p) (sym e) (c.plain_stands.ensures.rules ls d c.is_sound.ensures)
+
+pub returns-clause-stands : goal.returns-clause-stands
+returns-clause-stands c =
+    let ls = levels_in c.args.checked.now in
+    let d = tree_in c.args.checked.now in
+    let e = c.new.ensures ∙ (c.in_ok-parts.ensures ∙ plain_found c.lattice.result.now ls d c.args.program.now c.lattice.ensures c.requires) in
+    subst (λ p. PlainStandsForDesign ls d p) (sym e) (c.plain_stands.ensures.stands ls d c.is_sound.ensures)
+
+pub returns-clause-once : goal.returns-clause-once
+returns-clause-once c =
+    let ls = levels_in c.args.checked.now in
+    let d = tree_in c.args.checked.now in
+    let e = c.new.ensures ∙ (c.in_ok-parts.ensures ∙ plain_found c.lattice.result.now ls d c.args.program.now c.lattice.ensures c.requires) in
+    subst (λ p. PlainWritesOnce p) (sym e) (c.plain_stands.ensures.once ls d c.is_sound.ensures)

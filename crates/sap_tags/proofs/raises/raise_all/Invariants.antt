@@ -1,0 +1,11 @@
+use Rattle.std.proofs.Common.{◌≡◌, drop}
+use Rattle.sap_plain.specs.Views.{body_of, follow}
+use Rattle.sap_tags.specs.Code.{entities_in, setting_in}
+use Rattle.sap_tags.specs.Keys.{Tag}
+use Rattle.sap_tags.proofs.Raised.{walk, raised}
+use Rattle.sap_tags.proofs.raises.raise_all.Given as goal
+
+abbrev pub invariant-loop-x : goal.invariant-loop-x
+invariant-loop-x l =
+    follow (body_of l.out.items) (walk (setting_in l.setting) Tag (raised (setting_in l.setting) l.wire) (entities_in l.setting) (drop l.x-index l.hang))
+    ≡ follow (body_of l.initial.out.items) (walk (setting_in l.setting) Tag (raised (setting_in l.setting) l.wire) (entities_in l.setting) l.hang)

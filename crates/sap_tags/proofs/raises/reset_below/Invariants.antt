@@ -1,0 +1,13 @@
+use Rattle.std.proofs.Common.{◌≡◌, ◌-◌}
+use Rattle.sap_plain.specs.Nested.{stop}
+use Rattle.sap_plain.specs.Views.{body_of, follow}
+use Rattle.sap_tags.specs.Code.{entities_in, setting_in, world_in}
+use Rattle.sap_tags.specs.Commands.{sweep, for_each, resets}
+use Rattle.sap_tags.specs.Keys.{Tag}
+use Rattle.sap_tags.specs.Levels.{bits}
+use Rattle.sap_tags.proofs.raises.reset_below.Given as goal
+
+abbrev pub invariant-loop-x : goal.invariant-loop-x
+invariant-loop-x l =
+    follow (body_of l.out.items) (sweep (setting_in l.setting) Tag (resets (world_in l.setting) l.target) (λ x. bits (setting_in l.setting) (world_in l.setting).order.bottom) l.x (entities_in l.setting - l.x) stop)
+    ≡ follow (body_of l.initial.out.items) (for_each (setting_in l.setting) Tag (resets (world_in l.setting) l.target) (λ x. bits (setting_in l.setting) (world_in l.setting).order.bottom) stop)

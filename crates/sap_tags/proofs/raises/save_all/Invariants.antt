@@ -1,0 +1,14 @@
+use Rattle.std.proofs.Common.{◌≡◌, ◌-◌}
+use Rattle.sap_plain.specs.Nested.{stop}
+use Rattle.sap_plain.specs.Views.{body_of, follow}
+use Rattle.sap_tags.specs.Code.{entities_in, setting_in, world_in}
+use Rattle.sap_tags.specs.Commands.{sweep}
+use Rattle.sap_tags.specs.Keys.{First, Tag}
+use Rattle.sap_tags.specs.Levels.{var}
+use Rattle.sap_tags.specs.States.{saved, saves}
+use Rattle.sap_tags.proofs.raises.save_all.Given as goal
+
+abbrev pub invariant-loop-x : goal.invariant-loop-x
+invariant-loop-x l =
+    follow (body_of l.out.items) (sweep (setting_in l.setting) First (saved (world_in l.setting)) (λ m. var (setting_in l.setting) (Tag m)) l.x (entities_in l.setting - l.x) stop)
+    ≡ follow (body_of l.initial.out.items) (saves (setting_in l.setting) stop)

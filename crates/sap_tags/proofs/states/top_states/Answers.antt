@@ -1,0 +1,46 @@
+use Rattle.std.proofs.Common.{◌∙◌, List, ap, sym, subst, arith}
+use Rattle.sap_meaning.specs.Program.{listed}
+use Rattle.sap_plain.specs.Views.{forest_of}
+use Rattle.sap_program.specs.Hangs.{flags}
+use Rattle.sap_program.specs.Views.{group_of}
+use Rattle.sap_program.specs.declared.program.State.{State}
+use Rattle.sap_tags.specs.Built.{StateRanged, StatesRanged, state_wires, tops_wires}
+use Rattle.sap_tags.specs.Code.{entities_in, setting_in}
+use Rattle.sap_tags.specs.States.{top_plain}
+use Rattle.sap_tags.proofs.Listed.{tops_are, tops_drop}
+use Rattle.sap_tags.proofs.Planted.{ranged_all, ranged_one, tops_step, tops_rest, tops_are_plain, planted_none, tops_wires_step}
+use Rattle.sap_tags.proofs.states.top_states.Goals as goal
+
+pub loop-one-init : goal.loop-one-init
+loop-one-init c = record { states = planted_none c.new-made.result.items _ c.new-made.ensures.items; wires = omega arith }
+
+pub top_state-requires-clause-few : goal.top_state-requires-clause-few
+top_state-requires-clause-few c =
+    let s = c.args.setting.now in
+    let ts = c.as_slice-states.result.now in
+    let a = tops_are (entities_in s) s.program.now.states.items in
+    let b = ap tops_wires c.as_slice-states.ensures.value in
+    let e = ap state_wires c.one-item.is in
+    let d = tops_drop ts c.loop-one.one-index c.one-item.result (omega arith) in
+    omega (arith, a, b, d, e, c.loop-one.invariant.wires, c.requires.few)
+
+pub top_state-requires-clause-ranged : goal.top_state-requires-clause-ranged
+top_state-requires-clause-ranged c =
+    let s = c.args.setting.now in
+    subst (StateRanged s) (sym c.one-item.is)
+    (ranged_one s c.as_slice-states.result.now c.loop-one.one-index c.one-item.result (omega arith)
+    (subst (StatesRanged s) (sym c.as_slice-states.ensures.value) (ranged_all s s.program.now.states.items c.requires.ranged)))
+
+pub loop-one-preserved : goal.loop-one-preserved
+loop-one-preserved c =
+    let ts = c.as_slice-states.result.now in record {
+      states = tops_step c.args.setting.now ts c.loop-one.one-index c.one-item.result c.loop-one.next c.top_state.new.next c.loop-one.made.items c.push.new.self.items c.in_ok-built.built _ (omega arith) c.one-item.is c.in_ok-push.ensures.items c.in_ok-built.ensures.state c.in_ok-built.ensures.wires c.loop-one.invariant.states;
+      wires = tops_wires_step ts c.loop-one.one-index c.one-item.result c.loop-one.next c.top_state.new.next _ (omega arith) c.one-item.is c.in_ok-built.ensures.wires c.loop-one.invariant.wires;
+    }
+
+pub returns : goal.returns
+returns c =
+    let s = c.args.setting.now in
+    tops_rest s c.as_slice-states.result.now c.loop-one.one-index c.loop-one.next (forest_of c.loop-one.made.items) _ (omega arith) c.loop-one.invariant.states
+    ∙ tops_are_plain s 0 c.as_slice-states.result.now
+    ∙ ap (λ (l : List State). top_plain (setting_in s) (listed (flags (entities_in s) s.program.now.hang)) 0 (group_of (entities_in s) l)) c.as_slice-states.ensures.value

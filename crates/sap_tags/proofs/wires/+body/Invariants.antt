@@ -1,0 +1,21 @@
+use Rattle.std.proofs.Common.{◌≡◌, ◌+◌, ◌*◌, ◌++◌, drop}
+use Rattle.sap_program.specs.Views.{block_of, command_of}
+use Rattle.sap_tags.specs.Code.{entities_in, named_in, tag_width}
+use Rattle.sap_tags.specs.Commands.{wires, wires_block}
+use Rattle.sap_tags.specs.Plain.{block_wires}
+use Rattle.sap_tags.proofs.wires.+body.Given as goal
+
+-- with those of what is left
+abbrev pub invariant-add_block-loop-command : goal.invariant-add_block-loop-command
+invariant-add_block-loop-command l = record {
+  wires :
+      l.wires.items ++ block_wires (named_in l.setting) (tag_width l.setting) l.next (block_of (entities_in l.setting) (drop l.command-index l.block))
+      ≡ l.initial.wires.items ++ block_wires (named_in l.setting) (tag_width l.setting) l.k (block_of (entities_in l.setting) l.block);
+  count : l.next + wires_block (block_of (entities_in l.setting) (drop l.command-index l.block)) ≡ l.k + wires_block (block_of (entities_in l.setting) l.block);
+}
+
+abbrev pub decreases-add_command : goal.decreases-add_command
+decreases-add_command l = 2 * wires (command_of (entities_in l.setting.now) l.command.now)
+
+abbrev pub decreases-add_block : goal.decreases-add_block
+decreases-add_block l = 2 * wires_block (block_of (entities_in l.setting.now) l.block.now) + 1

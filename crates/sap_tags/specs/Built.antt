@@ -1,0 +1,78 @@
+-- Lists of commands and of states, and what becomes of them.
+use Rattle.std.specs.Prelude.{ℕ, List, if◌then◌else◌}
+use Rattle.sap_meaning.specs.Program.{Step, None, More}
+use Rattle.sap_meaning.specs.Checks as checks
+use Rattle.sap_sized.specs.Ranges.{Ranged, RangedBlock, RangedState, RangedGroup}
+use Rattle.sap_plain.specs.Nested.{Body, stop, cases, Forest}
+use Rattle.sap_program.specs.declared.program.Command.{Command}
+use Rattle.sap_program.specs.declared.program.State.{State}
+use Rattle.sap_program.specs.Hangs.{flags}
+use Rattle.sap_program.specs.Views.{command_of, block_of, state_of, group_of}
+use Rattle.sap_meaning.specs.Program as program
+use Rattle.sap_tags.specs.Keys.{Wire}
+use Rattle.sap_tags.specs.Setting as pass
+use Rattle.sap_tags.specs.Levels.{var, always}
+use Rattle.sap_tags.specs.Commands.{effect_of, wires, wires_block, command_plain, block_plain}
+use Rattle.sap_tags.specs.States.{wires_state, wires_group, wires_top, group_plain, top_plain}
+use Rattle.sap_tags.specs.Code.{setting_in, world_in, entities_in, spot_in}
+use Rattle.sap_tags.specs.declared.setting.Setting.{Setting}
+use Rattle.sap_tags.specs.declared.setting.Spot.{Spot}
+
+-- how many wires they have
+
+unfoldable pub command_wires : Command → ℕ
+command_wires c = wires (command_of 0 c)
+
+unfoldable pub commands_wires : List Command → ℕ
+commands_wires cs = wires_block (block_of 0 cs)
+
+unfoldable pub state_wires : State → ℕ
+state_wires t = wires_state (state_of 0 t)
+
+unfoldable pub states_wires : List State → ℕ
+states_wires ts = wires_group (group_of 0 ts)
+
+unfoldable pub tops_wires : List State → ℕ
+tops_wires ts = wires_top (group_of 0 ts)
+
+-- their widths are from 1 to 64
+
+unfoldable pub CommandRanged : Setting → Command → Type 0
+CommandRanged s c = Ranged (world_in s) (command_of (entities_in s) c)
+
+unfoldable pub CommandsRanged : Setting → List Command → Type 0
+CommandsRanged s cs = RangedBlock (world_in s) (block_of (entities_in s) cs)
+
+unfoldable pub StateRanged : Setting → State → Type 0
+StateRanged s t = RangedState (world_in s) (state_of (entities_in s) t)
+
+unfoldable pub StatesRanged : Setting → List State → Type 0
+StatesRanged s ts = RangedGroup (world_in s) (group_of (entities_in s) ts)
+
+-- what they become; a state has none behind it
+
+unfoldable pub command_body : Setting → Spot → (base p k : ℕ) → Command → Body
+command_body s at base p k c = command_plain (setting_in s) (spot_in s at) base p k (command_of (entities_in s) c)
+
+unfoldable pub commands_body : Setting → Spot → (base p k : ℕ) → List Command → Body
+commands_body s at base p k cs = block_plain (setting_in s) (spot_in s at) base p k (block_of (entities_in s) cs)
+
+unfoldable pub state_forest : Setting → (parent p k : ℕ) → State → Forest
+state_forest s parent p k t = group_plain (setting_in s) parent p k (More (state_of (entities_in s) t) None)
+
+unfoldable pub states_forest : Setting → (parent p k : ℕ) → List State → Forest
+states_forest s parent p k ts = group_plain (setting_in s) parent p k (group_of (entities_in s) ts)
+
+-- of a top-level state
+unfoldable pub top_forest : Setting → (k : ℕ) → State → Forest
+top_forest s k t =
+    top_plain (setting_in s) (program.listed (flags (entities_in s) s.program.now.hang)) k (More (state_of (entities_in s) t) None)
+
+unfoldable pub tops_forest : Setting → (k : ℕ) → List State → Forest
+tops_forest s k ts =
+    top_plain (setting_in s) (program.listed (flags (entities_in s) s.program.now.hang)) k (group_of (entities_in s) ts)
+
+-- what comes behind the raises of a step, where `refused` is what a refusal does
+unfoldable pub decided : pass.Setting → checks.Spot → (base k : ℕ) → Step → (refused : Body) → Body
+decided d at base k s refused =
+    if always d.world at s then effect_of d base k s else cases (var d (Wire k)) (effect_of d base k s) refused stop

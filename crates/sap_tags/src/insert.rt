@@ -1,0 +1,100 @@
+//! Whole designs.
+
+ghost use Rattle.std.specs.Prelude.{◌≡◌, ◌<◌, ◌^◌, ◌++◌, IfOk, OnOk};
+ghost use Rattle.sap_check.specs.Checked.{levels_in, tree_in};
+ghost use Rattle.sap_plain.specs.Parts.{parts_nested};
+ghost use Rattle.sap_plain.specs.Program.{nested_of};
+ghost use Rattle.sap_plain.specs.Writes.{PlainWritesOnce};
+ghost use Rattle.sap_program.specs.Design.{IsProgramOf};
+ghost use Rattle.sap_program.specs.Views.{group_of};
+ghost use Rattle.sap_sized.specs.Ranges.{RangedProgram};
+ghost use Rattle.sap_tags.specs.Code.{entities_in, named_in, tag_width};
+ghost use Rattle.sap_tags.specs.Law.{IsSound, PlainStandsForDesign};
+ghost use Rattle.sap_tags.specs.Plain.{names_of, plain_of};
+ghost use Rattle.sap_tags.specs.States.{wires_top};
+
+use crate::laws::plain_stands;
+use crate::memories::add_memories;
+use crate::setting::Setting;
+use crate::states::top_states;
+use crate::variables::{add_inputs, add_seat_registers, add_shown_registers, add_tag_registers};
+use crate::wires::{add_first_wires, add_site_wires, add_top_wires};
+use sap_check::Checked;
+use sap_ir::guarded::Var;
+use sap_net::parts::Name;
+use sap_plain::nested::PlainParts;
+use sap_plain::program::Plain;
+use sap_program::program::Program;
+use sap_sized::widths_in_range;
+use sap_tree::whole::design_is_whole;
+use std::alloc::{AllocError, Global};
+
+/// The names of variables.
+fn add_names(alloc: Global, names: &mut Vec<Name>, variables: &[Var]) -> Result<(), AllocError>
+    ensures { OnOk result (names.new.items ≡ names.old.items ++ names_of variables.now) }
+{
+    for variable in variables {
+        names.push(variable.name.copy(alloc)?)?;
+    }
+    Ok(())
+}
+
+/// The parts of the plain program.
+fn parts(alloc: Global, setting: &Setting<'_>) -> Result<PlainParts, AllocError>
+    requires ranged { RangedProgram (named_in setting.now).program }
+    requires few { wires_top (group_of (entities_in setting.now) setting.now.program.now.states.items) < 2 ^ 32 }
+    ensures { IfOk result (λ p. parts_nested p ≡ plain_of (named_in setting.now) (tag_width setting.now) setting.now.program.now.sites) }
+{
+    let mut inputs = Vec::new(alloc);
+    add_inputs(alloc, setting, &mut inputs)?;
+    let mut registers = Vec::new(alloc);
+    add_shown_registers(alloc, setting, &mut registers)?;
+    let mut wires = Vec::new(alloc);
+    add_site_wires(alloc, setting, &mut wires)?;
+    let mut ports = Vec::new(alloc);
+    add_names(alloc, &mut ports, registers.as_slice())?;
+    add_names(alloc, &mut ports, wires.as_slice())?;
+    add_tag_registers(alloc, setting, &mut registers)?;
+    add_seat_registers(alloc, setting, &mut registers)?;
+    add_first_wires(alloc, setting, &mut wires)?;
+    add_top_wires(alloc, setting, &mut wires)?;
+    let mut memories = Vec::new(alloc);
+    add_memories(alloc, setting, &mut memories)?;
+    let states = top_states(alloc, setting)?;
+    Ok(PlainParts {
+        inputs,
+        wires,
+        registers,
+        memories,
+        ports,
+        states,
+    })
+}
+
+/// What the law asks of a design.
+fn is_sound(checked: &Checked)
+    ensures { IsSound (levels_in checked.now) (tree_in checked.now) }
+{
+    checked.lawful();
+    let lattice = checked.lattice();
+    lattice.lawful();
+    let design = checked.design();
+    design_is_whole(design);
+}
+
+/// Nested states with ordinary variables for tags, which stand for the design. The program is that design's.
+pub fn insert(alloc: Global, checked: &Checked, program: &Program) -> Result<Plain, AllocError>
+    requires { IsProgramOf (levels_in checked.now) (tree_in checked.now) program.now }
+    ensures stands { IfOk result (λ p. PlainStandsForDesign (levels_in checked.now) (tree_in checked.now) (nested_of p)) }
+    ensures once { IfOk result (λ p. PlainWritesOnce (nested_of p)) }
+{
+    is_sound(checked);
+    widths_in_range();
+    plain_stands();
+    let setting = Setting {
+        lattice: checked.lattice(),
+        program,
+    };
+    let parts = parts(alloc, &setting)?;
+    Ok(Plain::new(parts))
+}

@@ -1,0 +1,120 @@
+//! Names of a plain program, by what they name.
+
+ghost use Rattle.std.specs.Prelude.{◌≡◌, ◌++◌, IfOk};
+ghost use Rattle.std.specs.Fmt.{decimal};
+ghost use Rattle.sap_tags.specs.Code.{named_in};
+ghost use Rattle.sap_tags.specs.Keys.{Value, Tag, Seat, Refused, Level, Wire, First, entity_word, key_name};
+
+use crate::setting::Setting;
+use sap_net::parts::Name;
+use std::alloc::{AllocError, Global};
+
+fn prefixed(alloc: Global, front: &[u8], name: &[u8]) -> Result<Name, AllocError>
+    ensures { IfOk result (λ n. n ≡ front.now ++ name.now) }
+{
+    let mut bytes = front.to_vec(alloc)?;
+    bytes.extend_from_slice(name)?;
+    Ok(Name::new(bytes))
+}
+
+/// A prefix and the name of an entity, or its number past the last.
+#[tactic(auto, using(crate::proofs::Words::words))]
+fn entity_name(
+    alloc: Global,
+    setting: &Setting<'_>,
+    front: &[u8],
+    x: usize,
+) -> Result<Name, AllocError>
+    ensures { IfOk result (λ n. n ≡ front.now ++ entity_word (named_in setting.now) x) }
+{
+    match setting.program.entities.get(x) {
+        Some(entity) => prefixed(alloc, front, entity.name.as_bytes()),
+        None => {
+            let digits = format!(in alloc; "{x}")?;
+            prefixed(alloc, front, digits.as_bytes())
+        }
+    }
+}
+
+/// The name of a state in nested programs.
+pub(crate) fn state_name(alloc: Global, setting: &Setting<'_>, x: usize) -> Result<Name, AllocError>
+    ensures { IfOk result (λ n. n ≡ entity_word (named_in setting.now) x) }
+{
+    entity_name(alloc, setting, b"", x)
+}
+
+/// The number of an input or a register, or the contents of a memory.
+#[tactic(auto, using(crate::proofs::Words::words))]
+pub(crate) fn value_name(alloc: Global, setting: &Setting<'_>, x: usize) -> Result<Name, AllocError>
+    ensures { IfOk result (λ n. n ≡ key_name (named_in setting.now) (Value x)) }
+{
+    entity_name(alloc, setting, b"v_", x)
+}
+
+/// The tag of an entity.
+#[tactic(auto, using(crate::proofs::Words::words))]
+pub(crate) fn tag_name(alloc: Global, setting: &Setting<'_>, x: usize) -> Result<Name, AllocError>
+    ensures { IfOk result (λ n. n ≡ key_name (named_in setting.now) (Tag x)) }
+{
+    entity_name(alloc, setting, b"t_", x)
+}
+
+/// The current child of a state, or of the root.
+#[tactic(auto, using(crate::proofs::Words::words))]
+pub(crate) fn seat_name(alloc: Global, setting: &Setting<'_>, x: usize) -> Result<Name, AllocError>
+    ensures { IfOk result (λ n. n ≡ key_name (named_in setting.now) (Seat x)) }
+{
+    if x == setting.program.entities.len() {
+        prefixed(alloc, b"s_", b"0")
+    } else {
+        entity_name(alloc, setting, b"s_", x)
+    }
+}
+
+/// A letter and a number.
+fn lettered(alloc: Global, front: &[u8], k: u64) -> Result<Name, AllocError>
+    ensures { IfOk result (λ n. n ≡ front.now ++ decimal k) }
+{
+    let digits = format!(in alloc; "{k}")?;
+    prefixed(alloc, front, digits.as_bytes())
+}
+
+/// Whether a site is refused.
+#[tactic(auto, using(crate::proofs::Words::words))]
+pub(crate) fn refused_name(
+    alloc: Global,
+    setting: &Setting<'_>,
+    site: u32,
+) -> Result<Name, AllocError>
+    ensures { IfOk result (λ n. n ≡ key_name (named_in setting.now) (Refused site)) }
+{
+    lettered(alloc, b"c_", u64::from(site))
+}
+
+/// At which level a site is refused.
+#[tactic(auto, using(crate::proofs::Words::words))]
+pub(crate) fn level_name(
+    alloc: Global,
+    setting: &Setting<'_>,
+    site: u32,
+) -> Result<Name, AllocError>
+    ensures { IfOk result (λ n. n ≡ key_name (named_in setting.now) (Level site)) }
+{
+    lettered(alloc, b"l_", u64::from(site))
+}
+
+/// A wire of the program's own.
+#[tactic(auto, using(crate::proofs::Words::words))]
+pub(crate) fn wire_name(alloc: Global, setting: &Setting<'_>, wire: u32) -> Result<Name, AllocError>
+    ensures { IfOk result (λ n. n ≡ key_name (named_in setting.now) (Wire wire)) }
+{
+    lettered(alloc, b"h", u64::from(wire))
+}
+
+/// The tag of a dynamic memory as the cycle began.
+#[tactic(auto, using(crate::proofs::Words::words))]
+pub(crate) fn first_name(alloc: Global, setting: &Setting<'_>, x: usize) -> Result<Name, AllocError>
+    ensures { IfOk result (λ n. n ≡ key_name (named_in setting.now) (First x)) }
+{
+    lettered(alloc, b"b", x as u64)
+}

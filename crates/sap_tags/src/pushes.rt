@@ -1,0 +1,133 @@
+//! Assignments at the end of a body, and what they read.
+
+ghost use Rattle.std.specs.Prelude.{◌≡◌, IfOk, OnOk};
+ghost use Rattle.sap_ir.specs.Calcs.{action_of, term_of};
+ghost use Rattle.sap_plain.specs.Nested.{act, stop};
+ghost use Rattle.sap_plain.specs.Views.{body_of, follow};
+ghost use Rattle.sap_tags.specs.Code.{setting_in};
+ghost use Rattle.sap_tags.specs.Commands.{gives, stores};
+ghost use Rattle.sap_tags.specs.Keys.{Tag, Value, Wire};
+ghost use Rattle.sap_tags.specs.Levels.{var};
+
+use crate::names::{tag_name, value_name, wire_name};
+use crate::setting::Setting;
+use sap_ir::guarded::{Act, Calc};
+use sap_plain::nested::PlainCmd;
+use std::alloc::{AllocError, Global};
+
+/// One assignment or write more.
+#[tactic(auto, using(sap_plain::proofs::Views::commands))]
+pub(crate) fn push(out: &mut Vec<PlainCmd>, action: Act) -> Result<(), AllocError>
+    ensures { OnOk result (body_of out.new.items ≡ follow (body_of out.old.items) (act (action_of action) stop)) }
+{
+    out.push(PlainCmd::Do(action))?;
+    Ok(())
+}
+
+/// Sets a wire.
+pub(crate) fn set_wire(
+    alloc: Global,
+    setting: &Setting<'_>,
+    out: &mut Vec<PlainCmd>,
+    wire: u32,
+    value: Calc,
+) -> Result<(), AllocError>
+    ensures { OnOk result (body_of out.new.items ≡ follow (body_of out.old.items) (gives (setting_in setting.now) (Wire wire) (term_of value) stop)) }
+{
+    let name = wire_name(alloc, setting, wire)?;
+    push(out, Act::Set(name, value))
+}
+
+/// Sets the number of a register.
+pub(crate) fn set_value(
+    alloc: Global,
+    setting: &Setting<'_>,
+    out: &mut Vec<PlainCmd>,
+    x: usize,
+    value: Calc,
+) -> Result<(), AllocError>
+    ensures { OnOk result (body_of out.new.items ≡ follow (body_of out.old.items) (gives (setting_in setting.now) (Value x) (term_of value) stop)) }
+{
+    let name = value_name(alloc, setting, x)?;
+    push(out, Act::Set(name, value))
+}
+
+/// Sets the tag of an entity.
+pub(crate) fn set_tag(
+    alloc: Global,
+    setting: &Setting<'_>,
+    out: &mut Vec<PlainCmd>,
+    x: usize,
+    value: Calc,
+) -> Result<(), AllocError>
+    ensures { OnOk result (body_of out.new.items ≡ follow (body_of out.old.items) (gives (setting_in setting.now) (Tag x) (term_of value) stop)) }
+{
+    let name = tag_name(alloc, setting, x)?;
+    push(out, Act::Set(name, value))
+}
+
+/// Writes a cell of a memory.
+pub(crate) fn put_value(
+    alloc: Global,
+    setting: &Setting<'_>,
+    out: &mut Vec<PlainCmd>,
+    x: usize,
+    index: Calc,
+    value: Calc,
+) -> Result<(), AllocError>
+    ensures { OnOk result (body_of out.new.items ≡ follow (body_of out.old.items) (stores (setting_in setting.now) (Value x) (term_of index) (term_of value) stop)) }
+{
+    let memory = value_name(alloc, setting, x)?;
+    push(
+        out,
+        Act::Put {
+            memory,
+            index,
+            value,
+        },
+    )
+}
+
+/// Writes the tag of a cell of an enforced memory.
+pub(crate) fn put_tag(
+    alloc: Global,
+    setting: &Setting<'_>,
+    out: &mut Vec<PlainCmd>,
+    x: usize,
+    index: Calc,
+    value: Calc,
+) -> Result<(), AllocError>
+    ensures { OnOk result (body_of out.new.items ≡ follow (body_of out.old.items) (stores (setting_in setting.now) (Tag x) (term_of index) (term_of value) stop)) }
+{
+    let memory = tag_name(alloc, setting, x)?;
+    push(
+        out,
+        Act::Put {
+            memory,
+            index,
+            value,
+        },
+    )
+}
+
+/// The number in a wire.
+pub(crate) fn wire_variable(
+    alloc: Global,
+    setting: &Setting<'_>,
+    wire: u32,
+) -> Result<Calc, AllocError>
+    ensures { IfOk result (λ c. term_of c ≡ var (setting_in setting.now) (Wire wire)) }
+{
+    Ok(Calc::Read(wire_name(alloc, setting, wire)?))
+}
+
+/// The number of a register.
+pub(crate) fn value_variable(
+    alloc: Global,
+    setting: &Setting<'_>,
+    x: usize,
+) -> Result<Calc, AllocError>
+    ensures { IfOk result (λ c. term_of c ≡ var (setting_in setting.now) (Value x)) }
+{
+    Ok(Calc::Read(value_name(alloc, setting, x)?))
+}
