@@ -10,18 +10,23 @@ use Rattle.sap_shape.specs.WellFormed.{WellFormed}
 use Rattle.sap_meaning.specs.Program.{Kind, input, register, memory, state, entity, kind_is_register, kind_is_memory, kind_is_state, is_memory}
 use Rattle.sap_meaning.specs.Store.{Store, own, start, start_whole, home, number, level, Refusal, After}
 use Rattle.sap_meaning.specs.Cycle.{Tagged, cycle, run_from}
+use Rattle.sap_meaning.specs.Fine.{FineProgram}
 use Rattle.sap_meaning.specs.State.{Resting, Fits, InputsFit, StreamFits, first, labelled_run}
 use Rattle.sap_meaning.specs.Agree.{Low, High, Alike, PartsAlike, seen}
 use Rattle.sap_meaning.specs.Agree as meaning
 use Rattle.sap_resolve.specs.Fill.{program_of}
+use Rattle.sap_premises.specs.Premises.{ProgramsAreFine}
 use Rattle.sap_low.specs.Designs.{RunsOfDesignsAgree, DesignStatesRest, DesignNumbersFit}
+use Rattle.sap_net.specs.Laws.{SomeRun, OneRun}
 use Rattle.sap_net.specs.Net.{Net}
 use Rattle.sap_net.specs.Runs.{observed}
 use Rattle.sap_interface.specs.PortNames.{tag_name}
 use Rattle.sap_interface.specs.StandsFor.{Named, name, world, depth, IsRefusedAt, StandsFor}
-use Rattle.sap_interface.specs.Compiled.{CyclesStand}
+use Rattle.sap_interface.specs.Compiled.{coded_stream, CyclesStand}
 use Rattle.sap_interface.specs.Designs.{named_of, sites_of, StandsForDesign}
 use Rattle.sap_compile.specs.Agree.{IsState, CyclesAgree, LookAlike, MemoriesLookAlike, IsToldAt, CyclesLookAlike, InEveryCycle, RunsAgree, RunsLookAlike}
+use Rattle.sap_compile.specs.Runs.{HasOneRunOnStreams}
+use Rattle.sap_compile.proofs.Paths.{paths_look_alike}
 
 -- refusals at or below l
 
@@ -95,8 +100,8 @@ module _ (d : Named) (within : (x y : ℕ) → (bit_or (d.code x) (d.code y) == 
       from_seen o l b.refused k r.0 (subst (λ (rs : List Refusal). IsRefusedAt rs k r.0) same (in_seen o l a.refused k r.0 r.1 below)) in
       ((q.refusals k i j).1 (r.0, other), q.refusal_levels k r.0 other ∙ coded, low)
 
-  pub look_alike : (v u : Valuation) → CyclesAgree d sites l v u → CyclesLookAlike d sites l v u
-  look_alike v u c =
+  pub look_alike : FineProgram d.program → (v u : Valuation) → CyclesAgree d sites l v u → CyclesLookAlike d sites l v u
+  look_alike fine v u c =
       let w = world d in
       let one = c.one_stands in
       let other = c.other_stands in
@@ -117,6 +122,7 @@ module _ (d : Named) (within : (x y : ℕ) → (bit_or (d.code x) (d.code y) == 
             one.cell_tags m i is enforced below ∙ ap (λ (y : ℕ). d.code y) (c.states.enforced_levels (start m i) is enforced low) ∙ sym (other.cell_tags m i is enforced below);
         state_tags = λ x is below enforced low.
             one.state_tags x is below ∙ ap (λ (y : ℕ). d.code y) (c.states.enforced_levels (own x) (state_held (entity w x).kind is) enforced low) ∙ sym (other.state_tags x is below);
+        paths = paths_look_alike d l sites v u c fine;
         refusals = λ k n i j.
             (told k n i j v u c.one c.other one other c.refusals, told k n i j u v c.other c.one other one (sym c.refusals));
       }
@@ -164,7 +170,7 @@ in_each P Q f [] (u ∷ us) h = h
 in_each P Q f (v ∷ vs) [] h = h
 in_each P Q f (v ∷ vs) (u ∷ us) h = (f v u h.0, in_each P Q f vs us h.1)
 
-module _ (ls : Levels) (laws : Laws (order_of ls)) (codes : Codes (order_of ls)) (agree : RunsOfDesignsAgree) (keeps : DesignStatesRest) (fit : DesignNumbersFit)
+module _ (ls : Levels) (laws : Laws (order_of ls)) (codes : Codes (order_of ls)) (agree : RunsOfDesignsAgree) (keeps : DesignStatesRest) (fit : DesignNumbersFit) (fine : ProgramsAreFine)
     (d : DesignTree) (n : Net) (formed : WellFormed ls d) (stands : StandsForDesign ls d n) where
   states_of : (stream : List (List Tagged)) → StreamFits (world (named_of ls d)) stream → AllStates (named_of ls d) (labelled_run (program_of ls d) stream)
   states_of stream fits =
@@ -180,4 +186,12 @@ module _ (ls : Levels) (laws : Laws (order_of ls)) (codes : Codes (order_of ls))
   pub runs_look_alike : RunsLookAlike ls d n
   runs_look_alike = λ l a b fa fb same vs us rv ru.
       in_each (CyclesAgree (named_of ls d) (sites_of d) l) (CyclesLookAlike (named_of ls d) (sites_of d) l)
-      (look_alike (named_of ls d) codes.within (sites_of d) l) (map (observed n) vs) (map (observed n) us) (runs_agree l a b fa fb same vs us rv ru)
+      (look_alike (named_of ls d) codes.within (sites_of d) l (fine ls d laws formed)) (map (observed n) vs) (map (observed n) us) (runs_agree l a b fa fb same vs us rv ru)
+
+-- one run
+
+pub one_run : (ls : Levels) (d : DesignTree) (n : Net) → SomeRun n → OneRun n → StandsForDesign ls d n → HasOneRunOnStreams ls d n
+one_run ls d n some one stands = λ stream fits.
+    let inputs = coded_stream (named_of ls d).code stream in
+    let r = some inputs (stands.takes stream fits) in
+    record { run = r.0; is_run = r.1; only = λ other is. one inputs r.0 other r.1 is }

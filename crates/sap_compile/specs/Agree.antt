@@ -1,16 +1,16 @@
 -- When the runs of a design's module agree at a level l, and what the numbers show of it.
-use Rattle.std.specs.Prelude.{◌≡◌, ◌<◌, ◌≤◌, ◌⊎◌, ◌↔◌, ℕ, true, false, List, [], ◌∷◌, map}
+use Rattle.std.specs.Prelude.{◌≡◌, ◌<◌, ◌≤◌, ◌⊎◌, ◌↔◌, ℕ, zero, suc, true, false, List, [], ◌∷◌, map}
 use Rattle.sap_lattice.specs.Levels.{Levels, order_of}
-use Rattle.sap_maps.specs.Maps.{Valuation}
+use Rattle.sap_maps.specs.Maps.{Name, Valuation}
 use Rattle.sap_tree.specs.Syntax.{DesignTree}
-use Rattle.sap_meaning.specs.Program.{root, is_register, is_memory, is_state, is_dynamic, authority}
+use Rattle.sap_meaning.specs.Program.{root, is_register, is_memory, is_state, is_dynamic, authority, Node, Group, None, More}
 use Rattle.sap_meaning.specs.Store.{Store, After}
 use Rattle.sap_meaning.specs.Cycle.{Tagged}
 use Rattle.sap_meaning.specs.State.{Resting, Fits, StreamFits}
 use Rattle.sap_meaning.specs.Agree.{Low, High, StatesAgree, RefusalsAgree, StreamsAgree}
 use Rattle.sap_net.specs.Net.{Net}
 use Rattle.sap_net.specs.Runs.{IsRun, observed}
-use Rattle.sap_interface.specs.PortNames.{value_name, tag_name, refused_name, level_name}
+use Rattle.sap_interface.specs.PortNames.{value_name, tag_name, seat_name, root_seat, refused_name, level_name}
 use Rattle.sap_interface.specs.StandsFor.{Named, name, world, depth, StandsFor}
 use Rattle.sap_interface.specs.Compiled.{coded_stream}
 use Rattle.sap_interface.specs.Designs.{named_of, sites_of}
@@ -50,12 +50,40 @@ MemoriesLookAlike d l m v u =
     × (v.value (tag_name (name d m)) ≡ u.value (tag_name (name d m))) × IsLowCode d l (v.value (tag_name (name d m))))
     ⊎ (IsHighCode d l (v.value (tag_name (name d m))) × IsHighCode d l (u.value (tag_name (name d m))))
 
+-- The n-th of a group has a tag that is the code of a level not at or below l.
+abbrev pub HasHighTag : Named → (l : ℕ) → Valuation → Group → (n : ℕ) → Type 0
+HasHighTag d l v None n = ⊥
+HasHighTag d l v (More (Node c b k) g) zero = IsHighCode d l (v.value (tag_name (name d c)))
+HasHighTag d l v (More a g) (suc n) = HasHighTag d l v g n
+
+-- How the walk goes on from a parent, the number of whose current child is at `seat`: at a leaf it ends; both cycles show the
+-- same current child, from which `onward` tells more; or the tag of the one that each shows is the code of a level not at or
+-- below l, and it ends.
+abbrev pub WalksMeet : Named → (l : ℕ) → (seat : Name) → Group → Valuation → Valuation → (onward : ℕ → Type 0) → Type 0
+WalksMeet d l seat None v u onward = Unit {0}
+WalksMeet d l seat (More a g) v u onward =
+    ((v.value seat ≡ u.value seat) × onward (v.value seat))
+    ⊎ (HasHighTag d l v (More a g) (v.value seat) × HasHighTag d l u (More a g) (u.value seat))
+
+-- The n-th of a group has equal tags, the code of a level at or below l, and the walk goes on below it.
+abbrev pub WalksGoOn : Named → (l : ℕ) → Group → (n : ℕ) → Valuation → Valuation → Type 0
+WalksGoOn d l None n v u = ⊥
+WalksGoOn d l (More (Node c b k) g) zero v u =
+    (v.value (tag_name (name d c)) ≡ u.value (tag_name (name d c))) × IsLowCode d l (v.value (tag_name (name d c)))
+    × WalksMeet d l (seat_name (name d c)) k v u (λ n. WalksGoOn d l k n v u)
+WalksGoOn d l (More a g) (suc n) v u = WalksGoOn d l g n v u
+
+-- The active paths from the root down, as the numbers of current children and the tags of the states on them show them. A
+-- number that is no child's is on no path that looks alike.
+abbrev pub PathsLookAlike : Named → (l : ℕ) → Valuation → Valuation → Type 0
+PathsLookAlike d l v u = WalksMeet d l root_seat d.program.states v u (λ n. WalksGoOn d l d.program.states n v u)
+
 -- site k is refused, and the code of its level, one at or below l, is n
 abbrev pub IsToldAt : Named → (l : ℕ) → Valuation → (k n : ℕ) → Type 0
 IsToldAt d l v k n = (v.value (refused_name k) ≡ 1) × (v.value (level_name k) ≡ n) × IsLowCode d l n
 
 -- What a reader of two cycles' numbers sees at l: registers and cells look alike, the tags of enforced entities whose
--- authority is at or below l are equal, and the same sites are refused at levels at or below l.
+-- authority is at or below l are equal, the active paths look alike, and the same sites are refused at levels at or below l.
 pub record CyclesLookAlike (d : Named) (sites l : ℕ) (v u : Valuation) : Type 0 where
   pub registers : (x : ℕ) → is_register (world d) x ≡ true
       → LookAlike d l (v.value (value_name (name d x))) (v.value (tag_name (name d x))) (u.value (value_name (name d x))) (u.value (tag_name (name d x)))
@@ -68,6 +96,7 @@ pub record CyclesLookAlike (d : Named) (sites l : ℕ) (v u : Valuation) : Type 
       → v.cell (tag_name (name d m)) i ≡ u.cell (tag_name (name d m)) i
   pub state_tags : (x : ℕ) → is_state (world d) x ≡ true → x < root (world d) → is_dynamic (world d) x ≡ false → Low (world d).order l (authority (world d) x)
       → v.value (tag_name (name d x)) ≡ u.value (tag_name (name d x))
+  pub paths : PathsLookAlike d l v u
   pub refusals : (k n : ℕ) → 1 ≤ k → k ≤ sites → (IsToldAt d l v k n) ↔ (IsToldAt d l u k n)
 
 -- as many cycles, and each pair is so related

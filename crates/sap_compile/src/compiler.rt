@@ -1,99 +1,33 @@
-//! From a design to the text of its module.
+//! From the bytes of a lattice file and of a design to the text of a module.
 
-ghost use Rattle.std.specs.Prelude.{◌≡◌, IfOk, IsErr, IsErrOf, OnOk, IsOkUnless};
-ghost use Rattle.sap_names.specs.Entities.{entities_of};
-ghost use Rattle.sap_names.specs.declared.fault.CheckFault.TheVariants.{Memory, Rule};
-ghost use Rattle.sap_names.specs.declared.fault.Fault.{Fault};
-ghost use Rattle.sap_names.specs.declared.kind.Code.{Code};
-ghost use Rattle.sap_tree.specs.Designs.{design_of};
-ghost use Rattle.sap_tree.specs.Syntax.{DesignTree};
-ghost use Rattle.sap_tree.specs.declared.place.Place.{Place};
-ghost use Rattle.sap_shape.specs.WellFormed.{IsFirstFault, WellFormed};
-ghost use Rattle.sap_single.specs.Plain.{IsPlain};
-ghost use Rattle.sap_compile.specs.Agree.{RunsAgree, RunsLookAlike};
+ghost use Rattle.std.specs.Prelude.{◌≢◌, IfErr, IfOk, IsErr, IsOkUnless};
 ghost use Rattle.sap_compile.specs.Compiles.{IsModuleFor};
-ghost use Rattle.sap_modtext.specs.Modules.{IsModule};
-ghost use Rattle.sap_interface.specs.Designs.{StandsForDesign};
-ghost use Rattle.sap_net.specs.Net.{Net};
+ghost use Rattle.sap_compile.specs.Faults.{IsCompileFault};
+ghost use Rattle.sap_compile.specs.Parts.{design_of, levels_of, module_of, netlist_of};
+ghost use Rattle.sap_compile.specs.declared.fault.CompileFault.TheVariants.{Memory};
+ghost use Rattle.sap_compile.specs.declared.fault.CompileFault.{CompileFault as Fault};
+ghost use Rattle.sap_latfile.specs.LatticeFile.{IsLatticeOfFile};
+ghost use Rattle.sap_lattice.specs.Levels.{Levels};
+ghost use Rattle.sap_parse.specs.Text.{IsText};
+ghost use Rattle.sap_shape.specs.WellFormed.{WellFormed};
+ghost use Rattle.sap_tree.specs.Syntax.{DesignTree};
 
-use sap_desk::Bytes;
-use sap_lattice::Lattice;
-use sap_names::fault::CheckFault;
-use sap_names::table::Names;
-use sap_net::netlist::Netlist;
-use sap_shape::shape::shape;
-use sap_single::whole::netlist;
-use sap_tree::design::Design;
-use sap_vprint::print;
-use std::alloc::{AllocError, Global};
+use crate::compiled::Compiled;
+use crate::fault::CompileFault;
+use crate::module::module;
+use crate::read::read;
+use std::alloc::Global;
 
-/// A design with its netlist and the text of its module.
-#[derive(Drop)]
-pub struct Compiled {
-    pub design: Design,
-    pub netlist: Netlist,
-    pub module: Bytes,
-}
-
-// The names of a well-formed design.
-fn check(alloc: Global, design: &Design, lattice: &Lattice) -> Result<Names, CheckFault>
-    ensures names { IfOk result (λ n. n ≡ entities_of (design_of design.now)) }
-    ensures well_formed { OnOk result (WellFormed lattice.now (design_of design.now)) }
-    ensures first { (code : Code) (place : Place) → IsErrOf result (Rule code place)
-        → IsFirstFault lattice.now (design_of design.now) (record { code = code; place = place }) }
+/// Compiles a design, given as its text, over a lattice, given as the bytes of a lattice file.
+pub fn compile(alloc: Global, lattice: &[u8], design: &[u8]) -> Result<Compiled, CompileFault>
+    ensures lattice { IfOk result (λ c. IsLatticeOfFile lattice.now (levels_of c)) }
+    ensures design { IfOk result (λ c. IsText design.now (design_of c)) }
+    ensures compiled { IfOk result (λ c. IsModuleFor (levels_of c) (design_of c) (netlist_of c) (module_of c)) }
+    ensures refused { IfErr result (λ fault. fault ≢ Memory → IsCompileFault lattice.now design.now fault) }
+    ensures exact { (fault : Fault) → IsCompileFault lattice.now design.now fault → IsErr result }
+    ensures valid { (ls : Levels) (d : DesignTree) → IsLatticeOfFile lattice.now ls → IsText design.now d → WellFormed ls d → IsOkUnless result Memory }
 {
-    let names = Names::build(alloc, design, lattice)?;
-    shape(alloc, design, &names)?;
-    Ok(names)
-}
-
-// A netlist that stands for a well-formed design has runs that agree where their streams do.
-fn runs_agree(lattice: &Lattice)
-    ensures agree { (d : DesignTree) (n : Net) → WellFormed lattice.now d → StandsForDesign lattice.now d n → RunsAgree lattice.now d n }
-    ensures look_alike { (d : DesignTree) (n : Net) → WellFormed lattice.now d → StandsForDesign lattice.now d n → RunsLookAlike lattice.now d n }
-{
-    lattice.lawful();
-    sap_low::runs_agree();
-    sap_low::states_keep()
-}
-
-// Compiles a well-formed design.
-fn module(
-    alloc: Global,
-    design: Design,
-    names: &Names,
-    lattice: &Lattice,
-) -> Result<Compiled, AllocError>
-    requires names { names.now ≡ entities_of (design_of design) }
-    requires well_formed { WellFormed lattice.now (design_of design) }
-    requires plain { IsPlain (design_of design) }
-    ensures same { IfOk result (λ c. c.design ≡ design) }
-    ensures stands { IfOk result (λ c. StandsForDesign lattice.now (design_of design) c.netlist) }
-    ensures agrees { IfOk result (λ c. RunsAgree lattice.now (design_of design) c.netlist) }
-    ensures looks_alike { IfOk result (λ c. RunsLookAlike lattice.now (design_of design) c.netlist) }
-    ensures written { IfOk result (λ c. IsModule c.module c.netlist) }
-{
-    runs_agree(lattice);
-    let netlist = netlist(alloc, &design, names, lattice)?;
-    let module = print(alloc, &netlist)?;
-    Ok(Compiled {
-        design,
-        netlist,
-        module,
-    })
-}
-
-/// Compiles a design over a lattice.
-pub fn compile(alloc: Global, lattice: &Lattice, design: Design) -> Result<Compiled, CheckFault>
-    requires plain { IsPlain (design_of design) }
-    ensures same { IfOk result (λ c. c.design ≡ design) }
-    ensures compiled { IfOk result (λ c. IsModuleFor lattice.now (design_of design) c.netlist c.module) }
-    ensures first { (code : Code) (place : Place) → IsErrOf result (Rule code place)
-        → IsFirstFault lattice.now (design_of design) (record { code = code; place = place }) }
-    ensures valid { WellFormed lattice.now (design_of design) → IsOkUnless result Memory }
-    ensures exact { (fault : Fault) → IsFirstFault lattice.now (design_of design) fault → IsErr result }
-{
-    let names = check(alloc, &design, lattice)?;
-    let compiled = module(alloc, design, &names, lattice)?;
+    let checked = read(alloc, lattice, design)?;
+    let compiled = module(alloc, checked)?;
     Ok(compiled)
 }

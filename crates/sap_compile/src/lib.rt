@@ -1,6 +1,12 @@
 //! From a design to the text of its module.
 #![tactic(auto)]
 
+mod compiled;
 mod compiler;
+mod fault;
+mod module;
+mod read;
 
-pub use compiler::{Compiled, compile};
+pub use compiled::Compiled;
+pub use compiler::compile;
+pub use fault::CompileFault;

@@ -18,21 +18,19 @@ use Rattle.sap_check.specs.declared.checked.Checked.{Checked}
 use Rattle.sapper.specs.declared.fault.DesignFault.{DesignFault}
 use Rattle.sapper.specs.declared.fault.DesignFault.TheVariants as design
 use Rattle.sapper.specs.DesignFaults.{IsDesignFault}
-use Rattle.sapper.specs.Causes.{IsTextFault, IsWellFormedText, WellFormedRefused, WellFormedStands}
-use Rattle.sapper.specs.Steps.{Counted, DesignChecked, HasWellFormed, TextRead, WellFormedStops, ending, ending_of, shape_failure}
+use Rattle.sapper.specs.Causes.{DesignRefused, DesignStands, IsTextFault, IsWellFormedText}
+use Rattle.sapper.specs.Steps.{Counted, DesignChecked, DesignStops, HasWellFormed, TextRead, ending, ending_of, shape_failure}
 use Rattle.sapper.specs.declared.failure.Failure.{Failure}
 use Rattle.sapper.specs.declared.failure.Failure.TheVariants.{Lattice, Design, Stimulus, Module, Desk, Memory}
 use Rattle.sapper.proofs.Lattices.{same_Some, unchanged_self}
-use Rattle.sapper.proofs.DesignFaults.{NotBoth, no_check}
+use Rattle.sapper.proofs.DesignFaults.{NotBoth, no_fault}
 use Rattle.sapper.proofs.Designs.{OneDesign}
 
 -- the bytes of a design file that are no design
 
 text_fault : (ls : Levels) (source : List ℕ) (fault : DesignFault) → IsTextFault source fault → IsDesignFault ls source fault
 text_fault ls source (design.Read fault) h = h
-text_fault ls source (design.Early place) h = absurd h
 text_fault ls source (design.Check fault) h = absurd h
-text_fault ls source design.Memory h = absurd h
 
 pub unread : (ls : Levels) (source : List ℕ) (failure : Failure) → TextRead source (Err failure) → DesignChecked ls source (Err failure)
 unfolding TextRead DesignChecked
@@ -50,12 +48,6 @@ unfolding TextRead
 text_is source d r = r.0
 
 module _ (one : OneDesign) (both : NotBoth) (ls : Levels) (source : List ℕ) (d : DesignTree) (is : IsText source d) where
-  no_fault : WellFormed ls d → (fault : DesignFault) → IsDesignFault ls source fault → ⊥
-  no_fault w (design.Read fault) h = both source d fault is h
-  no_fault w (design.Early place) h = h
-  no_fault w (design.Check fault) h = no_check ls h.0 fault (subst (λ (x : DesignTree). WellFormed ls x) (one source d h.0 is h.1) w) h.2
-  no_fault w design.Memory h = h
-
   well_formed_of : (other : DesignTree) → IsWellFormedText ls source other → WellFormed ls d
   well_formed_of other t = subst (λ (x : DesignTree). WellFormed ls x) (one source other d t.is_text is) t.well_formed
 
@@ -66,7 +58,7 @@ module _ (one : OneDesign) (both : NotBoth) (ls : Levels) (source : List ℕ) (d
   taken c same levels w = (
     subst (λ (x : DesignTree). IsWellFormedText ls source x) (sym same) (record { is_text = is; well_formed = w }),
     levels,
-    no_fault w,
+    no_fault one both ls source d is w,
   )
 
   -- refused
@@ -97,10 +89,10 @@ design_refused one both ls source d fault failure is r first accepted =
 -- a design file
 
 module _ (t : Told) (name : List ℕ) (ls : Levels) (source : List ℕ) (file : t.files name ≡ Some source) where
-  well_formed_in : (d : DesignTree) → WellFormedStands t name ls d → IsWellFormedText ls source d
+  well_formed_in : (d : DesignTree) → DesignStands t name ls d → IsWellFormedText ls source d
   well_formed_in d (other, there, is) = subst (λ (b : List ℕ). IsWellFormedText ls b d) (same_Some (t.files name) other source there file) is
 
-  fault_in : (fault : DesignFault) → WellFormedRefused t name ls fault → IsDesignFault ls source fault
+  fault_in : (fault : DesignFault) → DesignRefused t name ls fault → IsDesignFault ls source fault
   fault_in fault (other, there, is) = subst (λ (b : List ℕ). IsDesignFault ls b fault) (same_Some (t.files name) other source there file) is
 
   has : (c : Checked) → DesignChecked ls source (Ok c) → HasWellFormed ls t name (tree_in c)
@@ -110,7 +102,7 @@ module _ (t : Told) (name : List ℕ) (ls : Levels) (source : List ℕ) (file : 
     faultless = λ fault refused. r.2 fault (fault_in fault refused);
   }
 
-  stops : (failure : Failure) → DesignChecked ls source (Err failure) → WellFormedStops ls name (ending failure) t t
+  stops : (failure : Failure) → DesignChecked ls source (Err failure) → DesignStops ls name (ending failure) t t
   unfolding DesignChecked
   stops (Design fault) r = record {
     unchanged = unchanged_self t;
@@ -141,15 +133,15 @@ checked_levels ls source (Ok c) r = r.1
 checked_levels ls source (Err e) r = tt
 
 stops_read : (name bytes seen : List ℕ) (ls : Levels) (e : Failure) (old : Option Told) → IfSome old (λ t. t.files name ≡ Some bytes)
-    → seen ≡ bytes → DesignChecked ls seen (Err e) → Between old old (WellFormedStops ls name (ending e))
+    → seen ≡ bytes → DesignChecked ls seen (Err e) → Between old old (DesignStops ls name (ending e))
 stops_read name bytes seen ls e None file is r = tt
 stops_read name bytes seen ls e (Some t) file is r = stops t name ls seen (file ∙ ap Some (sym is)) e r
 
 pub checked_stops : (name bytes seen : List ℕ) (ls : Levels) (r : Result Checked Failure) (old new : Option Told) → IfSome old (λ t. t.files name ≡ Some bytes)
-    → seen ≡ bytes → new ≡ old → DesignChecked ls seen r → IfErr r (λ e. Between old new (WellFormedStops ls name (ending e)))
+    → seen ≡ bytes → new ≡ old → DesignChecked ls seen r → IfErr r (λ e. Between old new (DesignStops ls name (ending e)))
 checked_stops name bytes seen ls (Ok c) old new file is stands r = tt
 checked_stops name bytes seen ls (Err e) old new file is stands r =
-    subst (λ (n : Option Told). Between old n (WellFormedStops ls name (ending e))) (sym stands) (stops_read name bytes seen ls e old file is r)
+    subst (λ (n : Option Told). Between old n (DesignStops ls name (ending e))) (sym stands) (stops_read name bytes seen ls e old file is r)
 
 pub checked_counts : (ls : Levels) (source : List ℕ) (r : Result Checked Failure) (faults now : ℕ) → DesignChecked ls source r → now ≡ faults
     → Counted faults now (ending_of r)

@@ -6,17 +6,19 @@ use Rattle.sap_desk.specs.Desk.{Told, at_name}
 use Rattle.sap_desk.specs.Whole.{Between, Wrote, WrotePrefix, FailedWriting, SameChannels}
 use Rattle.sap_lattice.specs.Levels.{Levels}
 use Rattle.sap_tree.specs.Syntax.{DesignTree}
-use Rattle.sap_tree.specs.Designs.{design_of as design_tree}
-use Rattle.sap_compile.specs.declared.compiler.Compiled.{Compiled}
+use Rattle.sap_latfile.specs.LatticeFile.{IsLatticeOfFile}
+use Rattle.sap_compile.specs.Parts.{design_of, levels_of, module_of, netlist_of}
+use Rattle.sap_compile.specs.declared.compiled.Compiled.{Compiled}
 use Rattle.sapper.specs.Words.{compile}
 use Rattle.sapper.specs.Ending.{Ending, done, no_command, lattice_refused, design_refused, stimulus_refused, module_refused, failed, no_memory, status_of}
 use Rattle.sapper.specs.Causes.{CompileCause, DesignStands, LatticeStands}
 use Rattle.sapper.specs.Output.{IsPrefix}
 use Rattle.sapper.specs.Ends.{CompileLeaves, Files, IsModuleText, ModuleCut}
 use Rattle.sapper.specs.Outside.{FullFile, OutsideOf}
-use Rattle.sapper.specs.Steps.{DesignEnds, DesignStops, Ends, HasDesign, HasLattice, Justified, LatticeEnds, LatticeStops, Same, Written, WrittenFiles}
+use Rattle.sapper.specs.Steps.{CompileStops, DesignEnds, Ends, HasDesign, HasLattice, HasLatticeBytes, Justified, LatticeEnds, LatticeStops, Same, Written, WrittenFiles}
 use Rattle.sapper.proofs.Lattices.{same_self}
-use Rattle.sapper.proofs.Endings.{Caused, between_from, between_map, between_with, compiled_stands, design_shown, ends_stopped, known_both, known_from, lattice_shown, refused_over, stands_over}
+use Rattle.sapper.proofs.Designs.{stops_over}
+use Rattle.sapper.proofs.Endings.{Caused, between_from, between_map, between_with, compiled_stands, design_shown, ends_stopped, known_both, known_from, lattice_known, lattice_shown, refused_over, stands_over}
 
 keeps : (lattice design out : List ℕ) (t : Told) (files : Files) (e : Ending) → (e ≡ done → ⊥) → files ≡ t.files → CompileLeaves lattice design out t files e
 keeps lattice design out t files done not is = absurd (not refl)
@@ -51,7 +53,7 @@ module _ (lattice design out : List ℕ) (t : Told) where
   lattice_caused (failed name) r = absurd r
   lattice_caused no_memory r = absurd r
 
-  -- the design file is no design that compiles over the levels
+  -- the design file is no design that is well formed over the levels
 
   module _ (ls : Levels) (has : HasLattice t lattice ls) where
     design_alone : ((d : DesignTree) → DesignStands t design ls d → ⊥) → (e : Ending) → CompileCause lattice design t e → status_of e ≡ 1
@@ -74,62 +76,62 @@ module _ (lattice design out : List ℕ) (t : Told) where
     design_caused (failed name) r = absurd r
     design_caused no_memory r = absurd r
 
-    -- both stand
+  -- both stand
 
-    module _ (m : Compiled) (compiled : HasDesign ls t design m) where
-      done_alone : (e : Ending) → CompileCause lattice design t e → status_of e ≡ 0
-      done_alone done cause = refl
-      done_alone (lattice_refused fault) cause = absurd (has.unbroken fault cause)
-      done_alone (design_refused fault) cause =
-          absurd (compiled.faultless fault (refused_over t design cause.0 ls fault (has.only cause.0 cause.1) cause.2))
-      done_alone (stimulus_refused fault) cause = absurd cause
-      done_alone (module_refused fault) cause = absurd cause
-      done_alone no_command cause = absurd cause
-      done_alone (failed name) cause = absurd cause
-      done_alone no_memory cause = absurd cause
+  module _ (m : Compiled) (has : HasLattice t lattice (levels_of m)) (compiled : HasDesign t design m) where
+    done_alone : (e : Ending) → CompileCause lattice design t e → status_of e ≡ 0
+    done_alone done cause = refl
+    done_alone (lattice_refused fault) cause = absurd (has.unbroken fault cause)
+    done_alone (design_refused fault) cause =
+        absurd (compiled.faultless fault (refused_over t design cause.0 (levels_of m) fault (has.only cause.0 cause.1) cause.2))
+    done_alone (stimulus_refused fault) cause = absurd cause
+    done_alone (module_refused fault) cause = absurd cause
+    done_alone no_command cause = absurd cause
+    done_alone (failed name) cause = absurd cause
+    done_alone no_memory cause = absurd cause
 
-      done_justified : Justified (compile lattice design out) t done
-      done_justified = inr ((ls, design_tree m.design, has.stands, compiled_stands ls t design m compiled), done_alone)
+    done_justified : Justified (compile lattice design out) t done
+    done_justified = inr ((levels_of m, design_of m, has.stands, compiled_stands t design m compiled), done_alone)
 
-      module_text : IsModuleText lattice design t m.module
-      module_text = (ls, design_tree m.design, m.netlist, has.stands, compiled.stands, compiled.is_module)
+    module_text : IsModuleText lattice design t (module_of m)
+    module_text = (levels_of m, design_of m, netlist_of m, has.stands, compiled.stands, compiled.is_module)
 
-      cut : (files : Files) (part : List ℕ) → IsPrefix part m.module → files ≡ at_name out (Some part) t.files → ModuleCut lattice design out t files
-      cut files part prefix is = inr (m.module, part, module_text, prefix, is)
+    cut : (files : Files) (part : List ℕ) → IsPrefix part (module_of m) → files ≡ at_name out (Some part) t.files → ModuleCut lattice design out t files
+    cut files part prefix is = inr (module_of m, part, module_text, prefix, is)
 
-      ends_told : (e : Ending) (n : Told) → Written out m.module e t n → Ends (compile lattice design out) e t n
-      ends_told done n w = record {
-        leaves = (m.module, module_text, w.files);
-        gained = _;
-        output = w.output ∙ sym (append-nil (t.written 1));
-        shows = refl;
-        blames = tt;
-        same = w.same;
-        justified = done_justified;
-      }
-      ends_told (failed name) n w = record {
-        leaves = elim w.files [ inl before ↦ inl before | inr p ↦ cut n.files p.0 p.1 p.2 ];
-        gained = _;
-        output = w.output ∙ sym (append-nil (t.written 1));
-        shows = inl refl;
-        blames = w.blames;
-        same = w.same;
-        justified = inl tt;
-      }
-      ends_told no_memory n w = record {
-        leaves = w.files;
-        gained = _;
-        output = w.output ∙ sym (append-nil (t.written 1));
-        shows = inl refl;
-        blames = tt;
-        same = w.same;
-        justified = inl tt;
-      }
-      ends_told no_command n w = absurd w.files
-      ends_told (lattice_refused fault) n w = absurd w.files
-      ends_told (design_refused fault) n w = absurd w.files
-      ends_told (stimulus_refused fault) n w = absurd w.files
-      ends_told (module_refused fault) n w = absurd w.files
+    ends_told : (e : Ending) (n : Told) → Written out (module_of m) e t n → Ends (compile lattice design out) e t n
+    ends_told done n w = record {
+      leaves = (module_of m, module_text, w.files);
+      gained = _;
+      output = w.output ∙ sym (append-nil (t.written 1));
+      shows = refl;
+      blames = tt;
+      same = w.same;
+      justified = done_justified;
+    }
+    ends_told (failed name) n w = record {
+      leaves = elim w.files [ inl before ↦ inl before | inr p ↦ cut n.files p.0 p.1 p.2 ];
+      gained = _;
+      output = w.output ∙ sym (append-nil (t.written 1));
+      shows = inl refl;
+      blames = w.blames;
+      same = w.same;
+      justified = inl tt;
+    }
+    ends_told no_memory n w = record {
+      leaves = w.files;
+      gained = _;
+      output = w.output ∙ sym (append-nil (t.written 1));
+      shows = inl refl;
+      blames = tt;
+      same = w.same;
+      justified = inl tt;
+    }
+    ends_told no_command n w = absurd w.files
+    ends_told (lattice_refused fault) n w = absurd w.files
+    ends_told (design_refused fault) n w = absurd w.files
+    ends_told (stimulus_refused fault) n w = absurd w.files
+    ends_told (module_refused fault) n w = absurd w.files
 
 -- over a desk that may tell
 
@@ -143,31 +145,33 @@ pub at_lattice : (lattice design out : List ℕ) (e : Ending) (old new : Option 
 at_lattice lattice design out e old new b =
     between_map (LatticeStops lattice e) (Ends (compile lattice design out) e) old new (at_lattice_told lattice design out e) b
 
-at_design_told : (lattice design out : List ℕ) (ls : Levels) (e : Ending) (t n : Told) → HasLattice t lattice ls → DesignStops ls design e t n
+at_design_told : (lattice design out bytes : List ℕ) (e : Ending) (t n : Told) → HasLatticeBytes t lattice bytes → CompileStops bytes design e t n
     → Ends (compile lattice design out) e t n
-at_design_told lattice design out ls e t n has s =
+at_design_told lattice design out bytes e t n held s =
+    let (ls, has, stops) = stops_over lattice bytes design e t n held s in
     ends_stopped (compile lattice design out) (DesignEnds ls t design) e t n (λ r. r) (keeps lattice design out t n.files e)
-    (design_shown (compile lattice design out) ls t design e) (design_caused lattice design out t ls has e) s
+    (design_shown (compile lattice design out) ls t design e) (design_caused lattice design out t ls has e) stops
 
-pub at_design : (lattice design out : List ℕ) (ls : Levels) (e : Ending) (old mid new : Option Told) → mid ≡ old
-    → IfSome old (λ t. HasLattice t lattice ls) → Between mid new (DesignStops ls design e) → Between old new (Ends (compile lattice design out) e)
-at_design lattice design out ls e old mid new is has b =
-    between_with (λ t. HasLattice t lattice ls) (DesignStops ls design e) (Ends (compile lattice design out) e) old new
-    (at_design_told lattice design out ls e) has (between_from (DesignStops ls design e) old mid new is b)
+pub at_design : (lattice design out bytes seen : List ℕ) (e : Ending) (old mid new : Option Told) → mid ≡ old → seen ≡ bytes
+    → IfSome old (λ t. HasLatticeBytes t lattice bytes) → Between mid new (CompileStops seen design e) → Between old new (Ends (compile lattice design out) e)
+at_design lattice design out bytes seen e old mid new stands is held b =
+    let P : List ℕ → Type 0 = λ bytes. Between mid new (CompileStops bytes design e) in
+    between_with (λ t. HasLatticeBytes t lattice bytes) (CompileStops bytes design e) (Ends (compile lattice design out) e) old new
+    (at_design_told lattice design out bytes e) held (between_from (CompileStops bytes design e) old mid new stands (subst P is b))
 
-pub at_out : (lattice design out text : List ℕ) (ls : Levels) (m : Compiled) (e : Ending) (old one two new : Option Told)
-    → one ≡ old → two ≡ one → text ≡ m.module
-    → IfSome old (λ t. HasLattice t lattice ls) → IfSome one (λ t. HasDesign ls t design m)
+pub at_out : (lattice design out bytes seen text : List ℕ) (m : Compiled) (e : Ending) (old one two new : Option Told)
+    → one ≡ old → two ≡ one → seen ≡ bytes → text ≡ module_of m
+    → IfSome old (λ t. HasLatticeBytes t lattice bytes) → IsLatticeOfFile seen (levels_of m) → IfSome one (λ t. HasDesign t design m)
     → Between two new (Written out text e)
     → Between old new (Ends (compile lattice design out) e)
-at_out lattice design out text ls m e old one two new first second is has compiled w =
-    let L : Told → Type 0 = λ t. HasLattice t lattice ls in
-    let D : Told → Type 0 = λ t. HasDesign ls t design m in
+at_out lattice design out bytes seen text m e old one two new first second held_is is held levels compiled w =
+    let L : Told → Type 0 = λ t. HasLattice t lattice (levels_of m) in
+    let D : Told → Type 0 = λ t. HasDesign t design m in
     let P : List ℕ → Type 0 = λ text. Between two new (Written out text e) in
-    between_with (λ t. L t × D t) (Written out m.module e) (Ends (compile lattice design out) e) old new
-    (λ t n known w. ends_told lattice design out t ls known.0 m known.1 e n w)
-    (known_both L D old has (known_from D old one first compiled))
-    (between_from (Written out m.module e) old two new (second ∙ first) (subst P is w))
+    between_with (λ t. L t × D t) (Written out (module_of m) e) (Ends (compile lattice design out) e) old new
+    (λ t n known w. ends_told lattice design out t m known.0 known.1 e n w)
+    (known_both L D old (lattice_known lattice bytes seen m old held_is held levels) (known_from D old one first compiled))
+    (between_from (Written out (module_of m) e) old two new (second ∙ first) (subst P is w))
 
 pub outside_out : (lattice design out : List ℕ) (old one two new : Option Told) → one ≡ old → two ≡ one
     → Between two new (FullFile out) → Between old new (OutsideOf (compile lattice design out))

@@ -22,9 +22,7 @@ use Rattle.sapper.proofs.Designs.{OneDesign}
 
 no_fault : (source : List ℕ) (d : DesignTree) → ((fault : ReadFault) → IsReadFault source fault → ⊥) → (fault : DesignFault) → IsTextFault source fault → ⊥
 no_fault source d none (design.Read fault) is = none fault is
-no_fault source d none (design.Early place) is = is
 no_fault source d none (design.Check fault) is = is
-no_fault source d none design.Memory is = is
 
 pub text_accepted : (source : List ℕ) (d : AnyDesign) → ((text : List ℕ) (t : DesignTree) (fault : ReadFault) → IsText text t → IsReadFault text fault → ⊥)
     → IsText source (design_tree d) → TextRead source (Ok d)

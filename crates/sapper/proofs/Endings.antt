@@ -6,10 +6,11 @@ use Rattle.sap_desk.specs.Desk.{Told, added, blamed, IsWriting}
 use Rattle.sap_desk.specs.Cause.{FillsRoom}
 use Rattle.sap_desk.specs.Whole.{Between, CutOutput, MissingOrLong}
 use Rattle.sap_lattice.specs.Levels.{Levels}
+use Rattle.sap_latfile.specs.LatticeFile.{IsLatticeOfFile}
 use Rattle.sap_latfile.specs.OneLattice.{AreSame}
 use Rattle.sap_tree.specs.Syntax.{DesignTree}
-use Rattle.sap_tree.specs.Designs.{design_of as design_tree}
-use Rattle.sap_compile.specs.declared.compiler.Compiled.{Compiled}
+use Rattle.sap_compile.specs.Parts.{design_of, levels_of}
+use Rattle.sap_compile.specs.declared.compiled.Compiled.{Compiled}
 use Rattle.sapper.specs.declared.fault.DesignFault.{DesignFault}
 use Rattle.sap_stim.specs.declared.fault.StimFault.{StimFault}
 use Rattle.sapper.specs.Words.{Words}
@@ -18,10 +19,11 @@ use Rattle.sapper.specs.Causes.{Cause, DesignRefused, DesignStands}
 use Rattle.sapper.specs.Output.{IsPrefix, Output}
 use Rattle.sapper.specs.Ends.{Leaves}
 use Rattle.sapper.specs.Outside.{OutsideOf, FullOutput}
-use Rattle.sapper.specs.Steps.{Counted, DesignEnds, Ends, HasDesign, HasOutput, IsFailed, IsFree, Justified, LatticeEnds, ModuleEnds, Put, PutPart, Stops, TextEnds, WellFormedEnds, ending_of, last_of}
+use Rattle.sapper.specs.Steps.{Counted, DesignEnds, Ends, HasDesign, HasLattice, HasLatticeBytes, HasOutput, IsFailed, IsFree, Justified, LatticeEnds, ModuleEnds, Put, PutPart, Stops, TextEnds, ending_of, last_of}
 use Rattle.sapper.specs.declared.failure.Failure.{Failure}
 use Rattle.sapper.specs.declared.failure.Failure.TheVariants.{Memory}
-use Rattle.sapper.proofs.Designs.{compiles_in, fault_in}
+use Rattle.sapper.proofs.Lattices.{lattice_of_bytes}
+use Rattle.sapper.proofs.Designs.{text_in, fault_in}
 
 pub between_map : (P Q : Told → Told → Type 0) (old new : Option Told) → ((t n : Told) → P t n → Q t n) → Between old new P → Between old new Q
 between_map P Q None new h b = tt
@@ -99,16 +101,6 @@ text_shown c t name (module_refused fault) r = absurd r
 text_shown c t name (failed blamed) r = absurd r
 text_shown c t name no_memory r = absurd r
 
-pub well_formed_shown : (c : Words) (ls : Levels) (t : Told) (name : List ℕ) (e : Ending) → WellFormedEnds ls t name e → Output c t [] e
-well_formed_shown c ls t name (design_refused fault) r = refl
-well_formed_shown c ls t name done r = absurd r
-well_formed_shown c ls t name no_command r = absurd r
-well_formed_shown c ls t name (lattice_refused fault) r = absurd r
-well_formed_shown c ls t name (stimulus_refused fault) r = absurd r
-well_formed_shown c ls t name (module_refused fault) r = absurd r
-well_formed_shown c ls t name (failed blamed) r = absurd r
-well_formed_shown c ls t name no_memory r = absurd r
-
 pub module_shown : (c : Words) (t : Told) (name : List ℕ) (e : Ending) → ModuleEnds t name e → Output c t [] e
 module_shown c t name (design_refused fault) r = absurd r
 module_shown c t name done r = absurd r
@@ -143,16 +135,24 @@ ends_stopped c reason e t n never keeps shown caused s = record {
 -- a design file over two lattices that are the same
 
 pub stands_over : (t : Told) (name : List ℕ) (l m : Levels) (d : DesignTree) → AreSame l m → DesignStands t name l d → DesignStands t name m d
-stands_over t name l m d same s = (s.0, s.1, compiles_in l m s.0 d same s.2)
+stands_over t name l m d same s = (s.0, s.1, text_in l m s.0 d same s.2)
 
 pub refused_over : (t : Told) (name : List ℕ) (l m : Levels) (fault : DesignFault) → AreSame l m → DesignRefused t name l fault → DesignRefused t name m fault
-refused_over t name l m fault same r = (r.0, (r.1.0, r.1.1, fault_in l m r.1.0 fault same r.1.2))
+refused_over t name l m fault same r = (r.0, r.1, fault_in l m r.0 fault same r.2)
 
 -- what a design file is compiled to stands for it
-pub compiled_stands : (ls : Levels) (t : Told) (name : List ℕ) (m : Compiled) → HasDesign ls t name m → DesignStands t name ls (design_tree m.design)
-compiled_stands ls t name m has =
+pub compiled_stands : (t : Told) (name : List ℕ) (m : Compiled) → HasDesign t name m → DesignStands t name (levels_of m) (design_of m)
+compiled_stands t name m has =
     let (source, file, is) = has.stands in
-    (source, file, record { is_text = is; compiled = has.compiled; well_formed = has.is_module.well_formed })
+    (source, file, record { is_text = is; well_formed = has.is_module.well_formed })
+
+-- the lattice file is the levels over which the design is compiled
+pub lattice_known : (lattice bytes seen : List ℕ) (m : Compiled) (old : Option Told) → seen ≡ bytes → IfSome old (λ t. HasLatticeBytes t lattice bytes)
+    → IsLatticeOfFile seen (levels_of m) → IfSome old (λ t. HasLattice t lattice (levels_of m))
+lattice_known lattice bytes seen m old is held levels =
+    let of_bytes : IsLatticeOfFile bytes (levels_of m) = subst (λ (b : List ℕ). IsLatticeOfFile b (levels_of m)) is levels in
+    known_map (λ t. HasLatticeBytes t lattice bytes) (λ t. HasLattice t lattice (levels_of m)) old
+    (λ t held. lattice_of_bytes t lattice bytes (levels_of m) held of_bytes) held
 
 -- a text on channel 1
 

@@ -7,12 +7,12 @@ use Rattle.sap_lattice.specs.Levels.{Levels}
 use Rattle.sap_lattice.specs.Rules.{KeepsAll}
 use Rattle.sap_lattice.specs.declared.pair.Pair.{Pair}
 use Rattle.sap_latfile.specs.LatticeFile.{FirstFault, IsFileOf, IsLatticeOfFile}
-use Rattle.sap_latfile.specs.OneLattice.{OneLattice}
+use Rattle.sap_latfile.specs.OneLattice.{AreSame, OneLattice}
 use Rattle.sap_latfile.specs.declared.fault.LatFileFault.{LatFileFault}
 use Rattle.sap_latfile.specs.declared.fault.LatFileFault.TheVariants as lattice
 use Rattle.sapper.specs.Ending.{Ending}
 use Rattle.sapper.specs.Causes.{LatticeStands}
-use Rattle.sapper.specs.Steps.{Counted, HasLattice, LatticeRead, LatticeStops, Never, Same, Stops, Unchanged, ending, ending_of, lattice_failure}
+use Rattle.sapper.specs.Steps.{Counted, HasLattice, HasLatticeBytes, LatticeRead, LatticeStops, Never, Same, Stops, Unchanged, ending, ending_of, lattice_failure}
 use Rattle.sapper.specs.declared.failure.Failure.{Failure}
 use Rattle.sapper.specs.declared.failure.Failure.TheVariants.{Lattice, Design, Stimulus, Module, Desk, Memory}
 
@@ -120,6 +120,28 @@ pub lattice_stops : (name bytes seen : List ℕ) (r : Result Levels Failure) (ol
 lattice_stops name bytes seen (Ok ls) old new file is stands r = tt
 lattice_stops name bytes seen (Err e) old new file is stands r =
     subst (λ (n : Option Told). Between old n (LatticeStops name (ending e))) (sym stands) (stops_read name bytes seen e old file is r)
+
+-- the same, where the bytes are kept
+
+pub bytes_have : OneLattice → (name bytes seen : List ℕ) (ls : Levels) (old : Option Told) → IfSome old (λ t. t.files name ≡ Some bytes)
+    → seen ≡ bytes → LatticeRead seen (Ok ls) → IfSome old (λ t. HasLatticeBytes t name bytes)
+bytes_have one name bytes seen ls None file is r = tt
+bytes_have one name bytes seen ls (Some t) file is r =
+    record { file = file; levels = ls; lattice = has t name seen (file ∙ ap Some (sym is)) one ls r }
+
+-- the levels of a lattice file's bytes
+
+same_levels : (one other middle : Levels) → AreSame one middle → AreSame other middle → AreSame one other
+same_levels one other middle a b = record { names = a.names ∙ sym b.names; order = a.order ∙ sym b.order }
+
+pub lattice_of_bytes : (t : Told) (name bytes : List ℕ) (ls : Levels) → HasLatticeBytes t name bytes → IsLatticeOfFile bytes ls → HasLattice t name ls
+lattice_of_bytes t name bytes ls held is =
+    let stands : LatticeStands t name ls = (bytes, held.file, is) in
+    record {
+      stands = stands;
+      unbroken = held.lattice.unbroken;
+      only = λ other stands_too. same_levels other ls held.levels (held.lattice.only other stands_too) (held.lattice.only ls stands);
+    }
 
 pub lattice_counts : (bytes : List ℕ) (r : Result Levels Failure) (faults now : ℕ) → LatticeRead bytes r → now ≡ faults → Counted faults now (ending_of r)
 unfolding LatticeRead

@@ -1,6 +1,4 @@
 pub mod Lattices
-pub mod EarlyWalks
-pub mod Plain
 pub mod DesignFaults
 pub mod Designs
 pub mod DesignTexts

@@ -11,7 +11,7 @@ use Rattle.sap_modtext.specs.Modules.{IsModule, OneModule}
 use Rattle.sap_show.specs.Canonical.{canonical_text}
 use Rattle.sap_report.specs.Report.{report_text}
 use Rattle.sapper.specs.Words.{Words, compile, run, fmt, sim, report}
-use Rattle.sapper.specs.Causes.{DesignStands, LatticeStands, ModuleStands, TextStands, WellFormedStands}
+use Rattle.sapper.specs.Causes.{DesignStands, LatticeStands, ModuleStands, TextStands}
 use Rattle.sapper.specs.Output.{AreDesignRows, AreModuleRows, IsOutput, OneOutput}
 use Rattle.sapper.proofs.Lattices.{same_Some}
 use Rattle.sapper.proofs.Designs.{OneDesign}
@@ -36,9 +36,6 @@ module _ (one_lattice : OneLattice) (one_design : OneDesign) (one_module : OneMo
   is_text : (name : List ℕ) (ls : Levels) (d : DesignTree) → DesignStands t name ls d → TextStands t name d
   is_text name ls d s = (s.0, s.1, s.2.is_text)
 
-  is_well_formed_text : (name : List ℕ) (ls : Levels) (d : DesignTree) → WellFormedStands t name ls d → TextStands t name d
-  is_well_formed_text name ls d s = (s.0, s.1, s.2.is_text)
-
   one_text : (c : Words) (text other : List ℕ) → IsOutput c t text → IsOutput c t other → text ≡ other
   one_text (compile lattice design out) text other a b = a ∙ sym b
   one_text (run lattice design stimulus) text other a b =
@@ -62,7 +59,7 @@ module _ (one_lattice : OneLattice) (one_design : OneDesign) (one_module : OneMo
       let (m, e, others, are_design, are) = b in
       is
       ∙ reports_same l m (same_levels lattice l m stands others) d
-      ∙ ap (report_text m) (same_design design d e (is_well_formed_text design l d is_design) (is_well_formed_text design m e are_design))
+      ∙ ap (report_text m) (same_design design d e (is_text design l d is_design) (is_text design m e are_design))
       ∙ sym are
 
 pub one_output_lem : OneLattice → OneDesign → OneModule → OneOutput

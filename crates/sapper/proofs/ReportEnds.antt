@@ -4,40 +4,16 @@ use Rattle.std.specs.Prelude.{Option, Some, None, IfSome, IfOk, IfErr}
 use Rattle.sap_desk.specs.Desk.{Told}
 use Rattle.sap_desk.specs.Whole.{Between}
 use Rattle.sap_lattice.specs.Levels.{Levels}
-use Rattle.sap_latfile.specs.OneLattice.{AreSame}
 use Rattle.sap_tree.specs.Syntax.{DesignTree}
-use Rattle.sap_names.specs.declared.fault.CheckFault.TheVariants as check
 use Rattle.sap_report.specs.Report.{report_text}
-use Rattle.sapper.specs.declared.fault.DesignFault.{DesignFault}
-use Rattle.sapper.specs.declared.fault.DesignFault.TheVariants as design_fault
-use Rattle.sapper.specs.DesignFaults.{IsDesignFault}
 use Rattle.sapper.specs.Words.{report}
 use Rattle.sapper.specs.Ending.{Ending, done, no_command, lattice_refused, design_refused, stimulus_refused, module_refused, failed, no_memory, status_of}
-use Rattle.sapper.specs.Causes.{IsWellFormedText, LatticeStands, ReportCause, WellFormedRefused, WellFormedStands}
-use Rattle.sapper.specs.Steps.{Ends, HasLattice, HasOutput, HasWellFormed, LatticeEnds, LatticeStops, WellFormedEnds, WellFormedStops, ending}
+use Rattle.sapper.specs.Causes.{DesignStands, LatticeStands, ReportCause}
+use Rattle.sapper.specs.Steps.{DesignEnds, DesignStops, Ends, HasLattice, HasOutput, HasWellFormed, LatticeEnds, LatticeStops, ending}
 use Rattle.sapper.specs.declared.failure.Failure.{Failure}
 use Rattle.sapper.specs.declared.failure.Failure.TheVariants.{Memory}
 use Rattle.sapper.proofs.Lattices.{unchanged_self}
-use Rattle.sapper.proofs.Designs.{first_fault_in, well_formed_in}
-use Rattle.sapper.proofs.Endings.{Caused, between_from, between_map, between_with, ends_stopped, known_both, known_from, known_map, lattice_shown, well_formed_shown}
-
--- a design file over two lattices that are the same
-
-fault_in : (l m : Levels) (source : List ℕ) (fault : DesignFault) → AreSame l m → IsDesignFault l source fault → IsDesignFault m source fault
-fault_in l m source (design_fault.Read f) s h = h
-fault_in l m source (design_fault.Early p) s h = absurd h
-fault_in l m source (design_fault.Check (check.Rule code place)) s h = (h.0, h.1, first_fault_in l m h.0 (record { code = code; place = place }) s h.2)
-fault_in l m source (design_fault.Check check.Memory) s h = absurd h.2
-fault_in l m source design_fault.Memory s h = absurd h
-
-text_in : (l m : Levels) (source : List ℕ) (d : DesignTree) → AreSame l m → IsWellFormedText l source d → IsWellFormedText m source d
-text_in l m source d s w = record { is_text = w.is_text; well_formed = well_formed_in l m d s w.well_formed }
-
-stands_over : (t : Told) (name : List ℕ) (l m : Levels) (d : DesignTree) → AreSame l m → WellFormedStands t name l d → WellFormedStands t name m d
-stands_over t name l m d same s = (s.0, s.1, text_in l m s.0 d same s.2)
-
-refused_over : (t : Told) (name : List ℕ) (l m : Levels) (fault : DesignFault) → AreSame l m → WellFormedRefused t name l fault → WellFormedRefused t name m fault
-refused_over t name l m fault same r = (r.0, r.1, fault_in l m r.0 fault same r.2)
+use Rattle.sapper.proofs.Endings.{Caused, between_from, between_map, between_with, design_shown, ends_stopped, known_both, known_from, known_map, lattice_shown, refused_over, stands_over}
 
 module _ (lattice design : List ℕ) (t : Told) where
   -- the lattice file is no lattice
@@ -65,7 +41,7 @@ module _ (lattice design : List ℕ) (t : Told) where
   -- the design file is no design that is well formed over the levels
 
   module _ (ls : Levels) (has : HasLattice t lattice ls) where
-    design_alone : ((d : DesignTree) → WellFormedStands t design ls d → ⊥) → (e : Ending) → ReportCause lattice design t e → status_of e ≡ 1
+    design_alone : ((d : DesignTree) → DesignStands t design ls d → ⊥) → (e : Ending) → ReportCause lattice design t e → status_of e ≡ 1
     design_alone none done cause = absurd (none cause.1 (stands_over t design cause.0 ls cause.1 (has.only cause.0 cause.2) cause.3))
     design_alone none (lattice_refused fault) cause = absurd (has.unbroken fault cause)
     design_alone none (design_refused fault) cause = refl
@@ -75,7 +51,7 @@ module _ (lattice design : List ℕ) (t : Told) where
     design_alone none (failed name) cause = absurd cause
     design_alone none no_memory cause = absurd cause
 
-    design_caused : (e : Ending) → WellFormedEnds ls t design e → Caused (report lattice design) t e
+    design_caused : (e : Ending) → DesignEnds ls t design e → Caused (report lattice design) t e
     design_caused (design_refused fault) r = ((ls, has.stands, r.0), design_alone r.1)
     design_caused done r = absurd r
     design_caused no_command r = absurd r
@@ -118,17 +94,17 @@ pub at_lattice : (lattice design : List ℕ) (e : Ending) (old new : Option Told
 at_lattice lattice design e old new b =
     between_map (LatticeStops lattice e) (Ends (report lattice design) e) old new (at_lattice_told lattice design e) b
 
-at_design_told : (lattice design : List ℕ) (ls : Levels) (e : Ending) (t n : Told) → HasLattice t lattice ls → WellFormedStops ls design e t n
+at_design_told : (lattice design : List ℕ) (ls : Levels) (e : Ending) (t n : Told) → HasLattice t lattice ls → DesignStops ls design e t n
     → Ends (report lattice design) e t n
 at_design_told lattice design ls e t n has s =
-    ends_stopped (report lattice design) (WellFormedEnds ls t design) e t n (λ r. r) (λ not is. is)
-    (well_formed_shown (report lattice design) ls t design e) (design_caused lattice design t ls has e) s
+    ends_stopped (report lattice design) (DesignEnds ls t design) e t n (λ r. r) (λ not is. is)
+    (design_shown (report lattice design) ls t design e) (design_caused lattice design t ls has e) s
 
 pub at_design : (lattice design : List ℕ) (ls : Levels) (e : Ending) (old mid new : Option Told) → mid ≡ old
-    → IfSome old (λ t. HasLattice t lattice ls) → Between mid new (WellFormedStops ls design e) → Between old new (Ends (report lattice design) e)
+    → IfSome old (λ t. HasLattice t lattice ls) → Between mid new (DesignStops ls design e) → Between old new (Ends (report lattice design) e)
 at_design lattice design ls e old mid new is has b =
-    between_with (λ t. HasLattice t lattice ls) (WellFormedStops ls design e) (Ends (report lattice design) e) old new
-    (at_design_told lattice design ls e) has (between_from (WellFormedStops ls design e) old mid new is b)
+    between_with (λ t. HasLattice t lattice ls) (DesignStops ls design e) (Ends (report lattice design) e) old new
+    (at_design_told lattice design ls e) has (between_from (DesignStops ls design e) old mid new is b)
 
 at_text_told : (lattice design : List ℕ) (old : Option Told) → Between old old (Ends (report lattice design) no_memory)
 at_text_told lattice design None = tt

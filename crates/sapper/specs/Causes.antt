@@ -7,9 +7,8 @@ use Rattle.sap_latfile.specs.declared.fault.LatFileFault.{LatFileFault}
 use Rattle.sap_latfile.specs.declared.fault.LatFileFault.TheVariants as lattice_fault
 use Rattle.sap_parse.specs.Text.{IsText, IsReadFault}
 use Rattle.sap_shape.specs.WellFormed.{WellFormed}
-use Rattle.sapper.specs.Early.{early_of}
 use Rattle.sap_tree.specs.Syntax.{DesignTree}
-use Rattle.sapper.specs.DesignFaults.{IsDesignFault, IsFaultOf}
+use Rattle.sapper.specs.DesignFaults.{IsDesignFault}
 use Rattle.sapper.specs.declared.fault.DesignFault.{DesignFault}
 use Rattle.sapper.specs.declared.fault.DesignFault.TheVariants as design_fault
 use Rattle.sap_stim.specs.declared.fault.StimFault.{StimFault}
@@ -35,17 +34,16 @@ LatticeStands t name ls = FileHas t name (λ bytes. IsLatticeOfFile bytes ls)
 abbrev pub LatticeRefused : Told → (name : List ℕ) → LatFileFault → Type 0
 LatticeRefused t name fault = (fault ≢ lattice_fault.Memory) × FileHas t name (λ bytes. FirstFault bytes fault)
 
--- a design file is the text of a design that is well formed over the levels, all of whose constructs are compiled; or it has this fault
-pub record Compiles (ls : Levels) (source : List ℕ) (d : DesignTree) : Type 0 where
+-- a design file is the text of a design that is well formed over the levels; or it has this fault
+pub record IsWellFormedText (ls : Levels) (source : List ℕ) (d : DesignTree) : Type 0 where
   pub is_text : IsText source d
-  pub compiled : early_of d ≡ None
   pub well_formed : WellFormed ls d
 
 abbrev pub DesignStands : Told → (name : List ℕ) → Levels → DesignTree → Type 0
-DesignStands t name ls d = FileHas t name (λ source. Compiles ls source d)
+DesignStands t name ls d = FileHas t name (λ source. IsWellFormedText ls source d)
 
 abbrev pub DesignRefused : Told → (name : List ℕ) → Levels → DesignFault → Type 0
-DesignRefused t name ls fault = (fault ≢ design_fault.Memory) × FileHas t name (λ source. IsFaultOf ls source fault)
+DesignRefused t name ls fault = FileHas t name (λ source. IsDesignFault ls source fault)
 
 -- a design file is the text of a design within the limits; or it has this read fault
 abbrev pub TextStands : Told → (name : List ℕ) → DesignTree → Type 0
@@ -53,23 +51,10 @@ TextStands t name d = FileHas t name (λ source. IsText source d)
 
 abbrev pub IsTextFault : (source : List ℕ) → DesignFault → Type 0
 IsTextFault source (design_fault.Read fault) = IsReadFault source fault
-IsTextFault source (design_fault.Early place) = ⊥
 IsTextFault source (design_fault.Check fault) = ⊥
-IsTextFault source design_fault.Memory = ⊥
 
 abbrev pub TextRefused : Told → (name : List ℕ) → DesignFault → Type 0
 TextRefused t name fault = FileHas t name (λ source. IsTextFault source fault)
-
--- a design file is the text of a design that is well formed over the levels, whether it is compiled yet or not; or it has this fault
-pub record IsWellFormedText (ls : Levels) (source : List ℕ) (d : DesignTree) : Type 0 where
-  pub is_text : IsText source d
-  pub well_formed : WellFormed ls d
-
-abbrev pub WellFormedStands : Told → (name : List ℕ) → Levels → DesignTree → Type 0
-WellFormedStands t name ls d = FileHas t name (λ source. IsWellFormedText ls source d)
-
-abbrev pub WellFormedRefused : Told → (name : List ℕ) → Levels → DesignFault → Type 0
-WellFormedRefused t name ls fault = FileHas t name (λ source. IsDesignFault ls source fault)
 
 -- a module file is the text of this module; or it has this fault
 abbrev pub ModuleStands : Told → (name : List ℕ) → Net → Type 0
@@ -118,7 +103,7 @@ SimCause lattice verilog stimulus t no_command = ⊥
 SimCause lattice verilog stimulus t (failed name) = ⊥
 SimCause lattice verilog stimulus t no_memory = ⊥
 
--- a design that is written anew needs no lattice, and may have constructs that aren't compiled yet
+-- a design that is written anew needs no lattice, and need not be well formed
 abbrev pub FmtCause : (design : List ℕ) → Told → Ending → Type 0
 FmtCause design t done = (d : DesignTree) × TextStands t design d
 FmtCause design t (design_refused fault) = TextRefused t design fault
@@ -129,11 +114,10 @@ FmtCause design t no_command = ⊥
 FmtCause design t (failed name) = ⊥
 FmtCause design t no_memory = ⊥
 
--- a design that is reported may have such constructs too
 abbrev pub ReportCause : (lattice design : List ℕ) → Told → Ending → Type 0
-ReportCause lattice design t done = (ls : Levels) × (d : DesignTree) × LatticeStands t lattice ls × WellFormedStands t design ls d
+ReportCause lattice design t done = (ls : Levels) × (d : DesignTree) × LatticeStands t lattice ls × DesignStands t design ls d
 ReportCause lattice design t (lattice_refused fault) = LatticeRefused t lattice fault
-ReportCause lattice design t (design_refused fault) = (ls : Levels) × LatticeStands t lattice ls × WellFormedRefused t design ls fault
+ReportCause lattice design t (design_refused fault) = (ls : Levels) × LatticeStands t lattice ls × DesignRefused t design ls fault
 ReportCause lattice design t (stimulus_refused fault) = ⊥
 ReportCause lattice design t (module_refused fault) = ⊥
 ReportCause lattice design t no_command = ⊥

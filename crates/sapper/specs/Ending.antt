@@ -92,9 +92,7 @@ check_text check.Memory = codes "memory"
 
 abbrev pub design_text : DesignFault → List ℕ
 design_text (design.Read fault) = read_text fault
-design_text (design.Early place) = codes "early " ++ place_text place
 design_text (design.Check fault) = check_text fault
-design_text design.Memory = codes "memory"
 
 abbrev pub stimulus_text : StimFault → List ℕ
 stimulus_text fault = codes "S" ++ decimal (stimulus_number fault.code) ++ codes " line " ++ decimal fault.line

@@ -1,5 +1,4 @@
 pub mod Words
-pub mod Early
 pub mod DesignFaults
 pub mod Ending
 pub mod Causes

@@ -11,7 +11,7 @@ use Rattle.sap_show.specs.Canonical.{canonical_text}
 use Rattle.sap_report.specs.Report.{report_text}
 use Rattle.sapper.specs.Words.{Words, compile, run, fmt, sim, report}
 use Rattle.sapper.specs.Ending.{Ending, done, no_command, lattice_refused, design_refused, stimulus_refused, module_refused, failed, no_memory}
-use Rattle.sapper.specs.Causes.{FileHas, LatticeStands, DesignStands, ModuleStands, TextStands, WellFormedStands}
+use Rattle.sapper.specs.Causes.{FileHas, LatticeStands, DesignStands, ModuleStands, TextStands}
 
 -- a part of a text from its first byte on
 abbrev pub IsPrefix : (part whole : List ℕ) → Type 0
@@ -36,7 +36,7 @@ IsOutput (fmt design) t text = (d : DesignTree) × TextStands t design d × (tex
 IsOutput (sim lattice verilog stimulus) t text =
     (ls : Levels) × (net : Net) × LatticeStands t lattice ls × ModuleStands t verilog net × FileHas t stimulus (λ bytes. AreModuleRows ls net bytes text)
 IsOutput (report lattice design) t text =
-    (ls : Levels) × (d : DesignTree) × LatticeStands t lattice ls × WellFormedStands t design ls d × (text ≡ report_text ls d)
+    (ls : Levels) × (d : DesignTree) × LatticeStands t lattice ls × DesignStands t design ls d × (text ≡ report_text ls d)
 
 -- a prefix of that text, or nothing
 abbrev pub IsCut : Words → Told → (gained : List ℕ) → Type 0

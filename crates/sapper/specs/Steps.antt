@@ -10,7 +10,6 @@ use Rattle.sap_latfile.specs.declared.fault.LatFileFault.TheVariants as lattice_
 use Rattle.sap_parse.specs.Text.{IsText}
 use Rattle.sap_parse.specs.declared.fault.ReadFault.{ReadFault}
 use Rattle.sap_parse.specs.declared.fault.ReadFault.TheVariants as read_fault
-use Rattle.sapper.specs.Early.{early_of}
 use Rattle.sap_tree.specs.Designs.{design_of}
 use Rattle.sap_tree.specs.Syntax.{DesignTree}
 use Rattle.sap_tree.specs.declared.design.Design.{Design as AnyDesign}
@@ -19,7 +18,10 @@ use Rattle.sap_names.specs.declared.fault.CheckFault.TheVariants as check_fault
 use Rattle.sap_check.specs.Checked.{levels_in, tree_in}
 use Rattle.sap_check.specs.declared.checked.Checked.{Checked}
 use Rattle.sap_compile.specs.Compiles.{IsModuleFor}
-use Rattle.sap_compile.specs.declared.compiler.Compiled.{Compiled}
+use Rattle.sap_compile.specs.Parts.{design_of as compiled_design, levels_of, module_of, netlist_of}
+use Rattle.sap_compile.specs.declared.compiled.Compiled.{Compiled}
+use Rattle.sap_compile.specs.declared.fault.CompileFault.{CompileFault}
+use Rattle.sap_compile.specs.declared.fault.CompileFault.TheVariants as compile_fault
 use Rattle.sapper.specs.declared.fault.DesignFault.{DesignFault}
 use Rattle.sapper.specs.declared.fault.DesignFault.TheVariants as design_fault
 use Rattle.sap_net.specs.Net.{Net}
@@ -29,9 +31,9 @@ use Rattle.sap_vread.specs.declared.fault.ModFault.{ModFault}
 use Rattle.sap_vread.specs.declared.fault.ModFault.TheVariants as module_fault
 use Rattle.sap_stim.specs.declared.fault.StimFault.{StimFault}
 use Rattle.sapper.specs.Words.{Words, compile, run, fmt, sim, report}
-use Rattle.sapper.specs.DesignFaults.{IsDesignFault, IsFaultOf}
+use Rattle.sapper.specs.DesignFaults.{IsDesignFault}
 use Rattle.sapper.specs.Ending.{Ending, done, no_command, lattice_refused, design_refused, stimulus_refused, module_refused, failed, no_memory, status_of, line_of}
-use Rattle.sapper.specs.Causes.{Cause, Compiles, DesignRefused, DesignStands, IsTextFault, IsWellFormedText, LatticeRefused, LatticeStands, ModuleRefused, ModuleStands, TextRefused, TextStands, WellFormedRefused, WellFormedStands}
+use Rattle.sapper.specs.Causes.{Cause, DesignRefused, DesignStands, IsTextFault, IsWellFormedText, LatticeRefused, LatticeStands, ModuleRefused, ModuleStands, TextRefused, TextStands}
 use Rattle.sapper.specs.Output.{IsOutput, IsPrefix, Output}
 use Rattle.sapper.specs.Ends.{Files, Leaves, Blames, Gained}
 use Rattle.sapper.specs.declared.command.Command.{Command}
@@ -58,14 +60,16 @@ abbrev pub ending_of : {T : Type 0} → Result T Failure → Ending
 ending_of (Ok x) = done
 ending_of (Err e) = ending e
 
--- why a lattice file and a design file end a command
+-- why a lattice file, the two together and a design file end a command
 abbrev pub lattice_failure : LatFileFault → Failure
 lattice_failure lattice_fault.Memory = Memory
 lattice_failure fault = Lattice fault
 
-abbrev pub design_failure : DesignFault → Failure
-design_failure design_fault.Memory = Memory
-design_failure fault = Design fault
+abbrev pub compile_failure : CompileFault → Failure
+compile_failure (compile_fault.Lattice fault) = Lattice fault
+compile_failure (compile_fault.Read fault) = Design (design_fault.Read fault)
+compile_failure (compile_fault.Check fault) = Design (design_fault.Check fault)
+compile_failure compile_fault.Memory = Memory
 
 abbrev pub read_failure : ReadFault → Failure
 read_failure read_fault.Memory = Memory
@@ -94,17 +98,20 @@ LatticeRead bytes (Err (Module fault)) = ⊥
 LatticeRead bytes (Err (Desk name)) = ⊥
 LatticeRead bytes (Err Memory) = Unit {0}
 
--- what the bytes of a design file give: what they are compiled to, and then they have no fault; or their fault, and then they are no design that compiles
-unfoldable pub DesignCompiled : Levels → (source : List ℕ) → Result Compiled Failure → Type 0
-DesignCompiled ls source (Ok m) =
-    IsText source (design_of m.design) × IsModuleFor ls (design_of m.design) m.netlist m.module × (early_of (design_of m.design) ≡ None)
-    × ((fault : DesignFault) → fault ≢ design_fault.Memory → IsFaultOf ls source fault → ⊥)
-DesignCompiled ls source (Err (Design fault)) = (fault ≢ design_fault.Memory) × IsFaultOf ls source fault × ((d : DesignTree) → Compiles ls source d → ⊥)
-DesignCompiled ls source (Err (Lattice fault)) = ⊥
-DesignCompiled ls source (Err (Stimulus fault)) = ⊥
-DesignCompiled ls source (Err (Module fault)) = ⊥
-DesignCompiled ls source (Err (Desk name)) = ⊥
-DesignCompiled ls source (Err Memory) = Unit {0}
+-- What the bytes of a lattice file and of a design file give: what they are compiled to, and then there is no fault; the rule of lattices that is
+-- broken first; or the design's fault over levels of the lattice, and then there is no design that is well formed over them.
+unfoldable pub DesignCompiled : (lattice source : List ℕ) → Result Compiled Failure → Type 0
+DesignCompiled lattice source (Ok m) =
+    IsLatticeOfFile lattice (levels_of m) × IsText source (compiled_design m)
+    × IsModuleFor (levels_of m) (compiled_design m) (netlist_of m) (module_of m)
+    × ((fault : DesignFault) → IsDesignFault (levels_of m) source fault → ⊥)
+DesignCompiled lattice source (Err (Lattice fault)) = (fault ≢ lattice_fault.Memory) × FirstFault lattice fault
+DesignCompiled lattice source (Err (Design fault)) =
+    (ls : Levels) × IsLatticeOfFile lattice ls × IsDesignFault ls source fault × ((d : DesignTree) → IsWellFormedText ls source d → ⊥)
+DesignCompiled lattice source (Err (Stimulus fault)) = ⊥
+DesignCompiled lattice source (Err (Module fault)) = ⊥
+DesignCompiled lattice source (Err (Desk name)) = ⊥
+DesignCompiled lattice source (Err Memory) = Unit {0}
 
 -- the same without a lattice: their tree, and then they have no read fault; or their read fault, and then they have no tree
 unfoldable pub TextRead : (source : List ℕ) → Result AnyDesign Failure → Type 0
@@ -116,7 +123,7 @@ TextRead source (Err (Module fault)) = ⊥
 TextRead source (Err (Desk name)) = ⊥
 TextRead source (Err Memory) = Unit {0}
 
--- the same over a lattice, whatever its constructs: the design, well formed, and then it has no fault; or its first fault, and then they are no well-formed design
+-- the same over a lattice: the design, well formed, and then it has no fault; or its first fault, and then they are no well-formed design
 unfoldable pub DesignChecked : Levels → (source : List ℕ) → Result Checked Failure → Type 0
 DesignChecked ls source (Ok c) =
     IsWellFormedText ls source (tree_in c) × (levels_in c ≡ ls) × ((fault : DesignFault) → IsDesignFault ls source fault → ⊥)
@@ -191,8 +198,8 @@ pub record Stops (reason : Ending → Type 0) (e : Ending) (t n : Told) : Type 0
   pub blames : Blames n.blame e
   pub why : IsFree e ⊎ reason e
 
--- for no further reason; for a lattice file; for a design that isn't compiled over the levels of a lattice; for a design without one; for a design that isn't
--- well formed over such levels; for a module
+-- for no further reason; for a lattice file; for a design that isn't well formed over the levels of a lattice; for one that isn't compiled over a
+-- lattice file's bytes; for a design without a lattice; for a module
 abbrev pub Never : Ending → Type 0
 Never e = ⊥
 
@@ -216,6 +223,16 @@ DesignEnds ls t name (module_refused fault) = ⊥
 DesignEnds ls t name (failed blamed) = ⊥
 DesignEnds ls t name no_memory = ⊥
 
+abbrev pub CompileEnds : (lattice : List ℕ) → Told → (name : List ℕ) → Ending → Type 0
+CompileEnds lattice t name (lattice_refused fault) = (fault ≢ lattice_fault.Memory) × FirstFault lattice fault
+CompileEnds lattice t name (design_refused fault) = (ls : Levels) × IsLatticeOfFile lattice ls × DesignEnds ls t name (design_refused fault)
+CompileEnds lattice t name done = ⊥
+CompileEnds lattice t name no_command = ⊥
+CompileEnds lattice t name (stimulus_refused fault) = ⊥
+CompileEnds lattice t name (module_refused fault) = ⊥
+CompileEnds lattice t name (failed blamed) = ⊥
+CompileEnds lattice t name no_memory = ⊥
+
 abbrev pub TextEnds : Told → (name : List ℕ) → Ending → Type 0
 TextEnds t name (design_refused fault) = TextRefused t name fault × ((d : DesignTree) → TextStands t name d → ⊥)
 TextEnds t name done = ⊥
@@ -225,16 +242,6 @@ TextEnds t name (stimulus_refused fault) = ⊥
 TextEnds t name (module_refused fault) = ⊥
 TextEnds t name (failed blamed) = ⊥
 TextEnds t name no_memory = ⊥
-
-abbrev pub WellFormedEnds : Levels → Told → (name : List ℕ) → Ending → Type 0
-WellFormedEnds ls t name (design_refused fault) = WellFormedRefused t name ls fault × ((d : DesignTree) → WellFormedStands t name ls d → ⊥)
-WellFormedEnds ls t name done = ⊥
-WellFormedEnds ls t name no_command = ⊥
-WellFormedEnds ls t name (lattice_refused fault) = ⊥
-WellFormedEnds ls t name (stimulus_refused fault) = ⊥
-WellFormedEnds ls t name (module_refused fault) = ⊥
-WellFormedEnds ls t name (failed blamed) = ⊥
-WellFormedEnds ls t name no_memory = ⊥
 
 abbrev pub ModuleEnds : Told → (name : List ℕ) → Ending → Type 0
 ModuleEnds t name (module_refused fault) = ModuleRefused t name fault × ((net : Net) → ModuleStands t name net → ⊥)
@@ -252,11 +259,11 @@ LatticeStops name e t n = Stops (LatticeEnds t name) e t n
 abbrev pub DesignStops : Levels → (name : List ℕ) → Ending → Told → Told → Type 0
 DesignStops ls name e t n = Stops (DesignEnds ls t name) e t n
 
+abbrev pub CompileStops : (lattice name : List ℕ) → Ending → Told → Told → Type 0
+CompileStops lattice name e t n = Stops (CompileEnds lattice t name) e t n
+
 abbrev pub TextStops : (name : List ℕ) → Ending → Told → Told → Type 0
 TextStops name e t n = Stops (TextEnds t name) e t n
-
-abbrev pub WellFormedStops : Levels → (name : List ℕ) → Ending → Told → Told → Type 0
-WellFormedStops ls name e t n = Stops (WellFormedEnds ls t name) e t n
 
 abbrev pub ModuleStops : (name : List ℕ) → Ending → Told → Told → Type 0
 ModuleStops name e t n = Stops (ModuleEnds t name) e t n
@@ -267,13 +274,18 @@ pub record HasLattice (t : Told) (name : List ℕ) (ls : Levels) : Type 0 where
   pub unbroken : (fault : LatFileFault) → LatticeRefused t name fault → ⊥
   pub only : (other : Levels) → LatticeStands t name other → AreSame other ls
 
--- a design file is compiled to this over the levels, has no fault, and is no other design
-pub record HasDesign (ls : Levels) (t : Told) (name : List ℕ) (m : Compiled) : Type 0 where
-  pub stands : TextStands t name (design_of m.design)
-  pub is_module : IsModuleFor ls (design_of m.design) m.netlist m.module
-  pub compiled : early_of (design_of m.design) ≡ None
-  pub faultless : (fault : DesignFault) → DesignRefused t name ls fault → ⊥
-  pub only : (other : DesignTree) → TextStands t name other → other ≡ design_of m.design
+-- a lattice file has these bytes, and is a lattice
+pub record HasLatticeBytes (t : Told) (name bytes : List ℕ) : Type 0 where
+  pub file : t.files name ≡ Some bytes
+  pub levels : Levels
+  pub lattice : HasLattice t name levels
+
+-- a design file is compiled to this over its levels, has no fault, and is no other design
+pub record HasDesign (t : Told) (name : List ℕ) (m : Compiled) : Type 0 where
+  pub stands : TextStands t name (compiled_design m)
+  pub is_module : IsModuleFor (levels_of m) (compiled_design m) (netlist_of m) (module_of m)
+  pub faultless : (fault : DesignFault) → DesignRefused t name (levels_of m) fault → ⊥
+  pub only : (other : DesignTree) → TextStands t name other → other ≡ compiled_design m
 
 -- a design file is this design and no other, and has no read fault
 pub record HasText (t : Told) (name : List ℕ) (d : DesignTree) : Type 0 where
@@ -283,8 +295,8 @@ pub record HasText (t : Told) (name : List ℕ) (d : DesignTree) : Type 0 where
 
 -- a design file is this design, well formed over the levels, and has no fault
 pub record HasWellFormed (ls : Levels) (t : Told) (name : List ℕ) (d : DesignTree) : Type 0 where
-  pub stands : WellFormedStands t name ls d
-  pub faultless : (fault : DesignFault) → WellFormedRefused t name ls fault → ⊥
+  pub stands : DesignStands t name ls d
+  pub faultless : (fault : DesignFault) → DesignRefused t name ls fault → ⊥
 
 -- a module file is this module and no other, and has no fault
 pub record HasModule (t : Told) (name : List ℕ) (net : Net) : Type 0 where

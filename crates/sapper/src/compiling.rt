@@ -8,7 +8,7 @@ ghost use Rattle.sapper.specs.Outside.{OutsideOf};
 ghost use Rattle.sapper.specs.Steps.{Counted, Ends, Written, ending_of};
 
 use crate::failure::Failure;
-use crate::inputs::{compiled_in, lattice_in};
+use crate::inputs::{compiled_in, lattice_bytes_in};
 use sap_desk::{Desk, DeskError, write_file};
 use std::alloc::Global;
 
@@ -40,7 +40,7 @@ pub fn compile<'a, D: Desk>(
     ensures sure { D.sure desk.old → D.sure desk.new }
     ensures outside { (D.faults desk.new ≢ D.faults desk.old) → D.sure desk.old → Between (D.told desk.old) (D.told desk.new) (OutsideOf (compile lattice.now design.now out.now)) }
 {
-    let levels = lattice_in(alloc, desk, lattice)?;
-    let compiled = compiled_in(alloc, desk, &levels, design)?;
-    write(desk, out, compiled.module.as_slice())
+    let levels = lattice_bytes_in(alloc, desk, lattice)?;
+    let compiled = compiled_in(alloc, desk, levels.as_slice(), design)?;
+    write(desk, out, compiled.module().as_slice())
 }

@@ -2,17 +2,18 @@
 
 ghost use Rattle.std.specs.Prelude.{◌≡◌, ◌≢◌, IfOk, IfErr, OnOk, IfSome, Some};
 ghost use Rattle.sap_check.specs.Checked.{levels_in, tree_in};
+ghost use Rattle.sap_compile.specs.Parts.{design_of, levels_of, netlist_of};
 ghost use Rattle.sap_desk.specs.Whole.{Between, MissingOrLong};
 ghost use Rattle.sap_interface.specs.Designs.{StandsForDesign};
-ghost use Rattle.sap_tree.specs.Designs.{design_of};
-ghost use Rattle.sapper.specs.Steps.{Counted, DesignChecked, DesignCompiled, DesignStops, HasDesign, HasLattice, HasModule, HasText, HasWellFormed, LatticeRead, LatticeStops, ModuleRead, ModuleStops, Never, Stops, TextRead, TextStops, WellFormedStops, design_failure, ending, ending_of, lattice_failure, module_failure, read_failure, shape_failure};
+ghost use Rattle.sap_latfile.specs.LatticeFile.{IsLatticeOfFile};
+ghost use Rattle.sap_tree.specs.Designs.{design_of as tree_of};
+ghost use Rattle.sapper.specs.Steps.{CompileStops, Counted, DesignChecked, DesignCompiled, DesignStops, HasDesign, HasLattice, HasLatticeBytes, HasModule, HasText, HasWellFormed, LatticeRead, LatticeStops, ModuleRead, ModuleStops, Never, Stops, TextRead, TextStops, compile_failure, ending, ending_of, lattice_failure, module_failure, read_failure, shape_failure};
 
-use crate::compiler::compile_text;
 use crate::failure::Failure;
 use crate::fault::DesignFault;
 use sap_check::Checked;
 use sap_check::check::check;
-use sap_compile::Compiled;
+use sap_compile::{CompileFault, Compiled, compile};
 use sap_desk::{Bytes, Desk, DeskError, read_file};
 use sap_latfile::laws::one_lattice;
 use sap_latfile::{LatFileFault, read_lattice};
@@ -87,40 +88,61 @@ pub fn lattice_in<'a, D: Desk>(
     lattice_from(alloc, bytes.as_slice())
 }
 
-fn design_failure<'a>(fault: DesignFault) -> Failure<'a>
-    ensures { result ≡ design_failure fault }
+/// The bytes of a lattice file in which no rule is broken.
+pub fn lattice_bytes_in<'a, D: Desk>(
+    alloc: Global,
+    desk: &mut D,
+    name: &'a str,
+) -> Result<Bytes, Failure<'a>>
+    ensures has { IfOk result (λ bytes. IfSome (D.told desk.old) (λ t. HasLatticeBytes t name.now bytes)) }
+    ensures told { OnOk result (D.told desk.new ≡ D.told desk.old) }
+    ensures stops { IfErr result (λ e. Between (D.told desk.old) (D.told desk.new) (LatticeStops name.now (ending e))) }
+    ensures counted { Counted (D.faults desk.old) (D.faults desk.new) (ending_of result) }
+    ensures lost { D.lost desk.new ≡ D.lost desk.old }
+    ensures sure { D.sure desk.old → D.sure desk.new }
+    ensures outside { (D.faults desk.new ≢ D.faults desk.old) → D.sure desk.old → IfSome (D.told desk.old) (MissingOrLong name.now) }
+{
+    let bytes = bytes_of(alloc, desk, name)?;
+    one_lattice();
+    match lattice_from(alloc, bytes.as_slice()) {
+        Ok(_) => Ok(bytes),
+        Err(failure) => Err(failure),
+    }
+}
+
+fn compile_failure<'a>(fault: CompileFault) -> Failure<'a>
+    ensures { result ≡ compile_failure fault }
 {
     match fault {
-        DesignFault::Memory => Failure::Memory,
-        fault => Failure::Design(fault),
+        CompileFault::Lattice(fault) => Failure::Lattice(fault),
+        CompileFault::Read(fault) => Failure::Design(DesignFault::Read(fault)),
+        CompileFault::Check(fault) => Failure::Design(DesignFault::Check(fault)),
+        CompileFault::Memory => Failure::Memory,
     }
 }
 
-/// What a design file's bytes compile to over a lattice.
-fn compiled_from<'a>(
-    alloc: Global,
-    lattice: &Lattice,
-    bytes: &[u8],
-) -> Result<Compiled, Failure<'a>>
+/// What the bytes of a lattice file and of a design file compile to.
+fn compiled_from<'a>(alloc: Global, lattice: &[u8], bytes: &[u8]) -> Result<Compiled, Failure<'a>>
     ensures { DesignCompiled lattice.now bytes.now result }
 {
-    match compile_text(alloc, lattice, bytes) {
+    match compile(alloc, lattice, bytes) {
         Ok(compiled) => Ok(compiled),
-        Err(fault) => Err(design_failure(fault)),
+        Err(fault) => Err(compile_failure(fault)),
     }
 }
 
-/// The design of a design file, compiled over a lattice.
+/// The design of a design file, compiled over the lattice of a lattice file's bytes.
 pub fn compiled_in<'a, D: Desk>(
     alloc: Global,
     desk: &mut D,
-    lattice: &Lattice,
+    lattice: &[u8],
     name: &'a str,
 ) -> Result<Compiled, Failure<'a>>
-    ensures has { IfOk result (λ m. IfSome (D.told desk.old) (λ t. HasDesign lattice.now t name.now m)) }
-    ensures stands { IfOk result (λ m. StandsForDesign lattice.now (design_of m.design) m.netlist) }
+    ensures levels { IfOk result (λ m. IsLatticeOfFile lattice.now (levels_of m)) }
+    ensures has { IfOk result (λ m. IfSome (D.told desk.old) (λ t. HasDesign t name.now m)) }
+    ensures stands { IfOk result (λ m. StandsForDesign (levels_of m) (design_of m) (netlist_of m)) }
     ensures told { OnOk result (D.told desk.new ≡ D.told desk.old) }
-    ensures stops { IfErr result (λ e. Between (D.told desk.old) (D.told desk.new) (DesignStops lattice.now name.now (ending e))) }
+    ensures stops { IfErr result (λ e. Between (D.told desk.old) (D.told desk.new) (CompileStops lattice.now name.now (ending e))) }
     ensures counted { Counted (D.faults desk.old) (D.faults desk.new) (ending_of result) }
     ensures lost { D.lost desk.new ≡ D.lost desk.old }
     ensures sure { D.sure desk.old → D.sure desk.new }
@@ -157,7 +179,7 @@ pub fn text_in<'a, D: Desk>(
     desk: &mut D,
     name: &'a str,
 ) -> Result<Design, Failure<'a>>
-    ensures has { IfOk result (λ d. IfSome (D.told desk.old) (λ t. HasText t name.now (design_of d))) }
+    ensures has { IfOk result (λ d. IfSome (D.told desk.old) (λ t. HasText t name.now (tree_of d))) }
     ensures told { OnOk result (D.told desk.new ≡ D.told desk.old) }
     ensures stops { IfErr result (λ e. Between (D.told desk.old) (D.told desk.new) (TextStops name.now (ending e))) }
     ensures counted { Counted (D.faults desk.old) (D.faults desk.new) (ending_of result) }
@@ -201,7 +223,7 @@ pub fn checked_in<'a, D: Desk>(
     ensures has { IfOk result (λ c. IfSome (D.told desk.old) (λ t. HasWellFormed lattice.now t name.now (tree_in c))) }
     ensures levels { IfOk result (λ c. levels_in c ≡ lattice.now) }
     ensures told { OnOk result (D.told desk.new ≡ D.told desk.old) }
-    ensures stops { IfErr result (λ e. Between (D.told desk.old) (D.told desk.new) (WellFormedStops lattice.now name.now (ending e))) }
+    ensures stops { IfErr result (λ e. Between (D.told desk.old) (D.told desk.new) (DesignStops lattice.now name.now (ending e))) }
     ensures counted { Counted (D.faults desk.old) (D.faults desk.new) (ending_of result) }
     ensures lost { D.lost desk.new ≡ D.lost desk.old }
     ensures sure { D.sure desk.old → D.sure desk.new }

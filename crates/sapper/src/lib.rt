@@ -3,9 +3,7 @@
 
 mod call;
 mod command;
-mod compiler;
 mod compiling;
-mod early;
 mod failure;
 pub mod fault;
 mod inputs;

@@ -1,41 +1,37 @@
 //! The command `run`.
 
 ghost use Rattle.std.specs.Prelude.{◌≡◌, ◌≢◌, IfOk, IfErr, OnOk, IfSome};
+ghost use Rattle.sap_compile.specs.Parts.{design_of, levels_of, netlist_of};
 ghost use Rattle.sap_desk.specs.Whole.{Between};
 ghost use Rattle.sap_interface.specs.Designs.{StandsForDesign};
 ghost use Rattle.sap_run.specs.RunOf.{IsRunOf};
-ghost use Rattle.sap_tree.specs.Designs.{design_of};
 ghost use Rattle.sapper.specs.Words.{run};
 ghost use Rattle.sapper.specs.Outside.{OutsideOf};
 ghost use Rattle.sapper.specs.Steps.{Counted, Ends, HasOutput, ending, ending_of, last_of};
 
 use crate::failure::Failure;
-use crate::inputs::{bytes_of, compiled_in, lattice_in};
+use crate::inputs::{bytes_of, compiled_in, lattice_bytes_in};
 use crate::output::put;
 use sap_compile::Compiled;
 use sap_desk::Desk;
-use sap_lattice::Lattice;
 use sap_run::run as run_design;
 use sap_sim::Rows;
 use std::alloc::Global;
 
 // The rows of a compiled design's run on the bytes of a stimulus file.
-fn rows_of<'a>(
-    alloc: Global,
-    lattice: &Lattice,
-    compiled: Compiled,
-    stimulus: &[u8],
-) -> Result<Rows, Failure<'a>>
-    requires { StandsForDesign lattice.now (design_of compiled.design) compiled.netlist }
-    ensures rows { IfOk result (λ r. IsRunOf lattice.now (design_of compiled.design) stimulus.now r) }
+fn rows_of<'a>(alloc: Global, compiled: Compiled, stimulus: &[u8]) -> Result<Rows, Failure<'a>>
+    requires { StandsForDesign (levels_of compiled) (design_of compiled) (netlist_of compiled) }
+    ensures rows { IfOk result (λ r. IsRunOf (levels_of compiled) (design_of compiled) stimulus.now r) }
     ensures memory { IfErr result (λ e. e ≡ Failure.Memory) }
 {
-    let Compiled {
-        design,
+    let (checked, netlist) = compiled.into_parts();
+    match run_design(
+        alloc,
+        checked.lattice(),
+        checked.design(),
         netlist,
-        module: _,
-    } = compiled;
-    match run_design(alloc, lattice, &design, netlist, stimulus) {
+        stimulus,
+    ) {
         Ok(rows) => Ok(rows),
         Err(_) => Err(Failure::Memory),
     }
@@ -57,10 +53,10 @@ fn rows_in<'a, D: Desk>(
     ensures sure { D.sure desk.old → D.sure desk.new }
     ensures outside { (D.faults desk.new ≢ D.faults desk.old) → D.sure desk.old → Between (D.told desk.old) (D.told desk.new) (OutsideOf (run lattice.now design.now stimulus.now)) }
 {
-    let levels = lattice_in(alloc, desk, lattice)?;
-    let compiled = compiled_in(alloc, desk, &levels, design)?;
+    let levels = lattice_bytes_in(alloc, desk, lattice)?;
+    let compiled = compiled_in(alloc, desk, levels.as_slice(), design)?;
     let bytes = bytes_of(alloc, desk, stimulus)?;
-    rows_of(alloc, &levels, compiled, bytes.as_slice())
+    rows_of(alloc, compiled, bytes.as_slice())
 }
 
 /// Writes the rows of a design file's run on a stimulus file, over a lattice file.

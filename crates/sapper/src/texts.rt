@@ -142,12 +142,7 @@ pub fn design_text(alloc: Global, fault: &DesignFault) -> Result<Vec<u8>, AllocE
     let mut out = Vec::new(alloc);
     match fault {
         DesignFault::Read(fault) => read(&mut out, alloc, fault)?,
-        DesignFault::Early(at) => {
-            out.extend_from_slice(b"early ")?;
-            place(&mut out, alloc, *at)?;
-        }
         DesignFault::Check(fault) => check(&mut out, alloc, fault)?,
-        DesignFault::Memory => out.extend_from_slice(b"memory")?,
     }
     Ok(out)
 }

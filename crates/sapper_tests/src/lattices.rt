@@ -1,5 +1,6 @@
 //! Lattice files, on both sides of each rule.
 
+use crate::fixture::{COMPILE, words};
 use sap_desk::MemoryDesk;
 use sapper::sapper;
 use std::alloc::{AllocError, Global};
@@ -8,7 +9,7 @@ use std::test::Fail;
 const DESIGN: &[u8] = b"state S enforced low { goto S; }";
 
 // Lattice files, each with the rule that it breaks first, or with nothing where it is accepted.
-static ROWS: [(&str, &str); 29] = [
+static DOCUMENTS: [(&str, &str); 15] = [
     ("levels", "L1"),
     (
         "levels = [\"low\", \"high\"]\nbelow = [[\"low\", \"high\"]]\n= 1",
@@ -45,6 +46,9 @@ static ROWS: [(&str, &str); 29] = [
         "levels = [\"low\", \"b\", \"c\", \"d\", \"e\", \"f\", \"g\", \"h\", \"i\", \"j\", \"k\", \"l\", \"m\", \"n\", \"o\", \"p\", \"low\"]\nbelow = []\n",
         "L3 17",
     ),
+];
+
+static NAMES_AND_ORDERS: [(&str, &str); 14] = [
     (
         "levels = [\"low\", \"2x\"]\nbelow = [[\"low\", \"2x\"]]\n",
         "L4 2",
@@ -100,17 +104,9 @@ static ROWS: [(&str, &str); 29] = [
     ),
 ];
 
-fn words(alloc: Global) -> Result<Vec<String>, AllocError> {
-    let mut words = Vec::new(alloc);
-    for word in ["compile", "L", "D", "O"] {
-        words.push(String::from_str(alloc, word)?)?;
-    }
-    Ok(words)
-}
-
 /// The status and the fault line of compiling over a lattice file.
 fn compiled(alloc: Global, lattice: &[u8]) -> Result<(u8, Vec<u8>), AllocError> {
-    let words = words(alloc)?;
+    let words = words(alloc, COMPILE)?;
     let mut desk = MemoryDesk::new(alloc, 10_000)?;
     desk.put_file("L", lattice)?;
     desk.put_file("D", DESIGN)?;
@@ -119,20 +115,38 @@ fn compiled(alloc: Global, lattice: &[u8]) -> Result<(u8, Vec<u8>), AllocError> 
     Ok((status, line))
 }
 
-#[test]
-fn each_rule_of_a_lattice_file(rt: HostRuntime) -> Result<(), Fail> {
-    let alloc = rt.alloc();
-    for (lattice, rule) in &ROWS {
-        let (status, line) = compiled(alloc, lattice.as_bytes())?;
-        if rule.is_empty() {
-            assert_eq!(rt; status, 0, "{lattice}");
-            assert_eq!(rt; line.as_slice(), b"".as_slice(), "{lattice}");
-        } else {
-            let expected = format!(in alloc; "lattice: {rule}\n")?;
-            assert_eq!(rt; status, 3, "{lattice}");
-            assert_eq!(rt; line.as_slice(), expected.as_bytes(), "{lattice}");
+fn is_as_said(alloc: Global, lattice: &str, rule: &str) -> Result<bool, AllocError> {
+    let (status, line) = compiled(alloc, lattice.as_bytes())?;
+    if rule.is_empty() {
+        Ok(status == 0 && line.is_empty())
+    } else {
+        let expected = format!(in alloc; "lattice: {rule}\n")?;
+        Ok(status == 3 && line.as_slice() == expected.as_bytes())
+    }
+}
+
+/// The first lattice file that is judged otherwise than its row says; none where all are judged so.
+fn first_wrong(
+    alloc: Global,
+    rows: &'static [(&'static str, &'static str)],
+) -> Result<&'static str, AllocError> {
+    for (lattice, rule) in rows {
+        if !is_as_said(alloc, lattice, rule)? {
+            return Ok(*lattice);
         }
     }
+    Ok("none")
+}
+
+#[test]
+fn a_lattice_file_lists_levels_and_pairs(rt: HostRuntime) -> Result<(), Fail> {
+    assert_eq!(rt; first_wrong(rt.alloc(), &DOCUMENTS)?, "none");
+    Ok(())
+}
+
+#[test]
+fn levels_have_names_and_an_order(rt: HostRuntime) -> Result<(), Fail> {
+    assert_eq!(rt; first_wrong(rt.alloc(), &NAMES_AND_ORDERS)?, "none");
     Ok(())
 }
 

@@ -1,22 +1,10 @@
 //! What `run`, `fmt`, `sim` and `report` write, by rows.
 
+use crate::fixture::{ADDS_ONE, COMPILE, DIAMOND, FMT, PENTAGON, REPORT, RUN, TWO, desk, words};
 use sap_desk::MemoryDesk;
 use sapper::sapper;
 use std::alloc::{AllocError, Global};
 use std::test::Fail;
-
-const ROOM: usize = 100_000;
-
-const TWO: &str = "levels = [\"low\", \"high\"]\nbelow = [[\"low\", \"high\"]]\n";
-
-const DIAMOND: &str =
-    "levels = [\"low\", \"a\", \"b\", \"high\"]\nbelow = [[\"low\", \"a\"], [\"low\", \"b\"], [\"a\", \"high\"], [\"b\", \"high\"]]\n";
-
-const PENTAGON: &str =
-    "levels = [\"bot\", \"p\", \"q\", \"r\", \"top\"]\nbelow = [[\"bot\", \"p\"], [\"p\", \"q\"], [\"q\", \"top\"], [\"bot\", \"r\"], [\"r\", \"top\"]]\n";
-
-const ADDS_ONE: &str =
-    "input a : 8; reg x : 8 dynamic;\nstate S enforced low { x := a + 1; goto S; }\n";
 
 struct Row {
     words: &'static [&'static str],
@@ -28,107 +16,7 @@ struct Row {
     line: &'static str,
 }
 
-const RUN: &[&str] = &["run", "L", "D", "S"];
-
-const FMT: &[&str] = &["fmt", "D"];
-
-const REPORT: &[&str] = &["report", "L", "D"];
-
-static ROWS: [Row; 27] = [
-    Row {
-        words: RUN,
-        lattice: TWO,
-        design: ADDS_ONE,
-        stimulus: "5@low\n255@high\n",
-        status: 0,
-        output: "cycle 1: x=6@low\ncycle 2: x=0@high\n",
-        line: "",
-    },
-    // a write that would raise an enforced register is refused
-    Row {
-        words: RUN,
-        lattice: TWO,
-        design: "input a : 8; reg y : 8 enforced low = 7;\nstate S enforced low { y := a; goto S; }\n",
-        stimulus: "5@high\n5@low\n",
-        status: 0,
-        output: "cycle 1: y=7@low\ncycle 2: y=5@low\n",
-        line: "",
-    },
-    Row {
-        words: RUN,
-        lattice: TWO,
-        design: "input a : 8; input b : 8; reg y : 8 enforced low = 3;\nstate S enforced low { y := a & b; goto S; }\n",
-        stimulus: "6@low 3@high\n6@low 3@low\n",
-        status: 0,
-        output: "cycle 1: y=3@low\ncycle 2: y=2@low\n",
-        line: "",
-    },
-    // a sum goes round, and a shift by the width or more gives 0
-    Row {
-        words: RUN,
-        lattice: TWO,
-        design: "reg x : 64 dynamic = 18446744073709551615;\nstate S enforced low { x := x + 1; goto S; }\n",
-        stimulus: "\n",
-        status: 0,
-        output: "cycle 1: x=0@low\n",
-        line: "",
-    },
-    Row {
-        words: RUN,
-        lattice: TWO,
-        design: "input a : 8; reg x : 8 dynamic;\nstate S enforced low { x := a >> 9; goto S; }\n",
-        stimulus: "255@low\n",
-        status: 0,
-        output: "cycle 1: x=0@low\n",
-        line: "",
-    },
-    Row {
-        words: RUN,
-        lattice: TWO,
-        design: "input a : 8; reg x : 8 dynamic; reg y : 8 dynamic;\nstate S enforced low { x := {a[3:0], 4'd9}; y := -a; goto S; }\n",
-        stimulus: "171@low\n",
-        status: 0,
-        output: "cycle 1: x=185@low y=85@low\n",
-        line: "",
-    },
-    // a join of two levels that neither is above
-    Row {
-        words: RUN,
-        lattice: DIAMOND,
-        design: "input a : 8; input c : 8; reg x : 8 dynamic;\nstate S enforced low { x := a + c; goto S; }\n",
-        stimulus: "1@a 2@b\n",
-        status: 0,
-        output: "cycle 1: x=3@high\n",
-        line: "",
-    },
-    // no lines, a line without its end, and a value that is too large
-    Row {
-        words: RUN,
-        lattice: TWO,
-        design: ADDS_ONE,
-        stimulus: "",
-        status: 0,
-        output: "",
-        line: "",
-    },
-    Row {
-        words: RUN,
-        lattice: TWO,
-        design: ADDS_ONE,
-        stimulus: "5@low",
-        status: 4,
-        output: "",
-        line: "stimulus 1: S5 line 1\n",
-    },
-    Row {
-        words: RUN,
-        lattice: TWO,
-        design: ADDS_ONE,
-        stimulus: "5@low\n256@low\n",
-        status: 4,
-        output: "cycle 1: x=6@low\n",
-        line: "stimulus 1: S2 line 2\n",
-    },
+static REFUSED_RUNS: [Row; 4] = [
     // files are refused in the order of the words
     Row {
         words: RUN,
@@ -166,6 +54,9 @@ static ROWS: [Row; 27] = [
         output: "",
         line: "desk: N\n",
     },
+];
+
+static TEXTS: [Row; 4] = [
     // the canonical text, with parentheses only where they are needed
     Row {
         words: FMT,
@@ -176,7 +67,7 @@ static ROWS: [Row; 27] = [
         output: "input a : 8;\nreg x : 8 dynamic;\nstate S enforced low {\n  x := a + 1 & (a | x);\n  goto S;\n}\n",
         line: "",
     },
-    // a design that isn't compiled yet
+    // a block gets lines of its own
     Row {
         words: FMT,
         lattice: "",
@@ -204,7 +95,9 @@ static ROWS: [Row; 27] = [
         output: "",
         line: "desk: N\n",
     },
-    // reports, of designs that aren't compiled yet too
+];
+
+static REPORTS: [Row; 9] = [
     Row {
         words: REPORT,
         lattice: DIAMOND,
@@ -289,40 +182,54 @@ static ROWS: [Row; 27] = [
     },
 ];
 
-fn words(alloc: Global, list: &[&str]) -> Result<Vec<String>, AllocError> {
-    let mut words = Vec::new(alloc);
-    for word in list {
-        words.push(String::from_str(alloc, word)?)?;
-    }
-    Ok(words)
+fn files<'a>(
+    alloc: Global,
+    lattice: &'a str,
+    design: &'a str,
+    stimulus: &'a str,
+) -> Result<MemoryDesk, AllocError> {
+    desk(alloc, &[("L", lattice), ("D", design), ("S", stimulus)])
 }
 
-fn desk(
-    alloc: Global,
-    lattice: &str,
-    design: &str,
-    stimulus: &str,
-) -> Result<MemoryDesk, AllocError> {
-    let mut desk = MemoryDesk::new(alloc, ROOM)?;
-    desk.put_file("L", lattice.as_bytes())?;
-    desk.put_file("D", design.as_bytes())?;
-    desk.put_file("S", stimulus.as_bytes())?;
-    Ok(desk)
+fn answers_as_said(alloc: Global, row: &Row) -> Result<bool, AllocError> {
+    let words = words(alloc, row.words)?;
+    let mut desk = files(alloc, row.lattice, row.design, row.stimulus)?;
+    let status = sapper(alloc, &words, &mut desk);
+    Ok(
+        status == row.status
+            && desk.output() == row.output.as_bytes()
+            && desk.fault_text() == row.line.as_bytes()
+            && desk.file("L") == Some(row.lattice.as_bytes())
+            && desk.file("D") == Some(row.design.as_bytes())
+            && desk.file("S") == Some(row.stimulus.as_bytes()),
+    )
+}
+
+/// The place of the first call that answers otherwise than its row says.
+fn first_wrong(alloc: Global, rows: &[Row]) -> Result<Option<usize>, AllocError> {
+    for (place, row) in rows.iter().enumerate() {
+        if !answers_as_said(alloc, row)? {
+            return Ok(Some(place));
+        }
+    }
+    Ok(None)
 }
 
 #[test]
-fn writes_what_the_files_ask_for(rt: HostRuntime) -> Result<(), Fail> {
-    let alloc = rt.alloc();
-    for (row, case) in ROWS.iter().enumerate() {
-        let words = words(alloc, case.words)?;
-        let mut desk = desk(alloc, case.lattice, case.design, case.stimulus)?;
-        assert_eq!(rt; sapper(alloc, &words, &mut desk), case.status, "row {row}");
-        assert_eq!(rt; desk.output(), case.output.as_bytes(), "row {row}");
-        assert_eq!(rt; desk.fault_text(), case.line.as_bytes(), "row {row}");
-        assert_eq!(rt; desk.file("L"), Some(case.lattice.as_bytes()), "row {row}");
-        assert_eq!(rt; desk.file("D"), Some(case.design.as_bytes()), "row {row}");
-        assert_eq!(rt; desk.file("S"), Some(case.stimulus.as_bytes()), "row {row}");
-    }
+fn a_run_refuses_its_files(rt: HostRuntime) -> Result<(), Fail> {
+    assert_eq!(rt; first_wrong(rt.alloc(), &REFUSED_RUNS)?, None);
+    Ok(())
+}
+
+#[test]
+fn fmt_writes_the_canonical_text(rt: HostRuntime) -> Result<(), Fail> {
+    assert_eq!(rt; first_wrong(rt.alloc(), &TEXTS)?, None);
+    Ok(())
+}
+
+#[test]
+fn report_writes_what_hangs(rt: HostRuntime) -> Result<(), Fail> {
+    assert_eq!(rt; first_wrong(rt.alloc(), &REPORTS)?, None);
     Ok(())
 }
 
@@ -352,7 +259,7 @@ fn refuses_words(rt: HostRuntime) -> Result<(), Fail> {
     let alloc = rt.alloc();
     for list in &NO_COMMANDS {
         let words = words(alloc, list)?;
-        let mut desk = desk(alloc, TWO, ADDS_ONE, "5@low\n")?;
+        let mut desk = files(alloc, TWO, ADDS_ONE, "5@low\n")?;
         assert_eq!(rt; sapper(alloc, &words, &mut desk), 2);
         assert_eq!(rt; desk.fault_text(), b"words\n".as_slice());
         assert_eq!(rt; desk.output(), b"".as_slice());
@@ -382,7 +289,7 @@ fn each_call_of_a_run_fails_in_turn(rt: HostRuntime) -> Result<(), Fail> {
     let alloc = rt.alloc();
     let words = words(alloc, RUN)?;
     for (before, line) in BLAMED.iter().enumerate() {
-        let mut desk = desk(alloc, TWO, ADDS_ONE, "5@low\n255@high\n")?;
+        let mut desk = files(alloc, TWO, ADDS_ONE, "5@low\n255@high\n")?;
         desk.fail_at(before as u64 + 1)?;
         assert_eq!(rt; sapper(alloc, &words, &mut desk), 6, "call {before}");
         assert_eq!(rt; desk.fault_text(), line.as_bytes(), "call {before}");
@@ -402,7 +309,7 @@ fn each_call_of_a_report_fails_in_turn(rt: HostRuntime) -> Result<(), Fail> {
     let alloc = rt.alloc();
     let words = words(alloc, REPORT)?;
     for before in 0..9_usize {
-        let mut desk = desk(alloc, TWO, "state S enforced low { goto S; }", "")?;
+        let mut desk = files(alloc, TWO, "state S enforced low { goto S; }", "")?;
         desk.fail_at(before as u64 + 1)?;
         assert_eq!(rt; sapper(alloc, &words, &mut desk), 6, "call {before}");
         let (line, cut) = if before < 8 {
@@ -532,39 +439,30 @@ static MODULES: [Module; 12] = [
     },
 ];
 
-#[test]
-fn simulates_modules(rt: HostRuntime) -> Result<(), Fail> {
-    let alloc = rt.alloc();
+fn simulates_as_said(alloc: Global, row: &Module) -> Result<bool, AllocError> {
     let words = words(alloc, &["sim", "L", "D", "S"])?;
-    for (row, case) in MODULES.iter().enumerate() {
-        let mut desk = desk(alloc, case.lattice, case.text, case.stimulus)?;
-        let status = sapper(alloc, &words, &mut desk);
-        assert_eq!(rt; desk.fault_text(), case.line.as_bytes(), "module {row}");
-        assert_eq!(rt; status, case.status, "module {row}");
-        assert_eq!(rt; desk.output(), case.output.as_bytes(), "module {row}");
-    }
-    Ok(())
+    let mut desk = files(alloc, row.lattice, row.text, row.stimulus)?;
+    let status = sapper(alloc, &words, &mut desk);
+    Ok(
+        status == row.status
+            && desk.fault_text() == row.line.as_bytes()
+            && desk.output() == row.output.as_bytes(),
+    )
 }
 
-// The first ten rows are runs of designs that compile.
-const COMPILED: usize = 10;
+/// The place of the first module that is simulated otherwise than its row says.
+fn first_wrong_module(alloc: Global, rows: &[Module]) -> Result<Option<usize>, AllocError> {
+    for (place, row) in rows.iter().enumerate() {
+        if !simulates_as_said(alloc, row)? {
+            return Ok(Some(place));
+        }
+    }
+    Ok(None)
+}
 
 #[test]
-fn a_written_module_has_the_rows_of_its_design(rt: HostRuntime) -> Result<(), Fail> {
-    let alloc = rt.alloc();
-    let compile = words(alloc, &["compile", "L", "D", "O"])?;
-    let simulate = words(alloc, &["sim", "L", "O", "S"])?;
-    for (row, case) in ROWS.iter().take(COMPILED).enumerate() {
-        let mut desk = desk(alloc, case.lattice, case.design, case.stimulus)?;
-        assert_eq!(rt; sapper(alloc, &compile, &mut desk), 0, "row {row}");
-        assert_eq!(rt;
-            sapper(alloc, &simulate, &mut desk),
-            case.status,
-            "row {row}"
-        );
-        assert_eq!(rt; desk.output(), case.output.as_bytes(), "row {row}");
-        assert_eq!(rt; desk.fault_text(), case.line.as_bytes(), "row {row}");
-    }
+fn simulates_modules(rt: HostRuntime) -> Result<(), Fail> {
+    assert_eq!(rt; first_wrong_module(rt.alloc(), &MODULES)?, None);
     Ok(())
 }
 
@@ -591,9 +489,9 @@ fn sums(text: &[u8]) -> usize {
 #[test]
 fn an_expression_is_built_once(rt: HostRuntime) -> Result<(), Fail> {
     let alloc = rt.alloc();
-    let compile = words(alloc, &["compile", "L", "D", "O"])?;
+    let compile = words(alloc, COMPILE)?;
     for (row, (design, found)) in SUMS.iter().enumerate() {
-        let mut desk = desk(alloc, TWO, design, "")?;
+        let mut desk = files(alloc, TWO, design, "")?;
         assert_eq!(rt; sapper(alloc, &compile, &mut desk), 0, "row {row}");
         assert_eq!(rt; sums(desk.file("O").unwrap_or(b"")), *found, "row {row}");
     }

@@ -1,6 +1,6 @@
 use Rattle.std.proofs.Common.{◌≡◌, rules}
 use Rattle.std.specs.Prelude.{Err}
-use Rattle.sapper.specs.Steps.{WellFormedEnds}
+use Rattle.sapper.specs.Steps.{DesignEnds}
 use Rattle.sapper.proofs.Lattices.{on_ok, stops_unread}
 use Rattle.sapper.proofs.CheckedDesigns.{checked_counts, checked_has, checked_levels, checked_stops}
 use Rattle.sapper.proofs.inputs.checked_in.Goals as goal
@@ -8,7 +8,7 @@ use Rattle.sapper.proofs.inputs.checked_in.Goals as goal
 pub returns-in_err-bytes-clause-stops : goal.returns-in_err-bytes-clause-stops
 returns-in_err-bytes-clause-stops g c =
     let is : c.from_residual.result ≡ Err c.in_err-bytes.field-0.0 = search rules in
-    rw is (stops_unread (λ t. WellFormedEnds c.args.lattice.now t c.args.name.now) _ _ _ c.in_err-bytes.ensures.stops)
+    rw is (stops_unread (λ t. DesignEnds c.args.lattice.now t c.args.name.now) _ _ _ c.in_err-bytes.ensures.stops)
 
 pub returns-clause-has : goal.returns-clause-has
 returns-clause-has g c =

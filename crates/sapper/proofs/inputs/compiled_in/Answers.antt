@@ -1,14 +1,17 @@
 use Rattle.std.proofs.Common.{◌≡◌, rules}
 use Rattle.std.specs.Prelude.{Err}
-use Rattle.sapper.specs.Steps.{DesignEnds}
+use Rattle.sapper.specs.Steps.{CompileEnds}
 use Rattle.sapper.proofs.Lattices.{on_ok, stops_unread}
-use Rattle.sapper.proofs.Designs.{design_counts, design_has, design_stands, design_stops}
+use Rattle.sapper.proofs.Designs.{design_counts, design_has, design_levels, design_stands, design_stops}
 use Rattle.sapper.proofs.inputs.compiled_in.Goals as goal
 
 pub returns-in_err-bytes-clause-stops : goal.returns-in_err-bytes-clause-stops
 returns-in_err-bytes-clause-stops g c =
     let is : c.from_residual.result ≡ Err c.in_err-bytes.field-0.0 = search rules in
-    rw is (stops_unread (λ t. DesignEnds c.args.lattice.now t c.args.name.now) _ _ _ c.in_err-bytes.ensures.stops)
+    rw is (stops_unread (λ t. CompileEnds c.args.lattice.now t c.args.name.now) _ _ _ c.in_err-bytes.ensures.stops)
+
+pub returns-clause-levels : goal.returns-clause-levels
+returns-clause-levels g c = design_levels c.args.lattice.now c.as_slice.result.now c.compiled_from.result c.compiled_from.ensures
 
 pub returns-clause-has : goal.returns-clause-has
 returns-clause-has g c =

@@ -1,0 +1,274 @@
+//! Designs with the rows of their runs, by `run`, and by `compile` and then `sim`.
+
+use crate::fixture::{ADDS_ONE, COMPILE, DIAMOND, RUN, SIMULATE, TWO, desk, words};
+use sap_desk::MemoryDesk;
+use sapper::sapper;
+use std::alloc::{AllocError, Global};
+use std::test::Fail;
+
+// Two dynamic states: what leads from one to the other is seen in the state's tag.
+const TWO_STATES: &str =
+    "input a : 8;\nreg x : 8 dynamic;\nstate S dynamic { x := 0; if (a == 1) { goto T; } else { goto S; } }\nstate T dynamic { x := 1; goto T; }\n";
+
+/// A run whose stimulus has no fault, or the one of this line.
+struct Run {
+    lattice: &'static str,
+    design: &'static str,
+    stimulus: &'static str,
+    rows: &'static str,
+    line: &'static str,
+}
+
+static VALUES: [Run; 10] = [
+    Run {
+        lattice: TWO,
+        design: ADDS_ONE,
+        stimulus: "5@low\n255@high\n",
+        rows: "cycle 1: x=6@low\ncycle 2: x=0@high\n",
+        line: "",
+    },
+    // a write that would raise an enforced register is refused
+    Run {
+        lattice: TWO,
+        design: "input a : 8; reg y : 8 enforced low = 7;\nstate S enforced low { y := a; goto S; }\n",
+        stimulus: "5@high\n5@low\n",
+        rows: "cycle 1: y=7@low\ncycle 2: y=5@low\n",
+        line: "",
+    },
+    Run {
+        lattice: TWO,
+        design: "input a : 8; input b : 8; reg y : 8 enforced low = 3;\nstate S enforced low { y := a & b; goto S; }\n",
+        stimulus: "6@low 3@high\n6@low 3@low\n",
+        rows: "cycle 1: y=3@low\ncycle 2: y=2@low\n",
+        line: "",
+    },
+    // a sum goes round, and a shift by the width or more gives 0
+    Run {
+        lattice: TWO,
+        design: "reg x : 64 dynamic = 18446744073709551615;\nstate S enforced low { x := x + 1; goto S; }\n",
+        stimulus: "\n",
+        rows: "cycle 1: x=0@low\n",
+        line: "",
+    },
+    Run {
+        lattice: TWO,
+        design: "input a : 8; reg x : 8 dynamic;\nstate S enforced low { x := a >> 9; goto S; }\n",
+        stimulus: "255@low\n",
+        rows: "cycle 1: x=0@low\n",
+        line: "",
+    },
+    Run {
+        lattice: TWO,
+        design: "input a : 8; reg x : 8 dynamic; reg y : 8 dynamic;\nstate S enforced low { x := {a[3:0], 4'd9}; y := -a; goto S; }\n",
+        stimulus: "171@low\n",
+        rows: "cycle 1: x=185@low y=85@low\n",
+        line: "",
+    },
+    // a join of two levels that neither is above
+    Run {
+        lattice: DIAMOND,
+        design: "input a : 8; input c : 8; reg x : 8 dynamic;\nstate S enforced low { x := a + c; goto S; }\n",
+        stimulus: "1@a 2@b\n",
+        rows: "cycle 1: x=3@high\n",
+        line: "",
+    },
+    // no lines, a line without its end, and a value that is too large
+    Run {
+        lattice: TWO,
+        design: ADDS_ONE,
+        stimulus: "",
+        rows: "",
+        line: "",
+    },
+    Run {
+        lattice: TWO,
+        design: ADDS_ONE,
+        stimulus: "5@low",
+        rows: "",
+        line: "stimulus 1: S5 line 1\n",
+    },
+    Run {
+        lattice: TWO,
+        design: ADDS_ONE,
+        stimulus: "5@low\n256@low\n",
+        rows: "cycle 1: x=6@low\n",
+        line: "stimulus 1: S2 line 2\n",
+    },
+];
+
+static STATES_AND_TAGS: [Run; 13] = [
+    // a handler in place of a refused write
+    Run {
+        lattice: TWO,
+        design: "input a : 8; reg y : 8 enforced low = 7;\nstate S enforced low { y := a otherwise { y := 9; } goto S; }\n",
+        stimulus: "5@high\n",
+        rows: "cycle 1: y=9@low\n",
+        line: "",
+    },
+    // a branch that isn't taken raises what it writes
+    Run {
+        lattice: TWO,
+        design: "input a : 8; reg x : 8 dynamic;\nstate S enforced low { if (a == 1) { x := 1; } goto S; }\n",
+        stimulus: "0@high\n",
+        rows: "cycle 1: x=0@high\n",
+        line: "",
+    },
+    // a lowered tag clears the value, and a raised one keeps it
+    Run {
+        lattice: TWO,
+        design: "input a : 8; reg z : 8 enforced high = 3;\nstate S enforced low { z := a; setTag(z, low); goto S; }\n",
+        stimulus: "5@high\n6@high\n",
+        rows: "cycle 1: z=0@low\ncycle 2: z=0@low\n",
+        line: "",
+    },
+    Run {
+        lattice: TWO,
+        design: "input a : 8; reg z : 8 enforced low = 3;\nstate S enforced low { setTag(z, level(a)); goto S; }\n",
+        stimulus: "7@low\n0@low\n1@high\n",
+        rows: "cycle 1: z=3@high\ncycle 2: z=0@low\ncycle 3: z=0@low\n",
+        line: "",
+    },
+    // a `goto` from low to high under a high condition is refused
+    Run {
+        lattice: TWO,
+        design: "input a : 8; reg x : 8 dynamic;\nstate S enforced low { x := 1; if (a == 1) { goto T; } else { goto S; } }\nstate T enforced high { x := 2; goto T; }\n",
+        stimulus: "1@high\n0@low\n",
+        rows: "cycle 1: x=1@low\ncycle 2: x=1@low\n",
+        line: "",
+    },
+    Run {
+        lattice: TWO,
+        design: TWO_STATES,
+        stimulus: "1@high\n0@low\n",
+        rows: "cycle 1: x=0@low\ncycle 2: x=1@high\n",
+        line: "",
+    },
+    Run {
+        lattice: TWO,
+        design: TWO_STATES,
+        stimulus: "0@high\n0@low\n",
+        rows: "cycle 1: x=0@low\ncycle 2: x=0@high\n",
+        line: "",
+    },
+    // a `fall` into an enforced child under a high condition is refused
+    Run {
+        lattice: TWO,
+        design: "input a : 8; reg x : 8 dynamic;\nstate P enforced low {\n  if (a == 1) { fall; } else { fall; }\n  state C enforced low { x := 1; goto C; }\n}\n",
+        stimulus: "1@high\n1@low\n",
+        rows: "cycle 1: x=0@high\ncycle 2: x=1@low\n",
+        line: "",
+    },
+    // a state that is entered begins with its first child
+    Run {
+        lattice: TWO,
+        design: "input a : 8; reg x : 8 dynamic;\nstate P enforced low {\n  if (a == 1) { goto Q; } else { fall; }\n  state C1 enforced low { x := 1; goto C2; }\n  state C2 enforced low { x := 2; goto C2; }\n}\nstate Q enforced low { x := 9; goto P; }\n",
+        stimulus: "0@low\n0@low\n1@low\n0@low\n0@low\n",
+        rows: "cycle 1: x=1@low\ncycle 2: x=2@low\ncycle 3: x=2@low\ncycle 4: x=9@low\ncycle 5: x=1@low\n",
+        line: "",
+    },
+    // a dynamic memory, read as the cycle began, and an enforced one
+    Run {
+        lattice: TWO,
+        design: "input a : 2; input b : 2; mem m : 8[4] dynamic; reg x : 8 dynamic;\nstate S enforced low { m[a] := 5; x := m[b]; goto S; }\n",
+        stimulus: "1@high 1@low\n1@high 1@low\n",
+        rows: "cycle 1: x=0@low\ncycle 2: x=5@high\n",
+        line: "",
+    },
+    Run {
+        lattice: TWO,
+        design: "input a : 2; mem k : 8[4] enforced low; reg y : 8 enforced low;\nstate S enforced low { k[a] := 1 otherwise { y := 9; } goto S; }\n",
+        stimulus: "3@high\n",
+        rows: "cycle 1: y=0@low\n",
+        line: "",
+    },
+    // an authority that isn't above the new level
+    Run {
+        lattice: DIAMOND,
+        design: "reg q : 8 enforced high under a = 4;\nstate S enforced low { setTag(q, b); goto S; }\n",
+        stimulus: "\n",
+        rows: "cycle 1: q=4@high\n",
+        line: "",
+    },
+    // one write to a memory on each branch
+    Run {
+        lattice: TWO,
+        design: "input a : 1;\nmem m : 8[4] dynamic;\nstate S enforced low {\n  if (a) { m[0] := 1; } else { m[1] := 2; }\n  goto S;\n}\n",
+        stimulus: "",
+        rows: "",
+        line: "",
+    },
+];
+
+fn files(alloc: Global, run: &Run) -> Result<MemoryDesk, AllocError> {
+    desk(
+        alloc,
+        &[("L", run.lattice), ("D", run.design), ("S", run.stimulus)],
+    )
+}
+
+fn is_shown(run: &Run, status: u8, desk: &MemoryDesk) -> bool {
+    let expected = if run.line.is_empty() { 0 } else { 4 };
+    status == expected
+        && desk.fault_text() == run.line.as_bytes()
+        && desk.output() == run.rows.as_bytes()
+}
+
+fn runs_as_said(alloc: Global, run: &Run) -> Result<bool, AllocError> {
+    let words = words(alloc, RUN)?;
+    let mut desk = files(alloc, run)?;
+    let status = sapper(alloc, &words, &mut desk);
+    Ok(is_shown(run, status, &desk))
+}
+
+fn module_runs_as_said(alloc: Global, run: &Run) -> Result<bool, AllocError> {
+    let compile = words(alloc, COMPILE)?;
+    let simulate = words(alloc, SIMULATE)?;
+    let mut desk = files(alloc, run)?;
+    let compiled = sapper(alloc, &compile, &mut desk);
+    let status = sapper(alloc, &simulate, &mut desk);
+    Ok(compiled == 0 && is_shown(run, status, &desk))
+}
+
+/// The place of the first run that is otherwise than said.
+fn first_wrong(alloc: Global, runs: &[Run]) -> Result<Option<usize>, AllocError> {
+    for (place, run) in runs.iter().enumerate() {
+        if !runs_as_said(alloc, run)? {
+            return Ok(Some(place));
+        }
+    }
+    Ok(None)
+}
+
+/// The same for the modules that are written.
+fn first_wrong_module(alloc: Global, runs: &[Run]) -> Result<Option<usize>, AllocError> {
+    for (place, run) in runs.iter().enumerate() {
+        if !module_runs_as_said(alloc, run)? {
+            return Ok(Some(place));
+        }
+    }
+    Ok(None)
+}
+
+#[test]
+fn values_are_computed(rt: HostRuntime) -> Result<(), Fail> {
+    assert_eq!(rt; first_wrong(rt.alloc(), &VALUES)?, None);
+    Ok(())
+}
+
+#[test]
+fn states_and_tags_step(rt: HostRuntime) -> Result<(), Fail> {
+    assert_eq!(rt; first_wrong(rt.alloc(), &STATES_AND_TAGS)?, None);
+    Ok(())
+}
+
+#[test]
+fn written_modules_compute_values(rt: HostRuntime) -> Result<(), Fail> {
+    assert_eq!(rt; first_wrong_module(rt.alloc(), &VALUES)?, None);
+    Ok(())
+}
+
+#[test]
+fn written_modules_step_states_and_tags(rt: HostRuntime) -> Result<(), Fail> {
+    assert_eq!(rt; first_wrong_module(rt.alloc(), &STATES_AND_TAGS)?, None);
+    Ok(())
+}
