@@ -67,6 +67,40 @@ state S enforced low {
     Ok(())
 }
 
+fn two_gotos(checked: &Checked) -> bool {
+    checked.site_count() == 2
+        && *checked.site(1)
+            == Site {
+                place: at(3, 3),
+                kind: SiteKind::Goto,
+                entity: 1,
+            }
+        && *checked.site(2)
+            == Site {
+                place: at(4, 48),
+                kind: SiteKind::Goto,
+                entity: 2,
+            }
+}
+
+// The body of C writes m twice, and no path comes to it.
+#[test]
+fn takes_writes_that_no_path_comes_to(rt: HostRuntime) -> Result<(), Fail> {
+    let lattice = two_levels(rt.alloc())?;
+    let text = b"mem m : 8[4] dynamic;
+state P enforced low {
+  goto P;
+  state C enforced low { m[0] := 1; m[1] := 2; goto C; }
+}
+";
+    let design = parse(rt.alloc(), text.as_slice())?;
+    match check(rt.alloc(), design, &lattice) {
+        Ok(checked) => assert!(rt; two_gotos(&checked)),
+        Err(_) => assert!(rt; false),
+    }
+    Ok(())
+}
+
 #[test]
 fn hands_a_faulty_design_back(rt: HostRuntime) -> Result<(), Fail> {
     let lattice = two_levels(rt.alloc())?;

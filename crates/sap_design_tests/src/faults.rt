@@ -477,7 +477,7 @@ static CLOSING: [(u8, &str); 14] = [
     (12, "state S enforced low { @fall; }"),
 ];
 
-static PATHS: [(u8, &str); 17] = [
+static PATHS: [(u8, &str); 16] = [
     // a memory written twice on a path
     (
         14,
@@ -503,6 +503,52 @@ static PATHS: [(u8, &str); 17] = [
         14,
         "input a : 8; input b : 4; input c : 1; reg x : 8 dynamic; reg y : 8 enforced low; mem m : 8[4] dynamic; state S enforced low { m[0] := 1; fall; state T enforced low { @m[1] := 2; goto T; } }",
     ),
+    (
+        14,
+        "input c : 1; mem m : 8[4] dynamic; state S enforced low { if (c) { } else { m[0] := 1; } @m[1] := 2; goto S; }",
+    ),
+    (
+        14,
+        "input c : 1; mem m : 8[4] dynamic; state S enforced low { if (c) { m[0] := 1; } else { m[1] := 2; } @m[2] := 3; goto S; }",
+    ),
+    (
+        14,
+        "input c : 1; mem m : 8[4] dynamic; state S enforced low { m[0] := 1; if (c) { } else { @m[1] := 2; } goto S; }",
+    ),
+    // in the second child, and in a child of a child
+    (
+        14,
+        "mem m : 8[4] dynamic; state P enforced low { m[0] := 1; fall; state C enforced low { goto C; } state D enforced low { @m[1] := 2; goto D; } }",
+    ),
+    (
+        14,
+        "mem m : 8[4] dynamic; state P enforced low { m[0] := 1; fall; state C enforced low { fall; state D enforced low { @m[1] := 2; goto D; } } }",
+    ),
+    // a refused fall has entered no child before its handler, and a fall in the handler enters one behind it
+    (
+        14,
+        "mem m : 8[4] dynamic; state P enforced low { m[0] := 1; fall otherwise { @m[1] := 2; goto P; } state C enforced low { goto C; } }",
+    ),
+    (
+        0,
+        "mem m : 8[4] dynamic; state P enforced low { fall otherwise { m[0] := 1; goto P; } state C enforced low { m[1] := 2; goto C; } }",
+    ),
+    (
+        14,
+        "mem m : 8[4] dynamic; state P enforced low { fall otherwise { m[0] := 1; fall; } state C enforced low { @m[1] := 2; goto C; } }",
+    ),
+    // no path enters the children of a state without a fall
+    (
+        0,
+        "mem m : 8[4] dynamic; state P enforced low { goto P; state C enforced low { m[0] := 1; m[1] := 2; goto C; } }",
+    ),
+    (
+        0,
+        "mem m : 8[4] dynamic; state P enforced low { m[0] := 1; goto P; state C enforced low { m[0] := 1; fall; state D enforced low { m[1] := 2; goto D; } } }",
+    ),
+];
+
+static HANDLERS: [(u8, &str); 17] = [
     // a handler that can never run
     (
         15,
@@ -515,6 +561,28 @@ static PATHS: [(u8, &str); 17] = [
     (
         15,
         "input a : 8; input b : 4; input c : 1; reg x : 8 dynamic; reg y : 8 enforced low; mem m : 8[4] dynamic; state S enforced low { m[0] := 1 @otherwise { } goto S; }",
+    ),
+    // a goto between dynamic states, and one with an enforced state on either side
+    (
+        15,
+        "state S dynamic { goto T @otherwise { goto S; } } state T dynamic { goto T; }",
+    ),
+    (
+        0,
+        "state S enforced low { goto T otherwise { goto S; } } state T dynamic { goto T; }",
+    ),
+    (
+        0,
+        "state S dynamic { goto T otherwise { goto S; } } state T enforced low { goto T; }",
+    ),
+    // a fall with dynamic children only, and one with an enforced child
+    (
+        15,
+        "state S enforced low { fall @otherwise { goto S; } state T dynamic { goto T; } state U dynamic { goto U; } }",
+    ),
+    (
+        0,
+        "state S dynamic { fall otherwise { goto S; } state T dynamic { goto T; } state U enforced low { goto U; } }",
     ),
     // retagging what can't be
     (
@@ -541,6 +609,11 @@ static PATHS: [(u8, &str); 17] = [
     (
         17,
         "state S enforced low { fall; state T enforced low { setTag(@S, low); goto T; } }",
+    ),
+    // in a child that no path enters
+    (
+        17,
+        "state S enforced low { goto S; state T enforced low { setTag(@S, low); goto T; } }",
     ),
     (
         0,
@@ -632,7 +705,13 @@ fn closing_bodies(rt: HostRuntime) -> Result<(), Fail> {
 }
 
 #[test]
-fn paths_handlers_and_tags(rt: HostRuntime) -> Result<(), Fail> {
+fn paths_of_writes(rt: HostRuntime) -> Result<(), Fail> {
     assert_eq!(rt; first_wrong(rt.alloc(), &PATHS)?, "");
+    Ok(())
+}
+
+#[test]
+fn handlers_and_tags(rt: HostRuntime) -> Result<(), Fail> {
+    assert_eq!(rt; first_wrong(rt.alloc(), &HANDLERS)?, "");
     Ok(())
 }

@@ -17,3 +17,5 @@ mod sample;
 mod shown;
 #[cfg(test)]
 mod texts;
+#[cfg(test)]
+mod trees;

@@ -5,8 +5,6 @@ pub mod fault;
 pub mod laws;
 mod listing;
 mod read;
-#[cfg(test)]
-mod tests;
 
 pub use fault::LatFileFault;
 pub use read::read_lattice;

@@ -18,8 +18,6 @@ mod pairs;
 mod relation;
 mod rules;
 mod set;
-#[cfg(test)]
-mod tests;
 
 pub use fault::LatFault;
 pub use lattice::Lattice;

@@ -2,6 +2,8 @@
 #![tactic(auto)]
 
 #[cfg(test)]
+mod netlists;
+#[cfg(test)]
 mod printed;
 #[cfg(test)]
 mod read;

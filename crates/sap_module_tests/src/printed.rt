@@ -7,7 +7,7 @@ use sap_vprint::print;
 use std::alloc::{AllocError, Global};
 use std::test::Fail;
 
-mod summed;
+pub mod summed;
 mod swapped;
 
 fn named(alloc: Global, text: &[u8]) -> Result<Name, AllocError>

@@ -6,6 +6,4 @@ pub mod make;
 pub mod name;
 pub mod place;
 pub mod syntax;
-#[cfg(test)]
-mod tests;
 pub mod whole;

@@ -1,0 +1,102 @@
+//! A desk in memory, by examples.
+
+use sap_desk::{Desk, DeskError, Failed, MemoryDesk};
+use std::test::Fail;
+
+fn holds(desk: &MemoryDesk, name: &str, bytes: &[u8]) -> bool {
+    match desk.file(name) {
+        Some(held) => held == bytes,
+        None => false,
+    }
+}
+
+#[test]
+fn reads_what_there_is_and_fits(rt: HostRuntime) -> Result<(), Fail> {
+    let mut desk = MemoryDesk::new(rt.alloc(), 0)?;
+    desk.put_file("a", b"old")?;
+    desk.put_file("a", b"abcd")?;
+    let channel = desk.open_in("a")?;
+    let mut piece = [0u8; 3];
+    assert_eq!(rt; desk.read(channel, &mut piece), Ok(3));
+    assert_eq!(rt; piece, *b"abc");
+    assert_eq!(rt; desk.read(channel, &mut piece), Ok(1));
+    assert_eq!(rt; piece[0], b'd');
+    assert_eq!(rt; desk.read(channel, &mut piece), Ok(0));
+    assert_eq!(rt; desk.finish(channel), Ok(()));
+    assert_eq!(rt; desk.read(channel, &mut piece), Err(Failed));
+    assert_eq!(rt; desk.open_in("b"), Err(DeskError::Failed));
+    Ok(())
+}
+
+#[test]
+fn keeps_room_on_each_channel(rt: HostRuntime) -> Result<(), Fail> {
+    let mut desk = MemoryDesk::new(rt.alloc(), 4)?;
+    assert_eq!(rt; desk.write(1, b"abc"), Ok(()));
+    assert_eq!(rt; desk.write(1, b"def"), Err(Failed));
+    assert_eq!(rt; desk.output(), b"abcd".as_slice());
+    assert_eq!(rt; desk.write(2, b"line"), Ok(()));
+    assert_eq!(rt; desk.finish(2), Ok(()));
+    assert_eq!(rt; desk.write(2, b""), Err(Failed));
+    assert_eq!(rt; desk.fault_text(), b"line".as_slice());
+    Ok(())
+}
+
+#[test]
+fn fails_at_the_listed_calls(rt: HostRuntime) -> Result<(), Fail> {
+    let mut desk = MemoryDesk::new(rt.alloc(), 9)?;
+    for number in [1, 3, 5] {
+        desk.fail_at(number)?;
+    }
+    assert_eq!(rt; desk.create("a"), Err(DeskError::Failed));
+    assert_eq!(rt; desk.file("a"), None);
+    let channel = desk.create("a")?;
+    assert_eq!(rt; desk.write(channel, b"abcde"), Err(Failed));
+    assert!(rt; holds(&desk, "a", b"ab"));
+    assert_eq!(rt; desk.write(channel, b"cd"), Ok(()));
+    assert_eq!(rt; desk.finish(channel), Err(Failed));
+    assert_eq!(rt; desk.finish(channel), Ok(()));
+    assert_eq!(rt; desk.finish(channel), Err(Failed));
+    assert!(rt; holds(&desk, "a", b"abcd"));
+    Ok(())
+}
+
+#[test]
+fn two_channels_write_one_file(rt: HostRuntime) -> Result<(), Fail> {
+    let mut desk = MemoryDesk::new(rt.alloc(), 4)?;
+    let first = desk.create("a")?;
+    assert_eq!(rt; desk.write(first, b"xy"), Ok(()));
+    let second = desk.create("a")?;
+    assert!(rt; holds(&desk, "a", b""));
+    assert_eq!(rt; desk.write(second, b"1234"), Ok(()));
+    assert_eq!(rt; desk.write(first, b"56"), Ok(()));
+    assert_eq!(rt; desk.write(first, b"7"), Err(Failed));
+    assert!(rt; holds(&desk, "a", b"123456"));
+    let third = desk.create("a")?;
+    desk.put_file("a", b"put ")?;
+    assert_eq!(rt; desk.write(third, b"more"), Ok(()));
+    assert_eq!(rt; desk.write(second, b"8"), Err(Failed));
+    assert!(rt; holds(&desk, "a", b"put more"));
+    Ok(())
+}
+
+#[test]
+fn fails_on_a_channel_that_is_not_open_for_the_call(rt: HostRuntime) -> Result<(), Fail> {
+    let mut desk = MemoryDesk::new(rt.alloc(), 4)?;
+    desk.put_file("a", b"a")?;
+    let reader = desk.open_in("a")?;
+    let writer = desk.create("b")?;
+    let mut piece = [0u8; 1];
+    for channel in [0, 1, writer, 99] {
+        assert_eq!(rt;
+            desk.read(channel, &mut piece),
+            Err(Failed),
+            "read {channel}"
+        );
+    }
+    for channel in [0, reader, 99] {
+        assert_eq!(rt; desk.write(channel, b"w"), Err(Failed), "write {channel}");
+    }
+    assert_eq!(rt; desk.finish(0), Err(Failed));
+    assert_eq!(rt; desk.finish(99), Err(Failed));
+    Ok(())
+}
