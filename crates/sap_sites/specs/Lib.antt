@@ -1,0 +1,4 @@
+pub mod ProgramSites
+pub mod Numbering
+pub mod Once
+pub mod Examples

@@ -1,0 +1,55 @@
+-- The check sites of a program, in the order of the text: what each does, and to which entity. `program_sites` of the labelled meaning has their numbers alone.
+use Rattle.std.specs.Prelude.{ℕ, List, [], ◌∷◌, ◌++◌, if◌then◌else◌}
+use Rattle.sap_check.specs.declared.site.SiteKind.{SiteKind}
+use Rattle.sap_check.specs.declared.site.SiteKind.TheVariants as kind
+use Rattle.sap_meaning.specs.Program.{World, Program, Step, Set, Write, Retag, RetagCell, Goto, Fall, Command, Do, Try, If, Block, End, Then, State, Node, Group, None, More}
+use Rattle.sap_meaning.specs.Checks.{site_of}
+use Rattle.sap_meaning.specs.Sites.{is_site}
+
+pub record ProgramSite : Type 0 where
+  pub number : ℕ
+  pub kind : SiteKind
+  pub entity : ℕ
+
+abbrev pub kind_of : Step → SiteKind
+kind_of (Set site x e) = kind.Write
+kind_of (Write site m i e) = kind.Write
+kind_of (Retag site x n) = kind.SetTag
+kind_of (RetagCell site m j n) = kind.SetTag
+kind_of (Goto site target) = kind.Goto
+kind_of (Fall site hang) = kind.Fall
+
+-- its target, and of a fall the state in whose body it stands
+abbrev pub entity_of : (state : ℕ) → Step → ℕ
+entity_of s (Set site x e) = x
+entity_of s (Write site m i e) = m
+entity_of s (Retag site x n) = x
+entity_of s (RetagCell site m j n) = m
+entity_of s (Goto site target) = target
+entity_of s (Fall site hang) = s
+
+-- those of commands in the body of the state s with children g
+abbrev pub step_sites : World → (s : ℕ) → (g : Group) → Step → List ProgramSite
+step_sites w s g k =
+    if is_site w s g k then record { number = site_of k; kind = kind_of k; entity = entity_of s k } ∷ [] else []
+
+abbrev mutual
+  pub command_sites : World → (s : ℕ) → (g : Group) → Command → List ProgramSite
+  command_sites w s g (Do k) = step_sites w s g k
+  command_sites w s g (Try k hang h) = step_sites w s g k ++ block_sites w s g h
+  command_sites w s g (If hang e a b) = block_sites w s g a ++ block_sites w s g b
+
+  pub block_sites : World → (s : ℕ) → (g : Group) → Block → List ProgramSite
+  block_sites w s g End = []
+  block_sites w s g (Then c cs) = command_sites w s g c ++ block_sites w s g cs
+
+abbrev mutual
+  pub state_sites : World → State → List ProgramSite
+  state_sites w (Node s b g) = block_sites w s g b ++ group_sites w g
+
+  pub group_sites : World → Group → List ProgramSite
+  group_sites w None = []
+  group_sites w (More t g) = state_sites w t ++ group_sites w g
+
+abbrev pub sites_in : Program → List ProgramSite
+sites_in p = group_sites p.world p.states
