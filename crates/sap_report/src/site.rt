@@ -34,8 +34,9 @@ fn push_head(alloc: Global, out: &mut Vec<u8>, k: u32, at: Place) -> Result<(), 
     out.extend_from_slice(b" ")
 }
 
+/// Appends what a site does, and the name of its entity.
 #[tactic(auto, unfolding(crate::specs::Report::site_target))]
-fn push_target(out: &mut Vec<u8>, checked: &Checked, site: &Site) -> Result<(), AllocError>
+pub fn push_target(out: &mut Vec<u8>, checked: &Checked, site: &Site) -> Result<(), AllocError>
     requires { site.now.entity < length (entities_of (tree_in checked.now)) }
     ensures { OnOk result (out.new.items ≡ out.old.items ++ site_target (entities_of (tree_in checked.now)) site.now) }
 {

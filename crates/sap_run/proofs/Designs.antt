@@ -91,7 +91,7 @@ fit_line ls [] (x ∷ xs) h = absurd h
 fit_line ls (u ∷ us) [] h = absurd h
 fit_line ls (u ∷ us) (x ∷ xs) h = (h.0.value, h.0.level, fit_line ls us xs h.1)
 
-fit_stream : (ls : Levels) (t : DesignTree) (stream : List (List Given)) → stim.StreamFits ls (design_fields ls t) stream → StreamFits (world (named_of ls t)) (tagged_stream stream)
+pub fit_stream : (ls : Levels) (t : DesignTree) (stream : List (List Given)) → stim.StreamFits ls (design_fields ls t) stream → StreamFits (world (named_of ls t)) (tagged_stream stream)
 fit_stream ls t [] h = tt
 fit_stream ls t (xs ∷ stream) h = (fit_line ls (input_widths (world (named_of ls t)).entities) xs h.0, fit_stream ls t stream h.1)
 

@@ -11,7 +11,8 @@ use sap_lattice::level::Level;
 use sap_lattice::name::Name;
 use std::alloc::{AllocError, Global};
 
-fn number(out: &mut Vec<u8>, n: u64) -> Result<(), AllocError>
+/// Appends a number in decimal digits.
+pub fn number(out: &mut Vec<u8>, n: u64) -> Result<(), AllocError>
     ensures { OnOk result (out.new.items ≡ out.old.items ++ decimal n) }
 {
     if n < 10 {
@@ -32,7 +33,8 @@ fn level_of_tag(lattice: &Lattice, tag: u64) -> Option<Level>
     lattice.level_of_code(tag)
 }
 
-fn push_level(out: &mut Vec<u8>, tag: u64, lattice: &Lattice) -> Result<(), AllocError>
+/// Appends the name of the level whose code is a tag; a tag that is no code as `#` and its number.
+pub fn push_level(out: &mut Vec<u8>, tag: u64, lattice: &Lattice) -> Result<(), AllocError>
     ensures { OnOk result (out.new.items ≡ out.old.items ++ level_text (option_map (name_at lattice.now.names) (level_coded lattice.now tag)) tag) }
 {
     match level_of_tag(lattice, tag) {

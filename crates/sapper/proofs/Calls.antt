@@ -11,7 +11,7 @@ use Rattle.sap_stim.specs.declared.fault.StimFault.{StimFault}
 use Rattle.sap_vread.specs.declared.fault.ModFault.{ModFault}
 use Rattle.sap_desk.specs.Cause.{Rose, counted}
 use Rattle.sap_desk.specs.Whole.{Between}
-use Rattle.sapper.specs.Words.{Words, compile, run, fmt, sim, report, command_of}
+use Rattle.sapper.specs.Words.{Words, compile, run, trace, fmt, sim, report, command_of}
 use Rattle.sapper.specs.Ending.{Ending, done, no_command, lattice_refused, design_refused, stimulus_refused, module_refused, failed, no_memory, status_of, line, line_of}
 use Rattle.sapper.specs.Causes.{Cause, CauseOf}
 use Rattle.sapper.specs.Output.{Output}
@@ -118,6 +118,7 @@ gained_from text mid lost now t m n same is g = elim g [
 lattice_leaves : (c : Words) (t : Told) (files : Files) (fault : LatFileFault) → Leaves c t files (lattice_refused fault) → Leaves c t files no_memory
 lattice_leaves (compile lattice design out) t files fault is = is
 lattice_leaves (run lattice design stimulus) t files fault is = is
+lattice_leaves (trace lattice design stimulus) t files fault is = is
 lattice_leaves (fmt design) t files fault is = is
 lattice_leaves (sim lattice verilog stimulus) t files fault is = is
 lattice_leaves (report lattice design) t files fault is = is
@@ -125,6 +126,7 @@ lattice_leaves (report lattice design) t files fault is = is
 design_leaves : (c : Words) (t : Told) (files : Files) (fault : DesignFault) → Leaves c t files (design_refused fault) → Leaves c t files no_memory
 design_leaves (compile lattice design out) t files fault is = is
 design_leaves (run lattice design stimulus) t files fault is = is
+design_leaves (trace lattice design stimulus) t files fault is = is
 design_leaves (fmt design) t files fault is = is
 design_leaves (sim lattice verilog stimulus) t files fault is = is
 design_leaves (report lattice design) t files fault is = is
@@ -132,6 +134,7 @@ design_leaves (report lattice design) t files fault is = is
 stimulus_leaves : (c : Words) (t : Told) (files : Files) (fault : StimFault) → Leaves c t files (stimulus_refused fault) → Leaves c t files no_memory
 stimulus_leaves (compile lattice design out) t files fault is = is
 stimulus_leaves (run lattice design stimulus) t files fault is = is
+stimulus_leaves (trace lattice design stimulus) t files fault is = is
 stimulus_leaves (fmt design) t files fault is = is
 stimulus_leaves (sim lattice verilog stimulus) t files fault is = is
 stimulus_leaves (report lattice design) t files fault is = is
@@ -139,6 +142,7 @@ stimulus_leaves (report lattice design) t files fault is = is
 module_leaves : (c : Words) (t : Told) (files : Files) (fault : ModFault) → Leaves c t files (module_refused fault) → Leaves c t files no_memory
 module_leaves (compile lattice design out) t files fault is = is
 module_leaves (run lattice design stimulus) t files fault is = is
+module_leaves (trace lattice design stimulus) t files fault is = is
 module_leaves (fmt design) t files fault is = is
 module_leaves (sim lattice verilog stimulus) t files fault is = is
 module_leaves (report lattice design) t files fault is = is
@@ -287,18 +291,20 @@ module _ (words : List (List ℕ)) (c : Words) (is : command_of words ≡ Some c
   full_output : (text : List ℕ) (lost now : ℕ) (t m n : Told) → FullOutput t m → Tells text lost now m n → FullOutput t n
   full_output text lost now t m n full w = λ open_now. ap length w.output ∙ full open_now ∙ sym w.room
 
+  full_last : {A B C : Type 0} (text : List ℕ) (lost now : ℕ) (t m n : Told) → A ⊎ (B ⊎ (C ⊎ FullOutput t m)) → Tells text lost now m n
+      → A ⊎ (B ⊎ (C ⊎ FullOutput t n))
+  full_last text lost now t m n (inl a) w = inl a
+  full_last text lost now t m n (inr (inl b)) w = inr (inl b)
+  full_last text lost now t m n (inr (inr (inl c))) w = inr (inr (inl c))
+  full_last text lost now t m n (inr (inr (inr full))) w = inr (inr (inr (full_output text lost now t m n full w)))
+
   outside_after : (text : List ℕ) (lost now : ℕ) (d : Words) (t m n : Told) → OutsideOf d t m → Tells text lost now m n → OutsideOf d t n
   outside_after text lost now (compile lattice design out) t m n (inl missing) w = inl missing
   outside_after text lost now (compile lattice design out) t m n (inr (inl missing)) w = inr (inl missing)
   outside_after text lost now (compile lattice design out) t m n (inr (inr full)) w = inr (inr (full_file out text lost now t m n full w))
-  outside_after text lost now (run lattice design stimulus) t m n (inl missing) w = inl missing
-  outside_after text lost now (run lattice design stimulus) t m n (inr (inl missing)) w = inr (inl missing)
-  outside_after text lost now (run lattice design stimulus) t m n (inr (inr (inl missing))) w = inr (inr (inl missing))
-  outside_after text lost now (run lattice design stimulus) t m n (inr (inr (inr full))) w = inr (inr (inr (full_output text lost now t m n full w)))
-  outside_after text lost now (sim lattice verilog stimulus) t m n (inl missing) w = inl missing
-  outside_after text lost now (sim lattice verilog stimulus) t m n (inr (inl missing)) w = inr (inl missing)
-  outside_after text lost now (sim lattice verilog stimulus) t m n (inr (inr (inl missing))) w = inr (inr (inl missing))
-  outside_after text lost now (sim lattice verilog stimulus) t m n (inr (inr (inr full))) w = inr (inr (inr (full_output text lost now t m n full w)))
+  outside_after text lost now (run lattice design stimulus) t m n h w = full_last text lost now t m n h w
+  outside_after text lost now (trace lattice design stimulus) t m n h w = full_last text lost now t m n h w
+  outside_after text lost now (sim lattice verilog stimulus) t m n h w = full_last text lost now t m n h w
   outside_after text lost now (fmt design) t m n (inl missing) w = inl missing
   outside_after text lost now (fmt design) t m n (inr full) w = inr (full_output text lost now t m n full w)
   outside_after text lost now (report lattice design) t m n (inl missing) w = inl missing

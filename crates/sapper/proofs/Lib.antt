@@ -10,6 +10,7 @@ pub mod Endings
 pub mod CompileEnds
 pub mod Netlists
 pub mod NetsAlike
+pub mod TracesAlike
 pub mod ReportsAlike
 pub mod OneText
 pub mod RunEnds

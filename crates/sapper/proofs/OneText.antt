@@ -10,12 +10,13 @@ use Rattle.sap_net.specs.Net.{Net}
 use Rattle.sap_modtext.specs.Modules.{IsModule, OneModule}
 use Rattle.sap_show.specs.Canonical.{canonical_text}
 use Rattle.sap_report.specs.Report.{report_text}
-use Rattle.sapper.specs.Words.{Words, compile, run, fmt, sim, report}
+use Rattle.sapper.specs.Words.{Words, compile, run, trace, fmt, sim, report}
 use Rattle.sapper.specs.Causes.{DesignStands, LatticeStands, ModuleStands, TextStands}
-use Rattle.sapper.specs.Output.{AreDesignRows, AreModuleRows, IsOutput, OneOutput}
+use Rattle.sapper.specs.Output.{AreDesignRows, AreModuleRows, AreTraceLines, IsOutput, OneOutput}
 use Rattle.sapper.proofs.Lattices.{same_Some}
 use Rattle.sapper.proofs.Designs.{OneDesign}
 use Rattle.sapper.proofs.Alike.{rows_in}
+use Rattle.sapper.proofs.TracesAlike.{lines_in}
 use Rattle.sapper.proofs.Netlists.{module_netlist}
 use Rattle.sapper.proofs.NetsAlike.{net_rows_in}
 use Rattle.sapper.proofs.ReportsAlike.{reports_same}
@@ -44,6 +45,14 @@ module _ (one_lattice : OneLattice) (one_design : OneDesign) (one_module : OneMo
       let P : DesignTree → Type 0 = λ d. AreDesignRows m d bytes other in
       let Q : List ℕ → Type 0 = λ bytes. AreDesignRows m e bytes other in
       rows_in l m (same_levels lattice l m stands others) d bytes text other rows
+      (subst P (same_design design e d (is_text design m e compiled) (is_text design l d compiles))
+      (subst Q (same_Some (t.files stimulus) found bytes there file) again))
+  one_text (trace lattice design stimulus) text other a b =
+      let (l, d, stands, compiles, (bytes, file, lines)) = a in
+      let (m, e, others, compiled, (found, there, again)) = b in
+      let P : DesignTree → Type 0 = λ d. AreTraceLines m d bytes other in
+      let Q : List ℕ → Type 0 = λ bytes. AreTraceLines m e bytes other in
+      lines_in l m (same_levels lattice l m stands others) d bytes text other lines
       (subst P (same_design design e d (is_text design m e compiled) (is_text design l d compiles))
       (subst Q (same_Some (t.files stimulus) found bytes there file) again))
   one_text (sim lattice verilog stimulus) text other a b =

@@ -20,7 +20,7 @@ use Rattle.sap_vread.specs.ModuleFault.{IsModuleFault}
 use Rattle.sap_vread.specs.declared.fault.ModFault.{ModFault}
 use Rattle.sap_vread.specs.declared.fault.ModFault.TheVariants as module_fault
 use Rattle.sap_sim.specs.Simulated.{read_for as module_stimulus}
-use Rattle.sapper.specs.Words.{Words, compile, run, fmt, sim, report}
+use Rattle.sapper.specs.Words.{Words, compile, run, trace, fmt, sim, report}
 use Rattle.sapper.specs.Ending.{Ending, done, no_command, lattice_refused, design_refused, stimulus_refused, module_refused, failed, no_memory}
 
 -- there is a file of this name, and this holds of its bytes
@@ -79,6 +79,7 @@ CompileCause lattice design t no_command = ⊥
 CompileCause lattice design t (failed name) = ⊥
 CompileCause lattice design t no_memory = ⊥
 
+-- of `run` and of `trace`, which ask the same of their files
 abbrev pub RunCause : (lattice design stimulus : List ℕ) → Told → Ending → Type 0
 RunCause lattice design stimulus t done =
     (ls : Levels) × (d : DesignTree) × LatticeStands t lattice ls × DesignStands t design ls d × StimulusHas t stimulus (design_stimulus ls d) None
@@ -127,6 +128,7 @@ ReportCause lattice design t no_memory = ⊥
 abbrev pub Cause : Words → Told → Ending → Type 0
 Cause (compile lattice design out) t ending = CompileCause lattice design t ending
 Cause (run lattice design stimulus) t ending = RunCause lattice design stimulus t ending
+Cause (trace lattice design stimulus) t ending = RunCause lattice design stimulus t ending
 Cause (fmt design) t ending = FmtCause design t ending
 Cause (sim lattice verilog stimulus) t ending = SimCause lattice verilog stimulus t ending
 Cause (report lattice design) t ending = ReportCause lattice design t ending

@@ -6,7 +6,7 @@ use Rattle.sap_lattice.specs.Levels.{Levels}
 use Rattle.sap_tree.specs.Syntax.{DesignTree}
 use Rattle.sap_net.specs.Net.{Net}
 use Rattle.sap_compile.specs.Compiles.{IsModuleFor}
-use Rattle.sapper.specs.Words.{Words, compile, run, fmt, sim, report, command_of}
+use Rattle.sapper.specs.Words.{Words, compile, run, trace, fmt, sim, report, command_of}
 use Rattle.sapper.specs.Ending.{Ending, done, no_command, lattice_refused, design_refused, stimulus_refused, module_refused, failed, no_memory, status_of, line_of}
 use Rattle.sapper.specs.Causes.{LatticeStands, TextStands, CauseOf}
 use Rattle.sapper.specs.Output.{IsPrefix, Output}
@@ -44,6 +44,7 @@ CompileLeaves lattice design out t files (module_refused fault) = files ≡ t.fi
 abbrev pub Leaves : Words → Told → Files → Ending → Type 0
 Leaves (compile lattice design out) t files ending = CompileLeaves lattice design out t files ending
 Leaves (run lattice design stimulus) t files ending = files ≡ t.files
+Leaves (trace lattice design stimulus) t files ending = files ≡ t.files
 Leaves (fmt design) t files ending = files ≡ t.files
 Leaves (sim lattice verilog stimulus) t files ending = files ≡ t.files
 Leaves (report lattice design) t files ending = files ≡ t.files

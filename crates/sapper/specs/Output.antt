@@ -5,11 +5,12 @@ use Rattle.sap_lattice.specs.Levels.{Levels}
 use Rattle.sap_tree.specs.Syntax.{DesignTree}
 use Rattle.sap_stim.specs.declared.fault.StimFault.{StimFault}
 use Rattle.sap_run.specs.RunOf.{IsRunOf}
+use Rattle.sap_trace.specs.TraceOf.{IsTraceOf}
 use Rattle.sap_net.specs.Net.{Net}
 use Rattle.sap_sim.specs.Simulated.{IsSimulated}
 use Rattle.sap_show.specs.Canonical.{canonical_text}
 use Rattle.sap_report.specs.Report.{report_text}
-use Rattle.sapper.specs.Words.{Words, compile, run, fmt, sim, report}
+use Rattle.sapper.specs.Words.{Words, compile, run, trace, fmt, sim, report}
 use Rattle.sapper.specs.Ending.{Ending, done, no_command, lattice_refused, design_refused, stimulus_refused, module_refused, failed, no_memory}
 use Rattle.sapper.specs.Causes.{FileHas, LatticeStands, DesignStands, ModuleStands, TextStands}
 
@@ -21,17 +22,25 @@ IsPrefix part whole = (k : ℕ) × (k ≤ length whole) × (part ≡ take k whol
 abbrev pub AreDesignRows : Levels → DesignTree → (bytes text : List ℕ) → Type 0
 AreDesignRows ls d bytes text = (fault : Option StimFault) × IsRunOf ls d bytes (record { text = text; fault = fault })
 
--- and those of a module's run
+-- the lines of its trace, likewise
+abbrev pub AreTraceLines : Levels → DesignTree → (bytes text : List ℕ) → Type 0
+AreTraceLines ls d bytes text = (fault : Option StimFault) × IsTraceOf ls d bytes (record { text = text; fault = fault })
+
+-- and the rows of a module's run
 abbrev pub AreModuleRows : Levels → Net → (bytes text : List ℕ) → Type 0
 AreModuleRows ls net bytes text = (fault : Option StimFault) × IsSimulated ls net bytes (record { text = text; fault = fault })
 
 -- The text that the words and files of a command ask for: none for `compile`; for `run` and `sim` the rows of the design's or the
--- module's run on the stimulus; for `fmt` the canonical text of the design; for `report` its report over the levels.
+-- module's run on the stimulus; for `trace` the lines of the design's trace on it; for `fmt` the canonical text of the design; for `report` its report over the
+-- levels.
 abbrev pub IsOutput : Words → Told → (text : List ℕ) → Type 0
 IsOutput (compile lattice design out) t text = text ≡ []
 IsOutput (run lattice design stimulus) t text =
     (ls : Levels) × (d : DesignTree) × LatticeStands t lattice ls × DesignStands t design ls d
     × FileHas t stimulus (λ bytes. AreDesignRows ls d bytes text)
+IsOutput (trace lattice design stimulus) t text =
+    (ls : Levels) × (d : DesignTree) × LatticeStands t lattice ls × DesignStands t design ls d
+    × FileHas t stimulus (λ bytes. AreTraceLines ls d bytes text)
 IsOutput (fmt design) t text = (d : DesignTree) × TextStands t design d × (text ≡ canonical_text d)
 IsOutput (sim lattice verilog stimulus) t text =
     (ls : Levels) × (net : Net) × LatticeStands t lattice ls × ModuleStands t verilog net × FileHas t stimulus (λ bytes. AreModuleRows ls net bytes text)

@@ -2,7 +2,7 @@
 use Rattle.std.specs.Prelude.{◌≡◌, ◌⊎◌, ℕ, List, length, Some}
 use Rattle.sap_desk.specs.Desk.{Told, bytes_of, stream}
 use Rattle.sap_desk.specs.Whole.{MissingOrLong}
-use Rattle.sapper.specs.Words.{Words, compile, run, fmt, sim, report, command_of}
+use Rattle.sapper.specs.Words.{Words, compile, run, trace, fmt, sim, report, command_of}
 
 -- a file holds as much as there is room for
 abbrev pub FullFile : (name : List ℕ) → Told → Told → Type 0
@@ -19,6 +19,7 @@ FullLines t n = t.uses 2 ≡ stream → length (n.written 2) ≡ n.room
 abbrev pub OutsideOf : Words → Told → Told → Type 0
 OutsideOf (compile lattice design out) t n = MissingOrLong lattice t ⊎ (MissingOrLong design t ⊎ FullFile out t n)
 OutsideOf (run lattice design stimulus) t n = MissingOrLong lattice t ⊎ (MissingOrLong design t ⊎ (MissingOrLong stimulus t ⊎ FullOutput t n))
+OutsideOf (trace lattice design stimulus) t n = MissingOrLong lattice t ⊎ (MissingOrLong design t ⊎ (MissingOrLong stimulus t ⊎ FullOutput t n))
 OutsideOf (sim lattice verilog stimulus) t n = MissingOrLong lattice t ⊎ (MissingOrLong verilog t ⊎ (MissingOrLong stimulus t ⊎ FullOutput t n))
 OutsideOf (fmt design) t n = MissingOrLong design t ⊎ FullOutput t n
 OutsideOf (report lattice design) t n = MissingOrLong lattice t ⊎ (MissingOrLong design t ⊎ FullOutput t n)

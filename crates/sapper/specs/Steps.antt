@@ -30,20 +30,21 @@ use Rattle.sap_vread.specs.ModuleFault.{IsModuleFault}
 use Rattle.sap_vread.specs.declared.fault.ModFault.{ModFault}
 use Rattle.sap_vread.specs.declared.fault.ModFault.TheVariants as module_fault
 use Rattle.sap_stim.specs.declared.fault.StimFault.{StimFault}
-use Rattle.sapper.specs.Words.{Words, compile, run, fmt, sim, report}
+use Rattle.sapper.specs.Words.{Words, compile, run, trace, fmt, sim, report}
 use Rattle.sapper.specs.DesignFaults.{IsDesignFault}
 use Rattle.sapper.specs.Ending.{Ending, done, no_command, lattice_refused, design_refused, stimulus_refused, module_refused, failed, no_memory, status_of, line_of}
 use Rattle.sapper.specs.Causes.{Cause, DesignRefused, DesignStands, IsTextFault, IsWellFormedText, LatticeRefused, LatticeStands, ModuleRefused, ModuleStands, TextRefused, TextStands}
 use Rattle.sapper.specs.Output.{IsOutput, IsPrefix, Output}
 use Rattle.sapper.specs.Ends.{Files, Leaves, Blames, Gained}
 use Rattle.sapper.specs.declared.command.Command.{Command}
-use Rattle.sapper.specs.declared.command.Command.TheVariants.{Compile, Run, Fmt, Sim, Report}
+use Rattle.sapper.specs.declared.command.Command.TheVariants.{Compile, Run, Trace, Fmt, Sim, Report}
 use Rattle.sapper.specs.declared.failure.Failure.{Failure}
 use Rattle.sapper.specs.declared.failure.Failure.TheVariants.{Lattice, Design, Stimulus, Module, Desk, Memory}
 
 abbrev pub words_of : Command → Words
 words_of (Compile lattice design out) = compile lattice.now design.now out.now
 words_of (Run lattice design stimulus) = run lattice.now design.now stimulus.now
+words_of (Trace lattice design stimulus) = trace lattice.now design.now stimulus.now
 words_of (Fmt design) = fmt design.now
 words_of (Sim lattice verilog stimulus) = sim lattice.now verilog.now stimulus.now
 words_of (Report lattice design) = report lattice.now design.now

@@ -5,6 +5,7 @@ use Rattle.std.specs.Prelude.{ℕ, Bool, true, not, ◌&&◌, List, [], ◌∷�
 pub data Words : Type 0 where
   compile : (lattice design out : List ℕ) → Words
   run : (lattice design stimulus : List ℕ) → Words
+  trace : (lattice design stimulus : List ℕ) → Words
   fmt : (design : List ℕ) → Words
   sim : (lattice verilog stimulus : List ℕ) → Words
   report : (lattice design : List ℕ) → Words
@@ -25,7 +26,8 @@ abbrev pub three_operands : (word a b c : List ℕ) → Option Words
 three_operands word a b c =
     if bytes_eq word (codes "compile") then Some (compile a b c)
     else (if bytes_eq word (codes "run") then Some (run a b c)
-    else (if bytes_eq word (codes "sim") then Some (sim a b c) else None))
+    else (if bytes_eq word (codes "trace") then Some (trace a b c)
+    else (if bytes_eq word (codes "sim") then Some (sim a b c) else None)))
 
 -- the command that the words are, if they are one
 abbrev pub command_of : List (List ℕ) → Option Words

@@ -18,6 +18,7 @@ use crate::running::run;
 use crate::showing::format;
 use crate::simulating::simulate;
 use crate::texts::{design_text, lattice_text, module_text, stimulus_text};
+use crate::tracing::trace_design;
 use sap_desk::{Desk, write_line};
 use std::alloc::{AllocError, Global};
 
@@ -43,6 +44,11 @@ fn perform<'a, D: Desk>(
             design,
             stimulus,
         } => run(alloc, desk, lattice, design, stimulus),
+        Command::Trace {
+            lattice,
+            design,
+            stimulus,
+        } => trace_design(alloc, desk, lattice, design, stimulus),
         Command::Fmt { design } => format(alloc, desk, design),
         Command::Sim {
             lattice,

@@ -17,6 +17,11 @@ pub enum Command<'a> {
         design: &'a str,
         stimulus: &'a str,
     },
+    Trace {
+        lattice: &'a str,
+        design: &'a str,
+        stimulus: &'a str,
+    },
     Fmt {
         design: &'a str,
     },
@@ -71,6 +76,12 @@ fn three_operands<'a>(word: &str, a: &'a str, b: &'a str, c: &'a str) -> Option<
         })
     } else if word == "run" {
         Some(Command::Run {
+            lattice: a,
+            design: b,
+            stimulus: c,
+        })
+    } else if word == "trace" {
+        Some(Command::Trace {
             lattice: a,
             design: b,
             stimulus: c,

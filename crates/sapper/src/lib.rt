@@ -14,6 +14,7 @@ mod running;
 mod showing;
 mod simulating;
 mod texts;
+mod tracing;
 
 pub use call::sapper;
 pub use fault::DesignFault;

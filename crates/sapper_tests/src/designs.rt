@@ -1,6 +1,8 @@
-//! Designs with the rows of their runs, by `run`, and by `compile` and then `sim`.
+//! Designs with the rows of their runs, by `run`, and by `compile` and then `sim`; and with their traces.
 
-use crate::fixture::{ADDS_ONE, COMPILE, DIAMOND, RUN, SIMULATE, TWO, desk, words};
+use crate::fixture::{
+    ADDS_ONE, COMPILE, DIAMOND, KEEPS_LOW, RUN, SIMULATE, TRACE, TWO, desk, words,
+};
 use sap_desk::MemoryDesk;
 use sapper::sapper;
 use std::alloc::{AllocError, Global};
@@ -16,23 +18,26 @@ struct Run {
     design: &'static str,
     stimulus: &'static str,
     rows: &'static str,
+    trace: &'static str,
     line: &'static str,
 }
 
-static VALUES: [Run; 10] = [
+static VALUES: [Run; 11] = [
     Run {
         lattice: TWO,
         design: ADDS_ONE,
         stimulus: "5@low\n255@high\n",
         rows: "cycle 1: x=6@low\ncycle 2: x=0@high\n",
+        trace: "",
         line: "",
     },
     // a write that would raise an enforced register is refused
     Run {
         lattice: TWO,
-        design: "input a : 8; reg y : 8 enforced low = 7;\nstate S enforced low { y := a; goto S; }\n",
+        design: KEEPS_LOW,
         stimulus: "5@high\n5@low\n",
         rows: "cycle 1: y=7@low\ncycle 2: y=5@low\n",
+        trace: "cycle 1: site 1 write y at low\n",
         line: "",
     },
     Run {
@@ -40,6 +45,7 @@ static VALUES: [Run; 10] = [
         design: "input a : 8; input b : 8; reg y : 8 enforced low = 3;\nstate S enforced low { y := a & b; goto S; }\n",
         stimulus: "6@low 3@high\n6@low 3@low\n",
         rows: "cycle 1: y=3@low\ncycle 2: y=2@low\n",
+        trace: "cycle 1: site 1 write y at low\n",
         line: "",
     },
     // a sum goes round, and a shift by the width or more gives 0
@@ -48,6 +54,7 @@ static VALUES: [Run; 10] = [
         design: "reg x : 64 dynamic = 18446744073709551615;\nstate S enforced low { x := x + 1; goto S; }\n",
         stimulus: "\n",
         rows: "cycle 1: x=0@low\n",
+        trace: "",
         line: "",
     },
     Run {
@@ -55,6 +62,7 @@ static VALUES: [Run; 10] = [
         design: "input a : 8; reg x : 8 dynamic;\nstate S enforced low { x := a >> 9; goto S; }\n",
         stimulus: "255@low\n",
         rows: "cycle 1: x=0@low\n",
+        trace: "",
         line: "",
     },
     Run {
@@ -62,6 +70,7 @@ static VALUES: [Run; 10] = [
         design: "input a : 8; reg x : 8 dynamic; reg y : 8 dynamic;\nstate S enforced low { x := {a[3:0], 4'd9}; y := -a; goto S; }\n",
         stimulus: "171@low\n",
         rows: "cycle 1: x=185@low y=85@low\n",
+        trace: "",
         line: "",
     },
     // a join of two levels that neither is above
@@ -70,6 +79,7 @@ static VALUES: [Run; 10] = [
         design: "input a : 8; input c : 8; reg x : 8 dynamic;\nstate S enforced low { x := a + c; goto S; }\n",
         stimulus: "1@a 2@b\n",
         rows: "cycle 1: x=3@high\n",
+        trace: "",
         line: "",
     },
     // no lines, a line without its end, and a value that is too large
@@ -78,6 +88,7 @@ static VALUES: [Run; 10] = [
         design: ADDS_ONE,
         stimulus: "",
         rows: "",
+        trace: "",
         line: "",
     },
     Run {
@@ -85,6 +96,7 @@ static VALUES: [Run; 10] = [
         design: ADDS_ONE,
         stimulus: "5@low",
         rows: "",
+        trace: "",
         line: "stimulus 1: S5 line 1\n",
     },
     Run {
@@ -92,6 +104,16 @@ static VALUES: [Run; 10] = [
         design: ADDS_ONE,
         stimulus: "5@low\n256@low\n",
         rows: "cycle 1: x=6@low\n",
+        trace: "",
+        line: "stimulus 1: S2 line 2\n",
+    },
+    // what comes before a refused line stands
+    Run {
+        lattice: TWO,
+        design: KEEPS_LOW,
+        stimulus: "5@high\n256@high\n5@high\n",
+        rows: "cycle 1: y=7@low\n",
+        trace: "cycle 1: site 1 write y at low\n",
         line: "stimulus 1: S2 line 2\n",
     },
 ];
@@ -103,6 +125,7 @@ static STATES_AND_TAGS: [Run; 13] = [
         design: "input a : 8; reg y : 8 enforced low = 7;\nstate S enforced low { y := a otherwise { y := 9; } goto S; }\n",
         stimulus: "5@high\n",
         rows: "cycle 1: y=9@low\n",
+        trace: "cycle 1: site 1 write y at low\n",
         line: "",
     },
     // a branch that isn't taken raises what it writes
@@ -111,6 +134,7 @@ static STATES_AND_TAGS: [Run; 13] = [
         design: "input a : 8; reg x : 8 dynamic;\nstate S enforced low { if (a == 1) { x := 1; } goto S; }\n",
         stimulus: "0@high\n",
         rows: "cycle 1: x=0@high\n",
+        trace: "",
         line: "",
     },
     // a lowered tag clears the value, and a raised one keeps it
@@ -119,6 +143,7 @@ static STATES_AND_TAGS: [Run; 13] = [
         design: "input a : 8; reg z : 8 enforced high = 3;\nstate S enforced low { z := a; setTag(z, low); goto S; }\n",
         stimulus: "5@high\n6@high\n",
         rows: "cycle 1: z=0@low\ncycle 2: z=0@low\n",
+        trace: "cycle 2: site 1 write z at low\n",
         line: "",
     },
     Run {
@@ -126,6 +151,7 @@ static STATES_AND_TAGS: [Run; 13] = [
         design: "input a : 8; reg z : 8 enforced low = 3;\nstate S enforced low { setTag(z, level(a)); goto S; }\n",
         stimulus: "7@low\n0@low\n1@high\n",
         rows: "cycle 1: z=3@high\ncycle 2: z=0@low\ncycle 3: z=0@low\n",
+        trace: "cycle 3: site 1 setTag z at low\n",
         line: "",
     },
     // a `goto` from low to high under a high condition is refused
@@ -134,6 +160,7 @@ static STATES_AND_TAGS: [Run; 13] = [
         design: "input a : 8; reg x : 8 dynamic;\nstate S enforced low { x := 1; if (a == 1) { goto T; } else { goto S; } }\nstate T enforced high { x := 2; goto T; }\n",
         stimulus: "1@high\n0@low\n",
         rows: "cycle 1: x=1@low\ncycle 2: x=1@low\n",
+        trace: "cycle 1: site 1 goto T at high\n",
         line: "",
     },
     Run {
@@ -141,6 +168,7 @@ static STATES_AND_TAGS: [Run; 13] = [
         design: TWO_STATES,
         stimulus: "1@high\n0@low\n",
         rows: "cycle 1: x=0@low\ncycle 2: x=1@high\n",
+        trace: "",
         line: "",
     },
     Run {
@@ -148,6 +176,7 @@ static STATES_AND_TAGS: [Run; 13] = [
         design: TWO_STATES,
         stimulus: "0@high\n0@low\n",
         rows: "cycle 1: x=0@low\ncycle 2: x=0@high\n",
+        trace: "",
         line: "",
     },
     // a `fall` into an enforced child under a high condition is refused
@@ -156,6 +185,7 @@ static STATES_AND_TAGS: [Run; 13] = [
         design: "input a : 8; reg x : 8 dynamic;\nstate P enforced low {\n  if (a == 1) { fall; } else { fall; }\n  state C enforced low { x := 1; goto C; }\n}\n",
         stimulus: "1@high\n1@low\n",
         rows: "cycle 1: x=0@high\ncycle 2: x=1@low\n",
+        trace: "cycle 1: site 1 fall P at high\n",
         line: "",
     },
     // a state that is entered begins with its first child
@@ -164,6 +194,7 @@ static STATES_AND_TAGS: [Run; 13] = [
         design: "input a : 8; reg x : 8 dynamic;\nstate P enforced low {\n  if (a == 1) { goto Q; } else { fall; }\n  state C1 enforced low { x := 1; goto C2; }\n  state C2 enforced low { x := 2; goto C2; }\n}\nstate Q enforced low { x := 9; goto P; }\n",
         stimulus: "0@low\n0@low\n1@low\n0@low\n0@low\n",
         rows: "cycle 1: x=1@low\ncycle 2: x=2@low\ncycle 3: x=2@low\ncycle 4: x=9@low\ncycle 5: x=1@low\n",
+        trace: "",
         line: "",
     },
     // a dynamic memory, read as the cycle began, and an enforced one
@@ -172,6 +203,7 @@ static STATES_AND_TAGS: [Run; 13] = [
         design: "input a : 2; input b : 2; mem m : 8[4] dynamic; reg x : 8 dynamic;\nstate S enforced low { m[a] := 5; x := m[b]; goto S; }\n",
         stimulus: "1@high 1@low\n1@high 1@low\n",
         rows: "cycle 1: x=0@low\ncycle 2: x=5@high\n",
+        trace: "",
         line: "",
     },
     Run {
@@ -179,6 +211,7 @@ static STATES_AND_TAGS: [Run; 13] = [
         design: "input a : 2; mem k : 8[4] enforced low; reg y : 8 enforced low;\nstate S enforced low { k[a] := 1 otherwise { y := 9; } goto S; }\n",
         stimulus: "3@high\n",
         rows: "cycle 1: y=0@low\n",
+        trace: "cycle 1: site 1 write k at high\ncycle 1: site 2 write y at high\n",
         line: "",
     },
     // an authority that isn't above the new level
@@ -187,6 +220,7 @@ static STATES_AND_TAGS: [Run; 13] = [
         design: "reg q : 8 enforced high under a = 4;\nstate S enforced low { setTag(q, b); goto S; }\n",
         stimulus: "\n",
         rows: "cycle 1: q=4@high\n",
+        trace: "cycle 1: site 1 setTag q at a\n",
         line: "",
     },
     // one write to a memory on each branch
@@ -195,6 +229,7 @@ static STATES_AND_TAGS: [Run; 13] = [
         design: "input a : 1;\nmem m : 8[4] dynamic;\nstate S enforced low {\n  if (a) { m[0] := 1; } else { m[1] := 2; }\n  goto S;\n}\n",
         stimulus: "",
         rows: "",
+        trace: "",
         line: "",
     },
 ];
@@ -206,18 +241,18 @@ fn files(alloc: Global, run: &Run) -> Result<MemoryDesk, AllocError> {
     )
 }
 
-fn is_shown(run: &Run, status: u8, desk: &MemoryDesk) -> bool {
+fn is_shown(run: &Run, shown: &str, status: u8, desk: &MemoryDesk) -> bool {
     let expected = if run.line.is_empty() { 0 } else { 4 };
     status == expected
         && desk.fault_text() == run.line.as_bytes()
-        && desk.output() == run.rows.as_bytes()
+        && desk.output() == shown.as_bytes()
 }
 
 fn runs_as_said(alloc: Global, run: &Run) -> Result<bool, AllocError> {
     let words = words(alloc, RUN)?;
     let mut desk = files(alloc, run)?;
     let status = sapper(alloc, &words, &mut desk);
-    Ok(is_shown(run, status, &desk))
+    Ok(is_shown(run, run.rows, status, &desk))
 }
 
 fn module_runs_as_said(alloc: Global, run: &Run) -> Result<bool, AllocError> {
@@ -226,7 +261,14 @@ fn module_runs_as_said(alloc: Global, run: &Run) -> Result<bool, AllocError> {
     let mut desk = files(alloc, run)?;
     let compiled = sapper(alloc, &compile, &mut desk);
     let status = sapper(alloc, &simulate, &mut desk);
-    Ok(compiled == 0 && is_shown(run, status, &desk))
+    Ok(compiled == 0 && is_shown(run, run.rows, status, &desk))
+}
+
+fn is_traced_as_said(alloc: Global, run: &Run) -> Result<bool, AllocError> {
+    let words = words(alloc, TRACE)?;
+    let mut desk = files(alloc, run)?;
+    let status = sapper(alloc, &words, &mut desk);
+    Ok(is_shown(run, run.trace, status, &desk))
 }
 
 /// The place of the first run that is otherwise than said.
@@ -243,6 +285,16 @@ fn first_wrong(alloc: Global, runs: &[Run]) -> Result<Option<usize>, AllocError>
 fn first_wrong_module(alloc: Global, runs: &[Run]) -> Result<Option<usize>, AllocError> {
     for (place, run) in runs.iter().enumerate() {
         if !module_runs_as_said(alloc, run)? {
+            return Ok(Some(place));
+        }
+    }
+    Ok(None)
+}
+
+/// The same for traces.
+fn first_wrong_trace(alloc: Global, runs: &[Run]) -> Result<Option<usize>, AllocError> {
+    for (place, run) in runs.iter().enumerate() {
+        if !is_traced_as_said(alloc, run)? {
             return Ok(Some(place));
         }
     }
@@ -270,5 +322,17 @@ fn written_modules_compute_values(rt: HostRuntime) -> Result<(), Fail> {
 #[test]
 fn written_modules_step_states_and_tags(rt: HostRuntime) -> Result<(), Fail> {
     assert_eq!(rt; first_wrong_module(rt.alloc(), &STATES_AND_TAGS)?, None);
+    Ok(())
+}
+
+#[test]
+fn refused_writes_are_traced(rt: HostRuntime) -> Result<(), Fail> {
+    assert_eq!(rt; first_wrong_trace(rt.alloc(), &VALUES)?, None);
+    Ok(())
+}
+
+#[test]
+fn refused_steps_and_tags_are_traced(rt: HostRuntime) -> Result<(), Fail> {
+    assert_eq!(rt; first_wrong_trace(rt.alloc(), &STATES_AND_TAGS)?, None);
     Ok(())
 }

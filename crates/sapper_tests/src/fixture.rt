@@ -14,10 +14,16 @@ pub const PENTAGON: &str =
 pub const ADDS_ONE: &str =
     "input a : 8; reg x : 8 dynamic;\nstate S enforced low { x := a + 1; goto S; }\n";
 
+// A register that only data at low may reach.
+pub const KEEPS_LOW: &str =
+    "input a : 8; reg y : 8 enforced low = 7;\nstate S enforced low { y := a; goto S; }\n";
+
 // The commands over a lattice file `L`, a design `D`, a stimulus `S` and a module `O`.
 pub const COMPILE: &[&str] = &["compile", "L", "D", "O"];
 
 pub const RUN: &[&str] = &["run", "L", "D", "S"];
+
+pub const TRACE: &[&str] = &["trace", "L", "D", "S"];
 
 /// `sim` on the file that `compile` writes.
 pub const SIMULATE: &[&str] = &["sim", "L", "O", "S"];

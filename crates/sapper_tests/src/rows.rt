@@ -1,6 +1,8 @@
-//! What `run`, `fmt`, `sim` and `report` write, by rows.
+//! What `run`, `trace`, `fmt`, `sim` and `report` write, by rows.
 
-use crate::fixture::{ADDS_ONE, COMPILE, DIAMOND, FMT, PENTAGON, REPORT, RUN, TWO, desk, words};
+use crate::fixture::{
+    ADDS_ONE, COMPILE, DIAMOND, FMT, KEEPS_LOW, PENTAGON, REPORT, RUN, TRACE, TWO, desk, words,
+};
 use sap_desk::MemoryDesk;
 use sapper::sapper;
 use std::alloc::{AllocError, Global};
@@ -47,6 +49,45 @@ static REFUSED_RUNS: [Row; 4] = [
     },
     Row {
         words: &["run", "L", "D", "N"],
+        lattice: TWO,
+        design: ADDS_ONE,
+        stimulus: "",
+        status: 6,
+        output: "",
+        line: "desk: N\n",
+    },
+];
+
+static REFUSED_TRACES: [Row; 4] = [
+    Row {
+        words: TRACE,
+        lattice: "levels",
+        design: "",
+        stimulus: "5@low",
+        status: 3,
+        output: "",
+        line: "lattice: L1\n",
+    },
+    Row {
+        words: TRACE,
+        lattice: TWO,
+        design: "",
+        stimulus: "5@low",
+        status: 1,
+        output: "",
+        line: "design: E2 1:1\n",
+    },
+    Row {
+        words: &["trace", "N", "D", "S"],
+        lattice: TWO,
+        design: "",
+        stimulus: "",
+        status: 6,
+        output: "",
+        line: "desk: N\n",
+    },
+    Row {
+        words: &["trace", "L", "D", "N"],
         lattice: TWO,
         design: ADDS_ONE,
         stimulus: "",
@@ -222,6 +263,12 @@ fn a_run_refuses_its_files(rt: HostRuntime) -> Result<(), Fail> {
 }
 
 #[test]
+fn a_trace_refuses_its_files(rt: HostRuntime) -> Result<(), Fail> {
+    assert_eq!(rt; first_wrong(rt.alloc(), &REFUSED_TRACES)?, None);
+    Ok(())
+}
+
+#[test]
 fn fmt_writes_the_canonical_text(rt: HostRuntime) -> Result<(), Fail> {
     assert_eq!(rt; first_wrong(rt.alloc(), &TEXTS)?, None);
     Ok(())
@@ -234,12 +281,16 @@ fn report_writes_what_hangs(rt: HostRuntime) -> Result<(), Fail> {
 }
 
 // Words that are no command.
-static NO_COMMANDS: [&[&str]; 17] = [
+static NO_COMMANDS: [&[&str]; 21] = [
     &["run"],
     &["run", "L", "D"],
     &["run", "L", "D", "S", "S"],
     &["Run", "L", "D", "S"],
     &["run", "L", "D", "-S"],
+    &["trace", "L", "D"],
+    &["trace", "L", "D", "S", "S"],
+    &["trace", "L", "-D", "S"],
+    &["Trace", "L", "D", "S"],
     &["fmt"],
     &["fmt", "-D"],
     &["fmt", "D", "D"],
@@ -267,7 +318,7 @@ fn refuses_words(rt: HostRuntime) -> Result<(), Fail> {
     Ok(())
 }
 
-// Each file is opened, read, read to its end and finished; then the rows are written.
+// Each file is opened, read, read to its end and finished; then the rows or the lines of the trace are written.
 static BLAMED: [&str; 13] = [
     "desk: L\n",
     "desk: L\n",
@@ -296,6 +347,26 @@ fn each_call_of_a_run_fails_in_turn(rt: HostRuntime) -> Result<(), Fail> {
         // a failing write takes the first half of the rows
         let cut = if before == 12 {
             "cycle 1: x=6@low\n"
+        } else {
+            ""
+        };
+        assert_eq!(rt; desk.output(), cut.as_bytes(), "call {before}");
+    }
+    Ok(())
+}
+
+#[test]
+fn each_call_of_a_trace_fails_in_turn(rt: HostRuntime) -> Result<(), Fail> {
+    let alloc = rt.alloc();
+    let words = words(alloc, TRACE)?;
+    for (before, line) in BLAMED.iter().enumerate() {
+        let mut desk = files(alloc, TWO, KEEPS_LOW, "5@high\n6@high\n")?;
+        desk.fail_at(before as u64 + 1)?;
+        assert_eq!(rt; sapper(alloc, &words, &mut desk), 6, "call {before}");
+        assert_eq!(rt; desk.fault_text(), line.as_bytes(), "call {before}");
+        // a failing write takes the first half of the lines
+        let cut = if before == 12 {
+            "cycle 1: site 1 write y at low\n"
         } else {
             ""
         };

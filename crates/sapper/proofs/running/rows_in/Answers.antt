@@ -3,34 +3,34 @@ use Rattle.std.specs.Prelude.{Err}
 use Rattle.sapper.specs.Words.{run}
 use Rattle.sapper.proofs.Lattices.{on_ok}
 use Rattle.sapper.proofs.Endings.{counted_from, lattice_known, memory_counts, outside_reading}
-use Rattle.sapper.proofs.RunEnds.{at_design, at_lattice, at_stimulus, rows_have, rows_stop}
+use Rattle.sapper.proofs.RunEnds.{answer_stops, at_design, at_lattice, at_stimulus, rows_have, run_asks}
 use Rattle.sapper.proofs.running.rows_in.Goals as goal
 
 pub returns-in_err-levels-clause-stops : goal.returns-in_err-levels-clause-stops
 returns-in_err-levels-clause-stops g c =
     let is : c.from_residual.result ≡ Err c.in_err-levels.field-0.0 = search rules in
-    rw is (at_lattice c.args.lattice.now c.args.design.now c.args.stimulus.now _ _ _ c.in_err-levels.ensures.stops)
+    rw is (at_lattice (run_asks c.args.lattice.now c.args.design.now c.args.stimulus.now) _ _ _ c.in_err-levels.ensures.stops)
 
 pub returns-in_err-levels-clause-outside : goal.returns-in_err-levels-clause-outside
 returns-in_err-levels-clause-outside g c = λ changed sure.
     outside_reading c.args.lattice.now (run c.args.lattice.now c.args.design.now c.args.stimulus.now) _ _ _ _ (λ t n missing. inl missing) refl (c.in_err-levels.ensures.outside changed sure)
-    (at_lattice c.args.lattice.now c.args.design.now c.args.stimulus.now _ _ _ c.in_err-levels.ensures.stops)
+    (at_lattice (run_asks c.args.lattice.now c.args.design.now c.args.stimulus.now) _ _ _ c.in_err-levels.ensures.stops)
 
 pub returns-in_err-compiled-clause-stops : goal.returns-in_err-compiled-clause-stops
 returns-in_err-compiled-clause-stops g c =
     let is : c.from_residual-in_err-compiled.result ≡ Err c.in_err-compiled.field-0.0 = search rules in
-    rw is (at_design c.args.lattice.now c.args.design.now c.args.stimulus.now c.in_ok-levels.levels c.as_slice.result.now _ _ _ _ c.in_ok-levels.ensures.told c.as_slice.ensures c.in_ok-levels.ensures.has c.in_err-compiled.ensures.stops)
+    rw is (at_design (run_asks c.args.lattice.now c.args.design.now c.args.stimulus.now) c.in_ok-levels.levels c.as_slice.result.now _ _ _ _ c.in_ok-levels.ensures.told c.as_slice.ensures c.in_ok-levels.ensures.has c.in_err-compiled.ensures.stops)
 
 pub returns-in_err-compiled-clause-outside : goal.returns-in_err-compiled-clause-outside
 returns-in_err-compiled-clause-outside g c = λ changed sure.
     outside_reading c.args.design.now (run c.args.lattice.now c.args.design.now c.args.stimulus.now) _ _ _ _ (λ t n missing. inr (inl missing)) c.in_ok-levels.ensures.told
     (c.in_err-compiled.ensures.outside (λ stands. changed (stands ∙ c.in_ok-levels.ensures.counted)) (c.in_ok-levels.ensures.sure sure))
-    (at_design c.args.lattice.now c.args.design.now c.args.stimulus.now c.in_ok-levels.levels c.as_slice.result.now _ _ _ _ c.in_ok-levels.ensures.told c.as_slice.ensures c.in_ok-levels.ensures.has c.in_err-compiled.ensures.stops)
+    (at_design (run_asks c.args.lattice.now c.args.design.now c.args.stimulus.now) c.in_ok-levels.levels c.as_slice.result.now _ _ _ _ c.in_ok-levels.ensures.told c.as_slice.ensures c.in_ok-levels.ensures.has c.in_err-compiled.ensures.stops)
 
 pub returns-in_err-bytes-clause-stops : goal.returns-in_err-bytes-clause-stops
 returns-in_err-bytes-clause-stops g c =
     let is : c.from_residual-in_err-bytes.result ≡ Err c.in_err-bytes.field-0.0 = search rules in
-    rw is (at_stimulus c.args.lattice.now c.args.design.now c.args.stimulus.now _ _ _ _ _ c.in_ok-levels.ensures.told c.in_ok-compiled.ensures.told c.in_err-bytes.ensures.stops)
+    rw is (at_stimulus (run_asks c.args.lattice.now c.args.design.now c.args.stimulus.now) _ _ _ _ _ c.in_ok-levels.ensures.told c.in_ok-compiled.ensures.told c.in_err-bytes.ensures.stops)
 
 pub returns-in_err-bytes-clause-counted : goal.returns-in_err-bytes-clause-counted
 returns-in_err-bytes-clause-counted g c =
@@ -43,7 +43,7 @@ returns-in_err-bytes-clause-outside g c = λ changed sure.
     (c.in_ok-compiled.ensures.told ∙ c.in_ok-levels.ensures.told)
     (c.in_err-bytes.ensures.outside (λ stands. changed (stands ∙ c.in_ok-compiled.ensures.counted ∙ c.in_ok-levels.ensures.counted))
     (c.in_ok-compiled.ensures.sure (c.in_ok-levels.ensures.sure sure)))
-    (at_stimulus c.args.lattice.now c.args.design.now c.args.stimulus.now _ _ _ _ _ c.in_ok-levels.ensures.told c.in_ok-compiled.ensures.told c.in_err-bytes.ensures.stops)
+    (at_stimulus (run_asks c.args.lattice.now c.args.design.now c.args.stimulus.now) _ _ _ _ _ c.in_ok-levels.ensures.told c.in_ok-compiled.ensures.told c.in_err-bytes.ensures.stops)
 
 pub returns-clause-has : goal.returns-clause-has
 returns-clause-has g c =
@@ -57,7 +57,7 @@ returns-clause-told g c = on_ok c.rows_of.result (c.in_ok-bytes.ensures.told ∙
 
 pub returns-clause-stops : goal.returns-clause-stops
 returns-clause-stops g c =
-    rows_stop c.args.lattice.now c.args.design.now c.args.stimulus.now c.rows_of.result _ _ (c.in_ok-bytes.ensures.told ∙ c.in_ok-compiled.ensures.told ∙ c.in_ok-levels.ensures.told)
+    answer_stops (run_asks c.args.lattice.now c.args.design.now c.args.stimulus.now) c.rows_of.result _ _ (c.in_ok-bytes.ensures.told ∙ c.in_ok-compiled.ensures.told ∙ c.in_ok-levels.ensures.told)
     c.rows_of.ensures.memory
 
 pub returns-clause-counted : goal.returns-clause-counted

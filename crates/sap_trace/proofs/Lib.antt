@@ -1,0 +1,6 @@
+mod FieldLists
+mod Given
+mod SiteWires
+mod Seen
+mod Runs
+mod Designs

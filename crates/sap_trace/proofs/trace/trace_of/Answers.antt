@@ -1,0 +1,57 @@
+use Rattle.std.proofs.Common.{◌≡◌, ℕ, List, map, sym, ap, ◌∙◌, subst}
+use Rattle.sap_net.specs.Net.{Net}
+use Rattle.sap_net.specs.Runs.{AllFit, IsRun}
+use Rattle.sap_check.specs.Checked.{levels_in, tree_in}
+use Rattle.sap_stim.specs.declared.input.Input.{Input}
+use Rattle.sap_stim.specs.declared.stimulus.Parsed.{Parsed}
+use Rattle.sap_run.specs.RunOf.{read_for}
+use Rattle.sap_trace.specs.Fields.{given}
+use Rattle.sap_trace.specs.Seen.{AreReadable, AreWires, lines_from}
+use Rattle.sap_trace.proofs.SiteWires.{sites_readable}
+use Rattle.sap_trace.proofs.Designs.{site_wires, inputs_fit, trace_is}
+use Rattle.sap_trace.proofs.trace.trace_of.Goals as goal
+use Rattle.sap_trace.proofs.trace.trace_of.Goals.{In_ok-runner}
+
+pub wires_of-requires : goal.wires_of-requires
+wires_of-requires c =
+    let ls = levels_in c.args.checked.now in
+    let d = tree_in c.args.checked.now in
+    subst (λ (n : Net). AreReadable n c.site_count.result) (sym c.in_ok-runner.ensures.netlist)
+    (subst (λ (k : ℕ). AreReadable c.args.netlist k) (sym c.site_count.ensures)
+    (sites_readable ls d c.args.netlist c.rules.ensures (site_wires ls d c.args.netlist c.requires.stands c.known.ensures.numbering)))
+
+pub lines-requires-clause-wires : goal.lines-requires-clause-wires
+lines-requires-clause-wires c = subst (λ (k : ℕ). AreWires c.in_ok-runner.runner.net k c.in_ok-wires.wires) c.site_count.ensures c.in_ok-wires.ensures
+
+fits : (c : In_ok-runner) → AllFit c.args.netlist.inputs (map (given (levels_in c.args.checked.now)) (read_for (levels_in c.args.checked.now) (tree_in c.args.checked.now) c.args.stimulus.now).stream)
+fits c =
+    inputs_fit (levels_in c.args.checked.now) (tree_in c.args.checked.now) c.args.netlist c.requires.stands c.known.ensures.order c.stimulus_fits.ensures c.args.stimulus.now
+
+pub lines-requires-clause-fits : goal.lines-requires-clause-fits
+lines-requires-clause-fits c =
+    let ls = levels_in c.args.checked.now in
+    let e : c.as_slice.result.now ≡ (read_for (levels_in c.args.checked.now) (tree_in c.args.checked.now) c.args.stimulus.now).stream =
+    c.as_slice.ensures ∙ ap (λ (p : Parsed). p.stream) c.in_ok-parsed.ensures in
+    subst (λ (n : Net). AllFit n.inputs (map (given ls) c.as_slice.result.now)) (sym c.in_ok-runner.ensures.netlist)
+    (subst (λ (stream : List (List Input)). AllFit c.args.netlist.inputs (map (given ls) stream)) (sym e) (fits (goal.at.lines-requires-clause-fits c).In_ok-runner))
+
+pub returns : goal.returns
+returns c =
+    let ls = levels_in c.args.checked.now in
+    let d = tree_in c.args.checked.now in
+    let e : c.as_slice.result.now ≡ (read_for (levels_in c.args.checked.now) (tree_in c.args.checked.now) c.args.stimulus.now).stream =
+    c.as_slice.ensures ∙ ap (λ (p : Parsed). p.stream) c.in_ok-parsed.ensures in
+    let w = c.one_run.ensures.some (map (given ls) (read_for ls d c.args.stimulus.now).stream) (fits (goal.at.returns c).In_ok-runner) in
+    let there : IsRun c.in_ok-runner.runner.net (map (given (levels_in c.args.checked.now)) c.as_slice.result.now) w.0 =
+    subst (λ (n : Net). IsRun n (map (given ls) c.as_slice.result.now) w.0) (sym c.in_ok-runner.ensures.netlist)
+    (subst (λ (stream : List (List Input)). IsRun c.args.netlist (map (given ls) stream) w.0) (sym e) w.1) in
+    record {
+      trace = record {
+        fault = ap (λ (p : Parsed). p.fault) c.in_ok-parsed.ensures;
+        text =
+            c.new.ensures ∙ c.in_ok-text.ensures w.0 there
+            ∙ ap (λ (n : Net). lines_from ls d n 1 w.0) c.in_ok-runner.ensures.netlist
+            ∙ trace_is ls d c.args.netlist c.requires.stands c.known.ensures.order c.stimulus_fits.ensures c.args.stimulus.now c.known.ensures.codes
+            c.known.ensures.some c.known.ensures.numbering c.known.ensures.in_order w.0 w.1;
+      };
+    }

@@ -1,0 +1,50 @@
+-- The lines of a trace: one for each refusal of a cycle, `cycle N: site K KIND NAME at LEVEL`, with its LF. NAME is the target, for `fall` the state in whose body
+-- it stands; LEVEL is that at which the site is refused.
+use Rattle.std.specs.Prelude.{ℕ, ◌+◌, ◌-◌, List, [], ◌∷◌, ◌++◌, codes, Option, Some, None, slice_get}
+use Rattle.std.specs.Fmt.{decimal}
+use Rattle.sap_lattice.specs.Levels.{Levels}
+use Rattle.sap_tree.specs.Syntax.{DesignTree}
+use Rattle.sap_names.specs.declared.entity.Entity.{Entity}
+use Rattle.sap_names.specs.Entities.{entities_of}
+use Rattle.sap_check.specs.declared.site.Site.{Site}
+use Rattle.sap_check.specs.Sites.{sites_of}
+use Rattle.sap_meaning.specs.Store.{Refusal, After}
+use Rattle.sap_meaning.specs.Cycle.{Tagged}
+use Rattle.sap_meaning.specs.State.{labelled_run}
+use Rattle.sap_resolve.specs.Fill.{program_of}
+use Rattle.sap_report.specs.Report.{site_target}
+use Rattle.sap_run.specs.LabelledRows.{level_name}
+
+abbrev pub line_end : List ℕ
+line_end = 10 ∷ []
+
+unfoldable pub line_head : (cycle k : ℕ) → List ℕ
+line_head cycle k = codes "cycle " ++ decimal cycle ++ codes ": site " ++ decimal k ++ codes " "
+
+-- `KIND NAME`
+abbrev pub target_text : List Entity → Option Site → List ℕ
+target_text es None = []
+target_text es (Some s) = site_target es s
+
+-- the design's site of this number, from 1
+abbrev pub site_at : DesignTree → (k : ℕ) → Option Site
+site_at d k = slice_get (sites_of d) (k - 1)
+
+abbrev pub site_line : DesignTree → (cycle k : ℕ) → (level : List ℕ) → List ℕ
+site_line d cycle k level = line_head cycle k ++ target_text (entities_of d) (site_at d k) ++ codes " at " ++ level ++ line_end
+
+abbrev pub refusal_line : Levels → DesignTree → (cycle : ℕ) → Refusal → List ℕ
+refusal_line ls d cycle r = site_line d cycle r.site (level_name ls r.level)
+
+-- in the order of the list
+abbrev pub refusal_lines : Levels → DesignTree → (cycle : ℕ) → List Refusal → List ℕ
+refusal_lines ls d cycle [] = []
+refusal_lines ls d cycle (r ∷ rs) = refusal_line ls d cycle r ++ refusal_lines ls d cycle rs
+
+abbrev pub trace_of_run : Levels → DesignTree → (cycle : ℕ) → List After → List ℕ
+trace_of_run ls d cycle [] = []
+trace_of_run ls d cycle (a ∷ rest) = refusal_lines ls d cycle a.refused ++ trace_of_run ls d (cycle + 1) rest
+
+-- the lines of a design's labelled run on a stream, its cycles counted from 1
+abbrev pub labelled_trace : Levels → DesignTree → List (List Tagged) → List ℕ
+labelled_trace ls d stream = trace_of_run ls d 1 (labelled_run (program_of ls d) stream)
