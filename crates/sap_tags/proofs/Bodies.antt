@@ -6,7 +6,7 @@ use Rattle.std.proofs.Math.Pow.{pow_pos}
 use Rattle.sap_maps.specs.Maps.{Name}
 use Rattle.sap_maps.specs.Scope.{find}
 use Rattle.sap_maps.specs.Term.{Term, constant, cell, choose}
-use Rattle.sap_meaning.specs.Program.{World, Kind, entity, root, is_dynamic, is_input, is_memory, is_register, is_state, width, listed, Step, Set, Write, Retag, RetagCell, Goto, Fall, Command, Do, Try, If, Block, End, Then, Group, kind_is_input, kind_is_register, kind_is_memory, kind_is_state}
+use Rattle.sap_meaning.specs.Program.{World, Kind, entity, root, is_dynamic, is_input, is_register, is_state, width, children, listed, Step, Set, Write, Retag, RetagCell, Goto, Fall, Command, Do, Try, If, Block, End, Then, Group, kind_is_input, kind_is_register, kind_is_memory, kind_is_state}
 use Rattle.sap_meaning.specs.Program as program
 use Rattle.sap_meaning.specs.Expressions.{width_of}
 use Rattle.sap_meaning.specs.Checks.{Spot, site_of}
@@ -22,13 +22,13 @@ use Rattle.sap_ir.specs.IsGuarded.{assignable}
 use Rattle.sap_plain.specs.Nested.{Body, stop, act, cases, goto, fall}
 use Rattle.sap_plain.specs.IsPlain.{BodyFine}
 use Rattle.sap_plain.specs.Views.{follow}
-use Rattle.sap_tags.specs.Keys.{Key, Value, Tag, Refused, Level, Wire, First, sort}
+use Rattle.sap_tags.specs.Keys.{Key, Value, Tag, Refused, Level, Wire, First, Inner, sort}
 use Rattle.sap_tags.specs.Setting.{Setting}
 use Rattle.sap_tags.specs.Levels.{var, bits, lub, yes, expr, tag_of, guard_of, test_of, written, stays, always, all_dynamic}
 use Rattle.sap_tags.specs.Commands.{gives, stores, sweep, raises, looks, resets, effect_of, refusal, outcome, attempt_of, select_of, wires, wires_block, command_plain, block_plain}
 use Rattle.sap_tags.specs.States.{saved}
 use Rattle.sap_tags.specs.Stands.{has_tag}
-use Rattle.sap_tags.proofs.Bools.{apart_tests, both_true, either_second, register_within, value_no_memory, kept_no_memory, enforced_within, tagged, tagged_memory}
+use Rattle.sap_tags.proofs.Bools.{apart_tests, both_true, either_second, tagged_within, register_within, value_no_memory, kept_no_memory, enforced_within, tagged, tagged_memory}
 use Rattle.sap_tags.proofs.StepTerms.{Placed}
 use Rattle.sap_tags.proofs.Ends.{Among}
 use Rattle.sap_tags.proofs.Conditions.{StepConditions, CommandConditions, BlockConditions}
@@ -39,6 +39,7 @@ pub record Assigns (d : Setting) (s : Source) (fixed : List Name) : Type 0 where
   pub values : (x : ℕ) → is_register d.world x ≡ true → find (assignable s) (d.name (Value x)) ≡ Some (width d.world x)
   pub tags : (x : ℕ) → has_tag d.world x ≡ true → is_input d.world x ≡ false → find (assignable s) (d.name (Tag x)) ≡ Some d.tag
   pub firsts : (m : ℕ) → saved d.world m ≡ true → find (assignable s) (d.name (First m)) ≡ Some d.tag
+  pub inners : (x : ℕ) → nat_lt x (root d.world) ≡ true → 0 < children d.world x → find (assignable s) (d.name (Inner x)) ≡ Some d.tag
   pub free : (a : Key) → (sort a ≡ 2 → ⊥) → is_among (d.name a) fixed ≡ false
 
 -- a wire of a width
@@ -181,7 +182,7 @@ module _ (d : Setting) (s : Source) (h : Declares d s) (fixed group : List Name)
   follow_fine (fall rest) b f g = (f.0, follow_fine rest b f.1 g)
 
   module _ (q : Group) (sp : Spot) (placed : Placed d.world q sp) (named : (t : ℕ) → among q t ≡ true → is_among (d.state_name t) group ≡ true)
-      (kids : 0 < size sp.children → nested ≡ true) (base : ℕ) (context : IsWire d s base d.tag) where
+      (kids : 0 < size sp.children → nested ≡ true) where
     looks_fine : (p k : ℕ) (t : Step) (rest : Body) → IsWire d s p d.tag → StepWires d s k → FineStep d.world q sp.children t → SizedStep d.world t → RangedStep d.world t → StepConditions d.world t
         → Good rest → Good (looks d sp p k t rest)
     looks_fine p k t rest pc ws f z r c g =
@@ -199,7 +200,7 @@ module _ (d : Setting) (s : Source) (h : Declares d s) (fixed group : List Name)
     zero_fine : (u : ℕ) → Fine d s h u (constant u 0)
     zero_fine u = (refl, pow_pos u)
 
-    effect_fine : (k : ℕ) (t : Step) → StepWires d s k → FineStep d.world q sp.children t → SizedStep d.world t → RangedStep d.world t → StepConditions d.world t → Good (effect_of d base k t)
+    effect_fine : (k : ℕ) (t : Step) → StepWires d s k → FineStep d.world q sp.children t → SizedStep d.world t → RangedStep d.world t → StepConditions d.world t → Good (effect_of d sp k t)
     effect_fine k (Set site x e) ws f z r c =
         let number : Fine d s h (width d.world x) (expr d e) = subst (λ (u : ℕ). Fine d s h u (expr d e)) z.1 (number_fine d s h e f.1 z.0 r c) in
         let last : Good (gives d (Value x) (expr d e) stop) = gives_fine (Value x) (expr d e) stop (width d.world x) (w.values x f.0) number (λ e. omega arith) tt in
@@ -260,7 +261,9 @@ module _ (d : Setting) (s : Source) (h : Declares d s) (fixed group : List Name)
             let state = (both_true (is_state d.world y) _ b.0).0 in
             let m = kept_no_memory d.world y (either_second _ (is_state d.world y) state) in
             (tagged d.world y l m, state_kind (entity d.world y).kind state)
-    effect_fine k (Fall site hang) ws f z r c = wire_gives base d.tag (var d (Wire (k + 2))) (fall stop) context ws.2.0 (kids f, tt)
+    effect_fine k (Fall site hang) ws f z r c =
+        gives_fine (Inner sp.state) (var d (Wire (k + 2))) (fall stop) d.tag
+        (w.inners sp.state (tagged_within d.world sp.state (placed.siblings sp.state placed.here).0) (rw placed.seated f)) ws.2.0 (λ e. omega arith) (kids f, tt)
 
     -- the wires of the sites that are listed
     abbrev pub AllSites : List ℕ → Type 0
@@ -272,12 +275,12 @@ module _ (d : Setting) (s : Source) (h : Declares d s) (fixed group : List Name)
         (gives_fine (Level (site_of t)) (var d (Wire (k + 2))) handler d.tag site.1 ws.2.0 (λ e. omega arith) g)
 
     attempt_fine : (p k : ℕ) (t : Step) (hangs : ℕ → Bool) (handler : Body) → IsWire d s p d.tag → StepWires d s k → Hangs d.world hangs → AllSites (sites.step_sites d.world sp.state sp.children t)
-        → FineStep d.world q sp.children t → SizedStep d.world t → RangedStep d.world t → StepConditions d.world t → Good handler → Good (attempt_of d sp base p k t hangs handler)
+        → FineStep d.world q sp.children t → SizedStep d.world t → RangedStep d.world t → StepConditions d.world t → Good handler → Good (attempt_of d sp p k t hangs handler)
     unfolding attempt_of
     attempt_fine p k t hangs handler pc ws hs site f z r c g =
         let e = effect_fine k t ws f z r c in
-        looks_fine p k t (raises d hangs (k + 1) (outcome d sp base k t handler)) pc ws f z r c
-        (raises_fine hangs (k + 1) (outcome d sp base k t handler) hs ws.1
+        looks_fine p k t (raises d hangs (k + 1) (outcome d sp k t handler)) pc ws f z r c
+        (raises_fine hangs (k + 1) (outcome d sp k t handler) hs ws.1
         (elim (cases_Bool (always d.world sp t)) [
           | inl i ↦ rw i e
           | inr i ↦ rw i (ws.0.0, e, refusal_fine k t handler ws (site (site_of t) (site_listed d.world sp t i)) g, tt)
@@ -295,23 +298,23 @@ module _ (d : Setting) (s : Source) (h : Declares d s) (fixed group : List Name)
       unfolding command_plain block_plain
 
       command_fine : (p k : ℕ) (c : Command) → IsWire d s p d.tag → CommandWires d s k c → CommandHangs d.world sp c → AllSites (sites.sites d.world sp.state sp.children c)
-          → FineCommand d.world q sp.children c → Sized d.world c → Ranged d.world c → CommandConditions d.world c → Good (command_plain d sp base p k c)
+          → FineCommand d.world q sp.children c → Sized d.world c → Ranged d.world c → CommandConditions d.world c → Good (command_plain d sp p k c)
       command_fine p k (Do t) pc ws hs site f z r c = attempt_fine p k t (listed_alone d.world sp t) stop pc ws hs site f z r c tt
       command_fine p k (Try t hang b) pc ws hs site f z r c =
-          attempt_fine p k t (listed hang) (block_plain d sp base (k + 2) (k + 5) b) pc ws.0 hs.0
+          attempt_fine p k t (listed hang) (block_plain d sp (k + 2) (k + 5) b) pc ws.0 hs.0
           (λ n i. site n (among_left (sites.step_sites d.world sp.state sp.children t) (sites.block_sites d.world sp.state sp.children b) n i)) f.0 z.0 r.0 c.0
           (block_fine (k + 2) (k + 5) b ws.0.2 ws.1 hs.1 (λ n i. site n (among_right (sites.step_sites d.world sp.state sp.children t) (sites.block_sites d.world sp.state sp.children b) n i)) f.1 z.1 r.1 c.1)
       command_fine p k (If hang e a b) pc ws hs site f z r c =
-          select_fine p k e (listed hang) (block_plain d sp base (k + 1) (k + 2) a) (block_plain d sp base (k + 1) (k + 2 + wires_block a) b) pc ws.0 ws.1 hs.0
+          select_fine p k e (listed hang) (block_plain d sp (k + 1) (k + 2) a) (block_plain d sp (k + 1) (k + 2 + wires_block a) b) pc ws.0 ws.1 hs.0
           (level_fine d s h e f.0 z.0 r.0 c.0) (subst (λ (u : ℕ). Fine d s h u (expr d e)) z.1 (number_fine d s h e f.0 z.0 r.0 c.0))
           (block_fine (k + 1) (k + 2) a ws.1 ws.2 hs.1 (λ n i. site n (among_left (sites.block_sites d.world sp.state sp.children a) (sites.block_sites d.world sp.state sp.children b) n i)) f.1 z.2 r.1 c.1)
           (block_fine (k + 1) (k + 2 + wires_block a) b ws.1 ws.3 hs.2
           (λ n i. site n (among_right (sites.block_sites d.world sp.state sp.children a) (sites.block_sites d.world sp.state sp.children b) n i)) f.2 z.3 r.2 c.2)
 
       pub block_fine : (p k : ℕ) (b : Block) → IsWire d s p d.tag → BlockWires d s k b → BlockHangs d.world sp b → AllSites (sites.block_sites d.world sp.state sp.children b)
-          → FineBlock d.world q sp.children b → SizedBlock d.world b → RangedBlock d.world b → BlockConditions d.world b → Good (block_plain d sp base p k b)
+          → FineBlock d.world q sp.children b → SizedBlock d.world b → RangedBlock d.world b → BlockConditions d.world b → Good (block_plain d sp p k b)
       block_fine p k End pc ws hs site f z r c = tt
       block_fine p k (Then a b) pc ws hs site f z r c =
-          follow_fine (command_plain d sp base p k a) (block_plain d sp base p (k + wires a) b)
+          follow_fine (command_plain d sp p k a) (block_plain d sp p (k + wires a) b)
           (command_fine p k a pc ws.0 hs.0 (λ n i. site n (among_left (sites.sites d.world sp.state sp.children a) (sites.block_sites d.world sp.state sp.children b) n i)) f.0 z.0 r.0 c.0)
           (block_fine p (k + wires a) b pc ws.1 hs.1 (λ n i. site n (among_right (sites.sites d.world sp.state sp.children a) (sites.block_sites d.world sp.state sp.children b) n i)) f.1 z.1 r.1 c.1)

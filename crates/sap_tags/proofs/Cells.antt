@@ -106,11 +106,11 @@ module _ (d : Setting) (widths : Name → ℕ) (laws : Lawful d widths) where
   unfolding put_level put_number
   swapped m n v t s f = refl
 
-  pub write_effect : (f : Going → Going) (go : Name → Going → Going) (base : ℕ) (enter : ℕ → ℕ → Store → After) (q : Group) (k : ℕ) (sp : Spot) (site m : ℕ) (i e : Term ℕ) (l : ℕ) (b r : Store) (g : Going)
+  pub write_effect : (f : Going → Going) (go : Name → Going → Going) (enter : ℕ → ℕ → Store → After) (q : Group) (k : ℕ) (sp : Spot) (site m : ℕ) (i e : Term ℕ) (l : ℕ) (b r : Store) (g : Going)
       → FineStep d.world q sp.children (Write site m i e) → Begins d k sp (Write site m i e) l b r g
-      → Turns d k g (body_does widths f go (effect_of d base k (Write site m i e)) g) (effect d.world sp enter (Write site m i e) l b r)
+      → Turns d k g (body_does widths f go (effect_of d sp k (Write site m i e)) g) (effect d.world sp enter (Write site m i e) l b r)
   unfolding effect put_to put_number
-  write_effect f go base enter q k sp site m i e l b r g fine h =
+  write_effect f go enter q k sp site m i e l b r g fine h =
       let n = value d.world i b in
       let v = value d.world e b in
       let g1 = put_next d g (Value m) (value_in widths g (expr d i)) (value_in widths g (expr d e)) in
@@ -142,11 +142,11 @@ module _ (d : Setting) (widths : Name → ℕ) (laws : Lawful d widths) where
           ∙ ap (λ (x : ℕ). d.code (d.world.order.join (r.level (tag_slot d.world x)) (d.world.order.join l (d.world.order.join (tag d.world i b) (tag d.world e b))))) (sym (eqb-true y m p))
       level_at y false p z ez = refl
 
-  pub retag_cell_effect : (f : Going → Going) (go : Name → Going → Going) (base : ℕ) (enter : ℕ → ℕ → Store → After) (q : Group) (k : ℕ) (sp : Spot) (site m : ℕ) (j : Term ℕ) (n : LevelTerm) (l : ℕ) (b r : Store) (g : Going)
+  pub retag_cell_effect : (f : Going → Going) (go : Name → Going → Going) (enter : ℕ → ℕ → Store → After) (q : Group) (k : ℕ) (sp : Spot) (site m : ℕ) (j : Term ℕ) (n : LevelTerm) (l : ℕ) (b r : Store) (g : Going)
       → FineStep d.world q sp.children (RetagCell site m j n) → Begins d k sp (RetagCell site m j n) l b r g
-      → Turns d k g (body_does widths f go (effect_of d base k (RetagCell site m j n)) g) (effect d.world sp enter (RetagCell site m j n) l b r)
+      → Turns d k g (body_does widths f go (effect_of d sp k (RetagCell site m j n)) g) (effect d.world sp enter (RetagCell site m j n) l b r)
   unfolding effect
-  retag_cell_effect f go base enter q k sp site m j n l b r g fine h =
+  retag_cell_effect f go enter q k sp site m j n l b r g fine h =
       let i = value d.world j b in
       let c = new_level d.world n b in
       let keep = d.world.order.le (level d.world (start m i) b) c in

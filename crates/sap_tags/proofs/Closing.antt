@@ -74,42 +74,42 @@ choice_stays : (t : Term Name) (x y : Body) → Stays x → Stays y → Stays (c
 choice_stays t x y e f = record { ends = choice_ends t x y e.ends f.ends; goes = rw (e.goes, f.goes) refl }
 
 module _ (d : Setting) where
-  effect_ends : (base k : ℕ) (t : Step) → Ends (effect_of d base k t)
-  effect_ends base k (Set site x e) = elim (cases_Bool (is_dynamic d.world x)) [ inl i ↦ rw i refl | inr i ↦ rw i refl ]
-  effect_ends base k (Write site m i e) = elim (cases_Bool (is_dynamic d.world m)) [ inl i ↦ rw i refl | inr i ↦ rw i refl ]
-  effect_ends base k (Retag site x n) = elim (cases_Bool (is_register d.world x)) [ inl i ↦ rw i refl | inr i ↦ rw i refl ]
-  effect_ends base k (RetagCell site m j n) = refl
-  effect_ends base k (Goto site target) =
+  effect_ends : (sp : Spot) (k : ℕ) (t : Step) → Ends (effect_of d sp k t)
+  effect_ends sp k (Set site x e) = elim (cases_Bool (is_dynamic d.world x)) [ inl i ↦ rw i refl | inr i ↦ rw i refl ]
+  effect_ends sp k (Write site m i e) = elim (cases_Bool (is_dynamic d.world m)) [ inl i ↦ rw i refl | inr i ↦ rw i refl ]
+  effect_ends sp k (Retag site x n) = elim (cases_Bool (is_register d.world x)) [ inl i ↦ rw i refl | inr i ↦ rw i refl ]
+  effect_ends sp k (RetagCell site m j n) = refl
+  effect_ends sp k (Goto site target) =
       sweep_ends d Tag (resets d.world target) (λ x. bits d d.world.order.bottom) 0 (root d.world)
       (if is_dynamic d.world target then gives d (Tag target) (var d (Wire (k + 3))) (goto (d.state_name target) stop) else goto (d.state_name target) stop)
       (elim (cases_Bool (is_dynamic d.world target)) [ inl i ↦ rw i refl | inr i ↦ rw i refl ])
-  effect_ends base k (Fall site hang) = refl
+  effect_ends sp k (Fall site hang) = refl
 
-  effect_goes : (base k : ℕ) (t : Step) → fine.transfers t ≡ false → transfers (effect_of d base k t) ≡ false
-  effect_goes base k (Set site x e) f = elim (cases_Bool (is_dynamic d.world x)) [ inl i ↦ rw i refl | inr i ↦ rw i refl ]
-  effect_goes base k (Write site m i e) f = elim (cases_Bool (is_dynamic d.world m)) [ inl i ↦ rw i refl | inr i ↦ rw i refl ]
-  effect_goes base k (Retag site x n) f = elim (cases_Bool (is_register d.world x)) [ inl i ↦ rw i refl | inr i ↦ rw i refl ]
-  effect_goes base k (RetagCell site m j n) f = refl
-  effect_goes base k (Goto site target) f = absurd (apart_tests f)
-  effect_goes base k (Fall site hang) f = absurd (apart_tests f)
+  effect_goes : (sp : Spot) (k : ℕ) (t : Step) → fine.transfers t ≡ false → transfers (effect_of d sp k t) ≡ false
+  effect_goes sp k (Set site x e) f = elim (cases_Bool (is_dynamic d.world x)) [ inl i ↦ rw i refl | inr i ↦ rw i refl ]
+  effect_goes sp k (Write site m i e) f = elim (cases_Bool (is_dynamic d.world m)) [ inl i ↦ rw i refl | inr i ↦ rw i refl ]
+  effect_goes sp k (Retag site x n) f = elim (cases_Bool (is_register d.world x)) [ inl i ↦ rw i refl | inr i ↦ rw i refl ]
+  effect_goes sp k (RetagCell site m j n) f = refl
+  effect_goes sp k (Goto site target) f = absurd (apart_tests f)
+  effect_goes sp k (Fall site hang) f = absurd (apart_tests f)
 
   module _ (sp : Spot) where
-    attempt_ends : (base p k : ℕ) (t : Step) (hangs : ℕ → Bool) (h : Body) → Ends h → Ends (attempt_of d sp base p k t hangs h)
+    attempt_ends : (p k : ℕ) (t : Step) (hangs : ℕ → Bool) (h : Body) → Ends h → Ends (attempt_of d sp p k t hangs h)
     unfolding attempt_of
-    attempt_ends base p k t hangs h e =
-        sweep_ends d Tag hangs (λ x. lub (var d (Tag x)) (var d (Wire (k + 1)))) 0 (root d.world) (outcome d sp base k t h)
+    attempt_ends p k t hangs h e =
+        sweep_ends d Tag hangs (λ x. lub (var d (Tag x)) (var d (Wire (k + 1)))) 0 (root d.world) (outcome d sp k t h)
         (elim (cases_Bool (always d.world sp t)) [
-          | inl i ↦ rw i (effect_ends base k t)
-          | inr i ↦ rw i (choice_ends (var d (Wire k)) (effect_of d base k t) (refusal d k t h) (effect_ends base k t) e)
+          | inl i ↦ rw i (effect_ends sp k t)
+          | inr i ↦ rw i (choice_ends (var d (Wire k)) (effect_of d sp k t) (refusal d k t h) (effect_ends sp k t) e)
         ])
 
-    attempt_goes : (base p k : ℕ) (t : Step) (hangs : ℕ → Bool) (h : Body) → fine.transfers t ≡ false → transfers h ≡ false → transfers (attempt_of d sp base p k t hangs h) ≡ false
+    attempt_goes : (p k : ℕ) (t : Step) (hangs : ℕ → Bool) (h : Body) → fine.transfers t ≡ false → transfers h ≡ false → transfers (attempt_of d sp p k t hangs h) ≡ false
     unfolding attempt_of
-    attempt_goes base p k t hangs h f e =
-        sweep_goes d Tag hangs (λ x. lub (var d (Tag x)) (var d (Wire (k + 1)))) 0 (root d.world) (outcome d sp base k t h)
+    attempt_goes p k t hangs h f e =
+        sweep_goes d Tag hangs (λ x. lub (var d (Tag x)) (var d (Wire (k + 1)))) 0 (root d.world) (outcome d sp k t h)
         (elim (cases_Bool (always d.world sp t)) [
-          | inl i ↦ rw i (effect_goes base k t f)
-          | inr i ↦ rw (i, effect_goes base k t f, e) refl
+          | inl i ↦ rw i (effect_goes sp k t f)
+          | inr i ↦ rw (i, effect_goes sp k t f, e) refl
         ])
 
     select_ends : (p k : ℕ) (e : Term ℕ) (hangs : ℕ → Bool) (x y : Body) → Ends x → Ends y → Ends (select_of d p k e hangs x y)
@@ -123,49 +123,49 @@ module _ (d : Setting) where
     mutual
       unfolding command_plain block_plain
 
-      command_stays : (base p k : ℕ) (c : Command) → Open c → Stays (command_plain d sp base p k c)
-      command_stays base p k (Do t) o = record {
-        ends = attempt_ends base p k t (listed_alone d.world sp t) stop refl;
-        goes = attempt_goes base p k t (listed_alone d.world sp t) stop o refl;
+      command_stays : (p k : ℕ) (c : Command) → Open c → Stays (command_plain d sp p k c)
+      command_stays p k (Do t) o = record {
+        ends = attempt_ends p k t (listed_alone d.world sp t) stop refl;
+        goes = attempt_goes p k t (listed_alone d.world sp t) stop o refl;
       }
-      command_stays base p k (Try t hang h) o =
-          let r = block_stays base (k + 2) (k + 5) h o.1 in
+      command_stays p k (Try t hang h) o =
+          let r = block_stays (k + 2) (k + 5) h o.1 in
           record {
-            ends = attempt_ends base p k t (listed hang) (block_plain d sp base (k + 2) (k + 5) h) r.ends;
-            goes = attempt_goes base p k t (listed hang) (block_plain d sp base (k + 2) (k + 5) h) o.0 r.goes;
+            ends = attempt_ends p k t (listed hang) (block_plain d sp (k + 2) (k + 5) h) r.ends;
+            goes = attempt_goes p k t (listed hang) (block_plain d sp (k + 2) (k + 5) h) o.0 r.goes;
           }
-      command_stays base p k (If hang e a b) o =
-          let x = block_stays base (k + 1) (k + 2) a o.0 in
-          let y = block_stays base (k + 1) (k + 2 + wires_block a) b o.1 in
+      command_stays p k (If hang e a b) o =
+          let x = block_stays (k + 1) (k + 2) a o.0 in
+          let y = block_stays (k + 1) (k + 2 + wires_block a) b o.1 in
           record {
-            ends = select_ends p k e (listed hang) (block_plain d sp base (k + 1) (k + 2) a) (block_plain d sp base (k + 1) (k + 2 + wires_block a) b) x.ends y.ends;
-            goes = select_goes p k e (listed hang) (block_plain d sp base (k + 1) (k + 2) a) (block_plain d sp base (k + 1) (k + 2 + wires_block a) b) x.goes y.goes;
+            ends = select_ends p k e (listed hang) (block_plain d sp (k + 1) (k + 2) a) (block_plain d sp (k + 1) (k + 2 + wires_block a) b) x.ends y.ends;
+            goes = select_goes p k e (listed hang) (block_plain d sp (k + 1) (k + 2) a) (block_plain d sp (k + 1) (k + 2 + wires_block a) b) x.goes y.goes;
           }
 
-      block_stays : (base p k : ℕ) (b : Block) → OpenBlock b → Stays (block_plain d sp base p k b)
-      block_stays base p k End o = record { ends = refl; goes = refl }
-      block_stays base p k (Then c cs) o =
-          let x = command_stays base p k c o.0 in
-          let y = block_stays base p (k + wires c) cs o.1 in
+      block_stays : (p k : ℕ) (b : Block) → OpenBlock b → Stays (block_plain d sp p k b)
+      block_stays p k End o = record { ends = refl; goes = refl }
+      block_stays p k (Then c cs) o =
+          let x = command_stays p k c o.0 in
+          let y = block_stays p (k + wires c) cs o.1 in
           record {
-            ends = follow_ends (command_plain d sp base p k c) (block_plain d sp base p (k + wires c) cs) x y.ends;
-            goes = follow_goes (command_plain d sp base p k c) (block_plain d sp base p (k + wires c) cs) x.goes y.goes;
+            ends = follow_ends (command_plain d sp p k c) (block_plain d sp p (k + wires c) cs) x y.ends;
+            goes = follow_goes (command_plain d sp p k c) (block_plain d sp p (k + wires c) cs) x.goes y.goes;
           }
 
     mutual
       unfolding command_plain block_plain
 
-      final_ends : (base p k : ℕ) (c : Command) → Final c → Ends (command_plain d sp base p k c)
-      final_ends base p k (Do t) o = attempt_ends base p k t (listed_alone d.world sp t) stop refl
-      final_ends base p k (Try t hang h) o = attempt_ends base p k t (listed hang) (block_plain d sp base (k + 2) (k + 5) h) (block_ends base (k + 2) (k + 5) h o.1)
-      final_ends base p k (If hang e a b) o =
-          select_ends p k e (listed hang) (block_plain d sp base (k + 1) (k + 2) a) (block_plain d sp base (k + 1) (k + 2 + wires_block a) b)
-          (block_ends base (k + 1) (k + 2) a o.0) (block_ends base (k + 1) (k + 2 + wires_block a) b o.1)
+      final_ends : (p k : ℕ) (c : Command) → Final c → Ends (command_plain d sp p k c)
+      final_ends p k (Do t) o = attempt_ends p k t (listed_alone d.world sp t) stop refl
+      final_ends p k (Try t hang h) o = attempt_ends p k t (listed hang) (block_plain d sp (k + 2) (k + 5) h) (block_ends (k + 2) (k + 5) h o.1)
+      final_ends p k (If hang e a b) o =
+          select_ends p k e (listed hang) (block_plain d sp (k + 1) (k + 2) a) (block_plain d sp (k + 1) (k + 2 + wires_block a) b)
+          (block_ends (k + 1) (k + 2) a o.0) (block_ends (k + 1) (k + 2 + wires_block a) b o.1)
 
-      pub block_ends : (base p k : ℕ) (b : Block) → Closes b → Ends (block_plain d sp base p k b)
-      block_ends base p k End o = absurd o
-      block_ends base p k (Then c End) o =
-          ap ends_in_transfers (follow_stop (command_plain d sp base p k c)) ∙ final_ends base p k c o
-      block_ends base p k (Then c (Then e es)) o =
-          follow_ends (command_plain d sp base p k c) (block_plain d sp base p (k + wires c) (Then e es)) (command_stays base p k c o.0)
-          (block_ends base p (k + wires c) (Then e es) o.1)
+      pub block_ends : (p k : ℕ) (b : Block) → Closes b → Ends (block_plain d sp p k b)
+      block_ends p k End o = absurd o
+      block_ends p k (Then c End) o =
+          ap ends_in_transfers (follow_stop (command_plain d sp p k c)) ∙ final_ends p k c o
+      block_ends p k (Then c (Then e es)) o =
+          follow_ends (command_plain d sp p k c) (block_plain d sp p (k + wires c) (Then e es)) (command_stays p k c o.0)
+          (block_ends p (k + wires c) (Then e es) o.1)

@@ -1,12 +1,11 @@
 -- A cycle, and a run: the plain program does what the design does.
 use Rattle.std.proofs.Common.{◌≡◌, ℕ, zero, suc, ◌+◌, ◌^◌, ◌<◌, ◌≤◌, List, [], ◌∷◌, ◌++◌, map, length, Bool, true, false, not, ◌||◌, Option, Some, None, inl, inr, refl, sym, ap, ◌∙◌, subst, if◌then◌else◌, arith, get_or, nat_lt, nat_le, nat_eq}
-use Rattle.std.specs.Fmt.{decimal}
-use Rattle.std.specs.Prelude.{unwrap_or}
+use Rattle.std.specs.Prelude.{unwrap_or, codes}
 use Rattle.std.proofs.lemmas.Bool.{cases_Bool, eqb-true, eq-eqb}
 use Rattle.std.proofs.lemmas.Grind.{common_steps}
 use Rattle.sap_maps.specs.Maps.{Name, Valuation}
 use Rattle.sap_meaning.specs.Program as program
-use Rattle.sap_meaning.specs.Program.{World, Kind, Entity, entity, nothing, root, children, width, is_input, is_register, is_memory, is_state, is_dynamic, listed, Group, kind_is_input, kind_is_register, kind_is_memory, kind_is_state}
+use Rattle.sap_meaning.specs.Program.{World, Kind, entity, nothing, root, children, width, is_input, is_register, is_memory, is_dynamic, listed, kind_is_input, kind_is_register, kind_is_memory, kind_is_state}
 use Rattle.sap_meaning.specs.Store.{own, start, next, start_whole, next_whole, owner, Store, settle, After}
 use Rattle.sap_meaning.specs.Runs.{run_state}
 use Rattle.sap_meaning.specs.Cycle.{Tagged, given, set_inputs, root_fall, cycle, cycle_listed, run_from}
@@ -22,12 +21,12 @@ use Rattle.sap_ir.specs.Guarded.{Going, first_number, first_cell, number_at_star
 use Rattle.sap_ir.proofs.Declared.{distinct_front, distinct_behind, apart_lists, among_front, among_behind, found_first, found_second, not_found, not_readable, readable_width}
 use Rattle.sap_plain.specs.Nested.{Nested, Forest, declarations}
 use Rattle.sap_plain.specs.Nested as nested
-use Rattle.sap_plain.specs.Does.{child_does, enter, falls_of, run_after, plain_run}
+use Rattle.sap_plain.specs.Does.{child_does, enter, falls_of, run_after}
 use Rattle.sap_plain.specs.Does as plain
 use Rattle.sap_interface.specs.PortNames as ports
 use Rattle.sap_interface.specs.StandsFor.{Named, name, world, depth, StandsFor, IsRefusedAt}
 use Rattle.sap_interface.specs.Compiled.{coded, coded_stream, CyclesStand}
-use Rattle.sap_tags.specs.Keys.{Value, Tag, Seat, Refused, Level, key_name}
+use Rattle.sap_tags.specs.Keys.{Value, Tag, Seat, Refused, Level, key_name, numeral}
 use Rattle.sap_tags.specs.Setting.{Setting, setting_of}
 use Rattle.sap_tags.specs.States.{top_plain}
 use Rattle.sap_tags.specs.Plain.{variable, level_at_start, value_var, tag_var, seat_var, all_entities, shown_registers, has_own_tag, tag_registers, seat_registers, site_wires, memory_of, tags_of, plain_of}
@@ -41,21 +40,16 @@ use Rattle.sap_tags.proofs.Groups.{LawfulStates, goes_run}
 use Rattle.sap_tags.proofs.Falls.{Loose, Cycles, shaped_top, top_runs}
 use Rattle.sap_tags.proofs.Ends.{refusals_told, levels_told, sites_told, count_rises}
 use Rattle.sap_tags.proofs.Premises.{Design}
+use Rattle.sap_tags.proofs.Numerals.{numeral_decimal}
 
 less_than : (x n : ℕ) → nat_lt x n ≡ true → x < n
 less_than x n h = grind (arith, common_steps)
-
-lt_le : (x n : ℕ) → nat_lt x n ≡ true → nat_le x n ≡ true
-lt_le x n h = grind (arith, common_steps)
 
 le_not : (x n : ℕ) → nat_le x n ≡ true → nat_eq x n ≡ false → nat_lt x n ≡ true
 le_not x n h e = grind (arith, common_steps)
 
 lt_not : (x n : ℕ) → nat_lt x n ≡ true → nat_eq x n ≡ false
 lt_not x n h = grind (arith, common_steps)
-
-le_self : (n : ℕ) → nat_le n n ≡ true
-le_self n = grind (arith, common_steps)
 
 pub test_of_lt : (x n : ℕ) → x < n → nat_lt x n ≡ true
 test_of_lt x n h = grind (arith, common_steps)
@@ -64,30 +58,24 @@ positive : (n : ℕ) → 0 < n → nat_lt 0 n ≡ true
 positive n h = test_of_lt 0 n h
 
 -- the names of ports
-module _ (d : Named) (few : root (world d) < 2 ^ 64) where
-  entity_known : (x : ℕ) → nat_lt x (root (world d)) ≡ true → nat_lt x (2 ^ 64) ≡ true
-  entity_known x h = within x (root (world d)) (2 ^ 64) h few
-    where
-      within : (x n m : ℕ) → nat_lt x n ≡ true → n < m → nat_lt x m ≡ true
-      within x n m h l = grind (arith, common_steps)
-
+module _ (d : Named) where
   pub value_known : (x : ℕ) → nat_lt x (root (world d)) ≡ true → key_name d (Value x) ≡ ports.value_name (name d x)
-  value_known x h = rw (entity_known x h, h) refl
+  value_known x h = rw h refl
 
   pub tag_known : (x : ℕ) → nat_lt x (root (world d)) ≡ true → key_name d (Tag x) ≡ ports.tag_name (name d x)
-  tag_known x h = rw (entity_known x h, h) refl
+  tag_known x h = rw h refl
 
   pub seat_known : (x : ℕ) → nat_lt x (root (world d)) ≡ true → key_name d (Seat x) ≡ ports.seat_name (name d x)
-  seat_known x h = rw (entity_known x h, lt_not x (root (world d)) h, h) refl
+  seat_known x h = rw (lt_not x (root (world d)) h, h) refl
 
   pub root_known : key_name d (Seat (root (world d))) ≡ ports.root_seat
-  root_known = rw (test_of_lt (root (world d)) (2 ^ 64) few, eq-eqb (root (world d)) (root (world d)) refl) refl
+  root_known = rw (eq-eqb (root (world d)) (root (world d)) refl) refl
 
-  pub refused_known : (k : ℕ) → nat_lt k (2 ^ 64) ≡ true → key_name d (Refused k) ≡ ports.refused_name k
-  refused_known k h = rw h refl
+  pub refused_known : (k : ℕ) → k < 2 ^ 64 → key_name d (Refused k) ≡ ports.refused_name k
+  refused_known k h = ap (λ (n : Name). codes "c_" ++ n) (numeral_decimal k h)
 
-  pub level_known : (k : ℕ) → nat_lt k (2 ^ 64) ≡ true → key_name d (Level k) ≡ ports.level_name k
-  level_known k h = rw h refl
+  pub level_known : (k : ℕ) → k < 2 ^ 64 → key_name d (Level k) ≡ ports.level_name k
+  level_known k h = ap (λ (n : Name). codes "l_" ++ n) (numeral_decimal k h)
 
 -- the wires of a site
 pub refused_in : (d : Named) (u j k n : ℕ) → k ≤ j → j < k + n → In (site_wires d u k n) (variable (key_name d (Refused j)) 1 0)
@@ -280,8 +268,8 @@ module _ (d : Named) (tag sites : ℕ) (design : Design d tag sites) where
   pub lawful_states : LawfulStates set
   lawful_states = record {
     apart = λ s t h k. rw (h, k) (design.names.apart s t h k);
-    seats = λ s h. ap (λ (b : Bool). ports.seat_name (if b then name d s else decimal s)) h ∙ sym (seat_known d design.few_entities s h);
-    root_seat = sym (root_known d design.few_entities);
+    seats = λ s h. ap (λ (b : Bool). ports.seat_name (if b then name d s else numeral s)) h ∙ sym (seat_known d s h);
+    root_seat = sym (root_known d);
   }
 
   -- what the numbers after a cycle have for the next one
@@ -429,7 +417,7 @@ module _ (d : Named) (tag sites : ℕ) (design : Design d tag sites) where
 
   root_number : (before : Option Valuation) (inputs : List Tagged) (t : Store) → Loose set (going before inputs) (entered inputs t) → 0 < children w n
       → (going before inputs).now.value nested.root_seat ≡ (entered inputs t).child n
-  root_number before inputs t l h = ap (going before inputs).now.value (sym (root_known d design.few_entities)) ∙ l.seat n h
+  root_number before inputs t l h = ap (going before inputs).now.value (sym (root_known d)) ∙ l.seat n h
 
   abbrev Final : Option Valuation → List Tagged → Store → Type 0
   Final before inputs t = Cycles set (going before inputs) (final before inputs) (body_after inputs t)
@@ -438,7 +426,7 @@ module _ (d : Named) (tag sites : ℕ) (design : Design d tag sites) where
   turned before inputs t fit r some =
       let l = begins before inputs t fit r in
       let shape = shaped_top set (listed d.program.hang) 0 d.program.states in
-      let goes = goes_run set widths lawful lawful_states n nested.root_seat d.program.states forest (sym (root_known d design.few_entities)) design.fine.states design.tidy shape in
+      let goes = goes_run set widths lawful lawful_states n nested.root_seat d.program.states forest (sym (root_known d)) design.fine.states design.tidy shape in
       let z = root_number before inputs t l some in
       subst (λ (k : ℕ). Cycles set (going before inputs) (child_does widths (enter nested.root_seat forest) forest k (going before inputs)) (body_after inputs t)) (sym z)
       (top_runs set widths lawful lawful_states (listed d.program.hang) d.program.states d.program.states 0 0 (enter nested.root_seat forest) design.fine.states design.fine.states
@@ -470,8 +458,8 @@ module _ (d : Named) (tag sites : ℕ) (design : Design d tag sites) where
   own_level g t l x h m =
       l.tag x (rw (h, m) refl) ∙ ap (λ (b : Bool). d.code (t.level (if b then next_whole x else own x))) m
 
-  pub site_bound : (k : ℕ) → k ≤ sites → nat_lt k (2 ^ 64) ≡ true
-  site_bound k h = test_of_lt k (2 ^ 64) (fits k (2 ^ 64) h design.few)
+  pub site_bound : (k : ℕ) → k ≤ sites → k < 2 ^ 64
+  site_bound k h = fits k (2 ^ 64) h design.few
     where
       fits : (k m : ℕ) → k ≤ sites → 1 + sites ≤ m → k < m
       fits k m h l = omega (arith, h, l)
@@ -488,30 +476,30 @@ module _ (d : Named) (tag sites : ℕ) (design : Design d tag sites) where
       let st = c.stands in
       record {
         register_values = λ x r.
-            ap g.now.value (sym (value_known d design.few_entities x (register_within w x r))) ∙ st.value x (either_second (is_input w x) (is_register w x) r) ∙ sym (e.0 x);
+            ap g.now.value (sym (value_known d x (register_within w x r))) ∙ st.value x (either_second (is_input w x) (is_register w x) r) ∙ sym (e.0 x);
         register_tags = λ x r.
-            ap g.now.value (sym (tag_known d design.few_entities x (register_within w x r)))
+            ap g.now.value (sym (tag_known d x (register_within w x r)))
             ∙ own_level g s st x (register_within w x r) (register_no_memory (entity w x).kind r) ∙ ap d.code (sym (e.1 x));
-        cells = λ m i h l. ap (λ (a : Name). g.next a i) (sym (value_known d design.few_entities m (memory_within w m h))) ∙ st.nexts m i h ∙ sym (e.2 m i);
+        cells = λ m i h l. ap (λ (a : Name). g.next a i) (sym (value_known d m (memory_within w m h))) ∙ st.nexts m i h ∙ sym (e.2 m i);
         cell_tags = λ m i h q l.
-            ap (λ (a : Name). g.next a i) (sym (tag_known d design.few_entities m (memory_within w m h))) ∙ st.next_tags m i h q ∙ ap d.code (sym (e.3 m i))
+            ap (λ (a : Name). g.next a i) (sym (tag_known d m (memory_within w m h))) ∙ st.next_tags m i h q ∙ ap d.code (sym (e.3 m i))
             ∙ ap (λ (b : Bool). d.code ((settle s).level (if b then start_whole m else start m i))) (sym q);
         memory_tags = λ m h q.
-            ap g.now.value (sym (tag_known d design.few_entities m (memory_within w m h)))
+            ap g.now.value (sym (tag_known d m (memory_within w m h)))
             ∙ st.tag m (rw (memory_within w m h, q) (either_second (not (is_memory w m)) true refl))
             ∙ ap (λ (b : Bool). d.code (s.level (if b then next_whole m else own m))) h ∙ ap d.code (sym (e.4 m));
         state_tags = λ x h l.
             let b = test_of_lt x n l in
-            ap g.now.value (sym (tag_known d design.few_entities x b)) ∙ own_level g s st x b (state_no_memory (entity w x).kind h) ∙ ap d.code (sym (e.1 x));
-        seats = λ q l h. ap g.now.value (sym (seat_known d design.few_entities q (test_of_lt q n l))) ∙ st.seat q h ∙ sym (e.5 q);
-        root_seat = ap g.now.value (sym (root_known d design.few_entities)) ∙ st.seat n some ∙ sym (e.5 n);
+            ap g.now.value (sym (tag_known d x b)) ∙ own_level g s st x b (state_no_memory (entity w x).kind h) ∙ ap d.code (sym (e.1 x));
+        seats = λ q l h. ap g.now.value (sym (seat_known d q (test_of_lt q n l))) ∙ st.seat q h ∙ sym (e.5 q);
+        root_seat = ap g.now.value (sym (root_known d)) ∙ st.seat n some ∙ sym (e.5 n);
         refusals = λ k l m.
             refusals_told k a.refused (g.now.value (ports.refused_name k))
-            (ap g.now.value (sym (refused_known d design.few_entities k (site_bound k m))) ∙ c.refused k
+            (ap g.now.value (sym (refused_known d k (site_bound k m))) ∙ c.refused k
             ∙ ap (refused_after k a.refused) (wire_starts before inputs (variable (key_name d (Refused k)) 1 0) (in_front (site_wires d tag 1 sites) _ _ (refused_in d tag k 1 sites l (omega (arith, m))))));
         refusal_levels = λ k u h.
             let b = few k u h in
-            ap g.now.value (sym (level_known d design.few_entities k (site_bound k b.1))) ∙ c.levels k ∙ levels_told d.code k u 1 a.refused _ rises h;
+            ap g.now.value (sym (level_known d k (site_bound k b.1))) ∙ c.levels k ∙ levels_told d.code k u 1 a.refused _ rises h;
       }
 
   rests_next : (before : Option Valuation) (inputs : List Tagged) (a : After) → Cycles set (going before inputs) (final before inputs) a → Rests (Some (shown before inputs)) (settle a.store)

@@ -18,7 +18,6 @@ use Rattle.sap_meaning.specs.Program.{World, root, children}
 use Rattle.sap_resolve.specs.Terms.{entity_number}
 use Rattle.sap_resolve.specs.Worlds.{states_in, states_below, all_declared, no_children, group_length, state_children, group_children, world_of}
 use Rattle.sap_resolve.specs.Worlds as worlds
-use Rattle.sap_names.proofs.Built.{few_entities}
 use Rattle.sap_resolve.proofs.Lookup.{entities_length}
 use Rattle.sap_sized.proofs.Programs.{names_fit_law}
 use Rattle.sap_premises.proofs.Faultless.{nil_left, nil_right}
@@ -257,9 +256,6 @@ module _ (ls : Levels) (D : DesignTree) (sg : IsSound ls D) where
       (counted_states D.states)
       (at_most (states_count D.states) most_states (and_right _ (nat_le (states_count D.states) most_states) (and_left _ _ (and_left _ _ split.1))))
 
-  entities_few : root w < 2 ^ 64
-  entities_few = let a = entities_length ls D in let b = few_entities D sg.whole in omega (arith, a, b)
-
   pub design : Design d (width_of (order_of ls)) (sites_of D)
   design = record {
     fine = fine_law names_fit_law ls D sg.lattice.laws sg.formed;
@@ -267,7 +263,6 @@ module _ (ls : Levels) (D : DesignTree) (sg : IsSound ls D) where
     tidy = tidy ls D;
     numbered = numbered ls D states_fit;
     few = few_sites;
-    few_entities = entities_few;
     few_children = few_kids;
     names = names;
     parents = λ p h. le_root p (root w) (subst (λ (n : ℕ). p < n) child_count (past w.children p h));

@@ -3,17 +3,17 @@ use Rattle.std.proofs.Common.{◌≡◌, ℕ, zero, suc, ◌+◌, ◌≤◌, Lis
 use Rattle.std.proofs.lemmas.Bool.{eqb-true, eq-eqb}
 use Rattle.sap_maps.specs.Maps.{Name}
 use Rattle.sap_meaning.specs.Program as program
-use Rattle.sap_meaning.specs.Program.{World, Kind, Entity, entity, root, children, is_input, is_register, is_memory, is_state, is_dynamic, kind_is_input, kind_is_register, kind_is_memory, kind_is_state, Command, Do, Try, If, Block, End, Then, State, Node, Group, None, More}
+use Rattle.sap_meaning.specs.Program.{World, Kind, Entity, entity, root, children, is_input, is_register, is_memory, is_dynamic, kind_is_input, kind_is_register, kind_is_memory, kind_is_state, Command, Do, Try, If, Block, End, Then, State, Node, Group, None, More}
 use Rattle.sap_net.specs.Names.{is_among, AreDistinct}
 use Rattle.sap_ir.specs.declared.guarded.Var.{Var}
 use Rattle.sap_ir.specs.declared.guarded.Store.{Store}
 use Rattle.sap_ir.specs.IsGuarded.{declared}
 use Rattle.sap_plain.specs.Nested.{declarations}
 use Rattle.sap_interface.specs.StandsFor.{Named, world, depth}
-use Rattle.sap_tags.specs.Keys.{Key, Value, Tag, Seat, Refused, Level, Wire, First, index, same, key_name}
+use Rattle.sap_tags.specs.Keys.{Key, Value, Tag, Seat, Refused, Level, Wire, First, Inner, index, same, key_name}
 use Rattle.sap_tags.specs.Commands.{wires, wires_block}
 use Rattle.sap_tags.specs.States.{wires_state, wires_group, saved}
-use Rattle.sap_tags.specs.Plain.{names_of, level_at_start, for_entities, shown_registers, has_own_tag, tag_registers, seat_var, seat_registers, site_wires, step_wires, command_wires, block_wires, state_wires, group_wires, top_wires, first_wires, memory_of, tags_of, plain_of}
+use Rattle.sap_tags.specs.Plain.{names_of, level_at_start, for_entities, shown_registers, has_own_tag, tag_registers, seat_var, seat_registers, site_wires, step_wires, command_wires, block_wires, state_wires, group_wires, first_wires, inner_wires, memory_of, tags_of, plain_of}
 use Rattle.sap_tags.proofs.Bools.{apart_tests, refuted}
 use Rattle.sap_tags.proofs.KeyNames.{NamesApart, names_apart, same_is}
 
@@ -234,51 +234,30 @@ module _ (d : Named) (tag : ℕ) where
     state_named k (Node s b g) =
         let m = wires_block b in
         let n = wires_group g in
-        map_join (λ (x : Var). x.name) (block_wires d tag k b) _
-        ∙ ap₂ (λ (xs ys : List Name). xs ++ ys) (block_named k b) (one_more (group_wires d tag (k + m + 1) g) (k + m) n tag (group_named (k + m + 1) g))
-        ∙ sym (map_join (key_name d) (wire_keys k m) (wire_keys (k + m) (1 + n))) ∙ ap keyed (wires_join k m (1 + n)) ∙ ap (λ (i : ℕ). keyed (wire_keys k i)) (count m n)
+        one_more (block_wires d tag (k + 1) b ++ group_wires d tag (k + 1 + m) g) k (m + n) tag
+        (two_lists (block_wires d tag (k + 1) b) (group_wires d tag (k + 1 + m) g) (k + 1) m n (block_named (k + 1) b) (group_named (k + 1 + m) g))
+        ∙ ap (λ (i : ℕ). keyed (wire_keys k i)) (count m n)
       where
-        count : (m n : ℕ) → m + (1 + n) ≡ m + 1 + n
+        count : (m n : ℕ) → 1 + (m + n) ≡ 1 + m + n
         count m n = omega arith
 
     group_named : (k : ℕ) (g : Group) → names_of (group_wires d tag k g) ≡ keyed (wire_keys k (wires_group g))
     group_named k None = refl
     group_named k (More (Node s b g) rest) =
-        let n = wires_block b + 1 + wires_group g in
+        let n = 1 + wires_block b + wires_group g in
         two_lists (state_wires d tag k (Node s b g)) (group_wires d tag (k + n) rest) k n (wires_group rest) (state_named k (Node s b g)) (group_named (k + n) rest)
-
-  -- how many wires top-level states have
-  abbrev pub top_count : Group → ℕ
-  top_count None = 0
-  top_count (More (Node s b g) rest) = 1 + (wires_block b + 1 + wires_group g) + top_count rest
-
-  top_named : (k : ℕ) (g : Group) → names_of (top_wires d tag k g) ≡ keyed (wire_keys k (top_count g))
-  top_named k None = refl
-  top_named k (More (Node s b g) rest) =
-      let m = wires_block b + 1 + wires_group g in
-      let n = top_count rest in
-      one_more (state_wires d tag (k + 1) (Node s b g) ++ top_wires d tag (k + (1 + m)) rest) k (m + n) tag
-      (two_lists (state_wires d tag (k + 1) (Node s b g)) (top_wires d tag (k + (1 + m)) rest) (k + 1) m n (state_named (k + 1) (Node s b g))
-      (ap (λ (i : ℕ). names_of (top_wires d tag i rest)) (move k m) ∙ top_named (k + 1 + m) rest))
-      ∙ ap (λ (i : ℕ). keyed (wire_keys k i)) (count m n)
-    where
-      move : (k m : ℕ) → k + (1 + m) ≡ k + 1 + m
-      move k m = omega arith
-
-      count : (m n : ℕ) → 1 + (m + n) ≡ 1 + m + n
-      count m n = omega arith
 
 -- the list on which a key stands
 abbrev pub value_list : Kind → ℕ
 value_list program.input = 0
 value_list program.register = 1
-value_list (program.memory depth) = 8
-value_list (program.state place last) = 9
+value_list (program.memory depth) = 9
+value_list (program.state place last) = 10
 
 abbrev pub tag_list : Kind → Bool → ℕ
 tag_list program.input b = 0
 tag_list program.register b = 1
-tag_list (program.memory depth) b = if b then 2 else 8
+tag_list (program.memory depth) b = if b then 2 else 9
 tag_list (program.state place last) b = 2
 
 abbrev pub list_number : World → Key → ℕ
@@ -288,7 +267,8 @@ list_number w (Seat p) = if nat_eq p (root w) then 4 else 3
 list_number w (Refused k) = 5
 list_number w (Level k) = 5
 list_number w (First m) = 6
-list_number w (Wire k) = 7
+list_number w (Inner s) = 7
+list_number w (Wire k) = 8
 
 input_lists : (k : Kind) (b : Bool) → kind_is_input k ≡ true → (value_list k ≡ 0) × (tag_list k b ≡ 0)
 input_lists program.input b h = (refl, refl)
@@ -308,7 +288,7 @@ own_lists program.register b h = absurd (apart_tests (sym h))
 own_lists (program.memory depth) b h = rw h refl
 own_lists (program.state place last) b h = refl
 
-memory_lists : (k : Kind) (b : Bool) → kind_is_memory k ≡ true → (value_list k ≡ 8) × (b ≡ false → tag_list k b ≡ 8)
+memory_lists : (k : Kind) (b : Bool) → kind_is_memory k ≡ true → (value_list k ≡ 9) × (b ≡ false → tag_list k b ≡ 9)
 memory_lists program.input b h = absurd (apart_tests (sym h))
 memory_lists program.register b h = absurd (apart_tests (sym h))
 memory_lists (program.memory depth) b h = (refl, λ e. rw e refl)
@@ -330,6 +310,9 @@ module _ (d : Named) (tag sites : ℕ) (names : NamesApart d) where
   abbrev first_keys : ℕ → List Key
   first_keys m = First m ∷ []
 
+  abbrev inner_keys : ℕ → List Key
+  inner_keys p = Inner p ∷ []
+
   abbrev pub store_keys : ℕ → List Key
   store_keys m = Value m ∷ (if is_dynamic (world d) m then [] else Tag m ∷ [])
 
@@ -340,7 +323,7 @@ module _ (d : Named) (tag sites : ℕ) (names : NamesApart d) where
   all_keys =
       of_entities (is_input (world d)) two_keys
       ++ ((of_entities (is_register (world d)) two_keys ++ (of_entities (has_own_tag d) tag_keys ++ (of_entities (λ p. nat_lt 0 (children (world d) p)) seat_keys ++ Seat (root (world d)) ∷ [])))
-      ++ ((site_keys 1 sites ++ (of_entities (saved (world d)) first_keys ++ wire_keys 0 (top_count d tag d.program.states)))
+      ++ ((site_keys 1 sites ++ (of_entities (saved (world d)) first_keys ++ (of_entities (λ p. nat_lt 0 (children (world d) p)) inner_keys ++ wire_keys 0 (wires_group d.program.states))))
       ++ of_entities (is_memory (world d)) store_keys))
 
   -- keys of one list before those of later ones
@@ -362,7 +345,7 @@ module _ (d : Named) (tag sites : ℕ) (names : NamesApart d) where
       later : (n : ℕ) → suc c ≤ n → c ≤ n
       later n l = omega (arith, l)
 
-  of_wires : (k n : ℕ) → Every (λ a. list_of a ≡ 7) (wire_keys k n)
+  of_wires : (k n : ℕ) → Every (λ a. list_of a ≡ 8) (wire_keys k n)
   of_wires k zero = tt
   of_wires k (suc n) = (refl, of_wires (k + 1) n)
 
@@ -381,12 +364,12 @@ module _ (d : Named) (tag sites : ℕ) (names : NamesApart d) where
   store_index m true = (refl, tt)
   store_index m false = (refl, (refl, tt))
 
-  store_list : (m : ℕ) → is_memory (world d) m ≡ true → Every (λ a. list_of a ≡ 8) (store_keys m)
+  store_list : (m : ℕ) → is_memory (world d) m ≡ true → Every (λ a. list_of a ≡ 9) (store_keys m)
   store_list m h =
       let r = memory_lists (entity (world d) m).kind (is_dynamic (world d) m) h in
       (r.0, if_other (is_dynamic (world d) m) r.1 refl)
     where
-      if_other : (b : Bool) → (is_dynamic (world d) m ≡ false → tag_list (entity (world d) m).kind (is_dynamic (world d) m) ≡ 8) → is_dynamic (world d) m ≡ b → Every (λ a. list_of a ≡ 8) (if b then [] else Tag m ∷ [])
+      if_other : (b : Bool) → (is_dynamic (world d) m ≡ false → tag_list (entity (world d) m).kind (is_dynamic (world d) m) ≡ 9) → is_dynamic (world d) m ≡ b → Every (λ a. list_of a ≡ 9) (if b then [] else Tag m ∷ [])
       if_other true f e = tt
       if_other false f e = (f e, tt)
 
@@ -407,15 +390,18 @@ module _ (d : Named) (tag sites : ℕ) (names : NamesApart d) where
   all_once : OnceEach all_keys
   all_once =
       let entities = (world d).entities in
-      let stores : Ordered 8 (of_entities (is_memory (world d)) store_keys) =
+      let stores : Ordered 9 (of_entities (is_memory (world d)) store_keys) =
       record {
         once = entities_once (is_memory (world d)) store_keys (λ m. store_index m (is_dynamic (world d) m)) (λ m. store_once m (is_dynamic (world d) m)) 0 entities;
-        from = every_map (λ a. list_of a ≡ 8) (λ a. 8 ≤ list_of a) _ (λ a e. eight (list_of a) e) (entities_all (λ a. list_of a ≡ 8) (is_memory (world d)) store_keys store_list 0 entities);
+        from = every_map (λ a. list_of a ≡ 9) (λ a. 9 ≤ list_of a) _ (λ a e. nine (list_of a) e) (entities_all (λ a. list_of a ≡ 9) (is_memory (world d)) store_keys store_list 0 entities);
       } in
-      let ws : Ordered 7 (wire_keys 0 (top_count d tag d.program.states) ++ of_entities (is_memory (world d)) store_keys) =
-      ordered_join 7 (wire_keys 0 (top_count d tag d.program.states)) _ (wires_once 0 (top_count d tag d.program.states)) (of_wires 0 (top_count d tag d.program.states)) stores in
+      let ws : Ordered 8 (wire_keys 0 (wires_group d.program.states) ++ of_entities (is_memory (world d)) store_keys) =
+      ordered_join 8 (wire_keys 0 (wires_group d.program.states)) _ (wires_once 0 (wires_group d.program.states)) (of_wires 0 (wires_group d.program.states)) stores in
+      let cs = ordered_join 7 (of_entities (λ p. nat_lt 0 (children (world d) p)) inner_keys) _
+      (entities_once (λ p. nat_lt 0 (children (world d) p)) inner_keys (λ p. (refl, tt)) (λ p. (tt, tt)) 0 entities)
+      (entities_all (λ a. list_of a ≡ 7) (λ p. nat_lt 0 (children (world d) p)) inner_keys (λ p h. (refl, tt)) 0 entities) ws in
       let fs = ordered_join 6 (of_entities (saved (world d)) first_keys) _ (entities_once (saved (world d)) first_keys (λ m. (refl, tt)) (λ m. (tt, tt)) 0 entities)
-      (entities_all (λ a. list_of a ≡ 6) (saved (world d)) first_keys (λ m h. (refl, tt)) 0 entities) ws in
+      (entities_all (λ a. list_of a ≡ 6) (saved (world d)) first_keys (λ m h. (refl, tt)) 0 entities) cs in
       let ss = ordered_join 5 (site_keys 1 sites) _ (sites_once 1 sites) (of_sites 1 sites) fs in
       let rs = ordered_join 4 (Seat (root (world d)) ∷ []) _ (tt, tt) (rw (eq-eqb (root (world d)) (root (world d)) refl) (refl, tt)) ss in
       let seats = ordered_join 3 (of_entities (λ p. nat_lt 0 (children (world d) p)) seat_keys) _
@@ -431,19 +417,19 @@ module _ (d : Named) (tag sites : ℕ) (names : NamesApart d) where
       subst OnceEach
       (regroup (of_entities (is_input (world d)) two_keys) (of_entities (is_register (world d)) two_keys) (of_entities (has_own_tag d) tag_keys)
       (of_entities (λ p. nat_lt 0 (children (world d) p)) seat_keys) (Seat (root (world d)) ∷ []) (site_keys 1 sites) (of_entities (saved (world d)) first_keys)
-      (wire_keys 0 (top_count d tag d.program.states)) (of_entities (is_memory (world d)) store_keys))
+      (of_entities (λ p. nat_lt 0 (children (world d) p)) inner_keys) (wire_keys 0 (wires_group d.program.states)) (of_entities (is_memory (world d)) store_keys))
       ins.once
     where
-      eight : (n : ℕ) → n ≡ 8 → 8 ≤ n
-      eight n e = omega (arith, e)
+      nine : (n : ℕ) → n ≡ 9 → 9 ≤ n
+      nine n e = omega (arith, e)
 
-      regroup : (a b c e f g h i j : List Key) → a ++ (b ++ (c ++ (e ++ (f ++ (g ++ (h ++ (i ++ j))))))) ≡ a ++ ((b ++ (c ++ (e ++ f))) ++ ((g ++ (h ++ i)) ++ j))
-      regroup a b c e f g h i j =
+      regroup : (a b c e f g h i j k : List Key) → a ++ (b ++ (c ++ (e ++ (f ++ (g ++ (h ++ (i ++ (j ++ k)))))))) ≡ a ++ ((b ++ (c ++ (e ++ f))) ++ ((g ++ (h ++ (i ++ j))) ++ k))
+      regroup a b c e f g h i j k =
           ap (λ (z : List Key). a ++ z)
-          (sym (append_assoc b (c ++ (e ++ f)) ((g ++ (h ++ i)) ++ j)
-          ∙ ap (λ (z : List Key). b ++ z) (append_assoc c (e ++ f) ((g ++ (h ++ i)) ++ j)
-          ∙ ap (λ (z : List Key). c ++ z) (append_assoc e f ((g ++ (h ++ i)) ++ j)
-          ∙ ap (λ (z : List Key). e ++ (f ++ z)) (append_assoc g (h ++ i) j ∙ ap (λ (z : List Key). g ++ z) (append_assoc h i j))))))
+          (sym (append_assoc b (c ++ (e ++ f)) ((g ++ (h ++ (i ++ j))) ++ k)
+          ∙ ap (λ (z : List Key). b ++ z) (append_assoc c (e ++ f) ((g ++ (h ++ (i ++ j))) ++ k)
+          ∙ ap (λ (z : List Key). c ++ z) (append_assoc e f ((g ++ (h ++ (i ++ j))) ++ k)
+          ∙ ap (λ (z : List Key). e ++ (f ++ z)) (append_assoc g (h ++ (i ++ j)) k ∙ ap (λ (z : List Key). g ++ z) (append_assoc h (i ++ j) k ∙ ap (λ (z : List Key). h ++ z) (append_assoc i j k)))))))
 
   store_named : (m : ℕ) → map (λ (s : Store). s.name) (memory_of d m ∷ tags_of d tag m) ≡ map (key_name d) (store_keys m)
   store_named m = ap (λ (ns : List Name). key_name d (Value m) ∷ ns) (by (is_dynamic (world d) m))
@@ -466,18 +452,20 @@ module _ (d : Named) (tag sites : ℕ) (names : NamesApart d) where
       let ts = entities_named {A = Var} var_name d (has_own_tag d) _ tag_keys (λ x. refl) 0 entities in
       let seats = entities_named {A = Var} var_name d (λ p. nat_lt 0 (children (world d) p)) _ seat_keys (λ x. refl) 0 entities in
       let fs = entities_named {A = Var} var_name d (saved (world d)) _ first_keys (λ x. refl) 0 entities in
+      let inners = entities_named {A = Var} var_name d (λ p. nat_lt 0 (children (world d) p)) _ inner_keys (λ x. refl) 0 entities in
       let ms = entities_named {A = Store} (λ s. s.name) d (is_memory (world d)) _ store_keys store_named 0 entities in
       ap₂ (λ (a b : List Name). a ++ b) ins
       (ap₂ (λ (a b : List Name). a ++ b)
       (joined_names var_name (shown_registers d tag) (tag_registers d tag ++ seat_registers d) _ _ regs
       (joined_names var_name (tag_registers d tag) (seat_registers d) _ _ ts (joined_names var_name _ (seat_var d (root (world d)) ∷ []) _ (Seat (root (world d)) ∷ []) seats refl)))
       (ap₂ (λ (a b : List Name). a ++ b)
-      (joined_names var_name (site_wires d tag 1 sites) (first_wires d tag ++ top_wires d tag 0 d.program.states) _ _ (sites_named d tag 1 sites)
-      (joined_names var_name (first_wires d tag) (top_wires d tag 0 d.program.states) _ _ fs (top_named d tag 0 d.program.states)))
+      (joined_names var_name (site_wires d tag 1 sites) (first_wires d tag ++ (inner_wires d tag ++ group_wires d tag 0 d.program.states)) _ _ (sites_named d tag 1 sites)
+      (joined_names var_name (first_wires d tag) (inner_wires d tag ++ group_wires d tag 0 d.program.states) _ _ fs
+      (joined_names var_name (inner_wires d tag) (group_wires d tag 0 d.program.states) _ _ inners (group_named d tag 0 d.program.states))))
       ms))
       ∙ sym (map_four (of_entities (is_input (world d)) two_keys)
       (of_entities (is_register (world d)) two_keys ++ (of_entities (has_own_tag d) tag_keys ++ (of_entities (λ p. nat_lt 0 (children (world d) p)) seat_keys ++ Seat (root (world d)) ∷ [])))
-      (site_keys 1 sites ++ (of_entities (saved (world d)) first_keys ++ wire_keys 0 (top_count d tag d.program.states)))
+      (site_keys 1 sites ++ (of_entities (saved (world d)) first_keys ++ (of_entities (λ p. nat_lt 0 (children (world d) p)) inner_keys ++ wire_keys 0 (wires_group d.program.states))))
       (of_entities (is_memory (world d)) store_keys))
     where
       joined_names : {A : Type 0} (f : A → Name) (xs ys : List A) (ks ls : List Key) → map f xs ≡ nk ks → map f ys ≡ nk ls → map f (xs ++ ys) ≡ nk (ks ++ ls)

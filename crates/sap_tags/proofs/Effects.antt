@@ -4,7 +4,7 @@ use Rattle.std.specs.Prelude.{◌==◌}
 use Rattle.std.proofs.lemmas.Bool.{cases_Bool, eqb-true}
 use Rattle.sap_maps.specs.Maps.{Name}
 use Rattle.sap_maps.specs.Term.{Term}
-use Rattle.sap_meaning.specs.Program.{World, Kind, entity, is_dynamic, is_input, is_register, is_state, is_memory, width, children, kind_is_input, kind_is_register, kind_is_state, LevelTerm, Step, Set, Write, Retag, RetagCell, Goto, Fall, Group}
+use Rattle.sap_meaning.specs.Program.{Kind, entity, is_dynamic, is_register, is_memory, children, kind_is_input, kind_is_register, kind_is_state, LevelTerm, Step, Set, Retag, Fall, Group}
 use Rattle.sap_meaning.specs.Program as program
 use Rattle.sap_meaning.specs.Store.{own, start, Store, number, level, child, put_number, put_level, After}
 use Rattle.sap_meaning.specs.Expressions.{value, tag, new_level}
@@ -13,7 +13,7 @@ use Rattle.sap_meaning.specs.Does.{effect}
 use Rattle.sap_meaning.specs.Fine.{FineStep}
 use Rattle.sap_ir.specs.Guarded.{Going, value_in}
 use Rattle.sap_plain.specs.Does.{body_does}
-use Rattle.sap_tags.specs.Keys.{Value, Tag, Seat, Refused, Level, Wire}
+use Rattle.sap_tags.specs.Keys.{Value, Tag, Seat, Refused, Level, Wire, Inner}
 use Rattle.sap_tags.specs.Setting.{Setting}
 use Rattle.sap_tags.specs.Levels.{expr}
 use Rattle.sap_tags.specs.Commands.{effect_of}
@@ -22,7 +22,7 @@ use Rattle.sap_tags.proofs.Bools.{apart_tests, either_second, register_within, t
 use Rattle.sap_tags.proofs.Terms.{bit, expr_value, own_tag}
 use Rattle.sap_tags.proofs.StepTerms.{level_written, number_stays}
 use Rattle.sap_tags.proofs.Puts.{put_to, at_put, kept_next, kept_put, memory_put, stands_set, stands_aside}
-use Rattle.sap_tags.proofs.Looks.{Quiet, quiet_next, turns_after, turns_stay, quiet_wire, aside_wire, here_wire}
+use Rattle.sap_tags.proofs.Looks.{Quiet, quiet_next, turns_after, turns_stay, quiet_inner, aside_inner, here_inner}
 
 -- A step's effect begins: b is the store before, and r the raised one.
 pub record Begins (d : Setting) (k : ℕ) (sp : Spot) (t : Step) (l : ℕ) (b r : Store) (g : Going) : Type 0 where
@@ -34,10 +34,10 @@ pub record Begins (d : Setting) (k : ℕ) (sp : Spot) (t : Step) (l : ℕ) (b r 
   pub new : at d g (Wire (k + 3)) ≡ d.code (level_written d.world t l b)
   pub keeps : at d g (Wire (k + 4)) ≡ bit (number_stays d.world t b)
 
--- what a fall does, whose context is in the wire `base`
+-- what a fall does, which leaves the wires before `base` alone
 abbrev pub FallsRun : Setting → (Going → Going) → (base state : ℕ) → (ℕ → ℕ → Store → After) → Type 0
 FallsRun d f base st enter =
-    (g : Going) (s : Store) (l : ℕ) → Stands d g s → at d g (Wire base) ≡ d.code l → Turns d base g (f g) (enter (child st s) l s)
+    (g : Going) (s : Store) (l : ℕ) → Stands d g s → at d g (Inner st) ≡ d.code l → Turns d base g (f g) (enter (child st s) l s)
 
 pub chosen : (b : Bool) (x y : ℕ) → (if bit b == 0 then y else x) ≡ (if b then x else y)
 chosen true x y = refl
@@ -107,10 +107,10 @@ module _ (d : Setting) (widths : Name → ℕ) (laws : Lawful d widths) where
   state_kind (program.memory depth) h f = refl
   state_kind (program.state place last) h f = refl
 
-  module _ (f : Going → Going) (go : Name → Going → Going) (base : ℕ) (enter : ℕ → ℕ → Store → After) where
+  module _ (f : Going → Going) (go : Name → Going → Going) (enter : ℕ → ℕ → Store → After) where
     pub set_effect : (q : Group) (k : ℕ) (sp : Spot) (site x : ℕ) (e : Term ℕ) (l : ℕ) (b r : Store) (g : Going) → FineStep d.world q sp.children (Set site x e)
         → Begins d k sp (Set site x e) l b r g
-        → Turns d k g (body_does widths f go (effect_of d base k (Set site x e)) g) (effect d.world sp enter (Set site x e) l b r)
+        → Turns d k g (body_does widths f go (effect_of d sp k (Set site x e)) g) (effect d.world sp enter (Set site x e) l b r)
     unfolding effect put_to
     set_effect q k sp site x e l b r g fine h = elim (cases_Bool (is_dynamic d.world x)) [
       | inl t ↦
@@ -136,7 +136,7 @@ module _ (d : Setting) (widths : Name → ℕ) (laws : Lawful d widths) where
 
     pub retag_effect : (q : Group) (k : ℕ) (sp : Spot) (site x : ℕ) (n : LevelTerm) (l : ℕ) (b r : Store) (g : Going) → FineStep d.world q sp.children (Retag site x n)
         → Begins d k sp (Retag site x n) l b r g
-        → Turns d k g (body_does widths f go (effect_of d base k (Retag site x n)) g) (effect d.world sp enter (Retag site x n) l b r)
+        → Turns d k g (body_does widths f go (effect_of d sp k (Retag site x n)) g) (effect d.world sp enter (Retag site x n) l b r)
     unfolding effect put_to
     retag_effect q k sp site x n l b r g fine h = elim (cases_Bool (is_register d.world x)) [
       | inl t ↦
@@ -161,13 +161,13 @@ module _ (d : Setting) (widths : Name → ℕ) (laws : Lawful d widths) where
         g1 : Going
         g1 = put_to d g (Tag x) (at d g (Wire (k + 3)))
 
-    pub fall_effect : (k : ℕ) (sp : Spot) (site : ℕ) (hang : List Bool) (l : ℕ) (b r : Store) (g : Going) → k ≤ base → FallsRun d f base sp.state enter
+    pub fall_effect : (base k : ℕ) (sp : Spot) (site : ℕ) (hang : List Bool) (l : ℕ) (b r : Store) (g : Going) → k ≤ base → FallsRun d f base sp.state enter
         → Begins d k sp (Fall site hang) l b r g
-        → Turns d k g (body_does widths f go (effect_of d base k (Fall site hang)) g) (effect d.world sp enter (Fall site hang) l b r)
+        → Turns d k g (body_does widths f go (effect_of d sp k (Fall site hang)) g) (effect d.world sp enter (Fall site hang) l b r)
     unfolding effect put_to
-    fall_effect k sp site hang l b r g kb falls h =
-        let g1 = put_to d g (Wire base) (at d g (Wire (k + 2))) in
+    fall_effect base k sp site hang l b r g kb falls h =
+        let g1 = put_to d g (Inner sp.state) (at d g (Wire (k + 2))) in
         let c = d.world.order.join l (child_level d.world sp.children (child sp.state b) b) in
-        let t = falls g1 r c (stands_aside d g g1 r h.stands (aside_wire d widths laws base g _)) (here_wire d widths laws base g _ ∙ h.inside) in
-        turns_after d k base g g1 (f g1) _ kb (quiet_wire d widths laws k base g _ kb)
+        let t = falls g1 r c (stands_aside d g g1 r h.stands (aside_inner d widths laws sp.state g _)) (here_inner d widths laws sp.state g _ ∙ h.inside) in
+        turns_after d k base g g1 (f g1) _ kb (quiet_inner d widths laws k sp.state g _)
         (subst (λ (cs : ℕ → ℕ). Turns d base g1 (f g1) (enter (cs sp.state) c r)) h.seats t)

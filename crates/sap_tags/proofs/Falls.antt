@@ -13,7 +13,7 @@ use Rattle.sap_meaning.specs.Fine.{FineNode, FineGroup, size}
 use Rattle.sap_ir.specs.Guarded.{Going, value_in}
 use Rattle.sap_plain.specs.Nested.{Body, Forest, none, state, seat_name}
 use Rattle.sap_plain.specs.Does.{body_does, child_does, enter}
-use Rattle.sap_tags.specs.Keys.{Value, Tag, Seat, Refused, Level, Wire, First}
+use Rattle.sap_tags.specs.Keys.{Value, Tag, Seat, Refused, Level, Wire, First, Inner}
 use Rattle.sap_tags.specs.Setting.{Setting}
 use Rattle.sap_tags.specs.Levels.{var}
 use Rattle.sap_tags.specs.Commands.{gives, raises, wires_block, block_plain}
@@ -77,22 +77,22 @@ cycles d k g g1 g' a q r = record {
   levels = λ n. r.levels n ∙ ap (level_after d.code n a.refused) (q.levels n);
 }
 
-pub shaped_group : (d : Setting) (parent p k : ℕ) (g : Group) → Shaped d g (group_plain d parent p k g)
+pub shaped_group : (d : Setting) (parent k : ℕ) (g : Group) → Shaped d g (group_plain d parent k g)
 unfolding group_plain
-shaped_group d parent p k None = tt
-shaped_group d parent p k (More (Node s b g) rest) =
-    (refl, shaped_group d s (k + wires_block b) (k + wires_block b + 1) g, shaped_group d parent p (k + (wires_block b + 1 + wires_group g)) rest)
+shaped_group d parent k None = tt
+shaped_group d parent k (More (Node s b g) rest) =
+    (refl, shaped_group d s (k + 1 + wires_block b) g, shaped_group d parent (k + (1 + wires_block b + wires_group g)) rest)
 
 pub shaped_top : (d : Setting) (hangs : ℕ → Bool) (k : ℕ) (g : Group) → Shaped d g (top_plain d hangs k g)
 unfolding top_plain
 shaped_top d hangs k None = tt
 shaped_top d hangs k (More (Node s b g) rest) =
-    (refl, shaped_group d s (k + 1 + wires_block b) (k + 1 + wires_block b + 1) g, shaped_top d hangs (k + (1 + (wires_block b + 1 + wires_group g))) rest)
+    (refl, shaped_group d s (k + 1 + wires_block b) g, shaped_top d hangs (k + (1 + wires_block b + wires_group g)) rest)
 
 module _ (d : Setting) (widths : Name → ℕ) (laws : Lawful d widths) (names : LawfulStates d) where
   -- a state's falls
   falls_run : (s : ℕ) (g : Group) (forest : Forest) (base : ℕ) (x : Name) → x ≡ d.name (Seat s) → children d.world s ≡ size g → Shaped d g forest
-      → ((n : ℕ) (h : Going) (st : Store) (l : ℕ) → Stands d h st → at d h (Wire base) ≡ d.code l
+      → ((n : ℕ) (h : Going) (st : Store) (l : ℕ) → Stands d h st → at d h (Inner s) ≡ d.code l
       → Turns d base h (child_does widths (enter x forest) forest n h) (run_child d.world g s n l st))
       → FallsRun d (λ h. child_does widths (enter x forest) forest (h.now.value x) h) base s (run_child d.world g s)
   unfolding run_child
@@ -105,30 +105,36 @@ module _ (d : Setting) (widths : Name → ℕ) (laws : Lawful d widths) (names :
       some : {m n : ℕ} → m ≡ suc n → 0 < m
       some e = omega (arith, e)
 
-  pub group_runs : (grp q : Group) (n0 parent p k : ℕ) (go : Name → Going → Going) → FineGroup d.world q 0 q → FineGroup d.world q n0 grp → Tidy d.world grp
-      → ((t : ℕ) → among grp t ≡ true → among q t ≡ true) → GoesRun d go parent q → p < k
-      → (n : ℕ) (g : Going) (s : Store) (l : ℕ) → Stands d g s → at d g (Wire p) ≡ d.code l
-      → Turns d k g (child_does widths go (group_plain d parent p k grp) n g) (run_child d.world grp parent n l s)
+  pub group_runs : (grp q : Group) (n0 parent k : ℕ) (go : Name → Going → Going) → FineGroup d.world q 0 q → FineGroup d.world q n0 grp → Tidy d.world grp
+      → ((t : ℕ) → among grp t ≡ true → among q t ≡ true) → GoesRun d go parent q
+      → (n : ℕ) (g : Going) (s : Store) (l : ℕ) → Stands d g s → at d g (Inner parent) ≡ d.code l
+      → Turns d k g (child_does widths go (group_plain d parent k grp) n g) (run_child d.world grp parent n l s)
   unfolding run_child run_state group_plain
-  group_runs None q n0 parent p k go whole fine tidy part goes pk n g s l st pc = turns_stay d k g g s (quiet_none d k g) st
-  group_runs (More (Node x b kids) rest) q n0 parent p k go whole fine tidy part goes pk zero g s l st pc =
-      let base = k + wires_block b in
+  group_runs None q n0 parent k go whole fine tidy part goes n g s l st pc = turns_stay d k g g s (quiet_none d k g) st
+  group_runs (More (Node x b kids) rest) q n0 parent k go whole fine tidy part goes zero g s l st pc =
+      let base = k + 1 + wires_block b in
       let node = fine.0.0 in
       let i : among q x ≡ true = part x (either_first (nat_eq x x) (among rest x) (eq-eqb x x refl)) in
-      let forest = group_plain d x base (base + 1) kids in
+      let forest = group_plain d x base kids in
       let declared = (group_states d.world q 0 q whole x i).declared in
       let seat = seat_name (d.state_name x) in
       let e : seat ≡ d.name (Seat x) = names.seats x declared in
-      let shape = shaped_group d x base (base + 1) kids in
+      let shape = shaped_group d x base kids in
       let goes' = goes_run d widths laws names x seat kids forest e fine.0.1 tidy.0.1 shape in
-      let inner = group_runs kids kids 0 x base (base + 1) (enter seat forest) fine.0.1 fine.0.1 tidy.0.1 (λ t h. h) goes' (omega arith) in
-      let falls = falls_run x kids forest base seat e node.count shape (λ m h t j r q. less d base (base + 1) h _ _ (omega arith) (inner m h t j r q)) in
-      block_runs d widths laws (λ h. child_does widths (enter seat forest) forest (h.now.value seat) h) go q (record { state = x; parent = parent; children = kids })
-      (placed_in d.world q n0 x parent b kids whole i node fine.0.1) goes base (run_child d.world kids x) falls b node.steps p k pk (omega arith) g s l st pc
-  group_runs (More (Node x b kids) rest) q n0 parent p k go whole fine tidy part goes pk (suc n) g s l st pc =
-      let j = k + (wires_block b + 1 + wires_group kids) in
+      let inner = group_runs kids kids 0 x base (enter seat forest) fine.0.1 fine.0.1 tidy.0.1 (λ t h. h) goes' in
+      let falls = falls_run x kids forest base seat e node.count shape inner in
+      let f : Going → Going = λ h. child_does widths (enter seat forest) forest (h.now.value seat) h in
+      let sp : Spot = record { state = x; parent = parent; children = kids } in
+      let v = value_in widths g (var d (Inner parent)) in
+      let g1 = put_to d g (Wire k) v in
+      let r0 = wired d widths laws s k g v (d.code l) st pc in
+      let r = block_runs d widths laws f go q sp (placed_in d.world q n0 x parent b kids whole i node fine.0.1) goes base (run_child d.world kids x) falls b node.steps k (k + 1)
+      (omega arith) (omega arith) g1 s l r0.stands r0.here in
+      rw (does_gives d widths f go g (Wire k) (var d (Inner parent)) (block_plain d sp k (k + 1) b)) (turns_after d k (k + 1) g g1 _ _ (omega arith) (r0.quiet k (omega arith)) r)
+  group_runs (More (Node x b kids) rest) q n0 parent k go whole fine tidy part goes (suc n) g s l st pc =
+      let j = k + (1 + wires_block b + wires_group kids) in
       less d k j g _ _ (omega arith)
-      (group_runs rest q (suc n0) parent p j go whole fine.1 tidy.1 (λ t h. part t (either_second (nat_eq t x) (among rest t) h)) goes (omega arith) n g s l st pc)
+      (group_runs rest q (suc n0) parent j go whole fine.1 tidy.1 (λ t h. part t (either_second (nat_eq t x) (among rest t) h)) goes n g s l st pc)
 
   -- the tags that are kept
   save : (f : Going → Going) (go : Name → Going → Going) (k : ℕ) (g : Going) (s : Store) (rest : Body) → Loose d g s → ((m : ℕ) → saved d.world m ≡ true → s.level (start_whole m) ≡ s.level (next_whole m))
@@ -176,16 +182,16 @@ module _ (d : Setting) (widths : Name → ℕ) (laws : Lawful d widths) (names :
       let node = fine.0.0 in
       let i : among q x ≡ true = part x (either_first (nat_eq x x) (among rest x) (eq-eqb x x refl)) in
       let me = group_states d.world q 0 q whole x i in
-      let forest = group_plain d x base (base + 1) kids in
+      let forest = group_plain d x base kids in
       let seat = seat_name (d.state_name x) in
       let e : seat ≡ d.name (Seat x) = names.seats x me.declared in
-      let shape = shaped_group d x base (base + 1) kids in
+      let shape = shaped_group d x base kids in
       let goes' = goes_run d widths laws names x seat kids forest e fine.0.1 tidy.0.1 shape in
-      let inner = group_runs kids kids 0 x base (base + 1) (enter seat forest) fine.0.1 fine.0.1 tidy.0.1 (λ t h. h) goes' (omega arith) in
-      let falls = falls_run x kids forest base seat e node.count shape (λ m h t j r q. less d base (base + 1) h _ _ (omega arith) (inner m h t j r q)) in
+      let inner = group_runs kids kids 0 x base (enter seat forest) fine.0.1 fine.0.1 tidy.0.1 (λ t h. h) goes' in
+      let falls = falls_run x kids forest base seat e node.count shape inner in
       let f : Going → Going = λ h. child_does widths (enter seat forest) forest (h.now.value seat) h in
       let sp : Spot = record { state = x; parent = root d.world; children = kids } in
-      let body = block_plain d sp base k (k + 1) b in
+      let body = block_plain d sp k (k + 1) b in
       let head = gives d (Wire k) (var d (Tag x)) (raises d hangs k body) in
       let kept = save f go k g s head loose begins in
       let g0 = kept.0 in
@@ -202,4 +208,4 @@ module _ (d : Setting) (widths : Name → ℕ) (laws : Lawful d widths) (names :
       (cycles d k g g0 _ _ kept.3
       (turns_after d k (k + 1) g0 g2 _ _ (omega arith) (quiet_next d k g0 g1 g2 (r0.quiet k (omega arith)) (raised_quiet d widths laws k g1 g2 up.3)) r))
   top_runs hangs (More (Node x b kids) rest) q n0 k go whole fine tidy part goes (suc n) g s st begins =
-      top_runs hangs rest q (suc n0) (k + (1 + (wires_block b + 1 + wires_group kids))) go whole fine.1 tidy.1 (λ t h. part t (either_second (nat_eq t x) (among rest t) h)) goes n g s st begins
+      top_runs hangs rest q (suc n0) (k + (1 + wires_block b + wires_group kids)) go whole fine.1 tidy.1 (λ t h. part t (either_second (nat_eq t x) (among rest t) h)) goes n g s st begins

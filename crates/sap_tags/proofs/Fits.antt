@@ -12,7 +12,7 @@ use Rattle.sap_bits.specs.declared.Op2.TheVariants.{Add, Sub, Mul, And, Or, Xor,
 use Rattle.sap_maps.specs.Maps.{Name}
 use Rattle.sap_maps.specs.Scope.{find}
 use Rattle.sap_maps.specs.Term.{Term, constant, read, cell, one, two, choose, join, part}
-use Rattle.sap_meaning.specs.Program.{World, is_dynamic, is_memory, is_register, is_state, authority, width, children, LevelTerm, fixed, of, at_place, both, Step, Set, Write, Retag, RetagCell, Goto, Fall, Node, Group, None, More}
+use Rattle.sap_meaning.specs.Program.{World, root, is_dynamic, is_memory, is_register, is_state, authority, width, children, LevelTerm, fixed, of, at_place, both, Step, Set, Write, Retag, RetagCell, Goto, Fall, Node, Group, None, More}
 use Rattle.sap_meaning.specs.Expressions.{width_of}
 use Rattle.sap_meaning.specs.Checks.{Spot, entry}
 use Rattle.sap_meaning.specs.Fine.{FineTerm, FineLevel, FineStep, size}
@@ -22,7 +22,7 @@ use Rattle.sap_ir.specs.Source.{Source, readable, shapes}
 use Rattle.sap_ir.specs.IsGuarded.{TermFine}
 use Rattle.sap_plain.specs.Nested.{seat_width}
 use Rattle.sap_plain.proofs.SeatWidths.{seat_positive, seat_within}
-use Rattle.sap_tags.specs.Keys.{Value, Tag, Seat, First}
+use Rattle.sap_tags.specs.Keys.{Value, Tag, Seat, First, Inner}
 use Rattle.sap_tags.specs.Setting.{Setting}
 use Rattle.sap_tags.specs.Levels.{var, bits, lub, below_or_at, yes, expr, cell_tag, tag_of, place_width, widened, placed, new_tag, told_tag, child_tag, enters, child_enters, seat_bits, seat_of, guard_of, test_of, written, stays}
 use Rattle.sap_tags.specs.States.{saved}
@@ -38,6 +38,7 @@ pub record Declares (d : Setting) (s : Source) : Type 0 where
   pub tags : (x : ℕ) → has_tag d.world x ≡ true → find (readable s) (d.name (Tag x)) ≡ Some d.tag
   pub seats : (p : ℕ) → 0 < children d.world p → find (readable s) (d.name (Seat p)) ≡ Some (seat_width (children d.world p))
   pub firsts : (m : ℕ) → saved d.world m ≡ true → find (readable s) (d.name (First m)) ≡ Some d.tag
+  pub inners : (x : ℕ) → nat_lt x (root d.world) ≡ true → 0 < children d.world x → find (readable s) (d.name (Inner x)) ≡ Some d.tag
   pub stores : (m : ℕ) → is_memory d.world m ≡ true → find (shapes s) (d.name (Value m)) ≡ Some (width d.world m, depth d.world m)
   pub marks : (m : ℕ) → is_memory d.world m ≡ true → is_dynamic d.world m ≡ false → find (shapes s) (d.name (Tag m)) ≡ Some (d.tag, depth d.world m)
   pub wide : IsWidth d.tag

@@ -1,5 +1,5 @@
 -- The program of a well-formed design has what the rules ask for.
-use Rattle.std.proofs.Common.{◌≡◌, ℕ, ◌+◌, ◌*◌, ◌^◌, ◌<◌, ◌≤◌, List, length, Bool, true, ◌&&◌, IsTrue, refl, sym, ap, ap₂, subst, arith, nat_le}
+use Rattle.std.proofs.Common.{◌≡◌, ℕ, ◌+◌, ◌*◌, ◌<◌, ◌≤◌, List, length, Bool, true, ◌&&◌, IsTrue, refl, ap, ap₂, arith, nat_le}
 use Rattle.std.specs.List.{count_by}
 use Rattle.std.proofs.lemmas.Grind.{common_steps}
 use Rattle.sap_tree.specs.Syntax as tree
@@ -20,13 +20,11 @@ use Rattle.sap_sized.proofs.Declared.{resolved}
 use Rattle.sap_sized.proofs.Programs.{faultless, sizes_fit_law}
 use Rattle.sap_sized.proofs.RangedPrograms.{widths_in_range_law}
 use Rattle.sap_sized.proofs.Tags.{level_count}
-use Rattle.sap_interface.specs.StandsFor.{Named}
 use Rattle.sap_interface.specs.Designs.{named_of, sites_of}
 use Rattle.sap_tags.specs.Commands.{wires, wires_block}
 use Rattle.sap_tags.specs.States.{wires_state, wires_group}
 use Rattle.sap_tags.specs.Law.{IsSound, PlainsKeepRules, PlainsWriteOnce}
 use Rattle.sap_tags.proofs.Bools.{both_true}
-use Rattle.sap_tags.proofs.Distinct.{top_count}
 use Rattle.sap_tags.proofs.Conditions.{group_conditions, filled_group_conditions}
 use Rattle.sap_tags.proofs.Rules.{Fitting}
 use Rattle.sap_tags.proofs.Plains.{plain}
@@ -48,17 +46,13 @@ module _ (w : World) where
   mutual
     state_filled : (p : ℕ) (t : State) → wires_state (filled_state w p t) ≡ wires_state t
     state_filled p (Node s b g) =
-        ap₂ (λ (m n : ℕ). m + 1 + n) (block_filled (record { state = s; parent = p; children = g }) b) (group_filled s g)
+        ap₂ (λ (m n : ℕ). 1 + m + n) (block_filled (record { state = s; parent = p; children = g }) b) (group_filled s g)
 
-    group_filled : (p : ℕ) (g : Group) → wires_group (filled_group w p g) ≡ wires_group g
+    pub group_filled : (p : ℕ) (g : Group) → wires_group (filled_group w p g) ≡ wires_group g
     group_filled p None = refl
     group_filled p (More t g) = ap₂ (λ (m n : ℕ). m + n) (state_filled p t) (group_filled p g)
 
-  pub top_filled : (d : Named) (tag p : ℕ) (g : Group) → top_count d tag (filled_group w p g) ≡ top_count d tag g
-  top_filled d tag p None = refl
-  top_filled d tag p (More (Node s b g) rest) = ap₂ (λ (m n : ℕ). 1 + m + n) (state_filled p (Node s b g)) (top_filled d tag p rest)
-
--- five wires a command, and two a state
+-- five wires a command, and one a state
 
 module _ (ls : Levels) (h : Home) where
   mutual
@@ -91,19 +85,10 @@ module _ (ls : Levels) (es : List Entity) where
         let j = group_few (k + block_sites h body) (x + 1) kids in
         omega (arith, i, j)
 
-    group_few : (k x : ℕ) (g : tree.StateList) → wires_group (group_of ls es k x g) ≤ 5 * states_commands g + states_count g
+    pub group_few : (k x : ℕ) (g : tree.StateList) → wires_group (group_of ls es k x g) ≤ 5 * states_commands g + states_count g
     group_few k x tree.NoState = omega arith
     group_few k x (tree.AndState s rest) =
         let i = state_few k x s in let j = group_few (k + state_sites es s) (x + states_in s) rest in omega (arith, i, j)
-
-  pub top_few : (d : Named) (tag k x : ℕ) (g : tree.StateList) → top_count d tag (group_of ls es k x g) ≤ 5 * states_commands g + 2 * states_count g
-  unfolding state_count states_count state_commands states_commands
-  top_few d tag k x tree.NoState = omega arith
-  top_few d tag k x (tree.AndState (tree.StateOf place name kind body kids) rest) =
-      let s : tree.StateTree = tree.StateOf place name kind body kids in
-      let i = state_few k x s in
-      let j = top_few d tag (k + state_sites es s) (x + states_in s) rest in
-      omega (arith, i, j)
 
 limited : (t : Bool) (i r m s d c : ℕ) → IsTrue (t && (nat_le i 64 && nat_le r 256 && nat_le m 16 && nat_le s 256 && nat_le d 16 && nat_le c 4096)) → (s ≤ 256) × (c ≤ 4096)
 limited t i r m s d c h = (grind (arith, common_steps), grind (arith, common_steps))
@@ -112,9 +97,6 @@ pub limits : (d : DesignTree) → IsTrue (is_whole d) → (states_count d.states
 unfolding is_whole
 limits d h =
     limited (is_tree d) (count_by is_input d.declarations) (count_by is_register d.declarations) (count_by is_memory d.declarations) (states_count d.states) (states_depth d.states) (states_commands d.states) h
-
-few_in_all : (n s c : ℕ) → n ≤ 5 * c + 2 * s → s ≤ 256 → c ≤ 4096 → n ≤ 2 ^ 64
-few_in_all n s c h i j = omega arith
 
 pub tree_of : (d : DesignTree) → IsTrue (is_whole d) → is_tree d ≡ true
 unfolding is_whole
@@ -142,13 +124,6 @@ module _ (ls : Levels) (D : DesignTree) (sg : IsSound ls D) where
         (group_conditions ls (order_of ls).le (entities_of D) w (resolved ls (order_of ls).le D n.0) 1 (length D.declarations) D.states n.1));
     wide = tag_wide;
     few_levels = levels_few;
-    few_wires =
-        (let w = world_of ls D in
-        let d = named_of ls D in
-        let u = width_of (order_of ls) in
-        let l = limits D sg.whole in
-        subst (λ (n : ℕ). n ≤ 2 ^ 64) (sym (top_filled w d u (root w) (states_of ls D)))
-        (few_in_all _ (states_count D.states) (states_commands D.states) (top_few ls (entities_of D) d u 1 (length D.declarations) D.states) l.0 l.1));
   }
 
 pub plains_keep : PlainsKeepRules

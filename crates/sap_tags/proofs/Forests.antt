@@ -1,5 +1,5 @@
 -- The states of a plain program keep the rules.
-use Rattle.std.proofs.Common.{◌≡◌, ℕ, suc, ◌+◌, ◌^◌, ◌<◌, ◌≤◌, List, ◌∷◌, ◌++◌, map, Bool, true, Some, refl, sym, ap, ◌∙◌, subst, arith, nat_eq, bytes_eq, inl, inr}
+use Rattle.std.proofs.Common.{◌≡◌, ℕ, suc, ◌+◌, ◌^◌, ◌<◌, ◌≤◌, List, ◌++◌, map, Bool, true, Some, refl, sym, ap, ◌∙◌, subst, arith, nat_lt, nat_eq, bytes_eq, inl, inr}
 use Rattle.std.proofs.lemmas.Bool.{cases_Bool, eqb-true, eq-eqb}
 use Rattle.sap_maps.specs.Maps.{Name}
 use Rattle.sap_maps.specs.Scope.{find}
@@ -14,16 +14,16 @@ use Rattle.sap_net.specs.Names.{is_among}
 use Rattle.sap_ir.specs.declared.guarded.Var.{Var}
 use Rattle.sap_ir.specs.Source.{Source, readable}
 use Rattle.sap_ir.specs.IsGuarded.{assignable}
-use Rattle.sap_plain.specs.Nested.{Body, Forest, none, state, has_states, group_names, state_names, seat_name, root_seat, seat_width}
+use Rattle.sap_plain.specs.Nested.{Body, Forest, none, state, has_states, group_names, seat_name, seat_width}
 use Rattle.sap_plain.specs.Nested as nested
 use Rattle.sap_plain.specs.IsPlain.{BodyFine, ForestFine, SeatFine, IsSeat}
 use Rattle.sap_interface.specs.StandsFor.{Named}
-use Rattle.sap_tags.specs.Keys.{Tag, Seat, Wire, First}
+use Rattle.sap_tags.specs.Keys.{Tag, Seat, Wire, First, Inner}
 use Rattle.sap_tags.specs.Setting.{Setting, setting_of}
 use Rattle.sap_tags.specs.Levels.{var, lub}
 use Rattle.sap_tags.specs.Commands.{gives, raises, wires, wires_block, block_plain}
 use Rattle.sap_tags.specs.States.{wires_group, group_plain, saved, saves, top_plain}
-use Rattle.sap_tags.specs.Plain.{wire, step_wires, command_wires, block_wires, state_wires, group_wires, top_wires}
+use Rattle.sap_tags.specs.Plain.{wire, step_wires, command_wires, block_wires, state_wires, group_wires}
 use Rattle.sap_tags.proofs.Bools.{apart_tests, second, either_second, both_true, tagged_memory}
 use Rattle.sap_tags.proofs.KeyNames.{same_name}
 use Rattle.sap_tags.proofs.Groups.{LawfulStates, Shaped, group_states}
@@ -132,36 +132,47 @@ module _ (nd : Named) (tag : ℕ) (s : Source) (fixed : List Name) (decl : Decla
   abbrev SitesOf : List ℕ → Type 0
   SitesOf ks = (k : ℕ) → Among ks k → SiteWires (setting_of nd tag) s k
 
-  group_fine : (grp q : Group) (n0 parent p k : ℕ) (group : List Name) → FineGroup w q 0 q → FineGroup w q n0 grp → ((t : ℕ) → among grp t ≡ true → among q t ≡ true)
-      → ((t : ℕ) → among q t ≡ true → is_among (d.state_name t) group ≡ true) → IsWire d s p tag → AllFound s (group_wires nd tag k grp) → ExactGroup w parent grp → SitesOf (sites.group_sites w grp)
-      → SizedGroup w grp → RangedGroup w grp → GroupConditions w grp → ForestFine s fixed group (group_plain d parent p k grp)
+  -- the state whose children are a group
+  record IsParent (q : Group) (x : ℕ) : Type 0 where
+    declared : nat_lt x (root w) ≡ true
+    count : children w x ≡ size q
+
+  some_among : (q : Group) (x : ℕ) → among q x ≡ true → 0 < size q
+  some_among None x h = absurd (apart_tests (sym h))
+  some_among (More t g) x h = omega arith
+
+  group_fine : (grp q : Group) (n0 parent k : ℕ) (group : List Name) → FineGroup w q 0 q → FineGroup w q n0 grp → ((t : ℕ) → among grp t ≡ true → among q t ≡ true)
+      → ((t : ℕ) → among q t ≡ true → is_among (d.state_name t) group ≡ true) → IsParent q parent → AllFound s (group_wires nd tag k grp) → ExactGroup w parent grp → SitesOf (sites.group_sites w grp)
+      → SizedGroup w grp → RangedGroup w grp → GroupConditions w grp → ForestFine s fixed group (group_plain d parent k grp)
   unfolding group_plain
-  group_fine None q n0 parent p k group whole fine part named pc ws exact site z r c = tt
-  group_fine (More (Node x b kids) rest) q n0 parent p k group whole fine part named pc ws exact site z r c =
-      let base = k + wires_block b in
+  group_fine None q n0 parent k group whole fine part named above ws exact site z r c = tt
+  group_fine (More (Node x b kids) rest) q n0 parent k group whole fine part named above ws exact site z r c =
+      let base = k + 1 + wires_block b in
       let node = fine.0.0 in
       let i : among q x ≡ true = part x (rw (eq-eqb x x refl) refl) in
       let me = group_states w q 0 q whole x i in
       let sp : Spot = record { state = x; parent = parent; children = kids } in
       let placed = placed_in w q n0 x parent b kids whole i node fine.0.1 in
-      let below = group_plain d x base (base + 1) kids in
-      let shape = shaped_group d x base (base + 1) kids in
+      let below = group_plain d x base kids in
+      let shape = shaped_group d x base kids in
       let own = state_wires nd tag k (Node x b kids) in
-      let later = group_wires nd tag (k + (wires_block b + 1 + wires_group kids)) rest in
+      let later = group_wires nd tag (k + (1 + wires_block b + wires_group kids)) rest in
       let mine : AllFound s own = front_found s own later ws in
-      let body_wires = front_found s (block_wires nd tag k b) (wire nd base tag ∷ group_wires nd tag (base + 1) kids) mine in
-      let behind : AllFound s (wire nd base tag ∷ group_wires nd tag (base + 1) kids) = behind_found s (block_wires nd tag k b) (wire nd base tag ∷ group_wires nd tag (base + 1) kids) mine in
-      let context : IsWire d s base tag = behind (wire nd base tag) (inl refl) in (
-        block_fine d s decl fixed group assigns (has_states below) q sp placed named (λ l. some_states d kids below shape l) base context p k b pc (block_found nd tag s k b body_wires)
+      let pc : IsWire d s k tag = mine (wire nd k tag) (inl refl) in
+      let body = block_plain d sp k (k + 1) b in (
+        wire_gives d s decl fixed group assigns (has_states below) k tag (var d (Inner parent)) body pc (decl.inners parent above.declared (rw above.count (some_among q x i)))
+            (block_fine d s decl fixed group assigns (has_states below) q sp placed named (λ l. some_states d kids below shape l) k (k + 1) b pc
+            (block_found nd tag s (k + 1) b (λ v a. mine v (inr (in_front (block_wires nd tag (k + 1) b) (group_wires nd tag base kids) v a))))
             (body_hangs w q sp me fine.0.1 b node.steps exact.0.0)
             (λ n a. site n (among_left (sites.block_sites w x kids b ++ sites.group_sites w kids) (sites.group_sites w rest) n (among_left (sites.block_sites w x kids b) (sites.group_sites w kids) n a)))
-            node.steps z.0.0 r.0.0 c.0.0,
-        block_ends d sp base p k b node.closes,
+            node.steps z.0.0 r.0.0 c.0.0),
+        block_ends d sp k (k + 1) b node.closes,
         seat_is_fine d s regs decl.few_children x (seat_name (d.state_name x)) kids below (states.seats x me.declared) node.count shape,
-        group_fine kids kids 0 x base (base + 1) (group_names below) fine.0.1 fine.0.1 (λ t h. h) (group_has d kids below shape) context (λ v a. behind v (inr a)) exact.0.1
+        group_fine kids kids 0 x base (group_names below) fine.0.1 fine.0.1 (λ t h. h) (group_has d kids below shape) (record { declared = me.declared; count = node.count })
+            (λ v a. mine v (inr (in_behind (block_wires nd tag (k + 1) b) (group_wires nd tag base kids) v a))) exact.0.1
             (λ n a. site n (among_left (sites.block_sites w x kids b ++ sites.group_sites w kids) (sites.group_sites w rest) n (among_right (sites.block_sites w x kids b) (sites.group_sites w kids) n a)))
             z.0.1 r.0.1 c.0.1,
-        group_fine rest q (suc n0) parent p (k + (wires_block b + 1 + wires_group kids)) group whole fine.1 (λ t h. part t (either_second (nat_eq t x) (among rest t) h)) named pc (behind_found s own later ws)
+        group_fine rest q (suc n0) parent (k + (1 + wires_block b + wires_group kids)) group whole fine.1 (λ t h. part t (either_second (nat_eq t x) (among rest t) h)) named above (behind_found s own later ws)
             exact.1 (λ n a. site n (among_right (sites.block_sites w x kids b ++ sites.group_sites w kids) (sites.group_sites w rest) n a)) z.1 r.1 c.1,
       )
 
@@ -172,7 +183,7 @@ module _ (nd : Named) (tag : ℕ) (s : Source) (fixed : List Name) (decl : Decla
       (λ y l k e. let b = both_true (is_memory w y) (is_dynamic w y) e in (tag, assigns.firsts y e, decl.tags y (tagged_memory w y b.0 b.1))) (λ y e. omega arith) g
 
   pub top_fine : (grp q : Group) (n0 k : ℕ) (hangs : ℕ → Bool) (group : List Name) → FineGroup w q 0 q → FineGroup w q n0 grp → ((t : ℕ) → among grp t ≡ true → among q t ≡ true)
-      → ((t : ℕ) → among q t ≡ true → is_among (d.state_name t) group ≡ true) → Hangs w hangs → AllFound s (top_wires nd tag k grp) → ExactGroup w (root w) grp → SitesOf (sites.group_sites w grp)
+      → ((t : ℕ) → among q t ≡ true → is_among (d.state_name t) group ≡ true) → Hangs w hangs → AllFound s (group_wires nd tag k grp) → ExactGroup w (root w) grp → SitesOf (sites.group_sites w grp)
       → SizedGroup w grp → RangedGroup w grp → GroupConditions w grp → ForestFine s fixed group (top_plain d hangs k grp)
   unfolding top_plain
   top_fine None q n0 k hangs group whole fine part named hs ws exact site z r c = tt
@@ -183,17 +194,15 @@ module _ (nd : Named) (tag : ℕ) (s : Source) (fixed : List Name) (decl : Decla
       let me = group_states w q 0 q whole x i in
       let sp : Spot = record { state = x; parent = root w; children = kids } in
       let placed = placed_in w q n0 x (root w) b kids whole i node fine.0.1 in
-      let below = group_plain d x base (base + 1) kids in
-      let shape = shaped_group d x base (base + 1) kids in
-      let own = state_wires nd tag (k + 1) (Node x b kids) in
-      let later = top_wires nd tag (k + (1 + (wires_block b + 1 + wires_group kids))) rest in
-      let pc : IsWire d s k tag = ws (wire nd k tag) (inl refl) in
-      let mine : AllFound s own = λ v a. ws v (inr (in_front own later v a)) in
-      let body_wires = front_found s (block_wires nd tag (k + 1) b) (wire nd base tag ∷ group_wires nd tag (base + 1) kids) mine in
-      let behind : AllFound s (wire nd base tag ∷ group_wires nd tag (base + 1) kids) = behind_found s (block_wires nd tag (k + 1) b) (wire nd base tag ∷ group_wires nd tag (base + 1) kids) mine in
-      let context : IsWire d s base tag = behind (wire nd base tag) (inl refl) in
-      let body = block_plain d sp base k (k + 1) b in
-      let good = block_fine d s decl fixed group assigns (has_states below) q sp placed named (λ l. some_states d kids below shape l) base context k (k + 1) b pc (block_found nd tag s (k + 1) b body_wires)
+      let below = group_plain d x base kids in
+      let shape = shaped_group d x base kids in
+      let own = state_wires nd tag k (Node x b kids) in
+      let later = group_wires nd tag (k + (1 + wires_block b + wires_group kids)) rest in
+      let mine : AllFound s own = front_found s own later ws in
+      let pc : IsWire d s k tag = mine (wire nd k tag) (inl refl) in
+      let body = block_plain d sp k (k + 1) b in
+      let good = block_fine d s decl fixed group assigns (has_states below) q sp placed named (λ l. some_states d kids below shape l) k (k + 1) b pc
+      (block_found nd tag s (k + 1) b (λ v a. mine v (inr (in_front (block_wires nd tag (k + 1) b) (group_wires nd tag base kids) v a))))
       (body_hangs w q sp me fine.0.1 b node.steps exact.0.0)
       (λ n a. site n (among_left (sites.block_sites w x kids b ++ sites.group_sites w kids) (sites.group_sites w rest) n (among_left (sites.block_sites w x kids b) (sites.group_sites w kids) n a)))
       node.steps z.0.0 r.0.0 c.0.0 in (
@@ -201,12 +210,12 @@ module _ (nd : Named) (tag : ℕ) (s : Source) (fixed : List Name) (decl : Decla
             (wire_gives d s decl fixed group assigns (has_states below) k tag (var d (Tag x)) (raises d hangs k body) pc (decl.tags x (placed.siblings x i).0)
             (raises_fine d s decl fixed group assigns (has_states below) hangs k body hs pc good)),
         sweep_ends d First (saved w) (λ m. var d (Tag m)) 0 (root w) (gives d (Wire k) (var d (Tag x)) (raises d hangs k body))
-            (sweep_ends d Tag hangs (λ x. lub (var d (Tag x)) (var d (Wire k))) 0 (root w) body (block_ends d sp base k (k + 1) b node.closes)),
+            (sweep_ends d Tag hangs (λ x. lub (var d (Tag x)) (var d (Wire k))) 0 (root w) body (block_ends d sp k (k + 1) b node.closes)),
         seat_is_fine d s regs decl.few_children x (seat_name (d.state_name x)) kids below (states.seats x me.declared) node.count shape,
-        group_fine kids kids 0 x base (base + 1) (group_names below) fine.0.1 fine.0.1 (λ t h. h) (group_has d kids below shape) context (λ v a. behind v (inr a)) exact.0.1
+        group_fine kids kids 0 x base (group_names below) fine.0.1 fine.0.1 (λ t h. h) (group_has d kids below shape) (record { declared = me.declared; count = node.count })
+            (λ v a. mine v (inr (in_behind (block_wires nd tag (k + 1) b) (group_wires nd tag base kids) v a))) exact.0.1
             (λ n a. site n (among_left (sites.block_sites w x kids b ++ sites.group_sites w kids) (sites.group_sites w rest) n (among_right (sites.block_sites w x kids b) (sites.group_sites w kids) n a)))
             z.0.1 r.0.1 c.0.1,
-        top_fine rest q (suc n0) (k + (1 + (wires_block b + 1 + wires_group kids))) hangs group whole fine.1 (λ t h. part t (either_second (nat_eq t x) (among rest t) h)) named hs
-            (λ v a. ws v (inr (in_behind own later v a))) exact.1
-            (λ n a. site n (among_right (sites.block_sites w x kids b ++ sites.group_sites w kids) (sites.group_sites w rest) n a)) z.1 r.1 c.1,
+        top_fine rest q (suc n0) (k + (1 + wires_block b + wires_group kids)) hangs group whole fine.1 (λ t h. part t (either_second (nat_eq t x) (among rest t) h)) named hs (behind_found s own later ws)
+            exact.1 (λ n a. site n (among_right (sites.block_sites w x kids b ++ sites.group_sites w kids) (sites.group_sites w rest) n a)) z.1 r.1 c.1,
       )

@@ -1,31 +1,35 @@
 -- What is built of a design's program is the plain program of the design.
-use Rattle.std.proofs.Common.{◌≡◌, ℕ, ◌+◌, ◌*◌, ◌^◌, ◌<◌, ◌≤◌, List, IsTrue, refl, sym, ap, ap₂, ◌∙◌, subst, arith}
+use Rattle.std.proofs.Common.{◌≡◌, ℕ, zero, suc, ◌+◌, ◌*◌, ◌^◌, ◌<◌, ◌≤◌, List, [], ◌∷◌, IsTrue, true, false, get_or, refl, sym, ap, ap₂, ◌∙◌, subst, inl, inr, arith}
+use Rattle.std.proofs.lemmas.Bool.{cases_Bool}
 use Rattle.sap_tree.specs.Syntax.{DesignTree}
 use Rattle.sap_tree.specs.Whole.{is_whole, states_count, states_commands}
 use Rattle.sap_lattice.specs.Levels.{Levels, order_of}
 use Rattle.sap_lattice.specs.Codes.{code_of, width_of}
 use Rattle.sap_lattice.specs.Lawful.{IsLattice}
+use Rattle.sap_names.specs.declared.kind.Declared.{Declared}
+use Rattle.sap_names.specs.declared.kind.Declared.TheVariants as kind
+use Rattle.sap_names.specs.declared.entity.Entity as declared_entity
 use Rattle.sap_names.specs.Entities.{entities_of}
 use Rattle.sap_meaning.specs.Program as meaning
-use Rattle.sap_meaning.specs.Program.{Group, Node, None, More, root}
+use Rattle.sap_meaning.specs.Program.{World, Entity, nothing, kind_is_state, is_state, width, root}
 use Rattle.sap_resolve.specs.Resolve.{states_of}
 use Rattle.sap_resolve.specs.Worlds.{world_of}
 use Rattle.sap_resolve.specs.Fill.{program_of}
+use Rattle.sap_resolve.proofs.Lookup.{Stands, AllMatch, entities_match}
 use Rattle.sap_program.specs.declared.program.Program.{Program}
 use Rattle.sap_program.specs.Design.{IsProgramOf}
 use Rattle.sap_program.specs.Views.{count, group_of, program_in}
-use Rattle.sap_sized.specs.Ranges.{RangedProgram}
+use Rattle.sap_sized.specs.Ranges.{IsWidth, RangedProgram}
 use Rattle.sap_sized.specs.Sound.{WidthsInRange}
 use Rattle.sap_shape.specs.WellFormed.{WellFormed}
 use Rattle.sap_interface.specs.StandsFor.{Named}
 use Rattle.sap_interface.specs.Designs.{named_of}
 use Rattle.sap_tags.specs.Code.{named_over}
-use Rattle.sap_tags.specs.Commands.{wires_block}
 use Rattle.sap_tags.specs.Law.{IsSound, plain_for}
 use Rattle.sap_tags.specs.Plain.{plain_of}
-use Rattle.sap_tags.specs.States.{wires_group, wires_top}
-use Rattle.sap_tags.proofs.Distinct.{top_count}
-use Rattle.sap_tags.proofs.Fitted.{limits, top_few, top_filled, tree_of}
+use Rattle.sap_tags.specs.Setting.{IsNarrow}
+use Rattle.sap_tags.specs.States.{wires_group}
+use Rattle.sap_tags.proofs.Fitted.{limits, group_few, group_filled, tree_of}
 
 named_as : (ls : Levels) (d : DesignTree) (p : Program) → IsProgramOf ls d p → named_over ls p ≡ named_of ls d
 named_as ls d p h =
@@ -47,20 +51,39 @@ sound_found own ls d e l whole formed = record { lattice = subst (λ x. IsLattic
 
 -- few wires
 
-counted : (d : Named) (tag : ℕ) (g : Group) → wires_top g ≡ top_count d tag g
-counted d tag None = refl
-counted d tag (More (Node s b g) rest) = ap (λ (n : ℕ). 1 + (wires_block b + 1 + wires_group g) + n) (counted d tag rest)
-
-few_in_all : (n s c : ℕ) → n ≤ 5 * c + 2 * s → s ≤ 256 → c ≤ 4096 → n < 2 ^ 32
+few_in_all : (n s c : ℕ) → n ≤ 5 * c + s → s ≤ 256 → c ≤ 4096 → n < 2 ^ 32
 few_in_all n s c h i j = omega arith
 
 pub few_found : (own ls : Levels) (d : DesignTree) (p : Program) → own ≡ ls → IsProgramOf ls d p → IsSound ls d
-    → wires_top (group_of (count p) p.states.items) < 2 ^ 32
+    → wires_group (group_of (count p) p.states.items) < 2 ^ 32
 few_found own ls d p e h sound =
     let w = world_of ls d in
-    let n = named_of ls d in
     let l = limits d sound.whole in
-    let all : wires_top (group_of (count p) p.states.items) ≡ top_count n 0 (states_of ls d) =
-    ap (λ q. wires_top q.states) h.program ∙ counted n 0 (program_of ls d).states ∙ top_filled w n 0 (root w) (states_of ls d) in
+    let all : wires_group (group_of (count p) p.states.items) ≡ wires_group (states_of ls d) =
+    ap (λ q. wires_group q.states) h.program ∙ group_filled w (root w) (states_of ls d) in
     subst (λ m. m < 2 ^ 32) (sym all)
-    (few_in_all _ (states_count d.states) (states_commands d.states) (top_few ls (entities_of d) n 0 1 _ d.states) l.0 l.1)
+    (few_in_all _ (states_count d.states) (states_commands d.states) (group_few ls (entities_of d) 1 _ d.states) l.0 l.1)
+
+-- no wide entity
+
+state_bare : (e : Declared) (g : Entity) → Stands e g → kind_is_state g.kind ≡ true → g.width ≡ 0
+state_bare (kind.Input u) g h s = let k = ap (λ k. kind_is_state k) h.0 in cc
+state_bare (kind.Register u) g h s = let k = ap (λ k. kind_is_state k) h.0 in cc
+state_bare (kind.Memory u depth) g h s = let k = ap (λ k. kind_is_state k) h.0 in cc
+state_bare kind.State g h s = h.1
+
+states_bare : (es : List declared_entity.Entity) (gs : List Entity) → AllMatch es gs → (x : ℕ) → kind_is_state (get_or gs x nothing).kind ≡ true → (get_or gs x nothing).width ≡ 0
+states_bare es [] a x s = refl
+states_bare [] (g ∷ gs) a x s = absurd a
+states_bare (e ∷ es) (g ∷ gs) a zero s = state_bare e.what g a.0.what s
+states_bare (e ∷ es) (g ∷ gs) a (suc x) s = states_bare es gs a.1 x s
+
+narrow : (w : World) (x : ℕ) → (is_state w x ≡ true → width w x ≡ 0) → (is_state w x ≡ false → IsWidth (width w x)) → width w x ≤ 64
+narrow w x bare wide = elim (cases_Bool (is_state w x)) [ inl s ↦ (let z = bare s in omega arith) | inr s ↦ (wide s).1 ]
+
+pub narrow_found : (ls : Levels) (d : DesignTree) (p : Program) → IsProgramOf ls d p → WidthsInRange → IsSound ls d → IsNarrow p
+narrow_found ls d p h ranged sound =
+    let r = ranged ls d (tree_of d sound.whole) sound.formed.names in
+    let all : (x : ℕ) → (get_or (program_of ls d).world.entities x nothing).width ≤ 64 =
+    λ x. narrow (world_of ls d) x (states_bare (entities_of d) (world_of ls d).entities (entities_match ls d) x) (r.widths x) in
+    subst (λ (q : meaning.Program). (x : ℕ) → (get_or q.world.entities x nothing).width ≤ 64) (sym h.program) all

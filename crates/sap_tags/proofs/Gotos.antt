@@ -3,7 +3,7 @@ use Rattle.std.proofs.Common.{◌≡◌, ℕ, ◌+◌, Bool, true, false, ◌&&�
 use Rattle.std.proofs.lemmas.Bool.{eqb-true}
 use Rattle.sap_maps.specs.Maps.{Name}
 use Rattle.sap_maps.specs.Term.{Term}
-use Rattle.sap_meaning.specs.Program.{World, Kind, root, entity, is_dynamic, is_input, is_register, is_state, is_memory, kind_is_input, kind_is_register, kind_is_state, kind_is_memory, place, last, below, Step, Goto, Group}
+use Rattle.sap_meaning.specs.Program.{World, Kind, root, entity, is_dynamic, is_state, is_memory, kind_is_input, kind_is_register, kind_is_state, kind_is_memory, place, last, below, Goto, Group}
 use Rattle.sap_meaning.specs.Program as program
 use Rattle.sap_meaning.specs.Store.{own, next_whole, Store, put_number, put_level, put_child, lowered, reset, After, stay}
 use Rattle.sap_meaning.specs.Checks.{Spot}
@@ -136,11 +136,11 @@ module _ (d : Setting) (widths : Name → ℕ) (laws : Lawful d widths) where
         turns_stay d k g g3 _ (quiet_next d k g g1 g3 (quiet_less d k (k + 4) g g1 (omega arith) quiet) (r.1 k))
         (subst (λ (t : Store). Stands d g3 t) (goes_apart d.world parent target s) r.0)
 
-    pub goto_effect : (base : ℕ) (enter : ℕ → ℕ → Store → After) (q : Group) (k : ℕ) (sp : Spot) (site target l : ℕ) (b r : Store) (g : Going) → GoesRun d go sp.parent q
+    pub goto_effect : (enter : ℕ → ℕ → Store → After) (q : Group) (k : ℕ) (sp : Spot) (site target l : ℕ) (b r : Store) (g : Going) → GoesRun d go sp.parent q
         → among q target ≡ true → is_state d.world target ≡ true → is_memory d.world target ≡ false → Stands d g r → at d g (Wire (k + 3)) ≡ d.code l
-        → Turns d k g (body_does widths f go (effect_of d base k (Goto site target)) g) (effect d.world sp enter (Goto site target) l b r)
+        → Turns d k g (body_does widths f go (effect_of d sp k (Goto site target)) g) (effect d.world sp enter (Goto site target) l b r)
     unfolding effect
-    goto_effect base enter q k sp site target l b r g goes i state m st new =
+    goto_effect enter q k sp site target l b r g goes i state m st new =
         let end : Body =
         if is_dynamic d.world target then gives d (Tag target) (var d (Wire (k + 3))) (goto (d.state_name target) stop) else goto (d.state_name target) stop in
         let e = empties target (k + 4) g r end st in

@@ -59,14 +59,14 @@ module _ (d : Named) (u : ℕ) (s : Source) (before : Option Valuation) (names :
 
   past_tag : (x y : ℕ) (es : List Entity) (t : Tagged) (ts : List Tagged) → x < n → y < n → (x ≡ y → ⊥) → starts_if true x es (t ∷ ts) (Tag y) ≡ starts (x + 1) es ts (Tag y)
   past_tag x y es t ts l m f =
-      rw (names_apart d names (Value x) (Tag y), names_apart d names (Tag x) (Tag y) ∙ is_other x y f) refl
+      rw (names_apart d names (Tag x) (Tag y) ∙ is_other x y f) refl
 
   here_value : (x : ℕ) (es : List Entity) (t : Tagged) (ts : List Tagged) → x < n → starts_if true x es (t ∷ ts) (Value x) ≡ t.number
   here_value x es t ts l = rw (names_apart d names (Value x) (Value x) ∙ (Decides-eqb x x).1 refl) refl
 
   here_tag : (x : ℕ) (es : List Entity) (t : Tagged) (ts : List Tagged) → x < n → starts_if true x es (t ∷ ts) (Tag x) ≡ d.code t.level
   here_tag x es t ts l =
-      rw (names_apart d names (Value x) (Tag x), names_apart d names (Tag x) (Tag x) ∙ (Decides-eqb x x).1 refl) refl
+      rw (names_apart d names (Tag x) (Tag x) ∙ (Decides-eqb x x).1 refl) refl
 
   -- the inputs that stand in a list of entities and what is given fit
   abbrev FitIf : Bool → (levels : ℕ) → Entity → List Entity → List Tagged → Type 0

@@ -9,6 +9,7 @@ pub mod Gotos
 pub mod Runs
 pub mod Groups
 pub mod Falls
+pub mod Numerals
 pub mod KeyNames
 pub mod Members
 pub mod Inputs

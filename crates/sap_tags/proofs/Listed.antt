@@ -11,13 +11,13 @@ use Rattle.sap_program.specs.declared.program.Command.TheViews as shown
 use Rattle.sap_program.specs.declared.program.State.{State, State', Row_of-State, end_of-State, more_of-State, items-the_row-State, items_shown-the_row-State-0, out-State}
 use Rattle.sap_program.specs.declared.program.State.TheBlock.{shown-the_row-State-0}
 use denote.Hole.Carrier.{out}
-use Rattle.sap_meaning.specs.Program.{Block, End, Then, Group, None, More}
+use Rattle.sap_meaning.specs.Program.{End, Then, Group, None, More}
 use Rattle.sap_meaning.specs.Program as program
 use Rattle.sap_program.specs.Hangs.{flags}
 use Rattle.sap_program.specs.Views.{term_of, step_of, command_of, row_block, block_of, state_of, row_group, group_of}
 use Rattle.sap_tags.specs.Commands.{wires, wires_block}
-use Rattle.sap_tags.specs.States.{wires_state, wires_group, wires_top}
-use Rattle.sap_tags.specs.Built.{command_wires, commands_wires, state_wires, states_wires, tops_wires}
+use Rattle.sap_tags.specs.States.{wires_state, wires_group}
+use Rattle.sap_tags.specs.Built.{command_wires, commands_wires, state_wires, states_wires}
 
 -- commands
 
@@ -139,7 +139,7 @@ module _ (n : ℕ) where
     unfolding state_of row_group
 
     same_state : (t : State) → wires_state (state_of n t) ≡ wires_state (state_of 0 t)
-    same_state (State' x body k row) = ap₂ (λ (a b : ℕ). a + 1 + b) (wires_block_are n body.items ∙ sym (wires_block_are 0 body.items)) (same_states row)
+    same_state (State' x body k row) = ap₂ (λ (a b : ℕ). 1 + a + b) (wires_block_are n body.items ∙ sym (wires_block_are 0 body.items)) (same_states row)
 
     same_states : {k : _} (row : Row_of-State k) → wires_group (row_group n row) ≡ wires_group (row_group 0 row)
     same_states end_of-State = refl
@@ -149,7 +149,12 @@ module _ (n : ℕ) where
   unfolding state_wires
   wires_state_are t = same_state t
 
-pub state_wires_are : (t : State) → state_wires t ≡ commands_wires (out-State t).body.items + 1 + states_wires (out-State t).children.items
+  pub wires_group_are : (ts : List State) → wires_group (group_of n ts) ≡ states_wires ts
+  unfolding states_wires group_of
+  wires_group_are [] = refl
+  wires_group_are (t ∷ ts) = ap₂ (λ (a b : ℕ). a + b) (same_state t) (wires_group_are ts)
+
+pub state_wires_are : (t : State) → state_wires t ≡ 1 + commands_wires (out-State t).body.items + states_wires (out-State t).children.items
 unfolding state_wires commands_wires states_wires
 state_wires_are t = ap wires_state (state_of-out 0 t)
 
@@ -176,27 +181,5 @@ pub states_in : (ts : List State) (i : ℕ) (e : State) → i < length ts → st
 states_in [] i e l = absurd (omega arith)
 states_in (t ∷ ts) zero e l = let m = states_more t ts in omega (arith, m)
 states_in (t ∷ ts) (suc i) e l = let m = states_more t ts in let r = states_in ts i e (omega arith) in omega (arith, m, r)
-
--- the top-level states
-
-wires_top_one : (t : program.State) (g : Group) → wires_top (More t g) ≡ 1 + wires_state t + wires_top g
-wires_top_one (program.Node x b k) g = refl
-
-pub tops_are : (n : ℕ) (ts : List State) → wires_top (group_of n ts) ≡ tops_wires ts
-unfolding tops_wires group_of
-tops_are n [] = refl
-tops_are n (t ∷ ts) =
-    wires_top_one (state_of n t) (group_of n ts)
-    ∙ ap₂ (λ (a b : ℕ). 1 + a + b) (same_state n t) (tops_are n ts)
-    ∙ sym (wires_top_one (state_of 0 t) (group_of 0 ts))
-
-tops_more : (t : State) (ts : List State) → tops_wires (t ∷ ts) ≡ 1 + state_wires t + tops_wires ts
-unfolding tops_wires state_wires group_of
-tops_more t ts = wires_top_one (state_of 0 t) (group_of 0 ts)
-
-pub tops_drop : (ts : List State) (i : ℕ) (e : State) → i < length ts → tops_wires (drop i ts) ≡ 1 + state_wires (get_or ts i e) + tops_wires (drop (i + 1) ts)
-tops_drop [] i e l = absurd (omega arith)
-tops_drop (t ∷ ts) zero e l = tops_more t ts
-tops_drop (t ∷ ts) (suc i) e l = let r = tops_drop ts i e (omega arith) in simp (add-one) (simp (add-one) at r)
 
 pub ruleset counts = (wires_do, wires_try, wires_if, wires_drop, wires_past, wires_in)

@@ -10,7 +10,7 @@ use Rattle.sap_meaning.specs.Fine.{FineStep}
 use Rattle.sap_ir.specs.Guarded.{Going, value_in}
 use Rattle.sap_plain.specs.Nested.{Body}
 use Rattle.sap_plain.specs.Does.{body_does}
-use Rattle.sap_tags.specs.Keys.{Key, Value, Tag, Seat, Refused, Level, Wire, First}
+use Rattle.sap_tags.specs.Keys.{Key, Value, Tag, Seat, Refused, Level, Wire, First, Inner}
 use Rattle.sap_tags.specs.Setting.{Setting}
 use Rattle.sap_tags.specs.Levels.{var, lub, guard_of, test_of, written, stays}
 use Rattle.sap_tags.specs.Commands.{raises, looks}
@@ -68,14 +68,14 @@ pub turns_stay : (d : Setting) (k : ℕ) (g g' : Going) (s : Store) → Quiet d 
 turns_stay d k g g' s q r = record { stands = r; kept = q.kept; refused = q.refused; levels = q.levels }
 
 module _ (d : Setting) (widths : Name → ℕ) (laws : Lawful d widths) where
-  pub quiet_wire : (k j : ℕ) (g : Going) (x : ℕ) → k ≤ j → Quiet d k g (put_to d g (Wire j) x)
+  quiet_wire : (k j : ℕ) (g : Going) (x : ℕ) → k ≤ j → Quiet d k g (put_to d g (Wire j) x)
   quiet_wire k j g x l = record {
     kept = λ i m. at_put d widths laws g (Wire j) (Wire i) x ∙ ap (λ (b : Bool). if b then x else at d g (Wire i)) (ne_eqb i j (λ e. omega arith));
     refused = λ n. at_put d widths laws g (Wire j) (Refused n) x;
     levels = λ n. at_put d widths laws g (Wire j) (Level n) x;
   }
 
-  pub aside_wire : (j : ℕ) (g : Going) (x : ℕ) → Aside d g (put_to d g (Wire j) x)
+  aside_wire : (j : ℕ) (g : Going) (x : ℕ) → Aside d g (put_to d g (Wire j) x)
   aside_wire j g x = record {
     value = λ n. at_put d widths laws g (Wire j) (Value n) x;
     tag = λ n. at_put d widths laws g (Wire j) (Tag n) x;
@@ -83,8 +83,28 @@ module _ (d : Setting) (widths : Name → ℕ) (laws : Lawful d widths) where
     memory = kept_put d widths laws g (Wire j) x (λ m. refl);
   }
 
-  pub here_wire : (j : ℕ) (g : Going) (x : ℕ) → at d (put_to d g (Wire j) x) (Wire j) ≡ x
+  here_wire : (j : ℕ) (g : Going) (x : ℕ) → at d (put_to d g (Wire j) x) (Wire j) ≡ x
   here_wire j g x = at_put d widths laws g (Wire j) (Wire j) x ∙ ap (λ (b : Bool). if b then x else at d g (Wire j)) (eq-eqb j j refl)
+
+  -- a context for children
+
+  pub quiet_inner : (k s : ℕ) (g : Going) (x : ℕ) → Quiet d k g (put_to d g (Inner s) x)
+  quiet_inner k s g x = record {
+    kept = λ j l. at_put d widths laws g (Inner s) (Wire j) x;
+    refused = λ n. at_put d widths laws g (Inner s) (Refused n) x;
+    levels = λ n. at_put d widths laws g (Inner s) (Level n) x;
+  }
+
+  pub aside_inner : (s : ℕ) (g : Going) (x : ℕ) → Aside d g (put_to d g (Inner s) x)
+  aside_inner s g x = record {
+    value = λ n. at_put d widths laws g (Inner s) (Value n) x;
+    tag = λ n. at_put d widths laws g (Inner s) (Tag n) x;
+    seat = λ n. at_put d widths laws g (Inner s) (Seat n) x;
+    memory = kept_put d widths laws g (Inner s) x (λ m. refl);
+  }
+
+  pub here_inner : (s : ℕ) (g : Going) (x : ℕ) → at d (put_to d g (Inner s) x) (Inner s) ≡ x
+  here_inner s g x = at_put d widths laws g (Inner s) (Inner s) x ∙ ap (λ (b : Bool). if b then x else at d g (Inner s)) (eq-eqb s s refl)
 
   -- one wire more
   pub record Wired (s : Store) (j : ℕ) (g g' : Going) (x : ℕ) : Type 0 where

@@ -42,19 +42,19 @@ module _ (d : Named) (tag sites : ℕ) (design : Design d tag sites) where
   IsNamed n = IsInterfaceName d sites n
 
   value_named : (x : ℕ) → x < root w → holds_numbers w x ≡ true → IsNamed (key_name d (Value x))
-  value_named x l h = subst (λ (n : Name). IsNamed n) (sym (value_known d design.few_entities x (test_of_lt x (root w) l))) (value_of x h)
+  value_named x l h = subst (λ (n : Name). IsNamed n) (sym (value_known d x (test_of_lt x (root w) l))) (value_of x h)
 
   tag_named : (x : ℕ) → x < root w → holds_numbers w x ≡ true → IsNamed (key_name d (Tag x))
-  tag_named x l h = subst (λ (n : Name). IsNamed n) (sym (tag_known d design.few_entities x (test_of_lt x (root w) l))) (tag_of x h)
+  tag_named x l h = subst (λ (n : Name). IsNamed n) (sym (tag_known d x (test_of_lt x (root w) l))) (tag_of x h)
 
   state_tag_named : (x : ℕ) → x < root w → is_state w x ≡ true → IsNamed (key_name d (Tag x))
-  state_tag_named x l h = subst (λ (n : Name). IsNamed n) (sym (tag_known d design.few_entities x (test_of_lt x (root w) l))) (state_tag_of x h l)
+  state_tag_named x l h = subst (λ (n : Name). IsNamed n) (sym (tag_known d x (test_of_lt x (root w) l))) (state_tag_of x h l)
 
   child_named : (p : ℕ) → p < root w → 0 < children w p → IsNamed (key_name d (Seat p))
-  child_named p l h = subst (λ (n : Name). IsNamed n) (sym (seat_known d design.few_entities p (test_of_lt p (root w) l))) (child_of p l h)
+  child_named p l h = subst (λ (n : Name). IsNamed n) (sym (seat_known d p (test_of_lt p (root w) l))) (child_of p l h)
 
   root_named : IsNamed (key_name d (Seat (root w)))
-  root_named = subst (λ (n : Name). IsNamed n) (sym (root_known d design.few_entities)) child_of_root
+  root_named = subst (λ (n : Name). IsNamed n) (sym (root_known d)) child_of_root
 
   register_holds : (x : ℕ) → is_register w x ≡ true → holds_numbers w x ≡ true
   register_holds x h = either_second (is_input w x) _ (either_first (is_register w x) (is_memory w x) h)

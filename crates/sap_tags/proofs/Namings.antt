@@ -1,7 +1,6 @@
 -- States have names of their own, and all names are names.
-use Rattle.std.proofs.Common.{◌≡◌, ℕ, suc, ◌^◌, ◌<◌, ◌≤◌, List, [], ◌∷◌, ◌++◌, Bool, true, false, ◌&&◌, ◌||◌, ◌==◌, refl, sym, ap, ◌∙◌, subst, arith, nat_lt, nat_le, nat_eq, bytes_eq, inl, inr}
+use Rattle.std.proofs.Common.{◌≡◌, ℕ, suc, ◌<◌, ◌≤◌, List, [], ◌∷◌, ◌++◌, Bool, true, false, ◌&&◌, ◌||◌, ◌==◌, refl, sym, ap, ◌∙◌, subst, arith, nat_lt, nat_le, nat_eq, bytes_eq, inl, inr}
 use Rattle.std.specs.List.{AllByRecursion, list_all}
-use Rattle.std.specs.Fmt.{decimal}
 use Rattle.std.specs.Char.{is_ascii_digit}
 use Rattle.std.proofs.lemmas.Bool.{cases_Bool, eqb-true, eq-eqb}
 use Rattle.std.proofs.lemmas.Grind.{common_steps}
@@ -14,10 +13,11 @@ use Rattle.sap_ir.proofs.Declared.{among_append}
 use Rattle.sap_plain.specs.Nested.{Forest, none, state, state_names}
 use Rattle.sap_plain.specs.IsPlain.{is_gate}
 use Rattle.sap_interface.specs.StandsFor.{Named, name, world}
-use Rattle.sap_tags.specs.Keys.{Key, Value, Tag, Seat, Refused, Level, Wire, First, entity_word, seat_word, is_known, known_name, key_name}
+use Rattle.sap_tags.specs.Keys.{Key, Value, Tag, Seat, Refused, Level, Wire, First, Inner, numeral, entity_word, seat_word, key_name}
 use Rattle.sap_tags.specs.Setting.{Setting}
 use Rattle.sap_tags.proofs.Bools.{apart_tests, both_true, second, either_first, either_second, refuted}
-use Rattle.sap_tags.proofs.KeyNames.{NamesApart, decimal_digits}
+use Rattle.sap_tags.proofs.KeyNames.{NamesApart}
+use Rattle.sap_tags.proofs.Numerals.{numeral_digits}
 use Rattle.sap_tags.proofs.Groups.{LawfulStates, Shaped, IsState, node_state}
 
 pub all_join : {A : Type 0} (P : A → Type 0) (xs ys : List A) → AllByRecursion P xs → AllByRecursion P ys → AllByRecursion P (xs ++ ys)
@@ -116,6 +116,9 @@ digits_inner (c ∷ ds) h =
     digit_inner : (c : ℕ) → is_ascii_digit c ≡ true → is_inner c ≡ true
     digit_inner c h = rw h refl
 
+numeral_inner : (k : ℕ) → list_all is_inner (numeral k) ≡ true
+numeral_inner k = digits_inner (numeral k) (numeral_digits k)
+
 initial_inner : (c : ℕ) → is_initial c ≡ true → is_inner c ≡ true
 initial_inner c h = more (is_ascii_digit c) _ _ (c == 95) h
   where
@@ -144,51 +147,45 @@ no_gate c [] h = refl
 no_gate c (e ∷ cs) h = rw h refl
 
 module _ (d : Named) (names : NamesApart d) where
-  entity_inner : (x : ℕ) → nat_lt x (2 ^ 64) ≡ true → list_all is_inner (entity_word d x) ≡ true
-  entity_inner x h = elim (cases_Bool (nat_lt x (root (world d)))) [
+  entity_inner : (x : ℕ) → list_all is_inner (entity_word d x) ≡ true
+  entity_inner x = elim (cases_Bool (nat_lt x (root (world d)))) [
     | inl e ↦ rw e (word_inner (name d x) (names.words x e))
-    | inr e ↦ rw e (digits_inner (decimal x) (decimal_digits x h))
+    | inr e ↦ rw e (numeral_inner x)
   ]
 
-  seat_inner : (p : ℕ) → nat_lt p (2 ^ 64) ≡ true → list_all is_inner (seat_word d p) ≡ true
-  seat_inner p h = elim (cases_Bool (nat_eq p (root (world d)))) [
+  seat_inner : (p : ℕ) → list_all is_inner (seat_word d p) ≡ true
+  seat_inner p = elim (cases_Bool (nat_eq p (root (world d)))) [
     | inl e ↦ rw e refl
-    | inr e ↦ rw e (entity_inner p h)
+    | inr e ↦ rw e (entity_inner p)
   ]
 
-  known_is_name : (a : Key) → is_known a ≡ true → is_name (known_name d a) ≡ true
+  pub key_is_name : (a : Key) → is_name (key_name d a) ≡ true
   unfolding is_name
-  known_is_name (Value x) h = rw (entity_inner x h) refl
-  known_is_name (Tag x) h = rw (entity_inner x h) refl
-  known_is_name (Seat p) h = rw (seat_inner p h) refl
-  known_is_name (Refused k) h = rw (digits_inner (decimal k) (decimal_digits k h)) refl
-  known_is_name (Level k) h = rw (digits_inner (decimal k) (decimal_digits k h)) refl
-  known_is_name (Wire k) h = rw (digits_inner (decimal k) (decimal_digits k h)) refl
-  known_is_name (First k) h = rw (digits_inner (decimal k) (decimal_digits k h)) refl
+  key_is_name (Value x) = rw (entity_inner x) refl
+  key_is_name (Tag x) = rw (entity_inner x) refl
+  key_is_name (Seat p) = rw (seat_inner p) refl
+  key_is_name (Refused k) = rw (numeral_inner k) refl
+  key_is_name (Level k) = rw (numeral_inner k) refl
+  key_is_name (Wire k) = rw (numeral_inner k) refl
+  key_is_name (First k) = rw (numeral_inner k) refl
+  key_is_name (Inner k) = rw (numeral_inner k) refl
 
-  known_no_help : (a : Key) → is_helping (known_name d a) ≡ false
-  known_no_help (Value x) = refl
-  known_no_help (Tag x) = refl
-  known_no_help (Seat p) = refl
-  known_no_help (Refused k) = refl
-  known_no_help (Level k) = refl
-  known_no_help (Wire k) = no_help 104 (decimal k) refl
-  known_no_help (First k) = no_help 98 (decimal k) refl
+  pub key_no_help : (a : Key) → is_helping (key_name d a) ≡ false
+  key_no_help (Value x) = refl
+  key_no_help (Tag x) = refl
+  key_no_help (Seat p) = refl
+  key_no_help (Refused k) = refl
+  key_no_help (Level k) = refl
+  key_no_help (Wire k) = no_help 104 (numeral k) refl
+  key_no_help (First k) = no_help 98 (numeral k) refl
+  key_no_help (Inner k) = no_help 117 (numeral k) refl
 
-  known_no_gate : (a : Key) → is_gate (known_name d a) ≡ false
-  known_no_gate (Value x) = refl
-  known_no_gate (Tag x) = refl
-  known_no_gate (Seat p) = refl
-  known_no_gate (Refused k) = refl
-  known_no_gate (Level k) = refl
-  known_no_gate (Wire k) = no_gate 104 (decimal k) refl
-  known_no_gate (First k) = no_gate 98 (decimal k) refl
-
-  pub key_is_name : (a : Key) → is_known a ≡ true → is_name (key_name d a) ≡ true
-  key_is_name a h = rw h (known_is_name a h)
-
-  pub key_no_help : (a : Key) → is_known a ≡ true → is_helping (key_name d a) ≡ false
-  key_no_help a h = rw h (known_no_help a)
-
-  pub key_no_gate : (a : Key) → is_known a ≡ true → is_gate (key_name d a) ≡ false
-  key_no_gate a h = rw h (known_no_gate a)
+  pub key_no_gate : (a : Key) → is_gate (key_name d a) ≡ false
+  key_no_gate (Value x) = refl
+  key_no_gate (Tag x) = refl
+  key_no_gate (Seat p) = refl
+  key_no_gate (Refused k) = refl
+  key_no_gate (Level k) = refl
+  key_no_gate (Wire k) = no_gate 104 (numeral k) refl
+  key_no_gate (First k) = no_gate 98 (numeral k) refl
+  key_no_gate (Inner k) = no_gate 117 (numeral k) refl

@@ -7,13 +7,13 @@ use Rattle.std.proofs.Math.Nat.{pow-le-pow_right}
 use Rattle.sap_ir.specs.declared.guarded.Var.{Var}
 use Rattle.sap_ir.specs.declared.guarded.Store.{Store}
 use Rattle.sap_meaning.specs.Program as program
-use Rattle.sap_meaning.specs.Program.{World, Program, Kind, Entity, children, width, is_input, is_register, is_memory, kind_is_input, kind_is_register, kind_is_memory, kind_is_state}
+use Rattle.sap_meaning.specs.Program.{Program, Kind, Entity, children, width, is_input, is_register, is_memory, kind_is_input, kind_is_register, kind_is_memory, kind_is_state}
 use Rattle.sap_meaning.specs.Sized.{depth}
 use Rattle.sap_program.specs.Views.{entity_of}
 use Rattle.sap_sized.specs.Ranges.{IsWidth, RangedProgram}
 use Rattle.sap_tags.specs.declared.setting.Setting.{Setting}
 use Rattle.sap_tags.specs.Code.{named_in, tag_width, world_in, entities_in}
-use Rattle.sap_tags.specs.Keys.{First, key_name}
+use Rattle.sap_tags.specs.Keys.{First, Inner, key_name}
 use Rattle.sap_tags.specs.Plain.{variable, value_var, tag_var, seat_var, level_at_start, seat_registers, memory_of, tags_of, for_entities, all_entities}
 
 append_none : {A : Type 0} (l : List A) → l ++ [] ≡ l
@@ -90,6 +90,9 @@ of_parent s p = seat_var (named_in s) p ∷ []
 
 abbrev pub of_saved : Setting → ℕ → List Var
 of_saved s m = variable (key_name (named_in s) (First m)) (tag_width s) 0 ∷ []
+
+abbrev pub of_inner : Setting → ℕ → List Var
+of_inner s p = variable (key_name (named_in s) (Inner p)) (tag_width s) 0 ∷ []
 
 abbrev pub of_memory : Setting → ℕ → List Store
 of_memory s m = memory_of (named_in s) m ∷ tags_of (named_in s) (tag_width s) m

@@ -16,7 +16,7 @@ use Rattle.sap_plain.specs.Nested.{Body, stop, act, cases, goto, fall, seat_name
 use Rattle.sap_plain.specs.Does.{body_does, falls_of, enter}
 use Rattle.sap_plain.specs.Views.{follow}
 use Rattle.sap_plain.specs.Writes.{body_writes, child_writes, PlainWritesOnce}
-use Rattle.sap_tags.specs.Keys.{Key, Value, Tag, First, Wire, same}
+use Rattle.sap_tags.specs.Keys.{Key, Value, Tag, First, Wire, Inner, same}
 use Rattle.sap_interface.specs.StandsFor.{Named}
 use Rattle.sap_tags.specs.Setting.{Setting, setting_of}
 use Rattle.sap_tags.specs.Plain.{plain_of}
@@ -139,43 +139,43 @@ module _ (d : Setting) (apart : (a b : Key) → bytes_eq (d.name a) (d.name b) �
     }
 
     module _ (reach : ℕ → Bool) (beyond : Type 0) (falls : beyond → (g : Going) → Written d reach (below g)) where
-      effect_writes : (base k : ℕ) (t : Step) → OnceStep beyond t → Writes (step_reaching reach t) (effect_of d base k t)
-      effect_writes base k (Set site x e) o g = elim (cases_Bool (is_dynamic d.world x)) [
+      effect_writes : (sp : Spot) (k : ℕ) (t : Step) → OnceStep beyond t → Writes (step_reaching reach t) (effect_of d sp k t)
+      effect_writes sp k (Set site x e) o g = elim (cases_Bool (is_dynamic d.world x)) [
         | inl i ↦ rw i (written_none (step_reaching reach (Set site x e)))
         | inr i ↦ rw i (written_none (step_reaching reach (Set site x e)))
       ]
-      effect_writes base k (Write site m i e) o g = elim (cases_Bool (is_dynamic d.world m)) [
+      effect_writes sp k (Write site m i e) o g = elim (cases_Bool (is_dynamic d.world m)) [
         | inl j ↦ rw j (one_written (step_reaching reach (Write site m i e)) m (eq-eqb m m refl))
         | inr j ↦ rw j (one_written (step_reaching reach (Write site m i e)) m (eq-eqb m m refl))
       ]
-      effect_writes base k (Retag site x n) o g = elim (cases_Bool (is_register d.world x)) [
+      effect_writes sp k (Retag site x n) o g = elim (cases_Bool (is_register d.world x)) [
         | inl i ↦ rw i (written_none (step_reaching reach (Retag site x n)))
         | inr i ↦ rw i (written_none (step_reaching reach (Retag site x n)))
       ]
-      effect_writes base k (RetagCell site m j n) o g = two_written (step_reaching reach (RetagCell site m j n)) m (eq-eqb m m refl)
-      effect_writes base k (Goto site target) o g0 =
+      effect_writes sp k (RetagCell site m j n) o g = two_written (step_reaching reach (RetagCell site m j n)) m (eq-eqb m m refl)
+      effect_writes sp k (Goto site target) o g0 =
           sweep_writes (step_reaching reach (Goto site target)) Tag (resets d.world target) (λ x. bits d d.world.order.bottom) 0 (root d.world)
           (if is_dynamic d.world target then gives d (Tag target) (var d (Wire (k + 3))) (goto (d.state_name target) stop) else goto (d.state_name target) stop)
           (λ g. elim (cases_Bool (is_dynamic d.world target)) [
             | inl i ↦ rw i (written_none (step_reaching reach (Goto site target)))
             | inr i ↦ rw i (written_none (step_reaching reach (Goto site target)))
           ]) g0
-      effect_writes base k (Fall site hang) o g =
-          let g1 = after_action widths g (set (d.name (Wire base)) (var d (Wire (k + 2)))) in
+      effect_writes sp k (Fall site hang) o g =
+          let g1 = after_action widths g (set (d.name (Inner sp.state)) (var d (Wire (k + 2)))) in
           subst (λ (ns : List Name). Written d (step_reaching reach (Fall site hang)) ns) (sym (append_none (below g1))) (falls o g1)
 
       module _ (sp : Spot) where
-        attempt_writes : (base p k : ℕ) (t : Step) (o : OnceStep beyond t) (hangs : ℕ → Bool) (h : Body) (P : ℕ → Bool) → ((m : ℕ) → step_reaching reach t m ≡ true → P m ≡ true) → Writes P h
-            → Writes P (attempt_of d sp base p k t hangs h)
+        attempt_writes : (p k : ℕ) (t : Step) (o : OnceStep beyond t) (hangs : ℕ → Bool) (h : Body) (P : ℕ → Bool) → ((m : ℕ) → step_reaching reach t m ≡ true → P m ≡ true) → Writes P h
+            → Writes P (attempt_of d sp p k t hangs h)
         unfolding attempt_of
-        attempt_writes base p k t o hangs h P more w g0 =
-            let e : Writes P (effect_of d base k t) = λ g. written_more (step_reaching reach t) P more _ (effect_writes base k t o g) in
-            let after : Writes P (outcome d sp base k t h) =
+        attempt_writes p k t o hangs h P more w g0 =
+            let e : Writes P (effect_of d sp k t) = λ g. written_more (step_reaching reach t) P more _ (effect_writes sp k t o g) in
+            let after : Writes P (outcome d sp k t h) =
             λ g. elim (cases_Bool (always d.world sp t)) [
               | inl i ↦ rw i (e g)
-              | inr i ↦ rw i (choice_writes P (var d (Wire k)) (effect_of d base k t) (refusal d k t h) e (λ g. w _) g)
+              | inr i ↦ rw i (choice_writes P (var d (Wire k)) (effect_of d sp k t) (refusal d k t h) e (λ g. w _) g)
             ] in
-            sweep_writes P Tag hangs (λ x. lub (var d (Tag x)) (var d (Wire (k + 1)))) 0 (root d.world) (outcome d sp base k t h) after _
+            sweep_writes P Tag hangs (λ x. lub (var d (Tag x)) (var d (Wire (k + 1)))) 0 (root d.world) (outcome d sp k t h) after _
 
         select_writes : (p k : ℕ) (e : Term ℕ) (hangs : ℕ → Bool) (x y : Body) (P : ℕ → Bool) → Writes P x → Writes P y → Writes P (select_of d p k e hangs x y)
         unfolding select_of
@@ -185,49 +185,48 @@ module _ (d : Setting) (apart : (a b : Key) → bytes_eq (d.name a) (d.name b) �
         mutual
           unfolding command_plain block_plain
 
-          command_writes : (grp : Group) (same_reach : (m : ℕ) → reach m ≡ group_reaches grp m) (base p k : ℕ) (c : Command) → Once grp beyond c → Writes (reaching reach c) (command_plain d sp base p k c)
-          command_writes grp e base p k (Do t) o = attempt_writes base p k t o (listed_alone d.world sp t) stop (reaching reach (Do t)) (λ m h. h) (λ g. written_none (reaching reach (Do t)))
-          command_writes grp e base p k (Try t hang b) o =
-              attempt_writes base p k t o.0 (listed hang) (block_plain d sp base (k + 2) (k + 5) b) (reaching reach (Try t hang b))
+          command_writes : (grp : Group) (same_reach : (m : ℕ) → reach m ≡ group_reaches grp m) (p k : ℕ) (c : Command) → Once grp beyond c → Writes (reaching reach c) (command_plain d sp p k c)
+          command_writes grp e p k (Do t) o = attempt_writes p k t o (listed_alone d.world sp t) stop (reaching reach (Do t)) (λ m h. h) (λ g. written_none (reaching reach (Do t)))
+          command_writes grp e p k (Try t hang b) o =
+              attempt_writes p k t o.0 (listed hang) (block_plain d sp (k + 2) (k + 5) b) (reaching reach (Try t hang b))
               (λ m h. either_first (step_reaching reach t m) (block_reaching reach b m) h)
               (λ g. written_more (block_reaching reach b) (reaching reach (Try t hang b)) (λ m h. either_second (step_reaching reach t m) (block_reaching reach b m) h) _
-              (block_writes_once grp e base (k + 2) (k + 5) b o.1 g))
-          command_writes grp e base p k (If hang c a b) o =
-              select_writes p k c (listed hang) (block_plain d sp base (k + 1) (k + 2) a) (block_plain d sp base (k + 1) (k + 2 + wires_block a) b) (reaching reach (If hang c a b))
+              (block_writes_once grp e (k + 2) (k + 5) b o.1 g))
+          command_writes grp e p k (If hang c a b) o =
+              select_writes p k c (listed hang) (block_plain d sp (k + 1) (k + 2) a) (block_plain d sp (k + 1) (k + 2 + wires_block a) b) (reaching reach (If hang c a b))
               (λ g. written_more (block_reaching reach a) (reaching reach (If hang c a b)) (λ m h. either_first (block_reaching reach a m) (block_reaching reach b m) h) _
-              (block_writes_once grp e base (k + 1) (k + 2) a o.0 g))
+              (block_writes_once grp e (k + 1) (k + 2) a o.0 g))
               (λ g. written_more (block_reaching reach b) (reaching reach (If hang c a b)) (λ m h. either_second (block_reaching reach a m) (block_reaching reach b m) h) _
-              (block_writes_once grp e base (k + 1) (k + 2 + wires_block a) b o.1 g))
+              (block_writes_once grp e (k + 1) (k + 2 + wires_block a) b o.1 g))
 
-          block_writes_once : (grp : Group) (same_reach : (m : ℕ) → reach m ≡ group_reaches grp m) (base p k : ℕ) (b : Block) → OnceBlock grp beyond b → Writes (block_reaching reach b) (block_plain d sp base p k b)
-          block_writes_once grp e base p k End o g = written_none (block_reaching reach End)
-          block_writes_once grp e base p k (Then c cs) o g =
-              let a = command_plain d sp base p k c in
-              let b = block_plain d sp base p (k + wires c) cs in
+          block_writes_once : (grp : Group) (same_reach : (m : ℕ) → reach m ≡ group_reaches grp m) (p k : ℕ) (b : Block) → OnceBlock grp beyond b → Writes (block_reaching reach b) (block_plain d sp p k b)
+          block_writes_once grp e p k End o g = written_none (block_reaching reach End)
+          block_writes_once grp e p k (Then c cs) o g =
+              let a = command_plain d sp p k c in
+              let b = block_plain d sp p (k + wires c) cs in
               let same : reach ≡ group_reaches grp = λ i m. e m i in
               subst (λ (ns : List Name). Written d (block_reaching reach (Then c cs)) ns) (sym (follow_writes a b g))
               (written_join (reaching reach c) (block_reaching reach cs) (block_reaching reach (Then c cs))
               (λ m. ap (λ (r : ℕ → Bool). reaching r c m && block_reaching r cs m) same ∙ o.2 m)
               (λ m h. either_first (reaching reach c m) (block_reaching reach cs m) h) (λ m h. either_second (reaching reach c m) (block_reaching reach cs m) h) _ _
-              (command_writes grp e base p k c o.0 g) (block_writes_once grp e base p (k + wires c) cs o.1 (body_does widths f go a g)))
+              (command_writes grp e p k c o.0 g) (block_writes_once grp e p (k + wires c) cs o.1 (body_does widths f go a g)))
 
   -- the states of a group
-  group_writes : (widths : Name → ℕ) (grp : Group) (parent p k : ℕ) (go : Name → Going → Going) → OnceGroup grp → (n : ℕ) (g : Going)
-      → Written d (group_reaches grp) (child_writes widths go (group_plain d parent p k grp) n g)
+  group_writes : (widths : Name → ℕ) (grp : Group) (parent k : ℕ) (go : Name → Going → Going) → OnceGroup grp → (n : ℕ) (g : Going)
+      → Written d (group_reaches grp) (child_writes widths go (group_plain d parent k grp) n g)
   unfolding group_plain
-  group_writes widths None parent p k go once n g = written_none (group_reaches None)
-  group_writes widths (More (Node x b kids) rest) parent p k go once zero g =
-      let base = k + wires_block b in
-      let forest = group_plain d x base (base + 1) kids in
+  group_writes widths None parent k go once n g = written_none (group_reaches None)
+  group_writes widths (More (Node x b kids) rest) parent k go once zero g =
+      let base = k + 1 + wires_block b in
+      let forest = group_plain d x base kids in
       let seat = seat_name (d.state_name x) in
       let below : Going → List Name = λ h. child_writes widths (enter seat forest) forest (h.now.value seat) h in
       written_more (block_reaching (group_reaches kids) b) (group_reaches (More (Node x b kids) rest)) (λ m h. either_first (block_reaching (group_reaches kids) b m) (group_reaches rest m) h) _
       (block_writes_once widths (falls_of widths seat forest) below go (group_reaches kids) (OnceGroup kids)
-      (λ o h. group_writes widths kids x base (base + 1) (enter seat forest) o (h.now.value seat) h) (record { state = x; parent = parent; children = kids }) kids (λ m. refl) base p k b
-      once.0 g)
-  group_writes widths (More (Node x b kids) rest) parent p k go once (suc n) g =
+      (λ o h. group_writes widths kids x base (enter seat forest) o (h.now.value seat) h) (record { state = x; parent = parent; children = kids }) kids (λ m. refl) k (k + 1) b once.0 _)
+  group_writes widths (More (Node x b kids) rest) parent k go once (suc n) g =
       written_more (group_reaches rest) (group_reaches (More (Node x b kids) rest)) (λ m h. either_second (block_reaching (group_reaches kids) b m) (group_reaches rest m) h) _
-      (group_writes widths rest parent p (k + (wires_block b + 1 + wires_group kids)) go once.1 n g)
+      (group_writes widths rest parent (k + (1 + wires_block b + wires_group kids)) go once.1 n g)
 
   pub top_writes : (widths : Name → ℕ) (hangs : ℕ → Bool) (grp : Group) (k : ℕ) (go : Name → Going → Going) → OnceGroup grp → (n : ℕ) (g : Going)
       → Written d (group_reaches grp) (child_writes widths go (top_plain d hangs k grp) n g)
@@ -235,22 +234,22 @@ module _ (d : Setting) (apart : (a b : Key) → bytes_eq (d.name a) (d.name b) �
   top_writes widths hangs None k go once n g = written_none (group_reaches None)
   top_writes widths hangs (More (Node x b kids) rest) k go once zero g =
       let base = k + 1 + wires_block b in
-      let forest = group_plain d x base (base + 1) kids in
+      let forest = group_plain d x base kids in
       let seat = seat_name (d.state_name x) in
       let f = falls_of widths seat forest in
       let below : Going → List Name = λ h. child_writes widths (enter seat forest) forest (h.now.value seat) h in
       let P = block_reaching (group_reaches kids) b in
-      let body = block_plain d (record { state = x; parent = root d.world; children = kids }) base k (k + 1) b in
+      let body = block_plain d (record { state = x; parent = root d.world; children = kids }) k (k + 1) b in
       let own : (g : Going) → Written d P (body_writes widths f below go body g) =
-      λ g. block_writes_once widths f below go (group_reaches kids) (OnceGroup kids) (λ o h. group_writes widths kids x base (base + 1) (enter seat forest) o (h.now.value seat) h)
-      (record { state = x; parent = root d.world; children = kids }) kids (λ m. refl) base k (k + 1) b once.0 g in
+      λ g. block_writes_once widths f below go (group_reaches kids) (OnceGroup kids) (λ o h. group_writes widths kids x base (enter seat forest) o (h.now.value seat) h)
+      (record { state = x; parent = root d.world; children = kids }) kids (λ m. refl) k (k + 1) b once.0 g in
       let raised : (g : Going) → Written d P (body_writes widths f below go (raises d hangs k body) g) =
       sweep_writes widths f below go P Tag hangs (λ x. lub (var d (Tag x)) (var d (Wire k))) 0 (root d.world) body own in
       written_more P (group_reaches (More (Node x b kids) rest)) (λ m h. either_first (P m) (group_reaches rest m) h) _
       (sweep_writes widths f below go P First (saved d.world) (λ m. var d (Tag m)) 0 (root d.world) (gives d (Wire k) (var d (Tag x)) (raises d hangs k body)) (λ g. raised _) g)
   top_writes widths hangs (More (Node x b kids) rest) k go once (suc n) g =
       written_more (group_reaches rest) (group_reaches (More (Node x b kids) rest)) (λ m h. either_second (block_reaching (group_reaches kids) b m) (group_reaches rest m) h) _
-      (top_writes widths hangs rest (k + (1 + (wires_block b + 1 + wires_group kids))) go once.1 n g)
+      (top_writes widths hangs rest (k + (1 + wires_block b + wires_group kids)) go once.1 n g)
 
 pub writes_once : (d : Named) (tag sites : ℕ) → NamesApart d → FineProgram d.program → PlainWritesOnce (plain_of d tag sites)
 writes_once d tag sites names fine before numbers within fit =

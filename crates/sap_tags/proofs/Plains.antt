@@ -14,16 +14,15 @@ use Rattle.sap_ir.specs.declared.guarded.Store.{Store}
 use Rattle.sap_ir.specs.Source.{Source, readable}
 use Rattle.sap_ir.specs.IsGuarded.{assignable, variable_names, memory_names}
 use Rattle.sap_ir.proofs.Declared.{distinct_front, distinct_behind, apart_lists, among_front, found_first, found_second, not_found}
-use Rattle.sap_plain.specs.Nested.{Nested, Forest, declarations, has_states, group_names, state_names, seat_name, seats, seat_width}
+use Rattle.sap_plain.specs.Nested.{Nested, Forest, declarations, group_names, state_names, seat_name, seats}
 use Rattle.sap_plain.specs.Nested as nested
 use Rattle.sap_plain.specs.IsPlain.{IsPlain, is_gate}
 use Rattle.sap_plain.proofs.SeatWidths.{seat_holds}
 use Rattle.sap_interface.specs.StandsFor.{Named, name, world}
-use Rattle.std.specs.Fmt.{decimal}
-use Rattle.sap_tags.specs.Keys.{entity_word, Key, Seat, First, sort, index, same, key_name}
+use Rattle.sap_tags.specs.Keys.{numeral, entity_word, Key, Seat, First, Inner, sort, index, same, key_name}
 use Rattle.sap_tags.specs.Setting.{Setting, setting_of}
 use Rattle.sap_tags.specs.States.{saved, top_plain}
-use Rattle.sap_tags.specs.Plain.{variable, level_at_start, value_var, tag_var, seat_var, site_wires, top_wires, first_wires, memory_of, plain_of}
+use Rattle.sap_tags.specs.Plain.{variable, level_at_start, value_var, tag_var, seat_var, site_wires, group_wires, first_wires, inner_wires, memory_of, plain_of}
 use Rattle.sap_tags.specs.Stands.{has_tag}
 use Rattle.sap_tags.proofs.Bools.{second, either_second, both_true, refuted, value_within, memory_within, tagged_within}
 use Rattle.sap_tags.proofs.KeyNames.{names_apart}
@@ -31,7 +30,7 @@ use Rattle.sap_tags.proofs.Members.{In, among_in, in_front, in_behind}
 use Rattle.sap_tags.proofs.Groups.{LawfulStates, Shaped}
 use Rattle.sap_tags.proofs.Falls.{shaped_top}
 use Rattle.sap_tags.proofs.Premises.{Design}
-use Rattle.sap_tags.proofs.Cycle.{lawful_states, in_value, in_tag, in_own_tag, in_seat, in_memory, in_tags, in_input, in_all, refused_in, level_in}
+use Rattle.sap_tags.proofs.Cycle.{lawful_states, test_of_lt, in_value, in_tag, in_own_tag, in_seat, in_memory, in_tags, in_input, in_all, refused_in, level_in}
 use Rattle.sap_tags.proofs.Ends.{Among, counted_bounds}
 use Rattle.sap_tags.proofs.Fits.{Declares}
 use Rattle.sap_tags.proofs.Bodies.{Assigns, SiteWires}
@@ -148,19 +147,29 @@ module _ (d : Named) (tag sites : ℕ) (design : Design d tag sites) (fit : Fitt
 
   in_first : (m : ℕ) → saved w m ≡ true → In src.wires (first_wire m)
   in_first m h =
-      in_behind (site_wires d tag 1 sites) (first_wires d tag ++ top_wires d tag 0 d.program.states) (first_wire m)
-      (in_front (first_wires d tag) (top_wires d tag 0 d.program.states) (first_wire m)
+      in_behind (site_wires d tag 1 sites) (first_wires d tag ++ (inner_wires d tag ++ group_wires d tag 0 d.program.states)) (first_wire m)
+      (in_front (first_wires d tag) (inner_wires d tag ++ group_wires d tag 0 d.program.states) (first_wire m)
       (in_all d tag sites design (saved w) (λ m. first_wire m ∷ []) (first_wire m) m (memory_within w m (both_true (is_memory w m) (is_dynamic w m) h).0) h (inl refl)))
 
-  own_found : AllFound src (top_wires d tag 0 d.program.states)
+  abbrev inner_wire : ℕ → Var
+  inner_wire x = variable (key_name d (Inner x)) tag 0
+
+  in_inner : (x : ℕ) → nat_lt x (root w) ≡ true → 0 < children w x → In src.wires (inner_wire x)
+  in_inner x l h =
+      in_behind (site_wires d tag 1 sites) (first_wires d tag ++ (inner_wires d tag ++ group_wires d tag 0 d.program.states)) (inner_wire x)
+      (in_behind (first_wires d tag) (inner_wires d tag ++ group_wires d tag 0 d.program.states) (inner_wire x)
+      (in_front (inner_wires d tag) (group_wires d tag 0 d.program.states) (inner_wire x)
+      (in_all d tag sites design (λ q. nat_lt 0 (children w q)) (λ q. inner_wire q ∷ []) (inner_wire x) x l (test_of_lt 0 (children w x) h) (inl refl))))
+
+  own_found : AllFound src (group_wires d tag 0 d.program.states)
   own_found v i =
       let j : In src.wires v =
-      in_behind (site_wires d tag 1 sites) (first_wires d tag ++ top_wires d tag 0 d.program.states) v
-      (in_behind (first_wires d tag) (top_wires d tag 0 d.program.states) v i) in
+      in_behind (site_wires d tag 1 sites) (first_wires d tag ++ (inner_wires d tag ++ group_wires d tag 0 d.program.states)) v
+      (in_behind (first_wires d tag) (inner_wires d tag ++ group_wires d tag 0 d.program.states) v (in_behind (inner_wires d tag) (group_wires d tag 0 d.program.states) v i)) in
       (wire_found v j, wire_assignable v j)
 
   in_site : (v : Var) → In (site_wires d tag 1 sites) v → In src.wires v
-  in_site v i = in_front (site_wires d tag 1 sites) (first_wires d tag ++ top_wires d tag 0 d.program.states) v i
+  in_site v i = in_front (site_wires d tag 1 sites) (first_wires d tag ++ (inner_wires d tag ++ group_wires d tag 0 d.program.states)) v i
 
   site_found : (k : ℕ) → Among (sites_of_program.program_sites d.program) k → SiteWires set src k
   site_found k a =
@@ -184,6 +193,7 @@ module _ (d : Named) (tag sites : ℕ) (design : Design d tag sites) (fit : Fitt
     ];
     seats = λ q h. register_found (seat_var d q) (in_seat d tag sites design q h);
     firsts = λ m h. wire_found (first_wire m) (in_first m h);
+    inners = λ x l h. wire_found (inner_wire x) (in_inner x l h);
     stores = λ m h. find_by (λ (z : Store). z.name) (λ z. (z.width, z.depth)) src.memories (memory_of d m) stores_once (in_memory d tag sites design m h);
     marks = λ m h t. find_by (λ (z : Store). z.name) (λ z. (z.width, z.depth)) src.memories _ stores_once (in_tags d tag sites design m h t);
     wide = fit.wide;
@@ -225,6 +235,7 @@ module _ (d : Named) (tag sites : ℕ) (design : Design d tag sites) (fit : Fitt
     values = λ x r. register_assignable (value_var d x (entity w x).initial) (in_value d tag sites design x r);
     tags = λ x h i. register_assignable (tag_register x) (in_tag_register x h i);
     firsts = λ m h. wire_assignable (first_wire m) (in_first m h);
+    inners = λ x l h. wire_assignable (inner_wire x) (in_inner x l h);
     free = free;
   }
 
@@ -237,7 +248,7 @@ module _ (d : Named) (tag sites : ℕ) (design : Design d tag sites) (fit : Fitt
         declares = guarded d tag sites design fit;
         not_gates = all_names d tag sites design fit (λ (x : Name). is_gate x ≡ false) (key_no_gate d design.names);
         some_state = some_states set g forest shape l;
-        states_named = all_states set (λ (x : Name). is_name x ≡ true) g forest shape (λ t i. let l = (inside_state w g 0 g f.states t i).declared in ap is_name (ap (λ (b : Bool). if b then name d t else decimal t) l) ∙ design.names.named t l);
+        states_named = all_states set (λ (x : Name). is_name x ≡ true) g forest shape (λ t i. let l = (inside_state w g 0 g f.states t i).declared in ap is_name (ap (λ (b : Bool). if b then name d t else numeral t) l) ∙ design.names.named t l);
         states_differ = states_once set states g 0 g forest f.states shape;
         root = seat_is_fine set src seat_registers declares.few_children (root w) nested.root_seat g forest states.root_seat f.count shape;
         states_fine =

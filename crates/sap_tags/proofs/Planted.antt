@@ -12,16 +12,16 @@ use Rattle.sap_program.specs.declared.program.State.{State as StateCode, out-Sta
 use Rattle.sap_program.specs.declared.program.Command.{Command}
 use Rattle.sap_program.specs.Views.{block_of, state_of, group_of}
 use Rattle.sap_sized.specs.Ranges.{RangedBlock, RangedState, RangedGroup}
-use Rattle.sap_tags.specs.Built.{CommandsRanged, StateRanged, StatesRanged, commands_body, commands_wires, state_forest, state_wires, states_forest, states_wires, top_forest, tops_forest, tops_wires}
+use Rattle.sap_tags.specs.Built.{CommandsRanged, StateRanged, StatesRanged, commands_body, commands_wires, state_forest, state_wires, states_forest, states_wires, top_forest, tops_forest}
 use Rattle.sap_tags.specs.Code.{named_in, entities_in, setting_in, spot_in, world_in}
-use Rattle.sap_tags.specs.Keys.{First, Tag, Wire, entity_word}
+use Rattle.sap_tags.specs.Keys.{First, Tag, Wire, Inner, entity_word}
 use Rattle.sap_tags.specs.Levels.{var}
 use Rattle.sap_tags.specs.Commands.{gives, raises, block_plain, wires_block}
 use Rattle.sap_tags.specs.Setting as pass
 use Rattle.sap_tags.specs.States.{wires_state, saves, saved, group_plain, top_plain}
 use Rattle.sap_tags.specs.declared.setting.Setting.{Setting}
 use Rattle.sap_tags.specs.declared.setting.Spot.{Spot}
-use Rattle.sap_tags.proofs.Listed.{state_of-out, group_of-more, wires_block_are, wires_state_are, state_wires_are, states_drop, tops_drop}
+use Rattle.sap_tags.proofs.Listed.{state_of-out, group_of-more, wires_block_are, wires_state_are, state_wires_are, states_drop}
 use Rattle.sap_tags.proofs.Raised.{raises_follow, entities_count}
 use Rattle.sap_tags.proofs.Pushed.{for_each_follow}
 
@@ -35,11 +35,11 @@ planted_more : (a b c : Forest) → planted (planted a b) c ≡ planted a (plant
 planted_more none b c = refl
 planted_more (state x d kids rest) b c = ap (state x d kids) (planted_more rest b c)
 
-group_one : (d : pass.Setting) (parent p k : ℕ) (t : State) (g : Group) → group_plain d parent p k (More t g) ≡ planted (group_plain d parent p k (More t None)) (group_plain d parent p (k + wires_state t) g)
+group_one : (d : pass.Setting) (parent k : ℕ) (t : State) (g : Group) → group_plain d parent k (More t g) ≡ planted (group_plain d parent k (More t None)) (group_plain d parent (k + wires_state t) g)
 unfolding group_plain
-group_one d parent p k (Node x b kids) g = refl
+group_one d parent k (Node x b kids) g = refl
 
-top_one : (d : pass.Setting) (hangs : ℕ → Bool) (k : ℕ) (t : State) (g : Group) → top_plain d hangs k (More t g) ≡ planted (top_plain d hangs k (More t None)) (top_plain d hangs (k + (1 + wires_state t)) g)
+top_one : (d : pass.Setting) (hangs : ℕ → Bool) (k : ℕ) (t : State) (g : Group) → top_plain d hangs k (More t g) ≡ planted (top_plain d hangs k (More t None)) (top_plain d hangs (k + wires_state t) g)
 unfolding top_plain
 top_one d hangs k (Node x b kids) g = refl
 
@@ -70,77 +70,83 @@ module _ (s : Setting) where
 
   -- a state
 
-  node_forest : (d : pass.Setting) (parent p k x : ℕ) (b : Block) (kids : Group) → group_plain d parent p k (More (Node x b kids) None)
-      ≡ state (d.state_name x) (block_plain d (record { state = x; parent = parent; children = kids }) (k + wires_block b) p k b) (group_plain d x (k + wires_block b) (k + wires_block b + 1) kids) none
+  node_forest : (d : pass.Setting) (parent k x : ℕ) (b : Block) (kids : Group) → group_plain d parent k (More (Node x b kids) None)
+      ≡ state (d.state_name x) (gives d (Wire k) (var d (Inner parent)) (block_plain d (record { state = x; parent = parent; children = kids }) k (k + 1) b)) (group_plain d x (k + 1 + wires_block b) kids) none
   unfolding group_plain
-  node_forest d parent p k x b kids = refl
+  node_forest d parent k x b kids = refl
 
-  pub state_made : (parent p k base : ℕ) (t : StateCode) (at : Spot) (bl : List Command) (kl : List StateCode) (y : PlainState-F PlainState)
-      → at.state ≡ (out-State t).number → at.parent ≡ parent → at.children.now ≡ kl → bl ≡ (out-State t).body.items → kl ≡ (out-State t).children.items → base ≡ k + commands_wires bl
+  -- the wires behind those of a body
+  behind_body : (k m : ℕ) (t : StateCode) (bl : List Command) → bl ≡ (out-State t).body.items → m ≡ k + 1 + commands_wires bl → m ≡ k + 1 + wires_block (block_of (entities_in s) (out-State t).body.items)
+  behind_body k m t bl be me =
+      me ∙ ap (λ (l : List Command). k + 1 + commands_wires l) be ∙ ap (λ (w : ℕ). k + 1 + w) (sym (wires_block_are (entities_in s) (out-State t).body.items))
+
+  pub state_made : (parent k m : ℕ) (t : StateCode) (at : Spot) (bl : List Command) (kl : List StateCode) (y : PlainState-F PlainState) (b1 : Body)
+      → at.state ≡ (out-State t).number → at.parent ≡ parent → at.children.now ≡ kl → bl ≡ (out-State t).body.items → kl ≡ (out-State t).children.items → m ≡ k + 1 + commands_wires bl
       → y.name ≡ entity_word (named_in s) (out-State t).number
-      → body_of y.cmds.items ≡ commands_body s at base p k bl
-      → forest_of y.children.items ≡ states_forest s (out-State t).number base (base + 1) kl
-      → state_before (roll-PlainState y) none ≡ state_forest s parent p k t
+      → b1 ≡ gives (setting_in s) (Wire k) (var (setting_in s) (Inner parent)) stop
+      → body_of y.cmds.items ≡ follow b1 (commands_body s at k (k + 1) bl)
+      → forest_of y.children.items ≡ states_forest s (out-State t).number m kl
+      → state_before (roll-PlainState y) none ≡ state_forest s parent k t
   unfolding state_forest states_forest commands_body
-  state_made parent p k base t at bl kl y xe pe ce be ke we ne body kids =
+  state_made parent k m t at bl kl y b1 xe pe ce be ke me ne e1 body kids =
       let d = setting_in s in
       let n = entities_in s in
       let x = (out-State t).number in
       let b = block_of n (out-State t).body.items in
       let g = group_of n (out-State t).children.items in
       let here : ℕ → ℕ → List StateCode → checks.Spot = λ q r l. record { state = q; parent = r; children = group_of n l } in
-      let e : base ≡ k + wires_block b = we ∙ ap (λ (l : List Command). k + commands_wires l) be ∙ ap (λ (w : ℕ). k + w) (sym (wires_block_are n (out-State t).body.items)) in
-      let first : body_of y.cmds.items ≡ block_plain d (here x parent (out-State t).children.items) (k + wires_block b) p k b =
+      let front : Body → Body = λ c. gives d (Wire k) (var d (Inner parent)) c in
+      let first : body_of y.cmds.items ≡ front (block_plain d (here x parent (out-State t).children.items) k (k + 1) b) =
       body
-      ∙ ap₂ (λ (q r : ℕ). block_plain d (here q r at.children.now) base p k (block_of n bl)) xe pe
-      ∙ ap (λ (l : List StateCode). block_plain d (here x parent l) base p k (block_of n bl)) (ce ∙ ke)
-      ∙ ap₂ (λ (j : ℕ) (l : List Command). block_plain d (here x parent (out-State t).children.items) j p k (block_of n l)) e be in
-      let second : forest_of y.children.items ≡ group_plain d x (k + wires_block b) (k + wires_block b + 1) g =
-      kids ∙ ap₂ (λ (j : ℕ) (l : List StateCode). group_plain d x j (j + 1) (group_of n l)) e ke in
+      ∙ ap (λ (c : Body). follow c (block_plain d (spot_in s at) k (k + 1) (block_of n bl))) e1
+      ∙ ap₂ (λ (q r : ℕ). front (block_plain d (here q r at.children.now) k (k + 1) (block_of n bl))) xe pe
+      ∙ ap₂ (λ (l : List StateCode) (cs : List Command). front (block_plain d (here x parent l) k (k + 1) (block_of n cs))) (ce ∙ ke) be in
+      let second : forest_of y.children.items ≡ group_plain d x (k + 1 + wires_block b) g =
+      kids ∙ ap₂ (λ (j : ℕ) (l : List StateCode). group_plain d x j (group_of n l)) (behind_body k m t bl be me) ke in
       state_before-roll y none
       ∙ ap₂ (λ (m : Name) (c : Body). state m c (forest_of y.children.items) none) ne first
-      ∙ ap (λ (f : Forest). state (d.state_name x) (block_plain d (here x parent (out-State t).children.items) (k + wires_block b) p k b) f none) second
-      ∙ sym (ap (λ (q : State). group_plain d parent p k (More q None)) (state_of-out n t) ∙ node_forest d parent p k x b g)
+      ∙ ap (λ (f : Forest). state (d.state_name x) (front (block_plain d (here x parent (out-State t).children.items) k (k + 1) b)) f none) second
+      ∙ sym (ap (λ (q : State). group_plain d parent k (More q None)) (state_of-out n t) ∙ node_forest d parent k x b g)
 
   -- the states of a group
 
-  module _ (parent p : ℕ) where
-    pub forest_past : (k : ℕ) (ts : List StateCode) (i : ℕ) → length ts ≤ i → states_forest s parent p k (drop i ts) ≡ none
+  module _ (parent : ℕ) where
+    pub forest_past : (k : ℕ) (ts : List StateCode) (i : ℕ) → length ts ≤ i → states_forest s parent k (drop i ts) ≡ none
     unfolding states_forest group_plain group_of
     forest_past k [] zero l = refl
     forest_past k [] (suc i) l = refl
     forest_past k (t ∷ ts) zero l = absurd (omega arith)
     forest_past k (t ∷ ts) (suc i) l = forest_past k ts i (omega arith)
 
-    forest_more : (k : ℕ) (t : StateCode) (ts : List StateCode) → states_forest s parent p k (t ∷ ts) ≡ planted (state_forest s parent p k t) (states_forest s parent p (k + state_wires t) ts)
+    forest_more : (k : ℕ) (t : StateCode) (ts : List StateCode) → states_forest s parent k (t ∷ ts) ≡ planted (state_forest s parent k t) (states_forest s parent (k + state_wires t) ts)
     unfolding states_forest state_forest
     forest_more k t ts =
         let d = setting_in s in
         let n = entities_in s in
-        ap (group_plain d parent p k) (group_of-more n t ts)
-        ∙ group_one d parent p k (state_of n t) (group_of n ts)
-        ∙ ap (λ (w : ℕ). planted (group_plain d parent p k (More (state_of n t) None)) (group_plain d parent p (k + w) (group_of n ts))) (wires_state_are n t)
+        ap (group_plain d parent k) (group_of-more n t ts)
+        ∙ group_one d parent k (state_of n t) (group_of n ts)
+        ∙ ap (λ (w : ℕ). planted (group_plain d parent k (More (state_of n t) None)) (group_plain d parent (k + w) (group_of n ts))) (wires_state_are n t)
 
-    forest_drop : (k : ℕ) (ts : List StateCode) (i : ℕ) (e : StateCode) → i < length ts → states_forest s parent p k (drop i ts) ≡ planted (state_forest s parent p k (get_or ts i e)) (states_forest s parent p (k + state_wires (get_or ts i e)) (drop (i + 1) ts))
+    forest_drop : (k : ℕ) (ts : List StateCode) (i : ℕ) (e : StateCode) → i < length ts → states_forest s parent k (drop i ts) ≡ planted (state_forest s parent k (get_or ts i e)) (states_forest s parent (k + state_wires (get_or ts i e)) (drop (i + 1) ts))
     forest_drop k [] i e l = absurd (omega arith)
     forest_drop k (t ∷ ts) zero e l = forest_more k t ts
     forest_drop k (t ∷ ts) (suc i) e l = let r = forest_drop k ts i e (omega arith) in simp (add-one) (simp (add-one) at r)
 
-    pub states_step : (ts : List StateCode) (i : ℕ) (t : StateCode) (k m : ℕ) (now new : List PlainState) (r : PlainState) (all : Forest) → i < length ts → t ≡ get_or ts i t → new ≡ now ++ r ∷ [] → state_before r none ≡ state_forest s parent p k t → m ≡ k + state_wires t
-        → planted (forest_of now) (states_forest s parent p k (drop i ts)) ≡ all → planted (forest_of new) (states_forest s parent p m (drop (i + 1) ts)) ≡ all
+    pub states_step : (ts : List StateCode) (i : ℕ) (t : StateCode) (k m : ℕ) (now new : List PlainState) (r : PlainState) (all : Forest) → i < length ts → t ≡ get_or ts i t → new ≡ now ++ r ∷ [] → state_before r none ≡ state_forest s parent k t → m ≡ k + state_wires t
+        → planted (forest_of now) (states_forest s parent k (drop i ts)) ≡ all → planted (forest_of new) (states_forest s parent m (drop (i + 1) ts)) ≡ all
     states_step ts i t k m now new r all l e f g w h =
-        ap₂ (λ (b : Forest) (j : ℕ). planted b (states_forest s parent p j (drop (i + 1) ts))) (ap forest_of f ∙ forest_of-push now r ∙ ap (planted (forest_of now)) g) w
-        ∙ planted_more (forest_of now) (state_forest s parent p k t) (states_forest s parent p (k + state_wires t) (drop (i + 1) ts))
-        ∙ ap (λ (y : StateCode). planted (forest_of now) (planted (state_forest s parent p k y) (states_forest s parent p (k + state_wires y) (drop (i + 1) ts)))) e
+        ap₂ (λ (b : Forest) (j : ℕ). planted b (states_forest s parent j (drop (i + 1) ts))) (ap forest_of f ∙ forest_of-push now r ∙ ap (planted (forest_of now)) g) w
+        ∙ planted_more (forest_of now) (state_forest s parent k t) (states_forest s parent (k + state_wires t) (drop (i + 1) ts))
+        ∙ ap (λ (y : StateCode). planted (forest_of now) (planted (state_forest s parent k y) (states_forest s parent (k + state_wires y) (drop (i + 1) ts)))) e
         ∙ ap (planted (forest_of now)) (sym (forest_drop k ts i t l)) ∙ h
 
-    pub states_rest : (ts : List StateCode) (i k : ℕ) (now all : Forest) → length ts ≤ i → planted now (states_forest s parent p k (drop i ts)) ≡ all → now ≡ all
+    pub states_rest : (ts : List StateCode) (i k : ℕ) (now all : Forest) → length ts ≤ i → planted now (states_forest s parent k (drop i ts)) ≡ all → now ≡ all
     states_rest ts i k now all l h = sym (planted_end now) ∙ ap (planted now) (sym (forest_past k ts i l)) ∙ h
 
   -- the top-level states
 
   top_node : (d : pass.Setting) (hangs : ℕ → Bool) (k x : ℕ) (b : Block) (kids : Group) → top_plain d hangs k (More (Node x b kids) None)
-      ≡ state (d.state_name x) (saves d (gives d (Wire k) (var d (Tag x)) (raises d hangs k (block_plain d (record { state = x; parent = root d.world; children = kids }) (k + 1 + wires_block b) k (k + 1) b)))) (group_plain d x (k + 1 + wires_block b) (k + 1 + wires_block b + 1) kids) none
+      ≡ state (d.state_name x) (saves d (gives d (Wire k) (var d (Tag x)) (raises d hangs k (block_plain d (record { state = x; parent = root d.world; children = kids }) k (k + 1) b)))) (group_plain d x (k + 1 + wires_block b) kids) none
   unfolding top_plain
   top_node d hangs k x b kids = refl
 
@@ -161,36 +167,34 @@ module _ (s : Setting) where
       ∙ ap (λ (b : Body). saves d (gives d (Wire k) (var d (Tag x)) b)) (sym (raises_follow d (listed (flags (entities_in s) hl)) k c))
       ∙ ap (λ (l : List ℕ). saves d (gives d (Wire k) (var d (Tag x)) (raises d (listed (flags (entities_in s) l)) k c))) he
 
-  pub top_made : (k base : ℕ) (t : StateCode) (at : Spot) (hl : List ℕ) (bl : List Command) (kl : List StateCode) (y : PlainState-F PlainState) (b1 b2 b3 : Body)
-      → at.state ≡ (out-State t).number → at.parent ≡ entities_in s → at.children.now ≡ kl → hl ≡ s.program.now.hang → bl ≡ (out-State t).body.items → kl ≡ (out-State t).children.items → base ≡ k + 1 + commands_wires bl
+  pub top_made : (k m : ℕ) (t : StateCode) (at : Spot) (hl : List ℕ) (bl : List Command) (kl : List StateCode) (y : PlainState-F PlainState) (b1 b2 b3 : Body)
+      → at.state ≡ (out-State t).number → at.parent ≡ entities_in s → at.children.now ≡ kl → hl ≡ s.program.now.hang → bl ≡ (out-State t).body.items → kl ≡ (out-State t).children.items → m ≡ k + 1 + commands_wires bl
       → y.name ≡ entity_word (named_in s) (out-State t).number
       → b1 ≡ saves (setting_in s) stop
       → b2 ≡ follow b1 (gives (setting_in s) (Wire k) (var (setting_in s) (Tag (out-State t).number)) stop)
       → b3 ≡ follow b2 (raises (setting_in s) (listed (flags (entities_in s) hl)) k stop)
-      → body_of y.cmds.items ≡ follow b3 (commands_body s at base k (k + 1) bl)
-      → forest_of y.children.items ≡ states_forest s (out-State t).number base (base + 1) kl
+      → body_of y.cmds.items ≡ follow b3 (commands_body s at k (k + 1) bl)
+      → forest_of y.children.items ≡ states_forest s (out-State t).number m kl
       → state_before (roll-PlainState y) none ≡ top_forest s k t
   unfolding top_forest states_forest commands_body
-  top_made k base t at hl bl kl y b1 b2 b3 xe pe ce he be ke we ne e1 e2 e3 body kids =
+  top_made k m t at hl bl kl y b1 b2 b3 xe pe ce he be ke me ne e1 e2 e3 body kids =
       let d = setting_in s in
       let n = entities_in s in
       let x = (out-State t).number in
       let b = block_of n (out-State t).body.items in
       let g = group_of n (out-State t).children.items in
       let here : ℕ → ℕ → List StateCode → checks.Spot = λ q r l. record { state = q; parent = r; children = group_of n l } in
-      let e : base ≡ k + 1 + wires_block b = we ∙ ap (λ (l : List Command). k + 1 + commands_wires l) be ∙ ap (λ (w : ℕ). k + 1 + w) (sym (wires_block_are n (out-State t).body.items)) in
       let r : at.parent ≡ root d.world = pe ∙ sym (entities_count s.program.now.entities.items) in
       let front : Body → Body = λ c. saves d (gives d (Wire k) (var d (Tag x)) (raises d (listed (flags n s.program.now.hang)) k c)) in
-      let first : body_of y.cmds.items ≡ front (block_plain d (here x (root d.world) (out-State t).children.items) (k + 1 + wires_block b) k (k + 1) b) =
-      top_body hl k x stop b1 b2 b3 (body_of y.cmds.items) (block_plain d (spot_in s at) base k (k + 1) (block_of n bl)) he e1 e2 e3 body
-      ∙ ap₂ (λ (q r : ℕ). front (block_plain d (here q r at.children.now) base k (k + 1) (block_of n bl))) xe r
-      ∙ ap (λ (l : List StateCode). front (block_plain d (here x (root d.world) l) base k (k + 1) (block_of n bl))) (ce ∙ ke)
-      ∙ ap₂ (λ (j : ℕ) (l : List Command). front (block_plain d (here x (root d.world) (out-State t).children.items) j k (k + 1) (block_of n l))) e be in
-      let second : forest_of y.children.items ≡ group_plain d x (k + 1 + wires_block b) (k + 1 + wires_block b + 1) g =
-      kids ∙ ap₂ (λ (j : ℕ) (l : List StateCode). group_plain d x j (j + 1) (group_of n l)) e ke in
+      let first : body_of y.cmds.items ≡ front (block_plain d (here x (root d.world) (out-State t).children.items) k (k + 1) b) =
+      top_body hl k x stop b1 b2 b3 (body_of y.cmds.items) (block_plain d (spot_in s at) k (k + 1) (block_of n bl)) he e1 e2 e3 body
+      ∙ ap₂ (λ (q r : ℕ). front (block_plain d (here q r at.children.now) k (k + 1) (block_of n bl))) xe r
+      ∙ ap₂ (λ (l : List StateCode) (cs : List Command). front (block_plain d (here x (root d.world) l) k (k + 1) (block_of n cs))) (ce ∙ ke) be in
+      let second : forest_of y.children.items ≡ group_plain d x (k + 1 + wires_block b) g =
+      kids ∙ ap₂ (λ (j : ℕ) (l : List StateCode). group_plain d x j (group_of n l)) (behind_body k m t bl be me) ke in
       state_before-roll y none
       ∙ ap₂ (λ (m : Name) (c : Body). state m c (forest_of y.children.items) none) ne first
-      ∙ ap (λ (f : Forest). state (d.state_name x) (front (block_plain d (here x (root d.world) (out-State t).children.items) (k + 1 + wires_block b) k (k + 1) b)) f none) second
+      ∙ ap (λ (f : Forest). state (d.state_name x) (front (block_plain d (here x (root d.world) (out-State t).children.items) k (k + 1) b)) f none) second
       ∙ sym (ap (λ (q : State). top_plain d (listed (flags n s.program.now.hang)) k (More q None)) (state_of-out n t) ∙ top_node d (listed (flags n s.program.now.hang)) k x b g)
 
   tops_past : (k : ℕ) (ts : List StateCode) (i : ℕ) → length ts ≤ i → tops_forest s k (drop i ts) ≡ none
@@ -200,7 +204,7 @@ module _ (s : Setting) where
   tops_past k (t ∷ ts) zero l = absurd (omega arith)
   tops_past k (t ∷ ts) (suc i) l = tops_past k ts i (omega arith)
 
-  tops_more : (k : ℕ) (t : StateCode) (ts : List StateCode) → tops_forest s k (t ∷ ts) ≡ planted (top_forest s k t) (tops_forest s (k + (1 + state_wires t)) ts)
+  tops_more : (k : ℕ) (t : StateCode) (ts : List StateCode) → tops_forest s k (t ∷ ts) ≡ planted (top_forest s k t) (tops_forest s (k + state_wires t) ts)
   unfolding tops_forest top_forest
   tops_more k t ts =
       let d = setting_in s in
@@ -208,20 +212,19 @@ module _ (s : Setting) where
       let hangs = listed (flags n s.program.now.hang) in
       ap (top_plain d hangs k) (group_of-more n t ts)
       ∙ top_one d hangs k (state_of n t) (group_of n ts)
-      ∙ ap (λ (w : ℕ). planted (top_plain d hangs k (More (state_of n t) None)) (top_plain d hangs (k + (1 + w)) (group_of n ts))) (wires_state_are n t)
+      ∙ ap (λ (w : ℕ). planted (top_plain d hangs k (More (state_of n t) None)) (top_plain d hangs (k + w) (group_of n ts))) (wires_state_are n t)
 
-  tops_at : (k : ℕ) (ts : List StateCode) (i : ℕ) (e : StateCode) → i < length ts → tops_forest s k (drop i ts) ≡ planted (top_forest s k (get_or ts i e)) (tops_forest s (k + (1 + state_wires (get_or ts i e))) (drop (i + 1) ts))
+  tops_at : (k : ℕ) (ts : List StateCode) (i : ℕ) (e : StateCode) → i < length ts → tops_forest s k (drop i ts) ≡ planted (top_forest s k (get_or ts i e)) (tops_forest s (k + state_wires (get_or ts i e)) (drop (i + 1) ts))
   tops_at k [] i e l = absurd (omega arith)
   tops_at k (t ∷ ts) zero e l = tops_more k t ts
   tops_at k (t ∷ ts) (suc i) e l = let r = tops_at k ts i e (omega arith) in simp (add-one) (simp (add-one) at r)
 
-  pub tops_step : (ts : List StateCode) (i : ℕ) (t : StateCode) (k m : ℕ) (now new : List PlainState) (r : PlainState) (all : Forest) → i < length ts → t ≡ get_or ts i t → new ≡ now ++ r ∷ [] → state_before r none ≡ top_forest s k t → m ≡ k + 1 + state_wires t
+  pub tops_step : (ts : List StateCode) (i : ℕ) (t : StateCode) (k m : ℕ) (now new : List PlainState) (r : PlainState) (all : Forest) → i < length ts → t ≡ get_or ts i t → new ≡ now ++ r ∷ [] → state_before r none ≡ top_forest s k t → m ≡ k + state_wires t
       → planted (forest_of now) (tops_forest s k (drop i ts)) ≡ all → planted (forest_of new) (tops_forest s m (drop (i + 1) ts)) ≡ all
   tops_step ts i t k m now new r all l e f g w h =
-      let v : m ≡ k + (1 + state_wires t) = omega (arith, w) in
-      ap₂ (λ (b : Forest) (j : ℕ). planted b (tops_forest s j (drop (i + 1) ts))) (ap forest_of f ∙ forest_of-push now r ∙ ap (planted (forest_of now)) g) v
-      ∙ planted_more (forest_of now) (top_forest s k t) (tops_forest s (k + (1 + state_wires t)) (drop (i + 1) ts))
-      ∙ ap (λ (y : StateCode). planted (forest_of now) (planted (top_forest s k y) (tops_forest s (k + (1 + state_wires y)) (drop (i + 1) ts)))) e
+      ap₂ (λ (b : Forest) (j : ℕ). planted b (tops_forest s j (drop (i + 1) ts))) (ap forest_of f ∙ forest_of-push now r ∙ ap (planted (forest_of now)) g) w
+      ∙ planted_more (forest_of now) (top_forest s k t) (tops_forest s (k + state_wires t) (drop (i + 1) ts))
+      ∙ ap (λ (y : StateCode). planted (forest_of now) (planted (top_forest s k y) (tops_forest s (k + state_wires y) (drop (i + 1) ts)))) e
       ∙ ap (planted (forest_of now)) (sym (tops_at k ts i t l)) ∙ h
 
   pub tops_rest : (ts : List StateCode) (i k : ℕ) (now all : Forest) → length ts ≤ i → planted now (tops_forest s k (drop i ts)) ≡ all → now ≡ all
@@ -240,11 +243,6 @@ states_wires_step ts i t k m all l e f h =
     let q = states_drop ts i t l ∙ ap (λ (y : StateCode). state_wires y + states_wires (drop (i + 1) ts)) (sym e) in
     omega (arith, q, f, h)
 
-pub tops_wires_step : (ts : List StateCode) (i : ℕ) (t : StateCode) (k m all : ℕ) → i < length ts → t ≡ get_or ts i t → m ≡ k + 1 + state_wires t → k + tops_wires (drop i ts) ≡ all → m + tops_wires (drop (i + 1) ts) ≡ all
-tops_wires_step ts i t k m all l e f h =
-    let q = tops_drop ts i t l ∙ ap (λ (y : StateCode). 1 + state_wires y + tops_wires (drop (i + 1) ts)) (sym e) in
-    omega (arith, q, f, h)
-
--- what a state has, and its body with its own wire
-pub room : (t : StateCode) (bl : List Command) (kl : List StateCode) → bl ≡ (out-State t).body.items → kl ≡ (out-State t).children.items → state_wires t ≡ commands_wires bl + 1 + states_wires kl
-room t bl kl be ke = state_wires_are t ∙ ap₂ (λ (b : List Command) (g : List StateCode). commands_wires b + 1 + states_wires g) (sym be) (sym ke)
+-- the wires of a state: its own, those of its body, and those below it
+pub room : (t : StateCode) (bl : List Command) (kl : List StateCode) → bl ≡ (out-State t).body.items → kl ≡ (out-State t).children.items → state_wires t ≡ 1 + commands_wires bl + states_wires kl
+room t bl kl be ke = state_wires_are t ∙ ap₂ (λ (b : List Command) (g : List StateCode). 1 + commands_wires b + states_wires g) (sym be) (sym ke)

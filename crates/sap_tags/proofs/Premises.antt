@@ -18,7 +18,6 @@ pub record Design (d : Named) (tag sites : ℕ) : Type 0 where
   pub tidy : Tidy (world d) d.program.states
   pub numbered : program_sites d.program ≡ count_from sites 1
   pub few : 1 + sites ≤ 2 ^ 64
-  pub few_entities : root (world d) < 2 ^ 64
   pub few_children : (p : ℕ) → children (world d) p ≤ 2 ^ 64
   pub names : NamesApart d
   -- what has children is an entity or the root

@@ -11,6 +11,7 @@ use Rattle.sap_tags.specs.Levels.{var, bits}
 use Rattle.sap_tags.specs.Commands.{gives, for_each, resets, effect_of}
 use Rattle.sap_tags.proofs.Raised.{sweep_follow}
 use Rattle.sap_meaning.specs.Program.{root, is_dynamic}
+use Rattle.sap_meaning.specs.Checks.{Spot}
 use Rattle.sap_program.specs.declared.program.Step.{Step}
 use Rattle.sap_program.specs.declared.program.Step.TheVariants as step
 use Rattle.sap_program.specs.Views.{step_of}
@@ -24,11 +25,11 @@ pub for_each_follow : (d : Setting) (key : ℕ → Key) (picks : ℕ → Bool) (
 for_each_follow d key picks term b = sym (sweep_follow d key term picks 0 (root d.world) b)
 
 -- a goto behind the resets
-pub goto_effect : (d : Setting) (n base k : ℕ) (st : Step) (site target : ℕ) (b0 b1 b2 : Body) → st ≡ step.Goto site target
+pub goto_effect : (d : Setting) (sp : Spot) (n k : ℕ) (st : Step) (site target : ℕ) (b0 b1 b2 : Body) → st ≡ step.Goto site target
     → b1 ≡ follow b0 (for_each d Tag (resets d.world target) (λ x. bits d d.world.order.bottom) stop)
     → b2 ≡ follow b1 (if is_dynamic d.world target then gives d (Tag target) (var d (Wire (k + 3))) stop else stop)
-    → follow b2 (goto (d.state_name target) stop) ≡ follow b0 (effect_of d base k (step_of n st))
-goto_effect d n base k st site target b0 b1 b2 i e f =
+    → follow b2 (goto (d.state_name target) stop) ≡ follow b0 (effect_of d sp k (step_of n st))
+goto_effect d sp n k st site target b0 b1 b2 i e f =
     let go : Body = goto (d.state_name target) stop in
     let own : Body = gives d (Tag target) (var d (Wire (k + 3))) stop in
     let sweeps : Body = for_each d Tag (resets d.world target) (λ x. bits d d.world.order.bottom) stop in
@@ -38,7 +39,7 @@ goto_effect d n base k st site target b0 b1 b2 i e f =
     ∙ follow-more b0 sweeps (follow tagged go)
     ∙ ap (λ (b : Body). follow b0 (follow sweeps b)) (follow_if (is_dynamic d.world target) own go)
     ∙ ap (follow b0) (for_each_follow d Tag (resets d.world target) (λ x. bits d d.world.order.bottom) (if is_dynamic d.world target then follow own go else go))
-    ∙ ap (λ (s : Step). follow b0 (effect_of d base k (step_of n s))) (sym i)
+    ∙ ap (λ (s : Step). follow b0 (effect_of d sp k (step_of n s))) (sym i)
 
 pub ruleset behind = (follow-end, follow-more)
 

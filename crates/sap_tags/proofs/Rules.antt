@@ -1,12 +1,11 @@
 -- The plain program of a design keeps the rules of its type.
-use Rattle.std.proofs.Common.{◌≡◌, ℕ, zero, suc, ◌+◌, ◌^◌, ◌<◌, ◌≤◌, List, [], ◌∷◌, ◌++◌, map, length, Bool, true, false, not, ◌||◌, Some, refl, sym, ap, ap₂, ◌∙◌, subst, if◌then◌else◌, arith, nat_lt, nat_le, bytes_eq, inl, inr}
+use Rattle.std.proofs.Common.{◌≡◌, ℕ, zero, suc, ◌+◌, ◌≤◌, List, [], ◌∷◌, ◌++◌, map, Bool, true, false, not, ◌||◌, Some, refl, sym, ap, ap₂, ◌∙◌, subst, if◌then◌else◌, arith, nat_lt, bytes_eq, inl, inr}
 use Rattle.std.specs.List.{AllByRecursion}
-use Rattle.std.proofs.lemmas.Grind.{common_steps}
 use Rattle.std.proofs.Math.Pow.{pow_pos}
 use Rattle.sap_maps.specs.Maps.{Name}
 use Rattle.sap_maps.specs.Scope.{find}
 use Rattle.sap_meaning.specs.Program as program
-use Rattle.sap_meaning.specs.Program.{World, Kind, Entity, entity, root, children, width, is_input, is_register, is_memory, is_state, is_dynamic, listed, State, Node, Group, More, Command, Do, Try, If, Block, End, Then, kind_is_input, kind_is_register, kind_is_memory, kind_is_state}
+use Rattle.sap_meaning.specs.Program.{World, Kind, entity, root, children, width, is_input, is_register, is_memory, is_dynamic, State, Node, Group, More, Command, Do, Try, If, Block, End, Then, kind_is_input, kind_is_register, kind_is_memory, kind_is_state}
 use Rattle.sap_meaning.specs.Sized.{SizedProgram}
 use Rattle.sap_sized.specs.Ranges.{IsWidth, RangedProgram}
 use Rattle.sap_net.specs.Names.{is_name, is_among, AreDistinct}
@@ -17,16 +16,16 @@ use Rattle.sap_ir.proofs.Declared.{among_front, among_behind}
 use Rattle.sap_plain.specs.Nested.{Nested, declarations, seat_width}
 use Rattle.sap_plain.proofs.SeatWidths.{seat_positive, seat_within}
 use Rattle.sap_interface.specs.StandsFor.{Named, world, depth}
-use Rattle.sap_tags.specs.Keys.{Key, Value, Tag, Seat, First, is_known, key_name}
+use Rattle.sap_tags.specs.Keys.{Key, Value, Tag, First, Inner, key_name}
 use Rattle.sap_tags.specs.Setting.{Setting, setting_of}
 use Rattle.sap_tags.specs.Commands.{wires, wires_block}
 use Rattle.sap_tags.specs.States.{saved, wires_group}
-use Rattle.sap_tags.specs.Plain.{variable, wire, names_of, level_at_start, value_var, tag_var, seat_var, for_entities, shown_registers, has_own_tag, tag_registers, seat_registers, site_wires, step_wires, command_wires, block_wires, state_wires, group_wires, top_wires, first_wires, memory_of, tags_of, plain_of}
+use Rattle.sap_tags.specs.Plain.{variable, wire, names_of, level_at_start, value_var, tag_var, seat_var, for_entities, shown_registers, has_own_tag, tag_registers, seat_registers, site_wires, step_wires, command_wires, block_wires, state_wires, group_wires, first_wires, inner_wires, memory_of, tags_of, plain_of}
 use Rattle.sap_tags.proofs.Bools.{apart_tests, either_second}
 use Rattle.sap_tags.proofs.KeyNames.{same_name}
 use Rattle.sap_tags.proofs.Members.{In, among_in, in_front, other}
 use Rattle.sap_tags.proofs.Premises.{Design}
-use Rattle.sap_tags.proofs.Distinct.{Every, every_join, once_join, lists_apart, distinct_keys, map_join, entities_once, entities_all, entities_named, site_keys, wire_keys, sites_once, sites_named, top_count, list_number, all_keys, all_named, register_lists}
+use Rattle.sap_tags.proofs.Distinct.{Every, every_join, once_join, lists_apart, distinct_keys, map_join, entities_once, entities_all, entities_named, site_keys, sites_once, sites_named, list_number, all_keys, all_named, register_lists}
 use Rattle.sap_tags.proofs.Conditions.{GroupConditions}
 use Rattle.sap_tags.proofs.Fits.{one_bit}
 use Rattle.sap_tags.proofs.Namings.{all_join, key_is_name, key_no_help}
@@ -38,15 +37,14 @@ pub record Fitting (d : Named) (tag : ℕ) : Type 0 where
   pub conditions : GroupConditions (world d) d.program.states
   pub wide : IsWidth tag
   pub few_levels : (world d).order.count ≤ 16
-  pub few_wires : top_count d tag d.program.states ≤ 2 ^ 64
 
 all_of : {A : Type 0} (P : A → Type 0) (xs : List A) → Every P xs → AllByRecursion P xs
 all_of P [] h = tt
 all_of P (x ∷ xs) h = (h.0, all_of P xs h.1)
 
-all_named_keys : (d : Named) (P : Name → Type 0) → ((a : Key) → is_known a ≡ true → P (key_name d a)) → (ks : List Key) → Every (λ a. is_known a ≡ true) ks → AllByRecursion P (map (key_name d) ks)
-all_named_keys d P f [] h = tt
-all_named_keys d P f (a ∷ ks) h = (f a h.0, all_named_keys d P f ks h.1)
+all_named_keys : (d : Named) (P : Name → Type 0) → ((a : Key) → P (key_name d a)) → (ks : List Key) → AllByRecursion P (map (key_name d) ks)
+all_named_keys d P f [] = tt
+all_named_keys d P f (a ∷ ks) = (f a, all_named_keys d P f ks)
 
 -- what is found under a name
 pub among_by : {A : Type 0} (f : A → Name) (xs : List A) (x : A) → In xs x → is_among (f x) (map f xs) ≡ true
@@ -82,18 +80,6 @@ own_kind program.register b h i r = absurd (apart_tests r)
 own_kind (program.memory depth) b h i r = h
 own_kind (program.state place last) b h i r = refl
 
-lt_le : (x n : ℕ) → nat_lt x n ≡ true → nat_le x n ≡ true
-lt_le x n h = grind (arith, common_steps)
-
-le_self : (n : ℕ) → nat_le n n ≡ true
-le_self n = grind (arith, common_steps)
-
-lt_more : (x n m : ℕ) → nat_lt x n ≡ true → n ≤ m → nat_lt x m ≡ true
-lt_more x n m h l = grind (arith, common_steps)
-
-test_of_lt : (x n : ℕ) → x < n → nat_lt x n ≡ true
-test_of_lt x n h = grind (arith, common_steps)
-
 module _ (d : Named) (tag sites : ℕ) (design : Design d tag sites) (fit : Fitting d tag) where
   abbrev w : World
   w = world d
@@ -107,76 +93,12 @@ module _ (d : Named) (tag sites : ℕ) (design : Design d tag sites) (fit : Fitt
   abbrev set : Setting
   set = setting_of d tag
 
-  entities_within : {A : Type 0} (P : A → Type 0) (picks : ℕ → Bool) (of : ℕ → List A) → ((x : ℕ) → nat_lt x (root w) ≡ true → picks x ≡ true → Every P (of x)) → (x : ℕ) (es : List Entity)
-      → x + length es ≤ root w → Every P (for_entities picks of x es)
-  entities_within P picks of f x [] l = tt
-  entities_within P picks of f x (e ∷ es) l =
-      every_join P (if picks x then of x else []) (for_entities picks of (x + 1) es) (by (picks x) (f x (test_of_lt x (root w) (first x (length es) (root w) l)))) (entities_within P picks of f (x + 1) es (omega (arith, l)))
-    where
-      by : (b : Bool) → (b ≡ true → Every P (of x)) → Every P (if b then of x else [])
-      by true g = g refl
-      by false g = tt
+  each : {A : Type 0} (P : A → Type 0) (picks : ℕ → Bool) (of : ℕ → List A) → ((x : ℕ) → picks x ≡ true → Every P (of x)) → Every P (for_entities picks of 0 w.entities)
+  each P picks of f = entities_all P picks of f 0 w.entities
 
-      first : (x m n : ℕ) → x + suc m ≤ n → x < n
-      first x m n l = omega (arith, l)
-
-  each : {A : Type 0} (P : A → Type 0) (picks : ℕ → Bool) (of : ℕ → List A) → ((x : ℕ) → nat_lt x (root w) ≡ true → picks x ≡ true → Every P (of x)) → Every P (for_entities picks of 0 w.entities)
-  each P picks of f = entities_within P picks of f 0 w.entities (omega arith)
-
-  entities_few : root w ≤ 2 ^ 64
-  entities_few = let f = design.few_entities in omega (arith, f)
-
-  -- all keys are known
-
-  abbrev Known : Key → Type 0
-  Known a = is_known a ≡ true
-
-  sites_known : (k n : ℕ) → k + n ≤ 2 ^ 64 → Every Known (site_keys k n)
-  sites_known k zero l = tt
-  sites_known k (suc n) l = (test_of_lt k (2 ^ 64) (omega (arith, l)), (test_of_lt k (2 ^ 64) (omega (arith, l)), sites_known (k + 1) n (omega (arith, l))))
-
-  wires_known : (k n : ℕ) → k + n ≤ 2 ^ 64 → Every Known (wire_keys k n)
-  wires_known k zero l = tt
-  wires_known k (suc n) l = (test_of_lt k (2 ^ 64) (omega (arith, l)), wires_known (k + 1) n (omega (arith, l)))
-
-  abbrev of_all : (ℕ → Bool) → (ℕ → List Key) → List Key
-  of_all picks of = for_entities picks of 0 w.entities
-
-  two_known : (picks : ℕ → Bool) → Every Known (of_all picks (λ x. Value x ∷ Tag x ∷ []))
-  two_known picks = each Known picks (λ x. Value x ∷ Tag x ∷ []) (λ x l h. (lt_more x (root w) (2 ^ 64) l entities_few, (lt_more x (root w) (2 ^ 64) l entities_few, tt)))
-
-  abbrev store_keys : ℕ → List Key
-  store_keys m = Value m ∷ (if is_dynamic w m then [] else Tag m ∷ [])
-
-  stores_known : Every Known (of_all (is_memory w) store_keys)
-  stores_known = each Known (is_memory w) store_keys (λ m l h. (lt_more m (root w) (2 ^ 64) l entities_few, by m (lt_more m (root w) (2 ^ 64) l entities_few) (is_dynamic w m)))
-    where
-      by : (m : ℕ) → nat_lt m (2 ^ 64) ≡ true → (b : Bool) → Every Known (if b then [] else Tag m ∷ [])
-      by m l true = tt
-      by m l false = (l, tt)
-
-  all_known : Every Known (all_keys d tag sites design.names)
-  all_known =
-      let ins = two_known (is_input w) in
-      let regs = two_known (is_register w) in
-      let tags = each Known (has_own_tag d) (λ x. Tag x ∷ []) (λ x l h. (lt_more x (root w) (2 ^ 64) l entities_few, tt)) in
-      let seats = each Known (λ q. nat_lt 0 (children w q)) (λ q. Seat q ∷ []) (λ x l h. (lt_more x (root w) (2 ^ 64) l entities_few, tt)) in
-      let firsts = each Known (saved w) (λ x. First x ∷ []) (λ x l h. (lt_more x (root w) (2 ^ 64) l entities_few, tt)) in
-      let n = top_count d tag d.program.states in
-      let few = design.few in
-      let many = fit.few_wires in
-      every_join Known (of_all (is_input w) (λ x. Value x ∷ Tag x ∷ [])) _ ins
-      (every_join Known (of_all (is_register w) (λ x. Value x ∷ Tag x ∷ []) ++ (of_all (has_own_tag d) (λ x. Tag x ∷ []) ++ (of_all (λ q. nat_lt 0 (children w q)) (λ q. Seat q ∷ []) ++ Seat (root w) ∷ []))) _
-      (every_join Known (of_all (is_register w) (λ x. Value x ∷ Tag x ∷ [])) _ regs
-      (every_join Known (of_all (has_own_tag d) (λ x. Tag x ∷ [])) _ tags
-      (every_join Known (of_all (λ q. nat_lt 0 (children w q)) (λ q. Seat q ∷ [])) (Seat (root w) ∷ []) seats (test_of_lt (root w) (2 ^ 64) design.few_entities, tt))))
-      (every_join Known (site_keys 1 sites ++ (of_all (saved w) (λ x. First x ∷ []) ++ wire_keys 0 n)) _
-      (every_join Known (site_keys 1 sites) _ (sites_known 1 sites few) (every_join Known (of_all (saved w) (λ x. First x ∷ [])) (wire_keys 0 n) firsts (wires_known 0 n (omega (arith, many)))))
-      stores_known))
-
-  pub all_names : (P : Name → Type 0) → ((a : Key) → is_known a ≡ true → P (key_name d a)) → AllByRecursion P (declared src)
+  pub all_names : (P : Name → Type 0) → ((a : Key) → P (key_name d a)) → AllByRecursion P (declared src)
   all_names P f =
-      subst (λ (ns : List Name). AllByRecursion P ns) (sym (all_named d tag sites design.names)) (all_named_keys d P f (all_keys d tag sites design.names) all_known)
+      subst (λ (ns : List Name). AllByRecursion P ns) (sym (all_named d tag sites design.names)) (all_named_keys d P f (all_keys d tag sites design.names))
 
   -- widths and first numbers
 
@@ -186,18 +108,18 @@ module _ (d : Named) (tag sites : ℕ) (design : Design d tag sites) (fit : Fitt
   inputs_fine : AllByRecursion IsPlainVar src.inputs
   inputs_fine =
       all_of IsPlainVar src.inputs
-      (each IsPlainVar (is_input w) (λ x. value_var d x 0 ∷ tag_var d tag x 0 ∷ []) (λ x l h. ((value_width x (rw h refl), refl), ((fit.wide, refl), tt))))
+      (each IsPlainVar (is_input w) (λ x. value_var d x 0 ∷ tag_var d tag x 0 ∷ []) (λ x h. ((value_width x (rw h refl), refl), ((fit.wide, refl), tt))))
 
   registers_fine : AllByRecursion IsRegisterVar src.registers
   registers_fine =
       all_of IsRegisterVar src.registers
       (every_join IsRegisterVar (shown_registers d tag) (tag_registers d tag ++ seat_registers d)
       (each IsRegisterVar (is_register w) (λ x. value_var d x (entity w x).initial ∷ tag_var d tag x (level_at_start d x) ∷ [])
-      (λ x l h. ((value_width x (either_second (is_input w x) (is_register w x || is_memory w x) (rw h refl)), fit.sized.initials x), ((fit.wide, design.small _), tt))))
+      (λ x h. ((value_width x (either_second (is_input w x) (is_register w x || is_memory w x) (rw h refl)), fit.sized.initials x), ((fit.wide, design.small _), tt))))
       (every_join IsRegisterVar (tag_registers d tag) (seat_registers d)
-      (each IsRegisterVar (has_own_tag d) (λ x. tag_var d tag x (level_at_start d x) ∷ []) (λ x l h. ((fit.wide, design.small _), tt)))
+      (each IsRegisterVar (has_own_tag d) (λ x. tag_var d tag x (level_at_start d x) ∷ []) (λ x h. ((fit.wide, design.small _), tt)))
       (every_join IsRegisterVar (for_entities (λ q. nat_lt 0 (children w q)) (λ q. seat_var d q ∷ []) 0 w.entities) (seat_var d (root w) ∷ [])
-      (each IsRegisterVar (λ q. nat_lt 0 (children w q)) (λ q. seat_var d q ∷ []) (λ x l h. (seat_fine x, tt))) (seat_fine (root w), tt))))
+      (each IsRegisterVar (λ q. nat_lt 0 (children w q)) (λ q. seat_var d q ∷ []) (λ x h. (seat_fine x, tt))) (seat_fine (root w), tt))))
     where
       seat_fine : (q : ℕ) → IsRegisterVar (seat_var d q)
       seat_fine q = ((seat_positive (children w q), seat_within (children w q)), pow_pos (seat_width (children w q)))
@@ -225,21 +147,13 @@ module _ (d : Named) (tag sites : ℕ) (design : Design d tag sites) (fit : Fitt
   mutual
     state_vars : (k : ℕ) (t : State) → Every IsPlainVar (state_wires d tag k t)
     state_vars k (Node s b g) =
-        every_join IsPlainVar (block_wires d tag k b) _ (block_vars k b) (tag_wire (k + wires_block b), group_vars (k + wires_block b + 1) g)
+        (tag_wire k, every_join IsPlainVar (block_wires d tag (k + 1) b) (group_wires d tag (k + 1 + wires_block b) g) (block_vars (k + 1) b) (group_vars (k + 1 + wires_block b) g))
 
     group_vars : (k : ℕ) (g : Group) → Every IsPlainVar (group_wires d tag k g)
     group_vars k program.None = tt
     group_vars k (More (Node s b g) rest) =
-        every_join IsPlainVar (state_wires d tag k (Node s b g)) (group_wires d tag (k + (wires_block b + 1 + wires_group g)) rest) (state_vars k (Node s b g))
-        (group_vars (k + (wires_block b + 1 + wires_group g)) rest)
-
-  top_vars : (k : ℕ) (g : Group) → Every IsPlainVar (top_wires d tag k g)
-  top_vars k program.None = tt
-  top_vars k (More (Node s b g) rest) = (
-    tag_wire k,
-    every_join IsPlainVar (state_wires d tag (k + 1) (Node s b g)) (top_wires d tag (k + (1 + (wires_block b + 1 + wires_group g))) rest) (state_vars (k + 1) (Node s b g))
-        (top_vars (k + (1 + (wires_block b + 1 + wires_group g))) rest),
-  )
+        every_join IsPlainVar (state_wires d tag k (Node s b g)) (group_wires d tag (k + (1 + wires_block b + wires_group g)) rest) (state_vars k (Node s b g))
+        (group_vars (k + (1 + wires_block b + wires_group g)) rest)
 
   site_vars : (k n : ℕ) → Every IsPlainVar (site_wires d tag k n)
   site_vars k zero = tt
@@ -248,15 +162,17 @@ module _ (d : Named) (tag sites : ℕ) (design : Design d tag sites) (fit : Fitt
   wires_fine : AllByRecursion IsPlainVar src.wires
   wires_fine =
       all_of IsPlainVar src.wires
-      (every_join IsPlainVar (site_wires d tag 1 sites) (first_wires d tag ++ top_wires d tag 0 d.program.states) (site_vars 1 sites)
-      (every_join IsPlainVar (first_wires d tag) (top_wires d tag 0 d.program.states)
-      (each IsPlainVar (saved w) (λ m. variable (key_name d (First m)) tag 0 ∷ []) (λ x l h. ((fit.wide, refl), tt))) (top_vars 0 d.program.states)))
+      (every_join IsPlainVar (site_wires d tag 1 sites) (first_wires d tag ++ (inner_wires d tag ++ group_wires d tag 0 d.program.states)) (site_vars 1 sites)
+      (every_join IsPlainVar (first_wires d tag) (inner_wires d tag ++ group_wires d tag 0 d.program.states)
+      (each IsPlainVar (saved w) (λ m. variable (key_name d (First m)) tag 0 ∷ []) (λ x h. ((fit.wide, refl), tt)))
+      (every_join IsPlainVar (inner_wires d tag) (group_wires d tag 0 d.program.states)
+      (each IsPlainVar (λ q. nat_lt 0 (children w q)) (λ q. variable (key_name d (Inner q)) tag 0 ∷ []) (λ x h. ((fit.wide, refl), tt))) (group_vars 0 d.program.states))))
 
   memories_fine : AllByRecursion IsStore src.memories
   memories_fine =
       all_of IsStore src.memories
       (each IsStore (is_memory w) (λ m. memory_of d m ∷ tags_of d tag m)
-      (λ m l h. (
+      (λ m h. (
         (value_width m (either_second (is_input w m) (is_register w m || is_memory w m) (either_second (is_register w m) (is_memory w m) h)), fit.ranged.depths m h, pow_pos (width w m)),
         by m h (is_dynamic w m),
       )))
@@ -280,11 +196,14 @@ module _ (d : Named) (tag sites : ℕ) (design : Design d tag sites) (fit : Fitt
       (among_each all (site_wires d tag 1 sites)
       (λ v i.
       among_behind v.name (variable_names src.registers) (variable_names src.wires)
-      (among_in src.wires v (in_front (site_wires d tag 1 sites) (first_wires d tag ++ top_wires d tag 0 d.program.states) v i))))
+      (among_in src.wires v (in_front (site_wires d tag 1 sites) (first_wires d tag ++ (inner_wires d tag ++ group_wires d tag 0 d.program.states)) v i))))
 
   of_sites : (k n : ℕ) → Every (λ a. 2 ≤ list_number w a) (site_keys k n)
   of_sites k zero = tt
   of_sites k (suc n) = (omega arith, (omega arith, of_sites (k + 1) n))
+
+  abbrev of_all : (ℕ → Bool) → (ℕ → List Key) → List Key
+  of_all picks of = for_entities picks of 0 w.entities
 
   abbrev port_keys : List Key
   port_keys = of_all (is_register w) (λ x. Value x ∷ Tag x ∷ []) ++ site_keys 1 sites

@@ -76,18 +76,18 @@ module _ (d : Setting) (widths : Name → ℕ) (laws : Lawful d widths) (f : Goi
 
   module _ (q : Group) (sp : Spot) (placed : Placed d.world q sp) (goes : GoesRun d go sp.parent q) (base : ℕ) (enter : ℕ → ℕ → Store → After) (falls : FallsRun d f base sp.state enter) where
     effect_turns : (k : ℕ) (t : Step) (l : ℕ) (b r : Store) (g : Going) → k ≤ base → FineStep d.world q sp.children t → Begins d k sp t l b r g
-        → Turns d k g (body_does widths f go (effect_of d base k t) g) (effect d.world sp enter t l b r)
-    effect_turns k (Set site x e) l b r g kb fine h = set_effect d widths laws f go base enter q k sp site x e l b r g fine h
-    effect_turns k (Write site m i e) l b r g kb fine h = write_effect d widths laws f go base enter q k sp site m i e l b r g fine h
-    effect_turns k (Retag site x n) l b r g kb fine h = retag_effect d widths laws f go base enter q k sp site x n l b r g fine h
-    effect_turns k (RetagCell site m j n) l b r g kb fine h = retag_cell_effect d widths laws f go base enter q k sp site m j n l b r g fine h
+        → Turns d k g (body_does widths f go (effect_of d sp k t) g) (effect d.world sp enter t l b r)
+    effect_turns k (Set site x e) l b r g kb fine h = set_effect d widths laws f go enter q k sp site x e l b r g fine h
+    effect_turns k (Write site m i e) l b r g kb fine h = write_effect d widths laws f go enter q k sp site m i e l b r g fine h
+    effect_turns k (Retag site x n) l b r g kb fine h = retag_effect d widths laws f go enter q k sp site x n l b r g fine h
+    effect_turns k (RetagCell site m j n) l b r g kb fine h = retag_cell_effect d widths laws f go enter q k sp site m j n l b r g fine h
     effect_turns k (Goto site target) l b r g kb fine h =
-        goto_effect d widths laws f go base enter q k sp site target l b r g goes fine (placed.states target fine) (placed.siblings target fine).1 h.stands h.new
-    effect_turns k (Fall site hang) l b r g kb fine h = fall_effect d widths laws f go base enter k sp site hang l b r g kb falls h
+        goto_effect d widths laws f go enter q k sp site target l b r g goes fine (placed.states target fine) (placed.siblings target fine).1 h.stands h.new
+    effect_turns k (Fall site hang) l b r g kb fine h = fall_effect d widths laws f go enter base k sp site hang l b r g kb falls h
 
     outcome_turns : (k : ℕ) (t : Step) (h : Body) (m : ℕ → Store → After) → k ≤ base → FineStep d.world q sp.children t → BodyRuns d widths f go (k + 2) (k + 5) h m
         → (b r : Store) (l : ℕ) (g : Going) → at d g (Wire k) ≡ bit (test d.world sp t l b) → Begins d k sp t l b r g
-        → Turns d k g (body_does widths f go (outcome d sp base k t h) g)
+        → Turns d k g (body_does widths f go (outcome d sp k t h) g)
         (if test d.world sp t l b then effect d.world sp enter t l b r
         else with_refusal (site_of t) (d.world.order.join l (guard d.world sp t b)) (m (d.world.order.join l (guard d.world sp t b)) r))
     outcome_turns k t h m kb fine runs b r l g tested begins = elim (cases_Bool (always d.world sp t)) [
@@ -101,10 +101,10 @@ module _ (d : Setting) (widths : Name → ℕ) (laws : Lawful d widths) (f : Goi
     ]
 
     attempt_runs : (p k : ℕ) (t : Step) (hang : ℕ → Bool) (h : Body) (m : ℕ → Store → After) → p < k → k ≤ base → FineStep d.world q sp.children t
-        → BodyRuns d widths f go (k + 2) (k + 5) h m → BodyRuns d widths f go p k (attempt_of d sp base p k t hang h) (attempt d.world sp enter t hang m)
+        → BodyRuns d widths f go (k + 2) (k + 5) h m → BodyRuns d widths f go p k (attempt_of d sp p k t hang h) (attempt d.world sp enter t hang m)
     unfolding attempt attempt_of
     attempt_runs p k t hang h m pk kb fine runs g s l st pc =
-        let rest = outcome d sp base k t h in
+        let rest = outcome d sp k t h in
         let a = looked d widths laws f go q sp p k t l s g (raises d hang (k + 1) rest) pk placed fine st pc in
         let g1 = a.0 in
         let look = a.2 in
@@ -160,23 +160,23 @@ module _ (d : Setting) (widths : Name → ℕ) (laws : Lawful d widths) (f : Goi
       unfolding run run_block command_plain block_plain
 
       pub command_runs : (c : Command) → FineCommand d.world q sp.children c → (p k : ℕ) → p < k → k + wires c ≤ base
-          → BodyRuns d widths f go p k (command_plain d sp base p k c) (run d.world sp enter c)
+          → BodyRuns d widths f go p k (command_plain d sp p k c) (run d.world sp enter c)
       command_runs (Do t) fine p k pk kb =
           attempt_runs p k t _ stop (λ l s. stay s) pk (omega arith) fine (λ g s l st pc. turns_stay d (k + 5) g g s (quiet_none d (k + 5) g) st)
       command_runs (Try t hang h) fine p k pk kb =
-          attempt_runs p k t (listed hang) (block_plain d sp base (k + 2) (k + 5) h) (run_block d.world sp enter h) pk (omega arith) fine.0
+          attempt_runs p k t (listed hang) (block_plain d sp (k + 2) (k + 5) h) (run_block d.world sp enter h) pk (omega arith) fine.0
           (block_runs h fine.1 (k + 2) (k + 5) (omega arith) (omega arith))
       command_runs (If hang e a b) fine p k pk kb =
-          select_runs p k e (listed hang) (block_plain d sp base (k + 1) (k + 2) a) (block_plain d sp base (k + 1) (k + 2 + wires_block a) b) (run_block d.world sp enter a)
+          select_runs p k e (listed hang) (block_plain d sp (k + 1) (k + 2) a) (block_plain d sp (k + 1) (k + 2 + wires_block a) b) (run_block d.world sp enter a)
           (run_block d.world sp enter b) (k + 2) (k + 2 + wires_block a) pk (omega arith) (omega arith) fine.0
           (block_runs a fine.1 (k + 1) (k + 2) (omega arith) (omega arith)) (block_runs b fine.2 (k + 1) (k + 2 + wires_block a) (omega arith) (omega arith))
 
       pub block_runs : (c : Block) → FineBlock d.world q sp.children c → (p k : ℕ) → p < k → k + wires_block c ≤ base
-          → BodyRuns d widths f go p k (block_plain d sp base p k c) (run_block d.world sp enter c)
+          → BodyRuns d widths f go p k (block_plain d sp p k c) (run_block d.world sp enter c)
       block_runs End fine p k pk kb g s l st pc = turns_stay d k g g s (quiet_none d k g) st
       block_runs (Then c cs) fine p k pk kb g s l st pc =
           let r = command_runs c fine.0 p k pk (omega arith) g s l st pc in
-          let g1 = body_does widths f go (command_plain d sp base p k c) g in
+          let g1 = body_does widths f go (command_plain d sp p k c) g in
           let t = block_runs cs fine.1 p (k + wires c) (omega arith) (omega arith) g1 _ l r.stands (r.kept p pk ∙ pc) in
-          rw (does_follow d widths f go (command_plain d sp base p k c) (block_plain d sp base p (k + wires c) cs) g)
+          rw (does_follow d widths f go (command_plain d sp p k c) (block_plain d sp p (k + wires c) cs) g)
           (turns_then d k (k + wires c) g g1 _ (run d.world sp enter c l s) (run_block d.world sp enter cs l) (omega arith) r t)

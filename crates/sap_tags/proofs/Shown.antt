@@ -1,7 +1,7 @@
 -- The interface of a plain program.
 use Rattle.std.proofs.Common.{◌≡◌, ℕ, zero, suc, ◌+◌, ◌<◌, ◌≤◌, List, [], ◌∷◌, ◌++◌, map, Bool, true, false, inl, inr, refl, sym, ap, ap₂, ◌∙◌, subst, if◌then◌else◌, arith, nat_lt}
 use Rattle.sap_maps.specs.Maps.{Name}
-use Rattle.sap_meaning.specs.Program.{World, Kind, Entity, entity, root, children, width, is_input, is_register, is_memory, is_state, is_dynamic, kind_is_input, kind_is_memory, kind_is_state}
+use Rattle.sap_meaning.specs.Program.{World, Kind, Entity, entity, root, children, width, is_input, is_register, kind_is_memory, kind_is_state}
 use Rattle.sap_meaning.specs.Program as program
 use Rattle.sap_net.specs.Names.{is_among}
 use Rattle.sap_net.specs.declared.parts.PortKind.{PortKind}
@@ -15,7 +15,7 @@ use Rattle.sap_interface.specs.PortNames.{value_name, tag_name, seat_name, root_
 use Rattle.sap_interface.specs.StandsFor.{Named, name, world, depth}
 use Rattle.sap_interface.specs.Interface.{Shown, pairs_of, site_ports, ports_of}
 use Rattle.sap_tags.specs.Keys.{Value, Tag, Seat, key_name}
-use Rattle.sap_tags.specs.Plain.{names_of, for_entities, value_var, tag_var, seat_var, level_at_start, shown_registers, tag_registers, seat_registers, site_wires, first_wires, top_wires, memory_of, plain_of}
+use Rattle.sap_tags.specs.Plain.{names_of, for_entities, value_var, tag_var, seat_var, level_at_start, shown_registers, tag_registers, seat_registers, site_wires, first_wires, inner_wires, group_wires, memory_of, plain_of}
 use Rattle.sap_tags.specs.Law.{HasVariable, HasStore, HasSeatRegister, shows, shown, PlainInterface}
 use Rattle.sap_tags.proofs.Bools.{apart_tests, value_within, register_within, memory_within}
 use Rattle.sap_tags.proofs.Members.{In, among_in, in_front}
@@ -74,7 +74,7 @@ module _ (d : Named) (tag sites : ℕ) (design : Design d tag sites) where
   pair_keys k x = (key_name d (Value x), k) ∷ (key_name d (Tag x), k) ∷ []
 
   pair_named : (k : PortKind) (x : ℕ) → nat_lt x (root w) ≡ true → pair_keys k x ≡ pair_at k x
-  pair_named k x l = ap₂ (λ (a b : Name). let r : List Shown = (a, k) ∷ (b, k) ∷ [] in r) (value_known d design.few_entities x l) (tag_known d design.few_entities x l)
+  pair_named k x l = ap₂ (λ (a b : Name). let r : List Shown = (a, k) ∷ (b, k) ∷ [] in r) (value_known d x l) (tag_known d x l)
 
   input_within : (x : ℕ) → is_input w x ≡ true → nat_lt x (root w) ≡ true
   input_within x h = value_within w x (rw h refl)
@@ -86,7 +86,7 @@ module _ (d : Named) (tag sites : ℕ) (design : Design d tag sites) where
   sites_shown k zero l = refl
   sites_shown k (suc m) l =
       let b = site_bound d tag sites design k (few_more k m l) in
-      ap₂ (λ (x y : Name). let r : List Shown = (x, kind.Wire) ∷ (y, kind.Wire) ∷ map {B = Shown} (λ (v : Var). (v.name, kind.Wire)) (site_wires d tag (k + 1) m) in r) (refused_known d design.few_entities k b) (level_known d design.few_entities k b)
+      ap₂ (λ (x y : Name). let r : List Shown = (x, kind.Wire) ∷ (y, kind.Wire) ∷ map {B = Shown} (λ (v : Var). (v.name, kind.Wire)) (site_wires d tag (k + 1) m) in r) (refused_known d k b) (level_known d k b)
       ∙ ap (λ (zs : List Shown). let r : List Shown = (refused_name k, kind.Wire) ∷ (level_name k, kind.Wire) ∷ zs in r) (sites_shown (k + 1) m (omega (arith, l)))
 
   -- the kind that each of some ports shows
@@ -104,7 +104,7 @@ module _ (d : Named) (tag sites : ℕ) (design : Design d tag sites) where
   shows_wire : (v : Var) → In (site_wires d tag 1 sites) v → shows p v.name ≡ kind.Wire
   shows_wire v i =
       let m : is_among v.name (names_of p.wires) ≡ true =
-      among_in p.wires v (in_front (site_wires d tag 1 sites) (first_wires d tag ++ top_wires d tag 0 d.program.states) v i) in
+      among_in p.wires v (in_front (site_wires d tag 1 sites) (first_wires d tag ++ (inner_wires d tag ++ group_wires d tag 0 d.program.states)) v i) in
       let stores = map (λ (s : Store). s.name) p.memories in
       let f : is_among v.name (names_of p.registers) ≡ false =
       apart_lists (names_of p.registers) (names_of p.wires ++ stores) (behind_inputs d tag sites design) v.name (among_front v.name (names_of p.wires) stores m) in
@@ -139,19 +139,19 @@ module _ (d : Named) (tag sites : ℕ) (design : Design d tag sites) where
   )
 
   value_has : (xs : List Var) (x start : ℕ) → nat_lt x (root w) ≡ true → In xs (value_var d x start) → HasVariable xs (value_name (name d x)) (width w x)
-  value_has xs x start l i = subst (λ (a : Name). HasVariable xs a (width w x)) (value_known d design.few_entities x l) (has_variable xs (value_var d x start) i)
+  value_has xs x start l i = subst (λ (a : Name). HasVariable xs a (width w x)) (value_known d x l) (has_variable xs (value_var d x start) i)
 
   tag_has : (xs : List Var) (x start : ℕ) → nat_lt x (root w) ≡ true → In xs (tag_var d tag x start) → HasVariable xs (tag_name (name d x)) tag
-  tag_has xs x start l i = subst (λ (a : Name). HasVariable xs a tag) (tag_known d design.few_entities x l) (has_variable xs (tag_var d tag x start) i)
+  tag_has xs x start l i = subst (λ (a : Name). HasVariable xs a tag) (tag_known d x l) (has_variable xs (tag_var d tag x start) i)
 
   in_site : (v : Var) → In (site_wires d tag 1 sites) v → In p.wires v
-  in_site v i = in_front (site_wires d tag 1 sites) (first_wires d tag ++ top_wires d tag 0 d.program.states) v i
+  in_site v i = in_front (site_wires d tag 1 sites) (first_wires d tag ++ (inner_wires d tag ++ group_wires d tag 0 d.program.states)) v i
 
   sites_have : (k : ℕ) → 1 ≤ k → k ≤ sites → HasVariable p.wires (refused_name k) 1 × HasVariable p.wires (level_name k) tag
   sites_have k i j =
       let b = site_bound d tag sites design k j in (
-        subst (λ (a : Name). HasVariable p.wires a 1) (refused_known d design.few_entities k b) (has_variable p.wires _ (in_site _ (refused_in d tag k 1 sites i (omega (arith, j))))),
-        subst (λ (a : Name). HasVariable p.wires a tag) (level_known d design.few_entities k b) (has_variable p.wires _ (in_site _ (level_in d tag k 1 sites i (omega (arith, j))))),
+        subst (λ (a : Name). HasVariable p.wires a 1) (refused_known d k b) (has_variable p.wires _ (in_site _ (refused_in d tag k 1 sites i (omega (arith, j))))),
+        subst (λ (a : Name). HasVariable p.wires a tag) (level_known d k b) (has_variable p.wires _ (in_site _ (level_in d tag k 1 sites i (omega (arith, j))))),
       )
 
   pub interface : 0 < children w (root w) → PlainInterface d tag sites (plain_of d tag sites)
@@ -164,15 +164,15 @@ module _ (d : Named) (tag sites : ℕ) (design : Design d tag sites) where
     );
     site_wires = sites_have;
     memories = λ m h.
-        subst (λ (a : Name). HasStore p.memories a (width w m) (depth d m)) (value_known d design.few_entities m (memory_within w m h)) (has_store p.memories (memory_of d m) (in_memory d tag sites design m h));
+        subst (λ (a : Name). HasStore p.memories a (width w m) (depth d m)) (value_known d m (memory_within w m h)) (has_store p.memories (memory_of d m) (in_memory d tag sites design m h));
     cell_tags = λ m h t.
-        subst (λ (a : Name). HasStore p.memories a tag (depth d m)) (tag_known d design.few_entities m (memory_within w m h)) (has_store p.memories _ (in_tags d tag sites design m h t));
+        subst (λ (a : Name). HasStore p.memories a tag (depth d m)) (tag_known d m (memory_within w m h)) (has_store p.memories _ (in_tags d tag sites design m h t));
     memory_tags = λ m h t.
         tag_has p.registers m (level_at_start d m) (memory_within w m h) (in_own_tag d tag sites design m (memory_within w m h) (rw (h, t) refl));
     state_tags = λ x h l.
         tag_has p.registers x (level_at_start d x) (test_of_lt x (root w) l) (in_own_tag d tag sites design x (test_of_lt x (root w) l) (rw (state_no_memory (entity w x).kind h) h));
-    seats = λ q l h. seat_has q (seat_name (name d q)) (seat_known d design.few_entities q (test_of_lt q (root w) l)) h;
-    root_seat = seat_has (root w) root_seat (root_known d design.few_entities) some;
+    seats = λ q l h. seat_has q (seat_name (name d q)) (seat_known d q (test_of_lt q (root w) l)) h;
+    root_seat = seat_has (root w) root_seat (root_known d) some;
     register_names = registers_named d tag sites design;
     memory_names = memories_named d tag sites design;
   }

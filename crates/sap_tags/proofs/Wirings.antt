@@ -1,5 +1,5 @@
 -- The wires of lists of commands and of states, from a place on.
-use Rattle.std.proofs.Common.{◌≡◌, ℕ, zero, suc, ◌+◌, ◌<◌, ◌≤◌, ◌^◌, List, [], ◌∷◌, ◌++◌, length, get_or, drop, refl, sym, ap, ◌∙◌, subst, arith, add-one, append_assoc}
+use Rattle.std.proofs.Common.{◌≡◌, ℕ, zero, suc, ◌+◌, ◌<◌, ◌≤◌, ◌^◌, List, [], ◌∷◌, ◌++◌, length, get_or, drop, refl, sym, ap, ◌∙◌, arith, add-one, append_assoc}
 use Rattle.std.specs.declared.vec.Vec.{Vec}
 use Rattle.std.specs.declared.alloc.Global.{Global}
 use Rattle.sap_ir.specs.declared.guarded.Var.{Var}
@@ -13,8 +13,8 @@ use Rattle.sap_program.specs.declared.program.State.{State, out-State}
 use Rattle.sap_program.specs.Views.{command_of, block_of, state_of, group_of}
 use Rattle.sap_interface.specs.StandsFor.{Named}
 use Rattle.sap_tags.specs.Commands.{wires, wires_block}
-use Rattle.sap_tags.specs.States.{wires_state, wires_group, wires_top}
-use Rattle.sap_tags.specs.Plain.{wire, site_wires, command_wires, block_wires, state_wires, group_wires, top_wires}
+use Rattle.sap_tags.specs.States.{wires_state, wires_group}
+use Rattle.sap_tags.specs.Plain.{site_wires, command_wires, block_wires, state_wires, group_wires}
 use Rattle.sap_tags.proofs.Walked.{command_of-do, command_of-try, command_of-if, state_of-out}
 
 pub append_none : (l : List Var) → l ++ [] ≡ l
@@ -92,20 +92,13 @@ pub if_count : (n : ℕ) (c : Command) (hang : List ℕ) (e : Number) (ys ns : V
 if_count n c hang e ys ns f = ap (λ (x : Command). wires (command_of n x)) f ∙ ap wires (command_of-if n hang e ys ns)
 
 pub state_count : (n : ℕ) (s : State)
-    → wires_state (state_of n s) ≡ wires_block (block_of n (out-State s).body.items) + 1 + wires_group (group_of n (out-State s).children.items)
+    → wires_state (state_of n s) ≡ 1 + wires_block (block_of n (out-State s).body.items) + wires_group (group_of n (out-State s).children.items)
 state_count n s = ap wires_state (state_of-out n s)
 
 -- a state and those behind it
 
 group_wires-more : (d : Named) (tag k : ℕ) (t : program.State) (g : Group) → group_wires d tag k (More t g) ≡ state_wires d tag k t ++ group_wires d tag (k + wires_state t) g
 group_wires-more d tag k (Node s b kids) g = refl
-
-top_wires-more : (d : Named) (tag k : ℕ) (t : program.State) (g : Group)
-    → top_wires d tag k (More t g) ≡ wire d k tag ∷ (state_wires d tag (k + 1) t ++ top_wires d tag (k + (1 + wires_state t)) g)
-top_wires-more d tag k (Node s b kids) g = refl
-
-top_count-more : (t : program.State) (g : Group) → wires_top (More t g) ≡ 1 + wires_state t + wires_top g
-top_count-more (Node s b kids) g = refl
 
 -- one part, and those behind it
 after_part : (old new part rest all : List Var) → new ≡ old ++ part → old ++ (part ++ rest) ≡ all → new ++ rest ≡ all
@@ -156,36 +149,11 @@ module _ (d : Named) (tag n : ℕ) where
           ∙ ap (λ (r : List Var). old ++ r) (sym (group_wires-more d tag k (state_of n s) rest))
           ∙ ap (λ (g : Group). old ++ group_wires d tag k g) (sym (group-drop n ss i s l is)) ∙ e)
 
-      top_count : k + wires_top (group_of n (drop i ss)) ≡ total → k + (1 + wires_state (state_of n s) + wires_top (group_of n (drop (i + 1) ss))) ≡ total
-      top_count e =
-          ap (λ m. k + m) (sym (top_count-more (state_of n s) (group_of n (drop (i + 1) ss)))) ∙ ap (λ (g : Group). k + wires_top g) (sym (group-drop n ss i s l is)) ∙ e
-
-      pub top_room : k + wires_top (group_of n (drop i ss)) ≡ total → total < 2 ^ 32 → k + 1 + wires_state (state_of n s) < 2 ^ 32
-      top_room e m = let r = top_count e in omega (arith, r, m)
-
-      pub top_next : next ≡ k + 1 + wires_state (state_of n s) → k + wires_top (group_of n (drop i ss)) ≡ total → next + wires_top (group_of n (drop (i + 1) ss)) ≡ total
-      top_next q e = let r = top_count e in omega (arith, q, r)
-
-      pub top_step : (old mid new all : List Var) → mid ≡ old ++ wire d k tag ∷ [] → new ≡ mid ++ state_wires d tag (k + 1) (state_of n s)
-          → next ≡ k + 1 + wires_state (state_of n s)
-          → old ++ top_wires d tag k (group_of n (drop i ss)) ≡ all → new ++ top_wires d tag next (group_of n (drop (i + 1) ss)) ≡ all
-      top_step old mid new all f h q e =
-          let rest = group_of n (drop (i + 1) ss) in
-          let z : k + 1 + wires_state (state_of n s) ≡ k + (1 + wires_state (state_of n s)) = omega arith in
-          after_part mid new (state_wires d tag (k + 1) (state_of n s)) (top_wires d tag next rest) all h
-          (after_part old mid (wire d k tag ∷ []) (state_wires d tag (k + 1) (state_of n s) ++ top_wires d tag next rest) all f
-          (ap (λ m. old ++ (wire d k tag ∷ (state_wires d tag (k + 1) (state_of n s) ++ top_wires d tag m rest))) (q ∙ z)
-          ∙ ap (λ (r : List Var). old ++ r) (sym (top_wires-more d tag k (state_of n s) rest))
-          ∙ ap (λ (g : Group). old ++ top_wires d tag k g) (sym (group-drop n ss i s l is)) ∙ e))
-
     pub group_end : (k : ℕ) (new all : List Var) → length ss ≤ i → new ++ group_wires d tag k (group_of n (drop i ss)) ≡ all → new ≡ all
     group_end k new all l e = sym (append_none new) ∙ ap (λ (g : Group). new ++ group_wires d tag k g) (sym (group-past n ss i l)) ∙ e
 
     pub group_last : (k total : ℕ) → length ss ≤ i → k + wires_group (group_of n (drop i ss)) ≡ total → k ≡ total
     group_last k total l e = let r = ap (λ (g : Group). k + wires_group g) (sym (group-past n ss i l)) ∙ e in omega (arith, r)
-
-    pub top_end : (k : ℕ) (new all : List Var) → length ss ≤ i → new ++ top_wires d tag k (group_of n (drop i ss)) ≡ all → new ≡ all
-    top_end k new all l e = sym (append_none new) ∙ ap (λ (g : Group). new ++ top_wires d tag k g) (sym (group-past n ss i l)) ∙ e
 
 pub ruleset commands = (command_of-do, command_of-try, command_of-if, append_assoc)
 

@@ -10,7 +10,7 @@ use Rattle.sap_meaning.specs.Program.{World, entity, nothing}
 use Rattle.sap_program.specs.declared.program.Entity.{Entity}
 use Rattle.sap_program.specs.declared.program.Program.{Program}
 use Rattle.sap_program.specs.Views.{entity_of}
-use Rattle.sap_tags.specs.Keys.{Value, Tag, Seat, Refused, Level, Wire, First, entity_word, key_name}
+use Rattle.sap_tags.specs.Keys.{Seat, numeral, entity_word, key_name}
 use Rattle.sap_bits.specs.declared.Op2.TheVariants.{Eq}
 use Rattle.sap_maps.specs.Maps.{Name}
 use Rattle.sap_maps.specs.Term.{Term, constant, two, choose, part}
@@ -20,13 +20,11 @@ use Rattle.sap_tags.specs.Setting.{Setting}
 use Rattle.sap_tags.specs.Levels.{bits, placed}
 use Rattle.sap_tags.specs.Code.{named_over}
 use Rattle.sap_tags.proofs.Fits.{ranged_width}
+use Rattle.sap_tags.proofs.Numerals.{numeral_decimal}
 
 length_map : {A B : Type 0} (f : A → B) (xs : List A) → length (map f xs) ≡ length xs
 length_map f [] = refl
 length_map f (x ∷ xs) = ap (λ (n : ℕ). suc n) (length_map f xs)
-
-within : (x n : ℕ) → x < n → nat_lt x n ≡ true
-within x n h = grind (arith, common_steps)
 
 beyond : (x n : ℕ) → n ≤ x → nat_lt x n ≡ false
 beyond x n h = grind (arith, common_steps)
@@ -38,35 +36,20 @@ past (y ∷ ys) (suc x) a h = past ys x a (omega (arith, h))
 
 -- words
 
-pub word_past : (ls : Levels) (p : Program) (x : ℕ) → length p.entities.items ≤ x → entity_word (named_over ls p) x ≡ decimal x
+pub word_past : (ls : Levels) (p : Program) (x : ℕ) → length p.entities.items ≤ x → entity_word (named_over ls p) x ≡ numeral x
 word_past ls p x l =
-    ap (λ (b : Bool). if b then name (named_over ls p) x else decimal x) (ap (nat_lt x) (length_map entity_of p.entities.items) ∙ beyond x (length p.entities.items) l)
+    ap (λ (b : Bool). if b then name (named_over ls p) x else numeral x) (ap (nat_lt x) (length_map entity_of p.entities.items) ∙ beyond x (length p.entities.items) l)
 
-pub value_word : (ls : Levels) (p : Program) (x : ℕ) → x < 2 ^ 64 → key_name (named_over ls p) (Value x) ≡ codes "v_" ++ entity_word (named_over ls p) x
-value_word ls p x h = rw (within x (2 ^ 64) h) refl
+pub seat_word_is : (ls : Levels) (p : Program) (x : ℕ) → (x == length p.entities.items) ≡ false → key_name (named_over ls p) (Seat x) ≡ codes "s_" ++ entity_word (named_over ls p) x
+seat_word_is ls p x e = rw (length_map entity_of p.entities.items, e) refl
 
-pub tag_word : (ls : Levels) (p : Program) (x : ℕ) → x < 2 ^ 64 → key_name (named_over ls p) (Tag x) ≡ codes "t_" ++ entity_word (named_over ls p) x
-tag_word ls p x h = rw (within x (2 ^ 64) h) refl
+pub root_word_is : (ls : Levels) (p : Program) (x : ℕ) → (x == length p.entities.items) ≡ true → key_name (named_over ls p) (Seat x) ≡ codes "s_" ++ codes "0"
+root_word_is ls p x e = rw (length_map entity_of p.entities.items, e) refl
 
-pub seat_word_is : (ls : Levels) (p : Program) (x : ℕ) → x < 2 ^ 64 → (x == length p.entities.items) ≡ false → key_name (named_over ls p) (Seat x) ≡ codes "s_" ++ entity_word (named_over ls p) x
-seat_word_is ls p x h e = rw (within x (2 ^ 64) h, length_map entity_of p.entities.items, e) refl
+pub number_word : (k : ℕ) → k < 2 ^ 64 → numeral k ≡ decimal k
+number_word k h = numeral_decimal k h
 
-pub root_word_is : (ls : Levels) (p : Program) (x : ℕ) → x < 2 ^ 64 → (x == length p.entities.items) ≡ true → key_name (named_over ls p) (Seat x) ≡ codes "s_" ++ codes "0"
-root_word_is ls p x h e = rw (within x (2 ^ 64) h, length_map entity_of p.entities.items, e) refl
-
-pub refused_word : (ls : Levels) (p : Program) (k : ℕ) → k < 2 ^ 32 → key_name (named_over ls p) (Refused k) ≡ codes "c_" ++ decimal k
-refused_word ls p k h = let l : k < 2 ^ 64 = omega (arith, h) in rw (within k (2 ^ 64) l) refl
-
-pub level_word : (ls : Levels) (p : Program) (k : ℕ) → k < 2 ^ 32 → key_name (named_over ls p) (Level k) ≡ codes "l_" ++ decimal k
-level_word ls p k h = let l : k < 2 ^ 64 = omega (arith, h) in rw (within k (2 ^ 64) l) refl
-
-pub wire_word : (ls : Levels) (p : Program) (k : ℕ) → k < 2 ^ 32 → key_name (named_over ls p) (Wire k) ≡ codes "h" ++ decimal k
-wire_word ls p k h = let l : k < 2 ^ 64 = omega (arith, h) in rw (within k (2 ^ 64) l) refl
-
-pub first_word : (ls : Levels) (p : Program) (k : ℕ) → k < 2 ^ 64 → key_name (named_over ls p) (First k) ≡ codes "b" ++ decimal k
-first_word ls p k h = rw (within k (2 ^ 64) h) refl
-
-pub ruleset words = (word_past, value_word, tag_word, seat_word_is, root_word_is, refused_word, level_word, wire_word, first_word)
+pub ruleset words = (word_past, seat_word_is, root_word_is, number_word)
 
 -- entities
 

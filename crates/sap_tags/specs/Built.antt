@@ -13,7 +13,7 @@ use Rattle.sap_tags.specs.Keys.{Wire}
 use Rattle.sap_tags.specs.Setting as pass
 use Rattle.sap_tags.specs.Levels.{var, always}
 use Rattle.sap_tags.specs.Commands.{effect_of, wires, wires_block, command_plain, block_plain}
-use Rattle.sap_tags.specs.States.{wires_state, wires_group, wires_top, group_plain, top_plain}
+use Rattle.sap_tags.specs.States.{wires_state, wires_group, group_plain, top_plain}
 use Rattle.sap_tags.specs.Code.{setting_in, world_in, entities_in, spot_in}
 use Rattle.sap_tags.specs.declared.setting.Setting.{Setting}
 use Rattle.sap_tags.specs.declared.setting.Spot.{Spot}
@@ -32,9 +32,6 @@ state_wires t = wires_state (state_of 0 t)
 unfoldable pub states_wires : List State → ℕ
 states_wires ts = wires_group (group_of 0 ts)
 
-unfoldable pub tops_wires : List State → ℕ
-tops_wires ts = wires_top (group_of 0 ts)
-
 -- their widths are from 1 to 64
 
 unfoldable pub CommandRanged : Setting → Command → Type 0
@@ -51,17 +48,17 @@ StatesRanged s ts = RangedGroup (world_in s) (group_of (entities_in s) ts)
 
 -- what they become; a state has none behind it
 
-unfoldable pub command_body : Setting → Spot → (base p k : ℕ) → Command → Body
-command_body s at base p k c = command_plain (setting_in s) (spot_in s at) base p k (command_of (entities_in s) c)
+unfoldable pub command_body : Setting → Spot → (p k : ℕ) → Command → Body
+command_body s at p k c = command_plain (setting_in s) (spot_in s at) p k (command_of (entities_in s) c)
 
-unfoldable pub commands_body : Setting → Spot → (base p k : ℕ) → List Command → Body
-commands_body s at base p k cs = block_plain (setting_in s) (spot_in s at) base p k (block_of (entities_in s) cs)
+unfoldable pub commands_body : Setting → Spot → (p k : ℕ) → List Command → Body
+commands_body s at p k cs = block_plain (setting_in s) (spot_in s at) p k (block_of (entities_in s) cs)
 
-unfoldable pub state_forest : Setting → (parent p k : ℕ) → State → Forest
-state_forest s parent p k t = group_plain (setting_in s) parent p k (More (state_of (entities_in s) t) None)
+unfoldable pub state_forest : Setting → (parent k : ℕ) → State → Forest
+state_forest s parent k t = group_plain (setting_in s) parent k (More (state_of (entities_in s) t) None)
 
-unfoldable pub states_forest : Setting → (parent p k : ℕ) → List State → Forest
-states_forest s parent p k ts = group_plain (setting_in s) parent p k (group_of (entities_in s) ts)
+unfoldable pub states_forest : Setting → (parent k : ℕ) → List State → Forest
+states_forest s parent k ts = group_plain (setting_in s) parent k (group_of (entities_in s) ts)
 
 -- of a top-level state
 unfoldable pub top_forest : Setting → (k : ℕ) → State → Forest
@@ -73,6 +70,6 @@ tops_forest s k ts =
     top_plain (setting_in s) (program.listed (flags (entities_in s) s.program.now.hang)) k (group_of (entities_in s) ts)
 
 -- what comes behind the raises of a step, where `refused` is what a refusal does
-unfoldable pub decided : pass.Setting → checks.Spot → (base k : ℕ) → Step → (refused : Body) → Body
-decided d at base k s refused =
-    if always d.world at s then effect_of d base k s else cases (var d (Wire k)) (effect_of d base k s) refused stop
+unfoldable pub decided : pass.Setting → checks.Spot → (k : ℕ) → Step → (refused : Body) → Body
+decided d at k s refused =
+    if always d.world at s then effect_of d at k s else cases (var d (Wire k)) (effect_of d at k s) refused stop

@@ -8,7 +8,7 @@ use Rattle.sap_meaning.specs.Runs.{listed_alone}
 use Rattle.sap_ir.specs.Source.{set, put}
 use Rattle.sap_plain.specs.Nested.{Body, stop, act, cases, goto, fall}
 use Rattle.sap_plain.specs.Views.{follow}
-use Rattle.sap_tags.specs.Keys.{Key, Value, Tag, Refused, Level, Wire}
+use Rattle.sap_tags.specs.Keys.{Key, Value, Tag, Refused, Level, Wire, Inner}
 use Rattle.sap_tags.specs.Setting.{Setting}
 use Rattle.sap_tags.specs.Levels.{var, bits, lub, yes, expr, tag_of, guard_of, test_of, written, stays, always}
 
@@ -48,40 +48,40 @@ looks d at p k s rest =
 abbrev pub resets : World → (target : ℕ) → ℕ → Bool
 resets w target x = below w target x && is_dynamic w x
 
--- The effect of a step. A fall's child finds its context in the wire `base`.
-abbrev pub effect_of : Setting → (base k : ℕ) → Step → Body
-effect_of d base k (Set site x e) =
+-- The effect of a step. A fall leaves its context to the children.
+abbrev pub effect_of : Setting → Spot → (k : ℕ) → Step → Body
+effect_of d at k (Set site x e) =
     if is_dynamic d.world x then gives d (Tag x) (var d (Wire (k + 3))) (gives d (Value x) (expr d e) stop) else gives d (Value x) (expr d e) stop
-effect_of d base k (Write site m i e) =
+effect_of d at k (Write site m i e) =
     stores d (Value m) (expr d i) (expr d e)
     (if is_dynamic d.world m then gives d (Tag m) (lub (var d (Tag m)) (var d (Wire (k + 3)))) stop else stop)
-effect_of d base k (Retag site x n) =
+effect_of d at k (Retag site x n) =
     gives d (Tag x) (var d (Wire (k + 3)))
     (if is_register d.world x
     then gives d (Value x) (choose (var d (Wire (k + 4))) (var d (Value x)) (constant (width d.world x) 0)) stop
     else stop)
-effect_of d base k (RetagCell site m j n) =
+effect_of d at k (RetagCell site m j n) =
     stores d (Tag m) (expr d j) (var d (Wire (k + 3)))
     (stores d (Value m) (expr d j) (choose (var d (Wire (k + 4))) (cell (d.name (Value m)) (expr d j)) (constant (width d.world m) 0)) stop)
-effect_of d base k (Goto site target) =
+effect_of d at k (Goto site target) =
     for_each d Tag (resets d.world target) (λ x. bits d d.world.order.bottom)
     (if is_dynamic d.world target
     then gives d (Tag target) (var d (Wire (k + 3))) (goto (d.state_name target) stop)
     else goto (d.state_name target) stop)
-effect_of d base k (Fall site hang) = gives d (Wire base) (var d (Wire (k + 2))) (fall stop)
+effect_of d at k (Fall site hang) = gives d (Inner at.state) (var d (Wire (k + 2))) (fall stop)
 
 -- The wires of a refused site are set, and its handler runs.
 abbrev pub refusal : Setting → (k : ℕ) → Step → (handler : Body) → Body
 refusal d k s h = gives d (Refused (site_of s)) yes (gives d (Level (site_of s)) (var d (Wire (k + 2))) h)
 
 -- what comes behind the raises
-abbrev pub outcome : Setting → Spot → (base k : ℕ) → Step → (handler : Body) → Body
-outcome d at base k s h =
-    if always d.world at s then effect_of d base k s else cases (var d (Wire k)) (effect_of d base k s) (refusal d k s h) stop
+abbrev pub outcome : Setting → Spot → (k : ℕ) → Step → (handler : Body) → Body
+outcome d at k s h =
+    if always d.world at s then effect_of d at k s else cases (var d (Wire k)) (effect_of d at k s) (refusal d k s h) stop
 
 -- The context is in wire p, and the wires from k on are free.
-unfoldable pub attempt_of : Setting → Spot → (base p k : ℕ) → Step → (hangs : ℕ → Bool) → (handler : Body) → Body
-attempt_of d at base p k s hangs h = looks d at p k s (raises d hangs (k + 1) (outcome d at base k s h))
+unfoldable pub attempt_of : Setting → Spot → (p k : ℕ) → Step → (hangs : ℕ → Bool) → (handler : Body) → Body
+attempt_of d at p k s hangs h = looks d at p k s (raises d hangs (k + 1) (outcome d at k s h))
 
 -- Wire k has the level of the condition, k + 1 the context of the branches.
 unfoldable pub select_of : Setting → (p k : ℕ) → (condition : Term ℕ) → (hangs : ℕ → Bool) → (then_part else_part : Body) → Body
@@ -102,12 +102,12 @@ abbrev mutual
   wires_block (Then c cs) = wires c + wires_block cs
 
 unfoldable mutual
-  pub command_plain : Setting → Spot → (base p k : ℕ) → Command → Body
-  command_plain d at base p k (Do s) = attempt_of d at base p k s (listed_alone d.world at s) stop
-  command_plain d at base p k (Try s hang h) = attempt_of d at base p k s (listed hang) (block_plain d at base (k + 2) (k + 5) h)
-  command_plain d at base p k (If hang e a b) =
-      select_of d p k e (listed hang) (block_plain d at base (k + 1) (k + 2) a) (block_plain d at base (k + 1) (k + 2 + wires_block a) b)
+  pub command_plain : Setting → Spot → (p k : ℕ) → Command → Body
+  command_plain d at p k (Do s) = attempt_of d at p k s (listed_alone d.world at s) stop
+  command_plain d at p k (Try s hang h) = attempt_of d at p k s (listed hang) (block_plain d at (k + 2) (k + 5) h)
+  command_plain d at p k (If hang e a b) =
+      select_of d p k e (listed hang) (block_plain d at (k + 1) (k + 2) a) (block_plain d at (k + 1) (k + 2 + wires_block a) b)
 
-  pub block_plain : Setting → Spot → (base p k : ℕ) → Block → Body
-  block_plain d at base p k End = stop
-  block_plain d at base p k (Then c cs) = follow (command_plain d at base p k c) (block_plain d at base p (k + wires c) cs)
+  pub block_plain : Setting → Spot → (p k : ℕ) → Block → Body
+  block_plain d at p k End = stop
+  block_plain d at p k (Then c cs) = follow (command_plain d at p k c) (block_plain d at p (k + wires c) cs)

@@ -2,14 +2,14 @@
 use Rattle.std.specs.Prelude.{ℕ, zero, suc, ◌+◌, nat_lt, Bool, List, [], ◌∷◌, ◌++◌, map, if◌then◌else◌}
 use Rattle.sap_maps.specs.Maps.{Name}
 use Rattle.sap_meaning.specs.Program as program
-use Rattle.sap_meaning.specs.Program.{Entity, root, children, width, depth_of, is_input, is_register, is_memory, is_state, is_dynamic, listed, Step, Command, Do, Try, If, Block, End, Then, State, Node, Group, None, More}
+use Rattle.sap_meaning.specs.Program.{Entity, root, children, width, is_input, is_register, is_memory, is_state, is_dynamic, listed, Command, Do, Try, If, Block, End, Then, State, Node, Group, None, More}
 use Rattle.sap_meaning.specs.Store.{own}
 use Rattle.sap_meaning.specs.State.{first_level}
 use Rattle.sap_ir.specs.declared.guarded.Var.{Var}
 use Rattle.sap_ir.specs.declared.guarded.Store.{Store}
 use Rattle.sap_plain.specs.Nested.{Nested, seat_width}
 use Rattle.sap_interface.specs.StandsFor.{Named, world, depth}
-use Rattle.sap_tags.specs.Keys.{Value, Tag, Seat, Refused, Level, Wire, First, key_name}
+use Rattle.sap_tags.specs.Keys.{Value, Tag, Seat, Refused, Level, Wire, First, Inner, key_name}
 use Rattle.sap_tags.specs.Setting.{setting_of}
 use Rattle.sap_tags.specs.Commands.{wires, wires_block}
 use Rattle.sap_tags.specs.States.{wires_group, saved, top_plain}
@@ -87,28 +87,25 @@ abbrev mutual
   block_wires d tag k End = []
   block_wires d tag k (Then c cs) = command_wires d tag k c ++ block_wires d tag (k + wires c) cs
 
--- those of a body, and behind them that of the children's context
+-- that of a state's own context, and those of its body
 abbrev mutual
   pub state_wires : Named → (tag k : ℕ) → State → List Var
-  state_wires d tag k (Node s b g) =
-      block_wires d tag k b ++ (wire d (k + wires_block b) tag ∷ group_wires d tag (k + wires_block b + 1) g)
+  state_wires d tag k (Node s b g) = wire d k tag ∷ (block_wires d tag (k + 1) b ++ group_wires d tag (k + 1 + wires_block b) g)
 
   pub group_wires : Named → (tag k : ℕ) → Group → List Var
   group_wires d tag k None = []
-  group_wires d tag k (More (Node s b g) rest) = state_wires d tag k (Node s b g) ++ group_wires d tag (k + (wires_block b + 1 + wires_group g)) rest
-
--- before those of a top-level state stands that of its context
-abbrev pub top_wires : Named → (tag k : ℕ) → Group → List Var
-top_wires d tag k None = []
-top_wires d tag k (More (Node s b g) rest) =
-    wire d k tag ∷ (state_wires d tag (k + 1) (Node s b g) ++ top_wires d tag (k + (1 + (wires_block b + 1 + wires_group g))) rest)
+  group_wires d tag k (More (Node s b g) rest) = state_wires d tag k (Node s b g) ++ group_wires d tag (k + (1 + wires_block b + wires_group g)) rest
 
 -- the tags of dynamic memories as the cycle began
 abbrev pub first_wires : Named → (tag : ℕ) → List Var
 first_wires d tag = all_entities d (saved (world d)) (λ m. variable (key_name d (First m)) tag 0 ∷ [])
 
+-- the contexts of children
+abbrev pub inner_wires : Named → (tag : ℕ) → List Var
+inner_wires d tag = all_entities d (λ s. nat_lt 0 (children (world d) s)) (λ s. variable (key_name d (Inner s)) tag 0 ∷ [])
+
 abbrev pub wires_of : Named → (tag sites : ℕ) → List Var
-wires_of d tag sites = site_wires d tag 1 sites ++ (first_wires d tag ++ top_wires d tag 0 d.program.states)
+wires_of d tag sites = site_wires d tag 1 sites ++ (first_wires d tag ++ (inner_wires d tag ++ group_wires d tag 0 d.program.states))
 
 -- A memory, and that of its cells' tags where it is enforced.
 abbrev pub memory_of : Named → ℕ → Store

@@ -2,33 +2,28 @@
 use Rattle.std.specs.Prelude.{ℕ, ◌+◌, ◌&&◌, Bool}
 use Rattle.sap_meaning.specs.Program.{World, root, is_dynamic, is_memory, State, Node, Group, None, More}
 use Rattle.sap_plain.specs.Nested.{Body, Forest, none, state}
-use Rattle.sap_tags.specs.Keys.{Tag, Wire, First}
+use Rattle.sap_tags.specs.Keys.{Tag, Wire, First, Inner}
 use Rattle.sap_tags.specs.Setting.{Setting}
 use Rattle.sap_tags.specs.Levels.{var}
 use Rattle.sap_tags.specs.Commands.{gives, for_each, raises, wires_block, block_plain}
 
--- how many wires the states of a group have
+-- how many wires the states of a group have: each has one for its own context
 abbrev mutual
   pub wires_state : State → ℕ
-  wires_state (Node s b g) = wires_block b + 1 + wires_group g
+  wires_state (Node s b g) = 1 + wires_block b + wires_group g
 
   pub wires_group : Group → ℕ
   wires_group None = 0
   wires_group (More t g) = wires_state t + wires_group g
 
--- how many wires the top-level states have: each has one for its own level
-abbrev pub wires_top : Group → ℕ
-wires_top None = 0
-wires_top (More (Node s b g) rest) = 1 + (wires_block b + 1 + wires_group g) + wires_top rest
-
--- The states of a group, from wire k on. Their context is in wire p; that of a state's children is in the wire behind those of its body.
-unfoldable pub group_plain : Setting → (parent p k : ℕ) → Group → Forest
-group_plain d parent p k None = none
-group_plain d parent p k (More (Node s b g) rest) =
-    let base = k + wires_block b in
-    state (d.state_name s) (block_plain d (record { state = s; parent = parent; children = g }) base p k b)
-    (group_plain d s base (base + 1) g)
-    (group_plain d parent p (k + (wires_block b + 1 + wires_group g)) rest)
+-- The states of a group, from wire k on. The body of each first takes the context that its parent left.
+unfoldable pub group_plain : Setting → (parent k : ℕ) → Group → Forest
+group_plain d parent k None = none
+group_plain d parent k (More (Node s b g) rest) =
+    state (d.state_name s)
+    (gives d (Wire k) (var d (Inner parent)) (block_plain d (record { state = s; parent = parent; children = g }) k (k + 1) b))
+    (group_plain d s (k + 1 + wires_block b) g)
+    (group_plain d parent (k + (1 + wires_block b + wires_group g)) rest)
 
 -- the tags of dynamic memories are kept as the cycle begins
 abbrev pub saved : World → ℕ → Bool
@@ -41,8 +36,7 @@ saves d rest = for_each d First (saved d.world) (λ m. var d (Tag m)) rest
 unfoldable pub top_plain : Setting → (hangs : ℕ → Bool) → (k : ℕ) → Group → Forest
 top_plain d hangs k None = none
 top_plain d hangs k (More (Node s b g) rest) =
-    let base = k + 1 + wires_block b in
     state (d.state_name s)
-    (saves d (gives d (Wire k) (var d (Tag s)) (raises d hangs k (block_plain d (record { state = s; parent = root d.world; children = g }) base k (k + 1) b))))
-    (group_plain d s base (base + 1) g)
-    (top_plain d hangs (k + (1 + (wires_block b + 1 + wires_group g))) rest)
+    (saves d (gives d (Wire k) (var d (Tag s)) (raises d hangs k (block_plain d (record { state = s; parent = root d.world; children = g }) k (k + 1) b))))
+    (group_plain d s (k + 1 + wires_block b) g)
+    (top_plain d hangs (k + (1 + wires_block b + wires_group g)) rest)

@@ -104,20 +104,19 @@ fn decide(
     setting: &Setting<'_>,
     at: &Spot<'_>,
     out: &mut Vec<PlainCmd>,
-    base: u32,
     k: u32,
     step: &Step,
     refused: Vec<PlainCmd>,
 ) -> Result<(), AllocError>
     requires few { k + 5 < 2 ^ 32 }
     requires ranged { RangedStep (world_in setting.now) (views.step_of (entities_in setting.now) step.now) }
-    ensures { OnOk result (body_of out.new.items ≡ follow (body_of out.old.items) (decided (setting_in setting.now) (spot_in setting.now at.now) base k (views.step_of (entities_in setting.now) step.now) (body_of refused.items))) }
+    ensures { OnOk result (body_of out.new.items ≡ follow (body_of out.old.items) (decided (setting_in setting.now) (spot_in setting.now at.now) k (views.step_of (entities_in setting.now) step.now) (body_of refused.items))) }
 {
     if always(setting, at, step) {
-        effect(alloc, setting, out, base, k, step)
+        effect(alloc, setting, at, out, k, step)
     } else {
         let mut passed = Vec::new(alloc);
-        effect(alloc, setting, &mut passed, base, k, step)?;
+        effect(alloc, setting, at, &mut passed, k, step)?;
         let test = wire_variable(alloc, setting, k)?;
         out.push(PlainCmd::If {
             test,
@@ -168,8 +167,7 @@ fn select(
     Ok(())
 }
 
-/// A command in the context of the wire `p`, whose own wires are those from `next` on. The children find their context in the wire
-/// `base`.
+/// A command in the context of the wire `p`, whose own wires are those from `next` on.
 #[cycle(body)]
 #[tactic(auto, using(crate::proofs::Listed::counts))]
 fn command(
@@ -177,14 +175,13 @@ fn command(
     setting: &Setting<'_>,
     at: &Spot<'_>,
     out: &mut Vec<PlainCmd>,
-    base: u32,
     p: u32,
     next: &mut u32,
     command: &Command,
 ) -> Result<(), AllocError>
     requires few { next.old + command_wires command.now < 2 ^ 32 }
     requires ranged { CommandRanged setting.now command.now }
-    ensures body { OnOk result (body_of out.new.items ≡ follow (body_of out.old.items) (command_body setting.now at.now base p next.old command.now)) }
+    ensures body { OnOk result (body_of out.new.items ≡ follow (body_of out.old.items) (command_body setting.now at.now p next.old command.now)) }
     ensures wires { OnOk result (next.new ≡ next.old + command_wires command.now) }
 {
     let k = *next;
@@ -195,7 +192,7 @@ fn command(
             refuse(alloc, setting, &mut refused, k, step)?;
             look(alloc, setting, at, out, p, k, step)?;
             raise_alone(alloc, setting, at, out, k + 1, step)?;
-            decide(alloc, setting, at, out, base, k, step, refused)
+            decide(alloc, setting, at, out, k, step, refused)
         }
         Command::Try {
             step,
@@ -206,10 +203,10 @@ fn command(
             let mut refused = Vec::new(alloc);
             refuse(alloc, setting, &mut refused, k, step)?;
             let handler = handler.as_slice();
-            commands(alloc, setting, at, &mut refused, base, k + 2, next, handler)?;
+            commands(alloc, setting, at, &mut refused, k + 2, next, handler)?;
             look(alloc, setting, at, out, p, k, step)?;
             raise_all(alloc, setting, out, hang.numbers(), k + 1)?;
-            decide(alloc, setting, at, out, base, k, step, refused)
+            decide(alloc, setting, at, out, k, step, refused)
         }
         Command::If {
             hang,
@@ -221,27 +218,9 @@ fn command(
             choose(alloc, setting, out, p, k, condition)?;
             raise_all(alloc, setting, out, hang.numbers(), k)?;
             let mut first = Vec::new(alloc);
-            commands(
-                alloc,
-                setting,
-                at,
-                &mut first,
-                base,
-                k + 1,
-                next,
-                yes.as_slice(),
-            )?;
+            commands(alloc, setting, at, &mut first, k + 1, next, yes.as_slice())?;
             let mut second = Vec::new(alloc);
-            commands(
-                alloc,
-                setting,
-                at,
-                &mut second,
-                base,
-                k + 1,
-                next,
-                no.as_slice(),
-            )?;
+            commands(alloc, setting, at, &mut second, k + 1, next, no.as_slice())?;
             select(alloc, setting, out, condition, first, second)
         }
     }
@@ -255,18 +234,17 @@ pub(crate) fn commands(
     setting: &Setting<'_>,
     at: &Spot<'_>,
     out: &mut Vec<PlainCmd>,
-    base: u32,
     p: u32,
     next: &mut u32,
     commands: &[Command],
 ) -> Result<(), AllocError>
     requires few { next.old + commands_wires commands.now < 2 ^ 32 }
     requires ranged { CommandsRanged setting.now commands.now }
-    ensures body { OnOk result (body_of out.new.items ≡ follow (body_of out.old.items) (commands_body setting.now at.now base p next.old commands.now)) }
+    ensures body { OnOk result (body_of out.new.items ≡ follow (body_of out.old.items) (commands_body setting.now at.now p next.old commands.now)) }
     ensures wires { OnOk result (next.new ≡ next.old + commands_wires commands.now) }
 {
     for one in commands {
-        command(alloc, setting, at, out, base, p, next, one)?;
+        command(alloc, setting, at, out, p, next, one)?;
     }
     Ok(())
 }

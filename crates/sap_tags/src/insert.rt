@@ -11,14 +11,14 @@ ghost use Rattle.sap_sized.specs.Ranges.{RangedProgram};
 ghost use Rattle.sap_tags.specs.Code.{entities_in, named_in, tag_width};
 ghost use Rattle.sap_tags.specs.Law.{IsSound, PlainStandsForDesign};
 ghost use Rattle.sap_tags.specs.Plain.{names_of, plain_of};
-ghost use Rattle.sap_tags.specs.States.{wires_top};
+ghost use Rattle.sap_tags.specs.States.{wires_group};
 
 use crate::laws::plain_stands;
 use crate::memories::add_memories;
 use crate::setting::Setting;
 use crate::states::top_states;
 use crate::variables::{add_inputs, add_seat_registers, add_shown_registers, add_tag_registers};
-use crate::wires::{add_first_wires, add_site_wires, add_top_wires};
+use crate::wires::{add_first_wires, add_inner_wires, add_site_wires, add_state_wires};
 use sap_check::Checked;
 use sap_ir::guarded::Var;
 use sap_net::parts::Name;
@@ -42,7 +42,7 @@ fn add_names(alloc: Global, names: &mut Vec<Name>, variables: &[Var]) -> Result<
 /// The parts of the plain program.
 fn parts(alloc: Global, setting: &Setting<'_>) -> Result<PlainParts, AllocError>
     requires ranged { RangedProgram (named_in setting.now).program }
-    requires few { wires_top (group_of (entities_in setting.now) setting.now.program.now.states.items) < 2 ^ 32 }
+    requires few { wires_group (group_of (entities_in setting.now) setting.now.program.now.states.items) < 2 ^ 32 }
     ensures { IfOk result (λ p. parts_nested p ≡ plain_of (named_in setting.now) (tag_width setting.now) setting.now.program.now.sites) }
 {
     let mut inputs = Vec::new(alloc);
@@ -57,7 +57,8 @@ fn parts(alloc: Global, setting: &Setting<'_>) -> Result<PlainParts, AllocError>
     add_tag_registers(alloc, setting, &mut registers)?;
     add_seat_registers(alloc, setting, &mut registers)?;
     add_first_wires(alloc, setting, &mut wires)?;
-    add_top_wires(alloc, setting, &mut wires)?;
+    add_inner_wires(alloc, setting, &mut wires)?;
+    add_state_wires(alloc, setting, &mut wires)?;
     let mut memories = Vec::new(alloc);
     add_memories(alloc, setting, &mut memories)?;
     let states = top_states(alloc, setting)?;

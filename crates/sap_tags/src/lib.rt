@@ -15,5 +15,4 @@ mod setting;
 mod states;
 mod steps;
 mod variables;
-mod wire_counts;
 mod wires;

@@ -1,9 +1,8 @@
 //! Names of a plain program, by what they name.
 
 ghost use Rattle.std.specs.Prelude.{◌≡◌, ◌++◌, IfOk};
-ghost use Rattle.std.specs.Fmt.{decimal};
 ghost use Rattle.sap_tags.specs.Code.{named_in};
-ghost use Rattle.sap_tags.specs.Keys.{Value, Tag, Seat, Refused, Level, Wire, First, entity_word, key_name};
+ghost use Rattle.sap_tags.specs.Keys.{Value, Tag, Seat, Refused, Level, Wire, First, Inner, numeral, entity_word, key_name};
 
 use crate::setting::Setting;
 use sap_net::parts::Name;
@@ -15,6 +14,15 @@ fn prefixed(alloc: Global, front: &[u8], name: &[u8]) -> Result<Name, AllocError
     let mut bytes = front.to_vec(alloc)?;
     bytes.extend_from_slice(name)?;
     Ok(Name::new(bytes))
+}
+
+/// A prefix and a number.
+#[tactic(auto, using(crate::proofs::Words::words))]
+fn numbered(alloc: Global, front: &[u8], k: u64) -> Result<Name, AllocError>
+    ensures { IfOk result (λ n. n ≡ front.now ++ numeral k) }
+{
+    let digits = format!(in alloc; "{k}")?;
+    prefixed(alloc, front, digits.as_bytes())
 }
 
 /// A prefix and the name of an entity, or its number past the last.
@@ -29,10 +37,7 @@ fn entity_name(
 {
     match setting.program.entities.get(x) {
         Some(entity) => prefixed(alloc, front, entity.name.as_bytes()),
-        None => {
-            let digits = format!(in alloc; "{x}")?;
-            prefixed(alloc, front, digits.as_bytes())
-        }
+        None => numbered(alloc, front, x as u64),
     }
 }
 
@@ -44,7 +49,6 @@ pub(crate) fn state_name(alloc: Global, setting: &Setting<'_>, x: usize) -> Resu
 }
 
 /// The number of an input or a register, or the contents of a memory.
-#[tactic(auto, using(crate::proofs::Words::words))]
 pub(crate) fn value_name(alloc: Global, setting: &Setting<'_>, x: usize) -> Result<Name, AllocError>
     ensures { IfOk result (λ n. n ≡ key_name (named_in setting.now) (Value x)) }
 {
@@ -52,7 +56,6 @@ pub(crate) fn value_name(alloc: Global, setting: &Setting<'_>, x: usize) -> Resu
 }
 
 /// The tag of an entity.
-#[tactic(auto, using(crate::proofs::Words::words))]
 pub(crate) fn tag_name(alloc: Global, setting: &Setting<'_>, x: usize) -> Result<Name, AllocError>
     ensures { IfOk result (λ n. n ≡ key_name (named_in setting.now) (Tag x)) }
 {
@@ -71,16 +74,7 @@ pub(crate) fn seat_name(alloc: Global, setting: &Setting<'_>, x: usize) -> Resul
     }
 }
 
-/// A letter and a number.
-fn lettered(alloc: Global, front: &[u8], k: u64) -> Result<Name, AllocError>
-    ensures { IfOk result (λ n. n ≡ front.now ++ decimal k) }
-{
-    let digits = format!(in alloc; "{k}")?;
-    prefixed(alloc, front, digits.as_bytes())
-}
-
 /// Whether a site is refused.
-#[tactic(auto, using(crate::proofs::Words::words))]
 pub(crate) fn refused_name(
     alloc: Global,
     setting: &Setting<'_>,
@@ -88,11 +82,10 @@ pub(crate) fn refused_name(
 ) -> Result<Name, AllocError>
     ensures { IfOk result (λ n. n ≡ key_name (named_in setting.now) (Refused site)) }
 {
-    lettered(alloc, b"c_", u64::from(site))
+    numbered(alloc, b"c_", u64::from(site))
 }
 
 /// At which level a site is refused.
-#[tactic(auto, using(crate::proofs::Words::words))]
 pub(crate) fn level_name(
     alloc: Global,
     setting: &Setting<'_>,
@@ -100,21 +93,26 @@ pub(crate) fn level_name(
 ) -> Result<Name, AllocError>
     ensures { IfOk result (λ n. n ≡ key_name (named_in setting.now) (Level site)) }
 {
-    lettered(alloc, b"l_", u64::from(site))
+    numbered(alloc, b"l_", u64::from(site))
 }
 
 /// A wire of the program's own.
-#[tactic(auto, using(crate::proofs::Words::words))]
 pub(crate) fn wire_name(alloc: Global, setting: &Setting<'_>, wire: u32) -> Result<Name, AllocError>
     ensures { IfOk result (λ n. n ≡ key_name (named_in setting.now) (Wire wire)) }
 {
-    lettered(alloc, b"h", u64::from(wire))
+    numbered(alloc, b"h", u64::from(wire))
 }
 
 /// The tag of a dynamic memory as the cycle began.
-#[tactic(auto, using(crate::proofs::Words::words))]
 pub(crate) fn first_name(alloc: Global, setting: &Setting<'_>, x: usize) -> Result<Name, AllocError>
     ensures { IfOk result (λ n. n ≡ key_name (named_in setting.now) (First x)) }
 {
-    lettered(alloc, b"b", x as u64)
+    numbered(alloc, b"b", x as u64)
+}
+
+/// The context of the children of a state.
+pub(crate) fn inner_name(alloc: Global, setting: &Setting<'_>, x: usize) -> Result<Name, AllocError>
+    ensures { IfOk result (λ n. n ≡ key_name (named_in setting.now) (Inner x)) }
+{
+    numbered(alloc, b"u", x as u64)
 }

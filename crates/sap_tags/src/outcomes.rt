@@ -8,7 +8,7 @@ ghost use Rattle.sap_plain.specs.Nested.{goto, stop};
 ghost use Rattle.sap_plain.specs.Views.{body_of, follow};
 ghost use Rattle.sap_program.specs.Views as views;
 ghost use Rattle.sap_sized.specs.Ranges.{RangedStep, RangedTerm};
-ghost use Rattle.sap_tags.specs.Code.{entities_in, setting_in, world_in};
+ghost use Rattle.sap_tags.specs.Code.{entities_in, setting_in, spot_in, world_in};
 ghost use Rattle.sap_tags.specs.Commands as spec;
 ghost use Rattle.sap_tags.specs.Keys.{Tag, Value, Wire};
 ghost use Rattle.sap_tags.specs.Levels as levels;
@@ -16,22 +16,22 @@ ghost use Rattle.sap_tags.specs.Levels as levels;
 use crate::calcs::{entity_width, expr, is_dynamic, is_register, lub, tag_variable};
 use crate::names::{state_name, value_name};
 use crate::pushes::{
-    put_tag, put_value, set_tag, set_value, set_wire, value_variable, wire_variable,
+    put_tag, put_value, set_inner, set_tag, set_value, value_variable, wire_variable,
 };
 use crate::raises::reset_below;
-use crate::setting::Setting;
+use crate::setting::{Setting, Spot};
 use sap_ir::guarded::Calc;
 use sap_plain::nested::PlainCmd;
 use sap_program::program::{Number, Step};
 use std::alloc::{AllocError, Global};
 
-/// A 0 of an entity's width. A width that a `u32` doesn't hold, which no design has, counts as an allocation that fails.
-fn zero(setting: &Setting<'_>, x: usize) -> Result<Calc, AllocError>
-    ensures { IfOk result (λ c. term_of c ≡ term.constant (program.width (world_in setting.now) x) 0) }
+/// A 0 of an entity's width.
+fn zero(setting: &Setting<'_>, x: usize) -> Calc
+    ensures { term_of result ≡ term.constant (program.width (world_in setting.now) x) 0 }
 {
-    match u32::try_from(entity_width(setting, x)) {
-        Ok(width) => Ok(Calc::Constant { width, value: 0 }),
-        Err(_) => Err(AllocError),
+    Calc::Constant {
+        width: entity_width(setting, x) as u32,
+        value: 0,
     }
 }
 
@@ -46,8 +46,7 @@ fn kept(
     ensures { IfOk result (λ c. term_of c ≡ term.choose (levels.var (setting_in setting.now) (Wire wire)) (term_of now) (term.constant (program.width (world_in setting.now) x) 0)) }
 {
     let stays = wire_variable(alloc, setting, wire)?;
-    let zero = zero(setting, x)?;
-    Calc::choose(alloc, stays, now, zero)
+    Calc::choose(alloc, stays, now, zero(setting, x))
 }
 
 /// A cell of a memory as the cycle began.
@@ -164,19 +163,19 @@ fn go(
     Ok(())
 }
 
-/// The effect of a step, which finds what it looked at in the wires from `k` on. The children find their context in the wire `base`.
+/// The effect of a step, which finds what it looked at in the wires from `k` on.
 #[tactic(auto, using(sap_plain::proofs::Views::commands, crate::proofs::Pushed::effects))]
 pub(crate) fn effect(
     alloc: Global,
     setting: &Setting<'_>,
+    at: &Spot<'_>,
     out: &mut Vec<PlainCmd>,
-    base: u32,
     k: u32,
     step: &Step,
 ) -> Result<(), AllocError>
     requires few { k + 5 < 2 ^ 32 }
     requires ranged { RangedStep (world_in setting.now) (views.step_of (entities_in setting.now) step.now) }
-    ensures { OnOk result (body_of out.new.items ≡ follow (body_of out.old.items) (spec.effect_of (setting_in setting.now) base k (views.step_of (entities_in setting.now) step.now))) }
+    ensures { OnOk result (body_of out.new.items ≡ follow (body_of out.old.items) (spec.effect_of (setting_in setting.now) (spot_in setting.now at.now) k (views.step_of (entities_in setting.now) step.now))) }
 {
     match step {
         Step::Set {
@@ -217,7 +216,7 @@ pub(crate) fn effect(
         }
         Step::Fall { .. } => {
             let context = wire_variable(alloc, setting, k + 2)?;
-            set_wire(alloc, setting, out, base, context)?;
+            set_inner(alloc, setting, out, at.state, context)?;
             out.push(PlainCmd::Fall)?;
             Ok(())
         }

@@ -6,10 +6,10 @@ ghost use Rattle.sap_plain.specs.Nested.{act, stop};
 ghost use Rattle.sap_plain.specs.Views.{body_of, follow};
 ghost use Rattle.sap_tags.specs.Code.{setting_in};
 ghost use Rattle.sap_tags.specs.Commands.{gives, stores};
-ghost use Rattle.sap_tags.specs.Keys.{Tag, Value, Wire};
+ghost use Rattle.sap_tags.specs.Keys.{Inner, Tag, Value, Wire};
 ghost use Rattle.sap_tags.specs.Levels.{var};
 
-use crate::names::{tag_name, value_name, wire_name};
+use crate::names::{inner_name, tag_name, value_name, wire_name};
 use crate::setting::Setting;
 use sap_ir::guarded::{Act, Calc};
 use sap_plain::nested::PlainCmd;
@@ -36,6 +36,20 @@ pub(crate) fn set_wire(
 {
     let name = wire_name(alloc, setting, wire)?;
     push(out, Act::Set(name, value))
+}
+
+/// Leaves a context to the children of a state.
+pub(crate) fn set_inner(
+    alloc: Global,
+    setting: &Setting<'_>,
+    out: &mut Vec<PlainCmd>,
+    state: usize,
+    context: Calc,
+) -> Result<(), AllocError>
+    ensures { OnOk result (body_of out.new.items ≡ follow (body_of out.old.items) (gives (setting_in setting.now) (Inner state) (term_of context) stop)) }
+{
+    let name = inner_name(alloc, setting, state)?;
+    push(out, Act::Set(name, context))
 }
 
 /// Sets the number of a register.
@@ -119,6 +133,17 @@ pub(crate) fn wire_variable(
     ensures { IfOk result (λ c. term_of c ≡ var (setting_in setting.now) (Wire wire)) }
 {
     Ok(Calc::Read(wire_name(alloc, setting, wire)?))
+}
+
+/// The context of the children of a state.
+pub(crate) fn inner_variable(
+    alloc: Global,
+    setting: &Setting<'_>,
+    state: usize,
+) -> Result<Calc, AllocError>
+    ensures { IfOk result (λ c. term_of c ≡ var (setting_in setting.now) (Inner state)) }
+{
+    Ok(Calc::Read(inner_name(alloc, setting, state)?))
 }
 
 /// The number of a register.

@@ -1,5 +1,7 @@
 //! What names and terms are taken from.
 
+ghost use Rattle.sap_tags.specs.Setting.{IsNarrow};
+
 use sap_lattice::lattice::Lattice;
 use sap_program::program::{Program, State};
 
@@ -8,6 +10,7 @@ use sap_program::program::{Program, State};
 pub(crate) struct Setting<'a> {
     pub lattice: &'a Lattice,
     pub program: &'a Program,
+    ghost narrow: { IsNarrow program.now },
 }
 
 /// Where a body stands: in this state, with this parent and these children.

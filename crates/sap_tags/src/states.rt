@@ -9,46 +9,46 @@ ghost use Rattle.sap_program.specs.Views as views;
 ghost use Rattle.sap_sized.specs.Ranges.{RangedGroup};
 ghost use Rattle.sap_tags.specs.Built.{StateRanged, StatesRanged, state_forest, state_wires, states_forest, states_wires, top_forest};
 ghost use Rattle.sap_tags.specs.Code.{entities_in, setting_in, world_in};
-ghost use Rattle.sap_tags.specs.States.{top_plain, wires_top};
+ghost use Rattle.sap_tags.specs.States.{top_plain, wires_group};
 
 use crate::calcs::tag_variable;
 use crate::commands::commands;
 use crate::names::state_name;
-use crate::pushes::set_wire;
+use crate::pushes::{inner_variable, set_wire};
 use crate::raises::{raise_all, save_all};
 use crate::setting::{Setting, Spot};
-use crate::wire_counts::commands_count;
 use sap_plain::nested::PlainState;
 use sap_program::program::State;
 use std::alloc::{AllocError, Global};
 
-/// A state of a group, in the context of a wire; the wires from `next` on are those of its body and of all below it.
+/// A state of a group; the wires from `next` on are its own, those of its body and those of all below it.
 #[cycle(group)]
 fn state(
     alloc: Global,
     setting: &Setting<'_>,
     parent: usize,
-    context: u32,
     next: &mut u32,
     state: &State,
 ) -> Result<PlainState, AllocError>
     requires few { next.old + state_wires state.now < 2 ^ 32 }
     requires ranged { StateRanged setting.now state.now }
-    ensures state { IfOk result (λ t. state_before t none ≡ state_forest setting.now parent context next.old state.now) }
+    ensures state { IfOk result (λ t. state_before t none ≡ state_forest setting.now parent next.old state.now) }
     ensures wires { OnOk result (next.new ≡ next.old + state_wires state.now) }
 {
     let body = state.body.as_slice();
     let children = state.children.as_slice();
-    let base = *next + commands_count(body);
+    let own = *next;
+    *next = own + 1;
     let at = Spot {
         state: state.number,
         parent,
         children,
     };
     let mut cmds = Vec::new(alloc);
-    commands(alloc, setting, &at, &mut cmds, base, context, next, body)?;
-    *next = base + 1;
-    let children = states(alloc, setting, state.number, base, next, children)?;
+    let context = inner_variable(alloc, setting, parent)?;
+    set_wire(alloc, setting, &mut cmds, own, context)?;
+    commands(alloc, setting, &at, &mut cmds, own, next, body)?;
+    let children = states(alloc, setting, state.number, next, children)?;
     let name = state_name(alloc, setting, state.number)?;
     Ok(PlainState {
         name,
@@ -63,18 +63,17 @@ fn states(
     alloc: Global,
     setting: &Setting<'_>,
     parent: usize,
-    context: u32,
     next: &mut u32,
     states: &[State],
 ) -> Result<Vec<PlainState>, AllocError>
     requires few { next.old + states_wires states.now < 2 ^ 32 }
     requires ranged { StatesRanged setting.now states.now }
-    ensures states { IfOk result (λ ts. forest_of ts.items ≡ states_forest setting.now parent context next.old states.now) }
+    ensures states { IfOk result (λ ts. forest_of ts.items ≡ states_forest setting.now parent next.old states.now) }
     ensures wires { OnOk result (next.new ≡ next.old + states_wires states.now) }
 {
     let mut made = Vec::new(alloc);
     for one in states {
-        let built = state(alloc, setting, parent, context, next, one)?;
+        let built = state(alloc, setting, parent, next, one)?;
         made.push(built)?;
     }
     Ok(made)
@@ -87,16 +86,15 @@ fn top_state(
     next: &mut u32,
     state: &State,
 ) -> Result<PlainState, AllocError>
-    requires few { next.old + 1 + state_wires state.now < 2 ^ 32 }
+    requires few { next.old + state_wires state.now < 2 ^ 32 }
     requires ranged { StateRanged setting.now state.now }
     ensures state { IfOk result (λ t. state_before t none ≡ top_forest setting.now next.old state.now) }
-    ensures wires { OnOk result (next.new ≡ next.old + 1 + state_wires state.now) }
+    ensures wires { OnOk result (next.new ≡ next.old + state_wires state.now) }
 {
     let body = state.body.as_slice();
     let children = state.children.as_slice();
     let own = *next;
     *next = own + 1;
-    let base = *next + commands_count(body);
     let at = Spot {
         state: state.number,
         parent: setting.program.entities.len(),
@@ -113,9 +111,8 @@ fn top_state(
         setting.program.hang.numbers(),
         own,
     )?;
-    commands(alloc, setting, &at, &mut cmds, base, own, next, body)?;
-    *next = base + 1;
-    let children = states(alloc, setting, state.number, base, next, children)?;
+    commands(alloc, setting, &at, &mut cmds, own, next, body)?;
+    let children = states(alloc, setting, state.number, next, children)?;
     let name = state_name(alloc, setting, state.number)?;
     Ok(PlainState {
         name,
@@ -130,7 +127,7 @@ pub(crate) fn top_states(
     setting: &Setting<'_>,
 ) -> Result<Vec<PlainState>, AllocError>
     requires ranged { RangedGroup (world_in setting.now) (views.group_of (entities_in setting.now) setting.now.program.now.states.items) }
-    requires few { wires_top (views.group_of (entities_in setting.now) setting.now.program.now.states.items) < 2 ^ 32 }
+    requires few { wires_group (views.group_of (entities_in setting.now) setting.now.program.now.states.items) < 2 ^ 32 }
     ensures { IfOk result (λ ss. forest_of ss.items ≡ top_plain (setting_in setting.now) (listed (flags (entities_in setting.now) setting.now.program.now.hang)) 0 (views.group_of (entities_in setting.now) setting.now.program.now.states.items)) }
 {
     let states = setting.program.states.as_slice();

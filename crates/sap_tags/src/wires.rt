@@ -8,8 +8,9 @@ ghost use Rattle.sap_tags.specs.Keys as keys;
 ghost use Rattle.sap_tags.specs.Plain as plain;
 ghost use Rattle.sap_tags.specs.States as states;
 
+use crate::calcs::child_count;
 use crate::entities::is_saved;
-use crate::names::{first_name, level_name, refused_name, wire_name};
+use crate::names::{first_name, inner_name, level_name, refused_name, wire_name};
 use crate::setting::Setting;
 use sap_ir::guarded::Var;
 use sap_program::program::{Command, State};
@@ -84,6 +85,41 @@ pub(crate) fn add_first_wires(
     for m in 0..setting.program.entities.len() {
         if is_saved(setting, m) {
             add_first(alloc, setting, wires, m)?;
+        }
+    }
+    Ok(())
+}
+
+/// The context of the children of a state.
+fn add_inner(
+    alloc: Global,
+    setting: &Setting<'_>,
+    wires: &mut Vec<Var>,
+    state: usize,
+) -> Result<(), AllocError>
+    ensures { OnOk result (wires.new.items ≡ wires.old.items ++ plain.variable (keys.key_name (named_in setting.now) (keys.Inner state)) (tag_width setting.now) 0 ∷ []) }
+{
+    let name = inner_name(alloc, setting, state)?;
+    let width = setting.lattice.width();
+    wires.push(Var {
+        name,
+        width,
+        start: 0,
+    })?;
+    Ok(())
+}
+
+/// The contexts of the children of all states that have children.
+pub(crate) fn add_inner_wires(
+    alloc: Global,
+    setting: &Setting<'_>,
+    wires: &mut Vec<Var>,
+) -> Result<(), AllocError>
+    ensures { OnOk result (wires.new.items ≡ wires.old.items ++ plain.inner_wires (named_in setting.now) (tag_width setting.now)) }
+{
+    for state in 0..setting.program.entities.len() {
+        if child_count(setting, state) > 0 {
+            add_inner(alloc, setting, wires, state)?;
         }
     }
     Ok(())
@@ -193,9 +229,9 @@ fn add_state(
     ensures wires { OnOk result (wires.new.items ≡ wires.old.items ++ plain.state_wires (named_in setting.now) (tag_width setting.now) k (state_of (entities_in setting.now) state.now)) }
     ensures next { IfOk result (λ next. next ≡ k + states.wires_state (state_of (entities_in setting.now) state.now)) }
 {
-    let base = add_block(alloc, setting, wires, k, state.body.as_slice())?;
-    add_wire(alloc, setting, wires, base, setting.lattice.width())?;
-    add_group(alloc, setting, wires, base + 1, state.children.as_slice())
+    add_wire(alloc, setting, wires, k, setting.lattice.width())?;
+    let next = add_block(alloc, setting, wires, k + 1, state.body.as_slice())?;
+    add_group(alloc, setting, wires, next, state.children.as_slice())
 }
 
 /// The wires of the states of a group, from wire k on, and the number of the next wire.
@@ -219,22 +255,15 @@ fn add_group(
     Ok(next)
 }
 
-/// The wires of all states, each top-level one's behind that of its context.
-#[tactic(auto, using(crate::proofs::Wirings::groups))]
-pub(crate) fn add_top_wires(
+/// The wires of all states.
+pub(crate) fn add_state_wires(
     alloc: Global,
     setting: &Setting<'_>,
     wires: &mut Vec<Var>,
 ) -> Result<(), AllocError>
-    requires { states.wires_top (group_of (entities_in setting.now) setting.now.program.now.states.items) < 2 ^ 32 }
-    ensures { OnOk result (wires.new.items ≡ wires.old.items ++ plain.top_wires (named_in setting.now) (tag_width setting.now) 0 (group_of (entities_in setting.now) setting.now.program.now.states.items)) }
+    requires { states.wires_group (group_of (entities_in setting.now) setting.now.program.now.states.items) < 2 ^ 32 }
+    ensures { OnOk result (wires.new.items ≡ wires.old.items ++ plain.group_wires (named_in setting.now) (tag_width setting.now) 0 (group_of (entities_in setting.now) setting.now.program.now.states.items)) }
 {
-    let tag = setting.lattice.width();
-    let states = setting.program.states.as_slice();
-    let mut next = 0;
-    for state in states {
-        add_wire(alloc, setting, wires, next, tag)?;
-        next = add_state(alloc, setting, wires, next + 1, state)?;
-    }
+    add_group(alloc, setting, wires, 0, setting.program.states.as_slice())?;
     Ok(())
 }

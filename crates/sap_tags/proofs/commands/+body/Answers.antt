@@ -46,7 +46,7 @@ pub command-returns-in_ok-raise_alone-in-Do-clause-body :
     goal.command-returns-in_ok-raise_alone-in-Do-clause-body
 command-returns-in_ok-raise_alone-in-Do-clause-body t c =
     subst (λ (b : Body). OnOk c.decide.result (body_of c.decide.new.out.items ≡ b))
-    (do_made c.args.setting.now c.args.at.now c.args.base c.args.p c.args.next.now c.args.command.now c.in-Do.step (body_of c.args.out.now.items) (body_of c.look.new.out.items) (body_of c.raise_alone.new.out.items) (body_of c.refuse.new.out.items) c.in-Do.is
+    (do_made c.args.setting.now c.args.at.now c.args.p c.args.next.now c.args.command.now c.in-Do.step (body_of c.args.out.now.items) (body_of c.look.new.out.items) (body_of c.raise_alone.new.out.items) (body_of c.refuse.new.out.items) c.in-Do.is
     (fresh c.new-refused.result.items _ _ c.new-refused.ensures.items c.in_ok-refuse-in-Do.ensures) c.in_ok-look-in-Do.ensures c.in_ok-raise_alone-in-Do.ensures)
     c.decide.ensures
 
@@ -54,7 +54,7 @@ pub command-returns-in_ok-raise_all-in-Try-clause-body :
     goal.command-returns-in_ok-raise_all-in-Try-clause-body
 command-returns-in_ok-raise_all-in-Try-clause-body t c =
     subst (λ (b : Body). OnOk c.decide-in-Try.result (body_of c.decide-in-Try.new.out.items ≡ b))
-    (try_made c.args.setting.now c.args.at.now c.args.base c.args.p c.args.next.now c.args.command.now c.in-Try.step c.in-Try.hang c.numbers.result.now c.in-Try.handler c.as_slice-handler.result.now (body_of c.args.out.now.items) (body_of c.look-in-Try.new.out.items) (body_of c.raise_all.new.out.items) (body_of c.refuse-in-Try.new.out.items) (body_of c.commands.new.out.items) c.in-Try.is c.numbers.ensures.same c.as_slice-handler.ensures.value
+    (try_made c.args.setting.now c.args.at.now c.args.p c.args.next.now c.args.command.now c.in-Try.step c.in-Try.hang c.numbers.result.now c.in-Try.handler c.as_slice-handler.result.now (body_of c.args.out.now.items) (body_of c.look-in-Try.new.out.items) (body_of c.raise_all.new.out.items) (body_of c.refuse-in-Try.new.out.items) (body_of c.commands.new.out.items) c.in-Try.is c.numbers.ensures.same c.as_slice-handler.ensures.value
     (fresh c.new-refused-in-Try.result.items _ _ c.new-refused-in-Try.ensures.items c.in_ok-refuse-in-Try.ensures) c.in_ok-commands-in-Try.ensures.body c.in_ok-look-in-Try.ensures c.in_ok-raise_all-in-Try.ensures)
     c.decide-in-Try.ensures
 
@@ -62,7 +62,7 @@ pub command-returns-in_ok-commands-in-If-2-clause-body :
     goal.command-returns-in_ok-commands-in-If-2-clause-body
 command-returns-in_ok-commands-in-If-2-clause-body t c =
     subst (λ (b : Body). OnOk c.select.result (body_of c.select.new.out.items ≡ b))
-    (if_made c.args.setting.now c.args.at.now c.args.base c.args.p c.args.next.now c.args.command.now c.in-If.hang c.numbers-in-If.result.now c.in-If.condition c.in-If.yes c.in-If.no c.as_slice.result.now c.as_slice-in-If.result.now (body_of c.args.out.now.items) (body_of c.choose.new.out.items) (body_of c.raise_all-in-If.new.out.items) (body_of c.commands-in-If.new.out.items) (body_of c.commands-in-If-2.new.out.items) c.commands-in-If.new.next c.in-If.is c.numbers-in-If.ensures.same c.as_slice.ensures.value c.as_slice-in-If.ensures.value c.in_ok-choose-in-If.ensures c.in_ok-raise_all-in-If.ensures
+    (if_made c.args.setting.now c.args.at.now c.args.p c.args.next.now c.args.command.now c.in-If.hang c.numbers-in-If.result.now c.in-If.condition c.in-If.yes c.in-If.no c.as_slice.result.now c.as_slice-in-If.result.now (body_of c.args.out.now.items) (body_of c.choose.new.out.items) (body_of c.raise_all-in-If.new.out.items) (body_of c.commands-in-If.new.out.items) (body_of c.commands-in-If-2.new.out.items) c.commands-in-If.new.next c.in-If.is c.numbers-in-If.ensures.same c.as_slice.ensures.value c.as_slice-in-If.ensures.value c.in_ok-choose-in-If.ensures c.in_ok-raise_all-in-If.ensures
     (fresh c.new-first.result.items _ _ c.new-first.ensures.items c.in_ok-commands-in-If.ensures.body) c.in_ok-commands-in-If.ensures.wires (fresh c.new-second.result.items _ _ c.new-second.ensures.items c.in_ok-commands-in-If-2.ensures.body))
     c.select.ensures
 
@@ -77,10 +77,10 @@ commands-command-requires t c =
 
 pub commands-loop-one-preserved : goal.commands-loop-one-preserved
 commands-loop-one-preserved t c = record {
-  body = commands_step c.args.setting.now c.args.at.now c.args.base c.args.p c.args.commands.now c.loop-one.one-index c.one-item.result c.loop-one.next c.command.new.next (body_of c.loop-one.out.items) (body_of c.command.new.out.items) _ (omega arith) c.one-item.is c.in_ok-command.ensures.body c.in_ok-command.ensures.wires c.loop-one.invariant.body;
+  body = commands_step c.args.setting.now c.args.at.now c.args.p c.args.commands.now c.loop-one.one-index c.one-item.result c.loop-one.next c.command.new.next (body_of c.loop-one.out.items) (body_of c.command.new.out.items) _ (omega arith) c.one-item.is c.in_ok-command.ensures.body c.in_ok-command.ensures.wires c.loop-one.invariant.body;
   wires = wires_step c.args.commands.now c.loop-one.one-index c.one-item.result c.loop-one.next c.command.new.next _ (omega arith) c.one-item.is c.in_ok-command.ensures.wires c.loop-one.invariant.wires;
 }
 
 pub commands-returns-clause-body : goal.commands-returns-clause-body
 commands-returns-clause-body t c =
-    commands_rest c.args.setting.now c.args.at.now c.args.base c.args.p c.args.commands.now c.loop-one.one-index c.loop-one.next (body_of c.loop-one.out.items) _ (omega arith) c.loop-one.invariant.body
+    commands_rest c.args.setting.now c.args.at.now c.args.p c.args.commands.now c.loop-one.one-index c.loop-one.next (body_of c.loop-one.out.items) _ (omega arith) c.loop-one.invariant.body

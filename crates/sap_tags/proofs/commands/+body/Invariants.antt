@@ -11,6 +11,6 @@ decreases-commands l = 2 * commands_wires l.commands.now + 1
 
 abbrev pub invariant-commands-loop-one : goal.invariant-commands-loop-one
 invariant-commands-loop-one l = record {
-  body : follow (body_of l.out.items) (commands_body l.setting l.at l.base l.p l.next (drop l.one-index l.commands)) ≡ follow (body_of l.initial.out.items) (commands_body l.setting l.at l.base l.p l.initial.next l.commands);
+  body : follow (body_of l.out.items) (commands_body l.setting l.at l.p l.next (drop l.one-index l.commands)) ≡ follow (body_of l.initial.out.items) (commands_body l.setting l.at l.p l.initial.next l.commands);
   wires : l.next + commands_wires (drop l.one-index l.commands) ≡ l.initial.next + commands_wires l.commands;
 }

@@ -3,8 +3,13 @@ use Rattle.sap_check.specs.Checked.{levels_in, tree_in}
 use Rattle.sap_plain.specs.IsPlain.{IsPlain}
 use Rattle.sap_plain.specs.Writes.{PlainWritesOnce}
 use Rattle.sap_tags.specs.Law.{PlainStandsForDesign}
-use Rattle.sap_tags.proofs.Found.{few_found, plain_found, ranged_found}
+use Rattle.sap_tags.proofs.Found.{few_found, narrow_found, plain_found, ranged_found}
 use Rattle.sap_tags.proofs.insert.insert.Goals as goal
+
+pub invariant_of-setting : goal.invariant_of-setting
+invariant_of-setting c = record {
+  narrow = narrow_found (levels_in c.args.checked.now) (tree_in c.args.checked.now) c.args.program.now c.requires c.widths_in_range.ensures c.is_sound.ensures;
+}
 
 pub parts-requires-clause-ranged : goal.parts-requires-clause-ranged
 parts-requires-clause-ranged c =

@@ -1,7 +1,7 @@
 use Rattle.std.proofs.Common.{◌≡◌, OnOk, subst}
 use Rattle.sap_plain.specs.Nested.{Body}
 use Rattle.sap_plain.specs.Views.{body_of}
-use Rattle.sap_tags.specs.Code.{entities_in, setting_in}
+use Rattle.sap_tags.specs.Code.{entities_in, setting_in, spot_in}
 use Rattle.sap_tags.proofs.Pushed.{goto_effect}
 use Rattle.sap_tags.proofs.outcomes.effect.Goals as goal
 
@@ -9,5 +9,5 @@ pub returns-in_ok-follow_wire-in-Goto : goal.returns-in_ok-follow_wire-in-Goto
 returns-in_ok-follow_wire-in-Goto c =
     let s = c.args.setting.now in
     subst (λ (b : Body). OnOk c.go.result (body_of c.go.new.out.items ≡ b))
-    (goto_effect (setting_in s) (entities_in s) c.args.base c.args.k c.args.step.now c.in-Goto.site c.in-Goto.target (body_of c.args.out.now.items) (body_of c.reset_below.new.out.items) (body_of c.follow_wire-in-Goto.new.out.items) c.in-Goto.is c.in_ok-reset_below-in-Goto.ensures c.in_ok-follow_wire-in-Goto.ensures)
+    (goto_effect (setting_in s) (spot_in s c.args.at.now) (entities_in s) c.args.k c.args.step.now c.in-Goto.site c.in-Goto.target (body_of c.args.out.now.items) (body_of c.reset_below.new.out.items) (body_of c.follow_wire-in-Goto.new.out.items) c.in-Goto.is c.in_ok-reset_below-in-Goto.ensures c.in_ok-follow_wire-in-Goto.ensures)
     c.go.ensures

@@ -11,6 +11,6 @@ decreases-states l = 2 * states_wires l.states.now + 1
 
 abbrev pub invariant-states-loop-one : goal.invariant-states-loop-one
 invariant-states-loop-one l = record {
-  states : planted (forest_of l.made.items) (states_forest l.setting l.parent l.context l.next (drop l.one-index l.states)) ≡ states_forest l.setting l.parent l.context l.initial.next l.states;
+  states : planted (forest_of l.made.items) (states_forest l.setting l.parent l.next (drop l.one-index l.states)) ≡ states_forest l.setting l.parent l.initial.next l.states;
   wires : l.next + states_wires (drop l.one-index l.states) ≡ l.initial.next + states_wires l.states;
 }

@@ -4,11 +4,11 @@ use Rattle.sap_plain.specs.Views.{forest_of}
 use Rattle.sap_program.specs.Hangs.{flags}
 use Rattle.sap_program.specs.Views.{group_of}
 use Rattle.sap_program.specs.declared.program.State.{State}
-use Rattle.sap_tags.specs.Built.{StateRanged, StatesRanged, state_wires, tops_wires}
+use Rattle.sap_tags.specs.Built.{StateRanged, StatesRanged, state_wires, states_wires}
 use Rattle.sap_tags.specs.Code.{entities_in, setting_in}
 use Rattle.sap_tags.specs.States.{top_plain}
-use Rattle.sap_tags.proofs.Listed.{tops_are, tops_drop}
-use Rattle.sap_tags.proofs.Planted.{ranged_all, ranged_one, tops_step, tops_rest, tops_are_plain, planted_none, tops_wires_step}
+use Rattle.sap_tags.proofs.Listed.{states_drop, wires_group_are}
+use Rattle.sap_tags.proofs.Planted.{ranged_all, ranged_one, tops_step, tops_rest, tops_are_plain, planted_none, states_wires_step}
 use Rattle.sap_tags.proofs.states.top_states.Goals as goal
 
 pub loop-one-init : goal.loop-one-init
@@ -18,10 +18,10 @@ pub top_state-requires-clause-few : goal.top_state-requires-clause-few
 top_state-requires-clause-few c =
     let s = c.args.setting.now in
     let ts = c.as_slice-states.result.now in
-    let a = tops_are (entities_in s) s.program.now.states.items in
-    let b = ap tops_wires c.as_slice-states.ensures.value in
+    let a = wires_group_are (entities_in s) s.program.now.states.items in
+    let b = ap states_wires c.as_slice-states.ensures.value in
     let e = ap state_wires c.one-item.is in
-    let d = tops_drop ts c.loop-one.one-index c.one-item.result (omega arith) in
+    let d = states_drop ts c.loop-one.one-index c.one-item.result (omega arith) in
     omega (arith, a, b, d, e, c.loop-one.invariant.wires, c.requires.few)
 
 pub top_state-requires-clause-ranged : goal.top_state-requires-clause-ranged
@@ -35,7 +35,7 @@ pub loop-one-preserved : goal.loop-one-preserved
 loop-one-preserved c =
     let ts = c.as_slice-states.result.now in record {
       states = tops_step c.args.setting.now ts c.loop-one.one-index c.one-item.result c.loop-one.next c.top_state.new.next c.loop-one.made.items c.push.new.self.items c.in_ok-built.built _ (omega arith) c.one-item.is c.in_ok-push.ensures.items c.in_ok-built.ensures.state c.in_ok-built.ensures.wires c.loop-one.invariant.states;
-      wires = tops_wires_step ts c.loop-one.one-index c.one-item.result c.loop-one.next c.top_state.new.next _ (omega arith) c.one-item.is c.in_ok-built.ensures.wires c.loop-one.invariant.wires;
+      wires = states_wires_step ts c.loop-one.one-index c.one-item.result c.loop-one.next c.top_state.new.next _ (omega arith) c.one-item.is c.in_ok-built.ensures.wires c.loop-one.invariant.wires;
     }
 
 pub returns : goal.returns

@@ -34,10 +34,22 @@ add_group-returns-clause-next t c =
     let s = c.args.setting.now in
     group_last (named_in s) (tag_width s) (entities_in s) c.args.group.now c.loop-state.state-index c.loop-state.next _ (omega arith) c.loop-state.invariant.count
 
+pub add_state-overflow_add-k : goal.add_state-overflow_add-k
+add_state-overflow_add-k t c =
+    let e = state_count (entities_in c.args.setting.now) c.args.state.now in
+    omega (arith, e, c.requires)
+
+pub add_state-add_block-requires : goal.add_state-add_block-requires
+add_state-add_block-requires t c =
+    let n = entities_in c.args.setting.now in
+    let e = state_count n c.args.state.now in
+    let b = ap (λ cs. wires_block (block_of n cs)) c.as_slice.ensures.value in
+    omega (arith, e, b, c.requires)
+
 pub add_state-add_group-requires : goal.add_state-add_group-requires
 add_state-add_group-requires t c =
     let n = entities_in c.args.setting.now in
     let e = state_count n c.args.state.now in
     let b = ap (λ cs. wires_block (block_of n cs)) c.as_slice.ensures.value in
     let g = ap (λ ss. wires_group (group_of n ss)) c.as_slice-2.ensures.value in
-    (omega (arith, e, g), omega (arith, e, b, g, c.in_ok-base.ensures.next))
+    (omega (arith, e, g), omega (arith, e, b, g, c.in_ok-next.ensures.next))
