@@ -4,13 +4,16 @@ use Rattle.sap_lattice.specs.Levels.{Levels}
 use Rattle.sap_tree.specs.Syntax.{DesignTree}
 use Rattle.sap_shape.specs.WellFormed.{WellFormed}
 use Rattle.sap_net.specs.Net.{Net}
+use Rattle.sap_trim.specs.Reads.{ReadsWires}
+use Rattle.sap_trim.specs.Trimmed.{SharesWires}
 use Rattle.sap_modtext.specs.Modules.{IsModule}
 use Rattle.sap_interface.specs.Designs.{StandsForDesign}
 use Rattle.sap_compile.specs.Agree.{RunsAgree, RunsLookAlike}
 use Rattle.sap_compile.specs.Runs.{HasOneRunOnStreams}
 
 -- The design is well formed, the text is that of a module, the module stands for the design and has exactly one run on every
--- stream that fits, and on streams that agree at or below a level its runs agree there in every cycle.
+-- stream that fits, and on streams that agree at or below a level its runs agree there in every cycle. No two of its helping
+-- wires are alike, and each is read.
 pub record IsModuleFor (ls : Levels) (d : DesignTree) (net : Net) (text : List â„•) : Type 0 where
   pub well_formed : WellFormed ls d
   pub is_module : IsModule text net
@@ -18,3 +21,5 @@ pub record IsModuleFor (ls : Levels) (d : DesignTree) (net : Net) (text : List â
   pub has_one_run : HasOneRunOnStreams ls d net
   pub agrees : RunsAgree ls d net
   pub looks_alike : RunsLookAlike ls d net
+  pub shared : SharesWires net
+  pub read : ReadsWires net

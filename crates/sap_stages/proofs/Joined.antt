@@ -1,29 +1,38 @@
 -- The netlist of nested states that stand for a design stands for it too.
-use Rattle.std.proofs.Common.{◌≡◌, ◌≤◌, ◌⊎◌, ℕ, List, [], ◌∷◌, ◌++◌, map, true, inl, inr, ◌↔◌, refl, sym, ap, ap₂, ◌∙◌, subst, if◌then◌else◌}
+use Rattle.std.proofs.Common.{◌≡◌, ◌≤◌, ◌⊎◌, ℕ, List, [], ◌∷◌, ◌++◌, map, true, false, inl, inr, ◌↔◌, refl, sym, ap, ap₂, ◌∙◌, subst, if◌then◌else◌, bytes_eq}
 use Rattle.std.specs.List.{AllByRecursion}
+use Rattle.std.proofs.lemmas.Bool.{cases_Bool}
 use Rattle.sap_maps.specs.Maps.{Name, Valuation}
 use Rattle.sap_maps.specs.Scope.{find}
+use Rattle.sap_maps.proofs.Scopes.{same_name}
 use Rattle.sap_meaning.specs.Cycle.{Tagged}
 use Rattle.sap_meaning.specs.Store.{Store, After, Refusal}
 use Rattle.sap_meaning.specs.State.{StreamFits, labelled_run}
 use Rattle.sap_net.specs.Names.{is_among, AreDistinct, IsHelpingName}
 use Rattle.sap_net.specs.Net.{Net}
+use Rattle.sap_net.specs.IsNetlist as net
+use Rattle.sap_net.specs.IsNetlist.{IsNetlist}
+use Rattle.sap_net.specs.Laws.{SomeRun}
 use Rattle.sap_net.specs.Runs.{AllFit, observed}
 use Rattle.sap_net.specs.declared.parts.PortKind.TheVariants as kind
 use Rattle.sap_net.specs.declared.parts.Port.{Port}
 use Rattle.sap_net.specs.declared.parts.Input.{Input}
+use Rattle.sap_net.specs.declared.parts.Register.{Register}
 use Rattle.sap_ir.specs.declared.guarded.Var.{Var}
 use Rattle.sap_ir.specs.declared.guarded.Store as ir
 use Rattle.sap_ir.specs.Source.{Source}
 use Rattle.sap_ir.specs.Guarded.{guarded_run}
 use Rattle.sap_ir.specs.IsGuarded.{variable_names, memory_names}
-use Rattle.sap_ir.proofs.Declared.{distinct_front, distinct_behind}
+use Rattle.sap_ir.proofs.Declared.{distinct_front, distinct_behind, found_among}
 use Rattle.sap_plain.specs.Nested.{Nested}
 use Rattle.sap_plain.specs.Does.{plain_run}
 use Rattle.sap_plain.specs.IsPlain.{IsPlain}
 use Rattle.sap_flat.specs.Same as flat
 use Rattle.sap_lower.specs.Same as low
 use Rattle.sap_lower.proofs.Listed.{listed_port}
+use Rattle.sap_trim.specs.Alike.{DeclaresAlike, RunsAlike}
+use Rattle.sap_trim.specs.Names.{helper, port_names, lasting_names, NoneNumbered}
+use Rattle.sap_trim.specs.Trimmed.{NumbersWires}
 use Rattle.sap_interface.specs.PortNames.{refused_name, level_name}
 use Rattle.sap_interface.specs.StandsFor.{Named, world, StandsFor, IsRefused}
 use Rattle.sap_interface.specs.InterfaceNames.{IsInterfaceName}
@@ -33,7 +42,10 @@ use Rattle.sap_tags.specs.Law.{HasVariable, HasStore, HasSeatRegister, AreSites,
 use Rattle.sap_tags.proofs.Members.{In}
 use Rattle.sap_stages.specs.Stages.{StandsForTheSame}
 use Rattle.sap_stages.proofs.Ports.{all_front, all_behind, all_of_map, all_follow, named_among, variable_among, store_among, refused_port, level_port, ports_named, wire_among}
-use Rattle.sap_stages.proofs.Found.{as_input, Shape, store_stored, has_front, input_there, wire_there, wire_found, listed_variable, register_there, variable_found, memory_there, same_at, same_cells, all_fit}
+use Rattle.sap_stages.proofs.Alike.{port_named, helpers_named, stands_alike}
+use Rattle.sap_stages.proofs.Declared.{found_of, memories_named}
+use Rattle.sap_stages.proofs.Helping.{among_either, no_helper}
+use Rattle.sap_stages.proofs.Found.{as_input, Shape, Stored, store_stored, has_front, input_there, wire_there, wire_found, listed_variable, register_there, variable_found, memory_there, same_at, same_cells, all_fit}
 
 -- ports
 
@@ -153,6 +165,37 @@ module _ (d : Named) (tag sites : ℕ) (p : Nested) (s : Source) (n : Net) (from
   kept_named x (inr (inr (inr h))) =
       named_among IsNamed p.ports outputs_named x (subst (λ (ns : List Name). is_among x ns ≡ true) flattens.ports (listed_port s.ports s.wires x h))
 
+  -- nothing that lasts is numbered
+
+  register_kept : (x : Name) → is_among x (net.register_names n) ≡ true → IsNamed x
+  register_kept x h =
+      let f = found_of {X = Shape} (λ (r : Register). r.name) (λ (r : Register). (r.width, r.start)) n.registers x h in
+      kept_named x (inr (inl (found_among {X = Shape} (λ (v : Var). v.name) (λ (v : Var). (v.width, v.start)) s.registers x f.0 (sym (lowers.registers x) ∙ f.1))))
+
+  stores_named : (ms : List ir.Store) → map (λ (q : Stored). q.0) (map store_stored ms) ≡ memory_names ms
+  stores_named [] = refl
+  stores_named (m ∷ ms) = ap (λ (ns : List Name). m.name ∷ ns) (stores_named ms)
+
+  memory_kept : (x : Name) → is_among x (net.memory_names n) ≡ true → IsNamed x
+  memory_kept x h =
+      let e : net.memory_names n ≡ memory_names s.memories =
+      sym (memories_named n.memories) ∙ ap (λ (qs : List Stored). map (λ (q : Stored). q.0) qs) lowers.memories ∙ stores_named s.memories in
+      kept_named x (inr (inr (inl (subst (λ (ns : List Name). is_among x ns ≡ true) e h))))
+
+  lasting_named : (x : Name) → is_among x (lasting_names n) ≡ true → IsNamed x
+  lasting_named x h =
+      elim (among_either x (port_names n) (net.register_names n ++ net.memory_names n) h) [
+        | inl p ↦ port_named d sites n ports_shown x p
+        | inr i ↦ elim (among_either x (net.register_names n) (net.memory_names n) i) [ inl r ↦ register_kept x r | inr m ↦ memory_kept x m ]
+      ]
+
+  pub none_numbered : NoneNumbered n
+  none_numbered = λ k.
+      elim (cases_Bool (is_among (helper k) (lasting_names n))) [
+        | inl t ↦ absurd (let e : bytes_eq (helper k) (helper k) ≡ false = no_helper d sites (helper k) (lasting_named (helper k) t) k in let f = same_name (helper k) in cc)
+        | inr f ↦ f
+      ]
+
   name_is : (x : Name) → low.IsKept s x ⊎ IsHelpingName x → IsInterfaceName d sites x ⊎ IsHelpingName x
   name_is x (inl h) = inl (kept_named x h)
   name_is x (inr h) = inr h
@@ -231,6 +274,8 @@ module _ (d : Named) (tag sites : ℕ) (p : Nested) (s : Source) (n : Net) (from
         (from.run.refused_sites stream fit) (from.run.stands stream fit));
   }
 
-pub stands_for_the_same : (p : Nested) (s : Source) (n : Net) → IsPlain p → flat.Declares p s → flat.RunsAlike p s → low.Declares s n → low.RunsAlike s n
-    → StandsForTheSame p n
-stands_for_the_same p s n rules flattens same lowers alike ls d from = net_stands _ _ _ p s n from rules flattens lowers same alike
+pub stands_for_the_same : (p : Nested) (s : Source) (n m : Net) → IsPlain p → flat.Declares p s → flat.RunsAlike p s → low.Declares s n → low.RunsAlike s n → IsNetlist n → SomeRun n
+    → IsNetlist m → DeclaresAlike n m → RunsAlike n m → NumbersWires m → StandsForTheSame p m
+stands_for_the_same p s n m rules flattens same lowers alike before some after declares shows numbers ls d from =
+    stands_alike n m before after declares _ _ _ (net_stands _ _ _ p s n from rules flattens lowers same alike)
+    (helpers_named n m before after declares (none_numbered _ _ _ p s n from rules flattens lowers) numbers) shows some from.run.refused_sites

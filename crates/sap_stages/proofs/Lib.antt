@@ -1,3 +1,6 @@
 pub mod Found
 pub mod Ports
 pub mod Joined
+pub mod Declared
+pub mod Helping
+pub mod Alike

@@ -19,7 +19,7 @@ use Rattle.sapper.specs.Ending.{Ending, done, no_command, lattice_refused, desig
 use Rattle.sapper.specs.Causes.{Cause, DesignRefused, DesignStands, LatticeStands, RunCause}
 use Rattle.sapper.specs.Output.{IsOutput, Output}
 use Rattle.sapper.specs.Ends.{Files, Leaves}
-use Rattle.sapper.specs.Steps.{CompileStops, DesignEnds, Ends, HasDesign, HasLattice, HasLatticeBytes, HasOutput, Justified, LatticeEnds, LatticeStops, Never, Stops, ending, last_of}
+use Rattle.sapper.specs.Steps.{CompileStops, DesignEnds, Ends, HasDesign, HasLattice, HasLatticeBytes, HasOutput, LatticeEnds, LatticeStops, Never, Stops, ending, last_of}
 use Rattle.sapper.specs.declared.failure.Failure.{Failure}
 use Rattle.sapper.specs.declared.failure.Failure.TheVariants.{Memory}
 use Rattle.sapper.proofs.Lattices.{same_Some, unchanged_self}

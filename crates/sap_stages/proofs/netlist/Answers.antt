@@ -6,9 +6,8 @@ use Rattle.sap_stages.proofs.netlist.Goals as goal
 pub lower-requires : goal.lower-requires
 lower-requires c = c.in_ok-source.ensures.once c.requires.once
 
-pub returns : goal.returns
-returns c = record {
-  stands =
-      stands_for_the_same (nested_of c.args.program.now) (source_of c.in_ok-source.source) c.in_ok-net.net c.rules.ensures c.in_ok-source.ensures.declares
-      c.in_ok-source.ensures.same c.in_ok-net.ensures.declares c.in_ok-net.ensures.same;
-}
+pub returns-clause-stands : goal.returns-clause-stands
+returns-clause-stands c =
+    stands_for_the_same (nested_of c.args.program.now) (source_of c.in_ok-source.source) c.in_ok-lowered.lowered c.in_ok-net.net c.rules.ensures
+    c.in_ok-source.ensures.declares c.in_ok-source.ensures.same c.in_ok-lowered.ensures.declares c.in_ok-lowered.ensures.same c.rules-2.ensures c.one_run.ensures.some
+    c.rules-3.ensures c.in_ok-net.ensures.declares c.in_ok-net.ensures.same c.in_ok-net.ensures.numbered

@@ -1,0 +1,307 @@
+-- What holds along a walk: the new wires fit, each old name stands for an operand over them, and has its number.
+use Rattle.std.proofs.Common.{◌≡◌, ℕ, ◌^◌, ◌<◌, ◌==◌, List, [], ◌∷◌, ◌++◌, map, filter, Option, Some, None, Bool, true, false, sym, ap, ◌∙◌, subst, refl, inl, inr, arith, append_assoc, append-nil}
+use Rattle.std.specs.Prelude.{◌⊎◌, if◌then◌else◌, unwrap_or}
+use Rattle.std.specs.Str.{bytes_eq}
+use Rattle.std.specs.List.{AllByRecursion}
+use Rattle.std.proofs.lemmas.Bool.Decides.{nat_tests}
+use Rattle.std.proofs.lemmas.Bool.{cases_Bool}
+use Rattle.sap_maps.specs.Maps.{Name, Valuation}
+use Rattle.sap_maps.specs.Scope.{Scope, find, Agree}
+use Rattle.sap_maps.proofs.Scopes.{name_is, found_here, found_behind}
+use Rattle.sap_net.specs.Names.{is_among}
+use Rattle.sap_net.specs.Net.{Net}
+use Rattle.sap_net.specs.declared.parts.Port.{Port}
+use Rattle.sap_net.specs.declared.parts.Input.{Input}
+use Rattle.sap_net.specs.declared.parts.Register.{Register}
+use Rattle.sap_net.specs.declared.parts.Memory.{Memory}
+use Rattle.sap_net.specs.declared.parts.Operand.{Operand}
+use Rattle.sap_net.specs.declared.parts.Operand.TheVariants.{Named, Constant}
+use Rattle.sap_net.specs.declared.parts.Wire.{Wire}
+use Rattle.sap_net.specs.Rules.{Shapes, IsWidth, IsOperand, IsRight, AreWires, AreValues, IsRegister, readable_after}
+use Rattle.sap_net.specs.Values.{operand_value, right_value, Holds}
+use Rattle.sap_net.specs.IsNetlist.{input_names, register_names, memory_names, first_readable, readable, shapes, is_input, IsNetlist}
+use Rattle.sap_net.proofs.Settle.{CellsAgree}
+use Rattle.sap_net.proofs.Within.{WidthsAre}
+use Rattle.sap_trim.specs.Names.{port_names, lasting_names}
+use Rattle.sap_trim.specs.Replaced.{Stands, Binds, standing, replaced}
+use Rattle.sap_trim.specs.Equals.{Over, Equals}
+use Rattle.sap_trim.specs.Walked.{State, Begins, settles, is_settled, SomeRegister, StartsAt, Steps, Copies, Folds, Walked}
+use Rattle.sap_trim.proofs.Lists.{or_none, among_front, among_behind, none_among, found_among, not_found, found_second, all_from, all_second, map_all}
+use Rattle.sap_trim.proofs.Replaced.{Finds, Means, stands_for, replaced_fits, replaced_same}
+use Rattle.sap_trim.proofs.Provided as wires
+use Rattle.sap_trim.proofs.Provided.{Grows, operand_grows, readable_both, wires_first, holds_both, readable_kept, TakenApart, provided, provided_value}
+
+pub record Follows (taken : Name → Bool) (ms : Shapes) (so sc : Scope) (s : State) : Type 0 where
+  pub fits : AreWires ms sc s.wires
+  pub named : wires.Numbers taken s.wires s.next
+  pub finds : Finds so (readable_after sc s.wires) s.stands
+
+-- what was put in front of a scope stands for an operand, the others as before
+
+finds_more : (so sc sd : Scope) (e f : Stands) (x : Name) (u : ℕ) (o : Operand) → Grows sc sd → Finds so sc e → IsOperand sd u o → Binds e x o f → Finds ((x, u) ∷ so) sd f
+finds_more so sc sd e f x u o g h i b y t k =
+    elim (cases_Bool (bytes_eq x y)) [
+      | inl q ↦
+          let r : Some u ≡ Some t = rw q at k in
+          let w : u ≡ t = cc in
+          let p : f y ≡ Some o = rw q at (b y) in
+          (o, p, subst (λ (z : ℕ). IsOperand sd z o) w i)
+      | inr d ↦
+          let r = h y t (rw d at k) in
+          let p : f y ≡ e y = rw d at (b y) in
+          (r.0, p ∙ r.1, operand_grows sc sd g t r.0 r.2)
+    ]
+
+means_more : (so : Scope) (e f : Stands) (x : Name) (u : ℕ) (o : Operand) (v w : Valuation) → Means so e v w → v.value x ≡ operand_value w o → Binds e x o f → Means ((x, u) ∷ so) f v w
+means_more so e f x u o v w h i b y t k =
+    elim (cases_Bool (bytes_eq x y)) [
+      | inl q ↦
+          let p : f y ≡ Some o = rw q at (b y) in
+          subst (λ (z : Name). v.value z ≡ operand_value w (standing f y)) (name_is x y q) (i ∙ sym (ap (operand_value w) (stands_for f y o p)))
+      | inr d ↦
+          let p : f y ≡ e y = rw d at (b y) in
+          h y t (rw d at k) ∙ ap (λ (z : Option Operand). operand_value w (unwrap_or z (Constant 0 0))) (sym p)
+    ]
+
+-- scopes and valuations of fewer wires
+
+grows_more : (ms : Shapes) (sc : Scope) (ws after more : List Wire) → after ≡ ws ++ more → AreWires ms sc after → Grows (readable_after sc ws) (readable_after sc after)
+grows_more ms sc ws after more e f =
+    let g = wires_first ms ws more sc (subst (AreWires ms sc) e f) in
+    let k = readable_kept ms more (readable_after sc ws) g.1 in
+    λ x u h. subst (λ (ys : List Wire). find (readable_after sc ys) x ≡ Some u) (sym e) (subst (λ (sd : Scope). find sd x ≡ Some u) (sym (readable_both ws more sc)) (k x u h))
+
+over_first : (ms : Shapes) (sc : Scope) (ws after more : List Wire) (ww : Name → ℕ) (w : Valuation) → after ≡ ws ++ more → Over ms sc after ww w → Over ms sc ws ww w
+over_first ms sc ws after more ww w e o =
+    let g = grows_more ms sc ws after more e o.wires in
+    record {
+      wires = (wires_first ms ws more sc (subst (AreWires ms sc) e o.wires)).0;
+      wide = λ x u h. o.wide x u (g x u h);
+      below = λ x u h. o.below x u (g x u h);
+      holds = (holds_both ww w ws more (subst (Holds ww w) e o.holds)).0;
+    }
+
+-- a step
+
+step_provided : (taken : Name → Bool) (ms : Shapes) (so sc : Scope) (s t : State) (w : Wire) → TakenApart taken ms sc → Follows taken ms so sc s → IsWidth w.width → IsRight ms so w.width w.right → (f : Folds taken s w t) → wires.Provided taken ms sc s.wires w.width f.steps.operand t.wires t.next
+step_provided taken ms so sc s t w apart h i r f =
+    provided taken ms sc s.wires s.next w.width f.right f.steps.operand t.wires t.next apart h.named h.fits i
+    (f.equals.fits ms sc h.fits (replaced_fits ms so (readable_after sc s.wires) s.stands h.finds w.width w.right r)) f.steps.provides
+
+follows_step : (taken : Name → Bool) (ms : Shapes) (so sc : Scope) (s t : State) (w : Wire) → TakenApart taken ms sc → Follows taken ms so sc s → IsWidth w.width → IsRight ms so w.width w.right → Folds taken s w t → Follows taken ms ((w.name, w.width) ∷ so) sc t
+follows_step taken ms so sc s t w apart h i r f =
+    let p = step_provided taken ms so sc s t w apart h i r f in
+    record {
+      fits = p.fits;
+      named = p.named;
+      finds = finds_more so (readable_after sc s.wires) (readable_after sc t.wires) s.stands t.stands w.name w.width f.steps.operand (grows_more ms sc s.wires t.wires p.more p.wires p.fits) h.finds p.operand f.steps.binds;
+    }
+
+means_step : (taken : Name → Bool) (ms : Shapes) (so sc : Scope) (s t : State) (x : Wire) (wv ww : Name → ℕ) (v w : Valuation) → TakenApart taken ms sc → Follows taken ms so sc s → IsWidth x.width → IsRight ms so x.width x.right → Folds taken s x t → Means so s.stands v w → WidthsAre so wv → CellsAgree ms v w → Over ms sc t.wires ww w → v.value x.name ≡ right_value wv v x.right → Means ((x.name, x.width) ∷ so) t.stands v w
+means_step taken ms so sc s t x wv ww v w apart h i r f m a c o e =
+    let p = step_provided taken ms so sc s t x apart h i r f in
+    let before = over_first ms sc s.wires t.wires p.more ww w p.wires o in
+    let sn = readable_after sc s.wires in
+    let fits = replaced_fits ms so sn s.stands h.finds x.width x.right r in
+    let q : v.value x.name ≡ operand_value w f.steps.operand =
+    e ∙ replaced_same ms so sn s.stands wv ww v w h.finds m a before.wide c x.width x.right r
+    ∙ f.equals.same ms sc ww w before fits
+    ∙ sym (provided_value taken ww w s.wires s.next x.width f.right f.steps.operand t.wires t.next f.steps.provides o.holds) in
+    means_more so s.stands t.stands x.name x.width f.steps.operand v w m q f.steps.binds
+
+-- all steps
+
+pub record Followed (taken : Name → Bool) (ms : Shapes) (so sc : Scope) (s t : State) : Type 0 where
+  pub follows : Follows taken ms so sc t
+  pub more : List Wire
+  pub wires : t.wires ≡ s.wires ++ more
+
+pub follows_walk : (taken : Name → Bool) (ms : Shapes) (sc : Scope) (ws : List Wire) (so : Scope) (s t : State) → TakenApart taken ms sc → Follows taken ms so sc s → AreWires ms so ws → Walked (Folds taken) s ws t → Followed taken ms (readable_after so ws) sc s t
+follows_walk taken ms sc [] so s t apart h a e =
+    record {
+      follows = subst (λ (z : State). Follows taken ms so sc z) e h;
+      more = [];
+      wires = sym (ap (λ (z : State). z.wires) e) ∙ sym (append-nil s.wires);
+    }
+follows_walk taken ms sc (w ∷ ws) so s t apart h a k =
+    let p = step_provided taken ms so sc s k.0 w apart h a.0 a.3 k.1 in
+    let n = follows_step taken ms so sc s k.0 w apart h a.0 a.3 k.1 in
+    let r = follows_walk taken ms sc ws ((w.name, w.width) ∷ so) k.0 t apart n a.4 k.2 in
+    record {
+      follows = r.follows;
+      more = p.more ++ r.more;
+      wires = r.wires ∙ ap (λ (ys : List Wire). ys ++ r.more) p.wires ∙ append_assoc s.wires p.more r.more;
+    }
+
+pub means_walk : (taken : Name → Bool) (ms : Shapes) (sc : Scope) (wv ww : Name → ℕ) (v w : Valuation) (ws : List Wire) (so : Scope) (s t : State) → TakenApart taken ms sc → Follows taken ms so sc s → Means so s.stands v w → AreWires ms so ws → WidthsAre (readable_after so ws) wv → CellsAgree ms v w → Over ms sc t.wires ww w → Holds wv v ws → Walked (Folds taken) s ws t → Means (readable_after so ws) t.stands v w
+means_walk taken ms sc wv ww v w [] so s t apart h m a b c o e k = subst (λ (z : State). Means so z.stands v w) k m
+means_walk taken ms sc wv ww v w (x ∷ ws) so s t apart h m a b c o e k =
+    let n = follows_step taken ms so sc s k.0 x apart h a.0 a.3 k.1 in
+    let sd = (x.name, x.width) ∷ so in
+    let r = follows_walk taken ms sc ws sd k.0 t apart n a.4 k.2 in
+    let before = over_first ms sc k.0.wires t.wires r.more ww w r.wires o in
+    let wide : WidthsAre so wv = λ y u g. b y u (readable_kept ms (x ∷ ws) so a y u g) in
+    let next = means_step taken ms so sc s k.0 x wv ww v w apart h a.0 a.3 k.1 m wide c before e.0 in
+    means_walk taken ms sc wv ww v w ws sd k.0 t apart n next a.4 b c o e.1 k.2
+
+-- a wire that is only replaced
+
+copies_fold : (taken : Name → Bool) (s t : State) (w : Wire) → Copies taken s w t → Folds taken s w t
+copies_fold taken s t w c =
+    record {
+      right = replaced s.stands w.right;
+      equals = record { fits = λ ms sc a h. h; same = λ ms sc widths v o h. refl };
+      steps = c;
+    }
+
+pub copies_walk : (taken : Name → Bool) (ws : List Wire) (s t : State) → Walked (Copies taken) s ws t → Walked (Folds taken) s ws t
+copies_walk taken [] s t k = k
+copies_walk taken (w ∷ ws) s t k = (k.0, copies_fold taken s k.0 w k.1, copies_walk taken ws k.0 t k.2)
+
+-- the beginning
+
+among_kept : (f : Port → Bool) (ps : List Port) (x : Name) → is_among x (map (λ p. p.name) ps) ≡ false → is_among x (map (λ p. p.name) (filter f ps)) ≡ false
+among_kept f [] x h = refl
+among_kept f (p ∷ ps) x h =
+    let r = or_none (bytes_eq x p.name) (is_among x (map (λ p. p.name) ps)) h in
+    let q = r.0 in
+    elim (cases_Bool (f p)) [
+      | inl t ↦ rw (t, q) (among_kept f ps x r.1)
+      | inr e ↦ rw e (among_kept f ps x r.1)
+    ]
+
+pub taken_apart : (n : Net) → IsNetlist n → (taken : Name → Bool) → ((x : Name) → taken x ≡ is_among x (lasting_names n)) → TakenApart taken (shapes n) (first_readable n)
+taken_apart n rules taken is x h =
+    let all = none_among x (port_names n) (register_names n ++ memory_names n) (sym (is x) ∙ h) in
+    let rest = none_among x (register_names n) (memory_names n) all.1 in
+    let inputs : is_among x (input_names n) ≡ false = subst (λ (ns : List Name). is_among x ns ≡ false) rules.inputs_are_ports (among_kept (λ p. is_input p.kind) n.ports x all.0) in (
+      found_second (map (λ i. (i.name, i.width)) n.inputs) (map (λ r. (r.name, r.width)) n.registers) x (not_found (λ (i : Input). i.name) (λ i. i.width) n.inputs x inputs) ∙ not_found (λ (r : Register). r.name) (λ r. r.width) n.registers x rest.0,
+      not_found {X = ℕ × ℕ} (λ (m : Memory). m.name) (λ m. (m.width, m.depth)) n.memories x rest.1,
+    )
+
+first_among : (n : Net) (x : Name) (u : ℕ) → find (first_readable n) x ≡ Some u → is_among x (input_names n ++ register_names n) ≡ true
+first_among n x u h =
+    elim (cases_Bool (is_among x (input_names n))) [
+      | inl t ↦ among_front x (input_names n) (register_names n) t
+      | inr f ↦
+          let g = found_second (map (λ i. (i.name, i.width)) n.inputs) (map (λ r. (r.name, r.width)) n.registers) x (not_found (λ (i : Input). i.name) (λ i. i.width) n.inputs x f) in
+          among_behind x (input_names n) (register_names n) (found_among (λ (r : Register). r.name) (λ r. r.width) n.registers x u (sym g ∙ h))
+    ]
+
+-- registers that keep their starts have them
+abbrev pub SettledIn : List Register → Valuation → Type 0
+SettledIn rs v = AllByRecursion (λ r. is_settled r ≡ true → v.value r.name ≡ r.start) rs
+
+each_settled : (rs : List Register) → AllByRecursion (λ r. (v : Valuation) → SettledIn rs v → is_settled r ≡ true → v.value r.name ≡ r.start) rs
+each_settled [] = tt
+each_settled (r ∷ rs) = (
+  λ v h. h.0,
+  all_from (λ s. (v : Valuation) → SettledIn rs v → is_settled s ≡ true → v.value s.name ≡ s.start) (λ s. (v : Valuation) → SettledIn (r ∷ rs) v → is_settled s ≡ true → v.value s.name ≡ s.start) rs (λ s h v k. h v k.1) (each_settled rs),
+)
+
+some_elim : (P : Register → Type 0) (G : Type 0) (rs : List Register) → AllByRecursion (λ r. P r → G) rs → SomeRegister P rs → G
+some_elim P G [] a h = absurd h
+some_elim P G (r ∷ rs) a (inl h) = a.0 h
+some_elim P G (r ∷ rs) a (inr h) = some_elim P G rs a.1 h
+
+values_found : (ms : Shapes) (es : Scope) → AreValues ms es → AllByRecursion (λ e. find es e.0 ≡ Some e.1) es
+values_found ms [] a = tt
+values_found ms (e ∷ es) a = (
+  found_here e.0 e.1 es,
+  all_from (λ f. find es f.0 ≡ Some f.1) (λ f. find (e ∷ es) f.0 ≡ Some f.1) es (λ f h. found_behind es e.0 e.1 a.1 f.0 f.1 h) (values_found ms es a.3),
+)
+
+registers_found : (n : Net) → IsNetlist n → AllByRecursion (λ r. find (first_readable n) r.name ≡ Some r.width) n.registers
+registers_found n rules =
+    map_all (λ (e : Name × ℕ). find (first_readable n) e.0 ≡ Some e.1) (λ (r : Register). (r.name, r.width)) n.registers
+    (all_second {X = Name × ℕ} (λ (e : Name × ℕ). find (first_readable n) e.0 ≡ Some e.1) (map {B = Name × ℕ} (λ i. (i.name, i.width)) n.inputs) (map {B = Name × ℕ} (λ r. (r.name, r.width)) n.registers) (values_found (shapes n) (first_readable n) rules.values))
+
+-- What a name stands for at first: itself, or a number that it always has.
+record IsStart (n : Net) (x : Name) (u : ℕ) (o : Operand) : Type 0 where
+  number : ℕ
+  is : o ≡ Constant u number
+  below : number < 2 ^ u
+  kept : (v : Valuation) → SettledIn n.registers v → v.value x ≡ number
+
+abbrev Begun : Net → Name → ℕ → Operand → Type 0
+Begun n x u o = (o ≡ Named x) ⊎ IsStart n x u o
+
+record IsKept (n : Net) (r : Register) : Type 0 where
+  found : find (first_readable n) r.name ≡ Some r.width
+  below : r.start < 2 ^ r.width
+  kept : (v : Valuation) → SettledIn n.registers v → is_settled r ≡ true → v.value r.name ≡ r.start
+
+each_kept : (n : Net) (so : Scope) (rs : List Register) → AllByRecursion (λ r. find (first_readable n) r.name ≡ Some r.width) rs → AllByRecursion (IsRegister so) rs → AllByRecursion (λ r. (v : Valuation) → SettledIn n.registers v → is_settled r ≡ true → v.value r.name ≡ r.start) rs → AllByRecursion (IsKept n) rs
+each_kept n so [] a b c = tt
+each_kept n so (r ∷ rs) a b c = (record { found = a.0; below = b.0.0; kept = c.0 }, each_kept n so rs a.1 b.1 c.1)
+
+begun_start : (n : Net) (x : Name) (u : ℕ) (p : Option Operand) (r : Register) → find (first_readable n) x ≡ Some u → IsKept n r → StartsAt x p r → (o : Operand) × (p ≡ Some o) × Begun n x u o
+begun_start n x u p r h k s =
+    let f : find (first_readable n) x ≡ Some r.width = subst (λ (y : Name). find (first_readable n) y ≡ Some r.width) s.1 k.found in
+    let g : Some r.width ≡ Some u = sym f ∙ h in
+    let w : r.width ≡ u = cc in (
+      Constant r.width r.start,
+      s.2,
+      inr (
+          record {
+            number = r.start;
+            is = ap (λ (z : ℕ). Constant z r.start) w;
+            below = subst (λ (z : ℕ). r.start < 2 ^ z) w k.below;
+            kept = λ v t. ap v.value (sym s.1) ∙ k.kept v t s.0;
+          }
+          ),
+    )
+
+begins_at : (n : Net) → IsNetlist n → (s : State) → Begins n s → (x : Name) (u : ℕ) → find (first_readable n) x ≡ Some u → (o : Operand) × (s.stands x ≡ Some o) × Begun n x u o
+begins_at n rules s b x u h =
+    let t = first_among n x u h in
+    let kept = each_kept n (readable n) n.registers (registers_found n rules) rules.nexts (each_settled n.registers) in
+    elim (b.stands x) [
+      | inl e ↦ let f : s.stands x ≡ Some (Named x) = e ∙ rw t refl in (Named x, f, inl refl)
+      | inr q ↦
+          some_elim (StartsAt x (s.stands x)) ((o : Operand) × (s.stands x ≡ Some o) × Begun n x u o) n.registers
+          (all_from (IsKept n) (λ r. StartsAt x (s.stands x) r → (o : Operand) × (s.stands x ≡ Some o) × Begun n x u o) n.registers (λ r k. begun_start n x u (s.stands x) r h k) kept) q
+    ]
+
+begun_fits : (n : Net) (sc : Scope) (x : Name) (u : ℕ) (o : Operand) → find sc x ≡ Some u → Begun n x u o → IsOperand sc u o
+begun_fits n sc x u o h (inl e) = subst (λ (p : Operand). IsOperand sc u p) (sym e) h
+begun_fits n sc x u o h (inr k) = subst (λ (p : Operand). IsOperand sc u p) (sym k.is) (refl, k.below)
+
+begun_same : (n : Net) (v w : Valuation) (x : Name) (u : ℕ) (o : Operand) → v.value x ≡ w.value x → SettledIn n.registers v → Begun n x u o → v.value x ≡ operand_value w o
+begun_same n v w x u o h t (inl e) = h ∙ sym (ap (operand_value w) e)
+begun_same n v w x u o h t (inr k) = k.kept v t ∙ sym (ap (operand_value w) k.is)
+
+pub begins_follow : (taken : Name → Bool) (n : Net) → IsNetlist n → (s : State) → Begins n s → Follows taken (shapes n) (first_readable n) (first_readable n) s
+begins_follow taken n rules s b =
+    record {
+      fits = subst (AreWires (shapes n) (first_readable n)) (sym b.wires) tt;
+      named = record {
+        small = subst (λ (k : ℕ). k < 2 ^ 64) (sym b.next) (omega arith);
+        each = subst (λ (ws : List Wire). wires.Each taken ws s.next) (sym b.wires) tt;
+      };
+      finds = λ x u h.
+          let a = begins_at n rules s b x u h in
+          let found = subst (λ (ws : List Wire). find (readable_after (first_readable n) ws) x ≡ Some u) (sym b.wires) h in
+          (a.0, a.1, begun_fits n (readable_after (first_readable n) s.wires) x u a.0 found a.2);
+    }
+
+pub begins_mean : (n : Net) → IsNetlist n → (s : State) (v w : Valuation) → Begins n s → Agree (first_readable n) v w → SettledIn n.registers v → Means (first_readable n) s.stands v w
+begins_mean n rules s v w b a t x u h =
+    let k = begins_at n rules s b x u h in
+    begun_same n v w x u k.0 (a x u h) t k.2 ∙ sym (ap (operand_value w) (stands_for s.stands x k.0 k.1))
+
+-- from cycle to cycle
+
+eq_is : (a b : ℕ) → (a == b) ≡ true → a ≡ b
+eq_is a b h = grind (arith, nat_tests)
+
+next_start : (p : Valuation) (x : Name) (n : ℕ) (o : Operand) → settles x n o ≡ true → p.value x ≡ n → operand_value p o ≡ n
+next_start p x n (Named y) t h = ap p.value (name_is y x t) ∙ h
+next_start p x n (Constant w m) t h = eq_is m n t
+
+pub settled_first : (v : Valuation) (rs : List Register) → AllByRecursion (λ r. v.value r.name ≡ r.start) rs → SettledIn rs v
+settled_first v rs a = all_from (λ r. v.value r.name ≡ r.start) (λ r. is_settled r ≡ true → v.value r.name ≡ r.start) rs (λ r h t. h) a
+
+pub settled_next : (p v : Valuation) (rs : List Register) → SettledIn rs p → AllByRecursion (λ r. v.value r.name ≡ operand_value p r.next) rs → SettledIn rs v
+settled_next p v [] s a = tt
+settled_next p v (r ∷ rs) s a = (λ t. a.0 ∙ next_start p r.name r.start r.next t (s.0 t), settled_next p v rs s.1 a.1)

@@ -1,0 +1,176 @@
+-- What is known of the two passes.
+use Rattle.std.proofs.Common.{◌≡◌, ℕ, List, [], ◌∷◌, ◌++◌, map, filter, Some, None, Bool, true, false, sym, ap, ap₂, ◌∙◌, subst, refl, length}
+use Rattle.std.specs.Str.{bytes_eq}
+use Rattle.std.specs.List.{AllByRecursion}
+use Rattle.sap_maps.specs.Maps.{Name, Valuation}
+use Rattle.sap_maps.specs.Scope.{Scope, find}
+use Rattle.sap_net.specs.Names.{is_among}
+use Rattle.sap_net.specs.Net.{Net}
+use Rattle.sap_net.specs.declared.parts.Wire.{Wire}
+use Rattle.sap_net.specs.Rules.{AreWires, readable_after}
+use Rattle.sap_net.specs.IsNetlist.{register_names, memory_names, first_readable, readable, shapes, IsNetlist}
+use Rattle.sap_trim.specs.Names.{helper, numbered, names_of, port_names, lasting_names, shown_wires, helping_wires, NoneNumbered, NameSet, holds}
+use Rattle.sap_trim.specs.Reads.{edge_reads, IsRead, ReadsWires}
+use Rattle.sap_trim.specs.Trimmed.{AllDiffer, SharesWires, NamesWires, NumbersWires}
+use Rattle.sap_trim.specs.Walked.{State, Begins, Folds, Copies, Walked}
+use Rattle.sap_trim.specs.Needed.{needed, needed_wires}
+use Rattle.sap_trim.specs.Built.{built}
+use Rattle.sap_trim.proofs.Lists.{none_among, all_from, map_all}
+use Rattle.sap_trim.proofs.Follows.{Follows, Followed, taken_apart, begins_follow, follows_walk, copies_walk}
+use Rattle.sap_trim.proofs.Declared.{wires_distinct, all_filter}
+use Rattle.sap_trim.specs.Alike.{DeclaresAlike, RunsAlike}
+use Rattle.sap_trim.proofs.Built.{Covers, Walks, built_rules, registers_named, memories_named, untaken}
+use Rattle.sap_trim.proofs.Cycle.{Done, found_each, runs_alike, declares_alike}
+use Rattle.sap_trim.proofs.Kept.{AgreeOn, needed_fits, needed_agree, needed_within, needed_holds, shown_needed, edge_kept, needed_named, filter_each}
+use Rattle.sap_trim.proofs.Shared.{Tidy, walk_tidy, begins_tidy, helping_are}
+use Rattle.sap_trim.proofs.Read.{Read, walk_reads, all_read}
+
+pub done_fold : (n : Net) (taken : Name → Bool) (s t : State) (ws : List Wire) → IsNetlist n → ((x : Name) → taken x ≡ is_among x (lasting_names n)) → Begins n s → ws ≡ n.wires → Walked (Folds taken) s ws t → Done n taken n.wires s t
+done_fold n taken s t ws rules is b e k =
+    let walked = subst (λ (xs : List Wire). Walked (Folds taken) s xs t) e k in
+    let sc = first_readable n in
+    let f = follows_walk taken (shapes n) sc n.wires sc s t (taken_apart n rules taken is) (begins_follow taken n rules s b) rules.assigns walked in
+    record {
+      walks = record {
+        rules = rules;
+        taken_is = is;
+        follows = f.follows;
+        covers = record {
+          nexts = rules.nexts;
+          writes = rules.writes;
+          shown = all_filter (λ w. find (readable n) w.name ≡ Some w.width) (λ w. is_among w.name (port_names n)) n.wires (found_each (shapes n) n.wires sc rules.assigns);
+        };
+      };
+      begins = b;
+      fits = rules.assigns;
+      within = λ x u h. h;
+      holds = λ widths v h. h;
+      walked = walked;
+    }
+
+everywhere : (n : Net) (kept : NameSet) (ws : List Wire) → ((x : Name) → holds kept x ≡ is_among x (names_of (needed_wires n))) → AllByRecursion (λ w. holds kept w.name ≡ is_among w.name (names_of (needed_wires n))) ws
+everywhere n kept [] h = tt
+everywhere n kept (w ∷ ws) h = (h w.name, everywhere n kept ws h)
+
+kept_wires : (n : Net) (kept : NameSet) (ws : List Wire) → IsNetlist n → ws ≡ n.wires → ((x : Name) → holds kept x ≡ is_among x (names_of (needed_wires n))) → filter (λ w. holds kept w.name) ws ≡ needed_wires n
+kept_wires n kept ws rules e h =
+    ap (λ (xs : List Wire). filter (λ w. holds kept w.name) xs) e
+    ∙ filter_each (λ w. holds kept w.name) (λ w. is_among w.name (names_of (needed_wires n))) n.wires (everywhere n kept n.wires h)
+    ∙ needed_named (port_names n) (edge_reads n) n.wires (wires_distinct (shapes n) n.wires (first_readable n) rules.assigns)
+
+pub needed_done : (n : Net) (taken : Name → Bool) (s t : State) → IsNetlist n → ((x : Name) → taken x ≡ is_among x (lasting_names n)) → Begins n s → Walked (Copies taken) s (needed_wires n) t → Done n taken (needed_wires n) s t
+needed_done n taken s t rules is b k =
+    let sc = first_readable n in
+    let P = port_names n in
+    let E = edge_reads n in
+    let ks = needed_wires n in
+    let so = readable_after sc ks in
+    let same : AgreeOn _ sc sc = λ x h. refl in
+    let fits = needed_fits (shapes n) P E n.wires sc sc rules.assigns same (λ x h. h) in
+    let walked = copies_walk taken ks s t k in
+    let f = follows_walk taken (shapes n) sc ks sc s t (taken_apart n rules taken is) (begins_follow taken n rules s b) fits walked in
+    let edge = edge_kept (readable n) so n.registers n.memories (needed_agree P E n.wires sc sc same) rules.nexts rules.writes in
+    record {
+      walks = record {
+        rules = rules;
+        taken_is = is;
+        follows = f.follows;
+        covers = record {
+          nexts = edge.0;
+          writes = edge.1;
+          shown = shown_needed (λ w. find so w.name ≡ Some w.width) P E n.wires (found_each (shapes n) ks sc fits);
+        };
+      };
+      begins = b;
+      fits = fits;
+      within = needed_within (shapes n) P E n.wires sc sc rules.assigns (λ x u h. h);
+      holds = needed_holds P E n.wires;
+      walked = walked;
+    }
+
+-- What is known after wires that are needed were copied.
+pub record Dropped (n : Net) (taken : Name → Bool) (s t : State) : Type 0 where
+  pub done : Done n taken (needed_wires n) s t
+  pub copied : Walked (Copies taken) s (needed_wires n) t
+
+pub done_copy : (n : Net) (taken : Name → Bool) (kept : NameSet) (s t : State) (ws : List Wire) → IsNetlist n → ((x : Name) → taken x ≡ is_among x (lasting_names n)) → ((x : Name) → holds kept x ≡ is_among x (names_of (needed_wires n))) → Begins n s → ws ≡ n.wires → Walked (Copies taken) s (filter (λ w. holds kept w.name) ws) t → Dropped n taken s t
+done_copy n taken kept s t ws rules is needs b e k =
+    let copied = subst (λ (xs : List Wire). Walked (Copies taken) s xs t) (kept_wires n kept ws rules e needs) k in
+    record { done = needed_done n taken s t rules is b copied; copied = copied }
+
+no_ports : (n : Net) (taken : Name → Bool) (so : Scope) (t : State) → Walks n taken so t → AllByRecursion (λ w. is_among w.name (port_names n) ≡ false) t.wires
+no_ports n taken so t k =
+    all_from (λ w. taken w.name ≡ false) (λ w. is_among w.name (port_names n) ≡ false) t.wires
+    (λ w h. (none_among w.name (port_names n) (register_names n ++ memory_names n) (sym (k.taken_is w.name) ∙ h)).0)
+    (map_all (λ x. taken x ≡ false) (λ (w : Wire). w.name) t.wires (untaken taken t.wires t.next k.follows.named))
+
+helpers_are : (n : Net) (taken : Name → Bool) (s t : State) → Dropped n taken s t → helping_wires (built n t.wires t.stands) ≡ t.wires
+helpers_are n taken s t d =
+    helping_are n t.wires t.stands (no_ports n taken (readable_after (first_readable n) (needed_wires n)) t d.done.walks)
+
+tidy : (n : Net) (taken : Name → Bool) (s t : State) → Dropped n taken s t → Tidy taken t.wires t.next
+tidy n taken s t d = walk_tidy taken (needed_wires n) s t d.copied (begins_tidy taken n s d.done.begins)
+
+pub dropped_shares : (n : Net) (taken : Name → Bool) (s t : State) → Dropped n taken s t → SharesWires (built n t.wires t.stands)
+dropped_shares n taken s t d = subst AllDiffer (sym (helpers_are n taken s t d)) (tidy n taken s t d).differ
+
+pub dropped_numbers : (n : Net) (taken : Name → Bool) (s t : State) → Dropped n taken s t → NumbersWires (built n t.wires t.stands)
+dropped_numbers n taken s t d = λ none.
+    let B = built n t.wires t.stands in
+    let names : lasting_names B ≡ lasting_names n = ap₂ (λ (a b : List Name). port_names n ++ (a ++ b)) (registers_named t.stands n.registers) (memories_named t.stands n.memories) in
+    let free : (k : ℕ) → taken (helper k) ≡ false = λ k. d.done.walks.taken_is (helper k) ∙ sym (ap (is_among (helper k)) names) ∙ none k in
+    let y = tidy n taken s t d in
+    subst (λ (xs : List Wire). names_of xs ≡ numbered (length xs)) (sym (helpers_are n taken s t d)) (y.named free ∙ ap numbered (sym (y.long free)))
+
+pub dropped_names : (n : Net) (taken : Name → Bool) (s t : State) → Dropped n taken s t → NamesWires (built n t.wires t.stands)
+dropped_names n taken s t d =
+    subst (λ (xs : List Wire). AllByRecursion (λ w. (k : ℕ) × (w.name ≡ helper k)) xs) (sym (helpers_are n taken s t d))
+    (all_from _ (λ (w : Wire). (k : ℕ) × (w.name ≡ helper k)) t.wires (λ w h. (h.0, h.2)) d.done.walks.follows.named.each)
+
+pub dropped_reads : (n : Net) (taken : Name → Bool) (s t : State) → Dropped n taken s t → ReadsWires (built n t.wires t.stands)
+dropped_reads n taken s t d =
+    let sc = first_readable n in
+    let r = walk_reads taken (shapes n) (needed_wires n) sc s t d.done.fits d.copied in
+    subst (λ (xs : List Wire). AllByRecursion (λ w. IsRead (built n t.wires t.stands) w.name) xs) (sym (helpers_are n taken s t d)) (all_read n sc s t d.done.begins.wires r)
+
+-- What is known of the first pass's netlist.
+pub record Folded (n r : Net) : Type 0 where
+  pub rules : IsNetlist r
+  pub declares : DeclaresAlike n r
+  pub same : RunsAlike n r
+
+pub folded_all : (n : Net) (taken : Name → Bool) (s t : State) (ws : List Wire) (r : Net) → IsNetlist n → ((x : Name) → taken x ≡ is_among x (lasting_names n)) → Begins n s → ws ≡ n.wires → Walked (Folds taken) s ws t → r ≡ built n t.wires t.stands → Folded n r
+folded_all n taken s t ws r rules is b e k p =
+    let d = done_fold n taken s t ws rules is b e k in
+    subst (Folded n) (sym p) (
+    record {
+      rules = built_rules n taken (readable_after (first_readable n) n.wires) t d.walks;
+      declares = declares_alike n taken n.wires s t d;
+      same = runs_alike n taken n.wires s t d;
+    }
+    )
+
+-- What is known of the second pass's netlist.
+pub record Tidied (n r : Net) : Type 0 where
+  pub rules : IsNetlist r
+  pub declares : DeclaresAlike n r
+  pub same : RunsAlike n r
+  pub named : NamesWires r
+  pub numbered : NumbersWires r
+  pub shared : SharesWires r
+  pub read : ReadsWires r
+
+pub tidied_all : (n : Net) (taken : Name → Bool) (kept : NameSet) (s t : State) (ws : List Wire) (r : Net) → IsNetlist n → ((x : Name) → taken x ≡ is_among x (lasting_names n)) → ((x : Name) → holds kept x ≡ is_among x (names_of (needed_wires n))) → Begins n s → ws ≡ n.wires → Walked (Copies taken) s (filter (λ w. holds kept w.name) ws) t → r ≡ built n t.wires t.stands → Tidied n r
+tidied_all n taken kept s t ws r rules is needs b e k p =
+    let d = done_copy n taken kept s t ws rules is needs b e k in
+    subst (Tidied n) (sym p) (
+    record {
+      rules = built_rules n taken (readable_after (first_readable n) (needed_wires n)) t d.done.walks;
+      declares = declares_alike n taken (needed_wires n) s t d.done;
+      same = runs_alike n taken (needed_wires n) s t d.done;
+      named = dropped_names n taken s t d;
+      numbered = dropped_numbers n taken s t d;
+      shared = dropped_shares n taken s t d;
+      read = dropped_reads n taken s t d;
+    }
+    )

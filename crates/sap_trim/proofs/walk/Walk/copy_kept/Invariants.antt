@@ -1,0 +1,11 @@
+use Rattle.std.proofs.Common.{take, filter}
+use Rattle.sap_trim.specs.Names.{holds}
+use Rattle.sap_trim.specs.Walked.{Copies, Walked, state_of}
+use Rattle.sap_trim.specs.Wires.{NamesRights}
+use Rattle.sap_trim.proofs.walk.Walk.copy_kept.Given as goal
+
+abbrev pub invariant-loop-wire : goal.invariant-loop-wire
+invariant-loop-wire l = record {
+  names : NamesRights l.self.wires.names l.self.wires.list.items;
+  walked : Walked (Copies (holds l.taken)) (state_of l.fn.self) (filter (λ w. holds l.kept w.name) (take l.wire-index l.wires)) (state_of l.self);
+}

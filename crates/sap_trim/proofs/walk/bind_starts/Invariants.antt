@@ -1,0 +1,9 @@
+use Rattle.std.proofs.Common.{take}
+use Rattle.sap_maps.specs.Maps.{Name}
+use Rattle.sap_trim.specs.Replaced.{stands_in}
+use Rattle.sap_trim.specs.Walked.{Starts}
+use Rattle.sap_trim.proofs.walk.bind_starts.Given as goal
+
+abbrev pub invariant-loop-register : goal.invariant-loop-register
+invariant-loop-register l =
+    (x : Name) → Starts (take l.register-index l.registers) x (stands_in l.fn.stands x) (stands_in l.stands x)

@@ -1,0 +1,199 @@
+//! The parts of the new netlist.
+
+ghost use Rattle.std.specs.Prelude.{◌≡◌, ◌++◌, map, filter, IfOk, OnOk};
+ghost use Rattle.sap_maps.specs.Maps as spec;
+ghost use Rattle.sap_net.specs.Names.{is_among};
+ghost use Rattle.sap_net.specs.Net.{net_of};
+ghost use Rattle.sap_trim.specs.Built.{built, memory_of, register_of, wire_of};
+ghost use Rattle.sap_trim.specs.Names.{holds, lasting_names, names_of, port_names};
+ghost use Rattle.sap_trim.specs.Replaced.{stands_in};
+
+use crate::names::has;
+use crate::replace::{stand, stand_name};
+use sap_net::netlist::Netlist;
+use sap_net::parts::{Input, Memory, Name, Operand, Parts, Port, Register, Right, Wire};
+use std::alloc::{AllocError, Global};
+use std::collections::{HashMap, HashSet};
+
+fn add_lasting(
+    alloc: Global,
+    made: &mut Vec<Name>,
+    lasting: &HashSet<Vec<u8>>,
+    names: &[Name],
+) -> Result<(), AllocError>
+    ensures { OnOk result (made.new.items ≡ made.old.items ++ filter (holds lasting.now) names.now) }
+{
+    for name in names {
+        if has(lasting, name) {
+            made.push(name.copy(alloc)?)?;
+        }
+    }
+    Ok(())
+}
+
+fn add_wires(alloc: Global, made: &mut Vec<Name>, wires: &[Wire]) -> Result<(), AllocError>
+    ensures { OnOk result (made.new.items ≡ made.old.items ++ names_of wires.now) }
+{
+    for wire in wires {
+        made.push(wire.name.copy(alloc)?)?;
+    }
+    Ok(())
+}
+
+fn ports(alloc: Global, ports: &[Port]) -> Result<Vec<Port>, AllocError>
+    ensures { IfOk result (λ ps. ps.items ≡ ports.now) }
+{
+    let mut made = Vec::new(alloc);
+    for port in ports {
+        let name = port.name.copy(alloc)?;
+        made.push(Port {
+            name,
+            kind: port.kind,
+        })?;
+    }
+    Ok(made)
+}
+
+fn inputs(alloc: Global, inputs: &[Input]) -> Result<Vec<Input>, AllocError>
+    ensures { IfOk result (λ is. is.items ≡ inputs.now) }
+{
+    let mut made = Vec::new(alloc);
+    for input in inputs {
+        let name = input.name.copy(alloc)?;
+        made.push(Input {
+            name,
+            width: input.width,
+        })?;
+    }
+    Ok(made)
+}
+
+fn wire(alloc: Global, stands: &HashMap<Vec<u8>, Operand>, shown: &Wire) -> Result<Wire, AllocError>
+    ensures { IfOk result (λ w. w ≡ wire_of (stands_in stands.now) shown.now) }
+{
+    let name = shown.name.copy(alloc)?;
+    let operand = stand_name(alloc, stands, &shown.name)?;
+    Ok(Wire {
+        name,
+        width: shown.width,
+        right: Right::Copy(operand),
+    })
+}
+
+/// The wires that are ports, each a copy of what it stands for.
+fn add_shown(
+    alloc: Global,
+    made: &mut Vec<Wire>,
+    ports: &HashSet<Vec<u8>>,
+    stands: &HashMap<Vec<u8>, Operand>,
+    wires: &[Wire],
+) -> Result<(), AllocError>
+    ensures { OnOk result (made.new.items ≡ made.old.items ++ map (wire_of (stands_in stands.now)) (filter (λ w. holds ports.now w.name) wires.now)) }
+{
+    for shown in wires {
+        if has(ports, &shown.name) {
+            made.push(wire(alloc, stands, shown)?)?;
+        }
+    }
+    Ok(())
+}
+
+fn register(
+    alloc: Global,
+    stands: &HashMap<Vec<u8>, Operand>,
+    register: &Register,
+) -> Result<Register, AllocError>
+    ensures { IfOk result (λ r. r ≡ register_of (stands_in stands.now) register.now) }
+{
+    let name = register.name.copy(alloc)?;
+    let next = stand(alloc, stands, &register.next)?;
+    Ok(Register {
+        name,
+        width: register.width,
+        start: register.start,
+        next,
+    })
+}
+
+fn registers(
+    alloc: Global,
+    stands: &HashMap<Vec<u8>, Operand>,
+    registers: &[Register],
+) -> Result<Vec<Register>, AllocError>
+    ensures { IfOk result (λ rs. rs.items ≡ map (register_of (stands_in stands.now)) registers.now) }
+{
+    let mut made = Vec::new(alloc);
+    for given in registers {
+        made.push(register(alloc, stands, given)?)?;
+    }
+    Ok(made)
+}
+
+fn memory(
+    alloc: Global,
+    stands: &HashMap<Vec<u8>, Operand>,
+    memory: &Memory,
+) -> Result<Memory, AllocError>
+    ensures { IfOk result (λ m. m ≡ memory_of (stands_in stands.now) memory.now) }
+{
+    let name = memory.name.copy(alloc)?;
+    let enable = stand(alloc, stands, &memory.enable)?;
+    let index = stand(alloc, stands, &memory.index)?;
+    let value = stand(alloc, stands, &memory.value)?;
+    Ok(Memory {
+        name,
+        width: memory.width,
+        depth: memory.depth,
+        start: memory.start,
+        enable,
+        index,
+        value,
+    })
+}
+
+fn memories(
+    alloc: Global,
+    stands: &HashMap<Vec<u8>, Operand>,
+    memories: &[Memory],
+) -> Result<Vec<Memory>, AllocError>
+    ensures { IfOk result (λ ms. ms.items ≡ map (memory_of (stands_in stands.now)) memories.now) }
+{
+    let mut made = Vec::new(alloc);
+    for given in memories {
+        made.push(memory(alloc, stands, given)?)?;
+    }
+    Ok(made)
+}
+
+/// The parts of the netlist of these wires, and of the ports, registers and memories of the given one, whose names stand for operands over them.
+pub fn build(
+    alloc: Global,
+    netlist: &Netlist,
+    lasting: &HashSet<Vec<u8>>,
+    shown: &HashSet<Vec<u8>>,
+    stands: &HashMap<Vec<u8>, Operand>,
+    mut wires: Vec<Wire>,
+) -> Result<Parts, AllocError>
+    requires lasting { (n : spec.Name) → holds lasting.now n ≡ is_among n (lasting_names netlist.now) }
+    requires shown { (n : spec.Name) → holds shown.now n ≡ is_among n (port_names netlist.now) }
+    ensures { IfOk result (λ p. net_of p ≡ built netlist.now wires.items (stands_in stands.now)) }
+{
+    let module_name = netlist.module_name().copy(alloc)?;
+    let mut names = Vec::new(alloc);
+    add_lasting(alloc, &mut names, lasting, netlist.names())?;
+    add_wires(alloc, &mut names, &wires)?;
+    add_shown(alloc, &mut wires, shown, stands, netlist.wires())?;
+    let ports = ports(alloc, netlist.ports())?;
+    let inputs = inputs(alloc, netlist.inputs())?;
+    let registers = registers(alloc, stands, netlist.registers())?;
+    let memories = memories(alloc, stands, netlist.memories())?;
+    Ok(Parts {
+        module_name,
+        names,
+        ports,
+        inputs,
+        wires,
+        registers,
+        memories,
+    })
+}

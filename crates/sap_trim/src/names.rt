@@ -1,0 +1,83 @@
+//! Sets of names.
+
+ghost use Rattle.std.specs.Prelude.{◌≡◌, ◌||◌, map, IfOk, OnOk};
+ghost use Rattle.std.specs.Str.{bytes_eq};
+ghost use Rattle.sap_maps.specs.Maps as spec;
+ghost use Rattle.sap_net.specs.Names.{is_among};
+ghost use Rattle.sap_trim.specs.Names.{holds, lasting_names, port_names};
+
+use sap_net::netlist::Netlist;
+use sap_net::parts::{Memory, Name, Port, Register};
+use std::alloc::{AllocError, Global};
+use std::collections::HashSet;
+
+/// Whether a set has a name.
+pub fn has(names: &HashSet<Vec<u8>>, name: &Name) -> bool
+    ensures { result ≡ holds names.now name.now }
+{
+    names.contains(name.as_bytes())
+}
+
+/// One more name.
+pub fn add(alloc: Global, names: &mut HashSet<Vec<u8>>, name: &Name) -> Result<(), AllocError>
+    ensures { OnOk result ((n : spec.Name) → holds names.new n ≡ (bytes_eq n name.now || holds names.old n)) }
+{
+    let key = name.as_bytes().to_vec(alloc)?;
+    names.insert(key)?;
+    Ok(())
+}
+
+fn add_ports(alloc: Global, names: &mut HashSet<Vec<u8>>, ports: &[Port]) -> Result<(), AllocError>
+    ensures { OnOk result ((n : spec.Name) → holds names.new n ≡ (is_among n (map (λ p. p.name) ports.now) || holds names.old n)) }
+{
+    for port in ports {
+        add(alloc, names, &port.name)?;
+    }
+    Ok(())
+}
+
+fn add_registers(
+    alloc: Global,
+    names: &mut HashSet<Vec<u8>>,
+    registers: &[Register],
+) -> Result<(), AllocError>
+    ensures { OnOk result ((n : spec.Name) → holds names.new n ≡ (is_among n (map (λ r. r.name) registers.now) || holds names.old n)) }
+{
+    for register in registers {
+        add(alloc, names, &register.name)?;
+    }
+    Ok(())
+}
+
+fn add_memories(
+    alloc: Global,
+    names: &mut HashSet<Vec<u8>>,
+    memories: &[Memory],
+) -> Result<(), AllocError>
+    ensures { OnOk result ((n : spec.Name) → holds names.new n ≡ (is_among n (map (λ m. m.name) memories.now) || holds names.old n)) }
+{
+    for memory in memories {
+        add(alloc, names, &memory.name)?;
+    }
+    Ok(())
+}
+
+/// The names of the ports.
+pub fn ports(alloc: Global, netlist: &Netlist) -> Result<HashSet<Vec<u8>>, AllocError>
+    ensures { IfOk result (λ s. (n : spec.Name) → holds s n ≡ is_among n (port_names netlist.now)) }
+{
+    let mut names = HashSet::new(alloc);
+    add_ports(alloc, &mut names, netlist.ports())?;
+    Ok(names)
+}
+
+/// The names that stay: those of ports, registers and memories.
+pub fn lasting(alloc: Global, netlist: &Netlist) -> Result<HashSet<Vec<u8>>, AllocError>
+    ensures { IfOk result (λ s. (n : spec.Name) → holds s n ≡ is_among n (lasting_names netlist.now)) }
+{
+    let mut names = HashSet::new(alloc);
+    add_memories(alloc, &mut names, netlist.memories())?;
+    add_registers(alloc, &mut names, netlist.registers())?;
+    add_ports(alloc, &mut names, netlist.ports())?;
+    Ok(names)
+}

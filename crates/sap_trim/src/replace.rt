@@ -1,0 +1,117 @@
+//! Operands of a netlist, replaced by what stands for them.
+
+ghost use Rattle.std.specs.Prelude.{◌≡◌, map, IfOk};
+ghost use Rattle.sap_trim.specs.Replaced.{replaced, sliced, standing, standing_operand, stands_in};
+
+use sap_bits::slice;
+use sap_net::parts::{Name, Operand, Operands, Right};
+use std::alloc::{AllocError, Global};
+use std::collections::HashMap;
+
+/// What a name stands for.
+pub fn stand_name(
+    alloc: Global,
+    stands: &HashMap<Vec<u8>, Operand>,
+    name: &Name,
+) -> Result<Operand, AllocError>
+    ensures { IfOk result (λ o. o ≡ standing (stands_in stands.now) name.now) }
+{
+    match stands.get(name.as_bytes()) {
+        Some(operand) => operand.copy(alloc),
+        None => Ok(Operand::Constant { width: 0, value: 0 }),
+    }
+}
+
+/// What an operand stands for.
+pub fn stand(
+    alloc: Global,
+    stands: &HashMap<Vec<u8>, Operand>,
+    operand: &Operand,
+) -> Result<Operand, AllocError>
+    ensures { IfOk result (λ o. o ≡ standing_operand (stands_in stands.now) operand.now) }
+{
+    match operand {
+        Operand::Named(name) => stand_name(alloc, stands, name),
+        Operand::Constant { width, value } => Ok(Operand::Constant {
+            width: *width,
+            value: *value,
+        }),
+    }
+}
+
+fn stand_all(
+    alloc: Global,
+    stands: &HashMap<Vec<u8>, Operand>,
+    operands: &[Operand],
+) -> Result<Vec<Operand>, AllocError>
+    ensures { IfOk result (λ os. os.items ≡ map (standing_operand (stands_in stands.now)) operands.now) }
+{
+    let mut made = Vec::new(alloc);
+    for operand in operands {
+        made.push(stand(alloc, stands, operand)?)?;
+    }
+    Ok(made)
+}
+
+/// The bits of an operand from `lo` up to `hi`.
+fn slice_operand(of: Operand, hi: u32, lo: u32) -> Right
+    ensures { result ≡ sliced of hi lo }
+{
+    match of {
+        Operand::Named(name) => Right::Slice { name, hi, lo },
+        Operand::Constant { value, .. } => {
+            if lo <= hi && hi < 64 {
+                Right::Copy(Operand::Constant {
+                    width: hi + 1 - lo,
+                    value: slice(value, hi, lo),
+                })
+            } else {
+                Right::Copy(Operand::Constant { width: 0, value: 0 })
+            }
+        }
+    }
+}
+
+/// A right side with what stands for its operands in their place.
+pub fn replace(
+    alloc: Global,
+    stands: &HashMap<Vec<u8>, Operand>,
+    right: &Right,
+) -> Result<Right, AllocError>
+    ensures { IfOk result (λ r. r ≡ replaced (stands_in stands.now) right.now) }
+{
+    match right {
+        Right::Copy(a) => {
+            let a = stand(alloc, stands, a)?;
+            Ok(Right::Copy(a))
+        }
+        Right::One(op, a) => {
+            let a = stand(alloc, stands, a)?;
+            Ok(Right::One(*op, a))
+        }
+        Right::Two(op, a, b) => {
+            let a = stand(alloc, stands, a)?;
+            let b = stand(alloc, stands, b)?;
+            Ok(Right::Two(*op, a, b))
+        }
+        Right::Choose(c, a, b) => {
+            let c = stand(alloc, stands, c)?;
+            let a = stand(alloc, stands, a)?;
+            let b = stand(alloc, stands, b)?;
+            Ok(Right::Choose(c, a, b))
+        }
+        Right::Concat(operands) => {
+            let operands = stand_all(alloc, stands, operands.as_slice())?;
+            Ok(Right::Concat(Operands::new(operands)))
+        }
+        Right::Slice { name, hi, lo } => {
+            let of = stand_name(alloc, stands, name)?;
+            Ok(slice_operand(of, *hi, *lo))
+        }
+        Right::Cell { memory, index } => {
+            let memory = memory.copy(alloc)?;
+            let index = stand(alloc, stands, index)?;
+            Ok(Right::Cell { memory, index })
+        }
+    }
+}

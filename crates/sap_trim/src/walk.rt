@@ -1,0 +1,256 @@
+//! The wires of a netlist one after another, and what each of its names stands for over the new ones.
+
+ghost use Rattle.std.specs.Prelude.{◌≡◌, ◌⊎◌, [], ◌∷◌, Some, filter, map, if◌then◌else◌, IfOk, OnOk};
+ghost use Rattle.sap_maps.specs.Maps as spec;
+ghost use Rattle.sap_net.specs.Names.{is_among};
+ghost use Rattle.sap_net.specs.declared.parts.Operand.TheVariants as operand;
+ghost use Rattle.sap_trim.specs.Names.{holds};
+ghost use Rattle.sap_trim.specs.Replaced.{Binds, stands_in};
+ghost use Rattle.sap_trim.specs.Walked.{Begins, Copies, Folds, Provides, Starts, StartsAt, Steps, Walked, is_settled, state_of};
+ghost use Rattle.sap_trim.specs.Wires.{NamesRights};
+
+use crate::fold::fold;
+use crate::names::has;
+use crate::replace::replace;
+use crate::see::see;
+use crate::wires::Wires;
+use sap_net::netlist::Netlist;
+use sap_net::parts::{Input, Name, Operand, Register, Right, Wire};
+use std::alloc::{AllocError, Global};
+use std::collections::{HashMap, HashSet};
+
+/// The wires so far, and what each name of the netlist stands for over them.
+#[derive(Drop)]
+pub struct Walk {
+    pub wires: Wires,
+    pub stands: HashMap<Vec<u8>, Operand>,
+}
+
+/// Lets a name stand for an operand.
+fn bind(
+    alloc: Global,
+    stands: &mut HashMap<Vec<u8>, Operand>,
+    name: &Name,
+    operand: Operand,
+) -> Result<(), AllocError>
+    ensures { OnOk result (Binds (stands_in stands.old) name.now operand (stands_in stands.new)) }
+{
+    let key = name.as_bytes().to_vec(alloc)?;
+    stands.insert(key, operand)?;
+    Ok(())
+}
+
+/// Lets a name stand for itself.
+fn bind_itself(
+    alloc: Global,
+    stands: &mut HashMap<Vec<u8>, Operand>,
+    name: &Name,
+) -> Result<(), AllocError>
+    ensures { OnOk result (Binds (stands_in stands.old) name.now (operand.Named name.now) (stands_in stands.new)) }
+{
+    let itself = name.copy(alloc)?;
+    bind(alloc, stands, name, Operand::Named(itself))
+}
+
+fn bind_inputs(
+    alloc: Global,
+    stands: &mut HashMap<Vec<u8>, Operand>,
+    inputs: &[Input],
+) -> Result<(), AllocError>
+    ensures { OnOk result ((x : spec.Name) → stands_in stands.new x ≡ (if is_among x (map (λ i. i.name) inputs.now) then Some (operand.Named x) else stands_in stands.old x)) }
+{
+    for input in inputs {
+        bind_itself(alloc, stands, &input.name)?;
+    }
+    Ok(())
+}
+
+fn bind_registers(
+    alloc: Global,
+    stands: &mut HashMap<Vec<u8>, Operand>,
+    registers: &[Register],
+) -> Result<(), AllocError>
+    ensures { OnOk result ((x : spec.Name) → stands_in stands.new x ≡ (if is_among x (map (λ r. r.name) registers.now) then Some (operand.Named x) else stands_in stands.old x)) }
+{
+    for register in registers {
+        bind_itself(alloc, stands, &register.name)?;
+    }
+    Ok(())
+}
+
+/// Whether a register keeps its start: what it takes at the edge is its own number, or its start.
+fn keeps_start(register: &Register) -> bool
+    ensures { result ≡ is_settled register.now }
+{
+    match &register.next {
+        Operand::Named(name) => name.same(&register.name),
+        Operand::Constant { value, .. } => *value == register.start,
+    }
+}
+
+/// Lets a register that keeps its start stand for that.
+fn bind_start(
+    alloc: Global,
+    stands: &mut HashMap<Vec<u8>, Operand>,
+    register: &Register,
+) -> Result<(), AllocError>
+    ensures { OnOk result ((x : spec.Name) → (stands_in stands.new x ≡ stands_in stands.old x) ⊎ StartsAt x (stands_in stands.new x) register.now) }
+{
+    if !keeps_start(register) {
+        return Ok(());
+    }
+    let start = Operand::Constant {
+        width: register.width,
+        value: register.start,
+    };
+    bind(alloc, stands, &register.name, start)?;
+    Ok(())
+}
+
+fn bind_starts(
+    alloc: Global,
+    stands: &mut HashMap<Vec<u8>, Operand>,
+    registers: &[Register],
+) -> Result<(), AllocError>
+    ensures { OnOk result ((x : spec.Name) → Starts registers.now x (stands_in stands.old x) (stands_in stands.new x)) }
+{
+    for register in registers {
+        bind_start(alloc, stands, register)?;
+    }
+    Ok(())
+}
+
+/// The operand that has the value of a right side, after one more wire where it needs one.
+fn provide(
+    alloc: Global,
+    wires: &mut Wires,
+    taken: &HashSet<Vec<u8>>,
+    width: u32,
+    right: Right,
+) -> Result<Operand, AllocError>
+    requires { NamesRights wires.old.names wires.old.list.items }
+    ensures names { OnOk result (NamesRights wires.new.names wires.new.list.items) }
+    ensures provides { IfOk result (λ o. Provides (holds taken.now) wires.old.list.items wires.old.next width right o wires.new.list.items wires.new.next) }
+{
+    match right {
+        Right::Copy(operand) => Ok(operand),
+        right => {
+            let name = wires.add(alloc, taken, width, right)?;
+            Ok(Operand::Named(name))
+        }
+    }
+}
+
+impl Walk {
+    /// No wires yet.
+    pub fn new(alloc: Global, netlist: &Netlist) -> Result<Walk, AllocError>
+        ensures begins { IfOk result (λ w. Begins netlist.now (state_of w)) }
+        ensures names { IfOk result (λ w. NamesRights w.wires.names w.wires.list.items) }
+    {
+        let mut stands = HashMap::new(alloc);
+        bind_registers(alloc, &mut stands, netlist.registers())?;
+        bind_inputs(alloc, &mut stands, netlist.inputs())?;
+        bind_starts(alloc, &mut stands, netlist.registers())?;
+        let wires = Wires::new(alloc);
+        Ok(Walk { wires, stands })
+    }
+
+    /// Lets a name stand for what has the value of a right side.
+    fn step(
+        &mut self,
+        alloc: Global,
+        taken: &HashSet<Vec<u8>>,
+        name: &Name,
+        width: u32,
+        right: Right,
+    ) -> Result<(), AllocError>
+        requires { NamesRights self.old.wires.names self.old.wires.list.items }
+        ensures names { OnOk result (NamesRights self.new.wires.names self.new.wires.list.items) }
+        ensures steps { OnOk result (Steps (holds taken.now) (state_of self.old) name.now width right (state_of self.new)) }
+    {
+        let operand = provide(alloc, &mut self.wires, taken, width, right)?;
+        bind(alloc, &mut self.stands, name, operand)
+    }
+
+    fn fold_wire(
+        &mut self,
+        alloc: Global,
+        taken: &HashSet<Vec<u8>>,
+        wire: &Wire,
+    ) -> Result<(), AllocError>
+        requires { NamesRights self.old.wires.names self.old.wires.list.items }
+        ensures names { OnOk result (NamesRights self.new.wires.names self.new.wires.list.items) }
+        ensures folds { OnOk result (Folds (holds taken.now) (state_of self.old) wire.now (state_of self.new)) }
+    {
+        let replaced = replace(alloc, &self.stands, &wire.right)?;
+        let seen = see(alloc, &self.wires, replaced)?;
+        let right = fold(wire.width, seen);
+        self.step(alloc, taken, &wire.name, wire.width, right)?;
+        Ok(())
+    }
+
+    fn copy_wire(
+        &mut self,
+        alloc: Global,
+        taken: &HashSet<Vec<u8>>,
+        wire: &Wire,
+    ) -> Result<(), AllocError>
+        requires { NamesRights self.old.wires.names self.old.wires.list.items }
+        ensures names { OnOk result (NamesRights self.new.wires.names self.new.wires.list.items) }
+        ensures copies { OnOk result (Copies (holds taken.now) (state_of self.old) wire.now (state_of self.new)) }
+    {
+        let right = replace(alloc, &self.stands, &wire.right)?;
+        self.step(alloc, taken, &wire.name, wire.width, right)
+    }
+
+    /// A wire, if its name is kept.
+    fn copy_if_kept(
+        &mut self,
+        alloc: Global,
+        taken: &HashSet<Vec<u8>>,
+        kept: &HashSet<Vec<u8>>,
+        wire: &Wire,
+    ) -> Result<(), AllocError>
+        requires { NamesRights self.old.wires.names self.old.wires.list.items }
+        ensures names { OnOk result (NamesRights self.new.wires.names self.new.wires.list.items) }
+        ensures walked { OnOk result (Walked (Copies (holds taken.now)) (state_of self.old) (filter (λ w. holds kept.now w.name) (wire.now ∷ [])) (state_of self.new)) }
+    {
+        if !has(kept, &wire.name) {
+            return Ok(());
+        }
+        self.copy_wire(alloc, taken, wire)
+    }
+
+    /// All wires, folded.
+    pub fn fold_all(
+        &mut self,
+        alloc: Global,
+        taken: &HashSet<Vec<u8>>,
+        wires: &[Wire],
+    ) -> Result<(), AllocError>
+        requires { NamesRights self.old.wires.names self.old.wires.list.items }
+        ensures { OnOk result (Walked (Folds (holds taken.now)) (state_of self.old) wires.now (state_of self.new)) }
+    {
+        for wire in wires {
+            self.fold_wire(alloc, taken, wire)?;
+        }
+        Ok(())
+    }
+
+    /// The wires with the names that are kept.
+    pub fn copy_kept(
+        &mut self,
+        alloc: Global,
+        taken: &HashSet<Vec<u8>>,
+        kept: &HashSet<Vec<u8>>,
+        wires: &[Wire],
+    ) -> Result<(), AllocError>
+        requires { NamesRights self.old.wires.names self.old.wires.list.items }
+        ensures { OnOk result (Walked (Copies (holds taken.now)) (state_of self.old) (filter (λ w. holds kept.now w.name) wires.now) (state_of self.new)) }
+    {
+        for wire in wires {
+            self.copy_if_kept(alloc, taken, kept, wire)?;
+        }
+        Ok(())
+    }
+}
