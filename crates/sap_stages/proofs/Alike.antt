@@ -25,8 +25,8 @@ use Rattle.sap_interface.specs.StandsFor.{Named, world, StandsFor, IsRefused}
 use Rattle.sap_interface.specs.InterfaceNames.{IsInterfaceName}
 use Rattle.sap_interface.specs.Interface.{Shown, HasInput, HasWire, HasRegister, HasMemory, HasSeat, HasInterface, ports_of}
 use Rattle.sap_interface.specs.Compiled.{coded_stream, CyclesStand, NetStandsFor}
-use Rattle.sap_tags.specs.Law.{AreSites, RefusalsAreSites}
-use Rattle.sap_tags.proofs.Members.{In}
+use Rattle.sap_tagged.specs.Law.{AreSites, RefusalsAreSites}
+use Rattle.sap_tagged.proofs.Members.{In}
 use Rattle.sap_ir.proofs.Declared.{among_front, among_behind}
 use Rattle.sap_stages.proofs.Ports.{all_of_map, named_among, refused_port, level_port, ports_named}
 use Rattle.sap_stages.proofs.Declared.{of_port, of_port_name, of_wire_name, of_register, of_memory, each_name, register_alike, memory_alike, same_registers, same_memories, wire_read, some_wire}

@@ -14,7 +14,7 @@ use Rattle.sap_net.specs.declared.parts.Wire.{Wire}
 use Rattle.sap_net.specs.declared.parts.Register.{Register}
 use Rattle.sap_net.specs.declared.parts.Memory.{Memory}
 use Rattle.sap_interface.specs.Interface.{Shown, HasWire, HasRegister, HasMemory}
-use Rattle.sap_tags.proofs.Members.{In}
+use Rattle.sap_tagged.proofs.Members.{In}
 use Rattle.sap_stages.proofs.Found.{Shape, Stored, memory_stored}
 
 -- the width and the start of a register, under its name

@@ -16,7 +16,7 @@ use Rattle.sap_ir.specs.declared.guarded.Store.{Store}
 use Rattle.sap_ir.specs.IsGuarded.{variable_names}
 use Rattle.sap_ir.specs.Writes.{NumbersFit}
 use Rattle.sap_interface.specs.Interface.{HasInput, HasWire, HasRegister, HasMemory}
-use Rattle.sap_tags.specs.Law.{HasVariable, HasStore, AllNumbersFit}
+use Rattle.sap_tagged.specs.Law.{HasVariable, HasStore, AllNumbersFit}
 
 abbrev pub as_input : Var → Input
 as_input x = record { name = x.name; width = x.width }

@@ -38,8 +38,8 @@ use Rattle.sap_interface.specs.StandsFor.{Named, world, StandsFor, IsRefused}
 use Rattle.sap_interface.specs.InterfaceNames.{IsInterfaceName}
 use Rattle.sap_interface.specs.Interface.{Shown, HasInput, HasWire, HasRegister, HasMemory, HasSeat, HasInterface, ports_of}
 use Rattle.sap_interface.specs.Compiled.{coded_stream, CyclesStand, NetStandsFor}
-use Rattle.sap_tags.specs.Law.{HasVariable, HasStore, HasSeatRegister, AreSites, RefusalsAreSites, shows, shown, PlainStandsFor}
-use Rattle.sap_tags.proofs.Members.{In}
+use Rattle.sap_tagged.specs.Law.{HasVariable, HasStore, HasSeatRegister, AreSites, RefusalsAreSites, shows, shown, PlainStandsFor}
+use Rattle.sap_tagged.proofs.Members.{In}
 use Rattle.sap_stages.specs.Stages.{StandsForTheSame}
 use Rattle.sap_stages.proofs.Ports.{all_front, all_behind, all_of_map, all_follow, named_among, variable_among, store_among, refused_port, level_port, ports_named, wire_among}
 use Rattle.sap_stages.proofs.Alike.{port_named, helpers_named, stands_alike}

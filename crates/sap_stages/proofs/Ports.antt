@@ -15,7 +15,7 @@ use Rattle.sap_interface.specs.PortNames.{refused_name, level_name}
 use Rattle.sap_interface.specs.StandsFor.{Named, world}
 use Rattle.sap_interface.specs.Interface.{Shown, pairs_of, site_ports, ports_of}
 use Rattle.sap_interface.specs.InterfaceNames.{holds_numbers, IsInterfaceName, value_of, tag_of, refusal_of, level_of}
-use Rattle.sap_tags.proofs.Members.{In, in_behind, reached}
+use Rattle.sap_tagged.proofs.Members.{In, in_behind, reached}
 
 -- what holds of all
 

@@ -4,7 +4,7 @@ use Rattle.sap_lattice.specs.Levels.{Levels}
 use Rattle.sap_net.specs.Net.{Net}
 use Rattle.sap_plain.specs.Nested.{Nested}
 use Rattle.sap_interface.specs.Designs.{StandsForDesign}
-use Rattle.sap_tags.specs.Law.{PlainStandsForDesign}
+use Rattle.sap_tagged.specs.Law.{PlainStandsForDesign}
 
 -- Over any lattice, the netlist stands for each design for which the nested states stand.
 abbrev pub StandsForTheSame : Nested → Net → Type 0

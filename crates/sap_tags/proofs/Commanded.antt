@@ -18,13 +18,14 @@ use Rattle.sap_program.specs.declared.program.Command.TheViews as shown
 use Rattle.sap_program.specs.Views.{term_of, step_of, command_of, block_of}
 use Rattle.sap_sized.specs.Ranges.{Ranged, RangedBlock, RangedStep, RangedTerm}
 use Rattle.sap_tags.specs.Built.{CommandRanged, CommandsRanged, command_body, command_wires, commands_body, commands_wires, decided}
-use Rattle.sap_tags.specs.Code.{entities_in, setting_in, spot_in, world_in}
-use Rattle.sap_tags.specs.Commands.{gives, looks, raises, refusal, attempt_of, select_of, wires_block, command_plain, block_plain}
-use Rattle.sap_tags.specs.Keys.{Wire}
-use Rattle.sap_tags.specs.Levels.{var, lub, expr, tag_of}
-use Rattle.sap_tags.specs.declared.setting.Setting.{Setting}
-use Rattle.sap_tags.specs.declared.setting.Spot.{Spot}
-use Rattle.sap_tags.proofs.Listed.{command_of-do, command_of-try, command_of-if, block_of-none, block_of-more, wires_are, wires_block_are, wires_drop}
+use Rattle.sap_terms.specs.Code.{entities_in, setting_in, spot_in, world_in}
+use Rattle.sap_tagged.specs.Commands.{gives, looks, raises, refusal, attempt_of, select_of, wires_block, command_plain, block_plain}
+use Rattle.sap_tagged.specs.Keys.{Wire}
+use Rattle.sap_tagged.specs.Levels.{var, lub, expr, tag_of}
+use Rattle.sap_terms.specs.declared.setting.Setting.{Setting}
+use Rattle.sap_terms.specs.declared.setting.Spot.{Spot}
+use Rattle.sap_program.proofs.Shown.{command_of-do, command_of-try, command_of-if, block_of-none}
+use Rattle.sap_tags.proofs.Listed.{block_of-more, wires_are, wires_block_are, wires_drop}
 use Rattle.sap_tags.proofs.Raised.{raises_follow}
 
 -- behind nothing

@@ -24,12 +24,12 @@ use Rattle.sap_sized.specs.Sound.{WidthsInRange}
 use Rattle.sap_shape.specs.WellFormed.{WellFormed}
 use Rattle.sap_interface.specs.StandsFor.{Named}
 use Rattle.sap_interface.specs.Designs.{named_of}
-use Rattle.sap_tags.specs.Code.{named_over}
-use Rattle.sap_tags.specs.Law.{IsSound, plain_for}
-use Rattle.sap_tags.specs.Plain.{plain_of}
-use Rattle.sap_tags.specs.Setting.{IsNarrow}
-use Rattle.sap_tags.specs.States.{wires_group}
-use Rattle.sap_tags.proofs.Fitted.{limits, group_few, group_filled, tree_of}
+use Rattle.sap_terms.specs.Code.{named_over}
+use Rattle.sap_tagged.specs.Law.{IsSound, plain_for}
+use Rattle.sap_tagged.specs.Plain.{plain_of}
+use Rattle.sap_terms.specs.Narrow.{IsNarrow}
+use Rattle.sap_tagged.specs.States.{wires_group}
+use Rattle.sap_tagged.proofs.Fitted.{limits, group_few, group_filled, tree_of}
 
 named_as : (ls : Levels) (d : DesignTree) (p : Program) → IsProgramOf ls d p → named_over ls p ≡ named_of ls d
 named_as ls d p h =

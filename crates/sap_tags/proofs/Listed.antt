@@ -1,72 +1,25 @@
--- Lists of commands and of states, and what they are seen as.
+-- Lists of commands and of states, and how many wires they have.
 use Rattle.std.proofs.Common.{◌≡◌, ℕ, zero, suc, ◌+◌, ◌<◌, ◌≤◌, List, [], ◌∷◌, length, get_or, drop, refl, sym, ap, ap₂, ◌∙◌, arith, add-one}
 use Rattle.std.specs.declared.vec.Vec.{Vec}
 use Rattle.std.specs.declared.alloc.Global.{Global}
 use Rattle.sap_program.specs.declared.program.Number.{Number}
 use Rattle.sap_program.specs.declared.program.Step.{Step}
-use Rattle.sap_program.specs.declared.program.Command.{Command, Row_of-Command, end_of-Command, more_of-Command, items-the_row-Command, items_hidden-the_row-Command-0}
-use Rattle.sap_program.specs.declared.program.Command.TheBlock.{hidden-the_row-Command-0}
+use Rattle.sap_program.specs.declared.program.Command.{Command, Row_of-Command, end_of-Command, more_of-Command}
 use Rattle.sap_program.specs.declared.program.Command.TheVariants as command
 use Rattle.sap_program.specs.declared.program.Command.TheViews as shown
-use Rattle.sap_program.specs.declared.program.State.{State, State', Row_of-State, end_of-State, more_of-State, items-the_row-State, items_shown-the_row-State-0, out-State}
-use Rattle.sap_program.specs.declared.program.State.TheBlock.{shown-the_row-State-0}
-use denote.Hole.Carrier.{out}
-use Rattle.sap_meaning.specs.Program.{End, Then, Group, None, More}
-use Rattle.sap_meaning.specs.Program as program
-use Rattle.sap_program.specs.Hangs.{flags}
-use Rattle.sap_program.specs.Views.{term_of, step_of, command_of, row_block, block_of, state_of, row_group, group_of}
-use Rattle.sap_tags.specs.Commands.{wires, wires_block}
-use Rattle.sap_tags.specs.States.{wires_state, wires_group}
+use Rattle.sap_program.specs.declared.program.State.{State, State', Row_of-State, end_of-State, more_of-State, out-State}
+use Rattle.sap_program.specs.Views.{command_of, row_block, block_of, state_of, row_group, group_of}
+use Rattle.sap_program.proofs.Shown.{command_of-do, command_of-try, command_of-if, block_of-none, state_of-out, group_of-none}
+use Rattle.sap_meaning.specs.Program.{Then, More}
+use Rattle.sap_tagged.specs.Commands.{wires, wires_block}
+use Rattle.sap_tagged.specs.States.{wires_state, wires_group}
 use Rattle.sap_tags.specs.Built.{command_wires, commands_wires, state_wires, states_wires}
 
--- commands
-
-row_block-items : (n : ℕ) {k : _} (row : Row_of-Command k) → row_block n row ≡ block_of n (items-the_row-Command k row)
-unfolding row_block block_of
-row_block-items n end_of-Command = refl
-row_block-items n (more_of-Command c rest) = ap (Then (command_of n c)) (row_block-items n rest)
-
-row_block-vec : (n : ℕ) (v : Vec Command Global) → row_block n (hidden-the_row-Command-0 v) ≡ block_of n v.items
-row_block-vec n v = row_block-items n (hidden-the_row-Command-0 v) ∙ ap (block_of n) (items_hidden-the_row-Command-0 v)
-
-pub command_of-do : (n : ℕ) (s : Step) → command_of n (command.Do s) ≡ program.Do (step_of n s)
-unfolding command_of
-command_of-do n s = refl
-
-pub command_of-try : (n : ℕ) (s : Step) (hang : List ℕ) (cs : Vec Command Global) → command_of n (shown.Try s hang cs) ≡ program.Try (step_of n s) (flags n hang) (block_of n cs.items)
-unfolding command_of
-command_of-try n s hang cs = ap (program.Try (step_of n s) (flags n hang)) (row_block-vec n cs)
-
-pub command_of-if : (n : ℕ) (hang : List ℕ) (e : Number) (ys ns : Vec Command Global)
-    → command_of n (shown.If hang e ys ns) ≡ program.If (flags n hang) (term_of e) (block_of n ys.items) (block_of n ns.items)
-unfolding command_of
-command_of-if n hang e ys ns =
-    ap (λ u. program.If (flags n hang) (term_of e) u (row_block n (hidden-the_row-Command-0 ns))) (row_block-vec n ys)
-    ∙ ap (λ u. program.If (flags n hang) (term_of e) (block_of n ys.items) u) (row_block-vec n ns)
-
-pub block_of-none : (n : ℕ) → block_of n [] ≡ End
-unfolding block_of
-block_of-none n = refl
+-- one in front
 
 pub block_of-more : (n : ℕ) (c : Command) (cs : List Command) → block_of n (c ∷ cs) ≡ Then (command_of n c) (block_of n cs)
 unfolding block_of
 block_of-more n c cs = refl
-
--- states
-
-row_group-items : (n : ℕ) {k : _} (row : Row_of-State k) → row_group n row ≡ group_of n (items-the_row-State k row)
-unfolding row_group group_of
-row_group-items n end_of-State = refl
-row_group-items n (more_of-State s rest) = ap (More (state_of n s)) (row_group-items n rest)
-
-pub state_of-out : (n : ℕ) (s : State) → state_of n s ≡ program.Node (out-State s).number (block_of n (out-State s).body.items) (group_of n (out-State s).children.items)
-unfolding state_of out-State shown-the_row-State-0 out
-state_of-out n (State' x body shape row) =
-    ap (λ (g : Group). program.Node x (block_of n body.items) g) (row_group-items n row ∙ ap (group_of n) (sym (items_shown-the_row-State-0 shape row)))
-
-pub group_of-none : (n : ℕ) → group_of n [] ≡ None
-unfolding group_of
-group_of-none n = refl
 
 pub group_of-more : (n : ℕ) (s : State) (ss : List State) → group_of n (s ∷ ss) ≡ More (state_of n s) (group_of n ss)
 unfolding group_of

@@ -11,10 +11,10 @@ use Rattle.sap_meaning.specs.Program.{Program, Kind, Entity, children, width, is
 use Rattle.sap_meaning.specs.Sized.{depth}
 use Rattle.sap_program.specs.Views.{entity_of}
 use Rattle.sap_sized.specs.Ranges.{IsWidth, RangedProgram}
-use Rattle.sap_tags.specs.declared.setting.Setting.{Setting}
-use Rattle.sap_tags.specs.Code.{named_in, tag_width, world_in, entities_in}
-use Rattle.sap_tags.specs.Keys.{First, Inner, key_name}
-use Rattle.sap_tags.specs.Plain.{variable, value_var, tag_var, seat_var, level_at_start, seat_registers, memory_of, tags_of, for_entities, all_entities}
+use Rattle.sap_terms.specs.declared.setting.Setting.{Setting}
+use Rattle.sap_terms.specs.Code.{named_in, tag_width, world_in, entities_in}
+use Rattle.sap_tagged.specs.Keys.{First, Inner, key_name}
+use Rattle.sap_tagged.specs.Plain.{variable, value_var, tag_var, seat_var, level_at_start, seat_registers, memory_of, tags_of, for_entities, all_entities}
 
 append_none : {A : Type 0} (l : List A) → l ++ [] ≡ l
 append_none [] = refl

@@ -13,15 +13,16 @@ use Rattle.sap_program.specs.declared.program.Command.{Command}
 use Rattle.sap_program.specs.Views.{block_of, state_of, group_of}
 use Rattle.sap_sized.specs.Ranges.{RangedBlock, RangedState, RangedGroup}
 use Rattle.sap_tags.specs.Built.{CommandsRanged, StateRanged, StatesRanged, commands_body, commands_wires, state_forest, state_wires, states_forest, states_wires, top_forest, tops_forest}
-use Rattle.sap_tags.specs.Code.{named_in, entities_in, setting_in, spot_in, world_in}
-use Rattle.sap_tags.specs.Keys.{First, Tag, Wire, Inner, entity_word}
-use Rattle.sap_tags.specs.Levels.{var}
-use Rattle.sap_tags.specs.Commands.{gives, raises, block_plain, wires_block}
-use Rattle.sap_tags.specs.Setting as pass
-use Rattle.sap_tags.specs.States.{wires_state, saves, saved, group_plain, top_plain}
-use Rattle.sap_tags.specs.declared.setting.Setting.{Setting}
-use Rattle.sap_tags.specs.declared.setting.Spot.{Spot}
-use Rattle.sap_tags.proofs.Listed.{state_of-out, group_of-more, wires_block_are, wires_state_are, state_wires_are, states_drop}
+use Rattle.sap_terms.specs.Code.{named_in, entities_in, setting_in, spot_in, world_in}
+use Rattle.sap_tagged.specs.Keys.{First, Tag, Wire, Inner, entity_word}
+use Rattle.sap_tagged.specs.Levels.{var}
+use Rattle.sap_tagged.specs.Commands.{gives, raises, block_plain, wires_block}
+use Rattle.sap_tagged.specs.Setting as pass
+use Rattle.sap_tagged.specs.States.{wires_state, saves, saved, group_plain, top_plain}
+use Rattle.sap_terms.specs.declared.setting.Setting.{Setting}
+use Rattle.sap_terms.specs.declared.setting.Spot.{Spot}
+use Rattle.sap_program.proofs.Shown.{state_of-out}
+use Rattle.sap_tags.proofs.Listed.{group_of-more, wires_block_are, wires_state_are, state_wires_are, states_drop}
 use Rattle.sap_tags.proofs.Raised.{raises_follow, entities_count}
 use Rattle.sap_tags.proofs.Pushed.{for_each_follow}
 

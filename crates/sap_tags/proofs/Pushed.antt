@@ -5,10 +5,10 @@ use Rattle.sap_plain.specs.Views.{follow}
 use Rattle.sap_plain.proofs.Views.{follow-end, follow-more}
 use Rattle.sap_maps.specs.Maps.{Name}
 use Rattle.sap_maps.specs.Term.{Term}
-use Rattle.sap_tags.specs.Keys.{Key, Tag, Wire}
-use Rattle.sap_tags.specs.Setting.{Setting}
-use Rattle.sap_tags.specs.Levels.{var, bits}
-use Rattle.sap_tags.specs.Commands.{gives, for_each, resets, effect_of}
+use Rattle.sap_tagged.specs.Keys.{Key, Tag, Wire}
+use Rattle.sap_tagged.specs.Setting.{Setting}
+use Rattle.sap_tagged.specs.Levels.{var, bits}
+use Rattle.sap_tagged.specs.Commands.{gives, for_each, resets, effect_of}
 use Rattle.sap_tags.proofs.Raised.{sweep_follow}
 use Rattle.sap_meaning.specs.Program.{root, is_dynamic}
 use Rattle.sap_meaning.specs.Checks.{Spot}

@@ -17,11 +17,11 @@ use Rattle.sap_program.specs.declared.program.Step.{Step}
 use Rattle.sap_program.specs.declared.program.Step.TheVariants as step
 use Rattle.sap_program.specs.Views.{entity_of, step_of}
 use Rattle.sap_program.specs.declared.program.Entity.{Entity}
-use Rattle.sap_tags.proofs.Bools.{flipped}
-use Rattle.sap_tags.specs.Keys.{Key, Tag, Wire}
-use Rattle.sap_tags.specs.Setting.{Setting}
-use Rattle.sap_tags.specs.Levels.{var, lub}
-use Rattle.sap_tags.specs.Commands.{gives, sweep, raises}
+use Rattle.sap_tagged.proofs.Bools.{flipped}
+use Rattle.sap_tagged.specs.Keys.{Key, Tag, Wire}
+use Rattle.sap_tagged.specs.Setting.{Setting}
+use Rattle.sap_tagged.specs.Levels.{var, lub}
+use Rattle.sap_tagged.specs.Commands.{gives, sweep, raises}
 
 -- tables
 

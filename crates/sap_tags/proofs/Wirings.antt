@@ -12,10 +12,10 @@ use Rattle.sap_program.specs.declared.program.Command.TheViews as shown
 use Rattle.sap_program.specs.declared.program.State.{State, out-State}
 use Rattle.sap_program.specs.Views.{command_of, block_of, state_of, group_of}
 use Rattle.sap_interface.specs.StandsFor.{Named}
-use Rattle.sap_tags.specs.Commands.{wires, wires_block}
-use Rattle.sap_tags.specs.States.{wires_state, wires_group}
-use Rattle.sap_tags.specs.Plain.{site_wires, command_wires, block_wires, state_wires, group_wires}
-use Rattle.sap_tags.proofs.Walked.{command_of-do, command_of-try, command_of-if, state_of-out}
+use Rattle.sap_tagged.specs.Commands.{wires, wires_block}
+use Rattle.sap_tagged.specs.States.{wires_state, wires_group}
+use Rattle.sap_tagged.specs.Plain.{site_wires, command_wires, block_wires, state_wires, group_wires}
+use Rattle.sap_program.proofs.Shown.{command_of-do, command_of-try, command_of-if, state_of-out}
 
 pub append_none : (l : List Var) → l ++ [] ≡ l
 append_none [] = refl

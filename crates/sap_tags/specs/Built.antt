@@ -9,14 +9,14 @@ use Rattle.sap_program.specs.declared.program.State.{State}
 use Rattle.sap_program.specs.Hangs.{flags}
 use Rattle.sap_program.specs.Views.{command_of, block_of, state_of, group_of}
 use Rattle.sap_meaning.specs.Program as program
-use Rattle.sap_tags.specs.Keys.{Wire}
-use Rattle.sap_tags.specs.Setting as pass
-use Rattle.sap_tags.specs.Levels.{var, always}
-use Rattle.sap_tags.specs.Commands.{effect_of, wires, wires_block, command_plain, block_plain}
-use Rattle.sap_tags.specs.States.{wires_state, wires_group, group_plain, top_plain}
-use Rattle.sap_tags.specs.Code.{setting_in, world_in, entities_in, spot_in}
-use Rattle.sap_tags.specs.declared.setting.Setting.{Setting}
-use Rattle.sap_tags.specs.declared.setting.Spot.{Spot}
+use Rattle.sap_tagged.specs.Keys.{Wire}
+use Rattle.sap_tagged.specs.Setting as pass
+use Rattle.sap_tagged.specs.Levels.{var, always}
+use Rattle.sap_tagged.specs.Commands.{effect_of, wires, wires_block, command_plain, block_plain}
+use Rattle.sap_tagged.specs.States.{wires_state, wires_group, group_plain, top_plain}
+use Rattle.sap_terms.specs.Code.{setting_in, world_in, entities_in, spot_in}
+use Rattle.sap_terms.specs.declared.setting.Setting.{Setting}
+use Rattle.sap_terms.specs.declared.setting.Spot.{Spot}
 
 -- how many wires they have
 

@@ -1,10 +1,1 @@
-pub mod Keys
-pub mod Setting
-pub mod Levels
-pub mod Commands
-pub mod States
-pub mod Stands
-pub mod Plain
-pub mod Law
-pub mod Code
 pub mod Built

@@ -7,22 +7,22 @@ ghost use Rattle.sap_plain.specs.Nested.{cases, stop};
 ghost use Rattle.sap_plain.specs.Views.{body_of, follow};
 ghost use Rattle.sap_program.specs.Views as views;
 ghost use Rattle.sap_sized.specs.Ranges.{RangedStep, RangedTerm};
+ghost use Rattle.sap_tagged.specs.Commands as spec;
+ghost use Rattle.sap_tagged.specs.Keys.{Wire};
+ghost use Rattle.sap_tagged.specs.Levels as levels;
 ghost use Rattle.sap_tags.specs.Built.{CommandRanged, CommandsRanged, command_body, command_wires, commands_body, commands_wires, decided};
-ghost use Rattle.sap_tags.specs.Code.{entities_in, setting_in, spot_in, world_in};
-ghost use Rattle.sap_tags.specs.Commands as spec;
-ghost use Rattle.sap_tags.specs.Keys.{Wire};
-ghost use Rattle.sap_tags.specs.Levels as levels;
+ghost use Rattle.sap_terms.specs.Code.{entities_in, setting_in, spot_in, world_in};
 
-use crate::calcs::{expr, lub, tag_of, yes};
-use crate::names::{level_name, refused_name};
 use crate::outcomes::effect;
 use crate::pushes::{push, set_wire, wire_variable};
 use crate::raises::{raise_all, raise_alone};
-use crate::setting::{Setting, Spot};
-use crate::steps::{always, guard_of, stays, test_of, written};
 use sap_ir::guarded::{Act, Calc};
 use sap_plain::nested::PlainCmd;
 use sap_program::program::{Command, Number, Step};
+use sap_terms::calcs::{expr, lub, tag_of, yes};
+use sap_terms::names::{level_name, refused_name};
+use sap_terms::setting::{Setting, Spot};
+use sap_terms::steps::{always, guard_of, stays, test_of, written};
 use std::alloc::{AllocError, Global};
 
 /// A context inside another, which is in the wire `p`.

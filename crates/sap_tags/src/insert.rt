@@ -8,14 +8,12 @@ ghost use Rattle.sap_plain.specs.Writes.{PlainWritesOnce};
 ghost use Rattle.sap_program.specs.Design.{IsProgramOf};
 ghost use Rattle.sap_program.specs.Views.{group_of};
 ghost use Rattle.sap_sized.specs.Ranges.{RangedProgram};
-ghost use Rattle.sap_tags.specs.Code.{entities_in, named_in, tag_width};
-ghost use Rattle.sap_tags.specs.Law.{IsSound, PlainStandsForDesign};
-ghost use Rattle.sap_tags.specs.Plain.{names_of, plain_of};
-ghost use Rattle.sap_tags.specs.States.{wires_group};
+ghost use Rattle.sap_tagged.specs.Law.{IsSound, PlainStandsForDesign};
+ghost use Rattle.sap_tagged.specs.Plain.{names_of, plain_of};
+ghost use Rattle.sap_tagged.specs.States.{wires_group};
+ghost use Rattle.sap_terms.specs.Code.{entities_in, named_in, tag_width};
 
-use crate::laws::plain_stands;
 use crate::memories::add_memories;
-use crate::setting::Setting;
 use crate::states::top_states;
 use crate::variables::{add_inputs, add_seat_registers, add_shown_registers, add_tag_registers};
 use crate::wires::{add_first_wires, add_inner_wires, add_site_wires, add_state_wires};
@@ -26,6 +24,8 @@ use sap_plain::nested::PlainParts;
 use sap_plain::program::Plain;
 use sap_program::program::Program;
 use sap_sized::widths_in_range;
+use sap_tagged::plain_stands;
+use sap_terms::setting::Setting;
 use sap_tree::whole::design_is_whole;
 use std::alloc::{AllocError, Global};
 

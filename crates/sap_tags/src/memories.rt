@@ -3,14 +3,14 @@
 ghost use Rattle.std.specs.Prelude.{◌≡◌, ◌++◌, ◌∷◌, OnOk, true};
 ghost use Rattle.sap_meaning.specs.Program as program;
 ghost use Rattle.sap_sized.specs.Ranges.{RangedProgram};
-ghost use Rattle.sap_tags.specs.Code.{named_in, tag_width, world_in};
-ghost use Rattle.sap_tags.specs.Plain.{memories_of, memory_of, tags_of};
+ghost use Rattle.sap_tagged.specs.Plain.{memories_of, memory_of, tags_of};
+ghost use Rattle.sap_terms.specs.Code.{named_in, tag_width, world_in};
 
-use crate::calcs::{entity_width, is_dynamic, is_memory};
-use crate::entities::{depth, first_code};
-use crate::names::{tag_name, value_name};
-use crate::setting::Setting;
 use sap_ir::guarded::Store;
+use sap_terms::calcs::{entity_width, is_dynamic, is_memory};
+use sap_terms::entities::{depth, first_code};
+use sap_terms::names::{tag_name, value_name};
+use sap_terms::setting::Setting;
 use std::alloc::{AllocError, Global};
 
 /// A memory, and behind it that of its cells' tags where it is enforced.

@@ -8,21 +8,21 @@ ghost use Rattle.sap_plain.specs.Nested.{goto, stop};
 ghost use Rattle.sap_plain.specs.Views.{body_of, follow};
 ghost use Rattle.sap_program.specs.Views as views;
 ghost use Rattle.sap_sized.specs.Ranges.{RangedStep, RangedTerm};
-ghost use Rattle.sap_tags.specs.Code.{entities_in, setting_in, spot_in, world_in};
-ghost use Rattle.sap_tags.specs.Commands as spec;
-ghost use Rattle.sap_tags.specs.Keys.{Tag, Value, Wire};
-ghost use Rattle.sap_tags.specs.Levels as levels;
+ghost use Rattle.sap_tagged.specs.Commands as spec;
+ghost use Rattle.sap_tagged.specs.Keys.{Tag, Value, Wire};
+ghost use Rattle.sap_tagged.specs.Levels as levels;
+ghost use Rattle.sap_terms.specs.Code.{entities_in, setting_in, spot_in, world_in};
 
-use crate::calcs::{entity_width, expr, is_dynamic, is_register, lub, tag_variable};
-use crate::names::{state_name, value_name};
 use crate::pushes::{
     put_tag, put_value, set_inner, set_tag, set_value, value_variable, wire_variable,
 };
 use crate::raises::reset_below;
-use crate::setting::{Setting, Spot};
 use sap_ir::guarded::Calc;
 use sap_plain::nested::PlainCmd;
 use sap_program::program::{Number, Step};
+use sap_terms::calcs::{entity_width, expr, is_dynamic, is_register, lub, tag_variable};
+use sap_terms::names::{state_name, value_name};
+use sap_terms::setting::{Setting, Spot};
 use std::alloc::{AllocError, Global};
 
 /// A 0 of an entity's width.

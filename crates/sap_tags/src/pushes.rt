@@ -4,15 +4,15 @@ ghost use Rattle.std.specs.Prelude.{◌≡◌, IfOk, OnOk};
 ghost use Rattle.sap_ir.specs.Calcs.{action_of, term_of};
 ghost use Rattle.sap_plain.specs.Nested.{act, stop};
 ghost use Rattle.sap_plain.specs.Views.{body_of, follow};
-ghost use Rattle.sap_tags.specs.Code.{setting_in};
-ghost use Rattle.sap_tags.specs.Commands.{gives, stores};
-ghost use Rattle.sap_tags.specs.Keys.{Inner, Tag, Value, Wire};
-ghost use Rattle.sap_tags.specs.Levels.{var};
+ghost use Rattle.sap_tagged.specs.Commands.{gives, stores};
+ghost use Rattle.sap_tagged.specs.Keys.{Inner, Tag, Value, Wire};
+ghost use Rattle.sap_tagged.specs.Levels.{var};
+ghost use Rattle.sap_terms.specs.Code.{setting_in};
 
-use crate::names::{inner_name, tag_name, value_name, wire_name};
-use crate::setting::Setting;
 use sap_ir::guarded::{Act, Calc};
 use sap_plain::nested::PlainCmd;
+use sap_terms::names::{inner_name, tag_name, value_name, wire_name};
+use sap_terms::setting::Setting;
 use std::alloc::{AllocError, Global};
 
 /// One assignment or write more.

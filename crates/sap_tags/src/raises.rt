@@ -7,19 +7,19 @@ ghost use Rattle.sap_plain.specs.Nested.{stop};
 ghost use Rattle.sap_plain.specs.Views.{body_of, follow};
 ghost use Rattle.sap_program.specs.Hangs.{flags, rises};
 ghost use Rattle.sap_program.specs.Views as views;
-ghost use Rattle.sap_tags.specs.Code.{entities_in, setting_in, spot_in, world_in};
-ghost use Rattle.sap_tags.specs.Commands as spec;
-ghost use Rattle.sap_tags.specs.Keys.{First, Tag, Wire};
-ghost use Rattle.sap_tags.specs.Levels as levels;
-ghost use Rattle.sap_tags.specs.States as states;
+ghost use Rattle.sap_tagged.specs.Commands as spec;
+ghost use Rattle.sap_tagged.specs.Keys.{First, Tag, Wire};
+ghost use Rattle.sap_tagged.specs.Levels as levels;
+ghost use Rattle.sap_tagged.specs.States as states;
+ghost use Rattle.sap_terms.specs.Code.{entities_in, setting_in, spot_in, world_in};
 
-use crate::calcs::{bits, is_dynamic, is_memory, is_state, lub, tag_variable};
-use crate::names::first_name;
 use crate::pushes::{push, set_tag, wire_variable};
-use crate::setting::{Setting, Spot};
 use sap_ir::guarded::Act;
 use sap_plain::nested::PlainCmd;
 use sap_program::program::{Sort, Step};
+use sap_terms::calcs::{bits, is_dynamic, is_memory, is_state, lub, tag_variable};
+use sap_terms::names::first_name;
+use sap_terms::setting::{Setting, Spot};
 use std::alloc::{AllocError, Global};
 
 /// The tag of an entity becomes its join with the level in a wire.

@@ -7,18 +7,18 @@ ghost use Rattle.sap_plain.specs.Views.{forest_of, state_before};
 ghost use Rattle.sap_program.specs.Hangs.{flags};
 ghost use Rattle.sap_program.specs.Views as views;
 ghost use Rattle.sap_sized.specs.Ranges.{RangedGroup};
+ghost use Rattle.sap_tagged.specs.States.{top_plain, wires_group};
 ghost use Rattle.sap_tags.specs.Built.{StateRanged, StatesRanged, state_forest, state_wires, states_forest, states_wires, top_forest};
-ghost use Rattle.sap_tags.specs.Code.{entities_in, setting_in, world_in};
-ghost use Rattle.sap_tags.specs.States.{top_plain, wires_group};
+ghost use Rattle.sap_terms.specs.Code.{entities_in, setting_in, world_in};
 
-use crate::calcs::tag_variable;
 use crate::commands::commands;
-use crate::names::state_name;
 use crate::pushes::{inner_variable, set_wire};
 use crate::raises::{raise_all, save_all};
-use crate::setting::{Setting, Spot};
 use sap_plain::nested::PlainState;
 use sap_program::program::State;
+use sap_terms::calcs::tag_variable;
+use sap_terms::names::state_name;
+use sap_terms::setting::{Setting, Spot};
 use std::alloc::{AllocError, Global};
 
 /// A state of a group; the wires from `next` on are its own, those of its body and those of all below it.

@@ -2,18 +2,18 @@
 
 ghost use Rattle.std.specs.Prelude.{◌≡◌, ◌+◌, ◌<◌, ◌^◌, ◌++◌, ◌∷◌, [], IfOk, OnOk};
 ghost use Rattle.sap_program.specs.Views.{block_of, command_of, group_of, state_of};
-ghost use Rattle.sap_tags.specs.Code.{entities_in, named_in, tag_width};
-ghost use Rattle.sap_tags.specs.Commands as commands;
-ghost use Rattle.sap_tags.specs.Keys as keys;
-ghost use Rattle.sap_tags.specs.Plain as plain;
-ghost use Rattle.sap_tags.specs.States as states;
+ghost use Rattle.sap_tagged.specs.Commands as commands;
+ghost use Rattle.sap_tagged.specs.Keys as keys;
+ghost use Rattle.sap_tagged.specs.Plain as plain;
+ghost use Rattle.sap_tagged.specs.States as states;
+ghost use Rattle.sap_terms.specs.Code.{entities_in, named_in, tag_width};
 
-use crate::calcs::child_count;
-use crate::entities::is_saved;
-use crate::names::{first_name, inner_name, level_name, refused_name, wire_name};
-use crate::setting::Setting;
 use sap_ir::guarded::Var;
 use sap_program::program::{Command, State};
+use sap_terms::calcs::child_count;
+use sap_terms::entities::is_saved;
+use sap_terms::names::{first_name, inner_name, level_name, refused_name, wire_name};
+use sap_terms::setting::Setting;
 use std::alloc::{AllocError, Global};
 
 /// Whether a site is refused, and at which level.

@@ -2,7 +2,7 @@ use Rattle.std.proofs.Common.{sym, ◌∙◌, subst}
 use Rattle.sap_check.specs.Checked.{levels_in, tree_in}
 use Rattle.sap_plain.specs.IsPlain.{IsPlain}
 use Rattle.sap_plain.specs.Writes.{PlainWritesOnce}
-use Rattle.sap_tags.specs.Law.{PlainStandsForDesign}
+use Rattle.sap_tagged.specs.Law.{PlainStandsForDesign}
 use Rattle.sap_tags.proofs.Found.{few_found, narrow_found, plain_found, ranged_found}
 use Rattle.sap_tags.proofs.insert.insert.Goals as goal
 

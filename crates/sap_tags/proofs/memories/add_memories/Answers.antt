@@ -1,6 +1,6 @@
 use Rattle.std.proofs.Common.{sym, ap, ◌∙◌, arith}
 use Rattle.sap_meaning.specs.Program as program
-use Rattle.sap_tags.specs.Code.{world_in}
+use Rattle.sap_terms.specs.Code.{world_in}
 use Rattle.sap_tags.proofs.OfEntities.{of_memory, picked, passed}
 use Rattle.sap_tags.proofs.memories.add_memories.Goals as goal
 use Rattle.sap_tags.proofs.memories.add_memories.Goals.{then-is_memory+in_ok-add_memory, else-is_memory}

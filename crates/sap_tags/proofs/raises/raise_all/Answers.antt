@@ -1,8 +1,8 @@
 use Rattle.std.proofs.Common.{◌∙◌, ap, sym, arith}
 use Rattle.sap_plain.specs.Views.{body_of, follow}
 use Rattle.sap_plain.proofs.Views.{follow-end}
-use Rattle.sap_tags.specs.Code.{entities_in, setting_in}
-use Rattle.sap_tags.specs.Keys.{Tag}
+use Rattle.sap_terms.specs.Code.{entities_in, setting_in}
+use Rattle.sap_tagged.specs.Keys.{Tag}
 use Rattle.sap_tags.proofs.Raised.{raised, walk_step, walk_rest, raises_listed, entities_count}
 use Rattle.sap_tags.proofs.raises.raise_all.Goals as goal
 

@@ -1,10 +1,10 @@
 use Rattle.std.proofs.Common.{◌≡◌, ◌-◌}
 use Rattle.sap_plain.specs.Nested.{stop}
 use Rattle.sap_plain.specs.Views.{body_of, follow}
-use Rattle.sap_tags.specs.Code.{entities_in, setting_in, world_in}
-use Rattle.sap_tags.specs.Commands.{sweep, for_each, resets}
-use Rattle.sap_tags.specs.Keys.{Tag}
-use Rattle.sap_tags.specs.Levels.{bits}
+use Rattle.sap_terms.specs.Code.{entities_in, setting_in, world_in}
+use Rattle.sap_tagged.specs.Commands.{sweep, for_each, resets}
+use Rattle.sap_tagged.specs.Keys.{Tag}
+use Rattle.sap_tagged.specs.Levels.{bits}
 use Rattle.sap_tags.proofs.raises.reset_below.Given as goal
 
 abbrev pub invariant-loop-x : goal.invariant-loop-x

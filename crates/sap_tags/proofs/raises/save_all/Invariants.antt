@@ -1,11 +1,11 @@
 use Rattle.std.proofs.Common.{◌≡◌, ◌-◌}
 use Rattle.sap_plain.specs.Nested.{stop}
 use Rattle.sap_plain.specs.Views.{body_of, follow}
-use Rattle.sap_tags.specs.Code.{entities_in, setting_in, world_in}
-use Rattle.sap_tags.specs.Commands.{sweep}
-use Rattle.sap_tags.specs.Keys.{First, Tag}
-use Rattle.sap_tags.specs.Levels.{var}
-use Rattle.sap_tags.specs.States.{saved, saves}
+use Rattle.sap_terms.specs.Code.{entities_in, setting_in, world_in}
+use Rattle.sap_tagged.specs.Commands.{sweep}
+use Rattle.sap_tagged.specs.Keys.{First, Tag}
+use Rattle.sap_tagged.specs.Levels.{var}
+use Rattle.sap_tagged.specs.States.{saved, saves}
 use Rattle.sap_tags.proofs.raises.save_all.Given as goal
 
 abbrev pub invariant-loop-x : goal.invariant-loop-x

@@ -3,9 +3,9 @@ use Rattle.sap_plain.specs.Nested.{stop}
 use Rattle.sap_plain.specs.Views.{body_of, forest_of}
 use Rattle.sap_program.specs.declared.program.State.{out-State}
 use Rattle.sap_tags.specs.Built.{StateRanged, state_wires}
-use Rattle.sap_tags.specs.Code.{setting_in}
-use Rattle.sap_tags.specs.Commands.{gives}
-use Rattle.sap_tags.specs.Keys.{Wire}
+use Rattle.sap_terms.specs.Code.{setting_in}
+use Rattle.sap_tagged.specs.Commands.{gives}
+use Rattle.sap_tagged.specs.Keys.{Wire}
 use Rattle.sap_tags.proofs.Commanded.{fresh}
 use Rattle.sap_tags.proofs.Listed.{states_in, states_drop, states_past}
 use Rattle.sap_tags.proofs.Planted.{ranged_body, ranged_children, ranged_one, state_made, states_step, states_rest, planted_none, states_wires_step, room}

@@ -2,9 +2,9 @@ use Rattle.std.proofs.Common.{◌∙◌, refl, ap, arith}
 use Rattle.sap_plain.specs.Nested.{stop}
 use Rattle.sap_plain.specs.Views.{body_of, follow}
 use Rattle.sap_program.specs.declared.program.State.{out-State}
-use Rattle.sap_tags.specs.Code.{setting_in}
-use Rattle.sap_tags.specs.Commands.{gives}
-use Rattle.sap_tags.specs.Keys.{Wire}
+use Rattle.sap_terms.specs.Code.{setting_in}
+use Rattle.sap_tagged.specs.Commands.{gives}
+use Rattle.sap_tagged.specs.Keys.{Wire}
 use Rattle.sap_tags.proofs.Commanded.{fresh}
 use Rattle.sap_tags.proofs.Planted.{ranged_body, ranged_children, top_made, room}
 use Rattle.sap_tags.proofs.states.top_state.Goals as goal

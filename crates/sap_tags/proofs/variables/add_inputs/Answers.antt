@@ -1,6 +1,6 @@
 use Rattle.std.proofs.Common.{sym, ap, ◌∙◌, arith}
 use Rattle.sap_meaning.specs.Program as program
-use Rattle.sap_tags.specs.Code.{world_in}
+use Rattle.sap_terms.specs.Code.{world_in}
 use Rattle.sap_tags.proofs.OfEntities.{of_input, picked, passed, two_more}
 use Rattle.sap_tags.proofs.variables.add_inputs.Goals as goal
 use Rattle.sap_tags.proofs.variables.add_inputs.Goals.{then-is_input+in_ok-add_value+in_ok-add_tag, else-is_input}

@@ -1,6 +1,6 @@
 use Rattle.std.proofs.Common.{◌≡◌, ◌++◌}
 use Rattle.sap_meaning.specs.Program as program
-use Rattle.sap_tags.specs.Code.{world_in}
+use Rattle.sap_terms.specs.Code.{world_in}
 use Rattle.sap_tags.proofs.OfEntities.{of_first, of_input}
 use Rattle.sap_tags.proofs.variables.add_inputs.Given as goal
 

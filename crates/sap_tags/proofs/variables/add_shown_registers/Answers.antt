@@ -1,7 +1,7 @@
 use Rattle.std.proofs.Common.{◌++◌, [], ◌∷◌, sym, ap, ◌∙◌, arith}
 use Rattle.sap_meaning.specs.Program as program
-use Rattle.sap_tags.specs.Code.{named_in, tag_width, world_in}
-use Rattle.sap_tags.specs.Plain.{tag_var, value_var}
+use Rattle.sap_terms.specs.Code.{named_in, tag_width, world_in}
+use Rattle.sap_tagged.specs.Plain.{tag_var, value_var}
 use Rattle.sap_tags.proofs.OfEntities.{of_register, picked, passed, two_more}
 use Rattle.sap_tags.proofs.variables.add_shown_registers.Goals as goal
 use Rattle.sap_tags.proofs.variables.add_shown_registers.Goals.{then-is_register+in_ok-add_value+in_ok-add_tag, else-is_register}

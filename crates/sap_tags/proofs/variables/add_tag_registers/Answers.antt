@@ -1,6 +1,6 @@
 use Rattle.std.proofs.Common.{◌++◌, [], ◌∷◌, sym, ap, ◌∙◌, arith}
-use Rattle.sap_tags.specs.Plain.{has_own_tag, tag_var}
-use Rattle.sap_tags.specs.Code.{named_in, tag_width}
+use Rattle.sap_tagged.specs.Plain.{has_own_tag, tag_var}
+use Rattle.sap_terms.specs.Code.{named_in, tag_width}
 use Rattle.sap_tags.proofs.OfEntities.{of_tagged, picked, passed}
 use Rattle.sap_tags.proofs.variables.add_tag_registers.Goals as goal
 use Rattle.sap_tags.proofs.variables.add_tag_registers.Goals.{then-has_tag+in_ok-add_tag, else-has_tag}

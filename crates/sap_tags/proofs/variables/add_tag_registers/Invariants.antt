@@ -1,6 +1,6 @@
 use Rattle.std.proofs.Common.{◌≡◌, ◌++◌}
-use Rattle.sap_tags.specs.Plain.{has_own_tag}
-use Rattle.sap_tags.specs.Code.{named_in}
+use Rattle.sap_tagged.specs.Plain.{has_own_tag}
+use Rattle.sap_terms.specs.Code.{named_in}
 use Rattle.sap_tags.proofs.OfEntities.{of_first, of_tagged}
 use Rattle.sap_tags.proofs.variables.add_tag_registers.Given as goal
 

@@ -1,7 +1,7 @@
 use Rattle.std.proofs.Common.{ap, arith}
 use Rattle.sap_program.specs.Views.{block_of}
-use Rattle.sap_tags.specs.Code.{entities_in, named_in, tag_width}
-use Rattle.sap_tags.specs.Commands.{wires_block}
+use Rattle.sap_terms.specs.Code.{entities_in, named_in, tag_width}
+use Rattle.sap_tagged.specs.Commands.{wires_block}
 use Rattle.sap_tags.proofs.Wirings.{block_end, block_in, block_last, block_next, block_room, block_step, if_count, try_count}
 use Rattle.sap_tags.proofs.wires.+body.Goals as goal
 

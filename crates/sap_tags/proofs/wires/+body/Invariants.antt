@@ -1,8 +1,8 @@
 use Rattle.std.proofs.Common.{◌≡◌, ◌+◌, ◌*◌, ◌++◌, drop}
 use Rattle.sap_program.specs.Views.{block_of, command_of}
-use Rattle.sap_tags.specs.Code.{entities_in, named_in, tag_width}
-use Rattle.sap_tags.specs.Commands.{wires, wires_block}
-use Rattle.sap_tags.specs.Plain.{block_wires}
+use Rattle.sap_terms.specs.Code.{entities_in, named_in, tag_width}
+use Rattle.sap_tagged.specs.Commands.{wires, wires_block}
+use Rattle.sap_tagged.specs.Plain.{block_wires}
 use Rattle.sap_tags.proofs.wires.+body.Given as goal
 
 -- with those of what is left

@@ -1,8 +1,8 @@
 use Rattle.std.proofs.Common.{ap, arith}
 use Rattle.sap_program.specs.Views.{block_of, group_of}
-use Rattle.sap_tags.specs.Code.{entities_in, named_in, tag_width}
-use Rattle.sap_tags.specs.Commands.{wires_block}
-use Rattle.sap_tags.specs.States.{wires_group}
+use Rattle.sap_terms.specs.Code.{entities_in, named_in, tag_width}
+use Rattle.sap_tagged.specs.Commands.{wires_block}
+use Rattle.sap_tagged.specs.States.{wires_group}
 use Rattle.sap_tags.proofs.Wirings.{group_end, group_in, group_last, group_next, group_room, group_step, state_count}
 use Rattle.sap_tags.proofs.wires.+group.Goals as goal
 

@@ -1,6 +1,6 @@
 use Rattle.std.proofs.Common.{sym, ap, ◌∙◌, arith}
-use Rattle.sap_tags.specs.States.{saved}
-use Rattle.sap_tags.specs.Code.{world_in}
+use Rattle.sap_tagged.specs.States.{saved}
+use Rattle.sap_terms.specs.Code.{world_in}
 use Rattle.sap_tags.proofs.OfEntities.{of_saved, picked, passed}
 use Rattle.sap_tags.proofs.wires.add_first_wires.Goals as goal
 use Rattle.sap_tags.proofs.wires.add_first_wires.Goals.{then-is_saved+in_ok-add_first, else-is_saved}

@@ -1,6 +1,6 @@
 use Rattle.std.proofs.Common.{◌≡◌, ◌++◌}
-use Rattle.sap_tags.specs.States.{saved}
-use Rattle.sap_tags.specs.Code.{world_in}
+use Rattle.sap_tagged.specs.States.{saved}
+use Rattle.sap_terms.specs.Code.{world_in}
 use Rattle.sap_tags.proofs.OfEntities.{of_first, of_saved}
 use Rattle.sap_tags.proofs.wires.add_first_wires.Given as goal
 

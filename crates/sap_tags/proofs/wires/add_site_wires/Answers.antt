@@ -1,4 +1,4 @@
-use Rattle.sap_tags.specs.Code.{named_in, tag_width}
+use Rattle.sap_terms.specs.Code.{named_in, tag_width}
 use Rattle.sap_tags.proofs.Wirings.{site_step}
 use Rattle.sap_tags.proofs.wires.add_site_wires.Goals as goal
 

@@ -1,6 +1,6 @@
 use Rattle.std.proofs.Common.{◌≡◌, ◌++◌}
-use Rattle.sap_tags.specs.Code.{named_in, tag_width}
-use Rattle.sap_tags.specs.Plain.{site_wires}
+use Rattle.sap_terms.specs.Code.{named_in, tag_width}
+use Rattle.sap_tagged.specs.Plain.{site_wires}
 use Rattle.sap_tags.proofs.wires.add_site_wires.Given as goal
 
 abbrev pub invariant-loop-before : goal.invariant-loop-before

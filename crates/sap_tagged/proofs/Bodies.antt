@@ -1,0 +1,320 @@
+-- Bodies keep the rules of names and of widths.
+use Rattle.std.proofs.Common.{◌≡◌, ℕ, zero, suc, ◌+◌, ◌^◌, ◌<◌, ◌≤◌, List, [], ◌∷◌, ◌++◌, Bool, true, false, not, ◌&&◌, ◌||◌, Some, refl, sym, ap, ◌∙◌, subst, if◌then◌else◌, arith, nat_lt, inl, inr}
+use Rattle.std.proofs.lemmas.Bool.{cases_Bool}
+use Rattle.std.proofs.lemmas.Grind.{common_steps}
+use Rattle.std.proofs.Math.Pow.{pow_pos}
+use Rattle.sap_maps.specs.Maps.{Name}
+use Rattle.sap_maps.specs.Scope.{find}
+use Rattle.sap_maps.specs.Term.{Term, constant, cell, choose}
+use Rattle.sap_meaning.specs.Program.{World, Kind, entity, root, is_dynamic, is_input, is_register, is_state, width, children, listed, Step, Set, Write, Retag, RetagCell, Goto, Fall, Command, Do, Try, If, Block, End, Then, Group, kind_is_input, kind_is_register, kind_is_memory, kind_is_state}
+use Rattle.sap_meaning.specs.Program as program
+use Rattle.sap_meaning.specs.Expressions.{width_of}
+use Rattle.sap_meaning.specs.Checks.{Spot, site_of}
+use Rattle.sap_meaning.specs.Touches.{among}
+use Rattle.sap_meaning.specs.Runs.{listed_alone}
+use Rattle.sap_meaning.specs.Sites as sites
+use Rattle.sap_meaning.specs.Fine.{FineStep, FineCommand, FineBlock, size}
+use Rattle.sap_meaning.specs.Sized.{SizedStep, Sized, SizedBlock, depth}
+use Rattle.sap_sized.specs.Ranges.{IsWidth, RangedStep, Ranged, RangedBlock}
+use Rattle.sap_net.specs.Names.{is_among}
+use Rattle.sap_ir.specs.Source.{Source, readable, shapes}
+use Rattle.sap_ir.specs.IsGuarded.{assignable}
+use Rattle.sap_plain.specs.Nested.{Body, stop, act, cases, goto, fall}
+use Rattle.sap_plain.specs.IsPlain.{BodyFine}
+use Rattle.sap_plain.specs.Views.{follow}
+use Rattle.sap_tagged.specs.Keys.{Key, Value, Tag, Refused, Level, Wire, First, Inner, sort}
+use Rattle.sap_tagged.specs.Setting.{Setting}
+use Rattle.sap_tagged.specs.Levels.{var, bits, lub, yes, expr, tag_of, guard_of, test_of, written, stays, always, all_dynamic}
+use Rattle.sap_tagged.specs.Commands.{gives, stores, sweep, raises, looks, resets, effect_of, refusal, outcome, attempt_of, select_of, wires, wires_block, command_plain, block_plain}
+use Rattle.sap_tagged.specs.States.{saved}
+use Rattle.sap_tagged.specs.Stands.{has_tag}
+use Rattle.sap_tagged.proofs.Bools.{apart_tests, both_true, either_second, tagged_within, register_within, value_no_memory, kept_no_memory, enforced_within, tagged, tagged_memory}
+use Rattle.sap_tagged.proofs.StepTerms.{Placed}
+use Rattle.sap_tagged.proofs.Ends.{Among}
+use Rattle.sap_tagged.proofs.Conditions.{StepConditions, CommandConditions, BlockConditions}
+use Rattle.sap_tagged.proofs.Fits.{Declares, Fine, number_fine, level_fine, lub_fine, bits_fine, yes_fine, guard_fine, test_fine, written_fine, stays_fine, ranged_width}
+
+-- what can be assigned, and is no register of a current child
+pub record Assigns (d : Setting) (s : Source) (fixed : List Name) : Type 0 where
+  pub values : (x : ℕ) → is_register d.world x ≡ true → find (assignable s) (d.name (Value x)) ≡ Some (width d.world x)
+  pub tags : (x : ℕ) → has_tag d.world x ≡ true → is_input d.world x ≡ false → find (assignable s) (d.name (Tag x)) ≡ Some d.tag
+  pub firsts : (m : ℕ) → saved d.world m ≡ true → find (assignable s) (d.name (First m)) ≡ Some d.tag
+  pub inners : (x : ℕ) → nat_lt x (root d.world) ≡ true → 0 < children d.world x → find (assignable s) (d.name (Inner x)) ≡ Some d.tag
+  pub free : (a : Key) → (sort a ≡ 2 → ⊥) → is_among (d.name a) fixed ≡ false
+
+-- a wire of a width
+abbrev pub IsWire : Setting → Source → (k u : ℕ) → Type 0
+IsWire d s k u = (find (readable s) (d.name (Wire k)) ≡ Some u) × (find (assignable s) (d.name (Wire k)) ≡ Some u)
+
+abbrev pub StepWires : Setting → Source → ℕ → Type 0
+StepWires d s k = IsWire d s k 1 × IsWire d s (k + 1) d.tag × IsWire d s (k + 2) d.tag × IsWire d s (k + 3) d.tag × IsWire d s (k + 4) 1
+
+abbrev mutual
+  pub CommandWires : Setting → Source → ℕ → Command → Type 0
+  CommandWires d s k (Do t) = StepWires d s k
+  CommandWires d s k (Try t hang h) = StepWires d s k × BlockWires d s (k + 5) h
+  CommandWires d s k (If hang e a b) = IsWire d s k d.tag × IsWire d s (k + 1) d.tag × BlockWires d s (k + 2) a × BlockWires d s (k + 2 + wires_block a) b
+
+  pub BlockWires : Setting → Source → ℕ → Block → Type 0
+  BlockWires d s k End = Unit {0}
+  BlockWires d s k (Then c cs) = CommandWires d s k c × BlockWires d s (k + wires c) cs
+
+-- the two wires of a site
+abbrev pub SiteWires : Setting → Source → ℕ → Type 0
+SiteWires d s k = (find (assignable s) (d.name (Refused k)) ≡ Some 1) × (find (assignable s) (d.name (Level k)) ≡ Some d.tag)
+
+-- what hangs has a tag that can be assigned
+abbrev pub Hangs : World → (ℕ → Bool) → Type 0
+Hangs w h = (x : ℕ) → h x ≡ true → has_tag w x ≡ true × (is_input w x ≡ false)
+
+abbrev mutual
+  pub CommandHangs : World → Spot → Command → Type 0
+  CommandHangs w sp (Do t) = Hangs w (listed_alone w sp t)
+  CommandHangs w sp (Try t hang h) = Hangs w (listed hang) × BlockHangs w sp h
+  CommandHangs w sp (If hang e a b) = Hangs w (listed hang) × BlockHangs w sp a × BlockHangs w sp b
+
+  pub BlockHangs : World → Spot → Block → Type 0
+  BlockHangs w sp End = Unit {0}
+  BlockHangs w sp (Then c cs) = CommandHangs w sp c × BlockHangs w sp cs
+
+pub among_left : (xs ys : List ℕ) (k : ℕ) → Among xs k → Among (xs ++ ys) k
+among_left [] ys k h = absurd h
+among_left (x ∷ xs) ys k (inl e) = inl e
+among_left (x ∷ xs) ys k (inr h) = inr (among_left xs ys k h)
+
+pub among_right : (xs ys : List ℕ) (k : ℕ) → Among ys k → Among (xs ++ ys) k
+among_right [] ys k h = h
+among_right (x ∷ xs) ys k h = inr (among_right xs ys k h)
+
+-- a step that is no check site always happens
+
+all_or_some : (w : World) (g : Group) → all_dynamic w g ≡ false → sites.some_enforced w g ≡ true
+all_or_some w program.None h = absurd (apart_tests h)
+all_or_some w (program.More (program.Node c b k) g) h = by (is_dynamic w c) (all_dynamic w g) h (all_or_some w g)
+  where
+    by : (a e : Bool) → (a && e) ≡ false → (e ≡ false → sites.some_enforced w g ≡ true) → (not a || sites.some_enforced w g) ≡ true
+    by true e h f = f h
+    by false e h f = refl
+
+site_step : (w : World) (sp : Spot) (t : Step) → always w sp t ≡ false → sites.is_site w sp.state sp.children t ≡ true
+site_step w sp (Set site x e) h = rw h refl
+site_step w sp (Write site m i e) h = rw h refl
+site_step w sp (Retag site x n) h = refl
+site_step w sp (RetagCell site m j n) h = refl
+site_step w sp (Goto site target) h = by (is_dynamic w target) (is_dynamic w sp.state) h
+  where
+    by : (a b : Bool) → (a && b) ≡ false → (not b || not a) ≡ true
+    by true true h = absurd (apart_tests h)
+    by true false h = refl
+    by false true h = refl
+    by false false h = refl
+site_step w sp (Fall site hang) h = all_or_some w sp.children h
+
+site_listed : (w : World) (sp : Spot) (t : Step) → always w sp t ≡ false → Among (sites.step_sites w sp.state sp.children t) (site_of t)
+site_listed w sp t h = rw (site_step w sp t h) (inl refl)
+
+-- kinds
+
+register_kind : (k : Kind) → kind_is_register k ≡ true → kind_is_input k ≡ false
+register_kind program.input h = absurd (apart_tests (sym h))
+register_kind program.register h = refl
+register_kind (program.memory depth) h = refl
+register_kind (program.state place last) h = refl
+
+kept_kind : (k : Kind) → (kind_is_register k || kind_is_state k) ≡ true → kind_is_input k ≡ false
+kept_kind program.input h = absurd (apart_tests (sym h))
+kept_kind program.register h = refl
+kept_kind (program.memory depth) h = refl
+kept_kind (program.state place last) h = refl
+
+memory_kind : (k : Kind) → kind_is_memory k ≡ true → kind_is_input k ≡ false
+memory_kind program.input h = absurd (apart_tests (sym h))
+memory_kind program.register h = refl
+memory_kind (program.memory depth) h = refl
+memory_kind (program.state place last) h = refl
+
+state_kind : (k : Kind) → kind_is_state k ≡ true → kind_is_input k ≡ false
+state_kind program.input h = absurd (apart_tests (sym h))
+state_kind program.register h = refl
+state_kind (program.memory depth) h = refl
+state_kind (program.state place last) h = refl
+
+module _ (d : Setting) (s : Source) (h : Declares d s) (fixed group : List Name) (w : Assigns d s fixed) (nested : Bool) where
+  abbrev pub Good : Body → Type 0
+  Good b = BodyFine s fixed group nested b
+
+  pub gives_fine : (a : Key) (t : Term Name) (rest : Body) (u : ℕ) → find (assignable s) (d.name a) ≡ Some u → Fine d s h u t → (sort a ≡ 2 → ⊥) → Good rest → Good (gives d a t rest)
+  gives_fine a t rest u e f n r = ((u, e, f), ap not (w.free a n), r)
+
+  no_seat : (k : ℕ) → (k ≡ 2 → ⊥) → k ≡ 2 → ⊥
+  no_seat k f = f
+
+  tag_gives : (x : ℕ) (t : Term Name) (rest : Body) → has_tag d.world x ≡ true → is_input d.world x ≡ false → Fine d s h d.tag t → Good rest → Good (gives d (Tag x) t rest)
+  tag_gives x t rest q i f r = gives_fine (Tag x) t rest d.tag (w.tags x q i) f (λ e. omega arith) r
+
+  pub wire_gives : (k u : ℕ) (t : Term Name) (rest : Body) → IsWire d s k u → Fine d s h u t → Good rest → Good (gives d (Wire k) t rest)
+  wire_gives k u t rest q f r = gives_fine (Wire k) t rest u q.1 f (λ e. omega arith) r
+
+  stores_fine : (a : Key) (i t : Term Name) (rest : Body) (u b n : ℕ) → IsWidth b → find (shapes s) (d.name a) ≡ Some (u, n) → 2 ^ b ≡ n → Fine d s h b i → Fine d s h u t → Good rest → Good (stores d a i t rest)
+  stores_fine a i t rest u b n v e p f g r = ((u, b, v, e ∙ ap (λ (z : ℕ). Some (u, z)) (sym p), f, g), refl, r)
+
+  pub sweep_fine : (v : ℕ → Key) (picks : ℕ → Bool) (t : ℕ → Term Name) (x m : ℕ) (rest : Body)
+      → ((y : ℕ) → x ≤ y → y < x + m → picks y ≡ true → (u : ℕ) × (find (assignable s) (d.name (v y)) ≡ Some u) × Fine d s h u (t y)) → ((y : ℕ) → sort (v y) ≡ 2 → ⊥) → Good rest → Good (sweep d v picks t x m rest)
+  sweep_fine v picks t x zero rest f n r = r
+  sweep_fine v picks t x (suc m) rest f n r = elim (cases_Bool (picks x)) [
+    | inl e ↦
+        rw e
+        (let q = f x (omega arith) (omega arith) e in
+        gives_fine (v x) (t x) (sweep d v picks t (x + 1) m rest) q.0 q.1 q.2 (n x) (sweep_fine v picks t (x + 1) m rest (λ y l k i. f y (omega (arith, l)) (omega (arith, k)) i) n r))
+    | inr e ↦ rw e (sweep_fine v picks t (x + 1) m rest (λ y l k i. f y (omega (arith, l)) (omega (arith, k)) i) n r)
+  ]
+
+  pub raises_fine : (hangs : ℕ → Bool) (j : ℕ) (rest : Body) → Hangs d.world hangs → IsWire d s j d.tag → Good rest → Good (raises d hangs j rest)
+  raises_fine hangs j rest f q r =
+      sweep_fine Tag hangs (λ x. lub (var d (Tag x)) (var d (Wire j))) 0 (root d.world) rest
+      (λ y l k e. let i = f y e in (d.tag, w.tags y i.0 i.1, lub_fine d s h (var d (Tag y)) (var d (Wire j)) (h.tags y i.0) q.0)) (λ y e. omega arith) r
+
+  follow_fine : (a b : Body) → Good a → Good b → Good (follow a b)
+  follow_fine stop b f g = g
+  follow_fine (act x rest) b f g = (f.0, f.1, follow_fine rest b f.2 g)
+  follow_fine (cases t x y rest) b f g = (f.0, f.1, f.2, follow_fine rest b f.3 g)
+  follow_fine (goto x rest) b f g = (f.0, follow_fine rest b f.1 g)
+  follow_fine (fall rest) b f g = (f.0, follow_fine rest b f.1 g)
+
+  module _ (q : Group) (sp : Spot) (placed : Placed d.world q sp) (named : (t : ℕ) → among q t ≡ true → is_among (d.state_name t) group ≡ true)
+      (kids : 0 < size sp.children → nested ≡ true) where
+    looks_fine : (p k : ℕ) (t : Step) (rest : Body) → IsWire d s p d.tag → StepWires d s k → FineStep d.world q sp.children t → SizedStep d.world t → RangedStep d.world t → StepConditions d.world t
+        → Good rest → Good (looks d sp p k t rest)
+    looks_fine p k t rest pc ws f z r c g =
+        let P = var d (Wire p) in
+        let b4 : Body = gives d (Wire (k + 4)) (stays d t) rest in
+        let b3 : Body = gives d (Wire (k + 3)) (written d P t) b4 in
+        let b2 : Body = gives d (Wire (k + 2)) (lub P (var d (Wire (k + 1)))) b3 in
+        let b1 : Body = gives d (Wire (k + 1)) (guard_of d sp t) b2 in
+        wire_gives k 1 (test_of d sp P t) b1 ws.0 (test_fine d s h q sp placed P t pc.0 f z r c)
+        (wire_gives (k + 1) d.tag (guard_of d sp t) b2 ws.1 (guard_fine d s h q sp placed t f z r c)
+        (wire_gives (k + 2) d.tag (lub P (var d (Wire (k + 1)))) b3 ws.2 (lub_fine d s h P (var d (Wire (k + 1))) pc.0 ws.1.0)
+        (wire_gives (k + 3) d.tag (written d P t) b4 ws.3 (written_fine d s h q sp placed P t pc.0 f z r c)
+        (wire_gives (k + 4) 1 (stays d t) rest ws.4 (stays_fine d s h q sp placed t f z r c) g))))
+
+    zero_fine : (u : ℕ) → Fine d s h u (constant u 0)
+    zero_fine u = (refl, pow_pos u)
+
+    effect_fine : (k : ℕ) (t : Step) → StepWires d s k → FineStep d.world q sp.children t → SizedStep d.world t → RangedStep d.world t → StepConditions d.world t → Good (effect_of d sp k t)
+    effect_fine k (Set site x e) ws f z r c =
+        let number : Fine d s h (width d.world x) (expr d e) = subst (λ (u : ℕ). Fine d s h u (expr d e)) z.1 (number_fine d s h e f.1 z.0 r c) in
+        let last : Good (gives d (Value x) (expr d e) stop) = gives_fine (Value x) (expr d e) stop (width d.world x) (w.values x f.0) number (λ e. omega arith) tt in
+        let m = value_no_memory d.world x (either_second _ (is_register d.world x) f.0) in
+        elim (cases_Bool (is_dynamic d.world x)) [
+          | inl i ↦ rw i (tag_gives x (var d (Wire (k + 3))) (gives d (Value x) (expr d e) stop) (tagged d.world x (register_within d.world x f.0) m) (register_kind (entity d.world x).kind f.0) ws.3.0 last)
+          | inr i ↦ rw i last
+        ]
+    effect_fine k (Write site m i e) ws f z r c =
+        let number : Fine d s h (width d.world m) (expr d e) = subst (λ (u : ℕ). Fine d s h u (expr d e)) z.3 (number_fine d s h e f.2 z.2 r.1 c.1) in
+        stores_fine (Value m) (expr d i) (expr d e) (if is_dynamic d.world m then gives d (Tag m) (lub (var d (Tag m)) (var d (Wire (k + 3)))) stop else stop) (width d.world m) (width_of d.world i) (depth d.world m) (ranged_width d.world i r.0) (h.stores m f.0) z.1
+        (number_fine d s h i f.1 z.0 r.0 c.0) number
+        (elim (cases_Bool (is_dynamic d.world m)) [
+          | inl j ↦
+              rw j
+              (tag_gives m (lub (var d (Tag m)) (var d (Wire (k + 3)))) stop (tagged_memory d.world m f.0 j) (memory_kind (entity d.world m).kind f.0)
+              (lub_fine d s h (var d (Tag m)) (var d (Wire (k + 3))) (h.tags m (tagged_memory d.world m f.0 j)) ws.3.0) tt)
+          | inr j ↦ rw j tt
+        ])
+    effect_fine k (Retag site x n) ws f z r c =
+        let m = kept_no_memory d.world x f.0 in
+        let t = tagged d.world x (enforced_within d.world x f.1) m in
+        tag_gives x (var d (Wire (k + 3)))
+        (if is_register d.world x then gives d (Value x) (choose (var d (Wire (k + 4))) (var d (Value x)) (constant (width d.world x) 0)) stop else stop) t (kept_kind (entity d.world x).kind f.0) ws.3.0
+        (elim (cases_Bool (is_register d.world x)) [
+          | inl i ↦
+              rw i
+              (gives_fine (Value x) (choose (var d (Wire (k + 4))) (var d (Value x)) (constant (width d.world x) 0)) stop (width d.world x) (w.values x i)
+              (ws.4.0, h.values x (either_second _ (is_register d.world x) i), zero_fine (width d.world x)) (λ e. omega arith) tt)
+          | inr i ↦ rw i tt
+        ])
+    effect_fine k (RetagCell site m j n) ws f z r c =
+        let index = number_fine d s h j f.2 z.0 r.0 c.0 in
+        let wide = ranged_width d.world j r.0 in
+        stores_fine (Tag m) (expr d j) (var d (Wire (k + 3)))
+        (stores d (Value m) (expr d j) (choose (var d (Wire (k + 4))) (cell (d.name (Value m)) (expr d j)) (constant (width d.world m) 0)) stop) d.tag (width_of d.world j) (depth d.world m) wide (h.marks m f.0 f.1) z.1 index ws.3.0
+        (stores_fine (Value m) (expr d j) (choose (var d (Wire (k + 4))) (cell (d.name (Value m)) (expr d j)) (constant (width d.world m) 0)) stop (width d.world m) (width_of d.world j)
+        (depth d.world m) wide (h.stores m f.0) z.1 index
+        (ws.4.0, (width_of d.world j, wide, h.stores m f.0 ∙ ap (λ (y : ℕ). Some (width d.world m, y)) (sym z.1), index), zero_fine (width d.world m)) tt)
+    effect_fine k (Goto site target) ws f z r c =
+        let i = placed.siblings target f in
+        let state = placed.states target f in
+        let last : Good (goto (d.state_name target) stop) = (named target f, tt) in
+        sweep_fine Tag (resets d.world target) (λ x. bits d d.world.order.bottom) 0 (root d.world)
+        (if is_dynamic d.world target then gives d (Tag target) (var d (Wire (k + 3))) (goto (d.state_name target) stop) else goto (d.state_name target) stop)
+        (λ y l k e. let v = reset_tag target y (within y (root d.world) k) e in (d.tag, w.tags y v.0 v.1, bits_fine d s h d.world.order.bottom)) (λ y e. omega arith)
+        (elim (cases_Bool (is_dynamic d.world target)) [
+          | inl j ↦ rw j (tag_gives target (var d (Wire (k + 3))) (goto (d.state_name target) stop) i.0 (state_kind (entity d.world target).kind state) ws.3.0 last)
+          | inr j ↦ rw j last
+        ])
+      where
+        within : (y n : ℕ) → y < 0 + n → nat_lt y n ≡ true
+        within y n l = grind (arith, common_steps)
+
+        reset_tag : (target y : ℕ) → nat_lt y (root d.world) ≡ true → resets d.world target y ≡ true → has_tag d.world y ≡ true × (is_input d.world y ≡ false)
+        reset_tag target y l e =
+            let b = both_true _ (is_dynamic d.world y) e in
+            let state = (both_true (is_state d.world y) _ b.0).0 in
+            let m = kept_no_memory d.world y (either_second _ (is_state d.world y) state) in
+            (tagged d.world y l m, state_kind (entity d.world y).kind state)
+    effect_fine k (Fall site hang) ws f z r c =
+        gives_fine (Inner sp.state) (var d (Wire (k + 2))) (fall stop) d.tag
+        (w.inners sp.state (tagged_within d.world sp.state (placed.siblings sp.state placed.here).0) (rw placed.seated f)) ws.2.0 (λ e. omega arith) (kids f, tt)
+
+    -- the wires of the sites that are listed
+    abbrev pub AllSites : List ℕ → Type 0
+    AllSites ks = (k : ℕ) → Among ks k → SiteWires d s k
+
+    refusal_fine : (k : ℕ) (t : Step) (handler : Body) → StepWires d s k → SiteWires d s (site_of t) → Good handler → Good (refusal d k t handler)
+    refusal_fine k t handler ws site g =
+        gives_fine (Refused (site_of t)) yes (gives d (Level (site_of t)) (var d (Wire (k + 2))) handler) 1 site.0 (yes_fine d s h) (λ e. omega arith)
+        (gives_fine (Level (site_of t)) (var d (Wire (k + 2))) handler d.tag site.1 ws.2.0 (λ e. omega arith) g)
+
+    attempt_fine : (p k : ℕ) (t : Step) (hangs : ℕ → Bool) (handler : Body) → IsWire d s p d.tag → StepWires d s k → Hangs d.world hangs → AllSites (sites.step_sites d.world sp.state sp.children t)
+        → FineStep d.world q sp.children t → SizedStep d.world t → RangedStep d.world t → StepConditions d.world t → Good handler → Good (attempt_of d sp p k t hangs handler)
+    unfolding attempt_of
+    attempt_fine p k t hangs handler pc ws hs site f z r c g =
+        let e = effect_fine k t ws f z r c in
+        looks_fine p k t (raises d hangs (k + 1) (outcome d sp k t handler)) pc ws f z r c
+        (raises_fine hangs (k + 1) (outcome d sp k t handler) hs ws.1
+        (elim (cases_Bool (always d.world sp t)) [
+          | inl i ↦ rw i e
+          | inr i ↦ rw i (ws.0.0, e, refusal_fine k t handler ws (site (site_of t) (site_listed d.world sp t i)) g, tt)
+        ]))
+
+    select_fine : (p k : ℕ) (e : Term ℕ) (hangs : ℕ → Bool) (x y : Body) → IsWire d s p d.tag → IsWire d s k d.tag → IsWire d s (k + 1) d.tag → Hangs d.world hangs → Fine d s h d.tag (tag_of d e)
+        → Fine d s h 1 (expr d e) → Good x → Good y → Good (select_of d p k e hangs x y)
+    unfolding select_of
+    select_fine p k e hangs x y pc a b hs level number f g =
+        wire_gives k d.tag (tag_of d e) (gives d (Wire (k + 1)) (lub (var d (Wire p)) (var d (Wire k))) (raises d hangs k (cases (expr d e) x y stop))) a level
+        (wire_gives (k + 1) d.tag (lub (var d (Wire p)) (var d (Wire k))) (raises d hangs k (cases (expr d e) x y stop)) b (lub_fine d s h (var d (Wire p)) (var d (Wire k)) pc.0 a.0)
+        (raises_fine hangs k (cases (expr d e) x y stop) hs a (number, f, g, tt)))
+
+    mutual
+      unfolding command_plain block_plain
+
+      command_fine : (p k : ℕ) (c : Command) → IsWire d s p d.tag → CommandWires d s k c → CommandHangs d.world sp c → AllSites (sites.sites d.world sp.state sp.children c)
+          → FineCommand d.world q sp.children c → Sized d.world c → Ranged d.world c → CommandConditions d.world c → Good (command_plain d sp p k c)
+      command_fine p k (Do t) pc ws hs site f z r c = attempt_fine p k t (listed_alone d.world sp t) stop pc ws hs site f z r c tt
+      command_fine p k (Try t hang b) pc ws hs site f z r c =
+          attempt_fine p k t (listed hang) (block_plain d sp (k + 2) (k + 5) b) pc ws.0 hs.0
+          (λ n i. site n (among_left (sites.step_sites d.world sp.state sp.children t) (sites.block_sites d.world sp.state sp.children b) n i)) f.0 z.0 r.0 c.0
+          (block_fine (k + 2) (k + 5) b ws.0.2 ws.1 hs.1 (λ n i. site n (among_right (sites.step_sites d.world sp.state sp.children t) (sites.block_sites d.world sp.state sp.children b) n i)) f.1 z.1 r.1 c.1)
+      command_fine p k (If hang e a b) pc ws hs site f z r c =
+          select_fine p k e (listed hang) (block_plain d sp (k + 1) (k + 2) a) (block_plain d sp (k + 1) (k + 2 + wires_block a) b) pc ws.0 ws.1 hs.0
+          (level_fine d s h e f.0 z.0 r.0 c.0) (subst (λ (u : ℕ). Fine d s h u (expr d e)) z.1 (number_fine d s h e f.0 z.0 r.0 c.0))
+          (block_fine (k + 1) (k + 2) a ws.1 ws.2 hs.1 (λ n i. site n (among_left (sites.block_sites d.world sp.state sp.children a) (sites.block_sites d.world sp.state sp.children b) n i)) f.1 z.2 r.1 c.1)
+          (block_fine (k + 1) (k + 2 + wires_block a) b ws.1 ws.3 hs.2
+          (λ n i. site n (among_right (sites.block_sites d.world sp.state sp.children a) (sites.block_sites d.world sp.state sp.children b) n i)) f.2 z.3 r.2 c.2)
+
+      pub block_fine : (p k : ℕ) (b : Block) → IsWire d s p d.tag → BlockWires d s k b → BlockHangs d.world sp b → AllSites (sites.block_sites d.world sp.state sp.children b)
+          → FineBlock d.world q sp.children b → SizedBlock d.world b → RangedBlock d.world b → BlockConditions d.world b → Good (block_plain d sp p k b)
+      block_fine p k End pc ws hs site f z r c = tt
+      block_fine p k (Then a b) pc ws hs site f z r c =
+          follow_fine (command_plain d sp p k a) (block_plain d sp p (k + wires a) b)
+          (command_fine p k a pc ws.0 hs.0 (λ n i. site n (among_left (sites.sites d.world sp.state sp.children a) (sites.block_sites d.world sp.state sp.children b) n i)) f.0 z.0 r.0 c.0)
+          (block_fine p (k + wires a) b pc ws.1 hs.1 (λ n i. site n (among_right (sites.sites d.world sp.state sp.children a) (sites.block_sites d.world sp.state sp.children b) n i)) f.1 z.1 r.1 c.1)

@@ -1,0 +1,171 @@
+-- Nothing stands behind a goto or a fall.
+use Rattle.std.proofs.Common.{◌≡◌, ℕ, zero, suc, ◌+◌, Bool, true, false, not, ◌&&◌, ◌||◌, refl, ap, ◌∙◌, inl, inr, if◌then◌else◌}
+use Rattle.std.proofs.lemmas.Bool.{cases_Bool}
+use Rattle.sap_maps.specs.Maps.{Name}
+use Rattle.sap_maps.specs.Term.{Term}
+use Rattle.sap_meaning.specs.Program.{root, is_dynamic, is_register, listed, Step, Set, Write, Retag, RetagCell, Goto, Fall, Command, Do, Try, If, Block, End, Then}
+use Rattle.sap_meaning.specs.Checks.{Spot}
+use Rattle.sap_meaning.specs.Runs.{listed_alone}
+use Rattle.sap_meaning.specs.Fine as fine
+use Rattle.sap_meaning.specs.Fine.{Open, OpenBlock, Closes, Final}
+use Rattle.sap_plain.specs.Nested.{Body, stop, act, cases, goto, fall}
+use Rattle.sap_plain.specs.IsPlain.{transfers, ends_in_transfers}
+use Rattle.sap_plain.specs.Views.{follow}
+use Rattle.sap_tagged.specs.Keys.{Key, Tag, Wire}
+use Rattle.sap_tagged.specs.Setting.{Setting}
+use Rattle.sap_tagged.specs.Levels.{always, expr, var, lub, bits}
+use Rattle.sap_tagged.specs.Commands.{gives, sweep, resets, effect_of, refusal, outcome, attempt_of, select_of, wires, wires_block, command_plain, block_plain}
+use Rattle.sap_tagged.proofs.Bools.{apart_tests, both_true, either_second}
+
+-- a body that ends as it should; and one that goes nowhere either
+abbrev pub Ends : Body → Type 0
+Ends b = ends_in_transfers b ≡ true
+
+pub record Stays (b : Body) : Type 0 where
+  pub ends : ends_in_transfers b ≡ true
+  pub goes : transfers b ≡ false
+
+pub sweep_ends : (d : Setting) (v : ℕ → Key) (h : ℕ → Bool) (t : ℕ → Term Name) (x m : ℕ) (rest : Body) → Ends rest → Ends (sweep d v h t x m rest)
+sweep_ends d v h t x zero rest e = e
+sweep_ends d v h t x (suc m) rest e = elim (cases_Bool (h x)) [ inl i ↦ rw i (sweep_ends d v h t (x + 1) m rest e) | inr i ↦ rw i (sweep_ends d v h t (x + 1) m rest e) ]
+
+sweep_goes : (d : Setting) (v : ℕ → Key) (h : ℕ → Bool) (t : ℕ → Term Name) (x m : ℕ) (rest : Body) → transfers rest ≡ false → transfers (sweep d v h t x m rest) ≡ false
+sweep_goes d v h t x zero rest e = e
+sweep_goes d v h t x (suc m) rest e = elim (cases_Bool (h x)) [ inl i ↦ rw i (sweep_goes d v h t (x + 1) m rest e) | inr i ↦ rw i (sweep_goes d v h t (x + 1) m rest e) ]
+
+follow_stop : (b : Body) → follow b stop ≡ b
+follow_stop stop = refl
+follow_stop (act a rest) = ap (act a) (follow_stop rest)
+follow_stop (cases t x y rest) = ap (cases t x y) (follow_stop rest)
+follow_stop (goto x rest) = ap (goto x) (follow_stop rest)
+follow_stop (fall rest) = ap fall (follow_stop rest)
+
+or_false : (a b : Bool) → (a || b) ≡ false → (a ≡ false) × (b ≡ false)
+or_false true b h = absurd (apart_tests h)
+or_false false b h = (refl, h)
+
+follow_ends : (a b : Body) → Stays a → Ends b → Ends (follow a b)
+follow_ends stop b s e = e
+follow_ends (act x rest) b s e = follow_ends rest b (record { ends = s.ends; goes = s.goes }) e
+follow_ends (cases t x y rest) b s e =
+    let g = or_false (transfers x || transfers y) (transfers rest) s.goes in
+    let i = or_false (transfers x) (transfers y) g.0 in
+    let p = both_true ((ends_in_transfers x && ends_in_transfers y) && ends_in_transfers rest) _ s.ends in
+    let q = both_true (ends_in_transfers x && ends_in_transfers y) (ends_in_transfers rest) p.0 in
+    let r = both_true (ends_in_transfers x) (ends_in_transfers y) q.0 in
+    rw (r.0, r.1, follow_ends rest b (record { ends = q.1; goes = g.1 }) e, i.0, i.1) refl
+follow_ends (goto x rest) b s e = absurd (apart_tests s.goes)
+follow_ends (fall rest) b s e = absurd (apart_tests s.goes)
+
+follow_goes : (a b : Body) → transfers a ≡ false → transfers b ≡ false → transfers (follow a b) ≡ false
+follow_goes stop b s e = e
+follow_goes (act x rest) b s e = follow_goes rest b s e
+follow_goes (cases t x y rest) b s e =
+    let g = or_false (transfers x || transfers y) (transfers rest) s in
+    let i = or_false (transfers x) (transfers y) g.0 in
+    rw (i.0, i.1) (follow_goes rest b g.1 e)
+follow_goes (goto x rest) b s e = absurd (apart_tests s)
+follow_goes (fall rest) b s e = absurd (apart_tests s)
+
+choice_ends : (t : Term Name) (x y : Body) → Ends x → Ends y → Ends (cases t x y stop)
+choice_ends t x y e f = rw (e, f) (either_second (not (transfers x || transfers y)) true refl)
+
+choice_stays : (t : Term Name) (x y : Body) → Stays x → Stays y → Stays (cases t x y stop)
+choice_stays t x y e f = record { ends = choice_ends t x y e.ends f.ends; goes = rw (e.goes, f.goes) refl }
+
+module _ (d : Setting) where
+  effect_ends : (sp : Spot) (k : ℕ) (t : Step) → Ends (effect_of d sp k t)
+  effect_ends sp k (Set site x e) = elim (cases_Bool (is_dynamic d.world x)) [ inl i ↦ rw i refl | inr i ↦ rw i refl ]
+  effect_ends sp k (Write site m i e) = elim (cases_Bool (is_dynamic d.world m)) [ inl i ↦ rw i refl | inr i ↦ rw i refl ]
+  effect_ends sp k (Retag site x n) = elim (cases_Bool (is_register d.world x)) [ inl i ↦ rw i refl | inr i ↦ rw i refl ]
+  effect_ends sp k (RetagCell site m j n) = refl
+  effect_ends sp k (Goto site target) =
+      sweep_ends d Tag (resets d.world target) (λ x. bits d d.world.order.bottom) 0 (root d.world)
+      (if is_dynamic d.world target then gives d (Tag target) (var d (Wire (k + 3))) (goto (d.state_name target) stop) else goto (d.state_name target) stop)
+      (elim (cases_Bool (is_dynamic d.world target)) [ inl i ↦ rw i refl | inr i ↦ rw i refl ])
+  effect_ends sp k (Fall site hang) = refl
+
+  effect_goes : (sp : Spot) (k : ℕ) (t : Step) → fine.transfers t ≡ false → transfers (effect_of d sp k t) ≡ false
+  effect_goes sp k (Set site x e) f = elim (cases_Bool (is_dynamic d.world x)) [ inl i ↦ rw i refl | inr i ↦ rw i refl ]
+  effect_goes sp k (Write site m i e) f = elim (cases_Bool (is_dynamic d.world m)) [ inl i ↦ rw i refl | inr i ↦ rw i refl ]
+  effect_goes sp k (Retag site x n) f = elim (cases_Bool (is_register d.world x)) [ inl i ↦ rw i refl | inr i ↦ rw i refl ]
+  effect_goes sp k (RetagCell site m j n) f = refl
+  effect_goes sp k (Goto site target) f = absurd (apart_tests f)
+  effect_goes sp k (Fall site hang) f = absurd (apart_tests f)
+
+  module _ (sp : Spot) where
+    attempt_ends : (p k : ℕ) (t : Step) (hangs : ℕ → Bool) (h : Body) → Ends h → Ends (attempt_of d sp p k t hangs h)
+    unfolding attempt_of
+    attempt_ends p k t hangs h e =
+        sweep_ends d Tag hangs (λ x. lub (var d (Tag x)) (var d (Wire (k + 1)))) 0 (root d.world) (outcome d sp k t h)
+        (elim (cases_Bool (always d.world sp t)) [
+          | inl i ↦ rw i (effect_ends sp k t)
+          | inr i ↦ rw i (choice_ends (var d (Wire k)) (effect_of d sp k t) (refusal d k t h) (effect_ends sp k t) e)
+        ])
+
+    attempt_goes : (p k : ℕ) (t : Step) (hangs : ℕ → Bool) (h : Body) → fine.transfers t ≡ false → transfers h ≡ false → transfers (attempt_of d sp p k t hangs h) ≡ false
+    unfolding attempt_of
+    attempt_goes p k t hangs h f e =
+        sweep_goes d Tag hangs (λ x. lub (var d (Tag x)) (var d (Wire (k + 1)))) 0 (root d.world) (outcome d sp k t h)
+        (elim (cases_Bool (always d.world sp t)) [
+          | inl i ↦ rw i (effect_goes sp k t f)
+          | inr i ↦ rw (i, effect_goes sp k t f, e) refl
+        ])
+
+    select_ends : (p k : ℕ) (e : Term ℕ) (hangs : ℕ → Bool) (x y : Body) → Ends x → Ends y → Ends (select_of d p k e hangs x y)
+    unfolding select_of
+    select_ends p k e hangs x y f g = sweep_ends d Tag hangs (λ x. lub (var d (Tag x)) (var d (Wire k))) 0 (root d.world) (cases (expr d e) x y stop) (choice_ends (expr d e) x y f g)
+
+    select_goes : (p k : ℕ) (e : Term ℕ) (hangs : ℕ → Bool) (x y : Body) → transfers x ≡ false → transfers y ≡ false → transfers (select_of d p k e hangs x y) ≡ false
+    unfolding select_of
+    select_goes p k e hangs x y f g = sweep_goes d Tag hangs (λ x. lub (var d (Tag x)) (var d (Wire k))) 0 (root d.world) (cases (expr d e) x y stop) (rw (f, g) refl)
+
+    mutual
+      unfolding command_plain block_plain
+
+      command_stays : (p k : ℕ) (c : Command) → Open c → Stays (command_plain d sp p k c)
+      command_stays p k (Do t) o = record {
+        ends = attempt_ends p k t (listed_alone d.world sp t) stop refl;
+        goes = attempt_goes p k t (listed_alone d.world sp t) stop o refl;
+      }
+      command_stays p k (Try t hang h) o =
+          let r = block_stays (k + 2) (k + 5) h o.1 in
+          record {
+            ends = attempt_ends p k t (listed hang) (block_plain d sp (k + 2) (k + 5) h) r.ends;
+            goes = attempt_goes p k t (listed hang) (block_plain d sp (k + 2) (k + 5) h) o.0 r.goes;
+          }
+      command_stays p k (If hang e a b) o =
+          let x = block_stays (k + 1) (k + 2) a o.0 in
+          let y = block_stays (k + 1) (k + 2 + wires_block a) b o.1 in
+          record {
+            ends = select_ends p k e (listed hang) (block_plain d sp (k + 1) (k + 2) a) (block_plain d sp (k + 1) (k + 2 + wires_block a) b) x.ends y.ends;
+            goes = select_goes p k e (listed hang) (block_plain d sp (k + 1) (k + 2) a) (block_plain d sp (k + 1) (k + 2 + wires_block a) b) x.goes y.goes;
+          }
+
+      block_stays : (p k : ℕ) (b : Block) → OpenBlock b → Stays (block_plain d sp p k b)
+      block_stays p k End o = record { ends = refl; goes = refl }
+      block_stays p k (Then c cs) o =
+          let x = command_stays p k c o.0 in
+          let y = block_stays p (k + wires c) cs o.1 in
+          record {
+            ends = follow_ends (command_plain d sp p k c) (block_plain d sp p (k + wires c) cs) x y.ends;
+            goes = follow_goes (command_plain d sp p k c) (block_plain d sp p (k + wires c) cs) x.goes y.goes;
+          }
+
+    mutual
+      unfolding command_plain block_plain
+
+      final_ends : (p k : ℕ) (c : Command) → Final c → Ends (command_plain d sp p k c)
+      final_ends p k (Do t) o = attempt_ends p k t (listed_alone d.world sp t) stop refl
+      final_ends p k (Try t hang h) o = attempt_ends p k t (listed hang) (block_plain d sp (k + 2) (k + 5) h) (block_ends (k + 2) (k + 5) h o.1)
+      final_ends p k (If hang e a b) o =
+          select_ends p k e (listed hang) (block_plain d sp (k + 1) (k + 2) a) (block_plain d sp (k + 1) (k + 2 + wires_block a) b)
+          (block_ends (k + 1) (k + 2) a o.0) (block_ends (k + 1) (k + 2 + wires_block a) b o.1)
+
+      pub block_ends : (p k : ℕ) (b : Block) → Closes b → Ends (block_plain d sp p k b)
+      block_ends p k End o = absurd o
+      block_ends p k (Then c End) o =
+          ap ends_in_transfers (follow_stop (command_plain d sp p k c)) ∙ final_ends p k c o
+      block_ends p k (Then c (Then e es)) o =
+          follow_ends (command_plain d sp p k c) (block_plain d sp p (k + wires c) (Then e es)) (command_stays p k c o.0)
+          (block_ends p (k + wires c) (Then e es) o.1)

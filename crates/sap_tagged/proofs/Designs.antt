@@ -1,0 +1,287 @@
+-- The program of a well-formed design has all that the law asks for.
+use Rattle.std.proofs.Common.{◌≡◌, ℕ, zero, suc, ◌+◌, ◌^◌, ◌<◌, ◌≤◌, List, [], ◌∷◌, ◌++◌, map, length, length-append, Bool, true, false, ◌&&◌, refl, sym, ap, ◌∙◌, subst, arith, bytes_eq, nat_eq, nat_lt, nat_le, get_or}
+use Rattle.std.specs.List.{list_all}
+use Rattle.std.proofs.lemmas.Bool.{eqb-true, eq-eqb}
+use Rattle.std.proofs.lemmas.Grind.{common_steps}
+use Rattle.sap_tree.specs.declared.syntax.Decl.{Decl}
+use Rattle.sap_tree.specs.declared.syntax.Decl.TheVariants as decl
+use Rattle.sap_tree.specs.Syntax.{StateTree, StateOf, StateList, NoState, AndState, DesignTree}
+use Rattle.sap_tree.specs.Words as words
+use Rattle.sap_tree.specs.Whole.{is_declaration, has_state, are_states, is_state, is_tree, is_within_limits, is_whole, state_count, states_count, states_commands}
+use Rattle.sap_tree.specs.Limits.{most_states, most_commands}
+use Rattle.sap_lattice.specs.Levels.{Levels, order_of}
+use Rattle.sap_lattice.specs.Codes.{width_of}
+use Rattle.sap_names.specs.declared.entity.Entity.{Entity}
+use Rattle.sap_names.specs.Entities.{entity_of, declared_in, state_entities, group_entities, entities_of, what_is}
+use Rattle.sap_names.specs.NameFaults.{twice, declarations_faults, states_faults}
+use Rattle.sap_meaning.specs.Program.{World, root, children}
+use Rattle.sap_resolve.specs.Terms.{entity_number}
+use Rattle.sap_resolve.specs.Worlds.{states_in, states_below, all_declared, no_children, group_length, state_children, group_children, world_of}
+use Rattle.sap_resolve.specs.Worlds as worlds
+use Rattle.sap_resolve.proofs.Lookup.{entities_length}
+use Rattle.sap_sized.proofs.Programs.{names_fit_law}
+use Rattle.sap_premises.proofs.Faultless.{nil_left, nil_right}
+use Rattle.sap_premises.proofs.Lookups.{unique}
+use Rattle.sap_premises.proofs.Places.{name_at, group_count, group_kids}
+use Rattle.sap_premises.proofs.Programs.{fine_law}
+use Rattle.sap_premises.proofs.Lists.{exact}
+use Rattle.sap_premises.proofs.Worlds.{root_children}
+use Rattle.sap_interface.specs.StandsFor.{Named, name}
+use Rattle.sap_interface.specs.Designs.{named_of, sites_of}
+use Rattle.sap_meaning.specs.Laws.{ListsServe, SitesInOrder}
+use Rattle.sap_tagged.specs.Law.{IsSound, PlainStands}
+use Rattle.sap_tagged.proofs.Bools.{both_true}
+use Rattle.sap_tagged.proofs.KeyNames.{NamesApart, same_name, name_is, same_test}
+use Rattle.sap_tagged.proofs.Distinct.{distinct}
+use Rattle.sap_tagged.proofs.Premises.{Design}
+use Rattle.sap_tagged.proofs.Cycle.{run_stands}
+use Rattle.sap_tagged.proofs.Shown.{interface}
+use Rattle.sap_tagged.proofs.Counts.{numbered, states_few, tidy}
+
+and_left : (p q : Bool) → (p && q) ≡ true → p ≡ true
+and_left p q h = (both_true p q h).0
+
+and_right : (p q : Bool) → (p && q) ≡ true → q ≡ true
+and_right p q h = (both_true p q h).1
+
+-- names are those of the design language, and so words
+
+word_of : (n : List ℕ) → words.is_name n ≡ true → words.is_word n ≡ true
+unfolding words.is_name
+word_of n h = and_left (words.is_word n) _ (and_left _ _ h)
+
+abbrev AllNamed : List Entity → Type 0
+AllNamed [] = Unit {0}
+AllNamed (e ∷ es) = (words.is_name e.name.name ≡ true) × AllNamed es
+
+named_join : (es fs : List Entity) → AllNamed es → AllNamed fs → AllNamed (es ++ fs)
+named_join [] fs a b = b
+named_join (e ∷ es) fs a b = (a.0, named_join es fs a.1 b)
+
+declaration_named : (d : Decl) → is_declaration d ≡ true → words.is_name (entity_of d).name.name ≡ true
+declaration_named (decl.Input place name width) h = and_left _ _ h
+declaration_named (decl.Register place name width kind start) h = and_left _ _ (and_left _ _ (and_left _ _ h))
+declaration_named (decl.Memory place name width depth kind) h = and_left _ _ (and_left _ _ (and_left _ _ h))
+
+declared_named : (ds : List Decl) → list_all is_declaration ds ≡ true → AllNamed (declared_in ds)
+declared_named [] h = tt
+declared_named (d ∷ ds) h =
+    (declaration_named d (and_left (is_declaration d) (list_all is_declaration ds) h), declared_named ds (and_right (is_declaration d) (list_all is_declaration ds) h))
+
+mutual
+  unfolding is_state are_states
+
+  state_named : (s : StateTree) → is_state s ≡ true → AllNamed (state_entities s)
+  state_named (StateOf place name kind body children) h =
+      (and_left _ _ (and_left _ _ (and_left _ _ (and_left _ _ h))), states_named children (and_right _ (are_states children) h))
+
+  states_named : (g : StateList) → are_states g ≡ true → AllNamed (group_entities g)
+  states_named NoState h = tt
+  states_named (AndState s rest) h =
+      named_join (state_entities s) (group_entities rest) (state_named s (and_left (is_state s) (are_states rest) h)) (states_named rest (and_right (is_state s) (are_states rest) h))
+
+named_at : (es : List Entity) → AllNamed es → (x : ℕ) → x < length es → words.is_name (name_at es x) ≡ true
+named_at [] a x l = absurd (omega arith)
+named_at (e ∷ es) a zero l = a.0
+named_at (e ∷ es) a (suc x) l = named_at es a.1 x (omega arith)
+
+names_at : (es : List Entity) (x : ℕ) → get_or (map (λ (e : Entity). e.name.name) es) x [] ≡ name_at es x
+names_at [] x = refl
+names_at (e ∷ es) zero = refl
+names_at (e ∷ es) (suc x) = names_at es x
+
+-- counts
+
+declared_length : (ls : Levels) (ds : List Decl) → length (all_declared ls ds) ≡ length ds
+declared_length ls [] = refl
+declared_length ls (d ∷ ds) = ap suc (declared_length ls ds)
+
+children_length : (ds : List Decl) → length (no_children ds) ≡ length ds
+children_length [] = refl
+children_length (d ∷ ds) = ap suc (children_length ds)
+
+less_than : (x n : ℕ) → nat_lt x n ≡ true → x < n
+less_than x n h = grind (arith, common_steps)
+
+at_most : (a b : ℕ) → nat_le a b ≡ true → a ≤ b
+at_most a b h = grind (arith, common_steps)
+
+past : (xs : List ℕ) (p : ℕ) → 0 < get_or xs p 0 → p < length xs
+past [] p h = absurd (omega arith)
+past (x ∷ xs) zero h = omega arith
+past (x ∷ xs) (suc p) h = let i = past xs p h in omega arith
+
+le_root : (p n : ℕ) → p < suc n → nat_le p n ≡ true
+le_root p n h = grind (arith, common_steps)
+
+length_last : {A : Type 0} (xs : List A) (y : A) → length (xs ++ y ∷ []) ≡ suc (length xs)
+length_last [] y = refl
+length_last (x ∷ xs) y = ap (λ (n : ℕ). suc n) (length_last xs y)
+
+-- a group is no longer than there are states
+
+length_below : (g : StateList) → group_length g ≤ states_below g
+length_below NoState = omega arith
+length_below (AndState (StateOf place name kind body kids) rest) = let i = length_below rest in omega arith
+
+mutual
+  unfolding state_count states_count
+
+  counted_state : (s : StateTree) → states_in s ≡ state_count s
+  counted_state (StateOf place name kind body kids) = ap (λ (n : ℕ). 1 + n) (counted_states kids)
+
+  counted_states : (g : StateList) → states_below g ≡ states_count g
+  counted_states NoState = refl
+  counted_states (AndState s rest) = let i = counted_state s in let j = counted_states rest in omega arith
+
+abbrev AllAtMost : ℕ → List ℕ → Type 0
+AllAtMost n [] = Unit {0}
+AllAtMost n (x ∷ xs) = (x ≤ n) × AllAtMost n xs
+
+most_more : (m n : ℕ) (xs : List ℕ) → m ≤ n → AllAtMost m xs → AllAtMost n xs
+most_more m n [] l h = tt
+most_more m n (x ∷ xs) l h = (let i = h.0 in omega arith, most_more m n xs l h.1)
+
+most_join : (n : ℕ) (xs ys : List ℕ) → AllAtMost n xs → AllAtMost n ys → AllAtMost n (xs ++ ys)
+most_join n [] ys h k = k
+most_join n (x ∷ xs) ys h k = (h.0, most_join n xs ys h.1 k)
+
+mutual
+  kids_state : (s : StateTree) → AllAtMost (states_in s) (state_children s)
+  kids_state (StateOf place name kind body kids) =
+      (let i = length_below kids in omega arith, most_more (states_below kids) (1 + states_below kids) (group_children kids) (omega arith) (kids_group kids))
+
+  kids_group : (g : StateList) → AllAtMost (states_below g) (group_children g)
+  kids_group NoState = tt
+  kids_group (AndState s rest) =
+      most_join (states_below (AndState s rest)) (state_children s) (group_children rest)
+      (most_more (states_in s) (states_below (AndState s rest)) (state_children s) (omega arith) (kids_state s))
+      (most_more (states_below rest) (states_below (AndState s rest)) (group_children rest) (omega arith) (kids_group rest))
+
+no_kids : (n : ℕ) (ds : List Decl) → AllAtMost n (no_children ds)
+no_kids n [] = tt
+no_kids n (d ∷ ds) = (omega arith, no_kids n ds)
+
+most_at : (n : ℕ) (xs : List ℕ) → AllAtMost n xs → (p : ℕ) → get_or xs p 0 ≤ n
+most_at n [] h p = omega arith
+most_at n (x ∷ xs) h zero = h.0
+most_at n (x ∷ xs) h (suc p) = most_at n xs h.1 p
+
+state_limit : (m n k : ℕ) → m ≤ n → n ≡ k → k ≤ 256 → m ≤ 2 ^ 64
+state_limit m n k h e l = omega arith
+
+site_limit : (m : ℕ) → m ≤ 4096 → 1 + m ≤ 2 ^ 64
+site_limit m h = omega arith
+
+some_states : (g : StateList) → has_state g ≡ true → 0 < group_length g
+some_states NoState h = absurd (impossible h)
+  where
+    impossible : false ≡ true → ⊥
+    impossible e = cc
+some_states (AndState s rest) h = omega arith
+
+module _ (ls : Levels) (D : DesignTree) (sg : IsSound ls D) where
+  abbrev es : List Entity
+  es = entities_of D
+
+  abbrev w : World
+  w = world_of ls D
+
+  abbrev d : Named
+  d = named_of ls D
+
+  split : (is_tree D ≡ true) × (is_within_limits D ≡ true)
+  unfolding is_whole
+  split = (and_left (is_tree D) (is_within_limits D) sg.whole, and_right (is_tree D) (is_within_limits D) sg.whole)
+
+  no_name_twice : twice [] es ≡ []
+  no_name_twice =
+      nil_left (twice [] es) (declarations_faults ls.names (order_of ls).le D.declarations)
+      (nil_left (twice [] es ++ declarations_faults ls.names (order_of ls).le D.declarations) (states_faults ls.names (order_of ls).le (what_is es) D.states) sg.formed.names)
+
+  states_fit : states_faults ls.names (order_of ls).le (what_is es) D.states ≡ []
+  states_fit = nil_right _ _ sg.formed.names
+
+  in_length : (x : ℕ) → nat_lt x (root w) ≡ true → x < length es
+  in_length x h = subst (λ (n : ℕ). x < n) (entities_length ls D) (less_than x (root w) h)
+
+  number_at : (x : ℕ) → nat_lt x (root w) ≡ true → entity_number es (name d x) ≡ x
+  number_at x l = ap (λ (a : List ℕ). entity_number es a) (names_at es x) ∙ unique es no_name_twice x (in_length x l)
+
+  all_named : AllNamed es
+  all_named =
+      named_join (declared_in D.declarations) (group_entities D.states)
+      (declared_named D.declarations (and_left (list_all is_declaration D.declarations) (has_state D.states) (and_left (list_all is_declaration D.declarations && has_state D.states) (are_states D.states) split.0)))
+      (states_named D.states (and_right (list_all is_declaration D.declarations && has_state D.states) (are_states D.states) split.0))
+
+  is_named : (x : ℕ) → nat_lt x (root w) ≡ true → words.is_name (name d x) ≡ true
+  is_named x l = ap words.is_name (names_at es x) ∙ named_at es all_named x (in_length x l)
+
+  pub names : NamesApart d
+  names = record {
+    apart = λ x y l m.
+        same_test (bytes_eq (name d x) (name d y)) (nat_eq x y)
+        (λ i. eq-eqb x y (sym (number_at x l) ∙ ap (λ (a : List ℕ). entity_number es a) (name_is (name d x) (name d y) i) ∙ number_at y m))
+        (λ i. subst (λ (z : ℕ). bytes_eq (name d x) (name d z) ≡ true) (eqb-true x y i) (same_name (name d x)));
+    words = λ x l. word_of (name d x) (is_named x l);
+    named = is_named;
+  }
+
+  few_sites : 1 + sites_of D ≤ 2 ^ 64
+  few_sites =
+      site_limit (sites_of D) (within (sites_of D) (states_commands D.states) (states_few es D.states) (at_most (states_commands D.states) most_commands (and_right _ (nat_le (states_commands D.states) most_commands) split.1)))
+    where
+      within : (m n : ℕ) → m ≤ n → n ≤ 4096 → m ≤ 4096
+      within m n h k = omega (arith, h, k)
+
+  child_count : length w.children ≡ suc (root w)
+  child_count =
+      let kids = group_children D.states in
+      let n : root w ≡ length (no_children D.declarations ++ kids) =
+      length-append (all_declared ls D.declarations) (worlds.group_entities ls 0 (length D.declarations) D.states)
+      ∙ ap (λ m. m + length (worlds.group_entities ls 0 (length D.declarations) D.states)) (declared_length ls D.declarations)
+      ∙ ap (λ m. length D.declarations + m) (group_count ls 0 (length D.declarations) D.states)
+      ∙ ap (λ m. length D.declarations + m) (sym (group_kids D.states))
+      ∙ ap (λ m. m + length kids) (sym (children_length D.declarations))
+      ∙ sym (length-append (no_children D.declarations) kids) in
+      length_last (no_children D.declarations ++ kids) (group_length D.states) ∙ ap (λ (m : ℕ). suc m) (sym n)
+
+  few_kids : (p : ℕ) → children w p ≤ 2 ^ 64
+  few_kids p =
+      let all = states_below D.states in
+      state_limit (children w p) all (states_count D.states)
+      (most_at all w.children
+      (most_join all (no_children D.declarations ++ group_children D.states) (group_length D.states ∷ [])
+      (most_join all (no_children D.declarations) (group_children D.states) (no_kids all D.declarations) (kids_group D.states)) (length_below D.states, tt)) p)
+      (counted_states D.states)
+      (at_most (states_count D.states) most_states (and_right _ (nat_le (states_count D.states) most_states) (and_left _ _ (and_left _ _ split.1))))
+
+  pub design : Design d (width_of (order_of ls)) (sites_of D)
+  design = record {
+    fine = fine_law names_fit_law ls D sg.lattice.laws sg.formed;
+    exact = exact ls D;
+    tidy = tidy ls D;
+    numbered = numbered ls D states_fit;
+    few = few_sites;
+    few_children = few_kids;
+    names = names;
+    parents = λ p h. le_root p (root w) (subst (λ (n : ℕ). p < n) child_count (past w.children p h));
+    joined = sg.lattice.codes.joined;
+    within = sg.lattice.codes.within;
+    small = sg.lattice.codes.small;
+    distinct = distinct d (width_of (order_of ls)) (sites_of D) names;
+  }
+
+  pub some_child : 0 < children w (root w)
+  some_child =
+      subst (λ (n : ℕ). 0 < n) (sym (root_children ls D))
+      (some_states D.states (and_right (list_all is_declaration D.declarations) (has_state D.states) (and_left (list_all is_declaration D.declarations && has_state D.states) (are_states D.states) split.0)))
+
+pub plain_stands : ListsServe → SitesInOrder → PlainStands
+plain_stands serve ordered ls D sg =
+    let d = named_of ls D in
+    let u = width_of (order_of ls) in
+    record {
+      interface = interface d u (sites_of D) (design ls D sg) (some_child ls D sg);
+      run = run_stands d u (sites_of D) (design ls D sg) serve ordered (some_child ls D sg);
+    }

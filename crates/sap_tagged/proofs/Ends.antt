@@ -1,0 +1,95 @@
+-- What the wires of sites say after a cycle in which they began at 0.
+use Rattle.std.proofs.Common.{◌≡◌, ℕ, zero, suc, ◌+◌, ◌<◌, ◌≤◌, ◌⊎◌, ◌↔◌, Bool, true, false, ◌||◌, List, [], ◌∷◌, refl, sym, ap, ◌∙◌, subst, arith, nat_eq, inl, inr, if◌then◌else◌}
+use Rattle.std.proofs.lemmas.Bool.{cases_Bool, eqb-true, eq-eqb, ne_eqb}
+use Rattle.sap_meaning.specs.Store.{Refusal}
+use Rattle.sap_meaning.specs.Sites.{refused_sites, RisesFrom, Sublist}
+use Rattle.sap_premises.proofs.Rises.{count_from}
+use Rattle.sap_interface.specs.StandsFor.{IsRefusedAt, IsRefused}
+use Rattle.sap_tagged.specs.Stands.{refused_after, level_after}
+use Rattle.sap_tagged.proofs.Bools.{apart_tests, second, either_second}
+
+abbrev has : ℕ → List Refusal → Bool
+has k [] = false
+has k (r ∷ rs) = nat_eq r.site k || has k rs
+
+refused_is : (k : ℕ) (rs : List Refusal) (v : ℕ) → refused_after k rs v ≡ (if has k rs then 1 else v)
+refused_is k [] v = refl
+refused_is k (r ∷ rs) v = refused_is k rs _ ∙ both (nat_eq r.site k) (has k rs)
+  where
+    both : (a b : Bool) → (if b then 1 else (if a then 1 else v)) ≡ (if a || b then 1 else v)
+    both true true = refl
+    both true false = refl
+    both false b = refl
+
+has_refused : (k : ℕ) (rs : List Refusal) → has k rs ≡ true → IsRefused rs k
+has_refused k [] h = absurd (apart_tests (sym h))
+has_refused k (r ∷ rs) h = elim (cases_Bool (nat_eq r.site k)) [
+  | inl t ↦ (r.level, inl (eqb-true r.site k t, refl))
+  | inr t ↦ (let i = has_refused k rs (second (nat_eq r.site k) (has k rs) h t) in (i.0, inr i.1))
+]
+
+refused_has : (k t : ℕ) (rs : List Refusal) → IsRefusedAt rs k t → has k rs ≡ true
+refused_has k t [] h = absurd h
+refused_has k t (r ∷ rs) (inl e) = rw (eq-eqb r.site k e.0) refl
+refused_has k t (r ∷ rs) (inr h) = either_second (nat_eq r.site k) (has k rs) (refused_has k t rs h)
+
+pub refusals_told : (k : ℕ) (rs : List Refusal) (v : ℕ) → v ≡ refused_after k rs 0 → (v ≡ 1) ↔ IsRefused rs k
+refusals_told k rs v e = (
+  λ one. elim (cases_Bool (has k rs)) [
+    | inl t ↦ has_refused k rs t
+    | inr t ↦ absurd (no_one (sym (e ∙ refused_is k rs 0 ∙ ap (λ (b : Bool). if b then 1 else 0) t) ∙ one))
+  ],
+  λ r. e ∙ refused_is k rs 0 ∙ ap (λ (b : Bool). if b then 1 else 0) (refused_has k r.0 rs r.1),
+)
+  where
+    no_one : ◌≡◌ {A = ℕ} 0 1 → ⊥
+    no_one e = omega arith
+
+level_past : (code : ℕ → ℕ) (k n : ℕ) (rs : List Refusal) (v : ℕ) → k < n → RisesFrom n (refused_sites rs) → level_after code k rs v ≡ v
+level_past code k n [] v l h = refl
+level_past code k n (r ∷ rs) v l h =
+    let m : n ≤ r.site = h.0 in
+    rw (ne_eqb r.site k (λ e. omega (arith, l, m, e))) (level_past code k (suc r.site) rs v (omega (arith, l, m)) h.1)
+
+pub levels_told : (code : ℕ → ℕ) (k t n : ℕ) (rs : List Refusal) (v : ℕ) → RisesFrom n (refused_sites rs) → IsRefusedAt rs k t → level_after code k rs v ≡ code t
+levels_told code k t n [] v h i = absurd i
+levels_told code k t n (r ∷ rs) v h (inl e) =
+    ap (λ (b : Bool). level_after code k rs (if b then code r.level else v)) (eq-eqb r.site k e.0)
+    ∙ level_past code k (suc r.site) rs (code r.level) (here r.site k e.0) h.1 ∙ ap code e.1
+  where
+    here : (a b : ℕ) → a ≡ b → b < suc a
+    here a b e = omega arith
+levels_told code k t n (r ∷ rs) v h (inr i) = levels_told code k t (suc r.site) rs _ h.1 i
+
+-- members of lists of sites
+
+abbrev pub Among : List ℕ → ℕ → Type 0
+Among [] k = ⊥
+Among (x ∷ xs) k = (x ≡ k) ⊎ Among xs k
+
+refused_among : (rs : List Refusal) (k t : ℕ) → IsRefusedAt rs k t → Among (refused_sites rs) k
+refused_among [] k t h = absurd h
+refused_among (r ∷ rs) k t (inl e) = inl e.0
+refused_among (r ∷ rs) k t (inr h) = inr (refused_among rs k t h)
+
+among_sublist : (xs ys : List ℕ) (k : ℕ) → Sublist xs ys → Among xs k → Among ys k
+among_sublist [] ys k s h = absurd h
+among_sublist (x ∷ xs) [] k s h = absurd s
+among_sublist (x ∷ xs) (y ∷ ys) k (inl s) (inl e) = inl (sym s.0 ∙ e)
+among_sublist (x ∷ xs) (y ∷ ys) k (inl s) (inr h) = inr (among_sublist xs ys k s.1 h)
+among_sublist (x ∷ xs) (y ∷ ys) k (inr s) h = inr (among_sublist (x ∷ xs) ys k s h)
+
+pub counted_bounds : (n k : ℕ) (j : ℕ) → Among (count_from n k) j → (k ≤ j) × (j < k + n)
+counted_bounds zero k j h = absurd h
+counted_bounds (suc n) k j (inl e) = (omega (arith, e), omega (arith, e))
+counted_bounds (suc n) k j (inr h) = let i = counted_bounds n (suc k) j h in (omega (arith, i.0), omega (arith, i.1))
+
+pub sites_told : (sites : ℕ) (rs : List Refusal) (ps : List ℕ) (k t : ℕ) → ps ≡ count_from sites 1 → Sublist (refused_sites rs) ps → IsRefusedAt rs k t → (1 ≤ k) × (k ≤ sites)
+sites_told sites rs ps k t e s i =
+    let m = among_sublist (refused_sites rs) ps k s (refused_among rs k t i) in
+    let b = counted_bounds sites 1 k (subst (λ (xs : List ℕ). Among xs k) e m) in
+    (b.0, omega (arith, b.1))
+
+pub count_rises : (n k : ℕ) → RisesFrom k (count_from n k)
+count_rises zero k = tt
+count_rises (suc n) k = (omega arith, count_rises n (suc k))

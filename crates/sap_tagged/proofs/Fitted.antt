@@ -1,0 +1,133 @@
+-- The program of a well-formed design has what the rules ask for.
+use Rattle.std.proofs.Common.{◌≡◌, ℕ, ◌+◌, ◌*◌, ◌<◌, ◌≤◌, List, length, Bool, true, ◌&&◌, IsTrue, refl, ap, ap₂, arith, nat_le}
+use Rattle.std.specs.List.{count_by}
+use Rattle.std.proofs.lemmas.Grind.{common_steps}
+use Rattle.sap_tree.specs.Syntax as tree
+use Rattle.sap_tree.specs.Syntax.{DesignTree}
+use Rattle.sap_tree.specs.Whole.{is_tree, is_whole, is_input, is_register, is_memory, command_count, block_count, else_count, list_count, state_count, states_count, states_depth, state_commands, states_commands}
+use Rattle.sap_lattice.specs.Levels.{Levels, order_of}
+use Rattle.sap_lattice.specs.Codes.{width_of}
+use Rattle.sap_names.specs.Entities.{entities_of}
+use Rattle.sap_names.specs.declared.entity.Entity.{Entity}
+use Rattle.sap_meaning.specs.Program.{World, root, Command, Do, Try, If, Block, End, Then, State, Node, Group, None, More}
+use Rattle.sap_meaning.specs.Checks.{Spot}
+use Rattle.sap_resolve.specs.Worlds.{world_of, states_in}
+use Rattle.sap_resolve.specs.Sites.{Home, simple_sites, command_sites, block_sites, state_sites}
+use Rattle.sap_resolve.specs.Resolve.{command_of, block_of, else_of, list_of, state_of, group_of, states_of}
+use Rattle.sap_resolve.specs.Fill.{filled, filled_block, filled_state, filled_group}
+use Rattle.sap_sized.specs.Ranges.{IsWidth}
+use Rattle.sap_sized.proofs.Declared.{resolved}
+use Rattle.sap_sized.proofs.Programs.{faultless, sizes_fit_law}
+use Rattle.sap_sized.proofs.RangedPrograms.{widths_in_range_law}
+use Rattle.sap_sized.proofs.Tags.{level_count}
+use Rattle.sap_interface.specs.Designs.{named_of, sites_of}
+use Rattle.sap_tagged.specs.Commands.{wires, wires_block}
+use Rattle.sap_tagged.specs.States.{wires_state, wires_group}
+use Rattle.sap_tagged.specs.Law.{IsSound, PlainsKeepRules, PlainsWriteOnce}
+use Rattle.sap_tagged.proofs.Bools.{both_true}
+use Rattle.sap_tagged.proofs.Conditions.{group_conditions, filled_group_conditions}
+use Rattle.sap_tagged.proofs.Rules.{Fitting}
+use Rattle.sap_tagged.proofs.Plains.{plain}
+use Rattle.sap_tagged.proofs.Once.{writes_once}
+use Rattle.sap_tagged.proofs.Designs.{design, some_child}
+
+-- filling in what hangs adds no wire
+module _ (w : World) where
+  mutual
+    wires_filled : (at : Spot) (c : Command) → wires (filled w at c) ≡ wires c
+    wires_filled at (Do k) = refl
+    wires_filled at (Try k hang h) = ap (λ (n : ℕ). 5 + n) (block_filled at h)
+    wires_filled at (If hang e a b) = ap₂ (λ (m n : ℕ). 2 + m + n) (block_filled at a) (block_filled at b)
+
+    block_filled : (at : Spot) (b : Block) → wires_block (filled_block w at b) ≡ wires_block b
+    block_filled at End = refl
+    block_filled at (Then c cs) = ap₂ (λ (m n : ℕ). m + n) (wires_filled at c) (block_filled at cs)
+
+  mutual
+    state_filled : (p : ℕ) (t : State) → wires_state (filled_state w p t) ≡ wires_state t
+    state_filled p (Node s b g) =
+        ap₂ (λ (m n : ℕ). 1 + m + n) (block_filled (record { state = s; parent = p; children = g }) b) (group_filled s g)
+
+    pub group_filled : (p : ℕ) (g : Group) → wires_group (filled_group w p g) ≡ wires_group g
+    group_filled p None = refl
+    group_filled p (More t g) = ap₂ (λ (m n : ℕ). m + n) (state_filled p t) (group_filled p g)
+
+-- five wires a command, and one a state
+
+module _ (ls : Levels) (h : Home) where
+  mutual
+    unfolding command_count block_count else_count list_count
+
+    command_few : (k : ℕ) (c : tree.Command) → wires (command_of ls h k c) ≤ 5 * command_count c
+    command_few k (tree.Do c) = omega arith
+    command_few k (tree.Try c place b) = let i = block_few (k + simple_sites h c) b in omega (arith, i)
+    command_few k (tree.If place e a b) = let i = block_few k a in let j = else_few (k + block_sites h a) b in omega (arith, i, j)
+
+    block_few : (k : ℕ) (b : tree.CommandBlock) → wires_block (block_of ls h k b) ≤ 5 * block_count b
+    block_few k (tree.Commands cs after) = list_few k cs
+
+    else_few : (k : ℕ) (b : tree.ElseBlock) → wires_block (else_of ls h k b) ≤ 5 * else_count b
+    else_few k tree.NoElse = omega arith
+    else_few k (tree.Else b) = block_few k b
+
+    list_few : (k : ℕ) (cs : tree.CommandList) → wires_block (list_of ls h k cs) ≤ 5 * list_count cs
+    list_few k tree.NoCommand = omega arith
+    list_few k (tree.AndCommand c cs) = let i = command_few k c in let j = list_few (k + command_sites h c) cs in omega (arith, i, j)
+
+module _ (ls : Levels) (es : List Entity) where
+  mutual
+    unfolding state_count states_count state_commands states_commands
+
+    state_few : (k x : ℕ) (s : tree.StateTree) → wires_state (state_of ls es k x s) ≤ 5 * state_commands s + state_count s
+    state_few k x (tree.StateOf place name kind body kids) =
+        let h : Home = record { entities = es; kind = kind; children = kids } in
+        let i = block_few ls h k body in
+        let j = group_few (k + block_sites h body) (x + 1) kids in
+        omega (arith, i, j)
+
+    pub group_few : (k x : ℕ) (g : tree.StateList) → wires_group (group_of ls es k x g) ≤ 5 * states_commands g + states_count g
+    group_few k x tree.NoState = omega arith
+    group_few k x (tree.AndState s rest) =
+        let i = state_few k x s in let j = group_few (k + state_sites es s) (x + states_in s) rest in omega (arith, i, j)
+
+limited : (t : Bool) (i r m s d c : ℕ) → IsTrue (t && (nat_le i 64 && nat_le r 256 && nat_le m 16 && nat_le s 256 && nat_le d 16 && nat_le c 4096)) → (s ≤ 256) × (c ≤ 4096)
+limited t i r m s d c h = (grind (arith, common_steps), grind (arith, common_steps))
+
+pub limits : (d : DesignTree) → IsTrue (is_whole d) → (states_count d.states ≤ 256) × (states_commands d.states ≤ 4096)
+unfolding is_whole
+limits d h =
+    limited (is_tree d) (count_by is_input d.declarations) (count_by is_register d.declarations) (count_by is_memory d.declarations) (states_count d.states) (states_depth d.states) (states_commands d.states) h
+
+pub tree_of : (d : DesignTree) → IsTrue (is_whole d) → is_tree d ≡ true
+unfolding is_whole
+tree_of d h = (both_true (is_tree d) _ h).0
+
+module _ (ls : Levels) (D : DesignTree) (sg : IsSound ls D) where
+  levels_few : (order_of ls).count ≤ 16
+  levels_few = (let c : (order_of ls).count ≡ length ls.names = level_count ls in let e : length ls.names ≤ 16 = sg.lattice.names.before.not_too_many in omega arith)
+
+  tag_wide : IsWidth (width_of (order_of ls))
+  tag_wide =
+      (let a : 0 < width_of (order_of ls) = sg.lattice.narrow.some in
+      let b : width_of (order_of ls) < (order_of ls).count = sg.lattice.narrow.few in
+      let c : (order_of ls).count ≤ 16 = levels_few in
+      (omega arith, omega arith))
+
+  fitting : Fitting (named_of ls D) (width_of (order_of ls))
+  fitting = record {
+    sized = sizes_fit_law ls D sg.lattice.laws sg.formed.names;
+    ranged = widths_in_range_law ls D (tree_of D sg.whole) sg.formed.names;
+    conditions =
+        (let n = faultless ls (order_of ls).le D sg.formed.names in
+        let w = world_of ls D in
+        filled_group_conditions w (root w) (states_of ls D)
+        (group_conditions ls (order_of ls).le (entities_of D) w (resolved ls (order_of ls).le D n.0) 1 (length D.declarations) D.states n.1));
+    wide = tag_wide;
+    few_levels = levels_few;
+  }
+
+pub plains_keep : PlainsKeepRules
+plains_keep ls D sg = plain (named_of ls D) (width_of (order_of ls)) (sites_of D) (design ls D sg) (fitting ls D sg) (some_child ls D sg)
+
+pub plains_write : PlainsWriteOnce
+plains_write ls D sg = writes_once (named_of ls D) (width_of (order_of ls)) (sites_of D) (design ls D sg).names (design ls D sg).fine

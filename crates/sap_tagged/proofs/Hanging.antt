@@ -1,0 +1,135 @@
+-- What hangs has a tag that can be assigned.
+use Rattle.std.proofs.Common.{◌≡◌, ℕ, suc, Bool, true, false, ◌||◌, List, refl, sym, ◌∙◌, subst, nat_lt, nat_eq, inl, inr}
+use Rattle.std.proofs.lemmas.Bool.{cases_Bool, eqb-true}
+use Rattle.sap_meaning.specs.Program.{World, Kind, entity, root, is_dynamic, is_input, is_memory, is_register, is_state, listed, Step, Set, Write, Retag, RetagCell, Goto, Fall, Command, Do, Try, If, Block, End, Then, State, Node, Group, None, More, kind_is_input, kind_is_register, kind_is_memory, kind_is_state}
+use Rattle.sap_meaning.specs.Program as program
+use Rattle.sap_meaning.specs.Checks.{Spot}
+use Rattle.sap_meaning.specs.Touches.{step_assigns, assigns, block_assigns, group_assigns, among, step_hangs, hangs, block_hangs, touches, root_touches}
+use Rattle.sap_meaning.specs.Runs.{listed_alone}
+use Rattle.sap_meaning.specs.Fine.{FineStep, FineCommand, FineBlock, FineGroup, ExactStep, Exact, ExactBlock}
+use Rattle.sap_tagged.specs.Stands.{has_tag}
+use Rattle.sap_tagged.proofs.Bools.{apart_tests, both_true, register_within, memory_within, tagged, tagged_memory}
+use Rattle.sap_tagged.proofs.Groups.{IsState, group_states}
+use Rattle.sap_tagged.proofs.Bodies.{Hangs, CommandHangs, BlockHangs}
+
+-- a register, a memory, or a state
+abbrev pub CanHang : World → ℕ → Type 0
+CanHang w x = (nat_lt x (root w) ≡ true) × (is_input w x ≡ false)
+
+register_can : (w : World) (x : ℕ) → is_register w x ≡ true → CanHang w x
+register_can w x h = (register_within w x h, by (entity w x).kind h)
+  where
+    by : (k : Kind) → kind_is_register k ≡ true → kind_is_input k ≡ false
+    by program.input h = absurd (apart_tests (sym h))
+    by program.register h = refl
+    by (program.memory depth) h = refl
+    by (program.state place last) h = refl
+
+memory_can : (w : World) (x : ℕ) → is_memory w x ≡ true → CanHang w x
+memory_can w x h = (memory_within w x h, by (entity w x).kind h)
+  where
+    by : (k : Kind) → kind_is_memory k ≡ true → kind_is_input k ≡ false
+    by program.input h = absurd (apart_tests (sym h))
+    by program.register h = refl
+    by (program.memory depth) h = refl
+    by (program.state place last) h = refl
+
+state_can : (w : World) (x : ℕ) → IsState w x → CanHang w x
+state_can w x h = (h.declared, by (entity w x).kind h.kind)
+  where
+    by : (k : Kind) → kind_is_state k ≡ true → kind_is_input k ≡ false
+    by program.input h = absurd (apart_tests (sym h))
+    by program.register h = refl
+    by (program.memory depth) h = refl
+    by (program.state place last) h = refl
+
+either : {P : Type 0} (a b : Bool) → (a || b) ≡ true → (a ≡ true → P) → (b ≡ true → P) → P
+either true b h f g = f refl
+either false b h f g = g h
+
+moved : (w : World) (x y : ℕ) → nat_eq x y ≡ true → CanHang w y → CanHang w x
+moved w x y e c = subst (CanHang w) (sym (eqb-true x y e)) c
+
+module _ (w : World) (x : ℕ) where
+  module _ (q g : Group) where
+    step_assigned : (k : Step) → FineStep w q g k → step_assigns k x ≡ true → CanHang w x
+    step_assigned (Set site y e) f h = moved w x y h (register_can w y f.0)
+    step_assigned (Write site m i e) f h = moved w x m h (memory_can w m f.0)
+    step_assigned (Retag site y n) f h = absurd (apart_tests (sym h))
+    step_assigned (RetagCell site m j n) f h = absurd (apart_tests (sym h))
+    step_assigned (Goto site target) f h = absurd (apart_tests (sym h))
+    step_assigned (Fall site hang) f h = absurd (apart_tests (sym h))
+
+    mutual
+      assigned : (c : Command) → FineCommand w q g c → assigns c x ≡ true → CanHang w x
+      assigned (Do k) f h = step_assigned k f h
+      assigned (Try k hang b) f h = either (step_assigns k x) (block_assigns b x) h (step_assigned k f.0) (block_assigned b f.1)
+      assigned (If hang e a b) f h = either (block_assigns a x) (block_assigns b x) h (block_assigned a f.1) (block_assigned b f.2)
+
+      block_assigned : (b : Block) → FineBlock w q g b → block_assigns b x ≡ true → CanHang w x
+      block_assigned End f h = absurd (apart_tests (sym h))
+      block_assigned (Then c cs) f h = either (assigns c x) (block_assigns cs x) h (assigned c f.0) (block_assigned cs f.1)
+
+  group_assigned : (q : Group) (n : ℕ) (g : Group) → FineGroup w q n g → group_assigns g x ≡ true → CanHang w x
+  group_assigned q n None f h = absurd (apart_tests (sym h))
+  group_assigned q n (More (Node s b k) g) f h =
+      either (block_assigns b x || group_assigns k x) (group_assigns g x) h
+      (λ i. either (block_assigns b x) (group_assigns k x) i (block_assigned q k b f.0.0.steps) (group_assigned k 0 k f.0.1)) (group_assigned q (suc n) g f.1)
+
+  module _ (q : Group) (s : ℕ) (g : Group) (here : IsState w s) (kids : FineGroup w g 0 g) where
+    step_hung : (k : Step) → FineStep w q g k → step_hangs s g k x ≡ true → CanHang w x
+    step_hung (Set site y e) f h = moved w x y h (register_can w y f.0)
+    step_hung (Write site m i e) f h = moved w x m h (memory_can w m f.0)
+    step_hung (Retag site y n) f h = absurd (apart_tests (sym h))
+    step_hung (RetagCell site m j n) f h = absurd (apart_tests (sym h))
+    step_hung (Goto site target) f h = moved w x s h (state_can w s here)
+    step_hung (Fall site hang) f h = either (among g x) (group_assigns g x) h (λ i. state_can w x (group_states w g 0 g kids x i)) (group_assigned g 0 g kids)
+
+    mutual
+      hung : (c : Command) → FineCommand w q g c → hangs s g c x ≡ true → CanHang w x
+      hung (Do k) f h = step_hung k f h
+      hung (Try k hang b) f h = either (step_hangs s g k x) (block_hangs s g b x) h (step_hung k f.0) (block_hung b f.1)
+      hung (If hang e a b) f h = either (block_hangs s g a x) (block_hangs s g b x) h (block_hung a f.1) (block_hung b f.2)
+
+      block_hung : (b : Block) → FineBlock w q g b → block_hangs s g b x ≡ true → CanHang w x
+      block_hung End f h = absurd (apart_tests (sym h))
+      block_hung (Then c cs) f h = either (hangs s g c x) (block_hangs s g cs x) h (hung c f.0) (block_hung cs f.1)
+
+-- a dynamic entity that can hang has a tag
+dynamic_tag : (w : World) (x : ℕ) → is_dynamic w x ≡ true → CanHang w x → has_tag w x ≡ true × (is_input w x ≡ false)
+dynamic_tag w x t c = elim (cases_Bool (is_memory w x)) [
+  | inl m ↦ (tagged_memory w x m t, c.1)
+  | inr m ↦ (tagged w x c.0 m, c.1)
+]
+
+module _ (w : World) (q : Group) (sp : Spot) (here : IsState w sp.state) (kids : FineGroup w sp.children 0 sp.children) where
+  touched : (c : Command) → FineCommand w q sp.children c → Hangs w (touches w sp c)
+  touched c f x h =
+      let b = both_true (is_dynamic w x) (hangs sp.state sp.children c x) h in
+      dynamic_tag w x b.0 (hung w x q sp.state sp.children here kids c f b.1)
+
+  exact_hangs : (c : Command) (list : List Bool) → FineCommand w q sp.children c → ((x : ℕ) → listed list x ≡ touches w sp c x) → Hangs w (listed list)
+  exact_hangs c list f e x h = touched c f x (sym (e x) ∙ h)
+
+  alone_hangs : (k : Step) → FineStep w q sp.children k → ExactStep w sp k → Hangs w (listed_alone w sp k)
+  alone_hangs (Set site y e) f i x h = absurd (apart_tests (sym h))
+  alone_hangs (Write site m j e) f i x h = absurd (apart_tests (sym h))
+  alone_hangs (Retag site y n) f i x h = absurd (apart_tests (sym h))
+  alone_hangs (RetagCell site m j n) f i x h = absurd (apart_tests (sym h))
+  alone_hangs (Goto site target) f i x h = touched (Do (Goto site target)) f x h
+  alone_hangs (Fall site hang) f i x h = exact_hangs (Do (Fall site hang)) hang f i x h
+
+  mutual
+    command_hangs : (c : Command) → FineCommand w q sp.children c → Exact w sp c → CommandHangs w sp c
+    command_hangs (Do k) f e = alone_hangs k f e
+    command_hangs (Try k hang b) f e = (exact_hangs (Try k hang b) hang f e.0, body_hangs b f.1 e.1)
+    command_hangs (If hang e a b) f i = (exact_hangs (If hang e a b) hang f i.0, body_hangs a f.1 i.1, body_hangs b f.2 i.2)
+
+    pub body_hangs : (b : Block) → FineBlock w q sp.children b → ExactBlock w sp b → BlockHangs w sp b
+    body_hangs End f e = tt
+    body_hangs (Then c cs) f e = (command_hangs c f.0 e.0, body_hangs cs f.1 e.1)
+
+pub root_hangs : (w : World) (g : Group) (list : List Bool) → FineGroup w g 0 g → ((x : ℕ) → listed list x ≡ root_touches w g x) → Hangs w (listed list)
+root_hangs w g list f e x h =
+    let b = both_true (is_dynamic w x) (among g x || group_assigns g x) (sym (e x) ∙ h) in
+    dynamic_tag w x b.0 (either (among g x) (group_assigns g x) b.1 (λ i. state_can w x (group_states w g 0 g f x i)) (group_assigned w x g 0 g f))

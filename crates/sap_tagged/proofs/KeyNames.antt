@@ -1,0 +1,191 @@
+-- Different keys have different names.
+use Rattle.std.proofs.Common.{◌≡◌, ℕ, zero, suc, ◌<◌, [], ◌∷◌, Bool, true, false, refl, sym, ap, ap₂, ◌∙◌, subst, arith, nat_lt, nat_eq, inl, inr, bytes_eq, if◌then◌else◌}
+use Rattle.std.specs.List.{list_all}
+use Rattle.std.specs.Char.{is_ascii_digit}
+use Rattle.std.proofs.lemmas.Bool.{cases_Bool, eqb-true, eq-eqb}
+use Rattle.std.proofs.lemmas.Grind.{common_steps}
+use Rattle.std.proofs.lemmas.Slice.Eq.{bytes_eq-Decides}
+use Rattle.sap_maps.specs.Maps.{Name}
+use Rattle.sap_meaning.specs.Program.{root}
+use Rattle.sap_tree.specs.Words.{is_name}
+use Rattle.sap_net.specs.Names.{is_initial, is_word}
+use Rattle.sap_interface.specs.StandsFor.{Named, name, world}
+use Rattle.sap_tagged.specs.Keys.{Key, Value, Tag, Seat, Refused, Level, Wire, First, Inner, sort, index, same, numeral, entity_word, seat_word, key_name}
+use Rattle.sap_tagged.proofs.Bools.{apart_tests, both_true, flipped, refuted}
+use Rattle.sap_tagged.proofs.Numerals.{numeral_injective, numeral_digits, numeral_zero}
+
+pub same_name : (a : Name) → bytes_eq a a ≡ true
+same_name a = (bytes_eq-Decides a a).1 refl
+
+pub name_is : (a b : Name) → bytes_eq a b ≡ true → a ≡ b
+name_is a b h = (bytes_eq-Decides a b).0 h
+
+pub same_test : (p q : Bool) → (p ≡ true → q ≡ true) → (q ≡ true → p ≡ true) → p ≡ q
+same_test true true f g = refl
+same_test true false f g = sym (f refl)
+same_test false true f g = g refl
+same_test false false f g = refl
+
+numerals_apart : (j k : ℕ) → bytes_eq (numeral j) (numeral k) ≡ nat_eq j k
+numerals_apart j k =
+    same_test (bytes_eq (numeral j) (numeral k)) (nat_eq j k)
+    (λ h. eq-eqb j k (numeral_injective j k (name_is (numeral j) (numeral k) h)))
+    (λ h. subst (λ (i : ℕ). bytes_eq (numeral j) (numeral i) ≡ true) (eqb-true j k h) (same_name (numeral j)))
+
+-- entities have names of their own, which are words, and which the design language takes as names
+pub record NamesApart (d : Named) : Type 0 where
+  pub apart : (x y : ℕ) → nat_lt x (root (world d)) ≡ true → nat_lt y (root (world d)) ≡ true → bytes_eq (name d x) (name d y) ≡ nat_eq x y
+  pub words : (x : ℕ) → nat_lt x (root (world d)) ≡ true → is_word (name d x) ≡ true
+  pub named : (x : ℕ) → nat_lt x (root (world d)) ≡ true → is_name (name d x) ≡ true
+
+-- digits are no word
+no_initial : (c : ℕ) → is_ascii_digit c ≡ true → is_initial c ≡ false
+no_initial c h = grind (arith, common_steps)
+
+no_word : (n : Name) → list_all is_ascii_digit n ≡ true → is_word n ≡ false
+no_word [] h = refl
+no_word (c ∷ cs) h = rw (no_initial c (both_true (is_ascii_digit c) (list_all is_ascii_digit cs) h).0) refl
+
+outside : (x n : ℕ) → nat_lt x n ≡ false → nat_eq x n ≡ false → n < x
+outside x n h e = grind (arith, common_steps)
+
+in_and_out : (x y n : ℕ) → nat_lt x n ≡ true → nat_lt y n ≡ false → nat_eq x y ≡ false
+in_and_out x y n h k = grind (arith, common_steps)
+
+module _ (d : Named) (names : NamesApart d) where
+  abbrev n : ℕ
+  n = root (world d)
+
+  word_no_numeral : (x y : ℕ) → nat_lt x n ≡ true → name d x ≡ numeral y → ⊥
+  word_no_numeral x y h e = apart_tests (sym (names.words x h) ∙ ap is_word e ∙ no_word (numeral y) (numeral_digits y))
+
+  entities_apart : (x y : ℕ) → bytes_eq (entity_word d x) (entity_word d y) ≡ nat_eq x y
+  entities_apart x y = elim (cases_Bool (nat_lt x n)) [
+    | inl i ↦ elim (cases_Bool (nat_lt y n)) [
+      | inl j ↦ rw (i, j) (names.apart x y i j)
+      | inr j ↦ rw (i, j) (refuted (bytes_eq (name d x) (numeral y)) (λ e. word_no_numeral x y i (name_is (name d x) (numeral y) e)) ∙ sym (in_and_out x y n i j))
+    ]
+    | inr i ↦ elim (cases_Bool (nat_lt y n)) [
+      | inl j ↦ rw (i, j) (refuted (bytes_eq (numeral x) (name d y)) (λ e. word_no_numeral y x j (sym (name_is (numeral x) (name d y) e))) ∙ sym (flipped x y ∙ in_and_out y x n j i))
+      | inr j ↦ rw (i, j) (numerals_apart x y)
+    ]
+  ]
+
+  -- the root's word is no entity's
+  root_word : (q : ℕ) → nat_eq q n ≡ false → 48 ∷ [] ≡ entity_word d q → ⊥
+  root_word q j e = elim (cases_Bool (nat_lt q n)) [
+    | inl i ↦ word_no_numeral q 0 i (sym (e ∙ ap (λ (b : Bool). if b then name d q else numeral q) i) ∙ sym numeral_zero)
+    | inr i ↦
+        (let l : n < q = outside q n i j in
+        let z : 0 ≡ q = numeral_injective 0 q (numeral_zero ∙ e ∙ ap (λ (b : Bool). if b then name d q else numeral q) i) in
+        omega (arith, l, z))
+  ]
+
+  seats_apart : (p q : ℕ) → bytes_eq (seat_word d p) (seat_word d q) ≡ nat_eq p q
+  seats_apart p q = elim (cases_Bool (nat_eq p n)) [
+    | inl i ↦ elim (cases_Bool (nat_eq q n)) [
+      | inl j ↦ rw (i, j) (sym (eq-eqb p q (eqb-true p n i ∙ sym (eqb-true q n j))))
+      | inr j ↦
+          rw (i, j)
+          (refuted (bytes_eq (48 ∷ []) (entity_word d q)) (λ e. root_word q j (name_is (48 ∷ []) (entity_word d q) e))
+          ∙ sym (ap (λ (z : ℕ). nat_eq z q) (eqb-true p n i) ∙ flipped n q ∙ j))
+    ]
+    | inr i ↦ elim (cases_Bool (nat_eq q n)) [
+      | inl j ↦
+          rw (i, j)
+          (refuted (bytes_eq (entity_word d p) (48 ∷ [])) (λ e. root_word p i (sym (name_is (entity_word d p) (48 ∷ []) e))) ∙ sym (ap (nat_eq p) (eqb-true q n j) ∙ i))
+      | inr j ↦ rw (i, j) (entities_apart p q)
+    ]
+  ]
+
+  pub names_apart : (a b : Key) → bytes_eq (key_name d a) (key_name d b) ≡ same a b
+  names_apart (Value x) (Value y) = entities_apart x y
+  names_apart (Value x) (Tag y) = refl
+  names_apart (Value x) (Seat y) = refl
+  names_apart (Value x) (Refused y) = refl
+  names_apart (Value x) (Level y) = refl
+  names_apart (Value x) (Wire y) = refl
+  names_apart (Value x) (First y) = refl
+  names_apart (Value x) (Inner y) = refl
+  names_apart (Tag x) (Value y) = refl
+  names_apart (Tag x) (Tag y) = entities_apart x y
+  names_apart (Tag x) (Seat y) = refl
+  names_apart (Tag x) (Refused y) = refl
+  names_apart (Tag x) (Level y) = refl
+  names_apart (Tag x) (Wire y) = refl
+  names_apart (Tag x) (First y) = refl
+  names_apart (Tag x) (Inner y) = refl
+  names_apart (Seat x) (Value y) = refl
+  names_apart (Seat x) (Tag y) = refl
+  names_apart (Seat x) (Seat y) = seats_apart x y
+  names_apart (Seat x) (Refused y) = refl
+  names_apart (Seat x) (Level y) = refl
+  names_apart (Seat x) (Wire y) = refl
+  names_apart (Seat x) (First y) = refl
+  names_apart (Seat x) (Inner y) = refl
+  names_apart (Refused x) (Value y) = refl
+  names_apart (Refused x) (Tag y) = refl
+  names_apart (Refused x) (Seat y) = refl
+  names_apart (Refused x) (Refused y) = numerals_apart x y
+  names_apart (Refused x) (Level y) = refl
+  names_apart (Refused x) (Wire y) = refl
+  names_apart (Refused x) (First y) = refl
+  names_apart (Refused x) (Inner y) = refl
+  names_apart (Level x) (Value y) = refl
+  names_apart (Level x) (Tag y) = refl
+  names_apart (Level x) (Seat y) = refl
+  names_apart (Level x) (Refused y) = refl
+  names_apart (Level x) (Level y) = numerals_apart x y
+  names_apart (Level x) (Wire y) = refl
+  names_apart (Level x) (First y) = refl
+  names_apart (Level x) (Inner y) = refl
+  names_apart (Wire x) (Value y) = refl
+  names_apart (Wire x) (Tag y) = refl
+  names_apart (Wire x) (Seat y) = refl
+  names_apart (Wire x) (Refused y) = refl
+  names_apart (Wire x) (Level y) = refl
+  names_apart (Wire x) (Wire y) = numerals_apart x y
+  names_apart (Wire x) (First y) = refl
+  names_apart (Wire x) (Inner y) = refl
+  names_apart (First x) (Value y) = refl
+  names_apart (First x) (Tag y) = refl
+  names_apart (First x) (Seat y) = refl
+  names_apart (First x) (Refused y) = refl
+  names_apart (First x) (Level y) = refl
+  names_apart (First x) (Wire y) = refl
+  names_apart (First x) (First y) = numerals_apart x y
+  names_apart (First x) (Inner y) = refl
+  names_apart (Inner x) (Value y) = refl
+  names_apart (Inner x) (Tag y) = refl
+  names_apart (Inner x) (Seat y) = refl
+  names_apart (Inner x) (Refused y) = refl
+  names_apart (Inner x) (Level y) = refl
+  names_apart (Inner x) (Wire y) = refl
+  names_apart (Inner x) (First y) = refl
+  names_apart (Inner x) (Inner y) = numerals_apart x y
+
+-- keys by their sort and index
+abbrev key_at : ℕ → ℕ → Key
+key_at zero i = Value i
+key_at (suc zero) i = Tag i
+key_at (suc (suc zero)) i = Seat i
+key_at (suc (suc (suc zero))) i = Refused i
+key_at (suc (suc (suc (suc zero)))) i = Level i
+key_at (suc (suc (suc (suc (suc zero))))) i = Wire i
+key_at (suc (suc (suc (suc (suc (suc zero)))))) i = First i
+key_at (suc (suc (suc (suc (suc (suc (suc k))))))) i = Inner i
+
+key_back : (a : Key) → key_at (sort a) (index a) ≡ a
+key_back (Value x) = refl
+key_back (Tag x) = refl
+key_back (Seat x) = refl
+key_back (Refused x) = refl
+key_back (Level x) = refl
+key_back (Wire x) = refl
+key_back (First x) = refl
+key_back (Inner x) = refl
+
+pub same_is : (a b : Key) → same a b ≡ true → a ≡ b
+same_is a b h =
+    let t = both_true (nat_eq (sort a) (sort b)) (nat_eq (index a) (index b)) h in
+    sym (key_back a) ∙ ap₂ (λ (i j : ℕ). key_at i j) (eqb-true (sort a) (sort b) t.0) (eqb-true (index a) (index b) t.1) ∙ key_back b

@@ -1,0 +1,28 @@
+-- What the law asks of a design's program.
+use Rattle.std.proofs.Common.{◌≡◌, ℕ, ◌+◌, ◌^◌, ◌<◌, ◌≤◌, ◌==◌, true, bit_or, nat_le}
+use Rattle.sap_meaning.specs.Program.{root, children}
+use Rattle.sap_meaning.specs.Fine.{FineProgram, ExactProgram}
+use Rattle.sap_meaning.specs.Sites.{program_sites}
+use Rattle.sap_premises.proofs.Rises.{count_from}
+use Rattle.sap_net.specs.Names.{AreDistinct}
+use Rattle.sap_ir.specs.IsGuarded.{declared}
+use Rattle.sap_plain.specs.Nested.{declarations}
+use Rattle.sap_interface.specs.StandsFor.{Named, world}
+use Rattle.sap_tagged.specs.Plain.{plain_of}
+use Rattle.sap_tagged.proofs.KeyNames.{NamesApart}
+use Rattle.sap_tagged.proofs.Groups.{Tidy}
+
+pub record Design (d : Named) (tag sites : ℕ) : Type 0 where
+  pub fine : FineProgram d.program
+  pub exact : ExactProgram d.program
+  pub tidy : Tidy (world d) d.program.states
+  pub numbered : program_sites d.program ≡ count_from sites 1
+  pub few : 1 + sites ≤ 2 ^ 64
+  pub few_children : (p : ℕ) → children (world d) p ≤ 2 ^ 64
+  pub names : NamesApart d
+  -- what has children is an entity or the root
+  pub parents : (p : ℕ) → 0 < children (world d) p → nat_le p (root (world d)) ≡ true
+  pub joined : (x y : ℕ) → d.code ((world d).order.join x y) ≡ bit_or (d.code x) (d.code y)
+  pub within : (x y : ℕ) → (bit_or (d.code x) (d.code y) == d.code y) ≡ (world d).order.le x y
+  pub small : (x : ℕ) → d.code x < 2 ^ tag
+  pub distinct : AreDistinct (declared (declarations (plain_of d tag sites)))

@@ -1,0 +1,238 @@
+-- The plain program of a design keeps the rules of its type.
+use Rattle.std.proofs.Common.{◌≡◌, ℕ, zero, suc, ◌+◌, ◌≤◌, List, [], ◌∷◌, ◌++◌, map, Bool, true, false, not, ◌||◌, Some, refl, sym, ap, ap₂, ◌∙◌, subst, if◌then◌else◌, arith, nat_lt, bytes_eq, inl, inr}
+use Rattle.std.specs.List.{AllByRecursion}
+use Rattle.std.proofs.Math.Pow.{pow_pos}
+use Rattle.sap_maps.specs.Maps.{Name}
+use Rattle.sap_maps.specs.Scope.{find}
+use Rattle.sap_meaning.specs.Program as program
+use Rattle.sap_meaning.specs.Program.{World, Kind, entity, root, children, width, is_input, is_register, is_memory, is_dynamic, State, Node, Group, More, Command, Do, Try, If, Block, End, Then, kind_is_input, kind_is_register, kind_is_memory, kind_is_state}
+use Rattle.sap_meaning.specs.Sized.{SizedProgram}
+use Rattle.sap_sized.specs.Ranges.{IsWidth, RangedProgram}
+use Rattle.sap_net.specs.Names.{is_name, is_among, AreDistinct}
+use Rattle.sap_ir.specs.declared.guarded.Var.{Var}
+use Rattle.sap_ir.specs.Source.{Source}
+use Rattle.sap_ir.specs.IsGuarded.{IsGuarded, IsPlainVar, IsRegisterVar, IsStore, declared, is_helping, variable_names}
+use Rattle.sap_ir.proofs.Declared.{among_front, among_behind}
+use Rattle.sap_plain.specs.Nested.{Nested, declarations, seat_width}
+use Rattle.sap_plain.proofs.SeatWidths.{seat_positive, seat_within}
+use Rattle.sap_interface.specs.StandsFor.{Named, world, depth}
+use Rattle.sap_tagged.specs.Keys.{Key, Value, Tag, First, Inner, key_name}
+use Rattle.sap_tagged.specs.Setting.{Setting, setting_of}
+use Rattle.sap_tagged.specs.Commands.{wires, wires_block}
+use Rattle.sap_tagged.specs.States.{saved, wires_group}
+use Rattle.sap_tagged.specs.Plain.{variable, wire, names_of, level_at_start, value_var, tag_var, seat_var, for_entities, shown_registers, has_own_tag, tag_registers, seat_registers, site_wires, step_wires, command_wires, block_wires, state_wires, group_wires, first_wires, inner_wires, memory_of, tags_of, plain_of}
+use Rattle.sap_tagged.proofs.Bools.{apart_tests, either_second}
+use Rattle.sap_tagged.proofs.KeyNames.{same_name}
+use Rattle.sap_tagged.proofs.Members.{In, among_in, in_front, other}
+use Rattle.sap_tagged.proofs.Premises.{Design}
+use Rattle.sap_tagged.proofs.Distinct.{Every, every_join, once_join, lists_apart, distinct_keys, map_join, entities_once, entities_all, entities_named, site_keys, sites_once, sites_named, list_number, all_keys, all_named, register_lists}
+use Rattle.sap_tagged.proofs.Conditions.{GroupConditions}
+use Rattle.sap_tagged.proofs.Fits.{one_bit}
+use Rattle.sap_tagged.proofs.Namings.{all_join, key_is_name, key_no_help}
+
+-- what the rules ask of a design's program besides
+pub record Fitting (d : Named) (tag : ℕ) : Type 0 where
+  pub sized : SizedProgram d.program
+  pub ranged : RangedProgram d.program
+  pub conditions : GroupConditions (world d) d.program.states
+  pub wide : IsWidth tag
+  pub few_levels : (world d).order.count ≤ 16
+
+all_of : {A : Type 0} (P : A → Type 0) (xs : List A) → Every P xs → AllByRecursion P xs
+all_of P [] h = tt
+all_of P (x ∷ xs) h = (h.0, all_of P xs h.1)
+
+all_named_keys : (d : Named) (P : Name → Type 0) → ((a : Key) → P (key_name d a)) → (ks : List Key) → AllByRecursion P (map (key_name d) ks)
+all_named_keys d P f [] = tt
+all_named_keys d P f (a ∷ ks) = (f a, all_named_keys d P f ks)
+
+-- what is found under a name
+pub among_by : {A : Type 0} (f : A → Name) (xs : List A) (x : A) → In xs x → is_among (f x) (map f xs) ≡ true
+among_by f [] x h = absurd h
+among_by f (y ∷ ys) x (inl e) = ap (λ n. is_among n (map f (y ∷ ys))) (ap f (sym e)) ∙ rw (same_name (f y)) refl
+among_by f (y ∷ ys) x (inr h) = either_second (bytes_eq (f x) (f y)) (is_among (f x) (map f ys)) (among_by f ys x h)
+
+pub find_by : {A X : Type 0} (f : A → Name) (of : A → X) (xs : List A) (x : A) → AreDistinct (map f xs) → In xs x → find (map (λ z. (f z, of z)) xs) (f x) ≡ Some (of x)
+find_by f of [] x d h = absurd h
+find_by f of (y ∷ ys) x d (inl e) =
+    ap (λ z. find (map (λ z. (f z, of z)) (y ∷ ys)) (f z)) (sym e) ∙ rw (same_name (f y)) (ap (λ z. Some (of z)) e)
+find_by f of (y ∷ ys) x d (inr h) =
+    let o : bytes_eq (f y) (f x) ≡ false = other (f y) (f x) (map f ys) d.0 (among_by f ys x h) in
+    rw o (find_by f of ys x d.1 h)
+
+-- kinds
+
+no_state : (k : Kind) → kind_is_state k ≡ true → (kind_is_input k ≡ false) × (kind_is_register k ≡ false) × (kind_is_memory k ≡ false)
+no_state program.input h = absurd (apart_tests (sym h))
+no_state program.register h = absurd (apart_tests (sym h))
+no_state (program.memory depth) h = absurd (apart_tests (sym h))
+no_state (program.state place last) h = (refl, refl, refl)
+
+plain_kind : (k : Kind) → (kind_is_input k || (kind_is_register k || kind_is_memory k)) ≡ true → kind_is_state k ≡ false
+plain_kind program.input h = refl
+plain_kind program.register h = refl
+plain_kind (program.memory depth) h = refl
+plain_kind (program.state place last) h = absurd (apart_tests (sym h))
+
+pub own_kind : (k : Kind) (b : Bool) → (not (kind_is_memory k) || b) ≡ true → kind_is_input k ≡ false → kind_is_register k ≡ false → (if kind_is_memory k then b else kind_is_state k) ≡ true
+own_kind program.input b h i r = absurd (apart_tests i)
+own_kind program.register b h i r = absurd (apart_tests r)
+own_kind (program.memory depth) b h i r = h
+own_kind (program.state place last) b h i r = refl
+
+module _ (d : Named) (tag sites : ℕ) (design : Design d tag sites) (fit : Fitting d tag) where
+  abbrev w : World
+  w = world d
+
+  abbrev p : Nested
+  p = plain_of d tag sites
+
+  abbrev src : Source
+  src = declarations (plain_of d tag sites)
+
+  abbrev set : Setting
+  set = setting_of d tag
+
+  each : {A : Type 0} (P : A → Type 0) (picks : ℕ → Bool) (of : ℕ → List A) → ((x : ℕ) → picks x ≡ true → Every P (of x)) → Every P (for_entities picks of 0 w.entities)
+  each P picks of f = entities_all P picks of f 0 w.entities
+
+  pub all_names : (P : Name → Type 0) → ((a : Key) → P (key_name d a)) → AllByRecursion P (declared src)
+  all_names P f =
+      subst (λ (ns : List Name). AllByRecursion P ns) (sym (all_named d tag sites design.names)) (all_named_keys d P f (all_keys d tag sites design.names))
+
+  -- widths and first numbers
+
+  value_width : (x : ℕ) → (is_input w x || (is_register w x || is_memory w x)) ≡ true → IsWidth (width w x)
+  value_width x h = fit.ranged.widths x (plain_kind (entity w x).kind h)
+
+  inputs_fine : AllByRecursion IsPlainVar src.inputs
+  inputs_fine =
+      all_of IsPlainVar src.inputs
+      (each IsPlainVar (is_input w) (λ x. value_var d x 0 ∷ tag_var d tag x 0 ∷ []) (λ x h. ((value_width x (rw h refl), refl), ((fit.wide, refl), tt))))
+
+  registers_fine : AllByRecursion IsRegisterVar src.registers
+  registers_fine =
+      all_of IsRegisterVar src.registers
+      (every_join IsRegisterVar (shown_registers d tag) (tag_registers d tag ++ seat_registers d)
+      (each IsRegisterVar (is_register w) (λ x. value_var d x (entity w x).initial ∷ tag_var d tag x (level_at_start d x) ∷ [])
+      (λ x h. ((value_width x (either_second (is_input w x) (is_register w x || is_memory w x) (rw h refl)), fit.sized.initials x), ((fit.wide, design.small _), tt))))
+      (every_join IsRegisterVar (tag_registers d tag) (seat_registers d)
+      (each IsRegisterVar (has_own_tag d) (λ x. tag_var d tag x (level_at_start d x) ∷ []) (λ x h. ((fit.wide, design.small _), tt)))
+      (every_join IsRegisterVar (for_entities (λ q. nat_lt 0 (children w q)) (λ q. seat_var d q ∷ []) 0 w.entities) (seat_var d (root w) ∷ [])
+      (each IsRegisterVar (λ q. nat_lt 0 (children w q)) (λ q. seat_var d q ∷ []) (λ x h. (seat_fine x, tt))) (seat_fine (root w), tt))))
+    where
+      seat_fine : (q : ℕ) → IsRegisterVar (seat_var d q)
+      seat_fine q = ((seat_positive (children w q), seat_within (children w q)), pow_pos (seat_width (children w q)))
+
+  bit_var : (k : ℕ) → IsPlainVar (wire d k 1)
+  bit_var k = (one_bit, refl)
+
+  tag_wire : (k : ℕ) → IsPlainVar (wire d k tag)
+  tag_wire k = (fit.wide, refl)
+
+  step_vars : (k : ℕ) → Every IsPlainVar (step_wires d tag k)
+  step_vars k = (bit_var k, (tag_wire (k + 1), (tag_wire (k + 2), (tag_wire (k + 3), (bit_var (k + 4), tt)))))
+
+  mutual
+    command_vars : (k : ℕ) (c : Command) → Every IsPlainVar (command_wires d tag k c)
+    command_vars k (Do t) = step_vars k
+    command_vars k (Try t hang h) = every_join IsPlainVar (step_wires d tag k) (block_wires d tag (k + 5) h) (step_vars k) (block_vars (k + 5) h)
+    command_vars k (If hang e a b) =
+        (tag_wire k, (tag_wire (k + 1), every_join IsPlainVar (block_wires d tag (k + 2) a) (block_wires d tag (k + 2 + wires_block a) b) (block_vars (k + 2) a) (block_vars (k + 2 + wires_block a) b)))
+
+    block_vars : (k : ℕ) (b : Block) → Every IsPlainVar (block_wires d tag k b)
+    block_vars k End = tt
+    block_vars k (Then c cs) = every_join IsPlainVar (command_wires d tag k c) (block_wires d tag (k + wires c) cs) (command_vars k c) (block_vars (k + wires c) cs)
+
+  mutual
+    state_vars : (k : ℕ) (t : State) → Every IsPlainVar (state_wires d tag k t)
+    state_vars k (Node s b g) =
+        (tag_wire k, every_join IsPlainVar (block_wires d tag (k + 1) b) (group_wires d tag (k + 1 + wires_block b) g) (block_vars (k + 1) b) (group_vars (k + 1 + wires_block b) g))
+
+    group_vars : (k : ℕ) (g : Group) → Every IsPlainVar (group_wires d tag k g)
+    group_vars k program.None = tt
+    group_vars k (More (Node s b g) rest) =
+        every_join IsPlainVar (state_wires d tag k (Node s b g)) (group_wires d tag (k + (1 + wires_block b + wires_group g)) rest) (state_vars k (Node s b g))
+        (group_vars (k + (1 + wires_block b + wires_group g)) rest)
+
+  site_vars : (k n : ℕ) → Every IsPlainVar (site_wires d tag k n)
+  site_vars k zero = tt
+  site_vars k (suc n) = ((one_bit, refl), ((fit.wide, refl), site_vars (k + 1) n))
+
+  wires_fine : AllByRecursion IsPlainVar src.wires
+  wires_fine =
+      all_of IsPlainVar src.wires
+      (every_join IsPlainVar (site_wires d tag 1 sites) (first_wires d tag ++ (inner_wires d tag ++ group_wires d tag 0 d.program.states)) (site_vars 1 sites)
+      (every_join IsPlainVar (first_wires d tag) (inner_wires d tag ++ group_wires d tag 0 d.program.states)
+      (each IsPlainVar (saved w) (λ m. variable (key_name d (First m)) tag 0 ∷ []) (λ x h. ((fit.wide, refl), tt)))
+      (every_join IsPlainVar (inner_wires d tag) (group_wires d tag 0 d.program.states)
+      (each IsPlainVar (λ q. nat_lt 0 (children w q)) (λ q. variable (key_name d (Inner q)) tag 0 ∷ []) (λ x h. ((fit.wide, refl), tt))) (group_vars 0 d.program.states))))
+
+  memories_fine : AllByRecursion IsStore src.memories
+  memories_fine =
+      all_of IsStore src.memories
+      (each IsStore (is_memory w) (λ m. memory_of d m ∷ tags_of d tag m)
+      (λ m h. (
+        (value_width m (either_second (is_input w m) (is_register w m || is_memory w m) (either_second (is_register w m) (is_memory w m) h)), fit.ranged.depths m h, pow_pos (width w m)),
+        by m h (is_dynamic w m),
+      )))
+    where
+      by : (m : ℕ) → is_memory w m ≡ true → (b : Bool) → Every IsStore (if b then [] else record { name = key_name d (Tag m); width = tag; depth = depth d m; start = level_at_start d m } ∷ [])
+      by m h true = tt
+      by m h false = ((fit.wide, fit.ranged.depths m h, design.small _), tt)
+
+  -- ports
+
+  among_each : (ys : List Name) (xs : List Var) → ((v : Var) → In xs v → is_among v.name ys ≡ true) → AllByRecursion (λ (x : Name). is_among x ys ≡ true) (names_of xs)
+  among_each ys [] f = tt
+  among_each ys (x ∷ xs) f = (f x (inl refl), among_each ys xs (λ v i. f v (inr i)))
+
+  ports_declared : AllByRecursion (λ (x : Name). is_among x (variable_names src.registers ++ variable_names src.wires) ≡ true) src.ports
+  ports_declared =
+      let all = variable_names src.registers ++ variable_names src.wires in
+      all_join (λ (x : Name). is_among x all ≡ true) (names_of (shown_registers d tag)) (names_of (site_wires d tag 1 sites))
+      (among_each all (shown_registers d tag)
+      (λ v i. among_front v.name (variable_names src.registers) (variable_names src.wires) (among_in src.registers v (in_front (shown_registers d tag) (tag_registers d tag ++ seat_registers d) v i))))
+      (among_each all (site_wires d tag 1 sites)
+      (λ v i.
+      among_behind v.name (variable_names src.registers) (variable_names src.wires)
+      (among_in src.wires v (in_front (site_wires d tag 1 sites) (first_wires d tag ++ (inner_wires d tag ++ group_wires d tag 0 d.program.states)) v i))))
+
+  of_sites : (k n : ℕ) → Every (λ a. 2 ≤ list_number w a) (site_keys k n)
+  of_sites k zero = tt
+  of_sites k (suc n) = (omega arith, (omega arith, of_sites (k + 1) n))
+
+  abbrev of_all : (ℕ → Bool) → (ℕ → List Key) → List Key
+  of_all picks of = for_entities picks of 0 w.entities
+
+  abbrev port_keys : List Key
+  port_keys = of_all (is_register w) (λ x. Value x ∷ Tag x ∷ []) ++ site_keys 1 sites
+
+  ports_keys : src.ports ≡ map (key_name d) port_keys
+  ports_keys =
+      ap₂ (λ (a b : List Name). a ++ b) (entities_named {A = Var} (λ x. x.name) d (is_register w) (λ x. value_var d x (entity w x).initial ∷ tag_var d tag x (level_at_start d x) ∷ []) (λ x. Value x ∷ Tag x ∷ []) (λ x. refl) 0 w.entities) (sites_named d tag 1 sites)
+      ∙ sym (map_join (key_name d) (of_all (is_register w) (λ x. Value x ∷ Tag x ∷ [])) (site_keys 1 sites))
+
+  ports_once : AreDistinct src.ports
+  ports_once =
+      subst AreDistinct (sym ports_keys)
+      (distinct_keys d design.names port_keys
+      (once_join (of_all (is_register w) (λ x. Value x ∷ Tag x ∷ [])) (site_keys 1 sites)
+      (entities_once (is_register w) (λ x. Value x ∷ Tag x ∷ []) (λ m. (refl, (refl, tt))) (λ m. ((refl, tt), (tt, tt))) 0 w.entities) (sites_once 1 sites)
+      (lists_apart (list_number w) 1 (of_all (is_register w) (λ x. Value x ∷ Tag x ∷ [])) (site_keys 1 sites)
+      (entities_all (λ a. list_number w a ≡ 1) (is_register w) (λ x. Value x ∷ Tag x ∷ [])
+      (λ x h. let r = register_lists (entity w x).kind (is_dynamic w x) h in (r.0, (r.1, tt))) 0 w.entities) (of_sites 1 sites))))
+
+  pub guarded : IsGuarded (declarations (plain_of d tag sites))
+  guarded = record {
+    named = all_names (λ (x : Name). is_name x ≡ true) (key_is_name d design.names);
+    not_helping = all_names (λ (x : Name). is_helping x ≡ false) (key_no_help d design.names);
+    declared_once = design.distinct;
+    inputs = inputs_fine;
+    wires = wires_fine;
+    registers = registers_fine;
+    memories = memories_fine;
+    ports_declared = ports_declared;
+    ports_once = ports_once;
+    commands = tt;
+  }

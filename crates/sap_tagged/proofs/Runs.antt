@@ -1,0 +1,182 @@
+-- Commands and lists of commands.
+use Rattle.std.proofs.Common.{◌≡◌, ℕ, ◌+◌, ◌<◌, ◌≤◌, Bool, ◌∷◌, refl, ap, ◌∙◌, arith, nat_eq, inl, inr, if◌then◌else◌}
+use Rattle.std.proofs.lemmas.Bool.{cases_Bool}
+use Rattle.sap_maps.specs.Maps.{Name}
+use Rattle.sap_maps.specs.Term.{Term}
+use Rattle.sap_meaning.specs.Program.{listed, Step, Set, Write, Retag, RetagCell, Goto, Fall, Command, Do, Try, If, Block, End, Then, Group}
+use Rattle.sap_meaning.specs.Store.{Store, raise, Refusal, After, stay}
+use Rattle.sap_meaning.specs.Expressions.{value, tag}
+use Rattle.sap_meaning.specs.Checks.{Spot, site_of, guard, test}
+use Rattle.sap_meaning.specs.Does.{effect, attempt, select, branch}
+use Rattle.sap_meaning.specs.Runs.{run, run_block}
+use Rattle.sap_meaning.specs.Fine.{FineTerm, FineStep, FineCommand, FineBlock}
+use Rattle.sap_ir.specs.Guarded.{Going, value_in}
+use Rattle.sap_plain.specs.Nested.{Body, stop, cases}
+use Rattle.sap_plain.specs.Does.{body_does}
+use Rattle.sap_tagged.specs.Keys.{Value, Tag, Seat, Refused, Level, Wire}
+use Rattle.sap_tagged.specs.Setting.{Setting}
+use Rattle.sap_tagged.specs.Levels.{var, lub, expr, tag_of, always}
+use Rattle.sap_tagged.specs.Commands.{raises, effect_of, refusal, outcome, attempt_of, select_of, wires, wires_block, command_plain, block_plain}
+use Rattle.sap_tagged.specs.Stands.{Lawful, at, Stands, refused_after, level_after, Turns}
+use Rattle.sap_tagged.proofs.Bools.{flipped}
+use Rattle.sap_tagged.proofs.Terms.{bit, expr_value, tag_value, lub_value}
+use Rattle.sap_tagged.proofs.StepTerms.{Placed, always_holds}
+use Rattle.sap_tagged.proofs.Puts.{put_to, at_put, kept_put, kept_next, does_follow, Aside, stands_aside}
+use Rattle.sap_tagged.proofs.Looks.{quiet_none, quiet_next, turns_then, turns_after, turns_stay, wired, looked, raised_quiet, raises_turn}
+use Rattle.sap_tagged.proofs.Effects.{Begins, FallsRun, set_effect, retag_effect, fall_effect}
+use Rattle.sap_tagged.proofs.Cells.{write_effect, retag_cell_effect}
+use Rattle.sap_tagged.proofs.Gotos.{GoesRun, goto_effect}
+
+-- what a body does, with its context in the wire p and the wires from k on free
+abbrev pub BodyRuns : Setting → (Name → ℕ) → (Going → Going) → (Name → Going → Going) → (p k : ℕ) → Body → (ℕ → Store → After) → Type 0
+BodyRuns d widths f go p k b m =
+    (g : Going) (s : Store) (l : ℕ) → Stands d g s → at d g (Wire p) ≡ d.code l → Turns d k g (body_does widths f go b g) (m l s)
+
+child_raise : (d : Setting) (h : ℕ → Bool) (t : ℕ) (s : Store) → (raise d.world.order h t s).child ≡ s.child
+unfolding raise
+child_raise d h t s = refl
+
+-- the two of a site
+abbrev with_refusal : (site level : ℕ) → After → After
+with_refusal n l a = let refusal : Refusal = record { site = n; level = l } in record { store = a.store; refused = refusal ∷ a.refused }
+
+module _ (d : Setting) (widths : Name → ℕ) (laws : Lawful d widths) (f : Going → Going) (go : Name → Going → Going) where
+  -- the wires of a refusal, and then the handler
+  refusal_turns : (k : ℕ) (t : Step) (h : Body) (m : ℕ → Store → After) → BodyRuns d widths f go (k + 2) (k + 5) h m → (g : Going) (r : Store) (l : ℕ) → Stands d g r
+      → at d g (Wire (k + 2)) ≡ d.code l → Turns d k g (body_does widths f go (refusal d k t h) g) (with_refusal (site_of t) l (m l r))
+  unfolding put_to
+  refusal_turns k t h m runs g r l st e =
+      let n = site_of t in
+      let g1 = put_to d g (Refused n) 1 in
+      let x = at d g1 (Wire (k + 2)) in
+      let ex : x ≡ d.code l = at_put d widths laws g (Refused n) (Wire (k + 2)) 1 ∙ e in
+      let g2 = put_to d g1 (Level n) x in
+      let aside : Aside d g g2 = record {
+        value = λ y. at_put d widths laws g1 (Level n) (Value y) x ∙ at_put d widths laws g (Refused n) (Value y) 1;
+        tag = λ y. at_put d widths laws g1 (Level n) (Tag y) x ∙ at_put d widths laws g (Refused n) (Tag y) 1;
+        seat = λ y. at_put d widths laws g1 (Level n) (Seat y) x ∙ at_put d widths laws g (Refused n) (Seat y) 1;
+        memory = kept_next d g g1 g2 (kept_put d widths laws g (Refused n) 1 (λ m. refl)) (kept_put d widths laws g1 (Level n) x (λ m. refl));
+      } in
+      let wire : (j : ℕ) → at d g2 (Wire j) ≡ at d g (Wire j) = λ j. at_put d widths laws g1 (Level n) (Wire j) x ∙ at_put d widths laws g (Refused n) (Wire j) 1 in
+      let q = runs g2 r l (stands_aside d g g2 r st aside) (wire (k + 2) ∙ e) in
+      record {
+        stands = q.stands;
+        kept = λ j i. q.kept j (omega arith) ∙ wire j;
+        refused = λ j.
+            q.refused j
+            ∙ ap (refused_after j (m l r).refused)
+            (at_put d widths laws g1 (Level n) (Refused j) x ∙ at_put d widths laws g (Refused n) (Refused j) 1 ∙ ap (λ (b : Bool). if b then 1 else at d g (Refused j)) (flipped j n));
+        levels = λ j.
+            q.levels j
+            ∙ ap (level_after d.code j (m l r).refused)
+            (at_put d widths laws g1 (Level n) (Level j) x ∙ ap (λ (z : ℕ). if nat_eq j n then z else at d g1 (Level j)) ex
+            ∙ ap (λ (z : ℕ). if nat_eq j n then d.code l else z) (at_put d widths laws g (Refused n) (Level j) 1)
+            ∙ ap (λ (b : Bool). if b then d.code l else at d g (Level j)) (flipped j n));
+      }
+
+  module _ (q : Group) (sp : Spot) (placed : Placed d.world q sp) (goes : GoesRun d go sp.parent q) (base : ℕ) (enter : ℕ → ℕ → Store → After) (falls : FallsRun d f base sp.state enter) where
+    effect_turns : (k : ℕ) (t : Step) (l : ℕ) (b r : Store) (g : Going) → k ≤ base → FineStep d.world q sp.children t → Begins d k sp t l b r g
+        → Turns d k g (body_does widths f go (effect_of d sp k t) g) (effect d.world sp enter t l b r)
+    effect_turns k (Set site x e) l b r g kb fine h = set_effect d widths laws f go enter q k sp site x e l b r g fine h
+    effect_turns k (Write site m i e) l b r g kb fine h = write_effect d widths laws f go enter q k sp site m i e l b r g fine h
+    effect_turns k (Retag site x n) l b r g kb fine h = retag_effect d widths laws f go enter q k sp site x n l b r g fine h
+    effect_turns k (RetagCell site m j n) l b r g kb fine h = retag_cell_effect d widths laws f go enter q k sp site m j n l b r g fine h
+    effect_turns k (Goto site target) l b r g kb fine h =
+        goto_effect d widths laws f go enter q k sp site target l b r g goes fine (placed.states target fine) (placed.siblings target fine).1 h.stands h.new
+    effect_turns k (Fall site hang) l b r g kb fine h = fall_effect d widths laws f go enter base k sp site hang l b r g kb falls h
+
+    outcome_turns : (k : ℕ) (t : Step) (h : Body) (m : ℕ → Store → After) → k ≤ base → FineStep d.world q sp.children t → BodyRuns d widths f go (k + 2) (k + 5) h m
+        → (b r : Store) (l : ℕ) (g : Going) → at d g (Wire k) ≡ bit (test d.world sp t l b) → Begins d k sp t l b r g
+        → Turns d k g (body_does widths f go (outcome d sp k t h) g)
+        (if test d.world sp t l b then effect d.world sp enter t l b r
+        else with_refusal (site_of t) (d.world.order.join l (guard d.world sp t b)) (m (d.world.order.join l (guard d.world sp t b)) r))
+    outcome_turns k t h m kb fine runs b r l g tested begins = elim (cases_Bool (always d.world sp t)) [
+      | inl a ↦ rw (a, always_holds d.world sp t l b a) (effect_turns k t l b r g kb fine begins)
+      | inr a ↦
+          rw a
+          (elim (cases_Bool (test d.world sp t l b)) [
+            | inl e ↦ (let z : at d g (Wire k) ≡ 1 = tested ∙ ap bit e in rw (e, z) (effect_turns k t l b r g kb fine begins))
+            | inr e ↦ (let z : at d g (Wire k) ≡ 0 = tested ∙ ap bit e in rw (e, z) (refusal_turns k t h m runs g r _ begins.stands begins.inside))
+          ])
+    ]
+
+    attempt_runs : (p k : ℕ) (t : Step) (hang : ℕ → Bool) (h : Body) (m : ℕ → Store → After) → p < k → k ≤ base → FineStep d.world q sp.children t
+        → BodyRuns d widths f go (k + 2) (k + 5) h m → BodyRuns d widths f go p k (attempt_of d sp p k t hang h) (attempt d.world sp enter t hang m)
+    unfolding attempt attempt_of
+    attempt_runs p k t hang h m pk kb fine runs g s l st pc =
+        let rest = outcome d sp k t h in
+        let a = looked d widths laws f go q sp p k t l s g (raises d hang (k + 1) rest) pk placed fine st pc in
+        let g1 = a.0 in
+        let look = a.2 in
+        let gd = guard d.world sp t s in
+        let b = raises_turn d widths laws f go hang (k + 1) gd s g1 rest look.stands look.guarded in
+        let g2 = b.0 in
+        let up = b.3 in
+        let begins : Begins d k sp t l s (raise d.world.order hang gd s) g2 = record {
+          stands = b.2;
+          reads = λ x i. up.value x ∙ look.stands.value x i;
+          starts = λ m i e. ap (λ (c : Name → ℕ → ℕ). c (d.name (Value m)) i) up.memory.cell ∙ look.stands.starts m i e;
+          seats = child_raise d hang gd s;
+          inside = up.wire (k + 2) ∙ look.inside;
+          new = up.wire (k + 3) ∙ look.new;
+          keeps = up.wire (k + 4) ∙ look.keeps;
+        } in
+        let r = outcome_turns k t h m kb fine runs s (raise d.world.order hang gd s) l g2 (up.wire k ∙ look.tested) begins in
+        rw (a.1, b.1) (turns_after d k k g g2 _ _ (omega arith) (quiet_next d k g g1 g2 look.quiet (raised_quiet d widths laws k g1 g2 up)) r)
+
+    select_runs : (p k : ℕ) (e : Term ℕ) (hang : ℕ → Bool) (x y : Body) (mx my : ℕ → Store → After) (jx jy : ℕ) → p < k → k ≤ jx → k ≤ jy → FineTerm d.world e
+        → BodyRuns d widths f go (k + 1) jx x mx → BodyRuns d widths f go (k + 1) jy y my
+        → BodyRuns d widths f go p k (select_of d p k e hang x y) (select d.world e hang (branch mx my))
+    unfolding select select_of put_to
+    select_runs p k e hang x y mx my jx jy pk kx ky fine rx ry g s l st pc =
+        let o = d.world.order in
+        let tg = tag d.world e s in
+        let x0 = value_in widths g (tag_of d e) in
+        let r0 = wired d widths laws s k g x0 (d.code tg) st (tag_value d widths laws g s st e fine) in
+        let g1 = put_to d g (Wire k) x0 in
+        let q1 = r0.quiet k (omega arith) in
+        let x1 = value_in widths g1 (lub (var d (Wire p)) (var d (Wire k))) in
+        let r1 = wired d widths laws s (k + 1) g1 x1 (d.code (o.join l tg)) r0.stands
+        (lub_value d widths laws g1 (var d (Wire p)) (var d (Wire k)) l tg (q1.kept p pk ∙ pc) r0.here) in
+        let g2 = put_to d g1 (Wire (k + 1)) x1 in
+        let q2 = quiet_next d k g g1 g2 q1 (r1.quiet k (omega arith)) in
+        let rest = cases (expr d e) x y stop in
+        let b = raises_turn d widths laws f go hang k tg s g2 rest r1.stands ((r1.quiet (k + 1) (omega arith)).kept k (omega arith) ∙ r0.here) in
+        let g3 = b.0 in
+        let up = b.3 in
+        let v : value_in widths g3 (expr d e) ≡ value d.world e s =
+        expr_value d widths laws g3 s (λ n i. up.value n ∙ r1.stands.value n i)
+        (λ m i h. ap (λ (c : Name → ℕ → ℕ). c (d.name (Value m)) i) up.memory.cell ∙ r1.stands.starts m i h) e fine in
+        let pc' : at d g3 (Wire (k + 1)) ≡ d.code (o.join l tg) = up.wire (k + 1) ∙ r1.here in
+        let quiet = quiet_next d k g g2 g3 q2 (raised_quiet d widths laws k g2 g3 up) in
+        rw b.1
+        (rw v
+        (elim (cases_Bool (nat_eq (value d.world e s) 0)) [
+          | inl z ↦ rw z (turns_after d k jy g g3 _ _ ky quiet (ry g3 _ _ b.2 pc'))
+          | inr z ↦ rw z (turns_after d k jx g g3 _ _ kx quiet (rx g3 _ _ b.2 pc'))
+        ]))
+
+    mutual
+      unfolding run run_block command_plain block_plain
+
+      pub command_runs : (c : Command) → FineCommand d.world q sp.children c → (p k : ℕ) → p < k → k + wires c ≤ base
+          → BodyRuns d widths f go p k (command_plain d sp p k c) (run d.world sp enter c)
+      command_runs (Do t) fine p k pk kb =
+          attempt_runs p k t _ stop (λ l s. stay s) pk (omega arith) fine (λ g s l st pc. turns_stay d (k + 5) g g s (quiet_none d (k + 5) g) st)
+      command_runs (Try t hang h) fine p k pk kb =
+          attempt_runs p k t (listed hang) (block_plain d sp (k + 2) (k + 5) h) (run_block d.world sp enter h) pk (omega arith) fine.0
+          (block_runs h fine.1 (k + 2) (k + 5) (omega arith) (omega arith))
+      command_runs (If hang e a b) fine p k pk kb =
+          select_runs p k e (listed hang) (block_plain d sp (k + 1) (k + 2) a) (block_plain d sp (k + 1) (k + 2 + wires_block a) b) (run_block d.world sp enter a)
+          (run_block d.world sp enter b) (k + 2) (k + 2 + wires_block a) pk (omega arith) (omega arith) fine.0
+          (block_runs a fine.1 (k + 1) (k + 2) (omega arith) (omega arith)) (block_runs b fine.2 (k + 1) (k + 2 + wires_block a) (omega arith) (omega arith))
+
+      pub block_runs : (c : Block) → FineBlock d.world q sp.children c → (p k : ℕ) → p < k → k + wires_block c ≤ base
+          → BodyRuns d widths f go p k (block_plain d sp p k c) (run_block d.world sp enter c)
+      block_runs End fine p k pk kb g s l st pc = turns_stay d k g g s (quiet_none d k g) st
+      block_runs (Then c cs) fine p k pk kb g s l st pc =
+          let r = command_runs c fine.0 p k pk (omega arith) g s l st pc in
+          let g1 = body_does widths f go (command_plain d sp p k c) g in
+          let t = block_runs cs fine.1 p (k + wires c) (omega arith) (omega arith) g1 _ l r.stands (r.kept p pk ∙ pc) in
+          rw (does_follow d widths f go (command_plain d sp p k c) (block_plain d sp p (k + wires c) cs) g)
+          (turns_then d k (k + wires c) g g1 _ (run d.world sp enter c l s) (run_block d.world sp enter cs l) (omega arith) r t)

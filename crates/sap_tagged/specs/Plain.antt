@@ -1,0 +1,130 @@
+-- The plain program of a design: its declarations, and its states.
+use Rattle.std.specs.Prelude.{ℕ, zero, suc, ◌+◌, nat_lt, Bool, List, [], ◌∷◌, ◌++◌, map, if◌then◌else◌}
+use Rattle.sap_maps.specs.Maps.{Name}
+use Rattle.sap_meaning.specs.Program as program
+use Rattle.sap_meaning.specs.Program.{Entity, root, children, width, is_input, is_register, is_memory, is_state, is_dynamic, listed, Command, Do, Try, If, Block, End, Then, State, Node, Group, None, More}
+use Rattle.sap_meaning.specs.Store.{own}
+use Rattle.sap_meaning.specs.State.{first_level}
+use Rattle.sap_ir.specs.declared.guarded.Var.{Var}
+use Rattle.sap_ir.specs.declared.guarded.Store.{Store}
+use Rattle.sap_plain.specs.Nested.{Nested, seat_width}
+use Rattle.sap_interface.specs.StandsFor.{Named, world, depth}
+use Rattle.sap_tagged.specs.Keys.{Value, Tag, Seat, Refused, Level, Wire, First, Inner, key_name}
+use Rattle.sap_tagged.specs.Setting.{setting_of}
+use Rattle.sap_tagged.specs.Commands.{wires, wires_block}
+use Rattle.sap_tagged.specs.States.{wires_group, saved, top_plain}
+
+abbrev pub variable : Name → (width start : ℕ) → Var
+variable n u start = record { name = n; width = u; start = start }
+
+abbrev pub names_of : List Var → List Name
+names_of xs = map (λ x. x.name) xs
+
+-- the code of the level that an entity starts with
+abbrev pub level_at_start : Named → ℕ → ℕ
+level_at_start d x = d.code (first_level (world d) (own x))
+
+-- an entity's number, its tag, and its current child
+abbrev pub value_var : Named → (x start : ℕ) → Var
+value_var d x start = variable (key_name d (Value x)) (width (world d) x) start
+
+abbrev pub tag_var : Named → (tag x start : ℕ) → Var
+tag_var d tag x start = variable (key_name d (Tag x)) tag start
+
+abbrev pub seat_var : Named → ℕ → Var
+seat_var d p = variable (key_name d (Seat p)) (seat_width (children (world d) p)) 0
+
+-- what is declared for each entity that is picked, of those from number x on
+abbrev pub for_entities : {A : Type 0} → (picks : ℕ → Bool) → (of : ℕ → List A) → (x : ℕ) → List Entity → List A
+for_entities picks of x [] = []
+for_entities picks of x (e ∷ es) = (if picks x then of x else []) ++ for_entities picks of (x + 1) es
+
+abbrev pub all_entities : {A : Type 0} → Named → (picks : ℕ → Bool) → (of : ℕ → List A) → List A
+all_entities d picks of = for_entities picks of 0 (world d).entities
+
+abbrev pub inputs_of : Named → (tag : ℕ) → List Var
+inputs_of d tag = all_entities d (is_input (world d)) (λ x. value_var d x 0 ∷ tag_var d tag x 0 ∷ [])
+
+-- registers that are ports
+abbrev pub shown_registers : Named → (tag : ℕ) → List Var
+shown_registers d tag =
+    all_entities d (is_register (world d)) (λ x. value_var d x (program.entity (world d) x).initial ∷ tag_var d tag x (level_at_start d x) ∷ [])
+
+-- those of states and of dynamic memories, and those of current children
+abbrev pub has_own_tag : Named → ℕ → Bool
+has_own_tag d x = if is_memory (world d) x then is_dynamic (world d) x else is_state (world d) x
+
+abbrev pub tag_registers : Named → (tag : ℕ) → List Var
+tag_registers d tag = all_entities d (has_own_tag d) (λ x. tag_var d tag x (level_at_start d x) ∷ [])
+
+abbrev pub seat_registers : Named → List Var
+seat_registers d = all_entities d (λ p. nat_lt 0 (children (world d) p)) (λ p. seat_var d p ∷ []) ++ seat_var d (root (world d)) ∷ []
+
+abbrev pub registers_of : Named → (tag : ℕ) → List Var
+registers_of d tag = shown_registers d tag ++ (tag_registers d tag ++ seat_registers d)
+
+-- whether a site is refused, and at which level; of so many sites from site k on
+abbrev pub site_wires : Named → (tag k sites : ℕ) → List Var
+site_wires d tag k zero = []
+site_wires d tag k (suc n) = variable (key_name d (Refused k)) 1 0 ∷ variable (key_name d (Level k)) tag 0 ∷ site_wires d tag (k + 1) n
+
+-- The program's own wires, each after what it holds: a level, or one bit.
+
+abbrev pub wire : Named → (k width : ℕ) → Var
+wire d k u = variable (key_name d (Wire k)) u 0
+
+abbrev pub step_wires : Named → (tag k : ℕ) → List Var
+step_wires d tag k = wire d k 1 ∷ wire d (k + 1) tag ∷ wire d (k + 2) tag ∷ wire d (k + 3) tag ∷ wire d (k + 4) 1 ∷ []
+
+abbrev mutual
+  pub command_wires : Named → (tag k : ℕ) → Command → List Var
+  command_wires d tag k (Do s) = step_wires d tag k
+  command_wires d tag k (Try s hang h) = step_wires d tag k ++ block_wires d tag (k + 5) h
+  command_wires d tag k (If hang e a b) =
+      wire d k tag ∷ wire d (k + 1) tag ∷ (block_wires d tag (k + 2) a ++ block_wires d tag (k + 2 + wires_block a) b)
+
+  pub block_wires : Named → (tag k : ℕ) → Block → List Var
+  block_wires d tag k End = []
+  block_wires d tag k (Then c cs) = command_wires d tag k c ++ block_wires d tag (k + wires c) cs
+
+-- that of a state's own context, and those of its body
+abbrev mutual
+  pub state_wires : Named → (tag k : ℕ) → State → List Var
+  state_wires d tag k (Node s b g) = wire d k tag ∷ (block_wires d tag (k + 1) b ++ group_wires d tag (k + 1 + wires_block b) g)
+
+  pub group_wires : Named → (tag k : ℕ) → Group → List Var
+  group_wires d tag k None = []
+  group_wires d tag k (More (Node s b g) rest) = state_wires d tag k (Node s b g) ++ group_wires d tag (k + (1 + wires_block b + wires_group g)) rest
+
+-- the tags of dynamic memories as the cycle began
+abbrev pub first_wires : Named → (tag : ℕ) → List Var
+first_wires d tag = all_entities d (saved (world d)) (λ m. variable (key_name d (First m)) tag 0 ∷ [])
+
+-- the contexts of children
+abbrev pub inner_wires : Named → (tag : ℕ) → List Var
+inner_wires d tag = all_entities d (λ s. nat_lt 0 (children (world d) s)) (λ s. variable (key_name d (Inner s)) tag 0 ∷ [])
+
+abbrev pub wires_of : Named → (tag sites : ℕ) → List Var
+wires_of d tag sites = site_wires d tag 1 sites ++ (first_wires d tag ++ (inner_wires d tag ++ group_wires d tag 0 d.program.states))
+
+-- A memory, and that of its cells' tags where it is enforced.
+abbrev pub memory_of : Named → ℕ → Store
+memory_of d m = record { name = key_name d (Value m); width = width (world d) m; depth = depth d m; start = 0 }
+
+abbrev pub tags_of : Named → (tag m : ℕ) → List Store
+tags_of d tag m =
+    if is_dynamic (world d) m then [] else record { name = key_name d (Tag m); width = tag; depth = depth d m; start = level_at_start d m } ∷ []
+
+abbrev pub memories_of : Named → (tag : ℕ) → List Store
+memories_of d tag = all_entities d (is_memory (world d)) (λ m. memory_of d m ∷ tags_of d tag m)
+
+-- `tag` is the width of tags, `sites` how many check sites there are
+abbrev pub plain_of : Named → (tag sites : ℕ) → Nested
+plain_of d tag sites = record {
+  inputs = inputs_of d tag;
+  wires = wires_of d tag sites;
+  registers = registers_of d tag;
+  memories = memories_of d tag;
+  ports = names_of (shown_registers d tag) ++ names_of (site_wires d tag 1 sites);
+  states = top_plain (setting_of d tag) (listed d.program.hang) 0 d.program.states;
+}

@@ -1,0 +1,82 @@
+-- Entities and their words, as the code takes them.
+use Rattle.std.proofs.Common.{◌≡◌, ℕ, ◌-◌, ◌+◌, zero, suc, ◌++◌, ◌^◌, ◌<◌, ◌≤◌, List, [], ◌∷◌, Bool, map, length, get_or, true, false, refl, ap, ◌∙◌, arith, nat_lt, if◌then◌else◌}
+use Rattle.std.specs.Prelude.{codes, ◌==◌}
+use Rattle.std.proofs.lemmas.Grind.{common_steps}
+use Rattle.std.proofs.lemmas.List.{get_or-map}
+use Rattle.std.specs.Fmt.{decimal}
+use Rattle.sap_lattice.specs.Levels.{Levels}
+use Rattle.sap_interface.specs.StandsFor.{name, world}
+use Rattle.sap_meaning.specs.Program.{World, entity, nothing}
+use Rattle.sap_program.specs.declared.program.Entity.{Entity}
+use Rattle.sap_program.specs.declared.program.Program.{Program}
+use Rattle.sap_program.specs.Views.{entity_of}
+use Rattle.sap_tagged.specs.Keys.{Seat, numeral, entity_word, key_name}
+use Rattle.sap_bits.specs.declared.Op2.TheVariants.{Eq}
+use Rattle.sap_maps.specs.Maps.{Name}
+use Rattle.sap_maps.specs.Term.{Term, constant, two, choose, part}
+use Rattle.sap_meaning.specs.Expressions.{width_of}
+use Rattle.sap_sized.specs.Ranges.{RangedTerm}
+use Rattle.sap_tagged.specs.Setting.{Setting}
+use Rattle.sap_tagged.specs.Levels.{bits, placed}
+use Rattle.sap_terms.specs.Code.{named_over}
+use Rattle.sap_tagged.proofs.Fits.{ranged_width}
+use Rattle.sap_tagged.proofs.Numerals.{numeral_decimal}
+
+length_map : {A B : Type 0} (f : A → B) (xs : List A) → length (map f xs) ≡ length xs
+length_map f [] = refl
+length_map f (x ∷ xs) = ap (λ (n : ℕ). suc n) (length_map f xs)
+
+beyond : (x n : ℕ) → n ≤ x → nat_lt x n ≡ false
+beyond x n h = grind (arith, common_steps)
+
+past : {A : Type 0} (xs : List A) (x : ℕ) (a : A) → length xs ≤ x → get_or xs x a ≡ a
+past [] x a h = refl
+past (y ∷ ys) zero a h = absurd (omega (arith, h))
+past (y ∷ ys) (suc x) a h = past ys x a (omega (arith, h))
+
+-- words
+
+pub word_past : (ls : Levels) (p : Program) (x : ℕ) → length p.entities.items ≤ x → entity_word (named_over ls p) x ≡ numeral x
+word_past ls p x l =
+    ap (λ (b : Bool). if b then name (named_over ls p) x else numeral x) (ap (nat_lt x) (length_map entity_of p.entities.items) ∙ beyond x (length p.entities.items) l)
+
+pub seat_word_is : (ls : Levels) (p : Program) (x : ℕ) → (x == length p.entities.items) ≡ false → key_name (named_over ls p) (Seat x) ≡ codes "s_" ++ entity_word (named_over ls p) x
+seat_word_is ls p x e = rw (length_map entity_of p.entities.items, e) refl
+
+pub root_word_is : (ls : Levels) (p : Program) (x : ℕ) → (x == length p.entities.items) ≡ true → key_name (named_over ls p) (Seat x) ≡ codes "s_" ++ codes "0"
+root_word_is ls p x e = rw (length_map entity_of p.entities.items, e) refl
+
+pub number_word : (k : ℕ) → k < 2 ^ 64 → numeral k ≡ decimal k
+number_word k h = numeral_decimal k h
+
+pub ruleset words = (word_past, seat_word_is, root_word_is, number_word)
+
+-- entities
+
+pub entity_found : (ls : Levels) (p : Program) (x : ℕ) (e : Entity) → x < length p.entities.items → get_or p.entities.items x e ≡ e → entity (world (named_over ls p)) x ≡ entity_of e
+entity_found ls p x e l i = get_or-map entity_of p.entities.items x e nothing l ∙ ap entity_of i
+
+pub entity_past : (ls : Levels) (p : Program) (x : ℕ) → length p.entities.items ≤ x → entity (world (named_over ls p)) x ≡ nothing
+entity_past ls p x l = past (map entity_of p.entities.items) x nothing (let e : length (map entity_of p.entities.items) ≡ length p.entities.items = length_map entity_of p.entities.items in omega (arith, e, l))
+
+pub ruleset entities = (entity_found, entity_past)
+
+-- widths
+
+pub part_within : (w : World) (a : Term ℕ) (hi lo : ℕ) → RangedTerm w (part a hi lo) → (lo ≤ hi) × (hi < 64)
+part_within w a hi lo r = let wide : width_of w a ≤ 64 = (ranged_width w a r.2).1 in let high : hi < width_of w a = r.1 in (r.0, omega (arith, wide, high))
+
+pub width_within : (w : World) (e : Term ℕ) → RangedTerm w e → width_of w e ≤ 64
+width_within w e r = (ranged_width w e r).1
+
+-- places
+
+pub placed_none : (d : Setting) (u : ℕ) (e : Term Name) (i m : ℕ) → m ≡ 0 → placed d u e i m ≡ bits d d.world.order.top
+placed_none d u e i zero h = refl
+placed_none d u e i (suc m) h = absurd (omega arith)
+
+pub placed_some : (d : Setting) (u : ℕ) (e : Term Name) (i m : ℕ) → 0 < m → placed d u e i m ≡ choose (two Eq e (constant u i)) (bits d i) (placed d u e (i + 1) (m - 1))
+placed_some d u e i zero h = absurd (omega arith)
+placed_some d u e i (suc m) h = let q : suc m - 1 ≡ m = omega arith in rw q refl
+
+pub ruleset places = (placed_none, placed_some)

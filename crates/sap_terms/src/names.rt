@@ -1,0 +1,110 @@
+//! Names of a plain program, by what they name.
+
+ghost use Rattle.std.specs.Prelude.{◌≡◌, ◌++◌, IfOk};
+ghost use Rattle.sap_tagged.specs.Keys.{Value, Tag, Seat, Refused, Level, Wire, First, Inner, numeral, entity_word, key_name};
+ghost use Rattle.sap_terms.specs.Code.{named_in};
+
+use crate::setting::Setting;
+use sap_net::parts::Name;
+use std::alloc::{AllocError, Global};
+
+fn prefixed(alloc: Global, front: &[u8], name: &[u8]) -> Result<Name, AllocError>
+    ensures { IfOk result (λ n. n ≡ front.now ++ name.now) }
+{
+    let mut bytes = front.to_vec(alloc)?;
+    bytes.extend_from_slice(name)?;
+    Ok(Name::new(bytes))
+}
+
+/// A prefix and a number.
+#[tactic(auto, using(crate::proofs::Words::words))]
+fn numbered(alloc: Global, front: &[u8], k: u64) -> Result<Name, AllocError>
+    ensures { IfOk result (λ n. n ≡ front.now ++ numeral k) }
+{
+    let digits = format!(in alloc; "{k}")?;
+    prefixed(alloc, front, digits.as_bytes())
+}
+
+/// A prefix and the name of an entity, or its number past the last.
+#[tactic(auto, using(crate::proofs::Words::words))]
+fn entity_name(
+    alloc: Global,
+    setting: &Setting<'_>,
+    front: &[u8],
+    x: usize,
+) -> Result<Name, AllocError>
+    ensures { IfOk result (λ n. n ≡ front.now ++ entity_word (named_in setting.now) x) }
+{
+    match setting.program.entities.get(x) {
+        Some(entity) => prefixed(alloc, front, entity.name.as_bytes()),
+        None => numbered(alloc, front, x as u64),
+    }
+}
+
+/// The name of a state in nested programs.
+pub fn state_name(alloc: Global, setting: &Setting<'_>, x: usize) -> Result<Name, AllocError>
+    ensures { IfOk result (λ n. n ≡ entity_word (named_in setting.now) x) }
+{
+    entity_name(alloc, setting, b"", x)
+}
+
+/// The number of an input or a register, or the contents of a memory.
+pub fn value_name(alloc: Global, setting: &Setting<'_>, x: usize) -> Result<Name, AllocError>
+    ensures { IfOk result (λ n. n ≡ key_name (named_in setting.now) (Value x)) }
+{
+    entity_name(alloc, setting, b"v_", x)
+}
+
+/// The tag of an entity.
+pub fn tag_name(alloc: Global, setting: &Setting<'_>, x: usize) -> Result<Name, AllocError>
+    ensures { IfOk result (λ n. n ≡ key_name (named_in setting.now) (Tag x)) }
+{
+    entity_name(alloc, setting, b"t_", x)
+}
+
+/// The current child of a state, or of the root.
+#[tactic(auto, using(crate::proofs::Words::words))]
+pub fn seat_name(alloc: Global, setting: &Setting<'_>, x: usize) -> Result<Name, AllocError>
+    ensures { IfOk result (λ n. n ≡ key_name (named_in setting.now) (Seat x)) }
+{
+    if x == setting.program.entities.len() {
+        prefixed(alloc, b"s_", b"0")
+    } else {
+        entity_name(alloc, setting, b"s_", x)
+    }
+}
+
+/// Whether a site is refused.
+pub fn refused_name(alloc: Global, setting: &Setting<'_>, site: u32) -> Result<Name, AllocError>
+    ensures { IfOk result (λ n. n ≡ key_name (named_in setting.now) (Refused site)) }
+{
+    numbered(alloc, b"c_", u64::from(site))
+}
+
+/// At which level a site is refused.
+pub fn level_name(alloc: Global, setting: &Setting<'_>, site: u32) -> Result<Name, AllocError>
+    ensures { IfOk result (λ n. n ≡ key_name (named_in setting.now) (Level site)) }
+{
+    numbered(alloc, b"l_", u64::from(site))
+}
+
+/// A wire of the program's own.
+pub fn wire_name(alloc: Global, setting: &Setting<'_>, wire: u32) -> Result<Name, AllocError>
+    ensures { IfOk result (λ n. n ≡ key_name (named_in setting.now) (Wire wire)) }
+{
+    numbered(alloc, b"h", u64::from(wire))
+}
+
+/// The tag of a dynamic memory as the cycle began.
+pub fn first_name(alloc: Global, setting: &Setting<'_>, x: usize) -> Result<Name, AllocError>
+    ensures { IfOk result (λ n. n ≡ key_name (named_in setting.now) (First x)) }
+{
+    numbered(alloc, b"b", x as u64)
+}
+
+/// The context of the children of a state.
+pub fn inner_name(alloc: Global, setting: &Setting<'_>, x: usize) -> Result<Name, AllocError>
+    ensures { IfOk result (λ n. n ≡ key_name (named_in setting.now) (Inner x)) }
+{
+    numbered(alloc, b"u", x as u64)
+}
