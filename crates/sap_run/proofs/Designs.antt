@@ -13,7 +13,7 @@ use Rattle.sap_maps.specs.Maps.{Name}
 use Rattle.sap_maps.specs.Scope.{Scope, find}
 use Rattle.sap_maps.proofs.Scopes.{not_first, not_behind}
 use Rattle.sap_meaning.specs.Program.{Entity, width, is_input, is_register}
-use Rattle.sap_meaning.specs.Cycle.{Tagged}
+use Rattle.sap_meaning.specs.Cycle.{Tagged as Given}
 use Rattle.sap_meaning.specs.State.{input_widths, StreamFits, labelled_run}
 use Rattle.sap_meaning.specs.State as state
 use Rattle.sap_net.specs.declared.parts.Input.{Input}
@@ -28,7 +28,6 @@ use Rattle.sap_interface.specs.Compiled.{coded, coded_stream}
 use Rattle.sap_interface.specs.Designs.{named_of, sites_of, StandsForDesign}
 use Rattle.sap_stim.specs.declared.field.Field.{Field}
 use Rattle.sap_stim.specs.declared.field.Field.TheVariants as field
-use Rattle.sap_stim.specs.declared.input.Input.{Input as Given}
 use Rattle.sap_stim.specs.declared.stimulus.Parsed.{Parsed}
 use Rattle.sap_stim.specs.Stimulus.{stimulus_of}
 use Rattle.sap_stim.specs.Fits.{LineFits, StimulusFits}
@@ -42,7 +41,7 @@ use Rattle.sap_sim.specs.Simulated.{IsSimulated}
 use Rattle.sap_sim.proofs.Fits.{inputs_found, fresh_inputs}
 use Rattle.sap_run.specs.Fields.{design_fields}
 use Rattle.sap_run.specs.LabelledRows.{labelled_rows}
-use Rattle.sap_run.specs.RunOf.{tagged, tagged_stream, IsRunOf}
+use Rattle.sap_run.specs.RunOf.{IsRunOf}
 use Rattle.sap_run.proofs.Ports.{pair_names, input_names_are, register_ports_are}
 use Rattle.sap_run.proofs.Words.{input_some, register_some, value_back, tag_back, value_no_tag, tag_no_value}
 use Rattle.sap_run.proofs.Inputs.{Known, pair_scope, value_scope, to_input, inputs_are, has_found, filtered, fields_are, numbers_are, given_back}
@@ -85,13 +84,13 @@ distinct_filtered p (i ∷ is) h =
 
 -- lines that fit the fields of a design
 
-fit_line : (ls : Levels) (us : List ℕ) (xs : List Given) → LineFits ls (map (λ w. field.Tagged w) us) xs → state.AllFit (order_of ls).count us (map tagged xs)
+fit_line : (ls : Levels) (us : List ℕ) (xs : List Given) → LineFits ls (map (λ w. field.Tagged w) us) xs → state.AllFit (order_of ls).count us xs
 fit_line ls [] [] h = tt
 fit_line ls [] (x ∷ xs) h = absurd h
 fit_line ls (u ∷ us) [] h = absurd h
 fit_line ls (u ∷ us) (x ∷ xs) h = (h.0.value, h.0.level, fit_line ls us xs h.1)
 
-pub fit_stream : (ls : Levels) (t : DesignTree) (stream : List (List Given)) → stim.StreamFits ls (design_fields ls t) stream → StreamFits (world (named_of ls t)) (tagged_stream stream)
+pub fit_stream : (ls : Levels) (t : DesignTree) (stream : List (List Given)) → stim.StreamFits ls (design_fields ls t) stream → StreamFits (world (named_of ls t)) stream
 fit_stream ls t [] h = tt
 fit_stream ls t (xs ∷ stream) h = (fit_line ls (input_widths (world (named_of ls t)).entities) xs h.0, fit_stream ls t stream h.1)
 
@@ -136,11 +135,7 @@ module _ (ls : Levels) (t : DesignTree) (n : Net) (whole : is_whole t ≡ true) 
   names_distinct : AreDistinct (field_names (tag_width ls) n.inputs)
   names_distinct = distinct_filtered (λ i. not (is_tag (tag_width ls) n.inputs i)) n.inputs (distinct_inputs n.inputs (fresh_inputs (shapes n) n.inputs _ net.values))
 
-  map_tagged : (f : Name → Given) (vs : List Name) → map (λ v. tagged (f v)) vs ≡ map tagged (map f vs)
-  map_tagged f [] = refl
-  map_tagged f (v ∷ vs) = ap (λ (zs : List Tagged). tagged (f v) ∷ zs) (map_tagged f vs)
-
-  pub same_numbers : (xs : List Given) → LineFits ls (fields_of ls n) xs → numbers_of ls n xs ≡ coded (code_of (order_of ls)) (map tagged xs)
+  pub same_numbers : (xs : List Given) → LineFits ls (fields_of ls n) xs → numbers_of ls n xs ≡ coded (code_of (order_of ls)) xs
   same_numbers xs fits =
       let vs = field_names (tag_width ls) n.inputs in
       let l : length xs ≡ length (field_names (tag_width ls) n.inputs) =
@@ -148,10 +143,10 @@ module _ (ls : Levels) (t : DesignTree) (n : Net) (whole : is_whole t ≡ true) 
       ∙ sym (length-map (with_field (tag_width ls) n.inputs) (λ i. i.name)) in
       ap (map (number_for ls n.inputs xs)) the_inputs
       ∙ numbers_are ls d n.inputs known xs 0 es
-      ∙ ap (λ (ns : List Name). coded (code_of (order_of ls)) (map (λ v. tagged (given (tag_width ls) n.inputs xs v)) ns)) (sym the_names)
-      ∙ ap (coded (code_of (order_of ls))) (map_tagged (given (tag_width ls) n.inputs xs) vs ∙ ap (map tagged) (given_back vs names_distinct xs l))
+      ∙ ap (λ (ns : List Name). coded (code_of (order_of ls)) (map (given (tag_width ls) n.inputs xs) ns)) (sym the_names)
+      ∙ ap (coded (code_of (order_of ls))) (given_back vs names_distinct xs l)
 
-  pub same_stream : (stream : List (List Given)) → stim.StreamFits ls (fields_of ls n) stream → map (numbers_of ls n) stream ≡ coded_stream (code_of (order_of ls)) (tagged_stream stream)
+  pub same_stream : (stream : List (List Given)) → stim.StreamFits ls (fields_of ls n) stream → map (numbers_of ls n) stream ≡ coded_stream (code_of (order_of ls)) stream
   same_stream [] fits = refl
   same_stream (xs ∷ stream) fits = ap₂ (λ (ys : List ℕ) (yss : List (List ℕ)). ys ∷ yss) (same_numbers xs fits.0) (same_stream stream fits.1)
 
@@ -182,13 +177,13 @@ module _ (ls : Levels) (t : DesignTree) (n : Net) (whole : is_whole t ≡ true) 
       let fits = fit ls (fields_of ls n) bytes laws.bottom_is_level in
       let fits' : stim.StreamFits ls (design_fields ls t) (stimulus_of ls (fields_of ls n) bytes).stream =
       subst (λ (fs : List Field). stim.StreamFits ls fs (stimulus_of ls (fields_of ls n) bytes).stream) same_fields fits in
-      let run : IsRun n (coded_stream (code_of (order_of ls)) (tagged_stream (stimulus_of ls (fields_of ls n) bytes).stream)) sim.run =
+      let run : IsRun n (coded_stream (code_of (order_of ls)) (stimulus_of ls (fields_of ls n) bytes).stream) sim.run =
       subst (λ (xss : List (List ℕ)). IsRun n xss sim.run) (same_stream read.stream fits) sim.is_run in
-      let cycles = stands.stands (tagged_stream read.stream) (fit_stream ls t read.stream fits') sim.run run in
+      let cycles = stands.stands read.stream (fit_stream ls t read.stream fits') sim.run run in
       record {
         fault = sim.fault ∙ ap (λ (q : Parsed). q.fault) p;
         text =
             sim.text ∙ ap (λ (xs : List Name). rows_from ls xs 1 (map (observed n) sim.run)) same_shown
             ∙ rows_stand ls d (sites_of t) codes some refl 1 (map (observed n) sim.run) _ cycles
-            ∙ ap (λ (q : Parsed). labelled_rows ls t (tagged_stream q.stream)) p;
+            ∙ ap (λ (q : Parsed). labelled_rows ls t q.stream) p;
       }

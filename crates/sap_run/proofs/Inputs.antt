@@ -9,6 +9,7 @@ use Rattle.sap_lattice.specs.Codes.{code_of}
 use Rattle.sap_maps.specs.Maps.{Name}
 use Rattle.sap_maps.specs.Scope.{Scope, find}
 use Rattle.sap_maps.proofs.Scopes.{same_name}
+use Rattle.sap_meaning.specs.Cycle.{Tagged as Given}
 use Rattle.sap_meaning.specs.Program.{Entity, entity, nothing, width, is_input, kind_is_input}
 use Rattle.sap_meaning.specs.State.{input_widths}
 use Rattle.sap_net.specs.declared.parts.Input.{Input}
@@ -19,13 +20,11 @@ use Rattle.sap_interface.specs.Interface.{HasInput}
 use Rattle.sap_interface.specs.Compiled.{coded}
 use Rattle.sap_stim.specs.declared.field.Field.{Field}
 use Rattle.sap_stim.specs.declared.field.Field.TheVariants as field
-use Rattle.sap_stim.specs.declared.input.Input.{Input as Given}
 use Rattle.sap_sim.specs.Ports.{value_of, tag_of}
 use Rattle.sap_sim.specs.Fields.{tag_width, is_tag, is_tagged, with_field, field_of}
 use Rattle.sap_sim.specs.Fields as fields
 use Rattle.sap_sim.specs.Numbers.{place, given, value_for, number_for, field_names}
 use Rattle.sap_sim.specs.Numbers as numbers
-use Rattle.sap_run.specs.RunOf.{tagged}
 use Rattle.sap_run.proofs.Ports.{pair_names}
 
 -- the entities of a design from number x on
@@ -169,12 +168,12 @@ module _ (ls : Levels) (d : Named) (is : List Input) (known : (x : ℕ) → is_i
 
   pub numbers_are : (xs : List Given) (x : ℕ) (es : List Entity)
       → map (number_for ls is xs) (map to_input (pair_scope d (tag_width ls) x es))
-      ≡ coded (code_of (order_of ls)) (map (λ v. tagged (given (tag_width ls) is xs v)) (map (λ (e : Name × ℕ). e.0) (value_scope d x es)))
+      ≡ coded (code_of (order_of ls)) (map (given (tag_width ls) is xs) (map (λ (e : Name × ℕ). e.0) (value_scope d x es)))
   numbers_are xs x [] = refl
   numbers_are xs x (e ∷ es) =
       elim (cases_Bool (is_input (world d) x)) [
         | inl t ↦ rw (t, value_plain x t, tag_tag x t)
-            (ap (λ (zs : List ℕ). (given (tag_width ls) is xs (value_name (name d x))).value ∷ (code_of (order_of ls) (given (tag_width ls) is xs (value_name (name d x))).level ∷ zs)) (numbers_are xs (x + 1) es))
+            (ap (λ (zs : List ℕ). (given (tag_width ls) is xs (value_name (name d x))).number ∷ (code_of (order_of ls) (given (tag_width ls) is xs (value_name (name d x))).level ∷ zs)) (numbers_are xs (x + 1) es))
         | inr f ↦ rw f (numbers_are xs (x + 1) es)
       ]
 

@@ -1,9 +1,7 @@
 -- What the rows of a design on a stimulus are.
-use Rattle.std.specs.Prelude.{◌≡◌, ℕ, List, map}
+use Rattle.std.specs.Prelude.{◌≡◌, ℕ, List}
 use Rattle.sap_tree.specs.Syntax.{DesignTree}
 use Rattle.sap_lattice.specs.Levels.{Levels}
-use Rattle.sap_meaning.specs.Cycle.{Tagged}
-use Rattle.sap_stim.specs.declared.input.Input.{Input}
 use Rattle.sap_stim.specs.declared.stimulus.Parsed.{Parsed}
 use Rattle.sap_stim.specs.Stimulus.{stimulus_of}
 use Rattle.sap_sim.specs.declared.rows.Rows.{Rows}
@@ -14,14 +12,7 @@ use Rattle.sap_run.specs.LabelledRows.{labelled_rows}
 abbrev pub read_for : Levels → DesignTree → List ℕ → Parsed
 read_for ls d bytes = stimulus_of ls (design_fields ls d) bytes
 
--- a number with its level, as the labelled meaning takes it
-abbrev pub tagged : Input → Tagged
-tagged x = record { number = x.value; level = x.level }
-
-abbrev pub tagged_stream : List (List Input) → List (List Tagged)
-tagged_stream stream = map (map tagged) stream
-
 -- the fault is that of the stimulus, and the text has the rows of the labelled run on the lines before it
 pub record IsRunOf (ls : Levels) (d : DesignTree) (bytes : List ℕ) (rows : Rows) : Type 0 where
   pub fault : rows.fault ≡ (read_for ls d bytes).fault
-  pub text : rows.text ≡ labelled_rows ls d (tagged_stream (read_for ls d bytes).stream)
+  pub text : rows.text ≡ labelled_rows ls d (read_for ls d bytes).stream

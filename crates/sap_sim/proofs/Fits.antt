@@ -9,6 +9,7 @@ use Rattle.sap_lattice.specs.Codes.{Codes, code_of}
 use Rattle.sap_maps.specs.Maps.{Name}
 use Rattle.sap_maps.specs.Scope.{Scope, find}
 use Rattle.sap_maps.proofs.Scopes.{name_is, apart_back, not_first, not_behind}
+use Rattle.sap_meaning.specs.Cycle.{Tagged as Given}
 use Rattle.sap_net.specs.declared.parts.Input.{Input}
 use Rattle.sap_net.specs.Names.{is_among}
 use Rattle.sap_net.specs.Net.{Net}
@@ -17,7 +18,6 @@ use Rattle.sap_net.specs.IsNetlist.{IsNetlist, shapes}
 use Rattle.sap_net.specs.Runs.{InputsFit, AllFit}
 use Rattle.sap_cycle.proofs.Distinct.{AreFresh, found_listed}
 use Rattle.sap_stim.specs.declared.field.Field.{Field}
-use Rattle.sap_stim.specs.declared.input.Input.{Input as Given}
 use Rattle.sap_stim.specs.Line.{IsSized, field_width}
 use Rattle.sap_stim.specs.Fits.{LineFits, StreamFits}
 use Rattle.sap_sim.specs.Fields.{tag_width, input_widths, is_tagged, is_tag, with_field, field_of, fields_of}
@@ -62,7 +62,7 @@ some_same a b h = cc
 
 -- the value in the field of a name fits the width found by the name
 own_fits : (ls : Levels) (tag : ℕ) (is : List Input) (sc : Scope) (fs : List Input) → AllByRecursion (λ j. find sc j.name ≡ Some j.width) fs → (xs : List Given) → LineFits ls (map (field_of tag is) fs) xs
-    → (x : Name) (w : ℕ) → is_among x (names_of fs) ≡ true → find sc x ≡ Some w → (get_or xs (place (names_of fs) x) nothing).value < 2 ^ w
+    → (x : Name) (w : ℕ) → is_among x (names_of fs) ≡ true → find sc x ≡ Some w → (get_or xs (place (names_of fs) x) nothing).number < 2 ^ w
 own_fits ls tag is sc [] all xs fits x w h e = absurd (false≢true h)
 own_fits ls tag is sc (m ∷ fs) all [] fits x w h e = absurd fits
 own_fits ls tag is sc (m ∷ fs) all (y ∷ ys) fits x w h e =
@@ -70,8 +70,8 @@ own_fits ls tag is sc (m ∷ fs) all (y ∷ ys) fits x w h e =
       | inl t ↦ (
           let i : find sc x ≡ Some m.width = subst (λ (z : Name). find sc z ≡ Some m.width) (name_is m.name x t) all.0 in
           let j : w ≡ m.width = some_same w m.width (sym e ∙ i) in
-          let k : y.value < 2 ^ m.width = subst (λ (u : ℕ). y.value < 2 ^ u) (field_width_is tag is m) fits.0.value in
-          rw t (subst (λ (u : ℕ). y.value < 2 ^ u) (sym j) k)
+          let k : y.number < 2 ^ m.width = subst (λ (u : ℕ). y.number < 2 ^ u) (field_width_is tag is m) fits.0.value in
+          rw t (subst (λ (u : ℕ). y.number < 2 ^ u) (sym j) k)
           )
       | inr f ↦ rw f (own_fits ls tag is sc fs all.1 ys fits.1 x w (rw (apart_back m.name x f) at h) e)
     ]

@@ -8,9 +8,9 @@ use Rattle.sap_lattice.specs.Levels.{Levels}
 use Rattle.sap_maps.specs.Maps.{Name}
 use Rattle.sap_maps.specs.Scope.{find}
 use Rattle.sap_maps.proofs.Scopes.{name_is, same_name, apart_back}
+use Rattle.sap_meaning.specs.Cycle.{Tagged as Given}
 use Rattle.sap_net.specs.declared.parts.Input.{Input}
 use Rattle.sap_net.specs.Names.{is_among}
-use Rattle.sap_stim.specs.declared.input.Input.{Input as Given}
 use Rattle.sap_sim.specs.declared.sources.Source.{Source}
 use Rattle.sap_sim.specs.Ports.{value_name, tag_of, passes}
 use Rattle.sap_sim.specs.Fields.{tag_width, input_widths, is_tag, with_field}

@@ -1,6 +1,7 @@
 -- A worked example: a netlist with a tagged input, whose tag comes first, a plain input, a register with a tag and one without.
 use Rattle.std.specs.Prelude.{◌≡◌, ℕ, List, [], ◌∷◌, true, false, codes}
 use Rattle.sap_lattice.specs.Levels.{Levels}
+use Rattle.sap_meaning.specs.Cycle.{Tagged as Given}
 use Rattle.sap_net.specs.declared.parts.Operand.TheVariants.{Constant}
 use Rattle.sap_net.specs.declared.parts.PortKind.TheVariants as kind
 use Rattle.sap_net.specs.declared.parts.Port.{Port}
@@ -8,7 +9,6 @@ use Rattle.sap_net.specs.declared.parts.Input.{Input}
 use Rattle.sap_net.specs.declared.parts.Register.{Register}
 use Rattle.sap_net.specs.Net.{Net}
 use Rattle.sap_stim.specs.declared.field.Field.TheVariants.{Tagged, Plain}
-use Rattle.sap_stim.specs.declared.input.Input.{Input as Given}
 use Rattle.sap_sim.specs.Fields.{fields_of}
 use Rattle.sap_sim.specs.Numbers.{numbers_of}
 use Rattle.sap_sim.specs.Shown.{shown_registers}
@@ -52,8 +52,8 @@ small =
       memories = [];
     }
 
-abbrev pub given : (value level : ℕ) → Given
-given value level = record { value = value; level = level }
+abbrev pub given : (number level : ℕ) → Given
+given number level = record { number = number; level = level }
 
 abbrev pub Fields : Type 0
 Fields = fields_of levels small ≡ Tagged 8 ∷ Plain 4 ∷ []

@@ -3,10 +3,10 @@ use Rattle.std.specs.Prelude.{◌≡◌, ◌<◌, ℕ, List, [], map, length, ge
 use Rattle.sap_lattice.specs.Levels.{Levels, order_of}
 use Rattle.sap_lattice.specs.Codes.{code_of}
 use Rattle.sap_maps.specs.Maps.{Name, Valuation}
+use Rattle.sap_meaning.specs.Cycle.{Tagged as Given}
 use Rattle.sap_net.specs.declared.parts.Input.{Input}
 use Rattle.sap_net.specs.Net.{Net}
 use Rattle.sap_cycle.specs.Running.{value_names}
-use Rattle.sap_stim.specs.declared.input.Input.{Input as Given}
 use Rattle.sap_sim.specs.declared.sources.Source.{Source}
 use Rattle.sap_sim.specs.declared.sources.Source.TheVariants.{Value, Code}
 use Rattle.sap_sim.specs.declared.steps.Plan.{Plan}
@@ -24,7 +24,7 @@ source_place (Value k) = k
 source_place (Code k) = k
 
 abbrev pub number_from : Levels → List Given → Source → ℕ
-number_from ls xs (Value k) = (get_or xs k nothing).value
+number_from ls xs (Value k) = (get_or xs k nothing).number
 number_from ls xs (Code k) = code_of (order_of ls) (get_or xs k nothing).level
 
 -- the places of these names

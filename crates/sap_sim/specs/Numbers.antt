@@ -3,9 +3,9 @@ use Rattle.std.specs.Prelude.{ℕ, suc, List, [], ◌∷◌, map, get_or, bytes_
 use Rattle.sap_lattice.specs.Levels.{Levels, order_of}
 use Rattle.sap_lattice.specs.Codes.{code_of}
 use Rattle.sap_maps.specs.Maps.{Name}
+use Rattle.sap_meaning.specs.Cycle.{Tagged as Given}
 use Rattle.sap_net.specs.declared.parts.Input.{Input}
 use Rattle.sap_net.specs.Net.{Net}
-use Rattle.sap_stim.specs.declared.input.Input.{Input as Given}
 use Rattle.sap_sim.specs.Fields.{tag_width, is_tag, with_field}
 
 -- where a name stands on a list, from 0: the first place, or the length where there is none
@@ -14,7 +14,7 @@ place [] n = 0
 place (m ∷ ns) n = if bytes_eq m n then 0 else suc (place ns n)
 
 abbrev pub nothing : Given
-nothing = record { value = 0; level = 0 }
+nothing = record { number = 0; level = 0 }
 
 -- the names of the inputs that have a field
 abbrev pub field_names : (tag : ℕ) → List Input → List Name
@@ -33,7 +33,7 @@ value_for (letter ∷ n) = 118 ∷ n
 abbrev pub number_for : Levels → List Input → List Given → Input → ℕ
 number_for ls is xs i =
     if is_tag (tag_width ls) is i then code_of (order_of ls) (given (tag_width ls) is xs (value_for i.name)).level
-    else (given (tag_width ls) is xs i.name).value
+    else (given (tag_width ls) is xs i.name).number
 
 -- in port order
 abbrev pub numbers_of : Levels → Net → List Given → List ℕ

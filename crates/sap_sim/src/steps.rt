@@ -4,7 +4,6 @@ ghost use Rattle.std.specs.Prelude.{◌≡◌, ◌<◌, ◌++◌, [], List, Opti
 ghost use Rattle.sap_maps.specs.Maps.{Valuation};
 ghost use Rattle.sap_net.specs.Runs.{InputsFit, AllFit, IsCycle, IsRun, observed};
 ghost use Rattle.sap_cycle.specs.Running.{Shows, seen, value_names};
-ghost use Rattle.sap_stim.specs.declared.input.Input.{Input as OfLine};
 ghost use Rattle.sap_sim.specs.Fields.{fields_of};
 ghost use Rattle.sap_sim.specs.Numbers.{numbers_of};
 ghost use Rattle.sap_sim.specs.Shown.{shown_registers, row_of, rows_from};
@@ -14,7 +13,8 @@ use crate::shown::Shown;
 use crate::sources::Source;
 use sap_cycle::runner::{Place, Runner};
 use sap_lattice::Lattice;
-use sap_stim::{Input, Inputs, push_row};
+use sap_stim::push_row;
+use sap_stream::{Inputs, Tagged};
 use std::alloc::{AllocError, Global};
 
 /// Where the numbers of inputs come from, and what rows show.
@@ -29,7 +29,7 @@ fn numbers(
     alloc: Global,
     lattice: &Lattice,
     sources: &[Source],
-    line: &[Input],
+    line: &[Tagged],
 ) -> Result<Vec<u64>, AllocError>
     requires { All (λ s. source_place s < length line.now) sources.now }
     ensures { IfOk result (λ xs. xs.items ≡ map (number_from lattice.now line.now) sources.now) }
@@ -41,13 +41,13 @@ fn numbers(
     Ok(numbers)
 }
 
-fn number(lattice: &Lattice, source: Source, line: &[Input]) -> u64
+fn number(lattice: &Lattice, source: Source, line: &[Tagged]) -> u64
     requires { source_place source < length line.now }
     ensures { result ≡ number_from lattice.now line.now source }
 {
     match source {
-        Source::Value(place) => line[place].value,
-        Source::Code(place) => lattice.code(line[place].level),
+        Source::Value(place) => line[place].number(),
+        Source::Code(place) => lattice.code(line[place].level()),
     }
 }
 
@@ -71,7 +71,7 @@ fn step(
     runner: &mut Runner,
     plan: &Plan,
     cycle: u64,
-    line: &[Input],
+    line: &[Tagged],
     out: &mut Vec<u8>,
 ) -> Result<(), AllocError>
     requires plan { IsPlan lattice.now runner.old.net plan.now }
@@ -113,7 +113,7 @@ pub fn rows(
             runner,
             plan,
             k as u64 + 1,
-            line.as_slice(),
+            line.values(),
             &mut out,
         )?;
     }

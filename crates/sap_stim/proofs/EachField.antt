@@ -4,15 +4,15 @@ use Rattle.std.specs.List.{position_or_len, before_first, after_first}
 use Rattle.std.proofs.lemmas.List.{take_all, append-nil}
 use Rattle.std.proofs.Math.Seq.{drop-cons}
 use Rattle.sap_lattice.specs.Levels.{Levels}
+use Rattle.sap_meaning.specs.Cycle.{Tagged as Given}
 use Rattle.sap_stim.specs.declared.fault.StimCode.{StimCode}
 use Rattle.sap_stim.specs.declared.field.Field.{Field}
-use Rattle.sap_stim.specs.declared.input.Input.{Input}
 use Rattle.sap_stim.specs.Line.{split_at, fields_of, and_then, field_of, inputs_of}
 use Rattle.sap_stim.proofs.Pieces.{is_mark, split_marked, split_unmarked, before_unmarked}
 use Rattle.std.proofs.lemmas.Bool.{cases_lt}
 
 -- inputs that were read, and then others
-abbrev pub onto : List Input → Result (List Input) StimCode → Result (List Input) StimCode
+abbrev pub onto : List Given → Result (List Given) StimCode → Result (List Given) StimCode
 onto xs (Ok ys) = Ok (xs ++ ys)
 onto xs (Err code) = Err code
 
@@ -21,7 +21,7 @@ abbrev pub left_of : List ℕ → ℕ → List (List ℕ)
 left_of rest k = take k (split_at 32 rest)
 
 -- what is read when i fields were, and the text that is left
-abbrev pub read_on : Levels → List Field → ℕ → List Input → List ℕ → Result (List Input) StimCode
+abbrev pub read_on : Levels → List Field → ℕ → List Given → List ℕ → Result (List Given) StimCode
 read_on ls fs i inputs rest = onto inputs (inputs_of ls (drop i fs) (left_of rest (length fs - i)))
 
 -- as many pieces are left as fields
@@ -62,12 +62,12 @@ left_more s k h =
     others : split_at 32 s ≡ before s ∷ split_at 32 (after s) → length (split_at 32 (after s)) ≡ k
     others e = let f : length (split_at 32 s) ≡ suc (length (split_at 32 (after s))) = ap length e in omega arith
 
-onto_more : (inputs : List Input) (x : Input) (r : Result (List Input) StimCode) → onto inputs (and_then r (λ xs. Ok (x ∷ xs))) ≡ onto (inputs ++ x ∷ []) r
+onto_more : (inputs : List Given) (x : Given) (r : Result (List Given) StimCode) → onto inputs (and_then r (λ xs. Ok (x ∷ xs))) ≡ onto (inputs ++ x ∷ []) r
 onto_more inputs x (Ok xs) = ap Ok (sym (append_assoc inputs (x ∷ []) xs))
 onto_more inputs x (Err code) = refl
 
 -- the reading of one field, and then the others
-read_one : (ls : Levels) (fs : List Field) (i : ℕ) (d : Field) (inputs : List Input) (rest : List ℕ) → i < length fs → EnoughLeft fs i rest
+read_one : (ls : Levels) (fs : List Field) (i : ℕ) (d : Field) (inputs : List Given) (rest : List ℕ) → i < length fs → EnoughLeft fs i rest
     → read_on ls fs i inputs rest ≡ onto inputs (and_then (field_of ls (get_or fs i d) (before rest)) (λ x. and_then (inputs_of ls (drop (i + 1) fs) (left_of (after rest) (length fs - (i + 1)))) (λ xs. Ok (x ∷ xs))))
 read_one ls fs i d inputs rest h enough =
     let k : ℕ = length fs - (i + 1) in
@@ -83,24 +83,24 @@ enough_more fs i rest later h enough e = λ more.
     let n : length fs - i ≡ length fs - (i + 1) + 1 = omega arith in
     ap (λ (s : List ℕ). length (split_at 32 s)) e ∙ (left_more rest k (enough h ∙ n)).1 (omega arith)
 
-pub read_more : (ls : Levels) (fs : List Field) (i : ℕ) (d : Field) (inputs next : List Input) (rest text later : List ℕ) (x : Input) → i < length fs → EnoughLeft fs i rest
+pub read_more : (ls : Levels) (fs : List Field) (i : ℕ) (d : Field) (inputs next : List Given) (rest text later : List ℕ) (x : Given) → i < length fs → EnoughLeft fs i rest
     → Ok x ≡ field_of ls (get_or fs i d) text → text ≡ before_first (is_mark 32) rest → later ≡ after_first (is_mark 32) rest → next ≡ inputs ++ x ∷ []
     → read_on ls fs (i + 1) next later ≡ read_on ls fs i inputs rest
 read_more ls fs i d inputs next rest text later x h enough given t l n =
-    let others : Result (List Input) StimCode = inputs_of ls (drop (i + 1) fs) (left_of (after rest) (length fs - (i + 1))) in
-    ap₂ (λ (xs : List Input) (s : List ℕ). read_on ls fs (i + 1) xs s) n l
+    let others : Result (List Given) StimCode = inputs_of ls (drop (i + 1) fs) (left_of (after rest) (length fs - (i + 1))) in
+    ap₂ (λ (xs : List Given) (s : List ℕ). read_on ls fs (i + 1) xs s) n l
     ∙ sym (read_one ls fs i d inputs rest h enough
-    ∙ ap (λ (r : Result Input StimCode). onto inputs (and_then r (λ y. and_then others (λ ys. Ok (y ∷ ys))))) (sym (given ∙ ap (field_of ls (get_or fs i d)) t))
+    ∙ ap (λ (r : Result Given StimCode). onto inputs (and_then r (λ y. and_then others (λ ys. Ok (y ∷ ys))))) (sym (given ∙ ap (field_of ls (get_or fs i d)) t))
     ∙ onto_more inputs x others)
 
-pub read_stops : (ls : Levels) (fs : List Field) (i : ℕ) (d : Field) (inputs : List Input) (rest text : List ℕ) (code : StimCode) → i < length fs → EnoughLeft fs i rest
+pub read_stops : (ls : Levels) (fs : List Field) (i : ℕ) (d : Field) (inputs : List Given) (rest text : List ℕ) (code : StimCode) → i < length fs → EnoughLeft fs i rest
     → Err code ≡ field_of ls (get_or fs i d) text → text ≡ before_first (is_mark 32) rest → Err code ≡ read_on ls fs i inputs rest
 read_stops ls fs i d inputs rest text code h enough given t =
-    let others : Result (List Input) StimCode = inputs_of ls (drop (i + 1) fs) (left_of (after rest) (length fs - (i + 1))) in
+    let others : Result (List Given) StimCode = inputs_of ls (drop (i + 1) fs) (left_of (after rest) (length fs - (i + 1))) in
     sym (read_one ls fs i d inputs rest h enough
-    ∙ ap (λ (r : Result Input StimCode). onto inputs (and_then r (λ y. and_then others (λ ys. Ok (y ∷ ys))))) (sym (given ∙ ap (field_of ls (get_or fs i d)) t)))
+    ∙ ap (λ (r : Result Given StimCode). onto inputs (and_then r (λ y. and_then others (λ ys. Ok (y ∷ ys))))) (sym (given ∙ ap (field_of ls (get_or fs i d)) t)))
 
-onto_nothing : (r : Result (List Input) StimCode) → onto [] r ≡ r
+onto_nothing : (r : Result (List Given) StimCode) → onto [] r ≡ r
 onto_nothing (Ok xs) = refl
 onto_nothing (Err code) = refl
 
@@ -121,11 +121,11 @@ drop_past (suc n) [] h = refl
 drop_past zero (f ∷ fs) h = absurd (omega arith)
 drop_past (suc n) (f ∷ fs) h = drop_past n fs (omega arith)
 
-pub nothing_read : (ls : Levels) (fs : List Field) (inputs : List Input) (line : List ℕ) → inputs ≡ [] → length (fields_of line) ≡ length fs → read_on ls fs 0 inputs line ≡ inputs_of ls fs (fields_of line)
-nothing_read ls fs inputs line e h = ap (λ (xs : List Input). read_on ls fs 0 xs line) e ∙ (read_begins ls fs line h).0
+pub nothing_read : (ls : Levels) (fs : List Field) (inputs : List Given) (line : List ℕ) → inputs ≡ [] → length (fields_of line) ≡ length fs → read_on ls fs 0 inputs line ≡ inputs_of ls fs (fields_of line)
+nothing_read ls fs inputs line e h = ap (λ (xs : List Given). read_on ls fs 0 xs line) e ∙ (read_begins ls fs line h).0
 
 -- after the last
-pub read_ends : (ls : Levels) (fs : List Field) (i : ℕ) (inputs : List Input) (rest : List ℕ) → length fs ≤ i → read_on ls fs i inputs rest ≡ Ok inputs
+pub read_ends : (ls : Levels) (fs : List Field) (i : ℕ) (inputs : List Given) (rest : List ℕ) → length fs ≤ i → read_on ls fs i inputs rest ≡ Ok inputs
 read_ends ls fs i inputs rest h =
     ap₂ (λ (x : List Field) (y : List (List ℕ)). onto inputs (inputs_of ls x y)) (drop_past i fs h) (take_none (length fs - i) (split_at 32 rest) (omega arith))
     ∙ ap Ok (append-nil inputs)

@@ -6,11 +6,11 @@ use Rattle.std.specs.Str.{bytes_eq}
 use Rattle.std.specs.Str.Parse.{digits_value}
 use borrow.Author.Tests.{ltb-true}
 use Rattle.sap_lattice.specs.Levels.{Levels, order_of, order_by}
+use Rattle.sap_meaning.specs.Cycle.{Tagged as Given}
 use Rattle.sap_stim.specs.declared.fault.StimCode.{StimCode}
 use Rattle.sap_stim.specs.declared.fault.StimCode.TheVariants.{S1, S2, S4, S5}
 use Rattle.sap_stim.specs.declared.field.Field.{Field}
 use Rattle.sap_stim.specs.declared.field.Field.TheVariants.{Tagged, Plain}
-use Rattle.sap_stim.specs.declared.input.Input.{Input}
 use Rattle.sap_stim.specs.declared.stimulus.Parsed.{Parsed}
 use Rattle.sap_stim.specs.declared.TheConstants.{MOST_LINE_BYTES}
 use Rattle.sap_stim.specs.Line.{split_at, fields_of, and_then, is_value, value_of, level_named, with_level, tagged_of, plain_of, field_of, inputs_of, line_of}
@@ -65,7 +65,7 @@ module _ (ls : Levels) (bottom : (order_of ls).bottom < (order_of ls).count) whe
 
   plain_fits : (width : ℕ) (text : List ℕ) → IfOk (plain_of ls width text) (InputFits ls (Plain width))
   plain_fits width text =
-      then_ok (λ (v : ℕ). v < 2 ^ width) (InputFits ls (Plain width)) (value_of width text) (λ value. Ok (record { value = value; level = (order_of ls).bottom })) (value_within width text)
+      then_ok (λ (v : ℕ). v < 2 ^ width) (InputFits ls (Plain width)) (value_of width text) (λ value. Ok (record { number = value; level = (order_of ls).bottom })) (value_within width text)
       (λ v h. record { value = h; level = bottom; bottom = λ e. refl })
 
   field_fits : (f : Field) (text : List ℕ) → IfOk (field_of ls f text) (InputFits ls f)
@@ -82,14 +82,14 @@ module _ (ls : Levels) (bottom : (order_of ls).bottom < (order_of ls).count) whe
 
   line_fits : (fs : List Field) (ended : Bool) (text : List ℕ) → IfOk (line_of ls fs ended text) (LineFits ls fs)
   line_fits fs ended text =
-      let read : Result (List Input) StimCode = inputs_of ls fs (fields_of text) in
-      let counted : Result (List Input) StimCode = if not (eqb (length (fields_of text)) (length fs)) then Err S4 else read in
-      let whole : Result (List Input) StimCode = if not ended then Err S5 else counted in
+      let read : Result (List Given) StimCode = inputs_of ls fs (fields_of text) in
+      let counted : Result (List Given) StimCode = if not (eqb (length (fields_of text)) (length fs)) then Err S4 else read in
+      let whole : Result (List Given) StimCode = if not ended then Err S5 else counted in
       unless (LineFits ls fs) (nat_lt MOST_LINE_BYTES (length text)) S1 whole
       (unless (LineFits ls fs) (not ended) S5 counted
       (unless (LineFits ls fs) (not (eqb (length (fields_of text)) (length fs))) S4 read (inputs_fit fs (fields_of text))))
 
-  going_fits : (fs : List Field) (n : ℕ) (r : Result (List Input) StimCode) (p : Parsed) → IfOk r (LineFits ls fs) → StreamFits ls fs p.stream → StreamFits ls fs (going_on n r p).stream
+  going_fits : (fs : List Field) (n : ℕ) (r : Result (List Given) StimCode) (p : Parsed) → IfOk r (LineFits ls fs) → StreamFits ls fs p.stream → StreamFits ls fs (going_on n r p).stream
   going_fits fs n (Ok inputs) p h rest = (h, rest)
   going_fits fs n (Err code) p h rest = tt
 

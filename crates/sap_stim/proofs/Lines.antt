@@ -4,10 +4,10 @@ use Rattle.std.specs.List.{position_or_len, before_first, after_first}
 use Rattle.std.proofs.lemmas.List.{append-nil, length-drop}
 use Rattle.std.proofs.lemmas.Bool.{cases_lt}
 use Rattle.sap_lattice.specs.Levels.{Levels}
+use Rattle.sap_meaning.specs.Cycle.{Tagged as Given}
 use Rattle.sap_stim.specs.declared.fault.StimCode.{StimCode}
 use Rattle.sap_stim.specs.declared.fault.StimFault.{StimFault}
 use Rattle.sap_stim.specs.declared.field.Field.{Field}
-use Rattle.sap_stim.specs.declared.input.Input.{Input}
 use Rattle.sap_stim.specs.declared.stimulus.Parsed.{Parsed}
 use Rattle.sap_stim.specs.Line.{split_at, line_of}
 use Rattle.sap_stim.specs.Stimulus.{finished, going_on, read_pieces}
@@ -24,7 +24,7 @@ abbrev pub read_from : Levels → List Field → ℕ → List ℕ → Parsed
 read_from ls fs line rest = read_pieces ls fs line (split_at 10 rest)
 
 -- lines that were read, and then others
-abbrev pub behind : List (List Input) → Parsed → Parsed
+abbrev pub behind : List (List Given) → Parsed → Parsed
 behind cycles p = record { stream = cycles ++ p.stream; fault = p.fault }
 
 pieces_go_on : (ls : Levels) (fs : List Field) (n : ℕ) (text : List ℕ) (ps : List (List ℕ)) → 0 < length ps → read_pieces ls fs n (text ∷ ps) ≡ going_on n (line_of ls fs true text) (read_pieces ls fs (n + 1) ps)
@@ -62,35 +62,35 @@ pub shorter : (m : ℕ) (s : List ℕ) → 0 < length s → length (after_first 
 shorter m s h = let e = length-drop (position_or_len (is_mark m) s + 1) s in omega arith
 
 -- a line that gives its inputs
-pub parse_more : (ls : Levels) (fs : List Field) (cycles next : List (List Input)) (s text later : List ℕ) (inputs : List Input) → 0 < length s
+pub parse_more : (ls : Levels) (fs : List Field) (cycles next : List (List Given)) (s text later : List ℕ) (inputs : List Given) → 0 < length s
     → Ok inputs ≡ line_of ls fs (ltb (length text) (length s)) text → text ≡ before_first (is_mark 10) s → later ≡ after_first (is_mark 10) s → next ≡ cycles ++ inputs ∷ []
     → behind next (read_from ls fs (length next + 1) later) ≡ behind cycles (read_from ls fs (length cycles + 1) s)
 parse_more ls fs cycles next s text later inputs h given t l e =
     let n : length (cycles ++ inputs ∷ []) + 1 ≡ length cycles + 1 + 1 = simp length-append (omega arith) in
     let rest : Parsed = read_from ls fs (length cycles + 1 + 1) (after s) in
-    ap₂ (λ (xs : List (List Input)) (y : List ℕ). behind xs (read_from ls fs (length xs + 1) y)) e l
+    ap₂ (λ (xs : List (List Given)) (y : List ℕ). behind xs (read_from ls fs (length xs + 1) y)) e l
     ∙ ap (λ (k : ℕ). behind (cycles ++ inputs ∷ []) (read_from ls fs k (after s))) n
-    ∙ ap (λ (xs : List (List Input)). let p : Parsed = record { stream = xs; fault = rest.fault } in p) (append_assoc cycles (inputs ∷ []) rest.stream)
-    ∙ ap (λ (r : Result (List Input) StimCode). behind cycles (going_on (length cycles + 1) r rest)) (given ∙ ap (λ (y : List ℕ). line_of ls fs (ltb (length y) (length s)) y) t)
+    ∙ ap (λ (xs : List (List Given)). let p : Parsed = record { stream = xs; fault = rest.fault } in p) (append_assoc cycles (inputs ∷ []) rest.stream)
+    ∙ ap (λ (r : Result (List Given) StimCode). behind cycles (going_on (length cycles + 1) r rest)) (given ∙ ap (λ (y : List ℕ). line_of ls fs (ltb (length y) (length s)) y) t)
     ∙ ap (behind cycles) (sym (read_line ls fs (length cycles + 1) s h))
 
 -- a line that is refused
-pub parse_stops : (ls : Levels) (fs : List Field) (cycles : List (List Input)) (s text : List ℕ) (code : StimCode) (p : Parsed) → 0 < length s
+pub parse_stops : (ls : Levels) (fs : List Field) (cycles : List (List Given)) (s text : List ℕ) (code : StimCode) (p : Parsed) → 0 < length s
     → Err code ≡ line_of ls fs (ltb (length text) (length s)) text → text ≡ before_first (is_mark 10) s → p.stream ≡ cycles → p.fault ≡ Some (record { line = length cycles + 1; code = code })
     → p ≡ behind cycles (read_from ls fs (length cycles + 1) s)
 parse_stops ls fs cycles s text code p h given t stream fault =
-    ap₂ (λ (xs : List (List Input)) (f : Option StimFault). let q : Parsed = record { stream = xs; fault = f } in q) (stream ∙ sym (append-nil cycles)) fault
-    ∙ ap (λ (r : Result (List Input) StimCode). behind cycles (going_on (length cycles + 1) r (read_from ls fs (length cycles + 1 + 1) (after s)))) (given ∙ ap (λ (y : List ℕ). line_of ls fs (ltb (length y) (length s)) y) t)
+    ap₂ (λ (xs : List (List Given)) (f : Option StimFault). let q : Parsed = record { stream = xs; fault = f } in q) (stream ∙ sym (append-nil cycles)) fault
+    ∙ ap (λ (r : Result (List Given) StimCode). behind cycles (going_on (length cycles + 1) r (read_from ls fs (length cycles + 1 + 1) (after s)))) (given ∙ ap (λ (y : List ℕ). line_of ls fs (ltb (length y) (length s)) y) t)
     ∙ ap (behind cycles) (sym (read_line ls fs (length cycles + 1) s h))
 
 -- the lines that were read are few
-pub few_more : (cycles next : List (List Input)) (inputs : List Input) (s later : List ℕ) (n : ℕ) → 0 < length s → length cycles + length s ≤ n → later ≡ after_first (is_mark 10) s → next ≡ cycles ++ inputs ∷ [] → length next + length later ≤ n
+pub few_more : (cycles next : List (List Given)) (inputs : List Given) (s later : List ℕ) (n : ℕ) → 0 < length s → length cycles + length s ≤ n → later ≡ after_first (is_mark 10) s → next ≡ cycles ++ inputs ∷ [] → length next + length later ≤ n
 few_more cycles next inputs s later n h few l e =
     let a : length next ≡ length cycles + 1 = ap length e ∙ length-append cycles (inputs ∷ []) in
     let b : length later < length s = let q : length later ≡ length (after_first (is_mark 10) s) = ap length l in let r = shorter 10 s h in omega arith in
     omega arith
 
 -- the end
-pub parse_ends : (ls : Levels) (fs : List Field) (cycles : List (List Input)) (n : ℕ) (s : List ℕ) → length s ≡ 0 → record { stream = cycles; fault = None } ≡ behind cycles (read_from ls fs n s)
-parse_ends ls fs cycles n [] h = ap (λ (xs : List (List Input)). let p : Parsed = record { stream = xs; fault = None } in p) (sym (append-nil cycles))
+pub parse_ends : (ls : Levels) (fs : List Field) (cycles : List (List Given)) (n : ℕ) (s : List ℕ) → length s ≡ 0 → record { stream = cycles; fault = None } ≡ behind cycles (read_from ls fs n s)
+parse_ends ls fs cycles n [] h = ap (λ (xs : List (List Given)). let p : Parsed = record { stream = xs; fault = None } in p) (sym (append-nil cycles))
 parse_ends ls fs cycles n (b ∷ bs) h = absurd (omega arith)

@@ -1,10 +1,10 @@
 -- Worked examples of stimulus files and rows, over the levels low and high, for one input of 8 bits.
 use Rattle.std.specs.Prelude.{◌≡◌, ℕ, List, [], ◌∷◌, ◌++◌, Some, None, true, false, codes}
 use Rattle.sap_lattice.specs.Levels.{Levels}
+use Rattle.sap_meaning.specs.Cycle.{Tagged as Given}
 use Rattle.sap_stim.specs.declared.fault.StimCode.{StimCode}
 use Rattle.sap_stim.specs.declared.fault.StimCode.TheVariants.{S1, S2, S3, S4, S5}
 use Rattle.sap_stim.specs.declared.field.Field.TheVariants.{Tagged, Plain}
-use Rattle.sap_stim.specs.declared.input.Input.{Input}
 use Rattle.sap_stim.specs.declared.stimulus.Parsed.{Parsed}
 use Rattle.sap_stim.specs.Stimulus.{stimulus_of}
 use Rattle.sap_stim.specs.Rows.{row_text, shown_of}
@@ -13,10 +13,10 @@ use Rattle.sap_stim.specs.Rows.{row_text, shown_of}
 abbrev pub levels : Levels
 levels = record { names = codes "low" ∷ codes "high" ∷ []; table = (true ∷ true ∷ []) ∷ (false ∷ true ∷ []) ∷ [] }
 
-abbrev pub input : ℕ → ℕ → Input
-input value level = record { value = value; level = level }
+abbrev pub input : ℕ → ℕ → Given
+input value level = record { number = value; level = level }
 
-abbrev pub given : ℕ → ℕ → List Input
+abbrev pub given : ℕ → ℕ → List Given
 given value level = input value level ∷ []
 
 -- a text of lines: each with its LF
@@ -26,10 +26,10 @@ line text = text ++ 10 ∷ []
 abbrev pub read : List ℕ → Parsed
 read bytes = stimulus_of levels (Tagged 8 ∷ []) bytes
 
-abbrev pub ends : List (List Input) → Parsed
+abbrev pub ends : List (List Given) → Parsed
 ends stream = record { stream = stream; fault = None }
 
-abbrev pub stops : List (List Input) → (line : ℕ) → StimCode → Parsed
+abbrev pub stops : List (List Given) → (line : ℕ) → StimCode → Parsed
 stops stream line code = record { stream = stream; fault = Some (record { line = line; code = code }) }
 
 abbrev pub Empty : Type 0

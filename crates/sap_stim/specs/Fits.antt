@@ -1,9 +1,9 @@
 -- Streams whose lines fit the fields.
 use Rattle.std.specs.Prelude.{◌≡◌, ◌<◌, ◌^◌, ℕ, List, [], ◌∷◌, Bool, true, false}
 use Rattle.sap_lattice.specs.Levels.{Levels, order_of}
+use Rattle.sap_meaning.specs.Cycle.{Tagged as Given}
 use Rattle.sap_stim.specs.declared.field.Field.{Field}
 use Rattle.sap_stim.specs.declared.field.Field.TheVariants.{Tagged, Plain}
-use Rattle.sap_stim.specs.declared.input.Input.{Input}
 use Rattle.sap_stim.specs.Line.{field_width}
 use Rattle.sap_stim.specs.Stimulus.{stimulus_of}
 
@@ -12,19 +12,19 @@ is_plain (Tagged width) = false
 is_plain (Plain width) = true
 
 -- a number within the width, and a level, which of a plain field is bottom
-pub record InputFits (ls : Levels) (f : Field) (x : Input) : Type 0 where
-  pub value : x.value < 2 ^ field_width f
+pub record InputFits (ls : Levels) (f : Field) (x : Given) : Type 0 where
+  pub value : x.number < 2 ^ field_width f
   pub level : x.level < (order_of ls).count
   pub bottom : is_plain f ≡ true → x.level ≡ (order_of ls).bottom
 
 -- one input for each field
-abbrev pub LineFits : Levels → List Field → List Input → Type 0
+abbrev pub LineFits : Levels → List Field → List Given → Type 0
 LineFits ls [] [] = Unit {0}
 LineFits ls [] (x ∷ xs) = ⊥
 LineFits ls (f ∷ fs) [] = ⊥
 LineFits ls (f ∷ fs) (x ∷ xs) = InputFits ls f x × LineFits ls fs xs
 
-abbrev pub StreamFits : Levels → List Field → List (List Input) → Type 0
+abbrev pub StreamFits : Levels → List Field → List (List Given) → Type 0
 StreamFits ls fs [] = Unit {0}
 StreamFits ls fs (inputs ∷ rest) = LineFits ls fs inputs × StreamFits ls fs rest
 

@@ -5,12 +5,12 @@ use Rattle.std.specs.List.{list_all, before_first, after_first}
 use Rattle.std.specs.Str.{bytes_eq}
 use Rattle.std.specs.Str.Parse.{digits_value}
 use Rattle.sap_lattice.specs.Levels.{Levels, order_of}
+use Rattle.sap_meaning.specs.Cycle.{Tagged as Given}
 use Rattle.sap_stim.specs.declared.TheConstants.{MOST_LINE_BYTES, MOST_DIGITS}
 use Rattle.sap_stim.specs.declared.fault.StimCode.{StimCode}
 use Rattle.sap_stim.specs.declared.fault.StimCode.TheVariants.{S1, S2, S3, S4, S5}
 use Rattle.sap_stim.specs.declared.field.Field.{Field}
 use Rattle.sap_stim.specs.declared.field.Field.TheVariants.{Tagged, Plain}
-use Rattle.sap_stim.specs.declared.input.Input.{Input}
 
 -- the width of a field's value, from 1 to 64
 abbrev pub field_width : Field → ℕ
@@ -53,27 +53,27 @@ abbrev pub level_named : (names : List (List ℕ)) → List ℕ → Option ℕ
 level_named names name = position (λ level. bytes_eq level name) names
 
 -- S3 where the level is none
-abbrev pub with_level : (value : ℕ) → Option ℕ → Result Input StimCode
+abbrev pub with_level : (value : ℕ) → Option ℕ → Result Given StimCode
 with_level value None = Err S3
-with_level value (Some level) = Ok (record { value = value; level = level })
+with_level value (Some level) = Ok (record { number = value; level = level })
 
 -- the value stands before the first `@` and the level's name behind it; S1 where there is no `@`, or nothing behind it
-abbrev pub tagged_of : Levels → (width : ℕ) → List ℕ → Result Input StimCode
+abbrev pub tagged_of : Levels → (width : ℕ) → List ℕ → Result Given StimCode
 tagged_of ls width text =
     let name = after_first (λ b. b == 64) text in
     if length name == 0 then Err S1
     else and_then (value_of width (before_first (λ b. b == 64) text)) (λ value. with_level value (level_named ls.names name))
 
 -- the level of a plain field is bottom
-abbrev pub plain_of : Levels → (width : ℕ) → List ℕ → Result Input StimCode
-plain_of ls width text = and_then (value_of width text) (λ value. Ok (record { value = value; level = (order_of ls).bottom }))
+abbrev pub plain_of : Levels → (width : ℕ) → List ℕ → Result Given StimCode
+plain_of ls width text = and_then (value_of width text) (λ value. Ok (record { number = value; level = (order_of ls).bottom }))
 
-abbrev pub field_of : Levels → Field → List ℕ → Result Input StimCode
+abbrev pub field_of : Levels → Field → List ℕ → Result Given StimCode
 field_of ls (Tagged width) text = tagged_of ls width text
 field_of ls (Plain width) text = plain_of ls width text
 
 -- the fields from the left; S4 where their number is another
-abbrev pub inputs_of : Levels → List Field → List (List ℕ) → Result (List Input) StimCode
+abbrev pub inputs_of : Levels → List Field → List (List ℕ) → Result (List Given) StimCode
 inputs_of ls [] [] = Ok []
 inputs_of ls [] (text ∷ texts) = Err S4
 inputs_of ls (f ∷ fs) [] = Err S4
@@ -81,7 +81,7 @@ inputs_of ls (f ∷ fs) (text ∷ texts) =
     and_then (field_of ls f text) (λ input. and_then (inputs_of ls fs texts) (λ inputs. Ok (input ∷ inputs)))
 
 -- a line without its LF: first its length, then S5 where it has no LF, then S4, then its fields
-abbrev pub line_of : Levels → List Field → (ended : Bool) → List ℕ → Result (List Input) StimCode
+abbrev pub line_of : Levels → List Field → (ended : Bool) → List ℕ → Result (List Given) StimCode
 line_of ls fs ended text =
     if nat_lt MOST_LINE_BYTES (length text) then Err S1
     else (if not ended then Err S5

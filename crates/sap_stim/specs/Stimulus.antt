@@ -1,9 +1,9 @@
 -- A stimulus file: a line for each cycle, a field for each input.
 use Rattle.std.specs.Prelude.{ℕ, List, [], ◌∷◌, Some, None, Result, Ok, Err, Bool, true, false, ◌+◌, if◌then◌else◌}
 use Rattle.sap_lattice.specs.Levels.{Levels}
+use Rattle.sap_meaning.specs.Cycle.{Tagged as Given}
 use Rattle.sap_stim.specs.declared.fault.StimCode.{StimCode}
 use Rattle.sap_stim.specs.declared.field.Field.{Field}
-use Rattle.sap_stim.specs.declared.input.Input.{Input}
 use Rattle.sap_stim.specs.declared.stimulus.Parsed.{Parsed}
 use Rattle.sap_stim.specs.Line.{split_at, line_of}
 
@@ -12,7 +12,7 @@ is_empty [] = true
 is_empty (b ∷ bs) = false
 
 -- a file gives the lines before the first refused one, and that one's number, from 1, with its code
-abbrev pub ahead : List Input → Parsed → Parsed
+abbrev pub ahead : List Given → Parsed → Parsed
 ahead inputs p = record { stream = inputs ∷ p.stream; fault = p.fault }
 
 abbrev pub stopped : (line : ℕ) → StimCode → Parsed
@@ -21,7 +21,7 @@ stopped line code = record { stream = []; fault = Some (record { line = line; co
 abbrev pub finished : Parsed
 finished = record { stream = []; fault = None }
 
-abbrev pub going_on : (line : ℕ) → Result (List Input) StimCode → Parsed → Parsed
+abbrev pub going_on : (line : ℕ) → Result (List Given) StimCode → Parsed → Parsed
 going_on line (Ok inputs) rest = ahead inputs rest
 going_on line (Err code) rest = stopped line code
 

@@ -9,7 +9,7 @@ use std::marker::Model;
 pub enum Field {
     /// A value and a level.
     Tagged(u32),
-    /// A value alone.
+    /// A value alone, whose level is bottom.
     Plain(u32),
 }
 

@@ -6,7 +6,6 @@
 
 pub mod fault;
 pub mod field;
-pub mod input;
 mod line;
 pub mod rows;
 pub mod stimulus;
@@ -18,7 +17,6 @@ ghost use Rattle.sap_stim.specs.Examples as examples;
 
 pub use fault::{StimCode, StimFault};
 pub use field::{Field, Fields};
-pub use input::{Input, Inputs, Stream};
 pub use rows::{push_row, row};
 pub use stimulus::{Parsed, parse_stream};
 

@@ -6,10 +6,10 @@ ghost use Rattle.sap_stim.specs.Line.{IsSized, fields_of, inputs_of, line_of};
 use crate::MOST_LINE_BYTES;
 use crate::fault::StimCode;
 use crate::field::Field;
-use crate::input::{Input, Inputs};
 use crate::text::{count_fields, cut};
 use crate::value::read_field;
 use sap_lattice::lattice::Lattice;
+use sap_stream::inputs::{Inputs, Tagged};
 use std::alloc::{AllocError, Global};
 
 /// The inputs of a line with as many fields as are asked for.
@@ -23,7 +23,7 @@ fn read_fields(
     requires count { length (fields_of line.now) ≡ length fields.now }
     ensures { IfOk result (λ given. given ≡ inputs_of lattice.now fields.now (fields_of line.now)) }
 {
-    let mut inputs: Vec<Input> = Vec::new(alloc);
+    let mut inputs: Vec<Tagged> = Vec::new(alloc);
     let mut rest = line;
     for field in fields {
         let (text, behind) = cut(rest, b' ');

@@ -6,10 +6,10 @@ ghost use Rattle.sap_stim.specs.Stimulus.{stimulus_of};
 
 use crate::fault::{StimCode, StimFault};
 use crate::field::Fields;
-use crate::input::{Inputs, Stream};
 use crate::line::read_line;
 use crate::text::cut;
 use sap_lattice::lattice::Lattice;
+use sap_stream::inputs::{Inputs, Stream};
 use std::alloc::{AllocError, Global};
 
 /// What a stimulus file gives: the lines before the first that is refused, and that one, where there

@@ -9,10 +9,10 @@ ghost use Rattle.sap_stim.specs.Line.{is_value, value_of, level_named, tagged_of
 use crate::MOST_DIGITS;
 use crate::fault::StimCode;
 use crate::field::Field;
-use crate::input::Input;
 use crate::text::cut;
 use sap_lattice::lattice::Lattice;
 use sap_lattice::level::Level;
+use sap_stream::inputs::Tagged;
 
 fn are_digits(text: &[u8]) -> bool
     ensures { result ≡ list_all is_ascii_digit text.now }
@@ -74,7 +74,7 @@ fn find_level(lattice: &Lattice, name: &[u8]) -> Option<Level>
     None
 }
 
-fn read_tagged(text: &[u8], width: u32, lattice: &Lattice) -> Result<Input, StimCode>
+fn read_tagged(text: &[u8], width: u32, lattice: &Lattice) -> Result<Tagged, StimCode>
     requires wide { 1 ≤ width }
     requires narrow { width ≤ 64 }
     ensures { result ≡ tagged_of lattice.now width text.now }
@@ -85,25 +85,22 @@ fn read_tagged(text: &[u8], width: u32, lattice: &Lattice) -> Result<Input, Stim
     }
     let value = read_value(digits, width)?;
     match find_level(lattice, name) {
-        Some(level) => Ok(Input { value, level }),
+        Some(level) => Ok(Tagged::new(value, level)),
         None => Err(StimCode::S3),
     }
 }
 
-fn read_plain(text: &[u8], width: u32, lattice: &Lattice) -> Result<Input, StimCode>
+fn read_plain(text: &[u8], width: u32, lattice: &Lattice) -> Result<Tagged, StimCode>
     requires wide { 1 ≤ width }
     requires narrow { width ≤ 64 }
     ensures { result ≡ plain_of lattice.now width text.now }
 {
     let value = read_value(text, width)?;
-    Ok(Input {
-        value,
-        level: lattice.bottom(),
-    })
+    Ok(Tagged::new(value, lattice.bottom()))
 }
 
 /// What a field of a line gives.
-pub fn read_field(text: &[u8], field: Field, lattice: &Lattice) -> Result<Input, StimCode>
+pub fn read_field(text: &[u8], field: Field, lattice: &Lattice) -> Result<Tagged, StimCode>
     requires { IsSized field }
     ensures { result ≡ field_of lattice.now field text.now }
 {

@@ -1,9 +1,9 @@
 -- A netlist that stands for a design, on the streams that a stimulus gives.
-use Rattle.std.proofs.Common.{◌≡◌, ℕ, ◌<◌, ◌≤◌, List, length, map, sym, ap, ◌∙◌, subst, arith}
+use Rattle.std.proofs.Common.{◌≡◌, ℕ, ◌<◌, ◌≤◌, List, length, map, arith}
 use Rattle.sap_tree.specs.Syntax.{DesignTree}
 use Rattle.sap_lattice.specs.Levels.{Levels, order_of}
 use Rattle.sap_lattice.specs.Order.{Laws}
-use Rattle.sap_lattice.specs.Codes.{Codes, code_of}
+use Rattle.sap_lattice.specs.Codes.{Codes}
 use Rattle.sap_maps.specs.Maps.{Valuation}
 use Rattle.sap_meaning.specs.Store.{Store}
 use Rattle.sap_meaning.specs.Cycle.{Tagged, cycle}
@@ -12,21 +12,18 @@ use Rattle.sap_meaning.specs.Sites.{program_sites, refused_sites, Sublist}
 use Rattle.sap_net.specs.Net.{Net}
 use Rattle.sap_net.specs.Runs.{AllFit, IsRun}
 use Rattle.sap_interface.specs.StandsFor.{world}
-use Rattle.sap_interface.specs.Compiled.{coded_stream}
 use Rattle.sap_interface.specs.Designs.{named_of, StandsForDesign}
 use Rattle.sap_interface.specs.Designs as interface
 use Rattle.sap_resolve.specs.Fill.{program_of}
-use Rattle.sap_stim.specs.declared.input.Input.{Input}
 use Rattle.sap_stim.specs.Fits.{StimulusFits}
 use Rattle.sap_check.specs.Sites.{sites_of}
 use Rattle.sap_run.specs.Fields.{design_fields}
-use Rattle.sap_run.specs.RunOf.{read_for, tagged_stream}
+use Rattle.sap_run.specs.RunOf.{read_for}
 use Rattle.sap_run.proofs.Designs.{fit_stream}
 use Rattle.sap_sites.specs.Numbering.{OneNumbering}
 use Rattle.sap_trace.specs.Fields.{given}
 use Rattle.sap_trace.specs.Lines.{labelled_trace}
 use Rattle.sap_trace.specs.Seen.{HasSiteWires, lines_from}
-use Rattle.sap_trace.proofs.Given.{stream_given}
 use Rattle.sap_trace.proofs.Runs.{lines_stand}
 
 module _ (ls : Levels) (d : DesignTree) (n : Net) (stands : StandsForDesign ls d n) where
@@ -34,21 +31,17 @@ module _ (ls : Levels) (d : DesignTree) (n : Net) (stands : StandsForDesign ls d
   site_wires one k p q = let e : interface.sites_of d ≡ length (sites_of d) = one.count in stands.interface.site_wires k p (omega arith)
 
   module _ (laws : Laws (order_of ls)) (fit : StimulusFits) (bytes : List ℕ) where
-    fitting : StreamFits (world (named_of ls d)) (tagged_stream (read_for ls d bytes).stream)
+    fitting : StreamFits (world (named_of ls d)) (read_for ls d bytes).stream
     fitting = fit_stream ls d (read_for ls d bytes).stream (fit ls (design_fields ls d) bytes laws.bottom_is_level)
 
     pub inputs_fit : AllFit n.inputs (map (given ls) (read_for ls d bytes).stream)
-    inputs_fit =
-        subst (λ (xss : List (List ℕ)). AllFit n.inputs xss) (sym (stream_given ls (read_for ls d bytes).stream))
-        (stands.takes (tagged_stream (read_for ls d bytes).stream) fitting)
+    inputs_fit = stands.takes (read_for ls d bytes).stream fitting
 
     -- the lines of the netlist's run
     pub trace_is : Codes (order_of ls) → 0 < length ls.names → OneNumbering ls d
         → ((inputs : List Tagged) (s : Store) → Sublist (refused_sites (cycle (program_of ls d) inputs s).refused) (program_sites (program_of ls d)))
         → (vs : List Valuation) → IsRun n (map (given ls) (read_for ls d bytes).stream) vs
-        → lines_from ls d n 1 vs ≡ labelled_trace ls d (tagged_stream (read_for ls d bytes).stream)
+        → lines_from ls d n 1 vs ≡ labelled_trace ls d (read_for ls d bytes).stream
     trace_is codes some one in_order vs run =
-        let stream = tagged_stream (read_for ls d bytes).stream in
-        let coded : IsRun n (coded_stream (code_of (order_of ls)) (tagged_stream (read_for ls d bytes).stream)) vs =
-        subst (λ (xss : List (List ℕ)). IsRun n xss vs) (stream_given ls (read_for ls d bytes).stream) run in
-        lines_stand ls d codes some one n in_order 1 vs stream (first (program_of ls d).world) (stands.stands stream fitting vs coded)
+        let stream = (read_for ls d bytes).stream in
+        lines_stand ls d codes some one n in_order 1 vs stream (first (program_of ls d).world) (stands.stands stream fitting vs run)

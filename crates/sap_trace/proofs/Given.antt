@@ -1,32 +1,25 @@
 -- What a line gives the inputs of a module, field by field.
-use Rattle.std.proofs.Common.{◌≡◌, ℕ, zero, suc, ◌+◌, ◌<◌, ◌≤◌, List, [], ◌∷◌, ◌++◌, length, get_or, take, map, refl, sym, ap, ◌∙◌, arith}
+use Rattle.std.proofs.Common.{◌≡◌, ℕ, zero, suc, ◌+◌, ◌<◌, ◌≤◌, List, [], ◌∷◌, ◌++◌, length, get_or, take, sym, ap, ◌∙◌, arith}
 use Rattle.std.proofs.lemmas.List.{take_all}
 use Rattle.sap_lattice.specs.Levels.{Levels, order_of}
 use Rattle.sap_lattice.specs.Codes.{code_of}
-use Rattle.sap_interface.specs.Compiled.{coded_stream}
-use Rattle.sap_stim.specs.declared.input.Input.{Input}
-use Rattle.sap_run.specs.RunOf.{tagged_stream}
+use Rattle.sap_meaning.specs.Cycle.{Tagged}
 use Rattle.sap_trace.specs.Fields.{given}
 
-one_more : (ls : Levels) (xs : List Input) (k : ℕ) (x : Input) → k < length xs → x ≡ get_or xs k x
-    → given ls (take (suc k) xs) ≡ (given ls (take k xs) ++ x.value ∷ []) ++ code_of (order_of ls) x.level ∷ []
+one_more : (ls : Levels) (xs : List Tagged) (k : ℕ) (x : Tagged) → k < length xs → x ≡ get_or xs k x
+    → given ls (take (suc k) xs) ≡ (given ls (take k xs) ++ x.number ∷ []) ++ code_of (order_of ls) x.level ∷ []
 one_more ls [] k x l e = absurd (omega arith)
-one_more ls (y ∷ ys) zero x l e = ap (λ (z : Input). z.value ∷ code_of (order_of ls) z.level ∷ []) (sym e)
+one_more ls (y ∷ ys) zero x l e = ap (λ (z : Tagged). z.number ∷ code_of (order_of ls) z.level ∷ []) (sym e)
 one_more ls (y ∷ ys) (suc k) x l e =
-    ap (λ (ns : List ℕ). y.value ∷ code_of (order_of ls) y.level ∷ ns) (one_more ls ys k x (omega arith) e)
+    ap (λ (ns : List ℕ). y.number ∷ code_of (order_of ls) y.level ∷ ns) (one_more ls ys k x (omega arith) e)
 
-pub given_more : (ls : Levels) (xs : List Input) (k : ℕ) (x : Input) (n : ℕ) (old mid new : List ℕ) → k < length xs → x ≡ get_or xs k x → n ≡ code_of (order_of ls) x.level
-    → old ≡ given ls (take k xs) → mid ≡ old ++ x.value ∷ [] → new ≡ mid ++ n ∷ [] → new ≡ given ls (take (k + 1) xs)
+pub given_more : (ls : Levels) (xs : List Tagged) (k : ℕ) (x : Tagged) (n : ℕ) (old mid new : List ℕ) → k < length xs → x ≡ get_or xs k x → n ≡ code_of (order_of ls) x.level
+    → old ≡ given ls (take k xs) → mid ≡ old ++ x.number ∷ [] → new ≡ mid ++ n ∷ [] → new ≡ given ls (take (k + 1) xs)
 given_more ls xs k x n old mid new l e i h f g =
     let j : suc k ≡ k + 1 = omega arith in
     g ∙ ap (λ (m : ℕ). mid ++ m ∷ []) i
-    ∙ ap (λ (ns : List ℕ). ns ++ code_of (order_of ls) x.level ∷ []) (f ∙ ap (λ (ns : List ℕ). ns ++ x.value ∷ []) h) ∙ sym (one_more ls xs k x l e)
+    ∙ ap (λ (ns : List ℕ). ns ++ code_of (order_of ls) x.level ∷ []) (f ∙ ap (λ (ns : List ℕ). ns ++ x.number ∷ []) h) ∙ sym (one_more ls xs k x l e)
     ∙ ap (λ (m : ℕ). given ls (take m xs)) j
 
-pub given_all : (ls : Levels) (xs : List Input) (k : ℕ) (all : List ℕ) → length xs ≤ k → all ≡ given ls (take k xs) → all ≡ given ls xs
+pub given_all : (ls : Levels) (xs : List Tagged) (k : ℕ) (all : List ℕ) → length xs ≤ k → all ≡ given ls (take k xs) → all ≡ given ls xs
 given_all ls xs k all l e = e ∙ ap (given ls) (take_all k xs l)
-
--- a stream, as the labelled meaning takes it
-pub stream_given : (ls : Levels) (stream : List (List Input)) → map (given ls) stream ≡ coded_stream (code_of (order_of ls)) (tagged_stream stream)
-stream_given ls [] = refl
-stream_given ls (xs ∷ stream) = ap (λ (yss : List (List ℕ)). given ls xs ∷ yss) (stream_given ls stream)

@@ -1,15 +1,14 @@
 -- The fields of a stimulus for a design, by its entities: a tagged field for each input.
-use Rattle.std.specs.Prelude.{ℕ, List, [], ◌∷◌, ◌++◌, Option, Some, None, map}
+use Rattle.std.specs.Prelude.{ℕ, List, [], ◌∷◌, ◌++◌, Option, Some, None}
 use Rattle.sap_lattice.specs.Levels.{Levels, order_of}
 use Rattle.sap_lattice.specs.Codes.{code_of}
 use Rattle.sap_names.specs.declared.kind.Declared.{Declared}
 use Rattle.sap_names.specs.declared.kind.Declared.TheVariants as what
 use Rattle.sap_names.specs.declared.entity.Entity.{Entity}
+use Rattle.sap_meaning.specs.Cycle.{Tagged as Given}
 use Rattle.sap_interface.specs.Compiled.{coded}
 use Rattle.sap_stim.specs.declared.field.Field.{Field}
 use Rattle.sap_stim.specs.declared.field.Field.TheVariants.{Tagged}
-use Rattle.sap_stim.specs.declared.input.Input.{Input}
-use Rattle.sap_run.specs.RunOf.{tagged}
 
 abbrev pub field_of : Declared → List Field
 field_of (what.Input width) = Tagged width ∷ []
@@ -27,5 +26,5 @@ field_at None = []
 field_at (Some e) = field_of e.what
 
 -- what a module's ports are given on a line
-abbrev pub given : Levels → List Input → List ℕ
-given ls line = coded (code_of (order_of ls)) (map tagged line)
+abbrev pub given : Levels → List Given → List ℕ
+given ls = coded (code_of (order_of ls))

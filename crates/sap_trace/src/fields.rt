@@ -9,7 +9,8 @@ use sap_check::Checked;
 use sap_lattice::lattice::Lattice;
 use sap_names::kind::EntityKind;
 use sap_names::table::Names;
-use sap_stim::{Field, Fields, Input};
+use sap_stim::{Field, Fields};
+use sap_stream::Tagged;
 use std::alloc::{AllocError, Global};
 
 // Adds the field of an entity, where it is an input.
@@ -38,14 +39,14 @@ pub(crate) fn fields_of(alloc: Global, names: &Names) -> Result<Fields, AllocErr
 pub(crate) fn numbers(
     alloc: Global,
     lattice: &Lattice,
-    line: &[Input],
+    line: &[Tagged],
 ) -> Result<Vec<u64>, AllocError>
     ensures { IfOk result (λ numbers. numbers.items ≡ given lattice.now line.now) }
 {
     let mut numbers = Vec::new(alloc);
     for input in line {
-        numbers.push(input.value)?;
-        numbers.push(lattice.code(input.level))?;
+        numbers.push(input.number())?;
+        numbers.push(lattice.code(input.level()))?;
     }
     Ok(numbers)
 }

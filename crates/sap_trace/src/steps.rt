@@ -14,7 +14,7 @@ use crate::line::push_refused;
 use crate::wires::Wires;
 use sap_check::Checked;
 use sap_cycle::runner::Runner;
-use sap_stim::{Input, Inputs};
+use sap_stream::{Inputs, Tagged};
 use std::alloc::{AllocError, Global};
 
 /// Steps a runner on a line, and adds the lines of the sites that the cycle refuses.
@@ -24,7 +24,7 @@ fn step(
     runner: &mut Runner,
     wires: &Wires,
     cycle: u64,
-    line: &[Input],
+    line: &[Tagged],
     out: &mut Vec<u8>,
 ) -> Result<(), AllocError>
     requires wires { AreWires runner.old.net (length (sites_of (tree_in checked.now))) wires.now }
@@ -62,7 +62,7 @@ pub(crate) fn lines(
             runner,
             wires,
             k as u64 + 1,
-            line.as_slice(),
+            line.values(),
             &mut out,
         )?;
     }

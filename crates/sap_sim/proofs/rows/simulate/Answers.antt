@@ -1,10 +1,10 @@
 use Rattle.std.proofs.Common.{◌≡◌, List, ℕ, map, length, sym, ap, ◌∙◌, subst}
 use Rattle.std.specs.Prelude.{All}
+use Rattle.sap_meaning.specs.Cycle.{Tagged as Given}
 use Rattle.sap_net.specs.declared.parts.Input.{Input}
 use Rattle.sap_net.specs.Net.{Net}
 use Rattle.sap_net.specs.Runs.{AllFit, IsRun, observed}
 use Rattle.sap_stim.specs.declared.field.Field.{Field}
-use Rattle.sap_stim.specs.declared.input.Input.{Input as Given}
 use Rattle.sap_stim.specs.declared.stimulus.Parsed.{Parsed}
 use Rattle.sap_stim.specs.Line.{IsSized}
 use Rattle.sap_stim.specs.Fits.{StreamFits}

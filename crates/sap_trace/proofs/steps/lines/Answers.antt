@@ -11,10 +11,10 @@ use Rattle.sap_trace.specs.Fields.{given}
 use Rattle.sap_trace.specs.Seen.{AreWires, lines_from}
 use Rattle.sap_trace.proofs.Runs.{cycle_lines, lines_more}
 use Rattle.sap_trace.proofs.steps.lines.Goals as goal
-use Rattle.sap_trace.proofs.steps.lines.Goals.{After-as_slice}
+use Rattle.sap_trace.proofs.steps.lines.Goals.{After-values}
 
-item_is : (c : After-as_slice) → c.as_slice.result.now ≡ get_or c.args.stream.now c.loop-k.k c.as_slice.result.now
-item_is c = subst (λ xs. xs ≡ get_or c.args.stream.now c.loop-k.k xs) (sym c.as_slice.ensures) c.index-stream-k.is
+item_is : (c : After-values) → c.values.result.now ≡ get_or c.args.stream.now c.loop-k.k c.values.result.now
+item_is c = subst (λ xs. xs ≡ get_or c.args.stream.now c.loop-k.k xs) (sym c.values.ensures) c.index-stream-k.is
 
 pub step-requires-clause-wires : goal.step-requires-clause-wires
 step-requires-clause-wires c =
@@ -22,30 +22,30 @@ step-requires-clause-wires c =
 
 pub step-requires-clause-fits : goal.step-requires-clause-fits
 step-requires-clause-fits c =
-    subst (λ (m : Net). InputsFit m.inputs (given (levels_in c.args.checked.now) c.as_slice.result.now)) (sym c.loop-k.invariant.netlist)
-    (fits_at c.args.runner.now.net.inputs (given (levels_in c.args.checked.now)) c.args.stream.now c.requires.fits c.loop-k.k c.as_slice.result.now c.loop-k-test.true
-    (item_is (goal.at.step-requires-clause-fits c).After-as_slice))
+    subst (λ (m : Net). InputsFit m.inputs (given (levels_in c.args.checked.now) c.values.result.now)) (sym c.loop-k.invariant.netlist)
+    (fits_at c.args.runner.now.net.inputs (given (levels_in c.args.checked.now)) c.args.stream.now c.requires.fits c.loop-k.k c.values.result.now c.loop-k-test.true
+    (item_is (goal.at.step-requires-clause-fits c).After-values))
 
-abbrev Cycle : After-as_slice → List Valuation → Type 0
+abbrev Cycle : After-values → List Valuation → Type 0
 Cycle c vs = (v : Valuation) × IsCycleAt c.args.runner.now.net None (map (given (levels_in c.args.checked.now)) c.args.stream.now) vs c.loop-k.k v
 
-the_cycle : (c : After-as_slice) (vs : List Valuation) → IsRun c.args.runner.now.net (map (given (levels_in c.args.checked.now)) c.args.stream.now) vs → Cycle c vs
+the_cycle : (c : After-values) (vs : List Valuation) → IsRun c.args.runner.now.net (map (given (levels_in c.args.checked.now)) c.args.stream.now) vs → Cycle c vs
 the_cycle c vs run =
     let f = given (levels_in c.args.checked.now) in
     let l : c.loop-k.k < length (map (given (levels_in c.args.checked.now)) c.args.stream.now) = omega (arith, length-map c.args.stream.now f, c.loop-k-test.true) in
     cycle_at c.args.runner.now.net None (map f c.args.stream.now) vs run c.loop-k.k l
 
-the_step : (c : After-as_slice) (vs : List Valuation) (w : Cycle c vs)
-    → IsCycle c.loop-k.runner.net (before_at None vs c.loop-k.k) (given (levels_in c.args.checked.now) c.as_slice.result.now) w.0
+the_step : (c : After-values) (vs : List Valuation) (w : Cycle c vs)
+    → IsCycle c.loop-k.runner.net (before_at None vs c.loop-k.k) (given (levels_in c.args.checked.now) c.values.result.now) w.0
 the_step c vs w =
     let f = given (levels_in c.args.checked.now) in
-    subst (λ (m : Net). IsCycle m (before_at None vs c.loop-k.k) (given (levels_in c.args.checked.now) c.as_slice.result.now) w.0) (sym c.loop-k.invariant.netlist)
-    (subst (λ (xs : List ℕ). IsCycle c.args.runner.now.net (before_at None vs c.loop-k.k) xs w.0) (line_at f c.args.stream.now c.loop-k.k c.as_slice.result.now c.loop-k-test.true (item_is c))
+    subst (λ (m : Net). IsCycle m (before_at None vs c.loop-k.k) (given (levels_in c.args.checked.now) c.values.result.now) w.0) (sym c.loop-k.invariant.netlist)
+    (subst (λ (xs : List ℕ). IsCycle c.args.runner.now.net (before_at None vs c.loop-k.k) xs w.0) (line_at f c.args.stream.now c.loop-k.k c.values.result.now c.loop-k-test.true (item_is c))
     w.1.cycle)
 
 pub loop-k-preserved : goal.loop-k-preserved
 loop-k-preserved c =
-    let d = (goal.at.loop-k-preserved c).After-as_slice in
+    let d = (goal.at.loop-k-preserved c).After-values in
     let n = c.args.runner.now.net in
     let ls = levels_in c.args.checked.now in
     let t = tree_in c.args.checked.now in
@@ -54,12 +54,12 @@ loop-k-preserved c =
     record {
       netlist = c.step.ensures.netlist ∙ c.loop-k.invariant.netlist;
       shows = λ vs run.
-          let w : Cycle (goal.at.loop-k-preserved c).After-as_slice vs = the_cycle d vs run in
+          let w : Cycle (goal.at.loop-k-preserved c).After-values vs = the_cycle d vs run in
           let i : c.loop-k.k + 1 ≡ suc c.loop-k.k = omega arith in
           subst (λ (o : Option Valuation). Shows c.step.new.runner o) (sym (ap (before_at None vs) i ∙ w.1.after))
           (c.in_ok-step.ensures.shows (before_at None vs k) w.0 (c.loop-k.invariant.shows vs run) (the_step d vs w));
       text = λ vs run.
-          let w : Cycle (goal.at.loop-k-preserved c).After-as_slice vs = the_cycle d vs run in
+          let w : Cycle (goal.at.loop-k-preserved c).After-values vs = the_cycle d vs run in
           c.in_ok-step.ensures.lines (before_at None vs k) w.0 (c.loop-k.invariant.shows vs run) (the_step d vs w)
           ∙ ap (λ (m : Net). c.loop-k.out.items ++ cycle_lines ls t m (k + 1) w.0) c.loop-k.invariant.netlist
           ∙ ap (λ (text : List ℕ). text ++ cycle_lines ls t n (k + 1) w.0) (c.loop-k.invariant.text vs run)

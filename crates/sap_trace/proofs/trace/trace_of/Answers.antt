@@ -1,8 +1,8 @@
 use Rattle.std.proofs.Common.{◌≡◌, ℕ, List, map, sym, ap, ◌∙◌, subst}
+use Rattle.sap_meaning.specs.Cycle.{Tagged}
 use Rattle.sap_net.specs.Net.{Net}
 use Rattle.sap_net.specs.Runs.{AllFit, IsRun}
 use Rattle.sap_check.specs.Checked.{levels_in, tree_in}
-use Rattle.sap_stim.specs.declared.input.Input.{Input}
 use Rattle.sap_stim.specs.declared.stimulus.Parsed.{Parsed}
 use Rattle.sap_run.specs.RunOf.{read_for}
 use Rattle.sap_trace.specs.Fields.{given}
@@ -33,7 +33,7 @@ lines-requires-clause-fits c =
     let e : c.as_slice.result.now ≡ (read_for (levels_in c.args.checked.now) (tree_in c.args.checked.now) c.args.stimulus.now).stream =
     c.as_slice.ensures ∙ ap (λ (p : Parsed). p.stream) c.in_ok-parsed.ensures in
     subst (λ (n : Net). AllFit n.inputs (map (given ls) c.as_slice.result.now)) (sym c.in_ok-runner.ensures.netlist)
-    (subst (λ (stream : List (List Input)). AllFit c.args.netlist.inputs (map (given ls) stream)) (sym e) (fits (goal.at.lines-requires-clause-fits c).In_ok-runner))
+    (subst (λ (stream : List (List Tagged)). AllFit c.args.netlist.inputs (map (given ls) stream)) (sym e) (fits (goal.at.lines-requires-clause-fits c).In_ok-runner))
 
 pub returns : goal.returns
 returns c =
@@ -44,7 +44,7 @@ returns c =
     let w = c.one_run.ensures.some (map (given ls) (read_for ls d c.args.stimulus.now).stream) (fits (goal.at.returns c).In_ok-runner) in
     let there : IsRun c.in_ok-runner.runner.net (map (given (levels_in c.args.checked.now)) c.as_slice.result.now) w.0 =
     subst (λ (n : Net). IsRun n (map (given ls) c.as_slice.result.now) w.0) (sym c.in_ok-runner.ensures.netlist)
-    (subst (λ (stream : List (List Input)). IsRun c.args.netlist (map (given ls) stream) w.0) (sym e) w.1) in
+    (subst (λ (stream : List (List Tagged)). IsRun c.args.netlist (map (given ls) stream) w.0) (sym e) w.1) in
     record {
       trace = record {
         fault = ap (λ (p : Parsed). p.fault) c.in_ok-parsed.ensures;

@@ -1,0 +1,110 @@
+//! What the inputs of a design get in a cycle.
+
+ghost use Rattle.std.specs.Prelude.{◌≡◌};
+
+use sap_lattice::level::Level;
+use std::marker::Model;
+
+/// What an input gets: a number with its level.
+#[derive(Clone, Copy, PartialEq, Eq, Debug)]
+pub struct Tagged {
+    number: u64,
+    level: Level,
+}
+
+impl Model for Tagged {
+    ghost use Rattle.sap_meaning.specs.Cycle.{Tagged as Given};
+
+    ghost Value = { Given };
+
+    ghost view = { λ t. record { number = t.number; level = t.level } };
+
+    ghost inverse = { λ t. record { number = t.number; level = t.level } };
+}
+
+impl Tagged {
+    pub fn new(number: u64, level: Level) -> Tagged
+        ensures number { result.number ≡ number }
+        ensures level { result.level ≡ level }
+    {
+        Tagged { number, level }
+    }
+
+    pub fn number(self) -> u64
+        ensures { result ≡ self.number }
+    {
+        self.number
+    }
+
+    pub fn level(self) -> Level
+        ensures { result ≡ self.level }
+    {
+        self.level
+    }
+}
+
+/// What each input gets, in the order of their declaration.
+#[derive(Debug, Drop)]
+pub struct Inputs {
+    values: Vec<Tagged>,
+}
+
+impl Model for Inputs {
+    ghost use Rattle.std.specs.Prelude.{List};
+    ghost use Rattle.sap_meaning.specs.Cycle.{Tagged as Given};
+
+    ghost Value = { List Given };
+
+    ghost view = { λ i. i.values.items };
+}
+
+impl Inputs {
+    pub fn new(values: Vec<Tagged>) -> Inputs
+        ensures { result ≡ values.items }
+    {
+        Inputs { values }
+    }
+
+    /// Gives the values back.
+    pub fn into_values(self) -> Vec<Tagged>
+        ensures { result.items ≡ self }
+    {
+        let Inputs { values } = self;
+        values
+    }
+
+    pub fn values(&self) -> &[Tagged]
+        ensures { result.now ≡ self.now }
+    {
+        self.values.as_slice()
+    }
+}
+
+/// The inputs of each cycle, from the first on.
+#[derive(Debug, Drop)]
+pub struct Stream {
+    cycles: Vec<Inputs>,
+}
+
+impl Model for Stream {
+    ghost use Rattle.std.specs.Prelude.{List};
+    ghost use Rattle.sap_meaning.specs.Cycle.{Tagged as Given};
+
+    ghost Value = { List (List Given) };
+
+    ghost view = { λ s. s.cycles.items };
+}
+
+impl Stream {
+    pub fn new(cycles: Vec<Inputs>) -> Stream
+        ensures { result ≡ cycles.items }
+    {
+        Stream { cycles }
+    }
+
+    pub fn as_slice(&self) -> &[Inputs]
+        ensures { result.now ≡ self.now }
+    {
+        self.cycles.as_slice()
+    }
+}
