@@ -1,0 +1,40 @@
+-- A step that enters no child, where its test holds.
+use Rattle.std.proofs.Common.{◌≡◌, ℕ, true, List, refl}
+use Rattle.sap_meaning.specs.Program.{listed}
+use Rattle.sap_meaning.specs.Store.{Store, After, stay, raise}
+use Rattle.sap_meaning.specs.Checks.{guard, test}
+use Rattle.sap_meaning.specs.Does.{effect, attempt}
+use Rattle.sap_program.specs.Hangs.{flags}
+use Rattle.sap_program.specs.Views.{step_of}
+use Rattle.sap_program.specs.declared.program.Command.{Command}
+use Rattle.sap_program.specs.declared.program.Step.{Step}
+use Rattle.sap_program.specs.declared.program.Step.TheVariants as step
+use Rattle.sap_sem.specs.declared.setting.Setting.{Setting}
+use Rattle.sap_sem.specs.declared.setting.Spot.{Spot}
+use Rattle.sap_sem.specs.Code.{world_in, entities_in, spot_in}
+use Rattle.sap_sem.specs.Runs.{IsEffect, acted, set_done, write_done, retag_done, retag_cell_done, goto_done, attempt_run}
+
+pub is_effect : (k : Step) → ((site : ℕ) (hang : List ℕ) → k ≡ step.Fall site hang → ⊥) → IsEffect k
+is_effect (step.Set site x e) f = tt
+is_effect (step.Write site m i e) f = tt
+is_effect (step.Retag site x n) f = tt
+is_effect (step.RetagCell site m j n) f = tt
+is_effect (step.Goto site target) f = tt
+is_effect (step.Fall site hang) f = f site hang refl
+
+module _ (d : Setting) (at : Spot) where
+  effect_done : (enter : ℕ → ℕ → Store → After) (k : Step) (pc : ℕ) (b s : Store) → IsEffect k → effect (world_in d) (spot_in d at) enter (step_of (entities_in d) k) pc b s ≡ stay (acted d at k pc b s)
+  unfolding effect set_done write_done retag_done retag_cell_done goto_done
+  effect_done enter (step.Set site x e) pc b s h = refl
+  effect_done enter (step.Write site m i e) pc b s h = refl
+  effect_done enter (step.Retag site x n) pc b s h = refl
+  effect_done enter (step.RetagCell site m j n) pc b s h = refl
+  effect_done enter (step.Goto site target) pc b s h = refl
+  effect_done enter (step.Fall site hang) pc b s h = absurd h
+
+  pub passed : (hang : List ℕ) (k : Step) (handler : List Command) (pc : ℕ) (s : Store) (g : ℕ) → g ≡ guard (world_in d) (spot_in d at) (step_of (entities_in d) k) s
+      → test (world_in d) (spot_in d at) (step_of (entities_in d) k) pc s ≡ true → IsEffect k
+      → attempt_run d at hang k handler pc s ≡ stay (acted d at k pc s (raise (world_in d).order (listed (flags (entities_in d) hang)) g s))
+  unfolding attempt_run attempt
+  passed hang k handler pc s g e t h =
+      rw (t, ← e) (effect_done _ k pc s (raise (world_in d).order (listed (flags (entities_in d) hang)) g s) h)

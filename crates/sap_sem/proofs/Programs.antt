@@ -1,0 +1,122 @@
+-- A program that is fine, with widths that fit and are in range, has what a machine needs.
+use Rattle.std.proofs.Common.{◌≡◌, ℕ, suc, ◌<◌, ◌≤◌, ◌^◌, Bool, true, false, ◌||◌, refl, sym, ap, subst, arith, nat_eq, nat_lt, inl, inr}
+use Rattle.std.proofs.lemmas.Bool.{cases_Bool}
+use Rattle.std.proofs.lemmas.Grind.{common_steps}
+use Rattle.sap_maps.specs.Term.{Term}
+use Rattle.sap_meaning.specs.Program.{World, Program, Entity, nothing, entity, kind_is_register, kind_is_memory, root, is_register, is_memory, is_dynamic, last, LevelTerm, fixed, of, at_place, both, Step, Set, Write, Retag, RetagCell, Goto, Fall, Command, Do, Try, If, Block, End, Then, State, Node, Group, None, More}
+use Rattle.sap_meaning.specs.Touches.{among}
+use Rattle.sap_meaning.specs.Fine.{FineStep, FineCommand, FineBlock, FineState, FineGroup, FineProgram, inside, FineNode}
+use Rattle.sap_meaning.specs.Sized.{SizedTerm, SizedLevel, SizedStep, Sized, SizedBlock, SizedState, SizedGroup, SizedProgram}
+use Rattle.sap_meaning.proofs.Bools.{same_number, eq_self}
+use Rattle.sap_sized.specs.Ranges.{RangedTerm, RangedLevel, RangedStep, Ranged, RangedBlock, RangedState, RangedGroup, RangedProgram}
+use Rattle.sap_sem.specs.Able.{AbleTerm, AbleLevel, AbleTarget, AbleStep, AbleCommand, AbleBlock, AbleState, AbleGroup}
+use Rattle.sap_sem.proofs.Worlds.{beyond}
+
+or_second : (p q : Bool) → (p || q) ≡ true → p ≡ false → q ≡ true
+or_second true q h e = cc
+or_second false q h e = h
+
+inside_among : (g : Group) (x : ℕ) → among g x ≡ true → inside g x ≡ true
+inside_among None x h = h
+inside_among (More (Node s b k) g) x h = deeper (nat_eq x s) (among g x) (inside k x) (inside g x) h (inside_among g x)
+  where
+    deeper : (p a i j : Bool) → (p || a) ≡ true → (a ≡ true → j ≡ true) → (p || (i || j)) ≡ true
+    deeper true a i j h f = refl
+    deeper false a true j h f = refl
+    deeper false a false j h f = f h
+
+module _ (w : World) where
+  -- what is no entity is nothing
+  known : (x : ℕ) → ((entity w x ≡ nothing) → ⊥) → x < root w
+  known x h = elim (cases_Bool (nat_lt x (root w))) [
+    | inl l ↦ below x (root w) l
+    | inr l ↦ absurd (h (beyond w.entities x nothing (above x (root w) l)))
+  ]
+    where
+      below : (m n : ℕ) → nat_lt m n ≡ true → m < n
+      below m n l = grind (arith, common_steps)
+
+      above : (m n : ℕ) → nat_lt m n ≡ false → n ≤ m
+      above m n l = grind (arith, common_steps)
+
+  register_within : (x : ℕ) → is_register w x ≡ true → x < root w
+  register_within x h = known x (λ e. let r : kind_is_register (entity w x).kind ≡ false = ap (λ (d : Entity). kind_is_register d.kind) e in cc)
+
+  pub memory_within : (x : ℕ) → is_memory w x ≡ true → x < root w
+  memory_within x h = known x (λ e. let r : kind_is_memory (entity w x).kind ≡ false = ap (λ (d : Entity). kind_is_memory d.kind) e in cc)
+
+  enforced_within : (x : ℕ) → is_dynamic w x ≡ false → x < root w
+  enforced_within x h = known x (λ e. let r : is_dynamic w x ≡ true = ap (λ (d : Entity). d.dynamic) e in cc)
+
+  able_term : (e : Term ℕ) → SizedTerm w e → RangedTerm w e → AbleTerm w e
+  able_term e s r = record { sized = s; ranged = r }
+
+  able_level : (n : LevelTerm) → SizedLevel w n → RangedLevel w n → AbleLevel w n
+  able_level (fixed n) s r = tt
+  able_level (of e) s r = able_term e s r
+  able_level (at_place e) s r = able_term e s r
+  able_level (both a b) s r = (able_level a s.0 r.0, able_level b s.1 r.1)
+
+  module _ (few : root w < 2 ^ 32) where
+    itself : (q : Group) (n s : ℕ) (b : Block) (k : Group) → FineNode w q n s b k → n ≤ s → AbleTarget w s
+    itself q n s b k node low = record {
+      itself = node.itself;
+      within = node.declared;
+      few = (let a = node.placed in let i = node.itself in let l = node.declared in omega (arith, a, i, l, low, few));
+    }
+
+    later : (q : Group) (n s : ℕ) (b : Block) (k : Group) → FineNode w q n s b k → n ≤ s → (y : ℕ) → last w s < y → suc n ≤ y
+    later q n s b k node low y l = let i = node.itself in omega (arith, i, l, low)
+
+    -- states stand behind the ones before them in their group
+    able_target : (q g : Group) (n x : ℕ) → FineGroup w q n g → ((y : ℕ) → among g y ≡ true → n ≤ y) → among g x ≡ true → AbleTarget w x
+    able_target q None n x fine least h = cc
+    able_target q (More (Node s b k) g) n x fine least h = elim (cases_Bool (nat_eq x s)) [
+      | inl e ↦ subst (AbleTarget w) (sym (same_number x s e)) (itself q n s b k fine.0.0 (least s (rw (eq_self s) refl)))
+      | inr e ↦ able_target q g (suc n) x fine.1 (λ y i. later q n s b k fine.0.0 (least s (rw (eq_self s) refl)) y (fine.2 y (inside_among g y i))) (or_second (nat_eq x s) (among g x) h e)
+    ]
+
+    able_step : (q g : Group) → FineGroup w q 0 q → (k : Step) → FineStep w q g k → SizedStep w k → RangedStep w k → AbleStep w k
+    able_step q g fq (Set site x e) f s r = record { entity = register_within x f.0; value = able_term e s.0 r; same = s.1 }
+    able_step q g fq (Write site m i e) f s r = (
+      record { memory = memory_within m f.0; index = able_term i s.0 r.0; within = s.1 },
+      record { entity = memory_within m f.0; value = able_term e s.2 r.1; same = s.3 },
+    )
+    able_step q g fq (Retag site x n) f s r = (enforced_within x f.1, able_level n s r)
+    able_step q g fq (RetagCell site m j n) f s r = (
+      record { memory = memory_within m f.0; index = able_term j s.0 r.0; within = s.1 },
+      f.1,
+      able_level n s.2 r.1,
+    )
+    able_step q g fq (Goto site target) f s r = able_target q q 0 target fq (λ y i. omega arith) f
+    able_step q g fq (Fall site hang) f s r = tt
+
+    module _ (q g : Group) (fq : FineGroup w q 0 q) where
+      mutual
+        unfolding AbleCommand AbleBlock
+
+        able_command : (c : Command) → FineCommand w q g c → Sized w c → Ranged w c → AbleCommand w c
+        able_command (Do k) f s r = able_step q g fq k f s r
+        able_command (Try k hang h) f s r = (able_step q g fq k f.0 s.0 r.0, able_block h f.1 s.1 r.1)
+        able_command (If hang e a b) f s r = (able_term e s.0 r.0, able_block a f.1 s.2 r.1, able_block b f.2 s.3 r.2)
+
+        able_block : (b : Block) → FineBlock w q g b → SizedBlock w b → RangedBlock w b → AbleBlock w b
+        able_block End f s r = tt
+        able_block (Then c cs) f s r = (able_command c f.0 s.0 r.0, able_block cs f.1 s.1 r.1)
+
+    mutual
+      unfolding AbleState AbleGroup
+
+      able_state : (t : State) (q : Group) (n : ℕ) → FineGroup w q 0 q → FineState w q n t → SizedState w t → RangedState w t → AbleState w t
+      able_state (Node s b g) q n fq f t r = (
+        (let a = f.0.itself in let l = f.0.declared in omega (arith, a, l)),
+        able_block q g fq b f.0.steps t.0 r.0,
+        able_group g g 0 f.1 f.1 t.1 r.1,
+      )
+
+      able_group : (g q : Group) (n : ℕ) → FineGroup w q 0 q → FineGroup w q n g → SizedGroup w g → RangedGroup w g → AbleGroup w g
+      able_group None q n fq f t r = tt
+      able_group (More a g) q n fq f t r = (able_state a q n fq f.0 t.0 r.0, able_group g q (suc n) fq f.1 t.1 r.1)
+
+pub able_program : (p : Program) → FineProgram p → SizedProgram p → RangedProgram p → root p.world < 2 ^ 32 → AbleGroup p.world p.states
+able_program p f s r few = able_group p.world few p.states p.states 0 f.states f.states s.states r.states

@@ -1,0 +1,52 @@
+-- The program of a checked design serves a machine.
+use Rattle.std.proofs.Common.{◌≡◌, ℕ, ◌<◌, ◌^◌, true, length, sym, ap, subst, ◌∙◌, arith}
+use Rattle.std.specs.Prelude.{IsTrue}
+use Rattle.sap_tree.specs.Syntax.{DesignTree}
+use Rattle.sap_tree.specs.Whole.{is_tree, is_whole, is_within_limits}
+use Rattle.sap_lattice.specs.Order.{Laws}
+use Rattle.sap_lattice.specs.Levels.{Levels, order_of}
+use Rattle.sap_names.specs.Entities.{entities_of}
+use Rattle.sap_shape.specs.WellFormed.{WellFormed}
+use Rattle.sap_meaning.specs.Program.{Program, root}
+use Rattle.sap_meaning.proofs.Bools.{and_left}
+use Rattle.sap_premises.specs.Premises.{ProgramsAreFine}
+use Rattle.sap_resolve.specs.Fill.{program_of}
+use Rattle.sap_resolve.proofs.Lookup.{entities_length}
+use Rattle.sap_sized.specs.Sound.{SizesFit, WidthsInRange}
+use Rattle.sap_check.specs.Sites.{sites_of}
+use Rattle.sap_meaning.specs.Fine.{FineProgram, ExactProgram}
+use Rattle.sap_meaning.specs.Sites.{program_sites}
+use Rattle.sap_resolve.specs.Sites.{group_sites}
+use Rattle.sap_sites.specs.Numbering.{numbers_from}
+use Rattle.sap_program.specs.Design.{IsProgramOf}
+use Rattle.sap_program.specs.declared.program.Program as code
+use Rattle.sap_sem.specs.Able.{AbleGroup}
+use Rattle.sap_sem.specs.Sound.{IsSound, meant}
+use Rattle.sap_sem.proofs.Programs.{able_program}
+
+tree_of : (d : DesignTree) → IsTrue (is_whole d) → is_tree d ≡ true
+unfolding is_whole
+tree_of d h = and_left (is_tree d) (is_within_limits d) h
+
+pub serves : (ls : Levels) (d : DesignTree) → ProgramsAreFine → SizesFit → WidthsInRange → Laws (order_of ls) → WellFormed ls d → IsTrue (is_whole d) → length (entities_of d) < 2 ^ 32
+    → AbleGroup (program_of ls d).world (program_of ls d).states
+serves ls d fine sized ranged laws formed whole few =
+    able_program (program_of ls d) (fine ls d laws formed) (sized ls d laws formed.names) (ranged ls d (tree_of d whole) formed.names)
+    (let e : root (program_of ls d).world ≡ length (entities_of d) = entities_length ls d in omega (arith, e, few))
+
+-- a program that is the design's, over levels that are those
+module _ (ls ks : Levels) (d : DesignTree) (p : code.Program) (same : ks ≡ ls) (of : IsProgramOf ls d p) where
+  meant_is : meant ks p ≡ program_of ls d
+  meant_is = ap (λ (l : Levels). meant l p) same ∙ of.program
+
+  pub fine_as : FineProgram (program_of ls d) → FineProgram (meant ks p)
+  fine_as f = subst (λ (q : Program). FineProgram q) (sym meant_is) f
+
+  pub sound_as : AbleGroup (program_of ls d).world (program_of ls d).states → FineProgram (program_of ls d) → ExactProgram (program_of ls d)
+      → program_sites (program_of ls d) ≡ numbers_from 1 (length (sites_of d)) → group_sites (entities_of d) d.states ≡ length (sites_of d) → IsSound ks p
+  sound_as able fine exact sites count = record {
+    able = subst (λ (q : Program). AbleGroup q.world q.states) (sym meant_is) able;
+    fine = fine_as fine;
+    exact = subst (λ (q : Program). ExactProgram q) (sym meant_is) exact;
+    sites = ap program_sites meant_is ∙ sites ∙ ap (λ (n : ℕ). numbers_from 1 n) (sym (of.sites ∙ count));
+  }

@@ -1,0 +1,34 @@
+use Rattle.std.proofs.Common.{◌≡◌, ◌∙◌, ℕ, List, [], Option, None, get_or, ap, sym, subst}
+use Rattle.sap_check.specs.Checked.{levels_in, tree_in}
+use Rattle.sap_meaning.specs.Fine.{FineProgram}
+use Rattle.sap_meaning.specs.State.{Resting}
+use Rattle.sap_meaning.specs.Store.{Store}
+use Rattle.sap_sem.specs.Sound.{meant}
+use Rattle.sap_sem.proofs.Refused.{listed_again, none_marked}
+use Rattle.sap_sem.proofs.Served.{fine_as, sound_as}
+use Rattle.sap_sem.proofs.machine.Machine.new.Goals as goal
+
+pub invariant_of-result-clause-sound : goal.invariant_of-result-clause-sound
+invariant_of-result-clause-sound c =
+    let ls = levels_in c.args.checked.now in
+    let d = tree_in c.args.checked.now in
+    let same : c.in_ok-lattice.lattice ≡ ls = c.in_ok-lattice.ensures ∙ c.lattice-levels.ensures in
+    let e = c.program_serves.ensures in
+    sound_as ls c.in_ok-lattice.lattice d c.in_ok-program.program same c.in_ok-program.ensures e.able e.fine e.exact e.sites e.count
+
+pub invariant_of-result-clause-ready : goal.invariant_of-result-clause-ready
+invariant_of-result-clause-ready c =
+    let ls = levels_in c.args.checked.now in
+    let d = tree_in c.args.checked.now in
+    let same : c.in_ok-lattice.lattice ≡ ls = c.in_ok-lattice.ensures ∙ c.lattice-levels.ensures in
+    let p = meant c.in_ok-lattice.lattice c.in_ok-program.program in
+    let fine : FineProgram p = fine_as ls c.in_ok-lattice.lattice d c.in_ok-program.program same c.in_ok-program.ensures c.program_serves.ensures.fine in
+    record {
+      kept = c.in_ok-store.ensures.ready;
+      rests = subst (λ (t : Store). Resting p.world t) (sym c.in_ok-store.ensures.store) (c.states_keep.ensures.cycles p fine).0;
+    }
+
+pub returns-clause-refusals : goal.returns-clause-refusals
+returns-clause-refusals c =
+    listed_again [] 1 c.in_ok-program.program.sites (λ k. get_or c.in_ok-refusals.refusals.items k None) tt
+    (λ k l u. ap (λ (o : List (Option ℕ)). get_or o k None) c.in_ok-refusals.ensures ∙ none_marked _ k)

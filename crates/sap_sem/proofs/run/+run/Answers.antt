@@ -1,0 +1,77 @@
+use Rattle.std.proofs.Common.{◌≡◌, ◌+◌, ◌<◌, ◌∙◌, ℕ, List, ap, sym, subst, arith, length}
+use Rattle.std.specs.Prelude.{IsTrue}
+use Rattle.sap_meaning.specs.Store.{After}
+use Rattle.sap_program.specs.Hangs.{rises}
+use Rattle.sap_program.specs.declared.program.Command.{Command}
+use Rattle.sap_sem.specs.Code.{store_in}
+use Rattle.sap_sem.specs.Runs.{marked, CommandAble, BlockAble, StateAble, GroupAble}
+use Rattle.sap_sem.proofs.Passed.{passed, is_effect}
+use Rattle.sap_sem.proofs.Runs.{able-do, able-try, able-if, able-none, able-in, able-child, able-state}
+use Rattle.sap_sem.proofs.Weights.{commands_weight, command_weight, states_weight, state_weight, commands_weight-none, command_weight-do, command_weight-try, command_weight-if, command_weight-in, state_weight-in, state_weight-out}
+use Rattle.sap_sem.proofs.run.+run.Goals as goal
+
+pub attempt-returns-in_default : goal.attempt-returns-in_default
+attempt-returns-in_default t c =
+    let d = c.args.setting.now in
+    let s = store_in d c.args.store.now in
+    let e = is_effect c.args.step.now c.in_default.not-Fall in
+    let p = passed d c.args.at.now c.args.hang.now c.args.step.now c.args.handler.now c.args.context s c.guard-level.result c.guard-level.ensures (sym c.test.ensures ∙ c.if-test.true) e in
+    record {
+      store = c.act.ensures.store e ∙ sym (ap (λ (a : After). a.store) p);
+      marks = sym (ap (λ (a : After). marked a.refused c.args.marks.now) p);
+      ready = c.act.ensures.ready;
+    }
+
+pub commands-command-requires : goal.commands-command-requires
+commands-command-requires t c =
+    let d = c.args.setting.now in
+    let cs = c.args.list.now in
+    let i = c.loop-one.one-index in
+    let l : i < length cs = omega arith in
+    let w = command_weight-in cs i c.one-item.result l in
+    let e = ap command_weight c.one-item.is in
+    (omega (arith, w, e), (c.loop-one.invariant.ready, (c.requires.spot, subst (CommandAble d) (sym c.one-item.is) (able-in d cs i c.one-item.result l c.requires.able))))
+
+pub command-attempt-requires : goal.command-attempt-requires
+command-attempt-requires t c =
+    let d = c.args.setting.now in
+    let w : command_weight c.args.one.now ≡ 2 = ap command_weight c.in-Do.is ∙ command_weight-do c.in-Do.step in
+    (omega (arith, w, commands_weight-none), (c.requires.ready, (c.requires.spot, (c.raised_alone-hang.ensures.rising, (able-do d c.in-Do.step (subst (CommandAble d) c.in-Do.is c.requires.able), able-none d)))))
+
+pub command-attempt-requires-in-Try : goal.command-attempt-requires-in-Try
+command-attempt-requires-in-Try t c =
+    let d = c.args.setting.now in
+    let w : command_weight c.args.one.now ≡ commands_weight c.as_slice-handler.result.now + 2 =
+    ap command_weight c.in-Try.is ∙ command_weight-try c.in-Try.step c.in-Try.hang c.in-Try.handler ∙ ap (λ (l : List Command). commands_weight l + 2) (sym c.as_slice-handler.ensures.value) in
+    let a = able-try d c.in-Try.step c.in-Try.hang c.in-Try.handler (subst (CommandAble d) c.in-Try.is c.requires.able) in
+    (omega (arith, w), (c.requires.ready, (c.requires.spot, (subst (λ (h : List ℕ). IsTrue (rises h)) (sym c.numbers.ensures.same) c.numbers.ensures.rising, (a.0, subst (BlockAble d) (sym c.as_slice-handler.ensures.value) a.1)))))
+
+pub command-select-requires : goal.command-select-requires
+command-select-requires t c =
+    let d = c.args.setting.now in
+    let w : command_weight c.args.one.now ≡ commands_weight c.as_slice-yes.result.now + commands_weight c.as_slice-no.result.now + 2 =
+    ap command_weight c.in-If.is ∙ command_weight-if c.in-If.hang c.in-If.condition c.in-If.yes c.in-If.no
+    ∙ ap (λ (l : List Command). commands_weight l + commands_weight c.in-If.no.items + 2) (sym c.as_slice-yes.ensures.value)
+    ∙ ap (λ (l : List Command). commands_weight c.as_slice-yes.result.now + commands_weight l + 2) (sym c.as_slice-no.ensures.value) in
+    let a = able-if d c.in-If.hang c.in-If.condition c.in-If.yes c.in-If.no (subst (CommandAble d) c.in-If.is c.requires.able) in
+    (omega (arith, w), (c.requires.ready, (c.requires.spot, (subst (λ (h : List ℕ). IsTrue (rises h)) (sym c.numbers-numbers.ensures.same) c.numbers-numbers.ensures.rising, (a.0, (subst (BlockAble d) (sym c.as_slice-yes.ensures.value) a.1, subst (BlockAble d) (sym c.as_slice-no.ensures.value) a.2))))))
+
+pub enter-body-requires : goal.enter-body-requires
+enter-body-requires t c =
+    let d = c.args.setting.now in
+    let kids = c.args.children.now in
+    let k = c.index-children-place.result in
+    let l : c.args.place < length kids = omega arith in
+    let w = state_weight-in kids c.args.place k l in
+    let e = ap state_weight c.index-children-place.is in
+    (omega (arith, w, e), (c.requires.ready, (c.requires.parent, subst (StateAble d) (sym c.index-children-place.is) (able-child d kids c.args.place k l c.requires.able))))
+
+pub body-commands-requires : goal.body-commands-requires
+body-commands-requires t c =
+    let d = c.args.setting.now in
+    let k = c.args.state.now in
+    let w = state_weight-out k in
+    let b = ap commands_weight c.as_slice-list.ensures.value in
+    let g = ap states_weight c.as_slice-children.ensures.value in
+    let a = able-state d k c.requires.able in
+    (omega (arith, w, b, g), (c.requires.ready, (record { state = a.0; parent = c.requires.parent; children = subst (GroupAble d) (sym c.as_slice-children.ensures.value) a.2 }, subst (BlockAble d) (sym c.as_slice-list.ensures.value) a.1)))

@@ -1,0 +1,28 @@
+-- What the parts of the machine's code are seen as.
+use Rattle.std.specs.Prelude.{ℕ}
+use Rattle.sap_lattice.specs.Levels.{order_of}
+use Rattle.sap_meaning.specs.Program.{World}
+use Rattle.sap_meaning.specs.Program as program
+use Rattle.sap_meaning.specs.Store as meaning
+use Rattle.sap_meaning.specs.Checks as checks
+use Rattle.sap_program.specs.Views.{count, program_in, group_of}
+use Rattle.sap_sem.specs.declared.setting.Setting.{Setting}
+use Rattle.sap_sem.specs.declared.setting.Spot.{Spot}
+use Rattle.sap_sem.specs.declared.store.Store.{Store}
+use Rattle.sap_sem.specs.Kept.{store_of}
+
+abbrev pub program_of : Setting → program.Program
+program_of d = program_in (order_of d.lattice.now) d.program.now
+
+abbrev pub world_in : Setting → World
+world_in d = (program_of d).world
+
+-- how many entities there are
+abbrev pub entities_in : Setting → ℕ
+entities_in d = count d.program.now
+
+abbrev pub spot_in : Setting → Spot → checks.Spot
+spot_in d at = record { state = at.state; parent = at.parent; children = group_of (entities_in d) at.children.now }
+
+abbrev pub store_in : Setting → Store → meaning.Store
+store_in d s = store_of (world_in d) s

@@ -1,0 +1,219 @@
+-- What a machine keeps of its program is a proposition.
+use Rattle.std.proofs.Common.{ℕ, suc}
+use Rattle.std.proofs.Props.{props}
+use Rattle.sap_bits.specs.declared.Op2.{Op2}
+use Rattle.sap_bits.specs.declared.Op2.TheVariants.{Add, Sub, Mul, And, Or, Xor, Eq, Ne, Lt, Le, Shl, Shr}
+use Rattle.sap_maps.specs.Term.{Term, constant, read, cell, one, two, choose, join, part, CountFits, TermFits}
+use Rattle.sap_meaning.specs.Program.{World, width, LevelTerm, fixed, of, at_place, both, Step, Set, Write, Retag, RetagCell, Goto, Fall, Command, Do, Try, If, Block, End, Then, State, Node, Group, None, More}
+use Rattle.sap_meaning.specs.Checks.{Spot}
+use Rattle.sap_lattice.specs.Levels.{Levels}
+use Rattle.sap_meaning.specs.Fine.{FineTerm, FineLevel, FineStep, FineCommand, FineBlock, Open, OpenBlock, Closes, Final, OnceStep, Once, OnceBlock, OnceState, OnceGroup, FineState, FineGroup, ExactStep, Exact, ExactBlock, ExactState, ExactGroup}
+use Rattle.sap_meaning.specs.Sized.{Indexed}
+use Rattle.sap_sized.specs.Ranges.{RangedTerm}
+use Rattle.sap_program.specs.declared.program.Program as code
+use Rattle.sap_sem.specs.Able.{AbleTerm, AbleLevel, AbleStep, AbleCommand, AbleBlock, AbleState, AbleGroup}
+use Rattle.sap_sem.specs.Sound.{IsSound}
+
+count_prop : (op : Op2) (w u : ℕ) → IsProp (CountFits op w u)
+count_prop Add w u = hlevel props
+count_prop Sub w u = hlevel props
+count_prop Mul w u = hlevel props
+count_prop And w u = hlevel props
+count_prop Or w u = hlevel props
+count_prop Xor w u = hlevel props
+count_prop Eq w u = hlevel props
+count_prop Ne w u = hlevel props
+count_prop Lt w u = hlevel props
+count_prop Le w u = hlevel props
+count_prop Shl w u = hlevel props
+count_prop Shr w u = hlevel props
+
+fits_prop : (widths : ℕ → ℕ) (e : Term ℕ) → IsProp (TermFits widths e)
+fits_prop widths (constant u n) = hlevel props
+fits_prop widths (read x) = hlevel props
+fits_prop widths (cell m i) = fits_prop widths i
+fits_prop widths (one op a) = fits_prop widths a
+fits_prop widths (two op a b) = hlevel (props, fits_prop widths a, fits_prop widths b, count_prop)
+fits_prop widths (choose c a b) = hlevel (props, fits_prop widths c, fits_prop widths a, fits_prop widths b)
+fits_prop widths (join a b) = hlevel (props, fits_prop widths a, fits_prop widths b)
+fits_prop widths (part a hi lo) = hlevel (props, fits_prop widths a)
+
+mutual
+  open_prop : (c : Command) → IsProp (Open c)
+  open_prop (Do k) = hlevel props
+  open_prop (Try k hang h) = hlevel (props, open_block_prop h)
+  open_prop (If hang e a b) = hlevel (props, open_block_prop a, open_block_prop b)
+
+  open_block_prop : (b : Block) → IsProp (OpenBlock b)
+  open_block_prop End = hlevel props
+  open_block_prop (Then c cs) = hlevel (props, open_prop c, open_block_prop cs)
+
+mutual
+  closes_prop : (b : Block) → IsProp (Closes b)
+  closes_prop End = hlevel props
+  closes_prop (Then c End) = final_prop c
+  closes_prop (Then c (Then d ds)) = hlevel (props, open_prop c, closes_prop (Then d ds))
+
+  final_prop : (c : Command) → IsProp (Final c)
+  final_prop (Do k) = hlevel props
+  final_prop (Try k hang h) = hlevel (props, closes_prop h)
+  final_prop (If hang e a b) = hlevel (props, closes_prop a, closes_prop b)
+
+module _ (g : Group) (below : Type 0) (below_prop : IsProp below) where
+  once_step_prop : (k : Step) → IsProp (OnceStep below k)
+  once_step_prop (Set site x e) = hlevel props
+  once_step_prop (Write site m i e) = hlevel props
+  once_step_prop (Retag site x n) = hlevel props
+  once_step_prop (RetagCell site m j n) = hlevel props
+  once_step_prop (Goto site target) = hlevel props
+  once_step_prop (Fall site hang) = below_prop
+
+  mutual
+    once_prop : (c : Command) → IsProp (Once g below c)
+    once_prop (Do k) = once_step_prop k
+    once_prop (Try k hang h) = hlevel (props, once_step_prop k, once_block_prop h)
+    once_prop (If hang e a b) = hlevel (props, once_block_prop a, once_block_prop b)
+
+    once_block_prop : (b : Block) → IsProp (OnceBlock g below b)
+    once_block_prop End = hlevel props
+    once_block_prop (Then c cs) = hlevel (props, once_prop c, once_block_prop cs)
+
+mutual
+  once_state_prop : (t : State) → IsProp (OnceState t)
+  once_state_prop (Node s b g) = once_block_prop g (OnceGroup g) (once_group_prop g) b
+
+  once_group_prop : (g : Group) → IsProp (OnceGroup g)
+  once_group_prop None = hlevel props
+  once_group_prop (More t g) = hlevel (props, once_state_prop t, once_group_prop g)
+
+module _ (w : World) where
+  indexed_prop : (e : Term ℕ) → IsProp (Indexed w e)
+  indexed_prop (constant u n) = hlevel props
+  indexed_prop (read x) = hlevel props
+  indexed_prop (cell m i) = hlevel (props, indexed_prop i)
+  indexed_prop (one op a) = indexed_prop a
+  indexed_prop (two op a b) = hlevel (props, indexed_prop a, indexed_prop b)
+  indexed_prop (choose c a b) = hlevel (props, indexed_prop c, indexed_prop a, indexed_prop b)
+  indexed_prop (join a b) = hlevel (props, indexed_prop a, indexed_prop b)
+  indexed_prop (part a hi lo) = indexed_prop a
+
+  ranged_prop : (e : Term ℕ) → IsProp (RangedTerm w e)
+  ranged_prop (constant u n) = hlevel props
+  ranged_prop (read x) = hlevel props
+  ranged_prop (cell m i) = hlevel (props, ranged_prop i)
+  ranged_prop (one op a) = ranged_prop a
+  ranged_prop (two op a b) = hlevel (props, ranged_prop a, ranged_prop b)
+  ranged_prop (choose c a b) = hlevel (props, ranged_prop c, ranged_prop a, ranged_prop b)
+  ranged_prop (join a b) = hlevel (props, ranged_prop a, ranged_prop b)
+  ranged_prop (part a hi lo) = hlevel (props, ranged_prop a)
+
+  term_prop : (e : Term ℕ) → IsProp (AbleTerm w e)
+  term_prop e = let a = fits_prop (width w) e in let b = indexed_prop e in let c = ranged_prop e in hlevel (props, a, b, c)
+
+  level_prop : (n : LevelTerm) → IsProp (AbleLevel w n)
+  level_prop (fixed n) = hlevel props
+  level_prop (of e) = term_prop e
+  level_prop (at_place e) = term_prop e
+  level_prop (both a b) = hlevel (props, level_prop a, level_prop b)
+
+  step_prop : (k : Step) → IsProp (AbleStep w k)
+  step_prop (Set site x e) = hlevel (props, term_prop e)
+  step_prop (Write site m i e) = hlevel (props, term_prop i, term_prop e)
+  step_prop (Retag site x n) = hlevel (props, level_prop n)
+  step_prop (RetagCell site m j n) = hlevel (props, term_prop j, level_prop n)
+  step_prop (Goto site target) = hlevel props
+  step_prop (Fall site hang) = hlevel props
+
+  mutual
+    unfolding AbleCommand AbleBlock
+
+    command_prop : (c : Command) → IsProp (AbleCommand w c)
+    command_prop (Do k) = step_prop k
+    command_prop (Try k hang h) = hlevel (props, step_prop k, block_prop h)
+    command_prop (If hang e a b) = hlevel (props, term_prop e, block_prop a, block_prop b)
+
+    block_prop : (b : Block) → IsProp (AbleBlock w b)
+    block_prop End = hlevel props
+    block_prop (Then c cs) = hlevel (props, command_prop c, block_prop cs)
+
+  mutual
+    unfolding AbleState AbleGroup
+
+    state_prop : (t : State) → IsProp (AbleState w t)
+    state_prop (Node s b g) = hlevel (props, block_prop b, group_prop g)
+
+    group_prop : (g : Group) → IsProp (AbleGroup w g)
+    group_prop None = hlevel props
+    group_prop (More t g) = hlevel (props, state_prop t, group_prop g)
+
+  exact_step_prop : (at : Spot) (k : Step) → IsProp (ExactStep w at k)
+  exact_step_prop at (Set site x e) = hlevel props
+  exact_step_prop at (Write site m i e) = hlevel props
+  exact_step_prop at (Retag site x n) = hlevel props
+  exact_step_prop at (RetagCell site m j n) = hlevel props
+  exact_step_prop at (Goto site target) = hlevel props
+  exact_step_prop at (Fall site hang) = hlevel props
+
+  mutual
+    exact_prop : (at : Spot) (c : Command) → IsProp (Exact w at c)
+    exact_prop at (Do k) = exact_step_prop at k
+    exact_prop at (Try k hang h) = hlevel (props, exact_block_prop at h)
+    exact_prop at (If hang e a b) = hlevel (props, exact_block_prop at a, exact_block_prop at b)
+
+    exact_block_prop : (at : Spot) (b : Block) → IsProp (ExactBlock w at b)
+    exact_block_prop at End = hlevel props
+    exact_block_prop at (Then c cs) = hlevel (props, exact_prop at c, exact_block_prop at cs)
+
+  mutual
+    exact_state_prop : (p : ℕ) (t : State) → IsProp (ExactState w p t)
+    exact_state_prop p (Node s b g) = hlevel (props, exact_block_prop (record { state = s; parent = p; children = g }) b, exact_group_prop s g)
+
+    exact_group_prop : (p : ℕ) (g : Group) → IsProp (ExactGroup w p g)
+    exact_group_prop p None = hlevel props
+    exact_group_prop p (More t g) = hlevel (props, exact_state_prop p t, exact_group_prop p g)
+
+  fine_term_prop : (e : Term ℕ) → IsProp (FineTerm w e)
+  fine_term_prop (constant u n) = hlevel props
+  fine_term_prop (read x) = hlevel props
+  fine_term_prop (cell m i) = hlevel (props, fine_term_prop i)
+  fine_term_prop (one op a) = fine_term_prop a
+  fine_term_prop (two op a b) = hlevel (props, fine_term_prop a, fine_term_prop b)
+  fine_term_prop (choose c a b) = hlevel (props, fine_term_prop c, fine_term_prop a, fine_term_prop b)
+  fine_term_prop (join a b) = hlevel (props, fine_term_prop a, fine_term_prop b)
+  fine_term_prop (part a hi lo) = fine_term_prop a
+
+  fine_level_prop : (n : LevelTerm) → IsProp (FineLevel w n)
+  fine_level_prop (fixed n) = hlevel props
+  fine_level_prop (of e) = fine_term_prop e
+  fine_level_prop (at_place e) = fine_term_prop e
+  fine_level_prop (both a b) = hlevel (props, fine_level_prop a, fine_level_prop b)
+
+  module _ (q g : Group) where
+    fine_step_prop : (k : Step) → IsProp (FineStep w q g k)
+    fine_step_prop (Set site x e) = hlevel (props, fine_term_prop e)
+    fine_step_prop (Write site m i e) = hlevel (props, fine_term_prop i, fine_term_prop e)
+    fine_step_prop (Retag site x n) = hlevel (props, fine_level_prop n)
+    fine_step_prop (RetagCell site m j n) = hlevel (props, fine_term_prop j, fine_level_prop n)
+    fine_step_prop (Goto site target) = hlevel props
+    fine_step_prop (Fall site hang) = hlevel props
+
+    mutual
+      fine_command_prop : (c : Command) → IsProp (FineCommand w q g c)
+      fine_command_prop (Do k) = fine_step_prop k
+      fine_command_prop (Try k hang h) = hlevel (props, fine_step_prop k, fine_block_prop h)
+      fine_command_prop (If hang e a b) = hlevel (props, fine_term_prop e, fine_block_prop a, fine_block_prop b)
+
+      fine_block_prop : (b : Block) → IsProp (FineBlock w q g b)
+      fine_block_prop End = hlevel props
+      fine_block_prop (Then c cs) = hlevel (props, fine_command_prop c, fine_block_prop cs)
+
+  mutual
+    fine_state_prop : (q : Group) (n : ℕ) (t : State) → IsProp (FineState w q n t)
+    fine_state_prop q n (Node s b g) = hlevel (props, fine_block_prop q g b, closes_prop b, fine_group_prop g 0 g)
+
+    fine_group_prop : (q : Group) (n : ℕ) (g : Group) → IsProp (FineGroup w q n g)
+    fine_group_prop q n None = hlevel props
+    fine_group_prop q n (More t g) = hlevel (props, fine_state_prop q n t, fine_group_prop q (suc n) g)
+
+pub sound_prop : (ls : Levels) (p : code.Program) → IsProp (IsSound ls p)
+sound_prop ls p = hlevel (props, group_prop, fine_group_prop, once_group_prop, exact_group_prop)
