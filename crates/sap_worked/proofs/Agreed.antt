@@ -1,0 +1,253 @@
+-- Pairs of states that agree, by computation.
+use Rattle.std.proofs.Common.{inl, inr, refl}
+use Rattle.sap_meaning.specs.Store.{put_number, put_level, put_child}
+use Rattle.sap_meaning.specs.State.{first}
+use Rattle.sap_worked.specs.Rows.{low, left}
+use Rattle.sap_worked.specs.Ground.{register_x}
+use Rattle.sap_worked.specs.Agreeing.{RegistersAbove, EnforcedRegistersAbove, CellsAbove, MemoriesAbove, StateLevelsAbove, ChildrenAbove, BelowTheWalk, InactiveChildren, InactiveLevels, InputsAside, AgreeBelow}
+use Rattle.sap_worked.proofs.Grounded.{cells, later, agreed}
+use Rattle.sap_worked.proofs.Rested.{one_rests, other_rests}
+use Rattle.sap_worked.proofs.Unequal.{unequal, never}
+
+pub registers_above : RegistersAbove
+unfolding first put_number put_level put_child
+registers_above = agreed left _ _ (record {
+  right_above = refl;
+  x = inr (refl, refl);
+  y = inl (refl, refl, refl);
+  z = inr (refl, refl);
+  k = λ i. (inl (refl, refl, refl), inl (refl, refl, refl));
+  h = λ i. (inr (refl, refl), inr (refl, refl));
+  m = (inl ((λ i. refl), refl, refl), inl ((λ i. refl), refl, refl));
+  level_y = refl;
+  level_k = λ i. refl;
+  next_level_k = λ i. refl;
+  level_p = refl;
+  level_d = refl;
+  level_e = refl;
+  level_q = refl;
+  paths = inl (refl, (refl, refl, inl (refl, (refl, refl, inl (refl, (refl, refl, tt))))));
+})
+
+pub enforced_registers_above : EnforcedRegistersAbove
+unfolding first put_number put_level put_child
+enforced_registers_above = agreed left _ _ (record {
+  right_above = refl;
+  x = inl (refl, refl, refl);
+  y = inr (refl, refl);
+  z = inr (refl, refl);
+  k = λ i. (inl (refl, refl, refl), inl (refl, refl, refl));
+  h = λ i. (inr (refl, refl), inr (refl, refl));
+  m = (inl ((λ i. refl), refl, refl), inl ((λ i. refl), refl, refl));
+  level_y = refl;
+  level_k = λ i. refl;
+  next_level_k = λ i. refl;
+  level_p = refl;
+  level_d = refl;
+  level_e = refl;
+  level_q = refl;
+  paths = inl (refl, (refl, refl, inl (refl, (refl, refl, inl (refl, (refl, refl, tt))))));
+})
+
+pub cells_above : CellsAbove
+unfolding first put_number put_level put_child
+cells_above = agreed left _ _ (record {
+  right_above = refl;
+  x = inl (refl, refl, refl);
+  y = inl (refl, refl, refl);
+  z = inr (refl, refl);
+  k = cells _ (inr (refl, refl), inr (refl, refl)) (λ i. rw (later i) (inl (refl, refl, refl), inl (refl, refl, refl)));
+  h = cells _ (inr (refl, refl), inr (refl, refl)) (λ i. rw (later i) (inr (refl, refl), inr (refl, refl)));
+  m = (inl ((λ i. refl), refl, refl), inl ((λ i. refl), refl, refl));
+  level_y = refl;
+  level_k = λ i. refl;
+  next_level_k = λ i. refl;
+  level_p = refl;
+  level_d = refl;
+  level_e = refl;
+  level_q = refl;
+  paths = inl (refl, (refl, refl, inl (refl, (refl, refl, inl (refl, (refl, refl, tt))))));
+})
+
+pub memories_above : MemoriesAbove
+unfolding first put_number put_level put_child
+memories_above = agreed left _ _ (record {
+  right_above = refl;
+  x = inl (refl, refl, refl);
+  y = inl (refl, refl, refl);
+  z = inr (refl, refl);
+  k = λ i. (inl (refl, refl, refl), inl (refl, refl, refl));
+  h = λ i. (inr (refl, refl), inr (refl, refl));
+  m = (inr (refl, refl), inr (refl, refl));
+  level_y = refl;
+  level_k = λ i. refl;
+  next_level_k = λ i. refl;
+  level_p = refl;
+  level_d = refl;
+  level_e = refl;
+  level_q = refl;
+  paths = inl (refl, (refl, refl, inl (refl, (refl, refl, inl (refl, (refl, refl, tt))))));
+})
+
+pub state_levels_above : StateLevelsAbove
+unfolding first put_number put_level put_child
+state_levels_above = agreed left _ _ (record {
+  right_above = refl;
+  x = inl (refl, refl, refl);
+  y = inl (refl, refl, refl);
+  z = inr (refl, refl);
+  k = λ i. (inl (refl, refl, refl), inl (refl, refl, refl));
+  h = λ i. (inr (refl, refl), inr (refl, refl));
+  m = (inl ((λ i. refl), refl, refl), inl ((λ i. refl), refl, refl));
+  level_y = refl;
+  level_k = λ i. refl;
+  next_level_k = λ i. refl;
+  level_p = refl;
+  level_d = refl;
+  level_e = refl;
+  level_q = refl;
+  paths = inl (refl, (refl, refl, inl (refl, (refl, refl, inl (refl, (refl, refl, tt))))));
+})
+
+pub children_above : ChildrenAbove
+unfolding first put_number put_level put_child
+children_above = agreed left _ _ (record {
+  right_above = refl;
+  x = inl (refl, refl, refl);
+  y = inl (refl, refl, refl);
+  z = inr (refl, refl);
+  k = λ i. (inl (refl, refl, refl), inl (refl, refl, refl));
+  h = λ i. (inr (refl, refl), inr (refl, refl));
+  m = (inl ((λ i. refl), refl, refl), inl ((λ i. refl), refl, refl));
+  level_y = refl;
+  level_k = λ i. refl;
+  next_level_k = λ i. refl;
+  level_p = refl;
+  level_d = refl;
+  level_e = refl;
+  level_q = refl;
+  paths = inl (refl, (refl, refl, inr (refl, refl)));
+})
+
+pub below_the_walk : BelowTheWalk
+unfolding first put_number put_level put_child
+below_the_walk = agreed left _ _ (record {
+  right_above = refl;
+  x = inl (refl, refl, refl);
+  y = inl (refl, refl, refl);
+  z = inr (refl, refl);
+  k = λ i. (inl (refl, refl, refl), inl (refl, refl, refl));
+  h = λ i. (inr (refl, refl), inr (refl, refl));
+  m = (inl ((λ i. refl), refl, refl), inl ((λ i. refl), refl, refl));
+  level_y = refl;
+  level_k = λ i. refl;
+  next_level_k = λ i. refl;
+  level_p = refl;
+  level_d = refl;
+  level_e = refl;
+  level_q = refl;
+  paths = inl (refl, (refl, refl, inr (refl, refl)));
+})
+
+pub inactive_children : InactiveChildren
+unfolding first put_number put_level put_child
+inactive_children = agreed left _ _ (record {
+  right_above = refl;
+  x = inl (refl, refl, refl);
+  y = inl (refl, refl, refl);
+  z = inr (refl, refl);
+  k = λ i. (inl (refl, refl, refl), inl (refl, refl, refl));
+  h = λ i. (inr (refl, refl), inr (refl, refl));
+  m = (inl ((λ i. refl), refl, refl), inl ((λ i. refl), refl, refl));
+  level_y = refl;
+  level_k = λ i. refl;
+  next_level_k = λ i. refl;
+  level_p = refl;
+  level_d = refl;
+  level_e = refl;
+  level_q = refl;
+  paths = inl (refl, (refl, refl, inl (refl, (refl, refl, inl (refl, (refl, refl, tt))))));
+})
+
+pub inactive_levels : InactiveLevels
+unfolding first put_number put_level put_child
+inactive_levels = agreed left _ _ (record {
+  right_above = refl;
+  x = inl (refl, refl, refl);
+  y = inl (refl, refl, refl);
+  z = inr (refl, refl);
+  k = λ i. (inl (refl, refl, refl), inl (refl, refl, refl));
+  h = λ i. (inr (refl, refl), inr (refl, refl));
+  m = (inl ((λ i. refl), refl, refl), inl ((λ i. refl), refl, refl));
+  level_y = refl;
+  level_k = λ i. refl;
+  next_level_k = λ i. refl;
+  level_p = refl;
+  level_d = refl;
+  level_e = refl;
+  level_q = refl;
+  paths = inl (refl, (refl, refl, inl (refl, (refl, refl, inl (refl, (refl, refl, tt))))));
+})
+
+pub inputs_aside : InputsAside
+unfolding first put_number put_level put_child
+inputs_aside = agreed left _ _ (record {
+  right_above = refl;
+  x = inl (refl, refl, refl);
+  y = inl (refl, refl, refl);
+  z = inr (refl, refl);
+  k = λ i. (inl (refl, refl, refl), inl (refl, refl, refl));
+  h = λ i. (inr (refl, refl), inr (refl, refl));
+  m = (inl ((λ i. refl), refl, refl), inl ((λ i. refl), refl, refl));
+  level_y = refl;
+  level_k = λ i. refl;
+  next_level_k = λ i. refl;
+  level_p = refl;
+  level_d = refl;
+  level_e = refl;
+  level_q = refl;
+  paths = inl (refl, (refl, refl, inl (refl, (refl, refl, inl (refl, (refl, refl, tt))))));
+})
+
+pub agree_below : AgreeBelow
+unfolding first put_number put_level put_child
+agree_below = record {
+  one_rests = one_rests;
+  other_rests = other_rests;
+  at_low = agreed low _ _ (record {
+    right_above = refl;
+    x = inr (refl, refl);
+    y = inr (refl, refl);
+    z = inr (refl, refl);
+    k = λ i. (inr (refl, refl), inr (refl, refl));
+    h = cells _ (inr (refl, refl), inr (refl, refl)) (λ i. rw (later i) (inr (refl, refl), inr (refl, refl)));
+    m = (inr (refl, refl), inr (refl, refl));
+    level_y = refl;
+    level_k = λ i. refl;
+    next_level_k = λ i. refl;
+    level_p = refl;
+    level_d = refl;
+    level_e = refl;
+    level_q = refl;
+    paths = inl (refl, (refl, refl, inr (refl, refl)));
+  });
+  at_left = agreed left _ _ (record {
+    right_above = refl;
+    x = inr (refl, refl);
+    y = inl (refl, refl, refl);
+    z = inr (refl, refl);
+    k = λ i. (inl (refl, refl, refl), inl (refl, refl, refl));
+    h = cells _ (inr (refl, refl), inr (refl, refl)) (λ i. rw (later i) (inr (refl, refl), inr (refl, refl)));
+    m = (inr (refl, refl), inr (refl, refl));
+    level_y = refl;
+    level_k = λ i. refl;
+    next_level_k = λ i. refl;
+    level_p = refl;
+    level_d = refl;
+    level_e = refl;
+    level_q = refl;
+    paths = inl (refl, (refl, refl, inr (refl, refl)));
+  });
+  not_at_right = λ a. elim (a.registers register_x refl) [ inl e ↦ unequal 5 6 refl e.0 | inr e ↦ never e.0 ];
+  not_at_high = λ a. elim (a.registers register_x refl) [ inl e ↦ unequal 5 6 refl e.0 | inr e ↦ never e.0 ];
+}

@@ -1,0 +1,7 @@
+mod Computed
+mod Unequal
+mod Grounded
+mod Rested
+mod Agreed
+mod Parted
+mod Streamed

@@ -1,0 +1,84 @@
+-- States that differ in one thing alone, and don't agree at left.
+use Rattle.sap_meaning.specs.Store.{Store, start, next, start_whole, next_whole, put_level, put_number}
+use Rattle.sap_meaning.specs.Agree.{StatesAgree}
+use Rattle.sap_worked.specs.Rows.{low, left, right, high}
+use Rattle.sap_worked.specs.Ground.{register_x, register_y, memory_m, memory_k, state_p, state_c, state_f, state_d, state_q, the_root, ground, ground_world, calm, slot_has, register_has, cell_has, level_is, child_is}
+
+abbrev pub Apart : Store → Store → Type 0
+Apart s t = StatesAgree ground left s t → ⊥
+
+-- Registers: the number, at a level at or below left in both; ..
+abbrev pub RegisterNumber : Type 0
+RegisterNumber = Apart (register_has register_x 5 left calm) (register_has register_x 6 left calm)
+
+-- .. the level, at or below left in both; ..
+abbrev pub RegisterLevel : Type 0
+RegisterLevel = Apart (register_has register_x 5 low calm) (register_has register_x 5 left calm)
+
+-- .. the level, at or below left in one alone.
+abbrev pub RegisterSeenInOne : Type 0
+RegisterSeenInOne = Apart (register_has register_x 5 left calm) (register_has register_x 5 right calm)
+
+-- A cell of an enforced memory: the number in the part of the cycle's start, and in that of the next.
+abbrev pub CellNumber : Type 0
+CellNumber = Apart calm (slot_has (start memory_k 1) 5 left calm)
+
+abbrev pub NextCellNumber : Type 0
+NextCellNumber = Apart calm (slot_has (next memory_k 1) 5 left calm)
+
+-- A dynamic memory: the number of one cell, in each part; ..
+abbrev pub MemoryNumber : Type 0
+MemoryNumber = Apart calm (put_number (start memory_m 1) 5 calm)
+
+abbrev pub NextMemoryNumber : Type 0
+NextMemoryNumber = Apart calm (put_number (next memory_m 1) 5 calm)
+
+-- .. the one level, at or below left in both, in each part; ..
+abbrev pub MemoryLevel : Type 0
+MemoryLevel = Apart calm (put_level ground_world (start_whole memory_m) left calm)
+
+abbrev pub NextMemoryLevel : Type 0
+NextMemoryLevel = Apart calm (put_level ground_world (next_whole memory_m) left calm)
+
+-- .. the one level, at or below left in one alone.
+abbrev pub MemorySeenInOne : Type 0
+MemorySeenInOne = Apart calm (cell_has memory_m 0 0 right calm)
+
+-- Levels under an authority at or below left, though they are at or below left in neither: of a register, ..
+abbrev pub EnforcedRegisterLevel : Type 0
+EnforcedRegisterLevel = Apart (level_is register_y right calm) (level_is register_y high calm)
+
+-- .. of a cell, in each part, ..
+abbrev pub EnforcedCellLevel : Type 0
+EnforcedCellLevel = Apart (cell_has memory_k 0 0 right calm) (slot_has (start memory_k 0) 0 high (cell_has memory_k 0 0 right calm))
+
+abbrev pub NextEnforcedCellLevel : Type 0
+NextEnforcedCellLevel = Apart (cell_has memory_k 0 0 right calm) (slot_has (next memory_k 0) 0 high (cell_has memory_k 0 0 right calm))
+
+-- .. of Q, which isn't active, and of D, where it is P's current child.
+abbrev pub InactiveStateLevel : Type 0
+InactiveStateLevel = Apart (level_is state_q right calm) (level_is state_q high calm)
+
+abbrev pub ActiveStateLevel : Type 0
+ActiveStateLevel = Apart (child_is state_p 1 calm) (level_is state_d high (child_is state_p 1 calm))
+
+-- Active paths: the current child, P or Q, each at or below left; and one further down, F or G; ..
+abbrev pub OtherChild : Type 0
+OtherChild = Apart calm (child_is the_root 1 calm)
+
+abbrev pub OtherChildBelow : Type 0
+OtherChildBelow = Apart calm (child_is state_c 1 calm)
+
+-- .. its level, at or below left in both; and that of one further down; ..
+abbrev pub ChildLevel : Type 0
+ChildLevel = Apart calm (level_is state_c left calm)
+
+abbrev pub ChildLevelBelow : Type 0
+ChildLevelBelow = Apart calm (level_is state_f left calm)
+
+-- .. its level, at or below left in one alone; and a child at low against another one at right.
+abbrev pub ChildSeenInOne : Type 0
+ChildSeenInOne = Apart calm (level_is state_c right calm)
+
+abbrev pub OtherChildSeenInOne : Type 0
+OtherChildSeenInOne = Apart calm (child_is state_p 1 calm)

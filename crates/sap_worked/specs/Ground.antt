@@ -1,0 +1,115 @@
+-- A design whose states are compared, and how they are changed.
+use Rattle.std.specs.Prelude.{ℕ, [], ◌∷◌}
+use Rattle.sap_meaning.specs.Program.{World, Fall, Do, Block, End, Then, Node, None, More, Program}
+use Rattle.sap_meaning.specs.Store.{Store, Slot, own, start, next, put_number, put_level, put_child}
+use Rattle.sap_meaning.specs.State.{first}
+use Rattle.sap_meaning.specs.Examples.{four_levels, an_input, a_register, held_register, a_memory, held_memory, a_state, held_state}
+use Rattle.sap_worked.specs.Rows.{left, right, high, low, register_under, memory_under, state_under, goes}
+
+-- input a : 8; reg x : 8 dynamic; reg y : 8 enforced left; reg z : 8 enforced high under right;
+-- mem m : 8[2] dynamic; mem k : 8[2] enforced left; mem h : 8[2] enforced high under right;
+-- state P enforced low {
+--   fall;
+--   state C dynamic { fall; state F dynamic { goto G; } state G dynamic { goto F; } }
+--   state D enforced right { goto E; }
+--   state E enforced high { goto C; }
+-- }
+-- state Q enforced left { fall; state I dynamic { goto J; } state J enforced high under right { goto I; } }
+abbrev pub input_a : ℕ
+input_a = 0
+
+abbrev pub register_x : ℕ
+register_x = 1
+
+abbrev pub register_y : ℕ
+register_y = 2
+
+abbrev pub register_z : ℕ
+register_z = 3
+
+abbrev pub memory_m : ℕ
+memory_m = 4
+
+abbrev pub memory_k : ℕ
+memory_k = 5
+
+abbrev pub memory_h : ℕ
+memory_h = 6
+
+abbrev pub state_p : ℕ
+state_p = 7
+
+abbrev pub state_c : ℕ
+state_c = 8
+
+abbrev pub state_f : ℕ
+state_f = 9
+
+abbrev pub state_g : ℕ
+state_g = 10
+
+abbrev pub state_d : ℕ
+state_d = 11
+
+abbrev pub state_e : ℕ
+state_e = 12
+
+abbrev pub state_q : ℕ
+state_q = 13
+
+abbrev pub state_i : ℕ
+state_i = 14
+
+abbrev pub state_j : ℕ
+state_j = 15
+
+abbrev pub the_root : ℕ
+the_root = 16
+
+abbrev pub ground_world : World
+ground_world = record {
+  order = four_levels;
+  entities = an_input 8 ∷ a_register 8 ∷ held_register 8 left 0 ∷ register_under 8 high right 0
+      ∷ a_memory 8 2 ∷ held_memory 8 2 left ∷ memory_under 8 2 high right
+      ∷ held_state 0 12 low ∷ a_state 0 10 ∷ a_state 0 9 ∷ a_state 1 10 ∷ held_state 1 11 right ∷ held_state 2 12 high
+      ∷ held_state 1 15 left ∷ a_state 0 14 ∷ state_under 1 15 high right ∷ [];
+  children = 0 ∷ 0 ∷ 0 ∷ 0 ∷ 0 ∷ 0 ∷ 0 ∷ 3 ∷ 2 ∷ 0 ∷ 0 ∷ 0 ∷ 0 ∷ 2 ∷ 0 ∷ 0 ∷ 2 ∷ [];
+}
+
+-- a body that falls
+abbrev pub falls : (site : ℕ) → Block
+falls site = Then (Do (Fall site [])) End
+
+abbrev pub ground : Program
+ground = record {
+  world = ground_world;
+  states =
+      More (Node state_p (falls 1)
+      (More (Node state_c (falls 0) (More (Node state_f (goes 0 state_g) None) (More (Node state_g (goes 0 state_f) None) None)))
+      (More (Node state_d (goes 2 state_e) None)
+      (More (Node state_e (goes 3 state_c) None) None))))
+      (More (Node state_q (falls 4) (More (Node state_i (goes 5 state_j) None) (More (Node state_j (goes 6 state_i) None) None))) None);
+  hang = [];
+}
+
+-- The first state: P, C and F are active. It has x and m at low, y and k at left, z and h at high, all with the number 0.
+abbrev pub calm : Store
+calm = first ground_world
+
+-- a slot has that number and level
+abbrev pub slot_has : Slot → (number level : ℕ) → Store → Store
+slot_has a n t s = put_level ground_world a t (put_number a n s)
+
+abbrev pub register_has : (register number level : ℕ) → Store → Store
+register_has x n t s = slot_has (own x) n t s
+
+-- so both parts of a cell
+abbrev pub cell_has : (memory index number level : ℕ) → Store → Store
+cell_has m i n t s = slot_has (start m i) n t (slot_has (next m i) n t s)
+
+abbrev pub level_is : (entity level : ℕ) → Store → Store
+level_is x t s = put_level ground_world (own x) t s
+
+-- the current child of a state, or of the root, is the one at that place
+abbrev pub child_is : (parent place : ℕ) → Store → Store
+child_is p n s = put_child p n s

@@ -1,0 +1,9 @@
+pub mod Rows
+pub mod Retagging
+pub mod Writing
+pub mod Transfers
+pub mod Handlers
+pub mod Ground
+pub mod Agreeing
+pub mod Apart
+pub mod Streams

@@ -1,0 +1,70 @@
+-- Four levels, entities over them, and what is looked at after each cycle of a run.
+use Rattle.std.specs.Prelude.{ℕ, false, List, map}
+use Rattle.sap_maps.specs.Term.{constant}
+use Rattle.sap_meaning.specs.Program.{World, Program, Entity, register, memory, state, Set, Goto, Command, Do, Block, End, Then}
+use Rattle.sap_meaning.specs.Store.{Slot, own, Store, Refusal, After, number, level, child}
+use Rattle.sap_meaning.specs.Cycle.{Tagged}
+use Rattle.sap_meaning.specs.State.{labelled_run}
+
+-- The levels of `four_levels`: low is below all, high above all, and neither of left and right is below the other. So
+-- the join of left and right is high.
+abbrev pub low : ℕ
+low = 0
+
+abbrev pub left : ℕ
+left = 1
+
+abbrev pub right : ℕ
+right = 2
+
+abbrev pub high : ℕ
+high = 3
+
+-- enforced entities, with a level and the authority under which it may be changed
+abbrev pub register_under : (width level authority initial : ℕ) → Entity
+register_under u t a n = record { kind = register; width = u; dynamic = false; declared = t; authority = a; initial = n }
+
+abbrev pub memory_under : (width depth level authority : ℕ) → Entity
+memory_under u d t a = record { kind = memory d; width = u; dynamic = false; declared = t; authority = a; initial = 0 }
+
+abbrev pub state_under : (place last level authority : ℕ) → Entity
+state_under n m t a = record { kind = state n m; width = 0; dynamic = false; declared = t; authority = a; initial = 0 }
+
+-- x := n, where x has 8 bits
+abbrev pub put : (site x n : ℕ) → Command
+put site x n = Do (Set site x (constant 8 n))
+
+-- the list that is a goto alone
+abbrev pub goes : (site target : ℕ) → Block
+goes site target = Then (Do (Goto site target)) End
+
+-- What is looked at: the numbers of registers and cells with their levels, the levels of states, and the places of the
+-- current children of states and of the root.
+pub record Look : Type 0 where
+  pub values : List Slot
+  pub states : List ℕ
+  pub parents : List ℕ
+
+pub record Row : Type 0 where
+  pub values : List Tagged
+  pub levels : List ℕ
+  pub places : List ℕ
+  pub refused : List Refusal
+
+abbrev pub row : List Tagged → (levels places : List ℕ) → List Refusal → Row
+row v t n r = record { values = v; levels = t; places = n; refused = r }
+
+abbrev pub tagged : World → Store → Slot → Tagged
+tagged w s z = record { number = number z s; level = level w z s }
+
+abbrev pub seen_after : World → Look → After → Row
+seen_after w look a = record {
+  values = map (tagged w a.store) look.values;
+  levels = map (λ x. level w (own x) a.store) look.states;
+  places = map (λ p. child p a.store) look.parents;
+  refused = a.refused;
+}
+
+-- a row a cycle, from the first state on
+abbrev pub rows : Program → Look → List (List Tagged) → List Row
+rows p look stream = map (seen_after p.world look) (labelled_run p stream)

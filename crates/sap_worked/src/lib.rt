@@ -1,0 +1,8 @@
+//! Worked examples of the labelled meaning and of agreement at a level, by hand from the rules: that the definitions say
+//! what they are meant to say.
+//!
+//! Each stands as a clause on an empty function.
+#![tactic(auto)]
+
+pub mod pairs;
+pub mod runs;
