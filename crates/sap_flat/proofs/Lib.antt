@@ -15,3 +15,5 @@ pub mod Weights
 pub mod Makes
 pub mod Steps
 pub mod Result
+pub mod Small
+pub mod Once

@@ -1,5 +1,5 @@
 -- What flattening promises of the program that it makes.
-use Rattle.std.proofs.Common.{◌≡◌, ℕ, ◌<◌, ◌^◌, List, ◌++◌, sym, ap, ◌∙◌, subst, refl, arith}
+use Rattle.std.proofs.Common.{◌≡◌, ℕ, ◌<◌, ◌≤◌, ◌^◌, List, ◌++◌, sym, ap, ◌∙◌, subst, refl, arith}
 use Rattle.sap_maps.specs.Maps.{Name}
 use Rattle.sap_ir.specs.declared.guarded.Var.{Var}
 use Rattle.sap_ir.specs.declared.guarded.Store.{Store}
@@ -8,12 +8,17 @@ use Rattle.sap_ir.specs.Writes.{WritesOnce}
 use Rattle.sap_plain.specs.Nested.{Nested}
 use Rattle.sap_plain.specs.Writes.{PlainWritesOnce}
 use Rattle.sap_plain.specs.IsPlain.{IsPlain}
+use Rattle.sap_size.specs.Flat.{source_weight}
+use Rattle.sap_size.specs.Nested.{nested_weight}
 use Rattle.sap_flat.specs.Gates.{gate_wires}
 use Rattle.sap_flat.specs.Flat.{flat_states, flattened}
+use Rattle.sap_flat.specs.Once.{BodiesOnce}
 use Rattle.sap_flat.specs.Same.{Declares, RunsAlike}
 use Rattle.sap_flat.proofs.Listed.{gates_are}
 use Rattle.sap_flat.proofs.Declared.{gate_count}
 use Rattle.sap_flat.proofs.Whole.{runs_alike, writes_once}
+use Rattle.sap_flat.proofs.Once.{bodies_once}
+use Rattle.sap_flat.proofs.Small.{flattened_small}
 
 abbrev from_parts : (inputs wires registers : List Var) → List Store → List Name → List Command → Source
 from_parts is ws rs ms ps cs = record { inputs = is; wires = ws; registers = rs; memories = ms; ports = ps; commands = cs }
@@ -47,3 +52,9 @@ same_of p s t a b h = subst (RunsAlike p) (sym (a ∙ b)) (runs_alike p h)
 
 pub once_of : (p : Nested) (s t : Source) → s ≡ t → t ≡ flattened p → IsPlain p → PlainWritesOnce p → WritesOnce s
 once_of p s t a b h o = subst WritesOnce (sym (a ∙ b)) (writes_once p h o)
+
+pub bodies_of : (p : Nested) (s t : Source) → s ≡ t → t ≡ flattened p → IsPlain p → BodiesOnce p s
+bodies_of p s t a b h = subst (BodiesOnce p) (sym (a ∙ b)) (bodies_once p h)
+
+pub small_of : (p : Nested) (s t : Source) → s ≡ t → t ≡ flattened p → source_weight s ≤ nested_weight p
+small_of p s t a b = subst (λ (u : Source). source_weight u ≤ nested_weight p) (sym (a ∙ b)) (flattened_small p)

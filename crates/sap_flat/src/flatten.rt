@@ -1,13 +1,16 @@
 //! Whole programs.
 
-ghost use Rattle.std.specs.Prelude.{◌≡◌, ◌<◌, ◌^◌, IfOk, OnOk};
+ghost use Rattle.std.specs.Prelude.{◌≡◌, ◌<◌, ◌≤◌, ◌^◌, IfOk, OnOk};
 ghost use Rattle.sap_ir.specs.Calcs.{commands_of};
 ghost use Rattle.sap_ir.specs.Parts.{parts_source};
 ghost use Rattle.sap_ir.specs.Program.{source_of};
 ghost use Rattle.sap_ir.specs.Writes.{WritesOnce};
 ghost use Rattle.sap_plain.specs.Program.{nested_of};
 ghost use Rattle.sap_plain.specs.Writes.{PlainWritesOnce};
+ghost use Rattle.sap_size.specs.Flat.{source_weight};
+ghost use Rattle.sap_size.specs.Nested.{nested_weight};
 ghost use Rattle.sap_flat.specs.Flat.{flat_states, flattened};
+ghost use Rattle.sap_flat.specs.Once.{BodiesOnce};
 ghost use Rattle.sap_flat.specs.Same.{Declares, RunsAlike};
 
 use crate::copies;
@@ -64,11 +67,13 @@ fn parts(alloc: Global, program: &Plain) -> Result<GuardedParts, AllocError>
     })
 }
 
-/// The flat program of nested states.
+/// The flat program of nested states, in which each body stands once.
 pub fn flatten(alloc: Global, program: &Plain) -> Result<Guarded, AllocError>
     ensures declares { IfOk result (λ g. Declares (nested_of program.now) (source_of g)) }
     ensures same { IfOk result (λ g. RunsAlike (nested_of program.now) (source_of g)) }
     ensures once { IfOk result (λ g. PlainWritesOnce (nested_of program.now) → WritesOnce (source_of g)) }
+    ensures bodies { IfOk result (λ g. BodiesOnce (nested_of program.now) (source_of g)) }
+    ensures small { IfOk result (λ g. source_weight (source_of g) ≤ nested_weight (nested_of program.now)) }
 {
     program.rules();
     let parts = parts(alloc, program)?;

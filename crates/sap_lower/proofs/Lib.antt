@@ -27,3 +27,4 @@ pub mod Kept
 pub mod Final
 pub mod Made
 pub mod Sharing
+pub mod Small

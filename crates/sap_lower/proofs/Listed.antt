@@ -9,7 +9,7 @@ use Rattle.sap_ir.specs.IsGuarded.{variable_names}
 use Rattle.sap_lower.specs.Lowered.{listed}
 use Rattle.sap_lower.proofs.Names.{filter_among, filter_distinct}
 
-listed_names : (ps : List Name) (xs : List Var) → variable_names (listed ps xs) ≡ filter (λ n. is_among n ps) (variable_names xs)
+pub listed_names : (ps : List Name) (xs : List Var) → variable_names (listed ps xs) ≡ filter (λ n. is_among n ps) (variable_names xs)
 listed_names ps [] = refl
 listed_names ps (x ∷ xs) =
     elim (cases_Bool (is_among x.name ps)) [

@@ -12,10 +12,10 @@ use Rattle.sap_lower.specs.Lowering.{rights}
 use Rattle.sap_lower.specs.Rights.{RightMap, at_key, NamesRights}
 use Rattle.sap_lower.proofs.Index.{same_bytes, at_other}
 
-abbrev key_of : Wire → List ℕ
+abbrev pub key_of : Wire → List ℕ
 key_of w = key w.width w.right
 
-last_here : (ws : List Wire) (w : Wire) → find (rights ws) (key_of w) ≡ None → find (rights (ws ++ w ∷ [])) (key_of w) ≡ Some w.name
+pub last_here : (ws : List Wire) (w : Wire) → find (rights ws) (key_of w) ≡ None → find (rights (ws ++ w ∷ [])) (key_of w) ≡ Some w.name
 last_here [] w h = rw (same_name (key_of w)) refl
 last_here (x ∷ ws) w h =
     elim (cases_Bool (bytes_eq (key_of x) (key_of w))) [

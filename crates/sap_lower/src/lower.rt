@@ -1,9 +1,11 @@
 //! Whole programs.
 
-ghost use Rattle.std.specs.Prelude.{◌≡◌, map, codes, IfOk};
+ghost use Rattle.std.specs.Prelude.{◌≡◌, ◌≤◌, map, codes, IfOk};
 ghost use Rattle.sap_net.specs.Net.{net_of};
 ghost use Rattle.sap_ir.specs.Program.{source_of};
 ghost use Rattle.sap_ir.specs.Writes.{WritesOnce};
+ghost use Rattle.sap_size.specs.Flat.{source_weight};
+ghost use Rattle.sap_size.specs.Items.{items};
 ghost use Rattle.sap_lower.specs.Index.{Indexes};
 ghost use Rattle.sap_lower.specs.Lowered.{net_declared};
 ghost use Rattle.sap_lower.specs.Places.{names_of};
@@ -78,12 +80,13 @@ fn parts(
 
 /// The netlist of a program that writes no memory twice in a cycle. It declares the program's inputs, registers and memories, those of its
 /// wires that are ports, and helping wires. On every stream and in each cycle it has the program's number at each input, register, memory cell
-/// and port.
+/// and port. It has at most as many items as the program's weight.
 pub fn lower(alloc: Global, source: &Guarded) -> Result<Netlist, AllocError>
     requires { WritesOnce (source_of source.now) }
     ensures declares { IfOk result (λ n. Declares (source_of source.now) n) }
     ensures same { IfOk result (λ n. RunsAlike (source_of source.now) n) }
     ensures shared { IfOk result (λ n. SharesWires (source_of source.now) n) }
+    ensures small { IfOk result (λ n. items n ≤ source_weight (source_of source.now)) }
 {
     source.rules();
     let stores = source.memories();

@@ -4,7 +4,7 @@ use Rattle.sap_ir.specs.Program.{source_of}
 use Rattle.sap_ir.specs.IsGuarded.{IsGuarded}
 use Rattle.sap_plain.specs.Program.{nested_of}
 use Rattle.sap_flat.proofs.Declared.{flat_is_guarded}
-use Rattle.sap_flat.proofs.Result.{declares_of, same_of, once_of}
+use Rattle.sap_flat.proofs.Result.{declares_of, same_of, once_of, bodies_of, small_of}
 use Rattle.sap_flat.proofs.flatten.flatten.Goals as goal
 
 pub new-requires : goal.new-requires
@@ -22,3 +22,11 @@ returns-clause-same c =
 pub returns-clause-once : goal.returns-clause-once
 returns-clause-once c =
     once_of (nested_of c.args.program.now) (source_of c.new.result) (parts_source c.in_ok-parts.parts) c.new.ensures c.in_ok-parts.ensures.source c.rules.ensures
+
+pub returns-clause-bodies : goal.returns-clause-bodies
+returns-clause-bodies c =
+    bodies_of (nested_of c.args.program.now) (source_of c.new.result) (parts_source c.in_ok-parts.parts) c.new.ensures c.in_ok-parts.ensures.source c.rules.ensures
+
+pub returns-clause-small : goal.returns-clause-small
+returns-clause-small c =
+    small_of (nested_of c.args.program.now) (source_of c.new.result) (parts_source c.in_ok-parts.parts) c.new.ensures c.in_ok-parts.ensures.source

@@ -1,0 +1,19 @@
+-- How large flat programs are: as many items as their netlists can have where no wire is shared.
+use Rattle.std.specs.Prelude.{ℕ, ◌+◌, List, [], ◌∷◌, length}
+use Rattle.sap_ir.specs.Source.{Action, set, put, Command, Source}
+use Rattle.sap_size.specs.Terms.{operations}
+
+-- A choice of what is assigned; of whether, where and what is written.
+abbrev pub action_weight : Action → ℕ
+action_weight (set x a) = 1 + operations a
+action_weight (put m i a) = 3 + operations i + operations a
+
+abbrev pub command_weight : Command → ℕ
+command_weight c = operations c.when + action_weight c.act
+
+abbrev pub commands_weight : List Command → ℕ
+commands_weight [] = 0
+commands_weight (c ∷ cs) = command_weight c + commands_weight cs
+
+abbrev pub source_weight : Source → ℕ
+source_weight s = commands_weight s.commands + length s.ports + length s.registers + length s.memories

@@ -1,0 +1,6 @@
+pub mod Terms
+pub mod Flat
+pub mod Nested
+pub mod Programs
+pub mod Trees
+pub mod Items

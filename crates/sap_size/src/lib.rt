@@ -1,0 +1,2 @@
+//! How large designs, programs and netlists are, and how many items a netlist may have.
+#![tactic(auto)]
