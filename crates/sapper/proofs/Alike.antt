@@ -16,11 +16,11 @@ use Rattle.sap_interface.specs.StandsFor.{Named, world}
 use Rattle.sap_interface.specs.Designs.{named_of}
 use Rattle.sap_stim.specs.declared.field.Field.TheVariants as field
 use Rattle.sap_stim.specs.declared.stimulus.Parsed.{Parsed}
+use Rattle.sap_sim.specs.declared.rows.Rows.{Rows}
 use Rattle.sap_stim.specs.Stimulus.{stimulus_of}
 use Rattle.sap_run.specs.Fields.{design_fields}
 use Rattle.sap_run.specs.LabelledRows.{labelled_row, labelled_rows, register_shown, registers_shown, rows_of_run}
-use Rattle.sap_run.specs.RunOf.{read_for, tagged_stream}
-use Rattle.sapper.specs.Output.{AreDesignRows}
+use Rattle.sap_run.specs.RunOf.{IsRunOf, read_for}
 use Rattle.sapper.proofs.Programs.{program_in, world_in}
 use Rattle.sapper.proofs.Stimuli.{stimulus_in}
 
@@ -48,7 +48,7 @@ module _ (l m : Levels) (same : AreSame l m) where
       ap (λ (text : List ℕ). text ++ rows_of_run l d (n + 1) rest) (row_in d n a.store)
       ∙ ap (λ (text : List ℕ). labelled_row m d n a.store ++ text) (rows_of_run_in d (n + 1) rest)
 
-  named_in : (d : DesignTree) → named_of l d ≡ named_of m d
+  pub named_in : (d : DesignTree) → named_of l d ≡ named_of m d
   named_in d =
       ap (λ (p : Program). record { program = p; names = map (λ e. e.name.name) (entities_of d); code = code_of (order_of l) }) (program_in l m same d)
       ∙ ap (λ (o : Order). record { program = program_of m d; names = map (λ e. e.name.name) (entities_of d); code = code_of o }) same.order
@@ -59,9 +59,11 @@ module _ (l m : Levels) (same : AreSame l m) where
       ∙ ap (λ (p : Program). rows_of_run l (named_of m d) 1 (labelled_run p stream)) (program_in l m same d)
       ∙ rows_of_run_in (named_of m d) 1 (labelled_run (program_of m d) stream)
 
-  pub rows_in : (d : DesignTree) (bytes text other : List ℕ) → AreDesignRows l d bytes text → AreDesignRows m d bytes other → text ≡ other
-  rows_in d bytes text other a b =
-      a.1.text
-      ∙ ap (λ (p : Parsed). labelled_rows l d (tagged_stream p.stream)) (read_in d bytes)
-      ∙ labelled_in d (tagged_stream (read_for m d bytes).stream)
-      ∙ sym b.1.text
+  pub run_in : (d : DesignTree) (bytes : List ℕ) (rows : Rows) → IsRunOf l d bytes rows → IsRunOf m d bytes rows
+  run_in d bytes rows is = record {
+    fault = is.fault ∙ ap (λ (p : Parsed). p.fault) (read_in d bytes);
+    text =
+        is.text
+        ∙ ap (λ (p : Parsed). labelled_rows l d p.stream) (read_in d bytes)
+        ∙ labelled_in d (read_for m d bytes).stream;
+  }

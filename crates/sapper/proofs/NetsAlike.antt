@@ -1,4 +1,4 @@
--- A module has one text of rows on a stimulus, whichever of two lattices that are the same is taken.
+-- A module has one text of rows on a stimulus, and two lattices that are the same give it the same.
 use Rattle.std.proofs.Common.{◌≡◌, ℕ, ◌+◌, true, false, List, [], ◌∷◌, ◌++◌, map, None, refl, sym, ◌∙◌, ap, subst, inl, inr}
 use Rattle.std.specs.Prelude.{◌==◌, bytes_eq, find as find_level, if◌then◌else◌, length, option_map}
 use Rattle.std.specs.List.{AllByRecursion}
@@ -22,7 +22,7 @@ use Rattle.sap_net.specs.Runs.{IsRun, observed, value_after}
 use Rattle.sap_net.specs.Values.{operand_value}
 use Rattle.sap_net.proofs.Same.{run_same}
 use Rattle.sap_net.proofs.Unique.{operand_agree}
-use Rattle.sap_stim.specs.declared.input.Input.{Input as Given}
+use Rattle.sap_meaning.specs.Cycle.{Tagged as Given}
 use Rattle.sap_stim.specs.declared.stimulus.Parsed.{Parsed}
 use Rattle.sap_stim.specs.Rows.{Shown, shown, shown_of, row_text}
 use Rattle.sap_stim.specs.Stimulus.{stimulus_of}
@@ -30,15 +30,16 @@ use Rattle.sap_sim.specs.Fields.{field_of, fields_of, is_tag, with_field}
 use Rattle.sap_sim.specs.Numbers.{given, numbers_of, value_for}
 use Rattle.sap_sim.specs.Ports.{value_name, tag_name}
 use Rattle.sap_sim.specs.Shown.{register_ports, row_of, rows_from, shown_among, shown_registers}
-use Rattle.sap_sim.specs.Simulated.{read_for}
+use Rattle.sap_sim.specs.Simulated.{IsSimulated, read_for}
+use Rattle.sap_sim.specs.declared.rows.Rows.{Rows}
 use Rattle.sap_sim.proofs.Registers.{IsShown, all_shown, register_port_is}
-use Rattle.sapper.specs.Output.{AreModuleRows}
+use Rattle.sapper.specs.Commands.{AreModuleRows}
 use Rattle.sapper.proofs.Stimuli.{stimulus_in}
 
 -- what an input gets, over an order
 abbrev number_by : Order → List Input → List Given → Input → ℕ
 number_by o is xs i =
-    if is_tag (width_of o) is i then code_of o (given (width_of o) is xs (value_for i.name)).level else (given (width_of o) is xs i.name).value
+    if is_tag (width_of o) is i then code_of o (given (width_of o) is xs (value_for i.name)).level else (given (width_of o) is xs i.name).number
 
 -- what is shown of a register, over names of levels and an order
 abbrev shown_by : List (List ℕ) → Order → (name : List ℕ) → (value tag : ℕ) → Shown
@@ -155,14 +156,22 @@ module _ (ls : Levels) (n : Net) (rules : IsNetlist n) (xs : List Name) (shows :
       ap (λ (text : List ℕ). text ++ rows_from ls xs (k + 1) (map (observed n) vs)) (row_same k v w same.0)
       ∙ ap (λ (text : List ℕ). row_of ls xs k (observed n w) ++ text) (run_rows_same (k + 1) vs ws same.1)
 
-pub net_rows_in : (l m : Levels) → AreSame l m → (n : Net) → IsNetlist n → (bytes text other : List ℕ) → AreModuleRows l n bytes text → AreModuleRows m n bytes other
-    → text ≡ other
-net_rows_in l m same n rules bytes text other a b =
-    let inputs = numbers_in l m same n (read_for l n bytes).stream ∙ ap (λ (p : Parsed). map (numbers_of m n) p.stream) (read_net_in l m same n bytes) in
-    let one = run_same n rules (map (numbers_of m n) (read_for m n bytes).stream) None None a.1.run b.1.run tt
-    (subst (λ (xss : List (List ℕ)). IsRun n xss a.1.run) inputs a.1.is_run) b.1.is_run in
+pub one_rows : (ls : Levels) (n : Net) → IsNetlist n → (bytes text other : List ℕ) → AreModuleRows ls n bytes text → AreModuleRows ls n bytes other → text ≡ other
+one_rows ls n rules bytes text other a b =
+    let one = run_same n rules (map (numbers_of ls n) (read_for ls n bytes).stream) None None a.1.run b.1.run tt a.1.is_run b.1.is_run in
     a.1.text
-    ∙ from_in l m same (shown_registers l n) 1 (map (observed n) a.1.run)
-    ∙ ap (λ (xs : List Name). rows_from m xs 1 (map (observed n) a.1.run)) (shown_in l m same n)
-    ∙ run_rows_same m n rules (shown_registers m n) (all_shown (width_of (order_of m)) n (register_ports n.ports)) 1 a.1.run b.1.run one
+    ∙ run_rows_same ls n rules (shown_registers ls n) (all_shown (width_of (order_of ls)) n (register_ports n.ports)) 1 a.1.run b.1.run one
     ∙ sym b.1.text
+
+pub simulated_in : (l m : Levels) → AreSame l m → (n : Net) (bytes : List ℕ) (rows : Rows) → IsSimulated l n bytes rows → IsSimulated m n bytes rows
+simulated_in l m same n bytes rows is =
+    let inputs = numbers_in l m same n (read_for l n bytes).stream ∙ ap (λ (p : Parsed). map (numbers_of m n) p.stream) (read_net_in l m same n bytes) in
+    record {
+      fault = is.fault ∙ ap (λ (p : Parsed). p.fault) (read_net_in l m same n bytes);
+      run = is.run;
+      is_run = subst (λ (xss : List (List ℕ)). IsRun n xss is.run) inputs is.is_run;
+      text =
+          is.text
+          ∙ from_in l m same (shown_registers l n) 1 (map (observed n) is.run)
+          ∙ ap (λ (xs : List Name). rows_from m xs 1 (map (observed n) is.run)) (shown_in l m same n);
+    }

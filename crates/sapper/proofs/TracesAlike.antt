@@ -9,9 +9,10 @@ use Rattle.sap_meaning.specs.Store.{After, Refusal}
 use Rattle.sap_meaning.specs.State.{labelled_run}
 use Rattle.sap_resolve.specs.Fill.{program_of}
 use Rattle.sap_stim.specs.declared.stimulus.Parsed.{Parsed}
-use Rattle.sap_run.specs.RunOf.{read_for, tagged_stream}
+use Rattle.sap_run.specs.RunOf.{read_for}
+use Rattle.sap_trace.specs.declared.trace.Trace.{Trace}
+use Rattle.sap_trace.specs.TraceOf.{IsTraceOf}
 use Rattle.sap_trace.specs.Lines.{labelled_trace, refusal_line, refusal_lines, trace_of_run}
-use Rattle.sapper.specs.Output.{AreTraceLines}
 use Rattle.sapper.proofs.Alike.{read_in}
 use Rattle.sapper.proofs.Programs.{program_in}
 
@@ -36,9 +37,11 @@ module _ (l m : Levels) (same : AreSame l m) where
       ap (λ (p : Program). trace_of_run l d 1 (labelled_run p stream)) (program_in l m same d)
       ∙ cycles_in d 1 (labelled_run (program_of m d) stream)
 
-  pub lines_in : (d : DesignTree) (bytes text other : List ℕ) → AreTraceLines l d bytes text → AreTraceLines m d bytes other → text ≡ other
-  lines_in d bytes text other a b =
-      a.1.text
-      ∙ ap (λ (p : Parsed). labelled_trace l d (tagged_stream p.stream)) (read_in l m same d bytes)
-      ∙ trace_in d (tagged_stream (read_for m d bytes).stream)
-      ∙ sym b.1.text
+  pub lines_in : (d : DesignTree) (bytes : List ℕ) (lines : Trace) → IsTraceOf l d bytes lines → IsTraceOf m d bytes lines
+  lines_in d bytes lines is = record {
+    fault = is.fault ∙ ap (λ (p : Parsed). p.fault) (read_in l m same d bytes);
+    text =
+        is.text
+        ∙ ap (λ (p : Parsed). labelled_trace l d p.stream) (read_in l m same d bytes)
+        ∙ trace_in d (read_for m d bytes).stream;
+  }

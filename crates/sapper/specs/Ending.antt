@@ -21,26 +21,41 @@ use Rattle.sap_vread.specs.declared.fault.ModFault.TheVariants as verilog
 use Rattle.sap_stim.specs.Code.{number as stimulus_number}
 use Rattle.sap_stim.specs.declared.fault.StimFault.{StimFault}
 
+-- what is refused of the words and files, and why
+pub data Refusal : Type 0 where
+  no_command : Refusal
+  lattice_refused : LatFileFault → Refusal
+  design_refused : DesignFault → Refusal
+  -- the first stimulus of the words, or the second
+  stimulus_refused : (place : ℕ) → StimFault → Refusal
+  module_refused : ModFault → Refusal
+
 pub data Ending : Type 0 where
   done : Ending
-  no_command : Ending
-  lattice_refused : LatFileFault → Ending
-  design_refused : DesignFault → Ending
-  stimulus_refused : StimFault → Ending
-  module_refused : ModFault → Ending
+  refused : Refusal → Ending
   -- a call on a file or on the output failed: the file's name, or `output`
   failed : List ℕ → Ending
   no_memory : Ending
 
+abbrev pub status_of_refusal : Refusal → ℕ
+status_of_refusal (design_refused fault) = 1
+status_of_refusal no_command = 2
+status_of_refusal (lattice_refused fault) = 3
+status_of_refusal (stimulus_refused place fault) = 4
+status_of_refusal (module_refused fault) = 5
+
 abbrev pub status_of : Ending → ℕ
 status_of done = 0
-status_of (design_refused fault) = 1
-status_of no_command = 2
-status_of (lattice_refused fault) = 3
-status_of (stimulus_refused fault) = 4
-status_of (module_refused fault) = 5
+status_of (refused why) = status_of_refusal why
 status_of (failed name) = 6
 status_of no_memory = 7
+
+-- the ending has no cause in words and files
+abbrev pub IsFree : Ending → Type 0
+IsFree done = ⊥
+IsFree (refused why) = ⊥
+IsFree (failed name) = Unit {0}
+IsFree no_memory = Unit {0}
 
 abbrev pub blank : List ℕ
 blank = codes " "
@@ -101,13 +116,17 @@ abbrev pub module_text : ModFault → List ℕ
 module_text (verilog.Rule code place) = codes "V" ++ decimal (module_number code) ++ codes " " ++ (decimal place.line ++ codes ":" ++ decimal place.column)
 module_text verilog.Memory = codes "memory"
 
+-- what a refusal is told by
+abbrev pub refusal_text : Refusal → List ℕ
+refusal_text no_command = codes "words"
+refusal_text (lattice_refused fault) = codes "lattice: " ++ lattice_text fault
+refusal_text (design_refused fault) = codes "design: " ++ design_text fault
+refusal_text (stimulus_refused place fault) = codes "stimulus " ++ decimal place ++ codes ": " ++ stimulus_text fault
+refusal_text (module_refused fault) = codes "module: " ++ module_text fault
+
 -- nothing where the call is done
 abbrev pub line_of : Ending → List ℕ
 line_of done = []
-line_of no_command = line (codes "words")
-line_of (lattice_refused fault) = line (codes "lattice: " ++ lattice_text fault)
-line_of (design_refused fault) = line (codes "design: " ++ design_text fault)
-line_of (stimulus_refused fault) = line (codes "stimulus 1: " ++ stimulus_text fault)
-line_of (module_refused fault) = line (codes "module: " ++ module_text fault)
+line_of (refused why) = line (refusal_text why)
 line_of (failed name) = line (codes "desk: " ++ name)
 line_of no_memory = line (codes "memory")

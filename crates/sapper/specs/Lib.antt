@@ -1,9 +1,10 @@
 pub mod Words
 pub mod DesignFaults
 pub mod Ending
-pub mod Causes
-pub mod Output
-pub mod Ends
+pub mod Kinds
+pub mod Asks
+pub mod Commands
+pub mod Answers
 pub mod Exact
 pub mod Outside
 pub mod Steps

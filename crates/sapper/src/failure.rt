@@ -1,18 +1,12 @@
 //! Why a command ends without its result.
 
-use crate::fault::DesignFault;
-use sap_latfile::LatFileFault;
-use sap_stim::fault::StimFault;
-use sap_vread::fault::ModFault;
+use crate::refusal::Refusal;
 use std::alloc::AllocError;
 
 /// Why a command ends without its result.
 #[derive(Debug, Drop)]
 pub enum Failure<'a> {
-    Lattice(LatFileFault),
-    Design(DesignFault),
-    Stimulus(StimFault),
-    Module(ModFault),
+    Refused(Refusal),
     /// A call failed on the file of this name, or on the output.
     Desk(&'a str),
     Memory,

@@ -9,6 +9,7 @@ pub mod fault;
 mod inputs;
 mod laws;
 mod output;
+mod refusal;
 mod reporting;
 mod running;
 mod showing;

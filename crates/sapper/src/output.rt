@@ -1,38 +1,46 @@
-//! What goes to channel 1.
+//! What a command writes: its text on channel 1, or a file.
 
-ghost use Rattle.std.specs.Prelude.{◌≡◌, ◌≢◌};
-ghost use Rattle.sap_desk.specs.Whole.{Between};
-ghost use Rattle.sapper.specs.Outside.{FullOutput};
-ghost use Rattle.sapper.specs.Steps.{Counted, Put, ending_of, last_of};
+ghost use Rattle.std.specs.Prelude.{◌≡◌};
+ghost use Rattle.sapper.specs.Asks.{gives, writes};
+ghost use Rattle.sapper.specs.Commands.{end_of};
+ghost use Rattle.sapper.specs.Steps.{Ends, ending_of, seen};
 
 use crate::failure::Failure;
-use sap_desk::{Desk, write_output};
+use crate::refusal::Refusal;
+use sap_desk::{Bytes, Desk, DeskError, write_file, write_output};
 use sap_stim::fault::StimFault;
 
 // How a command ends whose stimulus has this fault, if any.
-fn last<'a>(fault: Option<StimFault>) -> Result<(), Failure<'a>>
-    ensures { ending_of result ≡ last_of fault }
+fn end<'a>(fault: Option<StimFault>) -> Result<(), Failure<'a>>
+    ensures { ending_of result ≡ end_of fault }
 {
     match fault {
         None => Ok(()),
-        Some(fault) => Err(Failure::Stimulus(fault)),
+        Some(fault) => Err(Failure::Refused(Refusal::Stimulus(1, fault))),
     }
 }
 
 /// Writes a text on channel 1, and then ends as a command does whose stimulus has this fault, if any.
 pub fn put<'a, D: Desk>(
     desk: &mut D,
-    text: &[u8],
+    text: &Bytes,
     fault: Option<StimFault>,
 ) -> Result<(), Failure<'a>>
-    ensures put { Between (D.told desk.old) (D.told desk.new) (Put text.now (last_of fault) (ending_of result)) }
-    ensures counted { Counted (D.faults desk.old) (D.faults desk.new) (ending_of result) }
-    ensures lost { D.lost desk.new ≡ D.lost desk.old }
-    ensures sure { D.sure desk.old → D.sure desk.new }
-    ensures full { (D.faults desk.new ≢ D.faults desk.old) → D.sure desk.old → Between (D.told desk.old) (D.told desk.new) FullOutput }
+    ensures { Ends (gives (λ given. given ≡ text.now) (end_of fault)) (ending_of result) (seen D.told D.faults D.lost D.sure desk.old) (seen D.told D.faults D.lost D.sure desk.new) }
 {
-    match write_output(desk, text) {
-        Ok(()) => last(fault),
+    match write_output(desk, text.as_slice()) {
+        Ok(()) => end(fault),
         Err(_) => Err(Failure::Desk("output")),
+    }
+}
+
+/// Writes a text to a file.
+pub fn write<'a, D: Desk>(desk: &mut D, name: &'a str, text: &Bytes) -> Result<(), Failure<'a>>
+    ensures { Ends (writes name.now (λ written. written ≡ text.now)) (ending_of result) (seen D.told D.faults D.lost D.sure desk.old) (seen D.told D.faults D.lost D.sure desk.new) }
+{
+    match write_file(desk, name, text.as_slice()) {
+        Ok(()) => Ok(()),
+        Err(DeskError::Failed) => Err(Failure::Desk(name)),
+        Err(DeskError::Memory) => Err(Failure::Memory),
     }
 }

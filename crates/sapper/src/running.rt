@@ -1,62 +1,35 @@
 //! The command `run`.
 
-ghost use Rattle.std.specs.Prelude.{◌≡◌, ◌≢◌, IfOk, IfErr, OnOk, IfSome};
+ghost use Rattle.std.specs.Prelude.{IfOk};
 ghost use Rattle.sap_compile.specs.Parts.{design_of, levels_of, netlist_of};
-ghost use Rattle.sap_desk.specs.Whole.{Between};
 ghost use Rattle.sap_interface.specs.Designs.{StandsForDesign};
 ghost use Rattle.sap_run.specs.RunOf.{IsRunOf};
 ghost use Rattle.sapper.specs.Words.{run};
-ghost use Rattle.sapper.specs.Outside.{OutsideOf};
-ghost use Rattle.sapper.specs.Steps.{Counted, Ends, HasOutput, ending, ending_of, last_of};
+ghost use Rattle.sapper.specs.Commands.{asks};
+ghost use Rattle.sapper.specs.Steps.{Ends, ending_of, seen};
 
 use crate::failure::Failure;
-use crate::inputs::{bytes_of, compiled_in, lattice_bytes_in};
+use crate::inputs::{compiled_from, lattice_from, read};
 use crate::output::put;
 use sap_compile::Compiled;
-use sap_desk::Desk;
+use sap_desk::{Bytes, Desk};
 use sap_run::run as run_design;
 use sap_sim::Rows;
-use std::alloc::Global;
+use std::alloc::{AllocError, Global};
 
 // The rows of a compiled design's run on the bytes of a stimulus file.
-fn rows_of<'a>(alloc: Global, compiled: Compiled, stimulus: &[u8]) -> Result<Rows, Failure<'a>>
+fn rows_of(alloc: Global, compiled: Compiled, stimulus: &Bytes) -> Result<Rows, AllocError>
     requires { StandsForDesign (levels_of compiled) (design_of compiled) (netlist_of compiled) }
-    ensures rows { IfOk result (λ r. IsRunOf (levels_of compiled) (design_of compiled) stimulus.now r) }
-    ensures memory { IfErr result (λ e. e ≡ Failure.Memory) }
+    ensures { IfOk result (λ r. IsRunOf (levels_of compiled) (design_of compiled) stimulus.now r) }
 {
     let (checked, netlist) = compiled.into_parts();
-    match run_design(
+    run_design(
         alloc,
         checked.lattice(),
         checked.design(),
         netlist,
-        stimulus,
-    ) {
-        Ok(rows) => Ok(rows),
-        Err(_) => Err(Failure::Memory),
-    }
-}
-
-// The rows that the files ask for.
-fn rows_in<'a, D: Desk>(
-    alloc: Global,
-    desk: &mut D,
-    lattice: &'a str,
-    design: &'a str,
-    stimulus: &'a str,
-) -> Result<Rows, Failure<'a>>
-    ensures has { IfOk result (λ r. IfSome (D.told desk.old) (λ t. HasOutput (run lattice.now design.now stimulus.now) t r.text (last_of r.fault))) }
-    ensures told { OnOk result (D.told desk.new ≡ D.told desk.old) }
-    ensures stops { IfErr result (λ e. Between (D.told desk.old) (D.told desk.new) (Ends (run lattice.now design.now stimulus.now) (ending e))) }
-    ensures counted { Counted (D.faults desk.old) (D.faults desk.new) (ending_of result) }
-    ensures lost { D.lost desk.new ≡ D.lost desk.old }
-    ensures sure { D.sure desk.old → D.sure desk.new }
-    ensures outside { (D.faults desk.new ≢ D.faults desk.old) → D.sure desk.old → Between (D.told desk.old) (D.told desk.new) (OutsideOf (run lattice.now design.now stimulus.now)) }
-{
-    let levels = lattice_bytes_in(alloc, desk, lattice)?;
-    let compiled = compiled_in(alloc, desk, levels.as_slice(), design)?;
-    let bytes = bytes_of(alloc, desk, stimulus)?;
-    rows_of(alloc, compiled, bytes.as_slice())
+        stimulus.as_slice(),
+    )
 }
 
 /// Writes the rows of a design file's run on a stimulus file, over a lattice file.
@@ -67,12 +40,13 @@ pub fn run<'a, D: Desk>(
     design: &'a str,
     stimulus: &'a str,
 ) -> Result<(), Failure<'a>>
-    ensures ends { Between (D.told desk.old) (D.told desk.new) (Ends (run lattice.now design.now stimulus.now) (ending_of result)) }
-    ensures counted { Counted (D.faults desk.old) (D.faults desk.new) (ending_of result) }
-    ensures lost { D.lost desk.new ≡ D.lost desk.old }
-    ensures sure { D.sure desk.old → D.sure desk.new }
-    ensures outside { (D.faults desk.new ≢ D.faults desk.old) → D.sure desk.old → Between (D.told desk.old) (D.told desk.new) (OutsideOf (run lattice.now design.now stimulus.now)) }
+    ensures { Ends (asks (run lattice.now design.now stimulus.now)) (ending_of result) (seen D.told D.faults D.lost D.sure desk.old) (seen D.told D.faults D.lost D.sure desk.new) }
 {
-    let rows = rows_in(alloc, desk, lattice, design, stimulus)?;
-    put(desk, rows.text.as_slice(), rows.fault)
+    let bytes = read(alloc, desk, lattice)?;
+    let _levels = lattice_from(alloc, &bytes)?;
+    let source = read(alloc, desk, design)?;
+    let compiled = compiled_from(alloc, &bytes, &source)?;
+    let lines = read(alloc, desk, stimulus)?;
+    let rows = rows_of(alloc, compiled, &lines)?;
+    put(desk, &rows.text, rows.fault)
 }

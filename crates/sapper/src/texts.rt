@@ -3,8 +3,10 @@
 ghost use Rattle.std.specs.Prelude.{◌≡◌, ◌++◌, IfOk, OnOk};
 ghost use Rattle.std.specs.Fmt.{decimal};
 ghost use Rattle.sapper.specs.Ending as texts;
+ghost use Rattle.sapper.specs.Steps.{reason};
 
 use crate::fault::DesignFault;
+use crate::refusal::Refusal;
 use sap_latfile::LatFileFault;
 use sap_lattice::LatFault;
 use sap_names::fault::CheckFault;
@@ -59,18 +61,15 @@ fn rule(out: &mut Vec<u8>, alloc: Global, fault: &LatFault) -> Result<(), AllocE
     }
 }
 
-/// What a refused lattice file is told by.
-pub fn lattice_text(alloc: Global, fault: &LatFileFault) -> Result<Vec<u8>, AllocError>
-    ensures { IfOk result (λ text. text.items ≡ texts.lattice_text fault.now) }
+fn lattice(out: &mut Vec<u8>, alloc: Global, fault: &LatFileFault) -> Result<(), AllocError>
+    ensures { OnOk result (out.new.items ≡ out.old.items ++ texts.lattice_text fault.now) }
 {
-    let mut out = Vec::new(alloc);
     match fault {
-        LatFileFault::NotToml => out.extend_from_slice(b"L1")?,
-        LatFileFault::Shape => out.extend_from_slice(b"L2")?,
-        LatFileFault::Rule(fault) => rule(&mut out, alloc, fault)?,
-        LatFileFault::Memory => out.extend_from_slice(b"memory")?,
+        LatFileFault::NotToml => out.extend_from_slice(b"L1"),
+        LatFileFault::Shape => out.extend_from_slice(b"L2"),
+        LatFileFault::Rule(fault) => rule(out, alloc, fault),
+        LatFileFault::Memory => out.extend_from_slice(b"memory"),
     }
-    Ok(out)
 }
 
 fn place(out: &mut Vec<u8>, alloc: Global, place: Place) -> Result<(), AllocError>
@@ -135,45 +134,64 @@ fn check(out: &mut Vec<u8>, alloc: Global, fault: &CheckFault) -> Result<(), All
     }
 }
 
-/// What a refused design is told by.
-pub fn design_text(alloc: Global, fault: &DesignFault) -> Result<Vec<u8>, AllocError>
-    ensures { IfOk result (λ text. text.items ≡ texts.design_text fault.now) }
+fn design(out: &mut Vec<u8>, alloc: Global, fault: &DesignFault) -> Result<(), AllocError>
+    ensures { OnOk result (out.new.items ≡ out.old.items ++ texts.design_text fault.now) }
 {
-    let mut out = Vec::new(alloc);
     match fault {
-        DesignFault::Read(fault) => read(&mut out, alloc, fault)?,
-        DesignFault::Check(fault) => check(&mut out, alloc, fault)?,
+        DesignFault::Read(fault) => read(out, alloc, fault),
+        DesignFault::Check(fault) => check(out, alloc, fault),
     }
-    Ok(out)
 }
 
-/// What a refused stimulus is told by.
-pub fn stimulus_text(alloc: Global, fault: &StimFault) -> Result<Vec<u8>, AllocError>
-    ensures { IfOk result (λ text. text.items ≡ texts.stimulus_text fault.now) }
+fn stimulus(out: &mut Vec<u8>, alloc: Global, fault: &StimFault) -> Result<(), AllocError>
+    ensures { OnOk result (out.new.items ≡ out.old.items ++ texts.stimulus_text fault.now) }
 {
-    let mut out = Vec::new(alloc);
     out.extend_from_slice(b"S")?;
-    number(&mut out, alloc, u64::from(fault.code.number()))?;
+    number(out, alloc, u64::from(fault.code.number()))?;
     out.extend_from_slice(b" line ")?;
-    number(&mut out, alloc, fault.line)?;
-    Ok(out)
+    number(out, alloc, fault.line)
 }
 
-/// What a refused module is told by.
-pub fn module_text(alloc: Global, fault: &ModFault) -> Result<Vec<u8>, AllocError>
-    ensures { IfOk result (λ text. text.items ≡ texts.module_text fault.now) }
+fn module(out: &mut Vec<u8>, alloc: Global, fault: &ModFault) -> Result<(), AllocError>
+    ensures { OnOk result (out.new.items ≡ out.old.items ++ texts.module_text fault.now) }
 {
-    let mut out = Vec::new(alloc);
     match fault {
         ModFault::Rule(code, at) => {
             out.extend_from_slice(b"V")?;
-            number(&mut out, alloc, u64::from(code.number()))?;
+            number(out, alloc, u64::from(code.number()))?;
             out.extend_from_slice(b" ")?;
-            number(&mut out, alloc, at.line)?;
+            number(out, alloc, at.line)?;
             out.extend_from_slice(b":")?;
-            number(&mut out, alloc, at.column)?;
+            number(out, alloc, at.column)
         }
-        ModFault::Memory => out.extend_from_slice(b"memory")?,
+        ModFault::Memory => out.extend_from_slice(b"memory"),
+    }
+}
+
+/// What a refused file is told by.
+pub fn refusal_text(alloc: Global, why: &Refusal) -> Result<Vec<u8>, AllocError>
+    ensures { IfOk result (λ text. text.items ≡ texts.refusal_text (reason why.now)) }
+{
+    let mut out = Vec::new(alloc);
+    match why {
+        Refusal::Lattice(fault) => {
+            out.extend_from_slice(b"lattice: ")?;
+            lattice(&mut out, alloc, fault)?;
+        }
+        Refusal::Design(fault) => {
+            out.extend_from_slice(b"design: ")?;
+            design(&mut out, alloc, fault)?;
+        }
+        Refusal::Stimulus(place, fault) => {
+            out.extend_from_slice(b"stimulus ")?;
+            number(&mut out, alloc, *place)?;
+            out.extend_from_slice(b": ")?;
+            stimulus(&mut out, alloc, fault)?;
+        }
+        Refusal::Module(fault) => {
+            out.extend_from_slice(b"module: ")?;
+            module(&mut out, alloc, fault)?;
+        }
     }
     Ok(out)
 }

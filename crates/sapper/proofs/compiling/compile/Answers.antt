@@ -1,42 +1,40 @@
-use Rattle.std.proofs.Common.{◌≡◌, rules, refl, ◌∙◌, inl, inr}
-use Rattle.std.specs.Prelude.{Err}
-use Rattle.sapper.specs.Words.{compile}
-use Rattle.sapper.proofs.Endings.{counted_from, outside_reading}
-use Rattle.sapper.proofs.CompileEnds.{at_design, at_lattice, at_out, outside_out}
+use Rattle.std.proofs.Common.{refl, ap}
+use Rattle.std.proofs.lemmas.Result.{err_from_is_err_and}
+use Rattle.sap_compile.specs.Parts.{design_of, levels_of, module_of, netlist_of}
+use Rattle.sapper.specs.Steps.{ending, whole}
+use Rattle.sapper.proofs.Designs.{compiled_same, compiled_stands}
+use Rattle.sapper.proofs.Ended.{not_given, past, stopped, wrote}
+use Rattle.sapper.proofs.ModulesAlike.{module_in}
 use Rattle.sapper.proofs.compiling.compile.Goals as goal
 
-pub returns-in_err-levels-clause-ends : goal.returns-in_err-levels-clause-ends
-returns-in_err-levels-clause-ends g c =
-    let is : c.from_residual.result ≡ Err c.in_err-levels.field-0.0 = search rules in
-    rw is (at_lattice c.args.lattice.now c.args.design.now c.args.out.now _ _ _ c.in_err-levels.ensures.stops)
+pub returns-in_err-bytes : goal.returns-in_err-bytes
+returns-in_err-bytes g c =
+    let p = err_from_is_err_and c.from_residual.result c.from_residual.ensures.1 in
+    rw (p.1, p.2) (stopped c.in_err-bytes.ensures)
 
-pub returns-in_err-levels-clause-outside : goal.returns-in_err-levels-clause-outside
-returns-in_err-levels-clause-outside g c = λ changed sure.
-    outside_reading c.args.lattice.now (compile c.args.lattice.now c.args.design.now c.args.out.now) _ _ _ _ (λ t n missing. inl missing) refl (c.in_err-levels.ensures.outside changed sure)
-    (at_lattice c.args.lattice.now c.args.design.now c.args.out.now _ _ _ c.in_err-levels.ensures.stops)
+pub returns-in_err-_levels : goal.returns-in_err-_levels
+returns-in_err-_levels g c =
+    let p = err_from_is_err_and c.from_residual-in_err-_levels.result c.from_residual-in_err-_levels.ensures.1 in
+    rw (p.1, p.2) (not_given (ending c.in_err-_levels.field-0.0) c.in_ok-bytes.ensures c.in_err-_levels.ensures)
 
-pub returns-in_err-compiled-clause-ends : goal.returns-in_err-compiled-clause-ends
-returns-in_err-compiled-clause-ends g c =
-    let is : c.from_residual-in_err-compiled.result ≡ Err c.in_err-compiled.field-0.0 = search rules in
-    rw is (at_design c.args.lattice.now c.args.design.now c.args.out.now c.in_ok-levels.levels c.as_slice.result.now _ _ _ _ c.in_ok-levels.ensures.told c.as_slice.ensures c.in_ok-levels.ensures.has c.in_err-compiled.ensures.stops)
+pub returns-in_err-source : goal.returns-in_err-source
+returns-in_err-source g c =
+    let p = err_from_is_err_and c.from_residual-in_err-source.result c.from_residual-in_err-source.ensures.1 in
+    rw (p.1, p.2) (past (whole c.in_ok-_levels._levels) c.in_ok-bytes.ensures c.in_ok-_levels.ensures (stopped c.in_err-source.ensures))
 
-pub returns-in_err-compiled-clause-outside : goal.returns-in_err-compiled-clause-outside
-returns-in_err-compiled-clause-outside g c = λ changed sure.
-    outside_reading c.args.design.now (compile c.args.lattice.now c.args.design.now c.args.out.now) _ _ _ _ (λ t n missing. inr (inl missing)) c.in_ok-levels.ensures.told
-    (c.in_err-compiled.ensures.outside (λ stands. changed (stands ∙ c.in_ok-levels.ensures.counted)) (c.in_ok-levels.ensures.sure sure))
-    (at_design c.args.lattice.now c.args.design.now c.args.out.now c.in_ok-levels.levels c.as_slice.result.now _ _ _ _ c.in_ok-levels.ensures.told c.as_slice.ensures c.in_ok-levels.ensures.has c.in_err-compiled.ensures.stops)
+pub returns-in_err-compiled : goal.returns-in_err-compiled
+returns-in_err-compiled g c =
+    let p = err_from_is_err_and c.from_residual-in_err-compiled.result c.from_residual-in_err-compiled.ensures.1 in
+    rw (p.1, p.2) (past (whole c.in_ok-_levels._levels) c.in_ok-bytes.ensures c.in_ok-_levels.ensures
+    (not_given (ending c.in_err-compiled.field-0.0) c.in_ok-source.ensures (c.in_err-compiled.ensures (whole c.in_ok-_levels._levels) c.in_ok-_levels.ensures)))
 
-pub returns-clause-ends : goal.returns-clause-ends
-returns-clause-ends g c =
-    at_out c.args.lattice.now c.args.design.now c.args.out.now c.in_ok-levels.levels c.as_slice.result.now c.as_slice-2.result.now c.in_ok-compiled.compiled _ _ _ _ _
-    c.in_ok-levels.ensures.told c.in_ok-compiled.ensures.told c.as_slice.ensures (c.as_slice-2.ensures ∙ c.module.ensures)
-    c.in_ok-levels.ensures.has c.in_ok-compiled.ensures.levels c.in_ok-compiled.ensures.has c.write.ensures.wrote
-
-pub returns-clause-counted : goal.returns-clause-counted
-returns-clause-counted g c = counted_from _ _ _ _ (c.in_ok-compiled.ensures.counted ∙ c.in_ok-levels.ensures.counted) c.write.ensures.counted
-
-pub returns-clause-outside : goal.returns-clause-outside
-returns-clause-outside g c = λ changed sure.
-    outside_out c.args.lattice.now c.args.design.now c.args.out.now _ _ _ _ c.in_ok-levels.ensures.told c.in_ok-compiled.ensures.told
-    (c.write.ensures.full (λ stands. changed (stands ∙ c.in_ok-compiled.ensures.counted ∙ c.in_ok-levels.ensures.counted))
-    (c.in_ok-compiled.ensures.sure (c.in_ok-levels.ensures.sure sure)))
+pub returns : goal.returns
+returns g c =
+    let m = c.in_ok-compiled.compiled in
+    let ls = whole c.in_ok-_levels._levels in
+    let same = compiled_same c.in_ok-bytes.bytes c.in_ok-source.source m ls c.in_ok-compiled.ensures c.in_ok-_levels.ensures in
+    past (whole c.in_ok-_levels._levels) c.in_ok-bytes.ensures c.in_ok-_levels.ensures
+    (past (design_of c.in_ok-compiled.compiled) c.in_ok-source.ensures
+    (compiled_stands c.in_ok-bytes.bytes c.in_ok-source.source c.in_ok-compiled.compiled (whole c.in_ok-_levels._levels) c.in_ok-compiled.ensures c.in_ok-_levels.ensures)
+    (wrote c.module.result.now
+    (netlist_of m, module_in (levels_of m) ls same (design_of m) (netlist_of m) c.module.result.now (rw c.module.ensures c.in_ok-compiled.ensures.is_module)) c.write.ensures))

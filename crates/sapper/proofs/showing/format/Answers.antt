@@ -1,18 +1,26 @@
-use Rattle.std.proofs.Common.{◌∙◌, inr}
-use Rattle.sapper.specs.Words.{fmt}
+use Rattle.std.proofs.Common.{refl, ap}
+use Rattle.std.proofs.lemmas.Result.{err_from_is_err_and}
+use Rattle.sap_tree.specs.Designs.{design_of}
 use Rattle.sapper.specs.Ending.{done}
-use Rattle.sapper.proofs.Endings.{counted_from, ends_at_output, outside_output}
+use Rattle.sapper.specs.Steps.{ending}
+use Rattle.sapper.proofs.Ended.{gave, not_given, past, quiet_self, starved, stopped}
 use Rattle.sapper.proofs.showing.format.Goals as goal
 
-pub returns-clause-ends : goal.returns-clause-ends
-returns-clause-ends g c =
-    ends_at_output (fmt c.args.design.now) c.in_ok-text.text c.as_slice.result.now done _ _ _ _
-    (λ t n is. is) c.in_ok-text.ensures.told c.as_slice.ensures c.in_ok-text.ensures.has c.put.ensures.put
+pub returns-in_err-source : goal.returns-in_err-source
+returns-in_err-source g c =
+    let p = err_from_is_err_and c.from_residual.result c.from_residual.ensures.1 in
+    rw (p.1, p.2) (stopped c.in_err-source.ensures)
 
-pub returns-clause-counted : goal.returns-clause-counted
-returns-clause-counted g c = counted_from _ _ _ _ c.in_ok-text.ensures.counted c.put.ensures.counted
+pub returns-in_err-tree : goal.returns-in_err-tree
+returns-in_err-tree g c =
+    let p = err_from_is_err_and c.from_residual-in_err-tree.result c.from_residual-in_err-tree.ensures.1 in
+    rw (p.1, p.2) (not_given (ending c.in_err-tree.field-0.0) c.in_ok-source.ensures c.in_err-tree.ensures)
 
-pub returns-clause-outside : goal.returns-clause-outside
-returns-clause-outside g c = λ changed sure.
-    outside_output (fmt c.args.design.now) _ _ _ (λ t n full. inr full) c.in_ok-text.ensures.told
-    (c.put.ensures.full (λ stands. changed (stands ∙ c.in_ok-text.ensures.counted)) (c.in_ok-text.ensures.sure sure))
+pub returns-in_err-text : goal.returns-in_err-text
+returns-in_err-text g c =
+    let p = err_from_is_err_and c.from_residual-in_err-text.result c.from_residual-in_err-text.ensures.1 in
+    rw (p.1, p.2) (past (design_of c.in_ok-tree.tree) c.in_ok-source.ensures c.in_ok-tree.ensures (starved _ (quiet_self _)))
+
+pub returns : goal.returns
+returns g c =
+    past (design_of c.in_ok-tree.tree) c.in_ok-source.ensures c.in_ok-tree.ensures (gave c.in_ok-text.text done c.in_ok-text.ensures.canonical refl c.put.ensures)

@@ -1,0 +1,33 @@
+-- What a whole call answers, and what stands after it.
+use Rattle.std.specs.Prelude.{◌≡◌, ◌⊎◌, ℕ, List, ◌++◌}
+use Rattle.sap_desk.specs.Desk.{Told}
+use Rattle.sap_desk.specs.Cause.{Rose}
+use Rattle.sapper.specs.Ending.{Ending, done, refused, failed, no_memory, status_of, line_of, IsFree}
+use Rattle.sapper.specs.Asks.{Cause, IsPrefix, Leaves, Output}
+use Rattle.sapper.specs.Commands.{asks_for}
+
+-- a failed call blames its file, or the output
+abbrev pub Blames : (blame : List ℕ) → Ending → Type 0
+Blames blame done = Unit {0}
+Blames blame (refused why) = Unit {0}
+Blames blame (failed name) = blame ≡ name
+Blames blame no_memory = Unit {0}
+
+-- channel 2 gained a line, or a prefix of it where a call on it failed
+abbrev pub Gained : (line : List ℕ) → (lost lost_now : ℕ) → Told → Told → Type 0
+Gained line lost lost_now t n =
+    (n.written 2 ≡ t.written 2 ++ line) ⊎ (Rose lost lost_now × ((part : List ℕ) × IsPrefix part line × (n.written 2 ≡ t.written 2 ++ part)))
+
+-- some ending, with its status and its line, and what it leaves
+pub record Answers (words : List (List ℕ)) (lost lost_now answer : ℕ) (t n : Told) : Type 0 where
+  pub ending : Ending
+  pub status : answer ≡ status_of ending
+  pub line : Gained (line_of ending) lost lost_now t n
+  pub leaves : Leaves (asks_for words) t n.files ending
+  -- what was written on channel 1
+  pub gained : List ℕ
+  pub output : n.written 1 ≡ t.written 1 ++ gained
+  pub shows : Output (asks_for words) t gained ending
+  pub blames : Blames n.blame ending
+  -- but for a failed call and want of memory the words and files have the ending's cause
+  pub cause : IsFree ending ⊎ Cause (asks_for words) t ending
