@@ -1,3 +1,4 @@
+pub mod Inputs
 pub mod Worlds
 pub mod Stored
 pub mod Views

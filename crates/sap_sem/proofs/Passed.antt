@@ -1,5 +1,5 @@
 -- A step that enters no child, where its test holds.
-use Rattle.std.proofs.Common.{◌≡◌, ℕ, true, List, refl}
+use Rattle.std.proofs.Common.{◌≡◌, ℕ, true, List, refl, sym}
 use Rattle.sap_meaning.specs.Program.{listed}
 use Rattle.sap_meaning.specs.Store.{Store, After, stay, raise}
 use Rattle.sap_meaning.specs.Checks.{guard, test}
@@ -32,9 +32,14 @@ module _ (d : Setting) (at : Spot) where
   effect_done enter (step.Goto site target) pc b s h = refl
   effect_done enter (step.Fall site hang) pc b s h = absurd h
 
-  pub passed : (hang : List ℕ) (k : Step) (handler : List Command) (pc : ℕ) (s : Store) (g : ℕ) → g ≡ guard (world_in d) (spot_in d at) (step_of (entities_in d) k) s
+  passed : (hang : List ℕ) (k : Step) (handler : List Command) (pc : ℕ) (s : Store) (g : ℕ) → g ≡ guard (world_in d) (spot_in d at) (step_of (entities_in d) k) s
       → test (world_in d) (spot_in d at) (step_of (entities_in d) k) pc s ≡ true → IsEffect k
       → attempt_run d at hang k handler pc s ≡ stay (acted d at k pc s (raise (world_in d).order (listed (flags (entities_in d) hang)) g s))
   unfolding attempt_run attempt
   passed hang k handler pc s g e t h =
       rw (t, ← e) (effect_done _ k pc s (raise (world_in d).order (listed (flags (entities_in d) hang)) g s) h)
+
+  pub passed_as : (hang : List ℕ) (k : Step) (handler : List Command) (pc : ℕ) (s : Store) (g : ℕ) → g ≡ guard (world_in d) (spot_in d at) (step_of (entities_in d) k) s
+      → test (world_in d) (spot_in d at) (step_of (entities_in d) k) pc s ≡ true → IsEffect k
+      → stay (acted d at k pc s (raise (world_in d).order (listed (flags (entities_in d) hang)) g s)) ≡ attempt_run d at hang k handler pc s
+  passed_as hang k handler pc s g e t h = sym (passed hang k handler pc s g e t h)

@@ -1,6 +1,7 @@
 //! The labelled meaning of a design as a machine that is stepped a cycle at a time.
 #![tactic(auto)]
 
+mod asked;
 mod cell;
 mod checks;
 mod effects;

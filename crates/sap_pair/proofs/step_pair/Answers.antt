@@ -1,4 +1,3 @@
-use Rattle.std.proofs.Common.{◌≡◌}
 use Rattle.sap_sem.specs.Machine.{program_of, state_of, refusals_of}
 use Rattle.sap_pair.proofs.Cycles.{states, refusals}
 use Rattle.sap_pair.proofs.step_pair.Goals as goal

@@ -5,7 +5,7 @@ use Rattle.sap_program.specs.Hangs.{rises}
 use Rattle.sap_program.specs.declared.program.Command.{Command}
 use Rattle.sap_sem.specs.Code.{store_in}
 use Rattle.sap_sem.specs.Runs.{marked, CommandAble, BlockAble, StateAble, GroupAble}
-use Rattle.sap_sem.proofs.Passed.{passed, is_effect}
+use Rattle.sap_sem.proofs.Passed.{passed_as, is_effect}
 use Rattle.sap_sem.proofs.Runs.{able-do, able-try, able-if, able-none, able-in, able-child, able-state}
 use Rattle.sap_sem.proofs.Weights.{commands_weight, command_weight, states_weight, state_weight, commands_weight-none, command_weight-do, command_weight-try, command_weight-if, command_weight-in, state_weight-in, state_weight-out}
 use Rattle.sap_sem.proofs.run.+run.Goals as goal
@@ -15,10 +15,10 @@ attempt-returns-in_default t c =
     let d = c.args.setting.now in
     let s = store_in d c.args.store.now in
     let e = is_effect c.args.step.now c.in_default.not-Fall in
-    let p = passed d c.args.at.now c.args.hang.now c.args.step.now c.args.handler.now c.args.context s c.guard-level.result c.guard-level.ensures (sym c.test.ensures ∙ c.if-test.true) e in
+    let p = passed_as d c.args.at.now c.args.hang.now c.args.step.now c.args.handler.now c.args.context s c.guard-level.result c.guard-level.ensures (sym c.test.ensures ∙ c.if-test.true) e in
     record {
-      store = c.act.ensures.store e ∙ sym (ap (λ (a : After). a.store) p);
-      marks = sym (ap (λ (a : After). marked a.refused c.args.marks.now) p);
+      store = c.act.ensures.store e ∙ ap (λ (a : After). a.store) p;
+      marks = ap (λ (a : After). marked a.refused c.args.marks.now) p;
       ready = c.act.ensures.ready;
     }
 

@@ -1,0 +1,91 @@
+//! The rows of machines, and the lines of their refusals, by what machines answer.
+
+ghost use Rattle.std.specs.Prelude.{◌<◌, length};
+ghost use Rattle.sap_check.specs.Checked.{tree_in};
+ghost use Rattle.sap_names.specs.Entities.{entities_of};
+
+use sap_check::Checked;
+use sap_lattice::level::Level;
+use sap_report::push_target;
+use sap_sem::machine::Machine;
+use sap_stim::rows::number;
+use std::alloc::AllocError;
+
+fn push_register(
+    out: &mut Vec<u8>,
+    machine: &Machine,
+    checked: &Checked,
+    entity: u32,
+) -> Result<(), AllocError>
+    requires { entity < length (entities_of (tree_in checked.now)) }
+{
+    if machine.is_register(entity) {
+        let (value, level) = machine.value(entity);
+        out.extend_from_slice(b" ")?;
+        out.extend_from_slice(checked.entity(entity).as_bytes())?;
+        out.extend_from_slice(b"=")?;
+        number(out, value)?;
+        out.extend_from_slice(b"@")?;
+        out.extend_from_slice(checked.lattice().name(level).as_bytes())?;
+    }
+    Ok(())
+}
+
+/// Appends the row of a cycle.
+pub fn push_row(
+    out: &mut Vec<u8>,
+    machine: &Machine,
+    checked: &Checked,
+    cycle: u64,
+) -> Result<(), AllocError> {
+    out.extend_from_slice(b"cycle ")?;
+    number(out, cycle)?;
+    out.extend_from_slice(b":")?;
+    for entity in 0..checked.entity_count() {
+        push_register(out, machine, checked, entity)?;
+    }
+    out.extend_from_slice(b"\n")
+}
+
+fn push_target_of(out: &mut Vec<u8>, checked: &Checked, k: u32) -> Result<(), AllocError> {
+    if 1 <= k && k <= checked.site_count() {
+        let site = checked.site(k);
+        if site.entity < checked.entity_count() {
+            push_target(out, checked, site)?;
+        }
+    }
+    Ok(())
+}
+
+fn push_refusal(
+    out: &mut Vec<u8>,
+    checked: &Checked,
+    cycle: u64,
+    k: u32,
+    level: Level,
+) -> Result<(), AllocError> {
+    out.extend_from_slice(b"cycle ")?;
+    number(out, cycle)?;
+    out.extend_from_slice(b": site ")?;
+    number(out, u64::from(k))?;
+    out.extend_from_slice(b" ")?;
+    push_target_of(out, checked, k)?;
+    out.extend_from_slice(b" at ")?;
+    out.extend_from_slice(checked.lattice().name(level).as_bytes())?;
+    out.extend_from_slice(b"\n")
+}
+
+/// Appends the lines of the sites that were refused in a cycle.
+pub fn push_refusals(
+    out: &mut Vec<u8>,
+    machine: &Machine,
+    checked: &Checked,
+    cycle: u64,
+) -> Result<(), AllocError> {
+    for k in 0..machine.site_count() {
+        if let Some(level) = machine.refused(k + 1) {
+            push_refusal(out, checked, cycle, k + 1, level)?;
+        }
+    }
+    Ok(())
+}
