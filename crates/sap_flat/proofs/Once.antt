@@ -1,7 +1,6 @@
 -- Each body stands once in the flat program.
 use Rattle.std.proofs.Common.{◌≡◌, ◌⊎◌, ◌&&◌, ℕ, ◌+◌, List, [], ◌∷◌, ◌++◌, map, filter, Some, Bool, true, false, not, sym, ap, ap₂, ◌∙◌, subst, refl, inl, inr}
 use Rattle.std.specs.Str.{bytes_eq}
-use Rattle.std.specs.List.{AllByRecursion}
 use Rattle.std.proofs.lemmas.Bool.{cases_Bool}
 use Rattle.sap_maps.specs.Maps.{Name}
 use Rattle.sap_maps.specs.Scope.{Scope, find}
@@ -15,7 +14,7 @@ use Rattle.sap_ir.proofs.Declared.{among_front, among_behind, found_among, not_f
 use Rattle.sap_plain.specs.Nested.{Body, stop, act, cases, goto, fall, Forest, none, state, Nested, declarations, has_states, size, group_names, state_names, place, children_of, seat_name, root_seat, seats, seat_width}
 use Rattle.sap_plain.specs.IsPlain.{keeps_seats, BodyFine, ForestFine, IsPlain}
 use Rattle.sap_flat.specs.Gates.{gate_name}
-use Rattle.sap_flat.specs.Flat.{under, is_number, seated, flat_first, flat_restart, flat_goto, flat_body, flat_gates, flat_group, flat_states, flattened}
+use Rattle.sap_flat.specs.Flat.{under, is_number, seated, flat_first, flat_restart, flat_goto, flat_body, flat_gates, flat_group, flattened}
 use Rattle.sap_flat.specs.Once.{body_actions, forest_actions, is_own, actions_of, BodiesOnce}
 use Rattle.sap_flat.proofs.GateNames.{gate_not_among}
 

@@ -1,11 +1,11 @@
 -- How large the flat program of nested states is.
-use Rattle.std.proofs.Common.{◌≡◌, ℕ, ◌+◌, ◌*◌, ◌≤◌, List, [], ◌∷◌, ◌++◌, length, ap, ◌∙◌, refl, arith, length-append}
+use Rattle.std.proofs.Common.{◌≡◌, ℕ, ◌+◌, ◌*◌, ◌≤◌, List, [], ◌∷◌, ◌++◌, refl, arith, length-append}
 use Rattle.sap_maps.specs.Maps.{Name}
 use Rattle.sap_maps.specs.Term.{Term, constant, read}
-use Rattle.sap_ir.specs.Source.{Command, Source}
+use Rattle.sap_ir.specs.Source.{Command}
 use Rattle.sap_plain.specs.Nested.{Body, stop, act, cases, goto, fall, Forest, none, state, Nested, size, state_names, children_of, seat_name, root_seat, seat_width}
 use Rattle.sap_size.specs.Terms.{operations}
-use Rattle.sap_size.specs.Flat.{command_weight, commands_weight, source_weight}
+use Rattle.sap_size.specs.Flat.{commands_weight, source_weight}
 use Rattle.sap_size.specs.Nested.{states_in, body_weight, forest_weight, nested_weight}
 use Rattle.sap_flat.specs.Gates.{gate_name}
 use Rattle.sap_flat.specs.Flat.{flat_first, flat_restart, flat_goto, flat_body, flat_gates, flat_group, flat_states, flattened}

@@ -13,7 +13,6 @@ use Rattle.sap_maps.specs.Scope.{find}
 use Rattle.sap_maps.specs.Term.{Term, constant, read, cell, one, two, choose, join, part}
 use Rattle.sap_maps.proofs.Scopes.{same_name, name_is, apart_back}
 use Rattle.sap_net.specs.Names.{is_among, AreDistinct}
-use Rattle.sap_net.specs.Net.{Net}
 use Rattle.sap_net.specs.Rules.{Shapes}
 use Rattle.sap_net.specs.declared.parts.Operand.{Operand}
 use Rattle.sap_net.specs.declared.parts.Operand.TheVariants.{Named, Constant}
@@ -26,14 +25,14 @@ use Rattle.sap_ir.specs.IsGuarded.{variable_names, memory_names, IsGuarded}
 use Rattle.sap_ir.proofs.Declared.{distinct_front, distinct_behind}
 use Rattle.sap_size.specs.Terms.{same_term, operations_in, operations}
 use Rattle.sap_size.proofs.Terms.{term_is, term_self, term_laws, has, has_front, has_behind, all_operations, all_has}
-use Rattle.sap_size.specs.Flat.{action_weight, command_weight, commands_weight, source_weight}
+use Rattle.sap_size.specs.Flat.{action_weight, commands_weight, source_weight}
 use Rattle.sap_size.specs.Items.{items}
 use Rattle.sap_lower.specs.declared.parts.Part.{Part}
 use Rattle.sap_lower.specs.declared.parts.WritePort.{WritePort}
 use Rattle.sap_lower.specs.Keys.{key}
 use Rattle.sap_lower.specs.Lowering.{helper, nothing, present, Low, rights, shared, plus, leaves_nothing, low_two, sliced, is_outside, low_slice, cell_width, low_join, low}
 use Rattle.sap_lower.specs.Commands.{State, port_of, low_chosen, merged_port, low_put, low_action, low_command, low_commands}
-use Rattle.sap_lower.specs.Lowered.{first_state, last_state, out_wire, listed, unlisted, unported, picked, register_of, memory_of, registers_declared, all_wires, lowered}
+use Rattle.sap_lower.specs.Lowered.{first_state, last_state, out_wire, listed, unlisted, unported, picked, register_of, memory_of, registers_declared, lowered}
 use Rattle.sap_lower.proofs.Declares.{picked_names, unlisted_names}
 use Rattle.sap_lower.proofs.Listed.{listed_names}
 use Rattle.sap_lower.proofs.Rights.{last_here}

@@ -1,4 +1,4 @@
--- How large flat programs are: as many items as their netlists can have where no wire is shared.
+-- How large flat programs are: how many items their netlists may have at most.
 use Rattle.std.specs.Prelude.{ℕ, ◌+◌, List, [], ◌∷◌, length}
 use Rattle.sap_ir.specs.Source.{Action, set, put, Command, Source}
 use Rattle.sap_size.specs.Terms.{operations}

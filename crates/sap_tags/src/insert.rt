@@ -1,12 +1,14 @@
 //! Whole designs.
 
-ghost use Rattle.std.specs.Prelude.{◌≡◌, ◌<◌, ◌^◌, ◌++◌, IfOk, OnOk};
+ghost use Rattle.std.specs.Prelude.{◌≡◌, ◌<◌, ◌≤◌, ◌^◌, ◌++◌, IfOk, OnOk};
 ghost use Rattle.sap_check.specs.Checked.{levels_in, tree_in};
 ghost use Rattle.sap_plain.specs.Parts.{parts_nested};
 ghost use Rattle.sap_plain.specs.Program.{nested_of};
 ghost use Rattle.sap_plain.specs.Writes.{PlainWritesOnce};
 ghost use Rattle.sap_program.specs.Design.{IsProgramOf};
 ghost use Rattle.sap_program.specs.Views.{group_of};
+ghost use Rattle.sap_size.specs.Items.{most_items};
+ghost use Rattle.sap_size.specs.Nested.{nested_weight};
 ghost use Rattle.sap_sized.specs.Ranges.{RangedProgram};
 ghost use Rattle.sap_tagged.specs.Law.{IsSound, PlainStandsForDesign};
 ghost use Rattle.sap_tagged.specs.Plain.{names_of, plain_of};
@@ -24,6 +26,7 @@ use sap_plain::nested::PlainParts;
 use sap_plain::program::Plain;
 use sap_program::program::Program;
 use sap_sized::widths_in_range;
+use sap_small::plain_small;
 use sap_tagged::plain_stands;
 use sap_terms::setting::Setting;
 use sap_tree::whole::design_is_whole;
@@ -83,15 +86,18 @@ fn is_sound(checked: &Checked)
     design_is_whole(design);
 }
 
-/// Nested states with ordinary variables for tags, which stand for the design. The program is that design's.
+/// Nested states with ordinary variables for tags, which stand for the design and weigh no more than its module may have
+/// items. The program is that design's.
 pub fn insert(alloc: Global, checked: &Checked, program: &Program) -> Result<Plain, AllocError>
     requires { IsProgramOf (levels_in checked.now) (tree_in checked.now) program.now }
     ensures stands { IfOk result (λ p. PlainStandsForDesign (levels_in checked.now) (tree_in checked.now) (nested_of p)) }
     ensures once { IfOk result (λ p. PlainWritesOnce (nested_of p)) }
+    ensures small { IfOk result (λ p. nested_weight (nested_of p) ≤ most_items (levels_in checked.now) (tree_in checked.now)) }
 {
     is_sound(checked);
     widths_in_range();
     plain_stands();
+    plain_small();
     let setting = Setting {
         lattice: checked.lattice(),
         program,

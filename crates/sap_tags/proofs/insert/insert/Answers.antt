@@ -1,7 +1,9 @@
-use Rattle.std.proofs.Common.{sym, ◌∙◌, subst}
+use Rattle.std.proofs.Common.{◌≤◌, sym, ◌∙◌, subst}
 use Rattle.sap_check.specs.Checked.{levels_in, tree_in}
 use Rattle.sap_plain.specs.IsPlain.{IsPlain}
 use Rattle.sap_plain.specs.Writes.{PlainWritesOnce}
+use Rattle.sap_size.specs.Items.{most_items}
+use Rattle.sap_size.specs.Nested.{nested_weight}
 use Rattle.sap_tagged.specs.Law.{PlainStandsForDesign}
 use Rattle.sap_tags.proofs.Found.{few_found, narrow_found, plain_found, ranged_found}
 use Rattle.sap_tags.proofs.insert.insert.Goals as goal
@@ -39,3 +41,10 @@ returns-clause-once c =
     let d = tree_in c.args.checked.now in
     let e = c.new.ensures ∙ (c.in_ok-parts.ensures ∙ plain_found c.lattice.result.now ls d c.args.program.now c.lattice.ensures c.requires) in
     subst (λ p. PlainWritesOnce p) (sym e) (c.plain_stands.ensures.once ls d c.is_sound.ensures)
+
+pub returns-clause-small : goal.returns-clause-small
+returns-clause-small c =
+    let ls = levels_in c.args.checked.now in
+    let d = tree_in c.args.checked.now in
+    let e = c.new.ensures ∙ (c.in_ok-parts.ensures ∙ plain_found c.lattice.result.now ls d c.args.program.now c.lattice.ensures c.requires) in
+    subst (λ p. nested_weight p ≤ most_items ls d) (sym e) (c.plain_small.ensures ls d c.is_sound.ensures)

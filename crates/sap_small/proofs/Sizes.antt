@@ -1,0 +1,256 @@
+-- The program of a design is no larger than the design.
+use Rattle.std.proofs.Common.{None, ◌≡◌, ℕ, ◌+◌, ◌≤◌, List, [], ◌∷◌, length, Option, Some, refl, ap, arith, inl, inr, length-append}
+use Rattle.std.specs.Prelude.{eqb}
+use Rattle.std.proofs.lemmas.Bool.{cases_Bool}
+use Rattle.sap_tree.specs.declared.syntax.Decl.{Decl}
+use Rattle.sap_tree.specs.declared.syntax.Kind.{Kind}
+use Rattle.sap_tree.specs.Syntax.{Expression, Number, Sized, Read, Cell, Unary, Binary, Choose, Slice, Concat, Zext, Expressions, NoPart, AndPart, TagExpression, Level, TagOf, LevelAt, Join, TagExpressions, NoTag, AndTag, SimpleCommand, Assign, SetTag, SetCellTag, CommandBlock, Commands, ElseBlock, NoElse, Else, CommandList, NoCommand, AndCommand, StateTree, StateOf, StateList, NoState, AndState, DesignTree}
+use Rattle.sap_tree.specs.Syntax as tree
+use Rattle.sap_tree.specs.Whole.{state_count, states_count}
+use Rattle.sap_names.specs.Entities.{what_is}
+use Rattle.sap_names.specs.declared.entity.Entity.{Entity}
+use Rattle.sap_names.specs.Widths.{own, width_of, family, asked_left, asked_right, asked_one, register_width, cell_width, index_width}
+use Rattle.sap_maps.specs.Term.{Term}
+use Rattle.sap_lattice.specs.Levels.{Levels}
+use Rattle.sap_shape.specs.Sites.{is_site}
+use Rattle.sap_meaning.specs.Program.{World, Step, Set, Retag, RetagCell, Goto, Fall, Command, Do, Try, If, Block, End, Then, State, Node, Group, More}
+use Rattle.sap_meaning.specs.Program as program
+use Rattle.sap_meaning.specs.Checks.{Spot}
+use Rattle.sap_resolve.specs.Worlds.{states_in, all_declared, state_entities, group_entities}
+use Rattle.sap_resolve.specs.Worlds as worlds
+use Rattle.sap_resolve.specs.Sites.{Home, simple_sites, command_sites, block_sites, else_sites, list_sites, state_sites, group_sites}
+use Rattle.sap_resolve.specs.Terms.{known, widened, term_of, parts_of, level_term, level_terms}
+use Rattle.sap_resolve.specs.Resolve.{site_number, step_of, command_of, block_of, else_of, list_of, state_of, group_of}
+use Rattle.sap_resolve.specs.Fill.{filled_step, filled, filled_block, filled_state, filled_group}
+use Rattle.sap_size.specs.Terms.{term_size}
+use Rattle.sap_size.specs.Programs.{level_size, step_size, command_size, block_size, state_size, group_size, states_of, states_below}
+use Rattle.sap_size.specs.Trees.{expression_nodes, part_nodes, tag_nodes, tag_part_nodes, operand_nodes, command_nodes, block_nodes, else_nodes, list_nodes, state_nodes, states_nodes}
+
+-- expressions
+
+widened_size : (from width : ℕ) (t : Term ℕ) → term_size (widened from width t) ≤ 1 + term_size t
+widened_size from width t = elim (cases_Bool (eqb from width)) [ inl h ↦ rw h (omega arith) | inr f ↦ rw f (omega arith) ]
+
+mutual
+  term_within : (es : List Entity) (e : Expression) (asked : Option ℕ) → term_size (term_of es e asked) ≤ expression_nodes e
+  term_within es (Number spot n) asked = omega arith
+  term_within es (Sized spot w n) asked = omega arith
+  term_within es (Read spot name) asked = omega arith
+  term_within es (Cell spot name index) asked = let r = term_within es index (index_width (what_is es name)) in omega (arith, r)
+  term_within es (Unary spot o e) asked =
+      let r = term_within es e (asked_one o (width_of (what_is es) (Unary spot o e) asked)) in omega (arith, r)
+  term_within es (Binary spot o a b) asked =
+      let whole = width_of (what_is es) (Binary spot o a b) asked in
+      let r = term_within es a (asked_left (family o) whole (own (what_is es) a) (own (what_is es) b)) in
+      let s = term_within es b (asked_right (family o) whole (own (what_is es) a) (own (what_is es) b)) in
+      omega (arith, r, s)
+  term_within es (Choose spot c a b) asked =
+      let whole = width_of (what_is es) (Choose spot c a b) asked in
+      let q = term_within es c (Some 1) in
+      let r = term_within es a whole in
+      let s = term_within es b whole in
+      omega (arith, q, r, s)
+  term_within es (Slice spot e high low) asked = let r = term_within es e None in omega (arith, r)
+  term_within es (Concat spot parts) asked = parts_within es parts
+  term_within es (Zext spot e width) asked =
+      let r = term_within es e None in
+      let s = widened_size (known (own (what_is es) e)) width (term_of es e None) in
+      omega (arith, r, s)
+
+  parts_within : (es : List Entity) (parts : Expressions) → term_size (parts_of es parts) ≤ 1 + part_nodes parts
+  parts_within es NoPart = omega arith
+  parts_within es (AndPart e NoPart) = let r = term_within es e None in omega (arith, r)
+  parts_within es (AndPart e (AndPart f parts)) =
+      let r = term_within es e None in
+      let s = parts_within es (AndPart f parts) in
+      omega (arith, r, s)
+
+mutual
+  level_within : (ls : Levels) (es : List Entity) (t : TagExpression) → level_size (level_term ls es t) ≤ tag_nodes t
+  level_within ls es (Level m) = omega arith
+  level_within ls es (TagOf place e) = let r = term_within es e None in omega (arith, r)
+  level_within ls es (LevelAt place e) = let r = term_within es e None in omega (arith, r)
+  level_within ls es (Join place parts) = levels_within ls es parts
+
+  levels_within : (ls : Levels) (es : List Entity) (parts : TagExpressions) → level_size (level_terms ls es parts) ≤ 1 + tag_part_nodes parts
+  levels_within ls es NoTag = omega arith
+  levels_within ls es (AndTag t NoTag) = let r = level_within ls es t in omega (arith, r)
+  levels_within ls es (AndTag t (AndTag u parts)) =
+      let r = level_within ls es t in
+      let s = levels_within ls es (AndTag u parts) in
+      omega (arith, r, s)
+
+-- commands
+
+step_within : (ls : Levels) (h : Home) (n : ℕ) (c : SimpleCommand) → step_size (step_of ls h n c) ≤ operand_nodes c
+step_within ls h n (Assign target e) = term_within h.entities e (register_width (what_is h.entities target.name))
+step_within ls h n (tree.Write target index e) =
+    let r = term_within h.entities index (index_width (what_is h.entities target.name)) in
+    let s = term_within h.entities e (cell_width (what_is h.entities target.name)) in
+    omega (arith, r, s)
+step_within ls h n (SetTag place target tag) = level_within ls h.entities tag
+step_within ls h n (SetCellTag place target index tag) =
+    let r = term_within h.entities index (index_width (what_is h.entities target.name)) in
+    let s = level_within ls h.entities tag in
+    omega (arith, r, s)
+step_within ls h n (tree.Goto place target) = omega arith
+step_within ls h n (tree.Fall place) = omega arith
+
+mutual
+  command_within : (ls : Levels) (h : Home) (k : ℕ) (c : tree.Command) → command_size (command_of ls h k c) ≤ command_nodes c
+  command_within ls h k (tree.Do c) = let r = step_within ls h (site_number h k c) c in omega (arith, r)
+  command_within ls h k (tree.Try c place handler) =
+      let r = step_within ls h (site_number h k c) c in
+      let s = block_within ls h (k + simple_sites h c) handler in
+      omega (arith, r, s)
+  command_within ls h k (tree.If place e one other) =
+      let q = term_within h.entities e (Some 1) in
+      let r = block_within ls h k one in
+      let s = else_within ls h (k + block_sites h one) other in
+      omega (arith, q, r, s)
+
+  block_within : (ls : Levels) (h : Home) (k : ℕ) (b : CommandBlock) → block_size (block_of ls h k b) ≤ block_nodes b
+  block_within ls h k (Commands cs after) = list_within ls h k cs
+
+  else_within : (ls : Levels) (h : Home) (k : ℕ) (b : ElseBlock) → block_size (else_of ls h k b) ≤ else_nodes b
+  else_within ls h k NoElse = omega arith
+  else_within ls h k (Else b) = block_within ls h k b
+
+  list_within : (ls : Levels) (h : Home) (k : ℕ) (cs : CommandList) → block_size (list_of ls h k cs) ≤ list_nodes cs
+  list_within ls h k NoCommand = omega arith
+  list_within ls h k (AndCommand c cs) =
+      let r = command_within ls h k c in
+      let s = list_within ls h (k + command_sites h c) cs in
+      omega (arith, r, s)
+
+-- states
+
+abbrev home : List Entity → Kind → StateList → Home
+home es kind children = record { entities = es; kind = kind; children = children }
+
+mutual
+  state_within : (ls : Levels) (es : List Entity) (k x : ℕ) (s : StateTree) → state_size (state_of ls es k x s) ≤ state_nodes s
+  state_within ls es k x (StateOf place name kind body children) =
+      let h = home es kind children in
+      let r = block_within ls h k body in
+      let s = group_within ls es (k + block_sites h body) (x + 1) children in
+      omega (arith, r, s)
+
+  pub group_within : (ls : Levels) (es : List Entity) (k x : ℕ) (g : StateList) → group_size (group_of ls es k x g) ≤ states_nodes g
+  group_within ls es k x NoState = omega arith
+  group_within ls es k x (AndState s rest) =
+      let r = state_within ls es k x s in
+      let q = group_within ls es (k + state_sites es s) (x + states_in s) rest in
+      omega (arith, r, q)
+
+-- how many there are
+
+mutual
+  state_counted : (ls : Levels) (es : List Entity) (k x : ℕ) (s : StateTree) → states_of (state_of ls es k x s) ≡ states_in s
+  state_counted ls es k x (StateOf place name kind body children) =
+      let h = home es kind children in
+      ap (λ (n : ℕ). 1 + n) (group_counted ls es (k + block_sites h body) (x + 1) children)
+
+  pub group_counted : (ls : Levels) (es : List Entity) (k x : ℕ) (g : StateList) → states_below (group_of ls es k x g) ≡ worlds.states_below g
+  group_counted ls es k x NoState = refl
+  group_counted ls es k x (AndState s rest) =
+      let r = state_counted ls es k x s in
+      let q = group_counted ls es (k + state_sites es s) (x + states_in s) rest in
+      omega (arith, r, q)
+
+mutual
+  state_entered : (ls : Levels) (n x : ℕ) (s : StateTree) → length (state_entities ls n x s) ≡ states_in s
+  state_entered ls n x (StateOf place name kind body children) = let r = group_entered ls 0 (x + 1) children in omega (arith, r)
+
+  pub group_entered : (ls : Levels) (n x : ℕ) (g : StateList) → length (group_entities ls n x g) ≡ worlds.states_below g
+  group_entered ls n x NoState = refl
+  group_entered ls n x (AndState s rest) =
+      let r = state_entered ls n x s in
+      let q = group_entered ls (n + 1) (x + states_in s) rest in
+      let l = length-append (state_entities ls n x s) (group_entities ls (n + 1) (x + states_in s) rest) in
+      omega (arith, r, q, l)
+
+pub all_entered : (ls : Levels) (ds : List Decl) → length (all_declared ls ds) ≡ length ds
+all_entered ls [] = refl
+all_entered ls (d ∷ ds) = let r = all_entered ls ds in omega (arith, r)
+
+mutual
+  unfolding state_count states_count
+
+  state_same : (s : StateTree) → states_in s ≡ state_count s
+  state_same (StateOf place name kind body children) = ap (λ (n : ℕ). 1 + n) (states_same children)
+
+  pub states_same : (g : StateList) → worlds.states_below g ≡ states_count g
+  states_same NoState = refl
+  states_same (AndState s rest) = let r = state_same s in let q = states_same rest in omega (arith, r, q)
+
+-- check sites are commands
+
+site_within : (h : Home) (c : SimpleCommand) → simple_sites h c ≤ 1
+site_within h c = elim (cases_Bool (is_site h.entities h.kind h.children c)) [ inl t ↦ rw t (omega arith) | inr f ↦ rw f (omega arith) ]
+
+mutual
+  command_sited : (h : Home) (c : tree.Command) → command_sites h c ≤ command_nodes c
+  command_sited h (tree.Do c) = let r = site_within h c in omega (arith, r)
+  command_sited h (tree.Try c place handler) =
+      let r = site_within h c in let s = block_sited h handler in omega (arith, r, s)
+  command_sited h (tree.If place e one other) =
+      let r = block_sited h one in let s = else_sited h other in omega (arith, r, s)
+
+  block_sited : (h : Home) (b : CommandBlock) → block_sites h b ≤ block_nodes b
+  block_sited h (Commands cs after) = list_sited h cs
+
+  else_sited : (h : Home) (b : ElseBlock) → else_sites h b ≤ else_nodes b
+  else_sited h NoElse = omega arith
+  else_sited h (Else b) = block_sited h b
+
+  list_sited : (h : Home) (cs : CommandList) → list_sites h cs ≤ list_nodes cs
+  list_sited h NoCommand = omega arith
+  list_sited h (AndCommand c cs) =
+      let r = command_sited h c in let s = list_sited h cs in omega (arith, r, s)
+
+mutual
+  state_sited : (es : List Entity) (s : StateTree) → state_sites es s ≤ state_nodes s
+  state_sited es (StateOf place name kind body children) =
+      let r = block_sited (home es kind children) body in let s = group_sited es children in omega (arith, r, s)
+
+  pub group_sited : (es : List Entity) (g : StateList) → group_sites es g ≤ states_nodes g
+  group_sited es NoState = omega arith
+  group_sited es (AndState s rest) = let r = state_sited es s in let q = group_sited es rest in omega (arith, r, q)
+
+-- What hangs where adds nothing.
+
+step_filled : (w : World) (at : Spot) (s : Step) → step_size (filled_step w at s) ≡ step_size s
+step_filled w at (Set site x e) = refl
+step_filled w at (program.Write site m i e) = refl
+step_filled w at (Retag site x n) = refl
+step_filled w at (RetagCell site m j n) = refl
+step_filled w at (Goto site target) = refl
+step_filled w at (Fall site hang) = refl
+
+mutual
+  command_filled : (w : World) (at : Spot) (c : Command) → command_size (filled w at c) ≡ command_size c
+  command_filled w at (Do s) = ap (λ (n : ℕ). 1 + n) (step_filled w at s)
+  command_filled w at (Try s hang h) = let r = step_filled w at s in let q = block_filled w at h in omega (arith, r, q)
+  command_filled w at (If hang e a b) = let r = block_filled w at a in let q = block_filled w at b in omega (arith, r, q)
+
+  block_filled : (w : World) (at : Spot) (b : Block) → block_size (filled_block w at b) ≡ block_size b
+  block_filled w at End = refl
+  block_filled w at (Then c cs) = let r = command_filled w at c in let q = block_filled w at cs in omega (arith, r, q)
+
+mutual
+  state_filled : (w : World) (p : ℕ) (s : State) → state_size (filled_state w p s) ≡ state_size s
+  state_filled w p (Node s b g) =
+      let r = block_filled w (record { state = s; parent = p; children = g }) b in let q = group_filled w s g in omega (arith, r, q)
+
+  pub group_filled : (w : World) (p : ℕ) (g : Group) → group_size (filled_group w p g) ≡ group_size g
+  group_filled w p program.None = refl
+  group_filled w p (More t g) = let r = state_filled w p t in let q = group_filled w p g in omega (arith, r, q)
+
+mutual
+  state_kept : (w : World) (p : ℕ) (s : State) → states_of (filled_state w p s) ≡ states_of s
+  state_kept w p (Node s b g) = ap (λ (n : ℕ). 1 + n) (group_kept w s g)
+
+  pub group_kept : (w : World) (p : ℕ) (g : Group) → states_below (filled_group w p g) ≡ states_below g
+  group_kept w p program.None = refl
+  group_kept w p (More t g) = let r = state_kept w p t in let q = group_kept w p g in omega (arith, r, q)
