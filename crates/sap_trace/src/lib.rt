@@ -14,4 +14,4 @@ pub mod trace;
 mod wires;
 
 pub use refusals::suppressed;
-pub use trace::{Trace, trace_of};
+pub use trace::{Trace, read_stimulus, trace_of};

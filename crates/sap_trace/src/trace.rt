@@ -27,7 +27,11 @@ pub struct Trace {
 }
 
 /// What the bytes of a stimulus are to a design.
-fn read(alloc: Global, checked: &Checked, stimulus: &[u8]) -> Result<Parsed, AllocError>
+pub fn read_stimulus(
+    alloc: Global,
+    checked: &Checked,
+    stimulus: &[u8],
+) -> Result<Parsed, AllocError>
     ensures { IfOk result (λ parsed. parsed ≡ read_for (levels_in checked.now) (tree_in checked.now) stimulus.now) }
 {
     let names = checked.names();
@@ -60,7 +64,7 @@ pub fn trace_of(
     netlist.rules();
     one_run(&netlist);
     stimulus_fits();
-    let parsed = read(alloc, checked, stimulus)?;
+    let parsed = read_stimulus(alloc, checked, stimulus)?;
     let mut runner = load(alloc, netlist)?;
     let wires = wires_of(alloc, &runner, checked.site_count())?;
     let text = lines(

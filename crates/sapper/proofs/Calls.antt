@@ -6,10 +6,10 @@ use Rattle.sap_desk.specs.Desk.{Told}
 use Rattle.sap_desk.specs.Cause.{Rose, counted}
 use Rattle.sap_desk.specs.Whole.{Between}
 use Rattle.sapper.specs.Words.{Words, command_of}
-use Rattle.sapper.specs.Ending.{Ending, Refusal, done, refused, failed, no_memory, no_command, lattice_refused, design_refused, stimulus_refused, module_refused, status_of, status_of_refusal, line_of, IsFree}
-use Rattle.sapper.specs.Asks.{Asks, file, gives, writes, stops, AreLawful, Cause, Files}
+use Rattle.sapper.specs.Ending.{Ending, Refusal, done, refused, failed, no_memory, no_command, lattice_refused, design_refused, stimulus_refused, module_refused, level_refused, lengths_apart, inputs_apart, status_of, status_of_refusal, line_of, IsFree}
+use Rattle.sapper.specs.Asks.{Asks, file, by, gives, writes, stops, AreLawful, Cause, Files}
 use Rattle.sapper.specs.Commands.{asks, asks_for, asks_if}
-use Rattle.sapper.specs.Answers.{Answers, Blames, Gained}
+use Rattle.sapper.specs.Answers.{Answers, Blames, Gained, MayAnswer}
 use Rattle.sapper.specs.Exact.{Exact}
 use Rattle.sapper.specs.Outside.{FullFile, FullLines, FullOutput, Outside, OutsideOf}
 use Rattle.sapper.specs.Steps.{Counted, Ends, FaultRose, Left, Moment, Reports, Same, Tells, ToldLine}
@@ -23,33 +23,11 @@ named words c e a b is ended = rw is ended
 
 -- statuses
 
-refusal_status : (why : Refusal) → (status_of_refusal why ≡ 6 → ⊥) × (status_of_refusal why ≡ 7 → ⊥)
-refusal_status no_command = ((λ e. omega (arith, e)), (λ e. omega (arith, e)))
-refusal_status (lattice_refused fault) = ((λ e. omega (arith, e)), (λ e. omega (arith, e)))
-refusal_status (design_refused fault) = ((λ e. omega (arith, e)), (λ e. omega (arith, e)))
-refusal_status (stimulus_refused place fault) = ((λ e. omega (arith, e)), (λ e. omega (arith, e)))
-refusal_status (module_refused fault) = ((λ e. omega (arith, e)), (λ e. omega (arith, e)))
-
 free_status : (e : Ending) → IsFree e → (status_of e ≡ 6) ⊎ (status_of e ≡ 7)
 free_status done free = absurd free
 free_status (refused why) free = absurd free
 free_status (failed name) free = inl refl
 free_status no_memory free = inr refl
-
-le_from : (a b : ℕ) → b ≡ a → a ≤ b
-le_from a b is = omega arith
-
-pub six_rose : (e : Ending) (old now : ℕ) → Counted old now e → status_of e ≡ 6 → Rose old now
-six_rose done old now h six = absurd (omega (arith, six))
-six_rose (refused why) old now h six = absurd ((refusal_status why).0 six)
-six_rose (failed name) old now h six = le_from (counted old) now h
-six_rose no_memory old now h six = absurd (omega (arith, six))
-
-pub not_six_stands : (e : Ending) (old now : ℕ) → Counted old now e → status_of e ≢ 6 → now ≡ old
-not_six_stands done old now h other = h
-not_six_stands (refused why) old now h other = h
-not_six_stands (failed name) old now h other = absurd (other refl)
-not_six_stands no_memory old now h other = h
 
 -- nothing is told
 
@@ -101,6 +79,7 @@ starved_end a why b c ended = record {
   faults = ended.faults;
   lost = ended.lost;
   sure = ended.sure;
+  may = inl tt;
 }
 
 -- an ending told as it is
@@ -119,6 +98,11 @@ told_end a e answer b c d ended r = elim r.is_it [
       let (is, (why, was)) = starved in
       subst (λ (f : Ending). Ends a f b c) (sym is) (starved_end a why b c (subst (λ (f : Ending). Ends a f b c) was ended))
 ]
+
+-- which answers there may be
+
+pub may_answer : (words : List (List ℕ)) (e : Ending) (answer : ℕ) (a b : Moment) → answer ≡ status_of e → Ends (asks_for words) e a b → MayAnswer words answer
+may_answer words e answer a b status ended = record { ending = e; status = status; may = ended.may }
 
 -- the line after what was on channel 2 before
 
@@ -139,6 +123,7 @@ full_output t m n output room full = λ open_now. ap length output ∙ full open
 outside_after : (a : Asks) (t m n : Told) → n.files ≡ m.files → n.written 1 ≡ m.written 1 → n.room ≡ m.room → OutsideOf a t m → OutsideOf a t n
 outside_after (file name k rest) t m n files output room (inl missing) = inl missing
 outside_after (file name k rest) t m n files output room (inr (v, has, h)) = inr (v, has, outside_after (rest v) t m n files output room h)
+outside_after (by V Holds rest) t m n files output room (v, holds, h) = (v, holds, outside_after (rest v) t m n files output room h)
 outside_after (gives text last) t m n files output room h = full_output t m n output room h
 outside_after (writes name text) t m n files output room h = full_file name t m n files room h
 outside_after (stops why) t m n files output room h = h
@@ -184,18 +169,6 @@ module _ (words : List (List ℕ)) (e : Ending) where
   outside a b c ended tells changed sure =
       outside_between (FaultRose a b) ((c.lost ≢ b.lost) × b.sure) b.lost c.lost a.told b.told c.told
       ((λ stands. changed (tells.faults ∙ stands)), sure) ended.told tells.told
-
-  lines_between : (F G : Type 0) (mid now : ℕ) (old one new : Option Told) → G → Between old one (Left (asks_for words) e F)
-      → Between one new (ToldLine (line_of e) mid now G) → Between old new FullLines
-  lines_between F G mid now None one new rose o w = tt
-  lines_between F G mid now (Some t) None new rose o w = absurd o
-  lines_between F G mid now (Some t) (Some m) None rose o w = absurd w
-  lines_between F G mid now (Some t) (Some m) (Some n) rose o w = λ open_for_lines. w.full rose (o.same.lines_use ∙ open_for_lines)
-
-  pub lines : (a b c : Moment) → Ends (asks_for words) e a b → Tells (line_of e) b c → (c.lost ≢ a.lost) → a.sure → Between a.told c.told FullLines
-  lines a b c ended tells changed sure =
-      lines_between (FaultRose a b) ((c.lost ≢ b.lost) × b.sure) b.lost c.lost a.told b.told c.told
-      ((λ stands. changed (stands ∙ ended.lost)), ended.sure sure) ended.told tells.told
 
   -- when each answer comes
 

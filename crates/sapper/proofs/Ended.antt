@@ -8,7 +8,7 @@ use Rattle.sap_desk.specs.Whole.{Between, FailedWriting, FillsFile}
 use Rattle.sap_maps.proofs.Scopes.{same_name}
 use Rattle.sapper.specs.Ending.{Ending, Refusal, done, refused, failed, no_memory, IsFree}
 use Rattle.sapper.specs.Kinds.{Kind, Has, IsRefused}
-use Rattle.sapper.specs.Asks.{Asks, file, gives, writes, stops, Cause, Files, IsCut, IsOutput, IsPrefix, Leaves, Output, Shows}
+use Rattle.sapper.specs.Asks.{Asks, file, by, gives, writes, stops, Cause, Files, IsCut, IsOutput, IsPrefix, Leaves, Output, Shows}
 use Rattle.sapper.specs.Outside.{FullFile}
 use Rattle.sapper.specs.Answers.{Blames}
 use Rattle.sapper.specs.Steps.{Counted, Ends, FaultRose, Left, Moment, NotRead, Quiet, Reads, Refuses, Same, Stops}
@@ -99,6 +99,49 @@ past {name = name} {bytes = bytes} {k = k} {rest = rest} {e = e} {a = a} {b = b}
   faults = counted_later {a = a} {b = b} e c.faults reads.quiet ended.faults;
   lost = ended.lost ∙ reads.quiet.lost;
   sure = λ sure. ended.sure (reads.quiet.sure sure);
+  may = elim ended.may [ inl free ↦ inl free | inr may ↦ inr (inr (bytes, v, stands, may)) ];
+}
+
+-- it goes on with what holds
+
+module _ (V : Type 0) (Holds : V → Type 0) (rest : V → Asks) (v : V) (t : Told) (holds : Holds v) where
+  cut_chosen : (gained : List ℕ) → IsCut (rest v) t gained → IsCut (by V Holds rest) t gained
+  cut_chosen gained (inl none) = inl none
+  cut_chosen gained (inr (text, (e, shows), prefix)) = inr (text, (e, (v, holds, shows)), prefix)
+
+  leaves_chosen : (e : Ending) (files : Files) → Leaves (rest v) t files e → Leaves (by V Holds rest) t files e
+  leaves_chosen done files h = (v, holds, h)
+  leaves_chosen (refused why) files h = h
+  leaves_chosen (failed blamed) files h = elim h [ inl same ↦ inl same | inr part ↦ inr (v, holds, part) ]
+  leaves_chosen no_memory files h = h
+
+  shows_chosen : (e : Ending) (gained : List ℕ) → Output (rest v) t gained e → Output (by V Holds rest) t gained e
+  shows_chosen done gained h = (v, holds, h)
+  shows_chosen (refused why) gained h = (v, holds, h)
+  shows_chosen (failed blamed) gained h = cut_chosen gained h
+  shows_chosen no_memory gained h = cut_chosen gained h
+
+  left_chosen : (e : Ending) (F : Type 0) (n : Told) → Left (rest v) e F t n → Left (by V Holds rest) e F t n
+  left_chosen e F n l = record {
+    leaves = leaves_chosen e n.files l.leaves;
+    gained = l.gained;
+    output = l.output;
+    shows = shows_chosen e l.gained l.shows;
+    blames = l.blames;
+    same = l.same;
+    cause = elim l.cause [ inl free ↦ inl free | inr cause ↦ inr (v, holds, cause) ];
+    outside = λ changed. (v, holds, l.outside changed);
+  }
+
+pub chosen : {V : Type 0} {Holds : V → Type 0} {rest : V → Asks} {e : Ending} {a b : Moment} (v : V) → Holds v → Ends (rest v) e a b → Ends (by V Holds rest) e a b
+chosen {V = V} {Holds = Holds} {rest = rest} {e = e} {a = a} {b = b} v holds ended = record {
+  told =
+      let F : Type 0 = FaultRose a b in
+      between_map (Left (rest v) e F) (Left (by V Holds rest) e F) a.told b.told (λ t n l. left_chosen V Holds rest v t holds e F n l) ended.told;
+  faults = ended.faults;
+  lost = ended.lost;
+  sure = ended.sure;
+  may = elim ended.may [ inl free ↦ inl free | inr may ↦ inr (v, holds, may) ];
 }
 
 -- the file could not be read
@@ -136,6 +179,7 @@ stopped {name = name} {k = k} {rest = rest} {e = e} {a = a} {b = b} s = record {
   faults = s.faults;
   lost = s.lost;
   sure = s.sure;
+  may = inl s.free;
 }
 
 -- want of memory, nothing being changed
@@ -160,6 +204,7 @@ starved a {before = before} {after = after} q = record {
   faults = q.faults;
   lost = q.lost;
   sure = q.sure;
+  may = inl tt;
 }
 
 -- a refusal behind all files, nothing being changed
@@ -184,7 +229,11 @@ stopped_here why {before = before} {after = after} q = record {
   faults = q.faults;
   lost = q.lost;
   sure = q.sure;
+  may = inr refl;
 }
+
+pub stopped_by : (why : Refusal) (e : Ending) {before after : Moment} → e ≡ refused why → Quiet before after → Ends (stops why) e before after
+stopped_by why e {before = before} {after = after} is q = subst (λ (f : Ending). Ends (stops why) f before after) (sym is) (stopped_here why q)
 
 -- the file is refused
 
@@ -213,6 +262,7 @@ refuses {name = name} {k = k} {rest = rest} {a = a} {b = b} bytes why reads is =
   faults = reads.quiet.faults;
   lost = reads.quiet.lost;
   sure = reads.quiet.sure;
+  may = inr (inl (bytes, why, refl, is));
 }
 
 -- the bytes of a file give no value
@@ -259,6 +309,7 @@ cut_off name text before after cut faults lost sure full = record {
   faults = faults;
   lost = lost;
   sure = sure;
+  may = inl tt;
 }
 
 -- the text, or the file, was written that is asked for
@@ -329,6 +380,7 @@ gave {P = P} {last = last} {e = e} {a = a} {b = b} text first holds same ended =
   faults = ended.faults;
   lost = ended.lost;
   sure = ended.sure;
+  may = elim ended.may [ inl free ↦ inl free | inr is ↦ inr (is ∙ same) ];
 }
 
 pub wrote : {name : List ℕ} {P : List ℕ → Type 0} {e : Ending} {a b : Moment} (text : List ℕ) → P text
@@ -341,4 +393,5 @@ wrote {name = name} {P = P} {e = e} {a = a} {b = b} text holds ended = record {
   faults = ended.faults;
   lost = ended.lost;
   sure = ended.sure;
+  may = ended.may;
 }

@@ -4,7 +4,7 @@ use Rattle.std.specs.Prelude.{Option, Some, None}
 use Rattle.sap_desk.specs.Desk.{Told}
 use Rattle.sapper.specs.Ending.{Ending, Refusal, status_of, status_of_refusal}
 use Rattle.sapper.specs.Kinds.{Kind, Has, IsRefused, IsLawful}
-use Rattle.sapper.specs.Asks.{Asks, file, gives, writes, stops, AreLawful, Cause, EndsAtFile, Shows}
+use Rattle.sapper.specs.Asks.{Asks, file, by, gives, writes, stops, AreLawful, Cause, EndsAtFile, Shows}
 
 pub same_Some : {A : Type 0} (o : Option A) (a b : A) → o ≡ Some a → o ≡ Some b → a ≡ b
 same_Some o a b p q = cc
@@ -35,6 +35,9 @@ one_cause (file name k rest) law t e f (inr (v, has, one)) (inl there) = absurd 
 one_cause (file name k rest) law t e f (inr (v, has, one)) (inr (w, had, other)) =
     let P : k.Value → Type 0 = λ x. Cause (rest x) t f in
     one_cause (rest v) (law.1 has.bytes v has.stands) t e f one (subst P (one_value k law.0 t name w v had has) other)
+one_cause (by V Holds rest) law t e f (v, holds, one) (w, held, other) =
+    let P : V → Type 0 = λ x. Cause (rest x) t f in
+    one_cause (rest v) (law.1 v holds) t e f one (subst P (law.0 w v held holds) other)
 one_cause (gives text last) law t e f one other = ap status_of (one ∙ sym other)
 one_cause (writes out text) law t e f one other = ap status_of (one ∙ sym other)
 one_cause (stops why) law t e f one other = ap status_of (one ∙ sym other)
@@ -46,6 +49,9 @@ one_text (file name k rest) law t e f x y (inr (v, has, one)) (inl (there, nothi
 one_text (file name k rest) law t e f x y (inr (v, has, one)) (inr (w, had, other)) =
     let P : k.Value → Type 0 = λ z. Shows (rest z) t f y in
     one_text (rest v) (law.1 has.bytes v has.stands) t e f x y one (subst P (one_value k law.0 t name w v had has) other)
+one_text (by V Holds rest) law t e f x y (v, holds, one) (w, held, other) =
+    let P : V → Type 0 = λ z. Shows (rest z) t f y in
+    one_text (rest v) (law.1 v holds) t e f x y one (subst P (law.0 w v held holds) other)
 one_text (gives text last) law t e f x y (is, one) (was, other) = law x y one other
 one_text (writes out text) law t e f x y (is, one) (was, other) = one ∙ sym other
 one_text (stops why) law t e f x y (is, one) (was, other) = one ∙ sym other

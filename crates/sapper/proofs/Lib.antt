@@ -11,6 +11,9 @@ pub mod NetsAlike
 pub mod TracesAlike
 pub mod ReportsAlike
 pub mod Lawful
-pub mod CommandLaws
 pub mod Ended
+pub mod CompiledDesigns
+pub mod Streams
+pub mod TwinEnds
+pub mod CommandLaws
 pub mod Calls

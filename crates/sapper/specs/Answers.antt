@@ -3,7 +3,7 @@ use Rattle.std.specs.Prelude.{◌≡◌, ◌⊎◌, ℕ, List, ◌++◌}
 use Rattle.sap_desk.specs.Desk.{Told}
 use Rattle.sap_desk.specs.Cause.{Rose}
 use Rattle.sapper.specs.Ending.{Ending, done, refused, failed, no_memory, status_of, line_of, IsFree}
-use Rattle.sapper.specs.Asks.{Cause, IsPrefix, Leaves, Output}
+use Rattle.sapper.specs.Asks.{Cause, IsPrefix, Leaves, MayEnd, Output}
 use Rattle.sapper.specs.Commands.{asks_for}
 
 -- a failed call blames its file, or the output
@@ -31,3 +31,9 @@ pub record Answers (words : List (List ℕ)) (lost lost_now answer : ℕ) (t n :
   pub blames : Blames n.blame ending
   -- but for a failed call and want of memory the words and files have the ending's cause
   pub cause : IsFree ending ⊎ Cause (asks_for words) t ending
+
+-- Over a desk that tells nothing as well: an answer but 6 and 7 is one that the words can come to.
+pub record MayAnswer (words : List (List ℕ)) (answer : ℕ) : Type 0 where
+  pub ending : Ending
+  pub status : answer ≡ status_of ending
+  pub may : IsFree ending ⊎ MayEnd (asks_for words) ending

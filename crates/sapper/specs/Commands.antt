@@ -1,20 +1,24 @@
 -- What each command asks.
-use Rattle.std.specs.Prelude.{◌≡◌, ℕ, List, Option, Some, None}
+use Rattle.std.specs.Prelude.{◌≡◌, ℕ, List, length, Option, Some, None}
 use Rattle.sap_desk.specs.Desk.{Told}
-use Rattle.sap_lattice.specs.Levels.{Levels}
+use Rattle.sap_lattice.specs.Levels.{Levels, order_of}
+use Rattle.sap_meaning.specs.Cycle.{Tagged}
 use Rattle.sap_tree.specs.Syntax.{DesignTree}
 use Rattle.sap_net.specs.Net.{Net}
+use Rattle.sap_stim.specs.Line.{level_named}
 use Rattle.sap_stim.specs.declared.fault.StimFault.{StimFault}
+use Rattle.sap_stream.specs.declared.apart.Apart.{Apart}
 use Rattle.sap_run.specs.RunOf.{IsRunOf, read_for as design_stimulus}
 use Rattle.sap_trace.specs.TraceOf.{IsTraceOf}
 use Rattle.sap_sim.specs.Simulated.{IsSimulated, read_for as module_stimulus}
 use Rattle.sap_show.specs.Canonical.{canonical_text}
 use Rattle.sap_report.specs.Report.{report_text}
 use Rattle.sap_compile.specs.Compiles.{IsModuleFor}
-use Rattle.sapper.specs.Words.{Words, compile, run, trace, fmt, sim, report, command_of}
-use Rattle.sapper.specs.Ending.{Ending, done, refused, no_command, stimulus_refused}
-use Rattle.sapper.specs.Kinds.{lattice_file, design_file, design_text_file, module_file, any_file}
-use Rattle.sapper.specs.Asks.{Asks, file, gives, writes, stops, IsOutput}
+use Rattle.sapper.specs.Words.{Words, compile, run, trace, fmt, sim, report, twin, command_of}
+use Rattle.sapper.specs.Ending.{Ending, done, refused, no_command, level_refused, stimulus_refused}
+use Rattle.sapper.specs.Kinds.{lattice_file, design_file, design_text_file, module_file, any_file, stream_file}
+use Rattle.sapper.specs.Twin.{IsAgreement, IsVerdict, difference}
+use Rattle.sapper.specs.Asks.{Asks, file, by, gives, writes, stops, IsOutput}
 
 -- the text is one of a module for the design
 abbrev pub IsModuleText : Levels → DesignTree → (text : List ℕ) → Type 0
@@ -37,6 +41,22 @@ abbrev pub end_of : Option StimFault → Ending
 end_of None = done
 end_of (Some fault) = refused (stimulus_refused 1 fault)
 
+-- what is asked behind a word that is to be a level: where it names none, it is refused
+abbrev pub at_level : (word : List ℕ) → (ℕ → Asks) → Option ℕ → Asks
+at_level word rest None = stops (level_refused word)
+at_level word rest (Some l) = rest l
+
+-- what is written of two streams of a design, by where they first don't agree at a level
+abbrev pub compared : Levels → DesignTree → (l : ℕ) → (word : List ℕ) → (one other : List (List Tagged)) → Option Apart → Asks
+compared ls d l word one other None = gives (IsAgreement ls d l one other word) done
+compared ls d l word one other (Some apart) = stops (difference d apart)
+
+-- two streams of a design compared at a level
+abbrev pub asks_streams : Levels → DesignTree → (first second word : List ℕ) → (l : ℕ) → Asks
+asks_streams ls d first second word l =
+    file first (stream_file 1 ls d) (λ one. file second (stream_file 2 ls d) (λ other.
+    by (Option Apart) (IsVerdict (order_of ls) l one other) (compared ls d l word one other)))
+
 abbrev pub asks : Words → Asks
 asks (compile lattice design out) =
     file lattice lattice_file (λ ls. file design (design_file ls) (λ d. writes out (IsModuleText ls d)))
@@ -53,6 +73,9 @@ asks (sim lattice verilog stimulus) =
     gives (AreModuleRows ls net bytes) (end_of (module_stimulus ls net bytes).fault))))
 asks (report lattice design) =
     file lattice lattice_file (λ ls. file design (design_file ls) (λ d. gives (λ text. text ≡ report_text ls d) done))
+asks (twin lattice design first second level) =
+    file lattice lattice_file (λ ls. by (Option ℕ) (λ named. named ≡ level_named ls.names level) (at_level level (λ l.
+    file design (design_file ls) (λ d. asks_streams ls d first second level l))))
 
 -- what words ask that may be no command
 abbrev pub asks_if : Option Words → Asks

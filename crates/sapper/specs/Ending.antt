@@ -29,6 +29,11 @@ pub data Refusal : Type 0 where
   -- the first stimulus of the words, or the second
   stimulus_refused : (place : ℕ) → StimFault → Refusal
   module_refused : ModFault → Refusal
+  -- the word is no level of the lattice
+  level_refused : (word : List ℕ) → Refusal
+  -- two streams have not as many cycles; or they first don't agree in this cycle, at this input
+  lengths_apart : (one other : ℕ) → Refusal
+  inputs_apart : (cycle : ℕ) (name : List ℕ) → Refusal
 
 pub data Ending : Type 0 where
   done : Ending
@@ -40,9 +45,12 @@ pub data Ending : Type 0 where
 abbrev pub status_of_refusal : Refusal → ℕ
 status_of_refusal (design_refused fault) = 1
 status_of_refusal no_command = 2
+status_of_refusal (level_refused word) = 2
 status_of_refusal (lattice_refused fault) = 3
 status_of_refusal (stimulus_refused place fault) = 4
 status_of_refusal (module_refused fault) = 5
+status_of_refusal (lengths_apart one other) = 8
+status_of_refusal (inputs_apart cycle name) = 8
 
 abbrev pub status_of : Ending → ℕ
 status_of done = 0
@@ -123,6 +131,9 @@ refusal_text (lattice_refused fault) = codes "lattice: " ++ lattice_text fault
 refusal_text (design_refused fault) = codes "design: " ++ design_text fault
 refusal_text (stimulus_refused place fault) = codes "stimulus " ++ decimal place ++ codes ": " ++ stimulus_text fault
 refusal_text (module_refused fault) = codes "module: " ++ module_text fault
+refusal_text (level_refused word) = codes "level " ++ word
+refusal_text (lengths_apart one other) = codes "streams: lengths " ++ decimal one ++ codes " and " ++ decimal other
+refusal_text (inputs_apart cycle name) = codes "streams: cycle " ++ decimal cycle ++ codes " input " ++ name
 
 -- nothing where the call is done
 abbrev pub line_of : Ending → List ℕ

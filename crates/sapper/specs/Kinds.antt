@@ -1,5 +1,5 @@
 -- The kinds of files that commands read.
-use Rattle.std.specs.Prelude.{◌≡◌, ◌≢◌, ℕ, Bool, List, length, map, Some}
+use Rattle.std.specs.Prelude.{◌≡◌, ◌≢◌, ℕ, Bool, List, length, map, Some, None}
 use Rattle.sap_desk.specs.Desk.{Told}
 use Rattle.sap_lattice.specs.Levels.{Levels, numbers, order_of}
 use Rattle.sap_latfile.specs.LatticeFile.{IsLatticeOfFile, FirstFault}
@@ -9,6 +9,9 @@ use Rattle.sap_tree.specs.Syntax.{DesignTree}
 use Rattle.sap_parse.specs.Text.{IsText, IsReadFault}
 use Rattle.sap_parse.specs.declared.fault.ReadFault.{ReadFault}
 use Rattle.sap_shape.specs.WellFormed.{WellFormed}
+use Rattle.sap_meaning.specs.Cycle.{Tagged}
+use Rattle.sap_stim.specs.declared.fault.StimFault.{StimFault}
+use Rattle.sap_run.specs.RunOf.{read_for}
 use Rattle.sap_net.specs.Net.{Net}
 use Rattle.sap_modtext.specs.Modules.{IsModule}
 use Rattle.sap_vread.specs.ModuleFault.{IsModuleFault}
@@ -17,7 +20,7 @@ use Rattle.sap_vread.specs.declared.fault.ModFault.TheVariants as module_fault
 use Rattle.sapper.specs.DesignFaults.{IsDesignFault}
 use Rattle.sapper.specs.declared.fault.DesignFault.{DesignFault}
 use Rattle.sapper.specs.declared.fault.DesignFault.TheVariants as design_fault
-use Rattle.sapper.specs.Ending.{Refusal, lattice_refused, design_refused, module_refused, status_of_refusal}
+use Rattle.sapper.specs.Ending.{Refusal, lattice_refused, design_refused, stimulus_refused, module_refused, status_of_refusal}
 
 -- What a file is read as; when its bytes stand for a value; and when they are refused, and why.
 pub record Kind : Type 1 where
@@ -94,4 +97,12 @@ any_file = record {
   Value = List ℕ;
   Stands = λ bytes kept. kept ≡ bytes;
   Refused = λ bytes why. ⊥;
+}
+
+-- stimulus files of a design whose every line is taken, the first or the second of the words
+abbrev pub stream_file : (place : ℕ) → Levels → DesignTree → Kind
+stream_file place ls d = record {
+  Value = List (List Tagged);
+  Stands = λ bytes stream. read_for ls d bytes ≡ record { stream = stream; fault = None };
+  Refused = λ bytes why. (fault : StimFault) × (why ≡ stimulus_refused place fault) × ((read_for ls d bytes).fault ≡ Some fault);
 }

@@ -2,6 +2,7 @@ pub mod Words
 pub mod DesignFaults
 pub mod Ending
 pub mod Kinds
+pub mod Twin
 pub mod Asks
 pub mod Commands
 pub mod Answers

@@ -1,9 +1,15 @@
 -- What the steps of a command leave: the words of contracts within the crate.
-use Rattle.std.specs.Prelude.{◌≡◌, ◌≢◌, ◌⊎◌, ◌++◌, ℕ, List, length, Option, Some, Result, Ok, Err, IfSome}
+use Rattle.std.specs.Prelude.{◌≡◌, ◌≢◌, ◌⊎◌, ◌++◌, ℕ, List, length, Option, Some, None, Result, Ok, Err, IfSome}
 use Rattle.sap_desk.specs.Desk.{Told}
 use Rattle.sap_desk.specs.Cause.{counted}
 use Rattle.sap_desk.specs.Whole.{Between, MissingOrLong}
 use Rattle.sap_lattice.specs.Levels.{Levels, order_of}
+use Rattle.sap_meaning.specs.Agree.{StreamsAgree}
+use Rattle.sap_meaning.specs.Cycle.{Tagged}
+use Rattle.sap_tree.specs.Syntax.{DesignTree}
+use Rattle.sap_stim.specs.Line.{level_named}
+use Rattle.sap_stream.specs.Apart.{IsApart}
+use Rattle.sap_stream.specs.declared.apart.Apart.{Apart}
 use Rattle.sap_latfile.specs.LatticeFile.{IsLatticeOfFile}
 use Rattle.sap_latfile.specs.declared.fault.LatFileFault.{LatFileFault}
 use Rattle.sap_latfile.specs.declared.fault.LatFileFault.TheVariants as lattice_fault
@@ -22,18 +28,19 @@ use Rattle.sap_compile.specs.declared.fault.CompileFault.TheVariants as compile_
 use Rattle.sap_vread.specs.declared.fault.ModFault.{ModFault}
 use Rattle.sap_vread.specs.declared.fault.ModFault.TheVariants as module_fault
 use Rattle.sapper.specs.declared.fault.DesignFault.TheVariants as design_fault
-use Rattle.sapper.specs.Words.{Words, compile, run, trace, fmt, sim, report}
-use Rattle.sapper.specs.Ending.{Ending, Refusal as Reason, done, refused, failed, no_memory, lattice_refused, design_refused, stimulus_refused, module_refused, status_of, line_of, IsFree}
+use Rattle.sapper.specs.Words.{Words, compile, run, trace, fmt, sim, report, twin}
+use Rattle.sapper.specs.Ending.{Ending, Refusal as Reason, done, refused, failed, no_memory, lattice_refused, design_refused, stimulus_refused, module_refused, level_refused, lengths_apart, inputs_apart, status_of, line_of, IsFree}
 use Rattle.sapper.specs.Kinds.{Kind, IsLatticeFile, IsWellFormedText, design_file, table_by}
-use Rattle.sapper.specs.Asks.{Asks, Cause, Leaves, Output}
+use Rattle.sapper.specs.Twin.{agreement_line, difference}
+use Rattle.sapper.specs.Asks.{Asks, Cause, Leaves, MayEnd, Output}
 use Rattle.sapper.specs.Answers.{Blames, Gained}
 use Rattle.sapper.specs.Outside.{FullLines, OutsideOf}
 use Rattle.sapper.specs.declared.command.Command.{Command}
-use Rattle.sapper.specs.declared.command.Command.TheVariants.{Compile, Run, Trace, Fmt, Sim, Report}
+use Rattle.sapper.specs.declared.command.Command.TheVariants.{Compile, Run, Trace, Fmt, Sim, Report, Twin}
 use Rattle.sapper.specs.declared.failure.Failure.{Failure}
 use Rattle.sapper.specs.declared.failure.Failure.TheVariants.{Refused, Desk, Memory}
 use Rattle.sapper.specs.declared.refusal.Refusal.{Refusal}
-use Rattle.sapper.specs.declared.refusal.Refusal.TheVariants.{Lattice, Design, Stimulus, Module}
+use Rattle.sapper.specs.declared.refusal.Refusal.TheVariants.{Lattice, Design, Stimulus, Module, Level, Lengths, Input}
 
 abbrev pub words_of : Command → Words
 words_of (Compile lattice design out) = compile lattice.now design.now out.now
@@ -42,12 +49,16 @@ words_of (Trace lattice design stimulus) = trace lattice.now design.now stimulus
 words_of (Fmt design) = fmt design.now
 words_of (Sim lattice verilog stimulus) = sim lattice.now verilog.now stimulus.now
 words_of (Report lattice design) = report lattice.now design.now
+words_of (Twin lattice design first second level) = twin lattice.now design.now first.now second.now level.now
 
 abbrev pub reason : Refusal → Reason
 reason (Lattice fault) = lattice_refused fault
 reason (Design fault) = design_refused fault
 reason (Stimulus place fault) = stimulus_refused place fault
 reason (Module fault) = module_refused fault
+reason (Level word) = level_refused word.now
+reason (Lengths one other) = lengths_apart one other
+reason (Input cycle name) = inputs_apart cycle name
 
 -- why the bytes of a lattice file, of two files compiled together, of a design file and of a module file end a command
 
@@ -137,6 +148,7 @@ pub record Ends (a : Asks) (e : Ending) (before after : Moment) : Type 0 where
   pub faults : Counted before.faults after.faults e
   pub lost : after.lost ≡ before.lost
   pub sure : before.sure → after.sure
+  pub may : IsFree e ⊎ MayEnd a e
 
 -- Files
 
@@ -193,6 +205,22 @@ Compiles lattice source (Err e) = (ls : Levels) → IsLatticeFile lattice ls →
 abbrev pub IsChecked : Levels → (source : List ℕ) → Result Checked Failure → Type 0
 IsChecked ls source (Ok c) = IsWellFormedText ls source (tree_in c) × (levels_in c ≡ ls)
 IsChecked ls source (Err e) = Refuses (design_file ls) source (ending e)
+
+-- Two streams
+
+-- the level of a name; or it names none, and is refused
+abbrev pub IsLevelOf : Levels → (word : List ℕ) → Result ℕ Failure → Type 0
+IsLevelOf ls word (Ok l) = Some l ≡ level_named ls.names word
+IsLevelOf ls word (Err e) = (None ≡ level_named ls.names word) × (ending e ≡ refused (level_refused word))
+
+-- streams that don't agree are refused so, or there was no memory for it
+abbrev pub Differ : DesignTree → Apart → Failure → Type 0
+Differ d apart e = (ending e ≡ no_memory) ⊎ (ending e ≡ refused (difference d apart))
+
+-- what comparing two streams at a level gives: the line of streams that agree, or where they first don't
+abbrev pub Finds : Levels → DesignTree → (l : ℕ) → (one other : List (List Tagged)) → (word : List ℕ) → Result (List ℕ) Failure → Type 0
+Finds ls d l one other word (Ok text) = StreamsAgree (order_of ls) l one other × (text ≡ agreement_line word (length one))
+Finds ls d l one other word (Err e) = (ending e ≡ no_memory) ⊎ ((apart : Apart) × IsApart (order_of ls) l one other apart × Differ d apart e)
 
 -- Lines
 

@@ -1,17 +1,18 @@
 //! The top call.
 
-ghost use Rattle.std.specs.Prelude.{◌≡◌, ◌≢◌, ◌↔◌, ◌++◌, None, map, string_bytes, IfSome};
+ghost use Rattle.std.specs.Prelude.{◌≡◌, ◌≢◌, ◌⊎◌, ◌++◌, None, map, string_bytes, IfSome};
 ghost use Rattle.sap_desk.specs.Cause.{Rose};
 ghost use Rattle.sap_desk.specs.Whole.{Between};
-ghost use Rattle.sapper.specs.Answers.{Answers};
+ghost use Rattle.sapper.specs.Answers.{Answers, MayAnswer};
 ghost use Rattle.sapper.specs.Commands.{asks};
 ghost use Rattle.sapper.specs.Ending.{line};
 ghost use Rattle.sapper.specs.Exact.{Exact};
 ghost use Rattle.sapper.specs.Outside.{Outside, FullLines};
 ghost use Rattle.sapper.specs.Steps.{Ends, Reports, Tells, ending, ending_of, seen, words_of};
-ghost use Rattle.sapper.specs.Words.{command_of as words_for};
+ghost use Rattle.sapper.specs.Words.{IsTwin, command_of as words_for};
 
 use crate::command::{Command, command_of};
+use crate::comparing::twin;
 use crate::compiling::compile;
 use crate::failure::Failure;
 use crate::reporting::report_design;
@@ -53,6 +54,13 @@ fn perform<'a, D: Desk>(
             stimulus,
         } => simulate(alloc, desk, lattice, verilog, stimulus),
         Command::Report { lattice, design } => report_design(alloc, desk, lattice, design),
+        Command::Twin {
+            lattice,
+            design,
+            first,
+            second,
+            level,
+        } => twin(alloc, desk, lattice, design, first, second, level),
     }
 }
 
@@ -98,7 +106,9 @@ pub fn sapper<D: Desk>(alloc: Global, words: &[String], desk: &mut D) -> u8
     // Over every desk.
     ensures failed { result ≡ 6 → Rose (D.faults desk.old) (D.faults desk.new) }
     ensures counted { (result ≢ 6) → D.faults desk.new ≡ D.faults desk.old }
-    ensures refused { result ≡ 2 ↔ (words_for (map string_bytes words.now) ≡ None) }
+    ensures refused { words_for (map string_bytes words.now) ≡ None → result ≡ 2 }
+    ensures may { MayAnswer (map string_bytes words.now) result }
+    ensures words { result ≡ 2 → (words_for (map string_bytes words.now) ≡ None) ⊎ IsTwin (words_for (map string_bytes words.now)) }
     ensures sure { D.sure desk.old → D.sure desk.new }
 {
     match command_of(words) {

@@ -1,10 +1,10 @@
 //! The words of a command line as a command.
 
 ghost use Rattle.std.specs.Prelude.{◌≡◌, map, string_bytes, option_map};
-ghost use Rattle.sapper.specs.Words.{is_operand, command_of as words_for, one_operand, two_operands, three_operands};
+ghost use Rattle.sapper.specs.Words.{is_operand, command_of as words_for, one_operand, two_operands, three_operands, five_operands};
 ghost use Rattle.sapper.specs.Steps.{words_of};
 
-/// A command with its operands, the names of files.
+/// A command with its operands, the names of files and of a level.
 #[derive(Clone, Copy, Debug)]
 pub enum Command<'a> {
     Compile {
@@ -33,6 +33,13 @@ pub enum Command<'a> {
     Report {
         lattice: &'a str,
         design: &'a str,
+    },
+    Twin {
+        lattice: &'a str,
+        design: &'a str,
+        first: &'a str,
+        second: &'a str,
+        level: &'a str,
     },
 }
 
@@ -97,6 +104,29 @@ fn three_operands<'a>(word: &str, a: &'a str, b: &'a str, c: &'a str) -> Option<
     }
 }
 
+fn five_operands<'a>(
+    word: &str,
+    a: &'a str,
+    b: &'a str,
+    c: &'a str,
+    d: &'a str,
+    e: &'a str,
+) -> Option<Command<'a>>
+    ensures { option_map words_of result ≡ five_operands word.now a.now b.now c.now d.now e.now }
+{
+    if word == "twin" {
+        Some(Command::Twin {
+            lattice: a,
+            design: b,
+            first: c,
+            second: d,
+            level: e,
+        })
+    } else {
+        None
+    }
+}
+
 /// The command that the words are, if they are one.
 pub fn command_of<'a>(list: &'a [String]) -> Option<Command<'a>>
     ensures { option_map words_of result ≡ words_for (map string_bytes list.now) }
@@ -119,6 +149,13 @@ pub fn command_of<'a>(list: &'a [String]) -> Option<Command<'a>>
         [word, a, b, c] => {
             if is_operand(a) && is_operand(b) && is_operand(c) {
                 three_operands(word, a, b, c)
+            } else {
+                None
+            }
+        }
+        [word, a, b, c, d, e] => {
+            if is_operand(a) && is_operand(b) && is_operand(c) && is_operand(d) && is_operand(e) {
+                five_operands(word, a, b, c, d, e)
             } else {
                 None
             }

@@ -6,7 +6,7 @@ use std::alloc::AllocError;
 /// Why a command ends without its result.
 #[derive(Debug, Drop)]
 pub enum Failure<'a> {
-    Refused(Refusal),
+    Refused(Refusal<'a>),
     /// A call failed on the file of this name, or on the output.
     Desk(&'a str),
     Memory,

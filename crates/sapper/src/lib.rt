@@ -3,6 +3,7 @@
 
 mod call;
 mod command;
+mod comparing;
 mod compiling;
 mod failure;
 pub mod fault;

@@ -168,8 +168,8 @@ fn module(out: &mut Vec<u8>, alloc: Global, fault: &ModFault) -> Result<(), Allo
     }
 }
 
-/// What a refused file is told by.
-pub fn refusal_text(alloc: Global, why: &Refusal) -> Result<Vec<u8>, AllocError>
+/// What a refusal is told by.
+pub fn refusal_text(alloc: Global, why: &Refusal<'_>) -> Result<Vec<u8>, AllocError>
     ensures { IfOk result (λ text. text.items ≡ texts.refusal_text (reason why.now)) }
 {
     let mut out = Vec::new(alloc);
@@ -191,6 +191,22 @@ pub fn refusal_text(alloc: Global, why: &Refusal) -> Result<Vec<u8>, AllocError>
         Refusal::Module(fault) => {
             out.extend_from_slice(b"module: ")?;
             module(&mut out, alloc, fault)?;
+        }
+        Refusal::Level(word) => {
+            out.extend_from_slice(b"level ")?;
+            out.extend_from_slice(word.as_bytes())?;
+        }
+        Refusal::Lengths(one, other) => {
+            out.extend_from_slice(b"streams: lengths ")?;
+            number(&mut out, alloc, *one)?;
+            out.extend_from_slice(b" and ")?;
+            number(&mut out, alloc, *other)?;
+        }
+        Refusal::Input(cycle, name) => {
+            out.extend_from_slice(b"streams: cycle ")?;
+            number(&mut out, alloc, *cycle)?;
+            out.extend_from_slice(b" input ")?;
+            out.extend_from_slice(name.as_slice())?;
         }
     }
     Ok(out)

@@ -2,8 +2,8 @@ use Rattle.std.proofs.Common.{rules, refl}
 use Rattle.std.specs.Prelude.{map, string_bytes}
 use Rattle.sapper.specs.Ending.{done, no_command, refused}
 use Rattle.sapper.specs.Steps.{ending, seen, words_of}
-use Rattle.sapper.proofs.Calls.{answers, exact, named, no_words, outside, silent, told_end}
-use Rattle.sapper.proofs.CommandLaws.{lawful_words}
+use Rattle.sapper.proofs.Calls.{answers, exact, may_answer, named, no_words, outside, silent, told_end}
+use Rattle.sapper.proofs.CommandLaws.{lawful_words, two_words}
 use Rattle.sapper.proofs.call.sapper.Goals as goal
 
 pub returns-in-Ok-clause-answers : goal.returns-in-Ok-clause-answers
@@ -45,4 +45,25 @@ pub returns-in-None-clause-exact : goal.returns-in-None-clause-exact
 returns-in-None-clause-exact g c =
     let before = seen g.D.Desk.told g.D.Desk.faults g.D.Desk.lost g.D.Desk.sure c.args.desk.now in
     exact (map string_bytes c.args.words.now) (refused no_command) (lawful_words (map string_bytes c.args.words.now)) 2 before before refl
+    (no_words (map string_bytes c.args.words.now) before (search rules))
+
+pub returns-in-Ok-clause-may : goal.returns-in-Ok-clause-may
+returns-in-Ok-clause-may g c =
+    may_answer (map string_bytes c.args.words.now) done 0 _ _ refl
+    (named (map string_bytes c.args.words.now) (words_of c.in-Some.command) done _ _ (search rules) c.in-Ok.ensures)
+
+pub returns-in-Err-clause-may : goal.returns-in-Err-clause-may
+returns-in-Err-clause-may g c =
+    let words = map string_bytes c.args.words.now in
+    let ended = named words (words_of c.in-Some.command) (ending c.in-Err.failure) _ _ (search rules) c.in-Err.ensures in
+    let told = c.report.ensures in
+    may_answer words told.as_told c.report.result _ _ told.status (told_end _ (ending c.in-Err.failure) c.report.result _ _ _ ended told)
+
+pub returns-in-Err-clause-words : goal.returns-in-Err-clause-words
+returns-in-Err-clause-words g c = two_words (map string_bytes c.args.words.now) c.report.result (returns-in-Err-clause-may g c)
+
+pub returns-in-None-clause-may : goal.returns-in-None-clause-may
+returns-in-None-clause-may g c =
+    let before = seen g.D.Desk.told g.D.Desk.faults g.D.Desk.lost g.D.Desk.sure c.args.desk.now in
+    may_answer (map string_bytes c.args.words.now) (refused no_command) 2 before before refl
     (no_words (map string_bytes c.args.words.now) before (search rules))

@@ -2,7 +2,8 @@ use Rattle.std.proofs.Common.{refl, ap}
 use Rattle.std.proofs.lemmas.Result.{err_from_is_err_and}
 use Rattle.sap_compile.specs.Parts.{design_of, levels_of, module_of, netlist_of}
 use Rattle.sapper.specs.Steps.{ending, whole}
-use Rattle.sapper.proofs.Designs.{compiled_same, compiled_stands}
+use Rattle.sapper.proofs.Designs.{compiled_same}
+use Rattle.sapper.proofs.CompiledDesigns.{compiled_past}
 use Rattle.sapper.proofs.Ended.{not_given, past, stopped, wrote}
 use Rattle.sapper.proofs.ModulesAlike.{module_in}
 use Rattle.sapper.proofs.compiling.compile.Goals as goal
@@ -34,7 +35,6 @@ returns g c =
     let ls = whole c.in_ok-_levels._levels in
     let same = compiled_same c.in_ok-bytes.bytes c.in_ok-source.source m ls c.in_ok-compiled.ensures c.in_ok-_levels.ensures in
     past (whole c.in_ok-_levels._levels) c.in_ok-bytes.ensures c.in_ok-_levels.ensures
-    (past (design_of c.in_ok-compiled.compiled) c.in_ok-source.ensures
-    (compiled_stands c.in_ok-bytes.bytes c.in_ok-source.source c.in_ok-compiled.compiled (whole c.in_ok-_levels._levels) c.in_ok-compiled.ensures c.in_ok-_levels.ensures)
+    (compiled_past c.in_ok-_levels.ensures c.in_ok-source.ensures c.in_ok-compiled.ensures
     (wrote c.module.result.now
     (netlist_of m, module_in (levels_of m) ls same (design_of m) (netlist_of m) c.module.result.now (rw c.module.ensures c.in_ok-compiled.ensures.is_module)) c.write.ensures))

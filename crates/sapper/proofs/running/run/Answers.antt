@@ -2,8 +2,9 @@ use Rattle.std.proofs.Common.{refl, ap}
 use Rattle.std.proofs.lemmas.Result.{err_from_is_err_and}
 use Rattle.sap_compile.specs.Parts.{design_of, levels_of, module_of, netlist_of}
 use Rattle.sapper.specs.Steps.{ending, whole}
-use Rattle.sapper.proofs.Designs.{compiled_same, compiled_stands}
+use Rattle.sapper.proofs.Designs.{compiled_same}
 use Rattle.sapper.specs.Commands.{end_of}
+use Rattle.sapper.proofs.CompiledDesigns.{compiled_past}
 use Rattle.sapper.proofs.Ended.{gave, not_given, past, quiet_self, starved, stopped}
 use Rattle.sapper.proofs.Alike.{run_in}
 use Rattle.sapper.proofs.running.run.Goals as goal
@@ -33,16 +34,14 @@ pub returns-in_err-lines : goal.returns-in_err-lines
 returns-in_err-lines g c =
     let p = err_from_is_err_and c.from_residual-in_err-lines.result c.from_residual-in_err-lines.ensures.1 in
     rw (p.1, p.2) (past (whole c.in_ok-_levels._levels) c.in_ok-bytes.ensures c.in_ok-_levels.ensures
-    (past (design_of c.in_ok-compiled.compiled) c.in_ok-source.ensures
-    (compiled_stands c.in_ok-bytes.bytes c.in_ok-source.source c.in_ok-compiled.compiled (whole c.in_ok-_levels._levels) c.in_ok-compiled.ensures c.in_ok-_levels.ensures)
+    (compiled_past c.in_ok-_levels.ensures c.in_ok-source.ensures c.in_ok-compiled.ensures
     (stopped c.in_err-lines.ensures)))
 
 pub returns-in_err-rows : goal.returns-in_err-rows
 returns-in_err-rows g c =
     let p = err_from_is_err_and c.from_residual-in_err-rows.result c.from_residual-in_err-rows.ensures.1 in
     rw (p.1, p.2) (past (whole c.in_ok-_levels._levels) c.in_ok-bytes.ensures c.in_ok-_levels.ensures
-    (past (design_of c.in_ok-compiled.compiled) c.in_ok-source.ensures
-    (compiled_stands c.in_ok-bytes.bytes c.in_ok-source.source c.in_ok-compiled.compiled (whole c.in_ok-_levels._levels) c.in_ok-compiled.ensures c.in_ok-_levels.ensures)
+    (compiled_past c.in_ok-_levels.ensures c.in_ok-source.ensures c.in_ok-compiled.ensures
     (past c.in_ok-lines.lines c.in_ok-lines.ensures refl (starved _ (quiet_self _)))))
 
 pub returns : goal.returns
@@ -52,7 +51,6 @@ returns g c =
     let same = compiled_same c.in_ok-bytes.bytes c.in_ok-source.source m ls c.in_ok-compiled.ensures c.in_ok-_levels.ensures in
     let is = run_in (levels_of m) ls same (design_of m) c.in_ok-lines.lines c.in_ok-rows.rows c.in_ok-rows.ensures in
     past (whole c.in_ok-_levels._levels) c.in_ok-bytes.ensures c.in_ok-_levels.ensures
-    (past (design_of c.in_ok-compiled.compiled) c.in_ok-source.ensures
-    (compiled_stands c.in_ok-bytes.bytes c.in_ok-source.source c.in_ok-compiled.compiled (whole c.in_ok-_levels._levels) c.in_ok-compiled.ensures c.in_ok-_levels.ensures)
+    (compiled_past c.in_ok-_levels.ensures c.in_ok-source.ensures c.in_ok-compiled.ensures
     (past c.in_ok-lines.lines c.in_ok-lines.ensures refl
     (gave c.in_ok-rows.rows.text (end_of c.in_ok-rows.rows.fault) (c.in_ok-rows.rows.fault, is) (ap end_of is.fault) c.put.ensures)))

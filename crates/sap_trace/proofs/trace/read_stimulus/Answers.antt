@@ -13,7 +13,7 @@ use Rattle.sap_run.specs.Fields.{design_fields}
 use Rattle.sap_run.specs.RunOf.{read_for}
 use Rattle.sap_trace.specs.Fields.{fields_among}
 use Rattle.sap_trace.proofs.FieldLists.{all_sized, fields_are}
-use Rattle.sap_trace.proofs.trace.read.Goals as goal
+use Rattle.sap_trace.proofs.trace.read_stimulus.Goals as goal
 
 pub parse_stream-requires : goal.parse_stream-requires
 parse_stream-requires c = record {
