@@ -13,3 +13,5 @@ mod lattices;
 mod rows;
 #[cfg(test)]
 mod shapes;
+#[cfg(test)]
+mod streams;
