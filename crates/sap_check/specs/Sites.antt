@@ -1,4 +1,5 @@
--- The check sites of a design, in the order of their first tokens.
+-- The check sites of a design, in the order of their first tokens. This walk serves the check, the report and the trace; what numbers the commands of a
+-- design's program counts them, in `sap_resolve`, `Sites`. The law `sites_agree` of sap_sites says that site k is the same command in both.
 use Rattle.std.specs.Prelude.{ℕ, List, [], ◌∷◌, ◌++◌, if◌then◌else◌, unwrap_or}
 use Rattle.sap_tree.specs.declared.place.Place.{Place}
 use Rattle.sap_tree.specs.declared.syntax.Kind.{Kind}

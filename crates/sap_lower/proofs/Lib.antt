@@ -28,3 +28,4 @@ pub mod Final
 pub mod Made
 pub mod Sharing
 pub mod Small
+pub mod Copied

@@ -9,6 +9,8 @@ use Rattle.sap_net.specs.Runs.{IsRun, AllFit, observed}
 use Rattle.sap_net.specs.declared.parts.PortKind.TheVariants as kind
 use Rattle.sap_net.specs.declared.parts.Port.{Port}
 use Rattle.sap_net.specs.declared.parts.Input.{Input}
+use Rattle.sap_net.specs.declared.parts.Operand.{Operand}
+use Rattle.sap_net.specs.declared.parts.Right.TheVariants.{Copy}
 use Rattle.sap_net.specs.declared.parts.Wire.{Wire}
 use Rattle.sap_ir.specs.declared.guarded.Var.{Var}
 use Rattle.sap_ir.specs.Source.{Source}
@@ -83,3 +85,7 @@ helping s ws = filter (λ w. not (is_among w.name (variable_names s.wires))) ws
 -- No two helping wires have the same width and the same right side.
 abbrev pub SharesWires : Source → Net → Type 0
 SharesWires s n = AllDiffer (helping s n.wires)
+
+-- Each wire that is a port is a copy.
+abbrev pub CopiesPorts : Net → Type 0
+CopiesPorts n = AllByRecursion (λ w. is_among w.name (map (λ p. p.name) n.ports) ≡ true → (a : Operand) × (w.right ≡ Copy a)) n.wires

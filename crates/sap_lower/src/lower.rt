@@ -9,7 +9,7 @@ ghost use Rattle.sap_size.specs.Items.{items};
 ghost use Rattle.sap_lower.specs.Index.{Indexes};
 ghost use Rattle.sap_lower.specs.Lowered.{net_declared};
 ghost use Rattle.sap_lower.specs.Places.{names_of};
-ghost use Rattle.sap_lower.specs.Same.{Declares, RunsAlike, SharesWires};
+ghost use Rattle.sap_lower.specs.Same.{CopiesPorts, Declares, RunsAlike, SharesWires};
 
 use crate::commands::lower_commands;
 use crate::parts::{Part, WritePort};
@@ -86,6 +86,7 @@ pub fn lower(alloc: Global, source: &Guarded) -> Result<Netlist, AllocError>
     ensures declares { IfOk result (λ n. Declares (source_of source.now) n) }
     ensures same { IfOk result (λ n. RunsAlike (source_of source.now) n) }
     ensures shared { IfOk result (λ n. SharesWires (source_of source.now) n) }
+    ensures copies { IfOk result (λ n. CopiesPorts n) }
     ensures small { IfOk result (λ n. items n ≤ source_weight (source_of source.now)) }
 {
     source.rules();

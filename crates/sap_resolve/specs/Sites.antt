@@ -1,4 +1,5 @@
--- How many check sites a part of a design has. They are numbered in the order of the text.
+-- How many check sites a part of a design has. They are numbered in the order of the text. The sites as a list stand in `sap_check`, `Sites`; the law
+-- `sites_agree` of sap_sites says that site k is the same command in both.
 use Rattle.std.specs.Prelude.{ℕ, ◌+◌, List, if◌then◌else◌}
 use Rattle.sap_tree.specs.declared.syntax.Kind.{Kind}
 use Rattle.sap_tree.specs.Syntax.{SimpleCommand, Command, Do, Try, If, CommandBlock, Commands, ElseBlock, NoElse, Else, CommandList, NoCommand, AndCommand, StateTree, StateOf, StateList, NoState, AndState}

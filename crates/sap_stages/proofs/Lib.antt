@@ -4,3 +4,4 @@ pub mod Joined
 pub mod Declared
 pub mod Helping
 pub mod Alike
+pub mod Small

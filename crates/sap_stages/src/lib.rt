@@ -1,9 +1,11 @@
 //! The last passes joined: from nested states to a netlist.
 #![tactic(auto)]
 
-ghost use Rattle.std.specs.Prelude.{IfOk};
+ghost use Rattle.std.specs.Prelude.{◌≤◌, IfOk};
 ghost use Rattle.sap_plain.specs.Program.{nested_of};
 ghost use Rattle.sap_plain.specs.Writes.{PlainWritesOnce};
+ghost use Rattle.sap_size.specs.Items.{items};
+ghost use Rattle.sap_size.specs.Nested.{nested_weight};
 ghost use Rattle.sap_trim.specs.Reads.{ReadsWires};
 ghost use Rattle.sap_trim.specs.Trimmed.{SharesWires};
 ghost use Rattle.sap_stages.specs.Stages.{StandsForTheSame};
@@ -22,6 +24,7 @@ pub fn netlist(alloc: Global, program: &Plain) -> Result<Netlist, AllocError>
     ensures stands { IfOk result (λ n. StandsForTheSame (nested_of program.now) n) }
     ensures shared { IfOk result (λ n. SharesWires n) }
     ensures read { IfOk result (λ n. ReadsWires n) }
+    ensures small { IfOk result (λ n. items n ≤ nested_weight (nested_of program.now)) }
 {
     program.rules();
     let source = flatten(alloc, program)?;

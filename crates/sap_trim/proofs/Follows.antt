@@ -151,6 +151,7 @@ copies_fold taken s t w c =
     record {
       right = replaced s.stands w.right;
       equals = record { fits = λ ms sc a h. h; same = λ ms sc widths v o h. refl };
+      copies = λ a e. e;
       steps = c;
     }
 

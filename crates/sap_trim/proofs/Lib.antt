@@ -12,6 +12,7 @@ pub mod Kept
 pub mod Shared
 pub mod Read
 pub mod Passes
+pub mod Few
 pub mod Compose
 pub mod Loops
 pub mod Folds

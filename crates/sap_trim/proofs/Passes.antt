@@ -98,7 +98,7 @@ done_copy n taken kept s t ws rules is needs b e k =
     let copied = subst (λ (xs : List Wire). Walked (Copies taken) s xs t) (kept_wires n kept ws rules e needs) k in
     record { done = needed_done n taken s t rules is b copied; copied = copied }
 
-no_ports : (n : Net) (taken : Name → Bool) (so : Scope) (t : State) → Walks n taken so t → AllByRecursion (λ w. is_among w.name (port_names n) ≡ false) t.wires
+pub no_ports : (n : Net) (taken : Name → Bool) (so : Scope) (t : State) → Walks n taken so t → AllByRecursion (λ w. is_among w.name (port_names n) ≡ false) t.wires
 no_ports n taken so t k =
     all_from (λ w. taken w.name ≡ false) (λ w. is_among w.name (port_names n) ≡ false) t.wires
     (λ w h. (none_among w.name (port_names n) (register_names n ++ memory_names n) (sym (k.taken_is w.name) ∙ h)).0)

@@ -3,6 +3,7 @@ pub mod Names
 pub mod Reads
 pub mod Alike
 pub mod Trimmed
+pub mod Few
 pub mod Replaced
 pub mod Wires
 pub mod Equals

@@ -69,6 +69,8 @@ Copies taken s w t = Steps taken s w.name w.width (replaced s.stands w.right) t
 pub record Folds (taken : Name → Bool) (s : State) (w : Wire) (t : State) : Type 0 where
   pub right : Right
   pub equals : Equals s.wires w.width (replaced s.stands w.right) right
+  -- a copy stays one
+  pub copies : (a : Operand) → replaced s.stands w.right ≡ Copy a → right ≡ Copy a
   pub steps : Steps taken s w.name w.width right t
 
 -- a step for each wire, in order

@@ -1,7 +1,8 @@
 //! Rules that look at the right sides of the helping wires that are read.
 
-ghost use Rattle.std.specs.Prelude.{IfOk, IfSome, ℕ};
+ghost use Rattle.std.specs.Prelude.{◌≡◌, IfOk, IfSome, ℕ};
 ghost use Rattle.sap_bits.specs.declared.Op1.TheVariants as one;
+ghost use Rattle.sap_net.specs.declared.parts.Operand.{Operand};
 ghost use Rattle.sap_net.specs.declared.parts.Right.TheVariants as right;
 ghost use Rattle.sap_trim.specs.Equals.{Equals};
 ghost use Rattle.sap_trim.specs.Seen.{ChoosesFirst, ChoosesSecond, Defines, FirstArm, SecondArm};
@@ -156,7 +157,8 @@ fn see_not(alloc: Global, wires: &Wires, a: Operand) -> Result<Right, AllocError
 
 /// A right side of equal value, simpler where the wires that it reads say so.
 pub fn see(alloc: Global, wires: &Wires, given: Right) -> Result<Right, AllocError>
-    ensures { IfOk result (λ r. (u : ℕ) → Equals wires.now.list.items u given r) }
+    ensures equals { IfOk result (λ r. (u : ℕ) → Equals wires.now.list.items u given r) }
+    ensures copies { IfOk result (λ r. (a : Operand) → given ≡ right.Copy a → r ≡ right.Copy a) }
 {
     match given {
         Right::One(Op1::Not, a) => {

@@ -1,7 +1,9 @@
 //! Whole netlists.
 
-ghost use Rattle.std.specs.Prelude.{IfOk};
+ghost use Rattle.std.specs.Prelude.{◌≤◌, length, IfOk};
 ghost use Rattle.sap_trim.specs.Alike.{DeclaresAlike, RunsAlike};
+ghost use Rattle.sap_trim.specs.Few.{HasFewWires, calculated};
+ghost use Rattle.sap_trim.specs.Names.{shown_wires};
 ghost use Rattle.sap_trim.specs.Reads.{ReadsWires};
 ghost use Rattle.sap_trim.specs.Trimmed.{NamesWires, NumbersWires, SharesWires};
 
@@ -16,6 +18,8 @@ use std::alloc::{AllocError, Global};
 fn fold_wires(alloc: Global, netlist: &Netlist) -> Result<Netlist, AllocError>
     ensures declares { IfOk result (λ n. DeclaresAlike netlist.now n) }
     ensures same { IfOk result (λ n. RunsAlike netlist.now n) }
+    ensures calculations { IfOk result (λ n. length (calculated n.wires) ≤ length (calculated netlist.now.wires)) }
+    ensures shown { IfOk result (λ n. length (shown_wires n) ≤ length (shown_wires netlist.now)) }
 {
     netlist.rules();
     let lasting = names::lasting(alloc, netlist)?;
@@ -35,6 +39,7 @@ fn drop_unread(alloc: Global, netlist: &Netlist) -> Result<Netlist, AllocError>
     ensures numbered { IfOk result (λ n. NumbersWires n) }
     ensures shared { IfOk result (λ n. SharesWires n) }
     ensures read { IfOk result (λ n. ReadsWires n) }
+    ensures few { IfOk result (λ n. HasFewWires netlist.now n) }
 {
     netlist.rules();
     let lasting = names::lasting(alloc, netlist)?;
@@ -55,6 +60,7 @@ pub fn trim(alloc: Global, netlist: &Netlist) -> Result<Netlist, AllocError>
     ensures numbered { IfOk result (λ n. NumbersWires n) }
     ensures shared { IfOk result (λ n. SharesWires n) }
     ensures read { IfOk result (λ n. ReadsWires n) }
+    ensures few { IfOk result (λ n. HasFewWires netlist.now n) }
 {
     let folded = fold_wires(alloc, netlist)?;
     folded.rules();

@@ -5,7 +5,7 @@ use Rattle.std.proofs.lemmas.List.{append-nil}
 use Rattle.sap_desk.specs.Desk.{Told}
 use Rattle.sap_desk.specs.Cause.{Rose, counted}
 use Rattle.sap_desk.specs.Whole.{Between}
-use Rattle.sapper.specs.Words.{Words, command_of}
+use Rattle.sap_words.specs.Words.{Words, command_of}
 use Rattle.sapper.specs.Ending.{Ending, Refusal, done, refused, failed, no_memory, no_command, lattice_refused, design_refused, stimulus_refused, module_refused, level_refused, lengths_apart, inputs_apart, status_of, status_of_refusal, line_of, IsFree}
 use Rattle.sapper.specs.Asks.{Asks, file, by, gives, writes, stops, AreLawful, Cause, Files}
 use Rattle.sapper.specs.Commands.{asks, asks_for, asks_if}

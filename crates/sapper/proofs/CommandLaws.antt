@@ -11,7 +11,7 @@ use Rattle.sap_stream.proofs.Agreeing.{at_most_one}
 use Rattle.sapper.specs.Ending.{Ending, Refusal, done, refused, failed, no_memory, status_of, status_of_refusal, IsFree}
 use Rattle.sapper.specs.Kinds.{IsLawful, any_file, design_file, design_text_file, lattice_file, module_file, stream_file}
 use Rattle.sapper.specs.Twin.{IsVerdict}
-use Rattle.sapper.specs.Words.{Words, IsTwin, compile, run, trace, fmt, sim, report, twin, command_of}
+use Rattle.sap_words.specs.Words.{Words, IsTwin, compile, run, trace, fmt, sim, report, twin, gen, command_of}
 use Rattle.sapper.specs.Asks.{Asks, file, by, AreLawful, MayEnd}
 use Rattle.sapper.specs.Commands.{OneOutput, asks, asks_for, asks_if, at_level, compared, end_of}
 use Rattle.sapper.specs.Answers.{MayAnswer}
@@ -77,6 +77,7 @@ lawful (twin lattice design first second level) = (
         (design_lawful ls, λ source d b. lawful_streams ls first second level d l)),
   ),
 )
+lawful (gen n) = λ text other x y. x ∙ sym y
 
 lawful_if : (o : Option Words) → AreLawful (asks_if o)
 lawful_if None = tt
@@ -132,6 +133,7 @@ two_twin (sim lattice verilog stimulus) e (inr (bytes, ls, a, inr (text, net, b,
 two_twin (report lattice design) e (inl (bytes, why, is, r)) two = absurd (lattice_two e bytes why is r two)
 two_twin (report lattice design) e (inr (bytes, ls, a, inl (source, why, is, r))) two = absurd (design_two ls e source why is r two)
 two_twin (report lattice design) e (inr (bytes, ls, a, inr (source, d, b, is))) two = absurd (is_done e is two)
+two_twin (gen n) e is two = absurd (is_done e is two)
 
 free_two : (e : Ending) → IsFree e → status_of e ≡ 2 → ⊥
 free_two done free two = free

@@ -17,3 +17,4 @@ pub mod Streams
 pub mod TwinEnds
 pub mod CommandLaws
 pub mod Calls
+pub mod Headline

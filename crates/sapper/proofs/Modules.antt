@@ -14,7 +14,7 @@ use Rattle.sapper.specs.Kinds.{IsLawful, module_file}
 use Rattle.sapper.specs.Steps.{Refuses, ending, module_failure}
 use Rattle.sapper.specs.declared.failure.Failure.{Failure}
 
-one_module : (text : List ℕ) (one other : Net) → IsModule text one → IsModule text other → one ≡ other
+pub one_module : (text : List ℕ) (one other : Net) → IsModule text one → IsModule text other → one ≡ other
 one_module text one other a b =
     let tokens = one_lexing refl refl a.lexed b.lexed in
     sym a.netlist ∙ ap netlist_of (one_file tokens a.spelled b.spelled) ∙ b.netlist

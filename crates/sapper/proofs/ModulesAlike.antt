@@ -1,5 +1,5 @@
 -- Two lattices that are the same have the same modules for a design.
-use Rattle.std.proofs.Common.{ℕ, List, subst}
+use Rattle.std.proofs.Common.{ℕ, ◌+◌, ◌*◌, ◌≤◌, List, length, subst}
 use Rattle.sap_lattice.specs.Levels.{Levels, order_of}
 use Rattle.sap_lattice.specs.Order.{Order}
 use Rattle.sap_lattice.specs.Codes.{width_of}
@@ -12,6 +12,8 @@ use Rattle.sap_tree.specs.Syntax.{DesignTree}
 use Rattle.sap_net.specs.Net.{Net}
 use Rattle.sap_net.specs.Runs.{IsRun, observed}
 use Rattle.std.specs.Prelude.{map}
+use Rattle.sap_size.specs.Items.{items}
+use Rattle.sap_size.specs.Trees.{design_nodes, entity_count}
 use Rattle.sap_interface.specs.Compiled.{NetStandsFor, coded_stream}
 use Rattle.sap_interface.specs.Designs.{named_of, sites_of}
 use Rattle.sap_interface.specs.StandsFor.{Named, world}
@@ -50,4 +52,5 @@ module _ (l m : Levels) (same : AreSame l m) (d : DesignTree) (n : Net) where
             (subst (λ (o : Order). OnStreams x o n (CyclesLookAlike x sites)) same.order is.looks_alike);
         shared = is.shared;
         read = is.read;
+        small = subst (λ (ns : List (List ℕ)). items n ≤ 8 * (1 + design_nodes d) * (1 + entity_count d + length ns)) same.names is.small;
       }

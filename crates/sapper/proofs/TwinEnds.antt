@@ -10,7 +10,7 @@ use Rattle.sap_tree.specs.Syntax.{DesignTree}
 use Rattle.sap_stim.specs.Line.{level_named}
 use Rattle.sap_compile.specs.Parts.{design_of, levels_of, module_of, netlist_of}
 use Rattle.sap_compile.specs.declared.compiled.Compiled.{Compiled}
-use Rattle.sapper.specs.Words.{twin}
+use Rattle.sap_words.specs.Words.{twin}
 use Rattle.sapper.specs.Ending.{Ending, done, level_refused, refused}
 use Rattle.sapper.specs.Kinds.{IsLatticeFile, design_file, lattice_file, stream_file}
 use Rattle.sapper.specs.Twin.{agreement_line}

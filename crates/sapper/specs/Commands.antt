@@ -14,7 +14,8 @@ use Rattle.sap_sim.specs.Simulated.{IsSimulated, read_for as module_stimulus}
 use Rattle.sap_show.specs.Canonical.{canonical_text}
 use Rattle.sap_report.specs.Report.{report_text}
 use Rattle.sap_compile.specs.Compiles.{IsModuleFor}
-use Rattle.sapper.specs.Words.{Words, compile, run, trace, fmt, sim, report, twin, command_of}
+use Rattle.sap_gen.specs.Text.{generated_text}
+use Rattle.sap_words.specs.Words.{Words, compile, run, trace, fmt, sim, report, twin, gen, command_of}
 use Rattle.sapper.specs.Ending.{Ending, done, refused, no_command, level_refused, stimulus_refused}
 use Rattle.sapper.specs.Kinds.{lattice_file, design_file, design_text_file, module_file, any_file, stream_file}
 use Rattle.sapper.specs.Twin.{IsAgreement, IsVerdict, difference}
@@ -76,6 +77,7 @@ asks (report lattice design) =
 asks (twin lattice design first second level) =
     file lattice lattice_file (λ ls. by (Option ℕ) (λ named. named ≡ level_named ls.names level) (at_level level (λ l.
     file design (design_file ls) (λ d. asks_streams ls d first second level l))))
+asks (gen n) = gives (λ text. text ≡ generated_text n) done
 
 -- what words ask that may be no command
 abbrev pub asks_if : Option Words → Asks

@@ -1,4 +1,3 @@
-pub mod Words
 pub mod DesignFaults
 pub mod Ending
 pub mod Kinds
@@ -7,5 +6,6 @@ pub mod Asks
 pub mod Commands
 pub mod Answers
 pub mod Exact
+pub mod Headline
 pub mod Outside
 pub mod Steps

@@ -28,28 +28,16 @@ use Rattle.sap_compile.specs.declared.fault.CompileFault.TheVariants as compile_
 use Rattle.sap_vread.specs.declared.fault.ModFault.{ModFault}
 use Rattle.sap_vread.specs.declared.fault.ModFault.TheVariants as module_fault
 use Rattle.sapper.specs.declared.fault.DesignFault.TheVariants as design_fault
-use Rattle.sapper.specs.Words.{Words, compile, run, trace, fmt, sim, report, twin}
 use Rattle.sapper.specs.Ending.{Ending, Refusal as Reason, done, refused, failed, no_memory, lattice_refused, design_refused, stimulus_refused, module_refused, level_refused, lengths_apart, inputs_apart, status_of, line_of, IsFree}
 use Rattle.sapper.specs.Kinds.{Kind, IsLatticeFile, IsWellFormedText, design_file, table_by}
 use Rattle.sapper.specs.Twin.{agreement_line, difference}
 use Rattle.sapper.specs.Asks.{Asks, Cause, Leaves, MayEnd, Output}
 use Rattle.sapper.specs.Answers.{Blames, Gained}
 use Rattle.sapper.specs.Outside.{FullLines, OutsideOf}
-use Rattle.sapper.specs.declared.command.Command.{Command}
-use Rattle.sapper.specs.declared.command.Command.TheVariants.{Compile, Run, Trace, Fmt, Sim, Report, Twin}
 use Rattle.sapper.specs.declared.failure.Failure.{Failure}
 use Rattle.sapper.specs.declared.failure.Failure.TheVariants.{Refused, Desk, Memory}
 use Rattle.sapper.specs.declared.refusal.Refusal.{Refusal}
 use Rattle.sapper.specs.declared.refusal.Refusal.TheVariants.{Lattice, Design, Stimulus, Module, Level, Lengths, Input}
-
-abbrev pub words_of : Command → Words
-words_of (Compile lattice design out) = compile lattice.now design.now out.now
-words_of (Run lattice design stimulus) = run lattice.now design.now stimulus.now
-words_of (Trace lattice design stimulus) = trace lattice.now design.now stimulus.now
-words_of (Fmt design) = fmt design.now
-words_of (Sim lattice verilog stimulus) = sim lattice.now verilog.now stimulus.now
-words_of (Report lattice design) = report lattice.now design.now
-words_of (Twin lattice design first second level) = twin lattice.now design.now first.now second.now level.now
 
 abbrev pub reason : Refusal → Reason
 reason (Lattice fault) = lattice_refused fault

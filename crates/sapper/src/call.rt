@@ -3,18 +3,20 @@
 ghost use Rattle.std.specs.Prelude.{◌≡◌, ◌≢◌, ◌⊎◌, ◌++◌, None, map, string_bytes, IfSome};
 ghost use Rattle.sap_desk.specs.Cause.{Rose};
 ghost use Rattle.sap_desk.specs.Whole.{Between};
+ghost use Rattle.sap_words.specs.Called.{words_of};
+ghost use Rattle.sap_words.specs.Words.{IsTwin, command_of as words_for};
 ghost use Rattle.sapper.specs.Answers.{Answers, MayAnswer};
 ghost use Rattle.sapper.specs.Commands.{asks};
 ghost use Rattle.sapper.specs.Ending.{line};
 ghost use Rattle.sapper.specs.Exact.{Exact};
+ghost use Rattle.sapper.specs.Headline.{Headline};
 ghost use Rattle.sapper.specs.Outside.{Outside, FullLines};
-ghost use Rattle.sapper.specs.Steps.{Ends, Reports, Tells, ending, ending_of, seen, words_of};
-ghost use Rattle.sapper.specs.Words.{IsTwin, command_of as words_for};
+ghost use Rattle.sapper.specs.Steps.{Ends, Reports, Tells, ending, ending_of, seen};
 
-use crate::command::{Command, command_of};
 use crate::comparing::twin;
 use crate::compiling::compile;
 use crate::failure::Failure;
+use crate::generating::generate;
 use crate::reporting::report_design;
 use crate::running::run;
 use crate::showing::format;
@@ -22,6 +24,7 @@ use crate::simulating::simulate;
 use crate::texts::refusal_text;
 use crate::tracing::trace_design;
 use sap_desk::{Desk, write_line};
+use sap_words::{Command, command_of};
 use std::alloc::Global;
 
 fn perform<'a, D: Desk>(
@@ -61,6 +64,7 @@ fn perform<'a, D: Desk>(
             second,
             level,
         } => twin(alloc, desk, lattice, design, first, second, level),
+        Command::Gen { number } => generate(alloc, desk, number),
     }
 }
 
@@ -99,6 +103,7 @@ fn report<D: Desk>(alloc: Global, desk: &mut D, failure: &Failure<'_>) -> u8
 
 /// Does what the words ask over a desk, and answers the status.
 pub fn sapper<D: Desk>(alloc: Global, words: &[String], desk: &mut D) -> u8
+    ensures headline { Between (D.told desk.old) (D.told desk.new) (Headline (map string_bytes words.now) result) }
     ensures answers { Between (D.told desk.old) (D.told desk.new) (Answers (map string_bytes words.now) (D.lost desk.old) (D.lost desk.new) result) }
     ensures exact { IfSome (D.told desk.old) (λ t. Exact (map string_bytes words.now) t result) }
     ensures outside { (D.faults desk.new ≢ D.faults desk.old) → D.sure desk.old → Between (D.told desk.old) (D.told desk.new) (Outside (map string_bytes words.now)) }

@@ -7,7 +7,7 @@ ghost use Rattle.sapper.specs.Commands.{asks};
 ghost use Rattle.sapper.specs.Kinds.{stream_file};
 ghost use Rattle.sapper.specs.Steps.{Differ, Ends, Finds, Gives, IsLevelOf, ending_of, seen};
 ghost use Rattle.sapper.specs.Twin.{agreement_line, input_name, is_input};
-ghost use Rattle.sapper.specs.Words.{twin};
+ghost use Rattle.sap_words.specs.Words.{twin};
 
 use crate::failure::Failure;
 use crate::inputs::{compiled_from, lattice_from, read};

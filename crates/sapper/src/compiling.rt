@@ -1,6 +1,6 @@
 //! The command `compile`.
 
-ghost use Rattle.sapper.specs.Words.{compile};
+ghost use Rattle.sap_words.specs.Words.{compile};
 ghost use Rattle.sapper.specs.Commands.{asks};
 ghost use Rattle.sapper.specs.Steps.{Ends, ending_of, seen};
 

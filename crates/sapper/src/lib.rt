@@ -2,11 +2,11 @@
 #![tactic(auto)]
 
 mod call;
-mod command;
 mod comparing;
 mod compiling;
 mod failure;
 pub mod fault;
+mod generating;
 mod inputs;
 mod laws;
 mod output;

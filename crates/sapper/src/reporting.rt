@@ -3,7 +3,7 @@
 ghost use Rattle.std.specs.Prelude.{◌≡◌, IfOk};
 ghost use Rattle.sap_check.specs.Checked.{levels_in, tree_in};
 ghost use Rattle.sap_report.specs.Report.{report_text};
-ghost use Rattle.sapper.specs.Words.{report};
+ghost use Rattle.sap_words.specs.Words.{report};
 ghost use Rattle.sapper.specs.Commands.{asks};
 ghost use Rattle.sapper.specs.Steps.{Ends, ending_of, seen};
 

@@ -1,6 +1,6 @@
 //! The command `fmt`.
 
-ghost use Rattle.sapper.specs.Words.{fmt};
+ghost use Rattle.sap_words.specs.Words.{fmt};
 ghost use Rattle.sapper.specs.Commands.{asks};
 ghost use Rattle.sapper.specs.Steps.{Ends, ending_of, seen};
 

@@ -1,6 +1,6 @@
 //! The command `sim`.
 
-ghost use Rattle.sapper.specs.Words.{sim};
+ghost use Rattle.sap_words.specs.Words.{sim};
 ghost use Rattle.sapper.specs.Commands.{asks};
 ghost use Rattle.sapper.specs.Steps.{Ends, ending_of, seen};
 

@@ -4,7 +4,7 @@ ghost use Rattle.std.specs.Prelude.{IfOk};
 ghost use Rattle.sap_compile.specs.Parts.{design_of, levels_of, netlist_of};
 ghost use Rattle.sap_interface.specs.Designs.{StandsForDesign};
 ghost use Rattle.sap_trace.specs.TraceOf.{IsTraceOf};
-ghost use Rattle.sapper.specs.Words.{trace};
+ghost use Rattle.sap_words.specs.Words.{trace};
 ghost use Rattle.sapper.specs.Commands.{asks};
 ghost use Rattle.sapper.specs.Steps.{Ends, ending_of, seen};
 

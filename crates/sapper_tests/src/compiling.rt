@@ -1,8 +1,8 @@
 //! The command `compile`: the words, each failing call, and why files are refused.
 
-use crate::fixture::{COMPILE, TWO, desk, words};
 use sap_desk::MemoryDesk;
 use sapper::sapper;
+use sapper_fixture::{COMPILE, TWO, desk, words};
 use std::alloc::{AllocError, Global};
 use std::test::Fail;
 

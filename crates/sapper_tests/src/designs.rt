@@ -1,10 +1,10 @@
 //! Designs with the rows of their runs, by `run`, and by `compile` and then `sim`; and with their traces.
 
-use crate::fixture::{
-    ADDS_ONE, COMPILE, DIAMOND, KEEPS_LOW, RUN, SIMULATE, TRACE, TWO, desk, words,
-};
 use sap_desk::MemoryDesk;
 use sapper::sapper;
+use sapper_fixture::{
+    ADDS_ONE, COMPILE, DIAMOND, KEEPS_LOW, RUN, SIMULATE, TRACE, TWO, desk, words,
+};
 use std::alloc::{AllocError, Global};
 use std::test::Fail;
 

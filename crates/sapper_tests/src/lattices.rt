@@ -1,8 +1,8 @@
 //! Lattice files, on both sides of each rule.
 
-use crate::fixture::{COMPILE, words};
 use sap_desk::MemoryDesk;
 use sapper::sapper;
+use sapper_fixture::{COMPILE, words};
 use std::alloc::{AllocError, Global};
 use std::test::Fail;
 

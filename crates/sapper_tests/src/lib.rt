@@ -1,4 +1,4 @@
-//! The top call over a desk in memory, by rows.
+//! Designs, lattices and modules by the top call over a desk in memory, by rows.
 #![tactic(auto)]
 
 #[cfg(test)]
@@ -6,12 +6,8 @@ mod compiling;
 #[cfg(test)]
 mod designs;
 #[cfg(test)]
-mod fixture;
+mod falls;
 #[cfg(test)]
 mod lattices;
 #[cfg(test)]
-mod rows;
-#[cfg(test)]
 mod shapes;
-#[cfg(test)]
-mod streams;

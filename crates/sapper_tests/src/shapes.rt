@@ -1,7 +1,7 @@
 //! Faults of shape by `compile` and by `run`, each with a design next to it that has none.
 
-use crate::fixture::{COMPILE, RUN, TWO, desk, words};
 use sapper::sapper;
+use sapper_fixture::{COMPILE, RUN, TWO, desk, words};
 use std::alloc::{AllocError, Global};
 use std::test::Fail;
 

@@ -5,6 +5,9 @@ use Rattle.sap_trim.specs.Walked.{state_of}
 use Rattle.sap_trim.specs.Alike.{DeclaresAlike, RunsAlike}
 use Rattle.sap_trim.specs.Reads.{ReadsWires}
 use Rattle.sap_trim.specs.Trimmed.{NamesWires, NumbersWires, SharesWires}
+use Rattle.sap_net.specs.declared.parts.Wire.{Wire}
+use Rattle.sap_trim.specs.Few.{HasFewWires}
+use Rattle.sap_trim.proofs.Few.{dropped_few}
 use Rattle.sap_trim.proofs.Passes.{tidied_all}
 use Rattle.sap_trim.proofs.trim.drop_unread.Goals as goal
 
@@ -41,3 +44,8 @@ pub returns-clause-read : goal.returns-clause-read
 returns-clause-read c =
     subst ReadsWires (sym c.new-2.ensures)
     (tidied_all c.args.netlist.now (holds c.in_ok-lasting.lasting) c.in_ok-kept.kept (state_of c.in_ok-walk.walk) (state_of c.copy_kept.new.self) c.wires.result.now (net_of c.in_ok-parts.parts) c.rules.ensures (c.in_ok-lasting.ensures {u = tt}) (c.in_ok-kept.ensures {u = tt}) c.in_ok-walk.ensures.begins c.wires.ensures (c.in_ok-copy_kept.ensures {u = tt}) (c.in_ok-parts.ensures {u = tt})).read
+
+pub returns-clause-few : goal.returns-clause-few
+returns-clause-few c =
+    subst (HasFewWires c.args.netlist.now) (sym c.new-2.ensures)
+    (dropped_few c.args.netlist.now (holds c.in_ok-lasting.lasting) (λ (w : Wire). holds c.in_ok-kept.kept w.name) (state_of c.in_ok-walk.walk) (state_of c.copy_kept.new.self) c.wires.result.now (net_of c.in_ok-parts.parts) c.in_ok-walk.ensures.begins c.wires.ensures (c.in_ok-copy_kept.ensures {u = tt}) (c.in_ok-parts.ensures {u = tt}))

@@ -1,4 +1,5 @@
 use Rattle.sap_trim.proofs.Compose.{declares_both, runs_both}
+use Rattle.sap_trim.proofs.Few.{few_both}
 use Rattle.sap_trim.proofs.trim.trim.Goals as goal
 
 pub returns-clause-declares : goal.returns-clause-declares
@@ -8,3 +9,7 @@ returns-clause-declares c =
 pub returns-clause-same : goal.returns-clause-same
 returns-clause-same c =
     runs_both c.args.netlist.now c.in_ok-folded.folded c.in_ok-trimmed.trimmed c.rules.ensures c.in_ok-folded.ensures.declares c.in_ok-folded.ensures.same c.in_ok-trimmed.ensures.same
+
+pub returns-clause-few : goal.returns-clause-few
+returns-clause-few c =
+    few_both c.args.netlist.now c.in_ok-folded.folded c.in_ok-trimmed.trimmed (record { calculations = c.in_ok-folded.ensures.calculations; shown = c.in_ok-folded.ensures.shown }) c.in_ok-trimmed.ensures.few

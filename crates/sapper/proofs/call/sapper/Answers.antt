@@ -1,8 +1,10 @@
 use Rattle.std.proofs.Common.{rules, refl}
 use Rattle.std.specs.Prelude.{map, string_bytes}
 use Rattle.sapper.specs.Ending.{done, no_command, refused}
-use Rattle.sapper.specs.Steps.{ending, seen, words_of}
+use Rattle.sap_words.specs.Called.{words_of}
+use Rattle.sapper.specs.Steps.{ending, seen}
 use Rattle.sapper.proofs.Calls.{answers, exact, may_answer, named, no_words, outside, silent, told_end}
+use Rattle.sapper.proofs.Headline.{headline_told}
 use Rattle.sapper.proofs.CommandLaws.{lawful_words, two_words}
 use Rattle.sapper.proofs.call.sapper.Goals as goal
 
@@ -67,3 +69,15 @@ returns-in-None-clause-may g c =
     let before = seen g.D.Desk.told g.D.Desk.faults g.D.Desk.lost g.D.Desk.sure c.args.desk.now in
     may_answer (map string_bytes c.args.words.now) (refused no_command) 2 before before refl
     (no_words (map string_bytes c.args.words.now) before (search rules))
+
+pub returns-in-Ok-clause-headline : goal.returns-in-Ok-clause-headline
+returns-in-Ok-clause-headline g c =
+    headline_told (map string_bytes c.args.words.now) _ _ 0 _ _ (returns-in-Ok-clause-answers g c) (returns-in-Ok-clause-exact g c)
+
+pub returns-in-Err-clause-headline : goal.returns-in-Err-clause-headline
+returns-in-Err-clause-headline g c =
+    headline_told (map string_bytes c.args.words.now) _ _ c.report.result _ _ (returns-in-Err-clause-answers g c) (returns-in-Err-clause-exact g c)
+
+pub returns-in-None-clause-headline : goal.returns-in-None-clause-headline
+returns-in-None-clause-headline g c =
+    headline_told (map string_bytes c.args.words.now) _ _ 2 _ _ (returns-in-None-clause-answers g c) (returns-in-None-clause-exact g c)

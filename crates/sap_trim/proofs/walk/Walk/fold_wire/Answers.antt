@@ -1,6 +1,7 @@
-use Rattle.std.proofs.Common.{subst, refl}
+use Rattle.std.proofs.Common.{◌∙◌, ap, subst, refl}
 use Rattle.sap_net.specs.declared.parts.Right.{Right}
 use Rattle.sap_trim.specs.Equals.{Equals}
+use Rattle.sap_trim.specs.Folding.{folded}
 use Rattle.sap_trim.proofs.Folds.{folded_equals}
 use Rattle.sap_trim.proofs.Sees.{equals_both}
 use Rattle.sap_trim.proofs.walk.Walk.fold_wire.Goals as goal
@@ -15,6 +16,7 @@ returns-clause-folds c =
     record {
       right = r;
       equals = subst (λ (q : Right). Equals ws w q r) (c.in_ok-replaced.ensures {u = tt})
-          (equals_both ws w a b r (c.in_ok-seen.ensures {u = tt} w) (folded_equals ws w b r b c.fold-right.ensures refl));
+          (equals_both ws w a b r (c.in_ok-seen.ensures.equals w) (folded_equals ws w b r b c.fold-right.ensures refl));
+      copies = λ o e. c.fold-right.ensures ∙ ap (λ (q : Right). folded w q) (c.in_ok-seen.ensures.copies o (c.in_ok-replaced.ensures {u = tt} ∙ e));
       steps = c.in_ok-step.ensures.steps;
     }

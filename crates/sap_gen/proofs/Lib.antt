@@ -1,0 +1,14 @@
+pub mod Diamonds
+pub mod Words
+pub mod Entities
+pub mod Faultless
+pub mod Shapes
+pub mod Trees
+pub mod Sound
+pub mod Alike
+pub mod Built
+pub mod Cycles
+pub mod Given
+pub mod Counted
+pub mod Rows
+pub mod Texts

@@ -1,0 +1,89 @@
+-- The generated design of a number n. It has no text, so all its places are one.
+use Rattle.std.specs.Prelude.{ℕ, ◌+◌, ◌%◌, ◌==◌, List, [], ◌∷◌, ◌++◌, None, map, codes, if◌then◌else◌}
+use Rattle.std.specs.Fmt.{decimal}
+use Rattle.sap_lattice.specs.Levels.{numbers}
+use Rattle.sap_tree.specs.Bare.{nowhere, no_spot}
+use Rattle.sap_tree.specs.Syntax.{Expression, Read, Binary, Assign, Goto, Command, Do, CommandBlock, Commands, CommandList, NoCommand, AndCommand, StateTree, StateOf, StateList, NoState, AndState, DesignTree}
+use Rattle.sap_tree.specs.declared.name.Mention.{Mention}
+use Rattle.sap_tree.specs.declared.syntax.BinaryOperator.TheVariants.{Add}
+use Rattle.sap_tree.specs.declared.syntax.Decl.{Decl}
+use Rattle.sap_tree.specs.declared.syntax.Decl.TheVariants.{Input, Register}
+use Rattle.sap_tree.specs.declared.syntax.Kind.{Kind}
+use Rattle.sap_tree.specs.declared.syntax.Kind.TheVariants.{Dynamic, Enforced}
+use Rattle.sap_tree.specs.declared.syntax.Numeral.{Numeral}
+
+-- how many registers and states it has
+abbrev pub register_count : ℕ → ℕ
+register_count n = 2 + n % 60
+
+abbrev pub state_count : ℕ → ℕ
+state_count n = 1 + n % 31
+
+-- d; x0, x1, ..; S0, S1, ..
+abbrev pub input_name : List ℕ
+input_name = codes "d"
+
+abbrev pub register_name : ℕ → List ℕ
+register_name i = codes "x" ++ decimal i
+
+abbrev pub state_name : ℕ → List ℕ
+state_name j = codes "S" ++ decimal j
+
+abbrev pub mention : List ℕ → Mention
+mention name = record { place = nowhere; name = name }
+
+-- the one width
+abbrev pub eight_bits : Numeral
+eight_bits = record { place = nowhere; value = 8 }
+
+abbrev pub enforced : (level : List ℕ) → Kind
+enforced level = Enforced (mention level) None
+
+-- input d : 8;
+abbrev pub declared_input : Decl
+declared_input = Input nowhere (mention input_name) eight_bits
+
+-- xI is dynamic where I is even, and else enforced at a
+abbrev pub register_kind : (i : ℕ) → Kind
+register_kind i = if i % 2 == 0 then Dynamic nowhere else enforced (codes "a")
+
+-- reg xI : 8 KIND;
+abbrev pub declared_register : (i : ℕ) → Decl
+declared_register i = Register nowhere (mention (register_name i)) eight_bits (register_kind i) None
+
+-- xK + d
+abbrev pub sum : (k : ℕ) → Expression
+sum k = Binary no_spot Add (Read no_spot (register_name k)) (Read no_spot input_name)
+
+-- of r registers, in the state Sj: xI := xK + d; with K = (i + j) mod r
+abbrev pub assignment : (r j i : ℕ) → Command
+assignment r j i = Do (Assign (mention (register_name i)) (sum ((i + j) % r)))
+
+-- of t states, in the state Sj: goto SM; with M = (j + 1) mod t
+abbrev pub transfer : (t j : ℕ) → Command
+transfer t j = Do (Goto nowhere (mention (state_name ((j + 1) % t))))
+
+abbrev pub commands : List Command → CommandList
+commands [] = NoCommand
+commands (c ∷ cs) = AndCommand c (commands cs)
+
+abbrev pub body : (r t j : ℕ) → CommandBlock
+body r t j = Commands (commands (map (assignment r j) (numbers r) ++ transfer t j ∷ [])) nowhere
+
+-- state SJ enforced low { an assignment to each register, and the goto }
+abbrev pub state : (r t j : ℕ) → StateTree
+state r t j = StateOf nowhere (mention (state_name j)) (enforced (codes "low")) (body r t j) NoState
+
+abbrev pub states : List StateTree → StateList
+states [] = NoState
+states (s ∷ ss) = AndState s (states ss)
+
+-- with r registers and t states
+abbrev pub design_of_counts : (r t : ℕ) → DesignTree
+design_of_counts r t = record {
+  declarations = declared_input ∷ map declared_register (numbers r);
+  states = states (map (state r t) (numbers t));
+}
+
+unfoldable pub generated_design : (n : ℕ) → DesignTree
+generated_design n = design_of_counts (register_count n) (state_count n)

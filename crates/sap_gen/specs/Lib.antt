@@ -1,0 +1,7 @@
+pub mod Diamond
+pub mod Design
+pub mod Stream
+pub mod Text
+pub mod Running
+pub mod Shown
+pub mod Examples

@@ -1,0 +1,25 @@
+-- The codes of faults.
+use Rattle.std.specs.Prelude.{ℕ, Bool, ◌||◌, List, [], ◌∷◌, bytes_eq, codes}
+use Rattle.std.specs.List.{list_any}
+
+abbrev pub is_one_of : List (List ℕ) → List ℕ → Bool
+is_one_of known code = list_any (bytes_eq code) known
+
+-- of designs; E13 is none
+abbrev pub design_codes : List (List ℕ)
+design_codes = codes "E1" ∷ codes "E2" ∷ codes "E3" ∷ codes "E4" ∷ codes "E5" ∷ codes "E6" ∷ codes "E7" ∷ codes "E8" ∷ codes "E9" ∷ codes "E10" ∷ codes "E11" ∷ codes "E12" ∷ codes "E14" ∷ codes "E15" ∷ codes "E16" ∷ codes "E17" ∷ codes "E18" ∷ []
+
+-- of lattice files
+abbrev pub lattice_codes : List (List ℕ)
+lattice_codes = codes "L1" ∷ codes "L2" ∷ codes "L3" ∷ codes "L4" ∷ codes "L5" ∷ codes "L6" ∷ codes "L7" ∷ codes "L8" ∷ []
+
+-- of stimuli
+abbrev pub stimulus_codes : List (List ℕ)
+stimulus_codes = codes "S1" ∷ codes "S2" ∷ codes "S3" ∷ codes "S4" ∷ codes "S5" ∷ []
+
+-- of modules
+abbrev pub module_codes : List (List ℕ)
+module_codes = codes "V1" ∷ codes "V2" ∷ codes "V3" ∷ codes "V4" ∷ codes "V5" ∷ codes "V6" ∷ codes "V7" ∷ []
+
+abbrev pub is_code : List ℕ → Bool
+is_code code = is_one_of design_codes code || (is_one_of lattice_codes code || (is_one_of stimulus_codes code || is_one_of module_codes code))

@@ -1,0 +1,25 @@
+//! What a code means.
+
+ghost use Rattle.std.specs.Prelude.{◌≡◌, is_some};
+ghost use Rattle.sap_help.specs.Codes.{is_code};
+
+use crate::design::design_fault;
+use crate::lattice::lattice_fault;
+use crate::module::module_fault;
+use crate::stimulus::stimulus_fault;
+
+/// What the code of a fault means, with a small example and its cure; none where it is no code.
+pub fn explain(code: &str) -> Option<&'static str>
+    ensures { is_some result ≡ is_code code.now }
+{
+    if let Some(text) = design_fault(code) {
+        return Some(text);
+    }
+    if let Some(text) = lattice_fault(code) {
+        return Some(text);
+    }
+    if let Some(text) = stimulus_fault(code) {
+        return Some(text);
+    }
+    module_fault(code)
+}

@@ -1,0 +1,123 @@
+//! The faults of a lattice file.
+
+ghost use Rattle.std.specs.Prelude.{◌≡◌, is_some};
+ghost use Rattle.sap_help.specs.Codes.{is_one_of, lattice_codes};
+
+const L1: &str = "L1: the lattice file is no TOML.
+
+Example:
+
+    levels = low, high
+
+Cure: Write a TOML document of two keys:
+
+    levels = [\"low\", \"high\"]
+    below = [[\"low\", \"high\"]]
+";
+
+const L2: &str = "L2: the lattice file isn't of the right shape.
+
+It has exactly two keys: `levels`, an array of strings, and `below`, an array of pairs of strings.
+
+Example:
+
+    levels = [\"low\", \"high\"]
+
+Cure: Give both keys and no other; `below` may be empty, `below = []`.
+";
+
+const L3: &str = "L3: there are fewer than 2 levels or more than 16.
+
+The count stands behind the code.
+
+Example:
+
+    levels = [\"low\"]
+    below = []
+
+Cure: List 2 to 16 levels.
+";
+
+const L4: &str = "L4: a level has no good name.
+
+The position of the first such level, from 1, stands behind the code. A name is a letter or `_`,
+then letters, digits and `_`, of at most 40 bytes, no keyword, and no name of an earlier level.
+
+Example:
+
+    levels = [\"low\", \"low\"]
+    below = [[\"low\", \"low\"]]
+
+Cure: Rename the level.
+";
+
+const L5: &str = "L5: a pair names something that is no level.
+
+The position of the first such pair, from 1, stands behind the code.
+
+Example:
+
+    levels = [\"low\", \"high\"]
+    below = [[\"low\", \"hi\"]]
+
+Cure: Write names that stand under `levels` in `below`.
+";
+
+const L6: &str = "L6: two levels are each at or below the other.
+
+Both stand behind the code.
+
+Example:
+
+    levels = [\"low\", \"high\"]
+    below = [[\"low\", \"high\"], [\"high\", \"low\"]]
+
+Cure: Leave out a pair of the ring, or make the two one level.
+";
+
+const L7: &str = "L7: two levels have no least level above both.
+
+Both stand behind the code.
+
+Example:
+
+    levels = [\"low\", \"a\", \"b\"]
+    below = [[\"low\", \"a\"], [\"low\", \"b\"]]
+
+Cure: Add a level above both, with its pairs; where there are several such levels of which none is
+the least, add one below these.
+";
+
+const L8: &str = "L8: there is no least level.
+
+Example:
+
+    levels = [\"a\", \"b\", \"top\"]
+    below = [[\"a\", \"top\"], [\"b\", \"top\"]]
+
+Cure: Add a level below all others, with its pairs.
+";
+
+pub(crate) fn lattice_fault(code: &str) -> Option<&'static str>
+    ensures { is_some result ≡ is_one_of lattice_codes code.now }
+{
+    if code == "L1" {
+        Some(L1)
+    } else if code == "L2" {
+        Some(L2)
+    } else if code == "L3" {
+        Some(L3)
+    } else if code == "L4" {
+        Some(L4)
+    } else if code == "L5" {
+        Some(L5)
+    } else if code == "L6" {
+        Some(L6)
+    } else if code == "L7" {
+        Some(L7)
+    } else if code == "L8" {
+        Some(L8)
+    } else {
+        None
+    }
+}

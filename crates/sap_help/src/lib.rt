@@ -1,0 +1,13 @@
+//! What the program says of itself: its commands and statuses, and what each code of a fault means.
+#![tactic(auto)]
+
+mod asking;
+mod design;
+mod explaining;
+mod lattice;
+mod module;
+mod page;
+mod stimulus;
+
+pub use asking::answer;
+pub use explaining::explain;

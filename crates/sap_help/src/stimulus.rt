@@ -1,0 +1,73 @@
+//! The faults of a stimulus.
+
+ghost use Rattle.std.specs.Prelude.{◌≡◌, is_some};
+ghost use Rattle.sap_help.specs.Codes.{is_one_of, stimulus_codes};
+
+const S1: &str = "S1: a field isn't of the form `VALUE@LEVEL`, or a line is longer than 65536 bytes.
+
+The line's number stands behind the code. VALUE is 1 to 20 decimal digits. For `sim` an input of the
+module without a tag has a field `VALUE`.
+
+Example:
+
+    5
+
+Cure: Write `5@low`.
+";
+
+const S2: &str = "S2: a value is too large for its input.
+
+Example:
+
+    256@low
+
+Cure: Write a number that the width of the input holds: below 256 for 8 bits.
+";
+
+const S3: &str = "S3: a level of a field is no level of the lattice file.
+
+Example:
+
+    5@secret
+
+Cure: Write a level that the lattice file lists under `levels`.
+";
+
+const S4: &str = "S4: a line has too many fields or too few.
+
+A line has a field for each input, in the order of declaration, with one space between them; with no
+inputs it is empty. A space at its end counts as one more field.
+
+Example:
+
+    5@low 6@low
+
+Cure: For a design of one input write one field.
+";
+
+const S5: &str = "S5: the last line isn't ended.
+
+Example:
+
+    5@low (and the file ends here, without a line feed)
+
+Cure: End each line with a line feed, the last one too.
+";
+
+pub(crate) fn stimulus_fault(code: &str) -> Option<&'static str>
+    ensures { is_some result ≡ is_one_of stimulus_codes code.now }
+{
+    if code == "S1" {
+        Some(S1)
+    } else if code == "S2" {
+        Some(S2)
+    } else if code == "S3" {
+        Some(S3)
+    } else if code == "S4" {
+        Some(S4)
+    } else if code == "S5" {
+        Some(S5)
+    } else {
+        None
+    }
+}

@@ -1,0 +1,169 @@
+-- How many wires each pass leaves.
+use Rattle.std.proofs.Common.{◌≡◌, ℕ, ◌+◌, ◌≤◌, List, [], ◌∷◌, ◌++◌, map, filter, not, length, Bool, true, false, sym, ap, ◌∙◌, subst, refl, inl, inr, arith, length-append}
+use Rattle.std.proofs.lemmas.Bool.{cases_Bool}
+use Rattle.std.proofs.lemmas.List.{length-map}
+use Rattle.sap_maps.specs.Maps.{Name}
+use Rattle.sap_net.specs.Names.{is_among}
+use Rattle.sap_net.specs.Net.{Net}
+use Rattle.sap_net.specs.IsNetlist.{IsNetlist, first_readable}
+use Rattle.sap_net.specs.declared.parts.Operand.{Operand}
+use Rattle.sap_net.specs.declared.parts.Right.{Right}
+use Rattle.sap_net.specs.declared.parts.Right.TheVariants.{Copy, One, Two, Choose, Concat, Slice, Cell}
+use Rattle.sap_net.specs.declared.parts.Wire.{Wire}
+use Rattle.sap_trim.specs.Built.{built, wire_of}
+use Rattle.sap_trim.specs.Few.{is_copy, calculated, HasFewWires}
+use Rattle.sap_trim.specs.Names.{lasting_names, port_names, shown_wires, helping_wires}
+use Rattle.sap_trim.specs.Replaced.{Stands, replaced, sliced, standing}
+use Rattle.sap_trim.specs.Walked.{State, Begins, Provides, Copies, Folds, Walked}
+use Rattle.sap_trim.specs.Wires.{Adds}
+use Rattle.sap_trim.proofs.Passes.{done_fold, no_ports}
+use Rattle.sap_trim.proofs.Shared.{helping_are}
+
+-- the wires that a right side needs: none if it is a copy
+
+abbrev cost : Right → ℕ
+cost (Copy a) = 0
+cost (One op a) = 1
+cost (Two op a b) = 1
+cost (Choose c a b) = 1
+cost (Concat os) = 1
+cost (Slice x hi lo) = 1
+cost (Cell m i) = 1
+
+abbrev costs : List Wire → ℕ
+costs [] = 0
+costs (w ∷ ws) = cost w.right + costs ws
+
+cost_most : (r : Right) → cost r ≤ 1
+cost_most (Copy a) = omega arith
+cost_most (One op a) = omega arith
+cost_most (Two op a b) = omega arith
+cost_most (Choose c a b) = omega arith
+cost_most (Concat os) = omega arith
+cost_most (Slice x hi lo) = omega arith
+cost_most (Cell m i) = omega arith
+
+cost_calculated : (w : Wire) (r : Right) (ws : List Wire) → w.right ≡ r → length (calculated (w ∷ ws)) ≡ cost r + length (calculated ws)
+cost_calculated w (Copy a) ws e = rw e (omega arith)
+cost_calculated w (One op a) ws e = rw e (omega arith)
+cost_calculated w (Two op a b) ws e = rw e (omega arith)
+cost_calculated w (Choose c a b) ws e = rw e (omega arith)
+cost_calculated w (Concat os) ws e = rw e (omega arith)
+cost_calculated w (Slice x hi lo) ws e = rw e (omega arith)
+cost_calculated w (Cell m i) ws e = rw e (omega arith)
+
+costs_are : (ws : List Wire) → length (calculated ws) ≡ costs ws
+costs_are [] = refl
+costs_are (w ∷ ws) = let e = cost_calculated w w.right ws refl in let r = costs_are ws in omega (arith, e, r)
+
+cost_replaced : (e : Stands) (r : Right) → cost (replaced e r) ≤ cost r
+cost_replaced e (Copy a) = omega arith
+cost_replaced e (One op a) = omega arith
+cost_replaced e (Two op a b) = omega arith
+cost_replaced e (Choose c a b) = omega arith
+cost_replaced e (Concat os) = omega arith
+cost_replaced e (Slice x hi lo) = cost_most (sliced (standing e x) hi lo)
+cost_replaced e (Cell m i) = omega arith
+
+cost_kept : (q r : Right) → ((a : Operand) → q ≡ Copy a → r ≡ Copy a) → cost r ≤ cost q
+cost_kept (Copy a) r h = let e = h a refl in rw e (omega arith)
+cost_kept (One op a) r h = cost_most r
+cost_kept (Two op a b) r h = cost_most r
+cost_kept (Choose c a b) r h = cost_most r
+cost_kept (Concat os) r h = cost_most r
+cost_kept (Slice x hi lo) r h = cost_most r
+cost_kept (Cell m i) r h = cost_most r
+
+adds_one : (taken : Name → Bool) (ws : List Wire) (next u : ℕ) (r : Right) (n : Name) (after : List Wire) (next_after : ℕ) → Adds taken ws next u r n after next_after → length after ≤ length ws + 1
+adds_one taken ws next u r n after next_after (inl t) = let e = ap length t.wires in omega (arith, e)
+adds_one taken ws next u r n after next_after (inr a) =
+    let e = ap length a.wires in
+    let l = length-append ws (record { name = n; width = u; right = r } ∷ []) in
+    omega (arith, e, l)
+
+provides_few : (taken : Name → Bool) (ws : List Wire) (next u : ℕ) (r : Right) (o : Operand) (after : List Wire) (next_after : ℕ) → Provides taken ws next u r o after next_after → length after ≤ length ws + cost r
+provides_few taken ws next u (Copy a) o after k p = let e = ap length p.1 in omega (arith, e)
+provides_few taken ws next u (One op a) o after k p = adds_one taken ws next u (One op a) p.0 after k p.2
+provides_few taken ws next u (Two op a b) o after k p = adds_one taken ws next u (Two op a b) p.0 after k p.2
+provides_few taken ws next u (Choose c a b) o after k p = adds_one taken ws next u (Choose c a b) p.0 after k p.2
+provides_few taken ws next u (Concat os) o after k p = adds_one taken ws next u (Concat os) p.0 after k p.2
+provides_few taken ws next u (Slice x hi lo) o after k p = adds_one taken ws next u (Slice x hi lo) p.0 after k p.2
+provides_few taken ws next u (Cell m i) o after k p = adds_one taken ws next u (Cell m i) p.0 after k p.2
+
+-- all steps
+
+folds_few : (taken : Name → Bool) (ws : List Wire) (s t : State) → Walked (Folds taken) s ws t → length t.wires ≤ length s.wires + costs ws
+folds_few taken [] s t k = let e = ap (λ (z : State). length z.wires) k in omega (arith, e)
+folds_few taken (w ∷ ws) s t k =
+    let f = k.1 in
+    let p = provides_few taken s.wires s.next w.width f.right f.steps.operand k.0.wires k.0.next f.steps.provides in
+    let q = cost_kept (replaced s.stands w.right) f.right f.copies in
+    let c = cost_replaced s.stands w.right in
+    let r = folds_few taken ws k.0 t k.2 in
+    omega (arith, p, q, c, r)
+
+copies_few : (taken : Name → Bool) (ws : List Wire) (s t : State) → Walked (Copies taken) s ws t → length t.wires ≤ length s.wires + costs ws
+copies_few taken [] s t k = let e = ap (λ (z : State). length z.wires) k in omega (arith, e)
+copies_few taken (w ∷ ws) s t k =
+    let p = provides_few taken s.wires s.next w.width (replaced s.stands w.right) k.1.operand k.0.wires k.0.next k.1.provides in
+    let c = cost_replaced s.stands w.right in
+    let r = copies_few taken ws k.0 t k.2 in
+    omega (arith, p, c, r)
+
+costs_some : (f : Wire → Bool) (ws : List Wire) → costs (filter f ws) ≤ costs ws
+costs_some f [] = omega arith
+costs_some f (w ∷ ws) =
+    let r = costs_some f ws in
+    elim (cases_Bool (f w)) [ inl t ↦ rw t (omega (arith, r)) | inr g ↦ rw g (omega (arith, r)) ]
+
+costs_built : (e : Stands) (ws xs : List Wire) → costs (ws ++ map (wire_of e) xs) ≤ length ws
+costs_built e [] [] = omega arith
+costs_built e [] (x ∷ xs) = let r = costs_built e [] xs in omega (arith, r)
+costs_built e (w ∷ ws) xs = let r = costs_built e ws xs in let c = cost_most w.right in omega (arith, r, c)
+
+parted : (f : Wire → Bool) (ws : List Wire) → length (filter f ws) + length (filter (λ w. not (f w)) ws) ≡ length ws
+parted f [] = refl
+parted f (w ∷ ws) =
+    let r = parted f ws in
+    elim (cases_Bool (f w)) [ inl t ↦ rw t (omega (arith, r)) | inr g ↦ rw g (omega (arith, r)) ]
+
+built_count : (n : Net) (ws : List Wire) (e : Stands) → length (built n ws e).wires ≡ length ws + length (shown_wires n)
+built_count n ws e =
+    let l = length-append ws (map (wire_of e) (shown_wires n)) in
+    let m = length-map (shown_wires n) (wire_of e) in
+    omega (arith, l, m)
+
+begun : (n : Net) (s : State) → Begins n s → length s.wires ≡ 0
+begun n s b = let e = ap length b.wires in omega (arith, e)
+
+-- No more wires of either kind than before.
+pub record KeepsFew (n r : Net) : Type 0 where
+  pub calculations : length (calculated r.wires) ≤ length (calculated n.wires)
+  pub shown : length (shown_wires r) ≤ length (shown_wires n)
+
+pub folded_few : (n : Net) (taken : Name → Bool) (s t : State) (ws : List Wire) (r : Net) → IsNetlist n → ((x : Name) → taken x ≡ is_among x (lasting_names n)) → Begins n s → ws ≡ n.wires → Walked (Folds taken) s ws t → r ≡ built n t.wires t.stands → KeepsFew n r
+folded_few n taken s t ws r rules is b e k p =
+    let d = done_fold n taken s t ws rules is b e k in
+    let B = built n t.wires t.stands in
+    let few = folds_few taken n.wires s t d.walked in
+    let none = begun n s b in
+    let before = costs_are n.wires in
+    let after = costs_are B.wires in
+    let made = costs_built t.stands t.wires (shown_wires n) in
+    let count = built_count n t.wires t.stands in
+    let parts = parted (λ w. is_among w.name (port_names B)) B.wires in
+    let helping = ap length (helping_are n t.wires t.stands (no_ports n taken _ t d.walks)) in
+    subst (KeepsFew n) (sym p) (record { calculations = omega (arith, few, none, before, after, made); shown = omega (arith, count, parts, helping) })
+
+pub dropped_few : (n : Net) (taken : Name → Bool) (f : Wire → Bool) (s t : State) (ws : List Wire) (r : Net) → Begins n s → ws ≡ n.wires → Walked (Copies taken) s (filter f ws) t → r ≡ built n t.wires t.stands → HasFewWires n r
+dropped_few n taken f s t ws r b e k p =
+    let few = copies_few taken (filter f ws) s t k in
+    let none = begun n s b in
+    let some = costs_some f ws in
+    let same = ap costs e in
+    let before = costs_are n.wires in
+    let count = built_count n t.wires t.stands in
+    subst (HasFewWires n) (sym p) (omega (arith, few, none, some, same, before, count))
+
+pub few_both : (a b c : Net) → KeepsFew a b → HasFewWires b c → HasFewWires a c
+few_both a b c k h = let p = k.calculations in let q = k.shown in omega (arith, p, q, h)

@@ -1,0 +1,19 @@
+-- How many wires a trimmed netlist has.
+use Rattle.std.specs.Prelude.{ℕ, ◌+◌, ◌≤◌, Bool, true, false, not, List, filter, length}
+use Rattle.sap_net.specs.Net.{Net}
+use Rattle.sap_net.specs.declared.parts.Right.{Right}
+use Rattle.sap_net.specs.declared.parts.Right.TheVariants.{Copy}
+use Rattle.sap_net.specs.declared.parts.Wire.{Wire}
+use Rattle.sap_trim.specs.Names.{shown_wires}
+
+abbrev pub is_copy : Right → Bool
+is_copy (Copy a) = true
+is_copy _ = false
+
+-- the wires that are no copies
+abbrev pub calculated : List Wire → List Wire
+calculated ws = filter (λ w. not (is_copy w.right)) ws
+
+-- It has at most one wire for each wire of the given netlist that is no copy, and one for each that is a port.
+abbrev pub HasFewWires : (given result : Net) → Type 0
+HasFewWires g r = length r.wires ≤ length (calculated g.wires) + length (shown_wires g)

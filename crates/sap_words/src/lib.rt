@@ -1,0 +1,9 @@
+//! The words of a command line as a command.
+#![tactic(auto)]
+
+pub mod command;
+mod number;
+mod read;
+
+pub use command::{Command, RunNumber};
+pub use read::command_of;

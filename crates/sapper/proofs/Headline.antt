@@ -1,0 +1,77 @@
+-- The headline follows from what a `compile` asks.
+use Rattle.std.proofs.Common.{◌≡◌, ◌≢◌, ℕ, List, refl, sym, ◌∙◌, ap, subst, inl, inr, ◌⊎◌, arith}
+use Rattle.std.specs.Prelude.{Option, Some, None, IfSome}
+use Rattle.sap_desk.specs.Desk.{Told, at_name}
+use Rattle.sap_desk.specs.Whole.{Between}
+use Rattle.sap_desk.proofs.Steps.{at_name-same}
+use Rattle.sap_lattice.specs.Levels.{Levels}
+use Rattle.sap_tree.specs.Syntax.{DesignTree}
+use Rattle.sap_net.specs.Net.{Net}
+use Rattle.sap_modtext.specs.Modules.{IsModule}
+use Rattle.sap_compile.specs.Compiles.{IsModuleFor}
+use Rattle.sap_words.specs.Words.{Words, command_of, compile}
+use Rattle.sapper.specs.Kinds.{Has, lattice_file, design_file}
+use Rattle.sapper.specs.Ending.{Ending, Refusal, done, refused, failed, no_memory, no_command, lattice_refused, design_refused, stimulus_refused, module_refused, level_refused, lengths_apart, inputs_apart, status_of, status_of_refusal}
+use Rattle.sapper.specs.Asks.{Asks, Cause, Files, Leaves, Written}
+use Rattle.sapper.specs.Commands.{IsModuleText, asks, asks_for, asks_if}
+use Rattle.sapper.specs.Answers.{Answers}
+use Rattle.sapper.specs.Exact.{Exact}
+use Rattle.sapper.specs.Headline.{CompilesExactly, Headline, MeansDesign}
+use Rattle.sapper.proofs.Modules.{one_module}
+
+-- a text of a module for the design means it
+means : (ls : Levels) (d : DesignTree) (text : List ℕ) → IsModuleText ls d text → MeansDesign ls d text
+means ls d text (net, is) = record {
+  net = net;
+  is_module = is.is_module;
+  no_other = λ other other_is. one_module text other net other_is is.is_module;
+  one_run = is.has_one_run;
+  means = is.stands.stands;
+  agree = is.agrees;
+  look_alike = is.looks_alike;
+}
+
+-- the status 0 is that of a call that is done alone
+done_alone : (e : Ending) → 0 ≡ status_of e → e ≡ done
+done_alone done is = refl
+done_alone (refused (design_refused fault)) is = absurd (omega (arith, is))
+done_alone (refused no_command) is = absurd (omega (arith, is))
+done_alone (refused (level_refused word)) is = absurd (omega (arith, is))
+done_alone (refused (lattice_refused fault)) is = absurd (omega (arith, is))
+done_alone (refused (stimulus_refused place fault)) is = absurd (omega (arith, is))
+done_alone (refused (module_refused fault)) is = absurd (omega (arith, is))
+done_alone (refused (lengths_apart one other)) is = absurd (omega (arith, is))
+done_alone (refused (inputs_apart cycle name)) is = absurd (omega (arith, is))
+done_alone (failed name) is = absurd (omega (arith, is))
+done_alone no_memory is = absurd (omega (arith, is))
+
+module _ (lattice design out : List ℕ) (answer : ℕ) (t n : Told) where
+  written : Written (asks (compile lattice design out)) t n.files
+      → (ls : Levels) × (d : DesignTree) × Has t lattice lattice_file ls × Has t design (design_file ls) d
+      × ((text : List ℕ) × (n.files out ≡ Some text) × MeansDesign ls d text)
+  written (ls, has, (d, is, (text, module_for, files))) =
+      (ls, d, has, is, (text, ap (λ (fs : Files). fs out) files ∙ at_name-same out (Some text) t.files, means ls d text module_for))
+
+  always : ((e : Ending) → Cause (asks (compile lattice design out)) t e → (answer ≡ status_of e) ⊎ ((answer ≡ 6) ⊎ (answer ≡ 7)))
+      → (ls : Levels) (d : DesignTree) → Has t lattice lattice_file ls → Has t design (design_file ls) d → answer ≢ 6 → answer ≢ 7 → answer ≡ 0
+  always exact ls d has is no_failure no_want = elim (exact done (inr (ls, has, inr (d, is, refl)))) [
+    | inl zero ↦ zero
+    | inr (inl six) ↦ absurd (no_failure six)
+    | inr (inr seven) ↦ absurd (no_want seven)
+  ]
+
+headline : (words : List (List ℕ)) (lost now answer : ℕ) (t n : Told) → Answers words lost now answer t n → Exact words t answer → Headline words answer t n
+headline words lost now answer t n a exact = λ lattice design out is. record {
+  only = λ zero.
+      let ended : a.ending ≡ done = done_alone a.ending (sym zero ∙ a.status) in
+      let left : Leaves (asks_for words) t n.files done = subst (λ (e : Ending). Leaves (asks_for words) t n.files e) ended a.leaves in
+      written lattice design out answer t n (subst (λ (c : Option Words). Written (asks_if c) t n.files) is left);
+  always = always lattice design out answer t n
+      (subst (λ (c : Option Words). (e : Ending) → Cause (asks_if c) t e → (answer ≡ status_of e) ⊎ ((answer ≡ 6) ⊎ (answer ≡ 7))) is exact.always);
+}
+
+pub headline_told : (words : List (List ℕ)) (lost now answer : ℕ) (old new : Option Told) → Between old new (Answers words lost now answer)
+    → IfSome old (λ t. Exact words t answer) → Between old new (Headline words answer)
+headline_told words lost now answer None new a exact = tt
+headline_told words lost now answer (Some t) None a exact = absurd a
+headline_told words lost now answer (Some t) (Some n) a exact = headline words lost now answer t n a exact

@@ -1,0 +1,55 @@
+-- The headline. A design compiles exactly when it is well formed; the module written, read by its grammar and clocked on any tagged input stream, has in
+-- every cycle the values, tags, active states and refused writes of Sapper's labelled meaning; and for two streams that agree at or below a level, the
+-- module's runs agree there in every cycle, timing included.
+use Rattle.std.specs.Prelude.{◌≡◌, ◌≢◌, ℕ, List, map, Some}
+use Rattle.sap_desk.specs.Desk.{Told}
+use Rattle.sap_lattice.specs.Levels.{Levels}
+use Rattle.sap_maps.specs.Maps.{Valuation}
+use Rattle.sap_meaning.specs.Cycle.{Tagged}
+use Rattle.sap_meaning.specs.State.{StreamFits, labelled_run}
+use Rattle.sap_tree.specs.Syntax.{DesignTree}
+use Rattle.sap_net.specs.Net.{Net}
+use Rattle.sap_net.specs.Runs.{IsRun, observed}
+use Rattle.sap_modtext.specs.Modules.{IsModule}
+use Rattle.sap_interface.specs.Compiled.{CyclesStand, coded_stream}
+use Rattle.sap_interface.specs.Designs.{named_of, sites_of}
+use Rattle.sap_interface.specs.StandsFor.{world}
+use Rattle.sap_compile.specs.Agree.{RunsAgree, RunsLookAlike}
+use Rattle.sap_compile.specs.Runs.{HasOneRunOnStreams}
+use Rattle.sap_words.specs.Words.{command_of, compile}
+use Rattle.sapper.specs.Kinds.{Has, lattice_file, design_file}
+
+-- In every cycle of each run of a netlist on a stream of tagged inputs, levels being given as codes, it has the values, tags, active states and refused
+-- writes of the same cycle of the design's labelled run.
+abbrev pub MeansInEveryCycle : Levels → DesignTree → Net → Type 0
+MeansInEveryCycle ls d net =
+    (stream : List (List Tagged)) → StreamFits (world (named_of ls d)) stream
+    → (vs : List Valuation) → IsRun net (coded_stream (named_of ls d).code stream) vs
+    → CyclesStand (named_of ls d) (sites_of d) (map (observed net) vs) (labelled_run (named_of ls d).program stream)
+
+-- A text is the one module that means what a design does.
+pub record MeansDesign (ls : Levels) (d : DesignTree) (text : List ℕ) : Type 0 where
+  pub net : Net
+  -- by the grammar of modules the text is this module, and no other
+  pub is_module : IsModule text net
+  pub no_other : (other : Net) → IsModule text other → other ≡ net
+  -- clocked on any stream that fits the design it has one run, and that has the design's meaning
+  pub one_run : HasOneRunOnStreams ls d net
+  pub means : MeansInEveryCycle ls d net
+  -- on streams that agree at or below a level the runs agree there in every cycle, in states and refusals and in plain numbers
+  pub agree : RunsAgree ls d net
+  pub look_alike : RunsLookAlike ls d net
+
+-- of the answer of a `compile` and the desk before and after it
+pub record CompilesExactly (lattice design out : List ℕ) (answer : ℕ) (t n : Told) : Type 0 where
+  -- where it is done the design is well formed over the lattice, and what is written means it
+  pub only : answer ≡ 0
+      → (ls : Levels) × (d : DesignTree) × Has t lattice lattice_file ls × Has t design (design_file ls) d
+      × ((text : List ℕ) × (n.files out ≡ Some text) × MeansDesign ls d text)
+  -- where the design is well formed it is done, but for a failed call on the desk (6) and want of memory (7)
+  pub always : (ls : Levels) (d : DesignTree) → Has t lattice lattice_file ls → Has t design (design_file ls) d → answer ≢ 6 → answer ≢ 7 → answer ≡ 0
+
+-- The words are those of a `compile`.
+abbrev pub Headline : (words : List (List ℕ)) → (answer : ℕ) → Told → Told → Type 0
+Headline words answer t n =
+    (lattice design out : List ℕ) → command_of words ≡ Some (compile lattice design out) → CompilesExactly lattice design out answer t n

@@ -1,0 +1,570 @@
+//! What `run`, `trace`, `fmt`, `sim` and `report` write, by rows.
+
+use sap_desk::MemoryDesk;
+use sapper::sapper;
+use sapper_fixture::{
+    ADDS_ONE, COMPILE, DIAMOND, FMT, KEEPS_LOW, PENTAGON, REPORT, RUN, TRACE, TWO, desk, words,
+};
+use std::alloc::{AllocError, Global};
+use std::test::Fail;
+
+struct Row {
+    words: &'static [&'static str],
+    lattice: &'static str,
+    design: &'static str,
+    stimulus: &'static str,
+    status: u8,
+    output: &'static str,
+    line: &'static str,
+}
+
+static REFUSED_RUNS: [Row; 4] = [
+    // files are refused in the order of the words
+    Row {
+        words: RUN,
+        lattice: "levels",
+        design: "",
+        stimulus: "5@low",
+        status: 3,
+        output: "",
+        line: "lattice: L1\n",
+    },
+    Row {
+        words: RUN,
+        lattice: TWO,
+        design: "",
+        stimulus: "5@low",
+        status: 1,
+        output: "",
+        line: "design: E2 1:1\n",
+    },
+    Row {
+        words: &["run", "N", "D", "S"],
+        lattice: TWO,
+        design: "",
+        stimulus: "",
+        status: 6,
+        output: "",
+        line: "desk: N\n",
+    },
+    Row {
+        words: &["run", "L", "D", "N"],
+        lattice: TWO,
+        design: ADDS_ONE,
+        stimulus: "",
+        status: 6,
+        output: "",
+        line: "desk: N\n",
+    },
+];
+
+static REFUSED_TRACES: [Row; 4] = [
+    Row {
+        words: TRACE,
+        lattice: "levels",
+        design: "",
+        stimulus: "5@low",
+        status: 3,
+        output: "",
+        line: "lattice: L1\n",
+    },
+    Row {
+        words: TRACE,
+        lattice: TWO,
+        design: "",
+        stimulus: "5@low",
+        status: 1,
+        output: "",
+        line: "design: E2 1:1\n",
+    },
+    Row {
+        words: &["trace", "N", "D", "S"],
+        lattice: TWO,
+        design: "",
+        stimulus: "",
+        status: 6,
+        output: "",
+        line: "desk: N\n",
+    },
+    Row {
+        words: &["trace", "L", "D", "N"],
+        lattice: TWO,
+        design: ADDS_ONE,
+        stimulus: "",
+        status: 6,
+        output: "",
+        line: "desk: N\n",
+    },
+];
+
+static TEXTS: [Row; 4] = [
+    // the canonical text, with parentheses only where they are needed
+    Row {
+        words: FMT,
+        lattice: "",
+        design: "input a:8;reg x:8 dynamic;state S enforced low{x:=(a+1)&(a|x);goto S;}",
+        stimulus: "",
+        status: 0,
+        output: "input a : 8;\nreg x : 8 dynamic;\nstate S enforced low {\n  x := a + 1 & (a | x);\n  goto S;\n}\n",
+        line: "",
+    },
+    // a block gets lines of its own
+    Row {
+        words: FMT,
+        lattice: "",
+        design: "reg x:8 dynamic;state S enforced low{if(x==0){x:=1;}goto S;}",
+        stimulus: "",
+        status: 0,
+        output: "reg x : 8 dynamic;\nstate S enforced low {\n  if (x == 0) {\n    x := 1;\n  }\n  goto S;\n}\n",
+        line: "",
+    },
+    Row {
+        words: FMT,
+        lattice: "",
+        design: "",
+        stimulus: "",
+        status: 1,
+        output: "",
+        line: "design: E2 1:1\n",
+    },
+    Row {
+        words: &["fmt", "N"],
+        lattice: "",
+        design: "",
+        stimulus: "",
+        status: 6,
+        output: "",
+        line: "desk: N\n",
+    },
+];
+
+static REPORTS: [Row; 9] = [
+    Row {
+        words: REPORT,
+        lattice: DIAMOND,
+        design: "input a : 8;\nreg x : 8 dynamic;\nstate S enforced low {\n  if (a == 1) { x := 1; }\n  goto S;\n}\n",
+        stimulus: "",
+        status: 0,
+        output: "level low 0\nlevel a 2\nlevel b 1\nlevel high 3\nif 4:3 hangs x\nsite 1 5:3 goto S\n",
+        line: "",
+    },
+    Row {
+        words: REPORT,
+        lattice: PENTAGON,
+        design: "state S enforced bot { goto S; }",
+        stimulus: "",
+        status: 0,
+        output: "level bot 0\nlevel p 4\nlevel q 5\nlevel r 3\nlevel top 7\nsite 1 1:24 goto S\n",
+        line: "",
+    },
+    // a `fall` is no check site where the children are dynamic
+    Row {
+        words: REPORT,
+        lattice: TWO,
+        design: "input a : 8;\nreg x : 8 dynamic;\nreg y : 8 enforced low;\nstate P enforced low {\n  y := a otherwise { x := 1; }\n  if (a == 1) { y := 2; }\n  fall;\n  state C dynamic {\n    x := a;\n    goto C;\n  }\n}\n",
+        stimulus: "",
+        status: 0,
+        output: "level low 0\nlevel high 1\notherwise 5:10 hangs x\nif 6:3 hangs -\nfall 7:3 hangs x C\nsite 1 5:3 write y\nsite 2 6:17 write y\n",
+        line: "",
+    },
+    Row {
+        words: REPORT,
+        lattice: TWO,
+        design: "input a : 8;\nreg z : 8 enforced low;\nstate P enforced low {\n  setTag(z, level(a));\n  fall;\n  state S dynamic {\n    if (a == 1) { goto T; } else { goto S; }\n  }\n  state T enforced high {\n    goto S;\n  }\n}\n",
+        stimulus: "",
+        status: 0,
+        output: "level low 0\nlevel high 1\nfall 5:3 hangs S\nif 7:5 hangs S\nsite 1 4:3 setTag z\nsite 2 5:3 fall P\nsite 3 7:19 goto T\nsite 4 10:5 goto S\n",
+        line: "",
+    },
+    Row {
+        words: REPORT,
+        lattice: "levels = [\"low\", \"a\", \"b\"]\nbelow = [[\"low\", \"a\"], [\"low\", \"b\"]]\n",
+        design: "",
+        stimulus: "",
+        status: 3,
+        output: "",
+        line: "lattice: L7 a b\n",
+    },
+    Row {
+        words: REPORT,
+        lattice: TWO,
+        design: "",
+        stimulus: "",
+        status: 1,
+        output: "",
+        line: "design: E2 1:1\n",
+    },
+    Row {
+        words: REPORT,
+        lattice: TWO,
+        design: "reg x : 8 dynamic;\nstate S enforced low {\n  if (y == 0) { x := 1; }\n  goto S;\n}\n",
+        stimulus: "",
+        status: 1,
+        output: "",
+        line: "design: E4 3:7\n",
+    },
+    Row {
+        words: REPORT,
+        lattice: TWO,
+        design: "mem m : 8[4] dynamic;\nstate S enforced low {\n  m[0] := 1;\n  m[1] := 2;\n  goto S;\n}\n",
+        stimulus: "",
+        status: 1,
+        output: "",
+        line: "design: E14 4:3\n",
+    },
+    Row {
+        words: &["report", "L", "N"],
+        lattice: TWO,
+        design: "",
+        stimulus: "",
+        status: 6,
+        output: "",
+        line: "desk: N\n",
+    },
+];
+
+fn files<'a>(
+    alloc: Global,
+    lattice: &'a str,
+    design: &'a str,
+    stimulus: &'a str,
+) -> Result<MemoryDesk, AllocError> {
+    desk(alloc, &[("L", lattice), ("D", design), ("S", stimulus)])
+}
+
+fn answers_as_said(alloc: Global, row: &Row) -> Result<bool, AllocError> {
+    let words = words(alloc, row.words)?;
+    let mut desk = files(alloc, row.lattice, row.design, row.stimulus)?;
+    let status = sapper(alloc, &words, &mut desk);
+    Ok(
+        status == row.status
+            && desk.output() == row.output.as_bytes()
+            && desk.fault_text() == row.line.as_bytes()
+            && desk.file("L") == Some(row.lattice.as_bytes())
+            && desk.file("D") == Some(row.design.as_bytes())
+            && desk.file("S") == Some(row.stimulus.as_bytes()),
+    )
+}
+
+/// The place of the first call that answers otherwise than its row says.
+fn first_wrong(alloc: Global, rows: &[Row]) -> Result<Option<usize>, AllocError> {
+    for (place, row) in rows.iter().enumerate() {
+        if !answers_as_said(alloc, row)? {
+            return Ok(Some(place));
+        }
+    }
+    Ok(None)
+}
+
+#[test]
+fn a_run_refuses_its_files(rt: HostRuntime) -> Result<(), Fail> {
+    assert_eq!(rt; first_wrong(rt.alloc(), &REFUSED_RUNS)?, None);
+    Ok(())
+}
+
+#[test]
+fn a_trace_refuses_its_files(rt: HostRuntime) -> Result<(), Fail> {
+    assert_eq!(rt; first_wrong(rt.alloc(), &REFUSED_TRACES)?, None);
+    Ok(())
+}
+
+#[test]
+fn fmt_writes_the_canonical_text(rt: HostRuntime) -> Result<(), Fail> {
+    assert_eq!(rt; first_wrong(rt.alloc(), &TEXTS)?, None);
+    Ok(())
+}
+
+#[test]
+fn report_writes_what_hangs(rt: HostRuntime) -> Result<(), Fail> {
+    assert_eq!(rt; first_wrong(rt.alloc(), &REPORTS)?, None);
+    Ok(())
+}
+
+// Words that are no command.
+static NO_COMMANDS: [&[&str]; 21] = [
+    &["run"],
+    &["run", "L", "D"],
+    &["run", "L", "D", "S", "S"],
+    &["Run", "L", "D", "S"],
+    &["run", "L", "D", "-S"],
+    &["trace", "L", "D"],
+    &["trace", "L", "D", "S", "S"],
+    &["trace", "L", "-D", "S"],
+    &["Trace", "L", "D", "S"],
+    &["fmt"],
+    &["fmt", "-D"],
+    &["fmt", "D", "D"],
+    &["fmt", "L", "D", "S"],
+    &["sim", "L", "D"],
+    &["sim", "L", "D", "S", "S"],
+    &["sim", "-", "D", "S"],
+    &["report", "L"],
+    &["report", "L", "D", "D"],
+    &["report", "-L", "D"],
+    &["report", "L", "-"],
+    &["Report", "L", "D"],
+];
+
+#[test]
+fn refuses_words(rt: HostRuntime) -> Result<(), Fail> {
+    let alloc = rt.alloc();
+    for list in &NO_COMMANDS {
+        let words = words(alloc, list)?;
+        let mut desk = files(alloc, TWO, ADDS_ONE, "5@low\n")?;
+        assert_eq!(rt; sapper(alloc, &words, &mut desk), 2);
+        assert_eq!(rt; desk.fault_text(), b"words\n".as_slice());
+        assert_eq!(rt; desk.output(), b"".as_slice());
+    }
+    Ok(())
+}
+
+// Each file is opened, read, read to its end and finished; then the rows or the lines of the trace are written.
+static BLAMED: [&str; 13] = [
+    "desk: L\n",
+    "desk: L\n",
+    "desk: L\n",
+    "desk: L\n",
+    "desk: D\n",
+    "desk: D\n",
+    "desk: D\n",
+    "desk: D\n",
+    "desk: S\n",
+    "desk: S\n",
+    "desk: S\n",
+    "desk: S\n",
+    "desk: output\n",
+];
+
+#[test]
+fn each_call_of_a_run_fails_in_turn(rt: HostRuntime) -> Result<(), Fail> {
+    let alloc = rt.alloc();
+    let words = words(alloc, RUN)?;
+    for (before, line) in BLAMED.iter().enumerate() {
+        let mut desk = files(alloc, TWO, ADDS_ONE, "5@low\n255@high\n")?;
+        desk.fail_at(before as u64 + 1)?;
+        assert_eq!(rt; sapper(alloc, &words, &mut desk), 6, "call {before}");
+        assert_eq!(rt; desk.fault_text(), line.as_bytes(), "call {before}");
+        // a failing write takes the first half of the rows
+        let cut = if before == 12 {
+            "cycle 1: x=6@low\n"
+        } else {
+            ""
+        };
+        assert_eq!(rt; desk.output(), cut.as_bytes(), "call {before}");
+    }
+    Ok(())
+}
+
+#[test]
+fn each_call_of_a_trace_fails_in_turn(rt: HostRuntime) -> Result<(), Fail> {
+    let alloc = rt.alloc();
+    let words = words(alloc, TRACE)?;
+    for (before, line) in BLAMED.iter().enumerate() {
+        let mut desk = files(alloc, TWO, KEEPS_LOW, "5@high\n6@high\n")?;
+        desk.fail_at(before as u64 + 1)?;
+        assert_eq!(rt; sapper(alloc, &words, &mut desk), 6, "call {before}");
+        assert_eq!(rt; desk.fault_text(), line.as_bytes(), "call {before}");
+        // a failing write takes the first half of the lines
+        let cut = if before == 12 {
+            "cycle 1: site 1 write y at low\n"
+        } else {
+            ""
+        };
+        assert_eq!(rt; desk.output(), cut.as_bytes(), "call {before}");
+    }
+    Ok(())
+}
+
+#[test]
+fn each_call_of_a_report_fails_in_turn(rt: HostRuntime) -> Result<(), Fail> {
+    let alloc = rt.alloc();
+    let words = words(alloc, REPORT)?;
+    for before in 0..9_usize {
+        let mut desk = files(alloc, TWO, "state S enforced low { goto S; }", "")?;
+        desk.fail_at(before as u64 + 1)?;
+        assert_eq!(rt; sapper(alloc, &words, &mut desk), 6, "call {before}");
+        let (line, cut) = if before < 8 {
+            (BLAMED[before], "")
+        } else {
+            // a failing write takes the first half of the report
+            ("desk: output\n", "level low 0\nlevel high")
+        };
+        assert_eq!(rt; desk.fault_text(), line.as_bytes(), "call {before}");
+        assert_eq!(rt; desk.output(), cut.as_bytes(), "call {before}");
+    }
+    Ok(())
+}
+
+struct Module {
+    lattice: &'static str,
+    text: &'static str,
+    stimulus: &'static str,
+    status: u8,
+    output: &'static str,
+    line: &'static str,
+}
+
+static MODULES: [Module; 12] = [
+    // a name that is used before it is declared
+    Module {
+        lattice: TWO,
+        text: "module top(input clk, output reg [7:0] v_x);\nwire [7:0] n1;\nwire [7:0] n2;\nassign n1 = v_x;\nassign n2 = n3 + n1;\nwire [7:0] n3;\nassign n3 = 8'd1;\ninitial v_x = 8'd0;\nalways @(posedge clk) v_x <= n2;\nendmodule\n",
+        stimulus: "\n",
+        status: 5,
+        output: "",
+        line: "module: V4 5:13\n",
+    },
+    // registers step at once
+    Module {
+        lattice: TWO,
+        text: "module top(input clk, output reg [7:0] v_x, output reg [0:0] t_x, output reg [7:0] v_y, output reg [0:0] t_y);\ninitial v_x = 8'd1;\ninitial t_x = 1'd0;\ninitial v_y = 8'd2;\ninitial t_y = 1'd0;\nalways @(posedge clk) v_x <= v_y;\nalways @(posedge clk) t_x <= t_y;\nalways @(posedge clk) v_y <= v_x;\nalways @(posedge clk) t_y <= t_x;\nendmodule\n",
+        stimulus: "\n",
+        status: 0,
+        output: "cycle 1: x=2@low y=1@low\n",
+        line: "",
+    },
+    // the other codes
+    Module {
+        lattice: TWO,
+        text: "",
+        stimulus: "\n",
+        status: 5,
+        output: "",
+        line: "module: V2 1:1\n",
+    },
+    Module {
+        lattice: TWO,
+        text: "module top(input clk);\n#\nendmodule\n",
+        stimulus: "\n",
+        status: 5,
+        output: "",
+        line: "module: V1 2:1\n",
+    },
+    Module {
+        lattice: TWO,
+        text: "module top(input clk, input [7:0] a, input [7:0] a); endmodule",
+        stimulus: "\n",
+        status: 5,
+        output: "",
+        line: "module: V3 1:50\n",
+    },
+    Module {
+        lattice: TWO,
+        text: "module top(input clk);\nwire [64:0] n;\nassign n = 1'd0;\nendmodule\n",
+        stimulus: "\n",
+        status: 5,
+        output: "",
+        line: "module: V5 2:7\n",
+    },
+    Module {
+        lattice: TWO,
+        text: "module top(input clk);\nwire [7:0] n;\nendmodule\n",
+        stimulus: "\n",
+        status: 5,
+        output: "",
+        line: "module: V6 2:12\n",
+    },
+    Module {
+        lattice: TWO,
+        text: "module top(input clk);\nreg [7:0] m [0:2];\ninteger i;\ninitial for (i = 0; i < 3; i = i + 1) m[i] = 8'd0;\nalways @(posedge clk) if (1'd0) m[1'd0] <= 8'd0;\nendmodule\n",
+        stimulus: "\n",
+        status: 5,
+        output: "",
+        line: "module: V7 2:16\n",
+    },
+    // a plain input, and a value that is too large for it
+    Module {
+        lattice: TWO,
+        text: "module top(input clk, input [3:0] b, output reg [7:0] v_x, output reg [0:0] t_x);\nwire [7:0] n;\nassign n = {4'd0, b};\ninitial v_x = 8'd0;\ninitial t_x = 1'd1;\nalways @(posedge clk) v_x <= n;\nalways @(posedge clk) t_x <= t_x;\nendmodule\n",
+        stimulus: "9\n16\n3\n",
+        status: 4,
+        output: "cycle 1: x=9@high\n",
+        line: "stimulus 1: S2 line 2\n",
+    },
+    // a tag that stands before its value
+    Module {
+        lattice: TWO,
+        text: "module top(input clk, input [0:0] t_a, input [7:0] v_a, output reg [7:0] v_x, output reg [0:0] t_x);\ninitial v_x = 8'd0;\ninitial t_x = 1'd0;\nalways @(posedge clk) v_x <= v_a;\nalways @(posedge clk) t_x <= t_a;\nendmodule\n",
+        stimulus: "7@high\n",
+        status: 0,
+        output: "cycle 1: x=7@high\n",
+        line: "",
+    },
+    // no registers, and registers without a tag or with a wide one
+    Module {
+        lattice: TWO,
+        text: "module top(input clk, output wire [0:0] n, output reg [7:0] v_x, output reg [7:0] v_y, output reg [1:0] t_y);\nassign n = 1'd1;\ninitial v_x = 8'd0;\ninitial v_y = 8'd0;\ninitial t_y = 2'd0;\nalways @(posedge clk) v_x <= v_y;\nalways @(posedge clk) v_y <= v_x;\nalways @(posedge clk) t_y <= t_y;\nendmodule\n",
+        stimulus: "\n\n",
+        status: 0,
+        output: "cycle 1:\ncycle 2:\n",
+        line: "",
+    },
+    // a tag that is no level's code
+    Module {
+        lattice: PENTAGON,
+        text: "module top(input clk, output reg [7:0] v_x, output reg [2:0] t_x);\ninitial v_x = 8'd6;\ninitial t_x = 3'd1;\nalways @(posedge clk) v_x <= v_x;\nalways @(posedge clk) t_x <= t_x;\nendmodule\n",
+        stimulus: "\n",
+        status: 0,
+        output: "cycle 1: x=6@#1\n",
+        line: "",
+    },
+];
+
+fn simulates_as_said(alloc: Global, row: &Module) -> Result<bool, AllocError> {
+    let words = words(alloc, &["sim", "L", "D", "S"])?;
+    let mut desk = files(alloc, row.lattice, row.text, row.stimulus)?;
+    let status = sapper(alloc, &words, &mut desk);
+    Ok(
+        status == row.status
+            && desk.fault_text() == row.line.as_bytes()
+            && desk.output() == row.output.as_bytes(),
+    )
+}
+
+/// The place of the first module that is simulated otherwise than its row says.
+fn first_wrong_module(alloc: Global, rows: &[Module]) -> Result<Option<usize>, AllocError> {
+    for (place, row) in rows.iter().enumerate() {
+        if !simulates_as_said(alloc, row)? {
+            return Ok(Some(place));
+        }
+    }
+    Ok(None)
+}
+
+#[test]
+fn simulates_modules(rt: HostRuntime) -> Result<(), Fail> {
+    assert_eq!(rt; first_wrong_module(rt.alloc(), &MODULES)?, None);
+    Ok(())
+}
+
+// Designs, and how many sums their modules have: an expression that is needed again is the wire that it was.
+static SUMS: [(&str, usize); 3] = [
+    (
+        "input a : 8;\ninput b : 8;\nreg x : 8 dynamic;\nreg y : 8 dynamic;\nstate S enforced low {\n  y := a + b;\n  x := (a + b) * (a + b);\n  goto S;\n}\n",
+        1,
+    ),
+    (
+        "input a : 8;\ninput b : 8;\nreg x : 8 dynamic;\nreg y : 8 enforced low;\nstate S enforced low {\n  y := a + b;\n  y := a + b;\n  x := a + b;\n  goto S;\n}\n",
+        1,
+    ),
+    (
+        "input a : 8;\ninput b : 8;\nreg x : 8 dynamic;\nreg y : 8 dynamic;\nstate S enforced low {\n  y := a + b;\n  x := b + a;\n  goto S;\n}\n",
+        2,
+    ),
+];
+
+fn sums(text: &[u8]) -> usize {
+    text.iter().filter(|byte| **byte == b'+').count()
+}
+
+#[test]
+fn an_expression_is_built_once(rt: HostRuntime) -> Result<(), Fail> {
+    let alloc = rt.alloc();
+    let compile = words(alloc, COMPILE)?;
+    for (row, (design, found)) in SUMS.iter().enumerate() {
+        let mut desk = files(alloc, TWO, design, "")?;
+        assert_eq!(rt; sapper(alloc, &compile, &mut desk), 0, "row {row}");
+        assert_eq!(rt; sums(desk.file("O").unwrap_or(b"")), *found, "row {row}");
+    }
+    Ok(())
+}
