@@ -1,5 +1,5 @@
 -- The netlist of a walk's wires is a netlist.
-use Rattle.std.proofs.Common.{◌≡◌, ℕ, ◌+◌, ◌^◌, ◌<◌, ◌||◌, ◌&&◌, List, [], ◌∷◌, ◌++◌, map, filter, length, Some, None, Bool, true, false, sym, ap, ap₂, ◌∙◌, subst, refl, inl, inr, arith, append-nil}
+use Rattle.std.proofs.Common.{◌≡◌, ℕ, ◌||◌, ◌&&◌, List, [], ◌∷◌, ◌++◌, map, filter, Some, Bool, true, false, sym, ap, ap₂, ◌∙◌, subst, refl, inl, inr, arith, append-nil}
 use Rattle.std.specs.Str.{bytes_eq}
 use Rattle.std.specs.List.{AllByRecursion}
 use Rattle.std.proofs.lemmas.Bool.{cases_Bool}
@@ -14,20 +14,20 @@ use Rattle.sap_net.specs.declared.parts.Port.{Port}
 use Rattle.sap_net.specs.declared.parts.Register.{Register}
 use Rattle.sap_net.specs.declared.parts.Memory.{Memory}
 use Rattle.sap_net.specs.declared.parts.Operand.{Operand}
-use Rattle.sap_net.specs.declared.parts.Operand.TheVariants.{Named, Constant}
 use Rattle.sap_net.specs.declared.parts.Wire.{Wire}
-use Rattle.sap_net.specs.Rules.{Shapes, IsWidth, IsOperand, AreWires, readable_after, IsRegister, IsMemory, AreValues, AreMemories}
+use Rattle.sap_net.specs.Rules.{Shapes, IsOperand, AreWires, readable_after, IsRegister, IsMemory}
 use Rattle.sap_net.specs.IsNetlist.{input_names, wire_names, register_names, memory_names, first_readable, readable, shapes, is_input, PortShows, IsNetlist}
-use Rattle.sap_trim.specs.Names.{helper, names_of, port_names, lasting_names, shown_wires}
+use Rattle.sap_fold.specs.Gives.{Numbers}
+use Rattle.sap_trim.specs.Names.{names_of, port_names, lasting_names, shown_wires}
 use Rattle.sap_trim.specs.Replaced.{Stands, standing, standing_operand}
 use Rattle.sap_trim.specs.Walked.{State}
 use Rattle.sap_trim.specs.Built.{wire_of, register_of, memory_of, built}
-use Rattle.sap_trim.proofs.Helpers.{helper_is_name}
-use Rattle.sap_trim.proofs.Lists.{or_none, or_elim, or_true, same_test, among_front, among_behind, among_append, none_among, none_both, filter_among, filter_distinct, filter_append, filter_none, filter_same, filter_within, and_both, each_among, among_each, distinct_both, all_append, all_map, all_from}
-use Rattle.sap_trim.proofs.Declared.{wires_new, wires_distinct, IsNewWire, each_new, all_filter, filter_holds, names_filter, names_append, declared_names, ports_in_front}
+use Rattle.sap_fold.proofs.Helpers.{helper_is_name}
+use Rattle.sap_fold.proofs.Lists.{or_none, or_elim, or_true, among_front, among_behind, none_among, filter_among, filter_distinct, filter_append, filter_none, filter_same, filter_within, and_both, each_among, among_each, distinct_both, all_append, all_map, all_from}
+use Rattle.sap_trim.proofs.Declared.{wires_distinct, IsNewWire, each_new, all_filter, filter_holds, names_filter, names_append, declared_names, ports_in_front}
 use Rattle.sap_trim.proofs.Replaced.{Finds, name_fits, operand_fits}
-use Rattle.sap_trim.proofs.Provided as wires
-use Rattle.sap_trim.proofs.Provided.{Grows, operand_grows, readable_both, wires_both, readable_kept, new_behind}
+use Rattle.sap_fold.proofs.Provided as wires
+use Rattle.sap_fold.proofs.Provided.{Grows, operand_grows, readable_both, wires_both, readable_kept, new_behind}
 use Rattle.sap_trim.proofs.Follows.{Follows}
 
 -- What ports, registers and memories of a netlist read is in a scope.
@@ -95,10 +95,10 @@ names_apart (w ∷ ws) n h =
     let q : bytes_eq n w.name ≡ false = name_apart n w.name r.0 in
     (apart_back n w.name q, names_apart ws n r.1)
 
-pub untaken : (taken : Name → Bool) (ws : List Wire) (next : ℕ) → wires.Numbers taken ws next → AllByRecursion (λ x. taken x ≡ false) (names_of ws)
+pub untaken : (taken : Name → Bool) (ws : List Wire) (next : ℕ) → Numbers taken ws next → AllByRecursion (λ x. taken x ≡ false) (names_of ws)
 untaken taken ws next n = all_map (λ x. taken x ≡ false) (λ (w : Wire). w.name) ws (all_from _ (λ (w : Wire). taken w.name ≡ false) ws (λ w h. h.3) n.each)
 
-helpers_named : (taken : Name → Bool) (ws : List Wire) (next : ℕ) → wires.Numbers taken ws next → AllByRecursion (λ x. is_name x ≡ true) (names_of ws)
+helpers_named : (taken : Name → Bool) (ws : List Wire) (next : ℕ) → Numbers taken ws next → AllByRecursion (λ x. is_name x ≡ true) (names_of ws)
 helpers_named taken ws next n =
     all_map (λ x. is_name x ≡ true) (λ (w : Wire). w.name) ws
     (all_from _ (λ (w : Wire). is_name w.name ≡ true) ws (λ w h. subst (λ (x : Name). is_name x ≡ true) (sym h.2) (helper_is_name h.0 (omega (arith, h.1, n.small)))) n.each)

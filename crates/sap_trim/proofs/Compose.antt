@@ -1,5 +1,5 @@
 -- One pass behind another.
-use Rattle.std.proofs.Common.{◌≡◌, ℕ, List, [], ◌∷◌, map, Some, None, sym, ap, ◌∙◌, subst, refl}
+use Rattle.std.proofs.Common.{◌≡◌, ℕ, List, [], ◌∷◌, map, None, sym, ap, ◌∙◌, subst, refl}
 use Rattle.std.specs.List.{AllByRecursion}
 use Rattle.sap_maps.specs.Maps.{Name, Valuation}
 use Rattle.sap_net.specs.Net.{Net}
@@ -8,10 +8,10 @@ use Rattle.sap_net.specs.declared.parts.Input.{Input}
 use Rattle.sap_net.specs.declared.parts.Register.{Register}
 use Rattle.sap_net.specs.declared.parts.Memory.{Memory}
 use Rattle.sap_net.specs.IsNetlist.{width_of, IsNetlist}
-use Rattle.sap_net.specs.Runs.{IsRun, AllFit, observed}
+use Rattle.sap_net.specs.Runs.{AllFit, observed}
 use Rattle.sap_net.proofs.Exists.{run_exists}
 use Rattle.sap_trim.specs.Alike.{DeclaresAlike, ShowsAlike, AllShowAlike, RunsAlike}
-use Rattle.sap_trim.proofs.Lists.{all_map, map_all}
+use Rattle.sap_fold.proofs.Lists.{all_map, map_all}
 
 joined : {X : Type 0} (f g h : Name → X) (xs : List Name) → AllByRecursion (λ x. f x ≡ g x) xs → AllByRecursion (λ x. g x ≡ h x) xs → AllByRecursion (λ x. f x ≡ h x) xs
 joined f g h [] a b = tt

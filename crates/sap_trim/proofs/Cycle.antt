@@ -1,12 +1,11 @@
 -- The cycles of the new netlist have the numbers of those of the given one.
-use Rattle.std.proofs.Common.{◌≡◌, ℕ, ◌^◌, ◌<◌, ◌==◌, ◌&&◌, List, [], ◌∷◌, ◌++◌, map, filter, Option, Some, None, Bool, true, false, sym, ap, ◌∙◌, subst, refl, inl, inr}
-use Rattle.std.specs.Prelude.{if◌then◌else◌, unwrap_or}
+use Rattle.std.proofs.Common.{◌≡◌, ℕ, List, [], ◌∷◌, ◌++◌, map, Option, Some, None, Bool, true, sym, ap, ◌∙◌, subst, refl, inl, inr}
 use Rattle.std.specs.Str.{bytes_eq}
 use Rattle.std.specs.List.{AllByRecursion}
 use Rattle.std.proofs.lemmas.Bool.{cases_Bool}
 use Rattle.sap_maps.specs.Maps.{Name, Valuation}
 use Rattle.sap_maps.specs.Scope.{Scope, find, Agree}
-use Rattle.sap_maps.proofs.Scopes.{name_is, same_name, found_here, agree_more, agree_both}
+use Rattle.sap_maps.proofs.Scopes.{name_is, found_here, agree_more, agree_both}
 use Rattle.sap_net.specs.Names.{is_among}
 use Rattle.sap_net.specs.Net.{Net}
 use Rattle.sap_net.specs.declared.parts.PortKind.{PortKind}
@@ -15,26 +14,25 @@ use Rattle.sap_net.specs.declared.parts.Port.{Port}
 use Rattle.sap_net.specs.declared.parts.Input.{Input}
 use Rattle.sap_net.specs.declared.parts.Register.{Register}
 use Rattle.sap_net.specs.declared.parts.Memory.{Memory}
-use Rattle.sap_net.specs.declared.parts.Operand.{Operand}
 use Rattle.sap_net.specs.declared.parts.Wire.{Wire}
-use Rattle.sap_net.specs.Rules.{Shapes, IsOperand, AreWires, readable_after, IsRegister, IsMemory}
+use Rattle.sap_net.specs.Rules.{Shapes, AreWires, readable_after, IsRegister, IsMemory}
 use Rattle.sap_net.specs.Values.{operand_value, Holds}
-use Rattle.sap_net.specs.IsNetlist.{input_names, wire_names, register_names, first_readable, readable, shapes, width_of, PortShows, IsNetlist}
+use Rattle.sap_net.specs.IsNetlist.{input_names, register_names, first_readable, readable, shapes, width_of, PortShows, IsNetlist}
 use Rattle.sap_net.specs.Runs.{IsWithin, written, InputsAre, IsCycle, IsRunAfter, value_after, cell_after, observed}
 use Rattle.sap_net.proofs.Settle.{CellsAgree}
 use Rattle.sap_net.proofs.Same.{AreFound, all_found}
 use Rattle.sap_net.proofs.Within.{WidthsAre, widths_are}
 use Rattle.sap_trim.specs.Names.{names_of, port_names, shown_wires}
 use Rattle.sap_trim.specs.Alike.{DeclaresAlike, ShowsAlike, AllShowAlike, RunsAlike}
-use Rattle.sap_trim.specs.Replaced.{Stands, standing, standing_operand}
-use Rattle.sap_trim.specs.Equals.{Over}
+use Rattle.sap_trim.specs.Replaced.{Stands, standing_operand}
+use Rattle.sap_fold.specs.Equals.{Over}
 use Rattle.sap_trim.specs.Walked.{State, Begins, Folds, Walked}
 use Rattle.sap_trim.specs.Built.{wire_of, register_of, memory_of, built}
-use Rattle.sap_trim.proofs.Lists.{among_here, among_found, not_found, found_first, found_second, each_among, among_each, all_map, map_all, all_second}
+use Rattle.sap_fold.proofs.Lists.{among_found, not_found, found_first, found_second, each_among, among_each, all_map, map_all, all_second}
 use Rattle.sap_trim.proofs.Replaced.{Means, operand_same}
-use Rattle.sap_trim.proofs.Provided.{Grows, readable_both, holds_both, readable_kept}
-use Rattle.sap_trim.proofs.Follows.{Follows, taken_apart, SettledIn, settled_first, settled_next, begins_follow, begins_mean, means_walk}
-use Rattle.sap_trim.proofs.Built.{Covers, Walks, built_first, built_shapes, built_wires, built_grows, built_rules, shown_among}
+use Rattle.sap_fold.proofs.Provided.{Grows, holds_both, readable_kept}
+use Rattle.sap_trim.proofs.Follows.{taken_apart, SettledIn, settled_first, settled_next, begins_follow, begins_mean, means_walk}
+use Rattle.sap_trim.proofs.Built.{Walks, built_first, built_grows, built_rules, shown_among}
 
 -- What is known once some wires of a netlist have been walked.
 pub record Done (n : Net) (taken : Name → Bool) (ws : List Wire) (s t : State) : Type 0 where
@@ -50,7 +48,8 @@ pub record Same (n : Net) (so : Scope) (e : Stands) (v w : Valuation) : Type 0 w
   pub first : Agree (first_readable n) v w
   pub cells : CellsAgree (shapes n) v w
   pub means : Means so e v w
-  pub settled : SettledIn n.registers v
+  pub settled : SettledIn n.wires n.registers v
+  pub equations : Holds (width_of n) v n.wires
 
 abbrev pub SameBefore : Net → Scope → Stands → Option Valuation → Option Valuation → Type 0
 SameBefore n so e None None = Unit {0}
@@ -105,7 +104,7 @@ all_equal_at (x ∷ xs) f = (λ i. refl, all_equal_at xs f)
 pub record SameFirst (n : Net) (v w : Valuation) : Type 0 where
   pub first : Agree (first_readable n) v w
   pub cells : CellsAgree (shapes n) v w
-  pub settled : SettledIn n.registers v
+  pub settled : SettledIn n.wires n.registers v
 
 begins_same : (n : Net) (taken : Name → Bool) (ws : List Wire) (s t : State) → Done n taken ws s t → (p q : Option Valuation) (xs : List ℕ) (v w : Valuation) → SameBefore n (readable_after (first_readable n) ws) t.stands p q → IsCycle n p xs v → IsCycle (built n t.wires t.stands) q xs w → SameFirst n v w
 begins_same n taken ws s t d None None xs v w b c k =
@@ -114,7 +113,7 @@ begins_same n taken ws s t d None None xs v w b c k =
       first = agree_both _ _ v w (inputs_agree n.inputs xs v w c.given k.given)
           (registers_agree (λ r. r.start) (λ r. r.start) n.registers v w c.begins.0 (map_all (λ r. w.value r.name ≡ r.start) (register_of e) n.registers k.begins.0) (all_equal n.registers (λ r. r.start)));
       cells = cells_agree (λ m i. m.start) (λ m i. m.start) n.memories v w c.begins.1 (map_all (λ m. (i : ℕ) → w.cell m.name i ≡ m.start) (memory_of e) n.memories k.begins.1) (all_equal_at n.memories (λ m i. m.start));
-      settled = settled_first v n.registers c.begins.0;
+      settled = settled_first n.wires v n.registers c.begins.0;
     }
 begins_same n taken ws s t d None (Some q) xs v w b c k = absurd b
 begins_same n taken ws s t d (Some p) None xs v w b c k = absurd b
@@ -128,7 +127,7 @@ begins_same n taken ws s t d (Some p) (Some q) xs v w b c k =
       cells = cells_agree (written p) (λ m i. written q (memory_of e m) i) n.memories v w c.begins.1
           (map_all (λ m. (i : ℕ) → w.cell m.name i ≡ written q m i) (memory_of e) n.memories k.begins.1)
           (all_written (shapes n) so e p q b.means b.cells n.memories d.walks.covers.writes (all_found n.memories d.walks.rules.memory_shapes));
-      settled = settled_next p v n.registers b.settled c.begins.0;
+      settled = settled_next n.wires (width_of n) p v n.registers b.equations b.settled c.begins.0;
     }
 
 -- the new wires in a cycle
@@ -157,6 +156,7 @@ cycle_same n taken ws s t d p q xs v w b c k =
       first = f.first;
       cells = f.cells;
       settled = f.settled;
+      equations = c.valuation.equations;
       means = means_walk taken (shapes n) sc (width_of n) (width_of (built n t.wires t.stands)) v w ws sc s t apart (begins_follow taken n d.walks.rules s d.begins) (begins_mean n d.walks.rules s v w d.begins f.first f.settled) d.fits wide f.cells over (d.holds (width_of n) v c.valuation.equations) d.walked;
     }
 

@@ -1,5 +1,5 @@
 -- The names of the new netlist.
-use Rattle.std.proofs.Common.{◌≡◌, ℕ, ◌||◌, ◌&&◌, List, [], ◌∷◌, ◌++◌, map, filter, take, drop, length, Some, None, Bool, true, false, sym, ap, ap₂, ◌∙◌, subst, refl, inl, inr, arith, append_assoc}
+use Rattle.std.proofs.Common.{◌≡◌, ℕ, ◌||◌, ◌&&◌, List, [], ◌∷◌, ◌++◌, map, filter, take, drop, length, Some, None, Bool, true, false, sym, ap, ◌∙◌, subst, refl, inl, inr, arith, append_assoc}
 use Rattle.std.specs.Str.{bytes_eq}
 use Rattle.std.specs.List.{AllByRecursion}
 use Rattle.std.proofs.lemmas.Bool.{cases_Bool}
@@ -12,7 +12,7 @@ use Rattle.sap_net.specs.Rules.{Shapes, IsWidth, AreWires}
 use Rattle.sap_net.specs.declared.parts.Port.{Port}
 use Rattle.sap_net.specs.declared.parts.Wire.{Wire}
 use Rattle.sap_trim.specs.Names.{names_of}
-use Rattle.sap_trim.proofs.Lists.{or_true, or_false, and_false, among_append, filter_among, filter_append, filter_all, each_among, none_both}
+use Rattle.sap_fold.proofs.Lists.{or_true, or_false, among_append, filter_among, filter_append, filter_all}
 
 pub wires_new : (ms : Shapes) (ws : List Wire) (sc : Scope) → AreWires ms sc ws → (n : Name) → is_among n (names_of ws) ≡ true → (find sc n ≡ None) × (find ms n ≡ None)
 wires_new ms [] sc a n h = absurd (cc)

@@ -1,23 +1,20 @@
--- How many wires each pass leaves.
-use Rattle.std.proofs.Common.{◌≡◌, ℕ, ◌+◌, ◌≤◌, List, [], ◌∷◌, ◌++◌, map, filter, not, length, Bool, true, false, sym, ap, ◌∙◌, subst, refl, inl, inr, arith, length-append}
+-- How many wires the second pass leaves.
+use Rattle.std.proofs.Common.{◌≡◌, ℕ, ◌+◌, ◌≤◌, List, [], ◌∷◌, map, filter, length, Bool, sym, ap, subst, refl, inl, inr, arith, length-append}
 use Rattle.std.proofs.lemmas.Bool.{cases_Bool}
 use Rattle.std.proofs.lemmas.List.{length-map}
 use Rattle.sap_maps.specs.Maps.{Name}
-use Rattle.sap_net.specs.Names.{is_among}
 use Rattle.sap_net.specs.Net.{Net}
-use Rattle.sap_net.specs.IsNetlist.{IsNetlist, first_readable}
 use Rattle.sap_net.specs.declared.parts.Operand.{Operand}
 use Rattle.sap_net.specs.declared.parts.Right.{Right}
 use Rattle.sap_net.specs.declared.parts.Right.TheVariants.{Copy, One, Two, Choose, Concat, Slice, Cell}
 use Rattle.sap_net.specs.declared.parts.Wire.{Wire}
 use Rattle.sap_trim.specs.Built.{built, wire_of}
-use Rattle.sap_trim.specs.Few.{is_copy, calculated, HasFewWires}
-use Rattle.sap_trim.specs.Names.{lasting_names, port_names, shown_wires, helping_wires}
-use Rattle.sap_trim.specs.Replaced.{Stands, replaced, sliced, standing}
-use Rattle.sap_trim.specs.Walked.{State, Begins, Provides, Copies, Folds, Walked}
-use Rattle.sap_trim.specs.Wires.{Adds}
-use Rattle.sap_trim.proofs.Passes.{done_fold, no_ports}
-use Rattle.sap_trim.proofs.Shared.{helping_are}
+use Rattle.sap_trim.specs.Few.{calculated, HasFewWires}
+use Rattle.sap_trim.specs.Names.{shown_wires}
+use Rattle.sap_trim.specs.Replaced.{Stands, replaced, standing}
+use Rattle.sap_trim.specs.Walked.{State, Begins, Copies, Walked}
+use Rattle.sap_fold.specs.Slices.{sliced}
+use Rattle.sap_fold.specs.Wires.{Adds, Provides}
 
 -- the wires that a right side needs: none if it is a copy
 
@@ -65,15 +62,6 @@ cost_replaced e (Concat os) = omega arith
 cost_replaced e (Slice x hi lo) = cost_most (sliced (standing e x) hi lo)
 cost_replaced e (Cell m i) = omega arith
 
-cost_kept : (q r : Right) → ((a : Operand) → q ≡ Copy a → r ≡ Copy a) → cost r ≤ cost q
-cost_kept (Copy a) r h = let e = h a refl in rw e (omega arith)
-cost_kept (One op a) r h = cost_most r
-cost_kept (Two op a b) r h = cost_most r
-cost_kept (Choose c a b) r h = cost_most r
-cost_kept (Concat os) r h = cost_most r
-cost_kept (Slice x hi lo) r h = cost_most r
-cost_kept (Cell m i) r h = cost_most r
-
 adds_one : (taken : Name → Bool) (ws : List Wire) (next u : ℕ) (r : Right) (n : Name) (after : List Wire) (next_after : ℕ) → Adds taken ws next u r n after next_after → length after ≤ length ws + 1
 adds_one taken ws next u r n after next_after (inl t) = let e = ap length t.wires in omega (arith, e)
 adds_one taken ws next u r n after next_after (inr a) =
@@ -92,16 +80,6 @@ provides_few taken ws next u (Cell m i) o after k p = adds_one taken ws next u (
 
 -- all steps
 
-folds_few : (taken : Name → Bool) (ws : List Wire) (s t : State) → Walked (Folds taken) s ws t → length t.wires ≤ length s.wires + costs ws
-folds_few taken [] s t k = let e = ap (λ (z : State). length z.wires) k in omega (arith, e)
-folds_few taken (w ∷ ws) s t k =
-    let f = k.1 in
-    let p = provides_few taken s.wires s.next w.width f.right f.steps.operand k.0.wires k.0.next f.steps.provides in
-    let q = cost_kept (replaced s.stands w.right) f.right f.copies in
-    let c = cost_replaced s.stands w.right in
-    let r = folds_few taken ws k.0 t k.2 in
-    omega (arith, p, q, c, r)
-
 copies_few : (taken : Name → Bool) (ws : List Wire) (s t : State) → Walked (Copies taken) s ws t → length t.wires ≤ length s.wires + costs ws
 copies_few taken [] s t k = let e = ap (λ (z : State). length z.wires) k in omega (arith, e)
 copies_few taken (w ∷ ws) s t k =
@@ -116,17 +94,6 @@ costs_some f (w ∷ ws) =
     let r = costs_some f ws in
     elim (cases_Bool (f w)) [ inl t ↦ rw t (omega (arith, r)) | inr g ↦ rw g (omega (arith, r)) ]
 
-costs_built : (e : Stands) (ws xs : List Wire) → costs (ws ++ map (wire_of e) xs) ≤ length ws
-costs_built e [] [] = omega arith
-costs_built e [] (x ∷ xs) = let r = costs_built e [] xs in omega (arith, r)
-costs_built e (w ∷ ws) xs = let r = costs_built e ws xs in let c = cost_most w.right in omega (arith, r, c)
-
-parted : (f : Wire → Bool) (ws : List Wire) → length (filter f ws) + length (filter (λ w. not (f w)) ws) ≡ length ws
-parted f [] = refl
-parted f (w ∷ ws) =
-    let r = parted f ws in
-    elim (cases_Bool (f w)) [ inl t ↦ rw t (omega (arith, r)) | inr g ↦ rw g (omega (arith, r)) ]
-
 built_count : (n : Net) (ws : List Wire) (e : Stands) → length (built n ws e).wires ≡ length ws + length (shown_wires n)
 built_count n ws e =
     let l = length-append ws (map (wire_of e) (shown_wires n)) in
@@ -135,25 +102,6 @@ built_count n ws e =
 
 begun : (n : Net) (s : State) → Begins n s → length s.wires ≡ 0
 begun n s b = let e = ap length b.wires in omega (arith, e)
-
--- No more wires of either kind than before.
-pub record KeepsFew (n r : Net) : Type 0 where
-  pub calculations : length (calculated r.wires) ≤ length (calculated n.wires)
-  pub shown : length (shown_wires r) ≤ length (shown_wires n)
-
-pub folded_few : (n : Net) (taken : Name → Bool) (s t : State) (ws : List Wire) (r : Net) → IsNetlist n → ((x : Name) → taken x ≡ is_among x (lasting_names n)) → Begins n s → ws ≡ n.wires → Walked (Folds taken) s ws t → r ≡ built n t.wires t.stands → KeepsFew n r
-folded_few n taken s t ws r rules is b e k p =
-    let d = done_fold n taken s t ws rules is b e k in
-    let B = built n t.wires t.stands in
-    let few = folds_few taken n.wires s t d.walked in
-    let none = begun n s b in
-    let before = costs_are n.wires in
-    let after = costs_are B.wires in
-    let made = costs_built t.stands t.wires (shown_wires n) in
-    let count = built_count n t.wires t.stands in
-    let parts = parted (λ w. is_among w.name (port_names B)) B.wires in
-    let helping = ap length (helping_are n t.wires t.stands (no_ports n taken _ t d.walks)) in
-    subst (KeepsFew n) (sym p) (record { calculations = omega (arith, few, none, before, after, made); shown = omega (arith, count, parts, helping) })
 
 pub dropped_few : (n : Net) (taken : Name → Bool) (f : Wire → Bool) (s t : State) (ws : List Wire) (r : Net) → Begins n s → ws ≡ n.wires → Walked (Copies taken) s (filter f ws) t → r ≡ built n t.wires t.stands → HasFewWires n r
 dropped_few n taken f s t ws r b e k p =
@@ -165,5 +113,6 @@ dropped_few n taken f s t ws r b e k p =
     let count = built_count n t.wires t.stands in
     subst (HasFewWires n) (sym p) (omega (arith, few, none, some, same, before, count))
 
-pub few_both : (a b c : Net) → KeepsFew a b → HasFewWires b c → HasFewWires a c
-few_both a b c k h = let p = k.calculations in let q = k.shown in omega (arith, p, q, h)
+-- A netlist of no more wires than another has as few.
+pub few_fewer : (a b c : Net) → HasFewWires a b → length c.wires ≤ length b.wires → HasFewWires a c
+few_fewer a b c h k = omega (arith, h, k)

@@ -1,9 +1,8 @@
 -- What holds along a walk: the new wires fit, each old name stands for an operand over them, and has its number.
-use Rattle.std.proofs.Common.{◌≡◌, ℕ, ◌^◌, ◌<◌, ◌==◌, List, [], ◌∷◌, ◌++◌, map, filter, Option, Some, None, Bool, true, false, sym, ap, ◌∙◌, subst, refl, inl, inr, arith, append_assoc, append-nil}
-use Rattle.std.specs.Prelude.{◌⊎◌, if◌then◌else◌, unwrap_or}
+use Rattle.std.proofs.Common.{◌≡◌, ℕ, ◌^◌, ◌<◌, List, [], ◌∷◌, ◌++◌, map, filter, Option, Some, Bool, true, false, sym, ap, ◌∙◌, subst, refl, inl, inr, arith, append_assoc, append-nil}
+use Rattle.std.specs.Prelude.{◌⊎◌, unwrap_or}
 use Rattle.std.specs.Str.{bytes_eq}
 use Rattle.std.specs.List.{AllByRecursion}
-use Rattle.std.proofs.lemmas.Bool.Decides.{nat_tests}
 use Rattle.std.proofs.lemmas.Bool.{cases_Bool}
 use Rattle.sap_maps.specs.Maps.{Name, Valuation}
 use Rattle.sap_maps.specs.Scope.{Scope, find, Agree}
@@ -24,12 +23,15 @@ use Rattle.sap_net.proofs.Settle.{CellsAgree}
 use Rattle.sap_net.proofs.Within.{WidthsAre}
 use Rattle.sap_trim.specs.Names.{port_names, lasting_names}
 use Rattle.sap_trim.specs.Replaced.{Stands, Binds, standing, replaced}
-use Rattle.sap_trim.specs.Equals.{Over, Equals}
-use Rattle.sap_trim.specs.Walked.{State, Begins, settles, is_settled, SomeRegister, StartsAt, Steps, Copies, Folds, Walked}
-use Rattle.sap_trim.proofs.Lists.{or_none, among_front, among_behind, none_among, found_among, not_found, found_second, all_from, all_second, map_all}
+use Rattle.sap_fold.specs.Equals.{Over}
+use Rattle.sap_fold.specs.Gives as wires
+use Rattle.sap_fold.specs.Gives.{TakenApart, Provided}
+use Rattle.sap_trim.specs.Stays.{KeepsStart}
+use Rattle.sap_trim.specs.Walked.{State, Begins, SomeRegister, StartsAt, Copies, Folds, Walked}
+use Rattle.sap_fold.proofs.Lists.{or_none, among_front, among_behind, none_among, found_among, not_found, found_second, all_from, all_second, map_all}
 use Rattle.sap_trim.proofs.Replaced.{Finds, Means, stands_for, replaced_fits, replaced_same}
-use Rattle.sap_trim.proofs.Provided as wires
-use Rattle.sap_trim.proofs.Provided.{Grows, operand_grows, readable_both, wires_first, holds_both, readable_kept, TakenApart, provided, provided_value}
+use Rattle.sap_fold.proofs.Provided.{Grows, operand_grows, readable_kept, grows_more, over_first}
+use Rattle.sap_fold.proofs.Becoming.{gives_provided}
 
 pub record Follows (taken : Name → Bool) (ms : Shapes) (so sc : Scope) (s : State) : Type 0 where
   pub fits : AreWires ms sc s.wires
@@ -63,30 +65,11 @@ means_more so e f x u o v w h i b y t k =
           h y t (rw d at k) ∙ ap (λ (z : Option Operand). operand_value w (unwrap_or z (Constant 0 0))) (sym p)
     ]
 
--- scopes and valuations of fewer wires
-
-grows_more : (ms : Shapes) (sc : Scope) (ws after more : List Wire) → after ≡ ws ++ more → AreWires ms sc after → Grows (readable_after sc ws) (readable_after sc after)
-grows_more ms sc ws after more e f =
-    let g = wires_first ms ws more sc (subst (AreWires ms sc) e f) in
-    let k = readable_kept ms more (readable_after sc ws) g.1 in
-    λ x u h. subst (λ (ys : List Wire). find (readable_after sc ys) x ≡ Some u) (sym e) (subst (λ (sd : Scope). find sd x ≡ Some u) (sym (readable_both ws more sc)) (k x u h))
-
-over_first : (ms : Shapes) (sc : Scope) (ws after more : List Wire) (ww : Name → ℕ) (w : Valuation) → after ≡ ws ++ more → Over ms sc after ww w → Over ms sc ws ww w
-over_first ms sc ws after more ww w e o =
-    let g = grows_more ms sc ws after more e o.wires in
-    record {
-      wires = (wires_first ms ws more sc (subst (AreWires ms sc) e o.wires)).0;
-      wide = λ x u h. o.wide x u (g x u h);
-      below = λ x u h. o.below x u (g x u h);
-      holds = (holds_both ww w ws more (subst (Holds ww w) e o.holds)).0;
-    }
-
 -- a step
 
-step_provided : (taken : Name → Bool) (ms : Shapes) (so sc : Scope) (s t : State) (w : Wire) → TakenApart taken ms sc → Follows taken ms so sc s → IsWidth w.width → IsRight ms so w.width w.right → (f : Folds taken s w t) → wires.Provided taken ms sc s.wires w.width f.steps.operand t.wires t.next
+step_provided : (taken : Name → Bool) (ms : Shapes) (so sc : Scope) (s t : State) (w : Wire) → TakenApart taken ms sc → Follows taken ms so sc s → IsWidth w.width → IsRight ms so w.width w.right → (f : Folds taken s w t) → Provided taken ms sc s.wires w.width f.operand t.wires t.next
 step_provided taken ms so sc s t w apart h i r f =
-    provided taken ms sc s.wires s.next w.width f.right f.steps.operand t.wires t.next apart h.named h.fits i
-    (f.equals.fits ms sc h.fits (replaced_fits ms so (readable_after sc s.wires) s.stands h.finds w.width w.right r)) f.steps.provides
+    f.gives.fits ms sc apart h.named h.fits i (replaced_fits ms so (readable_after sc s.wires) s.stands h.finds w.width w.right r)
 
 follows_step : (taken : Name → Bool) (ms : Shapes) (so sc : Scope) (s t : State) (w : Wire) → TakenApart taken ms sc → Follows taken ms so sc s → IsWidth w.width → IsRight ms so w.width w.right → Folds taken s w t → Follows taken ms ((w.name, w.width) ∷ so) sc t
 follows_step taken ms so sc s t w apart h i r f =
@@ -94,7 +77,7 @@ follows_step taken ms so sc s t w apart h i r f =
     record {
       fits = p.fits;
       named = p.named;
-      finds = finds_more so (readable_after sc s.wires) (readable_after sc t.wires) s.stands t.stands w.name w.width f.steps.operand (grows_more ms sc s.wires t.wires p.more p.wires p.fits) h.finds p.operand f.steps.binds;
+      finds = finds_more so (readable_after sc s.wires) (readable_after sc t.wires) s.stands t.stands w.name w.width f.operand (grows_more ms sc s.wires t.wires p.more p.wires p.fits) h.finds p.operand f.binds;
     }
 
 means_step : (taken : Name → Bool) (ms : Shapes) (so sc : Scope) (s t : State) (x : Wire) (wv ww : Name → ℕ) (v w : Valuation) → TakenApart taken ms sc → Follows taken ms so sc s → IsWidth x.width → IsRight ms so x.width x.right → Folds taken s x t → Means so s.stands v w → WidthsAre so wv → CellsAgree ms v w → Over ms sc t.wires ww w → v.value x.name ≡ right_value wv v x.right → Means ((x.name, x.width) ∷ so) t.stands v w
@@ -103,11 +86,10 @@ means_step taken ms so sc s t x wv ww v w apart h i r f m a c o e =
     let before = over_first ms sc s.wires t.wires p.more ww w p.wires o in
     let sn = readable_after sc s.wires in
     let fits = replaced_fits ms so sn s.stands h.finds x.width x.right r in
-    let q : v.value x.name ≡ operand_value w f.steps.operand =
+    let q : v.value x.name ≡ operand_value w f.operand =
     e ∙ replaced_same ms so sn s.stands wv ww v w h.finds m a before.wide c x.width x.right r
-    ∙ f.equals.same ms sc ww w before fits
-    ∙ sym (provided_value taken ww w s.wires s.next x.width f.right f.steps.operand t.wires t.next f.steps.provides o.holds) in
-    means_more so s.stands t.stands x.name x.width f.steps.operand v w m q f.steps.binds
+    ∙ f.gives.same ms sc ww w apart h.named h.fits i fits o in
+    means_more so s.stands t.stands x.name x.width f.operand v w m q f.binds
 
 -- all steps
 
@@ -149,10 +131,9 @@ means_walk taken ms sc wv ww v w (x ∷ ws) so s t apart h m a b c o e k =
 copies_fold : (taken : Name → Bool) (s t : State) (w : Wire) → Copies taken s w t → Folds taken s w t
 copies_fold taken s t w c =
     record {
-      right = replaced s.stands w.right;
-      equals = record { fits = λ ms sc a h. h; same = λ ms sc widths v o h. refl };
-      copies = λ a e. e;
-      steps = c;
+      operand = c.operand;
+      gives = gives_provided taken s.wires s.next w.width (replaced s.stands w.right) c.operand t.wires t.next c.provides;
+      binds = c.binds;
     }
 
 pub copies_walk : (taken : Name → Bool) (ws : List Wire) (s t : State) → Walked (Copies taken) s ws t → Walked (Folds taken) s ws t
@@ -190,14 +171,17 @@ first_among n x u h =
     ]
 
 -- registers that keep their starts have them
-abbrev pub SettledIn : List Register → Valuation → Type 0
-SettledIn rs v = AllByRecursion (λ r. is_settled r ≡ true → v.value r.name ≡ r.start) rs
+abbrev pub SettledIn : List Wire → List Register → Valuation → Type 0
+SettledIn ws rs v = AllByRecursion (λ r. KeepsStart ws r → v.value r.name ≡ r.start) rs
 
-each_settled : (rs : List Register) → AllByRecursion (λ r. (v : Valuation) → SettledIn rs v → is_settled r ≡ true → v.value r.name ≡ r.start) rs
-each_settled [] = tt
-each_settled (r ∷ rs) = (
+abbrev HasStart : List Wire → List Register → Register → Type 0
+HasStart ws rs r = (v : Valuation) → SettledIn ws rs v → KeepsStart ws r → v.value r.name ≡ r.start
+
+each_settled : (ws : List Wire) (rs : List Register) → AllByRecursion (HasStart ws rs) rs
+each_settled ws [] = tt
+each_settled ws (r ∷ rs) = (
   λ v h. h.0,
-  all_from (λ s. (v : Valuation) → SettledIn rs v → is_settled s ≡ true → v.value s.name ≡ s.start) (λ s. (v : Valuation) → SettledIn (r ∷ rs) v → is_settled s ≡ true → v.value s.name ≡ s.start) rs (λ s h v k. h v k.1) (each_settled rs),
+  all_from (HasStart ws rs) (HasStart ws (r ∷ rs)) rs (λ s h v k. h v k.1) (each_settled ws rs),
 )
 
 some_elim : (P : Register → Type 0) (G : Type 0) (rs : List Register) → AllByRecursion (λ r. P r → G) rs → SomeRegister P rs → G
@@ -222,7 +206,7 @@ record IsStart (n : Net) (x : Name) (u : ℕ) (o : Operand) : Type 0 where
   number : ℕ
   is : o ≡ Constant u number
   below : number < 2 ^ u
-  kept : (v : Valuation) → SettledIn n.registers v → v.value x ≡ number
+  kept : (v : Valuation) → SettledIn n.wires n.registers v → v.value x ≡ number
 
 abbrev Begun : Net → Name → ℕ → Operand → Type 0
 Begun n x u o = (o ≡ Named x) ⊎ IsStart n x u o
@@ -230,13 +214,13 @@ Begun n x u o = (o ≡ Named x) ⊎ IsStart n x u o
 record IsKept (n : Net) (r : Register) : Type 0 where
   found : find (first_readable n) r.name ≡ Some r.width
   below : r.start < 2 ^ r.width
-  kept : (v : Valuation) → SettledIn n.registers v → is_settled r ≡ true → v.value r.name ≡ r.start
+  kept : HasStart n.wires n.registers r
 
-each_kept : (n : Net) (so : Scope) (rs : List Register) → AllByRecursion (λ r. find (first_readable n) r.name ≡ Some r.width) rs → AllByRecursion (IsRegister so) rs → AllByRecursion (λ r. (v : Valuation) → SettledIn n.registers v → is_settled r ≡ true → v.value r.name ≡ r.start) rs → AllByRecursion (IsKept n) rs
+each_kept : (n : Net) (so : Scope) (rs : List Register) → AllByRecursion (λ r. find (first_readable n) r.name ≡ Some r.width) rs → AllByRecursion (IsRegister so) rs → AllByRecursion (HasStart n.wires n.registers) rs → AllByRecursion (IsKept n) rs
 each_kept n so [] a b c = tt
 each_kept n so (r ∷ rs) a b c = (record { found = a.0; below = b.0.0; kept = c.0 }, each_kept n so rs a.1 b.1 c.1)
 
-begun_start : (n : Net) (x : Name) (u : ℕ) (p : Option Operand) (r : Register) → find (first_readable n) x ≡ Some u → IsKept n r → StartsAt x p r → (o : Operand) × (p ≡ Some o) × Begun n x u o
+begun_start : (n : Net) (x : Name) (u : ℕ) (p : Option Operand) (r : Register) → find (first_readable n) x ≡ Some u → IsKept n r → StartsAt n.wires x p r → (o : Operand) × (p ≡ Some o) × Begun n x u o
 begun_start n x u p r h k s =
     let f : find (first_readable n) x ≡ Some r.width = subst (λ (y : Name). find (first_readable n) y ≡ Some r.width) s.1 k.found in
     let g : Some r.width ≡ Some u = sym f ∙ h in
@@ -256,19 +240,19 @@ begun_start n x u p r h k s =
 begins_at : (n : Net) → IsNetlist n → (s : State) → Begins n s → (x : Name) (u : ℕ) → find (first_readable n) x ≡ Some u → (o : Operand) × (s.stands x ≡ Some o) × Begun n x u o
 begins_at n rules s b x u h =
     let t = first_among n x u h in
-    let kept = each_kept n (readable n) n.registers (registers_found n rules) rules.nexts (each_settled n.registers) in
+    let kept = each_kept n (readable n) n.registers (registers_found n rules) rules.nexts (each_settled n.wires n.registers) in
     elim (b.stands x) [
       | inl e ↦ let f : s.stands x ≡ Some (Named x) = e ∙ rw t refl in (Named x, f, inl refl)
       | inr q ↦
-          some_elim (StartsAt x (s.stands x)) ((o : Operand) × (s.stands x ≡ Some o) × Begun n x u o) n.registers
-          (all_from (IsKept n) (λ r. StartsAt x (s.stands x) r → (o : Operand) × (s.stands x ≡ Some o) × Begun n x u o) n.registers (λ r k. begun_start n x u (s.stands x) r h k) kept) q
+          some_elim (StartsAt n.wires x (s.stands x)) ((o : Operand) × (s.stands x ≡ Some o) × Begun n x u o) n.registers
+          (all_from (IsKept n) (λ r. StartsAt n.wires x (s.stands x) r → (o : Operand) × (s.stands x ≡ Some o) × Begun n x u o) n.registers (λ r k. begun_start n x u (s.stands x) r h k) kept) q
     ]
 
 begun_fits : (n : Net) (sc : Scope) (x : Name) (u : ℕ) (o : Operand) → find sc x ≡ Some u → Begun n x u o → IsOperand sc u o
 begun_fits n sc x u o h (inl e) = subst (λ (p : Operand). IsOperand sc u p) (sym e) h
 begun_fits n sc x u o h (inr k) = subst (λ (p : Operand). IsOperand sc u p) (sym k.is) (refl, k.below)
 
-begun_same : (n : Net) (v w : Valuation) (x : Name) (u : ℕ) (o : Operand) → v.value x ≡ w.value x → SettledIn n.registers v → Begun n x u o → v.value x ≡ operand_value w o
+begun_same : (n : Net) (v w : Valuation) (x : Name) (u : ℕ) (o : Operand) → v.value x ≡ w.value x → SettledIn n.wires n.registers v → Begun n x u o → v.value x ≡ operand_value w o
 begun_same n v w x u o h t (inl e) = h ∙ sym (ap (operand_value w) e)
 begun_same n v w x u o h t (inr k) = k.kept v t ∙ sym (ap (operand_value w) k.is)
 
@@ -286,23 +270,16 @@ begins_follow taken n rules s b =
           (a.0, a.1, begun_fits n (readable_after (first_readable n) s.wires) x u a.0 found a.2);
     }
 
-pub begins_mean : (n : Net) → IsNetlist n → (s : State) (v w : Valuation) → Begins n s → Agree (first_readable n) v w → SettledIn n.registers v → Means (first_readable n) s.stands v w
+pub begins_mean : (n : Net) → IsNetlist n → (s : State) (v w : Valuation) → Begins n s → Agree (first_readable n) v w → SettledIn n.wires n.registers v → Means (first_readable n) s.stands v w
 begins_mean n rules s v w b a t x u h =
     let k = begins_at n rules s b x u h in
     begun_same n v w x u k.0 (a x u h) t k.2 ∙ sym (ap (operand_value w) (stands_for s.stands x k.0 k.1))
 
 -- from cycle to cycle
 
-eq_is : (a b : ℕ) → (a == b) ≡ true → a ≡ b
-eq_is a b h = grind (arith, nat_tests)
+pub settled_first : (ws : List Wire) (v : Valuation) (rs : List Register) → AllByRecursion (λ r. v.value r.name ≡ r.start) rs → SettledIn ws rs v
+settled_first ws v rs a = all_from (λ r. v.value r.name ≡ r.start) (λ r. KeepsStart ws r → v.value r.name ≡ r.start) rs (λ r h t. h) a
 
-next_start : (p : Valuation) (x : Name) (n : ℕ) (o : Operand) → settles x n o ≡ true → p.value x ≡ n → operand_value p o ≡ n
-next_start p x n (Named y) t h = ap p.value (name_is y x t) ∙ h
-next_start p x n (Constant w m) t h = eq_is m n t
-
-pub settled_first : (v : Valuation) (rs : List Register) → AllByRecursion (λ r. v.value r.name ≡ r.start) rs → SettledIn rs v
-settled_first v rs a = all_from (λ r. v.value r.name ≡ r.start) (λ r. is_settled r ≡ true → v.value r.name ≡ r.start) rs (λ r h t. h) a
-
-pub settled_next : (p v : Valuation) (rs : List Register) → SettledIn rs p → AllByRecursion (λ r. v.value r.name ≡ operand_value p r.next) rs → SettledIn rs v
-settled_next p v [] s a = tt
-settled_next p v (r ∷ rs) s a = (λ t. a.0 ∙ next_start p r.name r.start r.next t (s.0 t), settled_next p v rs s.1 a.1)
+pub settled_next : (ws : List Wire) (widths : Name → ℕ) (p v : Valuation) (rs : List Register) → Holds widths p ws → SettledIn ws rs p → AllByRecursion (λ r. v.value r.name ≡ operand_value p r.next) rs → SettledIn ws rs v
+settled_next ws widths p v [] h s a = tt
+settled_next ws widths p v (r ∷ rs) h s a = (λ t. a.0 ∙ t widths p h (s.0 t), settled_next ws widths p v rs h s.1 a.1)

@@ -1,11 +1,11 @@
 -- The wires that are needed: they fit without the others, and what is read behind them is found.
-use Rattle.std.proofs.Common.{◌≡◌, ℕ, ◌||◌, List, [], ◌∷◌, ◌++◌, map, filter, Some, None, Bool, true, false, sym, ap, ◌∙◌, subst, refl, inl, inr, append_assoc}
+use Rattle.std.proofs.Common.{◌≡◌, ℕ, List, [], ◌∷◌, ◌++◌, filter, Some, None, Bool, true, false, sym, ap, ◌∙◌, subst, refl, inl, inr, append_assoc}
 use Rattle.std.specs.Str.{bytes_eq}
 use Rattle.std.specs.List.{AllByRecursion}
 use Rattle.std.proofs.lemmas.Bool.{cases_Bool}
 use Rattle.sap_maps.specs.Maps.{Name, Valuation}
 use Rattle.sap_maps.specs.Scope.{Scope, find}
-use Rattle.sap_maps.proofs.Scopes.{name_is, same_name, apart_back, not_behind, found_behind}
+use Rattle.sap_maps.proofs.Scopes.{name_is, apart_back, not_behind, found_behind}
 use Rattle.sap_net.specs.Names.{is_among, AreDistinct}
 use Rattle.sap_net.specs.declared.parts.Operand.{Operand}
 use Rattle.sap_net.specs.declared.parts.Operand.TheVariants.{Named, Constant}
@@ -19,8 +19,8 @@ use Rattle.sap_net.specs.Values.{Holds}
 use Rattle.sap_trim.specs.Names.{names_of}
 use Rattle.sap_trim.specs.Reads.{operand_reads, operands_reads, right_reads, wire_reads, register_reads, memory_reads}
 use Rattle.sap_trim.specs.Needed.{is_needed, needed}
-use Rattle.sap_trim.proofs.Lists.{or_none, or_true, among_here, among_front, among_behind, none_among}
-use Rattle.sap_trim.proofs.Provided.{Grows}
+use Rattle.sap_fold.proofs.Lists.{or_none, among_here, among_front, among_behind}
+use Rattle.sap_fold.proofs.Provided.{Grows}
 
 -- the same is found of each name on the list
 abbrev pub AgreeOn : List Name → (so sk : Scope) → Type 0

@@ -1,9 +1,6 @@
-pub mod Decoding
-pub mod Lists
 pub mod Maps
-pub mod Helpers
 pub mod Replaced
-pub mod Provided
+pub mod Staying
 pub mod Follows
 pub mod Declared
 pub mod Built
@@ -15,5 +12,3 @@ pub mod Passes
 pub mod Few
 pub mod Compose
 pub mod Loops
-pub mod Folds
-pub mod Sees

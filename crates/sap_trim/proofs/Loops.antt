@@ -1,5 +1,5 @@
 -- Steps of loops over the parts of a netlist.
-use Rattle.std.proofs.Common.{◌≡◌, ℕ, ◌+◌, ◌-◌, ◌<◌, ◌||◌, List, [], ◌∷◌, ◌++◌, map, filter, take, drop, length, Option, Some, None, Bool, true, false, sym, ap, ap₂, ◌∙◌, subst, refl, inl, inr, append_assoc, suc, ◌≤◌, get_or, drop-cons, arith}
+use Rattle.std.proofs.Common.{◌≡◌, ℕ, ◌-◌, ◌<◌, ◌||◌, List, [], ◌∷◌, ◌++◌, map, drop, length, Option, Some, None, Bool, true, false, sym, ap, ap₂, ◌∙◌, subst, refl, inl, inr, append_assoc, suc, ◌≤◌, get_or, drop-cons, arith}
 use Rattle.std.specs.Prelude.{◌⊎◌, if◌then◌else◌}
 use Rattle.std.specs.Str.{bytes_eq}
 use Rattle.std.specs.List.{list_any}
@@ -18,13 +18,15 @@ use Rattle.sap_net.specs.declared.parts.Memory.{Memory}
 use Rattle.sap_net.specs.declared.parts.Operand.{Operand}
 use Rattle.sap_net.specs.declared.parts.Operand.TheVariants.{Named, Constant}
 use Rattle.sap_net.specs.declared.parts.Wire.{Wire}
-use Rattle.sap_trim.specs.Names.{NameSet, holds, names_of, lasting_names}
+use Rattle.sap_fold.specs.Names.{NameSet, holds}
+use Rattle.sap_trim.specs.Names.{names_of, lasting_names}
 use Rattle.sap_trim.specs.Reads.{register_reads, memory_reads, edge_reads, right_reads, wire_reads}
-use Rattle.sap_trim.specs.Needed.{is_needed, needed}
+use Rattle.sap_trim.specs.Needed.{is_needed}
 use Rattle.std.specs.Map.{lookup}
 use Rattle.sap_trim.specs.Replaced.{Stands, Binds, OperandMap, stands_in}
-use Rattle.sap_trim.specs.Walked.{State, Walked, is_settled, SomeRegister, StartsAt, Starts}
-use Rattle.sap_trim.proofs.Lists.{or_true, or_false, among_append}
+use Rattle.sap_trim.specs.Stays.{KeepsStart}
+use Rattle.sap_trim.specs.Walked.{State, Walked, SomeRegister, StartsAt, Starts}
+use Rattle.sap_fold.proofs.Lists.{or_true, or_false, among_append}
 
 empty_holds : (s : NameSet) (n : Name) → s.keys ≡ [] → holds s n ≡ false
 empty_holds s n e = ap (λ (ks : List (Vec ℕ Global)). list_any (λ k. bytes_eq n k.items) ks) e
@@ -149,19 +151,19 @@ some_last : (P : Register → Type 0) (rs : List Register) (r : Register) → P 
 some_last P [] r h = inl h
 some_last P (x ∷ rs) r h = inr (some_last P rs r h)
 
-pub starts_push : (rs : List Register) (x : Name) (a b c : Option Operand) (r : Register) → Starts rs x a b → (c ≡ b) ⊎ StartsAt x c r → Starts (rs ++ r ∷ []) x a c
-starts_push rs x a b c r (inl e) (inl f) = inl (f ∙ e)
-starts_push rs x a b c r (inr h) (inl f) =
-    inr (some_front (StartsAt x c) rs r (subst (λ (o : Option Operand). SomeRegister (StartsAt x o) rs) (sym f) h))
-starts_push rs x a b c r h (inr q) = inr (some_last (StartsAt x c) rs r q)
+pub starts_push : (ws : List Wire) (rs : List Register) (x : Name) (a b c : Option Operand) (r : Register) → Starts ws rs x a b → (c ≡ b) ⊎ StartsAt ws x c r → Starts ws (rs ++ r ∷ []) x a c
+starts_push ws rs x a b c r (inl e) (inl f) = inl (f ∙ e)
+starts_push ws rs x a b c r (inr h) (inl f) =
+    inr (some_front (StartsAt ws x c) rs r (subst (λ (o : Option Operand). SomeRegister (StartsAt ws x o) rs) (sym f) h))
+starts_push ws rs x a b c r h (inr q) = inr (some_last (StartsAt ws x c) rs r q)
 
-pub start_bound : (e f : Stands) (r : Register) → is_settled r ≡ true → Binds e r.name (Constant r.width r.start) f → (x : Name) → (f x ≡ e x) ⊎ StartsAt x (f x) r
-start_bound e f r s b x =
+pub start_bound : (ws : List Wire) (e f : Stands) (r : Register) → KeepsStart ws r → Binds e r.name (Constant r.width r.start) f → (x : Name) → (f x ≡ e x) ⊎ StartsAt ws x (f x) r
+start_bound ws e f r s b x =
     elim (cases_Bool (bytes_eq r.name x)) [
       | inl t ↦ inr (s, name_is r.name x t, rw t at (b x))
       | inr n ↦ inl (rw n at (b x))
     ]
 
-pub starts_over : (rs ss : List Register) (x : Name) (a b c : Option Operand) → rs ≡ ss → Starts rs x a c → a ≡ b → Starts ss x b c
-starts_over rs ss x a b c e h f =
-    subst (λ (qs : List Register). Starts qs x b c) e (subst (λ (o : Option Operand). Starts rs x o c) f h)
+pub starts_over : (ws : List Wire) (rs ss : List Register) (x : Name) (a b c : Option Operand) → rs ≡ ss → Starts ws rs x a c → a ≡ b → Starts ws ss x b c
+starts_over ws rs ss x a b c e h f =
+    subst (λ (qs : List Register). Starts ws qs x b c) e (subst (λ (o : Option Operand). Starts ws rs x o c) f h)

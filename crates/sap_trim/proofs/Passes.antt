@@ -1,29 +1,29 @@
 -- What is known of the two passes.
-use Rattle.std.proofs.Common.{◌≡◌, ℕ, List, [], ◌∷◌, ◌++◌, map, filter, Some, None, Bool, true, false, sym, ap, ap₂, ◌∙◌, subst, refl, length}
-use Rattle.std.specs.Str.{bytes_eq}
+use Rattle.std.proofs.Common.{◌≡◌, ℕ, List, [], ◌∷◌, ◌++◌, filter, Some, Bool, false, sym, ap, ap₂, ◌∙◌, subst, refl, length}
 use Rattle.std.specs.List.{AllByRecursion}
-use Rattle.sap_maps.specs.Maps.{Name, Valuation}
+use Rattle.sap_maps.specs.Maps.{Name}
 use Rattle.sap_maps.specs.Scope.{Scope, find}
 use Rattle.sap_net.specs.Names.{is_among}
 use Rattle.sap_net.specs.Net.{Net}
 use Rattle.sap_net.specs.declared.parts.Wire.{Wire}
-use Rattle.sap_net.specs.Rules.{AreWires, readable_after}
+use Rattle.sap_net.specs.Rules.{readable_after}
 use Rattle.sap_net.specs.IsNetlist.{register_names, memory_names, first_readable, readable, shapes, IsNetlist}
-use Rattle.sap_trim.specs.Names.{helper, numbered, names_of, port_names, lasting_names, shown_wires, helping_wires, NoneNumbered, NameSet, holds}
+use Rattle.sap_fold.specs.Names.{helper, NameSet, holds}
+use Rattle.sap_trim.specs.Names.{numbered, names_of, port_names, lasting_names, helping_wires}
 use Rattle.sap_trim.specs.Reads.{edge_reads, IsRead, ReadsWires}
 use Rattle.sap_trim.specs.Trimmed.{AllDiffer, SharesWires, NamesWires, NumbersWires}
 use Rattle.sap_trim.specs.Walked.{State, Begins, Folds, Copies, Walked}
-use Rattle.sap_trim.specs.Needed.{needed, needed_wires}
+use Rattle.sap_trim.specs.Needed.{needed_wires}
 use Rattle.sap_trim.specs.Built.{built}
-use Rattle.sap_trim.proofs.Lists.{none_among, all_from, map_all}
-use Rattle.sap_trim.proofs.Follows.{Follows, Followed, taken_apart, begins_follow, follows_walk, copies_walk}
+use Rattle.sap_fold.proofs.Lists.{none_among, all_from, map_all}
+use Rattle.sap_trim.proofs.Follows.{taken_apart, begins_follow, follows_walk, copies_walk}
 use Rattle.sap_trim.proofs.Declared.{wires_distinct, all_filter}
 use Rattle.sap_trim.specs.Alike.{DeclaresAlike, RunsAlike}
-use Rattle.sap_trim.proofs.Built.{Covers, Walks, built_rules, registers_named, memories_named, untaken}
+use Rattle.sap_trim.proofs.Built.{Walks, built_rules, registers_named, memories_named, untaken}
 use Rattle.sap_trim.proofs.Cycle.{Done, found_each, runs_alike, declares_alike}
 use Rattle.sap_trim.proofs.Kept.{AgreeOn, needed_fits, needed_agree, needed_within, needed_holds, shown_needed, edge_kept, needed_named, filter_each}
 use Rattle.sap_trim.proofs.Shared.{Tidy, walk_tidy, begins_tidy, helping_are}
-use Rattle.sap_trim.proofs.Read.{Read, walk_reads, all_read}
+use Rattle.sap_trim.proofs.Read.{walk_reads, all_read}
 
 pub done_fold : (n : Net) (taken : Name → Bool) (s t : State) (ws : List Wire) → IsNetlist n → ((x : Name) → taken x ≡ is_among x (lasting_names n)) → Begins n s → ws ≡ n.wires → Walked (Folds taken) s ws t → Done n taken n.wires s t
 done_fold n taken s t ws rules is b e k =
@@ -98,7 +98,7 @@ done_copy n taken kept s t ws rules is needs b e k =
     let copied = subst (λ (xs : List Wire). Walked (Copies taken) s xs t) (kept_wires n kept ws rules e needs) k in
     record { done = needed_done n taken s t rules is b copied; copied = copied }
 
-pub no_ports : (n : Net) (taken : Name → Bool) (so : Scope) (t : State) → Walks n taken so t → AllByRecursion (λ w. is_among w.name (port_names n) ≡ false) t.wires
+no_ports : (n : Net) (taken : Name → Bool) (so : Scope) (t : State) → Walks n taken so t → AllByRecursion (λ w. is_among w.name (port_names n) ≡ false) t.wires
 no_ports n taken so t k =
     all_from (λ w. taken w.name ≡ false) (λ w. is_among w.name (port_names n) ≡ false) t.wires
     (λ w h. (none_among w.name (port_names n) (register_names n ++ memory_names n) (sym (k.taken_is w.name) ∙ h)).0)

@@ -1,6 +1,6 @@
 -- Each helping wire of the new netlist is read.
-use Rattle.std.proofs.Common.{◌≡◌, ℕ, ◌||◌, List, [], ◌∷◌, ◌++◌, map, filter, Option, Some, None, Bool, true, false, sym, ap, ap₂, ◌∙◌, subst, refl, inl, inr, append_assoc, append-nil}
-use Rattle.std.specs.Prelude.{◌⊎◌, if◌then◌else◌}
+use Rattle.std.proofs.Common.{◌≡◌, ℕ, List, [], ◌∷◌, ◌++◌, map, filter, Some, Bool, true, false, sym, ap, ◌∙◌, subst, refl, inl, inr, append_assoc, append-nil}
+use Rattle.std.specs.Prelude.{◌⊎◌}
 use Rattle.std.specs.Str.{bytes_eq}
 use Rattle.std.specs.List.{AllByRecursion}
 use Rattle.std.proofs.lemmas.Bool.{cases_Bool}
@@ -17,16 +17,18 @@ use Rattle.sap_net.specs.declared.parts.Register.{Register}
 use Rattle.sap_net.specs.declared.parts.Memory.{Memory}
 use Rattle.sap_net.specs.declared.parts.Wire.{Wire}
 use Rattle.sap_net.specs.Rules.{Shapes, IsOperand, AreOperands, IsRight, AreWires}
-use Rattle.sap_trim.specs.Keys.{key}
+use Rattle.sap_fold.specs.Keys.{key}
 use Rattle.sap_trim.specs.Names.{names_of, port_names, shown_wires}
 use Rattle.sap_trim.specs.Reads.{operand_reads, operands_reads, right_reads, wire_reads, register_reads, memory_reads, edge_reads, IsRead}
-use Rattle.sap_trim.specs.Replaced.{Stands, Binds, standing, standing_operand, sliced, replaced}
-use Rattle.sap_trim.specs.Wires.{rights, AddsNew, IsThere, Adds}
-use Rattle.sap_trim.specs.Walked.{State, Provides, Copies, Walked}
+use Rattle.sap_fold.specs.Slices.{sliced}
+use Rattle.sap_trim.specs.Replaced.{Stands, Binds, standing, standing_operand, replaced}
+use Rattle.sap_fold.specs.Wires.{rights, Adds}
+use Rattle.sap_fold.specs.Wires.{Provides}
+use Rattle.sap_trim.specs.Walked.{State, Copies, Walked}
 use Rattle.sap_trim.specs.Needed.{is_needed, needed, needed_wires}
 use Rattle.sap_trim.specs.Built.{wire_of, register_of, memory_of, built}
-use Rattle.sap_trim.proofs.Decoding.{key_is}
-use Rattle.sap_trim.proofs.Lists.{or_elim, or_false, or_true, among_here, among_front, among_behind, among_split, among_each, all_append, all_from, all_map}
+use Rattle.sap_fold.proofs.Decoding.{key_is}
+use Rattle.sap_fold.proofs.Lists.{or_elim, or_false, among_here, among_front, among_behind, among_split, among_each, all_append, all_from, all_map}
 use Rattle.sap_trim.proofs.Replaced.{stands_for}
 
 single : (x z : Name) → is_among x (z ∷ []) ≡ true → x ≡ z

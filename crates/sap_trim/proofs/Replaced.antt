@@ -1,9 +1,6 @@
 -- Right sides with what stands for their operands in their place: they fit, and have the same value.
-use Rattle.std.proofs.Common.{◌≡◌, ℕ, ◌+◌, ◌-◌, ◌^◌, ◌<◌, ◌≤◌, List, [], ◌∷◌, map, length, Option, Some, None, Bool, true, sym, ap, ◌∙◌, subst, refl, arith}
-use Rattle.std.specs.Prelude.{unwrap_or, nat_le, nat_lt, if◌then◌else◌}
-use Rattle.std.proofs.Math.Pow.{pow_pos}
-use Rattle.std.proofs.Math.Nat.{mod-lt}
-use Rattle.std.proofs.lemmas.Bool.Decides.{nat_tests}
+use Rattle.std.proofs.Common.{◌≡◌, ℕ, List, [], ◌∷◌, map, length, Option, Some, sym, ap, ◌∙◌, subst, refl, arith}
+use Rattle.std.specs.Prelude.{unwrap_or}
 use Rattle.sap_bits.specs.Arithmetic.{slice_of}
 use Rattle.sap_maps.specs.Maps.{Name, Valuation}
 use Rattle.sap_maps.specs.Scope.{Scope, find}
@@ -11,11 +8,12 @@ use Rattle.sap_net.specs.declared.parts.Operand.{Operand}
 use Rattle.sap_net.specs.declared.parts.Operand.TheVariants.{Named, Constant}
 use Rattle.sap_net.specs.declared.parts.Right.{Right}
 use Rattle.sap_net.specs.declared.parts.Right.TheVariants.{Copy, One, Two, Choose, Concat, Slice, Cell}
-use Rattle.sap_net.specs.Rules.{Shapes, IsWidth, IsOperand, AreOperands, IsRight}
+use Rattle.sap_net.specs.Rules.{Shapes, IsOperand, AreOperands, IsRight}
 use Rattle.sap_net.specs.Values.{operand_value, operand_width, operands_width, operands_value, right_value}
 use Rattle.sap_net.proofs.Settle.{CellsAgree}
 use Rattle.sap_net.proofs.Within.{WidthsAre, operand_is_wide}
-use Rattle.sap_trim.specs.Replaced.{Stands, standing, standing_operand, sliced, replaced}
+use Rattle.sap_fold.proofs.Slicing.{sliced_fits, sliced_value}
+use Rattle.sap_trim.specs.Replaced.{Stands, standing, standing_operand, replaced}
 
 -- each name of one scope stands for an operand over another, of the same width
 abbrev pub Finds : (so sn : Scope) → Stands → Type 0
@@ -44,29 +42,6 @@ operands_fit so sn e f u (o ∷ os) h =
 as_long : (e : Stands) (os : List Operand) → length (map (standing_operand e) os) ≡ length os
 as_long e [] = refl
 as_long e (o ∷ os) = let h = as_long e os in omega arith
-
-pub le_is : (a b : ℕ) → a ≤ b → nat_le a b ≡ true
-le_is a b h = grind (arith, nat_tests)
-
-pub lt_is : (a b : ℕ) → a < b → nat_lt a b ≡ true
-lt_is a b h = grind (arith, nat_tests)
-
-pub slice_below : (n hi lo : ℕ) → slice_of n hi lo < 2 ^ (hi + 1 - lo)
-slice_below n hi lo = mod-lt _ (pow_pos _)
-
-sliced_fits : (ms : Shapes) (sn : Scope) (u t hi lo : ℕ) (o : Operand) → IsWidth u → IsOperand sn u o → lo ≤ hi → hi < u → t ≡ hi + 1 - lo → IsRight ms sn t (sliced o hi lo)
-sliced_fits ms sn u t hi lo (Named x) w h a b e = (u, w, h, a, b, e)
-sliced_fits ms sn u t hi lo (Constant k n) w h a b e =
-    let p = le_is lo hi a in
-    let q = lt_is hi 64 (omega (arith, w.1)) in
-    rw (p, q) (sym e, rw e (slice_below n hi lo))
-
-sliced_value : (ww : Name → ℕ) (w : Valuation) (hi lo : ℕ) (o : Operand) → lo ≤ hi → hi < 64 → slice_of (operand_value w o) hi lo ≡ right_value ww w (sliced o hi lo)
-sliced_value ww w hi lo (Named x) a b = refl
-sliced_value ww w hi lo (Constant k n) a b =
-    let p = le_is lo hi a in
-    let q = lt_is hi 64 b in
-    rw (p, q) refl
 
 pub replaced_fits : (ms : Shapes) (so sn : Scope) (e : Stands) → Finds so sn e → (u : ℕ) (r : Right) → IsRight ms so u r → IsRight ms sn u (replaced e r)
 replaced_fits ms so sn e f u (Copy a) h = operand_fits so sn e f u a h

@@ -1,5 +1,5 @@
 -- Helping wires: no two have the same width and right side, and they are numbered in order.
-use Rattle.std.proofs.Common.{◌≡◌, ℕ, zero, suc, ◌+◌, ◌<◌, List, [], ◌∷◌, ◌++◌, map, filter, not, length, Option, Some, None, Bool, true, false, sym, ap, ap₂, ◌∙◌, subst, refl, inl, inr, arith, append-nil, length-append}
+use Rattle.std.proofs.Common.{◌≡◌, ℕ, suc, ◌+◌, List, [], ◌∷◌, ◌++◌, map, not, length, Some, None, Bool, true, false, sym, ap, ap₂, ◌∙◌, subst, refl, inl, inr, arith, append-nil, length-append}
 use Rattle.std.specs.Str.{bytes_eq}
 use Rattle.std.specs.List.{AllByRecursion}
 use Rattle.std.proofs.lemmas.Bool.{cases_Bool}
@@ -12,14 +12,16 @@ use Rattle.sap_net.specs.declared.parts.Operand.{Operand}
 use Rattle.sap_net.specs.declared.parts.Right.{Right}
 use Rattle.sap_net.specs.declared.parts.Right.TheVariants.{Copy, One, Two, Choose, Concat, Slice, Cell}
 use Rattle.sap_net.specs.declared.parts.Wire.{Wire}
-use Rattle.sap_trim.specs.Keys.{key}
-use Rattle.sap_trim.specs.Names.{helper, numbered, names_of, port_names, shown_wires, helping_wires}
+use Rattle.sap_fold.specs.Keys.{key}
+use Rattle.sap_fold.specs.Names.{helper}
+use Rattle.sap_trim.specs.Names.{numbered, names_of, port_names, shown_wires, helping_wires}
 use Rattle.sap_trim.specs.Trimmed.{DiffersFrom, AllDiffer}
 use Rattle.sap_trim.specs.Replaced.{Stands, replaced}
-use Rattle.sap_trim.specs.Wires.{rights, AddsNew, IsThere, Adds}
-use Rattle.sap_trim.specs.Walked.{State, Begins, Provides, Copies, Walked}
+use Rattle.sap_fold.specs.Wires.{rights, AddsNew, Adds}
+use Rattle.sap_fold.specs.Wires.{Provides}
+use Rattle.sap_trim.specs.Walked.{State, Begins, Copies, Walked}
 use Rattle.sap_trim.specs.Built.{wire_of, built}
-use Rattle.sap_trim.proofs.Lists.{filter_append, filter_all, filter_none, all_map, all_from}
+use Rattle.sap_fold.proofs.Lists.{filter_append, filter_all, filter_none, all_from}
 use Rattle.sap_trim.proofs.Declared.{names_append, filter_holds}
 
 -- one more wire whose right side is new

@@ -1,6 +1,5 @@
 -- The netlist of some wires, where each name of another netlist stands for an operand.
 use Rattle.std.specs.Prelude.{List, ◌++◌, map, filter}
-use Rattle.sap_maps.specs.Maps.{Name}
 use Rattle.sap_net.specs.Names.{is_among}
 use Rattle.sap_net.specs.Net.{Net}
 use Rattle.sap_net.specs.declared.parts.Right.TheVariants.{Copy}

@@ -1,5 +1,5 @@
 -- How many wires a trimmed netlist has.
-use Rattle.std.specs.Prelude.{ℕ, ◌+◌, ◌≤◌, Bool, true, false, not, List, filter, length}
+use Rattle.std.specs.Prelude.{◌+◌, ◌≤◌, Bool, true, false, not, List, filter, length}
 use Rattle.sap_net.specs.Net.{Net}
 use Rattle.sap_net.specs.declared.parts.Right.{Right}
 use Rattle.sap_net.specs.declared.parts.Right.TheVariants.{Copy}

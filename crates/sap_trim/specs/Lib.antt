@@ -1,14 +1,10 @@
-pub mod Keys
 pub mod Names
 pub mod Reads
 pub mod Alike
 pub mod Trimmed
 pub mod Few
 pub mod Replaced
-pub mod Wires
-pub mod Equals
-pub mod Folding
-pub mod Seen
+pub mod Stays
 pub mod Walked
 pub mod Needed
 pub mod Built

@@ -1,20 +1,11 @@
--- The names of helping wires, and the names that stay.
-use Rattle.std.specs.Prelude.{◌≡◌, ℕ, zero, suc, Bool, false, not, List, [], ◌∷◌, ◌++◌, map, filter, bytes_eq}
-use Rattle.std.specs.Fmt.{decimal}
-use Rattle.std.specs.HashSet.{HashSet, contains_by}
-use Rattle.std.specs.declared.hash.FoldHasher.{FoldHasher}
-use Rattle.std.specs.declared.hash.BuildHasherDefault.{BuildHasherDefault}
-use Rattle.std.specs.declared.vec.Vec.{Vec}
-use Rattle.std.specs.declared.alloc.Global.{Global}
+-- The names of wires, and the names that stay.
+use Rattle.std.specs.Prelude.{◌≡◌, ℕ, zero, suc, false, not, List, [], ◌∷◌, ◌++◌, map, filter}
 use Rattle.sap_maps.specs.Maps.{Name}
 use Rattle.sap_net.specs.Names.{is_among}
 use Rattle.sap_net.specs.Net.{Net}
 use Rattle.sap_net.specs.IsNetlist.{register_names, memory_names}
 use Rattle.sap_net.specs.declared.parts.Wire.{Wire}
-
--- the name of a helping wire: an n and its number
-unfoldable pub helper : ℕ → Name
-helper k = 110 ∷ decimal k
+unfoldable pub use Rattle.sap_fold.specs.Names.{helper}
 
 -- the first names, in order
 abbrev pub numbered : ℕ → List Name
@@ -42,9 +33,3 @@ helping_wires n = filter (λ w. not (is_among w.name (port_names n))) n.wires
 -- no port, register or memory has the name of a helping wire
 abbrev pub NoneNumbered : Net → Type 0
 NoneNumbered n = (k : ℕ) → is_among (helper k) (lasting_names n) ≡ false
-
-abbrev pub NameSet : Type 0
-NameSet = HashSet (Vec ℕ Global) (BuildHasherDefault FoldHasher)
-
-abbrev pub holds : NameSet → Name → Bool
-holds s n = contains_by (λ k. bytes_eq n k.items) s

@@ -3,7 +3,8 @@ use Rattle.std.specs.Prelude.{◌≡◌, ℕ, List, [], ◌∷◌, length}
 use Rattle.std.specs.List.{AllByRecursion}
 use Rattle.sap_net.specs.Net.{Net}
 use Rattle.sap_net.specs.declared.parts.Wire.{Wire}
-use Rattle.sap_trim.specs.Names.{helper, numbered, names_of, helping_wires, NoneNumbered}
+use Rattle.sap_fold.specs.Names.{helper}
+use Rattle.sap_trim.specs.Names.{numbered, names_of, helping_wires, NoneNumbered}
 
 -- Each wire differs from all behind it in its width or its right side.
 abbrev pub DiffersFrom : Wire → List Wire → Type 0

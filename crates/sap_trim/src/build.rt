@@ -5,11 +5,12 @@ ghost use Rattle.sap_maps.specs.Maps as spec;
 ghost use Rattle.sap_net.specs.Names.{is_among};
 ghost use Rattle.sap_net.specs.Net.{net_of};
 ghost use Rattle.sap_trim.specs.Built.{built, memory_of, register_of, wire_of};
-ghost use Rattle.sap_trim.specs.Names.{holds, lasting_names, names_of, port_names};
+ghost use Rattle.sap_fold.specs.Names.{holds};
+ghost use Rattle.sap_trim.specs.Names.{lasting_names, names_of, port_names};
 ghost use Rattle.sap_trim.specs.Replaced.{stands_in};
 
-use crate::names::has;
 use crate::replace::{stand, stand_name};
+use sap_fold::names::has;
 use sap_net::netlist::Netlist;
 use sap_net::parts::{Input, Memory, Name, Operand, Parts, Port, Register, Right, Wire};
 use std::alloc::{AllocError, Global};

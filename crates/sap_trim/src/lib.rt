@@ -2,13 +2,9 @@
 #![tactic(auto)]
 
 mod build;
-mod fold;
-mod keys;
 mod names;
 mod needed;
 mod replace;
-mod rules;
-mod see;
+mod stays;
 pub mod trim;
 mod walk;
-mod wires;

@@ -1,31 +1,16 @@
-//! Sets of names.
+//! The names of ports, and those that stay.
 
 ghost use Rattle.std.specs.Prelude.{◌≡◌, ◌||◌, map, IfOk, OnOk};
-ghost use Rattle.std.specs.Str.{bytes_eq};
 ghost use Rattle.sap_maps.specs.Maps as spec;
 ghost use Rattle.sap_net.specs.Names.{is_among};
-ghost use Rattle.sap_trim.specs.Names.{holds, lasting_names, port_names};
+ghost use Rattle.sap_fold.specs.Names.{holds};
+ghost use Rattle.sap_trim.specs.Names.{lasting_names, port_names};
 
+use sap_fold::names::add;
 use sap_net::netlist::Netlist;
-use sap_net::parts::{Memory, Name, Port, Register};
+use sap_net::parts::{Memory, Port, Register};
 use std::alloc::{AllocError, Global};
 use std::collections::HashSet;
-
-/// Whether a set has a name.
-pub fn has(names: &HashSet<Vec<u8>>, name: &Name) -> bool
-    ensures { result ≡ holds names.now name.now }
-{
-    names.contains(name.as_bytes())
-}
-
-/// One more name.
-pub fn add(alloc: Global, names: &mut HashSet<Vec<u8>>, name: &Name) -> Result<(), AllocError>
-    ensures { OnOk result ((n : spec.Name) → holds names.new n ≡ (bytes_eq n name.now || holds names.old n)) }
-{
-    let key = name.as_bytes().to_vec(alloc)?;
-    names.insert(key)?;
-    Ok(())
-}
 
 fn add_ports(alloc: Global, names: &mut HashSet<Vec<u8>>, ports: &[Port]) -> Result<(), AllocError>
     ensures { OnOk result ((n : spec.Name) → holds names.new n ≡ (is_among n (map (λ p. p.name) ports.now) || holds names.old n)) }

@@ -1,9 +1,9 @@
 //! Operands of a netlist, replaced by what stands for them.
 
 ghost use Rattle.std.specs.Prelude.{◌≡◌, map, IfOk};
-ghost use Rattle.sap_trim.specs.Replaced.{replaced, sliced, standing, standing_operand, stands_in};
+ghost use Rattle.sap_trim.specs.Replaced.{replaced, standing, standing_operand, stands_in};
 
-use sap_bits::slice;
+use sap_fold::slices::sliced;
 use sap_net::parts::{Name, Operand, Operands, Right};
 use std::alloc::{AllocError, Global};
 use std::collections::HashMap;
@@ -53,25 +53,6 @@ fn stand_all(
     Ok(made)
 }
 
-/// The bits of an operand from `lo` up to `hi`.
-fn slice_operand(of: Operand, hi: u32, lo: u32) -> Right
-    ensures { result ≡ sliced of hi lo }
-{
-    match of {
-        Operand::Named(name) => Right::Slice { name, hi, lo },
-        Operand::Constant { value, .. } => {
-            if lo <= hi && hi < 64 {
-                Right::Copy(Operand::Constant {
-                    width: hi + 1 - lo,
-                    value: slice(value, hi, lo),
-                })
-            } else {
-                Right::Copy(Operand::Constant { width: 0, value: 0 })
-            }
-        }
-    }
-}
-
 /// A right side with what stands for its operands in their place.
 pub fn replace(
     alloc: Global,
@@ -106,7 +87,7 @@ pub fn replace(
         }
         Right::Slice { name, hi, lo } => {
             let of = stand_name(alloc, stands, name)?;
-            Ok(slice_operand(of, *hi, *lo))
+            Ok(sliced(of, *hi, *lo))
         }
         Right::Cell { memory, index } => {
             let memory = memory.copy(alloc)?;

@@ -1,9 +1,8 @@
 //! Whole netlists.
 
-ghost use Rattle.std.specs.Prelude.{◌≤◌, length, IfOk};
+ghost use Rattle.std.specs.Prelude.{IfOk};
 ghost use Rattle.sap_trim.specs.Alike.{DeclaresAlike, RunsAlike};
-ghost use Rattle.sap_trim.specs.Few.{HasFewWires, calculated};
-ghost use Rattle.sap_trim.specs.Names.{shown_wires};
+ghost use Rattle.sap_trim.specs.Few.{HasFewWires};
 ghost use Rattle.sap_trim.specs.Reads.{ReadsWires};
 ghost use Rattle.sap_trim.specs.Trimmed.{NamesWires, NumbersWires, SharesWires};
 
@@ -18,8 +17,6 @@ use std::alloc::{AllocError, Global};
 fn fold_wires(alloc: Global, netlist: &Netlist) -> Result<Netlist, AllocError>
     ensures declares { IfOk result (λ n. DeclaresAlike netlist.now n) }
     ensures same { IfOk result (λ n. RunsAlike netlist.now n) }
-    ensures calculations { IfOk result (λ n. length (calculated n.wires) ≤ length (calculated netlist.now.wires)) }
-    ensures shown { IfOk result (λ n. length (shown_wires n) ≤ length (shown_wires netlist.now)) }
 {
     netlist.rules();
     let lasting = names::lasting(alloc, netlist)?;
@@ -52,7 +49,23 @@ fn drop_unread(alloc: Global, netlist: &Netlist) -> Result<Netlist, AllocError>
     Ok(Netlist::new(parts))
 }
 
-/// A small netlist of which the same is seen: right sides are folded and shared, and wires that nothing reads are dropped.
+/// The netlist folded, and without the wires that nothing reads then.
+fn trim_folded(alloc: Global, netlist: &Netlist) -> Result<Netlist, AllocError>
+    ensures declares { IfOk result (λ n. DeclaresAlike netlist.now n) }
+    ensures same { IfOk result (λ n. RunsAlike netlist.now n) }
+    ensures named { IfOk result (λ n. NamesWires n) }
+    ensures numbered { IfOk result (λ n. NumbersWires n) }
+    ensures shared { IfOk result (λ n. SharesWires n) }
+    ensures read { IfOk result (λ n. ReadsWires n) }
+{
+    let folded = fold_wires(alloc, netlist)?;
+    folded.rules();
+    let trimmed = drop_unread(alloc, &folded)?;
+    Ok(trimmed)
+}
+
+/// A small netlist of which the same is seen: right sides are folded and shared, and wires that nothing reads are dropped. Folding may need wires that the
+/// given netlist has not, so the netlist is left unfolded where it has fewer wires so.
 pub fn trim(alloc: Global, netlist: &Netlist) -> Result<Netlist, AllocError>
     ensures declares { IfOk result (λ n. DeclaresAlike netlist.now n) }
     ensures same { IfOk result (λ n. RunsAlike netlist.now n) }
@@ -62,8 +75,10 @@ pub fn trim(alloc: Global, netlist: &Netlist) -> Result<Netlist, AllocError>
     ensures read { IfOk result (λ n. ReadsWires n) }
     ensures few { IfOk result (λ n. HasFewWires netlist.now n) }
 {
-    let folded = fold_wires(alloc, netlist)?;
-    folded.rules();
-    let trimmed = drop_unread(alloc, &folded)?;
-    Ok(trimmed)
+    let plain = drop_unread(alloc, netlist)?;
+    let folded = trim_folded(alloc, netlist)?;
+    if plain.wires().len() < folded.wires().len() {
+        return Ok(plain);
+    }
+    Ok(folded)
 }

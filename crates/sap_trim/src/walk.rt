@@ -1,19 +1,20 @@
 //! The wires of a netlist one after another, and what each of its names stands for over the new ones.
 
-ghost use Rattle.std.specs.Prelude.{◌≡◌, ◌⊎◌, [], ◌∷◌, Some, filter, map, if◌then◌else◌, IfOk, OnOk};
+ghost use Rattle.std.specs.Prelude.{◌≡◌, ◌⊎◌, List, [], ◌∷◌, Some, filter, map, if◌then◌else◌, IfOk, OnOk};
 ghost use Rattle.sap_maps.specs.Maps as spec;
 ghost use Rattle.sap_net.specs.Names.{is_among};
 ghost use Rattle.sap_net.specs.declared.parts.Operand.TheVariants as operand;
-ghost use Rattle.sap_trim.specs.Names.{holds};
+ghost use Rattle.sap_fold.specs.Names.{holds};
 ghost use Rattle.sap_trim.specs.Replaced.{Binds, stands_in};
-ghost use Rattle.sap_trim.specs.Walked.{Begins, Copies, Folds, Provides, Starts, StartsAt, Steps, Walked, is_settled, state_of};
-ghost use Rattle.sap_trim.specs.Wires.{NamesRights};
+ghost use Rattle.sap_trim.specs.Stays.{AllStay, stays_in};
+ghost use Rattle.sap_trim.specs.Walked.{Begins, Copies, Folds, Starts, StartsAt, Steps, Walked, state_of};
+ghost use Rattle.sap_fold.specs.Wires.{NamesRights};
 
-use crate::fold::fold;
-use crate::names::has;
 use crate::replace::replace;
-use crate::see::see;
-use crate::wires::Wires;
+use crate::stays::{Stay, keeps_start, stays};
+use sap_fold::folding::fold_into;
+use sap_fold::names::has;
+use sap_fold::wires::Wires;
 use sap_net::netlist::Netlist;
 use sap_net::parts::{Input, Name, Operand, Register, Right, Wire};
 use std::alloc::{AllocError, Global};
@@ -78,25 +79,16 @@ fn bind_registers(
     Ok(())
 }
 
-/// Whether a register keeps its start: what it takes at the edge is its own number, or its start.
-fn keeps_start(register: &Register) -> bool
-    ensures { result ≡ is_settled register.now }
-{
-    match &register.next {
-        Operand::Named(name) => name.same(&register.name),
-        Operand::Constant { value, .. } => *value == register.start,
-    }
-}
-
 /// Lets a register that keeps its start stand for that.
 fn bind_start(
     alloc: Global,
     stands: &mut HashMap<Vec<u8>, Operand>,
+    stays: &HashMap<Vec<u8>, Stay>,
     register: &Register,
 ) -> Result<(), AllocError>
-    ensures { OnOk result ((x : spec.Name) → (stands_in stands.new x ≡ stands_in stands.old x) ⊎ StartsAt x (stands_in stands.new x) register.now) }
+    ensures { OnOk result ((ws : List Wire) → AllStay ws (stays_in stays.now) → (x : spec.Name) → (stands_in stands.new x ≡ stands_in stands.old x) ⊎ StartsAt ws x (stands_in stands.new x) register.now) }
 {
-    if !keeps_start(register) {
+    if !keeps_start(alloc, stays, register)? {
         return Ok(());
     }
     let start = Operand::Constant {
@@ -110,35 +102,15 @@ fn bind_start(
 fn bind_starts(
     alloc: Global,
     stands: &mut HashMap<Vec<u8>, Operand>,
+    stays: &HashMap<Vec<u8>, Stay>,
     registers: &[Register],
 ) -> Result<(), AllocError>
-    ensures { OnOk result ((x : spec.Name) → Starts registers.now x (stands_in stands.old x) (stands_in stands.new x)) }
+    ensures { OnOk result ((ws : List Wire) → AllStay ws (stays_in stays.now) → (x : spec.Name) → Starts ws registers.now x (stands_in stands.old x) (stands_in stands.new x)) }
 {
     for register in registers {
-        bind_start(alloc, stands, register)?;
+        bind_start(alloc, stands, stays, register)?;
     }
     Ok(())
-}
-
-/// The operand that has the value of a right side, after one more wire where it needs one.
-fn provide(
-    alloc: Global,
-    wires: &mut Wires,
-    taken: &HashSet<Vec<u8>>,
-    width: u32,
-    right: Right,
-) -> Result<Operand, AllocError>
-    requires { NamesRights wires.old.names wires.old.list.items }
-    ensures names { OnOk result (NamesRights wires.new.names wires.new.list.items) }
-    ensures provides { IfOk result (λ o. Provides (holds taken.now) wires.old.list.items wires.old.next width right o wires.new.list.items wires.new.next) }
-{
-    match right {
-        Right::Copy(operand) => Ok(operand),
-        right => {
-            let name = wires.add(alloc, taken, width, right)?;
-            Ok(Operand::Named(name))
-        }
-    }
 }
 
 impl Walk {
@@ -150,7 +122,8 @@ impl Walk {
         let mut stands = HashMap::new(alloc);
         bind_registers(alloc, &mut stands, netlist.registers())?;
         bind_inputs(alloc, &mut stands, netlist.inputs())?;
-        bind_starts(alloc, &mut stands, netlist.registers())?;
+        let stays = stays(alloc, netlist)?;
+        bind_starts(alloc, &mut stands, &stays, netlist.registers())?;
         let wires = Wires::new(alloc);
         Ok(Walk { wires, stands })
     }
@@ -168,7 +141,7 @@ impl Walk {
         ensures names { OnOk result (NamesRights self.new.wires.names self.new.wires.list.items) }
         ensures steps { OnOk result (Steps (holds taken.now) (state_of self.old) name.now width right (state_of self.new)) }
     {
-        let operand = provide(alloc, &mut self.wires, taken, width, right)?;
+        let operand = self.wires.provide(alloc, taken, width, right)?;
         bind(alloc, &mut self.stands, name, operand)
     }
 
@@ -183,10 +156,8 @@ impl Walk {
         ensures folds { OnOk result (Folds (holds taken.now) (state_of self.old) wire.now (state_of self.new)) }
     {
         let replaced = replace(alloc, &self.stands, &wire.right)?;
-        let seen = see(alloc, &self.wires, replaced)?;
-        let right = fold(wire.width, seen);
-        self.step(alloc, taken, &wire.name, wire.width, right)?;
-        Ok(())
+        let operand = fold_into(alloc, &mut self.wires, taken, wire.width, replaced)?;
+        bind(alloc, &mut self.stands, &wire.name, operand)
     }
 
     fn copy_wire(

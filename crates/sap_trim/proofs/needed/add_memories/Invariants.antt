@@ -1,7 +1,7 @@
 use Rattle.std.proofs.Common.{◌≡◌, ◌||◌, drop}
 use Rattle.sap_maps.specs.Maps.{Name}
 use Rattle.sap_net.specs.Names.{is_among}
-use Rattle.sap_trim.specs.Names.{holds}
+use Rattle.sap_fold.specs.Names.{holds}
 use Rattle.sap_trim.specs.Reads.{memory_reads}
 use Rattle.sap_trim.proofs.needed.add_memories.Given as goal
 

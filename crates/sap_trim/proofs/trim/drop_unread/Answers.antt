@@ -1,6 +1,6 @@
 use Rattle.std.proofs.Common.{sym, subst}
 use Rattle.sap_net.specs.Net.{net_of}
-use Rattle.sap_trim.specs.Names.{holds}
+use Rattle.sap_fold.specs.Names.{holds}
 use Rattle.sap_trim.specs.Walked.{state_of}
 use Rattle.sap_trim.specs.Alike.{DeclaresAlike, RunsAlike}
 use Rattle.sap_trim.specs.Reads.{ReadsWires}

@@ -1,14 +1,8 @@
-use Rattle.std.proofs.Common.{◌≤◌, length, sym, subst}
+use Rattle.std.proofs.Common.{sym, subst}
 use Rattle.sap_net.specs.Net.{net_of}
-use Rattle.sap_trim.specs.Names.{holds}
+use Rattle.sap_fold.specs.Names.{holds}
 use Rattle.sap_trim.specs.Walked.{state_of}
 use Rattle.sap_trim.specs.Alike.{DeclaresAlike, RunsAlike}
-use Rattle.sap_trim.specs.Reads.{ReadsWires}
-use Rattle.sap_trim.specs.Trimmed.{NumbersWires, SharesWires}
-use Rattle.sap_net.specs.Net.{Net}
-use Rattle.sap_trim.specs.Few.{calculated}
-use Rattle.sap_trim.specs.Names.{shown_wires}
-use Rattle.sap_trim.proofs.Few.{folded_few}
 use Rattle.sap_trim.proofs.Passes.{folded_all}
 use Rattle.sap_trim.proofs.trim.fold_wires.Goals as goal
 
@@ -25,13 +19,3 @@ pub returns-clause-same : goal.returns-clause-same
 returns-clause-same c =
     subst (RunsAlike c.args.netlist.now) (sym c.new-2.ensures)
     (folded_all c.args.netlist.now (holds c.in_ok-lasting.lasting) (state_of c.in_ok-walk.walk) (state_of c.fold_all.new.self) c.wires.result.now (net_of c.in_ok-parts.parts) c.rules.ensures (c.in_ok-lasting.ensures {u = tt}) c.in_ok-walk.ensures.begins c.wires.ensures (c.in_ok-fold_all.ensures {u = tt}) (c.in_ok-parts.ensures {u = tt})).same
-
-pub returns-clause-calculations : goal.returns-clause-calculations
-returns-clause-calculations c =
-    subst (λ (n : Net). length (calculated n.wires) ≤ length (calculated c.args.netlist.now.wires)) (sym c.new-2.ensures)
-    (folded_few c.args.netlist.now (holds c.in_ok-lasting.lasting) (state_of c.in_ok-walk.walk) (state_of c.fold_all.new.self) c.wires.result.now (net_of c.in_ok-parts.parts) c.rules.ensures (c.in_ok-lasting.ensures {u = tt}) c.in_ok-walk.ensures.begins c.wires.ensures (c.in_ok-fold_all.ensures {u = tt}) (c.in_ok-parts.ensures {u = tt})).calculations
-
-pub returns-clause-shown : goal.returns-clause-shown
-returns-clause-shown c =
-    subst (λ (n : Net). length (shown_wires n) ≤ length (shown_wires c.args.netlist.now)) (sym c.new-2.ensures)
-    (folded_few c.args.netlist.now (holds c.in_ok-lasting.lasting) (state_of c.in_ok-walk.walk) (state_of c.fold_all.new.self) c.wires.result.now (net_of c.in_ok-parts.parts) c.rules.ensures (c.in_ok-lasting.ensures {u = tt}) c.in_ok-walk.ensures.begins c.wires.ensures (c.in_ok-fold_all.ensures {u = tt}) (c.in_ok-parts.ensures {u = tt})).shown

@@ -1,5 +1,5 @@
 use Rattle.std.proofs.Common.{◌≡◌, ◌∙◌, ◌+◌, ◌++◌, [], ◌∷◌, List, take, sym, ap, subst, refl, inl, arith}
-use Rattle.std.proofs.lemmas.List.{take_more}
+use Rattle.std.proofs.lemmas.List.{take_more, take_all}
 use Rattle.sap_net.specs.declared.parts.Register.{Register}
 use Rattle.sap_trim.specs.Replaced.{stands_in}
 use Rattle.sap_trim.specs.Walked.{Starts}
@@ -7,7 +7,7 @@ use Rattle.sap_trim.proofs.Loops.{starts_push}
 use Rattle.sap_trim.proofs.walk.bind_starts.Goals as goal
 
 pub loop-register-init : goal.loop-register-init
-loop-register-init c = λ x. inl refl
+loop-register-init c = λ ws h x. inl refl
 
 pub loop-register-preserved : goal.loop-register-preserved
 loop-register-preserved c =
@@ -15,8 +15,13 @@ loop-register-preserved c =
     let k = c.loop-register.register-index in
     let y = c.register-item.result in
     let e : take (k + 1) xs ≡ take k xs ++ y ∷ [] = take_more xs k y (omega arith) ∙ ap (λ z. take k xs ++ z ∷ []) (sym c.register-item.is) in
-    λ x.
+    λ ws h x.
     let a = stands_in c.args.stands.now x in
     let b = stands_in c.loop-register.stands x in
     let d = stands_in c.bind_start.new.stands x in
-    subst (λ (rs : List Register). Starts rs x a d) (sym e) (starts_push (take k xs) x a b d y (c.loop-register.invariant x) (c.in_ok-bind_start.ensures {u = tt} x))
+    subst (λ (rs : List Register). Starts ws rs x a d) (sym e) (starts_push ws (take k xs) x a b d y (c.loop-register.invariant ws h x) (c.in_ok-bind_start.ensures {u = tt} ws h x))
+
+pub returns : goal.returns
+returns c = λ ws h x.
+    let e = take_all c.loop-register.register-index c.args.registers.now c.loop-register-test.false in
+    subst (λ (rs : List Register). Starts ws rs x (stands_in c.args.stands.now x) (stands_in c.loop-register.stands x)) e (c.loop-register.invariant ws h x)

@@ -1,9 +1,9 @@
 use Rattle.std.proofs.Common.{◌≡◌, ◌∙◌, ◌+◌, ◌++◌, [], ◌∷◌, List, take, filter, sym, ap, subst, arith}
 use Rattle.std.proofs.lemmas.List.{take_more}
 use Rattle.sap_net.specs.declared.parts.Wire.{Wire}
-use Rattle.sap_trim.specs.Names.{holds}
+use Rattle.sap_fold.specs.Names.{holds}
 use Rattle.sap_trim.specs.Walked.{Copies, Walked, state_of}
-use Rattle.sap_trim.proofs.Lists.{filter_append}
+use Rattle.sap_fold.proofs.Lists.{filter_append}
 use Rattle.sap_trim.proofs.Loops.{walked_both}
 use Rattle.sap_trim.proofs.walk.Walk.copy_kept.Goals as goal
 

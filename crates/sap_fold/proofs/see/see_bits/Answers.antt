@@ -1,0 +1,20 @@
+use Rattle.std.proofs.Common.{Bool, subst}
+use Rattle.sap_fold.specs.Names.{holds}
+use Rattle.sap_fold.specs.Gives.{ArmGives}
+use Rattle.sap_fold.specs.Under.{number}
+use Rattle.sap_fold.proofs.Becoming.{bits_become}
+use Rattle.sap_fold.proofs.see.see_bits.Goals as goal
+
+pub returns-clause-becomes : goal.returns-clause-becomes
+returns-clause-becomes c =
+    let s = c.args.wires.now in
+    let m = c.arm.new.wires in
+    let t = c.arm-2.new.wires in
+    let f = holds c.args.taken.now in
+    let a = c.args.a in
+    let b = c.args.b in
+    let p = c.in_ok-a.a in
+    let q = c.in_ok-b.b in
+    bits_become f s.list.items s.next c.args.op a b p q m.list.items m.next t.list.items t.next c.requires.bits
+    (subst (λ (v : Bool). ArmGives f s.list.items s.next 1 a (number v) b q m.list.items m.next) c.is_and-value.ensures c.in_ok-b.ensures.arm)
+    (subst (λ (v : Bool). ArmGives f m.list.items m.next 1 q (number v) a p t.list.items t.next) c.is_and-value.ensures c.in_ok-a.ensures.arm)

@@ -1,0 +1,23 @@
+use Rattle.std.proofs.Common.{Option, subst}
+use Rattle.std.specs.Prelude.{IfSome}
+use Rattle.sap_bits.specs.declared.Op1.TheVariants.{Not}
+use Rattle.sap_net.specs.declared.parts.Operand.{Operand}
+use Rattle.sap_net.specs.declared.parts.Right.TheVariants.{One, Choose}
+use Rattle.sap_fold.specs.Names.{holds}
+use Rattle.sap_fold.specs.Seen.{Defines}
+use Rattle.sap_fold.proofs.Becoming.{becomes_equal, becomes_both}
+use Rattle.sap_fold.proofs.Sees.{choose_turned}
+use Rattle.sap_fold.proofs.see.see_choice.Goals as goal
+
+pub returns-in_ok-turned-in-Some-clause-becomes : goal.returns-in_ok-turned-in-Some-clause-becomes
+returns-in_ok-turned-in-Some-clause-becomes c =
+    let s = c.args.wires.now in
+    let ws = s.list.items in
+    let t = c.see_arms.new.wires in
+    let u = c.args.width in
+    let d = c.in-Some.of in
+    let x = Choose c.args.condition c.args.a c.args.b in
+    let y = Choose d c.args.b c.args.a in
+    let k = subst (λ (o : Option Operand). IfSome o (λ p. Defines ws c.args.condition (One Not p))) c.in-Some.is (c.in_ok-of.ensures {u = tt}) in
+    becomes_both (holds c.args.taken.now) ws s.next u x y c.in_ok-turned-in-Some.turned ws s.next t.list.items t.next
+    (becomes_equal (holds c.args.taken.now) ws s.next u x y (choose_turned ws u c.args.condition d c.args.a c.args.b k)) c.in_ok-turned-in-Some.ensures.becomes

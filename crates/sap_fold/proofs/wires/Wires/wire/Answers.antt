@@ -1,0 +1,13 @@
+use Rattle.std.proofs.Common.{sym, arith}
+use Rattle.sap_maps.proofs.Scopes.{name_is}
+use Rattle.sap_fold.proofs.wires.Wires.wire.Goals as goal
+
+pub returns : goal.returns
+returns c =
+    let fits = c.args.self.now.list.ok in
+    record {
+      place = c.in_ok-place.place;
+      within = omega (arith, fits, c.len.ensures, c.if-place-len.false);
+      is = c.index-wire.ensures;
+      named = name_is c.index-wire.result.now.name c.args.name.now (sym (c.if-not-same.ensures {u = tt}));
+    }

@@ -1,0 +1,12 @@
+pub mod Keys
+pub mod Names
+pub mod Wires
+pub mod Equals
+pub mod Folding
+pub mod Seen
+pub mod Gives
+pub mod Under
+pub mod Absorbed
+pub mod Parts
+pub mod Slices
+pub mod Order

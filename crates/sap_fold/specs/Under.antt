@@ -1,0 +1,63 @@
+-- What operands are where a bit is known.
+use Rattle.std.specs.Prelude.{◌≡◌, ℕ, ◌^◌, ◌<◌, Bool, true, false, not, List, Option, Some, None, if◌then◌else◌}
+use Rattle.sap_bits.specs.declared.Op2.{Op2}
+use Rattle.sap_bits.specs.declared.Op2.TheVariants.{And, Or}
+use Rattle.sap_maps.specs.Maps.{Name, Valuation}
+use Rattle.sap_maps.specs.Scope.{Scope}
+use Rattle.sap_net.specs.Rules.{Shapes, IsOperand, IsRight, AreWires, readable_after}
+use Rattle.sap_net.specs.Values.{operand_value, right_value}
+use Rattle.sap_net.specs.declared.parts.Operand.{Operand}
+use Rattle.sap_net.specs.declared.parts.Operand.TheVariants.{Constant}
+use Rattle.sap_net.specs.declared.parts.Right.{Right}
+use Rattle.sap_net.specs.declared.parts.Right.TheVariants.{Two, Choose}
+use Rattle.sap_net.specs.declared.parts.Wire.{Wire}
+use Rattle.sap_fold.specs.Equals.{Over}
+use Rattle.sap_fold.specs.Folding.{same_operand}
+
+-- the number of a bit
+abbrev pub number : Bool → ℕ
+number true = 1
+number false = 0
+
+abbrev pub bit : Bool → Operand
+bit t = Constant 1 (number t)
+
+-- the other one of two operands, if one of them is c
+abbrev pub other : (c a b : Operand) → Option Operand
+other c a b = if same_operand a c then Some b else if same_operand b c then Some a else None
+
+-- a choice by d, where c has the value t
+abbrev pub chosen : (c : Operand) → (t : Bool) → (d a b : Operand) → Option Operand
+chosen c t d a b = if same_operand d c then Some (if t then a else b) else None
+
+-- the value t, where it decides, else the other operand
+abbrev pub decided : (t decides : Bool) → Option Operand → Option Operand
+decided t d None = None
+decided t d (Some o) = Some (if d then bit t else o)
+
+-- what a right side is where the bit c has the value t, if c is among its operands: `&` with 0 is 0, `&` with 1 the other operand, and so on
+abbrev pub right_under : (c : Operand) → (t : Bool) → Right → Option Operand
+right_under c t (Choose d a b) = chosen c t d a b
+right_under c t (Two And a b) = decided t (not t) (other c a b)
+right_under c t (Two Or a b) = decided t t (other c a b)
+right_under c t _ = None
+
+-- an operator of one bit has the value t only where both operands have it
+abbrev pub tells : Op2 → Bool → Bool
+tells And t = t
+tells Or t = not t
+tells _ t = false
+
+abbrev pub is_and : Op2 → Bool
+is_and And = true
+is_and _ = false
+
+abbrev pub IsBitwise : Op2 → Type 0
+IsBitwise And = Unit {0}
+IsBitwise Or = Unit {0}
+IsBitwise _ = ⊥
+
+-- Where the bit c has the number n, the operand a has the value of r.
+pub record Under (ws : List Wire) (c : Operand) (n : ℕ) (a : Operand) (r : Right) : Type 0 where
+  pub fits : (memories : Shapes) (sc : Scope) (u : ℕ) → AreWires memories sc ws → IsOperand (readable_after sc ws) 1 c → IsOperand (readable_after sc ws) u a → IsRight memories (readable_after sc ws) u r
+  pub same : (memories : Shapes) (sc : Scope) (widths : Name → ℕ) (v : Valuation) (u : ℕ) → Over memories sc ws widths v → IsOperand (readable_after sc ws) 1 c → IsOperand (readable_after sc ws) u a → operand_value v c ≡ n → operand_value v a ≡ right_value widths v r

@@ -1,0 +1,51 @@
+//! Right sides folded into helping wires.
+
+ghost use Rattle.std.specs.Prelude.{IfOk, OnOk};
+ghost use Rattle.sap_fold.specs.Gives.{Becomes, Gives};
+ghost use Rattle.sap_fold.specs.Names.{holds};
+ghost use Rattle.sap_fold.specs.Wires.{NamesRights};
+
+use crate::fold::fold;
+use crate::parts::spread;
+use crate::see::see;
+use crate::wires::Wires;
+use sap_net::parts::{Operand, Right};
+use std::alloc::{AllocError, Global};
+use std::collections::HashSet;
+
+/// A right side of equal value, after one round of the rules.
+fn simpler(
+    alloc: Global,
+    wires: &mut Wires,
+    taken: &HashSet<Vec<u8>>,
+    width: u32,
+    given: Right,
+) -> Result<Right, AllocError>
+    requires { NamesRights wires.old.names wires.old.list.items }
+    ensures names { OnOk result (NamesRights wires.new.names wires.new.list.items) }
+    ensures becomes { IfOk result (λ r. Becomes (holds taken.now) wires.old.list.items wires.old.next width given r wires.new.list.items wires.new.next) }
+{
+    let seen = see(alloc, wires, taken, width, given)?;
+    let bits = spread(alloc, width, seen)?;
+    Ok(fold(width, bits))
+}
+
+/// The operand that has the value of a right side at a width, after one more wire where it needs one, and after those that the rules ask for. One rule often
+/// makes room for another, so there are three rounds.
+pub fn fold_into(
+    alloc: Global,
+    wires: &mut Wires,
+    taken: &HashSet<Vec<u8>>,
+    width: u32,
+    given: Right,
+) -> Result<Operand, AllocError>
+    requires { NamesRights wires.old.names wires.old.list.items }
+    ensures names { OnOk result (NamesRights wires.new.names wires.new.list.items) }
+    ensures gives { IfOk result (λ o. Gives (holds taken.now) wires.old.list.items wires.old.next width given o wires.new.list.items wires.new.next) }
+{
+    let once = simpler(alloc, wires, taken, width, given)?;
+    let twice = simpler(alloc, wires, taken, width, once)?;
+    let folded = simpler(alloc, wires, taken, width, twice)?;
+    let operand = wires.provide(alloc, taken, width, folded)?;
+    Ok(operand)
+}

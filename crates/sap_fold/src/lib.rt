@@ -1,0 +1,15 @@
+//! Helping wires: right sides fold by the arithmetic of their operators and by the wires that they read, and equal ones are one wire.
+#![tactic(auto)]
+
+mod absorb;
+mod fold;
+pub mod folding;
+mod keys;
+pub mod names;
+mod order;
+mod parts;
+mod rules;
+mod see;
+pub mod slices;
+mod under;
+pub mod wires;

@@ -1,0 +1,230 @@
+//! Rules that look at the right sides of the helping wires that are read.
+
+ghost use Rattle.std.specs.Prelude.{◌≡◌, IfOk, IfSome, OnOk, ℕ};
+ghost use Rattle.sap_bits.specs.declared.Op1.TheVariants as one;
+ghost use Rattle.sap_net.specs.declared.parts.Right.TheVariants as right;
+ghost use Rattle.sap_fold.specs.Equals.{Equals};
+ghost use Rattle.sap_fold.specs.Gives.{ArmGives, Becomes};
+ghost use Rattle.sap_fold.specs.Names.{holds};
+ghost use Rattle.sap_fold.specs.Seen.{Defines};
+ghost use Rattle.sap_fold.specs.Under as spec;
+ghost use Rattle.sap_fold.specs.Wires.{NamesRights};
+
+use crate::absorb::absorb;
+use crate::fold::fold;
+use crate::order::{see_equal, see_unequal};
+use crate::parts::see_concat;
+use crate::slices::see_slice;
+use crate::under::{definition, under};
+use crate::wires::Wires;
+use sap_bits::{Op1, Op2};
+use sap_net::parts::{Operand, Right};
+use std::alloc::{AllocError, Global};
+use std::collections::HashSet;
+
+/// What an operand is the negation of.
+fn negated(alloc: Global, wires: &Wires, operand: &Operand) -> Result<Option<Operand>, AllocError>
+    ensures { IfOk result (λ o. IfSome o (λ d. Defines wires.now.list.items operand.now (right.One one.Not d))) }
+{
+    let Some(Right::One(Op1::Not, of)) = definition(wires, operand) else {
+        return Ok(None);
+    };
+    let of = of.copy(alloc)?;
+    Ok(Some(of))
+}
+
+/// A negation of no negation.
+fn see_not(alloc: Global, wires: &Wires, a: Operand) -> Result<Right, AllocError>
+    ensures { IfOk result (λ r. (u : ℕ) → Equals wires.now.list.items u (right.One one.Not a) r) }
+{
+    match negated(alloc, wires, &a)? {
+        Some(of) => Ok(Right::Copy(of)),
+        None => Ok(Right::One(Op1::Not, a)),
+    }
+}
+
+/// A right side that is a copy or a negation, simpler where it is a negation.
+fn plain(alloc: Global, wires: &Wires, width: u32, given: Right) -> Result<Right, AllocError>
+    ensures { IfOk result (λ r. Equals wires.now.list.items width given r) }
+{
+    match given {
+        Right::One(Op1::Not, a) => {
+            let seen = see_not(alloc, wires, a)?;
+            Ok(fold(width, seen))
+        }
+        given => Ok(given),
+    }
+}
+
+/// What an operand of this width is where a bit is known: itself, or something simpler.
+fn arm(
+    alloc: Global,
+    wires: &mut Wires,
+    taken: &HashSet<Vec<u8>>,
+    width: u32,
+    bit: &Operand,
+    value: bool,
+    operand: Operand,
+) -> Result<Operand, AllocError>
+    requires { NamesRights wires.old.names wires.old.list.items }
+    ensures names { OnOk result (NamesRights wires.new.names wires.new.list.items) }
+    ensures arm { IfOk result (λ p. ArmGives (holds taken.now) wires.old.list.items wires.old.next width bit.now (spec.number value) operand p wires.new.list.items wires.new.next) }
+{
+    match under(alloc, wires, bit, value, &operand)? {
+        Some(known) => {
+            let simple = plain(alloc, wires, width, known)?;
+            let provided = wires.provide(alloc, taken, width, simple)?;
+            Ok(provided)
+        }
+        None => Ok(operand),
+    }
+}
+
+/// A choice whose arms are simple where the condition is known.
+fn see_arms(
+    alloc: Global,
+    wires: &mut Wires,
+    taken: &HashSet<Vec<u8>>,
+    width: u32,
+    condition: Operand,
+    a: Operand,
+    b: Operand,
+) -> Result<Right, AllocError>
+    requires { NamesRights wires.old.names wires.old.list.items }
+    ensures names { OnOk result (NamesRights wires.new.names wires.new.list.items) }
+    ensures becomes { IfOk result (λ r. Becomes (holds taken.now) wires.old.list.items wires.old.next width (right.Choose condition a b) r wires.new.list.items wires.new.next) }
+{
+    let a = arm(alloc, wires, taken, width, &condition, true, a)?;
+    let b = arm(alloc, wires, taken, width, &condition, false, b)?;
+    Ok(Right::Choose(condition, a, b))
+}
+
+/// A choice by no negation.
+fn see_choice(
+    alloc: Global,
+    wires: &mut Wires,
+    taken: &HashSet<Vec<u8>>,
+    width: u32,
+    condition: Operand,
+    a: Operand,
+    b: Operand,
+) -> Result<Right, AllocError>
+    requires { NamesRights wires.old.names wires.old.list.items }
+    ensures names { OnOk result (NamesRights wires.new.names wires.new.list.items) }
+    ensures becomes { IfOk result (λ r. Becomes (holds taken.now) wires.old.list.items wires.old.next width (right.Choose condition a b) r wires.new.list.items wires.new.next) }
+{
+    match negated(alloc, wires, &condition)? {
+        Some(of) => {
+            let turned = see_arms(alloc, wires, taken, width, of, b, a)?;
+            Ok(turned)
+        }
+        None => {
+            let seen = see_arms(alloc, wires, taken, width, condition, a, b)?;
+            Ok(seen)
+        }
+    }
+}
+
+fn is_and(op: Op2) -> bool
+    ensures { result ≡ spec.is_and op }
+{
+    matches!(op, Op2::And)
+}
+
+/// The `&` or `|` of two bits, each simple where the other doesn't decide.
+fn see_bits(
+    alloc: Global,
+    wires: &mut Wires,
+    taken: &HashSet<Vec<u8>>,
+    op: Op2,
+    a: Operand,
+    b: Operand,
+) -> Result<Right, AllocError>
+    requires names { NamesRights wires.old.names wires.old.list.items }
+    requires bits { spec.IsBitwise op }
+    ensures names { OnOk result (NamesRights wires.new.names wires.new.list.items) }
+    ensures becomes { IfOk result (λ r. Becomes (holds taken.now) wires.old.list.items wires.old.next 1 (right.Two op a b) r wires.new.list.items wires.new.next) }
+{
+    let value = is_and(op);
+    let b = arm(alloc, wires, taken, 1, &a, value, b)?;
+    let a = arm(alloc, wires, taken, 1, &b, value, a)?;
+    Ok(Right::Two(op, a, b))
+}
+
+/// `&` or `|`, simpler where the wires that the operands name tell.
+fn see_both(
+    alloc: Global,
+    wires: &mut Wires,
+    taken: &HashSet<Vec<u8>>,
+    width: u32,
+    op: Op2,
+    a: Operand,
+    b: Operand,
+) -> Result<Right, AllocError>
+    requires names { NamesRights wires.old.names wires.old.list.items }
+    requires bits { spec.IsBitwise op }
+    ensures names { OnOk result (NamesRights wires.new.names wires.new.list.items) }
+    ensures becomes { IfOk result (λ r. Becomes (holds taken.now) wires.old.list.items wires.old.next width (right.Two op a b) r wires.new.list.items wires.new.next) }
+{
+    if width != 1 {
+        return Ok(absorb(wires, op, a, b));
+    }
+    let seen = see_bits(alloc, wires, taken, op, a, b)?;
+    Ok(seen)
+}
+
+/// An operator on two operands, simpler where the wires that they name tell.
+fn see_two(
+    alloc: Global,
+    wires: &mut Wires,
+    taken: &HashSet<Vec<u8>>,
+    width: u32,
+    op: Op2,
+    a: Operand,
+    b: Operand,
+) -> Result<Right, AllocError>
+    requires { NamesRights wires.old.names wires.old.list.items }
+    ensures names { OnOk result (NamesRights wires.new.names wires.new.list.items) }
+    ensures becomes { IfOk result (λ r. Becomes (holds taken.now) wires.old.list.items wires.old.next width (right.Two op a b) r wires.new.list.items wires.new.next) }
+{
+    match op {
+        Op2::And | Op2::Or => see_both(alloc, wires, taken, width, op, a, b),
+        Op2::Eq => see_equal(alloc, wires, taken, width, a, b),
+        Op2::Ne => {
+            let seen = see_unequal(alloc, wires, a, b)?;
+            Ok(seen)
+        }
+        _ => Ok(Right::Two(op, a, b)),
+    }
+}
+
+/// A right side of equal value, simpler where the wires that it reads tell.
+pub fn see(
+    alloc: Global,
+    wires: &mut Wires,
+    taken: &HashSet<Vec<u8>>,
+    width: u32,
+    given: Right,
+) -> Result<Right, AllocError>
+    requires { NamesRights wires.old.names wires.old.list.items }
+    ensures names { OnOk result (NamesRights wires.new.names wires.new.list.items) }
+    ensures becomes { IfOk result (λ r. Becomes (holds taken.now) wires.old.list.items wires.old.next width given r wires.new.list.items wires.new.next) }
+{
+    match given {
+        Right::One(Op1::Not, a) => {
+            let seen = see_not(alloc, wires, a)?;
+            Ok(seen)
+        }
+        Right::Two(op, a, b) => see_two(alloc, wires, taken, width, op, a, b),
+        Right::Choose(condition, a, b) => see_choice(alloc, wires, taken, width, condition, a, b),
+        Right::Slice { name, hi, lo } => {
+            let seen = see_slice(alloc, wires, name, hi, lo)?;
+            Ok(seen)
+        }
+        Right::Concat(operands) => {
+            let seen = see_concat(alloc, operands)?;
+            Ok(seen)
+        }
+        given => Ok(given),
+    }
+}

@@ -1,0 +1,255 @@
+//! What an operand is where a bit is known.
+
+ghost use Rattle.std.specs.Prelude.{◌≡◌, ◌⊎◌, List, IfOk, IfSome};
+ghost use Rattle.sap_net.specs.declared.parts.Right.TheVariants as kind;
+ghost use Rattle.sap_fold.specs.Seen.{Defines};
+ghost use Rattle.sap_fold.specs.Under as spec;
+
+use crate::parts::concat_under;
+use crate::rules::same;
+use crate::wires::Wires;
+use sap_bits::{Op1, Op2};
+use sap_net::parts::{Operand, Right, Wire};
+use std::alloc::{AllocError, Global};
+
+/// The right side of the helping wire that an operand names.
+pub fn definition<'a>(wires: &'a Wires, operand: &Operand) -> Option<&'a Right>
+    ensures { IfSome result (λ r. Defines wires.now.list.items operand.now r.now) }
+{
+    let Operand::Named(name) = operand else {
+        return None;
+    };
+    let wire = wires.wire(name)?;
+    Some(&wire.right)
+}
+
+/// A number of one bit.
+pub fn number(value: bool) -> Operand
+    ensures { result ≡ spec.bit value }
+{
+    let value = if value { 1 } else { 0 };
+    Operand::Constant { width: 1, value }
+}
+
+/// The other one of two operands, if one of them is the bit.
+pub fn other(
+    alloc: Global,
+    bit: &Operand,
+    a: &Operand,
+    b: &Operand,
+) -> Result<Option<Operand>, AllocError>
+    ensures { IfOk result (λ o. o ≡ spec.other bit.now a.now b.now) }
+{
+    if same(a, bit) {
+        let rest = b.copy(alloc)?;
+        Ok(Some(rest))
+    } else if same(b, bit) {
+        let rest = a.copy(alloc)?;
+        Ok(Some(rest))
+    } else {
+        Ok(None)
+    }
+}
+
+/// What a choice is, if the bit is what it chooses by.
+fn chosen(
+    alloc: Global,
+    bit: &Operand,
+    value: bool,
+    by: &Operand,
+    a: &Operand,
+    b: &Operand,
+) -> Result<Option<Operand>, AllocError>
+    ensures { IfOk result (λ o. o ≡ spec.chosen bit.now value by.now a.now b.now) }
+{
+    if !same(by, bit) {
+        return Ok(None);
+    }
+    let arm = if value { a } else { b };
+    let arm = arm.copy(alloc)?;
+    Ok(Some(arm))
+}
+
+/// A bit and another operand under `&` or `|`: the bit's value, where that decides, else the other.
+fn decided(value: bool, decides: bool, rest: Option<Operand>) -> Option<Operand>
+    ensures { result ≡ spec.decided value decides rest }
+{
+    match rest {
+        Some(rest) => Some(if decides { number(value) } else { rest }),
+        None => None,
+    }
+}
+
+/// What a right side is where a bit is known, if the bit is among its operands.
+fn right_under(
+    alloc: Global,
+    bit: &Operand,
+    value: bool,
+    right: &Right,
+) -> Result<Option<Operand>, AllocError>
+    ensures { IfOk result (λ o. o ≡ spec.right_under bit.now value right.now) }
+{
+    match right {
+        Right::Choose(by, a, b) => chosen(alloc, bit, value, by, a, b),
+        Right::Two(Op2::And, a, b) => {
+            let rest = other(alloc, bit, a, b)?;
+            Ok(decided(value, !value, rest))
+        }
+        Right::Two(Op2::Or, a, b) => {
+            let rest = other(alloc, bit, a, b)?;
+            Ok(decided(value, value, rest))
+        }
+        _ => Ok(None),
+    }
+}
+
+/// The operand that a wire of this right side is where a bit is known.
+fn right_known(
+    alloc: Global,
+    bit: &Operand,
+    value: bool,
+    right: &Right,
+) -> Result<Option<Operand>, AllocError>
+    ensures { IfOk result (λ o. (ws : List Wire) (x : Operand) → Defines ws x right.now → IfSome o (λ p. spec.Under ws bit.now (spec.number value) x (kind.Copy p))) }
+{
+    match right {
+        Right::Concat(operands) => {
+            let whole = concat_under(alloc, bit, value, operands)?;
+            Ok(whole)
+        }
+        right => {
+            let rest = right_under(alloc, bit, value, right)?;
+            Ok(rest)
+        }
+    }
+}
+
+/// The operand that an operand is where a bit is known.
+fn direct(
+    alloc: Global,
+    wires: &Wires,
+    bit: &Operand,
+    value: bool,
+    operand: &Operand,
+) -> Result<Option<Operand>, AllocError>
+    ensures { IfOk result (λ o. IfSome o (λ p. spec.Under wires.now.list.items bit.now (spec.number value) operand.now (kind.Copy p))) }
+{
+    if same(operand, bit) {
+        return Ok(Some(number(value)));
+    }
+    match definition(wires, operand) {
+        Some(right) => {
+            let rest = right_known(alloc, bit, value, right)?;
+            Ok(rest)
+        }
+        None => Ok(None),
+    }
+}
+
+/// What a negation is where a bit is known.
+fn negation_under(
+    alloc: Global,
+    wires: &Wires,
+    bit: &Operand,
+    value: bool,
+    operand: &Operand,
+) -> Result<Option<Right>, AllocError>
+    ensures { IfOk result (λ o. IfSome o (λ r. spec.Under wires.now.list.items bit.now (spec.number value) operand.now r)) }
+{
+    let Some(Right::One(Op1::Not, of)) = definition(wires, operand) else {
+        return Ok(None);
+    };
+    match direct(alloc, wires, bit, value, of)? {
+        Some(rest) => Ok(Some(Right::One(Op1::Not, rest))),
+        None => Ok(None),
+    }
+}
+
+/// What an operand is where a bit is known, by the operand's right side.
+fn found(
+    alloc: Global,
+    wires: &Wires,
+    bit: &Operand,
+    value: bool,
+    operand: &Operand,
+) -> Result<Option<Right>, AllocError>
+    ensures { IfOk result (λ o. IfSome o (λ r. spec.Under wires.now.list.items bit.now (spec.number value) operand.now r)) }
+{
+    if let Some(right) = negation_under(alloc, wires, bit, value, operand)? {
+        return Ok(Some(right));
+    }
+    match direct(alloc, wires, bit, value, operand)? {
+        Some(operand) => Ok(Some(Right::Copy(operand))),
+        None => Ok(None),
+    }
+}
+
+/// Whether both operands have the value that an operator of one bit has.
+fn tells(op: Op2, value: bool) -> bool
+    ensures { result ≡ spec.tells op value }
+{
+    match op {
+        Op2::And => value,
+        Op2::Or => !value,
+        _ => false,
+    }
+}
+
+/// What an operand is where two bits are known.
+fn either(
+    alloc: Global,
+    wires: &Wires,
+    a: &Operand,
+    b: &Operand,
+    value: bool,
+    operand: &Operand,
+) -> Result<Option<Right>, AllocError>
+    ensures { IfOk result (λ o. IfSome o (λ r. spec.Under wires.now.list.items a.now (spec.number value) operand.now r ⊎ spec.Under wires.now.list.items b.now (spec.number value) operand.now r)) }
+{
+    if let Some(right) = found(alloc, wires, a, value, operand)? {
+        return Ok(Some(right));
+    }
+    match found(alloc, wires, b, value, operand)? {
+        Some(right) => Ok(Some(right)),
+        None => Ok(None),
+    }
+}
+
+/// What an operand is where a bit is known, by the bit's right side.
+fn caused(
+    alloc: Global,
+    wires: &Wires,
+    bit: &Operand,
+    value: bool,
+    operand: &Operand,
+) -> Result<Option<Right>, AllocError>
+    ensures { IfOk result (λ o. IfSome o (λ r. spec.Under wires.now.list.items bit.now (spec.number value) operand.now r)) }
+{
+    match definition(wires, bit) {
+        Some(Right::One(Op1::Not, of)) => {
+            let told = found(alloc, wires, of, !value, operand)?;
+            Ok(told)
+        }
+        Some(Right::Two(op, a, b)) if tells(*op, value) => {
+            let both = either(alloc, wires, a, b, value, operand)?;
+            Ok(both)
+        }
+        _ => Ok(None),
+    }
+}
+
+/// What an operand is where a bit is known, if the wires tell anything simpler than the operand.
+pub fn under(
+    alloc: Global,
+    wires: &Wires,
+    bit: &Operand,
+    value: bool,
+    operand: &Operand,
+) -> Result<Option<Right>, AllocError>
+    ensures { IfOk result (λ o. IfSome o (λ r. spec.Under wires.now.list.items bit.now (spec.number value) operand.now r)) }
+{
+    if let Some(right) = found(alloc, wires, bit, value, operand)? {
+        return Ok(Some(right));
+    }
+    caused(alloc, wires, bit, value, operand)
+}

@@ -1,0 +1,167 @@
+//! Helping wires, one for each right side and width.
+
+ghost use Rattle.std.specs.Prelude.{◌≡◌, ◌∷◌, [], ◌++◌, None, Some, IfOk, IfSome, OnOk};
+ghost use Rattle.sap_maps.specs.Scope.{find};
+ghost use Rattle.sap_fold.specs.Keys as spec;
+ghost use Rattle.sap_fold.specs.Names.{helper, holds};
+ghost use Rattle.sap_fold.specs.Wires.{Adds, AddsNew, HasWire, IsFree, NamesRights, Provides, rights};
+
+use crate::keys::key;
+use crate::names::has;
+use sap_net::parts::{Name, Operand, Right, Wire};
+use std::alloc::{AllocError, Global};
+use std::collections::{HashMap, HashSet};
+
+/// The helping wires so far, in order, with maps from their right sides to their names and from these to their places. The next one has number `next` or
+/// the first behind it that is not taken.
+#[derive(Drop)]
+pub struct Wires {
+    pub list: Vec<Wire>,
+    pub names: HashMap<Vec<u64>, Name>,
+    places: HashMap<Vec<u8>, usize>,
+    pub next: u64,
+}
+
+/// A number, and the name of its helping wire.
+#[derive(Drop)]
+struct Free {
+    number: u64,
+    name: Name,
+}
+
+/// The name of the helping wire of a number.
+#[tactic(auto, unfolding(crate::specs::Names::helper))]
+fn helper_name(alloc: Global, k: u64) -> Result<Name, AllocError>
+    ensures { IfOk result (λ n. n ≡ helper k) }
+{
+    let text = format!(in alloc; "n{k}")?;
+    Ok(Name::new(text.into_bytes()))
+}
+
+/// The first number from `from` on whose name is not taken. A netlist never has so many names that there is none.
+fn free_name(alloc: Global, taken: &HashSet<Vec<u8>>, from: u64) -> Result<Free, AllocError>
+    ensures { IfOk result (λ f. IsFree (holds taken.now) from f.number f.name) }
+{
+    for number in from..u64::MAX {
+        let name = helper_name(alloc, number)?;
+        if !has(taken, &name) {
+            return Ok(Free { number, name });
+        }
+    }
+    Err(AllocError)
+}
+
+impl Wires {
+    pub fn new(alloc: Global) -> Wires
+        ensures list { result.list.items ≡ [] }
+        ensures names { NamesRights result.names [] }
+        ensures next { result.next ≡ 0 }
+    {
+        Wires {
+            list: Vec::new(alloc),
+            names: HashMap::new(alloc),
+            places: HashMap::new(alloc),
+            next: 0,
+        }
+    }
+
+    /// The wire of a name, if it is one of these.
+    pub fn wire(&self, name: &Name) -> Option<&Wire>
+        ensures { IfSome result (λ w. HasWire self.now.list.items name.now w.now) }
+    {
+        let place = self.places.get(name.as_bytes()).copied()?;
+        if place >= self.list.len() {
+            return None;
+        }
+        let wire = &self.list[place];
+        if !wire.name.same(name) {
+            return None;
+        }
+        Some(wire)
+    }
+
+    /// The operand that has the value of a right side, after one more wire where it needs one.
+    pub fn provide(
+        &mut self,
+        alloc: Global,
+        taken: &HashSet<Vec<u8>>,
+        width: u32,
+        right: Right,
+    ) -> Result<Operand, AllocError>
+        requires { NamesRights self.old.names self.old.list.items }
+        ensures names { OnOk result (NamesRights self.new.names self.new.list.items) }
+        ensures provides { IfOk result (λ o. Provides (holds taken.now) self.old.list.items self.old.next width right o self.new.list.items self.new.next) }
+    {
+        match right {
+            Right::Copy(operand) => Ok(operand),
+            right => {
+                let name = self.add(alloc, taken, width, right)?;
+                Ok(Operand::Named(name))
+            }
+        }
+    }
+
+    /// The name of the wire of this width and right side: the one that is there, or one more.
+    fn add(
+        &mut self,
+        alloc: Global,
+        taken: &HashSet<Vec<u8>>,
+        width: u32,
+        right: Right,
+    ) -> Result<Name, AllocError>
+        requires { NamesRights self.old.names self.old.list.items }
+        ensures names { OnOk result (NamesRights self.new.names self.new.list.items) }
+        ensures adds { IfOk result (λ n. Adds (holds taken.now) self.old.list.items self.old.next width right n self.new.list.items self.new.next) }
+    {
+        let key = key(alloc, width, &right)?;
+        match self.known(alloc, &key)? {
+            Some(name) => Ok(name),
+            None => self.push(alloc, taken, key, width, right),
+        }
+    }
+
+    /// The name of the wire with the numbers of its right side.
+    fn known(&self, alloc: Global, key: &[u64]) -> Result<Option<Name>, AllocError>
+        requires { NamesRights self.now.names self.now.list.items }
+        ensures { IfOk result (λ o. o ≡ find (rights self.now.list.items) key.now) }
+    {
+        match self.names.get(key) {
+            Some(name) => {
+                let name = name.copy(alloc)?;
+                Ok(Some(name))
+            }
+            None => Ok(None),
+        }
+    }
+
+    /// One more wire, whose right side is new.
+    fn push(
+        &mut self,
+        alloc: Global,
+        taken: &HashSet<Vec<u8>>,
+        key: Vec<u64>,
+        width: u32,
+        right: Right,
+    ) -> Result<Name, AllocError>
+        requires names { NamesRights self.old.names self.old.list.items }
+        requires numbers { key.items ≡ spec.key width right }
+        requires new { find (rights self.old.list.items) (spec.key width right) ≡ None }
+        ensures names { OnOk result (NamesRights self.new.names self.new.list.items) }
+        ensures adds { IfOk result (λ n. AddsNew (holds taken.now) self.old.list.items self.old.next width right n self.new.list.items self.new.next) }
+    {
+        let free = free_name(alloc, taken, self.next)?;
+        let known = free.name.copy(alloc)?;
+        let shown = free.name.copy(alloc)?;
+        let placed = free.name.as_bytes().to_vec(alloc)?;
+        let place = self.list.len();
+        self.list.push(Wire {
+            name: free.name,
+            width,
+            right,
+        })?;
+        self.names.insert(key, known)?;
+        self.places.insert(placed, place)?;
+        self.next = free.number + 1;
+        Ok(shown)
+    }
+}

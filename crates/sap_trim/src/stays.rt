@@ -1,0 +1,219 @@
+//! Wires that have one number as long as a register has its start.
+
+ghost use Rattle.std.specs.Prelude.{◌≡◌, true, List, [], ◌∷◌, ◌++◌, IfOk, OnOk};
+ghost use Rattle.sap_trim.specs.Stays as spec;
+
+use sap_net::netlist::Netlist;
+use sap_net::parts::{Name, Operand, Register, Right, Wire};
+use std::alloc::{AllocError, Global};
+use std::collections::HashMap;
+
+/// A number that something has always, or as long as a register has it.
+#[derive(Drop)]
+pub enum Stay {
+    Always(u64),
+    While(Name, u64),
+}
+
+fn copy(alloc: Global, stay: &Stay) -> Result<Stay, AllocError>
+    ensures { IfOk result (λ s. s ≡ stay.now) }
+{
+    match stay {
+        Stay::Always(number) => Ok(Stay::Always(*number)),
+        Stay::While(register, number) => {
+            let register = register.copy(alloc)?;
+            Ok(Stay::While(register, *number))
+        }
+    }
+}
+
+/// What a name stays at.
+fn name_stay(
+    alloc: Global,
+    stays: &HashMap<Vec<u8>, Stay>,
+    name: &Name,
+) -> Result<Option<Stay>, AllocError>
+    ensures { IfOk result (λ s. s ≡ spec.stays_in stays.now name.now) }
+{
+    match stays.get(name.as_bytes()) {
+        Some(stay) => {
+            let stay = copy(alloc, stay)?;
+            Ok(Some(stay))
+        }
+        None => Ok(None),
+    }
+}
+
+/// What an operand stays at.
+fn operand_stay(
+    alloc: Global,
+    stays: &HashMap<Vec<u8>, Stay>,
+    operand: &Operand,
+) -> Result<Option<Stay>, AllocError>
+    ensures { IfOk result (λ s. s ≡ spec.operand_stay (spec.stays_in stays.now) operand.now) }
+{
+    match operand {
+        Operand::Named(name) => name_stay(alloc, stays, name),
+        Operand::Constant { value, .. } => Ok(Some(Stay::Always(*value))),
+    }
+}
+
+/// Whether two stays are at one number, and ask for at most one register.
+fn agree(a: &Stay, b: &Stay) -> bool
+    ensures { result ≡ spec.agree a.now b.now }
+{
+    match (a, b) {
+        (Stay::Always(m), Stay::Always(n)) => *m == *n,
+        (Stay::Always(m), Stay::While(_, n)) => *m == *n,
+        (Stay::While(_, m), Stay::Always(n)) => *m == *n,
+        (Stay::While(x, m), Stay::While(y, n)) => *m == *n && x.same(y),
+    }
+}
+
+/// What two things stay at that agree.
+fn both(a: Stay, b: Stay) -> Option<Stay>
+    ensures { result ≡ spec.both a b }
+{
+    if !agree(&a, &b) {
+        return None;
+    }
+    match a {
+        Stay::Always(_) => Some(b),
+        Stay::While(register, number) => Some(Stay::While(register, number)),
+    }
+}
+
+/// What a choice between two things stays at.
+fn either(a: Option<Stay>, b: Option<Stay>) -> Option<Stay>
+    ensures { result ≡ spec.either a b }
+{
+    match (a, b) {
+        (Some(a), Some(b)) => both(a, b),
+        _ => None,
+    }
+}
+
+/// What a right side stays at: a copy, or a choice between two that stay at the same.
+fn right_stay(
+    alloc: Global,
+    stays: &HashMap<Vec<u8>, Stay>,
+    right: &Right,
+) -> Result<Option<Stay>, AllocError>
+    ensures { IfOk result (λ s. s ≡ spec.right_stay (spec.stays_in stays.now) right.now) }
+{
+    match right {
+        Right::Copy(a) => operand_stay(alloc, stays, a),
+        Right::Choose(_, a, b) => {
+            let a = operand_stay(alloc, stays, a)?;
+            let b = operand_stay(alloc, stays, b)?;
+            Ok(either(a, b))
+        }
+        _ => Ok(None),
+    }
+}
+
+/// Lets a name stay at a number.
+fn put(
+    alloc: Global,
+    stays: &mut HashMap<Vec<u8>, Stay>,
+    name: &Name,
+    stay: Stay,
+) -> Result<(), AllocError>
+    ensures { OnOk result (spec.Puts (spec.stays_in stays.old) name.now stay (spec.stays_in stays.new)) }
+{
+    let key = name.as_bytes().to_vec(alloc)?;
+    stays.insert(key, stay)?;
+    Ok(())
+}
+
+fn put_register(
+    alloc: Global,
+    stays: &mut HashMap<Vec<u8>, Stay>,
+    register: &Register,
+) -> Result<(), AllocError>
+    requires { spec.AllStay [] (spec.stays_in stays.old) }
+    ensures { OnOk result (spec.AllStay [] (spec.stays_in stays.new)) }
+{
+    let name = register.name.copy(alloc)?;
+    let stay = Stay::While(name, register.start);
+    put(alloc, stays, &register.name, stay)?;
+    Ok(())
+}
+
+fn put_registers(
+    alloc: Global,
+    stays: &mut HashMap<Vec<u8>, Stay>,
+    registers: &[Register],
+) -> Result<(), AllocError>
+    requires { spec.AllStay [] (spec.stays_in stays.old) }
+    ensures { OnOk result (spec.AllStay [] (spec.stays_in stays.new)) }
+{
+    for register in registers {
+        put_register(alloc, stays, register)?;
+    }
+    Ok(())
+}
+
+fn put_wire(
+    alloc: Global,
+    stays: &mut HashMap<Vec<u8>, Stay>,
+    wire: &Wire,
+) -> Result<(), AllocError>
+    ensures { OnOk result ((ws : List Wire) → spec.AllStay ws (spec.stays_in stays.old) → spec.AllStay (ws ++ wire.now ∷ []) (spec.stays_in stays.new)) }
+{
+    match right_stay(alloc, stays, &wire.right)? {
+        Some(stay) => {
+            put(alloc, stays, &wire.name, stay)?;
+            Ok(())
+        }
+        None => Ok(()),
+    }
+}
+
+fn put_wires(
+    alloc: Global,
+    stays: &mut HashMap<Vec<u8>, Stay>,
+    wires: &[Wire],
+) -> Result<(), AllocError>
+    requires { spec.AllStay [] (spec.stays_in stays.old) }
+    ensures { OnOk result (spec.AllStay wires.now (spec.stays_in stays.new)) }
+{
+    for wire in wires {
+        put_wire(alloc, stays, wire)?;
+    }
+    Ok(())
+}
+
+/// What the registers and wires of a netlist stay at.
+pub fn stays(alloc: Global, netlist: &Netlist) -> Result<HashMap<Vec<u8>, Stay>, AllocError>
+    ensures { IfOk result (λ s. spec.AllStay netlist.now.wires (spec.stays_in s)) }
+{
+    let mut stays = HashMap::new(alloc);
+    put_registers(alloc, &mut stays, netlist.registers())?;
+    put_wires(alloc, &mut stays, netlist.wires())?;
+    Ok(stays)
+}
+
+/// Whether a stay is at the number, as long as the register has it.
+fn is_at(stay: &Stay, name: &Name, number: u64) -> bool
+    ensures { result ≡ spec.is_at stay.now name.now number }
+{
+    match stay {
+        Stay::Always(at) => *at == number,
+        Stay::While(register, at) => *at == number && register.same(name),
+    }
+}
+
+/// Whether a register keeps its start: what it takes at the edge is that, as long as it has it.
+pub fn keeps_start(
+    alloc: Global,
+    stays: &HashMap<Vec<u8>, Stay>,
+    register: &Register,
+) -> Result<bool, AllocError>
+    ensures { IfOk result (λ t. (ws : List Wire) → spec.AllStay ws (spec.stays_in stays.now) → t ≡ true → spec.KeepsStart ws register.now) }
+{
+    match operand_stay(alloc, stays, &register.next)? {
+        Some(stay) => Ok(is_at(&stay, &register.name, register.start)),
+        None => Ok(false),
+    }
+}
