@@ -2,6 +2,7 @@ pub mod Steps
 pub mod Places
 pub mod Lines
 pub mod WholeFiles
+pub mod ReadFiles
 pub mod Files
 pub mod Channels
 pub mod Rooms

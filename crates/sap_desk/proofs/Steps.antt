@@ -8,7 +8,7 @@ use Rattle.std.proofs.lemmas.List.{drop-drop, take-append-drop, append-nil}
 use Rattle.std.proofs.Math.Seq.{drop-nil}
 use Rattle.sap_desk.specs.Cause.{Gave}
 use Rattle.std.specs.Prelude.{bytes_eq, ltb, IfSome, IsSome, unwrap_or, Result, Ok, Err, OnErr}
-use Rattle.sap_desk.specs.Desk.{Told, Use, at_name, added, added_to, closed, reads, writes, stream, at_number, rest_of, rest_of_use, moved, moved_use, opened, bytes_of}
+use Rattle.sap_desk.specs.Desk.{Told, Use, at_name, added, added_to, closed, reads, writes, stream, at_number, rest_of, rest_of_use, moved, moved_use, bytes_of}
 
 pub option_map-twice : {A B C : Type 0} (f : B → C) (g : A → B) (o : Option A) → option_map f (option_map g o) ≡ option_map (λ a. f (g a)) o
 option_map-twice f g None = refl
@@ -119,21 +119,9 @@ told_more channel len count old mid new is more =
     more ∙ ap (option_map (moved channel count)) is ∙ option_map-twice (moved channel count) (moved channel len) old
     ∙ option_map-same _ _ old (moved-twice channel len count)
 
-file_there : (o : Option (List ℕ)) → IsSome o → o ≡ Some (unwrap_or o [])
+pub file_there : (o : Option (List ℕ)) → IsSome o → o ≡ Some (unwrap_or o [])
 file_there None h = cc
 file_there (Some x) h = refl
-
--- an opened channel has the whole file left
-pub rest-opened : (channel : ℕ) (name bytes : List ℕ) (old mid : Option Told)
-    → mid ≡ option_map (opened channel name) old
-    → IfSome old (λ t. IsSome (t.files name))
-    → IfSome mid (λ t. bytes ≡ rest_of t channel)
-    → IfSome old (λ t. t.files name ≡ Some bytes)
-rest-opened channel name bytes None mid is there rest = tt
-rest-opened channel name bytes (Some t) mid is there rest =
-    let all : bytes ≡ rest_of (opened channel name t) channel = let P : Option Told → Type 0 = λ o. IfSome o (λ t. bytes ≡ rest_of t channel) in subst P is rest in
-    let whole : bytes ≡ bytes_of t name = all ∙ ap (rest_of_use (opened channel name t)) (at_number-same channel (reads name 0) t.uses) in
-    rw whole (file_there (t.files name) there)
 
 pub bytes_eq-same : (k : List ℕ) → bytes_eq k k ≡ true
 bytes_eq-same k = grind (arith, bytes_eq-Decides k k)

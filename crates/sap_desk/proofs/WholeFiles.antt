@@ -6,8 +6,8 @@ use Rattle.std.proofs.lemmas.List.{take_all}
 use Rattle.std.proofs.lemmas.Bool.{cases_eq}
 use Rattle.sap_desk.specs.Desk.{Told, Use, closed, writes, at_name, at_number, added, added_to, created, finished, blame_at, blamed, name_if_open, name_if_writing, IsOpen, IsWriting}
 use Rattle.sap_desk.specs.Cause.{Took, FailsToWrite}
-use Rattle.sap_desk.specs.Whole.{Between, SameChannels, Wrote, FailedWriting, FillsFile}
-use Rattle.sap_desk.proofs.Steps.{at_number-same, at_number-twice, at_name-same, at_name-twice, other_number}
+use Rattle.sap_desk.specs.Whole.{Between, IsFor, OneMore, SameChannels, Wrote, FailedWriting, FillsFile}
+use Rattle.sap_desk.proofs.Steps.{at_number-keeps, at_number-same, at_number-twice, at_name-same, at_name-twice, other_number}
 
 -- a channel that wasn't open is none of those that were
 other_channel : {A : Type 0} (channel k : ℕ) (x : A) (f : ℕ → A) (t : Told) → t.uses channel ≡ closed → IsOpen (t.uses k) → at_number channel x f k ≡ f k
@@ -28,6 +28,11 @@ same_channels channel u w t n above fresh room uses written = record {
   open_use = λ k open_now. ap (λ (f : ℕ → Use). f k) uses ∙ other_channel channel k u t.uses t fresh open_now;
   open_written = λ k open_now. ap (λ (f : ℕ → List ℕ). f k) written ∙ other_channel channel k w t.written t fresh open_now;
 }
+
+-- it is open now for a file
+pub one_more : (channel : ℕ) (name : List ℕ) (u : Use) (t : Told) → 2 < channel → t.uses channel ≡ closed → IsFor name u
+    → OneMore name t.uses (at_number channel u t.uses)
+one_more channel name u t above fresh is_for = record { channel = channel; above = above; fresh = fresh; use_now = u; is_for = is_for; uses = refl }
 
 module _ (channel : ℕ) (name : List ℕ) (t : Told) (above : 2 < channel) where
   pub made_use : (created channel name t).uses channel ≡ writes name
@@ -65,6 +70,7 @@ module _ (channel : ℕ) (name bytes : List ℕ) (above : 2 < channel) where
     files = made_files channel name t above bytes;
     blame = refl;
     channels = same_channels channel closed bytes t _ above fresh refl (at_number-twice channel (writes name) closed t.uses) (written_is channel name t above bytes);
+    uses = at_number-twice channel (writes name) closed t.uses ∙ at_number-keeps channel closed t.uses fresh;
   }
 
   -- a finish failed after the whole was written
@@ -78,6 +84,7 @@ module _ (channel : ℕ) (name bytes : List ℕ) (above : 2 < channel) where
     });
     blame = ap name_if_open (made_use channel name t above);
     channels = same_channels channel (writes name) bytes t _ above fresh refl refl (written_is channel name t above bytes);
+    uses = inr (one_more channel name (writes name) t above fresh refl);
   }
 
   -- a write failed
@@ -87,6 +94,7 @@ module _ (channel : ℕ) (name bytes : List ℕ) (above : 2 < channel) where
     files = inr (record { count = count; within = within; files = made_files channel name t above (take count bytes) });
     blame = ap name_if_writing (made_use channel name t above);
     channels = same_channels channel (writes name) (take count bytes) t _ above fresh refl refl (written_is channel name t above (take count bytes));
+    uses = inr (one_more channel name (writes name) t above fresh refl);
   }
 
   pub wrote_all : (old one two new : Option Told) → IfSome old (λ t. t.uses channel ≡ closed)

@@ -1,4 +1,5 @@
 pub mod Desk
+pub mod Row
 pub mod Cause
 pub mod Whole
 pub mod Host

@@ -1,8 +1,8 @@
 -- What a whole file or a whole line makes of a desk.
-use Rattle.std.specs.Prelude.{◌≡◌, ◌⊎◌, ℕ, ◌^◌, ◌<◌, ◌≤◌, List, [], ◌∷◌, ◌++◌, take, length, codes, Option, Some, None, IfSome, IsSomeAnd, option_map, Result, OnOk, OnErr}
+use Rattle.std.specs.Prelude.{◌≡◌, ◌⊎◌, ℕ, ◌+◌, ◌^◌, ◌<◌, ◌≤◌, min, List, [], ◌∷◌, ◌++◌, take, length, codes, Option, Some, None, IfSome, IsSomeAnd, option_map, Result, OnOk, OnErr}
 use Rattle.std.specs.List.{flat_map}
 use Rattle.std.specs.Borrow.{Bor}
-use Rattle.sap_desk.specs.Desk.{Told, IsOpen, at_name, bytes_of, blamed, added}
+use Rattle.sap_desk.specs.Desk.{Told, Use, closed, reads, writes, stream, IsOpen, at_name, at_number, bytes_of, blamed, added}
 use Rattle.sap_desk.specs.Cause.{counted}
 
 -- what holds of the contents before and after, where the desk tells
@@ -19,27 +19,59 @@ pub record SameChannels (t n : Told) : Type 0 where
   pub open_use : (k : ℕ) → IsOpen (t.uses k) → n.uses k ≡ t.uses k
   pub open_written : (k : ℕ) → IsOpen (t.uses k) → n.written k ≡ t.written k
 
--- reading stopped for want of memory: a channel may be open that wasn't
-pub record StoppedReading (t n : Told) : Type 0 where
-  pub files : n.files ≡ t.files
-  pub blame : n.blame ≡ t.blame
-  pub channels : SameChannels t n
+-- open for the file of a name
+abbrev pub IsFor : List ℕ → Use → Type 0
+IsFor name (reads owner position) = owner ≡ name
+IsFor name (writes owner) = owner ≡ name
+IsFor name closed = ⊥
+IsFor name stream = ⊥
+
+-- a channel that wasn't open is open for the file of a name, and every other is as before
+pub record OneMore (name : List ℕ) (before after : ℕ → Use) : Type 0 where
+  pub channel : ℕ
+  pub above : 2 < channel
+  pub fresh : before channel ≡ closed
+  pub use_now : Use
+  pub is_for : IsFor name use_now
+  pub uses : after ≡ at_number channel use_now before
+
+-- what is open after a failed call on the file of a name: what was open before, and the channel of that call where it has one
+abbrev pub OpenAfterFault : (name : List ℕ) → (before after : ℕ → Use) → Type 0
+OpenAfterFault name before after = (after ≡ before) ⊎ OneMore name before after
 
 -- a call failed that reads the file of a name
 pub record FailedReading (name : List ℕ) (t n : Told) : Type 0 where
   pub files : n.files ≡ t.files
   pub blame : n.blame ≡ name
   pub channels : SameChannels t n
+  pub uses : OpenAfterFault name t.uses n.uses
 
--- why reading a file fails at a sure desk
+-- what is got of a text by reading until more than `limit` bytes were got, or its end: the whole text, or some part of it, from its first byte
+-- on, that is longer than the limit
+pub data IsFront (limit : ℕ) (whole part : List ℕ) : Type 0 where
+  all : part ≡ whole → IsFront limit whole part
+  more : limit < length part → (rest : List ℕ) → part ++ rest ≡ whole → IsFront limit whole part
+
+-- this is got of the file of a name
+pub record IsFrontOf (limit : ℕ) (name part : List ℕ) (t : Told) : Type 0 where
+  pub whole : List ℕ
+  pub file : t.files name ≡ Some whole
+  pub front : IsFront limit whole part
+
+-- why reading a whole file fails at a sure desk
 abbrev pub MissingOrLong : List ℕ → Told → Type 0
 MissingOrLong name t = (t.files name ≡ None) ⊎ (2 ^ 32 ≤ length (bytes_of t name))
+
+-- why reading a file until more than `limit` bytes were got fails at a sure desk: at most 4096 bytes behind the limit are asked for
+abbrev pub MissingOrFar : (limit : ℕ) → List ℕ → Told → Type 0
+MissingOrFar limit name t = (t.files name ≡ None) ⊎ (2 ^ 32 ≤ min (limit + 4096) (length (bytes_of t name)))
 
 -- the file of a name has these bytes, and no other file changed
 pub record Wrote (name bytes : List ℕ) (t n : Told) : Type 0 where
   pub files : n.files ≡ at_name name (Some bytes) t.files
   pub blame : n.blame ≡ t.blame
   pub channels : SameChannels t n
+  pub uses : n.uses ≡ t.uses
 
 -- the file of a name has a prefix of these bytes, and no other file changed
 pub record WrotePrefix (name bytes : List ℕ) (t n : Told) : Type 0 where
@@ -52,6 +84,7 @@ pub record FailedWriting (name bytes : List ℕ) (t n : Told) : Type 0 where
   pub files : (n.files ≡ t.files) ⊎ WrotePrefix name bytes t n
   pub blame : n.blame ≡ name
   pub channels : SameChannels t n
+  pub uses : OpenAfterFault name t.uses n.uses
 
 -- why writing a file fails at a sure desk: it is longer than the room, which it fills
 pub record FillsFile (name bytes : List ℕ) (t n : Told) : Type 0 where

@@ -1,33 +1,72 @@
 // Whole files through a desk.
-ghost use Rattle.std.specs.Prelude.{◌≡◌, ◌⊎◌, ◌+◌, ◌<◌, ◌≤◌, ◌^◌, ℕ, Some, length, IfOk, OnOk, OnErr, IfSome, IsErrOf, option_map};
+ghost use Rattle.std.specs.Prelude.{◌≡◌, ◌⊎◌, ◌+◌, ◌<◌, ◌≤◌, ◌^◌, ℕ, min, Some, length, IfOk, OnOk, OnErr, IfSome, IsErrOf, option_map};
 ghost use Rattle.sap_desk.specs.Desk.{rest_of, moved, name_if_reading, blamed, IsReading};
 ghost use Rattle.sap_desk.specs.Cause.{CountsOpen};
-ghost use Rattle.sap_desk.specs.Whole.{Between, StoppedReading, FailedReading, MissingOrLong, Wrote, FailedWriting, FillsFile};
+ghost use Rattle.sap_desk.specs.Whole.{Between, FailedReading, IsFront, IsFrontOf, MissingOrFar, MissingOrLong, Wrote, FailedWriting, FillsFile};
 
 use crate::{Bytes, Desk, DeskError};
 use std::alloc::Global;
 
-// Reads what a channel has left.
-fn read_rest<D: Desk>(alloc: Global, desk: &mut D, channel: usize) -> Result<Vec<u8>, DeskError>
+// Reads what a channel has left, until more than `limit` bytes were got.
+fn read_until<D: Desk>(
+    alloc: Global,
+    desk: &mut D,
+    channel: usize,
+    limit: usize,
+) -> Result<Vec<u8>, DeskError>
     requires { 2 < channel }
-    ensures bytes { IfOk result (λ bytes. IfSome (D.told desk.old) (λ t. bytes.items ≡ rest_of t channel)) }
+    ensures bytes { IfOk result (λ bytes. IfSome (D.told desk.old) (λ t. IsFront limit (rest_of t channel) bytes.items)) }
+    ensures most { IfOk result (λ bytes. length bytes.items ≤ limit + 4096) }
+    ensures short { IfOk result (λ bytes. length bytes.items < 2 ^ 32) }
     ensures told { IfOk result (λ bytes. D.told desk.new ≡ option_map (moved channel (length bytes.items)) (D.told desk.old)) }
     ensures failed { IsErrOf result DeskError.Failed → (count : ℕ) × (D.told desk.new ≡ option_map (λ t. blamed (name_if_reading (t.uses channel)) (moved channel count t)) (D.told desk.old)) }
     ensures memory { IsErrOf result DeskError.Memory → (count : ℕ) × (D.told desk.new ≡ option_map (moved channel count) (D.told desk.old)) }
     ensures counts { CountsOpen (D.faults desk.old) (D.faults desk.new) (D.lost desk.old) (D.lost desk.new) result }
     ensures sure { D.sure desk.old → D.sure desk.new }
-    ensures cause { IsErrOf result DeskError.Failed → D.sure desk.old → IfSome (D.told desk.old) (λ t. (¬ IsReading (t.uses channel)) ⊎ (2 ^ 32 ≤ D.given desk.old channel + length (rest_of t channel))) }
+    ensures cause { IsErrOf result DeskError.Failed → D.sure desk.old → IfSome (D.told desk.old) (λ t. (¬ IsReading (t.uses channel)) ⊎ (2 ^ 32 ≤ D.given desk.old channel + min (limit + 4096) (length (rest_of t channel)))) }
 {
     let mut bytes = Vec::new(alloc);
     let mut piece = [0u8; 4096];
-    loop {
+    while bytes.len() <= limit {
         let count = desk.read(channel, &mut piece)?;
         if count == 0 {
-            break;
+            return Ok(bytes);
         }
         bytes.extend_from_slice(&piece[..count])?;
     }
     Ok(bytes)
+}
+
+/// Reads the file of a name until more than `limit` bytes were got, or its end, in pieces of 4096 bytes. After a failed
+/// call it makes no further one.
+pub fn read_front<D: Desk>(
+    alloc: Global,
+    desk: &mut D,
+    name: &str,
+    limit: usize,
+) -> Result<Bytes, DeskError>
+    ensures bytes { IfOk result (λ bytes. IfSome (D.told desk.old) (IsFrontOf limit name.now bytes)) }
+    ensures most { IfOk result (λ bytes. length bytes ≤ limit + 4096) }
+    ensures short { IfOk result (λ bytes. length bytes < 2 ^ 32) }
+    ensures told { OnOk result (D.told desk.new ≡ D.told desk.old) }
+    ensures failed { IsErrOf result DeskError.Failed → Between (D.told desk.old) (D.told desk.new) (FailedReading name.now) }
+    ensures memory { IsErrOf result DeskError.Memory → D.told desk.new ≡ D.told desk.old }
+    ensures counts { CountsOpen (D.faults desk.old) (D.faults desk.new) (D.lost desk.old) (D.lost desk.new) result }
+    ensures sure { D.sure desk.old → D.sure desk.new }
+    ensures cause { IsErrOf result DeskError.Failed → D.sure desk.old → IfSome (D.told desk.old) (MissingOrFar limit name.now) }
+{
+    let channel = desk.open_in(name)?;
+    match read_until(alloc, desk, channel, limit) {
+        Ok(bytes) => {
+            desk.finish(channel)?;
+            Ok(Bytes::new(bytes))
+        }
+        Err(DeskError::Memory) => {
+            desk.finish(channel)?;
+            Err(DeskError::Memory)
+        }
+        Err(DeskError::Failed) => Err(DeskError::Failed),
+    }
 }
 
 /// Reads the whole file of a name, in pieces of 4096 bytes. After a failed call it makes no further one.
@@ -35,15 +74,12 @@ pub fn read_file<D: Desk>(alloc: Global, desk: &mut D, name: &str) -> Result<Byt
     ensures bytes { IfOk result (λ bytes. IfSome (D.told desk.old) (λ t. t.files name.now ≡ Some bytes)) }
     ensures told { OnOk result (D.told desk.new ≡ D.told desk.old) }
     ensures failed { IsErrOf result DeskError.Failed → Between (D.told desk.old) (D.told desk.new) (FailedReading name.now) }
-    ensures memory { IsErrOf result DeskError.Memory → Between (D.told desk.old) (D.told desk.new) StoppedReading }
+    ensures memory { IsErrOf result DeskError.Memory → D.told desk.new ≡ D.told desk.old }
     ensures counts { CountsOpen (D.faults desk.old) (D.faults desk.new) (D.lost desk.old) (D.lost desk.new) result }
     ensures sure { D.sure desk.old → D.sure desk.new }
     ensures cause { IsErrOf result DeskError.Failed → D.sure desk.old → IfSome (D.told desk.old) (MissingOrLong name.now) }
 {
-    let channel = desk.open_in(name)?;
-    let bytes = read_rest(alloc, desk, channel)?;
-    desk.finish(channel)?;
-    Ok(Bytes::new(bytes))
+    read_front(alloc, desk, name, usize::MAX)
 }
 
 /// Makes a file of these bytes, in one piece. It takes no memory once the file is made, and after a failed call it makes

@@ -1,6 +1,5 @@
 -- The rules that names and pairs have to keep, in the order in which they are tested, and the first that is broken.
 use Rattle.std.specs.Prelude.{◌≡◌, ◌<◌, ◌≤◌, ◌+◌, ℕ, true, false, ◌⊎◌, Some, List, length, slice_get, Contains}
-use Rattle.sap_lattice.specs.declared.TheConstants.{MOST_LEVELS, MOST_NAME_BYTES}
 use Rattle.sap_lattice.specs.declared.pair.Pair.{Pair}
 use Rattle.sap_lattice.specs.declared.fault.LatFault.{LatFault}
 use Rattle.sap_lattice.specs.declared.fault.LatFault.TheVariants.{Count, Bad, UnknownPair, Cycle, NoJoin, NoLeast, Memory}
@@ -9,13 +8,13 @@ use Rattle.sap_lattice.specs.Closure.{Below, IsLevel, IsJoin, IsLeast, name_at}
 
 -- L3: there are too few or too many levels
 abbrev pub BadCount : List (List ℕ) → Type 0
-BadCount names = (length names < 2) ⊎ (MOST_LEVELS < length names)
+BadCount names = (length names < 2) ⊎ (16 < length names)
 
 -- what is no name for the level at place k
 pub data BadName (names : List (List ℕ)) (k : ℕ) : Type 0 where
   no_word : is_word (name_at names k) ≡ false → BadName names k
   keyword : is_keyword (name_at names k) ≡ true → BadName names k
-  too_long : MOST_NAME_BYTES < length (name_at names k) → BadName names k
+  too_long : 40 < length (name_at names k) → BadName names k
   repeated : (j : ℕ) → j < k → name_at names j ≡ name_at names k → BadName names k
 
 -- L4: level k has no name of the design language, or too long a one, or that of an earlier level
@@ -47,7 +46,7 @@ HasNoLeast names pairs = (b : ℕ) → ¬ IsLeast names pairs b
 -- none of the rules up to the one that is named is broken
 pub record KeepsCount (names : List (List ℕ)) : Type 0 where
   pub at_least_two : 2 ≤ length names
-  pub not_too_many : length names ≤ MOST_LEVELS
+  pub not_too_many : length names ≤ 16
 
 pub record KeepsNames (names : List (List ℕ)) : Type 0 where
   pub before : KeepsCount names

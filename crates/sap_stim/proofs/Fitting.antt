@@ -12,7 +12,6 @@ use Rattle.sap_stim.specs.declared.fault.StimCode.TheVariants.{S1, S2, S4, S5}
 use Rattle.sap_stim.specs.declared.field.Field.{Field}
 use Rattle.sap_stim.specs.declared.field.Field.TheVariants.{Tagged, Plain}
 use Rattle.sap_stim.specs.declared.stimulus.Parsed.{Parsed}
-use Rattle.sap_stim.specs.declared.TheConstants.{MOST_LINE_BYTES}
 use Rattle.sap_stim.specs.Line.{split_at, fields_of, and_then, is_value, value_of, level_named, with_level, tagged_of, plain_of, field_of, inputs_of, line_of}
 use Rattle.sap_stim.specs.Stimulus.{is_empty, finished, going_on, read_pieces}
 use Rattle.sap_stim.specs.Fits.{InputFits, LineFits, StreamFits, StimulusFits}
@@ -85,7 +84,7 @@ module _ (ls : Levels) (bottom : (order_of ls).bottom < (order_of ls).count) whe
       let read : Result (List Given) StimCode = inputs_of ls fs (fields_of text) in
       let counted : Result (List Given) StimCode = if not (eqb (length (fields_of text)) (length fs)) then Err S4 else read in
       let whole : Result (List Given) StimCode = if not ended then Err S5 else counted in
-      unless (LineFits ls fs) (nat_lt MOST_LINE_BYTES (length text)) S1 whole
+      unless (LineFits ls fs) (nat_lt 65536 (length text)) S1 whole
       (unless (LineFits ls fs) (not ended) S5 counted
       (unless (LineFits ls fs) (not (eqb (length (fields_of text)) (length fs))) S4 read (inputs_fit fs (fields_of text))))
 

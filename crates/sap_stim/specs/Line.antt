@@ -6,7 +6,6 @@ use Rattle.std.specs.Str.{bytes_eq}
 use Rattle.std.specs.Str.Parse.{digits_value}
 use Rattle.sap_lattice.specs.Levels.{Levels, order_of}
 use Rattle.sap_meaning.specs.Cycle.{Tagged as Given}
-use Rattle.sap_stim.specs.declared.TheConstants.{MOST_LINE_BYTES, MOST_DIGITS}
 use Rattle.sap_stim.specs.declared.fault.StimCode.{StimCode}
 use Rattle.sap_stim.specs.declared.fault.StimCode.TheVariants.{S1, S2, S3, S4, S5}
 use Rattle.sap_stim.specs.declared.field.Field.{Field}
@@ -40,7 +39,7 @@ and_then (Err code) f = Err code
 
 -- 1 to 20 decimal digits
 abbrev pub is_value : List ℕ → Bool
-is_value text = list_all is_ascii_digit text && nat_le 1 (length text) && nat_le (length text) MOST_DIGITS
+is_value text = list_all is_ascii_digit text && nat_le 1 (length text) && nat_le (length text) 20
 
 -- S1 where the text is no value, S2 where the value isn't below 2 to the width
 abbrev pub value_of : (width : ℕ) → List ℕ → Result ℕ StimCode
@@ -80,10 +79,10 @@ inputs_of ls (f ∷ fs) [] = Err S4
 inputs_of ls (f ∷ fs) (text ∷ texts) =
     and_then (field_of ls f text) (λ input. and_then (inputs_of ls fs texts) (λ inputs. Ok (input ∷ inputs)))
 
--- a line without its LF: first its length, then S5 where it has no LF, then S4, then its fields
+-- a line without its LF: first its length, which is at most 65,536 bytes, then S5 where it has no LF, then S4, then its fields
 abbrev pub line_of : Levels → List Field → (ended : Bool) → List ℕ → Result (List Given) StimCode
 line_of ls fs ended text =
-    if nat_lt MOST_LINE_BYTES (length text) then Err S1
+    if nat_lt 65536 (length text) then Err S1
     else (if not ended then Err S5
     else (if not (length (fields_of text) == length fs) then Err S4
     else inputs_of ls fs (fields_of text)))

@@ -2,7 +2,11 @@
 #![tactic(auto)]
 
 #[cfg(test)]
+mod damaged;
+#[cfg(test)]
 mod examples;
+#[cfg(test)]
+mod failing;
 #[cfg(test)]
 mod generating;
 #[cfg(test)]

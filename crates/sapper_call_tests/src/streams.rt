@@ -277,39 +277,3 @@ fn twin_compares_two_streams(rt: HostRuntime) -> Result<(), Fail> {
     assert_eq!(rt; first_wrong(rt.alloc(), &STREAMS)?, None);
     Ok(())
 }
-
-static BLAMED: [&str; 17] = [
-    "desk: L\n",
-    "desk: L\n",
-    "desk: L\n",
-    "desk: L\n",
-    "desk: D\n",
-    "desk: D\n",
-    "desk: D\n",
-    "desk: D\n",
-    "desk: S\n",
-    "desk: S\n",
-    "desk: S\n",
-    "desk: S\n",
-    "desk: T\n",
-    "desk: T\n",
-    "desk: T\n",
-    "desk: T\n",
-    "desk: output\n",
-];
-
-#[test]
-fn each_call_of_a_twin_fails_in_turn(rt: HostRuntime) -> Result<(), Fail> {
-    let alloc = rt.alloc();
-    let words = words(alloc, TWIN)?;
-    for (before, line) in BLAMED.iter().enumerate() {
-        let mut desk = files(alloc, &STREAMS[0])?;
-        desk.fail_at(before as u64 + 1)?;
-        assert_eq!(rt; sapper(alloc, &words, &mut desk), 6, "call {before}");
-        assert_eq!(rt; desk.fault_text(), line.as_bytes(), "call {before}");
-        // a failing write takes the first half of the line
-        let cut = if before == 16 { "agree at low " } else { "" };
-        assert_eq!(rt; desk.output(), cut.as_bytes(), "call {before}");
-    }
-    Ok(())
-}

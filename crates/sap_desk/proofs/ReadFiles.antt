@@ -1,0 +1,84 @@
+-- A file that was opened, read and finished, or not to its end.
+use Rattle.std.proofs.Common.{◌≡◌, ℕ, ◌+◌, ◌^◌, ◌<◌, ◌≤◌, List, ◌++◌, length, drop, refl, sym, ◌∙◌, ap, subst, arith, inr}
+use Rattle.std.specs.Prelude.{Option, Some, None, option_map, IfSome, IsSome, Result, Ok, Err, IfOk}
+use Rattle.sap_desk.specs.Desk.{Told, Use, closed, reads, at_number, blame_at, blamed, bytes_of, moved, moved_use, name_if_open, name_if_reading, opened, rest_of, rest_of_use}
+use Rattle.sap_desk.specs.Whole.{Between, FailedReading, IsFront, IsFrontOf, OneMore}
+use Rattle.sap_desk.specs.Whole.IsFront.{all, more}
+use Rattle.sap_desk.proofs.Steps.{at_number-keeps, at_number-same, at_number-twice, file_there}
+use Rattle.sap_desk.proofs.WholeFiles.{blame_is, one_more, same_channels}
+
+-- what is open while it is read
+
+module _ (channel count : ℕ) (name : List ℕ) (t : Told) where
+  opened_use : (opened channel name t).uses channel ≡ reads name 0
+  opened_use = at_number-same channel (reads name 0) t.uses
+
+  read_uses : (moved channel count (opened channel name t)).uses ≡ at_number channel (reads name (0 + count)) t.uses
+  read_uses =
+      ap (λ (u : Use). at_number channel (moved_use count u) (at_number channel (reads name 0) t.uses)) opened_use
+      ∙ at_number-twice channel (reads name 0) (reads name (0 + count)) t.uses
+
+  -- a call on it failed
+  left_open : (by : List ℕ) → 2 < channel → t.uses channel ≡ closed → by ≡ name → FailedReading name t (blamed by (moved channel count (opened channel name t)))
+  left_open by above fresh is = record {
+    files = refl;
+    blame = is;
+    channels = same_channels channel (reads name (0 + count)) (t.written channel) t _ above fresh refl read_uses
+        (sym (at_number-keeps channel (t.written channel) t.written refl));
+    uses = inr (subst (λ (u : ℕ → Use). OneMore name t.uses u) (sym read_uses) (one_more channel name (reads name (0 + count)) t above fresh refl));
+  }
+
+  use_there : (moved channel count (opened channel name t)).uses channel ≡ reads name (0 + count)
+  use_there = ap (λ (u : ℕ → Use). u channel) read_uses ∙ at_number-same channel (reads name (0 + count)) t.uses
+
+module _ (channel count : ℕ) (name : List ℕ) where
+  pub not_read : 2 < channel → (old one new : Option Told) → IfSome old (λ t. t.uses channel ≡ closed) → one ≡ option_map (opened channel name) old
+      → new ≡ option_map (λ t. blamed (name_if_reading (t.uses channel)) (moved channel count t)) one → Between old new (FailedReading name)
+  not_read above None one new fresh a b = tt
+  not_read above (Some t) one new fresh a b =
+      rw (b, a) (left_open channel count name t _ above fresh (ap name_if_reading (opened_use channel count name t)))
+
+  pub not_finished : 2 < channel → (old one two new : Option Told) → IfSome old (λ t. t.uses channel ≡ closed) → one ≡ option_map (opened channel name) old
+      → two ≡ option_map (moved channel count) one → new ≡ option_map (λ t. blame_at channel (name_if_open (t.uses channel)) t) two
+      → Between old new (FailedReading name)
+  not_finished above None one two new fresh a b c = tt
+  not_finished above (Some t) one two new fresh a b c =
+      rw (c, b, a, blame_is channel name t above) (left_open channel count name t _ above fresh (ap name_if_open (use_there channel count name t)))
+
+-- what is got of a channel that was just opened is got of the file
+
+pub front_opened : (channel limit : ℕ) (name bytes : List ℕ) (old mid : Option Told) → mid ≡ option_map (opened channel name) old
+    → IfSome old (λ t. IsSome (t.files name)) → IfSome mid (λ t. IsFront limit (rest_of t channel) bytes) → IfSome old (IsFrontOf limit name bytes)
+front_opened channel limit name bytes None mid is there front = tt
+front_opened channel limit name bytes (Some t) mid is there front =
+    let got : IsFront limit (rest_of (opened channel name t) channel) bytes = let P : Option Told → Type 0 = λ o. IfSome o (λ t. IsFront limit (rest_of t channel) bytes) in subst P is front in
+    let whole : rest_of (opened channel name t) channel ≡ bytes_of t name = ap (rest_of_use (opened channel name t)) (at_number-same channel (reads name 0) t.uses) in
+    record { whole = bytes_of t name; file = file_there (t.files name) there; front = subst (λ (w : List ℕ). IsFront limit w bytes) whole got }
+
+-- what is no longer than the limit is the whole file
+
+whole_of : (limit : ℕ) (whole bytes : List ℕ) → length bytes ≤ limit → IsFront limit whole bytes → whole ≡ bytes
+whole_of limit whole bytes short (all is) = sym is
+whole_of limit whole bytes short (more long rest is) = absurd (omega (arith, short, long))
+
+pub whole_file : (limit : ℕ) (name bytes : List ℕ) (old : Option Told) → length bytes ≤ limit → IfSome old (IsFrontOf limit name bytes)
+    → IfSome old (λ t. t.files name ≡ Some bytes)
+whole_file limit name bytes None short h = tt
+whole_file limit name bytes (Some t) short h = h.file ∙ ap Some (whole_of limit h.whole bytes short h.front)
+
+-- what was read so far of a channel, where reading goes on or stops
+
+pub front_more : (channel limit len : ℕ) (bytes : List ℕ) (old : Option Told) → limit < length bytes
+    → IfSome old (λ t. bytes ++ drop len (rest_of t channel) ≡ rest_of t channel) → IfSome old (λ t. IsFront limit (rest_of t channel) bytes)
+front_more channel limit len bytes None long h = tt
+front_more channel limit len bytes (Some t) long h = more long (drop len (rest_of t channel)) h
+
+pub front_all : (channel limit : ℕ) (bytes : List ℕ) (old : Option Told) → IfSome old (λ t. bytes ≡ rest_of t channel)
+    → IfSome old (λ t. IsFront limit (rest_of t channel) bytes)
+front_all channel limit bytes None h = tt
+front_all channel limit bytes (Some t) h = all h
+
+pub whole_read : {E : Type 0} (limit : ℕ) (name : List ℕ) (old : Option Told) (r : Result (List ℕ) E) → 2 ^ 32 ≤ limit → IfOk r (λ bytes. length bytes < 2 ^ 32)
+    → IfOk r (λ bytes. IfSome old (IsFrontOf limit name bytes)) → IfOk r (λ bytes. IfSome old (λ t. t.files name ≡ Some bytes))
+whole_read limit name old (Ok bytes) large short h = whole_file limit name bytes old (omega (arith, large, short)) h
+whole_read limit name old (Err e) large short h = tt

@@ -1,0 +1,6 @@
+use Rattle.std.proofs.Common.{arith}
+use Rattle.sap_desk.proofs.ReadFiles.{whole_read}
+use Rattle.sap_desk.proofs.whole.read_file.Goals as goal
+
+pub returns-clause-bytes : goal.returns-clause-bytes
+returns-clause-bytes g c = whole_read _ _ _ _ (omega arith) c.read_front.ensures.short c.read_front.ensures.bytes

@@ -1,0 +1,21 @@
+use Rattle.std.proofs.Common.{ap}
+use Rattle.std.specs.Prelude.{Err}
+use Rattle.sap_desk.proofs.ReadFiles.{front_opened, not_finished, not_read}
+use Rattle.sap_desk.proofs.whole.read_front.Goals as goal
+
+pub returns-in_err-finish-in-Ok-clause-failed : goal.returns-in_err-finish-in-Ok-clause-failed
+returns-in_err-finish-in-Ok-clause-failed g c = λ _. not_finished _ _ _ c.in_ok-channel.ensures.number _ _ _ _ c.in_ok-channel.ensures.fresh c.in_ok-channel.ensures.told c.in-Ok.ensures.told c.in_err-finish-in-Ok.ensures.failed
+
+pub returns-in_err-finish-in-Err-Memory-clause-failed :
+    goal.returns-in_err-finish-in-Err-Memory-clause-failed
+returns-in_err-finish-in-Err-Memory-clause-failed g c = λ _.
+    let read = c.in-Err-Memory.ensures.memory (ap Err c.in-Err-Memory.field-0-is) in
+    not_finished _ read.0 _ c.in_ok-channel.ensures.number _ _ _ _ c.in_ok-channel.ensures.fresh c.in_ok-channel.ensures.told read.1 c.in_err-finish-in-Err-Memory.ensures.failed
+
+pub returns-in_ok-finish-in-Ok-clause-bytes : goal.returns-in_ok-finish-in-Ok-clause-bytes
+returns-in_ok-finish-in-Ok-clause-bytes g c = rw c.new.ensures (front_opened _ _ _ _ _ _ c.in_ok-channel.ensures.told c.in_ok-channel.ensures.there c.in-Ok.ensures.bytes)
+
+pub returns-in-Err-Failed-clause-failed : goal.returns-in-Err-Failed-clause-failed
+returns-in-Err-Failed-clause-failed g c = λ _.
+    let read = c.in-Err-Failed.ensures.failed (ap Err c.in-Err-Failed.field-0-is) in
+    not_read _ read.0 _ c.in_ok-channel.ensures.number _ _ _ c.in_ok-channel.ensures.fresh c.in_ok-channel.ensures.told read.1
