@@ -1,5 +1,5 @@
 -- The codes of faults.
-use Rattle.std.specs.Prelude.{ℕ, Bool, ◌||◌, List, [], ◌∷◌, bytes_eq, codes}
+use Rattle.std.specs.Prelude.{◌≡◌, ◌+◌, ℕ, Bool, ◌||◌, List, [], ◌∷◌, ◌++◌, take, length, bytes_eq, codes}
 use Rattle.std.specs.List.{list_any}
 
 abbrev pub is_one_of : List (List ℕ) → List ℕ → Bool
@@ -23,3 +23,7 @@ module_codes = codes "V1" ∷ codes "V2" ∷ codes "V3" ∷ codes "V4" ∷ codes
 
 abbrev pub is_code : List ℕ → Bool
 is_code code = is_one_of design_codes code || (is_one_of lattice_codes code || (is_one_of stimulus_codes code || is_one_of module_codes code))
+
+-- the text of a code begins with it and a colon
+abbrev pub IsTextOf : (code text : List ℕ) → Type 0
+IsTextOf code text = take (length code + 1) text ≡ code ++ codes ":"

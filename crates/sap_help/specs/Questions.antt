@@ -1,6 +1,7 @@
 -- What may be asked of the program beside its commands.
-use Rattle.std.specs.Prelude.{ℕ, Bool, false, not, List, [], ◌∷◌, bytes_eq, codes, Option, Some, None, if◌then◌else◌}
-use Rattle.sap_help.specs.Codes.{is_code}
+use Rattle.std.specs.Prelude.{◌≡◌, ◌+◌, ℕ, Bool, false, not, List, [], ◌∷◌, ◌++◌, take, length, bytes_eq, codes, Option, Some, None, option_map, if◌then◌else◌}
+use Rattle.sap_desk.specs.Desk.{Told, added}
+use Rattle.sap_help.specs.Codes.{is_code, IsTextOf}
 use Rattle.sap_help.specs.declared.asking.Question.{Question}
 use Rattle.sap_help.specs.declared.asking.Question.TheVariants.{Help, Version, Explanation}
 
@@ -27,3 +28,15 @@ abbrev pub asked_of : Question → Asked
 asked_of Help = help
 asked_of Version = version
 asked_of (Explanation code) = explanation code.now
+
+-- the text is one that is asked for: the name and number of the version, or the text of the code
+abbrev pub IsAnswer : Asked → (text : List ℕ) → Type 0
+IsAnswer help text = Unit {0}
+IsAnswer version text = text ≡ codes "sapper 0.1.0\n"
+IsAnswer (explanation code) text = IsTextOf code text
+
+-- channel 1 has such a text more, and nothing else changed
+pub record IsAnswered (asked : Asked) (before after : Option Told) : Type 0 where
+  pub text : List ℕ
+  pub is_answer : IsAnswer asked text
+  pub told : after ≡ option_map (added 1 text) before

@@ -1,8 +1,9 @@
 //! What may be asked of the program beside its commands.
 
-ghost use Rattle.std.specs.Prelude.{◌≡◌, [], ◌∷◌, Some, None, true, is_some, map, string_bytes, option_map, false};
+ghost use Rattle.std.specs.Prelude.{◌≡◌, ◌≢◌, [], ◌∷◌, IfSome, Some, None, true, is_some, map, string_bytes, option_map, false};
 ghost use Rattle.std.specs.Option.{option_map_or};
-ghost use Rattle.sap_help.specs.Questions.{asked_by, asked_of, is_unknown};
+ghost use Rattle.sap_desk.specs.Desk.{added};
+ghost use Rattle.sap_help.specs.Questions.{IsAnswered, asked_by, asked_of, is_unknown};
 
 use crate::explaining::explain;
 use crate::page::{VERSION, help};
@@ -58,7 +59,10 @@ fn tell<D: Desk>(desk: &mut D, line: &[u8], status: u8) -> u8
 }
 
 // Writes a text on channel 1.
-fn put<D: Desk>(desk: &mut D, text: &str) -> u8 {
+fn put<D: Desk>(desk: &mut D, text: &str) -> u8
+    ensures done { result ≡ 0 → D.told desk.new ≡ option_map (added 1 text.now) (D.told desk.old) }
+    ensures not_refused { result ≢ 2 }
+{
     match write_output(desk, text.as_bytes()) {
         Ok(()) => 0,
         Err(_) => tell(desk, b"desk: output", 6),
@@ -66,7 +70,9 @@ fn put<D: Desk>(desk: &mut D, text: &str) -> u8 {
 }
 
 fn reply<D: Desk>(alloc: Global, desk: &mut D, question: Question<'_>) -> u8
-    ensures { is_unknown (asked_of question.entry) ≡ true → result ≡ 2 }
+    ensures unknown { is_unknown (asked_of question.entry) ≡ true → result ≡ 2 }
+    ensures known { is_unknown (asked_of question.entry) ≡ false → result ≢ 2 }
+    ensures done { result ≡ 0 → IsAnswered (asked_of question.entry) (D.told desk.old) (D.told desk.new) }
 {
     match question {
         Question::Help => match help(alloc) {
@@ -85,6 +91,8 @@ fn reply<D: Desk>(alloc: Global, desk: &mut D, question: Question<'_>) -> u8
 pub fn answer<D: Desk>(alloc: Global, desk: &mut D, words: &[String]) -> Option<u8>
     ensures asked { is_some result ≡ is_some (asked_by (map string_bytes words.now)) }
     ensures unknown { option_map_or is_unknown (asked_by (map string_bytes words.now)) false ≡ true → result ≡ Some 2 }
+    ensures known { option_map_or is_unknown (asked_by (map string_bytes words.now)) true ≡ false → result ≢ Some 2 }
+    ensures done { result ≡ Some 0 → IfSome (asked_by (map string_bytes words.now)) (λ asked. IsAnswered asked (D.told desk.old) (D.told desk.new)) }
     // Where they ask for none of it nothing is done.
     ensures other { result ≡ None → desk.new ≡ desk.old }
 {

@@ -1,7 +1,7 @@
 //! The faults of a design.
 
-ghost use Rattle.std.specs.Prelude.{◌≡◌, is_some};
-ghost use Rattle.sap_help.specs.Codes.{is_one_of, design_codes};
+ghost use Rattle.std.specs.Prelude.{◌≡◌, IfSome, is_some};
+ghost use Rattle.sap_help.specs.Codes.{IsTextOf, is_one_of, design_codes};
 
 const E1: &str = "E1: a byte begins no token, or a number is badly written or over 2^64 - 1.
 
@@ -231,7 +231,8 @@ states. Two designs side by side have each their own limits.
 ";
 
 pub(crate) fn design_fault(code: &str) -> Option<&'static str>
-    ensures { is_some result ≡ is_one_of design_codes code.now }
+    ensures known { is_some result ≡ is_one_of design_codes code.now }
+    ensures begins { IfSome result (λ text. IsTextOf code.now text.now) }
 {
     if code == "E1" {
         Some(E1)

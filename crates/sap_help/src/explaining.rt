@@ -1,7 +1,7 @@
 //! What a code means.
 
-ghost use Rattle.std.specs.Prelude.{◌≡◌, is_some};
-ghost use Rattle.sap_help.specs.Codes.{is_code};
+ghost use Rattle.std.specs.Prelude.{◌≡◌, IfSome, is_some};
+ghost use Rattle.sap_help.specs.Codes.{IsTextOf, is_code};
 
 use crate::design::design_fault;
 use crate::lattice::lattice_fault;
@@ -10,7 +10,8 @@ use crate::stimulus::stimulus_fault;
 
 /// What the code of a fault means, with a small example and its cure; none where it is no code.
 pub fn explain(code: &str) -> Option<&'static str>
-    ensures { is_some result ≡ is_code code.now }
+    ensures known { is_some result ≡ is_code code.now }
+    ensures begins { IfSome result (λ text. IsTextOf code.now text.now) }
 {
     if let Some(text) = design_fault(code) {
         return Some(text);

@@ -1,7 +1,7 @@
 //! The faults of a lattice file.
 
-ghost use Rattle.std.specs.Prelude.{◌≡◌, is_some};
-ghost use Rattle.sap_help.specs.Codes.{is_one_of, lattice_codes};
+ghost use Rattle.std.specs.Prelude.{◌≡◌, IfSome, is_some};
+ghost use Rattle.sap_help.specs.Codes.{IsTextOf, is_one_of, lattice_codes};
 
 const L1: &str = "L1: the lattice file is no TOML.
 
@@ -99,7 +99,8 @@ Cure: Add a level below all others, with its pairs.
 ";
 
 pub(crate) fn lattice_fault(code: &str) -> Option<&'static str>
-    ensures { is_some result ≡ is_one_of lattice_codes code.now }
+    ensures known { is_some result ≡ is_one_of lattice_codes code.now }
+    ensures begins { IfSome result (λ text. IsTextOf code.now text.now) }
 {
     if code == "L1" {
         Some(L1)

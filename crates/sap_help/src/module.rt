@@ -1,7 +1,7 @@
 //! The faults of a module.
 
-ghost use Rattle.std.specs.Prelude.{◌≡◌, is_some};
-ghost use Rattle.sap_help.specs.Codes.{is_one_of, module_codes};
+ghost use Rattle.std.specs.Prelude.{◌≡◌, IfSome, is_some};
+ghost use Rattle.sap_help.specs.Codes.{IsTextOf, is_one_of, module_codes};
 
 const V1: &str = "V1: a byte begins no token, or a number is over 2^64 - 1.
 
@@ -97,7 +97,8 @@ its depth less 1: `[0:3]` is one of 4 cells, with an index of 2 bits.
 ";
 
 pub(crate) fn module_fault(code: &str) -> Option<&'static str>
-    ensures { is_some result ≡ is_one_of module_codes code.now }
+    ensures known { is_some result ≡ is_one_of module_codes code.now }
+    ensures begins { IfSome result (λ text. IsTextOf code.now text.now) }
 {
     if code == "V1" {
         Some(V1)

@@ -1,7 +1,7 @@
 //! The faults of a stimulus.
 
-ghost use Rattle.std.specs.Prelude.{◌≡◌, is_some};
-ghost use Rattle.sap_help.specs.Codes.{is_one_of, stimulus_codes};
+ghost use Rattle.std.specs.Prelude.{◌≡◌, IfSome, is_some};
+ghost use Rattle.sap_help.specs.Codes.{IsTextOf, is_one_of, stimulus_codes};
 
 const S1: &str = "S1: a field isn't of the form `VALUE@LEVEL`, or a line is longer than 65536 bytes.
 
@@ -55,7 +55,8 @@ Cure: End each line with a line feed, the last one too.
 ";
 
 pub(crate) fn stimulus_fault(code: &str) -> Option<&'static str>
-    ensures { is_some result ≡ is_one_of stimulus_codes code.now }
+    ensures known { is_some result ≡ is_one_of stimulus_codes code.now }
+    ensures begins { IfSome result (λ text. IsTextOf code.now text.now) }
 {
     if code == "S1" {
         Some(S1)

@@ -2,6 +2,7 @@
 
 ghost use Rattle.std.specs.Prelude.{◌≡◌, Some, map, string_bytes, option_map};
 ghost use Rattle.sap_words.specs.Called.{words_of};
+ghost use Rattle.sap_words.specs.Table.{ReadsTable};
 ghost use Rattle.sap_words.specs.Words.{command_of as words_for, compile, five, fmt, is_operand, number_of, numbered, one, report, row, run, sim, three, trace, twin, two};
 
 use crate::command::{Command, RunNumber};
@@ -196,7 +197,8 @@ fn row<'a>(name: &str, operands: &'a [String]) -> Option<Command<'a>>
 
 /// The command that the words are, if they are one. It takes no memory.
 pub fn command_of<'a>(words: &'a [String]) -> Option<Command<'a>>
-    ensures { option_map words_of result ≡ words_for (map string_bytes words.now) }
+    ensures named { option_map words_of result ≡ words_for (map string_bytes words.now) }
+    ensures table { ReadsTable (map string_bytes words.now) }
 {
     match words {
         [name, operands @ ..] => row(name, operands),
