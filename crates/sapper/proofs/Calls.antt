@@ -1,20 +1,24 @@
 -- From the end of a command and its line to the answer of the call.
-use Rattle.std.proofs.Common.{◌≡◌, ◌≢◌, ◌≤◌, ℕ, List, [], ◌++◌, length, refl, sym, ◌∙◌, ap, subst, inl, inr, ◌⊎◌, arith}
-use Rattle.std.specs.Prelude.{◌↔◌, Option, Some, None, IfSome, unwrap_or}
+use Rattle.std.proofs.Common.{◌≡◌, ◌≢◌, ℕ, List, [], ◌++◌, length, refl, sym, ◌∙◌, ap, subst, inl, inr, ◌⊎◌}
+use Rattle.std.specs.Prelude.{Option, Some, None, IfSome, unwrap_or}
 use Rattle.std.proofs.lemmas.List.{append-nil}
-use Rattle.sap_desk.specs.Desk.{Told}
-use Rattle.sap_desk.specs.Cause.{Rose, counted}
+use Rattle.sap_desk.specs.Desk.{Told, Use}
+use Rattle.sap_desk.specs.Cause.{Rose}
 use Rattle.sap_desk.specs.Whole.{Between}
-use Rattle.sap_words.specs.Words.{Words, command_of}
-use Rattle.sapper.specs.Ending.{Ending, Refusal, done, refused, failed, no_memory, no_command, lattice_refused, design_refused, stimulus_refused, module_refused, level_refused, lengths_apart, inputs_apart, status_of, status_of_refusal, line_of, IsFree}
-use Rattle.sapper.specs.Asks.{Asks, file, by, gives, writes, stops, AreLawful, Cause, Files}
-use Rattle.sapper.specs.Commands.{asks, asks_for, asks_if}
-use Rattle.sapper.specs.Answers.{Answers, Blames, Gained, MayAnswer}
+use Rattle.sap_words.specs.Words.{Words, IsTwin, command_of}
+use Rattle.sap_commands.specs.Ending.{Ending, Refusal, done, refused, failed, no_memory, no_command, status_of, line_of, IsFree}
+use Rattle.sap_commands.specs.Asks.{Asks, file, by, gives, writes, stops, AreLawful, Cause, Files}
+use Rattle.sap_commands.specs.Commands.{asks, asks_for}
+use Rattle.sap_commands.specs.After.{Blames, Opens}
+use Rattle.sap_commands.specs.Outside.{FullFile, FullOutput, OutsideOf}
+use Rattle.sap_commands.specs.Steps.{Ends, FaultRose, Left, Moment}
+use Rattle.sapper.specs.Answers.{Answers, Gained, MayAnswer}
 use Rattle.sapper.specs.Exact.{Exact}
-use Rattle.sapper.specs.Outside.{FullFile, FullLines, FullOutput, Outside, OutsideOf}
-use Rattle.sapper.specs.Steps.{Counted, Ends, FaultRose, Left, Moment, Reports, Same, Tells, ToldLine}
-use Rattle.sapper.proofs.Lawful.{one_cause}
-use Rattle.sapper.proofs.Ended.{between_map, quiet_self, stopped_here, whole_prefix}
+use Rattle.sapper.specs.Outside.{FullLines, Outside}
+use Rattle.sapper.specs.Lines.{Reports, Tells, ToldLine}
+use Rattle.sap_commands.proofs.CommandLaws.{two_if}
+use Rattle.sap_commands.proofs.Lawful.{one_cause}
+use Rattle.sap_commands.proofs.Ended.{between_map, quiet_self, stopped_here, whole_prefix}
 
 -- what words ask
 
@@ -37,6 +41,7 @@ silent_line t lost F never = record {
   files = refl;
   blame = refl;
   output = refl;
+  uses = refl;
   room = refl;
   full = λ rose. absurd (never rose);
 }
@@ -66,6 +71,7 @@ starved_left a why F t n l = record {
   output = l.output;
   shows = inr (l.gained, (refused why, l.shows), whole_prefix l.gained);
   blames = tt;
+  opens = l.opens;
   same = l.same;
   cause = inl tt;
   outside = l.outside;
@@ -103,6 +109,10 @@ told_end a e answer b c d ended r = elim r.is_it [
 
 pub may_answer : (words : List (List ℕ)) (e : Ending) (answer : ℕ) (a b : Moment) → answer ≡ status_of e → Ends (asks_for words) e a b → MayAnswer words answer
 may_answer words e answer a b status ended = record { ending = e; status = status; may = ended.may }
+
+-- status 2: the words are no command, or `twin` names no level
+pub two_words : (words : List (List ℕ)) (answer : ℕ) → MayAnswer words answer → answer ≡ 2 → (command_of words ≡ None) ⊎ IsTwin (command_of words)
+two_words words answer m two = two_if (command_of words) m.ending m.may (sym m.status ∙ two)
 
 -- the line after what was on channel 2 before
 
@@ -142,6 +152,7 @@ module _ (words : List (List ℕ)) (e : Ending) where
     output = w.output ∙ l.output;
     shows = l.shows;
     blames = subst (λ (blame : List ℕ). Blames blame e) (sym w.blame) l.blames;
+    opens = subst (λ (uses : ℕ → Use). Opens e t.uses uses) (sym w.uses) l.opens;
     cause = l.cause;
   }
 
@@ -169,6 +180,23 @@ module _ (words : List (List ℕ)) (e : Ending) where
   outside a b c ended tells changed sure =
       outside_between (FaultRose a b) ((c.lost ≢ b.lost) × b.sure) b.lost c.lost a.told b.told c.told
       ((λ stands. changed (tells.faults ∙ stands)), sure) ended.told tells.told
+
+  -- where a call on channel 2 failed
+
+  full_told : (F G : Type 0) (mid now : ℕ) (t m n : Told) → G → Left (asks_for words) e F t m → ToldLine (line_of e) mid now G m n → FullLines t n
+  full_told F G mid now t m n rose l w = λ open_now. w.full rose (l.same.lines_use ∙ open_now)
+
+  full_between : (F G : Type 0) (mid now : ℕ) (old one new : Option Told) → G → Between old one (Left (asks_for words) e F)
+      → Between one new (ToldLine (line_of e) mid now G) → Between old new FullLines
+  full_between F G mid now None one new rose o w = tt
+  full_between F G mid now (Some t) None new rose o w = absurd o
+  full_between F G mid now (Some t) (Some m) None rose o w = absurd w
+  full_between F G mid now (Some t) (Some m) (Some n) rose o w = full_told F G mid now t m n rose o w
+
+  pub full_lines : (a b c : Moment) → Ends (asks_for words) e a b → Tells (line_of e) b c → (c.lost ≢ a.lost) → a.sure → Between a.told c.told FullLines
+  full_lines a b c ended tells changed sure =
+      full_between (FaultRose a b) ((c.lost ≢ b.lost) × b.sure) b.lost c.lost a.told b.told c.told
+      ((λ stands. changed (stands ∙ ended.lost)), ended.sure sure) ended.told tells.told
 
   -- when each answer comes
 

@@ -1,23 +1,20 @@
 -- The headline follows from what a `compile` asks.
 use Rattle.std.proofs.Common.{◌≡◌, ◌≢◌, ℕ, List, refl, sym, ◌∙◌, ap, subst, inl, inr, ◌⊎◌, arith}
 use Rattle.std.specs.Prelude.{Option, Some, None, IfSome}
-use Rattle.sap_desk.specs.Desk.{Told, at_name}
+use Rattle.sap_desk.specs.Desk.{Told}
 use Rattle.sap_desk.specs.Whole.{Between}
 use Rattle.sap_desk.proofs.Steps.{at_name-same}
 use Rattle.sap_lattice.specs.Levels.{Levels}
 use Rattle.sap_tree.specs.Syntax.{DesignTree}
-use Rattle.sap_net.specs.Net.{Net}
-use Rattle.sap_modtext.specs.Modules.{IsModule}
-use Rattle.sap_compile.specs.Compiles.{IsModuleFor}
-use Rattle.sap_words.specs.Words.{Words, command_of, compile}
-use Rattle.sapper.specs.Kinds.{Has, lattice_file, design_file}
-use Rattle.sapper.specs.Ending.{Ending, Refusal, done, refused, failed, no_memory, no_command, lattice_refused, design_refused, stimulus_refused, module_refused, level_refused, lengths_apart, inputs_apart, status_of, status_of_refusal}
-use Rattle.sapper.specs.Asks.{Asks, Cause, Files, Leaves, Written}
-use Rattle.sapper.specs.Commands.{IsModuleText, asks, asks_for, asks_if}
+use Rattle.sap_words.specs.Words.{Words, compile}
+use Rattle.sap_commands.specs.Kinds.{Has, lattice_file, design_file}
+use Rattle.sap_commands.specs.Ending.{Ending, done, refused, failed, no_memory, no_command, lattice_refused, design_refused, stimulus_refused, module_refused, level_refused, lengths_apart, inputs_apart, status_of}
+use Rattle.sap_commands.specs.Asks.{Cause, Files, Leaves, Written}
+use Rattle.sap_commands.specs.Commands.{IsModuleText, asks, asks_for, asks_if}
 use Rattle.sapper.specs.Answers.{Answers}
 use Rattle.sapper.specs.Exact.{Exact}
-use Rattle.sapper.specs.Headline.{CompilesExactly, Headline, MeansDesign}
-use Rattle.sapper.proofs.Modules.{one_module}
+use Rattle.sapper.specs.Headline.{Headline, MeansDesign}
+use Rattle.sap_commands.proofs.Modules.{one_module}
 
 -- a text of a module for the design means it
 means : (ls : Levels) (d : DesignTree) (text : List ℕ) → IsModuleText ls d text → MeansDesign ls d text

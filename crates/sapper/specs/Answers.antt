@@ -2,16 +2,10 @@
 use Rattle.std.specs.Prelude.{◌≡◌, ◌⊎◌, ℕ, List, ◌++◌}
 use Rattle.sap_desk.specs.Desk.{Told}
 use Rattle.sap_desk.specs.Cause.{Rose}
-use Rattle.sapper.specs.Ending.{Ending, done, refused, failed, no_memory, status_of, line_of, IsFree}
-use Rattle.sapper.specs.Asks.{Cause, IsPrefix, Leaves, MayEnd, Output}
-use Rattle.sapper.specs.Commands.{asks_for}
-
--- a failed call blames its file, or the output
-abbrev pub Blames : (blame : List ℕ) → Ending → Type 0
-Blames blame done = Unit {0}
-Blames blame (refused why) = Unit {0}
-Blames blame (failed name) = blame ≡ name
-Blames blame no_memory = Unit {0}
+use Rattle.sap_commands.specs.Ending.{Ending, status_of, line_of, IsFree}
+use Rattle.sap_commands.specs.Asks.{Cause, IsPrefix, Leaves, MayEnd, Output}
+use Rattle.sap_commands.specs.Commands.{asks_for}
+use Rattle.sap_commands.specs.After.{Blames, Opens}
 
 -- channel 2 gained a line, or a prefix of it where a call on it failed
 abbrev pub Gained : (line : List ℕ) → (lost lost_now : ℕ) → Told → Told → Type 0
@@ -29,6 +23,7 @@ pub record Answers (words : List (List ℕ)) (lost lost_now answer : ℕ) (t n :
   pub output : n.written 1 ≡ t.written 1 ++ gained
   pub shows : Output (asks_for words) t gained ending
   pub blames : Blames n.blame ending
+  pub opens : Opens ending t.uses n.uses
   -- but for a failed call and want of memory the words and files have the ending's cause
   pub cause : IsFree ending ⊎ Cause (asks_for words) t ending
 

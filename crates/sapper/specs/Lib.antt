@@ -1,11 +1,5 @@
-pub mod DesignFaults
-pub mod Ending
-pub mod Kinds
-pub mod Twin
-pub mod Asks
-pub mod Commands
 pub mod Answers
 pub mod Exact
 pub mod Headline
 pub mod Outside
-pub mod Steps
+pub mod Lines

@@ -1,7 +1,7 @@
 use Rattle.std.proofs.Common.{◌≡◌, rules, refl, ◌∙◌, ap}
-use Rattle.sapper.specs.Ending.{failed, line, refused}
-use Rattle.sapper.specs.Steps.{reason}
-use Rattle.sapper.specs.declared.failure.Failure.TheVariants.{Refused, Desk}
+use Rattle.sap_commands.specs.Ending.{failed, line, refused}
+use Rattle.sap_commands.specs.Steps.{reason}
+use Rattle.sap_commands.specs.declared.failure.Failure.TheVariants.{Refused, Desk}
 use Rattle.sapper.proofs.Calls.{told_as}
 use Rattle.sapper.proofs.call.report.Goals as goal
 

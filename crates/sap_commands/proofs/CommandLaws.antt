@@ -1,0 +1,149 @@
+-- What each command asks is lawful.
+use Rattle.std.proofs.Common.{◌≡◌, ℕ, List, refl, sym, ◌∙◌, ap, inl, inr, ◌⊎◌, arith}
+use Rattle.std.specs.Prelude.{Option, Some, None}
+use Rattle.sap_lattice.specs.Levels.{Levels, order_of}
+use Rattle.sap_lattice.specs.Order.{Order}
+use Rattle.sap_meaning.specs.Cycle.{Tagged}
+use Rattle.sap_tree.specs.Syntax.{DesignTree}
+use Rattle.sap_stim.specs.declared.fault.StimFault.{StimFault}
+use Rattle.sap_stream.specs.declared.apart.Apart.{Apart}
+use Rattle.sap_stream.proofs.Agreeing.{at_most_one}
+use Rattle.sap_commands.specs.Ending.{Ending, Refusal, done, refused, failed, no_memory, status_of, status_of_refusal, IsFree}
+use Rattle.sap_commands.specs.Kinds.{IsLawful, any_file, design_file, design_text_file, lattice_file, module_file, stream_file}
+use Rattle.sap_commands.specs.Twin.{IsVerdict}
+use Rattle.sap_words.specs.Words.{Words, IsTwin, compile, run, trace, fmt, sim, report, twin, gen, command_of}
+use Rattle.sap_commands.specs.Asks.{Asks, file, by, AreLawful, MayEnd}
+use Rattle.sap_commands.specs.Commands.{OneOutput, asks, asks_for, asks_if, at_level, compared, end_of}
+use Rattle.sap_commands.proofs.Lattices.{lattice_lawful}
+use Rattle.sap_commands.proofs.Designs.{design_lawful, text_lawful}
+use Rattle.sap_commands.proofs.Modules.{module_lawful}
+use Rattle.sap_commands.proofs.Netlists.{module_netlist}
+use Rattle.sap_commands.proofs.NetsAlike.{one_rows}
+use Rattle.sap_commands.proofs.Streams.{stream_lawful}
+use Rattle.sap_commands.proofs.Lawful.{one_text}
+
+any_lawful : IsLawful any_file
+any_lawful = record {
+  one_value = λ bytes v w is was. is ∙ sym was;
+  one_status = λ bytes why other is was. absurd is;
+  not_both = λ bytes v why stands is. is;
+}
+
+-- two streams
+
+one_verdict : (o : Order) (l : ℕ) (one other : List (List Tagged)) (v w : Option Apart) → IsVerdict o l one other v → IsVerdict o l one other w → v ≡ w
+one_verdict o l one other None None a b = refl
+one_verdict o l one other None (Some x) a b = absurd (at_most_one.none o l one other x a b)
+one_verdict o l one other (Some x) None a b = absurd (at_most_one.none o l one other x b a)
+one_verdict o l one other (Some x) (Some y) a b = ap Some (at_most_one.same o l one other x y a b)
+
+lawful_compared : (ls : Levels) (d : DesignTree) (l : ℕ) (word : List ℕ) (one other : List (List Tagged)) (v : Option Apart)
+    → AreLawful (compared ls d l word one other v)
+lawful_compared ls d l word one other None = λ text others x y. x.is_line ∙ sym y.is_line
+lawful_compared ls d l word one other (Some apart) = tt
+
+lawful_at : (word : List ℕ) (rest : ℕ → Asks) (named : Option ℕ) → ((l : ℕ) → AreLawful (rest l)) → AreLawful (at_level word rest named)
+lawful_at word rest None law = tt
+lawful_at word rest (Some l) law = law l
+
+lawful_streams : (ls : Levels) (first second word : List ℕ) (d : DesignTree) (l : ℕ)
+    → AreLawful (file first (stream_file 1 ls d) (λ one. file second (stream_file 2 ls d) (λ other.
+    by (Option Apart) (IsVerdict (order_of ls) l one other) (compared ls d l word one other))))
+lawful_streams ls first second word d l = (
+  stream_lawful 1 ls d,
+  λ bytes one a. (
+    stream_lawful 2 ls d,
+    λ more other b.
+        (one_verdict (order_of ls) l one other, λ v holds. lawful_compared ls d l word one other v),
+  ),
+)
+
+lawful : (c : Words) → AreLawful (asks c)
+lawful (compile lattice design out) = (lattice_lawful, λ bytes ls a. (design_lawful ls, λ source d b. tt))
+lawful (run lattice design stimulus) =
+    (lattice_lawful, λ bytes ls a. (design_lawful ls, λ source d b. (any_lawful, λ found kept is text other x y. x.1.text ∙ sym y.1.text)))
+lawful (trace lattice design stimulus) =
+    (lattice_lawful, λ bytes ls a. (design_lawful ls, λ source d b. (any_lawful, λ found kept is text other x y. x.1.text ∙ sym y.1.text)))
+lawful (fmt design) = (text_lawful, λ source d a text other x y. x ∙ sym y)
+lawful (sim lattice verilog stimulus) =
+    (lattice_lawful, λ bytes ls a. (module_lawful, λ text net b. (any_lawful, λ found kept is. one_rows ls net (module_netlist text net b) kept)))
+lawful (report lattice design) = (lattice_lawful, λ bytes ls a. (design_lawful ls, λ source d b text other x y. x ∙ sym y))
+lawful (twin lattice design first second level) = (
+  lattice_lawful,
+  λ bytes ls a. (
+    (λ v w is was. is ∙ sym was),
+    λ named is. lawful_at level _ named (λ l.
+        (design_lawful ls, λ source d b. lawful_streams ls first second level d l)),
+  ),
+)
+lawful (gen n) = λ text other x y. x ∙ sym y
+
+lawful_if : (o : Option Words) → AreLawful (asks_if o)
+lawful_if None = tt
+lawful_if (Some c) = lawful c
+
+pub lawful_words : (words : List (List ℕ)) → AreLawful (asks_for words)
+lawful_words words = lawful_if (command_of words)
+
+-- status 2: the words are no command, or `twin` names no level
+
+not_two : (e : Ending) (why : Refusal) (status : ℕ) → e ≡ refused why → status_of_refusal why ≡ status → (status ≡ 2 → ⊥) → status_of e ≡ 2 → ⊥
+not_two e why status is that other two = other (sym that ∙ sym (ap status_of is) ∙ two)
+
+rows_end : (fault : Option StimFault) (e : Ending) → e ≡ end_of fault → status_of e ≡ 2 → ⊥
+rows_end None e is two = let zero : 0 ≡ 2 = sym (ap status_of is) ∙ two in omega (arith, zero)
+rows_end (Some fault) e is two = let four : 4 ≡ 2 = sym (ap status_of is) ∙ two in omega (arith, four)
+
+is_done : (e : Ending) → e ≡ done → status_of e ≡ 2 → ⊥
+is_done e is two = let zero : 0 ≡ 2 = sym (ap status_of is) ∙ two in omega (arith, zero)
+
+-- the file of a lattice, of a design, of a module is refused
+lattice_two : (e : Ending) (bytes : List ℕ) (why : Refusal) → e ≡ refused why → lattice_file.Refused bytes why → status_of e ≡ 2 → ⊥
+lattice_two e bytes why is refusal two = not_two e why 3 is (ap status_of_refusal refusal.1) (λ x. omega (arith, x)) two
+
+design_two : (ls : Levels) (e : Ending) (bytes : List ℕ) (why : Refusal) → e ≡ refused why → (design_file ls).Refused bytes why → status_of e ≡ 2 → ⊥
+design_two ls e bytes why is refusal two = not_two e why 1 is (ap status_of_refusal refusal.1) (λ x. omega (arith, x)) two
+
+text_two : (e : Ending) (bytes : List ℕ) (why : Refusal) → e ≡ refused why → design_text_file.Refused bytes why → status_of e ≡ 2 → ⊥
+text_two e bytes why is refusal two = not_two e why 1 is (ap status_of_refusal refusal.1) (λ x. omega (arith, x)) two
+
+module_two : (e : Ending) (bytes : List ℕ) (why : Refusal) → e ≡ refused why → module_file.Refused bytes why → status_of e ≡ 2 → ⊥
+module_two e bytes why is refusal two = not_two e why 5 is (ap status_of_refusal refusal.1) (λ x. omega (arith, x)) two
+
+two_twin : (c : Words) (e : Ending) → MayEnd (asks c) e → status_of e ≡ 2 → IsTwin (Some c)
+two_twin (twin lattice design first second level) e may two = (lattice, design, first, second, level, refl)
+two_twin (compile lattice design out) e (inl (bytes, why, is, r)) two = absurd (lattice_two e bytes why is r two)
+two_twin (compile lattice design out) e (inr (bytes, ls, a, inl (source, why, is, r))) two = absurd (design_two ls e source why is r two)
+two_twin (compile lattice design out) e (inr (bytes, ls, a, inr (source, d, b, is))) two = absurd (is_done e is two)
+two_twin (run lattice design stimulus) e (inl (bytes, why, is, r)) two = absurd (lattice_two e bytes why is r two)
+two_twin (run lattice design stimulus) e (inr (bytes, ls, a, inl (source, why, is, r))) two = absurd (design_two ls e source why is r two)
+two_twin (run lattice design stimulus) e (inr (bytes, ls, a, inr (source, d, b, inl (lines, why, is, r)))) two = absurd r
+two_twin (run lattice design stimulus) e (inr (bytes, ls, a, inr (source, d, b, inr (lines, kept, h, is)))) two = absurd (rows_end _ e is two)
+two_twin (trace lattice design stimulus) e (inl (bytes, why, is, r)) two = absurd (lattice_two e bytes why is r two)
+two_twin (trace lattice design stimulus) e (inr (bytes, ls, a, inl (source, why, is, r))) two = absurd (design_two ls e source why is r two)
+two_twin (trace lattice design stimulus) e (inr (bytes, ls, a, inr (source, d, b, inl (lines, why, is, r)))) two = absurd r
+two_twin (trace lattice design stimulus) e (inr (bytes, ls, a, inr (source, d, b, inr (lines, kept, h, is)))) two = absurd (rows_end _ e is two)
+two_twin (fmt design) e (inl (source, why, is, r)) two = absurd (text_two e source why is r two)
+two_twin (fmt design) e (inr (source, d, a, is)) two = absurd (is_done e is two)
+two_twin (sim lattice verilog stimulus) e (inl (bytes, why, is, r)) two = absurd (lattice_two e bytes why is r two)
+two_twin (sim lattice verilog stimulus) e (inr (bytes, ls, a, inl (text, why, is, r))) two = absurd (module_two e text why is r two)
+two_twin (sim lattice verilog stimulus) e (inr (bytes, ls, a, inr (text, net, b, inl (lines, why, is, r)))) two = absurd r
+two_twin (sim lattice verilog stimulus) e (inr (bytes, ls, a, inr (text, net, b, inr (lines, kept, h, is)))) two = absurd (rows_end _ e is two)
+two_twin (report lattice design) e (inl (bytes, why, is, r)) two = absurd (lattice_two e bytes why is r two)
+two_twin (report lattice design) e (inr (bytes, ls, a, inl (source, why, is, r))) two = absurd (design_two ls e source why is r two)
+two_twin (report lattice design) e (inr (bytes, ls, a, inr (source, d, b, is))) two = absurd (is_done e is two)
+two_twin (gen n) e is two = absurd (is_done e is two)
+
+free_two : (e : Ending) → IsFree e → status_of e ≡ 2 → ⊥
+free_two done free two = free
+free_two (refused why) free two = free
+free_two (failed name) free two = omega (arith, two)
+free_two no_memory free two = omega (arith, two)
+
+pub two_if : (o : Option Words) (e : Ending) → IsFree e ⊎ MayEnd (asks_if o) e → status_of e ≡ 2 → (o ≡ None) ⊎ IsTwin o
+two_if o e (inl free) two = absurd (free_two e free two)
+two_if None e (inr may) two = inl refl
+two_if (Some c) e (inr may) two = inr (two_twin c e may two)
+
+pub one_output_lem : OneOutput
+one_output_lem = λ c t text other a b. one_text (asks c) (lawful c) t a.0 b.0 text other a.1 b.1

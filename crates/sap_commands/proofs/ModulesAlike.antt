@@ -1,0 +1,56 @@
+-- Two lattices that are the same have the same modules for a design.
+use Rattle.std.proofs.Common.{ℕ, ◌+◌, ◌*◌, ◌≤◌, List, length, subst}
+use Rattle.sap_lattice.specs.Levels.{Levels, order_of}
+use Rattle.sap_lattice.specs.Order.{Order}
+use Rattle.sap_lattice.specs.Codes.{width_of}
+use Rattle.sap_latfile.specs.OneLattice.{AreSame}
+use Rattle.sap_maps.specs.Maps.{Valuation}
+use Rattle.sap_meaning.specs.Agree.{StreamsAgree}
+use Rattle.sap_meaning.specs.Cycle.{Tagged}
+use Rattle.sap_meaning.specs.State.{StreamFits}
+use Rattle.sap_tree.specs.Syntax.{DesignTree}
+use Rattle.sap_net.specs.Net.{Net}
+use Rattle.sap_net.specs.Runs.{IsRun, observed}
+use Rattle.std.specs.Prelude.{map}
+use Rattle.sap_size.specs.Items.{items}
+use Rattle.sap_size.specs.Trees.{design_nodes, entity_count}
+use Rattle.sap_interface.specs.Compiled.{NetStandsFor, coded_stream}
+use Rattle.sap_interface.specs.Designs.{named_of, sites_of}
+use Rattle.sap_interface.specs.StandsFor.{Named, world}
+use Rattle.sap_compile.specs.Agree.{CyclesAgree, CyclesLookAlike, InEveryCycle}
+use Rattle.sap_compile.specs.Compiles.{IsModuleFor}
+use Rattle.sap_compile.specs.Runs.{HasOneRun}
+use Rattle.sap_commands.proofs.Alike.{named_in}
+use Rattle.sap_commands.proofs.Designs.{well_formed_in}
+
+-- what is seen of the netlist's runs on agreeing streams, by the order and the names alone
+abbrev OnStreams : Named → Order → Net → ((l : ℕ) → Valuation → Valuation → Type 0) → Type 0
+OnStreams d o n Pair =
+    (l : ℕ) (a b : List (List Tagged)) → StreamFits (world d) a → StreamFits (world d) b → StreamsAgree o l a b
+    → (vs us : List Valuation) → IsRun n (coded_stream d.code a) vs → IsRun n (coded_stream d.code b) us
+    → InEveryCycle (Pair l) (map (observed n) vs) (map (observed n) us)
+
+module _ (l m : Levels) (same : AreSame l m) (d : DesignTree) (n : Net) where
+  pub module_in : (text : List ℕ) → IsModuleFor l d n text → IsModuleFor m d n text
+  module_in text is =
+      let sites : ℕ = sites_of d in
+      let x : Named = named_of l d in
+      record {
+        well_formed = well_formed_in l m d same is.well_formed;
+        is_module = is.is_module;
+        stands =
+            subst (λ (y : Named). NetStandsFor y (width_of (order_of m)) sites n) (named_in l m same d)
+            (subst (λ (o : Order). NetStandsFor x (width_of o) sites n) same.order is.stands);
+        has_one_run =
+            subst (λ (y : Named). (stream : List (List Tagged)) → StreamFits (world y) stream → HasOneRun n (coded_stream y.code stream)) (named_in l m same d)
+            is.has_one_run;
+        agrees =
+            subst (λ (y : Named). OnStreams y (order_of m) n (CyclesAgree y sites)) (named_in l m same d)
+            (subst (λ (o : Order). OnStreams x o n (CyclesAgree x sites)) same.order is.agrees);
+        looks_alike =
+            subst (λ (y : Named). OnStreams y (order_of m) n (CyclesLookAlike y sites)) (named_in l m same d)
+            (subst (λ (o : Order). OnStreams x o n (CyclesLookAlike x sites)) same.order is.looks_alike);
+        shared = is.shared;
+        read = is.read;
+        small = subst (λ (ns : List (List ℕ)). items n ≤ 8 * (1 + design_nodes d) * (1 + entity_count d + length ns)) same.names is.small;
+      }

@@ -1,0 +1,162 @@
+-- The level and the two streams of `twin`: what reading and comparing them come to.
+use Rattle.std.proofs.Common.{◌≡◌, ◌≢◌, ◌<◌, ◌≤◌, ◌+◌, ◌-◌, ℕ, zero, suc, drop, Bool, true, false, List, [], length, get_or, refl, sym, ◌∙◌, ap, subst, inl, inr, ◌⊎◌, arith, Result, Ok, Err}
+use Rattle.std.specs.Prelude.{Option, Some, None, All, bytes_eq, slice_get, slice_index_or, MatchOption, cond}
+use Rattle.std.proofs.lemmas.Bool.{cases_Bool}
+use Rattle.std.proofs.lemmas.Bool.Decides.{nat_tests}
+use Rattle.std.proofs.lemmas.List.Sums.{position_or_len_is}
+use Rattle.std.specs.List.{position_or_len}
+use Rattle.sap_lattice.specs.Levels.{Levels, order_by, order_of}
+use Rattle.sap_lattice.specs.Order.{Order}
+use Rattle.sap_lattice.specs.Rules.{KeepsNames, repeated}
+use Rattle.sap_latfile.specs.LatticeFile.{IsLatticeOfFile}
+use Rattle.sap_latfile.specs.OneLattice.{AreSame}
+use Rattle.sap_maps.proofs.Scopes.{name_is, same_name}
+use Rattle.sap_meaning.specs.Agree.{StreamsAgree}
+use Rattle.sap_meaning.specs.Cycle.{Tagged}
+use Rattle.sap_meaning.specs.State.{StreamFits}
+use Rattle.sap_tree.specs.Syntax.{DesignTree}
+use Rattle.sap_names.specs.declared.entity.Entity.{Entity}
+use Rattle.sap_report.proofs.Lists.{drop-at}
+use Rattle.sap_stim.specs.Fits.{StreamFits as LinesFit}
+use Rattle.sap_stim.specs.Line.{level_named}
+use Rattle.sap_stim.specs.declared.fault.StimFault.{StimFault}
+use Rattle.sap_stim.specs.declared.stimulus.Parsed.{Parsed}
+use Rattle.sap_stim.proofs.Fitting.{fits}
+use Rattle.sap_stream.specs.Apart.{AreOfOneLength, IsApart}
+use Rattle.sap_stream.specs.declared.apart.Apart.{Apart}
+use Rattle.sap_sim.proofs.Fits.{counts}
+use Rattle.sap_run.specs.Fields.{design_fields}
+use Rattle.sap_run.specs.RunOf.{read_for}
+use Rattle.sap_run.proofs.Designs.{fit_stream}
+use Rattle.sap_interface.specs.Designs.{named_of}
+use Rattle.sap_interface.specs.StandsFor.{world}
+use Rattle.sap_net.specs.Net.{Net}
+use Rattle.sap_compile.specs.Compiles.{IsModuleFor}
+use Rattle.sap_commands.specs.Ending.{Ending, no_memory, status_of_refusal}
+use Rattle.sap_commands.specs.Kinds.{IsLawful, stream_file}
+use Rattle.sap_commands.specs.Twin.{IsAgreement, IsVerdict, agreement_line, difference, input_names, is_input}
+use Rattle.sap_commands.specs.Asks.{Asks, by}
+use Rattle.sap_commands.specs.Commands.{compared}
+use Rattle.sap_commands.specs.Steps.{Ends, Finds, Moment, Refuses, ending}
+use Rattle.sap_commands.specs.declared.failure.Failure.{Failure}
+use Rattle.sap_commands.proofs.Alike.{read_in}
+use Rattle.sap_commands.proofs.Ended.{chosen, quiet_self, starved, stopped_by}
+
+-- the level of a name
+
+module _ (names : List (List ℕ)) (word : List ℕ) where
+  differs : (k : ℕ) → (get_or names k [] ≡ word → ⊥) → bytes_eq (get_or names k []) word ≡ false
+  differs k other = elim (cases_Bool (bytes_eq (get_or names k []) word)) [ inl t ↦ absurd (other (name_is (get_or names k []) word t)) | inr f ↦ f ]
+
+  at_place : (x : ℕ) → x < length names → position_or_len (λ level. bytes_eq level word) names ≡ x → Some x ≡ level_named names word
+  at_place x low is = rw is (grind (arith, nat_tests))
+
+  nowhere : position_or_len (λ level. bytes_eq level word) names ≡ length names → None ≡ level_named names word
+  nowhere is = rw is (grind (arith, nat_tests))
+
+  found : (x : ℕ) → KeepsNames names → x < length names → get_or names x [] ≡ word → Some x ≡ level_named names word
+  found x keeps low is =
+      at_place x low
+      (position_or_len_is (λ level. bytes_eq level word) names x [] (omega arith)
+      (λ k before. differs k (λ same. keeps.named x (low, repeated k before (same ∙ sym is))))
+      (λ here. ap (λ (name : List ℕ). bytes_eq name word) is ∙ same_name word))
+
+  missing : ((x : ℕ) → x < length names → get_or names x [] ≢ word) → None ≡ level_named names word
+  missing none =
+      nowhere
+      (position_or_len_is (λ level. bytes_eq level word) names (length names) [] (omega arith) (λ k low. differs k (none k low)) (λ low. absurd (omega arith)))
+
+  pub level_found : (x : ℕ) → KeepsNames names → (x < length names) × (slice_index_or names x [] ≡ word) → Some x ≡ level_named names word
+  level_found x keeps at = found x keeps at.0 at.1
+
+  pub level_missing : ((x : ℕ) → x < length names → slice_index_or names x [] ≢ word) → None ≡ level_named names word
+  level_missing none = missing none
+
+-- a stimulus file
+
+fault_stream : (o : Option StimFault) (fault : StimFault) → o ≡ None → o ≡ Some fault → ⊥
+fault_stream o fault none some = cc
+
+pub stream_lawful : (place : ℕ) (ls : Levels) (d : DesignTree) → IsLawful (stream_file place ls d)
+stream_lawful place ls d = record {
+  one_value = λ bytes v w is was. ap (λ (p : Parsed). p.stream) (sym is ∙ was);
+  one_status = λ bytes why other refusal refusal'. ap status_of_refusal refusal.1 ∙ sym (ap status_of_refusal refusal'.1);
+  not_both = λ bytes v why is refusal. fault_stream (read_for ls d bytes).fault refusal.0 (ap (λ (p : Parsed). p.fault) is) refusal.2;
+}
+
+module _ (l m : Levels) (same : AreSame l m) (place : ℕ) (d : DesignTree) (bytes : List ℕ) where
+  pub stream_in : (stream : List (List Tagged)) → (stream_file place l d).Stands bytes stream → (stream_file place m d).Stands bytes stream
+  stream_in stream is = sym (read_in l m same d bytes) ∙ is
+
+  pub stream_refused_in : (e : Ending) → Refuses (stream_file place l d) bytes e → Refuses (stream_file place m d) bytes e
+  stream_refused_in e (inl is) = inl is
+  stream_refused_in e (inr (why, is, (fault, was, stands))) =
+      inr (why, is, (fault, was, ap (λ (p : Parsed). p.fault) (sym (read_in l m same d bytes)) ∙ stands))
+
+-- its lines fit the design
+
+bottom_level : (bytes : List ℕ) (ls : Levels) → IsLatticeOfFile bytes ls → (order_of ls).bottom < (order_of ls).count
+unfolding order_of order_by
+bottom_level bytes ls (names, pairs, file, is) = subst (λ (ns : List (List ℕ)). (order_of ls).bottom < length ns) (sym is.same_names) is.bottom.level
+
+module _ (lattice : List ℕ) (ls : Levels) (is : IsLatticeOfFile lattice ls) (d : DesignTree) where
+  lines_fit : (place : ℕ) (bytes : List ℕ) (stream : List (List Tagged)) → (stream_file place ls d).Stands bytes stream → LinesFit ls (design_fields ls d) stream
+  lines_fit place bytes stream stands =
+      subst (λ (p : Parsed). LinesFit ls (design_fields ls d) p.stream) stands (fits ls (design_fields ls d) bytes (bottom_level lattice ls is))
+
+  stream_fits : (place : ℕ) (bytes : List ℕ) (stream : List (List Tagged)) → (stream_file place ls d).Stands bytes stream → StreamFits (world (named_of ls d)) stream
+  stream_fits place bytes stream stands = fit_stream ls d stream (lines_fit place bytes stream stands)
+
+  pub one_length : (bytes more : List ℕ) (one other : List (List Tagged)) → (stream_file 1 ls d).Stands bytes one → (stream_file 2 ls d).Stands more other
+      → AreOfOneLength one other
+  one_length bytes more one other stands also = (
+    length (design_fields ls d),
+    counts ls (design_fields ls d) one (lines_fit 1 bytes one stands),
+    counts ls (design_fields ls d) other (lines_fit 2 more other also),
+  )
+
+  -- the streams agree: so do the runs of each module for the design
+  pub agreement : (l : ℕ) (bytes more level text : List ℕ) (one other : List (List Tagged)) (net : Net) (written : List ℕ)
+      → (stream_file 1 ls d).Stands bytes one → (stream_file 2 ls d).Stands more other → StreamsAgree (order_of ls) l one other
+      → text ≡ agreement_line level (length one) → IsModuleFor ls d net written → IsAgreement ls d l one other level text
+  agreement l bytes more level text one other net written stands also agree is_line some = record {
+    is_line = is_line;
+    some_module = (net, written, some);
+    every_module = λ n w module_is. record {
+      agree = module_is.agrees l one other (stream_fits 1 bytes one stands) (stream_fits 2 more other also) agree;
+      look_alike = module_is.looks_alike l one other (stream_fits 1 bytes one stands) (stream_fits 2 more other also) agree;
+    };
+  }
+
+-- the name of an input, by the entities that are left from one on
+
+module _ (es : List Entity) (i : ℕ) (e : Entity) (at : slice_get es i ≡ Some e) where
+  pub input_here : (left : ℕ) → is_input e.what ≡ true → left ≡ 0 → get_or (input_names (drop i es)) left [] ≡ e.name.name
+  input_here left is none = rw (none, drop-at es i e at, is) refl
+
+  later : (left : ℕ) → is_input e.what ≡ true → get_or (input_names (drop i es)) (suc left) [] ≡ get_or (input_names (drop (i + 1) es)) left []
+  later left is = rw (drop-at es i e at, is) refl
+
+  pub input_later : (left : ℕ) → is_input e.what ≡ true → (left ≡ 0 → ⊥) → get_or (input_names (drop i es)) left [] ≡ get_or (input_names (drop (i + 1) es)) (left - 1) []
+  input_later zero is some = absurd (some refl)
+  input_later (suc left) is some =
+      later left is ∙ ap (λ (k : ℕ). get_or (input_names (drop (i + 1) es)) k []) (let same : left ≡ suc left - 1 = omega arith in same)
+
+  pub input_not_here : (left : ℕ) → is_input e.what ≡ false → get_or (input_names (drop i es)) left [] ≡ get_or (input_names (drop (i + 1) es)) left []
+  input_not_here left isnt = rw (drop-at es i e at, isnt) refl
+
+-- what comparing two streams comes to
+
+pub verdict_ends : (k ls : Levels) → order_of k ≡ order_of ls → (d : DesignTree) (l : ℕ) (one other : List (List Tagged)) (word : List ℕ) (failure : Failure) (m : Moment)
+    → Finds k d l one other word (Err failure) → Ends (by (Option Apart) (IsVerdict (order_of ls) l one other) (compared ls d l word one other)) (ending failure) m m
+verdict_ends k ls same d l one other word failure m found =
+    let a : Asks = by (Option Apart) (IsVerdict (order_of ls) l one other) (compared ls d l word one other) in
+    let starved_so : ending failure ≡ no_memory → Ends a (ending failure) m m = λ is. subst (λ (e : Ending). Ends a e m m) (sym is) (starved a (quiet_self m)) in
+    elim found [
+      | inl is ↦ starved_so is
+      | inr (apart, stands, told) ↦ elim told [
+        | inl is ↦ starved_so is
+        | inr is ↦
+            chosen (Some apart) (subst (λ (o : Order). IsApart o l one other apart) same stands) (stopped_by (difference d apart) (ending failure) is (quiet_self m))
+      ]
+    ]

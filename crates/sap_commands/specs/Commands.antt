@@ -1,0 +1,92 @@
+-- What each command asks.
+use Rattle.std.specs.Prelude.{◌≡◌, ℕ, List, length, Option, Some, None}
+use Rattle.sap_desk.specs.Desk.{Told}
+use Rattle.sap_lattice.specs.Levels.{Levels, order_of}
+use Rattle.sap_meaning.specs.Cycle.{Tagged}
+use Rattle.sap_tree.specs.Syntax.{DesignTree}
+use Rattle.sap_net.specs.Net.{Net}
+use Rattle.sap_stim.specs.Line.{level_named}
+use Rattle.sap_stim.specs.declared.fault.StimFault.{StimFault}
+use Rattle.sap_stream.specs.declared.apart.Apart.{Apart}
+use Rattle.sap_run.specs.RunOf.{IsRunOf, read_for as design_stimulus}
+use Rattle.sap_trace.specs.TraceOf.{IsTraceOf}
+use Rattle.sap_sim.specs.Simulated.{IsSimulated, read_for as module_stimulus}
+use Rattle.sap_show.specs.Canonical.{canonical_text}
+use Rattle.sap_report.specs.Report.{report_text}
+use Rattle.sap_compile.specs.Compiles.{IsModuleFor}
+use Rattle.sap_gen.specs.Text.{generated_text}
+use Rattle.sap_words.specs.Words.{Words, compile, run, trace, fmt, sim, report, twin, gen, command_of}
+use Rattle.sap_commands.specs.Ending.{Ending, done, refused, no_command, level_refused, stimulus_refused}
+use Rattle.sap_commands.specs.Kinds.{lattice_file, design_file, design_text_file, module_file, any_file, stream_file}
+use Rattle.sap_commands.specs.Twin.{IsAgreement, IsVerdict, difference}
+use Rattle.sap_commands.specs.Asks.{Asks, file, by, gives, writes, stops, IsOutput}
+
+-- the text is one of a module for the design
+abbrev pub IsModuleText : Levels → DesignTree → (text : List ℕ) → Type 0
+IsModuleText ls d text = (net : Net) × IsModuleFor ls d net text
+
+-- the text is the rows of a design's run on a stimulus, or on its lines before the first that is refused
+abbrev pub AreDesignRows : Levels → DesignTree → (bytes text : List ℕ) → Type 0
+AreDesignRows ls d bytes text = (fault : Option StimFault) × IsRunOf ls d bytes (record { text = text; fault = fault })
+
+-- the lines of its trace, likewise
+abbrev pub AreTraceLines : Levels → DesignTree → (bytes text : List ℕ) → Type 0
+AreTraceLines ls d bytes text = (fault : Option StimFault) × IsTraceOf ls d bytes (record { text = text; fault = fault })
+
+-- and the rows of a module's run
+abbrev pub AreModuleRows : Levels → Net → (bytes text : List ℕ) → Type 0
+AreModuleRows ls net bytes text = (fault : Option StimFault) × IsSimulated ls net bytes (record { text = text; fault = fault })
+
+-- how a command ends behind its rows: as the stimulus does, by its first fault, if any
+abbrev pub end_of : Option StimFault → Ending
+end_of None = done
+end_of (Some fault) = refused (stimulus_refused 1 fault)
+
+-- what is asked behind a word that is to be a level: where it names none, it is refused
+abbrev pub at_level : (word : List ℕ) → (ℕ → Asks) → Option ℕ → Asks
+at_level word rest None = stops (level_refused word)
+at_level word rest (Some l) = rest l
+
+-- what is written of two streams of a design, by where they first don't agree at a level
+abbrev pub compared : Levels → DesignTree → (l : ℕ) → (word : List ℕ) → (one other : List (List Tagged)) → Option Apart → Asks
+compared ls d l word one other None = gives (IsAgreement ls d l one other word) done
+compared ls d l word one other (Some apart) = stops (difference d apart)
+
+-- two streams of a design compared at a level
+abbrev pub asks_streams : Levels → DesignTree → (first second word : List ℕ) → (l : ℕ) → Asks
+asks_streams ls d first second word l =
+    file first (stream_file 1 ls d) (λ one. file second (stream_file 2 ls d) (λ other.
+    by (Option Apart) (IsVerdict (order_of ls) l one other) (compared ls d l word one other)))
+
+abbrev pub asks : Words → Asks
+asks (compile lattice design out) =
+    file lattice lattice_file (λ ls. file design (design_file ls) (λ d. writes out (IsModuleText ls d)))
+asks (run lattice design stimulus) =
+    file lattice lattice_file (λ ls. file design (design_file ls) (λ d. file stimulus any_file (λ bytes.
+    gives (AreDesignRows ls d bytes) (end_of (design_stimulus ls d bytes).fault))))
+asks (trace lattice design stimulus) =
+    file lattice lattice_file (λ ls. file design (design_file ls) (λ d. file stimulus any_file (λ bytes.
+    gives (AreTraceLines ls d bytes) (end_of (design_stimulus ls d bytes).fault))))
+asks (fmt design) =
+    file design design_text_file (λ d. gives (λ text. text ≡ canonical_text d) done)
+asks (sim lattice verilog stimulus) =
+    file lattice lattice_file (λ ls. file verilog module_file (λ net. file stimulus any_file (λ bytes.
+    gives (AreModuleRows ls net bytes) (end_of (module_stimulus ls net bytes).fault))))
+asks (report lattice design) =
+    file lattice lattice_file (λ ls. file design (design_file ls) (λ d. gives (λ text. text ≡ report_text ls d) done))
+asks (twin lattice design first second level) =
+    file lattice lattice_file (λ ls. by (Option ℕ) (λ named. named ≡ level_named ls.names level) (at_level level (λ l.
+    file design (design_file ls) (λ d. asks_streams ls d first second level l))))
+asks (gen n) = gives (λ text. text ≡ generated_text n) done
+
+-- what words ask that may be no command
+abbrev pub asks_if : Option Words → Asks
+asks_if None = stops no_command
+asks_if (Some c) = asks c
+
+abbrev pub asks_for : List (List ℕ) → Asks
+asks_for words = asks_if (command_of words)
+
+-- the words and files of a command ask for one text
+abbrev pub OneOutput : Type 0
+OneOutput = (c : Words) (t : Told) (text other : List ℕ) → IsOutput (asks c) t text → IsOutput (asks c) t other → text ≡ other

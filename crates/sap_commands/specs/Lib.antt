@@ -1,0 +1,9 @@
+pub mod DesignFaults
+pub mod Ending
+pub mod Kinds
+pub mod Twin
+pub mod Asks
+pub mod Commands
+pub mod After
+pub mod Outside
+pub mod Steps

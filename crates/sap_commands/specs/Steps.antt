@@ -1,0 +1,227 @@
+-- What the steps of a command leave: the words of the contracts of its calls.
+use Rattle.std.specs.Prelude.{◌≡◌, ◌≢◌, ◌⊎◌, ◌++◌, ℕ, List, length, Option, Some, None, Result, Ok, Err, IfSome}
+use Rattle.sap_desk.specs.Desk.{Told}
+use Rattle.sap_desk.specs.Cause.{counted}
+use Rattle.sap_desk.specs.Whole.{Between, IsFront}
+use Rattle.sap_lattice.specs.Levels.{Levels, order_of}
+use Rattle.sap_meaning.specs.Agree.{StreamsAgree}
+use Rattle.sap_meaning.specs.Cycle.{Tagged}
+use Rattle.sap_tree.specs.Syntax.{DesignTree}
+use Rattle.sap_stim.specs.Line.{level_named}
+use Rattle.sap_stream.specs.Apart.{IsApart}
+use Rattle.sap_stream.specs.declared.apart.Apart.{Apart}
+use Rattle.sap_latfile.specs.LatticeFile.{IsLatticeOfFile}
+use Rattle.sap_latfile.specs.declared.fault.LatFileFault.{LatFileFault}
+use Rattle.sap_latfile.specs.declared.fault.LatFileFault.TheVariants as lattice_fault
+use Rattle.sap_net.specs.Net.{Net}
+use Rattle.sap_parse.specs.Limits.{most_bytes}
+use Rattle.sap_parse.specs.Text.{IsText}
+use Rattle.sap_parse.specs.declared.fault.ReadFault.{ReadFault}
+use Rattle.sap_parse.specs.declared.fault.ReadFault.TheVariants as read_fault
+use Rattle.sap_names.specs.declared.fault.CheckFault.{CheckFault}
+use Rattle.sap_names.specs.declared.fault.CheckFault.TheVariants as check_fault
+use Rattle.sap_check.specs.Checked.{levels_in, tree_in}
+use Rattle.sap_check.specs.declared.checked.Checked.{Checked}
+use Rattle.sap_compile.specs.Compiles.{IsModuleFor}
+use Rattle.sap_compile.specs.Parts.{design_of as compiled_design, levels_of, module_of, netlist_of}
+use Rattle.sap_compile.specs.declared.compiled.Compiled.{Compiled}
+use Rattle.sap_compile.specs.declared.fault.CompileFault.{CompileFault}
+use Rattle.sap_compile.specs.declared.fault.CompileFault.TheVariants as compile_fault
+use Rattle.sap_vread.specs.declared.fault.ModFault.{ModFault}
+use Rattle.sap_vread.specs.declared.fault.ModFault.TheVariants as module_fault
+use Rattle.sap_commands.specs.declared.fault.DesignFault.TheVariants as design_fault
+use Rattle.sap_commands.specs.Ending.{Ending, Refusal as Reason, done, refused, failed, no_memory, lattice_refused, design_refused, stimulus_refused, module_refused, level_refused, lengths_apart, inputs_apart, IsFree}
+use Rattle.sap_commands.specs.Kinds.{Kind, IsLatticeFile, IsWellFormedText, design_file, table_by}
+use Rattle.sap_commands.specs.Twin.{agreement_line, difference}
+use Rattle.sap_commands.specs.Asks.{Asks, Cause, Leaves, MayEnd, Output}
+use Rattle.sap_commands.specs.Commands.{asks_streams}
+use Rattle.sap_commands.specs.After.{Blames, Opens}
+use Rattle.sap_commands.specs.Outside.{IsUnreadable, OutsideOf}
+use Rattle.sap_commands.specs.declared.failure.Failure.{Failure}
+use Rattle.sap_commands.specs.declared.failure.Failure.TheVariants.{Refused, Desk, Memory}
+use Rattle.sap_commands.specs.declared.refusal.Refusal.{Refusal}
+use Rattle.sap_commands.specs.declared.refusal.Refusal.TheVariants.{Lattice, Design, Stimulus, Module, Level, Lengths, Input}
+
+abbrev pub reason : Refusal → Reason
+reason (Lattice fault) = lattice_refused fault
+reason (Design fault) = design_refused fault
+reason (Stimulus place fault) = stimulus_refused place fault
+reason (Module fault) = module_refused fault
+reason (Level word) = level_refused word.now
+reason (Lengths one other) = lengths_apart one other
+reason (Input cycle name) = inputs_apart cycle name
+
+-- why the bytes of a lattice file, of two files compiled together, of a design file and of a module file end a command
+
+abbrev pub lattice_failure : LatFileFault → Failure
+lattice_failure lattice_fault.Memory = Memory
+lattice_failure fault = Refused (Lattice fault)
+
+abbrev pub compile_failure : CompileFault → Failure
+compile_failure (compile_fault.Lattice fault) = Refused (Lattice fault)
+compile_failure (compile_fault.Read fault) = Refused (Design (design_fault.Read fault))
+compile_failure (compile_fault.Check fault) = Refused (Design (design_fault.Check fault))
+compile_failure compile_fault.Memory = Memory
+
+abbrev pub read_failure : ReadFault → Failure
+read_failure read_fault.Memory = Memory
+read_failure fault = Refused (Design (design_fault.Read fault))
+
+abbrev pub check_failure : CheckFault → Failure
+check_failure check_fault.Memory = Memory
+check_failure fault = Refused (Design (design_fault.Check fault))
+
+abbrev pub module_failure : ModFault → Failure
+module_failure module_fault.Memory = Memory
+module_failure fault = Refused (Module fault)
+
+abbrev pub ending : Failure → Ending
+ending (Refused why) = refused (reason why)
+ending (Desk name) = failed name.now
+ending Memory = no_memory
+
+abbrev pub ending_of : {T : Type 0} → Result T Failure → Ending
+ending_of (Ok x) = done
+ending_of (Err e) = ending e
+
+-- Moments
+
+-- what is seen of a desk at one time
+pub record Moment : Type 1 where
+  pub told : Option Told
+  pub faults : ℕ
+  pub lost : ℕ
+  pub sure : Type 0
+
+abbrev pub seen : {D : Type 0} → (D → Option Told) → (D → ℕ) → (D → ℕ) → (D → Type 0) → D → Moment
+seen told faults lost sure desk = record { told = told desk; faults = faults desk; lost = lost desk; sure = sure desk }
+
+-- nothing changed between them
+pub record Quiet (before after : Moment) : Type 0 where
+  pub told : after.told ≡ before.told
+  pub faults : after.faults ≡ before.faults
+  pub lost : after.lost ≡ before.lost
+  pub sure : before.sure → after.sure
+
+-- the count of faults rose, and no call was still to fail by its number
+abbrev pub FaultRose : Moment → Moment → Type 0
+FaultRose before after = (after.faults ≢ before.faults) × before.sure
+
+-- The end of a command
+
+-- the count of faults: it rises where a call on a file or on channel 1 failed, and else stands
+abbrev pub Counted : (faults now : ℕ) → Ending → Type 0
+Counted faults now done = now ≡ faults
+Counted faults now (refused why) = now ≡ faults
+Counted faults now (failed name) = now ≡ counted faults
+Counted faults now no_memory = now ≡ faults
+
+-- what no step changes
+pub record Same (t n : Told) : Type 0 where
+  pub lines : n.written 2 ≡ t.written 2
+  pub lines_use : n.uses 2 ≡ t.uses 2
+  pub room : n.room ≡ t.room
+
+-- what a command left that ended so
+pub record Left (a : Asks) (e : Ending) (rose : Type 0) (t n : Told) : Type 0 where
+  pub leaves : Leaves a t n.files e
+  pub gained : List ℕ
+  pub output : n.written 1 ≡ t.written 1 ++ gained
+  pub shows : Output a t gained e
+  pub blames : Blames n.blame e
+  pub opens : Opens e t.uses n.uses
+  pub same : Same t n
+  pub cause : IsFree e ⊎ Cause a t e
+  pub outside : rose → OutsideOf a t n
+
+-- a command ended so, and its line isn't written yet
+pub record Ends (a : Asks) (e : Ending) (before after : Moment) : Type 0 where
+  pub told : Between before.told after.told (Left a e (FaultRose before after))
+  pub faults : Counted before.faults after.faults e
+  pub lost : after.lost ≡ before.lost
+  pub sure : before.sure → after.sure
+  pub may : IsFree e ⊎ MayEnd a e
+
+-- Files
+
+-- a file could not be read: all is as before but the blame, and what a failed call left open
+pub record NotRead (most : Option ℕ) (name : List ℕ) (e : Ending) (rose : Type 0) (t n : Told) : Type 0 where
+  pub files : n.files ≡ t.files
+  pub output : n.written 1 ≡ t.written 1
+  pub same : Same t n
+  pub blames : Blames n.blame e
+  pub opens : Opens e t.uses n.uses
+  pub outside : rose → IsUnreadable most name t
+
+-- and so the command ended
+pub record Stops (most : Option ℕ) (name : List ℕ) (e : Ending) (before after : Moment) : Type 0 where
+  pub free : IsFree e
+  pub told : Between before.told after.told (NotRead most name e (FaultRose before after))
+  pub faults : Counted before.faults after.faults e
+  pub lost : after.lost ≡ before.lost
+  pub sure : before.sure → after.sure
+
+-- a file was read, and has these bytes
+pub record Reads (name bytes : List ℕ) (before after : Moment) : Type 0 where
+  pub quiet : Quiet before after
+  pub file : IfSome before.told (λ t. t.files name ≡ Some bytes)
+
+abbrev pub Read : (name : List ℕ) → Result (List ℕ) Failure → Moment → Moment → Type 0
+Read name (Ok bytes) before after = Reads name bytes before after
+Read name (Err e) before after = Stops None name (ending e) before after
+
+-- A design file was read until more bytes were got than a design may have, or its end.
+abbrev pub ReadDesign : (name : List ℕ) → Result (List ℕ) Failure → Moment → Moment → Type 0
+ReadDesign name (Ok front) before after = (bytes : List ℕ) × Reads name bytes before after × IsFront most_bytes bytes front
+ReadDesign name (Err e) before after = Stops (Some most_bytes) name (ending e) before after
+
+-- the bytes of a file of a kind are refused so, or there was no memory
+abbrev pub Refuses : (k : Kind) → (bytes : List ℕ) → Ending → Type 0
+Refuses k bytes e = (e ≡ no_memory) ⊎ ((why : Reason) × (e ≡ refused why) × k.Refused bytes why)
+
+-- what the bytes of a file of a kind give: a value, or why there is none
+abbrev pub Gives : (k : Kind) → {T : Type 0} → (T → k.Value) → (bytes : List ℕ) → Result T Failure → Type 0
+Gives k value bytes (Ok x) = k.Stands bytes (value x)
+Gives k value bytes (Err e) = Refuses k bytes (ending e)
+
+-- the levels of a lattice with the table that a lattice file has
+abbrev pub whole : Levels → Levels
+whole ls = record { names = ls.names; table = table_by (length ls.names) (order_of ls).le }
+
+-- what a design file is compiled to over a lattice file
+pub record IsCompiled (lattice source : List ℕ) (m : Compiled) : Type 0 where
+  pub levels : IsLatticeOfFile lattice (levels_of m)
+  pub is_text : IsText source (compiled_design m)
+  pub is_module : IsModuleFor (levels_of m) (compiled_design m) (netlist_of m) (module_of m)
+
+-- the lattice file being a lattice
+abbrev pub Compiles : (lattice source : List ℕ) → Result Compiled Failure → Type 0
+Compiles lattice source (Ok m) = IsCompiled lattice source m
+Compiles lattice source (Err e) = (ls : Levels) → IsLatticeFile lattice ls → Refuses (design_file ls) source (ending e)
+
+-- what a design file gives over the levels of a lattice
+abbrev pub IsChecked : Levels → (source : List ℕ) → Result Checked Failure → Type 0
+IsChecked ls source (Ok c) = IsWellFormedText ls source (tree_in c) × (levels_in c ≡ ls)
+IsChecked ls source (Err e) = Refuses (design_file ls) source (ending e)
+
+-- Two streams
+
+-- the level of a name; or it names none, and is refused
+abbrev pub IsLevelOf : Levels → (word : List ℕ) → Result ℕ Failure → Type 0
+IsLevelOf ls word (Ok l) = Some l ≡ level_named ls.names word
+IsLevelOf ls word (Err e) = (None ≡ level_named ls.names word) × (ending e ≡ refused (level_refused word))
+
+-- streams that don't agree are refused so, or there was no memory for it
+abbrev pub Differ : DesignTree → Apart → Failure → Type 0
+Differ d apart e = (ending e ≡ no_memory) ⊎ (ending e ≡ refused (difference d apart))
+
+-- what comparing two streams at a level gives: the line of streams that agree, or where they first don't
+abbrev pub Finds : Levels → DesignTree → (l : ℕ) → (one other : List (List Tagged)) → (word : List ℕ) → Result (List ℕ) Failure → Type 0
+Finds ls d l one other word (Ok text) = StreamsAgree (order_of ls) l one other × (text ≡ agreement_line word (length one))
+Finds ls d l one other word (Err e) = (ending e ≡ no_memory) ⊎ ((apart : Apart) × IsApart (order_of ls) l one other apart × Differ d apart e)
+
+-- Two streams of a design that was compiled over a lattice file are asked for and compared: it ends so, over the levels of that file.
+abbrev pub Compares : Levels → DesignTree → (first second word : List ℕ) → (l : ℕ) → Ending → Moment → Moment → Type 0
+Compares k d first second word l e a b =
+    (lattice : List ℕ) (ls : Levels) (net : Net) (written : List ℕ) → IsLatticeOfFile lattice k → IsLatticeFile lattice ls → IsModuleFor k d net written
+    → Ends (asks_streams ls d first second word l) e a b

@@ -1,0 +1,24 @@
+//! The commands: what each asks, done over a desk, and how it ends.
+#![tactic(auto)]
+
+mod comparing;
+mod compiling;
+pub mod failure;
+pub mod fault;
+mod generating;
+mod inputs;
+mod laws;
+mod output;
+mod performing;
+pub mod refusal;
+mod reporting;
+mod running;
+mod showing;
+mod simulating;
+mod texts;
+mod tracing;
+
+pub use fault::DesignFault;
+pub use laws::one_output;
+pub use performing::perform;
+pub use texts::refusal_text;

@@ -1,0 +1,60 @@
+//! Each command, done over a desk.
+
+ghost use Rattle.sap_words.specs.Called.{words_of};
+ghost use Rattle.sap_commands.specs.Commands.{asks};
+ghost use Rattle.sap_commands.specs.Steps.{Ends, ending_of, seen};
+
+use crate::comparing::twin;
+use crate::compiling::compile;
+use crate::failure::Failure;
+use crate::generating::generate;
+use crate::reporting::report_design;
+use crate::running::run;
+use crate::showing::format;
+use crate::simulating::simulate;
+use crate::tracing::trace_design;
+use sap_desk::Desk;
+use sap_words::Command;
+use std::alloc::Global;
+
+/// Does what a command asks over a desk. It ends by what the words and files ask, or for a failed call or want of memory; its line isn't written.
+pub fn perform<'a, D: Desk>(
+    alloc: Global,
+    desk: &mut D,
+    command: Command<'a>,
+) -> Result<(), Failure<'a>>
+    ensures ends { Ends (asks (words_of command.entry)) (ending_of result) (seen D.told D.faults D.lost D.sure desk.old) (seen D.told D.faults D.lost D.sure desk.new) }
+{
+    match command {
+        Command::Compile {
+            lattice,
+            design,
+            out,
+        } => compile(alloc, desk, lattice, design, out),
+        Command::Run {
+            lattice,
+            design,
+            stimulus,
+        } => run(alloc, desk, lattice, design, stimulus),
+        Command::Trace {
+            lattice,
+            design,
+            stimulus,
+        } => trace_design(alloc, desk, lattice, design, stimulus),
+        Command::Fmt { design } => format(alloc, desk, design),
+        Command::Sim {
+            lattice,
+            verilog,
+            stimulus,
+        } => simulate(alloc, desk, lattice, verilog, stimulus),
+        Command::Report { lattice, design } => report_design(alloc, desk, lattice, design),
+        Command::Twin {
+            lattice,
+            design,
+            first,
+            second,
+            level,
+        } => twin(alloc, desk, lattice, design, first, second, level),
+        Command::Gen { number } => generate(alloc, desk, number),
+    }
+}

@@ -1,0 +1,30 @@
+-- How the line of a call is told: the words of contracts within the crate.
+use Rattle.std.specs.Prelude.{◌≡◌, ◌≢◌, ◌⊎◌, ℕ, List}
+use Rattle.sap_desk.specs.Desk.{Told}
+use Rattle.sap_desk.specs.Whole.{Between}
+use Rattle.sap_commands.specs.Ending.{Ending, Refusal as Reason, refused, no_memory, status_of, line_of}
+use Rattle.sap_commands.specs.Steps.{Moment}
+use Rattle.sapper.specs.Answers.{Gained}
+use Rattle.sapper.specs.Outside.{FullLines}
+
+-- channel 2 has a line more
+pub record ToldLine (line : List ℕ) (lost now : ℕ) (rose : Type 0) (t n : Told) : Type 0 where
+  pub gained : Gained line lost now t n
+  pub files : n.files ≡ t.files
+  pub blame : n.blame ≡ t.blame
+  pub output : n.written 1 ≡ t.written 1
+  pub uses : n.uses ≡ t.uses
+  pub room : n.room ≡ t.room
+  pub full : rose → FullLines t n
+
+pub record Tells (line : List ℕ) (before after : Moment) : Type 0 where
+  pub told : Between before.told after.told (ToldLine line before.lost after.lost ((after.lost ≢ before.lost) × before.sure))
+  pub faults : after.faults ≡ before.faults
+  pub sure : before.sure → after.sure
+
+-- an ending is told by its status and its line; want of memory in its place where there is none for the line of a refusal
+pub record Reports (e : Ending) (answer : ℕ) (before after : Moment) : Type 0 where
+  pub as_told : Ending
+  pub is_it : (as_told ≡ e) ⊎ ((as_told ≡ no_memory) × ((why : Reason) × (e ≡ refused why)))
+  pub status : answer ≡ status_of as_told
+  pub line : Tells (line_of as_told) before after
