@@ -113,7 +113,7 @@ numbered_gives word c h =
       | inr not ↦ let g : None ≡ Some c = rw not at h in absurd (cc)
     ]
 
-number_is : (word : List ℕ) (n : ℕ) → IsRunNumber word n → number_of word ≡ Some n
+pub number_is : (word : List ℕ) (n : ℕ) → IsRunNumber word n → number_of word ≡ Some n
 number_is word n k =
     let few : are_few_digits word ≡ true = grind (arith, k.digits, k.at_least_one, k.at_most_four) in
     let some : 1 ≤ digits_value 10 word = subst (λ m. 1 ≤ m) k.value k.some in

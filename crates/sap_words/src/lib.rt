@@ -3,7 +3,9 @@
 
 pub mod command;
 mod number;
+mod parser;
 mod read;
+mod table;
 
 pub use command::{Command, RunNumber};
 pub use read::command_of;

@@ -1,149 +1,86 @@
 //! Words as a command.
 
-ghost use Rattle.std.specs.Prelude.{◌≡◌, Some, map, string_bytes, option_map};
+ghost use Rattle.std.specs.Prelude.{◌≡◌, IfErr, IfOk, List, Some, ℕ, codes, map, option_and_then, option_map, string_bytes};
+ghost use Rattle.clap.specs.Words.{Row, first_of, first_value, found_of, subcommand_rows_of};
 ghost use Rattle.sap_words.specs.Called.{words_of};
-ghost use Rattle.sap_words.specs.Table.{ReadsTable};
-ghost use Rattle.sap_words.specs.Words.{command_of as words_for, compile, five, fmt, is_operand, number_of, numbered, one, report, row, run, sim, three, trace, twin, two};
+ghost use Rattle.sap_words.specs.Operands.{five_of, row_of, three_of, two_of};
+ghost use Rattle.sap_words.specs.Table.{IsCommand, ReadsTable};
+ghost use Rattle.sap_words.specs.Words.{Words, command_of as words_for, compile, fmt, number_of, numbered, report, run, sim, trace, twin};
 
 use crate::command::{Command, RunNumber};
 use crate::number::number_of;
+use crate::parser::parse;
+use crate::table::is_command;
+use clap::ArgMatches;
+use std::alloc::{AllocError, Global};
 
-fn is_operand(word: &str) -> bool
-    ensures { result ≡ is_operand word.now }
+fn compile<'a>(operands: &ArgMatches<'a>) -> Option<Command<'a>>
+    ensures { option_map words_of result ≡ three_of compile (first_value (found_of operands.now) (codes "LATTICE")) (first_value (found_of operands.now) (codes "DESIGN")) (first_value (found_of operands.now) (codes "OUT")) }
 {
-    !word.starts_with('-')
+    Some(Command::Compile {
+        lattice: operands.get_str("LATTICE")?,
+        design: operands.get_str("DESIGN")?,
+        out: operands.get_str("OUT")?,
+    })
 }
 
-fn compile<'a>(operands: &'a [String]) -> Option<Command<'a>>
-    ensures { option_map words_of result ≡ three compile (map string_bytes operands.now) }
+fn run<'a>(operands: &ArgMatches<'a>) -> Option<Command<'a>>
+    ensures { option_map words_of result ≡ three_of run (first_value (found_of operands.now) (codes "LATTICE")) (first_value (found_of operands.now) (codes "DESIGN")) (first_value (found_of operands.now) (codes "STIM")) }
 {
-    match operands {
-        [lattice, design, out] => {
-            if is_operand(lattice) && is_operand(design) && is_operand(out) {
-                Some(Command::Compile {
-                    lattice,
-                    design,
-                    out,
-                })
-            } else {
-                None
-            }
-        }
-        _ => None,
-    }
+    Some(Command::Run {
+        lattice: operands.get_str("LATTICE")?,
+        design: operands.get_str("DESIGN")?,
+        stimulus: operands.get_str("STIM")?,
+    })
 }
 
-fn run<'a>(operands: &'a [String]) -> Option<Command<'a>>
-    ensures { option_map words_of result ≡ three run (map string_bytes operands.now) }
+fn trace<'a>(operands: &ArgMatches<'a>) -> Option<Command<'a>>
+    ensures { option_map words_of result ≡ three_of trace (first_value (found_of operands.now) (codes "LATTICE")) (first_value (found_of operands.now) (codes "DESIGN")) (first_value (found_of operands.now) (codes "STIM")) }
 {
-    match operands {
-        [lattice, design, stimulus] => {
-            if is_operand(lattice) && is_operand(design) && is_operand(stimulus) {
-                Some(Command::Run {
-                    lattice,
-                    design,
-                    stimulus,
-                })
-            } else {
-                None
-            }
-        }
-        _ => None,
-    }
+    Some(Command::Trace {
+        lattice: operands.get_str("LATTICE")?,
+        design: operands.get_str("DESIGN")?,
+        stimulus: operands.get_str("STIM")?,
+    })
 }
 
-fn trace<'a>(operands: &'a [String]) -> Option<Command<'a>>
-    ensures { option_map words_of result ≡ three trace (map string_bytes operands.now) }
+fn sim<'a>(operands: &ArgMatches<'a>) -> Option<Command<'a>>
+    ensures { option_map words_of result ≡ three_of sim (first_value (found_of operands.now) (codes "LATTICE")) (first_value (found_of operands.now) (codes "VERILOG")) (first_value (found_of operands.now) (codes "STIM")) }
 {
-    match operands {
-        [lattice, design, stimulus] => {
-            if is_operand(lattice) && is_operand(design) && is_operand(stimulus) {
-                Some(Command::Trace {
-                    lattice,
-                    design,
-                    stimulus,
-                })
-            } else {
-                None
-            }
-        }
-        _ => None,
-    }
+    Some(Command::Sim {
+        lattice: operands.get_str("LATTICE")?,
+        verilog: operands.get_str("VERILOG")?,
+        stimulus: operands.get_str("STIM")?,
+    })
 }
 
-fn sim<'a>(operands: &'a [String]) -> Option<Command<'a>>
-    ensures { option_map words_of result ≡ three sim (map string_bytes operands.now) }
+fn report<'a>(operands: &ArgMatches<'a>) -> Option<Command<'a>>
+    ensures { option_map words_of result ≡ two_of report (first_value (found_of operands.now) (codes "LATTICE")) (first_value (found_of operands.now) (codes "DESIGN")) }
 {
-    match operands {
-        [lattice, verilog, stimulus] => {
-            if is_operand(lattice) && is_operand(verilog) && is_operand(stimulus) {
-                Some(Command::Sim {
-                    lattice,
-                    verilog,
-                    stimulus,
-                })
-            } else {
-                None
-            }
-        }
-        _ => None,
-    }
+    Some(Command::Report {
+        lattice: operands.get_str("LATTICE")?,
+        design: operands.get_str("DESIGN")?,
+    })
 }
 
-fn report<'a>(operands: &'a [String]) -> Option<Command<'a>>
-    ensures { option_map words_of result ≡ two report (map string_bytes operands.now) }
+fn twin<'a>(operands: &ArgMatches<'a>) -> Option<Command<'a>>
+    ensures { option_map words_of result ≡ five_of twin (first_value (found_of operands.now) (codes "LATTICE")) (first_value (found_of operands.now) (codes "DESIGN")) (first_value (found_of operands.now) (codes "FIRST")) (first_value (found_of operands.now) (codes "SECOND")) (first_value (found_of operands.now) (codes "LEVEL")) }
 {
-    match operands {
-        [lattice, design] => {
-            if is_operand(lattice) && is_operand(design) {
-                Some(Command::Report { lattice, design })
-            } else {
-                None
-            }
-        }
-        _ => None,
-    }
+    Some(Command::Twin {
+        lattice: operands.get_str("LATTICE")?,
+        design: operands.get_str("DESIGN")?,
+        first: operands.get_str("FIRST")?,
+        second: operands.get_str("SECOND")?,
+        level: operands.get_str("LEVEL")?,
+    })
 }
 
-fn twin<'a>(operands: &'a [String]) -> Option<Command<'a>>
-    ensures { option_map words_of result ≡ five twin (map string_bytes operands.now) }
+fn format<'a>(operands: &ArgMatches<'a>) -> Option<Command<'a>>
+    ensures { option_map words_of result ≡ option_map fmt (first_value (found_of operands.now) (codes "DESIGN")) }
 {
-    match operands {
-        [lattice, design, first, second, level] => {
-            if is_operand(lattice)
-                && is_operand(design)
-                && is_operand(first)
-                && is_operand(second)
-                && is_operand(level)
-            {
-                Some(Command::Twin {
-                    lattice,
-                    design,
-                    first,
-                    second,
-                    level,
-                })
-            } else {
-                None
-            }
-        }
-        _ => None,
-    }
-}
-
-fn fmt<'a>(operands: &'a [String]) -> Option<Command<'a>>
-    ensures { option_map words_of result ≡ one (λ design. Some (fmt design)) (map string_bytes operands.now) }
-{
-    match operands {
-        [design] => {
-            if is_operand(design) {
-                Some(Command::Fmt { design })
-            } else {
-                None
-            }
-        }
-        _ => None,
-    }
+    Some(Command::Fmt {
+        design: operands.get_str("DESIGN")?,
+    })
 }
 
 fn numbered<'a>(number: Option<RunNumber>) -> Option<Command<'a>>
@@ -155,24 +92,15 @@ fn numbered<'a>(number: Option<RunNumber>) -> Option<Command<'a>>
     }
 }
 
-fn generate<'a>(operands: &'a [String]) -> Option<Command<'a>>
-    ensures { option_map words_of result ≡ one (λ n. numbered (number_of n)) (map string_bytes operands.now) }
+fn generate<'a>(operands: &ArgMatches<'a>) -> Option<Command<'a>>
+    ensures { option_map words_of result ≡ option_and_then (λ word. numbered (number_of word)) (first_value (found_of operands.now) (codes "N")) }
 {
-    match operands {
-        [number] => {
-            if is_operand(number) {
-                numbered(number_of(number))
-            } else {
-                None
-            }
-        }
-        _ => None,
-    }
+    numbered(number_of(operands.get_str("N")?))
 }
 
 // The command of this name with these operands.
-fn row<'a>(name: &str, operands: &'a [String]) -> Option<Command<'a>>
-    ensures { option_map words_of result ≡ row name.now (map string_bytes operands.now) }
+fn row<'a>(name: &str, operands: &ArgMatches<'a>) -> Option<Command<'a>>
+    ensures { option_map words_of result ≡ row_of name.now (first_value (found_of operands.now)) }
 {
     if name == "compile" {
         compile(operands)
@@ -187,7 +115,7 @@ fn row<'a>(name: &str, operands: &'a [String]) -> Option<Command<'a>>
     } else if name == "twin" {
         twin(operands)
     } else if name == "fmt" {
-        fmt(operands)
+        format(operands)
     } else if name == "gen" {
         generate(operands)
     } else {
@@ -195,13 +123,26 @@ fn row<'a>(name: &str, operands: &'a [String]) -> Option<Command<'a>>
     }
 }
 
-/// The command that the words are, if they are one. It takes no memory.
-pub fn command_of<'a>(words: &'a [String]) -> Option<Command<'a>>
-    ensures named { option_map words_of result ≡ words_for (map string_bytes words.now) }
-    ensures table { ReadsTable (map string_bytes words.now) }
+fn command_in<'a>(matches: &ArgMatches<'a>) -> Option<Command<'a>>
+    ensures { (name : List ℕ) (rows : List Row) → subcommand_rows_of matches.now ≡ Some (name, rows) → option_map words_of result ≡ row_of name (λ id. first_of id rows) }
 {
-    match words {
-        [name, operands @ ..] => row(name, operands),
-        [] => None,
+    match matches.subcommand() {
+        Some(found) => row(found.0, found.1),
+        None => None,
+    }
+}
+
+/// The command that the words are, if they are one. Only words that are one take memory.
+pub fn command_of<'a>(alloc: Global, words: &'a [String]) -> Result<Option<Command<'a>>, AllocError>
+    ensures named { IfOk result (λ command. option_map words_of command ≡ words_for (map string_bytes words.now)) }
+    ensures table { ReadsTable (map string_bytes words.now) }
+    ensures no_memory { IfErr result (λ _. (c : Words) × IsCommand (map string_bytes words.now) c) }
+{
+    if !is_command(words) {
+        return Ok(None);
+    }
+    match parse(alloc, words) {
+        Ok(matches) => Ok(command_in(&matches)),
+        Err(_) => Err(AllocError),
     }
 }

@@ -1,6 +1,6 @@
 -- From the end of a command and its line to the answer of the call.
 use Rattle.std.proofs.Common.{◌≡◌, ◌≢◌, ℕ, List, [], ◌++◌, length, refl, sym, ◌∙◌, ap, subst, inl, inr, ◌⊎◌}
-use Rattle.std.specs.Prelude.{Option, Some, None, IfSome, unwrap_or}
+use Rattle.std.specs.Prelude.{Option, Some, None, IfSome, Result, unwrap_or}
 use Rattle.std.proofs.lemmas.List.{append-nil}
 use Rattle.sap_desk.specs.Desk.{Told, Use}
 use Rattle.sap_desk.specs.Cause.{Rose}
@@ -11,7 +11,8 @@ use Rattle.sap_commands.specs.Asks.{Asks, file, by, gives, writes, stops, AreLaw
 use Rattle.sap_commands.specs.Commands.{asks, asks_for}
 use Rattle.sap_commands.specs.After.{Blames, Opens}
 use Rattle.sap_commands.specs.Outside.{FullFile, FullOutput, OutsideOf}
-use Rattle.sap_commands.specs.Steps.{Ends, FaultRose, Left, Moment}
+use Rattle.sap_commands.specs.Steps.{Ends, FaultRose, Left, Moment, ending_of}
+use Rattle.sap_commands.specs.declared.failure.Failure.{Failure}
 use Rattle.sapper.specs.Answers.{Answers, Gained, MayAnswer}
 use Rattle.sapper.specs.Exact.{Exact}
 use Rattle.sapper.specs.Outside.{FullLines, Outside}
@@ -24,6 +25,10 @@ use Rattle.sap_commands.proofs.Ended.{between_map, quiet_self, stopped_here, who
 
 pub named : (words : List (List ℕ)) (c : Words) (e : Ending) (a b : Moment) → command_of words ≡ Some c → Ends (asks c) e a b → Ends (asks_for words) e a b
 named words c e a b is ended = rw is ended
+
+-- an ending by its result
+pub same_end : (words : List (List ℕ)) (r s : Result (Unit {0}) Failure) (a b : Moment) → r ≡ s → Ends (asks_for words) (ending_of r) a b → Ends (asks_for words) (ending_of s) a b
+same_end words r s a b is ended = subst (λ x. Ends (asks_for words) (ending_of x) a b) is ended
 
 -- statuses
 

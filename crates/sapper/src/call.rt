@@ -1,8 +1,9 @@
 //! The top call.
 
-ghost use Rattle.std.specs.Prelude.{◌≡◌, ◌≢◌, ◌⊎◌, ◌++◌, None, map, string_bytes, IfSome};
+ghost use Rattle.std.specs.Prelude.{◌≡◌, ◌≢◌, ◌⊎◌, ◌++◌, None, map, string_bytes, is_some, IfSome};
 ghost use Rattle.sap_desk.specs.Cause.{counted};
 ghost use Rattle.sap_desk.specs.Whole.{Between};
+ghost use Rattle.sap_commands.specs.Commands.{asks_for};
 ghost use Rattle.sap_words.specs.Words.{IsTwin, command_of as words_for};
 ghost use Rattle.sapper.specs.Answers.{Answers, MayAnswer};
 ghost use Rattle.sap_commands.specs.Ending.{line};
@@ -10,7 +11,7 @@ ghost use Rattle.sapper.specs.Exact.{Exact};
 ghost use Rattle.sapper.specs.Headline.{Headline};
 ghost use Rattle.sapper.specs.Lines.{Reports, Tells};
 ghost use Rattle.sapper.specs.Outside.{Outside, FullLines};
-ghost use Rattle.sap_commands.specs.Steps.{ending, seen};
+ghost use Rattle.sap_commands.specs.Steps.{Ends, ending, ending_of, seen};
 
 use sap_commands::failure::Failure;
 use sap_commands::{perform, refusal_text};
@@ -51,6 +52,24 @@ fn report<D: Desk>(alloc: Global, desk: &mut D, failure: &Failure<'_>) -> u8
     }
 }
 
+// Does what the words ask, where they are a command.
+fn ask<'a, D: Desk>(
+    alloc: Global,
+    desk: &mut D,
+    words: &'a [String],
+) -> Option<Result<(), Failure<'a>>>
+    ensures asked { IfSome result (λ end. Ends (asks_for (map string_bytes words.now)) (ending_of end) (seen D.told D.faults D.lost D.sure desk.old) (seen D.told D.faults D.lost D.sure desk.new)) }
+    ensures command { is_some result ≡ is_some (words_for (map string_bytes words.now)) }
+    ensures none { result ≡ None → words_for (map string_bytes words.now) ≡ None }
+    ensures nothing { result ≡ None → desk.new ≡ desk.old }
+{
+    match command_of(alloc, words) {
+        Ok(Some(command)) => Some(perform(alloc, desk, command)),
+        Ok(None) => None,
+        Err(_) => Some(Err(Failure::Memory)),
+    }
+}
+
 /// Does what the words ask over a desk, and answers the status.
 pub fn sapper<D: Desk>(alloc: Global, words: &[String], desk: &mut D) -> u8
     ensures headline { Between (D.told desk.old) (D.told desk.new) (Headline (map string_bytes words.now) result) }
@@ -66,11 +85,9 @@ pub fn sapper<D: Desk>(alloc: Global, words: &[String], desk: &mut D) -> u8
     ensures words { result ≡ 2 → (words_for (map string_bytes words.now) ≡ None) ⊎ IsTwin (words_for (map string_bytes words.now)) }
     ensures sure { D.sure desk.old → D.sure desk.new }
 {
-    match command_of(words) {
-        Some(command) => match perform(alloc, desk, command) {
-            Ok(()) => 0,
-            Err(failure) => report(alloc, desk, &failure),
-        },
+    match ask(alloc, desk, words) {
+        Some(Ok(())) => 0,
+        Some(Err(failure)) => report(alloc, desk, &failure),
         None => {
             tell(desk, b"words", b"");
             2

@@ -1,8 +1,22 @@
+use Rattle.std.proofs.Common.{rules, map, string_bytes}
+use Rattle.std.specs.Prelude.{option_map}
+use Rattle.sap_words.specs.Called.{words_of}
+use Rattle.sap_words.proofs.Commands.{is_one, read}
 use Rattle.sap_words.proofs.Tables.{tabled}
 use Rattle.sap_words.proofs.read.command_of.Goals as goal
 
-pub returns-in-empty-clause-table : goal.returns-in-empty-clause-table
-returns-in-empty-clause-table c = tabled _
+pub returns-then-not-is_command-clause-table : goal.returns-then-not-is_command-clause-table
+returns-then-not-is_command-clause-table c = tabled _
 
-pub returns-in-len1-up-clause-table : goal.returns-in-len1-up-clause-table
-returns-in-len1-up-clause-table c = tabled _
+pub returns-in-Ok-clause-named : goal.returns-in-Ok-clause-named
+returns-in-Ok-clause-named c =
+    read (map string_bytes c.args.words.now) c.in-Ok.matches (option_map words_of c.command_in.result) (search rules) c.in-Ok.ensures.read c.command_in.ensures
+
+pub returns-in-Ok-clause-table : goal.returns-in-Ok-clause-table
+returns-in-Ok-clause-table c = tabled _
+
+pub returns-clause-table : goal.returns-clause-table
+returns-clause-table c = tabled _
+
+pub returns-clause-no_memory : goal.returns-clause-no_memory
+returns-clause-no_memory c = is_one (map string_bytes c.args.words.now) (search rules)
