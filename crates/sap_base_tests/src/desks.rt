@@ -1,6 +1,9 @@
-//! A desk in memory, by examples.
+//! Desks by examples: one over the host's files, others in memory.
 
-use sap_desk::{Desk, DeskError, Failed, MemoryDesk};
+use sap_desk::{
+    Desk, DeskError, Failed, HostDesk, MemoryDesk, read_file, write_file, write_line, write_output,
+};
+use std::fs;
 use std::test::Fail;
 
 fn holds(desk: &MemoryDesk, name: &str, bytes: &[u8]) -> bool {
@@ -8,6 +11,31 @@ fn holds(desk: &MemoryDesk, name: &str, bytes: &[u8]) -> bool {
         Some(held) => held == bytes,
         None => false,
     }
+}
+
+#[test]
+fn the_host_keeps_what_is_written(rt: HostRuntime) -> Result<(), Fail> {
+    let alloc = rt.alloc();
+    let mut output = Vec::new(alloc);
+    let mut errors = Vec::new(alloc);
+    let mut desk = HostDesk::new(alloc, &rt, &mut output, &mut errors)?;
+    let long = [b'x'; 5000];
+
+    let missing = read_file(alloc, &mut desk, "no such file").err();
+    assert_eq!(rt; missing, Some(DeskError::Failed));
+    write_file(&mut desk, "made", &long)?;
+    let bytes = read_file(alloc, &mut desk, "made")?;
+    fs::remove_file(&rt, "made")?;
+    assert_eq!(rt; bytes.as_slice(), long.as_slice());
+
+    write_output(&mut desk, b"row")?;
+    write_line(&mut desk, &[b"desk: ", b"no such file"])?;
+    desk.finish(2)?;
+    assert_eq!(rt; write_line(&mut desk, &[b"late"]), Err(Failed));
+    drop(desk);
+    assert_eq!(rt; output.as_slice(), b"row".as_slice());
+    assert_eq!(rt; errors.as_slice(), b"desk: no such file\n".as_slice());
+    Ok(())
 }
 
 #[test]

@@ -10,4 +10,6 @@ mod lattice_files;
 #[cfg(test)]
 mod lattices;
 #[cfg(test)]
+mod lines;
+#[cfg(test)]
 mod stimuli;

@@ -1,9 +1,10 @@
 //! Stimulus files and rows, by example.
 
+use sap_desk::RowBuf;
 use sap_lattice::lattice::Lattice;
 use sap_lattice::name::Name;
 use sap_lattice::pair::Pair;
-use sap_stim::row;
+use sap_stim::{row, row_into, row_room};
 use std::alloc::{AllocError, Global};
 use std::test::Fail;
 
@@ -11,7 +12,7 @@ fn name(alloc: Global, text: &[u8]) -> Result<Name, AllocError> {
     Ok(Name::new(text.to_vec(alloc)?))
 }
 
-fn two_levels(alloc: Global) -> Result<Lattice, Fail> {
+pub fn two_levels(alloc: Global) -> Result<Lattice, Fail> {
     let names = vec![in alloc; name(alloc, b"low")?, name(alloc, b"high")?]?;
     let lower = name(alloc, b"low")?;
     let upper = name(alloc, b"high")?;
@@ -26,5 +27,43 @@ fn prints_a_row(rt: HostRuntime) -> Result<(), Fail> {
     let names = vec![in alloc; name(alloc, b"x")?, name(alloc, b"y")?]?;
     let text = row(alloc, 12, names.as_slice(), &[6, 70], &[1, 3], &lattice)?;
     assert_eq!(rt; text.as_slice(), b"cycle 12: x=6@high y=70@#3\n".as_slice());
+    Ok(())
+}
+
+// `cycle ` and `:` with 20 digits and LF are 28 bytes, ` x=` and `@` with 20 digits are 24; a level is a name,
+// or `#` and 20 digits.
+#[test]
+fn prints_rows_into_a_buffer(rt: HostRuntime) -> Result<(), Fail> {
+    let alloc = rt.alloc();
+    let lattice = two_levels(alloc)?;
+    let names = vec![in alloc; name(alloc, b"x")?]?;
+    let room = row_room(names.as_slice(), &lattice).expect(&rt, "there is a number");
+    assert_eq!(rt; room, 73);
+    let mut rows = RowBuf::new(alloc, room)?;
+    row_into(&mut rows, 12, names.as_slice(), &[6], &[1], &lattice);
+    assert_eq!(rt; rows.bytes(), b"cycle 12: x=6@high\n".as_slice());
+    rows.clear();
+    row_into(
+        &mut rows,
+        u64::MAX,
+        names.as_slice(),
+        &[u64::MAX],
+        &[u64::MAX],
+        &lattice,
+    );
+    assert_eq!(rt;
+        rows.bytes(),
+        b"cycle 18446744073709551615: x=18446744073709551615@#18446744073709551615\n".as_slice()
+    );
+    Ok(())
+}
+
+#[test]
+fn makes_a_buffer(rt: HostRuntime) -> Result<(), Fail> {
+    let alloc = rt.alloc();
+    for room in [0, 1, 65_536] {
+        let rows = RowBuf::new(alloc, room)?;
+        assert_eq!(rt; rows.bytes(), b"".as_slice(), "{room} bytes");
+    }
     Ok(())
 }

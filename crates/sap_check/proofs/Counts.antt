@@ -5,15 +5,15 @@ use Rattle.std.proofs.lemmas.Grind.{common_steps}
 use Rattle.std.specs.Bool.{IsTrue}
 use Rattle.std.specs.List.{count_by}
 use Rattle.std.specs.Prelude.{nat_le}
-use Rattle.sap_tree.specs.Syntax.{SimpleCommand, Assign, Write, SetTag, SetCellTag, Goto, Fall, Command, Do, Try, If, CommandBlock, Commands, ElseBlock, NoElse, Else, CommandList, NoCommand, AndCommand, StateTree, StateOf, StateList, NoState, AndState, DesignTree}
-use Rattle.sap_tree.specs.Whole.{command_count, block_count, else_count, list_count, state_commands, states_commands, states_count, states_depth, is_whole, is_tree, is_input, is_register, is_memory}
+use Rattle.sap_tree.specs.Syntax.{SimpleCommand, Assign, Write, SetTag, SetCellTag, Goto, Fall, Command, Do, Try, If, TryThen, Case, Arms, Last, Arm, CommandBlock, Commands, ElseBlock, NoElse, Else, CommandList, NoCommand, AndCommand, StateTree, StateOf, StateList, NoState, AndState, DesignTree}
+use Rattle.sap_tree.specs.Whole.{command_count, block_count, else_count, arms_count, list_count, state_commands, states_commands, states_count, states_depth, is_whole, is_tree, is_input, is_register, is_memory}
 use Rattle.sap_names.specs.declared.entity.Entity.{Entity}
 use Rattle.sap_names.specs.Entities.{entities_of}
 use Rattle.sap_shape.specs.Sites.{is_site}
 use Rattle.sap_check.specs.declared.site.Site.{Site}
 use Rattle.sap_check.specs.declared.point.Point.{Point}
-use Rattle.sap_check.specs.Sites.{Home, simple_sites, command_sites, block_sites, else_sites, list_sites, state_sites, states_sites, sites_of}
-use Rattle.sap_check.specs.Points.{simple_points, command_points, block_points, else_points, list_points, state_points, states_points, points_of}
+use Rattle.sap_check.specs.Sites.{Home, simple_sites, command_sites, block_sites, else_sites, arms_sites, list_sites, state_sites, states_sites, sites_of}
+use Rattle.sap_check.specs.Points.{simple_points, command_points, block_points, else_points, arms_points, list_points, state_points, states_points, points_of}
 
 both_sites : (a b : List Site) (m n : ℕ) → length a ≤ m → length b ≤ n → length (a ++ b) ≤ m + n
 both_sites a b m n h k = rw length-append (omega arith)
@@ -34,13 +34,21 @@ simple_points-few (Fall place) = omega arith
 
 module _ (h : Home) where
   mutual
-    unfolding command_count block_count else_count list_count
+    unfolding command_count block_count else_count arms_count list_count
 
     command_sites-few : (c : Command) → length (command_sites h c) ≤ command_count c
     command_sites-few (Do k) = simple_sites-few h k
     command_sites-few (Try k place handler) = both_sites (simple_sites h k) (block_sites h handler) 1 (block_count handler) (simple_sites-few h k) (block_sites-few handler)
     command_sites-few (If place e one other) =
         let r = both_sites (block_sites h one) (else_sites h other) (block_count one) (else_count other) (block_sites-few one) (else_sites-few other) in omega arith
+    command_sites-few (TryThen k place accepted refused) =
+        let r = both_sites (block_sites h accepted) (block_sites h refused) (block_count accepted) (block_count refused) (block_sites-few accepted) (block_sites-few refused) in
+        let s = both_sites (simple_sites h k) (block_sites h accepted ++ block_sites h refused) 1 (block_count accepted + block_count refused) (simple_sites-few h k) r in omega arith
+    command_sites-few (Case place e arms) = let r = arms_sites-few arms in omega arith
+
+    arms_sites-few : (arms : Arms) → length (arms_sites h arms) ≤ arms_count arms
+    arms_sites-few (Last b) = block_sites-few b
+    arms_sites-few (Arm constants b arms) = both_sites (block_sites h b) (arms_sites h arms) (block_count b) (arms_count arms) (block_sites-few b) (arms_sites-few arms)
 
     block_sites-few : (b : CommandBlock) → length (block_sites h b) ≤ block_count b
     block_sites-few (Commands cs after) = list_sites-few cs
@@ -67,13 +75,21 @@ module _ (es : List Entity) where
     states_sites-few (AndState s ss) = both_sites (state_sites es s) (states_sites es ss) (state_commands s) (states_commands ss) (state_sites-few s) (states_sites-few ss)
 
 mutual
-  unfolding command_count block_count else_count list_count
+  unfolding command_count block_count else_count arms_count list_count
 
   command_points-few : (c : Command) → length (command_points c) ≤ 2 * command_count c
   command_points-few (Do k) = let r = simple_points-few k in omega arith
   command_points-few (Try k place handler) = let r = simple_points-few k in let b = block_points-few handler in rw length-append (omega arith)
   command_points-few (If place e one other) =
       let r = both_points (block_points one) (else_points other) (block_count one) (else_count other) (block_points-few one) (else_points-few other) in omega arith
+  command_points-few (TryThen k place accepted refused) =
+      let r = simple_points-few k in
+      let b = both_points (block_points accepted) (block_points refused) (block_count accepted) (block_count refused) (block_points-few accepted) (block_points-few refused) in rw length-append (omega arith)
+  command_points-few (Case place e arms) = let r = arms_points-few arms in omega arith
+
+  arms_points-few : (arms : Arms) → length (arms_points arms) ≤ 2 * arms_count arms
+  arms_points-few (Last b) = block_points-few b
+  arms_points-few (Arm constants b arms) = both_points (block_points b) (arms_points arms) (block_count b) (arms_count arms) (block_points-few b) (arms_points-few arms)
 
   block_points-few : (b : CommandBlock) → length (block_points b) ≤ 2 * block_count b
   block_points-few (Commands cs after) = list_points-few cs

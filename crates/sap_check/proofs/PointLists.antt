@@ -1,19 +1,22 @@
 -- The points of lists of commands and of states, from a place on.
 use Rattle.std.proofs.Common.{◌≡◌, ℕ, zero, suc, ◌+◌, ◌<◌, ◌≤◌, List, [], ◌∷◌, ◌++◌, length, get_or, drop, refl, sym, ap, ◌∙◌, arith, add-one, append_assoc, Some}
 use Rattle.sap_tree.specs.declared.syntax.Block.{Block}
+use Rattle.sap_tree.specs.declared.syntax.Arm.{Arm}
 use Rattle.sap_tree.specs.declared.syntax.Cmd.{Cmd}
 use Rattle.sap_tree.specs.declared.syntax.State.{State, out-State}
 use Rattle.sap_tree.specs.declared.syntax.Decl.{Decl}
 use Rattle.sap_tree.specs.Parts.{tree_of}
+use Rattle.sap_tree.specs.declared.version.Version.{Version}
 use Rattle.sap_tree.specs.declared.place.Place.{Place}
-use Rattle.sap_tree.specs.Syntax.{Expression, Command, If, ElseBlock, StateTree}
+use Rattle.sap_tree.specs.Syntax.{Expression, SimpleCommand, Command, If, TryThen, Case, ElseBlock, StateTree}
 use Rattle.std.proofs.lemmas.Grind.{common_steps}
 use Rattle.sap_check.specs.declared.point.PointKind.TheVariants as kind
-use Rattle.sap_tree.specs.Trees.{command_of, block_of, else_of, state_of}
+use Rattle.sap_tree.specs.Trees.{command_of, block_of, arm_block_of, arms_of, else_of, state_of}
 use Rattle.sap_tree.proofs.Views.{state_of-out}
 use Rattle.sap_check.specs.declared.point.Point.{Point}
-use Rattle.sap_check.specs.Points.{point, command_points, block_points, else_points, state_points, points_of}
-use Rattle.sap_check.specs.Lists.{list_points, group_points}
+use Rattle.sap_check.specs.Points.{point, simple_points, command_points, block_points, else_points, state_points, points_of}
+use Rattle.sap_check.specs.Points as points
+use Rattle.sap_check.specs.Lists.{list_points, arms_points, group_points}
 
 -- one part, and those behind it
 after_part : (old new part rest all : List Point) → new ≡ old ++ part → all ≡ part ++ rest → new ++ rest ≡ old ++ all
@@ -46,6 +49,33 @@ pub else_points-is : (b : Block) → else_points (else_of (Some b)) ≡ list_poi
 unfolding list_points
 else_points-is b = refl
 
+-- arms
+
+arms_points-drop : (arms : List Arm) (n : ℕ) (d : Arm) (cs : List Cmd) → n < length arms → d ≡ get_or arms n d → cs ≡ d.block.commands.items
+    → arms_points (drop n arms) ≡ list_points cs ++ arms_points (drop (n + 1) arms)
+unfolding arms_points list_points
+arms_points-drop [] n d cs l e f = absurd (omega arith)
+arms_points-drop (arm ∷ arms) zero d cs l e f =
+    ap (λ (a : Arm). block_points (arm_block_of a) ++ arms_points arms) (sym e) ∙ ap (λ (k : List Cmd). list_points k ++ arms_points arms) (sym f)
+arms_points-drop (arm ∷ arms) (suc n) d cs l e f = let r = arms_points-drop arms n d cs (omega arith) e f in simp (add-one) (simp (add-one) at r)
+
+pub arms_points-past : (arms : List Arm) (n : ℕ) → length arms ≤ n → arms_points (drop n arms) ≡ []
+unfolding arms_points
+arms_points-past [] zero l = refl
+arms_points-past [] (suc n) l = refl
+arms_points-past (arm ∷ arms) zero l = absurd (omega arith)
+arms_points-past (arm ∷ arms) (suc n) l = arms_points-past arms n (omega arith)
+
+pub arms_step : (arms : List Arm) (n : ℕ) (d : Arm) (cs : List Cmd) (old new : List Point) → n < length arms → d ≡ get_or arms n d → cs ≡ d.block.commands.items → new ≡ old ++ list_points cs
+    → new ++ arms_points (drop (n + 1) arms) ≡ old ++ arms_points (drop n arms)
+arms_step arms n d cs old new l e f k = after_part old new _ _ _ k (arms_points-drop arms n d cs l e f)
+
+arms_points-of : (arms : List Arm) (last : Block) → points.arms_points (arms_of arms (block_of last)) ≡ arms_points arms ++ list_points last.commands.items
+unfolding arms_points list_points
+arms_points-of [] last = refl
+arms_points-of (arm ∷ arms) last =
+    ap (λ (l : List Point). block_points (arm_block_of arm) ++ l) (arms_points-of arms last) ∙ sym (append_assoc (block_points (arm_block_of arm)) (arms_points arms) (list_points last.commands.items))
+
 group_points-drop : (ss : List State) (n : ℕ) (d : State) → n < length ss → d ≡ get_or ss n d
     → group_points (drop n ss) ≡ state_points (state_of d) ++ group_points (drop (n + 1) ss)
 unfolding group_points
@@ -68,10 +98,10 @@ pub state_points-is : (s : State) → state_points (state_of s) ≡ list_points 
 unfolding list_points group_points
 state_points-is s = ap (λ (t : StateTree). state_points t) (state_of-out s)
 
-pub points_whole : (ds : List Decl) (ss : List State) (old new : List Point) (seen : List State) → seen ≡ ss → old ≡ [] → new ≡ old ++ group_points seen
-    → new ≡ points_of (tree_of ds ss)
+pub points_whole : (v : Version) (ds : List Decl) (ss : List State) (old new : List Point) (seen : List State) → seen ≡ ss → old ≡ [] → new ≡ old ++ group_points seen
+    → new ≡ points_of (tree_of v ds ss)
 unfolding group_points
-points_whole ds ss old new seen b c h = h ∙ rw (b, c) refl
+points_whole v ds ss old new seen b c h = h ∙ rw (b, c) refl
 
 append_none : (l : List Point) → l ++ [] ≡ l
 append_none l = grind (arith, common_steps)
@@ -79,6 +109,9 @@ append_none l = grind (arith, common_steps)
 -- at the end nothing is left
 pub list_end : (cs : List Cmd) (n : ℕ) (new all : List Point) → length cs ≤ n → new ++ list_points (drop n cs) ≡ all → new ≡ all
 list_end cs n new all l h = sym (append_none new) ∙ ap (λ (r : List Point). new ++ r) (sym (list_points-past cs n l)) ∙ h
+
+pub arms_end : (arms : List Arm) (n : ℕ) (new all : List Point) → length arms ≤ n → new ++ arms_points (drop n arms) ≡ all → new ≡ all
+arms_end arms n new all l h = sym (append_none new) ∙ ap (λ (r : List Point). new ++ r) (sym (arms_points-past arms n l)) ∙ h
 
 pub group_end : (ss : List State) (n : ℕ) (new all : List Point) → length ss ≤ n → new ++ group_points (drop n ss) ≡ all → new ≡ all
 group_end ss n new all l h = sym (append_none new) ∙ ap (λ (r : List Point). new ++ r) (sym (group_points-past ss n l)) ∙ h
@@ -99,7 +132,37 @@ if_points c x place one list other old first second new h e a b d =
     ∙ ap (λ (l : List Point). old ++ l) (append_assoc p (list_points one.commands.items) (else_points other)) in
     rw (d, b, a, e, all, h, if_whole x place one other) refl
 
-pub ruleset lists = (list_points-past, group_points-past)
+then_whole : (k : SimpleCommand) (place : Place) (a b : Block)
+    → command_points (TryThen k place (block_of a) (block_of b)) ≡ simple_points k ++ ((point kind.Then place ∷ []) ++ (list_points a.commands.items ++ list_points b.commands.items))
+unfolding list_points
+then_whole k place a b = refl
+
+pub then_points : (c : Command) (k : SimpleCommand) (place : Place) (a b : Block) (la lb : List Cmd) (old first second third new : List Point)
+    → c ≡ TryThen k place (block_of a) (block_of b) → la ≡ a.commands.items → lb ≡ b.commands.items → first ≡ old ++ simple_points k → second ≡ first ++ point kind.Then place ∷ []
+    → third ≡ second ++ list_points la → new ≡ third ++ list_points lb → new ≡ old ++ command_points c
+then_points c k place a b la lb old first second third new h e f i j m n =
+    let s = simple_points k in
+    let p = point kind.Then place ∷ [] in
+    let l = list_points a.commands.items in
+    let r = list_points b.commands.items in
+    n ∙ ap (λ (cs : List Cmd). third ++ list_points cs) f
+    ∙ ap (λ (t : List Point). t ++ r) (m ∙ ap (λ (cs : List Cmd). second ++ list_points cs) e ∙ ap (λ (t : List Point). t ++ l) (j ∙ ap (λ (t : List Point). t ++ p) i))
+    ∙ append_assoc ((old ++ s) ++ p) l r ∙ append_assoc (old ++ s) p (l ++ r) ∙ append_assoc old s (p ++ (l ++ r))
+    ∙ ap (λ (t : List Point). old ++ t) (sym (then_whole k place a b)) ∙ ap (λ (x : Command). old ++ command_points x) (sym h)
+
+pub case_points : (c : Command) (place : Place) (x : Expression) (arms : List Arm) (last : Block) (la : List Arm) (lb : List Cmd) (old first second new : List Point)
+    → c ≡ Case place x (arms_of arms (block_of last)) → la ≡ arms → lb ≡ last.commands.items → first ≡ old ++ point kind.Case place ∷ [] → second ≡ first ++ arms_points la
+    → new ≡ second ++ list_points lb → new ≡ old ++ command_points c
+case_points c place x arms last la lb old first second new h e f i j n =
+    let p = point kind.Case place ∷ [] in
+    let l = arms_points arms in
+    let r = list_points last.commands.items in
+    n ∙ ap (λ (cs : List Cmd). second ++ list_points cs) f
+    ∙ ap (λ (t : List Point). t ++ r) (j ∙ ap (λ (xs : List Arm). first ++ arms_points xs) e ∙ ap (λ (t : List Point). t ++ l) i)
+    ∙ append_assoc (old ++ p) l r ∙ append_assoc old p (l ++ r)
+    ∙ ap (λ (t : List Point). old ++ (p ++ t)) (sym (arms_points-of arms last)) ∙ ap (λ (y : Command). old ++ command_points y) (sym h)
+
+pub ruleset lists = (list_points-past, arms_points-past, group_points-past)
 
 pub ruleset blocks = (block_points-is, else_points-is, append_assoc)
 

@@ -1,19 +1,22 @@
 -- The sites of lists of commands and of states, from a place on.
 use Rattle.std.proofs.Common.{◌≡◌, ℕ, zero, suc, ◌+◌, ◌<◌, ◌≤◌, List, [], ◌∷◌, ◌++◌, length, get_or, drop, refl, sym, ap, ◌∙◌, arith, add-one, append_assoc, Some}
 use Rattle.sap_tree.specs.declared.syntax.Block.{Block}
+use Rattle.sap_tree.specs.declared.syntax.Arm.{Arm}
 use Rattle.sap_tree.specs.declared.syntax.Cmd.{Cmd}
 use Rattle.sap_tree.specs.declared.syntax.State.{State, out-State}
 use Rattle.sap_tree.specs.declared.syntax.Decl.{Decl}
 use Rattle.sap_tree.specs.Parts.{tree_of}
+use Rattle.sap_tree.specs.declared.version.Version.{Version}
 use Rattle.sap_names.specs.Entities.{entities_of}
 use Rattle.std.proofs.lemmas.Grind.{common_steps}
 use Rattle.sap_tree.specs.Syntax.{StateTree}
-use Rattle.sap_tree.specs.Trees.{command_of, block_of, else_of, state_of, states_of}
+use Rattle.sap_tree.specs.Trees.{command_of, block_of, arm_block_of, arms_of, else_of, state_of, states_of}
 use Rattle.sap_tree.proofs.Views.{state_of-out}
 use Rattle.sap_names.specs.declared.entity.Entity.{Entity}
 use Rattle.sap_check.specs.declared.site.Site.{Site}
 use Rattle.sap_check.specs.Sites.{Home, command_sites, block_sites, else_sites, state_sites, sites_of}
-use Rattle.sap_check.specs.Lists.{list_sites, group_sites}
+use Rattle.sap_check.specs.Sites as sites
+use Rattle.sap_check.specs.Lists.{list_sites, arms_sites, group_sites}
 
 -- one part, and those behind it
 pub after_part : (old new part rest all : List Site) → new ≡ old ++ part → all ≡ part ++ rest → new ++ rest ≡ old ++ all
@@ -38,6 +41,31 @@ module _ (h : Home) where
   pub sites_step : (cs : List Cmd) (n : ℕ) (d : Cmd) (old new : List Site) → n < length cs → d ≡ get_or cs n d → new ≡ old ++ command_sites h (command_of d)
       → new ++ list_sites h (drop (n + 1) cs) ≡ old ++ list_sites h (drop n cs)
   sites_step cs n d old new l e k = after_part old new _ _ _ k (list_sites-drop cs n d l e)
+
+  arms_sites-drop : (arms : List Arm) (n : ℕ) (d : Arm) (cs : List Cmd) → n < length arms → d ≡ get_or arms n d → cs ≡ d.block.commands.items
+      → arms_sites h (drop n arms) ≡ list_sites h cs ++ arms_sites h (drop (n + 1) arms)
+  unfolding arms_sites list_sites
+  arms_sites-drop [] n d cs l e f = absurd (omega arith)
+  arms_sites-drop (arm ∷ arms) zero d cs l e f =
+      ap (λ (a : Arm). block_sites h (arm_block_of a) ++ arms_sites h arms) (sym e) ∙ ap (λ (k : List Cmd). list_sites h k ++ arms_sites h arms) (sym f)
+  arms_sites-drop (arm ∷ arms) (suc n) d cs l e f = let r = arms_sites-drop arms n d cs (omega arith) e f in simp (add-one) (simp (add-one) at r)
+
+  pub arms_sites-past : (arms : List Arm) (n : ℕ) → length arms ≤ n → arms_sites h (drop n arms) ≡ []
+  unfolding arms_sites
+  arms_sites-past [] zero l = refl
+  arms_sites-past [] (suc n) l = refl
+  arms_sites-past (arm ∷ arms) zero l = absurd (omega arith)
+  arms_sites-past (arm ∷ arms) (suc n) l = arms_sites-past arms n (omega arith)
+
+  pub arms_step : (arms : List Arm) (n : ℕ) (d : Arm) (cs : List Cmd) (old new : List Site) → n < length arms → d ≡ get_or arms n d → cs ≡ d.block.commands.items → new ≡ old ++ list_sites h cs
+      → new ++ arms_sites h (drop (n + 1) arms) ≡ old ++ arms_sites h (drop n arms)
+  arms_step arms n d cs old new l e f k = after_part old new _ _ _ k (arms_sites-drop arms n d cs l e f)
+
+  pub arms_sites-of : (arms : List Arm) (last : Block) → sites.arms_sites h (arms_of arms (block_of last)) ≡ arms_sites h arms ++ list_sites h last.commands.items
+  unfolding arms_sites list_sites
+  arms_sites-of [] last = refl
+  arms_sites-of (arm ∷ arms) last =
+      ap (λ (l : List Site). block_sites h (arm_block_of arm) ++ l) (arms_sites-of arms last) ∙ sym (append_assoc (block_sites h (arm_block_of arm)) (arms_sites h arms) (list_sites h last.commands.items))
 
   pub block_sites-is : (b : Block) → block_sites h (block_of b) ≡ list_sites h b.commands.items
   unfolding list_sites
@@ -73,10 +101,10 @@ module _ (es : List Entity) where
   unfolding list_sites group_sites
   state_sites-is s = ap (λ (t : StateTree). state_sites es t) (state_of-out s)
 
-pub sites_whole : (ds : List Decl) (ss : List State) (es : List Entity) (old new : List Site) (seen : List State) → es ≡ entities_of (tree_of ds ss) → seen ≡ ss
-    → old ≡ [] → new ≡ old ++ group_sites es seen → new ≡ sites_of (tree_of ds ss)
+pub sites_whole : (v : Version) (ds : List Decl) (ss : List State) (es : List Entity) (old new : List Site) (seen : List State) → es ≡ entities_of (tree_of v ds ss) → seen ≡ ss
+    → old ≡ [] → new ≡ old ++ group_sites es seen → new ≡ sites_of (tree_of v ds ss)
 unfolding group_sites
-sites_whole ds ss es old new seen a b c h = h ∙ rw (a, b, c) refl
+sites_whole v ds ss es old new seen a b c h = h ∙ rw (a, b, c) refl
 
 append_none : (l : List Site) → l ++ [] ≡ l
 append_none l = grind (arith, common_steps)
@@ -85,11 +113,14 @@ append_none l = grind (arith, common_steps)
 pub list_end : (h : Home) (cs : List Cmd) (n : ℕ) (new all : List Site) → length cs ≤ n → new ++ list_sites h (drop n cs) ≡ all → new ≡ all
 list_end h cs n new all l e = sym (append_none new) ∙ ap (λ (r : List Site). new ++ r) (sym (list_sites-past h cs n l)) ∙ e
 
+pub arms_end : (h : Home) (arms : List Arm) (n : ℕ) (new all : List Site) → length arms ≤ n → new ++ arms_sites h (drop n arms) ≡ all → new ≡ all
+arms_end h arms n new all l e = sym (append_none new) ∙ ap (λ (r : List Site). new ++ r) (sym (arms_sites-past h arms n l)) ∙ e
+
 pub group_end : (es : List Entity) (ss : List State) (n : ℕ) (new all : List Site) → length ss ≤ n → new ++ group_sites es (drop n ss) ≡ all → new ≡ all
 group_end es ss n new all l e = sym (append_none new) ∙ ap (λ (r : List Site). new ++ r) (sym (group_sites-past es ss n l)) ∙ e
 
-pub ruleset lists = (list_sites-past, group_sites-past)
+pub ruleset lists = (list_sites-past, arms_sites-past, group_sites-past)
 
-pub ruleset blocks = (block_sites-is, else_sites-is, append_assoc)
+pub ruleset blocks = (block_sites-is, else_sites-is, arms_sites-of, append_assoc)
 
 pub ruleset states = (state_sites-is, append_assoc)

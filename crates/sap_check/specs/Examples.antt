@@ -2,6 +2,7 @@
 use Rattle.std.specs.Prelude.{◌≡◌, ℕ, [], ◌∷◌, Some, codes}
 use Rattle.sap_tree.specs.declared.syntax.Decl.TheVariants.{Register}
 use Rattle.sap_tree.specs.Syntax.{Read, Assign, Goto, Fall, Command, Do, Try, If, CommandBlock, Else, StateOf, NoState, AndState, DesignTree, AndCommand, NoCommand}
+use Rattle.sap_tree.specs.declared.version.Version.TheVariants.{One}
 use Rattle.sap_check.specs.declared.point.PointKind.TheVariants as points
 use Rattle.sap_check.specs.declared.site.Site.{Site}
 use Rattle.sap_check.specs.declared.site.SiteKind.{SiteKind}
@@ -28,6 +29,7 @@ choosing = If (at 30) (Read (spot 34) (codes "x")) assigning (Else leaving)
 -- reg x : 1 enforced low = START; state S enforced low { .. }
 abbrev pub small : ℕ → DesignTree
 small start = record {
+  version = One;
   declarations = Register (at 1) (named 5 (codes "x")) (record { place = at 9; value = 1 }) low (Some (record { place = at 21; value = start })) ∷ [];
   states = AndState (leaf (codes "S") low (one 90 choosing)) NoState;
 }
@@ -41,6 +43,7 @@ SmallPoints = points_of (small 0) ≡ point points.If (at 30) ∷ point points.O
 -- state P enforced low { fall otherwise { goto P; } state S enforced low { goto S; } }
 abbrev pub nested : DesignTree
 nested = record {
+  version = One;
   declarations = [];
   states = AndState
       (StateOf (at 1) (named 7 (codes "P")) low (one 60 (Try (Fall (at 25)) (at 30) (one 50 (Do (Goto (at 42) (named 47 (codes "P")))))))

@@ -1,8 +1,9 @@
 -- The sites and points of lists of commands and of states.
-use Rattle.std.specs.Prelude.{List}
+use Rattle.std.specs.Prelude.{List, [], ◌∷◌, ◌++◌}
+use Rattle.sap_tree.specs.declared.syntax.Arm.{Arm}
 use Rattle.sap_tree.specs.declared.syntax.Cmd.{Cmd}
 use Rattle.sap_tree.specs.declared.syntax.State.{State}
-use Rattle.sap_tree.specs.Trees.{commands_of, states_of}
+use Rattle.sap_tree.specs.Trees.{arm_block_of, commands_of, states_of}
 use Rattle.sap_names.specs.declared.entity.Entity.{Entity}
 use Rattle.sap_check.specs.declared.body.Body.{Body}
 use Rattle.sap_check.specs.declared.point.Point.{Point}
@@ -25,3 +26,13 @@ list_points cs = points.list_points (commands_of cs)
 
 unfoldable pub group_points : List State → List Point
 group_points states = points.states_points (states_of states)
+
+-- the arms of a `case`, without the block after `else`
+
+unfoldable pub arms_sites : Home → List Arm → List Site
+arms_sites h [] = []
+arms_sites h (arm ∷ arms) = sites.block_sites h (arm_block_of arm) ++ arms_sites h arms
+
+unfoldable pub arms_points : List Arm → List Point
+arms_points [] = []
+arms_points (arm ∷ arms) = points.block_points (arm_block_of arm) ++ arms_points arms

@@ -1,7 +1,7 @@
--- The points of a design: each `if`, `otherwise` and `fall`, in the order of these words.
+-- The points of a design: each `if`, `otherwise`, `fall`, `then` and `case`, in the order of these words. The `otherwise` of a `then` is none.
 use Rattle.std.specs.Prelude.{List, [], ◌∷◌, ◌++◌}
 use Rattle.sap_tree.specs.declared.place.Place.{Place}
-use Rattle.sap_tree.specs.Syntax.{SimpleCommand, Assign, Write, SetTag, SetCellTag, Goto, Fall, Command, Do, Try, If, CommandBlock, Commands, ElseBlock, NoElse, Else, CommandList, NoCommand, AndCommand, StateTree, StateOf, StateList, NoState, AndState, DesignTree}
+use Rattle.sap_tree.specs.Syntax.{SimpleCommand, Assign, Write, SetTag, SetCellTag, Goto, Fall, Command, Do, Try, If, TryThen, Case, Arms, Last, Arm, CommandBlock, Commands, ElseBlock, NoElse, Else, CommandList, NoCommand, AndCommand, StateTree, StateOf, StateList, NoState, AndState, DesignTree}
 use Rattle.sap_check.specs.declared.point.Point.{Point}
 use Rattle.sap_check.specs.declared.point.PointKind.{PointKind}
 use Rattle.sap_check.specs.declared.point.PointKind.TheVariants as kind
@@ -22,6 +22,8 @@ abbrev mutual
   command_points (Do k) = simple_points k
   command_points (Try k place handler) = simple_points k ++ point kind.Otherwise place ∷ block_points handler
   command_points (If place condition then_block else_block) = point kind.If place ∷ block_points then_block ++ else_points else_block
+  command_points (TryThen k place accepted refused) = simple_points k ++ point kind.Then place ∷ (block_points accepted ++ block_points refused)
+  command_points (Case place e arms) = point kind.Case place ∷ arms_points arms
 
   pub block_points : CommandBlock → List Point
   block_points (Commands cs after) = list_points cs
@@ -29,6 +31,10 @@ abbrev mutual
   pub else_points : ElseBlock → List Point
   else_points NoElse = []
   else_points (Else b) = block_points b
+
+  pub arms_points : Arms → List Point
+  arms_points (Last b) = block_points b
+  arms_points (Arm constants b arms) = block_points b ++ arms_points arms
 
   pub list_points : CommandList → List Point
   list_points NoCommand = []

@@ -3,7 +3,7 @@
 use Rattle.std.specs.Prelude.{ℕ, List, [], ◌∷◌, ◌++◌, if◌then◌else◌, unwrap_or}
 use Rattle.sap_tree.specs.declared.place.Place.{Place}
 use Rattle.sap_tree.specs.declared.syntax.Kind.{Kind}
-use Rattle.sap_tree.specs.Syntax.{SimpleCommand, Assign, Write, SetTag, SetCellTag, Goto, Fall, Command, Do, Try, If, CommandBlock, Commands, ElseBlock, NoElse, Else, CommandList, NoCommand, AndCommand, StateTree, StateOf, StateList, NoState, AndState, DesignTree}
+use Rattle.sap_tree.specs.Syntax.{SimpleCommand, Assign, Write, SetTag, SetCellTag, Goto, Fall, Command, Do, Try, If, TryThen, Case, Arms, Last, Arm, CommandBlock, Commands, ElseBlock, NoElse, Else, CommandList, NoCommand, AndCommand, StateTree, StateOf, StateList, NoState, AndState, DesignTree}
 use Rattle.sap_names.specs.declared.entity.Entity.{Entity}
 use Rattle.sap_names.specs.Entities.{entities_of, number_of}
 use Rattle.sap_shape.specs.Sites.{is_site}
@@ -59,6 +59,8 @@ abbrev mutual
   command_sites h (Do k) = simple_sites h k
   command_sites h (Try k place handler) = simple_sites h k ++ block_sites h handler
   command_sites h (If place condition then_block else_block) = block_sites h then_block ++ else_sites h else_block
+  command_sites h (TryThen k place accepted refused) = simple_sites h k ++ (block_sites h accepted ++ block_sites h refused)
+  command_sites h (Case place e arms) = arms_sites h arms
 
   pub block_sites : Home → CommandBlock → List Site
   block_sites h (Commands cs after) = list_sites h cs
@@ -66,6 +68,10 @@ abbrev mutual
   pub else_sites : Home → ElseBlock → List Site
   else_sites h NoElse = []
   else_sites h (Else b) = block_sites h b
+
+  pub arms_sites : Home → Arms → List Site
+  arms_sites h (Last b) = block_sites h b
+  arms_sites h (Arm constants b arms) = block_sites h b ++ arms_sites h arms
 
   pub list_sites : Home → CommandList → List Site
   list_sites h NoCommand = []

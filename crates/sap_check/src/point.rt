@@ -8,9 +8,11 @@ pub enum PointKind {
     If,
     Otherwise,
     Fall,
+    Then,
+    Case,
 }
 
-/// An `if`, `otherwise` or `fall`, and its place.
+/// An `if`, `otherwise`, `fall`, `then` or `case`, and its place.
 #[derive(Clone, Copy, PartialEq, Eq, Debug)]
 pub struct Point {
     pub kind: PointKind,

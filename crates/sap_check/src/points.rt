@@ -7,7 +7,7 @@ ghost use Rattle.sap_tree.specs.Trees.{command_of, else_of, simple_of, state_of}
 
 use crate::point::{Point, PointKind};
 use sap_tree::place::Place;
-use sap_tree::syntax::{Block, Cmd, Simple, State};
+use sap_tree::syntax::{Arm, Block, Cmd, Simple, State};
 use std::alloc::AllocError;
 
 fn add_point(kind: PointKind, place: Place, points: &mut Vec<Point>) -> Result<(), AllocError>
@@ -44,7 +44,32 @@ fn add_command(command: &Cmd, points: &mut Vec<Point>) -> Result<(), AllocError>
             add_point(PointKind::Otherwise, *place, points)?;
             add_list(handler.commands.as_slice(), points)
         }
+        Cmd::TryThen(simple, place, accepted, refused) => {
+            add_simple(simple, points)?;
+            add_point(PointKind::Then, *place, points)?;
+            add_list(accepted.commands.as_slice(), points)?;
+            add_list(refused.commands.as_slice(), points)?;
+            Ok(())
+        }
+        Cmd::Case(place, _, arms, last) => {
+            add_point(PointKind::Case, *place, points)?;
+            add_arms(arms.as_slice(), points)?;
+            add_list(last.commands.as_slice(), points)?;
+            Ok(())
+        }
     }
+}
+
+/// The arms of a `case`, without the block after `else`.
+#[cycle(body)]
+#[tactic(auto, using(crate::proofs::PointLists::lists))]
+fn add_arms(arms: &[Arm], points: &mut Vec<Point>) -> Result<(), AllocError>
+    ensures { OnOk result (points.new.items ≡ points.old.items ++ lists.arms_points arms.now) }
+{
+    for arm in arms {
+        add_list(arm.block.commands.as_slice(), points)?;
+    }
+    Ok(())
 }
 
 #[cycle(body)]

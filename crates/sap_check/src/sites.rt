@@ -12,7 +12,7 @@ use sap_names::table::Names;
 use sap_shape::sites::is_site;
 use sap_tree::name::Name;
 use sap_tree::place::Place;
-use sap_tree::syntax::{Block, Cmd, Simple, State};
+use sap_tree::syntax::{Arm, Block, Cmd, Simple, State};
 use std::alloc::AllocError;
 
 fn entity_number(names: &Names, name: &Name) -> u32
@@ -99,7 +99,33 @@ fn add_command(
             add_list(names, body, one.commands.as_slice(), sites)?;
             add_else(names, body, other, sites)
         }
+        Cmd::TryThen(simple, _, accepted, refused) => {
+            add_simple(names, body, simple, sites)?;
+            add_list(names, body, accepted.commands.as_slice(), sites)?;
+            add_list(names, body, refused.commands.as_slice(), sites)
+        }
+        Cmd::Case(_, _, arms, last) => {
+            add_arms(names, body, arms.as_slice(), sites)?;
+            add_list(names, body, last.commands.as_slice(), sites)
+        }
     }
+}
+
+/// The arms of a `case`, without the block after `else`.
+#[cycle(body)]
+#[tactic(auto, using(crate::proofs::SiteLists::lists))]
+fn add_arms(
+    names: &Names,
+    body: &Body<'_>,
+    arms: &[Arm],
+    sites: &mut Vec<Site>,
+) -> Result<(), AllocError>
+    ensures { OnOk result (sites.new.items ≡ sites.old.items ++ lists.arms_sites (home_of names.now body.now) arms.now) }
+{
+    for arm in arms {
+        add_list(names, body, arm.block.commands.as_slice(), sites)?;
+    }
+    Ok(())
 }
 
 #[cycle(body)]

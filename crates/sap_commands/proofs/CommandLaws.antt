@@ -9,11 +9,11 @@ use Rattle.sap_stim.specs.declared.fault.StimFault.{StimFault}
 use Rattle.sap_stream.specs.declared.apart.Apart.{Apart}
 use Rattle.sap_stream.proofs.Agreeing.{at_most_one}
 use Rattle.sap_commands.specs.Ending.{Ending, Refusal, done, refused, failed, no_memory, status_of, status_of_refusal, IsFree}
-use Rattle.sap_commands.specs.Kinds.{IsLawful, any_file, design_file, design_text_file, lattice_file, module_file, stream_file}
+use Rattle.sap_commands.specs.Kinds.{IsLawful, design_file, design_text_file, lattice_file, module_file, stream_file}
 use Rattle.sap_commands.specs.Twin.{IsVerdict}
 use Rattle.sap_words.specs.Words.{Words, IsTwin, compile, run, trace, fmt, sim, report, twin, gen, command_of}
-use Rattle.sap_commands.specs.Asks.{Asks, file, by, AreLawful, MayEnd}
-use Rattle.sap_commands.specs.Commands.{OneOutput, asks, asks_for, asks_if, at_level, compared, end_of}
+use Rattle.sap_commands.specs.Asks.{Asks, file, by, AreLawful, MayEnd, end_of}
+use Rattle.sap_commands.specs.Commands.{OneOutput, asks, asks_for, asks_if, at_level, compared}
 use Rattle.sap_commands.proofs.Lattices.{lattice_lawful}
 use Rattle.sap_commands.proofs.Designs.{design_lawful, text_lawful}
 use Rattle.sap_commands.proofs.Modules.{module_lawful}
@@ -21,13 +21,6 @@ use Rattle.sap_commands.proofs.Netlists.{module_netlist}
 use Rattle.sap_commands.proofs.NetsAlike.{one_rows}
 use Rattle.sap_commands.proofs.Streams.{stream_lawful}
 use Rattle.sap_commands.proofs.Lawful.{one_text}
-
-any_lawful : IsLawful any_file
-any_lawful = record {
-  one_value = λ bytes v w is was. is ∙ sym was;
-  one_status = λ bytes why other is was. absurd is;
-  not_both = λ bytes v why stands is. is;
-}
 
 -- two streams
 
@@ -61,12 +54,12 @@ lawful_streams ls first second word d l = (
 lawful : (c : Words) → AreLawful (asks c)
 lawful (compile lattice design out) = (lattice_lawful, λ bytes ls a. (design_lawful ls, λ source d b. tt))
 lawful (run lattice design stimulus) =
-    (lattice_lawful, λ bytes ls a. (design_lawful ls, λ source d b. (any_lawful, λ found kept is text other x y. x.1.text ∙ sym y.1.text)))
+    (lattice_lawful, λ bytes ls a. (design_lawful ls, λ source d b. λ found text other x y. x.1.text ∙ sym y.1.text))
 lawful (trace lattice design stimulus) =
-    (lattice_lawful, λ bytes ls a. (design_lawful ls, λ source d b. (any_lawful, λ found kept is text other x y. x.1.text ∙ sym y.1.text)))
+    (lattice_lawful, λ bytes ls a. (design_lawful ls, λ source d b. λ found text other x y. x.1.text ∙ sym y.1.text))
 lawful (fmt design) = (text_lawful, λ source d a text other x y. x ∙ sym y)
 lawful (sim lattice verilog stimulus) =
-    (lattice_lawful, λ bytes ls a. (module_lawful, λ text net b. (any_lawful, λ found kept is. one_rows ls net (module_netlist text net b) kept)))
+    (lattice_lawful, λ bytes ls a. (module_lawful, λ text net b. λ found. one_rows ls net (module_netlist text net b) found))
 lawful (report lattice design) = (lattice_lawful, λ bytes ls a. (design_lawful ls, λ source d b text other x y. x ∙ sym y))
 lawful (twin lattice design first second level) = (
   lattice_lawful,
@@ -117,18 +110,15 @@ two_twin (compile lattice design out) e (inr (bytes, ls, a, inl (source, why, is
 two_twin (compile lattice design out) e (inr (bytes, ls, a, inr (source, d, b, is))) two = absurd (is_done e is two)
 two_twin (run lattice design stimulus) e (inl (bytes, why, is, r)) two = absurd (lattice_two e bytes why is r two)
 two_twin (run lattice design stimulus) e (inr (bytes, ls, a, inl (source, why, is, r))) two = absurd (design_two ls e source why is r two)
-two_twin (run lattice design stimulus) e (inr (bytes, ls, a, inr (source, d, b, inl (lines, why, is, r)))) two = absurd r
-two_twin (run lattice design stimulus) e (inr (bytes, ls, a, inr (source, d, b, inr (lines, kept, h, is)))) two = absurd (rows_end _ e is two)
+two_twin (run lattice design stimulus) e (inr (bytes, ls, a, inr (source, d, b, (fault, is)))) two = absurd (rows_end fault e is two)
 two_twin (trace lattice design stimulus) e (inl (bytes, why, is, r)) two = absurd (lattice_two e bytes why is r two)
 two_twin (trace lattice design stimulus) e (inr (bytes, ls, a, inl (source, why, is, r))) two = absurd (design_two ls e source why is r two)
-two_twin (trace lattice design stimulus) e (inr (bytes, ls, a, inr (source, d, b, inl (lines, why, is, r)))) two = absurd r
-two_twin (trace lattice design stimulus) e (inr (bytes, ls, a, inr (source, d, b, inr (lines, kept, h, is)))) two = absurd (rows_end _ e is two)
+two_twin (trace lattice design stimulus) e (inr (bytes, ls, a, inr (source, d, b, (fault, is)))) two = absurd (rows_end fault e is two)
 two_twin (fmt design) e (inl (source, why, is, r)) two = absurd (text_two e source why is r two)
 two_twin (fmt design) e (inr (source, d, a, is)) two = absurd (is_done e is two)
 two_twin (sim lattice verilog stimulus) e (inl (bytes, why, is, r)) two = absurd (lattice_two e bytes why is r two)
 two_twin (sim lattice verilog stimulus) e (inr (bytes, ls, a, inl (text, why, is, r))) two = absurd (module_two e text why is r two)
-two_twin (sim lattice verilog stimulus) e (inr (bytes, ls, a, inr (text, net, b, inl (lines, why, is, r)))) two = absurd r
-two_twin (sim lattice verilog stimulus) e (inr (bytes, ls, a, inr (text, net, b, inr (lines, kept, h, is)))) two = absurd (rows_end _ e is two)
+two_twin (sim lattice verilog stimulus) e (inr (bytes, ls, a, inr (text, net, b, (fault, is)))) two = absurd (rows_end fault e is two)
 two_twin (report lattice design) e (inl (bytes, why, is, r)) two = absurd (lattice_two e bytes why is r two)
 two_twin (report lattice design) e (inr (bytes, ls, a, inl (source, why, is, r))) two = absurd (design_two ls e source why is r two)
 two_twin (report lattice design) e (inr (bytes, ls, a, inr (source, d, b, is))) two = absurd (is_done e is two)

@@ -2,16 +2,16 @@
 use Rattle.std.proofs.Common.{◌≡◌, ◌≢◌, ◌≤◌, ℕ, List, [], length, take, refl, sym, ◌∙◌, ap, subst, inl, inr, ◌⊎◌, arith, length-take}
 use Rattle.std.specs.Prelude.{Option, Some, None, IfSome, Bool, cond, unwrap_or}
 use Rattle.std.proofs.lemmas.List.{append-nil, take_all}
-use Rattle.sap_desk.specs.Desk.{Told}
+use Rattle.sap_desk.specs.Desk.{Told, Use}
 use Rattle.sap_desk.specs.Cause.{counted}
 use Rattle.sap_desk.specs.Whole.{Between, FailedWriting, FillsFile}
 use Rattle.sap_maps.proofs.Scopes.{same_name}
 use Rattle.sap_commands.specs.Ending.{Ending, Refusal, done, refused, failed, no_memory, IsFree}
 use Rattle.sap_commands.specs.Kinds.{Kind, Has, IsRefused}
-use Rattle.sap_commands.specs.Asks.{Asks, file, by, gives, writes, stops, Cause, Files, IsCut, IsOutput, IsPrefix, Leaves, Output, Shows}
+use Rattle.sap_commands.specs.Asks.{Asks, file, by, gives, prints, writes, stops, Cause, Files, IsCut, IsOutput, IsPrefix, Leaves, Output, Shows, Starved}
 use Rattle.sap_commands.specs.Outside.{FullFile}
-use Rattle.sap_commands.specs.After.{Blames}
-use Rattle.sap_commands.specs.Steps.{Counted, Ends, FaultRose, Left, Moment, NotRead, Quiet, Reads, Refuses, Same, Stops}
+use Rattle.sap_commands.specs.After.{Blames, Opens, OpensFailed}
+use Rattle.sap_commands.specs.Steps.{Counted, Ends, FaultRose, Left, Moment, NotRead, OpensUnread, Quiet, Reads, Refuses, Same, Stops}
 
 pub whole_prefix : (text : List ℕ) → IsPrefix text text
 whole_prefix text = (length text, omega arith, sym (take_all (length text) text (omega arith)))
@@ -57,6 +57,15 @@ module _ (name : List ℕ) (k : Kind) (rest : k.Value → Asks) (v : k.Value) (t
   cut_past gained (inl none) = inl none
   cut_past gained (inr (text, (e, shows), prefix)) = inr (text, (e, inr (v, has, shows)), prefix)
 
+  starved_past : (gained : List ℕ) → Starved (rest v) t gained → Starved (file name k rest) t gained
+  starved_past gained h = inr (v, has, h)
+
+  opens_past : (e : Ending) (before after : ℕ → Use) → Opens (rest v) t e before after → Opens (file name k rest) t e before after
+  opens_past done before after h = h
+  opens_past (refused why) before after h = h
+  opens_past (failed blamed) before after h = inr (v, has, h)
+  opens_past no_memory before after h = h
+
   leaves_past : (e : Ending) (files : Files) → Leaves (rest v) t files e → Leaves (file name k rest) t files e
   leaves_past done files h = (v, has, h)
   leaves_past (refused why) files h = h
@@ -67,7 +76,7 @@ module _ (name : List ℕ) (k : Kind) (rest : k.Value → Asks) (v : k.Value) (t
   shows_past done gained h = inr (v, has, h)
   shows_past (refused why) gained h = inr (v, has, h)
   shows_past (failed blamed) gained h = cut_past gained h
-  shows_past no_memory gained h = cut_past gained h
+  shows_past no_memory gained h = starved_past gained h
 
   left_past : (e : Ending) (F G : Type 0) (n : Told) → (F → G) → Left (rest v) e G t n → Left (file name k rest) e F t n
   left_past e F G n onward l = record {
@@ -76,7 +85,7 @@ module _ (name : List ℕ) (k : Kind) (rest : k.Value → Asks) (v : k.Value) (t
     output = l.output;
     shows = shows_past e l.gained l.shows;
     blames = l.blames;
-    opens = l.opens;
+    opens = opens_past e t.uses n.uses l.opens;
     same = l.same;
     cause = elim l.cause [ inl free ↦ inl free | inr cause ↦ inr (inr (v, has, cause)) ];
     outside = λ changed. inr (v, has, l.outside (onward changed));
@@ -110,6 +119,12 @@ module _ (V : Type 0) (Holds : V → Type 0) (rest : V → Asks) (v : V) (t : To
   cut_chosen gained (inl none) = inl none
   cut_chosen gained (inr (text, (e, shows), prefix)) = inr (text, (e, (v, holds, shows)), prefix)
 
+  opens_chosen : (e : Ending) (before after : ℕ → Use) → Opens (rest v) t e before after → Opens (by V Holds rest) t e before after
+  opens_chosen done before after h = h
+  opens_chosen (refused why) before after h = h
+  opens_chosen (failed blamed) before after h = (v, holds, h)
+  opens_chosen no_memory before after h = h
+
   leaves_chosen : (e : Ending) (files : Files) → Leaves (rest v) t files e → Leaves (by V Holds rest) t files e
   leaves_chosen done files h = (v, holds, h)
   leaves_chosen (refused why) files h = h
@@ -120,7 +135,7 @@ module _ (V : Type 0) (Holds : V → Type 0) (rest : V → Asks) (v : V) (t : To
   shows_chosen done gained h = (v, holds, h)
   shows_chosen (refused why) gained h = (v, holds, h)
   shows_chosen (failed blamed) gained h = cut_chosen gained h
-  shows_chosen no_memory gained h = cut_chosen gained h
+  shows_chosen no_memory gained h = inr (v, holds, h)
 
   left_chosen : (e : Ending) (F : Type 0) (n : Told) → Left (rest v) e F t n → Left (by V Holds rest) e F t n
   left_chosen e F n l = record {
@@ -129,7 +144,7 @@ module _ (V : Type 0) (Holds : V → Type 0) (rest : V → Asks) (v : V) (t : To
     output = l.output;
     shows = shows_chosen e l.gained l.shows;
     blames = l.blames;
-    opens = l.opens;
+    opens = opens_chosen e t.uses n.uses l.opens;
     same = l.same;
     cause = elim l.cause [ inl free ↦ inl free | inr cause ↦ inr (v, holds, cause) ];
     outside = λ changed. (v, holds, l.outside changed);
@@ -154,11 +169,26 @@ free_leaves a t files (refused why) free is = absurd free
 free_leaves a t files (failed name) free is = inl is
 free_leaves a t files no_memory free is = is
 
+pub starved_none : (a : Asks) (t : Told) → Starved a t []
+starved_none (file name k rest) t = inl refl
+starved_none (by V Holds rest) t = inl refl
+starved_none (gives text last) t = inl refl
+starved_none (prints name text fault) t = refl
+starved_none (writes name text) t = refl
+starved_none (stops why) t = refl
+
 free_shows : (a : Asks) (t : Told) (e : Ending) → IsFree e → Output a t [] e
 free_shows a t done free = absurd free
 free_shows a t (refused why) free = absurd free
 free_shows a t (failed name) free = inl refl
-free_shows a t no_memory free = inl refl
+free_shows a t no_memory free = starved_none a t
+
+unread_opens : (name : List ℕ) (k : Kind) (rest : k.Value → Asks) (t : Told) (e : Ending) (before after : ℕ → Use) → OpensUnread name e before after
+    → Opens (file name k rest) t e before after
+unread_opens name k rest t done before after h = h
+unread_opens name k rest t (refused why) before after h = h
+unread_opens name k rest t (failed blamed) before after h = inl h
+unread_opens name k rest t no_memory before after h = h
 
 not_read : (name : List ℕ) (k : Kind) (rest : k.Value → Asks) (e : Ending) (F : Type 0) (t n : Told) → IsFree e → NotRead k.most name e F t n
     → Left (file name k rest) e F t n
@@ -168,7 +198,7 @@ not_read name k rest e F t n free s = record {
   output = s.output ∙ sym (append-nil (t.written 1));
   shows = free_shows (file name k rest) t e free;
   blames = s.blames;
-  opens = s.opens;
+  opens = unread_opens name k rest t e t.uses n.uses s.opens;
   same = s.same;
   cause = inl free;
   outside = λ changed. inl (s.outside changed);
@@ -187,12 +217,12 @@ stopped {name = name} {k = k} {rest = rest} {e = e} {a = a} {b = b} s = record {
 
 -- want of memory, nothing being changed
 
-starved_left : (a : Asks) (F : Type 0) (t : Told) → (F → ⊥) → Left a no_memory F t t
+pub starved_left : (a : Asks) (F : Type 0) (t : Told) → (F → ⊥) → Left a no_memory F t t
 starved_left a F t never = record {
   leaves = refl;
   gained = [];
   output = sym (append-nil (t.written 1));
-  shows = inl refl;
+  shows = starved_none a t;
   blames = tt;
   opens = refl;
   same = same_self t;
@@ -296,7 +326,7 @@ cut_left name text F t n cut full = record {
   output = cut.channels.output ∙ sym (append-nil (t.written 1));
   shows = inl refl;
   blames = cut.blame;
-  opens = cut.uses;
+  opens = (refl, cut.uses);
   same = record { lines = cut.channels.lines; lines_use = cut.channels.lines_use; room = cut.channels.room };
   cause = inl tt;
   outside = λ rose. fills name text t n (full rose) cut.channels.room;
@@ -340,6 +370,13 @@ module _ (P : List ℕ → Type 0) (text : List ℕ) (holds : P text) where
   leaves_given first last t files (failed name) h = h
   leaves_given first last t files no_memory h = h
 
+  opens_given : (first last : Ending) (t : Told) (e : Ending) (before after : ℕ → Use) → Opens (gives (λ x. x ≡ text) first) t e before after
+      → Opens (gives P last) t e before after
+  opens_given first last t done before after h = h
+  opens_given first last t (refused why) before after h = h
+  opens_given first last t (failed blamed) before after h = h
+  opens_given first last t no_memory before after h = h
+
   left_given : (first last : Ending) → first ≡ last → (e : Ending) (F : Type 0) (t n : Told) → Left (gives (λ x. x ≡ text) first) e F t n → Left (gives P last) e F t n
   left_given first last same e F t n l = record {
     leaves = leaves_given first last t n.files e l.leaves;
@@ -347,7 +384,7 @@ module _ (P : List ℕ → Type 0) (text : List ℕ) (holds : P text) where
     output = l.output;
     shows = shows_given first last same t e l.gained l.shows;
     blames = l.blames;
-    opens = l.opens;
+    opens = opens_given first last t e t.uses n.uses l.opens;
     same = l.same;
     cause = elim l.cause [ inl free ↦ inl free | inr is ↦ inr (is ∙ same) ];
     outside = l.outside;
@@ -366,6 +403,13 @@ module _ (P : List ℕ → Type 0) (text : List ℕ) (holds : P text) where
   leaves_written name t files (failed blamed) (inr (whole, part, it, prefix, is)) = inr (whole, part, held whole it, prefix, is)
   leaves_written name t files no_memory h = h
 
+  opens_written : (name : List ℕ) (t : Told) (e : Ending) (before after : ℕ → Use) → Opens (writes name (λ x. x ≡ text)) t e before after
+      → Opens (writes name P) t e before after
+  opens_written name t done before after h = h
+  opens_written name t (refused why) before after h = h
+  opens_written name t (failed blamed) before after h = h
+  opens_written name t no_memory before after h = h
+
   left_written : (name : List ℕ) (e : Ending) (F : Type 0) (t n : Told) → Left (writes name (λ x. x ≡ text)) e F t n → Left (writes name P) e F t n
   left_written name e F t n l = record {
     leaves = leaves_written name t n.files e l.leaves;
@@ -373,7 +417,7 @@ module _ (P : List ℕ → Type 0) (text : List ℕ) (holds : P text) where
     output = l.output;
     shows = shows_written name t e l.gained l.shows;
     blames = l.blames;
-    opens = l.opens;
+    opens = opens_written name t e t.uses n.uses l.opens;
     same = l.same;
     cause = l.cause;
     outside = l.outside;

@@ -90,7 +90,7 @@ not_read name F t n r far = record {
   output = r.channels.output;
   same = record { lines = r.channels.lines; lines_use = r.channels.lines_use; room = r.channels.room };
   blames = r.blame;
-  opens = r.uses;
+  opens = (refl, r.uses);
   outside = λ rose. missing name t (far rose);
 }
 

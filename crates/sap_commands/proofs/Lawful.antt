@@ -4,7 +4,7 @@ use Rattle.std.specs.Prelude.{Option, Some, None}
 use Rattle.sap_desk.specs.Desk.{Told}
 use Rattle.sap_commands.specs.Ending.{Ending, Refusal, status_of, status_of_refusal}
 use Rattle.sap_commands.specs.Kinds.{Kind, Has, IsRefused, IsLawful}
-use Rattle.sap_commands.specs.Asks.{Asks, file, by, gives, writes, stops, AreLawful, Cause, EndsAtFile, Shows}
+use Rattle.sap_commands.specs.Asks.{Asks, file, by, gives, prints, writes, stops, AreLawful, Cause, EndsAtFile, Shows, end_of}
 
 pub same_Some : {A : Type 0} (o : Option A) (a b : A) → o ≡ Some a → o ≡ Some b → a ≡ b
 same_Some o a b p q = cc
@@ -39,6 +39,8 @@ one_cause (by V Holds rest) law t e f (v, holds, one) (w, held, other) =
     let P : V → Type 0 = λ x. Cause (rest x) t f in
     one_cause (rest v) (law.1 v holds) t e f one (subst P (law.0 w v held holds) other)
 one_cause (gives text last) law t e f one other = ap status_of (one ∙ sym other)
+one_cause (prints name text fault) law t e f (bytes, there, one) (more, here, other) =
+    ap status_of (one ∙ ap (λ (b : List ℕ). end_of (fault b)) (same_Some (t.files name) bytes more there here) ∙ sym other)
 one_cause (writes out text) law t e f one other = ap status_of (one ∙ sym other)
 one_cause (stops why) law t e f one other = ap status_of (one ∙ sym other)
 
@@ -53,5 +55,7 @@ one_text (by V Holds rest) law t e f x y (v, holds, one) (w, held, other) =
     let P : V → Type 0 = λ z. Shows (rest z) t f y in
     one_text (rest v) (law.1 v holds) t e f x y one (subst P (law.0 w v held holds) other)
 one_text (gives text last) law t e f x y (is, one) (was, other) = law x y one other
+one_text (prints name text fault) law t e f x y (bytes, there, is, one) (more, here, was, other) =
+    law bytes x y one (subst (λ (b : List ℕ). text b y) (same_Some (t.files name) more bytes here there) other)
 one_text (writes out text) law t e f x y (is, one) (was, other) = one ∙ sym other
 one_text (stops why) law t e f x y (is, one) (was, other) = one ∙ sym other

@@ -12,9 +12,12 @@ pub mod TracesAlike
 pub mod ReportsAlike
 pub mod Lawful
 pub mod Ended
+pub mod PrintedEnds
 pub mod CompiledDesigns
 pub mod Fronts
 pub mod Streams
 pub mod TwinEnds
 pub mod StreamEnds
 pub mod CommandLaws
+pub mod Starving
+pub mod Wholes

@@ -148,7 +148,7 @@ module _ (ls : Levels) (n : Net) (rules : IsNetlist n) (xs : List Name) (shows :
       ∙ ap (λ (tags : List ℕ). row_text k (shown_of ls xs (map (λ x. (observed n w).value (value_name x)) xs) tags))
       (maps_same (λ x. (observed n v).value (tag_name x)) (λ x. (observed n w).value (tag_name x)) xs (tags_seen n v w xs all))
 
-  run_rows_same : (k : ℕ) (vs ws : List Valuation) → AreSameRuns n vs ws → rows_from ls xs k (map (observed n) vs) ≡ rows_from ls xs k (map (observed n) ws)
+  pub run_rows_same : (k : ℕ) (vs ws : List Valuation) → AreSameRuns n vs ws → rows_from ls xs k (map (observed n) vs) ≡ rows_from ls xs k (map (observed n) ws)
   run_rows_same k [] [] same = refl
   run_rows_same k [] (w ∷ ws) same = absurd same
   run_rows_same k (v ∷ vs) [] same = absurd same

@@ -19,7 +19,7 @@ use Rattle.sap_meaning.specs.Touches.{root_touches}
 use Rattle.sap_resolve.specs.Worlds.{position, level_number, declared_level, authority_level, authority_of, declared, all_declared, states_in, state_entities, group_entities, world_of}
 use Rattle.sap_resolve.specs.Terms.{level_term, level_terms}
 use Rattle.sap_resolve.specs.Sites.{Home, simple_sites, command_sites, block_sites, state_sites}
-use Rattle.sap_resolve.specs.Resolve.{site_number, step_of, command_of, block_of, else_of, list_of, state_of, group_of, states_of}
+use Rattle.sap_resolve.specs.Resolve.{site_number, step_of, command_of, block_of, else_of, arms_of, list_of, state_of, group_of, states_of}
 use Rattle.sap_resolve.specs.Fill.{filled_group, table, program_of}
 
 module _ (l m : Levels) (same : AreSame l m) where
@@ -91,6 +91,9 @@ module _ (l m : Levels) (same : AreSame l m) where
     command_in h k (tree.Try c place handler) = rw (step_in h (site_number h k c) c, block_in h (k + simple_sites h c) handler) refl
     command_in h k (tree.If place condition then_block else_block) =
         rw (block_in h k then_block, else_in h (k + block_sites h then_block) else_block) refl
+    command_in h k (tree.TryThen c then accepted refused) =
+        rw (step_in h (site_number h k c) c, block_in h (k + simple_sites h c) accepted, block_in h (k + simple_sites h c + block_sites h accepted) refused) refl
+    command_in h k (tree.Case place e arms) = rw (arms_in h k arms) refl
 
     block_in : (h : Home) (k : ℕ) (b : CommandBlock) → block_of l h k b ≡ block_of m h k b
     block_in h k (Commands cs after) = list_in h k cs
@@ -98,6 +101,10 @@ module _ (l m : Levels) (same : AreSame l m) where
     else_in : (h : Home) (k : ℕ) (b : ElseBlock) → else_of l h k b ≡ else_of m h k b
     else_in h k NoElse = refl
     else_in h k (Else b) = block_in h k b
+
+    arms_in : (h : Home) (k : ℕ) (arms : tree.Arms) → arms_of l h k arms ≡ arms_of m h k arms
+    arms_in h k (tree.Last b) = rw (block_in h k b) refl
+    arms_in h k (tree.Arm constants b arms) = rw (block_in h k b, arms_in h (k + block_sites h b) arms) refl
 
     list_in : (h : Home) (k : ℕ) (cs : CommandList) → list_of l h k cs ≡ list_of m h k cs
     list_in h k NoCommand = refl

@@ -1,5 +1,5 @@
 -- What each command asks.
-use Rattle.std.specs.Prelude.{◌≡◌, ℕ, List, length, Option, Some, None}
+use Rattle.std.specs.Prelude.{◌≡◌, ◌↔◌, ℕ, List, [], Option, Some, None}
 use Rattle.sap_desk.specs.Desk.{Told}
 use Rattle.sap_lattice.specs.Levels.{Levels, order_of}
 use Rattle.sap_meaning.specs.Cycle.{Tagged}
@@ -16,10 +16,10 @@ use Rattle.sap_report.specs.Report.{report_text}
 use Rattle.sap_compile.specs.Compiles.{IsModuleFor}
 use Rattle.sap_gen.specs.Text.{generated_text}
 use Rattle.sap_words.specs.Words.{Words, compile, run, trace, fmt, sim, report, twin, gen, command_of}
-use Rattle.sap_commands.specs.Ending.{Ending, done, refused, no_command, level_refused, stimulus_refused}
-use Rattle.sap_commands.specs.Kinds.{lattice_file, design_file, design_text_file, module_file, any_file, stream_file}
+use Rattle.sap_commands.specs.Ending.{done, no_memory, no_command, level_refused}
+use Rattle.sap_commands.specs.Kinds.{lattice_file, design_file, design_text_file, module_file, stream_file}
 use Rattle.sap_commands.specs.Twin.{IsAgreement, IsVerdict, difference}
-use Rattle.sap_commands.specs.Asks.{Asks, file, by, gives, writes, stops, IsOutput}
+use Rattle.sap_commands.specs.Asks.{Asks, file, by, gives, prints, writes, stops, IsCut, IsOutput, Output}
 
 -- the text is one of a module for the design
 abbrev pub IsModuleText : Levels → DesignTree → (text : List ℕ) → Type 0
@@ -36,11 +36,6 @@ AreTraceLines ls d bytes text = (fault : Option StimFault) × IsTraceOf ls d byt
 -- and the rows of a module's run
 abbrev pub AreModuleRows : Levels → Net → (bytes text : List ℕ) → Type 0
 AreModuleRows ls net bytes text = (fault : Option StimFault) × IsSimulated ls net bytes (record { text = text; fault = fault })
-
--- how a command ends behind its rows: as the stimulus does, by its first fault, if any
-abbrev pub end_of : Option StimFault → Ending
-end_of None = done
-end_of (Some fault) = refused (stimulus_refused 1 fault)
 
 -- what is asked behind a word that is to be a level: where it names none, it is refused
 abbrev pub at_level : (word : List ℕ) → (ℕ → Asks) → Option ℕ → Asks
@@ -62,16 +57,16 @@ abbrev pub asks : Words → Asks
 asks (compile lattice design out) =
     file lattice lattice_file (λ ls. file design (design_file ls) (λ d. writes out (IsModuleText ls d)))
 asks (run lattice design stimulus) =
-    file lattice lattice_file (λ ls. file design (design_file ls) (λ d. file stimulus any_file (λ bytes.
-    gives (AreDesignRows ls d bytes) (end_of (design_stimulus ls d bytes).fault))))
+    file lattice lattice_file (λ ls. file design (design_file ls) (λ d.
+    prints stimulus (AreDesignRows ls d) (λ bytes. (design_stimulus ls d bytes).fault)))
 asks (trace lattice design stimulus) =
-    file lattice lattice_file (λ ls. file design (design_file ls) (λ d. file stimulus any_file (λ bytes.
-    gives (AreTraceLines ls d bytes) (end_of (design_stimulus ls d bytes).fault))))
+    file lattice lattice_file (λ ls. file design (design_file ls) (λ d.
+    prints stimulus (AreTraceLines ls d) (λ bytes. (design_stimulus ls d bytes).fault)))
 asks (fmt design) =
     file design design_text_file (λ d. gives (λ text. text ≡ canonical_text d) done)
 asks (sim lattice verilog stimulus) =
-    file lattice lattice_file (λ ls. file verilog module_file (λ net. file stimulus any_file (λ bytes.
-    gives (AreModuleRows ls net bytes) (end_of (module_stimulus ls net bytes).fault))))
+    file lattice lattice_file (λ ls. file verilog module_file (λ net.
+    prints stimulus (AreModuleRows ls net) (λ bytes. (module_stimulus ls net bytes).fault)))
 asks (report lattice design) =
     file lattice lattice_file (λ ls. file design (design_file ls) (λ d. gives (λ text. text ≡ report_text ls d) done))
 asks (twin lattice design first second level) =
@@ -86,6 +81,23 @@ asks_if (Some c) = asks c
 
 abbrev pub asks_for : List (List ℕ) → Asks
 asks_for words = asks_if (command_of words)
+
+-- it prints what its stimulus shows line by line
+abbrev pub IsPrinted : Words → Type 0
+IsPrinted (compile lattice design out) = ⊥
+IsPrinted (run lattice design stimulus) = Unit {0}
+IsPrinted (trace lattice design stimulus) = Unit {0}
+IsPrinted (fmt design) = ⊥
+IsPrinted (sim lattice verilog stimulus) = Unit {0}
+IsPrinted (report lattice design) = ⊥
+IsPrinted (twin lattice design first second level) = ⊥
+IsPrinted (gen n) = ⊥
+
+-- Where there was no memory, channel 1 gained nothing by a command that prints line by line, and by every other what it may have gained by a failed call: a prefix of
+-- the text that is asked for, or nothing.
+abbrev pub WithoutMemory : Type 0
+WithoutMemory = (c : Words) (t : Told) (gained : List ℕ)
+    → (IsPrinted c → Output (asks c) t gained no_memory ↔ (gained ≡ [])) × ((¬ IsPrinted c) → Output (asks c) t gained no_memory ↔ IsCut (asks c) t gained)
 
 -- the words and files of a command ask for one text
 abbrev pub OneOutput : Type 0

@@ -98,15 +98,6 @@ module_file = record {
   Refused = λ text why. (fault : ModFault) × (why ≡ module_refused fault) × (fault ≢ module_fault.Memory) × IsModuleFault text fault;
 }
 
--- files that are kept as their bytes: none is refused
-abbrev pub any_file : Kind
-any_file = record {
-  most = None;
-  Value = List ℕ;
-  Stands = λ bytes kept. kept ≡ bytes;
-  Refused = λ bytes why. ⊥;
-}
-
 -- stimulus files of a design whose every line is taken, the first or the second of the words
 abbrev pub stream_file : (place : ℕ) → Levels → DesignTree → Kind
 stream_file place ls d = record {

@@ -3,7 +3,7 @@ use Rattle.std.specs.Prelude.{◌≡◌, ◌⊎◌, ℕ, List, length, Option, S
 use Rattle.sap_desk.specs.Desk.{Told, bytes_of, stream}
 use Rattle.sap_desk.specs.Whole.{MissingOrLong}
 use Rattle.sap_commands.specs.Kinds.{Kind, Has}
-use Rattle.sap_commands.specs.Asks.{Asks, file, by, gives, writes, stops}
+use Rattle.sap_commands.specs.Asks.{Asks, file, by, gives, prints, writes, stops}
 
 -- a file holds as much as there is room for
 abbrev pub FullFile : (name : List ℕ) → Told → Told → Type 0
@@ -23,5 +23,6 @@ abbrev pub OutsideOf : Asks → Told → Told → Type 0
 OutsideOf (file name k rest) t n = IsUnreadable k.most name t ⊎ ((v : k.Value) × Has t name k v × OutsideOf (rest v) t n)
 OutsideOf (by V Holds rest) t n = (v : V) × Holds v × OutsideOf (rest v) t n
 OutsideOf (gives text last) t n = FullOutput t n
+OutsideOf (prints name text fault) t n = MissingOrLong name t ⊎ FullOutput t n
 OutsideOf (writes name text) t n = FullFile name t n
 OutsideOf (stops why) t n = ⊥

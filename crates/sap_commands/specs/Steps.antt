@@ -1,8 +1,8 @@
 -- What the steps of a command leave: the words of the contracts of its calls.
 use Rattle.std.specs.Prelude.{◌≡◌, ◌≢◌, ◌⊎◌, ◌++◌, ℕ, List, length, Option, Some, None, Result, Ok, Err, IfSome}
-use Rattle.sap_desk.specs.Desk.{Told}
+use Rattle.sap_desk.specs.Desk.{Told, Use}
 use Rattle.sap_desk.specs.Cause.{counted}
-use Rattle.sap_desk.specs.Whole.{Between, IsFront}
+use Rattle.sap_desk.specs.Whole.{Between, IsFront, OpenAfterFault}
 use Rattle.sap_lattice.specs.Levels.{Levels, order_of}
 use Rattle.sap_meaning.specs.Agree.{StreamsAgree}
 use Rattle.sap_meaning.specs.Cycle.{Tagged}
@@ -33,7 +33,11 @@ use Rattle.sap_commands.specs.declared.fault.DesignFault.TheVariants as design_f
 use Rattle.sap_commands.specs.Ending.{Ending, Refusal as Reason, done, refused, failed, no_memory, lattice_refused, design_refused, stimulus_refused, module_refused, level_refused, lengths_apart, inputs_apart, IsFree}
 use Rattle.sap_commands.specs.Kinds.{Kind, IsLatticeFile, IsWellFormedText, design_file, table_by}
 use Rattle.sap_commands.specs.Twin.{agreement_line, difference}
-use Rattle.sap_commands.specs.Asks.{Asks, Cause, Leaves, MayEnd, Output}
+use Rattle.sap_stim.specs.declared.fault.StimFault.{StimFault}
+use Rattle.sap_stim.specs.declared.field.Field.{Field}
+use Rattle.sap_stim.specs.Stimulus.{stimulus_of}
+use Rattle.sap_stepping.specs.Followed.{IsPartShown, Shows as ShowsOf}
+use Rattle.sap_commands.specs.Asks.{Asks, Cause, IsPrefix, Leaves, MayEnd, Output}
 use Rattle.sap_commands.specs.Commands.{asks_streams}
 use Rattle.sap_commands.specs.After.{Blames, Opens}
 use Rattle.sap_commands.specs.Outside.{IsUnreadable, OutsideOf}
@@ -129,7 +133,7 @@ pub record Left (a : Asks) (e : Ending) (rose : Type 0) (t n : Told) : Type 0 wh
   pub output : n.written 1 ≡ t.written 1 ++ gained
   pub shows : Output a t gained e
   pub blames : Blames n.blame e
-  pub opens : Opens e t.uses n.uses
+  pub opens : Opens a t e t.uses n.uses
   pub same : Same t n
   pub cause : IsFree e ⊎ Cause a t e
   pub outside : rose → OutsideOf a t n
@@ -144,13 +148,20 @@ pub record Ends (a : Asks) (e : Ending) (before after : Moment) : Type 0 where
 
 -- Files
 
+-- what is open where the file of a name could not be read
+abbrev pub OpensUnread : (name : List ℕ) → Ending → (before after : ℕ → Use) → Type 0
+OpensUnread name done before after = after ≡ before
+OpensUnread name (refused why) before after = after ≡ before
+OpensUnread name (failed blamed) before after = (blamed ≡ name) × OpenAfterFault name before after
+OpensUnread name no_memory before after = after ≡ before
+
 -- a file could not be read: all is as before but the blame, and what a failed call left open
 pub record NotRead (most : Option ℕ) (name : List ℕ) (e : Ending) (rose : Type 0) (t n : Told) : Type 0 where
   pub files : n.files ≡ t.files
   pub output : n.written 1 ≡ t.written 1
   pub same : Same t n
   pub blames : Blames n.blame e
-  pub opens : Opens e t.uses n.uses
+  pub opens : OpensUnread name e t.uses n.uses
   pub outside : rose → IsUnreadable most name t
 
 -- and so the command ended
@@ -225,3 +236,16 @@ abbrev pub Compares : Levels → DesignTree → (first second word : List ℕ) �
 Compares k d first second word l e a b =
     (lattice : List ℕ) (ls : Levels) (net : Net) (written : List ℕ) → IsLatticeOfFile lattice k → IsLatticeFile lattice ls → IsModuleFor k d net written
     → Ends (asks_streams ls d first second word l) e a b
+
+-- A stimulus that is printed
+
+-- what is printed of bytes, and the fault that it ends by
+abbrev pub printed_text : ShowsOf → Levels → List Field → (bytes given : List ℕ) → Type 0
+printed_text shows ls fs bytes given = shows (stimulus_of ls fs bytes).stream given
+
+abbrev pub printed_fault : Levels → List Field → (bytes : List ℕ) → Option StimFault
+printed_fault ls fs bytes = (stimulus_of ls fs bytes).fault
+
+-- there is a whole text for each part
+abbrev pub HasWhole : ShowsOf → Levels → List Field → Type 0
+HasWhole shows ls fs = (bytes gained : List ℕ) → IsPartShown shows ls fs bytes gained → (whole : List ℕ) × shows (stimulus_of ls fs bytes).stream whole × IsPrefix gained whole

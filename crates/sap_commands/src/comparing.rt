@@ -141,7 +141,7 @@ fn compare<'a, D: Desk>(
     let more = read(alloc, desk, second)?;
     let other = stream_of(alloc, checked, 2, &more)?;
     let text = verdict(alloc, checked, &one, &other, level, word)?;
-    put(desk, &text, None)
+    put(desk, &text)
 }
 
 /// Says whether two stimulus files of a design agree at a level, or where they first don't.

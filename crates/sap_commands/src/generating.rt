@@ -20,5 +20,5 @@ pub fn generate<'a, D: Desk>(
     ensures { Ends (asks (gen number.value)) (ending_of result) (seen D.told D.faults D.lost D.sure desk.old) (seen D.told D.faults D.lost D.sure desk.new) }
 {
     let text = generated(alloc, number.value)?;
-    put(desk, &text, None)
+    put(desk, &text)
 }

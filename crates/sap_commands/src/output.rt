@@ -1,8 +1,8 @@
 //! What a command writes: its text on channel 1, or a file.
 
 ghost use Rattle.std.specs.Prelude.{◌≡◌};
-ghost use Rattle.sap_commands.specs.Asks.{gives, writes};
-ghost use Rattle.sap_commands.specs.Commands.{end_of};
+ghost use Rattle.sap_commands.specs.Asks.{end_of, gives, writes};
+ghost use Rattle.sap_commands.specs.Ending.{done};
 ghost use Rattle.sap_commands.specs.Steps.{Ends, ending_of, seen};
 
 use crate::failure::Failure;
@@ -10,8 +10,8 @@ use crate::refusal::Refusal;
 use sap_desk::{Bytes, Desk, DeskError, write_file, write_output};
 use sap_stim::fault::StimFault;
 
-// How a command ends whose stimulus has this fault, if any.
-fn end<'a>(fault: Option<StimFault>) -> Result<(), Failure<'a>>
+/// How a command ends whose stimulus has this fault, if any.
+pub fn end<'a>(fault: Option<StimFault>) -> Result<(), Failure<'a>>
     ensures { ending_of result ≡ end_of fault }
 {
     match fault {
@@ -20,16 +20,12 @@ fn end<'a>(fault: Option<StimFault>) -> Result<(), Failure<'a>>
     }
 }
 
-/// Writes a text on channel 1, and then ends as a command does whose stimulus has this fault, if any.
-pub fn put<'a, D: Desk>(
-    desk: &mut D,
-    text: &Bytes,
-    fault: Option<StimFault>,
-) -> Result<(), Failure<'a>>
-    ensures { Ends (gives (λ given. given ≡ text.now) (end_of fault)) (ending_of result) (seen D.told D.faults D.lost D.sure desk.old) (seen D.told D.faults D.lost D.sure desk.new) }
+/// Writes a text on channel 1.
+pub fn put<'a, D: Desk>(desk: &mut D, text: &Bytes) -> Result<(), Failure<'a>>
+    ensures { Ends (gives (λ given. given ≡ text.now) done) (ending_of result) (seen D.told D.faults D.lost D.sure desk.old) (seen D.told D.faults D.lost D.sure desk.new) }
 {
     match write_output(desk, text.as_slice()) {
-        Ok(()) => end(fault),
+        Ok(()) => Ok(()),
         Err(_) => Err(Failure::Desk("output")),
     }
 }

@@ -37,5 +37,5 @@ pub fn report_design<'a, D: Desk>(
     let source = read_design(alloc, desk, design)?;
     let checked = checked_from(alloc, &levels, &source)?;
     let text = report_text(alloc, &checked)?;
-    put(desk, &text, None)
+    put(desk, &text)
 }

@@ -18,5 +18,5 @@ pub fn format<'a, D: Desk>(alloc: Global, desk: &mut D, design: &'a str) -> Resu
     let source = read_design(alloc, desk, design)?;
     let tree = text_from(alloc, &source)?;
     let text = show(alloc, &tree)?;
-    put(desk, &text, None)
+    put(desk, &text)
 }

@@ -6,12 +6,11 @@ ghost use Rattle.sap_commands.specs.Steps.{Ends, ending_of, seen};
 
 use crate::failure::Failure;
 use crate::inputs::{lattice_from, module_from, read};
-use crate::output::put;
+use crate::rows::print_rows;
 use sap_desk::Desk;
-use sap_sim::simulate as simulate_module;
 use std::alloc::Global;
 
-/// Writes the rows of a module file's run on a stimulus file, over a lattice file.
+/// Prints the rows of a module file's run on a stimulus file, over a lattice file.
 pub fn simulate<'a, D: Desk>(
     alloc: Global,
     desk: &mut D,
@@ -25,7 +24,5 @@ pub fn simulate<'a, D: Desk>(
     let levels = lattice_from(alloc, &bytes)?;
     let module = read(alloc, desk, verilog)?;
     let netlist = module_from(alloc, &module)?;
-    let lines = read(alloc, desk, stimulus)?;
-    let rows = simulate_module(alloc, &levels, netlist, lines.as_slice())?;
-    put(desk, &rows.text, rows.fault)
+    print_rows(alloc, desk, &levels, netlist, stimulus)
 }

@@ -621,7 +621,7 @@ static HANDLERS: [(u8, &str); 17] = [
     ),
 ];
 
-fn push_unmarked(out: &mut Vec<u8>, marked: &str) -> Result<(), AllocError> {
+pub fn push_unmarked(out: &mut Vec<u8>, marked: &str) -> Result<(), AllocError> {
     for byte in marked.as_bytes() {
         if *byte != b'@' {
             out.push(*byte)?;
@@ -631,7 +631,7 @@ fn push_unmarked(out: &mut Vec<u8>, marked: &str) -> Result<(), AllocError> {
 }
 
 /// The column behind the first `@`.
-fn mark_of(marked: &str) -> Place {
+pub fn mark_of(marked: &str) -> Place {
     let mut column = 1u64;
     for byte in marked.as_bytes() {
         if *byte == b'@' {
@@ -655,17 +655,28 @@ fn first_fault(alloc: Global, text: &[u8]) -> Result<(u8, Place), Fail> {
     }
 }
 
-/// The first text whose first fault is another one than its row says; none where all are as they say.
-fn first_wrong<'a>(alloc: Global, rows: &'a [(u8, &'static str)]) -> Result<&'a str, Fail> {
-    for (code, marked) in rows {
+/// The first row whose text, between a head and a tail, has another first fault than the row says; none where all are as they say.
+pub fn first_wrong_between<'a>(
+    alloc: Global,
+    head: &str,
+    rows: &'a [(u8, &'static str)],
+    tail: &str,
+) -> Result<&'a str, Fail> {
+    for (code, row) in rows {
+        let marked = format!(in alloc; "{head}{row}{tail}")?;
         let mut text = Vec::new(alloc);
-        push_unmarked(&mut text, marked)?;
+        push_unmarked(&mut text, &marked)?;
         let (found, place) = first_fault(alloc, text.as_slice())?;
-        if found != *code || (found != 0 && place != mark_of(marked)) {
-            return Ok(*marked);
+        if found != *code || (found != 0 && place != mark_of(&marked)) {
+            return Ok(*row);
         }
     }
     Ok("")
+}
+
+/// The same for whole texts.
+pub fn first_wrong<'a>(alloc: Global, rows: &'a [(u8, &'static str)]) -> Result<&'a str, Fail> {
+    first_wrong_between(alloc, "", rows, "")
 }
 
 #[test]

@@ -14,6 +14,8 @@ mod named;
 #[cfg(test)]
 mod sample;
 #[cfg(test)]
+mod second;
+#[cfg(test)]
 mod shown;
 #[cfg(test)]
 mod texts;

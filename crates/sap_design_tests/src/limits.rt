@@ -135,6 +135,108 @@ static ROWS: [Row; 9] = [
     },
 ];
 
+// The same of the second version.
+static LATER: [Row; 8] = [
+    // commands in all blocks: the first too many is the last of its command
+    Row {
+        text: Text {
+            head: "sapper 2; state S dynamic { fall; fall; ",
+            piece: "case (a) { 0: { fall; } else { fall; } } ",
+            middle: "",
+            close: "",
+            tail: "}",
+        },
+        most: 1364,
+        behind: 31,
+        limit: Limit::Commands,
+    },
+    Row {
+        text: Text {
+            head: "sapper 2; state S dynamic { fall; fall; ",
+            piece: "fall then { fall; } otherwise { fall; } ",
+            middle: "",
+            close: "",
+            tail: "}",
+        },
+        most: 1364,
+        behind: 32,
+        limit: Limit::Commands,
+    },
+    Row {
+        text: Text {
+            head: "sapper 2; state S dynamic { ",
+            piece: "case (a) { 0: { ",
+            middle: "",
+            close: "} else { } } ",
+            tail: "}",
+        },
+        most: 64,
+        behind: 0,
+        limit: Limit::Blocks,
+    },
+    Row {
+        text: Text {
+            head: "sapper 2; state S dynamic { ",
+            piece: "case (a) { 0: { } else { ",
+            middle: "",
+            close: "} } ",
+            tail: "}",
+        },
+        most: 64,
+        behind: 0,
+        limit: Limit::Blocks,
+    },
+    Row {
+        text: Text {
+            head: "sapper 2; state S dynamic { ",
+            piece: "fall then { ",
+            middle: "",
+            close: "} otherwise { } ",
+            tail: "}",
+        },
+        most: 64,
+        behind: 0,
+        limit: Limit::Blocks,
+    },
+    Row {
+        text: Text {
+            head: "sapper 2; state S dynamic { ",
+            piece: "fall then { } otherwise { ",
+            middle: "",
+            close: "} ",
+            tail: "}",
+        },
+        most: 64,
+        behind: 0,
+        limit: Limit::Blocks,
+    },
+    // the parentheses of `case` don't count
+    Row {
+        text: Text {
+            head: "sapper 2; state S dynamic { case (",
+            piece: "(",
+            middle: "1",
+            close: ")",
+            tail: ") { 0: { } else { } } }",
+        },
+        most: 64,
+        behind: 0,
+        limit: Limit::Brackets,
+    },
+    Row {
+        text: Text {
+            head: "sapper 2; state S dynamic { case (",
+            piece: "~",
+            middle: "1",
+            close: "",
+            tail: ") { 0: { } else { } } }",
+        },
+        most: 255,
+        behind: 1,
+        limit: Limit::Expression,
+    },
+];
+
 fn push_all(out: &mut Vec<u8>, piece: &str, times: usize) -> Result<(), AllocError> {
     for _ in 0..times {
         out.extend_from_slice(piece.as_bytes())?;
@@ -157,23 +259,35 @@ fn is_over(read: &Result<Design, ReadFault>, place: Place, limit: Limit) -> bool
     }
 }
 
+/// Whether a row's text is read at its last allowed value, and is over its limit one past it, at the token that breaks it.
+fn is_limited(alloc: Global, row: &Row) -> Result<bool, AllocError> {
+    let mut last = Vec::new(alloc);
+    push_text(&mut last, &row.text, row.most)?;
+    let mut over = Vec::new(alloc);
+    push_text(&mut over, &row.text, row.most.saturating_add(1))?;
+    let pieces = row.most.saturating_mul(row.text.piece.len());
+    let before = row.text.head.len().saturating_add(pieces);
+    let column = before.saturating_add(row.behind).saturating_add(1);
+    let place = Place {
+        line: 1,
+        column: column as u64,
+    };
+    let read = parse(alloc, over.as_slice());
+    Ok(parse(alloc, last.as_slice()).is_ok() && is_over(&read, place, row.limit))
+}
+
 #[test]
 fn each_limit_on_both_sides(rt: HostRuntime) -> Result<(), Fail> {
-    let alloc = rt.alloc();
     for row in &ROWS {
-        let name = row.text.piece;
-        let mut last = Vec::new(alloc);
-        push_text(&mut last, &row.text, row.most)?;
-        assert!(rt; parse(alloc, last.as_slice()).is_ok(), "{name}");
-        let mut over = Vec::new(alloc);
-        push_text(&mut over, &row.text, row.most + 1)?;
-        let column = row.text.head.len() + row.most * name.len() + row.behind + 1;
-        let place = Place {
-            line: 1,
-            column: column as u64,
-        };
-        let read = parse(alloc, over.as_slice());
-        assert!(rt; is_over(&read, place, row.limit), "{name}");
+        assert!(rt; is_limited(rt.alloc(), row)?, "{}", row.text.piece);
+    }
+    Ok(())
+}
+
+#[test]
+fn each_limit_on_both_sides_in_blocks(rt: HostRuntime) -> Result<(), Fail> {
+    for row in &LATER {
+        assert!(rt; is_limited(rt.alloc(), row)?, "{}", row.text.piece);
     }
     Ok(())
 }
@@ -192,7 +306,7 @@ fn bytes_on_both_sides(rt: HostRuntime) -> Result<(), Fail> {
     Ok(())
 }
 
-// 16 states, 64 blocks, 64 brackets and 256 tokens in one expression
+// 16 states, 64 blocks, 64 brackets and 256 tokens in one expression; and a `case` of 301 arms, the first with 301 constants, which are no expression
 #[test]
 fn the_deepest_text_is_read(rt: HostRuntime) -> Result<(), Fail> {
     let alloc = rt.alloc();
@@ -208,5 +322,12 @@ fn the_deepest_text_is_read(rt: HostRuntime) -> Result<(), Fail> {
     push_all(&mut text, "} ", 63)?;
     push_all(&mut text, "} ", 16)?;
     assert!(rt; parse(alloc, text.as_slice()).is_ok());
+    let mut arms = Vec::new(alloc);
+    push_all(&mut arms, "sapper 2; state S dynamic { case (1) { 1", 1)?;
+    push_all(&mut arms, ", 1", 300)?;
+    push_all(&mut arms, ": { } ", 1)?;
+    push_all(&mut arms, "1: { } ", 300)?;
+    push_all(&mut arms, "else { } } }", 1)?;
+    assert!(rt; parse(alloc, arms.as_slice()).is_ok());
     Ok(())
 }

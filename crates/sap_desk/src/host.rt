@@ -102,33 +102,3 @@ impl<R: Files + Drop, O: Write + Drop, E: Write + Drop> Desk for HostDesk<R, O, 
         fail(channel, &mut self.faults, &mut self.lost)
     }
 }
-
-#[cfg(test)]
-mod tests {
-    use super::*;
-    use crate::{read_file, write_file, write_line, write_output};
-    use std::test::Fail;
-
-    #[test]
-    fn keeps_what_it_writes(rt: HostRuntime) -> Result<(), Fail> {
-        let alloc = rt.alloc();
-        let mut desk = HostDesk::new(alloc, rt, Vec::new(alloc), Vec::new(alloc))?;
-        let long = [b'x'; 5000];
-
-        let missing = read_file(alloc, &mut desk, "no such file").err();
-        assert_eq!(desk.runtime; missing, Some(DeskError::Failed));
-        write_file(&mut desk, "made", &long)?;
-        let bytes = read_file(alloc, &mut desk, "made")?;
-        fs::remove_file(&desk.runtime, "made")?;
-        assert_eq!(desk.runtime; bytes.as_slice(), long.as_slice());
-
-        write_output(&mut desk, b"row")?;
-        write_line(&mut desk, &[b"desk: ", b"no such file"])?;
-        desk.finish(2)?;
-        assert_eq!(desk.runtime; write_line(&mut desk, &[b"late"]), Err(Failed));
-        assert_eq!(desk.runtime; desk.output.as_slice(), b"row".as_slice());
-        assert_eq!(desk.runtime; desk.errors.as_slice(), b"desk: no such file\n".as_slice());
-        assert_eq!(desk.runtime; (desk.faults, desk.lost), (1, 1));
-        Ok(())
-    }
-}

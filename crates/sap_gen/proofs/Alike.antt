@@ -11,7 +11,7 @@ use Rattle.sap_tree.specs.declared.syntax.Decl.TheVariants.{Input, Register, Mem
 use Rattle.sap_tree.specs.declared.syntax.Kind.{Kind}
 use Rattle.sap_tree.specs.declared.syntax.Kind.TheVariants.{Dynamic, Enforced}
 use Rattle.sap_tree.specs.declared.syntax.Under.{Under}
-use Rattle.sap_tree.specs.Syntax.{TagExpression, Level, TagOf, LevelAt, Join, TagExpressions, NoTag, AndTag, SimpleCommand, Assign, Write, SetTag, SetCellTag, Goto, Fall, Command, Do, Try, If, CommandBlock, Commands, ElseBlock, NoElse, Else, CommandList, NoCommand, AndCommand, StateTree, StateOf, StateList, NoState, AndState, DesignTree}
+use Rattle.sap_tree.specs.Syntax.{TagExpression, Level, TagOf, LevelAt, Join, TagExpressions, NoTag, AndTag, SimpleCommand, Assign, Write, SetTag, SetCellTag, Goto, Fall, Command, Do, Try, If, TryThen, Case, Arms, Last, Arm, CommandBlock, Commands, ElseBlock, NoElse, Else, CommandList, NoCommand, AndCommand, StateTree, StateOf, StateList, NoState, AndState, DesignTree}
 use Rattle.sap_names.specs.declared.entity.Entity as tree
 use Rattle.sap_names.specs.Entities.{entities_of, what_is}
 use Rattle.sap_names.specs.Widths.{index_width}
@@ -113,6 +113,17 @@ module _ (l m : Levels) (names : l.names ≡ m.names) (order : order_of l ≡ or
         ap₂ (λ (s : program.Step) (b : Block). program.Try s [] b) (step_same h (resolve.site_number h k c) c) (block_same h (k + simple_sites h c) handler)
     command_same h k (If place condition one other) =
         ap₂ (λ (a b : Block). program.If [] (term_of h.entities condition (Some 1)) a b) (block_same h k one) (else_same h (k + block_sites h one) other)
+    command_same h k (TryThen c place accepted refused) =
+        ap (λ (s : program.Step). program.TryThen s [] (resolve.block_of l h (k + simple_sites h c) accepted) (resolve.block_of l h (k + simple_sites h c + block_sites h accepted) refused))
+        (step_same h (resolve.site_number h k c) c)
+        ∙ ap₂ (λ (a b : Block). program.TryThen (resolve.step_of m h (resolve.site_number h k c) c) [] a b) (block_same h (k + simple_sites h c) accepted)
+        (block_same h (k + simple_sites h c + block_sites h accepted) refused)
+    command_same h k (Case place e arms) = ap (λ (list : program.Arms). program.Case [] (term_of h.entities e None) list) (arms_same h k arms)
+
+    arms_same : (h : Home) (k : ℕ) (arms : Arms) → resolve.arms_of l h k arms ≡ resolve.arms_of m h k arms
+    arms_same h k (Last b) = ap program.Last (block_same h k b)
+    arms_same h k (Arm constants b arms) =
+        ap₂ (λ (x : Block) (list : program.Arms). program.Arm (resolve.numbers_of constants) x list) (block_same h k b) (arms_same h (k + block_sites h b) arms)
 
     block_same : (h : Home) (k : ℕ) (b : CommandBlock) → resolve.block_of l h k b ≡ resolve.block_of m h k b
     block_same h k (Commands cs after) = list_same h k cs

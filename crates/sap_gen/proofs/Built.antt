@@ -11,6 +11,7 @@ use Rattle.sap_tree.specs.declared.syntax.Cmd.{Cmd}
 use Rattle.sap_tree.specs.declared.syntax.Decl.{Decl}
 use Rattle.sap_tree.specs.declared.syntax.State.{State}
 use Rattle.sap_tree.specs.Parts.{tree_of}
+use Rattle.sap_tree.specs.declared.version.Version.TheVariants.{One}
 use Rattle.sap_gen.specs.Design.{assignment, body, commands, declared_input, declared_register, design_of_counts, state, states, transfer}
 
 -- one more is added to what a range gives
@@ -45,6 +46,6 @@ states_each (s ∷ ss) = ap (λ (rest : StateList). AndState (state_of s) rest) 
 
 -- the whole
 pub design_built : (r t : ℕ) (ds : List Decl) (ss : List State) → ds ≡ declared_input ∷ map declared_register (range_with_len 0 r) → map state_of ss ≡ map (state r t) (range_with_len 0 t)
-    → tree_of ds ss ≡ design_of_counts r t
+    → tree_of One ds ss ≡ design_of_counts r t
 design_built r t ds ss d s =
-    ap₂ (λ (ds : List Decl) (list : StateList). let tree : DesignTree = record { declarations = ds; states = list } in tree) d (states_each ss ∙ ap states s)
+    ap₂ (λ (ds : List Decl) (list : StateList). let tree : DesignTree = record { version = One; declarations = ds; states = list } in tree) d (states_each ss ∙ ap states s)

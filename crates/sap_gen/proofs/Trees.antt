@@ -14,6 +14,7 @@ use Rattle.sap_tree.specs.Whole.{are_commands, are_states, has_state, is_command
 use Rattle.sap_tree.specs.Words.{is_name}
 use Rattle.sap_tree.specs.declared.syntax.Decl.{Decl}
 use Rattle.sap_tree.specs.declared.syntax.Kind.TheVariants.{Dynamic}
+use Rattle.sap_tree.specs.declared.version.Version.TheVariants.{One}
 use Rattle.sap_gen.specs.Design.{assignment, commands, declared_input, declared_register, design_of_counts, enforced, input_name, register_name, state, states, sum, transfer}
 use Rattle.sap_gen.proofs.Words.{register_is_name, state_is_name}
 
@@ -22,21 +23,21 @@ at_most a b h = grind (arith, nat_tests)
 
 -- declarations
 
-kind_is : (b : Bool) → is_kind (if b then Dynamic nowhere else enforced (codes "a")) ≡ true
+kind_is : (b : Bool) → is_kind One (if b then Dynamic nowhere else enforced (codes "a")) ≡ true
 unfolding is_name
 kind_is true = refl
 kind_is false = refl
 
-register_is : (i : ℕ) → i < 64 → is_declaration (declared_register i) ≡ true
+register_is : (i : ℕ) → i < 64 → is_declaration One (declared_register i) ≡ true
 register_is i h = rw (register_is_name i h, kind_is (i % 2 == 0)) refl
 
-input_is : is_declaration declared_input ≡ true
+input_is : is_declaration One declared_input ≡ true
 unfolding is_name
 input_is = refl
 
-registers_are : (a k : ℕ) → a + k ≤ 64 → list_all is_declaration (map declared_register (range_with_len a k)) ≡ true
+registers_are : (a k : ℕ) → a + k ≤ 64 → list_all (is_declaration One) (map declared_register (range_with_len a k)) ≡ true
 registers_are a zero b = refl
-registers_are a (suc k) b = and_from (is_declaration (declared_register a)) (list_all is_declaration (map declared_register (range_with_len (a + 1) k))) (register_is a (omega arith)) (registers_are (a + 1) k (omega arith))
+registers_are a (suc k) b = and_from (is_declaration One (declared_register a)) (list_all (is_declaration One) (map declared_register (range_with_len (a + 1) k))) (register_is a (omega arith)) (registers_are (a + 1) k (omega arith))
 
 no_inputs : (a k : ℕ) → count_by is_input (map declared_register (range_with_len a k)) ≡ 0
 no_inputs a zero = refl
@@ -52,11 +53,11 @@ so_many_registers a (suc k) = sum_by-cons (λ (d : Decl). if is_register d then 
 
 -- commands
 
-input_is_name : is_name input_name ≡ true
+input_is_name : is_name One input_name ≡ true
 unfolding is_name
 input_is_name = refl
 
-sum_is : (k : ℕ) → k < 64 → is_expression (sum k) ≡ true
+sum_is : (k : ℕ) → k < 64 → is_expression One (sum k) ≡ true
 unfolding is_expression
 sum_is k h = rw (register_is_name k h, input_is_name) refl
 
@@ -64,24 +65,24 @@ sum_fits : (k : ℕ) → fits (sum k) ≡ true
 unfolding tokens brackets precedence_of
 sum_fits k = refl
 
-assignment_is : (r j i : ℕ) → i < 64 → 0 < r → r ≤ 64 → is_command (assignment r j i) ≡ true
+assignment_is : (r j i : ℕ) → i < 64 → 0 < r → r ≤ 64 → is_command One (assignment r j i) ≡ true
 unfolding is_command is_simple
 assignment_is r j i h some few =
-    and_from (is_name (register_name i)) (is_expression (sum ((i + j) % r)) && fits (sum ((i + j) % r))) (register_is_name i h)
-    (and_from (is_expression (sum ((i + j) % r))) (fits (sum ((i + j) % r))) (sum_is ((i + j) % r) (omega arith)) (sum_fits ((i + j) % r)))
+    and_from (is_name One (register_name i)) (is_expression One (sum ((i + j) % r)) && fits (sum ((i + j) % r))) (register_is_name i h)
+    (and_from (is_expression One (sum ((i + j) % r))) (fits (sum ((i + j) % r))) (sum_is ((i + j) % r) (omega arith)) (sum_fits ((i + j) % r)))
 
-transfer_is : (t j : ℕ) → 0 < t → t ≤ 64 → is_command (transfer t j) ≡ true
+transfer_is : (t j : ℕ) → 0 < t → t ≤ 64 → is_command One (transfer t j) ≡ true
 unfolding is_command is_simple
 transfer_is t j more short = state_is_name ((j + 1) % t) (omega arith)
 
 abbrev rest_of_body : (r t j a k : ℕ) → CommandList
 rest_of_body r t j a k = commands (map (assignment r j) (range_with_len a k) ++ transfer t j ∷ [])
 
-commands_are : (r t j a k : ℕ) → a + k ≤ 64 → 0 < r → r ≤ 64 → 0 < t → t ≤ 64 → are_commands (rest_of_body r t j a k) ≡ true
+commands_are : (r t j a k : ℕ) → a + k ≤ 64 → 0 < r → r ≤ 64 → 0 < t → t ≤ 64 → are_commands One (rest_of_body r t j a k) ≡ true
 unfolding are_commands
-commands_are r t j a zero b some few more short = and_from (is_command (transfer t j)) true (transfer_is t j more short) refl
+commands_are r t j a zero b some few more short = and_from (is_command One (transfer t j)) true (transfer_is t j more short) refl
 commands_are r t j a (suc k) b some few more short =
-    and_from (is_command (assignment r j a)) (are_commands (rest_of_body r t j (a + 1) k)) (assignment_is r j a (omega arith) some few)
+    and_from (is_command One (assignment r j a)) (are_commands One (rest_of_body r t j (a + 1) k)) (assignment_is r j a (omega arith) some few)
     (commands_are r t j (a + 1) k (omega arith) some few more short)
 
 so_many_commands : (r t j a k : ℕ) → list_count (rest_of_body r t j a k) ≡ k + 1
@@ -96,14 +97,14 @@ no_blocks r t j a (suc k) = ap (λ (n : ℕ). max 1 n) (no_blocks r t j (a + 1) 
 
 -- states
 
-low_is : is_kind (enforced (codes "low")) ≡ true
+low_is : is_kind One (enforced (codes "low")) ≡ true
 unfolding is_name
 low_is = refl
 
 flat : (depth : ℕ) → depth ≡ 1 → nat_le depth most_blocks ≡ true
 flat depth e = rw e refl
 
-state_is : (r t j : ℕ) → j < 64 → 0 < r → r ≤ 64 → 0 < t → t ≤ 64 → is_state (state r t j) ≡ true
+state_is : (r t j : ℕ) → j < 64 → 0 < r → r ≤ 64 → 0 < t → t ≤ 64 → is_state One (state r t j) ≡ true
 unfolding is_state is_block block_depth are_states
 state_is r t j h some few more short =
     and_from _ true
@@ -111,11 +112,11 @@ state_is r t j h some few more short =
     (flat (list_depth (rest_of_body r t j 0 r)) (no_blocks r t j 0 r)))
     refl
 
-states_are : (r t a k : ℕ) → a + k ≤ 64 → 0 < r → r ≤ 64 → 0 < t → t ≤ 64 → are_states (states (map (state r t) (range_with_len a k))) ≡ true
+states_are : (r t a k : ℕ) → a + k ≤ 64 → 0 < r → r ≤ 64 → 0 < t → t ≤ 64 → are_states One (states (map (state r t) (range_with_len a k))) ≡ true
 unfolding are_states
 states_are r t a zero b some few more short = refl
 states_are r t a (suc k) b some few more short =
-    and_from (is_state (state r t a)) (are_states (states (map (state r t) (range_with_len (a + 1) k)))) (state_is r t a (omega arith) some few more short)
+    and_from (is_state One (state r t a)) (are_states One (states (map (state r t) (range_with_len (a + 1) k)))) (state_is r t a (omega arith) some few more short)
     (states_are r t (a + 1) k (omega arith) some few more short)
 
 so_many_states : (r t a k : ℕ) → states_count (states (map (state r t) (range_with_len a k))) ≡ k
@@ -151,9 +152,9 @@ unfolding is_whole
 tree_is_whole r t some few more short =
     let ss = states (map (state r t) (range_with_len 0 t)) in
     let ds = declared_input ∷ map declared_register (range_with_len 0 r) in
-    let tree : (list_all is_declaration ds && has_state ss && are_states ss) ≡ true =
-    and_from (list_all is_declaration ds && has_state ss) (are_states ss)
-    (and_from (list_all is_declaration ds) (has_state ss) (and_from (is_declaration declared_input) _ input_is (registers_are 0 r (omega arith))) (some_state r t t more))
+    let tree : (list_all (is_declaration One) ds && has_state ss && are_states One ss) ≡ true =
+    and_from (list_all (is_declaration One) ds && has_state ss) (are_states One ss)
+    (and_from (list_all (is_declaration One) ds) (has_state ss) (and_from (is_declaration One declared_input) _ input_is (registers_are 0 r (omega arith))) (some_state r t t more))
     (states_are r t 0 t (omega arith) some (omega arith) more (omega arith)) in
     let a : nat_le (count_by is_input ds) 64 ≡ true = rw (one_input r) refl in
     let b : nat_le (count_by is_register ds) 256 ≡ true = rw (all_registers r) (at_most r 256 (omega arith)) in

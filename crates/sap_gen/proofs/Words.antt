@@ -7,6 +7,7 @@ use Rattle.std.proofs.lemmas.Fmt.{decimal_injective}
 use Rattle.sap_lattice.specs.Levels.{every}
 use Rattle.sap_lattice.proofs.Numbers.{every_at}
 use Rattle.sap_tree.specs.Words.{is_name}
+use Rattle.sap_tree.specs.declared.version.Version.TheVariants.{One}
 use Rattle.sap_maps.proofs.Scopes.{name_is}
 use Rattle.sap_gen.specs.Design.{register_name, state_name}
 
@@ -28,16 +29,16 @@ states_differ i j a b ne =
       | inr f ↦ f
     ]
 
-all_registers : every 64 (λ i. is_name (register_name i)) ≡ true
+all_registers : every 64 (λ i. is_name One (register_name i)) ≡ true
 unfolding is_name digits
 all_registers = refl
 
-all_states : every 64 (λ j. is_name (state_name j)) ≡ true
+all_states : every 64 (λ j. is_name One (state_name j)) ≡ true
 unfolding is_name digits
 all_states = refl
 
-pub register_is_name : (i : ℕ) → i < 64 → is_name (register_name i) ≡ true
-register_is_name i h = every_at (λ i. is_name (register_name i)) 64 all_registers i h
+pub register_is_name : (i : ℕ) → i < 64 → is_name One (register_name i) ≡ true
+register_is_name i h = every_at (λ i. is_name One (register_name i)) 64 all_registers i h
 
-pub state_is_name : (j : ℕ) → j < 64 → is_name (state_name j) ≡ true
-state_is_name j h = every_at (λ j. is_name (state_name j)) 64 all_states j h
+pub state_is_name : (j : ℕ) → j < 64 → is_name One (state_name j) ≡ true
+state_is_name j h = every_at (λ j. is_name One (state_name j)) 64 all_states j h

@@ -11,6 +11,7 @@ use Rattle.sap_tree.specs.declared.syntax.Decl.TheVariants.{Input, Register}
 use Rattle.sap_tree.specs.declared.syntax.Kind.{Kind}
 use Rattle.sap_tree.specs.declared.syntax.Kind.TheVariants.{Dynamic, Enforced}
 use Rattle.sap_tree.specs.declared.syntax.Numeral.{Numeral}
+use Rattle.sap_tree.specs.declared.version.Version.TheVariants.{One}
 
 -- how many registers and states it has
 abbrev pub register_count : ℕ → ℕ
@@ -81,6 +82,7 @@ states (s ∷ ss) = AndState s (states ss)
 -- with r registers and t states
 abbrev pub design_of_counts : (r t : ℕ) → DesignTree
 design_of_counts r t = record {
+  version = One;
   declarations = declared_input ∷ map declared_register (numbers r);
   states = states (map (state r t) (numbers t));
 }

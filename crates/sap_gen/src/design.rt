@@ -12,6 +12,7 @@ use sap_tree::design::Design;
 use sap_tree::name::{Mention, Name};
 use sap_tree::place::{Place, Spot};
 use sap_tree::syntax::{BinaryOperator, Block, Cmd, Decl, Expr, Kind, Numeral, Simple, State};
+use sap_tree::version::Version;
 use std::alloc::{AllocError, Global};
 
 /// The one place of a design without text.
@@ -193,5 +194,5 @@ pub(crate) fn design(alloc: Global, size: Size) -> Result<Design, AllocError>
 {
     let declarations = declarations(alloc, size)?;
     let states = states(alloc, size)?;
-    Ok(Design::new(declarations, states))
+    Ok(Design::new(Version::One, declarations, states))
 }

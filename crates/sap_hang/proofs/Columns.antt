@@ -5,19 +5,21 @@ use Rattle.std.proofs.lemmas.List.{map-append}
 use Rattle.std.proofs.Math.Seq.{set-append_seam}
 use Rattle.sap_tree.specs.declared.place.Place.{Place}
 use Rattle.sap_tree.specs.declared.syntax.Block.{Block}
+use Rattle.sap_tree.specs.declared.syntax.Arm.{Arm}
 use Rattle.sap_tree.specs.declared.syntax.Cmd.{Cmd}
 use Rattle.sap_tree.specs.declared.syntax.Decl.{Decl}
 use Rattle.sap_tree.specs.declared.syntax.State.{State, out-State}
 use Rattle.sap_tree.specs.Parts.{tree_of}
-use Rattle.sap_tree.specs.Syntax.{Expression, SimpleCommand, Fall, Command, Do, Try, If, ElseBlock, NoElse, Else, StateTree}
-use Rattle.sap_tree.specs.Touches.{Home, home_of, is_dynamic, touches, simple_touches, else_touches, is_dynamic_child, is_dynamic_store, states_assign, fall_touches}
+use Rattle.sap_tree.specs.declared.version.Version.{Version}
+use Rattle.sap_tree.specs.Syntax.{Expression, SimpleCommand, Fall, Command, Do, Try, If, TryThen, Case, ElseBlock, NoElse, Else, StateTree}
+use Rattle.sap_tree.specs.Touches.{Home, home_of, is_dynamic, touches, simple_touches, block_touches, else_touches, is_dynamic_child, is_dynamic_store, states_assign, fall_touches}
 use Rattle.sap_tree.specs.Touches as tree
-use Rattle.sap_tree.specs.Trees.{command_of, commands_of, block_of, else_of, state_of, states_of}
+use Rattle.sap_tree.specs.Trees.{command_of, commands_of, block_of, arm_block_of, arms_of, else_of, state_of, states_of}
 use Rattle.sap_tree.proofs.Views.{state_of-out}
-use Rattle.sap_hang.proofs.Walks.{touches-do, touches-try, touches-if}
-use Rattle.sap_hang.specs.Points.{Point, command_points, simple_points, block_points, else_points, state_points, points_of}
+use Rattle.sap_hang.proofs.Walks.{touches-do, touches-try, touches-if, touches-then, touches-case}
+use Rattle.sap_hang.specs.Points.{Point, command_points, simple_points, block_points, arms_points, else_points, state_points, points_of}
 use Rattle.sap_hang.specs.Points as points
-use Rattle.sap_hang.specs.Columns.{touching, list_touches, list_column, group_column}
+use Rattle.sap_hang.specs.Columns.{touching, list_touches, list_column, arms_touch, arms_column, group_column}
 
 -- one part, and those behind it
 after_part : (old new part rest all : List Bool) → new ≡ old ++ part → all ≡ part ++ rest → new ++ rest ≡ old ++ all
@@ -96,6 +98,79 @@ module _ (ds : List Decl) (h : Home) (x : List ℕ) where
   unfolding list_column
   else_column b = refl
 
+  -- arms
+
+  arms_column-drop : (arms : List Arm) (n : ℕ) (d : Arm) (cs : List Cmd) → n < length arms → d ≡ get_or arms n d → cs ≡ d.block.commands.items
+      → arms_column ds h x (drop n arms) ≡ list_column ds h x cs ++ arms_column ds h x (drop (n + 1) arms)
+  unfolding arms_column list_column
+  arms_column-drop [] n d cs l e f = absurd (omega arith)
+  arms_column-drop (arm ∷ arms) zero d cs l e f =
+      ap (λ (a : Arm). touching ds x (block_points h (arm_block_of a)) ++ arms_column ds h x arms) (sym e)
+      ∙ ap (λ (k : List Cmd). touching ds x (points.list_points h (commands_of k)) ++ arms_column ds h x arms) (sym f)
+  arms_column-drop (arm ∷ arms) (suc n) d cs l e f = let r = arms_column-drop arms n d cs (omega arith) e f in simp (add-one) (simp (add-one) at r)
+
+  pub arms_column-past : (arms : List Arm) (n : ℕ) → length arms ≤ n → arms_column ds h x (drop n arms) ≡ []
+  unfolding arms_column
+  arms_column-past [] zero l = refl
+  arms_column-past [] (suc n) l = refl
+  arms_column-past (arm ∷ arms) zero l = absurd (omega arith)
+  arms_column-past (arm ∷ arms) (suc n) l = arms_column-past arms n (omega arith)
+
+  pub arms_step : (arms : List Arm) (n : ℕ) (d : Arm) (cs : List Cmd) (old new : List Bool) → n < length arms → d ≡ get_or arms n d → cs ≡ d.block.commands.items
+      → new ≡ old ++ list_column ds h x cs → new ++ arms_column ds h x (drop (n + 1) arms) ≡ old ++ arms_column ds h x (drop n arms)
+  arms_step arms n d cs old new l e f k = after_part old new _ _ _ k (arms_column-drop arms n d cs l e f)
+
+  pub arms_end : (arms : List Arm) (n : ℕ) (new all : List Bool) → length arms ≤ n → new ++ arms_column ds h x (drop n arms) ≡ all → new ≡ all
+  arms_end arms n new all l e = sym (append_none new) ∙ ap (λ (r : List Bool). new ++ r) (sym (arms_column-past arms n l)) ∙ e
+
+  arms_touch-drop : (arms : List Arm) (n : ℕ) (d : Arm) (cs : List Cmd) → n < length arms → d ≡ get_or arms n d → cs ≡ d.block.commands.items
+      → arms_touch ds h (drop n arms) x ≡ (list_touches ds h cs x || arms_touch ds h (drop (n + 1) arms) x)
+  unfolding arms_touch list_touches tree.block_touches
+  arms_touch-drop [] n d cs l e f = absurd (omega arith)
+  arms_touch-drop (arm ∷ arms) zero d cs l e f =
+      ap (λ (a : Arm). tree.list_touches ds h (commands_of a.block.commands.items) x || arms_touch ds h arms x) (sym e)
+      ∙ ap (λ (k : List Cmd). tree.list_touches ds h (commands_of k) x || arms_touch ds h arms x) (sym f)
+  arms_touch-drop (arm ∷ arms) (suc n) d cs l e f = let r = arms_touch-drop arms n d cs (omega arith) e f in simp (add-one) (simp (add-one) at r)
+
+  pub arms_touch-past : (arms : List Arm) (n : ℕ) → length arms ≤ n → arms_touch ds h (drop n arms) x ≡ false
+  unfolding arms_touch
+  arms_touch-past [] zero l = refl
+  arms_touch-past [] (suc n) l = refl
+  arms_touch-past (arm ∷ arms) zero l = absurd (omega arith)
+  arms_touch-past (arm ∷ arms) (suc n) l = arms_touch-past arms n (omega arith)
+
+  pub arm_touched : (arms : List Arm) (n : ℕ) (d : Arm) (cs : List Cmd) (old here new all : Bool) → n < length arms → d ≡ get_or arms n d → cs ≡ d.block.commands.items
+      → here ≡ list_touches ds h cs x → new ≡ (old || here) → (old || arms_touch ds h (drop n arms) x) ≡ all → (new || arms_touch ds h (drop (n + 1) arms) x) ≡ all
+  arm_touched arms n d cs old here new all l e f t k i =
+      ap (λ (b : Bool). b || arms_touch ds h (drop (n + 1) arms) x) (k ∙ ap (λ (b : Bool). old || b) t)
+      ∙ or_assoc old (list_touches ds h cs x) (arms_touch ds h (drop (n + 1) arms) x)
+      ∙ ap (λ (b : Bool). old || b) (sym (arms_touch-drop arms n d cs l e f)) ∙ i
+
+  pub arms_touched : (arms : List Arm) (n : ℕ) (b all : Bool) → length arms ≤ n → (b || arms_touch ds h (drop n arms) x) ≡ all → b ≡ all
+  arms_touched arms n b all l i = sym (or_none b) ∙ ap (λ (r : Bool). b || r) (sym (arms_touch-past arms n l)) ∙ i
+
+  arms_column-of : (arms : List Arm) (last : Block) → touching ds x (arms_points h (arms_of arms (block_of last))) ≡ arms_column ds h x arms ++ list_column ds h x last.commands.items
+  unfolding arms_column list_column
+  arms_column-of [] last = refl
+  arms_column-of (arm ∷ arms) last =
+      touching-both ds x (block_points h (arm_block_of arm)) (arms_points h (arms_of arms (block_of last)))
+      ∙ ap (λ (l : List Bool). touching ds x (block_points h (arm_block_of arm)) ++ l) (arms_column-of arms last)
+      ∙ sym (append_assoc (touching ds x (block_points h (arm_block_of arm))) (arms_column ds h x arms) (touching ds x (points.list_points h (commands_of last.commands.items))))
+
+  then_column : (k : SimpleCommand) (place : Place) (a b : Block)
+      → touching ds x (command_points h (TryThen k place (block_of a) (block_of b)))
+      ≡ touching ds x (simple_points h k) ++ touches ds h (TryThen k place (block_of a) (block_of b)) x ∷ (list_column ds h x a.commands.items ++ list_column ds h x b.commands.items)
+  unfolding list_column
+  then_column k place a b =
+      touching-both ds x (simple_points h k) _
+      ∙ ap (λ (l : List Bool). touching ds x (simple_points h k) ++ touches ds h (TryThen k place (block_of a) (block_of b)) x ∷ l)
+      (touching-both ds x (points.list_points h (commands_of a.commands.items)) (points.list_points h (commands_of b.commands.items)))
+
+  case_column : (place : Place) (e : Expression) (arms : List Arm) (last : Block)
+      → touching ds x (command_points h (Case place e (arms_of arms (block_of last))))
+      ≡ touches ds h (Case place e (arms_of arms (block_of last))) x ∷ (arms_column ds h x arms ++ list_column ds h x last.commands.items)
+  case_column place e arms last = ap (λ (l : List Bool). touches ds h (Case place e (arms_of arms (block_of last))) x ∷ l) (arms_column-of arms last)
+
   try_column : (k : SimpleCommand) (place : Place) (b : Block)
       → touching ds x (command_points h (Try k place (block_of b))) ≡ touching ds x (simple_points h k) ++ touches ds h (Try k place (block_of b)) x ∷ list_column ds h x b.commands.items
   unfolding list_column
@@ -130,6 +205,46 @@ module _ (ds : List Decl) (h : Home) (x : List ℕ) where
       ∙ ap (λ (z : List Bool). z ++ new ∷ l) es ∙ append_assoc old (touching ds x (simple_points h k)) (new ∷ l)
       ∙ ap (λ (z : Bool). old ++ (touching ds x (simple_points h k) ++ z ∷ l)) en
       ∙ ap (λ (z : List Bool). old ++ z) (sym (try_column k place b)) ∙ ap (λ (z : Command). old ++ touching ds x (command_points h z)) (sym ec)
+
+  pub then_filled : (c : Command) (k : SimpleCommand) (place : Place) (a b : Block) (la lb : List Cmd) (own taken left : Bool) (old simple pushed first second : List Bool) (at : ℕ)
+      → c ≡ TryThen k place (block_of a) (block_of b) → la ≡ a.commands.items → lb ≡ b.commands.items → simple ≡ old ++ touching ds x (simple_points h k) → at ≡ length simple
+      → pushed ≡ simple ++ false ∷ [] → first ≡ pushed ++ list_column ds h x la → second ≡ first ++ list_column ds h x lb → own ≡ simple_touches ds h k x
+      → taken ≡ list_touches ds h la x → left ≡ list_touches ds h lb x → set second at (own || (taken || left)) ≡ old ++ touching ds x (command_points h c)
+  then_filled c k place a b la lb own taken left old simple pushed first second at ec el em es ea ep ei ej eo et er =
+      let new = own || (taken || left) in
+      let l = list_column ds h x a.commands.items in
+      let r = list_column ds h x b.commands.items in
+      let i : second ≡ simple ++ false ∷ (l ++ r) =
+      ej ∙ ap (λ (z : List Cmd). first ++ list_column ds h x z) em
+      ∙ ap (λ (z : List Bool). z ++ r) (ei ∙ ap (λ (z : List Cmd). pushed ++ list_column ds h x z) el ∙ ap (λ (z : List Bool). z ++ l) ep ∙ append_assoc simple (false ∷ []) l)
+      ∙ append_assoc simple (false ∷ l) r in
+      let en : new ≡ touches ds h (TryThen k place (block_of a) (block_of b)) x =
+      ap (λ (z : Bool). z || (taken || left)) eo ∙ ap (λ (z : Bool). simple_touches ds h k x || (z || left)) (et ∙ ap (λ (z : List Cmd). list_touches ds h z x) el)
+      ∙ ap (λ (z : Bool). simple_touches ds h k x || (list_touches ds h a.commands.items x || z)) (er ∙ ap (λ (z : List Cmd). list_touches ds h z x) em)
+      ∙ sym (touches-then ds h k place a b x) in
+      ap (λ (z : List Bool). set z at new) i ∙ ap (λ (z : ℕ). set (simple ++ false ∷ (l ++ r)) z new) ea ∙ set-append_seam simple false (l ++ r) new
+      ∙ ap (λ (z : List Bool). z ++ new ∷ (l ++ r)) es ∙ append_assoc old (touching ds x (simple_points h k)) (new ∷ (l ++ r))
+      ∙ ap (λ (z : Bool). old ++ (touching ds x (simple_points h k) ++ z ∷ (l ++ r))) en
+      ∙ ap (λ (z : List Bool). old ++ z) (sym (then_column k place a b)) ∙ ap (λ (z : Command). old ++ touching ds x (command_points h z)) (sym ec)
+
+  pub case_filled : (c : Command) (place : Place) (e : Expression) (arms : List Arm) (last : Block) (la : List Arm) (lb : List Cmd) (taken left : Bool) (old pushed first second : List Bool) (at : ℕ)
+      → c ≡ Case place e (arms_of arms (block_of last)) → la ≡ arms → lb ≡ last.commands.items → at ≡ length old → pushed ≡ old ++ false ∷ []
+      → first ≡ pushed ++ arms_column ds h x la → second ≡ first ++ list_column ds h x lb → taken ≡ arms_touch ds h la x → left ≡ list_touches ds h lb x
+      → set second at (taken || left) ≡ old ++ touching ds x (command_points h c)
+  case_filled c place e arms last la lb taken left old pushed first second at ec el em ea ep ei ej et er =
+      let new = taken || left in
+      let l = arms_column ds h x arms in
+      let r = list_column ds h x last.commands.items in
+      let i : second ≡ old ++ false ∷ (l ++ r) =
+      ej ∙ ap (λ (z : List Cmd). first ++ list_column ds h x z) em
+      ∙ ap (λ (z : List Bool). z ++ r) (ei ∙ ap (λ (z : List Arm). pushed ++ arms_column ds h x z) el ∙ ap (λ (z : List Bool). z ++ l) ep ∙ append_assoc old (false ∷ []) l)
+      ∙ append_assoc old (false ∷ l) r in
+      let en : new ≡ touches ds h (Case place e (arms_of arms (block_of last))) x =
+      ap (λ (z : Bool). z || left) (et ∙ ap (λ (z : List Arm). arms_touch ds h z x) el) ∙ ap (λ (z : Bool). arms_touch ds h arms x || z) (er ∙ ap (λ (z : List Cmd). list_touches ds h z x) em)
+      ∙ sym (touches-case ds h place e arms last x) in
+      ap (λ (z : List Bool). set z at new) i ∙ ap (λ (z : ℕ). set (old ++ false ∷ (l ++ r)) z new) ea ∙ set-append_seam old false (l ++ r) new
+      ∙ ap (λ (z : Bool). old ++ z ∷ (l ++ r)) en
+      ∙ ap (λ (z : List Bool). old ++ z) (sym (case_column place e arms last)) ∙ ap (λ (z : Command). old ++ touching ds x (command_points h z)) (sym ec)
 
   pub if_filled : (c : Command) (place : Place) (e : Expression) (one : Block) (list : List Cmd) (other : ElseBlock) (taken left : Bool) (old pushed first second : List Bool) (at : ℕ)
       → c ≡ If place e (block_of one) other → list ≡ one.commands.items → at ≡ length old → pushed ≡ old ++ false ∷ []
@@ -190,12 +305,12 @@ unfolding fall_touches
 falls_are ds ss x store falls h e = e ∙ ap (λ (b : Bool). is_dynamic_child (states_of ss) x || (b && states_assign (states_of ss) x)) h
 
 -- the column of a design
-pub column_whole : (ds : List Decl) (ss : List State) (x : List ℕ) (declared : List Decl) (seen : List State) (old new : List Bool) → declared ≡ ds → seen ≡ ss → old ≡ []
-    → new ≡ old ++ group_column declared x seen → new ≡ touching ds x (points_of (tree_of ds ss))
+pub column_whole : (v : Version) (ds : List Decl) (ss : List State) (x : List ℕ) (declared : List Decl) (seen : List State) (old new : List Bool) → declared ≡ ds → seen ≡ ss → old ≡ []
+    → new ≡ old ++ group_column declared x seen → new ≡ touching ds x (points_of (tree_of v ds ss))
 unfolding group_column
-column_whole ds ss x declared seen old new a b c h = h ∙ rw (a, b, c) refl
+column_whole v ds ss x declared seen old new a b c h = h ∙ rw (a, b, c) refl
 
-pub ruleset lists = (list_column-past, group_column-past)
+pub ruleset lists = (list_column-past, arms_column-past, group_column-past)
 
 pub ruleset blocks = (block_column, else_column, append_assoc)
 

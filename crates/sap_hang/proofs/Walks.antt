@@ -2,14 +2,16 @@
 use Rattle.std.proofs.Common.{◌≡◌, ℕ, zero, suc, ◌+◌, ◌<◌, ◌≤◌, List, [], ◌∷◌, ◌||◌, ◌&&◌, Bool, true, false, length, get_or, drop, refl, sym, ap, ◌∙◌, arith, add-one, bytes_eq, Some}
 use Rattle.sap_tree.specs.declared.place.Place.{Place}
 use Rattle.sap_tree.specs.declared.syntax.Block.{Block}
+use Rattle.sap_tree.specs.declared.syntax.Arm.{Arm}
 use Rattle.sap_tree.specs.declared.syntax.Cmd.{Cmd}
 use Rattle.sap_tree.specs.declared.syntax.Decl.{Decl}
 use Rattle.sap_tree.specs.declared.syntax.State.{State, out-State}
-use Rattle.sap_tree.specs.Syntax.{Expression, SimpleCommand, Command, Do, Try, If, CommandBlock, ElseBlock, NoElse, Else, StateTree, StateOf, StateList, NoState, AndState}
+use Rattle.sap_tree.specs.Syntax.{Expression, SimpleCommand, Command, Do, Try, If, TryThen, Case, CommandBlock, ElseBlock, NoElse, Else, StateTree, StateOf, StateList, NoState, AndState}
 use Rattle.sap_tree.specs.Touches.{Home, is_dynamic, is_dynamic_child, simple_assigns, assigns, block_assigns, else_assigns, list_assigns, state_assigns, states_assign, simple_touches, touches, block_touches, else_touches}
-use Rattle.sap_tree.specs.Trees.{command_of, commands_of, block_of, else_of, state_of, states_of}
+use Rattle.sap_tree.specs.Touches as tree
+use Rattle.sap_tree.specs.Trees.{command_of, commands_of, block_of, arm_block_of, arms_of, else_of, state_of, states_of}
 use Rattle.sap_tree.proofs.Views.{state_of-out}
-use Rattle.sap_hang.specs.Columns.{list_touches}
+use Rattle.sap_hang.specs.Columns.{arms_assign, arms_touch, list_touches}
 
 module _ {X : Type 0} (test : X → Bool) (any : List X → Bool) (none : any [] ≡ false) (more : (x : X) (xs : List X) → any (x ∷ xs) ≡ (test x || any xs)) where
   any_drop : (xs : List X) (n : ℕ) (d : X) → n < length xs → any (drop n xs) ≡ (test (get_or xs n d) || any (drop (n + 1) xs))
@@ -36,6 +38,18 @@ commands_here name cs n d b h e t = any_here (λ (c : Cmd). assigns (command_of 
 pub commands_past : (name : List ℕ) (cs : List Cmd) (n : ℕ) → length cs ≤ n → list_assigns (commands_of (drop n cs)) name ≡ false
 unfolding list_assigns
 commands_past name cs n h = any_past (λ (c : Cmd). assigns (command_of c) name) (λ (l : List Cmd). list_assigns (commands_of l) name) refl (λ c l. refl) cs n h
+
+-- arms of which one assigns
+
+pub arms_here : (name : List ℕ) (arms : List Arm) (n : ℕ) (d : Arm) (cs : List Cmd) (b : Bool) → n < length arms → d ≡ get_or arms n d → cs ≡ d.block.commands.items
+    → b ≡ list_assigns (commands_of cs) name → arms_assign (drop n arms) name ≡ (b || arms_assign (drop (n + 1) arms) name)
+unfolding arms_assign block_assigns
+arms_here name arms n d cs b h e same t =
+    any_here (λ (a : Arm). block_assigns (arm_block_of a) name) (λ (l : List Arm). arms_assign l name) refl (λ a l. refl) arms n d b h e (t ∙ ap (λ (l : List Cmd). list_assigns (commands_of l) name) same)
+
+pub arms_past : (name : List ℕ) (arms : List Arm) (n : ℕ) → length arms ≤ n → arms_assign (drop n arms) name ≡ false
+unfolding arms_assign
+arms_past name arms n h = any_past (λ (a : Arm). block_assigns (arm_block_of a) name) (λ (l : List Arm). arms_assign l name) refl (λ a l. refl) arms n h
 
 -- states of which one assigns
 
@@ -71,7 +85,11 @@ child_here name ss n d b h e t =
 pub child_past : (name : List ℕ) (ss : List State) (n : ℕ) → length ss ≤ n → is_dynamic_child (states_of (drop n ss)) name ≡ false
 child_past name ss n h = any_past (λ (s : State). bears name (state_of s)) (λ (l : List State). is_dynamic_child (states_of l) name) (child_none name) (λ s l. child_more name (state_of s) (states_of l)) ss n h
 
-pub ruleset pasts = (commands_past, states_past, child_past)
+pub ruleset pasts = (commands_past, arms_past, states_past, child_past)
+
+or_assoc : (a b c : Bool) → (a || (b || c)) ≡ ((a || b) || c)
+or_assoc true b c = refl
+or_assoc false b c = refl
 
 -- what is assigned
 
@@ -88,6 +106,22 @@ pub assigns-if : (place : Place) (e : Expression) (one : Block) (other : ElseBlo
 unfolding assigns block_assigns
 assigns-if place e one other x = refl
 
+pub assigns-then : (k : SimpleCommand) (place : Place) (a b : Block) (x : List ℕ)
+    → assigns (TryThen k place (block_of a) (block_of b)) x ≡ (simple_assigns k x || (list_assigns (commands_of a.commands.items) x || list_assigns (commands_of b.commands.items) x))
+unfolding assigns block_assigns
+assigns-then k place a b x = refl
+
+arms_assign-of : (arms : List Arm) (last : Block) (x : List ℕ) → tree.arms_assign (arms_of arms (block_of last)) x ≡ (arms_assign arms x || list_assigns (commands_of last.commands.items) x)
+unfolding tree.arms_assign arms_assign block_assigns
+arms_assign-of [] last x = refl
+arms_assign-of (arm ∷ arms) last x =
+    ap (λ (b : Bool). block_assigns (arm_block_of arm) x || b) (arms_assign-of arms last x) ∙ or_assoc (block_assigns (arm_block_of arm) x) (arms_assign arms x) (list_assigns (commands_of last.commands.items) x)
+
+pub assigns-case : (place : Place) (e : Expression) (arms : List Arm) (last : Block) (x : List ℕ)
+    → assigns (Case place e (arms_of arms (block_of last))) x ≡ (arms_assign arms x || list_assigns (commands_of last.commands.items) x)
+unfolding assigns
+assigns-case place e arms last x = arms_assign-of arms last x
+
 pub else_assigns-none : (x : List ℕ) → else_assigns NoElse x ≡ false
 unfolding else_assigns
 else_assigns-none x = refl
@@ -101,7 +135,7 @@ pub state_assigns-is : (s : State) (x : List ℕ)
 unfolding state_assigns block_assigns
 state_assigns-is s x = ap (λ (t : StateTree). state_assigns t x) (state_of-out s)
 
-pub ruleset assigning = (assigns-do, assigns-try, assigns-if, else_assigns-none, else_assigns-some, state_assigns-is)
+pub ruleset assigning = (assigns-do, assigns-try, assigns-if, assigns-then, assigns-case, else_assigns-none, else_assigns-some, state_assigns-is)
 
 -- what is touched
 
@@ -119,6 +153,23 @@ pub touches-if : (ds : List Decl) (h : Home) (place : Place) (e : Expression) (o
 unfolding touches block_touches list_touches
 touches-if ds h place e one other x = refl
 
+pub touches-then : (ds : List Decl) (h : Home) (k : SimpleCommand) (place : Place) (a b : Block) (x : List ℕ)
+    → touches ds h (TryThen k place (block_of a) (block_of b)) x ≡ (simple_touches ds h k x || (list_touches ds h a.commands.items x || list_touches ds h b.commands.items x))
+unfolding touches block_touches list_touches
+touches-then ds h k place a b x = refl
+
+arms_touch-of : (ds : List Decl) (h : Home) (arms : List Arm) (last : Block) (x : List ℕ)
+    → tree.arms_touch ds h (arms_of arms (block_of last)) x ≡ (arms_touch ds h arms x || list_touches ds h last.commands.items x)
+unfolding tree.arms_touch arms_touch block_touches list_touches
+arms_touch-of ds h [] last x = refl
+arms_touch-of ds h (arm ∷ arms) last x =
+    ap (λ (b : Bool). block_touches ds h (arm_block_of arm) x || b) (arms_touch-of ds h arms last x) ∙ or_assoc (block_touches ds h (arm_block_of arm) x) (arms_touch ds h arms x) _
+
+pub touches-case : (ds : List Decl) (h : Home) (place : Place) (e : Expression) (arms : List Arm) (last : Block) (x : List ℕ)
+    → touches ds h (Case place e (arms_of arms (block_of last))) x ≡ (arms_touch ds h arms x || list_touches ds h last.commands.items x)
+unfolding touches
+touches-case ds h place e arms last x = arms_touch-of ds h arms last x
+
 pub else_touches-none : (ds : List Decl) (h : Home) (x : List ℕ) → else_touches ds h NoElse x ≡ false
 unfolding else_touches
 else_touches-none ds h x = refl
@@ -127,4 +178,4 @@ pub else_touches-some : (ds : List Decl) (h : Home) (b : Block) (x : List ℕ) �
 unfolding else_touches block_touches list_touches
 else_touches-some ds h b x = refl
 
-pub ruleset touching_rules = (touches-do, touches-try, touches-if, else_touches-none, else_touches-some)
+pub ruleset touching_rules = (touches-do, touches-try, touches-if, touches-then, touches-case, else_touches-none, else_touches-some)

@@ -1,10 +1,11 @@
 -- How a table is kept: for each entity a column, which says of each point whether the entity hangs on it.
-use Rattle.std.specs.Prelude.{◌≡◌, ℕ, Bool, List, Vec, map}
+use Rattle.std.specs.Prelude.{◌≡◌, ℕ, Bool, false, ◌||◌, List, [], ◌∷◌, ◌++◌, Vec, map}
 use Rattle.std.specs.Global.{Global}
+use Rattle.sap_tree.specs.declared.syntax.Arm.{Arm}
 use Rattle.sap_tree.specs.declared.syntax.Cmd.{Cmd}
 use Rattle.sap_tree.specs.declared.syntax.Decl.{Decl}
 use Rattle.sap_tree.specs.declared.syntax.State.{State}
-use Rattle.sap_tree.specs.Trees.{commands_of, states_of}
+use Rattle.sap_tree.specs.Trees.{arm_block_of, commands_of, states_of}
 use Rattle.sap_tree.specs.Touches.{Home, touches, is_dynamic_store, fall_touches}
 use Rattle.sap_tree.specs.Touches as tree
 use Rattle.sap_names.specs.declared.entity.Entity.{Entity}
@@ -33,6 +34,20 @@ list_column ds h name cs = touching ds name (points.list_points h (commands_of c
 
 unfoldable pub group_column : List Decl → (name : List ℕ) → List State → List Bool
 group_column ds name states = touching ds name (points.states_points (states_of states))
+
+-- the arms of a `case`, without the block after `else`
+
+unfoldable pub arms_assign : List Arm → (name : List ℕ) → Bool
+arms_assign [] name = false
+arms_assign (arm ∷ arms) name = tree.block_assigns (arm_block_of arm) name || arms_assign arms name
+
+unfoldable pub arms_touch : List Decl → Home → List Arm → (name : List ℕ) → Bool
+arms_touch ds h [] name = false
+arms_touch ds h (arm ∷ arms) name = tree.block_touches ds h (arm_block_of arm) name || arms_touch ds h arms name
+
+unfoldable pub arms_column : List Decl → Home → (name : List ℕ) → List Arm → List Bool
+arms_column ds h name [] = []
+arms_column ds h name (arm ∷ arms) = touching ds name (points.block_points h (arm_block_of arm)) ++ arms_column ds h name arms
 
 -- the columns of these entities at these points
 abbrev pub columns_of : List Decl → List Entity → List Point → List (List Bool)

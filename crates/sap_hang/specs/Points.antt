@@ -1,6 +1,6 @@
--- The points of a design: each `if`, `otherwise` and `fall`, in the order of these words. Each is the command that it is, and the state in whose body it stands.
+-- The points of a design: each `if`, `otherwise`, `fall`, `then` and `case`, in the order of these words. The `otherwise` of a `then` is none. Each is the command that it is, and the state in whose body it stands.
 use Rattle.std.specs.Prelude.{List, [], ◌∷◌, ◌++◌}
-use Rattle.sap_tree.specs.Syntax.{SimpleCommand, Assign, Write, SetTag, SetCellTag, Goto, Fall, Command, Do, Try, If, CommandBlock, Commands, ElseBlock, NoElse, Else, CommandList, NoCommand, AndCommand, StateTree, StateOf, StateList, NoState, AndState, DesignTree}
+use Rattle.sap_tree.specs.Syntax.{SimpleCommand, Assign, Write, SetTag, SetCellTag, Goto, Fall, Command, Do, Try, If, TryThen, Case, Arms, Last, Arm, CommandBlock, Commands, ElseBlock, NoElse, Else, CommandList, NoCommand, AndCommand, StateTree, StateOf, StateList, NoState, AndState, DesignTree}
 use Rattle.sap_tree.specs.Touches.{Home, home_of}
 
 pub record Point : Type 0 where
@@ -25,6 +25,9 @@ abbrev mutual
   command_points h (Try k place handler) = simple_points h k ++ point h (Try k place handler) ∷ block_points h handler
   command_points h (If place condition then_block else_block) =
       point h (If place condition then_block else_block) ∷ block_points h then_block ++ else_points h else_block
+  command_points h (TryThen k place accepted refused) =
+      simple_points h k ++ point h (TryThen k place accepted refused) ∷ (block_points h accepted ++ block_points h refused)
+  command_points h (Case place e arms) = point h (Case place e arms) ∷ arms_points h arms
 
   pub block_points : Home → CommandBlock → List Point
   block_points h (Commands cs after) = list_points h cs
@@ -32,6 +35,10 @@ abbrev mutual
   pub else_points : Home → ElseBlock → List Point
   else_points h NoElse = []
   else_points h (Else b) = block_points h b
+
+  pub arms_points : Home → Arms → List Point
+  arms_points h (Last b) = block_points h b
+  arms_points h (Arm constants b arms) = block_points h b ++ arms_points h arms
 
   pub list_points : Home → CommandList → List Point
   list_points h NoCommand = []

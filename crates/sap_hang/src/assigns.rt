@@ -1,11 +1,12 @@
 //! Which commands assign a register or a memory.
 
 ghost use Rattle.std.specs.Prelude.{◌≡◌};
+ghost use Rattle.sap_hang.specs.Columns as columns;
 ghost use Rattle.sap_tree.specs.Touches as tree;
 ghost use Rattle.sap_tree.specs.Trees.{command_of, commands_of, else_of, simple_of, state_of, states_of};
 
 use sap_tree::name::Name;
-use sap_tree::syntax::{Block, Cmd, Simple, State};
+use sap_tree::syntax::{Arm, Block, Cmd, Simple, State};
 
 /// Whether a command that can have a handler assigns the entity of this name.
 pub(crate) fn simple_assigns(command: &Simple, name: &Name) -> bool
@@ -34,7 +35,29 @@ fn assigns(command: &Cmd, name: &Name) -> bool
         Cmd::If(_, _, one, other) => {
             list_assigns(one.commands.as_slice(), name) || else_assigns(other, name)
         }
+        Cmd::TryThen(simple, _, accepted, refused) => {
+            simple_assigns(simple, name)
+                || list_assigns(accepted.commands.as_slice(), name)
+                || list_assigns(refused.commands.as_slice(), name)
+        }
+        Cmd::Case(_, _, arms, last) => {
+            arms_assign(arms.as_slice(), name) || list_assigns(last.commands.as_slice(), name)
+        }
     }
+}
+
+/// The arms of a `case`, without the block after `else`.
+#[cycle(body)]
+#[tactic(auto, using(crate::proofs::Walks::pasts))]
+fn arms_assign(arms: &[Arm], name: &Name) -> bool
+    ensures { result ≡ columns.arms_assign arms.now name.now }
+{
+    for arm in arms {
+        if list_assigns(arm.block.commands.as_slice(), name) {
+            return true;
+        }
+    }
+    false
 }
 
 #[cycle(body)]

@@ -12,7 +12,7 @@ use crate::seat::Seat;
 use crate::touches::{fall_touches, is_dynamic, is_dynamic_store, simple_touches};
 use sap_tree::design::Design;
 use sap_tree::name::Name;
-use sap_tree::syntax::{Block, Cmd, Decl, Simple, State};
+use sap_tree::syntax::{Arm, Block, Cmd, Decl, Simple, State};
 use std::alloc::{AllocError, Global};
 
 fn add_simple(seat: &Seat<'_>, command: &Simple, column: &mut Vec<bool>) -> Result<bool, AllocError>
@@ -54,7 +54,42 @@ fn add_command(seat: &Seat<'_>, command: &Cmd, column: &mut Vec<bool>) -> Result
             column[at] = touched;
             Ok(touched)
         }
+        Cmd::TryThen(simple, _, accepted, refused) => {
+            let own = add_simple(seat, simple, column)?;
+            let at = column.len();
+            column.push(false)?;
+            let taken = add_list(seat, accepted.commands.as_slice(), column)?;
+            let left = add_list(seat, refused.commands.as_slice(), column)?;
+            let touched = own | (taken | left);
+            column[at] = touched;
+            Ok(touched)
+        }
+        Cmd::Case(_, _, arms, last) => {
+            let at = column.len();
+            column.push(false)?;
+            let taken = add_arms(seat, arms.as_slice(), column)?;
+            let left = add_list(seat, last.commands.as_slice(), column)?;
+            let touched = taken | left;
+            column[at] = touched;
+            Ok(touched)
+        }
     }
+}
+
+/// The arms of a `case`, without the block after `else`.
+#[cycle(body)]
+#[tactic(auto, using(crate::proofs::Columns::lists))]
+fn add_arms(seat: &Seat<'_>, arms: &[Arm], column: &mut Vec<bool>) -> Result<bool, AllocError>
+    requires { Sees seat.now }
+    ensures touched { IfOk result (λ b. b ≡ columns.arms_touch seat.now.declarations.now (home_of seat.now) arms.now seat.now.entity.now) }
+    ensures column { OnOk result (column.new.items ≡ column.old.items ++ columns.arms_column seat.now.declarations.now (home_of seat.now) seat.now.entity.now arms.now) }
+{
+    let mut touched = false;
+    for arm in arms {
+        let here = add_list(seat, arm.block.commands.as_slice(), column)?;
+        touched |= here;
+    }
+    Ok(touched)
 }
 
 #[cycle(body)]

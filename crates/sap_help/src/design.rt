@@ -126,15 +126,17 @@ or below the first.
 const E10: &str = "E10: a body doesn't end each of its ways with one transfer.
 
 The place is the token behind the commands that lack one, an `if` without `else` that would have to
-end the body, or a transfer that other commands follow. A transfer is a `goto` or a `fall`.
+end the body, a transfer that other commands follow, or the `then` of a transfer. A transfer is a
+`goto` or a `fall`.
 
 Example:
 
     reg x : 8 dynamic;
     state S enforced low { x := 1; }
 
-Cure: End each way through the body with `goto` or `fall`, in both branches of an `if` that ends it
-and in the handler of a transfer, and put none before the end.
+Cure: End each way through the body with `goto` or `fall`, in both branches of an `if` that ends it,
+in each block of a `case` or behind `then`, and in the handler of a transfer, and put none before
+the end.
 ";
 
 const E11: &str = "E11: a `goto` leaves its group.
@@ -179,8 +181,8 @@ branches of an `if`, into two states, or into two memories.
 
 const E15: &str = "E15: a handler can never run.
 
-The place is the `otherwise`. Its command can't be refused: only writes to what is enforced,
-`setTag`, a `goto` from or to an enforced state and a `fall` into an enforced child may be.
+The place is the `otherwise` or the `then`. Its command can't be refused: only writes to what is
+enforced, `setTag`, a `goto` from or to an enforced state and a `fall` into an enforced child may be.
 
 Example:
 

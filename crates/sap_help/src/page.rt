@@ -30,7 +30,7 @@ static COMMANDS: [(&str, &str); 8] = [
     ),
     (
         "report",
-        "LATTICE DESIGN: writes codes of levels, what hangs on each if, otherwise and fall, and check sites",
+        "LATTICE DESIGN: writes codes of levels, what hangs on which commands, and check sites",
     ),
     (
         "twin",

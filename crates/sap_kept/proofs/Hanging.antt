@@ -1,11 +1,11 @@
 -- What hangs on the commands of a program is what they touch in the tree.
-use Rattle.std.proofs.Common.{◌≡◌, ℕ, zero, suc, ◌+◌, ◌<◌, Bool, true, false, ◌&&◌, ◌||◌, List, [], ◌∷◌, ◌++◌, length, map, nat_eq, refl, sym, ap, ◌∙◌, arith, bytes_eq, Option, Some}
+use Rattle.std.proofs.Common.{◌≡◌, ℕ, zero, suc, ◌+◌, ◌<◌, Bool, true, false, ◌&&◌, ◌||◌, List, [], ◌∷◌, ◌++◌, length, map, nat_eq, refl, sym, ap, ◌∙◌, arith, bytes_eq, Option, Some, None}
 use Rattle.std.proofs.lemmas.List.{map-append}
 use Rattle.sap_tree.specs.declared.place.Place.{Place}
 use Rattle.sap_tree.specs.declared.name.Mention.{Mention}
 use Rattle.sap_tree.specs.declared.syntax.Decl.{Decl}
 use Rattle.sap_tree.specs.declared.syntax.Kind.{Kind}
-use Rattle.sap_tree.specs.Syntax.{SimpleCommand, Assign, Write, SetTag, SetCellTag, Goto, Fall, Command, Do, Try, If, CommandBlock, Commands, ElseBlock, NoElse, Else, CommandList, NoCommand, AndCommand, StateTree, StateOf, StateList, NoState, AndState}
+use Rattle.sap_tree.specs.Syntax.{SimpleCommand, Assign, Write, SetTag, SetCellTag, Goto, Fall, Command, Do, Try, If, TryThen, Case, Arms, Last, Arm, CommandBlock, Commands, ElseBlock, NoElse, Else, CommandList, NoCommand, AndCommand, StateTree, StateOf, StateList, NoState, AndState}
 use Rattle.sap_tree.specs.Touches as tree
 use Rattle.sap_tree.specs.Touches.{is_dynamic_store, is_dynamic_child, fall_touches, simple_touches, root_touches}
 use Rattle.sap_lattice.specs.Levels.{Levels, order_of}
@@ -13,15 +13,15 @@ use Rattle.sap_names.specs.declared.entity.Entity.{Entity}
 use Rattle.sap_names.specs.declared.kind.Declared.{Declared}
 use Rattle.sap_names.specs.declared.kind.Use.TheVariants.{Assigned as assigning, Indexed as indexed}
 use Rattle.sap_names.specs.Entities.{entities_of, what_is}
-use Rattle.sap_names.specs.NameFaults.{name_faults, expression_faults, simple_faults, command_faults, block_faults, else_faults, commands_faults, kind_faults, state_faults, states_faults, declarations_faults, twice}
-use Rattle.sap_names.specs.Widths.{index_width, register_width, cell_width}
+use Rattle.sap_names.specs.NameFaults.{name_faults, expression_faults, simple_faults, command_faults, block_faults, else_faults, arms_faults, constants_faults, commands_faults, kind_faults, state_faults, states_faults, declarations_faults, twice}
+use Rattle.sap_names.specs.Widths.{own as own_of, index_width, register_width, cell_width}
 use Rattle.sap_hang.specs.Points as hang
 use Rattle.sap_meaning.specs.Program.{World, Group, is_dynamic, is_register, is_memory, root}
-use Rattle.sap_meaning.specs.Touches.{step_assigns, assigns, block_assigns, state_assigns, group_assigns, among, step_hangs, hangs, block_hangs, touches}
+use Rattle.sap_meaning.specs.Touches.{step_assigns, assigns, arms_assign, block_assigns, state_assigns, group_assigns, among, step_hangs, hangs, arms_hang, block_hangs, touches}
 use Rattle.sap_meaning.specs.Checks.{Spot}
 use Rattle.sap_meaning.proofs.Bools.{or_left, or_right, same_number, not_true, eq_self}
-use Rattle.sap_resolve.specs.Fill.{table, filled, filled_block, filled_state, filled_group}
-use Rattle.sap_resolve.specs.Resolve.{site_number, step_of, command_of, block_of, else_of, list_of, state_of, group_of}
+use Rattle.sap_resolve.specs.Fill.{table, filled, filled_arms, filled_block, filled_state, filled_group}
+use Rattle.sap_resolve.specs.Resolve.{site_number, step_of, command_of, arms_of, block_of, else_of, list_of, state_of, group_of}
 use Rattle.sap_resolve.specs.Sites.{Home, simple_sites, command_sites, block_sites, state_sites}
 use Rattle.sap_resolve.specs.Terms.{entity_number}
 use Rattle.sap_resolve.specs.Worlds.{states_in, world_of}
@@ -31,7 +31,7 @@ use Rattle.sap_premises.proofs.Lookups.{name_is, same_name, unique}
 use Rattle.sap_premises.proofs.Numbers.{here_dynamic}
 use Rattle.sap_premises.proofs.Places.{Laid, LaidState, laid_first, laid_rest, laid_below, laid_name, laid_named, name_at}
 use Rattle.sap_premises.proofs.Worlds.{laid}
-use Rattle.sap_kept.specs.Hangs.{rows, block_rows, state_rows, group_rows, row_of, point_row}
+use Rattle.sap_kept.specs.Hangs.{rows, arms_rows, block_rows, state_rows, group_rows, row_of, point_row}
 use Rattle.sap_kept.specs.Kept.{IsNamed}
 use Rattle.sap_kept.specs.Laws.{HangsAgree}
 use Rattle.sap_kept.proofs.Names.{named_at, named_of}
@@ -105,7 +105,7 @@ module _ (ls : Levels) (le : ℕ → ℕ → Bool) (ds : List Decl) (es : List E
     simple_same m (Fall place) f = both_none (is_dynamic_store ds n) (is_dynamic w x)
 
     mutual
-      unfolding tree.assigns tree.block_assigns tree.else_assigns tree.list_assigns
+      unfolding tree.assigns tree.block_assigns tree.else_assigns tree.arms_assign tree.list_assigns
 
       command_same : (m : ℕ) (c : Command) → command_faults ls.names means c ≡ []
           → (is_dynamic_store ds n && tree.assigns c n) ≡ (is_dynamic w x && assigns (command_of ls h m c) x)
@@ -116,6 +116,20 @@ module _ (ls : Levels) (le : ℕ → ℕ → Bool) (ds : List Decl) (es : List E
       command_same m (If place condition one other) f =
           let p = none_three (expression_faults means condition (Some 1)) (block_faults ls.names means one) (else_faults ls.names means other) f in
           and_or (is_dynamic_store ds n) (is_dynamic w x) _ _ _ _ (block_same m one p.1) (else_same (m + block_sites h one) other p.2)
+      command_same m (TryThen c place one other) f =
+          let p = none_three (simple_faults ls.names means c) (block_faults ls.names means one) (block_faults ls.names means other) f in
+          and_or (is_dynamic_store ds n) (is_dynamic w x) _ _ _ _ (simple_same (site_number h m c) c p.0)
+          (and_or (is_dynamic_store ds n) (is_dynamic w x) _ _ _ _ (block_same (m + simple_sites h c) one p.1) (block_same (m + simple_sites h c + block_sites h one) other p.2))
+      command_same m (Case place e arms) f =
+          let p = none_two (expression_faults means e None) (arms_faults ls.names means (own_of means e) arms) f in
+          arms_same m (own_of means e) arms p.1
+
+      arms_same : (m : ℕ) (asked : Option ℕ) (arms : Arms) → arms_faults ls.names means asked arms ≡ []
+          → (is_dynamic_store ds n && tree.arms_assign arms n) ≡ (is_dynamic w x && arms_assign (arms_of ls h m arms) x)
+      arms_same m asked (Last b) f = block_same m b f
+      arms_same m asked (Arm constants b arms) f =
+          let p = none_three (constants_faults means asked constants) (block_faults ls.names means b) (arms_faults ls.names means asked arms) f in
+          and_or (is_dynamic_store ds n) (is_dynamic w x) _ _ _ _ (block_same m b p.1) (arms_same (m + block_sites h b) asked arms p.2)
 
       block_same : (m : ℕ) (b : CommandBlock) → block_faults ls.names means b ≡ []
           → (is_dynamic_store ds n && tree.block_assigns b n) ≡ (is_dynamic w x && block_assigns (block_of ls h m b) x)
@@ -147,7 +161,7 @@ module _ (ls : Levels) (le : ℕ → ℕ → Bool) (ds : List Decl) (es : List E
       simple_touched m (Fall place) f = falls
 
       mutual
-        unfolding tree.touches tree.block_touches tree.else_touches tree.list_touches
+        unfolding tree.touches tree.block_touches tree.else_touches tree.arms_touch tree.list_touches
 
         pub command_touched : (m : ℕ) (c : Command) → command_faults ls.names means c ≡ []
             → tree.touches ds home c n ≡ (is_dynamic w x && hangs s g (command_of ls h m c) x)
@@ -158,6 +172,20 @@ module _ (ls : Levels) (le : ℕ → ℕ → Bool) (ds : List Decl) (es : List E
         command_touched m (If place condition one other) f =
             let p = none_three (expression_faults means condition (Some 1)) (block_faults ls.names means one) (else_faults ls.names means other) f in
             or_and (is_dynamic w x) _ _ _ _ (block_touched m one p.1) (else_touched (m + block_sites h one) other p.2)
+        command_touched m (TryThen c place one other) f =
+            let p = none_three (simple_faults ls.names means c) (block_faults ls.names means one) (block_faults ls.names means other) f in
+            or_and (is_dynamic w x) _ _ _ _ (simple_touched (site_number h m c) c p.0)
+            (or_and (is_dynamic w x) _ _ _ _ (block_touched (m + simple_sites h c) one p.1) (block_touched (m + simple_sites h c + block_sites h one) other p.2))
+        command_touched m (Case place e arms) f =
+            let p = none_two (expression_faults means e None) (arms_faults ls.names means (own_of means e) arms) f in
+            arms_touched m (own_of means e) arms p.1
+
+        arms_touched : (m : ℕ) (asked : Option ℕ) (arms : Arms) → arms_faults ls.names means asked arms ≡ []
+            → tree.arms_touch ds home arms n ≡ (is_dynamic w x && arms_hang s g (arms_of ls h m arms) x)
+        arms_touched m asked (Last b) f = block_touched m b f
+        arms_touched m asked (Arm constants b arms) f =
+            let p = none_three (constants_faults means asked constants) (block_faults ls.names means b) (arms_faults ls.names means asked arms) f in
+            or_and (is_dynamic w x) _ _ _ _ (block_touched m b p.1) (arms_touched (m + block_sites h b) asked arms p.2)
 
         block_touched : (m : ℕ) (b : CommandBlock) → block_faults ls.names means b ≡ []
             → tree.block_touches ds home b n ≡ (is_dynamic w x && block_hangs s g (block_of ls h m b) x)
@@ -283,6 +311,27 @@ module _ (ls : Levels) (le : ℕ → ℕ → Bool) (ds : List Decl) (es : List E
           ap (λ (l : List Bool). l ∷ (block_rows (filled_block w at (block_of ls here m one)) ++ block_rows (filled_block w at (else_of ls here (m + block_sites here one) other)))) (command_row m c f)
           ∙ ap (λ (l : List (List Bool)). row_of es (tree.touches ds home c) ∷ l)
           (parts (hang.block_points home one) (hang.else_points home other) _ _ (body_rows m one p.1) (else_rows (m + block_sites here one) other p.2))
+      command_rows m (TryThen c place one other) f =
+          let p = none_three (simple_faults ls.names what c) (block_faults ls.names what one) (block_faults ls.names what other) f in
+          let i = m + simple_sites here c in
+          let j = i + block_sites here one in
+          let d = TryThen c place one other in
+          parts (hang.simple_points home c) (hang.point home d ∷ (hang.block_points home one ++ hang.block_points home other)) _ _ (simple_rows m c p.0)
+          (ap (λ (l : List Bool). l ∷ (block_rows (filled_block w at (block_of ls here i one)) ++ block_rows (filled_block w at (block_of ls here j other)))) (command_row m d f)
+          ∙ ap (λ (l : List (List Bool)). row_of es (tree.touches ds home d) ∷ l)
+          (parts (hang.block_points home one) (hang.block_points home other) _ _ (body_rows i one p.1) (body_rows j other p.2)))
+      command_rows m (Case place e arms) f =
+          let p = none_two (expression_faults what e None) (arms_faults ls.names what (own_of what e) arms) f in
+          let c = Case place e arms in
+          ap (λ (l : List Bool). l ∷ arms_rows (filled_arms w at (arms_of ls here m arms))) (command_row m c f)
+          ∙ ap (λ (l : List (List Bool)). row_of es (tree.touches ds home c) ∷ l) (all_rows m (own_of what e) arms p.1)
+
+      all_rows : (m : ℕ) (asked : Option ℕ) (arms : Arms) → arms_faults ls.names what asked arms ≡ []
+          → arms_rows (filled_arms w at (arms_of ls here m arms)) ≡ pointed (hang.arms_points home arms)
+      all_rows m asked (Last b) f = body_rows m b f
+      all_rows m asked (Arm constants b arms) f =
+          let p = none_three (constants_faults what asked constants) (block_faults ls.names what b) (arms_faults ls.names what asked arms) f in
+          parts (hang.block_points home b) (hang.arms_points home arms) _ _ (body_rows m b p.1) (all_rows (m + block_sites here b) asked arms p.2)
 
       body_rows : (m : ℕ) (b : CommandBlock) → block_faults ls.names what b ≡ []
           → block_rows (filled_block w at (block_of ls here m b)) ≡ pointed (hang.block_points home b)

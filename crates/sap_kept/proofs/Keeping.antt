@@ -7,7 +7,7 @@ use Rattle.sap_tree.specs.declared.place.Place.{Place}
 use Rattle.sap_tree.specs.declared.syntax.Under.{Under}
 use Rattle.sap_tree.specs.declared.syntax.Kind.{Kind}
 use Rattle.sap_tree.specs.declared.syntax.Kind.TheVariants.{Dynamic, Enforced}
-use Rattle.sap_tree.specs.Syntax.{Expression, Number, Sized, Read, Cell, Unary, Binary, Choose, Slice, Concat, Zext, Expressions, NoPart, AndPart, TagExpression, Level, TagOf, LevelAt, Join, TagExpressions, NoTag, AndTag, SimpleCommand, Assign, Write, SetTag, SetCellTag, Goto, Fall, Command, Do, Try, If, CommandBlock, Commands, ElseBlock, NoElse, Else, CommandList, NoCommand, AndCommand, StateTree, StateOf, StateList, NoState, AndState}
+use Rattle.sap_tree.specs.Syntax.{Expression, Number, Sized, Read, Cell, Unary, Binary, Choose, Slice, Concat, Zext, Expressions, NoPart, AndPart, TagExpression, Level, TagOf, LevelAt, Join, TagExpressions, NoTag, AndTag, SimpleCommand, Assign, Write, SetTag, SetCellTag, Goto, Fall, Command, Do, Try, If, TryThen, Case, Arms, Last, Arm, CommandBlock, Commands, ElseBlock, NoElse, Else, CommandList, NoCommand, AndCommand, StateTree, StateOf, StateList, NoState, AndState}
 use Rattle.sap_lattice.specs.Levels.{Levels}
 use Rattle.sap_maps.specs.Term.{Term, constant, join}
 use Rattle.sap_names.specs.declared.entity.Entity.{Entity}
@@ -16,7 +16,7 @@ use Rattle.sap_names.specs.declared.kind.Use.{Use as Uses}
 use Rattle.sap_names.specs.declared.kind.Use.TheVariants.{Assigned as assigned, Indexed as indexed, Read as reading, Entered as entered, Retagged as retagged}
 use Rattle.sap_names.specs.declared.kind.Code.TheVariants.{E7, E8}
 use Rattle.sap_names.specs.Entities.{what_is}
-use Rattle.sap_names.specs.NameFaults.{fault_if, unsettled, too_large, use_faults, name_faults, expression_faults, parts_faults, level_faults, tag_faults, tags_faults, simple_faults, command_faults, block_faults, else_faults, commands_faults, under_faults, kind_faults, state_faults, states_faults}
+use Rattle.sap_names.specs.NameFaults.{fault_if, unsettled, too_large, use_faults, name_faults, expression_faults, parts_faults, level_faults, tag_faults, tags_faults, simple_faults, command_faults, block_faults, else_faults, arms_faults, constants_faults, commands_faults, under_faults, kind_faults, state_faults, states_faults}
 use Rattle.sap_names.specs.Widths.{own, width_of, family, asked_left, asked_right, asked_one, index_width, register_width, cell_width, sound_width, is_sound, all_sound}
 use Rattle.sap_meaning.specs.Program.{World, entity, root, kind_is_state}
 use Rattle.sap_meaning.specs.Program as program
@@ -24,11 +24,11 @@ use Rattle.sap_meaning.specs.Checks.{Spot}
 use Rattle.sap_resolve.specs.Worlds.{states_in, declared_level, authority_level, authority_of, is_dynamic_kind}
 use Rattle.sap_resolve.specs.Sites.{Home, simple_sites, command_sites, block_sites, state_sites}
 use Rattle.sap_resolve.specs.Terms.{known, entity_number, widened, term_of, parts_of, level_term, level_terms}
-use Rattle.sap_resolve.specs.Resolve.{site_number, step_of, command_of, block_of, else_of, list_of, state_of, group_of}
-use Rattle.sap_resolve.specs.Fill.{filled_step, filled, filled_block, filled_state, filled_group}
+use Rattle.sap_resolve.specs.Resolve.{site_number, step_of, number_of, numbers_of, command_of, arms_of, block_of, else_of, list_of, state_of, group_of}
+use Rattle.sap_resolve.specs.Fill.{filled_step, filled, filled_arms, filled_block, filled_state, filled_group}
 use Rattle.sap_sized.proofs.Faultless.{none_two, none_three, none_four, no_fault, settled_own, some_sound, sound_whole, extended_is}
 use Rattle.sap_premises.proofs.Places.{Laid, LaidState, laid_first, laid_rest, laid_below, laid_entity, laid_name, laid_named, state_entity}
-use Rattle.sap_kept.specs.Kept.{IsNamed, IsLevel, IsTerm, AreParts, IsTag, AreTags, IsStep, IsCommand, IsBlock, IsElse, IsList, IsAuthority, HasKind, IsState, IsGroup}
+use Rattle.sap_kept.specs.Kept.{IsNamed, IsLevel, IsTerm, AreParts, IsTag, AreTags, IsStep, IsConstant, AreConstants, IsCommand, AreArms, IsBlock, IsElse, IsList, IsAuthority, HasKind, IsState, IsGroup}
 use Rattle.sap_kept.proofs.Names.{named_at, level_named}
 
 -- What is known of the names of a design: a used name is that of the entity of its number.
@@ -161,6 +161,23 @@ module _ (es : List Entity) (k : Known es) where
           let n = none_two (tag_faults ls.names what t) (tags_faults ls.names what (AndTag u ts)) h in
           (tag_kept t n.0, tags_kept (AndTag u ts) n.1)
 
+-- constants
+constant_kept : (e : Expression) → IsConstant e (number_of e)
+constant_kept (Number spot value) = refl
+constant_kept (Sized spot width value) = refl
+constant_kept (Read spot name) = refl
+constant_kept (Cell spot name index) = refl
+constant_kept (Unary spot operator e) = refl
+constant_kept (Binary spot operator a b) = refl
+constant_kept (Choose spot c a b) = refl
+constant_kept (Slice spot e high low) = refl
+constant_kept (Concat spot parts) = refl
+constant_kept (Zext spot e width) = refl
+
+constants_kept : (parts : Expressions) → AreConstants parts (numbers_of parts)
+constants_kept NoPart = tt
+constants_kept (AndPart e parts) = (constant_kept e, constants_kept parts)
+
 -- commands in the body of a state
 module _ (ls : Levels) (h : Home) (k : Known h.entities) (w : World) (at : Spot) where
   abbrev names : List Entity
@@ -196,6 +213,18 @@ module _ (ls : Levels) (h : Home) (k : Known h.entities) (w : World) (at : Spot)
     command_kept n (If place condition then_block else_block) f =
         let p = none_three (expression_faults means condition (Some 1)) (block_faults ls.names means then_block) (else_faults ls.names means else_block) f in
         (term_kept names k condition (Some 1) p.0, block_kept n then_block p.1, else_kept (n + block_sites h then_block) else_block p.2)
+    command_kept n (TryThen c place accepted refused) f =
+        let p = none_three (simple_faults ls.names means c) (block_faults ls.names means accepted) (block_faults ls.names means refused) f in
+        (step_kept (site_number h n c) c p.0, block_kept (n + simple_sites h c) accepted p.1, block_kept (n + simple_sites h c + block_sites h accepted) refused p.2)
+    command_kept n (Case place e arms) f =
+        let p = none_two (expression_faults means e None) (arms_faults ls.names means (own means e) arms) f in
+        (term_kept names k e None p.0, arms_kept n (own means e) arms p.1)
+
+    arms_kept : (n : ℕ) (asked : Option ℕ) (arms : Arms) → arms_faults ls.names means asked arms ≡ [] → AreArms ls names arms (filled_arms w at (arms_of ls h n arms))
+    arms_kept n asked (Last b) f = block_kept n b f
+    arms_kept n asked (Arm constants b arms) f =
+        let p = none_three (constants_faults means asked constants) (block_faults ls.names means b) (arms_faults ls.names means asked arms) f in
+        (constants_kept constants, block_kept n b p.1, arms_kept (n + block_sites h b) asked arms p.2)
 
     pub block_kept : (n : ℕ) (b : CommandBlock) → block_faults ls.names means b ≡ [] → IsBlock ls names b (filled_block w at (block_of ls h n b))
     block_kept n (Commands cs after) f = list_kept n cs f

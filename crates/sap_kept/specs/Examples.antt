@@ -9,6 +9,7 @@ use Rattle.sap_tree.specs.declared.syntax.Kind.TheVariants.{Dynamic, Enforced}
 use Rattle.sap_tree.specs.declared.syntax.Decl.TheVariants.{Input, Register}
 use Rattle.sap_tree.specs.declared.syntax.BinaryOperator.TheVariants as operator
 use Rattle.sap_tree.specs.Syntax.{Expression, Number, Read, Binary, SimpleCommand, Assign, Goto, Fall, Command, Do, Try, If, CommandBlock, Commands, NoElse, Else, CommandList, NoCommand, AndCommand, StateTree, StateOf, StateList, NoState, AndState, DesignTree}
+use Rattle.sap_tree.specs.declared.version.Version.TheVariants.{One}
 use Rattle.sap_resolve.specs.Examples.{levels}
 use Rattle.sap_kept.specs.Hangs.{AtIf, AtOtherwise, AtFall, hang_table, hang_at_root}
 
@@ -54,7 +55,7 @@ go name = Goto at (named name)
 
 -- input a : 8; reg x : 8 dynamic; and these states
 abbrev pub design : StateList → DesignTree
-design states = record { declarations = Input at (named (codes "a")) (numeral 8) ∷ Register at (named (codes "x")) (numeral 8) (Dynamic at) None ∷ []; states = states }
+design states = record { version = One; declarations = Input at (named (codes "a")) (numeral 8) ∷ Register at (named (codes "x")) (numeral 8) (Dynamic at) None ∷ []; states = states }
 
 -- state S enforced low { if (a == 1) { x := 1; } goto S; }
 abbrev pub assigns_under_if : DesignTree

@@ -7,14 +7,16 @@ use Rattle.sap_lattice.specs.Levels.{Levels}
 use Rattle.sap_names.specs.declared.entity.Entity.{Entity}
 use Rattle.sap_names.specs.Entities.{entities_of}
 use Rattle.sap_hang.specs.Points as hang
-use Rattle.sap_meaning.specs.Program.{Step, Set, Write, Retag, RetagCell, Goto, Fall, Command, Do, Try, If, Block, End, Then, State, Node, Group, None, More}
+use Rattle.sap_meaning.specs.Program.{Step, Set, Write, Retag, RetagCell, Goto, Fall, Command, Do, Try, If, TryThen, Case, Arms, Last, Arm, Block, End, Then, State, Node, Group, None, More}
 use Rattle.sap_resolve.specs.Fill.{program_of}
 
--- an `if`, an `otherwise` or a `fall`, with the names of what hangs on it
+-- an `if`, an `otherwise`, a `fall`, a `then` or a `case`, with the names of what hangs on it
 pub data Point : Type 0 where
   AtIf : List (List ℕ) → Point
   AtOtherwise : List (List ℕ) → Point
   AtFall : List (List ℕ) → Point
+  AtThen : List (List ℕ) → Point
+  AtCase : List (List ℕ) → Point
 
 -- the names whose entry is true, in the order of declaration
 abbrev pub hanging : (names : List (List ℕ)) → List Bool → List (List ℕ)
@@ -37,6 +39,12 @@ abbrev mutual
   points names (Do k) = step_points names k
   points names (Try k hang h) = step_points names k ++ AtOtherwise (hanging names hang) ∷ block_points names h
   points names (If hang e a b) = AtIf (hanging names hang) ∷ block_points names a ++ block_points names b
+  points names (TryThen k hang a b) = step_points names k ++ AtThen (hanging names hang) ∷ (block_points names a ++ block_points names b)
+  points names (Case hang e arms) = AtCase (hanging names hang) ∷ arms_points names arms
+
+  pub arms_points : List (List ℕ) → Arms → List Point
+  arms_points names (Last b) = block_points names b
+  arms_points names (Arm constants b arms) = block_points names b ++ arms_points names arms
 
   pub block_points : List (List ℕ) → Block → List Point
   block_points names End = []
@@ -74,6 +82,12 @@ abbrev mutual
   rows (Do k) = step_rows k
   rows (Try k hang h) = step_rows k ++ hang ∷ block_rows h
   rows (If hang e a b) = hang ∷ block_rows a ++ block_rows b
+  rows (TryThen k hang a b) = step_rows k ++ hang ∷ (block_rows a ++ block_rows b)
+  rows (Case hang e arms) = hang ∷ arms_rows arms
+
+  pub arms_rows : Arms → List (List Bool)
+  arms_rows (Last b) = block_rows b
+  arms_rows (Arm constants b arms) = block_rows b ++ arms_rows arms
 
   pub block_rows : Block → List (List Bool)
   block_rows End = []

@@ -14,7 +14,7 @@ use Rattle.sap_names.specs.Entities.{what_is}
 use Rattle.sap_names.specs.Widths.{own}
 use Rattle.sap_lattice.specs.Levels.{Levels, order_of}
 use Rattle.sap_maps.specs.Term.{Term, constant, read, cell, one, two, choose, join, part}
-use Rattle.sap_meaning.specs.Program.{World, entity, is_state, LevelTerm, fixed, of, at_place, both, Step, Set, Write, Retag, RetagCell, Goto, Fall, Command, Do, Try, If, Block, End, Then, State, Node, Group, More}
+use Rattle.sap_meaning.specs.Program.{World, entity, is_state, LevelTerm, fixed, of, at_place, both, Step, Set, Write, Retag, RetagCell, Goto, Fall, Command, Do, Try, If, TryThen, Case, Arms, Last, Arm, Block, End, Then, State, Node, Group, More}
 use Rattle.sap_meaning.specs.Program as program
 use Rattle.sap_resolve.specs.Terms.{one_of, two_of}
 
@@ -81,6 +81,17 @@ IsStep ls es (tree.Goto place target) (Goto site x) = IsNamed es x target.name
 IsStep ls es (tree.Fall place) (Fall site hang) = Unit {0}
 IsStep ls es _ _ = ⊥
 
+-- The number of a constant, with or without a width. What is no number is no constant of a design that was read, and counts as 0.
+abbrev pub IsConstant : Expression → ℕ → Type 0
+IsConstant (Number spot value) n = value ≡ n
+IsConstant (Sized spot width value) n = value ≡ n
+IsConstant _ n = n ≡ 0
+
+abbrev pub AreConstants : Expressions → List ℕ → Type 0
+AreConstants NoPart [] = Unit {0}
+AreConstants (AndPart e parts) (n ∷ ns) = IsConstant e n × AreConstants parts ns
+AreConstants _ _ = ⊥
+
 -- commands and lists of them; a missing `else` is an empty one
 abbrev mutual
   pub IsCommand : Levels → List Entity → tree.Command → Command → Type 0
@@ -88,7 +99,15 @@ abbrev mutual
   IsCommand ls es (tree.Try c place handler) (Try k hang h) = IsStep ls es c k × IsBlock ls es handler h
   IsCommand ls es (tree.If place condition then_block else_block) (If hang t a b) =
       IsTerm es condition t × IsBlock ls es then_block a × IsElse ls es else_block b
+  IsCommand ls es (tree.TryThen c place accepted refused) (TryThen k hang a b) = IsStep ls es c k × IsBlock ls es accepted a × IsBlock ls es refused b
+  IsCommand ls es (tree.Case place e arms) (Case hang t others) = IsTerm es e t × AreArms ls es arms others
   IsCommand ls es _ _ = ⊥
+
+  pub AreArms : Levels → List Entity → tree.Arms → Arms → Type 0
+  AreArms ls es (tree.Last block) (Last b) = IsBlock ls es block b
+  AreArms ls es (tree.Arm constants block arms) (Arm numbers b others) =
+      AreConstants constants numbers × IsBlock ls es block b × AreArms ls es arms others
+  AreArms ls es _ _ = ⊥
 
   pub IsBlock : Levels → List Entity → CommandBlock → Block → Type 0
   IsBlock ls es (Commands cs after) b = IsList ls es cs b

@@ -9,6 +9,7 @@ use Rattle.sap_tree.specs.declared.syntax.Kind.{Kind}
 use Rattle.sap_tree.specs.declared.syntax.Kind.TheVariants.{Dynamic, Enforced}
 use Rattle.sap_tree.specs.declared.syntax.Decl.TheVariants.{Input, Register, Memory}
 use Rattle.sap_tree.specs.Syntax.{Expression, Number, Read, Cell, Level, SimpleCommand, Assign, Write, SetTag, Goto, Fall, Command, Do, Try, If, CommandBlock, Commands, Else, CommandList, NoCommand, AndCommand, StateTree, StateOf, NoState, AndState, DesignTree}
+use Rattle.sap_tree.specs.declared.version.Version.TheVariants.{One}
 use Rattle.sap_lattice.specs.Order.{Laws}
 use Rattle.sap_lattice.specs.Levels.{order_of}
 use Rattle.sap_shape.specs.WellFormed.{WellFormed}
@@ -90,6 +91,7 @@ state_q = StateOf at (named (codes "Q")) (enforced (codes "high")) (block (AndCo
 -- input a : 1; mem m : 8[4] dynamic; reg x : 8 dynamic; reg y : 4 enforced high under low = 5; and the states P and Q
 abbrev pub sample : DesignTree
 sample = record {
+  version = One;
   declarations = Input at (named (codes "a")) (numeral 1)
       ∷ Memory at (named (codes "m")) (numeral 8) (numeral 4) (Dynamic at)
       ∷ Register at (named (codes "x")) (numeral 8) (Dynamic at) None

@@ -83,7 +83,7 @@ static VALUES: [Run; 8] = [
     },
 ];
 
-static STATES_AND_TAGS: [Run; 13] = [
+static STATES_AND_TAGS: [Run; 17] = [
     // a handler in place of a refused write
     Run {
         lattice: TWO,
@@ -188,6 +188,37 @@ static STATES_AND_TAGS: [Run; 13] = [
         design: "input a : 1;\nmem m : 8[4] dynamic;\nstate S enforced low {\n  if (a) { m[0] := 1; } else { m[1] := 2; }\n  goto S;\n}\n",
         cycles: &[],
         rows: "",
+        trace: "",
+    },
+    // what follows an accepted write, and a refused one
+    Run {
+        lattice: TWO,
+        design: "sapper 2; input a : 8; reg y : 8 enforced low; reg x : 8 dynamic;\nstate S enforced low { y := a then { x := 1; goto T; } otherwise { x := 2; goto S; } }\nstate T enforced low { x := 3; goto S; }\n",
+        cycles: &[&[(5, "high")], &[(5, "low")], &[(5, "low")]],
+        rows: "cycle 1: y=0@low x=2@low\ncycle 2: y=5@low x=1@low\ncycle 3: y=5@low x=3@low\n",
+        trace: "cycle 1: site 1 write y at low\n",
+    },
+    // both run in the context of the guard, which raises what either assigns
+    Run {
+        lattice: DIAMOND,
+        design: "sapper 2; input b : 8; reg y : 8 enforced a; reg z : 8 enforced low; reg u : 8 dynamic; reg v : 8 dynamic;\nstate S enforced low { y := b then { u := 1; z := 1; } otherwise { v := 1; z := 2; } goto S; }\n",
+        cycles: &[&[(5, "low")], &[(5, "b")]],
+        rows: "cycle 1: y=5@a z=0@low u=1@a v=0@a\ncycle 2: y=5@a z=0@low u=1@a v=1@a\n",
+        trace: "cycle 1: site 2 write z at a\ncycle 2: site 1 write y at a\ncycle 2: site 3 write z at a\n",
+    },
+    // the block of the first arm with the number, or else the last one
+    Run {
+        lattice: TWO,
+        design: "sapper 2; input a : 2; reg x : 8 dynamic;\nstate S enforced low { case (a) { 0, 2: { x := 7; } else { x := 9; } } goto S; }\n",
+        cycles: &[&[(2, "high")], &[(1, "low")]],
+        rows: "cycle 1: x=7@high\ncycle 2: x=9@low\n",
+        trace: "",
+    },
+    Run {
+        lattice: TWO,
+        design: "sapper 2; input a : 2; reg x : 8 dynamic; reg z : 8 dynamic;\nstate S enforced low { case (a) { 1: { x := 1; } 3, 1: { z := 2; } else { z := 3; } } goto S; }\n",
+        cycles: &[&[(1, "high")], &[(3, "low")], &[(0, "low")]],
+        rows: "cycle 1: x=1@high z=0@high\ncycle 2: x=1@high z=2@low\ncycle 3: x=1@high z=3@low\n",
         trace: "",
     },
 ];

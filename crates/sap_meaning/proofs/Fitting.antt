@@ -6,19 +6,19 @@ use Rattle.std.proofs.lemmas.Grind.{common_steps}
 use Rattle.sap_lattice.specs.Order.{Laws}
 use Rattle.sap_maps.specs.Term.{Term, constant, read, cell, one, two, choose, join, part}
 use Rattle.sap_maps.proofs.Terms.{term_within}
-use Rattle.sap_meaning.specs.Program.{World, Program, Entity, nothing, kind_is_input, is_dynamic, is_input, width, root, LevelTerm, fixed, of, at_place, both, Step, Set, Write, Retag, RetagCell, Goto, Fall, Command, Do, Try, If, Block, End, Then, State, Node, Group, None, More}
+use Rattle.sap_meaning.specs.Program.{World, Program, Entity, nothing, kind_is_input, is_dynamic, is_input, width, root, LevelTerm, fixed, of, at_place, both, Step, Set, Write, Retag, RetagCell, Goto, Fall, Command, Do, Try, If, TryThen, Case, Arms, Last, Arm, Block, End, Then, State, Node, Group, None, More}
 use Rattle.sap_meaning.specs.Store.{Slot, own, start, next, start_whole, next_whole, Store, owner, home, number, level, child, same_slot, put_number, put_level, put_child, raised, raise, lowered, reset, source, settle, After, stay}
 use Rattle.sap_meaning.specs.Expressions.{value, tag, level_at, new_level, width_of}
 use Rattle.sap_meaning.specs.Checks.{Spot, guard, test, child_level}
 use Rattle.sap_meaning.specs.Touches.{touches, raised_alone, root_touches}
-use Rattle.sap_meaning.specs.Does.{effect, attempt, select, branch, does, does_block, does_state, does_child}
+use Rattle.sap_meaning.specs.Does.{effect, attempt, attempt_then, select, branch, does, does_arms, does_block, does_state, does_child}
 use Rattle.sap_meaning.specs.Cycle.{Tagged, inputs_before, given, at_inputs, set_inputs, root_fall, cycle}
 use Rattle.sap_meaning.specs.State.{Fits, first, first_number, input_widths, AllFit, InputsFit}
-use Rattle.sap_meaning.specs.Fine.{FineLevel, FineStep, FineCommand, FineBlock, FineState, FineGroup, FineProgram}
-use Rattle.sap_meaning.specs.Sized.{SizedTerm, SizedStep, Sized, SizedBlock, SizedState, SizedGroup, SizedProgram}
+use Rattle.sap_meaning.specs.Fine.{FineLevel, FineStep, FineCommand, FineArms, FineBlock, FineState, FineGroup, FineProgram}
+use Rattle.sap_meaning.specs.Sized.{SizedTerm, SizedStep, Sized, SizedArms, SizedBlock, SizedState, SizedGroup, SizedProgram}
 use Rattle.sap_meaning.specs.Laws.{NumbersFit}
 use Rattle.sap_meaning.proofs.Slots.{slot_same, owner_source}
-use Rattle.sap_meaning.proofs.Keeps.{branch_all}
+use Rattle.sap_meaning.proofs.Keeps.{branch_all, choose_all}
 
 module _ (w : World) (laws : Laws w.order) where
   abbrev Level : ℕ → Type 0
@@ -130,12 +130,22 @@ module _ (w : World) (laws : Laws w.order) where
         let up = fits_raise s hang (guard w at k s) f in
         elim (cases_Bool (test w at k pc s)) [ inl t ↦ rw t (effect_fits k fine sized pc s _ lp f up) | inr t ↦ rw t (g _ (laws.join_is_level _ _) _ up) ]
 
+    attempt_then_fits : (k : Step) → FineStep w q at.children k → SizedStep w k → (hang : ℕ → Bool) (a b : ℕ → Store → After) → ((p : ℕ) → Level p → Fitting (a p)) → ((p : ℕ) → Level p → Fitting (b p))
+        → (pc : ℕ) → Level pc → Fitting (attempt_then w at enter k hang a b pc)
+    unfolding attempt_then
+    attempt_then_fits k fine sized hang a b fa fb pc lp s f =
+        let up = fits_raise s hang (guard w at k s) f in
+        elim (cases_Bool (test w at k pc s)) [
+          | inl t ↦ rw t (fa _ (laws.join_is_level _ _) _ (effect_fits k fine sized pc s _ lp f up))
+          | inr t ↦ rw t (fb _ (laws.join_is_level _ _) _ up)
+        ]
+
     select_fits : (e : Term ℕ) (hang : ℕ → Bool) (pick : ℕ → ℕ → Store → After) → ((v p : ℕ) → Level p → Fitting (pick v p)) → (pc : ℕ) → Fitting (select w e hang pick pc)
     unfolding select
     select_fits e hang pick g pc s f = g _ _ (laws.join_is_level _ _) _ (fits_raise s hang (tag w e s) f)
 
     mutual
-      unfolding does does_block
+      unfolding does does_arms does_block
 
       does_fits : (c : Command) → FineCommand w q at.children c → Sized w c → (pc : ℕ) → Level pc → Fitting (does w at enter c pc)
       does_fits (Do k) fine sized pc lp s f = attempt_fits k fine sized (raised_alone w at k) (λ p t. stay t) (λ p lq t h. h) pc lp s f
@@ -143,6 +153,17 @@ module _ (w : World) (laws : Laws w.order) where
       does_fits (If hang e a b) fine sized pc lp s f =
           select_fits e (touches w at (If hang e a b)) (branch (does_block w at enter a) (does_block w at enter b))
           (λ v p lq t i. branch_all (λ z. Fits w z.store) (does_block w at enter a) (does_block w at enter b) v p t (block_fits a fine.1 sized.2 p lq t i) (block_fits b fine.2 sized.3 p lq t i)) pc s f
+      does_fits (TryThen k hang a b) fine sized pc lp s f =
+          attempt_then_fits k fine.0 sized.0 (touches w at (TryThen k hang a b)) (does_block w at enter a) (does_block w at enter b)
+          (λ p lq t i. block_fits a fine.1 sized.1 p lq t i) (λ p lq t i. block_fits b fine.2 sized.2 p lq t i) pc lp s f
+      does_fits (Case hang e arms) fine sized pc lp s f =
+          select_fits e (touches w at (Case hang e arms)) (does_arms w at enter arms) (λ v p lq t i. arms_fit (width_of w e) arms fine.1 sized.1 v p lq t i) pc s f
+
+      arms_fit : (u : ℕ) (arms : Arms) → FineArms w q at.children arms → SizedArms w u arms → (v pc : ℕ) → Level pc → Fitting (does_arms w at enter arms v pc)
+      arms_fit u (Last b) fine sized v pc lp s f = block_fits b fine sized pc lp s f
+      arms_fit u (Arm cs b arms) fine sized v pc lp s f =
+          choose_all (λ z. Fits w z.store) cs (does_block w at enter b) (does_arms w at enter arms) v pc s
+          (block_fits b fine.0 sized.1 pc lp s f) (arms_fit u arms fine.1 sized.2 v pc lp s f)
 
       pub block_fits : (b : Block) → FineBlock w q at.children b → SizedBlock w b → (pc : ℕ) → Level pc → Fitting (does_block w at enter b pc)
       block_fits End fine sized pc lp s f = f

@@ -3,16 +3,16 @@ use Rattle.std.proofs.Common.{◌≡◌, ℕ, zero, suc, ◌<◌, Bool, true, fa
 use Rattle.std.proofs.lemmas.Bool.{cases_Bool}
 use Rattle.std.proofs.lemmas.Grind.{common_steps}
 use Rattle.sap_maps.specs.Term.{Term}
-use Rattle.sap_meaning.specs.Program.{World, entity, is_dynamic, is_input, authority, children, place, below, Step, Set, Write, Retag, RetagCell, Goto, Fall, Command, Do, Try, If, Block, End, Then, State, Node, Group, None, More}
+use Rattle.sap_meaning.specs.Program.{World, entity, is_dynamic, is_input, authority, children, place, below, Step, Set, Write, Retag, RetagCell, Goto, Fall, Command, Do, Try, If, TryThen, Case, Arms, Last, Arm, Block, End, Then, State, Node, Group, None, More}
 use Rattle.sap_meaning.specs.Store.{Slot, own, start, next, start_whole, next_whole, Store, owner, home, level, child, same_slot, put_number, put_level, put_child, raised, raise, lowered, reset, source, settle, held, After, stay}
 use Rattle.sap_meaning.specs.Expressions.{tag, told}
 use Rattle.sap_meaning.specs.Checks.{Spot, guard, test}
 use Rattle.sap_meaning.specs.Touches.{among, touches, raised_alone}
-use Rattle.sap_meaning.specs.Does.{effect, attempt, select, branch, does, does_block, does_state, does_child}
+use Rattle.sap_meaning.specs.Does.{effect, attempt, attempt_then, select, branch, is_constant, choose_arm, does, does_arms, does_block, does_state, does_child}
 use Rattle.sap_meaning.specs.Cycle.{Tagged, at_inputs, given, set_inputs}
 use Rattle.sap_meaning.specs.State.{Holds, Rests, first}
 pub use Rattle.sap_meaning.specs.Laws.{Keeps}
-use Rattle.sap_meaning.specs.Fine.{FineStep, FineCommand, FineBlock, FineState, FineGroup}
+use Rattle.sap_meaning.specs.Fine.{FineStep, FineCommand, FineArms, FineBlock, FineState, FineGroup}
 use Rattle.sap_meaning.proofs.Bools.{and_left, and_right, same_number}
 use Rattle.sap_meaning.proofs.Trees.{lands}
 use Rattle.sap_meaning.proofs.Slots.{slot_same, owner_home, home_start, home_next, level_raise, level_reset, level_settle, owner_source, raised_hangs, lowered_dynamic, held_source, held_register}
@@ -28,6 +28,15 @@ branch_all P a b v p t x y = picked (nat_eq v 0)
     picked : (i : Bool) → P (if i then b p t else a p t)
     picked true = y
     picked false = x
+
+-- and so for the arm and the others
+pub choose_all : (P : After → Type 0) (cs : List ℕ) (a : ℕ → Store → After) (others : ℕ → ℕ → Store → After) (v p : ℕ) (t : Store) → P (a p t) → P (others v p t)
+    → P (choose_arm cs a others v p t)
+choose_all P cs a others v p t x y = picked (is_constant cs v)
+  where
+    picked : (i : Bool) → P (if i then a p t else others v p t)
+    picked true = x
+    picked false = y
 
 module _ (w : World) where
   pub holds_number : (s : Store) (z : Slot) (n : ℕ) → Holds w s → Holds w (put_number z n s)
@@ -129,6 +138,13 @@ module _ (w : World) (at : Spot) (q : Group) (landing : (target : ℕ) → among
       let up = holds_raise w s hang (guard w at k s) dyn r in
       elim (cases_Bool (test w at k pc s)) [ inl t ↦ rw t (effect_holds k fine pc s _ t up) | inr t ↦ rw t (f _ _ up) ]
 
+  pub attempt_then_holds : (k : Step) → FineStep w q at.children k → (hang : ℕ → Bool) (f g : ℕ → Store → After) → OfDynamic w hang
+      → ((p : ℕ) → Keeps w (f p)) → ((p : ℕ) → Keeps w (g p)) → (pc : ℕ) → Keeps w (attempt_then w at enter k hang f g pc)
+  unfolding attempt_then
+  attempt_then_holds k fine hang f g dyn kf kg pc s r =
+      let up = holds_raise w s hang (guard w at k s) dyn r in
+      elim (cases_Bool (test w at k pc s)) [ inl t ↦ rw t (kf _ _ (effect_holds k fine pc s _ t up)) | inr t ↦ rw t (kg _ _ up) ]
+
   pub select_holds : (e : Term ℕ) (hang : ℕ → Bool) (pick : ℕ → ℕ → Store → After) → OfDynamic w hang → ((v p : ℕ) → Keeps w (pick v p)) → (pc : ℕ) → Keeps w (select w e hang pick pc)
   unfolding select
   select_holds e hang pick dyn f pc s r = f _ _ _ (holds_raise w s hang (tag w e s) dyn r)
@@ -142,7 +158,7 @@ module _ (w : World) (at : Spot) (q : Group) (landing : (target : ℕ) → among
   alone_dynamic (Fall site hang) x h = and_left (is_dynamic w x) _ h
 
   mutual
-    unfolding does does_block
+    unfolding does does_arms does_block
 
     pub does_holds : (c : Command) → FineCommand w q at.children c → (pc : ℕ) → Keeps w (does w at enter c pc)
     does_holds (Do k) fine pc s r = attempt_holds k fine (raised_alone w at k) (λ p t. stay t) (alone_dynamic k) (λ p t h. h) pc s r
@@ -150,6 +166,16 @@ module _ (w : World) (at : Spot) (q : Group) (landing : (target : ℕ) → among
     does_holds (If hang e a b) fine pc s r =
         select_holds e (touches w at (If hang e a b)) (branch (does_block w at enter a) (does_block w at enter b)) (λ x i. and_left (is_dynamic w x) _ i)
         (λ v p t i. branch_all (λ z. Holds w z.store) (does_block w at enter a) (does_block w at enter b) v p t (block_holds a fine.1 p t i) (block_holds b fine.2 p t i)) pc s r
+    does_holds (TryThen k hang a b) fine pc s r =
+        attempt_then_holds k fine.0 (touches w at (TryThen k hang a b)) (does_block w at enter a) (does_block w at enter b) (λ x i. and_left (is_dynamic w x) _ i)
+        (λ p t i. block_holds a fine.1 p t i) (λ p t i. block_holds b fine.2 p t i) pc s r
+    does_holds (Case hang e arms) fine pc s r =
+        select_holds e (touches w at (Case hang e arms)) (does_arms w at enter arms) (λ x i. and_left (is_dynamic w x) _ i) (λ v p t i. arms_hold arms fine.1 v p t i) pc s r
+
+    pub arms_hold : (arms : Arms) → FineArms w q at.children arms → (v pc : ℕ) → Keeps w (does_arms w at enter arms v pc)
+    arms_hold (Last b) fine v pc s r = block_holds b fine pc s r
+    arms_hold (Arm cs b arms) fine v pc s r =
+        choose_all (λ z. Holds w z.store) cs (does_block w at enter b) (does_arms w at enter arms) v pc s (block_holds b fine.0 pc s r) (arms_hold arms fine.1 v pc s r)
 
     pub block_holds : (b : Block) → FineBlock w q at.children b → (pc : ℕ) → Keeps w (does_block w at enter b pc)
     block_holds End fine pc s r = r

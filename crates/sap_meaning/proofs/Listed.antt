@@ -1,16 +1,16 @@
 -- Exact lists raise what is touched.
-use Rattle.std.proofs.Common.{◌≡◌, ℕ, zero, suc, Bool, ◌∷◌, ◌++◌, refl, ap, nat_eq, inl, inr}
+use Rattle.std.proofs.Common.{◌≡◌, ℕ, zero, suc, Bool, List, ◌∷◌, ◌++◌, refl, ap, nat_eq, inl, inr}
 use Rattle.std.proofs.lemmas.Bool.{cases_Bool}
 use Rattle.sap_maps.specs.Term.{Term}
-use Rattle.sap_meaning.specs.Program.{World, root, listed, Step, Set, Write, Retag, RetagCell, Goto, Fall, Command, Do, Try, If, Block, End, Then, State, Node, Group, None, More}
+use Rattle.sap_meaning.specs.Program.{World, root, listed, Step, Set, Write, Retag, RetagCell, Goto, Fall, Command, Do, Try, If, TryThen, Case, Arms, Last, Arm, Block, End, Then, State, Node, Group, None, More}
 use Rattle.sap_meaning.specs.Store.{Store, child, settle, After, and_then}
 use Rattle.sap_meaning.specs.Expressions.{value}
 use Rattle.sap_meaning.specs.Checks.{Spot, site_of, guard, test}
 use Rattle.sap_meaning.specs.Touches.{raised_alone, root_touches}
-use Rattle.sap_meaning.specs.Does.{effect, attempt, select, branch, does, does_block, does_state, does_child}
-use Rattle.sap_meaning.specs.Runs.{listed_alone, run, run_block, run_state, run_child}
+use Rattle.sap_meaning.specs.Does.{effect, attempt, attempt_then, select, branch, is_constant, choose_arm, does, does_arms, does_block, does_state, does_child}
+use Rattle.sap_meaning.specs.Runs.{listed_alone, run, run_arms, run_block, run_state, run_child}
 use Rattle.sap_meaning.specs.Cycle.{set_inputs, root_fall, cycle, cycle_listed}
-use Rattle.sap_meaning.specs.Fine.{ExactStep, Exact, ExactBlock, ExactState, ExactGroup}
+use Rattle.sap_meaning.specs.Fine.{ExactStep, Exact, ExactArms, ExactBlock, ExactState, ExactGroup}
 use Rattle.sap_meaning.specs.Laws.{ListsServe}
 
 abbrev Alike : (ℕ → Store → After) → (ℕ → Store → After) → Type 0
@@ -39,6 +39,21 @@ module _ (w : World) (at : Spot) (enter enter' : ℕ → ℕ → Store → After
     | inr t ↦ rw t (ap (λ (r : After). let z : After = record { store = r.store; refused = record { site = site_of k; level = w.order.join pc (guard w at k s) } ∷ r.refused } in z) (a _ _))
   ])
 
+  attempt_then_same : (k : Step) (h i : ℕ → Bool) (f f' g g' : ℕ → Store → After) → ((x : ℕ) → h x ≡ i x) → Alike f f' → Alike g g'
+      → Alike (attempt_then w at enter k h f g) (attempt_then w at enter' k i f' g')
+  unfolding attempt_then
+  attempt_then_same k h i f f' g g' e a b pc s = rw (same_test h i e) (elim (cases_Bool (test w at k pc s)) [
+    | inl t ↦ rw t (then_same _ _ _ _ (effect_same k pc s _) (λ r. a (w.order.join pc (guard w at k s)) r))
+    | inr t ↦ rw t (ap (λ (r : After). let z : After = record { store = r.store; refused = record { site = site_of k; level = w.order.join pc (guard w at k s) } ∷ r.refused } in z) (b _ _))
+  ])
+
+  pick_same : (e : Term ℕ) (h i : ℕ → Bool) (f g : ℕ → ℕ → Store → After) → ((x : ℕ) → h x ≡ i x) → ((v : ℕ) → Alike (f v) (g v)) → Alike (select w e h f) (select w e i g)
+  unfolding select
+  pick_same e h i f g c a pc s = rw (same_test h i c) (a _ _ _)
+
+  choose_same : (cs : List ℕ) (f g : ℕ → Store → After) (j k : ℕ → ℕ → Store → After) (v : ℕ) → Alike f g → Alike (j v) (k v) → Alike (choose_arm cs f j v) (choose_arm cs g k v)
+  choose_same cs f g j k v a b pc s = elim (cases_Bool (is_constant cs v)) [ inl t ↦ rw t (a _ _) | inr t ↦ rw t (b _ _) ]
+
   select_same : (e : Term ℕ) (h i : ℕ → Bool) (f g j k : ℕ → Store → After) → ((x : ℕ) → h x ≡ i x) → Alike f j → Alike g k → Alike (select w e h (branch f g)) (select w e i (branch j k))
   unfolding select
   select_same e h i f g j k c a b pc s = rw (same_test h i c) (elim (cases_Bool (nat_eq (value w e s) 0)) [ inl t ↦ rw t (b _ _) | inr t ↦ rw t (a _ _) ])
@@ -52,12 +67,19 @@ module _ (w : World) (at : Spot) (enter enter' : ℕ → ℕ → Store → After
   alone_same (Fall site hang) fine x = fine x
 
   mutual
-    unfolding run run_block does does_block
+    unfolding run run_arms run_block does does_arms does_block
 
     run_same : (c : Command) → Exact w at c → Alike (run w at enter c) (does w at enter' c)
     run_same (Do k) fine = attempt_same k _ _ _ _ (alone_same k fine) (λ pc s. refl)
     run_same (Try k hang h) fine = attempt_same k _ _ _ _ fine.0 (block_same h fine.1)
     run_same (If hang e a b) fine = select_same e _ _ _ _ _ _ fine.0 (block_same a fine.1) (block_same b fine.2)
+    run_same (TryThen k hang a b) fine = attempt_then_same k _ _ _ _ _ _ fine.0 (block_same a fine.1) (block_same b fine.2)
+    run_same (Case hang e arms) fine = pick_same e _ _ _ _ fine.0 (λ v. arms_same arms fine.1 v)
+
+    arms_same : (arms : Arms) → ExactArms w at arms → (v : ℕ) → Alike (run_arms w at enter arms v) (does_arms w at enter' arms v)
+    arms_same (Last b) fine v = block_same b fine
+    arms_same (Arm cs b arms) fine v =
+        choose_same cs _ _ (run_arms w at enter arms) (does_arms w at enter' arms) v (block_same b fine.0) (arms_same arms fine.1 v)
 
     pub block_same : (b : Block) → ExactBlock w at b → Alike (run_block w at enter b) (does_block w at enter' b)
     block_same End fine pc s = refl

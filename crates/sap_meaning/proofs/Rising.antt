@@ -2,17 +2,17 @@
 use Rattle.std.proofs.Common.{◌≡◌, ℕ, zero, suc, ◌≤◌, Bool, true, false, not, List, [], ◌∷◌, ◌++◌, append_assoc, refl, sym, ap, subst, arith, inl, inr}
 use Rattle.std.proofs.lemmas.Bool.{cases_Bool}
 use Rattle.sap_maps.specs.Term.{Term}
-use Rattle.sap_meaning.specs.Program.{World, is_dynamic, root, Step, Set, Write, Retag, RetagCell, Goto, Fall, Command, Do, Try, If, Block, End, Then, State, Node, Group, None, More}
-use Rattle.sap_meaning.specs.Store.{Store, child, Refusal, After, stay}
-use Rattle.sap_meaning.specs.Checks.{Spot, child_opens, test}
+use Rattle.sap_meaning.specs.Program.{World, is_dynamic, root, Step, Set, Write, Retag, RetagCell, Goto, Fall, Command, Do, Try, If, TryThen, Case, Arms, Last, Arm, Block, End, Then, State, Node, Group, None, More}
+use Rattle.sap_meaning.specs.Store.{Store, child, raise, Refusal, After, stay}
+use Rattle.sap_meaning.specs.Checks.{Spot, child_opens, guard, test}
 use Rattle.sap_meaning.specs.Touches.{touches, raised_alone, root_touches}
-use Rattle.sap_meaning.specs.Does.{effect, attempt, select, branch, does, does_block, does_state, does_child}
+use Rattle.sap_meaning.specs.Does.{effect, attempt, attempt_then, select, branch, does, does_arms, does_block, does_state, does_child}
 use Rattle.sap_meaning.specs.Cycle.{set_inputs, root_fall, cycle}
-use Rattle.sap_meaning.specs.Fine.{transfers, Open, OpenBlock, Closes, Final, FineState, FineGroup}
-use Rattle.sap_meaning.specs.Sites.{some_enforced, is_site, step_sites, sites, block_sites, state_sites, group_sites, program_sites, refused_sites, Sublist, RisesFrom}
+use Rattle.sap_meaning.specs.Fine.{transfers, Open, OpenArms, OpenBlock, Closes, Final, ClosingArms, FineState, FineGroup}
+use Rattle.sap_meaning.specs.Sites.{some_enforced, is_site, step_sites, sites, arms_sites, block_sites, state_sites, group_sites, program_sites, refused_sites, Sublist, RisesFrom}
 use Rattle.sap_meaning.specs.Laws.{SitesInOrder}
 use Rattle.sap_meaning.proofs.Bools.{and_both, or_left, neither_left, neither_right}
-use Rattle.sap_meaning.proofs.Keeps.{branch_all}
+use Rattle.sap_meaning.proofs.Keeps.{branch_all, choose_all}
 
 skip : (xs zs ys : List ℕ) → Sublist xs ys → Sublist xs (zs ++ ys)
 skip [] zs ys h = tt
@@ -83,6 +83,9 @@ module _ (w : World) where
     abbrev OwnBlock : Block → List ℕ
     OwnBlock b = block_sites w at.state at.children b
 
+    abbrev OwnArms : Arms → List ℕ
+    OwnArms arms = arms_sites w at.state at.children arms
+
     effect_from : (k : Step) (pc : ℕ) (b s : Store) → From (effect w at enter k pc b s) below
     unfolding effect
     effect_from (Set site x e) pc b s = tt
@@ -116,6 +119,23 @@ module _ (w : World) where
     unfolding select
     select_from e hang a b ys f g pc s = branch_all (λ z. From z ys) a b _ _ _ (f _ _) (g _ _)
 
+    -- a step that is no transfer, and whose parts refuse some of ys
+    attempt_then_from : (k : Step) → transfers k ≡ false → (hang : ℕ → Bool) (f g : ℕ → Store → After) (ys : List ℕ) → ((p : ℕ) (t : Store) → From (f p t) ys) → ((p : ℕ) (t : Store) → From (g p t) ys)
+        → (pc : ℕ) (s : Store) → From (attempt_then w at enter k hang f g pc s) (Own k ++ ys)
+    unfolding attempt_then
+    attempt_then_from k plain hang f g ys a b pc s = elim (cases_Bool (test w at k pc s)) [
+      | inl t ↦ rw (t, refused-append (effect w at enter k pc s (raise w.order hang (guard w at k s) s)).refused)
+          (skip _ (Own k) ys (joins _ [] _ ys (effect_none k plain pc s (raise w.order hang (guard w at k s) s)) (a _ _)))
+      | inr t ↦ rw t (elim (cases_Bool (is_site w at.state at.children k)) [
+        | inl i ↦ rw i (inl (refl, b _ _))
+        | inr i ↦ (let no = serves at k i pc s in cc)
+      ])
+    ]
+
+    pick_from : (e : Term ℕ) (hang : ℕ → Bool) (pick : ℕ → ℕ → Store → After) (ys : List ℕ) → ((v p : ℕ) (t : Store) → From (pick v p t) ys) → (pc : ℕ) (s : Store) → From (select w e hang pick pc s) ys
+    unfolding select
+    pick_from e hang pick ys f pc s = f _ _ _
+
     none : (xs ys : List ℕ) → Sublist xs [] → Sublist xs ys
     none [] ys h = tt
     none (x ∷ xs) ys h = absurd h
@@ -125,19 +145,29 @@ module _ (w : World) where
     append-nil (x ∷ xs) = ap (λ ys. x ∷ ys) (append-nil xs)
 
     mutual
-      unfolding does does_block
+      unfolding does does_arms does_block
 
       open_from : (c : Command) → Open c → (pc : ℕ) (s : Store) → From (does w at enter c pc s) (sites w at.state at.children c)
       open_from (Do k) plain pc s = subst (λ ys. From (attempt w at enter k (raised_alone w at k) (λ p t. stay t) pc s) ys) (append-nil (Own k)) (attempt_from k (raised_alone w at k) (λ p t. stay t) [] [] (effect_none k plain) (λ xs h. h) (λ p t. tt) pc s)
       open_from (Try k hang h) plain pc s = attempt_from k (touches w at (Try k hang h)) (does_block w at enter h) [] (OwnBlock h) (effect_none k plain.0) (λ xs i. none xs (OwnBlock h) i) (λ p t. open_list h plain.1 p t) pc s
       open_from (If hang e a b) plain pc s = select_from e (touches w at (If hang e a b)) (does_block w at enter a) (does_block w at enter b) (OwnBlock a ++ OwnBlock b) (λ p t. more _ (OwnBlock a) (OwnBlock b) (open_list a plain.0 p t)) (λ p t. skip _ (OwnBlock a) (OwnBlock b) (open_list b plain.1 p t)) pc s
+      open_from (TryThen k hang a b) plain pc s =
+          attempt_then_from k plain.0 (touches w at (TryThen k hang a b)) (does_block w at enter a) (does_block w at enter b) (OwnBlock a ++ OwnBlock b)
+          (λ p t. more _ (OwnBlock a) (OwnBlock b) (open_list a plain.1 p t)) (λ p t. skip _ (OwnBlock a) (OwnBlock b) (open_list b plain.2 p t)) pc s
+      open_from (Case hang e arms) plain pc s = pick_from e (touches w at (Case hang e arms)) (does_arms w at enter arms) (OwnArms arms) (λ v p t. open_arms arms plain v p t) pc s
+
+      open_arms : (arms : Arms) → OpenArms arms → (v pc : ℕ) (s : Store) → From (does_arms w at enter arms v pc s) (OwnArms arms)
+      open_arms (Last b) plain v pc s = open_list b plain pc s
+      open_arms (Arm cs b arms) plain v pc s =
+          choose_all (λ z. From z (OwnBlock b ++ OwnArms arms)) cs (does_block w at enter b) (does_arms w at enter arms) v pc s
+          (more _ (OwnBlock b) (OwnArms arms) (open_list b plain.0 pc s)) (skip _ (OwnBlock b) (OwnArms arms) (open_arms arms plain.1 v pc s))
 
       open_list : (b : Block) → OpenBlock b → (pc : ℕ) (s : Store) → From (does_block w at enter b pc s) (OwnBlock b)
       open_list End plain pc s = tt
       open_list (Then c cs) plain pc s = rw (refused-append (does w at enter c pc s).refused) (joins _ (sites w at.state at.children c) _ (OwnBlock cs) (open_from c plain.0 pc s) (open_list cs plain.1 pc _))
 
     mutual
-      unfolding does does_block
+      unfolding does does_arms does_block
 
       final_from : (c : Command) → Final c → (pc : ℕ) (s : Store) → From (does w at enter c pc s) (sites w at.state at.children c ++ below)
       final_from (Do k) final pc s = attempt_from k (raised_alone w at k) (λ p t. stay t) below below (effect_from k) (λ xs h. h) (λ p t. tt) pc s
@@ -148,6 +178,22 @@ module _ (w : World) where
           select_from e (touches w at (If hang e a b)) (does_block w at enter a) (does_block w at enter b) ((OwnBlock a ++ OwnBlock b) ++ below)
           (λ p t. between _ (OwnBlock a) (OwnBlock b) below (closing_from a final.0 p t))
           (λ p t. subst (λ ys. From (does_block w at enter b p t) ys) (sym (append_assoc (OwnBlock a) (OwnBlock b) below)) (skip _ (OwnBlock a) (OwnBlock b ++ below) (closing_from b final.1 p t))) pc s
+      final_from (TryThen k hang a b) final pc s =
+          subst (λ ys. From (attempt_then w at enter k (touches w at (TryThen k hang a b)) (does_block w at enter a) (does_block w at enter b) pc s) ys)
+          (sym (append_assoc (Own k) (OwnBlock a ++ OwnBlock b) below))
+          (attempt_then_from k final.0 (touches w at (TryThen k hang a b)) (does_block w at enter a) (does_block w at enter b) ((OwnBlock a ++ OwnBlock b) ++ below)
+          (λ p t. between _ (OwnBlock a) (OwnBlock b) below (closing_from a final.1 p t))
+          (λ p t. subst (λ ys. From (does_block w at enter b p t) ys) (sym (append_assoc (OwnBlock a) (OwnBlock b) below)) (skip _ (OwnBlock a) (OwnBlock b ++ below) (closing_from b final.2 p t))) pc s)
+      final_from (Case hang e arms) final pc s =
+          pick_from e (touches w at (Case hang e arms)) (does_arms w at enter arms) (OwnArms arms ++ below) (λ v p t. closing_arms arms final v p t) pc s
+
+      closing_arms : (arms : Arms) → ClosingArms arms → (v pc : ℕ) (s : Store) → From (does_arms w at enter arms v pc s) (OwnArms arms ++ below)
+      closing_arms (Last b) closes v pc s = closing_from b closes pc s
+      closing_arms (Arm cs b arms) closes v pc s =
+          choose_all (λ z. From z ((OwnBlock b ++ OwnArms arms) ++ below)) cs (does_block w at enter b) (does_arms w at enter arms) v pc s
+          (between _ (OwnBlock b) (OwnArms arms) below (closing_from b closes.0 pc s))
+          (subst (λ ys. From (does_arms w at enter arms v pc s) ys) (sym (append_assoc (OwnBlock b) (OwnArms arms) below))
+          (skip _ (OwnBlock b) (OwnArms arms ++ below) (closing_arms arms closes.1 v pc s)))
 
       pub closing_from : (b : Block) → Closes b → (pc : ℕ) (s : Store) → From (does_block w at enter b pc s) (OwnBlock b ++ below)
       closing_from End closes pc s = absurd closes

@@ -1,8 +1,9 @@
 -- What a command does in a context pc, a level, in the body of a state. The store in which it begins gives the values,
 -- levels, test and guard; then come the raises; then the effect or the handler.
-use Rattle.std.specs.Prelude.{ℕ, zero, suc, Bool, ◌∷◌, if◌then◌else◌, nat_eq}
+use Rattle.std.specs.Prelude.{ℕ, zero, suc, Bool, List, ◌∷◌, if◌then◌else◌, nat_eq}
+use Rattle.std.specs.List.{list_any}
 use Rattle.sap_maps.specs.Term.{Term}
-use Rattle.sap_meaning.specs.Program.{World, is_dynamic, place, Step, Set, Write, Retag, RetagCell, Goto, Fall, Command, Do, Try, If, Block, End, Then, State, Node, Group, None, More}
+use Rattle.sap_meaning.specs.Program.{World, is_dynamic, place, Step, Set, Write, Retag, RetagCell, Goto, Fall, Command, Do, Try, If, TryThen, Case, Arms, Last, Arm, Block, End, Then, State, Node, Group, None, More}
 use Rattle.sap_meaning.specs.Store.{Store, own, start, next, number, level, child, put_number, put_level, put_child, raise, reset, Refusal, After, stay, and_then}
 use Rattle.sap_meaning.specs.Expressions.{value, tag, new_level}
 use Rattle.sap_meaning.specs.Checks.{Spot, site_of, child_level, guard, test}
@@ -43,6 +44,18 @@ attempt w at enter k hangs handler pc s =
     let a = handler inside r in
     record { store = a.store; refused = refusal ∷ a.refused })
 
+-- A step with `then`: where its test holds, the accepted part comes behind its effect, in the context joined with the guard.
+unfoldable pub attempt_then : World → Spot → (ℕ → ℕ → Store → After) → Step → (ℕ → Bool) → (accepted refused : ℕ → Store → After) → ℕ → Store → After
+attempt_then w at enter k hangs accepted refused pc s =
+    let g = guard w at k s in
+    let r = raise w.order hangs g s in
+    let inside = w.order.join pc g in
+    if test w at k pc s
+    then and_then (effect w at enter k pc s r) (accepted inside)
+    else (let refusal : Refusal = record { site = site_of k; level = inside } in
+    let a = refused inside r in
+    record { store = a.store; refused = refusal ∷ a.refused })
+
 -- What the number of an expression picks, in the context joined with its level, by which what hangs is raised first.
 unfoldable pub select : World → Term ℕ → (ℕ → Bool) → (ℕ → ℕ → Store → After) → ℕ → Store → After
 select w e hangs pick pc s =
@@ -53,11 +66,26 @@ select w e hangs pick pc s =
 abbrev pub branch : (ℕ → Store → After) → (ℕ → Store → After) → ℕ → ℕ → Store → After
 branch then_part else_part n pc s = if nat_eq n 0 then else_part pc s else then_part pc s
 
+-- whether the number is one of an arm's constants
+abbrev pub is_constant : List ℕ → ℕ → Bool
+is_constant constants n = list_any (λ c. nat_eq n c) constants
+
+-- the first where the number is one of the constants, else the second
+abbrev pub choose_arm : List ℕ → (ℕ → Store → After) → (ℕ → ℕ → Store → After) → ℕ → ℕ → Store → After
+choose_arm constants arm others n pc s = if is_constant constants n then arm pc s else others n pc s
+
 unfoldable mutual
   pub does : World → Spot → (ℕ → ℕ → Store → After) → Command → ℕ → Store → After
   does w at enter (Do k) = attempt w at enter k (raised_alone w at k) (λ pc s. stay s)
   does w at enter (Try k hang h) = attempt w at enter k (touches w at (Try k hang h)) (does_block w at enter h)
   does w at enter (If hang e a b) = select w e (touches w at (If hang e a b)) (branch (does_block w at enter a) (does_block w at enter b))
+  does w at enter (TryThen k hang a b) = attempt_then w at enter k (touches w at (TryThen k hang a b)) (does_block w at enter a) (does_block w at enter b)
+  does w at enter (Case hang e arms) = select w e (touches w at (Case hang e arms)) (does_arms w at enter arms)
+
+  -- the block of the first arm that has the number, else the last block
+  pub does_arms : World → Spot → (ℕ → ℕ → Store → After) → Arms → ℕ → ℕ → Store → After
+  does_arms w at enter (Last b) = λ n. does_block w at enter b
+  does_arms w at enter (Arm constants b arms) = choose_arm constants (does_block w at enter b) (does_arms w at enter arms)
 
   -- a list of commands, in order
   pub does_block : World → Spot → (ℕ → ℕ → Store → After) → Block → ℕ → Store → After

@@ -2,7 +2,7 @@
 use Rattle.std.specs.Prelude.{◌≡◌, ℕ, zero, suc, ◌<◌, ◌≤◌, Bool, true, false, ◌&&◌, ◌||◌, List, nat_eq}
 use Rattle.sap_lattice.specs.Order.{Laws}
 use Rattle.sap_maps.specs.Term.{Term, constant, read, cell, one, two, choose, join, part}
-use Rattle.sap_meaning.specs.Program.{World, Program, entity, is_dynamic, is_input, is_register, is_memory, is_state, authority, children, root, place, last, below, listed, LevelTerm, fixed, of, at_place, both, Step, Set, Write, Retag, RetagCell, Goto, Fall, Command, Do, Try, If, Block, End, Then, State, Node, Group, None, More}
+use Rattle.sap_meaning.specs.Program.{World, Program, entity, is_dynamic, is_input, is_register, is_memory, is_state, authority, children, root, place, last, below, listed, LevelTerm, fixed, of, at_place, both, Step, Set, Write, Retag, RetagCell, Goto, Fall, Command, Do, Try, If, TryThen, Case, Arms, Last, Arm, Block, End, Then, State, Node, Group, None, More}
 use Rattle.sap_meaning.specs.Checks.{Spot}
 use Rattle.sap_meaning.specs.Touches.{among, touches, root_touches}
 
@@ -44,6 +44,12 @@ abbrev mutual
   FineCommand w q g (Do k) = FineStep w q g k
   FineCommand w q g (Try k hang h) = FineStep w q g k × FineBlock w q g h
   FineCommand w q g (If hang e a b) = FineTerm w e × FineBlock w q g a × FineBlock w q g b
+  FineCommand w q g (TryThen k hang a b) = FineStep w q g k × FineBlock w q g a × FineBlock w q g b
+  FineCommand w q g (Case hang e arms) = FineTerm w e × FineArms w q g arms
+
+  pub FineArms : World → (siblings children : Group) → Arms → Type 0
+  FineArms w q g (Last b) = FineBlock w q g b
+  FineArms w q g (Arm constants b arms) = FineBlock w q g b × FineArms w q g arms
 
   pub FineBlock : World → (siblings children : Group) → Block → Type 0
   FineBlock w q g End = Unit {0}
@@ -64,13 +70,19 @@ abbrev mutual
   Open (Do k) = transfers k ≡ false
   Open (Try k hang h) = (transfers k ≡ false) × OpenBlock h
   Open (If hang e a b) = OpenBlock a × OpenBlock b
+  Open (TryThen k hang a b) = (transfers k ≡ false) × OpenBlock a × OpenBlock b
+  Open (Case hang e arms) = OpenArms arms
+
+  pub OpenArms : Arms → Type 0
+  OpenArms (Last b) = OpenBlock b
+  OpenArms (Arm constants b arms) = OpenBlock b × OpenArms arms
 
   pub OpenBlock : Block → Type 0
   OpenBlock End = Unit {0}
   OpenBlock (Then c cs) = Open c × OpenBlock cs
 
--- A list closes: its last command is a transfer, whose handler closes, or an `if` whose branches close, and all before
--- it are open.
+-- A list closes: its last command is a transfer, whose handler closes, or an `if` whose branches close, or a `then` whose
+-- command is no transfer or a `case`, whose blocks close, and all before it are open.
 abbrev mutual
   pub Closes : Block → Type 0
   Closes End = ⊥
@@ -81,6 +93,12 @@ abbrev mutual
   Final (Do k) = transfers k ≡ true
   Final (Try k hang h) = (transfers k ≡ true) × Closes h
   Final (If hang e a b) = Closes a × Closes b
+  Final (TryThen k hang a b) = (transfers k ≡ false) × Closes a × Closes b
+  Final (Case hang e arms) = ClosingArms arms
+
+  pub ClosingArms : Arms → Type 0
+  ClosingArms (Last b) = Closes b
+  ClosingArms (Arm constants b arms) = Closes b × ClosingArms arms
 
 -- a step writes or retags a cell of the memory m
 abbrev pub step_writes : Step → ℕ → Bool
@@ -96,6 +114,12 @@ abbrev mutual
   writes (Do k) m = step_writes k m
   writes (Try k hang h) m = step_writes k m || block_writes h m
   writes (If hang e a b) m = block_writes a m || block_writes b m
+  writes (TryThen k hang a b) m = step_writes k m || (block_writes a m || block_writes b m)
+  writes (Case hang e arms) m = arms_write arms m
+
+  pub arms_write : Arms → ℕ → Bool
+  arms_write (Last b) m = block_writes b m
+  arms_write (Arm constants b arms) m = block_writes b m || arms_write arms m
 
   pub block_writes : Block → ℕ → Bool
   block_writes End m = false
@@ -115,6 +139,12 @@ abbrev mutual
   reaching falls (Do k) m = step_reaching falls k m
   reaching falls (Try k hang h) m = step_reaching falls k m || block_reaching falls h m
   reaching falls (If hang e a b) m = block_reaching falls a m || block_reaching falls b m
+  reaching falls (TryThen k hang a b) m = step_reaching falls k m || (block_reaching falls a m || block_reaching falls b m)
+  reaching falls (Case hang e arms) m = arms_reaching falls arms m
+
+  pub arms_reaching : (falls : ℕ → Bool) → Arms → ℕ → Bool
+  arms_reaching falls (Last b) m = block_reaching falls b m
+  arms_reaching falls (Arm constants b arms) m = block_reaching falls b m || arms_reaching falls arms m
 
   pub block_reaching : (falls : ℕ → Bool) → Block → ℕ → Bool
   block_reaching falls End m = false
@@ -148,12 +178,21 @@ OnceStep below (RetagCell site m j n) = Unit {0}
 OnceStep below (Goto site target) = Unit {0}
 OnceStep below (Fall site hang) = below
 
--- No memory is written after it was written, on any path: a refused fall has entered no child before its handler.
+-- No memory is written after it was written, on any path: a refused fall has entered no child before its handler. What comes
+-- behind an accepted step comes behind all that the step reaches.
 abbrev mutual
   pub Once : Group → (below : Type 0) → Command → Type 0
   Once g below (Do k) = OnceStep below k
   Once g below (Try k hang h) = OnceStep below k × OnceBlock g below h × ((m : ℕ) → (step_writes k m && block_reaches g h m) ≡ false)
   Once g below (If hang e a b) = OnceBlock g below a × OnceBlock g below b
+  Once g below (TryThen k hang a b) =
+      OnceStep below k × OnceBlock g below a × OnceBlock g below b
+      × ((m : ℕ) → (step_reaches g k m && block_reaches g a m) ≡ false) × ((m : ℕ) → (step_writes k m && block_reaches g b m) ≡ false)
+  Once g below (Case hang e arms) = OnceArms g below arms
+
+  pub OnceArms : Group → (below : Type 0) → Arms → Type 0
+  OnceArms g below (Last b) = OnceBlock g below b
+  OnceArms g below (Arm constants b arms) = OnceBlock g below b × OnceArms g below arms
 
   pub OnceBlock : Group → (below : Type 0) → Block → Type 0
   OnceBlock g below End = Unit {0}
@@ -182,6 +221,12 @@ abbrev mutual
   retags (Do k) x = step_retags k x
   retags (Try k hang h) x = step_retags k x || block_retags h x
   retags (If hang e a b) x = block_retags a x || block_retags b x
+  retags (TryThen k hang a b) x = step_retags k x || (block_retags a x || block_retags b x)
+  retags (Case hang e arms) x = arms_retag arms x
+
+  pub arms_retag : Arms → ℕ → Bool
+  arms_retag (Last b) x = block_retags b x
+  arms_retag (Arm constants b arms) x = block_retags b x || arms_retag arms x
 
   pub block_retags : Block → ℕ → Bool
   block_retags End x = false
@@ -253,6 +298,12 @@ abbrev mutual
   Exact w at (Do k) = ExactStep w at k
   Exact w at (Try k hang h) = ExactList w at hang (Try k hang h) × ExactBlock w at h
   Exact w at (If hang e a b) = ExactList w at hang (If hang e a b) × ExactBlock w at a × ExactBlock w at b
+  Exact w at (TryThen k hang a b) = ExactList w at hang (TryThen k hang a b) × ExactBlock w at a × ExactBlock w at b
+  Exact w at (Case hang e arms) = ExactList w at hang (Case hang e arms) × ExactArms w at arms
+
+  pub ExactArms : World → Spot → Arms → Type 0
+  ExactArms w at (Last b) = ExactBlock w at b
+  ExactArms w at (Arm constants b arms) = ExactBlock w at b × ExactArms w at arms
 
   pub ExactBlock : World → Spot → Block → Type 0
   ExactBlock w at End = Unit {0}

@@ -134,12 +134,19 @@ pub data Step : Type 0 where
   Fall : (site : ℕ) → (hang : List Bool) → Step
 
 mutual
-  -- A step alone, a step with `otherwise`, and `if`, the last two with what hangs on them: at each entity's number
-  -- whether it hangs.
+  -- A step alone, a step with `otherwise`, `if`, a step with `then` and `otherwise`, and `case`, all but the first with what
+  -- hangs on them: at each entity's number whether it hangs.
   pub data Command : Type 0 where
     Do : Step → Command
     Try : Step → (hang : List Bool) → (handler : Block) → Command
     If : (hang : List Bool) → (condition : Term ℕ) → (then_part else_part : Block) → Command
+    TryThen : Step → (hang : List Bool) → (accepted refused : Block) → Command
+    Case : (hang : List Bool) → (number : Term ℕ) → Arms → Command
+
+  -- the arms of a `case`, each with the numbers of its constants, and the block after `else`
+  pub data Arms : Type 0 where
+    Last : Block → Arms
+    Arm : (constants : List ℕ) → Block → Arms → Arms
 
   pub data Block : Type 0 where
     End : Block

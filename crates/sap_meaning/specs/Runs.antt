@@ -1,10 +1,10 @@
 -- The same with what hangs taken from the lists in the program, as the machine and the compiler take it.
 use Rattle.std.specs.Prelude.{ℕ, zero, suc, Bool, false}
-use Rattle.sap_meaning.specs.Program.{World, listed, Step, Set, Write, Retag, RetagCell, Goto, Fall, Command, Do, Try, If, Block, End, Then, State, Node, Group, None, More}
+use Rattle.sap_meaning.specs.Program.{World, listed, Step, Set, Write, Retag, RetagCell, Goto, Fall, Command, Do, Try, If, TryThen, Case, Arms, Last, Arm, Block, End, Then, State, Node, Group, None, More}
 use Rattle.sap_meaning.specs.Store.{Store, After, stay, and_then}
 use Rattle.sap_meaning.specs.Checks.{Spot}
 use Rattle.sap_meaning.specs.Touches.{touches}
-use Rattle.sap_meaning.specs.Does.{attempt, select, branch}
+use Rattle.sap_meaning.specs.Does.{attempt, attempt_then, select, branch, choose_arm}
 
 -- what a step with no handler raises: for a goto the state in whose body it stands, if dynamic
 abbrev pub listed_alone : World → Spot → Step → ℕ → Bool
@@ -20,6 +20,12 @@ unfoldable mutual
   run w at enter (Do k) = attempt w at enter k (listed_alone w at k) (λ pc s. stay s)
   run w at enter (Try k hang h) = attempt w at enter k (listed hang) (run_block w at enter h)
   run w at enter (If hang e a b) = select w e (listed hang) (branch (run_block w at enter a) (run_block w at enter b))
+  run w at enter (TryThen k hang a b) = attempt_then w at enter k (listed hang) (run_block w at enter a) (run_block w at enter b)
+  run w at enter (Case hang e arms) = select w e (listed hang) (run_arms w at enter arms)
+
+  pub run_arms : World → Spot → (ℕ → ℕ → Store → After) → Arms → ℕ → ℕ → Store → After
+  run_arms w at enter (Last b) = λ n. run_block w at enter b
+  run_arms w at enter (Arm constants b arms) = choose_arm constants (run_block w at enter b) (run_arms w at enter arms)
 
   pub run_block : World → Spot → (ℕ → ℕ → Store → After) → Block → ℕ → Store → After
   run_block w at enter End pc s = stay s

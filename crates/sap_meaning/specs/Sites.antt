@@ -1,6 +1,6 @@
 -- The check sites of a program, in the order of the text.
 use Rattle.std.specs.Prelude.{◌≡◌, ℕ, ◌≤◌, suc, Bool, true, false, not, ◌||◌, List, [], ◌∷◌, ◌++◌, ◌⊎◌, if◌then◌else◌}
-use Rattle.sap_meaning.specs.Program.{World, Program, is_dynamic, Step, Set, Write, Retag, RetagCell, Goto, Fall, Command, Do, Try, If, Block, End, Then, State, Node, Group, None, More}
+use Rattle.sap_meaning.specs.Program.{World, Program, is_dynamic, Step, Set, Write, Retag, RetagCell, Goto, Fall, Command, Do, Try, If, TryThen, Case, Arms, Last, Arm, Block, End, Then, State, Node, Group, None, More}
 use Rattle.sap_meaning.specs.Store.{Refusal}
 use Rattle.sap_meaning.specs.Checks.{site_of}
 
@@ -27,6 +27,12 @@ abbrev mutual
   sites w s g (Do k) = step_sites w s g k
   sites w s g (Try k hang h) = step_sites w s g k ++ block_sites w s g h
   sites w s g (If hang e a b) = block_sites w s g a ++ block_sites w s g b
+  sites w s g (TryThen k hang a b) = step_sites w s g k ++ (block_sites w s g a ++ block_sites w s g b)
+  sites w s g (Case hang e arms) = arms_sites w s g arms
+
+  pub arms_sites : World → ℕ → Group → Arms → List ℕ
+  arms_sites w s g (Last b) = block_sites w s g b
+  arms_sites w s g (Arm constants b arms) = block_sites w s g b ++ arms_sites w s g arms
 
   pub block_sites : World → ℕ → Group → Block → List ℕ
   block_sites w s g End = []

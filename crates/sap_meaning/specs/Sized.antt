@@ -1,7 +1,7 @@
 -- The widths of a program: what has a width fits where it stands.
-use Rattle.std.specs.Prelude.{◌≡◌, ℕ, ◌<◌, ◌^◌}
+use Rattle.std.specs.Prelude.{◌≡◌, ℕ, ◌<◌, ◌^◌, List, [], ◌∷◌}
 use Rattle.sap_maps.specs.Term.{Term, constant, read, cell, one, two, choose, join, part, TermFits}
-use Rattle.sap_meaning.specs.Program.{World, Program, entity, width, depth_of, LevelTerm, fixed, of, at_place, both, Step, Set, Write, Retag, RetagCell, Goto, Fall, Command, Do, Try, If, Block, End, Then, State, Node, Group, None, More}
+use Rattle.sap_meaning.specs.Program.{World, Program, entity, width, depth_of, LevelTerm, fixed, of, at_place, both, Step, Set, Write, Retag, RetagCell, Goto, Fall, Command, Do, Try, If, TryThen, Case, Arms, Last, Arm, Block, End, Then, State, Node, Group, None, More}
 use Rattle.sap_meaning.specs.Expressions.{width_of}
 
 abbrev pub depth : World → ℕ → ℕ
@@ -39,11 +39,23 @@ SizedStep w (RetagCell site m j n) = SizedTerm w j × Indexes w m j × SizedLeve
 SizedStep w (Goto site target) = Unit {0}
 SizedStep w (Fall site hang) = Unit {0}
 
+-- numbers that a width can hold
+abbrev pub AreWithin : (width : ℕ) → List ℕ → Type 0
+AreWithin u [] = Unit {0}
+AreWithin u (n ∷ ns) = (n < 2 ^ u) × AreWithin u ns
+
 abbrev mutual
   pub Sized : World → Command → Type 0
   Sized w (Do k) = SizedStep w k
   Sized w (Try k hang h) = SizedStep w k × SizedBlock w h
   Sized w (If hang e a b) = SizedTerm w e × (width_of w e ≡ 1) × SizedBlock w a × SizedBlock w b
+  Sized w (TryThen k hang a b) = SizedStep w k × SizedBlock w a × SizedBlock w b
+  Sized w (Case hang e arms) = SizedTerm w e × SizedArms w (width_of w e) arms
+
+  -- constants that are compared with numbers of this width
+  pub SizedArms : World → (width : ℕ) → Arms → Type 0
+  SizedArms w u (Last b) = SizedBlock w b
+  SizedArms w u (Arm constants b arms) = AreWithin u constants × SizedBlock w b × SizedArms w u arms
 
   pub SizedBlock : World → Block → Type 0
   SizedBlock w End = Unit {0}

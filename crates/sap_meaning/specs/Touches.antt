@@ -1,6 +1,6 @@
 -- What a command touches: what hangs on it.
 use Rattle.std.specs.Prelude.{ℕ, Bool, false, ◌||◌, ◌&&◌, nat_eq}
-use Rattle.sap_meaning.specs.Program.{World, is_dynamic, Step, Set, Write, Retag, RetagCell, Goto, Fall, Command, Do, Try, If, Block, End, Then, State, Node, Group, None, More}
+use Rattle.sap_meaning.specs.Program.{World, is_dynamic, Step, Set, Write, Retag, RetagCell, Goto, Fall, Command, Do, Try, If, TryThen, Case, Arms, Last, Arm, Block, End, Then, State, Node, Group, None, More}
 use Rattle.sap_meaning.specs.Checks.{Spot}
 
 -- a step assigns the register or memory x
@@ -18,6 +18,12 @@ abbrev mutual
   assigns (Do k) x = step_assigns k x
   assigns (Try k hang h) x = step_assigns k x || block_assigns h x
   assigns (If hang e a b) x = block_assigns a x || block_assigns b x
+  assigns (TryThen k hang a b) x = step_assigns k x || (block_assigns a x || block_assigns b x)
+  assigns (Case hang e arms) x = arms_assign arms x
+
+  pub arms_assign : Arms → ℕ → Bool
+  arms_assign (Last b) x = block_assigns b x
+  arms_assign (Arm constants b arms) x = block_assigns b x || arms_assign arms x
 
   pub block_assigns : Block → ℕ → Bool
   block_assigns End x = false
@@ -52,6 +58,12 @@ abbrev mutual
   hangs s g (Do k) x = step_hangs s g k x
   hangs s g (Try k hang h) x = step_hangs s g k x || block_hangs s g h x
   hangs s g (If hang e a b) x = block_hangs s g a x || block_hangs s g b x
+  hangs s g (TryThen k hang a b) x = step_hangs s g k x || (block_hangs s g a x || block_hangs s g b x)
+  hangs s g (Case hang e arms) x = arms_hang s g arms x
+
+  pub arms_hang : ℕ → Group → Arms → ℕ → Bool
+  arms_hang s g (Last b) x = block_hangs s g b x
+  arms_hang s g (Arm constants b arms) x = block_hangs s g b x || arms_hang s g arms x
 
   pub block_hangs : ℕ → Group → Block → ℕ → Bool
   block_hangs s g End x = false

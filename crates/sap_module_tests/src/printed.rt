@@ -1,14 +1,14 @@
-//! Tests.
+//! The texts of netlists.
 
 ghost use Rattle.std.specs.Prelude.{◌≡◌, IfOk};
 
 use sap_net::parts::{Name, Operand, Port, PortKind, Register};
 use sap_vprint::print;
+use sap_vread::read;
 use std::alloc::{AllocError, Global};
 use std::test::Fail;
 
 pub mod summed;
-mod swapped;
 
 fn named(alloc: Global, text: &[u8]) -> Result<Name, AllocError>
     ensures { IfOk result (λ n. n ≡ text.now) }
@@ -45,7 +45,11 @@ fn register(
 
 #[test]
 fn prints_two_registers(rt: HostRuntime) -> Result<(), Fail> {
-    let netlist = swapped::netlist(rt.alloc())?;
+    let given =
+        b"module top(input clk, output reg[7:0]v_x, output reg[0:0]t_x, output reg[7:0]v_y, output reg[0:0]t_y);
+        initial v_x=8'd01; always@(posedge clk)v_x<=v_y; initial v_y=8'd2; always@(posedge clk)v_y<=v_x;
+        initial t_x=1'd0; initial t_y=1'd0; always@(posedge clk)t_x<=t_y; always@(posedge clk)t_y<=t_x; endmodule";
+    let netlist = read(rt.alloc(), given.as_slice())?;
     let text = print(rt.alloc(), &netlist)?;
     let expected = b"module top(
   input clk,

@@ -1,6 +1,7 @@
 -- The faults of commands, noted one part after another.
-use Rattle.std.proofs.Common.{◌≡◌, ◌∙◌, ℕ, List, ◌++◌, ap}
-use Rattle.std.specs.Prelude.{Option, Some}
+use Rattle.std.proofs.Common.{◌≡◌, ◌∙◌, ℕ, List, ◌++◌, append_assoc, ap, ap₂, sym, Global}
+use Rattle.std.specs.Prelude.{Option, Some, None, Vec}
+use Rattle.sap_tree.specs.declared.syntax.Arm.{Arm}
 use Rattle.sap_tree.specs.declared.name.Mention.{Mention}
 use Rattle.sap_tree.specs.declared.place.Place.{Place}
 use Rattle.sap_tree.specs.declared.syntax.Block.{Block}
@@ -11,18 +12,18 @@ use Rattle.sap_tree.specs.declared.syntax.Simple.{Simple}
 use Rattle.sap_tree.specs.declared.syntax.Simple.TheVariants as s
 use Rattle.sap_tree.specs.declared.syntax.TagExpr.{TagExpr}
 use Rattle.sap_tree.specs.Syntax.{Command}
-use Rattle.sap_tree.specs.Trees.{expression_of, tag_of, simple_of, command_of, else_of}
-use Rattle.sap_tree.proofs.Views.{command_of-try, command_of-if}
+use Rattle.sap_tree.specs.Trees.{expression_of, tag_of, simple_of, command_of, block_of, else_of}
+use Rattle.sap_tree.proofs.Views.{command_of-try, command_of-if, command_of-try_then, command_of-case}
 use Rattle.sap_names.specs.declared.kind.Declared.{Declared}
 use Rattle.sap_names.specs.declared.kind.Use.TheVariants as u
 use Rattle.sap_names.specs.Best.{best_of}
 use Rattle.sap_names.specs.Entities.{Lookup}
 use Rattle.sap_names.specs.Fault.{Fault}
-use Rattle.sap_names.specs.Lists.{commands_faults}
-use Rattle.sap_names.specs.NameFaults.{expression_faults, tag_faults, simple_faults, command_faults, else_faults, use_faults}
-use Rattle.sap_names.specs.Widths.{cell_width, index_width}
+use Rattle.sap_names.specs.Lists.{commands_faults, arms_faults}
+use Rattle.sap_names.specs.NameFaults.{expression_faults, tag_faults, simple_faults, command_faults, block_faults, else_faults, use_faults}
+use Rattle.sap_names.specs.Widths.{cell_width, index_width, own}
 use Rattle.sap_names.proofs.Faults.{both, three}
-use Rattle.sap_names.proofs.Lists.{block_faults-is}
+use Rattle.sap_names.proofs.Lists.{arms_faults-of, block_faults-is}
 
 module _ (levels : List (List ℕ)) (what : Lookup) where
   -- a write to a cell
@@ -72,3 +73,28 @@ module _ (levels : List (List ℕ)) (what : Lookup) where
       (q ∙ ap (λ (l : List Cmd). best_of m (commands_faults levels what l)) same) r
       (ap (λ (y : Command). command_faults levels what y) (ap command_of is ∙ command_of-if place e one other)
       ∙ ap (λ (l : List Fault). expression_faults what (expression_of e) (Some 1) ++ l ++ else_faults levels what (else_of other)) (block_faults-is levels what one))
+
+  -- a command with what follows it where it is accepted and where it is refused
+  pub then_noted : (x : Cmd) (k : Simple) (place : Place) (a b : Block) (xs ys : List Cmd) (o m n l : Option Fault)
+      → x ≡ c.TryThen k place a b → xs ≡ a.commands.items → ys ≡ b.commands.items
+      → m ≡ best_of o (simple_faults levels what (simple_of k)) → n ≡ best_of m (commands_faults levels what xs) → l ≡ best_of n (commands_faults levels what ys)
+      → l ≡ best_of o (command_faults levels what (command_of x))
+  then_noted x k place a b xs ys o m n l is same last p q r =
+      three o m n l (simple_faults levels what (simple_of k)) (commands_faults levels what a.commands.items) (commands_faults levels what b.commands.items) _ p
+      (q ∙ ap (λ (cs : List Cmd). best_of m (commands_faults levels what cs)) same) (r ∙ ap (λ (cs : List Cmd). best_of n (commands_faults levels what cs)) last)
+      (ap (λ (y : Command). command_faults levels what y) (ap command_of is ∙ command_of-try_then k place a b)
+      ∙ ap₂ (λ (f g : List Fault). simple_faults levels what (simple_of k) ++ f ++ g) (block_faults-is levels what a) (block_faults-is levels what b))
+
+  -- a choice of an arm
+  pub case_noted : (x : Cmd) (place : Place) (e : Expr) (arms : Vec Arm Global) (last : Block) (asked : Option ℕ) (xs : List Arm) (cs : List Cmd) (o m n l : Option Fault)
+      → x ≡ c.Case place e arms last → asked ≡ own what (expression_of e) → xs ≡ arms.items → cs ≡ last.commands.items
+      → m ≡ best_of o (expression_faults what (expression_of e) None) → n ≡ best_of m (arms_faults levels what asked xs) → l ≡ best_of n (commands_faults levels what cs)
+      → l ≡ best_of o (command_faults levels what (command_of x))
+  case_noted x place e arms last asked xs cs o m n l is width same end p q r =
+      let own_width = own what (expression_of e) in
+      three o m n l (expression_faults what (expression_of e) None) (arms_faults levels what own_width arms.items) (commands_faults levels what last.commands.items) _ p
+      (q ∙ ap₂ (λ (w : Option ℕ) (ds : List Arm). best_of m (arms_faults levels what w ds)) width same) (r ∙ ap (λ (ds : List Cmd). best_of n (commands_faults levels what ds)) end)
+      (ap (λ (y : Command). command_faults levels what y) (ap command_of is ∙ command_of-case place e arms last)
+      ∙ ap (λ (f : List Fault). expression_faults what (expression_of e) None ++ f) (arms_faults-of levels what own_width arms.items (block_of last))
+      ∙ sym (append_assoc (expression_faults what (expression_of e) None) (arms_faults levels what own_width arms.items) (block_faults levels what (block_of last)))
+      ∙ ap (λ (f : List Fault). expression_faults what (expression_of e) None ++ arms_faults levels what own_width arms.items ++ f) (block_faults-is levels what last))

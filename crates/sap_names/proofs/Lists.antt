@@ -1,19 +1,22 @@
 -- The faults of lists, from a place on.
-use Rattle.std.proofs.Common.{◌≡◌, ℕ, Bool, zero, suc, ◌+◌, ◌<◌, ◌≤◌, List, [], ◌∷◌, ◌++◌, length, get_or, drop, refl, sym, ap, ◌∙◌, arith, add-one, Some}
+use Rattle.std.proofs.Common.{◌≡◌, ℕ, Bool, zero, suc, ◌+◌, ◌<◌, ◌≤◌, List, [], ◌∷◌, ◌++◌, append_assoc, length, get_or, drop, refl, sym, ap, ap₂, ◌∙◌, arith, add-one, Some}
 use Rattle.sap_names.specs.declared.fault.Fault.{Fault}
 use Rattle.sap_names.specs.Best.{best_of}
-use Rattle.sap_names.proofs.Faults.{both}
+use Rattle.sap_names.proofs.Faults.{both, three}
 use Rattle.std.specs.Prelude.{Option}
+use Rattle.sap_tree.specs.declared.syntax.Arm.{Arm}
 use Rattle.sap_tree.specs.declared.syntax.Cmd.{Cmd}
+use Rattle.sap_tree.specs.declared.syntax.Expr.{Expr}
 use Rattle.sap_tree.specs.declared.syntax.Block.{Block}
 use Rattle.sap_tree.specs.declared.syntax.Decl.{Decl}
 use Rattle.sap_tree.specs.declared.syntax.State.{State}
 use Rattle.sap_tree.specs.declared.syntax.TagExpr.{TagExpr}
-use Rattle.sap_tree.specs.Trees.{tag_of, tags_of, command_of, block_of, else_of, state_of, states_of}
+use Rattle.sap_tree.specs.Syntax.{CommandBlock, Last}
+use Rattle.sap_tree.specs.Trees.{expression_of, tag_of, tags_of, command_of, block_of, constants_of, arm_block_of, arms_of, else_of, state_of, states_of}
 use Rattle.sap_names.specs.Entities.{Lookup}
-use Rattle.sap_names.specs.NameFaults.{tag_faults, command_faults, block_faults, else_faults, declaration_faults, declarations_faults, state_faults}
+use Rattle.sap_names.specs.NameFaults.{expression_faults, tag_faults, command_faults, block_faults, else_faults, declaration_faults, declarations_faults, state_faults}
 use Rattle.sap_names.specs.NameFaults as faults
-use Rattle.sap_names.specs.Lists.{tags_faults, commands_faults, states_faults}
+use Rattle.sap_names.specs.Lists.{tags_faults, commands_faults, constants_faults, arms_faults, states_faults}
 
 pub tags_faults-drop : (levels : List (List ℕ)) (what : Lookup) (ts : List TagExpr) (n : ℕ) (d : TagExpr) → n < length ts
     → tags_faults levels what (drop n ts) ≡ tag_faults levels what (tag_of (get_or ts n d)) ++ tags_faults levels what (drop (n + 1) ts)
@@ -42,6 +45,67 @@ commands_faults-past levels what [] zero h = refl
 commands_faults-past levels what [] (suc n) h = refl
 commands_faults-past levels what (c ∷ cs) zero h = absurd (omega arith)
 commands_faults-past levels what (c ∷ cs) (suc n) h = commands_faults-past levels what cs n (omega arith)
+
+pub constants_faults-drop : (what : Lookup) (asked : Option ℕ) (es : List Expr) (n : ℕ) (d : Expr) → n < length es
+    → constants_faults what asked (drop n es) ≡ expression_faults what (expression_of (get_or es n d)) asked ++ constants_faults what asked (drop (n + 1) es)
+unfolding constants_faults
+constants_faults-drop what asked [] n d h = absurd (omega arith)
+constants_faults-drop what asked (e ∷ es) zero d h = refl
+constants_faults-drop what asked (e ∷ es) (suc n) d h = let r = constants_faults-drop what asked es n d (omega arith) in simp (add-one) (simp (add-one) at r)
+
+pub constants_faults-past : (what : Lookup) (asked : Option ℕ) (es : List Expr) (n : ℕ) → length es ≤ n → constants_faults what asked (drop n es) ≡ []
+unfolding constants_faults
+constants_faults-past what asked [] zero h = refl
+constants_faults-past what asked [] (suc n) h = refl
+constants_faults-past what asked (e ∷ es) zero h = absurd (omega arith)
+constants_faults-past what asked (e ∷ es) (suc n) h = constants_faults-past what asked es n (omega arith)
+
+pub constants_step : (what : Lookup) (asked : Option ℕ) (es : List Expr) (n : ℕ) (d : Expr) (o m : Option Fault) → n < length es → d ≡ get_or es n d
+    → m ≡ best_of o (expression_faults what (expression_of d) asked) → best_of m (constants_faults what asked (drop (n + 1) es)) ≡ best_of o (constants_faults what asked (drop n es))
+constants_step what asked es n d o m h e k =
+    both o m _ (expression_faults what (expression_of d) asked) (constants_faults what asked (drop (n + 1) es)) _ k refl
+    (constants_faults-drop what asked es n d h ∙ ap (λ (x : Expr). expression_faults what (expression_of x) asked ++ constants_faults what asked (drop (n + 1) es)) (sym e))
+
+constants_faults-is : (what : Lookup) (asked : Option ℕ) (arm : Arm) → faults.constants_faults what asked (constants_of arm) ≡ constants_faults what asked arm.constants.items
+unfolding constants_faults
+constants_faults-is what asked arm = refl
+
+arm_faults-is : (levels : List (List ℕ)) (what : Lookup) (arm : Arm) → block_faults levels what (arm_block_of arm) ≡ commands_faults levels what arm.block.commands.items
+unfolding commands_faults
+arm_faults-is levels what arm = refl
+
+pub arms_faults-drop : (levels : List (List ℕ)) (what : Lookup) (asked : Option ℕ) (arms : List Arm) (n : ℕ) (d : Arm) → n < length arms
+    → arms_faults levels what asked (drop n arms)
+    ≡ faults.constants_faults what asked (constants_of (get_or arms n d)) ++ block_faults levels what (arm_block_of (get_or arms n d)) ++ arms_faults levels what asked (drop (n + 1) arms)
+unfolding arms_faults
+arms_faults-drop levels what asked [] n d h = absurd (omega arith)
+arms_faults-drop levels what asked (arm ∷ arms) zero d h = refl
+arms_faults-drop levels what asked (arm ∷ arms) (suc n) d h = let r = arms_faults-drop levels what asked arms n d (omega arith) in simp (add-one) (simp (add-one) at r)
+
+pub arms_faults-past : (levels : List (List ℕ)) (what : Lookup) (asked : Option ℕ) (arms : List Arm) (n : ℕ) → length arms ≤ n → arms_faults levels what asked (drop n arms) ≡ []
+unfolding arms_faults
+arms_faults-past levels what asked [] zero h = refl
+arms_faults-past levels what asked [] (suc n) h = refl
+arms_faults-past levels what asked (arm ∷ arms) zero h = absurd (omega arith)
+arms_faults-past levels what asked (arm ∷ arms) (suc n) h = arms_faults-past levels what asked arms n (omega arith)
+
+pub arms_step : (levels : List (List ℕ)) (what : Lookup) (asked : Option ℕ) (arms : List Arm) (n : ℕ) (d : Arm) (es : List Expr) (cs : List Cmd) (o m k : Option Fault) → n < length arms
+    → d ≡ get_or arms n d → es ≡ d.constants.items → cs ≡ d.block.commands.items → m ≡ best_of o (constants_faults what asked es) → k ≡ best_of m (commands_faults levels what cs)
+    → best_of k (arms_faults levels what asked (drop (n + 1) arms)) ≡ best_of o (arms_faults levels what asked (drop n arms))
+arms_step levels what asked arms n d es cs o m k h e f g p q =
+    three o m k _ (constants_faults what asked es) (commands_faults levels what cs) (arms_faults levels what asked (drop (n + 1) arms)) _ p q refl
+    (arms_faults-drop levels what asked arms n d h
+    ∙ ap (λ (arm : Arm). faults.constants_faults what asked (constants_of arm) ++ block_faults levels what (arm_block_of arm) ++ arms_faults levels what asked (drop (n + 1) arms)) (sym e)
+    ∙ ap₂ (λ (a b : List Fault). a ++ b ++ arms_faults levels what asked (drop (n + 1) arms))
+    (constants_faults-is what asked d ∙ ap (λ (l : List Expr). constants_faults what asked l) (sym f)) (arm_faults-is levels what d ∙ ap (λ (l : List Cmd). commands_faults levels what l) (sym g)))
+
+pub arms_faults-of : (levels : List (List ℕ)) (what : Lookup) (asked : Option ℕ) (arms : List Arm) (last : CommandBlock)
+    → faults.arms_faults levels what asked (arms_of arms last) ≡ arms_faults levels what asked arms ++ block_faults levels what last
+unfolding arms_faults
+arms_faults-of levels what asked [] last = refl
+arms_faults-of levels what asked (arm ∷ arms) last =
+    let own = faults.constants_faults what asked (constants_of arm) ++ block_faults levels what (arm_block_of arm) in
+    ap (λ (l : List Fault). own ++ l) (arms_faults-of levels what asked arms last) ∙ sym (append_assoc own (arms_faults levels what asked arms) (block_faults levels what last))
 
 pub tags_faults-all : (levels : List (List ℕ)) (what : Lookup) (ts : List TagExpr) → tags_faults levels what ts ≡ faults.tags_faults levels what (tags_of ts)
 unfolding tags_faults
@@ -119,5 +183,9 @@ pub ruleset states = (states_faults-drop, states_faults-past)
 pub ruleset tags = (tags_faults-drop, tags_faults-past)
 
 pub ruleset commands = (commands_faults-drop, commands_faults-past)
+
+pub ruleset constants = (constants_faults-drop, constants_faults-past)
+
+pub ruleset arms = (arms_faults-drop, arms_faults-past)
 
 pub ruleset blocks = (block_faults-is, else_faults-is, tags_faults-all, states_faults-all)

@@ -1,17 +1,21 @@
 -- The sizes of trees, by which recursions end.
 use Rattle.std.proofs.Common.{◌≡◌, ℕ, zero, suc, ◌+◌, ◌<◌, length, get_or, arith, List, [], ◌∷◌, ap, sym, subst, ◌∙◌}
-use Rattle.std.specs.Prelude.{Option}
+use Rattle.std.specs.Prelude.{Option, Vec}
+use Rattle.std.proofs.Common.{Global}
+use Rattle.sap_tree.specs.declared.syntax.Simple.{Simple}
 use Rattle.sap_tree.specs.declared.place.Place.{Place}
+use Rattle.sap_tree.specs.declared.syntax.Arm.{Arm}
 use Rattle.sap_tree.specs.declared.syntax.Block.{Block}
 use Rattle.sap_tree.specs.declared.syntax.Expr.{Expr}
 use Rattle.sap_tree.specs.declared.syntax.Cmd.TheVariants as c
 use Rattle.sap_tree.specs.Trees.{else_of}
-use Rattle.sap_tree.proofs.Views.{command_of-if}
+use Rattle.sap_tree.proofs.Views.{command_of-if, command_of-try_then, command_of-case}
 use Rattle.sap_tree.specs.declared.syntax.Cmd.{Cmd}
 use Rattle.sap_tree.specs.declared.syntax.TagExpr.{TagExpr}
 use Rattle.sap_tree.specs.declared.syntax.State.{State}
-use Rattle.sap_tree.specs.Trees.{tag_of, tags_of, command_of, commands_of, state_of, states_of}
-use Rattle.sap_tree.specs.Syntax.{Expression, Number, Sized, Read, Cell, Unary, Binary, Choose, Slice, Concat, Zext, Expressions, NoPart, AndPart, TagExpression, Level, TagOf, LevelAt, Join, TagExpressions, NoTag, AndTag, Command, Do, Try, If, CommandBlock, Commands, ElseBlock, NoElse, Else, CommandList, NoCommand, AndCommand, StateTree, StateOf, StateList, NoState, AndState}
+use Rattle.sap_tree.specs.Trees.{tag_of, tags_of, command_of, commands_of, block_of, arm_block_of, arms_before, arms_of, state_of, states_of}
+use Rattle.sap_tree.specs.Syntax.{Expression, Number, Sized, Read, Cell, Unary, Binary, Choose, Slice, Concat, Zext, Expressions, NoPart, AndPart, TagExpression, Level, TagOf, LevelAt, Join, TagExpressions, NoTag, AndTag, Command, Do, Try, If, TryThen, Case, Arms, Last, CommandBlock, Commands, ElseBlock, NoElse, Else, CommandList, NoCommand, AndCommand, StateTree, StateOf, StateList, NoState, AndState}
+use Rattle.sap_tree.specs.Syntax as tree
 
 abbrev mutual
   pub weight : Expression → ℕ
@@ -46,6 +50,12 @@ abbrev mutual
   command_weight (Do k) = 1
   command_weight (Try k place handler) = block_weight handler + 2
   command_weight (If place x yes_block no_block) = block_weight yes_block + else_weight no_block + 2
+  command_weight (TryThen k place accepted refused) = block_weight accepted + block_weight refused + 2
+  command_weight (Case place x arms) = arms_weight arms + 2
+
+  pub arms_weight : Arms → ℕ
+  arms_weight (Last b) = block_weight b
+  arms_weight (tree.Arm constants b arms) = block_weight b + arms_weight arms + 1
 
   pub block_weight : CommandBlock → ℕ
   block_weight (Commands cs after) = commands_weight cs
@@ -65,6 +75,20 @@ abbrev mutual
   pub states_weight : StateList → ℕ
   states_weight NoState = 1
   states_weight (AndState s rest) = state_weight s + states_weight rest + 1
+
+-- of the arms that code has in a list
+abbrev pub arm_list_weight : List Arm → ℕ
+arm_list_weight [] = 0
+arm_list_weight (arm ∷ arms) = block_weight (arm_block_of arm) + arm_list_weight arms + 1
+
+pub arms_weight-of : (arms : List Arm) (others : Arms) → arms_weight (arms_before arms others) ≡ arm_list_weight arms + arms_weight others
+arms_weight-of [] others = omega arith
+arms_weight-of (arm ∷ arms) others = let r = arms_weight-of arms others in omega (arith, r)
+
+pub arms_weight-in : (arms : List Arm) (n : ℕ) (d : Arm) → n < length arms → block_weight (arm_block_of (get_or arms n d)) < arm_list_weight arms
+arms_weight-in [] n d h = absurd (omega arith)
+arms_weight-in (arm ∷ arms) zero d h = omega arith
+arms_weight-in (arm ∷ arms) (suc n) d h = let r = arms_weight-in arms n d (omega arith) in omega arith
 
 pub tags_weight-in : (ts : List TagExpr) (n : ℕ) (d : TagExpr) → n < length ts → tag_weight (tag_of (get_or ts n d)) < tags_weight (tags_of ts)
 tags_weight-in [] n d h = absurd (omega arith)
@@ -87,4 +111,22 @@ pub else_lighter : (x : Cmd) (place : Place) (e : Expr) (one : Block) (other : O
 else_lighter x place e one other is =
     subst (λ (y : Command). else_weight (else_of other) + 1 < command_weight y) (sym (ap command_of is ∙ command_of-if place e one other)) (omega arith)
 
-pub ruleset weights = (tags_weight-in, commands_weight-in, states_weight-in)
+pub accepted_lighter : (x : Cmd) (k : Simple) (place : Place) (a b : Block) → x ≡ c.TryThen k place a b → block_weight (block_of a) < command_weight (command_of x)
+accepted_lighter x k place a b is =
+    subst (λ (y : Command). block_weight (block_of a) < command_weight y) (sym (ap command_of is ∙ command_of-try_then k place a b)) (omega arith)
+
+pub refused_lighter : (x : Cmd) (k : Simple) (place : Place) (a b : Block) → x ≡ c.TryThen k place a b → block_weight (block_of b) < command_weight (command_of x)
+refused_lighter x k place a b is =
+    subst (λ (y : Command). block_weight (block_of b) < command_weight y) (sym (ap command_of is ∙ command_of-try_then k place a b)) (omega arith)
+
+pub arms_lighter : (x : Cmd) (place : Place) (e : Expr) (arms : Vec Arm Global) (last : Block) → x ≡ c.Case place e arms last → arm_list_weight arms.items < command_weight (command_of x)
+arms_lighter x place e arms last is =
+    let w = arms_weight-of arms.items (Last (block_of last)) in
+    subst (λ (y : Command). arm_list_weight arms.items < command_weight y) (sym (ap command_of is ∙ command_of-case place e arms last)) (omega (arith, w))
+
+pub last_lighter : (x : Cmd) (place : Place) (e : Expr) (arms : Vec Arm Global) (last : Block) → x ≡ c.Case place e arms last → block_weight (block_of last) < command_weight (command_of x)
+last_lighter x place e arms last is =
+    let w = arms_weight-of arms.items (Last (block_of last)) in
+    subst (λ (y : Command). block_weight (block_of last) < command_weight y) (sym (ap command_of is ∙ command_of-case place e arms last)) (omega (arith, w))
+
+pub ruleset weights = (tags_weight-in, commands_weight-in, arms_weight-in, states_weight-in)

@@ -8,6 +8,7 @@ use Rattle.sap_tree.specs.declared.syntax.Kind.TheVariants.{Dynamic, Enforced}
 use Rattle.sap_tree.specs.declared.syntax.Decl.TheVariants.{Register}
 use Rattle.sap_tree.specs.declared.syntax.BinaryOperator.TheVariants.{Add}
 use Rattle.sap_tree.specs.Syntax.{Number, Sized, Read, Binary, TagOf, Assign, Goto, Command, Do, Commands, CommandList, NoCommand, AndCommand, StateOf, StateList, NoState, AndState, DesignTree}
+use Rattle.sap_tree.specs.declared.version.Version.TheVariants.{One}
 use Rattle.sap_names.specs.Fault.{Fault}
 use Rattle.sap_names.specs.declared.kind.Code.{Code}
 use Rattle.sap_names.specs.declared.kind.Code.TheVariants.{E4, E7, E8}
@@ -50,6 +51,7 @@ only c = body (AndCommand c NoCommand)
 -- reg x : 8 dynamic = START; and a state
 abbrev pub starting : (start : ℕ) → DesignTree
 starting start = record {
+  version = One;
   declarations = Register (at 1) (named 5 (codes "x")) (record { place = at 9; value = 8 }) (Dynamic (at 11)) (Some (record { place = at 21; value = start })) ∷ [];
   states = only (Do (Goto (at 30) (named 35 (codes "S"))));
 }
@@ -61,6 +63,7 @@ LargeStart = design_name_faults levels below (starting 256) ≡ fault E8 21 ∷ 
 -- reg x : 8 dynamic; .. x := 99'd300;
 abbrev pub WideNumber : Type 0
 WideNumber = design_name_faults levels below (record {
+  version = One;
   declarations = Register (at 1) (named 5 (codes "x")) (record { place = at 9; value = 8 }) (Dynamic (at 11)) None ∷ [];
   states = only (Do (Assign (named 43 (codes "x")) (Sized (spot 48) 99 300)));
 }) ≡ fault E7 48 ∷ []

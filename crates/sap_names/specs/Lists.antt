@@ -1,9 +1,11 @@
 -- The faults and the entities of lists of parts.
-use Rattle.std.specs.Prelude.{List, ℕ, Bool, true, not, Option, Some, None, eqb}
+use Rattle.std.specs.Prelude.{List, [], ◌∷◌, ◌++◌, ℕ, Bool, true, not, Option, Some, None, eqb}
+use Rattle.sap_tree.specs.declared.syntax.Arm.{Arm}
 use Rattle.sap_tree.specs.declared.syntax.Cmd.{Cmd}
+use Rattle.sap_tree.specs.declared.syntax.Expr.{Expr}
 use Rattle.sap_tree.specs.declared.syntax.State.{State}
 use Rattle.sap_tree.specs.declared.syntax.TagExpr.{TagExpr}
-use Rattle.sap_tree.specs.Trees.{tags_of, commands_of, states_of}
+use Rattle.sap_tree.specs.Trees.{arm_block_of, constants_of, expressions_of, tags_of, commands_of, states_of}
 use Rattle.sap_names.specs.Entities.{Entity, Lookup, group_entities, number_of}
 use Rattle.sap_names.specs.declared.fault.Fault.{Fault}
 use Rattle.sap_names.specs.NameFaults as faults
@@ -13,6 +15,15 @@ tags_faults levels what ts = faults.tags_faults levels what (tags_of ts)
 
 unfoldable pub commands_faults : List (List ℕ) → Lookup → List Cmd → List Fault
 commands_faults levels what cs = faults.commands_faults levels what (commands_of cs)
+
+unfoldable pub constants_faults : Lookup → (asked : Option ℕ) → List Expr → List Fault
+constants_faults what asked es = faults.constants_faults what asked (expressions_of es)
+
+-- the arms of a `case`, without the block after `else`
+unfoldable pub arms_faults : List (List ℕ) → Lookup → (asked : Option ℕ) → List Arm → List Fault
+arms_faults levels what asked [] = []
+arms_faults levels what asked (arm ∷ arms) =
+    faults.constants_faults what asked (constants_of arm) ++ faults.block_faults levels what (arm_block_of arm) ++ arms_faults levels what asked arms
 
 unfoldable pub states_faults : List (List ℕ) → (ℕ → ℕ → Bool) → Lookup → List State → List Fault
 states_faults levels le what ss = faults.states_faults levels le what (states_of ss)

@@ -8,7 +8,7 @@ use Rattle.sap_tree.specs.declared.syntax.Kind.{Kind}
 use Rattle.sap_tree.specs.declared.syntax.Kind.TheVariants.{Dynamic, Enforced}
 use Rattle.sap_tree.specs.declared.syntax.Decl.{Decl}
 use Rattle.sap_tree.specs.declared.syntax.Decl.TheVariants.{Input, Register, Memory}
-use Rattle.sap_tree.specs.Syntax.{Expression, Number, Sized, Read, Cell, Unary, Binary, Choose, Slice, Concat, Zext, Expressions, NoPart, AndPart, TagExpression, Level, TagOf, LevelAt, Join, TagExpressions, NoTag, AndTag, SimpleCommand, Assign, Write, SetTag, SetCellTag, Goto, Fall, Command, Do, Try, If, CommandBlock, Commands, ElseBlock, NoElse, Else, CommandList, NoCommand, AndCommand, StateTree, StateOf, StateList, NoState, AndState, DesignTree}
+use Rattle.sap_tree.specs.Syntax.{Expression, Number, Sized, Read, Cell, Unary, Binary, Choose, Slice, Concat, Zext, Expressions, NoPart, AndPart, TagExpression, Level, TagOf, LevelAt, Join, TagExpressions, NoTag, AndTag, SimpleCommand, Assign, Write, SetTag, SetCellTag, Goto, Fall, Command, Do, Try, If, TryThen, Case, Arms, Last, Arm, CommandBlock, Commands, ElseBlock, NoElse, Else, CommandList, NoCommand, AndCommand, StateTree, StateOf, StateList, NoState, AndState, DesignTree}
 use Rattle.sap_names.specs.Fault.{Fault}
 use Rattle.sap_names.specs.declared.kind.Declared.{Declared}
 use Rattle.sap_names.specs.declared.kind.Declared.TheVariants as d
@@ -115,6 +115,10 @@ abbrev mutual
   parts_faults what NoPart = []
   parts_faults what (AndPart e parts) = expression_faults what e None ++ parts_faults what parts
 
+abbrev pub constants_faults : Lookup → (asked : Option ℕ) → Expressions → List Fault
+constants_faults what asked NoPart = []
+constants_faults what asked (AndPart e parts) = expression_faults what e asked ++ constants_faults what asked parts
+
 -- the number of a level's name, from 0, where the levels begin with the number n
 abbrev pub level_from : (n : ℕ) → List (List ℕ) → List ℕ → Option ℕ
 level_from n [] name = None
@@ -172,6 +176,9 @@ abbrev mutual
   command_faults levels what (Try k place handler) = simple_faults levels what k ++ block_faults levels what handler
   command_faults levels what (If place condition then_block else_block) =
       expression_faults what condition (Some 1) ++ block_faults levels what then_block ++ else_faults levels what else_block
+  command_faults levels what (TryThen k place accepted refused) =
+      simple_faults levels what k ++ block_faults levels what accepted ++ block_faults levels what refused
+  command_faults levels what (Case place e arms) = expression_faults what e None ++ arms_faults levels what (own what e) arms
 
   pub block_faults : List (List ℕ) → Lookup → CommandBlock → List Fault
   block_faults levels what (Commands cs after) = commands_faults levels what cs
@@ -179,6 +186,12 @@ abbrev mutual
   pub else_faults : List (List ℕ) → Lookup → ElseBlock → List Fault
   else_faults levels what NoElse = []
   else_faults levels what (Else b) = block_faults levels what b
+
+  -- each constant is asked for the width of the number that it is compared with
+  pub arms_faults : List (List ℕ) → Lookup → (asked : Option ℕ) → Arms → List Fault
+  arms_faults levels what asked (Last block) = block_faults levels what block
+  arms_faults levels what asked (Arm constants block arms) =
+      constants_faults what asked constants ++ block_faults levels what block ++ arms_faults levels what asked arms
 
   pub commands_faults : List (List ℕ) → Lookup → CommandList → List Fault
   commands_faults levels what NoCommand = []

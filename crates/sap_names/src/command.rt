@@ -14,9 +14,9 @@ use crate::fault::Fault;
 use crate::kind::Use;
 use crate::level::note_level;
 use crate::usage::note_use;
-use crate::width::{cell_width, index_width, register_width};
+use crate::width::{cell_width, index_width, own, register_width};
 use sap_lattice::lattice::Lattice;
-use sap_tree::syntax::{Block, Cmd, Simple, TagExpr};
+use sap_tree::syntax::{Arm, Block, Cmd, Expr, Simple, TagExpr};
 
 #[cycle(tags)]
 #[tactic(auto, using(sap_tree::proofs::Views::views, crate::proofs::Lists::blocks, crate::proofs::Faults::noting))]
@@ -93,6 +93,49 @@ fn command_faults(lattice: &Lattice, names: &Entities, command: &Cmd, best: &mut
             commands_faults(lattice, names, one.commands.as_slice(), best);
             else_faults(lattice, names, other, best);
         }
+        Cmd::TryThen(simple, _, accepted, refused) => {
+            simple_faults(lattice, names, simple, best);
+            commands_faults(lattice, names, accepted.commands.as_slice(), best);
+            commands_faults(lattice, names, refused.commands.as_slice(), best);
+        }
+        Cmd::Case(_, number, arms, last) => {
+            expression_faults(names, number, None, best);
+            arms_faults(lattice, names, own(names, number), arms.as_slice(), best);
+            commands_faults(lattice, names, last.commands.as_slice(), best);
+        }
+    }
+}
+
+/// Constants, each of which is asked for this width.
+#[tactic(auto, using(crate::proofs::Lists::constants, crate::proofs::Faults::noting))]
+fn constants_faults(
+    names: &Entities,
+    asked: Option<u64>,
+    constants: &[Expr],
+    best: &mut Option<Fault>,
+)
+    ensures { best.new ≡ best_of best.old (lists.constants_faults (what_is names.now) asked constants.now) }
+{
+    for constant in constants {
+        expression_faults(names, constant, asked, best);
+    }
+}
+
+/// The arms of a `case`, without the block after `else`.
+#[cycle(commands)]
+#[tactic(auto, using(crate::proofs::Lists::arms, crate::proofs::Weights::weights, crate::proofs::Faults::noting))]
+fn arms_faults(
+    lattice: &Lattice,
+    names: &Entities,
+    asked: Option<u64>,
+    arms: &[Arm],
+    best: &mut Option<Fault>,
+)
+    ensures { best.new ≡ best_of best.old (lists.arms_faults lattice.now.names (what_is names.now) asked arms.now) }
+{
+    for arm in arms {
+        constants_faults(names, asked, arm.constants.as_slice(), best);
+        commands_faults(lattice, names, arm.block.commands.as_slice(), best);
     }
 }
 

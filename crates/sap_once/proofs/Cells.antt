@@ -1,18 +1,18 @@
 -- The steps that a cycle comes to tell which cells it may change.
-use Rattle.std.proofs.Common.{◌≡◌, ℕ, zero, suc, ◌+◌, ◌≤◌, Bool, true, false, ◌&&◌, List, [], ◌∷◌, refl, sym, ◌∙◌, subst, arith, inl, inr, nat_eq, if◌then◌else◌}
+use Rattle.std.proofs.Common.{◌≡◌, ℕ, zero, suc, ◌+◌, ◌≤◌, Bool, true, false, ◌&&◌, List, [], ◌∷◌, ◌++◌, refl, sym, ◌∙◌, subst, arith, inl, inr, nat_eq, if◌then◌else◌}
 use Rattle.std.proofs.lemmas.Bool.{cases_Bool}
 use Rattle.sap_maps.specs.Term.{Term}
-use Rattle.sap_meaning.specs.Program.{World, is_dynamic, root, place, Program, Step, Set, Write, Retag, RetagCell, Goto, Fall, Command, Do, Try, If, Block, End, Then, State, Node, Group, None, More}
-use Rattle.sap_meaning.specs.Store.{own, start, next, start_whole, next_whole, source, Store, number, level, child, put_number, put_level, put_child, raise, reset, settle, After, stay}
+use Rattle.sap_meaning.specs.Program.{World, is_dynamic, root, place, Program, Step, Set, Write, Retag, RetagCell, Goto, Fall, Command, Do, Try, If, TryThen, Case, Arms, Last, Arm, Block, End, Then, State, Node, Group, None, More}
+use Rattle.sap_meaning.specs.Store.{own, start, next, start_whole, next_whole, source, Store, number, level, child, put_number, put_level, put_child, raise, reset, settle, After, stay, and_then}
 use Rattle.sap_meaning.specs.Expressions.{value, tag, new_level}
 use Rattle.sap_meaning.specs.Checks.{Spot, guard, test}
 use Rattle.sap_meaning.specs.Touches.{touches, root_touches, raised_alone}
-use Rattle.sap_meaning.specs.Does.{effect, attempt, select, branch, does, does_block, does_state, does_child}
+use Rattle.sap_meaning.specs.Does.{effect, attempt, attempt_then, select, branch, is_constant, does, does_arms, does_block, does_state, does_child}
 use Rattle.sap_meaning.specs.Cycle.{Tagged, set_inputs, root_fall, cycle}
 use Rattle.sap_meaning.specs.State.{Resting}
 use Rattle.sap_meaning.specs.Fine.{step_writes}
 use Rattle.sap_meaning.proofs.Bools.{eq_not}
-use Rattle.sap_once.specs.Steps.{onward, tried, chosen, steps, block_steps, state_steps, child_steps, root_steps, cycle_steps}
+use Rattle.sap_once.specs.Steps.{onward, tried, tried_then, picked, chosen, steps, arms_steps, block_steps, state_steps, child_steps, root_steps, cycle_steps}
 use Rattle.sap_once.specs.Once.{writes_to, CellStays, WritesOnce, UnwrittenStays, ChangesOneCell}
 use Rattle.sap_once.proofs.Counts.{writing, writes_to-cons, writes_to-append, split_one}
 
@@ -148,8 +148,30 @@ module _ (w : World) (m : ℕ) (at : Spot) (entered : ℕ → ℕ → Store → 
       let inside = w.order.join pc t in
       behind_raise w m _ hangs t s _ (one_of (nat_eq (value w e s) 0) (f inside r) (g inside r) r (a inside r) (b inside r) (c inside r) (d inside r))
 
+  attempt_then_tracked : (k : Step) (hangs : ℕ → Bool) (f g : ℕ → Store → List Step) (a h : ℕ → Store → After) → EachTracked m f a → EachTracked m g h
+      → EachTracked m (tried_then w at entered k hangs f g) (attempt_then w at (does_child w at.children at.state) k hangs a h)
+  unfolding tried_then attempt_then
+  attempt_then_tracked k hangs f g a h c d pc s =
+      let v = guard w at k s in
+      let r = raise w.order hangs v s in
+      let inside = w.order.join pc v in
+      let on = onward w at entered k pc s r in
+      let done = effect w at (does_child w at.children at.state) k pc s r in
+      let sum : writes_to m (on ++ f inside done.store) ≡ writes_to m on + writes_to m (f inside done.store) = writes_to-append m on (f inside done.store) in
+      either k (test w at k pc s) (on ++ f inside done.store) (g inside r) s (and_then done (a inside)) _
+      (behind_raise w m _ hangs v s _
+      (tracked_as m (writing m k + writes_to m (on ++ f inside done.store)) ((writing m k + writes_to m on) + writes_to m (f inside done.store)) r _ (omega arith)
+      (tracked_both m (writing m k + writes_to m on) (writes_to m (f inside done.store)) r done.store _ (effect_tracked k pc s r) (c inside done.store))))
+      (behind_raise w m _ hangs v s (h inside r).store
+      (tracked_both m (writing m k) (writes_to m (g inside r)) r r (h inside r).store (tracked_all m _ r r (λ j. (refl, refl))) (d inside r)))
+
+  pick_tracked : (e : Term ℕ) (hangs : ℕ → Bool) (f : ℕ → ℕ → Store → List Step) (a : ℕ → ℕ → Store → After) → ((v : ℕ) → EachTracked m (f v) (a v))
+      → EachTracked m (picked w e hangs f) (select w e hangs a)
+  unfolding picked select
+  pick_tracked e hangs f a c pc s = behind_raise w m _ hangs (tag w e s) s _ (c (value w e s) (w.order.join pc (tag w e s)) (raise w.order hangs (tag w e s) s))
+
   mutual
-    unfolding steps block_steps does does_block
+    unfolding steps arms_steps block_steps does does_arms does_block
 
     does_tracked : (c : Command) → EachTracked m (steps w at entered c) (does w at (does_child w at.children at.state) c)
     does_tracked (Do k) pc s =
@@ -159,6 +181,17 @@ module _ (w : World) (m : ℕ) (at : Spot) (entered : ℕ → ℕ → Store → 
     does_tracked (If hang e a b) pc s =
         select_tracked e (touches w at (If hang e a b)) (block_steps w at entered a) (block_steps w at entered b)
         (does_block w at (does_child w at.children at.state) a) (does_block w at (does_child w at.children at.state) b) (block_tracked a) (block_tracked b) pc s
+    does_tracked (TryThen k hang a b) pc s =
+        attempt_then_tracked k (touches w at (TryThen k hang a b)) (block_steps w at entered a) (block_steps w at entered b)
+        (does_block w at (does_child w at.children at.state) a) (does_block w at (does_child w at.children at.state) b) (block_tracked a) (block_tracked b) pc s
+    does_tracked (Case hang e arms) pc s =
+        pick_tracked e (touches w at (Case hang e arms)) (arms_steps w at entered arms) (does_arms w at (does_child w at.children at.state) arms) (arms_tracked arms) pc s
+
+    arms_tracked : (arms : Arms) (v : ℕ) → EachTracked m (arms_steps w at entered arms v) (does_arms w at (does_child w at.children at.state) arms v)
+    arms_tracked (Last b) v pc s = block_tracked b pc s
+    arms_tracked (Arm cs b arms) v pc s =
+        one_of (is_constant cs v) (arms_steps w at entered arms v pc s) (block_steps w at entered b pc s) s (does_arms w at (does_child w at.children at.state) arms v pc s)
+        (does_block w at (does_child w at.children at.state) b pc s) (arms_tracked arms v pc s) (block_tracked b pc s)
 
     pub block_tracked : (b : Block) → EachTracked m (block_steps w at entered b) (does_block w at (does_child w at.children at.state) b)
     block_tracked End pc s = tracked_all m _ s s (λ j. (refl, refl))

@@ -1,17 +1,17 @@
 -- In a fine program at most one step that a cycle comes to writes a memory.
-use Rattle.std.proofs.Common.{◌≡◌, ℕ, zero, suc, ◌+◌, ◌≤◌, Bool, true, false, ◌&&◌, ◌||◌, List, [], ◌∷◌, refl, sym, ◌∙◌, arith, inl, inr, nat_eq, if◌then◌else◌}
+use Rattle.std.proofs.Common.{◌≡◌, ℕ, zero, suc, ◌+◌, ◌≤◌, Bool, true, false, ◌&&◌, ◌||◌, List, [], ◌∷◌, ◌++◌, refl, sym, ◌∙◌, arith, inl, inr, nat_eq, if◌then◌else◌}
 use Rattle.std.proofs.lemmas.Bool.{cases_Bool}
 use Rattle.sap_maps.specs.Term.{Term}
-use Rattle.sap_meaning.specs.Program.{World, root, Program, Step, Set, Write, Retag, RetagCell, Goto, Fall, Command, Do, Try, If, Block, End, Then, State, Node, Group, None, More}
+use Rattle.sap_meaning.specs.Program.{World, root, Program, Step, Set, Write, Retag, RetagCell, Goto, Fall, Command, Do, Try, If, TryThen, Case, Arms, Last, Arm, Block, End, Then, State, Node, Group, None, More}
 use Rattle.sap_meaning.specs.Store.{Store, own, level, child, raise}
 use Rattle.sap_meaning.specs.Expressions.{value, tag}
 use Rattle.sap_meaning.specs.Checks.{Spot, guard, test}
 use Rattle.sap_meaning.specs.Touches.{touches, root_touches, raised_alone}
-use Rattle.sap_meaning.specs.Does.{does, does_child}
+use Rattle.sap_meaning.specs.Does.{does, does_child, effect, is_constant}
 use Rattle.sap_meaning.specs.Cycle.{set_inputs}
-use Rattle.sap_meaning.specs.Fine.{step_writes, step_reaching, reaching, block_reaching, state_reaches, group_reaches, OnceStep, Once, OnceBlock, OnceState, OnceGroup, FineProgram}
-use Rattle.sap_meaning.proofs.Bools.{neither_left, neither_right, and_false, not_true}
-use Rattle.sap_once.specs.Steps.{onward, tried, chosen, steps, block_steps, state_steps, child_steps, root_steps, cycle_steps}
+use Rattle.sap_meaning.specs.Fine.{step_writes, step_reaching, reaching, arms_reaching, block_reaching, state_reaches, group_reaches, OnceStep, Once, OnceArms, OnceBlock, OnceState, OnceGroup, FineProgram}
+use Rattle.sap_meaning.proofs.Bools.{or_false, neither_left, neither_right, and_false, not_true}
+use Rattle.sap_once.specs.Steps.{onward, tried, tried_then, picked, chosen, steps, arms_steps, block_steps, state_steps, child_steps, root_steps, cycle_steps}
 use Rattle.sap_once.specs.Once.{writes_to, WritesOnce}
 use Rattle.sap_once.proofs.Counts.{writing, writes_to-cons, written, unwritten, Counted, counted_nothing, counted_weaker, counted_both}
 
@@ -122,8 +122,39 @@ module _ (w : World) (m : ℕ) (at : Spot) (entered : ℕ → ℕ → Store → 
   or_nothing : (a : Bool) → a ≡ false → (a || false) ≡ false
   or_nothing a h = rw h refl
 
+  -- a step with an accepted part behind it
+  then_counted : (k : Step) → OnceStep beyond k → (a b : Bool) → (step_reaching (group_reaches at.children) k m && a) ≡ false → (step_writes k m && b) ≡ false → (hangs : ℕ → Bool)
+      → (f g : ℕ → Store → List Step) → AllCounted m a f → AllCounted m b g → AllCounted m (step_reaching (group_reaches at.children) k m || (a || b)) (tried_then w at entered k hangs f g)
+  unfolding tried_then
+  then_counted k once a b apart other hangs f g c d pc s =
+      let r = raise w.order hangs (guard w at k s) s in
+      let inside = w.order.join pc (guard w at k s) in
+      let next = (effect w at (does_child w at.children at.state) k pc s r).store in
+      one_of (test w at k pc s) (onward w at entered k pc s r) (f inside next) (g inside r) (onward_counted k once pc s r) (onward_nothing k pc s r) (c inside next) (d inside r)
+    where
+      mine : Bool
+      mine = step_reaching (group_reaches at.children) k m
+
+      one_of : (i : Bool) (xs ys zs : List Step) → Counted m mine xs → (step_writes k m ≡ true → writes_to m xs ≡ 0) → Counted m a ys → Counted m b zs
+          → Counted m (mine || (a || b)) (k ∷ (if i then xs ++ ys else zs))
+      one_of true xs ys zs cx none cy cz =
+          let first : Counted m mine (k ∷ xs) = counted_weaker m (mine || false) mine (k ∷ xs) (or_nothing mine) (behind k once false (alone k) true xs [] cx none (counted_nothing m)) in
+          counted_weaker m (mine || a) (mine || (a || b)) (k ∷ (xs ++ ys)) (λ h. or_false mine a (neither_left mine (a || b) h) (neither_left a b (neither_right mine (a || b) h)))
+          (counted_both m mine a (k ∷ xs) ys first cy apart)
+      one_of false xs ys zs cx none cy cz =
+          counted_weaker m (mine || b) (mine || (a || b)) (k ∷ zs) (λ h. or_false mine b (neither_left mine (a || b) h) (neither_right a b (neither_right mine (a || b) h)))
+          (behind k once b other false xs zs cx none cz)
+
+  picked_counted : (e : Term ℕ) (hangs : ℕ → Bool) (may : Bool) (pick : ℕ → ℕ → Store → List Step) → ((v : ℕ) → AllCounted m may (pick v)) → AllCounted m may (picked w e hangs pick)
+  unfolding picked
+  picked_counted e hangs may pick c pc s = c (value w e s) (w.order.join pc (tag w e s)) (raise w.order hangs (tag w e s) s)
+
+  arm_counted : (i a b : Bool) (xs ys : List Step) → Counted m a xs → Counted m b ys → Counted m (a || b) (if i then xs else ys)
+  arm_counted true a b xs ys c d = counted_weaker m a (a || b) xs (neither_left a b) c
+  arm_counted false a b xs ys c d = counted_weaker m b (a || b) ys (neither_right a b) d
+
   mutual
-    unfolding steps block_steps
+    unfolding steps arms_steps block_steps
 
     steps_counted : (c : Command) → Once at.children beyond c → AllCounted m (reaching (group_reaches at.children) c m) (steps w at entered c)
     steps_counted (Do k) once pc s =
@@ -136,6 +167,17 @@ module _ (w : World) (m : ℕ) (at : Spot) (entered : ℕ → ℕ → Store → 
     steps_counted (If hang e a b) once pc s =
         chosen_counted e (touches w at (If hang e a b)) (block_reaching (group_reaches at.children) a m) (block_reaching (group_reaches at.children) b m)
         (block_steps w at entered a) (block_steps w at entered b) (block_counted a once.0) (block_counted b once.1) pc s
+    steps_counted (TryThen k hang a b) once pc s =
+        then_counted k once.0 (block_reaching (group_reaches at.children) a m) (block_reaching (group_reaches at.children) b m) (once.3 m) (once.4 m) (touches w at (TryThen k hang a b))
+        (block_steps w at entered a) (block_steps w at entered b) (block_counted a once.1) (block_counted b once.2) pc s
+    steps_counted (Case hang e arms) once pc s =
+        picked_counted e (touches w at (Case hang e arms)) (arms_reaching (group_reaches at.children) arms m) (arms_steps w at entered arms) (arms_counted arms once) pc s
+
+    arms_counted : (arms : Arms) → OnceArms at.children beyond arms → (v : ℕ) → AllCounted m (arms_reaching (group_reaches at.children) arms m) (arms_steps w at entered arms v)
+    arms_counted (Last b) once v pc s = block_counted b once pc s
+    arms_counted (Arm cs b arms) once v pc s =
+        arm_counted (is_constant cs v) (block_reaching (group_reaches at.children) b m) (arms_reaching (group_reaches at.children) arms m) (block_steps w at entered b pc s)
+        (arms_steps w at entered arms v pc s) (block_counted b once.0 pc s) (arms_counted arms once.1 v pc s)
 
     pub block_counted : (b : Block) → OnceBlock at.children beyond b → AllCounted m (block_reaching (group_reaches at.children) b m) (block_steps w at entered b)
     block_counted End once pc s = counted_nothing m

@@ -2,12 +2,12 @@
 -- is told by `does`; here stands which step comes next.
 use Rattle.std.specs.Prelude.{ℕ, zero, suc, Bool, List, [], ◌∷◌, ◌++◌, if◌then◌else◌, nat_eq}
 use Rattle.sap_maps.specs.Term.{Term}
-use Rattle.sap_meaning.specs.Program.{World, root, Step, Set, Write, Retag, RetagCell, Goto, Fall, Command, Do, Try, If, Block, End, Then, State, Node, Group, None, More, Program}
+use Rattle.sap_meaning.specs.Program.{World, root, Step, Set, Write, Retag, RetagCell, Goto, Fall, Command, Do, Try, If, TryThen, Case, Arms, Last, Arm, Block, End, Then, State, Node, Group, None, More, Program}
 use Rattle.sap_meaning.specs.Store.{Store, own, level, child, raise}
 use Rattle.sap_meaning.specs.Expressions.{value, tag}
 use Rattle.sap_meaning.specs.Checks.{Spot, child_level, guard, test}
 use Rattle.sap_meaning.specs.Touches.{touches, root_touches, raised_alone}
-use Rattle.sap_meaning.specs.Does.{does, does_child}
+use Rattle.sap_meaning.specs.Does.{does, does_child, effect, is_constant}
 use Rattle.sap_meaning.specs.Cycle.{Tagged, set_inputs}
 
 -- What comes after a step whose test held in `before`: for a fall the steps of the current child's body, `entered n` being those of
@@ -28,6 +28,25 @@ tried w at entered k hangs handler pc s =
     let r = raise w.order hangs g s in
     k ∷ (if test w at k pc s then onward w at entered k pc s r else handler (w.order.join pc g) r)
 
+-- a step with `then`, and what comes after it: where its test held, behind that the steps of the accepted part, in the store that the effect leaves
+unfoldable pub tried_then : World → Spot → (entered : ℕ → ℕ → Store → List Step) → Step → (hangs : ℕ → Bool) → (accepted refused : ℕ → Store → List Step) → ℕ → Store → List Step
+tried_then w at entered k hangs accepted refused pc s =
+    let g = guard w at k s in
+    let r = raise w.order hangs g s in
+    let inside = w.order.join pc g in
+    k ∷ (if test w at k pc s
+    then onward w at entered k pc s r ++ accepted inside (effect w at (does_child w at.children at.state) k pc s r).store
+    else refused inside r)
+
+-- the steps that the number of an expression picks
+unfoldable pub picked : World → Term ℕ → (hangs : ℕ → Bool) → (ℕ → ℕ → Store → List Step) → ℕ → Store → List Step
+picked w e hangs pick pc s =
+    let t = tag w e s in
+    pick (value w e s) (w.order.join pc t) (raise w.order hangs t s)
+
+abbrev pub arm_steps : List ℕ → (ℕ → Store → List Step) → (ℕ → ℕ → Store → List Step) → ℕ → ℕ → Store → List Step
+arm_steps constants arm others n pc s = if is_constant constants n then arm pc s else others n pc s
+
 -- the steps of the branch that is taken
 unfoldable pub chosen : World → Term ℕ → (hangs : ℕ → Bool) → (then_steps else_steps : ℕ → Store → List Step) → ℕ → Store → List Step
 chosen w e hangs then_steps else_steps pc s =
@@ -40,6 +59,14 @@ unfoldable mutual
   steps w at entered (Do k) = tried w at entered k (raised_alone w at k) (λ pc s. [])
   steps w at entered (Try k hang h) = tried w at entered k (touches w at (Try k hang h)) (block_steps w at entered h)
   steps w at entered (If hang e a b) = chosen w e (touches w at (If hang e a b)) (block_steps w at entered a) (block_steps w at entered b)
+  steps w at entered (TryThen k hang a b) =
+      tried_then w at entered k (touches w at (TryThen k hang a b)) (block_steps w at entered a) (block_steps w at entered b)
+  steps w at entered (Case hang e arms) = picked w e (touches w at (Case hang e arms)) (arms_steps w at entered arms)
+
+  -- of the first arm that has the number, else of the last block
+  pub arms_steps : World → Spot → (entered : ℕ → ℕ → Store → List Step) → Arms → ℕ → ℕ → Store → List Step
+  arms_steps w at entered (Last b) = λ n. block_steps w at entered b
+  arms_steps w at entered (Arm constants b arms) = arm_steps constants (block_steps w at entered b) (arms_steps w at entered arms)
 
   -- of a list of commands, each in the store that the ones before it leave
   pub block_steps : World → Spot → (entered : ℕ → ℕ → Store → List Step) → Block → ℕ → Store → List Step

@@ -4,7 +4,7 @@ use Rattle.std.proofs.lemmas.Bool.Decides.{nat_tests}
 use Rattle.std.specs.Prelude.{nat_le, nat_lt, ◌&&◌}
 use Rattle.std.specs.List.{All}
 use Rattle.sap_parse.specs.Limits.{Counts, tally, breach, breach_of_name, breach_of_role, above, ◌or_else◌}
-use Rattle.sap_parse.specs.Spelled.{HasText, Spells, SpellsSized, decimal, hexadecimal, text_of}
+use Rattle.sap_parse.specs.Spelled.{HasText, Spells, SpellsSized, decimal, hexadecimal, is_of, text_of}
 use Rattle.sap_parse.specs.Stages.{Stage, IsToken}
 use Rattle.sap_parse.specs.declared.limit.Limit.TheVariants as l
 use Rattle.sap_parse.specs.declared.limit.Limit.{Limit}
@@ -13,8 +13,10 @@ use Rattle.sap_parse.specs.declared.limit.Role.{Role}
 use Rattle.sap_parse.specs.declared.token.Kind.TheVariants as k
 use Rattle.sap_parse.specs.declared.token.Kind.{Kind}
 use Rattle.sap_parse.specs.declared.token.Token.{Token}
+use Rattle.sap_tree.specs.Limits.{most_arms}
 use Rattle.sap_tree.specs.Whole.{is_number}
 use Rattle.sap_tree.specs.Words.{is_word, is_keyword, is_name}
+use Rattle.sap_tree.specs.declared.version.Version.{Version}
 use Rattle.sap_walk.specs.Limits.{first_of}
 
 -- tests
@@ -30,58 +32,64 @@ number_true h = grind (arith, nat_tests)
 
 -- names and numbers as the lexer gives them
 
-abbrev pub IsGood : Kind → Type 0
-IsGood (k.Name name) = (is_word name ≡ true) × (is_keyword name ≡ false)
-IsGood (k.Number n) = n < 2 ^ 64
-IsGood (k.Sized width n) = (width < 2 ^ 64) × (n < 2 ^ 64)
-IsGood (k.Word word) = Unit {0}
-IsGood (k.Sign sign) = Unit {0}
+abbrev pub IsGood : Version → Kind → Type 0
+IsGood version (k.Name name) = (is_word name ≡ true) × (is_keyword version name ≡ false)
+IsGood version (k.Number n) = n < 2 ^ 64
+IsGood version (k.Sized width n) = (width < 2 ^ 64) × (n < 2 ^ 64)
+IsGood version (k.Word word) = is_of version word ≡ true
+IsGood version (k.Sign sign) = Unit {0}
 
-abbrev pub AreGood : List Token → Type 0
-AreGood [] = Unit {0}
-AreGood (t ∷ ts) = IsGood t.kind × AreGood ts
+abbrev pub AreGood : Version → List Token → Type 0
+AreGood version [] = Unit {0}
+AreGood version (t ∷ ts) = IsGood version t.kind × AreGood version ts
 
 sized_good : {width n : ℕ} {text : List ℕ} → SpellsSized width n text → (width < 2 ^ 64) × (n < 2 ^ 64)
 sized_good (decimal front digits e a b) = (a.fits, b.fits)
 sized_good (hexadecimal front digits e a b) = (a.fits, b.fits)
 
-spelled_good : (kind : Kind) (text : List ℕ) → Spells kind text → IsGood kind
-spelled_good (k.Name name) text h = (h.1, h.2)
-spelled_good (k.Number n) text h = h.fits
-spelled_good (k.Sized width n) text h = sized_good h
-spelled_good (k.Word word) text h = tt
-spelled_good (k.Sign sign) text h = tt
+spelled_good : (version : Version) (kind : Kind) (text : List ℕ) → Spells version kind text → IsGood version kind
+spelled_good version (k.Name name) text h = (h.1, h.2)
+spelled_good version (k.Number n) text h = h.fits
+spelled_good version (k.Sized width n) text h = sized_good h
+spelled_good version (k.Word word) text h = h.1
+spelled_good version (k.Sign sign) text h = tt
 
-pub texts_good : (source : List ℕ) (ts : List Token) → All (HasText source) ts → AreGood ts
-texts_good source [] h = tt
-texts_good source (t ∷ ts) h = (spelled_good t.kind (text_of source t) (h 0 t (omega arith)), texts_good source ts (λ i d e. h (suc i) d (omega arith)))
+pub texts_good : (version : Version) (source : List ℕ) (ts : List Token) → All (HasText version source) ts → AreGood version ts
+texts_good version source [] h = tt
+texts_good version source (t ∷ ts) h = (spelled_good version t.kind (text_of source t) (h 0 t (omega arith)), texts_good version source ts (λ i d e. h (suc i) d (omega arith)))
 
--- from tokens that are good, and where no limit is broken at the end: none was at the beginning, and this holds
-pub record Between (p q : Stage) (F : Type 0) : Type 0 where
-  pub good : AreGood p.left → AreGood q.left
-  pub back : AreGood p.left → q.past.first ≡ None → (p.past.first ≡ None) × F
+-- from tokens that are good, and where no limit is broken at the end: none was at the beginning, and this holds; no more tokens are left
+pub record Between (version : Version) (p q : Stage) (F : Type 0) : Type 0 where
+  pub less : length q.left ≤ length p.left
+  pub good : AreGood version p.left → AreGood version q.left
+  pub back : AreGood version p.left → length p.left ≤ most_arms → q.past.first ≡ None → (p.past.first ≡ None) × F
 
 infixr 10 ◌then◌
-pub ◌then◌ : {p q r : Stage} {F G : Type 0} → Between p q F → Between q r G → Between p r (F × G)
+pub ◌then◌ : {version : Version} {p q r : Stage} {F G : Type 0} → Between version p q F → Between version q r G → Between version p r (F × G)
 a then b = record {
+  less = let x = a.less in let y = b.less in omega arith;
   good = λ g. b.good (a.good g);
-  back = λ g e. let y = b.back (a.good g) e in let x = a.back g y.0 in (x.0, (x.1, y.1));
+  back = λ g m e. let less = a.less in let y = b.back (a.good g) (omega arith) e in let x = a.back g m y.0 in (x.0, (x.1, y.1));
 }
 
-pub gives : {p q : Stage} {F G : Type 0} → Between p q F → (F → G) → Between p q G
-gives a f = record { good = a.good; back = λ g e. let x = a.back g e in (x.0, f x.1) }
+pub gives : {version : Version} {p q : Stage} {F G : Type 0} → Between version p q F → (F → G) → Between version p q G
+gives a f = record { less = a.less; good = a.good; back = λ g m e. let x = a.back g m e in (x.0, f x.1) }
 
-pub still : {p : Stage} {F : Type 0} → F → Between p p F
-still f = record { good = λ g. g; back = λ g e. (e, f) }
+pub still : {version : Version} {p : Stage} {F : Type 0} → F → Between version p p F
+still f = record { less = omega arith; good = λ g. g; back = λ g m e. (e, f) }
+
+-- and there are no more tokens at the beginning than a text has bytes
+pub sized : {version : Version} {p q : Stage} {F : Type 0} → Between version p q F → Between version p q (F × (length p.left ≤ most_arms))
+sized a = record { less = a.less; good = a.good; back = λ g m e. let x = a.back g m e in (x.0, (x.1, m)) }
 
 -- single tokens
 
-abbrev pub KindFact : Kind → Type 0
-KindFact (k.Name name) = is_name name ≡ true
-KindFact (k.Number n) = is_number n ≡ true
-KindFact (k.Sized width n) = (is_number width ≡ true) × (is_number n ≡ true)
-KindFact (k.Word word) = Unit {0}
-KindFact (k.Sign sign) = Unit {0}
+abbrev pub KindFact : Version → Kind → Type 0
+KindFact version (k.Name name) = is_name version name ≡ true
+KindFact version (k.Number n) = is_number n ≡ true
+KindFact version (k.Sized width n) = (is_number width ≡ true) × (is_number n ≡ true)
+KindFact version (k.Word word) = is_of version word ≡ true
+KindFact version (k.Sign sign) = Unit {0}
 
 -- a token that stands in no expression, and begins so many inputs, registers, memories, states and commands
 pub record Plainly (i r m s n : ℕ) (c d : Counts) : Type 0 where
@@ -152,31 +160,36 @@ role_fact c r.Opening t e =
     (record { tokens = refl; room = above_none 256 (c.tokens + 1) l.Expression b.1; states = refl; commands = refl }, refl, above_none 64 (c.brackets + 1) l.Brackets b.0)
 role_fact c r.Closing t e = (record { tokens = refl; room = above_none 256 (c.tokens + 1) l.Expression e; states = refl; commands = refl }, refl)
 
-kind_fact : (kind : Kind) → IsGood kind → breach_of_name kind ≡ None → KindFact kind
+kind_fact : (version : Version) (kind : Kind) → IsGood version kind → breach_of_name kind ≡ None → KindFact version kind
 unfolding is_name
-kind_fact (k.Name name) g e = all_true (all_true g.0 (ap not g.1)) (le_true (above_none 40 (length name) l.Name e))
-kind_fact (k.Number n) g e = number_true g
-kind_fact (k.Sized width n) g e = (number_true g.0, number_true g.1)
-kind_fact (k.Word word) g e = tt
-kind_fact (k.Sign sign) g e = tt
+kind_fact version (k.Name name) g e = all_true (all_true g.0 (ap not g.1)) (le_true (above_none 40 (length name) l.Name e))
+kind_fact version (k.Number n) g e = number_true g
+kind_fact version (k.Sized width n) g e = (number_true g.0, number_true g.1)
+kind_fact version (k.Word word) g e = g
+kind_fact version (k.Sign sign) g e = tt
+
+pub one_less : {p q : Stage} {role : Role} {kind : Kind} → IsToken p role kind q → length q.left + 1 ≤ length p.left
+one_less h = let e = ap length h.left in omega arith
 
 -- a token that stands between these stages
-pub stands : {p q : Stage} {role : Role} {kind : Kind} → IsToken p role kind q → Between p q (KindFact kind × RoleFact role p.past.counts q.past.counts)
-stands {p} {q} {role} {kind} h = record {
+pub stands : {version : Version} {p q : Stage} {role : Role} {kind : Kind} → IsToken p role kind q
+    → Between version p q (KindFact version kind × RoleFact role p.past.counts q.past.counts)
+stands {version} {p} {q} {role} {kind} h = record {
+  less = let e = ap length h.left in omega arith;
   good = λ g. (split g).1;
-  back = λ g e. broken (split g).0 (sym (ap (λ x. x.first) h.past) ∙ e);
+  back = λ g m e. broken (split g).0 (sym (ap (λ x. x.first) h.past) ∙ e);
 } where
-  split : AreGood p.left → IsGood h.token.kind × AreGood q.left
-  split g = subst AreGood h.left g
+  split : AreGood version p.left → IsGood version h.token.kind × AreGood version q.left
+  split g = subst (AreGood version) h.left g
 
-  broken : IsGood h.token.kind → first_of p.past.first p.past.before (breach p.past.counts role h.token) ≡ None
-      → (p.past.first ≡ None) × (KindFact kind × RoleFact role p.past.counts q.past.counts)
+  broken : IsGood version h.token.kind → first_of p.past.first p.past.before (breach p.past.counts role h.token) ≡ None
+      → (p.past.first ≡ None) × (KindFact version kind × RoleFact role p.past.counts q.past.counts)
   broken g e =
       let f = first_none p.past.first p.past.before (breach p.past.counts role h.token) e in
       let b = both_none (breach_of_name h.token.kind) (breach_of_role p.past.counts role) f.1 in (
         f.0,
         (
-          subst KindFact h.is (kind_fact h.token.kind g b.0),
+          subst (KindFact version) h.is (kind_fact version h.token.kind g b.0),
           subst (RoleFact role p.past.counts) (sym (ap (λ x. x.counts) h.past)) (role_fact p.past.counts role h.token b.1),
         ),
       )

@@ -1,16 +1,20 @@
 -- Trees of commands, from the equations that the reader's functions have.
 use Rattle.std.proofs.Common.{◌≡◌, ◌+◌, ℕ, List, [], ◌∷◌, ◌++◌, refl, sym, ap, subst, ◌∙◌}
 use Rattle.sap_parse.specs.Grammar as g
-use Rattle.sap_parse.specs.Joining.{join_commands}
-use Rattle.sap_parse.specs.Stages.{Stage, IsName, IsSign, IsWord, here, mention}
+use Rattle.sap_parse.specs.Joining.{CollectsArms, CollectsConstants, join, join_commands}
+use Rattle.sap_parse.specs.Stages.{Stage, IsName, IsNumber, IsSign, IsSized, IsWord, here, mention}
 use Rattle.sap_parse.specs.declared.limit.Role.TheVariants as r
 use Rattle.sap_parse.specs.declared.token.Sign.TheVariants as s
-use Rattle.sap_parse.specs.declared.token.Word.TheVariants as w
+use Rattle.sap_tree.specs.declared.word.Word.TheVariants as w
 use Rattle.sap_tree.specs.Syntax as t
-use Rattle.sap_tree.specs.Trees.{command_of, commands_of}
+use Rattle.sap_tree.specs.Trees.{arm_block_of, arms_before, arms_of, command_of, commands_of, constants_of, expression_of, expressions_of}
 use Rattle.sap_tree.specs.declared.name.Mention.{Mention}
 use Rattle.sap_tree.specs.declared.place.Place.{Place}
+use Rattle.sap_tree.specs.declared.place.Spot.{Spot}
+use Rattle.sap_parse.proofs.Makes.{both}
+use Rattle.sap_tree.specs.declared.syntax.Arm.{Arm}
 use Rattle.sap_tree.specs.declared.syntax.Cmd.{Cmd}
+use Rattle.sap_tree.specs.declared.syntax.Expr.{Expr}
 
 pub assign_tree : {depth : ℕ} {p1 p2 p3 q : Stage} {n : Mention} {x : t.Expression} → IsName p1 (r.Command depth) n.name p2 → IsSign p2 r.Plain s.Becomes p3 → g.Expr p3 x q
     → n ≡ mention p1 n.name → g.Simple depth p1 (t.Assign n x) q
@@ -59,6 +63,40 @@ pub branch_tree : {depth : ℕ} {p1 p2 p3 p4 p5 p6 q : Stage} {e e' : t.Expressi
     → place ≡ here p1 → e' ≡ e → x ≡ t.If place e' one other → g.Cmd depth p1 x q
 branch_tree {depth = depth} {p1 = p1} {q = q} {e' = e'} {one = one} {other = other} a b c d f h at same made =
     subst (λ x. g.Cmd depth p1 x q) (sym (made ∙ ap (λ place. t.If place e' one other) at ∙ ap (λ e. t.If (here p1) e one other) same)) (g.branch a b c d f h)
+
+pub decided_tree : {depth : ℕ} {p1 p2 p3 p4 p5 q : Stage} {c c' : t.SimpleCommand} {accepted refused : t.CommandBlock} {place : Place} {x : t.Command}
+    → g.Simple depth p1 c p2 → IsWord p2 r.Plain w.Then p3 → g.Block (depth + 1) p3 accepted p4 → IsWord p4 r.Plain w.Otherwise p5 → g.Block (depth + 1) p5 refused q
+    → place ≡ here p2 → c' ≡ c → x ≡ t.TryThen c' place accepted refused → g.Cmd depth p1 x q
+decided_tree {depth = depth} {p1 = p1} {p2 = p2} {q = q} {c' = c'} {accepted = accepted} {refused = refused} a b d e f at same made =
+    subst (λ x. g.Cmd depth p1 x q) (sym (made ∙ ap (λ place. t.TryThen c' place accepted refused) at ∙ ap (λ c. t.TryThen c (here p2) accepted refused) same)) (g.decided a b d e f)
+
+pub plain_constant_tree : {p q : Stage} {n : ℕ} {place : Place} {spot : Spot} {x : t.Expression} → IsNumber p r.Plain n q → place ≡ here p → spot ≡ both place → x ≡ t.Number spot n → g.Constant p x q
+plain_constant_tree {p = p} {q = q} {n = n} is at same made = subst (λ x. g.Constant p x q) (sym (made ∙ ap (λ s. t.Number s n) (same ∙ ap both at))) (g.plain is)
+
+pub wide_constant_tree : {p q : Stage} {width n : ℕ} {place : Place} {spot : Spot} {x : t.Expression} → IsSized p r.Plain width n q → place ≡ here p → spot ≡ both place → x ≡ t.Sized spot width n → g.Constant p x q
+wide_constant_tree {p = p} {q = q} {width = width} {n = n} is at same made = subst (λ x. g.Constant p x q) (sym (made ∙ ap (λ s. t.Sized s width n) (same ∙ ap both at))) (g.wide is)
+
+-- an arm, with its further constants
+pub arm_tree : {depth : ℕ} {p1 p2 p3 p4 q : Stage} {first : Expr} {before : List Expr} {block : t.CommandBlock} (after : List Expr)
+    → g.Constant p1 (expression_of first) p2 → before ≡ first ∷ [] → CollectsConstants p2 before after p3 → IsSign p3 r.Plain s.Colon p4 → g.Block depth p4 block q
+    → g.Arm depth p1 (expressions_of after) block q
+arm_tree {depth = depth} {p1 = p1} {q = q} {block = block} after a one more b c =
+    subst (λ xs. g.Arm depth p1 xs block q) (sym (more.1 ∙ ap (λ list. join (expressions_of list) more.0) one)) (g.arm a more.2 b c)
+
+-- a `case`, with its first arm and the further ones
+pub case_tree : {depth : ℕ} {p1 p2 p3 p4 p5 p6 p7 p8 q : Stage} {e e' : t.Expression} {first : Arm} {before : List Arm} {place : Place} {x : t.Command} (after : List Arm) (last : t.CommandBlock)
+    → IsWord p1 (r.Command depth) w.Case p2 → IsSign p2 r.Plain s.OpenParen p3 → g.Expr p3 e p4 → IsSign p4 r.Plain s.CloseParen p5 → IsSign p5 r.Plain s.OpenBrace p6
+    → g.Arm (depth + 1) p6 (constants_of first) (arm_block_of first) p7 → before ≡ first ∷ [] → CollectsArms (depth + 1) p7 before after last p8 → IsSign p8 r.Plain s.CloseBrace q
+    → place ≡ here p1 → e' ≡ e → x ≡ t.Case place e' (arms_of after last) → g.Cmd depth p1 x q
+case_tree {depth = depth} {p1 = p1} {q = q} {e = e} {e' = e'} after last a b c d f h one more k at same made =
+    subst (λ x. g.Cmd depth p1 x q)
+    (sym (made ∙ ap (λ place. t.Case place e' (arms_of after last)) at ∙ ap (λ y. t.Case (here p1) y (arms_of after last)) same
+    ∙ ap (λ arms. t.Case (here p1) e arms) (more.1 ∙ ap (λ list. arms_before list more.0) one)))
+    (g.case a b c d f h more.2 k)
+
+pub arms_before_push : (xs : List Arm) (x : Arm) (ys : t.Arms) → arms_before (xs ++ x ∷ []) ys ≡ arms_before xs (t.Arm (constants_of x) (arm_block_of x) ys)
+arms_before_push [] x ys = refl
+arms_before_push (y ∷ xs) x ys = ap (λ zs. t.Arm (constants_of y) (arm_block_of y) zs) (arms_before_push xs x ys)
 
 pub block_tree : {depth : ℕ} {p1 p2 p3 q : Stage} {list : t.CommandList} {place : Place} → IsSign p1 r.Plain s.OpenBrace p2 → g.Cmds depth p2 list p3 → IsSign p3 r.Plain s.CloseBrace q → place ≡ here p3
     → g.Block depth p1 (t.Commands list place) q

@@ -14,7 +14,7 @@ use Rattle.sap_parse.specs.declared.token.Kind.TheVariants as k
 use Rattle.sap_parse.specs.declared.token.Kind.{Kind}
 use Rattle.sap_parse.specs.declared.token.Sign.TheVariants as j
 use Rattle.sap_parse.specs.declared.token.Sign.{Sign as SignOf}
-use Rattle.sap_parse.specs.declared.token.Word.TheVariants as w
+use Rattle.sap_tree.specs.declared.word.Word.TheVariants as w
 use Rattle.sap_tree.specs.Precedence.{precedence, unary_precedence}
 use Rattle.sap_tree.specs.Syntax as t
 use Rattle.sap_tree.specs.declared.syntax.BinaryOperator.TheVariants as b

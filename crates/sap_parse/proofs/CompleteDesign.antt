@@ -8,15 +8,16 @@ use Rattle.sap_parse.specs.declared.limit.Role.TheVariants as r
 use Rattle.sap_parse.specs.declared.token.Kind.TheVariants as k
 use Rattle.sap_parse.specs.declared.token.Kind.{Kind}
 use Rattle.sap_parse.specs.declared.token.Sign.TheVariants as j
-use Rattle.sap_parse.specs.declared.token.Word.TheVariants as w
-use Rattle.sap_parse.specs.declared.token.Word.{Word as WordOf}
+use Rattle.sap_tree.specs.declared.word.Word.TheVariants as w
+use Rattle.sap_tree.specs.declared.word.Word.{Word as WordOf}
 use Rattle.sap_tree.specs.Syntax as t
 use Rattle.sap_tree.specs.declared.syntax.Decl.{Decl}
 use Rattle.sap_tree.specs.declared.syntax.Kind.{Kind as KindTree}
 use Rattle.sap_tree.specs.declared.syntax.Numeral.{Numeral}
 use Rattle.sap_tree.specs.declared.syntax.Under.{Under}
+use Rattle.sap_tree.specs.declared.version.Version.{Version}
 use Rattle.sap_parse.proofs.Complete.{ends_expr, expr_reads, not_kind}
-use Rattle.sap_parse.proofs.Known.{R, Rs, at_kind, at_token_of, first_is, first_kind, kind_in, name_reads, number_reads, sign_reads, skipped, stands_for, word_reads}
+use Rattle.sap_parse.proofs.Known.{R, Rs, at_kind, at_token_of, first_is, first_kind, kind_in, name_reads, number_reads, sized_reads, sign_reads, skipped, stands_for, word_reads}
 use Rattle.sap_walk.specs.Walk.{Next, Take, Skip, Stop}
 use Rattle.sap_walk.proofs.Walking.{bind_ok}
 
@@ -104,6 +105,8 @@ cmd_cmds : {d : ℕ} {p q : Stage} {c : t.Command} → g.Cmd d p c q → R (s.Cm
 cmd_cmds (g.unhandled c z) = simple_cmds c
 cmd_cmds (g.handled c word h) = simple_cmds c
 cmd_cmds {d} (g.branch word o x z one other) = at_token_of (s.Cmds d) (s.Cmd d ∷ s.Cmds d ∷ []) word refl
+cmd_cmds (g.decided c word one other two) = simple_cmds c
+cmd_cmds {d} (g.case word o x z b first arms e) = at_token_of (s.Cmds d) (s.Cmd d ∷ s.Cmds d ∷ []) word refl
 
 pub simple_not_else : {d : ℕ} {p q : Stage} {c : t.SimpleCommand} → g.Simple d p c q → first_kind p ≢ Some (k.Word w.Else)
 simple_not_else (g.assign n b x) e = let f = first_is n in absurd (cc)
@@ -117,6 +120,8 @@ cmd_not_else : {d : ℕ} {p q : Stage} {c : t.Command} → g.Cmd d p c q → fir
 cmd_not_else (g.unhandled c z) e = simple_not_else c e
 cmd_not_else (g.handled c word h) e = simple_not_else c e
 cmd_not_else (g.branch word o x z one other) e = let f = first_is word in absurd (cc)
+cmd_not_else (g.decided c word one other two) e = simple_not_else c e
+cmd_not_else (g.case word o x z b first arms end) e = let f = first_is word in absurd (cc)
 
 ends_not_else : (i : Option Kind) → ends_cmds i ≡ true → i ≢ Some (k.Word w.Else)
 ends_not_else i h e = let z : ends_cmds (Some (k.Word w.Else)) ≡ true = subst (λ x. ends_cmds x ≡ true) e h in cc
@@ -141,6 +146,33 @@ skip_else d (k.Name x) ne = refl
 skip_else d (k.Number x) ne = refl
 skip_else d (k.Sized x n) ne = refl
 
+-- constants of a `case`
+
+pub constant_reads : {p q : Stage} {x : t.Expression} → g.Constant p x q → R s.Constant p ≡ Ok q
+constant_reads (g.plain n) = at_token_of s.Constant (s.Number r.Plain ∷ []) n refl ∙ bind_ok _ _ _ (number_reads n)
+constant_reads (g.wide n) = at_token_of s.Constant (s.Sized r.Plain ∷ []) n refl ∙ bind_ok _ _ _ (sized_reads n)
+
+skip_constants : (i : Kind) → i ≢ k.Sign j.Comma → next s.Constants i ≡ Skip
+skip_constants (k.Sign j.Comma) ne = absurd (ne refl)
+skip_constants (k.Sign _) ne = refl
+skip_constants (k.Word x) ne = refl
+skip_constants (k.Name x) ne = refl
+skip_constants (k.Number x) ne = refl
+skip_constants (k.Sized x n) ne = refl
+
+pub constants_read : {p q : Stage} {xs : t.Expressions} → g.Constants p xs q → first_kind q ≢ Some (k.Sign j.Comma) → R s.Constants p ≡ Ok q
+constants_read {p} g.no_constant ne = skipped s.Constants p refl (λ i e. skip_constants i (not_kind (k.Sign j.Comma) p ne e))
+constants_read (g.constant comma x more) ne =
+    at_token_of s.Constants (s.Sign r.Plain j.Comma ∷ s.Constant ∷ s.Constants ∷ []) comma refl ∙ bind_ok _ _ _ (sign_reads comma) ∙ bind_ok _ _ _ (constant_reads x) ∙ bind_ok _ _ _ (constants_read more ne)
+
+arm_constant : (d : ℕ) {p q : Stage} {x : t.Expression} → g.Constant p x q → R (s.Arm d) p ≡ Rs (s.Constant ∷ s.Constants ∷ s.Sign r.Plain j.Colon ∷ s.Block d ∷ []) p
+arm_constant d (g.plain n) = at_token_of (s.Arm d) (s.Constant ∷ s.Constants ∷ s.Sign r.Plain j.Colon ∷ s.Block d ∷ []) n refl
+arm_constant d (g.wide n) = at_token_of (s.Arm d) (s.Constant ∷ s.Constants ∷ s.Sign r.Plain j.Colon ∷ s.Block d ∷ []) n refl
+
+arms_more : {d : ℕ} {p q : Stage} {cs : t.Expressions} {h : t.CommandBlock} → g.Arm d p cs h q → R (s.Arms d) p ≡ Rs (s.Arm d ∷ s.Arms d ∷ []) p
+arms_more {d} (g.arm (g.plain n) xs z h) = at_token_of (s.Arms d) (s.Arm d ∷ s.Arms d ∷ []) n refl
+arms_more {d} (g.arm (g.wide n) xs z h) = at_token_of (s.Arms d) (s.Arm d ∷ s.Arms d ∷ []) n refl
+
 mutual
   pub cmd_reads : {d : ℕ} {p q : Stage} {c : t.Command} → g.Cmd d p c q → first_kind q ≢ Some (k.Word w.Else) → R (s.Cmd d) p ≡ Ok q
   cmd_reads {d} (g.unhandled c z) ne =
@@ -153,6 +185,23 @@ mutual
       at_token_of (s.Cmd d) (s.Word (r.Command d) w.If ∷ s.Sign r.Plain j.OpenParen ∷ s.Expr ∷ s.Sign r.Plain j.CloseParen ∷ s.Block (d + 1) ∷ s.Else (d + 1) ∷ []) word refl
       ∙ bind_ok _ _ _ (word_reads word) ∙ bind_ok _ _ _ (sign_reads o) ∙ bind_ok _ _ _ (expr_reads x (ap ends_expr (first_is z))) ∙ bind_ok _ _ _ (sign_reads z)
       ∙ bind_ok _ _ _ (block_reads one) ∙ bind_ok _ _ _ (else_reads other ne)
+  cmd_reads {d} (g.decided c word one other two) ne =
+      simple_cmd c ∙ bind_ok _ _ _ (simple_reads c (ap ends_expr (first_is word)))
+      ∙ bind_ok _ _ _ (at_token_of (s.Ending d) (s.Word r.Plain w.Then ∷ s.Block (d + 1) ∷ s.Word r.Plain w.Otherwise ∷ s.Block (d + 1) ∷ []) word refl
+      ∙ bind_ok _ _ _ (word_reads word) ∙ bind_ok _ _ _ (block_reads one) ∙ bind_ok _ _ _ (word_reads other) ∙ bind_ok _ _ _ (block_reads two))
+  cmd_reads {d} (g.case word o x z b first arms end) ne =
+      at_token_of (s.Cmd d)
+      (s.Word (r.Command d) w.Case ∷ s.Sign r.Plain j.OpenParen ∷ s.Expr ∷ s.Sign r.Plain j.CloseParen ∷ s.Sign r.Plain j.OpenBrace ∷ s.Arm (d + 1) ∷ s.Arms (d + 1) ∷ s.Sign r.Plain j.CloseBrace ∷ []) word refl
+      ∙ bind_ok _ _ _ (word_reads word) ∙ bind_ok _ _ _ (sign_reads o) ∙ bind_ok _ _ _ (expr_reads x (ap ends_expr (first_is z))) ∙ bind_ok _ _ _ (sign_reads z)
+      ∙ bind_ok _ _ _ (sign_reads b) ∙ bind_ok _ _ _ (arm_reads first) ∙ bind_ok _ _ _ (arms_read arms) ∙ bind_ok _ _ _ (sign_reads end)
+
+  pub arm_reads : {d : ℕ} {p q : Stage} {cs : t.Expressions} {h : t.CommandBlock} → g.Arm d p cs h q → R (s.Arm d) p ≡ Ok q
+  arm_reads {d} (g.arm x xs z h) =
+      arm_constant d x ∙ bind_ok _ _ _ (constant_reads x) ∙ bind_ok _ _ _ (constants_read xs (λ e. let f = first_is z in absurd (cc))) ∙ bind_ok _ _ _ (sign_reads z) ∙ bind_ok _ _ _ (block_reads h)
+
+  pub arms_read : {d : ℕ} {p q : Stage} {x : t.Arms} → g.Arms d p x q → R (s.Arms d) p ≡ Ok q
+  arms_read {d} (g.last word h) = at_token_of (s.Arms d) (s.Word r.Plain w.Else ∷ s.Block d ∷ []) word refl ∙ bind_ok _ _ _ (word_reads word) ∙ bind_ok _ _ _ (block_reads h)
+  arms_read (g.and_arm a more) = arms_more a ∙ bind_ok _ _ _ (arm_reads a) ∙ bind_ok _ _ _ (arms_read more)
 
   pub else_reads : {d : ℕ} {p q : Stage} {x : t.ElseBlock} → g.Else d p x q → first_kind q ≢ Some (k.Word w.Else) → R (s.Else d) p ≡ Ok q
   else_reads {d} {p} g.no_else ne = skipped (s.Else d) p refl (λ i e. skip_else d i (not_kind (k.Word w.Else) p ne e))
@@ -267,7 +316,28 @@ last_states_read {p} g.no_state e = skipped s.LastStates p refl (λ i f. let z :
 last_states_read {p} (g.and_state x more) e =
     at_kind s.LastStates (s.State 1 ∷ s.LastStates ∷ []) (k.Word w.State) p (state_first x) refl ∙ bind_ok _ _ _ (state_reads x) ∙ bind_ok _ _ _ (last_states_read more e)
 
+-- the first line of the second version
+
+skip_header : (i : Kind) → i ≢ k.Word w.Sapper → next s.Header i ≡ Skip
+skip_header (k.Word w.Sapper) ne = absurd (ne refl)
+skip_header (k.Word _) ne = refl
+skip_header (k.Sign x) ne = refl
+skip_header (k.Name x) ne = refl
+skip_header (k.Number x) ne = refl
+skip_header (k.Sized x n) ne = refl
+
+pub header_reads : {p q : Stage} {v : Version} → g.Header p v q → first_kind q ≢ Some (k.Word w.Sapper) → R s.Header p ≡ Ok q
+header_reads {p} g.no_header ne = skipped s.Header p refl (λ i e. skip_header i (not_kind (k.Word w.Sapper) p ne e))
+header_reads (g.header word two z) ne =
+    at_token_of s.Header (s.Word r.Plain w.Sapper ∷ s.Word r.Plain w.Two ∷ s.Sign r.Plain j.Semicolon ∷ []) word refl ∙ bind_ok _ _ _ (word_reads word) ∙ bind_ok _ _ _ (word_reads two) ∙ bind_ok _ _ _ (sign_reads z)
+
+pub declarations_not_sapper : {p q : Stage} {xs : List Decl} → g.Declarations p xs q → first_kind q ≡ Some (k.Word w.State) → first_kind p ≢ Some (k.Word w.Sapper)
+declarations_not_sapper g.no_declaration e f = absurd (cc)
+declarations_not_sapper (g.declaration (g.input word n colon width z) more) e f = let h = first_is word in absurd (cc)
+declarations_not_sapper (g.declaration (g.register word n colon width kind start z) more) e f = let h = first_is word in absurd (cc)
+declarations_not_sapper (g.declaration (g.memory word n colon width o depth c kind z) more) e f = let h = first_is word in absurd (cc)
+
 -- a whole design
 pub design_reads : {p q : Stage} {x : t.DesignTree} → g.Design p x q → q.left ≡ [] → R s.Design p ≡ Ok q
-design_reads {p} (g.design ds x more) e =
-    stands_for s.Design design_symbols (λ i. refl) refl p ∙ bind_ok _ _ _ (declarations_read ds (state_first x)) ∙ bind_ok _ _ _ (state_reads x) ∙ bind_ok _ _ _ (last_states_read more e)
+design_reads {p} (g.design h ds x more) e =
+    stands_for s.Design design_symbols (λ i. refl) refl p ∙ bind_ok _ _ _ (header_reads h (declarations_not_sapper ds (state_first x))) ∙ bind_ok _ _ _ (declarations_read ds (state_first x)) ∙ bind_ok _ _ _ (state_reads x) ∙ bind_ok _ _ _ (last_states_read more e)

@@ -13,7 +13,7 @@ use Rattle.sap_parse.specs.declared.token.Kind.TheVariants as k
 use Rattle.sap_parse.specs.declared.token.Kind.{Kind}
 use Rattle.sap_parse.specs.declared.token.Sign.TheVariants as j
 use Rattle.sap_parse.specs.declared.token.Token.{Token}
-use Rattle.sap_parse.specs.declared.token.Word.TheVariants as w
+use Rattle.sap_tree.specs.declared.word.Word.TheVariants as w
 use Rattle.sap_parse.proofs.ExprLaws.{front_by, nothing_ahead, same_row}
 use Rattle.sap_parse.proofs.IndexLaws.{firsts_read}
 use Rattle.sap_parse.proofs.Laws.{IsFull, or_full, push_full, push_none, word_full, sign_there, sign_missing, skips, stands, step_at, steps_are, stops, stops_at, word_then, word_there, word_missing}
@@ -221,7 +221,13 @@ module _ (enter : Enter) where
         stops_at enter s.LastStates p t ts left
         (ap (λ n. push (push n (s.Name r.Plain ∷ s.KindOf ∷ s.Sign r.Plain j.OpenBrace ∷ s.Cmds 1 ∷ s.States 2 ∷ s.Sign r.Plain j.CloseBrace ∷ [])) (s.LastStates ∷ [])) (next_not_word (r.State 1) w.State t.kind (λ h. ne (ahead_back t ts h left))))
 
-  pub design_steps : (p : Stage) → read_by enter s.Design p ≡ steps_by enter (s.Declarations ∷ s.State 1 ∷ s.LastStates ∷ []) p
+  pub header_there : (p : Stage) → ahead p.left ≡ a.Word w.Sapper → read_by enter s.Header p ≡ steps_by enter (s.Word r.Plain w.Sapper ∷ s.Word r.Plain w.Two ∷ s.Sign r.Plain j.Semicolon ∷ []) p
+  header_there = word_there enter s.Header r.Plain w.Sapper _ (λ i. refl)
+
+  pub header_missing : (p : Stage) → ahead p.left ≢ a.Word w.Sapper → read_by enter s.Header p ≡ Ok p
+  header_missing = word_missing enter s.Header r.Plain w.Sapper _ (λ i. refl) refl
+
+  pub design_steps : (p : Stage) → read_by enter s.Design p ≡ steps_by enter (s.Header ∷ s.Declarations ∷ s.State 1 ∷ s.LastStates ∷ []) p
   unfolding read_by at_end walk
   design_steps p = by_tokens p.left refl where
     by_tokens : (left : List Token) → p.left ≡ left → read_by enter s.Design p ≡ steps_by enter design_symbols p

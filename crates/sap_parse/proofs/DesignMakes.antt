@@ -5,10 +5,11 @@ use Rattle.sap_parse.specs.Joining.{join_states}
 use Rattle.sap_parse.specs.Stages.{Stage, IsName, IsNumber, IsSign, IsWord, here, mention, numeral}
 use Rattle.sap_parse.specs.declared.limit.Role.TheVariants as r
 use Rattle.sap_parse.specs.declared.token.Sign.TheVariants as s
-use Rattle.sap_parse.specs.declared.token.Word.TheVariants as w
+use Rattle.sap_tree.specs.declared.word.Word.TheVariants as w
 use Rattle.sap_tree.specs.Syntax as t
 use Rattle.sap_tree.specs.Trees.{state_of, states_of}
 use Rattle.sap_tree.specs.declared.name.Mention.{Mention}
+use Rattle.sap_tree.specs.declared.version.Version.{Version}
 use Rattle.sap_tree.specs.declared.place.Place.{Place}
 use Rattle.sap_tree.specs.declared.syntax.Decl.TheVariants as d
 use Rattle.sap_tree.specs.declared.syntax.Decl.{Decl}
@@ -75,6 +76,7 @@ pub join_states_none : (xs : t.StateList) → join_states xs t.NoState ≡ xs
 join_states_none t.NoState = refl
 join_states_none (t.AndState x xs) = ap (λ zs. t.AndState x zs) (join_states_none xs)
 
-pub design_tree : {p1 p2 p3 q : Stage} {declarations : List Decl} {x : t.StateTree} {xs all : t.StateList} → g.Declarations p1 declarations p2 → g.State 1 p2 x p3 → g.States 1 p3 xs q → all ≡ t.AndState x xs
-    → g.Design p1 (record { declarations = declarations; states = all }) q
-design_tree {p1 = p1} {q = q} {declarations = declarations} a b c same = subst (λ states. g.Design p1 (record { declarations = declarations; states = states }) q) (sym same) (g.design a b c)
+pub design_tree : {p1 p2 p3 p4 q : Stage} {version : Version} {declarations : List Decl} {x : t.StateTree} {xs all : t.StateList} → g.Header p1 version p2 → g.Declarations p2 declarations p3 → g.State 1 p3 x p4 → g.States 1 p4 xs q
+    → all ≡ t.AndState x xs → g.Design p1 (record { version = version; declarations = declarations; states = all }) q
+design_tree {p1 = p1} {q = q} {version = version} {declarations = declarations} h a b c same =
+    subst (λ states. g.Design p1 (record { version = version; declarations = declarations; states = states }) q) (sym same) (g.design h a b c)

@@ -18,8 +18,8 @@ use Rattle.sap_parse.specs.declared.token.Kind.{Kind}
 use Rattle.sap_parse.specs.declared.token.Sign.TheVariants as j
 use Rattle.sap_parse.specs.declared.token.Sign.{Sign as SignOf}
 use Rattle.sap_parse.specs.declared.token.Token.{Token}
-use Rattle.sap_parse.specs.declared.token.Word.TheVariants as w
-use Rattle.sap_parse.specs.declared.token.Word.{Word as WordOf}
+use Rattle.sap_tree.specs.declared.word.Word.TheVariants as w
+use Rattle.sap_tree.specs.declared.word.Word.{Word as WordOf}
 use Rattle.sap_tree.specs.Precedence.{precedence, unary_precedence}
 use Rattle.sap_tree.specs.declared.syntax.BinaryOperator.{BinaryOperator}
 use Rattle.sap_tree.specs.declared.syntax.UnaryOperator.{UnaryOperator}

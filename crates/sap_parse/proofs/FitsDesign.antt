@@ -1,16 +1,19 @@
 -- The tree of a text within the limits is whole.
 use Rattle.std.proofs.Common.{◌≡◌, ◌<◌, ◌≤◌, ◌+◌, ◌-◌, ◌^◌, ℕ, List, [], ◌∷◌, max, Option, Some, None, Bool, true, false, cond, refl, sym, ap, subst, ◌∙◌, arith}
 use Rattle.std.proofs.lemmas.List.Sums.{sum_by-cons}
-use Rattle.std.specs.Prelude.{nat_le, ◌&&◌}
+use Rattle.std.specs.Prelude.{nat_le, ◌&&◌, length}
 use Rattle.std.specs.List.{All, list_all, count_by}
 use Rattle.sap_parse.specs.Fault.{IsDesign}
 use Rattle.sap_parse.specs.Grammar as g
 use Rattle.sap_parse.specs.Limits.{Counts}
 use Rattle.sap_parse.specs.Spelled.{HasText}
-use Rattle.sap_parse.specs.Stages.{Stage, at_start}
+use Rattle.sap_parse.specs.Lexing.{version_of, version_of_kind}
+use Rattle.sap_parse.specs.Stages.{Stage, IsToken, at_start}
 use Rattle.sap_parse.specs.declared.limit.Role.TheVariants as r
+use Rattle.sap_parse.specs.declared.limit.Role.{Role}
+use Rattle.sap_parse.specs.declared.token.Kind.{Kind as KindOf}
 use Rattle.sap_parse.specs.declared.token.Token.{Token}
-use Rattle.sap_parse.proofs.Between.{all_true, le_true, Between, ◌then◌, gives, still, stands, Plainly, RoleFact, texts_good}
+use Rattle.sap_parse.proofs.Between.{all_true, le_true, AreGood, Between, ◌then◌, gives, still, stands, Plainly, RoleFact, texts_good}
 use Rattle.sap_parse.proofs.FitsCommand.{FitsCommands, cmds_between}
 use Rattle.sap_tree.specs.Syntax as t
 use Rattle.sap_tree.specs.Whole.{is_number, is_block, are_commands, block_count, list_count, block_depth, list_depth, is_authority, is_kind, is_start, is_declaration, is_input, is_register, is_memory, is_state, are_states, state_count, states_count, state_depth, states_depth, state_commands, states_commands, has_state, is_whole}
@@ -22,6 +25,9 @@ use Rattle.sap_tree.specs.declared.syntax.Decl.{Decl}
 use Rattle.sap_tree.specs.declared.syntax.Kind.{Kind}
 use Rattle.sap_tree.specs.declared.syntax.Numeral.{Numeral}
 use Rattle.sap_tree.specs.declared.syntax.Under.{Under}
+use Rattle.sap_tree.specs.Limits.{most_arms}
+use Rattle.sap_tree.specs.declared.version.Version.TheVariants as v
+use Rattle.sap_tree.specs.declared.version.Version.{Version}
 
 -- kinds and declarations
 
@@ -43,16 +49,16 @@ rests_one h a = record { test = h; inputs = omega arith; registers = omega arith
 rests_more : {a b : Bool} {c d e : Counts} → (b ≡ true → a ≡ true) → RoleFact r.Plain c d → Rests b d e → Rests a c e
 rests_more f a b = record { test = f b.test; inputs = omega arith; registers = omega arith; memories = omega arith; states = omega arith; commands = omega arith }
 
-authority_between : {p q : Stage} {x : Option Under} → g.Authority p x q → Between p q (Rests (is_authority x) p.past.counts q.past.counts)
+authority_between : {version : Version} {p q : Stage} {x : Option Under} → g.Authority p x q → Between version p q (Rests (is_authority version x) p.past.counts q.past.counts)
 authority_between {p} g.no_authority = still (rests_none p.past.counts refl)
 authority_between (g.authority a b) = gives (stands a then stands b) (λ f. rests_more (λ h. h) f.0.1 (rests_one f.1.0 f.1.1))
 
-kind_between : {p q : Stage} {x : Kind} → g.KindOf p x q → Between p q (Rests (is_kind x) p.past.counts q.past.counts)
+kind_between : {version : Version} {p q : Stage} {x : Kind} → g.KindOf p x q → Between version p q (Rests (is_kind version x) p.past.counts q.past.counts)
 kind_between (g.dynamic a) = gives (stands a) (λ f. rests_one refl f.1)
 kind_between (g.enforced a b x) =
     gives (stands a then (stands b then authority_between x)) (λ f. rests_more (λ h. h) f.0.1 (rests_more (λ h. all_true f.1.0.0 h) f.1.0.1 f.1.1))
 
-initial_between : {p q : Stage} {x : Option Numeral} → g.Initial p x q → Between p q (Rests (is_start x) p.past.counts q.past.counts)
+initial_between : {version : Version} {p q : Stage} {x : Option Numeral} → g.Initial p x q → Between version p q (Rests (is_start x) p.past.counts q.past.counts)
 initial_between {p} g.no_initial = still (rests_none p.past.counts refl)
 initial_between (g.initial a b) = gives (stands a then stands b) (λ f. rests_more (λ h. h) f.0.1 (rests_one f.1.0 f.1.1))
 
@@ -134,8 +140,8 @@ memory_fits is a b =
 abbrev one_if : Bool → ℕ
 one_if b = cond b 1 0
 
-declaration_between : {p q : Stage} {x : Decl} → g.Declaration p x q
-    → Between p q (Declares (is_declaration x) (one_if (is_input x)) (one_if (is_register x)) (one_if (is_memory x)) p.past.counts q.past.counts)
+declaration_between : {version : Version} {p q : Stage} {x : Decl} → g.Declaration p x q
+    → Between version p q (Declares (is_declaration version x) (one_if (is_input x)) (one_if (is_register x)) (one_if (is_memory x)) p.past.counts q.past.counts)
 declaration_between (g.input a b c e f) =
     gives (stands a then (stands b then (stands c then (stands e then stands f))))
     (λ f. input_fits (all_true f.1.0.0 f.1.1.1.0.0) f.0.1 (keep f.1.0.1 and keep f.1.1.0.1 and keep f.1.1.1.0.1 and keep f.1.1.1.1.1))
@@ -148,10 +154,10 @@ declaration_between (g.memory a b c e f h i k o) =
     (λ f. memory_fits (all_true (all_true (all_true f.1.0.0 f.1.1.1.0.0) f.1.1.1.1.1.0.0) f.1.1.1.1.1.1.1.0.test) f.0.1
     (keep f.1.0.1 and keep f.1.1.0.1 and keep f.1.1.1.0.1 and keep f.1.1.1.1.0.1 and keep f.1.1.1.1.1.0.1 and keep f.1.1.1.1.1.1.0.1 and keeps f.1.1.1.1.1.1.1.0 and keep f.1.1.1.1.1.1.1.1.1))
 
-declares_more : (x : Decl) (xs : List Decl) {c1 c2 c3 : Counts} → Declares (is_declaration x) (one_if (is_input x)) (one_if (is_register x)) (one_if (is_memory x)) c1 c2
-    → Declares (list_all is_declaration xs) (count_by is_input xs) (count_by is_register xs) (count_by is_memory xs) c2 c3
-    → Declares (list_all is_declaration (x ∷ xs)) (count_by is_input (x ∷ xs)) (count_by is_register (x ∷ xs)) (count_by is_memory (x ∷ xs)) c1 c3
-declares_more x xs a b =
+declares_more : (version : Version) (x : Decl) (xs : List Decl) {c1 c2 c3 : Counts} → Declares (is_declaration version x) (one_if (is_input x)) (one_if (is_register x)) (one_if (is_memory x)) c1 c2
+    → Declares (list_all (is_declaration version) xs) (count_by is_input xs) (count_by is_register xs) (count_by is_memory xs) c2 c3
+    → Declares (list_all (is_declaration version) (x ∷ xs)) (count_by is_input (x ∷ xs)) (count_by is_register (x ∷ xs)) (count_by is_memory (x ∷ xs)) c1 c3
+declares_more version x xs a b =
     let i : count_by is_input (x ∷ xs) ≡ one_if (is_input x) + count_by is_input xs = sum_by-cons (λ y. one_if (is_input y)) x xs in
     let j : count_by is_register (x ∷ xs) ≡ one_if (is_register x) + count_by is_register xs = sum_by-cons (λ y. one_if (is_register y)) x xs in
     let k : count_by is_memory (x ∷ xs) ≡ one_if (is_memory x) + count_by is_memory xs = sum_by-cons (λ y. one_if (is_memory y)) x xs in
@@ -170,8 +176,8 @@ declares_more x xs a b =
     sum_three : (a b c d : ℕ) → d ≡ b + c → a + b + c ≡ a + d
     sum_three a b c d e = omega arith
 
-no_declarations : (c : Counts) → Declares (list_all is_declaration []) (count_by is_input []) (count_by is_register []) (count_by is_memory []) c c
-no_declarations c = record {
+no_declarations : (version : Version) (c : Counts) → Declares (list_all (is_declaration version) []) (count_by is_input []) (count_by is_register []) (count_by is_memory []) c c
+no_declarations version c = record {
   test = refl;
   inputs = omega arith;
   registers = omega arith;
@@ -183,10 +189,10 @@ no_declarations c = record {
   commands = refl;
 }
 
-declarations_between : {p q : Stage} {xs : List Decl} → g.Declarations p xs q
-    → Between p q (Declares (list_all is_declaration xs) (count_by is_input xs) (count_by is_register xs) (count_by is_memory xs) p.past.counts q.past.counts)
-declarations_between {p} g.no_declaration = still (no_declarations p.past.counts)
-declarations_between (g.declaration {d = x} {ds = xs} a b) = gives (declaration_between a then declarations_between b) (λ f. declares_more x xs f.0 f.1)
+declarations_between : {version : Version} {p q : Stage} {xs : List Decl} → g.Declarations p xs q
+    → Between version p q (Declares (list_all (is_declaration version) xs) (count_by is_input xs) (count_by is_register xs) (count_by is_memory xs) p.past.counts q.past.counts)
+declarations_between {version} {p} g.no_declaration = still (no_declarations version p.past.counts)
+declarations_between {version} (g.declaration {d = x} {ds = xs} a b) = gives (declaration_between a then declarations_between b) (λ f. declares_more version x xs f.0 f.1)
 
 -- states
 
@@ -199,13 +205,13 @@ pub record FitsStates (depth : ℕ) (is : Bool) (number within deepest : ℕ) (c
   pub command_room : c.commands ≤ 4096 → d.commands ≤ 4096
   pub level : depth ≤ 17 → depth + deepest ≤ 17
 
-state_fits : {n : ℕ} (p : Place) (m : Mention) (k : Kind) (cs : t.CommandList) (after : Place) (xs : t.StateList) {c1 c2 c3 c4 c5 c6 c7 c8 : Counts} → RoleFact (r.State n) c1 c2 → is_name m.name ≡ true
-    → RoleFact r.Plain c2 c3 → Rests (is_kind k) c3 c4 → RoleFact r.Plain c4 c5 → FitsCommands 1 (are_commands cs) (list_count cs) (list_depth cs) c5 c6
-    → FitsStates (n + 1) (are_states xs) (states_count xs) (states_commands xs) (states_depth xs) c6 c7 → RoleFact r.Plain c7 c8
-    → FitsStates n (is_state (t.StateOf p m k (t.Commands cs after) xs)) (state_count (t.StateOf p m k (t.Commands cs after) xs)) (state_commands (t.StateOf p m k (t.Commands cs after) xs))
+state_fits : (version : Version) {n : ℕ} (p : Place) (m : Mention) (k : Kind) (cs : t.CommandList) (after : Place) (xs : t.StateList) {c1 c2 c3 c4 c5 c6 c7 c8 : Counts} → RoleFact (r.State n) c1 c2 → is_name version m.name ≡ true
+    → RoleFact r.Plain c2 c3 → Rests (is_kind version k) c3 c4 → RoleFact r.Plain c4 c5 → FitsCommands 1 (are_commands version cs) (list_count cs) (list_depth cs) c5 c6
+    → FitsStates (n + 1) (are_states version xs) (states_count xs) (states_commands xs) (states_depth xs) c6 c7 → RoleFact r.Plain c7 c8
+    → FitsStates n (is_state version (t.StateOf p m k (t.Commands cs after) xs)) (state_count (t.StateOf p m k (t.Commands cs after) xs)) (state_commands (t.StateOf p m k (t.Commands cs after) xs))
     (state_depth (t.StateOf p m k (t.Commands cs after) xs)) c1 c8
 unfolding is_state is_block block_count block_depth state_count state_commands state_depth
-state_fits p m k cs after xs a is b kind e body children f =
+state_fits version p m k cs after xs a is b kind e body children f =
     let a0 = a.0 in let a1 = a.1 in let a2 = a.2 in
     let deep = body.level (omega arith) in
     let n1 = body.count in let s1 = body.states in let n2 = children.commands in let s2 = children.states in
@@ -221,15 +227,15 @@ state_fits p m k cs after xs a is b kind e body children f =
       level = λ h. omega arith;
     }
 
-no_states_fit : (n : ℕ) (c : Counts) → FitsStates n (are_states t.NoState) (states_count t.NoState) (states_commands t.NoState) (states_depth t.NoState) c c
+no_states_fit : (version : Version) (n : ℕ) (c : Counts) → FitsStates n (are_states version t.NoState) (states_count t.NoState) (states_commands t.NoState) (states_depth t.NoState) c c
 unfolding is_state state_count state_commands state_depth
-no_states_fit n c = record { test = refl; states = omega arith; commands = omega arith; state_room = λ h. h; command_room = λ h. h; level = λ h. omega arith }
+no_states_fit version n c = record { test = refl; states = omega arith; commands = omega arith; state_room = λ h. h; command_room = λ h. h; level = λ h. omega arith }
 
-states_fit : {n : ℕ} (x : t.StateTree) (xs : t.StateList) {c1 c2 c3 : Counts} → FitsStates n (is_state x) (state_count x) (state_commands x) (state_depth x) c1 c2
-    → FitsStates n (are_states xs) (states_count xs) (states_commands xs) (states_depth xs) c2 c3
-    → FitsStates n (are_states (t.AndState x xs)) (states_count (t.AndState x xs)) (states_commands (t.AndState x xs)) (states_depth (t.AndState x xs)) c1 c3
+states_fit : (version : Version) {n : ℕ} (x : t.StateTree) (xs : t.StateList) {c1 c2 c3 : Counts} → FitsStates n (is_state version x) (state_count x) (state_commands x) (state_depth x) c1 c2
+    → FitsStates n (are_states version xs) (states_count xs) (states_commands xs) (states_depth xs) c2 c3
+    → FitsStates n (are_states version (t.AndState x xs)) (states_count (t.AndState x xs)) (states_commands (t.AndState x xs)) (states_depth (t.AndState x xs)) c1 c3
 unfolding is_state state_count state_commands state_depth
-states_fit x xs a b =
+states_fit version x xs a b =
     let n1 = a.states in let n2 = b.states in let m1 = a.commands in let m2 = b.commands in
     record {
       test = all_true a.test b.test;
@@ -241,24 +247,24 @@ states_fit x xs a b =
     }
 
 mutual
-  state_between : {n : ℕ} {p q : Stage} {x : t.StateTree} → g.State n p x q → Between p q (FitsStates n (is_state x) (state_count x) (state_commands x) (state_depth x) p.past.counts q.past.counts)
-  state_between (g.state a b k c cs xs e) =
+  state_between : {version : Version} {n : ℕ} {p q : Stage} {x : t.StateTree} → g.State n p x q → Between version p q (FitsStates n (is_state version x) (state_count x) (state_commands x) (state_depth x) p.past.counts q.past.counts)
+  state_between {version} (g.state a b k c cs xs e) =
       gives (stands a then (stands b then (kind_between k then (stands c then (cmds_between cs then (states_between xs then stands e))))))
-      (λ f. state_fits _ _ _ _ _ _ f.0.1 f.1.0.0 f.1.0.1 f.1.1.0 f.1.1.1.0.1 f.1.1.1.1.0 f.1.1.1.1.1.0 f.1.1.1.1.1.1.1)
+      (λ f. state_fits version _ _ _ _ _ _ f.0.1 f.1.0.0 f.1.0.1 f.1.1.0 f.1.1.1.0.1 f.1.1.1.1.0 f.1.1.1.1.1.0 f.1.1.1.1.1.1.1)
 
-  states_between : {n : ℕ} {p q : Stage} {xs : t.StateList} → g.States n p xs q
-      → Between p q (FitsStates n (are_states xs) (states_count xs) (states_commands xs) (states_depth xs) p.past.counts q.past.counts)
-  states_between {n} {p} g.no_state = still (no_states_fit n p.past.counts)
-  states_between (g.and_state {x = x} {xs = xs} a b) = gives (state_between a then states_between b) (λ f. states_fit x xs f.0 f.1)
+  states_between : {version : Version} {n : ℕ} {p q : Stage} {xs : t.StateList} → g.States n p xs q
+      → Between version p q (FitsStates n (are_states version xs) (states_count xs) (states_commands xs) (states_depth xs) p.past.counts q.past.counts)
+  states_between {version} {n} {p} g.no_state = still (no_states_fit version n p.past.counts)
+  states_between {version} (g.and_state {x = x} {xs = xs} a b) = gives (state_between a then states_between b) (λ f. states_fit version x xs f.0 f.1)
 
 -- a design
 
-whole_fits : (ds : List Decl) (x : t.StateTree) (xs : t.StateList) (c1 : Counts) {c2 c4 : Counts} → c1.inputs ≡ 0 → c1.registers ≡ 0 → c1.memories ≡ 0 → c1.states ≡ 0 → c1.commands ≡ 0
-    → Declares (list_all is_declaration ds) (count_by is_input ds) (count_by is_register ds) (count_by is_memory ds) c1 c2
-    → FitsStates 1 (are_states (t.AndState x xs)) (states_count (t.AndState x xs)) (states_commands (t.AndState x xs)) (states_depth (t.AndState x xs)) c2 c4
-    → is_whole (record { declarations = ds; states = t.AndState x xs }) ≡ true
+whole_fits : (version : Version) (ds : List Decl) (x : t.StateTree) (xs : t.StateList) (c1 : Counts) {c2 c4 : Counts} → c1.inputs ≡ 0 → c1.registers ≡ 0 → c1.memories ≡ 0 → c1.states ≡ 0 → c1.commands ≡ 0
+    → Declares (list_all (is_declaration version) ds) (count_by is_input ds) (count_by is_register ds) (count_by is_memory ds) c1 c2
+    → FitsStates 1 (are_states version (t.AndState x xs)) (states_count (t.AndState x xs)) (states_commands (t.AndState x xs)) (states_depth (t.AndState x xs)) c2 c4
+    → is_whole (record { version = version; declarations = ds; states = t.AndState x xs }) ≡ true
 unfolding is_whole
-whole_fits ds x xs c1 i0 r0 m0 s0 n0 a b =
+whole_fits version ds x xs c1 i0 r0 m0 s0 n0 a b =
     let i = a.inputs in let ir = a.input_room (omega arith) in
     let r = a.registers in let rr = a.register_room (omega arith) in
     let m = a.memories in let mr = a.memory_room (omega arith) in
@@ -275,10 +281,42 @@ whole_fits ds x xs c1 i0 r0 m0 s0 n0 a b =
     all_true (all_true (all_true a.test refl) b.test)
     (all_true (all_true (all_true (all_true (all_true (le_true e1) (le_true e2)) (le_true e3)) (le_true e4)) (le_true e5)) (le_true e6))
 
-design_between : {p q : Stage} {x : t.DesignTree} → g.Design p x q → p.past.counts.inputs ≡ 0 → p.past.counts.registers ≡ 0 → p.past.counts.memories ≡ 0 → p.past.counts.states ≡ 0
-    → p.past.counts.commands ≡ 0 → Between p q (is_whole x ≡ true)
-design_between {p} (g.design {x = x} {xs = xs} ds one more) i r m s n =
-    gives (declarations_between ds then (state_between one then states_between more)) (λ f. whole_fits _ x xs p.past.counts i r m s n f.0 (states_fit x xs f.1.0 f.1.1))
+-- the first line, where there is one, begins nothing
+header_between : {version : Version} {p q : Stage} {v : Version} → g.Header p v q → Between version p q (Rests true p.past.counts q.past.counts)
+header_between {p = p} g.no_header = still (rests_none p.past.counts refl)
+header_between (g.header a b c) = gives (stands a then (stands b then stands c)) (λ f. keep f.0.1 and keep f.1.0.1 and keep f.1.1.1)
 
-pub design_is_whole : (source : List ℕ) (ts : List Token) (x : t.DesignTree) → All (HasText source) ts → IsDesign ts x → is_whole x ≡ true
-design_is_whole source ts x texts h = ((design_between h.design refl refl refl refl refl).back (texts_good source ts texts) h.first_is).1
+design_between : {p q : Stage} {x : t.DesignTree} → g.Design p x q → p.past.counts.inputs ≡ 0 → p.past.counts.registers ≡ 0 → p.past.counts.memories ≡ 0 → p.past.counts.states ≡ 0
+    → p.past.counts.commands ≡ 0 → Between x.version p q (is_whole x ≡ true)
+design_between {p} (g.design {p2 = p2} {version = version} {x = x} {xs = xs} h ds one more) i r m s n =
+    gives (header_between h then (declarations_between ds then (state_between one then states_between more)))
+    (λ f. whole_fits version _ x xs p2.past.counts (f.0.inputs ∙ i) (f.0.registers ∙ r) (f.0.memories ∙ m) (f.0.states ∙ s) (f.0.commands ∙ n) f.1.0 (states_fit version x xs f.1.1.0 f.1.1.1))
+
+-- the version of a design is that of its tokens
+
+-- a first token that is no word of a first line
+starts : {p q : Stage} {role : Role} {kind : KindOf} → IsToken p role kind q → version_of_kind kind ≡ v.One → version_of p.left ≡ v.One
+unfolding version_of
+starts h e = ap version_of h.left ∙ ap version_of_kind h.is ∙ e
+
+declared_one : {p q : Stage} {x : Decl} → g.Declaration p x q → version_of p.left ≡ v.One
+declared_one (g.input a b c e f) = starts a refl
+declared_one (g.register a b c e k s f) = starts a refl
+declared_one (g.memory a b c e f h i k o) = starts a refl
+
+state_one : {n : ℕ} {p q : Stage} {x : t.StateTree} → g.State n p x q → version_of p.left ≡ v.One
+state_one (g.state a b k c cs xs e) = starts a refl
+
+plain_one : {p q r : Stage} {ds : List Decl} {x : t.StateTree} → g.Declarations p ds q → g.State 1 q x r → version_of p.left ≡ v.One
+plain_one g.no_declaration s = state_one s
+plain_one (g.declaration a b) s = declared_one a
+
+version_is : {p q : Stage} {x : t.DesignTree} → g.Design p x q → x.version ≡ version_of p.left
+unfolding version_of
+version_is (g.design g.no_header ds one more) = sym (plain_one ds one)
+version_is (g.design (g.header a b c) ds one more) = sym (ap version_of a.left ∙ ap version_of_kind a.is)
+
+pub design_is_whole : (source : List ℕ) (ts : List Token) (x : t.DesignTree) → length ts ≤ most_arms → All (HasText (version_of ts) source) ts → IsDesign ts x → is_whole x ≡ true
+design_is_whole source ts x few texts h =
+    let good = subst (λ version. AreGood version ts) (sym (version_is h.design)) (texts_good (version_of ts) source ts texts) in
+    ((design_between h.design refl refl refl refl refl).back good few h.first_is).1

@@ -17,6 +17,7 @@ use Rattle.sap_tree.specs.declared.place.Place.{Place}
 use Rattle.sap_tree.specs.declared.place.Spot.{Spot}
 use Rattle.sap_tree.specs.declared.syntax.BinaryOperator.{BinaryOperator}
 use Rattle.sap_tree.specs.declared.syntax.UnaryOperator.{UnaryOperator}
+use Rattle.sap_tree.specs.declared.version.Version.{Version}
 
 -- the parentheses of an operand
 
@@ -140,22 +141,22 @@ enclosed_brackets p (t.Slice s x h l) = refl
 enclosed_brackets p (t.Concat s xs) = refl
 enclosed_brackets p (t.Zext s x w) = refl
 
-enclosed_is : (p : Place) (x : t.Expression) → is_expression (enclosed p x) ≡ is_expression x
+enclosed_is : (version : Version) (p : Place) (x : t.Expression) → is_expression version (enclosed p x) ≡ is_expression version x
 unfolding enclosed is_expression
-enclosed_is p (t.Number s n) = refl
-enclosed_is p (t.Sized s w n) = refl
-enclosed_is p (t.Read s n) = refl
-enclosed_is p (t.Cell s n i) = refl
-enclosed_is p (t.Unary s o x) = refl
-enclosed_is p (t.Binary s o x y) = refl
-enclosed_is p (t.Choose s x y z) = refl
-enclosed_is p (t.Slice s x h l) = refl
-enclosed_is p (t.Concat s xs) = refl
-enclosed_is p (t.Zext s x w) = refl
+enclosed_is version p (t.Number s n) = refl
+enclosed_is version p (t.Sized s w n) = refl
+enclosed_is version p (t.Read s n) = refl
+enclosed_is version p (t.Cell s n i) = refl
+enclosed_is version p (t.Unary s o x) = refl
+enclosed_is version p (t.Binary s o x y) = refl
+enclosed_is version p (t.Choose s x y z) = refl
+enclosed_is version p (t.Slice s x h l) = refl
+enclosed_is version p (t.Concat s xs) = refl
+enclosed_is version p (t.Zext s x w) = refl
 
 -- what an expression from one stage to another gives of their counts, where its place asks for this precedence
-pub record Fits (l : ℕ) (x : t.Expression) (c d : Counts) : Type 0 where
-  pub is : is_expression x ≡ true
+pub record Fits (version : Version) (l : ℕ) (x : t.Expression) (c d : Counts) : Type 0 where
+  pub is : is_expression version x ≡ true
   pub size : c.tokens + (pars l x + tokens x) ≤ d.tokens
   pub room : d.tokens ≤ 256
   pub even : d.brackets ≡ c.brackets
@@ -164,8 +165,8 @@ pub record Fits (l : ℕ) (x : t.Expression) (c d : Counts) : Type 0 where
   pub commands : d.commands ≡ c.commands
 
 -- and what makes y of x
-pub record Grows (l : ℕ) (x y : t.Expression) (c d : Counts) : Type 0 where
-  pub is : is_expression x ≡ true → is_expression y ≡ true
+pub record Grows (version : Version) (l : ℕ) (x y : t.Expression) (c d : Counts) : Type 0 where
+  pub is : is_expression version x ≡ true → is_expression version y ≡ true
   pub size : pars l y + tokens y + c.tokens ≤ pars l x + tokens x + d.tokens
   pub room : c.tokens ≤ 256 → d.tokens ≤ 256
   pub even : d.brackets ≡ c.brackets
@@ -183,8 +184,8 @@ pub record FitsBounds (high low : ℕ) (c d : Counts) : Type 0 where
   pub states : d.states ≡ c.states
   pub commands : d.commands ≡ c.commands
 
-pub record FitsParts (xs : t.Expressions) (c d : Counts) : Type 0 where
-  pub are : are_expressions xs ≡ true
+pub record FitsParts (version : Version) (xs : t.Expressions) (c d : Counts) : Type 0 where
+  pub are : are_expressions version xs ≡ true
   pub size : c.tokens + part_tokens xs ≤ d.tokens
   pub room : c.tokens ≤ 256 → d.tokens ≤ 256
   pub even : d.brackets ≡ c.brackets
@@ -192,7 +193,7 @@ pub record FitsParts (xs : t.Expressions) (c d : Counts) : Type 0 where
   pub states : d.states ≡ c.states
   pub commands : d.commands ≡ c.commands
 
-lower : (l k : ℕ) {x : t.Expression} {c d : Counts} → l ≤ k → Fits k x c d → Fits l x c d
+lower : {version : Version} (l k : ℕ) {x : t.Expression} {c d : Counts} → l ≤ k → Fits version k x c d → Fits version l x c d
 lower l k {x} le f = record {
   is = f.is;
   size = let up = pars_up l k x le in let s = f.size in omega arith;
@@ -203,7 +204,7 @@ lower l k {x} le f = record {
   commands = f.commands;
 }
 
-grown : {l : ℕ} {x y : t.Expression} {c d e : Counts} → Fits l x c d → Grows l x y d e → Fits l y c e
+grown : {version : Version} {l : ℕ} {x y : t.Expression} {c d e : Counts} → Fits version l x c d → Grows version l x y d e → Fits version l y c e
 grown f g = record {
   is = g.is f.is;
   size = let s = f.size in let u = g.size in omega arith;
@@ -214,7 +215,7 @@ grown f g = record {
   commands = g.commands ∙ f.commands;
 }
 
-grows_none : (l : ℕ) (x : t.Expression) (c : Counts) → Grows l x x c c
+grows_none : {version : Version} (l : ℕ) (x : t.Expression) (c : Counts) → Grows version l x x c c
 grows_none l x c = record { is = λ h. h; size = omega arith; room = λ h. h; even = refl; depth = λ h s. s; states = refl; commands = refl }
 
 bounds_fit : {high low : ℕ} {c1 c2 c3 c4 c5 c6 : Counts} → RoleFact r.Opening c1 c2 → is_number high ≡ true → RoleFact r.Inner c2 c3 → RoleFact r.Inner c3 c4
@@ -232,11 +233,11 @@ bounds_fit a h b c l d e =
       commands = omega arith;
     }
 
-bounds_between : {p q : Stage} {high low : ℕ} → g.Bounds p high low q → Between p q (FitsBounds high low p.past.counts q.past.counts)
+bounds_between : {version : Version} {p q : Stage} {high low : ℕ} → g.Bounds p high low q → Between version p q (FitsBounds high low p.past.counts q.past.counts)
 bounds_between (g.bounds a b c d e) =
     gives (stands a then (stands b then (stands c then (stands d then stands e)))) (λ f. bounds_fit f.0.1 f.1.0.0 f.1.0.1 f.1.1.0.1 f.1.1.1.0.0 f.1.1.1.0.1 f.1.1.1.1.1)
 
-cut_grows : {x y : t.Expression} {s : Spot} {high low : ℕ} {c d e : Counts} → FitsBounds high low c d → Grows slice_precedence (t.Slice s x high low) y d e → Grows slice_precedence x y c e
+cut_grows : {version : Version} {x y : t.Expression} {s : Spot} {high low : ℕ} {c d e : Counts} → FitsBounds high low c d → Grows version slice_precedence (t.Slice s x high low) y d e → Grows version slice_precedence x y c e
 unfolding is_expression precedence_of
 cut_grows {x} {y} {s} {high} {low} b m =
     let size = slice_tokens s x high low in
@@ -254,8 +255,8 @@ cut_grows {x} {y} {s} {high} {low} b m =
       commands = m.commands ∙ b.commands;
     }
 
-other_grows : {l : ℕ} {x y z : t.Expression} {s : Spot} (o : BinaryOperator) {c1 c2 c3 c4 : Counts} → precedence o ≡ l → RoleFact r.Inner c1 c2 → Fits (l + 1) y c2 c3
-    → Grows l (t.Binary s o x y) z c3 c4 → Grows l x z c1 c4
+other_grows : {version : Version} {l : ℕ} {x y z : t.Expression} {s : Spot} (o : BinaryOperator) {c1 c2 c3 c4 : Counts} → precedence o ≡ l → RoleFact r.Inner c1 c2 → Fits version (l + 1) y c2 c3
+    → Grows version l (t.Binary s o x y) z c3 c4 → Grows version l x z c1 c4
 unfolding is_expression precedence_of
 other_grows {l} {x} {y} {z} {s} o level a b m =
     let size : tokens (t.Binary s o x y) ≡ pars l x + tokens x + 1 + (pars (l + 1) y + tokens y)
@@ -275,8 +276,8 @@ other_grows {l} {x} {y} {z} {s} o level a b m =
       commands = omega (arith, m.commands, b.commands);
     }
 
-choose_fits : {x y z : t.Expression} {s : Spot} {c1 c2 c3 c4 c5 c6 : Counts} → Fits 1 x c1 c2 → RoleFact r.Inner c2 c3 → Fits 0 y c3 c4 → RoleFact r.Inner c4 c5 → Fits 0 z c5 c6
-    → Fits 0 (t.Choose s x y z) c1 c6
+choose_fits : {version : Version} {x y z : t.Expression} {s : Spot} {c1 c2 c3 c4 c5 c6 : Counts} → Fits version 1 x c1 c2 → RoleFact r.Inner c2 c3 → Fits version 0 y c3 c4 → RoleFact r.Inner c4 c5 → Fits version 0 z c5 c6
+    → Fits version 0 (t.Choose s x y z) c1 c6
 unfolding is_expression precedence_of
 choose_fits {x} {y} {z} {s} a b c d e =
     let size = choose_tokens s x y z in
@@ -296,7 +297,7 @@ choose_fits {x} {y} {z} {s} a b c d e =
       commands = omega (arith, a.commands, c.commands, e.commands);
     }
 
-unary_fits : {x : t.Expression} {s : Spot} {o : UnaryOperator} {c1 c2 c3 : Counts} → RoleFact r.Inner c1 c2 → Fits unary_precedence x c2 c3 → Fits unary_precedence (t.Unary s o x) c1 c3
+unary_fits : {version : Version} {x : t.Expression} {s : Spot} {o : UnaryOperator} {c1 c2 c3 : Counts} → RoleFact r.Inner c1 c2 → Fits version unary_precedence x c2 c3 → Fits version unary_precedence (t.Unary s o x) c1 c3
 unfolding is_expression precedence_of
 unary_fits {x} {s} {o} a b =
     let size = unary_tokens s o x in
@@ -315,7 +316,7 @@ unary_fits {x} {s} {o} a b =
     }
 
 -- one token
-one_fits : (x : t.Expression) {c d : Counts} → is_expression x ≡ true → tokens x ≡ 1 → brackets x ≡ 0 → precedence_of x ≡ primary_precedence → RoleFact r.Inner c d → Fits primary_precedence x c d
+one_fits : {version : Version} (x : t.Expression) {c d : Counts} → is_expression version x ≡ true → tokens x ≡ 1 → brackets x ≡ 0 → precedence_of x ≡ primary_precedence → RoleFact r.Inner c d → Fits version primary_precedence x c d
 one_fits x is size nest level a =
     let bare = no_pars primary_precedence x (omega arith) in
     let shut = no_opens primary_precedence x (omega arith) in
@@ -330,8 +331,8 @@ one_fits x is size nest level a =
       commands = a0.commands;
     }
 
-cell_fits : {n : List ℕ} {i : t.Expression} {s : Spot} {c1 c2 c3 c4 c5 : Counts} → is_name n ≡ true → RoleFact r.Inner c1 c2 → RoleFact r.Opening c2 c3 → Fits 0 i c3 c4 → RoleFact r.Closing c4 c5
-    → Fits primary_precedence (t.Cell s n i) c1 c5
+cell_fits : {version : Version} {n : List ℕ} {i : t.Expression} {s : Spot} {c1 c2 c3 c4 c5 : Counts} → is_name version n ≡ true → RoleFact r.Inner c1 c2 → RoleFact r.Opening c2 c3 → Fits version 0 i c3 c4 → RoleFact r.Closing c4 c5
+    → Fits version primary_precedence (t.Cell s n i) c1 c5
 unfolding is_expression precedence_of
 cell_fits {n} {i} {s} is a b c d =
     let size = cell_tokens s n i in
@@ -349,7 +350,7 @@ cell_fits {n} {i} {s} is a b c d =
       commands = omega (arith, c.commands);
     }
 
-enclosed_fits : (x : t.Expression) (p : Place) {c1 c2 c3 c4 : Counts} → RoleFact r.Opening c1 c2 → Fits 0 x c2 c3 → RoleFact r.Closing c3 c4 → Fits primary_precedence (enclosed p x) c1 c4
+enclosed_fits : {version : Version} (x : t.Expression) (p : Place) {c1 c2 c3 c4 : Counts} → RoleFact r.Opening c1 c2 → Fits version 0 x c2 c3 → RoleFact r.Closing c3 c4 → Fits version primary_precedence (enclosed p x) c1 c4
 enclosed_fits x p a b c =
     let size = enclosed_tokens p x in
     let nest = enclosed_brackets p x in
@@ -357,7 +358,7 @@ enclosed_fits x p a b c =
     let shut = opens_most primary_precedence (enclosed p x) in
     let a0 = a.0 in let a1 = a.1 in let a2 = a.2 in let c0 = c.0 in let c1 = c.1 in let e1 = b.even in let s1 = b.size in
     record {
-      is = enclosed_is p x ∙ b.is;
+      is = enclosed_is _ p x ∙ b.is;
       size = omega arith;
       room = c0.room;
       even = omega arith;
@@ -366,8 +367,8 @@ enclosed_fits x p a b c =
       commands = omega (arith, b.commands);
     }
 
-concat_fits : {x y : t.Expression} {xs : t.Expressions} {s : Spot} {c1 c2 c3 c4 c5 c6 c7 : Counts} → RoleFact r.Opening c1 c2 → Fits 0 x c2 c3 → RoleFact r.Inner c3 c4 → Fits 0 y c4 c5
-    → FitsParts xs c5 c6 → RoleFact r.Closing c6 c7 → Fits primary_precedence (t.Concat s (t.AndPart x (t.AndPart y xs))) c1 c7
+concat_fits : {version : Version} {x y : t.Expression} {xs : t.Expressions} {s : Spot} {c1 c2 c3 c4 c5 c6 c7 : Counts} → RoleFact r.Opening c1 c2 → Fits version 0 x c2 c3 → RoleFact r.Inner c3 c4 → Fits version 0 y c4 c5
+    → FitsParts version xs c5 c6 → RoleFact r.Closing c6 c7 → Fits version primary_precedence (t.Concat s (t.AndPart x (t.AndPart y xs))) c1 c7
 unfolding is_expression precedence_of
 concat_fits {x} {y} {xs} {s} a b c d e f =
     let size = concat_tokens s x y xs in
@@ -386,8 +387,8 @@ concat_fits {x} {y} {xs} {s} a b c d e f =
       commands = omega (arith, b.commands, d.commands, e.commands);
     }
 
-zext_fits : {x : t.Expression} {w : ℕ} {s : Spot} {c1 c2 c3 c4 c5 c6 c7 : Counts} → RoleFact r.Inner c1 c2 → RoleFact r.Opening c2 c3 → Fits 0 x c3 c4 → RoleFact r.Inner c4 c5 → is_number w ≡ true
-    → RoleFact r.Inner c5 c6 → RoleFact r.Closing c6 c7 → Fits primary_precedence (t.Zext s x w) c1 c7
+zext_fits : {version : Version} {x : t.Expression} {w : ℕ} {s : Spot} {c1 c2 c3 c4 c5 c6 c7 : Counts} → RoleFact r.Inner c1 c2 → RoleFact r.Opening c2 c3 → Fits version 0 x c3 c4 → RoleFact r.Inner c4 c5 → is_number w ≡ true
+    → RoleFact r.Inner c5 c6 → RoleFact r.Closing c6 c7 → Fits version primary_precedence (t.Zext s x w) c1 c7
 unfolding is_expression precedence_of
 zext_fits {x} {w} {s} a b c d is e f =
     let size = zext_tokens s x w in
@@ -406,7 +407,7 @@ zext_fits {x} {w} {s} a b c d is e f =
       commands = omega (arith, c.commands);
     }
 
-no_parts_fit : (c : Counts) → FitsParts t.NoPart c c
+no_parts_fit : {version : Version} (c : Counts) → FitsParts version t.NoPart c c
 unfolding is_expression tokens brackets
 no_parts_fit c = record { are = refl; size = omega arith; room = λ h. h; even = refl; depth = λ h. omega arith; states = refl; commands = refl }
 
@@ -418,7 +419,7 @@ part_brackets_are : (x : t.Expression) (xs : t.Expressions) → part_brackets (t
 unfolding brackets
 part_brackets_are x xs = refl
 
-part_fits : {x : t.Expression} {xs : t.Expressions} {c1 c2 c3 c4 : Counts} → RoleFact r.Inner c1 c2 → Fits 0 x c2 c3 → FitsParts xs c3 c4 → FitsParts (t.AndPart x xs) c1 c4
+part_fits : {version : Version} {x : t.Expression} {xs : t.Expressions} {c1 c2 c3 c4 : Counts} → RoleFact r.Inner c1 c2 → Fits version 0 x c2 c3 → FitsParts version xs c3 c4 → FitsParts version (t.AndPart x xs) c1 c4
 unfolding is_expression
 part_fits {x} {xs} a b c =
     let size = part_tokens_are x xs in
@@ -434,44 +435,44 @@ part_fits {x} {xs} a b c =
       commands = omega (arith, b.commands, c.commands);
     }
 
-number_fits : {n : ℕ} {s : Spot} {c d : Counts} → is_number n ≡ true → RoleFact r.Inner c d → Fits primary_precedence (t.Number s n) c d
+number_fits : {version : Version} {n : ℕ} {s : Spot} {c d : Counts} → is_number n ≡ true → RoleFact r.Inner c d → Fits version primary_precedence (t.Number s n) c d
 unfolding is_expression tokens brackets precedence_of
 number_fits {n} {s} is a = one_fits (t.Number s n) is refl refl refl a
 
-sized_fits : {w n : ℕ} {s : Spot} {c d : Counts} → is_number w ≡ true → is_number n ≡ true → RoleFact r.Inner c d → Fits primary_precedence (t.Sized s w n) c d
+sized_fits : {version : Version} {w n : ℕ} {s : Spot} {c d : Counts} → is_number w ≡ true → is_number n ≡ true → RoleFact r.Inner c d → Fits version primary_precedence (t.Sized s w n) c d
 unfolding is_expression tokens brackets precedence_of
 sized_fits {w} {n} {s} is other a = one_fits (t.Sized s w n) (all_true is other) refl refl refl a
 
-read_fits : {n : List ℕ} {s : Spot} {c d : Counts} → is_name n ≡ true → RoleFact r.Inner c d → Fits primary_precedence (t.Read s n) c d
+read_fits : {version : Version} {n : List ℕ} {s : Spot} {c d : Counts} → is_name version n ≡ true → RoleFact r.Inner c d → Fits version primary_precedence (t.Read s n) c d
 unfolding is_expression tokens brackets precedence_of
 read_fits {n} {s} is a = one_fits (t.Read s n) is refl refl refl a
 
-cuts_between : {p q : Stage} {x y : t.Expression} → g.Cuts x p y q → Between p q (Grows slice_precedence x y p.past.counts q.past.counts)
+cuts_between : {version : Version} {p q : Stage} {x y : t.Expression} → g.Cuts x p y q → Between version p q (Grows version slice_precedence x y p.past.counts q.past.counts)
 cuts_between {p} {x = x} g.no_cut = still (grows_none slice_precedence x p.past.counts)
 cuts_between (g.cut b more) = gives (bounds_between b then cuts_between more) (λ f. cut_grows f.0 f.1)
 
 mutual
-  pub expr_between : {p q : Stage} {x : t.Expression} → g.Expr p x q → Between p q (Fits 0 x p.past.counts q.past.counts)
+  pub expr_between : {version : Version} {p q : Stage} {x : t.Expression} → g.Expr p x q → Between version p q (Fits version 0 x p.past.counts q.past.counts)
   expr_between (g.only b) = gives (bin_between b) (lower 0 1 (omega arith))
   expr_between (g.choice b s1 y s2 z) =
       gives (bin_between b then (stands s1 then (expr_between y then (stands s2 then expr_between z)))) (λ f. choose_fits f.0 f.1.0.1 f.1.1.0 f.1.1.1.0.1 f.1.1.1.1)
 
-  bin_between : {l : ℕ} {p q : Stage} {x : t.Expression} → g.Bin l p x q → Between p q (Fits l x p.past.counts q.past.counts)
+  bin_between : {version : Version} {l : ℕ} {p q : Stage} {x : t.Expression} → g.Bin l p x q → Between version p q (Fits version l x p.past.counts q.past.counts)
   bin_between (g.operand u) = unary_between u
   bin_between (g.chain {l = l} h b o) = gives (bin_between b then others_between o) (λ f. grown (lower l (l + 1) (omega arith) f.0) f.1)
 
-  others_between : {l : ℕ} {p q : Stage} {x y : t.Expression} → g.Others l x p y q → Between p q (Grows l x y p.past.counts q.past.counts)
+  others_between : {version : Version} {l : ℕ} {p q : Stage} {x y : t.Expression} → g.Others l x p y q → Between version p q (Grows version l x y p.past.counts q.past.counts)
   others_between {l} {p} {x = x} g.no_other = still (grows_none l x p.past.counts)
   others_between (g.other o level s b more) = gives (stands s then (bin_between b then others_between more)) (λ f. other_grows o level f.0.1 f.1.0 f.1.1)
 
-  unary_between : {p q : Stage} {x : t.Expression} → g.Unary p x q → Between p q (Fits unary_precedence x p.past.counts q.past.counts)
+  unary_between : {version : Version} {p q : Stage} {x : t.Expression} → g.Unary p x q → Between version p q (Fits version unary_precedence x p.past.counts q.past.counts)
   unary_between (g.signed o s u) = gives (stands s then unary_between u) (λ f. unary_fits f.0.1 f.1)
   unary_between (g.unsigned b) = gives (post_between b) (lower unary_precedence slice_precedence (omega arith))
 
-  post_between : {p q : Stage} {x : t.Expression} → g.Post p x q → Between p q (Fits slice_precedence x p.past.counts q.past.counts)
+  post_between : {version : Version} {p q : Stage} {x : t.Expression} → g.Post p x q → Between version p q (Fits version slice_precedence x p.past.counts q.past.counts)
   post_between (g.post b c) = gives (prim_between b then cuts_between c) (λ f. grown (lower slice_precedence primary_precedence (omega arith) f.0) f.1)
 
-  prim_between : {p q : Stage} {x : t.Expression} → g.Prim p x q → Between p q (Fits primary_precedence x p.past.counts q.past.counts)
+  prim_between : {version : Version} {p q : Stage} {x : t.Expression} → g.Prim p x q → Between version p q (Fits version primary_precedence x p.past.counts q.past.counts)
   prim_between (g.number a) = gives (stands a) (λ f. number_fits f.0 f.1)
   prim_between (g.sized a) = gives (stands a) (λ f. sized_fits f.0.0 f.0.1 f.1)
   prim_between (g.read a) = gives (stands a) (λ f. read_fits f.0 f.1)
@@ -484,12 +485,12 @@ mutual
       gives (stands a then (stands b then (expr_between x then (stands c then (stands n then stands d)))))
       (λ f. zext_fits f.0.1 f.1.0.1 f.1.1.0 f.1.1.1.0.1 f.1.1.1.1.0.0 f.1.1.1.1.0.1 f.1.1.1.1.1.1)
 
-  parts_between : {p q : Stage} {xs : t.Expressions} → g.Parts p xs q → Between p q (FitsParts xs p.past.counts q.past.counts)
+  parts_between : {version : Version} {p q : Stage} {xs : t.Expressions} → g.Parts p xs q → Between version p q (FitsParts version xs p.past.counts q.past.counts)
   parts_between {p} g.no_part = still (no_parts_fit p.past.counts)
   parts_between (g.part a x xs) = gives (stands a then (expr_between x then parts_between xs)) (λ f. part_fits f.0.1 f.1.0 f.1.1)
 
 -- an expression that stands in no other
-pub outermost : {x : t.Expression} {c d : Counts} → c.tokens ≡ 0 → c.brackets ≡ 0 → Fits 0 x c d → is_outermost x ≡ true
+pub outermost : {version : Version} {x : t.Expression} {c d : Counts} → c.tokens ≡ 0 → c.brackets ≡ 0 → Fits version 0 x c d → is_outermost version x ≡ true
 outermost {x} none closed f =
     let size : tokens x ≤ 256 = let s = f.size in let r = f.room in omega arith in
     let nest : brackets x ≤ 64 = let d = f.depth (omega arith) in omega arith in

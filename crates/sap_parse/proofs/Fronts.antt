@@ -10,7 +10,7 @@ use Rattle.sap_parse.specs.declared.limit.Role.{Role}
 use Rattle.sap_parse.specs.declared.token.Kind.TheVariants as k
 use Rattle.sap_parse.specs.declared.token.Kind.{Kind}
 use Rattle.sap_parse.specs.declared.token.Sign.{Sign}
-use Rattle.sap_parse.specs.declared.token.Word.{Word}
+use Rattle.sap_tree.specs.declared.word.Word.{Word}
 use Rattle.sap_parse.specs.declared.cursor.Ahead.TheVariants as a
 use Rattle.sap_parse.specs.declared.token.Token.{Token}
 

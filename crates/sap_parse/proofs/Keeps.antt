@@ -16,8 +16,8 @@ use Rattle.sap_parse.specs.declared.token.Kind.{Kind}
 use Rattle.sap_parse.specs.declared.token.Sign.TheVariants as j
 use Rattle.sap_parse.specs.declared.token.Sign.{Sign as SignOf}
 use Rattle.sap_parse.specs.declared.token.Token.{Token}
-use Rattle.sap_parse.specs.declared.token.Word.TheVariants as w
-use Rattle.sap_parse.specs.declared.token.Word.{Word as WordOf}
+use Rattle.sap_tree.specs.declared.word.Word.TheVariants as w
+use Rattle.sap_tree.specs.declared.word.Word.{Word as WordOf}
 use Rattle.sap_tree.specs.Precedence.{precedence, unary_precedence}
 use Rattle.sap_tree.specs.Spots.{first_of}
 use Rattle.sap_tree.specs.Syntax as t
@@ -44,7 +44,8 @@ word_by : ℕ → WordOf
 word_by n =
     cond (eqb n 0) w.Input (cond (eqb n 1) w.Reg (cond (eqb n 2) w.Mem (cond (eqb n 3) w.State (cond (eqb n 4) w.Dynamic (cond (eqb n 5) w.Enforced
     (cond (eqb n 6) w.Under (cond (eqb n 7) w.If (cond (eqb n 8) w.Else (cond (eqb n 9) w.Goto (cond (eqb n 10) w.Fall (cond (eqb n 11) w.SetTag
-    (cond (eqb n 12) w.Otherwise (cond (eqb n 13) w.Tag (cond (eqb n 14) w.Level (cond (eqb n 15) w.Join w.Zext)))))))))))))))
+    (cond (eqb n 12) w.Otherwise (cond (eqb n 13) w.Tag (cond (eqb n 14) w.Level (cond (eqb n 15) w.Join (cond (eqb n 16) w.Zext (cond (eqb n 17) w.Then
+    (cond (eqb n 18) w.Case (cond (eqb n 19) w.Sapper w.Two)))))))))))))))))))
 
 word_back : (x : WordOf) → word_by (word_number x) ≡ x
 unfolding word_by
@@ -65,6 +66,10 @@ word_back w.Tag = refl
 word_back w.Level = refl
 word_back w.Join = refl
 word_back w.Zext = refl
+word_back w.Then = refl
+word_back w.Case = refl
+word_back w.Sapper = refl
+word_back w.Two = refl
 
 word_same : (i x : WordOf) → eqb (word_number i) (word_number x) ≡ true → i ≡ x
 word_same i x e = sym (word_back i) ∙ ap word_by (same_test (word_number i) (word_number x) e) ∙ word_back x

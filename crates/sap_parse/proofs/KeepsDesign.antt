@@ -11,7 +11,7 @@ use Rattle.sap_parse.specs.declared.limit.Role.TheVariants as r
 use Rattle.sap_parse.specs.declared.limit.Role.{Role}
 use Rattle.sap_parse.specs.declared.token.Sign.TheVariants as j
 use Rattle.sap_parse.specs.declared.token.Token.{Token}
-use Rattle.sap_parse.specs.declared.token.Word.TheVariants as w
+use Rattle.sap_tree.specs.declared.word.Word.TheVariants as w
 use Rattle.sap_tree.specs.Syntax as t
 use Rattle.sap_parse.proofs.Keeps.{here, behind, Keeps, Element, Elements, element, keeps_or, keeps_push, keeps_optional, keeps_sign, keeps_word, keeps_name, keeps_number, keeps_sized, after_sign, after_word, after_name, keeps_firsts, keeps_paren, keeps_braces, keeps_zext, keeps_prim, keeps_post, keeps_unary, keeps_slice, keeps_slices, keeps_choice, keeps_tail, keeps_expr, keeps_bin, keeps_after_name, keeps_after_bracket, keeps_after_number}
 use Rattle.sap_parse.proofs.Laws.{push_full, word_full}
@@ -97,16 +97,44 @@ module _ (token : Token) (ts : List Token) (past : Past Counts Limit) where
       let a = more.2 in let b = a.2 in let c = b.2 in
       (_, g.branch word more.1 a.1.1 b.1 c.1.1 (last (s.Else (depth + 1)) c.0 q c.2).1))
 
+  -- a number with or without a width
+  keeps_constant : Kept (s.constant_next token.kind) (λ q. Lang s.Constant At q)
+  keeps_constant =
+      either (s.number_next r.Plain token.kind) _ _ (λ role σ e q more. let n = keeps_number token ts past r.Plain role σ e q more in (_, g.plain n.1))
+      (λ role σ e q more. let n = keeps_sized token ts past r.Plain role σ e q more in (_, g.wide n.2))
+
+  keeps_constants : Kept (s.constants_next token.kind) (λ q. Lang s.Constants At q)
+  keeps_constants =
+      maybe _ _ (after_sign token ts past r.Plain j.Comma _ (λ q. Lang s.Constants At q) (λ m q comma more. let xs = last s.Constants more.0 q more.2 in (_, g.constant comma more.1.1 xs.1)))
+
+  keeps_arm : (depth : ℕ) → Kept (s.arm_next depth token.kind) (λ q. Lang (s.Arm depth) At q)
+  keeps_arm depth = more_of (s.constant_next token.kind) (s.Constants ∷ s.Sign r.Plain j.Colon ∷ s.Block depth ∷ []) _ (λ q. Lang (s.Arm depth) At q) keeps_constant
+      (λ m q x more. let a = more.2 in let b = a.2 in (_, _, g.arm x.1 more.1.1 a.1 (last (s.Block depth) a.0 q b).1))
+
+  keeps_arms : (depth : ℕ) → Kept (s.arms_next depth token.kind) (λ q. Lang (s.Arms depth) At q)
+  keeps_arms depth =
+      either (push (s.arm_next depth token.kind) (s.Arms depth ∷ [])) _ _
+      (more_of (s.arm_next depth token.kind) (s.Arms depth ∷ []) _ (λ q. Lang (s.Arms depth) At q) (keeps_arm depth) (λ m q a more. let rest = last (s.Arms depth) m q more in (_, g.and_arm a.2 rest.1)))
+      (after_word token ts past r.Plain w.Else _ (λ q. Lang (s.Arms depth) At q) (λ m q word more. (_, g.last word (last (s.Block depth) m q more).1)))
+
+  keeps_case : (depth : ℕ) → Kept (s.case_next depth token.kind) (λ q. Lang (s.Case depth) At q)
+  keeps_case depth = after_word token ts past (r.Command depth) w.Case _ _ (λ m q word more.
+      let a = more.2 in let b = a.2 in let c = b.2 in let d = c.2 in let e = d.2 in
+      (_, g.case word more.1 a.1.1 b.1 c.1 d.1.2 e.1.1 (last (s.Sign r.Plain j.CloseBrace) e.0 q e.2)))
+
   keeps_cmd : (depth : ℕ) → Kept (s.cmd_next depth token.kind) (λ q. Lang (s.Cmd depth) At q)
   keeps_cmd depth =
       either (push (s.simple_next depth token.kind) (s.Ending depth ∷ [])) _ _
       (more_of (s.simple_next depth token.kind) (s.Ending depth ∷ []) _ (λ q. Lang (s.Cmd depth) At q) (keeps_simple depth) (λ m q c more. last (s.Ending depth) m q more At c.0 c.1))
-      (keeps_if depth)
+      (either (s.if_next depth token.kind) _ _ (keeps_if depth) (keeps_case depth))
 
   keeps_ending : (depth : ℕ) → Kept (s.ending_next depth token.kind) (λ q. Lang (s.Ending depth) At q)
   keeps_ending depth =
       either (s.sign_next r.Plain j.Semicolon token.kind) _ _ (λ role σ e q more p1 c h. (_, g.unhandled h (keeps_sign token ts past r.Plain j.Semicolon role σ e q more)))
+      (either (s.after_word r.Plain w.Otherwise (s.Block (depth + 1) ∷ []) token.kind) _ _
       (after_word token ts past r.Plain w.Otherwise _ (λ q. Lang (s.Ending depth) At q) (λ m q word more p1 c h. (_, g.handled h word (last (s.Block (depth + 1)) m q more).1)))
+      (after_word token ts past r.Plain w.Then _ (λ q. Lang (s.Ending depth) At q) (λ m q word more p1 c h.
+      let a = more.2 in (_, g.decided h word more.1.1 a.1 (last (s.Block (depth + 1)) a.0 q a.2).1))))
 
   keeps_else : (depth : ℕ) → Kept (s.else_next depth token.kind) (λ q. Lang (s.Else depth) At q)
   keeps_else depth = maybe _ _ (after_word token ts past r.Plain w.Else _ (λ q. Lang (s.Else depth) At q) (λ m q word more. (_, g.else word (last (s.Block depth) m q more).1)))
@@ -168,17 +196,24 @@ module _ (token : Token) (ts : List Token) (past : Past Counts Limit) where
   keeps_last_states = more_of (s.state_next 1 token.kind) (s.LastStates ∷ []) _ (λ q. Lang s.LastStates At q) (keeps_state 1)
       (λ m q x more. let xs = last s.LastStates m q more in (_, g.and_state x.1 xs.1))
 
+  keeps_header : Kept (s.header_next token.kind) (λ q. Lang s.Header At q)
+  keeps_header = maybe _ _ (after_word token ts past r.Plain w.Sapper _ (λ q. Lang s.Header At q) (λ m q word more. (_, g.header word more.1 (last (s.Sign r.Plain j.Semicolon) more.0 q more.2))))
+
   keeps_design : Kept (next s.Design token.kind) (λ q. Lang s.Design At q)
   keeps_design role σ e q more =
       let all = keeps_firsts token ts past (s.part_next token.kind) design_symbols (
-        element token ts past (s.part_next token.kind) s.Declarations keeps_declarations (λ e. nothing s.Declarations refl At),
+        element token ts past (s.part_next token.kind) s.Header keeps_header (λ e. nothing s.Header refl At),
         (
-          element token ts past (s.part_next token.kind) (s.State 1) (keeps_state 1) (λ e. absurd (push_full (next (s.Word (r.State 1) w.State) token.kind) _ (word_full leniently (r.State 1) w.State token.kind) e)),
-          (element token ts past (s.part_next token.kind) s.LastStates keeps_last_states (λ e. nothing s.LastStates refl At), tt),
+          element token ts past (s.part_next token.kind) s.Declarations keeps_declarations (λ e. nothing s.Declarations refl At),
+          (
+            element token ts past (s.part_next token.kind) (s.State 1) (keeps_state 1) (λ e. absurd (push_full (next (s.Word (r.State 1) w.State) token.kind) _ (word_full leniently (r.State 1) w.State token.kind) e)),
+            (element token ts past (s.part_next token.kind) s.LastStates keeps_last_states (λ e. nothing s.LastStates refl At), tt),
+          ),
         ),
       )
       role σ e q more in
-      (_, g.design all.1.1 all.2.1.1 (last s.LastStates all.2.0 q all.2.2).1)
+      let parts = all.2 in
+      (_, g.design all.1.1 parts.1.1 parts.2.1.1 (last s.LastStates parts.2.0 q parts.2.2).1)
 
   -- each symbol
   pub keeps : (x : Symbol) → Kept (next x token.kind) (λ q. Lang x At q)
@@ -216,6 +251,11 @@ module _ (token : Token) (ts : List Token) (past : Past Counts Limit) where
   keeps s.CellPart = keeps_cell_part
   keeps (s.Cmd depth) = keeps_cmd depth
   keeps (s.If depth) = keeps_if depth
+  keeps (s.Case depth) = keeps_case depth
+  keeps (s.Arm depth) = keeps_arm depth
+  keeps (s.Arms depth) = keeps_arms depth
+  keeps s.Constant = keeps_constant
+  keeps s.Constants = keeps_constants
   keeps (s.Ending depth) = keeps_ending depth
   keeps (s.Else depth) = keeps_else depth
   keeps (s.Block depth) = keeps_block depth
@@ -232,4 +272,5 @@ module _ (token : Token) (ts : List Token) (past : Past Counts Limit) where
   keeps (s.State depth) = keeps_state depth
   keeps (s.States depth) = keeps_states depth
   keeps s.LastStates = keeps_last_states
+  keeps s.Header = keeps_header
   keeps s.Design = keeps_design

@@ -11,7 +11,7 @@ use Rattle.sap_parse.specs.declared.token.Kind.TheVariants as k
 use Rattle.sap_parse.specs.declared.token.Kind.{Kind}
 use Rattle.sap_parse.specs.declared.token.Sign.{Sign as SignOf}
 use Rattle.sap_parse.specs.declared.token.Token.{Token}
-use Rattle.sap_parse.specs.declared.token.Word.{Word as WordOf}
+use Rattle.sap_tree.specs.declared.word.Word.{Word as WordOf}
 use Rattle.sap_walk.specs.Limits.{Past, passed}
 use Rattle.sap_walk.specs.Rows.{push, optional, ◌or◌, firsts, first_then}
 use Rattle.sap_walk.specs.Walk.{Next, Take, Skip, Stop, at_token, ◌>>=◌, steps}

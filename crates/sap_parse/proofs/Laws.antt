@@ -17,8 +17,8 @@ use Rattle.sap_parse.specs.declared.token.Kind.{Kind}
 use Rattle.sap_parse.specs.declared.token.Sign.TheVariants as j
 use Rattle.sap_parse.specs.declared.token.Sign.{Sign as SignOf}
 use Rattle.sap_parse.specs.declared.token.Token.{Token}
-use Rattle.sap_parse.specs.declared.token.Word.TheVariants as w
-use Rattle.sap_parse.specs.declared.token.Word.{Word as WordOf}
+use Rattle.sap_tree.specs.declared.word.Word.TheVariants as w
+use Rattle.sap_tree.specs.declared.word.Word.{Word as WordOf}
 use Rattle.sap_parse.proofs.Single.{ahead_back, kind_ahead, next_not_sign, next_not_word, next_sign, next_word, word_kind_ahead}
 use Rattle.sap_walk.specs.Limits.{Past}
 use Rattle.sap_walk.specs.Rows.{push, optional, ◌or◌, firsts, first_then}

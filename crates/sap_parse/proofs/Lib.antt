@@ -2,6 +2,7 @@ pub mod Runs
 pub mod Places
 pub mod Spelled
 pub mod TokenTexts
+pub mod Keyed
 pub mod Fronts
 pub mod Single
 pub mod Laws

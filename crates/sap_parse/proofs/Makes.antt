@@ -6,7 +6,7 @@ use Rattle.sap_parse.specs.Joining.{Indexes, Slices, indexes, join, slices}
 use Rattle.sap_parse.specs.Stages.{Stage, IsName, IsNumber, IsSign, IsSized, IsWord, here, spot_here}
 use Rattle.sap_parse.specs.declared.limit.Role.TheVariants as r
 use Rattle.sap_parse.specs.declared.token.Sign.TheVariants as s
-use Rattle.sap_parse.specs.declared.token.Word.TheVariants as w
+use Rattle.sap_tree.specs.declared.word.Word.TheVariants as w
 use Rattle.sap_tree.specs.Precedence.{precedence}
 use Rattle.sap_tree.specs.Spots.{enclosed, first_of, spot_of}
 use Rattle.sap_tree.specs.Syntax as t

@@ -8,7 +8,8 @@ use Rattle.std.specs.List.{prefix_len}
 use Rattle.std.specs.Str.{byte}
 use Rattle.sap_tree.specs.Words.{is_initial}
 use Rattle.sap_parse.specs.Lexemes.{clings, is_in, run, is_blank, is_comment, lexeme_of, name_at, number_at, number_of, number_lexeme, sized_at, sized_in, sized_lexeme, sign_at, sign_or, word_or_name}
-use Rattle.sap_parse.specs.Lexing.{AreTokens, IsBadAt, IsBlankAt, Reached, StandsAt, place_of}
+use Rattle.sap_parse.specs.Lexing.{AreTokens, IsBadAt, IsBlankAt, Reached, StandsAt, keyed, place_of}
+use Rattle.sap_tree.specs.declared.version.Version.TheVariants as v
 use Rattle.sap_parse.specs.Spelling.{sign_of, word_of}
 use Rattle.sap_parse.specs.declared.lexeme.Class.TheVariants as c
 use Rattle.sap_parse.specs.declared.lexeme.Class.{Class}
@@ -17,7 +18,7 @@ use Rattle.sap_parse.specs.declared.lexeme.Lexeme.{Lexeme}
 use Rattle.sap_parse.specs.declared.token.Kind.{Kind}
 use Rattle.sap_parse.specs.declared.token.Sign.{Sign}
 use Rattle.sap_parse.specs.declared.token.Token.{Token as TokenOf}
-use Rattle.sap_parse.specs.declared.token.Word.{Word}
+use Rattle.sap_tree.specs.declared.word.Word.{Word}
 use Rattle.sap_parse.proofs.Spelled.{IsSpelled, by_test, lexeme_spelled}
 use Rattle.sap_parse.proofs.TokenTexts.{text_some}
 use Rattle.sap_walk.proofs.Reached as reached
@@ -87,7 +88,7 @@ lexeme_some bytes =
 
 token_some : (bytes : List ℕ) (kind : Kind) (len : ℕ) → lexeme_of bytes ≡ Token kind len → 0 < len
 token_some bytes kind len e =
-    let some : 0 < length (take len bytes) = text_some kind (take len bytes) (subst (IsSpelled bytes) e (lexeme_spelled bytes)) in
+    let some : 0 < length (take len bytes) = text_some v.One kind (take len bytes) (subst (IsSpelled bytes) e (lexeme_spelled bytes)) in
     omega (arith, length-take len bytes)
 
 -- the lexer
@@ -141,7 +142,7 @@ text_end : (text : List ℕ) → reached.IsEnd (IsBlankAt text) (StandsAt text) 
 text_end text = bad_end text (length text) (ap lexeme_of (nothing_left text) ∙ nothing_bad)
 
 pub one_list : (text : List ℕ) (ts us : List TokenOf) → AreTokens text ts → AreTokens text us → ts ≡ us
-one_list text ts us a b = (reached.one_end (IsBlankAt text) (StandsAt text) (lexer text) a b (text_end text) (text_end text)).1
+one_list text ts us a b = a.keyed_are ∙ ap keyed (reached.one_end (IsBlankAt text) (StandsAt text) (lexer text) a.reached b.reached (text_end text) (text_end text)).1 ∙ sym b.keyed_are
 
 pub one_place : (text : List ℕ) (p q : _) → IsBadAt text p → IsBadAt text q → p ≡ q
 one_place text p q a b =
@@ -150,5 +151,5 @@ one_place text p q a b =
 
 pub not_bad : (text : List ℕ) (ts : List TokenOf) (p : _) → AreTokens text ts → IsBadAt text p → ⊥
 not_bad text ts p a b =
-    let same : length text ≡ b.at = (reached.one_end (IsBlankAt text) (StandsAt text) (lexer text) a b.before (text_end text) (bad_end text b.at b.bad)).0 in
+    let same : length text ≡ b.at = (reached.one_end (IsBlankAt text) (StandsAt text) (lexer text) a.reached b.before (text_end text) (bad_end text b.at b.bad)).0 in
     let within = b.within in omega arith

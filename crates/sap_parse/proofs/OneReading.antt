@@ -21,7 +21,7 @@ use Rattle.sap_tree.specs.Whole.{is_whole}
 use Rattle.sap_tree.specs.declared.place.Place.{Place}
 use Rattle.sap_parse.proofs.CompleteDesign.{design_reads}
 use Rattle.sap_parse.proofs.FitsDesign.{design_is_whole}
-use Rattle.sap_parse.proofs.TokenTexts.{texts_are}
+use Rattle.sap_parse.proofs.TokenTexts.{texts_are, tokens_order}
 use Rattle.sap_parse.proofs.OneLexing.{one_list, one_place, not_bad}
 use Rattle.sap_parse.proofs.UniqueDesign.{design_one}
 use Rattle.sap_parse.proofs.Viable.{goes_on}
@@ -88,8 +88,16 @@ text_is text ts p q x fits lexed start spelled whole first = record {
   whole = record { end = q; design = subst (λ (p : Stage). Design p x q) start spelled; whole = whole; first_is = first };
 }
 
+-- a token has a byte at least
+pub few_tokens : (from to : ℕ) (ts : List Token) → AreInOrder from to ts → from + length ts ≤ to
+few_tokens from to [] o = omega arith
+few_tokens from to (t ∷ ts) o = let a = o.0 in let b = o.1 in let more = few_tokens t.to to ts o.2 in omega arith
+
 pub text_whole : (text : List ℕ) (x : DesignTree) → IsText text x → is_whole x ≡ true
-text_whole text x t = design_is_whole text t.tokens x (texts_are text t.lexed) t.whole
+text_whole text x t =
+    let few = few_tokens 0 (length text) t.tokens (tokens_order text t.tokens t.lexed) in
+    let fits = t.fits in
+    design_is_whole text t.tokens x (omega (arith, few, fits)) (texts_are text t.tokens t.lexed) t.whole
 
 pub fault_at_token : {A : Type 0} (text : List ℕ) (ts : List Token) (p q : Stage) (place : Place) (r : Result A Fault) → length text ≤ most_bytes → AreTokens text ts → p ≡ at_start ts
     → Goes s.Design p r q → r ≡ Err h.Token → place ≡ fault_place text q.left → IsReadFault text (f.E2 place)
@@ -108,11 +116,6 @@ in_err P r e is h = subst (λ r. IfErr r P) (sym is) h
 
 pub no_ok : {A : Type 0} (P : A → Type 0) (r : Result A ReadFault) (e : ReadFault) → r ≡ Err e → IfOk r P
 no_ok P r e is = subst (λ r. IfOk r P) (sym is) tt
-
--- a token has a byte at least
-pub few_tokens : (from to : ℕ) (ts : List Token) → AreInOrder from to ts → from + length ts ≤ to
-few_tokens from to [] o = omega arith
-few_tokens from to (t ∷ ts) o = let a = o.0 in let b = o.1 in let more = few_tokens t.to to ts o.2 in omega arith
 
 -- a text has one reading
 

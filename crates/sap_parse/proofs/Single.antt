@@ -17,8 +17,8 @@ use Rattle.sap_parse.specs.declared.token.Kind.{Kind}
 use Rattle.sap_parse.specs.declared.token.Sign.TheVariants as s
 use Rattle.sap_parse.specs.declared.token.Sign.{Sign as SignOf}
 use Rattle.sap_parse.specs.declared.token.Token.{Token}
-use Rattle.sap_parse.specs.declared.token.Word.TheVariants as w
-use Rattle.sap_parse.specs.declared.token.Word.{Word as WordOf}
+use Rattle.sap_tree.specs.declared.word.Word.TheVariants as w
+use Rattle.sap_tree.specs.declared.word.Word.{Word as WordOf}
 use Rattle.sap_walk.specs.Limits.{passed, unless_broken}
 use Rattle.sap_walk.specs.Walk.{Take, Stop, at_token, at_limit}
 use Rattle.sap_walk.proofs.Walking.{read_take, read_break, read_stop, read_end}
@@ -87,7 +87,7 @@ signs_apart x y ne = by_test (sign_number x == sign_number y) refl where
   by_test false e = refl
 
 word_by : ℕ → WordOf
-word_by n = if n == 0 then w.Input else (if n == 1 then w.Reg else (if n == 2 then w.Mem else (if n == 3 then w.State else (if n == 4 then w.Dynamic else (if n == 5 then w.Enforced else (if n == 6 then w.Under else (if n == 7 then w.If else (if n == 8 then w.Else else (if n == 9 then w.Goto else (if n == 10 then w.Fall else (if n == 11 then w.SetTag else (if n == 12 then w.Otherwise else (if n == 13 then w.Tag else (if n == 14 then w.Level else (if n == 15 then w.Join else (w.Zext))))))))))))))))
+word_by n = if n == 0 then w.Input else (if n == 1 then w.Reg else (if n == 2 then w.Mem else (if n == 3 then w.State else (if n == 4 then w.Dynamic else (if n == 5 then w.Enforced else (if n == 6 then w.Under else (if n == 7 then w.If else (if n == 8 then w.Else else (if n == 9 then w.Goto else (if n == 10 then w.Fall else (if n == 11 then w.SetTag else (if n == 12 then w.Otherwise else (if n == 13 then w.Tag else (if n == 14 then w.Level else (if n == 15 then w.Join else (if n == 16 then w.Zext else (if n == 17 then w.Then else (if n == 18 then w.Case else (if n == 19 then w.Sapper else (w.Two))))))))))))))))))))
 
 word_back : (x : WordOf) → word_by (word_number x) ≡ x
 unfolding word_by
@@ -108,6 +108,10 @@ word_back w.Tag = refl
 word_back w.Level = refl
 word_back w.Join = refl
 word_back w.Zext = refl
+word_back w.Then = refl
+word_back w.Case = refl
+word_back w.Sapper = refl
+word_back w.Two = refl
 
 words_apart : (x y : WordOf) → x ≢ y → (word_number x == word_number y) ≡ false
 words_apart x y ne = by_test (word_number x == word_number y) refl where

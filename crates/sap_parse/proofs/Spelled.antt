@@ -9,20 +9,21 @@ use Rattle.std.specs.Prelude.{slice_index, ◌||◌, ◌&&◌, ◌==◌, nat_lt}
 use Rattle.std.specs.Char.{is_ascii_digit}
 use Rattle.std.specs.List.{find, list_all, list_any, prefix_len}
 use Rattle.std.specs.Str.{byte, bytes_eq}
-use Rattle.sap_tree.specs.Words.{is_initial, is_inner, is_word}
+use Rattle.sap_tree.specs.Words.{is_initial, is_inner, is_word, word_text, first_words}
+use Rattle.sap_tree.specs.declared.version.Version.TheVariants as v
 use Rattle.sap_parse.specs.Lexemes.{is_in, run, is_blank, is_comment, lexeme_of, name_at, number_at, number_of, number_lexeme, sized_at, sized_in, sized_lexeme, sign_at, sign_or, value_of, word_or_name}
-use Rattle.sap_parse.specs.Spelled.{SpellsNumber, SpellsSized, decimal, hexadecimal, Spells}
-use Rattle.sap_parse.specs.Spelling.{word_of, word_text, words, sign_of, sign_text, signs}
+use Rattle.sap_parse.specs.Spelled.{SpellsNumber, SpellsSized, decimal, hexadecimal, Spells, is_of}
+use Rattle.sap_parse.specs.Spelling.{word_of, sign_of, sign_text, signs}
 use Rattle.sap_parse.specs.declared.lexeme.Class.TheVariants as c
 use Rattle.sap_parse.specs.declared.lexeme.Class.{Class}
 use Rattle.sap_parse.specs.declared.lexeme.Lexeme.TheVariants.{Blank, Token, Bad}
 use Rattle.sap_parse.specs.declared.lexeme.Lexeme.{Lexeme}
 use Rattle.sap_parse.specs.declared.token.Sign.{Sign}
-use Rattle.sap_parse.specs.declared.token.Word.{Word}
+use Rattle.sap_tree.specs.declared.word.Word.{Word}
 
 abbrev pub IsSpelled : List ℕ → Lexeme → Type 0
 IsSpelled bytes (Blank len) = Unit {0}
-IsSpelled bytes (Token kind len) = Spells kind (take len bytes)
+IsSpelled bytes (Token kind len) = Spells v.One kind (take len bytes)
 IsSpelled bytes Bad = Unit {0}
 
 pub by_test : {A : Type 0} (P : A → Type 0) (b : Bool) {x y : A} → (b ≡ true → P x) → (b ≡ false → P y) → P (cond b x y)
@@ -31,10 +32,10 @@ by_test P false f g = g refl
 
 -- lists
 
-same_bytes : (a b : List ℕ) → bytes_eq a b ≡ true → a ≡ b
+pub same_bytes : (a b : List ℕ) → bytes_eq a b ≡ true → a ≡ b
 same_bytes a b e = grind (arith, bytes_eq-Decides)
 
-find_passes : {X : Type 0} (p : X → Bool) (xs : List X) {x : X} → find p xs ≡ Some x → p x ≡ true
+pub find_passes : {X : Type 0} (p : X → Bool) (xs : List X) {x : X} → find p xs ≡ Some x → p x ≡ true
 find_passes p [] e = absurd (cc)
 find_passes {X} p (y ∷ ys) {x} e =
     let pick : (b : Bool) → p y ≡ b → cond b (Some y) (find p ys) ≡ Some x → p x ≡ true = λ b. elim b as (λ b. p y ≡ b → cond b (Some y) (find p ys) ≡ Some x → p x ≡ true) [
@@ -43,7 +44,7 @@ find_passes {X} p (y ∷ ys) {x} e =
     ] in
     pick (p y) refl e
 
-none_passes : {X : Type 0} (p : X → Bool) (xs : List X) → find p xs ≡ None → list_any p xs ≡ false
+pub none_passes : {X : Type 0} (p : X → Bool) (xs : List X) → find p xs ≡ None → list_any p xs ≡ false
 none_passes p [] e = refl
 none_passes {X} p (y ∷ ys) e =
     let pick : (b : Bool) → cond b (Some y) (find p ys) ≡ None → (b || list_any p ys) ≡ false = λ b. elim b as (λ b. cond b (Some y) (find p ys) ≡ None → (b || list_any p ys) ≡ false) [
@@ -51,6 +52,17 @@ none_passes {X} p (y ∷ ys) e =
       | false ↦ λ s. none_passes p ys s
     ] in
     pick (p y) e
+
+-- what holds of all holds of the one that is found
+found_in : {X : Type 0} (q : X → Bool) (ys : List X) (o : Option X) (y x : X) (b a : Bool) → q y ≡ a → (a && list_all q ys) ≡ true → (list_all q ys ≡ true → o ≡ Some x → q x ≡ true)
+    → cond b (Some y) o ≡ Some x → q x ≡ true
+found_in q ys o y x true true e h rest s = (let same : y ≡ x = cc in subst (λ z. q z ≡ true) same e)
+found_in q ys o y x b false e h rest s = absurd (cc)
+found_in q ys o y x false true e h rest s = rest h s
+
+find_among : {X : Type 0} (p q : X → Bool) (xs : List X) (x : X) → list_all q xs ≡ true → find p xs ≡ Some x → q x ≡ true
+find_among p q [] x h e = absurd (cc)
+find_among p q (y ∷ ys) x h e = found_in q ys (find p ys) y x (p y) (q y) refl h (find_among p q ys x) e
 
 one_more : (n : ℕ) → suc n ≡ 1 + n
 one_more n = omega arith
@@ -79,8 +91,9 @@ name_is_word (x ∷ xs) h =
     (subst (λ m. is_word (take m (x ∷ xs)) ≡ true) (one_more (prefix_len is_inner xs)) whole)
 
 name_spelled : (bytes name : List ℕ) (n : ℕ) → take n bytes ≡ name → is_word name ≡ true → (o : Option Word) → word_of name ≡ o → IsSpelled bytes (word_or_name o name n)
-name_spelled bytes name n same h (Some word) e = same ∙ same_bytes name (word_text word) (find_passes (λ w. bytes_eq name (word_text w)) words e)
-name_spelled bytes name n same h None e = (same, h, none_passes (λ w. bytes_eq name (word_text w)) words e)
+name_spelled bytes name n same h (Some word) e =
+    (same ∙ same_bytes name (word_text word) (find_passes (λ w. bytes_eq name (word_text w)) first_words e), find_among (λ w. bytes_eq name (word_text w)) (is_of v.One) first_words word refl e)
+name_spelled bytes name n same h None e = (same, h, none_passes (λ w. bytes_eq name (word_text w)) first_words e)
 
 -- signs
 

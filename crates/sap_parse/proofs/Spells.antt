@@ -14,8 +14,8 @@ use Rattle.sap_parse.specs.declared.token.Kind.{Kind}
 use Rattle.sap_parse.specs.declared.token.Sign.TheVariants as j
 use Rattle.sap_parse.specs.declared.token.Sign.{Sign as SignOf}
 use Rattle.sap_parse.specs.declared.token.Token.{Token}
-use Rattle.sap_parse.specs.declared.token.Word.TheVariants as w
-use Rattle.sap_parse.specs.declared.token.Word.{Word as WordOf}
+use Rattle.sap_tree.specs.declared.word.Word.TheVariants as w
+use Rattle.sap_tree.specs.declared.word.Word.{Word as WordOf}
 use Rattle.sap_tree.specs.Precedence.{precedence, unary_precedence}
 use Rattle.sap_tree.specs.Syntax as t
 use Rattle.sap_tree.specs.declared.syntax.BinaryOperator.TheVariants as b
@@ -26,6 +26,8 @@ use Rattle.sap_tree.specs.declared.syntax.Numeral.{Numeral}
 use Rattle.sap_tree.specs.declared.syntax.UnaryOperator.TheVariants as u
 use Rattle.sap_tree.specs.declared.syntax.UnaryOperator.{UnaryOperator}
 use Rattle.sap_tree.specs.declared.syntax.Under.{Under}
+use Rattle.sap_tree.specs.declared.version.Version.TheVariants as v
+use Rattle.sap_tree.specs.declared.version.Version.{Version}
 use Rattle.sap_walk.specs.Limits.{Past, lenient, passed}
 use Rattle.sap_walk.specs.Rows.{push, optional, ◌or◌, first_then, firsts}
 use Rattle.sap_walk.specs.Walk.{Next, Take, Skip, Stop, Table}
@@ -79,6 +81,11 @@ Lang (s.If depth) p q = (c : t.Command) × g.Cmd depth p c q
 Lang (s.Ending depth) p q = (p1 : Stage) (c : t.SimpleCommand) → g.Simple depth p1 c p → (d : t.Command) × g.Cmd depth p1 d q
 Lang (s.Else depth) p q = (x : t.ElseBlock) × g.Else depth p x q
 Lang (s.Block depth) p q = (x : t.CommandBlock) × g.Block depth p x q
+Lang (s.Case depth) p q = (c : t.Command) × g.Cmd depth p c q
+Lang (s.Arm depth) p q = (cs : t.Expressions) × (b : t.CommandBlock) × g.Arm depth p cs b q
+Lang (s.Arms depth) p q = (x : t.Arms) × g.Arms depth p x q
+Lang s.Constant p q = (x : t.Expression) × g.Constant p x q
+Lang s.Constants p q = (xs : t.Expressions) × g.Constants p xs q
 Lang (s.Cmds depth) p q = (cs : t.CommandList) × g.Cmds depth p cs q
 Lang s.Authority p q = (x : Option Under) × g.Authority p x q
 Lang s.KindOf p q = (x : KindTree) × g.KindOf p x q
@@ -92,6 +99,7 @@ Lang s.Declarations p q = (xs : List Decl) × g.Declarations p xs q
 Lang (s.State depth) p q = (x : t.StateTree) × g.State depth p x q
 Lang (s.States depth) p q = (xs : t.StateList) × g.States depth p xs q
 Lang s.LastStates p q = (xs : t.StateList) × g.States 1 p xs q
+Lang s.Header p q = (x : Version) × g.Header p x q
 Lang s.Design p q = (x : t.DesignTree) × g.Design p x q
 
 abbrev pub Langs : List Symbol → Stage → Stage → Type 0
@@ -112,6 +120,8 @@ nothing s.Texprs e p = (t.NoTag, g.no_tag)
 nothing s.CellPart e p = no_cell
 nothing (s.Else depth) e p = (t.NoElse, g.no_else)
 nothing (s.Cmds depth) e p = (t.NoCommand, g.no_cmd)
+nothing s.Constants e p = (t.NoPart, g.no_constant)
+nothing s.Header e p = (v.One, g.no_header)
 nothing s.Authority e p = (None, g.no_authority)
 nothing s.Initial e p = (None, g.no_initial)
 nothing s.Declarations e p = ([], g.no_declaration)
@@ -144,6 +154,10 @@ nothing (s.Fall depth) e p = absurd (cc)
 nothing s.Target e p = absurd (cc)
 nothing (s.Cmd depth) e p = absurd (cc)
 nothing (s.If depth) e p = absurd (cc)
+nothing (s.Case depth) e p = absurd (cc)
+nothing (s.Arm depth) e p = absurd (cc)
+nothing (s.Arms depth) e p = absurd (cc)
+nothing s.Constant e p = absurd (cc)
 nothing (s.Ending depth) e p = absurd (cc)
 nothing (s.Block depth) e p = absurd (cc)
 nothing s.KindOf e p = absurd (cc)

@@ -13,7 +13,7 @@ use Rattle.sap_parse.specs.declared.token.Kind.TheVariants as k
 use Rattle.sap_parse.specs.declared.token.Kind.{Kind}
 use Rattle.sap_parse.specs.declared.token.Sign.TheVariants as j
 use Rattle.sap_parse.specs.declared.token.Token.{Token}
-use Rattle.sap_parse.specs.declared.token.Word.TheVariants as w
+use Rattle.sap_tree.specs.declared.word.Word.TheVariants as w
 use Rattle.sap_parse.proofs.ExprLaws.{front_by, nothing_ahead, same_row}
 use Rattle.sap_parse.proofs.Laws.{IsFull, push_full, name_full, word_full, sign_there, sign_missing, stops, word_then}
 use Rattle.sap_walk.specs.Rows.{push}

@@ -1,12 +1,12 @@
 -- Tokens have at most one tree: tag expressions, commands, declarations, states and designs.
 use Rattle.std.proofs.Common.{◌≡◌, ◌≢◌, ◌+◌, ℕ, List, [], ◌∷◌, Option, Some, None, Ok, Bool, true, false, refl, sym, ap, subst, ◌∙◌}
 use Rattle.sap_parse.specs.Grammar as g
-use Rattle.sap_parse.specs.Stages.{Stage, here, mention, numeral}
+use Rattle.sap_parse.specs.Stages.{Stage, here, mention, numeral, spot_here}
 use Rattle.sap_parse.specs.Table as s
 use Rattle.sap_parse.specs.declared.token.Kind.TheVariants as k
 use Rattle.sap_parse.specs.declared.token.Kind.{Kind}
 use Rattle.sap_parse.specs.declared.token.Sign.TheVariants as j
-use Rattle.sap_parse.specs.declared.token.Word.TheVariants as w
+use Rattle.sap_tree.specs.declared.word.Word.TheVariants as w
 use Rattle.sap_tree.specs.Syntax as t
 use Rattle.sap_tree.specs.declared.name.Mention.{Mention}
 use Rattle.sap_tree.specs.declared.place.Place.{Place}
@@ -16,8 +16,9 @@ use Rattle.sap_tree.specs.declared.syntax.Kind.TheVariants as kd
 use Rattle.sap_tree.specs.declared.syntax.Kind.{Kind as KindTree}
 use Rattle.sap_tree.specs.declared.syntax.Numeral.{Numeral}
 use Rattle.sap_tree.specs.declared.syntax.Under.{Under}
+use Rattle.sap_tree.specs.declared.version.Version.{Version}
 use Rattle.sap_parse.proofs.Complete.{ends_expr, expr_reads}
-use Rattle.sap_parse.proofs.CompleteDesign.{authority_reads, block_reads, cmd_reads, cmds_not_else, cmds_read, declaration_reads, declarations_read, else_reads, ends_cmds, initial_not_under, initial_reads, kind_reads, simple_reads, state_first, state_reads, states_end_cmds, states_read, texpr_reads, texprs_read}
+use Rattle.sap_parse.proofs.CompleteDesign.{arm_reads, arms_read, authority_reads, block_reads, cmd_reads, constant_reads, constants_read, declarations_not_sapper, header_reads, cmds_not_else, cmds_read, declaration_reads, declarations_read, else_reads, ends_cmds, initial_not_under, initial_reads, kind_reads, simple_reads, state_first, state_reads, states_end_cmds, states_read, texpr_reads, texprs_read}
 use Rattle.sap_parse.proofs.Known.{R, first_is, first_kind, kind_in}
 use Rattle.sap_parse.proofs.Unique.{expr_one, here_same, name_same, number_same, same_behind, same_rest, same_token}
 
@@ -163,6 +164,41 @@ not_if e h f = by_kind h (some_same (sym (simple_first h) ∙ ap first_kind e �
   by_kind (g.goto word n) e = cc
   by_kind (g.fall word) e = cc
 
+not_case : {depth : ℕ} {p p' q : Stage} {c : t.SimpleCommand} → p ≡ p' → g.Simple depth p c q → first_kind p' ≡ Some (k.Word w.Case) → ⊥
+not_case e h f = by_kind h (some_same (sym (simple_first h) ∙ ap first_kind e ∙ f)) where
+  by_kind : {depth : ℕ} {p q : Stage} {c : t.SimpleCommand} (h : g.Simple depth p c q) → simple_kind h ≡ k.Word w.Case → ⊥
+  by_kind (g.assign n b x) e = cc
+  by_kind (g.write n o i z b x) e = cc
+  by_kind (g.set_tag word o n c x z) e = cc
+  by_kind (g.set_cell_tag word o n b i z c x y) e = cc
+  by_kind (g.goto word n) e = cc
+  by_kind (g.fall word) e = cc
+
+-- constants of a `case`
+
+number_tree : {p p' : Stage} {n n' : ℕ} → p ≡ p' → k.Number n ≡ k.Number n' → t.Number (spot_here p) n ≡ t.Number (spot_here p') n'
+number_tree e f = let h = here_same e in cc
+
+sized_tree : {p p' : Stage} {u u' n n' : ℕ} → p ≡ p' → k.Sized u n ≡ k.Sized u' n' → t.Sized (spot_here p) u n ≡ t.Sized (spot_here p') u' n'
+sized_tree e f = let h = here_same e in cc
+
+constant_one : {p p' q q' : Stage} {x x' : t.Expression} → p ≡ p' → g.Constant p x q → g.Constant p' x' q' → x ≡ x'
+constant_one e (g.plain n) (g.plain n') = number_tree e (same_token e n n')
+constant_one e (g.plain n) (g.wide n') = let t = same_token e n n' in absurd (cc)
+constant_one e (g.wide n) (g.plain n') = let t = same_token e n n' in absurd (cc)
+constant_one e (g.wide n) (g.wide n') = sized_tree e (same_token e n n')
+
+and_part : {x x' : t.Expression} {xs xs' : t.Expressions} → x ≡ x' → xs ≡ xs' → t.AndPart x xs ≡ t.AndPart x' xs'
+and_part e f = cc
+
+constants_one : {p p' q q' : Stage} {xs ys : t.Expressions} → p ≡ p' → g.Constants p xs q → g.Constants p' ys q' → first_kind q ≢ Some (k.Sign j.Comma) → first_kind q' ≢ Some (k.Sign j.Comma) → xs ≡ ys
+constants_one e g.no_constant g.no_constant n n' = refl
+constants_one e g.no_constant (g.constant c x more) n n' = absurd (n (ap first_kind e ∙ first_is c))
+constants_one e (g.constant c x more) g.no_constant n n' = absurd (n' (sym (ap first_kind e) ∙ first_is c))
+constants_one e (g.constant c x more) (g.constant c' x' more') n n' =
+    let m2 = same_behind e c c' in
+    and_part (constant_one m2 x x') (constants_one (same_rest s.Constant m2 (constant_reads x) (constant_reads x')) more more' n n')
+
 simple_begins : {depth : ℕ} {p q : Stage} {c : t.SimpleCommand} → g.Simple depth p c q → ends_cmds (first_kind p) ≡ false
 simple_begins (g.assign n b x) = ap ends_cmds (first_is n)
 simple_begins (g.write n o i z b x) = ap ends_cmds (first_is n)
@@ -175,12 +211,23 @@ cmd_begins : {depth : ℕ} {p q : Stage} {c : t.Command} → g.Cmd depth p c q �
 cmd_begins (g.unhandled c z) = simple_begins c
 cmd_begins (g.handled c word h) = simple_begins c
 cmd_begins (g.branch word o x z one other) = ap ends_cmds (first_is word)
+cmd_begins (g.decided c word one other two) = simple_begins c
+cmd_begins (g.case word o x z b first arms end) = ap ends_cmds (first_is word)
 
 no_begin : {depth : ℕ} {p p' q : Stage} {c : t.Command} → p ≡ p' → ends_cmds (first_kind p) ≡ true → g.Cmd depth p' c q → ⊥
 no_begin e h c = let t : true ≡ false = sym h ∙ ap (λ z. ends_cmds (first_kind z)) e ∙ cmd_begins c in cc
 
 try_tree : {c c' : t.SimpleCommand} {p p' : Place} {b b' : t.CommandBlock} → c ≡ c' → p ≡ p' → b ≡ b' → t.Try c p b ≡ t.Try c' p' b'
 try_tree e f h = cc
+
+try_then_tree : {c c' : t.SimpleCommand} {p p' : Place} {a a' b b' : t.CommandBlock} → c ≡ c' → p ≡ p' → a ≡ a' → b ≡ b' → t.TryThen c p a b ≡ t.TryThen c' p' a' b'
+try_then_tree e f h i = cc
+
+case_tree : {p p' : Place} {x x' : t.Expression} {arms arms' : t.Arms} → p ≡ p' → x ≡ x' → arms ≡ arms' → t.Case p x arms ≡ t.Case p' x' arms'
+case_tree e f h = cc
+
+arm_tree : {cs cs' : t.Expressions} {b b' : t.CommandBlock} {arms arms' : t.Arms} → cs ≡ cs' → b ≡ b' → arms ≡ arms' → t.Arm cs b arms ≡ t.Arm cs' b' arms'
+arm_tree e f h = cc
 
 if_tree : {p p' : Place} {x x' : t.Expression} {b b' : t.CommandBlock} {o o' : t.ElseBlock} → p ≡ p' → x ≡ x' → b ≡ b' → o ≡ o' → t.If p x b o ≡ t.If p' x' b' o'
 if_tree e f h i = cc
@@ -213,6 +260,60 @@ mutual
       let m5 = same_behind (same_rest s.Expr m3 (expr_reads x ez) (expr_reads x' ez')) z z' in
       let m6 = same_rest (s.Block (depth + 1)) m5 (block_reads one) (block_reads one') in
       if_tree (here_same e) (expr_one m3 x x' ez ez') (block_one m5 one one') (else_one m6 other other' n n')
+  cmd_one {depth} e (g.unhandled c z) (g.decided c' word' a' o' b') n n' =
+      let m = same_rest (s.Simple depth) e (simple_reads c (ap ends_expr (first_is z))) (simple_reads c' (ap ends_expr (first_is word'))) in
+      let t = same_token m z word' in absurd (cc)
+  cmd_one {depth} e (g.handled c word h) (g.decided c' word' a' o' b') n n' =
+      let m = same_rest (s.Simple depth) e (simple_reads c (ap ends_expr (first_is word))) (simple_reads c' (ap ends_expr (first_is word'))) in
+      let t = same_token m word word' in absurd (cc)
+  cmd_one {depth} e (g.decided c word a o b) (g.unhandled c' z') n n' =
+      let m = same_rest (s.Simple depth) e (simple_reads c (ap ends_expr (first_is word))) (simple_reads c' (ap ends_expr (first_is z'))) in
+      let t = same_token m word z' in absurd (cc)
+  cmd_one {depth} e (g.decided c word a o b) (g.handled c' word' h') n n' =
+      let m = same_rest (s.Simple depth) e (simple_reads c (ap ends_expr (first_is word))) (simple_reads c' (ap ends_expr (first_is word'))) in
+      let t = same_token m word word' in absurd (cc)
+  cmd_one {depth} e (g.decided c word a o b) (g.decided c' word' a' o' b') n n' =
+      let m = same_rest (s.Simple depth) e (simple_reads c (ap ends_expr (first_is word))) (simple_reads c' (ap ends_expr (first_is word'))) in
+      let m1 = same_behind m word word' in
+      let m2 = same_rest (s.Block (depth + 1)) m1 (block_reads a) (block_reads a') in
+      try_then_tree (simple_one e c c' (ap ends_expr (first_is word)) (ap ends_expr (first_is word'))) (here_same m) (block_one m1 a a') (block_one (same_behind m2 o o') b b')
+  cmd_one e (g.decided c word a o b) (g.branch word' o' x' z' one' other') n n' = absurd (not_if e c (first_is word'))
+  cmd_one e (g.branch word o x z one other) (g.decided c' word' a' o' b') n n' = absurd (not_if (sym e) c' (first_is word))
+  cmd_one e (g.unhandled c z) (g.case word' o' x' z' b' first' arms' end') n n' = absurd (not_case e c (first_is word'))
+  cmd_one e (g.handled c word h) (g.case word' o' x' z' b' first' arms' end') n n' = absurd (not_case e c (first_is word'))
+  cmd_one e (g.decided c word a o b) (g.case word' o' x' z' b' first' arms' end') n n' = absurd (not_case e c (first_is word'))
+  cmd_one e (g.case word o x z b first arms end) (g.unhandled c' z') n n' = absurd (not_case (sym e) c' (first_is word))
+  cmd_one e (g.case word o x z b first arms end) (g.handled c' word' h') n n' = absurd (not_case (sym e) c' (first_is word))
+  cmd_one e (g.case word o x z b first arms end) (g.decided c' word' a' o' b') n n' = absurd (not_case (sym e) c' (first_is word))
+  cmd_one e (g.branch word o x z one other) (g.case word' o' x' z' b' first' arms' end') n n' = let t = same_token e word word' in absurd (cc)
+  cmd_one e (g.case word o x z b first arms end) (g.branch word' o' x' z' one' other') n n' = let t = same_token e word word' in absurd (cc)
+  cmd_one {depth} e (g.case word o x z b first arms end) (g.case word' o' x' z' b' first' arms' end') n n' =
+      let ez = ap ends_expr (first_is z) in let ez' = ap ends_expr (first_is z') in
+      let m3 = same_behind (same_behind e word word') o o' in
+      let m5 = same_behind (same_rest s.Expr m3 (expr_reads x ez) (expr_reads x' ez')) z z' in
+      let m6 = same_behind m5 b b' in
+      let m7 = same_rest (s.Arm (depth + 1)) m6 (arm_reads first) (arm_reads first') in
+      let one = arm_one m6 first first' in
+      case_tree (here_same e) (expr_one m3 x x' ez ez') (arm_tree one.0 one.1 (arms_one m7 arms arms'))
+
+  arm_one : {depth : ℕ} {p p' q q' : Stage} {cs cs' : t.Expressions} {h h' : t.CommandBlock} → p ≡ p' → g.Arm depth p cs h q → g.Arm depth p' cs' h' q' → (cs ≡ cs') × (h ≡ h')
+  arm_one e (g.arm x xs z h) (g.arm x' xs' z' h') =
+      let m2 = same_rest s.Constant e (constant_reads x) (constant_reads x') in
+      let m3 = same_rest s.Constants m2 (constants_read xs (λ e. let f = first_is z in absurd (cc))) (constants_read xs' (λ e. let f = first_is z' in absurd (cc))) in (
+        and_part (constant_one e x x') (constants_one m2 xs xs' (λ e. let f = first_is z in absurd (cc)) (λ e. let f = first_is z' in absurd (cc))),
+        block_one (same_behind m3 z z') h h',
+      )
+
+  arms_one : {depth : ℕ} {p p' q q' : Stage} {x x' : t.Arms} → p ≡ p' → g.Arms depth p x q → g.Arms depth p' x' q' → x ≡ x'
+  arms_one e (g.last word h) (g.last word' h') = ap t.Last (block_one (same_behind e word word') h h')
+  arms_one e (g.last word h) (g.and_arm (g.arm (g.plain m) xs' z' h') more') = let t = same_token e word m in absurd (cc)
+  arms_one e (g.last word h) (g.and_arm (g.arm (g.wide m) xs' z' h') more') = let t = same_token e word m in absurd (cc)
+  arms_one e (g.and_arm (g.arm (g.plain m) xs z h) more) (g.last word' h') = let t = same_token e m word' in absurd (cc)
+  arms_one e (g.and_arm (g.arm (g.wide m) xs z h) more) (g.last word' h') = let t = same_token e m word' in absurd (cc)
+  arms_one {depth} e (g.and_arm a more) (g.and_arm a' more') =
+      let m2 = same_rest (s.Arm depth) e (arm_reads a) (arm_reads a') in
+      let one = arm_one e a a' in
+      arm_tree one.0 one.1 (arms_one m2 more more')
 
   pub else_one : {depth : ℕ} {p p' q q' : Stage} {x x' : t.ElseBlock} → p ≡ p' → g.Else depth p x q → g.Else depth p' x' q' → first_kind q ≢ Some (k.Word w.Else) → first_kind q' ≢ Some (k.Word w.Else) → x ≡ x'
   else_one e g.no_else g.no_else n n' = refl
@@ -343,13 +444,21 @@ mutual
   states_one {depth} e (g.and_state x more) (g.and_state x' more') n n' =
       and_state (state_one e x x') (states_one (same_rest (s.State depth) e (state_reads x) (state_reads x')) more more' n n')
 
-design_tree : {xs xs' : List Decl} {y y' : t.StateTree} {ys ys' : t.StateList} → xs ≡ xs' → y ≡ y' → ys ≡ ys'
-    → ◌≡◌ {A = t.DesignTree} (record { declarations = xs; states = t.AndState y ys }) (record { declarations = xs'; states = t.AndState y' ys' })
-design_tree e f h = cc
+design_tree : {v v' : Version} {xs xs' : List Decl} {y y' : t.StateTree} {ys ys' : t.StateList} → v ≡ v' → xs ≡ xs' → y ≡ y' → ys ≡ ys'
+    → ◌≡◌ {A = t.DesignTree} (record { version = v; declarations = xs; states = t.AndState y ys }) (record { version = v'; declarations = xs'; states = t.AndState y' ys' })
+design_tree d e f h = cc
+
+header_one : {p p' q q' : Stage} {v v' : Version} → p ≡ p' → g.Header p v q → g.Header p' v' q' → first_kind q ≢ Some (k.Word w.Sapper) → first_kind q' ≢ Some (k.Word w.Sapper) → v ≡ v'
+header_one e g.no_header g.no_header n n' = refl
+header_one e g.no_header (g.header word two z) n n' = absurd (n (ap first_kind e ∙ first_is word))
+header_one e (g.header word two z) g.no_header n n' = absurd (n' (sym (ap first_kind e) ∙ first_is word))
+header_one e (g.header word two z) (g.header word' two' z') n n' = refl
 
 pub design_one : {p p' q q' : Stage} {x y : t.DesignTree} → p ≡ p' → g.Design p x q → g.Design p' y q' → q.left ≡ [] → q'.left ≡ [] → x ≡ y
-design_one e (g.design ds x more) (g.design ds' x' more') h h' =
-    let m2 = same_rest s.Declarations e (declarations_read ds (state_first x)) (declarations_read ds' (state_first x')) in
+design_one e (g.design v ds x more) (g.design v' ds' x' more') h h' =
+    let n = declarations_not_sapper ds (state_first x) in let n' = declarations_not_sapper ds' (state_first x') in
+    let m1 = same_rest s.Header e (header_reads v n) (header_reads v' n') in
+    let m2 = same_rest s.Declarations m1 (declarations_read ds (state_first x)) (declarations_read ds' (state_first x')) in
     let m3 = same_rest (s.State 1) m2 (state_reads x) (state_reads x') in
-    design_tree (declarations_one e ds ds' (state_first x) (state_first x')) (state_one m2 x x')
+    design_tree (header_one e v v' n n') (declarations_one m1 ds ds' (state_first x) (state_first x')) (state_one m2 x x')
     (states_one m3 more more' (λ e. let f : None ≡ Some (k.Word w.State) = sym (ap kind_in h) ∙ e in absurd (cc)) (λ e. let f : None ≡ Some (k.Word w.State) = sym (ap kind_in h') ∙ e in absurd (cc)))

@@ -14,8 +14,8 @@ use Rattle.sap_parse.specs.declared.token.Kind.{Kind}
 use Rattle.sap_parse.specs.declared.token.Sign.TheVariants as j
 use Rattle.sap_parse.specs.declared.token.Sign.{Sign as SignOf}
 use Rattle.sap_parse.specs.declared.token.Token.{Token}
-use Rattle.sap_parse.specs.declared.token.Word.TheVariants as w
-use Rattle.sap_parse.specs.declared.token.Word.{Word as WordOf}
+use Rattle.sap_tree.specs.declared.word.Word.TheVariants as w
+use Rattle.sap_tree.specs.declared.word.Word.{Word as WordOf}
 use Rattle.sap_tree.specs.Precedence.{unary_precedence}
 use Rattle.sap_parse.proofs.ExprLaws.{unary_full}
 use Rattle.sap_parse.proofs.KeepsDesign.{keeps}
@@ -87,6 +87,12 @@ design_full (Take role ρ) m l σ τ h e = absurd (cc)
 design_full Skip m l σ τ h e = first_full m l τ h e
 design_full Stop m l σ τ h e = first_full m l τ h e
 
+constant_full : (i : Kind) → IsFull (s.constant_next i)
+constant_full i = or_full _ _ (number_full leniently r.Plain i) (sized_full r.Plain i)
+
+arm_full : (depth : ℕ) (i : Kind) → IsFull (s.arm_next depth i)
+arm_full depth i = push_full (s.constant_next i) _ (constant_full i)
+
 skip_empty : (x : Symbol) (i : Kind) → next x i ≡ Skip → s.may_be_empty x ≡ true
 skip_empty s.Choice i e = refl
 skip_empty s.AfterName i e = refl
@@ -97,6 +103,8 @@ skip_empty s.Texprs i e = refl
 skip_empty s.CellPart i e = refl
 skip_empty (s.Else depth) i e = refl
 skip_empty (s.Cmds depth) i e = refl
+skip_empty s.Constants i e = refl
+skip_empty s.Header i e = refl
 skip_empty s.Authority i e = refl
 skip_empty s.Initial i e = refl
 skip_empty s.Declarations i e = refl
@@ -127,9 +135,14 @@ skip_empty (s.SetTag depth) i e = absurd (after_word_full (r.Command depth) w.Se
 skip_empty (s.Goto depth) i e = absurd (after_word_full (r.Command depth) w.Goto _ i e)
 skip_empty (s.Fall depth) i e = absurd (word_full leniently (r.Command depth) w.Fall i e)
 skip_empty s.Target i e = absurd (or_full _ _ (after_sign_full r.Plain j.Becomes _ i) (after_sign_full r.Plain j.OpenBracket _ i) e)
-skip_empty (s.Cmd depth) i e = absurd (or_full _ _ (push_full (s.simple_next depth i) _ (simple_full depth i)) (after_word_full (r.Command depth) w.If _ i) e)
+skip_empty (s.Cmd depth) i e = absurd (or_full _ _ (push_full (s.simple_next depth i) _ (simple_full depth i)) (or_full _ _ (after_word_full (r.Command depth) w.If _ i) (after_word_full (r.Command depth) w.Case _ i)) e)
 skip_empty (s.If depth) i e = absurd (after_word_full (r.Command depth) w.If _ i e)
-skip_empty (s.Ending depth) i e = absurd (or_full _ _ (sign_full leniently r.Plain j.Semicolon i) (after_word_full r.Plain w.Otherwise _ i) e)
+skip_empty (s.Case depth) i e = absurd (after_word_full (r.Command depth) w.Case _ i e)
+skip_empty (s.Arm depth) i e = absurd (arm_full depth i e)
+skip_empty (s.Arms depth) i e = absurd (or_full _ _ (push_full (s.arm_next depth i) _ (arm_full depth i)) (after_word_full r.Plain w.Else _ i) e)
+skip_empty s.Constant i e = absurd (constant_full i e)
+skip_empty (s.Ending depth) i e =
+    absurd (or_full _ _ (sign_full leniently r.Plain j.Semicolon i) (or_full _ _ (after_word_full r.Plain w.Otherwise _ i) (after_word_full r.Plain w.Then _ i)) e)
 skip_empty (s.Block depth) i e = absurd (after_sign_full r.Plain j.OpenBrace _ i e)
 skip_empty s.KindOf i e = absurd (or_full _ _ (word_full leniently r.Plain w.Dynamic i) (after_word_full r.Plain w.Enforced _ i) e)
 skip_empty s.Enforced i e = absurd (after_word_full r.Plain w.Enforced _ i e)
@@ -138,7 +151,8 @@ skip_empty s.Input i e = absurd (after_word_full r.Input w.Input _ i e)
 skip_empty s.Register i e = absurd (after_word_full r.Register w.Reg _ i e)
 skip_empty s.Memory i e = absurd (after_word_full r.Memory w.Mem _ i e)
 skip_empty (s.State depth) i e = absurd (after_word_full (r.State depth) w.State _ i e)
-skip_empty s.Design i e = absurd (design_full (push (s.declaration_next i) (s.Declarations ∷ [])) (s.state_next 1 i) _ _ _ (after_word_full (r.State 1) w.State _ i) e)
+skip_empty s.Design i e =
+    absurd (then_full (s.header_next i) _ _ (design_full (push (s.declaration_next i) (s.Declarations ∷ [])) (s.state_next 1 i) _ _ _ (after_word_full (r.State 1) w.State _ i)) e)
 
 -- the shortest way to spell a symbol
 
@@ -235,6 +249,16 @@ short_ending depth = by_token (s.Ending depth) (k.Sign j.Semicolon) r.Plain [] r
 short_block : (depth : ℕ) → Shortest (s.Block depth)
 short_block depth = by_token (s.Block depth) (k.Sign j.OpenBrace) r.Plain (s.Cmds depth ∷ s.Sign r.Plain j.CloseBrace ∷ []) refl (empty (s.Cmds depth) refl, (short_sign r.Plain j.CloseBrace, tt))
 
+short_constant : Shortest s.Constant
+short_constant = by_token s.Constant (k.Number 0) r.Plain [] refl tt
+
+short_arm : (depth : ℕ) → Shortest (s.Arm depth)
+short_arm depth =
+    by_token (s.Arm depth) (k.Number 0) r.Plain (s.Constants ∷ s.Sign r.Plain j.Colon ∷ s.Block depth ∷ []) refl (empty s.Constants refl, (short_sign r.Plain j.Colon, (short_block depth, tt)))
+
+short_arms : (depth : ℕ) → Shortest (s.Arms depth)
+short_arms depth = by_token (s.Arms depth) (k.Word w.Else) r.Plain (s.Block depth ∷ []) refl (short_block depth, tt)
+
 short_kind : Shortest s.KindOf
 short_kind = by_token s.KindOf (k.Word w.Dynamic) r.Plain [] refl tt
 
@@ -294,6 +318,15 @@ shortest (s.Cmd depth) = by_token (s.Cmd depth) (k.Word w.Fall) (r.Command depth
 shortest (s.If depth) =
     by_token (s.If depth) (k.Word w.If) (r.Command depth) (s.Sign r.Plain j.OpenParen ∷ s.Expr ∷ s.Sign r.Plain j.CloseParen ∷ s.Block (depth + 1) ∷ s.Else (depth + 1) ∷ []) refl
     (short_sign r.Plain j.OpenParen, (short_expr, (short_sign r.Plain j.CloseParen, (short_block (depth + 1), (empty (s.Else (depth + 1)) refl, tt)))))
+shortest (s.Case depth) =
+    by_token (s.Case depth) (k.Word w.Case) (r.Command depth)
+    (s.Sign r.Plain j.OpenParen ∷ s.Expr ∷ s.Sign r.Plain j.CloseParen ∷ s.Sign r.Plain j.OpenBrace ∷ s.Arm (depth + 1) ∷ s.Arms (depth + 1) ∷ s.Sign r.Plain j.CloseBrace ∷ []) refl
+    (short_sign r.Plain j.OpenParen, (short_expr, (short_sign r.Plain j.CloseParen, (short_sign r.Plain j.OpenBrace, (short_arm (depth + 1), (short_arms (depth + 1), (short_sign r.Plain j.CloseBrace, tt)))))))
+shortest (s.Arm depth) = short_arm depth
+shortest (s.Arms depth) = short_arms depth
+shortest s.Constant = short_constant
+shortest s.Constants = empty s.Constants refl
+shortest s.Header = empty s.Header refl
 shortest (s.Ending depth) = short_ending depth
 shortest (s.Else depth) = empty (s.Else depth) refl
 shortest (s.Block depth) = short_block depth

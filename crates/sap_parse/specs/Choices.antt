@@ -1,5 +1,5 @@
 -- What the reader chooses by the next token.
-use Rattle.std.specs.Prelude.{ℕ, ◌==◌, if◌then◌else◌, Option, Some, None}
+use Rattle.std.specs.Prelude.{ℕ, ◌==◌, if◌then◌else◌, Bool, true, false, Option, Some, None}
 use Rattle.sap_parse.specs.Table.{operator_of}
 use Rattle.sap_parse.specs.declared.choice.CommandHead.TheVariants as c
 use Rattle.sap_parse.specs.declared.choice.CommandHead.{CommandHead}
@@ -13,8 +13,8 @@ use Rattle.sap_parse.specs.declared.cursor.Ahead.TheVariants as a
 use Rattle.sap_parse.specs.declared.cursor.Ahead.{Ahead}
 use Rattle.sap_parse.specs.declared.token.Sign.TheVariants as s
 use Rattle.sap_parse.specs.declared.token.Sign.{Sign}
-use Rattle.sap_parse.specs.declared.token.Word.TheVariants as w
-use Rattle.sap_parse.specs.declared.token.Word.{Word}
+use Rattle.sap_tree.specs.declared.word.Word.TheVariants as w
+use Rattle.sap_tree.specs.declared.word.Word.{Word}
 use Rattle.sap_tree.specs.Precedence.{precedence}
 use Rattle.sap_tree.specs.declared.syntax.BinaryOperator.{BinaryOperator}
 use Rattle.sap_tree.specs.declared.syntax.UnaryOperator.TheVariants as u
@@ -38,6 +38,12 @@ primary_of (a.Sign sign) = sign_primary sign
 primary_of (a.Word word) = word_primary word
 primary_of a.Name = p.Neither
 primary_of a.Nothing = p.Neither
+
+-- what is a constant of a `case`
+abbrev pub is_constant : Primary → Bool
+is_constant p.Number = true
+is_constant p.Sized = true
+is_constant primary = false
 
 -- operators
 
@@ -92,6 +98,7 @@ word_command w.SetTag = c.SetTag
 word_command w.Goto = c.Goto
 word_command w.Fall = c.Fall
 word_command w.If = c.If
+word_command w.Case = c.Case
 word_command word = c.Neither
 
 unfoldable pub command_head : Ahead → CommandHead

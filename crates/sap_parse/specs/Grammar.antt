@@ -5,7 +5,7 @@ use Rattle.sap_parse.specs.Stages.{Stage, IsSign, IsWord, IsName, IsNumber, IsSi
 use Rattle.sap_parse.specs.declared.limit.Role.TheVariants as r
 use Rattle.sap_parse.specs.declared.token.Sign.TheVariants as s
 use Rattle.sap_parse.specs.declared.token.Sign.{Sign}
-use Rattle.sap_parse.specs.declared.token.Word.TheVariants as w
+use Rattle.sap_tree.specs.declared.word.Word.TheVariants as w
 use Rattle.sap_tree.specs.Precedence.{precedence, unary_precedence}
 use Rattle.sap_tree.specs.Spots.{first_of, enclosed}
 use Rattle.sap_tree.specs.Syntax as t
@@ -19,6 +19,8 @@ use Rattle.sap_tree.specs.declared.syntax.Numeral.{Numeral}
 use Rattle.sap_tree.specs.declared.syntax.UnaryOperator.TheVariants as u
 use Rattle.sap_tree.specs.declared.syntax.UnaryOperator.{UnaryOperator}
 use Rattle.sap_tree.specs.declared.syntax.Under.{Under}
+use Rattle.sap_tree.specs.declared.version.Version.TheVariants as v
+use Rattle.sap_tree.specs.declared.version.Version.{Version}
 
 -- operators
 
@@ -158,8 +160,21 @@ pub data Simple : ℕ → Stage → t.SimpleCommand → Stage → Type 0 where
       → Simple depth p1 (t.Goto (here p1) (mention p2 name)) q
   fall : {depth : ℕ} {p q : Stage} → IsWord p (r.Command depth) w.Fall q → Simple depth p (t.Fall (here p)) q
 
+-- const := NUM | SIZED
+pub data Constant : Stage → t.Expression → Stage → Type 0 where
+  plain : {p q : Stage} {n : ℕ} → IsNumber p r.Plain n q → Constant p (t.Number (spot_here p) n) q
+  wide : {p q : Stage} {width n : ℕ} → IsSized p r.Plain width n q → Constant p (t.Sized (spot_here p) width n) q
+
+-- ( "," const )*
+pub data Constants : Stage → t.Expressions → Stage → Type 0 where
+  no_constant : {p : Stage} → Constants p t.NoPart p
+  constant : {p1 p2 p3 q : Stage} {x : t.Expression} {xs : t.Expressions} → IsSign p1 r.Plain s.Comma p2 → Constant p2 x p3 → Constants p3 xs q
+      → Constants p1 (t.AndPart x xs) q
+
+-- The words `then` and `case` are tokens in a text of the second version alone, so the productions with them are of that version alone.
 mutual
-  -- cmd := simple ( ";" | "otherwise" block ) | "if" "(" expr ")" block [ "else" block ]
+  -- cmd := simple ( ";" | "otherwise" block | "then" block "otherwise" block ) | "if" "(" expr ")" block [ "else" block ]
+  --     | "case" "(" expr ")" "{" arm+ "else" block "}"
   pub data Cmd : ℕ → Stage → t.Command → Stage → Type 0 where
     unhandled : {depth : ℕ} {p1 p2 q : Stage} {c : t.SimpleCommand} → Simple depth p1 c p2 → IsSign p2 r.Plain s.Semicolon q → Cmd depth p1 (t.Do c) q
     handled : {depth : ℕ} {p1 p2 p3 q : Stage} {c : t.SimpleCommand} {handler : t.CommandBlock}
@@ -169,6 +184,25 @@ mutual
         → IsWord p1 (r.Command depth) w.If p2 → IsSign p2 r.Plain s.OpenParen p3 → Expr p3 x p4 → IsSign p4 r.Plain s.CloseParen p5
         → Block (depth + 1) p5 yes p6 → Else (depth + 1) p6 no q
         → Cmd depth p1 (t.If (here p1) x yes no) q
+    decided : {depth : ℕ} {p1 p2 p3 p4 p5 q : Stage} {c : t.SimpleCommand} {accepted refused : t.CommandBlock}
+        → Simple depth p1 c p2 → IsWord p2 r.Plain w.Then p3 → Block (depth + 1) p3 accepted p4 → IsWord p4 r.Plain w.Otherwise p5 → Block (depth + 1) p5 refused q
+        → Cmd depth p1 (t.TryThen c (here p2) accepted refused) q
+    case : {depth : ℕ} {p1 p2 p3 p4 p5 p6 p7 p8 q : Stage} {x : t.Expression} {constants : t.Expressions} {block : t.CommandBlock} {arms : t.Arms}
+        → IsWord p1 (r.Command depth) w.Case p2 → IsSign p2 r.Plain s.OpenParen p3 → Expr p3 x p4 → IsSign p4 r.Plain s.CloseParen p5
+        → IsSign p5 r.Plain s.OpenBrace p6 → Arm (depth + 1) p6 constants block p7 → Arms (depth + 1) p7 arms p8 → IsSign p8 r.Plain s.CloseBrace q
+        → Cmd depth p1 (t.Case (here p1) x (t.Arm constants block arms)) q
+
+  -- arm := const ( "," const )* ":" block
+  pub data Arm : ℕ → Stage → t.Expressions → t.CommandBlock → Stage → Type 0 where
+    arm : {depth : ℕ} {p1 p2 p3 p4 q : Stage} {x : t.Expression} {xs : t.Expressions} {block : t.CommandBlock}
+        → Constant p1 x p2 → Constants p2 xs p3 → IsSign p3 r.Plain s.Colon p4 → Block depth p4 block q
+        → Arm depth p1 (t.AndPart x xs) block q
+
+  -- arm* "else" block
+  pub data Arms : ℕ → Stage → t.Arms → Stage → Type 0 where
+    last : {depth : ℕ} {p1 p2 q : Stage} {block : t.CommandBlock} → IsWord p1 r.Plain w.Else p2 → Block depth p2 block q → Arms depth p1 (t.Last block) q
+    and_arm : {depth : ℕ} {p1 p2 q : Stage} {constants : t.Expressions} {block : t.CommandBlock} {arms : t.Arms}
+        → Arm depth p1 constants block p2 → Arms depth p2 arms q → Arms depth p1 (t.Arm constants block arms) q
 
   -- [ "else" block ]
   pub data Else : ℕ → Stage → t.ElseBlock → Stage → Type 0 where
@@ -242,8 +276,13 @@ mutual
     and_state : {depth : ℕ} {p1 p2 q : Stage} {x : t.StateTree} {xs : t.StateList} → State depth p1 x p2 → States depth p2 xs q
         → States depth p1 (t.AndState x xs) q
 
--- design := decl* state+
+-- [ "sapper" "2" ";" ]
+pub data Header : Stage → Version → Stage → Type 0 where
+  no_header : {p : Stage} → Header p v.One p
+  header : {p1 p2 p3 q : Stage} → IsWord p1 r.Plain w.Sapper p2 → IsWord p2 r.Plain w.Two p3 → IsSign p3 r.Plain s.Semicolon q → Header p1 v.Two q
+
+-- design := [ "sapper" "2" ";" ] decl* state+
 pub data Design : Stage → t.DesignTree → Stage → Type 0 where
-  design : {p1 p2 p3 q : Stage} {declarations : List Decl} {x : t.StateTree} {xs : t.StateList}
-      → Declarations p1 declarations p2 → State 1 p2 x p3 → States 1 p3 xs q
-      → Design p1 (record { declarations = declarations; states = t.AndState x xs }) q
+  design : {p1 p2 p3 p4 q : Stage} {version : Version} {declarations : List Decl} {x : t.StateTree} {xs : t.StateList}
+      → Header p1 version p2 → Declarations p2 declarations p3 → State 1 p3 x p4 → States 1 p4 xs q
+      → Design p1 (record { version = version; declarations = declarations; states = t.AndState x xs }) q

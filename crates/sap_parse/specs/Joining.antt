@@ -5,9 +5,10 @@ use Rattle.sap_parse.specs.Stages.{Stage, IsNumber, IsSign}
 use Rattle.sap_parse.specs.declared.limit.Role.TheVariants as r
 use Rattle.sap_parse.specs.declared.token.Sign.TheVariants as s
 use Rattle.sap_tree.specs.Syntax as t
-use Rattle.sap_tree.specs.Trees.{expressions_of, states_of, tags_of}
+use Rattle.sap_tree.specs.Trees.{arms_before, arms_of, expressions_of, states_of, tags_of}
 use Rattle.sap_tree.specs.declared.place.Place.{Place}
 use Rattle.sap_tree.specs.declared.place.Spot.{Spot}
+use Rattle.sap_tree.specs.declared.syntax.Arm.{Arm}
 use Rattle.sap_tree.specs.declared.syntax.Expr.{Expr}
 use Rattle.sap_tree.specs.declared.syntax.State.{State}
 use Rattle.sap_tree.specs.declared.syntax.TagExpr.{TagExpr}
@@ -42,6 +43,14 @@ CollectsTags old before after new = (xs : t.TagExpressions) × (tags_of after �
 abbrev pub join_commands : t.CommandList → t.CommandList → t.CommandList
 join_commands t.NoCommand ys = ys
 join_commands (t.AndCommand x xs) ys = t.AndCommand x (join_commands xs ys)
+
+-- the tokens between are the constants that were added, each behind a comma
+abbrev pub CollectsConstants : Stage → List Expr → List Expr → Stage → Type 0
+CollectsConstants old before after new = (xs : t.Expressions) × (expressions_of after ≡ join (expressions_of before) xs) × g.Constants old xs new
+
+-- the tokens between are the arms that were added, and the block after `else`
+abbrev pub CollectsArms : (depth : ℕ) → Stage → List Arm → List Arm → (last : t.CommandBlock) → Stage → Type 0
+CollectsArms depth old before after last new = (xs : t.Arms) × (arms_of after last ≡ arms_before before xs) × g.Arms depth old xs new
 
 abbrev pub join_states : t.StateList → t.StateList → t.StateList
 join_states t.NoState ys = ys

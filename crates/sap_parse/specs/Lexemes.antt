@@ -11,7 +11,7 @@ use Rattle.sap_parse.specs.declared.lexeme.Lexeme.TheVariants.{Blank, Token, Bad
 use Rattle.sap_parse.specs.declared.lexeme.Lexeme.{Lexeme}
 use Rattle.sap_parse.specs.declared.token.Kind.TheVariants as k
 use Rattle.sap_parse.specs.declared.token.Sign.{Sign}
-use Rattle.sap_parse.specs.declared.token.Word.{Word}
+use Rattle.sap_tree.specs.declared.word.Word.{Word}
 
 -- classes of bytes: those within a name, digits of either base, and all but the end of a line
 abbrev pub is_in : Class → ℕ → Bool

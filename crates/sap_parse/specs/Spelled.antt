@@ -1,9 +1,12 @@
 -- What the text of a token is, and where the tokens of a text lie.
-use Rattle.std.specs.Prelude.{◌≡◌, ℕ, ◌-◌, ◌^◌, ◌<◌, ◌≤◌, List, [], ◌∷◌, ◌++◌, length, take, drop, true, false, codes}
+use Rattle.std.specs.Prelude.{◌≡◌, ℕ, ◌-◌, ◌^◌, ◌<◌, ◌≤◌, List, [], ◌∷◌, ◌++◌, length, take, drop, Bool, true, false, not, ◌||◌, codes}
 use Rattle.std.specs.List.{list_all}
-use Rattle.sap_tree.specs.Words.{is_word, is_keyword}
+use Rattle.sap_tree.specs.Words.{is_word, is_keyword, is_second, word_text}
+use Rattle.sap_tree.specs.declared.version.Version.{Version}
+use Rattle.sap_tree.specs.declared.word.Word.TheVariants as w
+use Rattle.sap_tree.specs.declared.word.Word.{Word}
 use Rattle.sap_parse.specs.Lexemes.{is_in, value_of}
-use Rattle.sap_parse.specs.Spelling.{word_text, sign_text}
+use Rattle.sap_parse.specs.Spelling.{sign_text}
 use Rattle.sap_parse.specs.declared.lexeme.Class.TheVariants as c
 use Rattle.sap_parse.specs.declared.lexeme.Class.{Class}
 use Rattle.sap_parse.specs.declared.token.Kind.TheVariants as k
@@ -23,19 +26,31 @@ pub data SpellsSized (width n : ℕ) (text : List ℕ) : Type 0 where
   hexadecimal : (front digits : List ℕ) → text ≡ front ++ (codes "'h" ++ digits) → SpellsNumber c.Decimal 10 width front → SpellsNumber c.Hexadecimal 16 n digits
       → SpellsSized width n text
 
-abbrev pub Spells : Kind → List ℕ → Type 0
-Spells (k.Word word) text = text ≡ word_text word
-Spells (k.Sign sign) text = text ≡ sign_text sign
-Spells (k.Name name) text = (text ≡ name) × (is_word name ≡ true) × (is_keyword name ≡ false)
-Spells (k.Number n) text = SpellsNumber c.Decimal 10 n text
-Spells (k.Sized width n) text = SpellsSized width n text
+-- words of the second version alone
+abbrev pub is_later : Word → Bool
+is_later w.Then = true
+is_later w.Case = true
+is_later w.Sapper = true
+is_later w.Two = true
+is_later word = false
+
+abbrev pub is_of : Version → Word → Bool
+is_of version word = is_second version || not (is_later word)
+
+-- in a text of this version
+abbrev pub Spells : Version → Kind → List ℕ → Type 0
+Spells version (k.Word word) text = (text ≡ word_text word) × (is_of version word ≡ true)
+Spells version (k.Sign sign) text = text ≡ sign_text sign
+Spells version (k.Name name) text = (text ≡ name) × (is_word name ≡ true) × (is_keyword version name ≡ false)
+Spells version (k.Number n) text = SpellsNumber c.Decimal 10 n text
+Spells version (k.Sized width n) text = SpellsSized width n text
 
 -- the slice of the source at a token's span
 abbrev pub text_of : List ℕ → Token → List ℕ
 text_of source token = take (token.to - token.from) (drop token.from source)
 
-abbrev pub HasText : List ℕ → Token → Type 0
-HasText source token = Spells token.kind (text_of source token)
+abbrev pub HasText : Version → List ℕ → Token → Type 0
+HasText version source token = Spells version token.kind (text_of source token)
 
 -- each span begins where the last one ends, or behind it, and has a byte; they lie between these two bytes
 abbrev pub AreInOrder : ℕ → ℕ → List Token → Type 0

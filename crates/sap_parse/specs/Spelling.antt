@@ -1,33 +1,11 @@
--- How words and signs are spelled.
+-- How signs are spelled, and what is spelled so.
 use Rattle.std.specs.Prelude.{ℕ, List, [], ◌∷◌, codes, Option}
 use Rattle.std.specs.List.{find}
 use Rattle.std.specs.Str.{bytes_eq}
 use Rattle.sap_parse.specs.declared.token.Sign.TheVariants as s
 use Rattle.sap_parse.specs.declared.token.Sign.{Sign}
-use Rattle.sap_parse.specs.declared.token.Word.TheVariants as w
-use Rattle.sap_parse.specs.declared.token.Word.{Word}
-
-abbrev pub word_text : Word → List ℕ
-word_text w.Input = codes "input"
-word_text w.Reg = codes "reg"
-word_text w.Mem = codes "mem"
-word_text w.State = codes "state"
-word_text w.Dynamic = codes "dynamic"
-word_text w.Enforced = codes "enforced"
-word_text w.Under = codes "under"
-word_text w.If = codes "if"
-word_text w.Else = codes "else"
-word_text w.Goto = codes "goto"
-word_text w.Fall = codes "fall"
-word_text w.SetTag = codes "setTag"
-word_text w.Otherwise = codes "otherwise"
-word_text w.Tag = codes "tag"
-word_text w.Level = codes "level"
-word_text w.Join = codes "join"
-word_text w.Zext = codes "zext"
-
-abbrev pub words : List Word
-words = w.Input ∷ w.Reg ∷ w.Mem ∷ w.State ∷ w.Dynamic ∷ w.Enforced ∷ w.Under ∷ w.If ∷ w.Else ∷ w.Goto ∷ w.Fall ∷ w.SetTag ∷ w.Otherwise ∷ w.Tag ∷ w.Level ∷ w.Join ∷ w.Zext ∷ []
+use Rattle.sap_tree.specs.Words.{word_text, first_words, later_words}
+use Rattle.sap_tree.specs.declared.word.Word.{Word}
 
 abbrev pub sign_text : Sign → List ℕ
 sign_text s.Becomes = codes ":="
@@ -61,7 +39,11 @@ signs = s.Becomes ∷ s.Equal ∷ s.NotEqual ∷ s.LessOrEqual ∷ s.ShiftLeft �
 
 -- the word, or the sign, that is spelled so
 abbrev pub word_of : List ℕ → Option Word
-word_of text = find (λ word. bytes_eq text (word_text word)) words
+word_of text = find (λ word. bytes_eq text (word_text word)) first_words
+
+-- the word that is one from the second version on
+abbrev pub later_word_of : List ℕ → Option Word
+later_word_of text = find (λ word. bytes_eq text (word_text word)) later_words
 
 abbrev pub sign_of : List ℕ → Option Sign
 sign_of text = find (λ sign. bytes_eq text (sign_text sign)) signs

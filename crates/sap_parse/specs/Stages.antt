@@ -7,7 +7,7 @@ use Rattle.sap_parse.specs.declared.token.Kind.TheVariants as k
 use Rattle.sap_parse.specs.declared.token.Kind.{Kind}
 use Rattle.sap_parse.specs.declared.token.Sign.{Sign}
 use Rattle.sap_parse.specs.declared.token.Token.{Token}
-use Rattle.sap_parse.specs.declared.token.Word.{Word}
+use Rattle.sap_tree.specs.declared.word.Word.{Word}
 use Rattle.sap_tree.specs.declared.name.Mention.{Mention}
 use Rattle.sap_tree.specs.declared.place.Place.{Place}
 use Rattle.sap_tree.specs.declared.place.Spot.{Spot}

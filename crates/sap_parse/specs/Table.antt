@@ -9,8 +9,8 @@ use Rattle.sap_parse.specs.declared.token.Kind.{Kind}
 use Rattle.sap_parse.specs.declared.token.Sign.TheVariants as s
 use Rattle.sap_parse.specs.declared.token.Sign.{Sign as SignOf}
 use Rattle.sap_parse.specs.declared.token.Token.{Token}
-use Rattle.sap_parse.specs.declared.token.Word.TheVariants as w
-use Rattle.sap_parse.specs.declared.token.Word.{Word as WordOf}
+use Rattle.sap_tree.specs.declared.word.Word.TheVariants as w
+use Rattle.sap_tree.specs.declared.word.Word.{Word as WordOf}
 use Rattle.sap_tree.specs.Precedence.{precedence, unary_precedence}
 use Rattle.sap_tree.specs.declared.syntax.BinaryOperator.TheVariants as b
 use Rattle.sap_tree.specs.declared.syntax.BinaryOperator.{BinaryOperator}
@@ -32,10 +32,11 @@ pub data Symbol : Type 0 where
   Texpr TagOf LevelAt Join Texprs : Symbol
   Simple SetTag Goto Fall : ℕ → Symbol
   Target CellPart : Symbol
-  Cmd If Ending Else Block Cmds : ℕ → Symbol
+  Cmd If Case Ending Else Block Cmds Arm Arms : ℕ → Symbol
+  Constant Constants : Symbol
   Authority KindOf Enforced Initial Declaration Input Register Memory Declarations : Symbol
   State States : ℕ → Symbol
-  LastStates Design : Symbol
+  LastStates Header Design : Symbol
 
 abbrev pub Row : Type 0
 Row = Next Symbol Role
@@ -87,6 +88,10 @@ word_number w.Tag = 13
 word_number w.Level = 14
 word_number w.Join = 15
 word_number w.Zext = 16
+word_number w.Then = 17
+word_number w.Case = 18
+word_number w.Sapper = 19
+word_number w.Two = 20
 
 abbrev pub if_same : Role → Bool → Row
 if_same role true = Take role []
@@ -267,11 +272,31 @@ abbrev pub if_next : ℕ → Kind → Row
 if_next depth =
     after_word (r.Command depth) w.If (Sign r.Plain s.OpenParen ∷ Expr ∷ Sign r.Plain s.CloseParen ∷ Block (depth + 1) ∷ Else (depth + 1) ∷ [])
 
+abbrev pub constant_next : Kind → Row
+constant_next i = number_next r.Plain i or sized_next r.Plain i
+
+abbrev pub constants_next : Kind → Row
+constants_next i = optional (after_sign r.Plain s.Comma (Constant ∷ Constants ∷ []) i)
+
+abbrev pub arm_next : ℕ → Kind → Row
+arm_next depth i = push (constant_next i) (Constants ∷ Sign r.Plain s.Colon ∷ Block depth ∷ [])
+
+abbrev pub arms_next : ℕ → Kind → Row
+arms_next depth i = push (arm_next depth i) (Arms depth ∷ []) or after_word r.Plain w.Else (Block depth ∷ []) i
+
+abbrev pub case_next : ℕ → Kind → Row
+case_next depth =
+    after_word (r.Command depth) w.Case
+    (Sign r.Plain s.OpenParen ∷ Expr ∷ Sign r.Plain s.CloseParen ∷ Sign r.Plain s.OpenBrace ∷ Arm (depth + 1) ∷ Arms (depth + 1) ∷ Sign r.Plain s.CloseBrace ∷ [])
+
 abbrev pub cmd_next : ℕ → Kind → Row
-cmd_next depth i = push (simple_next depth i) (Ending depth ∷ []) or if_next depth i
+cmd_next depth i = push (simple_next depth i) (Ending depth ∷ []) or if_next depth i or case_next depth i
 
 abbrev pub ending_next : ℕ → Kind → Row
-ending_next depth i = sign_next r.Plain s.Semicolon i or after_word r.Plain w.Otherwise (Block (depth + 1) ∷ []) i
+ending_next depth i =
+    sign_next r.Plain s.Semicolon i
+    or after_word r.Plain w.Otherwise (Block (depth + 1) ∷ []) i
+    or after_word r.Plain w.Then (Block (depth + 1) ∷ Word r.Plain w.Otherwise ∷ Block (depth + 1) ∷ []) i
 
 abbrev pub else_next : ℕ → Kind → Row
 else_next depth i = optional (after_word r.Plain w.Else (Block depth ∷ []) i)
@@ -328,15 +353,19 @@ states_next depth i = optional (push (state_next depth i) (States depth ∷ []))
 abbrev pub last_states_next : Kind → Row
 last_states_next i = push (state_next 1 i) (LastStates ∷ [])
 
+abbrev pub header_next : Kind → Row
+header_next i = optional (after_word r.Plain w.Sapper (Word r.Plain w.Two ∷ Sign r.Plain s.Semicolon ∷ []) i)
+
 -- the symbols of which a design is made
 abbrev pub part_next : Kind → Symbol → Row
+part_next i Header = header_next i
 part_next i Declarations = declarations_next i
 part_next i (State depth) = state_next depth i
 part_next i LastStates = last_states_next i
 part_next i symbol = Stop
 
 abbrev pub design_symbols : List Symbol
-design_symbols = Declarations ∷ State 1 ∷ LastStates ∷ []
+design_symbols = Header ∷ Declarations ∷ State 1 ∷ LastStates ∷ []
 
 abbrev pub next : Symbol → Kind → Row
 next (Sign role j) i = sign_next role j i
@@ -373,10 +402,15 @@ next Target i = target_next i
 next CellPart i = cell_part_next i
 next (Cmd depth) i = cmd_next depth i
 next (If depth) i = if_next depth i
+next (Case depth) i = case_next depth i
 next (Ending depth) i = ending_next depth i
 next (Else depth) i = else_next depth i
 next (Block depth) i = block_next depth i
 next (Cmds depth) i = cmds_next depth i
+next (Arm depth) i = arm_next depth i
+next (Arms depth) i = arms_next depth i
+next Constant i = constant_next i
+next Constants i = constants_next i
 next Authority i = authority_next i
 next KindOf i = kind_next i
 next Enforced i = enforced_next i
@@ -389,6 +423,7 @@ next Declarations i = declarations_next i
 next (State depth) i = state_next depth i
 next (States depth) i = states_next depth i
 next LastStates i = last_states_next i
+next Header i = header_next i
 next Design i = firsts (part_next i) design_symbols
 
 abbrev pub may_be_empty : Symbol → Bool
@@ -401,11 +436,13 @@ may_be_empty Texprs = true
 may_be_empty CellPart = true
 may_be_empty (Else depth) = true
 may_be_empty (Cmds depth) = true
+may_be_empty Constants = true
 may_be_empty Authority = true
 may_be_empty Initial = true
 may_be_empty Declarations = true
 may_be_empty (States depth) = true
 may_be_empty LastStates = true
+may_be_empty Header = true
 may_be_empty symbol = false
 
 abbrev pub grammar : Limited

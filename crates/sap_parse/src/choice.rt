@@ -7,8 +7,9 @@ ghost use Rattle.sap_parse.specs.Table.{operator_of};
 ghost use Rattle.sap_tree.specs.Precedence.{precedence};
 
 use crate::cursor::Ahead;
-use crate::token::{Sign, Word};
+use crate::token::Sign;
 use sap_tree::syntax::{BinaryOperator, UnaryOperator};
+use sap_tree::word::Word;
 
 /// What a token begins as an operand.
 #[derive(Clone, Copy, PartialEq, Eq, Debug)]
@@ -39,6 +40,7 @@ pub enum CommandHead {
     Goto,
     Fall,
     If,
+    Case,
     Neither,
 }
 
@@ -223,6 +225,7 @@ fn word_command(word: Word) -> CommandHead
         Word::Goto => CommandHead::Goto,
         Word::Fall => CommandHead::Fall,
         Word::If => CommandHead::If,
+        Word::Case => CommandHead::Case,
         _ => CommandHead::Neither,
     }
 }

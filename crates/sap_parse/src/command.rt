@@ -1,19 +1,21 @@
 //! The reader of commands.
 
 ghost use Rattle.std.specs.Prelude.{◌≡◌, ◌≢◌, ◌≤◌, ◌<◌, ◌+◌, ◌^◌, IfOk, false, length, true};
-ghost use Rattle.sap_parse.specs.Choices.{command_head};
+ghost use Rattle.sap_parse.specs.Choices.{command_head, is_constant, primary_of};
 ghost use Rattle.sap_parse.specs.Grammar as g;
+ghost use Rattle.sap_parse.specs.Joining.{CollectsArms, CollectsConstants};
 ghost use Rattle.sap_parse.specs.Reading.{Goes, ahead};
 ghost use Rattle.sap_parse.specs.Table as s;
-ghost use Rattle.sap_tree.specs.Trees.{block_of, command_of, commands_of, else_of, simple_of};
+ghost use Rattle.sap_tree.specs.Trees.{arm_block_of, block_of, command_of, commands_of, constants_of, else_of, expression_of, expressions_of, simple_of};
 
-use crate::choice::{CommandHead, command_head};
+use crate::choice::{CommandHead, Primary, command_head, primary_of};
 use crate::cursor::{Cursor, Fault};
-use crate::expr::expr;
+use crate::expr::{expr, spot};
 use crate::limit::Role;
 use crate::tag::tag_expr;
-use crate::token::{Sign, Word};
-use sap_tree::syntax::{Block, Cmd, Simple};
+use crate::token::Sign;
+use sap_tree::syntax::{Arm, Block, Cmd, Expr, Simple};
+use sap_tree::word::Word;
 use std::alloc::Global;
 
 /// An assignment or a write.
@@ -100,8 +102,76 @@ fn simple(alloc: Global, tokens: &mut Cursor<'_>, depth: u64) -> Result<Simple, 
         CommandHead::Goto => goto(alloc, tokens, depth),
         CommandHead::Fall => fall(tokens, depth),
         CommandHead::If => Err(Fault::Token),
+        CommandHead::Case => Err(Fault::Token),
         CommandHead::Neither => Err(Fault::Token),
     }
+}
+
+/// Whether a constant comes next.
+fn at_constant(tokens: &Cursor<'_>) -> bool
+    ensures { result ≡ is_constant (primary_of (ahead tokens.now.left)) }
+{
+    match primary_of(tokens.peek()) {
+        Primary::Number => true,
+        Primary::Sized => true,
+        Primary::Paren => false,
+        Primary::Braces => false,
+        Primary::Zext => false,
+        Primary::Neither => false,
+    }
+}
+
+#[tactic(auto, using(crate::proofs::Walks::binding))]
+fn plain_constant(tokens: &mut Cursor<'_>) -> Result<Expr, Fault>
+    ensures goes { Goes (s.Number Role.Plain) tokens.old result tokens.new }
+    ensures tree { IfOk result (λ x. g.Constant tokens.old (expression_of x) tokens.new) }
+    ensures shorter { IfOk result (λ _. length tokens.new.left < length tokens.old.left) }
+{
+    let n = tokens.number(Role::Plain)?;
+    Ok(Expr::number(spot(n.place), n.value))
+}
+
+#[tactic(auto, using(crate::proofs::Walks::binding))]
+fn wide_constant(tokens: &mut Cursor<'_>) -> Result<Expr, Fault>
+    ensures goes { Goes (s.Sized Role.Plain) tokens.old result tokens.new }
+    ensures tree { IfOk result (λ x. g.Constant tokens.old (expression_of x) tokens.new) }
+    ensures shorter { IfOk result (λ _. length tokens.new.left < length tokens.old.left) }
+{
+    let place = tokens.here();
+    let (width, value) = tokens.sized(Role::Plain)?;
+    Ok(Expr::sized(spot(place), width, value))
+}
+
+/// A number with or without a width.
+#[tactic(auto, using(crate::proofs::Walks::constants))]
+fn constant(tokens: &mut Cursor<'_>) -> Result<Expr, Fault>
+    ensures goes { Goes s.Constant tokens.old result tokens.new }
+    ensures tree { IfOk result (λ x. g.Constant tokens.old (expression_of x) tokens.new) }
+    ensures shorter { IfOk result (λ _. length tokens.new.left < length tokens.old.left) }
+{
+    match primary_of(tokens.peek()) {
+        Primary::Number => plain_constant(tokens),
+        Primary::Sized => wide_constant(tokens),
+        Primary::Paren => Err(Fault::Token),
+        Primary::Braces => Err(Fault::Token),
+        Primary::Zext => Err(Fault::Token),
+        Primary::Neither => Err(Fault::Token),
+    }
+}
+
+/// The constants that follow, each behind a comma.
+#[tactic(auto, using(crate::proofs::Walks::constant_list))]
+fn more_constants(tokens: &mut Cursor<'_>, constants: &mut Vec<Expr>) -> Result<(), Fault>
+    ensures goes { Goes s.Constants tokens.old result tokens.new }
+    ensures tree { IfOk result (λ _. CollectsConstants tokens.old constants.old.items constants.new.items tokens.new) }
+    ensures no_longer { IfOk result (λ _. length tokens.new.left ≤ length tokens.old.left) }
+{
+    'constants: while tokens.at_sign(Sign::Comma) {
+        tokens.sign(Role::Plain, Sign::Comma)?;
+        let next = constant(tokens)?;
+        constants.push(next)?;
+    }
+    Ok(())
 }
 
 /// Whether a command comes next.
@@ -140,8 +210,18 @@ fn command(alloc: Global, tokens: &mut Cursor<'_>, depth: u64) -> Result<Cmd, Fa
     if tokens.at_word(Word::If) {
         return branch(alloc, tokens, depth);
     }
+    if tokens.at_word(Word::Case) {
+        return case(alloc, tokens, depth);
+    }
     let read = simple(alloc, tokens, depth)?;
     let first = Box::new(alloc, read)?;
+    if tokens.at_word(Word::Then) {
+        let place = tokens.word(Role::Plain, Word::Then)?;
+        let accepted = block(alloc, tokens, depth + 1)?;
+        tokens.word(Role::Plain, Word::Otherwise)?;
+        let refused = block(alloc, tokens, depth + 1)?;
+        return Ok(Cmd::decided(Box::into_inner(first), place, accepted, refused));
+    }
     if !tokens.at_word(Word::Otherwise) {
         tokens.sign(Role::Plain, Sign::Semicolon)?;
         return Ok(Cmd::plain(Box::into_inner(first)));
@@ -167,6 +247,67 @@ fn branch(alloc: Global, tokens: &mut Cursor<'_>, depth: u64) -> Result<Cmd, Fau
     let one = block(alloc, tokens, depth + 1)?;
     let other = otherwise(alloc, tokens, depth + 1)?;
     Ok(Cmd::branch(place, Box::into_inner(condition), one, other))
+}
+
+#[cycle(command)]
+#[tactic(auto, using(crate::proofs::Walks::cases))]
+fn case(alloc: Global, tokens: &mut Cursor<'_>, depth: u64) -> Result<Cmd, Fault>
+    requires { depth + length tokens.old.left < 2 ^ 64 }
+    ensures goes { Goes (s.Case depth) tokens.old result tokens.new }
+    ensures tree { IfOk result (λ c. g.Cmd depth tokens.old (command_of c) tokens.new) }
+    ensures shorter { IfOk result (λ _. length tokens.new.left < length tokens.old.left) }
+{
+    let place = tokens.word(Role::Command(depth), Word::Case)?;
+    tokens.sign(Role::Plain, Sign::OpenParen)?;
+    let read = expr(alloc, tokens)?;
+    let number = Box::new(alloc, read)?;
+    tokens.sign(Role::Plain, Sign::CloseParen)?;
+    tokens.sign(Role::Plain, Sign::OpenBrace)?;
+    let first = arm(alloc, tokens, depth + 1)?;
+    let mut arms = Vec::new(alloc);
+    arms.push(first)?;
+    let last = more_arms(alloc, tokens, depth + 1, &mut arms)?;
+    tokens.sign(Role::Plain, Sign::CloseBrace)?;
+    Ok(Cmd::case(place, Box::into_inner(number), arms, last))
+}
+
+/// Further arms, and the block after `else`.
+#[cycle(command)]
+#[tactic(auto, using(crate::proofs::Walks::arm_list))]
+fn more_arms(
+    alloc: Global,
+    tokens: &mut Cursor<'_>,
+    depth: u64,
+    arms: &mut Vec<Arm>,
+) -> Result<Block, Fault>
+    requires { depth + length tokens.old.left < 2 ^ 64 }
+    ensures goes { Goes (s.Arms depth) tokens.old result tokens.new }
+    ensures tree { IfOk result (λ last. CollectsArms depth tokens.old arms.old.items arms.new.items (block_of last) tokens.new) }
+    ensures shorter { IfOk result (λ _. length tokens.new.left < length tokens.old.left) }
+{
+    'arms: while at_constant(tokens) {
+        let next = arm(alloc, tokens, depth)?;
+        arms.push(next)?;
+    }
+    tokens.word(Role::Plain, Word::Else)?;
+    block(alloc, tokens, depth)
+}
+
+#[cycle(command)]
+#[tactic(auto, using(crate::proofs::Walks::one_arm))]
+fn arm(alloc: Global, tokens: &mut Cursor<'_>, depth: u64) -> Result<Arm, Fault>
+    requires { depth + length tokens.old.left < 2 ^ 64 }
+    ensures goes { Goes (s.Arm depth) tokens.old result tokens.new }
+    ensures tree { IfOk result (λ a. g.Arm depth tokens.old (constants_of a) (arm_block_of a) tokens.new) }
+    ensures shorter { IfOk result (λ _. length tokens.new.left < length tokens.old.left) }
+{
+    let first = constant(tokens)?;
+    let mut constants = Vec::new(alloc);
+    constants.push(first)?;
+    more_constants(tokens, &mut constants)?;
+    tokens.sign(Role::Plain, Sign::Colon)?;
+    let block = block(alloc, tokens, depth)?;
+    Ok(Arm { constants, block })
 }
 
 /// The block after `else`, where one is written.

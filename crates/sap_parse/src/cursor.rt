@@ -8,10 +8,11 @@ ghost use Rattle.sap_parse.specs.Table as s;
 
 use crate::counts::{Counts, breach_of_name};
 use crate::limit::{Limit, Role};
-use crate::token::{Kind, Sign, Token, Word};
+use crate::token::{Kind, Sign, Token};
 use sap_tree::name::{Mention, Name};
 use sap_tree::place::Place;
 use sap_tree::syntax::Numeral;
+use sap_tree::word::Word;
 use std::alloc::{AllocError, AllocFailed, Global};
 use std::marker::Model;
 

@@ -9,8 +9,9 @@ ghost use Rattle.sap_parse.specs.Table as s;
 use crate::choice::{DeclarationHead, declaration_head};
 use crate::cursor::{Cursor, Fault};
 use crate::limit::Role;
-use crate::token::{Sign, Word};
+use crate::token::Sign;
 use sap_tree::syntax::{Decl, Kind, Numeral, Under};
+use sap_tree::word::Word;
 use std::alloc::Global;
 
 /// The written authority, where there is one.

@@ -12,13 +12,14 @@ ghost use Rattle.sap_tree.specs.Trees.{expression_of, expressions_of};
 use crate::choice::{Primary, operator_at, primary_of, sign_of, unary_at, unary_sign_of};
 use crate::cursor::{Ahead, Cursor, Fault};
 use crate::limit::Role;
-use crate::token::{Sign, Word};
+use crate::token::Sign;
 use sap_tree::name::Mention;
 use sap_tree::place::{Place, Spot};
 use sap_tree::syntax::Expr;
+use sap_tree::word::Word;
 use std::alloc::Global;
 
-fn spot(place: Place) -> Spot
+pub(crate) fn spot(place: Place) -> Spot
     ensures { result ≡ record { first = place; at = place } }
 {
     Spot {

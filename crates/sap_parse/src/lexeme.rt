@@ -7,8 +7,9 @@ ghost use Rattle.sap_parse.specs.Lexing.{IsWithin};
 ghost use Rattle.sap_parse.specs.Spelling.{sign_of, word_of};
 ghost use Rattle.sap_tree.specs.Words.{is_initial, is_inner};
 
-use crate::token::{Kind, Sign, Word};
+use crate::token::{Kind, Sign};
 use sap_tree::name::Name;
+use sap_tree::word::Word;
 use std::alloc::{AllocError, Global};
 
 /// What stands at the front of a text, with its number of bytes.

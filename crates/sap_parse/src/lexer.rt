@@ -2,10 +2,11 @@
 
 ghost use Rattle.std.specs.Prelude.{◌≡◌, ◌≤◌, ◌<◌, ◌+◌, ◌^◌, IfErr, IfOk, length};
 ghost use Rattle.std.specs.List.{All};
-ghost use Rattle.sap_parse.specs.Lexing.{AreTokens, IsLexFault, place_after};
+ghost use Rattle.sap_parse.specs.Lexing.{AreTokens, IsLexFault, place_after, version_of};
 ghost use Rattle.sap_parse.specs.Spelled.{AreInOrder, HasText};
 
 use crate::fault::ReadFault;
+use crate::key::key;
 use crate::lexeme::{Lexeme, front_lexeme};
 use crate::token::{Token, Tokens};
 use sap_tree::place::Place;
@@ -36,7 +37,7 @@ pub(crate) fn advance(place: Place, bytes: &[u8]) -> Place
 /// The tokens of a text.
 pub fn lex(alloc: Global, text: &[u8]) -> Result<Tokens, ReadFault>
     ensures ok { IfOk result (AreTokens text.now) }
-    ensures texts { IfOk result (All (HasText text.now)) }
+    ensures texts { IfOk result (λ tokens. All (HasText (version_of tokens) text.now) tokens) }
     ensures order { IfOk result (AreInOrder 0 (length text.now)) }
     ensures fault { IfErr result (IsLexFault text.now) }
 {
@@ -63,5 +64,6 @@ pub fn lex(alloc: Global, text: &[u8]) -> Result<Tokens, ReadFault>
             Lexeme::Bad => return Err(ReadFault::E1(place)),
         }
     }
+    key(&mut tokens);
     Ok(Tokens::new(tokens))
 }

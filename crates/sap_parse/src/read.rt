@@ -43,7 +43,7 @@ pub fn parse(alloc: Global, source: &[u8]) -> Result<Design, ReadFault>
     match design(alloc, &mut tokens) {
         Ok(parts) => {
             tokens.breaks_nothing();
-            Ok(Design::new(parts.declarations, parts.states))
+            Ok(Design::new(parts.version, parts.declarations, parts.states))
         }
         Err(Fault::Token) => Err(ReadFault::E2(fault_place(source, &tokens))),
         Err(Fault::Limit(limit)) => Err(ReadFault::E18(fault_place(source, &tokens), limit)),

@@ -13,8 +13,10 @@ use crate::command::commands;
 use crate::cursor::{Cursor, Fault};
 use crate::declaration::{declarations, kind};
 use crate::limit::Role;
-use crate::token::{Sign, Word};
+use crate::token::Sign;
 use sap_tree::syntax::{Block, Decl, State};
+use sap_tree::version::Version;
+use sap_tree::word::Word;
 use std::alloc::Global;
 
 /// The states that come next, at this depth.
@@ -86,9 +88,26 @@ fn last_states(alloc: Global, tokens: &mut Cursor<'_>, list: &mut Vec<State>) ->
     }
 }
 
-/// The declarations and the top-level states of a design.
+/// The first line of a text of the second version, where one is written.
+#[tactic(auto, using(crate::proofs::Walks::headers))]
+fn header(tokens: &mut Cursor<'_>) -> Result<Version, Fault>
+    ensures goes { Goes s.Header tokens.old result tokens.new }
+    ensures tree { IfOk result (λ version. g.Header tokens.old version tokens.new) }
+    ensures no_longer { IfOk result (λ _. length tokens.new.left ≤ length tokens.old.left) }
+{
+    if !tokens.at_word(Word::Sapper) {
+        return Ok(Version::One);
+    }
+    tokens.word(Role::Plain, Word::Sapper)?;
+    tokens.word(Role::Plain, Word::Two)?;
+    tokens.sign(Role::Plain, Sign::Semicolon)?;
+    Ok(Version::Two)
+}
+
+/// The version, the declarations and the top-level states of a design.
 #[derive(Drop)]
 pub struct Parts {
+    pub version: Version,
     pub declarations: Vec<Decl>,
     pub states: Vec<State>,
 }
@@ -98,15 +117,17 @@ pub struct Parts {
 pub fn design(alloc: Global, tokens: &mut Cursor<'_>) -> Result<Parts, Fault>
     requires { 1 + length tokens.old.left < 2 ^ 64 }
     ensures goes { Goes s.Design tokens.old result tokens.new }
-    ensures tree { IfOk result (λ d. g.Design tokens.old (tree_of d.declarations.items d.states.items) tokens.new) }
+    ensures tree { IfOk result (λ d. g.Design tokens.old (tree_of d.version d.declarations.items d.states.items) tokens.new) }
     ensures end { IfOk result (λ _. tokens.new.left ≡ []) }
 {
+    let version = header(tokens)?;
     let declarations = declarations(alloc, tokens)?;
     let first = state(alloc, tokens, 1)?;
     let mut states = Vec::new(alloc);
     states.push(first)?;
     last_states(alloc, tokens, &mut states)?;
     Ok(Parts {
+        version,
         declarations,
         states,
     })

@@ -11,8 +11,9 @@ use crate::choice::{TagHead, tag_head};
 use crate::cursor::{Cursor, Fault};
 use crate::expr::expr;
 use crate::limit::Role;
-use crate::token::{Sign, Word};
+use crate::token::Sign;
 use sap_tree::syntax::TagExpr;
+use sap_tree::word::Word;
 use std::alloc::Global;
 
 /// A tag expression.

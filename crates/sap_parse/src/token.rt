@@ -4,29 +4,8 @@ ghost use Rattle.std.specs.Prelude.{◌≡◌};
 
 use sap_tree::name::Name;
 use sap_tree::place::Place;
+use sap_tree::word::Word;
 use std::marker::Model;
-
-/// A word that is no name.
-#[derive(Clone, Copy, PartialEq, Eq, Debug)]
-pub enum Word {
-    Input,
-    Reg,
-    Mem,
-    State,
-    Dynamic,
-    Enforced,
-    Under,
-    If,
-    Else,
-    Goto,
-    Fall,
-    SetTag,
-    Otherwise,
-    Tag,
-    Level,
-    Join,
-    Zext,
-}
 
 /// A sign.
 #[derive(Clone, Copy, PartialEq, Eq, Debug)]

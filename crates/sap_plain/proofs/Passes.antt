@@ -7,6 +7,7 @@ use Rattle.std.proofs.lemmas.Bool.Decides.{nat_tests}
 use Rattle.sap_maps.specs.Maps.{Name}
 use Rattle.sap_maps.specs.Scope.{find}
 use Rattle.sap_tree.specs.Words.{is_name}
+use Rattle.sap_tree.specs.declared.version.Version.TheVariants.{One}
 use Rattle.sap_net.specs.Names.{is_among, AreDistinct}
 use Rattle.sap_maps.specs.Term.{read}
 use Rattle.sap_ir.specs.Source.{Action, set, Source}
@@ -70,4 +71,4 @@ unfolding is_plain
 plain_to p h =
     let s = declarations p in
     let a = itself_fine s h.declares.declared_once root_seat (seat_width (size p.states)) (seat_register s root_seat p.states h.some_state h.root) in
-    seven (guarded_to s h.declares) (all_to (λ x. not (is_gate x)) _ (λ x k. ap not k) (declared s) h.not_gates) h.some_state (all_to is_name _ (λ x k. k) (state_names p.states) h.states_named) (distinct_to (state_names p.states) h.states_differ) (seat_to s root_seat p.states h.root) (forest_to s (set root_seat (read root_seat)) h.declares a (seats p) (group_names p.states) p.states h.states_fine)
+    seven (guarded_to s h.declares) (all_to (λ x. not (is_gate x)) _ (λ x k. ap not k) (declared s) h.not_gates) h.some_state (all_to (is_name One) _ (λ x k. k) (state_names p.states) h.states_named) (distinct_to (state_names p.states) h.states_differ) (seat_to s root_seat p.states h.root) (forest_to s (set root_seat (read root_seat)) h.declares a (seats p) (group_names p.states) p.states h.states_fine)

@@ -8,6 +8,7 @@ use Rattle.sap_maps.specs.Maps.{Name}
 use Rattle.sap_maps.specs.Scope.{find}
 use Rattle.sap_maps.specs.Term.{read}
 use Rattle.sap_tree.specs.Words.{is_name}
+use Rattle.sap_tree.specs.declared.version.Version.TheVariants.{One}
 use Rattle.sap_net.specs.Names.{is_among, AreDistinct}
 use Rattle.sap_ir.specs.Source.{Action, set, Source}
 use Rattle.sap_ir.specs.IsGuarded.{declared}
@@ -111,7 +112,7 @@ plain_from p h =
       declares = g;
       not_gates = all_from (λ x. not (is_gate x)) _ (λ x k. off (is_gate x) k) (declared s) q.1;
       some_state = q.2;
-      states_named = all_from is_name _ (λ x k. k) (state_names p.states) q.3;
+      states_named = all_from (is_name One) _ (λ x k. k) (state_names p.states) q.3;
       states_differ = distinct_from (state_names p.states) q.4;
       root = root;
       states_fine = forest_from s (set root_seat (read root_seat)) q.0 a (seats p) (group_names p.states) p.states q.6;

@@ -5,6 +5,7 @@ use Rattle.std.specs.List.{AllByRecursion, list_all}
 use Rattle.sap_maps.specs.Maps.{Name}
 use Rattle.sap_maps.specs.Scope.{find}
 use Rattle.sap_tree.specs.Words.{is_name}
+use Rattle.sap_tree.specs.declared.version.Version.TheVariants.{One}
 use Rattle.sap_net.specs.Names.{is_among, AreDistinct}
 use Rattle.sap_ir.specs.Source.{Action, set, put, Source, readable, shapes}
 use Rattle.sap_ir.specs.IsGuarded.{TermFine, ActionFine, declared, IsGuarded}
@@ -72,9 +73,9 @@ pub record IsPlain (p : Nested) : Type 0 where
   -- names, widths and first numbers, as in a flat program
   pub declares : IsGuarded (declarations p)
   pub not_gates : AllByRecursion (λ x. is_gate x ≡ false) (declared (declarations p))
-  -- there is a state, and states have names of their own, which the design language takes as names
+  -- there is a state, and states have names of their own, which the first version of the design language takes as names
   pub some_state : has_states p.states ≡ true
-  pub states_named : AllByRecursion (λ x. is_name x ≡ true) (state_names p.states)
+  pub states_named : AllByRecursion (λ x. is_name One x ≡ true) (state_names p.states)
   pub states_differ : AreDistinct (state_names p.states)
   -- the root's register, and all states
   pub root : SeatFine (declarations p) root_seat p.states

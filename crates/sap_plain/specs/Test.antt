@@ -4,6 +4,7 @@ use Rattle.std.specs.List.{list_all}
 use Rattle.sap_maps.specs.Maps.{Name}
 use Rattle.sap_maps.specs.Scope.{find}
 use Rattle.sap_tree.specs.Words.{is_name}
+use Rattle.sap_tree.specs.declared.version.Version.TheVariants.{One}
 use Rattle.sap_net.specs.Names.{is_among}
 use Rattle.sap_ir.specs.Source.{Source}
 use Rattle.sap_ir.specs.IsGuarded.{declared}
@@ -37,5 +38,5 @@ forest_is_fine s fixed group (state x b kids rest) =
 unfoldable pub is_plain : Nested → Bool
 is_plain p =
     is_guarded (declarations p) && list_all (λ x. not (is_gate x)) (declared (declarations p)) && has_states p.states
-    && list_all is_name (state_names p.states) && are_distinct (state_names p.states) && seat_is_fine (declarations p) root_seat p.states
+    && list_all (is_name One) (state_names p.states) && are_distinct (state_names p.states) && seat_is_fine (declarations p) root_seat p.states
     && forest_is_fine (declarations p) (seats p) (group_names p.states) p.states

@@ -1,11 +1,11 @@
 -- Filling in what hangs leaves all else of a program as it was.
 use Rattle.std.proofs.Common.{◌≡◌, ℕ, suc, ◌<◌, Bool, ◌||◌, refl, sym, ap, ◌∙◌, subst, nat_eq}
-use Rattle.sap_meaning.specs.Program.{World, Step, Set, Write, Retag, RetagCell, Goto, Fall, Command, Do, Try, If, Block, End, Then, State, Node, Group, None, More}
+use Rattle.sap_meaning.specs.Program.{World, Step, Set, Write, Retag, RetagCell, Goto, Fall, Command, Do, Try, If, TryThen, Case, Arms, Last, Arm, Block, End, Then, State, Node, Group, None, More}
 use Rattle.sap_meaning.specs.Checks.{Spot}
-use Rattle.sap_meaning.specs.Touches.{step_assigns, assigns, block_assigns, state_assigns, group_assigns, among, step_hangs, hangs, block_hangs}
-use Rattle.sap_meaning.specs.Fine.{size, inside, transfers, Open, OpenBlock, Closes, Final, step_writes, step_reaching, reaching, block_reaching, state_reaches, group_reaches, OnceStep, Once, OnceBlock, OnceState, OnceGroup, step_retags, retags, block_retags, state_retags, group_retags, FineStep, FineCommand, FineBlock, FineNode, FineState, FineGroup, number_of}
-use Rattle.sap_resolve.specs.Fill.{filled_step, filled, filled_block, filled_state, filled_group}
-use Rattle.sap_resolve.specs.Named.{NamedStep, Named, NamedBlock, NamedState, NamedGroup}
+use Rattle.sap_meaning.specs.Touches.{step_assigns, assigns, arms_assign, block_assigns, state_assigns, group_assigns, among, step_hangs, hangs, arms_hang, block_hangs}
+use Rattle.sap_meaning.specs.Fine.{size, inside, transfers, Open, OpenArms, OpenBlock, Closes, Final, ClosingArms, step_writes, step_reaching, reaching, arms_reaching, block_reaching, state_reaches, group_reaches, OnceStep, Once, OnceArms, OnceBlock, OnceState, OnceGroup, step_retags, retags, arms_retag, block_retags, state_retags, group_retags, FineStep, FineCommand, FineArms, FineBlock, FineNode, FineState, FineGroup, number_of}
+use Rattle.sap_resolve.specs.Fill.{filled_step, filled, filled_arms, filled_block, filled_state, filled_group}
+use Rattle.sap_resolve.specs.Named.{NamedStep, Named, NamedArms, NamedBlock, NamedState, NamedGroup}
 use Rattle.sap_premises.proofs.Faultless.{or_same}
 
 module _ (w : World) where
@@ -41,6 +41,12 @@ module _ (w : World) where
       open_filled (Do k) h = transfers_filled k ∙ h
       open_filled (Try k hang b) h = (transfers_filled k ∙ h.0, open_block_filled b h.1)
       open_filled (If hang e a b) h = (open_block_filled a h.0, open_block_filled b h.1)
+      open_filled (TryThen k hang a b) h = (transfers_filled k ∙ h.0, open_block_filled a h.1, open_block_filled b h.2)
+      open_filled (Case hang e arms) h = open_arms_filled arms h
+
+      open_arms_filled : (arms : Arms) → OpenArms arms → OpenArms (filled_arms w at arms)
+      open_arms_filled (Last b) h = open_block_filled b h
+      open_arms_filled (Arm constants b arms) h = (open_block_filled b h.0, open_arms_filled arms h.1)
 
       open_block_filled : (b : Block) → OpenBlock b → OpenBlock (filled_block w at b)
       open_block_filled End h = h
@@ -51,6 +57,12 @@ module _ (w : World) where
       final_filled (Do k) h = transfers_filled k ∙ h
       final_filled (Try k hang b) h = (transfers_filled k ∙ h.0, closes_filled b h.1)
       final_filled (If hang e a b) h = (closes_filled a h.0, closes_filled b h.1)
+      final_filled (TryThen k hang a b) h = (transfers_filled k ∙ h.0, closes_filled a h.1, closes_filled b h.2)
+      final_filled (Case hang e arms) h = closing_filled arms h
+
+      closing_filled : (arms : Arms) → ClosingArms arms → ClosingArms (filled_arms w at arms)
+      closing_filled (Last b) h = closes_filled b h
+      closing_filled (Arm constants b arms) h = (closes_filled b h.0, closing_filled arms h.1)
 
       closes_filled : (b : Block) → Closes b → Closes (filled_block w at b)
       closes_filled End h = h
@@ -70,6 +82,12 @@ module _ (w : World) where
       assigns_filled (Do k) x = step_assigns_filled k x
       assigns_filled (Try k hang b) x = or_same _ _ _ _ (step_assigns_filled k x) (block_assigns_filled b x)
       assigns_filled (If hang e a b) x = or_same _ _ _ _ (block_assigns_filled a x) (block_assigns_filled b x)
+      assigns_filled (TryThen k hang a b) x = or_same _ _ _ _ (step_assigns_filled k x) (or_same _ _ _ _ (block_assigns_filled a x) (block_assigns_filled b x))
+      assigns_filled (Case hang e arms) x = arms_assign_filled arms x
+
+      arms_assign_filled : (arms : Arms) (x : ℕ) → arms_assign (filled_arms w at arms) x ≡ arms_assign arms x
+      arms_assign_filled (Last b) x = block_assigns_filled b x
+      arms_assign_filled (Arm constants b arms) x = or_same _ _ _ _ (block_assigns_filled b x) (arms_assign_filled arms x)
 
       block_assigns_filled : (b : Block) (x : ℕ) → block_assigns (filled_block w at b) x ≡ block_assigns b x
       block_assigns_filled End x = refl
@@ -96,6 +114,12 @@ module _ (w : World) where
       retags_filled (Do k) x = step_retags_filled k x
       retags_filled (Try k hang b) x = or_same _ _ _ _ (step_retags_filled k x) (block_retags_filled b x)
       retags_filled (If hang e a b) x = or_same _ _ _ _ (block_retags_filled a x) (block_retags_filled b x)
+      retags_filled (TryThen k hang a b) x = or_same _ _ _ _ (step_retags_filled k x) (or_same _ _ _ _ (block_retags_filled a x) (block_retags_filled b x))
+      retags_filled (Case hang e arms) x = arms_retag_filled arms x
+
+      arms_retag_filled : (arms : Arms) (x : ℕ) → arms_retag (filled_arms w at arms) x ≡ arms_retag arms x
+      arms_retag_filled (Last b) x = block_retags_filled b x
+      arms_retag_filled (Arm constants b arms) x = or_same _ _ _ _ (block_retags_filled b x) (arms_retag_filled arms x)
 
       block_retags_filled : (b : Block) (x : ℕ) → block_retags (filled_block w at b) x ≡ block_retags b x
       block_retags_filled End x = refl
@@ -116,6 +140,13 @@ module _ (w : World) where
         reaching_filled (Do k) m = step_reaching_filled k m
         reaching_filled (Try k hang b) m = or_same _ _ _ _ (step_reaching_filled k m) (block_reaching_filled b m)
         reaching_filled (If hang e a b) m = or_same _ _ _ _ (block_reaching_filled a m) (block_reaching_filled b m)
+        reaching_filled (TryThen k hang a b) m =
+            or_same _ _ _ _ (step_reaching_filled k m) (or_same _ _ _ _ (block_reaching_filled a m) (block_reaching_filled b m))
+        reaching_filled (Case hang e arms) m = arms_reaching_filled arms m
+
+        arms_reaching_filled : (arms : Arms) (m : ℕ) → arms_reaching f (filled_arms w at arms) m ≡ arms_reaching g arms m
+        arms_reaching_filled (Last b) m = block_reaching_filled b m
+        arms_reaching_filled (Arm constants b arms) m = or_same _ _ _ _ (block_reaching_filled b m) (arms_reaching_filled arms m)
 
         block_reaching_filled : (b : Block) (m : ℕ) → block_reaching f (filled_block w at b) m ≡ block_reaching g b m
         block_reaching_filled End m = refl
@@ -136,6 +167,12 @@ module _ (w : World) where
         fine_filled (Do k) h = fine_step_filled k h
         fine_filled (Try k hang b) h = (fine_step_filled k h.0, fine_block_filled b h.1)
         fine_filled (If hang e a b) h = (h.0, fine_block_filled a h.1, fine_block_filled b h.2)
+        fine_filled (TryThen k hang a b) h = (fine_step_filled k h.0, fine_block_filled a h.1, fine_block_filled b h.2)
+        fine_filled (Case hang e arms) h = (h.0, fine_arms_filled arms h.1)
+
+        fine_arms_filled : (arms : Arms) → FineArms w q g arms → FineArms w j i (filled_arms w at arms)
+        fine_arms_filled (Last b) h = fine_block_filled b h
+        fine_arms_filled (Arm constants b arms) h = (fine_block_filled b h.0, fine_arms_filled arms h.1)
 
         fine_block_filled : (b : Block) → FineBlock w q g b → FineBlock w j i (filled_block w at b)
         fine_block_filled End h = h
@@ -156,6 +193,12 @@ module _ (w : World) where
         hangs_filled (Do k) x = step_hangs_filled k x
         hangs_filled (Try k hang b) x = or_same _ _ _ _ (step_hangs_filled k x) (block_hangs_filled b x)
         hangs_filled (If hang e a b) x = or_same _ _ _ _ (block_hangs_filled a x) (block_hangs_filled b x)
+        hangs_filled (TryThen k hang a b) x = or_same _ _ _ _ (step_hangs_filled k x) (or_same _ _ _ _ (block_hangs_filled a x) (block_hangs_filled b x))
+        hangs_filled (Case hang e arms) x = arms_hang_filled arms x
+
+        arms_hang_filled : (arms : Arms) (x : ℕ) → arms_hang s i (filled_arms w at arms) x ≡ arms_hang s g arms x
+        arms_hang_filled (Last b) x = block_hangs_filled b x
+        arms_hang_filled (Arm constants b arms) x = or_same _ _ _ _ (block_hangs_filled b x) (arms_hang_filled arms x)
 
         block_hangs_filled : (b : Block) (x : ℕ) → block_hangs s i (filled_block w at b) x ≡ block_hangs s g b x
         block_hangs_filled End x = refl
@@ -175,6 +218,12 @@ module _ (w : World) where
       named_unfilled (Do k) h = named_step_unfilled k h
       named_unfilled (Try k hang b) h = (named_step_unfilled k h.0, named_block_unfilled b h.1)
       named_unfilled (If hang e a b) h = (h.0, named_block_unfilled a h.1, named_block_unfilled b h.2)
+      named_unfilled (TryThen k hang a b) h = (named_step_unfilled k h.0, named_block_unfilled a h.1, named_block_unfilled b h.2)
+      named_unfilled (Case hang e arms) h = (h.0, named_arms_unfilled arms h.1)
+
+      named_arms_unfilled : (arms : Arms) → NamedArms w (filled_arms w at arms) → NamedArms w arms
+      named_arms_unfilled (Last b) h = named_block_unfilled b h
+      named_arms_unfilled (Arm constants b arms) h = (named_block_unfilled b h.0, named_arms_unfilled arms h.1)
 
       named_block_unfilled : (b : Block) → NamedBlock w (filled_block w at b) → NamedBlock w b
       named_block_unfilled End h = h
@@ -242,6 +291,18 @@ module _ (w : World) where
         once_filled (Do k) h = once_step_filled k h
         once_filled (Try k hang b) h = (once_step_filled k h.0, once_block_filled b h.1, λ m. rw (step_writes_filled at k m, same_reach b m) (h.2 m))
         once_filled (If hang e a b) h = (once_block_filled a h.0, once_block_filled b h.1)
+        once_filled (TryThen k hang a b) h = (
+          once_step_filled k h.0,
+          once_block_filled a h.1,
+          once_block_filled b h.2,
+          λ m. rw (step_reaching_filled at (group_reaches (filled_group w p g)) (group_reaches g) (λ n. group_reaches_filled p g n) k m, same_reach a m) (h.3 m),
+          λ m. rw (step_writes_filled at k m, same_reach b m) (h.4 m),
+        )
+        once_filled (Case hang e arms) h = once_arms_filled arms h
+
+        once_arms_filled : (arms : Arms) → OnceArms g below arms → OnceArms (filled_group w p g) behind (filled_arms w at arms)
+        once_arms_filled (Last b) h = once_block_filled b h
+        once_arms_filled (Arm constants b arms) h = (once_block_filled b h.0, once_arms_filled arms h.1)
 
         once_block_filled : (b : Block) → OnceBlock g below b → OnceBlock (filled_group w p g) behind (filled_block w at b)
         once_block_filled End h = h

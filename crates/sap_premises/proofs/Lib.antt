@@ -5,6 +5,7 @@ pub mod Places
 pub mod Lookups
 pub mod Numbers
 pub mod Closed
+pub mod Shut
 pub mod Once
 pub mod Steps
 pub mod Groups

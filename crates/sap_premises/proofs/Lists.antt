@@ -2,20 +2,20 @@
 use Rattle.std.proofs.Common.{◌≡◌, ℕ, zero, suc, ◌+◌, ◌<◌, ◌≤◌, Bool, true, false, ◌&&◌, ◌||◌, List, [], ◌∷◌, ◌++◌, length, length-append, get_or, Option, Some, None, nat_eq, nat_lt, refl, sym, ap, ◌∙◌, arith, inl, inr, bytes_eq, option_map}
 use Rattle.std.proofs.lemmas.Bool.{cases_Bool}
 use Rattle.std.proofs.lemmas.List.{get_or-append-add}
-use Rattle.sap_tree.specs.Syntax.{SimpleCommand, Assign, Write, SetTag, SetCellTag, Goto, Fall, Command, Do, Try, If, CommandBlock, Commands, ElseBlock, NoElse, Else, CommandList, NoCommand, AndCommand, StateTree, StateOf, StateList, NoState, AndState, DesignTree}
+use Rattle.sap_tree.specs.Syntax.{SimpleCommand, Assign, Write, SetTag, SetCellTag, Goto, Fall, Command, Do, Try, If, TryThen, Case, Arms, Last, Arm, CommandBlock, Commands, ElseBlock, NoElse, Else, CommandList, NoCommand, AndCommand, StateTree, StateOf, StateList, NoState, AndState, DesignTree}
 use Rattle.sap_lattice.specs.Levels.{Levels}
 use Rattle.sap_names.specs.declared.entity.Entity as declared_entity
 use Rattle.sap_names.specs.Entities.{number_of, entities_of}
 use Rattle.sap_meaning.specs.Program.{World, is_dynamic, root, listed, Group, None}
 use Rattle.sap_meaning.specs.Checks.{Spot}
-use Rattle.sap_meaning.specs.Touches.{among, step_assigns, assigns, block_assigns, state_assigns, group_assigns, step_hangs, hangs, block_hangs, touches, root_touches}
-use Rattle.sap_meaning.specs.Fine.{ExactStep, Exact, ExactBlock, ExactState, ExactGroup, ExactProgram}
+use Rattle.sap_meaning.specs.Touches.{among, step_assigns, assigns, arms_assign, block_assigns, state_assigns, group_assigns, step_hangs, hangs, arms_hang, block_hangs, touches, root_touches}
+use Rattle.sap_meaning.specs.Fine.{ExactStep, Exact, ExactArms, ExactBlock, ExactState, ExactGroup, ExactProgram}
 use Rattle.sap_meaning.proofs.Bools.{and_right, or_of, not_true, same_number}
 use Rattle.sap_resolve.specs.Worlds.{states_in, states_below, group_entities, world_of}
 use Rattle.sap_resolve.specs.Sites.{Home, simple_sites, block_sites, command_sites, state_sites}
-use Rattle.sap_resolve.specs.Resolve.{site_number, step_of, command_of, block_of, else_of, list_of, state_of, group_of}
+use Rattle.sap_resolve.specs.Resolve.{site_number, step_of, command_of, arms_of, block_of, else_of, list_of, state_of, group_of}
 use Rattle.sap_resolve.specs.Terms.{known, entity_number}
-use Rattle.sap_resolve.specs.Fill.{table, filled_step, filled, filled_block, filled_state, filled_group, program_of}
+use Rattle.sap_resolve.specs.Fill.{table, filled_step, filled, filled_arms, filled_block, filled_state, filled_group, program_of}
 use Rattle.sap_resolve.proofs.Lookup.{entities_length}
 use Rattle.sap_premises.proofs.Faultless.{or_same}
 use Rattle.sap_premises.proofs.Filling.{among_filled, group_assigns_filled, hangs_filled}
@@ -117,6 +117,18 @@ module _ (r x : ℕ) where
       command_assigned k (If place e b other) =
           low_or (block_assigns (block_of ls h k b) x) (block_assigns (else_of ls h (k + block_sites h b) other) x) (block_assigned k b)
           (else_assigned (k + block_sites h b) other)
+      command_assigned k (TryThen c place a b) =
+          let i = k + simple_sites h c in
+          let j = i + block_sites h a in
+          low_or (step_assigns (step_of ls h (site_number h k c) c) x) (block_assigns (block_of ls h i a) x || block_assigns (block_of ls h j b) x)
+          (step_assigned (site_number h k c) c)
+          (low_or (block_assigns (block_of ls h i a) x) (block_assigns (block_of ls h j b) x) (block_assigned i a) (block_assigned j b))
+      command_assigned k (Case place e arms) = arms_assigned k arms
+
+      arms_assigned : (k : ℕ) (arms : Arms) → Low (arms_assign (arms_of ls h k arms) x)
+      arms_assigned k (Last b) = block_assigned k b
+      arms_assigned k (Arm constants b arms) =
+          low_or (block_assigns (block_of ls h k b) x) (arms_assign (arms_of ls h (k + block_sites h b) arms) x) (block_assigned k b) (arms_assigned (k + block_sites h b) arms)
 
       block_assigned : (k : ℕ) (b : CommandBlock) → Low (block_assigns (block_of ls h k b) x)
       block_assigned k (Commands cs after) = list_assigned k cs
@@ -149,6 +161,18 @@ module _ (r x : ℕ) where
         command_hung k (If place e b other) =
             low_or (block_hangs s g (block_of ls h k b) x) (block_hangs s g (else_of ls h (k + block_sites h b) other) x) (block_hung k b)
             (else_hung (k + block_sites h b) other)
+        command_hung k (TryThen c place a b) =
+            let i = k + simple_sites h c in
+            let j = i + block_sites h a in
+            low_or (step_hangs s g (step_of ls h (site_number h k c) c) x) (block_hangs s g (block_of ls h i a) x || block_hangs s g (block_of ls h j b) x)
+            (step_hung (site_number h k c) c)
+            (low_or (block_hangs s g (block_of ls h i a) x) (block_hangs s g (block_of ls h j b) x) (block_hung i a) (block_hung j b))
+        command_hung k (Case place e arms) = arms_hung k arms
+
+        arms_hung : (k : ℕ) (arms : Arms) → Low (arms_hang s g (arms_of ls h k arms) x)
+        arms_hung k (Last b) = block_hung k b
+        arms_hung k (Arm constants b arms) =
+            low_or (block_hangs s g (block_of ls h k b) x) (arms_hang s g (arms_of ls h (k + block_sites h b) arms) x) (block_hung k b) (arms_hung (k + block_sites h b) arms)
 
         block_hung : (k : ℕ) (b : CommandBlock) → Low (block_hangs s g (block_of ls h k b) x)
         block_hung k (Commands cs after) = list_hung k cs
@@ -216,6 +240,12 @@ module _ (ls : Levels) (w : World) where
       exact_command k (Do c) = exact_step k c
       exact_command k (Try c place b) = (exact_list k (Try c place b), exact_block (k + simple_sites h c) b)
       exact_command k (If place e b other) = (exact_list k (If place e b other), exact_block k b, exact_else (k + block_sites h b) other)
+      exact_command k (TryThen c place a b) = (exact_list k (TryThen c place a b), exact_block (k + simple_sites h c) a, exact_block (k + simple_sites h c + block_sites h a) b)
+      exact_command k (Case place e arms) = (exact_list k (Case place e arms), exact_arms k arms)
+
+      exact_arms : (k : ℕ) (arms : Arms) → ExactArms w After (filled_arms w Before (arms_of ls h k arms))
+      exact_arms k (Last b) = exact_block k b
+      exact_arms k (Arm constants b arms) = (exact_block k b, exact_arms (k + block_sites h b) arms)
 
       exact_block : (k : ℕ) (b : CommandBlock) → ExactBlock w After (filled_block w Before (block_of ls h k b))
       exact_block k (Commands cs after) = exact_commands k cs

@@ -1,30 +1,32 @@
 -- Where no path writes a memory twice, no memory is written after it was written, with numbers for names.
-use Rattle.std.proofs.Common.{◌≡◌, ℕ, ◌+◌, Bool, true, false, ◌&&◌, ◌||◌, List, [], ◌∷◌, ◌++◌, if◌then◌else◌, refl, ap, ◌∙◌, subst, nat_eq, inl, inr, ◌⊎◌, bytes_eq}
+use Rattle.std.proofs.Common.{◌≡◌, ℕ, ◌+◌, Option, Bool, true, false, ◌&&◌, ◌||◌, List, [], ◌∷◌, ◌++◌, if◌then◌else◌, refl, ap, ◌∙◌, subst, nat_eq, inl, inr, ◌⊎◌, bytes_eq}
 use Rattle.sap_tree.specs.declared.name.Mention.{Mention}
 use Rattle.sap_tree.specs.declared.place.Place.{Place}
-use Rattle.sap_tree.specs.Syntax.{SimpleCommand, Assign, Write, SetTag, SetCellTag, Goto, Fall, Command, Do, Try, If, CommandBlock, Commands, ElseBlock, NoElse, Else, CommandList, NoCommand, AndCommand, StateTree, StateOf, StateList, NoState, AndState}
+use Rattle.sap_tree.specs.Syntax.{SimpleCommand, Assign, Write, SetTag, SetCellTag, Goto, Fall, Command, Do, Try, If, TryThen, Case, Arms, Last, Arm, CommandBlock, Commands, ElseBlock, NoElse, Else, CommandList, NoCommand, AndCommand, StateTree, StateOf, StateList, NoState, AndState}
 use Rattle.sap_lattice.specs.Levels.{Levels}
 use Rattle.sap_names.specs.declared.fault.Fault.{Fault}
 use Rattle.sap_names.specs.declared.kind.Code.TheVariants.{E14}
 use Rattle.sap_names.specs.Entities.{Lookup, what_is}
 use Rattle.sap_names.specs.declared.entity.Entity.{Entity}
+use Rattle.sap_names.specs.Widths.{own}
 use Rattle.sap_names.specs.declared.kind.Use.TheVariants.{Indexed as indexed}
-use Rattle.sap_names.specs.NameFaults.{name_faults, fault_if, simple_faults, command_faults, block_faults, else_faults, commands_faults, state_faults, states_faults}
-use Rattle.sap_shape.specs.Closing.{transfer_faults, open_faults, open_block_faults, open_else_faults, open_list_faults, last_faults, closing_faults, closing_else_faults, closing_list_faults}
-use Rattle.sap_shape.specs.Walk.{Written, writing, past_simple, past, past_block, past_else, past_list, is_fall, falls, falls_block, falls_else, falls_list, entering_simple, entering, entering_block, entering_else, entering_list, second_simple, second, second_block, second_else, second_list, second_state, second_states}
+use Rattle.sap_names.specs.NameFaults.{name_faults, fault_if, simple_faults, command_faults, block_faults, arms_faults, else_faults, commands_faults, state_faults, states_faults}
+use Rattle.sap_shape.specs.Closing.{transfer_faults, open_faults, open_block_faults, open_arms_faults, open_else_faults, open_list_faults, closing_faults}
+use Rattle.sap_shape.specs.Walk.{Written, writing, past_simple, past, past_block, past_arms, past_else, past_list, is_fall, falls, falls_block, falls_arms, falls_else, falls_list, entering_simple, entering, entering_block, entering_arms, entering_else, entering_list, second_simple, second, second_block, second_arms, second_else, second_list, second_state, second_states}
 use Rattle.sap_shape.specs.ShapeFaults.{state_shape, states_shape}
 use Rattle.sap_meaning.specs.Program.{World, Group}
-use Rattle.sap_meaning.specs.Fine.{step_writes, step_reaching, reaching, block_reaching, state_reaches, group_reaches, OnceStep, Once, OnceBlock, OnceState, OnceGroup}
+use Rattle.sap_meaning.specs.Fine.{step_writes, step_reaching, reaching, arms_reaching, block_reaching, state_reaches, group_reaches, OnceStep, Once, OnceArms, OnceBlock, OnceState, OnceGroup}
 use Rattle.sap_meaning.proofs.Bools.{or_left, or_right, or_of, or_false, not_true, same_number}
 use Rattle.sap_resolve.specs.Worlds.{states_in}
 use Rattle.sap_resolve.specs.Sites.{Home, simple_sites, block_sites, command_sites, state_sites}
-use Rattle.sap_resolve.specs.Resolve.{site_number, step_of, command_of, block_of, else_of, list_of, state_of, group_of}
+use Rattle.sap_resolve.specs.Resolve.{site_number, step_of, command_of, arms_of, block_of, else_of, list_of, state_of, group_of}
 use Rattle.sap_resolve.specs.Terms.{entity_number}
 use Rattle.sap_resolve.proofs.Lookup.{AllMatch}
 use Rattle.sap_premises.proofs.Commands.{write_named, cell_named, if_first, if_other, body_fits, below_fits}
 use Rattle.sap_premises.proofs.Faultless.{nil_left, nil_right, no_fault}
 use Rattle.sap_premises.proofs.Places.{name_at}
 use Rattle.sap_premises.proofs.Lookups.{same_name, named}
+use Rattle.sap_premises.proofs.Shut.{Ended, Shut, ShutArms, ShutElse, ShutList, shut_list, shut_else, shut_first, shut_rest, shut_handler, shut_branch, shut_other, then_parts, no_transfer, shut_accepted, shut_refused, shut_arms, shut_arm, shut_later}
 
 -- what was written before, is still afterwards
 module _ (a : List ℕ) where
@@ -41,6 +43,12 @@ module _ (a : List ℕ) where
     past_command (Do c) p h = past_step c p h
     past_command (Try c place b) p h = or_left _ _ (past_step c p h)
     past_command (If place e b other) p h = or_left _ _ (past_body b p h)
+    past_command (TryThen c place b other) p h = or_left _ _ (past_body b (past_simple c p) (past_step c p h))
+    past_command (Case place e arms) p h = past_all arms p h
+
+    past_all : (arms : Arms) (p : Written) → p a ≡ true → past_arms arms p a ≡ true
+    past_all (Last b) p h = past_body b p h
+    past_all (Arm constants b arms) p h = or_left _ _ (past_body b p h)
 
     past_body : (b : CommandBlock) (p : Written) → p a ≡ true → past_block b p a ≡ true
     past_body (Commands cs after) p h = past_commands cs p h
@@ -103,6 +111,28 @@ module _ (ls : Levels) (levels : List (List ℕ)) (h : Home) (w : World) (match 
             | inl j ↦ or_left _ _ (block_written k b (if_first levels What place e b other f) (nil_left _ _ o) m p j)
             | inr j ↦ or_right _ _ (else_written (k + block_sites h b) other (if_other levels What place e b other f) (nil_right _ _ o) m p j)
           ]
+      command_written k (TryThen c place a b) f o m p i =
+          let q = past_simple c p in
+          let x = k + simple_sites h c in
+          let y = x + block_sites h a in
+          let opened = then_parts c place (open_block_faults a ++ open_block_faults b) o in
+          elim (or_of (step_reaching falls (step_of ls h (site_number h k c) c) m) (block_reaching falls (block_of ls h x a) m || block_reaching falls (block_of ls h y b) m) i) [
+            | inl j ↦ or_left _ _ (past_body (name_at h.entities m) a q (open_written (site_number h k c) c (nil_left _ _ (nil_left _ _ f)) opened.0 m p j))
+            | inr j ↦ elim (or_of (block_reaching falls (block_of ls h x a) m) (block_reaching falls (block_of ls h y b) m) j) [
+              | inl t ↦ or_left _ _ (block_written x a (nil_right _ _ (nil_left _ _ f)) (nil_left _ _ opened.1) m q t)
+              | inr t ↦ or_right _ _ (block_written y b (nil_right _ _ f) (nil_right _ _ opened.1) m q t)
+            ]
+          ]
+      command_written k (Case place e arms) f o m p i = arms_written (own What e) k arms (nil_right _ _ f) o m p i
+
+      arms_written : (asked : Option ℕ) (k : ℕ) (arms : Arms) → arms_faults levels What asked arms ≡ [] → open_arms_faults arms ≡ [] → (m : ℕ) (p : Written)
+          → arms_reaching falls (arms_of ls h k arms) m ≡ true → past_arms arms p (name_at h.entities m) ≡ true
+      arms_written asked k (Last b) f o m p i = block_written k b f o m p i
+      arms_written asked k (Arm constants b arms) f o m p i =
+          elim (or_of (block_reaching falls (block_of ls h k b) m) (arms_reaching falls (arms_of ls h (k + block_sites h b) arms) m) i) [
+            | inl j ↦ or_left _ _ (block_written k b (nil_right _ _ (nil_left _ _ f)) (nil_left _ _ o) m p j)
+            | inr j ↦ or_right _ _ (arms_written asked (k + block_sites h b) arms (nil_right _ _ f) (nil_right _ _ o) m p j)
+          ]
 
       block_written : (k : ℕ) (b : CommandBlock) → Fits b → open_block_faults b ≡ [] → (m : ℕ) (p : Written)
           → block_reaching falls (block_of ls h k b) m ≡ true → past_block b p (name_at h.entities m) ≡ true
@@ -159,6 +189,25 @@ module _ (ls : Levels) (levels : List (List ℕ)) (h : Home) (w : World) (match 
             or_false (block_reaching falls (block_of ls h k b) m) (block_reaching falls (else_of ls h (k + block_sites h b) other) m)
             (body_unreached k b (if_first levels What place e b other f) p i (nil_left _ _ s) (λ j. d (or_left _ _ j)))
             (else_unreached (k + block_sites h b) other (if_other levels What place e b other f) p i (nil_right _ _ s) (λ j. d (or_right _ _ j)))
+        command_unreached k (TryThen c place a b) f p i s d =
+            let q = past_simple c p in
+            let behind = past_step (name_at h.entities m) c p i in
+            let x = k + simple_sites h c in
+            let y = x + block_sites h a in
+            or_false (step_reaching falls (step_of ls h (site_number h k c) c) m) (block_reaching falls (block_of ls h x a) m || block_reaching falls (block_of ls h y b) m)
+            (step_unreached (site_number h k c) c (nil_left _ _ (nil_left _ _ f)) p i (nil_left _ _ (nil_left _ _ s)) (λ j. d (or_left _ _ j)))
+            (or_false (block_reaching falls (block_of ls h x a) m) (block_reaching falls (block_of ls h y b) m)
+            (body_unreached x a (nil_right _ _ (nil_left _ _ f)) q behind (nil_right _ _ (nil_left _ _ s)) (λ j. d (or_right _ _ (or_left _ _ j))))
+            (body_unreached y b (nil_right _ _ f) q behind (nil_right _ _ s) (λ j. d (or_right _ _ (or_right _ _ j)))))
+        command_unreached k (Case place e arms) f p i s d = arms_unreached (own What e) k arms (nil_right _ _ f) p i s d
+
+        arms_unreached : (asked : Option ℕ) (k : ℕ) (arms : Arms) → arms_faults levels What asked arms ≡ [] → (p : Written) → p (name_at h.entities m) ≡ true
+            → second_arms arms p ≡ [] → Safe (entering_arms arms p (name_at h.entities m)) → arms_reaching falls (arms_of ls h k arms) m ≡ false
+        arms_unreached asked k (Last b) f p i s d = body_unreached k b f p i s d
+        arms_unreached asked k (Arm constants b arms) f p i s d =
+            or_false (block_reaching falls (block_of ls h k b) m) (arms_reaching falls (arms_of ls h (k + block_sites h b) arms) m)
+            (body_unreached k b (nil_right _ _ (nil_left _ _ f)) p i (nil_left _ _ s) (λ j. d (or_left _ _ j)))
+            (arms_unreached asked (k + block_sites h b) arms (nil_right _ _ f) p i (nil_right _ _ s) (λ j. d (or_right _ _ j)))
 
         pub body_unreached : (k : ℕ) (b : CommandBlock) → Fits b → (p : Written) → p (name_at h.entities m) ≡ true → second_block b p ≡ []
             → Safe (entering_block b p (name_at h.entities m)) → block_reaching falls (block_of ls h k b) m ≡ false
@@ -179,30 +228,9 @@ module _ (ls : Levels) (levels : List (List ℕ)) (h : Home) (w : World) (match 
             (list_unreached (k + command_sites h c) cs (nil_right _ _ f) (past c p) (past_command (name_at h.entities m) c p i)
             (nil_right _ _ s) (λ j. d (or_right _ _ j)))
 
-  -- a handler closes or is open, as its command does
-  handler_closed : (c : SimpleCommand) (place : Place) (b : CommandBlock) (after : Place) → last_faults (Try c place b) after ≡ [] → closing_faults b ≡ []
-  handler_closed (Assign target e) place b after f = cc
-  handler_closed (Write target index e) place b after f = cc
-  handler_closed (SetTag p target tag) place b after f = cc
-  handler_closed (SetCellTag p target index tag) place b after f = cc
-  handler_closed (Goto p target) place b after f = f
-  handler_closed (Fall p) place b after f = f
-
   and_if : (a b : Bool) → (a ≡ true → b ≡ false) → (a && b) ≡ false
   and_if true b f = f refl
   and_if false b f = refl
-
-  abbrev Shut : CommandBlock → Type 0
-  Shut b = (open_block_faults b ≡ []) ⊎ (closing_faults b ≡ [])
-
-  abbrev ShutElse : ElseBlock → Type 0
-  ShutElse b = (open_else_faults b ≡ []) ⊎ ((place : Place) × (closing_else_faults b place ≡ []))
-
-  abbrev ShutList : CommandList → Type 0
-  ShutList cs = (open_list_faults cs ≡ []) ⊎ ((after : Place) × (closing_list_faults cs after ≡ []))
-
-  abbrev Ended : Command → Type 0
-  Ended c = (open_faults c ≡ []) ⊎ ((after : Place) × (last_faults c after ≡ []))
 
   module _ (g : Group) (below : Type 0) where
     -- what holds where a fall leads
@@ -225,8 +253,7 @@ module _ (ls : Levels) (levels : List (List ℕ)) (h : Home) (w : World) (match 
       once_command k (Try c place b) f o p s d i = (
         once_step (site_number h k c) c (λ j. i (or_left _ _ j)),
         once_body (k + simple_sites h c) b (nil_right _ _ f)
-            (elim o [ inl i ↦ inl (nil_right _ _ i) | inr i ↦ inr (handler_closed c place b i.0 i.1) ])
-            (past_simple c p) (nil_right _ _ s)
+            (shut_handler c place b o) (past_simple c p) (nil_right _ _ s)
             (λ m j. d m (or_right _ _ j)) (λ j. i (or_right _ _ j)),
         λ m. and_if (step_writes (step_of ls h (site_number h k c) c) m) (block_reaching (group_reaches g) (block_of ls h (k + simple_sites h c) b) m) (λ w.
             body_unreached (group_reaches g) m (k + simple_sites h c) b (nil_right _ _ f) (past_simple c p)
@@ -236,29 +263,60 @@ module _ (ls : Levels) (levels : List (List ℕ)) (h : Home) (w : World) (match 
       )
       once_command k (If place e b other) f o p s d i = (
         once_body k b (if_first levels What place e b other f)
-            (elim o [ inl i ↦ inl (nil_left _ _ i) | inr i ↦ inr (nil_left _ _ i.1) ])
-            p (nil_left _ _ s) (λ m j. d m (or_left _ _ j)) (λ j. i (or_left _ _ j)),
+            (shut_branch place e b other o) p (nil_left _ _ s) (λ m j. d m (or_left _ _ j)) (λ j. i (or_left _ _ j)),
         once_else (k + block_sites h b) other (if_other levels What place e b other f)
-            (elim o [ inl i ↦ inl (nil_right _ _ i) | inr i ↦ inr (place, nil_right _ _ i.1) ])
-            p (nil_right _ _ s) (λ m j. d m (or_right _ _ j)) (λ j. i (or_right _ _ j)),
+            (shut_other place e b other o) p (nil_right _ _ s) (λ m j. d m (or_right _ _ j)) (λ j. i (or_right _ _ j)),
+      )
+      once_command k (TryThen c place a b) f o p s d i =
+          let q = past_simple c p in
+          let x = k + simple_sites h c in
+          let y = x + block_sites h a in
+          let first : simple_faults levels What c ≡ [] = nil_left _ _ (nil_left _ _ f) in
+          let accepted : Fits a = nil_right _ _ (nil_left _ _ f) in
+          let refused : Fits b = nil_right _ _ f in
+          let here : second_block a q ≡ [] = nil_right _ _ (nil_left _ _ s) in
+          let there : second_block b q ≡ [] = nil_right _ _ s in
+          let opened : transfer_faults c ≡ [] = no_transfer c place a b o in (
+            once_step (site_number h k c) c (λ j. i (or_left _ _ j)),
+            once_body x a accepted (shut_accepted c place a b o)
+                q here (λ m j. d m (or_right _ _ (or_left _ _ j))) (λ j. i (or_right _ _ (or_left _ _ j))),
+            once_body y b refused (shut_refused c place a b o)
+                q there (λ m j. d m (or_right _ _ (or_right _ _ j))) (λ j. i (or_right _ _ (or_right _ _ j))),
+            λ m. and_if (step_reaching (group_reaches g) (step_of ls h (site_number h k c) c) m) (block_reaching (group_reaches g) (block_of ls h x a) m) (λ w.
+                body_unreached (group_reaches g) m x a accepted q (open_written (group_reaches g) (site_number h k c) c first opened m p w) here
+                (λ j. d m (or_right _ _ (or_left _ _ j)))),
+            λ m. and_if (step_writes (step_of ls h (site_number h k c) c) m) (block_reaching (group_reaches g) (block_of ls h y b) m) (λ w.
+                body_unreached (group_reaches g) m y b refused q (step_written (site_number h k c) c first m p w) there
+                (λ j. d m (or_right _ _ (or_right _ _ j)))),
+          )
+      once_command k (Case place e arms) f o p s d i =
+          once_arms (own What e) k arms (nil_right _ _ f) (shut_arms place e arms o) p s d i
+
+      once_arms : (asked : Option ℕ) (k : ℕ) (arms : Arms) → arms_faults levels What asked arms ≡ [] → ShutArms arms → (p : Written) → second_arms arms p ≡ []
+          → Free (entering_arms arms p) → (falls_arms arms ≡ true → below) → OnceArms g below (arms_of ls h k arms)
+      once_arms asked k (Last b) f o p s d i = once_body k b f o p s d i
+      once_arms asked k (Arm constants b arms) f o p s d i = (
+        once_body k b (nil_right _ _ (nil_left _ _ f))
+            (shut_arm constants b arms o) p (nil_left _ _ s) (λ m j. d m (or_left _ _ j)) (λ j. i (or_left _ _ j)),
+        once_arms asked (k + block_sites h b) arms (nil_right _ _ f)
+            (shut_later constants b arms o) p (nil_right _ _ s) (λ m j. d m (or_right _ _ j)) (λ j. i (or_right _ _ j)),
       )
 
       pub once_body : (k : ℕ) (b : CommandBlock) → Fits b → Shut b → (p : Written) → second_block b p ≡ [] → Free (entering_block b p)
           → (falls_block b ≡ true → below) → OnceBlock g below (block_of ls h k b)
-      once_body k (Commands cs after) f o p s d i = once_list k cs f (elim o [ inl i ↦ inl i | inr i ↦ inr (after, i) ]) p s d i
+      once_body k (Commands cs after) f o p s d i = once_list k cs f (shut_list cs after o) p s d i
 
       once_else : (k : ℕ) (b : ElseBlock) → else_faults levels What b ≡ [] → ShutElse b → (p : Written) → second_else b p ≡ [] → Free (entering_else b p)
           → (falls_else b ≡ true → below) → OnceBlock g below (else_of ls h k b)
       once_else k NoElse f o p s d i = tt
-      once_else k (Else b) f o p s d i = once_body k b f (elim o [ inl i ↦ inl i | inr i ↦ inr i.1 ]) p s d i
+      once_else k (Else b) f o p s d i = once_body k b f (shut_else b o) p s d i
 
       once_list : (k : ℕ) (cs : CommandList) → commands_faults levels What cs ≡ [] → ShutList cs → (p : Written) → second_list cs p ≡ []
           → Free (entering_list cs p) → (falls_list cs ≡ true → below) → OnceBlock g below (list_of ls h k cs)
       once_list k NoCommand f o p s d i = tt
       once_list k (AndCommand c NoCommand) f o p s d i = (
         once_command k c (nil_left _ _ f)
-            (elim o [ inl i ↦ inl (nil_left _ _ i) | inr i ↦ inr i ])
-            p (nil_left _ _ s) (λ m j. d m (or_left _ _ j)) (λ j. i (or_left _ _ j)),
+            (shut_first c NoCommand o) p (nil_left _ _ s) (λ m j. d m (or_left _ _ j)) (λ j. i (or_left _ _ j)),
         tt,
         λ m. and_if (reaching (group_reaches g) (command_of ls h k c) m) false (λ i. refl),
       )
@@ -271,8 +329,7 @@ module _ (ls : Levels) (levels : List (List ℕ)) (h : Home) (w : World) (match 
             once_command k c first (inl opened) p (nil_left _ _ s)
                 (λ m j. d m (or_left _ _ j)) (λ j. i (or_left _ _ j)),
             once_list (k + command_sites h c) (AndCommand e es) rest
-                (elim o [ inl i ↦ inl (nil_right _ _ i) | inr i ↦ inr (i.0, nil_right _ _ i.1) ])
-                (past c p) later (λ m j. d m (or_right _ _ j)) (λ j. i (or_right _ _ j)),
+                (shut_rest c cs o) (past c p) later (λ m j. d m (or_right _ _ j)) (λ j. i (or_right _ _ j)),
             λ m. and_if (reaching (group_reaches g) (command_of ls h k c) m) (block_reaching (group_reaches g) (list_of ls h (k + command_sites h c) cs) m)
                 (λ w.
                 list_unreached (group_reaches g) m (k + command_sites h c) cs rest (past c p) (command_written (group_reaches g) k c first opened m p w) later
@@ -299,6 +356,16 @@ module _ (m : List ℕ) where
         either_falls (entering_simple c p m) (entering_block b (past_simple c p) m) (is_fall c) (falls_block b) (step_falls c p) (body_falls b (past_simple c p)) h
     command_falls (If place e b other) p h =
         either_falls (entering_block b p m) (entering_else other p m) (falls_block b) (falls_else other) (body_falls b p) (else_falls other p) h
+    command_falls (TryThen c place a b) p h =
+        let q = past_simple c p in
+        either_falls (entering_simple c p m) (entering_block a q m || entering_block b q m) (is_fall c) (falls_block a || falls_block b) (step_falls c p)
+        (either_falls (entering_block a q m) (entering_block b q m) (falls_block a) (falls_block b) (body_falls a q) (body_falls b q)) h
+    command_falls (Case place e arms) p h = arms_fall arms p h
+
+    arms_fall : (arms : Arms) (p : Written) → entering_arms arms p m ≡ true → falls_arms arms ≡ true
+    arms_fall (Last b) p h = body_falls b p h
+    arms_fall (Arm constants b arms) p h =
+        either_falls (entering_block b p m) (entering_arms arms p m) (falls_block b) (falls_arms arms) (body_falls b p) (arms_fall arms p) h
 
     body_falls : (b : CommandBlock) (p : Written) → entering_block b p m ≡ true → falls_block b ≡ true
     body_falls (Commands cs after) p h = list_falls cs p h

@@ -1,26 +1,27 @@
 -- The check sites of a well-formed design are numbered from 1 in the order of the text.
-use Rattle.std.proofs.Common.{◌≡◌, ℕ, zero, suc, ◌+◌, Bool, true, false, not, ◌||◌, List, [], ◌∷◌, ◌++◌, refl, sym, ap, ◌∙◌, subst, arith, if◌then◌else◌}
+use Rattle.std.proofs.Common.{◌≡◌, ℕ, zero, suc, ◌+◌, Option, Bool, true, false, not, ◌||◌, List, [], ◌∷◌, ◌++◌, refl, sym, ap, ◌∙◌, subst, arith, if◌then◌else◌}
 use Rattle.sap_tree.specs.declared.syntax.Kind.{Kind}
 use Rattle.sap_tree.specs.declared.syntax.Kind.TheVariants.{Dynamic, Enforced}
-use Rattle.sap_tree.specs.Syntax.{SimpleCommand, Assign, Write, SetTag, SetCellTag, Goto, Fall, Command, Do, Try, If, CommandBlock, Commands, ElseBlock, NoElse, Else, CommandList, NoCommand, AndCommand, StateTree, StateOf, StateList, NoState, AndState}
+use Rattle.sap_tree.specs.Syntax.{SimpleCommand, Assign, Write, SetTag, SetCellTag, Goto, Fall, Command, Do, Try, If, TryThen, Case, Arms, Last, Arm, CommandBlock, Commands, ElseBlock, NoElse, Else, CommandList, NoCommand, AndCommand, StateTree, StateOf, StateList, NoState, AndState}
 use Rattle.sap_lattice.specs.Levels.{Levels}
 use Rattle.sap_names.specs.Entities as tree
 use Rattle.sap_names.specs.declared.entity.Entity as declared_entity
 use Rattle.sap_names.specs.Entities.{what_is}
+use Rattle.sap_names.specs.Widths.{own as own_width}
 use Rattle.sap_names.specs.declared.kind.Use.TheVariants.{Assigned as assigned, Indexed as indexed, Entered as entered}
-use Rattle.sap_names.specs.NameFaults.{simple_faults, command_faults, block_faults, else_faults, commands_faults, state_faults, states_faults}
+use Rattle.sap_names.specs.NameFaults.{simple_faults, command_faults, block_faults, arms_faults, else_faults, commands_faults, state_faults, states_faults}
 use Rattle.sap_shape.specs.Sites.{is_enforced, is_enforced_kind, any_enforced, kind_of}
 use Rattle.sap_shape.specs.Sites as shape
 use Rattle.sap_meaning.specs.Program as program
 use Rattle.sap_meaning.specs.Program.{World, is_dynamic, Step, Block, State, Node, Group, None, More}
 use Rattle.sap_meaning.specs.Checks.{Spot, site_of}
-use Rattle.sap_meaning.specs.Sites.{some_enforced, is_site, step_sites, sites, block_sites, state_sites, group_sites, RisesFrom}
+use Rattle.sap_meaning.specs.Sites.{some_enforced, is_site, step_sites, sites, arms_sites, block_sites, state_sites, group_sites, RisesFrom}
 use Rattle.sap_resolve.specs.Worlds.{states_in, is_dynamic_kind}
 use Rattle.sap_resolve.specs.Sites.{Home, simple_sites}
 use Rattle.sap_resolve.specs.Sites as tree_sites
-use Rattle.sap_resolve.specs.Resolve.{site_number, step_of, command_of, block_of, else_of, list_of, state_of, group_of}
+use Rattle.sap_resolve.specs.Resolve.{site_number, step_of, command_of, arms_of, block_of, else_of, list_of, state_of, group_of}
 use Rattle.sap_resolve.specs.Terms.{entity_number}
-use Rattle.sap_resolve.specs.Fill.{filled_step, filled, filled_block, filled_state, filled_group}
+use Rattle.sap_resolve.specs.Fill.{filled_step, filled, filled_arms, filled_block, filled_state, filled_group}
 use Rattle.sap_resolve.proofs.Lookup.{AllMatch}
 use Rattle.sap_premises.proofs.Commands.{set_named, write_named, if_first, if_other, body_fits, below_fits}
 use Rattle.sap_premises.proofs.Faultless.{nil_left, nil_right, or_same}
@@ -113,6 +114,27 @@ module _ (ls : Levels) (levels : List (List ℕ)) (h : Home) (w : World) (match 
         (tree_sites.else_sites h other) k
         (block_counted k b (if_first levels What place e b other f))
         (else_counted (k + tree_sites.block_sites h b) other (if_other levels What place e b other f))
+    command_counted k (TryThen c place a b) f =
+        let i = k + simple_sites h c in
+        let j = i + tree_sites.block_sites h a in
+        let e : (simple_sites h c + tree_sites.block_sites h a) + tree_sites.block_sites h b ≡ simple_sites h c + (tree_sites.block_sites h a + tree_sites.block_sites h b) = omega arith in
+        joined (step_sites w x g (step_of ls h (site_number h k c) c)) (block_sites w x g (block_of ls h i a) ++ block_sites w x g (block_of ls h j b)) (simple_sites h c)
+        (tree_sites.block_sites h a + tree_sites.block_sites h b) k
+        (step_counted k c (nil_left _ _ (nil_left _ _ f)))
+        (joined (block_sites w x g (block_of ls h i a)) (block_sites w x g (block_of ls h j b)) (tree_sites.block_sites h a) (tree_sites.block_sites h b) i
+        (block_counted i a (nil_right _ _ (nil_left _ _ f)))
+        (block_counted j b (nil_right _ _ f)))
+        ∙ ap (λ (n : ℕ). count_from n k) (sym e)
+    command_counted k (Case place e arms) f = arms_counted (own_width What e) k arms (nil_right _ _ f)
+
+    arms_counted : (asked : Option ℕ) (k : ℕ) (arms : Arms) → arms_faults levels What asked arms ≡ []
+        → arms_sites w x g (arms_of ls h k arms) ≡ count_from (tree_sites.arms_sites h arms) k
+    arms_counted asked k (Last b) f = block_counted k b f
+    arms_counted asked k (Arm constants b arms) f =
+        joined (block_sites w x g (block_of ls h k b)) (arms_sites w x g (arms_of ls h (k + tree_sites.block_sites h b) arms)) (tree_sites.block_sites h b)
+        (tree_sites.arms_sites h arms) k
+        (block_counted k b (nil_right _ _ (nil_left _ _ f)))
+        (arms_counted asked (k + tree_sites.block_sites h b) arms (nil_right _ _ f))
 
     pub block_counted : (k : ℕ) (b : CommandBlock) → block_faults levels What b ≡ []
         → block_sites w x g (block_of ls h k b) ≡ count_from (tree_sites.block_sites h b) k
@@ -187,6 +209,18 @@ module _ (w : World) where
       sites_filled (program.If hang e a b) =
           both (block_sites w s i (filled_block w at a)) (block_sites w s i (filled_block w at b)) (block_sites w s g a) (block_sites w s g b)
           (block_sites_filled a) (block_sites_filled b)
+      sites_filled (program.TryThen k hang a b) =
+          both (step_sites w s i (filled_step w at k)) (block_sites w s i (filled_block w at a) ++ block_sites w s i (filled_block w at b)) (step_sites w s g k)
+          (block_sites w s g a ++ block_sites w s g b) (step_sites_filled k)
+          (both (block_sites w s i (filled_block w at a)) (block_sites w s i (filled_block w at b)) (block_sites w s g a) (block_sites w s g b)
+          (block_sites_filled a) (block_sites_filled b))
+      sites_filled (program.Case hang e arms) = arms_sites_filled arms
+
+      arms_sites_filled : (arms : program.Arms) → arms_sites w s i (filled_arms w at arms) ≡ arms_sites w s g arms
+      arms_sites_filled (program.Last b) = block_sites_filled b
+      arms_sites_filled (program.Arm constants b arms) =
+          both (block_sites w s i (filled_block w at b)) (arms_sites w s i (filled_arms w at arms)) (block_sites w s g b) (arms_sites w s g arms)
+          (block_sites_filled b) (arms_sites_filled arms)
 
       block_sites_filled : (b : Block) → block_sites w s i (filled_block w at b) ≡ block_sites w s g b
       block_sites_filled program.End = refl

@@ -1,31 +1,33 @@
 -- What E11, E12, E16 and E17 keep out of a body: targets of another group, a fall with nothing to fall into, retagging of what is dynamic, of the state and
 -- of those above and below it.
-use Rattle.std.proofs.Common.{◌≡◌, ℕ, ◌+◌, ◌<◌, Bool, true, false, not, List, [], ◌∷◌, ◌++◌, refl, ap, ◌∙◌, subst, arith, nat_eq}
+use Rattle.std.proofs.Common.{◌≡◌, ℕ, ◌+◌, ◌<◌, ◌||◌, Option, Bool, true, false, not, List, [], ◌∷◌, ◌++◌, refl, ap, ◌∙◌, subst, arith, nat_eq}
 use Rattle.sap_tree.specs.declared.place.Place.{Place}
-use Rattle.sap_tree.specs.Syntax.{SimpleCommand, Assign, Write, SetTag, SetCellTag, Goto, Fall, Command, Do, Try, If, CommandBlock, Commands, ElseBlock, NoElse, Else, CommandList, NoCommand, AndCommand, StateTree, StateOf, StateList, NoState, AndState}
+use Rattle.sap_tree.specs.Syntax.{SimpleCommand, Assign, Write, SetTag, SetCellTag, Goto, Fall, Command, Do, Try, If, TryThen, Case, Arms, Last, Arm, CommandBlock, Commands, ElseBlock, NoElse, Else, CommandList, NoCommand, AndCommand, StateTree, StateOf, StateList, NoState, AndState}
 use Rattle.sap_lattice.specs.Levels.{Levels}
 use Rattle.sap_names.specs.declared.kind.Code.TheVariants.{E11, E12, E16, E17}
 use Rattle.sap_names.specs.Entities.{Lookup, what_is}
 use Rattle.sap_names.specs.declared.entity.Entity.{Entity}
+use Rattle.sap_names.specs.Widths.{own}
 use Rattle.sap_names.specs.declared.kind.Use.TheVariants.{Indexed as indexed, Retagged as retagged}
-use Rattle.sap_names.specs.NameFaults.{fault_if, simple_faults, command_faults, block_faults, else_faults, commands_faults, state_faults, states_faults}
-use Rattle.sap_shape.specs.Closing.{closing_faults}
+use Rattle.sap_names.specs.NameFaults.{fault_if, simple_faults, command_faults, block_faults, arms_faults, else_faults, commands_faults, state_faults, states_faults}
+use Rattle.sap_shape.specs.Closing.{transfer_faults, closing_faults}
 use Rattle.sap_shape.specs.Sites.{is_dynamic}
-use Rattle.sap_shape.specs.ShapeFaults.{Body, is_among, is_in, is_leaf, is_comparable, simple_shape, command_shape, block_shape, else_shape, list_shape, state_shape, states_shape}
+use Rattle.sap_shape.specs.ShapeFaults.{Body, is_among, is_in, is_leaf, is_comparable, simple_shape, then_shape, command_shape, block_shape, arms_shape, else_shape, list_shape, state_shape, states_shape}
 use Rattle.sap_meaning.specs.Program.{World, Group}
 use Rattle.sap_meaning.specs.Touches.{among}
-use Rattle.sap_meaning.specs.Fine.{size, FineStep, FineCommand, FineBlock, step_retags, retags, block_retags, state_retags, group_retags}
+use Rattle.sap_meaning.specs.Fine.{size, FineStep, FineCommand, FineArms, FineBlock, step_retags, retags, arms_retag, block_retags, state_retags, group_retags}
 use Rattle.sap_meaning.proofs.Bools.{or_left, or_right, or_false, not_true, same_number}
 use Rattle.sap_resolve.specs.Worlds.{states_in}
 use Rattle.sap_resolve.specs.Sites.{Home, simple_sites, block_sites, command_sites, state_sites}
-use Rattle.sap_resolve.specs.Resolve.{site_number, step_of, command_of, block_of, else_of, list_of, state_of, group_of}
+use Rattle.sap_resolve.specs.Resolve.{site_number, step_of, command_of, arms_of, block_of, else_of, list_of, state_of, group_of}
 use Rattle.sap_resolve.specs.Terms.{entity_number}
-use Rattle.sap_resolve.specs.Named.{NamedStep, Named, NamedBlock}
+use Rattle.sap_resolve.specs.Named.{NamedStep, Named, NamedArms, NamedBlock}
 use Rattle.sap_resolve.proofs.Lookup.{AllMatch}
 use Rattle.sap_premises.proofs.Commands.{tag_named, cell_named, if_first, if_other, body_fits, below_fits}
 use Rattle.sap_premises.proofs.Faultless.{nil_left, nil_right, no_fault, not_false}
 use Rattle.sap_premises.proofs.Places.{name_at}
 use Rattle.sap_premises.proofs.Lookups.{named, dynamic_same}
+use Rattle.sap_premises.proofs.Shut.{Ended, Shut, ShutArms, ShutElse, ShutList, shut_list, shut_else, shut_first, shut_rest, shut_handler, shut_branch, shut_other, no_transfer, shut_accepted, shut_refused, shut_arms, shut_arm, shut_later}
 
 clash : (b : Bool) → b ≡ false → b ≡ true → ⊥
 clash true h k = cc
@@ -67,6 +69,15 @@ module _ (ls : Levels) (levels : List (List ℕ)) (h : Home) (w : World) (match 
       step_unmarked n (Goto place target) f s = refl
       step_unmarked n (Fall place) f s = refl
 
+      then_unmarked : (n : ℕ) (c : SimpleCommand) (place : Place) → simple_faults levels What c ≡ [] → then_shape h.entities at c place ≡ []
+          → step_retags (step_of ls h n c) y ≡ false
+      then_unmarked n (Assign target e) place f s = refl
+      then_unmarked n (Write target index e) place f s = refl
+      then_unmarked n (SetTag p target tag) place f s = step_unmarked n (SetTag p target tag) f (nil_left _ _ s)
+      then_unmarked n (SetCellTag p target index tag) place f s = refl
+      then_unmarked n (Goto p target) place f s = refl
+      then_unmarked n (Fall p) place f s = refl
+
       mutual
         command_unmarked : (k : ℕ) (c : Command) → command_faults levels What c ≡ [] → command_shape h.entities at c ≡ []
             → retags (command_of ls h k c) y ≡ false
@@ -79,6 +90,23 @@ module _ (ls : Levels) (levels : List (List ℕ)) (h : Home) (w : World) (match 
             or_false (block_retags (block_of ls h k b) y) (block_retags (else_of ls h (k + block_sites h b) other) y)
             (block_unmarked k b (if_first levels What place e b other f) (nil_left _ _ s))
             (else_unmarked (k + block_sites h b) other (if_other levels What place e b other f) (nil_right _ _ s))
+        command_unmarked k (TryThen c place a b) f s =
+            let i = k + simple_sites h c in
+            let j = i + block_sites h a in
+            or_false (step_retags (step_of ls h (site_number h k c) c) y) (block_retags (block_of ls h i a) y || block_retags (block_of ls h j b) y)
+            (then_unmarked (site_number h k c) c place (nil_left _ _ (nil_left _ _ f)) (nil_left _ _ (nil_left _ _ s)))
+            (or_false (block_retags (block_of ls h i a) y) (block_retags (block_of ls h j b) y)
+            (block_unmarked i a (nil_right _ _ (nil_left _ _ f)) (nil_right _ _ (nil_left _ _ s)))
+            (block_unmarked j b (nil_right _ _ f) (nil_right _ _ s)))
+        command_unmarked k (Case place e arms) f s = arms_unmarked (own What e) k arms (nil_right _ _ f) s
+
+        arms_unmarked : (asked : Option ℕ) (k : ℕ) (arms : Arms) → arms_faults levels What asked arms ≡ [] → arms_shape h.entities at arms ≡ []
+            → arms_retag (arms_of ls h k arms) y ≡ false
+        arms_unmarked asked k (Last b) f s = block_unmarked k b f s
+        arms_unmarked asked k (Arm constants b arms) f s =
+            or_false (block_retags (block_of ls h k b) y) (arms_retag (arms_of ls h (k + block_sites h b) arms) y)
+            (block_unmarked k b (nil_right _ _ (nil_left _ _ f)) (nil_left _ _ s))
+            (arms_unmarked asked (k + block_sites h b) arms (nil_right _ _ f) (nil_right _ _ s))
 
         pub block_unmarked : (k : ℕ) (b : CommandBlock) → block_faults levels What b ≡ [] → block_shape h.entities at b ≡ []
             → block_retags (block_of ls h k b) y ≡ false
@@ -120,35 +148,58 @@ module _ (ls : Levels) (levels : List (List ℕ)) (h : Home) (w : World) (match 
           targets target.name (not_false (is_among at.group target.name) (no_fault (not (is_among at.group target.name)) E11 target.place s))
       fine_step n (Fall place) f s i = falling (no_fault (is_leaf at.children) E12 place s)
 
+      fine_then : (n : ℕ) (c : SimpleCommand) (place : Place) → simple_faults levels What c ≡ [] → then_shape h.entities at c place ≡ [] → transfer_faults c ≡ []
+          → NamedStep w (step_of ls h n c) → FineStep w q g (step_of ls h n c)
+      fine_then n (Assign target e) place f s o i = fine_step n (Assign target e) f (nil_left _ _ s) i
+      fine_then n (Write target index e) place f s o i = fine_step n (Write target index e) f (nil_left _ _ s) i
+      fine_then n (SetTag p target tag) place f s o i = fine_step n (SetTag p target tag) f (nil_left _ _ s) i
+      fine_then n (SetCellTag p target index tag) place f s o i = fine_step n (SetCellTag p target index tag) f (nil_left _ _ s) i
+      fine_then n (Goto p target) place f s o i = absurd (cc o)
+      fine_then n (Fall p) place f s o i = absurd (cc o)
+
       mutual
-        fine_command : (k : ℕ) (c : Command) → command_faults levels What c ≡ [] → command_shape h.entities at c ≡ [] → Named w (command_of ls h k c)
+        fine_command : (k : ℕ) (c : Command) → command_faults levels What c ≡ [] → command_shape h.entities at c ≡ [] → Ended c → Named w (command_of ls h k c)
             → FineCommand w q g (command_of ls h k c)
-        fine_command k (Do c) f s i = fine_step (site_number h k c) c f s i
-        fine_command k (Try c place b) f s i = (
+        fine_command k (Do c) f s o i = fine_step (site_number h k c) c f s i
+        fine_command k (Try c place b) f s o i = (
           fine_step (site_number h k c) c (nil_left _ _ f) (try_first c place b s) i.0,
-          fine_body (k + simple_sites h c) b (nil_right _ _ f) (try_handler c place b s) i.1,
+          fine_body (k + simple_sites h c) b (nil_right _ _ f) (try_handler c place b s) (shut_handler c place b o) i.1,
         )
-        fine_command k (If place e b other) f s i = (
+        fine_command k (If place e b other) f s o i = (
           i.0,
-          fine_body k b (if_first levels What place e b other f) (nil_left _ _ s) i.1,
-          fine_else (k + block_sites h b) other (if_other levels What place e b other f) (nil_right _ _ s) i.2,
+          fine_body k b (if_first levels What place e b other f) (nil_left _ _ s) (shut_branch place e b other o) i.1,
+          fine_else (k + block_sites h b) other (if_other levels What place e b other f) (nil_right _ _ s) (shut_other place e b other o) i.2,
+        )
+        fine_command k (TryThen c place a b) f s o i = (
+          fine_then (site_number h k c) c place (nil_left _ _ (nil_left _ _ f)) (nil_left _ _ (nil_left _ _ s)) (no_transfer c place a b o) i.0,
+          fine_body (k + simple_sites h c) a (nil_right _ _ (nil_left _ _ f)) (nil_right _ _ (nil_left _ _ s)) (shut_accepted c place a b o) i.1,
+          fine_body (k + simple_sites h c + block_sites h a) b (nil_right _ _ f) (nil_right _ _ s) (shut_refused c place a b o) i.2,
+        )
+        fine_command k (Case place e arms) f s o i = (i.0, fine_arms (own What e) k arms (nil_right _ _ f) s (shut_arms place e arms o) i.1)
+
+        fine_arms : (asked : Option ℕ) (k : ℕ) (arms : Arms) → arms_faults levels What asked arms ≡ [] → arms_shape h.entities at arms ≡ [] → ShutArms arms
+            → NamedArms w (arms_of ls h k arms) → FineArms w q g (arms_of ls h k arms)
+        fine_arms asked k (Last b) f s o i = fine_body k b f s o i
+        fine_arms asked k (Arm constants b arms) f s o i = (
+          fine_body k b (nil_right _ _ (nil_left _ _ f)) (nil_left _ _ s) (shut_arm constants b arms o) i.0,
+          fine_arms asked (k + block_sites h b) arms (nil_right _ _ f) (nil_right _ _ s) (shut_later constants b arms o) i.1,
         )
 
-        pub fine_body : (k : ℕ) (b : CommandBlock) → block_faults levels What b ≡ [] → block_shape h.entities at b ≡ [] → NamedBlock w (block_of ls h k b)
+        pub fine_body : (k : ℕ) (b : CommandBlock) → block_faults levels What b ≡ [] → block_shape h.entities at b ≡ [] → Shut b → NamedBlock w (block_of ls h k b)
             → FineBlock w q g (block_of ls h k b)
-        fine_body k (Commands cs after) f s i = fine_list k cs f s i
+        fine_body k (Commands cs after) f s o i = fine_list k cs f s (shut_list cs after o) i
 
-        fine_else : (k : ℕ) (b : ElseBlock) → else_faults levels What b ≡ [] → else_shape h.entities at b ≡ [] → NamedBlock w (else_of ls h k b)
+        fine_else : (k : ℕ) (b : ElseBlock) → else_faults levels What b ≡ [] → else_shape h.entities at b ≡ [] → ShutElse b → NamedBlock w (else_of ls h k b)
             → FineBlock w q g (else_of ls h k b)
-        fine_else k NoElse f s i = tt
-        fine_else k (Else b) f s i = fine_body k b f s i
+        fine_else k NoElse f s o i = tt
+        fine_else k (Else b) f s o i = fine_body k b f s (shut_else b o) i
 
-        fine_list : (k : ℕ) (cs : CommandList) → commands_faults levels What cs ≡ [] → list_shape h.entities at cs ≡ [] → NamedBlock w (list_of ls h k cs)
+        fine_list : (k : ℕ) (cs : CommandList) → commands_faults levels What cs ≡ [] → list_shape h.entities at cs ≡ [] → ShutList cs → NamedBlock w (list_of ls h k cs)
             → FineBlock w q g (list_of ls h k cs)
-        fine_list k NoCommand f s i = tt
-        fine_list k (AndCommand c cs) f s i = (
-          fine_command k c (nil_left _ _ f) (nil_left _ _ s) i.0,
-          fine_list (k + command_sites h c) cs (nil_right _ _ f) (nil_right _ _ s) i.1,
+        fine_list k NoCommand f s o i = tt
+        fine_list k (AndCommand c cs) f s o i = (
+          fine_command k c (nil_left _ _ f) (nil_left _ _ s) (shut_first c cs o) i.0,
+          fine_list (k + command_sites h c) cs (nil_right _ _ f) (nil_right _ _ s) (shut_rest c cs o) i.1,
         )
 
 -- a state above is not retagged in the states below

@@ -4,6 +4,7 @@ use Rattle.sap_tree.specs.declared.syntax.Cmd.{Cmd}
 use Rattle.sap_tree.specs.declared.syntax.Decl.{Decl}
 use Rattle.sap_tree.specs.declared.syntax.State.{State, out-State}
 use Rattle.sap_tree.specs.Parts.{tree_of}
+use Rattle.sap_tree.specs.declared.version.Version.{Version}
 use Rattle.sap_names.specs.Entities.{entities_of}
 use Rattle.sap_tree.specs.Syntax.{StateTree}
 use Rattle.sap_tree.specs.Trees as trees
@@ -183,15 +184,15 @@ rest_states s rest r limit x l = (let a = states_in-is s in let d = ap (λ (g : 
 
 -- a whole design's states and sites, as the code sees them
 
-pub whole_states : (ls : Levels) (ds : List Decl) (ss : List State) (es : List Entity) (seen : List State) (x : ℕ) (rows : Rows) (made : Group) → es ≡ entities_of (tree_of ds ss) → seen ≡ ss
-    → x ≡ length ds → made ≡ group_with rows 1 (group_from ls es 1 x seen) → made ≡ group_with rows 1 (resolve.states_of ls (tree_of ds ss))
+pub whole_states : (v : Version) (ls : Levels) (ds : List Decl) (ss : List State) (es : List Entity) (seen : List State) (x : ℕ) (rows : Rows) (made : Group) → es ≡ entities_of (tree_of v ds ss) → seen ≡ ss
+    → x ≡ length ds → made ≡ group_with rows 1 (group_from ls es 1 x seen) → made ≡ group_with rows 1 (resolve.states_of ls (tree_of v ds ss))
 unfolding group_from
-whole_states ls ds ss es seen x rows made a b d h = h ∙ rw (a, b, d) refl
+whole_states v ls ds ss es seen x rows made a b d h = h ∙ rw (a, b, d) refl
 
-pub whole_sites : (ds : List Decl) (ss : List State) (es : List Entity) (seen : List State) (j count : ℕ) → es ≡ entities_of (tree_of ds ss) → seen ≡ ss
-    → j ≡ 1 + group_sites es seen → count + 1 ≡ j → count ≡ sites.group_sites (entities_of (tree_of ds ss)) (states_of ss)
+pub whole_sites : (v : Version) (ds : List Decl) (ss : List State) (es : List Entity) (seen : List State) (j count : ℕ) → es ≡ entities_of (tree_of v ds ss) → seen ≡ ss
+    → j ≡ 1 + group_sites es seen → count + 1 ≡ j → count ≡ sites.group_sites (entities_of (tree_of v ds ss)) (states_of ss)
 unfolding group_sites
-whole_sites ds ss es seen j count a b h k = (let e = ap₂ (λ (x : List Entity) (l : List State). group_sites x l) a b in omega (arith, e, h, k))
+whole_sites v ds ss es seen j count a b h k = (let e = ap₂ (λ (x : List Entity) (l : List State). group_sites x l) a b in omega (arith, e, h, k))
 
 -- a call's clause as that of its caller
 pub on_ok : {T E : Type 0} (r : Result T E) (P Q : Type 0) → (P → Q) → OnOk r P → OnOk r Q

@@ -3,6 +3,7 @@ pub mod Chosen
 pub mod Placed
 pub mod Shown
 pub mod Lists
+pub mod Arms
 pub mod Lighter
 pub mod Choices
 pub mod Groups

@@ -8,10 +8,11 @@ use Rattle.std.specs.List.{count_by}
 use Rattle.std.specs.Prelude.{nat_le}
 use Rattle.sap_tree.specs.declared.syntax.Decl.{Decl}
 use Rattle.sap_tree.specs.declared.syntax.Decl.TheVariants as d
-use Rattle.sap_tree.specs.Syntax.{SimpleCommand, Assign, Write, SetTag, SetCellTag, Goto, Fall, Command, Do, Try, If, CommandBlock, Commands, ElseBlock, NoElse, Else, CommandList, NoCommand, AndCommand, StateTree, StateOf, StateList, NoState, AndState, DesignTree}
-use Rattle.sap_tree.specs.Whole.{command_count, block_count, else_count, list_count, state_commands, states_commands, state_count, states_count, states_depth, is_whole, is_tree, is_input, is_register, is_memory}
+use Rattle.sap_tree.specs.Syntax.{SimpleCommand, Assign, Write, SetTag, SetCellTag, Goto, Fall, Command, Do, Try, If, TryThen, Case, Arms, Last, Arm, CommandBlock, Commands, ElseBlock, NoElse, Else, CommandList, NoCommand, AndCommand, StateTree, StateOf, StateList, NoState, AndState, DesignTree}
+use Rattle.sap_tree.specs.Whole.{command_count, block_count, arms_count, else_count, list_count, state_commands, states_commands, state_count, states_count, states_depth, is_whole, is_tree, is_input, is_register, is_memory}
 use Rattle.sap_tree.specs.declared.syntax.State.{State}
 use Rattle.sap_tree.specs.Parts.{tree_of}
+use Rattle.sap_tree.specs.declared.version.Version.{Version}
 use Rattle.sap_lattice.specs.Levels.{Levels}
 use Rattle.sap_names.specs.declared.entity.Entity.{Entity}
 use Rattle.sap_shape.specs.Sites.{is_site}
@@ -20,7 +21,7 @@ use Rattle.sap_resolve.specs.Sites as sites
 use Rattle.sap_resolve.specs.Sites.{Home}
 use Rattle.sap_resolve.specs.Worlds as worlds
 use Rattle.sap_program.specs.Lists as lists
-use Rattle.sap_program.specs.Rows.{step_points, command_points, block_points, state_points, group_points}
+use Rattle.sap_program.specs.Rows.{step_points, command_points, arms_points, block_points, state_points, group_points}
 
 simple_sites-few : (h : Home) (k : SimpleCommand) → sites.simple_sites h k ≤ 1
 simple_sites-few h k = elim (cases_Bool (is_site h.entities h.kind h.children k)) [ inl e ↦ rw e (omega arith) | inr e ↦ rw e (omega arith) ]
@@ -35,12 +36,19 @@ step_points-few ls h n (Fall place) = omega arith
 
 module _ (h : Home) where
   mutual
-    unfolding command_count block_count else_count list_count
+    unfolding command_count block_count arms_count else_count list_count
 
     command_sites-few : (c : Command) → sites.command_sites h c ≤ command_count c
     command_sites-few (Do k) = simple_sites-few h k
     command_sites-few (Try k place handler) = let a = simple_sites-few h k in let b = block_sites-few handler in omega arith
     command_sites-few (If place e one other) = let a = block_sites-few one in let b = else_sites-few other in omega arith
+    command_sites-few (TryThen k place accepted refused) =
+        let a = simple_sites-few h k in let b = block_sites-few accepted in let c = block_sites-few refused in omega arith
+    command_sites-few (Case place e arms) = let a = arms_sites-few arms in omega arith
+
+    arms_sites-few : (arms : Arms) → sites.arms_sites h arms ≤ arms_count arms
+    arms_sites-few (Last b) = block_sites-few b
+    arms_sites-few (Arm constants b arms) = let a = block_sites-few b in let c = arms_sites-few arms in omega arith
 
     block_sites-few : (b : CommandBlock) → sites.block_sites h b ≤ block_count b
     block_sites-few (Commands cs after) = list_sites-few cs
@@ -55,13 +63,23 @@ module _ (h : Home) where
 
 module _ (ls : Levels) (h : Home) where
   mutual
-    unfolding command_count block_count else_count list_count
+    unfolding command_count block_count arms_count else_count list_count
 
     command_points-few : (k : ℕ) (c : Command) → command_points (resolve.command_of ls h k c) ≤ 2 * command_count c
     command_points-few k (Do c) = let a = step_points-few ls h (resolve.site_number h k c) c in omega arith
     command_points-few k (Try c place handler) =
         let a = step_points-few ls h (resolve.site_number h k c) c in let b = block_points-few (k + sites.simple_sites h c) handler in omega arith
     command_points-few k (If place e one other) = let a = block_points-few k one in let b = else_points-few (k + sites.block_sites h one) other in omega arith
+    command_points-few k (TryThen c place accepted refused) =
+        let a = step_points-few ls h (resolve.site_number h k c) c in
+        let b = block_points-few (k + sites.simple_sites h c) accepted in
+        let d = block_points-few (k + sites.simple_sites h c + sites.block_sites h accepted) refused in omega arith
+    command_points-few k (Case place e arms) = let a = arms_points-few k arms in omega arith
+
+    arms_points-few : (k : ℕ) (arms : Arms) → arms_points (resolve.arms_of ls h k arms) ≤ 2 * arms_count arms
+    arms_points-few k (Last b) = block_points-few k b
+    arms_points-few k (Arm constants b arms) =
+        let a = block_points-few k b in let c = arms_points-few (k + sites.block_sites h b) arms in omega arith
 
     block_points-few : (k : ℕ) (b : CommandBlock) → block_points (resolve.block_of ls h k b) ≤ 2 * block_count b
     block_points-few k (Commands cs after) = list_points-few k cs
@@ -145,16 +163,16 @@ module _ (t : DesignTree) (whole : IsTrue (is_whole t)) where
 
 -- as the code sees them
 
-pub sites_fit : (ls : Levels) (ds : List Decl) (ss : List State) (es : List Entity) (seen : List State) → IsTrue (is_whole (tree_of ds ss)) → seen ≡ ss → 1 + lists.group_sites es seen < 2 ^ 32
+pub sites_fit : (v : Version) (ls : Levels) (ds : List Decl) (ss : List State) (es : List Entity) (seen : List State) → IsTrue (is_whole (tree_of v ds ss)) → seen ≡ ss → 1 + lists.group_sites es seen < 2 ^ 32
 unfolding lists.group_sites
-sites_fit ls ds ss es seen whole b = (let a = few_sites (tree_of ds ss) whole ls es in let e = ap (λ (l : List State). lists.group_sites es l) b in omega (arith, a, e))
+sites_fit v ls ds ss es seen whole b = (let a = few_sites (tree_of v ds ss) whole ls es in let e = ap (λ (l : List State). lists.group_sites es l) b in omega (arith, a, e))
 
-pub points_fit : (ls : Levels) (ds : List Decl) (ss : List State) (es : List Entity) (k x : ℕ) (seen : List State) → IsTrue (is_whole (tree_of ds ss)) → seen ≡ ss
+pub points_fit : (v : Version) (ls : Levels) (ds : List Decl) (ss : List State) (es : List Entity) (k x : ℕ) (seen : List State) → IsTrue (is_whole (tree_of v ds ss)) → seen ≡ ss
     → 1 + group_points (lists.group_from ls es k x seen) < 2 ^ 32
 unfolding lists.group_from
-points_fit ls ds ss es k x seen whole b =
-    (let a = few_points (tree_of ds ss) whole ls es k x in let e = ap (λ (l : List State). group_points (lists.group_from ls es k x l)) b in omega (arith, a, e))
+points_fit v ls ds ss es k x seen whole b =
+    (let a = few_points (tree_of v ds ss) whole ls es k x in let e = ap (λ (l : List State). group_points (lists.group_from ls es k x l)) b in omega (arith, a, e))
 
-pub states_fit : (ds : List Decl) (ss : List State) (x : ℕ) (seen : List State) → IsTrue (is_whole (tree_of ds ss)) → seen ≡ ss → x ≡ length ds → x + lists.states_below seen < 2 ^ 32
+pub states_fit : (v : Version) (ds : List Decl) (ss : List State) (x : ℕ) (seen : List State) → IsTrue (is_whole (tree_of v ds ss)) → seen ≡ ss → x ≡ length ds → x + lists.states_below seen < 2 ^ 32
 unfolding lists.states_below
-states_fit ds ss x seen whole b d = (let a = few_entities (tree_of ds ss) whole in let e = ap (λ (l : List State). lists.states_below l) b in omega (arith, a, e, d))
+states_fit v ds ss x seen whole b d = (let a = few_entities (tree_of v ds ss) whole in let e = ap (λ (l : List State). lists.states_below l) b in omega (arith, a, e, d))

@@ -8,16 +8,16 @@ use Rattle.sap_lattice.specs.Levels.{Levels}
 use Rattle.sap_names.specs.declared.entity.Entity.{Entity}
 use Rattle.sap_names.specs.Entities.{entities_of}
 use Rattle.sap_maps.specs.Term.{Term}
-use Rattle.sap_meaning.specs.Program.{World, Step, Set, Write, Retag, RetagCell, Goto, Fall, Command, Do, Try, If, Block, End, Then, State, Node, Group, None as NoState, More, root}
+use Rattle.sap_meaning.specs.Program.{World, Step, Set, Write, Retag, RetagCell, Goto, Fall, Command, Do, Try, If, TryThen, Case, Arms, Last, Arm, Block, End, Then, State, Node, Group, None as NoState, More, root}
 use Rattle.sap_meaning.specs.Checks.{Spot}
 use Rattle.sap_meaning.specs.Touches.{touches}
 use Rattle.sap_hang.specs.Hang.{Table, says, touches_entity, IsHangTable}
 use Rattle.sap_hang.specs.Points.{Point, points_of}
-use Rattle.sap_resolve.specs.Fill.{table, filled_step, filled, filled_block, filled_state, filled_group, program_of}
+use Rattle.sap_resolve.specs.Fill.{table, filled_step, filled, filled_arms, filled_block, filled_state, filled_group, program_of}
 use Rattle.sap_resolve.specs.Resolve.{states_of}
 use Rattle.sap_resolve.specs.Worlds.{world_of}
-use Rattle.sap_kept.specs.Hangs.{step_rows, rows, block_rows, state_rows, group_rows, point_row, rows_of}
-use Rattle.sap_program.specs.Rows.{Rows, rows_in, step_points, command_points, block_points, state_points, group_points, step_with, command_with, block_with, state_with, group_with}
+use Rattle.sap_kept.specs.Hangs.{step_rows, rows, arms_rows, block_rows, state_rows, group_rows, point_row, rows_of}
+use Rattle.sap_program.specs.Rows.{Rows, rows_in, step_points, command_points, arms_points, block_points, state_points, group_points, step_with, command_with, arms_with, block_with, state_with, group_with}
 use Rattle.sap_program.proofs.Chosen.{named, table_same, table_named}
 
 -- these rows in order, from point p on
@@ -48,6 +48,9 @@ module _ (r : Rows) where
     if_same : (a b : List Bool) (e : Term ℕ) (x y u v : Block) → a ≡ b → x ≡ y → u ≡ v → If a e x u ≡ If b e y v
     if_same a b e x y u v h i j = cc
 
+    then_same : (s t : Step) (a b : List Bool) (x y u v : Block) → s ≡ t → a ≡ b → x ≡ y → u ≡ v → TryThen s a x u ≡ TryThen t b y v
+    then_same s t a b x y u v h i j k = cc
+
     mutual
       command_placed : (at : Spot) (c : Command) (p : ℕ) (more : List (List Bool)) → Follow r p (rows (filled w at c) ++ more)
           → (command_with r p c ≡ filled w at c) × Follow r (p + command_points c) more
@@ -63,6 +66,27 @@ module _ (r : Rows) where
           (joined_rows (p + 1) (block_rows (filled_block w at a)) (block_rows (filled_block w at b)) more h.1) in
           let y = block_placed at b (p + 1 + block_points a) more x.1 in
           (if_same _ _ condition _ _ _ _ (sym h.0) x.0 y.0, at_point (p + 1 + block_points a + block_points b) (p + (1 + block_points a + block_points b)) more (omega arith) y.1)
+      command_placed at (TryThen k hang a b) p more h =
+          let row = table (root w) (touches w at (TryThen k hang a b)) in
+          let blocks = block_rows (filled_block w at a) ++ block_rows (filled_block w at b) in
+          let s = step_placed at k p (row ∷ (blocks ++ more)) (joined_rows p (step_rows (filled_step w at k)) (row ∷ blocks) more h) in
+          let q = p + step_points k + 1 in
+          let x = block_placed at a q (block_rows (filled_block w at b) ++ more) (joined_rows q (block_rows (filled_block w at a)) (block_rows (filled_block w at b)) more s.1.1) in
+          let y = block_placed at b (q + block_points a) more x.1 in (
+            then_same _ _ _ _ _ _ _ _ s.0 (sym s.1.0) x.0 y.0,
+            at_point (q + block_points a + block_points b) (p + (step_points k + 1 + block_points a + block_points b)) more (omega arith) y.1,
+          )
+      command_placed at (Case hang e arms) p more h =
+          let x = arms_placed at arms (p + 1) more h.1 in
+          (ap₂ (λ (l : List Bool) (u : Arms). Case l e u) (sym h.0) x.0, at_point (p + 1 + arms_points arms) (p + (1 + arms_points arms)) more (omega arith) x.1)
+
+      arms_placed : (at : Spot) (arms : Arms) (p : ℕ) (more : List (List Bool)) → Follow r p (arms_rows (filled_arms w at arms) ++ more)
+          → (arms_with r p arms ≡ filled_arms w at arms) × Follow r (p + arms_points arms) more
+      arms_placed at (Last b) p more h = let x = block_placed at b p more h in (ap Last x.0, x.1)
+      arms_placed at (Arm constants b arms) p more h =
+          let x = block_placed at b p (arms_rows (filled_arms w at arms) ++ more) (joined_rows p (block_rows (filled_block w at b)) (arms_rows (filled_arms w at arms)) more h) in
+          let y = arms_placed at arms (p + block_points b) more x.1 in
+          (ap₂ (Arm constants) x.0 y.0, at_point (p + block_points b + arms_points arms) (p + (block_points b + arms_points arms)) more (omega arith) y.1)
 
       block_placed : (at : Spot) (b : Block) (p : ℕ) (more : List (List Bool)) → Follow r p (block_rows (filled_block w at b) ++ more)
           → (block_with r p b ≡ filled_block w at b) × Follow r (p + block_points b) more

@@ -4,17 +4,18 @@ use Rattle.std.specs.declared.vec.Vec.{Vec}
 use Rattle.std.specs.declared.alloc.Global.{Global}
 use Rattle.sap_program.specs.declared.program.Number.{Number}
 use Rattle.sap_program.specs.declared.program.Step.{Step}
-use Rattle.sap_program.specs.declared.program.Command.{Command, Row_of-Command, end_of-Command, more_of-Command, items-the_row-Command, items_hidden-the_row-Command-0}
-use Rattle.sap_program.specs.declared.program.Command.TheBlock.{hidden-the_row-Command-0}
+use Rattle.sap_program.specs.declared.program.Arm.{Arm}
+use Rattle.sap_program.specs.declared.program.Command.{Command, Row_of-Command, end_of-Command, more_of-Command, items-the_row-Command, items_hidden-the_row-Command-0, items_shown-the_row-Command-0, Row_of-Arm, end_of-Arm, more_of-Arm, items-the_row-Arm, items_hidden-the_row-Arm-1}
+use Rattle.sap_program.specs.declared.program.Command.TheBlock.{hidden-the_row-Command-0, hidden-the_row-Arm-1, shown-the_row-Command-0}
 use Rattle.sap_program.specs.declared.program.Command.TheVariants as command
 use Rattle.sap_program.specs.declared.program.Command.TheViews as shown
 use Rattle.sap_program.specs.declared.program.State.{State, State', Row_of-State, end_of-State, more_of-State, items-the_row-State, items_shown-the_row-State-0, out-State, roll-State, out-roll-State, State-F}
 use Rattle.sap_program.specs.declared.program.State.TheBlock.{shown-the_row-State-0}
 use denote.Hole.Carrier.{out}
-use Rattle.sap_meaning.specs.Program.{Block, End, Then, Group, None, More}
+use Rattle.sap_meaning.specs.Program.{Arms, Last, Block, End, Then, Group, None, More}
 use Rattle.sap_meaning.specs.Program as program
 use Rattle.sap_program.specs.Hangs.{flags}
-use Rattle.sap_program.specs.Views.{term_of, step_of, command_of, row_block, block_of, state_of, row_group, group_of, followed, joined}
+use Rattle.sap_program.specs.Views.{term_of, step_of, command_of, row_block, block_of, constants_of, arm_block, row_arms, arms_before, state_of, row_group, group_of, followed, joined}
 
 -- commands
 
@@ -46,6 +47,38 @@ module _ (n : ℕ) where
   command_of-if hang e ys ns =
       ap (λ u. program.If (flags n hang) (term_of e) u (row_block n (hidden-the_row-Command-0 ns))) (row_block-vec ys)
       ∙ ap (λ u. program.If (flags n hang) (term_of e) (block_of n ys.items) u) (row_block-vec ns)
+
+  pub command_of-then : (s : Step) (hang : List ℕ) (ys ns : Vec Command Global)
+      → command_of n (shown.TryThen s hang ys ns) ≡ program.TryThen (step_of n s) (flags n hang) (block_of n ys.items) (block_of n ns.items)
+  unfolding command_of
+  command_of-then s hang ys ns =
+      ap (λ u. program.TryThen (step_of n s) (flags n hang) u (row_block n (hidden-the_row-Command-0 ns))) (row_block-vec ys)
+      ∙ ap (λ u. program.TryThen (step_of n s) (flags n hang) (block_of n ys.items) u) (row_block-vec ns)
+
+  row_arms-items : {k : _} (row : Row_of-Arm k) (others : Arms) → row_arms n row others ≡ arms_before n (items-the_row-Arm k row) others
+  unfolding row_arms arms_before
+  row_arms-items end_of-Arm others = refl
+  row_arms-items (more_of-Arm constants m block rest) others =
+      ap (λ (b : Block). program.Arm constants.items b (row_arms n rest others)) (row_block-items block ∙ ap (block_of n) (sym (items_shown-the_row-Command-0 m block)))
+      ∙ ap (program.Arm constants.items (block_of n (shown-the_row-Command-0 m block).items)) (row_arms-items rest others)
+
+  pub command_of-case : (hang : List ℕ) (e : Number) (arms : Vec Arm Global) (cs : Vec Command Global)
+      → command_of n (shown.Case hang e arms cs) ≡ program.Case (flags n hang) (term_of e) (arms_before n arms.items (Last (block_of n cs.items)))
+  unfolding command_of
+  command_of-case hang e arms cs =
+      ap (λ u. program.Case (flags n hang) (term_of e) (row_arms n (hidden-the_row-Arm-1 arms) (Last u))) (row_block-vec cs)
+      ∙ ap (λ u. program.Case (flags n hang) (term_of e) u)
+      (row_arms-items (hidden-the_row-Arm-1 arms) (Last (block_of n cs.items)) ∙ ap (λ (l : List Arm). arms_before n l (Last (block_of n cs.items))) (items_hidden-the_row-Arm-1 arms))
+
+  pub arms_before-none : (others : Arms) → arms_before n [] others ≡ others
+  unfolding arms_before
+  arms_before-none others = refl
+
+  -- a pushed arm stands in front of what follows
+  pub before-push : (arms : List Arm) (arm : Arm) (others : Arms) → arms_before n (arms ++ arm ∷ []) others ≡ arms_before n arms (program.Arm (constants_of arm) (arm_block n arm) others)
+  unfolding arms_before
+  before-push [] arm others = refl
+  before-push (first ∷ arms) arm others = ap (program.Arm (constants_of first) (arm_block n first)) (before-push arms arm others)
 
   -- a pushed command stands in front of what follows
   pub followed-push : (cs : List Command) (c : Command) (b : Block) → followed (block_of n (cs ++ c ∷ [])) b ≡ followed (block_of n cs) (Then (command_of n c) b)
@@ -88,6 +121,6 @@ pub joined-none : (g : Group) → joined g None ≡ g
 joined-none None = refl
 joined-none (More s rest) = ap (More s) (joined-none rest)
 
-pub ruleset commands = (block_of-none, command_of-do, command_of-try, command_of-if)
+pub ruleset commands = (block_of-none, arms_before-none, command_of-do, command_of-try, command_of-if, command_of-then, command_of-case)
 
 pub ruleset states = (group_of-none, state_of-out, state_of-roll)

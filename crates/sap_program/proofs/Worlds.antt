@@ -4,6 +4,7 @@ use Rattle.std.proofs.lemmas.List.{map-append}
 use Rattle.sap_tree.specs.declared.syntax.Decl.{Decl}
 use Rattle.sap_tree.specs.declared.syntax.State.{State, out-State}
 use Rattle.sap_tree.specs.Parts.{tree_of}
+use Rattle.sap_tree.specs.declared.version.Version.{Version}
 use Rattle.sap_tree.specs.Syntax.{StateTree}
 use Rattle.sap_tree.specs.Trees as trees
 use Rattle.sap_tree.specs.Trees.{states_of}
@@ -175,24 +176,24 @@ state_counted s size kids old mid new c b j k =
 
 -- a whole design's
 
-pub all_children : (ls : Levels) (ds : List Decl) (ss seen : List State) (size : ℕ) (made more most whole : List ℕ) → made ≡ [] → more ≡ made ++ worlds.no_children ds → seen ≡ ss
-    → most ≡ more ++ group_children seen → size ≡ length ss → whole ≡ most ++ size ∷ [] → whole ≡ (worlds.world_of ls (tree_of ds ss)).children
+pub all_children : (v : Version) (ls : Levels) (ds : List Decl) (ss seen : List State) (size : ℕ) (made more most whole : List ℕ) → made ≡ [] → more ≡ made ++ worlds.no_children ds → seen ≡ ss
+    → most ≡ more ++ group_children seen → size ≡ length ss → whole ≡ most ++ size ∷ [] → whole ≡ (worlds.world_of ls (tree_of v ds ss)).children
 unfolding group_children
-all_children ls ds ss seen size made more most whole a b e c d f =
+all_children v ls ds ss seen size made more most whole a b e c d f =
     f
     ∙ ap₂ (λ (l : List ℕ) (n : ℕ). l ++ n ∷ []) (c ∙ ap₂ (λ (l : List ℕ) (s : List State). l ++ group_children s) (b ∙ ap (λ (l : List ℕ). l ++ worlds.no_children ds) a) e) (d ∙ sym (group_size ss))
 
-pub all_entities : (ls : Levels) (ds : List Decl) (ss seen : List State) (size : ℕ) (made more most : List Entity) → made ≡ [] → map entity_of more ≡ map entity_of made ++ worlds.all_declared ls ds
-    → seen ≡ ss → size ≡ length ds → map entity_of most ≡ map entity_of more ++ group_entities ls 0 size seen → map entity_of most ≡ (worlds.world_of ls (tree_of ds ss)).entities
+pub all_entities : (v : Version) (ls : Levels) (ds : List Decl) (ss seen : List State) (size : ℕ) (made more most : List Entity) → made ≡ [] → map entity_of more ≡ map entity_of made ++ worlds.all_declared ls ds
+    → seen ≡ ss → size ≡ length ds → map entity_of most ≡ map entity_of more ++ group_entities ls 0 size seen → map entity_of most ≡ (worlds.world_of ls (tree_of v ds ss)).entities
 unfolding group_entities
-all_entities ls ds ss seen size made more most a b e d c =
+all_entities v ls ds ss seen size made more most a b e d c =
     c ∙ ap₂ (λ (l : List program.Entity) (s : List State). l ++ group_entities ls 0 size s) (b ∙ ap (λ (l : List Entity). map entity_of l ++ worlds.all_declared ls ds) a) e
     ∙ ap (λ (n : ℕ). worlds.all_declared ls ds ++ group_entities ls 0 n ss) d
 
-pub all_names : (ds : List Decl) (ss seen : List State) (made more most : List Entity) → made ≡ [] → own_names more ≡ own_names made ++ names_of (names.declared_in ds)
-    → seen ≡ ss → own_names most ≡ own_names more ++ group_names seen → own_names most ≡ names_of (names.entities_of (tree_of ds ss))
+pub all_names : (v : Version) (ds : List Decl) (ss seen : List State) (made more most : List Entity) → made ≡ [] → own_names more ≡ own_names made ++ names_of (names.declared_in ds)
+    → seen ≡ ss → own_names most ≡ own_names more ++ group_names seen → own_names most ≡ names_of (names.entities_of (tree_of v ds ss))
 unfolding group_names
-all_names ds ss seen made more most a b e c =
+all_names v ds ss seen made more most a b e c =
     c ∙ ap₂ (λ (l : List (List ℕ)) (s : List State). l ++ group_names s) (b ∙ ap (λ (l : List Entity). own_names l ++ names_of (names.declared_in ds)) a) e
     ∙ sym (map-append (λ e. e.name.name) (names.declared_in ds) (names.group_entities (states_of ss)))
 

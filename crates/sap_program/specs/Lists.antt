@@ -1,11 +1,13 @@
 -- What is made of the commands and states that code has in lists.
-use Rattle.std.specs.Prelude.{ℕ, List, map}
+use Rattle.std.specs.Prelude.{ℕ, ◌+◌, List, [], ◌∷◌, map}
+use Rattle.sap_tree.specs.declared.syntax.Arm.{Arm}
 use Rattle.sap_tree.specs.declared.syntax.Cmd.{Cmd}
+use Rattle.sap_tree.specs.declared.syntax.Expr.{Expr}
 use Rattle.sap_tree.specs.declared.syntax.State.{State}
-use Rattle.sap_tree.specs.Trees.{commands_of, states_of}
+use Rattle.sap_tree.specs.Trees.{arm_block_of, commands_of, constants_of, expressions_of, states_of}
 use Rattle.sap_names.specs.declared.entity.Entity.{Entity}
 use Rattle.sap_lattice.specs.Levels.{Levels}
-use Rattle.sap_meaning.specs.Program.{Block, Group}
+use Rattle.sap_meaning.specs.Program.{Arms, Last, Block, Group}
 use Rattle.sap_meaning.specs.Program as program
 use Rattle.sap_names.specs.Entities as names
 use Rattle.sap_program.specs.declared.program.Entity as code
@@ -20,6 +22,19 @@ list_from ls h k cs = resolve.list_of ls h k (commands_of cs)
 
 unfoldable pub list_sites : Home → List Cmd → ℕ
 list_sites h cs = sites.list_sites h (commands_of cs)
+
+-- with this block for no arm
+unfoldable pub arms_from : Levels → Home → (k : ℕ) → List Arm → Block → Arms
+arms_from ls h k [] last = Last last
+arms_from ls h k (arm ∷ arms) last =
+    program.Arm (resolve.numbers_of (constants_of arm)) (resolve.block_of ls h k (arm_block_of arm)) (arms_from ls h (k + sites.block_sites h (arm_block_of arm)) arms last)
+
+unfoldable pub arms_sites : Home → List Arm → ℕ
+arms_sites h [] = 0
+arms_sites h (arm ∷ arms) = sites.block_sites h (arm_block_of arm) + arms_sites h arms
+
+unfoldable pub numbers_of : List Expr → List ℕ
+numbers_of es = resolve.numbers_of (expressions_of es)
 
 -- and the next state the number x
 unfoldable pub group_from : Levels → List Entity → (k x : ℕ) → List State → Group

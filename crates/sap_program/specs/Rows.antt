@@ -1,7 +1,8 @@
--- What hangs on the points of a program, by their numbers. Each `if`, `otherwise` and `fall` is a point, in the order of these words.
+-- What hangs on the points of a program, by their numbers. Each `if`, `otherwise`, `fall`, `then` and `case` is a point, in the order of these words;
+-- the `otherwise` of a `then` is none.
 use Rattle.std.specs.Prelude.{ℕ, ◌+◌, Bool, List}
 use Rattle.sap_hang.specs.Hang.{Table, says}
-use Rattle.sap_meaning.specs.Program.{Step, Set, Write, Retag, RetagCell, Goto, Fall, Command, Do, Try, If, Block, End, Then, State, Node, Group, None, More}
+use Rattle.sap_meaning.specs.Program.{Step, Set, Write, Retag, RetagCell, Goto, Fall, Command, Do, Try, If, TryThen, Case, Arms, Last, Arm, Block, End, Then, State, Node, Group, None, More}
 use Rattle.sap_resolve.specs.Fill.{table}
 
 -- for each point, of each entity whether it hangs there
@@ -27,6 +28,12 @@ abbrev mutual
   command_points (Do k) = step_points k
   command_points (Try k hang handler) = step_points k + 1 + block_points handler
   command_points (If hang condition a b) = 1 + block_points a + block_points b
+  command_points (TryThen k hang a b) = step_points k + 1 + block_points a + block_points b
+  command_points (Case hang e arms) = 1 + arms_points arms
+
+  pub arms_points : Arms → ℕ
+  arms_points (Last b) = block_points b
+  arms_points (Arm constants b arms) = block_points b + arms_points arms
 
   pub block_points : Block → ℕ
   block_points End = 0
@@ -57,6 +64,14 @@ abbrev mutual
       Try (step_with r p k) (r (p + step_points k)) (block_with r (p + step_points k + 1) handler)
   command_with r p (If hang condition a b) =
       If (r p) condition (block_with r (p + 1) a) (block_with r (p + 1 + block_points a) b)
+  command_with r p (TryThen k hang a b) =
+      TryThen (step_with r p k) (r (p + step_points k)) (block_with r (p + step_points k + 1) a)
+      (block_with r (p + step_points k + 1 + block_points a) b)
+  command_with r p (Case hang e arms) = Case (r p) e (arms_with r (p + 1) arms)
+
+  pub arms_with : Rows → (p : ℕ) → Arms → Arms
+  arms_with r p (Last b) = Last (block_with r p b)
+  arms_with r p (Arm constants b arms) = Arm constants (block_with r p b) (arms_with r (p + block_points b) arms)
 
   pub block_with : Rows → (p : ℕ) → Block → Block
   block_with r p End = End

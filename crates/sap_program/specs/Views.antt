@@ -1,7 +1,7 @@
 -- What the parts of a program are seen as. What hangs on a command is told of each of n entities.
 use Rattle.std.specs.Prelude.{ℕ, List, [], ◌∷◌, length, map}
 use Rattle.sap_maps.specs.Term.{Term, constant, read, cell, one, two, choose, join, part}
-use Rattle.sap_meaning.specs.Program.{LevelTerm, fixed, of, at_place, both, Block, End, Then, Group, None, More}
+use Rattle.sap_meaning.specs.Program.{LevelTerm, fixed, of, at_place, both, Arms, Last, Block, End, Then, Group, None, More}
 use Rattle.sap_meaning.specs.Program as program
 use Rattle.sap_lattice.specs.Order.{Order}
 use Rattle.sap_program.specs.Hangs.{flags}
@@ -15,7 +15,8 @@ use Rattle.sap_program.specs.declared.program.TagOf.{TagOf}
 use Rattle.sap_program.specs.declared.program.TagOf.TheVariants as tag
 use Rattle.sap_program.specs.declared.program.Step.{Step}
 use Rattle.sap_program.specs.declared.program.Step.TheVariants as step
-use Rattle.sap_program.specs.declared.program.Command.{Command, Row_of-Command, end_of-Command, more_of-Command}
+use Rattle.sap_program.specs.declared.program.Arm.{Arm}
+use Rattle.sap_program.specs.declared.program.Command.{Command, Row_of-Command, end_of-Command, more_of-Command, Row_of-Arm, end_of-Arm, more_of-Arm}
 use Rattle.sap_program.specs.declared.program.Command.TheVariants as command
 use Rattle.sap_program.specs.declared.program.State.{State, State', Row_of-State, end_of-State, more_of-State}
 
@@ -57,6 +58,13 @@ unfoldable mutual
   command_of n (command.Do s) = program.Do (step_of n s)
   command_of n (command.Try' s hang k handler) = program.Try (step_of n s) (flags n hang) (row_block n handler)
   command_of n (command.If' hang e k then_part m else_part) = program.If (flags n hang) (term_of e) (row_block n then_part) (row_block n else_part)
+  command_of n (command.TryThen' s hang k accepted m refused) = program.TryThen (step_of n s) (flags n hang) (row_block n accepted) (row_block n refused)
+  command_of n (command.Case' hang e k arms m last_part) = program.Case (flags n hang) (term_of e) (row_arms n arms (Last (row_block n last_part)))
+
+  -- arms in front of others
+  pub row_arms : (n : ℕ) → {k : _} → Row_of-Arm k → Arms → Arms
+  row_arms n end_of-Arm others = others
+  row_arms n (more_of-Arm constants m block rest) others = program.Arm constants.items (row_block n block) (row_arms n rest others)
 
   pub row_block : (n : ℕ) → {k : _} → Row_of-Command k → Block
   row_block n end_of-Command = End
@@ -65,6 +73,21 @@ unfoldable mutual
 unfoldable pub block_of : (n : ℕ) → List Command → Block
 block_of n [] = End
 block_of n (c ∷ cs) = Then (command_of n c) (block_of n cs)
+
+-- the constants of an arm, and its commands
+
+abbrev pub constants_of : Arm → List ℕ
+constants_of arm = arm.constants.items
+
+abbrev pub commands_in : Arm → List Command
+commands_in arm = arm.block.items
+
+abbrev pub arm_block : (n : ℕ) → Arm → Block
+arm_block n arm = block_of n arm.block.items
+
+unfoldable pub arms_before : (n : ℕ) → List Arm → Arms → Arms
+arms_before n [] others = others
+arms_before n (arm ∷ arms) others = program.Arm (constants_of arm) (arm_block n arm) (arms_before n arms others)
 
 unfoldable mutual
   pub state_of : (n : ℕ) → State → program.State

@@ -1,10 +1,11 @@
 //! Commands with the numbers of their check sites, and with what hangs on them.
 
-ghost use Rattle.std.specs.Prelude.{◌≡◌, ◌+◌, ◌<◌, ◌^◌, IfOk, OnOk, length};
+ghost use Rattle.std.specs.Prelude.{◌≡◌, ◌+◌, ◌++◌, ◌<◌, ◌^◌, IfOk, OnOk, length};
+ghost use Rattle.sap_meaning.specs.Program as meaning;
 ghost use Rattle.sap_program.specs.Hangs.{flags};
 ghost use Rattle.sap_program.specs.Homes.{home_of, rows_of};
 ghost use Rattle.sap_program.specs.Lists as lists;
-ghost use Rattle.sap_program.specs.Rows.{command_points, command_with, block_points, block_with};
+ghost use Rattle.sap_program.specs.Rows.{arms_points, arms_with, command_points, command_with, block_points, block_with};
 ghost use Rattle.sap_program.specs.Views as views;
 ghost use Rattle.sap_resolve.specs.Resolve as resolve;
 ghost use Rattle.sap_resolve.specs.Sites as sites;
@@ -12,11 +13,11 @@ ghost use Rattle.sap_tree.specs.Trees as trees;
 
 use crate::hang::Hang;
 use crate::numbers::number;
-use crate::program::Command;
+use crate::program::{Arm, Command};
 use crate::rows::row;
 use crate::seat::Seat;
 use crate::steps::{step, take_site};
-use sap_tree::syntax::{Block, Cmd};
+use sap_tree::syntax::{Arm as ArmTree, Block, Cmd, Expr};
 use std::alloc::{AllocError, Global};
 
 /// What hangs on the next point.
@@ -75,7 +76,87 @@ fn command(
                 no,
             })
         }
+        Cmd::TryThen(simple, _, accepted, refused) => {
+            let site = take_site(seat, next, simple);
+            let step = step(alloc, seat, site, point, simple)?;
+            let hang = take_row(alloc, seat, point)?;
+            let accepted = commands(alloc, seat, next, point, accepted.commands.as_slice())?;
+            let refused = commands(alloc, seat, next, point, refused.commands.as_slice())?;
+            Ok(Command::TryThen {
+                step,
+                hang,
+                accepted,
+                refused,
+            })
+        }
+        Cmd::Case(_, e, branches, other) => {
+            let number = number(alloc, seat.names, e, None)?;
+            let hang = take_row(alloc, seat, point)?;
+            let arms = arms(alloc, seat, next, point, branches.as_slice())?;
+            let last = commands(alloc, seat, next, point, other.commands.as_slice())?;
+            Ok(Command::Case {
+                hang,
+                number,
+                arms,
+                last,
+            })
+        }
     }
+}
+
+/// The number of a constant of an arm.
+#[tactic(auto, using(sap_tree::proofs::Views::views))]
+fn constant(e: &Expr) -> u64
+    ensures { result ≡ resolve.number_of (trees.expression_of e.now) }
+{
+    match e {
+        Expr::Number(_, value) => *value,
+        Expr::Sized(_, _, value) => *value,
+        Expr::Read(..)
+        | Expr::Cell(..)
+        | Expr::Unary(..)
+        | Expr::Binary(..)
+        | Expr::Choose(..)
+        | Expr::Slice(..)
+        | Expr::Concat(..)
+        | Expr::Zext(..) => 0,
+    }
+}
+
+fn constants(alloc: Global, list: &[Expr]) -> Result<Vec<u64>, AllocError>
+    ensures { IfOk result (λ r. r.items ≡ lists.numbers_of list.now) }
+{
+    let mut made = Vec::new(alloc);
+    for e in list {
+        made.push(constant(e))?;
+    }
+    Ok(made)
+}
+
+/// The arms of a `case`, without the block after `else`.
+#[cycle(body)]
+#[tactic(auto, using(crate::proofs::Shown::commands))]
+fn arms(
+    alloc: Global,
+    seat: &Seat<'_>,
+    next: &mut u32,
+    point: &mut u32,
+    list: &[ArmTree],
+) -> Result<Vec<Arm>, AllocError>
+    requires sites { next.old + lists.arms_sites (home_of seat.now) list.now < 2 ^ 32 }
+    requires points { point.old + arms_points (lists.arms_from seat.now.lattice.now (home_of seat.now) next.old list.now meaning.End) < 2 ^ 32 }
+    ensures arms { IfOk result (λ r. (last : meaning.Block) → views.arms_before (length seat.now.names.now) r.items (meaning.Last (block_with (rows_of seat.now) point.new last))
+        ≡ arms_with (rows_of seat.now) point.old (lists.arms_from seat.now.lattice.now (home_of seat.now) next.old list.now last)) }
+    ensures next { OnOk result (next.new ≡ next.old + lists.arms_sites (home_of seat.now) list.now) }
+    ensures point { OnOk result (point.new ≡ point.old + arms_points (lists.arms_from seat.now.lattice.now (home_of seat.now) next.old list.now meaning.End)) }
+{
+    let mut made = Vec::new(alloc);
+    for arm in list {
+        let constants = constants(alloc, arm.constants.as_slice())?;
+        let block = commands(alloc, seat, next, point, arm.block.commands.as_slice())?;
+        made.push(Arm { constants, block })?;
+    }
+    Ok(made)
 }
 
 #[cycle(body)]

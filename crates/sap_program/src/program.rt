@@ -90,7 +90,9 @@ pub enum Step {
     },
 }
 
-/// A step alone, a step with its handler, and a choice, the last two with what hangs on them.
+/// A step alone, a step with its handler, a choice, a step with what follows it where it is accepted and where it is refused, and a choice of an
+/// arm, all but the first with what hangs on them.
+#[cycle(command)]
 #[derive(Drop)]
 pub enum Command {
     Do(Step),
@@ -105,6 +107,27 @@ pub enum Command {
         yes: Vec<Command>,
         no: Vec<Command>,
     },
+    TryThen {
+        step: Step,
+        hang: Hang,
+        accepted: Vec<Command>,
+        refused: Vec<Command>,
+    },
+    /// The first arm that has the number among its constants is picked, and the last commands where none has.
+    Case {
+        hang: Hang,
+        number: Number,
+        arms: Vec<Arm>,
+        last: Vec<Command>,
+    },
+}
+
+/// An arm: its constants, and its commands.
+#[cycle(command)]
+#[derive(Drop)]
+pub struct Arm {
+    pub constants: Vec<u64>,
+    pub block: Vec<Command>,
 }
 
 /// A state with its number, its body and its children.

@@ -1,7 +1,7 @@
 -- The points on which entities hang, beside those of the check.
 use Rattle.std.proofs.Common.{◌≡◌, List, [], ◌∷◌, ◌++◌, map, refl, sym, ap, ◌∙◌}
 use Rattle.std.proofs.lemmas.List.{map-append}
-use Rattle.sap_tree.specs.Syntax.{SimpleCommand, Assign, Write, SetTag, SetCellTag, Goto, Fall, Command, Do, Try, If, CommandBlock, Commands, ElseBlock, NoElse, Else, CommandList, NoCommand, AndCommand, StateTree, StateOf, StateList, NoState, AndState, DesignTree}
+use Rattle.sap_tree.specs.Syntax.{SimpleCommand, Assign, Write, SetTag, SetCellTag, Goto, Fall, Command, Do, Try, If, TryThen, Case, Arms, Last, Arm, CommandBlock, Commands, ElseBlock, NoElse, Else, CommandList, NoCommand, AndCommand, StateTree, StateOf, StateList, NoState, AndState, DesignTree}
 use Rattle.sap_tree.specs.Touches.{Home, home_of}
 use Rattle.sap_check.specs.declared.point.Point.{Point}
 use Rattle.sap_check.specs.declared.point.PointKind.TheVariants as kind
@@ -39,6 +39,15 @@ module _ (h : Home) where
     command-words (If place condition one other) =
         ap (λ (l : List Point). point kind.If place ∷ l)
         (both (hang.block_points h one) (hang.else_points h other) (check.block_points one) (check.else_points other) (block-words one) (else-words other))
+    command-words (TryThen k place a b) =
+        both (hang.simple_points h k) (hang.point h (TryThen k place a b) ∷ (hang.block_points h a ++ hang.block_points h b)) (check.simple_points k)
+        (point kind.Then place ∷ (check.block_points a ++ check.block_points b)) (simple-words k)
+        (ap (λ (l : List Point). point kind.Then place ∷ l) (both (hang.block_points h a) (hang.block_points h b) (check.block_points a) (check.block_points b) (block-words a) (block-words b)))
+    command-words (Case place e arms) = ap (λ (l : List Point). point kind.Case place ∷ l) (arms-words arms)
+
+    arms-words : (arms : Arms) → words (hang.arms_points h arms) ≡ check.arms_points arms
+    arms-words (Last b) = block-words b
+    arms-words (Arm constants b arms) = both (hang.block_points h b) (hang.arms_points h arms) (check.block_points b) (check.arms_points arms) (block-words b) (arms-words arms)
 
     block-words : (b : CommandBlock) → words (hang.block_points h b) ≡ check.block_points b
     block-words (Commands cs after) = list-words cs

@@ -3,12 +3,12 @@ use Rattle.std.proofs.Common.{◌≡◌, ℕ, zero, suc, ◌+◌, ◌-◌, ◌<�
 use Rattle.std.specs.Prelude.{Option, Some, None, slice_get, unwrap_or, option_map, if◌then◌else◌}
 use Rattle.std.specs.Str.{bytes_eq}
 use Rattle.std.proofs.lemmas.List.{length-append}
-use Rattle.sap_tree.specs.Syntax.{SimpleCommand, Command, Do, Try, If, CommandBlock, Commands, ElseBlock, NoElse, Else, CommandList, NoCommand, AndCommand, StateTree, StateOf, StateList, NoState, AndState, DesignTree}
+use Rattle.sap_tree.specs.Syntax.{SimpleCommand, Command, Do, Try, If, TryThen, Case, Arms, Last, Arm, CommandBlock, Commands, ElseBlock, NoElse, Else, CommandList, NoCommand, AndCommand, StateTree, StateOf, StateList, NoState, AndState, DesignTree}
 use Rattle.sap_names.specs.declared.entity.Entity.{Entity}
 use Rattle.sap_names.specs.Entities.{entities_of, declared_in, group_entities, number_of}
 use Rattle.sap_shape.specs.Sites.{is_site}
 use Rattle.sap_check.specs.declared.site.Site.{Site}
-use Rattle.sap_check.specs.Sites.{Home, entity_number, target_of, site_of, simple_sites, command_sites, block_sites, else_sites, list_sites, state_sites, states_sites, sites_of}
+use Rattle.sap_check.specs.Sites.{Home, entity_number, target_of, site_of, simple_sites, command_sites, block_sites, else_sites, arms_sites, list_sites, state_sites, states_sites, sites_of}
 use Rattle.sap_report.specs.Report.{site_line, site_lines}
 use Rattle.sap_report.proofs.Lists.{after_part, at_end, drop-at, drop-past}
 
@@ -88,6 +88,14 @@ module _ (h : Home) (p : 0 < length h.entities) where
     command-small (Do k) = simple-small k
     command-small (Try k place handler) = small-both (length h.entities) (simple_sites h k) (block_sites h handler) (simple-small k) (block-small handler)
     command-small (If place condition one other) = small-both (length h.entities) (block_sites h one) (else_sites h other) (block-small one) (else-small other)
+    command-small (TryThen k place accepted refused) =
+        small-both (length h.entities) (simple_sites h k) (block_sites h accepted ++ block_sites h refused) (simple-small k)
+        (small-both (length h.entities) (block_sites h accepted) (block_sites h refused) (block-small accepted) (block-small refused))
+    command-small (Case place e arms) = arms-small arms
+
+    arms-small : (arms : Arms) → Small (length h.entities) (arms_sites h arms)
+    arms-small (Last b) = block-small b
+    arms-small (Arm constants b arms) = small-both (length h.entities) (block_sites h b) (arms_sites h arms) (block-small b) (arms-small arms)
 
     block-small : (b : CommandBlock) → Small (length h.entities) (block_sites h b)
     block-small (Commands cs after) = list-small cs

@@ -8,6 +8,7 @@ use Rattle.sap_tree.specs.declared.syntax.Kind.TheVariants.{Dynamic, Enforced}
 use Rattle.sap_tree.specs.declared.syntax.Decl.TheVariants.{Input, Register}
 use Rattle.sap_tree.specs.declared.syntax.BinaryOperator.TheVariants as operator
 use Rattle.sap_tree.specs.Syntax.{Number, Read, Binary, Assign, Goto, Command, Do, If, Commands, NoElse, NoCommand, AndCommand, StateOf, NoState, AndState, DesignTree}
+use Rattle.sap_tree.specs.declared.version.Version.TheVariants.{One}
 use Rattle.sap_report.specs.Report.{report_text}
 
 abbrev pub at : ℕ → ℕ → Place
@@ -39,6 +40,7 @@ choosing =
 -- On six lines: input a : 8; reg x : 8 dynamic; state S enforced low { if (a == 1) { x := 1; } goto S; }
 abbrev pub assigns_under_if : DesignTree
 assigns_under_if = record {
+  version = One;
   declarations = Input (at 1 1) (named 1 7 (codes "a")) (record { place = at 1 11; value = 8 })
       ∷ Register (at 2 1) (named 2 5 (codes "x")) (record { place = at 2 9; value = 8 }) (Dynamic (at 2 11)) None ∷ [];
   states = AndState (StateOf (at 3 1) (named 3 7 (codes "S")) (Enforced (named 3 18 (codes "low")) None)
@@ -61,6 +63,7 @@ five_levels = record {
 -- state S enforced bot { goto S; }
 abbrev pub staying : DesignTree
 staying = record {
+  version = One;
   declarations = [];
   states = AndState (StateOf (at 1 1) (named 1 7 (codes "S")) (Enforced (named 1 18 (codes "bot")) None)
       (Commands (AndCommand (Do (Goto (at 1 24) (named 1 29 (codes "S")))) NoCommand) (at 1 32)) NoState) NoState;

@@ -1,7 +1,7 @@
 -- The points on which entities hang are those that the check numbers.
 use Rattle.std.specs.Prelude.{◌≡◌, List, map}
 use Rattle.sap_tree.specs.declared.place.Place.{Place}
-use Rattle.sap_tree.specs.Syntax.{SimpleCommand, Assign, Write, SetTag, SetCellTag, Goto, Fall, Command, Do, Try, If, DesignTree}
+use Rattle.sap_tree.specs.Syntax.{SimpleCommand, Assign, Write, SetTag, SetCellTag, Goto, Fall, Command, Do, Try, If, TryThen, Case, DesignTree}
 use Rattle.sap_check.specs.declared.point.Point.{Point}
 use Rattle.sap_check.specs.declared.point.PointKind.TheVariants as kind
 use Rattle.sap_check.specs.Points.{point, points_of}
@@ -13,6 +13,8 @@ abbrev pub word_of : Command → Point
 word_of (Do k) = point kind.Fall (place_of k)
 word_of (Try k place handler) = point kind.Otherwise place
 word_of (If place condition then_block else_block) = point kind.If place
+word_of (TryThen k place accepted refused) = point kind.Then place
+word_of (Case place e arms) = point kind.Case place
 
 abbrev pub PointsAgree : Type 0
 PointsAgree = (d : DesignTree) → map (λ (p : hang.Point). word_of p.command) (hang.points_of d) ≡ points_of d

@@ -63,8 +63,10 @@ abbrev pub point_word : PointKind → List ℕ
 point_word points.If = codes "if"
 point_word points.Otherwise = codes "otherwise"
 point_word points.Fall = codes "fall"
+point_word points.Then = codes "then"
+point_word points.Case = codes "case"
 
--- `if LINE:COL hangs NAMES`, and alike `otherwise` and `fall`; the first point has the number p
+-- `if LINE:COL hangs NAMES`, and alike `otherwise`, `fall`, `then` and `case`; the first point has the number p
 abbrev pub point_line : Point → (names : List (List ℕ)) → List ℕ
 point_line q names = point_word q.kind ++ codes " " ++ place_text q.place ++ codes " hangs" ++ names_text names ++ line_end
 

@@ -20,6 +20,8 @@ fn word(kind: PointKind) -> &'static [u8]
         PointKind::If => b"if",
         PointKind::Otherwise => b"otherwise",
         PointKind::Fall => b"fall",
+        PointKind::Then => b"then",
+        PointKind::Case => b"case",
     }
 }
 

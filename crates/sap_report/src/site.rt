@@ -1,6 +1,6 @@
 //! The lines of check sites.
 
-ghost use Rattle.std.specs.Prelude.{◌≡◌, ◌<◌, ◌++◌, OnOk, length};
+ghost use Rattle.std.specs.Prelude.{◌≡◌, ◌<◌, ◌≤◌, ◌+◌, ◌++◌, OnErr, OnOk, length, vec_capacity};
 ghost use Rattle.sap_check.specs.Checked.{tree_in};
 ghost use Rattle.sap_check.specs.Sites.{sites_of};
 ghost use Rattle.sap_names.specs.Entities.{entities_of};
@@ -34,11 +34,13 @@ fn push_head(alloc: Global, out: &mut Vec<u8>, k: u32, at: Place) -> Result<(), 
     out.extend_from_slice(b" ")
 }
 
-/// Appends what a site does, and the name of its entity.
+/// Appends what a site does, and the name of its entity. It takes no memory where there is room for them.
 #[tactic(auto, unfolding(crate::specs::Report::site_target))]
 pub fn push_target(out: &mut Vec<u8>, checked: &Checked, site: &Site) -> Result<(), AllocError>
     requires { site.now.entity < length (entities_of (tree_in checked.now)) }
-    ensures { OnOk result (out.new.items ≡ out.old.items ++ site_target (entities_of (tree_in checked.now)) site.now) }
+    ensures text { OnOk result (out.new.items ≡ out.old.items ++ site_target (entities_of (tree_in checked.now)) site.now) }
+    ensures room { vec_capacity out.old ≤ vec_capacity out.new }
+    ensures full { OnErr result (vec_capacity out.old < length out.old.items + length (site_target (entities_of (tree_in checked.now)) site.now)) }
 {
     out.extend_from_slice(word(site.kind))?;
     out.extend_from_slice(b" ")?;

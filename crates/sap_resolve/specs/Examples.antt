@@ -9,6 +9,7 @@ use Rattle.sap_tree.specs.declared.syntax.Decl.TheVariants.{Input, Register}
 use Rattle.sap_tree.specs.declared.syntax.BinaryOperator.TheVariants as operator
 use Rattle.sap_tree.specs.Syntax.{Expression, Number, Read, Binary, CommandBlock, Commands, NoCommand, AndCommand, StateOf, NoState, AndState, DesignTree}
 use Rattle.sap_tree.specs.Syntax as tree
+use Rattle.sap_tree.specs.declared.version.Version.TheVariants.{One}
 use Rattle.sap_lattice.specs.Levels.{Levels}
 use Rattle.sap_maps.specs.Term as term
 use Rattle.sap_meaning.specs.Program.{Entity, Group, None as NoGroup, More, Node, Then, End, Do, Set, Goto}
@@ -31,6 +32,7 @@ levels = record { names = codes "low" ∷ codes "high" ∷ []; table = (true ∷
 -- input a : 8; reg x : 8 dynamic; state S enforced high { x := a + 1; goto S; }
 abbrev pub adder : DesignTree
 adder = record {
+  version = One;
   declarations = Input (at 1) (named 7 (codes "a")) (record { place = at 11; value = 8 })
       ∷ Register (at 14) (named 18 (codes "x")) (record { place = at 22; value = 8 }) (Dynamic (at 24)) None ∷ [];
   states = AndState (StateOf (at 33) (named 39 (codes "S")) (Enforced (named 50 (codes "high")) None)

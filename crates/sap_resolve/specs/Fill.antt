@@ -1,7 +1,7 @@
 -- What hangs on each command that raises, as a list over the entities' numbers; and the program of a design.
 use Rattle.std.specs.Prelude.{ℕ, zero, suc, Bool, List, [], ◌∷◌, ◌++◌, length}
 use Rattle.sap_tree.specs.Syntax.{DesignTree}
-use Rattle.sap_meaning.specs.Program.{World, root, Step, Set, Write, Retag, RetagCell, Goto, Fall, Command, Do, Try, If, Block, End, Then, State, Node, Group, None, More, Program}
+use Rattle.sap_meaning.specs.Program.{World, root, Step, Set, Write, Retag, RetagCell, Goto, Fall, Command, Do, Try, If, TryThen, Case, Arms, Last, Arm, Block, End, Then, State, Node, Group, None, More, Program}
 use Rattle.sap_meaning.specs.Checks.{Spot}
 use Rattle.sap_meaning.specs.Touches.{touches, root_touches}
 use Rattle.sap_lattice.specs.Levels.{Levels}
@@ -28,6 +28,13 @@ abbrev mutual
       Try (filled_step w at k) (table (root w) (touches w at (Try k hang handler))) (filled_block w at handler)
   filled w at (If hang condition a b) =
       If (table (root w) (touches w at (If hang condition a b))) condition (filled_block w at a) (filled_block w at b)
+  filled w at (TryThen k hang accepted refused) =
+      TryThen (filled_step w at k) (table (root w) (touches w at (TryThen k hang accepted refused))) (filled_block w at accepted) (filled_block w at refused)
+  filled w at (Case hang e arms) = Case (table (root w) (touches w at (Case hang e arms))) e (filled_arms w at arms)
+
+  pub filled_arms : World → Spot → Arms → Arms
+  filled_arms w at (Last b) = Last (filled_block w at b)
+  filled_arms w at (Arm constants b arms) = Arm constants (filled_block w at b) (filled_arms w at arms)
 
   pub filled_block : World → Spot → Block → Block
   filled_block w at End = End

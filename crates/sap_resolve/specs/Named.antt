@@ -1,6 +1,6 @@
 -- Programs in which each name is that of an entity of the kind that its place asks for.
 use Rattle.std.specs.Prelude.{◌≡◌, ℕ, Bool, true, ◌||◌}
-use Rattle.sap_meaning.specs.Program.{World, is_register, is_memory, is_state, Step, Set, Write, Retag, RetagCell, Goto, Fall, Command, Do, Try, If, Block, End, Then, State, Node, Group, None, More}
+use Rattle.sap_meaning.specs.Program.{World, is_register, is_memory, is_state, Step, Set, Write, Retag, RetagCell, Goto, Fall, Command, Do, Try, If, TryThen, Case, Arms, Last, Arm, Block, End, Then, State, Node, Group, None, More}
 use Rattle.sap_meaning.specs.Fine.{FineTerm, FineLevel}
 
 abbrev pub NamedStep : World → Step → Type 0
@@ -16,6 +16,12 @@ abbrev mutual
   Named w (Do k) = NamedStep w k
   Named w (Try k hang h) = NamedStep w k × NamedBlock w h
   Named w (If hang e a b) = FineTerm w e × NamedBlock w a × NamedBlock w b
+  Named w (TryThen k hang a b) = NamedStep w k × NamedBlock w a × NamedBlock w b
+  Named w (Case hang e arms) = FineTerm w e × NamedArms w arms
+
+  pub NamedArms : World → Arms → Type 0
+  NamedArms w (Last b) = NamedBlock w b
+  NamedArms w (Arm constants b arms) = NamedBlock w b × NamedArms w arms
 
   pub NamedBlock : World → Block → Type 0
   NamedBlock w End = Unit {0}

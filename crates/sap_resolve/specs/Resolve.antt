@@ -1,14 +1,14 @@
 -- The commands and states of a design with numbers for names. Each check site has its number, from 1 in the order of the text; another command has 0 in that place.
 -- What hangs where is filled in afterwards.
-use Rattle.std.specs.Prelude.{ℕ, ◌+◌, List, [], ◌∷◌, length, Some, if◌then◌else◌}
+use Rattle.std.specs.Prelude.{ℕ, ◌+◌, List, [], ◌∷◌, length, Some, None as NoWidth, if◌then◌else◌}
 use Rattle.sap_tree.specs.declared.syntax.Kind.{Kind}
 use Rattle.sap_tree.specs.declared.name.Mention.{Mention}
-use Rattle.sap_tree.specs.Syntax.{SimpleCommand, Assign, Write, SetTag, SetCellTag, CommandBlock, Commands, ElseBlock, NoElse, Else, CommandList, NoCommand, AndCommand, StateTree, StateOf, StateList, NoState, AndState, DesignTree}
+use Rattle.sap_tree.specs.Syntax.{Expression, Expressions, Number, Sized, NoPart, AndPart, SimpleCommand, Assign, Write, SetTag, SetCellTag, CommandBlock, Commands, ElseBlock, NoElse, Else, CommandList, NoCommand, AndCommand, StateTree, StateOf, StateList, NoState, AndState, DesignTree}
 use Rattle.sap_tree.specs.Syntax as tree
 use Rattle.sap_names.specs.Entities.{what_is, entities_of}
 use Rattle.sap_names.specs.declared.entity.Entity.{Entity}
 use Rattle.sap_names.specs.Widths.{register_width, cell_width, index_width}
-use Rattle.sap_meaning.specs.Program.{Step, Set, Retag, RetagCell, Goto, Fall, Command, Do, Try, If, Block, End, Then, State, Node, Group, None, More}
+use Rattle.sap_meaning.specs.Program.{Step, Set, Retag, RetagCell, Goto, Fall, Command, Do, Try, If, TryThen, Case, Arms, Last, Arm, Block, End, Then, State, Node, Group, None, More}
 use Rattle.sap_meaning.specs.Program as program
 use Rattle.sap_shape.specs.Sites.{is_site}
 use Rattle.sap_lattice.specs.Levels.{Levels}
@@ -34,6 +34,16 @@ step_of ls h n (SetCellTag place target index tag) =
 step_of ls h n (tree.Goto place target) = Goto n (entity_number h.entities target.name)
 step_of ls h n (tree.Fall place) = Fall n []
 
+-- the numbers of constants
+abbrev pub number_of : Expression → ℕ
+number_of (Number spot n) = n
+number_of (Sized spot width n) = n
+number_of e = 0
+
+abbrev pub numbers_of : Expressions → List ℕ
+numbers_of NoPart = []
+numbers_of (AndPart e parts) = number_of e ∷ numbers_of parts
+
 -- a part in which the next site has the number k
 abbrev mutual
   pub command_of : Levels → Home → (k : ℕ) → tree.Command → Command
@@ -43,6 +53,10 @@ abbrev mutual
   command_of ls h k (tree.If place condition then_block else_block) =
       If [] (term_of h.entities condition (Some 1)) (block_of ls h k then_block)
       (else_of ls h (k + block_sites h then_block) else_block)
+  command_of ls h k (tree.TryThen c place accepted refused) =
+      TryThen (step_of ls h (site_number h k c) c) [] (block_of ls h (k + simple_sites h c) accepted)
+      (block_of ls h (k + simple_sites h c + block_sites h accepted) refused)
+  command_of ls h k (tree.Case place e arms) = Case [] (term_of h.entities e NoWidth) (arms_of ls h k arms)
 
   pub block_of : Levels → Home → (k : ℕ) → CommandBlock → Block
   block_of ls h k (Commands cs after) = list_of ls h k cs
@@ -51,6 +65,10 @@ abbrev mutual
   pub else_of : Levels → Home → (k : ℕ) → ElseBlock → Block
   else_of ls h k NoElse = End
   else_of ls h k (Else b) = block_of ls h k b
+
+  pub arms_of : Levels → Home → (k : ℕ) → tree.Arms → Arms
+  arms_of ls h k (tree.Last b) = Last (block_of ls h k b)
+  arms_of ls h k (tree.Arm constants b arms) = Arm (numbers_of constants) (block_of ls h k b) (arms_of ls h (k + block_sites h b) arms)
 
   pub list_of : Levels → Home → (k : ℕ) → CommandList → Block
   list_of ls h k NoCommand = End

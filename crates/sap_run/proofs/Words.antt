@@ -7,6 +7,7 @@ use Rattle.sap_tree.specs.Whole.{is_whole, is_declaration}
 use Rattle.sap_tree.specs.Syntax.{StateTree, StateOf, StateList, NoState, AndState, DesignTree}
 use Rattle.sap_tree.specs.declared.syntax.Decl.{Decl}
 use Rattle.sap_tree.specs.declared.syntax.Decl.TheVariants as decl
+use Rattle.sap_tree.specs.declared.version.Version.{Version}
 use Rattle.sap_lattice.specs.Levels.{Levels}
 use Rattle.sap_maps.specs.Maps.{Name}
 use Rattle.sap_meaning.specs.Program.{Entity, nothing, kind_is_input, kind_is_register, is_input, is_register}
@@ -44,10 +45,10 @@ plain_none (e ∷ es) h (suc k) = plain_none es h.1 k
 abbrev pub IsSome : Name → Type 0
 IsSome n = n ≡ [] → ⊥
 
-name_some : (n : Name) → words.is_name n ≡ true → IsSome n
+name_some : (version : Version) (n : Name) → words.is_name version n ≡ true → IsSome n
 unfolding words.is_name
-name_some [] h e = false≢true h
-name_some (c ∷ cs) h e = cc
+name_some version [] h e = false≢true h
+name_some version (c ∷ cs) h e = cc
 
 and_left : (p q : Bool) → (p && q) ≡ true → p ≡ true
 and_left true q h = refl
@@ -57,18 +58,18 @@ and_right : (p q : Bool) → (p && q) ≡ true → q ≡ true
 and_right true q h = h
 and_right false q h = cc
 
-declaration_some : (d : Decl) → is_declaration d ≡ true → IsSome (entity_of d).name.name
-declaration_some (decl.Input place name width) h = name_some name.name (and_left _ _ h)
-declaration_some (decl.Register place name width kind start) h = name_some name.name (and_left _ _ (and_left _ _ (and_left _ _ h)))
-declaration_some (decl.Memory place name width depth kind) h = name_some name.name (and_left _ _ (and_left _ _ (and_left _ _ h)))
+declaration_some : (version : Version) (d : Decl) → is_declaration version d ≡ true → IsSome (entity_of d).name.name
+declaration_some version (decl.Input place name width) h = name_some version name.name (and_left _ _ h)
+declaration_some version (decl.Register place name width kind start) h = name_some version name.name (and_left _ _ (and_left _ _ (and_left _ _ h)))
+declaration_some version (decl.Memory place name width depth kind) h = name_some version name.name (and_left _ _ (and_left _ _ (and_left _ _ h)))
 
-named_some : (ls : Levels) (ds : List Decl) (es : List Entity) (fs : List Declared) → NonePlain es → list_all is_declaration ds ≡ true → (k : ℕ) → is_plain (get_or (all_declared ls ds ++ es) k nothing) ≡ true
+named_some : (version : Version) (ls : Levels) (ds : List Decl) (es : List Entity) (fs : List Declared) → NonePlain es → list_all (is_declaration version) ds ≡ true → (k : ℕ) → is_plain (get_or (all_declared ls ds ++ es) k nothing) ≡ true
     → IsSome (get_or (map (λ e. e.name.name) (declared_in ds ++ fs)) k [])
-named_some ls [] es fs none h k p = absurd (false≢true (sym (plain_none es none k) ∙ p))
-named_some ls (d ∷ ds) es fs none h zero p = declaration_some d (and_left (is_declaration d) (list_all is_declaration ds) h)
-named_some ls (d ∷ ds) es fs none h (suc k) p = named_some ls ds es fs none (and_right (is_declaration d) (list_all is_declaration ds) h) k p
+named_some version ls [] es fs none h k p = absurd (false≢true (sym (plain_none es none k) ∙ p))
+named_some version ls (d ∷ ds) es fs none h zero p = declaration_some version d (and_left (is_declaration version d) (list_all (is_declaration version) ds) h)
+named_some version ls (d ∷ ds) es fs none h (suc k) p = named_some version ls ds es fs none (and_right (is_declaration version d) (list_all (is_declaration version) ds) h) k p
 
-whole_declarations : (t : DesignTree) → is_whole t ≡ true → list_all is_declaration t.declarations ≡ true
+whole_declarations : (t : DesignTree) → is_whole t ≡ true → list_all (is_declaration t.version) t.declarations ≡ true
 unfolding is_whole
 whole_declarations t h = and_left _ _ (and_left _ _ (and_left _ _ h))
 
@@ -81,11 +82,11 @@ or_second false q h = h
 
 pub input_some : (ls : Levels) (t : DesignTree) → is_whole t ≡ true → (x : ℕ) → is_input (world (named_of ls t)) x ≡ true → IsSome (name (named_of ls t) x)
 input_some ls t w x h =
-    named_some ls t.declarations _ (named_group t.states) (group_plain ls 0 (length t.declarations) t.states) (whole_declarations t w) x (or_first (is_input (world (named_of ls t)) x) (is_register (world (named_of ls t)) x) h)
+    named_some t.version ls t.declarations _ (named_group t.states) (group_plain ls 0 (length t.declarations) t.states) (whole_declarations t w) x (or_first (is_input (world (named_of ls t)) x) (is_register (world (named_of ls t)) x) h)
 
 pub register_some : (ls : Levels) (t : DesignTree) → is_whole t ≡ true → (x : ℕ) → is_register (world (named_of ls t)) x ≡ true → IsSome (name (named_of ls t) x)
 register_some ls t w x h =
-    named_some ls t.declarations _ (named_group t.states) (group_plain ls 0 (length t.declarations) t.states) (whole_declarations t w) x (or_second (is_input (world (named_of ls t)) x) (is_register (world (named_of ls t)) x) h)
+    named_some t.version ls t.declarations _ (named_group t.states) (group_plain ls 0 (length t.declarations) t.states) (whole_declarations t w) x (or_second (is_input (world (named_of ls t)) x) (is_register (world (named_of ls t)) x) h)
 
 pub value_back : (n : Name) → IsSome n → value_of (value_name n) ≡ Some n
 value_back [] h = absurd (h refl)

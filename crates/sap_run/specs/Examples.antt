@@ -7,6 +7,7 @@ use Rattle.sap_tree.specs.declared.syntax.Kind.TheVariants.{Dynamic, Enforced}
 use Rattle.sap_tree.specs.declared.syntax.Decl.TheVariants.{Input, Register}
 use Rattle.sap_tree.specs.declared.syntax.BinaryOperator.TheVariants as operator
 use Rattle.sap_tree.specs.Syntax.{Number, Read, Binary, Do, Assign, Goto, Commands, NoCommand, AndCommand, StateOf, NoState, AndState, DesignTree}
+use Rattle.sap_tree.specs.declared.version.Version.TheVariants.{One}
 use Rattle.sap_lattice.specs.Levels.{Levels}
 use Rattle.sap_meaning.specs.Cycle.{Tagged}
 use Rattle.sap_run.specs.LabelledRows.{labelled_rows}
@@ -27,6 +28,7 @@ levels = record { names = codes "low" ∷ codes "high" ∷ []; table = (true ∷
 -- input a : 8; reg x : 8 dynamic; state S enforced low { x := a + 1; goto S; }
 abbrev pub adder : DesignTree
 adder = record {
+  version = One;
   declarations = Input (at 1) (named 7 (codes "a")) (record { place = at 11; value = 8 })
       ∷ Register (at 14) (named 18 (codes "x")) (record { place = at 22; value = 8 }) (Dynamic (at 24)) None ∷ [];
   states = AndState (StateOf (at 33) (named 39 (codes "S")) (Enforced (named 50 (codes "low")) None)

@@ -1,10 +1,12 @@
 //! The rows of the labelled run of a design.
 #![tactic(auto)]
 
-ghost use Rattle.std.specs.Prelude.{IfOk};
+ghost use Rattle.std.specs.Prelude.{◌≡◌, IfOk};
 ghost use Rattle.sap_tree.specs.Designs.{design_of};
 ghost use Rattle.sap_interface.specs.Designs.{StandsForDesign};
-ghost use Rattle.sap_run.specs.RunOf.{IsRunOf};
+ghost use Rattle.sap_sim.specs.Fields.{fields_of};
+ghost use Rattle.sap_run.specs.Fields.{design_fields};
+ghost use Rattle.sap_run.specs.RunOf.{GivesRuns, IsRunOf};
 ghost use Rattle.sap_run.specs.Examples.{AddsOne};
 
 use sap_lattice::Lattice;
@@ -31,6 +33,18 @@ pub fn run(
     lattice.lawful();
     stimulus_fits();
     simulate(alloc, lattice, netlist, stimulus)
+}
+
+/// The rows that a netlist gives on a stimulus are those of each design for which it stands; lines have the same fields to both.
+pub fn rows_of_run(lattice: &Lattice, design: &Design, netlist: &Netlist)
+    requires stands { StandsForDesign lattice.now (design_of design.now) netlist.now }
+    ensures runs { GivesRuns lattice.now (design_of design.now) netlist.now }
+    ensures fields { fields_of lattice.now netlist.now ≡ design_fields lattice.now (design_of design.now) }
+{
+    design_is_whole(design);
+    netlist.rules();
+    lattice.lawful();
+    stimulus_fits();
 }
 
 /// The rows of a small design on two cycles, worked out.

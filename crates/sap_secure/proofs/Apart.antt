@@ -1,9 +1,9 @@
 -- What registers, memories and states have apart.
 use Rattle.std.proofs.Common.{◌≡◌, ℕ, suc, Bool, true, false, ◌||◌, refl, sym, ◌∙◌, nat_eq, inl, inr}
-use Rattle.sap_meaning.specs.Program.{World, is_dynamic, Kind, input, register, memory, state, entity, is_register, is_memory, is_state, kind_is_register, kind_is_memory, kind_is_state, Step, Set, Write, Retag, RetagCell, Goto, Fall, Command, Do, Try, If, Block, End, Then, State, Node, Group, None, More}
-use Rattle.sap_meaning.specs.Touches.{among, step_assigns, assigns, block_assigns, state_assigns, group_assigns, step_hangs, hangs, block_hangs}
-use Rattle.sap_meaning.specs.Fine.{FineStep, FineCommand, FineBlock, FineState, FineGroup, inside, step_writes, writes, block_writes, step_reaches, reaches, block_reaches}
-use Rattle.sap_secure.proofs.Concerns.{parted_of, group_parted, step_concerns, concerns, block_concerns}
+use Rattle.sap_meaning.specs.Program.{World, is_dynamic, Kind, input, register, memory, state, entity, is_register, is_memory, is_state, kind_is_register, kind_is_memory, kind_is_state, Step, Set, Write, Retag, RetagCell, Goto, Fall, Command, Do, Try, If, TryThen, Case, Arms, Last, Arm, Block, End, Then, State, Node, Group, None, More}
+use Rattle.sap_meaning.specs.Touches.{among, step_assigns, assigns, arms_assign, block_assigns, state_assigns, group_assigns, step_hangs, hangs, arms_hang, block_hangs}
+use Rattle.sap_meaning.specs.Fine.{FineStep, FineCommand, FineArms, FineBlock, FineState, FineGroup, inside, step_writes, writes, arms_write, block_writes, step_reaches, reaches, arms_reaching, block_reaches, group_reaches}
+use Rattle.sap_secure.proofs.Concerns.{parted_of, group_parted, step_concerns, concerns, arms_concern, block_concerns}
 use Rattle.sap_meaning.proofs.Bools.{and_left, or_left, or_right, or_of, or_false, not_true, same_number, eq_not}
 
 either_of : (a b c d : Bool) → (a ≡ true → c ≡ true) → (b ≡ true → d ≡ true) → (a || b) ≡ true → (c || d) ≡ true
@@ -61,6 +61,12 @@ module _ (w : World) where
       unassigned q j (Do k) fine = step_unassigned q j k fine
       unassigned q j (Try k hang h) fine = or_false _ _ (step_unassigned q j k fine.0) (block_unassigned q j h fine.1)
       unassigned q j (If hang e a b) fine = or_false _ _ (block_unassigned q j a fine.1) (block_unassigned q j b fine.2)
+      unassigned q j (TryThen k hang a b) fine = or_false _ _ (step_unassigned q j k fine.0) (or_false _ _ (block_unassigned q j a fine.1) (block_unassigned q j b fine.2))
+      unassigned q j (Case hang e arms) fine = arms_unassigned q j arms fine.1
+
+      arms_unassigned : (q j : Group) (arms : Arms) → FineArms w q j arms → arms_assign arms x ≡ false
+      arms_unassigned q j (Last b) fine = block_unassigned q j b fine
+      arms_unassigned q j (Arm constants b arms) fine = or_false _ _ (block_unassigned q j b fine.0) (arms_unassigned q j arms fine.1)
 
       pub block_unassigned : (q j : Group) (b : Block) → FineBlock w q j b → block_assigns b x ≡ false
       block_unassigned q j End fine = refl
@@ -89,6 +95,15 @@ module _ (w : World) where
       hung q j (Do k) fine h = step_hung q j k fine h
       hung q j (Try k hang b) fine h = either_of (step_concerns w e g k m) (block_concerns w e g b m) (step_reaches g k m) (block_reaches g b m) (step_hung q j k fine.0) (block_hung q j b fine.1) h
       hung q j (If hang t a b) fine h = either_of (block_concerns w e g a m) (block_concerns w e g b m) (block_reaches g a m) (block_reaches g b m) (block_hung q j a fine.1) (block_hung q j b fine.2) h
+      hung q j (TryThen k hang a b) fine h =
+          either_of (step_concerns w e g k m) (block_concerns w e g a m || block_concerns w e g b m) (step_reaches g k m) (block_reaches g a m || block_reaches g b m) (step_hung q j k fine.0)
+          (either_of (block_concerns w e g a m) (block_concerns w e g b m) (block_reaches g a m) (block_reaches g b m) (block_hung q j a fine.1) (block_hung q j b fine.2)) h
+      hung q j (Case hang t arms) fine h = arms_hung q j arms fine.1 h
+
+      arms_hung : (q j : Group) (arms : Arms) → FineArms w q j arms → arms_concern w e g arms m ≡ true → arms_reaching (group_reaches g) arms m ≡ true
+      arms_hung q j (Last b) fine h = block_hung q j b fine h
+      arms_hung q j (Arm constants b arms) fine h =
+          either_of (block_concerns w e g b m) (arms_concern w e g arms m) (block_reaches g b m) (arms_reaching (group_reaches g) arms m) (block_hung q j b fine.0) (arms_hung q j arms fine.1) h
 
       pub block_hung : (q j : Group) (b : Block) → FineBlock w q j b → block_concerns w e g b m ≡ true → block_reaches g b m ≡ true
       block_hung q j End fine h = h
@@ -109,6 +124,12 @@ module _ (w : World) where
       unhung q (Do k) fine = step_unhung q k fine
       unhung q (Try k hang h) fine = or_false _ _ (step_unhung q k fine.0) (block_unhung q h fine.1)
       unhung q (If hang t a b) fine = or_false _ _ (block_unhung q a fine.1) (block_unhung q b fine.2)
+      unhung q (TryThen k hang a b) fine = or_false _ _ (step_unhung q k fine.0) (or_false _ _ (block_unhung q a fine.1) (block_unhung q b fine.2))
+      unhung q (Case hang t arms) fine = arms_unhung q arms fine.1
+
+      arms_unhung : (q : Group) (arms : Arms) → FineArms w q g arms → arms_hang e g arms x ≡ false
+      arms_unhung q (Last b) fine = block_unhung q b fine
+      arms_unhung q (Arm constants b arms) fine = or_false _ _ (block_unhung q b fine.0) (arms_unhung q arms fine.1)
 
       pub block_unhung : (q : Group) (b : Block) → FineBlock w q g b → block_hangs e g b x ≡ false
       block_unhung q End fine = refl
@@ -129,6 +150,15 @@ module _ (w : World) where
       writes_within (Do k) h = step_within k h
       writes_within (Try k hang b) h = either_of (step_writes k m) (block_writes b m) (step_reaches g k m) (block_reaches g b m) (step_within k) (block_within b) h
       writes_within (If hang e a b) h = either_of (block_writes a m) (block_writes b m) (block_reaches g a m) (block_reaches g b m) (block_within a) (block_within b) h
+      writes_within (TryThen k hang a b) h =
+          either_of (step_writes k m) (block_writes a m || block_writes b m) (step_reaches g k m) (block_reaches g a m || block_reaches g b m) (step_within k)
+          (either_of (block_writes a m) (block_writes b m) (block_reaches g a m) (block_reaches g b m) (block_within a) (block_within b)) h
+      writes_within (Case hang e arms) h = arms_within arms h
+
+      arms_within : (arms : Arms) → arms_write arms m ≡ true → arms_reaching (group_reaches g) arms m ≡ true
+      arms_within (Last b) h = block_within b h
+      arms_within (Arm constants b arms) h =
+          either_of (block_writes b m) (arms_write arms m) (block_reaches g b m) (arms_reaching (group_reaches g) arms m) (block_within b) (arms_within arms) h
 
       block_within : (b : Block) → block_writes b m ≡ true → block_reaches g b m ≡ true
       block_within End h = h
@@ -158,6 +188,14 @@ module _ (e : ℕ) (g : Group) (x : ℕ) (own : nat_eq x e ≡ false) (kids : am
     found (Do k) = step_found k
     found (Try k hang h) = either_side (step_hangs e g k x) (block_hangs e g h x) (step_assigns k x) (block_assigns h x) (step_found k) (block_found h)
     found (If hang t a b) = either_side (block_hangs e g a x) (block_hangs e g b x) (block_assigns a x) (block_assigns b x) (block_found a) (block_found b)
+    found (TryThen k hang a b) =
+        either_side (step_hangs e g k x) (block_hangs e g a x || block_hangs e g b x) (step_assigns k x) (block_assigns a x || block_assigns b x) (step_found k)
+        (either_side (block_hangs e g a x) (block_hangs e g b x) (block_assigns a x) (block_assigns b x) (block_found a) (block_found b))
+    found (Case hang t arms) = arms_found arms
+
+    arms_found : (arms : Arms) → Found (arms_hang e g arms x) (arms_assign arms x)
+    arms_found (Last b) = block_found b
+    arms_found (Arm constants b arms) = either_side (block_hangs e g b x) (arms_hang e g arms x) (block_assigns b x) (arms_assign arms x) (block_found b) (arms_found arms)
 
     pub block_found : (b : Block) → Found (block_hangs e g b x) (block_assigns b x)
     block_found End = λ h. cc

@@ -1,7 +1,7 @@
 -- What concerns a command: what hangs on it; but an enforced memory only where it, or a body that it may fall into, writes a cell.
 use Rattle.std.proofs.Common.{◌≡◌, ℕ, Bool, true, false, not, ◌&&◌, ◌||◌, refl, sym, ap, ◌∙◌, nat_eq, if◌then◌else◌}
-use Rattle.sap_meaning.specs.Program.{World, is_dynamic, is_memory, Step, Set, Write, Retag, RetagCell, Goto, Fall, Command, Do, Try, If, Block, End, Then, State, Node, Group, None, More}
-use Rattle.sap_meaning.specs.Touches.{among, block_assigns, state_assigns, group_assigns, step_hangs, hangs, block_hangs}
+use Rattle.sap_meaning.specs.Program.{World, is_dynamic, is_memory, Step, Set, Write, Retag, RetagCell, Goto, Fall, Command, Do, Try, If, TryThen, Case, Arms, Last, Arm, Block, End, Then, State, Node, Group, None, More}
+use Rattle.sap_meaning.specs.Touches.{among, block_assigns, state_assigns, group_assigns, step_hangs, hangs, block_hangs, arms_hang}
 use Rattle.sap_meaning.specs.Fine.{block_reaches, state_reaches, group_reaches}
 use Rattle.sap_meaning.proofs.Bools.{and_both}
 
@@ -29,6 +29,12 @@ abbrev mutual
   concerns w s g (Do k) x = step_concerns w s g k x
   concerns w s g (Try k hang h) x = step_concerns w s g k x || block_concerns w s g h x
   concerns w s g (If hang e a b) x = block_concerns w s g a x || block_concerns w s g b x
+  concerns w s g (TryThen k hang a b) x = step_concerns w s g k x || (block_concerns w s g a x || block_concerns w s g b x)
+  concerns w s g (Case hang e arms) x = arms_concern w s g arms x
+
+  pub arms_concern : World → ℕ → Group → Arms → ℕ → Bool
+  arms_concern w s g (Last b) x = block_concerns w s g b x
+  arms_concern w s g (Arm constants b arms) x = block_concerns w s g b x || arms_concern w s g arms x
 
   pub block_concerns : World → ℕ → Group → Block → ℕ → Bool
   block_concerns w s g End x = false
@@ -74,6 +80,15 @@ module _ (w : World) (x : ℕ) where
       whole s g (Do k) = step_whole s g k
       whole s g (Try k hang h) = or_same (step_concerns w s g k x) (block_concerns w s g h x) (step_hangs s g k x) (block_hangs s g h x) (step_whole s g k) (block_whole s g h)
       whole s g (If hang e a b) = or_same (block_concerns w s g a x) (block_concerns w s g b x) (block_hangs s g a x) (block_hangs s g b x) (block_whole s g a) (block_whole s g b)
+      whole s g (TryThen k hang a b) =
+          or_same (step_concerns w s g k x) (block_concerns w s g a x || block_concerns w s g b x) (step_hangs s g k x) (block_hangs s g a x || block_hangs s g b x) (step_whole s g k)
+          (or_same (block_concerns w s g a x) (block_concerns w s g b x) (block_hangs s g a x) (block_hangs s g b x) (block_whole s g a) (block_whole s g b))
+      whole s g (Case hang e arms) = arms_whole s g arms
+
+      arms_whole : (s : ℕ) (g : Group) (arms : Arms) → arms_concern w s g arms x ≡ arms_hang s g arms x
+      arms_whole s g (Last b) = block_whole s g b
+      arms_whole s g (Arm constants b arms) =
+          or_same (block_concerns w s g b x) (arms_concern w s g arms x) (block_hangs s g b x) (arms_hang s g arms x) (block_whole s g b) (arms_whole s g arms)
 
       pub block_whole : (s : ℕ) (g : Group) (b : Block) → block_concerns w s g b x ≡ block_hangs s g b x
       block_whole s g End = refl

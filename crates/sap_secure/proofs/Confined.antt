@@ -3,23 +3,23 @@ use Rattle.std.proofs.Common.{◌≡◌, ℕ, zero, suc, ◌+◌, ◌<◌, Bool,
 use Rattle.std.proofs.lemmas.Bool.{cases_Bool}
 use Rattle.sap_lattice.specs.Order.{Laws}
 use Rattle.sap_maps.specs.Term.{Term}
-use Rattle.sap_meaning.specs.Program.{World, entity, is_dynamic, is_input, is_register, is_memory, is_state, authority, children, place, Step, Set, Write, Retag, RetagCell, Goto, Fall, Command, Do, Try, If, Block, End, Then, State, Node, Group, None, More, LevelTerm}
+use Rattle.sap_meaning.specs.Program.{World, entity, is_dynamic, is_input, is_register, is_memory, is_state, authority, children, place, Step, Set, Write, Retag, RetagCell, Goto, Fall, Command, Do, Try, If, TryThen, Case, Arms, Last, Arm, Block, End, Then, State, Node, Group, None, More, LevelTerm}
 use Rattle.sap_meaning.specs.Store.{Slot, own, start, next, start_whole, next_whole, Store, owner, home, level, child, put_child, raised, raise, reset, held, After, stay}
 use Rattle.sap_meaning.specs.State.{Holds}
 use Rattle.sap_meaning.specs.Expressions.{value, tag, new_level, told}
 use Rattle.sap_meaning.specs.Checks.{Spot, guard, test}
 use Rattle.sap_meaning.specs.Touches.{among, step_hangs, touches, raised_alone}
-use Rattle.sap_meaning.specs.Does.{effect, attempt, select, branch, does, does_block, does_state, does_child}
+use Rattle.sap_meaning.specs.Does.{effect, attempt, select, branch, does, does_block, does_state, does_child, attempt_then, does_arms}
 use Rattle.sap_meaning.specs.Agree.{High, seen}
 use Rattle.sap_meaning.proofs.Bools.{and_left, and_right, and_both, or_left, or_right, or_of, not_true, same_number, eq_self}
 use Rattle.sap_meaning.proofs.Slots.{owner_home, raised_hangs, held_register, held_state}
 use Rattle.sap_meaning.proofs.Trees.{Nth, lands}
-use Rattle.sap_meaning.proofs.Keeps.{OfDynamic, Keeps, branch_all, raise_keeps, holds_raise, does_holds, block_holds, alone_dynamic, child_holds}
+use Rattle.sap_meaning.proofs.Keeps.{OfDynamic, Keeps, branch_all, raise_keeps, holds_raise, does_holds, block_holds, alone_dynamic, child_holds, choose_all, effect_holds}
 use Rattle.sap_secure.proofs.Levels.{high_above, high_left, high_right, low_join, same_high, seen_nothing}
 use Rattle.sap_secure.proofs.Agreeing.{compared, not_both, Agree, sole_own, sole_cell, agree_self, agree_next, agree_over, agree_hidden, agree_raise, raise_high, raise_to, agree_child, agree_reset, agree_state}
-use Rattle.sap_secure.proofs.Concerns.{parted, dynamic_whole, block_whole, concerned, step_concerns, concerns, block_concerns, state_concerns, group_concerns}
+use Rattle.sap_secure.proofs.Concerns.{parted, dynamic_whole, block_whole, concerned, step_concerns, concerns, block_concerns, state_concerns, group_concerns, arms_concern}
 use Rattle.sap_secure.proofs.Apart.{block_hung, block_found, inside_state, inside_among, no_state}
-use Rattle.sap_secure.proofs.Sites.{Around, Site, spot, Proper, ProperBlock, ProperStep, Disjoint, fine_command, fine_block, kids_around, node, not_own, no_kid, proper_body}
+use Rattle.sap_secure.proofs.Sites.{Around, Site, spot, Proper, ProperBlock, ProperStep, Disjoint, fine_command, fine_block, kids_around, node, not_own, no_kid, proper_body, ProperArms}
 use Rattle.sap_secure.proofs.Frames.{start_kept, next_kept}
 
 -- what commands can raise or write
@@ -266,6 +266,27 @@ module _ (w : World) (laws : Laws w.order) (l : ℕ) where
           record { same = c.same; quiet = rw high c.quiet })
     ]
 
+    -- the accepted part goes on from the store behind the effect
+    pub attempt_then_confined : (k : Step) → ProperStep w i k → (hang : ℕ → Bool) (f g : ℕ → Store → After) (pc : ℕ) (s : Store) → OfDynamic w hang → Holds w s
+        → Quiet w l (step_concerns w i.state i.kids k) (raise w.order hang (guard w At k s) s) → Up pc k s
+        → ((q : ℕ) (u : Store) → High w.order l q → Holds w u → Agree w l (raise w.order hang (guard w At k s) s) u → Confined w l u (f q u))
+        → ((q : ℕ) → High w.order l q → Confined w l (raise w.order hang (guard w At k s) s) (g q (raise w.order hang (guard w At k s) s)))
+        → Confined w l (raise w.order hang (guard w At k s) s) (attempt_then w At i.enter k hang f g pc s)
+    unfolding attempt_then
+    attempt_then_confined k fine hang f g pc s dyn holds quiet up accepted refused = elim (cases_Bool (test w At k pc s)) [
+      | inl t ↦ rw t (
+          let r = raise w.order hang (guard w At k s) s in
+          let raised_holds = holds_raise w s hang (guard w At k s) dyn holds in
+          let one = step_confined k fine pc s r (raise_keeps w s hang _ dyn) raised_holds quiet t up in
+          let u = (effect w At i.enter k pc s r).store in
+          let two = accepted (w.order.join pc (guard w At k s)) u (up_join pc k s up) (effect_holds w At i.siblings landing i.enter holding k fine.0 pc s r t raised_holds) one.same in
+          record { same = agree_next w laws l _ _ _ one.same two.same; quiet = seen_nothing w.order laws l _ _ one.quiet two.quiet })
+      | inr t ↦ rw t (
+          let high : High w.order l (w.order.join pc (guard w At k s)) = up_join pc k s up in
+          let c = refused _ high in
+          record { same = c.same; quiet = rw high c.quiet })
+    ]
+
     pub select_confined : (e : Term ℕ) (hang : ℕ → Bool) (pick : ℕ → ℕ → Store → After) (pc : ℕ) (s : Store) → High w.order l (w.order.join pc (tag w e s)) → ((v q : ℕ) → High w.order l q → Confined w l (raise w.order hang (tag w e s) s) (pick v q (raise w.order hang (tag w e s) s))) → Confined w l (raise w.order hang (tag w e s) s) (select w e hang pick pc s)
     unfolding select
     select_confined e hang pick pc s up f = f _ _ up
@@ -291,7 +312,7 @@ module _ (w : World) (laws : Laws w.order) (l : ℕ) where
     quiet_kept h hang a s dyn q z g e = hush_raise s hang a dyn z (q z g e)
 
     mutual
-      unfolding does does_block
+      unfolding does does_arms does_block
 
       pub does_confined : (c : Command) → Proper w i c → (pc : ℕ) (s : Store) → Holds w s → High w.order l pc → Quiet w l (concerns w i.state i.kids c) s → Confined w l s (does w At i.enter c pc s)
       does_confined (Do k) fine pc s holds high quiet =
@@ -317,6 +338,34 @@ module _ (w : World) (laws : Laws w.order) (l : ℕ) where
           (λ v r up. branch_all (λ z. Confined w l (raise w.order hung (tag w e s) s) z) (does_block w At i.enter a) (does_block w At i.enter b) v r (raise w.order hung (tag w e s) s)
           (block_confined a fine.1 r _ (holds_raise w s hung _ dyn holds) up (quiet_left (block_concerns w i.state i.kids a) (block_concerns w i.state i.kids b) r' q))
           (block_confined b fine.2 r _ (holds_raise w s hung _ dyn holds) up (quiet_right (block_concerns w i.state i.kids a) (block_concerns w i.state i.kids b) r' q))))
+      does_confined (TryThen k hang a b) fine pc s holds high quiet =
+          let hung = touches w At (TryThen k hang a b) in
+          let dyn : OfDynamic w hung = touches_dynamic (TryThen k hang a b) in
+          let e = agree_raise w laws l s hung (guard w At k s) dyn (hushed (concerns w i.state i.kids (TryThen k hang a b)) hung s (concerned w i.state i.kids (TryThen k hang a b)) quiet) in
+          let r' = raise w.order hung (guard w At k s) s in
+          let q = quiet_kept (concerns w i.state i.kids (TryThen k hang a b)) hung (guard w At k s) s dyn quiet in
+          let own = step_concerns w i.state i.kids k in
+          let one = block_concerns w i.state i.kids a in
+          let other = block_concerns w i.state i.kids b in
+          let behind = quiet_right own (λ x. one x || other x) r' q in
+          confined_from s _ _ e (attempt_then_confined k fine.0 hung (does_block w At i.enter a) (does_block w At i.enter b) pc s dyn holds (quiet_left own (λ x. one x || other x) r' q) (inl high)
+          (λ r u up hold same. block_confined a fine.1 r u hold up (λ z g h. hush_next r' u same z g (quiet_left one other r' behind z g h)))
+          (λ r up. block_confined b fine.2 r _ (holds_raise w s hung _ dyn holds) up (quiet_right one other r' behind)))
+      does_confined (Case hang e arms) fine pc s holds high quiet =
+          let hung = touches w At (Case hang e arms) in
+          let dyn : OfDynamic w hung = touches_dynamic (Case hang e arms) in
+          let same = agree_raise w laws l s hung (tag w e s) dyn (hushed (concerns w i.state i.kids (Case hang e arms)) hung s (concerned w i.state i.kids (Case hang e arms)) quiet) in
+          let q = quiet_kept (concerns w i.state i.kids (Case hang e arms)) hung (tag w e s) s dyn quiet in
+          confined_from s _ _ same (select_confined e hung (does_arms w At i.enter arms) pc s (high_left w.order laws l pc _ high)
+          (λ v r up. arms_confined arms fine.1 v r _ (holds_raise w s hung _ dyn holds) up q))
+
+      pub arms_confined : (arms : Arms) → ProperArms w i arms → (v pc : ℕ) (s : Store) → Holds w s → High w.order l pc → Quiet w l (arms_concern w i.state i.kids arms) s
+          → Confined w l s (does_arms w At i.enter arms v pc s)
+      arms_confined (Last b) fine v pc s holds high quiet = block_confined b fine pc s holds high quiet
+      arms_confined (Arm cs b arms) fine v pc s holds high quiet =
+          choose_all (λ z. Confined w l s z) cs (does_block w At i.enter b) (does_arms w At i.enter arms) v pc s
+          (block_confined b fine.0 pc s holds high (quiet_left (block_concerns w i.state i.kids b) (arms_concern w i.state i.kids arms) s quiet))
+          (arms_confined arms fine.1 v pc s holds high (quiet_right (block_concerns w i.state i.kids b) (arms_concern w i.state i.kids arms) s quiet))
 
       pub block_confined : (b : Block) → ProperBlock w i b → (pc : ℕ) (s : Store) → Holds w s → High w.order l pc → Quiet w l (block_concerns w i.state i.kids b) s → Confined w l s (does_block w At i.enter b pc s)
       block_confined End fine pc s holds high quiet = confined_self s

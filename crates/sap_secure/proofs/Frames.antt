@@ -2,18 +2,18 @@
 use Rattle.std.proofs.Common.{◌≡◌, ℕ, zero, suc, Bool, true, false, ◌&&◌, ◌||◌, refl, sym, ap, ◌∙◌, nat_eq, inl, inr}
 use Rattle.std.proofs.lemmas.Bool.{cases_Bool}
 use Rattle.sap_maps.specs.Term.{Term}
-use Rattle.sap_meaning.specs.Program.{World, is_dynamic, is_memory, is_state, place, below, Step, Set, Write, Retag, RetagCell, Goto, Fall, Command, Do, Try, If, Block, End, Then, State, Node, Group, None, More}
+use Rattle.sap_meaning.specs.Program.{World, is_dynamic, is_memory, is_state, place, below, Step, Set, Write, Retag, RetagCell, Goto, Fall, Command, Do, Try, If, TryThen, Case, Arms, Last, Arm, Block, End, Then, State, Node, Group, None, More}
 use Rattle.sap_meaning.specs.Store.{Slot, own, start, next, Store, owner, home, level, child, same_slot, put_number, put_level, put_child, raised, raise, lowered, reset, After, stay}
 use Rattle.sap_meaning.specs.Expressions.{value, tag}
 use Rattle.sap_meaning.specs.Checks.{Spot, guard, test}
-use Rattle.sap_meaning.specs.Touches.{among, step_hangs, hangs, block_hangs, touches, raised_alone, group_assigns}
-use Rattle.sap_meaning.specs.Does.{effect, attempt, select, branch, does, does_block, does_state, does_child}
-use Rattle.sap_meaning.specs.Fine.{FineStep, FineCommand, FineBlock, FineState, FineGroup, transfers, Open, OpenBlock, step_writes, writes, block_writes, step_retags, retags, block_retags, state_retags, group_retags, inside}
+use Rattle.sap_meaning.specs.Touches.{among, step_hangs, hangs, block_hangs, touches, raised_alone, group_assigns, arms_hang}
+use Rattle.sap_meaning.specs.Does.{effect, attempt, select, branch, does, does_block, does_state, does_child, attempt_then, does_arms}
+use Rattle.sap_meaning.specs.Fine.{FineStep, FineCommand, FineBlock, FineState, FineGroup, transfers, Open, OpenBlock, step_writes, writes, block_writes, step_retags, retags, block_retags, state_retags, group_retags, inside, FineArms, OpenArms, arms_write, arms_retag}
 use Rattle.sap_meaning.proofs.Bools.{or_left, or_right, or_of, or_false, neither_left, neither_right, not_true, eq_self}
 use Rattle.sap_meaning.proofs.Slots.{slot_same, home_next, home_start, owner_home}
-use Rattle.sap_meaning.proofs.Keeps.{branch_all}
+use Rattle.sap_meaning.proofs.Keeps.{branch_all, choose_all}
 use Rattle.sap_secure.proofs.Apart.{register_apart, memory_apart, state_no_register, state_no_memory, group_unassigned, inside_among, unhung}
-use Rattle.sap_secure.proofs.Sites.{Site, spot, Proper, ProperBlock, ProperStep}
+use Rattle.sap_secure.proofs.Sites.{Site, spot, Proper, ProperBlock, ProperStep, ProperArms}
 
 -- the level of z and the current child of q
 pub record Kept (w : World) (z : Slot) (q : ℕ) (s t : Store) : Type 0 where
@@ -52,6 +52,22 @@ module _ (w : World) (z : Slot) (q : ℕ) where
   kept_attempt at enter k hang h pc s off g f =
       let up = kept_raise w z q s hang (guard w at k s) off in
       elim (cases_Bool (test w at k pc s)) [ inl t ↦ rw t (kept_next w z q _ _ _ up (g s _)) | inr t ↦ rw t (kept_next w z q _ _ _ up (f _ _)) ]
+
+  pub kept_attempt_then : (at : Spot) (enter : ℕ → ℕ → Store → After) (k : Step) (hang : ℕ → Bool) (f g : ℕ → Store → After) (pc : ℕ) (s : Store) → raised hang (home w z) ≡ false
+      → ((b t : Store) → Kept w z q t (effect w at enter k pc b t).store) → ((p : ℕ) (t : Store) → Kept w z q t (f p t).store) → ((p : ℕ) (t : Store) → Kept w z q t (g p t).store)
+      → Kept w z q s (attempt_then w at enter k hang f g pc s).store
+  unfolding attempt_then
+  kept_attempt_then at enter k hang f g pc s off e a b =
+      let up = kept_raise w z q s hang (guard w at k s) off in
+      elim (cases_Bool (test w at k pc s)) [
+        | inl t ↦ rw t (kept_next w z q _ _ _ up (kept_next w z q _ _ _ (e s _) (a _ _)))
+        | inr t ↦ rw t (kept_next w z q _ _ _ up (b _ _))
+      ]
+
+  pub kept_pick : (e : Term ℕ) (hang : ℕ → Bool) (pick : ℕ → ℕ → Store → After) (pc : ℕ) (s : Store) → raised hang (home w z) ≡ false → ((v p : ℕ) (t : Store) → Kept w z q t (pick v p t).store)
+      → Kept w z q s (select w e hang pick pc s).store
+  unfolding select
+  kept_pick e hang pick pc s off f = kept_next w z q _ _ _ (kept_raise w z q s hang (tag w e s) off) (f _ _ _)
 
   pub kept_select : (e : Term ℕ) (hang : ℕ → Bool) (a b : ℕ → Store → After) (pc : ℕ) (s : Store) → raised hang (home w z) ≡ false → ((p : ℕ) (t : Store) → Kept w z q t (a p t).store) → ((p : ℕ) (t : Store) → Kept w z q t (b p t).store) → Kept w z q s (select w e hang (branch a b) pc s).store
   unfolding select
@@ -98,6 +114,12 @@ module _ (w : World) (i : Site w) (q : ℕ) where
       command_off (Do k) fine plain = step_off k fine plain
       command_off (Try k hang h) fine plain = or_false _ _ (step_off k fine.0 plain.0) (block_off h fine.1 plain.1)
       command_off (If hang e a b) fine plain = or_false _ _ (block_off a fine.1 plain.0) (block_off b fine.2 plain.1)
+      command_off (TryThen k hang a b) fine plain = or_false _ _ (step_off k fine.0 plain.0) (or_false _ _ (block_off a fine.1 plain.1) (block_off b fine.2 plain.2))
+      command_off (Case hang e arms) fine plain = arms_off arms fine.1 plain
+
+      arms_off : (arms : Arms) → ProperArms w i arms → OpenArms arms → arms_hang i.state i.kids arms x ≡ false
+      arms_off (Last b) fine plain = block_off b fine plain
+      arms_off (Arm constants b arms) fine plain = or_false _ _ (block_off b fine.0 plain.0) (arms_off arms fine.1 plain.1)
 
       block_off : (b : Block) → ProperBlock w i b → OpenBlock b → block_hangs i.state i.kids b x ≡ false
       block_off End fine plain = refl
@@ -108,7 +130,7 @@ module _ (w : World) (i : Site w) (q : ℕ) where
     untouched false a h = refl
 
     mutual
-      unfolding does does_block
+      unfolding does does_arms does_block
 
       pub open_kept : (c : Command) → Proper w i c → Open c → retags c x ≡ false → (pc : ℕ) (t : Store) → Kept w (own x) q t (does w (spot i) i.enter c pc t).store
       open_kept (Do k) fine plain un pc t =
@@ -119,6 +141,20 @@ module _ (w : World) (i : Site w) (q : ℕ) where
       open_kept (If hang e a b) fine plain un pc t =
           kept_select w (own x) q e (touches w (spot i) (If hang e a b)) (does_block w (spot i) i.enter a) (does_block w (spot i) i.enter b) pc t (untouched (is_dynamic w x) _ (command_off (If hang e a b) fine plain))
           (λ p t. open_list a fine.1 plain.0 (neither_left _ _ un) p t) (λ p t. open_list b fine.2 plain.1 (neither_right (block_retags a x) _ un) p t)
+      open_kept (TryThen k hang a b) fine plain un pc t =
+          kept_attempt_then w (own x) q (spot i) i.enter k (touches w (spot i) (TryThen k hang a b)) (does_block w (spot i) i.enter a) (does_block w (spot i) i.enter b) pc t
+          (untouched (is_dynamic w x) _ (command_off (TryThen k hang a b) fine plain)) (λ b' r. open_step k fine.0 plain.0 (neither_left _ _ un) pc b' r)
+          (λ p t. open_list a fine.1 plain.1 (neither_left _ _ (neither_right (step_retags k x) _ un)) p t)
+          (λ p t. open_list b fine.2 plain.2 (neither_right (block_retags a x) _ (neither_right (step_retags k x) _ un)) p t)
+      open_kept (Case hang e arms) fine plain un pc t =
+          kept_pick w (own x) q e (touches w (spot i) (Case hang e arms)) (does_arms w (spot i) i.enter arms) pc t (untouched (is_dynamic w x) _ (command_off (Case hang e arms) fine plain))
+          (λ v p t. open_arms arms fine.1 plain un v p t)
+
+      open_arms : (arms : Arms) → ProperArms w i arms → OpenArms arms → arms_retag arms x ≡ false → (v pc : ℕ) (t : Store) → Kept w (own x) q t (does_arms w (spot i) i.enter arms v pc t).store
+      open_arms (Last b) fine plain un v pc t = open_list b fine plain un pc t
+      open_arms (Arm cs b arms) fine plain un v pc t =
+          choose_all (λ r. Kept w (own x) q t r.store) cs (does_block w (spot i) i.enter b) (does_arms w (spot i) i.enter arms) v pc t (open_list b fine.0 plain.0 (neither_left _ _ un) pc t)
+          (open_arms arms fine.1 plain.1 (neither_right (block_retags b x) _ un) v pc t)
 
       open_list : (b : Block) → ProperBlock w i b → OpenBlock b → block_retags b x ≡ false → (pc : ℕ) (t : Store) → Kept w (own x) q t (does_block w (spot i) i.enter b pc t).store
       open_list End fine plain un pc t = kept_self w (own x) q t
@@ -126,7 +162,7 @@ module _ (w : World) (i : Site w) (q : ℕ) where
 
   -- a cell z of the enforced memory m
   module _ (m : ℕ) (mem : is_memory w m ≡ true) (d : is_dynamic w m ≡ false) (z : Slot) (cell : (h : ℕ → Bool) → raised h (home w z) ≡ false) (at : owner z ≡ m) (lone : (x : ℕ) → same_slot (home w z) (own x) ≡ false) where
-    cell_step : (k : Step) → transfers k ≡ false → step_writes k m ≡ false → (pc : ℕ) (b t : Store) → Kept w z q t (effect w (spot i) i.enter k pc b t).store
+    pub cell_step : (k : Step) → transfers k ≡ false → step_writes k m ≡ false → (pc : ℕ) (b t : Store) → Kept w z q t (effect w (spot i) i.enter k pc b t).store
     unfolding effect
     cell_step (Set site y e) plain un pc b t = kept_next w z q _ _ _ (kept_number w z q t (own y) _) (kept_level w z q _ (own y) _ (lone y))
     cell_step (Write site n j e) plain un pc b t = elim (cases_Bool (is_dynamic w n)) [
@@ -145,7 +181,7 @@ module _ (w : World) (i : Site w) (q : ℕ) where
     cell_step (Fall site hang) plain un pc b t = cc
 
     mutual
-      unfolding does does_block
+      unfolding does does_arms does_block
 
       pub cell_kept : (c : Command) → Open c → writes c m ≡ false → (pc : ℕ) (t : Store) → Kept w z q t (does w (spot i) i.enter c pc t).store
       cell_kept (Do k) plain un pc t =
@@ -156,6 +192,18 @@ module _ (w : World) (i : Site w) (q : ℕ) where
       cell_kept (If hang e a b) plain un pc t =
           kept_select w z q e (touches w (spot i) (If hang e a b)) (does_block w (spot i) i.enter a) (does_block w (spot i) i.enter b) pc t (cell _)
           (λ p t. cell_list a plain.0 (neither_left _ _ un) p t) (λ p t. cell_list b plain.1 (neither_right (block_writes a m) _ un) p t)
+      cell_kept (TryThen k hang a b) plain un pc t =
+          kept_attempt_then w z q (spot i) i.enter k (touches w (spot i) (TryThen k hang a b)) (does_block w (spot i) i.enter a) (does_block w (spot i) i.enter b) pc t (cell _)
+          (λ b' r. cell_step k plain.0 (neither_left _ _ un) pc b' r) (λ p t. cell_list a plain.1 (neither_left _ _ (neither_right (step_writes k m) _ un)) p t)
+          (λ p t. cell_list b plain.2 (neither_right (block_writes a m) _ (neither_right (step_writes k m) _ un)) p t)
+      cell_kept (Case hang e arms) plain un pc t =
+          kept_pick w z q e (touches w (spot i) (Case hang e arms)) (does_arms w (spot i) i.enter arms) pc t (cell _) (λ v p t. cell_arms arms plain un v p t)
+
+      cell_arms : (arms : Arms) → OpenArms arms → arms_write arms m ≡ false → (v pc : ℕ) (t : Store) → Kept w z q t (does_arms w (spot i) i.enter arms v pc t).store
+      cell_arms (Last b) plain un v pc t = cell_list b plain un pc t
+      cell_arms (Arm cs b arms) plain un v pc t =
+          choose_all (λ r. Kept w z q t r.store) cs (does_block w (spot i) i.enter b) (does_arms w (spot i) i.enter arms) v pc t (cell_list b plain.0 (neither_left _ _ un) pc t)
+          (cell_arms arms plain.1 (neither_right (block_writes b m) _ un) v pc t)
 
       cell_list : (b : Block) → OpenBlock b → block_writes b m ≡ false → (pc : ℕ) (t : Store) → Kept w z q t (does_block w (spot i) i.enter b pc t).store
       cell_list End plain un pc t = kept_self w z q t
@@ -168,6 +216,14 @@ module _ (w : World) (i : Site w) (q m : ℕ) (mem : is_memory w m ≡ true) (d 
 
   pub next_kept : (j : ℕ) → Kept w (next m j) q t (does w (spot i) i.enter c pc t).store
   next_kept j = cell_kept w i q m mem d (next m j) (λ h. rw (home_next w m j d) refl) refl (λ x. rw (home_next w m j d) refl) c plain un pc t
+
+-- and under the effect of a step
+module _ (w : World) (i : Site w) (q m : ℕ) (mem : is_memory w m ≡ true) (d : is_dynamic w m ≡ false) (k : Step) (plain : transfers k ≡ false) (un : step_writes k m ≡ false) (pc : ℕ) (b t : Store) where
+  pub start_effect : (j : ℕ) → Kept w (start m j) q t (effect w (spot i) i.enter k pc b t).store
+  start_effect j = cell_step w i q m mem d (start m j) (λ h. rw (home_start w m j d) refl) refl (λ x. rw (home_start w m j d) refl) k plain un pc b t
+
+  pub next_effect : (j : ℕ) → Kept w (next m j) q t (effect w (spot i) i.enter k pc b t).store
+  next_effect j = cell_step w i q m mem d (next m j) (λ h. rw (home_next w m j d) refl) refl (λ x. rw (home_next w m j d) refl) k plain un pc b t
 
 -- Commands in the bodies below a state e, whose parent is p.
 module _ (w : World) (e p : ℕ) (s : is_state w e ≡ true) where
@@ -223,7 +279,7 @@ module _ (w : World) (e p : ℕ) (s : is_state w e ≡ true) where
     alone_free (Fall site hang) fine = not_touched (is_dynamic w e) _ (or_false _ _ kids_out free)
 
     mutual
-      unfolding does does_block
+      unfolding does does_arms does_block
 
       pub under_kept : (j : Command) → FineCommand w g k j → retags j e ≡ false → (pc : ℕ) (t : Store) → Kept w (own e) p t (does w Here enter j pc t).store
       under_kept (Do j) fine un pc t =
@@ -234,6 +290,20 @@ module _ (w : World) (e p : ℕ) (s : is_state w e ≡ true) where
       under_kept (If hang u a b) fine un pc t =
           kept_select w (own e) p u (touches w Here (If hang u a b)) (does_block w Here enter a) (does_block w Here enter b) pc t (not_touched (is_dynamic w e) _ (unhung w e s c k own_out kids_out free g (If hang u a b) fine))
           (λ q t. under_list a fine.1 (neither_left _ _ un) q t) (λ q t. under_list b fine.2 (neither_right (block_retags a e) _ un) q t)
+      under_kept (TryThen j hang a b) fine un pc t =
+          kept_attempt_then w (own e) p Here enter j (touches w Here (TryThen j hang a b)) (does_block w Here enter a) (does_block w Here enter b) pc t
+          (not_touched (is_dynamic w e) _ (unhung w e s c k own_out kids_out free g (TryThen j hang a b) fine)) (λ b' r. under_step j fine.0 (neither_left _ _ un) pc b' r)
+          (λ q t. under_list a fine.1 (neither_left _ _ (neither_right (step_retags j e) _ un)) q t)
+          (λ q t. under_list b fine.2 (neither_right (block_retags a e) _ (neither_right (step_retags j e) _ un)) q t)
+      under_kept (Case hang u arms) fine un pc t =
+          kept_pick w (own e) p u (touches w Here (Case hang u arms)) (does_arms w Here enter arms) pc t
+          (not_touched (is_dynamic w e) _ (unhung w e s c k own_out kids_out free g (Case hang u arms) fine)) (λ v q t. under_arms arms fine.1 un v q t)
+
+      under_arms : (arms : Arms) → FineArms w g k arms → arms_retag arms e ≡ false → (v pc : ℕ) (t : Store) → Kept w (own e) p t (does_arms w Here enter arms v pc t).store
+      under_arms (Last b) fine un v pc t = under_list b fine un pc t
+      under_arms (Arm cs b arms) fine un v pc t =
+          choose_all (λ r. Kept w (own e) p t r.store) cs (does_block w Here enter b) (does_arms w Here enter arms) v pc t (under_list b fine.0 (neither_left _ _ un) pc t)
+          (under_arms arms fine.1 (neither_right (block_retags b e) _ un) v pc t)
 
       under_list : (b : Block) → FineBlock w g k b → block_retags b e ≡ false → (pc : ℕ) (t : Store) → Kept w (own e) p t (does_block w Here enter b pc t).store
       under_list End fine un pc t = kept_self w (own e) p t

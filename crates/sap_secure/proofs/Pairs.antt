@@ -3,29 +3,29 @@ use Rattle.std.proofs.Common.{◌≡◌, ℕ, Bool, true, false, ◌&&◌, ◌||
 use Rattle.std.proofs.lemmas.Bool.{cases_Bool}
 use Rattle.sap_lattice.specs.Order.{Laws}
 use Rattle.sap_maps.specs.Term.{Term}
-use Rattle.sap_meaning.specs.Program.{World, is_dynamic, Step, Set, Write, Retag, RetagCell, Goto, Fall, Command, Do, Try, If, Block, End, Then, State, Node, Group}
-use Rattle.sap_meaning.specs.Store.{Slot, own, Store, owner, level, child, raise, After, stay}
+use Rattle.sap_meaning.specs.Program.{World, is_dynamic, Step, Set, Write, Retag, RetagCell, Goto, Fall, Command, Do, Try, If, TryThen, Case, Arms, Last, Arm, Block, End, Then, State, Node, Group}
+use Rattle.sap_meaning.specs.Store.{Slot, own, Store, owner, level, child, raise, After, stay, and_then}
 use Rattle.sap_meaning.specs.State.{Holds}
 use Rattle.sap_meaning.specs.Expressions.{value, tag}
 use Rattle.sap_meaning.specs.Checks.{Spot, site_of, child_level, guard, test}
-use Rattle.sap_meaning.specs.Touches.{among, step_hangs, block_hangs, touches, raised_alone}
-use Rattle.sap_meaning.specs.Does.{effect, attempt, select, branch, does, does_block}
+use Rattle.sap_meaning.specs.Touches.{among, step_hangs, block_hangs, touches, raised_alone, arms_hang}
+use Rattle.sap_meaning.specs.Does.{effect, attempt, select, branch, does, does_block, attempt_then, does_arms}
 use Rattle.sap_meaning.specs.Agree.{Low, High}
-use Rattle.sap_meaning.specs.Fine.{FineTerm, transfers, Closes, Final, OnceStep, Once, OnceBlock, number_of}
+use Rattle.sap_meaning.specs.Fine.{FineTerm, transfers, Closes, Final, OnceStep, Once, OnceBlock, number_of, ClosingArms, OnceArms}
 use Rattle.sap_meaning.proofs.Bools.{or_left, or_right}
 use Rattle.sap_meaning.proofs.Slots.{child_raise, held_state}
 use Rattle.sap_meaning.proofs.Trees.{Nth, nth_same}
-use Rattle.sap_meaning.proofs.Keeps.{OfDynamic, branch_all, holds_raise, alone_dynamic}
+use Rattle.sap_meaning.proofs.Keeps.{OfDynamic, branch_all, holds_raise, alone_dynamic, choose_all, effect_holds}
 use Rattle.sap_secure.proofs.Levels.{Like, high_right, low_join, seen_parts}
 use Rattle.sap_secure.proofs.Agreeing.{Agree, agree_raised, raise_low, raise_to}
 use Rattle.sap_secure.proofs.Apart.{inside_state, inside_among}
-use Rattle.sap_secure.proofs.Concerns.{step_concerns, concerns, block_concerns, group_concerns, hanging, block_hanging}
-use Rattle.sap_secure.proofs.Sites.{spot, Proper, ProperBlock, ProperStep, fine_block, apart_from}
-use Rattle.sap_secure.proofs.Confined.{Confined, Quiet, Even, confined_self, quiet_raise, even_raise, even_next, landing, keeps, attempt_confined, select_confined, block_confined, touches_dynamic}
+use Rattle.sap_secure.proofs.Concerns.{step_concerns, concerns, block_concerns, group_concerns, hanging, block_hanging, arms_concern}
+use Rattle.sap_secure.proofs.Sites.{spot, Proper, ProperBlock, ProperStep, fine_block, apart_from, ProperArms}
+use Rattle.sap_secure.proofs.Confined.{Confined, Quiet, Even, confined_self, quiet_raise, even_raise, even_next, landing, keeps, attempt_confined, select_confined, block_confined, touches_dynamic, attempt_then_confined, hush_next, quiet_left, quiet_right}
 use Rattle.sap_secure.proofs.Walks.{Stop, path, one, path_here, heads, heads_low, from_raised}
-use Rattle.sap_secure.proofs.Still.{Scene, Cover, child_level_nth, child_opens_nth, touched_in, current, here_path, like_path, attempt_still, select_still, block_still, clear_own, clear_path}
+use Rattle.sap_secure.proofs.Still.{Scene, Cover, child_level_nth, child_opens_nth, touched_in, current, here_path, like_path, attempt_still, select_still, block_still, clear_own, clear_path, attempt_then_still, cover_kept, cover_part, step_clear, step_path, own_mine}
 use Rattle.sap_secure.proofs.Arrive.{goto_pair}
-use Rattle.sap_secure.proofs.Twin.{Twin, twin_confined, branch_both, value_low, tag_low, tag_same, does_twin}
+use Rattle.sap_secure.proofs.Twin.{Twin, twin_confined, branch_both, value_low, tag_low, tag_same, does_twin, choose_both, guard_same, guard_low, test_low, effect_low, even_step, apart_step}
 
 -- two results that look alike, the path included
 pub record Pair (w : World) (l p : ℕ) (q : Group) (a b : After) : Type 0 where
@@ -266,8 +266,98 @@ module _ (w : World) (laws : Laws w.order) (l : ℕ) where
           select_still w laws l c e hang pick pc v (high_right w.order laws l pc _ high) (λ i r far. (g i r (tag w e v) v far high holds ev here).1),
         )
 
+    arms_side : (arms : Arms) → ProperArms w c.site arms → ClosingArms arms → (hang : ℕ → Bool) (a : ℕ) → ((x : ℕ) → (is_dynamic w x && arms_hang c.site.state c.site.kids arms x) ≡ true → hang x ≡ true) → OfDynamic w hang → (i r : ℕ) (v : Store) → Far r → Far a → Holds w v
+        → Even w (arms_concern w c.site.state c.site.kids arms) v → child c.site.parent v ≡ c.site.index → Side (does_arms w At c.site.enter arms i r) (raise w.order hang a v)
+    unfolding does_arms
+    arms_side (Last b) fine closes hang a inn dyn i r v far fa hv ev here = high_side b fine closes hang a inn dyn r v far fa hv ev here
+    arms_side (Arm cs b arms) fine closes hang a inn dyn i r v far fa hv ev here =
+        choose_all (λ z. Confined w l (raise w.order hang a v) z × (Path z.store ≡ Path (raise w.order hang a v))) cs (does_block w At c.site.enter b) (does_arms w At c.site.enter arms) i r (raise w.order hang a v)
+        (high_side b fine.0 closes.0 hang a (λ x j. inn x (touched_in (is_dynamic w x) _ _ (λ i. or_left _ (arms_hang c.site.state c.site.kids arms x) i) j)) dyn r v far fa hv (λ z g d i. ev z g d (or_left _ (arms_concern w c.site.state c.site.kids arms (owner z)) i)) here)
+        (arms_side arms fine.1 closes.1 hang a (λ x j. inn x (touched_in (is_dynamic w x) _ _ (λ i. or_right (block_hangs c.site.state c.site.kids b x) _ i) j)) dyn i r v far fa hv (λ z g d i. ev z g d (or_right (block_concerns w c.site.state c.site.kids b (owner z)) _ i)) here)
+
+    -- a step with an accepted part, under a low guard: the stores behind the effect meet as well
+    lower_then : (h fh : ℕ → Bool) (k : Step) → ((x : ℕ) → fh x ≡ true → h x ≡ true) → transfers k ≡ false → ProperStep w c.site k → (hang : ℕ → Bool) (f g : ℕ → Store → After) (pc : ℕ) (s t : Store) → OfDynamic w hang → Meets h s t → IsLow pc
+        → ((b r : Store) → Even w fh r → Even w fh (effect w At c.site.enter k pc b r).store)
+        → ((r : ℕ) (v z : Store) → IsLow r → Meets fh v z → Both (f r v) (f r z)) → ((r : ℕ) (v z : Store) → IsLow r → Meets h v z → Both (g r v) (g r z)) → IsLow (guard w At k s)
+        → Both (attempt_then w At c.site.enter k hang f g pc s) (attempt_then w At c.site.enter k hang f g pc t)
+    unfolding attempt_then
+    lower_then h fh k inn plain fine hang f g pc s t dyn m lowpc keep accepted handler low = elim (cases_Bool (test w At k pc s)) [
+      | inl a ↦ rw (a, sym (test_low w laws l c.site c.entering c.holding k fine plain pc s t m.like low) ∙ a) (behind a (guard w At k t) (guard_low w laws l c.site c.entering c.holding k fine plain s t m.like low))
+      | inr a ↦ rw (a, sym (test_low w laws l c.site c.entering c.holding k fine plain pc s t m.like low) ∙ a) (again (guard w At k t) (guard_low w laws l c.site c.entering c.holding k fine plain s t m.like low))
+    ]
+      where
+        r : Store
+        r = raise w.order hang (guard w At k s) s
+
+        u : Store
+        u = raise w.order hang (guard w At k t) t
+
+        up : Low w.order l (w.order.join pc (guard w At k s))
+        up = low_join w.order laws l _ _ lowpc low
+
+        meet : Meets h r u
+        meet = meets_raised h s t hang _ _ dyn m (guard_same w laws l c.site c.entering c.holding k fine plain s t m.like, λ lo. guard_low w laws l c.site c.entering c.holding k fine plain s t m.like lo) low
+
+        behind : test w At k pc s ≡ true → (v : ℕ) → guard w At k s ≡ v
+            → Both (and_then (effect w At c.site.enter k pc s r) (f (w.order.join pc (guard w At k s)))) (and_then (effect w At c.site.enter k pc t u) (f (w.order.join pc v)))
+        behind a v e = rw (← e) (
+            let o = effect_low w laws l c.site c.entering c.holding k fine plain pc s t r u lowpc m.like meet.like low a in
+            let b = sym (test_low w laws l c.site c.entering c.holding k fine plain pc s t m.like low) ∙ a in
+            let one = (effect w At c.site.enter k pc s r).store in
+            let other = (effect w At c.site.enter k pc t u).store in
+            let seat1 = step_clear w laws l c k fine plain pc s r c.site.parent c.site.state (own_mine w laws l c) in
+            let seat2 = step_clear w laws l c k fine plain pc t u c.site.parent c.site.state (own_mine w laws l c) in
+            let next : Meets fh one other = record {
+              first = effect_holds w At c.site.siblings (landing w laws l c.site c.entering c.holding) c.site.enter c.holding k fine.0 pc s r a meet.first;
+              second = effect_holds w At c.site.siblings (landing w laws l c.site c.entering c.holding) c.site.enter c.holding k fine.0 pc t u b meet.second;
+              like = o.same;
+              path = step_path w laws l c k fine plain pc s r meet.here ∙ meet.path ∙ sym (step_path w laws l c k fine plain pc t u meet.there);
+              here = seat1.seat ∙ meet.here;
+              there = seat2.seat ∙ meet.there;
+              low = subst (λ v. Low w.order l v) (sym seat1.level) meet.low;
+              even = keep s r (λ z g d j. meet.even z g d (inn (owner z) j));
+              even2 = keep t u (λ z g d j. meet.even2 z g d (inn (owner z) j));
+            } in
+            let d = accepted (w.order.join pc (guard w At k s)) one other up next in
+            record { twin = record { same = d.twin.same; refused = seen_parts w.order laws l _ _ _ _ o.refused d.twin.refused }; path = d.path })
+
+        again : (v : ℕ) → guard w At k s ≡ v → Both (record { store = (g (w.order.join pc (guard w At k s)) r).store; refused = record { site = site_of k; level = w.order.join pc (guard w At k s) } ∷ (g (w.order.join pc (guard w At k s)) r).refused }) (record { store = (g (w.order.join pc v) u).store; refused = record { site = site_of k; level = w.order.join pc v } ∷ (g (w.order.join pc v) u).refused })
+        again v e = rw (← e) (
+            let d = handler (w.order.join pc (guard w At k s)) r u up meet in
+            record { twin = record { same = d.twin.same; refused = rw up (ap (λ rs. record { site = site_of k; level = w.order.join pc (guard w At k s) } ∷ rs) d.twin.refused) }; path = d.path })
+
+    -- the same under a high guard, from the raised store
+    then_side : (k : Step) (hang : List Bool) (a b : Block) → Proper w c.site (TryThen k hang a b) → Final (TryThen k hang a b) → (pc : ℕ) (v : Store) → Far (guard w At k v) → Holds w v → Even w (concerns w c.site.state c.site.kids (TryThen k hang a b)) v → child c.site.parent v ≡ c.site.index
+        → Side (λ r. does w At c.site.enter (TryThen k hang a b) pc v) (raise w.order (touches w At (TryThen k hang a b)) (guard w At k v) v)
+    unfolding does
+    then_side k hang a b fine final pc v high hv ev here =
+        let hung = touches w At (TryThen k hang a b) in
+        let dyn : OfDynamic w hung = touches_dynamic w laws l c.site c.entering c.holding (TryThen k hang a b) in
+        let r = raise w.order hung (guard w At k v) v in
+        let mine_now = step_concerns w c.site.state c.site.kids k in
+        let one = block_concerns w c.site.state c.site.kids a in
+        let other = block_concerns w c.site.state c.site.kids b in
+        let q : Quiet w l (concerns w c.site.state c.site.kids (TryThen k hang a b)) r = quiet_raise w laws l (concerns w c.site.state c.site.kids (TryThen k hang a b)) hung _ v (hanging w c.site.state c.site.kids (TryThen k hang a b)) dyn high ev in
+        let first = quiet_left w laws l c.site c.entering c.holding mine_now (λ x. one x || other x) r q in
+        let behind = quiet_right w laws l c.site c.entering c.holding mine_now (λ x. one x || other x) r q in
+        let cov = cover_raised hung hung (guard w At k v) v (λ x i. i) high in
+        let here' = child_raise w.order c.site.parent hung (guard w At k v) v ∙ here in
+        let quiet_a = quiet_left w laws l c.site c.entering c.holding one other r behind in
+        let quiet_b = quiet_right w laws l c.site c.entering c.holding one other r behind in
+        let hr = holds_raise w v hung (guard w At k v) dyn hv in (
+          attempt_then_confined w laws l c.site c.entering c.holding k fine.0 hung (does_block w At c.site.enter a) (does_block w At c.site.enter b) pc v dyn hv first (inr high)
+              (λ z u up hold same. block_confined w laws l c.site c.entering c.holding a fine.1 z u hold up (λ y g h. hush_next w laws l r u same y g (quiet_a y g h)))
+              (λ z up. block_confined w laws l c.site c.entering c.holding b fine.2 z r hr up quiet_b),
+          attempt_then_still w laws l c k final.0 fine.0 hung (does_block w At c.site.enter a) (does_block w At c.site.enter b) pc v dyn hv first here (inr high)
+              (λ z u up hold same here'' kept. block_still w laws l c a fine.1 final.1 z u hold up (λ y g h. hush_next w laws l r u same y g (quiet_a y g h)) here''
+              (cover_kept w laws l c.site _ r u (λ x m. kept x m)
+              (cover_part w laws l _ _ _ _ r (λ x. touched_in (is_dynamic w x) _ _ (λ i. or_right (step_hangs c.site.state c.site.kids k x) _ (or_left _ (block_hangs c.site.state c.site.kids b x) i))) cov)))
+              (λ z up. block_still w laws l c b fine.2 final.2 z r hr up quiet_b here'
+              (cover_part w laws l _ _ _ _ r (λ x. touched_in (is_dynamic w x) _ _ (λ i. or_right (step_hangs c.site.state c.site.kids k x) _ (or_right (block_hangs c.site.state c.site.kids a x) _ i))) cov)),
+        )
+
     mutual
-      unfolding does does_block
+      unfolding does does_arms does_block
 
       pub does_pair : (d : Command) → Proper w c.site d → Once c.site.kids below d → Final d → (pc : ℕ) (s t : Store) → IsLow pc → Meets (concerns w c.site.state c.site.kids d) s t → Both (does w At c.site.enter d pc s) (does w At c.site.enter d pc t)
       does_pair (Do k) fine once final pc s t low m =
@@ -293,6 +383,39 @@ module _ (w : World) (laws : Laws w.order) (l : ℕ) where
           (λ i r q v far fa hv ev here. branch_all (λ z. Confined w l (raise w.order hung q v) z × (Path z.store ≡ Path (raise w.order hung q v))) (does_block w At c.site.enter a) (does_block w At c.site.enter b) i r (raise w.order hung q v)
           (high_side a fine.1 final.0 hung q (λ x. touched_in (is_dynamic w x) _ _ (λ i. or_left _ (block_hangs c.site.state c.site.kids b x) i)) dyn r v far fa hv (λ z g d i. ev z g d (or_left _ (block_concerns w c.site.state c.site.kids b (owner z)) i)) here)
           (high_side b fine.2 final.1 hung q (λ x. touched_in (is_dynamic w x) _ _ (λ i. or_right (block_hangs c.site.state c.site.kids a x) _ i)) dyn r v far fa hv (λ z g d i. ev z g d (or_right (block_concerns w c.site.state c.site.kids a (owner z)) _ i)) here))
+      does_pair (TryThen k hang a b) fine once final pc s t low m =
+          let hung = touches w At (TryThen k hang a b) in
+          let dyn : OfDynamic w hung = touches_dynamic w laws l c.site c.entering c.holding (TryThen k hang a b) in
+          let all = concerns w c.site.state c.site.kids (TryThen k hang a b) in
+          let mine_now = step_concerns w c.site.state c.site.kids k in
+          let one = block_concerns w c.site.state c.site.kids a in
+          let other = block_concerns w c.site.state c.site.kids b in
+          elim (cases_Bool (w.order.le (guard w At k s) l)) [
+            | inl g ↦ lower_then all one k (λ x i. or_right (mine_now x) _ (or_left _ (other x) i)) final.0 fine.0 hung (does_block w At c.site.enter a) (does_block w At c.site.enter b) pc s t dyn m low
+                (λ v r e. even_step w laws l c.site c.entering c.holding k final.0 one (apart_step w laws l c.site c.entering c.holding k a fine.1 final.0 once.3) pc v r e)
+                (λ r v z lr mv. block_pair a fine.1 once.1 final.1 r v z lr mv)
+                (λ r v z lr mv. block_pair b fine.2 once.2 final.2 r v z lr (meets_part all other v z (λ x i. or_right (mine_now x) _ (or_right (one x) _ i)) mv)) g
+            | inr g ↦ (
+                let same = guard_same w laws l c.site c.entering c.holding k fine.0 final.0 s t m.like in
+                let like : Like w.order l (guard w At k s) (guard w At k t) = (same, λ lo. guard_low w laws l c.site c.entering c.holding k fine.0 final.0 s t m.like lo) in
+                pair_sides (raise w.order hung (guard w At k s) s) (raise w.order hung (guard w At k t) t) _ _ (agree_raised w laws l s t hung _ _ dyn m.like like) (path_raised all s t hung _ _ m like)
+                (then_side k hang a b fine final pc s g m.first m.even m.here) (then_side k hang a b fine final pc t (sym same ∙ g) m.second m.even2 m.there))
+          ]
+      does_pair (Case hang e arms) fine once final pc s t low m =
+          let hung = touches w At (Case hang e arms) in
+          let dyn : OfDynamic w hung = touches_dynamic w laws l c.site c.entering c.holding (Case hang e arms) in
+          select_pair (arms_concern w c.site.state c.site.kids arms) e fine.0 hung (does_arms w At c.site.enter arms) pc s t dyn (meets_part (concerns w c.site.state c.site.kids (Case hang e arms)) (arms_concern w c.site.state c.site.kids arms) s t (λ x i. i) m) low
+          (λ i r v z lr mv. arms_pair arms fine.1 once final i r v z lr mv)
+          (λ i r q v far fa hv ev here. arms_side arms fine.1 final hung q (λ x j. j) dyn i r v far fa hv ev here)
+
+      arms_pair : (arms : Arms) → ProperArms w c.site arms → OnceArms c.site.kids below arms → ClosingArms arms → (v pc : ℕ) (s t : Store) → IsLow pc → Meets (arms_concern w c.site.state c.site.kids arms) s t → Both (does_arms w At c.site.enter arms v pc s) (does_arms w At c.site.enter arms v pc t)
+      arms_pair (Last b) fine once closes v pc s t low m = block_pair b fine once closes pc s t low (meets_part (arms_concern w c.site.state c.site.kids (Last b)) (block_concerns w c.site.state c.site.kids b) s t (λ x i. i) m)
+      arms_pair (Arm cs b arms) fine once closes v pc s t low m =
+          let here = block_concerns w c.site.state c.site.kids b in
+          let rest = arms_concern w c.site.state c.site.kids arms in
+          choose_both (λ x y. Both x y) cs (does_block w At c.site.enter b) (does_arms w At c.site.enter arms) v pc s t
+          (block_pair b fine.0 once.0 closes.0 pc s t low (meets_part (arms_concern w c.site.state c.site.kids (Arm cs b arms)) here s t (λ x i. or_left _ (rest x) i) m))
+          (arms_pair arms fine.1 once.1 closes.1 v pc s t low (meets_part (arms_concern w c.site.state c.site.kids (Arm cs b arms)) rest s t (λ x i. or_right (here x) _ i) m))
 
       pub block_pair : (b : Block) → ProperBlock w c.site b → OnceBlock c.site.kids below b → Closes b → (pc : ℕ) (s t : Store) → IsLow pc → Meets (block_concerns w c.site.state c.site.kids b) s t → Both (does_block w At c.site.enter b pc s) (does_block w At c.site.enter b pc t)
       block_pair End fine once closes pc s t low m = absurd closes

@@ -1,11 +1,11 @@
 -- A state in its group, with what is known of both, and commands in its body.
 use Rattle.std.proofs.Common.{◌≡◌, ℕ, suc, ◌+◌, ◌<◌, ◌≤◌, Bool, true, false, ◌&&◌, ◌||◌, refl, arith, nat_eq, nat_lt, nat_le, inl, inr, ◌⊎◌}
 use Rattle.std.proofs.lemmas.Grind.{common_steps}
-use Rattle.sap_meaning.specs.Program.{World, children, is_dynamic, is_memory, is_state, last, below, root, Step, Command, Do, Try, If, Block, End, Then, Node, Group, None, More}
+use Rattle.sap_meaning.specs.Program.{World, children, is_dynamic, is_memory, is_state, last, below, root, Step, Command, Do, Try, If, TryThen, Case, Arms, Last, Arm, Block, End, Then, Node, Group, None, More}
 use Rattle.sap_meaning.specs.Store.{Store, After}
 use Rattle.sap_meaning.specs.Checks.{Spot}
 use Rattle.sap_meaning.specs.Touches.{among}
-use Rattle.sap_meaning.specs.Fine.{FineTerm, FineStep, FineCommand, FineBlock, FineNode, FineState, FineGroup, Open, OpenBlock, Closes, Final, writes, reaches, block_reaches, step_retags, retags, block_retags, inside, size}
+use Rattle.sap_meaning.specs.Fine.{FineTerm, FineStep, FineCommand, FineBlock, FineNode, FineState, FineGroup, Open, OpenBlock, Closes, Final, writes, reaches, block_reaches, step_retags, retags, block_retags, inside, size, FineArms, arms_retag}
 use Rattle.sap_meaning.proofs.Bools.{and_left, and_right, and_false, or_right, or_of, or_false, neither_left, neither_right, not_true, same_number}
 use Rattle.sap_meaning.proofs.Trees.{Nth, nth_fine}
 use Rattle.sap_secure.proofs.Concerns.{block_concerns}
@@ -114,6 +114,12 @@ abbrev mutual
   Proper w i (Do k) = ProperStep w i k
   Proper w i (Try k hang h) = ProperStep w i k × ProperBlock w i h
   Proper w i (If hang e a b) = FineTerm w e × ProperBlock w i a × ProperBlock w i b
+  Proper w i (TryThen k hang a b) = ProperStep w i k × ProperBlock w i a × ProperBlock w i b
+  Proper w i (Case hang e arms) = FineTerm w e × ProperArms w i arms
+
+  pub ProperArms : (w : World) → Site w → Arms → Type 0
+  ProperArms w i (Last b) = ProperBlock w i b
+  ProperArms w i (Arm constants b arms) = ProperBlock w i b × ProperArms w i arms
 
   pub ProperBlock : (w : World) → Site w → Block → Type 0
   ProperBlock w i End = Unit {0}
@@ -152,6 +158,17 @@ module _ (w : World) (i : Site w) where
       proper_block a fine.1 (λ x m. neither_left _ _ (un x m)),
       proper_block b fine.2 (λ x m. neither_right (block_retags a x) _ (un x m)),
     )
+    proper (TryThen k hang a b) fine un = (
+      (fine.0, λ x m. neither_left _ _ (un x m)),
+      proper_block a fine.1 (λ x m. neither_left _ _ (neither_right (step_retags k x) _ (un x m))),
+      proper_block b fine.2 (λ x m. neither_right (block_retags a x) _ (neither_right (step_retags k x) _ (un x m))),
+    )
+    proper (Case hang e arms) fine un = (fine.0, proper_arms arms fine.1 un)
+
+    proper_arms : (arms : Arms) → FineArms w i.siblings i.kids arms → ((x : ℕ) → mine i x ≡ true → arms_retag arms x ≡ false) → ProperArms w i arms
+    proper_arms (Last b) fine un = proper_block b fine un
+    proper_arms (Arm constants b arms) fine un =
+        (proper_block b fine.0 (λ x m. neither_left _ _ (un x m)), proper_arms arms fine.1 (λ x m. neither_right (block_retags b x) _ (un x m)))
 
     pub proper_block : (b : Block) → FineBlock w i.siblings i.kids b → UnmarkedBlock b → ProperBlock w i b
     proper_block End fine un = tt
@@ -173,6 +190,12 @@ mutual
   fine_command w i (Do k) p = p.0
   fine_command w i (Try k hang h) p = (p.0.0, fine_block w i h p.1)
   fine_command w i (If hang e a b) p = (p.0, fine_block w i a p.1, fine_block w i b p.2)
+  fine_command w i (TryThen k hang a b) p = (p.0.0, fine_block w i a p.1, fine_block w i b p.2)
+  fine_command w i (Case hang e arms) p = (p.0, fine_arms w i arms p.1)
+
+  pub fine_arms : (w : World) (i : Site w) (arms : Arms) → ProperArms w i arms → FineArms w i.siblings i.kids arms
+  fine_arms w i (Last b) p = fine_block w i b p
+  fine_arms w i (Arm constants b arms) p = (fine_block w i b p.0, fine_arms w i arms p.1)
 
   pub fine_block : (w : World) (i : Site w) (b : Block) → ProperBlock w i b → FineBlock w i.siblings i.kids b
   fine_block w i End p = tt
@@ -184,6 +207,12 @@ mutual
   unmarked w i (Do k) p x m = p.1 x m
   unmarked w i (Try k hang h) p x m = or_false _ _ (p.0.1 x m) (block_unmarked w i h p.1 x m)
   unmarked w i (If hang e a b) p x m = or_false _ _ (block_unmarked w i a p.1 x m) (block_unmarked w i b p.2 x m)
+  unmarked w i (TryThen k hang a b) p x m = or_false _ _ (p.0.1 x m) (or_false _ _ (block_unmarked w i a p.1 x m) (block_unmarked w i b p.2 x m))
+  unmarked w i (Case hang e arms) p x m = arms_unmarked w i arms p.1 x m
+
+  arms_unmarked : (w : World) (i : Site w) (arms : Arms) → ProperArms w i arms → (x : ℕ) → mine i x ≡ true → arms_retag arms x ≡ false
+  arms_unmarked w i (Last b) p x m = block_unmarked w i b p x m
+  arms_unmarked w i (Arm constants b arms) p x m = or_false _ _ (block_unmarked w i b p.0 x m) (arms_unmarked w i arms p.1 x m)
 
   pub block_unmarked : (w : World) (i : Site w) (b : Block) → ProperBlock w i b → (x : ℕ) → mine i x ≡ true → block_retags b x ≡ false
   block_unmarked w i End p x m = refl

@@ -4,26 +4,26 @@ use Rattle.std.proofs.lemmas.Bool.{cases_Bool}
 use Rattle.std.proofs.lemmas.Grind.{common_steps}
 use Rattle.sap_lattice.specs.Order.{Laws}
 use Rattle.sap_maps.specs.Term.{Term}
-use Rattle.sap_meaning.specs.Program.{World, is_dynamic, is_state, children, place, last, below, Step, Set, Write, Retag, RetagCell, Goto, Fall, Command, Do, Try, If, Block, End, Then, State, Node, Group, None, More}
+use Rattle.sap_meaning.specs.Program.{World, is_dynamic, is_state, children, place, last, below, Step, Set, Write, Retag, RetagCell, Goto, Fall, Command, Do, Try, If, TryThen, Case, Arms, Last, Arm, Block, End, Then, State, Node, Group, None, More}
 use Rattle.sap_meaning.specs.Store.{Slot, own, Store, owner, level, child, put_level, put_child, raise, reset, After, stay}
 use Rattle.sap_meaning.specs.State.{Holds}
 use Rattle.sap_meaning.specs.Expressions.{tag}
 use Rattle.sap_meaning.specs.Checks.{Spot, child_level, opens, child_opens, guard, test}
-use Rattle.sap_meaning.specs.Touches.{among, step_hangs, hangs, block_hangs, touches, raised_alone}
-use Rattle.sap_meaning.specs.Does.{effect, attempt, select, branch, does, does_block}
+use Rattle.sap_meaning.specs.Touches.{among, step_hangs, hangs, block_hangs, touches, raised_alone, arms_hang}
+use Rattle.sap_meaning.specs.Does.{effect, attempt, select, branch, does, does_block, attempt_then, does_arms}
 use Rattle.sap_meaning.specs.Agree.{Low, High}
-use Rattle.sap_meaning.specs.Fine.{transfers, Open, Closes, Final, number_of}
+use Rattle.sap_meaning.specs.Fine.{transfers, Open, Closes, Final, number_of, ClosingArms}
 use Rattle.sap_meaning.proofs.Bools.{and_left, and_right, and_both, or_left, or_right, neither_left, neither_right, not_true, eq_self}
 use Rattle.sap_meaning.proofs.Slots.{child_raise, child_put, child_reset, level_put, child_level_put, level_child, held_state}
 use Rattle.sap_meaning.proofs.Trees.{Nth, nth_of, placed}
-use Rattle.sap_meaning.proofs.Keeps.{OfDynamic, Keeps, branch_all, raise_keeps, reset_keeps, holds_raise, alone_dynamic}
+use Rattle.sap_meaning.proofs.Keeps.{OfDynamic, Keeps, branch_all, raise_keeps, reset_keeps, holds_raise, alone_dynamic, choose_all, effect_holds}
 use Rattle.sap_secure.proofs.Levels.{Like, high_above, high_left}
-use Rattle.sap_secure.proofs.Agreeing.{raise_high}
+use Rattle.sap_secure.proofs.Agreeing.{raise_high, Agree}
 use Rattle.sap_secure.proofs.Apart.{inside_state, inside_among, group_unassigned, state_no_register, state_no_memory, unhung}
-use Rattle.sap_secure.proofs.Concerns.{step_concerns, concerns, block_concerns, group_concerns}
-use Rattle.sap_secure.proofs.Sites.{Site, spot, mine, Proper, ProperBlock, ProperStep, node, own_fine, unmarked, mine_state, fine_command}
-use Rattle.sap_secure.proofs.Frames.{Kept, kept_raise, open_kept}
-use Rattle.sap_secure.proofs.Confined.{Entering, Quiet, Up, up_join, landing, keeps, does_confined, hush_next, quiet_left, quiet_right, quiet_kept, touches_dynamic, alone_within}
+use Rattle.sap_secure.proofs.Concerns.{step_concerns, concerns, block_concerns, group_concerns, arms_concern}
+use Rattle.sap_secure.proofs.Sites.{Site, spot, mine, Proper, ProperBlock, ProperStep, node, own_fine, unmarked, mine_state, fine_command, ProperArms}
+use Rattle.sap_secure.proofs.Frames.{Kept, kept_raise, open_kept, open_step}
+use Rattle.sap_secure.proofs.Confined.{Entering, Quiet, Up, up_join, landing, keeps, does_confined, hush_next, quiet_left, quiet_right, quiet_kept, touches_dynamic, alone_within, step_confined}
 use Rattle.sap_secure.proofs.Walks.{Stop, path, one, path_here, path_high, from_same, from_quiet, nth_among, deeper, deeper_inside, deeper_not_among}
 
 -- what children do, where the current one is high
@@ -276,7 +276,7 @@ module _ (w : World) (laws : Laws w.order) (l : ℕ) where
     pub clear : (d : Command) → Proper w c.site d → Open d → (pc : ℕ) (s : Store) (q x : ℕ) → mine c.site x ≡ true → Kept w (own x) q s (does w At c.site.enter d pc s).store
     clear d fine plain pc s q x m = open_kept w c.site q x (mine_state w c.site x m) d fine plain (unmarked w c.site d fine x m) pc s
 
-    own_mine : mine c.site c.site.state ≡ true
+    pub own_mine : mine c.site c.site.state ≡ true
     own_mine = or_left _ _ (eq_self c.site.state)
 
     pub clear_own : (d : Command) → Proper w c.site d → Open d → (pc : ℕ) (s : Store) → Kept w (own c.site.state) c.site.parent s (does w At c.site.enter d pc s).store
@@ -289,8 +289,43 @@ module _ (w : World) (laws : Laws w.order) (l : ℕ) where
         like_path (does w At c.site.enter d pc s).store s (k.seat ∙ here) here k.level
         (rw e.seat (from_same w l c.site.kids (child c.site.state s) (child c.site.state s) (does w At c.site.enter d pc s).store s (λ x i. let z = clear d fine plain pc s x x (or_right (nat_eq x c.site.state) _ i) in (z.level, z.seat))))
 
+    -- nor does the effect of an open step
+    pub step_clear : (k : Step) → ProperStep w c.site k → transfers k ≡ false → (pc : ℕ) (b r : Store) (q x : ℕ) → mine c.site x ≡ true → Kept w (own x) q r (effect w At c.site.enter k pc b r).store
+    step_clear k fine plain pc b r q x m = open_step w c.site q x (mine_state w c.site x m) k fine plain (fine.1 x m) pc b r
+
+    pub step_path : (k : Step) → ProperStep w c.site k → transfers k ≡ false → (pc : ℕ) (b r : Store) → Here r → PathOf (effect w At c.site.enter k pc b r).store ≡ PathOf r
+    step_path k fine plain pc b r here =
+        let u = (effect w At c.site.enter k pc b r).store in
+        let k' = step_clear k fine plain pc b r c.site.parent c.site.state own_mine in
+        let e = step_clear k fine plain pc b r c.site.state c.site.state own_mine in
+        like_path u r (k'.seat ∙ here) here k'.level
+        (rw e.seat (from_same w l c.site.kids (child c.site.state r) (child c.site.state r) u r (λ x i. let z = step_clear k fine plain pc b r x x (or_right (nat_eq x c.site.state) _ i) in (z.level, z.seat))))
+
+    pub attempt_then_still : (k : Step) → transfers k ≡ false → ProperStep w c.site k → (hang : ℕ → Bool) (f g : ℕ → Store → After) (pc : ℕ) (s : Store) → OfDynamic w hang → Holds w s
+        → Quiet w l (step_concerns w c.site.state c.site.kids k) (raise w.order hang (guard w At k s) s) → Here s → UpAt pc k s
+        → ((r : ℕ) (u : Store) → High w.order l r → Holds w u → Agree w l (raise w.order hang (guard w At k s) s) u → Here u
+        → ((x : ℕ) → mine c.site x ≡ true → Kept w (own x) c.site.state (raise w.order hang (guard w At k s) s) u) → PathOf (f r u).store ≡ PathOf u)
+        → ((r : ℕ) → High w.order l r → PathOf (g r (raise w.order hang (guard w At k s) s)).store ≡ PathOf (raise w.order hang (guard w At k s) s))
+        → PathOf (attempt_then w At c.site.enter k hang f g pc s).store ≡ PathOf (raise w.order hang (guard w At k s) s)
+    unfolding attempt_then
+    attempt_then_still k plain fine hang f g pc s dyn holds quiet here up accepted refused =
+        let r = raise w.order hang (guard w At k s) s in
+        let here' : Here r = child_raise w.order c.site.parent hang (guard w At k s) s ∙ here in
+        let held_up = holds_raise w s hang (guard w At k s) dyn holds in
+        elim (cases_Bool (test w At k pc s)) [
+          | inl t ↦ rw t (
+              let u = (effect w At c.site.enter k pc s r).store in
+              let one = step_confined w laws l c.site c.entering c.holding k fine pc s r (raise_keeps w s hang _ dyn) held_up quiet t up in
+              let seat = (step_clear k fine plain pc s r c.site.parent c.site.state own_mine).seat in
+              accepted (w.order.join pc (guard w At k s)) u (up_join w laws l c.site c.entering c.holding pc k s up)
+              (effect_holds w At c.site.siblings (landing w laws l c.site c.entering c.holding) c.site.enter c.holding k fine.0 pc s r t held_up) one.same (seat ∙ here')
+              (λ x m. step_clear k fine plain pc s r c.site.state x m)
+              ∙ step_path k fine plain pc s r here')
+          | inr t ↦ rw t (refused _ (up_join w laws l c.site c.entering c.holding pc k s up))
+        ]
+
     mutual
-      unfolding does does_block
+      unfolding does does_arms does_block
 
       pub does_still : (d : Command) → Proper w c.site d → Final d → (pc : ℕ) (s : Store) → Holds w s → High w.order l pc → Quiet w l (concerns w c.site.state c.site.kids d) s → Here s → Mine (touches w At d) s → PathOf (does w At c.site.enter d pc s).store ≡ PathOf s
       does_still (Do k) fine final pc s holds high quiet here cover =
@@ -324,6 +359,45 @@ module _ (w : World) (laws : Laws w.order) (l : ℕ) where
           (block_still b fine.2 final.1 r _ (holds_raise w s hung _ dyn holds) u (quiet_right w laws l c.site c.entering c.holding (block_concerns w c.site.state c.site.kids a) (block_concerns w c.site.state c.site.kids b) r' q) here'
           (cover_part _ _ _ _ r' (λ x. touched_in (is_dynamic w x) _ _ (λ i. or_right (block_hangs c.site.state c.site.kids a x) _ i)) cov)))
           ∙ raised_path hung _ s here cover (shallow (If hang e a b) fine)
+      does_still (TryThen k hang a b) fine final pc s holds high quiet here cover =
+          let hung = touches w At (TryThen k hang a b) in
+          let dyn : OfDynamic w hung = touches_dynamic w laws l c.site c.entering c.holding (TryThen k hang a b) in
+          let r' = raise w.order hung (guard w At k s) s in
+          let q = quiet_kept w laws l c.site c.entering c.holding (concerns w c.site.state c.site.kids (TryThen k hang a b)) hung (guard w At k s) s dyn quiet in
+          let cov = cover_raise _ _ _ s hung (guard w At k s) cover in
+          let mine_now = step_concerns w c.site.state c.site.kids k in
+          let one = block_concerns w c.site.state c.site.kids a in
+          let other = block_concerns w c.site.state c.site.kids b in
+          let behind = quiet_right w laws l c.site c.entering c.holding mine_now (λ x. one x || other x) r' q in
+          attempt_then_still k final.0 fine.0 hung (does_block w At c.site.enter a) (does_block w At c.site.enter b) pc s dyn holds
+          (quiet_left w laws l c.site c.entering c.holding mine_now (λ x. one x || other x) r' q) here (inl high)
+          (λ r u up hold same here' kept. block_still a fine.1 final.1 r u hold up
+          (λ z g h. hush_next w laws l r' u same z g (quiet_left w laws l c.site c.entering c.holding one other r' behind z g h)) here'
+          (cover_kept c.site _ r' u (λ x m. kept x m)
+          (cover_part _ _ _ _ r' (λ x. touched_in (is_dynamic w x) _ _ (λ i. or_right (step_hangs c.site.state c.site.kids k x) _ (or_left _ (block_hangs c.site.state c.site.kids b x) i))) cov)))
+          (λ r up. block_still b fine.2 final.2 r _ (holds_raise w s hung _ dyn holds) up (quiet_right w laws l c.site c.entering c.holding one other r' behind)
+          (child_raise w.order c.site.parent hung (guard w At k s) s ∙ here)
+          (cover_part _ _ _ _ r' (λ x. touched_in (is_dynamic w x) _ _ (λ i. or_right (step_hangs c.site.state c.site.kids k x) _ (or_right (block_hangs c.site.state c.site.kids a x) _ i))) cov))
+          ∙ raised_path hung _ s here cover (shallow (TryThen k hang a b) fine)
+      does_still (Case hang e arms) fine final pc s holds high quiet here cover =
+          let hung = touches w At (Case hang e arms) in
+          let dyn : OfDynamic w hung = touches_dynamic w laws l c.site c.entering c.holding (Case hang e arms) in
+          let q = quiet_kept w laws l c.site c.entering c.holding (concerns w c.site.state c.site.kids (Case hang e arms)) hung (tag w e s) s dyn quiet in
+          let cov = cover_raise _ _ _ s hung (tag w e s) cover in
+          let here' = child_raise w.order c.site.parent hung (tag w e s) s ∙ here in
+          select_still e hung (does_arms w At c.site.enter arms) pc s (high_left w.order laws l pc _ high)
+          (λ v r u. arms_still arms fine.1 final v r _ (holds_raise w s hung _ dyn holds) u q here' cov)
+          ∙ raised_path hung _ s here cover (shallow (Case hang e arms) fine)
+
+      arms_still : (arms : Arms) → ProperArms w c.site arms → ClosingArms arms → (v pc : ℕ) (s : Store) → Holds w s → High w.order l pc → Quiet w l (arms_concern w c.site.state c.site.kids arms) s → Here s
+          → Mine (λ x. is_dynamic w x && arms_hang c.site.state c.site.kids arms x) s → PathOf (does_arms w At c.site.enter arms v pc s).store ≡ PathOf s
+      arms_still (Last b) fine final v pc s holds high quiet here cover = block_still b fine final pc s holds high quiet here cover
+      arms_still (Arm cs b arms) fine final v pc s holds high quiet here cover =
+          choose_all (λ z. PathOf z.store ≡ PathOf s) cs (does_block w At c.site.enter b) (does_arms w At c.site.enter arms) v pc s
+          (block_still b fine.0 final.0 pc s holds high (quiet_left w laws l c.site c.entering c.holding (block_concerns w c.site.state c.site.kids b) (arms_concern w c.site.state c.site.kids arms) s quiet) here
+          (cover_part _ _ _ _ s (λ x. touched_in (is_dynamic w x) _ _ (λ i. or_left _ (arms_hang c.site.state c.site.kids arms x) i)) cover))
+          (arms_still arms fine.1 final.1 v pc s holds high (quiet_right w laws l c.site c.entering c.holding (block_concerns w c.site.state c.site.kids b) (arms_concern w c.site.state c.site.kids arms) s quiet) here
+          (cover_part _ _ _ _ s (λ x. touched_in (is_dynamic w x) _ _ (λ i. or_right (block_hangs c.site.state c.site.kids b x) _ i)) cover))
 
       pub block_still : (b : Block) → ProperBlock w c.site b → Closes b → (pc : ℕ) (s : Store) → Holds w s → High w.order l pc → Quiet w l (block_concerns w c.site.state c.site.kids b) s → Here s → Mine (λ x. is_dynamic w x && block_hangs c.site.state c.site.kids b x) s → PathOf (does_block w At c.site.enter b pc s).store ≡ PathOf s
       block_still End fine closes pc s holds high quiet here cover = absurd closes

@@ -1,25 +1,26 @@
 -- Two runs of open commands, from stores that look alike, look alike.
-use Rattle.std.proofs.Common.{◌≡◌, ℕ, Bool, true, false, ◌||◌, List, ◌∷◌, refl, sym, ap, ◌∙◌, subst, nat_eq, inl, inr, ◌⊎◌, if◌then◌else◌}
+use Rattle.std.proofs.Common.{◌≡◌, ℕ, Bool, true, false, ◌&&◌, ◌||◌, List, ◌∷◌, refl, sym, ap, ◌∙◌, subst, nat_eq, inl, inr, ◌⊎◌, if◌then◌else◌}
 use Rattle.std.proofs.lemmas.Bool.{cases_Bool}
 use Rattle.sap_lattice.specs.Order.{Laws}
 use Rattle.sap_maps.specs.Term.{Term, constant, read, cell, one, two, choose, join, part}
-use Rattle.sap_meaning.specs.Program.{World, is_dynamic, authority, LevelTerm, fixed, of, at_place, both, Step, Set, Write, Retag, RetagCell, Goto, Fall, Command, Do, Try, If, Block, End, Then}
-use Rattle.sap_meaning.specs.Store.{own, start, next, Store, owner, number, level, put_number, raise, After, stay}
+use Rattle.sap_meaning.specs.Program.{World, is_dynamic, authority, LevelTerm, fixed, of, at_place, both, Step, Set, Write, Retag, RetagCell, Goto, Fall, Command, Do, Try, If, TryThen, Case, Arms, Last, Arm, Block, End, Then, is_memory}
+use Rattle.sap_meaning.specs.Store.{Slot, own, start, next, start_whole, next_whole, Store, owner, number, level, put_number, raise, After, stay, and_then}
 use Rattle.sap_meaning.specs.State.{Holds}
 use Rattle.sap_meaning.specs.Expressions.{value, tag, level_at, new_level, told}
 use Rattle.sap_meaning.specs.Checks.{Spot, site_of, guard, test}
 use Rattle.sap_meaning.specs.Touches.{touches, raised_alone}
-use Rattle.sap_meaning.specs.Does.{effect, attempt, select, branch, does, does_block}
+use Rattle.sap_meaning.specs.Does.{effect, attempt, select, branch, does, does_block, attempt_then, is_constant, choose_arm, does_arms}
 use Rattle.sap_meaning.specs.Agree.{Low, High, seen}
-use Rattle.sap_meaning.specs.Fine.{FineTerm, FineLevel, transfers, Open, OpenBlock, Once, OnceBlock}
+use Rattle.sap_meaning.specs.Fine.{FineTerm, FineLevel, transfers, Open, OpenBlock, Once, OnceBlock, OpenArms, OnceArms, step_writes, step_reaches, block_reaches}
 use Rattle.sap_meaning.proofs.Bools.{and_left, or_left, or_right, same_number, eq_self}
 use Rattle.sap_meaning.proofs.Slots.{held_register}
-use Rattle.sap_meaning.proofs.Keeps.{OfDynamic, Keeps, branch_all, holds_raise, alone_dynamic}
+use Rattle.sap_meaning.proofs.Keeps.{OfDynamic, Keeps, branch_all, holds_raise, alone_dynamic, effect_holds}
 use Rattle.sap_secure.proofs.Levels.{Like, Same, high_right, low_below, low_left, low_right, low_join, not_below, same_high, seen_parts}
 use Rattle.sap_secure.proofs.Agreeing.{compared, Agree, sole_own, sole_cell, agree_flip, agree_next, agree_number, agree_write, agree_hidden, agree_raised, raise_to}
-use Rattle.sap_secure.proofs.Concerns.{step_concerns, concerns, block_concerns, hanging}
-use Rattle.sap_secure.proofs.Sites.{Site, spot, Proper, ProperBlock, ProperStep, fine_block, apart_from}
-use Rattle.sap_secure.proofs.Confined.{held_target, Confined, Entering, Quiet, Even, confined_self, quiet_raise, even_raise, even_next, landing, keeps, attempt_confined, select_confined, block_confined, touches_dynamic, quiet_left, quiet_right}
+use Rattle.sap_secure.proofs.Concerns.{step_concerns, concerns, block_concerns, hanging, arms_concern}
+use Rattle.sap_secure.proofs.Sites.{Site, spot, Proper, ProperBlock, ProperStep, fine_block, apart_from, ProperArms}
+use Rattle.sap_secure.proofs.Frames.{start_effect, next_effect}
+use Rattle.sap_secure.proofs.Confined.{held_target, Confined, Entering, Quiet, Even, confined_self, quiet_raise, even_raise, even_next, landing, keeps, attempt_confined, select_confined, block_confined, touches_dynamic, quiet_left, quiet_right, attempt_then_confined, arms_confined, hush_next, changing, begun}
 
 -- two results that look alike
 pub record Twin (w : World) (l : ℕ) (a b : After) : Type 0 where
@@ -38,6 +39,15 @@ branch_both P a b v p t u x y = picked (nat_eq v 0)
     picked : (i : Bool) → P (if i then b p t else a p t) (if i then b p u else a p u)
     picked true = y
     picked false = x
+
+-- and so for the arm and the others
+pub choose_both : (P : After → After → Type 0) (cs : List ℕ) (a : ℕ → Store → After) (others : ℕ → ℕ → Store → After) (v p : ℕ) (t u : Store) → P (a p t) (a p u) → P (others v p t) (others v p u)
+    → P (choose_arm cs a others v p t) (choose_arm cs a others v p u)
+choose_both P cs a others v p t u x y = picked (is_constant cs v)
+  where
+    picked : (i : Bool) → P (if i then a p t else others v p t) (if i then a p u else others v p u)
+    picked true = x
+    picked false = y
 
 module _ (w : World) (laws : Laws w.order) (l : ℕ) where
   abbrev IsLow : ℕ → Type 0
@@ -292,6 +302,71 @@ module _ (w : World) (laws : Laws w.order) (l : ℕ) where
             let c = handler (w.order.join pc (guard w At k s)) r u (holds_raise w s hang _ dyn hs) (holds_raise w t hang _ dyn ht) up lifts (even_raise w laws l eh hang s _ dyn es) (even_raise w laws l eh hang t _ dyn et) in
             record { same = c.same; refused = rw up (ap (λ rs. record { site = site_of k; level = w.order.join pc (guard w At k s) } ∷ rs) c.refused) })
 
+    -- the effect of an open step leaves both parts of the cells that it does not write as they were
+    pub even_step : (k : Step) → transfers k ≡ false → (h : ℕ → Bool) → ((m : ℕ) → is_memory w m ≡ true → is_dynamic w m ≡ false → h m ≡ true → step_writes k m ≡ false) → (pc : ℕ) (b s : Store)
+        → Even w h s → Even w h (effect w At i.enter k pc b s).store
+    even_step k plain h free pc b s e z g d j = part z g j d (e z g d j)
+      where
+        part : (z : Slot) → changing w z ≡ true → h (owner z) ≡ true → is_dynamic w (owner z) ≡ false → level w (begun z) s ≡ level w z s → level w (begun z) (effect w (spot i) i.enter k pc b s).store ≡ level w z (effect w (spot i) i.enter k pc b s).store
+        part (own x) g j d e = refl
+        part (start m n) g j d e = refl
+        part (next m n) g j d e = let f = free m g d j in (start_effect w i 0 m g d k plain f pc b s n).level ∙ e ∙ sym (next_effect w i 0 m g d k plain f pc b s n).level
+        part (start_whole m) g j d e = refl
+        part (next_whole m) g j d e = refl
+
+    -- and with an accepted part, which goes on from the stores behind the effect
+    attempt_then_low : (k : Step) → ProperStep w i k → transfers k ≡ false → (hang : ℕ → Bool) (f h : ℕ → Store → After) (pc : ℕ) (s t : Store) → OfDynamic w hang → Holds w s → Holds w t → IsLow pc → Agree w l s t → IsLow (guard w At k s)
+        → (fh eh : ℕ → Bool) → Even w fh s → Even w fh t → Even w eh s → Even w eh t
+        → ((b r : Store) → Even w fh r → Even w fh (effect w At i.enter k pc b r).store)
+        → ((q : ℕ) (r u : Store) → Holds w r → Holds w u → IsLow q → Agree w l r u → Even w fh r → Even w fh u → Twin w l (f q r) (f q u))
+        → ((q : ℕ) (r u : Store) → Holds w r → Holds w u → IsLow q → Agree w l r u → Even w eh r → Even w eh u → Twin w l (h q r) (h q u))
+        → Twin w l (attempt_then w At i.enter k hang f h pc s) (attempt_then w At i.enter k hang f h pc t)
+    unfolding attempt_then
+    attempt_then_low k fine plain hang f h pc s t dyn hs ht lowpc like low fh eh fs ft es et keep accepted handler = elim (cases_Bool (test w At k pc s)) [
+      | inl a ↦ rw (a, sym (test_low k fine plain pc s t like low) ∙ a) (behind a (guard w At k t) (guard_low k fine plain s t like low))
+      | inr a ↦ rw (a, sym (test_low k fine plain pc s t like low) ∙ a) (again (guard w At k t) (guard_low k fine plain s t like low))
+    ]
+      where
+        r : Store
+        r = raise w.order hang (guard w At k s) s
+
+        u : Store
+        u = raise w.order hang (guard w At k t) t
+
+        hr : Holds w r
+        hr = holds_raise w s hang _ dyn hs
+
+        hu : Holds w u
+        hu = holds_raise w t hang _ dyn ht
+
+        up : IsLow (w.order.join pc (guard w At k s))
+        up = low_join w.order laws l _ _ lowpc low
+
+        lifts : Agree w l r u
+        lifts = agree_raised w laws l s t hang _ _ dyn like (guard_same k fine plain s t like, guard_low k fine plain s t like)
+
+        one : Store
+        one = (effect w At i.enter k pc s r).store
+
+        other : Store
+        other = (effect w At i.enter k pc t u).store
+
+        behind : test w At k pc s ≡ true → (v : ℕ) → guard w At k s ≡ v
+            → Twin w l (and_then (effect w At i.enter k pc s r) (f (w.order.join pc (guard w At k s)))) (and_then (effect w At i.enter k pc t u) (f (w.order.join pc v)))
+        behind a v e = rw (← e) (
+            let c = effect_low k fine plain pc s t r u lowpc like lifts low a in
+            let b = sym (test_low k fine plain pc s t like low) ∙ a in
+            let d = accepted (w.order.join pc (guard w At k s)) one other
+            (effect_holds w At i.siblings (landing w laws l i entering holding) i.enter holding k fine.0 pc s r a hr)
+            (effect_holds w At i.siblings (landing w laws l i entering holding) i.enter holding k fine.0 pc t u b hu)
+            up c.same (keep s r (even_raise w laws l fh hang s _ dyn fs)) (keep t u (even_raise w laws l fh hang t _ dyn ft)) in
+            record { same = d.same; refused = seen_parts w.order laws l _ _ _ _ c.refused d.refused })
+
+        again : (v : ℕ) → guard w At k s ≡ v → Twin w l (record { store = (h (w.order.join pc (guard w At k s)) r).store; refused = record { site = site_of k; level = w.order.join pc (guard w At k s) } ∷ (h (w.order.join pc (guard w At k s)) r).refused }) (record { store = (h (w.order.join pc v) u).store; refused = record { site = site_of k; level = w.order.join pc v } ∷ (h (w.order.join pc v) u).refused })
+        again v e = rw (← e) (
+            let c = handler (w.order.join pc (guard w At k s)) r u hr hu up lifts (even_raise w laws l eh hang s _ dyn es) (even_raise w laws l eh hang t _ dyn et) in
+            record { same = c.same; refused = rw up (ap (λ rs. record { site = site_of k; level = w.order.join pc (guard w At k s) } ∷ rs) c.refused) })
+
     select_low : (e : Term ℕ) → FineTerm w e → (hang : ℕ → Bool) (pick : ℕ → ℕ → Store → After) (pc : ℕ) (s t : Store) → OfDynamic w hang → Holds w s → Holds w t → IsLow pc → Agree w l s t → IsLow (tag w e s) → (eh : ℕ → Bool) → Even w eh s → Even w eh t → ((v q : ℕ) (r u : Store) → Holds w r → Holds w u → IsLow q → Agree w l r u → Even w eh r → Even w eh u → Twin w l (pick v q r) (pick v q u)) → Twin w l (select w e hang pick pc s) (select w e hang pick pc t)
     unfolding select
     select_low e fe hang pick pc s t dyn hs ht lowpc like low eh es et f =
@@ -349,9 +424,41 @@ module _ (w : World) (laws : Laws w.order) (l : ℕ) where
         (block_confined w laws l i entering holding a fine.1 z r (holds_raise w s hung _ dyn hs) up (quiet_left w laws l i entering holding (block_concerns w i.state i.kids a) (block_concerns w i.state i.kids b) r q))
         (block_confined w laws l i entering holding b fine.2 z r (holds_raise w s hung _ dyn hs) up (quiet_right w laws l i entering holding (block_concerns w i.state i.kids a) (block_concerns w i.state i.kids b) r q)))
 
+    pub try_then_side : (k : Step) (hang : List Bool) (a b : Block) → Proper w i (TryThen k hang a b) → (pc : ℕ) (s : Store) → Holds w s → Even w (concerns w i.state i.kids (TryThen k hang a b)) s → High w.order l (guard w At k s)
+        → Confined w l (raise w.order (touches w At (TryThen k hang a b)) (guard w At k s) s) (does w At i.enter (TryThen k hang a b) pc s)
+    unfolding does
+    try_then_side k hang a b fine pc s hs even g =
+        let hung = touches w At (TryThen k hang a b) in
+        let dyn : OfDynamic w hung = touches_dynamic w laws l i entering holding (TryThen k hang a b) in
+        let r = raise w.order hung (guard w At k s) s in
+        let q : Quiet w l (concerns w i.state i.kids (TryThen k hang a b)) r = quiet_raise w laws l (concerns w i.state i.kids (TryThen k hang a b)) hung _ s (hanging w i.state i.kids (TryThen k hang a b)) dyn g even in
+        let mine = step_concerns w i.state i.kids k in
+        let one = block_concerns w i.state i.kids a in
+        let other = block_concerns w i.state i.kids b in
+        let behind = quiet_right w laws l i entering holding mine (λ x. one x || other x) r q in
+        attempt_then_confined w laws l i entering holding k fine.0 hung (does_block w At i.enter a) (does_block w At i.enter b) pc s dyn hs (quiet_left w laws l i entering holding mine (λ x. one x || other x) r q) (inr g)
+        (λ z u up hold same. block_confined w laws l i entering holding a fine.1 z u hold up (λ y c d. hush_next w laws l r u same y c (quiet_left w laws l i entering holding one other r behind y c d)))
+        (λ z up. block_confined w laws l i entering holding b fine.2 z r (holds_raise w s hung _ dyn hs) up (quiet_right w laws l i entering holding one other r behind))
+
+    pub case_side : (hang : List Bool) (e : Term ℕ) (arms : Arms) → Proper w i (Case hang e arms) → (pc : ℕ) (s : Store) → Holds w s → Even w (concerns w i.state i.kids (Case hang e arms)) s → High w.order l (tag w e s)
+        → Confined w l (raise w.order (touches w At (Case hang e arms)) (tag w e s) s) (does w At i.enter (Case hang e arms) pc s)
+    unfolding does
+    case_side hang e arms fine pc s hs even g =
+        let hung = touches w At (Case hang e arms) in
+        let dyn : OfDynamic w hung = touches_dynamic w laws l i entering holding (Case hang e arms) in
+        let r = raise w.order hung (tag w e s) s in
+        let q : Quiet w l (concerns w i.state i.kids (Case hang e arms)) r = quiet_raise w laws l (concerns w i.state i.kids (Case hang e arms)) hung _ s (hanging w i.state i.kids (Case hang e arms)) dyn g even in
+        select_confined w laws l i entering holding e hung (does_arms w At i.enter arms) pc s (high_right w.order laws l pc _ g)
+        (λ v z up. arms_confined w laws l i entering holding arms fine.1 v z r (holds_raise w s hung _ dyn hs) up q)
+
+    -- what the accepted part writes the step does not
+    pub apart_step : (k : Step) (a : Block) → ProperBlock w i a → transfers k ≡ false → ((m : ℕ) → (step_reaches i.kids k m && block_reaches i.kids a m) ≡ false)
+        → (m : ℕ) → is_memory w m ≡ true → is_dynamic w m ≡ false → block_concerns w i.state i.kids a m ≡ true → step_writes k m ≡ false
+    apart_step k a fine plain once m mem d h = (apart_from w i (Do k) a (fine_block w i a fine) plain once m mem d h).1
+
     module _ (below : Type 0) where
       mutual
-        unfolding does does_block
+        unfolding does does_arms does_block
 
         pub does_twin : (c : Command) → Proper w i c → Once i.kids below c → Open c → (pc : ℕ) (s t : Store) → Holds w s → Holds w t → IsLow pc → Agree w l s t → Even w (concerns w i.state i.kids c) s → Even w (concerns w i.state i.kids c) t → Twin w l (does w At i.enter c pc s) (does w At i.enter c pc t)
         does_twin (Do k) fine once plain pc s t hs ht low like es et =
@@ -390,6 +497,46 @@ module _ (w : World) (laws : Laws w.order) (l : ℕ) where
                   (if_side hang e a b fine pc s hs es g)
                   (if_side hang e a b fine pc t ht et (sym (tag_same e fine.0 s t like) ∙ g))
             ]
+        does_twin (TryThen k hang a b) fine once plain pc s t hs ht low like es et =
+            let hung = touches w At (TryThen k hang a b) in
+            let dyn : OfDynamic w hung = touches_dynamic w laws l i entering holding (TryThen k hang a b) in
+            let mine = step_concerns w i.state i.kids k in
+            let one = block_concerns w i.state i.kids a in
+            let other = block_concerns w i.state i.kids b in
+            let es' = even_right mine (λ x. one x || other x) s es in
+            let et' = even_right mine (λ x. one x || other x) t et in
+            elim (cases_Bool (w.order.le (guard w At k s) l)) [
+              | inl g ↦ attempt_then_low k fine.0 plain.0 hung (does_block w At i.enter a) (does_block w At i.enter b) pc s t dyn hs ht low like g one other
+                  (even_left one other s es') (even_left one other t et') (even_right one other s es') (even_right one other t et')
+                  (λ v r e. even_step k plain.0 one (apart_step k a fine.1 plain.0 once.3) pc v r e)
+                  (λ q r u hr hu lq e er eu. block_twin a fine.1 once.1 plain.1 q r u hr hu lq e er eu)
+                  (λ q r u hr hu lq e er eu. block_twin b fine.2 once.2 plain.2 q r u hr hu lq e er eu)
+              | inr g ↦ (
+                  let g' = sym (guard_same k fine.0 plain.0 s t like) ∙ g in
+                  twin_confined (raise w.order hung (guard w At k s) s) (raise w.order hung (guard w At k t) t) _ _ (agree_raised w laws l s t hung _ _ dyn like (guard_same k fine.0 plain.0 s t like, λ lo. guard_low k fine.0 plain.0 s t like lo))
+                  (try_then_side k hang a b fine pc s hs es g)
+                  (try_then_side k hang a b fine pc t ht et g'))
+            ]
+        does_twin (Case hang e arms) fine once plain pc s t hs ht low like es et =
+            let hung = touches w At (Case hang e arms) in
+            let dyn : OfDynamic w hung = touches_dynamic w laws l i entering holding (Case hang e arms) in
+            elim (cases_Bool (w.order.le (tag w e s) l)) [
+              | inl g ↦ select_low e fine.0 hung (does_arms w At i.enter arms) pc s t dyn hs ht low like g (arms_concern w i.state i.kids arms) es et
+                  (λ v q r u hr hu lq k er eu. arms_twin arms fine.1 once plain v q r u hr hu lq k er eu)
+              | inr g ↦ twin_confined (raise w.order hung (tag w e s) s) (raise w.order hung (tag w e t) t) _ _ (agree_raised w laws l s t hung _ _ dyn like (tag_same e fine.0 s t like, λ lo. tag_low e fine.0 s t like lo))
+                  (case_side hang e arms fine pc s hs es g)
+                  (case_side hang e arms fine pc t ht et (sym (tag_same e fine.0 s t like) ∙ g))
+            ]
+
+        arms_twin : (arms : Arms) → ProperArms w i arms → OnceArms i.kids below arms → OpenArms arms → (v pc : ℕ) (s t : Store) → Holds w s → Holds w t → IsLow pc → Agree w l s t → Even w (arms_concern w i.state i.kids arms) s → Even w (arms_concern w i.state i.kids arms) t
+            → Twin w l (does_arms w At i.enter arms v pc s) (does_arms w At i.enter arms v pc t)
+        arms_twin (Last b) fine once plain v pc s t hs ht low like es et = block_twin b fine once plain pc s t hs ht low like es et
+        arms_twin (Arm cs b arms) fine once plain v pc s t hs ht low like es et =
+            let here = block_concerns w i.state i.kids b in
+            let rest = arms_concern w i.state i.kids arms in
+            choose_both (λ y z. Twin w l y z) cs (does_block w At i.enter b) (does_arms w At i.enter arms) v pc s t
+            (block_twin b fine.0 once.0 plain.0 pc s t hs ht low like (even_left here rest s es) (even_left here rest t et))
+            (arms_twin arms fine.1 once.1 plain.1 v pc s t hs ht low like (even_right here rest s es) (even_right here rest t et))
 
         pub block_twin : (b : Block) → ProperBlock w i b → OnceBlock i.kids below b → OpenBlock b → (pc : ℕ) (s t : Store) → Holds w s → Holds w t → IsLow pc → Agree w l s t → Even w (block_concerns w i.state i.kids b) s → Even w (block_concerns w i.state i.kids b) t → Twin w l (does_block w At i.enter b pc s) (does_block w At i.enter b pc t)
         block_twin End fine once plain pc s t hs ht low like es et = record { same = like; refused = refl }

@@ -2,17 +2,17 @@
 use Rattle.std.proofs.Common.{◌≡◌, ℕ, zero, suc, Bool, true, false, ◌||◌, List, [], ◌∷◌, refl, sym, ◌∙◌, subst, nat_eq, inl, inr, ◌⊎◌}
 use Rattle.std.proofs.lemmas.Bool.{cases_Bool}
 use Rattle.sap_lattice.specs.Order.{Laws}
-use Rattle.sap_meaning.specs.Program.{World, Kind, input, register, memory, state, entity, kind_is_input, kind_is_register, kind_is_memory, is_dynamic, is_register, is_memory, is_state, root, below, Step, Set, Write, Retag, RetagCell, Goto, Fall, Command, Do, Try, If, Block, End, Then, State, Node, Group, None, More}
+use Rattle.sap_meaning.specs.Program.{World, Kind, input, register, memory, state, entity, kind_is_input, kind_is_register, kind_is_memory, is_dynamic, is_register, is_memory, is_state, root, below, Step, Set, Write, Retag, RetagCell, Goto, Fall, Command, Do, Try, If, TryThen, Case, Arms, Last, Arm, Block, End, Then, State, Node, Group, None, More}
 use Rattle.sap_meaning.specs.Store.{own, start, next, start_whole, next_whole, Store, home, level, child}
-use Rattle.sap_meaning.specs.Touches.{among, step_hangs, hangs, block_hangs, touches, group_assigns}
+use Rattle.sap_meaning.specs.Touches.{among, step_hangs, hangs, block_hangs, touches, group_assigns, arms_hang}
 use Rattle.sap_meaning.specs.Does.{does, does_child}
 use Rattle.sap_meaning.specs.Agree.{High}
-use Rattle.sap_meaning.specs.Fine.{FineStep, FineCommand, FineBlock, step_retags, retags, block_retags, state_retags, group_retags, reaches, inside, number_of, kids_of, Nth}
+use Rattle.sap_meaning.specs.Fine.{FineStep, FineCommand, FineBlock, step_retags, retags, block_retags, state_retags, group_retags, reaches, inside, number_of, kids_of, Nth, FineArms, OpenArms, ClosingArms, arms_retag}
 use Rattle.sap_meaning.proofs.Bools.{and_left, and_right, and_both, or_left, or_right, or_of, or_false, neither_left, neither_right, not_true, eq_self, eq_not}
-use Rattle.sap_secure.specs.Confinement.{last_group, last_parent, Active, StandsIn, StandsInBlock, is_goto, is_fall, has_goto, block_has_goto, has_fall, block_has_fall, level_slot, EqualParts, SomeHigh, Guarded, Confinement}
+use Rattle.sap_secure.specs.Confinement.{last_group, last_parent, Active, StandsIn, StandsInBlock, is_goto, is_fall, has_goto, block_has_goto, has_fall, block_has_fall, level_slot, EqualParts, SomeHigh, Guarded, Confinement, StandsInArms, arms_have_goto, arms_have_fall}
 use Rattle.sap_secure.proofs.Apart.{found, hung, unassigned, group_unassigned, inside_state, inside_among, state_no_register, state_no_memory, register_apart, memory_apart}
 use Rattle.sap_secure.proofs.Concerns.{concerns, hanging}
-use Rattle.sap_secure.proofs.Sites.{Around, Site, spot, Proper, ProperBlock, Ended, Shut, node, own_fine, kids_around, around_root, proper_body, fine_command, not_own, no_kid}
+use Rattle.sap_secure.proofs.Sites.{Around, Site, spot, Proper, ProperBlock, Ended, Shut, node, own_fine, kids_around, around_root, proper_body, fine_command, not_own, no_kid, ProperArms}
 use Rattle.sap_secure.proofs.Frames.{Kept, child_under, under_kept}
 use Rattle.sap_secure.proofs.Confined.{Confined, Quiet, changing_no_state, site_at, keeps, does_confined}
 use Rattle.sap_secure.proofs.Walks.{path, path_here, path_high, nth_among}
@@ -35,6 +35,24 @@ module _ (w : World) (i : Site w) where
         | inl r ↦ proper_in_block c a r p.1 (elim e [ inl f ↦ inl f.0 | inr f ↦ inr f.0 ])
         | inr r ↦ proper_in_block c b r p.2 (elim e [ inl f ↦ inl f.1 | inr f ↦ inr f.1 ])
       ]
+    ]
+    proper_in c (TryThen k hang a b) h p e = elim h [
+      | inl q ↦ subst (λ x. Proper w i x × Ended x) (sym q) (p, e)
+      | inr q ↦ elim q [
+        | inl r ↦ proper_in_block c a r p.1 (elim e [ inl f ↦ inl f.1 | inr f ↦ inr f.1 ])
+        | inr r ↦ proper_in_block c b r p.2 (elim e [ inl f ↦ inl f.2 | inr f ↦ inr f.2 ])
+      ]
+    ]
+    proper_in c (Case hang t arms) h p e = elim h [
+      | inl q ↦ subst (λ x. Proper w i x × Ended x) (sym q) (p, e)
+      | inr q ↦ proper_in_arms c arms q p.1 e
+    ]
+
+    proper_in_arms : (c : Command) (arms : Arms) → StandsInArms c arms → ProperArms w i arms → ClosingArms arms ⊎ OpenArms arms → Proper w i c × Ended c
+    proper_in_arms c (Last b) h p e = proper_in_block c b h p e
+    proper_in_arms c (Arm constants b arms) h p e = elim h [
+      | inl q ↦ proper_in_block c b q p.0 (elim e [ inl f ↦ inl f.0 | inr f ↦ inr f.0 ])
+      | inr q ↦ proper_in_arms c arms q p.1 (elim e [ inl f ↦ inl f.1 | inr f ↦ inr f.1 ])
     ]
 
     proper_in_block : (c : Command) (b : Block) → StandsInBlock c b → ProperBlock w i b → Shut b → Proper w i c × Ended c
@@ -72,6 +90,15 @@ module _ (w : World) (i : Site w) where
     own_goto (Do k) fine h = step_own k fine h
     own_goto (Try k hang b) fine h = either (step_hangs i.state i.kids k i.state) (block_hangs i.state i.kids b i.state) (is_goto k) (block_has_goto b) (step_own k fine.0) (block_own b fine.1) h
     own_goto (If hang t a b) fine h = either (block_hangs i.state i.kids a i.state) (block_hangs i.state i.kids b i.state) (block_has_goto a) (block_has_goto b) (block_own a fine.1) (block_own b fine.2) h
+    own_goto (TryThen k hang a b) fine h =
+        either (step_hangs i.state i.kids k i.state) (block_hangs i.state i.kids a i.state || block_hangs i.state i.kids b i.state) (is_goto k) (block_has_goto a || block_has_goto b) (step_own k fine.0)
+        (either (block_hangs i.state i.kids a i.state) (block_hangs i.state i.kids b i.state) (block_has_goto a) (block_has_goto b) (block_own a fine.1) (block_own b fine.2)) h
+    own_goto (Case hang t arms) fine h = arms_own arms fine.1 h
+
+    arms_own : (arms : Arms) → FineArms w i.siblings i.kids arms → arms_hang i.state i.kids arms i.state ≡ true → arms_have_goto arms ≡ true
+    arms_own (Last b) fine h = block_own b fine h
+    arms_own (Arm constants b arms) fine h =
+        either (block_hangs i.state i.kids b i.state) (arms_hang i.state i.kids arms i.state) (block_has_goto b) (arms_have_goto arms) (block_own b fine.0) (arms_own arms fine.1) h
 
     block_own : (b : Block) → FineBlock w i.siblings i.kids b → block_hangs i.state i.kids b i.state ≡ true → block_has_goto b ≡ true
     block_own End fine h = h
@@ -91,6 +118,15 @@ module _ (w : World) (i : Site w) where
       kid_fall (Do k) fine h = step_kid k fine h
       kid_fall (Try k hang b) fine h = either (step_hangs i.state i.kids k x) (block_hangs i.state i.kids b x) (is_fall k) (block_has_fall b) (step_kid k fine.0) (block_kid b fine.1) h
       kid_fall (If hang t a b) fine h = either (block_hangs i.state i.kids a x) (block_hangs i.state i.kids b x) (block_has_fall a) (block_has_fall b) (block_kid a fine.1) (block_kid b fine.2) h
+      kid_fall (TryThen k hang a b) fine h =
+          either (step_hangs i.state i.kids k x) (block_hangs i.state i.kids a x || block_hangs i.state i.kids b x) (is_fall k) (block_has_fall a || block_has_fall b) (step_kid k fine.0)
+          (either (block_hangs i.state i.kids a x) (block_hangs i.state i.kids b x) (block_has_fall a) (block_has_fall b) (block_kid a fine.1) (block_kid b fine.2)) h
+      kid_fall (Case hang t arms) fine h = arms_kid arms fine.1 h
+
+      arms_kid : (arms : Arms) → FineArms w i.siblings i.kids arms → arms_hang i.state i.kids arms x ≡ true → arms_have_fall arms ≡ true
+      arms_kid (Last b) fine h = block_kid b fine h
+      arms_kid (Arm constants b arms) fine h =
+          either (block_hangs i.state i.kids b x) (arms_hang i.state i.kids arms x) (block_has_fall b) (arms_have_fall arms) (block_kid b fine.0) (arms_kid arms fine.1) h
 
       block_kid : (b : Block) → FineBlock w i.siblings i.kids b → block_hangs i.state i.kids b x ≡ true → block_has_fall b ≡ true
       block_kid End fine h = h
@@ -123,6 +159,24 @@ mutual
       | inl r ↦ retags_in_block c a r x (neither_left _ _ n)
       | inr r ↦ retags_in_block c b r x (neither_right (block_retags a x) _ n)
     ]
+  ]
+  retags_in c (TryThen k hang a b) h x n = elim h [
+    | inl q ↦ subst (λ y. retags y x ≡ false) (sym q) n
+    | inr q ↦ elim q [
+      | inl r ↦ retags_in_block c a r x (neither_left _ _ (neither_right (step_retags k x) _ n))
+      | inr r ↦ retags_in_block c b r x (neither_right (block_retags a x) _ (neither_right (step_retags k x) _ n))
+    ]
+  ]
+  retags_in c (Case hang t arms) h x n = elim h [
+    | inl q ↦ subst (λ y. retags y x ≡ false) (sym q) n
+    | inr q ↦ retags_in_arms c arms q x n
+  ]
+
+  retags_in_arms : (c : Command) (arms : Arms) → StandsInArms c arms → (x : ℕ) → arms_retag arms x ≡ false → retags c x ≡ false
+  retags_in_arms c (Last b) h x n = retags_in_block c b h x n
+  retags_in_arms c (Arm constants b arms) h x n = elim h [
+    | inl q ↦ retags_in_block c b q x (neither_left _ _ n)
+    | inr q ↦ retags_in_arms c arms q x (neither_right (block_retags b x) _ n)
   ]
 
   retags_in_block : (c : Command) (b : Block) → StandsInBlock c b → (x : ℕ) → block_retags b x ≡ false → retags c x ≡ false

@@ -1,6 +1,6 @@
 -- What a command does in a context that is not at or below l, as far as can be seen at l.
 use Rattle.std.specs.Prelude.{◌≡◌, ℕ, Bool, true, false, ◌||◌, List, [], ◌∷◌, ◌⊎◌, if◌then◌else◌}
-use Rattle.sap_meaning.specs.Program.{World, Program, is_dynamic, is_register, is_memory, root, Step, Set, Write, Retag, RetagCell, Goto, Fall, Command, Do, Try, If, Block, End, Then, State, Node, Group}
+use Rattle.sap_meaning.specs.Program.{World, Program, is_dynamic, is_register, is_memory, root, Step, Set, Write, Retag, RetagCell, Goto, Fall, Command, Do, Try, If, TryThen, Case, Arms, Last, Arm, Block, End, Then, State, Node, Group}
 use Rattle.sap_meaning.specs.Store.{Store, Slot, own, start, next, next_whole, number, level, child}
 use Rattle.sap_meaning.specs.Touches.{touches}
 use Rattle.sap_meaning.specs.Does.{does, does_child}
@@ -28,6 +28,12 @@ abbrev mutual
   StandsIn c (Do k) = c ≡ Do k
   StandsIn c (Try k hang h) = (c ≡ Try k hang h) ⊎ StandsInBlock c h
   StandsIn c (If hang e a b) = (c ≡ If hang e a b) ⊎ (StandsInBlock c a ⊎ StandsInBlock c b)
+  StandsIn c (TryThen k hang a b) = (c ≡ TryThen k hang a b) ⊎ (StandsInBlock c a ⊎ StandsInBlock c b)
+  StandsIn c (Case hang e arms) = (c ≡ Case hang e arms) ⊎ StandsInArms c arms
+
+  pub StandsInArms : Command → Arms → Type 0
+  StandsInArms c (Last b) = StandsInBlock c b
+  StandsInArms c (Arm constants b arms) = StandsInBlock c b ⊎ StandsInArms c arms
 
   pub StandsInBlock : Command → Block → Type 0
   StandsInBlock c End = ⊥
@@ -55,6 +61,12 @@ abbrev mutual
   has_goto (Do k) = is_goto k
   has_goto (Try k hang h) = is_goto k || block_has_goto h
   has_goto (If hang e a b) = block_has_goto a || block_has_goto b
+  has_goto (TryThen k hang a b) = is_goto k || (block_has_goto a || block_has_goto b)
+  has_goto (Case hang e arms) = arms_have_goto arms
+
+  pub arms_have_goto : Arms → Bool
+  arms_have_goto (Last b) = block_has_goto b
+  arms_have_goto (Arm constants b arms) = block_has_goto b || arms_have_goto arms
 
   pub block_has_goto : Block → Bool
   block_has_goto End = false
@@ -66,6 +78,12 @@ abbrev mutual
   has_fall (Do k) = is_fall k
   has_fall (Try k hang h) = is_fall k || block_has_fall h
   has_fall (If hang e a b) = block_has_fall a || block_has_fall b
+  has_fall (TryThen k hang a b) = is_fall k || (block_has_fall a || block_has_fall b)
+  has_fall (Case hang e arms) = arms_have_fall arms
+
+  pub arms_have_fall : Arms → Bool
+  arms_have_fall (Last b) = block_has_fall b
+  arms_have_fall (Arm constants b arms) = block_has_fall b || arms_have_fall arms
 
   pub block_has_fall : Block → Bool
   block_has_fall End = false

@@ -3,6 +3,7 @@ pub mod Worlds
 pub mod Stored
 pub mod Views
 pub mod Children
+pub mod Arms
 pub mod Weights
 pub mod Marks
 pub mod Runs

@@ -1,18 +1,15 @@
--- A step that enters no child, where its test holds.
-use Rattle.std.proofs.Common.{◌≡◌, ℕ, true, List, refl, sym}
-use Rattle.sap_meaning.specs.Program.{listed}
-use Rattle.sap_meaning.specs.Store.{Store, After, stay, raise}
-use Rattle.sap_meaning.specs.Checks.{guard, test}
-use Rattle.sap_meaning.specs.Does.{effect, attempt}
-use Rattle.sap_program.specs.Hangs.{flags}
+-- The effect of a step that enters no child.
+use Rattle.std.proofs.Common.{◌≡◌, ℕ, List, refl, sym}
+use Rattle.sap_meaning.specs.Store.{Store, After, stay}
+use Rattle.sap_meaning.specs.Does.{effect}
 use Rattle.sap_program.specs.Views.{step_of}
-use Rattle.sap_program.specs.declared.program.Command.{Command}
 use Rattle.sap_program.specs.declared.program.Step.{Step}
 use Rattle.sap_program.specs.declared.program.Step.TheVariants as step
 use Rattle.sap_sem.specs.declared.setting.Setting.{Setting}
 use Rattle.sap_sem.specs.declared.setting.Spot.{Spot}
+use Rattle.sap_sem.specs.declared.effects.Raise.{Raise}
 use Rattle.sap_sem.specs.Code.{world_in, entities_in, spot_in}
-use Rattle.sap_sem.specs.Runs.{IsEffect, acted, set_done, write_done, retag_done, retag_cell_done, goto_done, attempt_run}
+use Rattle.sap_sem.specs.Runs.{IsEffect, acted, set_done, write_done, retag_done, retag_cell_done, goto_done, entered, raised_by, taken}
 
 pub is_effect : (k : Step) → ((site : ℕ) (hang : List ℕ) → k ≡ step.Fall site hang → ⊥) → IsEffect k
 is_effect (step.Set site x e) f = tt
@@ -32,14 +29,6 @@ module _ (d : Setting) (at : Spot) where
   effect_done enter (step.Goto site target) pc b s h = refl
   effect_done enter (step.Fall site hang) pc b s h = absurd h
 
-  passed : (hang : List ℕ) (k : Step) (handler : List Command) (pc : ℕ) (s : Store) (g : ℕ) → g ≡ guard (world_in d) (spot_in d at) (step_of (entities_in d) k) s
-      → test (world_in d) (spot_in d at) (step_of (entities_in d) k) pc s ≡ true → IsEffect k
-      → attempt_run d at hang k handler pc s ≡ stay (acted d at k pc s (raise (world_in d).order (listed (flags (entities_in d) hang)) g s))
-  unfolding attempt_run attempt
-  passed hang k handler pc s g e t h =
-      rw (t, ← e) (effect_done _ k pc s (raise (world_in d).order (listed (flags (entities_in d) hang)) g s) h)
-
-  pub passed_as : (hang : List ℕ) (k : Step) (handler : List Command) (pc : ℕ) (s : Store) (g : ℕ) → g ≡ guard (world_in d) (spot_in d at) (step_of (entities_in d) k) s
-      → test (world_in d) (spot_in d at) (step_of (entities_in d) k) pc s ≡ true → IsEffect k
-      → stay (acted d at k pc s (raise (world_in d).order (listed (flags (entities_in d) hang)) g s)) ≡ attempt_run d at hang k handler pc s
-  passed_as hang k handler pc s g e t h = sym (passed hang k handler pc s g e t h)
+  pub passed : (r : Raise) (k : Step) (pc : ℕ) (s : Store) → IsEffect k → stay (acted d at k pc s (raised_by d r s)) ≡ taken d at r k pc s
+  unfolding taken
+  passed r k pc s h = sym (effect_done (entered d at.state at.children.now) k pc s (raised_by d r s) h)

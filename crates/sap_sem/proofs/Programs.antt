@@ -3,13 +3,14 @@ use Rattle.std.proofs.Common.{◌≡◌, ℕ, suc, ◌<◌, ◌≤◌, ◌^◌, 
 use Rattle.std.proofs.lemmas.Bool.{cases_Bool}
 use Rattle.std.proofs.lemmas.Grind.{common_steps}
 use Rattle.sap_maps.specs.Term.{Term}
-use Rattle.sap_meaning.specs.Program.{World, Program, Entity, nothing, entity, kind_is_register, kind_is_memory, root, is_register, is_memory, is_dynamic, last, LevelTerm, fixed, of, at_place, both, Step, Set, Write, Retag, RetagCell, Goto, Fall, Command, Do, Try, If, Block, End, Then, State, Node, Group, None, More}
+use Rattle.sap_meaning.specs.Program.{World, Program, Entity, nothing, entity, kind_is_register, kind_is_memory, root, is_register, is_memory, is_dynamic, last, LevelTerm, fixed, of, at_place, both, Step, Set, Write, Retag, RetagCell, Goto, Fall, Command, Do, Try, If, TryThen, Case, Arms, Last, Arm, Block, End, Then, State, Node, Group, None, More}
+use Rattle.sap_meaning.specs.Expressions.{width_of}
 use Rattle.sap_meaning.specs.Touches.{among}
-use Rattle.sap_meaning.specs.Fine.{FineStep, FineCommand, FineBlock, FineState, FineGroup, FineProgram, inside, FineNode}
-use Rattle.sap_meaning.specs.Sized.{SizedTerm, SizedLevel, SizedStep, Sized, SizedBlock, SizedState, SizedGroup, SizedProgram}
+use Rattle.sap_meaning.specs.Fine.{FineStep, FineCommand, FineArms, FineBlock, FineState, FineGroup, FineProgram, inside, FineNode}
+use Rattle.sap_meaning.specs.Sized.{SizedTerm, SizedLevel, SizedStep, Sized, SizedArms, SizedBlock, SizedState, SizedGroup, SizedProgram}
 use Rattle.sap_meaning.proofs.Bools.{same_number, eq_self}
-use Rattle.sap_sized.specs.Ranges.{RangedTerm, RangedLevel, RangedStep, Ranged, RangedBlock, RangedState, RangedGroup, RangedProgram}
-use Rattle.sap_sem.specs.Able.{AbleTerm, AbleLevel, AbleTarget, AbleStep, AbleCommand, AbleBlock, AbleState, AbleGroup}
+use Rattle.sap_sized.specs.Ranges.{RangedTerm, RangedLevel, RangedStep, Ranged, RangedArms, RangedBlock, RangedState, RangedGroup, RangedProgram}
+use Rattle.sap_sem.specs.Able.{AbleTerm, AbleLevel, AbleTarget, AbleStep, AbleCommand, AbleArms, AbleBlock, AbleState, AbleGroup}
 use Rattle.sap_sem.proofs.Worlds.{beyond}
 
 or_second : (p q : Bool) → (p || q) ≡ true → p ≡ false → q ≡ true
@@ -93,12 +94,18 @@ module _ (w : World) where
 
     module _ (q g : Group) (fq : FineGroup w q 0 q) where
       mutual
-        unfolding AbleCommand AbleBlock
+        unfolding AbleCommand AbleArms AbleBlock
 
         able_command : (c : Command) → FineCommand w q g c → Sized w c → Ranged w c → AbleCommand w c
         able_command (Do k) f s r = able_step q g fq k f s r
         able_command (Try k hang h) f s r = (able_step q g fq k f.0 s.0 r.0, able_block h f.1 s.1 r.1)
         able_command (If hang e a b) f s r = (able_term e s.0 r.0, able_block a f.1 s.2 r.1, able_block b f.2 s.3 r.2)
+        able_command (TryThen k hang a b) f s r = (able_step q g fq k f.0 s.0 r.0, able_block a f.1 s.1 r.1, able_block b f.2 s.2 r.2)
+        able_command (Case hang e arms) f s r = (able_term e s.0 r.0, able_arms (width_of w e) arms f.1 s.1 r.1)
+
+        able_arms : (u : ℕ) (arms : Arms) → FineArms w q g arms → SizedArms w u arms → RangedArms w arms → AbleArms w arms
+        able_arms u (Last b) f s r = able_block b f s r
+        able_arms u (Arm constants b arms) f s r = (able_block b f.0 s.1 r.0, able_arms u arms f.1 s.2 r.1)
 
         able_block : (b : Block) → FineBlock w q g b → SizedBlock w b → RangedBlock w b → AbleBlock w b
         able_block End f s r = tt

@@ -1,42 +1,77 @@
 -- What the code's commands and states do, one at a time.
-use Rattle.std.proofs.Common.{◌≡◌, ℕ, zero, suc, ◌+◌, ◌<◌, ◌≤◌, Bool, List, [], ◌∷◌, length, get_or, drop, refl, sym, ap, arith, add-one}
+use Rattle.std.proofs.Common.{◌≡◌, ℕ, zero, suc, ◌+◌, ◌<◌, ◌≤◌, Bool, List, [], ◌∷◌, append-nil, length, get_or, drop, refl, sym, ap, ◌∙◌, arith, add-one, inl, inr}
+use Rattle.std.proofs.lemmas.Bool.{cases_Bool}
 use Rattle.std.specs.declared.vec.Vec.{Vec}
 use Rattle.std.specs.declared.alloc.Global.{Global}
-use Rattle.sap_meaning.specs.Program.{root, listed}
-use Rattle.sap_meaning.specs.Store.{Store, stay, and_then}
-use Rattle.sap_meaning.specs.Does.{attempt}
-use Rattle.sap_meaning.specs.Runs.{listed_alone, run, run_block, run_state, run_child}
+use Rattle.sap_meaning.specs.Program.{World, Block, Last, root, listed}
+use Rattle.sap_meaning.specs.Program as program
+use Rattle.sap_meaning.specs.Checks.{test}
+use Rattle.sap_meaning.specs.Checks as checks
+use Rattle.sap_meaning.specs.Store.{Store, After, Refusal, stay, and_then}
+use Rattle.sap_meaning.specs.Does.{attempt, attempt_then, select, is_constant}
+use Rattle.sap_meaning.specs.Runs.{listed_alone, run, run_arms, run_block, run_state, run_child}
 use Rattle.sap_program.specs.declared.program.Number.{Number}
 use Rattle.sap_program.specs.declared.program.Step.{Step}
+use Rattle.sap_program.specs.declared.program.Arm.{Arm}
 use Rattle.sap_program.specs.declared.program.Command.{Command}
 use Rattle.sap_program.specs.declared.program.Command.TheVariants as command
 use Rattle.sap_program.specs.declared.program.Command.TheViews as shown
 use Rattle.sap_program.specs.declared.program.State.{State, out-State}
 use Rattle.sap_program.specs.Hangs.{flags}
-use Rattle.sap_program.specs.Views.{term_of, step_of, block_of, group_of}
+use Rattle.sap_program.specs.Views.{term_of, step_of, block_of, arms_before, constants_of, group_of}
 use Rattle.sap_sem.specs.declared.setting.Setting.{Setting}
 use Rattle.sap_sem.specs.declared.setting.Spot.{Spot}
-use Rattle.sap_sem.specs.Able.{AbleStep, AbleTerm, AbleCommand, AbleBlock, AbleState, AbleGroup}
+use Rattle.sap_sem.specs.Able.{AbleStep, AbleTerm, AbleCommand, AbleArms, AbleBlock, AbleState, AbleGroup}
 use Rattle.sap_sem.specs.Code.{world_in, entities_in, spot_in}
-use Rattle.sap_sem.specs.Runs.{entered, block_run, command_run, attempt_run, select_run, state_run, CommandAble, BlockAble, StateAble, GroupAble}
-use Rattle.sap_sem.proofs.Views.{command_of-do, command_of-try, command_of-if, state_of-out}
+use Rattle.sap_sem.specs.Runs.{entered, block_run, command_run, attempt_run, select_run, picked_in, choose_run, state_run, CommandAble, BlockAble, ArmsAble, StateAble, GroupAble}
+use Rattle.sap_sem.proofs.Views.{command_of-do, command_of-try, command_of-if, command_of-then, command_of-case, state_of-out}
+
+-- a step with nothing behind where it is accepted
+
+and_then-stay : (a : After) → and_then a (λ t. stay t) ≡ a
+and_then-stay a = ap (λ (l : List Refusal). record { store = a.store; refused = l }) (append-nil a.refused)
+
+nothing_behind : (w : World) (at : checks.Spot) (enter : ℕ → ℕ → Store → After) (k : program.Step) (hangs : ℕ → Bool) (h : ℕ → Store → After) (pc : ℕ) (s : Store)
+    → attempt w at enter k hangs h pc s ≡ attempt_then w at enter k hangs (λ p t. stay t) h pc s
+unfolding attempt attempt_then
+nothing_behind w at enter k hangs h pc s = elim (cases_Bool (test w at k pc s)) [ inl e ↦ rw e (sym (and_then-stay _)) | inr e ↦ rw e refl ]
 
 module _ (d : Setting) (at : Spot) (pc : ℕ) (s : Store) where
   pub run-do : (k : Step) (hang : List ℕ) → ((x : ℕ) → listed (flags (entities_in d) hang) x ≡ listed_alone (world_in d) (spot_in d at) (step_of (entities_in d) k) x)
-      → command_run d at (command.Do k) pc s ≡ attempt_run d at hang k [] pc s
+      → command_run d at (command.Do k) pc s ≡ attempt_run d at hang k [] [] pc s
   unfolding run command_run attempt_run block_run run_block block_of
   run-do k hang e =
       let same : listed (flags (entities_in d) hang) ≡ listed_alone (world_in d) (spot_in d at) (step_of (entities_in d) k) = λ i x. e x i in
       rw (command_of-do (entities_in d) k)
-      (ap (λ (h : ℕ → Bool). attempt (world_in d) (spot_in d at) (entered d at.state at.children.now) (step_of (entities_in d) k) h (λ p t. stay t) pc s) (sym same))
+      (ap (λ (h : ℕ → Bool). attempt (world_in d) (spot_in d at) (entered d at.state at.children.now) (step_of (entities_in d) k) h (λ p t. stay t) pc s) (sym same)
+      ∙ nothing_behind (world_in d) (spot_in d at) (entered d at.state at.children.now) (step_of (entities_in d) k) (listed (flags (entities_in d) hang)) (λ p t. stay t) pc s)
 
-  pub run-try : (k : Step) (hang : List ℕ) (h : Vec Command Global) → command_run d at (shown.Try k hang h) pc s ≡ attempt_run d at hang k h.items pc s
+  pub run-try : (k : Step) (hang : List ℕ) (h : Vec Command Global) → command_run d at (shown.Try k hang h) pc s ≡ attempt_run d at hang k [] h.items pc s
+  unfolding run command_run attempt_run block_run run_block block_of
+  run-try k hang h =
+      rw (command_of-try (entities_in d) k hang h)
+      (nothing_behind (world_in d) (spot_in d at) (entered d at.state at.children.now) (step_of (entities_in d) k) (listed (flags (entities_in d) hang))
+      (run_block (world_in d) (spot_in d at) (entered d at.state at.children.now) (block_of (entities_in d) h.items)) pc s)
+
+  pub run-then : (k : Step) (hang : List ℕ) (a b : Vec Command Global) → command_run d at (shown.TryThen k hang a b) pc s ≡ attempt_run d at hang k a.items b.items pc s
   unfolding run command_run attempt_run block_run
-  run-try k hang h = rw (command_of-try (entities_in d) k hang h) refl
+  run-then k hang a b = rw (command_of-then (entities_in d) k hang a b) refl
 
   pub run-if : (hang : List ℕ) (e : Number) (a b : Vec Command Global) → command_run d at (shown.If hang e a b) pc s ≡ select_run d at hang e a.items b.items pc s
   unfolding run command_run select_run block_run
   run-if hang e a b = rw (command_of-if (entities_in d) hang e a b) refl
+
+  picked-run : (arms : List Arm) (last : List Command) (n p : ℕ) (t : Store)
+      → run_arms (world_in d) (spot_in d at) (entered d at.state at.children.now) (arms_before (entities_in d) arms (Last (block_of (entities_in d) last))) n p t
+      ≡ block_run d at (picked_in arms last n) p t
+  unfolding run_arms arms_before block_run
+  picked-run [] last n p t = refl
+  picked-run (arm ∷ arms) last n p t = elim (cases_Bool (is_constant (constants_of arm) n)) [ inl e ↦ rw e refl | inr e ↦ rw e (picked-run arms last n p t) ]
+
+  pub run-case : (hang : List ℕ) (e : Number) (arms : Vec Arm Global) (last : Vec Command Global)
+      → command_run d at (shown.Case hang e arms last) pc s ≡ choose_run d at hang e arms.items last.items pc s
+  unfolding run command_run choose_run select
+  run-case hang e arms last = rw (command_of-case (entities_in d) hang e arms last) (picked-run arms.items last.items _ _ _)
 
   pub run-none : block_run d at [] pc s ≡ stay s
   unfolding run_block block_run block_of
@@ -88,6 +123,21 @@ module _ (d : Setting) where
   unfolding CommandAble AbleCommand BlockAble
   able-if hang e a b h = rw (command_of-if (entities_in d) hang e a b) at h
 
+  pub able-then : (k : Step) (hang : List ℕ) (a b : Vec Command Global) → CommandAble d (shown.TryThen k hang a b)
+      → AbleStep (world_in d) (step_of (entities_in d) k) × BlockAble d a.items × BlockAble d b.items
+  unfolding CommandAble AbleCommand BlockAble
+  able-then k hang a b h = rw (command_of-then (entities_in d) k hang a b) at h
+
+  pub able-case : (hang : List ℕ) (e : Number) (arms : Vec Arm Global) (last : Vec Command Global) → CommandAble d (shown.Case hang e arms last)
+      → AbleTerm (world_in d) (term_of e) × ArmsAble d arms.items last.items
+  unfolding CommandAble AbleCommand ArmsAble
+  able-case hang e arms last h = rw (command_of-case (entities_in d) hang e arms last) at h
+
+  pub able-picked : (arms : List Arm) (last : List Command) (n : ℕ) → ArmsAble d arms last → BlockAble d (picked_in arms last n)
+  unfolding ArmsAble AbleArms BlockAble arms_before
+  able-picked [] last n a = a
+  able-picked (arm ∷ arms) last n a = elim (cases_Bool (is_constant (constants_of arm) n)) [ inl e ↦ rw e a.0 | inr e ↦ rw e (able-picked arms last n a.1) ]
+
   pub able-none : BlockAble d []
   unfolding BlockAble AbleBlock block_of
   able-none = tt
@@ -108,7 +158,7 @@ module _ (d : Setting) where
   unfolding StateAble AbleState BlockAble GroupAble
   able-state k h = rw (state_of-out (entities_in d) k) at h
 
-pub ruleset commands = (run-do, run-try, run-if)
+pub ruleset commands = (run-do, run-try, run-if, run-then, run-case)
 
 pub ruleset blocks = (run-none, run-drop, run-past)
 

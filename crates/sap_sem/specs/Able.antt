@@ -1,7 +1,7 @@
 -- What a machine needs of a program: that numbers stand for entities, and widths are those that the operators take.
 use Rattle.std.specs.Prelude.{◌≡◌, ℕ, ◌<◌, ◌≤◌, ◌^◌, false}
 use Rattle.sap_maps.specs.Term.{Term}
-use Rattle.sap_meaning.specs.Program.{World, root, is_dynamic, width, place, last, LevelTerm, fixed, of, at_place, both, Step, Set, Write, Retag, RetagCell, Goto, Fall, Command, Do, Try, If, Block, End, Then, State, Node, Group, None, More}
+use Rattle.sap_meaning.specs.Program.{World, root, is_dynamic, width, place, last, LevelTerm, fixed, of, at_place, both, Step, Set, Write, Retag, RetagCell, Goto, Fall, Command, Do, Try, If, TryThen, Case, Arms, Last, Arm, Block, End, Then, State, Node, Group, None, More}
 use Rattle.sap_meaning.specs.Expressions.{width_of}
 use Rattle.sap_meaning.specs.Sized.{SizedTerm, Indexes}
 use Rattle.sap_sized.specs.Ranges.{RangedTerm}
@@ -48,6 +48,12 @@ unfoldable mutual
   AbleCommand w (Do k) = AbleStep w k
   AbleCommand w (Try k hang h) = AbleStep w k × AbleBlock w h
   AbleCommand w (If hang e a b) = AbleTerm w e × AbleBlock w a × AbleBlock w b
+  AbleCommand w (TryThen k hang a b) = AbleStep w k × AbleBlock w a × AbleBlock w b
+  AbleCommand w (Case hang e arms) = AbleTerm w e × AbleArms w arms
+
+  pub AbleArms : World → Arms → Type 0
+  AbleArms w (Last b) = AbleBlock w b
+  AbleArms w (Arm constants b arms) = AbleBlock w b × AbleArms w arms
 
   pub AbleBlock : World → Block → Type 0
   AbleBlock w End = Unit {0}

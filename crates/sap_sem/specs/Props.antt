@@ -4,14 +4,14 @@ use Rattle.std.proofs.Props.{props}
 use Rattle.sap_bits.specs.declared.Op2.{Op2}
 use Rattle.sap_bits.specs.declared.Op2.TheVariants.{Add, Sub, Mul, And, Or, Xor, Eq, Ne, Lt, Le, Shl, Shr}
 use Rattle.sap_maps.specs.Term.{Term, constant, read, cell, one, two, choose, join, part, CountFits, TermFits}
-use Rattle.sap_meaning.specs.Program.{World, width, LevelTerm, fixed, of, at_place, both, Step, Set, Write, Retag, RetagCell, Goto, Fall, Command, Do, Try, If, Block, End, Then, State, Node, Group, None, More}
+use Rattle.sap_meaning.specs.Program.{World, width, LevelTerm, fixed, of, at_place, both, Step, Set, Write, Retag, RetagCell, Goto, Fall, Command, Do, Try, If, TryThen, Case, Arms, Last, Arm, Block, End, Then, State, Node, Group, None, More}
 use Rattle.sap_meaning.specs.Checks.{Spot}
 use Rattle.sap_lattice.specs.Levels.{Levels}
-use Rattle.sap_meaning.specs.Fine.{FineTerm, FineLevel, FineStep, FineCommand, FineBlock, Open, OpenBlock, Closes, Final, OnceStep, Once, OnceBlock, OnceState, OnceGroup, FineState, FineGroup, ExactStep, Exact, ExactBlock, ExactState, ExactGroup}
+use Rattle.sap_meaning.specs.Fine.{FineTerm, FineLevel, FineStep, FineCommand, FineArms, FineBlock, Open, OpenArms, OpenBlock, Closes, Final, ClosingArms, OnceStep, Once, OnceArms, OnceBlock, OnceState, OnceGroup, FineState, FineGroup, ExactStep, Exact, ExactArms, ExactBlock, ExactState, ExactGroup}
 use Rattle.sap_meaning.specs.Sized.{Indexed}
 use Rattle.sap_sized.specs.Ranges.{RangedTerm}
 use Rattle.sap_program.specs.declared.program.Program as code
-use Rattle.sap_sem.specs.Able.{AbleTerm, AbleLevel, AbleStep, AbleCommand, AbleBlock, AbleState, AbleGroup}
+use Rattle.sap_sem.specs.Able.{AbleTerm, AbleLevel, AbleStep, AbleCommand, AbleArms, AbleBlock, AbleState, AbleGroup}
 use Rattle.sap_sem.specs.Sound.{IsSound}
 
 count_prop : (op : Op2) (w u : ℕ) → IsProp (CountFits op w u)
@@ -43,6 +43,12 @@ mutual
   open_prop (Do k) = hlevel props
   open_prop (Try k hang h) = hlevel (props, open_block_prop h)
   open_prop (If hang e a b) = hlevel (props, open_block_prop a, open_block_prop b)
+  open_prop (TryThen k hang a b) = hlevel (props, open_block_prop a, open_block_prop b)
+  open_prop (Case hang e arms) = open_arms_prop arms
+
+  open_arms_prop : (arms : Arms) → IsProp (OpenArms arms)
+  open_arms_prop (Last b) = open_block_prop b
+  open_arms_prop (Arm constants b arms) = hlevel (props, open_block_prop b, open_arms_prop arms)
 
   open_block_prop : (b : Block) → IsProp (OpenBlock b)
   open_block_prop End = hlevel props
@@ -58,6 +64,12 @@ mutual
   final_prop (Do k) = hlevel props
   final_prop (Try k hang h) = hlevel (props, closes_prop h)
   final_prop (If hang e a b) = hlevel (props, closes_prop a, closes_prop b)
+  final_prop (TryThen k hang a b) = hlevel (props, closes_prop a, closes_prop b)
+  final_prop (Case hang e arms) = closing_arms_prop arms
+
+  closing_arms_prop : (arms : Arms) → IsProp (ClosingArms arms)
+  closing_arms_prop (Last b) = closes_prop b
+  closing_arms_prop (Arm constants b arms) = hlevel (props, closes_prop b, closing_arms_prop arms)
 
 module _ (g : Group) (below : Type 0) (below_prop : IsProp below) where
   once_step_prop : (k : Step) → IsProp (OnceStep below k)
@@ -73,6 +85,12 @@ module _ (g : Group) (below : Type 0) (below_prop : IsProp below) where
     once_prop (Do k) = once_step_prop k
     once_prop (Try k hang h) = hlevel (props, once_step_prop k, once_block_prop h)
     once_prop (If hang e a b) = hlevel (props, once_block_prop a, once_block_prop b)
+    once_prop (TryThen k hang a b) = hlevel (props, once_step_prop k, once_block_prop a, once_block_prop b)
+    once_prop (Case hang e arms) = once_arms_prop arms
+
+    once_arms_prop : (arms : Arms) → IsProp (OnceArms g below arms)
+    once_arms_prop (Last b) = once_block_prop b
+    once_arms_prop (Arm constants b arms) = hlevel (props, once_block_prop b, once_arms_prop arms)
 
     once_block_prop : (b : Block) → IsProp (OnceBlock g below b)
     once_block_prop End = hlevel props
@@ -125,12 +143,18 @@ module _ (w : World) where
   step_prop (Fall site hang) = hlevel props
 
   mutual
-    unfolding AbleCommand AbleBlock
+    unfolding AbleCommand AbleArms AbleBlock
 
     command_prop : (c : Command) → IsProp (AbleCommand w c)
     command_prop (Do k) = step_prop k
     command_prop (Try k hang h) = hlevel (props, step_prop k, block_prop h)
     command_prop (If hang e a b) = hlevel (props, term_prop e, block_prop a, block_prop b)
+    command_prop (TryThen k hang a b) = hlevel (props, step_prop k, block_prop a, block_prop b)
+    command_prop (Case hang e arms) = hlevel (props, term_prop e, arms_prop arms)
+
+    arms_prop : (arms : Arms) → IsProp (AbleArms w arms)
+    arms_prop (Last b) = block_prop b
+    arms_prop (Arm constants b arms) = hlevel (props, block_prop b, arms_prop arms)
 
     block_prop : (b : Block) → IsProp (AbleBlock w b)
     block_prop End = hlevel props
@@ -159,6 +183,12 @@ module _ (w : World) where
     exact_prop at (Do k) = exact_step_prop at k
     exact_prop at (Try k hang h) = hlevel (props, exact_block_prop at h)
     exact_prop at (If hang e a b) = hlevel (props, exact_block_prop at a, exact_block_prop at b)
+    exact_prop at (TryThen k hang a b) = hlevel (props, exact_block_prop at a, exact_block_prop at b)
+    exact_prop at (Case hang e arms) = hlevel (props, exact_arms_prop at arms)
+
+    exact_arms_prop : (at : Spot) (arms : Arms) → IsProp (ExactArms w at arms)
+    exact_arms_prop at (Last b) = exact_block_prop at b
+    exact_arms_prop at (Arm constants b arms) = hlevel (props, exact_block_prop at b, exact_arms_prop at arms)
 
     exact_block_prop : (at : Spot) (b : Block) → IsProp (ExactBlock w at b)
     exact_block_prop at End = hlevel props
@@ -202,6 +232,12 @@ module _ (w : World) where
       fine_command_prop (Do k) = fine_step_prop k
       fine_command_prop (Try k hang h) = hlevel (props, fine_step_prop k, fine_block_prop h)
       fine_command_prop (If hang e a b) = hlevel (props, fine_term_prop e, fine_block_prop a, fine_block_prop b)
+      fine_command_prop (TryThen k hang a b) = hlevel (props, fine_step_prop k, fine_block_prop a, fine_block_prop b)
+      fine_command_prop (Case hang e arms) = hlevel (props, fine_term_prop e, fine_arms_prop arms)
+
+      fine_arms_prop : (arms : Arms) → IsProp (FineArms w q g arms)
+      fine_arms_prop (Last b) = fine_block_prop b
+      fine_arms_prop (Arm constants b arms) = hlevel (props, fine_block_prop b, fine_arms_prop arms)
 
       fine_block_prop : (b : Block) → IsProp (FineBlock w q g b)
       fine_block_prop End = hlevel props

@@ -1,16 +1,17 @@
 -- What the code's parts do, in the words of the labelled meaning.
 use Rattle.std.specs.Prelude.{ℕ, zero, suc, ◌<◌, ◌≤◌, List, [], ◌∷◌, Option, Some, nat_eq, slice_set, if◌then◌else◌}
 use Rattle.sap_maps.specs.Term.{Term}
-use Rattle.sap_meaning.specs.Program.{World, root, is_dynamic, place, listed, LevelTerm, Block, Node, Group, None, More}
+use Rattle.sap_meaning.specs.Program.{World, root, is_dynamic, place, listed, LevelTerm, Last, Block, Node, Group, None, More}
 use Rattle.sap_meaning.specs.Program as program
 use Rattle.sap_meaning.specs.Store.{Store, own, start, next, number, level, child, put_number, put_level, put_child, raise, reset, Refusal, After}
 use Rattle.sap_meaning.specs.Expressions.{value, tag, new_level}
-use Rattle.sap_meaning.specs.Does.{attempt, select, branch}
+use Rattle.sap_meaning.specs.Does.{effect, attempt_then, select, branch, is_constant}
 use Rattle.sap_meaning.specs.Cycle.{root_fall}
 use Rattle.sap_meaning.specs.Runs.{run, run_block, run_state, run_child}
 use Rattle.sap_program.specs.Hangs.{flags}
-use Rattle.sap_program.specs.Views.{term_of, step_of, command_of, block_of, state_of, group_of}
+use Rattle.sap_program.specs.Views.{term_of, step_of, command_of, block_of, constants_of, commands_in, arms_before, state_of, group_of}
 use Rattle.sap_program.specs.declared.program.Number.{Number}
+use Rattle.sap_program.specs.declared.program.Arm.{Arm}
 use Rattle.sap_program.specs.declared.program.Command.{Command}
 use Rattle.sap_program.specs.declared.program.State.{State}
 use Rattle.sap_program.specs.declared.program.Step.{Step}
@@ -18,7 +19,7 @@ use Rattle.sap_program.specs.declared.program.Step.TheVariants as step
 use Rattle.sap_sem.specs.declared.setting.Setting.{Setting}
 use Rattle.sap_sem.specs.declared.setting.Spot.{Spot}
 use Rattle.sap_sem.specs.declared.effects.Raise.{Raise}
-use Rattle.sap_sem.specs.Able.{AbleCommand, AbleBlock, AbleState, AbleGroup}
+use Rattle.sap_sem.specs.Able.{AbleCommand, AbleArms, AbleBlock, AbleState, AbleGroup}
 use Rattle.sap_sem.specs.Code.{program_of, world_in, entities_in, spot_in}
 
 -- the child of a group at a place; the last one stands for all later places
@@ -96,13 +97,27 @@ block_run d at cs = run_block (world_in d) (spot_in d at) (entered d at.state at
 unfoldable pub command_run : Setting → Spot → Command → ℕ → Store → After
 command_run d at c = run (world_in d) (spot_in d at) (entered d at.state at.children.now) (command_of (entities_in d) c)
 
-unfoldable pub attempt_run : Setting → Spot → (hang : List ℕ) → Step → List Command → ℕ → Store → After
-attempt_run d at hang k handler =
-    attempt (world_in d) (spot_in d at) (entered d at.state at.children.now) (step_of (entities_in d) k) (listed (flags (entities_in d) hang)) (block_run d at handler)
+-- the effect of a step, behind the raises
+unfoldable pub taken : Setting → Spot → Raise → Step → ℕ → Store → After
+taken d at r k pc s = effect (world_in d) (spot_in d at) (entered d at.state at.children.now) (step_of (entities_in d) k) pc s (raised_by d r s)
+
+-- a step, and what follows it where it is accepted and where it is refused
+unfoldable pub attempt_run : Setting → Spot → (hang : List ℕ) → Step → (accepted refused : List Command) → ℕ → Store → After
+attempt_run d at hang k accepted refused =
+    attempt_then (world_in d) (spot_in d at) (entered d at.state at.children.now) (step_of (entities_in d) k) (listed (flags (entities_in d) hang)) (block_run d at accepted) (block_run d at refused)
 
 unfoldable pub select_run : Setting → Spot → (hang : List ℕ) → Number → (then_part else_part : List Command) → ℕ → Store → After
 select_run d at hang e a b =
     select (world_in d) (term_of e) (listed (flags (entities_in d) hang)) (branch (block_run d at a) (block_run d at b))
+
+-- the commands of the first arm that has the number, and the last ones where none has
+abbrev pub picked_in : List Arm → (last : List Command) → ℕ → List Command
+picked_in [] last n = last
+picked_in (arm ∷ arms) last n = if is_constant (constants_of arm) n then commands_in arm else picked_in arms last n
+
+unfoldable pub choose_run : Setting → Spot → (hang : List ℕ) → Number → List Arm → (last : List Command) → ℕ → Store → After
+choose_run d at hang e arms last =
+    select (world_in d) (term_of e) (listed (flags (entities_in d) hang)) (λ n. block_run d at (picked_in arms last n))
 
 unfoldable pub state_run : Setting → (parent : ℕ) → State → ℕ → Store → After
 state_run d p k = run_state (world_in d) (state_of (entities_in d) k) p
@@ -114,6 +129,9 @@ CommandAble d c = AbleCommand (world_in d) (command_of (entities_in d) c)
 
 unfoldable pub BlockAble : Setting → List Command → Type 0
 BlockAble d cs = AbleBlock (world_in d) (block_of (entities_in d) cs)
+
+unfoldable pub ArmsAble : Setting → List Arm → (last : List Command) → Type 0
+ArmsAble d arms last = AbleArms (world_in d) (arms_before (entities_in d) arms (Last (block_of (entities_in d) last)))
 
 unfoldable pub StateAble : Setting → State → Type 0
 StateAble d k = AbleState (world_in d) (state_of (entities_in d) k)

@@ -1,7 +1,9 @@
 //! Runs of commands and of states.
 
 ghost use Rattle.std.specs.Prelude.{◌≡◌, ◌<◌, ◌≤◌, ℕ, IsTrue, [], ◌∷◌, slice_set};
+ghost use Rattle.sap_meaning.specs.Checks as checks;
 ghost use Rattle.sap_meaning.specs.Checks.{site_of};
+ghost use Rattle.sap_meaning.specs.Does.{is_constant};
 ghost use Rattle.sap_meaning.specs.Program as program;
 ghost use Rattle.sap_meaning.specs.Runs.{listed_alone};
 ghost use Rattle.sap_program.specs.Hangs.{flags, rises};
@@ -9,7 +11,7 @@ ghost use Rattle.sap_program.specs.Views as views;
 ghost use Rattle.sap_sem.specs.Able.{AbleStep, AbleTerm};
 ghost use Rattle.sap_sem.specs.Code.{entities_in, spot_in, store_in, world_in};
 ghost use Rattle.sap_sem.specs.Kept.{Ready};
-ghost use Rattle.sap_sem.specs.Runs.{BlockAble, CommandAble, GroupAble, SpotAble, StateAble, attempt_run, block_run, command_run, entered, marked, select_run, state_run};
+ghost use Rattle.sap_sem.specs.Runs.{ArmsAble, BlockAble, CommandAble, GroupAble, SpotAble, StateAble, attempt_run, block_run, choose_run, command_run, entered, marked, picked_in, select_run, state_run, taken};
 
 use crate::checks::{guard, test};
 use crate::effects::{Raise, act};
@@ -19,7 +21,7 @@ use crate::store::Store;
 use crate::terms::see;
 use crate::world::is_dynamic;
 use sap_lattice::level::Level;
-use sap_program::program::{Command, Number, State, Step};
+use sap_program::program::{Arm, Command, Number, State, Step};
 
 /// The commands of a list, in order.
 #[cycle(run)]
@@ -65,7 +67,7 @@ fn command(
         Command::Do(step) => {
             let itself = [at.state];
             let hang = raised_alone(setting, at, &itself, step);
-            attempt(setting, at, store, marks, hang, step, &[], context);
+            attempt(setting, at, store, marks, hang, step, &[], &[], context);
         }
         Command::Try {
             step,
@@ -80,6 +82,7 @@ fn command(
                 marks,
                 hang.numbers(),
                 step,
+                &[],
                 handler,
                 context,
             );
@@ -95,6 +98,32 @@ fn command(
             let numbers = hang.numbers();
             select(
                 setting, at, store, marks, numbers, condition, yes, no, context,
+            );
+        }
+        Command::TryThen {
+            step,
+            hang,
+            accepted,
+            refused,
+        } => {
+            let accepted = accepted.as_slice();
+            let refused = refused.as_slice();
+            let numbers = hang.numbers();
+            attempt(
+                setting, at, store, marks, numbers, step, accepted, refused, context,
+            );
+        }
+        Command::Case {
+            hang,
+            number,
+            arms,
+            last,
+        } => {
+            let arms = arms.as_slice();
+            let last = last.as_slice();
+            let numbers = hang.numbers();
+            choose(
+                setting, at, store, marks, numbers, number, arms, last, context,
             );
         }
     }
@@ -162,9 +191,96 @@ fn select(
     }
 }
 
-/// A step with its handler.
+/// Whether a number is one of these.
+#[tactic(auto, using(crate::proofs::Arms::picks))]
+fn has(constants: &[u64], number: u64) -> bool
+    ensures { result ≡ is_constant constants.now number }
+{
+    for constant in constants {
+        if *constant == number {
+            return true;
+        }
+    }
+    false
+}
+
+/// The commands of the first arm that has the number, and the last ones where none has.
+#[tactic(auto, using(crate::proofs::Arms::picks))]
+fn picked<'a>(arms: &'a [Arm], last: &'a [Command], number: u64) -> &'a [Command]
+    ensures { result.now ≡ picked_in arms.now last.now number }
+{
+    for arm in arms {
+        if has(arm.constants.as_slice(), number) {
+            return arm.block.as_slice();
+        }
+    }
+    last
+}
+
+/// What the number of an expression picks among arms.
 #[cycle(run)]
-#[tactic(auto, using(crate::proofs::Weights::weights), unfolding(crate::specs::Runs::attempt_run, sap_meaning::specs::Does::attempt, sap_meaning::specs::Does::effect))]
+#[tactic(auto, using(crate::proofs::Weights::weights), unfolding(crate::specs::Runs::choose_run, sap_meaning::specs::Does::select))]
+fn choose(
+    setting: &Setting<'_>,
+    at: &Spot<'_>,
+    store: &mut Store,
+    marks: &mut [Option<Level>],
+    hang: &[usize],
+    number: &Number,
+    arms: &[Arm],
+    last: &[Command],
+    context: Level,
+)
+    requires ready { Ready (world_in setting.now) store.old }
+    requires spot { SpotAble setting.now at.now }
+    requires rising { IsTrue (rises hang.now) }
+    requires able { AbleTerm (world_in setting.now) (views.term_of number.now) }
+    requires arms { ArmsAble setting.now arms.now last.now }
+    ensures store { store_in setting.now store.new ≡ (choose_run setting.now at.now hang.now number.now arms.now last.now context (store_in setting.now store.old)).store }
+    ensures marks { marks.new ≡ marked (choose_run setting.now at.now hang.now number.now arms.now last.now context (store_in setting.now store.old)).refused marks.old }
+    ensures ready { Ready (world_in setting.now) store.new }
+{
+    let chosen = see(setting, store, number);
+    raise(setting, store, hang, chosen.level);
+    let inner = setting.lattice.join(context, chosen.level);
+    let list = picked(arms, last, chosen.number);
+    commands(setting, at, store, marks, list, inner);
+}
+
+/// The effect of a step whose test held, behind what it raises.
+#[cycle(run)]
+#[tactic(auto, using(crate::proofs::Weights::weights), unfolding(crate::specs::Runs::taken, sap_meaning::specs::Does::effect))]
+fn take(
+    setting: &Setting<'_>,
+    at: &Spot<'_>,
+    store: &mut Store,
+    marks: &mut [Option<Level>],
+    raises: &Raise<'_>,
+    step: &Step,
+    context: Level,
+)
+    requires ready { Ready (world_in setting.now) store.old }
+    requires spot { SpotAble setting.now at.now }
+    requires rising { IsTrue (rises raises.now.hang.now) }
+    requires able { AbleStep (world_in setting.now) (views.step_of (entities_in setting.now) step.now) }
+    requires level { raises.now.level ≡ checks.guard (world_in setting.now) (spot_in setting.now at.now) (views.step_of (entities_in setting.now) step.now) (store_in setting.now store.old) }
+    ensures store { store_in setting.now store.new ≡ (taken setting.now at.now raises.now step.now context (store_in setting.now store.old)).store }
+    ensures marks { marks.new ≡ marked (taken setting.now at.now raises.now step.now context (store_in setting.now store.old)).refused marks.old }
+    ensures ready { Ready (world_in setting.now) store.new }
+{
+    if let Step::Fall { .. } = step {
+        let place = child(setting, store, at.state) as usize;
+        let inner = setting.lattice.join(context, raises.level);
+        raise(setting, store, raises.hang, raises.level);
+        enter(setting, store, marks, at.state, at.children, place, inner);
+    } else {
+        act(setting, at, store, raises, step, context);
+    }
+}
+
+/// A step, and what follows it where it is accepted and where it is refused.
+#[cycle(run)]
+#[tactic(auto, using(crate::proofs::Weights::weights, crate::proofs::Marks::marks), unfolding(crate::specs::Runs::attempt_run, crate::specs::Runs::taken, sap_meaning::specs::Does::attempt_then))]
 fn attempt(
     setting: &Setting<'_>,
     at: &Spot<'_>,
@@ -172,32 +288,30 @@ fn attempt(
     marks: &mut [Option<Level>],
     hang: &[usize],
     step: &Step,
-    handler: &[Command],
+    accepted: &[Command],
+    refused: &[Command],
     context: Level,
 )
     requires ready { Ready (world_in setting.now) store.old }
     requires spot { SpotAble setting.now at.now }
     requires rising { IsTrue (rises hang.now) }
     requires able { AbleStep (world_in setting.now) (views.step_of (entities_in setting.now) step.now) }
-    requires handler { BlockAble setting.now handler.now }
-    ensures store { store_in setting.now store.new ≡ (attempt_run setting.now at.now hang.now step.now handler.now context (store_in setting.now store.old)).store }
-    ensures marks { marks.new ≡ marked (attempt_run setting.now at.now hang.now step.now handler.now context (store_in setting.now store.old)).refused marks.old }
+    requires accepted { BlockAble setting.now accepted.now }
+    requires refused { BlockAble setting.now refused.now }
+    ensures store { store_in setting.now store.new ≡ (attempt_run setting.now at.now hang.now step.now accepted.now refused.now context (store_in setting.now store.old)).store }
+    ensures marks { marks.new ≡ marked (attempt_run setting.now at.now hang.now step.now accepted.now refused.now context (store_in setting.now store.old)).refused marks.old }
     ensures ready { Ready (world_in setting.now) store.new }
 {
     let level = guard(setting, at, store, step);
     let inner = setting.lattice.join(context, level);
     if test(setting, at, store, step, context) {
-        if let Step::Fall { .. } = step {
-            let place = child(setting, store, at.state) as usize;
-            raise(setting, store, hang, level);
-            enter(setting, store, marks, at.state, at.children, place, inner);
-        } else {
-            act(setting, at, store, &Raise { hang, level }, step, context);
-        }
+        let raises = Raise { hang, level };
+        take(setting, at, store, marks, &raises, step, context);
+        commands(setting, at, store, marks, accepted, inner);
     } else {
         raise(setting, store, hang, level);
         mark(marks, site(step), inner);
-        commands(setting, at, store, marks, handler, inner);
+        commands(setting, at, store, marks, refused, inner);
     }
 }
 

@@ -1,17 +1,17 @@
 -- The faults that the walk finds are those of which the paths say so.
 use Rattle.std.proofs.Common.{◌≡◌, ◌⊎◌, inl, inr, ℕ, List, [], ◌∷◌, ◌++◌, Bool, true, false, Some, refl, ap, sym, subst, ◌∙◌, append_assoc, if◌then◌else◌}
 use Rattle.sap_tree.specs.declared.place.Place.{Place}
-use Rattle.sap_tree.specs.Syntax.{SimpleCommand, Assign, Write, SetTag, SetCellTag, Goto, Fall, Command, Do, Try, If, CommandBlock, Commands, ElseBlock, NoElse, Else, CommandList, NoCommand, AndCommand, StateTree, StateOf, StateList, NoState, AndState, DesignTree}
+use Rattle.sap_tree.specs.Syntax.{SimpleCommand, Assign, Write, SetTag, SetCellTag, Goto, Fall, Command, Do, Try, If, TryThen, Case, Arms, Last, Arm, CommandBlock, Commands, ElseBlock, NoElse, Else, CommandList, NoCommand, AndCommand, StateTree, StateOf, StateList, NoState, AndState, DesignTree}
 use Rattle.sap_names.specs.declared.fault.Fault.{Fault}
 use Rattle.sap_names.specs.declared.kind.Code.TheVariants.{E14}
 use Rattle.sap_names.specs.Fault.{StandsIn, Before, BeforeAll, First}
 use Rattle.sap_names.specs.NameFaults.{fault_if}
 use Rattle.sap_names.specs.Entities.{entities_of}
-use Rattle.sap_shape.specs.Paths.{Path, Through, ThroughBlock, ThroughElse, ThroughList, FromState, FromAny, IsOfMemory, WritesAgain, place_of, twice_at, PathFault}
-use Rattle.sap_shape.specs.Walk.{Written, fresh, past_simple, past, falls_block, entering_block, second_simple, second, second_block, second_else, second_list, second_state, second_states}
+use Rattle.sap_shape.specs.Paths.{Path, Through, ThroughBlock, ThroughElse, ThroughArms, ThroughList, FromState, FromAny, IsOfMemory, WritesAgain, place_of, twice_at, PathFault}
+use Rattle.sap_shape.specs.Walk.{Written, fresh, past_simple, past, falls_block, entering_block, second_simple, second, second_block, second_else, second_arms, second_list, second_state, second_states}
 use Rattle.sap_shape.specs.Lists.{shape_faults}
 use Rattle.sap_shape.specs.ShapeFaults.{states_shape, IsShapeFault, HasShape, IsFirstShapeFault}
-use Rattle.sap_shape.proofs.Followed.{Has, has_left, has_right, Did, step_past, past_before, past_here, did_more, did_less, some_path, some_list, past_found, found_past, falls_block_found, found_falls_block, entering_block_found, found_entering_block, onward_block}
+use Rattle.sap_shape.proofs.Followed.{Has, has_left, has_right, Did, step_past, past_before, past_here, did_more, did_less, some_path, some_block, some_list, past_found, found_past, falls_block_found, found_falls_block, entering_block_found, found_entering_block, onward_block}
 
 -- faults of two lists
 stands_left : (f : Fault) (a b : List Fault) → StandsIn f a → StandsIn f (a ++ b)
@@ -82,6 +82,28 @@ mutual
   found_in (If place e b other) p f h = elim (stands_parts f (second_block b p) (second_else other p) h) [
     | inl i ↦ (let s = found_in_block b p f i in (s.0, s.1, inl s.2, s.3, s.4))
     | inr i ↦ (let s = found_in_else other p f i in (s.0, s.1, inr s.2, s.3, s.4))
+  ]
+  found_in (TryThen k place a b) p f h = elim (stands_parts f (second_simple k p ++ second_block a (past_simple k p)) (second_block b (past_simple k p)) h) [
+    | inl i ↦ elim (stands_parts f (second_simple k p) (second_block a (past_simple k p)) i) [
+      | inl j ↦ (
+          let s = step_found k p f j in
+          let g = some_block a in
+          (k, k ∷ g.0, inl (g.0, g.1, refl), late_front p (k ∷ []) g.0 k s.0, s.1))
+      | inr j ↦ (
+          let s = found_in_block a (past_simple k p) f j in
+          (s.0, k ∷ s.1, inl (s.1, s.2, refl), late_more k p s.1 s.0 s.3, s.4))
+    ]
+    | inr i ↦ (
+        let s = found_in_block b (past_simple k p) f i in
+        (s.0, k ∷ s.1, inr (s.1, s.2, refl), late_more k p s.1 s.0 s.3, s.4))
+  ]
+  found_in (Case place e arms) p f h = found_in_arms arms p f h
+
+  found_in_arms : (arms : Arms) (p : Written) (f : Fault) → StandsIn f (second_arms arms p) → Found p (λ path. ThroughArms arms path) f
+  found_in_arms (Last b) p f h = found_in_block b p f h
+  found_in_arms (Arm constants b arms) p f h = elim (stands_parts f (second_block b p) (second_arms arms p) h) [
+    | inl i ↦ (let s = found_in_block b p f i in (s.0, s.1, inl s.2, s.3, s.4))
+    | inr i ↦ (let s = found_in_arms arms p f i in (s.0, s.1, inr s.2, s.3, s.4))
   ]
 
   found_in_block : (b : CommandBlock) (p : Written) (f : Fault) → StandsIn f (second_block b p) → Found p (λ path. ThroughBlock b path) f
@@ -219,6 +241,24 @@ module _ (k : SimpleCommand) where
         stands_left (twice_at (place_of k)) (second_block b p) (second_else other p) (stands_in_block b p path t h)
     stands_in (If place e b other) p path (inr t) h =
         stands_right (twice_at (place_of k)) (second_block b p) (second_else other p) (stands_in_else other p path t h)
+    stands_in (TryThen j place a b) p path (inl t) h =
+        stands_left (twice_at (place_of k)) (second_simple j p ++ second_block a (past_simple j p)) (second_block b (past_simple j p))
+        (both_stand j k p t.0 (second_block a (past_simple j p)) (λ i. stands_in_block a (past_simple j p) t.0 t.1 i) (subst (λ (x : Path). Behind p x k) t.2 h))
+    stands_in (TryThen j place a b) p path (inr t) h =
+        let w = both_stand j k p t.0 (second_block b (past_simple j p)) (λ i. stands_in_block b (past_simple j p) t.0 t.1 i) (subst (λ (x : Path). Behind p x k) t.2 h) in
+        elim (stands_parts (twice_at (place_of k)) (second_simple j p) (second_block b (past_simple j p)) w) [
+          | inl x ↦ stands_left (twice_at (place_of k)) (second_simple j p ++ second_block a (past_simple j p)) (second_block b (past_simple j p))
+              (stands_left (twice_at (place_of k)) (second_simple j p) (second_block a (past_simple j p)) x)
+          | inr x ↦ stands_right (twice_at (place_of k)) (second_simple j p ++ second_block a (past_simple j p)) (second_block b (past_simple j p)) x
+        ]
+    stands_in (Case place e arms) p path t h = stands_in_arms arms p path t h
+
+    stands_in_arms : (arms : Arms) (p : Written) (path : Path) → ThroughArms arms path → Behind p path k → StandsIn (twice_at (place_of k)) (second_arms arms p)
+    stands_in_arms (Last b) p path t h = stands_in_block b p path t h
+    stands_in_arms (Arm constants b arms) p path (inl t) h =
+        stands_left (twice_at (place_of k)) (second_block b p) (second_arms arms p) (stands_in_block b p path t h)
+    stands_in_arms (Arm constants b arms) p path (inr t) h =
+        stands_right (twice_at (place_of k)) (second_block b p) (second_arms arms p) (stands_in_arms arms p path t h)
 
     stands_in_block : (b : CommandBlock) (p : Written) (path : Path) → ThroughBlock b path → Behind p path k → StandsIn (twice_at (place_of k)) (second_block b p)
     stands_in_block (Commands cs after) p path t h = stands_in_list cs p path t h

@@ -1,10 +1,12 @@
 -- Whether a list of commands falls, from a place on.
-use Rattle.std.proofs.Common.{◌≡◌, ℕ, zero, suc, ◌+◌, ◌<◌, ◌≤◌, List, [], ◌∷◌, ◌||◌, Bool, false, length, get_or, drop, refl, sym, ap, ◌∙◌, arith, add-one, Some}
+use Rattle.std.proofs.Common.{◌≡◌, ℕ, zero, suc, ◌+◌, ◌<◌, ◌≤◌, List, [], ◌∷◌, ◌||◌, Bool, true, false, length, get_or, drop, refl, sym, ap, ◌∙◌, arith, add-one, Some}
+use Rattle.sap_tree.specs.declared.syntax.Arm.{Arm}
 use Rattle.sap_tree.specs.declared.syntax.Cmd.{Cmd}
 use Rattle.sap_tree.specs.declared.syntax.Block.{Block}
-use Rattle.sap_tree.specs.Trees.{command_of, block_of, else_of}
+use Rattle.sap_tree.specs.Trees.{command_of, block_of, arm_block_of, arms_of, else_of}
 use Rattle.sap_shape.specs.Walk.{falls, falls_block, falls_else}
-use Rattle.sap_shape.specs.Lists.{falls_list}
+use Rattle.sap_shape.specs.Walk as walk
+use Rattle.sap_shape.specs.Lists.{falls_list, falls_arms}
 
 falls_list-drop : (cs : List Cmd) (n : ℕ) (d : Cmd) → n < length cs → falls_list (drop n cs) ≡ (falls (command_of (get_or cs n d)) || falls_list (drop (n + 1) cs))
 unfolding falls_list
@@ -34,4 +36,31 @@ pub falls_else-is : (b : Block) → falls_else (else_of (Some b)) ≡ falls_list
 unfolding falls_list
 falls_else-is b = refl
 
-pub ruleset falling = (falls_list-past, falls_block-is, falls_else-is)
+-- arms
+
+or_assoc : (a b c : Bool) → (a || (b || c)) ≡ ((a || b) || c)
+or_assoc true b c = refl
+or_assoc false b c = refl
+
+pub arms_here : (arms : List Arm) (n : ℕ) (d : Arm) (cs : List Cmd) (b : Bool) → n < length arms → d ≡ get_or arms n d → cs ≡ d.block.commands.items → b ≡ falls_list cs
+    → falls_arms (drop n arms) ≡ (b || falls_arms (drop (n + 1) arms))
+unfolding falls_arms falls_list
+arms_here [] n d cs b h e f t = absurd (omega arith)
+arms_here (arm ∷ arms) zero d cs b h e f t =
+    ap (λ (a : Arm). falls_block (arm_block_of a) || falls_arms arms) (sym e) ∙ ap (λ (x : Bool). x || falls_arms arms) (sym (t ∙ ap (λ (l : List Cmd). falls_list l) f))
+arms_here (arm ∷ arms) (suc n) d cs b h e f t = let r = arms_here arms n d cs b (omega arith) e f t in simp (add-one) (simp (add-one) at r)
+
+pub falls_arms-past : (arms : List Arm) (n : ℕ) → length arms ≤ n → falls_arms (drop n arms) ≡ false
+unfolding falls_arms
+falls_arms-past [] zero h = refl
+falls_arms-past [] (suc n) h = refl
+falls_arms-past (arm ∷ arms) zero h = absurd (omega arith)
+falls_arms-past (arm ∷ arms) (suc n) h = falls_arms-past arms n (omega arith)
+
+pub falls_arms-of : (arms : List Arm) (last : Block) → walk.falls_arms (arms_of arms (block_of last)) ≡ (falls_arms arms || falls_list last.commands.items)
+unfolding falls_arms falls_list
+falls_arms-of [] last = refl
+falls_arms-of (arm ∷ arms) last =
+    ap (λ (b : Bool). falls_block (arm_block_of arm) || b) (falls_arms-of arms last) ∙ or_assoc (falls_block (arm_block_of arm)) (falls_arms arms) (falls_list last.commands.items)
+
+pub ruleset falling = (falls_list-past, falls_arms-past, falls_block-is, falls_else-is, falls_arms-of)

@@ -1,9 +1,9 @@
 -- What the walk knows of the paths through commands: which memories are written, and where each `fall` is.
 use Rattle.std.proofs.Common.{◌≡◌, ◌⊎◌, inl, inr, ℕ, List, [], ◌∷◌, ◌++◌, Bool, true, false, ◌||◌, refl, ap, sym, subst, ◌∙◌, append_assoc, bytes_eq}
 use Rattle.std.proofs.lemmas.Slice.Eq.{bytes_eq-Decides}
-use Rattle.sap_tree.specs.Syntax.{SimpleCommand, Assign, Write, SetTag, SetCellTag, Goto, Fall, Command, Do, Try, If, CommandBlock, Commands, ElseBlock, NoElse, Else, CommandList, NoCommand, AndCommand}
-use Rattle.sap_shape.specs.Paths.{Path, Through, ThroughBlock, ThroughElse, ThroughList, IsFall, UpToFall, UpToFallBlock, UpToFallElse, UpToFallList, IsOfMemory}
-use Rattle.sap_shape.specs.Walk.{Written, past_simple, past, past_block, past_else, past_list, is_fall, falls, falls_block, falls_else, falls_list, entering_simple, entering, entering_block, entering_else, entering_list}
+use Rattle.sap_tree.specs.Syntax.{SimpleCommand, Assign, Write, SetTag, SetCellTag, Goto, Fall, Command, Do, Try, If, TryThen, Case, Arms, Last, Arm, CommandBlock, Commands, ElseBlock, NoElse, Else, CommandList, NoCommand, AndCommand}
+use Rattle.sap_shape.specs.Paths.{Path, Through, ThroughBlock, ThroughElse, ThroughArms, ThroughList, IsFall, UpToFall, UpToFallBlock, UpToFallElse, UpToFallArms, UpToFallList, IsOfMemory}
+use Rattle.sap_shape.specs.Walk.{Written, past_simple, past, past_block, past_else, past_arms, past_list, is_fall, falls, falls_block, falls_else, falls_arms, falls_list, entering_simple, entering, entering_block, entering_else, entering_arms, entering_list}
 
 pub or_of : (a b : Bool) → (a || b) ≡ true → (a ≡ true) ⊎ (b ≡ true)
 or_of true b h = inl refl
@@ -91,8 +91,14 @@ mutual
   some_path (Do k) = (k ∷ [], refl)
   some_path (Try k place b) = (k ∷ [], inl refl)
   some_path (If place e b other) = let f = some_block b in (f.0, inl f.1)
+  some_path (TryThen k place a b) = let f = some_block a in (k ∷ f.0, inl (f.0, f.1, refl))
+  some_path (Case place e arms) = some_arms arms
 
-  some_block : (b : CommandBlock) → (path : Path) × ThroughBlock b path
+  some_arms : (arms : Arms) → (path : Path) × ThroughArms arms path
+  some_arms (Last b) = some_block b
+  some_arms (Arm constants b arms) = let f = some_block b in (f.0, inl f.1)
+
+  pub some_block : (b : CommandBlock) → (path : Path) × ThroughBlock b path
   some_block (Commands cs after) = some_list cs
 
   pub some_list : (cs : CommandList) → (path : Path) × ThroughList cs path
@@ -116,6 +122,22 @@ module _ (m : List ℕ) where
     past_found (If place e b other) p h = elim (or_of (past_block b p m) (past_else other p m) h) [
       | inl i ↦ (let f = past_block_found b p i in (f.0, inl f.1, f.2))
       | inr i ↦ (let f = past_else_found other p i in (f.0, inr f.1, f.2))
+    ]
+    past_found (TryThen k place a b) p h = elim (or_of (past_block a (past_simple k p) m) (past_block b (past_simple k p) m) h) [
+      | inl i ↦ (
+          let f = past_block_found a (past_simple k p) i in
+          (k ∷ f.0, inl (f.0, f.1, refl), did_more k p f.0 m f.2))
+      | inr i ↦ (
+          let f = past_block_found b (past_simple k p) i in
+          (k ∷ f.0, inr (f.0, f.1, refl), did_more k p f.0 m f.2))
+    ]
+    past_found (Case place e arms) p h = past_arms_found arms p h
+
+    past_arms_found : (arms : Arms) (p : Written) → past_arms arms p m ≡ true → (path : Path) × ThroughArms arms path × Did p path m
+    past_arms_found (Last b) p h = past_block_found b p h
+    past_arms_found (Arm constants b arms) p h = elim (or_of (past_block b p m) (past_arms arms p m) h) [
+      | inl i ↦ (let f = past_block_found b p i in (f.0, inl f.1, f.2))
+      | inr i ↦ (let f = past_arms_found arms p i in (f.0, inr f.1, f.2))
     ]
 
     past_block_found : (b : CommandBlock) (p : Written) → past_block b p m ≡ true → (path : Path) × ThroughBlock b path × Did p path m
@@ -148,6 +170,18 @@ module _ (m : List ℕ) where
         (found_past_block b (past_simple k p) t.0 t.1 (did_less k p t.0 m (subst (λ (x : Path). Did p x m) t.2 d)))
     found_past (If place e b other) p path (inl t) d = or_left (past_block b p m) (past_else other p m) (found_past_block b p path t d)
     found_past (If place e b other) p path (inr t) d = or_right (past_block b p m) (past_else other p m) (found_past_else other p path t d)
+    found_past (TryThen k place a b) p path (inl t) d =
+        or_left (past_block a (past_simple k p) m) (past_block b (past_simple k p) m)
+        (found_past_block a (past_simple k p) t.0 t.1 (did_less k p t.0 m (subst (λ (x : Path). Did p x m) t.2 d)))
+    found_past (TryThen k place a b) p path (inr t) d =
+        or_right (past_block a (past_simple k p) m) (past_block b (past_simple k p) m)
+        (found_past_block b (past_simple k p) t.0 t.1 (did_less k p t.0 m (subst (λ (x : Path). Did p x m) t.2 d)))
+    found_past (Case place e arms) p path t d = found_past_arms arms p path t d
+
+    found_past_arms : (arms : Arms) (p : Written) (path : Path) → ThroughArms arms path → Did p path m → past_arms arms p m ≡ true
+    found_past_arms (Last b) p path t d = found_past_block b p path t d
+    found_past_arms (Arm constants b arms) p path (inl t) d = or_left (past_block b p m) (past_arms arms p m) (found_past_block b p path t d)
+    found_past_arms (Arm constants b arms) p path (inr t) d = or_right (past_block b p m) (past_arms arms p m) (found_past_arms arms p path t d)
 
     pub found_past_block : (b : CommandBlock) (p : Written) (path : Path) → ThroughBlock b path → Did p path m → past_block b p m ≡ true
     found_past_block (Commands cs after) p path t d = found_past_list cs p path t d
@@ -195,6 +229,21 @@ mutual
     | inl i ↦ (let f = falls_block_found b i in (f.0, inl f.1))
     | inr i ↦ (let f = falls_else_found other i in (f.0, inr f.1))
   ]
+  falls_found (TryThen k place a b) h = elim (or_of (is_fall k) (falls_block a || falls_block b) h) [
+    | inl i ↦ (k ∷ [], inl (fall_is k i, refl))
+    | inr i ↦ elim (or_of (falls_block a) (falls_block b) i) [
+      | inl j ↦ (let f = falls_block_found a j in (k ∷ f.0, inr (inl (f.0, f.1, refl))))
+      | inr j ↦ (let f = falls_block_found b j in (k ∷ f.0, inr (inr (f.0, f.1, refl))))
+    ]
+  ]
+  falls_found (Case place e arms) h = falls_arms_found arms h
+
+  falls_arms_found : (arms : Arms) → falls_arms arms ≡ true → (path : Path) × UpToFallArms arms path
+  falls_arms_found (Last b) h = falls_block_found b h
+  falls_arms_found (Arm constants b arms) h = elim (or_of (falls_block b) (falls_arms arms) h) [
+    | inl i ↦ (let f = falls_block_found b i in (f.0, inl f.1))
+    | inr i ↦ (let f = falls_arms_found arms i in (f.0, inr f.1))
+  ]
 
   pub falls_block_found : (b : CommandBlock) → falls_block b ≡ true → (path : Path) × UpToFallBlock b path
   falls_block_found (Commands cs after) h = falls_list_found cs h
@@ -220,6 +269,17 @@ mutual
   found_falls (Try k place b) path (inr t) = or_right (is_fall k) (falls_block b) (found_falls_block b t.0 t.1)
   found_falls (If place e b other) path (inl t) = or_left (falls_block b) (falls_else other) (found_falls_block b path t)
   found_falls (If place e b other) path (inr t) = or_right (falls_block b) (falls_else other) (found_falls_else other path t)
+  found_falls (TryThen k place a b) path (inl t) = or_left (is_fall k) (falls_block a || falls_block b) (is_that_fall k t.0)
+  found_falls (TryThen k place a b) path (inr (inl t)) =
+      or_right (is_fall k) (falls_block a || falls_block b) (or_left (falls_block a) (falls_block b) (found_falls_block a t.0 t.1))
+  found_falls (TryThen k place a b) path (inr (inr t)) =
+      or_right (is_fall k) (falls_block a || falls_block b) (or_right (falls_block a) (falls_block b) (found_falls_block b t.0 t.1))
+  found_falls (Case place e arms) path t = found_falls_arms arms path t
+
+  found_falls_arms : (arms : Arms) (path : Path) → UpToFallArms arms path → falls_arms arms ≡ true
+  found_falls_arms (Last b) path t = found_falls_block b path t
+  found_falls_arms (Arm constants b arms) path (inl t) = or_left (falls_block b) (falls_arms arms) (found_falls_block b path t)
+  found_falls_arms (Arm constants b arms) path (inr t) = or_right (falls_block b) (falls_arms arms) (found_falls_arms arms path t)
 
   pub found_falls_block : (b : CommandBlock) (path : Path) → UpToFallBlock b path → falls_block b ≡ true
   found_falls_block (Commands cs after) path t = found_falls_list cs path t
@@ -255,6 +315,25 @@ module _ (m : List ℕ) where
     entering_found (If place e b other) p h = elim (or_of (entering_block b p m) (entering_else other p m) h) [
       | inl i ↦ (let f = entering_block_found b p i in (f.0, inl f.1, f.2))
       | inr i ↦ (let f = entering_else_found other p i in (f.0, inr f.1, f.2))
+    ]
+    entering_found (TryThen k place a b) p h = elim (or_of (entering_simple k p m) (entering_block a (past_simple k p) m || entering_block b (past_simple k p) m) h) [
+      | inl i ↦ (let f = step_entering k p i in (k ∷ [], inl (f.0, refl), inl f.1))
+      | inr i ↦ elim (or_of (entering_block a (past_simple k p) m) (entering_block b (past_simple k p) m) i) [
+        | inl j ↦ (
+            let f = entering_block_found a (past_simple k p) j in
+            (k ∷ f.0, inr (inl (f.0, f.1, refl)), did_more k p f.0 m f.2))
+        | inr j ↦ (
+            let f = entering_block_found b (past_simple k p) j in
+            (k ∷ f.0, inr (inr (f.0, f.1, refl)), did_more k p f.0 m f.2))
+      ]
+    ]
+    entering_found (Case place e arms) p h = entering_arms_found arms p h
+
+    entering_arms_found : (arms : Arms) (p : Written) → entering_arms arms p m ≡ true → (path : Path) × UpToFallArms arms path × Did p path m
+    entering_arms_found (Last b) p h = entering_block_found b p h
+    entering_arms_found (Arm constants b arms) p h = elim (or_of (entering_block b p m) (entering_arms arms p m) h) [
+      | inl i ↦ (let f = entering_block_found b p i in (f.0, inl f.1, f.2))
+      | inr i ↦ (let f = entering_arms_found arms p i in (f.0, inr f.1, f.2))
     ]
 
     pub entering_block_found : (b : CommandBlock) (p : Written) → entering_block b p m ≡ true → (path : Path) × UpToFallBlock b path × Did p path m
@@ -298,6 +377,22 @@ module _ (m : List ℕ) where
         (found_entering_block b (past_simple k p) t.0 t.1 (did_less k p t.0 m (subst (λ (x : Path). Did p x m) t.2 d)))
     found_entering (If place e b other) p path (inl t) d = or_left (entering_block b p m) (entering_else other p m) (found_entering_block b p path t d)
     found_entering (If place e b other) p path (inr t) d = or_right (entering_block b p m) (entering_else other p m) (found_entering_else other p path t d)
+    found_entering (TryThen k place a b) p path (inl t) d =
+        or_left (entering_simple k p m) (entering_block a (past_simple k p) m || entering_block b (past_simple k p) m) (fall_entering k p path t.0 t.1 d)
+    found_entering (TryThen k place a b) p path (inr (inl t)) d =
+        or_right (entering_simple k p m) (entering_block a (past_simple k p) m || entering_block b (past_simple k p) m)
+        (or_left (entering_block a (past_simple k p) m) (entering_block b (past_simple k p) m)
+        (found_entering_block a (past_simple k p) t.0 t.1 (did_less k p t.0 m (subst (λ (x : Path). Did p x m) t.2 d))))
+    found_entering (TryThen k place a b) p path (inr (inr t)) d =
+        or_right (entering_simple k p m) (entering_block a (past_simple k p) m || entering_block b (past_simple k p) m)
+        (or_right (entering_block a (past_simple k p) m) (entering_block b (past_simple k p) m)
+        (found_entering_block b (past_simple k p) t.0 t.1 (did_less k p t.0 m (subst (λ (x : Path). Did p x m) t.2 d))))
+    found_entering (Case place e arms) p path t d = found_entering_arms arms p path t d
+
+    found_entering_arms : (arms : Arms) (p : Written) (path : Path) → UpToFallArms arms path → Did p path m → entering_arms arms p m ≡ true
+    found_entering_arms (Last b) p path t d = found_entering_block b p path t d
+    found_entering_arms (Arm constants b arms) p path (inl t) d = or_left (entering_block b p m) (entering_arms arms p m) (found_entering_block b p path t d)
+    found_entering_arms (Arm constants b arms) p path (inr t) d = or_right (entering_block b p m) (entering_arms arms p m) (found_entering_arms arms p path t d)
 
     pub found_entering_block : (b : CommandBlock) (p : Written) (path : Path) → UpToFallBlock b path → Did p path m → entering_block b p m ≡ true
     found_entering_block (Commands cs after) p path t d = found_entering_list cs p path t d
@@ -329,6 +424,21 @@ mutual
       (f.0, inr (t.0 ++ f.0, f.1, ap (λ (x : Path). x ++ f.0) t.2))
   onward (If place e b other) path (inl t) = let f = onward_block b path t in (f.0, inl f.1)
   onward (If place e b other) path (inr t) = let f = onward_else other path t in (f.0, inr f.1)
+  onward (TryThen k place a b) path (inl t) =
+      let f = some_block a in
+      (f.0, inl (f.0, f.1, ap (λ (x : Path). x ++ f.0) t.1))
+  onward (TryThen k place a b) path (inr (inl t)) =
+      let f = onward_block a t.0 t.1 in
+      (f.0, inl (t.0 ++ f.0, f.1, ap (λ (x : Path). x ++ f.0) t.2))
+  onward (TryThen k place a b) path (inr (inr t)) =
+      let f = onward_block b t.0 t.1 in
+      (f.0, inr (t.0 ++ f.0, f.1, ap (λ (x : Path). x ++ f.0) t.2))
+  onward (Case place e arms) path t = onward_arms arms path t
+
+  onward_arms : (arms : Arms) (path : Path) → UpToFallArms arms path → (rest : Path) × ThroughArms arms (path ++ rest)
+  onward_arms (Last b) path t = onward_block b path t
+  onward_arms (Arm constants b arms) path (inl t) = let f = onward_block b path t in (f.0, inl f.1)
+  onward_arms (Arm constants b arms) path (inr t) = let f = onward_arms arms path t in (f.0, inr f.1)
 
   pub onward_block : (b : CommandBlock) (path : Path) → UpToFallBlock b path → (rest : Path) × ThroughBlock b (path ++ rest)
   onward_block (Commands cs after) path t = onward_list cs path t

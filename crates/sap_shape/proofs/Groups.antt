@@ -5,6 +5,7 @@ use Rattle.sap_tree.specs.declared.syntax.State.{State, out-State}
 use Rattle.sap_tree.specs.Trees.{state_of, states_of}
 use Rattle.sap_tree.specs.declared.syntax.Decl.{Decl}
 use Rattle.sap_tree.specs.Parts.{tree_of}
+use Rattle.sap_tree.specs.declared.version.Version.{Version}
 use Rattle.sap_tree.specs.Syntax.{StateTree}
 use Rattle.sap_tree.proofs.Views.{state_of-out}
 use Rattle.sap_names.specs.declared.fault.Fault.{Fault}
@@ -88,11 +89,11 @@ module _ (p : Written) where
       ++ (if x then second_states (out-State s).children.items (entering_list (out-State s).body.commands.items p) else [])) (sym e ∙ t)
       ∙ append-nil (second_list (out-State s).body.commands.items p)
 
-pub design_is : (ds : List Decl) (ss ts us rs : List State) (es : List Entity) (above : List (List ℕ)) (w : Written)
-    → es ≡ entities_of (tree_of ds ss) → ts ≡ ss → us ≡ ss → rs ≡ ss → above ≡ [] → w ≡ fresh
-    → shape_faults (tree_of ds ss) ≡ group_shape es ts above us ++ second_states rs w
+pub design_is : (v : Version) (ds : List Decl) (ss ts us rs : List State) (es : List Entity) (above : List (List ℕ)) (w : Written)
+    → es ≡ entities_of (tree_of v ds ss) → ts ≡ ss → us ≡ ss → rs ≡ ss → above ≡ [] → w ≡ fresh
+    → shape_faults (tree_of v ds ss) ≡ group_shape es ts above us ++ second_states rs w
 unfolding group_shape second_states
-design_is ds ss ts us rs es above w a b c d e f = rw (a, b, c, d, e, f) refl
+design_is v ds ss ts us rs es above w a b c d e f = rw (a, b, c, d, e, f) refl
 
 pub ruleset states = (state_shape-is, state_falling, state_staying)
 

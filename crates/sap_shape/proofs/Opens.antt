@@ -2,17 +2,19 @@
 use Rattle.std.proofs.Common.{◌≡◌, ℕ, zero, suc, ◌+◌, ◌-◌, ◌<◌, ◌≤◌, List, [], ◌∷◌, ◌++◌, length, get_or, take, drop, refl, sym, ap, ◌∙◌, arith, add-one, Some, true, append_assoc}
 use Rattle.std.specs.Prelude.{Option}
 use Rattle.sap_tree.specs.declared.place.Place.{Place}
+use Rattle.sap_tree.specs.declared.syntax.Arm.{Arm}
 use Rattle.sap_tree.specs.declared.syntax.Cmd.{Cmd}
 use Rattle.sap_tree.specs.declared.syntax.Block.{Block}
 use Rattle.sap_tree.specs.Syntax.{Expression, Command, If, ElseBlock}
-use Rattle.sap_tree.specs.Trees.{command_of, block_of, else_of}
+use Rattle.sap_tree.specs.Trees.{command_of, block_of, arm_block_of, arms_of, else_of}
 use Rattle.sap_names.specs.declared.fault.Fault.{Fault}
 use Rattle.sap_names.specs.declared.kind.Code.TheVariants.{E10}
 use Rattle.sap_names.specs.NameFaults.{fault_if}
 use Rattle.sap_names.specs.Best.{best_of}
 use Rattle.sap_names.proofs.Faults.{both}
 use Rattle.sap_shape.specs.Closing.{open_faults, open_block_faults, open_else_faults, closing_faults, closing_else_faults, last_faults}
-use Rattle.sap_shape.specs.Lists.{open_list, closing_list}
+use Rattle.sap_shape.specs.Closing as closing
+use Rattle.sap_shape.specs.Lists.{open_list, closing_list, open_arms, closing_arms}
 
 pub open_list-drop : (cs : List Cmd) (n : ℕ) (d : Cmd) → n < length cs
     → open_list (drop n cs) ≡ open_faults (command_of (get_or cs n d)) ++ open_list (drop (n + 1) cs)
@@ -78,6 +80,58 @@ unfolding closing_list
 closing_if c x place after one list other h e =
     ap (λ (k : Command). last_faults k after) h ∙ ap (λ (l : List Cmd). closing_list l one.after ++ closing_else_faults other place) (sym e)
 
-pub ruleset opens = (open_list-drop, open_list-past, closing_none)
+-- arms
 
-pub ruleset blocks = (open_block-is, open_else-is, closing_block-is, closing_else-is)
+open_arms-drop : (arms : List Arm) (n : ℕ) (d : Arm) (cs : List Cmd) → n < length arms → d ≡ get_or arms n d → cs ≡ d.block.commands.items
+    → open_arms (drop n arms) ≡ open_list cs ++ open_arms (drop (n + 1) arms)
+unfolding open_arms open_list
+open_arms-drop [] n d cs h e f = absurd (omega arith)
+open_arms-drop (arm ∷ arms) zero d cs h e f =
+    ap (λ (a : Arm). open_block_faults (arm_block_of a) ++ open_arms arms) (sym e) ∙ ap (λ (l : List Cmd). open_list l ++ open_arms arms) (sym f)
+open_arms-drop (arm ∷ arms) (suc n) d cs h e f = let r = open_arms-drop arms n d cs (omega arith) e f in simp (add-one) (simp (add-one) at r)
+
+pub open_arms-past : (arms : List Arm) (n : ℕ) → length arms ≤ n → open_arms (drop n arms) ≡ []
+unfolding open_arms
+open_arms-past [] zero h = refl
+open_arms-past [] (suc n) h = refl
+open_arms-past (arm ∷ arms) zero h = absurd (omega arith)
+open_arms-past (arm ∷ arms) (suc n) h = open_arms-past arms n (omega arith)
+
+pub open_arms_step : (arms : List Arm) (n : ℕ) (d : Arm) (cs : List Cmd) (o m : Option Fault) → n < length arms → d ≡ get_or arms n d → cs ≡ d.block.commands.items
+    → m ≡ best_of o (open_list cs) → best_of m (open_arms (drop (n + 1) arms)) ≡ best_of o (open_arms (drop n arms))
+open_arms_step arms n d cs o m h e f k = both o m _ (open_list cs) (open_arms (drop (n + 1) arms)) _ k refl (open_arms-drop arms n d cs h e f)
+
+pub open_arms-of : (arms : List Arm) (last : Block) → closing.open_arms_faults (arms_of arms (block_of last)) ≡ open_arms arms ++ open_list last.commands.items
+unfolding open_arms open_list
+open_arms-of [] last = refl
+open_arms-of (arm ∷ arms) last =
+    ap (λ (l : List Fault). open_block_faults (arm_block_of arm) ++ l) (open_arms-of arms last) ∙ sym (append_assoc (open_block_faults (arm_block_of arm)) (open_arms arms) (open_list last.commands.items))
+
+closing_arms-drop : (arms : List Arm) (n : ℕ) (d : Arm) (cs : List Cmd) → n < length arms → d ≡ get_or arms n d → cs ≡ d.block.commands.items
+    → closing_arms (drop n arms) ≡ closing_list cs d.block.after ++ closing_arms (drop (n + 1) arms)
+unfolding closing_arms closing_list
+closing_arms-drop [] n d cs h e f = absurd (omega arith)
+closing_arms-drop (arm ∷ arms) zero d cs h e f =
+    ap (λ (a : Arm). closing_faults (arm_block_of a) ++ closing_arms arms) (sym e) ∙ ap (λ (l : List Cmd). closing_list l d.block.after ++ closing_arms arms) (sym f)
+closing_arms-drop (arm ∷ arms) (suc n) d cs h e f = let r = closing_arms-drop arms n d cs (omega arith) e f in simp (add-one) (simp (add-one) at r)
+
+pub closing_arms-past : (arms : List Arm) (n : ℕ) → length arms ≤ n → closing_arms (drop n arms) ≡ []
+unfolding closing_arms
+closing_arms-past [] zero h = refl
+closing_arms-past [] (suc n) h = refl
+closing_arms-past (arm ∷ arms) zero h = absurd (omega arith)
+closing_arms-past (arm ∷ arms) (suc n) h = closing_arms-past arms n (omega arith)
+
+pub closing_arms_step : (arms : List Arm) (n : ℕ) (d : Arm) (cs : List Cmd) (o m : Option Fault) → n < length arms → d ≡ get_or arms n d → cs ≡ d.block.commands.items
+    → m ≡ best_of o (closing_list cs d.block.after) → best_of m (closing_arms (drop (n + 1) arms)) ≡ best_of o (closing_arms (drop n arms))
+closing_arms_step arms n d cs o m h e f k = both o m _ (closing_list cs d.block.after) (closing_arms (drop (n + 1) arms)) _ k refl (closing_arms-drop arms n d cs h e f)
+
+pub closing_arms-of : (arms : List Arm) (last : Block) → closing.closing_arms_faults (arms_of arms (block_of last)) ≡ closing_arms arms ++ closing_list last.commands.items last.after
+unfolding closing_arms closing_list
+closing_arms-of [] last = refl
+closing_arms-of (arm ∷ arms) last =
+    ap (λ (l : List Fault). closing_faults (arm_block_of arm) ++ l) (closing_arms-of arms last) ∙ sym (append_assoc (closing_faults (arm_block_of arm)) (closing_arms arms) (closing_list last.commands.items last.after))
+
+pub ruleset opens = (open_list-drop, open_list-past, open_arms-past, closing_arms-past, closing_none)
+
+pub ruleset blocks = (open_block-is, open_else-is, open_arms-of, closing_block-is, closing_else-is, closing_arms-of)

@@ -1,16 +1,24 @@
 -- The sizes of commands and states, by which recursions end.
 use Rattle.std.proofs.Common.{◌≡◌, ap, ℕ, zero, suc, ◌+◌, ◌<◌, length, get_or, arith, List, [], ◌∷◌}
+use Rattle.sap_tree.specs.declared.syntax.Arm.{Arm}
 use Rattle.sap_tree.specs.declared.syntax.Cmd.{Cmd}
 use Rattle.sap_tree.specs.declared.syntax.State.{State, out-State}
-use Rattle.sap_tree.specs.Trees.{command_of, commands_of, state_of, states_of}
+use Rattle.sap_tree.specs.Trees.{command_of, commands_of, arm_block_of, arms_before, state_of, states_of}
 use Rattle.sap_tree.proofs.Views.{state_of-out}
-use Rattle.sap_tree.specs.Syntax.{Command, Do, Try, If, CommandBlock, Commands, ElseBlock, NoElse, Else, CommandList, NoCommand, AndCommand, StateTree, StateOf, StateList, NoState, AndState}
+use Rattle.sap_tree.specs.Syntax as tree
+use Rattle.sap_tree.specs.Syntax.{Command, Do, Try, If, TryThen, Case, Arms, Last, CommandBlock, Commands, ElseBlock, NoElse, Else, CommandList, NoCommand, AndCommand, StateTree, StateOf, StateList, NoState, AndState}
 
 abbrev mutual
   pub command_weight : Command → ℕ
   command_weight (Do k) = 1
   command_weight (Try k place handler) = block_weight handler + 3
   command_weight (If place x yes_block no_block) = block_weight yes_block + else_weight no_block + 2
+  command_weight (TryThen k place accepted refused) = block_weight accepted + block_weight refused + 2
+  command_weight (Case place x arms) = arms_weight arms + 2
+
+  pub arms_weight : Arms → ℕ
+  arms_weight (Last b) = block_weight b
+  arms_weight (tree.Arm constants b arms) = block_weight b + arms_weight arms + 1
 
   pub block_weight : CommandBlock → ℕ
   block_weight (Commands cs after) = commands_weight cs
@@ -31,6 +39,20 @@ abbrev mutual
   states_weight NoState = 1
   states_weight (AndState s rest) = state_weight s + states_weight rest + 1
 
+-- of the arms that code has in a list
+abbrev pub arm_list_weight : List Arm → ℕ
+arm_list_weight [] = 0
+arm_list_weight (arm ∷ arms) = block_weight (arm_block_of arm) + arm_list_weight arms + 1
+
+pub arms_weight-of : (arms : List Arm) (others : Arms) → arms_weight (arms_before arms others) ≡ arm_list_weight arms + arms_weight others
+arms_weight-of [] others = omega arith
+arms_weight-of (arm ∷ arms) others = let r = arms_weight-of arms others in omega (arith, r)
+
+pub arms_weight-in : (arms : List Arm) (n : ℕ) (d : Arm) → n < length arms → block_weight (arm_block_of (get_or arms n d)) < arm_list_weight arms
+arms_weight-in [] n d h = absurd (omega arith)
+arms_weight-in (arm ∷ arms) zero d h = omega arith
+arms_weight-in (arm ∷ arms) (suc n) d h = let r = arms_weight-in arms n d (omega arith) in omega (arith, r)
+
 pub commands_weight-in : (cs : List Cmd) (n : ℕ) (d : Cmd) → n < length cs → command_weight (command_of (get_or cs n d)) < commands_weight (commands_of cs)
 commands_weight-in [] n d h = absurd (omega arith)
 commands_weight-in (c ∷ cs) zero d h = omega arith
@@ -44,4 +66,4 @@ states_weight-in (s ∷ ss) (suc n) d h = let r = states_weight-in ss n d (omega
 pub state_weight-is : (s : State) → state_weight (state_of s) ≡ states_weight (states_of (out-State s).children.items) + 1
 state_weight-is s = ap state_weight (state_of-out s)
 
-pub ruleset weights = (commands_weight-in, states_weight-in, state_weight-is)
+pub ruleset weights = (commands_weight-in, arms_weight-of, arms_weight-in, states_weight-in, state_weight-is)

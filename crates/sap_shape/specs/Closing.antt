@@ -1,7 +1,7 @@
 -- E10: a body must close. A transfer is a `goto` or a `fall`; it stands last, and only there.
 use Rattle.std.specs.Prelude.{List, [], ◌++◌, Bool, true, false, if◌then◌else◌}
 use Rattle.sap_tree.specs.declared.place.Place.{Place}
-use Rattle.sap_tree.specs.Syntax.{SimpleCommand, Assign, Write, SetTag, SetCellTag, Goto, Fall, Command, Do, Try, If, CommandBlock, Commands, ElseBlock, NoElse, Else, CommandList, NoCommand, AndCommand}
+use Rattle.sap_tree.specs.Syntax.{SimpleCommand, Assign, Write, SetTag, SetCellTag, Goto, Fall, Command, Do, Try, If, TryThen, Case, Arms, Last, Arm, CommandBlock, Commands, ElseBlock, NoElse, Else, CommandList, NoCommand, AndCommand}
 use Rattle.sap_names.specs.declared.fault.Fault.{Fault}
 use Rattle.sap_names.specs.declared.kind.Code.TheVariants.{E10}
 use Rattle.sap_names.specs.NameFaults.{fault_if}
@@ -14,12 +14,26 @@ transfer_faults (SetCellTag place target index tag) = []
 transfer_faults (Goto place target) = fault_if true E10 place
 transfer_faults (Fall place) = fault_if true E10 place
 
+abbrev pub is_transfer : SimpleCommand → Bool
+is_transfer (Assign target e) = false
+is_transfer (Write target index e) = false
+is_transfer (SetTag place target tag) = false
+is_transfer (SetCellTag place target index tag) = false
+is_transfer (Goto place target) = true
+is_transfer (Fall place) = true
+
+-- of a `then`: where its command is a transfer, E10 stands at the `then`, and the command has no other; else it is the blocks that count
+abbrev pub then_faults : SimpleCommand → (place : Place) → (blocks : List Fault) → List Fault
+then_faults k place blocks = if is_transfer k then fault_if true E10 place else blocks
+
 -- a command that must be open: no transfer in it
 abbrev mutual
   pub open_faults : Command → List Fault
   open_faults (Do k) = transfer_faults k
   open_faults (Try k place handler) = transfer_faults k ++ open_block_faults handler
   open_faults (If place condition then_block else_block) = open_block_faults then_block ++ open_else_faults else_block
+  open_faults (TryThen k place accepted refused) = then_faults k place (open_block_faults accepted ++ open_block_faults refused)
+  open_faults (Case place e arms) = open_arms_faults arms
 
   pub open_block_faults : CommandBlock → List Fault
   open_block_faults (Commands cs after) = open_list_faults cs
@@ -27,6 +41,10 @@ abbrev mutual
   pub open_else_faults : ElseBlock → List Fault
   open_else_faults NoElse = []
   open_else_faults (Else b) = open_block_faults b
+
+  pub open_arms_faults : Arms → List Fault
+  open_arms_faults (Last b) = open_block_faults b
+  open_arms_faults (Arm constants b arms) = open_block_faults b ++ open_arms_faults arms
 
   pub open_list_faults : CommandList → List Fault
   open_list_faults NoCommand = []
@@ -60,11 +78,17 @@ abbrev mutual
   last_faults (Try k place handler) after =
       last_simple_faults k after ++ last_handler_faults k (open_block_faults handler) (closing_faults handler)
   last_faults (If place condition then_block else_block) after = closing_faults then_block ++ closing_else_faults else_block place
+  last_faults (TryThen k place accepted refused) after = then_faults k place (closing_faults accepted ++ closing_faults refused)
+  last_faults (Case place e arms) after = closing_arms_faults arms
 
   -- without `else` the fault is at the `if`
   pub closing_else_faults : ElseBlock → Place → List Fault
   closing_else_faults NoElse place = fault_if true E10 place
   closing_else_faults (Else b) place = closing_faults b
+
+  pub closing_arms_faults : Arms → List Fault
+  closing_arms_faults (Last b) = closing_faults b
+  closing_arms_faults (Arm constants b arms) = closing_faults b ++ closing_arms_faults arms
 
   -- a list that must close: every command but the last must be open
   pub closing_faults : CommandBlock → List Fault

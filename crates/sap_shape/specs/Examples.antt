@@ -7,6 +7,7 @@ use Rattle.sap_tree.specs.declared.syntax.Kind.{Kind}
 use Rattle.sap_tree.specs.declared.syntax.Kind.TheVariants.{Dynamic, Enforced}
 use Rattle.sap_tree.specs.declared.syntax.Decl.TheVariants.{Register, Memory}
 use Rattle.sap_tree.specs.Syntax.{Expression, Number, Level, Assign, Write, SetTag, Goto, Fall, Command, Do, Try, If, CommandBlock, Commands, NoElse, Else, CommandList, NoCommand, AndCommand, StateTree, StateOf, NoState, AndState, DesignTree}
+use Rattle.sap_tree.specs.declared.version.Version.TheVariants.{One}
 use Rattle.sap_names.specs.declared.fault.Fault.{Fault}
 use Rattle.sap_names.specs.declared.kind.Code.{Code}
 use Rattle.sap_names.specs.declared.kind.Code.TheVariants.{E10, E11, E12, E14, E15, E16, E17}
@@ -42,6 +43,7 @@ leaf name kind body = StateOf (at 1) (named 1 name) kind body NoState
 
 abbrev pub design : CommandBlock → DesignTree
 design body = record {
+  version = One;
   declarations = Memory (at 1) (named 5 (codes "m")) (record { place = at 9; value = 8 }) (record { place = at 11; value = 4 }) (Dynamic (at 12))
       ∷ Register (at 13) (named 14 (codes "x")) (record { place = at 15; value = 8 }) (Dynamic (at 16)) None ∷ [];
   states = AndState (leaf (codes "S") low body) NoState;

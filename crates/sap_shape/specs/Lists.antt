@@ -1,16 +1,17 @@
 -- The faults of shape of lists of commands and of states.
-use Rattle.std.specs.Prelude.{ℕ, List, [], ◌++◌, Bool}
+use Rattle.std.specs.Prelude.{ℕ, List, [], ◌∷◌, ◌++◌, Bool, false, ◌||◌}
 use Rattle.sap_tree.specs.declared.place.Place.{Place}
+use Rattle.sap_tree.specs.declared.syntax.Arm.{Arm}
 use Rattle.sap_tree.specs.declared.syntax.Cmd.{Cmd}
 use Rattle.sap_tree.specs.declared.syntax.State.{State}
-use Rattle.sap_tree.specs.Trees.{commands_of, states_of}
+use Rattle.sap_tree.specs.Trees.{arm_block_of, commands_of, states_of}
 use Rattle.sap_names.specs.declared.fault.Fault.{Fault}
 use Rattle.sap_names.specs.declared.entity.Entity.{Entity}
 use Rattle.sap_names.specs.Entities.{entities_of}
 use Rattle.sap_tree.specs.Syntax.{DesignTree}
 use Rattle.sap_shape.specs.Closing as closing
 use Rattle.sap_shape.specs.Walk as paths
-use Rattle.sap_shape.specs.Walk.{Written}
+use Rattle.sap_shape.specs.Walk.{Written, fresh, either}
 use Rattle.sap_shape.specs.ShapeFaults as shape
 use Rattle.sap_shape.specs.ShapeFaults.{Body, is_in}
 
@@ -44,6 +45,36 @@ second_list cs p = paths.second_list (commands_of cs) p
 
 unfoldable pub second_states : List State → Written → List Fault
 second_states states p = paths.second_states (states_of states) p
+
+-- the arms of a `case`, without the block after `else`
+
+unfoldable pub open_arms : List Arm → List Fault
+open_arms [] = []
+open_arms (arm ∷ arms) = closing.open_block_faults (arm_block_of arm) ++ open_arms arms
+
+unfoldable pub closing_arms : List Arm → List Fault
+closing_arms [] = []
+closing_arms (arm ∷ arms) = closing.closing_faults (arm_block_of arm) ++ closing_arms arms
+
+unfoldable pub arms_shape : List Entity → Body → List Arm → List Fault
+arms_shape es at [] = []
+arms_shape es at (arm ∷ arms) = shape.block_shape es at (arm_block_of arm) ++ arms_shape es at arms
+
+unfoldable pub past_arms : List Arm → Written → Written
+past_arms [] p = fresh
+past_arms (arm ∷ arms) p = either (paths.past_block (arm_block_of arm) p) (past_arms arms p)
+
+unfoldable pub entering_arms : List Arm → Written → Written
+entering_arms [] p = fresh
+entering_arms (arm ∷ arms) p = either (paths.entering_block (arm_block_of arm) p) (entering_arms arms p)
+
+unfoldable pub falls_arms : List Arm → Bool
+falls_arms [] = false
+falls_arms (arm ∷ arms) = paths.falls_block (arm_block_of arm) || falls_arms arms
+
+unfoldable pub second_arms : List Arm → Written → List Fault
+second_arms [] p = []
+second_arms (arm ∷ arms) p = paths.second_block (arm_block_of arm) p ++ second_arms arms p
 
 -- all faults of shape that are found in a design
 abbrev pub shape_faults : DesignTree → List Fault

@@ -6,7 +6,8 @@ use Rattle.sap_tree.specs.declared.place.Spot.{Spot}
 use Rattle.sap_tree.specs.declared.syntax.Kind.{Kind}
 use Rattle.sap_tree.specs.declared.syntax.Kind.TheVariants.{Dynamic, Enforced}
 use Rattle.sap_tree.specs.declared.syntax.Decl.TheVariants.{Memory}
-use Rattle.sap_tree.specs.Syntax.{Expression, Number, SimpleCommand, Assign, Write, SetTag, SetCellTag, Goto, Fall, Command, Do, Try, If, CommandBlock, Commands, ElseBlock, NoElse, Else, CommandList, NoCommand, AndCommand, StateTree, StateOf, StateList, NoState, AndState, DesignTree}
+use Rattle.sap_tree.specs.declared.version.Version.TheVariants.{One}
+use Rattle.sap_tree.specs.Syntax.{Expression, Number, SimpleCommand, Assign, Write, SetTag, SetCellTag, Goto, Fall, Command, Do, Try, If, TryThen, Case, Arms, Last, Arm, CommandBlock, Commands, ElseBlock, NoElse, Else, CommandList, NoCommand, AndCommand, StateTree, StateOf, StateList, NoState, AndState, DesignTree}
 use Rattle.sap_names.specs.declared.fault.Fault.{Fault}
 use Rattle.sap_names.specs.declared.kind.Code.TheVariants.{E14}
 
@@ -14,12 +15,16 @@ use Rattle.sap_names.specs.declared.kind.Code.TheVariants.{E14}
 abbrev pub Path : Type 0
 Path = List SimpleCommand
 
--- Through a command: k, and for `k otherwise { h }` also k and then h, where k is refused; for an `if` a path through either branch.
+-- Through a command: k, and for `k otherwise { h }` also k and then h, where k is refused; for an `if` a path through either branch; for
+-- `k then { a } otherwise { b }` k and then a, or k and then b; for a `case` a path through any one of its blocks.
 abbrev mutual
   pub Through : Command → Path → Type 0
   Through (Do k) path = path ≡ k ∷ []
   Through (Try k place handler) path = (path ≡ k ∷ []) ⊎ ((handled : Path) × ThroughBlock handler handled × (path ≡ k ∷ handled))
   Through (If place condition then_block else_block) path = ThroughBlock then_block path ⊎ ThroughElse else_block path
+  Through (TryThen k place accepted refused) path =
+      ((behind : Path) × ThroughBlock accepted behind × (path ≡ k ∷ behind)) ⊎ ((behind : Path) × ThroughBlock refused behind × (path ≡ k ∷ behind))
+  Through (Case place e arms) path = ThroughArms arms path
 
   pub ThroughBlock : CommandBlock → Path → Type 0
   ThroughBlock (Commands cs after) path = ThroughList cs path
@@ -27,6 +32,10 @@ abbrev mutual
   pub ThroughElse : ElseBlock → Path → Type 0
   ThroughElse NoElse path = path ≡ []
   ThroughElse (Else b) path = ThroughBlock b path
+
+  pub ThroughArms : Arms → Path → Type 0
+  ThroughArms (Last b) path = ThroughBlock b path
+  ThroughArms (Arm constants b arms) path = ThroughBlock b path ⊎ ThroughArms arms path
 
   -- one command after another
   pub ThroughList : CommandList → Path → Type 0
@@ -42,13 +51,17 @@ IsFall (Goto place target) = ⊥
 IsFall (Fall place) = Unit {0}
 
 -- Up to a `fall` that enters a child. In `fall otherwise { h }` it is this one, or it is refused, has entered no child, and the path goes
--- on up to a `fall` in h.
+-- on up to a `fall` in h. With `then` it goes on up to a `fall` in either block.
 abbrev mutual
   pub UpToFall : Command → Path → Type 0
   UpToFall (Do k) path = IsFall k × (path ≡ k ∷ [])
   UpToFall (Try k place handler) path =
       (IsFall k × (path ≡ k ∷ [])) ⊎ ((handled : Path) × UpToFallBlock handler handled × (path ≡ k ∷ handled))
   UpToFall (If place condition then_block else_block) path = UpToFallBlock then_block path ⊎ UpToFallElse else_block path
+  UpToFall (TryThen k place accepted refused) path =
+      (IsFall k × (path ≡ k ∷ []))
+      ⊎ (((behind : Path) × UpToFallBlock accepted behind × (path ≡ k ∷ behind)) ⊎ ((behind : Path) × UpToFallBlock refused behind × (path ≡ k ∷ behind)))
+  UpToFall (Case place e arms) path = UpToFallArms arms path
 
   pub UpToFallBlock : CommandBlock → Path → Type 0
   UpToFallBlock (Commands cs after) path = UpToFallList cs path
@@ -56,6 +69,10 @@ abbrev mutual
   pub UpToFallElse : ElseBlock → Path → Type 0
   UpToFallElse NoElse path = ⊥
   UpToFallElse (Else b) path = UpToFallBlock b path
+
+  pub UpToFallArms : Arms → Path → Type 0
+  UpToFallArms (Last b) path = UpToFallBlock b path
+  UpToFallArms (Arm constants b arms) path = UpToFallBlock b path ⊎ UpToFallArms arms path
 
   -- in the first command, or through it and then in one of the others
   pub UpToFallList : CommandList → Path → Type 0
@@ -143,6 +160,7 @@ low p = Enforced (mention p (codes "low")) None
 
 abbrev pub two_states : (parent child : CommandBlock) → DesignTree
 two_states parent child = record {
+  version = One;
   declarations = Memory (at 1 1) (mention (at 1 5) (codes "m")) (record { place = at 1 9; value = 8 }) (record { place = at 1 11; value = 4 }) (Dynamic (at 1 14)) ∷ [];
   states = AndState (StateOf (at 2 1) (mention (at 2 7) (codes "P")) (low (at 2 18)) parent
       (AndState (StateOf (at 4 1) (mention (at 4 7) (codes "C")) (low (at 4 18)) child NoState) NoState)) NoState;

@@ -1,13 +1,14 @@
 -- The faults of shape, E10 to E17: each sentence once, over the tree of a design without faults of names and widths.
-use Rattle.std.specs.Prelude.{◌⊎◌, ℕ, List, [], ◌∷◌, ◌++◌, Bool, true, false, not, ◌||◌, bytes_eq}
+use Rattle.std.specs.Prelude.{◌⊎◌, ℕ, List, [], ◌∷◌, ◌++◌, Bool, true, false, not, ◌||◌, if◌then◌else◌, bytes_eq}
+use Rattle.sap_tree.specs.declared.place.Place.{Place}
 use Rattle.sap_tree.specs.declared.syntax.Kind.{Kind}
-use Rattle.sap_tree.specs.Syntax.{SimpleCommand, Assign, Write, SetTag, SetCellTag, Goto, Fall, Command, Do, Try, If, CommandBlock, Commands, ElseBlock, NoElse, Else, CommandList, NoCommand, AndCommand, StateTree, StateOf, StateList, NoState, AndState, DesignTree}
+use Rattle.sap_tree.specs.Syntax.{SimpleCommand, Assign, Write, SetTag, SetCellTag, Goto, Fall, Command, Do, Try, If, TryThen, Case, Arms, Last, Arm, CommandBlock, Commands, ElseBlock, NoElse, Else, CommandList, NoCommand, AndCommand, StateTree, StateOf, StateList, NoState, AndState, DesignTree}
 use Rattle.sap_names.specs.declared.fault.Fault.{Fault}
 use Rattle.sap_names.specs.declared.kind.Code.TheVariants.{E11, E12, E15, E16, E17}
 use Rattle.sap_names.specs.NameFaults.{fault_if}
 use Rattle.sap_names.specs.declared.entity.Entity.{Entity}
 use Rattle.sap_names.specs.Entities.{entities_of}
-use Rattle.sap_shape.specs.Closing.{closing_faults}
+use Rattle.sap_shape.specs.Closing.{closing_faults, is_transfer}
 use Rattle.sap_shape.specs.Sites.{is_site, is_dynamic}
 use Rattle.sap_names.specs.Fault.{StandsIn, Before}
 use Rattle.sap_shape.specs.Paths.{PathFault}
@@ -58,6 +59,10 @@ simple_shape es at (SetCellTag place target index tag) = fault_if (is_dynamic es
 simple_shape es at (Goto place target) = fault_if (not (is_among at.group target.name)) E11 target.place
 simple_shape es at (Fall place) = fault_if (is_leaf at.children) E12 place
 
+-- A command with `then`: E15 stands at the `then` where the command can't be refused. Of a transfer nothing stands here: it has E10 at its `then`.
+abbrev pub then_shape : List Entity → Body → SimpleCommand → Place → List Fault
+then_shape es at k place = if is_transfer k then [] else (simple_shape es at k ++ fault_if (not (is_site es at.kind at.children k)) E15 place)
+
 abbrev mutual
   pub command_shape : List Entity → Body → Command → List Fault
   command_shape es at (Do k) = simple_shape es at k
@@ -65,6 +70,8 @@ abbrev mutual
   command_shape es at (Try k place handler) =
       simple_shape es at k ++ fault_if (not (is_site es at.kind at.children k)) E15 place ++ block_shape es at handler
   command_shape es at (If place condition then_block else_block) = block_shape es at then_block ++ else_shape es at else_block
+  command_shape es at (TryThen k place accepted refused) = then_shape es at k place ++ block_shape es at accepted ++ block_shape es at refused
+  command_shape es at (Case place e arms) = arms_shape es at arms
 
   pub block_shape : List Entity → Body → CommandBlock → List Fault
   block_shape es at (Commands cs after) = list_shape es at cs
@@ -72,6 +79,10 @@ abbrev mutual
   pub else_shape : List Entity → Body → ElseBlock → List Fault
   else_shape es at NoElse = []
   else_shape es at (Else b) = block_shape es at b
+
+  pub arms_shape : List Entity → Body → Arms → List Fault
+  arms_shape es at (Last b) = block_shape es at b
+  arms_shape es at (Arm constants b arms) = block_shape es at b ++ arms_shape es at arms
 
   pub list_shape : List Entity → Body → CommandList → List Fault
   list_shape es at NoCommand = []

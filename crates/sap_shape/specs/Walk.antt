@@ -1,7 +1,7 @@
 -- How E14 is looked for: which memories some path has written where it comes to a command. What is found so is what the paths say
 -- (`Paths.antt`).
 use Rattle.std.specs.Prelude.{ℕ, List, [], ◌++◌, Bool, true, false, ◌||◌, if◌then◌else◌, bytes_eq}
-use Rattle.sap_tree.specs.Syntax.{SimpleCommand, Assign, Write, SetTag, SetCellTag, Goto, Fall, Command, Do, Try, If, CommandBlock, Commands, ElseBlock, NoElse, Else, CommandList, NoCommand, AndCommand, StateTree, StateOf, StateList, NoState, AndState}
+use Rattle.sap_tree.specs.Syntax.{SimpleCommand, Assign, Write, SetTag, SetCellTag, Goto, Fall, Command, Do, Try, If, TryThen, Case, Arms, Last, Arm, CommandBlock, Commands, ElseBlock, NoElse, Else, CommandList, NoCommand, AndCommand, StateTree, StateOf, StateList, NoState, AndState}
 use Rattle.sap_names.specs.declared.fault.Fault.{Fault}
 use Rattle.sap_names.specs.declared.kind.Code.TheVariants.{E14}
 use Rattle.sap_names.specs.NameFaults.{fault_if}
@@ -33,6 +33,8 @@ abbrev mutual
   past (Do k) p = past_simple k p
   past (Try k place handler) p = either (past_simple k p) (past_block handler (past_simple k p))
   past (If place condition then_block else_block) p = either (past_block then_block p) (past_else else_block p)
+  past (TryThen k place accepted refused) p = either (past_block accepted (past_simple k p)) (past_block refused (past_simple k p))
+  past (Case place e arms) p = past_arms arms p
 
   pub past_block : CommandBlock → Written → Written
   past_block (Commands cs after) p = past_list cs p
@@ -40,6 +42,10 @@ abbrev mutual
   pub past_else : ElseBlock → Written → Written
   past_else NoElse p = p
   past_else (Else b) p = past_block b p
+
+  pub past_arms : Arms → Written → Written
+  past_arms (Last b) p = past_block b p
+  past_arms (Arm constants b arms) p = either (past_block b p) (past_arms arms p)
 
   pub past_list : CommandList → Written → Written
   past_list NoCommand p = p
@@ -59,6 +65,8 @@ abbrev mutual
   falls (Do k) = is_fall k
   falls (Try k place handler) = is_fall k || falls_block handler
   falls (If place condition then_block else_block) = falls_block then_block || falls_else else_block
+  falls (TryThen k place accepted refused) = is_fall k || (falls_block accepted || falls_block refused)
+  falls (Case place e arms) = falls_arms arms
 
   pub falls_block : CommandBlock → Bool
   falls_block (Commands cs after) = falls_list cs
@@ -66,6 +74,10 @@ abbrev mutual
   pub falls_else : ElseBlock → Bool
   falls_else NoElse = false
   falls_else (Else b) = falls_block b
+
+  pub falls_arms : Arms → Bool
+  falls_arms (Last b) = falls_block b
+  falls_arms (Arm constants b arms) = falls_block b || falls_arms arms
 
   pub falls_list : CommandList → Bool
   falls_list NoCommand = false
@@ -85,6 +97,9 @@ abbrev mutual
   entering (Do k) p = entering_simple k p
   entering (Try k place handler) p = either (entering_simple k p) (entering_block handler (past_simple k p))
   entering (If place condition then_block else_block) p = either (entering_block then_block p) (entering_else else_block p)
+  entering (TryThen k place accepted refused) p =
+      either (entering_simple k p) (either (entering_block accepted (past_simple k p)) (entering_block refused (past_simple k p)))
+  entering (Case place e arms) p = entering_arms arms p
 
   pub entering_block : CommandBlock → Written → Written
   entering_block (Commands cs after) p = entering_list cs p
@@ -92,6 +107,10 @@ abbrev mutual
   pub entering_else : ElseBlock → Written → Written
   entering_else NoElse p = fresh
   entering_else (Else b) p = entering_block b p
+
+  pub entering_arms : Arms → Written → Written
+  entering_arms (Last b) p = entering_block b p
+  entering_arms (Arm constants b arms) p = either (entering_block b p) (entering_arms arms p)
 
   pub entering_list : CommandList → Written → Written
   entering_list NoCommand p = fresh
@@ -111,6 +130,9 @@ abbrev mutual
   second (Do k) p = second_simple k p
   second (Try k place handler) p = second_simple k p ++ second_block handler (past_simple k p)
   second (If place condition then_block else_block) p = second_block then_block p ++ second_else else_block p
+  second (TryThen k place accepted refused) p =
+      second_simple k p ++ second_block accepted (past_simple k p) ++ second_block refused (past_simple k p)
+  second (Case place e arms) p = second_arms arms p
 
   pub second_block : CommandBlock → Written → List Fault
   second_block (Commands cs after) p = second_list cs p
@@ -118,6 +140,10 @@ abbrev mutual
   pub second_else : ElseBlock → Written → List Fault
   second_else NoElse p = []
   second_else (Else b) p = second_block b p
+
+  pub second_arms : Arms → Written → List Fault
+  second_arms (Last b) p = second_block b p
+  second_arms (Arm constants b arms) p = second_block b p ++ second_arms arms p
 
   pub second_list : CommandList → Written → List Fault
   second_list NoCommand p = []

@@ -7,13 +7,15 @@ ghost use Rattle.sap_shape.specs.Lists as lists;
 ghost use Rattle.sap_shape.specs.ShapeFaults as shape;
 ghost use Rattle.sap_tree.specs.Trees.{command_of, else_of, simple_of};
 
+use crate::closing::is_transfer;
 use crate::home::{is_among, is_comparable, is_leaf};
 use crate::place::Home;
 use crate::sites::is_site;
 use sap_names::fault::{Fault, note};
 use sap_names::kind::Code;
 use sap_names::table::Names;
-use sap_tree::syntax::{Block, Cmd, Simple};
+use sap_tree::place::Place;
+use sap_tree::syntax::{Arm, Block, Cmd, Simple};
 
 #[tactic(auto, using(sap_names::proofs::Faults::noting))]
 fn simple_shape(names: &Names, home: &Home<'_>, command: &Simple, best: &mut Option<Fault>)
@@ -73,6 +75,49 @@ fn command_shape(names: &Names, home: &Home<'_>, command: &Cmd, best: &mut Optio
             list_shape(names, home, one.commands.as_slice(), best);
             else_shape(names, home, other, best);
         }
+        Cmd::TryThen(simple, then, accepted, refused) => {
+            then_shape(names, home, simple, *then, best);
+            list_shape(names, home, accepted.commands.as_slice(), best);
+            list_shape(names, home, refused.commands.as_slice(), best);
+        }
+        Cmd::Case(_, _, arms, last) => {
+            arms_shape(names, home, arms.as_slice(), best);
+            list_shape(names, home, last.commands.as_slice(), best);
+        }
+    }
+}
+
+/// A command with `then`, without its blocks.
+#[tactic(auto, using(sap_names::proofs::Faults::noting))]
+fn then_shape(
+    names: &Names,
+    home: &Home<'_>,
+    command: &Simple,
+    then: Place,
+    best: &mut Option<Fault>,
+)
+    ensures { best.new ≡ best_of best.old (shape.then_shape names.now (body_of home.now) (simple_of command.now) then) }
+{
+    if is_transfer(command) {
+        return;
+    }
+    simple_shape(names, home, command, best);
+    note(
+        best,
+        !is_site(names, home.kind, home.children, command),
+        Code::E15,
+        then,
+    );
+}
+
+/// The arms of a `case`, without the block after `else`.
+#[cycle(body)]
+#[tactic(auto, using(crate::proofs::Bodies::bodies, crate::proofs::Weights::weights, sap_names::proofs::Faults::noting))]
+fn arms_shape(names: &Names, home: &Home<'_>, arms: &[Arm], best: &mut Option<Fault>)
+    ensures { best.new ≡ best_of best.old (lists.arms_shape names.now (body_of home.now) arms.now) }
+{
+    for arm in arms {
+        list_shape(names, home, arm.block.commands.as_slice(), best);
     }
 }
 

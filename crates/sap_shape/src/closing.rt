@@ -9,7 +9,14 @@ ghost use Rattle.sap_tree.specs.Trees.{block_of, command_of, else_of, simple_of}
 use sap_names::fault::{Fault, note};
 use sap_names::kind::Code;
 use sap_tree::place::Place;
-use sap_tree::syntax::{Block, Cmd, Simple};
+use sap_tree::syntax::{Arm, Block, Cmd, Simple};
+
+/// A `goto` or a `fall`.
+pub(crate) fn is_transfer(command: &Simple) -> bool
+    ensures { result ≡ closing.is_transfer (simple_of command.now) }
+{
+    matches!(command, Simple::Goto(_, _) | Simple::Fall(_))
+}
 
 #[tactic(auto, using(sap_names::proofs::Faults::noting))]
 fn transfer_faults(command: &Simple, best: &mut Option<Fault>)
@@ -40,6 +47,29 @@ fn open_faults(command: &Cmd, best: &mut Option<Fault>)
             open_list(one.commands.as_slice(), best);
             open_else(other, best);
         }
+        Cmd::TryThen(simple, then, accepted, refused) => {
+            if is_transfer(simple) {
+                note(best, true, Code::E10, *then);
+            } else {
+                open_list(accepted.commands.as_slice(), best);
+                open_list(refused.commands.as_slice(), best);
+            }
+        }
+        Cmd::Case(_, _, arms, last) => {
+            open_arms(arms.as_slice(), best);
+            open_list(last.commands.as_slice(), best);
+        }
+    }
+}
+
+/// The arms of a `case`, without the block after `else`.
+#[cycle(open)]
+#[tactic(auto, using(crate::proofs::Opens::opens, crate::proofs::Weights::weights, sap_names::proofs::Faults::noting))]
+fn open_arms(arms: &[Arm], best: &mut Option<Fault>)
+    ensures { best.new ≡ best_of best.old (lists.open_arms arms.now) }
+{
+    for arm in arms {
+        open_list(arm.block.commands.as_slice(), best);
     }
 }
 
@@ -109,6 +139,29 @@ fn last_faults(command: &Cmd, after: Place, best: &mut Option<Fault>)
             closing_list(one.commands.as_slice(), one.after, best);
             closing_else(other, *place, best);
         }
+        Cmd::TryThen(simple, then, accepted, refused) => {
+            if is_transfer(simple) {
+                note(best, true, Code::E10, *then);
+            } else {
+                closing_list(accepted.commands.as_slice(), accepted.after, best);
+                closing_list(refused.commands.as_slice(), refused.after, best);
+            }
+        }
+        Cmd::Case(_, _, arms, last) => {
+            closing_arms(arms.as_slice(), best);
+            closing_list(last.commands.as_slice(), last.after, best);
+        }
+    }
+}
+
+/// The arms of a `case`, without the block after `else`.
+#[cycle(closing)]
+#[tactic(auto, using(crate::proofs::Opens::opens, crate::proofs::Weights::weights, sap_names::proofs::Faults::noting))]
+fn closing_arms(arms: &[Arm], best: &mut Option<Fault>)
+    ensures { best.new ≡ best_of best.old (lists.closing_arms arms.now) }
+{
+    for arm in arms {
+        closing_list(arm.block.commands.as_slice(), arm.block.after, best);
     }
 }
 

@@ -1,11 +1,11 @@
 //! Whether a body may fall into a child.
 
 ghost use Rattle.std.specs.Prelude.{◌≡◌};
-ghost use Rattle.sap_shape.specs.Lists.{falls_list};
+ghost use Rattle.sap_shape.specs.Lists.{falls_arms, falls_list};
 ghost use Rattle.sap_shape.specs.Walk as walk;
 ghost use Rattle.sap_tree.specs.Trees.{command_of, else_of, simple_of};
 
-use sap_tree::syntax::{Block, Cmd, Simple};
+use sap_tree::syntax::{Arm, Block, Cmd, Simple};
 
 fn is_fall(command: &Simple) -> bool
     ensures { result ≡ walk.is_fall (simple_of command.now) }
@@ -22,7 +22,29 @@ fn command_falls(command: &Cmd) -> bool
         Cmd::Do(simple) => is_fall(simple),
         Cmd::Try(simple, _, handler) => is_fall(simple) || has_fall(handler.commands.as_slice()),
         Cmd::If(_, _, one, other) => has_fall(one.commands.as_slice()) || else_falls(other),
+        Cmd::TryThen(simple, _, accepted, refused) => {
+            is_fall(simple)
+                || has_fall(accepted.commands.as_slice())
+                || has_fall(refused.commands.as_slice())
+        }
+        Cmd::Case(_, _, arms, last) => {
+            arms_fall(arms.as_slice()) || has_fall(last.commands.as_slice())
+        }
     }
+}
+
+/// The arms of a `case`, without the block after `else`.
+#[cycle(falls)]
+#[tactic(auto, using(crate::proofs::Falling::falling, crate::proofs::Weights::weights))]
+fn arms_fall(arms: &[Arm]) -> bool
+    ensures { result ≡ falls_arms arms.now }
+{
+    for arm in arms {
+        if has_fall(arm.block.commands.as_slice()) {
+            return true;
+        }
+    }
+    false
 }
 
 #[cycle(falls)]

@@ -15,7 +15,7 @@ use sap_names::fault::{Fault, note};
 use sap_names::kind::Code;
 use sap_tree::name::Name;
 use sap_tree::place::Place;
-use sap_tree::syntax::{Block, Cmd, Simple, State};
+use sap_tree::syntax::{Arm, Block, Cmd, Simple, State};
 use std::alloc::{AllocError, Global};
 
 // A cell of a memory is written.
@@ -96,7 +96,57 @@ fn command_paths(
             else_paths(alloc, other, &mut beside, entered, best)?;
             here.join(alloc, &beside)
         }
+        Cmd::TryThen(simple, _, accepted, refused) => {
+            simple_paths(alloc, simple, here, entered, best)?;
+            let mut beside = here.copy(alloc)?;
+            list_paths(alloc, accepted.commands.as_slice(), here, entered, best)?;
+            list_paths(
+                alloc,
+                refused.commands.as_slice(),
+                &mut beside,
+                entered,
+                best,
+            )?;
+            here.join(alloc, &beside)
+        }
+        Cmd::Case(_, _, arms, last) => {
+            let mut past = Written::new(alloc);
+            arms_paths(alloc, arms.as_slice(), here, &mut past, entered, best)?;
+            list_paths(alloc, last.commands.as_slice(), here, entered, best)?;
+            past.join(alloc, here)?;
+            *here = past;
+            Ok(())
+        }
     }
+}
+
+// The arms of a `case`, without the block after `else`: each begins at `start`, and `past` takes in where they end.
+#[cycle(paths)]
+#[tactic(auto, using(crate::proofs::Walks::walks, crate::proofs::Weights::weights, crate::proofs::Sets::sets, sap_names::proofs::Faults::noting))]
+fn arms_paths(
+    alloc: Global,
+    arms: &[Arm],
+    start: &Written,
+    past: &mut Written,
+    entered: &mut Written,
+    best: &mut Option<Fault>,
+) -> Result<(), AllocError>
+    ensures past { OnOk result (written_in past.new ≡ either (written_in past.old) (lists.past_arms arms.now (written_in start.now))) }
+    ensures entering { OnOk result (written_in entered.new ≡ either (written_in entered.old) (lists.entering_arms arms.now (written_in start.now))) }
+    ensures second { OnOk result (best.new ≡ best_of best.old (lists.second_arms arms.now (written_in start.now))) }
+{
+    for arm in arms {
+        let mut here = start.copy(alloc)?;
+        list_paths(
+            alloc,
+            arm.block.commands.as_slice(),
+            &mut here,
+            entered,
+            best,
+        )?;
+        past.join(alloc, &here)?;
+    }
+    Ok(())
 }
 
 #[cycle(paths)]

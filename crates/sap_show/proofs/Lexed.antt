@@ -2,29 +2,33 @@
 use Rattle.std.proofs.Common.{◌≡◌, ◌<◌, ◌+◌, ◌*◌, ◌^◌, ℕ, suc, List, [], ◌∷◌, ◌++◌, length, take, drop, Bool, true, false, cond, refl, sym, ap, ◌∙◌, arith, Option, Some, None, length-append, append_assoc, rules}
 use Rattle.std.proofs.lemmas.Bool.Decides.{nat_tests}
 use Rattle.std.proofs.lemmas.Grind.{common_steps}
+use Rattle.std.proofs.lemmas.List.Folds.{list_any-append}
 use Rattle.std.proofs.lemmas.Str.Parse.{IsNumeralModel, numerals_by_value}
-use Rattle.std.proofs.lemmas.Fmt.{digits_decimal, digits_value-decimal, decimal_nonempty}
+use Rattle.std.proofs.lemmas.Fmt.{decimal_digit, digits_decimal, digits_value-decimal, decimal_nonempty}
 use Rattle.std.specs.Char.{is_ascii_digit, digit_value}
 use Rattle.std.specs.List.{prefix_len, list_all, list_any, find}
-use Rattle.std.specs.Prelude.{slice_index, ◌||◌, ◌&&◌, ◌==◌, nat_lt, nat_le, not, decimal}
+use Rattle.std.specs.Prelude.{slice_index, ◌||◌, ◌&&◌, ◌==◌, nat_lt, nat_le, not, decimal, map}
 use Rattle.std.specs.Str.{bytes_eq}
 use Rattle.std.specs.Str.Parse.{digits_value, digits_value_after}
+use Rattle.sap_parse.specs.Lexing.{kind_by, later_kind}
 use Rattle.sap_parse.specs.Lexemes.{is_blank, is_comment, clings, word_or_name, name_at, value_after, value_of, number_of, number_lexeme, sized_lexeme, sized_in, sized_at, number_at, sign_or, sign_at, lexeme_of}
-use Rattle.sap_parse.specs.Spelling.{word_text, sign_text, words, word_of}
+use Rattle.sap_parse.specs.Spelling.{later_word_of, sign_text, word_of}
 use Rattle.sap_parse.specs.declared.lexeme.Class.TheVariants as c
 use Rattle.sap_parse.specs.declared.lexeme.Lexeme.TheVariants as l
 use Rattle.sap_parse.specs.declared.token.Kind.TheVariants as k
 use Rattle.sap_parse.specs.declared.token.Kind.{Kind}
 use Rattle.sap_parse.specs.declared.token.Sign.TheVariants as s
 use Rattle.sap_parse.specs.declared.token.Sign.{Sign}
-use Rattle.sap_parse.specs.declared.token.Word.TheVariants as w
-use Rattle.sap_parse.specs.declared.token.Word.{Word}
+use Rattle.sap_tree.specs.declared.word.Word.TheVariants as w
+use Rattle.sap_tree.specs.declared.word.Word.{Word}
 use Rattle.sap_show.proofs.Pieces.{Piece, space, line, token, bytes_of, kind_bytes}
 use Rattle.sap_show.proofs.ReadBack.{both}
 use Rattle.sap_show.proofs.Spaced.{ends_run, ends_sign, follows, is_spelled, apart}
 use Rattle.sap_tree.specs.Limits.{most_name_bytes}
 use Rattle.sap_tree.specs.Whole.{is_number}
-use Rattle.sap_tree.specs.Words.{is_name, is_word, is_keyword, is_initial, is_inner}
+use Rattle.sap_tree.specs.Words.{first_words, is_initial, is_inner, is_keyword, is_name, is_word, keywords, later_words, word_text}
+use Rattle.sap_tree.specs.declared.version.Version.TheVariants as v
+use Rattle.sap_tree.specs.declared.version.Version.{Version}
 
 and_true : (a b : Bool) → a ≡ true → b ≡ true → (a && b) ≡ true
 and_true a b p q = ap (λ x. x && b) p ∙ q
@@ -102,25 +106,6 @@ word_at x rest start all is stop =
     let bs = drop 1 (word_text x) in
     name_taken b bs rest start all (stops_run (slice_index rest 0) stop).inner ∙ ap (λ o. word_or_name o (b ∷ bs) (length (b ∷ bs))) is
 
-word_lexed : (x : Word) (rest : List ℕ) → clings (slice_index rest 0) ≡ false → lexeme_of (word_text x ++ rest) ≡ l.Token (k.Word x) (length (word_text x))
-word_lexed w.Input rest stop = word_at w.Input rest refl refl refl stop
-word_lexed w.Reg rest stop = word_at w.Reg rest refl refl refl stop
-word_lexed w.Mem rest stop = word_at w.Mem rest refl refl refl stop
-word_lexed w.State rest stop = word_at w.State rest refl refl refl stop
-word_lexed w.Dynamic rest stop = word_at w.Dynamic rest refl refl refl stop
-word_lexed w.Enforced rest stop = word_at w.Enforced rest refl refl refl stop
-word_lexed w.Under rest stop = word_at w.Under rest refl refl refl stop
-word_lexed w.If rest stop = word_at w.If rest refl refl refl stop
-word_lexed w.Else rest stop = word_at w.Else rest refl refl refl stop
-word_lexed w.Goto rest stop = word_at w.Goto rest refl refl refl stop
-word_lexed w.Fall rest stop = word_at w.Fall rest refl refl refl stop
-word_lexed w.SetTag rest stop = word_at w.SetTag rest refl refl refl stop
-word_lexed w.Otherwise rest stop = word_at w.Otherwise rest refl refl refl stop
-word_lexed w.Tag rest stop = word_at w.Tag rest refl refl refl stop
-word_lexed w.Level rest stop = word_at w.Level rest refl refl refl stop
-word_lexed w.Join rest stop = word_at w.Join rest refl refl refl stop
-word_lexed w.Zext rest stop = word_at w.Zext rest refl refl refl stop
-
 -- one test that failed, and the others
 found_step : {X : Type 0} (b : Bool) (y : X) (any : Bool) (found : Option X) → (b || any) ≡ false → (any ≡ false → found ≡ None) → cond b (Some y) found ≡ None
 found_step true y any found h ih = absurd (cc)
@@ -130,8 +115,24 @@ none_found : {X : Type 0} (p : X → Bool) (xs : List X) → list_any p xs ≡ f
 none_found p [] e = refl
 none_found p (y ∷ ys) e = found_step (p y) y (list_any p ys) (find p ys) e (λ h. none_found p ys h)
 
-no_word : (n : List ℕ) → is_keyword n ≡ false → word_of n ≡ None
-no_word n h = none_found (λ word. bytes_eq n (word_text word)) words h
+no_word : (n : List ℕ) → is_keyword v.One n ≡ false → word_of n ≡ None
+no_word n h = none_found (λ word. bytes_eq n (word_text word)) first_words h
+
+-- what is no keyword of a version is none of the first, and in the second none of the later words
+neither : (a b : Bool) → (a || b) ≡ false → (a ≡ false) × (b ≡ false)
+neither true b h = absurd (cc)
+neither false b h = (refl, h)
+
+no_keyword : (n : List ℕ) → is_keyword v.Two n ≡ false → (is_keyword v.One n ≡ false) × (list_any (bytes_eq n) (map word_text later_words) ≡ false)
+no_keyword n h =
+    neither (is_keyword v.One n) (list_any (bytes_eq n) (map word_text later_words)) (sym (list_any-append (bytes_eq n) (keywords v.One) (map word_text later_words)) ∙ h)
+
+no_first_keyword : (version : Version) (n : List ℕ) → is_keyword version n ≡ false → is_keyword v.One n ≡ false
+no_first_keyword v.One n h = h
+no_first_keyword v.Two n h = (no_keyword n h).0
+
+no_later_word : (n : List ℕ) → is_keyword v.Two n ≡ false → later_word_of n ≡ None
+no_later_word n h = none_found (λ word. bytes_eq n (word_text word)) later_words (no_keyword n h).1
 
 from_not : (b : Bool) → not b ≡ true → b ≡ false
 from_not true h = absurd (cc)
@@ -140,13 +141,21 @@ from_not false h = refl
 initial_inner : (b : ℕ) → is_initial b ≡ true → is_inner b ≡ true
 initial_inner b h = grind (arith, nat_tests)
 
-name_lexed : (n rest : List ℕ) → is_name n ≡ true → clings (slice_index rest 0) ≡ false → lexeme_of (n ++ rest) ≡ l.Token (k.Name n) (length n)
+pub name_keyword : (version : Version) (n : List ℕ) → is_name version n ≡ true → is_keyword version n ≡ false
 unfolding is_name
-name_lexed n rest h stop = by_list n f.0 (from_not (is_keyword n) f.1) where
-  f : (is_word n ≡ true) × (not (is_keyword n) ≡ true)
-  f = both (is_word n) (not (is_keyword n)) (both (is_word n && not (is_keyword n)) (nat_le (length n) most_name_bytes) h).0
+name_keyword version n h =
+    from_not (is_keyword version n) (both (is_word n) (not (is_keyword version n)) (both (is_word n && not (is_keyword version n)) (nat_le (length n) most_name_bytes) h).0).1
 
-  by_list : (m : List ℕ) → is_word m ≡ true → is_keyword m ≡ false → lexeme_of (m ++ rest) ≡ l.Token (k.Name m) (length m)
+pub name_no_later : (n : List ℕ) → is_name v.Two n ≡ true → later_word_of n ≡ None
+name_no_later n h = no_later_word n (name_keyword v.Two n h)
+
+name_lexed : (version : Version) (n rest : List ℕ) → is_name version n ≡ true → clings (slice_index rest 0) ≡ false → lexeme_of (n ++ rest) ≡ l.Token (k.Name n) (length n)
+unfolding is_name
+name_lexed version n rest h stop = by_list n f.0 (no_first_keyword version n (from_not (is_keyword version n) f.1)) where
+  f : (is_word n ≡ true) × (not (is_keyword version n) ≡ true)
+  f = both (is_word n) (not (is_keyword version n)) (both (is_word n && not (is_keyword version n)) (nat_le (length n) most_name_bytes) h).0
+
+  by_list : (m : List ℕ) → is_word m ≡ true → is_keyword v.One m ≡ false → lexeme_of (m ++ rest) ≡ l.Token (k.Name m) (length m)
   by_list [] p q = absurd (cc)
   by_list (b ∷ bs) p q =
       let g = both (is_initial b) (list_all is_inner bs) p in
@@ -210,6 +219,52 @@ number_lexed n rest h stop =
     ∙ ap (λ x. number_lexeme (number_of 10 x) (clings (slice_index rest 0)) len) (front_part ds rest)
     ∙ ap (λ x. number_lexeme x (clings (slice_index rest 0)) len) (number_is n h)
     ∙ ap (λ t. number_lexeme (Some n) t len) stop
+
+-- words; those of the second version alone are taken as the name or the number that they are in the first
+
+abbrev pub raw_word : Word → Kind
+raw_word w.Then = k.Name (word_text w.Then)
+raw_word w.Case = k.Name (word_text w.Case)
+raw_word w.Sapper = k.Name (word_text w.Sapper)
+raw_word w.Two = k.Number 2
+raw_word x = k.Word x
+
+abbrev pub raw : Kind → Kind
+raw (k.Word x) = raw_word x
+raw kind = kind
+
+later_at : (x : Word) (rest : List ℕ) → is_initial (slice_index (word_text x) 0) ≡ true → list_all is_inner (slice_index (word_text x) 0 ∷ drop 1 (word_text x)) ≡ true
+    → word_of (slice_index (word_text x) 0 ∷ drop 1 (word_text x)) ≡ None → clings (slice_index rest 0) ≡ false
+    → lexeme_of ((slice_index (word_text x) 0 ∷ drop 1 (word_text x)) ++ rest)
+    ≡ l.Token (k.Name (slice_index (word_text x) 0 ∷ drop 1 (word_text x))) (length (slice_index (word_text x) 0 ∷ drop 1 (word_text x)))
+later_at x rest start all is stop =
+    let b = slice_index (word_text x) 0 in
+    let bs = drop 1 (word_text x) in
+    name_taken b bs rest start all (stops_run (slice_index rest 0) stop).inner ∙ ap (λ o. word_or_name o (b ∷ bs) (length (b ∷ bs))) is
+
+word_lexed : (x : Word) (rest : List ℕ) → clings (slice_index rest 0) ≡ false → lexeme_of (word_text x ++ rest) ≡ l.Token (raw_word x) (length (word_text x))
+word_lexed w.Input rest stop = word_at w.Input rest refl refl refl stop
+word_lexed w.Reg rest stop = word_at w.Reg rest refl refl refl stop
+word_lexed w.Mem rest stop = word_at w.Mem rest refl refl refl stop
+word_lexed w.State rest stop = word_at w.State rest refl refl refl stop
+word_lexed w.Dynamic rest stop = word_at w.Dynamic rest refl refl refl stop
+word_lexed w.Enforced rest stop = word_at w.Enforced rest refl refl refl stop
+word_lexed w.Under rest stop = word_at w.Under rest refl refl refl stop
+word_lexed w.If rest stop = word_at w.If rest refl refl refl stop
+word_lexed w.Else rest stop = word_at w.Else rest refl refl refl stop
+word_lexed w.Goto rest stop = word_at w.Goto rest refl refl refl stop
+word_lexed w.Fall rest stop = word_at w.Fall rest refl refl refl stop
+word_lexed w.SetTag rest stop = word_at w.SetTag rest refl refl refl stop
+word_lexed w.Otherwise rest stop = word_at w.Otherwise rest refl refl refl stop
+word_lexed w.Tag rest stop = word_at w.Tag rest refl refl refl stop
+word_lexed w.Level rest stop = word_at w.Level rest refl refl refl stop
+word_lexed w.Join rest stop = word_at w.Join rest refl refl refl stop
+word_lexed w.Zext rest stop = word_at w.Zext rest refl refl refl stop
+word_lexed w.Then rest stop = later_at w.Then rest refl refl refl stop
+word_lexed w.Case rest stop = later_at w.Case rest refl refl refl stop
+word_lexed w.Sapper rest stop = later_at w.Sapper rest refl refl refl stop
+word_lexed w.Two rest stop =
+    ap (λ (ds : List ℕ). lexeme_of (ds ++ rest)) (sym (decimal_digit 2 (omega arith))) ∙ number_lexed 2 rest refl stop ∙ ap (λ (ds : List ℕ). l.Token (k.Number 2) (length ds)) (decimal_digit 2 (omega arith))
 
 -- numbers with a width
 
@@ -316,28 +371,92 @@ behind_run (token role (k.Name n) ∷ ps) h = absurd (cc)
 behind_run (token role (k.Number n) ∷ ps) h = absurd (cc)
 behind_run (token role (k.Sized width n) ∷ ps) h = absurd (cc)
 
-behind_sign : (ps : List Piece) → ends_sign ps ≡ true → apart ps ≡ true → (slice_index (bytes_of ps) 0 == 61 || slice_index (bytes_of ps) 0 == 60) ≡ false
-behind_sign [] h a = refl
-behind_sign (space ∷ ps) h a = refl
-behind_sign (line ∷ ps) h a = refl
-behind_sign (token role (k.Number n) ∷ ps) h a =
-    let f = both (is_number n) (follows (k.Number n) ps && apart ps) a in
+behind_sign : (version : Version) (ps : List Piece) → ends_sign ps ≡ true → apart version ps ≡ true → (slice_index (bytes_of ps) 0 == 61 || slice_index (bytes_of ps) 0 == 60) ≡ false
+behind_sign version [] h a = refl
+behind_sign version (space ∷ ps) h a = refl
+behind_sign version (line ∷ ps) h a = refl
+behind_sign version (token role (k.Number n) ∷ ps) h a =
+    let f = both (is_number n) (follows (k.Number n) ps && apart version ps) a in
     no_sign_byte (slice_index (decimal n ++ bytes_of ps) 0) (first_digit (decimal n) (bytes_of ps) (decimal_digits n (below n f.0)))
-behind_sign (token role (k.Sign x) ∷ ps) h a = absurd (cc)
-behind_sign (token role (k.Word x) ∷ ps) h a = absurd (cc)
-behind_sign (token role (k.Name n) ∷ ps) h a = absurd (cc)
-behind_sign (token role (k.Sized width n) ∷ ps) h a = absurd (cc)
+behind_sign version (token role (k.Sign x) ∷ ps) h a = absurd (cc)
+behind_sign version (token role (k.Word x) ∷ ps) h a = absurd (cc)
+behind_sign version (token role (k.Name n) ∷ ps) h a = absurd (cc)
+behind_sign version (token role (k.Sized width n) ∷ ps) h a = absurd (cc)
 
-sign_behind : (x : Sign) (ps : List Piece) → follows (k.Sign x) ps ≡ true → apart ps ≡ true → clings_to x (slice_index (bytes_of ps) 0) ≡ false
-sign_behind s.Colon ps h a = (not_either (slice_index (bytes_of ps) 0) (behind_sign ps h a)).0
-sign_behind s.Is ps h a = (not_either (slice_index (bytes_of ps) 0) (behind_sign ps h a)).0
-sign_behind s.Less ps h a = behind_sign ps h a
-sign_behind _ ps h a = refl
+sign_behind : (version : Version) (x : Sign) (ps : List Piece) → follows (k.Sign x) ps ≡ true → apart version ps ≡ true → clings_to x (slice_index (bytes_of ps) 0) ≡ false
+sign_behind version s.Colon ps h a = (not_either (slice_index (bytes_of ps) 0) (behind_sign version ps h a)).0
+sign_behind version s.Is ps h a = (not_either (slice_index (bytes_of ps) 0) (behind_sign version ps h a)).0
+sign_behind version s.Less ps h a = behind_sign version ps h a
+sign_behind version _ ps h a = refl
 
-pub piece_lexed : (x : Kind) (ps : List Piece) → is_spelled x ≡ true → follows x ps ≡ true → apart ps ≡ true
-    → lexeme_of (kind_bytes x ++ bytes_of ps) ≡ l.Token x (length (kind_bytes x))
-piece_lexed (k.Word x) ps h e a = word_lexed x (bytes_of ps) (behind_run ps e)
-piece_lexed (k.Sign x) ps h e a = sign_lexed x (bytes_of ps) (sign_behind x ps e a)
-piece_lexed (k.Name n) ps h e a = name_lexed n (bytes_of ps) h (behind_run ps e)
-piece_lexed (k.Number n) ps h e a = number_lexed n (bytes_of ps) h (behind_run ps e)
-piece_lexed (k.Sized width n) ps h e a = let f = both (is_number width) (is_number n) h in sized_lexed width n (bytes_of ps) f.0 f.1 (behind_run ps e)
+-- as it is taken
+pub piece_lexed : (version : Version) (x : Kind) (ps : List Piece) → is_spelled version x ≡ true → follows x ps ≡ true → apart version ps ≡ true
+    → lexeme_of (kind_bytes x ++ bytes_of ps) ≡ l.Token (raw x) (length (kind_bytes x))
+piece_lexed version (k.Word x) ps h e a = word_lexed x (bytes_of ps) (behind_run ps e)
+piece_lexed version (k.Sign x) ps h e a = sign_lexed x (bytes_of ps) (sign_behind version x ps e a)
+piece_lexed version (k.Name n) ps h e a = name_lexed version n (bytes_of ps) h (behind_run ps e)
+piece_lexed version (k.Number n) ps h e a = number_lexed n (bytes_of ps) h (behind_run ps e)
+piece_lexed version (k.Sized width n) ps h e a = let f = both (is_number width) (is_number n) h in sized_lexed width n (bytes_of ps) f.0 f.1 (behind_run ps e)
+
+-- a word of the first line, and a sign
+pub first_lexed : (x : Word) (ps : List Piece) → ends_run ps ≡ true → lexeme_of (word_text x ++ bytes_of ps) ≡ l.Token (raw_word x) (length (word_text x))
+first_lexed x ps e = word_lexed x (bytes_of ps) (behind_run ps e)
+
+pub semicolon_lexed : (ps : List Piece) → lexeme_of (sign_text s.Semicolon ++ bytes_of ps) ≡ l.Token (k.Sign s.Semicolon) 1
+semicolon_lexed ps = sign_lexed s.Semicolon (bytes_of ps) refl
+
+-- the words that they are made in the second version, and in the first those that they are
+
+pub later_is : (x : Kind) → is_spelled v.Two x ≡ true → later_kind (raw x) ≡ x
+later_is (k.Word w.Input) h = refl
+later_is (k.Word w.Reg) h = refl
+later_is (k.Word w.Mem) h = refl
+later_is (k.Word w.State) h = refl
+later_is (k.Word w.Dynamic) h = refl
+later_is (k.Word w.Enforced) h = refl
+later_is (k.Word w.Under) h = refl
+later_is (k.Word w.If) h = refl
+later_is (k.Word w.Else) h = refl
+later_is (k.Word w.Goto) h = refl
+later_is (k.Word w.Fall) h = refl
+later_is (k.Word w.SetTag) h = refl
+later_is (k.Word w.Otherwise) h = refl
+later_is (k.Word w.Tag) h = refl
+later_is (k.Word w.Level) h = refl
+later_is (k.Word w.Join) h = refl
+later_is (k.Word w.Zext) h = refl
+later_is (k.Word w.Then) h = refl
+later_is (k.Word w.Case) h = refl
+later_is (k.Word w.Sapper) h = absurd (cc)
+later_is (k.Word w.Two) h = absurd (cc)
+later_is (k.Sign x) h = refl
+later_is (k.Name n) h = ap (λ o. kind_by o (k.Name n)) (name_no_later n h)
+later_is (k.Number n) h = refl
+later_is (k.Sized width n) h = refl
+
+pub raw_is : (x : Kind) → is_spelled v.One x ≡ true → raw x ≡ x
+raw_is (k.Word w.Input) h = refl
+raw_is (k.Word w.Reg) h = refl
+raw_is (k.Word w.Mem) h = refl
+raw_is (k.Word w.State) h = refl
+raw_is (k.Word w.Dynamic) h = refl
+raw_is (k.Word w.Enforced) h = refl
+raw_is (k.Word w.Under) h = refl
+raw_is (k.Word w.If) h = refl
+raw_is (k.Word w.Else) h = refl
+raw_is (k.Word w.Goto) h = refl
+raw_is (k.Word w.Fall) h = refl
+raw_is (k.Word w.SetTag) h = refl
+raw_is (k.Word w.Otherwise) h = refl
+raw_is (k.Word w.Tag) h = refl
+raw_is (k.Word w.Level) h = refl
+raw_is (k.Word w.Join) h = refl
+raw_is (k.Word w.Zext) h = refl
+raw_is (k.Word w.Then) h = absurd (cc)
+raw_is (k.Word w.Case) h = absurd (cc)
+raw_is (k.Word w.Sapper) h = absurd (cc)
+raw_is (k.Word w.Two) h = absurd (cc)
+raw_is (k.Sign x) h = refl
+raw_is (k.Name n) h = refl
+raw_is (k.Number n) h = refl
+raw_is (k.Sized width n) h = refl

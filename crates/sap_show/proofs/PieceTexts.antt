@@ -6,11 +6,11 @@ use Rattle.sap_parse.specs.Spelling.{sign_text}
 use Rattle.sap_parse.specs.declared.limit.Role.TheVariants as r
 use Rattle.sap_parse.specs.declared.limit.Role.{Role}
 use Rattle.sap_parse.specs.declared.token.Sign.TheVariants as s
-use Rattle.sap_parse.specs.declared.token.Word.TheVariants as w
-use Rattle.sap_show.specs.Canonical.{unary_text, binary_text, operand_text, bounds_text, expression_text, parts_text, more_parts_text, tag_text, tags_text, more_tags_text, cell_text, simple_text, command_text, block_text, else_text, commands_text, authority_text, kind_text, start_text, declaration_text, head_text, body_text, state_text, states_text, canonical_text}
-use Rattle.sap_show.proofs.Pieces.{Piece, space, line, bytes_of, sign, word, name, number, wrapped, bounds, expression, parts, more_parts, tag, tags, more_tags, cell, simple, margin, command, block, else_part, commands, authority, kind, start, declaration, declarations, body, state, states, design}
+use Rattle.sap_tree.specs.declared.word.Word.TheVariants as w
+use Rattle.sap_show.specs.Canonical.{unary_text, binary_text, operand_text, bounds_text, expression_text, parts_text, more_parts_text, tag_text, tags_text, more_tags_text, cell_text, simple_text, command_text, block_text, else_text, arms_text, commands_text, authority_text, kind_text, start_text, declaration_text, head_text, body_text, state_text, states_text, version_text, canonical_text}
+use Rattle.sap_show.proofs.Pieces.{Piece, space, line, bytes_of, sign, word, name, number, wrapped, bounds, expression, parts, more_parts, tag, tags, more_tags, constant, more_constants, constants, cell, simple, margin, command, arms, block, else_part, commands, authority, kind, start, declaration, declarations, body, state, states, header, parts_of, design}
 use Rattle.sap_tree.specs.Precedence.{precedence, unary_precedence, slice_precedence, precedence_of}
-use Rattle.sap_tree.specs.Syntax.{Expression, Expressions, Number, Sized, Read, Cell, Unary, Binary, Choose, Slice, Concat, Zext, NoPart, AndPart, TagExpression, TagExpressions, Level, TagOf, LevelAt, Join, NoTag, AndTag, SimpleCommand, Assign, Write, SetTag, SetCellTag, Goto, Fall, Command, Do, Try, If, CommandBlock, Commands, ElseBlock, NoElse, Else, CommandList, NoCommand, AndCommand, StateTree, StateOf, StateList, NoState, AndState, DesignTree}
+use Rattle.sap_tree.specs.Syntax.{Expression, Expressions, Number, Sized, Read, Cell, Unary, Binary, Choose, Slice, Concat, Zext, NoPart, AndPart, TagExpression, TagExpressions, Level, TagOf, LevelAt, Join, NoTag, AndTag, SimpleCommand, Assign, Write, SetTag, SetCellTag, Goto, Fall, Command, Do, Try, If, TryThen, Case, Arms, Last, Arm, CommandBlock, Commands, ElseBlock, NoElse, Else, CommandList, NoCommand, AndCommand, StateTree, StateOf, StateList, NoState, AndState, DesignTree}
 use Rattle.sap_tree.specs.declared.syntax.BinaryOperator.TheVariants as b
 use Rattle.sap_tree.specs.declared.syntax.BinaryOperator.{BinaryOperator}
 use Rattle.sap_tree.specs.declared.syntax.Decl.TheVariants as d
@@ -21,6 +21,8 @@ use Rattle.sap_tree.specs.declared.syntax.Numeral.{Numeral}
 use Rattle.sap_tree.specs.declared.syntax.UnaryOperator.TheVariants as u
 use Rattle.sap_tree.specs.declared.syntax.UnaryOperator.{UnaryOperator}
 use Rattle.sap_tree.specs.declared.syntax.Under.{Under}
+use Rattle.sap_tree.specs.declared.version.Version.TheVariants.{One, Two}
+use Rattle.sap_tree.specs.declared.version.Version.{Version}
 
 unary_is : (o : UnaryOperator) → sign_text (unary_sign_of o) ≡ unary_text o
 unary_is u.Not = refl
@@ -139,6 +141,32 @@ mutual
   more_tags_say (AndTag x xs) rest =
       ap (λ z. codes ", " ++ z) (tag_says x (more_tags xs rest) ∙ cat (tag_text x) (more_tags_text xs) (bytes_of rest) _ (more_tags_say xs rest))
 
+constant_says : (x : Expression) → Says (constant x) (expression_text x)
+unfolding expression_text
+constant_says (Number spot n) rest = refl
+constant_says (Sized spot width n) rest = refl
+constant_says (Read spot n) rest = expression_says (Read spot n) rest
+constant_says (Cell spot n i) rest = expression_says (Cell spot n i) rest
+constant_says (Unary spot o x) rest = expression_says (Unary spot o x) rest
+constant_says (Binary spot o x y) rest = expression_says (Binary spot o x y) rest
+constant_says (Choose spot x y z) rest = expression_says (Choose spot x y z) rest
+constant_says (Slice spot x high low) rest = expression_says (Slice spot x high low) rest
+constant_says (Concat spot xs) rest = expression_says (Concat spot xs) rest
+constant_says (Zext spot x width) rest = expression_says (Zext spot x width) rest
+
+more_constants_say : (xs : Expressions) → Says (more_constants xs) (more_parts_text xs)
+unfolding expression_text
+more_constants_say NoPart rest = refl
+more_constants_say (AndPart x xs) rest =
+    ap (λ z. codes ", " ++ z)
+    (constant_says x (more_constants xs rest) ∙ cat (expression_text x) (more_parts_text xs) (bytes_of rest) _ (more_constants_say xs rest))
+
+constants_say : (xs : Expressions) → Says (constants xs) (parts_text xs)
+unfolding expression_text
+constants_say NoPart rest = refl
+constants_say (AndPart x xs) rest =
+    constant_says x (more_constants xs rest) ∙ cat (expression_text x) (more_parts_text xs) (bytes_of rest) _ (more_constants_say xs rest)
+
 cell_says : (role : Role) (n : List ℕ) (i : Expression) → Says (cell role n i) (cell_text n i)
 unfolding cell_text
 cell_says role n i rest =
@@ -204,6 +232,51 @@ mutual
       (block_says one level depth (else_part other level depth (line ∷ rest))
       ∙ cat (block_text (spaces level) one) (else_text (spaces level) other ++ codes "\n") (bytes_of rest) _
       (else_says other level depth (line ∷ rest) ∙ sym (append_assoc (else_text (spaces level) other) (codes "\n") (bytes_of rest)))))))
+  command_says (TryThen c place one other) level depth rest =
+      let m = spaces level in
+      let last = space ∷ word r.Plain w.Otherwise ∷ block other level depth (line ∷ rest) in
+      let foot = block_text m other ++ codes "\n" in
+      margin_says level (simple depth c (space ∷ word r.Plain w.Then ∷ block one level depth last))
+      ∙ cat m (simple_text c ++ (codes " then" ++ (block_text m one ++ (codes " otherwise" ++ foot)))) (bytes_of rest) _
+      (simple_says depth c (space ∷ word r.Plain w.Then ∷ block one level depth last)
+      ∙ cat (simple_text c) (codes " then" ++ (block_text m one ++ (codes " otherwise" ++ foot))) (bytes_of rest) _
+      (ap (λ z. codes " then" ++ z)
+      (block_says one level depth last
+      ∙ cat (block_text m one) (codes " otherwise" ++ foot) (bytes_of rest) _
+      (ap (λ z. codes " otherwise" ++ z)
+      (block_says other level depth (line ∷ rest) ∙ sym (append_assoc (block_text m other) (codes "\n") (bytes_of rest)))))))
+  command_says (Case place x list) level depth rest =
+      let m = spaces level in
+      let foot = margin level (sign r.Plain s.CloseBrace ∷ line ∷ rest) in
+      let end = m ++ codes "}\n" in
+      let behind = sign r.Plain s.CloseParen ∷ space ∷ sign r.Plain s.OpenBrace ∷ line ∷ arms list (suc level) depth foot in
+      margin_says level (word (r.Command depth) w.Case ∷ space ∷ sign r.Plain s.OpenParen ∷ expression x behind)
+      ∙ cat m (codes "case (" ++ (expression_text x ++ (codes ") {\n" ++ (arms_text (m ++ codes "  ") list ++ end)))) (bytes_of rest) _
+      (ap (λ z. codes "case (" ++ z)
+      (expression_says x behind
+      ∙ cat (expression_text x) (codes ") {\n" ++ (arms_text (m ++ codes "  ") list ++ end)) (bytes_of rest) _
+      (ap (λ z. codes ") {\n" ++ z)
+      (arms_say list (suc level) depth foot
+      ∙ cat (arms_text (spaces (suc level)) list) end (bytes_of rest) _
+      (margin_says level (sign r.Plain s.CloseBrace ∷ line ∷ rest) ∙ sym (append_assoc m (codes "}\n") (bytes_of rest)))
+      ∙ ap (λ y. (arms_text y list ++ end) ++ bytes_of rest) (sym (deeper level))))))
+
+  arms_say : (list : Arms) (level depth : ℕ) → Says (arms list level depth) (arms_text (spaces level) list)
+  arms_say (Last b) level depth rest =
+      let m = spaces level in
+      margin_says level (word r.Plain w.Else ∷ block b level depth (line ∷ rest))
+      ∙ cat m (codes "else" ++ (block_text m b ++ codes "\n")) (bytes_of rest) _
+      (ap (λ z. codes "else" ++ z) (block_says b level depth (line ∷ rest) ∙ sym (append_assoc (block_text m b) (codes "\n") (bytes_of rest))))
+  arms_say (Arm xs b list) level depth rest =
+      let m = spaces level in
+      let behind = line ∷ arms list level depth rest in
+      let end = codes "\n" ++ arms_text m list in
+      margin_says level (constants xs (sign r.Plain s.Colon ∷ block b level depth behind))
+      ∙ cat m (parts_text xs ++ (codes ":" ++ (block_text m b ++ end))) (bytes_of rest) _
+      (constants_say xs (sign r.Plain s.Colon ∷ block b level depth behind)
+      ∙ cat (parts_text xs) (codes ":" ++ (block_text m b ++ end)) (bytes_of rest) _
+      (ap (λ z. codes ":" ++ z)
+      (block_says b level depth behind ∙ cat (block_text m b) end (bytes_of rest) _ (ap (λ z. codes "\n" ++ z) (arms_say list level depth rest)))))
 
   block_says : (x : CommandBlock) (level depth : ℕ) → Says (block x level depth) (block_text (spaces level) x)
   block_says (Commands cs after) level depth rest =
@@ -311,8 +384,14 @@ append_none : (xs : List ℕ) → xs ++ [] ≡ xs
 append_none [] = refl
 append_none (x ∷ xs) = ap (λ ys. x ∷ ys) (append_none xs)
 
+header_says : (version : Version) → Says (header version) (version_text version)
+header_says One rest = refl
+header_says Two rest = refl
+
 pub design_says : (x : DesignTree) → bytes_of (design x) ≡ canonical_text x
 unfolding canonical_text
 design_says x =
-    declarations_say x.declarations (states x.states 0 1 [])
-    ∙ ap (λ z. flat_map declaration_text x.declarations ++ z) (states_say x.states 0 1 [] ∙ append_none (states_text [] x.states))
+    header_says x.version (parts_of x)
+    ∙ ap (λ z. version_text x.version ++ z)
+    (declarations_say x.declarations (states x.states 0 1 [])
+    ∙ ap (λ z. flat_map declaration_text x.declarations ++ z) (states_say x.states 0 1 [] ∙ append_none (states_text [] x.states)))

@@ -2,23 +2,26 @@
 use Rattle.std.proofs.Common.{ℕ, zero, suc, ◌+◌, List, [], ◌∷◌, ◌++◌, Bool, true, false, Option, Some, None}
 use Rattle.std.specs.Prelude.{codes, decimal, nat_lt, flat_map}
 use Rattle.sap_parse.specs.Grammar.{sign_of, unary_sign_of}
-use Rattle.sap_parse.specs.Spelling.{word_text, sign_text}
+use Rattle.sap_parse.specs.Spelling.{sign_text}
 use Rattle.sap_parse.specs.declared.limit.Role.TheVariants as r
 use Rattle.sap_parse.specs.declared.limit.Role.{Role}
 use Rattle.sap_parse.specs.declared.token.Kind.TheVariants as k
 use Rattle.sap_parse.specs.declared.token.Kind.{Kind}
 use Rattle.sap_parse.specs.declared.token.Sign.TheVariants as s
 use Rattle.sap_parse.specs.declared.token.Sign.{Sign}
-use Rattle.sap_parse.specs.declared.token.Word.TheVariants as w
-use Rattle.sap_parse.specs.declared.token.Word.{Word}
+use Rattle.sap_tree.specs.declared.word.Word.TheVariants as w
+use Rattle.sap_tree.specs.declared.word.Word.{Word}
 use Rattle.sap_tree.specs.Precedence.{precedence, unary_precedence, slice_precedence, precedence_of}
-use Rattle.sap_tree.specs.Syntax.{Expression, Expressions, Number, Sized, Read, Cell, Unary, Binary, Choose, Slice, Concat, Zext, NoPart, AndPart, TagExpression, TagExpressions, Level, TagOf, LevelAt, Join, NoTag, AndTag, SimpleCommand, Assign, Write, SetTag, SetCellTag, Goto, Fall, Command, Do, Try, If, CommandBlock, Commands, ElseBlock, NoElse, Else, CommandList, NoCommand, AndCommand, StateTree, StateOf, StateList, NoState, AndState, DesignTree}
+use Rattle.sap_tree.specs.Syntax.{Expression, Expressions, Number, Sized, Read, Cell, Unary, Binary, Choose, Slice, Concat, Zext, NoPart, AndPart, TagExpression, TagExpressions, Level, TagOf, LevelAt, Join, NoTag, AndTag, SimpleCommand, Assign, Write, SetTag, SetCellTag, Goto, Fall, Command, Do, Try, If, TryThen, Case, Arms, Last, Arm, CommandBlock, Commands, ElseBlock, NoElse, Else, CommandList, NoCommand, AndCommand, StateTree, StateOf, StateList, NoState, AndState, DesignTree}
 use Rattle.sap_tree.specs.declared.syntax.Decl.TheVariants as d
 use Rattle.sap_tree.specs.declared.syntax.Decl.{Decl}
 use Rattle.sap_tree.specs.declared.syntax.Kind.TheVariants as how
 use Rattle.sap_tree.specs.declared.syntax.Kind.{Kind as KindTree}
 use Rattle.sap_tree.specs.declared.syntax.Numeral.{Numeral}
 use Rattle.sap_tree.specs.declared.syntax.Under.{Under}
+use Rattle.sap_tree.specs.declared.version.Version.TheVariants.{One, Two}
+use Rattle.sap_tree.specs.declared.version.Version.{Version}
+use Rattle.sap_tree.specs.Words.{word_text}
 
 pub data Piece : Type 0 where
   space line : Piece
@@ -102,6 +105,21 @@ abbrev mutual
   more_tags NoTag rest = rest
   more_tags (AndTag x xs) rest = sign r.Inner s.Comma ∷ space ∷ tag x (more_tags xs rest)
 
+-- the constants of an arm
+
+abbrev pub constant : Expression → List Piece → List Piece
+constant (Number spot n) rest = number r.Plain n ∷ rest
+constant (Sized spot width n) rest = token r.Plain (k.Sized width n) ∷ rest
+constant x rest = expression x rest
+
+abbrev pub more_constants : Expressions → List Piece → List Piece
+more_constants NoPart rest = rest
+more_constants (AndPart x xs) rest = sign r.Plain s.Comma ∷ space ∷ constant x (more_constants xs rest)
+
+abbrev pub constants : Expressions → List Piece → List Piece
+constants NoPart rest = rest
+constants (AndPart x xs) rest = constant x (more_constants xs rest)
+
 -- commands, at a level of indentation and at a depth
 
 abbrev pub cell : Role → List ℕ → Expression → List Piece → List Piece
@@ -128,6 +146,18 @@ abbrev mutual
   command (If place x one other) level depth rest =
       margin level (word (r.Command depth) w.If ∷ space ∷ sign r.Plain s.OpenParen
       ∷ expression x (sign r.Plain s.CloseParen ∷ block one level depth (else_part other level depth (line ∷ rest))))
+  command (TryThen c place accepted refused) level depth rest =
+      margin level (simple depth c (space ∷ word r.Plain w.Then
+      ∷ block accepted level depth (space ∷ word r.Plain w.Otherwise ∷ block refused level depth (line ∷ rest))))
+  command (Case place x list) level depth rest =
+      margin level (word (r.Command depth) w.Case ∷ space ∷ sign r.Plain s.OpenParen
+      ∷ expression x (sign r.Plain s.CloseParen ∷ space ∷ sign r.Plain s.OpenBrace ∷ line
+      ∷ arms list (suc level) depth (margin level (sign r.Plain s.CloseBrace ∷ line ∷ rest))))
+
+  -- arms, and the block after `else`
+  pub arms : Arms → ℕ → ℕ → List Piece → List Piece
+  arms (Last b) level depth rest = margin level (word r.Plain w.Else ∷ block b level depth (line ∷ rest))
+  arms (Arm xs b list) level depth rest = margin level (constants xs (sign r.Plain s.Colon ∷ block b level depth (line ∷ arms list level depth rest)))
 
   pub block : CommandBlock → ℕ → ℕ → List Piece → List Piece
   block (Commands cs after) level depth rest =
@@ -185,5 +215,14 @@ abbrev mutual
   states NoState level depth rest = rest
   states (AndState x xs) level depth rest = state x level depth (states xs level depth rest)
 
+-- the first line
+abbrev pub header : Version → List Piece → List Piece
+header One rest = rest
+header Two rest = word r.Plain w.Sapper ∷ space ∷ word r.Plain w.Two ∷ sign r.Plain s.Semicolon ∷ line ∷ rest
+
+-- what stands behind it
+abbrev pub parts_of : DesignTree → List Piece
+parts_of x = declarations x.declarations (states x.states 0 1 [])
+
 abbrev pub design : DesignTree → List Piece
-design x = declarations x.declarations (states x.states 0 1 [])
+design x = header x.version (parts_of x)

@@ -1,10 +1,10 @@
 -- The canonical text doesn't look at places.
 use Rattle.std.proofs.Common.{◌≡◌, ℕ, ◌+◌, List, [], ◌∷◌, ◌++◌, refl, sym, ap, ◌∙◌, Option, Some, None, cond}
 use Rattle.std.specs.Prelude.{codes, decimal, nat_lt, flat_map, map}
-use Rattle.sap_show.specs.Canonical.{unary_text, binary_text, operand_text, bounds_text, expression_text, parts_text, more_parts_text, tag_text, tags_text, more_tags_text, cell_text, simple_text, command_text, block_text, else_text, commands_text, authority_text, kind_text, start_text, declaration_text, head_text, body_text, state_text, states_text, canonical_text}
-use Rattle.sap_tree.specs.Bare.{bare_expression, bare_expressions, bare_tag, bare_tags, bare_simple, bare_command, bare_block, bare_else, bare_list, bare_authority, bare_kind, bare_start, bare_declaration, bare_state, bare_states, bare}
+use Rattle.sap_show.specs.Canonical.{unary_text, binary_text, operand_text, bounds_text, expression_text, parts_text, more_parts_text, tag_text, tags_text, more_tags_text, cell_text, simple_text, command_text, block_text, else_text, arms_text, commands_text, authority_text, kind_text, start_text, declaration_text, head_text, body_text, state_text, states_text, version_text, canonical_text}
+use Rattle.sap_tree.specs.Bare.{bare_expression, bare_expressions, bare_tag, bare_tags, bare_simple, bare_command, bare_block, bare_else, bare_arms, bare_list, bare_authority, bare_kind, bare_start, bare_declaration, bare_state, bare_states, bare}
 use Rattle.sap_tree.specs.Precedence.{precedence, unary_precedence, slice_precedence, precedence_of}
-use Rattle.sap_tree.specs.Syntax.{Expression, Expressions, Number, Sized, Read, Cell, Unary, Binary, Choose, Slice, Concat, Zext, NoPart, AndPart, TagExpression, TagExpressions, Level, TagOf, LevelAt, Join, NoTag, AndTag, SimpleCommand, Assign, Write, SetTag, SetCellTag, Goto, Fall, Command, Do, Try, If, CommandBlock, Commands, ElseBlock, NoElse, Else, CommandList, NoCommand, AndCommand, StateTree, StateOf, StateList, NoState, AndState, DesignTree}
+use Rattle.sap_tree.specs.Syntax.{Expression, Expressions, Number, Sized, Read, Cell, Unary, Binary, Choose, Slice, Concat, Zext, NoPart, AndPart, TagExpression, TagExpressions, Level, TagOf, LevelAt, Join, NoTag, AndTag, SimpleCommand, Assign, Write, SetTag, SetCellTag, Goto, Fall, Command, Do, Try, If, TryThen, Case, Arms, Last, Arm, CommandBlock, Commands, ElseBlock, NoElse, Else, CommandList, NoCommand, AndCommand, StateTree, StateOf, StateList, NoState, AndState, DesignTree}
 use Rattle.sap_tree.specs.declared.syntax.Decl.TheVariants as d
 use Rattle.sap_tree.specs.declared.syntax.Decl.{Decl}
 use Rattle.sap_tree.specs.declared.syntax.Kind.TheVariants as how
@@ -108,6 +108,22 @@ mutual
       ap (λ t. margin ++ (codes "if (" ++ (t ++ (codes ")" ++ (block_text margin (bare_block one) ++ (else_text margin (bare_else other) ++ codes "\n")))))) (expression_same x)
       ∙ ap (λ t. margin ++ (codes "if (" ++ (expression_text x ++ (codes ")" ++ (t ++ (else_text margin (bare_else other) ++ codes "\n")))))) (block_same margin one)
       ∙ ap (λ t. margin ++ (codes "if (" ++ (expression_text x ++ (codes ")" ++ (block_text margin one ++ (t ++ codes "\n")))))) (else_same margin other)
+  command_same margin (TryThen c place one other) =
+      ap (λ t. margin ++ (t ++ (codes " then" ++ (block_text margin (bare_block one) ++ (codes " otherwise" ++ (block_text margin (bare_block other) ++ codes "\n")))))) (simple_same c)
+      ∙ ap (λ t. margin ++ (simple_text c ++ (codes " then" ++ (t ++ (codes " otherwise" ++ (block_text margin (bare_block other) ++ codes "\n")))))) (block_same margin one)
+      ∙ ap (λ t. margin ++ (simple_text c ++ (codes " then" ++ (block_text margin one ++ (codes " otherwise" ++ (t ++ codes "\n")))))) (block_same margin other)
+  command_same margin (Case place x arms) =
+      let m = margin ++ codes "  " in
+      let foot = margin ++ codes "}\n" in
+      ap (λ t. margin ++ (codes "case (" ++ (t ++ (codes ") {\n" ++ (arms_text m (bare_arms arms) ++ foot))))) (expression_same x)
+      ∙ ap (λ t. margin ++ (codes "case (" ++ (expression_text x ++ (codes ") {\n" ++ (t ++ foot))))) (arms_same m arms)
+
+  arms_same : (margin : List ℕ) (arms : Arms) → arms_text margin (bare_arms arms) ≡ arms_text margin arms
+  arms_same margin (Last block) = ap (λ t. margin ++ (codes "else" ++ (t ++ codes "\n"))) (block_same margin block)
+  arms_same margin (Arm constants block arms) =
+      ap (λ t. margin ++ (t ++ (codes ":" ++ (block_text margin (bare_block block) ++ (codes "\n" ++ arms_text margin (bare_arms arms)))))) (parts_same constants)
+      ∙ ap (λ t. margin ++ (parts_text constants ++ (codes ":" ++ (t ++ (codes "\n" ++ arms_text margin (bare_arms arms)))))) (block_same margin block)
+      ∙ ap (λ t. margin ++ (parts_text constants ++ (codes ":" ++ (block_text margin block ++ (codes "\n" ++ t))))) (arms_same margin arms)
 
   block_same : (margin : List ℕ) (x : CommandBlock) → block_text margin (bare_block x) ≡ block_text margin x
   block_same margin (Commands cs after) = ap (λ t. codes " {\n" ++ (t ++ (margin ++ codes "}"))) (commands_same (margin ++ codes "  ") cs)
@@ -174,7 +190,8 @@ mutual
 design_same : (x : DesignTree) → canonical_text (bare x) ≡ canonical_text x
 unfolding canonical_text bare
 design_same x =
-    ap (λ t. t ++ states_text [] (bare_states x.states)) (declarations_same x.declarations) ∙ ap (λ t. flat_map declaration_text x.declarations ++ t) (states_same [] x.states)
+    ap (λ t. version_text x.version ++ (t ++ states_text [] (bare_states x.states))) (declarations_same x.declarations)
+    ∙ ap (λ t. version_text x.version ++ (flat_map declaration_text x.declarations ++ t)) (states_same [] x.states)
 
 pub places_aside : (one other : DesignTree) → bare one ≡ bare other → canonical_text one ≡ canonical_text other
 places_aside one other e = sym (design_same one) ∙ ap canonical_text e ∙ design_same other

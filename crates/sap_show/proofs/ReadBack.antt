@@ -17,6 +17,7 @@ use Rattle.sap_tree.specs.Words.{is_name}
 use Rattle.sap_tree.specs.declared.place.Place.{Place}
 use Rattle.sap_tree.specs.declared.syntax.BinaryOperator.TheVariants as b
 use Rattle.sap_tree.specs.declared.syntax.BinaryOperator.{BinaryOperator}
+use Rattle.sap_tree.specs.declared.version.Version.{Version}
 
 -- at p stand the tokens of these pieces, and q comes behind them
 abbrev pub Stand : List Piece → Stage → Stage → Type 0
@@ -176,16 +177,16 @@ pub record ReadsTwo (xs : Expressions) (rest : List Piece) (p q : Stage) : Type 
 mutual
   unfolding bare_expression is_expression precedence_of
 
-  pub expression_reads : (x : Expression) → is_expression x ≡ true → (rest : List Piece) (p q : Stage) → Stand (expression x rest) p q → Reads x (precedence_of x) rest p q
-  expression_reads (Number spot n) d rest p q h =
+  pub expression_reads : (version : Version) (x : Expression) → is_expression version x ≡ true → (rest : List Piece) (p q : Stage) → Stand (expression x rest) p q → Reads x (precedence_of x) rest p q
+  expression_reads version (Number spot n) d rest p q h =
       record { tree = Number (spot_here p) n; same = refl; level = primary_precedence; tightly = omega arith; end = h.0; read = tight (g.post (g.number h.1) g.no_cut); follow = h.2 }
-  expression_reads (Sized spot width n) d rest p q h =
+  expression_reads version (Sized spot width n) d rest p q h =
       record { tree = Sized (spot_here p) width n; same = refl; level = primary_precedence; tightly = omega arith; end = h.0; read = tight (g.post (g.sized h.1) g.no_cut); follow = h.2 }
-  expression_reads (Read spot n) d rest p q h =
+  expression_reads version (Read spot n) d rest p q h =
       record { tree = Read (spot_here p) n; same = refl; level = primary_precedence; tightly = omega arith; end = h.0; read = tight (g.post (g.read h.1) g.no_cut); follow = h.2 }
-  expression_reads (Cell spot n i) d rest p q h =
+  expression_reads version (Cell spot n i) d rest p q h =
       let c = h.2 in
-      let a = expression_reads i (both (is_name n) (is_expression i) d).1 (sign r.Closing s.CloseBracket ∷ rest) c.0 q c.2 in
+      let a = expression_reads version i (both (is_name version n) (is_expression version i) d).1 (sign r.Closing s.CloseBracket ∷ rest) c.0 q c.2 in
       record {
         tree = Cell (spot_here p) n a.tree;
         same = ap (λ z. Cell no_spot n z) a.same;
@@ -195,8 +196,8 @@ mutual
         read = tight (g.post (g.cell h.1 c.1 (as_expression a.read) a.follow.1) g.no_cut);
         follow = a.follow.2;
       }
-  expression_reads (Unary spot o x) d rest p q h =
-      let a = in_place unary_precedence x (λ ps. expression x ps) (λ ps p q k. expression_reads x d ps p q k) (omega arith) rest h.0 q h.2 in
+  expression_reads version (Unary spot o x) d rest p q h =
+      let a = in_place unary_precedence x (λ ps. expression x ps) (λ ps p q k. expression_reads version x d ps p q k) (omega arith) rest h.0 q h.2 in
       record {
         tree = Unary (spot_here p) o a.tree;
         same = ap (λ z. Unary no_spot o z) a.same;
@@ -206,12 +207,12 @@ mutual
         read = joined (omega arith) (omega arith) (g.operand (g.signed o h.1 (as_unary a.tightly a.read)));
         follow = a.follow;
       }
-  expression_reads (Binary spot o x y) d rest p q h =
+  expression_reads version (Binary spot o x y) d rest p q h =
       let small = precedence_small o in
-      let e = both (is_expression x) (is_expression y) d in
-      let a = in_place (precedence o) x (λ ps. expression x ps) (λ ps p q k. expression_reads x e.0 ps p q k) (omega arith) _ p q h in
+      let e = both (is_expression version x) (is_expression version y) d in
+      let a = in_place (precedence o) x (λ ps. expression x ps) (λ ps p q k. expression_reads version x e.0 ps p q k) (omega arith) _ p q h in
       let c = a.follow in
-      let v = in_place (precedence o + 1) y (λ ps. expression y ps) (λ ps p q k. expression_reads y e.1 ps p q k) (omega arith) rest c.0 q c.2 in
+      let v = in_place (precedence o + 1) y (λ ps. expression y ps) (λ ps p q k. expression_reads version y e.1 ps p q k) (omega arith) rest c.0 q c.2 in
       record {
         tree = Binary (record { first = first_of a.tree; at = here a.end }) o a.tree v.tree;
         same = ap (λ z. Binary no_spot o z (bare_expression v.tree)) a.same ∙ ap (λ z. Binary no_spot o (bare_expression x) z) v.same;
@@ -222,14 +223,14 @@ mutual
             (as_joined (precedence o + 1) (omega arith) (omega arith) v.tightly v.read));
         follow = v.follow;
       }
-  expression_reads (Choose spot x y z) d rest p q h =
-      let e = both (is_expression x && is_expression y) (is_expression z) d in
-      let f = both (is_expression x) (is_expression y) e.0 in
-      let a = in_place 1 x (λ ps. expression x ps) (λ ps p q k. expression_reads x f.0 ps p q k) (omega arith) _ p q h in
+  expression_reads version (Choose spot x y z) d rest p q h =
+      let e = both (is_expression version x && is_expression version y) (is_expression version z) d in
+      let f = both (is_expression version x) (is_expression version y) e.0 in
+      let a = in_place 1 x (λ ps. expression x ps) (λ ps p q k. expression_reads version x f.0 ps p q k) (omega arith) _ p q h in
       let c = a.follow in
-      let v = expression_reads y f.1 (space ∷ sign r.Inner s.Colon ∷ space ∷ expression z rest) c.0 q c.2 in
+      let v = expression_reads version y f.1 (space ∷ sign r.Inner s.Colon ∷ space ∷ expression z rest) c.0 q c.2 in
       let k = v.follow in
-      let t = expression_reads z e.1 rest k.0 q k.2 in
+      let t = expression_reads version z e.1 rest k.0 q k.2 in
       record {
         tree = Choose (record { first = first_of a.tree; at = here a.end }) a.tree v.tree t.tree;
         same = ap (λ u. Choose no_spot u (bare_expression v.tree) (bare_expression t.tree)) a.same
@@ -240,8 +241,8 @@ mutual
         read = loose (g.choice (as_joined 1 (omega arith) (omega arith) a.tightly a.read) c.1 (as_expression v.read) k.1 (as_expression t.read));
         follow = t.follow;
       }
-  expression_reads (Slice spot x high low) d rest p q h =
-      let a = in_place slice_precedence x (λ ps. expression x ps) (λ ps p q k. expression_reads x (both (is_expression x) (is_number high) (both (is_expression x && is_number high) (is_number low) d).0).0 ps p q k) (omega arith) (bounds high low rest) p q h in
+  expression_reads version (Slice spot x high low) d rest p q h =
+      let a = in_place slice_precedence x (λ ps. expression x ps) (λ ps p q k. expression_reads version x (both (is_expression version x) (is_number high) (both (is_expression version x && is_number high) (is_number low) d).0).0 ps p q k) (omega arith) (bounds high low rest) p q h in
       let i = a.follow in let j = i.2 in let k = j.2 in let l = k.2 in let m = l.2 in
       record {
         tree = Slice (record { first = first_of a.tree; at = here a.end }) a.tree high low;
@@ -252,9 +253,9 @@ mutual
         read = tight (cut_behind (as_tight a.tightly a.read) (g.bounds i.1 j.1 k.1 l.1 m.1));
         follow = m.2;
       }
-  expression_reads (Concat spot xs) d rest p q h =
-      let e = both (has_two_parts xs) (are_expressions xs) d in
-      let a = two_read xs e.0 e.1 (sign r.Closing s.CloseBrace ∷ rest) h.0 q h.2 in
+  expression_reads version (Concat spot xs) d rest p q h =
+      let e = both (has_two_parts xs) (are_expressions version xs) d in
+      let a = two_read version xs e.0 e.1 (sign r.Closing s.CloseBrace ∷ rest) h.0 q h.2 in
       record {
         tree = Concat (spot_here p) (AndPart a.first (AndPart a.second a.others));
         same = ap (λ z. Concat no_spot z) a.same;
@@ -264,9 +265,9 @@ mutual
         read = tight (g.post (g.concat h.1 a.one a.comma a.two a.more a.follow.1) g.no_cut);
         follow = a.follow.2;
       }
-  expression_reads (Zext spot x width) d rest p q h =
+  expression_reads version (Zext spot x width) d rest p q h =
       let c = h.2 in
-      let a = expression_reads x (both (is_expression x) (is_number width) d).0 _ c.0 q c.2 in
+      let a = expression_reads version x (both (is_expression version x) (is_number width) d).0 _ c.0 q c.2 in
       let i = a.follow in let j = i.2 in let k = j.2 in
       record {
         tree = Zext (spot_here p) a.tree width;
@@ -278,16 +279,16 @@ mutual
         follow = k.2;
       }
 
-  two_read : (xs : Expressions) → has_two_parts xs ≡ true → are_expressions xs ≡ true → (rest : List Piece) (p q : Stage) → Stand (parts xs rest) p q → ReadsTwo xs rest p q
-  two_read NoPart t d rest p q h = absurd (cc)
-  two_read (AndPart x NoPart) t d rest p q h = absurd (cc)
-  two_read (AndPart x (AndPart y xs)) t d rest p q h =
-      let e = both (is_expression x) (are_expressions (AndPart y xs)) d in
-      let f = both (is_expression y) (are_expressions xs) e.1 in
-      let a = expression_reads x e.0 (more_parts (AndPart y xs) rest) p q h in
+  two_read : (version : Version) (xs : Expressions) → has_two_parts xs ≡ true → are_expressions version xs ≡ true → (rest : List Piece) (p q : Stage) → Stand (parts xs rest) p q → ReadsTwo xs rest p q
+  two_read version NoPart t d rest p q h = absurd (cc)
+  two_read version (AndPart x NoPart) t d rest p q h = absurd (cc)
+  two_read version (AndPart x (AndPart y xs)) t d rest p q h =
+      let e = both (is_expression version x) (are_expressions version (AndPart y xs)) d in
+      let f = both (is_expression version y) (are_expressions version xs) e.1 in
+      let a = expression_reads version x e.0 (more_parts (AndPart y xs) rest) p q h in
       let c = a.follow in
-      let v = expression_reads y f.0 (more_parts xs rest) c.0 q c.2 in
-      let t = parts_read xs f.1 rest v.end q v.follow in
+      let v = expression_reads version y f.0 (more_parts xs rest) c.0 q c.2 in
+      let t = parts_read version xs f.1 rest v.end q v.follow in
       record {
         first = a.tree;
         second = v.tree;
@@ -305,12 +306,12 @@ mutual
         follow = t.follow;
       }
 
-  parts_read : (xs : Expressions) → are_expressions xs ≡ true → (rest : List Piece) (p q : Stage) → Stand (more_parts xs rest) p q → ReadsParts xs rest p q
-  parts_read NoPart d rest p q h = record { tree = NoPart; same = refl; end = p; read = g.no_part; follow = h }
-  parts_read (AndPart x xs) d rest p q h =
-      let e = both (is_expression x) (are_expressions xs) d in
-      let a = expression_reads x e.0 (more_parts xs rest) h.0 q h.2 in
-      let t = parts_read xs e.1 rest a.end q a.follow in
+  parts_read : (version : Version) (xs : Expressions) → are_expressions version xs ≡ true → (rest : List Piece) (p q : Stage) → Stand (more_parts xs rest) p q → ReadsParts xs rest p q
+  parts_read version NoPart d rest p q h = record { tree = NoPart; same = refl; end = p; read = g.no_part; follow = h }
+  parts_read version (AndPart x xs) d rest p q h =
+      let e = both (is_expression version x) (are_expressions version xs) d in
+      let a = expression_reads version x e.0 (more_parts xs rest) h.0 q h.2 in
+      let t = parts_read version xs e.1 rest a.end q a.follow in
       record {
         tree = AndPart a.tree t.tree;
         same = ap (λ z. AndPart z (bare_expressions t.tree)) a.same ∙ ap (λ z. AndPart (bare_expression x) z) t.same;

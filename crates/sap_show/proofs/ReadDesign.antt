@@ -3,24 +3,26 @@ use Rattle.std.proofs.Common.{◌≡◌, ◌+◌, ℕ, zero, suc, List, [], ◌�
 use Rattle.std.specs.Prelude.{nat_le, ◌&&◌, map}
 use Rattle.std.specs.List.{list_all}
 use Rattle.sap_parse.specs.Grammar as g
-use Rattle.sap_parse.specs.Stages.{Stage, IsSign, here, mention, numeral}
+use Rattle.sap_parse.specs.Stages.{Stage, IsSign, here, spot_here, mention, numeral}
 use Rattle.sap_parse.specs.declared.limit.Role.TheVariants as r
 use Rattle.sap_parse.specs.declared.token.Sign.TheVariants as s
-use Rattle.sap_parse.specs.declared.token.Word.TheVariants as w
-use Rattle.sap_show.proofs.Pieces.{Piece, space, line, sign, word, name, expression, tag, tags, more_tags, simple, margin, command, block, else_part, commands, authority, kind, start, declaration, declarations, state, states, design}
+use Rattle.sap_tree.specs.declared.word.Word.TheVariants as w
+use Rattle.sap_show.proofs.Pieces.{Piece, space, line, sign, word, name, expression, tag, tags, more_tags, constant, more_constants, constants, simple, margin, command, arms, block, else_part, commands, authority, kind, start, declaration, declarations, state, states, header, design}
 use Rattle.sap_show.proofs.ReadBack.{Stand, expression_reads, as_expression, both}
-use Rattle.sap_tree.specs.Bare.{nowhere, bare_name, bare_number, bare_expression, bare_tag, bare_tags, bare_simple, bare_command, bare_block, bare_else, bare_list, bare_authority, bare_kind, bare_start, bare_declaration, bare_state, bare_states, bare}
+use Rattle.sap_tree.specs.Bare.{nowhere, bare_name, bare_number, bare_expression, bare_expressions, bare_tag, bare_tags, bare_simple, bare_command, bare_block, bare_else, bare_arms, bare_list, bare_authority, bare_kind, bare_start, bare_declaration, bare_state, bare_states, bare}
 use Rattle.sap_tree.specs.Extent.{fits, tag_fits}
-use Rattle.sap_tree.specs.Limits.{most_blocks}
-use Rattle.sap_tree.specs.Syntax.{Expression, TagExpression, TagExpressions, Level, TagOf, LevelAt, Join, NoTag, AndTag, SimpleCommand, Assign, Write, SetTag, SetCellTag, Goto, Fall, Command, Do, Try, If, CommandBlock, Commands, ElseBlock, NoElse, Else, CommandList, NoCommand, AndCommand, StateTree, StateOf, StateList, NoState, AndState, DesignTree}
-use Rattle.sap_tree.specs.Whole.{is_expression, is_tag, are_tags, has_two_tags, is_outermost, is_outermost_tag, is_simple, is_command, is_block, is_else, are_commands, is_kind, is_state, are_states, has_state, block_depth, is_tree, is_declaration}
-use Rattle.sap_tree.specs.Words.{is_name}
+use Rattle.sap_tree.specs.Limits.{most_arms, most_blocks}
+use Rattle.sap_tree.specs.Syntax.{Expression, Number, Sized, Read, Cell, Unary, Binary, Choose, Slice, Concat, Zext, Expressions, NoPart, AndPart, TagExpression, TagExpressions, Level, TagOf, LevelAt, Join, NoTag, AndTag, SimpleCommand, Assign, Write, SetTag, SetCellTag, Goto, Fall, Command, Do, Try, If, TryThen, Case, Arms, Last, Arm, CommandBlock, Commands, ElseBlock, NoElse, Else, CommandList, NoCommand, AndCommand, StateTree, StateOf, StateList, NoState, AndState, DesignTree}
+use Rattle.sap_tree.specs.Whole.{is_expression, is_tag, are_tags, has_two_tags, is_outermost, is_outermost_tag, is_simple, is_command, is_block, is_else, is_constant, are_constants, has_constant, arm_count, are_arms, are_commands, is_kind, is_state, are_states, has_state, block_depth, is_tree, is_declaration}
+use Rattle.sap_tree.specs.Words.{is_name, is_second}
 use Rattle.sap_tree.specs.declared.syntax.Decl.TheVariants as d
 use Rattle.sap_tree.specs.declared.syntax.Decl.{Decl}
 use Rattle.sap_tree.specs.declared.syntax.Kind.TheVariants as how
 use Rattle.sap_tree.specs.declared.syntax.Kind.{Kind as KindTree}
 use Rattle.sap_tree.specs.declared.syntax.Numeral.{Numeral}
 use Rattle.sap_tree.specs.declared.syntax.Under.{Under}
+use Rattle.sap_tree.specs.declared.version.Version.TheVariants.{One, Two}
+use Rattle.sap_tree.specs.declared.version.Version.{Version}
 
 -- the same, for each kind of tree
 
@@ -56,12 +58,12 @@ pub record ReadsTwoTags (xs : TagExpressions) (rest : List Piece) (p q : Stage) 
 mutual
   unfolding bare_tag is_tag
 
-  pub tag_reads : (x : TagExpression) → is_tag x ≡ true → (rest : List Piece) (p q : Stage) → Stand (tag x rest) p q → ReadsTag x rest p q
-  tag_reads (Level n) h rest p q o =
+  pub tag_reads : (version : Version) (x : TagExpression) → is_tag version x ≡ true → (rest : List Piece) (p q : Stage) → Stand (tag x rest) p q → ReadsTag x rest p q
+  tag_reads version (Level n) h rest p q o =
       record { tree = Level (mention p n.name); same = refl; end = o.0; read = g.level o.1; follow = o.2 }
-  tag_reads (TagOf place x) h rest p q o =
+  tag_reads version (TagOf place x) h rest p q o =
       let i = o.2 in
-      let a = expression_reads x h (sign r.Closing s.CloseParen ∷ rest) i.0 q i.2 in
+      let a = expression_reads version x h (sign r.Closing s.CloseParen ∷ rest) i.0 q i.2 in
       record {
         tree = TagOf (here p) a.tree;
         same = ap (λ z. TagOf nowhere z) a.same;
@@ -69,9 +71,9 @@ mutual
         read = g.tag_of o.1 i.1 (as_expression a.read) a.follow.1;
         follow = a.follow.2;
       }
-  tag_reads (LevelAt place x) h rest p q o =
+  tag_reads version (LevelAt place x) h rest p q o =
       let i = o.2 in
-      let a = expression_reads x h (sign r.Closing s.CloseParen ∷ rest) i.0 q i.2 in
+      let a = expression_reads version x h (sign r.Closing s.CloseParen ∷ rest) i.0 q i.2 in
       record {
         tree = LevelAt (here p) a.tree;
         same = ap (λ z. LevelAt nowhere z) a.same;
@@ -79,10 +81,10 @@ mutual
         read = g.level_at o.1 i.1 (as_expression a.read) a.follow.1;
         follow = a.follow.2;
       }
-  tag_reads (Join place xs) h rest p q o =
-      let e = both (has_two_tags xs) (are_tags xs) h in
+  tag_reads version (Join place xs) h rest p q o =
+      let e = both (has_two_tags xs) (are_tags version xs) h in
       let i = o.2 in
-      let a = two_read xs e.0 e.1 (sign r.Closing s.CloseParen ∷ rest) i.0 q i.2 in
+      let a = two_read version xs e.0 e.1 (sign r.Closing s.CloseParen ∷ rest) i.0 q i.2 in
       record {
         tree = Join (here p) (AndTag a.first (AndTag a.second a.others));
         same = ap (λ z. Join nowhere z) a.same;
@@ -91,16 +93,16 @@ mutual
         follow = a.follow.2;
       }
 
-  two_read : (xs : TagExpressions) → has_two_tags xs ≡ true → are_tags xs ≡ true → (rest : List Piece) (p q : Stage) → Stand (tags xs rest) p q → ReadsTwoTags xs rest p q
-  two_read NoTag t h rest p q o = absurd (cc)
-  two_read (AndTag x NoTag) t h rest p q o = absurd (cc)
-  two_read (AndTag x (AndTag y xs)) t h rest p q o =
-      let e = both (is_tag x) (are_tags (AndTag y xs)) h in
-      let f = both (is_tag y) (are_tags xs) e.1 in
-      let a = tag_reads x e.0 (more_tags (AndTag y xs) rest) p q o in
+  two_read : (version : Version) (xs : TagExpressions) → has_two_tags xs ≡ true → are_tags version xs ≡ true → (rest : List Piece) (p q : Stage) → Stand (tags xs rest) p q → ReadsTwoTags xs rest p q
+  two_read version NoTag t h rest p q o = absurd (cc)
+  two_read version (AndTag x NoTag) t h rest p q o = absurd (cc)
+  two_read version (AndTag x (AndTag y xs)) t h rest p q o =
+      let e = both (is_tag version x) (are_tags version (AndTag y xs)) h in
+      let f = both (is_tag version y) (are_tags version xs) e.1 in
+      let a = tag_reads version x e.0 (more_tags (AndTag y xs) rest) p q o in
       let i = a.follow in
-      let v = tag_reads y f.0 (more_tags xs rest) i.0 q i.2 in
-      let l = tags_read xs f.1 rest v.end q v.follow in
+      let v = tag_reads version y f.0 (more_tags xs rest) i.0 q i.2 in
+      let l = tags_read version xs f.1 rest v.end q v.follow in
       record {
         first = a.tree;
         second = v.tree;
@@ -118,12 +120,12 @@ mutual
         follow = l.follow;
       }
 
-  tags_read : (xs : TagExpressions) → are_tags xs ≡ true → (rest : List Piece) (p q : Stage) → Stand (more_tags xs rest) p q → ReadsTags xs rest p q
-  tags_read NoTag h rest p q o = record { tree = NoTag; same = refl; end = p; read = g.no_tag; follow = o }
-  tags_read (AndTag x xs) h rest p q o =
-      let e = both (is_tag x) (are_tags xs) h in
-      let a = tag_reads x e.0 (more_tags xs rest) o.0 q o.2 in
-      let l = tags_read xs e.1 rest a.end q a.follow in
+  tags_read : (version : Version) (xs : TagExpressions) → are_tags version xs ≡ true → (rest : List Piece) (p q : Stage) → Stand (more_tags xs rest) p q → ReadsTags xs rest p q
+  tags_read version NoTag h rest p q o = record { tree = NoTag; same = refl; end = p; read = g.no_tag; follow = o }
+  tags_read version (AndTag x xs) h rest p q o =
+      let e = both (is_tag version x) (are_tags version xs) h in
+      let a = tag_reads version x e.0 (more_tags xs rest) o.0 q o.2 in
+      let l = tags_read version xs e.1 rest a.end q a.follow in
       record {
         tree = AndTag a.tree l.tree;
         same = ap (λ z. AndTag z (bare_tags l.tree)) a.same ∙ ap (λ z. AndTag (bare_tag x) z) l.same;
@@ -134,11 +136,11 @@ mutual
 
 -- an expression or a tag expression that stands in no other
 
-inner : (x : Expression) → is_outermost x ≡ true → is_expression x ≡ true
-inner x h = (both (is_expression x) (fits x) h).0
+inner : (version : Version) (x : Expression) → is_outermost version x ≡ true → is_expression version x ≡ true
+inner version x h = (both (is_expression version x) (fits x) h).0
 
-inner_tag : (x : TagExpression) → is_outermost_tag x ≡ true → is_tag x ≡ true
-inner_tag x h = (both (is_tag x) (tag_fits x) h).0
+inner_tag : (version : Version) (x : TagExpression) → is_outermost_tag version x ≡ true → is_tag version x ≡ true
+inner_tag version x h = (both (is_tag version x) (tag_fits x) h).0
 
 pub record ReadsSimple (depth : ℕ) (c : SimpleCommand) (rest : List Piece) (p q : Stage) : Type 0 where
   pub tree : SimpleCommand
@@ -147,11 +149,11 @@ pub record ReadsSimple (depth : ℕ) (c : SimpleCommand) (rest : List Piece) (p 
   pub read : g.Simple depth p tree end
   pub follow : Stand rest end q
 
-simple_reads : (depth : ℕ) (c : SimpleCommand) → is_simple c ≡ true → (rest : List Piece) (p q : Stage) → Stand (simple depth c rest) p q → ReadsSimple depth c rest p q
+simple_reads : (version : Version) (depth : ℕ) (c : SimpleCommand) → is_simple version c ≡ true → (rest : List Piece) (p q : Stage) → Stand (simple depth c rest) p q → ReadsSimple depth c rest p q
 unfolding bare_simple is_simple
-simple_reads depth (Assign n x) h rest p q o =
+simple_reads version depth (Assign n x) h rest p q o =
     let i = o.2 in
-    let a = expression_reads x (inner x (both (is_name n.name) (is_outermost x) h).1) rest i.0 q i.2 in
+    let a = expression_reads version x (inner version x (both (is_name version n.name) (is_outermost version x) h).1) rest i.0 q i.2 in
     record {
       tree = Assign (mention p n.name) a.tree;
       same = ap (λ z. Assign (bare_name n) z) a.same;
@@ -159,14 +161,14 @@ simple_reads depth (Assign n x) h rest p q o =
       read = g.assign o.1 i.1 (as_expression a.read);
       follow = a.follow;
     }
-simple_reads depth (Write n y x) h rest p q o =
-    let e = both (is_name n.name && is_outermost y) (is_outermost x) h in
-    let f = both (is_name n.name) (is_outermost y) e.0 in
+simple_reads version depth (Write n y x) h rest p q o =
+    let e = both (is_name version n.name && is_outermost version y) (is_outermost version x) h in
+    let f = both (is_name version n.name) (is_outermost version y) e.0 in
     let i = o.2 in
-    let a = expression_reads y (inner y f.1) (sign r.Plain s.CloseBracket ∷ space ∷ sign r.Plain s.Becomes ∷ space ∷ expression x rest) i.0 q i.2 in
+    let a = expression_reads version y (inner version y f.1) (sign r.Plain s.CloseBracket ∷ space ∷ sign r.Plain s.Becomes ∷ space ∷ expression x rest) i.0 q i.2 in
     let j = a.follow in
     let l = j.2 in
-    let v = expression_reads x (inner x e.1) rest l.0 q l.2 in
+    let v = expression_reads version x (inner version x e.1) rest l.0 q l.2 in
     record {
       tree = Write (mention p n.name) a.tree v.tree;
       same = ap (λ z. Write (bare_name n) z (bare_expression v.tree)) a.same ∙ ap (λ z. Write (bare_name n) (bare_expression y) z) v.same;
@@ -174,9 +176,9 @@ simple_reads depth (Write n y x) h rest p q o =
       read = g.write o.1 i.1 (as_expression a.read) j.1 l.1 (as_expression v.read);
       follow = v.follow;
     }
-simple_reads depth (SetTag place n x) h rest p q o =
+simple_reads version depth (SetTag place n x) h rest p q o =
     let i = o.2 in let j = i.2 in let l = j.2 in
-    let a = tag_reads x (inner_tag x (both (is_name n.name) (is_outermost_tag x) h).1) (sign r.Plain s.CloseParen ∷ rest) l.0 q l.2 in
+    let a = tag_reads version x (inner_tag version x (both (is_name version n.name) (is_outermost_tag version x) h).1) (sign r.Plain s.CloseParen ∷ rest) l.0 q l.2 in
     record {
       tree = SetTag (here p) (mention i.0 n.name) a.tree;
       same = ap (λ z. SetTag nowhere (bare_name n) z) a.same;
@@ -184,13 +186,13 @@ simple_reads depth (SetTag place n x) h rest p q o =
       read = g.set_tag o.1 i.1 j.1 l.1 a.read a.follow.1;
       follow = a.follow.2;
     }
-simple_reads depth (SetCellTag place n y x) h rest p q o =
-    let e = both (is_name n.name && is_outermost y) (is_outermost_tag x) h in
-    let f = both (is_name n.name) (is_outermost y) e.0 in
+simple_reads version depth (SetCellTag place n y x) h rest p q o =
+    let e = both (is_name version n.name && is_outermost version y) (is_outermost_tag version x) h in
+    let f = both (is_name version n.name) (is_outermost version y) e.0 in
     let i = o.2 in let j = i.2 in let l = j.2 in
-    let a = expression_reads y (inner y f.1) (sign r.Plain s.CloseBracket ∷ sign r.Plain s.Comma ∷ space ∷ tag x (sign r.Plain s.CloseParen ∷ rest)) l.0 q l.2 in
+    let a = expression_reads version y (inner version y f.1) (sign r.Plain s.CloseBracket ∷ sign r.Plain s.Comma ∷ space ∷ tag x (sign r.Plain s.CloseParen ∷ rest)) l.0 q l.2 in
     let m = a.follow in let u = m.2 in
-    let v = tag_reads x (inner_tag x e.1) (sign r.Plain s.CloseParen ∷ rest) u.0 q u.2 in
+    let v = tag_reads version x (inner_tag version x e.1) (sign r.Plain s.CloseParen ∷ rest) u.0 q u.2 in
     record {
       tree = SetCellTag (here p) (mention i.0 n.name) a.tree v.tree;
       same = ap (λ z. SetCellTag nowhere (bare_name n) z (bare_tag v.tree)) a.same ∙ ap (λ z. SetCellTag nowhere (bare_name n) (bare_expression y) z) v.same;
@@ -198,10 +200,54 @@ simple_reads depth (SetCellTag place n y x) h rest p q o =
       read = g.set_cell_tag o.1 i.1 j.1 l.1 (as_expression a.read) m.1 u.1 v.read v.follow.1;
       follow = v.follow.2;
     }
-simple_reads depth (Goto place n) h rest p q o =
+simple_reads version depth (Goto place n) h rest p q o =
     let i = o.2 in
     record { tree = Goto (here p) (mention o.0 n.name); same = refl; end = i.0; read = g.goto o.1 i.1; follow = i.2 }
-simple_reads depth (Fall place) h rest p q o = record { tree = Fall (here p); same = refl; end = o.0; read = g.fall o.1; follow = o.2 }
+simple_reads version depth (Fall place) h rest p q o = record { tree = Fall (here p); same = refl; end = o.0; read = g.fall o.1; follow = o.2 }
+
+-- constants
+
+pub record ReadsConstant (x : Expression) (rest : List Piece) (p q : Stage) : Type 0 where
+  pub tree : Expression
+  pub same : bare_expression tree ≡ bare_expression x
+  pub end : Stage
+  pub read : g.Constant p tree end
+  pub follow : Stand rest end q
+
+constant_reads : (x : Expression) → is_constant x ≡ true → (rest : List Piece) (p q : Stage) → Stand (constant x rest) p q → ReadsConstant x rest p q
+unfolding bare_expression
+constant_reads (Number spot n) h rest p q o = record { tree = Number (spot_here p) n; same = refl; end = o.0; read = g.plain o.1; follow = o.2 }
+constant_reads (Sized spot width n) h rest p q o = record { tree = Sized (spot_here p) width n; same = refl; end = o.0; read = g.wide o.1; follow = o.2 }
+constant_reads (Read spot n) h rest p q o = absurd (cc)
+constant_reads (Cell spot n i) h rest p q o = absurd (cc)
+constant_reads (Unary spot o x) h rest p q i = absurd (cc)
+constant_reads (Binary spot o x y) h rest p q i = absurd (cc)
+constant_reads (Choose spot x y z) h rest p q o = absurd (cc)
+constant_reads (Slice spot x high low) h rest p q o = absurd (cc)
+constant_reads (Concat spot xs) h rest p q o = absurd (cc)
+constant_reads (Zext spot x width) h rest p q o = absurd (cc)
+
+pub record ReadsConstants (xs : Expressions) (rest : List Piece) (p q : Stage) : Type 0 where
+  pub tree : Expressions
+  pub same : bare_expressions tree ≡ bare_expressions xs
+  pub end : Stage
+  pub read : g.Constants p tree end
+  pub follow : Stand rest end q
+
+constants_read : (xs : Expressions) → are_constants xs ≡ true → (rest : List Piece) (p q : Stage) → Stand (more_constants xs rest) p q → ReadsConstants xs rest p q
+unfolding bare_expression
+constants_read NoPart h rest p q o = record { tree = NoPart; same = refl; end = p; read = g.no_constant; follow = o }
+constants_read (AndPart x xs) h rest p q o =
+    let e = both (is_constant x) (are_constants xs) h in
+    let a = constant_reads x e.0 (more_constants xs rest) o.0 q o.2 in
+    let v = constants_read xs e.1 rest a.end q a.follow in
+    record {
+      tree = AndPart a.tree v.tree;
+      same = ap (λ z. AndPart z (bare_expressions v.tree)) a.same ∙ ap (λ z. AndPart (bare_expression x) z) v.same;
+      end = v.end;
+      read = g.constant o.1 a.read v.read;
+      follow = v.follow;
+    }
 
 behind_margin : (level : ℕ) (rest : List Piece) (p q : Stage) → Stand (margin level rest) p q → Stand rest p q
 behind_margin zero rest p q o = o
@@ -228,6 +274,21 @@ pub record ReadsElse (depth : ℕ) (x : ElseBlock) (rest : List Piece) (p q : St
   pub read : g.Else depth p tree end
   pub follow : Stand rest end q
 
+-- the constants of an arm and the `:` behind them: with a block there they are an arm
+pub record ReadsValues (xs : Expressions) (rest : List Piece) (p q : Stage) : Type 0 where
+  pub tree : Expressions
+  pub same : bare_expressions tree ≡ bare_expressions xs
+  pub end : Stage
+  pub read : (depth : ℕ) (b : CommandBlock) (m : Stage) → g.Block depth end b m → g.Arm depth p tree b m
+  pub follow : Stand rest end q
+
+pub record ReadsArms (depth : ℕ) (list : Arms) (rest : List Piece) (p q : Stage) : Type 0 where
+  pub tree : Arms
+  pub same : bare_arms tree ≡ bare_arms list
+  pub end : Stage
+  pub read : g.Arms depth p tree end
+  pub follow : Stand rest end q
+
 pub record ReadsCommands (depth : ℕ) (cs : CommandList) (rest : List Piece) (p q : Stage) : Type 0 where
   pub tree : CommandList
   pub same : bare_list tree ≡ bare_list cs
@@ -235,18 +296,38 @@ pub record ReadsCommands (depth : ℕ) (cs : CommandList) (rest : List Piece) (p
   pub read : g.Cmds depth p tree end
   pub follow : Stand rest end q
 
-mutual
-  unfolding bare_command is_command
+no_arm : false ≡ true → ⊥
+no_arm h = cc
 
-  command_reads : (c : Command) (level depth : ℕ) → is_command c ≡ true → (rest : List Piece) (p q : Stage) → Stand (command c level depth rest) p q → ReadsCommand depth c rest p q
-  command_reads (Do c) level depth h rest p q o =
-      let a = simple_reads depth c h (sign r.Plain s.Semicolon ∷ line ∷ rest) p q (behind_margin level _ p q o) in
+values_read : (xs : Expressions) → (has_constant xs && are_constants xs) ≡ true → (rest : List Piece) (p q : Stage) → Stand (constants xs (sign r.Plain s.Colon ∷ rest)) p q
+    → ReadsValues xs rest p q
+unfolding bare_expression
+values_read NoPart h rest p q o = absurd (no_arm h)
+values_read (AndPart x xs) h rest p q o =
+    let f = both (is_constant x) (are_constants xs) h in
+    let a = constant_reads x f.0 (more_constants xs (sign r.Plain s.Colon ∷ rest)) p q o in
+    let v = constants_read xs f.1 (sign r.Plain s.Colon ∷ rest) a.end q a.follow in
+    let i = v.follow in
+    record {
+      tree = AndPart a.tree v.tree;
+      same = ap (λ z. AndPart z (bare_expressions v.tree)) a.same ∙ ap (λ z. AndPart (bare_expression x) z) v.same;
+      end = i.0;
+      read = λ depth b m z. g.arm a.read v.read i.1 z;
+      follow = i.2;
+    }
+
+mutual
+  unfolding bare_command is_command bare_expression
+
+  command_reads : (version : Version) (c : Command) (level depth : ℕ) → is_command version c ≡ true → (rest : List Piece) (p q : Stage) → Stand (command c level depth rest) p q → ReadsCommand depth c rest p q
+  command_reads version (Do c) level depth h rest p q o =
+      let a = simple_reads version depth c h (sign r.Plain s.Semicolon ∷ line ∷ rest) p q (behind_margin level _ p q o) in
       record { tree = Do a.tree; same = ap (λ z. Do z) a.same; end = a.follow.0; read = g.unhandled a.read a.follow.1; follow = a.follow.2 }
-  command_reads (Try c place handler) level depth h rest p q o =
-      let e = both (is_simple c) (is_block handler) h in
-      let a = simple_reads depth c e.0 (space ∷ word r.Plain w.Otherwise ∷ block handler level depth (line ∷ rest)) p q (behind_margin level _ p q o) in
+  command_reads version (Try c place handler) level depth h rest p q o =
+      let e = both (is_simple version c) (is_block version handler) h in
+      let a = simple_reads version depth c e.0 (space ∷ word r.Plain w.Otherwise ∷ block handler level depth (line ∷ rest)) p q (behind_margin level _ p q o) in
       let i = a.follow in
-      let v = block_reads handler level depth e.1 (line ∷ rest) i.0 q i.2 in
+      let v = block_reads version handler level depth e.1 (line ∷ rest) i.0 q i.2 in
       record {
         tree = Try a.tree (here a.end) v.tree;
         same = ap (λ z. Try z nowhere (bare_block v.tree)) a.same ∙ ap (λ z. Try (bare_simple c) nowhere z) v.same;
@@ -254,16 +335,16 @@ mutual
         read = g.handled a.read i.1 v.read;
         follow = v.follow;
       }
-  command_reads (If place x one other) level depth h rest p q o =
-      let e = both (is_outermost x && is_block one) (is_else other) h in
-      let f = both (is_outermost x) (is_block one) e.0 in
+  command_reads version (If place x one other) level depth h rest p q o =
+      let e = both (is_outermost version x && is_block version one) (is_else version other) h in
+      let f = both (is_outermost version x) (is_block version one) e.0 in
       let i = behind_margin level (word (r.Command depth) w.If ∷ space ∷ sign r.Plain s.OpenParen
       ∷ expression x (sign r.Plain s.CloseParen ∷ block one level depth (else_part other level depth (line ∷ rest)))) p q o in
       let j = i.2 in
-      let a = expression_reads x (inner x f.0) (sign r.Plain s.CloseParen ∷ block one level depth (else_part other level depth (line ∷ rest))) j.0 q j.2 in
+      let a = expression_reads version x (inner version x f.0) (sign r.Plain s.CloseParen ∷ block one level depth (else_part other level depth (line ∷ rest))) j.0 q j.2 in
       let l = a.follow in
-      let v = block_reads one level depth f.1 (else_part other level depth (line ∷ rest)) l.0 q l.2 in
-      let u = else_reads other level depth e.1 (line ∷ rest) v.end q v.follow in
+      let v = block_reads version one level depth f.1 (else_part other level depth (line ∷ rest)) l.0 q l.2 in
+      let u = else_reads version other level depth e.1 (line ∷ rest) v.end q v.follow in
       record {
         tree = If (here p) a.tree v.tree u.tree;
         same = ap (λ z. If nowhere z (bare_block v.tree) (bare_else u.tree)) a.same
@@ -272,25 +353,98 @@ mutual
         read = g.branch i.1 j.1 (as_expression a.read) l.1 v.read u.read;
         follow = u.follow;
       }
+  command_reads version (TryThen c place one other) level depth h rest p q o =
+      let e = both (is_second version && is_simple version c && is_block version one) (is_block version other) h in
+      let f = both (is_second version && is_simple version c) (is_block version one) e.0 in
+      let i = both (is_second version) (is_simple version c) f.0 in
+      let last = space ∷ word r.Plain w.Otherwise ∷ block other level depth (line ∷ rest) in
+      let a = simple_reads version depth c i.1 (space ∷ word r.Plain w.Then ∷ block one level depth last) p q (behind_margin level _ p q o) in
+      let j = a.follow in
+      let v = block_reads version one level depth f.1 last j.0 q j.2 in
+      let l = v.follow in
+      let u = block_reads version other level depth e.1 (line ∷ rest) l.0 q l.2 in
+      record {
+        tree = TryThen a.tree (here a.end) v.tree u.tree;
+        same = ap (λ z. TryThen z nowhere (bare_block v.tree) (bare_block u.tree)) a.same
+            ∙ ap (λ z. TryThen (bare_simple c) nowhere z (bare_block u.tree)) v.same ∙ ap (λ z. TryThen (bare_simple c) nowhere (bare_block one) z) u.same;
+        end = u.end;
+        read = g.decided a.read j.1 v.read l.1 u.read;
+        follow = u.follow;
+      }
+  command_reads version (Case place x (Last b)) level depth h rest p q o =
+      let f = both (is_second version && is_outermost version x && false && nat_le 0 most_arms) (is_block version b) h in
+      let g = both (is_second version && is_outermost version x && false) (nat_le 0 most_arms) f.0 in
+      absurd (no_arm (both (is_second version && is_outermost version x) false g.0).1)
+  command_reads version (Case place x (Arm xs b list)) level depth h rest p q o =
+      let f = both (is_second version && is_outermost version x && true && nat_le (1 + arm_count list) most_arms) (are_arms version (Arm xs b list)) h in
+      let i = both (is_second version && is_outermost version x && true) (nat_le (1 + arm_count list) most_arms) f.0 in
+      let j = both (is_second version && is_outermost version x) true i.0 in
+      let l = both (is_second version) (is_outermost version x) j.0 in
+      let m = both (has_constant xs && are_constants xs && is_block version b) (are_arms version list) f.1 in
+      let foot = margin level (sign r.Plain s.CloseBrace ∷ line ∷ rest) in
+      let more = arms list (suc level) depth foot in
+      let first = arms (Arm xs b list) (suc level) depth foot in
+      let n = behind_margin level (word (r.Command depth) w.Case ∷ space ∷ sign r.Plain s.OpenParen
+      ∷ expression x (sign r.Plain s.CloseParen ∷ space ∷ sign r.Plain s.OpenBrace ∷ line ∷ first)) p q o in
+      let t = n.2 in
+      let a = expression_reads version x (inner version x l.1) (sign r.Plain s.CloseParen ∷ space ∷ sign r.Plain s.OpenBrace ∷ line ∷ first) t.0 q t.2 in
+      let u = a.follow in
+      let y = u.2 in
+      let e = both (has_constant xs && are_constants xs) (is_block version b) m.0 in
+      let c = values_read xs e.0 (block b (suc level) depth (line ∷ more)) y.0 q (behind_margin (suc level) _ y.0 q y.2) in
+      let k = block_reads version b (suc level) depth e.1 (line ∷ more) c.end q c.follow in
+      let v = arms_read version list (suc level) depth m.1 foot k.end q k.follow in
+      let end = behind_margin level (sign r.Plain s.CloseBrace ∷ line ∷ rest) v.end q v.follow in
+      record {
+        tree = Case (here p) a.tree (Arm c.tree k.tree v.tree);
+        same = ap (λ z. Case nowhere z (Arm (bare_expressions c.tree) (bare_block k.tree) (bare_arms v.tree))) a.same
+            ∙ ap (λ z. Case nowhere (bare_expression x) (Arm z (bare_block k.tree) (bare_arms v.tree))) c.same
+            ∙ ap (λ z. Case nowhere (bare_expression x) (Arm (bare_expressions xs) z (bare_arms v.tree))) k.same
+            ∙ ap (λ z. Case nowhere (bare_expression x) (Arm (bare_expressions xs) (bare_block b) z)) v.same;
+        end = end.0;
+        read = g.case n.1 t.1 (as_expression a.read) u.1 y.1 (c.read (depth + 1) k.tree k.end k.read) v.read end.1;
+        follow = end.2;
+      }
 
-  block_reads : (x : CommandBlock) (level depth : ℕ) → is_block x ≡ true → (rest : List Piece) (p q : Stage) → Stand (block x level depth rest) p q → ReadsBlock (depth + 1) x rest p q
-  block_reads (Commands cs after) level depth h rest p q o =
-      let a = commands_read cs (suc level) (depth + 1) h (margin level (sign r.Plain s.CloseBrace ∷ rest)) o.0 q o.2 in
+  arms_read : (version : Version) (list : Arms) (level depth : ℕ) → are_arms version list ≡ true → (rest : List Piece) (p q : Stage) → Stand (arms list level depth rest) p q → ReadsArms (depth + 1) list rest p q
+  arms_read version (Last b) level depth h rest p q o =
+      let i = behind_margin level (word r.Plain w.Else ∷ block b level depth (line ∷ rest)) p q o in
+      let a = block_reads version b level depth h (line ∷ rest) i.0 q i.2 in
+      record { tree = Last a.tree; same = ap (λ z. Last z) a.same; end = a.end; read = g.last i.1 a.read; follow = a.follow }
+  arms_read version (Arm xs b list) level depth h rest p q o =
+      let e = both (has_constant xs && are_constants xs && is_block version b) (are_arms version list) h in
+      let more = arms list level depth rest in
+      let f = both (has_constant xs && are_constants xs) (is_block version b) e.0 in
+      let c = values_read xs f.0 (block b level depth (line ∷ more)) p q (behind_margin level _ p q o) in
+      let i = block_reads version b level depth f.1 (line ∷ more) c.end q c.follow in
+      let v = arms_read version list level depth e.1 rest i.end q i.follow in
+      record {
+        tree = Arm c.tree i.tree v.tree;
+        same = ap (λ z. Arm z (bare_block i.tree) (bare_arms v.tree)) c.same
+            ∙ ap (λ z. Arm (bare_expressions xs) z (bare_arms v.tree)) i.same ∙ ap (λ z. Arm (bare_expressions xs) (bare_block b) z) v.same;
+        end = v.end;
+        read = g.and_arm (c.read (depth + 1) i.tree i.end i.read) v.read;
+        follow = v.follow;
+      }
+
+  block_reads : (version : Version) (x : CommandBlock) (level depth : ℕ) → is_block version x ≡ true → (rest : List Piece) (p q : Stage) → Stand (block x level depth rest) p q → ReadsBlock (depth + 1) x rest p q
+  block_reads version (Commands cs after) level depth h rest p q o =
+      let a = commands_read version cs (suc level) (depth + 1) h (margin level (sign r.Plain s.CloseBrace ∷ rest)) o.0 q o.2 in
       let i = behind_margin level (sign r.Plain s.CloseBrace ∷ rest) a.end q a.follow in
       record { tree = Commands a.tree (here a.end); same = ap (λ z. Commands z nowhere) a.same; end = i.0; read = g.block o.1 a.read i.1; follow = i.2 }
 
-  else_reads : (x : ElseBlock) (level depth : ℕ) → is_else x ≡ true → (rest : List Piece) (p q : Stage) → Stand (else_part x level depth rest) p q → ReadsElse (depth + 1) x rest p q
-  else_reads NoElse level depth h rest p q o = record { tree = NoElse; same = refl; end = p; read = g.no_else; follow = o }
-  else_reads (Else x) level depth h rest p q o =
-      let a = block_reads x level depth h rest o.0 q o.2 in
+  else_reads : (version : Version) (x : ElseBlock) (level depth : ℕ) → is_else version x ≡ true → (rest : List Piece) (p q : Stage) → Stand (else_part x level depth rest) p q → ReadsElse (depth + 1) x rest p q
+  else_reads version NoElse level depth h rest p q o = record { tree = NoElse; same = refl; end = p; read = g.no_else; follow = o }
+  else_reads version (Else x) level depth h rest p q o =
+      let a = block_reads version x level depth h rest o.0 q o.2 in
       record { tree = Else a.tree; same = ap (λ z. Else z) a.same; end = a.end; read = g.else o.1 a.read; follow = a.follow }
 
-  commands_read : (cs : CommandList) (level depth : ℕ) → are_commands cs ≡ true → (rest : List Piece) (p q : Stage) → Stand (commands cs level depth rest) p q → ReadsCommands depth cs rest p q
-  commands_read NoCommand level depth h rest p q o = record { tree = NoCommand; same = refl; end = p; read = g.no_cmd; follow = o }
-  commands_read (AndCommand c cs) level depth h rest p q o =
-      let e = both (is_command c) (are_commands cs) h in
-      let a = command_reads c level depth e.0 (commands cs level depth rest) p q o in
-      let v = commands_read cs level depth e.1 rest a.end q a.follow in
+  commands_read : (version : Version) (cs : CommandList) (level depth : ℕ) → are_commands version cs ≡ true → (rest : List Piece) (p q : Stage) → Stand (commands cs level depth rest) p q → ReadsCommands depth cs rest p q
+  commands_read version NoCommand level depth h rest p q o = record { tree = NoCommand; same = refl; end = p; read = g.no_cmd; follow = o }
+  commands_read version (AndCommand c cs) level depth h rest p q o =
+      let e = both (is_command version c) (are_commands version cs) h in
+      let a = command_reads version c level depth e.0 (commands cs level depth rest) p q o in
+      let v = commands_read version cs level depth e.1 rest a.end q a.follow in
       record {
         tree = AndCommand a.tree v.tree;
         same = ap (λ z. AndCommand z (bare_list v.tree)) a.same ∙ ap (λ z. AndCommand (bare_command c) z) v.same;
@@ -432,12 +586,12 @@ pub record ReadsStates (depth : ℕ) (xs : StateList) (rest : List Piece) (p q :
 mutual
   unfolding bare_state is_state is_command bare_command
 
-  state_reads : (x : StateTree) (level depth : ℕ) → is_state x ≡ true → (rest : List Piece) (p q : Stage) → Stand (state x level depth rest) p q → ReadsState depth x rest p q
-  state_reads (StateOf place n x (Commands cs after) children) level depth h rest p q o =
+  state_reads : (version : Version) (x : StateTree) (level depth : ℕ) → is_state version x ≡ true → (rest : List Piece) (p q : Stage) → Stand (state x level depth rest) p q → ReadsState depth x rest p q
+  state_reads version (StateOf place n x (Commands cs after) children) level depth h rest p q o =
       let b = Commands cs after in
-      let e = both (is_name n.name && is_kind x && is_block b && nat_le (block_depth b) most_blocks) (are_states children) h in
-      let f = both (is_name n.name && is_kind x && is_block b) (nat_le (block_depth b) most_blocks) e.0 in
-      let u = both (is_name n.name && is_kind x) (is_block b) f.0 in
+      let e = both (is_name version n.name && is_kind version x && is_block version b && nat_le (block_depth b) most_blocks) (are_states version children) h in
+      let f = both (is_name version n.name && is_kind version x && is_block version b) (nat_le (block_depth b) most_blocks) e.0 in
+      let u = both (is_name version n.name && is_kind version x) (is_block version b) f.0 in
       let last = margin level (sign r.Plain s.CloseBrace ∷ line ∷ rest) in
       let below = states children (suc level) (depth + 1) last in
       let i = behind_margin level (word (r.State depth) w.State ∷ space ∷ name r.Plain n.name ∷ space ∷ kind x (space ∷ sign r.Plain s.OpenBrace ∷ line
@@ -445,8 +599,8 @@ mutual
       let j = i.2 in
       let a = kind_reads x (space ∷ sign r.Plain s.OpenBrace ∷ line ∷ commands cs (suc level) 1 below) j.0 q j.2 in
       let l = a.follow in
-      let v = commands_read cs (suc level) 1 u.1 below l.0 q l.2 in
-      let t = states_read children (suc level) (depth + 1) e.1 last v.end q v.follow in
+      let v = commands_read version cs (suc level) 1 u.1 below l.0 q l.2 in
+      let t = states_read version children (suc level) (depth + 1) e.1 last v.end q v.follow in
       let m = behind_margin level (sign r.Plain s.CloseBrace ∷ line ∷ rest) t.end q t.follow in
       record {
         tree = StateOf (here p) (mention i.0 n.name) a.tree (Commands v.tree (here v.end)) t.tree;
@@ -458,12 +612,12 @@ mutual
         follow = m.2;
       }
 
-  states_read : (xs : StateList) (level depth : ℕ) → are_states xs ≡ true → (rest : List Piece) (p q : Stage) → Stand (states xs level depth rest) p q → ReadsStates depth xs rest p q
-  states_read NoState level depth h rest p q o = record { tree = NoState; same = refl; end = p; read = g.no_state; follow = o }
-  states_read (AndState x xs) level depth h rest p q o =
-      let e = both (is_state x) (are_states xs) h in
-      let a = state_reads x level depth e.0 (states xs level depth rest) p q o in
-      let v = states_read xs level depth e.1 rest a.end q a.follow in
+  states_read : (version : Version) (xs : StateList) (level depth : ℕ) → are_states version xs ≡ true → (rest : List Piece) (p q : Stage) → Stand (states xs level depth rest) p q → ReadsStates depth xs rest p q
+  states_read version NoState level depth h rest p q o = record { tree = NoState; same = refl; end = p; read = g.no_state; follow = o }
+  states_read version (AndState x xs) level depth h rest p q o =
+      let e = both (is_state version x) (are_states version xs) h in
+      let a = state_reads version x level depth e.0 (states xs level depth rest) p q o in
+      let v = states_read version xs level depth e.1 rest a.end q a.follow in
       record {
         tree = AndState a.tree v.tree;
         same = ap (λ z. AndState z (bare_states v.tree)) a.same ∙ ap (λ z. AndState (bare_state x) z) v.same;
@@ -472,31 +626,41 @@ mutual
         follow = v.follow;
       }
 
+-- the first line
+
+pub record ReadsHeader (version : Version) (rest : List Piece) (p q : Stage) : Type 0 where
+  pub end : Stage
+  pub read : g.Header p version end
+  pub follow : Stand rest end q
+
+header_reads : (version : Version) (rest : List Piece) (p q : Stage) → Stand (header version rest) p q → ReadsHeader version rest p q
+header_reads One rest p q o = record { end = p; read = g.no_header; follow = o }
+header_reads Two rest p q o = let i = o.2 in let j = i.2 in record { end = j.0; read = g.header o.1 i.1 j.1; follow = j.2 }
+
 pub record ReadsDesign (x : DesignTree) (p q : Stage) : Type 0 where
   pub tree : DesignTree
   pub same : bare tree ≡ bare x
   pub read : g.Design p tree q
 
-abbrev with_parts : List Decl → StateList → DesignTree
-with_parts declarations states = record { declarations = declarations; states = states }
+abbrev with_parts : Version → List Decl → StateList → DesignTree
+with_parts version declarations states = record { version = version; declarations = declarations; states = states }
 
 pub design_reads : (x : DesignTree) → is_tree x ≡ true → (p q : Stage) → Stand (design x) p q → ReadsDesign x p q
 unfolding bare bare_state is_state
-design_reads x h p q o = by_states x.states (both (list_all is_declaration x.declarations && has_state x.states) (are_states x.states) h) o where
-  by_states : (ss : StateList) → ((list_all is_declaration x.declarations && has_state ss) ≡ true) × (are_states ss ≡ true)
-      → Stand (declarations x.declarations (states ss 0 1 [])) p q → ReadsDesign (with_parts x.declarations ss) p q
-  by_states NoState e o = absurd (no_state (both (list_all is_declaration x.declarations) false e.0).1) where
-    no_state : false ≡ true → ⊥
-    no_state t = cc
+design_reads x h p q o = by_states x.states (both (list_all (is_declaration x.version) x.declarations && has_state x.states) (are_states x.version x.states) h) o where
+  by_states : (ss : StateList) → ((list_all (is_declaration x.version) x.declarations && has_state ss) ≡ true) × (are_states x.version ss ≡ true)
+      → Stand (header x.version (declarations x.declarations (states ss 0 1 []))) p q → ReadsDesign (with_parts x.version x.declarations ss) p q
+  by_states NoState e o = absurd (no_arm (both (list_all (is_declaration x.version) x.declarations) false e.0).1)
   by_states (AndState y ys) e o =
-      let f = both (is_state y) (are_states ys) e.1 in
-      let a = declarations_read x.declarations (states (AndState y ys) 0 1 []) p q o in
-      let v = state_reads y 0 1 f.0 (states ys 0 1 []) a.end q a.follow in
-      let t = states_read ys 0 1 f.1 [] v.end q v.follow in
+      let f = both (is_state x.version y) (are_states x.version ys) e.1 in
+      let first = header_reads x.version (declarations x.declarations (states (AndState y ys) 0 1 [])) p q o in
+      let a = declarations_read x.declarations (states (AndState y ys) 0 1 []) first.end q first.follow in
+      let v = state_reads x.version y 0 1 f.0 (states ys 0 1 []) a.end q a.follow in
+      let t = states_read x.version ys 0 1 f.1 [] v.end q v.follow in
       record {
-        tree = with_parts a.tree (AndState v.tree t.tree);
-        same = ap (λ z. with_parts z (AndState (bare_state v.tree) (bare_states t.tree))) a.same
-            ∙ ap (λ z. with_parts (map bare_declaration x.declarations) (AndState z (bare_states t.tree))) v.same
-            ∙ ap (λ z. with_parts (map bare_declaration x.declarations) (AndState (bare_state y) z)) t.same;
-        read = subst (λ m. g.Design p (with_parts a.tree (AndState v.tree t.tree)) m) t.follow (g.design a.read v.read t.read);
+        tree = with_parts x.version a.tree (AndState v.tree t.tree);
+        same = ap (λ z. with_parts x.version z (AndState (bare_state v.tree) (bare_states t.tree))) a.same
+            ∙ ap (λ z. with_parts x.version (map bare_declaration x.declarations) (AndState z (bare_states t.tree))) v.same
+            ∙ ap (λ z. with_parts x.version (map bare_declaration x.declarations) (AndState (bare_state y) z)) t.same;
+        read = subst (λ m. g.Design p (with_parts x.version a.tree (AndState v.tree t.tree)) m) t.follow (g.design first.read a.read v.read t.read);
       }

@@ -1,20 +1,24 @@
 -- The canonical text of a whole design is read as that design, places aside.
 use Rattle.std.proofs.Common.{◌≡◌, ◌+◌, ℕ, List, [], ◌∷◌, ◌++◌, length, drop, true, refl, sym, ap, ◌∙◌, arith, subst, Option, None, append_assoc, length-append}
 use Rattle.std.proofs.lemmas.Grind.{common_steps}
-use Rattle.std.specs.Prelude.{◌&&◌}
+use Rattle.std.specs.Prelude.{◌&&◌, map}
 use Rattle.sap_walk.specs.Reached as walk
 use Rattle.sap_walk.specs.Limits.{Past, passed, first_of}
 use Rattle.sap_parse.specs.Lexemes.{lexeme_of}
-use Rattle.sap_parse.specs.Lexing.{Reached, StandsAt, place_of}
+use Rattle.sap_parse.specs.Lexing.{Reached, StandsAt, keyed, later_token, place_of, with_kind}
 use Rattle.sap_parse.specs.Limits.{Counts, tally, breach, breach_of_name, breach_of_role, ◌or_else◌}
 use Rattle.sap_parse.specs.Stages.{Stage, IsToken, at_start}
 use Rattle.sap_parse.specs.Text.{IsText}
 use Rattle.sap_parse.specs.declared.limit.Limit.{Limit}
 use Rattle.sap_parse.specs.declared.lexeme.Lexeme.TheVariants as l
+use Rattle.sap_parse.specs.Spelling.{sign_text}
+use Rattle.sap_parse.specs.declared.limit.Role.TheVariants.{Plain}
+use Rattle.sap_parse.specs.declared.token.Kind.TheVariants as k
 use Rattle.sap_parse.specs.declared.token.Kind.{Kind}
+use Rattle.sap_parse.specs.declared.token.Sign.TheVariants.{Semicolon}
 use Rattle.sap_parse.specs.declared.token.Token.{Token}
-use Rattle.sap_show.proofs.Lexed.{piece_lexed}
-use Rattle.sap_show.proofs.Pieces.{Piece, space, line, token, bytes_of, kind_bytes, design}
+use Rattle.sap_show.proofs.Lexed.{first_lexed, later_is, piece_lexed, raw, raw_is, semicolon_lexed}
+use Rattle.sap_show.proofs.Pieces.{Piece, space, line, token, sign, word, bytes_of, kind_bytes, declarations, states, header, parts_of, design}
 use Rattle.sap_show.proofs.PieceTexts.{design_says}
 use Rattle.sap_show.proofs.PlacesAside.{places_aside}
 use Rattle.sap_show.proofs.ReadBack.{Stand, both}
@@ -24,11 +28,21 @@ use Rattle.sap_show.proofs.Within.{Within, after, tally_is}
 use Rattle.sap_show.proofs.WithinDesign.{design_within}
 use Rattle.sap_show.specs.Canonical.{canonical_text}
 use Rattle.sap_show.specs.Reading.{ReadsAs, IsTextOfSame, ShownAgain}
-use Rattle.sap_tree.specs.Syntax.{DesignTree}
+use Rattle.sap_tree.specs.Syntax.{StateOf, StateList, NoState, AndState, DesignTree}
 use Rattle.sap_tree.specs.Whole.{is_whole, is_tree, is_within_limits}
+use Rattle.sap_tree.specs.Words.{word_text}
+use Rattle.sap_tree.specs.declared.syntax.Decl.TheVariants as d
+use Rattle.sap_tree.specs.declared.syntax.Decl.{Decl}
+use Rattle.sap_tree.specs.declared.version.Version.TheVariants as version_is
+use Rattle.sap_tree.specs.declared.version.Version.{Version}
+use Rattle.sap_tree.specs.declared.word.Word.TheVariants as w
 
 abbrev pub token_at : List ℕ → ℕ → Kind → Token
 token_at text n kind = record { kind = kind; place = place_of text n; from = n; to = n + length (kind_bytes kind) }
+
+-- as it is taken, before the words of the second version are made
+abbrev pub raw_at : List ℕ → ℕ → Kind → Token
+raw_at text n kind = record { kind = raw kind; place = place_of text n; from = n; to = n + length (kind_bytes kind) }
 
 -- the tokens of pieces that begin at byte n of a text
 abbrev pub tokens_at : List ℕ → ℕ → List Piece → List Token
@@ -36,6 +50,12 @@ tokens_at text n [] = []
 tokens_at text n (space ∷ ps) = tokens_at text (n + 1) ps
 tokens_at text n (line ∷ ps) = tokens_at text (n + 1) ps
 tokens_at text n (token role kind ∷ ps) = token_at text n kind ∷ tokens_at text (n + length (kind_bytes kind)) ps
+
+abbrev pub raw_tokens_at : List ℕ → ℕ → List Piece → List Token
+raw_tokens_at text n [] = []
+raw_tokens_at text n (space ∷ ps) = raw_tokens_at text (n + 1) ps
+raw_tokens_at text n (line ∷ ps) = raw_tokens_at text (n + 1) ps
+raw_tokens_at text n (token role kind ∷ ps) = raw_at text n kind ∷ raw_tokens_at text (n + length (kind_bytes kind)) ps
 
 further : (n : ℕ) (text a b : List ℕ) → drop n text ≡ a ++ b → drop (n + length a) text ≡ b
 further n text a b e = dropped n (length a) text ∙ ap (λ z. drop (length a) z) e ∙ back_part a b where
@@ -57,29 +77,101 @@ line_lexed : (rest : List ℕ) → lexeme_of (10 ∷ rest) ≡ l.Blank 1
 unfolding lexeme_of
 line_lexed rest = refl
 
-pub reached : (text : List ℕ) (ps : List Piece) (n : ℕ) (ts : List Token) → Reached text n ts → drop n text ≡ bytes_of ps → apart ps ≡ true
-    → Reached text (n + length (bytes_of ps)) (ts ++ tokens_at text n ps)
-reached text [] n ts r e a =
+-- a token at byte n of a text
+taken : (text : List ℕ) (n : ℕ) (ts : List Token) (kind : Kind) (ps : List Piece) → Reached text n ts → drop n text ≡ kind_bytes kind ++ bytes_of ps
+    → lexeme_of (kind_bytes kind ++ bytes_of ps) ≡ l.Token (raw kind) (length (kind_bytes kind)) → Reached text (n + length (kind_bytes kind)) (ts ++ raw_at text n kind ∷ [])
+taken text n ts kind ps r e is = walk.token (raw_at text n kind) (length (kind_bytes kind)) r stands where
+  stands : StandsAt text n (raw_at text n kind) (length (kind_bytes kind))
+  stands = record { lexeme = ap lexeme_of e ∙ is; place = refl; from = refl; to = refl }
+
+pub reached : (version : Version) (text : List ℕ) (ps : List Piece) (n : ℕ) (ts : List Token) → Reached text n ts → drop n text ≡ bytes_of ps → apart version ps ≡ true
+    → Reached text (n + length (bytes_of ps)) (ts ++ raw_tokens_at text n ps)
+reached version text [] n ts r e a =
     let none : n ≡ n + 0 = omega arith in
     subst (λ m. Reached text m (ts ++ [])) none (subst (λ us. Reached text n us) (sym (append_none ts)) r)
-reached text (space ∷ ps) n ts r e a =
-    let ih = reached text ps (n + 1) ts (walk.blank 1 r (ap lexeme_of e ∙ blank_lexed 32 (bytes_of ps) refl)) (further n text (32 ∷ []) (bytes_of ps) e) a in
+reached version text (space ∷ ps) n ts r e a =
+    let ih = reached version text ps (n + 1) ts (walk.blank 1 r (ap lexeme_of e ∙ blank_lexed 32 (bytes_of ps) refl)) (further n text (32 ∷ []) (bytes_of ps) e) a in
     let same : (n + 1) + length (bytes_of ps) ≡ n + length (bytes_of (space ∷ ps)) = omega arith in
-    subst (λ m. Reached text m (ts ++ tokens_at text (n + 1) ps)) same ih
-reached text (line ∷ ps) n ts r e a =
-    let ih = reached text ps (n + 1) ts (walk.blank 1 r (ap lexeme_of e ∙ line_lexed (bytes_of ps))) (further n text (10 ∷ []) (bytes_of ps) e) a in
+    subst (λ m. Reached text m (ts ++ raw_tokens_at text (n + 1) ps)) same ih
+reached version text (line ∷ ps) n ts r e a =
+    let ih = reached version text ps (n + 1) ts (walk.blank 1 r (ap lexeme_of e ∙ line_lexed (bytes_of ps))) (further n text (10 ∷ []) (bytes_of ps) e) a in
     let same : (n + 1) + length (bytes_of ps) ≡ n + length (bytes_of (line ∷ ps)) = omega arith in
-    subst (λ m. Reached text m (ts ++ tokens_at text (n + 1) ps)) same ih
-reached text (token role kind ∷ ps) n ts r e a =
-    let f = both (is_spelled kind) (follows kind ps && apart ps) a in
-    let g = both (follows kind ps) (apart ps) f.1 in
-    let t = token_at text n kind in
+    subst (λ m. Reached text m (ts ++ raw_tokens_at text (n + 1) ps)) same ih
+reached version text (token role kind ∷ ps) n ts r e a =
+    let f = both (is_spelled version kind) (follows kind ps && apart version ps) a in
+    let g = both (follows kind ps) (apart version ps) f.1 in
+    let t = raw_at text n kind in
     let len = length (kind_bytes kind) in
-    let stands : StandsAt text n t len = record { lexeme = ap lexeme_of e ∙ piece_lexed kind ps f.0 g.0 g.1; place = refl; from = refl; to = refl } in
-    let ih = reached text ps (n + len) (ts ++ t ∷ []) (walk.token t len r stands) (further n text (kind_bytes kind) (bytes_of ps) e) g.1 in
+    let ih = reached version text ps (n + len) (ts ++ t ∷ []) (taken text n ts kind ps r e (piece_lexed version kind ps f.0 g.0 g.1)) (further n text (kind_bytes kind) (bytes_of ps) e) g.1 in
     let same : (n + len) + length (bytes_of ps) ≡ n + length (kind_bytes kind ++ bytes_of ps) = simp length-append (omega arith) in
-    subst (λ m. Reached text m (ts ++ (t ∷ tokens_at text (n + len) ps))) same
-    (subst (λ us. Reached text ((n + len) + length (bytes_of ps)) us) (append_assoc ts (t ∷ []) (tokens_at text (n + len) ps)) ih)
+    subst (λ m. Reached text m (ts ++ (t ∷ raw_tokens_at text (n + len) ps))) same
+    (subst (λ us. Reached text ((n + len) + length (bytes_of ps)) us) (append_assoc ts (t ∷ []) (raw_tokens_at text (n + len) ps)) ih)
+
+-- the first line, and what stands behind it
+design_reached : (version : Version) (text : List ℕ) (ps : List Piece) → text ≡ bytes_of (header version ps) → apart version ps ≡ true
+    → Reached text (length (bytes_of (header version ps))) (raw_tokens_at text 0 (header version ps))
+design_reached version_is.One text ps e a =
+    let whole : 0 + length (bytes_of ps) ≡ length (bytes_of ps) = omega arith in
+    subst (λ m. Reached text m (raw_tokens_at text 0 ps)) whole (reached version_is.One text ps 0 [] walk.start e a)
+design_reached version_is.Two text ps e a =
+    let one = space ∷ word Plain w.Two ∷ sign Plain Semicolon ∷ line ∷ ps in
+    let two = word Plain w.Two ∷ sign Plain Semicolon ∷ line ∷ ps in
+    let three = sign Plain Semicolon ∷ line ∷ ps in
+    let e1 = further 0 text (word_text w.Sapper) (bytes_of one) e in
+    let e2 = further 6 text (32 ∷ []) (bytes_of two) e1 in
+    let e3 = further 7 text (word_text w.Two) (bytes_of three) e2 in
+    let e4 = further 8 text (sign_text Semicolon) (bytes_of (line ∷ ps)) e3 in
+    let e5 = further 9 text (10 ∷ []) (bytes_of ps) e4 in
+    let t1 = raw_at text 0 (k.Word w.Sapper) in
+    let t2 = raw_at text 7 (k.Word w.Two) in
+    let t3 = raw_at text 8 (k.Sign Semicolon) in
+    let r1 : Reached text 6 (t1 ∷ []) = taken text 0 [] (k.Word w.Sapper) one walk.start e (first_lexed w.Sapper one refl) in
+    let r2 : Reached text 7 (t1 ∷ []) = walk.blank 1 r1 (ap lexeme_of e1 ∙ blank_lexed 32 (bytes_of two) refl) in
+    let r3 : Reached text 8 (t1 ∷ t2 ∷ []) = taken text 7 (t1 ∷ []) (k.Word w.Two) three r2 e2 (first_lexed w.Two three refl) in
+    let r4 : Reached text 9 (t1 ∷ t2 ∷ t3 ∷ []) = taken text 8 (t1 ∷ t2 ∷ []) (k.Sign Semicolon) (line ∷ ps) r3 e3 (semicolon_lexed (line ∷ ps)) in
+    let r5 : Reached text 10 (t1 ∷ t2 ∷ t3 ∷ []) = walk.blank 1 r4 (ap lexeme_of e4 ∙ line_lexed (bytes_of ps)) in
+    let whole : 10 + length (bytes_of ps) ≡ length (bytes_of (header version_is.Two ps)) = omega arith in
+    subst (λ m. Reached text m (t1 ∷ t2 ∷ t3 ∷ raw_tokens_at text 10 ps)) whole (reached version_is.Two text ps 10 (t1 ∷ t2 ∷ t3 ∷ []) r5 e5 a)
+
+-- the words that are made of them
+
+later_tokens : (text : List ℕ) (n : ℕ) (ps : List Piece) → apart version_is.Two ps ≡ true → map later_token (raw_tokens_at text n ps) ≡ tokens_at text n ps
+later_tokens text n [] a = refl
+later_tokens text n (space ∷ ps) a = later_tokens text (n + 1) ps a
+later_tokens text n (line ∷ ps) a = later_tokens text (n + 1) ps a
+later_tokens text n (token role kind ∷ ps) a =
+    let f = both (is_spelled version_is.Two kind) (follows kind ps && apart version_is.Two ps) a in
+    let g = both (follows kind ps) (apart version_is.Two ps) f.1 in
+    let len = length (kind_bytes kind) in
+    ap (λ (kind' : Kind). with_kind (token_at text n kind) kind' ∷ map later_token (raw_tokens_at text (n + len) ps)) (later_is kind f.0)
+    ∙ ap (λ (ts : List Token). token_at text n kind ∷ ts) (later_tokens text (n + len) ps g.1)
+
+same_tokens : (text : List ℕ) (n : ℕ) (ps : List Piece) → apart version_is.One ps ≡ true → raw_tokens_at text n ps ≡ tokens_at text n ps
+same_tokens text n [] a = refl
+same_tokens text n (space ∷ ps) a = same_tokens text (n + 1) ps a
+same_tokens text n (line ∷ ps) a = same_tokens text (n + 1) ps a
+same_tokens text n (token role kind ∷ ps) a =
+    let f = both (is_spelled version_is.One kind) (follows kind ps && apart version_is.One ps) a in
+    let g = both (follows kind ps) (apart version_is.One ps) f.1 in
+    let len = length (kind_bytes kind) in
+    ap (λ (kind' : Kind). with_kind (token_at text n kind) kind' ∷ raw_tokens_at text (n + len) ps) (raw_is kind f.0)
+    ∙ ap (λ (ts : List Token). token_at text n kind ∷ ts) (same_tokens text (n + len) ps g.1)
+
+-- a design of the first version doesn't begin with the name `sapper`
+first_kept : (text : List ℕ) (xs : List Decl) (ss : StateList) → keyed (raw_tokens_at text 0 (declarations xs (states ss 0 1 []))) ≡ raw_tokens_at text 0 (declarations xs (states ss 0 1 []))
+unfolding keyed
+first_kept text [] NoState = refl
+first_kept text [] (AndState (StateOf place n x inner children) ss) = refl
+first_kept text (d.Input place n width ∷ xs) ss = refl
+first_kept text (d.Register place n width x initial ∷ xs) ss = refl
+first_kept text (d.Memory place n width depth x ∷ xs) ss = refl
+
+keyed_is : (version : Version) (text : List ℕ) (xs : List Decl) (ss : StateList) → apart version (declarations xs (states ss 0 1 [])) ≡ true
+    → tokens_at text 0 (header version (declarations xs (states ss 0 1 []))) ≡ keyed (raw_tokens_at text 0 (header version (declarations xs (states ss 0 1 []))))
+unfolding keyed
+keyed_is version_is.One text xs ss a = sym (same_tokens text 0 (declarations xs (states ss 0 1 [])) a) ∙ sym (first_kept text xs ss)
+keyed_is version_is.Two text xs ss a =
+    ap (λ (ts : List Token). token_at text 0 (k.Word w.Sapper) ∷ token_at text 7 (k.Word w.Two) ∷ token_at text 8 (k.Sign Semicolon) ∷ ts) (sym (later_tokens text 10 (declarations xs (states ss 0 1 [])) a))
 
 pub record Standing (ps : List Piece) (p : Stage) : Type 0 where
   pub end : Stage
@@ -121,20 +213,22 @@ shown x text h e =
     let ps = design x in
     let bytes : text ≡ bytes_of ps = e ∙ sym (design_says x) in
     let tokens = tokens_at text 0 ps in
-    let all : Reached text (0 + length (bytes_of ps)) tokens = reached text ps 0 [] walk.start bytes (design_apart x tree) in
-    let count : 0 + length (bytes_of ps) ≡ length text = whole_length text (bytes_of ps) bytes in
+    let behind = design_apart x tree in
+    let all : Reached text (length (bytes_of ps)) (raw_tokens_at text 0 ps) = design_reached x.version text (parts_of x) bytes behind in
+    let count : length (bytes_of ps) ≡ length text = ap length (sym bytes) in
     let s = standing text 0 ps (at_start tokens) refl in
     let r = design_reads x tree (at_start tokens) s.end s.stand in
     record {
       tokens = tokens;
-      lexed = subst (λ n. Reached text n tokens) count all;
+      lexed = record {
+        found = raw_tokens_at text 0 ps;
+        reached = subst (λ n. Reached text n (raw_tokens_at text 0 ps)) count all;
+        keyed_are = keyed_is x.version text x.declarations x.states behind;
+      };
       tree = r.tree;
       whole = record { end = s.end; design = r.read; whole = s.whole; first_is = kept ps (at_start tokens) s.end (design_within x h) refl s.stand };
       same = r.same;
     }
-  where
-    whole_length : (a b : List ℕ) → a ≡ b → 0 + length b ≡ length a
-    whole_length a b e = let l : length a ≡ length b = ap length e in omega arith
 
 pub parsed_again : (x : DesignTree) (text : List ℕ) → ReadsAs text x → IsTextOfSame text x
 parsed_again x text r fits = (r.tree, record { fits = fits; tokens = r.tokens; lexed = r.lexed; whole = r.whole }, r.same)

@@ -8,16 +8,16 @@ use Rattle.sap_parse.specs.declared.limit.Role.{Role}
 use Rattle.sap_parse.specs.declared.token.Kind.TheVariants as k
 use Rattle.sap_parse.specs.declared.token.Kind.{Kind}
 use Rattle.sap_parse.specs.declared.token.Sign.TheVariants as s
-use Rattle.sap_parse.specs.declared.token.Word.TheVariants as w
-use Rattle.sap_parse.specs.declared.token.Word.{Word}
-use Rattle.sap_show.proofs.Pieces.{Piece, space, line, token, sign, word, name, number, wrapped, bounds, expression, parts, more_parts, tag, tags, more_tags, cell, simple, margin, command, block, else_part, commands, authority, kind, start, declared, declaration, declarations, state, states, design}
+use Rattle.sap_tree.specs.declared.word.Word.TheVariants as w
+use Rattle.sap_tree.specs.declared.word.Word.{Word}
+use Rattle.sap_show.proofs.Pieces.{Piece, space, line, token, sign, word, name, number, wrapped, bounds, expression, parts, more_parts, tag, tags, more_tags, constant, more_constants, constants, cell, simple, margin, command, arms, block, else_part, commands, authority, kind, start, declared, declaration, declarations, state, states, parts_of}
 use Rattle.sap_show.proofs.ReadBack.{both}
 use Rattle.sap_tree.specs.Extent.{fits, tag_fits}
-use Rattle.sap_tree.specs.Limits.{most_blocks}
+use Rattle.sap_tree.specs.Limits.{most_arms, most_blocks}
 use Rattle.sap_tree.specs.Precedence.{precedence, unary_precedence, slice_precedence, precedence_of}
-use Rattle.sap_tree.specs.Syntax.{Expression, Expressions, Number, Sized, Read, Cell, Unary, Binary, Choose, Slice, Concat, Zext, NoPart, AndPart, TagExpression, TagExpressions, Level, TagOf, LevelAt, Join, NoTag, AndTag, SimpleCommand, Assign, Write, SetTag, SetCellTag, Goto, Fall, Command, Do, Try, If, CommandBlock, Commands, ElseBlock, NoElse, Else, CommandList, NoCommand, AndCommand, StateTree, StateOf, StateList, NoState, AndState, DesignTree}
-use Rattle.sap_tree.specs.Whole.{is_expression, are_expressions, has_two_parts, is_number, is_tag, are_tags, has_two_tags, is_outermost, is_outermost_tag, is_simple, is_command, is_block, is_else, are_commands, is_kind, is_authority, is_start, is_state, are_states, has_state, block_depth, is_tree, is_declaration}
-use Rattle.sap_tree.specs.Words.{is_name}
+use Rattle.sap_tree.specs.Syntax.{Expression, Expressions, Number, Sized, Read, Cell, Unary, Binary, Choose, Slice, Concat, Zext, NoPart, AndPart, TagExpression, TagExpressions, Level, TagOf, LevelAt, Join, NoTag, AndTag, SimpleCommand, Assign, Write, SetTag, SetCellTag, Goto, Fall, Command, Do, Try, If, TryThen, Case, Arms, Last, Arm, CommandBlock, Commands, ElseBlock, NoElse, Else, CommandList, NoCommand, AndCommand, StateTree, StateOf, StateList, NoState, AndState, DesignTree}
+use Rattle.sap_tree.specs.Whole.{is_expression, are_expressions, has_two_parts, is_number, is_tag, are_tags, has_two_tags, is_outermost, is_outermost_tag, is_simple, is_command, is_block, is_else, is_constant, are_constants, has_constant, has_arm, arm_count, are_arms, are_commands, is_kind, is_authority, is_start, is_state, are_states, has_state, block_depth, is_tree, is_declaration}
+use Rattle.sap_tree.specs.Words.{is_name, is_second}
 use Rattle.sap_tree.specs.declared.syntax.BinaryOperator.TheVariants as b
 use Rattle.sap_tree.specs.declared.syntax.BinaryOperator.{BinaryOperator}
 use Rattle.sap_tree.specs.declared.syntax.Decl.TheVariants as d
@@ -28,6 +28,7 @@ use Rattle.sap_tree.specs.declared.syntax.Numeral.{Numeral}
 use Rattle.sap_tree.specs.declared.syntax.UnaryOperator.TheVariants as u
 use Rattle.sap_tree.specs.declared.syntax.UnaryOperator.{UnaryOperator}
 use Rattle.sap_tree.specs.declared.syntax.Under.{Under}
+use Rattle.sap_tree.specs.declared.version.Version.{Version}
 
 -- what stands next ends a word, a name or a number
 abbrev pub ends_run : List Piece → Bool
@@ -52,117 +53,125 @@ follows (k.Sign s.Less) ps = ends_sign ps
 follows (k.Sign x) ps = true
 follows x ps = ends_run ps
 
-abbrev pub is_spelled : Kind → Bool
-is_spelled (k.Word x) = true
-is_spelled (k.Sign x) = true
-is_spelled (k.Name n) = is_name n
-is_spelled (k.Number n) = is_number n
-is_spelled (k.Sized width n) = is_number width && is_number n
+-- a word that stands behind the first line in a text of this version
+abbrev pub is_written : Version → Word → Bool
+is_written version w.Then = is_second version
+is_written version w.Case = is_second version
+is_written version w.Sapper = false
+is_written version w.Two = false
+is_written version x = true
+
+abbrev pub is_spelled : Version → Kind → Bool
+is_spelled version (k.Word x) = is_written version x
+is_spelled version (k.Sign x) = true
+is_spelled version (k.Name n) = is_name version n
+is_spelled version (k.Number n) = is_number n
+is_spelled version (k.Sized width n) = is_number width && is_number n
 
 -- each piece is spelled as its token, and ends where the next begins
-abbrev pub apart : List Piece → Bool
-apart [] = true
-apart (space ∷ ps) = apart ps
-apart (line ∷ ps) = apart ps
-apart (token role x ∷ ps) = is_spelled x && (follows x ps && apart ps)
+abbrev pub apart : Version → List Piece → Bool
+apart version [] = true
+apart version (space ∷ ps) = apart version ps
+apart version (line ∷ ps) = apart version ps
+apart version (token role x ∷ ps) = is_spelled version x && (follows x ps && apart version ps)
 
 three : (a c e : Bool) → a ≡ true → c ≡ true → e ≡ true → (a && (c && e)) ≡ true
 three a c e p q h = ap (λ z. z && (c && e)) p ∙ ap (λ z. z && e) q ∙ h
 
 -- these pieces stand apart in front of any that end a run
-abbrev Apart : (List Piece → List Piece) → Type 0
-Apart ps = (rest : List Piece) → ends_run rest ≡ true → apart rest ≡ true → apart (ps rest) ≡ true
+abbrev Apart : Version → (List Piece → List Piece) → Type 0
+Apart version ps = (rest : List Piece) → ends_run rest ≡ true → apart version rest ≡ true → apart version (ps rest) ≡ true
 
-a_name : (role : Role) (n : List ℕ) → is_name n ≡ true → Apart (λ rest. name role n ∷ rest)
-a_name role n h rest e a = three (is_name n) (ends_run rest) (apart rest) h e a
+a_name : (version : Version) (role : Role) (n : List ℕ) → is_name version n ≡ true → Apart version (λ rest. name role n ∷ rest)
+a_name version role n h rest e a = three (is_name version n) (ends_run rest) (apart version rest) h e a
 
-a_number : (role : Role) (n : ℕ) → is_number n ≡ true → Apart (λ rest. number role n ∷ rest)
-a_number role n h rest e a = three (is_number n) (ends_run rest) (apart rest) h e a
+a_number : (version : Version) (role : Role) (n : ℕ) → is_number n ≡ true → Apart version (λ rest. number role n ∷ rest)
+a_number version role n h rest e a = three (is_number n) (ends_run rest) (apart version rest) h e a
 
 -- `:` and a number
-behind_colon : (role : Role) (n : ℕ) (rest : List Piece) → apart (number role n ∷ rest) ≡ true → apart (sign role s.Colon ∷ number role n ∷ rest) ≡ true
-behind_colon role n rest h = h
+behind_colon : (version : Version) (role : Role) (n : ℕ) (rest : List Piece) → apart version (number role n ∷ rest) ≡ true → apart version (sign role s.Colon ∷ number role n ∷ rest) ≡ true
+behind_colon version role n rest h = h
 
-unary_apart : (o : UnaryOperator) (rest : List Piece) → apart rest ≡ true → apart (sign r.Inner (unary_sign_of o) ∷ rest) ≡ true
-unary_apart u.Not rest h = h
-unary_apart u.Neg rest h = h
-unary_apart u.AllOnes rest h = h
-unary_apart u.AnyOne rest h = h
-unary_apart u.Odd rest h = h
+unary_apart : (version : Version) (o : UnaryOperator) (rest : List Piece) → apart version rest ≡ true → apart version (sign r.Inner (unary_sign_of o) ∷ rest) ≡ true
+unary_apart version u.Not rest h = h
+unary_apart version u.Neg rest h = h
+unary_apart version u.AllOnes rest h = h
+unary_apart version u.AnyOne rest h = h
+unary_apart version u.Odd rest h = h
 
-binary_apart : (o : BinaryOperator) (rest : List Piece) → apart rest ≡ true → apart (space ∷ sign r.Inner (sign_of o) ∷ space ∷ rest) ≡ true
-binary_apart b.Or rest h = h
-binary_apart b.Xor rest h = h
-binary_apart b.And rest h = h
-binary_apart b.Eq rest h = h
-binary_apart b.Ne rest h = h
-binary_apart b.Lt rest h = h
-binary_apart b.Le rest h = h
-binary_apart b.Shl rest h = h
-binary_apart b.Shr rest h = h
-binary_apart b.Add rest h = h
-binary_apart b.Sub rest h = h
-binary_apart b.Mul rest h = h
+binary_apart : (version : Version) (o : BinaryOperator) (rest : List Piece) → apart version rest ≡ true → apart version (space ∷ sign r.Inner (sign_of o) ∷ space ∷ rest) ≡ true
+binary_apart version b.Or rest h = h
+binary_apart version b.Xor rest h = h
+binary_apart version b.And rest h = h
+binary_apart version b.Eq rest h = h
+binary_apart version b.Ne rest h = h
+binary_apart version b.Lt rest h = h
+binary_apart version b.Le rest h = h
+binary_apart version b.Shl rest h = h
+binary_apart version b.Shr rest h = h
+binary_apart version b.Add rest h = h
+binary_apart version b.Sub rest h = h
+binary_apart version b.Mul rest h = h
 
-wrapped_apart : (t : Bool) (inner : List Piece → List Piece) → Apart inner → Apart (wrapped t inner)
-wrapped_apart true inner own rest e a = own (sign r.Closing s.CloseParen ∷ rest) refl a
-wrapped_apart false inner own rest e a = own rest e a
+wrapped_apart : (version : Version) (t : Bool) (own_pieces : List Piece → List Piece) → Apart version own_pieces → Apart version (wrapped t own_pieces)
+wrapped_apart version true own_pieces own rest e a = own (sign r.Closing s.CloseParen ∷ rest) refl a
+wrapped_apart version false own_pieces own rest e a = own rest e a
 
-bounds_apart : (high low : ℕ) → is_number high ≡ true → is_number low ≡ true → Apart (bounds high low)
-bounds_apart high low h l rest e a =
-    a_number r.Inner high h (sign r.Inner s.Colon ∷ number r.Inner low ∷ sign r.Closing s.CloseBracket ∷ rest) refl
-    (a_number r.Inner low l (sign r.Closing s.CloseBracket ∷ rest) refl a)
+bounds_apart : (version : Version) (high low : ℕ) → is_number high ≡ true → is_number low ≡ true → Apart version (bounds high low)
+bounds_apart version high low h l rest e a =
+    a_number version r.Inner high h (sign r.Inner s.Colon ∷ number r.Inner low ∷ sign r.Closing s.CloseBracket ∷ rest) refl
+    (a_number version r.Inner low l (sign r.Closing s.CloseBracket ∷ rest) refl a)
 
 mutual
   unfolding is_expression
 
-  expression_apart : (x : Expression) → is_expression x ≡ true → Apart (expression x)
-  expression_apart (Number spot n) h rest e a = a_number r.Inner n h rest e a
-  expression_apart (Sized spot width n) h rest e a = three (is_number width && is_number n) (ends_run rest) (apart rest) h e a
-  expression_apart (Read spot n) h rest e a = a_name r.Inner n h rest e a
-  expression_apart (Cell spot n i) h rest e a =
-      let f = both (is_name n) (is_expression i) h in
-      a_name r.Inner n f.0 (sign r.Opening s.OpenBracket ∷ expression i (sign r.Closing s.CloseBracket ∷ rest)) refl
-      (expression_apart i f.1 (sign r.Closing s.CloseBracket ∷ rest) refl a)
-  expression_apart (Unary spot o x) h rest e a =
-      unary_apart o (wrapped (nat_lt (precedence_of x) unary_precedence) (λ ps. expression x ps) rest)
-      (wrapped_apart (nat_lt (precedence_of x) unary_precedence) (λ ps. expression x ps) (λ ps i j. expression_apart x h ps i j) rest e a)
-  expression_apart (Binary spot o x y) h rest e a =
-      let f = both (is_expression x) (is_expression y) h in
+  expression_apart : (version : Version) (x : Expression) → is_expression version x ≡ true → Apart version (expression x)
+  expression_apart version (Number spot n) h rest e a = a_number version r.Inner n h rest e a
+  expression_apart version (Sized spot width n) h rest e a = three (is_number width && is_number n) (ends_run rest) (apart version rest) h e a
+  expression_apart version (Read spot n) h rest e a = a_name version r.Inner n h rest e a
+  expression_apart version (Cell spot n i) h rest e a =
+      let f = both (is_name version n) (is_expression version i) h in
+      a_name version r.Inner n f.0 (sign r.Opening s.OpenBracket ∷ expression i (sign r.Closing s.CloseBracket ∷ rest)) refl
+      (expression_apart version i f.1 (sign r.Closing s.CloseBracket ∷ rest) refl a)
+  expression_apart version (Unary spot o x) h rest e a =
+      unary_apart version o (wrapped (nat_lt (precedence_of x) unary_precedence) (λ ps. expression x ps) rest)
+      (wrapped_apart version (nat_lt (precedence_of x) unary_precedence) (λ ps. expression x ps) (λ ps i j. expression_apart version x h ps i j) rest e a)
+  expression_apart version (Binary spot o x y) h rest e a =
+      let f = both (is_expression version x) (is_expression version y) h in
       let behind = wrapped (nat_lt (precedence_of y) (precedence o + 1)) (λ ps. expression y ps) rest in
-      wrapped_apart (nat_lt (precedence_of x) (precedence o)) (λ ps. expression x ps) (λ ps i j. expression_apart x f.0 ps i j)
+      wrapped_apart version (nat_lt (precedence_of x) (precedence o)) (λ ps. expression x ps) (λ ps i j. expression_apart version x f.0 ps i j)
       (space ∷ sign r.Inner (sign_of o) ∷ space ∷ behind) refl
-      (binary_apart o behind
-      (wrapped_apart (nat_lt (precedence_of y) (precedence o + 1)) (λ ps. expression y ps) (λ ps i j. expression_apart y f.1 ps i j) rest e a))
-  expression_apart (Choose spot x y z) h rest e a =
-      let f = both (is_expression x && is_expression y) (is_expression z) h in
-      let g = both (is_expression x) (is_expression y) f.0 in
-      wrapped_apart (nat_lt (precedence_of x) 1) (λ ps. expression x ps) (λ ps i j. expression_apart x g.0 ps i j)
+      (binary_apart version o behind
+      (wrapped_apart version (nat_lt (precedence_of y) (precedence o + 1)) (λ ps. expression y ps) (λ ps i j. expression_apart version y f.1 ps i j) rest e a))
+  expression_apart version (Choose spot x y z) h rest e a =
+      let f = both (is_expression version x && is_expression version y) (is_expression version z) h in
+      let g = both (is_expression version x) (is_expression version y) f.0 in
+      wrapped_apart version (nat_lt (precedence_of x) 1) (λ ps. expression x ps) (λ ps i j. expression_apart version x g.0 ps i j)
       (space ∷ sign r.Inner s.Question ∷ space ∷ expression y (space ∷ sign r.Inner s.Colon ∷ space ∷ expression z rest)) refl
-      (expression_apart y g.1 (space ∷ sign r.Inner s.Colon ∷ space ∷ expression z rest) refl (expression_apart z f.1 rest e a))
-  expression_apart (Slice spot x high low) h rest e a =
-      let f = both (is_expression x && is_number high) (is_number low) h in
-      let g = both (is_expression x) (is_number high) f.0 in
-      wrapped_apart (nat_lt (precedence_of x) slice_precedence) (λ ps. expression x ps) (λ ps i j. expression_apart x g.0 ps i j)
-      (bounds high low rest) refl (bounds_apart high low g.1 f.1 rest e a)
-  expression_apart (Concat spot xs) h rest e a =
-      parts_apart xs (both (has_two_parts xs) (are_expressions xs) h).1 (sign r.Closing s.CloseBrace ∷ rest) refl a
-  expression_apart (Zext spot x width) h rest e a =
-      let f = both (is_expression x) (is_number width) h in
-      expression_apart x f.0 (sign r.Inner s.Comma ∷ space ∷ number r.Inner width ∷ sign r.Closing s.CloseParen ∷ rest) refl
-      (a_number r.Inner width f.1 (sign r.Closing s.CloseParen ∷ rest) refl a)
+      (expression_apart version y g.1 (space ∷ sign r.Inner s.Colon ∷ space ∷ expression z rest) refl (expression_apart version z f.1 rest e a))
+  expression_apart version (Slice spot x high low) h rest e a =
+      let f = both (is_expression version x && is_number high) (is_number low) h in
+      let g = both (is_expression version x) (is_number high) f.0 in
+      wrapped_apart version (nat_lt (precedence_of x) slice_precedence) (λ ps. expression x ps) (λ ps i j. expression_apart version x g.0 ps i j)
+      (bounds high low rest) refl (bounds_apart version high low g.1 f.1 rest e a)
+  expression_apart version (Concat spot xs) h rest e a =
+      parts_apart version xs (both (has_two_parts xs) (are_expressions version xs) h).1 (sign r.Closing s.CloseBrace ∷ rest) refl a
+  expression_apart version (Zext spot x width) h rest e a =
+      let f = both (is_expression version x) (is_number width) h in
+      expression_apart version x f.0 (sign r.Inner s.Comma ∷ space ∷ number r.Inner width ∷ sign r.Closing s.CloseParen ∷ rest) refl
+      (a_number version r.Inner width f.1 (sign r.Closing s.CloseParen ∷ rest) refl a)
 
-  parts_apart : (xs : Expressions) → are_expressions xs ≡ true → Apart (parts xs)
-  parts_apart NoPart h rest e a = a
-  parts_apart (AndPart x xs) h rest e a =
-      let f = both (is_expression x) (are_expressions xs) h in
-      expression_apart x f.0 (more_parts xs rest) (more_parts_end xs rest e) (more_parts_apart xs f.1 rest e a)
+  parts_apart : (version : Version) (xs : Expressions) → are_expressions version xs ≡ true → Apart version (parts xs)
+  parts_apart version NoPart h rest e a = a
+  parts_apart version (AndPart x xs) h rest e a =
+      let f = both (is_expression version x) (are_expressions version xs) h in
+      expression_apart version x f.0 (more_parts xs rest) (more_parts_end xs rest e) (more_parts_apart version xs f.1 rest e a)
 
-  more_parts_apart : (xs : Expressions) → are_expressions xs ≡ true → Apart (more_parts xs)
-  more_parts_apart NoPart h rest e a = a
-  more_parts_apart (AndPart x xs) h rest e a =
-      let f = both (is_expression x) (are_expressions xs) h in
-      expression_apart x f.0 (more_parts xs rest) (more_parts_end xs rest e) (more_parts_apart xs f.1 rest e a)
+  more_parts_apart : (version : Version) (xs : Expressions) → are_expressions version xs ≡ true → Apart version (more_parts xs)
+  more_parts_apart version NoPart h rest e a = a
+  more_parts_apart version (AndPart x xs) h rest e a =
+      let f = both (is_expression version x) (are_expressions version xs) h in
+      expression_apart version x f.0 (more_parts xs rest) (more_parts_end xs rest e) (more_parts_apart version xs f.1 rest e a)
 
   more_parts_end : (xs : Expressions) (rest : List Piece) → ends_run rest ≡ true → ends_run (more_parts xs rest) ≡ true
   more_parts_end NoPart rest e = e
@@ -175,59 +184,89 @@ more_tags_end (AndTag x xs) rest e = refl
 mutual
   unfolding is_tag
 
-  tag_apart : (x : TagExpression) → is_tag x ≡ true → Apart (tag x)
-  tag_apart (Level n) h rest e a = a_name r.Inner n.name h rest e a
-  tag_apart (TagOf place x) h rest e a = expression_apart x h (sign r.Closing s.CloseParen ∷ rest) refl a
-  tag_apart (LevelAt place x) h rest e a = expression_apart x h (sign r.Closing s.CloseParen ∷ rest) refl a
-  tag_apart (Join place xs) h rest e a = tags_apart xs (both (has_two_tags xs) (are_tags xs) h).1 (sign r.Closing s.CloseParen ∷ rest) refl a
+  tag_apart : (version : Version) (x : TagExpression) → is_tag version x ≡ true → Apart version (tag x)
+  tag_apart version (Level n) h rest e a = a_name version r.Inner n.name h rest e a
+  tag_apart version (TagOf place x) h rest e a = expression_apart version x h (sign r.Closing s.CloseParen ∷ rest) refl a
+  tag_apart version (LevelAt place x) h rest e a = expression_apart version x h (sign r.Closing s.CloseParen ∷ rest) refl a
+  tag_apart version (Join place xs) h rest e a = tags_apart version xs (both (has_two_tags xs) (are_tags version xs) h).1 (sign r.Closing s.CloseParen ∷ rest) refl a
 
-  tags_apart : (xs : TagExpressions) → are_tags xs ≡ true → Apart (tags xs)
-  tags_apart NoTag h rest e a = a
-  tags_apart (AndTag x xs) h rest e a =
-      let f = both (is_tag x) (are_tags xs) h in
-      tag_apart x f.0 (more_tags xs rest) (more_tags_end xs rest e) (more_tags_apart xs f.1 rest e a)
+  tags_apart : (version : Version) (xs : TagExpressions) → are_tags version xs ≡ true → Apart version (tags xs)
+  tags_apart version NoTag h rest e a = a
+  tags_apart version (AndTag x xs) h rest e a =
+      let f = both (is_tag version x) (are_tags version xs) h in
+      tag_apart version x f.0 (more_tags xs rest) (more_tags_end xs rest e) (more_tags_apart version xs f.1 rest e a)
 
-  more_tags_apart : (xs : TagExpressions) → are_tags xs ≡ true → Apart (more_tags xs)
-  more_tags_apart NoTag h rest e a = a
-  more_tags_apart (AndTag x xs) h rest e a =
-      let f = both (is_tag x) (are_tags xs) h in
-      tag_apart x f.0 (more_tags xs rest) (more_tags_end xs rest e) (more_tags_apart xs f.1 rest e a)
+  more_tags_apart : (version : Version) (xs : TagExpressions) → are_tags version xs ≡ true → Apart version (more_tags xs)
+  more_tags_apart version NoTag h rest e a = a
+  more_tags_apart version (AndTag x xs) h rest e a =
+      let f = both (is_tag version x) (are_tags version xs) h in
+      tag_apart version x f.0 (more_tags xs rest) (more_tags_end xs rest e) (more_tags_apart version xs f.1 rest e a)
 
-inner : (x : Expression) → is_outermost x ≡ true → is_expression x ≡ true
-inner x h = (both (is_expression x) (fits x) h).0
+inner : (version : Version) (x : Expression) → is_outermost version x ≡ true → is_expression version x ≡ true
+inner version x h = (both (is_expression version x) (fits x) h).0
 
-inner_tag : (x : TagExpression) → is_outermost_tag x ≡ true → is_tag x ≡ true
-inner_tag x h = (both (is_tag x) (tag_fits x) h).0
+inner_tag : (version : Version) (x : TagExpression) → is_outermost_tag version x ≡ true → is_tag version x ≡ true
+inner_tag version x h = (both (is_tag version x) (tag_fits x) h).0
 
-cell_apart : (role : Role) (n : List ℕ) (i : Expression) → is_name n ≡ true → is_outermost i ≡ true → Apart (cell role n i)
-cell_apart role n i h f rest e a =
-    a_name role n h (sign r.Plain s.OpenBracket ∷ expression i (sign r.Plain s.CloseBracket ∷ rest)) refl
-    (expression_apart i (inner i f) (sign r.Plain s.CloseBracket ∷ rest) refl a)
+cell_apart : (version : Version) (role : Role) (n : List ℕ) (i : Expression) → is_name version n ≡ true → is_outermost version i ≡ true → Apart version (cell role n i)
+cell_apart version role n i h f rest e a =
+    a_name version role n h (sign r.Plain s.OpenBracket ∷ expression i (sign r.Plain s.CloseBracket ∷ rest)) refl
+    (expression_apart version i (inner version i f) (sign r.Plain s.CloseBracket ∷ rest) refl a)
 
-simple_apart : (depth : ℕ) (c : SimpleCommand) → is_simple c ≡ true → Apart (simple depth c)
+simple_apart : (version : Version) (depth : ℕ) (c : SimpleCommand) → is_simple version c ≡ true → Apart version (simple depth c)
 unfolding is_simple
-simple_apart depth (Assign n x) h rest e a =
-    let f = both (is_name n.name) (is_outermost x) h in
-    a_name (r.Command depth) n.name f.0 (space ∷ sign r.Plain s.Becomes ∷ space ∷ expression x rest) refl (expression_apart x (inner x f.1) rest e a)
-simple_apart depth (Write n i x) h rest e a =
-    let f = both (is_name n.name && is_outermost i) (is_outermost x) h in
-    let g = both (is_name n.name) (is_outermost i) f.0 in
-    cell_apart (r.Command depth) n.name i g.0 g.1 (space ∷ sign r.Plain s.Becomes ∷ space ∷ expression x rest) refl (expression_apart x (inner x f.1) rest e a)
-simple_apart depth (SetTag place n x) h rest e a =
-    let f = both (is_name n.name) (is_outermost_tag x) h in
-    a_name r.Plain n.name f.0 (sign r.Plain s.Comma ∷ space ∷ tag x (sign r.Plain s.CloseParen ∷ rest)) refl
-    (tag_apart x (inner_tag x f.1) (sign r.Plain s.CloseParen ∷ rest) refl a)
-simple_apart depth (SetCellTag place n i x) h rest e a =
-    let f = both (is_name n.name && is_outermost i) (is_outermost_tag x) h in
-    let g = both (is_name n.name) (is_outermost i) f.0 in
-    cell_apart r.Plain n.name i g.0 g.1 (sign r.Plain s.Comma ∷ space ∷ tag x (sign r.Plain s.CloseParen ∷ rest)) refl
-    (tag_apart x (inner_tag x f.1) (sign r.Plain s.CloseParen ∷ rest) refl a)
-simple_apart depth (Goto place n) h rest e a = a_name r.Plain n.name h rest e a
-simple_apart depth (Fall place) h rest e a = three true (ends_run rest) (apart rest) refl e a
+simple_apart version depth (Assign n x) h rest e a =
+    let f = both (is_name version n.name) (is_outermost version x) h in
+    a_name version (r.Command depth) n.name f.0 (space ∷ sign r.Plain s.Becomes ∷ space ∷ expression x rest) refl (expression_apart version x (inner version x f.1) rest e a)
+simple_apart version depth (Write n i x) h rest e a =
+    let f = both (is_name version n.name && is_outermost version i) (is_outermost version x) h in
+    let g = both (is_name version n.name) (is_outermost version i) f.0 in
+    cell_apart version (r.Command depth) n.name i g.0 g.1 (space ∷ sign r.Plain s.Becomes ∷ space ∷ expression x rest) refl (expression_apart version x (inner version x f.1) rest e a)
+simple_apart version depth (SetTag place n x) h rest e a =
+    let f = both (is_name version n.name) (is_outermost_tag version x) h in
+    a_name version r.Plain n.name f.0 (sign r.Plain s.Comma ∷ space ∷ tag x (sign r.Plain s.CloseParen ∷ rest)) refl
+    (tag_apart version x (inner_tag version x f.1) (sign r.Plain s.CloseParen ∷ rest) refl a)
+simple_apart version depth (SetCellTag place n i x) h rest e a =
+    let f = both (is_name version n.name && is_outermost version i) (is_outermost_tag version x) h in
+    let g = both (is_name version n.name) (is_outermost version i) f.0 in
+    cell_apart version r.Plain n.name i g.0 g.1 (sign r.Plain s.Comma ∷ space ∷ tag x (sign r.Plain s.CloseParen ∷ rest)) refl
+    (tag_apart version x (inner_tag version x f.1) (sign r.Plain s.CloseParen ∷ rest) refl a)
+simple_apart version depth (Goto place n) h rest e a = a_name version r.Plain n.name h rest e a
+simple_apart version depth (Fall place) h rest e a = three true (ends_run rest) (apart version rest) refl e a
 
-margin_apart : (level : ℕ) (rest : List Piece) → apart rest ≡ true → apart (margin level rest) ≡ true
-margin_apart zero rest a = a
-margin_apart (suc level) rest a = margin_apart level rest a
+-- constants
+
+constant_apart : (version : Version) (x : Expression) → is_constant x ≡ true → Apart version (constant x)
+constant_apart version (Number spot n) h rest e a = a_number version r.Plain n h rest e a
+constant_apart version (Sized spot width n) h rest e a = three (is_number width && is_number n) (ends_run rest) (apart version rest) h e a
+constant_apart version (Read spot n) h rest e a = absurd (cc)
+constant_apart version (Cell spot n i) h rest e a = absurd (cc)
+constant_apart version (Unary spot o x) h rest e a = absurd (cc)
+constant_apart version (Binary spot o x y) h rest e a = absurd (cc)
+constant_apart version (Choose spot x y z) h rest e a = absurd (cc)
+constant_apart version (Slice spot x high low) h rest e a = absurd (cc)
+constant_apart version (Concat spot xs) h rest e a = absurd (cc)
+constant_apart version (Zext spot x width) h rest e a = absurd (cc)
+
+more_constants_end : (xs : Expressions) (rest : List Piece) → ends_run rest ≡ true → ends_run (more_constants xs rest) ≡ true
+more_constants_end NoPart rest e = e
+more_constants_end (AndPart x xs) rest e = refl
+
+more_constants_apart : (version : Version) (xs : Expressions) → are_constants xs ≡ true → Apart version (more_constants xs)
+more_constants_apart version NoPart h rest e a = a
+more_constants_apart version (AndPart x xs) h rest e a =
+    let f = both (is_constant x) (are_constants xs) h in
+    constant_apart version x f.0 (more_constants xs rest) (more_constants_end xs rest e) (more_constants_apart version xs f.1 rest e a)
+
+constants_apart : (version : Version) (xs : Expressions) → are_constants xs ≡ true → Apart version (constants xs)
+constants_apart version NoPart h rest e a = a
+constants_apart version (AndPart x xs) h rest e a =
+    let f = both (is_constant x) (are_constants xs) h in
+    constant_apart version x f.0 (more_constants xs rest) (more_constants_end xs rest e) (more_constants_apart version xs f.1 rest e a)
+
+margin_apart : (version : Version) (level : ℕ) (rest : List Piece) → apart version rest ≡ true → apart version (margin level rest) ≡ true
+margin_apart version zero rest a = a
+margin_apart version (suc level) rest a = margin_apart version level rest a
 
 else_ends : (x : ElseBlock) (level depth : ℕ) (rest : List Piece) → ends_run rest ≡ true → ends_run (else_part x level depth rest) ≡ true
 else_ends NoElse level depth rest e = e
@@ -236,115 +275,152 @@ else_ends (Else x) level depth rest e = refl
 mutual
   unfolding is_command
 
-  command_apart : (c : Command) (level depth : ℕ) → is_command c ≡ true → (rest : List Piece) → apart rest ≡ true → apart (command c level depth rest) ≡ true
-  command_apart (Do c) level depth h rest a =
-      margin_apart level _ (simple_apart depth c h (sign r.Plain s.Semicolon ∷ line ∷ rest) refl a)
-  command_apart (Try c place handler) level depth h rest a =
-      let f = both (is_simple c) (is_block handler) h in
-      margin_apart level _
-      (simple_apart depth c f.0 (space ∷ word r.Plain w.Otherwise ∷ block handler level depth (line ∷ rest)) refl
-      (three true _ _ refl (block_ends handler level depth (line ∷ rest)) (block_apart handler level depth f.1 (line ∷ rest) a)))
-  command_apart (If place x one other) level depth h rest a =
-      let f = both (is_outermost x && is_block one) (is_else other) h in
-      let g = both (is_outermost x) (is_block one) f.0 in
-      margin_apart level _
-      (expression_apart x (inner x g.0) (sign r.Plain s.CloseParen ∷ block one level depth (else_part other level depth (line ∷ rest))) refl
-      (block_apart one level depth g.1 (else_part other level depth (line ∷ rest)) (else_apart other level depth f.1 (line ∷ rest) a)))
+  command_apart : (version : Version) (c : Command) (level depth : ℕ) → is_command version c ≡ true → (rest : List Piece) → apart version rest ≡ true → apart version (command c level depth rest) ≡ true
+  command_apart version (Do c) level depth h rest a =
+      margin_apart version level _ (simple_apart version depth c h (sign r.Plain s.Semicolon ∷ line ∷ rest) refl a)
+  command_apart version (Try c place handler) level depth h rest a =
+      let f = both (is_simple version c) (is_block version handler) h in
+      margin_apart version level _
+      (simple_apart version depth c f.0 (space ∷ word r.Plain w.Otherwise ∷ block handler level depth (line ∷ rest)) refl
+      (three true _ _ refl (block_ends handler level depth (line ∷ rest)) (block_apart version handler level depth f.1 (line ∷ rest) a)))
+  command_apart version (If place x one other) level depth h rest a =
+      let f = both (is_outermost version x && is_block version one) (is_else version other) h in
+      let g = both (is_outermost version x) (is_block version one) f.0 in
+      margin_apart version level _
+      (expression_apart version x (inner version x g.0) (sign r.Plain s.CloseParen ∷ block one level depth (else_part other level depth (line ∷ rest))) refl
+      (block_apart version one level depth g.1 (else_part other level depth (line ∷ rest)) (else_apart version other level depth f.1 (line ∷ rest) a)))
+  command_apart version (TryThen c place one other) level depth h rest a =
+      let f = both (is_second version && is_simple version c && is_block version one) (is_block version other) h in
+      let g = both (is_second version && is_simple version c) (is_block version one) f.0 in
+      let i = both (is_second version) (is_simple version c) g.0 in
+      let last = space ∷ word r.Plain w.Otherwise ∷ block other level depth (line ∷ rest) in
+      margin_apart version level _
+      (simple_apart version depth c i.1 (space ∷ word r.Plain w.Then ∷ block one level depth last) refl
+      (three (is_second version) _ _ i.0 (block_ends one level depth last)
+      (block_apart version one level depth g.1 last
+      (three true _ _ refl (block_ends other level depth (line ∷ rest)) (block_apart version other level depth f.1 (line ∷ rest) a)))))
+  command_apart version (Case place x list) level depth h rest a =
+      let f = both (is_second version && is_outermost version x && has_arm list && nat_le (arm_count list) most_arms) (are_arms version list) h in
+      let g = both (is_second version && is_outermost version x && has_arm list) (nat_le (arm_count list) most_arms) f.0 in
+      let i = both (is_second version && is_outermost version x) (has_arm list) g.0 in
+      let j = both (is_second version) (is_outermost version x) i.0 in
+      let foot = margin level (sign r.Plain s.CloseBrace ∷ line ∷ rest) in
+      margin_apart version level _
+      (three (is_second version) true _ j.0 refl
+      (expression_apart version x (inner version x j.1) (sign r.Plain s.CloseParen ∷ space ∷ sign r.Plain s.OpenBrace ∷ line ∷ arms list (suc level) depth foot) refl
+      (arms_apart version list (suc level) depth f.1 foot (margin_apart version level _ a))))
+
+  arms_apart : (version : Version) (list : Arms) (level depth : ℕ) → are_arms version list ≡ true → (rest : List Piece) → apart version rest ≡ true → apart version (arms list level depth rest) ≡ true
+  arms_apart version (Last b) level depth h rest a =
+      margin_apart version level _ (three true _ _ refl (block_ends b level depth (line ∷ rest)) (block_apart version b level depth h (line ∷ rest) a))
+  arms_apart version (Arm xs b list) level depth h rest a =
+      let f = both (has_constant xs && are_constants xs && is_block version b) (are_arms version list) h in
+      let g = both (has_constant xs && are_constants xs) (is_block version b) f.0 in
+      let i = both (has_constant xs) (are_constants xs) g.0 in
+      let behind = line ∷ arms list level depth rest in
+      margin_apart version level _
+      (constants_apart version xs i.1 (sign r.Plain s.Colon ∷ block b level depth behind) refl
+      (three true _ _ refl (block_ends_sign b level depth behind) (block_apart version b level depth g.1 behind (arms_apart version list level depth f.1 rest a))))
+
+  block_ends_sign : (x : CommandBlock) (level depth : ℕ) (rest : List Piece) → ends_sign (block x level depth rest) ≡ true
+  block_ends_sign (Commands cs after) level depth rest = refl
 
   block_ends : (x : CommandBlock) (level depth : ℕ) (rest : List Piece) → ends_run (block x level depth rest) ≡ true
   block_ends (Commands cs after) level depth rest = refl
 
-  block_apart : (x : CommandBlock) (level depth : ℕ) → is_block x ≡ true → (rest : List Piece) → apart rest ≡ true → apart (block x level depth rest) ≡ true
-  block_apart (Commands cs after) level depth h rest a =
-      commands_apart cs (suc level) (depth + 1) h (margin level (sign r.Plain s.CloseBrace ∷ rest)) (margin_apart level _ a)
+  block_apart : (version : Version) (x : CommandBlock) (level depth : ℕ) → is_block version x ≡ true → (rest : List Piece) → apart version rest ≡ true → apart version (block x level depth rest) ≡ true
+  block_apart version (Commands cs after) level depth h rest a =
+      commands_apart version cs (suc level) (depth + 1) h (margin level (sign r.Plain s.CloseBrace ∷ rest)) (margin_apart version level _ a)
 
-  else_apart : (x : ElseBlock) (level depth : ℕ) → is_else x ≡ true → (rest : List Piece) → apart rest ≡ true → apart (else_part x level depth rest) ≡ true
-  else_apart NoElse level depth h rest a = a
-  else_apart (Else x) level depth h rest a = three true _ _ refl (block_ends x level depth rest) (block_apart x level depth h rest a)
+  else_apart : (version : Version) (x : ElseBlock) (level depth : ℕ) → is_else version x ≡ true → (rest : List Piece) → apart version rest ≡ true → apart version (else_part x level depth rest) ≡ true
+  else_apart version NoElse level depth h rest a = a
+  else_apart version (Else x) level depth h rest a = three true _ _ refl (block_ends x level depth rest) (block_apart version x level depth h rest a)
 
-  commands_apart : (cs : CommandList) (level depth : ℕ) → are_commands cs ≡ true → (rest : List Piece) → apart rest ≡ true → apart (commands cs level depth rest) ≡ true
-  commands_apart NoCommand level depth h rest a = a
-  commands_apart (AndCommand c cs) level depth h rest a =
-      let f = both (is_command c) (are_commands cs) h in
-      command_apart c level depth f.0 (commands cs level depth rest) (commands_apart cs level depth f.1 rest a)
+  commands_apart : (version : Version) (cs : CommandList) (level depth : ℕ) → are_commands version cs ≡ true → (rest : List Piece) → apart version rest ≡ true → apart version (commands cs level depth rest) ≡ true
+  commands_apart version NoCommand level depth h rest a = a
+  commands_apart version (AndCommand c cs) level depth h rest a =
+      let f = both (is_command version c) (are_commands version cs) h in
+      command_apart version c level depth f.0 (commands cs level depth rest) (commands_apart version cs level depth f.1 rest a)
 
-authority_apart : (x : Option Under) → is_authority x ≡ true → Apart (authority x)
-authority_apart None h rest e a = a
-authority_apart (Some under) h rest e a = a_name r.Plain under.level.name h rest e a
+authority_apart : (version : Version) (x : Option Under) → is_authority version x ≡ true → Apart version (authority x)
+authority_apart version None h rest e a = a
+authority_apart version (Some under) h rest e a = a_name version r.Plain under.level.name h rest e a
 
 authority_ends : (x : Option Under) (rest : List Piece) → ends_run rest ≡ true → ends_run (authority x rest) ≡ true
 authority_ends None rest e = e
 authority_ends (Some under) rest e = refl
 
-kind_apart : (x : KindTree) → is_kind x ≡ true → Apart (kind x)
-kind_apart (how.Dynamic place) h rest e a = three true _ _ refl e a
-kind_apart (how.Enforced n under) h rest e a =
-    let f = both (is_name n.name) (is_authority under) h in
-    a_name r.Plain n.name f.0 (authority under rest) (authority_ends under rest e) (authority_apart under f.1 rest e a)
+kind_apart : (version : Version) (x : KindTree) → is_kind version x ≡ true → Apart version (kind x)
+kind_apart version (how.Dynamic place) h rest e a = three true _ _ refl e a
+kind_apart version (how.Enforced n under) h rest e a =
+    let f = both (is_name version n.name) (is_authority version under) h in
+    a_name version r.Plain n.name f.0 (authority under rest) (authority_ends under rest e) (authority_apart version under f.1 rest e a)
 
-start_apart : (x : Option Numeral) → is_start x ≡ true → Apart (start x)
-start_apart None h rest e a = a
-start_apart (Some n) h rest e a = a_number r.Plain n.value h rest e a
+start_apart : (version : Version) (x : Option Numeral) → is_start x ≡ true → Apart version (start x)
+start_apart version None h rest e a = a
+start_apart version (Some n) h rest e a = a_number version r.Plain n.value h rest e a
 
 start_ends : (x : Option Numeral) (rest : List Piece) → ends_run rest ≡ true → ends_run (start x rest) ≡ true
 start_ends None rest e = e
 start_ends (Some n) rest e = refl
 
-declared_apart : (role : Role) (x : Word) (n : List ℕ) (width : ℕ) → is_name n ≡ true → is_number width ≡ true → Apart (declared role x n width)
-declared_apart role x n width h f rest e a =
-    a_name r.Plain n h (space ∷ sign r.Plain s.Colon ∷ space ∷ number r.Plain width ∷ rest) refl (a_number r.Plain width f rest e a)
+declared_apart : (version : Version) (role : Role) (x : Word) (n : List ℕ) (width : ℕ) → is_written version x ≡ true → is_name version n ≡ true → is_number width ≡ true
+    → Apart version (declared role x n width)
+declared_apart version role x n width known h f rest e a =
+    three (is_written version x) true _ known refl
+    (a_name version r.Plain n h (space ∷ sign r.Plain s.Colon ∷ space ∷ number r.Plain width ∷ rest) refl (a_number version r.Plain width f rest e a))
 
-declaration_apart : (x : Decl) → is_declaration x ≡ true → (rest : List Piece) → apart rest ≡ true → apart (declaration x rest) ≡ true
-declaration_apart (d.Input place n width) h rest a =
-    let f = both (is_name n.name) (is_number width.value) h in
-    declared_apart r.Input w.Input n.name width.value f.0 f.1 (sign r.Plain s.Semicolon ∷ line ∷ rest) refl a
-declaration_apart (d.Register place n width x initial) h rest a =
-    let f = both (is_name n.name && is_number width.value && is_kind x) (is_start initial) h in
-    let g = both (is_name n.name && is_number width.value) (is_kind x) f.0 in
-    let i = both (is_name n.name) (is_number width.value) g.0 in
+declaration_apart : (version : Version) (x : Decl) → is_declaration version x ≡ true → (rest : List Piece) → apart version rest ≡ true → apart version (declaration x rest) ≡ true
+declaration_apart version (d.Input place n width) h rest a =
+    let f = both (is_name version n.name) (is_number width.value) h in
+    declared_apart version r.Input w.Input n.name width.value refl f.0 f.1 (sign r.Plain s.Semicolon ∷ line ∷ rest) refl a
+declaration_apart version (d.Register place n width x initial) h rest a =
+    let f = both (is_name version n.name && is_number width.value && is_kind version x) (is_start initial) h in
+    let g = both (is_name version n.name && is_number width.value) (is_kind version x) f.0 in
+    let i = both (is_name version n.name) (is_number width.value) g.0 in
     let last = sign r.Plain s.Semicolon ∷ line ∷ rest in
-    declared_apart r.Register w.Reg n.name width.value i.0 i.1 (space ∷ kind x (start initial last)) refl
-    (kind_apart x g.1 (start initial last) (start_ends initial last refl) (start_apart initial f.1 last refl a))
-declaration_apart (d.Memory place n width depth x) h rest a =
-    let f = both (is_name n.name && is_number width.value && is_number depth.value) (is_kind x) h in
-    let g = both (is_name n.name && is_number width.value) (is_number depth.value) f.0 in
-    let i = both (is_name n.name) (is_number width.value) g.0 in
+    declared_apart version r.Register w.Reg n.name width.value refl i.0 i.1 (space ∷ kind x (start initial last)) refl
+    (kind_apart version x g.1 (start initial last) (start_ends initial last refl) (start_apart version initial f.1 last refl a))
+declaration_apart version (d.Memory place n width depth x) h rest a =
+    let f = both (is_name version n.name && is_number width.value && is_number depth.value) (is_kind version x) h in
+    let g = both (is_name version n.name && is_number width.value) (is_number depth.value) f.0 in
+    let i = both (is_name version n.name) (is_number width.value) g.0 in
     let last = sign r.Plain s.Semicolon ∷ line ∷ rest in
-    declared_apart r.Memory w.Mem n.name width.value i.0 i.1
+    declared_apart version r.Memory w.Mem n.name width.value refl i.0 i.1
     (sign r.Plain s.OpenBracket ∷ number r.Plain depth.value ∷ sign r.Plain s.CloseBracket ∷ space ∷ kind x last) refl
-    (a_number r.Plain depth.value g.1 (sign r.Plain s.CloseBracket ∷ space ∷ kind x last) refl (kind_apart x f.1 last refl a))
+    (a_number version r.Plain depth.value g.1 (sign r.Plain s.CloseBracket ∷ space ∷ kind x last) refl (kind_apart version x f.1 last refl a))
 
-declarations_apart : (xs : List Decl) → list_all is_declaration xs ≡ true → (rest : List Piece) → apart rest ≡ true → apart (declarations xs rest) ≡ true
-declarations_apart [] h rest a = a
-declarations_apart (x ∷ xs) h rest a =
-    let f = both (is_declaration x) (list_all is_declaration xs) h in
-    declaration_apart x f.0 (declarations xs rest) (declarations_apart xs f.1 rest a)
+declarations_apart : (version : Version) (xs : List Decl) → list_all (is_declaration version) xs ≡ true → (rest : List Piece) → apart version rest ≡ true → apart version (declarations xs rest) ≡ true
+declarations_apart version [] h rest a = a
+declarations_apart version (x ∷ xs) h rest a =
+    let f = both (is_declaration version x) (list_all (is_declaration version) xs) h in
+    declaration_apart version x f.0 (declarations xs rest) (declarations_apart version xs f.1 rest a)
 
 mutual
   unfolding is_state is_command
 
-  state_apart : (x : StateTree) (level depth : ℕ) → is_state x ≡ true → (rest : List Piece) → apart rest ≡ true → apart (state x level depth rest) ≡ true
-  state_apart (StateOf place n x (Commands cs after) children) level depth h rest a =
+  state_apart : (version : Version) (x : StateTree) (level depth : ℕ) → is_state version x ≡ true → (rest : List Piece) → apart version rest ≡ true → apart version (state x level depth rest) ≡ true
+  state_apart version (StateOf place n x (Commands cs after) children) level depth h rest a =
       let inside = Commands cs after in
-      let f = both (is_name n.name && is_kind x && is_block inside && nat_le (block_depth inside) most_blocks) (are_states children) h in
-      let g = both (is_name n.name && is_kind x && is_block inside) (nat_le (block_depth inside) most_blocks) f.0 in
-      let i = both (is_name n.name && is_kind x) (is_block inside) g.0 in
-      let j = both (is_name n.name) (is_kind x) i.0 in
+      let f = both (is_name version n.name && is_kind version x && is_block version inside && nat_le (block_depth inside) most_blocks) (are_states version children) h in
+      let g = both (is_name version n.name && is_kind version x && is_block version inside) (nat_le (block_depth inside) most_blocks) f.0 in
+      let i = both (is_name version n.name && is_kind version x) (is_block version inside) g.0 in
+      let j = both (is_name version n.name) (is_kind version x) i.0 in
       let last = margin level (sign r.Plain s.CloseBrace ∷ line ∷ rest) in
       let below = states children (suc level) (depth + 1) last in
-      margin_apart level _
-      (a_name r.Plain n.name j.0 (space ∷ kind x (space ∷ sign r.Plain s.OpenBrace ∷ line ∷ commands cs (suc level) 1 below)) refl
-      (kind_apart x j.1 (space ∷ sign r.Plain s.OpenBrace ∷ line ∷ commands cs (suc level) 1 below) refl
-      (commands_apart cs (suc level) 1 i.1 below (states_apart children (suc level) (depth + 1) f.1 last (margin_apart level _ a)))))
+      margin_apart version level _
+      (a_name version r.Plain n.name j.0 (space ∷ kind x (space ∷ sign r.Plain s.OpenBrace ∷ line ∷ commands cs (suc level) 1 below)) refl
+      (kind_apart version x j.1 (space ∷ sign r.Plain s.OpenBrace ∷ line ∷ commands cs (suc level) 1 below) refl
+      (commands_apart version cs (suc level) 1 i.1 below (states_apart version children (suc level) (depth + 1) f.1 last (margin_apart version level _ a)))))
 
-  states_apart : (xs : StateList) (level depth : ℕ) → are_states xs ≡ true → (rest : List Piece) → apart rest ≡ true → apart (states xs level depth rest) ≡ true
-  states_apart NoState level depth h rest a = a
-  states_apart (AndState x xs) level depth h rest a =
-      let f = both (is_state x) (are_states xs) h in
-      state_apart x level depth f.0 (states xs level depth rest) (states_apart xs level depth f.1 rest a)
+  states_apart : (version : Version) (xs : StateList) (level depth : ℕ) → are_states version xs ≡ true → (rest : List Piece) → apart version rest ≡ true → apart version (states xs level depth rest) ≡ true
+  states_apart version NoState level depth h rest a = a
+  states_apart version (AndState x xs) level depth h rest a =
+      let f = both (is_state version x) (are_states version xs) h in
+      state_apart version x level depth f.0 (states xs level depth rest) (states_apart version xs level depth f.1 rest a)
 
-pub design_apart : (x : DesignTree) → is_tree x ≡ true → apart (design x) ≡ true
+pub design_apart : (x : DesignTree) → is_tree x ≡ true → apart x.version (parts_of x) ≡ true
 design_apart x h =
-    let f = both (list_all is_declaration x.declarations && has_state x.states) (are_states x.states) h in
-    let g = both (list_all is_declaration x.declarations) (has_state x.states) f.0 in
-    declarations_apart x.declarations g.0 (states x.states 0 1 []) (states_apart x.states 0 1 f.1 [] refl)
+    let f = both (list_all (is_declaration x.version) x.declarations && has_state x.states) (are_states x.version x.states) h in
+    let g = both (list_all (is_declaration x.version) x.declarations) (has_state x.states) f.0 in
+    declarations_apart x.version x.declarations g.0 (states x.states 0 1 []) (states_apart x.version x.states 0 1 f.1 [] refl)

@@ -4,24 +4,26 @@ use Rattle.std.proofs.lemmas.Bool.Decides.{nat_tests}
 use Rattle.std.proofs.lemmas.Grind.{common_steps}
 use Rattle.std.proofs.lemmas.Fmt.{decimal_digit, decimal_step}
 use Rattle.std.specs.Prelude.{codes, decimal, nat_lt, is_ok, flat_map, ◌/◌, ◌%◌, ◌^◌}
-use Rattle.sap_show.specs.Canonical.{unary_text, binary_text, operand_text, bounds_text, expression_text, parts_text, more_parts_text, tag_text, tags_text, more_tags_text, cell_text, simple_text, command_text, block_text, else_text, declaration_text, head_text, state_text, canonical_text}
-use Rattle.sap_show.specs.Lists.{list_text, group_text}
+use Rattle.sap_show.specs.Canonical.{unary_text, binary_text, operand_text, bounds_text, expression_text, parts_text, more_parts_text, tag_text, tags_text, more_tags_text, cell_text, simple_text, command_text, arms_text, block_text, else_text, declaration_text, head_text, state_text, version_text, canonical_text}
+use Rattle.sap_show.specs.Lists.{list_arms_text, list_text, group_text}
 use Rattle.sap_tree.specs.Parts.{tree_of}
 use Rattle.sap_tree.specs.declared.syntax.Decl.{Decl}
 use Rattle.sap_tree.specs.Precedence.{precedence, unary_precedence, slice_precedence, precedence_of}
 use Rattle.sap_tree.specs.Syntax
 use Rattle.sap_tree.specs.Syntax.{Expression, Expressions, TagExpression, TagExpressions, StateTree}
-use Rattle.sap_tree.specs.Trees.{expression_of, expressions_of, tag_of, tags_of, command_of, block_of, else_of, state_of}
+use Rattle.sap_tree.specs.Trees.{expression_of, expressions_of, tag_of, tags_of, command_of, block_of, else_of, constants_of, arm_block_of, arms_of, state_of}
 use Rattle.sap_tree.specs.declared.name.Mention.{Mention}
 use Rattle.sap_tree.specs.declared.place.Place.{Place}
 use Rattle.sap_tree.specs.declared.place.Spot.{Spot}
 use Rattle.sap_tree.specs.declared.syntax.BinaryOperator.{BinaryOperator}
 use Rattle.sap_tree.specs.declared.syntax.UnaryOperator.{UnaryOperator}
+use Rattle.sap_tree.specs.declared.syntax.Arm.{Arm}
 use Rattle.sap_tree.specs.declared.syntax.Block.{Block}
 use Rattle.sap_tree.specs.declared.syntax.Cmd.{Cmd}
 use Rattle.sap_tree.specs.declared.syntax.Expr.{Expr}
 use Rattle.sap_tree.specs.declared.syntax.State.{State, out-State}
 use Rattle.sap_tree.specs.declared.syntax.TagExpr.{TagExpr}
+use Rattle.sap_tree.specs.declared.version.Version.{Version}
 use Rattle.sap_tree.proofs.Views.{state_of-out}
 
 -- digits
@@ -116,6 +118,11 @@ pub grow_seven : (old a b c d e f new p q r s t u v all : List ℕ) → a ≡ ol
     → all ≡ p ++ (q ++ (r ++ (s ++ (t ++ (u ++ v))))) → new ≡ old ++ all
 grow_seven old a b c d e f new p q r s t u v all h i j k l m n g =
     grow_three old a b new p q (r ++ (s ++ (t ++ (u ++ v)))) all h i (grow_five b c d e f new r s t u v (r ++ (s ++ (t ++ (u ++ v)))) j k l m n refl) g
+
+pub grow_eight : (old a b c d e f g new p q r s t u v x all : List ℕ) → a ≡ old ++ p → b ≡ a ++ q → c ≡ b ++ r → d ≡ c ++ s → e ≡ d ++ t → f ≡ e ++ u → g ≡ f ++ v → new ≡ g ++ x
+    → all ≡ p ++ (q ++ (r ++ (s ++ (t ++ (u ++ (v ++ x)))))) → new ≡ old ++ all
+grow_eight old a b c d e f g new p q r s t u v x all h i j k l m n o whole =
+    grow_four old a b c new p q r (s ++ (t ++ (u ++ (v ++ x)))) all h i j (grow_five c d e f g new s t u v x (s ++ (t ++ (u ++ (v ++ x)))) k l m n o refl) whole
 
 append_none : (l : List ℕ) → l ++ [] ≡ l
 append_none l = grind (arith, common_steps)
@@ -253,6 +260,58 @@ if_grows margin whole place x one other old a b c d e f w h i j k l m =
     grow_seven old a b c d e f (f ++ codes "\n") margin (codes "if (") (expression_text x) (codes ")") (block_text margin one) (else_text margin other) (codes "\n") _ h i j k l m refl
     (ap (command_text margin) w ∙ text_if margin place x one other)
 
+text_decided : (margin : List ℕ) (c : Syntax.SimpleCommand) (place : Place) (one other : Syntax.CommandBlock)
+    → command_text margin (Syntax.TryThen c place one other)
+    ≡ margin ++ (simple_text c ++ (codes " then" ++ (block_text margin one ++ (codes " otherwise" ++ (block_text margin other ++ codes "\n")))))
+unfolding command_text
+text_decided margin c place one other = refl
+
+pub decided_grows : (margin : List ℕ) (whole : Syntax.Command) (x : Syntax.SimpleCommand) (place : Place) (one other : Syntax.CommandBlock) (old a b c d e f : List ℕ)
+    → whole ≡ Syntax.TryThen x place one other → a ≡ old ++ margin → b ≡ a ++ simple_text x → c ≡ b ++ codes " then" → d ≡ c ++ block_text margin one → e ≡ d ++ codes " otherwise"
+    → f ≡ e ++ block_text margin other → f ++ codes "\n" ≡ old ++ command_text margin whole
+decided_grows margin whole x place one other old a b c d e f w h i j k l m =
+    grow_seven old a b c d e f (f ++ codes "\n") margin (simple_text x) (codes " then") (block_text margin one) (codes " otherwise") (block_text margin other) (codes "\n") _ h i j k l m refl
+    (ap (command_text margin) w ∙ text_decided margin x place one other)
+
+pub text_last : (margin : List ℕ) (b : Syntax.CommandBlock) → arms_text margin (Syntax.Last b) ≡ margin ++ (codes "else" ++ (block_text margin b ++ codes "\n"))
+unfolding command_text
+text_last margin b = refl
+
+-- the arms, and the block after `else`
+arms_are : (margin : List ℕ) (arms : List Arm) (last : Syntax.CommandBlock) → arms_text margin (arms_of arms last) ≡ list_arms_text margin arms ++ arms_text margin (Syntax.Last last)
+unfolding command_text list_arms_text
+arms_are margin [] last = refl
+arms_are margin (arm ∷ arms) last =
+    let m = list_arms_text margin arms in
+    let end = arms_text margin (Syntax.Last last) in
+    let block = block_text margin (arm_block_of arm) in
+    ap (λ t. margin ++ (parts_text (constants_of arm) ++ (codes ":" ++ (block ++ (codes "\n" ++ t))))) (arms_are margin arms last)
+    ∙ ap (λ t. margin ++ (parts_text (constants_of arm) ++ (codes ":" ++ t))) (sym (append_assoc block (codes "\n" ++ m) end))
+    ∙ ap (λ t. margin ++ t) (sym (append_assoc (parts_text (constants_of arm)) (codes ":" ++ (block ++ (codes "\n" ++ m))) end))
+    ∙ sym (append_assoc margin (parts_text (constants_of arm) ++ (codes ":" ++ (block ++ (codes "\n" ++ m)))) end)
+
+text_case : (margin : List ℕ) (place : Place) (x : Expression) (arms : List Arm) (last : Syntax.CommandBlock)
+    → command_text margin (Syntax.Case place x (arms_of arms last))
+    ≡ margin
+    ++ (codes "case (" ++ (expression_text x ++ (codes ") {\n"
+    ++ (list_arms_text (margin ++ codes "  ") arms ++ (arms_text (margin ++ codes "  ") (Syntax.Last last) ++ (margin ++ codes "}\n"))))))
+unfolding command_text
+text_case margin place x arms last =
+    let m = margin ++ codes "  " in
+    let foot = margin ++ codes "}\n" in
+    ap (λ t. margin ++ (codes "case (" ++ (expression_text x ++ (codes ") {\n" ++ (t ++ foot))))) (arms_are m arms last)
+    ∙ ap (λ t. margin ++ (codes "case (" ++ (expression_text x ++ (codes ") {\n" ++ t)))) (append_assoc (list_arms_text m arms) (arms_text m (Syntax.Last last)) foot)
+
+pub case_grows : (margin one two : List ℕ) (whole : Syntax.Command) (place : Place) (x : Expression) (arms listed : List Arm) (last : Syntax.CommandBlock) (old a b c d e f g : List ℕ)
+    → whole ≡ Syntax.Case place x (arms_of arms last) → one ≡ margin ++ codes "  " → two ≡ margin ++ codes "  " → listed ≡ arms → a ≡ old ++ margin → b ≡ a ++ codes "case ("
+    → c ≡ b ++ expression_text x → d ≡ c ++ codes ") {\n" → e ≡ d ++ list_arms_text one listed → f ≡ e ++ arms_text two (Syntax.Last last) → g ≡ f ++ margin
+    → g ++ codes "}\n" ≡ old ++ command_text margin whole
+case_grows margin one two whole place x arms listed last old a b c d e f g w o t s h i j k l m n =
+    grow_eight old a b c d e f g (g ++ codes "}\n") margin (codes "case (") (expression_text x) (codes ") {\n") (list_arms_text (margin ++ codes "  ") arms)
+    (arms_text (margin ++ codes "  ") (Syntax.Last last)) margin (codes "}\n") _ h i j k
+    (l ∙ ap (λ z. d ++ list_arms_text z listed) o ∙ ap (λ z. d ++ list_arms_text (margin ++ codes "  ") z) s)
+    (m ∙ ap (λ z. e ++ arms_text z (Syntax.Last last)) t) n refl (ap (command_text margin) w ∙ text_case margin place x arms last)
+
 pub text_block : (margin : List ℕ) (b : Block)
     → block_text margin (block_of b) ≡ codes " {\n" ++ (list_text (margin ++ codes "  ") b.commands.items ++ (margin ++ codes "}"))
 unfolding command_text list_text
@@ -290,6 +349,35 @@ pub commands_step : (margin : List ℕ) (cs : List Cmd) (n : ℕ) (d : Cmd) (old
     → new ≡ old ++ command_text margin (command_of d) → new ++ list_text margin (drop (n + 1) cs) ≡ old ++ list_text margin (drop n cs)
 commands_step margin cs n d old new l e k = after_part old new _ _ _ k (list_text-drop margin cs n d l e)
 
+-- arms, from a place on
+
+list_arms_text-drop : (margin : List ℕ) (arms : List Arm) (n : ℕ) (d : Arm) → n < length arms → d ≡ get_or arms n d
+    → list_arms_text margin (drop n arms)
+    ≡ margin ++ (parts_text (constants_of d) ++ (codes ":" ++ (block_text margin (arm_block_of d) ++ (codes "\n" ++ list_arms_text margin (drop (n + 1) arms)))))
+unfolding list_arms_text
+list_arms_text-drop margin [] n d l e = absurd (omega arith)
+list_arms_text-drop margin (a ∷ arms) zero d l e =
+    ap (λ (x : Arm). margin ++ (parts_text (constants_of x) ++ (codes ":" ++ (block_text margin (arm_block_of x) ++ (codes "\n" ++ list_arms_text margin arms))))) (sym e)
+list_arms_text-drop margin (a ∷ arms) (suc n) d l e = let r = list_arms_text-drop margin arms n d (omega arith) e in simp (add-one) (simp (add-one) at r)
+
+list_arms_text-past : (margin : List ℕ) (arms : List Arm) (n : ℕ) → length arms ≤ n → list_arms_text margin (drop n arms) ≡ []
+unfolding list_arms_text
+list_arms_text-past margin [] zero l = refl
+list_arms_text-past margin [] (suc n) l = refl
+list_arms_text-past margin (a ∷ arms) zero l = absurd (omega arith)
+list_arms_text-past margin (a ∷ arms) (suc n) l = list_arms_text-past margin arms n (omega arith)
+
+pub arms_step : (margin : List ℕ) (arms : List Arm) (n : ℕ) (d : Arm) (constants : List Expr) (old a b c e new : List ℕ) → n < length arms → d ≡ get_or arms n d → constants ≡ d.constants.items
+    → a ≡ old ++ margin → b ≡ a ++ parts_text (expressions_of constants) → c ≡ b ++ codes ":" → e ≡ c ++ block_text margin (arm_block_of d) → new ≡ e ++ codes "\n"
+    → new ++ list_arms_text margin (drop (n + 1) arms) ≡ old ++ list_arms_text margin (drop n arms)
+arms_step margin arms n d constants old a b c e new l is own h i j k m =
+    let rest = list_arms_text margin (drop (n + 1) arms) in
+    grow_five old a b c e (new ++ rest) margin (parts_text (constants_of d)) (codes ":") (block_text margin (arm_block_of d)) (codes "\n" ++ rest) _ h
+    (i ∙ ap (λ z. a ++ parts_text (expressions_of z)) own) j k (ap (λ z. z ++ rest) m ∙ append_assoc e (codes "\n") rest) (list_arms_text-drop margin arms n d l is)
+
+pub arms_end : (margin : List ℕ) (arms : List Arm) (n : ℕ) (new all : List ℕ) → length arms ≤ n → new ++ list_arms_text margin (drop n arms) ≡ all → new ≡ all
+arms_end margin arms n new all l h = sym (append_none new) ∙ ap (λ r. new ++ r) (sym (list_arms_text-past margin arms n l)) ∙ h
+
 -- at the end nothing is left
 pub list_end : (margin : List ℕ) (cs : List Cmd) (n : ℕ) (new all : List ℕ) → length cs ≤ n → new ++ list_text margin (drop n cs) ≡ all → new ≡ all
 list_end margin cs n new all l h = sym (append_none new) ∙ ap (λ r. new ++ r) (sym (list_text-past margin cs n l)) ∙ h
@@ -325,14 +413,16 @@ pub text_state : (margin : List ℕ) (s : State)
 unfolding list_text group_text state_text
 text_state margin s = ap (λ (t : StateTree). state_text margin t) (state_of-out s)
 
-pub whole_text : (ds listed : List Decl) (ss : List State) (seen : List State) (old a b result margin : List ℕ) → old ≡ [] → listed ≡ ds → seen ≡ ss → margin ≡ []
-    → a ≡ old ++ flat_map declaration_text listed → b ≡ a ++ group_text margin seen → result ≡ b → result ≡ canonical_text (tree_of ds ss)
+pub whole_text : (version : Version) (ds listed : List Decl) (ss : List State) (seen : List State) (old v a b result margin : List ℕ) → old ≡ [] → listed ≡ ds → seen ≡ ss → margin ≡ []
+    → v ≡ old ++ version_text version → a ≡ v ++ flat_map declaration_text listed → b ≡ a ++ group_text margin seen → result ≡ b → result ≡ canonical_text (tree_of version ds ss)
 unfolding canonical_text group_text
-whole_text ds listed ss seen old a b result margin e i j m f g h =
-    h ∙ g
-    ∙ ap (λ z. z ++ group_text margin seen) (f ∙ ap (λ z. z ++ flat_map declaration_text listed) e ∙ ap (λ z. flat_map declaration_text z) i)
-    ∙ ap (λ z. flat_map declaration_text ds ++ group_text z seen) m
-    ∙ ap (λ z. flat_map declaration_text ds ++ group_text [] z) j
+whole_text version ds listed ss seen old v a b result margin e i j m n f g h =
+    h
+    ∙ grow_three old v a b (version_text version) (flat_map declaration_text listed) (group_text margin seen) _ n f g refl
+    ∙ ap (λ z. z ++ (version_text version ++ (flat_map declaration_text listed ++ group_text margin seen))) e
+    ∙ ap (λ z. version_text version ++ (flat_map declaration_text z ++ group_text margin seen)) i
+    ∙ ap (λ z. version_text version ++ (flat_map declaration_text ds ++ group_text z seen)) m
+    ∙ ap (λ z. version_text version ++ (flat_map declaration_text ds ++ group_text [] z)) j
 
 pub ruleset operands = (operand_closed, operand_bare, append_assoc)
 
@@ -348,7 +438,7 @@ pub ruleset simples = (text_assign, text_write, text_set_tag, text_set_cell_tag,
 
 pub ruleset commands = (text_do, text_try, text_if, append_assoc)
 
-pub ruleset blocks = (text_block, text_no_else, text_else, append_assoc)
+pub ruleset blocks = (text_block, text_last, text_no_else, text_else, append_assoc)
 
 pub ruleset lists = (list_text-past, group_text-past)
 

@@ -13,7 +13,7 @@ use Rattle.sap_parse.specs.declared.token.Kind.{Kind}
 use Rattle.sap_parse.specs.declared.token.Sign.TheVariants as s
 use Rattle.sap_parse.specs.declared.token.Sign.{Sign}
 use Rattle.sap_parse.specs.declared.token.Token.{Token}
-use Rattle.sap_parse.specs.declared.token.Word.TheVariants as w
+use Rattle.sap_tree.specs.declared.word.Word.TheVariants as w
 use Rattle.sap_show.proofs.Pieces.{Piece, space, line, token, sign, wrapped, bounds, expression, parts, more_parts}
 use Rattle.sap_show.proofs.ReadBack.{both}
 use Rattle.sap_tree.specs.Extent.{tokens, part_tokens, brackets, part_brackets, parentheses, opened}
@@ -22,6 +22,7 @@ use Rattle.sap_tree.specs.Precedence.{precedence, unary_precedence, slice_preced
 use Rattle.sap_tree.specs.Syntax.{Expression, Expressions, Number, Sized, Read, Cell, Unary, Binary, Choose, Slice, Concat, Zext, NoPart, AndPart}
 use Rattle.sap_tree.specs.Whole.{is_expression, are_expressions, has_two_parts, is_number}
 use Rattle.sap_tree.specs.Words.{is_name, is_word, is_keyword}
+use Rattle.sap_tree.specs.declared.version.Version.{Version}
 
 -- the counts after a token in its role
 abbrev pub after : Counts → Role → Counts
@@ -60,9 +61,9 @@ at c t b = record c { tokens = t; brackets = b }
 pub not_above : (most n : ℕ) (limit : Limit) → n ≤ most → above most n limit ≡ None
 not_above most n limit h = let e : nat_lt most n ≡ false = grind (arith, nat_tests) in ap (λ b. cond b (Some limit) None) e
 
-pub short_name : (n : List ℕ) → is_name n ≡ true → breach_of_name (k.Name n) ≡ None
+pub short_name : (version : Version) (n : List ℕ) → is_name version n ≡ true → breach_of_name (k.Name n) ≡ None
 unfolding is_name
-short_name n h = not_above most_name_bytes (length n) l.Name (bytes (length n) (both (is_word n && not (is_keyword n)) (nat_le (length n) most_name_bytes) h).1) where
+short_name version n h = not_above most_name_bytes (length n) l.Name (bytes (length n) (both (is_word n && not (is_keyword version n)) (nat_le (length n) most_name_bytes) h).1) where
   bytes : (m : ℕ) → nat_le m most_name_bytes ≡ true → m ≤ most_name_bytes
   bytes m h = grind (arith, nat_tests)
 
@@ -142,93 +143,93 @@ module _ (c : Counts) where
   mutual
     unfolding is_expression tokens brackets
 
-    pub expression_counted : (x : Expression) → is_expression x ≡ true → Counted (tokens x) (brackets x) (expression x)
-    expression_counted (Number spot n) d t u b rest e top room h = inner_step t u b (k.Number n) rest refl e top h
-    expression_counted (Sized spot width n) d t u b rest e top room h = inner_step t u b (k.Sized width n) rest refl e top h
-    expression_counted (Read spot n) d t u b rest e top room h = inner_step t u b (k.Name n) rest (short_name n d) e top h
-    expression_counted (Cell spot n i) d t u b rest e top room h =
-        let f = both (is_name n) (is_expression i) d in
+    pub expression_counted : (version : Version) (x : Expression) → is_expression version x ≡ true → Counted (tokens x) (brackets x) (expression x)
+    expression_counted version (Number spot n) d t u b rest e top room h = inner_step t u b (k.Number n) rest refl e top h
+    expression_counted version (Sized spot width n) d t u b rest e top room h = inner_step t u b (k.Sized width n) rest refl e top h
+    expression_counted version (Read spot n) d t u b rest e top room h = inner_step t u b (k.Name n) rest (short_name version n d) e top h
+    expression_counted version (Cell spot n i) d t u b rest e top room h =
+        let f = both (is_name version n) (is_expression version i) d in
         let same : u ≡ t + (tokens i + 3) = e in
         let fits : b + (1 + brackets i) ≤ most_brackets = room in (
-          inner_free t (k.Name n) (short_name n f.0) (omega arith),
+          inner_free t (k.Name n) (short_name version n f.0) (omega arith),
           (
             opening_free (t + 1) b (omega arith) (omega arith),
-            (expression_counted i f.1 (t + 1 + 1) (t + 1 + 1 + tokens i) (b + 1) (sign r.Closing s.CloseBracket ∷ rest) refl (omega arith) (omega arith)
+            (expression_counted version i f.1 (t + 1 + 1) (t + 1 + 1 + tokens i) (b + 1) (sign r.Closing s.CloseBracket ∷ rest) refl (omega arith) (omega arith)
                 (closing_step (t + 1 + 1 + tokens i) u b s.CloseBracket rest (omega arith) top h)),
           ),
         )
-    expression_counted (Unary spot o x) d t u b rest e top room h =
+    expression_counted version (Unary spot o x) d t u b rest e top room h =
         let same : u ≡ t + (1 + (parentheses unary_precedence x + tokens x)) = e in
         let fits : b + (opened unary_precedence x + brackets x) ≤ most_brackets = room in
-        (inner_free t (k.Sign (unary_sign_of o)) refl (omega arith), (wrapped_counted unary_precedence x (λ ps. expression x ps) (expression_counted x d) (t + 1) u b rest (omega arith) top fits h))
-    expression_counted (Binary spot o x y) d t u b rest e top room h =
-        let f = both (is_expression x) (is_expression y) d in
+        (inner_free t (k.Sign (unary_sign_of o)) refl (omega arith), (wrapped_counted unary_precedence x (λ ps. expression x ps) (expression_counted version x d) (t + 1) u b rest (omega arith) top fits h))
+    expression_counted version (Binary spot o x y) d t u b rest e top room h =
+        let f = both (is_expression version x) (is_expression version y) d in
         let n = parentheses (precedence o) x + tokens x in
         let m = parentheses (precedence o + 1) y + tokens y in
         let same : u ≡ t + (n + 1 + m) = e in
         let fits : b + max (opened (precedence o) x + brackets x) (opened (precedence o + 1) y + brackets y) ≤ most_brackets = room in
-        wrapped_counted (precedence o) x (λ ps. expression x ps) (expression_counted x f.0) t (t + n) b
+        wrapped_counted (precedence o) x (λ ps. expression x ps) (expression_counted version x f.0) t (t + n) b
         (space ∷ sign r.Inner (sign_of o) ∷ space ∷ wrapped (nat_lt (precedence_of y) (precedence o + 1)) (λ ps. expression y ps) rest) refl
         (first_le t n m u same top) (left_fits b _ _ fits)
-        (inner_free (t + n) (k.Sign (sign_of o)) refl (both_le t n m u same top), (wrapped_counted (precedence o + 1) y (λ ps. expression y ps) (expression_counted y f.1) (t + n + 1) u b rest (rest_is t n m u same) top (right_fits b _ _ fits) h))
-    expression_counted (Choose spot x y z) d t u b rest e top room h =
-        let f = both (is_expression x && is_expression y) (is_expression z) d in
-        let g = both (is_expression x) (is_expression y) f.0 in
+        (inner_free (t + n) (k.Sign (sign_of o)) refl (both_le t n m u same top), (wrapped_counted (precedence o + 1) y (λ ps. expression y ps) (expression_counted version y f.1) (t + n + 1) u b rest (rest_is t n m u same) top (right_fits b _ _ fits) h))
+    expression_counted version (Choose spot x y z) d t u b rest e top room h =
+        let f = both (is_expression version x && is_expression version y) (is_expression version z) d in
+        let g = both (is_expression version x) (is_expression version y) f.0 in
         let n = parentheses 1 x + tokens x in
         let same : u ≡ t + (n + 1 + tokens y + 1 + tokens z) = e in
         let fits : b + max (opened 1 x + brackets x) (max (brackets y) (brackets z)) ≤ most_brackets = room in
         let others = right_fits b _ _ fits in
         let le = choice_le t n (tokens y) (tokens z) u same top in
-        wrapped_counted 1 x (λ ps. expression x ps) (expression_counted x g.0) t (t + n) b _ refl le.0 (left_fits b _ _ fits) (
+        wrapped_counted 1 x (λ ps. expression x ps) (expression_counted version x g.0) t (t + n) b _ refl le.0 (left_fits b _ _ fits) (
           inner_free (t + n) (k.Sign s.Question) refl le.1,
-          expression_counted y g.1 (t + n + 1) (t + n + 1 + tokens y) b (space ∷ sign r.Inner s.Colon ∷ space ∷ expression z rest) refl le.2 (left_fits b _ _ others) (
+          expression_counted version y g.1 (t + n + 1) (t + n + 1 + tokens y) b (space ∷ sign r.Inner s.Colon ∷ space ∷ expression z rest) refl le.2 (left_fits b _ _ others) (
             inner_free (t + n + 1 + tokens y) (k.Sign s.Colon) refl le.3,
-            expression_counted z f.1 (t + n + 1 + tokens y + 1) u b rest (choice_is t n (tokens y) (tokens z) u same) top (right_fits b _ _ others) h,
+            expression_counted version z f.1 (t + n + 1 + tokens y + 1) u b rest (choice_is t n (tokens y) (tokens z) u same) top (right_fits b _ _ others) h,
           ),
         )
-    expression_counted (Slice spot x high low) d t u b rest e top room h =
-        let f = both (is_expression x) (is_number high) (both (is_expression x && is_number high) (is_number low) d).0 in
+    expression_counted version (Slice spot x high low) d t u b rest e top room h =
+        let f = both (is_expression version x) (is_number high) (both (is_expression version x && is_number high) (is_number low) d).0 in
         let n = parentheses slice_precedence x + tokens x in
         let same : u ≡ t + (n + 5) = e in
         let fits : b + max (opened slice_precedence x + brackets x) 1 ≤ most_brackets = room in
-        wrapped_counted slice_precedence x (λ ps. expression x ps) (expression_counted x f.0) t (t + n) b (bounds high low rest) refl (first_of t n 5 u same top) (left_fits b _ _ fits)
+        wrapped_counted slice_precedence x (λ ps. expression x ps) (expression_counted version x f.0) t (t + n) b (bounds high low rest) refl (first_of t n 5 u same top) (left_fits b _ _ fits)
         (bounds_counted high low (t + n) u b rest (sum_is t n 5 u same) top (right_fits b _ _ fits) h)
-    expression_counted (Concat spot xs) d t u b rest e top room h =
-        let f = both (has_two_parts xs) (are_expressions xs) d in
+    expression_counted version (Concat spot xs) d t u b rest e top room h =
+        let f = both (has_two_parts xs) (are_expressions version xs) d in
         let same : u ≡ t + (1 + part_tokens xs) = e in
         let fits : b + (1 + part_brackets xs) ≤ most_brackets = room in
-        (opening_free t b (omega arith) (omega arith), (parts_counted xs f.0 f.1 (t + 1) u b rest (omega arith) top (omega arith) h))
-    expression_counted (Zext spot x width) d t u b rest e top room h =
-        let f = both (is_expression x) (is_number width) d in
+        (opening_free t b (omega arith) (omega arith), (parts_counted version xs f.0 f.1 (t + 1) u b rest (omega arith) top (omega arith) h))
+    expression_counted version (Zext spot x width) d t u b rest e top room h =
+        let f = both (is_expression version x) (is_number width) d in
         let same : u ≡ t + (tokens x + 5) = e in
         let fits : b + (1 + brackets x) ≤ most_brackets = room in (
           inner_free t (k.Word w.Zext) refl (omega arith),
           (
             opening_free (t + 1) b (omega arith) (omega arith),
-            (expression_counted x f.0 (t + 1 + 1) (t + 1 + 1 + tokens x) (b + 1) _ refl (omega arith) (omega arith)
+            (expression_counted version x f.0 (t + 1 + 1) (t + 1 + 1 + tokens x) (b + 1) _ refl (omega arith) (omega arith)
                 (inner_free (t + 1 + 1 + tokens x) (k.Sign s.Comma) refl (omega arith), (inner_free (t + 1 + 1 + tokens x + 1) (k.Number width) refl (omega arith), (closing_step (t + 1 + 1 + tokens x + 1 + 1) u b s.CloseParen rest (omega arith) top h)))),
           ),
         )
 
     -- parts, and the `}` behind them
-    parts_counted : (xs : Expressions) → has_two_parts xs ≡ true → are_expressions xs ≡ true → (t u b : ℕ) (rest : List Piece) → u ≡ t + part_tokens xs → u ≤ most_tokens
+    parts_counted : (version : Version) (xs : Expressions) → has_two_parts xs ≡ true → are_expressions version xs ≡ true → (t u b : ℕ) (rest : List Piece) → u ≡ t + part_tokens xs → u ≤ most_tokens
         → b + (1 + part_brackets xs) ≤ most_brackets → Within (at c u b) rest → Within (at c t (b + 1)) (parts xs (sign r.Closing s.CloseBrace ∷ rest))
-    parts_counted NoPart two d t u b rest e top room h = absurd (cc)
-    parts_counted (AndPart x xs) two d t u b rest e top room h =
-        let f = both (is_expression x) (are_expressions xs) d in
+    parts_counted version NoPart two d t u b rest e top room h = absurd (cc)
+    parts_counted version (AndPart x xs) two d t u b rest e top room h =
+        let f = both (is_expression version x) (are_expressions version xs) d in
         let same : u ≡ t + (tokens x + 1 + part_tokens xs) = e in
         let fits : b + (1 + max (brackets x) (part_brackets xs)) ≤ most_brackets = room in
-        expression_counted x f.0 t (t + tokens x) (b + 1) (more_parts xs (sign r.Closing s.CloseBrace ∷ rest)) refl (omega arith) (omega arith)
-        (more_parts_counted xs f.1 (t + tokens x) u b rest (omega arith) top (omega arith) h)
+        expression_counted version x f.0 t (t + tokens x) (b + 1) (more_parts xs (sign r.Closing s.CloseBrace ∷ rest)) refl (omega arith) (omega arith)
+        (more_parts_counted version xs f.1 (t + tokens x) u b rest (omega arith) top (omega arith) h)
 
-    more_parts_counted : (xs : Expressions) → are_expressions xs ≡ true → (t u b : ℕ) (rest : List Piece) → u ≡ t + (1 + part_tokens xs) → u ≤ most_tokens
+    more_parts_counted : (version : Version) (xs : Expressions) → are_expressions version xs ≡ true → (t u b : ℕ) (rest : List Piece) → u ≡ t + (1 + part_tokens xs) → u ≤ most_tokens
         → b + (1 + part_brackets xs) ≤ most_brackets → Within (at c u b) rest → Within (at c t (b + 1)) (more_parts xs (sign r.Closing s.CloseBrace ∷ rest))
-    more_parts_counted NoPart d t u b rest e top room h = closing_step t u b s.CloseBrace rest e top h
-    more_parts_counted (AndPart x xs) d t u b rest e top room h =
-        let f = both (is_expression x) (are_expressions xs) d in
+    more_parts_counted version NoPart d t u b rest e top room h = closing_step t u b s.CloseBrace rest e top h
+    more_parts_counted version (AndPart x xs) d t u b rest e top room h =
+        let f = both (is_expression version x) (are_expressions version xs) d in
         let same : u ≡ t + (1 + (tokens x + 1 + part_tokens xs)) = e in
         let fits : b + (1 + max (brackets x) (part_brackets xs)) ≤ most_brackets = room in (
           inner_free t (k.Sign s.Comma) refl (omega arith),
-          (expression_counted x f.0 (t + 1) (t + 1 + tokens x) (b + 1) (more_parts xs (sign r.Closing s.CloseBrace ∷ rest)) refl (omega arith) (omega arith)
-              (more_parts_counted xs f.1 (t + 1 + tokens x) u b rest (omega arith) top (omega arith) h)),
+          (expression_counted version x f.0 (t + 1) (t + 1 + tokens x) (b + 1) (more_parts xs (sign r.Closing s.CloseBrace ∷ rest)) refl (omega arith) (omega arith)
+              (more_parts_counted version xs f.1 (t + 1 + tokens x) u b rest (omega arith) top (omega arith) h)),
         )

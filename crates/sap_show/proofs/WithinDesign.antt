@@ -10,21 +10,23 @@ use Rattle.sap_parse.specs.declared.limit.Role.TheVariants as r
 use Rattle.sap_parse.specs.declared.token.Kind.TheVariants as k
 use Rattle.sap_parse.specs.declared.token.Kind.{Kind}
 use Rattle.sap_parse.specs.declared.token.Sign.TheVariants as s
-use Rattle.sap_parse.specs.declared.token.Word.TheVariants as w
-use Rattle.sap_show.proofs.Pieces.{Piece, space, line, token, sign, word, name, number, expression, tag, tags, more_tags, simple, margin, command, block, else_part, commands, authority, kind, start, declarations, state, states, design}
+use Rattle.sap_tree.specs.declared.word.Word.TheVariants as w
+use Rattle.sap_show.proofs.Pieces.{Piece, space, line, token, sign, word, name, number, expression, tag, tags, more_tags, constant, more_constants, constants, simple, margin, command, arms, block, else_part, commands, authority, kind, start, declarations, state, states, header, parts_of, design}
 use Rattle.sap_show.proofs.ReadBack.{both}
 use Rattle.sap_show.proofs.Within.{Within, at, Counted, inner_step, inner_free, opening_free, closing_step, not_above, short_name, expression_counted}
 use Rattle.sap_tree.specs.Extent.{tokens, brackets, tag_tokens, tag_part_tokens, tag_brackets, tag_part_brackets, fits, tag_fits}
-use Rattle.sap_tree.specs.Limits.{most_brackets, most_tokens, most_commands, most_blocks, most_states, most_nesting, most_inputs, most_registers, most_memories}
-use Rattle.sap_tree.specs.Syntax.{Expression, TagExpression, TagExpressions, Level, TagOf, LevelAt, Join, NoTag, AndTag, SimpleCommand, Assign, Write, SetTag, SetCellTag, Goto, Fall, Command, Do, Try, If, CommandBlock, Commands, ElseBlock, NoElse, Else, CommandList, NoCommand, AndCommand, StateTree, StateOf, StateList, NoState, AndState, DesignTree}
-use Rattle.sap_tree.specs.Whole.{is_expression, is_tag, are_tags, has_two_tags, is_outermost, is_outermost_tag, is_simple, is_command, is_block, is_else, are_commands, is_kind, is_authority, is_start, is_number, is_declaration, is_input, is_register, is_memory, is_state, are_states, has_state, command_count, block_count, else_count, list_count, command_depth, block_depth, else_depth, list_depth, state_count, states_count, state_depth, states_depth, state_commands, states_commands, is_tree, is_within_limits, is_whole}
-use Rattle.sap_tree.specs.Words.{is_name}
+use Rattle.sap_tree.specs.Limits.{most_brackets, most_tokens, most_commands, most_arms, most_blocks, most_states, most_nesting, most_inputs, most_registers, most_memories}
+use Rattle.sap_tree.specs.Syntax.{Expression, Number, Sized, Read, Cell, Unary, Binary, Choose, Slice, Concat, Zext, Expressions, NoPart, AndPart, TagExpression, TagExpressions, Level, TagOf, LevelAt, Join, NoTag, AndTag, SimpleCommand, Assign, Write, SetTag, SetCellTag, Goto, Fall, Command, Do, Try, If, TryThen, Case, Arms, Last, Arm, CommandBlock, Commands, ElseBlock, NoElse, Else, CommandList, NoCommand, AndCommand, StateTree, StateOf, StateList, NoState, AndState, DesignTree}
+use Rattle.sap_tree.specs.Whole.{is_expression, is_tag, are_tags, has_two_tags, is_outermost, is_outermost_tag, is_simple, is_command, is_block, is_else, is_constant, are_constants, has_constant, has_arm, arm_count, are_arms, are_commands, is_kind, is_authority, is_start, is_number, is_declaration, is_input, is_register, is_memory, is_state, are_states, has_state, command_count, block_count, else_count, arms_count, list_count, command_depth, block_depth, else_depth, arms_depth, list_depth, state_count, states_count, state_depth, states_depth, state_commands, states_commands, is_tree, is_within_limits, is_whole}
+use Rattle.sap_tree.specs.Words.{is_name, is_second}
 use Rattle.sap_tree.specs.declared.syntax.Decl.TheVariants as d
 use Rattle.sap_tree.specs.declared.syntax.Decl.{Decl}
 use Rattle.sap_tree.specs.declared.syntax.Kind.TheVariants as how
 use Rattle.sap_tree.specs.declared.syntax.Kind.{Kind as KindTree}
 use Rattle.sap_tree.specs.declared.syntax.Numeral.{Numeral}
 use Rattle.sap_tree.specs.declared.syntax.Under.{Under}
+use Rattle.sap_tree.specs.declared.version.Version.TheVariants.{One, Two}
+use Rattle.sap_tree.specs.declared.version.Version.{Version}
 
 pub from_le : (n m : ℕ) → nat_le n m ≡ true → n ≤ m
 from_le n m h = grind (arith, nat_tests)
@@ -34,54 +36,54 @@ module _ (c : Counts) where
   mutual
     unfolding is_tag tag_tokens tag_brackets
 
-    pub tag_counted : (x : TagExpression) → is_tag x ≡ true → Counted c (tag_tokens x) (tag_brackets x) (tag x)
-    tag_counted (Level n) h t u b rest e top room a = inner_step c t u b (k.Name n.name) rest (short_name n.name h) e top a
-    tag_counted (TagOf place x) h t u b rest e top room a =
+    pub tag_counted : (version : Version) (x : TagExpression) → is_tag version x ≡ true → Counted c (tag_tokens x) (tag_brackets x) (tag x)
+    tag_counted version (Level n) h t u b rest e top room a = inner_step c t u b (k.Name n.name) rest (short_name version n.name h) e top a
+    tag_counted version (TagOf place x) h t u b rest e top room a =
         let same : u ≡ t + (tokens x + 3) = e in
         let fits : b + (1 + brackets x) ≤ most_brackets = room in (
           inner_free t (k.Word w.Tag) refl (omega arith),
           (
             opening_free (t + 1) b (omega arith) (omega arith),
-            (expression_counted c x h (t + 1 + 1) (t + 1 + 1 + tokens x) (b + 1) (sign r.Closing s.CloseParen ∷ rest) refl (omega arith) (omega arith)
+            (expression_counted c version x h (t + 1 + 1) (t + 1 + 1 + tokens x) (b + 1) (sign r.Closing s.CloseParen ∷ rest) refl (omega arith) (omega arith)
                 (closing_step c (t + 1 + 1 + tokens x) u b s.CloseParen rest (omega arith) top a)),
           ),
         )
-    tag_counted (LevelAt place x) h t u b rest e top room a =
+    tag_counted version (LevelAt place x) h t u b rest e top room a =
         let same : u ≡ t + (tokens x + 3) = e in
         let fits : b + (1 + brackets x) ≤ most_brackets = room in (
           inner_free t (k.Word w.Level) refl (omega arith),
           (
             opening_free (t + 1) b (omega arith) (omega arith),
-            (expression_counted c x h (t + 1 + 1) (t + 1 + 1 + tokens x) (b + 1) (sign r.Closing s.CloseParen ∷ rest) refl (omega arith) (omega arith)
+            (expression_counted c version x h (t + 1 + 1) (t + 1 + 1 + tokens x) (b + 1) (sign r.Closing s.CloseParen ∷ rest) refl (omega arith) (omega arith)
                 (closing_step c (t + 1 + 1 + tokens x) u b s.CloseParen rest (omega arith) top a)),
           ),
         )
-    tag_counted (Join place xs) h t u b rest e top room a =
-        let f = both (has_two_tags xs) (are_tags xs) h in
+    tag_counted version (Join place xs) h t u b rest e top room a =
+        let f = both (has_two_tags xs) (are_tags version xs) h in
         let same : u ≡ t + (2 + tag_part_tokens xs) = e in
         let fits : b + (1 + tag_part_brackets xs) ≤ most_brackets = room in
-        (inner_free t (k.Word w.Join) refl (omega arith), (opening_free (t + 1) b (omega arith) (omega arith), (tags_counted xs f.0 f.1 (t + 1 + 1) u b rest (omega arith) top fits a)))
+        (inner_free t (k.Word w.Join) refl (omega arith), (opening_free (t + 1) b (omega arith) (omega arith), (tags_counted version xs f.0 f.1 (t + 1 + 1) u b rest (omega arith) top fits a)))
 
-    tags_counted : (xs : TagExpressions) → has_two_tags xs ≡ true → are_tags xs ≡ true → (t u b : ℕ) (rest : List Piece) → u ≡ t + tag_part_tokens xs → u ≤ most_tokens
+    tags_counted : (version : Version) (xs : TagExpressions) → has_two_tags xs ≡ true → are_tags version xs ≡ true → (t u b : ℕ) (rest : List Piece) → u ≡ t + tag_part_tokens xs → u ≤ most_tokens
         → b + (1 + tag_part_brackets xs) ≤ most_brackets → Within (at c u b) rest → Within (at c t (b + 1)) (tags xs (sign r.Closing s.CloseParen ∷ rest))
-    tags_counted NoTag two h t u b rest e top room a = absurd (cc)
-    tags_counted (AndTag x xs) two h t u b rest e top room a =
-        let f = both (is_tag x) (are_tags xs) h in
+    tags_counted version NoTag two h t u b rest e top room a = absurd (cc)
+    tags_counted version (AndTag x xs) two h t u b rest e top room a =
+        let f = both (is_tag version x) (are_tags version xs) h in
         let same : u ≡ t + (tag_tokens x + 1 + tag_part_tokens xs) = e in
         let fits : b + (1 + max (tag_brackets x) (tag_part_brackets xs)) ≤ most_brackets = room in
-        tag_counted x f.0 t (t + tag_tokens x) (b + 1) (more_tags xs (sign r.Closing s.CloseParen ∷ rest)) refl (omega arith) (omega arith)
-        (more_tags_counted xs f.1 (t + tag_tokens x) u b rest (omega arith) top (omega arith) a)
+        tag_counted version x f.0 t (t + tag_tokens x) (b + 1) (more_tags xs (sign r.Closing s.CloseParen ∷ rest)) refl (omega arith) (omega arith)
+        (more_tags_counted version xs f.1 (t + tag_tokens x) u b rest (omega arith) top (omega arith) a)
 
-    more_tags_counted : (xs : TagExpressions) → are_tags xs ≡ true → (t u b : ℕ) (rest : List Piece) → u ≡ t + (1 + tag_part_tokens xs) → u ≤ most_tokens
+    more_tags_counted : (version : Version) (xs : TagExpressions) → are_tags version xs ≡ true → (t u b : ℕ) (rest : List Piece) → u ≡ t + (1 + tag_part_tokens xs) → u ≤ most_tokens
         → b + (1 + tag_part_brackets xs) ≤ most_brackets → Within (at c u b) rest → Within (at c t (b + 1)) (more_tags xs (sign r.Closing s.CloseParen ∷ rest))
-    more_tags_counted NoTag h t u b rest e top room a = closing_step c t u b s.CloseParen rest e top a
-    more_tags_counted (AndTag x xs) h t u b rest e top room a =
-        let f = both (is_tag x) (are_tags xs) h in
+    more_tags_counted version NoTag h t u b rest e top room a = closing_step c t u b s.CloseParen rest e top a
+    more_tags_counted version (AndTag x xs) h t u b rest e top room a =
+        let f = both (is_tag version x) (are_tags version xs) h in
         let same : u ≡ t + (1 + (tag_tokens x + 1 + tag_part_tokens xs)) = e in
         let fits : b + (1 + max (tag_brackets x) (tag_part_brackets xs)) ≤ most_brackets = room in (
           inner_free t (k.Sign s.Comma) refl (omega arith),
-          (tag_counted x f.0 (t + 1) (t + 1 + tag_tokens x) (b + 1) (more_tags xs (sign r.Closing s.CloseParen ∷ rest)) refl (omega arith) (omega arith)
-              (more_tags_counted xs f.1 (t + 1 + tag_tokens x) u b rest (omega arith) top (omega arith) a)),
+          (tag_counted version x f.0 (t + 1) (t + 1 + tag_tokens x) (b + 1) (more_tags xs (sign r.Closing s.CloseParen ∷ rest)) refl (omega arith) (omega arith)
+              (more_tags_counted version xs f.1 (t + 1 + tag_tokens x) u b rest (omega arith) top (omega arith) a)),
         )
 
 -- with whatever is counted of the expression before
@@ -95,11 +97,11 @@ plain : (c : Counts) (kind : Kind) (ps : List Piece) → breach_of_name kind ≡
 plain c kind ps free h t b = (ap (λ o. o or_else None) free, h)
 
 -- an expression that stands in no other, in front of a token that stands in none
-outermost : (c : Counts) (x : Expression) (rest : List Piece) → is_outermost x ≡ true → Always c rest → Within (at c 0 0) (expression x rest)
-outermost c x rest h a =
-    let f = both (is_expression x) (fits x) h in
+outermost : (version : Version) (c : Counts) (x : Expression) (rest : List Piece) → is_outermost version x ≡ true → Always c rest → Within (at c 0 0) (expression x rest)
+outermost version c x rest h a =
+    let f = both (is_expression version x) (fits x) h in
     let g = both (nat_le (tokens x) most_tokens) (nat_le (brackets x) most_brackets) f.1 in
-    expression_counted c x f.0 0 (tokens x) 0 rest (zero_more (tokens x)) (from_le (tokens x) most_tokens g.0) (none_open (brackets x) (from_le (brackets x) most_brackets g.1)) (a (tokens x) 0)
+    expression_counted c version x f.0 0 (tokens x) 0 rest (zero_more (tokens x)) (from_le (tokens x) most_tokens g.0) (none_open (brackets x) (from_le (brackets x) most_brackets g.1)) (a (tokens x) 0)
   where
     zero_more : (n : ℕ) → n ≡ 0 + n
     zero_more n = omega arith
@@ -107,11 +109,11 @@ outermost c x rest h a =
     none_open : (n : ℕ) → n ≤ most_brackets → 0 + n ≤ most_brackets
     none_open n h = omega arith
 
-outermost_tag : (c : Counts) (x : TagExpression) (rest : List Piece) → is_outermost_tag x ≡ true → Always c rest → Within (at c 0 0) (tag x rest)
-outermost_tag c x rest h a =
-    let f = both (is_tag x) (tag_fits x) h in
+outermost_tag : (version : Version) (c : Counts) (x : TagExpression) (rest : List Piece) → is_outermost_tag version x ≡ true → Always c rest → Within (at c 0 0) (tag x rest)
+outermost_tag version c x rest h a =
+    let f = both (is_tag version x) (tag_fits x) h in
     let g = both (nat_le (tag_tokens x) most_tokens) (nat_le (tag_brackets x) most_brackets) f.1 in
-    tag_counted c x f.0 0 (tag_tokens x) 0 rest (zero_more (tag_tokens x)) (from_le (tag_tokens x) most_tokens g.0) (none_open (tag_brackets x) (from_le (tag_brackets x) most_brackets g.1)) (a (tag_tokens x) 0)
+    tag_counted c version x f.0 0 (tag_tokens x) 0 rest (zero_more (tag_tokens x)) (from_le (tag_tokens x) most_tokens g.0) (none_open (tag_brackets x) (from_le (tag_brackets x) most_brackets g.1)) (a (tag_tokens x) 0)
   where
     zero_more : (n : ℕ) → n ≡ 0 + n
     zero_more n = omega arith
@@ -138,54 +140,81 @@ begins_command c depth kind ps free n m h t b = (
   h,
 )
 
-simple_within : (depth : ℕ) (x : SimpleCommand) → is_simple x ≡ true → (c : Counts) (rest : List Piece) → c.commands + 1 ≤ most_commands → depth ≤ most_blocks
+simple_within : (version : Version) (depth : ℕ) (x : SimpleCommand) → is_simple version x ≡ true → (c : Counts) (rest : List Piece) → c.commands + 1 ≤ most_commands → depth ≤ most_blocks
     → Always (with_commands c (c.commands + 1)) rest → Always c (simple depth x rest)
 unfolding is_simple
-simple_within depth (Assign n x) h c rest m p a =
-    let f = both (is_name n.name) (is_outermost x) h in
+simple_within version depth (Assign n x) h c rest m p a =
+    let f = both (is_name version n.name) (is_outermost version x) h in
     let c' : Counts = with_commands c (c.commands + 1) in
-    (λ t b. (begins_free c depth (k.Name n.name) (short_name n.name f.0) m p, (plain_free (k.Sign s.Becomes) refl, (outermost c' x rest f.1 a))))
-simple_within depth (Write n i x) h c rest m p a =
-    let f = both (is_name n.name && is_outermost i) (is_outermost x) h in
-    let g = both (is_name n.name) (is_outermost i) f.0 in
+    (λ t b. (begins_free c depth (k.Name n.name) (short_name version n.name f.0) m p, (plain_free (k.Sign s.Becomes) refl, (outermost version c' x rest f.1 a))))
+simple_within version depth (Write n i x) h c rest m p a =
+    let f = both (is_name version n.name && is_outermost version i) (is_outermost version x) h in
+    let g = both (is_name version n.name) (is_outermost version i) f.0 in
     let c' : Counts = with_commands c (c.commands + 1) in
     (λ t b. (
-      begins_free c depth (k.Name n.name) (short_name n.name g.0) m p,
+      begins_free c depth (k.Name n.name) (short_name version n.name g.0) m p,
       (
         plain_free (k.Sign s.OpenBracket) refl,
-        (outermost c' i (sign r.Plain s.CloseBracket ∷ space ∷ sign r.Plain s.Becomes ∷ space ∷ expression x rest) g.1
+        (outermost version c' i (sign r.Plain s.CloseBracket ∷ space ∷ sign r.Plain s.Becomes ∷ space ∷ expression x rest) g.1
             (plain c' (k.Sign s.CloseBracket) (space ∷ sign r.Plain s.Becomes ∷ space ∷ expression x rest) refl
-            (plain c' (k.Sign s.Becomes) (space ∷ expression x rest) refl (outermost c' x rest f.1 a) 0 0))),
+            (plain c' (k.Sign s.Becomes) (space ∷ expression x rest) refl (outermost version c' x rest f.1 a) 0 0))),
       ),
     ))
-simple_within depth (SetTag place n x) h c rest m p a =
-    let f = both (is_name n.name) (is_outermost_tag x) h in
+simple_within version depth (SetTag place n x) h c rest m p a =
+    let f = both (is_name version n.name) (is_outermost_tag version x) h in
     let c' : Counts = with_commands c (c.commands + 1) in
-    (λ t b. (begins_free c depth (k.Word w.SetTag) refl m p, (plain_free (k.Sign s.OpenParen) refl, (plain_free (k.Name n.name) (short_name n.name f.0), (plain_free (k.Sign s.Comma) refl, (outermost_tag c' x (sign r.Plain s.CloseParen ∷ rest) f.1 (plain c' (k.Sign s.CloseParen) rest refl (a 0 0))))))))
-simple_within depth (SetCellTag place n i x) h c rest m p a =
-    let f = both (is_name n.name && is_outermost i) (is_outermost_tag x) h in
-    let g = both (is_name n.name) (is_outermost i) f.0 in
+    (λ t b. (begins_free c depth (k.Word w.SetTag) refl m p, (plain_free (k.Sign s.OpenParen) refl, (plain_free (k.Name n.name) (short_name version n.name f.0), (plain_free (k.Sign s.Comma) refl, (outermost_tag version c' x (sign r.Plain s.CloseParen ∷ rest) f.1 (plain c' (k.Sign s.CloseParen) rest refl (a 0 0))))))))
+simple_within version depth (SetCellTag place n i x) h c rest m p a =
+    let f = both (is_name version n.name && is_outermost version i) (is_outermost_tag version x) h in
+    let g = both (is_name version n.name) (is_outermost version i) f.0 in
     let c' : Counts = with_commands c (c.commands + 1) in
     (λ t b. (
       begins_free c depth (k.Word w.SetTag) refl m p,
       (
         plain_free (k.Sign s.OpenParen) refl,
         (
-          plain_free (k.Name n.name) (short_name n.name g.0),
+          plain_free (k.Name n.name) (short_name version n.name g.0),
           (
             plain_free (k.Sign s.OpenBracket) refl,
-            (outermost c' i (sign r.Plain s.CloseBracket ∷ sign r.Plain s.Comma ∷ space ∷ tag x (sign r.Plain s.CloseParen ∷ rest)) g.1
+            (outermost version c' i (sign r.Plain s.CloseBracket ∷ sign r.Plain s.Comma ∷ space ∷ tag x (sign r.Plain s.CloseParen ∷ rest)) g.1
                 (plain c' (k.Sign s.CloseBracket) (sign r.Plain s.Comma ∷ space ∷ tag x (sign r.Plain s.CloseParen ∷ rest)) refl
                 (plain c' (k.Sign s.Comma) (space ∷ tag x (sign r.Plain s.CloseParen ∷ rest)) refl
-                (outermost_tag c' x (sign r.Plain s.CloseParen ∷ rest) f.1 (plain c' (k.Sign s.CloseParen) rest refl (a 0 0))) 0 0))),
+                (outermost_tag version c' x (sign r.Plain s.CloseParen ∷ rest) f.1 (plain c' (k.Sign s.CloseParen) rest refl (a 0 0))) 0 0))),
           ),
         ),
       ),
     ))
-simple_within depth (Goto place n) h c rest m p a =
+simple_within version depth (Goto place n) h c rest m p a =
     let c' : Counts = with_commands c (c.commands + 1) in
-    (λ t b. (begins_free c depth (k.Word w.Goto) refl m p, (plain c' (k.Name n.name) rest (short_name n.name h) (a 0 0) 0 0)))
-simple_within depth (Fall place) h c rest m p a = begins_command c depth (k.Word w.Fall) rest refl m p (a 0 0)
+    (λ t b. (begins_free c depth (k.Word w.Goto) refl m p, (plain c' (k.Name n.name) rest (short_name version n.name h) (a 0 0) 0 0)))
+simple_within version depth (Fall place) h c rest m p a = begins_command c depth (k.Word w.Fall) rest refl m p (a 0 0)
+
+-- constants
+
+constant_within : (c : Counts) (x : Expression) → is_constant x ≡ true → (rest : List Piece) → Within (at c 0 0) rest → Always c (constant x rest)
+constant_within c (Number spot n) h rest a t b = plain c (k.Number n) rest refl a t b
+constant_within c (Sized spot width n) h rest a t b = plain c (k.Sized width n) rest refl a t b
+constant_within c (Read spot n) h rest a t b = absurd (cc)
+constant_within c (Cell spot n i) h rest a t b = absurd (cc)
+constant_within c (Unary spot o x) h rest a t b = absurd (cc)
+constant_within c (Binary spot o x y) h rest a t b = absurd (cc)
+constant_within c (Choose spot x y z) h rest a t b = absurd (cc)
+constant_within c (Slice spot x high low) h rest a t b = absurd (cc)
+constant_within c (Concat spot xs) h rest a t b = absurd (cc)
+constant_within c (Zext spot x width) h rest a t b = absurd (cc)
+
+more_constants_within : (c : Counts) (xs : Expressions) → are_constants xs ≡ true → (rest : List Piece) → Within (at c 0 0) rest → Within (at c 0 0) (more_constants xs rest)
+more_constants_within c NoPart h rest a = a
+more_constants_within c (AndPart x xs) h rest a =
+    let f = both (is_constant x) (are_constants xs) h in
+    (plain_free (k.Sign s.Comma) refl, constant_within c x f.0 (more_constants xs rest) (more_constants_within c xs f.1 rest a) 0 0)
+
+-- behind whatever is counted before
+constants_within : (c : Counts) (xs : Expressions) → has_constant xs ≡ true → are_constants xs ≡ true → (rest : List Piece) → Within (at c 0 0) rest → Always c (constants xs rest)
+constants_within c NoPart some h rest a t b = absurd (cc)
+constants_within c (AndPart x xs) some h rest a t b =
+    let f = both (is_constant x) (are_constants xs) h in
+    constant_within c x f.0 (more_constants xs rest) (more_constants_within c xs f.1 rest a) t b
 
 margin_within : (level : ℕ) (c : Counts) (rest : List Piece) → Within c rest → Within c (margin level rest)
 margin_within zero c rest h = h
@@ -194,23 +223,23 @@ margin_within (suc level) c rest h = margin_within level c rest h
 mutual
   unfolding is_command command_count command_depth
 
-  command_within : (x : Command) (level depth : ℕ) → is_command x ≡ true → (c : Counts) (n m : ℕ) (rest : List Piece) → m ≡ n + command_count x → m ≤ most_commands
+  command_within : (version : Version) (x : Command) (level depth : ℕ) → is_command version x ≡ true → (c : Counts) (n m : ℕ) (rest : List Piece) → m ≡ n + command_count x → m ≤ most_commands
       → depth + command_depth x ≤ most_blocks + 1 → Always (with_commands c m) rest → Always (with_commands c n) (command x level depth rest)
-  command_within (Do x) level depth h c n m rest e top deep a t b =
+  command_within version (Do x) level depth h c n m rest e top deep a t b =
       margin_within level _ _
-      (simple_within depth x h (with_commands c n) (sign r.Plain s.Semicolon ∷ line ∷ rest) (omega arith) (omega arith)
+      (simple_within version depth x h (with_commands c n) (sign r.Plain s.Semicolon ∷ line ∷ rest) (omega arith) (omega arith)
       (plain (with_commands c (n + 1)) (k.Sign s.Semicolon) (line ∷ rest) refl (subst (λ i. Within (at (with_commands c i) 0 0) rest) e (a 0 0))) t b)
-  command_within (Try x place handler) level depth h c n m rest e top deep a t b =
-      let f = both (is_simple x) (is_block handler) h in
+  command_within version (Try x place handler) level depth h c n m rest e top deep a t b =
+      let f = both (is_simple version x) (is_block version handler) h in
       let same : m ≡ n + (1 + block_count handler) = e in
       let fits : depth + (1 + block_depth handler) ≤ most_blocks + 1 = deep in
       margin_within level _ _
-      (simple_within depth x f.0 (with_commands c n) (space ∷ word r.Plain w.Otherwise ∷ block handler level depth (line ∷ rest)) (omega arith) (omega arith)
+      (simple_within version depth x f.0 (with_commands c n) (space ∷ word r.Plain w.Otherwise ∷ block handler level depth (line ∷ rest)) (omega arith) (omega arith)
       (plain (with_commands c (n + 1)) (k.Word w.Otherwise) (block handler level depth (line ∷ rest)) refl
-      (block_within handler level depth f.1 c (n + 1) m (line ∷ rest) (omega arith) top (omega arith) a 0 0)) t b)
-  command_within (If place x one other) level depth h c n m rest e top deep a t b =
-      let f = both (is_outermost x && is_block one) (is_else other) h in
-      let g = both (is_outermost x) (is_block one) f.0 in
+      (block_within version handler level depth f.1 c (n + 1) m (line ∷ rest) (omega arith) top (omega arith) a 0 0)) t b)
+  command_within version (If place x one other) level depth h c n m rest e top deep a t b =
+      let f = both (is_outermost version x && is_block version one) (is_else version other) h in
+      let g = both (is_outermost version x) (is_block version one) f.0 in
       let same : m ≡ n + (1 + block_count one + else_count other) = e in
       let fits : depth + (1 + max (block_depth one) (else_depth other)) ≤ most_blocks + 1 = deep in
       let c' : Counts = with_commands c (n + 1) in
@@ -219,60 +248,113 @@ mutual
         begins_free (with_commands c n) depth (k.Word w.If) refl (omega arith) (omega arith),
         (
           plain_free (k.Sign s.OpenParen) refl,
-          outermost c' x (sign r.Plain s.CloseParen ∷ blocks) g.0
+          outermost version c' x (sign r.Plain s.CloseParen ∷ blocks) g.0
               (plain c' (k.Sign s.CloseParen) blocks refl
-              (block_within one level depth g.1 c (n + 1) (n + 1 + block_count one) (else_part other level depth (line ∷ rest)) refl (omega arith) (omega arith)
-              (else_within other level depth f.1 c (n + 1 + block_count one) m (line ∷ rest) (omega arith) top (omega arith) a) 0 0)),
+              (block_within version one level depth g.1 c (n + 1) (n + 1 + block_count one) (else_part other level depth (line ∷ rest)) refl (omega arith) (omega arith)
+              (else_within version other level depth f.1 c (n + 1 + block_count one) m (line ∷ rest) (omega arith) top (omega arith) a) 0 0)),
+        ),
+      )
+  command_within version (TryThen x place one other) level depth h c n m rest e top deep a t b =
+      let f = both (is_second version && is_simple version x && is_block version one) (is_block version other) h in
+      let g = both (is_second version && is_simple version x) (is_block version one) f.0 in
+      let i = both (is_second version) (is_simple version x) g.0 in
+      let same : m ≡ n + (1 + block_count one + block_count other) = e in
+      let fits : depth + (1 + max (block_depth one) (block_depth other)) ≤ most_blocks + 1 = deep in
+      let c' : Counts = with_commands c (n + 1 + block_count one) in
+      let last = space ∷ word r.Plain w.Otherwise ∷ block other level depth (line ∷ rest) in
+      margin_within level _ _
+      (simple_within version depth x i.1 (with_commands c n) (space ∷ word r.Plain w.Then ∷ block one level depth last) (omega arith) (omega arith)
+      (plain (with_commands c (n + 1)) (k.Word w.Then) (block one level depth last) refl
+      (block_within version one level depth g.1 c (n + 1) (n + 1 + block_count one) last refl (omega arith) (omega arith)
+      (plain c' (k.Word w.Otherwise) (block other level depth (line ∷ rest)) refl
+      (block_within version other level depth f.1 c (n + 1 + block_count one) m (line ∷ rest) (omega arith) top (omega arith) a 0 0)) 0 0)) t b)
+  command_within version (Case place x list) level depth h c n m rest e top deep a t b =
+      let f = both (is_second version && is_outermost version x && has_arm list && nat_le (arm_count list) most_arms) (are_arms version list) h in
+      let g = both (is_second version && is_outermost version x && has_arm list) (nat_le (arm_count list) most_arms) f.0 in
+      let i = both (is_second version && is_outermost version x) (has_arm list) g.0 in
+      let j = both (is_second version) (is_outermost version x) i.0 in
+      let same : m ≡ n + (1 + arms_count list) = e in
+      let fits : depth + (1 + arms_depth list) ≤ most_blocks + 1 = deep in
+      let c' : Counts = with_commands c (n + 1) in
+      let foot = margin level (sign r.Plain s.CloseBrace ∷ line ∷ rest) in
+      let behind = space ∷ sign r.Plain s.OpenBrace ∷ line ∷ arms list (suc level) depth foot in
+      margin_within level _ _ (
+        begins_free (with_commands c n) depth (k.Word w.Case) refl (omega arith) (omega arith),
+        (
+          plain_free (k.Sign s.OpenParen) refl,
+          outermost version c' x (sign r.Plain s.CloseParen ∷ behind) j.1
+              (plain c' (k.Sign s.CloseParen) behind refl
+              (plain c' (k.Sign s.OpenBrace) (line ∷ arms list (suc level) depth foot) refl
+              (arms_within version list (suc level) depth f.1 c (n + 1) m foot (omega arith) top (omega arith)
+              (λ t b. margin_within level _ _ (plain (with_commands c m) (k.Sign s.CloseBrace) (line ∷ rest) refl (a 0 0) t b)) 0 0) 0 0)),
         ),
       )
 
-  block_within : (x : CommandBlock) (level depth : ℕ) → is_block x ≡ true → (c : Counts) (n m : ℕ) (rest : List Piece) → m ≡ n + block_count x → m ≤ most_commands
+  arms_within : (version : Version) (list : Arms) (level depth : ℕ) → are_arms version list ≡ true → (c : Counts) (n m : ℕ) (rest : List Piece) → m ≡ n + arms_count list → m ≤ most_commands
+      → depth + 1 + arms_depth list ≤ most_blocks + 1 → Always (with_commands c m) rest → Always (with_commands c n) (arms list level depth rest)
+  arms_within version (Last b) level depth h c n m rest e top deep a t u =
+      margin_within level _ _
+      (plain (with_commands c n) (k.Word w.Else) (block b level depth (line ∷ rest)) refl (block_within version b level depth h c n m (line ∷ rest) e top deep a 0 0) t u)
+  arms_within version (Arm xs b list) level depth h c n m rest e top deep a t u =
+      let f = both (has_constant xs && are_constants xs && is_block version b) (are_arms version list) h in
+      let g = both (has_constant xs && are_constants xs) (is_block version b) f.0 in
+      let i = both (has_constant xs) (are_constants xs) g.0 in
+      let same : m ≡ n + (block_count b + arms_count list) = e in
+      let fits : depth + 1 + max (block_depth b) (arms_depth list) ≤ most_blocks + 1 = deep in
+      let behind = line ∷ arms list level depth rest in
+      margin_within level _ _
+      (constants_within (with_commands c n) xs i.0 i.1 (sign r.Plain s.Colon ∷ block b level depth behind)
+      (plain (with_commands c n) (k.Sign s.Colon) (block b level depth behind) refl
+      (block_within version b level depth g.1 c n (n + block_count b) behind refl (omega arith) (omega arith)
+      (arms_within version list level depth f.1 c (n + block_count b) m rest (omega arith) top (omega arith) a) 0 0) 0 0) t u)
+
+  block_within : (version : Version) (x : CommandBlock) (level depth : ℕ) → is_block version x ≡ true → (c : Counts) (n m : ℕ) (rest : List Piece) → m ≡ n + block_count x → m ≤ most_commands
       → depth + 1 + block_depth x ≤ most_blocks + 1 → Always (with_commands c m) rest → Always (with_commands c n) (block x level depth rest)
-  block_within (Commands cs behind) level depth h c n m rest e top deep a =
+  block_within version (Commands cs behind) level depth h c n m rest e top deep a =
       (λ t b. (
         plain_free (k.Sign s.OpenBrace) refl,
-        (commands_within cs (suc level) (depth + 1) h c n m (margin level (sign r.Plain s.CloseBrace ∷ rest)) e top deep
+        (commands_within version cs (suc level) (depth + 1) h c n m (margin level (sign r.Plain s.CloseBrace ∷ rest)) e top deep
             (λ t b. margin_within level _ _ (plain (with_commands c m) (k.Sign s.CloseBrace) rest refl (a 0 0) t b)) 0 0),
       ))
 
-  else_within : (x : ElseBlock) (level depth : ℕ) → is_else x ≡ true → (c : Counts) (n m : ℕ) (rest : List Piece) → m ≡ n + else_count x → m ≤ most_commands
+  else_within : (version : Version) (x : ElseBlock) (level depth : ℕ) → is_else version x ≡ true → (c : Counts) (n m : ℕ) (rest : List Piece) → m ≡ n + else_count x → m ≤ most_commands
       → depth + 1 + else_depth x ≤ most_blocks + 1 → Always (with_commands c m) rest → Always (with_commands c n) (else_part x level depth rest)
-  else_within NoElse level depth h c n m rest e top deep a =
+  else_within version NoElse level depth h c n m rest e top deep a =
       let same : m ≡ n = omega arith in subst (λ i. Always (with_commands c i) rest) same a
-  else_within (Else x) level depth h c n m rest e top deep a =
-      (λ t b. (plain_free (k.Word w.Else) refl, (block_within x level depth h c n m rest e top deep a 0 0)))
+  else_within version (Else x) level depth h c n m rest e top deep a =
+      (λ t b. (plain_free (k.Word w.Else) refl, (block_within version x level depth h c n m rest e top deep a 0 0)))
 
-  commands_within : (cs : CommandList) (level depth : ℕ) → are_commands cs ≡ true → (c : Counts) (n m : ℕ) (rest : List Piece) → m ≡ n + list_count cs → m ≤ most_commands
+  commands_within : (version : Version) (cs : CommandList) (level depth : ℕ) → are_commands version cs ≡ true → (c : Counts) (n m : ℕ) (rest : List Piece) → m ≡ n + list_count cs → m ≤ most_commands
       → depth + list_depth cs ≤ most_blocks + 1 → Always (with_commands c m) rest → Always (with_commands c n) (commands cs level depth rest)
-  commands_within NoCommand level depth h c n m rest e top deep a =
+  commands_within version NoCommand level depth h c n m rest e top deep a =
       let same : m ≡ n = omega arith in subst (λ i. Always (with_commands c i) rest) same a
-  commands_within (AndCommand x cs) level depth h c n m rest e top deep a =
-      let f = both (is_command x) (are_commands cs) h in
+  commands_within version (AndCommand x cs) level depth h c n m rest e top deep a =
+      let f = both (is_command version x) (are_commands version cs) h in
       let same : m ≡ n + (command_count x + list_count cs) = e in
       let fits : depth + max (command_depth x) (list_depth cs) ≤ most_blocks + 1 = deep in
-      command_within x level depth f.0 c n (n + command_count x) (commands cs level depth rest) refl (omega arith) (omega arith)
-      (commands_within cs level depth f.1 c (n + command_count x) m rest (omega arith) top (omega arith) a)
+      command_within version x level depth f.0 c n (n + command_count x) (commands cs level depth rest) refl (omega arith) (omega arith)
+      (commands_within version cs level depth f.1 c (n + command_count x) m rest (omega arith) top (omega arith) a)
 
 -- kinds and declarations
 
-authority_within : (x : Option Under) → is_authority x ≡ true → (c : Counts) (rest : List Piece) → Within (at c 0 0) rest → Within (at c 0 0) (authority x rest)
-authority_within None h c rest a = a
-authority_within (Some under) h c rest a = (plain_free (k.Word w.Under) refl, (plain c (k.Name under.level.name) rest (short_name under.level.name h) a 0 0))
+authority_within : (version : Version) (x : Option Under) → is_authority version x ≡ true → (c : Counts) (rest : List Piece) → Within (at c 0 0) rest → Within (at c 0 0) (authority x rest)
+authority_within version None h c rest a = a
+authority_within version (Some under) h c rest a = (plain_free (k.Word w.Under) refl, (plain c (k.Name under.level.name) rest (short_name version under.level.name h) a 0 0))
 
-kind_within : (x : KindTree) → is_kind x ≡ true → (c : Counts) (rest : List Piece) → Within (at c 0 0) rest → Within (at c 0 0) (kind x rest)
-kind_within (how.Dynamic place) h c rest a = plain c (k.Word w.Dynamic) rest refl a 0 0
-kind_within (how.Enforced n under) h c rest a =
-    let f = both (is_name n.name) (is_authority under) h in
-    (plain_free (k.Word w.Enforced) refl, (plain_free (k.Name n.name) (short_name n.name f.0), (authority_within under f.1 c rest a)))
+kind_within : (version : Version) (x : KindTree) → is_kind version x ≡ true → (c : Counts) (rest : List Piece) → Within (at c 0 0) rest → Within (at c 0 0) (kind x rest)
+kind_within version (how.Dynamic place) h c rest a = plain c (k.Word w.Dynamic) rest refl a 0 0
+kind_within version (how.Enforced n under) h c rest a =
+    let f = both (is_name version n.name) (is_authority version under) h in
+    (plain_free (k.Word w.Enforced) refl, (plain_free (k.Name n.name) (short_name version n.name f.0), (authority_within version under f.1 c rest a)))
 
 start_within : (x : Option Numeral) (c : Counts) (rest : List Piece) → Within (at c 0 0) rest → Within (at c 0 0) (start x rest)
 start_within None c rest a = a
 start_within (Some n) c rest a = (plain_free (k.Sign s.Is) refl, (plain c (k.Number n.value) rest refl a 0 0))
 
 -- behind the word of a declaration
-declared_within : (n : List ℕ) (width : ℕ) → is_name n ≡ true → (c : Counts) (rest : List Piece) → Within (at c 0 0) rest
+declared_within : (version : Version) (n : List ℕ) (width : ℕ) → is_name version n ≡ true → (c : Counts) (rest : List Piece) → Within (at c 0 0) rest
     → Within (at c 0 0) (space ∷ name r.Plain n ∷ space ∷ sign r.Plain s.Colon ∷ space ∷ number r.Plain width ∷ rest)
-declared_within n width h c rest a = (plain_free (k.Name n) (short_name n h), (plain_free (k.Sign s.Colon) refl, (plain c (k.Number width) rest refl a 0 0)))
+declared_within version n width h c rest a = (plain_free (k.Name n) (short_name version n h), (plain_free (k.Sign s.Colon) refl, (plain c (k.Number width) rest refl a 0 0)))
 
 -- as many declarations of a sort, this one counted
 one_counted : (sort : Decl → Bool) (x : Decl) (xs : List Decl) (before all one : ℕ) → cond (sort x) 1 0 ≡ one → all ≡ before + count_by sort (x ∷ xs)
@@ -283,10 +365,10 @@ one_counted sort x xs before all one o e =
 abbrev with_declared : Counts → ℕ → ℕ → ℕ → Counts
 with_declared c i n m = record c { inputs = i; registers = n; memories = m }
 
-pub declarations_within : (xs : List Decl) → list_all is_declaration xs ≡ true → (c : Counts) (rest : List Piece) (i n m : ℕ)
+pub declarations_within : (version : Version) (xs : List Decl) → list_all (is_declaration version) xs ≡ true → (c : Counts) (rest : List Piece) (i n m : ℕ)
     → i ≡ c.inputs + count_by is_input xs → n ≡ c.registers + count_by is_register xs → m ≡ c.memories + count_by is_memory xs
     → i ≤ most_inputs → n ≤ most_registers → m ≤ most_memories → Within (at (with_declared c i n m) 0 0) rest → Within (at c 0 0) (declarations xs rest)
-declarations_within [] h c rest i n m e f g p q o a =
+declarations_within version [] h c rest i n m e f g p q o a =
     let no_inputs : i ≡ c.inputs + 0 = e in
     let no_registers : n ≡ c.registers + 0 = f in
     let no_memories : m ≡ c.memories + 0 = g in
@@ -295,9 +377,9 @@ declarations_within [] h c rest i n m e f g p q o a =
     let z : m ≡ c.memories = omega arith in
     subst (λ v. Within (at (with_declared c c.inputs c.registers v) 0 0) rest) z
     (subst (λ v. Within (at (with_declared c c.inputs v m) 0 0) rest) y (subst (λ v. Within (at (with_declared c v n m) 0 0) rest) x a))
-declarations_within (d.Input place x width ∷ xs) h c rest i n m e f g p q o a =
-    let u = both (is_name x.name && is_number width.value) (list_all is_declaration xs) h in
-    let v = both (is_name x.name) (is_number width.value) u.0 in
+declarations_within version (d.Input place x width ∷ xs) h c rest i n m e f g p q o a =
+    let u = both (is_name version x.name && is_number width.value) (list_all (is_declaration version) xs) h in
+    let v = both (is_name version x.name) (is_number width.value) u.0 in
     let c' : Counts = with_declared c (c.inputs + 1) c.registers c.memories in
     let all_inputs : i ≡ c.inputs + (1 + count_by is_input xs) = one_counted is_input (d.Input place x width) xs c.inputs i 1 refl e in
     let all_registers : n ≡ c.registers + (0 + count_by is_register xs) = one_counted is_register (d.Input place x width) xs c.registers n 0 refl f in
@@ -306,13 +388,13 @@ declarations_within (d.Input place x width ∷ xs) h c rest i n m e f g p q o a 
     let registers_left : n ≡ c.registers + count_by is_register xs = omega arith in
     let memories_left : m ≡ c.memories + count_by is_memory xs = omega arith in (
       not_above most_inputs (c.inputs + 1) l.Inputs (omega arith),
-      declared_within x.name width.value v.0 c' (sign r.Plain s.Semicolon ∷ line ∷ declarations xs rest)
-          (plain_free (k.Sign s.Semicolon) refl, (declarations_within xs u.1 c' rest i n m inputs_left registers_left memories_left p q o a)),
+      declared_within version x.name width.value v.0 c' (sign r.Plain s.Semicolon ∷ line ∷ declarations xs rest)
+          (plain_free (k.Sign s.Semicolon) refl, (declarations_within version xs u.1 c' rest i n m inputs_left registers_left memories_left p q o a)),
     )
-declarations_within (d.Register place x width y initial ∷ xs) h c rest i n m e f g p q o a =
-    let u = both (is_name x.name && is_number width.value && is_kind y && is_start initial) (list_all is_declaration xs) h in
-    let v = both (is_name x.name && is_number width.value) (is_kind y) (both (is_name x.name && is_number width.value && is_kind y) (is_start initial) u.0).0 in
-    let z = both (is_name x.name) (is_number width.value) v.0 in
+declarations_within version (d.Register place x width y initial ∷ xs) h c rest i n m e f g p q o a =
+    let u = both (is_name version x.name && is_number width.value && is_kind version y && is_start initial) (list_all (is_declaration version) xs) h in
+    let v = both (is_name version x.name && is_number width.value) (is_kind version y) (both (is_name version x.name && is_number width.value && is_kind version y) (is_start initial) u.0).0 in
+    let z = both (is_name version x.name) (is_number width.value) v.0 in
     let c' : Counts = with_declared c c.inputs (c.registers + 1) c.memories in
     let all_inputs : i ≡ c.inputs + (0 + count_by is_input xs) = one_counted is_input (d.Register place x width y initial) xs c.inputs i 0 refl e in
     let all_registers : n ≡ c.registers + (1 + count_by is_register xs) = one_counted is_register (d.Register place x width y initial) xs c.registers n 1 refl f in
@@ -322,13 +404,13 @@ declarations_within (d.Register place x width y initial ∷ xs) h c rest i n m e
     let memories_left : m ≡ c.memories + count_by is_memory xs = omega arith in
     let last = sign r.Plain s.Semicolon ∷ line ∷ declarations xs rest in (
       not_above most_registers (c.registers + 1) l.Registers (omega arith),
-      declared_within x.name width.value z.0 c' (space ∷ kind y (start initial last))
-          (kind_within y v.1 c' (start initial last) (start_within initial c' last (plain_free (k.Sign s.Semicolon) refl, (declarations_within xs u.1 c' rest i n m inputs_left registers_left memories_left p q o a)))),
+      declared_within version x.name width.value z.0 c' (space ∷ kind y (start initial last))
+          (kind_within version y v.1 c' (start initial last) (start_within initial c' last (plain_free (k.Sign s.Semicolon) refl, (declarations_within version xs u.1 c' rest i n m inputs_left registers_left memories_left p q o a)))),
     )
-declarations_within (d.Memory place x width depth y ∷ xs) h c rest i n m e f g p q o a =
-    let u = both (is_name x.name && is_number width.value && is_number depth.value && is_kind y) (list_all is_declaration xs) h in
-    let v = both (is_name x.name && is_number width.value && is_number depth.value) (is_kind y) u.0 in
-    let z = both (is_name x.name) (is_number width.value) (both (is_name x.name && is_number width.value) (is_number depth.value) v.0).0 in
+declarations_within version (d.Memory place x width depth y ∷ xs) h c rest i n m e f g p q o a =
+    let u = both (is_name version x.name && is_number width.value && is_number depth.value && is_kind version y) (list_all (is_declaration version) xs) h in
+    let v = both (is_name version x.name && is_number width.value && is_number depth.value) (is_kind version y) u.0 in
+    let z = both (is_name version x.name) (is_number width.value) (both (is_name version x.name && is_number width.value) (is_number depth.value) v.0).0 in
     let c' : Counts = with_declared c c.inputs c.registers (c.memories + 1) in
     let all_inputs : i ≡ c.inputs + (0 + count_by is_input xs) = one_counted is_input (d.Memory place x width depth y) xs c.inputs i 0 refl e in
     let all_registers : n ≡ c.registers + (0 + count_by is_register xs) = one_counted is_register (d.Memory place x width depth y) xs c.registers n 0 refl f in
@@ -338,8 +420,8 @@ declarations_within (d.Memory place x width depth y ∷ xs) h c rest i n m e f g
     let memories_left : m ≡ c.memories + 1 + count_by is_memory xs = omega arith in
     let last = sign r.Plain s.Semicolon ∷ line ∷ declarations xs rest in (
       not_above most_memories (c.memories + 1) l.Memories (omega arith),
-      declared_within x.name width.value z.0 c' (sign r.Plain s.OpenBracket ∷ number r.Plain depth.value ∷ sign r.Plain s.CloseBracket ∷ space ∷ kind y last)
-          (plain_free (k.Sign s.OpenBracket) refl, (plain_free (k.Number depth.value) refl, (plain_free (k.Sign s.CloseBracket) refl, (kind_within y v.1 c' last (plain_free (k.Sign s.Semicolon) refl, (declarations_within xs u.1 c' rest i n m inputs_left registers_left memories_left p q o a)))))),
+      declared_within version x.name width.value z.0 c' (sign r.Plain s.OpenBracket ∷ number r.Plain depth.value ∷ sign r.Plain s.CloseBracket ∷ space ∷ kind y last)
+          (plain_free (k.Sign s.OpenBracket) refl, (plain_free (k.Number depth.value) refl, (plain_free (k.Sign s.CloseBracket) refl, (kind_within version y v.1 c' last (plain_free (k.Sign s.Semicolon) refl, (declarations_within version xs u.1 c' rest i n m inputs_left registers_left memories_left p q o a)))))),
     )
 
 -- states
@@ -354,15 +436,15 @@ begins_state n depth h m = ap (λ o. o or_else above most_nesting depth l.Nestin
 mutual
   unfolding is_state is_command state_count state_commands state_depth command_count command_depth
 
-  state_within : (x : StateTree) (level depth : ℕ) → is_state x ≡ true → (c : Counts) (i j n m : ℕ) (rest : List Piece) → j ≡ i + state_count x → j ≤ most_states
+  state_within : (version : Version) (x : StateTree) (level depth : ℕ) → is_state version x ≡ true → (c : Counts) (i j n m : ℕ) (rest : List Piece) → j ≡ i + state_count x → j ≤ most_states
       → m ≡ n + state_commands x → m ≤ most_commands → depth + state_depth x ≤ most_nesting + 1
       → Always (with_states c j m) rest → Always (with_states c i n) (state x level depth rest)
-  state_within (StateOf place name x (Commands cs behind) children) level depth h c i j n m rest e top f much deep a t b =
+  state_within version (StateOf place name x (Commands cs behind) children) level depth h c i j n m rest e top f much deep a t b =
       let inside = Commands cs behind in
-      let u = both (is_name name.name && is_kind x && is_block inside && nat_le (block_depth inside) most_blocks) (are_states children) h in
-      let v = both (is_name name.name && is_kind x && is_block inside) (nat_le (block_depth inside) most_blocks) u.0 in
-      let y = both (is_name name.name && is_kind x) (is_block inside) v.0 in
-      let z = both (is_name name.name) (is_kind x) y.0 in
+      let u = both (is_name version name.name && is_kind version x && is_block version inside && nat_le (block_depth inside) most_blocks) (are_states version children) h in
+      let v = both (is_name version name.name && is_kind version x && is_block version inside) (nat_le (block_depth inside) most_blocks) u.0 in
+      let y = both (is_name version name.name && is_kind version x) (is_block version inside) v.0 in
+      let z = both (is_name version name.name) (is_kind version x) y.0 in
       let states_are : j ≡ i + (1 + states_count children) = e in
       let commands_are : m ≡ n + (list_count cs + states_commands children) = f in
       let fits : depth + (1 + states_depth children) ≤ most_nesting + 1 = deep in
@@ -373,37 +455,41 @@ mutual
       margin_within level _ _ (
         begins_state i depth (omega arith) (omega arith),
         (
-          plain_free (k.Name name.name) (short_name name.name z.0),
-          (kind_within x z.1 c' (space ∷ sign r.Plain s.OpenBrace ∷ line ∷ commands cs (suc level) 1 below) (
+          plain_free (k.Name name.name) (short_name version name.name z.0),
+          (kind_within version x z.1 c' (space ∷ sign r.Plain s.OpenBrace ∷ line ∷ commands cs (suc level) 1 below) (
             plain_free (k.Sign s.OpenBrace) refl,
-            (commands_within cs (suc level) 1 y.1 c' n (n + list_count cs) below refl (omega arith) (omega arith)
-                (states_within children (suc level) (depth + 1) u.1 c (i + 1) j (n + list_count cs) m last (omega arith) top (omega arith) much (omega arith)
+            (commands_within version cs (suc level) 1 y.1 c' n (n + list_count cs) below refl (omega arith) (omega arith)
+                (states_within version children (suc level) (depth + 1) u.1 c (i + 1) j (n + list_count cs) m last (omega arith) top (omega arith) much (omega arith)
                 (λ t b. margin_within level _ _ (plain (with_states c j m) (k.Sign s.CloseBrace) (line ∷ rest) refl (a 0 0) t b))) 0 0),
           )),
         ),
       )
 
-  states_within : (xs : StateList) (level depth : ℕ) → are_states xs ≡ true → (c : Counts) (i j n m : ℕ) (rest : List Piece) → j ≡ i + states_count xs → j ≤ most_states
+  states_within : (version : Version) (xs : StateList) (level depth : ℕ) → are_states version xs ≡ true → (c : Counts) (i j n m : ℕ) (rest : List Piece) → j ≡ i + states_count xs → j ≤ most_states
       → m ≡ n + states_commands xs → m ≤ most_commands → depth + states_depth xs ≤ most_nesting + 1
       → Always (with_states c j m) rest → Always (with_states c i n) (states xs level depth rest)
-  states_within NoState level depth h c i j n m rest e top f much deep a =
+  states_within version NoState level depth h c i j n m rest e top f much deep a =
       let x : j ≡ i = omega arith in
       let y : m ≡ n = omega arith in
       subst (λ v. Always (with_states c i v) rest) y (subst (λ v. Always (with_states c v m) rest) x a)
-  states_within (AndState x xs) level depth h c i j n m rest e top f much deep a =
-      let g = both (is_state x) (are_states xs) h in
+  states_within version (AndState x xs) level depth h c i j n m rest e top f much deep a =
+      let g = both (is_state version x) (are_states version xs) h in
       let states_are : j ≡ i + (state_count x + states_count xs) = e in
       let commands_are : m ≡ n + (state_commands x + states_commands xs) = f in
       let fits : depth + max (state_depth x) (states_depth xs) ≤ most_nesting + 1 = deep in
-      state_within x level depth g.0 c i (i + state_count x) n (n + state_commands x) (states xs level depth rest) refl (omega arith) refl (omega arith) (omega arith)
-      (states_within xs level depth g.1 c (i + state_count x) j (n + state_commands x) m rest (omega arith) top (omega arith) much (omega arith) a)
+      state_within version x level depth g.0 c i (i + state_count x) n (n + state_commands x) (states xs level depth rest) refl (omega arith) refl (omega arith) (omega arith)
+      (states_within version xs level depth g.1 c (i + state_count x) j (n + state_commands x) m rest (omega arith) top (omega arith) much (omega arith) a)
+
+header_within : (version : Version) (rest : List Piece) → Within (at none_yet 0 0) rest → Within none_yet (header version rest)
+header_within One rest a = a
+header_within Two rest a = (plain_free (k.Word w.Sapper) refl, (plain_free (k.Word w.Two) refl, (plain_free (k.Sign s.Semicolon) refl, a)))
 
 pub design_within : (x : DesignTree) → is_whole x ≡ true → Within none_yet (design x)
 unfolding is_whole
 design_within x h =
     let f = both (is_tree x) (is_within_limits x) h in
-    let g = both (list_all is_declaration x.declarations && has_state x.states) (are_states x.states) f.0 in
-    let g' = both (list_all is_declaration x.declarations) (has_state x.states) g.0 in
+    let g = both (list_all (is_declaration x.version) x.declarations && has_state x.states) (are_states x.version x.states) f.0 in
+    let g' = both (list_all (is_declaration x.version) x.declarations) (has_state x.states) g.0 in
     let in1 = nat_le (count_by is_input x.declarations) most_inputs in
     let in2 = nat_le (count_by is_register x.declarations) most_registers in
     let in3 = nat_le (count_by is_memory x.declarations) most_memories in
@@ -418,11 +504,12 @@ design_within x h =
     let i = count_by is_input x.declarations in
     let n = count_by is_register x.declarations in
     let m = count_by is_memory x.declarations in
-    declarations_within x.declarations g'.0 none_yet (states x.states 0 1 []) i n m (zero_more i) (zero_more n) (zero_more m)
+    header_within x.version (parts_of x)
+    (declarations_within x.version x.declarations g'.0 none_yet (states x.states 0 1 []) i n m (zero_more i) (zero_more n) (zero_more m)
     (from_le i most_inputs l5.0) (from_le n most_registers l5.1) (from_le m most_memories l4.1)
-    (states_within x.states 0 1 g.1 (with_declared none_yet i n m) 0 (states_count x.states) 0 (states_commands x.states) [] (zero_more (states_count x.states))
+    (states_within x.version x.states 0 1 g.1 (with_declared none_yet i n m) 0 (states_count x.states) 0 (states_commands x.states) [] (zero_more (states_count x.states))
     (from_le (states_count x.states) most_states l3.1) (zero_more (states_commands x.states)) (from_le (states_commands x.states) most_commands l1.1)
-    (one_more (states_depth x.states) (from_le (states_depth x.states) most_nesting l2.1)) (λ t b. tt) 0 0)
+    (one_more (states_depth x.states) (from_le (states_depth x.states) most_nesting l2.1)) (λ t b. tt) 0 0))
   where
     zero_more : (n : ℕ) → n ≡ 0 + n
     zero_more n = omega arith

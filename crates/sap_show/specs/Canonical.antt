@@ -1,8 +1,8 @@
--- The canonical text of a design: a declaration a line, then the states. A line of a state or a block stands two spaces further in than that of
+-- The canonical text of a design: in the second version the line `sapper 2;`, then a declaration a line, then the states. A line of a state or a block stands two spaces further in than that of
 -- what holds it. Each construct is one clause.
 use Rattle.std.specs.Prelude.{ℕ, ◌+◌, List, [], ◌++◌, Option, Some, None, if◌then◌else◌, nat_lt, codes, decimal, flat_map}
 use Rattle.sap_tree.specs.Precedence.{precedence, unary_precedence, slice_precedence, precedence_of}
-use Rattle.sap_tree.specs.Syntax.{Expression, Expressions, Number, Sized, Read, Cell, Unary, Binary, Choose, Slice, Concat, Zext, NoPart, AndPart, TagExpression, TagExpressions, Level, TagOf, LevelAt, Join, NoTag, AndTag, SimpleCommand, Assign, Write, SetTag, SetCellTag, Goto, Fall, Command, Do, Try, If, CommandBlock, Commands, ElseBlock, NoElse, Else, CommandList, NoCommand, AndCommand, StateTree, StateOf, StateList, NoState, AndState, DesignTree}
+use Rattle.sap_tree.specs.Syntax.{Expression, Expressions, Number, Sized, Read, Cell, Unary, Binary, Choose, Slice, Concat, Zext, NoPart, AndPart, TagExpression, TagExpressions, Level, TagOf, LevelAt, Join, NoTag, AndTag, SimpleCommand, Assign, Write, SetTag, SetCellTag, Goto, Fall, Command, Do, Try, If, TryThen, Case, Arms, Last, Arm, CommandBlock, Commands, ElseBlock, NoElse, Else, CommandList, NoCommand, AndCommand, StateTree, StateOf, StateList, NoState, AndState, DesignTree}
 use Rattle.sap_tree.specs.declared.syntax.BinaryOperator.TheVariants as b
 use Rattle.sap_tree.specs.declared.syntax.BinaryOperator.{BinaryOperator}
 use Rattle.sap_tree.specs.declared.syntax.Decl.TheVariants as d
@@ -13,6 +13,8 @@ use Rattle.sap_tree.specs.declared.syntax.Numeral.{Numeral}
 use Rattle.sap_tree.specs.declared.syntax.UnaryOperator.TheVariants as u
 use Rattle.sap_tree.specs.declared.syntax.UnaryOperator.{UnaryOperator}
 use Rattle.sap_tree.specs.declared.syntax.Under.{Under}
+use Rattle.sap_tree.specs.declared.version.Version.TheVariants as v
+use Rattle.sap_tree.specs.declared.version.Version.{Version}
 
 -- operators: those with two operands have a space on each side
 
@@ -105,6 +107,16 @@ unfoldable mutual
   command_text margin (Try c place handler) = margin ++ (simple_text c ++ (codes " otherwise" ++ (block_text margin handler ++ codes "\n")))
   command_text margin (If place x one other) =
       margin ++ (codes "if (" ++ (expression_text x ++ (codes ")" ++ (block_text margin one ++ (else_text margin other ++ codes "\n")))))
+  command_text margin (TryThen c place accepted refused) =
+      margin ++ (simple_text c ++ (codes " then" ++ (block_text margin accepted ++ (codes " otherwise" ++ (block_text margin refused ++ codes "\n")))))
+  command_text margin (Case place x arms) =
+      margin ++ (codes "case (" ++ (expression_text x ++ (codes ") {\n" ++ (arms_text (margin ++ codes "  ") arms ++ (margin ++ codes "}\n")))))
+
+  -- an arm and the last block begin a line each
+  pub arms_text : List ℕ → Arms → List ℕ
+  arms_text margin (Last block) = margin ++ (codes "else" ++ (block_text margin block ++ codes "\n"))
+  arms_text margin (Arm constants block arms) =
+      margin ++ (parts_text constants ++ (codes ":" ++ (block_text margin block ++ (codes "\n" ++ arms_text margin arms))))
 
   -- from the space before its `{` up to its `}`
   pub block_text : List ℕ → CommandBlock → List ℕ
@@ -160,5 +172,9 @@ unfoldable mutual
   states_text margin NoState = []
   states_text margin (AndState s states) = state_text margin s ++ states_text margin states
 
+abbrev pub version_text : Version → List ℕ
+version_text v.One = []
+version_text v.Two = codes "sapper 2;\n"
+
 unfoldable pub canonical_text : DesignTree → List ℕ
-canonical_text design = flat_map declaration_text design.declarations ++ states_text [] design.states
+canonical_text design = version_text design.version ++ (flat_map declaration_text design.declarations ++ states_text [] design.states)

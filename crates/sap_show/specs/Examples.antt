@@ -1,7 +1,7 @@
 -- Worked examples of canonical texts.
 use Rattle.std.specs.Prelude.{◌≡◌, ℕ, List, [], ◌∷◌, ◌++◌, Some, None, codes}
 use Rattle.sap_tree.specs.Bare.{nowhere, no_spot}
-use Rattle.sap_tree.specs.Syntax.{Expression, Number, Sized, Read, Unary, Binary, Choose, Slice, Concat, Zext, NoPart, AndPart, Level, TagOf, Join, NoTag, AndTag, Assign, Write, SetCellTag, Goto, Fall, Command, Do, Try, If, CommandBlock, Commands, Else, CommandList, NoCommand, AndCommand, StateOf, NoState, AndState, DesignTree}
+use Rattle.sap_tree.specs.Syntax.{Expression, Number, Sized, Read, Unary, Binary, Choose, Slice, Concat, Zext, NoPart, AndPart, Level, TagOf, Join, NoTag, AndTag, Assign, Write, SetCellTag, Goto, Fall, Command, Do, Try, If, TryThen, Case, Last, Arm, CommandBlock, Commands, Else, CommandList, NoCommand, AndCommand, StateOf, NoState, AndState, DesignTree}
 use Rattle.sap_tree.specs.declared.name.Mention.{Mention}
 use Rattle.sap_tree.specs.declared.syntax.BinaryOperator.TheVariants as b
 use Rattle.sap_tree.specs.declared.syntax.Decl.TheVariants as d
@@ -9,6 +9,7 @@ use Rattle.sap_tree.specs.declared.syntax.Kind.TheVariants as k
 use Rattle.sap_tree.specs.declared.syntax.Kind.{Kind}
 use Rattle.sap_tree.specs.declared.syntax.Numeral.{Numeral}
 use Rattle.sap_tree.specs.declared.syntax.UnaryOperator.TheVariants as u
+use Rattle.sap_tree.specs.declared.version.Version.TheVariants.{One, Two}
 use Rattle.sap_show.specs.Canonical.{canonical_text}
 
 abbrev pub named : List ℕ → Mention
@@ -32,6 +33,7 @@ block commands = Commands commands nowhere
 -- input a:8;reg x:8 dynamic;state S enforced low{x:=(a+1)&(a|x);goto S;}
 abbrev pub adder : DesignTree
 adder = record {
+  version = One;
   declarations = d.Input nowhere (named (codes "a")) (numeral 8) ∷ d.Register nowhere (named (codes "x")) (numeral 8) (k.Dynamic nowhere) None ∷ [];
   states = AndState (StateOf nowhere (named (codes "S")) (level (codes "low")) (block
       (AndCommand (Do (Assign (named (codes "x"))
@@ -66,6 +68,7 @@ retags = Try
 
 abbrev pub nested : DesignTree
 nested = record {
+  version = One;
   declarations = d.Input nowhere (named (codes "i")) (numeral 8)
       ∷ d.Register nowhere (named (codes "x")) (numeral 8)
       (k.Enforced (named (codes "low")) (Some (record { place = nowhere; level = named (codes "low") }))) (Some (numeral 7))
@@ -101,6 +104,45 @@ Nested = canonical_text nested
     ∷ codes "  }"
     ∷ codes "  state T enforced high {"
     ∷ codes "    goto T;"
+    ∷ codes "  }"
+    ∷ codes "}"
+    ∷ [])
+
+-- a command of the second version that stores, and one that looks at a number, in a block of the first
+abbrev pub looks : Command
+looks = Case nowhere (read (codes "a"))
+    (Arm (AndPart (number 0) (AndPart (Sized no_spot 2 3) NoPart)) (block (AndCommand (Do (Assign (named (codes "x")) (number 7))) NoCommand))
+    (Arm (AndPart (number 1) NoPart) (block NoCommand) (Last (block (AndCommand (Do (Goto nowhere (named (codes "S")))) NoCommand)))))
+
+abbrev pub decides : Command
+decides = TryThen (Assign (named (codes "y")) (read (codes "a"))) nowhere (block (AndCommand looks NoCommand)) (block (AndCommand (Do (Fall nowhere)) NoCommand))
+
+abbrev pub second : DesignTree
+second = record {
+  version = Two;
+  declarations = d.Input nowhere (named (codes "a")) (numeral 2) ∷ [];
+  states = AndState (StateOf nowhere (named (codes "S")) (level (codes "low")) (block (AndCommand decides NoCommand)) NoState) NoState;
+}
+
+abbrev pub Second : Type 0
+Second = canonical_text second
+    ≡ lines
+    (codes "sapper 2;"
+    ∷ codes "input a : 2;"
+    ∷ codes "state S enforced low {"
+    ∷ codes "  y := a then {"
+    ∷ codes "    case (a) {"
+    ∷ codes "      0, 2'd3: {"
+    ∷ codes "        x := 7;"
+    ∷ codes "      }"
+    ∷ codes "      1: {"
+    ∷ codes "      }"
+    ∷ codes "      else {"
+    ∷ codes "        goto S;"
+    ∷ codes "      }"
+    ∷ codes "    }"
+    ∷ codes "  } otherwise {"
+    ∷ codes "    fall;"
     ∷ codes "  }"
     ∷ codes "}"
     ∷ [])

@@ -1,14 +1,15 @@
 //! Commands.
 
 ghost use Rattle.std.specs.Prelude.{◌≡◌, ◌++◌, OnOk, codes};
-ghost use Rattle.sap_show.specs.Canonical.{cell_text, simple_text, tag_text, command_text, block_text, else_text};
-ghost use Rattle.sap_show.specs.Lists.{list_text};
+ghost use Rattle.sap_show.specs.Canonical.{arms_text, cell_text, simple_text, tag_text, command_text, block_text, else_text};
+ghost use Rattle.sap_show.specs.Lists.{list_arms_text, list_text};
+ghost use Rattle.sap_tree.specs.Syntax.{Last};
 ghost use Rattle.sap_tree.specs.Trees.{expression_of, tag_of, simple_of, command_of, block_of, else_of};
 
-use crate::expression::{expression, tag};
+use crate::expression::{expression, parts, tag};
 use crate::words::{deeper, name};
 use sap_tree::name::Name;
-use sap_tree::syntax::{Block, Cmd, Expr, Simple, TagExpr};
+use sap_tree::syntax::{Arm, Block, Cmd, Expr, Simple, TagExpr};
 use std::alloc::{AllocError, Global};
 
 /// A cell of a memory.
@@ -83,6 +84,24 @@ fn command(alloc: Global, out: &mut Vec<u8>, margin: &[u8], command: &Cmd) -> Re
             block(alloc, out, margin, handler)?;
             out.extend_from_slice(b"\n")
         }
+        Cmd::TryThen(inner, _, accepted, refused) => {
+            simple(out, inner)?;
+            out.extend_from_slice(b" then")?;
+            block(alloc, out, margin, accepted)?;
+            out.extend_from_slice(b" otherwise")?;
+            block(alloc, out, margin, refused)?;
+            out.extend_from_slice(b"\n")
+        }
+        Cmd::Case(_, number, all, last) => {
+            out.extend_from_slice(b"case (")?;
+            expression(out, number)?;
+            out.extend_from_slice(b") {\n")?;
+            let inner = deeper(alloc, margin)?;
+            arms(alloc, out, inner.as_slice(), all.as_slice())?;
+            last_block(alloc, out, inner.as_slice(), last)?;
+            out.extend_from_slice(margin)?;
+            out.extend_from_slice(b"}\n")
+        }
         Cmd::If(_, condition, one, other) => {
             out.extend_from_slice(b"if (")?;
             expression(out, condition)?;
@@ -105,6 +124,39 @@ fn block(alloc: Global, out: &mut Vec<u8>, margin: &[u8], block: &Block) -> Resu
     commands(alloc, out, inner.as_slice(), block.commands.as_slice())?;
     out.extend_from_slice(margin)?;
     out.extend_from_slice(b"}")
+}
+
+/// Arms of a `case`, whose lines have this margin or a deeper one.
+#[cycle(command)]
+#[tactic(auto, using(crate::proofs::Texts::lists))]
+fn arms(alloc: Global, out: &mut Vec<u8>, margin: &[u8], list: &[Arm]) -> Result<(), AllocError>
+    ensures { OnOk result (out.new.items ≡ out.old.items ++ list_arms_text margin.now list.now) }
+{
+    for arm in list {
+        out.extend_from_slice(margin)?;
+        parts(out, arm.constants.as_slice())?;
+        out.extend_from_slice(b":")?;
+        block(alloc, out, margin, &arm.block)?;
+        out.extend_from_slice(b"\n")?;
+    }
+    Ok(())
+}
+
+/// The `else` of a `case` and its block.
+#[cycle(command)]
+#[tactic(auto, using(crate::proofs::Texts::blocks))]
+fn last_block(
+    alloc: Global,
+    out: &mut Vec<u8>,
+    margin: &[u8],
+    last: &Block,
+) -> Result<(), AllocError>
+    ensures { OnOk result (out.new.items ≡ out.old.items ++ arms_text margin.now (Last (block_of last.now))) }
+{
+    out.extend_from_slice(margin)?;
+    out.extend_from_slice(b"else")?;
+    block(alloc, out, margin, last)?;
+    out.extend_from_slice(b"\n")
 }
 
 /// The `else` and its block, where one is written.

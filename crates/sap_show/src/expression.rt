@@ -143,7 +143,7 @@ pub fn expression(out: &mut Vec<u8>, x: &Expr) -> Result<(), AllocError>
 /// Parts with commas between them.
 #[cycle(expression)]
 #[tactic(auto, using(sap_tree::proofs::Views::views, crate::proofs::Texts::parts))]
-fn parts(out: &mut Vec<u8>, list: &[Expr]) -> Result<(), AllocError>
+pub fn parts(out: &mut Vec<u8>, list: &[Expr]) -> Result<(), AllocError>
     ensures { OnOk result (out.new.items ≡ out.old.items ++ parts_text (expressions_of list.now)) }
 {
     match list {

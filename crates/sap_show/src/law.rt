@@ -1,6 +1,6 @@
 //! The laws of canonical texts.
 
-ghost use Rattle.sap_show.specs.Examples.{Adder, Nested};
+ghost use Rattle.sap_show.specs.Examples.{Adder, Nested, Second};
 ghost use Rattle.sap_show.specs.Reading.{PlacesAside, ShownAgain};
 
 use sap_parse::law::one_reading;
@@ -13,8 +13,9 @@ pub fn one_text()
     one_reading();
 }
 
-/// The texts of two small designs, worked out.
+/// The texts of small designs, worked out.
 pub fn worked_texts()
     ensures adder { Adder }
     ensures nested { Nested }
+    ensures second { Second }
 {}

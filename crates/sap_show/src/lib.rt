@@ -17,7 +17,7 @@ use sap_tree::design::Design;
 use sap_tree::whole::design_is_whole;
 use std::alloc::{AllocError, Global};
 
-/// The canonical text of the design: ASCII, a declaration a line, then the states, each line with its LF.
+/// The canonical text of the design: ASCII, the line `sapper 2;` in the second version, a declaration a line, then the states, each line with its LF.
 pub fn show(alloc: Global, design: &Design) -> Result<Bytes, AllocError>
     ensures canonical { IfOk result (λ text. text ≡ canonical_text (design_of design.now)) }
     ensures reads_back { IfOk result (λ text. ReadsAs text (design_of design.now)) }
@@ -25,6 +25,7 @@ pub fn show(alloc: Global, design: &Design) -> Result<Bytes, AllocError>
 {
     design_is_whole(design);
     let mut out = Vec::new(alloc);
+    state::first_line(&mut out, design.version)?;
     state::declarations(&mut out, design.declarations.as_slice())?;
     let none: [u8; 0] = [];
     state::states(alloc, &mut out, &none, design.states.as_slice())?;

@@ -1,7 +1,7 @@
 //! Declarations and states.
 
 ghost use Rattle.std.specs.Prelude.{◌≡◌, ◌++◌, OnOk, codes, decimal, flat_map};
-ghost use Rattle.sap_show.specs.Canonical.{authority_text, kind_text, start_text, declaration_text, head_text, state_text};
+ghost use Rattle.sap_show.specs.Canonical.{authority_text, kind_text, start_text, declaration_text, head_text, state_text, version_text};
 ghost use Rattle.sap_show.specs.Lists.{group_text};
 ghost use Rattle.sap_tree.specs.Trees.{state_of};
 
@@ -9,7 +9,18 @@ use crate::command::commands;
 use crate::words::{deeper, name, number};
 use sap_tree::name::Mention;
 use sap_tree::syntax::{Decl, Kind, Numeral, State, Under};
+use sap_tree::version::Version;
 use std::alloc::{AllocError, Global};
+
+/// The first line, where the version has one.
+pub fn first_line(out: &mut Vec<u8>, version: Version) -> Result<(), AllocError>
+    ensures { OnOk result (out.new.items ≡ out.old.items ++ version_text version) }
+{
+    match version {
+        Version::One => Ok(()),
+        Version::Two => out.extend_from_slice(b"sapper 2;\n"),
+    }
+}
 
 /// The authority, where one is written.
 fn authority(out: &mut Vec<u8>, under: &Option<Under>) -> Result<(), AllocError>

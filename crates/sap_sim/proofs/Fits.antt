@@ -107,7 +107,7 @@ pub stream_fits : (ls : Levels) → Codes (order_of ls) → (n : Net) → IsNetl
 stream_fits ls codes n net [] fits = tt
 stream_fits ls codes n net (xs ∷ stream) fits = (line_fits ls codes n net xs fits.0, stream_fits ls codes n net stream fits.1)
 
-line_count : (ls : Levels) (fs : List Field) (xs : List Given) → LineFits ls fs xs → length xs ≡ length fs
+pub line_count : (ls : Levels) (fs : List Field) (xs : List Given) → LineFits ls fs xs → length xs ≡ length fs
 line_count ls [] [] fits = refl
 line_count ls [] (x ∷ xs) fits = absurd fits
 line_count ls (f ∷ fs) [] fits = absurd fits

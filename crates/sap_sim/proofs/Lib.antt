@@ -5,3 +5,5 @@ pub mod Seen
 pub mod Origins
 pub mod Fits
 pub mod Runs
+pub mod OneMore
+pub mod Stepping

@@ -1,7 +1,7 @@
 -- Lists, an element at a time.
-use Rattle.std.proofs.Common.{◌≡◌, ℕ, ◌+◌, ◌<◌, List, [], ◌∷◌, ◌++◌, Bool, true, false, length, get_or, take, map, sym, ap, ◌∙◌, refl}
+use Rattle.std.proofs.Common.{◌≡◌, ℕ, ◌+◌, ◌<◌, List, [], ◌∷◌, ◌++◌, Bool, true, false, length, get_or, take, set, map, sym, ap, ap₂, ◌∙◌, refl}
 use Rattle.std.specs.Prelude.{filter}
-use Rattle.std.proofs.lemmas.List.{take_more, map-append}
+use Rattle.std.proofs.lemmas.List.{take_more, take_more_set, map-append}
 use Rattle.std.proofs.lemmas.List.Elements.{filter-append}
 
 -- one element more
@@ -32,3 +32,9 @@ pub filtered_same : {X Y : Type 0} (p : X → Bool) (f : X → Y) (xs : List X) 
 filtered_same {X} {Y} p f xs k x h e t =
     ap (λ (ys : List X). map f (filter p ys)) (taken xs k x h e)
     ∙ ap (map f) (filter-append p (take k xs) (x ∷ []) ∙ ap (λ (ys : List X). filter p (take k xs) ++ ys) (dropped p x t) ∙ append_nil (filter p (take k xs)))
+
+-- one element more is written over a list
+pub written_more : {X Y : Type 0} (f : X → Y) (xs : List X) (ys : List Y) (k : ℕ) (d : X) (y : Y) → k < length xs → k < length ys → y ≡ f (get_or xs k d) → take k ys ≡ map f (take k xs)
+    → take (k + 1) (set ys k y) ≡ map f (take (k + 1) xs)
+written_more {X} {Y} f xs ys k d y h i e before =
+    take_more_set ys k y i ∙ ap₂ (λ (zs : List Y) (z : Y). zs ++ z ∷ []) before e ∙ sym (map-append f (take k xs) (get_or xs k d ∷ [])) ∙ ap (map f) (sym (take_more xs k d h))

@@ -3,6 +3,7 @@ pub mod Fields
 pub mod Numbers
 pub mod Shown
 pub mod Simulated
+pub mod Stepping
 pub mod Lookup
 pub mod Layout
 pub mod Examples

@@ -9,12 +9,14 @@ mod lookup;
 mod ports;
 pub mod rows;
 mod shown;
+pub mod simulation;
 mod sources;
 mod steps;
 
 ghost use Rattle.sap_sim.specs.Examples as examples;
 
 pub use rows::{Rows, simulate};
+pub use simulation::Simulation;
 
 /// The fields of a small netlist, the numbers that a line gives its inputs, and the registers that its
 /// rows show.

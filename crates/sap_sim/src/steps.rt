@@ -24,6 +24,17 @@ pub struct Plan {
     pub shown: Shown,
 }
 
+/// Takes the numbers that a line gives the inputs, in place of others.
+pub fn take_numbers(lattice: &Lattice, sources: &[Source], line: &[Tagged], numbers: &mut [u64])
+    requires places { All (λ s. source_place s < length line.now) sources.now }
+    requires count { length numbers.old ≡ length sources.now }
+    ensures { numbers.new ≡ map (number_from lattice.now line.now) sources.now }
+{
+    for k in 0..sources.len() {
+        numbers[k] = number(lattice, sources[k], line);
+    }
+}
+
 /// The numbers that a line gives the inputs.
 fn numbers(
     alloc: Global,
@@ -35,9 +46,8 @@ fn numbers(
     ensures { IfOk result (λ xs. xs.items ≡ map (number_from lattice.now line.now) sources.now) }
 {
     let mut numbers = Vec::new(alloc);
-    for source in sources {
-        numbers.push(number(lattice, *source, line))?;
-    }
+    numbers.resize(sources.len(), 0)?;
+    take_numbers(lattice, sources, line, &mut numbers);
     Ok(numbers)
 }
 
@@ -51,6 +61,18 @@ fn number(lattice: &Lattice, source: Source, line: &[Tagged]) -> u64
     }
 }
 
+/// Takes the numbers at places of a runner, in place of others.
+pub fn take_seen(runner: &Runner, places: &[Place], numbers: &mut [u64])
+    requires places { All (λ k. k < length (value_names runner.now.net)) places.now }
+    requires count { length numbers.old ≡ length places.now }
+    ensures count { length numbers.new ≡ length places.now }
+    ensures seen { (cycle : Option Valuation) → Shows runner.now cycle → numbers.new ≡ seen_at runner.now.net (seen runner.now.net cycle) places.now }
+{
+    for k in 0..places.len() {
+        numbers[k] = runner.at(places[k]);
+    }
+}
+
 /// The numbers at places of a runner.
 fn seen(alloc: Global, runner: &Runner, places: &[Place]) -> Result<Vec<u64>, AllocError>
     requires { All (λ k. k < length (value_names runner.now.net)) places.now }
@@ -58,9 +80,8 @@ fn seen(alloc: Global, runner: &Runner, places: &[Place]) -> Result<Vec<u64>, Al
     ensures seen { IfOk result (λ xs. (cycle : Option Valuation) → Shows runner.now cycle → xs.items ≡ seen_at runner.now.net (seen runner.now.net cycle) places.now) }
 {
     let mut numbers = Vec::new(alloc);
-    for place in places {
-        numbers.push(runner.at(*place))?;
-    }
+    numbers.resize(places.len(), 0)?;
+    take_seen(runner, places, &mut numbers);
     Ok(numbers)
 }
 

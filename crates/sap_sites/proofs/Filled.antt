@@ -1,11 +1,11 @@
 -- Filling in what hangs leaves the sites as they are, and their numbers are those of the labelled meaning.
 use Rattle.std.proofs.Common.{◌≡◌, ℕ, Bool, true, false, not, ◌||◌, List, [], ◌∷◌, ◌++◌, refl, ap, ◌∙◌, if◌then◌else◌}
-use Rattle.sap_meaning.specs.Program.{World, is_dynamic, Step, Set, Write, Retag, RetagCell, Goto, Fall, Command, Do, Try, If, Block, End, Then, State, Node, Group, None, More}
+use Rattle.sap_meaning.specs.Program.{World, is_dynamic, Step, Set, Write, Retag, RetagCell, Goto, Fall, Command, Do, Try, If, TryThen, Case, Arms, Last, Arm, Block, End, Then, State, Node, Group, None, More}
 use Rattle.sap_meaning.specs.Checks.{Spot, site_of}
 use Rattle.sap_meaning.specs.Sites.{some_enforced, is_site}
 use Rattle.sap_meaning.specs.Sites as meaning
-use Rattle.sap_resolve.specs.Fill.{filled_step, filled, filled_block, filled_state, filled_group}
-use Rattle.sap_sites.specs.ProgramSites.{ProgramSite, kind_of, entity_of, step_sites, command_sites, block_sites, state_sites, group_sites}
+use Rattle.sap_resolve.specs.Fill.{filled_step, filled, filled_arms, filled_block, filled_state, filled_group}
+use Rattle.sap_sites.specs.ProgramSites.{ProgramSite, kind_of, entity_of, step_sites, command_sites, arms_sites, block_sites, state_sites, group_sites}
 use Rattle.sap_sites.proofs.Counts.{numbers_of, numbers_join}
 
 both : (a b c d : List ProgramSite) → a ≡ c → b ≡ d → a ++ b ≡ c ++ d
@@ -39,6 +39,17 @@ module _ (w : World) where
       command_filled (If hang e a b) =
           both (block_sites w s i (filled_block w at a)) (block_sites w s i (filled_block w at b)) (block_sites w s g a) (block_sites w s g b)
           (block_filled a) (block_filled b)
+      command_filled (TryThen k hang a b) =
+          both (step_sites w s i (filled_step w at k)) (block_sites w s i (filled_block w at a) ++ block_sites w s i (filled_block w at b))
+          (step_sites w s g k) (block_sites w s g a ++ block_sites w s g b) (step_filled k)
+          (both (block_sites w s i (filled_block w at a)) (block_sites w s i (filled_block w at b)) (block_sites w s g a) (block_sites w s g b) (block_filled a) (block_filled b))
+      command_filled (Case hang e arms) = arms_filled arms
+
+      arms_filled : (arms : Arms) → arms_sites w s i (filled_arms w at arms) ≡ arms_sites w s g arms
+      arms_filled (Last b) = block_filled b
+      arms_filled (Arm constants b arms) =
+          both (block_sites w s i (filled_block w at b)) (arms_sites w s i (filled_arms w at arms)) (block_sites w s g b) (arms_sites w s g arms)
+          (block_filled b) (arms_filled arms)
 
       block_filled : (b : Block) → block_sites w s i (filled_block w at b) ≡ block_sites w s g b
       block_filled End = refl
@@ -76,6 +87,17 @@ module _ (w : World) where
       command_numbers (If hang e a b) =
           both_numbers (block_sites w s g a) (block_sites w s g b) (meaning.block_sites w s g a) (meaning.block_sites w s g b) (block_numbers a)
           (block_numbers b)
+      command_numbers (TryThen k hang a b) =
+          both_numbers (step_sites w s g k) (block_sites w s g a ++ block_sites w s g b) (meaning.step_sites w s g k)
+          (meaning.block_sites w s g a ++ meaning.block_sites w s g b) (step_numbers k)
+          (both_numbers (block_sites w s g a) (block_sites w s g b) (meaning.block_sites w s g a) (meaning.block_sites w s g b) (block_numbers a) (block_numbers b))
+      command_numbers (Case hang e arms) = arms_numbers arms
+
+      arms_numbers : (arms : Arms) → numbers_of (arms_sites w s g arms) ≡ meaning.arms_sites w s g arms
+      arms_numbers (Last b) = block_numbers b
+      arms_numbers (Arm constants b arms) =
+          both_numbers (block_sites w s g b) (arms_sites w s g arms) (meaning.block_sites w s g b) (meaning.arms_sites w s g arms) (block_numbers b)
+          (arms_numbers arms)
 
       block_numbers : (b : Block) → numbers_of (block_sites w s g b) ≡ meaning.block_sites w s g b
       block_numbers End = refl

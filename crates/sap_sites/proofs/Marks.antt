@@ -5,13 +5,13 @@ use Rattle.sap_tree.specs.Syntax as tree
 use Rattle.sap_lattice.specs.Levels.{Levels}
 use Rattle.sap_names.specs.declared.entity.Entity.{Entity}
 use Rattle.sap_shape.specs.Sites as shape
-use Rattle.sap_meaning.specs.Program.{World, Step, Set, Write, Retag, RetagCell, Goto, Fall, Command, Do, Try, If, Block, End, Then, State, Node, Group, None, More}
+use Rattle.sap_meaning.specs.Program.{World, Step, Set, Write, Retag, RetagCell, Goto, Fall, Command, Do, Try, If, TryThen, Case, Arms, Last, Arm, Block, End, Then, State, Node, Group, None, More}
 use Rattle.sap_meaning.specs.Checks.{Spot, site_of}
 use Rattle.sap_resolve.specs.Worlds.{states_in}
 use Rattle.sap_resolve.specs.Sites.{Home, simple_sites}
 use Rattle.sap_resolve.specs.Sites as counts
-use Rattle.sap_resolve.specs.Resolve.{site_number, step_of, command_of, block_of, else_of, list_of, state_of, group_of}
-use Rattle.sap_resolve.specs.Fill.{filled_step, filled, filled_block, filled_state, filled_group}
+use Rattle.sap_resolve.specs.Resolve.{site_number, step_of, command_of, arms_of, block_of, else_of, list_of, state_of, group_of}
+use Rattle.sap_resolve.specs.Fill.{filled_step, filled, filled_arms, filled_block, filled_state, filled_group}
 use Rattle.sap_sites.specs.Numbering.{numbers_from}
 use Rattle.sap_sites.specs.Once.{own_site}
 use Rattle.sap_meaning.proofs.Bools.{eq_not}
@@ -21,6 +21,12 @@ abbrev mutual
   marks (Do k) = own_site k
   marks (Try k hang h) = own_site k ++ block_marks h
   marks (If hang e a b) = block_marks a ++ block_marks b
+  marks (TryThen k hang a b) = own_site k ++ (block_marks a ++ block_marks b)
+  marks (Case hang e arms) = arms_marks arms
+
+  pub arms_marks : Arms → List ℕ
+  arms_marks (Last b) = block_marks b
+  arms_marks (Arm constants b arms) = block_marks b ++ arms_marks arms
 
   pub block_marks : Block → List ℕ
   block_marks End = []
@@ -55,6 +61,15 @@ module _ (w : World) where
           both (own_site (filled_step w at k)) (block_marks (filled_block w at b)) (own_site k) (block_marks b) (step_filled k) (block_filled b)
       command_filled (If hang e a b) =
           both (block_marks (filled_block w at a)) (block_marks (filled_block w at b)) (block_marks a) (block_marks b) (block_filled a) (block_filled b)
+      command_filled (TryThen k hang a b) =
+          both (own_site (filled_step w at k)) (block_marks (filled_block w at a) ++ block_marks (filled_block w at b)) (own_site k) (block_marks a ++ block_marks b)
+          (step_filled k) (both (block_marks (filled_block w at a)) (block_marks (filled_block w at b)) (block_marks a) (block_marks b) (block_filled a) (block_filled b))
+      command_filled (Case hang e arms) = arms_filled arms
+
+      arms_filled : (arms : Arms) → arms_marks (filled_arms w at arms) ≡ arms_marks arms
+      arms_filled (Last b) = block_filled b
+      arms_filled (Arm constants b arms) =
+          both (block_marks (filled_block w at b)) (arms_marks (filled_arms w at arms)) (block_marks b) (arms_marks arms) (block_filled b) (arms_filled arms)
 
       block_filled : (b : Block) → block_marks (filled_block w at b) ≡ block_marks b
       block_filled End = refl
@@ -118,6 +133,23 @@ module _ (ls : Levels) where
           joined k (counts.block_sites h b) (counts.else_sites h other) (block_marks (block_of ls h k b))
           (block_marks (else_of ls h (k + counts.block_sites h b) other)) (block_marked k p b)
           (else_marked (k + counts.block_sites h b) (omega arith) other)
+      command_marked k p (tree.TryThen c place a b) =
+          let m = simple_sites h c in
+          let n = counts.block_sites h a in
+          let o = counts.block_sites h b in
+          let whole : m + (n + o) ≡ m + n + o = omega arith in
+          joined k m (n + o) (own_site (step_of ls h (site_number h k c) c)) (block_marks (block_of ls h (k + m) a) ++ block_marks (block_of ls h (k + m + n) b))
+          (simple_marked k p c)
+          (joined (k + m) n o (block_marks (block_of ls h (k + m) a)) (block_marks (block_of ls h (k + m + n) b)) (block_marked (k + m) (omega arith) a)
+          (block_marked (k + m + n) (omega arith) b))
+          ∙ ap (λ (i : ℕ). numbers_from k i) whole
+      command_marked k p (tree.Case place e arms) = arms_marked k p arms
+
+      arms_marked : (k : ℕ) → 1 ≤ k → (arms : tree.Arms) → arms_marks (arms_of ls h k arms) ≡ numbers_from k (counts.arms_sites h arms)
+      arms_marked k p (tree.Last b) = block_marked k p b
+      arms_marked k p (tree.Arm constants b arms) =
+          joined k (counts.block_sites h b) (counts.arms_sites h arms) (block_marks (block_of ls h k b)) (arms_marks (arms_of ls h (k + counts.block_sites h b) arms))
+          (block_marked k p b) (arms_marked (k + counts.block_sites h b) (omega arith) arms)
 
       block_marked : (k : ℕ) → 1 ≤ k → (b : CommandBlock) → block_marks (block_of ls h k b) ≡ numbers_from k (counts.block_sites h b)
       block_marked k p (Commands cs after) = list_marked k p cs

@@ -1,15 +1,16 @@
 -- The check sites of a well-formed design's program are those of the design, numbered in the order of the text.
-use Rattle.std.proofs.Common.{◌≡◌, ℕ, suc, ◌+◌, ◌<◌, Bool, true, false, not, List, [], ◌∷◌, length, refl, sym, ap, ◌∙◌, if◌then◌else◌}
+use Rattle.std.proofs.Common.{◌≡◌, ℕ, suc, ◌+◌, ◌<◌, Bool, true, false, not, List, [], ◌∷◌, ◌++◌, length, refl, sym, ap, ◌∙◌, arith, if◌then◌else◌}
 use Rattle.std.specs.Prelude.{Option, Some, None, unwrap_or}
 use Rattle.sap_tree.specs.declared.place.Place.{Place}
 use Rattle.sap_tree.specs.declared.syntax.Kind.{Kind}
 use Rattle.sap_tree.specs.declared.syntax.Kind.TheVariants.{Dynamic, Enforced}
-use Rattle.sap_tree.specs.Syntax.{SimpleCommand, Assign, Write, SetTag, SetCellTag, Goto, Fall, Command, Do, Try, If, CommandBlock, Commands, ElseBlock, NoElse, Else, CommandList, NoCommand, AndCommand, StateTree, StateOf, StateList, NoState, AndState}
+use Rattle.sap_tree.specs.Syntax.{SimpleCommand, Assign, Write, SetTag, SetCellTag, Goto, Fall, Command, Do, Try, If, TryThen, Case, Arms, Last, Arm, CommandBlock, Commands, ElseBlock, NoElse, Else, CommandList, NoCommand, AndCommand, StateTree, StateOf, StateList, NoState, AndState}
 use Rattle.sap_lattice.specs.Levels.{Levels}
 use Rattle.sap_names.specs.declared.entity.Entity.{Entity}
 use Rattle.sap_names.specs.Entities.{Lookup, number_of, what_is}
 use Rattle.sap_names.specs.declared.kind.Use.TheVariants.{Assigned as assigned, Indexed as indexed, Entered as entered}
-use Rattle.sap_names.specs.NameFaults.{simple_faults, command_faults, block_faults, else_faults, commands_faults, state_faults, states_faults}
+use Rattle.sap_names.specs.Widths.{own as own_width}
+use Rattle.sap_names.specs.NameFaults.{simple_faults, command_faults, block_faults, else_faults, arms_faults, commands_faults, state_faults, states_faults}
 use Rattle.sap_shape.specs.Sites.{is_enforced, is_enforced_kind, any_enforced}
 use Rattle.sap_shape.specs.Sites as shape
 use Rattle.sap_check.specs.declared.site.Site.{Site}
@@ -21,7 +22,7 @@ use Rattle.sap_meaning.specs.Sites.{some_enforced, is_site}
 use Rattle.sap_resolve.specs.Worlds.{states_in, is_dynamic_kind}
 use Rattle.sap_resolve.specs.Sites.{Home, simple_sites}
 use Rattle.sap_resolve.specs.Sites as counts
-use Rattle.sap_resolve.specs.Resolve.{site_number, step_of, command_of, block_of, else_of, list_of, state_of, group_of}
+use Rattle.sap_resolve.specs.Resolve.{site_number, step_of, command_of, arms_of, block_of, else_of, list_of, state_of, group_of}
 use Rattle.sap_resolve.specs.Terms.{known, entity_number}
 use Rattle.sap_resolve.proofs.Lookup.{AllMatch}
 use Rattle.sap_premises.proofs.Commands.{set_named, write_named, if_first, if_other, body_fits, below_fits}
@@ -29,7 +30,7 @@ use Rattle.sap_premises.proofs.Faultless.{nil_left, nil_right, or_same}
 use Rattle.sap_premises.proofs.Places.{Laid, LaidState, laid_first, laid_rest, laid_below, laid_name, laid_named, name_at}
 use Rattle.sap_premises.proofs.Lookups.{enforced_same}
 use Rattle.sap_premises.proofs.Numbers.{here_dynamic}
-use Rattle.sap_sites.specs.ProgramSites.{ProgramSite, kind_of, entity_of, step_sites, command_sites, block_sites, state_sites, group_sites}
+use Rattle.sap_sites.specs.ProgramSites.{ProgramSite, kind_of, entity_of, step_sites, command_sites, arms_sites, block_sites, state_sites, group_sites}
 use Rattle.sap_sites.specs.Numbering.{numbered}
 use Rattle.sap_sites.proofs.Counts.{joined, counted}
 
@@ -66,6 +67,21 @@ module _ (es : List Entity) (name : List ℕ) (kind : Kind) (children : StateLis
     command_count (If place e b other) =
         counted (counts.block_sites Counting b) (counts.else_sites Counting other) (check.block_sites Listing b) (check.else_sites Listing other)
         (block_count b) (else_count other)
+    command_count (TryThen c place a b) =
+        let m = counts.simple_sites Counting c in
+        let n = counts.block_sites Counting a in
+        let o = counts.block_sites Counting b in
+        let whole : m + n + o ≡ m + (n + o) = omega arith in
+        whole
+        ∙ counted m (n + o) (check.simple_sites Listing c) (check.block_sites Listing a ++ check.block_sites Listing b) (simple_count c)
+        (counted n o (check.block_sites Listing a) (check.block_sites Listing b) (block_count a) (block_count b))
+    command_count (Case place e arms) = arms_count arms
+
+    arms_count : (arms : Arms) → counts.arms_sites Counting arms ≡ length (check.arms_sites Listing arms)
+    arms_count (Last b) = block_count b
+    arms_count (Arm constants b arms) =
+        counted (counts.block_sites Counting b) (counts.arms_sites Counting arms) (check.block_sites Listing b) (check.arms_sites Listing arms) (block_count b)
+        (arms_count arms)
 
     pub block_count : (b : CommandBlock) → counts.block_sites Counting b ≡ length (check.block_sites Listing b)
     block_count (Commands cs after) = list_count cs
@@ -173,6 +189,23 @@ module _ (ls : Levels) (levels : List (List ℕ)) (es : List Entity) (name : Lis
         (block_sites w x g (else_of ls Here (k + counts.block_sites Here b) other)) (check.block_sites There b) (check.else_sites There other)
         (block_count es name kind children b) (block_numbered k b (if_first levels What place e b other f))
         (else_numbered (k + counts.block_sites Here b) other (if_other levels What place e b other f))
+    command_numbered k (TryThen c place a b) f =
+        let i = k + counts.simple_sites Here c in
+        let j = i + counts.block_sites Here a in
+        joined k (counts.simple_sites Here c) (step_sites w x g (step_of ls Here (site_number Here k c) c))
+        (block_sites w x g (block_of ls Here i a) ++ block_sites w x g (block_of ls Here j b)) (check.simple_sites There c)
+        (check.block_sites There a ++ check.block_sites There b) (simple_count es name kind children c) (step_numbered k c (nil_left _ _ (nil_left _ _ f)))
+        (joined i (counts.block_sites Here a) (block_sites w x g (block_of ls Here i a)) (block_sites w x g (block_of ls Here j b)) (check.block_sites There a)
+        (check.block_sites There b) (block_count es name kind children a) (block_numbered i a (nil_right _ _ (nil_left _ _ f))) (block_numbered j b (nil_right _ _ f)))
+    command_numbered k (Case place e arms) f = arms_numbered k (own_width What e) arms (nil_right _ _ f)
+
+    arms_numbered : (k : ℕ) (asked : Option ℕ) (arms : Arms) → arms_faults levels What asked arms ≡ []
+        → arms_sites w x g (arms_of ls Here k arms) ≡ numbered k (check.arms_sites There arms)
+    arms_numbered k asked (Last b) f = block_numbered k b f
+    arms_numbered k asked (Arm constants b arms) f =
+        joined k (counts.block_sites Here b) (block_sites w x g (block_of ls Here k b)) (arms_sites w x g (arms_of ls Here (k + counts.block_sites Here b) arms))
+        (check.block_sites There b) (check.arms_sites There arms) (block_count es name kind children b) (block_numbered k b (nil_right _ _ (nil_left _ _ f)))
+        (arms_numbered (k + counts.block_sites Here b) asked arms (nil_right _ _ f))
 
     pub block_numbered : (k : ℕ) (b : CommandBlock) → block_faults levels What b ≡ []
         → block_sites w x g (block_of ls Here k b) ≡ numbered k (check.block_sites There b)

@@ -1,19 +1,19 @@
 -- The sites that a cycle comes to stand in the order of the text.
 use Rattle.std.proofs.Common.{◌≡◌, ℕ, zero, suc, Bool, true, false, List, [], ◌∷◌, ◌++◌, append_assoc, nat_eq, refl, sym, ap, ◌∙◌, subst, if◌then◌else◌}
 use Rattle.sap_maps.specs.Term.{Term}
-use Rattle.sap_meaning.specs.Program.{World, root, Program, Step, Set, Write, Retag, RetagCell, Goto, Fall, Command, Do, Try, If, Block, End, Then, State, Node, Group, None, More}
+use Rattle.sap_meaning.specs.Program.{World, root, Program, Step, Set, Write, Retag, RetagCell, Goto, Fall, Command, Do, Try, If, TryThen, Case, Arms, Last, Arm, Block, End, Then, State, Node, Group, None, More}
 use Rattle.sap_meaning.specs.Store.{Store, child, raise}
 use Rattle.sap_meaning.specs.Expressions.{value, tag}
 use Rattle.sap_meaning.specs.Checks.{Spot, guard, test}
 use Rattle.sap_meaning.specs.Touches.{touches, root_touches, raised_alone}
-use Rattle.sap_meaning.specs.Does.{does, does_child}
+use Rattle.sap_meaning.specs.Does.{does, does_child, effect, is_constant}
 use Rattle.sap_meaning.specs.Cycle.{Tagged, set_inputs}
-use Rattle.sap_meaning.specs.Fine.{transfers, Open, OpenBlock, Closes, Final, FineState, FineGroup, FineProgram}
+use Rattle.sap_meaning.specs.Fine.{transfers, Open, OpenArms, OpenBlock, Closes, Final, ClosingArms, FineState, FineGroup, FineProgram}
 use Rattle.sap_meaning.specs.Sites.{Sublist}
-use Rattle.sap_once.specs.Steps.{onward, tried, chosen, steps, block_steps, state_steps, child_steps, root_steps, cycle_steps}
+use Rattle.sap_once.specs.Steps.{onward, tried, tried_then, picked, chosen, steps, arms_steps, block_steps, state_steps, child_steps, root_steps, cycle_steps}
 use Rattle.sap_sites.specs.Once.{own_site, sites_met}
 use Rattle.sap_sites.proofs.Sublists.{same, skip, more, joins, between, none, append-nil}
-use Rattle.sap_sites.proofs.Marks.{marks, block_marks, state_marks, group_marks}
+use Rattle.sap_sites.proofs.Marks.{marks, arms_marks, block_marks, state_marks, group_marks}
 
 met-append : (xs ys : List Step) → sites_met (xs ++ ys) ≡ sites_met xs ++ sites_met ys
 met-append [] ys = refl
@@ -68,8 +68,25 @@ module _ (w : World) where
         let inside = w.order.join pc (tag w e s) in
         either (nat_eq (value w e s) 0) (b inside r) (a inside r) ys (g inside r) (f inside r)
 
+    -- a step that leads to none, and whose two parts lead to some of zs
+    tried_then_from : (k : Step) → transfers k ≡ false → (hangs : ℕ → Bool) (f g : ℕ → Store → List Step) (zs : List ℕ) → ((p : ℕ) (t : Store) → From (f p t) zs)
+        → ((p : ℕ) (t : Store) → From (g p t) zs) → (pc : ℕ) (s : Store) → From (tried_then w at entered k hangs f g pc s) (own_site k ++ zs)
+    unfolding tried_then
+    tried_then_from k plain hangs f g zs accepted refused pc s =
+        let r = raise w.order hangs (guard w at k s) s in
+        let inside = w.order.join pc (guard w at k s) in
+        let on = onward w at entered k pc s r in
+        let next = (effect w at (does_child w at.children at.state) k pc s r).store in
+        joins (own_site k) (own_site k) (sites_met (if test w at k pc s then on ++ f inside next else g inside r)) zs (same (own_site k))
+        (either (test w at k pc s) (on ++ f inside next) (g inside r) zs (behind on (f inside next) [] zs (onward_none k plain pc s r) (accepted inside next)) (refused inside r))
+
+    picked_from : (e : Term ℕ) (hangs : ℕ → Bool) (pick : ℕ → ℕ → Store → List Step) (ys : List ℕ) → ((v p : ℕ) (t : Store) → From (pick v p t) ys) → (pc : ℕ) (s : Store)
+        → From (picked w e hangs pick pc s) ys
+    unfolding picked
+    picked_from e hangs pick ys f pc s = f (value w e s) (w.order.join pc (tag w e s)) (raise w.order hangs (tag w e s) s)
+
     mutual
-      unfolding steps block_steps
+      unfolding steps arms_steps block_steps
 
       open_from : (c : Command) → Open c → (pc : ℕ) (s : Store) → From (steps w at entered c pc s) (marks c)
       open_from (Do k) plain pc s =
@@ -81,6 +98,17 @@ module _ (w : World) where
       open_from (If hang e a b) plain pc s =
           chosen_from e (touches w at (If hang e a b)) (block_steps w at entered a) (block_steps w at entered b) (block_marks a ++ block_marks b)
           (λ p t. more _ (block_marks a) (block_marks b) (open_list a plain.0 p t)) (λ p t. skip _ (block_marks a) (block_marks b) (open_list b plain.1 p t)) pc s
+      open_from (TryThen k hang a b) plain pc s =
+          tried_then_from k plain.0 (touches w at (TryThen k hang a b)) (block_steps w at entered a) (block_steps w at entered b) (block_marks a ++ block_marks b)
+          (λ p t. more _ (block_marks a) (block_marks b) (open_list a plain.1 p t)) (λ p t. skip _ (block_marks a) (block_marks b) (open_list b plain.2 p t)) pc s
+      open_from (Case hang e arms) plain pc s =
+          picked_from e (touches w at (Case hang e arms)) (arms_steps w at entered arms) (arms_marks arms) (λ v p t. open_arms arms plain v p t) pc s
+
+      open_arms : (arms : Arms) → OpenArms arms → (v pc : ℕ) (s : Store) → From (arms_steps w at entered arms v pc s) (arms_marks arms)
+      open_arms (Last b) plain v pc s = open_list b plain pc s
+      open_arms (Arm cs b arms) plain v pc s =
+          either (is_constant cs v) (block_steps w at entered b pc s) (arms_steps w at entered arms v pc s) (block_marks b ++ arms_marks arms)
+          (more _ (block_marks b) (arms_marks arms) (open_list b plain.0 pc s)) (skip _ (block_marks b) (arms_marks arms) (open_arms arms plain.1 v pc s))
 
       open_list : (b : Block) → OpenBlock b → (pc : ℕ) (s : Store) → From (block_steps w at entered b pc s) (block_marks b)
       open_list End plain pc s = tt
@@ -89,7 +117,7 @@ module _ (w : World) where
           (block_marks cs) (open_from c plain.0 pc s) (open_list cs plain.1 pc _)
 
     mutual
-      unfolding steps block_steps
+      unfolding steps arms_steps block_steps
 
       final_from : (c : Command) → Final c → (pc : ℕ) (s : Store) → From (steps w at entered c pc s) (marks c ++ below)
       final_from (Do k) final pc s =
@@ -104,6 +132,24 @@ module _ (w : World) where
           (λ p t. between _ (block_marks a) (block_marks b) below (closing_from a final.0 p t))
           (λ p t. subst (λ (ys : List ℕ). From (block_steps w at entered b p t) ys) (sym (append_assoc (block_marks a) (block_marks b) below))
           (skip _ (block_marks a) (block_marks b ++ below) (closing_from b final.1 p t))) pc s
+      final_from (TryThen k hang a b) final pc s =
+          let both = block_marks a ++ block_marks b in
+          subst (λ (ys : List ℕ). From (tried_then w at entered k (touches w at (TryThen k hang a b)) (block_steps w at entered a) (block_steps w at entered b) pc s) ys)
+          (sym (append_assoc (own_site k) both below))
+          (tried_then_from k final.0 (touches w at (TryThen k hang a b)) (block_steps w at entered a) (block_steps w at entered b) (both ++ below)
+          (λ p t. between _ (block_marks a) (block_marks b) below (closing_from a final.1 p t))
+          (λ p t. subst (λ (ys : List ℕ). From (block_steps w at entered b p t) ys) (sym (append_assoc (block_marks a) (block_marks b) below))
+          (skip _ (block_marks a) (block_marks b ++ below) (closing_from b final.2 p t))) pc s)
+      final_from (Case hang e arms) final pc s =
+          picked_from e (touches w at (Case hang e arms)) (arms_steps w at entered arms) (arms_marks arms ++ below) (λ v p t. closing_arms arms final v p t) pc s
+
+      closing_arms : (arms : Arms) → ClosingArms arms → (v pc : ℕ) (s : Store) → From (arms_steps w at entered arms v pc s) (arms_marks arms ++ below)
+      closing_arms (Last b) final v pc s = closing_from b final pc s
+      closing_arms (Arm cs b arms) final v pc s =
+          either (is_constant cs v) (block_steps w at entered b pc s) (arms_steps w at entered arms v pc s) ((block_marks b ++ arms_marks arms) ++ below)
+          (between _ (block_marks b) (arms_marks arms) below (closing_from b final.0 pc s))
+          (subst (λ (ys : List ℕ). From (arms_steps w at entered arms v pc s) ys) (sym (append_assoc (block_marks b) (arms_marks arms) below))
+          (skip _ (block_marks b) (arms_marks arms ++ below) (closing_arms arms final.1 v pc s)))
 
       pub closing_from : (b : Block) → Closes b → (pc : ℕ) (s : Store) → From (block_steps w at entered b pc s) (block_marks b ++ below)
       closing_from End closes pc s = absurd closes

@@ -2,7 +2,7 @@
 use Rattle.std.specs.Prelude.{ℕ, List, [], ◌∷◌, ◌++◌, if◌then◌else◌}
 use Rattle.sap_check.specs.declared.site.SiteKind.{SiteKind}
 use Rattle.sap_check.specs.declared.site.SiteKind.TheVariants as kind
-use Rattle.sap_meaning.specs.Program.{World, Program, Step, Set, Write, Retag, RetagCell, Goto, Fall, Command, Do, Try, If, Block, End, Then, State, Node, Group, None, More}
+use Rattle.sap_meaning.specs.Program.{World, Program, Step, Set, Write, Retag, RetagCell, Goto, Fall, Command, Do, Try, If, TryThen, Case, Arms, Last, Arm, Block, End, Then, State, Node, Group, None, More}
 use Rattle.sap_meaning.specs.Checks.{site_of}
 use Rattle.sap_meaning.specs.Sites.{is_site}
 
@@ -38,6 +38,12 @@ abbrev mutual
   command_sites w s g (Do k) = step_sites w s g k
   command_sites w s g (Try k hang h) = step_sites w s g k ++ block_sites w s g h
   command_sites w s g (If hang e a b) = block_sites w s g a ++ block_sites w s g b
+  command_sites w s g (TryThen k hang a b) = step_sites w s g k ++ (block_sites w s g a ++ block_sites w s g b)
+  command_sites w s g (Case hang e arms) = arms_sites w s g arms
+
+  pub arms_sites : World → (s : ℕ) → (g : Group) → Arms → List ProgramSite
+  arms_sites w s g (Last b) = block_sites w s g b
+  arms_sites w s g (Arm constants b arms) = block_sites w s g b ++ arms_sites w s g arms
 
   pub block_sites : World → (s : ℕ) → (g : Group) → Block → List ProgramSite
   block_sites w s g End = []

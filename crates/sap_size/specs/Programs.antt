@@ -1,6 +1,6 @@
 -- How large programs with numbers for names are.
-use Rattle.std.specs.Prelude.{ℕ, ◌+◌}
-use Rattle.sap_meaning.specs.Program.{LevelTerm, fixed, of, at_place, both, Step, Set, Write, Retag, RetagCell, Goto, Fall, Command, Do, Try, If, Block, End, Then, State, Node, Group, None, More}
+use Rattle.std.specs.Prelude.{ℕ, ◌+◌, length}
+use Rattle.sap_meaning.specs.Program.{LevelTerm, fixed, of, at_place, both, Step, Set, Write, Retag, RetagCell, Goto, Fall, Command, Do, Try, If, TryThen, Case, Arms, Last, Arm, Block, End, Then, State, Node, Group, None, More}
 use Rattle.sap_size.specs.Terms.{term_size}
 
 -- The nodes of expressions, tag expressions, commands and states; a join of levels counts by its parts alone.
@@ -25,6 +25,12 @@ abbrev mutual
   command_size (Do s) = 1 + step_size s
   command_size (Try s hang h) = 1 + step_size s + block_size h
   command_size (If hang e a b) = 1 + term_size e + block_size a + block_size b
+  command_size (TryThen s hang a b) = 1 + step_size s + block_size a + block_size b
+  command_size (Case hang e arms) = 1 + term_size e + arms_size arms
+
+  pub arms_size : Arms → ℕ
+  arms_size (Last b) = block_size b
+  arms_size (Arm constants b arms) = length constants + block_size b + arms_size arms
 
   pub block_size : Block → ℕ
   block_size End = 0

@@ -1,9 +1,10 @@
 -- How large designs are.
 use Rattle.std.specs.Prelude.{ℕ, ◌+◌, length}
-use Rattle.sap_tree.specs.Syntax.{Expression, Expressions, Number, Sized, Read, Cell, Unary, Binary, Choose, Slice, Concat, Zext, NoPart, AndPart, TagExpression, TagExpressions, Level, TagOf, LevelAt, Join, NoTag, AndTag, SimpleCommand, Assign, Write, SetTag, SetCellTag, Goto, Fall, Command, Do, Try, If, CommandBlock, Commands, ElseBlock, NoElse, Else, CommandList, NoCommand, AndCommand, StateTree, StateOf, StateList, NoState, AndState, DesignTree}
+use Rattle.sap_tree.specs.Syntax.{Expression, Expressions, Number, Sized, Read, Cell, Unary, Binary, Choose, Slice, Concat, Zext, NoPart, AndPart, TagExpression, TagExpressions, Level, TagOf, LevelAt, Join, NoTag, AndTag, SimpleCommand, Assign, Write, SetTag, SetCellTag, Goto, Fall, Command, Do, Try, If, TryThen, Case, Arms, Last, Arm, CommandBlock, Commands, ElseBlock, NoElse, Else, CommandList, NoCommand, AndCommand, StateTree, StateOf, StateList, NoState, AndState, DesignTree}
 use Rattle.sap_tree.specs.Whole.{states_count}
 
--- The nodes of expressions, tag expressions, commands and states. A command with its handler is one node beside the nodes of the handler.
+-- The nodes of expressions, tag expressions, commands and states. A command with its handler is one node beside the nodes of the handler, and
+-- so is a command with its two blocks. A constant of a `case` is an expression.
 
 abbrev mutual
   pub expression_nodes : Expression → ℕ
@@ -47,6 +48,8 @@ abbrev mutual
   command_nodes (Do c) = 1 + operand_nodes c
   command_nodes (Try c place handler) = 1 + operand_nodes c + block_nodes handler
   command_nodes (If place x one other) = 1 + expression_nodes x + block_nodes one + else_nodes other
+  command_nodes (TryThen c place one other) = 1 + operand_nodes c + block_nodes one + block_nodes other
+  command_nodes (Case place x arms) = 1 + expression_nodes x + arms_nodes arms
 
   pub block_nodes : CommandBlock → ℕ
   block_nodes (Commands list after) = list_nodes list
@@ -54,6 +57,10 @@ abbrev mutual
   pub else_nodes : ElseBlock → ℕ
   else_nodes NoElse = 0
   else_nodes (Else block) = block_nodes block
+
+  pub arms_nodes : Arms → ℕ
+  arms_nodes (Last block) = block_nodes block
+  arms_nodes (Arm constants block arms) = part_nodes constants + block_nodes block + arms_nodes arms
 
   pub list_nodes : CommandList → ℕ
   list_nodes NoCommand = 0

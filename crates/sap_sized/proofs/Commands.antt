@@ -1,24 +1,27 @@
 -- Commands, bodies and states in which no fault stands: their names are those of entities of the right kind, and their widths fit.
-use Rattle.std.proofs.Common.{◌≡◌, ℕ, ◌+◌, ◌^◌, List, [], Bool, true, false, ◌||◌, Option, Some, refl, sym, ap, ◌∙◌}
+use Rattle.std.proofs.Common.{◌≡◌, ℕ, zero, suc, ◌+◌, ◌^◌, ◌<◌, List, [], Bool, true, false, ◌||◌, Option, Some, None, refl, sym, ap, subst, ◌∙◌, arith}
+use Rattle.std.proofs.Math.Pow.{pow_pos}
 use Rattle.sap_tree.specs.declared.name.Mention.{Mention}
-use Rattle.sap_tree.specs.Syntax.{Expression, SimpleCommand, Assign, Write, SetTag, SetCellTag, Goto, Fall, Command, Do, Try, If, CommandBlock, Commands, ElseBlock, NoElse, Else, CommandList, NoCommand, AndCommand, StateTree, StateOf, StateList, NoState, AndState}
+use Rattle.sap_tree.specs.Syntax as tree
+use Rattle.sap_tree.specs.Syntax.{Expression, Expressions, Number, NoPart, AndPart, SimpleCommand, Assign, Write, SetTag, SetCellTag, Goto, Fall, Command, Do, Try, If, TryThen, Case, Arms, Last, CommandBlock, Commands, ElseBlock, NoElse, Else, CommandList, NoCommand, AndCommand, StateTree, StateOf, StateList, NoState, AndState}
 use Rattle.sap_lattice.specs.Levels.{Levels}
 use Rattle.sap_names.specs.declared.kind.Declared.{Declared}
 use Rattle.sap_names.specs.declared.kind.Declared.TheVariants.{Input, Register, Memory, State}
 use Rattle.sap_names.specs.Entities.{what_is}
 use Rattle.sap_names.specs.declared.entity.Entity.{Entity}
 use Rattle.sap_names.specs.declared.kind.Use.TheVariants.{Assigned as assigned, Indexed as indexed, Entered as entered, Retagged as retagged}
-use Rattle.sap_names.specs.NameFaults.{fits_use, name_faults, expression_faults, tag_faults, simple_faults, command_faults, block_faults, else_faults, commands_faults, kind_faults, state_faults, states_faults}
-use Rattle.sap_names.specs.Widths.{own, register_width, cell_width, index_width}
+use Rattle.sap_names.specs.NameFaults.{fits_use, name_faults, expression_faults, tag_faults, simple_faults, command_faults, constants_faults, arms_faults, block_faults, else_faults, commands_faults, kind_faults, state_faults, states_faults}
+use Rattle.sap_names.specs.Widths.{own, else_of as first_width, register_width, cell_width, index_width}
 use Rattle.sap_meaning.specs.Program as program
 use Rattle.sap_meaning.specs.Program.{World, entity, width, is_register, is_memory, is_state, kind_is_register, kind_is_state}
-use Rattle.sap_meaning.specs.Sized.{SizedTerm, Indexes, SizedStep, Sized, SizedBlock, SizedState, SizedGroup}
+use Rattle.sap_meaning.specs.Expressions.{width_of}
+use Rattle.sap_meaning.specs.Sized.{SizedTerm, Indexes, AreWithin, SizedStep, Sized, SizedArms, SizedBlock, SizedState, SizedGroup}
 use Rattle.sap_meaning.specs.Fine.{FineTerm}
 use Rattle.sap_resolve.specs.Sites.{Home, simple_sites, command_sites, block_sites, state_sites}
 use Rattle.sap_resolve.specs.Worlds.{states_in}
 use Rattle.sap_resolve.specs.Terms.{entity_number, term_of}
-use Rattle.sap_resolve.specs.Resolve.{site_number, step_of, command_of, block_of, else_of, list_of, state_of, group_of}
-use Rattle.sap_resolve.specs.Named.{NamedStep, Named, NamedBlock, NamedState, NamedGroup}
+use Rattle.sap_resolve.specs.Resolve.{site_number, step_of, number_of, numbers_of, command_of, arms_of, block_of, else_of, list_of, state_of, group_of}
+use Rattle.sap_resolve.specs.Named.{NamedStep, Named, NamedArms, NamedBlock, NamedState, NamedGroup}
 use Rattle.sap_resolve.proofs.Lookup.{Stands}
 use Rattle.sap_sized.proofs.Faultless.{none_two, none_three, sound_same}
 use Rattle.sap_sized.proofs.Declared.{Sound}
@@ -122,6 +125,35 @@ module _ (ls : Levels) (h : Home) (w : World) (r : Ready ls h.entities w) where
       (entered_as w u.0 (entity_number es target.name) u.2 (r.names.stands target.name u.0 u.1), tt)
   step_fits k (Fall place) f = (tt, tt)
 
+  -- constants that are compared with numbers of a width
+
+  some_number : (u : ℕ) → 0 < 2 ^ u
+  some_number u = pow_pos u
+
+  constant_within : (u : ℕ) (e : Expression) → expression_faults what e (Some u) ≡ [] → number_of e < 2 ^ u
+  constant_within u (Number spot n) f = (expression_fitted es w r.names (Number spot n) (Some u) f).fits
+  constant_within u (tree.Sized spot width n) f =
+      let t = expression_fitted es w r.names (tree.Sized spot width n) (Some u) f in
+      subst (λ (v : ℕ). n < 2 ^ v) (asked_width w (term_of es (tree.Sized spot width n) (Some u)) (own what (tree.Sized spot width n)) (Some u) u refl t) t.fits
+  constant_within u (tree.Read spot name) f = some_number u
+  constant_within u (tree.Cell spot name i) f = some_number u
+  constant_within u (tree.Unary spot o x) f = some_number u
+  constant_within u (tree.Binary spot o x y) f = some_number u
+  constant_within u (tree.Choose spot x y z) f = some_number u
+  constant_within u (tree.Slice spot x high low) f = some_number u
+  constant_within u (tree.Concat spot parts) f = some_number u
+  constant_within u (tree.Zext spot x v) f = some_number u
+
+  constants_within : (u : ℕ) (cs : Expressions) → constants_faults what (Some u) cs ≡ [] → AreWithin u (numbers_of cs)
+  constants_within u NoPart f = tt
+  constants_within u (AndPart e cs) f =
+      let n = none_two (expression_faults what e (Some u)) (constants_faults what (Some u) cs) f in
+      (constant_within u e n.0, constants_within u cs n.1)
+
+  first_alone : (o : Option ℕ) → first_width o None ≡ o
+  first_alone (Some u) = refl
+  first_alone None = refl
+
   mutual
     command_fits : (k : ℕ) (c : Command) → command_faults ls.names what c ≡ [] → Fits (command_of ls h k c)
     command_fits k (Do c) f = step_fits (site_number h k c) c f
@@ -137,6 +169,26 @@ module _ (ls : Levels) (h : Home) (w : World) (r : Ready ls h.entities w) where
         let a = block_fits k one n.1 in
         let b = else_fits (k + block_sites h one) other n.2 in
         ((t.fine, a.0, b.0), ((t.fits, t.indexed), i, a.1, b.1))
+    command_fits k (TryThen c place one other) f =
+        let n = none_three (simple_faults ls.names what c) (block_faults ls.names what one) (block_faults ls.names what other) f in
+        let s = step_fits (site_number h k c) c n.0 in
+        let a = block_fits (k + simple_sites h c) one n.1 in
+        let b = block_fits (k + simple_sites h c + block_sites h one) other n.2 in
+        ((s.0, a.0, b.0), (s.1, a.1, b.1))
+    command_fits k (Case place e arms) f =
+        let n = none_two (expression_faults what e None) (arms_faults ls.names what (own what e) arms) f in
+        let t = expression_fitted es w r.names e None n.0 in
+        let mine : own what e ≡ Some (width_of w (term_of es e None)) = sym (first_alone (own what e)) ∙ t.wide in
+        let a = arms_fit (width_of w (term_of es e None)) k arms (subst (λ (o : Option ℕ). arms_faults ls.names what o arms ≡ []) mine n.1) in
+        ((t.fine, a.0), ((t.fits, t.indexed), a.1))
+
+    arms_fit : (u k : ℕ) (arms : Arms) → arms_faults ls.names what (Some u) arms ≡ [] → NamedArms w (arms_of ls h k arms) × SizedArms w u (arms_of ls h k arms)
+    arms_fit u k (Last b) f = block_fits k b f
+    arms_fit u k (tree.Arm constants b arms) f =
+        let n = none_three (constants_faults what (Some u) constants) (block_faults ls.names what b) (arms_faults ls.names what (Some u) arms) f in
+        let a = block_fits k b n.1 in
+        let rest = arms_fit u (k + block_sites h b) arms n.2 in
+        ((a.0, rest.0), (constants_within u constants n.0, a.1, rest.1))
 
     pub block_fits : (k : ℕ) (b : CommandBlock) → block_faults ls.names what b ≡ [] → BlockFits (block_of ls h k b)
     block_fits k (Commands cs after) f = list_fits k cs f

@@ -1,10 +1,10 @@
 -- Filling in what hangs changes no name and no width.
 use Rattle.std.proofs.Common.{ℕ}
-use Rattle.sap_meaning.specs.Program.{World, Step, Set, Write, Retag, RetagCell, Goto, Fall, Command, Do, Try, If, Block, End, Then, State, Node, Group, None, More}
+use Rattle.sap_meaning.specs.Program.{World, Step, Set, Write, Retag, RetagCell, Goto, Fall, Command, Do, Try, If, TryThen, Case, Arms, Last, Arm, Block, End, Then, State, Node, Group, None, More}
 use Rattle.sap_meaning.specs.Checks.{Spot}
-use Rattle.sap_meaning.specs.Sized.{SizedStep, Sized, SizedBlock, SizedState, SizedGroup}
-use Rattle.sap_resolve.specs.Named.{NamedStep, Named, NamedBlock, NamedState, NamedGroup}
-use Rattle.sap_resolve.specs.Fill.{filled_step, filled, filled_block, filled_state, filled_group}
+use Rattle.sap_meaning.specs.Sized.{SizedStep, Sized, SizedArms, SizedBlock, SizedState, SizedGroup}
+use Rattle.sap_resolve.specs.Named.{NamedStep, Named, NamedArms, NamedBlock, NamedState, NamedGroup}
+use Rattle.sap_resolve.specs.Fill.{filled_step, filled, filled_arms, filled_block, filled_state, filled_group}
 
 module _ (w : World) where
   step_named : (at : Spot) (k : Step) → NamedStep w k → NamedStep w (filled_step w at k)
@@ -28,6 +28,12 @@ module _ (w : World) where
     filled_named at (Do k) h = step_named at k h
     filled_named at (Try k hang b) h = (step_named at k h.0, block_named at b h.1)
     filled_named at (If hang e a b) h = (h.0, block_named at a h.1, block_named at b h.2)
+    filled_named at (TryThen k hang a b) h = (step_named at k h.0, block_named at a h.1, block_named at b h.2)
+    filled_named at (Case hang e arms) h = (h.0, arms_named at arms h.1)
+
+    arms_named : (at : Spot) (arms : Arms) → NamedArms w arms → NamedArms w (filled_arms w at arms)
+    arms_named at (Last b) h = block_named at b h
+    arms_named at (Arm constants b arms) h = (block_named at b h.0, arms_named at arms h.1)
 
     pub block_named : (at : Spot) (b : Block) → NamedBlock w b → NamedBlock w (filled_block w at b)
     block_named at End h = h
@@ -38,6 +44,12 @@ module _ (w : World) where
     filled_sized at (Do k) h = step_sized at k h
     filled_sized at (Try k hang b) h = (step_sized at k h.0, block_sized at b h.1)
     filled_sized at (If hang e a b) h = (h.0, h.1, block_sized at a h.2, block_sized at b h.3)
+    filled_sized at (TryThen k hang a b) h = (step_sized at k h.0, block_sized at a h.1, block_sized at b h.2)
+    filled_sized at (Case hang e arms) h = (h.0, arms_sized at _ arms h.1)
+
+    arms_sized : (at : Spot) (u : ℕ) (arms : Arms) → SizedArms w u arms → SizedArms w u (filled_arms w at arms)
+    arms_sized at u (Last b) h = block_sized at b h
+    arms_sized at u (Arm constants b arms) h = (h.0, block_sized at b h.1, arms_sized at u arms h.2)
 
     pub block_sized : (at : Spot) (b : Block) → SizedBlock w b → SizedBlock w (filled_block w at b)
     block_sized at End h = h

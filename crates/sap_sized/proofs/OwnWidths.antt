@@ -1,6 +1,7 @@
 -- Own widths are from 1 to 64, where concatenations have parts.
 use Rattle.std.proofs.Common.{◌≡◌, ℕ, ◌+◌, ◌-◌, ◌<◌, ◌≤◌, Bool, true, false, Option, Some, None, subst, arith, if◌then◌else◌}
 use Rattle.sap_tree.specs.Syntax.{Expression, Number, Sized, Read, Cell, Unary, Binary, Choose, Slice, Concat, Zext, NoPart, AndPart}
+use Rattle.sap_tree.specs.declared.version.Version.{Version}
 use Rattle.sap_tree.specs.Whole.{is_number, has_two_parts, is_expression, are_expressions}
 use Rattle.sap_names.specs.declared.kind.Declared.{Declared}
 use Rattle.sap_names.specs.declared.kind.Declared.TheVariants.{Input, Register, Memory, State}
@@ -109,29 +110,29 @@ extended_ranges o width r u h =
     let top : width ≤ 64 = s.4 in
     (omega arith, omega arith)
 
-pub own_ranges : (what : Lookup) (e : Expression) → is_expression e ≡ true → Ranges (own what e)
+pub own_ranges : (version : Version) (what : Lookup) (e : Expression) → is_expression version e ≡ true → Ranges (own what e)
 unfolding is_expression are_expressions
-own_ranges what (Number spot value) i = range_none
-own_ranges what (Sized spot v value) i = sound_ranges v
-own_ranges what (Read spot name) i = plain_ranges (what name)
-own_ranges what (Cell spot name index) i = cell_ranges (what name)
-own_ranges what (Unary spot o e) i = one_ranges (is_reduction o) (own what e) (own_ranges what e i)
-own_ranges what (Binary spot o a b) i =
-    let n = both_true (is_expression a) (is_expression b) i in
-    binary_ranges (family o) (own what a) (own what b) (own_ranges what a n.0) (own_ranges what b n.1)
-own_ranges what (Choose spot c a b) i =
-    let n = three_true (is_expression c) (is_expression a) (is_expression b) i in
-    else_ranges (own what a) (own what b) (own_ranges what a n.1) (own_ranges what b n.2)
-own_ranges what (Slice spot e high low) i =
-    slice_ranges (own what e) high low (own_ranges what e (three_true (is_expression e) (is_number high) (is_number low) i).0)
-own_ranges what (Concat spot NoPart) i = cc
-own_ranges what (Concat spot (AndPart e parts)) i =
-    let n = both_true (has_two_parts (AndPart e parts)) (are_expressions (AndPart e parts)) i in
-    let m = both_true (is_expression e) (are_expressions parts) n.1 in
+own_ranges version what (Number spot value) i = range_none
+own_ranges version what (Sized spot v value) i = sound_ranges v
+own_ranges version what (Read spot name) i = plain_ranges (what name)
+own_ranges version what (Cell spot name index) i = cell_ranges (what name)
+own_ranges version what (Unary spot o e) i = one_ranges (is_reduction o) (own what e) (own_ranges version what e i)
+own_ranges version what (Binary spot o a b) i =
+    let n = both_true (is_expression version a) (is_expression version b) i in
+    binary_ranges (family o) (own what a) (own what b) (own_ranges version what a n.0) (own_ranges version what b n.1)
+own_ranges version what (Choose spot c a b) i =
+    let n = three_true (is_expression version c) (is_expression version a) (is_expression version b) i in
+    else_ranges (own what a) (own what b) (own_ranges version what a n.1) (own_ranges version what b n.2)
+own_ranges version what (Slice spot e high low) i =
+    slice_ranges (own what e) high low (own_ranges version what e (three_true (is_expression version e) (is_number high) (is_number low) i).0)
+own_ranges version what (Concat spot NoPart) i = cc
+own_ranges version what (Concat spot (AndPart e parts)) i =
+    let n = both_true (has_two_parts (AndPart e parts)) (are_expressions version (AndPart e parts)) i in
+    let m = both_true (is_expression version e) (are_expressions version parts) n.1 in
     λ u h. (let j = joined_is (own what e) (own_parts what parts) u h in
-    let k = own_ranges what e m.0 j.0 j.2 in
+    let k = own_ranges version what e m.0 j.0 j.2 in
     let bottom : 1 ≤ j.0 = k.0 in
     let sum : j.0 + j.1 ≡ u = j.4 in
     (omega arith, j.5))
-own_ranges what (Zext spot e width) i =
-    extended_ranges (own what e) width (own_ranges what e (both_true (is_expression e) (is_number width) i).0)
+own_ranges version what (Zext spot e width) i =
+    extended_ranges (own what e) width (own_ranges version what e (both_true (is_expression version e) (is_number width) i).0)

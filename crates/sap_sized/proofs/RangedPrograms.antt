@@ -10,14 +10,14 @@ use Rattle.sap_names.specs.Entities as names
 use Rattle.sap_names.specs.declared.entity.Entity as declared_entity
 use Rattle.sap_names.specs.Entities.{what_is, entities_of}
 use Rattle.sap_names.specs.Widths.{sound_width, index_bits, is_sound}
-use Rattle.sap_meaning.specs.Program.{World, Entity, nothing, root, kind_is_state, kind_is_memory, depth_of, Step, Set, Write, Retag, RetagCell, Goto, Fall, Command, Do, Try, If, Block, End, Then, Node, Group, None, More}
+use Rattle.sap_meaning.specs.Program.{World, Entity, nothing, root, kind_is_state, kind_is_memory, depth_of, Step, Set, Write, Retag, RetagCell, Goto, Fall, Command, Do, Try, If, TryThen, Case, Arms, Last, Arm, Block, End, Then, Node, Group, None, More}
 use Rattle.sap_meaning.specs.Program as program
 use Rattle.sap_meaning.specs.Checks.{Spot}
 use Rattle.sap_resolve.specs.Worlds.{world_of}
 use Rattle.sap_resolve.specs.Resolve.{states_of}
-use Rattle.sap_resolve.specs.Fill.{filled_step, filled, filled_block, filled_state, filled_group}
+use Rattle.sap_resolve.specs.Fill.{filled_step, filled, filled_arms, filled_block, filled_state, filled_group}
 use Rattle.sap_resolve.proofs.Lookup.{Stands, AllMatch, entities_match}
-use Rattle.sap_sized.specs.Ranges.{IsWidth, IsDepth, RangedStep, Ranged, RangedBlock, RangedState, RangedGroup}
+use Rattle.sap_sized.specs.Ranges.{IsWidth, IsDepth, RangedStep, Ranged, RangedArms, RangedBlock, RangedState, RangedGroup}
 use Rattle.sap_sized.specs.Sound.{WidthsInRange}
 use Rattle.sap_sized.proofs.Faultless.{three_true, sound_some, sound_same, sound_is, index_power}
 use Rattle.sap_sized.proofs.Declared.{Sound, AllSound, entities_sound, resolved}
@@ -38,6 +38,12 @@ module _ (w : World) where
     filled_ranged at (Do k) h = filled_step_ranged at k h
     filled_ranged at (Try k hang b) h = (filled_step_ranged at k h.0, filled_block_ranged at b h.1)
     filled_ranged at (If hang e a b) h = (h.0, filled_block_ranged at a h.1, filled_block_ranged at b h.2)
+    filled_ranged at (TryThen k hang a b) h = (filled_step_ranged at k h.0, filled_block_ranged at a h.1, filled_block_ranged at b h.2)
+    filled_ranged at (Case hang e arms) h = (h.0, filled_arms_ranged at arms h.1)
+
+    filled_arms_ranged : (at : Spot) (arms : Arms) → RangedArms w arms → RangedArms w (filled_arms w at arms)
+    filled_arms_ranged at (Last b) h = filled_block_ranged at b h
+    filled_arms_ranged at (Arm constants b arms) h = (filled_block_ranged at b h.0, filled_arms_ranged at arms h.1)
 
     filled_block_ranged : (at : Spot) (b : Block) → RangedBlock w b → RangedBlock w (filled_block w at b)
     filled_block_ranged at End h = h
@@ -90,8 +96,8 @@ entities_ranged [] (g ∷ gs) a s x = absurd a
 entities_ranged (e ∷ es) (g ∷ gs) a s zero = entity_ranged e.what g a.0.what s.0
 entities_ranged (e ∷ es) (g ∷ gs) a s (suc x) = entities_ranged es gs a.1 s.1 x
 
-states_of_tree : (d : DesignTree) → is_tree d ≡ true → are_states d.states ≡ true
-states_of_tree d h = (three_true (list_all is_declaration d.declarations) (has_state d.states) (are_states d.states) h).2
+states_of_tree : (d : DesignTree) → is_tree d ≡ true → are_states d.version d.states ≡ true
+states_of_tree d h = (three_true (list_all (is_declaration d.version) d.declarations) (has_state d.states) (are_states d.version d.states) h).2
 
 pub widths_in_range_law : WidthsInRange
 widths_in_range_law ls d tree h =
@@ -100,7 +106,7 @@ widths_in_range_law ls d tree h =
     let e = entities_ranged (entities_of d) w.entities (entities_match ls d) (entities_sound ls.names (order_of ls).le d n.0) in
     record {
       states = filled_group_ranged w (root w) (states_of ls d)
-          (group_ranged ls (order_of ls).le (entities_of d) w (resolved ls (order_of ls).le d n.0) 1 (length d.declarations) d.states (states_of_tree d tree) n.1);
+          (group_ranged d.version ls (order_of ls).le (entities_of d) w (resolved ls (order_of ls).le d n.0) 1 (length d.declarations) d.states (states_of_tree d tree) n.1);
       widths = λ x i. (e x).wide i;
       depths = λ m i. (e m).deep i;
     }

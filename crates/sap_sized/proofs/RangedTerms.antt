@@ -3,6 +3,7 @@ use Rattle.std.proofs.Common.{◌≡◌, ◌≢◌, ℕ, ◌+◌, ◌<◌, ◌�
 use Rattle.std.specs.Prelude.{eqb}
 use Rattle.std.proofs.lemmas.Bool.{cases_Bool, eq-eqb}
 use Rattle.sap_tree.specs.Syntax.{Expression, Number, Sized, Read, Cell, Unary, Binary, Choose, Slice, Concat, Zext, Expressions, NoPart, AndPart}
+use Rattle.sap_tree.specs.declared.version.Version.{Version}
 use Rattle.sap_tree.specs.Whole.{is_number, has_two_parts, is_expression, are_expressions}
 use Rattle.sap_tree.specs.Words.{is_name}
 use Rattle.sap_names.specs.declared.kind.Declared.{Declared}
@@ -45,7 +46,7 @@ part_of_two : (ps : Expressions) → has_two_parts ps ≡ true → has_part ps �
 part_of_two NoPart h = cc
 part_of_two (AndPart e ps) h = refl
 
-module _ (es : List Entity) (w : World) (r : Resolved es w) where
+module _ (version : Version) (es : List Entity) (w : World) (r : Resolved es w) where
   abbrev what : List ℕ → Option Declared
   what = what_is es
 
@@ -53,17 +54,17 @@ module _ (es : List Entity) (w : World) (r : Resolved es w) where
   whole_of e asked = widths.width_of what e asked
 
   -- the width of an expression
-  pub width_range : (e : Expression) (asked : Option ℕ) → is_expression e ≡ true → Ranges asked → expression_faults what e asked ≡ []
+  pub width_range : (e : Expression) (asked : Option ℕ) → is_expression version e ≡ true → Ranges asked → expression_faults what e asked ≡ []
       → IsWidth (width_of w (term_of es e asked))
-  width_range e asked i a h = fitted_range w (term_of es e asked) (own what e) asked (own_ranges what e i) a (expression_fitted es w r e asked h)
+  width_range e asked i a h = fitted_range w (term_of es e asked) (own what e) asked (own_ranges version what e i) a (expression_fitted es w r e asked h)
 
-  whole_ranges : (e : Expression) (asked : Option ℕ) → is_expression e ≡ true → Ranges asked → Ranges (whole_of e asked)
-  whole_ranges e asked i a = else_ranges (own what e) asked (own_ranges what e i) a
+  whole_ranges : (e : Expression) (asked : Option ℕ) → is_expression version e ≡ true → Ranges asked → Ranges (whole_of e asked)
+  whole_ranges e asked i a = else_ranges (own what e) asked (own_ranges version what e i) a
 
   mutual
     unfolding is_expression are_expressions
 
-    pub term_ranged : (e : Expression) (asked : Option ℕ) → is_expression e ≡ true → Ranges asked → expression_faults what e asked ≡ []
+    pub term_ranged : (e : Expression) (asked : Option ℕ) → is_expression version e ≡ true → Ranges asked → expression_faults what e asked ≡ []
         → RangedTerm w (term_of es e asked)
     term_ranged (Number spot value) asked i a h = width_range (Number spot value) asked i a h
     term_ranged (Sized spot u value) asked i a h = width_range (Sized spot u value) asked i a h
@@ -72,7 +73,7 @@ module _ (es : List Entity) (w : World) (r : Resolved es w) where
         let n = none_three (fault_if (unsettled (cell_width (what name)) asked) E7 spot.first) (use_faults indexed (what name) spot.at)
         (expression_faults what index (index_width (what name))) h in (
           width_range (Cell spot name index) asked i a h,
-          term_ranged index (index_width (what name)) (both_true (is_name name) (is_expression index) i).1 (index_ranges (what name)) n.2,
+          term_ranged index (index_width (what name)) (both_true (is_name version name) (is_expression version index) i).1 (index_ranges (what name)) n.2,
         )
     term_ranged (Unary spot o e) asked i a h =
         let whole = whole_of (Unary spot o e) asked in
@@ -84,10 +85,10 @@ module _ (es : List Entity) (w : World) (r : Resolved es w) where
         let right = asked_right (family o) whole (own what x) (own what y) in
         let n = none_three (fault_if (unsettled (own what (Binary spot o x y)) asked) E7 spot.first) (expression_faults what x left)
         (expression_faults what y right) h in
-        let j = both_true (is_expression x) (is_expression y) i in
+        let j = both_true (is_expression version x) (is_expression version y) i in
         let q = whole_ranges (Binary spot o x y) asked i a in
-        let s = own_ranges what x j.0 in
-        let t = own_ranges what y j.1 in (
+        let s = own_ranges version what x j.0 in
+        let t = own_ranges version what y j.1 in (
           term_ranged x left j.0 (left_ranges (family o) whole (own what x) (own what y) q s t) n.1,
           term_ranged y right j.1 (right_ranges (family o) whole (own what x) (own what y) q s t) n.2,
         )
@@ -95,7 +96,7 @@ module _ (es : List Entity) (w : World) (r : Resolved es w) where
         let whole = whole_of (Choose spot c x y) asked in
         let n = none_four (fault_if (unsettled (own what (Choose spot c x y)) asked) E7 spot.first) (expression_faults what c (Some 1))
         (expression_faults what x whole) (expression_faults what y whole) h in
-        let j = three_true (is_expression c) (is_expression x) (is_expression y) i in
+        let j = three_true (is_expression version c) (is_expression version x) (is_expression version y) i in
         let q = whole_ranges (Choose spot c x y) asked i a in
         (term_ranged c (Some 1) j.0 range_one n.1, term_ranged x whole j.1 q n.2, term_ranged y whole j.2 q n.3)
     term_ranged (Slice spot e high low) asked i a h =
@@ -109,14 +110,14 @@ module _ (es : List Entity) (w : World) (r : Resolved es w) where
         let s = slice_is (own what e) high low u.0 u.1 in
         let v : width_of w (term_of es e None) ≡ s.whole = own_width w (term_of es e None) (own what e) None s.whole s.is f in
         let l : high < s.whole = s.within in
-        (s.order, omega arith, term_ranged e None (three_true (is_expression e) (is_number high) (is_number low) i).0 range_none n.2)
+        (s.order, omega arith, term_ranged e None (three_true (is_expression version e) (is_number high) (is_number low) i).0 range_none n.2)
     term_ranged (Concat spot parts) asked i a h =
         let mine = own_parts what parts in
         let n = none_three (fault_if (unsettled mine asked) E7 spot.first) (fault_if (not (is_sound mine) && all_sound what parts) E7 spot.first)
         (parts_faults what parts) h in
         let f = parts_fitted es w r parts n.2 in
         let u = sound_whole mine (all_sound what parts) (no_fault (not (is_sound mine) && all_sound what parts) E7 spot.first n.1) f.sound in
-        let j = both_true (has_two_parts parts) (are_expressions parts) i in
+        let j = both_true (has_two_parts parts) (are_expressions version parts) i in
         parts_ranged parts (part_of_two parts j.0) j.1 u.0 u.1 n.2
     term_ranged (Zext spot e u) asked i a h =
         let mine = extended (own what e) u in
@@ -127,22 +128,22 @@ module _ (es : List Entity) (w : World) (r : Resolved es w) where
         let s = sound_whole mine (is_sound (own what e)) (no_fault (not (is_sound mine) && is_sound (own what e)) E7 spot.first n.1)
         (some_sound (own what e) k.0 k.1) in
         let x = extended_is (own what e) u s.0 s.1 in
-        let j = (both_true (is_expression e) (is_number u) i).0 in
+        let j = (both_true (is_expression version e) (is_number u) i).0 in
         let m : known (own what e) ≡ x.0 = ap known x.1 in
         let l : width_of w (term_of es e None) ≡ x.0 = own_width w (term_of es e None) (own what e) None x.0 x.1 f in
-        let b = own_ranges what e j x.0 x.1 in
+        let b = own_ranges version what e j x.0 x.1 in
         let bottom : 1 ≤ x.0 = b.0 in
         let low : x.0 ≤ u = x.2 in
         widened_ranged w (term_of es e None) (known (own what e)) u (l ∙ sym m) (omega arith) (omega arith) x.4 (term_ranged e None j range_none n.2)
 
-    parts_ranged : (ps : Expressions) → has_part ps ≡ true → are_expressions ps ≡ true → (u : ℕ) → own_parts what ps ≡ Some u → parts_faults what ps ≡ []
+    parts_ranged : (ps : Expressions) → has_part ps ≡ true → are_expressions version ps ≡ true → (u : ℕ) → own_parts what ps ≡ Some u → parts_faults what ps ≡ []
         → RangedTerm w (parts_of es ps)
     parts_ranged NoPart some i u o h = cc
     parts_ranged (AndPart e NoPart) some i u o h =
-        term_ranged e None (both_true (is_expression e) true i).0 range_none (none_two (expression_faults what e None) [] h).0
+        term_ranged e None (both_true (is_expression version e) true i).0 range_none (none_two (expression_faults what e None) [] h).0
     parts_ranged (AndPart e (AndPart g ps)) some i u o h =
         let rest = AndPart g ps in
-        let m = both_true (is_expression e) (are_expressions rest) i in
+        let m = both_true (is_expression version e) (are_expressions version rest) i in
         let n = none_two (expression_faults what e None) (parts_faults what rest) h in
         let f = expression_fitted es w r e None n.0 in
         let q = parts_fitted es w r rest n.1 in
@@ -151,6 +152,6 @@ module _ (es : List Entity) (w : World) (r : Resolved es w) where
         let y : width_of w (parts_of es rest) ≡ p.1 = q.wide p.1 p.3 in
         let z : p.0 + p.1 ≡ u = p.4 in
         let top : u ≤ 64 = p.5 in
-        let b = own_ranges what e m.0 p.0 p.2 in
+        let b = own_ranges version what e m.0 p.0 p.2 in
         let bottom : 1 ≤ p.0 = b.0 in
         ((omega arith, omega arith), term_ranged e None m.0 range_none n.0, parts_ranged (AndPart g ps) refl m.1 p.1 p.3 n.1)

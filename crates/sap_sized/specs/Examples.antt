@@ -10,6 +10,7 @@ use Rattle.sap_tree.specs.declared.syntax.UnaryOperator.TheVariants.{Not}
 use Rattle.sap_tree.specs.declared.syntax.BinaryOperator.TheVariants.{Eq, Shl}
 use Rattle.sap_tree.specs.Syntax.{Expression, Number, Sized, Read, Cell, Unary, Binary, Choose, Slice, Concat, Zext, NoPart, AndPart, Level, TagOf, Join, NoTag, AndTag, SimpleCommand, Assign, Write, SetTag, Goto, Do, CommandList, Commands, NoCommand, AndCommand, StateOf, NoState, AndState, DesignTree}
 use Rattle.sap_tree.specs.Whole.{is_tree}
+use Rattle.sap_tree.specs.declared.version.Version.TheVariants.{One}
 use Rattle.sap_lattice.specs.Order.{Laws}
 use Rattle.sap_lattice.specs.Levels.{Levels, order_of}
 use Rattle.sap_names.specs.NameFaults.{design_name_faults}
@@ -54,6 +55,7 @@ body = AndCommand (Do write) (AndCommand (Do assign) (AndCommand (Do retag) (And
 -- input a : 8; mem m : 8[4] enforced high; reg x : 12 enforced high = 5; state S dynamic { .. goto S; }
 abbrev pub mixer : DesignTree
 mixer = record {
+  version = One;
   declarations = Input (at 1) (named (codes "a")) (numeral 8)
       ∷ Memory (at 1) (named (codes "m")) (numeral 8) (numeral 4) (Enforced (named (codes "high")) None)
       ∷ Register (at 1) (named (codes "x")) (numeral 12) (Enforced (named (codes "high")) None) (Some (numeral 5)) ∷ [];

@@ -1,7 +1,7 @@
 -- Programs in which every width is from 1 to 64, each slice is within what it is taken from, and each memory has a depth that memories can have.
 use Rattle.std.specs.Prelude.{◌≡◌, ℕ, ◌+◌, ◌^◌, ◌<◌, ◌≤◌, true, false}
 use Rattle.sap_maps.specs.Term.{Term, constant, read, cell, one, two, choose, join, part}
-use Rattle.sap_meaning.specs.Program.{World, Program, width, is_memory, is_state, LevelTerm, fixed, of, at_place, both, Step, Set, Write, Retag, RetagCell, Goto, Fall, Command, Do, Try, If, Block, End, Then, State, Node, Group, None, More}
+use Rattle.sap_meaning.specs.Program.{World, Program, width, is_memory, is_state, LevelTerm, fixed, of, at_place, both, Step, Set, Write, Retag, RetagCell, Goto, Fall, Command, Do, Try, If, TryThen, Case, Arms, Last, Arm, Block, End, Then, State, Node, Group, None, More}
 use Rattle.sap_meaning.specs.Expressions.{width_of}
 use Rattle.sap_meaning.specs.Sized.{depth}
 
@@ -42,6 +42,12 @@ abbrev mutual
   Ranged w (Do k) = RangedStep w k
   Ranged w (Try k hang h) = RangedStep w k × RangedBlock w h
   Ranged w (If hang e a b) = RangedTerm w e × RangedBlock w a × RangedBlock w b
+  Ranged w (TryThen k hang a b) = RangedStep w k × RangedBlock w a × RangedBlock w b
+  Ranged w (Case hang e arms) = RangedTerm w e × RangedArms w arms
+
+  pub RangedArms : World → Arms → Type 0
+  RangedArms w (Last b) = RangedBlock w b
+  RangedArms w (Arm constants b arms) = RangedBlock w b × RangedArms w arms
 
   pub RangedBlock : World → Block → Type 0
   RangedBlock w End = Unit {0}

@@ -10,6 +10,7 @@ use Rattle.sap_size.specs.Nested.{nested_weight}
 use Rattle.sap_size.specs.Programs.{group_size, states_below}
 use Rattle.sap_interface.specs.StandsFor.{Named, world}
 use Rattle.sap_tagged.specs.Setting.{setting_of}
+use Rattle.sap_tagged.specs.Few.{FewGroup}
 use Rattle.sap_tagged.specs.Plain.{value_var, tag_var, seat_var, level_at_start, for_entities, has_own_tag, shown_registers, tag_registers, seat_registers, registers_of, site_wires, memory_of, tags_of, memories_of, names_of, plain_of}
 use Rattle.sap_small.proofs.Tags.{Roomy}
 use Rattle.sap_small.proofs.States.{program_weighs}
@@ -67,12 +68,12 @@ module _ (d : Named) (tag sites : ℕ) where
       omega (arith, a, b, l, m, n)
 
   -- The plain program of a design over a lattice, whose states are among its entities.
-  pub plain_weighs : 2 ≤ (world d).order.count → states_below d.program.states ≤ root (world d)
+  pub plain_weighs : 2 ≤ (world d).order.count → states_below d.program.states ≤ root (world d) → FewGroup d.program.states
       → nested_weight (plain_of d tag sites) ≤ (8 * (root (world d) + (world d).order.count) + 6) * group_size d.program.states + (8 * root (world d) + 1 + 2 * sites)
-  plain_weighs levels few =
+  plain_weighs levels few arms =
       let room = 8 * (root (world d) + (world d).order.count) + 6 in
       let r : Roomy (setting_of d tag) room = record { wide = omega arith; levels = levels } in
-      let p = program_weighs (setting_of d tag) room r (listed d.program.hang) d.program.states few in
+      let p = program_weighs (setting_of d tag) room r (listed d.program.hang) d.program.states few arms in
       let a = registers_short in
       let b = memories_short in
       let c = ports_short in

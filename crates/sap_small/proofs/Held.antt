@@ -1,10 +1,10 @@
 -- Operations of expressions that are put together.
-use Rattle.std.proofs.Common.{◌≡◌, ◌||◌, ◌+◌, ◌≤◌, List, [], ◌∷◌, ◌++◌, true, sym, ◌∙◌, subst, refl, arith, inl, inr, length-append}
+use Rattle.std.proofs.Common.{◌≡◌, ℕ, ◌||◌, ◌+◌, ◌≤◌, List, [], ◌∷◌, ◌++◌, true, sym, ◌∙◌, subst, refl, arith, inl, inr, length-append}
 use Rattle.std.proofs.lemmas.Bool.{cases_Bool}
 use Rattle.sap_bits.specs.declared.Op2.{Op2}
 use Rattle.sap_bits.specs.declared.Op2.TheVariants.{Or}
 use Rattle.sap_maps.specs.Maps.{Name}
-use Rattle.sap_maps.specs.Term.{Term, cell, two, choose, join}
+use Rattle.sap_maps.specs.Term.{Term, cell, two, choose, join, part}
 use Rattle.sap_size.specs.Terms.{same_term, operations_in, operations}
 use Rattle.sap_size.proofs.Terms.{term_is, term_self, has, has_both, has_front, has_behind, all_operations, all_has, operations_within}
 use Rattle.sap_tagged.specs.Levels.{lub, below_or_at}
@@ -70,6 +70,13 @@ cell_weighs m i =
     let t = cell m i in
     let xs = all_operations i in
     let l = operations_within t (t ∷ xs) (held_more (t ∷ xs) t (operations_in i) (here t xs) (within_behind (t ∷ []) xs i (covered i))) in
+    omega (arith, l)
+
+pub part_weighs : (a : Term Name) (hi lo : ℕ) → operations (part a hi lo) ≤ 1 + operations a
+part_weighs a hi lo =
+    let t = part a hi lo in
+    let xs = all_operations a in
+    let l = operations_within t (t ∷ xs) (held_more (t ∷ xs) t (operations_in a) (here t xs) (within_behind (t ∷ []) xs a (covered a))) in
     omega (arith, l)
 
 pub two_weighs : (o : Op2) (a b : Term Name) → operations (two o a b) ≤ 1 + operations a + operations b

@@ -13,18 +13,18 @@ use Rattle.sap_names.specs.Widths.{own, width_of, family, asked_left, asked_righ
 use Rattle.sap_maps.specs.Term.{Term}
 use Rattle.sap_lattice.specs.Levels.{Levels}
 use Rattle.sap_shape.specs.Sites.{is_site}
-use Rattle.sap_meaning.specs.Program.{World, Step, Set, Retag, RetagCell, Goto, Fall, Command, Do, Try, If, Block, End, Then, State, Node, Group, More}
+use Rattle.sap_meaning.specs.Program.{World, Step, Set, Retag, RetagCell, Goto, Fall, Command, Do, Try, If, TryThen, Case, Arms, Last, Arm, Block, End, Then, State, Node, Group, More}
 use Rattle.sap_meaning.specs.Program as program
 use Rattle.sap_meaning.specs.Checks.{Spot}
 use Rattle.sap_resolve.specs.Worlds.{states_in, all_declared, state_entities, group_entities}
 use Rattle.sap_resolve.specs.Worlds as worlds
-use Rattle.sap_resolve.specs.Sites.{Home, simple_sites, command_sites, block_sites, else_sites, list_sites, state_sites, group_sites}
+use Rattle.sap_resolve.specs.Sites.{Home, simple_sites, command_sites, arms_sites, block_sites, else_sites, list_sites, state_sites, group_sites}
 use Rattle.sap_resolve.specs.Terms.{known, widened, term_of, parts_of, level_term, level_terms}
-use Rattle.sap_resolve.specs.Resolve.{site_number, step_of, command_of, block_of, else_of, list_of, state_of, group_of}
-use Rattle.sap_resolve.specs.Fill.{filled_step, filled, filled_block, filled_state, filled_group}
+use Rattle.sap_resolve.specs.Resolve.{site_number, step_of, numbers_of, command_of, arms_of, block_of, else_of, list_of, state_of, group_of}
+use Rattle.sap_resolve.specs.Fill.{filled_step, filled, filled_arms, filled_block, filled_state, filled_group}
 use Rattle.sap_size.specs.Terms.{term_size}
-use Rattle.sap_size.specs.Programs.{level_size, step_size, command_size, block_size, state_size, group_size, states_of, states_below}
-use Rattle.sap_size.specs.Trees.{expression_nodes, part_nodes, tag_nodes, tag_part_nodes, operand_nodes, command_nodes, block_nodes, else_nodes, list_nodes, state_nodes, states_nodes}
+use Rattle.sap_size.specs.Programs.{level_size, step_size, command_size, arms_size, block_size, state_size, group_size, states_of, states_below}
+use Rattle.sap_size.specs.Trees.{expression_nodes, part_nodes, tag_nodes, tag_part_nodes, operand_nodes, command_nodes, arms_nodes, block_nodes, else_nodes, list_nodes, state_nodes, states_nodes}
 
 -- expressions
 
@@ -96,6 +96,25 @@ step_within ls h n (SetCellTag place target index tag) =
 step_within ls h n (tree.Goto place target) = omega arith
 step_within ls h n (tree.Fall place) = omega arith
 
+some_node : (e : Expression) → 1 ≤ expression_nodes e
+some_node (Number spot n) = omega arith
+some_node (Sized spot w n) = omega arith
+some_node (Read spot name) = omega arith
+some_node (Cell spot name index) = omega arith
+some_node (Unary spot o e) = omega arith
+some_node (Binary spot o a b) = omega arith
+some_node (Choose spot c a b) = omega arith
+some_node (Slice spot e high low) = omega arith
+some_node (Concat spot parts) = omega arith
+some_node (Zext spot e width) = omega arith
+
+constants_within : (constants : Expressions) → length (numbers_of constants) ≤ part_nodes constants
+constants_within NoPart = omega arith
+constants_within (AndPart e constants) =
+    let q = some_node e in
+    let r = constants_within constants in
+    omega (arith, q, r)
+
 mutual
   command_within : (ls : Levels) (h : Home) (k : ℕ) (c : tree.Command) → command_size (command_of ls h k c) ≤ command_nodes c
   command_within ls h k (tree.Do c) = let r = step_within ls h (site_number h k c) c in omega (arith, r)
@@ -107,6 +126,23 @@ mutual
       let q = term_within h.entities e (Some 1) in
       let r = block_within ls h k one in
       let s = else_within ls h (k + block_sites h one) other in
+      omega (arith, q, r, s)
+  command_within ls h k (tree.TryThen c place one other) =
+      let q = step_within ls h (site_number h k c) c in
+      let r = block_within ls h (k + simple_sites h c) one in
+      let s = block_within ls h (k + simple_sites h c + block_sites h one) other in
+      omega (arith, q, r, s)
+  command_within ls h k (tree.Case place e arms) =
+      let q = term_within h.entities e None in
+      let r = arms_within ls h k arms in
+      omega (arith, q, r)
+
+  arms_within : (ls : Levels) (h : Home) (k : ℕ) (arms : tree.Arms) → arms_size (arms_of ls h k arms) ≤ arms_nodes arms
+  arms_within ls h k (tree.Last b) = block_within ls h k b
+  arms_within ls h k (tree.Arm constants b arms) =
+      let q = constants_within constants in
+      let r = block_within ls h k b in
+      let s = arms_within ls h (k + block_sites h b) arms in
       omega (arith, q, r, s)
 
   block_within : (ls : Levels) (h : Home) (k : ℕ) (b : CommandBlock) → block_size (block_of ls h k b) ≤ block_nodes b
@@ -196,6 +232,13 @@ mutual
       let r = site_within h c in let s = block_sited h handler in omega (arith, r, s)
   command_sited h (tree.If place e one other) =
       let r = block_sited h one in let s = else_sited h other in omega (arith, r, s)
+  command_sited h (tree.TryThen c place one other) =
+      let q = site_within h c in let r = block_sited h one in let s = block_sited h other in omega (arith, q, r, s)
+  command_sited h (tree.Case place e arms) = let r = arms_sited h arms in omega (arith, r)
+
+  arms_sited : (h : Home) (arms : tree.Arms) → arms_sites h arms ≤ arms_nodes arms
+  arms_sited h (tree.Last b) = block_sited h b
+  arms_sited h (tree.Arm constants b arms) = let r = block_sited h b in let s = arms_sited h arms in omega (arith, r, s)
 
   block_sited : (h : Home) (b : CommandBlock) → block_sites h b ≤ block_nodes b
   block_sited h (Commands cs after) = list_sited h cs
@@ -233,6 +276,13 @@ mutual
   command_filled w at (Do s) = ap (λ (n : ℕ). 1 + n) (step_filled w at s)
   command_filled w at (Try s hang h) = let r = step_filled w at s in let q = block_filled w at h in omega (arith, r, q)
   command_filled w at (If hang e a b) = let r = block_filled w at a in let q = block_filled w at b in omega (arith, r, q)
+  command_filled w at (TryThen s hang a b) =
+      let o = step_filled w at s in let r = block_filled w at a in let q = block_filled w at b in omega (arith, o, r, q)
+  command_filled w at (Case hang e arms) = let r = arms_filled w at arms in omega (arith, r)
+
+  arms_filled : (w : World) (at : Spot) (arms : Arms) → arms_size (filled_arms w at arms) ≡ arms_size arms
+  arms_filled w at (Last b) = block_filled w at b
+  arms_filled w at (Arm constants b arms) = let r = block_filled w at b in let q = arms_filled w at arms in omega (arith, r, q)
 
   block_filled : (w : World) (at : Spot) (b : Block) → block_size (filled_block w at b) ≡ block_size b
   block_filled w at End = refl

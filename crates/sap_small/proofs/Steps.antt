@@ -1,5 +1,5 @@
 -- How large the commands of steps are.
-use Rattle.std.proofs.Common.{ℕ, zero, suc, ◌+◌, ◌*◌, ◌≤◌, Bool, true, false, arith, inl, inr, length-append}
+use Rattle.std.proofs.Common.{◌≡◌, ℕ, zero, suc, ◌+◌, ◌*◌, ◌≤◌, Bool, true, false, arith, inl, inr, length-append}
 use Rattle.std.specs.Prelude.{if◌then◌else◌}
 use Rattle.std.specs.Str.{bytes_eq}
 use Rattle.std.proofs.lemmas.Bool.{cases_Bool}
@@ -9,14 +9,15 @@ use Rattle.sap_maps.specs.Maps.{Name}
 use Rattle.sap_maps.specs.Term.{Term, constant, cell, choose}
 use Rattle.sap_meaning.specs.Program.{root, is_dynamic, is_register, authority, width, Step, Set, Write, Retag, RetagCell, Goto, Fall}
 use Rattle.sap_meaning.specs.Checks.{Spot, entry}
-use Rattle.sap_plain.specs.Nested.{Body, stop, cases, goto, Forest, none, state, state_names, children_of}
+use Rattle.sap_plain.specs.Nested.{Body, stop, act, cases, goto, fall, Forest, none, state, state_names, children_of}
+use Rattle.sap_plain.specs.Views.{follow}
 use Rattle.sap_size.specs.Terms.{operations, term_size}
 use Rattle.sap_size.specs.Nested.{states_in, body_weight}
 use Rattle.sap_size.specs.Programs.{step_size, states_below}
 use Rattle.sap_tagged.specs.Keys.{Key, Value, Tag, Seat, Wire}
 use Rattle.sap_tagged.specs.Setting.{Setting}
 use Rattle.sap_tagged.specs.Levels.{var, bits, lub, below_or_at, yes, expr, tag_of, new_tag, told_tag, enters, seat_bits, guard_of, test_of, written, stays, always}
-use Rattle.sap_tagged.specs.Commands.{gives, sweep, raises, resets, effect_of, refusal, outcome, attempt_of}
+use Rattle.sap_tagged.specs.Commands.{gives, sweep, raises, resets, effect_of, refusal, outcome, attempt_of, outcome_then, attempt_then_of}
 use Rattle.sap_small.proofs.Held.{cell_weighs, two_weighs, choose_weighs, lub_weighs, below_weighs}
 use Rattle.sap_small.proofs.Tags.{Roomy, either_weighs, expr_weighs, tag_weighs, level_weighs, child_tag_weighs, enters_weighs, child_enters_weighs}
 
@@ -45,6 +46,13 @@ raises_weigh group d hangs j rest =
 either_body : (group : Forest) (c : Bool) (a b : Body) (n : ℕ) → body_weight group a ≤ n → body_weight group b ≤ n → body_weight group (if c then a else b) ≤ n
 either_body group true a b n h k = h
 either_body group false a b n h k = k
+
+pub follow_weighs : (group : Forest) (a b : Body) → body_weight group (follow a b) ≡ body_weight group a + body_weight group b
+follow_weighs group stop b = omega arith
+follow_weighs group (act a rest) b = let r = follow_weighs group rest b in omega (arith, r)
+follow_weighs group (cases t y n rest) b = let r = follow_weighs group rest b in omega (arith, r)
+follow_weighs group (goto x rest) b = let r = follow_weighs group rest b in omega (arith, r)
+follow_weighs group (fall rest) b = let r = follow_weighs group rest b in omega (arith, r)
 
 -- what is looked at before a step
 looked : Setting → Spot → (p : ℕ) → Step → ℕ
@@ -179,3 +187,17 @@ module _ (d : Setting) (room : ℕ) (r : Roomy d room) (at : Spot) (few : states
       let choice : Body = cases (var d (Wire k)) (effect_of d at k s) (refusal d k s handler) stop in
       let o = either_body group (always d.world at s) (effect_of d at k s) choice (5 + body_weight group (effect_of d at k s) + body_weight group handler) (omega arith) (omega arith) in
       omega (arith, f, l, rest, o)
+
+  -- a step with what comes behind its effect too
+  pub attempt_then_weighs : (s : Step) (hangs : ℕ → Bool) (accepted refused : Body)
+      → body_weight group (attempt_then_of d at p k s hangs accepted refused) ≤ room * (1 + step_size s) + body_weight group accepted + body_weight group refused
+  unfolding attempt_then_of looked
+  attempt_then_weighs s hangs accepted refused =
+      let f = step_fits s in
+      let l = lub_weighs pc (var d (Wire (k + 1))) in
+      let done : Body = follow (effect_of d at k s) accepted in
+      let q = follow_weighs group (effect_of d at k s) accepted in
+      let rest = raises_weigh group d hangs (k + 1) (outcome_then d at k s accepted refused) in
+      let choice : Body = cases (var d (Wire k)) done (refusal d k s refused) stop in
+      let o = either_body group (always d.world at s) done choice (5 + body_weight group done + body_weight group refused) (omega arith) (omega arith) in
+      omega (arith, f, l, q, rest, o)

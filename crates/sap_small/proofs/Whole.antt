@@ -14,6 +14,7 @@ use Rattle.sap_size.specs.Programs.{group_size}
 use Rattle.sap_size.specs.Trees.{design_nodes, entity_count}
 use Rattle.sap_size.specs.Items.{most_items}
 use Rattle.sap_tagged.specs.Law.{IsSound, plain_for}
+use Rattle.sap_tagged.proofs.Designs.{design}
 use Rattle.sap_small.proofs.Declared.{plain_weighs}
 use Rattle.sap_small.proofs.Sizes.{group_within, group_counted, group_entered, all_entered, states_same, group_sited, group_filled, group_kept}
 
@@ -42,7 +43,7 @@ plain_small ls d sound =
     let levels = levels_are ls in
     let some = sound.lattice.narrow.some in
     let fewer = sound.lattice.narrow.few in
-    let p = plain_weighs (named_of ls d) (width_of (order_of ls)) (sites_of d) (omega (arith, some, fewer)) (omega (arith, kept, states, entered, both)) in
+    let p = plain_weighs (named_of ls d) (width_of (order_of ls)) (sites_of d) (omega (arith, some, fewer)) (omega (arith, kept, states, entered, both)) (design ls d sound).few_arms in
     let size : group_size (named_of ls d).program.states ≤ design_nodes d =
     let f = group_filled w (root w) g in let r = group_within ls es 1 (length d.declarations) d.states in omega (arith, f, r) in
     let bound = summed (nested_weight (plain_for ls d)) (root w) (order_of ls).count (group_size (named_of ls d).program.states) (sites_of d) (design_nodes d) size (group_sited es d.states) p in

@@ -1,5 +1,5 @@
 -- What a stimulus gives fits.
-use Rattle.std.proofs.Common.{◌≡◌, ℕ, ◌+◌, ◌<◌, ◌^◌, Bool, true, false, not, Option, Some, None, Result, Ok, Err, IfOk, eqb, ltb, List, [], ◌∷◌, length, refl, subst, if◌then◌else◌}
+use Rattle.std.proofs.Common.{◌≡◌, ℕ, ◌+◌, ◌<◌, ◌^◌, Bool, true, false, not, Option, Some, None, Result, Ok, Err, IfOk, eqb, ltb, List, [], ◌∷◌, length, refl, sym, subst, OnOk, if◌then◌else◌}
 use Rattle.std.specs.Prelude.{IfSome, nat_lt}
 use Rattle.std.specs.List.{position_or_len, before_first, after_first}
 use Rattle.std.specs.Str.{bytes_eq}
@@ -12,7 +12,7 @@ use Rattle.sap_stim.specs.declared.fault.StimCode.TheVariants.{S1, S2, S4, S5}
 use Rattle.sap_stim.specs.declared.field.Field.{Field}
 use Rattle.sap_stim.specs.declared.field.Field.TheVariants.{Tagged, Plain}
 use Rattle.sap_stim.specs.declared.stimulus.Parsed.{Parsed}
-use Rattle.sap_stim.specs.Line.{split_at, fields_of, and_then, is_value, value_of, level_named, with_level, tagged_of, plain_of, field_of, inputs_of, line_of}
+use Rattle.sap_stim.specs.Line.{split_at, fields_of, and_then, is_value, value_of, level_named, with_level, tagged_of, plain_of, field_of, inputs_of, line_of, with_inputs}
 use Rattle.sap_stim.specs.Stimulus.{is_empty, finished, going_on, read_pieces}
 use Rattle.sap_stim.specs.Fits.{InputFits, LineFits, StreamFits, StimulusFits}
 
@@ -104,3 +104,11 @@ module _ (ls : Levels) (bottom : (order_of ls).bottom < (order_of ls).count) whe
 
 pub fits : StimulusFits
 fits ls fs bytes bottom = pieces_fit ls bottom fs 1 (split_at 10 bytes)
+
+-- the inputs that are read of the fields of a line fit
+pub given_fits : (ls : Levels) → (order_of ls).bottom < (order_of ls).count → (fs : List Field) (texts : List (List ℕ)) (r : Result (Unit {0}) StimCode) (inputs : List Given)
+    → with_inputs r inputs ≡ inputs_of ls fs texts → OnOk r (LineFits ls fs inputs)
+given_fits ls bottom fs texts (Ok done) inputs given =
+    let P : Result (List Given) StimCode → Type 0 = λ x. IfOk x (LineFits ls fs) in
+    subst P (sym given) (inputs_fit ls bottom fs texts)
+given_fits ls bottom fs texts (Err code) inputs given = tt

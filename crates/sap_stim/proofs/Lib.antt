@@ -6,3 +6,4 @@ pub mod Lines
 pub mod Fitting
 pub mod Coded
 pub mod RowTexts
+pub mod RowRoom

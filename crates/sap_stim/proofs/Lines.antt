@@ -10,7 +10,7 @@ use Rattle.sap_stim.specs.declared.fault.StimFault.{StimFault}
 use Rattle.sap_stim.specs.declared.field.Field.{Field}
 use Rattle.sap_stim.specs.declared.stimulus.Parsed.{Parsed}
 use Rattle.sap_stim.specs.Line.{split_at, line_of}
-use Rattle.sap_stim.specs.Stimulus.{finished, going_on, read_pieces}
+use Rattle.sap_stim.specs.Stimulus.{finished, going_on, read_pieces, read_from, behind}
 use Rattle.sap_stim.proofs.Pieces.{is_mark, split_marked, split_unmarked, before_unmarked, after_unmarked, length_before, split_count}
 
 abbrev before : List ℕ → List ℕ
@@ -18,14 +18,6 @@ before s = before_first (is_mark 10) s
 
 abbrev after : List ℕ → List ℕ
 after s = after_first (is_mark 10) s
-
--- what the rest of a file gives, its first line being this
-abbrev pub read_from : Levels → List Field → ℕ → List ℕ → Parsed
-read_from ls fs line rest = read_pieces ls fs line (split_at 10 rest)
-
--- lines that were read, and then others
-abbrev pub behind : List (List Given) → Parsed → Parsed
-behind cycles p = record { stream = cycles ++ p.stream; fault = p.fault }
 
 pieces_go_on : (ls : Levels) (fs : List Field) (n : ℕ) (text : List ℕ) (ps : List (List ℕ)) → 0 < length ps → read_pieces ls fs n (text ∷ ps) ≡ going_on n (line_of ls fs true text) (read_pieces ls fs (n + 1) ps)
 pieces_go_on ls fs n text [] h = absurd (omega arith)
@@ -35,10 +27,10 @@ last_piece : (ls : Levels) (fs : List Field) (n : ℕ) (text : List ℕ) → 0 <
 last_piece ls fs n [] h = absurd (omega arith)
 last_piece ls fs n (b ∷ bs) h = refl
 
-is_less : (a b : ℕ) → a < b → ltb a b ≡ true
+pub is_less : (a b : ℕ) → a < b → ltb a b ≡ true
 is_less a b h = grind (arith)
 
-is_no_less : (a b : ℕ) → b ≤ a → ltb a b ≡ false
+pub is_no_less : (a b : ℕ) → b ≤ a → ltb a b ≡ false
 is_no_less a b h = grind (arith)
 
 -- one line, and then the others

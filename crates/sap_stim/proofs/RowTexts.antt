@@ -1,12 +1,12 @@
 -- The texts of rows, from left to right.
-use Rattle.std.proofs.Common.{◌≡◌, ◌+◌, ◌<◌, ◌≤◌, ◌^◌, ◌/◌, ◌%◌, ℕ, zero, suc, List, [], ◌∷◌, ◌++◌, length, get_or, drop, refl, sym, ap, ◌∙◌, append_assoc, arith, Option, Some, Result, Ok, Err, OnOk, if◌then◌else◌}
-use Rattle.std.specs.Prelude.{decimal, is_ok, option_map}
-use Rattle.std.proofs.lemmas.Fmt.{decimal_digit, decimal_step}
+use Rattle.std.proofs.Common.{◌≡◌, ◌+◌, ◌<◌, ◌≤◌, ◌^◌, ◌/◌, ◌%◌, ℕ, zero, suc, List, [], ◌∷◌, ◌++◌, length, get_or, drop, refl, sym, ap, ◌∙◌, append_assoc, arith, rules, length-append, Option, Some, Result, Ok, Err, OnOk, if◌then◌else◌}
+use Rattle.std.specs.Prelude.{decimal, is_ok, option_map, OnErr, IsOk}
+use Rattle.std.proofs.lemmas.Fmt.{decimal_digit, decimal_step, length-decimal-le}
 use Rattle.std.proofs.Math.Seq.{drop-cons}
 use Rattle.sap_lattice.specs.Closure.{name_at}
 use Rattle.sap_lattice.specs.Levels.{Levels, level_in}
 use Rattle.sap_stim.proofs.Named.{level_in_place}
-use Rattle.sap_stim.specs.Rows.{shown, shown_of, shown_text, all_shown, level_coded, level_text}
+use Rattle.sap_stim.specs.Rows.{Shown, shown, shown_of, shown_text, all_shown, row_text, row_room, level_coded, level_text}
 
 pub one_digit : (out old : List ℕ) (n d : ℕ) → n < 10 → out ≡ old ++ (d ∷ []) → d ≡ 48 + n → out ≡ old ++ decimal n
 one_digit out old n d h e f = e ∙ ap (λ x. old ++ (x ∷ [])) f ∙ ap (λ z. old ++ z) (sym (decimal_digit n h))
@@ -61,3 +61,28 @@ pub level_written : {E : Type 0} (ls : Levels) (tag level : ℕ) (text old new :
 level_written ls tag level text old new r coded small t e =
     on_last r new old text (level_text (option_map (name_at ls.names) (level_coded ls tag)) tag) e
     (t ∙ ap (λ (k : ℕ). get_or ls.names k []) (level_in_place (length ls.names) level small) ∙ ap (λ (o : Option ℕ). level_text (option_map (name_at ls.names) o) tag) coded)
+
+-- the room of texts
+
+pub longer_decimal : (n : ℕ) → 10 ≤ n → n < 2 ^ 64 → length (decimal n) ≡ length (decimal (n / 10)) + 1
+longer_decimal n h small = ap length (decimal_step n h small) ∙ length-append (decimal (n / 10)) _
+
+pub row_fits : (cycle : ℕ) (ss : List Shown) → cycle < 2 ^ 64 → length (row_text cycle ss) ≤ row_room ss
+row_fits cycle ss small =
+    let digits : length (decimal cycle) ≤ 20 = length-decimal-le 20 cycle (omega arith) (omega arith) small in
+    simp length-append (omega (arith, digits))
+
+-- what fails only for want of room succeeds where there is room
+pub ok_with_room : {T E : Type 0} (r : Result T E) (capacity wanted : ℕ) → OnErr r (capacity < wanted) → wanted ≤ capacity → IsOk r
+ok_with_room (Ok v) capacity wanted full room = search rules
+ok_with_room (Err e) capacity wanted full room = absurd (omega arith)
+
+-- what fails where a register is to be written fails for want of room for the rest
+pub row_full : (ls : Levels) (names : List (List ℕ)) (values tags : List ℕ) (i : ℕ) (name out old : List ℕ) (capacity : ℕ) → i < length names → length values ≡ length names → length tags ≡ length names → name ≡ get_or names i name
+    → out ++ shown_from ls names values tags i ≡ old → capacity < length out + length (shown_text (shown ls name (get_or values i 0) (get_or tags i 0))) → capacity < length old
+row_full ls names values tags i name out old capacity h v t e before full =
+    let here = shown_text (shown ls name (get_or values i 0) (get_or tags i 0)) in
+    let rest = shown_from ls names values tags (i + 1) in
+    let more : length (shown_from ls names values tags i) ≡ length here + length rest = ap length (shown_more ls names values tags i name h v t e) ∙ length-append here rest in
+    let whole : length old ≡ length out + length (shown_from ls names values tags i) = sym (ap length before) ∙ length-append out (shown_from ls names values tags i) in
+    omega (arith, more, whole, full)

@@ -86,3 +86,8 @@ line_of ls fs ended text =
     else (if not ended then Err S5
     else (if not (length (fields_of text) == length fs) then Err S4
     else inputs_of ls fs (fields_of text)))
+
+-- what a call tells that reads a line in place of inputs
+abbrev pub with_inputs : Result (Unit {0}) StimCode → (inputs : List Given) → Result (List Given) StimCode
+with_inputs (Ok done) inputs = Ok inputs
+with_inputs (Err code) inputs = Err code

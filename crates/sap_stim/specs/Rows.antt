@@ -1,5 +1,5 @@
 -- The row of a cycle: `cycle N:`, then ` NAME=VALUE@LEVEL` for each register in order, then LF.
-use Rattle.std.specs.Prelude.{ℕ, List, [], ◌∷◌, ◌++◌, ◌==◌, codes, length, find, Option, Some, None, option_map}
+use Rattle.std.specs.Prelude.{ℕ, ◌+◌, ◌^◌, ◌<◌, ◌≤◌, All, List, [], ◌∷◌, ◌++◌, ◌==◌, codes, length, find, Option, Some, None, option_map}
 use Rattle.std.specs.Fmt.{decimal}
 use Rattle.sap_lattice.specs.Closure.{name_at}
 use Rattle.sap_lattice.specs.Codes.{code_of}
@@ -40,3 +40,11 @@ all_shown (s ∷ ss) = shown_text s ++ all_shown ss
 
 abbrev pub row_text : (cycle : ℕ) → List Shown → List ℕ
 row_text cycle ss = codes "cycle " ++ decimal cycle ++ codes ":" ++ all_shown ss
+
+-- how many bytes a row takes at most, whatever its cycle: the number of a cycle is counted as 20 digits
+abbrev pub row_room : List Shown → ℕ
+row_room ss = length (codes "cycle ") + 20 + length (codes ":") + length (all_shown ss)
+
+-- so many bytes are enough for any row of the registers of these names
+abbrev pub HoldsRows : Levels → (names : List (List ℕ)) → (room : ℕ) → Type 0
+HoldsRows ls names room = (values tags : List ℕ) → All (λ n. n < 2 ^ 64) values → All (λ n. n < 2 ^ 64) tags → row_room (shown_of ls names values tags) ≤ room

@@ -1,5 +1,5 @@
 -- A stimulus file: a line for each cycle, a field for each input.
-use Rattle.std.specs.Prelude.{ℕ, List, [], ◌∷◌, Some, None, Result, Ok, Err, Bool, true, false, ◌+◌, if◌then◌else◌}
+use Rattle.std.specs.Prelude.{ℕ, List, [], ◌∷◌, Some, None, Result, Ok, Err, Bool, true, false, ◌+◌, ◌++◌, if◌then◌else◌}
 use Rattle.sap_lattice.specs.Levels.{Levels}
 use Rattle.sap_meaning.specs.Cycle.{Tagged as Given}
 use Rattle.sap_stim.specs.declared.fault.StimCode.{StimCode}
@@ -35,3 +35,11 @@ read_pieces ls fs line (text ∷ (next ∷ rest)) =
 
 abbrev pub stimulus_of : Levels → List Field → List ℕ → Parsed
 stimulus_of ls fs bytes = read_pieces ls fs 1 (split_at 10 bytes)
+
+-- what the rest of a file gives, its first line being of this number
+abbrev pub read_from : Levels → List Field → (line : ℕ) → List ℕ → Parsed
+read_from ls fs line rest = read_pieces ls fs line (split_at 10 rest)
+
+-- lines that were read, and then what comes behind them
+abbrev pub behind : List (List Given) → Parsed → Parsed
+behind cycles p = record { stream = cycles ++ p.stream; fault = p.fault }

@@ -1,15 +1,16 @@
 //! Stimulus files, line by line, and the rows of a run.
 //!
 //! `parse_stream` reads the lines of a stimulus file before the first that is refused, and says which
-//! one that is and why. `push_row` and `row` print a cycle's registers.
+//! one that is and why. `push_row`, `row` and `row_into` print a cycle's registers.
 #![tactic(auto)]
 
 pub mod fault;
 pub mod field;
 mod line;
+mod room;
 pub mod rows;
 pub mod stimulus;
-mod text;
+pub mod text;
 mod value;
 
 ghost use Rattle.sap_stim.specs.Fits.{StimulusFits};
@@ -17,7 +18,9 @@ ghost use Rattle.sap_stim.specs.Examples as examples;
 
 pub use fault::{StimCode, StimFault};
 pub use field::{Field, Fields};
-pub use rows::{push_row, row};
+pub use line::read_line_into;
+pub use room::{longest_level, row_room};
+pub use rows::{push_row, row, row_into};
 pub use stimulus::{Parsed, parse_stream};
 
 /// The largest number of bytes in a line, without its LF.

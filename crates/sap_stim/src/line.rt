@@ -1,7 +1,8 @@
 //! Lines.
 
-ghost use Rattle.std.specs.Prelude.{◌≡◌, ◌==◌, All, IfOk, length};
-ghost use Rattle.sap_stim.specs.Line.{IsSized, fields_of, inputs_of, line_of};
+ghost use Rattle.std.specs.Prelude.{◌≡◌, ◌==◌, All, IfOk, OnOk, length};
+ghost use Rattle.sap_stim.specs.Fits.{LineFits};
+ghost use Rattle.sap_stim.specs.Line.{IsSized, fields_of, inputs_of, line_of, with_inputs};
 
 use crate::MOST_LINE_BYTES;
 use crate::fault::StimCode;
@@ -12,32 +13,59 @@ use sap_lattice::lattice::Lattice;
 use sap_stream::inputs::{Inputs, Tagged};
 use std::alloc::{AllocError, Global};
 
-/// The inputs of a line with as many fields as are asked for.
+/// Reads a line with as many fields as are asked for.
 fn read_fields(
-    alloc: Global,
     line: &[u8],
     fields: &[Field],
     lattice: &Lattice,
-) -> Result<Result<Inputs, StimCode>, AllocError>
+    inputs: &mut [Tagged],
+) -> Result<(), StimCode>
     requires widths { All IsSized fields.now }
     requires count { length (fields_of line.now) ≡ length fields.now }
-    ensures { IfOk result (λ given. given ≡ inputs_of lattice.now fields.now (fields_of line.now)) }
+    requires places { length inputs.old ≡ length fields.now }
+    ensures { with_inputs result inputs.new ≡ inputs_of lattice.now fields.now (fields_of line.now) }
 {
-    let mut inputs: Vec<Tagged> = Vec::new(alloc);
     let mut rest = line;
-    for field in fields {
+    for k in 0..fields.len() {
         let (text, behind) = cut(rest, b' ');
-        match read_field(text, *field, lattice) {
-            Ok(input) => inputs.push(input)?,
-            Err(code) => return Ok(Err(code)),
+        match read_field(text, fields[k], lattice) {
+            Ok(input) => inputs[k] = input,
+            Err(code) => return Err(code),
         }
         rest = behind;
     }
-    Ok(Ok(Inputs::new(inputs)))
+    Ok(())
+}
+
+/// Reads a line, without its LF, and writes what it gives in place of `inputs`, one for each field;
+/// `ended` says whether it has an LF. It takes no memory.
+pub fn read_line_into(
+    line: &[u8],
+    ended: bool,
+    fields: &[Field],
+    lattice: &Lattice,
+    inputs: &mut [Tagged],
+) -> Result<(), StimCode>
+    requires widths { All IsSized fields.now }
+    requires places { length inputs.old ≡ length fields.now }
+    ensures given { with_inputs result inputs.new ≡ line_of lattice.now fields.now ended line.now }
+    ensures fits { OnOk result (LineFits lattice.now fields.now inputs.new) }
+{
+    lattice.lawful();
+    if line.len() > MOST_LINE_BYTES {
+        return Err(StimCode::S1);
+    }
+    if !ended {
+        return Err(StimCode::S5);
+    }
+    if count_fields(line) != fields.len() {
+        return Err(StimCode::S4);
+    }
+    read_fields(line, fields, lattice, inputs)
 }
 
 /// What a line gives, without its LF; `ended` says whether it has one.
-pub fn read_line(
+pub(crate) fn read_line(
     alloc: Global,
     line: &[u8],
     ended: bool,
@@ -47,14 +75,10 @@ pub fn read_line(
     requires { All IsSized fields.now }
     ensures { IfOk result (λ given. given ≡ line_of lattice.now fields.now ended line.now) }
 {
-    if line.len() > MOST_LINE_BYTES {
-        return Ok(Err(StimCode::S1));
+    let mut inputs: Vec<Tagged> = Vec::new(alloc);
+    inputs.resize(fields.len(), Tagged::new(0, lattice.bottom()))?;
+    match read_line_into(line, ended, fields, lattice, &mut inputs) {
+        Ok(()) => Ok(Ok(Inputs::new(inputs))),
+        Err(code) => Ok(Err(code)),
     }
-    if !ended {
-        return Ok(Err(StimCode::S5));
-    }
-    if count_fields(line) != fields.len() {
-        return Ok(Err(StimCode::S4));
-    }
-    read_fields(alloc, line, fields, lattice)
 }

@@ -1,19 +1,21 @@
 //! Rows.
 
-ghost use Rattle.std.specs.Prelude.{◌≡◌, ◌<◌, ◌++◌, IfOk, IfSome, OnOk, length, Option, option_map};
+ghost use Rattle.std.specs.Prelude.{◌≡◌, ◌+◌, ◌<◌, ◌≤◌, ◌++◌, IfOk, IfSome, OnErr, OnOk, length, vec_capacity, Option, option_map};
 ghost use Rattle.std.specs.Fmt.{decimal};
 ghost use Rattle.sap_lattice.specs.Closure.{name_at};
-ghost use Rattle.sap_stim.specs.Rows.{row_text, shown, shown_of, shown_text, level_coded, level_text, all_shown};
+ghost use Rattle.sap_stim.specs.Rows.{row_room, row_text, shown, shown_of, shown_text, level_coded, level_text, all_shown};
 
-use sap_desk::Bytes;
+use sap_desk::{Bytes, RowBuf};
 use sap_lattice::lattice::Lattice;
 use sap_lattice::level::Level;
 use sap_lattice::name::Name;
 use std::alloc::{AllocError, Global};
 
-/// Appends a number in decimal digits.
+/// Appends a number in decimal digits. It takes no memory where there is room for them.
 pub fn number(out: &mut Vec<u8>, n: u64) -> Result<(), AllocError>
-    ensures { OnOk result (out.new.items ≡ out.old.items ++ decimal n) }
+    ensures text { OnOk result (out.new.items ≡ out.old.items ++ decimal n) }
+    ensures room { vec_capacity out.old ≤ vec_capacity out.new }
+    ensures full { OnErr result (vec_capacity out.old < length out.old.items + length (decimal n)) }
 {
     if n < 10 {
         out.push(b'0' + n as u8)?;
@@ -35,7 +37,9 @@ fn level_of_tag(lattice: &Lattice, tag: u64) -> Option<Level>
 
 /// Appends the name of the level whose code is a tag; a tag that is no code as `#` and its number.
 pub fn push_level(out: &mut Vec<u8>, tag: u64, lattice: &Lattice) -> Result<(), AllocError>
-    ensures { OnOk result (out.new.items ≡ out.old.items ++ level_text (option_map (name_at lattice.now.names) (level_coded lattice.now tag)) tag) }
+    ensures text { OnOk result (out.new.items ≡ out.old.items ++ level_text (option_map (name_at lattice.now.names) (level_coded lattice.now tag)) tag) }
+    ensures room { vec_capacity out.old ≤ vec_capacity out.new }
+    ensures full { OnErr result (vec_capacity out.old < length out.old.items + length (level_text (option_map (name_at lattice.now.names) (level_coded lattice.now tag)) tag)) }
 {
     match level_of_tag(lattice, tag) {
         Some(level) => out.extend_from_slice(lattice.name(level).as_bytes()),
@@ -53,7 +57,9 @@ fn push_shown(
     tag: u64,
     lattice: &Lattice,
 ) -> Result<(), AllocError>
-    ensures { OnOk result (out.new.items ≡ out.old.items ++ shown_text (shown lattice.now name.now value tag)) }
+    ensures text { OnOk result (out.new.items ≡ out.old.items ++ shown_text (shown lattice.now name.now value tag)) }
+    ensures room { vec_capacity out.old ≤ vec_capacity out.new }
+    ensures full { OnErr result (vec_capacity out.old < length out.old.items + length (shown_text (shown lattice.now name.now value tag))) }
 {
     out.extend_from_slice(b" ")?;
     out.extend_from_slice(name.as_bytes())?;
@@ -72,7 +78,9 @@ fn push_all(
 ) -> Result<(), AllocError>
     requires values { length values.now ≡ length names.now }
     requires tags { length tags.now ≡ length names.now }
-    ensures { OnOk result (out.new.items ≡ out.old.items ++ all_shown (shown_of lattice.now names.now values.now tags.now)) }
+    ensures text { OnOk result (out.new.items ≡ out.old.items ++ all_shown (shown_of lattice.now names.now values.now tags.now)) }
+    ensures room { vec_capacity out.old ≤ vec_capacity out.new }
+    ensures full { OnErr result (vec_capacity out.old < length out.old.items + length (all_shown (shown_of lattice.now names.now values.now tags.now))) }
 {
     for i in 0..names.len() {
         push_shown(out, &names[i], values[i], tags[i], lattice)?;
@@ -80,7 +88,8 @@ fn push_all(
     out.extend_from_slice(b"\n")
 }
 
-/// Appends the row of a cycle: the registers of these names, with their values and tags.
+/// Appends the row of a cycle: the registers of these names, with their values and tags. It takes no memory
+/// where there is room for the row.
 pub fn push_row(
     out: &mut Vec<u8>,
     cycle: u64,
@@ -90,7 +99,9 @@ pub fn push_row(
     lattice: &Lattice,
 ) -> Result<(), AllocError>
     requires lengths { (length values.now ≡ length names.now) × (length tags.now ≡ length names.now) }
-    ensures { OnOk result (out.new.items ≡ out.old.items ++ row_text cycle (shown_of lattice.now names.now values.now tags.now)) }
+    ensures text { OnOk result (out.new.items ≡ out.old.items ++ row_text cycle (shown_of lattice.now names.now values.now tags.now)) }
+    ensures room { vec_capacity out.old ≤ vec_capacity out.new }
+    ensures full { OnErr result (vec_capacity out.old < length out.old.items + length (row_text cycle (shown_of lattice.now names.now values.now tags.now))) }
 {
     out.extend_from_slice(b"cycle ")?;
     number(out, cycle)?;
@@ -113,4 +124,23 @@ pub fn row(
     let mut out = Vec::new(alloc);
     push_row(&mut out, cycle, names, values, tags, lattice)?;
     Ok(Bytes::new(out))
+}
+
+/// Appends the row of a cycle, for which there is room. It takes no memory.
+pub fn row_into(
+    out: &mut RowBuf,
+    cycle: u64,
+    names: &[Name],
+    values: &[u64],
+    tags: &[u64],
+    lattice: &Lattice,
+)
+    requires lengths { (length values.now ≡ length names.now) × (length tags.now ≡ length names.now) }
+    requires fits { length out.old.bytes + row_room (shown_of lattice.now names.now values.now tags.now) ≤ out.old.room }
+    ensures text { out.new.bytes ≡ out.old.bytes ++ row_text cycle (shown_of lattice.now names.now values.now tags.now) }
+    ensures room { out.old.room ≤ out.new.room }
+{
+    let mut bytes = out.take();
+    push_row(&mut bytes, cycle, names, values, tags, lattice).unwrap();
+    out.put(bytes);
 }

@@ -1,37 +1,41 @@
 -- Bodies keep the rules of names and of widths.
-use Rattle.std.proofs.Common.{◌≡◌, ℕ, zero, suc, ◌+◌, ◌^◌, ◌<◌, ◌≤◌, List, [], ◌∷◌, ◌++◌, Bool, true, false, not, ◌&&◌, ◌||◌, Some, refl, sym, ap, ◌∙◌, subst, if◌then◌else◌, arith, nat_lt, inl, inr}
+use Rattle.std.proofs.Common.{◌≡◌, ℕ, zero, suc, ◌+◌, ◌^◌, ◌<◌, ◌≤◌, List, [], ◌∷◌, ◌++◌, length, take, drop, Bool, true, false, not, ◌&&◌, ◌||◌, Some, refl, sym, ap, ◌∙◌, subst, if◌then◌else◌, arith, nat_lt, nat_le, inl, inr}
 use Rattle.std.proofs.lemmas.Bool.{cases_Bool}
 use Rattle.std.proofs.lemmas.Grind.{common_steps}
 use Rattle.std.proofs.Math.Pow.{pow_pos}
 use Rattle.sap_maps.specs.Maps.{Name}
 use Rattle.sap_maps.specs.Scope.{find}
-use Rattle.sap_maps.specs.Term.{Term, constant, cell, choose}
-use Rattle.sap_meaning.specs.Program.{World, Kind, entity, root, is_dynamic, is_input, is_register, is_state, width, children, listed, Step, Set, Write, Retag, RetagCell, Goto, Fall, Command, Do, Try, If, Block, End, Then, Group, kind_is_input, kind_is_register, kind_is_memory, kind_is_state}
+use Rattle.sap_maps.specs.Term.{Term, constant, cell, two, choose, part}
+use Rattle.sap_bits.specs.declared.Op2.TheVariants.{Eq}
+use Rattle.sap_tree.specs.Limits.{most_arms}
+use Rattle.sap_meaning.specs.Program.{World, Kind, entity, root, is_dynamic, is_input, is_register, is_state, width, children, listed, Step, Set, Write, Retag, RetagCell, Goto, Fall, Command, Do, Try, If, TryThen, Case, Arms, Last, Arm, Block, End, Then, Group, kind_is_input, kind_is_register, kind_is_memory, kind_is_state}
 use Rattle.sap_meaning.specs.Program as program
 use Rattle.sap_meaning.specs.Expressions.{width_of}
 use Rattle.sap_meaning.specs.Checks.{Spot, site_of}
 use Rattle.sap_meaning.specs.Touches.{among}
 use Rattle.sap_meaning.specs.Runs.{listed_alone}
 use Rattle.sap_meaning.specs.Sites as sites
-use Rattle.sap_meaning.specs.Fine.{FineStep, FineCommand, FineBlock, size}
-use Rattle.sap_meaning.specs.Sized.{SizedStep, Sized, SizedBlock, depth}
-use Rattle.sap_sized.specs.Ranges.{IsWidth, RangedStep, Ranged, RangedBlock}
+use Rattle.sap_meaning.specs.Fine.{FineStep, FineCommand, FineArms, FineBlock, size}
+use Rattle.sap_meaning.specs.Sized.{SizedStep, AreWithin, Sized, SizedArms, SizedBlock, depth}
+use Rattle.sap_sized.specs.Ranges.{IsWidth, RangedStep, Ranged, RangedArms, RangedBlock}
 use Rattle.sap_net.specs.Names.{is_among}
 use Rattle.sap_ir.specs.Source.{Source, readable, shapes}
 use Rattle.sap_ir.specs.IsGuarded.{assignable}
 use Rattle.sap_plain.specs.Nested.{Body, stop, act, cases, goto, fall}
 use Rattle.sap_plain.specs.IsPlain.{BodyFine}
 use Rattle.sap_plain.specs.Views.{follow}
+use Rattle.sap_plain.proofs.SeatWidths.{seat_positive, seat_within, seat_holds}
 use Rattle.sap_tagged.specs.Keys.{Key, Value, Tag, Refused, Level, Wire, First, Inner, sort}
 use Rattle.sap_tagged.specs.Setting.{Setting}
 use Rattle.sap_tagged.specs.Levels.{var, bits, lub, yes, expr, tag_of, guard_of, test_of, written, stays, always, all_dynamic}
-use Rattle.sap_tagged.specs.Commands.{gives, stores, sweep, raises, looks, resets, effect_of, refusal, outcome, attempt_of, select_of, wires, wires_block, command_plain, block_plain}
+use Rattle.sap_tagged.specs.Commands.{gives, stores, sweep, raises, looks, resets, effect_of, refusal, outcome, attempt_of, outcome_then, attempt_then_of, arm_count, pick_width, picks_arm, picks, decides, pick_of, select_of, wires, wires_block, command_plain, arms_plain, block_plain}
+use Rattle.sap_tagged.specs.Few.{Few, FewArms, FewBlock}
 use Rattle.sap_tagged.specs.States.{saved}
 use Rattle.sap_tagged.specs.Stands.{has_tag}
 use Rattle.sap_tagged.proofs.Bools.{apart_tests, both_true, either_second, tagged_within, register_within, value_no_memory, kept_no_memory, enforced_within, tagged, tagged_memory}
 use Rattle.sap_tagged.proofs.StepTerms.{Placed}
 use Rattle.sap_tagged.proofs.Ends.{Among}
-use Rattle.sap_tagged.proofs.Conditions.{StepConditions, CommandConditions, BlockConditions}
+use Rattle.sap_tagged.proofs.Conditions.{StepConditions, CommandConditions, ArmsConditions, BlockConditions}
 use Rattle.sap_tagged.proofs.Fits.{Declares, Fine, number_fine, level_fine, lub_fine, bits_fine, yes_fine, guard_fine, test_fine, written_fine, stays_fine, ranged_width}
 
 -- what can be assigned, and is no register of a current child
@@ -54,6 +58,13 @@ abbrev mutual
   CommandWires d s k (Do t) = StepWires d s k
   CommandWires d s k (Try t hang h) = StepWires d s k × BlockWires d s (k + 5) h
   CommandWires d s k (If hang e a b) = IsWire d s k d.tag × IsWire d s (k + 1) d.tag × BlockWires d s (k + 2) a × BlockWires d s (k + 2 + wires_block a) b
+  CommandWires d s k (TryThen t hang a b) = StepWires d s k × BlockWires d s (k + 5) a × BlockWires d s (k + 5 + wires_block a) b
+  CommandWires d s k (Case hang e arms) =
+      IsWire d s k d.tag × IsWire d s (k + 1) d.tag × IsWire d s (k + 2) (width_of d.world e) × IsWire d s (k + 3) (pick_width arms) × ArmsWires d s (k + 4) arms
+
+  pub ArmsWires : Setting → Source → ℕ → Arms → Type 0
+  ArmsWires d s k (Last b) = BlockWires d s k b
+  ArmsWires d s k (Arm constants b arms) = BlockWires d s k b × ArmsWires d s (k + wires_block b) arms
 
   pub BlockWires : Setting → Source → ℕ → Block → Type 0
   BlockWires d s k End = Unit {0}
@@ -72,6 +83,12 @@ abbrev mutual
   CommandHangs w sp (Do t) = Hangs w (listed_alone w sp t)
   CommandHangs w sp (Try t hang h) = Hangs w (listed hang) × BlockHangs w sp h
   CommandHangs w sp (If hang e a b) = Hangs w (listed hang) × BlockHangs w sp a × BlockHangs w sp b
+  CommandHangs w sp (TryThen t hang a b) = Hangs w (listed hang) × BlockHangs w sp a × BlockHangs w sp b
+  CommandHangs w sp (Case hang e arms) = Hangs w (listed hang) × ArmsHang w sp arms
+
+  pub ArmsHang : World → Spot → Arms → Type 0
+  ArmsHang w sp (Last b) = BlockHangs w sp b
+  ArmsHang w sp (Arm constants b arms) = BlockHangs w sp b × ArmsHang w sp arms
 
   pub BlockHangs : World → Spot → Block → Type 0
   BlockHangs w sp End = Unit {0}
@@ -286,6 +303,19 @@ module _ (d : Setting) (s : Source) (h : Declares d s) (fixed group : List Name)
           | inr i ↦ rw i (ws.0.0, e, refusal_fine k t handler ws (site (site_of t) (site_listed d.world sp t i)) g, tt)
         ]))
 
+    -- behind an accepted step's effect the accepted part
+    attempt_then_fine : (p k : ℕ) (t : Step) (hangs : ℕ → Bool) (x y : Body) → IsWire d s p d.tag → StepWires d s k → Hangs d.world hangs → AllSites (sites.step_sites d.world sp.state sp.children t)
+        → FineStep d.world q sp.children t → SizedStep d.world t → RangedStep d.world t → StepConditions d.world t → Good x → Good y → Good (attempt_then_of d sp p k t hangs x y)
+    unfolding attempt_then_of
+    attempt_then_fine p k t hangs x y pc ws hs site f z r c gx gy =
+        let e = follow_fine (effect_of d sp k t) x (effect_fine k t ws f z r c) gx in
+        looks_fine p k t (raises d hangs (k + 1) (outcome_then d sp k t x y)) pc ws f z r c
+        (raises_fine hangs (k + 1) (outcome_then d sp k t x y) hs ws.1
+        (elim (cases_Bool (always d.world sp t)) [
+          | inl i ↦ rw i e
+          | inr i ↦ rw i (ws.0.0, e, refusal_fine k t y ws (site (site_of t) (site_listed d.world sp t i)) gy, tt)
+        ]))
+
     select_fine : (p k : ℕ) (e : Term ℕ) (hangs : ℕ → Bool) (x y : Body) → IsWire d s p d.tag → IsWire d s k d.tag → IsWire d s (k + 1) d.tag → Hangs d.world hangs → Fine d s h d.tag (tag_of d e)
         → Fine d s h 1 (expr d e) → Good x → Good y → Good (select_of d p k e hangs x y)
     unfolding select_of
@@ -294,27 +324,113 @@ module _ (d : Setting) (s : Source) (h : Declares d s) (fixed group : List Name)
         (wire_gives (k + 1) d.tag (lub (var d (Wire p)) (var d (Wire k))) (raises d hangs k (cases (expr d e) x y stop)) b (lub_fine d s h (var d (Wire p)) (var d (Wire k)) pc.0 a.0)
         (raises_fine hangs k (cases (expr d e) x y stop) hs a (number, f, g, tt)))
 
+    -- the number of a block
+
+    picks_arm_fine : (u n w j i : ℕ) (cs : List ℕ) (rest : Body) → IsWidth u → IsWire d s n u → IsWire d s j w → i < 2 ^ w → AreWithin u cs → Good rest → Good (picks_arm d u n w j i cs rest)
+    picks_arm_fine u n w j i [] rest wide wn wj small within g = g
+    picks_arm_fine u n w j i (c ∷ cs) rest wide wn wj small within g =
+        wire_gives j w (choose (two Eq (var d (Wire n)) (constant u c)) (constant w i) (var d (Wire j))) (picks_arm d u n w j i cs rest) wj
+        ((u, u, wide, wide, wn.0, (refl, within.0), refl, refl), (refl, small), wj.0) (picks_arm_fine u n w j i cs rest wide wn wj small within.1 g)
+
+    picks_fine : (u n w j i : ℕ) (arms : Arms) (rest : Body) → IsWidth u → IsWire d s n u → IsWire d s j w → i + arm_count arms < 2 ^ w → SizedArms d.world u arms → Good rest
+        → Good (picks d u n w j i arms rest)
+    picks_fine u n w j i (Last b) rest wide wn wj small z g = wire_gives j w (constant w i) rest wj (refl, (omega (arith, small))) g
+    picks_fine u n w j i (Arm constants b arms) rest wide wn wj small z g =
+        picks_fine u n w j (suc i) arms (picks_arm d u n w j i constants rest) wide wn wj (omega (arith, small)) z.2
+        (picks_arm_fine u n w j i constants rest wide wn wj (omega (arith, small)) z.0 g)
+
+    -- the block that has it
+
+    abbrev AllGood : List Body → Type 0
+    AllGood [] = Unit {0}
+    AllGood (b ∷ bs) = Good b × AllGood bs
+
+    take_good : (n : ℕ) (bs : List Body) → AllGood bs → AllGood (take n bs)
+    take_good zero bs g = tt
+    take_good (suc n) [] g = tt
+    take_good (suc n) (b ∷ bs) g = (g.0, take_good n bs g.1)
+
+    drop_good : (n : ℕ) (bs : List Body) → AllGood bs → AllGood (drop n bs)
+    drop_good zero bs g = g
+    drop_good (suc n) [] g = tt
+    drop_good (suc n) (b ∷ bs) g = drop_good n bs g.1
+
+    decides_fine : (j bits m : ℕ) (bs : List Body) → IsWidth bits → IsWire d s j bits → m ≤ bits → AllGood bs → Good (decides d j m bs)
+    decides_fine j bits zero [] wide wj l g = tt
+    decides_fine j bits zero (b ∷ bs) wide wj l g = g.0
+    decides_fine j bits (suc m) bs wide wj l g = elim (cases_Bool (nat_le (length bs) (2 ^ m))) [
+      | inl t ↦ rw t (decides_fine j bits m bs wide wj (omega (arith, l)) g)
+      | inr t ↦
+          rw t (
+            (bits, wide, wj.0, omega arith, omega (arith, l), omega arith),
+            decides_fine j bits m (drop (2 ^ m) bs) wide wj (omega (arith, l)) (drop_good (2 ^ m) bs g),
+            decides_fine j bits m (take (2 ^ m) bs) wide wj (omega (arith, l)) (take_good (2 ^ m) bs g),
+            tt,
+          )
+    ]
+
+    pick_fine : (p k : ℕ) (e : Term ℕ) (hangs : ℕ → Bool) (arms : Arms) (blocks : List Body) → IsWire d s p d.tag → IsWire d s k d.tag → IsWire d s (k + 1) d.tag
+        → IsWire d s (k + 2) (width_of d.world e) → IsWire d s (k + 3) (pick_width arms) → Hangs d.world hangs → Fine d s h d.tag (tag_of d e) → Fine d s h (width_of d.world e) (expr d e)
+        → IsWidth (width_of d.world e) → arm_count arms ≤ most_arms → SizedArms d.world (width_of d.world e) arms → AllGood blocks → Good (pick_of d p k e hangs arms blocks)
+    unfolding pick_of
+    pick_fine p k e hangs arms blocks pc a b n j hs level number wide few z g =
+        let w = pick_width arms in
+        let count = suc (arm_count arms) in
+        let held : count ≤ 2 ^ w = seat_holds count (omega (arith, few)) in
+        let chosen = decides d (k + 3) w blocks in
+        let b3 : Body = picks d (width_of d.world e) (k + 2) w (k + 3) 0 arms chosen in
+        let b2 : Body = gives d (Wire (k + 2)) (expr d e) (raises d hangs k b3) in
+        let b1 : Body = gives d (Wire (k + 1)) (lub (var d (Wire p)) (var d (Wire k))) b2 in
+        wire_gives k d.tag (tag_of d e) b1 a level
+        (wire_gives (k + 1) d.tag (lub (var d (Wire p)) (var d (Wire k))) b2 b (lub_fine d s h (var d (Wire p)) (var d (Wire k)) pc.0 a.0)
+        (wire_gives (k + 2) (width_of d.world e) (expr d e) (raises d hangs k b3) n number
+        (raises_fine hangs k b3 hs a
+        (picks_fine (width_of d.world e) (k + 2) w (k + 3) 0 arms chosen wide n j (omega (arith, held)) z
+        (decides_fine (k + 3) w w blocks (seat_positive count, seat_within count) j (omega arith) g)))))
+
     mutual
-      unfolding command_plain block_plain
+      unfolding command_plain arms_plain block_plain
 
       command_fine : (p k : ℕ) (c : Command) → IsWire d s p d.tag → CommandWires d s k c → CommandHangs d.world sp c → AllSites (sites.sites d.world sp.state sp.children c)
-          → FineCommand d.world q sp.children c → Sized d.world c → Ranged d.world c → CommandConditions d.world c → Good (command_plain d sp p k c)
-      command_fine p k (Do t) pc ws hs site f z r c = attempt_fine p k t (listed_alone d.world sp t) stop pc ws hs site f z r c tt
-      command_fine p k (Try t hang b) pc ws hs site f z r c =
+          → FineCommand d.world q sp.children c → Sized d.world c → Ranged d.world c → CommandConditions d.world c → Few c → Good (command_plain d sp p k c)
+      command_fine p k (Do t) pc ws hs site f z r c few = attempt_fine p k t (listed_alone d.world sp t) stop pc ws hs site f z r c tt
+      command_fine p k (Try t hang b) pc ws hs site f z r c few =
           attempt_fine p k t (listed hang) (block_plain d sp (k + 2) (k + 5) b) pc ws.0 hs.0
           (λ n i. site n (among_left (sites.step_sites d.world sp.state sp.children t) (sites.block_sites d.world sp.state sp.children b) n i)) f.0 z.0 r.0 c.0
-          (block_fine (k + 2) (k + 5) b ws.0.2 ws.1 hs.1 (λ n i. site n (among_right (sites.step_sites d.world sp.state sp.children t) (sites.block_sites d.world sp.state sp.children b) n i)) f.1 z.1 r.1 c.1)
-      command_fine p k (If hang e a b) pc ws hs site f z r c =
+          (block_fine (k + 2) (k + 5) b ws.0.2 ws.1 hs.1 (λ n i. site n (among_right (sites.step_sites d.world sp.state sp.children t) (sites.block_sites d.world sp.state sp.children b) n i)) f.1 z.1 r.1 c.1 few)
+      command_fine p k (If hang e a b) pc ws hs site f z r c few =
           select_fine p k e (listed hang) (block_plain d sp (k + 1) (k + 2) a) (block_plain d sp (k + 1) (k + 2 + wires_block a) b) pc ws.0 ws.1 hs.0
           (level_fine d s h e f.0 z.0 r.0 c.0) (subst (λ (u : ℕ). Fine d s h u (expr d e)) z.1 (number_fine d s h e f.0 z.0 r.0 c.0))
-          (block_fine (k + 1) (k + 2) a ws.1 ws.2 hs.1 (λ n i. site n (among_left (sites.block_sites d.world sp.state sp.children a) (sites.block_sites d.world sp.state sp.children b) n i)) f.1 z.2 r.1 c.1)
+          (block_fine (k + 1) (k + 2) a ws.1 ws.2 hs.1 (λ n i. site n (among_left (sites.block_sites d.world sp.state sp.children a) (sites.block_sites d.world sp.state sp.children b) n i)) f.1 z.2 r.1 c.1 few.0)
           (block_fine (k + 1) (k + 2 + wires_block a) b ws.1 ws.3 hs.2
-          (λ n i. site n (among_right (sites.block_sites d.world sp.state sp.children a) (sites.block_sites d.world sp.state sp.children b) n i)) f.2 z.3 r.2 c.2)
+          (λ n i. site n (among_right (sites.block_sites d.world sp.state sp.children a) (sites.block_sites d.world sp.state sp.children b) n i)) f.2 z.3 r.2 c.2 few.1)
+      command_fine p k (TryThen t hang a b) pc ws hs site f z r c few =
+          let own = sites.step_sites d.world sp.state sp.children t in
+          let first = sites.block_sites d.world sp.state sp.children a in
+          let second = sites.block_sites d.world sp.state sp.children b in
+          attempt_then_fine p k t (listed hang) (block_plain d sp (k + 2) (k + 5) a) (block_plain d sp (k + 2) (k + 5 + wires_block a) b) pc ws.0 hs.0
+          (λ m i. site m (among_left own (first ++ second) m i)) f.0 z.0 r.0 c.0
+          (block_fine (k + 2) (k + 5) a ws.0.2 ws.1 hs.1 (λ m i. site m (among_right own (first ++ second) m (among_left first second m i))) f.1 z.1 r.1 c.1 few.0)
+          (block_fine (k + 2) (k + 5 + wires_block a) b ws.0.2 ws.2 hs.2 (λ m i. site m (among_right own (first ++ second) m (among_right first second m i))) f.2 z.2 r.2 c.2 few.1)
+      command_fine p k (Case hang e arms) pc ws hs site f z r c few =
+          pick_fine p k e (listed hang) arms (arms_plain d sp (k + 1) (k + 4) arms) pc ws.0 ws.1 ws.2 ws.3 hs.0 (level_fine d s h e f.0 z.0 r.0 c.0)
+          (number_fine d s h e f.0 z.0 r.0 c.0) (ranged_width d.world e r.0) few.0 z.1
+          (arms_fine (width_of d.world e) (k + 1) (k + 4) arms ws.1 ws.4 hs.1 site f.1 z.1 r.1 c.1 few.1)
+
+      arms_fine : (u p k : ℕ) (arms : Arms) → IsWire d s p d.tag → ArmsWires d s k arms → ArmsHang d.world sp arms → AllSites (sites.arms_sites d.world sp.state sp.children arms)
+          → FineArms d.world q sp.children arms → SizedArms d.world u arms → RangedArms d.world arms → ArmsConditions d.world arms → FewArms arms → AllGood (arms_plain d sp p k arms)
+      arms_fine u p k (Last b) pc ws hs site f z r c few = (block_fine p k b pc ws hs site f z r c few, tt)
+      arms_fine u p k (Arm constants b arms) pc ws hs site f z r c few =
+          let first = sites.block_sites d.world sp.state sp.children b in
+          let others = sites.arms_sites d.world sp.state sp.children arms in (
+            block_fine p k b pc ws.0 hs.0 (λ m i. site m (among_left first others m i)) f.0 z.1 r.0 c.0 few.1,
+            arms_fine u p (k + wires_block b) arms pc ws.1 hs.1 (λ m i. site m (among_right first others m i)) f.1 z.2 r.1 c.1 few.2,
+          )
 
       pub block_fine : (p k : ℕ) (b : Block) → IsWire d s p d.tag → BlockWires d s k b → BlockHangs d.world sp b → AllSites (sites.block_sites d.world sp.state sp.children b)
-          → FineBlock d.world q sp.children b → SizedBlock d.world b → RangedBlock d.world b → BlockConditions d.world b → Good (block_plain d sp p k b)
-      block_fine p k End pc ws hs site f z r c = tt
-      block_fine p k (Then a b) pc ws hs site f z r c =
+          → FineBlock d.world q sp.children b → SizedBlock d.world b → RangedBlock d.world b → BlockConditions d.world b → FewBlock b → Good (block_plain d sp p k b)
+      block_fine p k End pc ws hs site f z r c few = tt
+      block_fine p k (Then a b) pc ws hs site f z r c few =
           follow_fine (command_plain d sp p k a) (block_plain d sp p (k + wires a) b)
-          (command_fine p k a pc ws.0 hs.0 (λ n i. site n (among_left (sites.sites d.world sp.state sp.children a) (sites.block_sites d.world sp.state sp.children b) n i)) f.0 z.0 r.0 c.0)
-          (block_fine p (k + wires a) b pc ws.1 hs.1 (λ n i. site n (among_right (sites.sites d.world sp.state sp.children a) (sites.block_sites d.world sp.state sp.children b) n i)) f.1 z.1 r.1 c.1)
+          (command_fine p k a pc ws.0 hs.0 (λ n i. site n (among_left (sites.sites d.world sp.state sp.children a) (sites.block_sites d.world sp.state sp.children b) n i)) f.0 z.0 r.0 c.0 few.0)
+          (block_fine p (k + wires a) b pc ws.1 hs.1 (λ n i. site n (among_right (sites.sites d.world sp.state sp.children a) (sites.block_sites d.world sp.state sp.children b) n i)) f.1 z.1 r.1 c.1 few.1)

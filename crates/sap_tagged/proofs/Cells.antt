@@ -106,11 +106,11 @@ module _ (d : Setting) (widths : Name → ℕ) (laws : Lawful d widths) where
   unfolding put_level put_number
   swapped m n v t s f = refl
 
-  pub write_effect : (f : Going → Going) (go : Name → Going → Going) (enter : ℕ → ℕ → Store → After) (q : Group) (k : ℕ) (sp : Spot) (site m : ℕ) (i e : Term ℕ) (l : ℕ) (b r : Store) (g : Going)
+  pub write_effect : (f : Going → Going) (go : Name → Going → Going) (enter : ℕ → ℕ → Store → After) (q : Group) (k free : ℕ) (sp : Spot) (site m : ℕ) (i e : Term ℕ) (l : ℕ) (b r : Store) (g : Going)
       → FineStep d.world q sp.children (Write site m i e) → Begins d k sp (Write site m i e) l b r g
-      → Turns d k g (body_does widths f go (effect_of d sp k (Write site m i e)) g) (effect d.world sp enter (Write site m i e) l b r)
+      → Turns d free g (body_does widths f go (effect_of d sp k (Write site m i e)) g) (effect d.world sp enter (Write site m i e) l b r)
   unfolding effect put_to put_number
-  write_effect f go enter q k sp site m i e l b r g fine h =
+  write_effect f go enter q k free sp site m i e l b r g fine h =
       let n = value d.world i b in
       let v = value d.world e b in
       let g1 = put_next d g (Value m) (value_in widths g (expr d i)) (value_in widths g (expr d e)) in
@@ -125,12 +125,12 @@ module _ (d : Setting) (widths : Name → ℕ) (laws : Lawful d widths) where
             let ez : z ≡ d.code (d.world.order.join old c) =
             lub_value d widths laws g1 (var d (Tag m)) (var d (Wire (k + 3))) old c (h.stands.tag m (tagged_memory d.world m fine.0 t)) h.new in
             let g2 = put_to d g1 (Tag m) z in
-            let quiet = quiet_tag d widths laws k m g1 z in
-            turns_stay d k g g2 _ (record { kept = quiet.kept; refused = quiet.refused; levels = quiet.levels })
+            let quiet = quiet_tag d widths laws free m g1 z in
+            turns_stay d free g g2 _ (record { kept = quiet.kept; refused = quiet.refused; levels = quiet.levels })
             (subst (λ (s : Store). Stands d g2 s) (raised_first m n v c r)
             (stands_raise d g1 g2 s1 (λ x. nat_eq x m) c st1 (λ y. at_put d widths laws g1 (Tag m) (Value y) z) (λ y w. at_put d widths laws g1 (Tag m) (Tag y) z ∙ level_at y (nat_eq y m) refl z ez)
             (λ y. at_put d widths laws g1 (Tag m) (Seat y) z) (kept_put d widths laws g1 (Tag m) z (λ y. refl)))))
-        | inr t ↦ rw t (turns_stay d k g g1 s1 (record { kept = λ j i. refl; refused = λ n. refl; levels = λ n. refl }) st1)
+        | inr t ↦ rw t (turns_stay d free g g1 s1 (record { kept = λ j i. refl; refused = λ n. refl; levels = λ n. refl }) st1)
       ]
     where
       level_at : (y : ℕ) (c : Bool) → nat_eq y m ≡ c → (z : ℕ)
@@ -142,11 +142,11 @@ module _ (d : Setting) (widths : Name → ℕ) (laws : Lawful d widths) where
           ∙ ap (λ (x : ℕ). d.code (d.world.order.join (r.level (tag_slot d.world x)) (d.world.order.join l (d.world.order.join (tag d.world i b) (tag d.world e b))))) (sym (eqb-true y m p))
       level_at y false p z ez = refl
 
-  pub retag_cell_effect : (f : Going → Going) (go : Name → Going → Going) (enter : ℕ → ℕ → Store → After) (q : Group) (k : ℕ) (sp : Spot) (site m : ℕ) (j : Term ℕ) (n : LevelTerm) (l : ℕ) (b r : Store) (g : Going)
+  pub retag_cell_effect : (f : Going → Going) (go : Name → Going → Going) (enter : ℕ → ℕ → Store → After) (q : Group) (k free : ℕ) (sp : Spot) (site m : ℕ) (j : Term ℕ) (n : LevelTerm) (l : ℕ) (b r : Store) (g : Going)
       → FineStep d.world q sp.children (RetagCell site m j n) → Begins d k sp (RetagCell site m j n) l b r g
-      → Turns d k g (body_does widths f go (effect_of d sp k (RetagCell site m j n)) g) (effect d.world sp enter (RetagCell site m j n) l b r)
+      → Turns d free g (body_does widths f go (effect_of d sp k (RetagCell site m j n)) g) (effect d.world sp enter (RetagCell site m j n) l b r)
   unfolding effect
-  retag_cell_effect f go enter q k sp site m j n l b r g fine h =
+  retag_cell_effect f go enter q k free sp site m j n l b r g fine h =
       let i = value d.world j b in
       let c = new_level d.world n b in
       let keep = d.world.order.le (level d.world (start m i) b) c in
@@ -160,6 +160,6 @@ module _ (d : Setting) (widths : Name → ℕ) (laws : Lawful d widths) where
       ap (λ (z : ℕ). if z == 0 then 0 else g.now.cell (d.name (Value m)) x) h.keeps ∙ chosen keep (g.now.cell (d.name (Value m)) x) 0
       ∙ ap (λ (z : ℕ). if keep then z else 0) (ap (g.now.cell (d.name (Value m))) ex ∙ h.starts m i fine.0) in
       let g2 = put_next d g1 (Value m) x y in
-      turns_stay d k g g2 _ (record { kept = λ j i. refl; refused = λ n. refl; levels = λ n. refl })
+      turns_stay d free g g2 _ (record { kept = λ j i. refl; refused = λ n. refl; levels = λ n. refl })
       (subst (λ (s : Store). Stands d g2 s) (swapped m i v c r fine.1)
       (number_next g1 (put_level d.world (next m i) c r) m i x y v (mark_next g r m i x w c h.stands fine.1 ex h.new) ex ey))

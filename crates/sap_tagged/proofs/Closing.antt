@@ -1,20 +1,21 @@
 -- Nothing stands behind a goto or a fall.
-use Rattle.std.proofs.Common.{◌≡◌, ℕ, zero, suc, ◌+◌, Bool, true, false, not, ◌&&◌, ◌||◌, refl, ap, ◌∙◌, inl, inr, if◌then◌else◌}
+use Rattle.std.proofs.Common.{◌≡◌, ℕ, zero, suc, ◌+◌, ◌^◌, nat_le, List, [], ◌∷◌, length, take, drop, Bool, true, false, not, ◌&&◌, ◌||◌, refl, ap, ◌∙◌, inl, inr, if◌then◌else◌}
 use Rattle.std.proofs.lemmas.Bool.{cases_Bool}
 use Rattle.sap_maps.specs.Maps.{Name}
-use Rattle.sap_maps.specs.Term.{Term}
-use Rattle.sap_meaning.specs.Program.{root, is_dynamic, is_register, listed, Step, Set, Write, Retag, RetagCell, Goto, Fall, Command, Do, Try, If, Block, End, Then}
+use Rattle.sap_maps.specs.Term.{Term, part}
+use Rattle.sap_meaning.specs.Program.{root, is_dynamic, is_register, listed, Step, Set, Write, Retag, RetagCell, Goto, Fall, Command, Do, Try, If, TryThen, Case, Arms, Last, Arm, Block, End, Then}
+use Rattle.sap_meaning.specs.Expressions.{width_of}
 use Rattle.sap_meaning.specs.Checks.{Spot}
 use Rattle.sap_meaning.specs.Runs.{listed_alone}
 use Rattle.sap_meaning.specs.Fine as fine
-use Rattle.sap_meaning.specs.Fine.{Open, OpenBlock, Closes, Final}
+use Rattle.sap_meaning.specs.Fine.{Open, OpenArms, OpenBlock, Closes, Final, ClosingArms}
 use Rattle.sap_plain.specs.Nested.{Body, stop, act, cases, goto, fall}
 use Rattle.sap_plain.specs.IsPlain.{transfers, ends_in_transfers}
 use Rattle.sap_plain.specs.Views.{follow}
 use Rattle.sap_tagged.specs.Keys.{Key, Tag, Wire}
 use Rattle.sap_tagged.specs.Setting.{Setting}
 use Rattle.sap_tagged.specs.Levels.{always, expr, var, lub, bits}
-use Rattle.sap_tagged.specs.Commands.{gives, sweep, resets, effect_of, refusal, outcome, attempt_of, select_of, wires, wires_block, command_plain, block_plain}
+use Rattle.sap_tagged.specs.Commands.{gives, sweep, resets, effect_of, refusal, outcome, attempt_of, outcome_then, attempt_then_of, pick_width, picks_arm, picks, decides, pick_of, select_of, wires, wires_block, command_plain, arms_plain, block_plain}
 use Rattle.sap_tagged.proofs.Bools.{apart_tests, both_true, either_second}
 
 -- a body that ends as it should; and one that goes nowhere either
@@ -120,8 +121,106 @@ module _ (d : Setting) where
     unfolding select_of
     select_goes p k e hangs x y f g = sweep_goes d Tag hangs (λ x. lub (var d (Tag x)) (var d (Wire k))) 0 (root d.world) (cases (expr d e) x y stop) (rw (f, g) refl)
 
+    -- behind an accepted step's effect the accepted part, where the step goes nowhere
+
+    attempt_then_ends : (p k : ℕ) (t : Step) (hangs : ℕ → Bool) (x y : Body) → fine.transfers t ≡ false → Ends x → Ends y → Ends (attempt_then_of d sp p k t hangs x y)
+    unfolding attempt_then_of
+    attempt_then_ends p k t hangs x y f ex ey =
+        let e = follow_ends (effect_of d sp k t) x (record { ends = effect_ends sp k t; goes = effect_goes sp k t f }) ex in
+        sweep_ends d Tag hangs (λ x. lub (var d (Tag x)) (var d (Wire (k + 1)))) 0 (root d.world) (outcome_then d sp k t x y)
+        (elim (cases_Bool (always d.world sp t)) [
+          | inl i ↦ rw i e
+          | inr i ↦ rw i (choice_ends (var d (Wire k)) (follow (effect_of d sp k t) x) (refusal d k t y) e ey)
+        ])
+
+    attempt_then_goes : (p k : ℕ) (t : Step) (hangs : ℕ → Bool) (x y : Body) → fine.transfers t ≡ false → transfers x ≡ false → transfers y ≡ false
+        → transfers (attempt_then_of d sp p k t hangs x y) ≡ false
+    unfolding attempt_then_of
+    attempt_then_goes p k t hangs x y f ex ey =
+        let e = follow_goes (effect_of d sp k t) x (effect_goes sp k t f) ex in
+        sweep_goes d Tag hangs (λ x. lub (var d (Tag x)) (var d (Wire (k + 1)))) 0 (root d.world) (outcome_then d sp k t x y)
+        (elim (cases_Bool (always d.world sp t)) [
+          | inl i ↦ rw i e
+          | inr i ↦ rw (i, e, ey) refl
+        ])
+
+    -- the number of a block, and the block that has it
+
+    picks_arm_ends : (u n w j i : ℕ) (cs : List ℕ) (rest : Body) → Ends rest → Ends (picks_arm d u n w j i cs rest)
+    picks_arm_ends u n w j i [] rest e = e
+    picks_arm_ends u n w j i (c ∷ cs) rest e = picks_arm_ends u n w j i cs rest e
+
+    picks_arm_goes : (u n w j i : ℕ) (cs : List ℕ) (rest : Body) → transfers rest ≡ false → transfers (picks_arm d u n w j i cs rest) ≡ false
+    picks_arm_goes u n w j i [] rest e = e
+    picks_arm_goes u n w j i (c ∷ cs) rest e = picks_arm_goes u n w j i cs rest e
+
+    picks_ends : (u n w j i : ℕ) (arms : Arms) (rest : Body) → Ends rest → Ends (picks d u n w j i arms rest)
+    picks_ends u n w j i (Last b) rest e = e
+    picks_ends u n w j i (Arm constants b arms) rest e = picks_ends u n w j (suc i) arms (picks_arm d u n w j i constants rest) (picks_arm_ends u n w j i constants rest e)
+
+    picks_goes : (u n w j i : ℕ) (arms : Arms) (rest : Body) → transfers rest ≡ false → transfers (picks d u n w j i arms rest) ≡ false
+    picks_goes u n w j i (Last b) rest e = e
+    picks_goes u n w j i (Arm constants b arms) rest e = picks_goes u n w j (suc i) arms (picks_arm d u n w j i constants rest) (picks_arm_goes u n w j i constants rest e)
+
+    abbrev Each : (Body → Type 0) → List Body → Type 0
+    Each P [] = Unit {0}
+    Each P (b ∷ bs) = P b × Each P bs
+
+    take_each : (P : Body → Type 0) (n : ℕ) (bs : List Body) → Each P bs → Each P (take n bs)
+    take_each P zero bs h = tt
+    take_each P (suc n) [] h = tt
+    take_each P (suc n) (b ∷ bs) h = (h.0, take_each P n bs h.1)
+
+    drop_each : (P : Body → Type 0) (n : ℕ) (bs : List Body) → Each P bs → Each P (drop n bs)
+    drop_each P zero bs h = h
+    drop_each P (suc n) [] h = tt
+    drop_each P (suc n) (b ∷ bs) h = drop_each P n bs h.1
+
+    decides_ends : (j m : ℕ) (bs : List Body) → Each Ends bs → Ends (decides d j m bs)
+    decides_ends j zero [] h = refl
+    decides_ends j zero (b ∷ bs) h = h.0
+    decides_ends j (suc m) bs h = elim (cases_Bool (nat_le (length bs) (2 ^ m))) [
+      | inl t ↦ rw t (decides_ends j m bs h)
+      | inr t ↦
+          rw t
+          (choice_ends (part (var d (Wire j)) m m) (decides d j m (drop (2 ^ m) bs)) (decides d j m (take (2 ^ m) bs))
+          (decides_ends j m (drop (2 ^ m) bs) (drop_each Ends (2 ^ m) bs h)) (decides_ends j m (take (2 ^ m) bs) (take_each Ends (2 ^ m) bs h)))
+    ]
+
+    decides_goes : (j m : ℕ) (bs : List Body) → Each (λ b. transfers b ≡ false) bs → transfers (decides d j m bs) ≡ false
+    decides_goes j zero [] h = refl
+    decides_goes j zero (b ∷ bs) h = h.0
+    decides_goes j (suc m) bs h = elim (cases_Bool (nat_le (length bs) (2 ^ m))) [
+      | inl t ↦ rw t (decides_goes j m bs h)
+      | inr t ↦
+          rw t
+          (rw (decides_goes j m (drop (2 ^ m) bs) (drop_each (λ b. transfers b ≡ false) (2 ^ m) bs h), decides_goes j m (take (2 ^ m) bs) (take_each (λ b. transfers b ≡ false) (2 ^ m) bs h)) refl)
+    ]
+
+    pick_ends : (p k : ℕ) (e : Term ℕ) (hangs : ℕ → Bool) (arms : Arms) (blocks : List Body) → Each Ends blocks → Ends (pick_of d p k e hangs arms blocks)
+    unfolding pick_of
+    pick_ends p k e hangs arms blocks h =
+        let choice = decides d (k + 3) (pick_width arms) blocks in
+        sweep_ends d Tag hangs (λ x. lub (var d (Tag x)) (var d (Wire k))) 0 (root d.world) (picks d (width_of d.world e) (k + 2) (pick_width arms) (k + 3) 0 arms choice)
+        (picks_ends (width_of d.world e) (k + 2) (pick_width arms) (k + 3) 0 arms choice (decides_ends (k + 3) (pick_width arms) blocks h))
+
+    pick_goes : (p k : ℕ) (e : Term ℕ) (hangs : ℕ → Bool) (arms : Arms) (blocks : List Body) → Each (λ b. transfers b ≡ false) blocks → transfers (pick_of d p k e hangs arms blocks) ≡ false
+    unfolding pick_of
+    pick_goes p k e hangs arms blocks h =
+        let choice = decides d (k + 3) (pick_width arms) blocks in
+        sweep_goes d Tag hangs (λ x. lub (var d (Tag x)) (var d (Wire k))) 0 (root d.world) (picks d (width_of d.world e) (k + 2) (pick_width arms) (k + 3) 0 arms choice)
+        (picks_goes (width_of d.world e) (k + 2) (pick_width arms) (k + 3) 0 arms choice (decides_goes (k + 3) (pick_width arms) blocks h))
+
+    all_end : (bs : List Body) → Each Stays bs → Each Ends bs
+    all_end [] h = tt
+    all_end (b ∷ bs) h = (h.0.ends, all_end bs h.1)
+
+    none_go : (bs : List Body) → Each Stays bs → Each (λ b. transfers b ≡ false) bs
+    none_go [] h = tt
+    none_go (b ∷ bs) h = (h.0.goes, none_go bs h.1)
+
     mutual
-      unfolding command_plain block_plain
+      unfolding command_plain arms_plain block_plain
 
       command_stays : (p k : ℕ) (c : Command) → Open c → Stays (command_plain d sp p k c)
       command_stays p k (Do t) o = record {
@@ -141,6 +240,21 @@ module _ (d : Setting) where
             ends = select_ends p k e (listed hang) (block_plain d sp (k + 1) (k + 2) a) (block_plain d sp (k + 1) (k + 2 + wires_block a) b) x.ends y.ends;
             goes = select_goes p k e (listed hang) (block_plain d sp (k + 1) (k + 2) a) (block_plain d sp (k + 1) (k + 2 + wires_block a) b) x.goes y.goes;
           }
+      command_stays p k (TryThen t hang a b) o =
+          let x = block_stays (k + 2) (k + 5) a o.1 in
+          let y = block_stays (k + 2) (k + 5 + wires_block a) b o.2 in
+          record {
+            ends = attempt_then_ends p k t (listed hang) (block_plain d sp (k + 2) (k + 5) a) (block_plain d sp (k + 2) (k + 5 + wires_block a) b) o.0 x.ends y.ends;
+            goes = attempt_then_goes p k t (listed hang) (block_plain d sp (k + 2) (k + 5) a) (block_plain d sp (k + 2) (k + 5 + wires_block a) b) o.0 x.goes y.goes;
+          }
+      command_stays p k (Case hang e arms) o =
+          let blocks = arms_plain d sp (k + 1) (k + 4) arms in
+          let h = arms_stay (k + 1) (k + 4) arms o in
+          record { ends = pick_ends p k e (listed hang) arms blocks (all_end blocks h); goes = pick_goes p k e (listed hang) arms blocks (none_go blocks h) }
+
+      arms_stay : (p k : ℕ) (arms : Arms) → OpenArms arms → Each Stays (arms_plain d sp p k arms)
+      arms_stay p k (Last b) o = (block_stays p k b o, tt)
+      arms_stay p k (Arm constants b arms) o = (block_stays p k b o.0, arms_stay p (k + wires_block b) arms o.1)
 
       block_stays : (p k : ℕ) (b : Block) → OpenBlock b → Stays (block_plain d sp p k b)
       block_stays p k End o = record { ends = refl; goes = refl }
@@ -153,7 +267,7 @@ module _ (d : Setting) where
           }
 
     mutual
-      unfolding command_plain block_plain
+      unfolding command_plain arms_plain block_plain
 
       final_ends : (p k : ℕ) (c : Command) → Final c → Ends (command_plain d sp p k c)
       final_ends p k (Do t) o = attempt_ends p k t (listed_alone d.world sp t) stop refl
@@ -161,6 +275,14 @@ module _ (d : Setting) where
       final_ends p k (If hang e a b) o =
           select_ends p k e (listed hang) (block_plain d sp (k + 1) (k + 2) a) (block_plain d sp (k + 1) (k + 2 + wires_block a) b)
           (block_ends (k + 1) (k + 2) a o.0) (block_ends (k + 1) (k + 2 + wires_block a) b o.1)
+      final_ends p k (TryThen t hang a b) o =
+          attempt_then_ends p k t (listed hang) (block_plain d sp (k + 2) (k + 5) a) (block_plain d sp (k + 2) (k + 5 + wires_block a) b) o.0
+          (block_ends (k + 2) (k + 5) a o.1) (block_ends (k + 2) (k + 5 + wires_block a) b o.2)
+      final_ends p k (Case hang e arms) o = pick_ends p k e (listed hang) arms (arms_plain d sp (k + 1) (k + 4) arms) (arms_end (k + 1) (k + 4) arms o)
+
+      arms_end : (p k : ℕ) (arms : Arms) → ClosingArms arms → Each Ends (arms_plain d sp p k arms)
+      arms_end p k (Last b) o = (block_ends p k b o, tt)
+      arms_end p k (Arm constants b arms) o = (block_ends p k b o.0, arms_end p (k + wires_block b) arms o.1)
 
       pub block_ends : (p k : ℕ) (b : Block) → Closes b → Ends (block_plain d sp p k b)
       block_ends p k End o = absurd o

@@ -11,7 +11,7 @@ use Rattle.sap_names.specs.declared.kind.Code.TheVariants.{E7}
 use Rattle.sap_names.specs.Entities.{what_is}
 use Rattle.sap_names.specs.declared.kind.Use.TheVariants.{Indexed as indexed}
 use Rattle.sap_names.specs.declared.kind.Use.TheVariants as uses
-use Rattle.sap_names.specs.NameFaults.{use_faults, name_faults, fault_if, unsettled, expression_faults, parts_faults, tag_faults, tags_faults, simple_faults, command_faults, block_faults, else_faults, commands_faults, kind_faults, state_faults, states_faults}
+use Rattle.sap_names.specs.NameFaults.{use_faults, name_faults, fault_if, unsettled, expression_faults, parts_faults, tag_faults, tags_faults, simple_faults, command_faults, arms_faults, constants_faults, block_faults, else_faults, commands_faults, kind_faults, state_faults, states_faults}
 use Rattle.sap_names.specs.Widths as widths
 use Rattle.sap_names.specs.Widths.{own, own_parts, register_width, cell_width, index_width, sliced, extended, family, asked_left, asked_right, asked_one, is_sound, all_sound}
 use Rattle.sap_maps.specs.Term.{Term, constant, read, cell, one, two, choose, join, part}
@@ -23,8 +23,8 @@ use Rattle.sap_lattice.specs.Levels.{Levels}
 use Rattle.sap_resolve.specs.Terms.{known, term_of, parts_of, widened, level_term, level_terms}
 use Rattle.sap_resolve.specs.Worlds.{states_in}
 use Rattle.sap_resolve.specs.Sites.{Home, simple_sites, command_sites, block_sites, state_sites}
-use Rattle.sap_resolve.specs.Resolve.{site_number, step_of, command_of, block_of, else_of, list_of, state_of, group_of}
-use Rattle.sap_resolve.specs.Fill.{filled_step, filled, filled_block, filled_state, filled_group}
+use Rattle.sap_resolve.specs.Resolve.{site_number, step_of, command_of, arms_of, block_of, else_of, list_of, state_of, group_of}
+use Rattle.sap_resolve.specs.Fill.{filled_step, filled, filled_arms, filled_block, filled_state, filled_group}
 use Rattle.sap_sized.proofs.Faultless.{none_two, none_three, none_four}
 use Rattle.sap_sized.proofs.Declared.{Resolved}
 use Rattle.sap_sized.proofs.Operators.{asked_width}
@@ -61,6 +61,12 @@ abbrev mutual
   CommandConditions w (program.Do k) = StepConditions w k
   CommandConditions w (program.Try k hang h) = StepConditions w k × BlockConditions w h
   CommandConditions w (program.If hang e a b) = Conditions w e × BlockConditions w a × BlockConditions w b
+  CommandConditions w (program.TryThen k hang a b) = StepConditions w k × BlockConditions w a × BlockConditions w b
+  CommandConditions w (program.Case hang e arms) = Conditions w e × ArmsConditions w arms
+
+  pub ArmsConditions : World → program.Arms → Type 0
+  ArmsConditions w (program.Last b) = BlockConditions w b
+  ArmsConditions w (program.Arm constants b arms) = BlockConditions w b × ArmsConditions w arms
 
   pub BlockConditions : World → Block → Type 0
   BlockConditions w End = Unit {0}
@@ -172,6 +178,18 @@ module _ (ls : Levels) (h : Home) (w : World) (r : Resolved h.entities w) where
     command_conditions k (tree.If place e a b) f =
         let s = none_three (expression_faults known_as e (Some 1)) (block_faults ls.names known_as a) (else_faults ls.names known_as b) f in
         (conditions h.entities w r e (Some 1) s.0, block_conditions k a s.1, else_conditions (k + block_sites h a) b s.2)
+    command_conditions k (tree.TryThen c place a b) f =
+        let s = none_three (simple_faults ls.names known_as c) (block_faults ls.names known_as a) (block_faults ls.names known_as b) f in
+        (step_conditions (site_number h k c) c s.0, block_conditions (k + simple_sites h c) a s.1, block_conditions (k + simple_sites h c + block_sites h a) b s.2)
+    command_conditions k (tree.Case place e arms) f =
+        let s = none_two (expression_faults known_as e common.None) (arms_faults ls.names known_as (own known_as e) arms) f in
+        (conditions h.entities w r e common.None s.0, arms_conditions k (own known_as e) arms s.1)
+
+    arms_conditions : (k : ℕ) (asked : Option ℕ) (arms : tree.Arms) → arms_faults ls.names known_as asked arms ≡ [] → ArmsConditions w (arms_of ls h k arms)
+    arms_conditions k asked (tree.Last b) f = block_conditions k b f
+    arms_conditions k asked (tree.Arm constants b arms) f =
+        let s = none_three (constants_faults known_as asked constants) (block_faults ls.names known_as b) (arms_faults ls.names known_as asked arms) f in
+        (block_conditions k b s.1, arms_conditions (k + block_sites h b) asked arms s.2)
 
     block_conditions : (k : ℕ) (b : tree.CommandBlock) → block_faults ls.names known_as b ≡ [] → BlockConditions w (block_of ls h k b)
     block_conditions k (tree.Commands cs after) f = list_conditions k cs f
@@ -215,6 +233,12 @@ module _ (w : World) where
     filled_conditions at (program.Do k) h = filled_step_conditions at k h
     filled_conditions at (program.Try k hang b) h = (filled_step_conditions at k h.0, filled_block_conditions at b h.1)
     filled_conditions at (program.If hang e a b) h = (h.0, filled_block_conditions at a h.1, filled_block_conditions at b h.2)
+    filled_conditions at (program.TryThen k hang a b) h = (filled_step_conditions at k h.0, filled_block_conditions at a h.1, filled_block_conditions at b h.2)
+    filled_conditions at (program.Case hang e arms) h = (h.0, filled_arms_conditions at arms h.1)
+
+    filled_arms_conditions : (at : Spot) (arms : program.Arms) → ArmsConditions w arms → ArmsConditions w (filled_arms w at arms)
+    filled_arms_conditions at (program.Last b) h = filled_block_conditions at b h
+    filled_arms_conditions at (program.Arm constants b arms) h = (filled_block_conditions at b h.0, filled_arms_conditions at arms h.1)
 
     filled_block_conditions : (at : Spot) (b : Block) → BlockConditions w b → BlockConditions w (filled_block w at b)
     filled_block_conditions at End h = h

@@ -4,8 +4,8 @@ use Rattle.std.proofs.lemmas.Bool.{cases_Bool}
 use Rattle.std.proofs.lemmas.Grind.{common_steps}
 use Rattle.sap_tree.specs.declared.syntax.Kind.{Kind}
 use Rattle.sap_tree.specs.declared.syntax.Kind.TheVariants.{Dynamic, Enforced}
-use Rattle.sap_tree.specs.Syntax.{Command, Do, Try, If, CommandBlock, Commands, ElseBlock, NoElse, Else, CommandList, NoCommand, AndCommand, StateTree, StateOf, StateList, NoState, AndState, DesignTree}
-use Rattle.sap_tree.specs.Whole.{command_count, block_count, else_count, list_count, state_commands, states_commands}
+use Rattle.sap_tree.specs.Syntax.{Command, Do, Try, If, TryThen, Case, Arms, Last, Arm, CommandBlock, Commands, ElseBlock, NoElse, Else, CommandList, NoCommand, AndCommand, StateTree, StateOf, StateList, NoState, AndState, DesignTree}
+use Rattle.sap_tree.specs.Whole.{command_count, arms_count, block_count, else_count, list_count, state_commands, states_commands}
 use Rattle.sap_lattice.specs.Levels.{Levels, order_of}
 use Rattle.sap_names.specs.Entities.{what_is, entities_of}
 use Rattle.sap_names.specs.declared.entity.Entity as declared_entity
@@ -95,12 +95,18 @@ one_if false = omega arith
 
 module _ (h : Home) where
   mutual
-    unfolding command_count block_count else_count list_count
+    unfolding command_count arms_count block_count else_count list_count
 
     command_few : (c : Command) → tree_sites.command_sites h c ≤ command_count c
     command_few (Do k) = one_if _
     command_few (Try k place b) = let i = block_few b in let j : tree_sites.simple_sites h k ≤ 1 = one_if _ in omega arith
     command_few (If place x a b) = let i = block_few a in let j = else_few b in omega arith
+    command_few (TryThen k place a b) = let i = block_few a in let m = block_few b in let j : tree_sites.simple_sites h k ≤ 1 = one_if _ in omega arith
+    command_few (Case place x arms) = let i = arms_few arms in omega arith
+
+    arms_few : (arms : Arms) → tree_sites.arms_sites h arms ≤ arms_count arms
+    arms_few (Last b) = block_few b
+    arms_few (Arm constants b arms) = let i = block_few b in let j = arms_few arms in omega arith
 
     block_few : (b : CommandBlock) → tree_sites.block_sites h b ≤ block_count b
     block_few (Commands cs after) = list_few cs

@@ -1,6 +1,6 @@
 -- The program of a well-formed design has all that the law asks for.
-use Rattle.std.proofs.Common.{◌≡◌, ℕ, zero, suc, ◌+◌, ◌^◌, ◌<◌, ◌≤◌, List, [], ◌∷◌, ◌++◌, map, length, length-append, Bool, true, false, ◌&&◌, refl, sym, ap, ◌∙◌, subst, arith, bytes_eq, nat_eq, nat_lt, nat_le, get_or}
-use Rattle.std.specs.List.{list_all}
+use Rattle.std.proofs.Common.{◌≡◌, ℕ, zero, suc, ◌+◌, ◌^◌, ◌<◌, ◌≤◌, List, [], ◌∷◌, ◌++◌, map, length, length-append, Bool, true, false, not, ◌&&◌, ◌||◌, refl, sym, ap, ◌∙◌, subst, arith, bytes_eq, nat_eq, nat_lt, nat_le, get_or}
+use Rattle.std.specs.List.{list_all, list_any}
 use Rattle.std.proofs.lemmas.Bool.{eqb-true, eq-eqb}
 use Rattle.std.proofs.lemmas.Grind.{common_steps}
 use Rattle.sap_tree.specs.declared.syntax.Decl.{Decl}
@@ -8,7 +8,9 @@ use Rattle.sap_tree.specs.declared.syntax.Decl.TheVariants as decl
 use Rattle.sap_tree.specs.Syntax.{StateTree, StateOf, StateList, NoState, AndState, DesignTree}
 use Rattle.sap_tree.specs.Words as words
 use Rattle.sap_tree.specs.Whole.{is_declaration, has_state, are_states, is_state, is_tree, is_within_limits, is_whole, state_count, states_count, states_commands}
-use Rattle.sap_tree.specs.Limits.{most_states, most_commands}
+use Rattle.sap_tree.specs.Limits.{most_name_bytes, most_states, most_commands}
+use Rattle.sap_tree.specs.declared.version.Version.{Version}
+use Rattle.sap_tree.specs.declared.version.Version.TheVariants.{One, Two}
 use Rattle.sap_lattice.specs.Levels.{Levels, order_of}
 use Rattle.sap_lattice.specs.Codes.{width_of}
 use Rattle.sap_names.specs.declared.entity.Entity.{Entity}
@@ -18,6 +20,7 @@ use Rattle.sap_meaning.specs.Program.{World, root, children}
 use Rattle.sap_resolve.specs.Terms.{entity_number}
 use Rattle.sap_resolve.specs.Worlds.{states_in, states_below, all_declared, no_children, group_length, state_children, group_children, world_of}
 use Rattle.sap_resolve.specs.Worlds as worlds
+use Rattle.sap_resolve.specs.Resolve.{states_of}
 use Rattle.sap_resolve.proofs.Lookup.{entities_length}
 use Rattle.sap_sized.proofs.Programs.{names_fit_law}
 use Rattle.sap_premises.proofs.Faultless.{nil_left, nil_right}
@@ -33,6 +36,7 @@ use Rattle.sap_tagged.specs.Law.{IsSound, PlainStands}
 use Rattle.sap_tagged.proofs.Bools.{both_true}
 use Rattle.sap_tagged.proofs.KeyNames.{NamesApart, same_name, name_is, same_test}
 use Rattle.sap_tagged.proofs.Distinct.{distinct}
+use Rattle.sap_tagged.proofs.FewArms.{group_few, filled_group_few}
 use Rattle.sap_tagged.proofs.Premises.{Design}
 use Rattle.sap_tagged.proofs.Cycle.{run_stands}
 use Rattle.sap_tagged.proofs.Shown.{interface}
@@ -46,44 +50,68 @@ and_right p q h = (both_true p q h).1
 
 -- names are those of the design language, and so words
 
-word_of : (n : List ℕ) → words.is_name n ≡ true → words.is_word n ≡ true
+word_of : (version : Version) (n : List ℕ) → words.is_name version n ≡ true → words.is_word n ≡ true
 unfolding words.is_name
-word_of n h = and_left (words.is_word n) _ (and_left _ _ h)
+word_of version n h = and_left (words.is_word n) _ (and_left _ _ h)
 
-abbrev AllNamed : List Entity → Type 0
-AllNamed [] = Unit {0}
-AllNamed (e ∷ es) = (words.is_name e.name.name ≡ true) × AllNamed es
+-- a name of any version is one of the first
 
-named_join : (es fs : List Entity) → AllNamed es → AllNamed fs → AllNamed (es ++ fs)
-named_join [] fs a b = b
-named_join (e ∷ es) fs a b = (a.0, named_join es fs a.1 b)
+any_front : (f : List ℕ → Bool) (xs ys : List (List ℕ)) → list_any f (xs ++ ys) ≡ false → list_any f xs ≡ false
+any_front f [] ys h = refl
+any_front f (x ∷ xs) ys h = by (f x) h (λ e. any_front f xs ys e)
+  where
+    by : (b : Bool) → (b || list_any f (xs ++ ys)) ≡ false → (list_any f (xs ++ ys) ≡ false → list_any f xs ≡ false) → (b || list_any f xs) ≡ false
+    by true e g = e
+    by false e g = g e
 
-declaration_named : (d : Decl) → is_declaration d ≡ true → words.is_name (entity_of d).name.name ≡ true
-declaration_named (decl.Input place name width) h = and_left _ _ h
-declaration_named (decl.Register place name width kind start) h = and_left _ _ (and_left _ _ (and_left _ _ h))
-declaration_named (decl.Memory place name width depth kind) h = and_left _ _ (and_left _ _ (and_left _ _ h))
+off : (b : Bool) → not b ≡ true → b ≡ false
+off true h = sym h
+off false h = refl
 
-declared_named : (ds : List Decl) → list_all is_declaration ds ≡ true → AllNamed (declared_in ds)
-declared_named [] h = tt
-declared_named (d ∷ ds) h =
-    (declaration_named d (and_left (is_declaration d) (list_all is_declaration ds) h), declared_named ds (and_right (is_declaration d) (list_all is_declaration ds) h))
+first_name : (version : Version) (n : List ℕ) → words.is_name version n ≡ true → words.is_name One n ≡ true
+unfolding words.is_name
+first_name One n h = h
+first_name Two n h =
+    let a = both_true (words.is_word n && not (words.is_keyword Two n)) (nat_le (length n) most_name_bytes) h in
+    let b = both_true (words.is_word n) (not (words.is_keyword Two n)) a.0 in
+    let f : words.is_keyword One n ≡ false = any_front (bytes_eq n) (words.keywords One) (map words.word_text words.later_words) (off (words.is_keyword Two n) b.1) in
+    rw (b.0, f, a.1) refl
+
+abbrev AllNamed : Version → List Entity → Type 0
+AllNamed version [] = Unit {0}
+AllNamed version (e ∷ es) = (words.is_name version e.name.name ≡ true) × AllNamed version es
+
+named_join : (version : Version) (es fs : List Entity) → AllNamed version es → AllNamed version fs → AllNamed version (es ++ fs)
+named_join version [] fs a b = b
+named_join version (e ∷ es) fs a b = (a.0, named_join version es fs a.1 b)
+
+declaration_named : (version : Version) (d : Decl) → is_declaration version d ≡ true → words.is_name version (entity_of d).name.name ≡ true
+declaration_named version (decl.Input place name width) h = and_left _ _ h
+declaration_named version (decl.Register place name width kind start) h = and_left _ _ (and_left _ _ (and_left _ _ h))
+declaration_named version (decl.Memory place name width depth kind) h = and_left _ _ (and_left _ _ (and_left _ _ h))
+
+declared_named : (version : Version) (ds : List Decl) → list_all (is_declaration version) ds ≡ true → AllNamed version (declared_in ds)
+declared_named version [] h = tt
+declared_named version (d ∷ ds) h =
+    let i = both_true (is_declaration version d) (list_all (is_declaration version) ds) h in (declaration_named version d i.0, declared_named version ds i.1)
 
 mutual
   unfolding is_state are_states
 
-  state_named : (s : StateTree) → is_state s ≡ true → AllNamed (state_entities s)
-  state_named (StateOf place name kind body children) h =
-      (and_left _ _ (and_left _ _ (and_left _ _ (and_left _ _ h))), states_named children (and_right _ (are_states children) h))
+  state_named : (version : Version) (s : StateTree) → is_state version s ≡ true → AllNamed version (state_entities s)
+  state_named version (StateOf place name kind body children) h =
+      (and_left _ _ (and_left _ _ (and_left _ _ (and_left _ _ h))), states_named version children (and_right _ (are_states version children) h))
 
-  states_named : (g : StateList) → are_states g ≡ true → AllNamed (group_entities g)
-  states_named NoState h = tt
-  states_named (AndState s rest) h =
-      named_join (state_entities s) (group_entities rest) (state_named s (and_left (is_state s) (are_states rest) h)) (states_named rest (and_right (is_state s) (are_states rest) h))
+  states_named : (version : Version) (g : StateList) → are_states version g ≡ true → AllNamed version (group_entities g)
+  states_named version NoState h = tt
+  states_named version (AndState s rest) h =
+      let i = both_true (is_state version s) (are_states version rest) h in
+      named_join version (state_entities s) (group_entities rest) (state_named version s i.0) (states_named version rest i.1)
 
-named_at : (es : List Entity) → AllNamed es → (x : ℕ) → x < length es → words.is_name (name_at es x) ≡ true
-named_at [] a x l = absurd (omega arith)
-named_at (e ∷ es) a zero l = a.0
-named_at (e ∷ es) a (suc x) l = named_at es a.1 x (omega arith)
+named_at : (version : Version) (es : List Entity) → AllNamed version es → (x : ℕ) → x < length es → words.is_name version (name_at es x) ≡ true
+named_at version [] a x l = absurd (omega arith)
+named_at version (e ∷ es) a zero l = a.0
+named_at version (e ∷ es) a (suc x) l = named_at version es a.1 x (omega arith)
 
 names_at : (es : List Entity) (x : ℕ) → get_or (map (λ (e : Entity). e.name.name) es) x [] ≡ name_at es x
 names_at [] x = refl
@@ -208,14 +236,19 @@ module _ (ls : Levels) (D : DesignTree) (sg : IsSound ls D) where
   number_at : (x : ℕ) → nat_lt x (root w) ≡ true → entity_number es (name d x) ≡ x
   number_at x l = ap (λ (a : List ℕ). entity_number es a) (names_at es x) ∙ unique es no_name_twice x (in_length x l)
 
-  all_named : AllNamed es
-  all_named =
-      named_join (declared_in D.declarations) (group_entities D.states)
-      (declared_named D.declarations (and_left (list_all is_declaration D.declarations) (has_state D.states) (and_left (list_all is_declaration D.declarations && has_state D.states) (are_states D.states) split.0)))
-      (states_named D.states (and_right (list_all is_declaration D.declarations && has_state D.states) (are_states D.states) split.0))
+  declared : list_all (is_declaration D.version) D.declarations ≡ true
+  declared = and_left _ (has_state D.states) (and_left _ (are_states D.version D.states) split.0)
 
-  is_named : (x : ℕ) → nat_lt x (root w) ≡ true → words.is_name (name d x) ≡ true
-  is_named x l = ap words.is_name (names_at es x) ∙ named_at es all_named x (in_length x l)
+  all_states : are_states D.version D.states ≡ true
+  all_states = and_right (list_all (is_declaration D.version) D.declarations && has_state D.states) (are_states D.version D.states) split.0
+
+  all_named : AllNamed D.version es
+  all_named =
+      named_join D.version (declared_in D.declarations) (group_entities D.states) (declared_named D.version D.declarations declared)
+      (states_named D.version D.states all_states)
+
+  is_named : (x : ℕ) → nat_lt x (root w) ≡ true → words.is_name One (name d x) ≡ true
+  is_named x l = first_name D.version (name d x) (ap (words.is_name D.version) (names_at es x) ∙ named_at D.version es all_named x (in_length x l))
 
   pub names : NamesApart d
   names = record {
@@ -223,7 +256,7 @@ module _ (ls : Levels) (D : DesignTree) (sg : IsSound ls D) where
         same_test (bytes_eq (name d x) (name d y)) (nat_eq x y)
         (λ i. eq-eqb x y (sym (number_at x l) ∙ ap (λ (a : List ℕ). entity_number es a) (name_is (name d x) (name d y) i) ∙ number_at y m))
         (λ i. subst (λ (z : ℕ). bytes_eq (name d x) (name d z) ≡ true) (eqb-true x y i) (same_name (name d x)));
-    words = λ x l. word_of (name d x) (is_named x l);
+    words = λ x l. word_of One (name d x) (is_named x l);
     named = is_named;
   }
 
@@ -261,6 +294,7 @@ module _ (ls : Levels) (D : DesignTree) (sg : IsSound ls D) where
     fine = fine_law names_fit_law ls D sg.lattice.laws sg.formed;
     exact = exact ls D;
     tidy = tidy ls D;
+    few_arms = filled_group_few w (root w) (states_of ls D) (group_few D.version ls es 1 (length D.declarations) D.states all_states);
     numbered = numbered ls D states_fit;
     few = few_sites;
     few_children = few_kids;
@@ -275,7 +309,7 @@ module _ (ls : Levels) (D : DesignTree) (sg : IsSound ls D) where
   pub some_child : 0 < children w (root w)
   some_child =
       subst (λ (n : ℕ). 0 < n) (sym (root_children ls D))
-      (some_states D.states (and_right (list_all is_declaration D.declarations) (has_state D.states) (and_left (list_all is_declaration D.declarations && has_state D.states) (are_states D.states) split.0)))
+      (some_states D.states (and_right (list_all (is_declaration D.version) D.declarations) (has_state D.states) (and_left _ (are_states D.version D.states) split.0)))
 
 pub plain_stands : ListsServe → SitesInOrder → PlainStands
 plain_stands serve ordered ls D sg =

@@ -3,7 +3,7 @@ use Rattle.std.proofs.Common.{◌≡◌, ℕ, zero, suc, ◌+◌, ◌≤◌, Lis
 use Rattle.std.proofs.lemmas.Bool.{eqb-true, eq-eqb}
 use Rattle.sap_maps.specs.Maps.{Name}
 use Rattle.sap_meaning.specs.Program as program
-use Rattle.sap_meaning.specs.Program.{World, Kind, Entity, entity, root, children, is_input, is_register, is_memory, is_dynamic, kind_is_input, kind_is_register, kind_is_memory, kind_is_state, Command, Do, Try, If, Block, End, Then, State, Node, Group, None, More}
+use Rattle.sap_meaning.specs.Program.{World, Kind, Entity, entity, root, children, is_input, is_register, is_memory, is_dynamic, kind_is_input, kind_is_register, kind_is_memory, kind_is_state, Command, Do, Try, If, TryThen, Case, Arms, Last, Arm, Block, End, Then, State, Node, Group, None, More}
 use Rattle.sap_net.specs.Names.{is_among, AreDistinct}
 use Rattle.sap_ir.specs.declared.guarded.Var.{Var}
 use Rattle.sap_ir.specs.declared.guarded.Store.{Store}
@@ -11,9 +11,9 @@ use Rattle.sap_ir.specs.IsGuarded.{declared}
 use Rattle.sap_plain.specs.Nested.{declarations}
 use Rattle.sap_interface.specs.StandsFor.{Named, world, depth}
 use Rattle.sap_tagged.specs.Keys.{Key, Value, Tag, Seat, Refused, Level, Wire, First, Inner, index, same, key_name}
-use Rattle.sap_tagged.specs.Commands.{wires, wires_block}
+use Rattle.sap_tagged.specs.Commands.{wires, wires_arms, wires_block}
 use Rattle.sap_tagged.specs.States.{wires_state, wires_group, saved}
-use Rattle.sap_tagged.specs.Plain.{names_of, level_at_start, for_entities, shown_registers, has_own_tag, tag_registers, seat_var, seat_registers, site_wires, step_wires, command_wires, block_wires, state_wires, group_wires, first_wires, inner_wires, memory_of, tags_of, plain_of}
+use Rattle.sap_tagged.specs.Plain.{names_of, level_at_start, for_entities, shown_registers, has_own_tag, tag_registers, seat_var, seat_registers, site_wires, step_wires, command_wires, arms_wires, block_wires, state_wires, group_wires, first_wires, inner_wires, memory_of, tags_of, plain_of}
 use Rattle.sap_tagged.proofs.Bools.{apart_tests, refuted}
 use Rattle.sap_tagged.proofs.KeyNames.{NamesApart, names_apart, same_is}
 
@@ -223,6 +223,32 @@ module _ (d : Named) (tag : ℕ) where
       where
         count : (m n : ℕ) → suc (suc (m + n)) ≡ 2 + m + n
         count m n = omega arith
+    command_named k (TryThen s hang a b) =
+        let m = wires_block a in
+        let n = wires_block b in
+        two_lists (step_wires d tag k) (block_wires d tag (k + 5) a ++ block_wires d tag (k + 5 + m) b) k 5 (m + n) (step_named k)
+        (two_lists (block_wires d tag (k + 5) a) (block_wires d tag (k + 5 + m) b) (k + 5) m n (block_named (k + 5) a) (block_named (k + 5 + m) b))
+        ∙ ap (λ (i : ℕ). keyed (wire_keys k i)) (count m n)
+      where
+        count : (m n : ℕ) → 5 + (m + n) ≡ 5 + m + n
+        count m n = omega arith
+    command_named k (Case hang e arms) =
+        let n = wires_arms arms in
+        let two : k + 2 ≡ k + 1 + 1 = omega arith in
+        let three : k + 3 ≡ k + 1 + 1 + 1 = omega arith in
+        let four : k + 4 ≡ k + 1 + 1 + 1 + 1 = omega arith in
+        ap (λ (ns : List Name). key_name d (Wire k) ∷ key_name d (Wire (k + 1)) ∷ key_name d (Wire (k + 2)) ∷ key_name d (Wire (k + 3)) ∷ ns) (arms_named (k + 4) arms)
+        ∙ ap₂ (λ (i j : ℕ). key_name d (Wire k) ∷ key_name d (Wire (k + 1)) ∷ key_name d (Wire i) ∷ key_name d (Wire j) ∷ keyed (wire_keys (k + 4) n)) two three
+        ∙ ap (λ (i : ℕ). key_name d (Wire k) ∷ key_name d (Wire (k + 1)) ∷ key_name d (Wire (k + 1 + 1)) ∷ key_name d (Wire (k + 1 + 1 + 1)) ∷ keyed (wire_keys i n)) four
+        ∙ ap (λ (i : ℕ). keyed (wire_keys k i)) (count n)
+      where
+        count : (n : ℕ) → suc (suc (suc (suc n))) ≡ 4 + n
+        count n = omega arith
+
+    arms_named : (k : ℕ) (arms : Arms) → names_of (arms_wires d tag k arms) ≡ keyed (wire_keys k (wires_arms arms))
+    arms_named k (Last b) = block_named k b
+    arms_named k (Arm constants b arms) =
+        two_lists (block_wires d tag k b) (arms_wires d tag (k + wires_block b) arms) k (wires_block b) (wires_arms arms) (block_named k b) (arms_named (k + wires_block b) arms)
 
     block_named : (k : ℕ) (b : Block) → names_of (block_wires d tag k b) ≡ keyed (wire_keys k (wires_block b))
     block_named k End = refl

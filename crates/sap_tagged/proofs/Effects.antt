@@ -108,20 +108,21 @@ module _ (d : Setting) (widths : Name → ℕ) (laws : Lawful d widths) where
   state_kind (program.state place last) h f = refl
 
   module _ (f : Going → Going) (go : Name → Going → Going) (enter : ℕ → ℕ → Store → After) where
-    pub set_effect : (q : Group) (k : ℕ) (sp : Spot) (site x : ℕ) (e : Term ℕ) (l : ℕ) (b r : Store) (g : Going) → FineStep d.world q sp.children (Set site x e)
+    -- An effect leaves all wires alone, but for a fall those from `base` on: so those before `free` stay.
+    pub set_effect : (q : Group) (k free : ℕ) (sp : Spot) (site x : ℕ) (e : Term ℕ) (l : ℕ) (b r : Store) (g : Going) → FineStep d.world q sp.children (Set site x e)
         → Begins d k sp (Set site x e) l b r g
-        → Turns d k g (body_does widths f go (effect_of d sp k (Set site x e)) g) (effect d.world sp enter (Set site x e) l b r)
+        → Turns d free g (body_does widths f go (effect_of d sp k (Set site x e)) g) (effect d.world sp enter (Set site x e) l b r)
     unfolding effect put_to
-    set_effect q k sp site x e l b r g fine h = elim (cases_Bool (is_dynamic d.world x)) [
+    set_effect q k free sp site x e l b r g fine h = elim (cases_Bool (is_dynamic d.world x)) [
       | inl t ↦
           rw t
-          (turns_stay d k g _ _ (quiet_next d k g g1 _ (quiet_tag k x g _) (quiet_value k x g1 _))
+          (turns_stay d free g _ _ (quiet_next d free g g1 _ (quiet_tag free x g _) (quiet_value free x g1 _))
           (both_put g r x (value d.world e b) (d.world.order.join l (tag d.world e b)) (value_in widths g1 (expr d e)) (at d g (Wire (k + 3))) h.stands m
           (expr_value d widths laws g1 b (λ n i. at_put d widths laws g (Tag x) (Value n) _ ∙ h.reads n i)
           (λ n i j. ap (λ (c : Name → ℕ → ℕ). c (d.name (Value n)) i) ((memory_put d g (Tag x) (at d g (Wire (k + 3)))).0) ∙ h.starts n i j) e fine.1) h.new))
       | inr t ↦
           rw t
-          (turns_stay d k g _ _ (quiet_value k x g _)
+          (turns_stay d free g _ _ (quiet_value free x g _)
           (value_put g r x (value d.world e b) (value_in widths g (expr d e)) h.stands w m (expr_value d widths laws g b h.reads h.starts e fine.1)))
     ]
       where
@@ -134,21 +135,21 @@ module _ (d : Setting) (widths : Name → ℕ) (laws : Lawful d widths) where
         g1 : Going
         g1 = put_to d g (Tag x) (at d g (Wire (k + 3)))
 
-    pub retag_effect : (q : Group) (k : ℕ) (sp : Spot) (site x : ℕ) (n : LevelTerm) (l : ℕ) (b r : Store) (g : Going) → FineStep d.world q sp.children (Retag site x n)
+    pub retag_effect : (q : Group) (k free : ℕ) (sp : Spot) (site x : ℕ) (n : LevelTerm) (l : ℕ) (b r : Store) (g : Going) → FineStep d.world q sp.children (Retag site x n)
         → Begins d k sp (Retag site x n) l b r g
-        → Turns d k g (body_does widths f go (effect_of d sp k (Retag site x n)) g) (effect d.world sp enter (Retag site x n) l b r)
+        → Turns d free g (body_does widths f go (effect_of d sp k (Retag site x n)) g) (effect d.world sp enter (Retag site x n) l b r)
     unfolding effect put_to
-    retag_effect q k sp site x n l b r g fine h = elim (cases_Bool (is_register d.world x)) [
+    retag_effect q k free sp site x n l b r g fine h = elim (cases_Bool (is_register d.world x)) [
       | inl t ↦
           rw t
-          (turns_stay d k g _ _ (quiet_next d k g g1 _ (quiet_tag k x g _) (quiet_value k x g1 _))
+          (turns_stay d free g _ _ (quiet_next d free g g1 _ (quiet_tag free x g _) (quiet_value free x g1 _))
           (both_put g r x (if stay_test then number (own x) b else 0) (new_level d.world n b) _ (at d g (Wire (k + 3))) h.stands m
           (ap (λ (z : ℕ). if z == 0 then 0 else at d g1 (Value x)) (at_put d widths laws g (Tag x) (Wire (k + 4)) _ ∙ h.keeps)
           ∙ chosen stay_test (at d g1 (Value x)) 0
           ∙ ap (λ (z : ℕ). if stay_test then z else 0) (at_put d widths laws g (Tag x) (Value x) _ ∙ h.reads x (either_second _ (is_register d.world x) t))) h.new))
       | inr t ↦
           rw t
-          (turns_stay d k g _ _ (quiet_tag k x g _)
+          (turns_stay d free g _ _ (quiet_tag free x g _)
           (tag_put g r x (if stay_test then number (own x) b else 0) (new_level d.world n b) _ h.stands m (state_kind (entity d.world x).kind fine.0 t) h.new))
     ]
       where
@@ -161,13 +162,13 @@ module _ (d : Setting) (widths : Name → ℕ) (laws : Lawful d widths) where
         g1 : Going
         g1 = put_to d g (Tag x) (at d g (Wire (k + 3)))
 
-    pub fall_effect : (base k : ℕ) (sp : Spot) (site : ℕ) (hang : List Bool) (l : ℕ) (b r : Store) (g : Going) → k ≤ base → FallsRun d f base sp.state enter
+    pub fall_effect : (base k free : ℕ) (sp : Spot) (site : ℕ) (hang : List Bool) (l : ℕ) (b r : Store) (g : Going) → free ≤ base → FallsRun d f base sp.state enter
         → Begins d k sp (Fall site hang) l b r g
-        → Turns d k g (body_does widths f go (effect_of d sp k (Fall site hang)) g) (effect d.world sp enter (Fall site hang) l b r)
+        → Turns d free g (body_does widths f go (effect_of d sp k (Fall site hang)) g) (effect d.world sp enter (Fall site hang) l b r)
     unfolding effect put_to
-    fall_effect base k sp site hang l b r g kb falls h =
+    fall_effect base k free sp site hang l b r g fb falls h =
         let g1 = put_to d g (Inner sp.state) (at d g (Wire (k + 2))) in
         let c = d.world.order.join l (child_level d.world sp.children (child sp.state b) b) in
         let t = falls g1 r c (stands_aside d g g1 r h.stands (aside_inner d widths laws sp.state g _)) (here_inner d widths laws sp.state g _ ∙ h.inside) in
-        turns_after d k base g g1 (f g1) _ kb (quiet_inner d widths laws k sp.state g _)
+        turns_after d free base g g1 (f g1) _ fb (quiet_inner d widths laws free sp.state g _)
         (subst (λ (cs : ℕ → ℕ). Turns d base g1 (f g1) (enter (cs sp.state) c r)) h.seats t)

@@ -4,24 +4,24 @@ use Rattle.std.specs.List.{count_by}
 use Rattle.std.proofs.lemmas.Grind.{common_steps}
 use Rattle.sap_tree.specs.Syntax as tree
 use Rattle.sap_tree.specs.Syntax.{DesignTree}
-use Rattle.sap_tree.specs.Whole.{is_tree, is_whole, is_input, is_register, is_memory, command_count, block_count, else_count, list_count, state_count, states_count, states_depth, state_commands, states_commands}
+use Rattle.sap_tree.specs.Whole.{is_tree, is_whole, is_input, is_register, is_memory, command_count, arms_count, block_count, else_count, list_count, state_count, states_count, states_depth, state_commands, states_commands}
 use Rattle.sap_lattice.specs.Levels.{Levels, order_of}
 use Rattle.sap_lattice.specs.Codes.{width_of}
 use Rattle.sap_names.specs.Entities.{entities_of}
 use Rattle.sap_names.specs.declared.entity.Entity.{Entity}
-use Rattle.sap_meaning.specs.Program.{World, root, Command, Do, Try, If, Block, End, Then, State, Node, Group, None, More}
+use Rattle.sap_meaning.specs.Program.{World, root, Command, Do, Try, If, TryThen, Case, Arms, Last, Arm, Block, End, Then, State, Node, Group, None, More}
 use Rattle.sap_meaning.specs.Checks.{Spot}
 use Rattle.sap_resolve.specs.Worlds.{world_of, states_in}
 use Rattle.sap_resolve.specs.Sites.{Home, simple_sites, command_sites, block_sites, state_sites}
-use Rattle.sap_resolve.specs.Resolve.{command_of, block_of, else_of, list_of, state_of, group_of, states_of}
-use Rattle.sap_resolve.specs.Fill.{filled, filled_block, filled_state, filled_group}
+use Rattle.sap_resolve.specs.Resolve.{command_of, arms_of, block_of, else_of, list_of, state_of, group_of, states_of}
+use Rattle.sap_resolve.specs.Fill.{filled, filled_arms, filled_block, filled_state, filled_group}
 use Rattle.sap_sized.specs.Ranges.{IsWidth}
 use Rattle.sap_sized.proofs.Declared.{resolved}
 use Rattle.sap_sized.proofs.Programs.{faultless, sizes_fit_law}
 use Rattle.sap_sized.proofs.RangedPrograms.{widths_in_range_law}
 use Rattle.sap_sized.proofs.Tags.{level_count}
 use Rattle.sap_interface.specs.Designs.{named_of, sites_of}
-use Rattle.sap_tagged.specs.Commands.{wires, wires_block}
+use Rattle.sap_tagged.specs.Commands.{wires, wires_arms, wires_block}
 use Rattle.sap_tagged.specs.States.{wires_state, wires_group}
 use Rattle.sap_tagged.specs.Law.{IsSound, PlainsKeepRules, PlainsWriteOnce}
 use Rattle.sap_tagged.proofs.Bools.{both_true}
@@ -38,6 +38,12 @@ module _ (w : World) where
     wires_filled at (Do k) = refl
     wires_filled at (Try k hang h) = ap (λ (n : ℕ). 5 + n) (block_filled at h)
     wires_filled at (If hang e a b) = ap₂ (λ (m n : ℕ). 2 + m + n) (block_filled at a) (block_filled at b)
+    wires_filled at (TryThen k hang a b) = ap₂ (λ (m n : ℕ). 5 + m + n) (block_filled at a) (block_filled at b)
+    wires_filled at (Case hang e arms) = ap (λ (n : ℕ). 4 + n) (arms_filled at arms)
+
+    arms_filled : (at : Spot) (arms : Arms) → wires_arms (filled_arms w at arms) ≡ wires_arms arms
+    arms_filled at (Last b) = block_filled at b
+    arms_filled at (Arm constants b arms) = ap₂ (λ (m n : ℕ). m + n) (block_filled at b) (arms_filled at arms)
 
     block_filled : (at : Spot) (b : Block) → wires_block (filled_block w at b) ≡ wires_block b
     block_filled at End = refl
@@ -56,12 +62,19 @@ module _ (w : World) where
 
 module _ (ls : Levels) (h : Home) where
   mutual
-    unfolding command_count block_count else_count list_count
+    unfolding command_count arms_count block_count else_count list_count
 
     command_few : (k : ℕ) (c : tree.Command) → wires (command_of ls h k c) ≤ 5 * command_count c
     command_few k (tree.Do c) = omega arith
     command_few k (tree.Try c place b) = let i = block_few (k + simple_sites h c) b in omega (arith, i)
     command_few k (tree.If place e a b) = let i = block_few k a in let j = else_few (k + block_sites h a) b in omega (arith, i, j)
+    command_few k (tree.TryThen c place a b) =
+        let i = block_few (k + simple_sites h c) a in let j = block_few (k + simple_sites h c + block_sites h a) b in omega (arith, i, j)
+    command_few k (tree.Case place e arms) = let i = arms_few k arms in omega (arith, i)
+
+    arms_few : (k : ℕ) (arms : tree.Arms) → wires_arms (arms_of ls h k arms) ≤ 5 * arms_count arms
+    arms_few k (tree.Last b) = block_few k b
+    arms_few k (tree.Arm constants b arms) = let i = block_few k b in let j = arms_few (k + block_sites h b) arms in omega (arith, i, j)
 
     block_few : (k : ℕ) (b : tree.CommandBlock) → wires_block (block_of ls h k b) ≤ 5 * block_count b
     block_few k (tree.Commands cs after) = list_few k cs

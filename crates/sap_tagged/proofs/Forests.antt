@@ -3,7 +3,8 @@ use Rattle.std.proofs.Common.{◌≡◌, ℕ, suc, ◌+◌, ◌^◌, ◌<◌, �
 use Rattle.std.proofs.lemmas.Bool.{cases_Bool, eqb-true, eq-eqb}
 use Rattle.sap_maps.specs.Maps.{Name}
 use Rattle.sap_maps.specs.Scope.{find}
-use Rattle.sap_meaning.specs.Program.{World, root, is_dynamic, is_memory, children, Command, Do, Try, If, Block, End, Then, Node, Group, None, More}
+use Rattle.sap_meaning.specs.Program.{World, root, is_dynamic, is_memory, children, Command, Do, Try, If, TryThen, Case, Arms, Last, Arm, Block, End, Then, Node, Group, None, More}
+use Rattle.sap_meaning.specs.Expressions.{width_of}
 use Rattle.sap_meaning.specs.Checks.{Spot}
 use Rattle.sap_meaning.specs.Touches.{among}
 use Rattle.sap_meaning.specs.Sites as sites
@@ -17,13 +18,14 @@ use Rattle.sap_ir.specs.IsGuarded.{assignable}
 use Rattle.sap_plain.specs.Nested.{Body, Forest, none, state, has_states, group_names, seat_name, seat_width}
 use Rattle.sap_plain.specs.Nested as nested
 use Rattle.sap_plain.specs.IsPlain.{BodyFine, ForestFine, SeatFine, IsSeat}
-use Rattle.sap_interface.specs.StandsFor.{Named}
+use Rattle.sap_interface.specs.StandsFor.{Named, world}
 use Rattle.sap_tagged.specs.Keys.{Tag, Seat, Wire, First, Inner}
 use Rattle.sap_tagged.specs.Setting.{Setting, setting_of}
 use Rattle.sap_tagged.specs.Levels.{var, lub}
-use Rattle.sap_tagged.specs.Commands.{gives, raises, wires, wires_block, block_plain}
+use Rattle.sap_tagged.specs.Commands.{gives, raises, pick_width, wires, wires_block, block_plain}
+use Rattle.sap_tagged.specs.Few.{FewGroup}
 use Rattle.sap_tagged.specs.States.{wires_group, group_plain, saved, saves, top_plain}
-use Rattle.sap_tagged.specs.Plain.{wire, step_wires, command_wires, block_wires, state_wires, group_wires}
+use Rattle.sap_tagged.specs.Plain.{wire, step_wires, command_wires, arms_wires, block_wires, state_wires, group_wires}
 use Rattle.sap_tagged.proofs.Bools.{apart_tests, second, either_second, both_true, tagged_memory}
 use Rattle.sap_tagged.proofs.KeyNames.{same_name}
 use Rattle.sap_tagged.proofs.Groups.{LawfulStates, Shaped, group_states}
@@ -33,7 +35,7 @@ use Rattle.sap_tagged.proofs.Ends.{Among}
 use Rattle.sap_tagged.proofs.Conditions.{GroupConditions}
 use Rattle.sap_tagged.proofs.Fits.{Declares}
 use Rattle.sap_tagged.proofs.Closing.{sweep_ends, block_ends}
-use Rattle.sap_tagged.proofs.Bodies.{Assigns, IsWire, StepWires, CommandWires, BlockWires, SiteWires, Hangs, among_left, among_right, wire_gives, sweep_fine, raises_fine, block_fine}
+use Rattle.sap_tagged.proofs.Bodies.{Assigns, IsWire, StepWires, CommandWires, ArmsWires, BlockWires, SiteWires, Hangs, among_left, among_right, wire_gives, sweep_fine, raises_fine, block_fine}
 use Rattle.sap_tagged.proofs.Hanging.{body_hangs}
 
 -- wires that are declared
@@ -70,6 +72,28 @@ module _ (nd : Named) (tag : ℕ) (s : Source) where
       f (wire nd (k + 1) tag) (inr (inl refl)),
       block_found (k + 2) a (λ v i. f v (inr (inr (in_front (block_wires nd tag (k + 2) a) (block_wires nd tag (k + 2 + wires_block a) b) v i)))),
       block_found (k + 2 + wires_block a) b (λ v i. f v (inr (inr (in_behind (block_wires nd tag (k + 2) a) (block_wires nd tag (k + 2 + wires_block a) b) v i)))),
+    )
+    command_found k (TryThen t hang a b) f =
+        let one = block_wires nd tag (k + 5) a in
+        let other = block_wires nd tag (k + 5 + wires_block a) b in
+        let later = behind_found s (step_wires nd tag k) (one ++ other) f in (
+          step_found k (front_found s (step_wires nd tag k) (one ++ other) f),
+          block_found (k + 5) a (front_found s one other later),
+          block_found (k + 5 + wires_block a) b (behind_found s one other later),
+        )
+    command_found k (Case hang e arms) f = (
+      f (wire nd k tag) (inl refl),
+      f (wire nd (k + 1) tag) (inr (inl refl)),
+      f (wire nd (k + 2) (width_of (world nd) e)) (inr (inr (inl refl))),
+      f (wire nd (k + 3) (pick_width arms)) (inr (inr (inr (inl refl)))),
+      arms_found (k + 4) arms (λ v i. f v (inr (inr (inr (inr i))))),
+    )
+
+    arms_found : (k : ℕ) (arms : Arms) → AllFound s (arms_wires nd tag k arms) → ArmsWires (setting_of nd tag) s k arms
+    arms_found k (Last b) f = block_found k b f
+    arms_found k (Arm constants b arms) f = (
+      block_found k b (front_found s (block_wires nd tag k b) (arms_wires nd tag (k + wires_block b) arms) f),
+      arms_found (k + wires_block b) arms (behind_found s (block_wires nd tag k b) (arms_wires nd tag (k + wires_block b) arms) f),
     )
 
     block_found : (k : ℕ) (b : Block) → AllFound s (block_wires nd tag k b) → BlockWires (setting_of nd tag) s k b
@@ -143,10 +167,10 @@ module _ (nd : Named) (tag : ℕ) (s : Source) (fixed : List Name) (decl : Decla
 
   group_fine : (grp q : Group) (n0 parent k : ℕ) (group : List Name) → FineGroup w q 0 q → FineGroup w q n0 grp → ((t : ℕ) → among grp t ≡ true → among q t ≡ true)
       → ((t : ℕ) → among q t ≡ true → is_among (d.state_name t) group ≡ true) → IsParent q parent → AllFound s (group_wires nd tag k grp) → ExactGroup w parent grp → SitesOf (sites.group_sites w grp)
-      → SizedGroup w grp → RangedGroup w grp → GroupConditions w grp → ForestFine s fixed group (group_plain d parent k grp)
+      → SizedGroup w grp → RangedGroup w grp → GroupConditions w grp → FewGroup grp → ForestFine s fixed group (group_plain d parent k grp)
   unfolding group_plain
-  group_fine None q n0 parent k group whole fine part named above ws exact site z r c = tt
-  group_fine (More (Node x b kids) rest) q n0 parent k group whole fine part named above ws exact site z r c =
+  group_fine None q n0 parent k group whole fine part named above ws exact site z r c few = tt
+  group_fine (More (Node x b kids) rest) q n0 parent k group whole fine part named above ws exact site z r c few =
       let base = k + 1 + wires_block b in
       let node = fine.0.0 in
       let i : among q x ≡ true = part x (rw (eq-eqb x x refl) refl) in
@@ -165,15 +189,15 @@ module _ (nd : Named) (tag : ℕ) (s : Source) (fixed : List Name) (decl : Decla
             (block_found nd tag s (k + 1) b (λ v a. mine v (inr (in_front (block_wires nd tag (k + 1) b) (group_wires nd tag base kids) v a))))
             (body_hangs w q sp me fine.0.1 b node.steps exact.0.0)
             (λ n a. site n (among_left (sites.block_sites w x kids b ++ sites.group_sites w kids) (sites.group_sites w rest) n (among_left (sites.block_sites w x kids b) (sites.group_sites w kids) n a)))
-            node.steps z.0.0 r.0.0 c.0.0),
+            node.steps z.0.0 r.0.0 c.0.0 few.0.0),
         block_ends d sp k (k + 1) b node.closes,
         seat_is_fine d s regs decl.few_children x (seat_name (d.state_name x)) kids below (states.seats x me.declared) node.count shape,
         group_fine kids kids 0 x base (group_names below) fine.0.1 fine.0.1 (λ t h. h) (group_has d kids below shape) (record { declared = me.declared; count = node.count })
             (λ v a. mine v (inr (in_behind (block_wires nd tag (k + 1) b) (group_wires nd tag base kids) v a))) exact.0.1
             (λ n a. site n (among_left (sites.block_sites w x kids b ++ sites.group_sites w kids) (sites.group_sites w rest) n (among_right (sites.block_sites w x kids b) (sites.group_sites w kids) n a)))
-            z.0.1 r.0.1 c.0.1,
+            z.0.1 r.0.1 c.0.1 few.0.1,
         group_fine rest q (suc n0) parent (k + (1 + wires_block b + wires_group kids)) group whole fine.1 (λ t h. part t (either_second (nat_eq t x) (among rest t) h)) named above (behind_found s own later ws)
-            exact.1 (λ n a. site n (among_right (sites.block_sites w x kids b ++ sites.group_sites w kids) (sites.group_sites w rest) n a)) z.1 r.1 c.1,
+            exact.1 (λ n a. site n (among_right (sites.block_sites w x kids b ++ sites.group_sites w kids) (sites.group_sites w rest) n a)) z.1 r.1 c.1 few.1,
       )
 
   -- the kept tags
@@ -184,10 +208,10 @@ module _ (nd : Named) (tag : ℕ) (s : Source) (fixed : List Name) (decl : Decla
 
   pub top_fine : (grp q : Group) (n0 k : ℕ) (hangs : ℕ → Bool) (group : List Name) → FineGroup w q 0 q → FineGroup w q n0 grp → ((t : ℕ) → among grp t ≡ true → among q t ≡ true)
       → ((t : ℕ) → among q t ≡ true → is_among (d.state_name t) group ≡ true) → Hangs w hangs → AllFound s (group_wires nd tag k grp) → ExactGroup w (root w) grp → SitesOf (sites.group_sites w grp)
-      → SizedGroup w grp → RangedGroup w grp → GroupConditions w grp → ForestFine s fixed group (top_plain d hangs k grp)
+      → SizedGroup w grp → RangedGroup w grp → GroupConditions w grp → FewGroup grp → ForestFine s fixed group (top_plain d hangs k grp)
   unfolding top_plain
-  top_fine None q n0 k hangs group whole fine part named hs ws exact site z r c = tt
-  top_fine (More (Node x b kids) rest) q n0 k hangs group whole fine part named hs ws exact site z r c =
+  top_fine None q n0 k hangs group whole fine part named hs ws exact site z r c few = tt
+  top_fine (More (Node x b kids) rest) q n0 k hangs group whole fine part named hs ws exact site z r c few =
       let base = k + 1 + wires_block b in
       let node = fine.0.0 in
       let i : among q x ≡ true = part x (rw (eq-eqb x x refl) refl) in
@@ -205,7 +229,7 @@ module _ (nd : Named) (tag : ℕ) (s : Source) (fixed : List Name) (decl : Decla
       (block_found nd tag s (k + 1) b (λ v a. mine v (inr (in_front (block_wires nd tag (k + 1) b) (group_wires nd tag base kids) v a))))
       (body_hangs w q sp me fine.0.1 b node.steps exact.0.0)
       (λ n a. site n (among_left (sites.block_sites w x kids b ++ sites.group_sites w kids) (sites.group_sites w rest) n (among_left (sites.block_sites w x kids b) (sites.group_sites w kids) n a)))
-      node.steps z.0.0 r.0.0 c.0.0 in (
+      node.steps z.0.0 r.0.0 c.0.0 few.0.0 in (
         saves_fine group (has_states below) (gives d (Wire k) (var d (Tag x)) (raises d hangs k body))
             (wire_gives d s decl fixed group assigns (has_states below) k tag (var d (Tag x)) (raises d hangs k body) pc (decl.tags x (placed.siblings x i).0)
             (raises_fine d s decl fixed group assigns (has_states below) hangs k body hs pc good)),
@@ -215,7 +239,7 @@ module _ (nd : Named) (tag : ℕ) (s : Source) (fixed : List Name) (decl : Decla
         group_fine kids kids 0 x base (group_names below) fine.0.1 fine.0.1 (λ t h. h) (group_has d kids below shape) (record { declared = me.declared; count = node.count })
             (λ v a. mine v (inr (in_behind (block_wires nd tag (k + 1) b) (group_wires nd tag base kids) v a))) exact.0.1
             (λ n a. site n (among_left (sites.block_sites w x kids b ++ sites.group_sites w kids) (sites.group_sites w rest) n (among_right (sites.block_sites w x kids b) (sites.group_sites w kids) n a)))
-            z.0.1 r.0.1 c.0.1,
+            z.0.1 r.0.1 c.0.1 few.0.1,
         top_fine rest q (suc n0) (k + (1 + wires_block b + wires_group kids)) hangs group whole fine.1 (λ t h. part t (either_second (nat_eq t x) (among rest t) h)) named hs (behind_found s own later ws)
-            exact.1 (λ n a. site n (among_right (sites.block_sites w x kids b ++ sites.group_sites w kids) (sites.group_sites w rest) n a)) z.1 r.1 c.1,
+            exact.1 (λ n a. site n (among_right (sites.block_sites w x kids b ++ sites.group_sites w kids) (sites.group_sites w rest) n a)) z.1 r.1 c.1 few.1,
       )

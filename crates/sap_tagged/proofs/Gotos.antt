@@ -19,7 +19,7 @@ use Rattle.sap_tagged.specs.Commands.{gives, for_each, resets, effect_of}
 use Rattle.sap_tagged.specs.Stands.{Lawful, at, is_value, has_tag, tag_slot, Stands, Turns}
 use Rattle.sap_tagged.proofs.Bools.{apart_tests, tagged_within}
 use Rattle.sap_tagged.proofs.Puts.{put_to, does_gives, swept, does_sweep, between, swept_is, within_all, stands_changed}
-use Rattle.sap_tagged.proofs.Looks.{Quiet, quiet_next, quiet_less, turns_stay}
+use Rattle.sap_tagged.proofs.Looks.{Quiet, quiet_next, turns_stay}
 use Rattle.sap_tagged.proofs.Effects.{tag_put, quiet_tag}
 
 -- the levels alone, and the seats alone, of what a goto changes
@@ -86,11 +86,11 @@ module _ (d : Setting) (widths : Name → ℕ) (laws : Lawful d widths) where
 
   module _ (f : Going → Going) (go : Name → Going → Going) where
     -- the tags of the dynamic states below the target
-    empties : (target k : ℕ) (g : Going) (s : Store) (rest : Body) → Stands d g s
+    empties : (target : ℕ) (g : Going) (s : Store) (rest : Body) → Stands d g s
         → (g' : Going) × (body_does widths f go (for_each d Tag (resets d.world target) (λ x. bits d d.world.order.bottom) rest) g ≡ body_does widths f go rest g')
-        × Stands d g' (emptied d.world target s) × Quiet d k g g'
+        × Stands d g' (emptied d.world target s) × ((n : ℕ) → Quiet d n g g')
     unfolding emptied
-    empties target k g s rest st =
+    empties target g s rest st =
         let n = root d.world in
         let low = d.code d.world.order.bottom in
         let term : ℕ → Term Name = λ x. bits d d.world.order.bottom in
@@ -104,7 +104,7 @@ module _ (d : Setting) (widths : Name → ℕ) (laws : Lawful d widths) where
               (λ k q. r.there (Value k) (λ y. refl) ∙ st.value k q)
               (λ k q. r.here k ∙ new k q (h k) ∙ ap (λ (b : Bool). d.code (if b then d.world.order.bottom else s.level (tag_slot d.world k))) (sym (lowered_is target k)))
               (λ p q. r.there (Seat p) (λ y. refl) ∙ st.seat p q),
-          record { kept = λ j l. r.there (Wire j) (λ y. refl); refused = λ n. r.there (Refused n) (λ y. refl); levels = λ n. r.there (Level n) (λ y. refl) },
+          λ i. record { kept = λ j l. r.there (Wire j) (λ y. refl); refused = λ n. r.there (Refused n) (λ y. refl); levels = λ n. r.there (Level n) (λ y. refl) },
         )
       where
         new : (k : ℕ) → has_tag d.world k ≡ true → (b : Bool)
@@ -113,36 +113,36 @@ module _ (d : Setting) (widths : Name → ℕ) (laws : Lawful d widths) where
         new k q false = st.tag k q
 
     -- the target's tag, if it is dynamic, and the seats
-    arrives : (q : Group) (parent k target l : ℕ) (g g1 : Going) (s : Store) → GoesRun d go parent q → among q target ≡ true
+    arrives : (q : Group) (parent k free target l : ℕ) (g g1 : Going) (s : Store) → GoesRun d go parent q → among q target ≡ true
         → is_memory d.world target ≡ false → is_value d.world target ≡ false → Stands d g1 (emptied d.world target s)
-        → Quiet d (k + 4) g g1 → at d g (Wire (k + 3)) ≡ d.code l → (b : Bool)
-        → Turns d k g
+        → ((n : ℕ) → Quiet d n g g1) → at d g (Wire (k + 3)) ≡ d.code l → (b : Bool)
+        → Turns d free g
         (body_does widths f go (if b then gives d (Tag target) (var d (Wire (k + 3))) (goto (d.state_name target) stop) else goto (d.state_name target) stop) g1)
         (stay (if b then put_level d.world (own target) l (reset d.world target (put_child parent (place d.world target) s)) else reset d.world target (put_child parent (place d.world target) s)))
-    arrives q parent k target l g g1 s goes i m v st quiet new true =
+    arrives q parent k free target l g g1 s goes i m v st quiet new true =
         let z = at d g1 (Wire (k + 3)) in
         let g2 = put_to d g1 (Tag target) z in
         let s2 = put_level d.world (own target) l (emptied d.world target s) in
-        let st2 : Stands d g2 s2 = state_put g1 (emptied d.world target s) target l z st m v (quiet.kept (k + 3) (omega arith) ∙ new) in
+        let st2 : Stands d g2 s2 = state_put g1 (emptied d.world target s) target l z st m v ((quiet (k + 4)).kept (k + 3) (omega arith) ∙ new) in
         let r = goes target i g2 s2 st2 in
         let g3 = go (d.state_name target) g2 in
         rw (does_gives d widths f go g1 (Tag target) (var d (Wire (k + 3))) (goto (d.state_name target) stop))
-        (turns_stay d k g g3 _
-        (quiet_next d k g g1 g3 (quiet_less d k (k + 4) g g1 (omega arith) quiet) (quiet_next d k g1 g2 g3 (quiet_tag d widths laws k target g1 z) (r.1 k)))
+        (turns_stay d free g g3 _
+        (quiet_next d free g g1 g3 (quiet free) (quiet_next d free g1 g2 g3 (quiet_tag d widths laws free target g1 z) (r.1 free)))
         (subst (λ (t : Store). Stands d g3 t) (levelled d.world parent target l s) r.0))
-    arrives q parent k target l g g1 s goes i m v st quiet new false =
+    arrives q parent k free target l g g1 s goes i m v st quiet new false =
         let r = goes target i g1 (emptied d.world target s) st in
         let g3 = go (d.state_name target) g1 in
-        turns_stay d k g g3 _ (quiet_next d k g g1 g3 (quiet_less d k (k + 4) g g1 (omega arith) quiet) (r.1 k))
+        turns_stay d free g g3 _ (quiet_next d free g g1 g3 (quiet free) (r.1 free))
         (subst (λ (t : Store). Stands d g3 t) (goes_apart d.world parent target s) r.0)
 
-    pub goto_effect : (enter : ℕ → ℕ → Store → After) (q : Group) (k : ℕ) (sp : Spot) (site target l : ℕ) (b r : Store) (g : Going) → GoesRun d go sp.parent q
+    pub goto_effect : (enter : ℕ → ℕ → Store → After) (q : Group) (k free : ℕ) (sp : Spot) (site target l : ℕ) (b r : Store) (g : Going) → GoesRun d go sp.parent q
         → among q target ≡ true → is_state d.world target ≡ true → is_memory d.world target ≡ false → Stands d g r → at d g (Wire (k + 3)) ≡ d.code l
-        → Turns d k g (body_does widths f go (effect_of d sp k (Goto site target)) g) (effect d.world sp enter (Goto site target) l b r)
+        → Turns d free g (body_does widths f go (effect_of d sp k (Goto site target)) g) (effect d.world sp enter (Goto site target) l b r)
     unfolding effect
-    goto_effect enter q k sp site target l b r g goes i state m st new =
+    goto_effect enter q k free sp site target l b r g goes i state m st new =
         let end : Body =
         if is_dynamic d.world target then gives d (Tag target) (var d (Wire (k + 3))) (goto (d.state_name target) stop) else goto (d.state_name target) stop in
-        let e = empties target (k + 4) g r end st in
+        let e = empties target g r end st in
         rw e.1
-        (arrives q sp.parent k target l g e.0 r goes i m (state_no_value (entity d.world target).kind state) e.2 e.3 new (is_dynamic d.world target))
+        (arrives q sp.parent k free target l g e.0 r goes i m (state_no_value (entity d.world target).kind state) e.2 e.3 new (is_dynamic d.world target))

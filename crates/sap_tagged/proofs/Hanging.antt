@@ -1,16 +1,16 @@
 -- What hangs has a tag that can be assigned.
 use Rattle.std.proofs.Common.{◌≡◌, ℕ, suc, Bool, true, false, ◌||◌, List, refl, sym, ◌∙◌, subst, nat_lt, nat_eq, inl, inr}
 use Rattle.std.proofs.lemmas.Bool.{cases_Bool, eqb-true}
-use Rattle.sap_meaning.specs.Program.{World, Kind, entity, root, is_dynamic, is_input, is_memory, is_register, is_state, listed, Step, Set, Write, Retag, RetagCell, Goto, Fall, Command, Do, Try, If, Block, End, Then, State, Node, Group, None, More, kind_is_input, kind_is_register, kind_is_memory, kind_is_state}
+use Rattle.sap_meaning.specs.Program.{World, Kind, entity, root, is_dynamic, is_input, is_memory, is_register, is_state, listed, Step, Set, Write, Retag, RetagCell, Goto, Fall, Command, Do, Try, If, TryThen, Case, Arms, Last, Arm, Block, End, Then, State, Node, Group, None, More, kind_is_input, kind_is_register, kind_is_memory, kind_is_state}
 use Rattle.sap_meaning.specs.Program as program
 use Rattle.sap_meaning.specs.Checks.{Spot}
-use Rattle.sap_meaning.specs.Touches.{step_assigns, assigns, block_assigns, group_assigns, among, step_hangs, hangs, block_hangs, touches, root_touches}
+use Rattle.sap_meaning.specs.Touches.{step_assigns, assigns, arms_assign, block_assigns, group_assigns, among, step_hangs, hangs, arms_hang, block_hangs, touches, root_touches}
 use Rattle.sap_meaning.specs.Runs.{listed_alone}
-use Rattle.sap_meaning.specs.Fine.{FineStep, FineCommand, FineBlock, FineGroup, ExactStep, Exact, ExactBlock}
+use Rattle.sap_meaning.specs.Fine.{FineStep, FineCommand, FineArms, FineBlock, FineGroup, ExactStep, Exact, ExactArms, ExactBlock}
 use Rattle.sap_tagged.specs.Stands.{has_tag}
 use Rattle.sap_tagged.proofs.Bools.{apart_tests, both_true, register_within, memory_within, tagged, tagged_memory}
 use Rattle.sap_tagged.proofs.Groups.{IsState, group_states}
-use Rattle.sap_tagged.proofs.Bodies.{Hangs, CommandHangs, BlockHangs}
+use Rattle.sap_tagged.proofs.Bodies.{Hangs, CommandHangs, ArmsHang, BlockHangs}
 
 -- a register, a memory, or a state
 abbrev pub CanHang : World → ℕ → Type 0
@@ -65,6 +65,14 @@ module _ (w : World) (x : ℕ) where
       assigned (Do k) f h = step_assigned k f h
       assigned (Try k hang b) f h = either (step_assigns k x) (block_assigns b x) h (step_assigned k f.0) (block_assigned b f.1)
       assigned (If hang e a b) f h = either (block_assigns a x) (block_assigns b x) h (block_assigned a f.1) (block_assigned b f.2)
+      assigned (TryThen k hang a b) f h =
+          either (step_assigns k x) (block_assigns a x || block_assigns b x) h (step_assigned k f.0)
+          (λ i. either (block_assigns a x) (block_assigns b x) i (block_assigned a f.1) (block_assigned b f.2))
+      assigned (Case hang e arms) f h = arms_assigned arms f.1 h
+
+      arms_assigned : (arms : Arms) → FineArms w q g arms → arms_assign arms x ≡ true → CanHang w x
+      arms_assigned (Last b) f h = block_assigned b f h
+      arms_assigned (Arm constants b arms) f h = either (block_assigns b x) (arms_assign arms x) h (block_assigned b f.0) (arms_assigned arms f.1)
 
       block_assigned : (b : Block) → FineBlock w q g b → block_assigns b x ≡ true → CanHang w x
       block_assigned End f h = absurd (apart_tests (sym h))
@@ -90,6 +98,14 @@ module _ (w : World) (x : ℕ) where
       hung (Do k) f h = step_hung k f h
       hung (Try k hang b) f h = either (step_hangs s g k x) (block_hangs s g b x) h (step_hung k f.0) (block_hung b f.1)
       hung (If hang e a b) f h = either (block_hangs s g a x) (block_hangs s g b x) h (block_hung a f.1) (block_hung b f.2)
+      hung (TryThen k hang a b) f h =
+          either (step_hangs s g k x) (block_hangs s g a x || block_hangs s g b x) h (step_hung k f.0)
+          (λ i. either (block_hangs s g a x) (block_hangs s g b x) i (block_hung a f.1) (block_hung b f.2))
+      hung (Case hang e arms) f h = arms_hung arms f.1 h
+
+      arms_hung : (arms : Arms) → FineArms w q g arms → arms_hang s g arms x ≡ true → CanHang w x
+      arms_hung (Last b) f h = block_hung b f h
+      arms_hung (Arm constants b arms) f h = either (block_hangs s g b x) (arms_hang s g arms x) h (block_hung b f.0) (arms_hung arms f.1)
 
       block_hung : (b : Block) → FineBlock w q g b → block_hangs s g b x ≡ true → CanHang w x
       block_hung End f h = absurd (apart_tests (sym h))
@@ -124,6 +140,12 @@ module _ (w : World) (q : Group) (sp : Spot) (here : IsState w sp.state) (kids :
     command_hangs (Do k) f e = alone_hangs k f e
     command_hangs (Try k hang b) f e = (exact_hangs (Try k hang b) hang f e.0, body_hangs b f.1 e.1)
     command_hangs (If hang e a b) f i = (exact_hangs (If hang e a b) hang f i.0, body_hangs a f.1 i.1, body_hangs b f.2 i.2)
+    command_hangs (TryThen k hang a b) f i = (exact_hangs (TryThen k hang a b) hang f i.0, body_hangs a f.1 i.1, body_hangs b f.2 i.2)
+    command_hangs (Case hang e arms) f i = (exact_hangs (Case hang e arms) hang f i.0, arms_hangs arms f.1 i.1)
+
+    arms_hangs : (arms : Arms) → FineArms w q sp.children arms → ExactArms w sp arms → ArmsHang w sp arms
+    arms_hangs (Last b) f e = body_hangs b f e
+    arms_hangs (Arm constants b arms) f e = (body_hangs b f.0 e.0, arms_hangs arms f.1 e.1)
 
     pub body_hangs : (b : Block) → FineBlock w q sp.children b → ExactBlock w sp b → BlockHangs w sp b
     body_hangs End f e = tt

@@ -8,6 +8,7 @@ use Rattle.std.proofs.lemmas.Slice.Eq.{bytes_eq-Decides}
 use Rattle.sap_maps.specs.Maps.{Name}
 use Rattle.sap_meaning.specs.Program.{root}
 use Rattle.sap_tree.specs.Words.{is_name}
+use Rattle.sap_tree.specs.declared.version.Version.TheVariants.{One}
 use Rattle.sap_net.specs.Names.{is_initial, is_word}
 use Rattle.sap_interface.specs.StandsFor.{Named, name, world}
 use Rattle.sap_tagged.specs.Keys.{Key, Value, Tag, Seat, Refused, Level, Wire, First, Inner, sort, index, same, numeral, entity_word, seat_word, key_name}
@@ -36,7 +37,7 @@ numerals_apart j k =
 pub record NamesApart (d : Named) : Type 0 where
   pub apart : (x y : ℕ) → nat_lt x (root (world d)) ≡ true → nat_lt y (root (world d)) ≡ true → bytes_eq (name d x) (name d y) ≡ nat_eq x y
   pub words : (x : ℕ) → nat_lt x (root (world d)) ≡ true → is_word (name d x) ≡ true
-  pub named : (x : ℕ) → nat_lt x (root (world d)) ≡ true → is_name (name d x) ≡ true
+  pub named : (x : ℕ) → nat_lt x (root (world d)) ≡ true → is_name One (name d x) ≡ true
 
 -- digits are no word
 no_initial : (c : ℕ) → is_ascii_digit c ≡ true → is_initial c ≡ false

@@ -6,6 +6,7 @@ pub mod Looks
 pub mod Effects
 pub mod Cells
 pub mod Gotos
+pub mod Picks
 pub mod Runs
 pub mod Groups
 pub mod Falls
@@ -14,6 +15,7 @@ pub mod KeyNames
 pub mod Members
 pub mod Inputs
 pub mod Ends
+pub mod FewArms
 pub mod Premises
 pub mod Cycle
 pub mod Named

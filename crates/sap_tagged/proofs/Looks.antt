@@ -64,6 +64,10 @@ turns_after d k j g g1 g2 a l p q = record {
   levels = λ n. q.levels n ∙ ap (level_after d.code n a.refused) (p.levels n);
 }
 
+-- with less said of wires
+pub turns_less : (d : Setting) (k j : ℕ) (g g' : Going) (a : After) → k ≤ j → Turns d j g g' a → Turns d k g g' a
+turns_less d k j g g' a l r = turns_after d k j g g g' a l (quiet_none d k g) r
+
 pub turns_stay : (d : Setting) (k : ℕ) (g g' : Going) (s : Store) → Quiet d k g g' → Stands d g' s → Turns d k g g' (stay s)
 turns_stay d k g g' s q r = record { stands = r; kept = q.kept; refused = q.refused; levels = q.levels }
 

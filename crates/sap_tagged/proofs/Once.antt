@@ -1,13 +1,14 @@
 -- No memory is written twice in a cycle.
-use Rattle.std.proofs.Common.{◌≡◌, ℕ, zero, suc, ◌+◌, ◌⊎◌, List, [], ◌∷◌, ◌++◌, Bool, true, false, ◌&&◌, refl, sym, ap, ap₂, ◌∙◌, subst, inl, inr, bytes_eq, nat_eq, if◌then◌else◌, append_assoc}
+use Rattle.std.proofs.Common.{◌≡◌, ℕ, zero, suc, ◌+◌, ◌^◌, nat_le, ◌⊎◌, List, [], ◌∷◌, ◌++◌, length, take, drop, Bool, true, false, ◌&&◌, ◌||◌, refl, sym, ap, ap₂, ◌∙◌, subst, inl, inr, bytes_eq, nat_eq, if◌then◌else◌, append_assoc}
 use Rattle.std.specs.Prelude.{◌==◌}
 use Rattle.std.proofs.lemmas.Bool.{cases_Bool, eqb-true, eq-eqb}
 use Rattle.sap_maps.specs.Maps.{Name}
-use Rattle.sap_maps.specs.Term.{Term}
-use Rattle.sap_meaning.specs.Program.{root, is_dynamic, is_register, listed, Step, Set, Write, Retag, RetagCell, Goto, Fall, Command, Do, Try, If, Block, End, Then, Node, Group, None, More}
+use Rattle.sap_maps.specs.Term.{Term, part}
+use Rattle.sap_meaning.specs.Program.{root, is_dynamic, is_register, listed, Step, Set, Write, Retag, RetagCell, Goto, Fall, Command, Do, Try, If, TryThen, Case, Arms, Last, Arm, Block, End, Then, Node, Group, None, More}
+use Rattle.sap_meaning.specs.Expressions.{width_of as number_width}
 use Rattle.sap_meaning.specs.Checks.{Spot}
 use Rattle.sap_meaning.specs.Runs.{listed_alone}
-use Rattle.sap_meaning.specs.Fine.{step_reaching, reaching, block_reaching, group_reaches, OnceStep, Once, OnceBlock, OnceGroup, FineProgram}
+use Rattle.sap_meaning.specs.Fine.{step_reaching, reaching, arms_reaching, block_reaching, group_reaches, OnceStep, Once, OnceArms, OnceBlock, OnceGroup, FineProgram}
 use Rattle.sap_net.specs.Names.{is_among, AreDistinct}
 use Rattle.sap_ir.specs.Source.{set, put}
 use Rattle.sap_ir.specs.Source.{width_of}
@@ -21,7 +22,7 @@ use Rattle.sap_interface.specs.StandsFor.{Named}
 use Rattle.sap_tagged.specs.Setting.{Setting, setting_of}
 use Rattle.sap_tagged.specs.Plain.{plain_of}
 use Rattle.sap_tagged.specs.Levels.{var, lub, bits, expr, always}
-use Rattle.sap_tagged.specs.Commands.{gives, sweep, raises, resets, effect_of, refusal, outcome, attempt_of, select_of, wires, wires_block, command_plain, block_plain}
+use Rattle.sap_tagged.specs.Commands.{gives, sweep, raises, resets, effect_of, refusal, outcome, attempt_of, outcome_then, attempt_then_of, pick_width, picks_arm, picks, decides, pick_of, select_of, wires, wires_block, command_plain, arms_plain, block_plain}
 use Rattle.sap_tagged.specs.States.{wires_group, group_plain, saved, top_plain}
 use Rattle.sap_tagged.proofs.Bools.{apart_tests, either_first, either_second}
 use Rattle.sap_tagged.proofs.KeyNames.{NamesApart, names_apart}
@@ -182,8 +183,71 @@ module _ (d : Setting) (apart : (a b : Key) → bytes_eq (d.name a) (d.name b) �
         select_writes p k e hangs x y P h i g0 =
             sweep_writes P Tag hangs (λ x. lub (var d (Tag x)) (var d (Wire k))) 0 (root d.world) (cases (expr d e) x y stop) (choice_writes P (expr d e) x y h i) _
 
+        -- what comes behind an accepted step's effect, which writes other memories
+        attempt_then_writes : (p k : ℕ) (t : Step) (o : OnceStep beyond t) (hangs : ℕ → Bool) (x y : Body) (P Q : ℕ → Bool) → ((m : ℕ) → (step_reaching reach t m && Q m) ≡ false)
+            → ((m : ℕ) → step_reaching reach t m ≡ true → P m ≡ true) → ((m : ℕ) → Q m ≡ true → P m ≡ true) → Writes Q x → Writes P y → Writes P (attempt_then_of d sp p k t hangs x y)
+        unfolding attempt_then_of
+        attempt_then_writes p k t o hangs x y P Q apart_writes more most wx wy g0 =
+            let e : Writes P (follow (effect_of d sp k t) x) =
+            λ g. subst (λ (ns : List Name). Written d P ns) (sym (follow_writes (effect_of d sp k t) x g))
+            (written_join (step_reaching reach t) Q P apart_writes more most _ _ (effect_writes sp k t o g) (wx (body_does widths f go (effect_of d sp k t) g))) in
+            let after : Writes P (outcome_then d sp k t x y) =
+            λ g. elim (cases_Bool (always d.world sp t)) [
+              | inl i ↦ rw i (e g)
+              | inr i ↦ rw i (choice_writes P (var d (Wire k)) (follow (effect_of d sp k t) x) (refusal d k t y) e (λ g. wy _) g)
+            ] in
+            sweep_writes P Tag hangs (λ x. lub (var d (Tag x)) (var d (Wire (k + 1)))) 0 (root d.world) (outcome_then d sp k t x y) after _
+
+        -- the number of a block, and the block that has it
+
+        picks_arm_writes : (P : ℕ → Bool) (u n w j i : ℕ) (cs : List ℕ) (rest : Body) → Writes P rest → Writes P (picks_arm d u n w j i cs rest)
+        picks_arm_writes P u n w j i [] rest r g = r g
+        picks_arm_writes P u n w j i (c ∷ cs) rest r g = picks_arm_writes P u n w j i cs rest r _
+
+        picks_writes : (P : ℕ → Bool) (u n w j i : ℕ) (arms : Arms) (rest : Body) → Writes P rest → Writes P (picks d u n w j i arms rest)
+        picks_writes P u n w j i (Last b) rest r g = r _
+        picks_writes P u n w j i (Arm constants b arms) rest r g =
+            picks_writes P u n w j (suc i) arms (picks_arm d u n w j i constants rest) (picks_arm_writes P u n w j i constants rest r) g
+
+        abbrev AllWrite : (ℕ → Bool) → List Body → Type 0
+        AllWrite P [] = Unit {0}
+        AllWrite P (b ∷ bs) = Writes P b × AllWrite P bs
+
+        all_more : (P Q : ℕ → Bool) → ((m : ℕ) → P m ≡ true → Q m ≡ true) → (bs : List Body) → AllWrite P bs → AllWrite Q bs
+        all_more P Q more [] h = tt
+        all_more P Q more (b ∷ bs) h = (λ g. written_more P Q more _ (h.0 g), all_more P Q more bs h.1)
+
+        take_write : (P : ℕ → Bool) (n : ℕ) (bs : List Body) → AllWrite P bs → AllWrite P (take n bs)
+        take_write P zero bs h = tt
+        take_write P (suc n) [] h = tt
+        take_write P (suc n) (b ∷ bs) h = (h.0, take_write P n bs h.1)
+
+        drop_write : (P : ℕ → Bool) (n : ℕ) (bs : List Body) → AllWrite P bs → AllWrite P (drop n bs)
+        drop_write P zero bs h = h
+        drop_write P (suc n) [] h = tt
+        drop_write P (suc n) (b ∷ bs) h = drop_write P n bs h.1
+
+        decides_writes : (P : ℕ → Bool) (j m : ℕ) (bs : List Body) → AllWrite P bs → Writes P (decides d j m bs)
+        decides_writes P j zero [] h g = written_none P
+        decides_writes P j zero (b ∷ bs) h g = h.0 g
+        decides_writes P j (suc m) bs h g = elim (cases_Bool (nat_le (length bs) (2 ^ m))) [
+          | inl t ↦ rw t (decides_writes P j m bs h g)
+          | inr t ↦
+              rw t
+              (choice_writes P (part (var d (Wire j)) m m) (decides d j m (drop (2 ^ m) bs)) (decides d j m (take (2 ^ m) bs))
+              (decides_writes P j m (drop (2 ^ m) bs) (drop_write P (2 ^ m) bs h)) (decides_writes P j m (take (2 ^ m) bs) (take_write P (2 ^ m) bs h)) g)
+        ]
+
+        pick_writes : (p k : ℕ) (e : Term ℕ) (hangs : ℕ → Bool) (arms : Arms) (blocks : List Body) (P : ℕ → Bool) → AllWrite P blocks → Writes P (pick_of d p k e hangs arms blocks)
+        unfolding pick_of
+        pick_writes p k e hangs arms blocks P h g0 =
+            let w = pick_width arms in
+            let choice = decides d (k + 3) w blocks in
+            sweep_writes P Tag hangs (λ x. lub (var d (Tag x)) (var d (Wire k))) 0 (root d.world) (picks d (number_width d.world e) (k + 2) w (k + 3) 0 arms choice)
+            (picks_writes P (number_width d.world e) (k + 2) w (k + 3) 0 arms choice (decides_writes P (k + 3) w blocks h)) _
+
         mutual
-          unfolding command_plain block_plain
+          unfolding command_plain arms_plain block_plain
 
           command_writes : (grp : Group) (same_reach : (m : ℕ) → reach m ≡ group_reaches grp m) (p k : ℕ) (c : Command) → Once grp beyond c → Writes (reaching reach c) (command_plain d sp p k c)
           command_writes grp e p k (Do t) o = attempt_writes p k t o (listed_alone d.world sp t) stop (reaching reach (Do t)) (λ m h. h) (λ g. written_none (reaching reach (Do t)))
@@ -198,6 +262,29 @@ module _ (d : Setting) (apart : (a b : Key) → bytes_eq (d.name a) (d.name b) �
               (block_writes_once grp e (k + 1) (k + 2) a o.0 g))
               (λ g. written_more (block_reaching reach b) (reaching reach (If hang c a b)) (λ m h. either_second (block_reaching reach a m) (block_reaching reach b m) h) _
               (block_writes_once grp e (k + 1) (k + 2 + wires_block a) b o.1 g))
+          command_writes grp e p k (TryThen t hang a b) o =
+              let same : reach ≡ group_reaches grp = λ i m. e m i in
+              let both : ℕ → Bool = λ m. block_reaching reach a m || block_reaching reach b m in
+              attempt_then_writes p k t o.0 (listed hang) (block_plain d sp (k + 2) (k + 5) a) (block_plain d sp (k + 2) (k + 5 + wires_block a) b) (reaching reach (TryThen t hang a b))
+              (block_reaching reach a) (λ m. ap (λ (r : ℕ → Bool). step_reaching r t m && block_reaching r a m) same ∙ o.3 m)
+              (λ m h. either_first (step_reaching reach t m) (both m) h)
+              (λ m h. either_second (step_reaching reach t m) (both m) (either_first (block_reaching reach a m) (block_reaching reach b m) h))
+              (block_writes_once grp e (k + 2) (k + 5) a o.1)
+              (λ g. written_more (block_reaching reach b) (reaching reach (TryThen t hang a b))
+              (λ m h. either_second (step_reaching reach t m) (both m) (either_second (block_reaching reach a m) (block_reaching reach b m) h)) _
+              (block_writes_once grp e (k + 2) (k + 5 + wires_block a) b o.2 g))
+          command_writes grp e p k (Case hang c arms) o =
+              pick_writes p k c (listed hang) arms (arms_plain d sp (k + 1) (k + 4) arms) (reaching reach (Case hang c arms)) (arms_write_once grp e (k + 1) (k + 4) arms o)
+
+          arms_write_once : (grp : Group) (same_reach : (m : ℕ) → reach m ≡ group_reaches grp m) (p k : ℕ) (arms : Arms) → OnceArms grp beyond arms
+              → AllWrite (arms_reaching reach arms) (arms_plain d sp p k arms)
+          arms_write_once grp e p k (Last b) o = (block_writes_once grp e p k b o, tt)
+          arms_write_once grp e p k (Arm constants b arms) o = (
+            λ g. written_more (block_reaching reach b) (arms_reaching reach (Arm constants b arms)) (λ m h. either_first (block_reaching reach b m) (arms_reaching reach arms m) h) _
+                (block_writes_once grp e p k b o.0 g),
+            all_more (arms_reaching reach arms) (arms_reaching reach (Arm constants b arms)) (λ m h. either_second (block_reaching reach b m) (arms_reaching reach arms m) h)
+                (arms_plain d sp p (k + wires_block b) arms) (arms_write_once grp e p (k + wires_block b) arms o.1),
+          )
 
           block_writes_once : (grp : Group) (same_reach : (m : ℕ) → reach m ≡ group_reaches grp m) (p k : ℕ) (b : Block) → OnceBlock grp beyond b → Writes (block_reaching reach b) (block_plain d sp p k b)
           block_writes_once grp e p k End o g = written_none (block_reaching reach End)

@@ -8,6 +8,7 @@ use Rattle.sap_meaning.specs.Program.{World, Group, entity, root, children, is_i
 use Rattle.sap_meaning.specs.Fine.{size}
 use Rattle.sap_meaning.specs.Sites as sites_of_program
 use Rattle.sap_tree.specs.Words.{is_name}
+use Rattle.sap_tree.specs.declared.version.Version.TheVariants.{One}
 use Rattle.sap_net.specs.Names.{is_among, AreDistinct}
 use Rattle.sap_ir.specs.declared.guarded.Var.{Var}
 use Rattle.sap_ir.specs.declared.guarded.Store.{Store}
@@ -248,10 +249,10 @@ module _ (d : Named) (tag sites : ℕ) (design : Design d tag sites) (fit : Fitt
         declares = guarded d tag sites design fit;
         not_gates = all_names d tag sites design fit (λ (x : Name). is_gate x ≡ false) (key_no_gate d design.names);
         some_state = some_states set g forest shape l;
-        states_named = all_states set (λ (x : Name). is_name x ≡ true) g forest shape (λ t i. let l = (inside_state w g 0 g f.states t i).declared in ap is_name (ap (λ (b : Bool). if b then name d t else numeral t) l) ∙ design.names.named t l);
+        states_named = all_states set (λ (x : Name). is_name One x ≡ true) g forest shape (λ t i. let l = (inside_state w g 0 g f.states t i).declared in ap (is_name One) (ap (λ (b : Bool). if b then name d t else numeral t) l) ∙ design.names.named t l);
         states_differ = states_once set states g 0 g forest f.states shape;
         root = seat_is_fine set src seat_registers declares.few_children (root w) nested.root_seat g forest states.root_seat f.count shape;
         states_fine =
             top_fine d tag src (seats p) declares assigns states seat_registers g g 0 0 (listed d.program.hang) (group_names forest) f.states f.states (λ t h. h) (group_has set g forest shape)
-            (root_hangs w g d.program.hang f.states design.exact.hang) own_found design.exact.lists site_found fit.sized.states fit.ranged.states fit.conditions;
+            (root_hangs w g d.program.hang f.states design.exact.hang) own_found design.exact.lists site_found fit.sized.states fit.ranged.states fit.conditions design.few_arms;
       }

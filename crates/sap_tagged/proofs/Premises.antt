@@ -8,6 +8,7 @@ use Rattle.sap_net.specs.Names.{AreDistinct}
 use Rattle.sap_ir.specs.IsGuarded.{declared}
 use Rattle.sap_plain.specs.Nested.{declarations}
 use Rattle.sap_interface.specs.StandsFor.{Named, world}
+use Rattle.sap_tagged.specs.Few.{FewGroup}
 use Rattle.sap_tagged.specs.Plain.{plain_of}
 use Rattle.sap_tagged.proofs.KeyNames.{NamesApart}
 use Rattle.sap_tagged.proofs.Groups.{Tidy}
@@ -16,6 +17,7 @@ pub record Design (d : Named) (tag sites : ℕ) : Type 0 where
   pub fine : FineProgram d.program
   pub exact : ExactProgram d.program
   pub tidy : Tidy (world d) d.program.states
+  pub few_arms : FewGroup d.program.states
   pub numbered : program_sites d.program ≡ count_from sites 1
   pub few : 1 + sites ≤ 2 ^ 64
   pub few_children : (p : ℕ) → children (world d) p ≤ 2 ^ 64

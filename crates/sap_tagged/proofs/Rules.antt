@@ -5,9 +5,9 @@ use Rattle.std.proofs.Math.Pow.{pow_pos}
 use Rattle.sap_maps.specs.Maps.{Name}
 use Rattle.sap_maps.specs.Scope.{find}
 use Rattle.sap_meaning.specs.Program as program
-use Rattle.sap_meaning.specs.Program.{World, Kind, entity, root, children, width, is_input, is_register, is_memory, is_dynamic, State, Node, Group, More, Command, Do, Try, If, Block, End, Then, kind_is_input, kind_is_register, kind_is_memory, kind_is_state}
+use Rattle.sap_meaning.specs.Program.{World, Kind, entity, root, children, width, is_input, is_register, is_memory, is_dynamic, State, Node, Group, More, Command, Do, Try, If, TryThen, Case, Arms, Last, Arm, Block, End, Then, kind_is_input, kind_is_register, kind_is_memory, kind_is_state}
 use Rattle.sap_meaning.specs.Sized.{SizedProgram}
-use Rattle.sap_sized.specs.Ranges.{IsWidth, RangedProgram}
+use Rattle.sap_sized.specs.Ranges.{IsWidth, Ranged, RangedArms, RangedBlock, RangedState, RangedGroup, RangedProgram}
 use Rattle.sap_net.specs.Names.{is_name, is_among, AreDistinct}
 use Rattle.sap_ir.specs.declared.guarded.Var.{Var}
 use Rattle.sap_ir.specs.Source.{Source}
@@ -18,16 +18,16 @@ use Rattle.sap_plain.proofs.SeatWidths.{seat_positive, seat_within}
 use Rattle.sap_interface.specs.StandsFor.{Named, world, depth}
 use Rattle.sap_tagged.specs.Keys.{Key, Value, Tag, First, Inner, key_name}
 use Rattle.sap_tagged.specs.Setting.{Setting, setting_of}
-use Rattle.sap_tagged.specs.Commands.{wires, wires_block}
+use Rattle.sap_tagged.specs.Commands.{arm_count, pick_width, wires, wires_block}
 use Rattle.sap_tagged.specs.States.{saved, wires_group}
-use Rattle.sap_tagged.specs.Plain.{variable, wire, names_of, level_at_start, value_var, tag_var, seat_var, for_entities, shown_registers, has_own_tag, tag_registers, seat_registers, site_wires, step_wires, command_wires, block_wires, state_wires, group_wires, first_wires, inner_wires, memory_of, tags_of, plain_of}
+use Rattle.sap_tagged.specs.Plain.{variable, wire, names_of, level_at_start, value_var, tag_var, seat_var, for_entities, shown_registers, has_own_tag, tag_registers, seat_registers, site_wires, step_wires, command_wires, arms_wires, block_wires, state_wires, group_wires, first_wires, inner_wires, memory_of, tags_of, plain_of}
 use Rattle.sap_tagged.proofs.Bools.{apart_tests, either_second}
 use Rattle.sap_tagged.proofs.KeyNames.{same_name}
 use Rattle.sap_tagged.proofs.Members.{In, among_in, in_front, other}
 use Rattle.sap_tagged.proofs.Premises.{Design}
 use Rattle.sap_tagged.proofs.Distinct.{Every, every_join, once_join, lists_apart, distinct_keys, map_join, entities_once, entities_all, entities_named, site_keys, sites_once, sites_named, list_number, all_keys, all_named, register_lists}
 use Rattle.sap_tagged.proofs.Conditions.{GroupConditions}
-use Rattle.sap_tagged.proofs.Fits.{one_bit}
+use Rattle.sap_tagged.proofs.Fits.{one_bit, ranged_width}
 use Rattle.sap_tagged.proofs.Namings.{all_join, key_is_name, key_no_help}
 
 -- what the rules ask of a design's program besides
@@ -134,26 +134,36 @@ module _ (d : Named) (tag sites : ℕ) (design : Design d tag sites) (fit : Fitt
   step_vars k = (bit_var k, (tag_wire (k + 1), (tag_wire (k + 2), (tag_wire (k + 3), (bit_var (k + 4), tt)))))
 
   mutual
-    command_vars : (k : ℕ) (c : Command) → Every IsPlainVar (command_wires d tag k c)
-    command_vars k (Do t) = step_vars k
-    command_vars k (Try t hang h) = every_join IsPlainVar (step_wires d tag k) (block_wires d tag (k + 5) h) (step_vars k) (block_vars (k + 5) h)
-    command_vars k (If hang e a b) =
-        (tag_wire k, (tag_wire (k + 1), every_join IsPlainVar (block_wires d tag (k + 2) a) (block_wires d tag (k + 2 + wires_block a) b) (block_vars (k + 2) a) (block_vars (k + 2 + wires_block a) b)))
+    command_vars : (k : ℕ) (c : Command) → Ranged w c → Every IsPlainVar (command_wires d tag k c)
+    command_vars k (Do t) r = step_vars k
+    command_vars k (Try t hang h) r = every_join IsPlainVar (step_wires d tag k) (block_wires d tag (k + 5) h) (step_vars k) (block_vars (k + 5) h r.1)
+    command_vars k (If hang e a b) r =
+        (tag_wire k, (tag_wire (k + 1), every_join IsPlainVar (block_wires d tag (k + 2) a) (block_wires d tag (k + 2 + wires_block a) b) (block_vars (k + 2) a r.1) (block_vars (k + 2 + wires_block a) b r.2)))
+    command_vars k (TryThen t hang a b) r =
+        every_join IsPlainVar (step_wires d tag k) (block_wires d tag (k + 5) a ++ block_wires d tag (k + 5 + wires_block a) b) (step_vars k)
+        (every_join IsPlainVar (block_wires d tag (k + 5) a) (block_wires d tag (k + 5 + wires_block a) b) (block_vars (k + 5) a r.1) (block_vars (k + 5 + wires_block a) b r.2))
+    command_vars k (Case hang e arms) r =
+        (tag_wire k, (tag_wire (k + 1), ((ranged_width w e r.0, refl), (((seat_positive (suc (arm_count arms)), seat_within (suc (arm_count arms))), refl), arms_vars (k + 4) arms r.1))))
 
-    block_vars : (k : ℕ) (b : Block) → Every IsPlainVar (block_wires d tag k b)
-    block_vars k End = tt
-    block_vars k (Then c cs) = every_join IsPlainVar (command_wires d tag k c) (block_wires d tag (k + wires c) cs) (command_vars k c) (block_vars (k + wires c) cs)
+    arms_vars : (k : ℕ) (arms : Arms) → RangedArms w arms → Every IsPlainVar (arms_wires d tag k arms)
+    arms_vars k (Last b) r = block_vars k b r
+    arms_vars k (Arm constants b arms) r =
+        every_join IsPlainVar (block_wires d tag k b) (arms_wires d tag (k + wires_block b) arms) (block_vars k b r.0) (arms_vars (k + wires_block b) arms r.1)
+
+    block_vars : (k : ℕ) (b : Block) → RangedBlock w b → Every IsPlainVar (block_wires d tag k b)
+    block_vars k End r = tt
+    block_vars k (Then c cs) r = every_join IsPlainVar (command_wires d tag k c) (block_wires d tag (k + wires c) cs) (command_vars k c r.0) (block_vars (k + wires c) cs r.1)
 
   mutual
-    state_vars : (k : ℕ) (t : State) → Every IsPlainVar (state_wires d tag k t)
-    state_vars k (Node s b g) =
-        (tag_wire k, every_join IsPlainVar (block_wires d tag (k + 1) b) (group_wires d tag (k + 1 + wires_block b) g) (block_vars (k + 1) b) (group_vars (k + 1 + wires_block b) g))
+    state_vars : (k : ℕ) (t : State) → RangedState w t → Every IsPlainVar (state_wires d tag k t)
+    state_vars k (Node s b g) r =
+        (tag_wire k, every_join IsPlainVar (block_wires d tag (k + 1) b) (group_wires d tag (k + 1 + wires_block b) g) (block_vars (k + 1) b r.0) (group_vars (k + 1 + wires_block b) g r.1))
 
-    group_vars : (k : ℕ) (g : Group) → Every IsPlainVar (group_wires d tag k g)
-    group_vars k program.None = tt
-    group_vars k (More (Node s b g) rest) =
-        every_join IsPlainVar (state_wires d tag k (Node s b g)) (group_wires d tag (k + (1 + wires_block b + wires_group g)) rest) (state_vars k (Node s b g))
-        (group_vars (k + (1 + wires_block b + wires_group g)) rest)
+    group_vars : (k : ℕ) (g : Group) → RangedGroup w g → Every IsPlainVar (group_wires d tag k g)
+    group_vars k program.None r = tt
+    group_vars k (More (Node s b g) rest) r =
+        every_join IsPlainVar (state_wires d tag k (Node s b g)) (group_wires d tag (k + (1 + wires_block b + wires_group g)) rest) (state_vars k (Node s b g) r.0)
+        (group_vars (k + (1 + wires_block b + wires_group g)) rest r.1)
 
   site_vars : (k n : ℕ) → Every IsPlainVar (site_wires d tag k n)
   site_vars k zero = tt
@@ -166,7 +176,7 @@ module _ (d : Named) (tag sites : ℕ) (design : Design d tag sites) (fit : Fitt
       (every_join IsPlainVar (first_wires d tag) (inner_wires d tag ++ group_wires d tag 0 d.program.states)
       (each IsPlainVar (saved w) (λ m. variable (key_name d (First m)) tag 0 ∷ []) (λ x h. ((fit.wide, refl), tt)))
       (every_join IsPlainVar (inner_wires d tag) (group_wires d tag 0 d.program.states)
-      (each IsPlainVar (λ q. nat_lt 0 (children w q)) (λ q. variable (key_name d (Inner q)) tag 0 ∷ []) (λ x h. ((fit.wide, refl), tt))) (group_vars 0 d.program.states))))
+      (each IsPlainVar (λ q. nat_lt 0 (children w q)) (λ q. variable (key_name d (Inner q)) tag 0 ∷ []) (λ x h. ((fit.wide, refl), tt))) (group_vars 0 d.program.states fit.ranged.states))))
 
   memories_fine : AllByRecursion IsStore src.memories
   memories_fine =

@@ -1,31 +1,36 @@
 -- Commands and lists of commands.
-use Rattle.std.proofs.Common.{◌≡◌, ℕ, ◌+◌, ◌<◌, ◌≤◌, Bool, ◌∷◌, refl, ap, ◌∙◌, arith, nat_eq, inl, inr, if◌then◌else◌}
+use Rattle.std.proofs.Common.{◌≡◌, ℕ, suc, ◌+◌, ◌*◌, ◌^◌, ◌<◌, ◌≤◌, Bool, List, [], ◌∷◌, length, get_or, refl, ap, ◌∙◌, arith, nat_eq, inl, inr, if◌then◌else◌}
 use Rattle.std.proofs.lemmas.Bool.{cases_Bool}
+use Rattle.sap_tree.specs.Limits.{most_arms}
 use Rattle.sap_maps.specs.Maps.{Name}
 use Rattle.sap_maps.specs.Term.{Term}
-use Rattle.sap_meaning.specs.Program.{listed, Step, Set, Write, Retag, RetagCell, Goto, Fall, Command, Do, Try, If, Block, End, Then, Group}
-use Rattle.sap_meaning.specs.Store.{Store, raise, Refusal, After, stay}
-use Rattle.sap_meaning.specs.Expressions.{value, tag}
+use Rattle.sap_meaning.specs.Program.{listed, Step, Set, Write, Retag, RetagCell, Goto, Fall, Command, Do, Try, If, TryThen, Case, Arms, Last, Arm, Block, End, Then, Group}
+use Rattle.sap_meaning.specs.Store.{Store, raise, Refusal, After, stay, and_then}
+use Rattle.sap_meaning.specs.Expressions.{value, tag, width_of}
 use Rattle.sap_meaning.specs.Checks.{Spot, site_of, guard, test}
-use Rattle.sap_meaning.specs.Does.{effect, attempt, select, branch}
-use Rattle.sap_meaning.specs.Runs.{run, run_block}
-use Rattle.sap_meaning.specs.Fine.{FineTerm, FineStep, FineCommand, FineBlock}
+use Rattle.sap_meaning.specs.Does.{effect, attempt, attempt_then, select, branch, is_constant}
+use Rattle.sap_meaning.specs.Runs.{run, run_arms, run_block}
+use Rattle.sap_meaning.specs.Fine.{FineTerm, FineStep, FineCommand, FineArms, FineBlock}
 use Rattle.sap_ir.specs.Guarded.{Going, value_in}
 use Rattle.sap_plain.specs.Nested.{Body, stop, cases}
 use Rattle.sap_plain.specs.Does.{body_does}
+use Rattle.sap_plain.specs.Views.{follow}
+use Rattle.sap_plain.proofs.SeatWidths.{seat_holds}
 use Rattle.sap_tagged.specs.Keys.{Value, Tag, Seat, Refused, Level, Wire}
 use Rattle.sap_tagged.specs.Setting.{Setting}
 use Rattle.sap_tagged.specs.Levels.{var, lub, expr, tag_of, always}
-use Rattle.sap_tagged.specs.Commands.{raises, effect_of, refusal, outcome, attempt_of, select_of, wires, wires_block, command_plain, block_plain}
+use Rattle.sap_tagged.specs.Commands.{raises, looks, effect_of, refusal, outcome, attempt_of, outcome_then, attempt_then_of, arm_count, pick_width, picks, decides, pick_of, select_of, wires, wires_arms, wires_block, command_plain, arms_plain, block_plain}
+use Rattle.sap_tagged.specs.Few.{Few, FewArms, FewBlock}
 use Rattle.sap_tagged.specs.Stands.{Lawful, at, Stands, refused_after, level_after, Turns}
 use Rattle.sap_tagged.proofs.Bools.{flipped}
 use Rattle.sap_tagged.proofs.Terms.{bit, expr_value, tag_value, lub_value}
 use Rattle.sap_tagged.proofs.StepTerms.{Placed, always_holds}
 use Rattle.sap_tagged.proofs.Puts.{put_to, at_put, kept_put, kept_next, does_follow, Aside, stands_aside}
-use Rattle.sap_tagged.proofs.Looks.{quiet_none, quiet_next, turns_then, turns_after, turns_stay, wired, looked, raised_quiet, raises_turn}
+use Rattle.sap_tagged.proofs.Looks.{Quiet, quiet_none, quiet_next, quiet_less, turns_then, turns_after, turns_less, turns_stay, wired, looked, raised_quiet, raises_turn}
 use Rattle.sap_tagged.proofs.Effects.{Begins, FallsRun, set_effect, retag_effect, fall_effect}
 use Rattle.sap_tagged.proofs.Cells.{write_effect, retag_cell_effect}
 use Rattle.sap_tagged.proofs.Gotos.{GoesRun, goto_effect}
+use Rattle.sap_tagged.proofs.Picks.{arm_place, arm_within, decided, arms_picked}
 
 -- what a body does, with its context in the wire p and the wires from k on free
 abbrev pub BodyRuns : Setting → (Name → ℕ) → (Going → Going) → (Name → Going → Going) → (p k : ℕ) → Body → (ℕ → Store → After) → Type 0
@@ -42,10 +47,10 @@ with_refusal n l a = let refusal : Refusal = record { site = n; level = l } in r
 
 module _ (d : Setting) (widths : Name → ℕ) (laws : Lawful d widths) (f : Going → Going) (go : Name → Going → Going) where
   -- the wires of a refusal, and then the handler
-  refusal_turns : (k : ℕ) (t : Step) (h : Body) (m : ℕ → Store → After) → BodyRuns d widths f go (k + 2) (k + 5) h m → (g : Going) (r : Store) (l : ℕ) → Stands d g r
+  refusal_turns : (k from : ℕ) (t : Step) (h : Body) (m : ℕ → Store → After) → k ≤ from → BodyRuns d widths f go (k + 2) from h m → (g : Going) (r : Store) (l : ℕ) → Stands d g r
       → at d g (Wire (k + 2)) ≡ d.code l → Turns d k g (body_does widths f go (refusal d k t h) g) (with_refusal (site_of t) l (m l r))
   unfolding put_to
-  refusal_turns k t h m runs g r l st e =
+  refusal_turns k from t h m above runs g r l st e =
       let n = site_of t in
       let g1 = put_to d g (Refused n) 1 in
       let x = at d g1 (Wire (k + 2)) in
@@ -75,15 +80,15 @@ module _ (d : Setting) (widths : Name → ℕ) (laws : Lawful d widths) (f : Goi
       }
 
   module _ (q : Group) (sp : Spot) (placed : Placed d.world q sp) (goes : GoesRun d go sp.parent q) (base : ℕ) (enter : ℕ → ℕ → Store → After) (falls : FallsRun d f base sp.state enter) where
-    effect_turns : (k : ℕ) (t : Step) (l : ℕ) (b r : Store) (g : Going) → k ≤ base → FineStep d.world q sp.children t → Begins d k sp t l b r g
-        → Turns d k g (body_does widths f go (effect_of d sp k t) g) (effect d.world sp enter t l b r)
-    effect_turns k (Set site x e) l b r g kb fine h = set_effect d widths laws f go enter q k sp site x e l b r g fine h
-    effect_turns k (Write site m i e) l b r g kb fine h = write_effect d widths laws f go enter q k sp site m i e l b r g fine h
-    effect_turns k (Retag site x n) l b r g kb fine h = retag_effect d widths laws f go enter q k sp site x n l b r g fine h
-    effect_turns k (RetagCell site m j n) l b r g kb fine h = retag_cell_effect d widths laws f go enter q k sp site m j n l b r g fine h
-    effect_turns k (Goto site target) l b r g kb fine h =
-        goto_effect d widths laws f go enter q k sp site target l b r g goes fine (placed.states target fine) (placed.siblings target fine).1 h.stands h.new
-    effect_turns k (Fall site hang) l b r g kb fine h = fall_effect d widths laws f go enter base k sp site hang l b r g kb falls h
+    effect_turns : (k free : ℕ) (t : Step) (l : ℕ) (b r : Store) (g : Going) → free ≤ base → FineStep d.world q sp.children t → Begins d k sp t l b r g
+        → Turns d free g (body_does widths f go (effect_of d sp k t) g) (effect d.world sp enter t l b r)
+    effect_turns k free (Set site x e) l b r g fb fine h = set_effect d widths laws f go enter q k free sp site x e l b r g fine h
+    effect_turns k free (Write site m i e) l b r g fb fine h = write_effect d widths laws f go enter q k free sp site m i e l b r g fine h
+    effect_turns k free (Retag site x n) l b r g fb fine h = retag_effect d widths laws f go enter q k free sp site x n l b r g fine h
+    effect_turns k free (RetagCell site m j n) l b r g fb fine h = retag_cell_effect d widths laws f go enter q k free sp site m j n l b r g fine h
+    effect_turns k free (Goto site target) l b r g fb fine h =
+        goto_effect d widths laws f go enter q k free sp site target l b r g goes fine (placed.states target fine) (placed.siblings target fine).1 h.stands h.new
+    effect_turns k free (Fall site hang) l b r g fb fine h = fall_effect d widths laws f go enter base k free sp site hang l b r g fb falls h
 
     outcome_turns : (k : ℕ) (t : Step) (h : Body) (m : ℕ → Store → After) → k ≤ base → FineStep d.world q sp.children t → BodyRuns d widths f go (k + 2) (k + 5) h m
         → (b r : Store) (l : ℕ) (g : Going) → at d g (Wire k) ≡ bit (test d.world sp t l b) → Begins d k sp t l b r g
@@ -91,20 +96,47 @@ module _ (d : Setting) (widths : Name → ℕ) (laws : Lawful d widths) (f : Goi
         (if test d.world sp t l b then effect d.world sp enter t l b r
         else with_refusal (site_of t) (d.world.order.join l (guard d.world sp t b)) (m (d.world.order.join l (guard d.world sp t b)) r))
     outcome_turns k t h m kb fine runs b r l g tested begins = elim (cases_Bool (always d.world sp t)) [
-      | inl a ↦ rw (a, always_holds d.world sp t l b a) (effect_turns k t l b r g kb fine begins)
+      | inl a ↦ rw (a, always_holds d.world sp t l b a) (effect_turns k k t l b r g kb fine begins)
       | inr a ↦
           rw a
           (elim (cases_Bool (test d.world sp t l b)) [
-            | inl e ↦ (let z : at d g (Wire k) ≡ 1 = tested ∙ ap bit e in rw (e, z) (effect_turns k t l b r g kb fine begins))
-            | inr e ↦ (let z : at d g (Wire k) ≡ 0 = tested ∙ ap bit e in rw (e, z) (refusal_turns k t h m runs g r _ begins.stands begins.inside))
+            | inl e ↦ (let z : at d g (Wire k) ≡ 1 = tested ∙ ap bit e in rw (e, z) (effect_turns k k t l b r g kb fine begins))
+            | inr e ↦ (let z : at d g (Wire k) ≡ 0 = tested ∙ ap bit e in rw (e, z) (refusal_turns k (k + 5) t h m (omega arith) runs g r _ begins.stands begins.inside))
           ])
     ]
 
-    attempt_runs : (p k : ℕ) (t : Step) (hang : ℕ → Bool) (h : Body) (m : ℕ → Store → After) → p < k → k ≤ base → FineStep d.world q sp.children t
-        → BodyRuns d widths f go (k + 2) (k + 5) h m → BodyRuns d widths f go p k (attempt_of d sp p k t hang h) (attempt d.world sp enter t hang m)
-    unfolding attempt attempt_of
-    attempt_runs p k t hang h m pk kb fine runs g s l st pc =
-        let rest = outcome d sp k t h in
+    -- behind an accepted step's effect the accepted part
+    outcome_then_turns : (k from later : ℕ) (t : Step) (x h : Body) (mx m : ℕ → Store → After) → k + 5 ≤ from → k + 5 ≤ later → k + 5 ≤ base → FineStep d.world q sp.children t
+        → BodyRuns d widths f go (k + 2) from x mx → BodyRuns d widths f go (k + 2) later h m
+        → (b r : Store) (l : ℕ) (g : Going) → at d g (Wire k) ≡ bit (test d.world sp t l b) → Begins d k sp t l b r g
+        → Turns d k g (body_does widths f go (outcome_then d sp k t x h) g)
+        (if test d.world sp t l b then and_then (effect d.world sp enter t l b r) (mx (d.world.order.join l (guard d.world sp t b)))
+        else with_refusal (site_of t) (d.world.order.join l (guard d.world sp t b)) (m (d.world.order.join l (guard d.world sp t b)) r))
+    outcome_then_turns k from later t x h mx m kx kh kb fine rx rh b r l g tested begins =
+        let inside = d.world.order.join l (guard d.world sp t b) in
+        let g1 = body_does widths f go (effect_of d sp k t) g in
+        let done = effect d.world sp enter t l b r in
+        let e : Turns d (k + 5) g g1 done = effect_turns k (k + 5) t l b r g kb fine begins in
+        let accepted : Turns d k g (body_does widths f go (follow (effect_of d sp k t) x) g) (and_then done (mx inside)) =
+        rw (does_follow d widths f go (effect_of d sp k t) x g)
+        (turns_then d k from g g1 (body_does widths f go x g1) done (mx inside) (omega (arith, kx)) (turns_less d k (k + 5) g g1 done (omega arith) e)
+        (rx g1 done.store inside e.stands (e.kept (k + 2) (omega arith) ∙ begins.inside))) in
+        elim (cases_Bool (always d.world sp t)) [
+          | inl a ↦ rw (a, always_holds d.world sp t l b a) accepted
+          | inr a ↦
+              rw a
+              (elim (cases_Bool (test d.world sp t l b)) [
+                | inl e ↦ (let z : at d g (Wire k) ≡ 1 = tested ∙ ap bit e in rw (e, z) accepted)
+                | inr e ↦ (let z : at d g (Wire k) ≡ 0 = tested ∙ ap bit e in rw (e, z) (refusal_turns k later t h m (omega (arith, kh)) rh g r _ begins.stands begins.inside))
+              ])
+        ]
+
+    -- what is looked at, and the raises
+    readied : (p k : ℕ) (t : Step) (hang : ℕ → Bool) (rest : Body) (l : ℕ) (s : Store) (g : Going) → p < k → FineStep d.world q sp.children t → Stands d g s
+        → at d g (Wire p) ≡ d.code l
+        → (g' : Going) × (body_does widths f go (looks d sp p k t (raises d hang (k + 1) rest)) g ≡ body_does widths f go rest g')
+        × (at d g' (Wire k) ≡ bit (test d.world sp t l s)) × Begins d k sp t l s (raise d.world.order hang (guard d.world sp t s) s) g' × Quiet d k g g'
+    readied p k t hang rest l s g pk fine st pc =
         let a = looked d widths laws f go q sp p k t l s g (raises d hang (k + 1) rest) pk placed fine st pc in
         let g1 = a.0 in
         let look = a.2 in
@@ -121,8 +153,26 @@ module _ (d : Setting) (widths : Name → ℕ) (laws : Lawful d widths) (f : Goi
           new = up.wire (k + 3) ∙ look.new;
           keeps = up.wire (k + 4) ∙ look.keeps;
         } in
-        let r = outcome_turns k t h m kb fine runs s (raise d.world.order hang gd s) l g2 (up.wire k ∙ look.tested) begins in
-        rw (a.1, b.1) (turns_after d k k g g2 _ _ (omega arith) (quiet_next d k g g1 g2 look.quiet (raised_quiet d widths laws k g1 g2 up)) r)
+        (g2, a.1 ∙ b.1, up.wire k ∙ look.tested, begins, quiet_next d k g g1 g2 look.quiet (raised_quiet d widths laws k g1 g2 up))
+
+    attempt_runs : (p k : ℕ) (t : Step) (hang : ℕ → Bool) (h : Body) (m : ℕ → Store → After) → p < k → k ≤ base → FineStep d.world q sp.children t
+        → BodyRuns d widths f go (k + 2) (k + 5) h m → BodyRuns d widths f go p k (attempt_of d sp p k t hang h) (attempt d.world sp enter t hang m)
+    unfolding attempt attempt_of
+    attempt_runs p k t hang h m pk kb fine runs g s l st pc =
+        let a = readied p k t hang (outcome d sp k t h) l s g pk fine st pc in
+        let g2 = a.0 in
+        let r = outcome_turns k t h m kb fine runs s (raise d.world.order hang (guard d.world sp t s) s) l g2 a.2 a.3 in
+        rw a.1 (turns_after d k k g g2 _ _ (omega arith) a.4 r)
+
+    attempt_then_runs : (p k from later : ℕ) (t : Step) (hang : ℕ → Bool) (x h : Body) (mx m : ℕ → Store → After) → p < k → k + 5 ≤ from → k + 5 ≤ later → k + 5 ≤ base
+        → FineStep d.world q sp.children t → BodyRuns d widths f go (k + 2) from x mx → BodyRuns d widths f go (k + 2) later h m
+        → BodyRuns d widths f go p k (attempt_then_of d sp p k t hang x h) (attempt_then d.world sp enter t hang mx m)
+    unfolding attempt_then attempt_then_of
+    attempt_then_runs p k from later t hang x h mx m pk kx kh kb fine rx rh g s l st pc =
+        let a = readied p k t hang (outcome_then d sp k t x h) l s g pk fine st pc in
+        let g2 = a.0 in
+        let r = outcome_then_turns k from later t x h mx m kx kh kb fine rx rh s (raise d.world.order hang (guard d.world sp t s) s) l g2 a.2 a.3 in
+        rw a.1 (turns_after d k k g g2 _ _ (omega arith) a.4 r)
 
     select_runs : (p k : ℕ) (e : Term ℕ) (hang : ℕ → Bool) (x y : Body) (mx my : ℕ → Store → After) (jx jy : ℕ) → p < k → k ≤ jx → k ≤ jy → FineTerm d.world e
         → BodyRuns d widths f go (k + 1) jx x mx → BodyRuns d widths f go (k + 1) jy y my
@@ -156,27 +206,100 @@ module _ (d : Setting) (widths : Name → ℕ) (laws : Lawful d widths) (f : Goi
           | inr z ↦ rw z (turns_after d k jx g g3 _ _ kx quiet (rx g3 _ _ b.2 pc'))
         ]))
 
-    mutual
-      unfolding run run_block command_plain block_plain
+    -- the blocks of a `case`: what the number picks is the block at its arm's place
+    pick_runs : (p k : ℕ) (e : Term ℕ) (hang : ℕ → Bool) (arms : Arms) (blocks : List Body) (pick : ℕ → ℕ → Store → After) → p < k → FineTerm d.world e
+        → length blocks ≡ suc (arm_count arms) → length blocks ≤ 2 ^ pick_width arms
+        → ((n : ℕ) → BodyRuns d widths f go (k + 1) (k + 4) (get_or blocks (arm_place arms n) stop) (pick n))
+        → BodyRuns d widths f go p k (pick_of d p k e hang arms blocks) (select d.world e hang pick)
+    unfolding select pick_of put_to
+    pick_runs p k e hang arms blocks pick pk fine size few runs g s l st pc =
+        let o = d.world.order in
+        let tg = tag d.world e s in
+        let v = value d.world e s in
+        let x0 = value_in widths g (tag_of d e) in
+        let r0 = wired d widths laws s k g x0 (d.code tg) st (tag_value d widths laws g s st e fine) in
+        let g1 = put_to d g (Wire k) x0 in
+        let q1 = r0.quiet k (omega arith) in
+        let x1 = value_in widths g1 (lub (var d (Wire p)) (var d (Wire k))) in
+        let r1 = wired d widths laws s (k + 1) g1 x1 (d.code (o.join l tg)) r0.stands
+        (lub_value d widths laws g1 (var d (Wire p)) (var d (Wire k)) l tg (q1.kept p pk ∙ pc) r0.here) in
+        let g2 = put_to d g1 (Wire (k + 1)) x1 in
+        let q2 = quiet_next d k g g1 g2 q1 (r1.quiet k (omega arith)) in
+        let x2 = value_in widths g2 (expr d e) in
+        let r2 = wired d widths laws s (k + 2) g2 x2 v r1.stands (expr_value d widths laws g2 s r1.stands.value r1.stands.starts e fine) in
+        let g3 = put_to d g2 (Wire (k + 2)) x2 in
+        let q3 = quiet_next d k g g2 g3 q2 (r2.quiet k (omega arith)) in
+        let here = r2.quiet (k + 2) (omega arith) in
+        let choice = picks d (width_of d.world e) (k + 2) (pick_width arms) (k + 3) 0 arms (decides d (k + 3) (pick_width arms) blocks) in
+        let b = raises_turn d widths laws f go hang k tg s g3 choice r2.stands
+        (here.kept k (omega arith) ∙ (r1.quiet (k + 1) (omega arith)).kept k (omega arith) ∙ r0.here) in
+        let g4 = b.0 in
+        let up = b.3 in
+        let raised = raise o hang tg s in
+        let a = arms_picked d widths laws f go (width_of d.world e) (k + 2) (pick_width arms) (k + 3) 0 v arms (decides d (k + 3) (pick_width arms) blocks) g4 raised (omega arith)
+        (up.wire (k + 2) ∙ r2.here) b.2 in
+        let g5 = a.0 in
+        let chosen = a.2 in
+        let place = arm_place arms v in
+        let here_place : at d g5 (Wire (k + 3)) ≡ place = let z : 0 + place ≡ place = omega arith in chosen.here ∙ z in
+        let alone : place ≡ 0 * 2 ^ pick_width arms + place = omega arith in
+        let chose = decided d widths f go (k + 3) (pick_width arms) blocks place 0 place g5 here_place alone (let i = arm_within arms v in omega (arith, size, i)) few in
+        let pc' : at d g5 (Wire (k + 1)) ≡ d.code (o.join l tg) = chosen.quiet.kept (k + 1) (omega arith) ∙ up.wire (k + 1) ∙ here.kept (k + 1) (omega arith) ∙ r1.here in
+        let quiet = quiet_next d k g g4 g5 (quiet_next d k g g3 g4 q3 (raised_quiet d widths laws k g3 g4 up)) (quiet_less d k (k + 3) g4 g5 (omega arith) chosen.quiet) in
+        rw (b.1, a.1, chose) (turns_after d k (k + 4) g g5 _ _ (omega arith) quiet (runs v g5 raised _ chosen.stands pc'))
 
-      pub command_runs : (c : Command) → FineCommand d.world q sp.children c → (p k : ℕ) → p < k → k + wires c ≤ base
+    -- as many blocks as arms and one
+    blocks_counted : (p k : ℕ) (arms : Arms) → length (arms_plain d sp p k arms) ≡ suc (arm_count arms)
+    unfolding arms_plain
+    blocks_counted p k (Last b) = refl
+    blocks_counted p k (Arm constants b arms) = ap suc (blocks_counted p (k + wires_block b) arms)
+
+    blocks_hold : (p k : ℕ) (arms : Arms) → arm_count arms ≤ most_arms → length (arms_plain d sp p k arms) ≤ 2 ^ pick_width arms
+    blocks_hold p k arms few = rw (blocks_counted p k arms) (seat_holds (suc (arm_count arms)) (omega (arith, few)))
+
+    runs_less : (p k from : ℕ) (x : Body) (m : ℕ → Store → After) → k ≤ from → BodyRuns d widths f go p from x m → BodyRuns d widths f go p k x m
+    runs_less p k from x m l runs g s c st pc = turns_less d k from g _ _ l (runs g s c st pc)
+
+    mutual
+      unfolding run run_arms run_block command_plain arms_plain block_plain
+
+      pub command_runs : (c : Command) → FineCommand d.world q sp.children c → Few c → (p k : ℕ) → p < k → k + wires c ≤ base
           → BodyRuns d widths f go p k (command_plain d sp p k c) (run d.world sp enter c)
-      command_runs (Do t) fine p k pk kb =
+      command_runs (Do t) fine few p k pk kb =
           attempt_runs p k t _ stop (λ l s. stay s) pk (omega arith) fine (λ g s l st pc. turns_stay d (k + 5) g g s (quiet_none d (k + 5) g) st)
-      command_runs (Try t hang h) fine p k pk kb =
+      command_runs (Try t hang h) fine few p k pk kb =
           attempt_runs p k t (listed hang) (block_plain d sp (k + 2) (k + 5) h) (run_block d.world sp enter h) pk (omega arith) fine.0
-          (block_runs h fine.1 (k + 2) (k + 5) (omega arith) (omega arith))
-      command_runs (If hang e a b) fine p k pk kb =
+          (block_runs h fine.1 few (k + 2) (k + 5) (omega arith) (omega arith))
+      command_runs (If hang e a b) fine few p k pk kb =
           select_runs p k e (listed hang) (block_plain d sp (k + 1) (k + 2) a) (block_plain d sp (k + 1) (k + 2 + wires_block a) b) (run_block d.world sp enter a)
           (run_block d.world sp enter b) (k + 2) (k + 2 + wires_block a) pk (omega arith) (omega arith) fine.0
-          (block_runs a fine.1 (k + 1) (k + 2) (omega arith) (omega arith)) (block_runs b fine.2 (k + 1) (k + 2 + wires_block a) (omega arith) (omega arith))
+          (block_runs a fine.1 few.0 (k + 1) (k + 2) (omega arith) (omega arith)) (block_runs b fine.2 few.1 (k + 1) (k + 2 + wires_block a) (omega arith) (omega arith))
+      command_runs (TryThen t hang a b) fine few p k pk kb =
+          attempt_then_runs p k (k + 5) (k + 5 + wires_block a) t (listed hang) (block_plain d sp (k + 2) (k + 5) a) (block_plain d sp (k + 2) (k + 5 + wires_block a) b)
+          (run_block d.world sp enter a) (run_block d.world sp enter b) pk (omega arith) (omega arith) (omega arith) fine.0
+          (block_runs a fine.1 few.0 (k + 2) (k + 5) (omega arith) (omega arith)) (block_runs b fine.2 few.1 (k + 2) (k + 5 + wires_block a) (omega arith) (omega arith))
+      command_runs (Case hang e arms) fine few p k pk kb =
+          pick_runs p k e (listed hang) arms (arms_plain d sp (k + 1) (k + 4) arms) (run_arms d.world sp enter arms) pk fine.0 (blocks_counted (k + 1) (k + 4) arms)
+          (blocks_hold (k + 1) (k + 4) arms few.0) (λ n. arms_run arms fine.1 few.1 (k + 1) (k + 4) (omega arith) (omega arith) n)
 
-      pub block_runs : (c : Block) → FineBlock d.world q sp.children c → (p k : ℕ) → p < k → k + wires_block c ≤ base
+      -- the block that the number picks
+      arms_run : (arms : Arms) → FineArms d.world q sp.children arms → FewArms arms → (p k : ℕ) → p < k → k + wires_arms arms ≤ base → (n : ℕ)
+          → BodyRuns d widths f go p k (get_or (arms_plain d sp p k arms) (arm_place arms n) stop) (run_arms d.world sp enter arms n)
+      arms_run (Last b) fine few p k pk kb n = block_runs b fine few p k pk kb
+      arms_run (Arm constants b arms) fine few p k pk kb n = elim (cases_Bool (is_constant constants n)) [
+        | inl t ↦ rw t (block_runs b fine.0 few.1 p k pk (omega arith))
+        | inr t ↦
+            rw t
+            (runs_less p k (k + wires_block b) (get_or (arms_plain d sp p (k + wires_block b) arms) (arm_place arms n) stop) (run_arms d.world sp enter arms n) (omega arith)
+            (arms_run arms fine.1 few.2 p (k + wires_block b) (omega arith) (omega arith) n))
+      ]
+
+      pub block_runs : (c : Block) → FineBlock d.world q sp.children c → FewBlock c → (p k : ℕ) → p < k → k + wires_block c ≤ base
           → BodyRuns d widths f go p k (block_plain d sp p k c) (run_block d.world sp enter c)
-      block_runs End fine p k pk kb g s l st pc = turns_stay d k g g s (quiet_none d k g) st
-      block_runs (Then c cs) fine p k pk kb g s l st pc =
-          let r = command_runs c fine.0 p k pk (omega arith) g s l st pc in
+      block_runs End fine few p k pk kb g s l st pc = turns_stay d k g g s (quiet_none d k g) st
+      block_runs (Then c cs) fine few p k pk kb g s l st pc =
+          let r = command_runs c fine.0 few.0 p k pk (omega arith) g s l st pc in
           let g1 = body_does widths f go (command_plain d sp p k c) g in
-          let t = block_runs cs fine.1 p (k + wires c) (omega arith) (omega arith) g1 _ l r.stands (r.kept p pk ∙ pc) in
+          let t = block_runs cs fine.1 few.1 p (k + wires c) (omega arith) (omega arith) g1 _ l r.stands (r.kept p pk ∙ pc) in
           rw (does_follow d widths f go (command_plain d sp p k c) (block_plain d sp p (k + wires c) cs) g)
           (turns_then d k (k + wires c) g g1 _ (run d.world sp enter c l s) (run_block d.world sp enter cs l) (omega arith) r t)

@@ -1,12 +1,14 @@
 -- The commands of a body. Each looks first, by setting wires, at all that depends on levels; then it raises what hangs; then it has its effect.
-use Rattle.std.specs.Prelude.{ℕ, zero, suc, ◌+◌, ◌&&◌, Bool, if◌then◌else◌}
+use Rattle.std.specs.Prelude.{ℕ, zero, suc, ◌+◌, ◌^◌, nat_le, ◌&&◌, Bool, List, [], ◌∷◌, length, take, drop, if◌then◌else◌}
+use Rattle.sap_bits.specs.declared.Op2.TheVariants.{Eq}
 use Rattle.sap_maps.specs.Maps.{Name}
-use Rattle.sap_maps.specs.Term.{Term, constant, cell, choose}
-use Rattle.sap_meaning.specs.Program.{World, root, is_dynamic, is_register, width, below, listed, Step, Set, Write, Retag, RetagCell, Goto, Fall, Command, Do, Try, If, Block, End, Then}
+use Rattle.sap_maps.specs.Term.{Term, constant, cell, two, choose, part}
+use Rattle.sap_meaning.specs.Program.{World, root, is_dynamic, is_register, width, below, listed, Step, Set, Write, Retag, RetagCell, Goto, Fall, Command, Do, Try, If, TryThen, Case, Arms, Last, Arm, Block, End, Then}
+use Rattle.sap_meaning.specs.Expressions.{width_of}
 use Rattle.sap_meaning.specs.Checks.{Spot, site_of}
 use Rattle.sap_meaning.specs.Runs.{listed_alone}
 use Rattle.sap_ir.specs.Source.{set, put}
-use Rattle.sap_plain.specs.Nested.{Body, stop, act, cases, goto, fall}
+use Rattle.sap_plain.specs.Nested.{Body, stop, act, cases, goto, fall, seat_width}
 use Rattle.sap_plain.specs.Views.{follow}
 use Rattle.sap_tagged.specs.Keys.{Key, Value, Tag, Refused, Level, Wire, Inner}
 use Rattle.sap_tagged.specs.Setting.{Setting}
@@ -83,6 +85,55 @@ outcome d at k s h =
 unfoldable pub attempt_of : Setting → Spot → (p k : ℕ) → Step → (hangs : ℕ → Bool) → (handler : Body) → Body
 attempt_of d at p k s hangs h = looks d at p k s (raises d hangs (k + 1) (outcome d at k s h))
 
+-- what comes behind the raises of a step with `then`: behind its effect the accepted part
+abbrev pub outcome_then : Setting → Spot → (k : ℕ) → Step → (accepted refused : Body) → Body
+outcome_then d at k s a h =
+    if always d.world at s then follow (effect_of d at k s) a else cases (var d (Wire k)) (follow (effect_of d at k s) a) (refusal d k s h) stop
+
+unfoldable pub attempt_then_of : Setting → Spot → (p k : ℕ) → Step → (hangs : ℕ → Bool) → (accepted refused : Body) → Body
+attempt_then_of d at p k s hangs a h = looks d at p k s (raises d hangs (k + 1) (outcome_then d at k s a h))
+
+-- The blocks of a `case` are numbered from 0, the one after `else` last. Which of them runs is a number in a wire, so that there is one comparison for
+-- each constant, and no block stands deeper than that number has bits.
+
+abbrev pub arm_count : Arms → ℕ
+arm_count (Last b) = 0
+arm_count (Arm constants b arms) = suc (arm_count arms)
+
+-- the width of a block's number
+abbrev pub pick_width : Arms → ℕ
+pick_width arms = seat_width (suc (arm_count arms))
+
+-- Wire j becomes i, of w bits, where wire n, of u bits, has one of the constants.
+abbrev pub picks_arm : Setting → (u n w j i : ℕ) → List ℕ → Body → Body
+picks_arm d u n w j i [] rest = rest
+picks_arm d u n w j i (c ∷ cs) rest =
+    gives d (Wire j) (choose (two Eq (var d (Wire n)) (constant u c)) (constant w i) (var d (Wire j))) (picks_arm d u n w j i cs rest)
+
+-- Wire j becomes the number of the first arm that has the number in wire n, else that of the last block: later arms first. The first arm has the number i.
+abbrev pub picks : Setting → (u n w j i : ℕ) → Arms → Body → Body
+picks d u n w j i (Last b) rest = gives d (Wire j) (constant w i) rest
+picks d u n w j i (Arm constants b arms) rest = picks d u n w j (suc i) arms (picks_arm d u n w j i constants rest)
+
+-- the one of these that has the number in wire j, told by its lowest bits, so many of them
+abbrev pub decides : Setting → (j bits : ℕ) → List Body → Body
+decides d j zero [] = stop
+decides d j zero (b ∷ bs) = b
+decides d j (suc m) bs =
+    if nat_le (length bs) (2 ^ m)
+    then decides d j m bs
+    else cases (part (var d (Wire j)) m m) (decides d j m (drop (2 ^ m) bs)) (decides d j m (take (2 ^ m) bs)) stop
+
+-- Wire k has the level of the number, k + 1 the context of the blocks, k + 2 the number, k + 3 the number of the block.
+unfoldable pub pick_of : Setting → (p k : ℕ) → (number : Term ℕ) → (hangs : ℕ → Bool) → Arms → (blocks : List Body) → Body
+pick_of d p k e hangs arms blocks =
+    gives d (Wire k) (tag_of d e)
+    (gives d (Wire (k + 1)) (lub (var d (Wire p)) (var d (Wire k)))
+    (gives d (Wire (k + 2)) (expr d e)
+    (raises d hangs k
+    (picks d (width_of d.world e) (k + 2) (pick_width arms) (k + 3) 0 arms
+    (decides d (k + 3) (pick_width arms) blocks)))))
+
 -- Wire k has the level of the condition, k + 1 the context of the branches.
 unfoldable pub select_of : Setting → (p k : ℕ) → (condition : Term ℕ) → (hangs : ℕ → Bool) → (then_part else_part : Body) → Body
 select_of d p k e hangs a b =
@@ -96,6 +147,12 @@ abbrev mutual
   wires (Do s) = 5
   wires (Try s hang h) = 5 + wires_block h
   wires (If hang e a b) = 2 + wires_block a + wires_block b
+  wires (TryThen s hang a b) = 5 + wires_block a + wires_block b
+  wires (Case hang e arms) = 4 + wires_arms arms
+
+  pub wires_arms : Arms → ℕ
+  wires_arms (Last b) = wires_block b
+  wires_arms (Arm constants b arms) = wires_block b + wires_arms arms
 
   pub wires_block : Block → ℕ
   wires_block End = 0
@@ -107,6 +164,14 @@ unfoldable mutual
   command_plain d at p k (Try s hang h) = attempt_of d at p k s (listed hang) (block_plain d at (k + 2) (k + 5) h)
   command_plain d at p k (If hang e a b) =
       select_of d p k e (listed hang) (block_plain d at (k + 1) (k + 2) a) (block_plain d at (k + 1) (k + 2 + wires_block a) b)
+  command_plain d at p k (TryThen s hang a b) =
+      attempt_then_of d at p k s (listed hang) (block_plain d at (k + 2) (k + 5) a) (block_plain d at (k + 2) (k + 5 + wires_block a) b)
+  command_plain d at p k (Case hang e arms) = pick_of d p k e (listed hang) arms (arms_plain d at (k + 1) (k + 4) arms)
+
+  -- the blocks
+  pub arms_plain : Setting → Spot → (p k : ℕ) → Arms → List Body
+  arms_plain d at p k (Last b) = block_plain d at p k b ∷ []
+  arms_plain d at p k (Arm constants b arms) = block_plain d at p k b ∷ arms_plain d at p (k + wires_block b) arms
 
   pub block_plain : Setting → Spot → (p k : ℕ) → Block → Body
   block_plain d at p k End = stop

@@ -2,6 +2,7 @@ pub mod Keys
 pub mod Setting
 pub mod Levels
 pub mod Commands
+pub mod Few
 pub mod States
 pub mod Stands
 pub mod Plain

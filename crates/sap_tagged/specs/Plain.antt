@@ -2,7 +2,8 @@
 use Rattle.std.specs.Prelude.{ℕ, zero, suc, ◌+◌, nat_lt, Bool, List, [], ◌∷◌, ◌++◌, map, if◌then◌else◌}
 use Rattle.sap_maps.specs.Maps.{Name}
 use Rattle.sap_meaning.specs.Program as program
-use Rattle.sap_meaning.specs.Program.{Entity, root, children, width, is_input, is_register, is_memory, is_state, is_dynamic, listed, Command, Do, Try, If, Block, End, Then, State, Node, Group, None, More}
+use Rattle.sap_meaning.specs.Program.{Entity, root, children, width, is_input, is_register, is_memory, is_state, is_dynamic, listed, Command, Do, Try, If, TryThen, Case, Arms, Last, Arm, Block, End, Then, State, Node, Group, None, More}
+use Rattle.sap_meaning.specs.Expressions.{width_of}
 use Rattle.sap_meaning.specs.Store.{own}
 use Rattle.sap_meaning.specs.State.{first_level}
 use Rattle.sap_ir.specs.declared.guarded.Var.{Var}
@@ -11,7 +12,7 @@ use Rattle.sap_plain.specs.Nested.{Nested, seat_width}
 use Rattle.sap_interface.specs.StandsFor.{Named, world, depth}
 use Rattle.sap_tagged.specs.Keys.{Value, Tag, Seat, Refused, Level, Wire, First, Inner, key_name}
 use Rattle.sap_tagged.specs.Setting.{setting_of}
-use Rattle.sap_tagged.specs.Commands.{wires, wires_block}
+use Rattle.sap_tagged.specs.Commands.{wires, wires_block, pick_width}
 use Rattle.sap_tagged.specs.States.{wires_group, saved, top_plain}
 
 abbrev pub variable : Name → (width start : ℕ) → Var
@@ -68,7 +69,7 @@ abbrev pub site_wires : Named → (tag k sites : ℕ) → List Var
 site_wires d tag k zero = []
 site_wires d tag k (suc n) = variable (key_name d (Refused k)) 1 0 ∷ variable (key_name d (Level k)) tag 0 ∷ site_wires d tag (k + 1) n
 
--- The program's own wires, each after what it holds: a level, or one bit.
+-- The program's own wires, each after what it holds: a level, one bit, or of a `case` the number and the number of the block.
 
 abbrev pub wire : Named → (k width : ℕ) → Var
 wire d k u = variable (key_name d (Wire k)) u 0
@@ -82,6 +83,14 @@ abbrev mutual
   command_wires d tag k (Try s hang h) = step_wires d tag k ++ block_wires d tag (k + 5) h
   command_wires d tag k (If hang e a b) =
       wire d k tag ∷ wire d (k + 1) tag ∷ (block_wires d tag (k + 2) a ++ block_wires d tag (k + 2 + wires_block a) b)
+  command_wires d tag k (TryThen s hang a b) =
+      step_wires d tag k ++ (block_wires d tag (k + 5) a ++ block_wires d tag (k + 5 + wires_block a) b)
+  command_wires d tag k (Case hang e arms) =
+      wire d k tag ∷ wire d (k + 1) tag ∷ wire d (k + 2) (width_of (world d) e) ∷ wire d (k + 3) (pick_width arms) ∷ arms_wires d tag (k + 4) arms
+
+  pub arms_wires : Named → (tag k : ℕ) → Arms → List Var
+  arms_wires d tag k (Last b) = block_wires d tag k b
+  arms_wires d tag k (Arm constants b arms) = block_wires d tag k b ++ arms_wires d tag (k + wires_block b) arms
 
   pub block_wires : Named → (tag k : ℕ) → Block → List Var
   block_wires d tag k End = []

@@ -1,36 +1,133 @@
 -- What stands behind a body after a command, and after each of a list.
-use Rattle.std.proofs.Common.{◌≡◌, ℕ, zero, suc, ◌+◌, ◌<◌, ◌≤◌, List, [], ◌∷◌, length, get_or, drop, sym, ap, ap₂, ◌∙◌, subst, arith, add-one}
+use Rattle.std.proofs.Common.{◌≡◌, ℕ, zero, suc, ◌+◌, ◌<◌, ◌≤◌, Bool, List, [], ◌∷◌, ◌++◌, map, if◌then◌else◌, length, get_or, drop, refl, sym, ap, ap₂, ◌∙◌, subst, arith, add-one, append_assoc, append-nil}
 use Rattle.std.specs.declared.vec.Vec.{Vec}
 use Rattle.std.specs.declared.alloc.Global.{Global}
-use Rattle.sap_meaning.specs.Program.{listed}
+use Rattle.sap_tree.specs.Limits.{most_arms}
+use Rattle.sap_meaning.specs.Program.{listed, Arms, Last, End}
+use Rattle.sap_meaning.specs.Expressions.{width_of}
 use Rattle.sap_meaning.specs.Program as program
 use Rattle.sap_meaning.specs.Runs.{listed_alone}
-use Rattle.sap_plain.specs.Nested.{Body, stop, cases}
+use Rattle.sap_maps.specs.Maps.{Name}
+use Rattle.sap_maps.specs.Term.{Term}
+use Rattle.sap_plain.specs.Nested.{Body, stop, cases, seat_width}
 use Rattle.sap_plain.specs.declared.nested.PlainCmd.{PlainCmd}
 use Rattle.sap_plain.specs.Views.{body_of, follow}
 use Rattle.sap_plain.proofs.Views.{body_of-none, follow-end, follow-more}
 use Rattle.sap_program.specs.Hangs.{flags}
 use Rattle.sap_program.specs.declared.program.Number.{Number}
 use Rattle.sap_program.specs.declared.program.Step.{Step}
+use Rattle.sap_program.specs.declared.program.Arm.{Arm}
 use Rattle.sap_program.specs.declared.program.Command.{Command}
 use Rattle.sap_program.specs.declared.program.Command.TheVariants as command
 use Rattle.sap_program.specs.declared.program.Command.TheViews as shown
-use Rattle.sap_program.specs.Views.{term_of, step_of, command_of, block_of}
-use Rattle.sap_sized.specs.Ranges.{Ranged, RangedBlock, RangedStep, RangedTerm}
-use Rattle.sap_tags.specs.Built.{CommandRanged, CommandsRanged, command_body, command_wires, commands_body, commands_wires, decided}
+use Rattle.sap_program.specs.Views.{term_of, step_of, constants_of, commands_in, arm_block, arms_before, command_of, block_of}
+use Rattle.sap_sized.specs.Ranges.{Ranged, RangedArms, RangedBlock, RangedStep, RangedTerm}
+use Rattle.sap_tags.specs.Built.{ArmsFew, ArmsRanged, CommandFew, CommandRanged, CommandsFew, CommandsRanged, arm_bodies, arm_wires, command_body, command_wires, commands_body, commands_wires, decided}
 use Rattle.sap_terms.specs.Code.{entities_in, setting_in, spot_in, world_in}
-use Rattle.sap_tagged.specs.Commands.{gives, looks, raises, refusal, attempt_of, select_of, wires_block, command_plain, block_plain}
+use Rattle.sap_tagged.specs.Commands.{gives, looks, raises, effect_of, refusal, attempt_of, attempt_then_of, arm_count, pick_width, picks_arm, picks, decides, pick_of, select_of, wires_arms, wires_block, command_plain, arms_plain, block_plain}
+use Rattle.sap_tagged.specs.Few.{Few, FewArms, FewBlock}
 use Rattle.sap_tagged.specs.Keys.{Wire}
-use Rattle.sap_tagged.specs.Levels.{var, lub, expr, tag_of}
+use Rattle.sap_tagged.specs.Setting as pass
+use Rattle.sap_tagged.specs.Levels.{var, lub, expr, tag_of, always}
 use Rattle.sap_terms.specs.declared.setting.Setting.{Setting}
 use Rattle.sap_terms.specs.declared.setting.Spot.{Spot}
-use Rattle.sap_program.proofs.Shown.{command_of-do, command_of-try, command_of-if, block_of-none}
-use Rattle.sap_tags.proofs.Listed.{block_of-more, wires_are, wires_block_are, wires_drop}
+use Rattle.sap_program.proofs.Shown.{command_of-do, command_of-try, command_of-if, command_of-then, command_of-case, block_of-none}
+use Rattle.sap_tags.proofs.Listed.{block_of-more, wires_are, wires_block_are, wires_arms_are, wires_drop, arms_drop}
 use Rattle.sap_tags.proofs.Raised.{raises_follow}
+use Rattle.sap_tags.proofs.Picked.{alone, counted}
+
+-- few arms
+
+pub few_handler : (c : Command) (st : Step) (hang : List ℕ) (hs : Vec Command Global) (l : List Command) → c ≡ shown.Try st hang hs → l ≡ hs.items → CommandFew c → CommandsFew l
+unfolding CommandFew CommandsFew
+few_handler c st hang hs l i f r = subst (λ (l : List Command). FewBlock (block_of 0 l)) (sym f) (subst Few (ap (command_of 0) i ∙ command_of-try 0 st hang hs) r)
+
+few_if : (c : Command) (hang : List ℕ) (e : Number) (ys ns : Vec Command Global) → c ≡ shown.If hang e ys ns → CommandFew c → FewBlock (block_of 0 ys.items) × FewBlock (block_of 0 ns.items)
+unfolding CommandFew
+few_if c hang e ys ns i r = subst Few (ap (command_of 0) i ∙ command_of-if 0 hang e ys ns) r
+
+pub few_yes : (c : Command) (hang : List ℕ) (e : Number) (ys ns : Vec Command Global) (l : List Command) → c ≡ shown.If hang e ys ns → l ≡ ys.items → CommandFew c → CommandsFew l
+unfolding CommandsFew
+few_yes c hang e ys ns l i f r = subst (λ (l : List Command). FewBlock (block_of 0 l)) (sym f) (few_if c hang e ys ns i r).0
+
+pub few_no : (c : Command) (hang : List ℕ) (e : Number) (ys ns : Vec Command Global) (l : List Command) → c ≡ shown.If hang e ys ns → l ≡ ns.items → CommandFew c → CommandsFew l
+unfolding CommandsFew
+few_no c hang e ys ns l i f r = subst (λ (l : List Command). FewBlock (block_of 0 l)) (sym f) (few_if c hang e ys ns i r).1
+
+few_then : (c : Command) (st : Step) (hang : List ℕ) (ys ns : Vec Command Global) → c ≡ shown.TryThen st hang ys ns → CommandFew c → FewBlock (block_of 0 ys.items) × FewBlock (block_of 0 ns.items)
+unfolding CommandFew
+few_then c st hang ys ns i r = subst Few (ap (command_of 0) i ∙ command_of-then 0 st hang ys ns) r
+
+pub few_accepted : (c : Command) (st : Step) (hang : List ℕ) (ys ns : Vec Command Global) (l : List Command) → c ≡ shown.TryThen st hang ys ns → l ≡ ys.items → CommandFew c → CommandsFew l
+unfolding CommandsFew
+few_accepted c st hang ys ns l i f r = subst (λ (l : List Command). FewBlock (block_of 0 l)) (sym f) (few_then c st hang ys ns i r).0
+
+pub few_refused : (c : Command) (st : Step) (hang : List ℕ) (ys ns : Vec Command Global) (l : List Command) → c ≡ shown.TryThen st hang ys ns → l ≡ ns.items → CommandFew c → CommandsFew l
+unfolding CommandsFew
+few_refused c st hang ys ns l i f r = subst (λ (l : List Command). FewBlock (block_of 0 l)) (sym f) (few_then c st hang ys ns i r).1
+
+few_before : (n : ℕ) (arms : List Arm) (others : Arms) → FewArms (arms_before n arms others) → FewArms (arms_before n arms (Last End)) × FewArms others
+unfolding arms_before
+few_before n [] others r = (tt, r)
+few_before n (a ∷ arms) others r = let q = few_before n arms others r.2 in ((r.0, r.1, q.0), q.1)
+
+few_case : (c : Command) (hang : List ℕ) (e : Number) (arms : Vec Arm Global) (cs : Vec Command Global) → c ≡ shown.Case hang e arms cs → CommandFew c
+    → (let all = arms_before 0 arms.items (Last (block_of 0 cs.items)) in (arm_count all ≤ most_arms) × FewArms all)
+unfolding CommandFew
+few_case c hang e arms cs i r = subst Few (ap (command_of 0) i ∙ command_of-case 0 hang e arms cs) r
+
+pub few_arms : (c : Command) (hang : List ℕ) (e : Number) (arms : Vec Arm Global) (cs : Vec Command Global) (l : List Arm) → c ≡ shown.Case hang e arms cs → l ≡ arms.items → CommandFew c → ArmsFew l
+unfolding ArmsFew
+few_arms c hang e arms cs l i f r =
+    subst (λ (l : List Arm). FewArms (arms_before 0 l (Last End))) (sym f) (few_before 0 arms.items (Last (block_of 0 cs.items)) (few_case c hang e arms cs i r).1).0
+
+pub few_count : (c : Command) (hang : List ℕ) (e : Number) (arms : Vec Arm Global) (cs : Vec Command Global) (l : List Arm) → c ≡ shown.Case hang e arms cs → l ≡ arms.items → CommandFew c → length l ≤ most_arms
+few_count c hang e arms cs l i f r =
+    subst (λ (l : List Arm). length l ≤ most_arms) (sym f) (subst (λ (m : ℕ). m ≤ most_arms) (counted 0 arms.items (block_of 0 cs.items)) (few_case c hang e arms cs i r).0)
+
+pub few_last : (c : Command) (hang : List ℕ) (e : Number) (arms : Vec Arm Global) (cs : Vec Command Global) (l : List Command) → c ≡ shown.Case hang e arms cs → l ≡ cs.items → CommandFew c → CommandsFew l
+unfolding CommandsFew
+few_last c hang e arms cs l i f r =
+    subst (λ (l : List Command). FewBlock (block_of 0 l)) (sym f) (few_before 0 arms.items (Last (block_of 0 cs.items)) (few_case c hang e arms cs i r).1).1
+
+pub few_arm : (arms : List Arm) (i : ℕ) (e : Arm) → i < length arms → ArmsFew arms → CommandsFew (commands_in (get_or arms i e))
+unfolding ArmsFew CommandsFew arms_before
+few_arm [] i e l r = absurd (omega arith)
+few_arm (a ∷ arms) zero e l r = r.1
+few_arm (a ∷ arms) (suc i) e l r = few_arm arms i e (omega arith) r.2
+
+pub few_in : (cs : List Command) (i : ℕ) (e : Command) → i < length cs → CommandsFew cs → CommandFew (get_or cs i e)
+unfolding CommandsFew CommandFew block_of
+few_in [] i e l r = absurd (omega arith)
+few_in (c ∷ cs) zero e l r = r.0
+few_in (c ∷ cs) (suc i) e l r = few_in cs i e (omega arith) r.1
+
+pub empty : (cs : List PlainCmd) → cs ≡ [] → body_of cs ≡ stop
+empty cs e = ap body_of e ∙ body_of-none
 
 -- behind nothing
 pub fresh : (cs : List PlainCmd) (b x : Body) → cs ≡ [] → b ≡ follow (body_of cs) x → b ≡ x
 fresh cs b x e h = h ∙ ap (λ (l : List PlainCmd). follow (body_of l) x) e ∙ ap (λ (y : Body). follow y x) body_of-none
+
+-- behind no blocks
+pub fresh_blocks : (old new : List (Vec PlainCmd Global)) (x : List Body) → old ≡ [] → map (λ b. body_of b.items) new ≡ map (λ b. body_of b.items) old ++ x → map (λ b. body_of b.items) new ≡ x
+fresh_blocks old new x e h = h ∙ ap (λ (l : List (Vec PlainCmd Global)). map (λ b. body_of b.items) l ++ x) e
+
+map_push : (made : List (Vec PlainCmd Global)) (block : Vec PlainCmd Global) → map (λ b. body_of b.items) (made ++ block ∷ []) ≡ map (λ b. body_of b.items) made ++ body_of block.items ∷ []
+map_push [] block = refl
+map_push (b ∷ made) block = ap (λ (l : List Body). body_of b.items ∷ l) (map_push made block)
+
+-- whatever is behind arms
+
+counts_same : (n : ℕ) (arms : List Arm) (b : program.Block) → arm_count (arms_before n arms (Last End)) ≡ arm_count (arms_before n arms (Last b))
+unfolding arms_before
+counts_same n [] b = refl
+counts_same n (a ∷ arms) b = ap (λ (m : ℕ). suc m) (counts_same n arms b)
+
+picks_same : (d : pass.Setting) (u j w k i n : ℕ) (arms : List Arm) (b : program.Block) (rest : Body) → picks d u j w k i (arms_before n arms (Last End)) rest ≡ picks d u j w k i (arms_before n arms (Last b)) rest
+unfolding arms_before
+picks_same d u j w k i n [] b rest = refl
+picks_same d u j w k i n (a ∷ arms) b rest = picks_same d u j w k (suc i) n arms b (picks_arm d u j w k i (constants_of a) rest)
 
 module _ (s : Setting) where
   -- widths
@@ -67,58 +164,158 @@ module _ (s : Setting) where
   unfolding CommandsRanged
   ranged_no c hang e ys ns l i f r = subst (λ (l : List Command). RangedBlock (world_in s) (block_of (entities_in s) l)) (sym f) (ranged_if c hang e ys ns i r).2
 
+  ranged_then : (c : Command) (st : Step) (hang : List ℕ) (ys ns : Vec Command Global) → c ≡ shown.TryThen st hang ys ns → CommandRanged s c
+      → RangedStep (world_in s) (step_of (entities_in s) st) × RangedBlock (world_in s) (block_of (entities_in s) ys.items) × RangedBlock (world_in s) (block_of (entities_in s) ns.items)
+  unfolding CommandRanged
+  ranged_then c st hang ys ns i r = subst (Ranged (world_in s)) (ap (command_of (entities_in s)) i ∙ command_of-then (entities_in s) st hang ys ns) r
+
+  pub ranged_then_step : (c : Command) (st : Step) (hang : List ℕ) (ys ns : Vec Command Global) → c ≡ shown.TryThen st hang ys ns → CommandRanged s c → RangedStep (world_in s) (step_of (entities_in s) st)
+  ranged_then_step c st hang ys ns i r = (ranged_then c st hang ys ns i r).0
+
+  pub ranged_accepted : (c : Command) (st : Step) (hang : List ℕ) (ys ns : Vec Command Global) (l : List Command) → c ≡ shown.TryThen st hang ys ns → l ≡ ys.items → CommandRanged s c → CommandsRanged s l
+  unfolding CommandsRanged
+  ranged_accepted c st hang ys ns l i f r = subst (λ (l : List Command). RangedBlock (world_in s) (block_of (entities_in s) l)) (sym f) (ranged_then c st hang ys ns i r).1
+
+  pub ranged_refused : (c : Command) (st : Step) (hang : List ℕ) (ys ns : Vec Command Global) (l : List Command) → c ≡ shown.TryThen st hang ys ns → l ≡ ns.items → CommandRanged s c → CommandsRanged s l
+  unfolding CommandsRanged
+  ranged_refused c st hang ys ns l i f r = subst (λ (l : List Command). RangedBlock (world_in s) (block_of (entities_in s) l)) (sym f) (ranged_then c st hang ys ns i r).2
+
+  ranged_before : (arms : List Arm) (others : Arms) → RangedArms (world_in s) (arms_before (entities_in s) arms others)
+      → RangedArms (world_in s) (arms_before (entities_in s) arms (Last End)) × RangedArms (world_in s) others
+  unfolding arms_before
+  ranged_before [] others r = (tt, r)
+  ranged_before (a ∷ arms) others r = let q = ranged_before arms others r.1 in ((r.0, q.0), q.1)
+
+  ranged_case : (c : Command) (hang : List ℕ) (e : Number) (arms : Vec Arm Global) (cs : Vec Command Global) → c ≡ shown.Case hang e arms cs → CommandRanged s c
+      → RangedTerm (world_in s) (term_of e) × RangedArms (world_in s) (arms_before (entities_in s) arms.items (Last (block_of (entities_in s) cs.items)))
+  unfolding CommandRanged
+  ranged_case c hang e arms cs i r = subst (Ranged (world_in s)) (ap (command_of (entities_in s)) i ∙ command_of-case (entities_in s) hang e arms cs) r
+
+  pub ranged_number : (c : Command) (hang : List ℕ) (e : Number) (arms : Vec Arm Global) (cs : Vec Command Global) → c ≡ shown.Case hang e arms cs → CommandRanged s c → RangedTerm (world_in s) (term_of e)
+  ranged_number c hang e arms cs i r = (ranged_case c hang e arms cs i r).0
+
+  pub ranged_arms : (c : Command) (hang : List ℕ) (e : Number) (arms : Vec Arm Global) (cs : Vec Command Global) (l : List Arm) → c ≡ shown.Case hang e arms cs → l ≡ arms.items → CommandRanged s c → ArmsRanged s l
+  unfolding ArmsRanged
+  ranged_arms c hang e arms cs l i f r =
+      subst (λ (l : List Arm). RangedArms (world_in s) (arms_before (entities_in s) l (Last End))) (sym f) (ranged_before arms.items (Last (block_of (entities_in s) cs.items)) (ranged_case c hang e arms cs i r).1).0
+
+  pub ranged_last : (c : Command) (hang : List ℕ) (e : Number) (arms : Vec Arm Global) (cs : Vec Command Global) (l : List Command) → c ≡ shown.Case hang e arms cs → l ≡ cs.items → CommandRanged s c → CommandsRanged s l
+  unfolding CommandsRanged
+  ranged_last c hang e arms cs l i f r =
+      subst (λ (l : List Command). RangedBlock (world_in s) (block_of (entities_in s) l)) (sym f) (ranged_before arms.items (Last (block_of (entities_in s) cs.items)) (ranged_case c hang e arms cs i r).1).1
+
+  pub ranged_arm : (arms : List Arm) (i : ℕ) (e : Arm) → i < length arms → ArmsRanged s arms → CommandsRanged s (commands_in (get_or arms i e))
+  unfolding ArmsRanged CommandsRanged arms_before
+  ranged_arm [] i e l r = absurd (omega arith)
+  ranged_arm (a ∷ arms) zero e l r = r.0
+  ranged_arm (a ∷ arms) (suc i) e l r = ranged_arm arms i e (omega arith) r.1
+
   pub ranged_in : (cs : List Command) (i : ℕ) (e : Command) → i < length cs → CommandsRanged s cs → CommandRanged s (get_or cs i e)
   unfolding CommandsRanged CommandRanged block_of
   ranged_in [] i e l r = absurd (omega arith)
   ranged_in (c ∷ cs) zero e l r = r.0
   ranged_in (c ∷ cs) (suc i) e l r = ranged_in cs i e (omega arith) r.1
 
+  -- arms, and the block behind them
+
+  arms_are : (at : Spot) (p k : ℕ) (arms : List Arm) (b : program.Block)
+      → arms_plain (setting_in s) (spot_in s at) p k (arms_before (entities_in s) arms (Last b)) ≡ arm_bodies s at p k arms ++ block_plain (setting_in s) (spot_in s at) p (k + arm_wires arms) b ∷ []
+  unfolding arm_bodies arms_plain arms_before arm_wires
+  arms_are at p k [] b = let z : k ≡ k + 0 = omega arith in ap (λ (w : ℕ). block_plain (setting_in s) (spot_in s at) p w b ∷ []) z
+  arms_are at p k (a ∷ arms) b =
+      let d = setting_in s in
+      let n = entities_in s in
+      let here = spot_in s at in
+      let first : Body = block_plain d here p k (arm_block n a) in
+      let same : wires_block (arm_block n a) ≡ wires_block (arm_block 0 a) = wires_block_are n a.block.items ∙ sym (wires_block_are 0 a.block.items) in
+      let next : k + wires_block (arm_block 0 a) + arm_wires arms ≡ k + arm_wires (a ∷ arms) = omega arith in
+      ap (λ (w : ℕ). first ∷ arms_plain d here p (k + w) (arms_before n arms (Last b))) same
+      ∙ ap (λ (l : List Body). first ∷ l) (arms_are at p (k + wires_block (arm_block 0 a)) arms b)
+      ∙ ap (λ (w : ℕ). first ∷ (arm_bodies s at p (k + wires_block (arm_block 0 a)) arms ++ block_plain d here p w b ∷ [])) next
+
   -- commands
 
   module _ (at : Spot) (p : ℕ) where
-    pub do_made : (k : ℕ) (c : Command) (st : Step) (b0 b1 b2 r : Body) → c ≡ command.Do st
-        → r ≡ refusal (setting_in s) k (step_of (entities_in s) st) stop
-        → b1 ≡ follow b0 (looks (setting_in s) (spot_in s at) p k (step_of (entities_in s) st) stop)
-        → b2 ≡ follow b1 (raises (setting_in s) (listed_alone (world_in s) (spot_in s at) (step_of (entities_in s) st)) (k + 1) stop)
-        → follow b2 (decided (setting_in s) (spot_in s at) k (step_of (entities_in s) st) r) ≡ follow b0 (command_body s at p k c)
-    unfolding command_body command_plain attempt_of decided
-    do_made k c st b0 b1 b2 r i re e f =
+    -- behind an effect nothing
+    decided_alone : (k : ℕ) (j : program.Step) (r : Body) → decided (setting_in s) (spot_in s at) k j stop r
+        ≡ (let d = setting_in s in
+        let e = effect_of d (spot_in s at) k j in
+        if always d.world (spot_in s at) j then e else cases (var d (Wire k)) e r stop)
+    unfolding decided
+    decided_alone k j r =
+        let d = setting_in s in
+        ap (λ (x : Body). if always d.world (spot_in s at) j then x else cases (var d (Wire k)) x r stop) (follow-end (effect_of d (spot_in s at) k j))
+
+    -- what is looked at, the raises, and what is behind them
+    step_made : (k : ℕ) (j : program.Step) (hangs : ℕ → Bool) (b0 b1 b2 end : Body) → b1 ≡ follow b0 (looks (setting_in s) (spot_in s at) p k j stop)
+        → b2 ≡ follow b1 (raises (setting_in s) hangs (k + 1) stop) → follow b2 end ≡ follow b0 (looks (setting_in s) (spot_in s at) p k j (raises (setting_in s) hangs (k + 1) end))
+    step_made k j hangs b0 b1 b2 end e f =
         let d = setting_in s in
         let here = spot_in s at in
-        let j = step_of (entities_in s) st in
-        let hangs = listed_alone (world_in s) here j in
         let raise : Body = raises d hangs (k + 1) stop in
-        let end : Body = decided d here k j r in
         ap (λ (b : Body). follow b end) (f ∙ ap (λ (b : Body). follow b raise) e)
         ∙ follow-more (follow b0 (looks d here p k j stop)) raise end
         ∙ follow-more b0 (looks d here p k j stop) (follow raise end)
         ∙ ap (λ (b : Body). follow b0 (looks d here p k j b)) (sym (raises_follow d hangs (k + 1) end))
-        ∙ ap (λ (q : Body). follow b0 (looks d here p k j (raises d hangs (k + 1) (decided d here k j q)))) re
+
+    pub do_made : (k : ℕ) (c : Command) (st : Step) (b0 b1 b2 x r : Body) → c ≡ command.Do st → x ≡ stop
+        → r ≡ refusal (setting_in s) k (step_of (entities_in s) st) stop
+        → b1 ≡ follow b0 (looks (setting_in s) (spot_in s at) p k (step_of (entities_in s) st) stop)
+        → b2 ≡ follow b1 (raises (setting_in s) (listed_alone (world_in s) (spot_in s at) (step_of (entities_in s) st)) (k + 1) stop)
+        → follow b2 (decided (setting_in s) (spot_in s at) k (step_of (entities_in s) st) x r) ≡ follow b0 (command_body s at p k c)
+    unfolding command_body command_plain attempt_of
+    do_made k c st b0 b1 b2 x r i xe re e f =
+        let d = setting_in s in
+        let here = spot_in s at in
+        let j = step_of (entities_in s) st in
+        let hangs = listed_alone (world_in s) here j in
+        step_made k j hangs b0 b1 b2 (decided d here k j x r) e f
+        ∙ ap₂ (λ (a q : Body). follow b0 (looks d here p k j (raises d hangs (k + 1) (decided d here k j a q)))) xe re
+        ∙ ap (λ (q : Body). follow b0 (looks d here p k j (raises d hangs (k + 1) q))) (decided_alone k j (refusal d k j stop))
         ∙ ap (λ (y : program.Command). follow b0 (command_plain d here p k y)) (sym (ap (command_of (entities_in s)) i ∙ command_of-do (entities_in s) st))
 
-    pub try_made : (k : ℕ) (c : Command) (st : Step) (hang hl : List ℕ) (hs : Vec Command Global) (handler : List Command) (b0 b1 b2 r1 r2 : Body) → c ≡ shown.Try st hang hs → hl ≡ hang → handler ≡ hs.items
-        → r1 ≡ refusal (setting_in s) k (step_of (entities_in s) st) stop
+    pub try_made : (k : ℕ) (c : Command) (st : Step) (hang hl : List ℕ) (hs : Vec Command Global) (handler : List Command) (b0 b1 b2 x r1 r2 : Body) → c ≡ shown.Try st hang hs → hl ≡ hang → handler ≡ hs.items
+        → x ≡ stop → r1 ≡ refusal (setting_in s) k (step_of (entities_in s) st) stop
         → r2 ≡ follow r1 (commands_body s at (k + 2) (k + 5) handler)
         → b1 ≡ follow b0 (looks (setting_in s) (spot_in s at) p k (step_of (entities_in s) st) stop)
         → b2 ≡ follow b1 (raises (setting_in s) (listed (flags (entities_in s) hl)) (k + 1) stop)
-        → follow b2 (decided (setting_in s) (spot_in s at) k (step_of (entities_in s) st) r2) ≡ follow b0 (command_body s at p k c)
-    unfolding command_body commands_body command_plain attempt_of decided
-    try_made k c st hang hl hs handler b0 b1 b2 r1 r2 i he le re1 re2 e f =
+        → follow b2 (decided (setting_in s) (spot_in s at) k (step_of (entities_in s) st) x r2) ≡ follow b0 (command_body s at p k c)
+    unfolding command_body commands_body command_plain attempt_of
+    try_made k c st hang hl hs handler b0 b1 b2 x r1 r2 i he le xe re1 re2 e f =
         let d = setting_in s in
         let n = entities_in s in
         let here = spot_in s at in
         let j = step_of n st in
-        let raise : Body = raises d (listed (flags n hl)) (k + 1) stop in
-        let end : Body = decided d here k j r2 in
         let inner : Body = block_plain d here (k + 2) (k + 5) (block_of n hs.items) in
         let re : r2 ≡ refusal d k j inner =
         re2 ∙ ap₂ (λ (q : Body) (l : List Command). follow q (block_plain d here (k + 2) (k + 5) (block_of n l))) re1 le in
-        ap (λ (b : Body). follow b end) (f ∙ ap (λ (b : Body). follow b raise) e)
-        ∙ follow-more (follow b0 (looks d here p k j stop)) raise end
-        ∙ follow-more b0 (looks d here p k j stop) (follow raise end)
-        ∙ ap (λ (b : Body). follow b0 (looks d here p k j b)) (sym (raises_follow d (listed (flags n hl)) (k + 1) end))
-        ∙ ap₂ (λ (q : Body) (l : List ℕ). follow b0 (looks d here p k j (raises d (listed (flags n l)) (k + 1) (decided d here k j q)))) re he
+        step_made k j (listed (flags n hl)) b0 b1 b2 (decided d here k j x r2) e f
+        ∙ ap₂ (λ (a q : Body). follow b0 (looks d here p k j (raises d (listed (flags n hl)) (k + 1) (decided d here k j a q)))) xe re
+        ∙ ap₂ (λ (q : Body) (l : List ℕ). follow b0 (looks d here p k j (raises d (listed (flags n l)) (k + 1) q))) (decided_alone k j (refusal d k j inner)) he
         ∙ ap (λ (y : program.Command). follow b0 (command_plain d here p k y)) (sym (ap (command_of n) i ∙ command_of-try n st hang hs))
+
+    pub then_made : (k : ℕ) (c : Command) (st : Step) (hang hl : List ℕ) (ys ns : Vec Command Global) (yl nl : List Command) (b0 b1 b2 x r1 r2 : Body) (m : ℕ) → c ≡ shown.TryThen st hang ys ns → hl ≡ hang
+        → yl ≡ ys.items → nl ≡ ns.items → x ≡ commands_body s at (k + 2) (k + 5) yl → m ≡ k + 5 + commands_wires yl
+        → r1 ≡ refusal (setting_in s) k (step_of (entities_in s) st) stop → r2 ≡ follow r1 (commands_body s at (k + 2) m nl)
+        → b1 ≡ follow b0 (looks (setting_in s) (spot_in s at) p k (step_of (entities_in s) st) stop)
+        → b2 ≡ follow b1 (raises (setting_in s) (listed (flags (entities_in s) hl)) (k + 1) stop)
+        → follow b2 (decided (setting_in s) (spot_in s at) k (step_of (entities_in s) st) x r2) ≡ follow b0 (command_body s at p k c)
+    unfolding command_body commands_body command_plain attempt_then_of decided
+    then_made k c st hang hl ys ns yl nl b0 b1 b2 x r1 r2 m i he ye ne xe me re1 re2 e f =
+        let d = setting_in s in
+        let n = entities_in s in
+        let here = spot_in s at in
+        let j = step_of n st in
+        let first : Body = block_plain d here (k + 2) (k + 5) (block_of n ys.items) in
+        let second : Body = block_plain d here (k + 2) (k + 5 + wires_block (block_of n ys.items)) (block_of n ns.items) in
+        let ex : x ≡ first = xe ∙ ap (λ (l : List Command). block_plain d here (k + 2) (k + 5) (block_of n l)) ye in
+        let em : m ≡ k + 5 + wires_block (block_of n ys.items) = me ∙ ap (λ (l : List Command). k + 5 + commands_wires l) ye ∙ ap (λ (w : ℕ). k + 5 + w) (sym (wires_block_are n ys.items)) in
+        let er : r2 ≡ refusal d k j second =
+        re2 ∙ ap (λ (q : Body). follow q (commands_body s at (k + 2) m nl)) re1 ∙ ap₂ (λ (w : ℕ) (l : List Command). refusal d k j (block_plain d here (k + 2) w (block_of n l))) em ne in
+        step_made k j (listed (flags n hl)) b0 b1 b2 (decided d here k j x r2) e f
+        ∙ ap₂ (λ (a q : Body). follow b0 (looks d here p k j (raises d (listed (flags n hl)) (k + 1) (decided d here k j a q)))) ex er
+        ∙ ap (λ (l : List ℕ). follow b0 (looks d here p k j (raises d (listed (flags n l)) (k + 1) (decided d here k j first (refusal d k j second))))) he
+        ∙ ap (λ (y : program.Command). follow b0 (command_plain d here p k y)) (sym (ap (command_of n) i ∙ command_of-then n st hang ys ns))
 
     pub if_made : (k : ℕ) (c : Command) (hang hl : List ℕ) (t : Number) (ys ns : Vec Command Global) (yl nl : List Command) (b0 b1 b2 y1 n1 : Body) (m : ℕ) → c ≡ shown.If hang t ys ns → hl ≡ hang → yl ≡ ys.items → nl ≡ ns.items
         → b1 ≡ follow b0 (gives (setting_in s) (Wire k) (tag_of (setting_in s) (term_of t)) (gives (setting_in s) (Wire (k + 1)) (lub (var (setting_in s) (Wire p)) (var (setting_in s) (Wire k))) stop))
@@ -145,6 +342,51 @@ module _ (s : Setting) where
         ∙ ap (λ (l : List ℕ). follow b0 (front (raises d (listed (flags n l)) k end))) he
         ∙ ap₂ (λ (a b : Body). follow b0 (front (raises d (listed (flags n hang)) k (cases (expr d (term_of t)) a b stop)))) ey en
         ∙ ap (λ (y : program.Command). follow b0 (command_plain d here p k y)) (sym (ap (command_of n) i ∙ command_of-if n hang t ys ns))
+
+    pub case_made : (k : ℕ) (c : Command) (hang hl : List ℕ) (t : Number) (arms : Vec Arm Global) (cs : Vec Command Global) (al : List Arm) (cl : List Command) (b0 b1 b2 b3 : Body) (number : Term Name) (m : ℕ)
+        (made blocks : List (Vec PlainCmd Global)) (block : Vec PlainCmd Global) → c ≡ shown.Case hang t arms cs → hl ≡ hang → al ≡ arms.items → cl ≡ cs.items
+        → map (λ b. body_of b.items) made ≡ arm_bodies s at (k + 1) (k + 4) al → m ≡ k + 4 + arm_wires al → body_of block.items ≡ commands_body s at (k + 1) m cl → blocks ≡ made ++ block ∷ []
+        → b1 ≡ follow b0 (gives (setting_in s) (Wire k) (tag_of (setting_in s) (term_of t)) (gives (setting_in s) (Wire (k + 1)) (lub (var (setting_in s) (Wire p)) (var (setting_in s) (Wire k))) stop))
+        → number ≡ expr (setting_in s) (term_of t) → b2 ≡ follow b1 (gives (setting_in s) (Wire (k + 2)) number stop)
+        → b3 ≡ follow b2 (raises (setting_in s) (listed (flags (entities_in s) hl)) k stop)
+        → (let d = setting_in s in
+        let all = alone (entities_in s) al in
+        follow b3 (picks d (width_of (world_in s) (term_of t)) (k + 2) (pick_width all) (k + 3) 0 all (decides d (k + 3) (pick_width all) (map (λ b. body_of b.items) blocks))))
+        ≡ follow b0 (command_body s at p k c)
+    unfolding command_body commands_body command_plain pick_of
+    case_made k c hang hl t arms cs al cl b0 b1 b2 b3 number m made blocks block i he ae ce me we be ke e1 ne e2 e3 =
+        let d = setting_in s in
+        let n = entities_in s in
+        let here = spot_in s at in
+        let u = width_of (world_in s) (term_of t) in
+        let last : program.Block = block_of n cs.items in
+        let all : Arms = arms_before n arms.items (Last last) in
+        let w : ℕ = pick_width all in
+        let bodies : List Body = arms_plain d here (k + 1) (k + 4) all in
+        let look : Body → Body = λ b. gives d (Wire k) (tag_of d (term_of t)) (gives d (Wire (k + 1)) (lub (var d (Wire p)) (var d (Wire k))) b) in
+        let own : Body → Body = λ b. gives d (Wire (k + 2)) (expr d (term_of t)) b in
+        let raise : Body = raises d (listed (flags n hl)) k stop in
+        let width : pick_width (alone n al) ≡ w = ap (λ (l : List Arm). pick_width (alone n l)) ae ∙ ap (λ (q : ℕ). seat_width (suc q)) (counts_same n arms.items last) in
+        let each : map (λ b. body_of b.items) blocks ≡ bodies =
+        ap (λ (l : List (Vec PlainCmd Global)). map (λ b. body_of b.items) l) ke ∙ map_push made block
+        ∙ ap₂ (λ (l : List Body) (b : Body). l ++ b ∷ []) me be
+        ∙ ap₂ (λ (j : ℕ) (l : List Command). arm_bodies s at (k + 1) (k + 4) al ++ block_plain d here (k + 1) j (block_of n l) ∷ []) we ce
+        ∙ ap (λ (l : List Arm). arm_bodies s at (k + 1) (k + 4) l ++ block_plain d here (k + 1) (k + 4 + arm_wires l) last ∷ []) ae
+        ∙ sym (arms_are at (k + 1) (k + 4) arms.items last) in
+        let choice : Body = decides d (k + 3) w bodies in
+        let end : Body = picks d u (k + 2) w (k + 3) 0 all choice in
+        let fixed : picks d u (k + 2) (pick_width (alone n al)) (k + 3) 0 (alone n al) (decides d (k + 3) (pick_width (alone n al)) (map (λ b. body_of b.items) blocks)) ≡ end =
+        ap₂ (λ (q : ℕ) (l : List Body). picks d u (k + 2) q (k + 3) 0 (alone n al) (decides d (k + 3) q l)) width each
+        ∙ ap (λ (l : List Arm). picks d u (k + 2) w (k + 3) 0 (alone n l) choice) ae
+        ∙ picks_same d u (k + 2) w (k + 3) 0 n arms.items last choice in
+        ap (follow b3) fixed
+        ∙ ap (λ (b : Body). follow b end) (e3 ∙ ap (λ (b : Body). follow b raise) (e2 ∙ ap₂ (λ (b : Body) (q : Term Name). follow b (gives d (Wire (k + 2)) q stop)) e1 ne))
+        ∙ follow-more (follow (follow b0 (look stop)) (own stop)) raise end
+        ∙ follow-more (follow b0 (look stop)) (own stop) (follow raise end)
+        ∙ follow-more b0 (look stop) (own (follow raise end))
+        ∙ ap (λ (b : Body). follow b0 (look (own b))) (sym (raises_follow d (listed (flags n hl)) k end))
+        ∙ ap (λ (l : List ℕ). follow b0 (look (own (raises d (listed (flags n l)) k end)))) he
+        ∙ ap (λ (y : program.Command). follow b0 (command_plain d here p k y)) (sym (ap (command_of n) i ∙ command_of-case n hang t arms cs))
 
     -- lists
 
@@ -186,3 +428,43 @@ pub wires_step : (cs : List Command) (i : ℕ) (c : Command) (k m all : ℕ) →
 wires_step cs i c k m all l e f h =
     let q = wires_drop cs i c l ∙ ap (λ (y : Command). command_wires y + commands_wires (drop (i + 1) cs)) (sym e) in
     omega (arith, q, f, h)
+
+-- one arm more
+
+module _ (s : Setting) (at : Spot) (p : ℕ) where
+  arms_next : (k : ℕ) (arms : List Arm) (i : ℕ) (a : Arm) → i < length arms → a ≡ get_or arms i a
+      → arm_bodies s at p k (drop i arms) ≡ commands_body s at p k (commands_in a) ∷ arm_bodies s at p (k + commands_wires (commands_in a)) (drop (i + 1) arms)
+  unfolding arm_bodies commands_body commands_wires
+  arms_next k [] i a l e = absurd (omega arith)
+  arms_next k (x ∷ arms) zero a l e = ap (λ (y : Arm). commands_body s at p k (commands_in y) ∷ arm_bodies s at p (k + commands_wires (commands_in y)) arms) (sym e)
+  arms_next k (x ∷ arms) (suc i) a l e = let r = arms_next k arms i a (omega arith) e in simp (add-one) (simp (add-one) at r)
+
+  arms_none : (k : ℕ) (arms : List Arm) (i : ℕ) → length arms ≤ i → arm_bodies s at p k (drop i arms) ≡ []
+  unfolding arm_bodies
+  arms_none k [] zero l = refl
+  arms_none k [] (suc i) l = refl
+  arms_none k (a ∷ arms) zero l = absurd (omega arith)
+  arms_none k (a ∷ arms) (suc i) l = arms_none k arms i (omega arith)
+
+  pub arms_step : (arms : List Arm) (i : ℕ) (a : Arm) (cl : List Command) (k m : ℕ) (old new : List (Vec PlainCmd Global)) (block : Vec PlainCmd Global) (all : List Body) → i < length arms → a ≡ get_or arms i a
+      → cl ≡ commands_in a → new ≡ old ++ block ∷ [] → body_of block.items ≡ commands_body s at p k cl → m ≡ k + commands_wires cl
+      → map (λ b. body_of b.items) old ++ arm_bodies s at p k (drop i arms) ≡ all → map (λ b. body_of b.items) new ++ arm_bodies s at p m (drop (i + 1) arms) ≡ all
+  arms_step arms i a cl k m old new block all l e c f b w h =
+      let bodies : List (Vec PlainCmd Global) → List Body = λ bs. map (λ b. body_of b.items) bs in
+      let rest : ℕ → List Body = λ j. arm_bodies s at p j (drop (i + 1) arms) in
+      ap (λ (bs : List (Vec PlainCmd Global)). bodies bs ++ rest m) f
+      ∙ ap₂ (λ (bs : List Body) (j : ℕ). bs ++ rest j) (map_push old block) w
+      ∙ ap (λ (x : Body). (bodies old ++ x ∷ []) ++ rest (k + commands_wires cl)) b
+      ∙ append_assoc (bodies old) (commands_body s at p k cl ∷ []) (rest (k + commands_wires cl))
+      ∙ ap (λ (cs : List Command). bodies old ++ commands_body s at p k cs ∷ rest (k + commands_wires cs)) c
+      ∙ ap (λ (bs : List Body). bodies old ++ bs) (sym (arms_next k arms i a l e)) ∙ h
+
+  pub arms_rest : (arms : List Arm) (i k : ℕ) (now all : List Body) → length arms ≤ i → now ++ arm_bodies s at p k (drop i arms) ≡ all → now ≡ all
+  arms_rest arms i k now all l h = sym (append-nil now) ∙ ap (λ (bs : List Body). now ++ bs) (sym (arms_none k arms i l)) ∙ h
+
+pub arm_wires_step : (arms : List Arm) (i : ℕ) (a : Arm) (cl : List Command) (k m all : ℕ) → i < length arms → a ≡ get_or arms i a → cl ≡ commands_in a → m ≡ k + commands_wires cl
+    → k + arm_wires (drop i arms) ≡ all → m + arm_wires (drop (i + 1) arms) ≡ all
+arm_wires_step arms i a cl k m all l e c f h =
+    let q = arms_drop arms i a l ∙ ap (λ (y : Arm). commands_wires (commands_in y) + arm_wires (drop (i + 1) arms)) (sym e) in
+    let r : commands_wires cl ≡ commands_wires (commands_in a) = ap commands_wires c in
+    omega (arith, q, r, f, h)

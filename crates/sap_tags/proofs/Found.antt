@@ -28,8 +28,12 @@ use Rattle.sap_terms.specs.Code.{named_over}
 use Rattle.sap_tagged.specs.Law.{IsSound, plain_for}
 use Rattle.sap_tagged.specs.Plain.{plain_of}
 use Rattle.sap_terms.specs.Narrow.{IsNarrow}
+use Rattle.sap_tagged.specs.Few.{FewGroup}
 use Rattle.sap_tagged.specs.States.{wires_group}
+use Rattle.sap_tagged.proofs.Designs.{design}
 use Rattle.sap_tagged.proofs.Fitted.{limits, group_few, group_filled, tree_of}
+use Rattle.sap_tags.specs.Built.{StatesFew}
+use Rattle.sap_tags.proofs.FewArms.{few_group}
 
 named_as : (ls : Levels) (d : DesignTree) (p : Program) → IsProgramOf ls d p → named_over ls p ≡ named_of ls d
 named_as ls d p h =
@@ -48,6 +52,12 @@ ranged_found own ls d p e h ranged sound =
 
 pub sound_found : (own ls : Levels) (d : DesignTree) → own ≡ ls → IsLattice own → IsTrue (is_whole d) → WellFormed ls d → IsSound ls d
 sound_found own ls d e l whole formed = record { lattice = subst (λ x. IsLattice x) e l; whole = whole; formed = formed }
+
+-- few arms
+
+pub arms_found : (ls : Levels) (d : DesignTree) (p : Program) → IsProgramOf ls d p → IsSound ls d → StatesFew p.states.items
+unfolding StatesFew
+arms_found ls d p h sound = few_group (count p) p.states.items (subst (λ (q : meaning.Program). FewGroup q.states) (sym h.program) (design ls d sound).few_arms)
 
 -- few wires
 

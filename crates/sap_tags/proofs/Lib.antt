@@ -3,6 +3,8 @@ pub mod Wirings
 pub mod Found
 pub mod Raised
 pub mod Pushed
+pub mod Picked
 pub mod Listed
+pub mod FewArms
 pub mod Commanded
 pub mod Planted

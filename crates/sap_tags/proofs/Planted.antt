@@ -12,11 +12,12 @@ use Rattle.sap_program.specs.declared.program.State.{State as StateCode, out-Sta
 use Rattle.sap_program.specs.declared.program.Command.{Command}
 use Rattle.sap_program.specs.Views.{block_of, state_of, group_of}
 use Rattle.sap_sized.specs.Ranges.{RangedBlock, RangedState, RangedGroup}
-use Rattle.sap_tags.specs.Built.{CommandsRanged, StateRanged, StatesRanged, commands_body, commands_wires, state_forest, state_wires, states_forest, states_wires, top_forest, tops_forest}
+use Rattle.sap_tags.specs.Built.{CommandsFew, CommandsRanged, StateFew, StateRanged, StatesFew, StatesRanged, commands_body, commands_wires, state_forest, state_wires, states_forest, states_wires, top_forest, tops_forest}
 use Rattle.sap_terms.specs.Code.{named_in, entities_in, setting_in, spot_in, world_in}
 use Rattle.sap_tagged.specs.Keys.{First, Tag, Wire, Inner, entity_word}
 use Rattle.sap_tagged.specs.Levels.{var}
 use Rattle.sap_tagged.specs.Commands.{gives, raises, block_plain, wires_block}
+use Rattle.sap_tagged.specs.Few.{FewBlock, FewState, FewGroup}
 use Rattle.sap_tagged.specs.Setting as pass
 use Rattle.sap_tagged.specs.States.{wires_state, saves, saved, group_plain, top_plain}
 use Rattle.sap_terms.specs.declared.setting.Setting.{Setting}
@@ -25,6 +26,26 @@ use Rattle.sap_program.proofs.Shown.{state_of-out}
 use Rattle.sap_tags.proofs.Listed.{group_of-more, wires_block_are, wires_state_are, state_wires_are, states_drop}
 use Rattle.sap_tags.proofs.Raised.{raises_follow, entities_count}
 use Rattle.sap_tags.proofs.Pushed.{for_each_follow}
+
+-- few arms
+
+few_state : (t : StateCode) → StateFew t → FewBlock (block_of 0 (out-State t).body.items) × FewGroup (group_of 0 (out-State t).children.items)
+unfolding StateFew
+few_state t r = subst FewState (state_of-out 0 t) r
+
+pub few_body : (t : StateCode) (l : List Command) → l ≡ (out-State t).body.items → StateFew t → CommandsFew l
+unfolding CommandsFew
+few_body t l e r = subst (λ (l : List Command). FewBlock (block_of 0 l)) (sym e) (few_state t r).0
+
+pub few_children : (t : StateCode) (l : List StateCode) → l ≡ (out-State t).children.items → StateFew t → StatesFew l
+unfolding StatesFew
+few_children t l e r = subst (λ (l : List StateCode). FewGroup (group_of 0 l)) (sym e) (few_state t r).1
+
+pub few_one : (ts : List StateCode) (i : ℕ) (e : StateCode) → i < length ts → StatesFew ts → StateFew (get_or ts i e)
+unfolding StatesFew StateFew group_of
+few_one [] i e l r = absurd (omega arith)
+few_one (t ∷ ts) zero e l r = r.0
+few_one (t ∷ ts) (suc i) e l r = few_one ts i e (omega arith) r.1
 
 -- groups, one state more
 

@@ -1,8 +1,9 @@
 -- What stands behind a body, after each part of a step.
-use Rattle.std.proofs.Common.{◌≡◌, ℕ, ◌+◌, Bool, true, false, refl, sym, ap, ◌∙◌, if◌then◌else◌}
+use Rattle.std.proofs.Common.{◌≡◌, ℕ, ◌+◌, ◌++◌, List, [], ◌∷◌, Bool, true, false, refl, sym, ap, ◌∙◌, if◌then◌else◌}
 use Rattle.sap_plain.specs.Nested.{Body, stop, goto}
-use Rattle.sap_plain.specs.Views.{follow}
-use Rattle.sap_plain.proofs.Views.{follow-end, follow-more}
+use Rattle.sap_plain.specs.declared.nested.PlainCmd.{PlainCmd}
+use Rattle.sap_plain.specs.Views.{body_of, command_before, follow}
+use Rattle.sap_plain.proofs.Views.{body_of-none, body_of-more, follow-before, follow-end, follow-more}
 use Rattle.sap_maps.specs.Maps.{Name}
 use Rattle.sap_maps.specs.Term.{Term}
 use Rattle.sap_tagged.specs.Keys.{Key, Tag, Wire}
@@ -15,6 +16,15 @@ use Rattle.sap_meaning.specs.Checks.{Spot}
 use Rattle.sap_program.specs.declared.program.Step.{Step}
 use Rattle.sap_program.specs.declared.program.Step.TheVariants as step
 use Rattle.sap_program.specs.Views.{step_of}
+
+-- one list of commands behind another
+pub body_of-behind : (cs ds : List PlainCmd) → body_of (cs ++ ds) ≡ follow (body_of cs) (body_of ds)
+body_of-behind [] ds = ap (λ (b : Body). follow b (body_of ds)) (sym body_of-none)
+body_of-behind (c ∷ cs) ds =
+    body_of-more c (cs ++ ds)
+    ∙ ap (command_before c) (body_of-behind cs ds)
+    ∙ sym (follow-before c (body_of cs) (body_of ds))
+    ∙ ap (λ (b : Body). follow b (body_of ds)) (sym (body_of-more c cs))
 
 -- a part that is there in one case, in front of others
 pub follow_if : (t : Bool) (a b : Body) → follow (if t then a else stop) b ≡ (if t then follow a b else b)
@@ -42,5 +52,7 @@ goto_effect d sp n k st site target b0 b1 b2 i e f =
     ∙ ap (λ (s : Step). follow b0 (effect_of d sp k (step_of n s))) (sym i)
 
 pub ruleset behind = (follow-end, follow-more)
+
+pub ruleset accepted = (body_of-behind, follow-more)
 
 pub ruleset effects = (follow-end, follow-more, follow_if, for_each_follow)

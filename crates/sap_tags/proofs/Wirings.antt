@@ -1,21 +1,27 @@
 -- The wires of lists of commands and of states, from a place on.
-use Rattle.std.proofs.Common.{◌≡◌, ℕ, zero, suc, ◌+◌, ◌<◌, ◌≤◌, ◌^◌, List, [], ◌∷◌, ◌++◌, length, get_or, drop, refl, sym, ap, ◌∙◌, arith, add-one, append_assoc}
+use Rattle.std.proofs.Common.{◌≡◌, ℕ, zero, suc, ◌+◌, ◌<◌, ◌≤◌, ◌^◌, List, [], ◌∷◌, ◌++◌, length, get_or, drop, refl, sym, ap, ap₂, ◌∙◌, arith, add-one, append_assoc}
 use Rattle.std.specs.declared.vec.Vec.{Vec}
 use Rattle.std.specs.declared.alloc.Global.{Global}
 use Rattle.sap_ir.specs.declared.guarded.Var.{Var}
 use Rattle.sap_meaning.specs.Program as program
-use Rattle.sap_meaning.specs.Program.{Block, End, Then, Group, None, More, Node}
+use Rattle.sap_meaning.specs.Program.{Arms, Last, Block, End, Then, Group, None, More, Node}
 use Rattle.sap_program.specs.declared.program.Number.{Number}
 use Rattle.sap_program.specs.declared.program.Step.{Step}
+use Rattle.sap_program.specs.declared.program.Arm.{Arm}
 use Rattle.sap_program.specs.declared.program.Command.{Command}
 use Rattle.sap_program.specs.declared.program.Command.TheViews as shown
 use Rattle.sap_program.specs.declared.program.State.{State, out-State}
-use Rattle.sap_program.specs.Views.{command_of, block_of, state_of, group_of}
-use Rattle.sap_interface.specs.StandsFor.{Named}
-use Rattle.sap_tagged.specs.Commands.{wires, wires_block}
+use Rattle.sap_program.specs.Views.{term_of, commands_in, arm_block, arms_before, command_of, block_of, state_of, group_of}
+use Rattle.sap_meaning.specs.Expressions.{width_of}
+use Rattle.sap_plain.specs.Nested.{seat_width}
+use Rattle.sap_interface.specs.StandsFor.{Named, world}
+use Rattle.sap_tagged.specs.Commands.{pick_width, wires, wires_arms, wires_block}
 use Rattle.sap_tagged.specs.States.{wires_state, wires_group}
-use Rattle.sap_tagged.specs.Plain.{site_wires, command_wires, block_wires, state_wires, group_wires}
-use Rattle.sap_program.proofs.Shown.{command_of-do, command_of-try, command_of-if, state_of-out}
+use Rattle.sap_tagged.specs.Plain.{wire, site_wires, command_wires, arms_wires, block_wires, state_wires, group_wires}
+use Rattle.sap_tags.specs.Built.{arm_wires, commands_wires}
+use Rattle.sap_program.proofs.Shown.{command_of-do, command_of-try, command_of-if, command_of-then, command_of-case, state_of-out}
+use Rattle.sap_tags.proofs.Listed.{wires_before, wires_arms_are, wires_block_are, arms_drop, arms_past}
+use Rattle.sap_tags.proofs.Picked.{alone, alone_next, alone_past, counted}
 
 pub append_none : (l : List Var) → l ++ [] ≡ l
 append_none [] = refl
@@ -91,6 +97,18 @@ pub if_count : (n : ℕ) (c : Command) (hang : List ℕ) (e : Number) (ys ns : V
     → wires (command_of n c) ≡ 2 + wires_block (block_of n ys.items) + wires_block (block_of n ns.items)
 if_count n c hang e ys ns f = ap (λ (x : Command). wires (command_of n x)) f ∙ ap wires (command_of-if n hang e ys ns)
 
+pub then_count : (n : ℕ) (c : Command) (s : Step) (hang : List ℕ) (ys ns : Vec Command Global) → c ≡ shown.TryThen s hang ys ns
+    → wires (command_of n c) ≡ 5 + wires_block (block_of n ys.items) + wires_block (block_of n ns.items)
+then_count n c s hang ys ns f = ap (λ (x : Command). wires (command_of n x)) f ∙ ap wires (command_of-then n s hang ys ns)
+
+pub case_count : (n : ℕ) (c : Command) (hang : List ℕ) (e : Number) (arms : Vec Arm Global) (cs : Vec Command Global) → c ≡ shown.Case hang e arms cs
+    → wires (command_of n c) ≡ 4 + arm_wires arms.items + wires_block (block_of n cs.items)
+case_count n c hang e arms cs f =
+    let a = ap (λ (x : Command). wires (command_of n x)) f ∙ ap wires (command_of-case n hang e arms cs) in
+    let b = wires_before n arms.items (Last (block_of n cs.items)) in
+    let m = wires_arms_are n arms.items in
+    omega (arith, a, b, m)
+
 pub state_count : (n : ℕ) (s : State)
     → wires_state (state_of n s) ≡ 1 + wires_block (block_of n (out-State s).body.items) + wires_group (group_of n (out-State s).children.items)
 state_count n s = ap wires_state (state_of-out n s)
@@ -105,6 +123,77 @@ after_part : (old new part rest all : List Var) → new ≡ old ++ part → old 
 after_part old new part rest all h e = ap (λ (l : List Var). l ++ rest) h ∙ append_assoc old part rest ∙ e
 
 module _ (d : Named) (tag n : ℕ) where
+  -- the wires of arms, and of the block behind them
+  pub arms_before-wires : (k : ℕ) (arms : List Arm) (b : Block) → arms_wires d tag k (arms_before n arms (Last b)) ≡ arms_wires d tag k (alone n arms) ++ block_wires d tag (k + arm_wires arms) b
+  unfolding arms_before arm_wires
+  arms_before-wires k [] b = let z : k ≡ k + 0 = omega arith in ap (λ (w : ℕ). block_wires d tag w b) z
+  arms_before-wires k (a ∷ arms) b =
+      let first : List Var = block_wires d tag k (arm_block n a) in
+      let r = arms_before-wires (k + wires_block (arm_block n a)) arms b in
+      let same : wires_block (arm_block n a) ≡ wires_block (arm_block 0 a) = wires_block_are n a.block.items ∙ sym (wires_block_are 0 a.block.items) in
+      let next : k + wires_block (arm_block n a) + arm_wires arms ≡ k + arm_wires (a ∷ arms) = omega (arith, same) in
+      ap (λ (l : List Var). first ++ l) (r ∙ ap (λ (w : ℕ). arms_wires d tag (k + wires_block (arm_block n a)) (alone n arms) ++ block_wires d tag w b) next)
+      ∙ sym (append_assoc first (arms_wires d tag (k + wires_block (arm_block n a)) (alone n arms)) (block_wires d tag (k + arm_wires (a ∷ arms)) b))
+
+  -- all of a `case`
+  pub case_wired : (k : ℕ) (c : Command) (hang : List ℕ) (e : Number) (arms : Vec Arm Global) (cs : Vec Command Global) (al : List Arm) (cl : List Command) (w0 w1 w2 w3 w4 w5 : List Var) (next v u w : ℕ)
+      → c ≡ shown.Case hang e arms cs → al ≡ arms.items → cl ≡ cs.items → v ≡ tag
+      → w1 ≡ w0 ++ wire d k v ∷ [] → w2 ≡ w1 ++ wire d (k + 1) v ∷ [] → w3 ≡ w2 ++ wire d (k + 2) u ∷ [] → u ≡ width_of (world d) (term_of e) → w4 ≡ w3 ++ wire d (k + 3) w ∷ []
+      → w ≡ seat_width (length al + 1) → w5 ≡ w4 ++ arms_wires d tag (k + 4) (alone n al) → next ≡ k + 4 + arm_wires al
+      → w5 ++ block_wires d tag next (block_of n cl) ≡ w0 ++ command_wires d tag k (command_of n c)
+  case_wired k c hang e arms cs al cl w0 w1 w2 w3 w4 w5 next v u w i ae ce ve e1 e2 e3 ue e4 we e5 ne =
+      let last : Block = block_of n cs.items in
+      let all : Arms = arms_before n arms.items (Last last) in
+      let front : List Var → List Var = λ l. wire d k v ∷ wire d (k + 1) v ∷ wire d (k + 2) u ∷ wire d (k + 3) w ∷ l in
+      let rest : List Var = arms_wires d tag (k + 4) (alone n al) ++ block_wires d tag next (block_of n cl) in
+      let four : w4 ≡ w0 ++ front [] =
+      e4 ∙ ap (λ (l : List Var). l ++ wire d (k + 3) w ∷ []) (e3 ∙ ap (λ (l : List Var). l ++ wire d (k + 2) u ∷ []) (e2 ∙ ap (λ (l : List Var). l ++ wire d (k + 1) v ∷ []) e1))
+      ∙ ap (λ (l : List Var). (l ++ wire d (k + 2) u ∷ []) ++ wire d (k + 3) w ∷ []) (append_assoc w0 (wire d k v ∷ []) (wire d (k + 1) v ∷ []))
+      ∙ ap (λ (l : List Var). l ++ wire d (k + 3) w ∷ []) (append_assoc w0 (wire d k v ∷ wire d (k + 1) v ∷ []) (wire d (k + 2) u ∷ []))
+      ∙ append_assoc w0 (wire d k v ∷ wire d (k + 1) v ∷ wire d (k + 2) u ∷ []) (wire d (k + 3) w ∷ []) in
+      let made : rest ≡ arms_wires d tag (k + 4) all =
+      ap₂ (λ (m : ℕ) (l : List Command). arms_wires d tag (k + 4) (alone n al) ++ block_wires d tag m (block_of n l)) ne ce
+      ∙ ap (λ (l : List Arm). arms_wires d tag (k + 4) (alone n l) ++ block_wires d tag (k + 4 + arm_wires l) last) ae
+      ∙ sym (arms_before-wires (k + 4) arms.items last) in
+      let width : w ≡ pick_width all =
+      we ∙ ap (λ (l : List Arm). seat_width (length l + 1)) ae ∙ ap seat_width (add-one (length arms.items)) ∙ ap (λ (m : ℕ). seat_width (suc m)) (sym (counted n arms.items last)) in
+      ap (λ (l : List Var). l ++ block_wires d tag next (block_of n cl)) (e5 ∙ ap (λ (l : List Var). l ++ arms_wires d tag (k + 4) (alone n al)) four)
+      ∙ append_assoc (w0 ++ front []) (arms_wires d tag (k + 4) (alone n al)) (block_wires d tag next (block_of n cl))
+      ∙ append_assoc w0 (front []) rest
+      ∙ ap (λ (l : List Var). w0 ++ front l) made
+      ∙ ap₂ (λ (x y : ℕ). w0 ++ wire d k x ∷ wire d (k + 1) x ∷ wire d (k + 2) u ∷ wire d (k + 3) y ∷ arms_wires d tag (k + 4) all) ve width
+      ∙ ap (λ (x : ℕ). w0 ++ wire d k tag ∷ wire d (k + 1) tag ∷ wire d (k + 2) x ∷ wire d (k + 3) (pick_width all) ∷ arms_wires d tag (k + 4) all) ue
+      ∙ ap (λ (y : program.Command). w0 ++ command_wires d tag k y) (sym (ap (command_of n) i ∙ command_of-case n hang e arms cs))
+
+  module _ (arms : List Arm) (i : ℕ) where
+    module _ (a : Arm) (bl : List Command) (k next total : ℕ) (l : i < length arms) (is : a ≡ get_or arms i a) (same : bl ≡ commands_in a) where
+      pub arm_count : k + arm_wires (drop i arms) ≡ total → k + (wires_block (block_of n bl) + arm_wires (drop (i + 1) arms)) ≡ total
+      arm_count e =
+          let q = arms_drop arms i a l ∙ ap (λ (y : Arm). commands_wires (commands_in y) + arm_wires (drop (i + 1) arms)) (sym is) in
+          let r = wires_block_are n bl ∙ ap commands_wires same in
+          omega (arith, q, r, e)
+
+      pub arm_room : k + arm_wires (drop i arms) ≡ total → total < 2 ^ 32 → k + wires_block (block_of n bl) < 2 ^ 32
+      arm_room e m = let r = arm_count e in omega (arith, r, m)
+
+      pub arm_next : next ≡ k + wires_block (block_of n bl) → k + arm_wires (drop i arms) ≡ total → next + arm_wires (drop (i + 1) arms) ≡ total
+      arm_next q e = let r = arm_count e in omega (arith, q, r)
+
+      pub arm_step : (old new all : List Var) → new ≡ old ++ block_wires d tag k (block_of n bl) → next ≡ k + wires_block (block_of n bl)
+          → old ++ arms_wires d tag k (alone n (drop i arms)) ≡ all → new ++ arms_wires d tag next (alone n (drop (i + 1) arms)) ≡ all
+      arm_step old new all h q e =
+          let rest = alone n (drop (i + 1) arms) in
+          after_part old new (block_wires d tag k (block_of n bl)) (arms_wires d tag next rest) all h
+          (ap (λ m. old ++ (block_wires d tag k (block_of n bl) ++ arms_wires d tag m rest)) q
+          ∙ ap (λ (cs : List Command). old ++ (block_wires d tag k (block_of n cs) ++ arms_wires d tag (k + wires_block (block_of n cs)) rest)) same
+          ∙ ap (λ (x : Arms). old ++ arms_wires d tag k x) (sym (alone_next n arms i a l is)) ∙ e)
+
+    pub arm_end : (k : ℕ) (new all : List Var) → length arms ≤ i → new ++ arms_wires d tag k (alone n (drop i arms)) ≡ all → new ≡ all
+    arm_end k new all l e = sym (append_none new) ∙ ap (λ (x : Arms). new ++ arms_wires d tag k x) (sym (alone_past n arms i l)) ∙ e
+
+    pub arm_last : (k total : ℕ) → length arms ≤ i → k + arm_wires (drop i arms) ≡ total → k ≡ total
+    arm_last k total l e = let r = arms_past arms i l in omega (arith, r, e)
+
   module _ (cs : List Command) (i : ℕ) where
     module _ (c : Command) (k next total : ℕ) (l : i < length cs) (is : c ≡ get_or cs i c) where
       pub block_count : k + wires_block (block_of n (drop i cs)) ≡ total → k + (wires (command_of n c) + wires_block (block_of n (drop (i + 1) cs))) ≡ total
@@ -155,7 +244,9 @@ module _ (d : Named) (tag n : ℕ) where
     pub group_last : (k total : ℕ) → length ss ≤ i → k + wires_group (group_of n (drop i ss)) ≡ total → k ≡ total
     group_last k total l e = let r = ap (λ (g : Group). k + wires_group g) (sym (group-past n ss i l)) ∙ e in omega (arith, r)
 
-pub ruleset commands = (command_of-do, command_of-try, command_of-if, append_assoc)
+pub ruleset commands = (command_of-do, command_of-try, command_of-if, command_of-then, append_assoc)
+
+pub ruleset arms = (append_none)
 
 pub ruleset blocks = (append_none)
 

@@ -1,8 +1,10 @@
 //! Bodies of states.
 
-ghost use Rattle.std.specs.Prelude.{◌≡◌, ◌+◌, ◌<◌, ◌^◌, ℕ, IfOk, OnOk};
+ghost use Rattle.std.specs.Prelude.{◌≡◌, ◌+◌, ◌++◌, ◌<◌, ◌≤◌, ◌^◌, ℕ, IfOk, OnOk, length, map};
 ghost use Rattle.sap_ir.specs.Calcs.{term_of};
 ghost use Rattle.sap_meaning.specs.Checks.{site_of};
+ghost use Rattle.sap_meaning.specs.Expressions.{width_of as term_width};
+ghost use Rattle.sap_meaning.specs.Program as program;
 ghost use Rattle.sap_plain.specs.Nested.{cases, stop};
 ghost use Rattle.sap_plain.specs.Views.{body_of, follow};
 ghost use Rattle.sap_program.specs.Views as views;
@@ -10,16 +12,19 @@ ghost use Rattle.sap_sized.specs.Ranges.{RangedStep, RangedTerm};
 ghost use Rattle.sap_tagged.specs.Commands as spec;
 ghost use Rattle.sap_tagged.specs.Keys.{Wire};
 ghost use Rattle.sap_tagged.specs.Levels as levels;
-ghost use Rattle.sap_tags.specs.Built.{CommandRanged, CommandsRanged, command_body, command_wires, commands_body, commands_wires, decided};
+ghost use Rattle.sap_tags.specs.Built.{ArmsFew, ArmsRanged, CommandFew, CommandRanged, CommandsFew, CommandsRanged, arm_bodies, arm_wires, command_body, command_wires, commands_body, commands_wires, decided};
+ghost use Rattle.sap_tree.specs.Limits.{most_arms};
 ghost use Rattle.sap_terms.specs.Code.{entities_in, setting_in, spot_in, world_in};
 
+use crate::arms::{Sized, decide_block, pick};
 use crate::outcomes::effect;
 use crate::pushes::{push, set_wire, wire_variable};
 use crate::raises::{raise_all, raise_alone};
 use sap_ir::guarded::{Act, Calc};
 use sap_plain::nested::PlainCmd;
-use sap_program::program::{Command, Number, Step};
-use sap_terms::calcs::{expr, lub, tag_of, yes};
+use sap_plain::seats;
+use sap_program::program::{Arm, Command, Number, Step};
+use sap_terms::calcs::{expr, lub, tag_of, width_of, yes};
 use sap_terms::names::{level_name, refused_name};
 use sap_terms::setting::{Setting, Spot};
 use sap_terms::steps::{always, guard_of, stays, test_of, written};
@@ -97,8 +102,8 @@ fn refuse(
     push(out, Act::Set(level, context))
 }
 
-/// What comes behind the raises of a step; `refused` is what a refusal does.
-#[tactic(auto, using(sap_plain::proofs::Views::commands), unfolding(crate::specs::Built::decided))]
+/// What comes behind the raises of a step; `accepted` comes behind its effect, and `refused` is what a refusal does.
+#[tactic(auto, using(sap_plain::proofs::Views::commands, crate::proofs::Pushed::accepted), unfolding(crate::specs::Built::decided))]
 fn decide(
     alloc: Global,
     setting: &Setting<'_>,
@@ -106,17 +111,20 @@ fn decide(
     out: &mut Vec<PlainCmd>,
     k: u32,
     step: &Step,
+    mut accepted: Vec<PlainCmd>,
     refused: Vec<PlainCmd>,
 ) -> Result<(), AllocError>
     requires few { k + 5 < 2 ^ 32 }
     requires ranged { RangedStep (world_in setting.now) (views.step_of (entities_in setting.now) step.now) }
-    ensures { OnOk result (body_of out.new.items ≡ follow (body_of out.old.items) (decided (setting_in setting.now) (spot_in setting.now at.now) k (views.step_of (entities_in setting.now) step.now) (body_of refused.items))) }
+    ensures { OnOk result (body_of out.new.items ≡ follow (body_of out.old.items) (decided (setting_in setting.now) (spot_in setting.now at.now) k (views.step_of (entities_in setting.now) step.now) (body_of accepted.items) (body_of refused.items))) }
 {
     if always(setting, at, step) {
-        effect(alloc, setting, at, out, k, step)
+        effect(alloc, setting, at, out, k, step)?;
+        out.append(&mut accepted)
     } else {
         let mut passed = Vec::new(alloc);
         effect(alloc, setting, at, &mut passed, k, step)?;
+        passed.append(&mut accepted)?;
         let test = wire_variable(alloc, setting, k)?;
         out.push(PlainCmd::If {
             test,
@@ -181,6 +189,7 @@ fn command(
 ) -> Result<(), AllocError>
     requires few { next.old + command_wires command.now < 2 ^ 32 }
     requires ranged { CommandRanged setting.now command.now }
+    requires arms { CommandFew command.now }
     ensures body { OnOk result (body_of out.new.items ≡ follow (body_of out.old.items) (command_body setting.now at.now p next.old command.now)) }
     ensures wires { OnOk result (next.new ≡ next.old + command_wires command.now) }
 {
@@ -192,7 +201,8 @@ fn command(
             refuse(alloc, setting, &mut refused, k, step)?;
             look(alloc, setting, at, out, p, k, step)?;
             raise_alone(alloc, setting, at, out, k + 1, step)?;
-            decide(alloc, setting, at, out, k, step, refused)
+            let accepted = Vec::new(alloc);
+            decide(alloc, setting, at, out, k, step, accepted, refused)
         }
         Command::Try {
             step,
@@ -206,7 +216,8 @@ fn command(
             commands(alloc, setting, at, &mut refused, k + 2, next, handler)?;
             look(alloc, setting, at, out, p, k, step)?;
             raise_all(alloc, setting, out, hang.numbers(), k + 1)?;
-            decide(alloc, setting, at, out, k, step, refused)
+            let accepted = Vec::new(alloc);
+            decide(alloc, setting, at, out, k, step, accepted, refused)
         }
         Command::If {
             hang,
@@ -223,7 +234,105 @@ fn command(
             commands(alloc, setting, at, &mut second, k + 1, next, no.as_slice())?;
             select(alloc, setting, out, condition, first, second)
         }
+        Command::TryThen {
+            step,
+            hang,
+            accepted,
+            refused,
+        } => {
+            *next = k + 5;
+            let mut passed = Vec::new(alloc);
+            let accepted = accepted.as_slice();
+            commands(alloc, setting, at, &mut passed, k + 2, next, accepted)?;
+            let mut failed = Vec::new(alloc);
+            refuse(alloc, setting, &mut failed, k, step)?;
+            let refused = refused.as_slice();
+            commands(alloc, setting, at, &mut failed, k + 2, next, refused)?;
+            look(alloc, setting, at, out, p, k, step)?;
+            raise_all(alloc, setting, out, hang.numbers(), k + 1)?;
+            decide(alloc, setting, at, out, k, step, passed, failed)
+        }
+        Command::Case {
+            hang,
+            number,
+            arms,
+            last,
+        } => {
+            *next = k + 4;
+            let mut blocks = Vec::new(alloc);
+            let arms = arms.as_slice();
+            add_arms(alloc, setting, at, &mut blocks, k + 1, next, arms)?;
+            let mut block = Vec::new(alloc);
+            let last = last.as_slice();
+            commands(alloc, setting, at, &mut block, k + 1, next, last)?;
+            blocks.push(block)?;
+            choose(alloc, setting, out, p, k, number)?;
+            let value = expr(alloc, setting, number)?;
+            set_wire(alloc, setting, out, k + 2, value)?;
+            let raised = hang.numbers();
+            raise_all(alloc, setting, out, raised, k)?;
+            pick_block(alloc, setting, out, k, number, arms, blocks)
+        }
     }
+}
+
+/// Picks a block by the number of an expression, which wire `k + 2` has, and the number of the block goes into wire `k + 3`.
+#[tactic(auto, using(crate::proofs::Pushed::behind))]
+fn pick_block(
+    alloc: Global,
+    setting: &Setting<'_>,
+    out: &mut Vec<PlainCmd>,
+    k: u32,
+    number: &Number,
+    arms: &[Arm],
+    blocks: Vec<Vec<PlainCmd>>,
+) -> Result<(), AllocError>
+    requires few { k + 4 < 2 ^ 32 }
+    requires ranged { RangedTerm (world_in setting.now) (views.term_of number.now) }
+    requires arms { length arms.now ≤ most_arms }
+    ensures { let d = setting_in setting.now in
+        let all = views.arms_before (entities_in setting.now) arms.now (program.Last program.End) in
+        OnOk result (body_of out.new.items ≡ follow (body_of out.old.items)
+        (spec.picks d (term_width (world_in setting.now) (views.term_of number.now)) (k + 2) (spec.pick_width all) (k + 3) 0 all
+        (spec.decides d (k + 3) (spec.pick_width all) (map (λ b. body_of b.items) blocks.items)))) }
+{
+    let seen = Sized {
+        wire: k + 2,
+        width: width_of(setting, number) as u32,
+    };
+    let picked = Sized {
+        wire: k + 3,
+        width: seats::width(arms.len() + 1),
+    };
+    pick(alloc, setting, out, &seen, &picked, arms)?;
+    decide_block(alloc, setting, out, picked.wire, picked.width, blocks)
+}
+
+/// The blocks of arms.
+#[cycle(body)]
+#[tactic(auto, using(crate::proofs::Listed::counts))]
+fn add_arms(
+    alloc: Global,
+    setting: &Setting<'_>,
+    at: &Spot<'_>,
+    blocks: &mut Vec<Vec<PlainCmd>>,
+    p: u32,
+    next: &mut u32,
+    arms: &[Arm],
+) -> Result<(), AllocError>
+    requires few { next.old + arm_wires arms.now < 2 ^ 32 }
+    requires ranged { ArmsRanged setting.now arms.now }
+    requires arms { ArmsFew arms.now }
+    ensures blocks { OnOk result (map (λ b. body_of b.items) blocks.new.items ≡ map (λ b. body_of b.items) blocks.old.items ++ arm_bodies setting.now at.now p next.old arms.now) }
+    ensures wires { OnOk result (next.new ≡ next.old + arm_wires arms.now) }
+{
+    for arm in arms {
+        let mut block = Vec::new(alloc);
+        let list = arm.block.as_slice();
+        commands(alloc, setting, at, &mut block, p, next, list)?;
+        blocks.push(block)?;
+    }
+    Ok(())
 }
 
 /// Commands in the context of the wire `p`, in order.
@@ -240,6 +349,7 @@ pub(crate) fn commands(
 ) -> Result<(), AllocError>
     requires few { next.old + commands_wires commands.now < 2 ^ 32 }
     requires ranged { CommandsRanged setting.now commands.now }
+    requires arms { CommandsFew commands.now }
     ensures body { OnOk result (body_of out.new.items ≡ follow (body_of out.old.items) (commands_body setting.now at.now p next.old commands.now)) }
     ensures wires { OnOk result (next.new ≡ next.old + commands_wires commands.now) }
 {

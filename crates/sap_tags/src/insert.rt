@@ -13,6 +13,7 @@ ghost use Rattle.sap_sized.specs.Ranges.{RangedProgram};
 ghost use Rattle.sap_tagged.specs.Law.{IsSound, PlainStandsForDesign};
 ghost use Rattle.sap_tagged.specs.Plain.{names_of, plain_of};
 ghost use Rattle.sap_tagged.specs.States.{wires_group};
+ghost use Rattle.sap_tags.specs.Built.{StatesFew};
 ghost use Rattle.sap_terms.specs.Code.{entities_in, named_in, tag_width};
 
 use crate::memories::add_memories;
@@ -46,6 +47,7 @@ fn add_names(alloc: Global, names: &mut Vec<Name>, variables: &[Var]) -> Result<
 fn parts(alloc: Global, setting: &Setting<'_>) -> Result<PlainParts, AllocError>
     requires ranged { RangedProgram (named_in setting.now).program }
     requires few { wires_group (group_of (entities_in setting.now) setting.now.program.now.states.items) < 2 ^ 32 }
+    requires arms { StatesFew setting.now.program.now.states.items }
     ensures { IfOk result (λ p. parts_nested p ≡ plain_of (named_in setting.now) (tag_width setting.now) setting.now.program.now.sites) }
 {
     let mut inputs = Vec::new(alloc);

@@ -1,6 +1,7 @@
 //! Tag insertion: from a well-formed design to its plain program, nested states whose tags are ordinary variables.
 #![tactic(auto)]
 
+mod arms;
 mod commands;
 pub mod insert;
 mod memories;

@@ -8,7 +8,7 @@ ghost use Rattle.sap_program.specs.Hangs.{flags};
 ghost use Rattle.sap_program.specs.Views as views;
 ghost use Rattle.sap_sized.specs.Ranges.{RangedGroup};
 ghost use Rattle.sap_tagged.specs.States.{top_plain, wires_group};
-ghost use Rattle.sap_tags.specs.Built.{StateRanged, StatesRanged, state_forest, state_wires, states_forest, states_wires, top_forest};
+ghost use Rattle.sap_tags.specs.Built.{StateFew, StateRanged, StatesFew, StatesRanged, state_forest, state_wires, states_forest, states_wires, top_forest};
 ghost use Rattle.sap_terms.specs.Code.{entities_in, setting_in, world_in};
 
 use crate::commands::commands;
@@ -32,6 +32,7 @@ fn state(
 ) -> Result<PlainState, AllocError>
     requires few { next.old + state_wires state.now < 2 ^ 32 }
     requires ranged { StateRanged setting.now state.now }
+    requires arms { StateFew state.now }
     ensures state { IfOk result (λ t. state_before t none ≡ state_forest setting.now parent next.old state.now) }
     ensures wires { OnOk result (next.new ≡ next.old + state_wires state.now) }
 {
@@ -68,6 +69,7 @@ fn states(
 ) -> Result<Vec<PlainState>, AllocError>
     requires few { next.old + states_wires states.now < 2 ^ 32 }
     requires ranged { StatesRanged setting.now states.now }
+    requires arms { StatesFew states.now }
     ensures states { IfOk result (λ ts. forest_of ts.items ≡ states_forest setting.now parent next.old states.now) }
     ensures wires { OnOk result (next.new ≡ next.old + states_wires states.now) }
 {
@@ -88,6 +90,7 @@ fn top_state(
 ) -> Result<PlainState, AllocError>
     requires few { next.old + state_wires state.now < 2 ^ 32 }
     requires ranged { StateRanged setting.now state.now }
+    requires arms { StateFew state.now }
     ensures state { IfOk result (λ t. state_before t none ≡ top_forest setting.now next.old state.now) }
     ensures wires { OnOk result (next.new ≡ next.old + state_wires state.now) }
 {
@@ -128,6 +131,7 @@ pub(crate) fn top_states(
 ) -> Result<Vec<PlainState>, AllocError>
     requires ranged { RangedGroup (world_in setting.now) (views.group_of (entities_in setting.now) setting.now.program.now.states.items) }
     requires few { wires_group (views.group_of (entities_in setting.now) setting.now.program.now.states.items) < 2 ^ 32 }
+    requires arms { StatesFew setting.now.program.now.states.items }
     ensures { IfOk result (λ ss. forest_of ss.items ≡ top_plain (setting_in setting.now) (listed (flags (entities_in setting.now) setting.now.program.now.hang)) 0 (views.group_of (entities_in setting.now) setting.now.program.now.states.items)) }
 {
     let states = setting.program.states.as_slice();

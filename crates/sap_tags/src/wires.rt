@@ -1,16 +1,19 @@
 //! Wires.
 
 ghost use Rattle.std.specs.Prelude.{◌≡◌, ◌+◌, ◌<◌, ◌^◌, ◌++◌, ◌∷◌, [], IfOk, OnOk};
-ghost use Rattle.sap_program.specs.Views.{block_of, command_of, group_of, state_of};
+ghost use Rattle.sap_meaning.specs.Program as program;
+ghost use Rattle.sap_program.specs.Views.{arms_before, block_of, command_of, group_of, state_of};
 ghost use Rattle.sap_tagged.specs.Commands as commands;
 ghost use Rattle.sap_tagged.specs.Keys as keys;
 ghost use Rattle.sap_tagged.specs.Plain as plain;
 ghost use Rattle.sap_tagged.specs.States as states;
+ghost use Rattle.sap_tags.specs.Built.{ArmsFew, ArmsRanged, CommandFew, CommandRanged, CommandsFew, CommandsRanged, StateFew, StateRanged, StatesFew, StatesRanged, arm_wires};
 ghost use Rattle.sap_terms.specs.Code.{entities_in, named_in, tag_width};
 
 use sap_ir::guarded::Var;
-use sap_program::program::{Command, State};
-use sap_terms::calcs::child_count;
+use sap_plain::seats;
+use sap_program::program::{Arm, Command, State};
+use sap_terms::calcs::{child_count, width_of};
 use sap_terms::entities::is_saved;
 use sap_terms::names::{first_name, inner_name, level_name, refused_name, wire_name};
 use sap_terms::setting::Setting;
@@ -174,7 +177,9 @@ fn add_command(
     k: u32,
     command: &Command,
 ) -> Result<u32, AllocError>
-    requires { k + commands.wires (command_of (entities_in setting.now) command.now) < 2 ^ 32 }
+    requires few { k + commands.wires (command_of (entities_in setting.now) command.now) < 2 ^ 32 }
+    requires ranged { CommandRanged setting.now command.now }
+    requires arms { CommandFew command.now }
     ensures wires { OnOk result (wires.new.items ≡ wires.old.items ++ plain.command_wires (named_in setting.now) (tag_width setting.now) k (command_of (entities_in setting.now) command.now)) }
     ensures next { IfOk result (λ next. next ≡ k + commands.wires (command_of (entities_in setting.now) command.now)) }
 {
@@ -191,7 +196,55 @@ fn add_command(
             let next = add_block(alloc, setting, wires, k + 2, yes.as_slice())?;
             add_block(alloc, setting, wires, next, no.as_slice())
         }
+        Command::TryThen {
+            accepted,
+            refused,
+            ..
+        } => {
+            let next = add_step(alloc, setting, wires, k)?;
+            let next = add_block(alloc, setting, wires, next, accepted.as_slice())?;
+            add_block(alloc, setting, wires, next, refused.as_slice())
+        }
+        Command::Case {
+            number,
+            arms,
+            last,
+            ..
+        } => {
+            let tag = setting.lattice.width();
+            add_wire(alloc, setting, wires, k, tag)?;
+            add_wire(alloc, setting, wires, k + 1, tag)?;
+            let width = width_of(setting, number) as u32;
+            add_wire(alloc, setting, wires, k + 2, width)?;
+            let width = seats::width(arms.len() + 1);
+            add_wire(alloc, setting, wires, k + 3, width)?;
+            let next = add_arms(alloc, setting, wires, k + 4, arms.as_slice())?;
+            add_block(alloc, setting, wires, next, last.as_slice())
+        }
     }
+}
+
+/// The wires of the blocks of arms, from wire k on, and the number of the next wire.
+#[cycle(body)]
+#[tactic(auto, using(crate::proofs::Wirings::arms))]
+fn add_arms(
+    alloc: Global,
+    setting: &Setting<'_>,
+    wires: &mut Vec<Var>,
+    k: u32,
+    arms: &[Arm],
+) -> Result<u32, AllocError>
+    requires few { k + arm_wires arms.now < 2 ^ 32 }
+    requires ranged { ArmsRanged setting.now arms.now }
+    requires arms { ArmsFew arms.now }
+    ensures wires { OnOk result (wires.new.items ≡ wires.old.items ++ plain.arms_wires (named_in setting.now) (tag_width setting.now) k (arms_before (entities_in setting.now) arms.now (program.Last program.End))) }
+    ensures next { IfOk result (λ next. next ≡ k + arm_wires arms.now) }
+{
+    let mut next = k;
+    for arm in arms {
+        next = add_block(alloc, setting, wires, next, arm.block.as_slice())?;
+    }
+    Ok(next)
 }
 
 /// The wires of commands, from wire k on, and the number of the next wire.
@@ -204,7 +257,9 @@ fn add_block(
     k: u32,
     block: &[Command],
 ) -> Result<u32, AllocError>
-    requires { k + commands.wires_block (block_of (entities_in setting.now) block.now) < 2 ^ 32 }
+    requires few { k + commands.wires_block (block_of (entities_in setting.now) block.now) < 2 ^ 32 }
+    requires ranged { CommandsRanged setting.now block.now }
+    requires arms { CommandsFew block.now }
     ensures wires { OnOk result (wires.new.items ≡ wires.old.items ++ plain.block_wires (named_in setting.now) (tag_width setting.now) k (block_of (entities_in setting.now) block.now)) }
     ensures next { IfOk result (λ next. next ≡ k + commands.wires_block (block_of (entities_in setting.now) block.now)) }
 {
@@ -225,7 +280,9 @@ fn add_state(
     k: u32,
     state: &State,
 ) -> Result<u32, AllocError>
-    requires { k + states.wires_state (state_of (entities_in setting.now) state.now) < 2 ^ 32 }
+    requires few { k + states.wires_state (state_of (entities_in setting.now) state.now) < 2 ^ 32 }
+    requires ranged { StateRanged setting.now state.now }
+    requires arms { StateFew state.now }
     ensures wires { OnOk result (wires.new.items ≡ wires.old.items ++ plain.state_wires (named_in setting.now) (tag_width setting.now) k (state_of (entities_in setting.now) state.now)) }
     ensures next { IfOk result (λ next. next ≡ k + states.wires_state (state_of (entities_in setting.now) state.now)) }
 {
@@ -244,7 +301,9 @@ fn add_group(
     k: u32,
     group: &[State],
 ) -> Result<u32, AllocError>
-    requires { k + states.wires_group (group_of (entities_in setting.now) group.now) < 2 ^ 32 }
+    requires few { k + states.wires_group (group_of (entities_in setting.now) group.now) < 2 ^ 32 }
+    requires ranged { StatesRanged setting.now group.now }
+    requires arms { StatesFew group.now }
     ensures wires { OnOk result (wires.new.items ≡ wires.old.items ++ plain.group_wires (named_in setting.now) (tag_width setting.now) k (group_of (entities_in setting.now) group.now)) }
     ensures next { IfOk result (λ next. next ≡ k + states.wires_group (group_of (entities_in setting.now) group.now)) }
 {
@@ -261,7 +320,9 @@ pub(crate) fn add_state_wires(
     setting: &Setting<'_>,
     wires: &mut Vec<Var>,
 ) -> Result<(), AllocError>
-    requires { states.wires_group (group_of (entities_in setting.now) setting.now.program.now.states.items) < 2 ^ 32 }
+    requires few { states.wires_group (group_of (entities_in setting.now) setting.now.program.now.states.items) < 2 ^ 32 }
+    requires ranged { StatesRanged setting.now setting.now.program.now.states.items }
+    requires arms { StatesFew setting.now.program.now.states.items }
     ensures { OnOk result (wires.new.items ≡ wires.old.items ++ plain.group_wires (named_in setting.now) (tag_width setting.now) 0 (group_of (entities_in setting.now) setting.now.program.now.states.items)) }
 {
     add_group(alloc, setting, wires, 0, setting.program.states.as_slice())?;

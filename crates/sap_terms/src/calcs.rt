@@ -187,7 +187,7 @@ fn two_width(op: Op2, width: u64) -> u64
 }
 
 /// The width of an expression.
-fn width_of(setting: &Setting<'_>, e: &Number) -> u64
+pub fn width_of(setting: &Setting<'_>, e: &Number) -> u64
     requires { RangedTerm (world_in setting.now) (views.term_of e.now) }
     ensures { result ≡ expressions.width_of (world_in setting.now) (views.term_of e.now) }
 {

@@ -4,3 +4,5 @@ mod SiteWires
 mod Seen
 mod Runs
 mod Designs
+mod Stepping
+mod Rooms

@@ -25,7 +25,8 @@ use Rattle.sap_trace.proofs.Seen.{append_nil, append_three, lines_told}
 abbrev pub cycle_lines : Levels → DesignTree → Net → (c : ℕ) → Valuation → List ℕ
 cycle_lines ls d n c v = seen_lines ls d c 1 (length (sites_of d)) (observed n v)
 
-lines_last : (ls : Levels) (d : DesignTree) (n : Net) (c : ℕ) (vs : List Valuation) (v : Valuation)
+-- the lines with a cycle more
+pub lines_last : (ls : Levels) (d : DesignTree) (n : Net) (c : ℕ) (vs : List Valuation) (v : Valuation)
     → lines_from ls d n c (vs ++ v ∷ []) ≡ lines_from ls d n c vs ++ cycle_lines ls d n (c + length vs) v
 lines_last ls d n c [] v =
     let e : c ≡ c + 0 = omega arith in append_nil (cycle_lines ls d n c v) ∙ ap (λ (k : ℕ). cycle_lines ls d n k v) e
@@ -34,6 +35,15 @@ lines_last ls d n c (w ∷ vs) v =
     ap (λ (xs : List ℕ). cycle_lines ls d n c w ++ xs) (lines_last ls d n (c + 1) vs v)
     ∙ sym (append_three (cycle_lines ls d n c w) (lines_from ls d n (c + 1) vs) (cycle_lines ls d n (c + 1 + length vs) v))
     ∙ ap (λ (k : ℕ). (cycle_lines ls d n c w ++ lines_from ls d n (c + 1) vs) ++ cycle_lines ls d n k v) e
+
+-- the lines of two runs, one behind the other
+pub lines_split : (ls : Levels) (d : DesignTree) (n : Net) (c : ℕ) (vs ws : List Valuation) → lines_from ls d n c (vs ++ ws) ≡ lines_from ls d n c vs ++ lines_from ls d n (c + length vs) ws
+lines_split ls d n c [] ws = let e : c ≡ c + 0 = omega arith in ap (λ (k : ℕ). lines_from ls d n k ws) e
+lines_split ls d n c (v ∷ vs) ws =
+    let e : c + 1 + length vs ≡ c + suc (length vs) = omega arith in
+    ap (λ (ys : List ℕ). cycle_lines ls d n c v ++ ys) (lines_split ls d n (c + 1) vs ws)
+    ∙ sym (append_three (cycle_lines ls d n c v) (lines_from ls d n (c + 1) vs) (lines_from ls d n (c + 1 + length vs) ws))
+    ∙ ap (λ (k : ℕ). (cycle_lines ls d n c v ++ lines_from ls d n (c + 1) vs) ++ lines_from ls d n k ws) e
 
 -- the lines of one cycle more
 pub lines_more : (ls : Levels) (d : DesignTree) (n : Net) (b : Option Valuation) (xss : List (List ℕ)) (vs : List Valuation) (k : ℕ) (v : Valuation) → IsCycleAt n b xss vs k v

@@ -7,6 +7,7 @@ use Rattle.sap_tree.specs.declared.syntax.Decl.{Decl}
 use Rattle.sap_tree.specs.declared.syntax.Decl.TheVariants.{Input, Register, Memory}
 use Rattle.sap_tree.specs.declared.syntax.BinaryOperator.TheVariants as operator
 use Rattle.sap_tree.specs.Syntax.{Expression, Number, Read, Binary, SimpleCommand, Assign, Write, Goto, Fall, Command, Do, Try, If, CommandBlock, Commands, Else, CommandList, NoCommand, AndCommand, StateTree, StateOf, StateList, NoState, AndState, DesignTree}
+use Rattle.sap_tree.specs.declared.version.Version.TheVariants.{One}
 use Rattle.sap_meaning.specs.Cycle.{Tagged}
 use Rattle.sap_run.specs.Examples.{at, spot, levels, line}
 use Rattle.sap_trace.specs.Lines.{labelled_trace}
@@ -53,6 +54,7 @@ given number level = record { number = number; level = level } ∷ []
 -- input a : 2; mem k : 8[4] enforced low; reg y : 8 enforced low; state S enforced low { k[a] := 1 otherwise { y := 9; } goto S; }
 abbrev pub handled : DesignTree
 handled = record {
+  version = One;
   declarations = an_input 2
       ∷ Memory (at 1) (named (codes "k")) (record { place = at 1; value = 8 }) (record { place = at 1; value = 4 }) (enforced (codes "low"))
       ∷ Register (at 1) (named (codes "y")) (record { place = at 1; value = 8 }) (enforced (codes "low")) None ∷ [];
@@ -72,6 +74,7 @@ chooses one other = If (at 1) (Binary (spot 1) operator.Eq reads_a (number 1)) (
 -- input a : 8; state S enforced low { if (a == 1) { goto T; } else { goto S; } } state T enforced high { goto T; }
 abbrev pub leaving : DesignTree
 leaving = record {
+  version = One;
   declarations = an_input 8 ∷ [];
   states = states
       (state (codes "S") (codes "low") (chooses (goes (codes "T")) (goes (codes "S")) ∷ []) NoState ∷ state (codes "T") (codes "high") (goes (codes "T") ∷ []) NoState ∷ []);
@@ -84,6 +87,7 @@ ByTarget = labelled_trace levels leaving (given 1 1 ∷ given 0 0 ∷ []) ≡ li
 -- input a : 8; state P enforced low { if (a == 1) { fall; } else { fall; } state C enforced low { goto C; } }
 abbrev pub falling : DesignTree
 falling = record {
+  version = One;
   declarations = an_input 8 ∷ [];
   states = states (state (codes "P") (codes "low") (chooses (Do (Fall (at 1))) (Do (Fall (at 1))) ∷ [])
       (states (state (codes "C") (codes "low") (goes (codes "C") ∷ []) NoState ∷ [])) ∷ []);

@@ -1,6 +1,8 @@
 pub mod Lines
 pub mod Seen
+pub mod Rooms
 pub mod Shows
 pub mod Fields
 pub mod TraceOf
+pub mod Stepping
 pub mod Examples

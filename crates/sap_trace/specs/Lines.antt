@@ -30,8 +30,12 @@ target_text es (Some s) = site_target es s
 abbrev pub site_at : DesignTree → (k : ℕ) → Option Site
 site_at d k = slice_get (sites_of d) (k - 1)
 
+-- the line up to the level
+abbrev pub line_before : DesignTree → (cycle k : ℕ) → List ℕ
+line_before d cycle k = line_head cycle k ++ target_text (entities_of d) (site_at d k) ++ codes " at "
+
 abbrev pub site_line : DesignTree → (cycle k : ℕ) → (level : List ℕ) → List ℕ
-site_line d cycle k level = line_head cycle k ++ target_text (entities_of d) (site_at d k) ++ codes " at " ++ level ++ line_end
+site_line d cycle k level = line_before d cycle k ++ level ++ line_end
 
 abbrev pub refusal_line : Levels → DesignTree → (cycle : ℕ) → Refusal → List ℕ
 refusal_line ls d cycle r = site_line d cycle r.site (level_name ls r.level)

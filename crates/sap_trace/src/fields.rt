@@ -1,6 +1,6 @@
 //! The fields of a stimulus for a design, and what its lines give the inputs of the module.
 
-ghost use Rattle.std.specs.Prelude.{◌≡◌, ◌<◌, ◌++◌, Some, IfOk, OnOk, length, slice_get, option_map, unwrap_or};
+ghost use Rattle.std.specs.Prelude.{◌≡◌, ◌<◌, ◌*◌, ◌++◌, Some, IfOk, OnOk, length, slice_get, option_map, unwrap_or};
 ghost use Rattle.sap_check.specs.Checked.{levels_in, tree_in};
 ghost use Rattle.sap_names.specs.Entities.{entities_of};
 ghost use Rattle.sap_trace.specs.Fields.{field_at, fields_among, given};
@@ -35,7 +35,19 @@ pub(crate) fn fields_of(alloc: Global, names: &Names) -> Result<Fields, AllocErr
     Ok(Fields::new(fields))
 }
 
-/// The numbers of a module's inputs: of each field its value, and the code of its level.
+/// Takes the numbers of a module's inputs, in place of others: of each field its value, and the code of
+/// its level.
+pub(crate) fn take_numbers(lattice: &Lattice, line: &[Tagged], numbers: &mut [u64])
+    requires { length numbers.old ≡ 2 * length line.now }
+    ensures { numbers.new ≡ given lattice.now line.now }
+{
+    for k in 0..line.len() {
+        numbers[2 * k] = line[k].number();
+        numbers[2 * k + 1] = lattice.code(line[k].level());
+    }
+}
+
+/// The numbers of a module's inputs.
 pub(crate) fn numbers(
     alloc: Global,
     lattice: &Lattice,

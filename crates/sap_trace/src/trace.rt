@@ -40,7 +40,8 @@ pub fn read_stimulus(
     parse_stream(alloc, stimulus, &fields, checked.lattice())
 }
 
-fn load(alloc: Global, netlist: Netlist) -> Result<Runner, AllocError>
+// A runner of a netlist.
+pub(crate) fn load(alloc: Global, netlist: Netlist) -> Result<Runner, AllocError>
     ensures netlist { IfOk result (λ runner. runner.net ≡ netlist) }
     ensures unstepped { IfOk result (λ runner. Shows runner None) }
 {

@@ -5,9 +5,10 @@ use Rattle.std.specs.Global.{Box}
 use Rattle.sap_tree.specs.declared.name.Mention.{Mention}
 use Rattle.sap_tree.specs.declared.place.Place.{Place}
 use Rattle.sap_tree.specs.declared.place.Spot.{Spot}
+use Rattle.sap_tree.specs.declared.syntax.Arm.{Arm}
 use Rattle.sap_tree.specs.declared.syntax.Block.{Block}
-use Rattle.sap_tree.specs.declared.syntax.Cmd.{Cmd, Row_of-Cmd, end_of-Cmd, more_of-Cmd, items-the_row-Cmd, items_hidden-the_row-Cmd-0}
-use Rattle.sap_tree.specs.declared.syntax.Cmd.TheBlock.{hidden-the_row-Cmd-0, back-Cmd-If-3}
+use Rattle.sap_tree.specs.declared.syntax.Cmd.{Cmd, Row_of-Cmd, end_of-Cmd, more_of-Cmd, items-the_row-Cmd, items_hidden-the_row-Cmd-0, items_shown-the_row-Cmd-0, Row_of-Arm, end_of-Arm, more_of-Arm, items-the_row-Arm, items_hidden-the_row-Arm-1}
+use Rattle.sap_tree.specs.declared.syntax.Cmd.TheBlock.{hidden-the_row-Cmd-0, hidden-the_row-Arm-1, shown-the_row-Cmd-0, back-Cmd-If-3}
 use Rattle.sap_tree.specs.declared.syntax.Cmd.TheVariants as c
 use Rattle.sap_tree.specs.declared.syntax.Expr.{Expr, Row_of-Expr, end_of-Expr, more_of-Expr, items-the_row-Expr, items_hidden-the_row-Expr-0}
 use Rattle.sap_tree.specs.declared.syntax.Expr.TheBlock.{hidden-the_row-Expr-0}
@@ -19,7 +20,7 @@ use Rattle.sap_tree.specs.declared.syntax.TagExpr.{TagExpr, Row_of-TagExpr, end_
 use Rattle.sap_tree.specs.declared.syntax.TagExpr.TheBlock.{hidden-the_row-TagExpr-0}
 use Rattle.sap_tree.specs.declared.syntax.TagExpr.TheVariants as t
 use Rattle.sap_tree.specs.Syntax
-use Rattle.sap_tree.specs.Trees.{expression_of, expression_row_of, expressions_of, tag_of, tag_row_of, tags_of, simple_of, command_of, held_of, command_row_of, commands_of, block_of, else_of, state_of, state_row_of, states_of}
+use Rattle.sap_tree.specs.Trees.{expression_of, expression_row_of, expressions_of, tag_of, tag_row_of, tags_of, simple_of, command_of, held_of, constants_of, arm_block_of, arm_row_of, command_row_of, commands_of, block_of, arms_before, arms_of, else_of, state_of, state_row_of, states_of}
 use denote.Hole.Carrier.{out}
 
 -- rows and lists
@@ -39,8 +40,18 @@ unfolding command_row_of
 command_row_of-items end_of-Cmd = refl
 command_row_of-items (more_of-Cmd x rest) = ap (λ xs. Syntax.AndCommand (command_of x) xs) (command_row_of-items rest)
 
+command_row_of-shown : (shape : _) (row : Row_of-Cmd _) → command_row_of row ≡ commands_of (shown-the_row-Cmd-0 shape row).items
+command_row_of-shown shape row = command_row_of-items row ∙ ap commands_of (sym (items_shown-the_row-Cmd-0 shape row))
+
 command_row_of-vec : (v : Vec Cmd Global) → command_row_of (hidden-the_row-Cmd-0 v) ≡ commands_of v.items
 command_row_of-vec v = command_row_of-items (hidden-the_row-Cmd-0 v) ∙ ap commands_of (items_hidden-the_row-Cmd-0 v)
+
+arm_row_of-items : {n : _} (row : Row_of-Arm n) (last : Syntax.CommandBlock) → arm_row_of row last ≡ arms_of (items-the_row-Arm n row) last
+unfolding arm_row_of
+arm_row_of-items end_of-Arm last = refl
+arm_row_of-items (more_of-Arm constants shape row after rest) last =
+    ap (λ xs. Syntax.Arm (expressions_of constants.items) (Syntax.Commands xs after) (arm_row_of rest last)) (command_row_of-shown shape row)
+    ∙ ap (λ arms. Syntax.Arm (expressions_of constants.items) (Syntax.Commands (commands_of (shown-the_row-Cmd-0 shape row).items) after) arms) (arm_row_of-items rest last)
 
 state_row_of-items : {n : _} (row : Row_of-State n) → state_row_of row ≡ states_of (items-the_row-State n row)
 unfolding state_row_of
@@ -133,6 +144,21 @@ command_of-if place x one other =
     ap (λ xs. Syntax.If place (expression_of x) (Syntax.Commands xs one.after) (held_of (back-Cmd-If-3 other))) (command_row_of-vec one.commands)
     ∙ ap (λ o. Syntax.If place (expression_of x) (block_of one) o) (held_of-option other)
 
+pub command_of-try_then : (k : Simple) (place : Place) (a b : Block)
+    → command_of (c.TryThen k place a b) ≡ Syntax.TryThen (simple_of k) place (block_of a) (block_of b)
+unfolding command_of
+command_of-try_then k place a b =
+    ap (λ xs. Syntax.TryThen (simple_of k) place (Syntax.Commands xs a.after) (Syntax.Commands (command_row_of (hidden-the_row-Cmd-0 b.commands)) b.after)) (command_row_of-vec a.commands)
+    ∙ ap (λ xs. Syntax.TryThen (simple_of k) place (block_of a) (Syntax.Commands xs b.after)) (command_row_of-vec b.commands)
+
+pub command_of-case : (place : Place) (x : Expr) (arms : Vec Arm Global) (last : Block)
+    → command_of (c.Case place x arms last) ≡ Syntax.Case place (expression_of x) (arms_of arms.items (block_of last))
+unfolding command_of
+command_of-case place x arms last =
+    ap (λ xs. Syntax.Case place (expression_of x) (arm_row_of (hidden-the_row-Arm-1 arms) (Syntax.Commands xs last.after))) (command_row_of-vec last.commands)
+    ∙ ap (λ o. Syntax.Case place (expression_of x) o) (arm_row_of-items (hidden-the_row-Arm-1 arms) (block_of last))
+    ∙ ap (λ o. Syntax.Case place (expression_of x) (arms_of o (block_of last))) (items_hidden-the_row-Arm-1 arms)
+
 -- states
 
 pub state_of-out : (x : State)
@@ -147,4 +173,4 @@ state_of-roll x =
     state_of-out (roll-State x)
     ∙ ap (λ (y : State-F State). Syntax.StateOf y.place y.name y.kind (block_of y.body) (states_of y.children.items)) (out-roll-State x)
 
-pub ruleset views = (expression_of-number, expression_of-sized, expression_of-read, expression_of-cell, expression_of-unary, expression_of-binary, expression_of-choose, expression_of-slice, expression_of-concat, expression_of-zext, tag_of-level, tag_of-tag, tag_of-level_at, tag_of-join, command_of-do, command_of-try, command_of-if, state_of-out, state_of-roll)
+pub ruleset views = (expression_of-number, expression_of-sized, expression_of-read, expression_of-cell, expression_of-unary, expression_of-binary, expression_of-choose, expression_of-slice, expression_of-concat, expression_of-zext, tag_of-level, tag_of-tag, tag_of-level_at, tag_of-join, command_of-do, command_of-try, command_of-if, command_of-try_then, command_of-case, state_of-out, state_of-roll)

@@ -1,6 +1,6 @@
 -- Trees, places aside: all places are one.
 use Rattle.std.specs.Prelude.{Option, Some, None, map}
-use Rattle.sap_tree.specs.Syntax.{Expression, Expressions, Number, Sized, Read, Cell, Unary, Binary, Choose, Slice, Concat, Zext, NoPart, AndPart, TagExpression, TagExpressions, Level, TagOf, LevelAt, Join, NoTag, AndTag, SimpleCommand, Assign, Write, SetTag, SetCellTag, Goto, Fall, Command, Do, Try, If, CommandBlock, Commands, ElseBlock, NoElse, Else, CommandList, NoCommand, AndCommand, StateTree, StateOf, StateList, NoState, AndState, DesignTree}
+use Rattle.sap_tree.specs.Syntax.{Expression, Expressions, Number, Sized, Read, Cell, Unary, Binary, Choose, Slice, Concat, Zext, NoPart, AndPart, TagExpression, TagExpressions, Level, TagOf, LevelAt, Join, NoTag, AndTag, SimpleCommand, Assign, Write, SetTag, SetCellTag, Goto, Fall, Command, Do, Try, If, TryThen, Case, Arms, Last, Arm, CommandBlock, Commands, ElseBlock, NoElse, Else, CommandList, NoCommand, AndCommand, StateTree, StateOf, StateList, NoState, AndState, DesignTree}
 use Rattle.sap_tree.specs.declared.name.Mention.{Mention}
 use Rattle.sap_tree.specs.declared.place.Place.{Place}
 use Rattle.sap_tree.specs.declared.place.Spot.{Spot}
@@ -64,6 +64,8 @@ unfoldable mutual
   bare_command (Do c) = Do (bare_simple c)
   bare_command (Try c place handler) = Try (bare_simple c) nowhere (bare_block handler)
   bare_command (If place x one other) = If nowhere (bare_expression x) (bare_block one) (bare_else other)
+  bare_command (TryThen c place one other) = TryThen (bare_simple c) nowhere (bare_block one) (bare_block other)
+  bare_command (Case place x arms) = Case nowhere (bare_expression x) (bare_arms arms)
 
   pub bare_block : CommandBlock → CommandBlock
   bare_block (Commands list after) = Commands (bare_list list) nowhere
@@ -71,6 +73,10 @@ unfoldable mutual
   pub bare_else : ElseBlock → ElseBlock
   bare_else NoElse = NoElse
   bare_else (Else block) = Else (bare_block block)
+
+  pub bare_arms : Arms → Arms
+  bare_arms (Last block) = Last (bare_block block)
+  bare_arms (Arm constants block arms) = Arm (bare_expressions constants) (bare_block block) (bare_arms arms)
 
   pub bare_list : CommandList → CommandList
   bare_list NoCommand = NoCommand
@@ -102,4 +108,4 @@ unfoldable mutual
   bare_states (AndState s states) = AndState (bare_state s) (bare_states states)
 
 unfoldable pub bare : DesignTree → DesignTree
-bare design = record { declarations = map bare_declaration design.declarations; states = bare_states design.states }
+bare design = record { version = design.version; declarations = map bare_declaration design.declarations; states = bare_states design.states }

@@ -4,4 +4,4 @@ use Rattle.sap_tree.specs.Syntax.{DesignTree}
 use Rattle.sap_tree.specs.declared.design.Design.{Design}
 
 abbrev pub design_of : Design → DesignTree
-design_of design = tree_of design.declarations.items design.states.items
+design_of design = tree_of design.version design.declarations.items design.states.items

@@ -9,6 +9,7 @@ use Rattle.sap_tree.specs.declared.syntax.BinaryOperator.{BinaryOperator}
 use Rattle.sap_tree.specs.declared.syntax.Decl.{Decl}
 use Rattle.sap_tree.specs.declared.syntax.Kind.{Kind}
 use Rattle.sap_tree.specs.declared.syntax.UnaryOperator.{UnaryOperator}
+use Rattle.sap_tree.specs.declared.version.Version.{Version}
 
 mutual
   pub data Expression : Type 0 where
@@ -53,6 +54,8 @@ mutual
     Do : SimpleCommand → Command
     Try : SimpleCommand → (otherwise : Place) → (handler : CommandBlock) → Command
     If : Place → (condition : Expression) → (yes : CommandBlock) → (no : ElseBlock) → Command
+    TryThen : SimpleCommand → (then : Place) → (accepted : CommandBlock) → (refused : CommandBlock) → Command
+    Case : Place → (number : Expression) → Arms → Command
 
   -- commands, and the place of the token after them
   pub data CommandBlock : Type 0 where
@@ -62,6 +65,11 @@ mutual
   pub data ElseBlock : Type 0 where
     NoElse : ElseBlock
     Else : CommandBlock → ElseBlock
+
+  -- the arms of a `case`, each with its constants, and the block after `else`
+  pub data Arms : Type 0 where
+    Last : CommandBlock → Arms
+    Arm : (constants : Expressions) → CommandBlock → Arms → Arms
 
   pub data CommandList : Type 0 where
     NoCommand : CommandList
@@ -76,7 +84,8 @@ mutual
     NoState : StateList
     AndState : StateTree → StateList → StateList
 
--- the declarations and the top-level states, in the order of the text
+-- the version of the language, and the declarations and the top-level states in the order of the text
 pub record DesignTree : Type 0 where
+  pub version : Version
   pub declarations : List Decl
   pub states : StateList

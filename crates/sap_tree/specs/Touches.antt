@@ -2,7 +2,7 @@
 use Rattle.std.specs.Prelude.{ℕ, Bool, true, false, ◌&&◌, ◌||◌, List}
 use Rattle.std.specs.List.{list_any}
 use Rattle.std.specs.Str.{bytes_eq}
-use Rattle.sap_tree.specs.Syntax.{SimpleCommand, Assign, Write, SetTag, SetCellTag, Goto, Fall, Command, Do, Try, If, CommandBlock, Commands, ElseBlock, NoElse, Else, CommandList, NoCommand, AndCommand, StateTree, StateOf, StateList, NoState, AndState, DesignTree}
+use Rattle.sap_tree.specs.Syntax.{SimpleCommand, Assign, Write, SetTag, SetCellTag, Goto, Fall, Command, Do, Try, If, TryThen, Case, Arms, Last, Arm, CommandBlock, Commands, ElseBlock, NoElse, Else, CommandList, NoCommand, AndCommand, StateTree, StateOf, StateList, NoState, AndState, DesignTree}
 use Rattle.sap_tree.specs.declared.syntax.Decl.TheVariants as d
 use Rattle.sap_tree.specs.declared.syntax.Decl.{Decl}
 use Rattle.sap_tree.specs.declared.syntax.Kind.TheVariants as k
@@ -43,6 +43,8 @@ unfoldable mutual
   assigns (Do c) x = simple_assigns c x
   assigns (Try c place handler) x = simple_assigns c x || block_assigns handler x
   assigns (If place e one other) x = block_assigns one x || else_assigns other x
+  assigns (TryThen c place one other) x = simple_assigns c x || (block_assigns one x || block_assigns other x)
+  assigns (Case place e arms) x = arms_assign arms x
 
   pub block_assigns : CommandBlock → List ℕ → Bool
   block_assigns (Commands list after) x = list_assigns list x
@@ -50,6 +52,10 @@ unfoldable mutual
   pub else_assigns : ElseBlock → List ℕ → Bool
   else_assigns NoElse x = false
   else_assigns (Else block) x = block_assigns block x
+
+  pub arms_assign : Arms → List ℕ → Bool
+  arms_assign (Last block) x = block_assigns block x
+  arms_assign (Arm constants block arms) x = block_assigns block x || arms_assign arms x
 
   pub list_assigns : CommandList → List ℕ → Bool
   list_assigns NoCommand x = false
@@ -90,6 +96,9 @@ unfoldable mutual
   touches declarations home (Do c) x = simple_touches declarations home c x
   touches declarations home (Try c place handler) x = simple_touches declarations home c x || block_touches declarations home handler x
   touches declarations home (If place e one other) x = block_touches declarations home one x || else_touches declarations home other x
+  touches declarations home (TryThen c place one other) x =
+      simple_touches declarations home c x || (block_touches declarations home one x || block_touches declarations home other x)
+  touches declarations home (Case place e arms) x = arms_touch declarations home arms x
 
   pub block_touches : List Decl → Home → CommandBlock → List ℕ → Bool
   block_touches declarations home (Commands list after) x = list_touches declarations home list x
@@ -97,6 +106,10 @@ unfoldable mutual
   pub else_touches : List Decl → Home → ElseBlock → List ℕ → Bool
   else_touches declarations home NoElse x = false
   else_touches declarations home (Else block) x = block_touches declarations home block x
+
+  pub arms_touch : List Decl → Home → Arms → List ℕ → Bool
+  arms_touch declarations home (Last block) x = block_touches declarations home block x
+  arms_touch declarations home (Arm constants block arms) x = block_touches declarations home block x || arms_touch declarations home arms x
 
   pub list_touches : List Decl → Home → CommandList → List ℕ → Bool
   list_touches declarations home NoCommand x = false

@@ -1,7 +1,8 @@
 -- The tree of each part of a design.
 use Rattle.std.specs.Prelude.{List, [], ◌∷◌, Option, Some, None}
+use Rattle.sap_tree.specs.declared.syntax.Arm.{Arm}
 use Rattle.sap_tree.specs.declared.syntax.Block.{Block}
-use Rattle.sap_tree.specs.declared.syntax.Cmd.{Cmd, Row_of-Cmd, end_of-Cmd, more_of-Cmd, Held-Cmd-If-3}
+use Rattle.sap_tree.specs.declared.syntax.Cmd.{Cmd, Row_of-Cmd, end_of-Cmd, more_of-Cmd, Row_of-Arm, end_of-Arm, more_of-Arm, Held-Cmd-If-3}
 use Rattle.sap_tree.specs.declared.syntax.Cmd.TheVariants as c
 use Rattle.sap_tree.specs.declared.syntax.Cmd.{None', Some'}
 use Rattle.sap_tree.specs.declared.syntax.Expr.{Expr, Row_of-Expr, end_of-Expr, more_of-Expr}
@@ -62,10 +63,19 @@ unfoldable mutual
   command_of (c.Do k) = Syntax.Do (simple_of k)
   command_of (c.Try' k place shape row after) = Syntax.Try (simple_of k) place (Syntax.Commands (command_row_of row) after)
   command_of (c.If' place x shape row after other) = Syntax.If place (expression_of x) (Syntax.Commands (command_row_of row) after) (held_of other)
+  command_of (c.TryThen' k place shape row after other_shape other_row other_after) =
+      Syntax.TryThen (simple_of k) place (Syntax.Commands (command_row_of row) after) (Syntax.Commands (command_row_of other_row) other_after)
+  command_of (c.Case' place x shape arms last_shape row after) =
+      Syntax.Case place (expression_of x) (arm_row_of arms (Syntax.Commands (command_row_of row) after))
 
   pub held_of : Held-Cmd-If-3 → Syntax.ElseBlock
   held_of None' = Syntax.NoElse
   held_of (Some' shape row after) = Syntax.Else (Syntax.Commands (command_row_of row) after)
+
+  -- arms with the block after `else`
+  pub arm_row_of : {n : _} → Row_of-Arm n → Syntax.CommandBlock → Syntax.Arms
+  arm_row_of end_of-Arm last = Syntax.Last last
+  arm_row_of (more_of-Arm constants shape row after rest) last = Syntax.Arm (expressions_of constants.items) (Syntax.Commands (command_row_of row) after) (arm_row_of rest last)
 
   pub command_row_of : {n : _} → Row_of-Cmd n → Syntax.CommandList
   command_row_of end_of-Cmd = Syntax.NoCommand
@@ -77,6 +87,23 @@ commands_of (x ∷ xs) = Syntax.AndCommand (command_of x) (commands_of xs)
 
 abbrev pub block_of : Block → Syntax.CommandBlock
 block_of b = Syntax.Commands (commands_of b.commands.items) b.after
+
+-- the constants of an arm, and its block
+
+abbrev pub constants_of : Arm → Syntax.Expressions
+constants_of arm = expressions_of arm.constants.items
+
+abbrev pub arm_block_of : Arm → Syntax.CommandBlock
+arm_block_of arm = block_of arm.block
+
+-- arms in front of others
+abbrev pub arms_before : List Arm → Syntax.Arms → Syntax.Arms
+arms_before [] others = others
+arms_before (arm ∷ arms) others = Syntax.Arm (constants_of arm) (arm_block_of arm) (arms_before arms others)
+
+-- arms, and the block after `else`
+abbrev pub arms_of : List Arm → Syntax.CommandBlock → Syntax.Arms
+arms_of arms last = arms_before arms (Syntax.Last last)
 
 abbrev pub else_of : Option Block → Syntax.ElseBlock
 else_of None = Syntax.NoElse

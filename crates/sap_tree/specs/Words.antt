@@ -1,9 +1,13 @@
--- What the design language takes as a name.
-use Rattle.std.specs.Prelude.{ℕ, Bool, false, not, ◌||◌, ◌&&◌, ◌==◌, List, [], ◌∷◌, length, nat_le, codes}
+-- What the design language takes as a word and as a name.
+use Rattle.std.specs.Prelude.{ℕ, Bool, true, false, not, ◌||◌, ◌&&◌, ◌==◌, List, [], ◌∷◌, ◌++◌, length, map, nat_le, codes}
 use Rattle.std.specs.Char.{is_ascii_alphabetic, is_ascii_alphanumeric}
 use Rattle.std.specs.List.{list_all, list_any}
 use Rattle.std.specs.Str.{bytes_eq}
 use Rattle.sap_tree.specs.Limits.{most_name_bytes}
+use Rattle.sap_tree.specs.declared.version.Version.TheVariants as v
+use Rattle.sap_tree.specs.declared.version.Version.{Version}
+use Rattle.sap_tree.specs.declared.word.Word.TheVariants as w
+use Rattle.sap_tree.specs.declared.word.Word.{Word}
 
 -- a letter or `_`
 abbrev pub is_initial : ℕ → Bool
@@ -18,30 +22,51 @@ abbrev pub is_word : List ℕ → Bool
 is_word [] = false
 is_word (c ∷ cs) = is_initial c && list_all is_inner cs
 
+-- how words are spelled
+abbrev pub word_text : Word → List ℕ
+word_text w.Input = codes "input"
+word_text w.Reg = codes "reg"
+word_text w.Mem = codes "mem"
+word_text w.State = codes "state"
+word_text w.Dynamic = codes "dynamic"
+word_text w.Enforced = codes "enforced"
+word_text w.Under = codes "under"
+word_text w.If = codes "if"
+word_text w.Else = codes "else"
+word_text w.Goto = codes "goto"
+word_text w.Fall = codes "fall"
+word_text w.SetTag = codes "setTag"
+word_text w.Otherwise = codes "otherwise"
+word_text w.Tag = codes "tag"
+word_text w.Level = codes "level"
+word_text w.Join = codes "join"
+word_text w.Zext = codes "zext"
+word_text w.Then = codes "then"
+word_text w.Case = codes "case"
+word_text w.Sapper = codes "sapper"
+word_text w.Two = codes "2"
+
+-- the words that are keywords in every version, and those that are from the second on
+abbrev pub first_words : List Word
+first_words = w.Input ∷ w.Reg ∷ w.Mem ∷ w.State ∷ w.Dynamic ∷ w.Enforced ∷ w.Under ∷ w.If ∷ w.Else ∷ w.Goto ∷ w.Fall ∷ w.SetTag ∷ w.Otherwise ∷ w.Tag ∷ w.Level ∷ w.Join ∷ w.Zext ∷ []
+
+abbrev pub later_words : List Word
+later_words = w.Then ∷ w.Case ∷ []
+
+abbrev pub words : Version → List Word
+words v.One = first_words
+words v.Two = first_words ++ later_words
+
+abbrev pub is_second : Version → Bool
+is_second v.One = false
+is_second v.Two = true
+
 -- the keywords of the design language
-abbrev pub keywords : List (List ℕ)
-keywords =
-    codes "input"
-    ∷ codes "reg"
-    ∷ codes "mem"
-    ∷ codes "state"
-    ∷ codes "dynamic"
-    ∷ codes "enforced"
-    ∷ codes "under"
-    ∷ codes "if"
-    ∷ codes "else"
-    ∷ codes "goto"
-    ∷ codes "fall"
-    ∷ codes "setTag"
-    ∷ codes "otherwise"
-    ∷ codes "tag"
-    ∷ codes "level"
-    ∷ codes "join"
-    ∷ codes "zext"
-    ∷ []
+abbrev pub keywords : Version → List (List ℕ)
+keywords version = map word_text (words version)
 
-abbrev pub is_keyword : List ℕ → Bool
-is_keyword name = list_any (bytes_eq name) keywords
+abbrev pub is_keyword : Version → List ℕ → Bool
+is_keyword version name = list_any (bytes_eq name) (keywords version)
 
-unfoldable pub is_name : List ℕ → Bool
-is_name name = is_word name && not (is_keyword name) && nat_le (length name) most_name_bytes
+unfoldable pub is_name : Version → List ℕ → Bool
+is_name version name = is_word name && not (is_keyword version name) && nat_le (length name) most_name_bytes

@@ -6,4 +6,6 @@ pub mod make;
 pub mod name;
 pub mod place;
 pub mod syntax;
+pub mod version;
 pub mod whole;
+pub mod word;

@@ -3,12 +3,12 @@
 ghost use Rattle.std.specs.Prelude.{◌≡◌, IfOk};
 ghost use Rattle.sap_tree.specs.Spots.{enclosed, first_of, from_place, spot_of};
 ghost use Rattle.sap_tree.specs.Syntax;
-ghost use Rattle.sap_tree.specs.Trees.{block_of, command_of, else_of, expression_of, expressions_of, simple_of, state_of, states_of, tag_of, tags_of};
+ghost use Rattle.sap_tree.specs.Trees.{arms_of, block_of, command_of, else_of, expression_of, expressions_of, simple_of, state_of, states_of, tag_of, tags_of};
 
 use crate::name::{Mention, Name};
 use crate::place::{Place, Spot};
 use crate::syntax::{
-    BinaryOperator, Block, Cmd, Expr, Kind, Simple, State, TagExpr, UnaryOperator,
+    Arm, BinaryOperator, Block, Cmd, Expr, Kind, Simple, State, TagExpr, UnaryOperator,
 };
 use std::alloc::{AllocError, Global};
 
@@ -226,6 +226,21 @@ impl Cmd {
         ensures { command_of result ≡ Syntax.If place (expression_of condition) (block_of block) (else_of other) }
     {
         Cmd::If(place, condition, block, other)
+    }
+
+    /// `command then { accepted } otherwise { refused }`.
+    #[tactic(auto, using(crate::proofs::Views::views))]
+    pub fn decided(command: Simple, then: Place, accepted: Block, refused: Block) -> Cmd
+        ensures { command_of result ≡ Syntax.TryThen (simple_of command) then (block_of accepted) (block_of refused) }
+    {
+        Cmd::TryThen(command, then, accepted, refused)
+    }
+
+    #[tactic(auto, using(crate::proofs::Views::views))]
+    pub fn case(place: Place, number: Expr, arms: Vec<Arm>, last: Block) -> Cmd
+        ensures { command_of result ≡ Syntax.Case place (expression_of number) (arms_of arms.items (block_of last)) }
+    {
+        Cmd::Case(place, number, arms, last)
     }
 }
 

@@ -102,6 +102,18 @@ pub enum Cmd {
     Try(Simple, Place, Block),
     /// The place of the word `if`, the condition, the block and that of `else`, where one is written.
     If(Place, Expr, Block, Option<Block>),
+    /// A command, the place of its `then`, the block after it and that after `otherwise`.
+    TryThen(Simple, Place, Block, Block),
+    /// The place of the word `case`, the expression, the arms and the block of `else`.
+    Case(Place, Expr, Vec<Arm>, Block),
+}
+
+/// An arm of a `case`: its constants, and the block that runs where one of them is the number.
+#[cycle(command)]
+#[derive(Drop)]
+pub struct Arm {
+    pub constants: Vec<Expr>,
+    pub block: Block,
 }
 
 /// A written authority: the place of `under`, and the level.

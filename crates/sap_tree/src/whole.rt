@@ -7,14 +7,16 @@ ghost use Rattle.sap_tree.specs.Whole.{is_whole};
 
 use crate::design::Design;
 use crate::syntax::{Decl, State};
+use crate::version::Version;
 
 impl Design {
     /// The design of these declarations and top-level states.
-    pub fn new(declarations: Vec<Decl>, states: Vec<State>) -> Design
-        requires { IsTrue (is_whole (tree_of declarations.items states.items)) }
-        ensures { design_of result ≡ tree_of declarations.items states.items }
+    pub fn new(version: Version, declarations: Vec<Decl>, states: Vec<State>) -> Design
+        requires { IsTrue (is_whole (tree_of version declarations.items states.items)) }
+        ensures { design_of result ≡ tree_of version declarations.items states.items }
     {
         Design {
+            version,
             declarations,
             states,
         }

@@ -1,13 +1,14 @@
 -- The runs, by computation.
 use Rattle.std.proofs.Common.{refl}
 use Rattle.sap_meaning.specs.Store.{put_number, put_level, put_child, raise, reset, settle}
-use Rattle.sap_meaning.specs.Does.{effect, attempt, select, does, does_block, does_state, does_child}
+use Rattle.sap_meaning.specs.Does.{effect, attempt, attempt_then, select, does, does_arms, does_block, does_state, does_child}
 use Rattle.sap_meaning.specs.Cycle.{cycle, set_inputs, root_fall}
 use Rattle.sap_meaning.specs.State.{first}
 use Rattle.sap_worked.specs.Retagging.{CellRaised, CellLowered, CellMovedAside, CellRefusedByAuthority, CellRefusedByLevel, StateRaised, StateLowered, StateMovedAside, StateRefused, RetaggedChild}
 use Rattle.sap_worked.specs.Writing.{EnforcedWrite, RefusedByIndex, RefusedByValue, DynamicWrite}
 use Rattle.sap_worked.specs.Transfers.{LowersBelow, RaisedByTarget, RaisedWhereRefused, FallRaises, RefusedFallRaises, WithoutFall}
 use Rattle.sap_worked.specs.Handlers.{FallHandler, HandlerRaises, GotoHandler, GotoHandlerRaises, GotoHandlerOfEnforced, RisingRefusals, NoHandlerRuns}
+use Rattle.sap_worked.specs.Deciding.{AcceptedOrNot, AcceptedInGuard, RefusedInGuard, RefusedBeforeBlock, Decoded, FirstArm}
 
 pub cell_raised : CellRaised
 unfolding cycle set_inputs root_fall first put_number put_level put_child raise reset settle effect attempt select does does_block does_state does_child
@@ -116,3 +117,27 @@ rising_refusals = refl
 pub no_handler_runs : NoHandlerRuns
 unfolding cycle set_inputs root_fall first put_number put_level put_child raise reset settle effect attempt select does does_block does_state does_child
 no_handler_runs = refl
+
+pub accepted_or_not : AcceptedOrNot
+unfolding cycle set_inputs root_fall first put_number put_level put_child raise reset settle effect attempt attempt_then select does does_arms does_block does_state does_child
+accepted_or_not = refl
+
+pub accepted_in_guard : AcceptedInGuard
+unfolding cycle set_inputs root_fall first put_number put_level put_child raise reset settle effect attempt attempt_then select does does_arms does_block does_state does_child
+accepted_in_guard = refl
+
+pub refused_in_guard : RefusedInGuard
+unfolding cycle set_inputs root_fall first put_number put_level put_child raise reset settle effect attempt attempt_then select does does_arms does_block does_state does_child
+refused_in_guard = refl
+
+pub refused_before_block : RefusedBeforeBlock
+unfolding cycle set_inputs root_fall first put_number put_level put_child raise reset settle effect attempt attempt_then select does does_arms does_block does_state does_child
+refused_before_block = refl
+
+pub decoded : Decoded
+unfolding cycle set_inputs root_fall first put_number put_level put_child raise reset settle effect attempt attempt_then select does does_arms does_block does_state does_child
+decoded = refl
+
+pub first_arm : FirstArm
+unfolding cycle set_inputs root_fall first put_number put_level put_child raise reset settle effect attempt attempt_then select does does_arms does_block does_state does_child
+first_arm = refl

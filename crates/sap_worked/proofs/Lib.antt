@@ -1,4 +1,5 @@
 mod Computed
+mod Behind
 mod Unequal
 mod Grounded
 mod Rested

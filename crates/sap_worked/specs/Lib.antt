@@ -3,6 +3,7 @@ pub mod Retagging
 pub mod Writing
 pub mod Transfers
 pub mod Handlers
+pub mod Deciding
 pub mod Ground
 pub mod Agreeing
 pub mod Apart

@@ -4,6 +4,7 @@ ghost use Rattle.sap_worked.specs.Retagging.{CellRaised, CellLowered, CellMovedA
 ghost use Rattle.sap_worked.specs.Writing.{EnforcedWrite, RefusedByIndex, RefusedByValue, DynamicWrite};
 ghost use Rattle.sap_worked.specs.Transfers.{LowersBelow, RaisedByTarget, RaisedWhereRefused, FallRaises, RefusedFallRaises, WithoutFall};
 ghost use Rattle.sap_worked.specs.Handlers.{FallHandler, HandlerRaises, GotoHandler, GotoHandlerRaises, GotoHandlerOfEnforced, RisingRefusals, NoHandlerRuns};
+ghost use Rattle.sap_worked.specs.Deciding.{AcceptedOrNot, AcceptedInGuard, RefusedInGuard, RefusedBeforeBlock, Decoded, FirstArm, NothingBehind};
 
 /// What `setTag` of cells and of states does, on runs of small designs.
 pub fn retagging()
@@ -46,4 +47,15 @@ pub fn handlers()
     ensures goto_handler_of_enforced { GotoHandlerOfEnforced }
     ensures rising_refusals { RisingRefusals }
     ensures no_handler_runs { NoHandlerRuns }
+{}
+
+/// Commands with `then`, and `case`.
+pub fn decisions()
+    ensures accepted_or_not { AcceptedOrNot }
+    ensures accepted_in_guard { AcceptedInGuard }
+    ensures refused_in_guard { RefusedInGuard }
+    ensures refused_before_block { RefusedBeforeBlock }
+    ensures decoded { Decoded }
+    ensures first_arm { FirstArm }
+    ensures nothing_behind { NothingBehind }
 {}

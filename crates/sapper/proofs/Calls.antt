@@ -1,22 +1,23 @@
 -- From the end of a command and its line to the answer of the call.
-use Rattle.std.proofs.Common.{◌≡◌, ◌≢◌, ℕ, List, [], ◌++◌, length, refl, sym, ◌∙◌, ap, subst, inl, inr, ◌⊎◌}
-use Rattle.std.specs.Prelude.{Option, Some, None, IfSome, Result, unwrap_or}
+use Rattle.std.proofs.Common.{◌≡◌, ◌≢◌, ◌≤◌, ℕ, List, [], ◌++◌, length, refl, sym, ◌∙◌, ap, subst, inl, inr, ◌⊎◌, arith}
+use Rattle.std.specs.Prelude.{◌↔◌, Option, Some, None, IfSome, unwrap_or, Result}
 use Rattle.std.proofs.lemmas.List.{append-nil}
 use Rattle.sap_desk.specs.Desk.{Told, Use}
-use Rattle.sap_desk.specs.Cause.{Rose}
+use Rattle.sap_desk.specs.Cause.{Rose, counted}
 use Rattle.sap_desk.specs.Whole.{Between}
+use Rattle.sap_stim.specs.declared.fault.StimFault.{StimFault}
 use Rattle.sap_words.specs.Words.{Words, IsTwin, command_of}
-use Rattle.sap_commands.specs.Ending.{Ending, Refusal, done, refused, failed, no_memory, no_command, status_of, line_of, IsFree}
-use Rattle.sap_commands.specs.Asks.{Asks, file, by, gives, writes, stops, AreLawful, Cause, Files}
-use Rattle.sap_commands.specs.Commands.{asks, asks_for}
+use Rattle.sap_commands.specs.Ending.{Ending, Refusal, done, refused, failed, no_memory, no_command, lattice_refused, design_refused, stimulus_refused, module_refused, level_refused, lengths_apart, inputs_apart, status_of, status_of_refusal, line_of, IsFree}
+use Rattle.sap_commands.specs.Asks.{Asks, file, by, gives, prints, writes, stops, AreLawful, Cause, Files, Shows, Starved, end_of}
+use Rattle.sap_commands.specs.Commands.{asks, asks_for, asks_if}
 use Rattle.sap_commands.specs.After.{Blames, Opens}
 use Rattle.sap_commands.specs.Outside.{FullFile, FullOutput, OutsideOf}
-use Rattle.sap_commands.specs.Steps.{Ends, FaultRose, Left, Moment, ending_of}
+use Rattle.sap_commands.specs.Steps.{Counted, Ends, FaultRose, Left, Moment, Same, ending_of}
 use Rattle.sap_commands.specs.declared.failure.Failure.{Failure}
 use Rattle.sapper.specs.Answers.{Answers, Gained, MayAnswer}
 use Rattle.sapper.specs.Exact.{Exact}
 use Rattle.sapper.specs.Outside.{FullLines, Outside}
-use Rattle.sapper.specs.Lines.{Reports, Tells, ToldLine}
+use Rattle.sapper.specs.Lines.{Reports, TakesMemory, Tells, ToldLine}
 use Rattle.sap_commands.proofs.CommandLaws.{two_if}
 use Rattle.sap_commands.proofs.Lawful.{one_cause}
 use Rattle.sap_commands.proofs.Ended.{between_map, quiet_self, stopped_here, whole_prefix}
@@ -69,12 +70,25 @@ no_words words m is = rw is (stopped_here no_command (quiet_self m))
 
 -- a refusal for whose line there was no memory: it ended for want of memory
 
-starved_left : (a : Asks) (why : Refusal) (F : Type 0) (t n : Told) → Left a (refused why) F t n → Left a no_memory F t n
-starved_left a why F t n l = record {
+-- nothing is written before a refusal but that of a stimulus
+starved_of : (a : Asks) (t : Told) (why : Refusal) (gained : List ℕ) → TakesMemory why → Shows a t (refused why) gained → Starved a t gained
+starved_of (file name k rest) t why gained takes (inl (at, none)) = inl none
+starved_of (file name k rest) t why gained takes (inr (v, has, shown)) = inr (v, has, starved_of (rest v) t why gained takes shown)
+starved_of (by V Holds rest) t why gained takes (v, holds, shown) = inr (v, holds, starved_of (rest v) t why gained takes shown)
+starved_of (gives text last) t why gained takes shown = inr (gained, (refused why, shown), whole_prefix gained)
+starved_of (prints name text fault) t why gained takes (bytes, there, is, shown) = absurd (never (fault bytes) is) where
+  never : (o : Option StimFault) → refused why ≡ end_of o → ⊥
+  never None e = cc
+  never (Some f) e = let same : why ≡ stimulus_refused 1 f = cc in subst TakesMemory same takes
+starved_of (writes name text) t why gained takes shown = shown.1
+starved_of (stops other) t why gained takes shown = shown.1
+
+starved_left : (a : Asks) (why : Refusal) (F : Type 0) (t n : Told) → TakesMemory why → Left a (refused why) F t n → Left a no_memory F t n
+starved_left a why F t n takes l = record {
   leaves = l.leaves;
   gained = l.gained;
   output = l.output;
-  shows = inr (l.gained, (refused why, l.shows), whole_prefix l.gained);
+  shows = starved_of a t why l.gained takes l.shows;
   blames = tt;
   opens = l.opens;
   same = l.same;
@@ -82,11 +96,11 @@ starved_left a why F t n l = record {
   outside = l.outside;
 }
 
-starved_end : (a : Asks) (why : Refusal) (b c : Moment) → Ends a (refused why) b c → Ends a no_memory b c
-starved_end a why b c ended = record {
+starved_end : (a : Asks) (why : Refusal) (b c : Moment) → TakesMemory why → Ends a (refused why) b c → Ends a no_memory b c
+starved_end a why b c takes ended = record {
   told =
       let F : Type 0 = FaultRose b c in
-      between_map (Left a (refused why) F) (Left a no_memory F) b.told c.told (λ t n l. starved_left a why F t n l) ended.told;
+      between_map (Left a (refused why) F) (Left a no_memory F) b.told c.told (λ t n l. starved_left a why F t n takes l) ended.told;
   faults = ended.faults;
   lost = ended.lost;
   sure = ended.sure;
@@ -106,8 +120,8 @@ pub told_end : (a : Asks) (e : Ending) (answer : ℕ) (b c d : Moment) → Ends 
 told_end a e answer b c d ended r = elim r.is_it [
   | inl is ↦ subst (λ (f : Ending). Ends a f b c) (sym is) ended
   | inr starved ↦
-      let (is, (why, was)) = starved in
-      subst (λ (f : Ending). Ends a f b c) (sym is) (starved_end a why b c (subst (λ (f : Ending). Ends a f b c) was ended))
+      let (is, (why, was, takes)) = starved in
+      subst (λ (f : Ending). Ends a f b c) (sym is) (starved_end a why b c takes (subst (λ (f : Ending). Ends a f b c) was ended))
 ]
 
 -- which answers there may be
@@ -140,6 +154,8 @@ outside_after (file name k rest) t m n files output room (inl missing) = inl mis
 outside_after (file name k rest) t m n files output room (inr (v, has, h)) = inr (v, has, outside_after (rest v) t m n files output room h)
 outside_after (by V Holds rest) t m n files output room (v, holds, h) = (v, holds, outside_after (rest v) t m n files output room h)
 outside_after (gives text last) t m n files output room h = full_output t m n output room h
+outside_after (prints name text fault) t m n files output room (inl missing) = inl missing
+outside_after (prints name text fault) t m n files output room (inr full) = inr (full_output t m n output room full)
 outside_after (writes name text) t m n files output room h = full_file name t m n files room h
 outside_after (stops why) t m n files output room h = h
 
@@ -157,7 +173,7 @@ module _ (words : List (List ℕ)) (e : Ending) where
     output = w.output ∙ l.output;
     shows = l.shows;
     blames = subst (λ (blame : List ℕ). Blames blame e) (sym w.blame) l.blames;
-    opens = subst (λ (uses : ℕ → Use). Opens e t.uses uses) (sym w.uses) l.opens;
+    opens = subst (λ (uses : ℕ → Use). Opens (asks_for words) t e t.uses uses) (sym w.uses) l.opens;
     cause = l.cause;
   }
 

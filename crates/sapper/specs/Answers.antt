@@ -23,7 +23,7 @@ pub record Answers (words : List (List ℕ)) (lost lost_now answer : ℕ) (t n :
   pub output : n.written 1 ≡ t.written 1 ++ gained
   pub shows : Output (asks_for words) t gained ending
   pub blames : Blames n.blame ending
-  pub opens : Opens ending t.uses n.uses
+  pub opens : Opens (asks_for words) t ending t.uses n.uses
   -- but for a failed call and want of memory the words and files have the ending's cause
   pub cause : IsFree ending ⊎ Cause (asks_for words) t ending
 

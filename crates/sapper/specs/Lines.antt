@@ -2,7 +2,7 @@
 use Rattle.std.specs.Prelude.{◌≡◌, ◌≢◌, ◌⊎◌, ℕ, List}
 use Rattle.sap_desk.specs.Desk.{Told}
 use Rattle.sap_desk.specs.Whole.{Between}
-use Rattle.sap_commands.specs.Ending.{Ending, Refusal as Reason, refused, no_memory, status_of, line_of}
+use Rattle.sap_commands.specs.Ending.{Ending, Refusal as Reason, refused, no_memory, no_command, lattice_refused, design_refused, stimulus_refused, module_refused, level_refused, lengths_apart, inputs_apart, status_of, line_of}
 use Rattle.sap_commands.specs.Steps.{Moment}
 use Rattle.sapper.specs.Answers.{Gained}
 use Rattle.sapper.specs.Outside.{FullLines}
@@ -22,9 +22,20 @@ pub record Tells (line : List ℕ) (before after : Moment) : Type 0 where
   pub faults : after.faults ≡ before.faults
   pub sure : before.sure → after.sure
 
+-- its line takes memory: each refusal's but that of a stimulus, behind whose lines none is taken
+abbrev pub TakesMemory : Reason → Type 0
+TakesMemory no_command = Unit {0}
+TakesMemory (lattice_refused fault) = Unit {0}
+TakesMemory (design_refused fault) = Unit {0}
+TakesMemory (stimulus_refused place fault) = ⊥
+TakesMemory (module_refused fault) = Unit {0}
+TakesMemory (level_refused word) = Unit {0}
+TakesMemory (lengths_apart one other) = Unit {0}
+TakesMemory (inputs_apart cycle name) = Unit {0}
+
 -- an ending is told by its status and its line; want of memory in its place where there is none for the line of a refusal
 pub record Reports (e : Ending) (answer : ℕ) (before after : Moment) : Type 0 where
   pub as_told : Ending
-  pub is_it : (as_told ≡ e) ⊎ ((as_told ≡ no_memory) × ((why : Reason) × (e ≡ refused why)))
+  pub is_it : (as_told ≡ e) ⊎ ((as_told ≡ no_memory) × ((why : Reason) × (e ≡ refused why) × TakesMemory why))
   pub status : answer ≡ status_of as_told
   pub line : Tells (line_of as_told) before after

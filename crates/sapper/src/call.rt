@@ -6,16 +6,19 @@ ghost use Rattle.sap_desk.specs.Whole.{Between};
 ghost use Rattle.sap_commands.specs.Commands.{asks_for};
 ghost use Rattle.sap_words.specs.Words.{IsTwin, command_of as words_for};
 ghost use Rattle.sapper.specs.Answers.{Answers, MayAnswer};
-ghost use Rattle.sap_commands.specs.Ending.{line};
+ghost use Rattle.sap_commands.specs.Ending.{line, line_of, refused, stimulus_refused};
 ghost use Rattle.sapper.specs.Exact.{Exact};
 ghost use Rattle.sapper.specs.Headline.{Headline};
 ghost use Rattle.sapper.specs.Lines.{Reports, Tells};
 ghost use Rattle.sapper.specs.Outside.{Outside, FullLines};
-ghost use Rattle.sap_commands.specs.Steps.{Ends, ending, ending_of, seen};
+ghost use Rattle.sap_commands.specs.Steps.{Ends, ending, ending_of, reason, seen};
 
+use crate::digits::Digits;
 use sap_commands::failure::Failure;
+use sap_commands::refusal::Refusal;
 use sap_commands::{perform, refusal_text};
 use sap_desk::{Desk, write_line};
+use sap_stim::StimFault;
 use sap_words::command_of;
 use std::alloc::Global;
 
@@ -26,12 +29,36 @@ fn tell<D: Desk>(desk: &mut D, head: &[u8], text: &[u8])
     let _ = write_line(desk, &[head, text]);
 }
 
-// Tells a failure on channel 2, and gives its status.
-fn report<D: Desk>(alloc: Global, desk: &mut D, failure: &Failure<'_>) -> u8
-    ensures { Reports (ending failure.now) result (seen D.told D.faults D.lost D.sure desk.old) (seen D.told D.faults D.lost D.sure desk.new) }
+// Tells that a line of a stimulus is refused. It takes no memory.
+fn tell_stimulus<D: Desk>(desk: &mut D, place: u64, fault: &StimFault)
+    ensures { Tells (line_of (refused (stimulus_refused place fault.now))) (seen D.told D.faults D.lost D.sure desk.old) (seen D.told D.faults D.lost D.sure desk.new) }
 {
-    match failure {
-        Failure::Refused(why) => match refusal_text(alloc, why) {
+    let place = Digits::new(place);
+    let code = Digits::new(u64::from(fault.code.number()));
+    let line = Digits::new(fault.line);
+    let _ = write_line(
+        desk,
+        &[
+            b"stimulus ",
+            place.as_bytes(),
+            b": S",
+            code.as_bytes(),
+            b" line ",
+            line.as_bytes(),
+        ],
+    );
+}
+
+// Tells a refusal on channel 2, and gives its status.
+fn report_refusal<D: Desk>(alloc: Global, desk: &mut D, why: &Refusal<'_>) -> u8
+    ensures { Reports (refused (reason why.now)) result (seen D.told D.faults D.lost D.sure desk.old) (seen D.told D.faults D.lost D.sure desk.new) }
+{
+    match why {
+        Refusal::Stimulus(place, fault) => {
+            tell_stimulus(desk, *place, fault);
+            4
+        }
+        _ => match refusal_text(alloc, why) {
             Ok(text) => {
                 tell(desk, b"", text.as_slice());
                 why.status()
@@ -41,6 +68,15 @@ fn report<D: Desk>(alloc: Global, desk: &mut D, failure: &Failure<'_>) -> u8
                 7
             }
         },
+    }
+}
+
+// Tells a failure on channel 2, and gives its status.
+fn report<D: Desk>(alloc: Global, desk: &mut D, failure: &Failure<'_>) -> u8
+    ensures { Reports (ending failure.now) result (seen D.told D.faults D.lost D.sure desk.old) (seen D.told D.faults D.lost D.sure desk.new) }
+{
+    match failure {
+        Failure::Refused(why) => report_refusal(alloc, desk, why),
         Failure::Desk(name) => {
             tell(desk, b"desk: ", name.as_bytes());
             6

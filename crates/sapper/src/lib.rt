@@ -2,5 +2,6 @@
 #![tactic(auto)]
 
 mod call;
+mod digits;
 
 pub use call::sapper;

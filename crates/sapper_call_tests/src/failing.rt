@@ -2,7 +2,7 @@
 
 use sap_desk::MemoryDesk;
 use sapper::sapper;
-use sapper_fixture::{COMPILE, DIAMOND, KEEPS_LOW, REPORT, RUN, TRACE, TWO, desk, words};
+use sapper_fixture::{ADDS_ONE, COMPILE, DIAMOND, KEEPS_LOW, REPORT, RUN, TRACE, TWO, desk, words};
 use std::alloc::{AllocError, Global};
 use std::test::Fail;
 
@@ -21,9 +21,11 @@ struct Row {
     line: &'static str,
     // the file of each call on the desk, in order; or its channel, 1 or 2
     calls: &'static str,
+    // what channel 1 holds where that call fails, of a stimulus that is printed line by line: what the lines of a piece show is written together
+    gained: &'static [&'static str],
 }
 
-static ROWS: [Row; 6] = [
+static ROWS: [Row; 8] = [
     Row {
         words: COMPILE,
         lattice: TWO,
@@ -34,6 +36,7 @@ static ROWS: [Row; 6] = [
         output: "",
         line: "",
         calls: "LLLLDDDDOOO",
+        gained: &[],
     },
     // a register that is enforced at low
     Row {
@@ -45,7 +48,22 @@ static ROWS: [Row; 6] = [
         status: 0,
         output: "cycle 1: y=7@low\ncycle 2: y=5@low\n",
         line: "",
-        calls: "LLLLDDDDSSSS1",
+        calls: "LLLLDDDDSS1SS",
+        gained: &[
+            "",
+            "",
+            "",
+            "",
+            "",
+            "",
+            "",
+            "",
+            "",
+            "",
+            "cycle 1: y=7@low\n",
+            "cycle 1: y=7@low\ncycle 2: y=5@low\n",
+            "cycle 1: y=7@low\ncycle 2: y=5@low\n",
+        ],
     },
     // the handler of a write to a memory
     Row {
@@ -57,7 +75,82 @@ static ROWS: [Row; 6] = [
         status: 0,
         output: "cycle 1: site 1 write k at high\ncycle 1: site 2 write y at high\n",
         line: "",
-        calls: "LLLLDDDDSSSS1",
+        calls: "LLLLDDDDSS1SS",
+        gained: &[
+            "",
+            "",
+            "",
+            "",
+            "",
+            "",
+            "",
+            "",
+            "",
+            "",
+            "cycle 1: site 1 write k at high\n",
+            "cycle 1: site 1 write k at high\ncycle 1: site 2 write y at high\n",
+            "cycle 1: site 1 write k at high\ncycle 1: site 2 write y at high\n",
+        ],
+    },
+    // a line that is refused: nothing behind it is read, and its own line is written in seven parts
+    Row {
+        words: RUN,
+        lattice: TWO,
+        design: ADDS_ONE,
+        first: "5@low\n256@low\n5@low\n",
+        second: "",
+        status: 4,
+        output: "cycle 1: x=6@low\n",
+        line: "stimulus 1: S2 line 2\n",
+        calls: "LLLLDDDDSS1S2222222",
+        gained: &[
+            "",
+            "",
+            "",
+            "",
+            "",
+            "",
+            "",
+            "",
+            "",
+            "",
+            "cycle 1:",
+            "cycle 1: x=6@low\n",
+            "cycle 1: x=6@low\n",
+            "cycle 1: x=6@low\n",
+            "cycle 1: x=6@low\n",
+            "cycle 1: x=6@low\n",
+            "cycle 1: x=6@low\n",
+            "cycle 1: x=6@low\n",
+            "cycle 1: x=6@low\n",
+        ],
+    },
+    // a module
+    Row {
+        words: &["sim", "L", "D", "S"],
+        lattice: TWO,
+        design: "module top(input clk, output reg [7:0] v_x, output reg [0:0] t_x, output reg [7:0] v_y, output reg [0:0] t_y);\ninitial v_x = 8'd1;\ninitial t_x = 1'd0;\ninitial v_y = 8'd2;\ninitial t_y = 1'd0;\nalways @(posedge clk) v_x <= v_y;\nalways @(posedge clk) t_x <= t_y;\nalways @(posedge clk) v_y <= v_x;\nalways @(posedge clk) t_y <= t_x;\nendmodule\n",
+        first: "\n\n",
+        second: "",
+        status: 0,
+        output: "cycle 1: x=2@low y=1@low\ncycle 2: x=1@low y=2@low\n",
+        line: "",
+        calls: "LLLLDDDDSS1SS",
+        gained: &[
+            "",
+            "",
+            "",
+            "",
+            "",
+            "",
+            "",
+            "",
+            "",
+            "",
+            "cycle 1: x=2@low y=1@low\n",
+            "cycle 1: x=2@low y=1@low\ncycle 2: x=1@low y=2@low\n",
+            "cycle 1: x=2@low y=1@low\ncycle 2: x=1@low y=2@low\n",
+        ],
     },
     // streams that agree, of a design with two dynamic states
     Row {
@@ -70,6 +163,7 @@ static ROWS: [Row; 6] = [
         output: "agree at low for 2 cycles\n",
         line: "",
         calls: "LLLLDDDDSSSSTTTT1",
+        gained: &[],
     },
     Row {
         words: REPORT,
@@ -81,6 +175,7 @@ static ROWS: [Row; 6] = [
         output: "level low 0\nlevel a 2\nlevel b 1\nlevel high 3\nif 4:3 hangs x\nsite 1 5:3 goto S\n",
         line: "",
         calls: "LLLLDDDD1",
+        gained: &[],
     },
     // a name that is used before it is declared: the line of the refusal is written in three parts
     Row {
@@ -93,6 +188,7 @@ static ROWS: [Row; 6] = [
         output: "",
         line: "module: V4 5:13\n",
         calls: "LLLLDDDD222",
+        gained: &[],
     },
 ];
 
@@ -141,8 +237,11 @@ fn is_told(row: &Row, at: u8, status: u8, text: &[u8]) -> bool {
     }
 }
 
-/// What channel 1 holds then: of a text whose write fails the first half.
-fn gained(row: &Row, at: u8) -> &'static [u8] {
+/// What channel 1 holds then, `before` calls having been made: of a text whose write fails the first half.
+fn gained(row: &Row, before: usize, at: u8) -> &'static [u8] {
+    if let Some(text) = row.gained.get(before) {
+        return text.as_bytes();
+    }
     let text = row.output.as_bytes();
     if at == b'1' {
         &text[..text.len() / 2]
@@ -151,10 +250,10 @@ fn gained(row: &Row, at: u8) -> &'static [u8] {
     }
 }
 
-/// What stands after a failed call on the file or channel `at`.
-fn stands(row: &Row, at: u8, status: u8, desk: &MemoryDesk, module: &[u8]) -> bool {
+/// What stands after a failed call on the file or channel `at`, `before` calls having been made.
+fn stands(row: &Row, before: usize, at: u8, status: u8, desk: &MemoryDesk, module: &[u8]) -> bool {
     is_told(row, at, status, desk.fault_text())
-        && desk.output() == gained(row, at)
+        && desk.output() == gained(row, before, at)
         && keeps_files(row, desk)
         && out_is_left(at, desk, module)
 }
@@ -187,7 +286,7 @@ fn first_wrong(alloc: Global, row: &Row) -> Result<u64, AllocError> {
     for (before, at) in row.calls.as_bytes().iter().enumerate() {
         let number = before as u64 + 1;
         let (status, desk) = failing(alloc, row, number)?;
-        if !stands(row, *at, status, &desk, module) {
+        if !stands(row, before, *at, status, &desk, module) {
             return Ok(number);
         }
     }
@@ -205,6 +304,41 @@ fn first_wrong(alloc: Global, row: &Row) -> Result<u64, AllocError> {
 fn each_call_fails_in_turn(rt: HostRuntime) -> Result<(), Fail> {
     for row in &ROWS {
         assert_eq!(rt; first_wrong(rt.alloc(), row)?, 0);
+    }
+    Ok(())
+}
+
+/// The rows of a run whose cycles all show the same.
+fn rows(alloc: Global, count: u64) -> Result<String, AllocError> {
+    let mut text = String::new(alloc);
+    for before in 0..count {
+        let row = format!(in alloc; "cycle {}: x=6@low\n", before + 1)?;
+        text.push_str(&row)?;
+    }
+    Ok(text)
+}
+
+// Lines of six bytes: the first piece of 4096 bytes has 682 of them, and the beginning of one more. Behind four calls on each of the other files
+// and the opening come this piece, its rows, the second piece, its rows, the end, and the finishing.
+static PIECES: [(u64, u8, u64); 4] = [(0, 0, 1000), (12, 6, 682), (14, 6, 1000), (16, 0, 1000)];
+
+#[test]
+fn rows_are_written_before_more_is_read(rt: HostRuntime) -> Result<(), Fail> {
+    let alloc = rt.alloc();
+    let words = words(alloc, RUN)?;
+    let mut stimulus = String::new(alloc);
+    for _ in 0..1000 {
+        stimulus.push_str("5@low\n")?;
+    }
+    for (call, status, count) in &PIECES {
+        let mut desk = desk(alloc, &[("L", TWO), ("D", ADDS_ONE), ("S", &stimulus)])?;
+        desk.fail_at(*call)?;
+        assert_eq!(rt; sapper(alloc, &words, &mut desk), *status, "call {call}");
+        assert_eq!(rt;
+            desk.output(),
+            rows(alloc, *count)?.as_bytes(),
+            "call {call}"
+        );
     }
     Ok(())
 }

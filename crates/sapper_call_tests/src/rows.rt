@@ -18,7 +18,7 @@ struct Row {
     line: &'static str,
 }
 
-static REFUSED_RUNS: [Row; 4] = [
+static REFUSED_RUNS: [Row; 5] = [
     // files are refused in the order of the words
     Row {
         words: RUN,
@@ -37,6 +37,16 @@ static REFUSED_RUNS: [Row; 4] = [
         status: 1,
         output: "",
         line: "design: E2 1:1\n",
+    },
+    // of a later version than there is
+    Row {
+        words: RUN,
+        lattice: TWO,
+        design: "sapper 3;",
+        stimulus: "",
+        status: 1,
+        output: "",
+        line: "design: E2 1:8\n",
     },
     Row {
         words: &["run", "N", "D", "S"],
@@ -58,7 +68,7 @@ static REFUSED_RUNS: [Row; 4] = [
     },
 ];
 
-static REFUSED_TRACES: [Row; 4] = [
+static REFUSED_TRACES: [Row; 5] = [
     Row {
         words: TRACE,
         lattice: "levels",
@@ -76,6 +86,16 @@ static REFUSED_TRACES: [Row; 4] = [
         status: 1,
         output: "",
         line: "design: E2 1:1\n",
+    },
+    // of a later version than there is
+    Row {
+        words: TRACE,
+        lattice: TWO,
+        design: "sapper 3;",
+        stimulus: "",
+        status: 1,
+        output: "",
+        line: "design: E2 1:8\n",
     },
     Row {
         words: &["trace", "N", "D", "S"],
@@ -97,7 +117,7 @@ static REFUSED_TRACES: [Row; 4] = [
     },
 ];
 
-static TEXTS: [Row; 4] = [
+static TEXTS: [Row; 7] = [
     // the canonical text, with parentheses only where they are needed
     Row {
         words: FMT,
@@ -117,6 +137,35 @@ static TEXTS: [Row; 4] = [
         status: 0,
         output: "reg x : 8 dynamic;\nstate S enforced low {\n  if (x == 0) {\n    x := 1;\n  }\n  goto S;\n}\n",
         line: "",
+    },
+    // what follows an accepted write and a refused one, and the arms of a `case`
+    Row {
+        words: FMT,
+        lattice: "",
+        design: "sapper 2; input a : 8; reg y : 8 enforced low; reg x : 8 dynamic; state S enforced low { y := a then { x := 1; goto T; } otherwise { x := 2; goto S; } } state T enforced low { x := 3; goto S; }",
+        stimulus: "",
+        status: 0,
+        output: "sapper 2;\ninput a : 8;\nreg y : 8 enforced low;\nreg x : 8 dynamic;\nstate S enforced low {\n  y := a then {\n    x := 1;\n    goto T;\n  } otherwise {\n    x := 2;\n    goto S;\n  }\n}\nstate T enforced low {\n  x := 3;\n  goto S;\n}\n",
+        line: "",
+    },
+    Row {
+        words: FMT,
+        lattice: "",
+        design: "sapper 2; input a : 2; reg x : 8 dynamic; state S enforced low { case (a) { 0, 2: { x := 7; } else { x := 9; } } goto S; }",
+        stimulus: "",
+        status: 0,
+        output: "sapper 2;\ninput a : 2;\nreg x : 8 dynamic;\nstate S enforced low {\n  case (a) {\n    0, 2: {\n      x := 7;\n    }\n    else {\n      x := 9;\n    }\n  }\n  goto S;\n}\n",
+        line: "",
+    },
+    // of a later version than there is
+    Row {
+        words: FMT,
+        lattice: "",
+        design: "sapper 3;",
+        stimulus: "",
+        status: 1,
+        output: "",
+        line: "design: E2 1:8\n",
     },
     Row {
         words: FMT,
@@ -138,7 +187,7 @@ static TEXTS: [Row; 4] = [
     },
 ];
 
-static REPORTS: [Row; 9] = [
+static REPORTS: [Row; 13] = [
     Row {
         words: REPORT,
         lattice: DIAMOND,
@@ -175,6 +224,43 @@ static REPORTS: [Row; 9] = [
         status: 0,
         output: "level low 0\nlevel high 1\nfall 5:3 hangs S\nif 7:5 hangs S\nsite 1 4:3 setTag z\nsite 2 5:3 fall P\nsite 3 7:19 goto T\nsite 4 10:5 goto S\n",
         line: "",
+    },
+    // a `then` is a point, and the `otherwise` behind it is none; a `case` is a point
+    Row {
+        words: REPORT,
+        lattice: TWO,
+        design: "sapper 2;\ninput a : 8;\nreg y : 8 enforced low;\nreg x : 8 dynamic;\nstate S enforced low {\n  y := a then {\n    x := 1;\n    goto T;\n  } otherwise {\n    x := 2;\n    goto S;\n  }\n}\nstate T enforced low {\n  x := 3;\n  goto S;\n}\n",
+        stimulus: "",
+        status: 0,
+        output: "level low 0\nlevel high 1\nthen 6:10 hangs x\nsite 1 6:3 write y\nsite 2 8:5 goto T\nsite 3 11:5 goto S\nsite 4 16:3 goto S\n",
+        line: "",
+    },
+    Row {
+        words: REPORT,
+        lattice: TWO,
+        design: "sapper 2;\ninput a : 2;\nreg x : 8 dynamic;\nstate S enforced low {\n  case (a) {\n    0, 2: {\n      x := 7;\n    }\n    else {\n      x := 9;\n    }\n  }\n  goto S;\n}\n",
+        stimulus: "",
+        status: 0,
+        output: "level low 0\nlevel high 1\ncase 5:3 hangs x\nsite 1 13:3 goto S\n",
+        line: "",
+    },
+    Row {
+        words: REPORT,
+        lattice: TWO,
+        design: "sapper 2;\ninput a : 2;\nreg x : 8 dynamic;\nreg y : 8 enforced low;\nmem m : 8[4] dynamic;\nstate P enforced low {\n  case (a) {\n    0: { y := 1 then { m[0] := 1; fall; } otherwise { goto P; } }\n    1: { fall; }\n    else { y := 2 otherwise { } goto P; }\n  }\n  state C dynamic {\n    case (a) { 0: { goto D; } else { x := 1; goto C; } }\n  }\n  state D enforced low { goto C; }\n}\n",
+        stimulus: "",
+        status: 0,
+        output: "level low 0\nlevel high 1\ncase 7:3 hangs x m C\nthen 8:17 hangs x m C\nfall 8:35 hangs x C\nfall 9:10 hangs x C\notherwise 10:19 hangs -\ncase 13:5 hangs x C\nsite 1 8:10 write y\nsite 2 8:35 fall P\nsite 3 8:55 goto P\nsite 4 9:10 fall P\nsite 5 10:12 write y\nsite 6 10:33 goto P\nsite 7 13:21 goto D\nsite 8 15:26 goto C\n",
+        line: "",
+    },
+    Row {
+        words: REPORT,
+        lattice: TWO,
+        design: "sapper 3;",
+        stimulus: "",
+        status: 1,
+        output: "",
+        line: "design: E2 1:8\n",
     },
     Row {
         words: REPORT,

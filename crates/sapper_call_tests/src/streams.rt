@@ -26,7 +26,7 @@ struct Row {
     line: &'static str,
 }
 
-static STREAMS: [Row; 20] = [
+static STREAMS: [Row; 21] = [
     // they agree at low, where values at high aren't seen
     Row {
         words: TWIN,
@@ -121,6 +121,17 @@ static STREAMS: [Row; 20] = [
         second: "2@high\n1@a\n",
         status: 0,
         output: "agree at a for 2 cycles\n",
+        line: "",
+    },
+    // a design of the second version
+    Row {
+        words: TWIN,
+        lattice: TWO,
+        design: "sapper 2;\ninput a : 8;\nreg y : 8 enforced low;\nreg x : 8 dynamic;\nstate S enforced low {\n  y := a then {\n    x := 1;\n  } otherwise {\n    case (a) { 1, 2: { x := 2; } else { x := 3; } }\n  }\n  goto S;\n}\n",
+        first: "1@high\n1@low\n",
+        second: "7@high\n1@low\n",
+        status: 0,
+        output: "agree at low for 2 cycles\n",
         line: "",
     },
     // LEVEL is tested directly after the lattice

@@ -53,7 +53,7 @@ struct Refused {
     line: &'static str,
 }
 
-static REFUSED: [Refused; 10] = [
+static REFUSED: [Refused; 14] = [
     Refused {
         lattice: "levels",
         design: DESIGN,
@@ -107,6 +107,31 @@ static REFUSED: [Refused; 10] = [
         design: "input aaaaaaaaaaaaaaaaaaaaaaaaaaaaaaaaaaaaaaaaa : 8;",
         status: 1,
         line: "design: E18 1:7 name\n",
+    },
+    // of the second version, or of none
+    Refused {
+        lattice: TWO,
+        design: "sapper 3;",
+        status: 1,
+        line: "design: E2 1:8\n",
+    },
+    Refused {
+        lattice: TWO,
+        design: "sapper 2; reg x : 8 dynamic; state S enforced low { case (1) { 0: { x := 1; } else { } } goto S; }",
+        status: 1,
+        line: "design: E7 1:59\n",
+    },
+    Refused {
+        lattice: TWO,
+        design: "sapper 2; input a : 2; state S enforced low { case (a) { 4: { } else { } } goto S; }",
+        status: 1,
+        line: "design: E8 1:58\n",
+    },
+    Refused {
+        lattice: "levels = [\"low\", \"then\"]\nbelow = [[\"low\", \"then\"]]\n",
+        design: "sapper 2; reg x : 8 enforced then; state S enforced low { x := 1; goto S; }",
+        status: 1,
+        line: "design: E2 1:30\n",
     },
     // the lattice comes first
     Refused {

@@ -19,7 +19,7 @@ fn files(alloc: Global) -> Result<MemoryDesk, AllocError> {
 }
 
 /// How many of the words of a text, as blanks and ends of lines part them, are this one.
-fn count_of(text: &str, word: &str) -> usize {
+pub fn count_of(text: &str, word: &str) -> usize {
     text.split_whitespace().filter(|it| *it == word).count()
 }
 

@@ -2,6 +2,8 @@
 #![tactic(auto)]
 
 #[cfg(test)]
+mod arms;
+#[cfg(test)]
 mod compiling;
 #[cfg(test)]
 mod designs;

@@ -11,7 +11,7 @@ struct Row {
     compiled: &'static str,
 }
 
-static TRANSFERS: [Row; 13] = [
+static TRANSFERS: [Row; 17] = [
     // an empty body
     Row {
         refused: "state S enforced low {\n}\n",
@@ -84,9 +84,31 @@ static TRANSFERS: [Row; 13] = [
         fault: "E10 4:22",
         compiled: "input a : 8;\nreg y : 8 enforced low;\nstate S enforced low {\n  y := a otherwise { y := 9; }\n  goto S;\n}\n",
     },
+    // the blocks of a `case`, and those behind a command
+    Row {
+        refused: "sapper 2;\ninput a : 2;\nreg x : 8 dynamic;\nstate S enforced low {\n  case (a) { 0: { x := 1; } else { goto S; } }\n  goto S;\n}\n",
+        fault: "E10 5:36",
+        compiled: "sapper 2;\ninput a : 2;\nreg x : 8 dynamic;\nstate S enforced low {\n  case (a) { 0: { x := 1; } else { x := 2; } }\n  goto S;\n}\n",
+    },
+    Row {
+        refused: "sapper 2;\ninput a : 2;\nreg x : 8 dynamic;\nstate S enforced low {\n  case (a) { 0: { goto S; } else { x := 1; } }\n}\n",
+        fault: "E10 5:44",
+        compiled: "sapper 2;\ninput a : 2;\nreg x : 8 dynamic;\nstate S enforced low {\n  case (a) { 0: { goto S; } else { x := 1; goto S; } }\n}\n",
+    },
+    Row {
+        refused: "sapper 2;\ninput a : 8;\nreg y : 8 enforced low;\nstate S enforced low {\n  y := a then { goto S; } otherwise { y := 9; }\n}\n",
+        fault: "E10 5:47",
+        compiled: "sapper 2;\ninput a : 8;\nreg y : 8 enforced low;\nstate S enforced low {\n  y := a then { goto S; } otherwise { y := 9; goto S; }\n}\n",
+    },
+    // a transfer has no `then`
+    Row {
+        refused: "sapper 2;\nstate S enforced low {\n  goto T then { goto S; } otherwise { goto S; }\n}\nstate T enforced high {\n  goto S;\n}\n",
+        fault: "E10 3:10",
+        compiled: "sapper 2;\nstate S enforced low {\n  goto T otherwise { goto S; }\n}\nstate T enforced high {\n  goto S;\n}\n",
+    },
 ];
 
-static GROUPS_AND_PATHS: [Row; 10] = [
+static GROUPS_AND_PATHS: [Row; 12] = [
     // a `goto` into a group below or above, or into another one
     Row {
         refused: "state P enforced low {\n  goto C;\n  state C enforced low { goto C; }\n}\n",
@@ -141,10 +163,21 @@ static GROUPS_AND_PATHS: [Row; 10] = [
         fault: "E14 4:20",
         compiled: "mem m : 8[4] dynamic;\nstate P enforced low {\n  fall otherwise { m[1] := 2; goto P; }\n  state C enforced low { m[0] := 1; goto C; }\n}\n",
     },
+    // in one block of a `case` and behind it, and in a block behind a write
+    Row {
+        refused: "sapper 2;\ninput a : 2;\nmem m : 8[4] dynamic;\nstate S enforced low {\n  case (a) { 0: { m[0] := 1; } else { } }\n  m[1] := 2;\n  goto S;\n}\n",
+        fault: "E14 6:3",
+        compiled: "sapper 2;\ninput a : 2;\nmem m : 8[4] dynamic;\nstate S enforced low {\n  case (a) { 0: { m[0] := 1; } 1: { } else { m[1] := 2; } }\n  goto S;\n}\n",
+    },
+    Row {
+        refused: "sapper 2;\nmem k : 8[4] enforced low;\nmem m : 8[4] dynamic;\nstate S enforced low {\n  k[0] := 1 then { k[1] := 2; } otherwise { }\n  goto S;\n}\n",
+        fault: "E14 5:20",
+        compiled: "sapper 2;\nmem k : 8[4] enforced low;\nmem m : 8[4] dynamic;\nstate S enforced low {\n  k[0] := 1 then { m[1] := 2; } otherwise { m[2] := 3; }\n  goto S;\n}\n",
+    },
 ];
 
-static HANDLERS_AND_TAGS: [Row; 10] = [
-    // a handler of what is never refused
+static HANDLERS_AND_TAGS: [Row; 11] = [
+    // a handler of what is never refused, and a `then`
     Row {
         refused: "reg x : 8 dynamic;\nstate S enforced low {\n  x := 1 otherwise { x := 2; }\n  goto S;\n}\n",
         fault: "E15 3:10",
@@ -164,6 +197,11 @@ static HANDLERS_AND_TAGS: [Row; 10] = [
         refused: "state P enforced low {\n  fall otherwise { goto P; }\n  state C dynamic { goto C; }\n}\n",
         fault: "E15 2:8",
         compiled: "state P enforced low {\n  fall otherwise { goto P; }\n  state C dynamic { goto C; }\n  state D enforced low { goto C; }\n}\n",
+    },
+    Row {
+        refused: "sapper 2;\nreg x : 8 dynamic;\nstate S enforced low {\n  x := 1 then { } otherwise { x := 2; }\n  goto S;\n}\n",
+        fault: "E15 4:10",
+        compiled: "sapper 2;\nreg x : 8 enforced low;\nstate S enforced low {\n  x := 1 then { } otherwise { x := 2; }\n  goto S;\n}\n",
     },
     // a `setTag` of what is dynamic
     Row {

@@ -27,12 +27,6 @@ static HEADS: [(u8, &str); 15] = [
     (2, "module top($); endmodule"),
 ];
 
-#[test]
-fn heads(rt: HostRuntime) -> Result<(), Fail> {
-    assert_eq!(rt; first_wrong(rt.alloc(), &FILE, &HEADS)?, "");
-    Ok(())
-}
-
 static HEADS_THAT_END_OTHERWISE: [(u8, &str); 15] = [
     // the head of a module
     (2, "module top($clk); endmodule"),
@@ -54,15 +48,6 @@ static HEADS_THAT_END_OTHERWISE: [(u8, &str); 15] = [
     ),
     (0, "\t\r\n module\ttop\r\n(\ninput clk)\n;endmodule // #"),
 ];
-
-#[test]
-fn heads_that_end_otherwise(rt: HostRuntime) -> Result<(), Fail> {
-    assert_eq!(rt;
-        first_wrong(rt.alloc(), &FILE, &HEADS_THAT_END_OTHERWISE)?,
-        ""
-    );
-    Ok(())
-}
 
 static PORTS: [(u8, &str); 20] = [
     // ports
@@ -93,12 +78,6 @@ static PORTS: [(u8, &str); 20] = [
         "module top(input clk, input [0:0] a, input [00:0] b); endmodule",
     ),
 ];
-
-#[test]
-fn ports(rt: HostRuntime) -> Result<(), Fail> {
-    assert_eq!(rt; first_wrong(rt.alloc(), &FILE, &PORTS)?, "");
-    Ok(())
-}
 
 static PORTS_AND_RANGES: [(u8, &str); 19] = [
     // ports
@@ -166,7 +145,14 @@ static PORTS_AND_RANGES: [(u8, &str); 19] = [
 ];
 
 #[test]
-fn ports_and_ranges(rt: HostRuntime) -> Result<(), Fail> {
-    assert_eq!(rt; first_wrong(rt.alloc(), &FILE, &PORTS_AND_RANGES)?, "");
+fn whole_files(rt: HostRuntime) -> Result<(), Fail> {
+    for rows in [
+        HEADS.as_slice(),
+        HEADS_THAT_END_OTHERWISE.as_slice(),
+        PORTS.as_slice(),
+        PORTS_AND_RANGES.as_slice(),
+    ] {
+        assert_eq!(rt; first_wrong(rt.alloc(), &FILE, rows)?, "");
+    }
     Ok(())
 }

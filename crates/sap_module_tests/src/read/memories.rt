@@ -20,12 +20,6 @@ static READS: [(u8, &str); 11] = [
     (5, "wire [3:0] k; assign $k = m[h];"),
 ];
 
-#[test]
-fn reads(rt: HostRuntime) -> Result<(), Fail> {
-    assert_eq!(rt; first_wrong(rt.alloc(), &BEHIND_A_MEMORY, &READS)?, "");
-    Ok(())
-}
-
 static MEMORIES_PLAIN: [(u8, &str); 18] = [
     // a memory plain
     (7, "wire [7:0] k; assign k = $m;"),
@@ -48,15 +42,6 @@ static MEMORIES_PLAIN: [(u8, &str); 18] = [
     (7, "assign $m = a;"),
 ];
 
-#[test]
-fn memories_plain(rt: HostRuntime) -> Result<(), Fail> {
-    assert_eq!(rt;
-        first_wrong(rt.alloc(), &BEHIND_A_MEMORY, &MEMORIES_PLAIN)?,
-        ""
-    );
-    Ok(())
-}
-
 static VALUES_WITH_AN_INDEX: [(u8, &str); 9] = [
     // a value with an index, a target of another kind
     (7, "wire [7:0] k; assign k = $r[j];"),
@@ -69,15 +54,6 @@ static VALUES_WITH_AN_INDEX: [(u8, &str); 9] = [
     (7, "initial for (i = 0; i < 9; i = i + 1) $n[i] = 8'd0;"),
     (7, "initial for (i = 0; i < 9; i = i + 1) $r[i] = 8'd0;"),
 ];
-
-#[test]
-fn values_with_an_index(rt: HostRuntime) -> Result<(), Fail> {
-    assert_eq!(rt;
-        first_wrong(rt.alloc(), &BEHIND_A_MEMORY, &VALUES_WITH_AN_INDEX)?,
-        ""
-    );
-    Ok(())
-}
 
 static SETTINGS: [(u8, &str); 21] = [
     // the settings of a register and a memory
@@ -105,7 +81,14 @@ static SETTINGS: [(u8, &str); 21] = [
 ];
 
 #[test]
-fn settings(rt: HostRuntime) -> Result<(), Fail> {
-    assert_eq!(rt; first_wrong(rt.alloc(), &BEHIND_A_MEMORY, &SETTINGS)?, "");
+fn items_behind_a_memory(rt: HostRuntime) -> Result<(), Fail> {
+    for rows in [
+        READS.as_slice(),
+        MEMORIES_PLAIN.as_slice(),
+        VALUES_WITH_AN_INDEX.as_slice(),
+        SETTINGS.as_slice(),
+    ] {
+        assert_eq!(rt; first_wrong(rt.alloc(), &BEHIND_A_MEMORY, rows)?, "");
+    }
     Ok(())
 }

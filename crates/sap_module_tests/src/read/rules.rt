@@ -48,12 +48,6 @@ static SECOND_TIMES: [(u8, &str); 20] = [
     ),
 ];
 
-#[test]
-fn second_times(rt: HostRuntime) -> Result<(), Fail> {
-    assert_eq!(rt; first_wrong(rt.alloc(), &ITEMS, &SECOND_TIMES)?, "");
-    Ok(())
-}
-
 static UNDECLARED: [(u8, &str); 22] = [
     // used and not declared before
     (4, "wire [7:0] n; assign n = $z;"),
@@ -88,12 +82,6 @@ static UNDECLARED: [(u8, &str); 22] = [
     ),
     (0, "wire [7:0] k; assign k = a; wire [7:0] n; assign n = k;"),
 ];
-
-#[test]
-fn undeclared(rt: HostRuntime) -> Result<(), Fail> {
-    assert_eq!(rt; first_wrong(rt.alloc(), &ITEMS, &UNDECLARED)?, "");
-    Ok(())
-}
 
 static UNASSIGNED: [(u8, &str); 12] = [
     // a wire not assigned before
@@ -139,12 +127,6 @@ static UNASSIGNED: [(u8, &str); 12] = [
     ),
 ];
 
-#[test]
-fn unassigned(rt: HostRuntime) -> Result<(), Fail> {
-    assert_eq!(rt; first_wrong(rt.alloc(), &ITEMS, &UNASSIGNED)?, "");
-    Ok(())
-}
-
 static RANGES_AND_CONSTANTS: [(u8, &str); 23] = [
     // ranges and constants
     (5, "wire [$64:0] n; assign n = w;"),
@@ -181,12 +163,6 @@ static RANGES_AND_CONSTANTS: [(u8, &str); 23] = [
     ),
 ];
 
-#[test]
-fn ranges_and_constants(rt: HostRuntime) -> Result<(), Fail> {
-    assert_eq!(rt; first_wrong(rt.alloc(), &ITEMS, &RANGES_AND_CONSTANTS)?, "");
-    Ok(())
-}
-
 static COPIES_AND_TESTS: [(u8, &str); 22] = [
     // a copy has one width with its target
     (5, "wire [3:0] n; assign $n = a;"),
@@ -214,12 +190,6 @@ static COPIES_AND_TESTS: [(u8, &str); 22] = [
     (5, "wire [7:0] n; assign $n = a <= b;"),
 ];
 
-#[test]
-fn copies_and_tests(rt: HostRuntime) -> Result<(), Fail> {
-    assert_eq!(rt; first_wrong(rt.alloc(), &ITEMS, &COPIES_AND_TESTS)?, "");
-    Ok(())
-}
-
 static OPERANDS: [(u8, &str); 14] = [
     // operands and target have one width
     (0, "wire [7:0] n; assign n = a + b;"),
@@ -238,12 +208,6 @@ static OPERANDS: [(u8, &str); 14] = [
     (5, "wire [7:0] n; assign $n = a & h;"),
 ];
 
-#[test]
-fn operands(rt: HostRuntime) -> Result<(), Fail> {
-    assert_eq!(rt; first_wrong(rt.alloc(), &ITEMS, &OPERANDS)?, "");
-    Ok(())
-}
-
 static OPERANDS_AND_TARGETS: [(u8, &str); 14] = [
     // operands and target have one width
     (5, "wire [7:0] n; assign $n = h & a;"),
@@ -261,12 +225,6 @@ static OPERANDS_AND_TARGETS: [(u8, &str); 14] = [
     (0, "wire [7:0] n; assign n = -a;"),
     (5, "wire [7:0] n; assign $n = -h;"),
 ];
-
-#[test]
-fn operands_and_targets(rt: HostRuntime) -> Result<(), Fail> {
-    assert_eq!(rt; first_wrong(rt.alloc(), &ITEMS, &OPERANDS_AND_TARGETS)?, "");
-    Ok(())
-}
 
 static SHIFTS_CHOICES_AND_PARTS: [(u8, &str); 22] = [
     // the left and the target have one width
@@ -296,15 +254,6 @@ static SHIFTS_CHOICES_AND_PARTS: [(u8, &str); 22] = [
     (7, "assign $a = {h, c};"),
 ];
 
-#[test]
-fn shifts_choices_and_parts(rt: HostRuntime) -> Result<(), Fail> {
-    assert_eq!(rt;
-        first_wrong(rt.alloc(), &ITEMS, &SHIFTS_CHOICES_AND_PARTS)?,
-        ""
-    );
-    Ok(())
-}
-
 static SLICES: [(u8, &str); 11] = [
     // a slice
     (0, "wire [7:0] n; assign n = a[7:0];"),
@@ -319,12 +268,6 @@ static SLICES: [(u8, &str); 11] = [
     (5, "wire [7:0] n; assign n = $a[18446744073709551615:0];"),
     (7, "wire [7:0] n; assign n = $a[j];"),
 ];
-
-#[test]
-fn slices(rt: HostRuntime) -> Result<(), Fail> {
-    assert_eq!(rt; first_wrong(rt.alloc(), &ITEMS, &SLICES)?, "");
-    Ok(())
-}
 
 static BESIDE_OTHER_FAULTS: [(u8, &str); 17] = [
     // widths beside other faults
@@ -349,12 +292,6 @@ static BESIDE_OTHER_FAULTS: [(u8, &str); 17] = [
         "wire [7:0] k; wire [3:0] n; assign n = $k; assign k = a;",
     ),
 ];
-
-#[test]
-fn beside_other_faults(rt: HostRuntime) -> Result<(), Fail> {
-    assert_eq!(rt; first_wrong(rt.alloc(), &ITEMS, &BESIDE_OTHER_FAULTS)?, "");
-    Ok(())
-}
 
 static UNSET: [(u8, &str); 18] = [
     // declared and not set
@@ -405,12 +342,6 @@ static UNSET: [(u8, &str); 18] = [
         "reg [7:0] r; initial r = 8'd0; always @(posedge clk) r <= a; always @(posedge clk) if (c) $r[j] <= a;",
     ),
 ];
-
-#[test]
-fn unset(rt: HostRuntime) -> Result<(), Fail> {
-    assert_eq!(rt; first_wrong(rt.alloc(), &ITEMS, &UNSET)?, "");
-    Ok(())
-}
 
 static DEPTHS_AND_KINDS: [(u8, &str); 15] = [
     // depths
@@ -463,7 +394,22 @@ static DEPTHS_AND_KINDS: [(u8, &str); 15] = [
 ];
 
 #[test]
-fn depths_and_kinds(rt: HostRuntime) -> Result<(), Fail> {
-    assert_eq!(rt; first_wrong(rt.alloc(), &ITEMS, &DEPTHS_AND_KINDS)?, "");
+fn items_by_what_they_declare_set_and_use(rt: HostRuntime) -> Result<(), Fail> {
+    for rows in [
+        SECOND_TIMES.as_slice(),
+        UNDECLARED.as_slice(),
+        UNASSIGNED.as_slice(),
+        RANGES_AND_CONSTANTS.as_slice(),
+        COPIES_AND_TESTS.as_slice(),
+        OPERANDS.as_slice(),
+        OPERANDS_AND_TARGETS.as_slice(),
+        SHIFTS_CHOICES_AND_PARTS.as_slice(),
+        SLICES.as_slice(),
+        BESIDE_OTHER_FAULTS.as_slice(),
+        UNSET.as_slice(),
+        DEPTHS_AND_KINDS.as_slice(),
+    ] {
+        assert_eq!(rt; first_wrong(rt.alloc(), &ITEMS, rows)?, "");
+    }
     Ok(())
 }

@@ -34,12 +34,6 @@ static BAD_BYTES: [(u8, &str); 25] = [
     (2, "wire [7:0] n; // assign n = a;\n assign n $; // a"),
 ];
 
-#[test]
-fn bad_bytes(rt: HostRuntime) -> Result<(), Fail> {
-    assert_eq!(rt; first_wrong(rt.alloc(), &ITEMS, &BAD_BYTES)?, "");
-    Ok(())
-}
-
 static CONSTANTS: [(u8, &str); 14] = [
     // constants and numbers
     (1, "wire [7:0] n; assign n = 08$'d5;"),
@@ -64,12 +58,6 @@ static CONSTANTS: [(u8, &str); 14] = [
     ),
 ];
 
-#[test]
-fn constants(rt: HostRuntime) -> Result<(), Fail> {
-    assert_eq!(rt; first_wrong(rt.alloc(), &ITEMS, &CONSTANTS)?, "");
-    Ok(())
-}
-
 static NUMBERS: [(u8, &str); 14] = [
     // constants and numbers
     (0, "wire [9:0] n; assign n = 10'd1023;"),
@@ -91,12 +79,6 @@ static NUMBERS: [(u8, &str); 14] = [
     (2, "wire [7:0] n; assign n = 8'd1$_0;"),
 ];
 
-#[test]
-fn numbers(rt: HostRuntime) -> Result<(), Fail> {
-    assert_eq!(rt; first_wrong(rt.alloc(), &ITEMS, &NUMBERS)?, "");
-    Ok(())
-}
-
 static NAMES_AND_KEYWORDS: [(u8, &str); 14] = [
     // names and keywords
     (0, "wire [7:0] _; assign _ = a;"),
@@ -114,12 +96,6 @@ static NAMES_AND_KEYWORDS: [(u8, &str); 14] = [
     (2, "wire [7:0] n; assign n = $i;"),
     (2, "wire [7:0] $1n;"),
 ];
-
-#[test]
-fn names_and_keywords(rt: HostRuntime) -> Result<(), Fail> {
-    assert_eq!(rt; first_wrong(rt.alloc(), &ITEMS, &NAMES_AND_KEYWORDS)?, "");
-    Ok(())
-}
 
 static FIRST_OF_TWO: [(u8, &str); 14] = [
     // the first of two faults: V1, then V2, then by place
@@ -139,12 +115,6 @@ static FIRST_OF_TWO: [(u8, &str); 14] = [
     (3, "wire [7:0] $a; wire [7:0] n; assign n = z;"),
 ];
 
-#[test]
-fn first_of_two(rt: HostRuntime) -> Result<(), Fail> {
-    assert_eq!(rt; first_wrong(rt.alloc(), &ITEMS, &FIRST_OF_TWO)?, "");
-    Ok(())
-}
-
 static WHOLE_ITEMS: [(u8, &str); 13] = [
     // items
     (2, "$;"),
@@ -162,12 +132,6 @@ static WHOLE_ITEMS: [(u8, &str); 13] = [
     (2, "reg $r;"),
 ];
 
-#[test]
-fn whole_items(rt: HostRuntime) -> Result<(), Fail> {
-    assert_eq!(rt; first_wrong(rt.alloc(), &ITEMS, &WHOLE_ITEMS)?, "");
-    Ok(())
-}
-
 static ITEMS_CUT: [(u8, &str); 13] = [
     // items
     (2, "reg [7:0] r $= 8'd0;"),
@@ -184,12 +148,6 @@ static ITEMS_CUT: [(u8, &str); 13] = [
     (3, "integer i; $integer i;"),
     (3, "integer i; wire [7:0] n; $integer i; assign n = a;"),
 ];
-
-#[test]
-fn items_cut(rt: HostRuntime) -> Result<(), Fail> {
-    assert_eq!(rt; first_wrong(rt.alloc(), &ITEMS, &ITEMS_CUT)?, "");
-    Ok(())
-}
 
 static ASSIGNS: [(u8, &str); 23] = [
     // `assign`
@@ -218,12 +176,6 @@ static ASSIGNS: [(u8, &str); 23] = [
     (2, "wire [7:0] n; assign n = c ? a$;"),
 ];
 
-#[test]
-fn assigns(rt: HostRuntime) -> Result<(), Fail> {
-    assert_eq!(rt; first_wrong(rt.alloc(), &ITEMS, &ASSIGNS)?, "");
-    Ok(())
-}
-
 static ASSIGNS_CUT: [(u8, &str); 22] = [
     // `assign`
     (2, "wire [7:0] n; assign n = c ? a : $;"),
@@ -250,12 +202,6 @@ static ASSIGNS_CUT: [(u8, &str); 22] = [
     (2, "wire [7:0] n; assign n = ~a$[7:0];"),
 ];
 
-#[test]
-fn assigns_cut(rt: HostRuntime) -> Result<(), Fail> {
-    assert_eq!(rt; first_wrong(rt.alloc(), &ITEMS, &ASSIGNS_CUT)?, "");
-    Ok(())
-}
-
 static INITIALS: [(u8, &str); 20] = [
     // `initial` and `always`
     (2, "initial $8'd0;"),
@@ -280,12 +226,6 @@ static INITIALS: [(u8, &str); 20] = [
     (2, "initial for (i = 0; i < $3'd4;"),
 ];
 
-#[test]
-fn initials(rt: HostRuntime) -> Result<(), Fail> {
-    assert_eq!(rt; first_wrong(rt.alloc(), &ITEMS, &INITIALS)?, "");
-    Ok(())
-}
-
 static LOOPS: [(u8, &str); 20] = [
     // `initial` and `always`
     (2, "initial for (i = 0; i < 4; i $+"),
@@ -309,12 +249,6 @@ static LOOPS: [(u8, &str); 20] = [
     (2, "always @(posedge $c)"),
     (2, "always @(posedge clk $or c)"),
 ];
-
-#[test]
-fn loops(rt: HostRuntime) -> Result<(), Fail> {
-    assert_eq!(rt; first_wrong(rt.alloc(), &ITEMS, &LOOPS)?, "");
-    Ok(())
-}
 
 static STEPS: [(u8, &str); 20] = [
     // `initial` and `always`
@@ -341,7 +275,22 @@ static STEPS: [(u8, &str); 20] = [
 ];
 
 #[test]
-fn steps(rt: HostRuntime) -> Result<(), Fail> {
-    assert_eq!(rt; first_wrong(rt.alloc(), &ITEMS, &STEPS)?, "");
+fn items_by_their_tokens(rt: HostRuntime) -> Result<(), Fail> {
+    for rows in [
+        BAD_BYTES.as_slice(),
+        CONSTANTS.as_slice(),
+        NUMBERS.as_slice(),
+        NAMES_AND_KEYWORDS.as_slice(),
+        FIRST_OF_TWO.as_slice(),
+        WHOLE_ITEMS.as_slice(),
+        ITEMS_CUT.as_slice(),
+        ASSIGNS.as_slice(),
+        ASSIGNS_CUT.as_slice(),
+        INITIALS.as_slice(),
+        LOOPS.as_slice(),
+        STEPS.as_slice(),
+    ] {
+        assert_eq!(rt; first_wrong(rt.alloc(), &ITEMS, rows)?, "");
+    }
     Ok(())
 }

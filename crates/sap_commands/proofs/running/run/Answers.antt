@@ -1,13 +1,27 @@
-use Rattle.std.proofs.Common.{refl, ap}
+use Rattle.std.proofs.Common.{◌≡◌, List, sym, ◌∙◌, ap, subst}
 use Rattle.std.proofs.lemmas.Result.{err_from_is_err_and}
-use Rattle.sap_compile.specs.Parts.{design_of, levels_of, module_of, netlist_of}
+use Rattle.sap_lattice.specs.Levels.{Levels}
+use Rattle.sap_tree.specs.Syntax.{DesignTree}
+use Rattle.sap_tree.specs.Designs.{design_of as tree_of}
+use Rattle.sap_check.specs.Checked.{levels_in, tree_in}
+use Rattle.sap_net.specs.Net.{Net}
+use Rattle.sap_interface.specs.Designs.{StandsForDesign}
+use Rattle.sap_stim.specs.declared.field.Field.{Field}
+use Rattle.sap_stim.specs.declared.stimulus.Parsed.{Parsed}
+use Rattle.sap_stim.specs.Stimulus.{stimulus_of}
+use Rattle.sap_sim.specs.Fields.{fields_of}
+use Rattle.sap_sim.specs.Simulated.{read_for as module_stimulus}
+use Rattle.sap_run.specs.Fields.{design_fields}
+use Rattle.sap_run.specs.RunOf.{GivesRuns, read_for as design_stimulus}
+use Rattle.sap_compile.specs.Parts.{design_of, levels_of, netlist_of}
+use Rattle.sap_commands.specs.Commands.{AreDesignRows, AreModuleRows}
 use Rattle.sap_commands.specs.Steps.{ending, whole}
-use Rattle.sap_commands.proofs.Designs.{compiled_same}
-use Rattle.sap_commands.specs.Commands.{end_of}
+use Rattle.sap_commands.proofs.Alike.{read_in, run_in}
 use Rattle.sap_commands.proofs.CompiledDesigns.{compiled_past}
-use Rattle.sap_commands.proofs.Ended.{gave, not_given, past, quiet_self, starved, stopped}
-use Rattle.sap_commands.proofs.Alike.{run_in}
+use Rattle.sap_commands.proofs.Designs.{compiled_same}
+use Rattle.sap_commands.proofs.Ended.{not_given, past, stopped}
 use Rattle.sap_commands.proofs.Fronts.{compiled_whole, refused_design}
+use Rattle.sap_commands.proofs.PrintedEnds.{printed_same}
 use Rattle.sap_commands.proofs.running.run.Goals as goal
 
 pub returns-in_err-bytes : goal.returns-in_err-bytes
@@ -31,27 +45,32 @@ returns-in_err-compiled g c =
     rw (p.1, p.2) (past (whole c.in_ok-_levels._levels) c.in_ok-bytes.ensures c.in_ok-_levels.ensures
     (not_given (ending c.in_err-compiled.field-0.0) c.in_ok-source.ensures.1 (refused_design _ c.in_ok-source.ensures.2 (c.in_err-compiled.ensures (whole c.in_ok-_levels._levels) c.in_ok-_levels.ensures))))
 
-pub returns-in_err-lines : goal.returns-in_err-lines
-returns-in_err-lines g c =
-    let p = err_from_is_err_and c.from_residual-in_err-lines.result c.from_residual-in_err-lines.ensures.1 in
-    rw (p.1, p.2) (past (whole c.in_ok-_levels._levels) c.in_ok-bytes.ensures c.in_ok-_levels.ensures
-    (compiled_past c.in_ok-_levels.ensures c.in_ok-source.ensures.1 (compiled_whole c.in_ok-source.ensures.2 c.in_ok-compiled.ensures)
-    (stopped c.in_err-lines.ensures)))
-
-pub returns-in_err-rows : goal.returns-in_err-rows
-returns-in_err-rows g c =
-    let p = err_from_is_err_and c.from_residual-in_err-rows.result c.from_residual-in_err-rows.ensures.1 in
-    rw (p.1, p.2) (past (whole c.in_ok-_levels._levels) c.in_ok-bytes.ensures c.in_ok-_levels.ensures
-    (compiled_past c.in_ok-_levels.ensures c.in_ok-source.ensures.1 (compiled_whole c.in_ok-source.ensures.2 c.in_ok-compiled.ensures)
-    (past c.in_ok-lines.lines c.in_ok-lines.ensures refl (starved _ (quiet_self _)))))
+pub rows_of_run-requires : goal.rows_of_run-requires
+rows_of_run-requires g c =
+    let m = c.in_ok-compiled.compiled in
+    let n : Net = c.into_parts-checked.result.1 in
+    let levels : c.lattice.result.now ≡ levels_of m = c.lattice.ensures ∙ ap levels_in c.into_parts-checked.ensures.checked in
+    let tree : tree_of c.design.result.now ≡ design_of m = ap tree_of c.design.ensures ∙ ap tree_in c.into_parts-checked.ensures.checked in
+    record {
+      stands =
+          subst (λ (ls : Levels). StandsForDesign ls (tree_of c.design.result.now) n) (sym levels)
+          (subst (λ (d : DesignTree). StandsForDesign (levels_of m) d n) (sym tree)
+          (subst (λ (x : Net). StandsForDesign (levels_of m) (design_of m) x) (sym c.into_parts-checked.ensures.netlist) c.in_ok-compiled.ensures.is_module.stands));
+    }
 
 pub returns : goal.returns
 returns g c =
     let m = c.in_ok-compiled.compiled in
+    let k = levels_of m in
+    let d = design_of m in
+    let n = netlist_of m in
     let ls = whole c.in_ok-_levels._levels in
     let same = compiled_same c.in_ok-bytes.bytes c.in_ok-source.source m ls c.in_ok-compiled.ensures c.in_ok-_levels.ensures in
-    let is = run_in (levels_of m) ls same (design_of m) c.in_ok-lines.lines c.in_ok-rows.rows c.in_ok-rows.ensures in
-    past (whole c.in_ok-_levels._levels) c.in_ok-bytes.ensures c.in_ok-_levels.ensures
+    let runs : GivesRuns k d n = rw (c.lattice.ensures, c.design.ensures, c.into_parts-checked.ensures.checked, c.into_parts-checked.ensures.netlist) at c.rows_of_run.ensures.runs in
+    let fields : fields_of k n ≡ design_fields k d = rw (c.lattice.ensures, c.design.ensures, c.into_parts-checked.ensures.checked, c.into_parts-checked.ensures.netlist) at c.rows_of_run.ensures.fields in
+    let printed = rw (c.lattice-2.ensures, c.into_parts-checked.ensures.checked, c.into_parts-checked.ensures.netlist) at c.print_rows.ensures in
+    past ls c.in_ok-bytes.ensures c.in_ok-_levels.ensures
     (compiled_past c.in_ok-_levels.ensures c.in_ok-source.ensures.1 (compiled_whole c.in_ok-source.ensures.2 c.in_ok-compiled.ensures)
-    (past c.in_ok-lines.lines c.in_ok-lines.ensures refl
-    (gave c.in_ok-rows.rows.text (end_of c.in_ok-rows.rows.fault) (c.in_ok-rows.rows.fault, is) (ap end_of is.fault) c.put.ensures)))
+    (printed_same c.args.stimulus.now (AreModuleRows k n) (AreDesignRows ls d) (λ bytes. (module_stimulus k n bytes).fault) (λ bytes. (design_stimulus ls d bytes).fault)
+    (λ bytes given rows. (rows.0, run_in k ls same d bytes _ (runs bytes _ rows.1)))
+    (λ bytes. ap (λ (fs : List Field). (stimulus_of k fs bytes).fault) fields ∙ ap (λ (p : Parsed). p.fault) (read_in k ls same d bytes)) _ _ _ printed))

@@ -1,8 +1,8 @@
 use Rattle.std.proofs.Common.{◌≡◌, ◌∙◌, sym, ap, refl, arith}
 use Rattle.sap_tree.specs.Trees.{command_of}
-use Rattle.sap_tree.proofs.Views.{command_of-if, command_of-try}
+use Rattle.sap_tree.proofs.Views.{command_of-if, command_of-try, command_of-try_then, command_of-case}
 use Rattle.sap_hang.specs.Columns.{home_of}
-use Rattle.sap_hang.proofs.Columns.{column_end, column_step, if_filled, touched_end, touched_step, try_filled}
+use Rattle.sap_hang.proofs.Columns.{arm_touched, arms_end, arms_step, arms_touched, case_filled, column_end, column_step, if_filled, then_filled, touched_end, touched_step, try_filled}
 use Rattle.sap_hang.proofs.column.+body.Goals as goal
 
 pub add_command-returns-in_ok-handled-in-Try-clause-column : goal.add_command-returns-in_ok-handled-in-Try-clause-column
@@ -33,3 +33,33 @@ add_list-returns-clause-touched t c =
 pub add_list-returns-clause-column : goal.add_list-returns-clause-column
 add_list-returns-clause-column t c =
     column_end c.args.seat.now.declarations.now (home_of c.args.seat.now) c.args.seat.now.entity.now c.args.commands.now c.loop-command.command-index _ _ (omega arith) c.loop-command.invariant.1
+
+pub add_command-returns-in_ok-left-in-TryThen-clause-column : goal.add_command-returns-in_ok-left-in-TryThen-clause-column
+add_command-returns-in_ok-left-in-TryThen-clause-column t c =
+    then_filled c.args.seat.now.declarations.now (home_of c.args.seat.now) c.args.seat.now.entity.now _ _ _ c.in-TryThen.accepted c.in-TryThen.refused _ _ _ _ _ _ _ _ _ _ _
+    (ap command_of c.in-TryThen.is ∙ command_of-try_then _ _ _ _) c.as_slice-in-TryThen.ensures.value c.as_slice-in-TryThen-2.ensures.value c.in_ok-own-in-TryThen.ensures.column
+    (omega (arith, c.len-at-in-TryThen.ensures, c.add_simple-in-TryThen.new.column.ok.0)) c.in_ok-push-in-TryThen.ensures.items c.in_ok-taken-in-TryThen.ensures.column c.in_ok-left-in-TryThen.ensures.column
+    c.in_ok-own-in-TryThen.ensures.touched c.in_ok-taken-in-TryThen.ensures.touched c.in_ok-left-in-TryThen.ensures.touched
+
+pub add_command-returns-in_ok-left-in-Case-clause-column : goal.add_command-returns-in_ok-left-in-Case-clause-column
+add_command-returns-in_ok-left-in-Case-clause-column t c =
+    case_filled c.args.seat.now.declarations.now (home_of c.args.seat.now) c.args.seat.now.entity.now _ _ _ c.in-Case.arms.items c.in-Case.last _ _ _ _ _ _ _ _ _
+    (ap command_of c.in-Case.is ∙ command_of-case _ _ _ _) c.as_slice-in-Case.ensures.value c.as_slice-in-Case-2.ensures.value (omega (arith, c.len-at-in-Case.ensures, c.args.column.now.ok.0))
+    c.in_ok-push-in-Case.ensures.items c.in_ok-taken-in-Case.ensures.column c.in_ok-left-in-Case.ensures.column c.in_ok-taken-in-Case.ensures.touched c.in_ok-left-in-Case.ensures.touched
+
+pub add_arms-loop-arm-preserved : goal.add_arms-loop-arm-preserved
+add_arms-loop-arm-preserved t c = (
+  arm_touched c.args.seat.now.declarations.now (home_of c.args.seat.now) c.args.seat.now.entity.now c.args.arms.now c.loop-arm.arm-index c.arm-item.result _ _ _ _ _ (omega arith) c.arm-item.is
+      c.as_slice.ensures.value c.in_ok-here.ensures.touched refl c.loop-arm.invariant.0,
+  arms_step c.args.seat.now.declarations.now (home_of c.args.seat.now) c.args.seat.now.entity.now c.args.arms.now c.loop-arm.arm-index c.arm-item.result _ _ _ (omega arith) c.arm-item.is
+      c.as_slice.ensures.value c.in_ok-here.ensures.column
+      ∙ c.loop-arm.invariant.1,
+)
+
+pub add_arms-returns-clause-touched : goal.add_arms-returns-clause-touched
+add_arms-returns-clause-touched t c =
+    arms_touched c.args.seat.now.declarations.now (home_of c.args.seat.now) c.args.seat.now.entity.now c.args.arms.now c.loop-arm.arm-index _ _ (omega arith) c.loop-arm.invariant.0
+
+pub add_arms-returns-clause-column : goal.add_arms-returns-clause-column
+add_arms-returns-clause-column t c =
+    arms_end c.args.seat.now.declarations.now (home_of c.args.seat.now) c.args.seat.now.entity.now c.args.arms.now c.loop-arm.arm-index _ _ (omega arith) c.loop-arm.invariant.1

@@ -1,4 +1,5 @@
 use Rattle.std.proofs.Common.{◌≡◌, ◌∙◌, ◌+◌, ◌++◌, ◌∷◌, [], List, sym, ap, subst, refl, rules, arith}
+use Rattle.std.proofs.lemmas.Result.{IfOk-weaker}
 use Rattle.sap_parse.specs.Grammar as g
 use Rattle.sap_parse.specs.Joining.{join_commands}
 use Rattle.sap_parse.specs.Reading.{steps_by, strictly}
@@ -6,11 +7,12 @@ use Rattle.sap_parse.specs.Table as s
 use Rattle.sap_parse.specs.declared.limit.Role.TheVariants as r
 use Rattle.sap_parse.specs.declared.token.Sign.TheVariants as j
 use Rattle.sap_tree.specs.Syntax as t
-use Rattle.sap_tree.specs.Trees.{command_of, commands_of, expression_of, simple_of}
+use Rattle.sap_tree.specs.Trees.{arm_block_of, arms_before, arms_of, block_of, command_of, commands_of, constants_of, expression_of, simple_of}
+use Rattle.sap_tree.specs.declared.syntax.Arm.{Arm}
 use Rattle.sap_tree.specs.declared.syntax.Expr.{Expr}
 use Rattle.sap_tree.specs.declared.syntax.Simple.{Simple}
-use Rattle.sap_parse.proofs.CommandLaws.{cmd_simple, cmds_missing, cmds_there, ending_unhandled}
-use Rattle.sap_parse.proofs.CommandMakes.{block_tree, branch_tree, handled_tree, join_commands_none, join_commands_push, plain_tree}
+use Rattle.sap_parse.proofs.CommandLaws.{arms_last, arms_there, cmd_simple, cmds_missing, cmds_there, ending_unhandled}
+use Rattle.sap_parse.proofs.CommandMakes.{arm_tree, arms_before_push, block_tree, branch_tree, case_tree, decided_tree, handled_tree, join_commands_none, join_commands_push, plain_tree}
 use Rattle.sap_parse.proofs.Faults.{fault_goes}
 use Rattle.sap_walk.specs.Walk.{◌>>=◌}
 use Rattle.sap_walk.proofs.Walking.{bind_ok, bind_pure}
@@ -37,16 +39,16 @@ commands-returns-clause-tree m c =
 pub command-returns-in_err-sign-clause-goes : goal.command-returns-in_err-sign-clause-goes
 command-returns-in_err-sign-clause-goes m c =
     fault_goes (s.Cmd c.args.depth) (s.Sign r.Plain j.Semicolon) c.args.tokens.now c.simple.new.tokens c.sign.new.self (steps_by strictly []) c.in_err-sign.field-0.0 c.from_residual-in_err-sign.result (search rules)
-    (cmd_simple strictly c.args.depth c.args.tokens.now (c.if-at_word.ensures.no refl) ∙ bind_ok _ _ _ c.in_ok-read.ensures.goes ∙ ap (λ o. o >>= steps_by strictly []) (ending_unhandled strictly c.args.depth c.simple.new.tokens (c.if-not-at_word.ensures.no refl)))
+    (cmd_simple strictly c.args.depth c.args.tokens.now (c.if-at_word.ensures.no refl) (c.if-at_word-2.ensures.no refl) ∙ bind_ok _ _ _ c.in_ok-read.ensures.goes ∙ ap (λ o. o >>= steps_by strictly []) (ending_unhandled strictly c.args.depth c.simple.new.tokens (c.if-at_word-3.ensures.no refl) (c.if-not-at_word.ensures.no refl)))
     c.in_err-sign.ensures.goes
 
 pub command-returns-then-not-at_word-clause-tree : goal.command-returns-then-not-at_word-clause-tree
 command-returns-then-not-at_word-clause-tree m c =
-    plain_tree c.in_ok-read.ensures.tree c.in_ok-sign.ensures.tree (ap (λ (x : Simple). simple_of x) (c.into_inner.ensures ∙ c.in_ok-first.ensures.ok)) c.plain.ensures
+    plain_tree c.in_ok-read.ensures.tree c.in_ok-sign.ensures.tree (ap (λ (x : Simple). simple_of x) (c.into_inner-then-not-at_word.ensures ∙ c.in_ok-first.ensures.ok)) c.plain.ensures
 
 pub command-returns-clause-tree : goal.command-returns-clause-tree
 command-returns-clause-tree m c =
-    handled_tree c.in_ok-read.ensures.tree c.in_ok-place.ensures.tree c.in_ok-handler.ensures.tree c.in_ok-place.ensures.place
+    handled_tree c.in_ok-read.ensures.tree c.in_ok-place-2.ensures.tree c.in_ok-handler.ensures.tree c.in_ok-place-2.ensures.place
     (ap (λ (x : Simple). simple_of x) (c.into_inner-2.ensures ∙ c.in_ok-first.ensures.ok)) c.handled.ensures
 
 pub branch-returns-clause-tree : goal.branch-returns-clause-tree
@@ -62,3 +64,30 @@ otherwise-returns-clause-tree m c = g.else c.in_ok-word.ensures.tree c.in_ok-oth
 
 pub block-returns-clause-tree : goal.block-returns-clause-tree
 block-returns-clause-tree m c = block_tree c.in_ok-sign.ensures.tree c.in_ok-commands.ensures.tree c.in_ok-after.ensures.tree c.in_ok-after.ensures.place
+
+pub command-returns-then-at_word-3-clause-tree : goal.command-returns-then-at_word-3-clause-tree
+command-returns-then-at_word-3-clause-tree m c =
+    decided_tree c.in_ok-read.ensures.tree c.in_ok-place.ensures.tree c.in_ok-accepted.ensures.tree c.in_ok-word.ensures.tree c.in_ok-refused.ensures.tree c.in_ok-place.ensures.place
+    (ap (λ (x : Simple). simple_of x) (c.into_inner.ensures ∙ c.in_ok-first.ensures.ok)) c.decided.ensures
+
+pub case-returns-clause-tree : goal.case-returns-clause-tree
+case-returns-clause-tree m c =
+    case_tree _ _ c.in_ok-place.ensures.tree c.in_ok-sign.ensures.tree c.in_ok-read.ensures.tree c.in_ok-sign-2.ensures.tree c.in_ok-sign-3.ensures.tree c.in_ok-first.ensures.tree
+    (c.in_ok-push.ensures.items ∙ ap (λ (v : List Arm). v ++ c.in_ok-first.first ∷ []) c.new-arms.ensures.items) c.in_ok-last.ensures.tree c.in_ok-sign-4.ensures.tree c.in_ok-place.ensures.place (ap (λ (x : Expr). expression_of x) (c.into_inner.ensures ∙ c.in_ok-number.ensures.ok)) c.case.ensures
+
+pub arm-returns-clause-tree : goal.arm-returns-clause-tree
+arm-returns-clause-tree m c =
+    arm_tree _ c.in_ok-first.ensures.tree (c.in_ok-push.ensures.items ∙ ap (λ (v : List Expr). v ++ c.in_ok-first.first ∷ []) c.new-constants.ensures.items) c.in_ok-more_constants.ensures.tree c.in_ok-sign.ensures.tree c.in_ok-block.ensures.tree
+
+pub more_arms-arms-preserved : goal.more_arms-arms-preserved
+more_arms-arms-preserved m c = record {
+  goes = c.arms.invariant.goes ∙ arms_there strictly c.args.depth c.arms.tokens (sym c.arms-test.ensures) ∙ bind_ok _ _ _ c.in_ok-next.ensures.goes ∙ bind_pure _;
+  tree = λ ys q rest.
+      let r = c.arms.invariant.tree (t.Arm (constants_of c.in_ok-next.next) (arm_block_of c.in_ok-next.next) ys) q (g.and_arm c.in_ok-next.ensures.tree rest) in
+      (r.0, ap (λ items. arms_before items ys) c.in_ok-push.ensures.items ∙ arms_before_push _ _ ys ∙ r.1, r.2);
+  no_longer = omega (arith, c.in_ok-next.ensures.shorter);
+}
+
+pub more_arms-returns-clause-tree : goal.more_arms-returns-clause-tree
+more_arms-returns-clause-tree m c =
+    IfOk-weaker c.block.result _ _ (λ last h. c.arms.invariant.tree (t.Last (block_of last)) c.block.new.tokens (g.last c.in_ok-word.ensures.tree h)) c.block.ensures.tree

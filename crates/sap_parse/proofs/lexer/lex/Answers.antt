@@ -1,12 +1,13 @@
-use Rattle.std.proofs.Common.{◌-◌, ◌∙◌, ◌+◌, sym, ap, subst, refl, arith, length-drop, length-take, length, take, drop}
+use Rattle.std.proofs.Common.{◌≡◌, ◌-◌, ◌∙◌, ◌+◌, sym, ap, subst, refl, arith, length-drop, length-take, length, take, drop}
 use Rattle.sap_walk.specs.Reached.{start, blank, token}
 use Rattle.sap_parse.specs.Lexemes.{lexeme_of}
-use Rattle.sap_parse.specs.Lexing.{Reached, IsWithin, place_of}
+use Rattle.sap_parse.specs.Lexing.{AreTokens, Reached, IsWithin, place_of, version_of}
+use Rattle.sap_parse.specs.declared.token.Token.{Token}
 use Rattle.sap_parse.proofs.Places.{advanced}
 use Rattle.std.specs.List.{All}
 use Rattle.sap_parse.specs.Spelled.{AreInOrder, HasText}
 use Rattle.sap_parse.proofs.Runs.{rest_from}
-use Rattle.sap_parse.proofs.TokenTexts.{texts_are, in_order}
+use Rattle.sap_parse.proofs.TokenTexts.{texts_are, in_order, spanned, tokens_order}
 use Rattle.sap_parse.proofs.lexer.lex.Goals as goal
 
 pub lexemes-init : goal.lexemes-init
@@ -49,9 +50,17 @@ lexemes-preserved c =
       bound = omega (arith, length-take c.in-Token.len (take (length c.args.text.now - c.lexemes.n) (drop c.lexemes.n c.args.text.now)));
     }
 
+pub key-requires : goal.key-requires
+key-requires c =
+    spanned 0 (length c.args.text.now) c.lexemes.tokens.items (in_order c.args.text.now c.lexemes.n c.lexemes.tokens.items c.lexemes.invariant.reached c.lexemes.invariant.within)
+
+pub returns-clause-ok : goal.returns-clause-ok
+returns-clause-ok c =
+    let whole : c.lexemes.n ≡ length c.args.text.now = (let within = c.lexemes.invariant.within in omega (arith, within)) in
+    record { found = c.lexemes.tokens.items; reached = subst (λ n. Reached c.args.text.now n c.lexemes.tokens.items) whole c.lexemes.invariant.reached; keyed_are = c.new.ensures ∙ c.key.ensures }
+
 pub returns-clause-texts : goal.returns-clause-texts
-returns-clause-texts c = subst (All (HasText c.args.text.now)) (sym c.new.ensures) (texts_are c.args.text.now c.lexemes.invariant.reached)
+returns-clause-texts c = texts_are c.args.text.now _ (returns-clause-ok c)
 
 pub returns-clause-order : goal.returns-clause-order
-returns-clause-order c =
-    subst (AreInOrder 0 (length c.args.text.now)) (sym c.new.ensures) (in_order c.args.text.now c.lexemes.n c.lexemes.tokens.items c.lexemes.invariant.reached c.lexemes.invariant.within)
+returns-clause-order c = tokens_order c.args.text.now _ (returns-clause-ok c)

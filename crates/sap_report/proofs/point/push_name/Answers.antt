@@ -9,7 +9,7 @@ pub returns-in_ok-name-clause-name : goal.returns-in_ok-name-clause-name
 returns-in_ok-name-clause-name c =
     name_hung (tree_in c.args.checked.now) c.args.point c.args.entity _ c.args.out.now.items _ _
     (says_so (tree_in c.args.checked.now) c.args.table.now c.args.point c.args.entity _ c.requires.table c.hangs-hung.ensures) c.if-hung.true c.in_ok-extend_from_slice.ensures.items
-    c.in_ok-name.ensures
+    c.in_ok-name.ensures.text
 
 pub returns-else-hung-clause-hangs : goal.returns-else-hung-clause-hangs
 returns-else-hung-clause-hangs c = says_so (tree_in c.args.checked.now) c.args.table.now c.args.point c.args.entity _ c.requires.table c.hangs-hung.ensures

@@ -2,7 +2,7 @@ use Rattle.std.proofs.Common.{◌≡◌, ◌+◌, drop}
 use Rattle.sap_sem.specs.Code.{store_in, world_in}
 use Rattle.sap_sem.specs.Kept.{Ready}
 use Rattle.sap_sem.specs.Runs.{marked, block_run}
-use Rattle.sap_sem.proofs.Weights.{commands_weight, command_weight, states_weight, state_weight}
+use Rattle.sap_sem.proofs.Weights.{commands_weight, command_weight, arms_weight, states_weight, state_weight}
 use Rattle.sap_sem.proofs.run.+run.Given as goal
 
 abbrev pub invariant-commands-loop-one : goal.invariant-commands-loop-one
@@ -19,7 +19,13 @@ abbrev pub decreases-command : goal.decreases-command
 decreases-command l = states_weight l.at.now.children.now + command_weight l.one.now
 
 abbrev pub decreases-attempt : goal.decreases-attempt
-decreases-attempt l = states_weight l.at.now.children.now + commands_weight l.handler.now + 1
+decreases-attempt l = states_weight l.at.now.children.now + commands_weight l.accepted.now + commands_weight l.refused.now + 2
+
+abbrev pub decreases-take : goal.decreases-take
+decreases-take l = states_weight l.at.now.children.now + 1
+
+abbrev pub decreases-choose : goal.decreases-choose
+decreases-choose l = states_weight l.at.now.children.now + arms_weight l.arms.now l.last.now + 1
 
 abbrev pub decreases-select : goal.decreases-select
 decreases-select l = states_weight l.at.now.children.now + commands_weight l.yes.now + commands_weight l.no.now + 1

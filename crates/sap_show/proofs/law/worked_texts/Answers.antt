@@ -11,3 +11,7 @@ returns-clause-adder c = refl
 pub returns-clause-nested : goal.returns-clause-nested
 unfolding digits canonical_text declaration_text head_text state_text command_text simple_text cell_text tag_text expression_text operand_text precedence_of
 returns-clause-nested c = refl
+
+pub returns-clause-second : goal.returns-clause-second
+unfolding digits canonical_text declaration_text head_text state_text command_text simple_text cell_text tag_text expression_text operand_text precedence_of
+returns-clause-second c = refl

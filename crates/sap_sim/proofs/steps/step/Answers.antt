@@ -60,6 +60,6 @@ returns-clause-row c = λ before v shows cycle.
     ∙ seen_values n m v value_name plan.shown.names.items xs plan.shown.values.items c.deref-3.result.now c.step.ensures.netlist c.deref-3.ensures.value c.requires.plan.names c.requires.plan.values in
     let tags = c.deref-7.ensures.value ∙ c.in_ok-tags.ensures.seen _ after
     ∙ seen_values n m v tag_name plan.shown.names.items xs plan.shown.tags.items c.deref-4.result.now c.step.ensures.netlist c.deref-4.ensures.value c.requires.plan.names c.requires.plan.tags in
-    c.in_ok-push_row.ensures
+    c.in_ok-push_row.ensures.text
     ∙ ap (λ (text : List ℕ). c.args.out.now.items ++ text)
     (row_is ls c.args.cycle (observed n v) xs c.deref-5.result.now c.deref-6.result.now c.deref-7.result.now (c.deref-5.ensures.value ∙ c.requires.plan.names) values tags)

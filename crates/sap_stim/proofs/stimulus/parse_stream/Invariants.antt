@@ -1,6 +1,5 @@
 use Rattle.std.proofs.Common.{◌≡◌, ◌≤◌, ◌+◌, length}
-use Rattle.sap_stim.specs.Stimulus.{stimulus_of}
-use Rattle.sap_stim.proofs.Lines.{read_from, behind}
+use Rattle.sap_stim.specs.Stimulus.{stimulus_of, read_from, behind}
 use Rattle.sap_stim.proofs.stimulus.parse_stream.Given as goal
 
 abbrev pub invariant-loop-fields : goal.invariant-loop-fields

@@ -1,6 +1,6 @@
-use Rattle.std.proofs.Common.{◌≡◌, ◌+◌, ◌*◌, drop}
+use Rattle.std.proofs.Common.{◌≡◌, ◌+◌, ◌*◌, ◌++◌, map, drop}
 use Rattle.sap_plain.specs.Views.{body_of, follow}
-use Rattle.sap_tags.specs.Built.{command_wires, commands_body, commands_wires}
+use Rattle.sap_tags.specs.Built.{arm_bodies, arm_wires, command_wires, commands_body, commands_wires}
 use Rattle.sap_tags.proofs.commands.+body.Given as goal
 
 abbrev pub decreases-command : goal.decreases-command
@@ -8,6 +8,15 @@ decreases-command l = 2 * command_wires l.command.now
 
 abbrev pub decreases-commands : goal.decreases-commands
 decreases-commands l = 2 * commands_wires l.commands.now + 1
+
+abbrev pub decreases-add_arms : goal.decreases-add_arms
+decreases-add_arms l = 2 * arm_wires l.arms.now + 2
+
+abbrev pub invariant-add_arms-loop-arm : goal.invariant-add_arms-loop-arm
+invariant-add_arms-loop-arm l = record {
+  blocks : map (λ b. body_of b.items) l.blocks.items ++ arm_bodies l.setting l.at l.p l.next (drop l.arm-index l.arms) ≡ map (λ b. body_of b.items) l.initial.blocks.items ++ arm_bodies l.setting l.at l.p l.initial.next l.arms;
+  wires : l.next + arm_wires (drop l.arm-index l.arms) ≡ l.initial.next + arm_wires l.arms;
+}
 
 abbrev pub invariant-commands-loop-one : goal.invariant-commands-loop-one
 invariant-commands-loop-one l = record {

@@ -5,7 +5,7 @@ use Rattle.sap_plain.specs.Writes.{PlainWritesOnce}
 use Rattle.sap_size.specs.Items.{most_items}
 use Rattle.sap_size.specs.Nested.{nested_weight}
 use Rattle.sap_tagged.specs.Law.{PlainStandsForDesign}
-use Rattle.sap_tags.proofs.Found.{few_found, narrow_found, plain_found, ranged_found}
+use Rattle.sap_tags.proofs.Found.{arms_found, few_found, narrow_found, plain_found, ranged_found}
 use Rattle.sap_tags.proofs.insert.insert.Goals as goal
 
 pub invariant_of-setting : goal.invariant_of-setting
@@ -20,6 +20,9 @@ parts-requires-clause-ranged c =
 pub parts-requires-clause-few : goal.parts-requires-clause-few
 parts-requires-clause-few c =
     few_found c.lattice.result.now (levels_in c.args.checked.now) (tree_in c.args.checked.now) c.args.program.now c.lattice.ensures c.requires c.is_sound.ensures
+
+pub parts-requires-clause-arms : goal.parts-requires-clause-arms
+parts-requires-clause-arms c = arms_found (levels_in c.args.checked.now) (tree_in c.args.checked.now) c.args.program.now c.requires c.is_sound.ensures
 
 pub new-requires : goal.new-requires
 new-requires c =

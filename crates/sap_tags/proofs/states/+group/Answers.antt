@@ -2,13 +2,13 @@ use Rattle.std.proofs.Common.{◌∙◌, refl, ap, sym, subst, arith}
 use Rattle.sap_plain.specs.Nested.{stop}
 use Rattle.sap_plain.specs.Views.{body_of, forest_of}
 use Rattle.sap_program.specs.declared.program.State.{out-State}
-use Rattle.sap_tags.specs.Built.{StateRanged, state_wires}
+use Rattle.sap_tags.specs.Built.{StateFew, StateRanged, state_wires}
 use Rattle.sap_terms.specs.Code.{setting_in}
 use Rattle.sap_tagged.specs.Commands.{gives}
 use Rattle.sap_tagged.specs.Keys.{Wire}
 use Rattle.sap_tags.proofs.Commanded.{fresh}
 use Rattle.sap_tags.proofs.Listed.{states_in, states_drop, states_past}
-use Rattle.sap_tags.proofs.Planted.{ranged_body, ranged_children, ranged_one, state_made, states_step, states_rest, planted_none, states_wires_step, room}
+use Rattle.sap_tags.proofs.Planted.{few_body, few_children, few_one, ranged_body, ranged_children, ranged_one, state_made, states_step, states_rest, planted_none, states_wires_step, room}
 use Rattle.sap_tags.proofs.states.+group.Goals as goal
 
 pub state-overflow_add-next : goal.state-overflow_add-next
@@ -24,10 +24,21 @@ state-commands-requires-clause-few t c =
 pub state-commands-requires-clause-ranged : goal.state-commands-requires-clause-ranged
 state-commands-requires-clause-ranged t c = ranged_body c.args.setting.now c.args.state.now c.as_slice-body.result.now c.as_slice-body.ensures.value c.requires.ranged
 
+pub state-commands-requires-clause-arms : goal.state-commands-requires-clause-arms
+state-commands-requires-clause-arms t c = few_body c.args.state.now c.as_slice-body.result.now c.as_slice-body.ensures.value c.requires.arms
+
 pub state-states-requires : goal.state-states-requires
 state-states-requires t c =
-    let r = room c.args.state.now c.as_slice-body.result.now c.as_slice-children.result.now c.as_slice-body.ensures.value c.as_slice-children.ensures.value in
-    (omega (arith, r), (omega (arith, r, c.requires.few, c.in_ok-commands.ensures.wires), ranged_children c.args.setting.now c.args.state.now c.as_slice-children.result.now c.as_slice-children.ensures.value c.requires.ranged))
+    let r = room c.args.state.now c.as_slice-body.result.now c.as_slice-children.result.now c.as_slice-body.ensures.value c.as_slice-children.ensures.value in (
+      omega (arith, r),
+      (
+        omega (arith, r, c.requires.few, c.in_ok-commands.ensures.wires),
+        (
+          ranged_children c.args.setting.now c.args.state.now c.as_slice-children.result.now c.as_slice-children.ensures.value c.requires.ranged,
+          few_children c.args.state.now c.as_slice-children.result.now c.as_slice-children.ensures.value c.requires.arms,
+        ),
+      ),
+    )
 
 pub state-returns-clause-state : goal.state-returns-clause-state
 state-returns-clause-state t c =
@@ -58,8 +69,16 @@ states-state-requires t c =
     let i = c.loop-one.one-index in
     let w = states_in ts i c.one-item.result (omega arith) in
     let e = ap state_wires c.one-item.is in
-    let d = states_drop ts i c.one-item.result (omega arith) in
-    (omega (arith, w, e), (omega (arith, d, e, c.loop-one.invariant.wires, c.requires.few), subst (StateRanged c.args.setting.now) (sym c.one-item.is) (ranged_one c.args.setting.now ts i c.one-item.result (omega arith) c.requires.ranged)))
+    let d = states_drop ts i c.one-item.result (omega arith) in (
+      omega (arith, w, e),
+      (
+        omega (arith, d, e, c.loop-one.invariant.wires, c.requires.few),
+        (
+          subst (StateRanged c.args.setting.now) (sym c.one-item.is) (ranged_one c.args.setting.now ts i c.one-item.result (omega arith) c.requires.ranged),
+          subst StateFew (sym c.one-item.is) (few_one ts i c.one-item.result (omega arith) c.requires.arms),
+        ),
+      ),
+    )
 
 pub states-loop-one-preserved : goal.states-loop-one-preserved
 states-loop-one-preserved t c = record {

@@ -6,7 +6,7 @@ use Rattle.sap_terms.specs.Code.{setting_in}
 use Rattle.sap_tagged.specs.Commands.{gives}
 use Rattle.sap_tagged.specs.Keys.{Wire}
 use Rattle.sap_tags.proofs.Commanded.{fresh}
-use Rattle.sap_tags.proofs.Planted.{ranged_body, ranged_children, top_made, room}
+use Rattle.sap_tags.proofs.Planted.{few_body, few_children, ranged_body, ranged_children, top_made, room}
 use Rattle.sap_tags.proofs.states.top_state.Goals as goal
 
 pub overflow_add-next : goal.overflow_add-next
@@ -22,6 +22,9 @@ commands-requires-clause-few c =
 pub commands-requires-clause-ranged : goal.commands-requires-clause-ranged
 commands-requires-clause-ranged c = ranged_body c.args.setting.now c.args.state.now c.as_slice-body.result.now c.as_slice-body.ensures.value c.requires.ranged
 
+pub commands-requires-clause-arms : goal.commands-requires-clause-arms
+commands-requires-clause-arms c = few_body c.args.state.now c.as_slice-body.result.now c.as_slice-body.ensures.value c.requires.arms
+
 pub states-requires-clause-few : goal.states-requires-clause-few
 states-requires-clause-few c =
     let r = room c.args.state.now c.as_slice-body.result.now c.as_slice-children.result.now c.as_slice-body.ensures.value c.as_slice-children.ensures.value in
@@ -29,6 +32,9 @@ states-requires-clause-few c =
 
 pub states-requires-clause-ranged : goal.states-requires-clause-ranged
 states-requires-clause-ranged c = ranged_children c.args.setting.now c.args.state.now c.as_slice-children.result.now c.as_slice-children.ensures.value c.requires.ranged
+
+pub states-requires-clause-arms : goal.states-requires-clause-arms
+states-requires-clause-arms c = few_children c.args.state.now c.as_slice-children.result.now c.as_slice-children.ensures.value c.requires.arms
 
 pub returns-clause-state : goal.returns-clause-state
 returns-clause-state c =

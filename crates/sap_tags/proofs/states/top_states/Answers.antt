@@ -4,11 +4,11 @@ use Rattle.sap_plain.specs.Views.{forest_of}
 use Rattle.sap_program.specs.Hangs.{flags}
 use Rattle.sap_program.specs.Views.{group_of}
 use Rattle.sap_program.specs.declared.program.State.{State}
-use Rattle.sap_tags.specs.Built.{StateRanged, StatesRanged, state_wires, states_wires}
+use Rattle.sap_tags.specs.Built.{StateFew, StateRanged, StatesFew, StatesRanged, state_wires, states_wires}
 use Rattle.sap_terms.specs.Code.{entities_in, setting_in}
 use Rattle.sap_tagged.specs.States.{top_plain}
 use Rattle.sap_tags.proofs.Listed.{states_drop, wires_group_are}
-use Rattle.sap_tags.proofs.Planted.{ranged_all, ranged_one, tops_step, tops_rest, tops_are_plain, planted_none, states_wires_step}
+use Rattle.sap_tags.proofs.Planted.{few_one, ranged_all, ranged_one, tops_step, tops_rest, tops_are_plain, planted_none, states_wires_step}
 use Rattle.sap_tags.proofs.states.top_states.Goals as goal
 
 pub loop-one-init : goal.loop-one-init
@@ -30,6 +30,12 @@ top_state-requires-clause-ranged c =
     subst (StateRanged s) (sym c.one-item.is)
     (ranged_one s c.as_slice-states.result.now c.loop-one.one-index c.one-item.result (omega arith)
     (subst (StatesRanged s) (sym c.as_slice-states.ensures.value) (ranged_all s s.program.now.states.items c.requires.ranged)))
+
+pub top_state-requires-clause-arms : goal.top_state-requires-clause-arms
+top_state-requires-clause-arms c =
+    let s = c.args.setting.now in
+    subst StateFew (sym c.one-item.is)
+    (few_one c.as_slice-states.result.now c.loop-one.one-index c.one-item.result (omega arith) (subst StatesFew (sym c.as_slice-states.ensures.value) c.requires.arms))
 
 pub loop-one-preserved : goal.loop-one-preserved
 loop-one-preserved c =

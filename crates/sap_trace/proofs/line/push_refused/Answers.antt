@@ -1,21 +1,49 @@
-use Rattle.std.proofs.Common.{◌≡◌, ℕ, List, ◌++◌, length, ap, ◌∙◌, arith}
+use Rattle.std.proofs.Common.{◌≡◌, ◌<◌, ◌+◌, ◌*◌, ℕ, List, ◌++◌, length, ap, ◌∙◌, arith}
+use Rattle.std.specs.Prelude.{vec_capacity}
+use Rattle.sap_desk.proofs.Steps.{on_err}
 use Rattle.sap_check.specs.Checked.{levels_in, tree_in}
 use Rattle.sap_check.specs.Sites.{sites_of}
 use Rattle.sap_cycle.specs.Running.{seen}
+use Rattle.sap_trace.specs.Rooms.{HoldsLine}
 use Rattle.sap_trace.specs.Seen.{seen_lines}
+use Rattle.sap_trace.proofs.Rooms.{room_more}
 use Rattle.sap_trace.proofs.Seen.{no_lines, seen_step}
 use Rattle.sap_trace.proofs.line.push_refused.Goals as goal
+use Rattle.sap_trace.proofs.line.push_refused.Goals.{In_err-push_site}
 
 pub loop-k-init : goal.loop-k-init
-loop-k-init c = λ shown shows. no_lines c.args.out.now.items
+loop-k-init c = record {
+  text = λ shown shows. no_lines c.args.out.now.items;
+  room = omega arith;
+  bounded = λ line holds. omega arith;
+}
 
 pub loop-k-preserved : goal.loop-k-preserved
-loop-k-preserved c = λ shown shows.
-    seen_step (levels_in c.args.checked.now) (tree_in c.args.checked.now) c.args.cycle c.loop-k.k (seen c.args.runner.now.net shown) c.args.out.now.items _ _
-    (c.loop-k.invariant shown shows) (c.in_ok-push_site.ensures shown shows)
+loop-k-preserved c = record {
+  text = λ shown shows.
+      seen_step (levels_in c.args.checked.now) (tree_in c.args.checked.now) c.args.cycle c.loop-k.k (seen c.args.runner.now.net shown) c.args.out.now.items _ _
+      (c.loop-k.invariant.text shown shows) (c.in_ok-push_site.ensures.text shown shows);
+  room = omega (arith, c.loop-k.invariant.room, c.push_site.ensures.room);
+  bounded = λ line holds.
+      let before = c.loop-k.invariant.bounded line holds in
+      let now = c.in_ok-push_site.ensures.bounded line holds in
+      let sum : (c.loop-k.k + 1) * line ≡ c.loop-k.k * line + line = omega arith in
+      omega (arith, before, now, sum);
+}
 
-pub returns : goal.returns
-returns c = λ shown shows.
+full : (c : In_err-push_site) (line : ℕ) → HoldsLine (levels_in c.args.checked.now) (tree_in c.args.checked.now) line
+    → vec_capacity c.args.out.now < length c.args.out.now.items + length (sites_of (tree_in c.args.checked.now)) * line
+full c line holds =
+    let before = c.loop-k.invariant.bounded line holds in
+    let now = c.in_err-push_site.ensures.full line holds in
+    let more = room_more c.loop-k.k (length (sites_of (tree_in c.args.checked.now))) line (omega arith) in
+    omega (arith, before, now, more, c.loop-k.invariant.room)
+
+pub returns-in_err-push_site-clause-full : goal.returns-in_err-push_site-clause-full
+returns-in_err-push_site-clause-full c = on_err c.from_residual.result (λ line holds. full (goal.at.returns-in_err-push_site-clause-full c).In_err-push_site line holds)
+
+pub returns-clause-text : goal.returns-clause-text
+returns-clause-text c = λ shown shows.
     let e : c.loop-k.k ≡ length (sites_of (tree_in c.args.checked.now)) = omega arith in
-    c.loop-k.invariant shown shows
+    c.loop-k.invariant.text shown shows
     ∙ ap (λ (n : ℕ). c.args.out.now.items ++ seen_lines (levels_in c.args.checked.now) (tree_in c.args.checked.now) c.args.cycle 1 n (seen c.args.runner.now.net shown)) e

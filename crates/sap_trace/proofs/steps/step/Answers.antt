@@ -17,5 +17,5 @@ returns-clause-lines c = λ before v shows cycle.
     c.deref.ensures.value ∙ c.in_ok-inputs.ensures ∙ ap (λ (l : Levels). given l c.args.line.now) c.lattice.ensures in
     let after : Shows c.step.new.self (Some v) =
     c.step.ensures.next before v shows (subst (λ (xs : List ℕ). IsCycle c.args.runner.now.net before xs v) (sym right) cycle) in
-    c.in_ok-push_refused.ensures (Some v) after
+    c.in_ok-push_refused.ensures.text (Some v) after
     ∙ ap (λ (m : Net). c.args.out.now.items ++ seen_lines ls d c.args.cycle 1 (length (sites_of d)) (observed m v)) c.step.ensures.netlist

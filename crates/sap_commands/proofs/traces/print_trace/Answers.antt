@@ -1,0 +1,70 @@
+use Rattle.std.proofs.Common.{◌≡◌, ℕ, List, [], sym, ap, subst}
+use Rattle.std.specs.Prelude.{All}
+use Rattle.std.proofs.lemmas.Result.{err_from_is_err_and}
+use Rattle.sap_check.specs.Checked.{levels_in, tree_in}
+use Rattle.sap_net.specs.Net.{Net}
+use Rattle.sap_stim.specs.declared.field.Field.{Field}
+use Rattle.sap_stim.specs.Line.{IsSized}
+use Rattle.sap_stim.specs.Stimulus.{stimulus_of}
+use Rattle.sap_run.specs.Fields.{design_fields}
+use Rattle.sap_run.specs.RunOf.{read_for}
+use Rattle.sap_trace.specs.Stepping.{AreLines, IsAfter, LinesAddUp}
+use Rattle.sap_commands.specs.Commands.{AreTraceLines}
+use Rattle.sap_commands.specs.Steps.{HasWhole}
+use Rattle.sap_commands.proofs.Ended.{quiet_self, starved}
+use Rattle.sap_commands.proofs.PrintedEnds.{printed_same}
+use Rattle.sap_commands.proofs.Wholes.{has_whole_lines}
+use Rattle.sap_commands.proofs.traces.print_trace.Goals as goal
+
+pub returns-in_err-tracing : goal.returns-in_err-tracing
+returns-in_err-tracing g c =
+    let p = err_from_is_err_and c.from_residual.result c.from_residual.ensures.1 in
+    rw (p.1, p.2) (starved _ (quiet_self _))
+
+pub new-requires-2 : goal.new-requires-2
+new-requires-2 g c = record { widths = subst (All IsSized) (sym c.fields.ensures) c.in_ok-tracing.ensures.planned.sized }
+
+pub returns-in_err-lines : goal.returns-in_err-lines
+returns-in_err-lines g c =
+    let p = err_from_is_err_and c.from_residual-in_err-lines.result c.from_residual-in_err-lines.ensures.1 in
+    rw (p.1, p.2) (starved _ (quiet_self _))
+
+pub returns-in_err-out : goal.returns-in_err-out
+returns-in_err-out g c =
+    let p = err_from_is_err_and c.from_residual-in_err-out.result c.from_residual-in_err-out.ensures.1 in
+    rw (p.1, p.2) (starved _ (quiet_self _))
+
+pub returns-in_err-waiting : goal.returns-in_err-waiting
+returns-in_err-waiting g c =
+    let p = err_from_is_err_and c.from_residual-in_err-waiting.result c.from_residual-in_err-waiting.ensures.1 in
+    rw (p.1, p.2) (starved _ (quiet_self _))
+
+pub print_steps-requires-clause-behind : goal.print_steps-requires-clause-behind
+print_steps-requires-clause-behind g c =
+    let s = c.in_ok-tracing.tracing in
+    subst (λ (m : Net). IsAfter (levels_in c.args.checked.now) (tree_in c.args.checked.now) m [] s) (sym c.in_ok-tracing.ensures.net) c.in_ok-tracing.ensures
+
+pub print_steps-requires-clause-shows : goal.print_steps-requires-clause-shows
+print_steps-requires-clause-shows g c = c.lines_add_up.ensures.begins
+
+pub print_steps-requires-clause-whole : goal.print_steps-requires-clause-whole
+print_steps-requires-clause-whole g c =
+    let ls = levels_in c.args.checked.now in
+    let d = tree_in c.args.checked.now in
+    let s = c.in_ok-tracing.tracing in
+    subst (λ (fs : List Field). HasWhole (AreLines ls d s.runner.net) ls fs) (sym c.in_ok-tracing.ensures.planned.fields)
+    (has_whole_lines ls d s.runner.net c.lines_add_up.ensures)
+
+pub returns : goal.returns
+returns g c =
+    let ls = levels_in c.args.checked.now in
+    let d = tree_in c.args.checked.now in
+    let s = c.in_ok-tracing.tracing in
+    let fields : s.fields ≡ design_fields ls d = c.in_ok-tracing.ensures.planned.fields in
+    let holds : (bytes given : List ℕ) → AreLines ls d s.runner.net (stimulus_of ls s.fields bytes).stream given → AreTraceLines ls d bytes given
+    = λ bytes given shown.
+    let there : AreLines ls d s.runner.net (read_for ls d bytes).stream given
+    = subst (λ (fs : List Field). AreLines ls d s.runner.net (stimulus_of ls fs bytes).stream given) fields shown in
+    ((read_for ls d bytes).fault, c.lines_add_up.ensures.whole bytes given there) in
+    printed_same c.args.stimulus.now _ (AreTraceLines ls d) _ (λ bytes. (read_for ls d bytes).fault) holds
+    (λ bytes. ap (λ (fs : List Field). (stimulus_of ls fs bytes).fault) fields) _ _ _ c.print_steps.ensures

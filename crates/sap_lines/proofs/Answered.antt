@@ -1,0 +1,109 @@
+-- What an answer says, once the next line was told.
+use Rattle.std.proofs.Common.{◌≡◌, ℕ, ◌+◌, ◌<◌, ◌≤◌, Bool, true, false, List, [], ◌++◌, length, drop, refl, sym, ap, ◌∙◌, subst, inl, inr, arith}
+use Rattle.std.specs.Prelude.{◌⊎◌, ◌^◌, ◌-◌, min, Option, Some, None, option_map, IfSome}
+use Rattle.sap_desk.specs.Desk.{Told, Use, reads, writes, closed, stream, at_number, blame_at, moved, moved_use, name_if_reading, rest_of}
+use Rattle.sap_desk.specs.Cause.{counted}
+use Rattle.sap_desk.specs.Whole.{Between}
+use Rattle.sap_desk.proofs.Steps.{at_number-same, option_map-same, rest-moved, number-at}
+use Rattle.sap_lattice.specs.Levels.{Levels}
+use Rattle.sap_meaning.specs.Cycle.{Tagged as Given}
+use Rattle.sap_stim.specs.declared.field.Field.{Field}
+use Rattle.sap_stim.specs.declared.stimulus.Parsed.{Parsed}
+use Rattle.sap_stim.specs.Stimulus.{read_from}
+use Rattle.sap_lines.specs.declared.next.Next.{Next}
+use Rattle.sap_lines.specs.declared.next.Next.TheVariants.{Line, End, Fault, Failed}
+use Rattle.sap_lines.specs.Answers.{is_failed, lines_in, count_after, Tells, Counted, ReadOn, blamed_by}
+use Rattle.sap_lines.specs.Reader.{Reader, to_come}
+use Rattle.sap_lines.specs.Fetched.{IsDecided, EndsOrDecided, More, MoreAndFailed, read_failed}
+
+-- the count of lines is that of the next
+tells_after : (next : Next) (count : ℕ) (p q : Parsed) (of : ℕ → Parsed) (inputs : List Given) → count < 2 ^ 32 → Tells next p inputs (of (count + 2)) → Tells next p inputs (of (count_after next count + 1))
+tells_after Line count p q of inputs small h = let e : count + 2 ≡ counted count + 1 = omega arith in subst (λ (n : ℕ). Tells Line p inputs (of n)) e h
+tells_after End count p q of inputs small h = h
+tells_after (Fault fault) count p q of inputs small h = h
+tells_after Failed count p q of inputs small h = h
+
+pub told_lines : (ls : Levels) (fs : List Field) (channel count : ℕ) (held now later : List ℕ) (inputs : List Given) (next : Next) (told told_now : Option Told) (g h : ℕ → ℕ)
+    → More channel held now told told_now g h → IfSome told_now (EndsOrDecided channel now)
+    → ((rest : List ℕ) → IsDecided now ⊎ (rest ≡ []) → count < 2 ^ 32 → Tells next (read_from ls fs (count + 1) (now ++ rest)) inputs (read_from ls fs (count + 2) (later ++ rest)))
+    → count < 2 ^ 32
+    → Between told told_now (λ t n. Tells next (read_from ls fs (count + 1) (held ++ rest_of t channel)) inputs (read_from ls fs (count_after next count + 1) (later ++ rest_of n channel)))
+told_lines ls fs channel count held now later inputs next None told_now g h m decided tells small = tt
+told_lines ls fs channel count held now later inputs next (Some t) None g h m decided tells small = absurd (let e : None ≡ Some (moved channel m.count t) = m.told in let f : ⊥ = cc in f)
+told_lines ls fs channel count held now later inputs next (Some t) (Some n) g h m decided tells small =
+    let moved_on : n ≡ moved channel m.count t = (let e : Some n ≡ Some (moved channel m.count t) = m.told in cc) in
+    let left : rest_of n channel ≡ drop m.count (rest_of t channel) = ap (λ (x : Told). rest_of x channel) moved_on ∙ rest-moved channel m.count t in
+    let same : now ++ rest_of n channel ≡ held ++ rest_of t channel = ap (λ (r : List ℕ). now ++ r) left ∙ m.bytes in
+    let here : Tells next (read_from ls fs (count + 1) (now ++ rest_of n channel)) inputs (read_from ls fs (count + 2) (later ++ rest_of n channel)) = tells (rest_of n channel) decided small in
+    let moved_here : Tells next (read_from ls fs (count + 1) (held ++ rest_of t channel)) inputs (read_from ls fs (count + 2) (later ++ rest_of n channel))
+    = subst (λ (s : List ℕ). Tells next (read_from ls fs (count + 1) s) inputs (read_from ls fs (count + 2) (later ++ rest_of n channel))) same here in
+    tells_after next count (read_from ls fs (count + 1) (held ++ rest_of t channel)) (read_from ls fs (count + 1) (held ++ rest_of t channel)) (λ k. read_from ls fs k (later ++ rest_of n channel)) inputs small moved_here
+
+-- an answer over a told desk, as the reader is seen
+pub next_told : (ls : Levels) (fs fields : List Field) (channel count count_now : ℕ) (held now later : List ℕ) (inputs inputs_now : List Given) (live live_now : Bool) (next : Next) (told told_now : Option Told)
+    (g h : ℕ → ℕ) (r : Reader) → record { fields = fields; live = live; inputs = inputs; count = count; pending = held } ≡ r → fs ≡ fields → count_now ≡ count_after next count
+    → More channel held now told told_now g h → IfSome told_now (EndsOrDecided channel now)
+    → ((rest : List ℕ) → IsDecided now ⊎ (rest ≡ []) → count < 2 ^ 32 → Tells next (read_from ls fs (count + 1) (now ++ rest)) inputs_now (read_from ls fs (count + 2) (later ++ rest)))
+    → r.count < 2 ^ 32
+    → Between told told_now (λ t n. Tells next (to_come ls r (rest_of t channel)) inputs_now
+    (to_come ls (record { fields = fields; live = live_now; inputs = inputs_now; count = count_now; pending = later }) (rest_of n channel)))
+next_told ls fs fields channel count count_now held now later inputs inputs_now live live_now next told told_now g h r seen same counts m decided tells =
+    subst (λ (q : Reader). q.count < 2 ^ 32 → Between told told_now (λ t n. Tells next (to_come ls q (rest_of t channel)) inputs_now (read_from ls fields (count_now + 1) (later ++ rest_of n channel)))) seen
+    (λ small.
+    subst (λ (k : ℕ). Between told told_now (λ t n. Tells next (read_from ls fields (count + 1) (held ++ rest_of t channel)) inputs_now (read_from ls fields (k + 1) (later ++ rest_of n channel)))) (sym counts)
+    (subst (λ (list : List Field). Between told told_now (λ t n. Tells next (read_from ls list (count + 1) (held ++ rest_of t channel)) inputs_now (read_from ls list (count_after next count + 1) (later ++ rest_of n channel)))) same
+    (told_lines ls fs channel count held now later inputs_now next told told_now g h m decided tells small)))
+
+pub counted_so : (next : Next) (faults now : ℕ) → is_failed next ≡ false → now ≡ faults → Counted next faults now
+counted_so Line faults now fine same = same
+counted_so End faults now fine same = same
+counted_so (Fault fault) faults now fine same = same
+counted_so Failed faults now fine same = absurd (let f : ⊥ = cc in f)
+
+blames_none : (next : Next) (channel : ℕ) (name : List ℕ) (t : Told) → is_failed next ≡ false → t ≡ blamed_by next channel name t
+blames_none Line channel name t fine = refl
+blames_none End channel name t fine = refl
+blames_none (Fault fault) channel name t fine = refl
+blames_none Failed channel name t fine = absurd (let f : ⊥ = cc in f)
+
+pub read_on : (next : Next) (channel : ℕ) (held now : List ℕ) (told told_now : Option Told) (g h : ℕ → ℕ) → is_failed next ≡ false → More channel held now told told_now g h → ReadOn next channel told told_now g h
+read_on next channel held now told told_now g h fine m = record {
+  count = m.count;
+  told = m.told ∙ option_map-same _ _ told (λ t. blames_none next channel (name_if_reading (t.uses channel)) (moved channel m.count t) fine);
+  given = m.given;
+}
+
+name_moved : (n : ℕ) (u : Use) → name_if_reading (moved_use n u) ≡ name_if_reading u
+name_moved n (reads name p) = refl
+name_moved n (writes name) = refl
+name_moved n closed = refl
+name_moved n stream = refl
+
+pub read_on_failed : (channel : ℕ) (held now : List ℕ) (told told_now : Option Told) (g h : ℕ → ℕ) → MoreAndFailed channel held now told told_now g h → ReadOn Failed channel told told_now g h
+read_on_failed channel held now told told_now g h m = record {
+  count = m.count;
+  told =
+      m.told
+      ∙ option_map-same _ _ told (λ t. ap (λ (name : List ℕ). blame_at channel name (moved channel m.count t)) (ap name_if_reading (at_number-same channel (moved_use m.count (t.uses channel)) t.uses) ∙ name_moved m.count (t.uses channel)));
+  given = m.given;
+}
+
+few_lines : (next : Next) (count : ℕ) → count_after next count ≤ count + lines_in next
+few_lines Line count = omega arith
+few_lines End count = omega arith
+few_lines (Fault fault) count = omega arith
+few_lines Failed count = omega arith
+
+pub still_backed : (next : Next) (channel count : ℕ) (held now later : List ℕ) (told told_now : Option Told) (g h : ℕ → ℕ) → More channel held now told told_now g h → length later + lines_in next ≤ length now
+    → count + length held ≤ g channel → count_after next count + length later ≤ h channel
+still_backed next channel count held now later told told_now g h m shorter before =
+    let here : h channel ≡ g channel + m.count = number-at channel (g channel + m.count) g h m.given in
+    let few = few_lines next count in
+    let size = m.size in
+    omega arith
+
+pub backed_failed : (channel count : ℕ) (held now : List ℕ) (told told_now : Option Told) (g h : ℕ → ℕ) → MoreAndFailed channel held now told told_now g h → count + length held ≤ g channel → count + length now ≤ h channel
+backed_failed channel count held now told told_now g h m before =
+    let here : h channel ≡ g channel + m.count = number-at channel (g channel + m.count) g h m.given in
+    let size = m.size in
+    omega arith

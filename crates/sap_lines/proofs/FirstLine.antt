@@ -1,0 +1,187 @@
+-- The first line of bytes, whatever comes behind them.
+use Rattle.std.proofs.Common.{◌≡◌, ℕ, suc, ◌+◌, ◌-◌, ◌<◌, ◌≤◌, Bool, true, false, not, cond, eqb, ltb, Option, Some, Result, Ok, Err, List, [], ◌∷◌, ◌++◌, length, take, drop, refl, sym, ap, ap₂, ◌∙◌, inl, inr, length-append, length-take, length-drop, arith, if◌then◌else◌, min}
+use Rattle.std.specs.Prelude.{◌⊎◌, ◌||◌, nat_lt}
+use Rattle.std.specs.List.{position_or_len, before_first, after_first, list_any}
+use Rattle.std.proofs.lemmas.List.{append-nil, take-append-le, drop-append-le}
+use Rattle.std.proofs.lemmas.Bool.{cases_lt}
+use borrow.Author.Tests.{ltb-true}
+use Rattle.std.proofs.lemmas.Bool.Decides.{nat_tests}
+use Rattle.sap_lattice.specs.Levels.{Levels}
+use Rattle.sap_meaning.specs.Cycle.{Tagged as Given}
+use Rattle.sap_stim.specs.declared.fault.StimCode.{StimCode}
+use Rattle.sap_stim.specs.declared.fault.StimCode.TheVariants.{S1, S5}
+use Rattle.sap_stim.specs.declared.field.Field.{Field}
+use Rattle.sap_stim.specs.Line.{line_of}
+use Rattle.sap_stim.specs.Stimulus.{ahead, finished, stopped, going_on, read_from}
+use Rattle.sap_stim.proofs.Pieces.{is_mark, before_unmarked, length_before}
+use Rattle.sap_stim.proofs.Lines.{read_line, is_less, is_no_less}
+use Rattle.sap_lines.specs.Fetched.{IsDecided}
+
+abbrev pub place : List ℕ → ℕ
+place s = position_or_len (is_mark 10) s
+
+abbrev pub before : List ℕ → List ℕ
+before s = before_first (is_mark 10) s
+
+abbrev pub after : List ℕ → List ℕ
+after s = after_first (is_mark 10) s
+
+-- an LF among the bytes has a place there
+pub any_marked : (s : List ℕ) → list_any (is_mark 10) s ≡ true → place s < length s
+any_marked [] e = absurd (let f : ⊥ = cc in f)
+any_marked (b ∷ bs) e =
+    elim (eqb b 10) as (λ t. (t || list_any (is_mark 10) bs) ≡ true → cond (not t) (1 + place bs) 0 < suc (length bs)) [
+      | true ↦ λ _. omega arith
+      | false ↦ λ h. let r = any_marked bs h in omega arith
+    ] e
+
+-- bytes behind an LF don't move it
+place_more : (s rest : List ℕ) → place s < length s → place (s ++ rest) ≡ place s
+place_more [] rest h = absurd (omega arith)
+place_more (b ∷ bs) rest h =
+    elim (eqb b 10) as (λ t. cond (not t) (1 + place bs) 0 < suc (length bs) → cond (not t) (1 + place (bs ++ rest)) 0 ≡ cond (not t) (1 + place bs) 0) [
+      | true ↦ λ _. refl
+      | false ↦ λ small. ap (λ (k : ℕ). 1 + k) (place_more bs rest (omega arith))
+    ] h
+
+-- where there is none, one comes behind
+place_none : (s rest : List ℕ) → length s ≤ place s → length s ≤ place (s ++ rest)
+place_none [] rest h = omega arith
+place_none (b ∷ bs) rest h =
+    elim (eqb b 10) as (λ t. suc (length bs) ≤ cond (not t) (1 + place bs) 0 → suc (length bs) ≤ cond (not t) (1 + place (bs ++ rest)) 0) [
+      | true ↦ λ large. absurd (omega arith)
+      | false ↦ λ large. let r = place_none bs rest (omega arith) in omega arith
+    ] h
+
+too_long : (ls : Levels) (fs : List Field) (ended : Bool) (text : List ℕ) → 65536 < length text → line_of ls fs ended text ≡ Err S1
+too_long ls fs ended text h = let e : nat_lt 65536 (length text) ≡ true = is_less 65536 (length text) h in rw e refl
+
+-- what the first line gives, with its end or without
+abbrev pub first_of : Levels → List Field → List ℕ → Result (List Given) StimCode
+first_of ls fs s = line_of ls fs (ltb (length (before s)) (length s)) (before s)
+
+before_more : (s rest : List ℕ) → place s < length s → before (s ++ rest) ≡ before s
+before_more s rest h = ap (λ (k : ℕ). take k (s ++ rest)) (place_more s rest h) ∙ take-append-le (place s) s rest (omega arith)
+
+marked_same : (ls : Levels) (fs : List Field) (s rest : List ℕ) → place s < length s → first_of ls fs (s ++ rest) ≡ first_of ls fs s
+marked_same ls fs s rest h =
+    let same : before (s ++ rest) ≡ before s = before_more s rest h in
+    let size : length (before s) ≡ place s = length_before 10 s h in
+    let sizes : length (before (s ++ rest)) ≡ length (before s) = ap length same in
+    let whole : length (s ++ rest) ≡ length s + length rest = length-append s rest in
+    let one : ltb (length (before (s ++ rest))) (length (s ++ rest)) ≡ true = is_less (length (before (s ++ rest))) (length (s ++ rest)) (omega arith) in
+    let other : ltb (length (before s)) (length s) ≡ true = is_less (length (before s)) (length s) (omega arith) in
+    ap₂ (λ (b : Bool) (t : List ℕ). line_of ls fs b t) (one ∙ sym other) same
+
+long_same : (ls : Levels) (fs : List Field) (s rest : List ℕ) → length s ≤ place s → 65536 < length s → first_of ls fs (s ++ rest) ≡ first_of ls fs s
+long_same ls fs s rest unmarked long =
+    let none = place_none s rest unmarked in
+    let whole : length (s ++ rest) ≡ length s + length rest = length-append s rest in
+    let size : length (before (s ++ rest)) ≡ min (place (s ++ rest)) (length (s ++ rest)) = length-take (place (s ++ rest)) (s ++ rest) in
+    let size_one : length (before s) ≡ min (place s) (length s) = length-take (place s) s in
+    too_long ls fs (ltb (length (before (s ++ rest))) (length (s ++ rest))) (before (s ++ rest)) (omega arith)
+    ∙ sym (too_long ls fs (ltb (length (before s)) (length s)) (before s) (omega arith))
+
+first_same : (ls : Levels) (fs : List Field) (s rest : List ℕ) → IsDecided s ⊎ (rest ≡ []) → first_of ls fs (s ++ rest) ≡ first_of ls fs s
+first_same ls fs s rest (inl (inl long)) =
+    elim (cases_lt (place s) (length s)) [
+      | inl marked ↦ marked_same ls fs s rest marked
+      | inr unmarked ↦ long_same ls fs s rest unmarked long
+    ]
+first_same ls fs s rest (inl (inr found)) = marked_same ls fs s rest (any_marked s found)
+first_same ls fs s rest (inr none) = ap (first_of ls fs) (ap (λ (r : List ℕ). s ++ r) none ∙ append-nil s)
+
+-- one line, and then the others
+line_read : (ls : Levels) (fs : List Field) (n : ℕ) (s rest : List ℕ) → 0 < length s → IsDecided s ⊎ (rest ≡ [])
+    → read_from ls fs n (s ++ rest) ≡ going_on n (first_of ls fs s) (read_from ls fs (n + 1) (after (s ++ rest)))
+line_read ls fs n s rest some decided =
+    let whole : length (s ++ rest) ≡ length s + length rest = length-append s rest in
+    read_line ls fs n (s ++ rest) (omega arith)
+    ∙ ap (λ (r : Result (List Given) StimCode). going_on n r (read_from ls fs (n + 1) (after (s ++ rest)))) (first_same ls fs s rest decided)
+
+not_ended : (long : Bool) (x : List Given) → Ok x ≡ (if long then Err S1 else Err S5) → ⊥
+not_ended true x e = cc
+not_ended false x e = cc
+
+-- only a line with its end gives inputs
+pub ok_ended : (ls : Levels) (fs : List Field) (ended : Bool) (text : List ℕ) (x : List Given) → Ok x ≡ line_of ls fs ended text → ended ≡ true
+ok_ended ls fs true text x e = refl
+ok_ended ls fs false text x e = absurd (not_ended (nat_lt 65536 (length text)) x e)
+
+pub is_below : (a b : ℕ) → ltb a b ≡ true → a < b
+is_below a b e = ltb-true a b e
+
+ok_marked : (s : List ℕ) → ltb (length (before s)) (length s) ≡ true → place s < length s
+ok_marked s e =
+    elim (cases_lt (place s) (length s)) [
+      | inl marked ↦ marked
+      | inr unmarked ↦
+          let same : length (before s) ≡ length s = ap length (before_unmarked 10 s unmarked) in
+          let small : length (before s) < length s = is_below (length (before s)) (length s) e in
+          absurd (omega arith)
+    ]
+
+pub line_taken : (ls : Levels) (fs : List Field) (n m : ℕ) (s rest text now : List ℕ) (ended : Bool) (inputs : List Given) → 0 < length s → IsDecided s ⊎ (rest ≡ [])
+    → text ≡ before s → ended ≡ ltb (length text) (length s) → Ok inputs ≡ line_of ls fs ended text → now ≡ drop (length text + 1) s → m ≡ n + 1
+    → read_from ls fs n (s ++ rest) ≡ ahead inputs (read_from ls fs m (now ++ rest))
+line_taken ls fs n m s rest text now ended inputs some decided line test given left next =
+    let same : line_of ls fs ended text ≡ first_of ls fs s = ap (λ (b : Bool). line_of ls fs b text) test ∙ ap (λ (t : List ℕ). line_of ls fs (ltb (length t) (length s)) t) line in
+    let is : Ok inputs ≡ first_of ls fs s = given ∙ same in
+    let marked : place s < length s = ok_marked s (ok_ended ls fs (ltb (length (before s)) (length s)) (before s) inputs is) in
+    let size : length text ≡ place s = ap length line ∙ length_before 10 s marked in
+    let behind : after (s ++ rest) ≡ drop (place s + 1) s ++ rest = ap (λ (k : ℕ). drop (k + 1) (s ++ rest)) (place_more s rest marked) ∙ drop-append-le (place s + 1) s rest (omega arith) in
+    let behind_now : now ++ rest ≡ drop (place s + 1) s ++ rest = ap (λ (x : List ℕ). x ++ rest) left ∙ ap (λ (k : ℕ). drop (k + 1) s ++ rest) size in
+    line_read ls fs n s rest some decided
+    ∙ ap (λ (r : Result (List Given) StimCode). going_on n r (read_from ls fs (n + 1) (after (s ++ rest)))) (sym is)
+    ∙ ap₂ (λ (k : ℕ) (x : List ℕ). ahead inputs (read_from ls fs k x)) (sym next) (behind ∙ sym behind_now)
+
+pub line_refused : (ls : Levels) (fs : List Field) (n line : ℕ) (s rest text : List ℕ) (ended : Bool) (code : StimCode) → 0 < length s → IsDecided s ⊎ (rest ≡ [])
+    → text ≡ before s → ended ≡ ltb (length text) (length s) → Err code ≡ line_of ls fs ended text → line ≡ n
+    → read_from ls fs n (s ++ rest) ≡ stopped line code
+line_refused ls fs n line s rest text ended code some decided is_line test given number =
+    let same : line_of ls fs ended text ≡ first_of ls fs s = ap (λ (b : Bool). line_of ls fs b text) test ∙ ap (λ (t : List ℕ). line_of ls fs (ltb (length t) (length s)) t) is_line in
+    line_read ls fs n s rest some decided
+    ∙ ap (λ (r : Result (List Given) StimCode). going_on n r (read_from ls fs (n + 1) (after (s ++ rest)))) (sym (given ∙ same))
+    ∙ ap (λ (k : ℕ). stopped k code) (sym number)
+
+pub none_left : (ls : Levels) (fs : List Field) (n : ℕ) (s rest : List ℕ) → length s ≡ 0 → IsDecided s ⊎ (rest ≡ []) → read_from ls fs n (s ++ rest) ≡ finished
+none_left ls fs n (b ∷ bs) rest h decided = absurd (omega arith)
+none_left ls fs n [] rest h (inl (inl long)) = absurd (omega arith)
+none_left ls fs n [] rest h (inl (inr found)) = absurd (let f : ⊥ = cc in f)
+none_left ls fs n [] rest h (inr none) = ap (read_from ls fs n) none
+
+-- the same of bytes that are those that are held
+
+pub nothing_held : (s bytes : List ℕ) (b : Bool) → b ≡ eqb (length bytes) 0 → b ≡ true → bytes ≡ s → length s ≡ 0
+nothing_held s bytes b test is same =
+    let e : eqb (length bytes) 0 ≡ true = sym test ∙ is in
+    let l : length bytes ≡ length s = ap length same in
+    grind (arith, nat_tests)
+
+pub taken_of : (ls : Levels) (fs : List Field) (count : ℕ) (s bytes rest text now : List ℕ) (inputs : List Given) → bytes ≡ s → 0 < length bytes → IsDecided s ⊎ (rest ≡ [])
+    → text ≡ before bytes → Ok inputs ≡ line_of ls fs (ltb (length text) (length bytes)) text → now ≡ drop (length text + 1) s
+    → read_from ls fs (count + 1) (s ++ rest) ≡ ahead inputs (read_from ls fs (count + 2) (now ++ rest))
+taken_of ls fs count s bytes rest text now inputs same some decided line given left =
+    let l : length bytes ≡ length s = ap length same in
+    line_taken ls fs (count + 1) (count + 2) s rest text now (ltb (length text) (length s)) inputs (omega arith) decided (line ∙ ap before same) refl
+    (given ∙ ap (λ (x : List ℕ). line_of ls fs (ltb (length text) (length x)) text) same) left (omega arith)
+
+pub refused_of : (ls : Levels) (fs : List Field) (count line : ℕ) (s bytes rest text : List ℕ) (code : StimCode) → bytes ≡ s → 0 < length bytes → IsDecided s ⊎ (rest ≡ [])
+    → text ≡ before bytes → Err code ≡ line_of ls fs (ltb (length text) (length bytes)) text → line ≡ count + 1
+    → read_from ls fs (count + 1) (s ++ rest) ≡ stopped line code
+refused_of ls fs count line s bytes rest text code same some decided is_line given number =
+    let l : length bytes ≡ length s = ap length same in
+    line_refused ls fs (count + 1) line s rest text (ltb (length text) (length s)) code (omega arith) decided (is_line ∙ ap before same) refl
+    (given ∙ ap (λ (x : List ℕ). line_of ls fs (ltb (length text) (length x)) text) same) number
+
+-- a line that gives inputs has its end among the bytes
+pub end_there : (ls : Levels) (fs : List Field) (s bytes text : List ℕ) (inputs : List Given) → bytes ≡ s → Ok inputs ≡ line_of ls fs (ltb (length text) (length bytes)) text → length text + 1 ≤ length s
+end_there ls fs s bytes text inputs same given =
+    let b = is_below (length text) (length bytes) (ok_ended ls fs (ltb (length text) (length bytes)) text inputs given) in
+    let l : length bytes ≡ length s = ap length same in
+    omega arith
+
+pub shorter_by : (s now : List ℕ) (n : ℕ) → n + 1 ≤ length s → now ≡ drop (n + 1) s → length now + 1 ≤ length s
+shorter_by s now n h left =
+    let l : length now ≡ length s - (n + 1) = ap length left ∙ length-drop (n + 1) s in
+    omega arith

@@ -1,0 +1,6 @@
+pub mod FirstLine
+pub mod Reading
+pub mod Answered
+pub mod Following
+pub mod Decided
+pub mod Shifting

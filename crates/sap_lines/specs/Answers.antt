@@ -1,0 +1,62 @@
+-- What each answer of a reader says.
+use Rattle.std.specs.Prelude.{◌≡◌, ℕ, ◌+◌, List, [], Bool, true, false, Option, Some, option_map}
+use Rattle.sap_desk.specs.Cause.{counted}
+use Rattle.sap_desk.specs.Desk.{Told, at_number, blame_at, moved, name_if_reading}
+use Rattle.sap_meaning.specs.Cycle.{Tagged as Given}
+use Rattle.sap_stim.specs.declared.stimulus.Parsed.{Parsed}
+use Rattle.sap_stim.specs.Stimulus.{ahead, finished}
+use Rattle.sap_lines.specs.declared.next.Next.{Next}
+use Rattle.sap_lines.specs.declared.next.Next.TheVariants.{Line, End, Fault, Failed}
+
+abbrev pub is_line : Next → Bool
+is_line Line = true
+is_line End = false
+is_line (Fault fault) = false
+is_line Failed = false
+
+abbrev pub is_failed : Next → Bool
+is_failed Line = false
+is_failed End = false
+is_failed (Fault fault) = false
+is_failed Failed = true
+
+-- how many lines an answer gives
+abbrev pub lines_in : Next → ℕ
+lines_in Line = 1
+lines_in End = 0
+lines_in (Fault fault) = 0
+lines_in Failed = 0
+
+-- how many lines were given after an answer
+abbrev pub count_after : Next → (count : ℕ) → ℕ
+count_after Line count = counted count
+count_after End count = count
+count_after (Fault fault) count = count
+count_after Failed count = count
+
+-- What an answer tells of the lines that were to come: the first of them, before those that are to come then; that there was none; that the first was refused, and why.
+abbrev pub Tells : Next → (before : Parsed) → (inputs : List Given) → (after : Parsed) → Type 0
+Tells Line before inputs after = before ≡ ahead inputs after
+Tells End before inputs after = before ≡ finished
+Tells (Fault fault) before inputs after = before ≡ record { stream = []; fault = Some fault }
+Tells Failed before inputs after = Unit {0}
+
+-- a failed call counts once, as a fault
+abbrev pub Counted : Next → (faults now : ℕ) → Type 0
+Counted Line faults now = now ≡ faults
+Counted End faults now = now ≡ faults
+Counted (Fault fault) faults now = now ≡ faults
+Counted Failed faults now = now ≡ counted faults
+
+-- a failed call blames the file of its channel, named as the channel was before
+abbrev pub blamed_by : Next → (channel : ℕ) → (name : List ℕ) → Told → Told
+blamed_by Line channel name t = t
+blamed_by End channel name t = t
+blamed_by (Fault fault) channel name t = t
+blamed_by Failed channel name t = blame_at channel name t
+
+-- so many bytes more were read of a channel, and nothing else changed but the blame
+pub record ReadOn (next : Next) (channel : ℕ) (told_was told_now : Option Told) (given_was given_now : ℕ → ℕ) : Type 0 where
+  pub count : ℕ
+  pub told : told_now ≡ option_map (λ t. blamed_by next channel (name_if_reading (t.uses channel)) (moved channel count t)) told_was
+  pub given : given_now ≡ at_number channel (given_was channel + count) given_was

@@ -1,0 +1,31 @@
+-- Bytes that were read of a channel, and held.
+use Rattle.std.specs.Prelude.{◌≡◌, ℕ, ◌+◌, ◌<◌, ◌⊎◌, List, [], ◌++◌, ◌==◌, drop, length, true, Option, IfSome, option_map}
+use Rattle.std.specs.List.{list_any}
+use Rattle.sap_desk.specs.Desk.{Told, at_number, blame_at, moved, name_if_reading, rest_of}
+
+-- the next line is told by the first bytes of what is to come: it ends in them, or is too long
+abbrev pub IsDecided : List ℕ → Type 0
+IsDecided bytes = (65536 < length bytes) ⊎ (list_any (λ b. b == 10) bytes ≡ true)
+
+-- or none come behind them
+abbrev pub EndsOrDecided : (channel : ℕ) → List ℕ → Told → Type 0
+EndsOrDecided channel bytes t = IsDecided bytes ⊎ (rest_of t channel ≡ [])
+
+-- so many bytes more were read of a channel, behind those that were held, and nothing else changed
+pub record More (channel : ℕ) (held now : List ℕ) (told_was told_now : Option Told) (given_was given_now : ℕ → ℕ) : Type 0 where
+  pub count : ℕ
+  pub size : length now ≡ length held + count
+  pub told : told_now ≡ option_map (moved channel count) told_was
+  pub bytes : IfSome told_was (λ t. now ++ drop count (rest_of t channel) ≡ held ++ rest_of t channel)
+  pub given : given_now ≡ at_number channel (given_was channel + count) given_was
+
+-- a read of a channel failed: its file is blamed
+abbrev pub read_failed : (channel : ℕ) → Told → Told
+read_failed channel t = blame_at channel (name_if_reading (t.uses channel)) t
+
+-- bytes were read, and then a read failed
+pub record MoreAndFailed (channel : ℕ) (held now : List ℕ) (told_was told_now : Option Told) (given_was given_now : ℕ → ℕ) : Type 0 where
+  pub count : ℕ
+  pub size : length now ≡ length held + count
+  pub told : told_now ≡ option_map (λ t. read_failed channel (moved channel count t)) told_was
+  pub given : given_now ≡ at_number channel (given_was channel + count) given_was

@@ -1,0 +1,4 @@
+pub mod Fetched
+pub mod Reader
+pub mod Answers
+pub mod Follows

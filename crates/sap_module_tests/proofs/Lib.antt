@@ -1,2 +1,0 @@
-pub mod SwappingRules
-pub mod TryingRules

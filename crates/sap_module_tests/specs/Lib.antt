@@ -1,2 +1,0 @@
-pub mod Swapping
-pub mod Trying

@@ -1,0 +1,70 @@
+-- A run with a cycle more.
+use Rattle.std.proofs.Common.{◌≡◌, ℕ, ◌+◌, List, [], ◌∷◌, ◌++◌, Option, Some, None, length, map, refl, sym, ap, ◌∙◌, subst, arith}
+use Rattle.std.specs.List.{last_or}
+use Rattle.std.proofs.lemmas.List.{map-append, length-map}
+use Rattle.sap_lattice.specs.Levels.{Levels}
+use Rattle.sap_maps.specs.Maps.{Name, Valuation}
+use Rattle.sap_net.specs.Net.{Net}
+use Rattle.sap_net.specs.Runs.{IsCycle, IsRunAfter, observed}
+use Rattle.sap_sim.specs.Shown.{row_of, rows_from}
+
+-- the last cycle, and the run before it
+pub run_split : (n : Net) (b : Option Valuation) (xss : List (List ℕ)) (xs : List ℕ) (run : List Valuation) (v : Valuation) → IsRunAfter n b (xss ++ xs ∷ []) (run ++ v ∷ [])
+    → IsRunAfter n b xss run × IsCycle n (last_or b run) xs v
+run_split n b [] xs [] v h = (tt, h.0)
+run_split n b [] xs (w ∷ []) v h = absurd h.1
+run_split n b [] xs (w ∷ (u ∷ us)) v h = absurd h.1
+run_split n b (ys ∷ []) xs [] v h = absurd h.1
+run_split n b (ys ∷ (zs ∷ zss)) xs [] v h = absurd h.1
+run_split n b (ys ∷ yss) xs (w ∷ ws) v h = let r = run_split n (Some w) yss xs ws v h.1 in ((h.0, r.0), r.1)
+
+pub record EndsIn (n : Net) (b : Option Valuation) (xss : List (List ℕ)) (xs : List ℕ) (vs : List Valuation) : Type 0 where
+  pub run : List Valuation
+  pub last : Valuation
+  pub whole : vs ≡ run ++ last ∷ []
+  pub is_run : IsRunAfter n b xss run
+  pub cycle : IsCycle n (last_or b run) xs last
+
+pub run_ends : (n : Net) (b : Option Valuation) (xss : List (List ℕ)) (xs : List ℕ) (vs : List Valuation) → IsRunAfter n b (xss ++ xs ∷ []) vs → EndsIn n b xss xs vs
+run_ends n b [] xs [] h = absurd h
+run_ends n b [] xs (v ∷ []) h = record { run = []; last = v; whole = refl; is_run = tt; cycle = h.0 }
+run_ends n b [] xs (v ∷ (w ∷ ws)) h = absurd h.1
+run_ends n b (ys ∷ yss) xs [] h = absurd h
+run_ends n b (ys ∷ yss) xs (v ∷ vs) h =
+    let r = run_ends n (Some v) yss xs vs h.1 in
+    record { run = v ∷ r.run; last = r.last; whole = ap (λ (ws : List Valuation). v ∷ ws) r.whole; is_run = (h.0, r.is_run); cycle = r.cycle }
+
+pub last_pushed : (b : Option Valuation) (run : List Valuation) (v : Valuation) → last_or b (run ++ v ∷ []) ≡ Some v
+last_pushed b [] v = refl
+last_pushed b (w ∷ ws) v = last_pushed (Some w) ws v
+
+-- the run on the first lists
+pub record HasFront (n : Net) (b : Option Valuation) (xss : List (List ℕ)) (vs : List Valuation) : Type 0 where
+  pub front : List Valuation
+  pub rest : List Valuation
+  pub whole : vs ≡ front ++ rest
+  pub is_run : IsRunAfter n b xss front
+
+pub run_front : (n : Net) (b : Option Valuation) (xss yss : List (List ℕ)) (vs : List Valuation) → IsRunAfter n b (xss ++ yss) vs → HasFront n b xss vs
+run_front n b [] yss vs h = record { front = []; rest = vs; whole = refl; is_run = tt }
+run_front n b (xs ∷ xss) yss [] h = absurd h
+run_front n b (xs ∷ xss) yss (v ∷ vs) h =
+    let r = run_front n (Some v) xss yss vs h.1 in
+    record { front = v ∷ r.front; rest = r.rest; whole = ap (λ (ws : List Valuation). v ∷ ws) r.whole; is_run = (h.0, r.is_run) }
+
+pub no_run : (n : Net) (b : Option Valuation) (run : List Valuation) → IsRunAfter n b [] run → run ≡ []
+no_run n b [] h = refl
+no_run n b (v ∷ vs) h = absurd h
+
+append_three : (xs ys zs : List ℕ) → xs ++ (ys ++ zs) ≡ (xs ++ ys) ++ zs
+append_three [] ys zs = refl
+append_three (x ∷ xs) ys zs = ap (λ ws. x ∷ ws) (append_three xs ys zs)
+
+-- the rows of two runs, one behind the other
+pub rows_split : (ls : Levels) (xs : List Name) (c : ℕ) (vs ws : List Valuation) → rows_from ls xs c (vs ++ ws) ≡ rows_from ls xs c vs ++ rows_from ls xs (c + length vs) ws
+rows_split ls xs c [] ws = let e : c ≡ c + 0 = omega arith in ap (λ (k : ℕ). rows_from ls xs k ws) e
+rows_split ls xs c (v ∷ vs) ws =
+    let e : c + 1 + length vs ≡ c + length (v ∷ vs) = omega arith in
+    ap (λ (ys : List ℕ). row_of ls xs c v ++ ys) (rows_split ls xs (c + 1) vs ws)
+    ∙ append_three (row_of ls xs c v) (rows_from ls xs (c + 1) vs) (rows_from ls xs (c + 1 + length vs) ws)
+    ∙ ap (λ (k : ℕ). (row_of ls xs c v ++ rows_from ls xs (c + 1) vs) ++ rows_from ls xs k ws) e

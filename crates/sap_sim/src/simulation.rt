@@ -1,0 +1,173 @@
+//! A netlist that is stepped on a line of a stimulus at a time.
+
+ghost use Rattle.std.specs.Prelude.{◌≡◌, ◌≤◌, ◌+◌, ◌∷◌, ◌++◌, [], ℕ, List, IfOk, length};
+ghost use Rattle.sap_meaning.specs.Cycle.{Tagged as Given};
+ghost use Rattle.sap_net.specs.Net.{Net};
+ghost use Rattle.sap_stim.specs.Fits.{LineFits};
+ghost use Rattle.sap_stim.specs.Rows.{HoldsRows, row_text, shown_of};
+ghost use Rattle.sap_sim.specs.Stepping.{HasRowMore, IsAfter, IsPlanned, RowsAddUp};
+
+use crate::fields::line_of;
+use crate::lookup::input_widths;
+use crate::shown::shown_of;
+use crate::sources::sources;
+use crate::steps::{Plan, take_numbers, take_seen};
+use sap_cycle::runner::Runner;
+use sap_desk::RowBuf;
+use sap_lattice::Lattice;
+use sap_lattice::name::Name;
+use sap_net::laws::one_run;
+use sap_net::netlist::Netlist;
+use sap_stim::{Fields, row_into, row_room, stimulus_fits};
+use sap_stream::Inputs;
+use std::alloc::{AllocError, Global};
+use std::marker::Model;
+
+/// A netlist that is stepped on the lines of a stimulus, one after another, and gives the row of each. It
+/// takes all its memory when it is made.
+#[derive(Drop)]
+pub struct Simulation {
+    runner: Runner,
+    plan: Plan,
+    fields: Fields,
+    room: usize,
+    // the numbers of the inputs, and what the rows show
+    numbers: Vec<u64>,
+    values: Vec<u64>,
+    tags: Vec<u64>,
+}
+
+impl Model for Simulation {
+    ghost use Rattle.std.specs.Prelude.{◌≡◌, length};
+    ghost use Rattle.sap_sim.specs.Stepping.{Stepped};
+
+    ghost Value = { Stepped };
+
+    ghost view = { λ s. record { runner = s.runner; plan = s.plan; fields = s.fields; room = s.room } };
+
+    ghost invariant = { λ s. (length s.numbers.items ≡ length s.plan.sources.items)
+        × (length s.values.items ≡ length s.plan.shown.values.items) × (length s.tags.items ≡ length s.plan.shown.tags.items) };
+}
+
+fn zeros(alloc: Global, count: usize) -> Result<Vec<u64>, AllocError>
+    ensures { IfOk result (λ zeros. length zeros.items ≡ count) }
+{
+    let mut zeros = Vec::new(alloc);
+    zeros.resize(count, 0)?;
+    Ok(zeros)
+}
+
+// Appends a row to a buffer that has room for any row.
+fn push_held(
+    out: &mut RowBuf,
+    cycle: u64,
+    names: &[Name],
+    values: &[u64],
+    tags: &[u64],
+    lattice: &Lattice,
+)
+    requires lengths { (length values.now ≡ length names.now) × (length tags.now ≡ length names.now) }
+    requires room { (room : ℕ) × HoldsRows lattice.now names.now room × (length out.old.bytes + room ≤ out.old.room) }
+    ensures text { out.new.bytes ≡ out.old.bytes ++ row_text cycle (shown_of lattice.now names.now values.now tags.now) }
+    ensures memory { out.old.room ≤ out.new.room }
+{
+    row_into(out, cycle, names, values, tags, lattice);
+}
+
+impl Simulation {
+    /// A netlist before the first line, its levels those of a lattice.
+    pub fn new(alloc: Global, lattice: &Lattice, netlist: Netlist) -> Result<Simulation, AllocError>
+        ensures { IfOk result (IsAfter lattice.now netlist []) }
+    {
+        netlist.rules();
+        let tag = lattice.width();
+        let widths = input_widths(alloc, netlist.inputs())?;
+        let line = line_of(alloc, &widths, tag, netlist.inputs())?;
+        let sources = sources(alloc, &widths, tag, netlist.inputs(), &line.names)?;
+        let runner = match Runner::load(alloc, netlist) {
+            Ok(runner) => runner,
+            Err((_, fault)) => return Err(fault),
+        };
+        let shown = shown_of(alloc, &runner, tag)?;
+        let Some(room) = row_room(&shown.names, lattice) else {
+            return Err(AllocError);
+        };
+        let numbers = zeros(alloc, sources.len())?;
+        let values = zeros(alloc, shown.values.len())?;
+        let tags = zeros(alloc, shown.tags.len())?;
+        Ok(Simulation {
+            runner,
+            plan: Plan { sources, shown },
+            fields: line.fields,
+            room,
+            numbers,
+            values,
+            tags,
+        })
+    }
+
+    /// The fields of each line.
+    pub fn fields(&self) -> &Fields
+        ensures { result.now ≡ self.now.fields }
+    {
+        &self.fields
+    }
+
+    /// For how many bytes a buffer needs room to take any row.
+    pub fn room(&self) -> usize
+        ensures { result ≡ self.now.room }
+    {
+        self.room
+    }
+
+    /// The netlist.
+    pub fn netlist(&self) -> &Netlist
+        ensures { result.now ≡ self.now.runner.net }
+    {
+        self.runner.netlist()
+    }
+
+    /// Steps on a line and appends the row of the cycle, for which there is room. It takes no memory.
+    pub fn row_into(&mut self, out: &mut RowBuf, lattice: &Lattice, cycle: u64, line: &Inputs)
+        requires planned { IsPlanned lattice.now self.old }
+        requires line { LineFits lattice.now self.old.fields line.now }
+        requires room { length out.old.bytes + self.old.room ≤ out.old.room }
+        ensures after { (n : Net) (lines : List (List Given)) → IsAfter lattice.now n lines self.old → IsAfter lattice.now n (lines ++ line.now ∷ []) self.new }
+        ensures row { (n : Net) (lines : List (List Given)) → IsAfter lattice.now n lines self.old
+            → HasRowMore lattice.now n (lines ++ line.now ∷ []) cycle out.old.bytes out.new.bytes }
+        ensures fields { self.new.fields ≡ self.old.fields }
+        ensures same_room { self.new.room ≡ self.old.room }
+        ensures memory { out.old.room ≤ out.new.room }
+    {
+        self.runner.netlist().rules();
+        lattice.lawful();
+        take_numbers(
+            lattice,
+            &self.plan.sources,
+            line.values(),
+            &mut self.numbers,
+        );
+        self.runner.step(&self.numbers);
+        take_seen(&self.runner, &self.plan.shown.values, &mut self.values);
+        take_seen(&self.runner, &self.plan.shown.tags, &mut self.tags);
+        push_held(
+            out,
+            cycle,
+            &self.plan.shown.names,
+            &self.values,
+            &self.tags,
+            lattice,
+        );
+    }
+
+    /// The rows of the lines add up to what the netlist gives on the whole stimulus.
+    pub fn rows_add_up(&self, lattice: &Lattice)
+        ensures { RowsAddUp lattice.now self.now.runner.net }
+    {
+        let netlist = self.runner.netlist();
+        netlist.rules();
+        lattice.lawful();
+        stimulus_fits();
+        one_run(netlist);
+    }
+}

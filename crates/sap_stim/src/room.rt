@@ -1,0 +1,35 @@
+//! How much room rows take.
+
+ghost use Rattle.std.specs.Prelude.{◌≤◌, ◌<◌, ℕ, IfSome, length};
+ghost use Rattle.sap_lattice.specs.Closure.{name_at};
+ghost use Rattle.sap_stim.specs.Rows.{HoldsRows};
+
+use sap_lattice::lattice::Lattice;
+use sap_lattice::name::Name;
+
+/// The most bytes in the text of a level: a name, or `#` and 20 digits.
+pub fn longest_level(lattice: &Lattice) -> usize
+    ensures number { 21 ≤ result }
+    ensures names { (k : ℕ) → k < length lattice.now.names → length (name_at lattice.now.names k) ≤ result }
+{
+    let mut longest = 21;
+    for place in 0..u64::from(lattice.count()) {
+        let level = lattice.level_at(place);
+        longest = lattice.name(level).as_bytes().len().max(longest);
+    }
+    longest
+}
+
+/// For how many bytes a buffer needs room to take any row of the registers of these names. There is no
+/// answer where there can't be such a buffer.
+pub fn row_room(names: &[Name], lattice: &Lattice) -> Option<usize>
+    ensures { IfSome result (HoldsRows lattice.now names.now) }
+{
+    let level = longest_level(lattice);
+    let mut room = 28usize;
+    for name in names {
+        let size = name.as_bytes().len().checked_add(level)?.checked_add(23)?;
+        room = room.checked_add(size)?;
+    }
+    Some(room)
+}

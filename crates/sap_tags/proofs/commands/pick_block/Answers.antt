@@ -1,0 +1,27 @@
+use Rattle.std.proofs.Common.{◌≡◌, ◌∙◌, ◌+◌, ℕ, OnOk, length, map, ap, subst, arith}
+use Rattle.sap_plain.specs.Nested.{Body, seat_width}
+use Rattle.sap_plain.specs.Views.{body_of}
+use Rattle.sap_plain.proofs.SeatWidths.{seat_least}
+use Rattle.sap_program.specs.Views.{term_of}
+use Rattle.sap_terms.specs.Code.{entities_in, setting_in, world_in}
+use Rattle.sap_terms.proofs.Words.{width_within}
+use Rattle.sap_tags.proofs.Picked.{block_picked}
+use Rattle.sap_tags.proofs.commands.pick_block.Goals as goal
+
+pub overflow_cast-seen : goal.overflow_cast-seen
+overflow_cast-seen c =
+    let l = width_within (world_in c.args.setting.now) (term_of c.args.number.now) c.requires.ranged in
+    omega (arith, l, c.width_of.ensures)
+
+pub decide_block-requires : goal.decide_block-requires
+decide_block-requires c =
+    let l = seat_least (length c.args.arms.now + 1) 63 (omega arith) (omega (arith, c.requires.arms)) in
+    omega (arith, l, c.width.ensures)
+
+pub returns : goal.returns
+returns c =
+    let s = c.args.setting.now in
+    subst (λ (b : Body). OnOk c.decide_block.result (body_of c.decide_block.new.out.items ≡ b))
+    (block_picked (setting_in s) _ _ c.width.result (entities_in s) c.args.k c.args.arms.now (map (λ b. body_of b.items) c.args.blocks.items) (body_of c.args.out.now.items) (body_of c.pick.new.out.items)
+    c.width_of.ensures c.width.ensures c.in_ok-pick.ensures)
+    c.decide_block.ensures

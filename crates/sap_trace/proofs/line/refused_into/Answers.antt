@@ -1,0 +1,17 @@
+use Rattle.std.proofs.Common.{◌≡◌, ◌<◌, ◌+◌, ◌*◌, ℕ, length, ap, arith}
+use Rattle.std.specs.Prelude.{vec_capacity}
+use Rattle.sap_check.specs.Checked.{levels_in, tree_in}
+use Rattle.sap_check.specs.Sites.{sites_of}
+use Rattle.sap_stim.proofs.RowTexts.{ok_with_room}
+use Rattle.sap_trace.specs.Rooms.{HoldsLine}
+use Rattle.sap_trace.proofs.Rooms.{err_at}
+use Rattle.sap_trace.proofs.line.refused_into.Goals as goal
+
+pub unwrap-requires : goal.unwrap-requires
+unwrap-requires c =
+    let holds = c.requires.fits.1 in
+    let wanted : ℕ → ℕ = λ line. length c.take-bytes.result.items + length (sites_of (tree_in c.args.checked.now)) * line in
+    let size : length c.take-bytes.result.items ≡ length c.args.out.now.bytes = ap length c.take-bytes.ensures.bytes in
+    ok_with_room c.push_refused.result (vec_capacity c.take-bytes.result) (wanted holds.line)
+    (err_at (HoldsLine (levels_in c.args.checked.now) (tree_in c.args.checked.now)) (λ line. vec_capacity c.take-bytes.result < wanted line) c.push_refused.result holds.line holds.holds c.push_refused.ensures.full)
+    (omega (arith, size, holds.all, c.requires.fits.2, c.take-bytes.ensures.room))

@@ -1,0 +1,13 @@
+use Rattle.std.proofs.Common.{refl, ◌∙◌, ap}
+use Rattle.sap_commands.specs.Ending.{line, refused, stimulus_refused}
+use Rattle.sap_commands.specs.Steps.{reason}
+use Rattle.sapper.proofs.Calls.{told_as}
+use Rattle.sapper.proofs.call.report_refusal.Goals as goal
+
+pub returns-in-Stimulus : goal.returns-in-Stimulus
+returns-in-Stimulus g c =
+    rw c.in-Stimulus.is (told_as (refused (stimulus_refused c.in-Stimulus.place c.in-Stimulus.fault)) 4 _ _ _ refl refl c.tell_stimulus.ensures)
+
+pub returns-in-Ok : goal.returns-in-Ok
+returns-in-Ok g c =
+    told_as (refused (reason c.args.why.now)) _ _ _ _ c.status.ensures (ap line (c.as_slice.ensures.value ∙ c.in-Ok.ensures)) c.tell.ensures
