@@ -89,6 +89,28 @@ fn refuses_a_line_before_a_second_read(rt: HostRuntime) -> Result<(), Fail> {
 }
 
 #[test]
+fn tells_for_how_many_cycles_a_line_stands(rt: HostRuntime) -> Result<(), Fail> {
+    let alloc = rt.alloc();
+    let lattice = two_levels(alloc)?;
+    let mut desk = MemoryDesk::new(alloc, 0)?;
+    desk.put_file("s", b"5@low *65535\n5@low\n5@low *0\n")?;
+    let channel = desk.open_in("s")?;
+    let mut lines = reader(alloc)?;
+    for count in [65_535, 1] {
+        assert_eq!(rt;
+            ask(&mut lines, &mut desk, channel, &lattice),
+            Some(Next::Line)
+        );
+        assert!(rt; is_five(&lines));
+        assert_eq!(rt; lines.count(), count);
+    }
+    let code = StimCode::S6;
+    let fault = Next::Fault(StimFault { line: 3, code });
+    assert_eq!(rt; ask(&mut lines, &mut desk, channel, &lattice), Some(fault));
+    Ok(())
+}
+
+#[test]
 fn tells_a_failed_read(rt: HostRuntime) -> Result<(), Fail> {
     let alloc = rt.alloc();
     let lattice = two_levels(alloc)?;

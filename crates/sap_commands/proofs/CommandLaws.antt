@@ -8,6 +8,8 @@ use Rattle.sap_tree.specs.Syntax.{DesignTree}
 use Rattle.sap_stim.specs.declared.fault.StimFault.{StimFault}
 use Rattle.sap_stream.specs.declared.apart.Apart.{Apart}
 use Rattle.sap_stream.proofs.Agreeing.{at_most_one}
+use Rattle.sap_run.specs.RunOf.{read_for as design_stimulus}
+use Rattle.sap_sim.specs.Simulated.{read_for as module_stimulus}
 use Rattle.sap_commands.specs.Ending.{Ending, Refusal, done, refused, failed, no_memory, status_of, status_of_refusal, IsFree}
 use Rattle.sap_commands.specs.Kinds.{IsLawful, design_file, design_text_file, lattice_file, module_file, stream_file}
 use Rattle.sap_commands.specs.Twin.{IsVerdict}
@@ -110,15 +112,15 @@ two_twin (compile lattice design out) e (inr (bytes, ls, a, inl (source, why, is
 two_twin (compile lattice design out) e (inr (bytes, ls, a, inr (source, d, b, is))) two = absurd (is_done e is two)
 two_twin (run lattice design stimulus) e (inl (bytes, why, is, r)) two = absurd (lattice_two e bytes why is r two)
 two_twin (run lattice design stimulus) e (inr (bytes, ls, a, inl (source, why, is, r))) two = absurd (design_two ls e source why is r two)
-two_twin (run lattice design stimulus) e (inr (bytes, ls, a, inr (source, d, b, (fault, is)))) two = absurd (rows_end fault e is two)
+two_twin (run lattice design stimulus) e (inr (bytes, ls, a, inr (source, d, b, (found, is)))) two = absurd (rows_end (design_stimulus ls d found).fault e is two)
 two_twin (trace lattice design stimulus) e (inl (bytes, why, is, r)) two = absurd (lattice_two e bytes why is r two)
 two_twin (trace lattice design stimulus) e (inr (bytes, ls, a, inl (source, why, is, r))) two = absurd (design_two ls e source why is r two)
-two_twin (trace lattice design stimulus) e (inr (bytes, ls, a, inr (source, d, b, (fault, is)))) two = absurd (rows_end fault e is two)
+two_twin (trace lattice design stimulus) e (inr (bytes, ls, a, inr (source, d, b, (found, is)))) two = absurd (rows_end (design_stimulus ls d found).fault e is two)
 two_twin (fmt design) e (inl (source, why, is, r)) two = absurd (text_two e source why is r two)
 two_twin (fmt design) e (inr (source, d, a, is)) two = absurd (is_done e is two)
 two_twin (sim lattice verilog stimulus) e (inl (bytes, why, is, r)) two = absurd (lattice_two e bytes why is r two)
 two_twin (sim lattice verilog stimulus) e (inr (bytes, ls, a, inl (text, why, is, r))) two = absurd (module_two e text why is r two)
-two_twin (sim lattice verilog stimulus) e (inr (bytes, ls, a, inr (text, net, b, (fault, is)))) two = absurd (rows_end fault e is two)
+two_twin (sim lattice verilog stimulus) e (inr (bytes, ls, a, inr (text, net, b, (found, is)))) two = absurd (rows_end (module_stimulus ls net found).fault e is two)
 two_twin (report lattice design) e (inl (bytes, why, is, r)) two = absurd (lattice_two e bytes why is r two)
 two_twin (report lattice design) e (inr (bytes, ls, a, inl (source, why, is, r))) two = absurd (design_two ls e source why is r two)
 two_twin (report lattice design) e (inr (bytes, ls, a, inr (source, d, b, is))) two = absurd (is_done e is two)

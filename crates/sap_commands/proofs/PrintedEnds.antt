@@ -9,12 +9,12 @@ use Rattle.sap_lattice.specs.Levels.{Levels}
 use Rattle.sap_stim.specs.declared.fault.StimFault.{StimFault}
 use Rattle.sap_stim.specs.declared.field.Field.{Field}
 use Rattle.sap_stim.specs.Stimulus.{stimulus_of}
-use Rattle.sap_stepping.specs.Followed.{Shows, blamed_for}
+use Rattle.sap_stepping.specs.Followed.{IsFaultOfSome, Shows, blamed_for}
 use Rattle.sap_stepping.specs.Printed.{IsPartOf, Printed, Stops, StopsFor, Unprinted}
 use Rattle.sap_stepping.specs.declared.stopped.Stopped.{Stopped}
 use Rattle.sap_stepping.specs.declared.stopped.Stopped.TheVariants.{Input, Output as OnOutput, Memory}
 use Rattle.sap_commands.specs.Ending.{Ending, done, refused, failed, no_memory, IsFree}
-use Rattle.sap_commands.specs.Asks.{prints, Cause, Files, IsCut, Leaves, Output, Shows as ShowsOn, end_of}
+use Rattle.sap_commands.specs.Asks.{prints, Cause, Files, IsCut, Leaves, MayEnd, Output, Shows as ShowsOn, end_of}
 use Rattle.sap_commands.specs.After.{Blames, Opens, OpensFailed}
 use Rattle.sap_commands.specs.Outside.{OutsideOf}
 use Rattle.sap_commands.specs.Steps.{Counted, Ends, FaultRose, HasWhole, Left, Moment, Same, printed_fault, printed_text}
@@ -76,15 +76,18 @@ module _ (shows : Shows) (ls : Levels) (fs : List Field) (name : List ℕ) where
     outside = λ rose. absurd (never rose);
   }
 
-  pub printed_ends : (fault : Option StimFault) (a b : Moment) → Between a.told b.told (Printed shows ls fs name fault) → b.faults ≡ a.faults → b.lost ≡ a.lost
+  may_end : (fault : Option StimFault) → IsFaultOfSome ls fs fault → MayEnd (prints name text faults_of) (end_of fault)
+  may_end fault (bytes, is) = (bytes, ap end_of is)
+
+  pub printed_ends : (fault : Option StimFault) (a b : Moment) → IsFaultOfSome ls fs fault → Between a.told b.told (Printed shows ls fs name fault) → b.faults ≡ a.faults → b.lost ≡ a.lost
       → (a.sure → b.sure) → Ends (prints name text faults_of) (end_of fault) a b
-  printed_ends fault a b told faults lost sure = record {
+  printed_ends fault a b some told faults lost sure = record {
     told = between_map (Printed shows ls fs name fault) (Left (prints name text faults_of) (end_of fault) (FaultRose a b)) a.told b.told
         (λ t n p. printed_left fault (FaultRose a b) t n (λ (changed, s). changed faults) p) told;
     faults = counted_end fault a.faults b.faults faults;
     lost = lost;
     sure = sure;
-    may = inr (fault, refl);
+    may = inr (may_end fault some);
   }
 
   -- a call failed
@@ -197,6 +200,10 @@ module _ (name : List ℕ) (one other : (bytes given : List ℕ) → Type 0) (fi
   cause_same t e (inl free) = inl free
   cause_same t e (inr (bytes, there, is)) = inr (bytes, there, end_same e bytes is)
 
+  may_same : (e : Ending) → IsFree e ⊎ MayEnd (prints name one first) e → IsFree e ⊎ MayEnd (prints name other later) e
+  may_same e (inl free) = inl free
+  may_same e (inr (bytes, is)) = inr (bytes, end_same e bytes is)
+
   left_same : (e : Ending) (F : Type 0) (t n : Told) → Left (prints name one first) e F t n → Left (prints name other later) e F t n
   left_same e F t n l = record {
     leaves = leaves_same t n.files e l.leaves;
@@ -217,5 +224,5 @@ module _ (name : List ℕ) (one other : (bytes given : List ℕ) → Type 0) (fi
     faults = ended.faults;
     lost = ended.lost;
     sure = ended.sure;
-    may = ended.may;
+    may = may_same e ended.may;
   }

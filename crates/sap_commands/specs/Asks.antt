@@ -45,7 +45,7 @@ MayEnd (file name k rest) e =
     ⊎ ((bytes : List ℕ) × (v : k.Value) × k.Stands bytes v × MayEnd (rest v) e)
 MayEnd (by V Holds rest) e = (v : V) × Holds v × MayEnd (rest v) e
 MayEnd (gives text last) e = e ≡ last
-MayEnd (prints name text fault) e = (found : Option StimFault) × (e ≡ end_of found)
+MayEnd (prints name text fault) e = (bytes : List ℕ) × (e ≡ end_of (fault bytes))
 MayEnd (writes name text) e = e ≡ done
 MayEnd (stops why) e = e ≡ refused why
 

@@ -1,6 +1,6 @@
 //! The command `twin`.
 
-ghost use Rattle.std.specs.Prelude.{◌≡◌, ℕ, List, IfOk};
+ghost use Rattle.std.specs.Prelude.{◌≡◌, ◌<◌, ◌^◌, ℕ, List, IfOk, length};
 ghost use Rattle.sap_check.specs.Checked.{levels_in, tree_in};
 ghost use Rattle.sap_latfile.specs.LatticeFile.{IsLatticeOfFile};
 ghost use Rattle.sap_stream.specs.Apart.{AreOfOneLength};
@@ -43,6 +43,7 @@ fn stream_of<'a>(
     place: u64,
     bytes: &Bytes,
 ) -> Result<Stream, Failure<'a>>
+    requires { length bytes.now < 2 ^ 32 }
     ensures { Gives (stream_file place (levels_in checked.now) (tree_in checked.now)) (λ stream. stream) bytes.now result }
 {
     let parsed = read_stimulus(alloc, checked, bytes.as_slice())?;
@@ -118,7 +119,7 @@ fn verdict<'a>(
     ensures { Finds (levels_in checked.now) (tree_in checked.now) level one.now other.now word.now result }
 {
     match agree(one, other, level, checked.lattice()) {
-        None => Ok(agreement(alloc, word, one.as_slice().len() as u64)?),
+        None => Ok(agreement(alloc, word, one.cycles())?),
         Some(apart) => Err(differ(alloc, checked, apart)),
     }
 }

@@ -1,6 +1,6 @@
 //! What a command reads: the bytes of files, and what they stand for.
 
-ghost use Rattle.std.specs.Prelude.{◌≡◌};
+ghost use Rattle.std.specs.Prelude.{◌≡◌, ◌<◌, ◌^◌, IfOk, length};
 ghost use Rattle.sap_check.specs.Checked.{tree_in};
 ghost use Rattle.sap_tree.specs.Designs.{design_of as tree_of};
 ghost use Rattle.sap_commands.specs.Kinds.{lattice_file, design_file, design_text_file, module_file};
@@ -26,7 +26,8 @@ use std::alloc::Global;
 
 /// The bytes of a file.
 pub fn read<'a, D: Desk>(alloc: Global, desk: &mut D, name: &'a str) -> Result<Bytes, Failure<'a>>
-    ensures { Read name.now result (seen D.told D.faults D.lost D.sure desk.old) (seen D.told D.faults D.lost D.sure desk.new) }
+    ensures read { Read name.now result (seen D.told D.faults D.lost D.sure desk.old) (seen D.told D.faults D.lost D.sure desk.new) }
+    ensures short { IfOk result (λ bytes. length bytes < 2 ^ 32) }
 {
     match read_file(alloc, desk, name) {
         Ok(bytes) => Ok(bytes),

@@ -72,6 +72,7 @@ pub fn read_front<D: Desk>(
 /// Reads the whole file of a name, in pieces of 4096 bytes. After a failed call it makes no further one.
 pub fn read_file<D: Desk>(alloc: Global, desk: &mut D, name: &str) -> Result<Bytes, DeskError>
     ensures bytes { IfOk result (λ bytes. IfSome (D.told desk.old) (λ t. t.files name.now ≡ Some bytes)) }
+    ensures short { IfOk result (λ bytes. length bytes < 2 ^ 32) }
     ensures told { OnOk result (D.told desk.new ≡ D.told desk.old) }
     ensures failed { IsErrOf result DeskError.Failed → Between (D.told desk.old) (D.told desk.new) (FailedReading name.now) }
     ensures memory { IsErrOf result DeskError.Memory → D.told desk.new ≡ D.told desk.old }

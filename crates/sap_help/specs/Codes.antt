@@ -15,7 +15,7 @@ lattice_codes = codes "L1" ∷ codes "L2" ∷ codes "L3" ∷ codes "L4" ∷ code
 
 -- of stimuli
 abbrev pub stimulus_codes : List (List ℕ)
-stimulus_codes = codes "S1" ∷ codes "S2" ∷ codes "S3" ∷ codes "S4" ∷ codes "S5" ∷ []
+stimulus_codes = codes "S1" ∷ codes "S2" ∷ codes "S3" ∷ codes "S4" ∷ codes "S5" ∷ codes "S6" ∷ []
 
 -- of modules
 abbrev pub module_codes : List (List ℕ)

@@ -26,7 +26,7 @@ Example:
 Cure: Give both keys and no other; `below` may be empty, `below = []`.
 ";
 
-const L3: &str = "L3: there are fewer than 2 levels or more than 16.
+const L3: &str = "L3: there are fewer than 2 levels or more than 64.
 
 The count stands behind the code.
 
@@ -35,7 +35,7 @@ Example:
     levels = [\"low\"]
     below = []
 
-Cure: List 2 to 16 levels.
+Cure: List 2 to 64 levels.
 ";
 
 const L4: &str = "L4: a level has no good name.

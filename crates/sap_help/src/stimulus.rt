@@ -36,7 +36,7 @@ Cure: Write a level that the lattice file lists under `levels`.
 const S4: &str = "S4: a line has too many fields or too few.
 
 A line has a field for each input, in the order of declaration, with one space between them; with no
-inputs it is empty. A space at its end counts as one more field.
+inputs it has none. A count at its end is no field; a space at its end counts as one more field.
 
 Example:
 
@@ -54,6 +54,18 @@ Example:
 Cure: End each line with a line feed, the last one too.
 ";
 
+const S6: &str = "S6: the count of a line isn't `*` and a number from 1 to 65535.
+
+A last piece of a line that begins with `*` is its count: the line stands for so many cycles. The
+number has 1 to 5 decimal digits.
+
+Example:
+
+    5@low *0
+
+Cure: Write `5@low *3` for three cycles, and `5@low` for one.
+";
+
 pub(crate) fn stimulus_fault(code: &str) -> Option<&'static str>
     ensures known { is_some result ≡ is_one_of stimulus_codes code.now }
     ensures begins { IfSome result (λ text. IsTextOf code.now text.now) }
@@ -68,6 +80,8 @@ pub(crate) fn stimulus_fault(code: &str) -> Option<&'static str>
         Some(S4)
     } else if code == "S5" {
         Some(S5)
+    } else if code == "S6" {
+        Some(S6)
     } else {
         None
     }

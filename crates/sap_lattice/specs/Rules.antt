@@ -8,7 +8,7 @@ use Rattle.sap_lattice.specs.Closure.{Below, IsLevel, IsJoin, IsLeast, name_at}
 
 -- L3: there are too few or too many levels
 abbrev pub BadCount : List (List ℕ) → Type 0
-BadCount names = (length names < 2) ⊎ (16 < length names)
+BadCount names = (length names < 2) ⊎ (64 < length names)
 
 -- what is no name for the level at place k
 pub data BadName (names : List (List ℕ)) (k : ℕ) : Type 0 where
@@ -46,7 +46,7 @@ HasNoLeast names pairs = (b : ℕ) → ¬ IsLeast names pairs b
 -- none of the rules up to the one that is named is broken
 pub record KeepsCount (names : List (List ℕ)) : Type 0 where
   pub at_least_two : 2 ≤ length names
-  pub not_too_many : length names ≤ 16
+  pub not_too_many : length names ≤ 64
 
 pub record KeepsNames (names : List (List ℕ)) : Type 0 where
   pub before : KeepsCount names

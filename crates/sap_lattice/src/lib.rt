@@ -26,7 +26,7 @@ pub use name::Name;
 pub use pair::Pair;
 
 /// The largest number of levels of a lattice: at most 64, so that a code has less than 64 bits.
-pub const MOST_LEVELS: usize = 16;
+pub const MOST_LEVELS: usize = 64;
 
 /// The largest number of bytes in the name of a level.
 pub const MOST_NAME_BYTES: usize = 40;

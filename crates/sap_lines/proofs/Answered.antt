@@ -1,58 +1,89 @@
 -- What an answer says, once the next line was told.
-use Rattle.std.proofs.Common.{◌≡◌, ℕ, ◌+◌, ◌<◌, ◌≤◌, Bool, true, false, List, [], ◌++◌, length, drop, refl, sym, ap, ◌∙◌, subst, inl, inr, arith}
-use Rattle.std.specs.Prelude.{◌⊎◌, ◌^◌, ◌-◌, min, Option, Some, None, option_map, IfSome}
-use Rattle.sap_desk.specs.Desk.{Told, Use, reads, writes, closed, stream, at_number, blame_at, moved, moved_use, name_if_reading, rest_of}
+use Rattle.std.proofs.Common.{◌≡◌, ℕ, ◌+◌, ◌<◌, ◌≤◌, Bool, false, List, [], ◌++◌, length, drop, append_assoc, refl, sym, ap, ◌∙◌, subst, inl, inr, arith}
+use Rattle.std.specs.Prelude.{◌⊎◌, ◌^◌, IsTrue, Option, Some, None, IfSome}
+use Rattle.sap_desk.specs.Desk.{Told, Use, reads, writes, closed, stream, blame_at, moved, moved_use, name_if_reading, rest_of}
 use Rattle.sap_desk.specs.Cause.{counted}
 use Rattle.sap_desk.specs.Whole.{Between}
 use Rattle.sap_desk.proofs.Steps.{at_number-same, option_map-same, rest-moved, number-at}
 use Rattle.sap_lattice.specs.Levels.{Levels}
-use Rattle.sap_meaning.specs.Cycle.{Tagged as Given}
+use Rattle.sap_stream.specs.Spans.{Span}
 use Rattle.sap_stim.specs.declared.field.Field.{Field}
 use Rattle.sap_stim.specs.declared.stimulus.Parsed.{Parsed}
 use Rattle.sap_stim.specs.Stimulus.{read_from}
 use Rattle.sap_lines.specs.declared.next.Next.{Next}
 use Rattle.sap_lines.specs.declared.next.Next.TheVariants.{Line, End, Fault, Failed}
-use Rattle.sap_lines.specs.Answers.{is_failed, lines_in, count_after, Tells, Counted, ReadOn, blamed_by}
+use Rattle.sap_lines.specs.Answers.{is_failed, is_line, lines_in, count_after, Tells, TellsSome, Counted, ReadOn, blamed_by}
 use Rattle.sap_lines.specs.Reader.{Reader, to_come}
-use Rattle.sap_lines.specs.Fetched.{IsDecided, EndsOrDecided, More, MoreAndFailed, read_failed}
+use Rattle.sap_lines.specs.Fetched.{IsDecided, EndsOrDecided, More, MoreAndFailed}
 
 -- the count of lines is that of the next
-tells_after : (next : Next) (count : ℕ) (p q : Parsed) (of : ℕ → Parsed) (inputs : List Given) → count < 2 ^ 32 → Tells next p inputs (of (count + 2)) → Tells next p inputs (of (count_after next count + 1))
-tells_after Line count p q of inputs small h = let e : count + 2 ≡ counted count + 1 = omega arith in subst (λ (n : ℕ). Tells Line p inputs (of n)) e h
-tells_after End count p q of inputs small h = h
-tells_after (Fault fault) count p q of inputs small h = h
-tells_after Failed count p q of inputs small h = h
+tells_after : (next : Next) (count : ℕ) (p q : Parsed) (of : ℕ → Parsed) (line : Span) → count < 2 ^ 32 → Tells next p line (of (count + 2)) → Tells next p line (of (count_after next count + 1))
+tells_after Line count p q of line small h = let e : count + 2 ≡ counted count + 1 = omega arith in subst (λ (n : ℕ). Tells Line p line (of n)) e h
+tells_after End count p q of line small h = h
+tells_after (Fault fault) count p q of line small h = h
+tells_after Failed count p q of line small h = h
 
-pub told_lines : (ls : Levels) (fs : List Field) (channel count : ℕ) (held now later : List ℕ) (inputs : List Given) (next : Next) (told told_now : Option Told) (g h : ℕ → ℕ)
+pub told_lines : (ls : Levels) (fs : List Field) (channel count : ℕ) (held now later : List ℕ) (line : Span) (next : Next) (told told_now : Option Told) (g h : ℕ → ℕ)
     → More channel held now told told_now g h → IfSome told_now (EndsOrDecided channel now)
-    → ((rest : List ℕ) → IsDecided now ⊎ (rest ≡ []) → count < 2 ^ 32 → Tells next (read_from ls fs (count + 1) (now ++ rest)) inputs (read_from ls fs (count + 2) (later ++ rest)))
+    → ((rest : List ℕ) → IsDecided now ⊎ (rest ≡ []) → count < 2 ^ 32 → Tells next (read_from ls fs (count + 1) (now ++ rest)) line (read_from ls fs (count + 2) (later ++ rest)))
     → count < 2 ^ 32
-    → Between told told_now (λ t n. Tells next (read_from ls fs (count + 1) (held ++ rest_of t channel)) inputs (read_from ls fs (count_after next count + 1) (later ++ rest_of n channel)))
-told_lines ls fs channel count held now later inputs next None told_now g h m decided tells small = tt
-told_lines ls fs channel count held now later inputs next (Some t) None g h m decided tells small = absurd (let e : None ≡ Some (moved channel m.count t) = m.told in let f : ⊥ = cc in f)
-told_lines ls fs channel count held now later inputs next (Some t) (Some n) g h m decided tells small =
+    → Between told told_now (λ t n. Tells next (read_from ls fs (count + 1) (held ++ rest_of t channel)) line (read_from ls fs (count_after next count + 1) (later ++ rest_of n channel)))
+told_lines ls fs channel count held now later line next None told_now g h m decided tells small = tt
+told_lines ls fs channel count held now later line next (Some t) None g h m decided tells small = absurd (let e : None ≡ Some (moved channel m.count t) = m.told in let f : ⊥ = cc in f)
+told_lines ls fs channel count held now later line next (Some t) (Some n) g h m decided tells small =
     let moved_on : n ≡ moved channel m.count t = (let e : Some n ≡ Some (moved channel m.count t) = m.told in cc) in
     let left : rest_of n channel ≡ drop m.count (rest_of t channel) = ap (λ (x : Told). rest_of x channel) moved_on ∙ rest-moved channel m.count t in
     let same : now ++ rest_of n channel ≡ held ++ rest_of t channel = ap (λ (r : List ℕ). now ++ r) left ∙ m.bytes in
-    let here : Tells next (read_from ls fs (count + 1) (now ++ rest_of n channel)) inputs (read_from ls fs (count + 2) (later ++ rest_of n channel)) = tells (rest_of n channel) decided small in
-    let moved_here : Tells next (read_from ls fs (count + 1) (held ++ rest_of t channel)) inputs (read_from ls fs (count + 2) (later ++ rest_of n channel))
-    = subst (λ (s : List ℕ). Tells next (read_from ls fs (count + 1) s) inputs (read_from ls fs (count + 2) (later ++ rest_of n channel))) same here in
-    tells_after next count (read_from ls fs (count + 1) (held ++ rest_of t channel)) (read_from ls fs (count + 1) (held ++ rest_of t channel)) (λ k. read_from ls fs k (later ++ rest_of n channel)) inputs small moved_here
+    let here : Tells next (read_from ls fs (count + 1) (now ++ rest_of n channel)) line (read_from ls fs (count + 2) (later ++ rest_of n channel)) = tells (rest_of n channel) decided small in
+    let moved_here : Tells next (read_from ls fs (count + 1) (held ++ rest_of t channel)) line (read_from ls fs (count + 2) (later ++ rest_of n channel))
+    = subst (λ (s : List ℕ). Tells next (read_from ls fs (count + 1) s) line (read_from ls fs (count + 2) (later ++ rest_of n channel))) same here in
+    tells_after next count (read_from ls fs (count + 1) (held ++ rest_of t channel)) (read_from ls fs (count + 1) (held ++ rest_of t channel)) (λ k. read_from ls fs k (later ++ rest_of n channel)) line small moved_here
 
 -- an answer over a told desk, as the reader is seen
-pub next_told : (ls : Levels) (fs fields : List Field) (channel count count_now : ℕ) (held now later : List ℕ) (inputs inputs_now : List Given) (live live_now : Bool) (next : Next) (told told_now : Option Told)
-    (g h : ℕ → ℕ) (r : Reader) → record { fields = fields; live = live; inputs = inputs; count = count; pending = held } ≡ r → fs ≡ fields → count_now ≡ count_after next count
+pub next_told : (ls : Levels) (fs fields : List Field) (channel count count_now : ℕ) (held now later : List ℕ) (line line_now : Span) (live live_now : Bool) (next : Next) (told told_now : Option Told)
+    (g h : ℕ → ℕ) (r : Reader) → record { fields = fields; live = live; line = line; count = count; pending = held } ≡ r → fs ≡ fields → count_now ≡ count_after next count
     → More channel held now told told_now g h → IfSome told_now (EndsOrDecided channel now)
-    → ((rest : List ℕ) → IsDecided now ⊎ (rest ≡ []) → count < 2 ^ 32 → Tells next (read_from ls fs (count + 1) (now ++ rest)) inputs_now (read_from ls fs (count + 2) (later ++ rest)))
+    → ((rest : List ℕ) → IsDecided now ⊎ (rest ≡ []) → count < 2 ^ 32 → Tells next (read_from ls fs (count + 1) (now ++ rest)) line_now (read_from ls fs (count + 2) (later ++ rest)))
     → r.count < 2 ^ 32
-    → Between told told_now (λ t n. Tells next (to_come ls r (rest_of t channel)) inputs_now
-    (to_come ls (record { fields = fields; live = live_now; inputs = inputs_now; count = count_now; pending = later }) (rest_of n channel)))
-next_told ls fs fields channel count count_now held now later inputs inputs_now live live_now next told told_now g h r seen same counts m decided tells =
-    subst (λ (q : Reader). q.count < 2 ^ 32 → Between told told_now (λ t n. Tells next (to_come ls q (rest_of t channel)) inputs_now (read_from ls fields (count_now + 1) (later ++ rest_of n channel)))) seen
+    → Between told told_now (λ t n. Tells next (to_come ls r (rest_of t channel)) line_now
+    (to_come ls (record { fields = fields; live = live_now; line = line_now; count = count_now; pending = later }) (rest_of n channel)))
+next_told ls fs fields channel count count_now held now later line line_now live live_now next told told_now g h r seen same counts m decided tells =
+    subst (λ (q : Reader). q.count < 2 ^ 32 → Between told told_now (λ t n. Tells next (to_come ls q (rest_of t channel)) line_now (read_from ls fields (count_now + 1) (later ++ rest_of n channel)))) seen
     (λ small.
-    subst (λ (k : ℕ). Between told told_now (λ t n. Tells next (read_from ls fields (count + 1) (held ++ rest_of t channel)) inputs_now (read_from ls fields (k + 1) (later ++ rest_of n channel)))) (sym counts)
-    (subst (λ (list : List Field). Between told told_now (λ t n. Tells next (read_from ls list (count + 1) (held ++ rest_of t channel)) inputs_now (read_from ls list (count_after next count + 1) (later ++ rest_of n channel)))) same
-    (told_lines ls fs channel count held now later inputs_now next told told_now g h m decided tells small)))
+    subst (λ (k : ℕ). Between told told_now (λ t n. Tells next (read_from ls fields (count + 1) (held ++ rest_of t channel)) line_now (read_from ls fields (k + 1) (later ++ rest_of n channel)))) (sym counts)
+    (subst (λ (list : List Field). Between told told_now (λ t n. Tells next (read_from ls list (count + 1) (held ++ rest_of t channel)) line_now (read_from ls list (count_after next count + 1) (later ++ rest_of n channel)))) same
+    (told_lines ls fs channel count held now later line_now next told told_now g h m decided tells small)))
+
+-- on every desk
+
+some_lines : (ls : Levels) (fs : List Field) (count : ℕ) (held now later : List ℕ) (line : Span) (next : Next) → (piece : List ℕ) × (now ≡ held ++ piece) → (IsTrue (is_line next) → IsDecided now)
+    → ((rest : List ℕ) → IsDecided now ⊎ (rest ≡ []) → count < 2 ^ 32 → Tells next (read_from ls fs (count + 1) (now ++ rest)) line (read_from ls fs (count + 2) (later ++ rest)))
+    → count < 2 ^ 32
+    → (more : List ℕ) × ((rest : List ℕ) → IsTrue (is_line next) ⊎ (rest ≡ []) → Tells next (read_from ls fs (count + 1) (held ++ (more ++ rest))) line (read_from ls fs (count_after next count + 1) (later ++ rest)))
+some_lines ls fs count held now later line next (piece, is) decided tells small = (piece, so) where
+  told_by : (rest : List ℕ) → IsTrue (is_line next) ⊎ (rest ≡ []) → IsDecided now ⊎ (rest ≡ [])
+  told_by rest (inl given) = inl (decided given)
+  told_by rest (inr none) = inr none
+
+  so : (rest : List ℕ) → IsTrue (is_line next) ⊎ (rest ≡ []) → Tells next (read_from ls fs (count + 1) (held ++ (piece ++ rest))) line (read_from ls fs (count_after next count + 1) (later ++ rest))
+  so rest h =
+      let all : now ++ rest ≡ held ++ (piece ++ rest) = ap (λ (xs : List ℕ). xs ++ rest) is ∙ append_assoc held piece rest in
+      let p : Parsed = read_from ls fs (count + 1) (held ++ (piece ++ rest)) in
+      tells_after next count p p (λ k. read_from ls fs k (later ++ rest)) line small
+      (subst (λ (s : List ℕ). Tells next (read_from ls fs (count + 1) s) line (read_from ls fs (count + 2) (later ++ rest))) all (tells rest (told_by rest h) small))
+
+pub next_some : (ls : Levels) (fs fields : List Field) (count count_now : ℕ) (held now later : List ℕ) (line line_now : Span) (live live_now : Bool) (next : Next) (r : Reader)
+    → record { fields = fields; live = live; line = line; count = count; pending = held } ≡ r → fs ≡ fields → count_now ≡ count_after next count
+    → (piece : List ℕ) × (now ≡ held ++ piece) → (IsTrue (is_line next) → IsDecided now)
+    → ((rest : List ℕ) → IsDecided now ⊎ (rest ≡ []) → count < 2 ^ 32 → Tells next (read_from ls fs (count + 1) (now ++ rest)) line_now (read_from ls fs (count + 2) (later ++ rest)))
+    → r.count < 2 ^ 32
+    → TellsSome ls next r (record { fields = fields; live = live_now; line = line_now; count = count_now; pending = later })
+next_some ls fs fields count count_now held now later line line_now live live_now next r seen same counts behind decided tells =
+    subst (λ (q : Reader). q.count < 2 ^ 32 → TellsSome ls next q (record { fields = fields; live = live_now; line = line_now; count = count_now; pending = later })) seen
+    (λ small.
+    subst (λ (k : ℕ). TellsSome ls next (record { fields = fields; live = live; line = line; count = count; pending = held }) (record { fields = fields; live = live_now; line = line_now; count = k; pending = later })) (sym counts)
+    (subst (λ (list : List Field). TellsSome ls next (record { fields = list; live = live; line = line; count = count; pending = held }) (record { fields = list; live = live_now; line = line_now; count = count_after next count; pending = later })) same
+    (some_lines ls fs count held now later line_now next behind decided tells small)))
 
 pub counted_so : (next : Next) (faults now : ℕ) → is_failed next ≡ false → now ≡ faults → Counted next faults now
 counted_so Line faults now fine same = same

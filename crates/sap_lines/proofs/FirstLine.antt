@@ -1,5 +1,5 @@
 -- The first line of bytes, whatever comes behind them.
-use Rattle.std.proofs.Common.{◌≡◌, ℕ, suc, ◌+◌, ◌-◌, ◌<◌, ◌≤◌, Bool, true, false, not, cond, eqb, ltb, Option, Some, Result, Ok, Err, List, [], ◌∷◌, ◌++◌, length, take, drop, refl, sym, ap, ap₂, ◌∙◌, inl, inr, length-append, length-take, length-drop, arith, if◌then◌else◌, min}
+use Rattle.std.proofs.Common.{◌≡◌, ℕ, suc, ◌+◌, ◌-◌, ◌<◌, ◌≤◌, Bool, true, false, not, cond, eqb, ltb, Result, Ok, Err, List, [], ◌∷◌, ◌++◌, length, take, drop, refl, sym, ap, ap₂, ◌∙◌, inl, inr, length-append, length-take, length-drop, arith, if◌then◌else◌, min}
 use Rattle.std.specs.Prelude.{◌⊎◌, ◌||◌, nat_lt}
 use Rattle.std.specs.List.{position_or_len, before_first, after_first, list_any}
 use Rattle.std.proofs.lemmas.List.{append-nil, take-append-le, drop-append-le}
@@ -7,14 +7,14 @@ use Rattle.std.proofs.lemmas.Bool.{cases_lt}
 use borrow.Author.Tests.{ltb-true}
 use Rattle.std.proofs.lemmas.Bool.Decides.{nat_tests}
 use Rattle.sap_lattice.specs.Levels.{Levels}
-use Rattle.sap_meaning.specs.Cycle.{Tagged as Given}
+use Rattle.sap_stream.specs.Spans.{Span}
 use Rattle.sap_stim.specs.declared.fault.StimCode.{StimCode}
 use Rattle.sap_stim.specs.declared.fault.StimCode.TheVariants.{S1, S5}
 use Rattle.sap_stim.specs.declared.field.Field.{Field}
 use Rattle.sap_stim.specs.Line.{line_of}
 use Rattle.sap_stim.specs.Stimulus.{ahead, finished, stopped, going_on, read_from}
 use Rattle.sap_stim.proofs.Pieces.{is_mark, before_unmarked, length_before}
-use Rattle.sap_stim.proofs.Lines.{read_line, is_less, is_no_less}
+use Rattle.sap_stim.proofs.Lines.{read_line, is_less}
 use Rattle.sap_lines.specs.Fetched.{IsDecided}
 
 abbrev pub place : List ℕ → ℕ
@@ -34,6 +34,14 @@ any_marked (b ∷ bs) e =
       | true ↦ λ _. omega arith
       | false ↦ λ h. let r = any_marked bs h in omega arith
     ] e
+
+pub marked_any : (s : List ℕ) → place s < length s → list_any (is_mark 10) s ≡ true
+marked_any [] h = absurd (omega arith)
+marked_any (b ∷ bs) h =
+    elim (eqb b 10) as (λ t. cond (not t) (1 + place bs) 0 < suc (length bs) → (t || list_any (is_mark 10) bs) ≡ true) [
+      | true ↦ λ _. refl
+      | false ↦ λ small. marked_any bs (omega arith)
+    ] h
 
 -- bytes behind an LF don't move it
 place_more : (s rest : List ℕ) → place s < length s → place (s ++ rest) ≡ place s
@@ -57,7 +65,7 @@ too_long : (ls : Levels) (fs : List Field) (ended : Bool) (text : List ℕ) → 
 too_long ls fs ended text h = let e : nat_lt 65536 (length text) ≡ true = is_less 65536 (length text) h in rw e refl
 
 -- what the first line gives, with its end or without
-abbrev pub first_of : Levels → List Field → List ℕ → Result (List Given) StimCode
+abbrev pub first_of : Levels → List Field → List ℕ → Result Span StimCode
 first_of ls fs s = line_of ls fs (ltb (length (before s)) (length s)) (before s)
 
 before_more : (s rest : List ℕ) → place s < length s → before (s ++ rest) ≡ before s
@@ -97,14 +105,14 @@ line_read : (ls : Levels) (fs : List Field) (n : ℕ) (s rest : List ℕ) → 0 
 line_read ls fs n s rest some decided =
     let whole : length (s ++ rest) ≡ length s + length rest = length-append s rest in
     read_line ls fs n (s ++ rest) (omega arith)
-    ∙ ap (λ (r : Result (List Given) StimCode). going_on n r (read_from ls fs (n + 1) (after (s ++ rest)))) (first_same ls fs s rest decided)
+    ∙ ap (λ (r : Result Span StimCode). going_on n r (read_from ls fs (n + 1) (after (s ++ rest)))) (first_same ls fs s rest decided)
 
-not_ended : (long : Bool) (x : List Given) → Ok x ≡ (if long then Err S1 else Err S5) → ⊥
+not_ended : (long : Bool) (x : Span) → Ok x ≡ (if long then Err S1 else Err S5) → ⊥
 not_ended true x e = cc
 not_ended false x e = cc
 
--- only a line with its end gives inputs
-pub ok_ended : (ls : Levels) (fs : List Field) (ended : Bool) (text : List ℕ) (x : List Given) → Ok x ≡ line_of ls fs ended text → ended ≡ true
+-- only a line with its end isn't refused
+pub ok_ended : (ls : Levels) (fs : List Field) (ended : Bool) (text : List ℕ) (x : Span) → Ok x ≡ line_of ls fs ended text → ended ≡ true
 ok_ended ls fs true text x e = refl
 ok_ended ls fs false text x e = absurd (not_ended (nat_lt 65536 (length text)) x e)
 
@@ -121,19 +129,19 @@ ok_marked s e =
           absurd (omega arith)
     ]
 
-pub line_taken : (ls : Levels) (fs : List Field) (n m : ℕ) (s rest text now : List ℕ) (ended : Bool) (inputs : List Given) → 0 < length s → IsDecided s ⊎ (rest ≡ [])
-    → text ≡ before s → ended ≡ ltb (length text) (length s) → Ok inputs ≡ line_of ls fs ended text → now ≡ drop (length text + 1) s → m ≡ n + 1
-    → read_from ls fs n (s ++ rest) ≡ ahead inputs (read_from ls fs m (now ++ rest))
-line_taken ls fs n m s rest text now ended inputs some decided line test given left next =
-    let same : line_of ls fs ended text ≡ first_of ls fs s = ap (λ (b : Bool). line_of ls fs b text) test ∙ ap (λ (t : List ℕ). line_of ls fs (ltb (length t) (length s)) t) line in
-    let is : Ok inputs ≡ first_of ls fs s = given ∙ same in
-    let marked : place s < length s = ok_marked s (ok_ended ls fs (ltb (length (before s)) (length s)) (before s) inputs is) in
-    let size : length text ≡ place s = ap length line ∙ length_before 10 s marked in
+pub line_taken : (ls : Levels) (fs : List Field) (n m : ℕ) (s rest text now : List ℕ) (ended : Bool) (line : Span) → 0 < length s → IsDecided s ⊎ (rest ≡ [])
+    → text ≡ before s → ended ≡ ltb (length text) (length s) → Ok line ≡ line_of ls fs ended text → now ≡ drop (length text + 1) s → m ≡ n + 1
+    → read_from ls fs n (s ++ rest) ≡ ahead line (read_from ls fs m (now ++ rest))
+line_taken ls fs n m s rest text now ended line some decided is_line test given left next =
+    let same : line_of ls fs ended text ≡ first_of ls fs s = ap (λ (b : Bool). line_of ls fs b text) test ∙ ap (λ (t : List ℕ). line_of ls fs (ltb (length t) (length s)) t) is_line in
+    let is : Ok line ≡ first_of ls fs s = given ∙ same in
+    let marked : place s < length s = ok_marked s (ok_ended ls fs (ltb (length (before s)) (length s)) (before s) line is) in
+    let size : length text ≡ place s = ap length is_line ∙ length_before 10 s marked in
     let behind : after (s ++ rest) ≡ drop (place s + 1) s ++ rest = ap (λ (k : ℕ). drop (k + 1) (s ++ rest)) (place_more s rest marked) ∙ drop-append-le (place s + 1) s rest (omega arith) in
     let behind_now : now ++ rest ≡ drop (place s + 1) s ++ rest = ap (λ (x : List ℕ). x ++ rest) left ∙ ap (λ (k : ℕ). drop (k + 1) s ++ rest) size in
     line_read ls fs n s rest some decided
-    ∙ ap (λ (r : Result (List Given) StimCode). going_on n r (read_from ls fs (n + 1) (after (s ++ rest)))) (sym is)
-    ∙ ap₂ (λ (k : ℕ) (x : List ℕ). ahead inputs (read_from ls fs k x)) (sym next) (behind ∙ sym behind_now)
+    ∙ ap (λ (r : Result Span StimCode). going_on n r (read_from ls fs (n + 1) (after (s ++ rest)))) (sym is)
+    ∙ ap₂ (λ (k : ℕ) (x : List ℕ). ahead line (read_from ls fs k x)) (sym next) (behind ∙ sym behind_now)
 
 pub line_refused : (ls : Levels) (fs : List Field) (n line : ℕ) (s rest text : List ℕ) (ended : Bool) (code : StimCode) → 0 < length s → IsDecided s ⊎ (rest ≡ [])
     → text ≡ before s → ended ≡ ltb (length text) (length s) → Err code ≡ line_of ls fs ended text → line ≡ n
@@ -141,7 +149,7 @@ pub line_refused : (ls : Levels) (fs : List Field) (n line : ℕ) (s rest text :
 line_refused ls fs n line s rest text ended code some decided is_line test given number =
     let same : line_of ls fs ended text ≡ first_of ls fs s = ap (λ (b : Bool). line_of ls fs b text) test ∙ ap (λ (t : List ℕ). line_of ls fs (ltb (length t) (length s)) t) is_line in
     line_read ls fs n s rest some decided
-    ∙ ap (λ (r : Result (List Given) StimCode). going_on n r (read_from ls fs (n + 1) (after (s ++ rest)))) (sym (given ∙ same))
+    ∙ ap (λ (r : Result Span StimCode). going_on n r (read_from ls fs (n + 1) (after (s ++ rest)))) (sym (given ∙ same))
     ∙ ap (λ (k : ℕ). stopped k code) (sym number)
 
 pub none_left : (ls : Levels) (fs : List Field) (n : ℕ) (s rest : List ℕ) → length s ≡ 0 → IsDecided s ⊎ (rest ≡ []) → read_from ls fs n (s ++ rest) ≡ finished
@@ -158,12 +166,12 @@ nothing_held s bytes b test is same =
     let l : length bytes ≡ length s = ap length same in
     grind (arith, nat_tests)
 
-pub taken_of : (ls : Levels) (fs : List Field) (count : ℕ) (s bytes rest text now : List ℕ) (inputs : List Given) → bytes ≡ s → 0 < length bytes → IsDecided s ⊎ (rest ≡ [])
-    → text ≡ before bytes → Ok inputs ≡ line_of ls fs (ltb (length text) (length bytes)) text → now ≡ drop (length text + 1) s
-    → read_from ls fs (count + 1) (s ++ rest) ≡ ahead inputs (read_from ls fs (count + 2) (now ++ rest))
-taken_of ls fs count s bytes rest text now inputs same some decided line given left =
+pub taken_of : (ls : Levels) (fs : List Field) (count : ℕ) (s bytes rest text now : List ℕ) (line : Span) → bytes ≡ s → 0 < length bytes → IsDecided s ⊎ (rest ≡ [])
+    → text ≡ before bytes → Ok line ≡ line_of ls fs (ltb (length text) (length bytes)) text → now ≡ drop (length text + 1) s
+    → read_from ls fs (count + 1) (s ++ rest) ≡ ahead line (read_from ls fs (count + 2) (now ++ rest))
+taken_of ls fs count s bytes rest text now line same some decided is_line given left =
     let l : length bytes ≡ length s = ap length same in
-    line_taken ls fs (count + 1) (count + 2) s rest text now (ltb (length text) (length s)) inputs (omega arith) decided (line ∙ ap before same) refl
+    line_taken ls fs (count + 1) (count + 2) s rest text now (ltb (length text) (length s)) line (omega arith) decided (is_line ∙ ap before same) refl
     (given ∙ ap (λ (x : List ℕ). line_of ls fs (ltb (length text) (length x)) text) same) left (omega arith)
 
 pub refused_of : (ls : Levels) (fs : List Field) (count line : ℕ) (s bytes rest text : List ℕ) (code : StimCode) → bytes ≡ s → 0 < length bytes → IsDecided s ⊎ (rest ≡ [])
@@ -174,12 +182,17 @@ refused_of ls fs count line s bytes rest text code same some decided is_line giv
     line_refused ls fs (count + 1) line s rest text (ltb (length text) (length s)) code (omega arith) decided (is_line ∙ ap before same) refl
     (given ∙ ap (λ (x : List ℕ). line_of ls fs (ltb (length text) (length x)) text) same) number
 
--- a line that gives inputs has its end among the bytes
-pub end_there : (ls : Levels) (fs : List Field) (s bytes text : List ℕ) (inputs : List Given) → bytes ≡ s → Ok inputs ≡ line_of ls fs (ltb (length text) (length bytes)) text → length text + 1 ≤ length s
-end_there ls fs s bytes text inputs same given =
-    let b = is_below (length text) (length bytes) (ok_ended ls fs (ltb (length text) (length bytes)) text inputs given) in
+-- a line that isn't refused has its end among the bytes
+pub end_there : (ls : Levels) (fs : List Field) (s bytes text : List ℕ) (line : Span) → bytes ≡ s → Ok line ≡ line_of ls fs (ltb (length text) (length bytes)) text → length text + 1 ≤ length s
+end_there ls fs s bytes text line same given =
+    let b = is_below (length text) (length bytes) (ok_ended ls fs (ltb (length text) (length bytes)) text line given) in
     let l : length bytes ≡ length s = ap length same in
     omega arith
+
+pub decided_by : (ls : Levels) (fs : List Field) (s bytes text : List ℕ) (line : Span) → bytes ≡ s → text ≡ before bytes → Ok line ≡ line_of ls fs (ltb (length text) (length bytes)) text → IsDecided s
+decided_by ls fs s bytes text line same is_line given =
+    let test : ltb (length (before s)) (length s) ≡ ltb (length text) (length bytes) = sym (ap₂ (λ (x y : List ℕ). ltb (length x) (length y)) (is_line ∙ ap before same) same) in
+    inr (marked_any s (ok_marked s (test ∙ ok_ended ls fs (ltb (length text) (length bytes)) text line given)))
 
 pub shorter_by : (s now : List ℕ) (n : ℕ) → n + 1 ≤ length s → now ≡ drop (n + 1) s → length now + 1 ≤ length s
 shorter_by s now n h left =

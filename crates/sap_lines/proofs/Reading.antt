@@ -1,11 +1,12 @@
 -- Pieces read of a channel, one after another.
-use Rattle.std.proofs.Common.{◌≡◌, ℕ, ◌+◌, ◌<◌, ◌≤◌, List, [], ◌++◌, length, take, drop, append_assoc, refl, sym, ap, ◌∙◌, subst, inl, inr, length-append, length-take, arith}
-use Rattle.std.specs.Prelude.{Bool, true, false, cond, eqb, codes, Option, Some, None, option_map, IfSome}
-use Rattle.std.proofs.lemmas.List.{drop-drop, take-append-drop}
+use Rattle.std.proofs.Common.{◌≡◌, ℕ, ◌+◌, ◌<◌, ◌≤◌, List, ◌++◌, length, take, drop, append_assoc, refl, sym, ap, ◌∙◌, subst, inl, inr, length-append, length-take, arith}
+use Rattle.std.specs.Prelude.{◌-◌, Bool, true, false, cond, eqb, codes, Option, Some, None, option_map, IfSome}
+use Rattle.std.proofs.lemmas.List.{drop-drop, take-append-drop, take-append-le}
+use Rattle.std.proofs.Math.Seq.{take-append_seam, take-append-add}
 use Rattle.sap_desk.specs.Desk.{Told, at_number, moved, rest_of, name_if_reading, blame_at, blamed}
 use Rattle.sap_desk.specs.Cause.{Gave, FailsToRead}
 use Rattle.sap_desk.proofs.Steps.{option_map-twice, option_map-id, at_number-twice, at_number-keeps, moved-none, rest-moved, told_more, number-at}
-use Rattle.sap_lines.specs.Fetched.{IsDecided, EndsOrDecided, More, MoreAndFailed, read_failed}
+use Rattle.sap_lines.specs.Fetched.{IsDecided, EndsOrDecided, HoldsLeast, ReadsLeast, More, MoreAndFailed, read_failed}
 
 none_read : (channel : ℕ) (held : List ℕ) (told : Option Told) → IfSome told (λ t. held ++ drop 0 (rest_of t channel) ≡ held ++ rest_of t channel)
 none_read channel held None = tt
@@ -58,6 +59,9 @@ piece_more channel count held now next before after told mid new g h k m within 
       given = given_more channel m.count count g h k m.given given;
     }
 
+pub behind_more : (held now next piece : List ℕ) → (more : List ℕ) × (now ≡ held ++ more) → next ≡ now ++ piece → (more : List ℕ) × (next ≡ held ++ more)
+behind_more held now next piece (more, is) items = (more ++ piece, items ∙ ap (λ (xs : List ℕ). xs ++ piece) is ∙ append_assoc held more piece)
+
 -- none more
 pub same_more : (channel count : ℕ) (held now : List ℕ) (told mid new : Option Told) (g h k : ℕ → ℕ)
     → More channel held now told mid g h → count ≡ 0 → new ≡ option_map (moved channel count) mid → k ≡ at_number channel (h channel + count) h
@@ -76,6 +80,7 @@ failed_more channel held now told mid new g h k m is given = record {
   count = m.count;
   size = m.size;
   told = is ∙ ap (option_map (read_failed channel)) m.told ∙ option_map-twice (read_failed channel) (moved channel m.count) told;
+  bytes = m.bytes;
   given = given ∙ m.given;
 }
 
@@ -108,3 +113,40 @@ fails_now channel size piece (Some t) new g h same is stands fails =
     let sized : FailsToRead channel (g channel) piece t = subst (λ (n : ℕ). FailsToRead channel (g channel) n t) same fails in
     let here : FailsToRead channel (h channel) piece t = subst (λ (f : ℕ → ℕ). FailsToRead channel (f channel) piece t) (sym stands) sized in
     subst P (sym is) (blame_fails (eqb channel 2) channel (h channel) piece (cond (eqb channel 1) (codes "output") (name_if_reading (t.uses channel))) t here)
+
+-- what is read at least
+
+take_front : (held piece : List ℕ) → take (length held) (held ++ piece) ≡ held
+take_front held piece = take-append_seam held piece
+
+-- a piece was read behind bytes that don't tell the line
+pub least_more : (before held now piece : List ℕ) → (IsDecided held → ⊥) → length before ≤ length held → 0 < length piece → length piece ≤ 4096 → now ≡ held ++ piece → HoldsLeast before now
+least_more before held now piece undecided grown some most is =
+    let size : length now ≡ length held + length piece = ap length is ∙ length-append held piece in
+    let front : take (length held) now ≡ held = ap (take (length held)) is ∙ take_front held piece in
+    inr (length held, grown, omega (arith, size), omega (arith, size), λ decided. undecided (subst IsDecided front decided))
+
+take_same : (held now rest : List ℕ) (count k : ℕ) → now ++ drop count rest ≡ held ++ rest → length held ≤ k → k ≤ length now → take k now ≡ held ++ take (k - length held) rest
+take_same held now rest count k same behind within =
+    let sum : k ≡ length held + (k - length held) = omega arith in
+    sym (take-append-le k now (drop count rest) within)
+    ∙ ap (take k) same
+    ∙ ap (λ (n : ℕ). take n (held ++ rest)) sum
+    ∙ take-append-add held rest (k - length held)
+
+least_told : (channel count : ℕ) (held now : List ℕ) (t : Told) → length now ≡ length held + count → now ++ drop count (rest_of t channel) ≡ held ++ rest_of t channel
+    → HoldsLeast held now → ReadsLeast channel held count t
+least_told channel count held now t size same (inl none) = inl (let l : length now ≡ length held = ap length none in omega arith)
+least_told channel count held now t size same (inr (k, behind, before, most, undecided)) =
+    inr (k - length held, omega arith, omega arith, λ decided. undecided (subst IsDecided (sym (take_same held now (rest_of t channel) count k same behind (omega arith))) decided))
+
+read_count : (channel count : ℕ) (g h : ℕ → ℕ) → h ≡ at_number channel (g channel + count) g → h channel - g channel ≡ count
+read_count channel count g h given = let here : h channel ≡ g channel + count = number-at channel (g channel + count) g h given in omega arith
+
+-- of what is read behind the bytes that were pending
+pub reads_least : (channel count : ℕ) (held now : List ℕ) (told : Option Told) (g h : ℕ → ℕ) → length now ≡ length held + count
+    → IfSome told (λ t. now ++ drop count (rest_of t channel) ≡ held ++ rest_of t channel) → h ≡ at_number channel (g channel + count) g → HoldsLeast held now
+    → IfSome told (ReadsLeast channel held (h channel - g channel))
+reads_least channel count held now None g h size bytes given least = tt
+reads_least channel count held now (Some t) g h size bytes given least =
+    subst (λ (n : ℕ). ReadsLeast channel held n t) (sym (read_count channel count g h given)) (least_told channel count held now t size bytes least)

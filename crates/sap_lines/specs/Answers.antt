@@ -1,12 +1,14 @@
 -- What each answer of a reader says.
-use Rattle.std.specs.Prelude.{◌≡◌, ℕ, ◌+◌, List, [], Bool, true, false, Option, Some, option_map}
+use Rattle.std.specs.Prelude.{◌≡◌, ℕ, ◌+◌, ◌⊎◌, List, [], ◌++◌, Bool, true, false, IsTrue, Option, Some, option_map}
 use Rattle.sap_desk.specs.Cause.{counted}
 use Rattle.sap_desk.specs.Desk.{Told, at_number, blame_at, moved, name_if_reading}
-use Rattle.sap_meaning.specs.Cycle.{Tagged as Given}
+use Rattle.sap_lattice.specs.Levels.{Levels}
+use Rattle.sap_stream.specs.Spans.{Span}
 use Rattle.sap_stim.specs.declared.stimulus.Parsed.{Parsed}
 use Rattle.sap_stim.specs.Stimulus.{ahead, finished}
 use Rattle.sap_lines.specs.declared.next.Next.{Next}
 use Rattle.sap_lines.specs.declared.next.Next.TheVariants.{Line, End, Fault, Failed}
+use Rattle.sap_lines.specs.Reader.{Reader, to_come}
 
 abbrev pub is_line : Next → Bool
 is_line Line = true
@@ -34,12 +36,17 @@ count_after End count = count
 count_after (Fault fault) count = count
 count_after Failed count = count
 
--- What an answer tells of the lines that were to come: the first of them, before those that are to come then; that there was none; that the first was refused, and why.
-abbrev pub Tells : Next → (before : Parsed) → (inputs : List Given) → (after : Parsed) → Type 0
-Tells Line before inputs after = before ≡ ahead inputs after
-Tells End before inputs after = before ≡ finished
-Tells (Fault fault) before inputs after = before ≡ record { stream = []; fault = Some fault }
-Tells Failed before inputs after = Unit {0}
+-- What an answer tells of the lines that were to come: the cycles of the first of them, before those that are to come then; that there was none; that the first was refused, and why.
+abbrev pub Tells : Next → (before : Parsed) → (line : Span) → (after : Parsed) → Type 0
+Tells Line before line after = before ≡ ahead line after
+Tells End before line after = before ≡ finished
+Tells (Fault fault) before line after = before ≡ record { stream = []; fault = Some fault }
+Tells Failed before line after = Unit {0}
+
+-- On every desk it tells this of some bytes: they were to come, and behind them anything where it is a line, else nothing.
+abbrev pub TellsSome : Levels → Next → (was now : Reader) → Type 0
+TellsSome ls next was now =
+    (more : List ℕ) × ((rest : List ℕ) → IsTrue (is_line next) ⊎ (rest ≡ []) → Tells next (to_come ls was (more ++ rest)) now.line (to_come ls now rest))
 
 -- a failed call counts once, as a fault
 abbrev pub Counted : Next → (faults now : ℕ) → Type 0

@@ -1,5 +1,5 @@
 -- Bytes that were read of a channel, and held.
-use Rattle.std.specs.Prelude.{◌≡◌, ℕ, ◌+◌, ◌<◌, ◌⊎◌, List, [], ◌++◌, ◌==◌, drop, length, true, Option, IfSome, option_map}
+use Rattle.std.specs.Prelude.{◌≡◌, ℕ, ◌+◌, ◌<◌, ◌≤◌, ◌⊎◌, List, [], ◌++◌, ◌==◌, drop, take, length, true, Option, IfSome, option_map}
 use Rattle.std.specs.List.{list_any}
 use Rattle.sap_desk.specs.Desk.{Told, at_number, blame_at, moved, name_if_reading, rest_of}
 
@@ -10,6 +10,15 @@ IsDecided bytes = (65536 < length bytes) ⊎ (list_any (λ b. b == 10) bytes ≡
 -- or none come behind them
 abbrev pub EndsOrDecided : (channel : ℕ) → List ℕ → Told → Type 0
 EndsOrDecided channel bytes t = IsDecided bytes ⊎ (rest_of t channel ≡ [])
+
+-- Nothing more is held; or what was held before the last piece didn't tell the line: no byte is read behind what tells it, but for the rest of a piece.
+abbrev pub HoldsLeast : (held now : List ℕ) → Type 0
+HoldsLeast held now = (now ≡ held) ⊎ ((k : ℕ) × (length held ≤ k) × (k < length now) × (length now ≤ k + 4096) × (¬ IsDecided (take k now)))
+
+-- so said of what is read of a channel behind the bytes that are pending
+abbrev pub ReadsLeast : (channel : ℕ) → (pending : List ℕ) → (count : ℕ) → Told → Type 0
+ReadsLeast channel pending count t =
+    (count ≡ 0) ⊎ ((k : ℕ) × (k < count) × (count ≤ k + 4096) × (¬ IsDecided (pending ++ take k (rest_of t channel))))
 
 -- so many bytes more were read of a channel, behind those that were held, and nothing else changed
 pub record More (channel : ℕ) (held now : List ℕ) (told_was told_now : Option Told) (given_was given_now : ℕ → ℕ) : Type 0 where
@@ -28,4 +37,5 @@ pub record MoreAndFailed (channel : ℕ) (held now : List ℕ) (told_was told_no
   pub count : ℕ
   pub size : length now ≡ length held + count
   pub told : told_now ≡ option_map (λ t. read_failed channel (moved channel count t)) told_was
+  pub bytes : IfSome told_was (λ t. now ++ drop count (rest_of t channel) ≡ held ++ rest_of t channel)
   pub given : given_now ≡ at_number channel (given_was channel + count) given_was

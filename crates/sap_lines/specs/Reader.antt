@@ -1,7 +1,7 @@
 -- What a reader of lines is seen as, and what is to come of it.
 use Rattle.std.specs.Prelude.{◌≡◌, ℕ, ◌+◌, ◌≤◌, List, [], ◌++◌, Bool, true, length}
 use Rattle.sap_lattice.specs.Levels.{Levels}
-use Rattle.sap_meaning.specs.Cycle.{Tagged as Given}
+use Rattle.sap_stream.specs.Spans.{Span}
 use Rattle.sap_stim.specs.declared.field.Field.{Field}
 use Rattle.sap_stim.specs.declared.stimulus.Parsed.{Parsed}
 use Rattle.sap_stim.specs.Stimulus.{read_from}
@@ -12,7 +12,7 @@ pub record Reader : Type 0 where
   -- whether a further line may be asked for
   pub live : Bool
   -- what the last line gave
-  pub inputs : List Given
+  pub line : Span
   -- how many lines were given; the count stands still at 2^64 - 1
   pub count : ℕ
   -- the bytes that were read behind these lines

@@ -1,9 +1,9 @@
 //! Reading as much as the next line needs.
 
-ghost use Rattle.std.specs.Prelude.{◌≢◌, ◌<◌, ◌^◌, ◌↔◌, IsTrue, OnOk, OnErr, IfSome};
+ghost use Rattle.std.specs.Prelude.{◌≡◌, ◌≢◌, ◌<◌, ◌^◌, ◌↔◌, ◌++◌, ℕ, List, IsTrue, OnOk, OnErr, IfSome};
 ghost use Rattle.sap_desk.specs.Cause.{CountsAt, FailsToRead};
 ghost use Rattle.sap_desk.specs.Whole.{Between};
-ghost use Rattle.sap_lines.specs.Fetched.{EndsOrDecided, IsDecided, More, MoreAndFailed};
+ghost use Rattle.sap_lines.specs.Fetched.{EndsOrDecided, HoldsLeast, IsDecided, More, MoreAndFailed};
 
 use crate::PIECE_BYTES;
 use crate::held::Held;
@@ -25,7 +25,10 @@ pub(crate) fn is_decided(bytes: &[u8]) -> bool
 pub fn fetch<D: Desk>(held: &mut Held, desk: &mut D, channel: usize) -> Result<(), Failed>
     requires { channel ≢ 2 }
     ensures more { OnOk result (More channel held.old held.new (D.told desk.old) (D.told desk.new) (D.given desk.old) (D.given desk.new)) }
+    ensures behind { (piece : List ℕ) × (held.new ≡ held.old ++ piece) }
     ensures decided { OnOk result (IfSome (D.told desk.new) (EndsOrDecided channel held.new)) }
+    ensures least { HoldsLeast held.old held.new }
+    ensures still { IsDecided held.old → (held.new ≡ held.old) × (desk.new ≡ desk.old) }
     ensures failed { OnErr result (MoreAndFailed channel held.old held.new (D.told desk.old) (D.told desk.new) (D.given desk.old) (D.given desk.new)) }
     ensures bounded { D.given desk.old channel < 2 ^ 32 → D.given desk.new channel < 2 ^ 32 }
     ensures counts { CountsAt channel (D.faults desk.old) (D.faults desk.new) (D.lost desk.old) (D.lost desk.new) result }

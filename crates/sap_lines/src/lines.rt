@@ -1,13 +1,14 @@
 //! The reader.
 
-ghost use Rattle.std.specs.Prelude.{◌≡◌, ◌≢◌, ◌+◌, ◌≤◌, ◌<◌, ◌^◌, ◌⊎◌, ◌↔◌, All, IfOk, IfSome, IsTrue, true, length};
+ghost use Rattle.std.specs.Prelude.{◌≡◌, ◌≢◌, ◌+◌, ◌-◌, ◌≤◌, ◌<◌, ◌^◌, ◌⊎◌, ◌↔◌, All, IfOk, IfSome, IsTrue, true, length};
 ghost use Rattle.sap_desk.specs.Cause.{FailsToRead};
 ghost use Rattle.sap_desk.specs.Desk.{rest_of};
 ghost use Rattle.sap_desk.specs.Whole.{Between};
 ghost use Rattle.sap_stim.specs.Fits.{LineFits};
 ghost use Rattle.sap_stim.specs.Line.{IsSized};
-ghost use Rattle.sap_lines.specs.Answers.{Counted, ReadOn, Tells, count_after, is_failed, is_line};
-ghost use Rattle.sap_lines.specs.Fetched.{IsDecided};
+ghost use Rattle.sap_stream.specs.Spans.{IsCount};
+ghost use Rattle.sap_lines.specs.Answers.{Counted, ReadOn, Tells, TellsSome, count_after, is_failed, is_line};
+ghost use Rattle.sap_lines.specs.Fetched.{IsDecided, ReadsLeast};
 ghost use Rattle.sap_lines.specs.Reader.{Backed, IsNew, to_come};
 ghost use Rattle.sap_lines.specs.declared.TheConstants.{PIECE_BYTES};
 
@@ -20,7 +21,7 @@ use sap_desk::{Desk, Failed};
 use sap_lattice::lattice::Lattice;
 use sap_lattice::level::Level;
 use sap_stim::{Field, Fields};
-use sap_stream::inputs::{Inputs, Tagged};
+use sap_stream::{Inputs, Span, Tagged};
 use std::alloc::{AllocError, Global};
 use std::marker::Model;
 
@@ -31,7 +32,7 @@ pub struct Lines {
     alloc: Global,
     fields: Vec<Field>,
     held: Held,
-    inputs: Inputs,
+    line: Span,
     count: u64,
     live: bool,
 }
@@ -43,9 +44,9 @@ impl Model for Lines {
 
     ghost Value = { Reader };
 
-    ghost view = { λ l. record { fields = l.fields.items; live = l.live; inputs = l.inputs; count = l.count; pending = l.held } };
+    ghost view = { λ l. record { fields = l.fields.items; live = l.live; line = l.line; count = l.count; pending = l.held } };
 
-    ghost invariant = { λ l. All IsSized l.fields.items × (length l.inputs ≡ length l.fields.items) };
+    ghost invariant = { λ l. All IsSized l.fields.items × (length l.line.inputs ≡ length l.fields.items) };
 }
 
 impl Lines {
@@ -61,7 +62,7 @@ impl Lines {
             alloc,
             fields,
             held: Held::new(alloc)?,
-            inputs: Inputs::new(inputs),
+            line: Span::new(Inputs::new(inputs), 1),
             count: 0,
             live: true,
         })
@@ -74,11 +75,19 @@ impl Lines {
         self.live
     }
 
-    /// What the last line gave.
+    /// What the last line gave for each of its cycles.
     pub fn inputs(&self) -> &Inputs
-        ensures { result.now ≡ self.now.inputs }
+        ensures { result.now ≡ self.now.line.inputs }
     {
-        &self.inputs
+        self.line.inputs()
+    }
+
+    /// For how many cycles the last line stands. It takes no memory.
+    pub fn count(&self) -> u32
+        ensures number { result ≡ self.now.line.count }
+        ensures within { IsCount self.now.line.count }
+    {
+        self.line.count()
     }
 
     /// Whether the bytes that were read tell the next line, so that `next` reads none.
@@ -95,13 +104,16 @@ impl Lines {
         requires channel { channel ≢ 2 }
         // What it answers.
         ensures lines { self.old.count < 2 ^ 32 → Between (D.told desk.old) (D.told desk.new)
-            (λ t n. Tells result (to_come lattice.now self.old (rest_of t channel)) self.new.inputs (to_come lattice.now self.new (rest_of n channel))) }
-        ensures fits { IsTrue self.new.live → LineFits lattice.now self.new.fields self.new.inputs }
+            (λ t n. Tells result (to_come lattice.now self.old (rest_of t channel)) self.new.line (to_come lattice.now self.new (rest_of n channel))) }
+        ensures some { self.old.count < 2 ^ 32 → TellsSome lattice.now result self.old self.new }
+        ensures fits { IsTrue self.new.live → LineFits lattice.now self.new.fields self.new.line.inputs }
         ensures live { self.new.live ≡ is_line result }
         ensures fields { self.new.fields ≡ self.old.fields }
         ensures count { self.new.count ≡ count_after result self.old.count }
         // What becomes of the desk.
         ensures read { ReadOn result channel (D.told desk.old) (D.told desk.new) (D.given desk.old) (D.given desk.new) }
+        ensures least { IfSome (D.told desk.old) (ReadsLeast channel self.old.pending (D.given desk.new channel - D.given desk.old channel)) }
+        ensures still { IsDecided self.old.pending → desk.new ≡ desk.old }
         ensures backed { Backed self.old (D.given desk.old channel) → Backed self.new (D.given desk.new channel) }
         ensures bounded { D.given desk.old channel < 2 ^ 32 → D.given desk.new channel < 2 ^ 32 }
         ensures faults { Counted result (D.faults desk.old) (D.faults desk.new) }
@@ -114,7 +126,7 @@ impl Lines {
                 let next = take_line(
                     self.alloc,
                     &mut self.held,
-                    &mut self.inputs,
+                    &mut self.line,
                     self.count,
                     self.fields.as_slice(),
                     lattice,

@@ -1,7 +1,8 @@
 //! Machines in pairs, and streams that agree.
 
-ghost use Rattle.std.specs.Prelude.{◌≡◌, All, IfOk, length};
+ghost use Rattle.std.specs.Prelude.{◌≡◌, ◌<◌, ◌^◌, All, IfOk, length};
 ghost use Rattle.sap_sem.specs.Machine.{program_of};
+ghost use Rattle.sap_stream.specs.Spans.{IsCount};
 
 use crate::fixture::{TWO, TWO_STATES, checked_design, inputs_of, start};
 use crate::shown::push_row;
@@ -11,7 +12,7 @@ use sap_lattice::lattice::Lattice;
 use sap_lattice::level::Level;
 use sap_pair::step_pair;
 use sap_sem::machine::Machine;
-use sap_stream::{Apart, Inputs, Stream, Tagged, agree};
+use sap_stream::{Apart, Inputs, Span, Stream, Tagged, agree};
 use std::alloc::{AllocError, Global};
 use std::test::Fail;
 
@@ -97,25 +98,32 @@ fn two_machines_differ_where_their_inputs_do(rt: HostRuntime) -> Result<(), Fail
     Ok(())
 }
 
-/// A stream of one input.
-fn stream_of(alloc: Global, given: &[Tagged]) -> Result<Stream, AllocError>
+/// A stream of one input, which gets each of these for so many cycles.
+fn stream_of(alloc: Global, given: &[(Tagged, u32)]) -> Result<Stream, AllocError>
+    requires counts { All (λ g. IsCount g.1) given.now }
+    requires few { length given.now < 2 ^ 32 }
     ensures { IfOk result (λ s. All (λ inputs. length inputs ≡ 1) s) }
 {
-    let mut cycles = Vec::new(alloc);
-    for tagged in given {
-        cycles.push(Inputs::new(vec![in alloc; *tagged]?))?;
+    let mut spans = Vec::new(alloc);
+    for (tagged, count) in given {
+        spans.push(Span::new(Inputs::new(vec![in alloc; *tagged]?), *count))?;
     }
-    Ok(Stream::new(cycles))
+    Ok(Stream::new(spans))
 }
 
 /// Where two streams of one input first don't agree at a level.
 fn first_apart(
     alloc: Global,
-    first: &[Tagged],
-    second: &[Tagged],
+    first: &[(Tagged, u32)],
+    second: &[(Tagged, u32)],
     level: Level,
     lattice: &Lattice,
-) -> Result<Option<Apart>, AllocError> {
+) -> Result<Option<Apart>, AllocError>
+    requires first_counts { All (λ g. IsCount g.1) first.now }
+    requires first_few { length first.now < 2 ^ 32 }
+    requires second_counts { All (λ g. IsCount g.1) second.now }
+    requires second_few { length second.now < 2 ^ 32 }
+{
     let first = stream_of(alloc, first)?;
     let second = stream_of(alloc, second)?;
     Ok(agree(&first, &second, level, lattice))
@@ -127,18 +135,38 @@ fn streams_agree_where_what_a_level_sees_is_one(rt: HostRuntime) -> Result<(), F
     let lattice = two_levels(alloc).expect(&rt, "the lattice is taken");
     let low = lattice.find("low").expect(&rt, "there is a level low");
     let high = lattice.find("high").expect(&rt, "there is a level high");
-    let one = [Tagged::new(1, high), Tagged::new(0, low)];
-    let other = [Tagged::new(0, high), Tagged::new(0, low)];
+    let one = [(Tagged::new(1, high), 1), (Tagged::new(0, low), 1)];
+    let other = [(Tagged::new(0, high), 1), (Tagged::new(0, low), 1)];
     let at_once = Some(Apart::At { cycle: 1, input: 0 });
     assert_eq!(rt; first_apart(alloc, &one, &other, low, &lattice)?, None);
     assert_eq!(rt; first_apart(alloc, &one, &other, high, &lattice)?, at_once);
-    let one = [Tagged::new(1, low)];
-    let other = [Tagged::new(0, low)];
+    let one = [(Tagged::new(1, low), 1)];
+    let other = [(Tagged::new(0, low), 1)];
     assert_eq!(rt; first_apart(alloc, &one, &other, low, &lattice)?, at_once);
-    let longer = [Tagged::new(1, low), Tagged::new(0, low)];
+    let longer = [(Tagged::new(1, low), 1), (Tagged::new(0, low), 1)];
     assert_eq!(rt;
         first_apart(alloc, &one, &longer, low, &lattice)?,
         Some(Apart::Lengths(1, 2))
+    );
+    Ok(())
+}
+
+#[test]
+fn streams_agree_however_their_cycles_are_cut(rt: HostRuntime) -> Result<(), Fail> {
+    let alloc = rt.alloc();
+    let lattice = two_levels(alloc).expect(&rt, "the lattice is taken");
+    let low = lattice.find("low").expect(&rt, "there is a level low");
+    let zero = Tagged::new(0, low);
+    let one = Tagged::new(1, low);
+    let first = [(zero, 2), (zero, 1)];
+    let second = [(zero, 1), (zero, 2)];
+    assert_eq!(rt; first_apart(alloc, &first, &second, low, &lattice)?, None);
+    // 0 0 0 1 against 0 0 1 1: apart within the span of the first three cycles
+    let first = [(zero, 3), (one, 1)];
+    let second = [(zero, 1), (zero, 1), (one, 2)];
+    assert_eq!(rt;
+        first_apart(alloc, &first, &second, low, &lattice)?,
+        Some(Apart::At { cycle: 3, input: 0 })
     );
     Ok(())
 }

@@ -1,7 +1,7 @@
 //! The rows of the labelled run of a design.
 #![tactic(auto)]
 
-ghost use Rattle.std.specs.Prelude.{◌≡◌, IfOk};
+ghost use Rattle.std.specs.Prelude.{◌≡◌, ◌<◌, ◌^◌, IfOk, length};
 ghost use Rattle.sap_tree.specs.Designs.{design_of};
 ghost use Rattle.sap_interface.specs.Designs.{StandsForDesign};
 ghost use Rattle.sap_sim.specs.Fields.{fields_of};
@@ -26,6 +26,7 @@ pub fn run(
     stimulus: &[u8],
 ) -> Result<Rows, AllocError>
     requires stands { StandsForDesign lattice.now (design_of design.now) netlist }
+    requires short { length stimulus.now < 2 ^ 32 }
     ensures rows { IfOk result (λ rows. IsRunOf lattice.now (design_of design.now) stimulus.now rows) }
 {
     design_is_whole(design);

@@ -6,4 +6,7 @@ pub mod Origins
 pub mod Fits
 pub mod Runs
 pub mod OneMore
+pub mod Following
+pub mod Spans
+pub mod Few
 pub mod Stepping

@@ -1,11 +1,10 @@
 -- A run with a cycle more.
-use Rattle.std.proofs.Common.{◌≡◌, ℕ, ◌+◌, List, [], ◌∷◌, ◌++◌, Option, Some, None, length, map, refl, sym, ap, ◌∙◌, subst, arith}
+use Rattle.std.proofs.Common.{◌≡◌, ℕ, ◌+◌, List, [], ◌∷◌, ◌++◌, Option, Some, length, refl, ap, ◌∙◌, arith}
 use Rattle.std.specs.List.{last_or}
-use Rattle.std.proofs.lemmas.List.{map-append, length-map}
 use Rattle.sap_lattice.specs.Levels.{Levels}
 use Rattle.sap_maps.specs.Maps.{Name, Valuation}
 use Rattle.sap_net.specs.Net.{Net}
-use Rattle.sap_net.specs.Runs.{IsCycle, IsRunAfter, observed}
+use Rattle.sap_net.specs.Runs.{IsCycle, IsRunAfter}
 use Rattle.sap_sim.specs.Shown.{row_of, rows_from}
 
 -- the last cycle, and the run before it
@@ -38,19 +37,20 @@ pub last_pushed : (b : Option Valuation) (run : List Valuation) (v : Valuation) 
 last_pushed b [] v = refl
 last_pushed b (w ∷ ws) v = last_pushed (Some w) ws v
 
--- the run on the first lists
-pub record HasFront (n : Net) (b : Option Valuation) (xss : List (List ℕ)) (vs : List Valuation) : Type 0 where
+-- the run on the first lists, and behind it that on the others
+pub record HasFront (n : Net) (b : Option Valuation) (xss yss : List (List ℕ)) (vs : List Valuation) : Type 0 where
   pub front : List Valuation
   pub rest : List Valuation
   pub whole : vs ≡ front ++ rest
   pub is_run : IsRunAfter n b xss front
+  pub goes_on : IsRunAfter n (last_or b front) yss rest
 
-pub run_front : (n : Net) (b : Option Valuation) (xss yss : List (List ℕ)) (vs : List Valuation) → IsRunAfter n b (xss ++ yss) vs → HasFront n b xss vs
-run_front n b [] yss vs h = record { front = []; rest = vs; whole = refl; is_run = tt }
+pub run_front : (n : Net) (b : Option Valuation) (xss yss : List (List ℕ)) (vs : List Valuation) → IsRunAfter n b (xss ++ yss) vs → HasFront n b xss yss vs
+run_front n b [] yss vs h = record { front = []; rest = vs; whole = refl; is_run = tt; goes_on = h }
 run_front n b (xs ∷ xss) yss [] h = absurd h
 run_front n b (xs ∷ xss) yss (v ∷ vs) h =
     let r = run_front n (Some v) xss yss vs h.1 in
-    record { front = v ∷ r.front; rest = r.rest; whole = ap (λ (ws : List Valuation). v ∷ ws) r.whole; is_run = (h.0, r.is_run) }
+    record { front = v ∷ r.front; rest = r.rest; whole = ap (λ (ws : List Valuation). v ∷ ws) r.whole; is_run = (h.0, r.is_run); goes_on = r.goes_on }
 
 pub no_run : (n : Net) (b : Option Valuation) (run : List Valuation) → IsRunAfter n b [] run → run ≡ []
 no_run n b [] h = refl

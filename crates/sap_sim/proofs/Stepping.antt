@@ -6,7 +6,7 @@ use Rattle.std.proofs.lemmas.List.{map-append, length-map}
 use Rattle.sap_lattice.specs.Levels.{Levels, order_of}
 use Rattle.sap_lattice.specs.Codes.{Codes}
 use Rattle.sap_lattice.specs.Order.{Laws}
-use Rattle.sap_maps.specs.Maps.{Name, Valuation}
+use Rattle.sap_maps.specs.Maps.{Valuation}
 use Rattle.sap_meaning.specs.Cycle.{Tagged as Given}
 use Rattle.sap_net.specs.Net.{Net}
 use Rattle.sap_net.specs.IsNetlist.{IsNetlist}

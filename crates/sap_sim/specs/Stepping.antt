@@ -9,7 +9,6 @@ use Rattle.sap_net.specs.Runs.{IsRun, observed}
 use Rattle.sap_cycle.specs.Running.{Running, Shows}
 use Rattle.sap_stim.specs.declared.fault.StimFault.{StimFault}
 use Rattle.sap_stim.specs.declared.field.Field.{Field}
-use Rattle.sap_stim.specs.declared.stimulus.Parsed.{Parsed}
 use Rattle.sap_stim.specs.Line.{IsSized}
 use Rattle.sap_stim.specs.Rows.{HoldsRows}
 use Rattle.sap_sim.specs.declared.rows.Rows.{Rows}

@@ -1,6 +1,6 @@
 //! The rows of a netlist on a stimulus.
 
-ghost use Rattle.std.specs.Prelude.{IfOk};
+ghost use Rattle.std.specs.Prelude.{◌<◌, ◌^◌, IfOk, length};
 ghost use Rattle.sap_sim.specs.Simulated.{IsSimulated};
 
 use crate::fields::line_of;
@@ -30,6 +30,7 @@ pub fn simulate(
     netlist: Netlist,
     stimulus: &[u8],
 ) -> Result<Rows, AllocError>
+    requires short { length stimulus.now < 2 ^ 32 }
     ensures rows { IfOk result (λ rows. IsSimulated lattice.now netlist stimulus.now rows) }
 {
     netlist.rules();
@@ -47,7 +48,7 @@ pub fn simulate(
     };
     let shown = shown_of(alloc, &runner, tag)?;
     let plan = Plan { sources, shown };
-    let text = rows(alloc, lattice, &mut runner, &plan, parsed.stream.as_slice())?;
+    let text = rows(alloc, lattice, &mut runner, &plan, parsed.stream.spans())?;
     Ok(Rows {
         text: Bytes::new(text),
         fault: parsed.fault,

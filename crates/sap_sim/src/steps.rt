@@ -1,8 +1,10 @@
 //! A cycle after another.
 
-ghost use Rattle.std.specs.Prelude.{◌≡◌, ◌<◌, ◌++◌, [], List, Option, Some, None, All, map, length, get_or, IfOk, OnOk};
+ghost use Rattle.std.specs.Prelude.{◌≡◌, ◌+◌, ◌<◌, ◌^◌, ◌++◌, [], List, Option, Some, None, All, map, length, get_or, IfOk, OnOk};
+ghost use Rattle.std.specs.List.{last_or};
 ghost use Rattle.sap_maps.specs.Maps.{Valuation};
-ghost use Rattle.sap_net.specs.Runs.{InputsFit, AllFit, IsCycle, IsRun, observed};
+ghost use Rattle.sap_net.specs.Runs.{InputsFit, AllFit, IsCycle, IsRun, IsRunAfter, observed};
+ghost use Rattle.sap_stream.specs.Spans.{cycles_in, cycles_of};
 ghost use Rattle.sap_cycle.specs.Running.{Shows, seen, value_names};
 ghost use Rattle.sap_sim.specs.Fields.{fields_of};
 ghost use Rattle.sap_sim.specs.Numbers.{numbers_of};
@@ -14,7 +16,7 @@ use crate::sources::Source;
 use sap_cycle::runner::{Place, Runner};
 use sap_lattice::Lattice;
 use sap_stim::push_row;
-use sap_stream::{Inputs, Tagged};
+use sap_stream::{Span, Tagged};
 use std::alloc::{AllocError, Global};
 
 /// Where the numbers of inputs come from, and what rows show.
@@ -111,32 +113,61 @@ fn step(
     Ok(())
 }
 
+/// Steps a runner in each cycle of a span, behind `done` other cycles, and adds the rows.
+fn span_rows(
+    alloc: Global,
+    lattice: &Lattice,
+    runner: &mut Runner,
+    plan: &Plan,
+    done: u64,
+    span: &Span,
+    out: &mut Vec<u8>,
+) -> Result<(), AllocError>
+    requires plan { IsPlan lattice.now runner.old.net plan.now }
+    requires count { length span.now.inputs ≡ length (fields_of lattice.now runner.old.net) }
+    requires fits { InputsFit runner.old.net.inputs (numbers_of lattice.now runner.old.net span.now.inputs) }
+    requires few { done + span.now.count < 2 ^ 48 }
+    ensures netlist { runner.new.net ≡ runner.old.net }
+    ensures shows { OnOk result ((before : Option Valuation) (vs : List Valuation) → Shows runner.old before → IsRunAfter runner.old.net before (map (numbers_of lattice.now runner.old.net) (cycles_in span.now)) vs → Shows runner.new (last_or before vs)) }
+    ensures rows { OnOk result ((before : Option Valuation) (vs : List Valuation) → Shows runner.old before → IsRunAfter runner.old.net before (map (numbers_of lattice.now runner.old.net) (cycles_in span.now)) vs
+        → out.new.items ≡ out.old.items ++ rows_from lattice.now (shown_registers lattice.now runner.old.net) (done + 1) (map (observed runner.old.net) vs)) }
+{
+    for k in 0..span.count() {
+        step(
+            alloc,
+            lattice,
+            runner,
+            plan,
+            done + u64::from(k) + 1,
+            span.inputs().values(),
+            out,
+        )?;
+    }
+    Ok(())
+}
+
 /// The rows of all cycles.
 pub fn rows(
     alloc: Global,
     lattice: &Lattice,
     runner: &mut Runner,
     plan: &Plan,
-    stream: &[Inputs],
+    spans: &[Span],
 ) -> Result<Vec<u8>, AllocError>
     requires plan { IsPlan lattice.now runner.old.net plan.now }
     requires unstepped { Shows runner.old None }
-    requires counts { All (λ xs. length xs ≡ length (fields_of lattice.now runner.old.net)) stream.now }
-    requires fits { AllFit runner.old.net.inputs (map (numbers_of lattice.now runner.old.net) stream.now) }
-    ensures { IfOk result (λ text. (vs : List Valuation) → IsRun runner.old.net (map (numbers_of lattice.now runner.old.net) stream.now) vs
+    requires counts { All (λ xs. length xs ≡ length (fields_of lattice.now runner.old.net)) (cycles_of spans.now) }
+    requires fits { AllFit runner.old.net.inputs (map (numbers_of lattice.now runner.old.net) (cycles_of spans.now)) }
+    requires few { length (cycles_of spans.now) < 2 ^ 48 }
+    ensures { IfOk result (λ text. (vs : List Valuation) → IsRun runner.old.net (map (numbers_of lattice.now runner.old.net) (cycles_of spans.now)) vs
         → text.items ≡ rows_from lattice.now (shown_registers lattice.now runner.old.net) 1 (map (observed runner.old.net) vs)) }
 {
     let mut out = Vec::new(alloc);
-    for (k, line) in stream.iter().enumerate() {
-        step(
-            alloc,
-            lattice,
-            runner,
-            plan,
-            k as u64 + 1,
-            line.values(),
-            &mut out,
-        )?;
+    let mut done = 0;
+    for span in spans {
+        let count = span.count();
+        span_rows(alloc, lattice, runner, plan, done, span, &mut out)?;
+        done += u64::from(count);
     }
     Ok(out)
 }

@@ -184,7 +184,7 @@ module _ (d : Setting) where
   widened_short : (u : ℕ) (e : Term ℕ) → length (operations_in (widened u (expr d e))) ≤ term_size e
   widened_short u e =
       let s = expr_short e in
-      elim (cases_Bool (nat_lt u 4)) [ inl t ↦ rw t (omega (arith, s)) | inr f ↦ rw f (omega (arith, s)) ]
+      elim (cases_Bool (nat_lt u 6)) [ inl t ↦ rw t (omega (arith, s)) | inr f ↦ rw f (omega (arith, s)) ]
 
   place_weighs : (u v : ℕ) (e : Term ℕ) (m : ℕ) → operations (placed d u (widened v (expr d e)) 0 m) ≤ 2 * m + term_size e
   place_weighs u v e m =

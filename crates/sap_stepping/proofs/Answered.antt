@@ -1,14 +1,16 @@
 -- The last answer of a reader, or a failed call: what comes of all lines.
-use Rattle.std.proofs.Common.{◌≡◌, ℕ, ◌+◌, ◌<◌, ◌≤◌, List, [], ◌∷◌, ◌++◌, length, take, drop, append_assoc, refl, sym, ◌∙◌, ap, subst, inl, inr, ◌⊎◌, arith, length-drop}
-use Rattle.std.specs.Prelude.{◌^◌, Bool, true, false, cond, eqb, codes, Option, Some, None, IfSome, option_map}
+use Rattle.std.proofs.Common.{◌≡◌, ℕ, ◌+◌, ◌-◌, ◌<◌, ◌≤◌, List, [], ◌∷◌, ◌++◌, length, replicate, take, drop, append_assoc, refl, sym, ◌∙◌, ap, subst, inl, inr, ◌⊎◌, arith, length-drop}
+use Rattle.std.specs.Prelude.{◌^◌, Bool, true, false, cond, eqb, codes, Option, Some, None, IfSome, IsSomeAnd, option_map}
 use Rattle.std.proofs.lemmas.List.{take-append-drop}
 use Rattle.sap_desk.specs.Desk.{Told, IsReading, IsWriting, added, blame_at, blamed, moved, moved_use, name_if_reading, rest_of}
-use Rattle.sap_desk.specs.Cause.{FailsToRead, FillsRoom}
+use Rattle.sap_desk.specs.Cause.{FailsToRead}
 use Rattle.sap_desk.specs.Whole.{Between, CutOutput}
 use Rattle.sap_desk.proofs.Steps.{at_number-same, other_number, rest-moved}
 use Rattle.sap_desk.proofs.WholeFiles.{blame_is}
 use Rattle.sap_lattice.specs.Levels.{Levels}
 use Rattle.sap_meaning.specs.Cycle.{Tagged as Given}
+use Rattle.sap_stream.specs.Spans.{Span, cycles_of}
+use Rattle.sap_stream.proofs.Spans.{cycles_of_push}
 use Rattle.sap_stim.specs.declared.fault.StimFault.{StimFault}
 use Rattle.sap_stim.specs.declared.field.Field.{Field}
 use Rattle.sap_stim.specs.declared.stimulus.Parsed.{Parsed}
@@ -18,9 +20,11 @@ use Rattle.sap_stepping.specs.declared.stopped.Stopped.TheVariants.{Input, Outpu
 use Rattle.sap_lines.specs.Answers.{Tells, count_after}
 use Rattle.sap_lines.specs.Follows.{Ends, Follows, GoesOn, Stops, parsed_as}
 use Rattle.sap_lines.specs.Reader.{Reader, to_come}
+use Rattle.sap_stepping.specs.Cycles.{Adds, CyclesCut}
 use Rattle.sap_stepping.specs.Followed.{Breaks, Broken, FollowedBut, IsPartShown, Shows}
 use Rattle.sap_stepping.proofs.Between.{knowing, known_two, onward, through, through_two}
 use Rattle.sap_stepping.proofs.Going.{going_blamed, going_more, going_read, name_moved, output_use, reading_moved, rest_now, use_now}
+use Rattle.sap_stepping.proofs.Cycles.{cycles_cut}
 use Rattle.sap_stepping.proofs.Along.{Along, SoFar, line_follows}
 
 -- a read failed where it brought what was given to its bound: so then does all that is left
@@ -48,48 +52,48 @@ known_before f F (Some m) one is h = let P : Option Told → Type 0 = λ o. IfSo
 
 module _ (base shows : Shows) (back : (lines : List (List Given)) (text : List ℕ) → shows lines text → base lines text)
     (ls : Levels) (fs : List Field) (channel : ℕ) (stands : List (List Given) → Type 0) (r : Reader) (cycle given k : ℕ) (waiting : List ℕ) where
-  -- all lines were given, and what their steps show is written, but what waits
-  closed_told : (lines : List (List Given)) (fault : Option StimFault) (t m : Told) → SoFar shows ls fs channel given lines r waiting t m
-      → stimulus_of ls fs (rest_of t channel) ≡ parsed_as lines fault → FollowedBut base ls fs channel fault waiting t (moved channel k m)
+  -- all lines were given, and what the steps in their cycles show is written, but what waits
+  closed_told : (lines : List Span) (fault : Option StimFault) (t m : Told) → SoFar shows ls fs channel given lines r waiting t m
+      → stimulus_of ls fs (rest_of t channel) ≡ parsed_as (cycles_of lines) fault → FollowedBut base ls fs channel fault waiting t (moved channel k m)
   closed_told lines fault t m so is = record {
     count = given + k;
     gained = so.gained;
     going = going_read channel given so.gained t m so.going k;
     is_fault = sym (ap (λ (p : Parsed). p.fault) is);
-    shown = subst (λ (p : Parsed). base p.stream (so.gained ++ waiting)) (sym is) (back lines (so.gained ++ waiting) so.shown);
+    shown = subst (λ (p : Parsed). base p.stream (so.gained ++ waiting)) (sym is) (back (cycles_of lines) (so.gained ++ waiting) so.shown);
   }
 
-  pub ended : (inputs : List Given) (s : Reader) (before mid one : Option Told) → Ends → one ≡ option_map (moved channel k) mid
-      → Between mid one (λ t n. Tells End (to_come ls r (rest_of t channel)) inputs (to_come ls s (rest_of n channel)))
+  pub ended : (line : Span) (s : Reader) (before mid one : Option Told) → Ends → one ≡ option_map (moved channel k) mid
+      → Between mid one (λ t n. Tells End (to_come ls r (rest_of t channel)) line (to_come ls s (rest_of n channel)))
       → Along shows ls fs channel stands r cycle given waiting before mid → Between before one (FollowedBut base ls fs channel None waiting)
-  ended inputs s before mid one law read tells a =
+  ended line s before mid one law read tells a =
       through (SoFar shows ls fs channel given a.lines r waiting) (FollowedBut base ls fs channel None waiting) (moved channel k)
-      (λ t n. Tells End (to_come ls r (rest_of t channel)) inputs (to_come ls s (rest_of n channel))) before mid one read
+      (λ t n. Tells End (to_come ls r (rest_of t channel)) line (to_come ls s (rest_of n channel))) before mid one read
       (λ t m so told. closed_told a.lines None t m so
-      (law ls fs (rest_of t channel) a.lines r (rest_of m channel) inputs (to_come ls s (rest_of (moved channel k m) channel)) so.follows told)) a.told tells
+      (law ls fs (rest_of t channel) a.lines r (rest_of m channel) line (to_come ls s (rest_of (moved channel k m) channel)) so.follows told)) a.told tells
 
-  pub refused : (inputs : List Given) (s : Reader) (fault : StimFault) (before mid one : Option Told) → Stops → one ≡ option_map (moved channel k) mid
-      → Between mid one (λ t n. Tells (Fault fault) (to_come ls r (rest_of t channel)) inputs (to_come ls s (rest_of n channel)))
+  pub refused : (line : Span) (s : Reader) (fault : StimFault) (before mid one : Option Told) → Stops → one ≡ option_map (moved channel k) mid
+      → Between mid one (λ t n. Tells (Fault fault) (to_come ls r (rest_of t channel)) line (to_come ls s (rest_of n channel)))
       → Along shows ls fs channel stands r cycle given waiting before mid → Between before one (FollowedBut base ls fs channel (Some fault) waiting)
-  refused inputs s fault before mid one law read tells a =
+  refused line s fault before mid one law read tells a =
       through (SoFar shows ls fs channel given a.lines r waiting) (FollowedBut base ls fs channel (Some fault) waiting) (moved channel k)
-      (λ t n. Tells (Fault fault) (to_come ls r (rest_of t channel)) inputs (to_come ls s (rest_of n channel))) before mid one read
+      (λ t n. Tells (Fault fault) (to_come ls r (rest_of t channel)) line (to_come ls s (rest_of n channel))) before mid one read
       (λ t m so told. closed_told a.lines (Some fault) t m so
-      (law ls fs (rest_of t channel) a.lines r (rest_of m channel) inputs (to_come ls s (rest_of (moved channel k m) channel)) fault so.follows told)) a.told tells
+      (law ls fs (rest_of t channel) a.lines r (rest_of m channel) line (to_come ls s (rest_of (moved channel k m) channel)) fault so.follows told)) a.told tells
 
   -- a read failed: the lines before it are shown, but what waits
 
-  part_of : (lines : List (List Given)) (q : Reader) (text gained rest left : List ℕ) (t : Told) → Follows ls fs (rest_of t channel) lines q left
-      → base lines text → text ≡ gained ++ rest → IsPartShown base ls fs (rest_of t channel) gained
-  part_of lines q text gained rest left t follows shown is = record {
-    lines = lines;
-    more = (to_come ls q left).stream;
+  part_of : (lines : List Span) (left : List ℕ) (gained : List ℕ) (t : Told) → Follows ls fs (rest_of t channel) lines r left
+      → base (cycles_of lines) (gained ++ waiting) → IsPartShown base ls fs (rest_of t channel) gained
+  part_of lines left gained t follows shown = record {
+    lines = cycles_of lines;
+    more = (to_come ls r left).stream;
     stream = sym (ap (λ (p : Parsed). p.stream) follows.parsed);
-    rest = rest;
-    shown = subst (base lines) is shown;
+    rest = waiting;
+    shown = shown;
   }
 
-  broken_told : 2 < channel → (lines : List (List Given)) (t m : Told) → SoFar shows ls fs channel given lines r waiting t m
+  broken_told : 2 < channel → (lines : List Span) (t m : Told) → SoFar shows ls fs channel given lines r waiting t m
       → Broken base ls fs channel Input t (blame_at channel (name_if_reading (m.uses channel)) (moved channel k m))
   broken_told above lines t m so =
       let name : name_if_reading (m.uses channel) ≡ name_if_reading (t.uses channel)
@@ -99,7 +103,7 @@ module _ (base shows : Shows) (back : (lines : List (List Given)) (text : List �
         count = given + k;
         gained = so.gained;
         going = going_blamed channel (given + k) so.gained (name_if_reading (m.uses channel)) t (moved channel k m) (going_read channel given so.gained t m so.going k);
-        part = part_of lines r (so.gained ++ waiting) so.gained waiting (rest_of m channel) t so.follows (back lines (so.gained ++ waiting) so.shown) refl;
+        part = part_of lines (rest_of m channel) so.gained t so.follows (back (cycles_of lines) (so.gained ++ waiting) so.shown);
         blame = name;
         failed = tt;
       })
@@ -112,7 +116,7 @@ module _ (base shows : Shows) (back : (lines : List (List Given)) (text : List �
 
   -- why: what is read brings what was given to its bound
 
-  reaches : (t m : Told) (lines : List (List Given)) → SoFar shows ls fs channel given lines r waiting t m → given < 2 ^ 32
+  reaches : (t m : Told) (lines : List Span) → SoFar shows ls fs channel given lines r waiting t m → given < 2 ^ 32
       → (IsReading (m.uses channel) → ⊥) ⊎ (2 ^ 32 ≤ given + length (rest_of m channel)) → IsReading (t.uses channel) → 2 ^ 32 ≤ length (rest_of t channel)
   reaches t m lines so few why reading = elim why [
     | inl closed ↦ absurd (closed (subst IsReading (sym (use_now channel given so.gained t m so.going)) (reading_moved given (t.uses channel) reading)))
@@ -132,63 +136,62 @@ module _ (base shows : Shows) (back : (lines : List (List Given)) (text : List �
       before mid one is (λ t m so fails. reaches t m a.lines so few (fails_before channel k size given now (name_if_reading (m.uses channel)) m gave bound fails)) a.told
       (known_before failed_read (FailsToRead channel now size) mid one is why)
 
--- a write failed: what waits and the text of the last line are cut
+-- a write failed: what waits and the texts of the last line are cut
 
 module _ (base shows later : Shows) (back : (lines : List (List Given)) (text : List ℕ) → later lines text → base lines text)
-    (ls : Levels) (fs : List Field) (channel : ℕ) (stands : List (List Given) → Type 0) (r s : Reader) (cycle given k : ℕ) (waiting text : List ℕ)
-    (law : GoesOn) (few : r.count < 2 ^ 32) (fields : s.fields ≡ r.fields) (counts : s.count ≡ count_after Line r.count)
-    (more : (lines : List (List Given)) (shown : List ℕ) → stands lines → cycle + 1 ≡ length lines + 1 → shows lines shown → later (lines ++ s.inputs ∷ []) (shown ++ text)) where
-  abbrev whole_text : List ℕ
-  whole_text = waiting ++ text
+    (ls : Levels) (fs : List Field) (channel : ℕ) (stands : List (List Given) → Type 0) (r s : Reader) (cycle given k : ℕ) (waiting : List ℕ)
+    (law : GoesOn) (few : r.count < 2 ^ 32) (fields : s.fields ≡ r.fields) (counts : s.count ≡ count_after Line r.count) where
+  module _ (first : ℕ) (within : first ≤ s.line.count) (text : List ℕ) (adds : Adds stands shows later cycle (replicate first s.line.inputs) text) (part : ℕ) where
+    abbrev whole_text : List ℕ
+    whole_text = waiting ++ text
 
-  cut_told : (lines : List (List Given)) → stands lines → cycle ≡ length lines → (part : ℕ) (t m : Told) → SoFar shows ls fs channel given lines r waiting t m
-      → Tells Line (to_come ls r (rest_of m channel)) s.inputs (to_come ls s (rest_of (moved channel k m) channel))
-      → Broken base ls fs channel Output t (blamed (codes "output") (added 1 (take part whole_text) (moved channel k m)))
-  cut_told lines behind is part t m so tells =
-      let whole : (so.gained ++ take part whole_text) ++ drop part whole_text ≡ (so.gained ++ waiting) ++ text
-      = append_assoc so.gained (take part whole_text) (drop part whole_text) ∙ ap (λ (l : List ℕ). so.gained ++ l) (take-append-drop part whole_text)
-      ∙ sym (append_assoc so.gained waiting text) in
-      let shown : later (lines ++ s.inputs ∷ []) ((so.gained ++ waiting) ++ text) = more lines (so.gained ++ waiting) behind (ap (λ (n : ℕ). n + 1) is) so.shown in
-      let follows : Follows ls fs (rest_of t channel) (lines ++ s.inputs ∷ []) s (rest_of (moved channel k m) channel)
-      = line_follows shows later ls fs channel given k lines r s waiting text law few fields counts (λ before_it is_shown. more lines before_it behind (ap (λ (n : ℕ). n + 1) is) is_shown) t m so tells in
-      record {
-        count = given + k;
-        gained = so.gained ++ take part whole_text;
-        going = going_blamed channel (given + k) (so.gained ++ take part whole_text) (codes "output") t (added 1 (take part whole_text) (moved channel k m))
-            (going_more channel given so.gained t m so.going k (take part whole_text));
-        part = record {
-          lines = lines ++ s.inputs ∷ [];
-          more = (to_come ls s (rest_of (moved channel k m) channel)).stream;
-          stream = sym (ap (λ (p : Parsed). p.stream) follows.parsed);
-          rest = drop part whole_text;
-          shown = back (lines ++ s.inputs ∷ []) ((so.gained ++ take part whole_text) ++ drop part whole_text)
-              (subst (later (lines ++ s.inputs ∷ [])) (sym whole) shown);
-        };
-        blame = refl;
-        failed = tt;
-      }
+    cut_told : (lines : List Span) → stands (cycles_of lines) → cycle ≡ length (cycles_of lines) → (t m : Told) → SoFar shows ls fs channel given lines r waiting t m
+        → Tells Line (to_come ls r (rest_of m channel)) s.line (to_come ls s (rest_of (moved channel k m) channel))
+        → Broken base ls fs channel Output t (blamed (codes "output") (added 1 (take part whole_text) (moved channel k m)))
+    cut_told lines behind is t m so tells =
+        let whole : (so.gained ++ take part whole_text) ++ drop part whole_text ≡ (so.gained ++ waiting) ++ text
+        = append_assoc so.gained (take part whole_text) (drop part whole_text) ∙ ap (λ (l : List ℕ). so.gained ++ l) (take-append-drop part whole_text)
+        ∙ sym (append_assoc so.gained waiting text) in
+        let shown : later (cycles_of lines ++ replicate first s.line.inputs) ((so.gained ++ waiting) ++ text) = adds (cycles_of lines) (so.gained ++ waiting) behind is so.shown in
+        let rest : Parsed = to_come ls s (rest_of (moved channel k m) channel) in
+        let follows : Follows ls fs (rest_of t channel) (lines ++ s.line ∷ []) s (rest_of (moved channel k m) channel)
+        = line_follows ls fs channel k lines r s law few fields counts t m so.follows tells in
+        record {
+          count = given + k;
+          gained = so.gained ++ take part whole_text;
+          going = going_blamed channel (given + k) (so.gained ++ take part whole_text) (codes "output") t (added 1 (take part whole_text) (moved channel k m))
+              (going_more channel given so.gained t m so.going k (take part whole_text));
+          part = record {
+            lines = cycles_of lines ++ replicate first s.line.inputs;
+            more = replicate (s.line.count - first) s.line.inputs ++ rest.stream;
+            stream =
+                sym (ap (λ (p : Parsed). p.stream) follows.parsed)
+                ∙ ap (λ (cycles : List (List Given)). cycles ++ rest.stream) (cycles_of_push lines s.line)
+                ∙ cycles_cut (cycles_of lines) rest.stream s.line first within;
+            rest = drop part whole_text;
+            shown = back (cycles_of lines ++ replicate first s.line.inputs) ((so.gained ++ take part whole_text) ++ drop part whole_text)
+                (subst (later (cycles_of lines ++ replicate first s.line.inputs)) (sym whole) shown);
+          };
+          blame = refl;
+          failed = tt;
+        }
 
-  pub cut : (before mid one two : Option Told) → one ≡ option_map (moved channel k) mid → CutOutput whole_text one two
-      → Between mid one (λ t n. Tells Line (to_come ls r (rest_of t channel)) s.inputs (to_come ls s (rest_of n channel)))
+  pub cut : (before mid one two : Option Told) → one ≡ option_map (moved channel k) mid → CyclesCut stands shows later cycle s.line waiting one two
+      → Between mid one (λ t n. Tells Line (to_come ls r (rest_of t channel)) s.line (to_come ls s (rest_of n channel)))
       → Along shows ls fs channel stands r cycle given waiting before mid → Between before two (Broken base ls fs channel Output)
   cut before mid one two read failed tells a =
-      through_two (SoFar shows ls fs channel given a.lines r waiting) (λ t n. Tells Line (to_come ls r (rest_of t channel)) s.inputs (to_come ls s (rest_of n channel)))
-      (Broken base ls fs channel Output) (moved channel k) (λ t. blamed (codes "output") (added 1 (take failed.count whole_text) t)) before mid one two read failed.told
-      (λ t m so told. cut_told a.lines a.behind a.cycle_is failed.count t m so told) a.told tells
+      through_two (SoFar shows ls fs channel given a.lines r waiting) (λ t n. Tells Line (to_come ls r (rest_of t channel)) s.line (to_come ls s (rest_of n channel)))
+      (Broken base ls fs channel Output) (moved channel k) (λ t. blamed (codes "output") (added 1 (take failed.cut.count (waiting ++ failed.text)) t)) before mid one two read failed.cut.told
+      (λ t m so told. cut_told failed.first failed.within failed.text failed.adds failed.cut.count a.lines a.behind a.cycle_is t m so told) a.told tells
 
-  -- why: it fills the room
-  filled : 2 < channel → (lines : List (List Given)) (part : ℕ) (t m : Told) → SoFar shows ls fs channel given lines r waiting t m
-      → (IsWriting (m.uses 1) → FillsRoom 1 whole_text (moved channel k m) (Some (blamed (codes "output") (added 1 (take part whole_text) (moved channel k m)))))
-      → IsWriting (t.uses 1) → length ((added 1 (take part whole_text) (moved channel k m)).written 1) ≡ m.room
-  filled above lines part t m so full writing =
-      (full (subst IsWriting (sym (output_use channel given so.gained t m so.going above)) writing)).full
-
-  pub cut_cause : 2 < channel → (before mid one two : Option Told) → one ≡ option_map (moved channel k) mid → CutOutput whole_text one two
-      → IfSome one (λ n. IsWriting (n.uses 1) → FillsRoom 1 whole_text n two) → Along shows ls fs channel stands r cycle given waiting before mid
-      → Between before two (Breaks channel Output)
-  cut_cause above before mid one two read failed full a =
-      known_two (SoFar shows ls fs channel given a.lines r waiting) (Breaks channel Output) (λ n o. IsWriting (n.uses 1) → FillsRoom 1 whole_text n o) (moved channel k)
-      (λ t. blamed (codes "output") (added 1 (take failed.count whole_text) t)) before mid one two read failed.told
-      (λ t m so because. filled above a.lines failed.count t m so (λ writing. because (subst IsWriting (one_use m) writing))) a.told full where
-        one_use : (m : Told) → m.uses 1 ≡ (moved channel k m).uses 1
-        one_use m = sym (ap (λ (b : Bool). cond b (moved_use k (m.uses channel)) (m.uses 1)) (other_number 1 channel (omega arith)))
+-- why: it fills the room
+pub cut_cause : (shows : Shows) (ls : Levels) (fs : List Field) (channel : ℕ) (stands : List (List Given) → Type 0) (r : Reader) (cycle given k : ℕ) (waiting text : List ℕ)
+    → 2 < channel → (before mid one two : Option Told) → one ≡ option_map (moved channel k) mid → CutOutput text one two
+    → Between one two (λ n p. IsWriting (n.uses 1) → length (p.written 1) ≡ p.room) → Along shows ls fs channel stands r cycle given waiting before mid
+    → Between before two (Breaks channel Output)
+cut_cause shows ls fs channel stands r cycle given k waiting text above before mid one two read failed full a =
+    known_two (SoFar shows ls fs channel given a.lines r waiting) (Breaks channel Output) (λ n o. IsSomeAnd o (λ p. IsWriting (n.uses 1) → length (p.written 1) ≡ p.room)) (moved channel k)
+    (λ t. blamed (codes "output") (added 1 (take failed.count text) t)) before mid one two read failed.told
+    (λ t m so because. λ writing. because (subst IsWriting (one_use m) (subst IsWriting (sym (output_use channel given so.gained t m so.going above)) writing))) a.told full where
+      one_use : (m : Told) → m.uses 1 ≡ (moved channel k m).uses 1
+      one_use m = sym (ap (λ (b : Bool). cond b (moved_use k (m.uses channel)) (m.uses 1)) (other_number 1 channel (omega arith)))

@@ -1,7 +1,9 @@
 pub mod Between
 pub mod Going
 pub mod Pieces
+pub mod Cycles
 pub mod Along
 pub mod Answered
 pub mod Last
 pub mod Opened
+pub mod EveryDesk

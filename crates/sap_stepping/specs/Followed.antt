@@ -46,6 +46,10 @@ pub record FollowedBut (shows : Shows) (ls : Levels) (fs : List Field) (channel 
   pub is_fault : fault ≡ (stimulus_of ls fs (rest_of t channel)).fault
   pub shown : shows (stimulus_of ls fs (rest_of t channel)).stream (gained ++ waiting)
 
+-- on every desk: some bytes have this fault, or have none
+abbrev pub IsFaultOfSome : Levels → List Field → Option StimFault → Type 0
+IsFaultOfSome ls fs fault = (bytes : List ℕ) × (fault ≡ (stimulus_of ls fs bytes).fault)
+
 -- the file or the output that a failed call blames
 abbrev pub blamed_for : Stopped → (name : List ℕ) → (before : List ℕ) → List ℕ
 blamed_for Input name before = name

@@ -1,3 +1,4 @@
 pub mod Followed
 pub mod Printed
 pub mod Waiting
+pub mod Cycles

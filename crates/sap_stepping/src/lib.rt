@@ -1,7 +1,7 @@
 //! Stepping on the lines of a stimulus, and writing what each step shows.
 //!
-//! `print` reads a stimulus through a desk line by line, steps on each line before the next one is read, and
-//! writes the text of the step. The texts wait until they are large together, or until more of the stimulus has to be
+//! `print` reads a stimulus through a desk line by line, steps on each line, in each of its cycles, before the next one is
+//! read, and writes the texts of the steps. They wait until they are large together, or until more of the stimulus has to be
 //! read for the next line: rows come as lines come, and long runs write in large pieces.
 #![tactic(auto)]
 

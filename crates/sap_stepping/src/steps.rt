@@ -10,7 +10,8 @@ use sap_desk::RowBuf;
 use sap_lattice::Lattice;
 use sap_stream::Inputs;
 
-/// What steps on one line of a stimulus after another, and shows each step as text.
+/// What steps on one line of a stimulus after another, and shows each step as text. A line that stands for several
+/// cycles is as many lines here.
 pub trait Steps {
     /// The levels of which lines speak.
     ghost levels: { Self → Levels };

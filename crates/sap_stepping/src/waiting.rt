@@ -1,6 +1,6 @@
 //! What steps show, as it waits to be written.
 
-ghost use Rattle.std.specs.Prelude.{◌≡◌, ◌+◌, ◌++◌, ◌≤◌, ◌⊎◌, [], OnOk, OnErr, IfSome, IsTrue, length, option_map};
+ghost use Rattle.std.specs.Prelude.{◌≡◌, ◌+◌, ◌++◌, ◌≤◌, ◌⊎◌, [], OnOk, OnErr, IfSome, IsTrue, false, length, option_map};
 ghost use Rattle.sap_desk.specs.Cause.{FillsRoom};
 ghost use Rattle.sap_desk.specs.Desk.{IsWriting, added};
 ghost use Rattle.sap_desk.specs.Whole.{CountsFailed, CutOutput};
@@ -43,6 +43,7 @@ fn add(waiting: &mut RowBuf, text: &[u8])
 fn write_on<D: Desk>(desk: &mut D, waiting: &mut RowBuf, must: bool) -> Result<(), Failed>
     ensures written { OnOk result (PieceWritten waiting.old.bytes waiting.new.bytes (D.told desk.old) (D.told desk.new)) }
     ensures all { OnOk result (IsTrue must → waiting.new.bytes ≡ []) }
+    ensures still { (must ≡ false) → desk.new ≡ desk.old }
     ensures less { length waiting.new.bytes ≤ length waiting.old.bytes }
     ensures room { waiting.old.room ≤ waiting.new.room }
     ensures failed { OnErr result (CutOutput waiting.old.bytes (D.told desk.old) (D.told desk.new)) }
@@ -59,18 +60,12 @@ fn write_on<D: Desk>(desk: &mut D, waiting: &mut RowBuf, must: bool) -> Result<(
     Ok(())
 }
 
-/// Adds a text to what waits. All of it is written where the next line isn't held, so before more is read, and what
-/// waits is written before it would be larger than `LARGE_BYTES`.
-pub fn show<D: Desk>(
-    desk: &mut D,
-    lines: &Lines,
-    waiting: &mut RowBuf,
-    text: &[u8],
-) -> Result<(), Failed>
+/// Adds a text to what waits, which is written before it would be larger than `LARGE_BYTES`.
+pub fn show<D: Desk>(desk: &mut D, waiting: &mut RowBuf, text: &[u8]) -> Result<(), Failed>
     requires few { length waiting.old.bytes ≤ LARGE_BYTES }
     requires room { LARGE_BYTES ≤ waiting.old.room }
     ensures written { OnOk result (PieceWritten (waiting.old.bytes ++ text.now) waiting.new.bytes (D.told desk.old) (D.told desk.new)) }
-    ensures quiet { OnOk result (IsDecided lines.now.pending ⊎ (waiting.new.bytes ≡ [])) }
+    ensures still { length waiting.old.bytes + length text.now ≤ LARGE_BYTES → desk.new ≡ desk.old }
     ensures few { length waiting.new.bytes ≤ LARGE_BYTES }
     ensures room { waiting.old.room ≤ waiting.new.room }
     ensures failed { OnErr result (CutOutput (waiting.old.bytes ++ text.now) (D.told desk.old) (D.told desk.new)) }
@@ -86,5 +81,25 @@ pub fn show<D: Desk>(
         return write_text(desk, text);
     }
     add(waiting, text);
+    Ok(())
+}
+
+/// Writes all that waits where the next line isn't held, so before more is read.
+pub fn flush_unless_held<D: Desk>(
+    desk: &mut D,
+    lines: &Lines,
+    waiting: &mut RowBuf,
+) -> Result<(), Failed>
+    ensures written { OnOk result (PieceWritten waiting.old.bytes waiting.new.bytes (D.told desk.old) (D.told desk.new)) }
+    ensures quiet { OnOk result (IsDecided lines.now.pending ⊎ (waiting.new.bytes ≡ [])) }
+    ensures less { length waiting.new.bytes ≤ length waiting.old.bytes }
+    ensures room { waiting.old.room ≤ waiting.new.room }
+    ensures failed { OnErr result (CutOutput waiting.old.bytes (D.told desk.old) (D.told desk.new)) }
+    ensures given { D.given desk.new ≡ D.given desk.old }
+    ensures counts { CountsFailed (D.faults desk.old) (D.faults desk.new) result }
+    ensures lost { D.lost desk.new ≡ D.lost desk.old }
+    ensures sure { D.sure desk.old → D.sure desk.new }
+    ensures cause { OnErr result (D.sure desk.old → IfSome (D.told desk.old) (λ t. IsWriting (t.uses 1) → FillsRoom 1 waiting.old.bytes t (D.told desk.new))) }
+{
     write_on(desk, waiting, !lines.holds_line())
 }

@@ -1,7 +1,7 @@
 -- Fields, read one after another.
 use Rattle.std.proofs.Common.{◌≡◌, ℕ, zero, suc, ◌+◌, ◌-◌, ◌<◌, ◌≤◌, Result, Ok, Err, List, [], ◌∷◌, ◌++◌, length, get_or, take, drop, refl, sym, ap, ap₂, ◌∙◌, inl, inr, append_assoc, arith}
 use Rattle.std.specs.List.{position_or_len, before_first, after_first}
-use Rattle.std.proofs.lemmas.List.{take_all, append-nil}
+use Rattle.std.proofs.lemmas.List.{append-nil}
 use Rattle.std.proofs.Math.Seq.{drop-cons}
 use Rattle.sap_lattice.specs.Levels.{Levels}
 use Rattle.sap_meaning.specs.Cycle.{Tagged as Given}
@@ -9,6 +9,7 @@ use Rattle.sap_stim.specs.declared.fault.StimCode.{StimCode}
 use Rattle.sap_stim.specs.declared.field.Field.{Field}
 use Rattle.sap_stim.specs.Line.{split_at, fields_of, and_then, field_of, inputs_of}
 use Rattle.sap_stim.proofs.Pieces.{is_mark, split_marked, split_unmarked, before_unmarked}
+use Rattle.sap_stim.proofs.LastPiece.{fields_front}
 use Rattle.std.proofs.lemmas.Bool.{cases_lt}
 
 -- inputs that were read, and then others
@@ -24,9 +25,9 @@ left_of rest k = take k (split_at 32 rest)
 abbrev pub read_on : Levels → List Field → ℕ → List Given → List ℕ → Result (List Given) StimCode
 read_on ls fs i inputs rest = onto inputs (inputs_of ls (drop i fs) (left_of rest (length fs - i)))
 
--- as many pieces are left as fields
+-- no fewer pieces are left than fields
 abbrev pub EnoughLeft : List Field → ℕ → List ℕ → Type 0
-EnoughLeft fs i rest = i < length fs → length (split_at 32 rest) ≡ length fs - i
+EnoughLeft fs i rest = i < length fs → length fs - i ≤ length (split_at 32 rest)
 
 abbrev before : List ℕ → List ℕ
 before s = before_first (is_mark 32) s
@@ -39,7 +40,7 @@ take_none zero xs e = refl
 take_none (suc n) xs e = absurd (omega arith)
 
 -- the first of the pieces that are left, and the others
-left_more : (s : List ℕ) (k : ℕ) → length (split_at 32 s) ≡ k + 1 → (left_of s (k + 1) ≡ before s ∷ left_of (after s) k) × (0 < k → length (split_at 32 (after s)) ≡ k)
+left_more : (s : List ℕ) (k : ℕ) → k + 1 ≤ length (split_at 32 s) → (left_of s (k + 1) ≡ before s ∷ left_of (after s) k) × (0 < k → k ≤ length (split_at 32 (after s)))
 left_more s k h =
     elim (cases_lt (position_or_len (is_mark 32) s) (length s)) [
       | inr unmarked ↦
@@ -59,7 +60,7 @@ left_more s k h =
     last : split_at 32 s ≡ s ∷ [] → k ≡ 0
     last e = let f : length (split_at 32 s) ≡ 1 = ap length e in omega arith
 
-    others : split_at 32 s ≡ before s ∷ split_at 32 (after s) → length (split_at 32 (after s)) ≡ k
+    others : split_at 32 s ≡ before s ∷ split_at 32 (after s) → k ≤ length (split_at 32 (after s))
     others e = let f : length (split_at 32 s) ≡ suc (length (split_at 32 (after s))) = ap length e in omega arith
 
 onto_more : (inputs : List Given) (x : Given) (r : Result (List Given) StimCode) → onto inputs (and_then r (λ xs. Ok (x ∷ xs))) ≡ onto (inputs ++ x ∷ []) r
@@ -73,7 +74,7 @@ read_one ls fs i d inputs rest h enough =
     let k : ℕ = length fs - (i + 1) in
     let s : suc i ≡ i + 1 = omega arith in
     let n : length fs - i ≡ length fs - (i + 1) + 1 = omega arith in
-    let more : left_of rest (k + 1) ≡ before rest ∷ left_of (after rest) k = (left_more rest k (enough h ∙ n)).0 in
+    let more : left_of rest (k + 1) ≡ before rest ∷ left_of (after rest) k = (left_more rest k (let e = enough h in omega arith)).0 in
     let first : drop i fs ≡ get_or fs i d ∷ drop (i + 1) fs = drop-cons fs i d h ∙ ap (λ (j : ℕ). get_or fs i d ∷ drop j fs) s in
     ap₂ (λ (x : List Field) (y : List (List ℕ)). onto inputs (inputs_of ls x y)) first (ap (λ (j : ℕ). left_of rest j) n ∙ more)
 
@@ -81,7 +82,9 @@ pub enough_more : (fs : List Field) (i : ℕ) (rest later : List ℕ) → i < le
 enough_more fs i rest later h enough e = λ more.
     let k : ℕ = length fs - (i + 1) in
     let n : length fs - i ≡ length fs - (i + 1) + 1 = omega arith in
-    ap (λ (s : List ℕ). length (split_at 32 s)) e ∙ (left_more rest k (enough h ∙ n)).1 (omega arith)
+    let same : length (split_at 32 later) ≡ length (split_at 32 (after rest)) = ap (λ (s : List ℕ). length (split_at 32 s)) e in
+    let left = (left_more rest k (let e = enough h in omega arith)).1 (omega arith) in
+    omega arith
 
 pub read_more : (ls : Levels) (fs : List Field) (i : ℕ) (d : Field) (inputs next : List Given) (rest text later : List ℕ) (x : Given) → i < length fs → EnoughLeft fs i rest
     → Ok x ≡ field_of ls (get_or fs i d) text → text ≡ before_first (is_mark 32) rest → later ≡ after_first (is_mark 32) rest → next ≡ inputs ++ x ∷ []
@@ -106,13 +109,12 @@ onto_nothing (Err code) = refl
 
 -- before the first field
 pub read_begins : (ls : Levels) (fs : List Field) (line : List ℕ) → length (fields_of line) ≡ length fs → (read_on ls fs 0 [] line ≡ inputs_of ls fs (fields_of line)) × EnoughLeft fs 0 line
-read_begins ls [] [] h = (refl, λ some. absurd (omega arith))
-read_begins ls (f ∷ fs) [] h = absurd (omega arith)
-read_begins ls fs (b ∷ bs) h =
-    let n : length fs - 0 ≡ length fs = omega arith in (
-      onto_nothing (inputs_of ls fs (left_of (b ∷ bs) (length fs - 0)))
-          ∙ ap (λ (ps : List (List ℕ)). inputs_of ls fs ps) (ap (λ (k : ℕ). left_of (b ∷ bs) k) n ∙ take_all (length fs) (split_at 32 (b ∷ bs)) (omega arith)),
-      λ some. h ∙ sym n,
+read_begins ls fs line h =
+    let n : length fs - 0 ≡ length fs = omega arith in
+    let first = fields_front line (length fs) h in (
+      onto_nothing (inputs_of ls fs (left_of line (length fs - 0)))
+          ∙ ap (λ (ps : List (List ℕ)). inputs_of ls fs ps) (ap (λ (k : ℕ). left_of line k) n ∙ sym first.0),
+      λ some. let enough = first.1 in omega arith,
     )
 
 drop_past : (n : ℕ) (fs : List Field) → length fs ≤ n → drop n fs ≡ []

@@ -1,18 +1,20 @@
 -- What a stimulus gives fits.
-use Rattle.std.proofs.Common.{◌≡◌, ℕ, ◌+◌, ◌<◌, ◌^◌, Bool, true, false, not, Option, Some, None, Result, Ok, Err, IfOk, eqb, ltb, List, [], ◌∷◌, length, refl, sym, subst, OnOk, if◌then◌else◌}
+use Rattle.std.proofs.Common.{◌≡◌, ℕ, zero, suc, ◌+◌, ◌<◌, ◌^◌, Bool, true, false, not, Option, Some, None, Result, Ok, Err, IfOk, eqb, ltb, List, [], ◌∷◌, ◌++◌, length, drop, replicate, refl, sym, subst, OnOk, if◌then◌else◌, arith}
 use Rattle.std.specs.Prelude.{IfSome, nat_lt}
 use Rattle.std.specs.List.{position_or_len, before_first, after_first}
 use Rattle.std.specs.Str.{bytes_eq}
 use Rattle.std.specs.Str.Parse.{digits_value}
+use Rattle.std.proofs.lemmas.Bool.Decides.{nat_tests}
 use borrow.Author.Tests.{ltb-true}
 use Rattle.sap_lattice.specs.Levels.{Levels, order_of, order_by}
 use Rattle.sap_meaning.specs.Cycle.{Tagged as Given}
+use Rattle.sap_stream.specs.Spans.{Span, IsCount}
 use Rattle.sap_stim.specs.declared.fault.StimCode.{StimCode}
-use Rattle.sap_stim.specs.declared.fault.StimCode.TheVariants.{S1, S2, S4, S5}
+use Rattle.sap_stim.specs.declared.fault.StimCode.TheVariants.{S1, S2, S4, S5, S6}
 use Rattle.sap_stim.specs.declared.field.Field.{Field}
 use Rattle.sap_stim.specs.declared.field.Field.TheVariants.{Tagged, Plain}
 use Rattle.sap_stim.specs.declared.stimulus.Parsed.{Parsed}
-use Rattle.sap_stim.specs.Line.{split_at, fields_of, and_then, is_value, value_of, level_named, with_level, tagged_of, plain_of, field_of, inputs_of, line_of, with_inputs}
+use Rattle.sap_stim.specs.Line.{split_at, pieces_of, fields_of, count_in, and_then, is_value, value_of, level_named, with_level, tagged_of, plain_of, field_of, inputs_of, is_count, count_of, line_of}
 use Rattle.sap_stim.specs.Stimulus.{is_empty, finished, going_on, read_pieces}
 use Rattle.sap_stim.specs.Fits.{InputFits, LineFits, StreamFits, StimulusFits}
 
@@ -47,6 +49,38 @@ named_count : (ls : Levels) → length ls.names ≡ (order_of ls).count
 unfolding order_of order_by
 named_count ls = refl
 
+-- what a line gives has a property, where its inputs and its count have properties
+line_has : (ls : Levels) (fs : List Field) (ended : Bool) (text : List ℕ) (P : List Given → Type 0) (Q : ℕ → Type 0) (R : Span → Type 0) → IfOk (inputs_of ls fs (fields_of text)) P → IfOk (count_of (count_in (pieces_of text))) Q
+    → ((inputs : List Given) (count : ℕ) → P inputs → Q count → R (record { inputs = inputs; count = count })) → IfOk (line_of ls fs ended text) R
+line_has ls fs ended text P Q R in_inputs in_count both =
+    let counted : List Given → Result Span StimCode = λ inputs. and_then (count_of (count_in (pieces_of text))) (λ count. let span : Span = record { inputs = inputs; count = count } in Ok span) in
+    let read : Result Span StimCode = and_then (inputs_of ls fs (fields_of text)) counted in
+    let whole : Result Span StimCode = if not (eqb (length (fields_of text)) (length fs)) then Err S4 else read in
+    unless R (nat_lt 65536 (length text)) S1 (if not ended then Err S5 else whole)
+    (unless R (not ended) S5 whole
+    (unless R (not (eqb (length (fields_of text)) (length fs))) S4 read
+    (then_ok P R (inputs_of ls fs (fields_of text)) counted in_inputs
+    (λ inputs p. then_ok Q R (count_of (count_in (pieces_of text))) (λ count. let span : Span = record { inputs = inputs; count = count } in Ok span) in_count (λ count q. both inputs count p q)))))
+
+abbrev IsAny : {A : Type 0} → A → Type 0
+IsAny x = Unit {0}
+
+any : {A : Type 0} (r : Result A StimCode) → IfOk r IsAny
+any (Ok x) = tt
+any (Err code) = tt
+
+count_within : (digits : List ℕ) (b : Bool) → is_count digits ≡ b → IfOk {E = StimCode} (if b then Ok (digits_value 10 digits) else Err S6) IsCount
+count_within digits true e = grind (arith, nat_tests)
+count_within digits false e = tt
+
+count_fits : (piece : Option (List ℕ)) → IfOk (count_of piece) IsCount
+count_fits None = (omega arith, omega arith)
+count_fits (Some piece) = count_within (drop 1 piece) (is_count (drop 1 piece)) refl
+
+-- for how many cycles a line stands
+pub line_counts : (ls : Levels) (fs : List Field) (ended : Bool) (text : List ℕ) → IfOk (line_of ls fs ended text) (λ span. IsCount span.count)
+line_counts ls fs ended text = line_has ls fs ended text IsAny IsCount (λ span. IsCount span.count) (any (inputs_of ls fs (fields_of text))) (count_fits (count_in (pieces_of text))) (λ inputs count p q. q)
+
 module _ (ls : Levels) (bottom : (order_of ls).bottom < (order_of ls).count) where
   level_fits : (width value : ℕ) (level : Option ℕ) → value < 2 ^ width → IfSome level (λ i. i < length ls.names) → IfOk (with_level value level) (InputFits ls (Tagged width))
   level_fits width value None v l = tt
@@ -79,17 +113,16 @@ module _ (ls : Levels) (bottom : (order_of ls).bottom < (order_of ls).count) whe
       then_ok (InputFits ls f) (LineFits ls (f ∷ fs)) (field_of ls f text) (λ input. and_then (inputs_of ls fs texts) (λ inputs. Ok (input ∷ inputs))) (field_fits f text)
       (λ x h. then_ok (LineFits ls fs) (LineFits ls (f ∷ fs)) (inputs_of ls fs texts) (λ inputs. Ok (x ∷ inputs)) (inputs_fit fs texts) (λ xs hs. (h, hs)))
 
-  line_fits : (fs : List Field) (ended : Bool) (text : List ℕ) → IfOk (line_of ls fs ended text) (LineFits ls fs)
+  line_fits : (fs : List Field) (ended : Bool) (text : List ℕ) → IfOk (line_of ls fs ended text) (λ span. LineFits ls fs span.inputs)
   line_fits fs ended text =
-      let read : Result (List Given) StimCode = inputs_of ls fs (fields_of text) in
-      let counted : Result (List Given) StimCode = if not (eqb (length (fields_of text)) (length fs)) then Err S4 else read in
-      let whole : Result (List Given) StimCode = if not ended then Err S5 else counted in
-      unless (LineFits ls fs) (nat_lt 65536 (length text)) S1 whole
-      (unless (LineFits ls fs) (not ended) S5 counted
-      (unless (LineFits ls fs) (not (eqb (length (fields_of text)) (length fs))) S4 read (inputs_fit fs (fields_of text))))
+      line_has ls fs ended text (LineFits ls fs) IsAny (λ span. LineFits ls fs span.inputs) (inputs_fit fs (fields_of text)) (any (count_of (count_in (pieces_of text)))) (λ inputs count h any. h)
 
-  going_fits : (fs : List Field) (n : ℕ) (r : Result (List Given) StimCode) (p : Parsed) → IfOk r (LineFits ls fs) → StreamFits ls fs p.stream → StreamFits ls fs (going_on n r p).stream
-  going_fits fs n (Ok inputs) p h rest = (h, rest)
+  cycles_fit : (fs : List Field) (n : ℕ) (inputs : List Given) (rest : List (List Given)) → LineFits ls fs inputs → StreamFits ls fs rest → StreamFits ls fs (replicate n inputs ++ rest)
+  cycles_fit fs zero inputs rest h others = others
+  cycles_fit fs (suc n) inputs rest h others = (h, cycles_fit fs n inputs rest h others)
+
+  going_fits : (fs : List Field) (n : ℕ) (r : Result Span StimCode) (p : Parsed) → IfOk r (λ span. LineFits ls fs span.inputs) → StreamFits ls fs p.stream → StreamFits ls fs (going_on n r p).stream
+  going_fits fs n (Ok span) p h rest = cycles_fit fs span.count span.inputs p.stream h rest
   going_fits fs n (Err code) p h rest = tt
 
   pieces_fit : (fs : List Field) (n : ℕ) (ps : List (List ℕ)) → StreamFits ls fs (read_pieces ls fs n ps).stream
@@ -105,10 +138,9 @@ module _ (ls : Levels) (bottom : (order_of ls).bottom < (order_of ls).count) whe
 pub fits : StimulusFits
 fits ls fs bytes bottom = pieces_fit ls bottom fs 1 (split_at 10 bytes)
 
--- the inputs that are read of the fields of a line fit
-pub given_fits : (ls : Levels) → (order_of ls).bottom < (order_of ls).count → (fs : List Field) (texts : List (List ℕ)) (r : Result (Unit {0}) StimCode) (inputs : List Given)
-    → with_inputs r inputs ≡ inputs_of ls fs texts → OnOk r (LineFits ls fs inputs)
-given_fits ls bottom fs texts (Ok done) inputs given =
+-- the inputs that are read of the fields of a line fit, whatever its count
+pub given_fits : (ls : Levels) → (order_of ls).bottom < (order_of ls).count → (fs : List Field) (texts : List (List ℕ)) (inputs : List Given) → Ok inputs ≡ inputs_of ls fs texts → (count : Result ℕ StimCode) → OnOk count (LineFits ls fs inputs)
+given_fits ls bottom fs texts inputs given (Ok count) =
     let P : Result (List Given) StimCode → Type 0 = λ x. IfOk x (LineFits ls fs) in
     subst P (sym given) (inputs_fit ls bottom fs texts)
-given_fits ls bottom fs texts (Err code) inputs given = tt
+given_fits ls bottom fs texts inputs given (Err code) = tt

@@ -1,9 +1,11 @@
 pub mod Pieces
+pub mod LastPiece
+pub mod Counts
 pub mod Values
 pub mod Named
 pub mod EachField
-pub mod Lines
 pub mod Fitting
+pub mod Lines
 pub mod Coded
 pub mod RowTexts
 pub mod RowRoom

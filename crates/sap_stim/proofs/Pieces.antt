@@ -5,7 +5,7 @@ use Rattle.std.specs.List.{position_or_len, before_first, after_first}
 use Rattle.std.proofs.lemmas.List.{take_all, length-take-le, length-drop}
 use Rattle.std.proofs.lemmas.Bool.Decides.{nat_tests}
 use Rattle.std.proofs.lemmas.List.Sums.{sum_by-cons}
-use Rattle.sap_stim.specs.Line.{split_at, pushed, fields_of}
+use Rattle.sap_stim.specs.Line.{split_at, pushed}
 
 -- whether a byte is the mark
 abbrev pub is_mark : ℕ → ℕ → Bool
@@ -69,10 +69,6 @@ split_count m (b ∷ bs) =
 pub non_empty : (s : List ℕ) → false ≡ eqb (length s) 0 → 0 < length s
 non_empty [] e = absurd (let f : ⊥ = cc in f)
 non_empty (b ∷ bs) e = omega arith
-
-pub count_of_fields : (s : List ℕ) (n : ℕ) → 0 < length s → n ≡ count_by (is_mark 32) s → n + 1 ≡ length (fields_of s)
-count_of_fields [] n h e = absurd (omega arith)
-count_of_fields (b ∷ bs) n h e = ap (λ (k : ℕ). k + 1) e ∙ sym (split_count 32 (b ∷ bs))
 
 -- where the first mark stands
 place_found : (k n i : ℕ) (b : Bool) → ltb k n ≡ b → Some i ≡ cond b (Some k) None → (i ≡ k) × (k < n)

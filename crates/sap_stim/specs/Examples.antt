@@ -3,7 +3,7 @@ use Rattle.std.specs.Prelude.{◌≡◌, ℕ, List, [], ◌∷◌, ◌++◌, Som
 use Rattle.sap_lattice.specs.Levels.{Levels}
 use Rattle.sap_meaning.specs.Cycle.{Tagged as Given}
 use Rattle.sap_stim.specs.declared.fault.StimCode.{StimCode}
-use Rattle.sap_stim.specs.declared.fault.StimCode.TheVariants.{S1, S2, S3, S4, S5}
+use Rattle.sap_stim.specs.declared.fault.StimCode.TheVariants.{S1, S2, S3, S4, S5, S6}
 use Rattle.sap_stim.specs.declared.field.Field.TheVariants.{Tagged, Plain}
 use Rattle.sap_stim.specs.declared.stimulus.Parsed.{Parsed}
 use Rattle.sap_stim.specs.Stimulus.{stimulus_of}
@@ -83,6 +83,46 @@ TooLong = read (line (codes "000000000000000000005@low")) ≡ stops [] 1 S1
 
 abbrev pub LongEnough : Type 0
 LongEnough = read (line (codes "00000000000000000005@low")) ≡ ends (given 5 0 ∷ [])
+
+-- a line that stands for three cycles, and one behind it
+abbrev pub Counted : Type 0
+Counted = read (line (codes "5@low *3") ++ line (codes "7@high")) ≡ ends (given 5 0 ∷ given 5 0 ∷ given 5 0 ∷ given 7 1 ∷ [])
+
+-- no cycle; more than 65,535; no digits; six digits; behind it a line that isn't read
+abbrev pub NoCycle : Type 0
+NoCycle = read (line (codes "5@low") ++ line (codes "5@low *0") ++ line (codes "5@low")) ≡ stops (given 5 0 ∷ []) 2 S6
+
+abbrev pub TooMany : Type 0
+TooMany = read (line (codes "5@low *65536")) ≡ stops [] 1 S6
+
+abbrev pub NoDigits : Type 0
+NoDigits = read (line (codes "5@low *")) ≡ stops [] 1 S6
+
+abbrev pub SixDigits : Type 0
+SixDigits = read (line (codes "5@low *000001")) ≡ stops [] 1 S6
+
+abbrev pub FiveDigits : Type 0
+FiveDigits = read (line (codes "5@low *00002")) ≡ ends (given 5 0 ∷ given 5 0 ∷ [])
+
+-- the faults of fields and of their number come before that of a count, which is no field
+abbrev pub FieldFirst : Type 0
+FieldFirst = read (line (codes "256@low *0")) ≡ stops [] 1 S2
+
+abbrev pub CountAlone : Type 0
+CountAlone = read (line (codes "*2")) ≡ stops [] 1 S4
+
+abbrev pub CountWithin : Type 0
+CountWithin = read (line (codes "*2 5@low")) ≡ stops [] 1 S4
+
+abbrev pub CountBehindSpace : Type 0
+CountBehindSpace = read (line (codes " *2")) ≡ stops [] 1 S1
+
+abbrev pub TwoCounts : Type 0
+TwoCounts = read (line (codes "5@low *2 *2")) ≡ stops [] 1 S4
+
+-- without inputs a line is empty or a count alone
+abbrev pub NoInputs : Type 0
+NoInputs = stimulus_of levels [] (line [] ++ line (codes "*2")) ≡ ends ([] ∷ [] ∷ [] ∷ [])
 
 -- 0 is the code of low and 1 that of high; 3 is none
 abbrev pub Row : Type 0

@@ -1,13 +1,14 @@
 -- What a line of a stimulus file gives, or the code that stands in it.
-use Rattle.std.specs.Prelude.{ℕ, List, [], ◌∷◌, length, Option, Some, None, Result, Ok, Err, Bool, not, nat_lt, nat_le, ◌==◌, ◌&&◌, ◌^◌, ◌≤◌, position, if◌then◌else◌}
+use Rattle.std.specs.Prelude.{ℕ, List, [], ◌∷◌, drop, length, Option, Some, None, Result, Ok, Err, Bool, false, not, nat_lt, nat_le, ◌==◌, ◌&&◌, ◌^◌, ◌≤◌, position, if◌then◌else◌}
 use Rattle.std.specs.Char.{is_ascii_digit}
 use Rattle.std.specs.List.{list_all, before_first, after_first}
 use Rattle.std.specs.Str.{bytes_eq}
 use Rattle.std.specs.Str.Parse.{digits_value}
 use Rattle.sap_lattice.specs.Levels.{Levels, order_of}
 use Rattle.sap_meaning.specs.Cycle.{Tagged as Given}
+use Rattle.sap_stream.specs.Spans.{Span}
 use Rattle.sap_stim.specs.declared.fault.StimCode.{StimCode}
-use Rattle.sap_stim.specs.declared.fault.StimCode.TheVariants.{S1, S2, S3, S4, S5}
+use Rattle.sap_stim.specs.declared.fault.StimCode.TheVariants.{S1, S2, S3, S4, S5, S6}
 use Rattle.sap_stim.specs.declared.field.Field.{Field}
 use Rattle.sap_stim.specs.declared.field.Field.TheVariants.{Tagged, Plain}
 
@@ -28,10 +29,30 @@ abbrev pub split_at : ℕ → List ℕ → List (List ℕ)
 split_at mark [] = [] ∷ []
 split_at mark (b ∷ bs) = if b == mark then [] ∷ split_at mark bs else pushed b (split_at mark bs)
 
--- the fields of a line: split at each space, an empty line has none
+-- the pieces of a line: split at each space, an empty line has none
+abbrev pub pieces_of : List ℕ → List (List ℕ)
+pieces_of [] = []
+pieces_of (b ∷ bs) = split_at 32 (b ∷ bs)
+
+-- begins with `*`
+abbrev pub is_starred : List ℕ → Bool
+is_starred [] = false
+is_starred (b ∷ bs) = b == 42
+
+-- the pieces that are fields: all, but for a last one that begins with `*`
+abbrev pub fields_in : List (List ℕ) → List (List ℕ)
+fields_in [] = []
+fields_in (piece ∷ []) = if is_starred piece then [] else piece ∷ []
+fields_in (piece ∷ (next ∷ pieces)) = piece ∷ fields_in (next ∷ pieces)
+
 abbrev pub fields_of : List ℕ → List (List ℕ)
-fields_of [] = []
-fields_of (b ∷ bs) = split_at 32 (b ∷ bs)
+fields_of text = fields_in (pieces_of text)
+
+-- the piece that is the count: a last one that begins with `*`
+abbrev pub count_in : List (List ℕ) → Option (List ℕ)
+count_in [] = None
+count_in (piece ∷ []) = if is_starred piece then Some piece else None
+count_in (piece ∷ (next ∷ pieces)) = count_in (next ∷ pieces)
 
 abbrev pub and_then : {A B : Type 0} → Result A StimCode → (A → Result B StimCode) → Result B StimCode
 and_then (Ok x) f = f x
@@ -79,15 +100,28 @@ inputs_of ls (f ∷ fs) [] = Err S4
 inputs_of ls (f ∷ fs) (text ∷ texts) =
     and_then (field_of ls f text) (λ input. and_then (inputs_of ls fs texts) (λ inputs. Ok (input ∷ inputs)))
 
--- a line without its LF: first its length, which is at most 65,536 bytes, then S5 where it has no LF, then S4, then its fields
-abbrev pub line_of : Levels → List Field → (ended : Bool) → List ℕ → Result (List Given) StimCode
+-- 1 to 5 decimal digits, whose number is 1 to 65,535
+abbrev pub is_count : List ℕ → Bool
+is_count digits =
+    list_all is_ascii_digit digits && nat_le 1 (length digits) && nat_le (length digits) 5
+    && nat_le 1 (digits_value 10 digits) && nat_le (digits_value 10 digits) 65535
+
+-- for how many cycles a line stands: without a count for one; with a count for its number, which is behind the `*`; else S6
+abbrev pub count_of : Option (List ℕ) → Result ℕ StimCode
+count_of None = Ok 1
+count_of (Some piece) =
+    if is_count (drop 1 piece) then Ok (digits_value 10 (drop 1 piece)) else Err S6
+
+-- a line without its LF: first its length, which is at most 65,536 bytes, then S5 where it has no LF, then S4, then its fields, then its count
+abbrev pub line_of : Levels → List Field → (ended : Bool) → List ℕ → Result Span StimCode
 line_of ls fs ended text =
     if nat_lt 65536 (length text) then Err S1
     else (if not ended then Err S5
     else (if not (length (fields_of text) == length fs) then Err S4
-    else inputs_of ls fs (fields_of text)))
+    else and_then (inputs_of ls fs (fields_of text))
+    (λ inputs. and_then (count_of (count_in (pieces_of text))) (λ count. Ok (record { inputs = inputs; count = count })))))
 
--- what a call tells that reads a line in place of inputs
-abbrev pub with_inputs : Result (Unit {0}) StimCode → (inputs : List Given) → Result (List Given) StimCode
-with_inputs (Ok done) inputs = Ok inputs
+-- what a call tells that reads a line, its inputs in place of others
+abbrev pub with_inputs : Result ℕ StimCode → (inputs : List Given) → Result Span StimCode
+with_inputs (Ok count) inputs = Ok (record { inputs = inputs; count = count })
 with_inputs (Err code) inputs = Err code

@@ -1,7 +1,8 @@
--- A stimulus file: a line for each cycle, a field for each input.
+-- A stimulus file: lines, each for one cycle or for several, a field for each input.
 use Rattle.std.specs.Prelude.{ℕ, List, [], ◌∷◌, Some, None, Result, Ok, Err, Bool, true, false, ◌+◌, ◌++◌, if◌then◌else◌}
 use Rattle.sap_lattice.specs.Levels.{Levels}
 use Rattle.sap_meaning.specs.Cycle.{Tagged as Given}
+use Rattle.sap_stream.specs.Spans.{Span, cycles_in}
 use Rattle.sap_stim.specs.declared.fault.StimCode.{StimCode}
 use Rattle.sap_stim.specs.declared.field.Field.{Field}
 use Rattle.sap_stim.specs.declared.stimulus.Parsed.{Parsed}
@@ -11,9 +12,9 @@ abbrev pub is_empty : List ℕ → Bool
 is_empty [] = true
 is_empty (b ∷ bs) = false
 
--- a file gives the lines before the first refused one, and that one's number, from 1, with its code
-abbrev pub ahead : List Given → Parsed → Parsed
-ahead inputs p = record { stream = inputs ∷ p.stream; fault = p.fault }
+-- a file gives the cycles of the lines before the first refused one, and that one's number, from 1, with its code
+abbrev pub ahead : Span → Parsed → Parsed
+ahead line p = record { stream = cycles_in line ++ p.stream; fault = p.fault }
 
 abbrev pub stopped : (line : ℕ) → StimCode → Parsed
 stopped line code = record { stream = []; fault = Some (record { line = line; code = code }) }
@@ -21,8 +22,8 @@ stopped line code = record { stream = []; fault = Some (record { line = line; co
 abbrev pub finished : Parsed
 finished = record { stream = []; fault = None }
 
-abbrev pub going_on : (line : ℕ) → Result (List Given) StimCode → Parsed → Parsed
-going_on line (Ok inputs) rest = ahead inputs rest
+abbrev pub going_on : (line : ℕ) → Result Span StimCode → Parsed → Parsed
+going_on line (Ok span) rest = ahead span rest
 going_on line (Err code) rest = stopped line code
 
 -- the pieces between the LFs, the first of them being this line; what is behind the last LF is a line without one, unless it is empty
@@ -40,6 +41,6 @@ stimulus_of ls fs bytes = read_pieces ls fs 1 (split_at 10 bytes)
 abbrev pub read_from : Levels → List Field → (line : ℕ) → List ℕ → Parsed
 read_from ls fs line rest = read_pieces ls fs line (split_at 10 rest)
 
--- lines that were read, and then what comes behind them
+-- cycles that were read, and then what comes behind them
 abbrev pub behind : List (List Given) → Parsed → Parsed
 behind cycles p = record { stream = cycles ++ p.stream; fault = p.fault }

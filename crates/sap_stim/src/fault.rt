@@ -16,6 +16,8 @@ pub enum StimCode {
     S4,
     /// The last line has no LF.
     S5,
+    /// The count isn't `*` and 1 to 5 decimal digits with a number from 1 to 65,535.
+    S6,
 }
 
 /// The first line that is refused, from 1, and why.
@@ -36,6 +38,7 @@ impl StimCode {
             StimCode::S3 => 3,
             StimCode::S4 => 4,
             StimCode::S5 => 5,
+            StimCode::S6 => 6,
         }
     }
 }

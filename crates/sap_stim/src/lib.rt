@@ -4,6 +4,7 @@
 //! one that is and why. `push_row`, `row` and `row_into` print a cycle's registers.
 #![tactic(auto)]
 
+mod count;
 pub mod fault;
 pub mod field;
 mod line;
@@ -25,6 +26,12 @@ pub use stimulus::{Parsed, parse_stream};
 
 /// The largest number of bytes in a line, without its LF.
 pub const MOST_LINE_BYTES: usize = 65_536;
+
+/// The largest number of cycles for which a line can stand.
+pub const MOST_COUNT: u64 = 65_535;
+
+/// The largest number of digits in the count of a line.
+pub const MOST_COUNT_DIGITS: usize = 5;
 
 /// The largest number of digits in a value.
 pub const MOST_DIGITS: usize = 20;
@@ -52,6 +59,18 @@ pub fn worked_texts()
     ensures empty_field { examples.EmptyField }
     ensures too_long { examples.TooLong }
     ensures long_enough { examples.LongEnough }
+    ensures counted { examples.Counted }
+    ensures no_cycle { examples.NoCycle }
+    ensures too_many { examples.TooMany }
+    ensures no_digits { examples.NoDigits }
+    ensures six_digits { examples.SixDigits }
+    ensures five_digits { examples.FiveDigits }
+    ensures field_first { examples.FieldFirst }
+    ensures count_alone { examples.CountAlone }
+    ensures count_within { examples.CountWithin }
+    ensures count_behind_space { examples.CountBehindSpace }
+    ensures two_counts { examples.TwoCounts }
+    ensures no_inputs { examples.NoInputs }
     ensures row { examples.Row }
     ensures row_of_tags { examples.RowOfTags }
 {}

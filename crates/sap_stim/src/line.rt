@@ -1,16 +1,19 @@
 //! Lines.
 
-ghost use Rattle.std.specs.Prelude.{◌≡◌, ◌==◌, All, IfOk, OnOk, length};
+ghost use Rattle.std.specs.Prelude.{◌≡◌, ◌==◌, All, IfOk, MatchResult, OnOk, length};
+ghost use Rattle.sap_stream.specs.Spans.{IsCount};
 ghost use Rattle.sap_stim.specs.Fits.{LineFits};
 ghost use Rattle.sap_stim.specs.Line.{IsSized, fields_of, inputs_of, line_of, with_inputs};
 
 use crate::MOST_LINE_BYTES;
+use crate::count::read_count;
 use crate::fault::StimCode;
 use crate::field::Field;
 use crate::text::{count_fields, cut};
 use crate::value::read_field;
 use sap_lattice::lattice::Lattice;
 use sap_stream::inputs::{Inputs, Tagged};
+use sap_stream::span::Span;
 use std::alloc::{AllocError, Global};
 
 /// Reads a line with as many fields as are asked for.
@@ -23,7 +26,8 @@ fn read_fields(
     requires widths { All IsSized fields.now }
     requires count { length (fields_of line.now) ≡ length fields.now }
     requires places { length inputs.old ≡ length fields.now }
-    ensures { with_inputs result inputs.new ≡ inputs_of lattice.now fields.now (fields_of line.now) }
+    ensures { let given = inputs_of lattice.now fields.now (fields_of line.now) in
+        MatchResult result (λ _. Ok inputs.new ≡ given) (λ code. Err code ≡ given) }
 {
     let mut rest = line;
     for k in 0..fields.len() {
@@ -37,19 +41,20 @@ fn read_fields(
     Ok(())
 }
 
-/// Reads a line, without its LF, and writes what it gives in place of `inputs`, one for each field;
-/// `ended` says whether it has an LF. It takes no memory.
+/// Reads a line, without its LF, and writes what it gives in place of `inputs`, one for each field, and
+/// tells for how many cycles it stands; `ended` says whether it has an LF. It takes no memory.
 pub fn read_line_into(
     line: &[u8],
     ended: bool,
     fields: &[Field],
     lattice: &Lattice,
     inputs: &mut [Tagged],
-) -> Result<(), StimCode>
+) -> Result<u32, StimCode>
     requires widths { All IsSized fields.now }
     requires places { length inputs.old ≡ length fields.now }
     ensures given { with_inputs result inputs.new ≡ line_of lattice.now fields.now ended line.now }
     ensures fits { OnOk result (LineFits lattice.now fields.now inputs.new) }
+    ensures count { IfOk result IsCount }
 {
     lattice.lawful();
     if line.len() > MOST_LINE_BYTES {
@@ -61,7 +66,8 @@ pub fn read_line_into(
     if count_fields(line) != fields.len() {
         return Err(StimCode::S4);
     }
-    read_fields(line, fields, lattice, inputs)
+    read_fields(line, fields, lattice, inputs)?;
+    read_count(line)
 }
 
 /// What a line gives, without its LF; `ended` says whether it has one.
@@ -71,14 +77,14 @@ pub(crate) fn read_line(
     ended: bool,
     fields: &[Field],
     lattice: &Lattice,
-) -> Result<Result<Inputs, StimCode>, AllocError>
+) -> Result<Result<Span, StimCode>, AllocError>
     requires { All IsSized fields.now }
     ensures { IfOk result (λ given. given ≡ line_of lattice.now fields.now ended line.now) }
 {
     let mut inputs: Vec<Tagged> = Vec::new(alloc);
     inputs.resize(fields.len(), Tagged::new(0, lattice.bottom()))?;
     match read_line_into(line, ended, fields, lattice, &mut inputs) {
-        Ok(()) => Ok(Ok(Inputs::new(inputs))),
+        Ok(count) => Ok(Ok(Span::new(Inputs::new(inputs), count))),
         Err(code) => Ok(Err(code)),
     }
 }

@@ -1,8 +1,8 @@
 //! Pieces of texts.
 
-ghost use Rattle.std.specs.Prelude.{◌≡◌, ◌==◌, ◌≤◌, length, position, count_by};
+ghost use Rattle.std.specs.Prelude.{◌≡◌, ◌==◌, ◌≤◌, ℕ, List, [], ◌∷◌, ◌++◌, length, position, count_by};
 ghost use Rattle.std.specs.List.{before_first, after_first};
-ghost use Rattle.sap_stim.specs.Line.{fields_of};
+ghost use Rattle.sap_stim.specs.Line.{fields_of, is_starred, split_at};
 ghost use Rattle.sap_stim.specs.declared.TheConstants.{MOST_LINE_BYTES};
 
 fn find(text: &[u8], mark: u8) -> Option<usize>
@@ -28,7 +28,25 @@ fn count_spaces(line: &[u8]) -> usize
     line.iter().filter(|b| **b == b' ').count()
 }
 
-/// How many fields a line has.
+/// What stands behind the last space of a line, or all where there is none: its last piece.
+pub fn last_piece(line: &[u8]) -> &[u8]
+    ensures { (others : List (List ℕ)) × (split_at 32 line.now ≡ others ++ result.now ∷ []) }
+{
+    let mut start = line.len();
+    while start > 0 && line[start - 1] != b' ' {
+        start -= 1;
+    }
+    &line[start..]
+}
+
+/// Whether a piece begins with `*`.
+pub fn is_starred(piece: &[u8]) -> bool
+    ensures { result ≡ is_starred piece.now }
+{
+    !piece.is_empty() && piece[0] == b'*'
+}
+
+/// How many fields a line has; a count is none.
 pub fn count_fields(line: &[u8]) -> usize
     requires { length line.now ≤ MOST_LINE_BYTES }
     ensures { result ≡ length (fields_of line.now) }
@@ -36,5 +54,9 @@ pub fn count_fields(line: &[u8]) -> usize
     if line.is_empty() {
         return 0;
     }
-    count_spaces(line) + 1
+    let spaces = count_spaces(line);
+    if is_starred(last_piece(line)) {
+        return spaces;
+    }
+    spaces + 1
 }

@@ -14,7 +14,7 @@ use sap_lattice::lattice::Lattice;
 use sap_lattice::level::Level;
 use sap_stream::inputs::Tagged;
 
-fn are_digits(text: &[u8]) -> bool
+pub(crate) fn are_digits(text: &[u8]) -> bool
     ensures { result ≡ list_all is_ascii_digit text.now }
 {
     text.iter().all(|b| b.is_ascii_digit())
@@ -27,7 +27,7 @@ fn is_value(text: &[u8]) -> bool
 }
 
 /// The number of these digits, where it has at most 64 bits.
-fn number(digits: &[u8]) -> Option<u64>
+pub(crate) fn number(digits: &[u8]) -> Option<u64>
     requires { list_all is_ascii_digit digits.now ≡ true }
     ensures { SomeIff result (digits_value 10 digits.now < 2 ^ 64) (digits_value 10 digits.now) }
 {

@@ -1,3 +1,5 @@
+pub mod Spans
 pub mod Places
 pub mod Agreeing
 pub mod Told
+pub mod Walk

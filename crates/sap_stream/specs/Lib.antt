@@ -1,2 +1,4 @@
+pub mod Spans
+pub mod Ahead
 pub mod Apart
 pub mod Laws

@@ -79,32 +79,3 @@ impl Inputs {
         self.values.as_slice()
     }
 }
-
-/// The inputs of each cycle, from the first on.
-#[derive(Debug, Drop)]
-pub struct Stream {
-    cycles: Vec<Inputs>,
-}
-
-impl Model for Stream {
-    ghost use Rattle.std.specs.Prelude.{List};
-    ghost use Rattle.sap_meaning.specs.Cycle.{Tagged as Given};
-
-    ghost Value = { List (List Given) };
-
-    ghost view = { λ s. s.cycles.items };
-}
-
-impl Stream {
-    pub fn new(cycles: Vec<Inputs>) -> Stream
-        ensures { result ≡ cycles.items }
-    {
-        Stream { cycles }
-    }
-
-    pub fn as_slice(&self) -> &[Inputs]
-        ensures { result.now ≡ self.now }
-    {
-        self.cycles.as_slice()
-    }
-}

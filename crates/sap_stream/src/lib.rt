@@ -5,11 +5,13 @@
 
 pub mod apart;
 pub mod inputs;
+pub mod span;
 
 ghost use Rattle.sap_stream.specs.Laws.{AtMostOne};
 
 pub use apart::{Apart, agree};
-pub use inputs::{Inputs, Stream, Tagged};
+pub use inputs::{Inputs, Tagged};
+pub use span::{Span, Stream};
 
 /// No two answers fit the same streams at a level, and none fits streams that agree.
 pub fn at_most_one()

@@ -43,7 +43,7 @@ pub record Declares (d : Setting) (s : Source) : Type 0 where
   pub marks : (m : ℕ) → is_memory d.world m ≡ true → is_dynamic d.world m ≡ false → find (shapes s) (d.name (Tag m)) ≡ Some (d.tag, depth d.world m)
   pub wide : IsWidth d.tag
   pub small : (x : ℕ) → d.code x < 2 ^ d.tag
-  pub few_levels : d.world.order.count ≤ 16
+  pub few_levels : d.world.order.count ≤ 64
   pub few_children : (p : ℕ) → children d.world p ≤ 2 ^ seat_width (children d.world p)
 
 -- widths
@@ -196,36 +196,36 @@ module _ (d : Setting) (s : Source) (h : Declares d s) where
   -- places
 
   widened_fine : (u : ℕ) (e : Term Name) → IsWidth u → Fine u e → Fine (place_width u) (widened u e)
-  widened_fine u e w f = elim (cases_Bool (nat_lt u 4)) [
-    | inl t ↦ rw t (4 - u, u, (rest u t w), w, (refl, pow_pos (4 - u)), f, whole u t)
+  widened_fine u e w f = elim (cases_Bool (nat_lt u 6)) [
+    | inl t ↦ rw t (6 - u, u, (rest u t w), w, (refl, pow_pos (6 - u)), f, whole u t)
     | inr t ↦ rw t f
   ]
     where
-      rest : (u : ℕ) → nat_lt u 4 ≡ true → IsWidth u → IsWidth (4 - u)
+      rest : (u : ℕ) → nat_lt u 6 ≡ true → IsWidth u → IsWidth (6 - u)
       rest u t w = (grind (arith, common_steps), omega arith)
 
-      whole : (u : ℕ) → nat_lt u 4 ≡ true → 4 ≡ 4 - u + u
+      whole : (u : ℕ) → nat_lt u 6 ≡ true → 6 ≡ 6 - u + u
       whole u t = grind (arith, common_steps)
 
   place_wide : (u : ℕ) → IsWidth u → IsWidth (place_width u)
-  place_wide u w = elim (cases_Bool (nat_lt u 4)) [ inl t ↦ rw t (omega arith, omega arith) | inr t ↦ rw t w ]
+  place_wide u w = elim (cases_Bool (nat_lt u 6)) [ inl t ↦ rw t (omega arith, omega arith) | inr t ↦ rw t w ]
 
-  four_bits : (u i : ℕ) → i < 16 → i < 2 ^ place_width u
-  four_bits u i l = elim (cases_Bool (nat_lt u 4)) [
+  six_bits : (u i : ℕ) → i < 64 → i < 2 ^ place_width u
+  six_bits u i l = elim (cases_Bool (nat_lt u 6)) [
     | inl t ↦ rw t l
     | inr t ↦ rw t (more u (at_least u t))
   ]
     where
-      at_least : (u : ℕ) → nat_lt u 4 ≡ false → 4 ≤ u
+      at_least : (u : ℕ) → nat_lt u 6 ≡ false → 6 ≤ u
       at_least u t = grind (arith, common_steps)
 
-      more : (u : ℕ) → 4 ≤ u → i < 2 ^ u
-      more u k = let p : 2 ^ 4 ≤ 2 ^ u = pow-le-pow_right {n = 2} (omega arith) {i = 4} {j = u} k in omega (arith, p, l)
+      more : (u : ℕ) → 6 ≤ u → i < 2 ^ u
+      more u k = let p : 2 ^ 6 ≤ 2 ^ u = pow-le-pow_right {n = 2} (omega arith) {i = 6} {j = u} k in omega (arith, p, l)
 
-  placed_fine : (u : ℕ) (e : Term Name) (i m : ℕ) → IsWidth (place_width u) → Fine (place_width u) e → i + m ≤ 16 → Fine d.tag (placed d (place_width u) e i m)
+  placed_fine : (u : ℕ) (e : Term Name) (i m : ℕ) → IsWidth (place_width u) → Fine (place_width u) e → i + m ≤ 64 → Fine d.tag (placed d (place_width u) e i m)
   placed_fine u e i zero w f l = bits_fine d.world.order.top
   placed_fine u e i (suc m) w f l = (
-    (place_width u, place_width u, w, w, f, (refl, four_bits u i (omega (arith, l))), refl, refl),
+    (place_width u, place_width u, w, w, f, (refl, six_bits u i (omega (arith, l))), refl, refl),
     bits_fine i,
     placed_fine u e (i + 1) m w f (omega (arith, l)),
   )

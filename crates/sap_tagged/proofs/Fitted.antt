@@ -116,14 +116,14 @@ unfolding is_whole
 tree_of d h = (both_true (is_tree d) _ h).0
 
 module _ (ls : Levels) (D : DesignTree) (sg : IsSound ls D) where
-  levels_few : (order_of ls).count ≤ 16
-  levels_few = (let c : (order_of ls).count ≡ length ls.names = level_count ls in let e : length ls.names ≤ 16 = sg.lattice.names.before.not_too_many in omega arith)
+  levels_few : (order_of ls).count ≤ 64
+  levels_few = (let c : (order_of ls).count ≡ length ls.names = level_count ls in let e : length ls.names ≤ 64 = sg.lattice.names.before.not_too_many in omega arith)
 
   tag_wide : IsWidth (width_of (order_of ls))
   tag_wide =
       (let a : 0 < width_of (order_of ls) = sg.lattice.narrow.some in
       let b : width_of (order_of ls) < (order_of ls).count = sg.lattice.narrow.few in
-      let c : (order_of ls).count ≤ 16 = levels_few in
+      let c : (order_of ls).count ≤ 64 = levels_few in
       (omega arith, omega arith))
 
   fitting : Fitting (named_of ls D) (width_of (order_of ls))

@@ -36,7 +36,7 @@ pub record Fitting (d : Named) (tag : ℕ) : Type 0 where
   pub ranged : RangedProgram d.program
   pub conditions : GroupConditions (world d) d.program.states
   pub wide : IsWidth tag
-  pub few_levels : (world d).order.count ≤ 16
+  pub few_levels : (world d).order.count ≤ 64
 
 all_of : {A : Type 0} (P : A → Type 0) (xs : List A) → Every P xs → AllByRecursion P xs
 all_of P [] h = tt

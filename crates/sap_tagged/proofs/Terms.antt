@@ -106,9 +106,9 @@ module _ (d : Setting) (widths : Name → ℕ) (laws : Lawful d widths) where
     tag_value (part a hi lo) f = tag_value a f
 
     widened_value : (u : ℕ) (e : Term Name) → value_in widths g (widened u e) ≡ value_in widths g e
-    widened_value u e = by (nat_lt u 4)
+    widened_value u e = by (nat_lt u 6)
       where
-        by : (q : Bool) → value_in widths g (if q then join (constant (4 - u) 0) e else e) ≡ value_in widths g e
+        by : (q : Bool) → value_in widths g (if q then join (constant (6 - u) 0) e else e) ≡ value_in widths g e
         by true = omega arith
         by false = refl
 

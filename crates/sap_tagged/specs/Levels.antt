@@ -47,12 +47,12 @@ tag_of d (choose c a b) = lub (tag_of d c) (lub (tag_of d a) (tag_of d b))
 tag_of d (join a b) = lub (tag_of d a) (tag_of d b)
 tag_of d (part a hi lo) = tag_of d a
 
--- A place in the lattice file has 4 bits. A number of fewer bits is widened to as many.
+-- A place in the lattice file has 6 bits. A number of fewer bits is widened to as many.
 abbrev pub place_width : ℕ → ℕ
-place_width u = if nat_lt u 4 then 4 else u
+place_width u = if nat_lt u 6 then 6 else u
 
 abbrev pub widened : (width : ℕ) → Term Name → Term Name
-widened u e = if nat_lt u 4 then join (constant (4 - u) 0) e else e
+widened u e = if nat_lt u 6 then join (constant (6 - u) 0) e else e
 
 -- the level at the place e, which has u bits, of so many levels from the i-th on; else the top
 abbrev pub placed : Setting → (u : ℕ) → (e : Term Name) → (i more : ℕ) → Term Name

@@ -335,13 +335,13 @@ pub fn told_tag(alloc: Global, setting: &Setting<'_>, n: &TagOf) -> Result<Calc,
     }
 }
 
-/// With 4 bits at least.
+/// With 6 bits at least.
 fn widened(alloc: Global, width: u32, e: Calc) -> Result<Calc, AllocError>
     ensures { IfOk result (λ c. calcs.term_of c ≡ spec.widened width (calcs.term_of e)) }
 {
-    if width < 4 {
+    if width < 6 {
         let zeros = Calc::Constant {
-            width: 4 - width,
+            width: 6 - width,
             value: 0,
         };
         join(alloc, zeros, e)
@@ -392,7 +392,7 @@ fn level_at(alloc: Global, setting: &Setting<'_>, e: &Number) -> Result<Calc, Al
     placed(
         alloc,
         setting,
-        width.max(4),
+        width.max(6),
         &place,
         0,
         setting.lattice.count(),

@@ -1,5 +1,5 @@
 -- The fields of a design: one by one, and as those by which a run's stimulus is read.
-use Rattle.std.proofs.Common.{◌≡◌, ℕ, zero, suc, ◌+◌, ◌<◌, ◌≤◌, Bool, true, false, List, [], ◌∷◌, ◌++◌, Option, Some, None, length, take, map, refl, sym, ap, ◌∙◌, subst, arith, if◌then◌else◌}
+use Rattle.std.proofs.Common.{◌≡◌, ℕ, zero, suc, ◌+◌, ◌<◌, ◌≤◌, true, List, [], ◌∷◌, ◌++◌, Option, Some, None, length, take, map, refl, sym, ap, ◌∙◌, arith, if◌then◌else◌}
 use Rattle.std.specs.Prelude.{All, option_map, slice_get}
 use Rattle.std.specs.List.{AllByRecursion}
 use Rattle.std.proofs.lemmas.List.{take_all}
@@ -15,7 +15,7 @@ use Rattle.sap_meaning.specs.Program.{kind_is_input}
 use Rattle.sap_meaning.specs.Program as program
 use Rattle.sap_meaning.specs.State.{input_widths}
 use Rattle.sap_resolve.specs.Worlds.{world_of}
-use Rattle.sap_resolve.proofs.Lookup.{Stands, Matches, AllMatch, entities_match}
+use Rattle.sap_resolve.proofs.Lookup.{Stands, AllMatch, entities_match}
 use Rattle.sap_stim.specs.declared.field.Field.{Field}
 use Rattle.sap_stim.specs.declared.field.Field.TheVariants.{Tagged}
 use Rattle.sap_stim.specs.Line.{IsSized}

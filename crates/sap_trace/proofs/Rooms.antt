@@ -1,11 +1,10 @@
 -- The room of the lines of a trace.
-use Rattle.std.proofs.Common.{◌≡◌, ℕ, zero, suc, [], ◌∷◌, inl, inr, ◌+◌, ◌-◌, ◌*◌, ◌^◌, ◌<◌, ◌≤◌, List, ◌++◌, length, refl, sym, ap, ◌∙◌, subst, length-append, arith}
-use Rattle.std.specs.Prelude.{Option, Some, None, Result, Ok, Err, OnErr, codes, decimal, slice_get, option_map, unwrap_or}
+use Rattle.std.proofs.Common.{◌≡◌, ℕ, zero, suc, [], ◌∷◌, inl, inr, ◌+◌, ◌*◌, ◌^◌, ◌<◌, ◌≤◌, List, length, refl, ap, ◌∙◌, length-append, arith}
+use Rattle.std.specs.Prelude.{Option, Some, None, Result, Ok, Err, OnErr, decimal, slice_get, option_map, unwrap_or}
 use Rattle.std.proofs.lemmas.Bool.{cases_lt}
 use Rattle.std.proofs.lemmas.Fmt.{length-decimal-le}
 use Rattle.std.proofs.Math.Nat.{mul-le-mul_right}
 use Rattle.sap_tree.specs.Syntax.{DesignTree}
-use Rattle.sap_lattice.specs.Closure.{name_at}
 use Rattle.sap_lattice.specs.Levels.{Levels, level_in}
 use Rattle.sap_names.specs.declared.entity.Entity.{Entity}
 use Rattle.sap_names.specs.Entities.{entities_of}
@@ -17,7 +16,7 @@ use Rattle.sap_report.specs.Report.{entity_name, site_target, site_word}
 use Rattle.sap_run.specs.LabelledRows.{level_name}
 use Rattle.sap_stim.specs.Rows.{level_coded}
 use Rattle.sap_stim.proofs.RowRoom.{Within, each_name, text_within}
-use Rattle.sap_trace.specs.Lines.{line_before, line_end, line_head, site_at, site_line, target_text}
+use Rattle.sap_trace.specs.Lines.{line_head, site_at, site_line, target_text}
 use Rattle.sap_trace.specs.Rooms.{HoldsLine, site_room}
 use Rattle.sap_trace.specs.Seen.{coded_name}
 

@@ -1,10 +1,9 @@
 -- The lines of a netlist's run, cycle by cycle, and those of the labelled run for which it stands.
-use Rattle.std.proofs.Common.{◌≡◌, ℕ, zero, suc, ◌+◌, ◌<◌, List, [], ◌∷◌, ◌++◌, Option, length, take, map, refl, sym, ap, ap₂, ◌∙◌, subst, arith}
+use Rattle.std.proofs.Common.{◌≡◌, ℕ, suc, ◌+◌, ◌<◌, List, [], ◌∷◌, ◌++◌, length, map, refl, sym, ap, ap₂, ◌∙◌, arith}
 use Rattle.sap_tree.specs.Syntax.{DesignTree}
 use Rattle.sap_lattice.specs.Levels.{Levels, order_of}
 use Rattle.sap_lattice.specs.Codes.{Codes}
 use Rattle.sap_maps.specs.Maps.{Valuation}
-use Rattle.sap_meaning.specs.Program.{Program}
 use Rattle.sap_meaning.specs.Store.{Store, After}
 use Rattle.sap_meaning.specs.Cycle.{Tagged, cycle, run_from}
 use Rattle.sap_meaning.specs.Sites.{program_sites, refused_sites, Sublist}
@@ -15,9 +14,8 @@ use Rattle.sap_interface.specs.Compiled.{CyclesStand}
 use Rattle.sap_interface.specs.Designs.{named_of}
 use Rattle.sap_interface.specs.Designs as interface
 use Rattle.sap_resolve.specs.Fill.{program_of}
-use Rattle.sap_sim.proofs.Runs.{IsCycleAt}
 use Rattle.sap_sites.specs.Numbering.{OneNumbering}
-use Rattle.sap_trace.specs.Lines.{refusal_lines, trace_of_run}
+use Rattle.sap_trace.specs.Lines.{trace_of_run}
 use Rattle.sap_trace.specs.Seen.{seen_lines, lines_from}
 use Rattle.sap_trace.proofs.Seen.{append_nil, append_three, lines_told}
 
@@ -44,18 +42,6 @@ lines_split ls d n c (v ∷ vs) ws =
     ap (λ (ys : List ℕ). cycle_lines ls d n c v ++ ys) (lines_split ls d n (c + 1) vs ws)
     ∙ sym (append_three (cycle_lines ls d n c v) (lines_from ls d n (c + 1) vs) (lines_from ls d n (c + 1 + length vs) ws))
     ∙ ap (λ (k : ℕ). (cycle_lines ls d n c v ++ lines_from ls d n (c + 1) vs) ++ lines_from ls d n k ws) e
-
--- the lines of one cycle more
-pub lines_more : (ls : Levels) (d : DesignTree) (n : Net) (b : Option Valuation) (xss : List (List ℕ)) (vs : List Valuation) (k : ℕ) (v : Valuation) → IsCycleAt n b xss vs k v
-    → lines_from ls d n 1 (take (k + 1) vs) ≡ lines_from ls d n 1 (take k vs) ++ cycle_lines ls d n (k + 1) v
-lines_more ls d n b xss vs k v at =
-    let i : k + 1 ≡ suc k = omega arith in
-    let l : length (take k vs) ≡ k = at.count in
-    let j : 1 + length (take k vs) ≡ k + 1 = omega arith in
-    ap (λ (m : ℕ). lines_from ls d n 1 (take m vs)) i
-    ∙ ap (λ (ws : List Valuation). lines_from ls d n 1 ws) at.more
-    ∙ lines_last ls d n 1 (take k vs) v
-    ∙ ap (λ (m : ℕ). lines_from ls d n 1 (take k vs) ++ cycle_lines ls d n m v) j
 
 module _ (ls : Levels) (d : DesignTree) (codes : Codes (order_of ls)) (some : 0 < length ls.names) (one : OneNumbering ls d) (n : Net)
     (in_order : (inputs : List Tagged) (s : Store) → Sublist (refused_sites (cycle (program_of ls d) inputs s).refused) (program_sites (program_of ls d))) where

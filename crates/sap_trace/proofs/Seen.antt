@@ -1,10 +1,8 @@
 -- What the wires of check sites tell of a cycle that stands for one of the design are its refusals.
-use Rattle.std.proofs.Common.{◌≡◌, ℕ, zero, suc, ◌+◌, ◌<◌, ◌≤◌, Bool, true, false, List, [], ◌∷◌, ◌++◌, Option, Some, length, refl, sym, ap, ap₂, ◌∙◌, subst, arith, inl, inr, ◌⊎◌, ◌↔◌, if◌then◌else◌}
-use Rattle.std.specs.Prelude.{◌==◌, option_map}
-use Rattle.std.proofs.lemmas.Bool.{cases_Bool}
+use Rattle.std.proofs.Common.{◌≡◌, ℕ, zero, suc, ◌+◌, ◌<◌, ◌≤◌, Bool, true, false, List, [], ◌∷◌, ◌++◌, Option, length, refl, sym, ap, ap₂, ◌∙◌, subst, arith, inl, inr, ◌↔◌, if◌then◌else◌}
+use Rattle.std.specs.Prelude.{◌==◌}
 use Rattle.std.proofs.lemmas.Bool.Decides.{Decides-eqb}
 use Rattle.sap_tree.specs.Syntax.{DesignTree}
-use Rattle.sap_lattice.specs.Closure.{name_at}
 use Rattle.sap_lattice.specs.Levels.{Levels, order_of}
 use Rattle.sap_lattice.specs.Codes.{Codes, code_of}
 use Rattle.sap_maps.specs.Maps.{Valuation}
@@ -17,11 +15,11 @@ use Rattle.sap_interface.specs.StandsFor.{IsRefusedAt, IsRefused, StandsFor}
 use Rattle.sap_interface.specs.Designs.{named_of}
 use Rattle.sap_interface.specs.Designs as interface
 use Rattle.sap_resolve.specs.Fill.{program_of}
-use Rattle.sap_stim.specs.Rows.{level_coded, level_text}
+use Rattle.sap_stim.specs.Rows.{level_text}
 use Rattle.sap_run.specs.LabelledRows.{level_name}
 use Rattle.sap_run.proofs.Levels.{name_coded}
 use Rattle.sap_sites.specs.Numbering.{numbers_from, OneNumbering}
-use Rattle.sap_trace.specs.Lines.{site_line, refusal_line, refusal_lines}
+use Rattle.sap_trace.specs.Lines.{site_line, refusal_lines}
 use Rattle.sap_trace.specs.Seen.{coded_name, seen_line, seen_lines}
 
 pub append_nil : (xs : List ℕ) → xs ++ [] ≡ xs

@@ -1,10 +1,12 @@
 //! A cycle after another.
 
-ghost use Rattle.std.specs.Prelude.{◌≡◌, ◌++◌, [], List, Option, Some, None, map, length, IfOk, OnOk};
+ghost use Rattle.std.specs.Prelude.{◌≡◌, ◌+◌, ◌<◌, ◌^◌, ◌++◌, [], List, Option, Some, None, map, length, IfOk, OnOk};
+ghost use Rattle.std.specs.List.{last_or};
 ghost use Rattle.sap_maps.specs.Maps.{Valuation};
-ghost use Rattle.sap_net.specs.Runs.{InputsFit, AllFit, IsCycle, IsRun, observed};
+ghost use Rattle.sap_net.specs.Runs.{InputsFit, AllFit, IsCycle, IsRun, IsRunAfter, observed};
 ghost use Rattle.sap_check.specs.Checked.{levels_in, tree_in};
 ghost use Rattle.sap_check.specs.Sites.{sites_of};
+ghost use Rattle.sap_stream.specs.Spans.{cycles_in, cycles_of};
 ghost use Rattle.sap_cycle.specs.Running.{Shows};
 ghost use Rattle.sap_trace.specs.Fields.{given};
 ghost use Rattle.sap_trace.specs.Seen.{AreWires, lines_from, seen_lines};
@@ -14,7 +16,7 @@ use crate::line::push_refused;
 use crate::wires::Wires;
 use sap_check::Checked;
 use sap_cycle::runner::Runner;
-use sap_stream::{Inputs, Tagged};
+use sap_stream::{Span, Tagged};
 use std::alloc::{AllocError, Global};
 
 /// Steps a runner on a line, and adds the lines of the sites that the cycle refuses.
@@ -40,31 +42,59 @@ fn step(
     Ok(())
 }
 
+/// Steps a runner in each cycle of a span, behind `done` other cycles, and adds the lines.
+fn span_lines(
+    alloc: Global,
+    checked: &Checked,
+    runner: &mut Runner,
+    wires: &Wires,
+    done: u64,
+    span: &Span,
+    out: &mut Vec<u8>,
+) -> Result<(), AllocError>
+    requires wires { AreWires runner.old.net (length (sites_of (tree_in checked.now))) wires.now }
+    requires fits { InputsFit runner.old.net.inputs (given (levels_in checked.now) span.now.inputs) }
+    requires few { done + span.now.count < 2 ^ 48 }
+    ensures netlist { runner.new.net ≡ runner.old.net }
+    ensures shows { OnOk result ((before : Option Valuation) (vs : List Valuation) → Shows runner.old before → IsRunAfter runner.old.net before (map (given (levels_in checked.now)) (cycles_in span.now)) vs → Shows runner.new (last_or before vs)) }
+    ensures lines { OnOk result ((before : Option Valuation) (vs : List Valuation) → Shows runner.old before → IsRunAfter runner.old.net before (map (given (levels_in checked.now)) (cycles_in span.now)) vs
+        → out.new.items ≡ out.old.items ++ lines_from (levels_in checked.now) (tree_in checked.now) runner.old.net (done + 1) vs) }
+{
+    for k in 0..span.count() {
+        step(
+            alloc,
+            checked,
+            runner,
+            wires,
+            done + u64::from(k) + 1,
+            span.inputs().values(),
+            out,
+        )?;
+    }
+    Ok(())
+}
+
 /// The lines of all cycles.
 pub(crate) fn lines(
     alloc: Global,
     checked: &Checked,
     runner: &mut Runner,
     wires: &Wires,
-    stream: &[Inputs],
+    spans: &[Span],
 ) -> Result<Vec<u8>, AllocError>
     requires wires { AreWires runner.old.net (length (sites_of (tree_in checked.now))) wires.now }
     requires unstepped { Shows runner.old None }
-    requires fits { AllFit runner.old.net.inputs (map (given (levels_in checked.now)) stream.now) }
-    ensures { IfOk result (λ text. (vs : List Valuation) → IsRun runner.old.net (map (given (levels_in checked.now)) stream.now) vs
+    requires fits { AllFit runner.old.net.inputs (map (given (levels_in checked.now)) (cycles_of spans.now)) }
+    requires few { length (cycles_of spans.now) < 2 ^ 48 }
+    ensures { IfOk result (λ text. (vs : List Valuation) → IsRun runner.old.net (map (given (levels_in checked.now)) (cycles_of spans.now)) vs
         → text.items ≡ lines_from (levels_in checked.now) (tree_in checked.now) runner.old.net 1 vs) }
 {
     let mut out = Vec::new(alloc);
-    for (k, line) in stream.iter().enumerate() {
-        step(
-            alloc,
-            checked,
-            runner,
-            wires,
-            k as u64 + 1,
-            line.values(),
-            &mut out,
-        )?;
+    let mut done = 0;
+    for span in spans {
+        let count = span.count();
+        span_lines(alloc, checked, runner, wires, done, span, &mut out)?;
+        done += u64::from(count);
     }
     Ok(out)
 }

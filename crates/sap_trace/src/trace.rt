@@ -1,6 +1,6 @@
 //! The trace of a design on a stimulus.
 
-ghost use Rattle.std.specs.Prelude.{◌≡◌, None, IfOk};
+ghost use Rattle.std.specs.Prelude.{◌≡◌, ◌<◌, ◌^◌, None, IfOk, length};
 ghost use Rattle.sap_check.specs.Checked.{levels_in, tree_in};
 ghost use Rattle.sap_cycle.specs.Running.{Shows};
 ghost use Rattle.sap_interface.specs.Designs.{StandsForDesign};
@@ -32,6 +32,7 @@ pub fn read_stimulus(
     checked: &Checked,
     stimulus: &[u8],
 ) -> Result<Parsed, AllocError>
+    requires short { length stimulus.now < 2 ^ 32 }
     ensures { IfOk result (λ parsed. parsed ≡ read_for (levels_in checked.now) (tree_in checked.now) stimulus.now) }
 {
     let names = checked.names();
@@ -59,6 +60,7 @@ pub fn trace_of(
     stimulus: &[u8],
 ) -> Result<Trace, AllocError>
     requires stands { StandsForDesign (levels_in checked.now) (tree_in checked.now) netlist }
+    requires short { length stimulus.now < 2 ^ 32 }
     ensures trace { IfOk result (λ trace. IsTraceOf (levels_in checked.now) (tree_in checked.now) stimulus.now trace) }
 {
     known(checked);
@@ -68,13 +70,7 @@ pub fn trace_of(
     let parsed = read_stimulus(alloc, checked, stimulus)?;
     let mut runner = load(alloc, netlist)?;
     let wires = wires_of(alloc, &runner, checked.site_count())?;
-    let text = lines(
-        alloc,
-        checked,
-        &mut runner,
-        &wires,
-        parsed.stream.as_slice(),
-    )?;
+    let text = lines(alloc, checked, &mut runner, &wires, parsed.stream.spans())?;
     Ok(Trace {
         text: Bytes::new(text),
         fault: parsed.fault,

@@ -43,7 +43,7 @@ static TRIALS: [Trial; 5] = [
         head: "lattice: ",
     },
     Trial {
-        codes: &["S1", "S2", "S3", "S4", "S5"],
+        codes: &["S1", "S2", "S3", "S4", "S5", "S6"],
         words: RUN,
         file: "S",
         before: "",

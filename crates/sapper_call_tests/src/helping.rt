@@ -6,13 +6,13 @@ use sapper_fixture::{desk, words};
 use std::alloc::{AllocError, Global};
 use std::test::Fail;
 
-static CODES: [&str; 37] = [
+static CODES: [&str; 38] = [
     "E1", "E2", "E3", "E4", "E5", "E6", "E7", "E8", "E9", "E10", "E11", "E12", "E14", "E15", "E16",
     "E17", "E18", "L1", "L2", "L3", "L4", "L5", "L6", "L7", "L8", "S1", "S2", "S3", "S4", "S5",
-    "V1", "V2", "V3", "V4", "V5", "V6", "V7",
+    "S6", "V1", "V2", "V3", "V4", "V5", "V6", "V7",
 ];
 
-static NO_CODES: [&str; 9] = ["E0", "E13", "E19", "L9", "S6", "V8", "e1", "E01", ""];
+static NO_CODES: [&str; 9] = ["E0", "E13", "E19", "L9", "S7", "V8", "e1", "E01", ""];
 
 // The heads of the lines of the help: what may be asked.
 static COMMANDS: [&str; 8] = [

@@ -12,6 +12,8 @@ mod generating;
 #[cfg(test)]
 mod helping;
 #[cfg(test)]
+mod long_runs;
+#[cfg(test)]
 mod rows;
 #[cfg(test)]
 mod streams;

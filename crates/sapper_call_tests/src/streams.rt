@@ -26,7 +26,7 @@ struct Row {
     line: &'static str,
 }
 
-static STREAMS: [Row; 21] = [
+static STREAMS: [Row; 27] = [
     // they agree at low, where values at high aren't seen
     Row {
         words: TWIN,
@@ -57,6 +57,67 @@ static STREAMS: [Row; 21] = [
         status: 0,
         output: "agree at low for 0 cycles\n",
         line: "",
+    },
+    // the same cycles, cut into lines otherwise
+    Row {
+        words: TWIN,
+        lattice: TWO,
+        design: ADDS_ONE,
+        first: "0@low *2\n",
+        second: "0@low\n0@low\n",
+        status: 0,
+        output: "agree at low for 2 cycles\n",
+        line: "",
+    },
+    Row {
+        words: TWIN,
+        lattice: TWO,
+        design: ADDS_ONE,
+        first: "0@low *65535\n0@low\n",
+        second: "0@low *2\n0@low *65534\n",
+        status: 0,
+        output: "agree at low for 65536 cycles\n",
+        line: "",
+    },
+    Row {
+        words: TWIN,
+        lattice: TWO,
+        design: ADDS_ONE,
+        first: "1@low *3\n2@low\n",
+        second: "1@low\n1@low *2\n3@low\n",
+        status: 8,
+        output: "",
+        line: "streams: cycle 4 input a\n",
+    },
+    Row {
+        words: TWIN,
+        lattice: TWO,
+        design: ADDS_ONE,
+        first: "1@low *3\n",
+        second: "1@low *2\n2@low\n",
+        status: 8,
+        output: "",
+        line: "streams: cycle 3 input a\n",
+    },
+    Row {
+        words: TWIN,
+        lattice: TWO,
+        design: ADDS_ONE,
+        first: "1@low *2\n",
+        second: "1@low *3\n",
+        status: 8,
+        output: "",
+        line: "streams: lengths 2 and 3\n",
+    },
+    Row {
+        words: TWIN,
+        lattice: TWO,
+        design: ADDS_ONE,
+        first: "1@low *2\n",
+        second: "1@low\n1@low *65536\n",
+        status: 4,
+        output: "",
+        line: "stimulus 2: S6 line 2\n",
     },
     // one stimulus may be both
     Row {

@@ -22,7 +22,7 @@ struct Run {
     line: &'static str,
 }
 
-static VALUES: [Run; 11] = [
+static VALUES: [Run; 14] = [
     Run {
         lattice: TWO,
         design: ADDS_ONE,
@@ -106,6 +106,31 @@ static VALUES: [Run; 11] = [
         rows: "cycle 1: x=6@low\n",
         trace: "",
         line: "stimulus 1: S2 line 2\n",
+    },
+    // a line with a count stands for so many cycles; a refused count for none
+    Run {
+        lattice: TWO,
+        design: ADDS_ONE,
+        stimulus: "5@low *3\n7@high\n",
+        rows: "cycle 1: x=6@low\ncycle 2: x=6@low\ncycle 3: x=6@low\ncycle 4: x=8@high\n",
+        trace: "",
+        line: "",
+    },
+    Run {
+        lattice: TWO,
+        design: ADDS_ONE,
+        stimulus: "5@low *0\n",
+        rows: "",
+        trace: "",
+        line: "stimulus 1: S6 line 1\n",
+    },
+    Run {
+        lattice: TWO,
+        design: KEEPS_LOW,
+        stimulus: "5@high *2\n5@low\n",
+        rows: "cycle 1: y=7@low\ncycle 2: y=7@low\ncycle 3: y=5@low\n",
+        trace: "cycle 1: site 1 write y at low\ncycle 2: site 1 write y at low\n",
+        line: "",
     },
     // what comes before a refused line stands
     Run {

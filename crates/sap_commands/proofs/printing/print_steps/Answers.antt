@@ -4,7 +4,7 @@ use Rattle.sap_commands.proofs.printing.print_steps.Goals as goal
 pub returns-in-Ok : goal.returns-in-Ok
 returns-in-Ok g c =
     rw c.end.ensures (printed_ends (g.S.Steps.shows c.args.steps.now) (g.S.Steps.levels c.args.steps.now) (g.S.Steps.fields c.args.steps.now) c.args.stimulus.now c.in-Ok.fault _ _
-    c.in-Ok.ensures.done c.in-Ok.ensures.faults c.in-Ok.ensures.lost c.in-Ok.ensures.sure)
+    c.in-Ok.ensures.some c.in-Ok.ensures.done c.in-Ok.ensures.faults c.in-Ok.ensures.lost c.in-Ok.ensures.sure)
 
 pub returns-in-Err-Input : goal.returns-in-Err-Input
 returns-in-Err-Input g c =

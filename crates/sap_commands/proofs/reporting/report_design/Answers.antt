@@ -15,22 +15,22 @@ use Rattle.sap_commands.proofs.reporting.report_design.Goals as goal
 pub returns-in_err-bytes : goal.returns-in_err-bytes
 returns-in_err-bytes g c =
     let p = err_from_is_err_and c.from_residual.result c.from_residual.ensures.1 in
-    rw (p.1, p.2) (stopped c.in_err-bytes.ensures)
+    rw (p.1, p.2) (stopped c.in_err-bytes.ensures.read)
 
 pub returns-in_err-levels : goal.returns-in_err-levels
 returns-in_err-levels g c =
     let p = err_from_is_err_and c.from_residual-in_err-levels.result c.from_residual-in_err-levels.ensures.1 in
-    rw (p.1, p.2) (not_given (ending c.in_err-levels.field-0.0) c.in_ok-bytes.ensures c.in_err-levels.ensures)
+    rw (p.1, p.2) (not_given (ending c.in_err-levels.field-0.0) c.in_ok-bytes.ensures.read c.in_err-levels.ensures)
 
 pub returns-in_err-source : goal.returns-in_err-source
 returns-in_err-source g c =
     let p = err_from_is_err_and c.from_residual-in_err-source.result c.from_residual-in_err-source.ensures.1 in
-    rw (p.1, p.2) (past (whole c.in_ok-levels.levels) c.in_ok-bytes.ensures c.in_ok-levels.ensures (stopped c.in_err-source.ensures))
+    rw (p.1, p.2) (past (whole c.in_ok-levels.levels) c.in_ok-bytes.ensures.read c.in_ok-levels.ensures (stopped c.in_err-source.ensures))
 
 pub returns-in_err-checked : goal.returns-in_err-checked
 returns-in_err-checked g c =
     let p = err_from_is_err_and c.from_residual-in_err-checked.result c.from_residual-in_err-checked.ensures.1 in
-    rw (p.1, p.2) (past (whole c.in_ok-levels.levels) c.in_ok-bytes.ensures c.in_ok-levels.ensures
+    rw (p.1, p.2) (past (whole c.in_ok-levels.levels) c.in_ok-bytes.ensures.read c.in_ok-levels.ensures
     (not_given (ending c.in_err-checked.field-0.0) c.in_ok-source.ensures.1
     (refused_design _ c.in_ok-source.ensures.2
     (refuses_in c.in_ok-levels.levels (whole c.in_ok-levels.levels) c.in_ok-source.source (ending c.in_err-checked.field-0.0)
@@ -39,7 +39,7 @@ returns-in_err-checked g c =
 pub returns-in_err-text : goal.returns-in_err-text
 returns-in_err-text g c =
     let p = err_from_is_err_and c.from_residual-in_err-text.result c.from_residual-in_err-text.ensures.1 in
-    rw (p.1, p.2) (past (whole c.in_ok-levels.levels) c.in_ok-bytes.ensures c.in_ok-levels.ensures
+    rw (p.1, p.2) (past (whole c.in_ok-levels.levels) c.in_ok-bytes.ensures.read c.in_ok-levels.ensures
     (past (tree_in c.in_ok-checked.checked) c.in_ok-source.ensures.1
     (checked_whole c.in_ok-source.ensures.2
     (text_in c.in_ok-levels.levels (whole c.in_ok-levels.levels) c.in_ok-source.source (tree_in c.in_ok-checked.checked) (whole_same c.in_ok-bytes.bytes c.in_ok-levels.levels c.in_ok-levels.ensures) c.in_ok-checked.ensures.0))
@@ -50,7 +50,7 @@ returns g c =
     let l = c.in_ok-levels.levels in
     let d = tree_in c.in_ok-checked.checked in
     let same = whole_same c.in_ok-bytes.bytes c.in_ok-levels.levels c.in_ok-levels.ensures in
-    past (whole c.in_ok-levels.levels) c.in_ok-bytes.ensures c.in_ok-levels.ensures
+    past (whole c.in_ok-levels.levels) c.in_ok-bytes.ensures.read c.in_ok-levels.ensures
     (past (tree_in c.in_ok-checked.checked) c.in_ok-source.ensures.1
     (checked_whole c.in_ok-source.ensures.2
     (text_in c.in_ok-levels.levels (whole c.in_ok-levels.levels) c.in_ok-source.source (tree_in c.in_ok-checked.checked) (whole_same c.in_ok-bytes.bytes c.in_ok-levels.levels c.in_ok-levels.ensures) c.in_ok-checked.ensures.0))

@@ -27,22 +27,22 @@ use Rattle.sap_commands.proofs.running.run.Goals as goal
 pub returns-in_err-bytes : goal.returns-in_err-bytes
 returns-in_err-bytes g c =
     let p = err_from_is_err_and c.from_residual.result c.from_residual.ensures.1 in
-    rw (p.1, p.2) (stopped c.in_err-bytes.ensures)
+    rw (p.1, p.2) (stopped c.in_err-bytes.ensures.read)
 
 pub returns-in_err-_levels : goal.returns-in_err-_levels
 returns-in_err-_levels g c =
     let p = err_from_is_err_and c.from_residual-in_err-_levels.result c.from_residual-in_err-_levels.ensures.1 in
-    rw (p.1, p.2) (not_given (ending c.in_err-_levels.field-0.0) c.in_ok-bytes.ensures c.in_err-_levels.ensures)
+    rw (p.1, p.2) (not_given (ending c.in_err-_levels.field-0.0) c.in_ok-bytes.ensures.read c.in_err-_levels.ensures)
 
 pub returns-in_err-source : goal.returns-in_err-source
 returns-in_err-source g c =
     let p = err_from_is_err_and c.from_residual-in_err-source.result c.from_residual-in_err-source.ensures.1 in
-    rw (p.1, p.2) (past (whole c.in_ok-_levels._levels) c.in_ok-bytes.ensures c.in_ok-_levels.ensures (stopped c.in_err-source.ensures))
+    rw (p.1, p.2) (past (whole c.in_ok-_levels._levels) c.in_ok-bytes.ensures.read c.in_ok-_levels.ensures (stopped c.in_err-source.ensures))
 
 pub returns-in_err-compiled : goal.returns-in_err-compiled
 returns-in_err-compiled g c =
     let p = err_from_is_err_and c.from_residual-in_err-compiled.result c.from_residual-in_err-compiled.ensures.1 in
-    rw (p.1, p.2) (past (whole c.in_ok-_levels._levels) c.in_ok-bytes.ensures c.in_ok-_levels.ensures
+    rw (p.1, p.2) (past (whole c.in_ok-_levels._levels) c.in_ok-bytes.ensures.read c.in_ok-_levels.ensures
     (not_given (ending c.in_err-compiled.field-0.0) c.in_ok-source.ensures.1 (refused_design _ c.in_ok-source.ensures.2 (c.in_err-compiled.ensures (whole c.in_ok-_levels._levels) c.in_ok-_levels.ensures))))
 
 pub rows_of_run-requires : goal.rows_of_run-requires
@@ -69,7 +69,7 @@ returns g c =
     let runs : GivesRuns k d n = rw (c.lattice.ensures, c.design.ensures, c.into_parts-checked.ensures.checked, c.into_parts-checked.ensures.netlist) at c.rows_of_run.ensures.runs in
     let fields : fields_of k n ≡ design_fields k d = rw (c.lattice.ensures, c.design.ensures, c.into_parts-checked.ensures.checked, c.into_parts-checked.ensures.netlist) at c.rows_of_run.ensures.fields in
     let printed = rw (c.lattice-2.ensures, c.into_parts-checked.ensures.checked, c.into_parts-checked.ensures.netlist) at c.print_rows.ensures in
-    past ls c.in_ok-bytes.ensures c.in_ok-_levels.ensures
+    past ls c.in_ok-bytes.ensures.read c.in_ok-_levels.ensures
     (compiled_past c.in_ok-_levels.ensures c.in_ok-source.ensures.1 (compiled_whole c.in_ok-source.ensures.2 c.in_ok-compiled.ensures)
     (printed_same c.args.stimulus.now (AreModuleRows k n) (AreDesignRows ls d) (λ bytes. (module_stimulus k n bytes).fault) (λ bytes. (design_stimulus ls d bytes).fault)
     (λ bytes given rows. (rows.0, run_in k ls same d bytes _ (runs bytes _ rows.1)))

@@ -13,23 +13,23 @@ use Rattle.sap_commands.proofs.simulating.simulate.Goals as goal
 pub returns-in_err-bytes : goal.returns-in_err-bytes
 returns-in_err-bytes g c =
     let p = err_from_is_err_and c.from_residual.result c.from_residual.ensures.1 in
-    rw (p.1, p.2) (stopped c.in_err-bytes.ensures)
+    rw (p.1, p.2) (stopped c.in_err-bytes.ensures.read)
 
 pub returns-in_err-levels : goal.returns-in_err-levels
 returns-in_err-levels g c =
     let p = err_from_is_err_and c.from_residual-in_err-levels.result c.from_residual-in_err-levels.ensures.1 in
-    rw (p.1, p.2) (not_given (ending c.in_err-levels.field-0.0) c.in_ok-bytes.ensures c.in_err-levels.ensures)
+    rw (p.1, p.2) (not_given (ending c.in_err-levels.field-0.0) c.in_ok-bytes.ensures.read c.in_err-levels.ensures)
 
 pub returns-in_err-module : goal.returns-in_err-module
 returns-in_err-module g c =
     let p = err_from_is_err_and c.from_residual-in_err-module.result c.from_residual-in_err-module.ensures.1 in
-    rw (p.1, p.2) (past (whole c.in_ok-levels.levels) c.in_ok-bytes.ensures c.in_ok-levels.ensures (stopped c.in_err-module.ensures))
+    rw (p.1, p.2) (past (whole c.in_ok-levels.levels) c.in_ok-bytes.ensures.read c.in_ok-levels.ensures (stopped c.in_err-module.ensures.read))
 
 pub returns-in_err-netlist : goal.returns-in_err-netlist
 returns-in_err-netlist g c =
     let p = err_from_is_err_and c.from_residual-in_err-netlist.result c.from_residual-in_err-netlist.ensures.1 in
-    rw (p.1, p.2) (past (whole c.in_ok-levels.levels) c.in_ok-bytes.ensures c.in_ok-levels.ensures
-    (not_given (ending c.in_err-netlist.field-0.0) c.in_ok-module.ensures c.in_err-netlist.ensures))
+    rw (p.1, p.2) (past (whole c.in_ok-levels.levels) c.in_ok-bytes.ensures.read c.in_ok-levels.ensures
+    (not_given (ending c.in_err-netlist.field-0.0) c.in_ok-module.ensures.read c.in_err-netlist.ensures))
 
 pub returns : goal.returns
 returns g c =
@@ -37,8 +37,8 @@ returns g c =
     let ls = whole k in
     let n = c.in_ok-netlist.netlist in
     let same = whole_same c.in_ok-bytes.bytes k c.in_ok-levels.ensures in
-    past ls c.in_ok-bytes.ensures c.in_ok-levels.ensures
-    (past n c.in_ok-module.ensures c.in_ok-netlist.ensures
+    past ls c.in_ok-bytes.ensures.read c.in_ok-levels.ensures
+    (past n c.in_ok-module.ensures.read c.in_ok-netlist.ensures
     (printed_same c.args.stimulus.now (AreModuleRows k n) (AreModuleRows ls n) (λ bytes. (module_stimulus k n bytes).fault) (λ bytes. (module_stimulus ls n bytes).fault)
     (λ bytes given rows. (rows.0, simulated_in k ls same n bytes _ rows.1))
     (λ bytes. ap (λ (p : Parsed). p.fault) (read_net_in k ls same n bytes)) _ _ _ c.print_rows.ensures))

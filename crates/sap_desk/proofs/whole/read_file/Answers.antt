@@ -4,3 +4,6 @@ use Rattle.sap_desk.proofs.whole.read_file.Goals as goal
 
 pub returns-clause-bytes : goal.returns-clause-bytes
 returns-clause-bytes g c = whole_read _ _ _ _ (omega arith) c.read_front.ensures.short c.read_front.ensures.bytes
+
+pub returns-clause-short : goal.returns-clause-short
+returns-clause-short g c = c.read_front.ensures.short

@@ -1,11 +1,16 @@
-use Rattle.std.proofs.Common.{rules, ◌≡◌, ◌++◌, ◌≤◌, length, take, refl, arith}
+use Rattle.std.proofs.Common.{rules, tests, ◌≡◌, true, ◌++◌, ◌<◌, ◌≤◌, [], length, take, refl, sym, subst, inl, arith, length-take}
+use Rattle.std.proofs.lemmas.List.{append-nil}
 use Rattle.sap_desk.proofs.Steps.{on_err}
-use Rattle.sap_lines.proofs.Reading.{no_more, piece_more, same_more, failed_more, end_read, decided_now, fails_now}
+use Rattle.sap_lines.specs.Fetched.{IsDecided}
+use Rattle.sap_lines.proofs.Reading.{no_more, behind_more, piece_more, same_more, failed_more, end_read, fails_now, least_more}
 use Rattle.sap_lines.proofs.fetch.fetch.Goals as goal
 
 pub loop-piece-init : goal.loop-piece-init
 loop-piece-init g c = record {
   more = no_more c.args.channel c.args.held.now _ _;
+  behind = ([], sym (append-nil c.args.held.now));
+  least = inl refl;
+  still = λ decided. (refl, refl);
   bounded = λ small. small;
   faults = refl;
   lost = refl;
@@ -16,8 +21,16 @@ pub loop-piece-preserved : goal.loop-piece-preserved
 loop-piece-preserved g c =
     let items : c.add.new.self ≡ c.loop-piece.held ++ take c.in_ok-count.count c.read.new.buf = search rules in
     let within : c.in_ok-count.count ≤ length c.read.new.buf = search rules in
+    let undecided : IsDecided c.loop-piece.held → ⊥ =
+    λ decided. (let told : c.is_decided.result ≡ true = c.is_decided.ensures.1 (subst IsDecided (sym c.as_slice.ensures) decided) in let no : ⊥ = search (rules, tests) in no) in
+    let grown : length c.args.held.now ≤ length c.loop-piece.held = omega (arith, c.loop-piece.invariant.more.size) in
+    let some : 0 < length (take c.in_ok-count.count c.read.new.buf) = omega (arith, length-take c.in_ok-count.count c.read.new.buf) in
+    let most : length (take c.in_ok-count.count c.read.new.buf) ≤ 4096 = omega (arith, length-take c.in_ok-count.count c.read.new.buf) in
     record {
       more = piece_more c.args.channel c.in_ok-count.count _ _ _ _ _ _ _ _ _ _ _ c.loop-piece.invariant.more within c.in_ok-count.ensures.told c.in_ok-count.ensures.gave c.in_ok-count.ensures.given items;
+      behind = behind_more c.args.held.now c.loop-piece.held c.add.new.self (take c.in_ok-count.count c.read.new.buf) c.loop-piece.invariant.behind items;
+      least = least_more c.args.held.now c.loop-piece.held c.add.new.self (take c.in_ok-count.count c.read.new.buf) undecided grown some most items;
+      still = λ decided. absurd (undecided (subst IsDecided (sym (c.loop-piece.invariant.still decided).0) decided));
       bounded = λ small. c.in_ok-count.ensures.bounded;
       faults = search rules;
       lost = search rules;

@@ -1,9 +1,10 @@
-use Rattle.std.proofs.Common.{◌≡◌, List, ℕ, map, length, sym, ap, ◌∙◌, subst}
+use Rattle.std.proofs.Common.{◌≡◌, ◌<◌, ◌^◌, List, ℕ, map, length, sym, ap, ◌∙◌, subst}
 use Rattle.std.specs.Prelude.{All}
 use Rattle.sap_meaning.specs.Cycle.{Tagged as Given}
 use Rattle.sap_net.specs.declared.parts.Input.{Input}
 use Rattle.sap_net.specs.Net.{Net}
 use Rattle.sap_net.specs.Runs.{AllFit, IsRun, observed}
+use Rattle.sap_stream.specs.Spans.{cycles_of}
 use Rattle.sap_stim.specs.declared.field.Field.{Field}
 use Rattle.sap_stim.specs.declared.stimulus.Parsed.{Parsed}
 use Rattle.sap_stim.specs.Line.{IsSized}
@@ -13,6 +14,7 @@ use Rattle.sap_sim.specs.Fields.{with_field, field_of, fields_of}
 use Rattle.sap_sim.specs.Numbers.{numbers_of}
 use Rattle.sap_sim.specs.Shown.{shown_registers, rows_from}
 use Rattle.sap_sim.specs.Simulated.{read_for}
+use Rattle.sap_sim.proofs.Few.{stimulus_few}
 use Rattle.sap_sim.proofs.Fits.{fields_sized, stream_fits, counts}
 use Rattle.sap_sim.proofs.rows.simulate.Goals as goal
 use Rattle.sap_sim.proofs.rows.simulate.Goals.{In_ok-line}
@@ -29,6 +31,7 @@ parse_stream-requires c = record {
       subst (λ (fs : List Field). All IsSized fs) (sym (fields_are (goal.at.parse_stream-requires c).In_ok-line))
       (subst (λ (tag : ℕ). All IsSized (map (field_of tag c.args.netlist.inputs) (with_field tag c.args.netlist.inputs))) c.width-tag.ensures
       (fields_sized c.width-tag.result c.args.netlist c.rules.ensures));
+  short = c.requires.short;
 }
 
 parsed_is : (c : In_ok-line) (p : Parsed) → p ≡ stimulus_of c.args.lattice.now c.in_ok-line.line.fields c.args.stimulus.now → p ≡ read_for c.args.lattice.now c.args.netlist c.args.stimulus.now
@@ -41,20 +44,27 @@ pub rows-requires-clause-counts : goal.rows-requires-clause-counts
 rows-requires-clause-counts c =
     let d = (goal.at.rows-requires-clause-counts c).In_ok-line in
     let ls = c.args.lattice.now in
-    let e : c.as_slice.result.now ≡ (read_for c.args.lattice.now c.args.netlist c.args.stimulus.now).stream =
-    c.as_slice.ensures ∙ ap (λ (p : Parsed). p.stream) (parsed_is d c.in_ok-parsed.parsed c.in_ok-parsed.ensures.read) in
-    subst (λ (n : Net). All (λ (xs : List Given). length xs ≡ length (fields_of ls n)) c.as_slice.result.now) (sym c.in-Ok.ensures.netlist)
+    let e : cycles_of c.spans.result.now ≡ (read_for c.args.lattice.now c.args.netlist c.args.stimulus.now).stream =
+    c.spans.ensures ∙ ap (λ (p : Parsed). p.stream) (parsed_is d c.in_ok-parsed.parsed c.in_ok-parsed.ensures.read) in
+    subst (λ (n : Net). All (λ (xs : List Given). length xs ≡ length (fields_of ls n)) (cycles_of c.spans.result.now)) (sym c.in-Ok.ensures.netlist)
     (subst (λ (stream : List (List Given)). All (λ (xs : List Given). length xs ≡ length (fields_of ls c.args.netlist)) stream) (sym e) (counts ls (fields_of ls c.args.netlist) _ (fitting d)))
 
 pub rows-requires-clause-fits : goal.rows-requires-clause-fits
 rows-requires-clause-fits c =
     let d = (goal.at.rows-requires-clause-fits c).In_ok-line in
     let ls = c.args.lattice.now in
-    let e : c.as_slice.result.now ≡ (read_for c.args.lattice.now c.args.netlist c.args.stimulus.now).stream =
-    c.as_slice.ensures ∙ ap (λ (p : Parsed). p.stream) (parsed_is d c.in_ok-parsed.parsed c.in_ok-parsed.ensures.read) in
-    subst (λ (n : Net). AllFit n.inputs (map (numbers_of ls n) c.as_slice.result.now)) (sym c.in-Ok.ensures.netlist)
+    let e : cycles_of c.spans.result.now ≡ (read_for c.args.lattice.now c.args.netlist c.args.stimulus.now).stream =
+    c.spans.ensures ∙ ap (λ (p : Parsed). p.stream) (parsed_is d c.in_ok-parsed.parsed c.in_ok-parsed.ensures.read) in
+    subst (λ (n : Net). AllFit n.inputs (map (numbers_of ls n) (cycles_of c.spans.result.now))) (sym c.in-Ok.ensures.netlist)
     (subst (λ (stream : List (List Given)). AllFit c.args.netlist.inputs (map (numbers_of ls c.args.netlist) stream)) (sym e)
     (stream_fits ls c.lawful.ensures.codes c.args.netlist c.rules.ensures _ (fitting d)))
+
+pub rows-requires-clause-few : goal.rows-requires-clause-few
+rows-requires-clause-few c =
+    let d = (goal.at.rows-requires-clause-few c).In_ok-line in
+    let e : cycles_of c.spans.result.now ≡ (read_for c.args.lattice.now c.args.netlist c.args.stimulus.now).stream =
+    c.spans.ensures ∙ ap (λ (p : Parsed). p.stream) (parsed_is d c.in_ok-parsed.parsed c.in_ok-parsed.ensures.read) in
+    subst (λ (stream : List (List Given)). length stream < 2 ^ 48) (sym e) (stimulus_few c.args.lattice.now (fields_of c.args.lattice.now c.args.netlist) c.args.stimulus.now c.requires.short)
 
 pub returns : goal.returns
 returns c =
@@ -64,10 +74,10 @@ returns c =
     let m = c.in-Ok.runner.net in
     let p : c.in_ok-parsed.parsed ≡ read_for c.args.lattice.now c.args.netlist c.args.stimulus.now = parsed_is d c.in_ok-parsed.parsed c.in_ok-parsed.ensures.read in
     let stream = (read_for c.args.lattice.now c.args.netlist c.args.stimulus.now).stream in
-    let e : c.as_slice.result.now ≡ (read_for c.args.lattice.now c.args.netlist c.args.stimulus.now).stream = c.as_slice.ensures ∙ ap (λ (q : Parsed). q.stream) p in
+    let e : cycles_of c.spans.result.now ≡ (read_for c.args.lattice.now c.args.netlist c.args.stimulus.now).stream = c.spans.ensures ∙ ap (λ (q : Parsed). q.stream) p in
     let w = c.one_run.ensures.some (map (numbers_of ls n) stream) (stream_fits ls c.lawful.ensures.codes n c.rules.ensures stream (fitting d)) in
-    let there : IsRun c.in-Ok.runner.net (map (numbers_of c.args.lattice.now c.in-Ok.runner.net) c.as_slice.result.now) w.0 =
-    subst (λ (q : Net). IsRun q (map (numbers_of ls q) c.as_slice.result.now) w.0) (sym c.in-Ok.ensures.netlist)
+    let there : IsRun c.in-Ok.runner.net (map (numbers_of c.args.lattice.now c.in-Ok.runner.net) (cycles_of c.spans.result.now)) w.0 =
+    subst (λ (q : Net). IsRun q (map (numbers_of ls q) (cycles_of c.spans.result.now)) w.0) (sym c.in-Ok.ensures.netlist)
     (subst (λ (s : List (List Given)). IsRun n (map (numbers_of ls n) s) w.0) (sym e) w.1) in
     record {
       rows = record {

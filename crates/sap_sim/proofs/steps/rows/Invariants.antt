@@ -1,16 +1,14 @@
-use Rattle.std.proofs.Common.{◌≡◌, List, None, take, map}
-use Rattle.sap_maps.specs.Maps.{Valuation}
-use Rattle.sap_net.specs.Runs.{IsRun, observed}
-use Rattle.sap_cycle.specs.Running.{Shows}
+use Rattle.std.proofs.Common.{◌≡◌, [], length, map, take}
+use Rattle.sap_stream.specs.Spans.{cycles_of}
 use Rattle.sap_sim.specs.Numbers.{numbers_of}
-use Rattle.sap_sim.specs.Shown.{shown_registers, rows_from}
-use Rattle.sap_sim.proofs.Runs.{before_at}
+use Rattle.sap_sim.proofs.Following.{Follows, Tells}
+use Rattle.sap_sim.proofs.Runs.{rows_told}
 use Rattle.sap_sim.proofs.steps.rows.Given as goal
 
-abbrev pub invariant-loop-k : goal.invariant-loop-k
-invariant-loop-k l = record {
+abbrev pub invariant-loop-span : goal.invariant-loop-span
+invariant-loop-span l = record {
   netlist : l.runner.net ≡ l.fn.runner.net;
-  shows : (vs : List Valuation) → IsRun l.fn.runner.net (map (numbers_of l.lattice l.fn.runner.net) l.stream) vs → Shows l.runner (before_at None vs l.k);
-  text : (vs : List Valuation) → IsRun l.fn.runner.net (map (numbers_of l.lattice l.fn.runner.net) l.stream) vs
-      → l.out.items ≡ rows_from l.lattice (shown_registers l.lattice l.fn.runner.net) 1 (map (observed l.fn.runner.net) (take l.k vs));
+  done : l.done ≡ length (cycles_of (take l.span-index l.spans));
+  shows : Follows l.fn.runner l.fn.runner.net (map (numbers_of l.lattice l.fn.runner.net) (cycles_of (take l.span-index l.spans))) l.runner;
+  rows : Tells (rows_told l.lattice l.fn.runner.net) l.fn.runner l.fn.runner.net 0 (map (numbers_of l.lattice l.fn.runner.net) (cycles_of (take l.span-index l.spans))) [] l.out.items;
 }

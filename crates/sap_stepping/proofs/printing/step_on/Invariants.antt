@@ -4,12 +4,14 @@ use Rattle.sap_meaning.specs.Cycle.{Tagged as Given}
 use Rattle.sap_lines.specs.Reader.{Backed}
 use Rattle.sap_stepping.specs.declared.TheConstants.{LARGE_BYTES}
 use Rattle.sap_stepping.proofs.Along.{Along}
+use Rattle.sap_stepping.proofs.EveryDesk.{Gave}
 use Rattle.sap_stepping.proofs.printing.step_on.Given as goal
 
-abbrev pub invariant-loop-cycle : goal.invariant-loop-cycle
-invariant-loop-cycle g l = record {
+abbrev pub invariant-loop-desk : goal.invariant-loop-desk
+invariant-loop-desk g l = record {
   along : Along (g.S.Steps.shows l.steps) (g.S.Steps.levels l.fn.steps) (g.S.Steps.fields l.fn.steps) l.channel (g.S.Steps.behind l.steps) l.lines l.cycle
       (g.D.Desk.given l.desk l.channel) l.waiting.bytes (g.D.Desk.told l.fn.desk) (g.D.Desk.told l.desk);
+  gave : Gave (g.S.Steps.levels l.fn.steps) (g.S.Steps.fields l.fn.steps) l.lines;
   back : (lines : List (List Given)) (text : List ℕ) → g.S.Steps.shows l.steps lines text → g.S.Steps.shows l.fn.steps lines text;
   live : l.lines.live ≡ true;
   fields : l.lines.fields ≡ g.S.Steps.fields l.fn.steps;
@@ -26,5 +28,5 @@ invariant-loop-cycle g l = record {
   sure : g.D.Desk.sure l.fn.desk → g.D.Desk.sure l.desk;
 }
 
-abbrev pub decreases-loop-cycle : goal.decreases-loop-cycle
-decreases-loop-cycle g l = 2 ^ 32 - l.lines.count
+abbrev pub decreases-loop-desk : goal.decreases-loop-desk
+decreases-loop-desk g l = 2 ^ 32 - l.lines.count

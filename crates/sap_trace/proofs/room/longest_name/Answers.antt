@@ -1,7 +1,7 @@
-use Rattle.std.proofs.Common.{◌≤◌, length, ap, arith}
+use Rattle.std.proofs.Common.{arith}
 use Rattle.sap_check.specs.Checked.{tree_in}
 use Rattle.sap_names.specs.Entities.{entities_of}
-use Rattle.sap_trace.proofs.Rooms.{all_names, names_within}
+use Rattle.sap_trace.proofs.Rooms.{all_names}
 use Rattle.sap_trace.proofs.room.longest_name.Goals as goal
 
 pub returns : goal.returns

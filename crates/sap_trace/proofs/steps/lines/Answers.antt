@@ -1,75 +1,96 @@
-use Rattle.std.proofs.Common.{◌≡◌, ◌<◌, ◌≤◌, ◌+◌, ◌++◌, suc, List, ℕ, None, Option, length, get_or, map, sym, ap, ◌∙◌, subst, arith}
+use Rattle.std.proofs.Common.{◌≡◌, ◌≤◌, ◌+◌, List, [], ℕ, None, length, get_or, map, take, refl, sym, ap, ◌∙◌, subst, arith}
 use Rattle.std.proofs.lemmas.List.{length-map, take_all}
-use Rattle.sap_maps.specs.Maps.{Valuation}
+use Rattle.sap_meaning.specs.Cycle.{Tagged}
 use Rattle.sap_net.specs.Net.{Net}
-use Rattle.sap_net.specs.Runs.{IsRun, IsCycle, InputsFit}
+use Rattle.sap_net.specs.Runs.{InputsFit}
 use Rattle.sap_check.specs.Checked.{levels_in, tree_in}
 use Rattle.sap_check.specs.Sites.{sites_of}
-use Rattle.sap_cycle.specs.Running.{Shows}
-use Rattle.sap_sim.proofs.Runs.{before_at, IsCycleAt, cycle_at, run_count, line_at, fits_at}
+use Rattle.sap_stream.specs.Spans.{Span, cycles_in, cycles_of}
+use Rattle.sap_sim.proofs.Following.{Follows, Tells, follows_none, follows_more, tells_none, tells_more}
+use Rattle.sap_sim.proofs.Runs.{fits_at}
+use Rattle.sap_sim.proofs.Spans.{count_more, count_within, cycle_here, mapped_span}
 use Rattle.sap_trace.specs.Fields.{given}
 use Rattle.sap_trace.specs.Seen.{AreWires, lines_from}
-use Rattle.sap_trace.proofs.Runs.{cycle_lines, lines_more}
+use Rattle.sap_trace.proofs.Runs.{lines_split}
 use Rattle.sap_trace.proofs.steps.lines.Goals as goal
-use Rattle.sap_trace.proofs.steps.lines.Goals.{After-values}
+use Rattle.sap_trace.proofs.steps.lines.Goals.{After-count-count}
 
-item_is : (c : After-values) → c.values.result.now ≡ get_or c.args.stream.now c.loop-k.k c.values.result.now
-item_is c = subst (λ xs. xs ≡ get_or c.args.stream.now c.loop-k.k xs) (sym c.values.ensures) c.index-stream-k.is
-
-pub step-requires-clause-wires : goal.step-requires-clause-wires
-step-requires-clause-wires c =
-    subst (λ (m : Net). AreWires m (length (sites_of (tree_in c.args.checked.now))) c.args.wires.now) (sym c.loop-k.invariant.netlist) c.requires.wires
-
-pub step-requires-clause-fits : goal.step-requires-clause-fits
-step-requires-clause-fits c =
-    subst (λ (m : Net). InputsFit m.inputs (given (levels_in c.args.checked.now) c.values.result.now)) (sym c.loop-k.invariant.netlist)
-    (fits_at c.args.runner.now.net.inputs (given (levels_in c.args.checked.now)) c.args.stream.now c.requires.fits c.loop-k.k c.values.result.now c.loop-k-test.true
-    (item_is (goal.at.step-requires-clause-fits c).After-values))
-
-abbrev Cycle : After-values → List Valuation → Type 0
-Cycle c vs = (v : Valuation) × IsCycleAt c.args.runner.now.net None (map (given (levels_in c.args.checked.now)) c.args.stream.now) vs c.loop-k.k v
-
-the_cycle : (c : After-values) (vs : List Valuation) → IsRun c.args.runner.now.net (map (given (levels_in c.args.checked.now)) c.args.stream.now) vs → Cycle c vs
-the_cycle c vs run =
-    let f = given (levels_in c.args.checked.now) in
-    let l : c.loop-k.k < length (map (given (levels_in c.args.checked.now)) c.args.stream.now) = omega (arith, length-map c.args.stream.now f, c.loop-k-test.true) in
-    cycle_at c.args.runner.now.net None (map f c.args.stream.now) vs run c.loop-k.k l
-
-the_step : (c : After-values) (vs : List Valuation) (w : Cycle c vs)
-    → IsCycle c.loop-k.runner.net (before_at None vs c.loop-k.k) (given (levels_in c.args.checked.now) c.values.result.now) w.0
-the_step c vs w =
-    let f = given (levels_in c.args.checked.now) in
-    subst (λ (m : Net). IsCycle m (before_at None vs c.loop-k.k) (given (levels_in c.args.checked.now) c.values.result.now) w.0) (sym c.loop-k.invariant.netlist)
-    (subst (λ (xs : List ℕ). IsCycle c.args.runner.now.net (before_at None vs c.loop-k.k) xs w.0) (line_at f c.args.stream.now c.loop-k.k c.values.result.now c.loop-k-test.true (item_is c))
-    w.1.cycle)
-
-pub loop-k-preserved : goal.loop-k-preserved
-loop-k-preserved c =
-    let d = (goal.at.loop-k-preserved c).After-values in
+pub loop-span-init : goal.loop-span-init
+loop-span-init c =
     let n = c.args.runner.now.net in
     let ls = levels_in c.args.checked.now in
     let t = tree_in c.args.checked.now in
-    let xss = map (given (levels_in c.args.checked.now)) c.args.stream.now in
-    let k = c.loop-k.k in
     record {
-      netlist = c.step.ensures.netlist ∙ c.loop-k.invariant.netlist;
-      shows = λ vs run.
-          let w : Cycle (goal.at.loop-k-preserved c).After-values vs = the_cycle d vs run in
-          let i : c.loop-k.k + 1 ≡ suc c.loop-k.k = omega arith in
-          subst (λ (o : Option Valuation). Shows c.step.new.runner o) (sym (ap (before_at None vs) i ∙ w.1.after))
-          (c.in_ok-step.ensures.shows (before_at None vs k) w.0 (c.loop-k.invariant.shows vs run) (the_step d vs w));
-      text = λ vs run.
-          let w : Cycle (goal.at.loop-k-preserved c).After-values vs = the_cycle d vs run in
-          c.in_ok-step.ensures.lines (before_at None vs k) w.0 (c.loop-k.invariant.shows vs run) (the_step d vs w)
-          ∙ ap (λ (m : Net). c.loop-k.out.items ++ cycle_lines ls t m (k + 1) w.0) c.loop-k.invariant.netlist
-          ∙ ap (λ (text : List ℕ). text ++ cycle_lines ls t n (k + 1) w.0) (c.loop-k.invariant.text vs run)
-          ∙ sym (lines_more ls t n None xss vs k w.0 w.1);
+      netlist = refl;
+      done = refl;
+      shows = follows_none n c.args.runner.now;
+      lines = subst (Tells (lines_from ls t n) c.args.runner.now n 0 [] []) (sym c.new-out.ensures.items) (tells_none n (lines_from ls t n) (λ c. refl) (lines_split ls t n) c.args.runner.now 0 []);
+    }
+
+within : (c : After-count-count) → c.loop-span.done + c.span-item.result.count ≤ length (cycles_of c.args.spans.now)
+within c =
+    subst (λ (done : ℕ). done + c.span-item.result.count ≤ length (cycles_of c.args.spans.now)) (sym c.loop-span.invariant.done)
+    (count_within c.args.spans.now c.loop-span.span-index c.span-item.result c.loop-span-test.true c.span-item.is)
+
+-- the first of its cycles
+here : (c : After-count-count) (d : List Tagged) → get_or (cycles_of c.args.spans.now) c.loop-span.done d ≡ c.span-item.result.inputs
+here c d =
+    ap (λ (k : ℕ). get_or (cycles_of c.args.spans.now) k d) c.loop-span.invariant.done
+    ∙ cycle_here c.args.spans.now c.loop-span.span-index c.span-item.result d c.loop-span-test.true c.span-item.is c.count-count.ensures.within.0
+
+pub span_lines-requires-clause-wires : goal.span_lines-requires-clause-wires
+span_lines-requires-clause-wires c =
+    subst (λ (m : Net). AreWires m (length (sites_of (tree_in c.args.checked.now))) c.args.wires.now) (sym c.loop-span.invariant.netlist) c.requires.wires
+
+pub span_lines-requires-clause-fits : goal.span_lines-requires-clause-fits
+span_lines-requires-clause-fits c =
+    let d = (goal.at.span_lines-requires-clause-fits c).After-count-count in
+    let ls = levels_in c.args.checked.now in
+    let x = c.span-item.result.inputs in
+    let some = c.count-count.ensures.within.0 in
+    let is_within = within d in
+    subst (λ (m : Net). InputsFit m.inputs (given ls x)) (sym c.loop-span.invariant.netlist)
+    (fits_at c.args.runner.now.net.inputs (given ls) (cycles_of c.args.spans.now) c.requires.fits c.loop-span.done x (omega arith) (sym (here d x)))
+
+pub span_lines-requires-clause-few : goal.span_lines-requires-clause-few
+span_lines-requires-clause-few c = let is_within = within (goal.at.span_lines-requires-clause-few c).After-count-count in omega arith
+
+pub overflow_add-done : goal.overflow_add-done
+overflow_add-done c = let is_within = within (goal.at.overflow_add-done c).After-count-count in omega arith
+
+pub loop-span-preserved : goal.loop-span-preserved
+loop-span-preserved c =
+    let n = c.args.runner.now.net in
+    let ls = levels_in c.args.checked.now in
+    let t = tree_in c.args.checked.now in
+    let ss = c.args.spans.now in
+    let i = c.loop-span.span-index in
+    let s = c.span-item.result in
+    let mid = c.loop-span.runner in
+    let front = map (given (levels_in c.args.checked.now)) (cycles_of (take c.loop-span.span-index c.args.spans.now)) in
+    let next = map (given (levels_in c.args.checked.now)) (cycles_in c.span-item.result) in
+    let count = count_more c.args.spans.now c.loop-span.span-index c.span-item.result c.loop-span-test.true c.span-item.is in
+    let done : c.loop-span.done ≡ 0 + length (map (given (levels_in c.args.checked.now)) (cycles_of (take c.loop-span.span-index c.args.spans.now)))
+    = omega (arith, c.loop-span.invariant.done, length-map (cycles_of (take i ss)) (given ls)) in
+    let more = mapped_span (given ls) ss i s c.loop-span-test.true c.span-item.is in
+    let shows : Follows c.loop-span.runner c.args.runner.now.net (map (given (levels_in c.args.checked.now)) (cycles_in c.span-item.result)) c.span_lines.new.runner
+    = subst (λ (m : Net). Follows mid m next c.span_lines.new.runner) c.loop-span.invariant.netlist c.in_ok-span_lines.ensures.shows in
+    let lines = subst (λ (k : ℕ). Tells (lines_from ls t n) mid n k next c.loop-span.out.items c.span_lines.new.out.items) done
+    (subst (λ (m : Net). Tells (lines_from ls t m) mid m c.loop-span.done next c.loop-span.out.items c.span_lines.new.out.items) c.loop-span.invariant.netlist c.in_ok-span_lines.ensures.lines) in
+    record {
+      netlist = c.span_lines.ensures.netlist ∙ c.loop-span.invariant.netlist;
+      done = omega (arith, count, c.loop-span.invariant.done, c.from-done.ensures, c.count-count.ensures.number);
+      shows = subst (λ (xss : List (List ℕ)). Follows c.args.runner.now n xss c.span_lines.new.runner) more
+          (follows_more n c.args.runner.now mid c.span_lines.new.runner front next c.loop-span.invariant.shows shows);
+      lines = subst (λ (xss : List (List ℕ)). Tells (lines_from ls t n) c.args.runner.now n 0 xss [] c.span_lines.new.out.items) more
+          (tells_more n (lines_from ls t n) (λ c. refl) (lines_split ls t n) c.args.runner.now mid 0 front next [] c.loop-span.out.items c.span_lines.new.out.items
+          c.loop-span.invariant.shows c.loop-span.invariant.lines lines);
     }
 
 pub returns : goal.returns
 returns c = λ vs run.
     let n = c.args.runner.now.net in
-    let f = given (levels_in c.args.checked.now) in
-    let l : length vs ≤ c.loop-k.k = omega (arith, run_count n None (map f c.args.stream.now) vs run, length-map c.args.stream.now f, c.loop-k-test.false) in
-    c.loop-k.invariant.text vs run
-    ∙ ap (λ (ws : List Valuation). lines_from (levels_in c.args.checked.now) (tree_in c.args.checked.now) n 1 ws) (take_all c.loop-k.k vs l)
+    let ls = levels_in c.args.checked.now in
+    let t = tree_in c.args.checked.now in
+    let all : take c.loop-span.span-index c.args.spans.now ≡ c.args.spans.now = take_all c.loop-span.span-index c.args.spans.now c.loop-span-test.false in
+    subst (λ (ss : List Span). Tells (lines_from ls t n) c.args.runner.now n 0 (map (given ls) (cycles_of ss)) [] c.loop-span.out.items) all c.loop-span.invariant.lines None vs c.requires.unstepped run

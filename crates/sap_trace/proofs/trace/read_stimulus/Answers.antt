@@ -3,8 +3,6 @@ use Rattle.std.specs.Prelude.{All}
 use Rattle.std.proofs.lemmas.Result.{IfOk-weaker}
 use Rattle.sap_lattice.specs.Levels.{Levels}
 use Rattle.sap_check.specs.Checked.{levels_in, tree_in}
-use Rattle.sap_names.specs.declared.entity.Entity.{Entity}
-use Rattle.sap_names.specs.Entities.{HaveWidths, entities_of}
 use Rattle.sap_stim.specs.declared.field.Field.{Field}
 use Rattle.sap_stim.specs.declared.stimulus.Parsed.{Parsed}
 use Rattle.sap_stim.specs.Line.{IsSized}
@@ -18,6 +16,7 @@ use Rattle.sap_trace.proofs.trace.read_stimulus.Goals as goal
 pub parse_stream-requires : goal.parse_stream-requires
 parse_stream-requires c = record {
   widths = subst (λ (fs : List Field). All IsSized fs) (sym c.in_ok-fields.ensures) (all_sized c.names-names.result.now c.have_widths.ensures);
+  short = c.requires.short;
 }
 
 pub returns : goal.returns

@@ -1,10 +1,13 @@
-use Rattle.std.proofs.Common.{◌≡◌, ℕ, List, map, sym, ap, ◌∙◌, subst}
+use Rattle.std.proofs.Common.{◌≡◌, ◌<◌, ◌^◌, length, ℕ, List, map, sym, ap, ◌∙◌, subst}
 use Rattle.sap_meaning.specs.Cycle.{Tagged}
 use Rattle.sap_net.specs.Net.{Net}
 use Rattle.sap_net.specs.Runs.{AllFit, IsRun}
 use Rattle.sap_check.specs.Checked.{levels_in, tree_in}
+use Rattle.sap_stream.specs.Spans.{cycles_of}
 use Rattle.sap_stim.specs.declared.stimulus.Parsed.{Parsed}
+use Rattle.sap_run.specs.Fields.{design_fields}
 use Rattle.sap_run.specs.RunOf.{read_for}
+use Rattle.sap_sim.proofs.Few.{stimulus_few}
 use Rattle.sap_trace.specs.Fields.{given}
 use Rattle.sap_trace.specs.Seen.{AreReadable, AreWires, lines_from}
 use Rattle.sap_trace.proofs.SiteWires.{sites_readable}
@@ -30,20 +33,28 @@ fits c =
 pub lines-requires-clause-fits : goal.lines-requires-clause-fits
 lines-requires-clause-fits c =
     let ls = levels_in c.args.checked.now in
-    let e : c.as_slice.result.now ≡ (read_for (levels_in c.args.checked.now) (tree_in c.args.checked.now) c.args.stimulus.now).stream =
-    c.as_slice.ensures ∙ ap (λ (p : Parsed). p.stream) c.in_ok-parsed.ensures in
-    subst (λ (n : Net). AllFit n.inputs (map (given ls) c.as_slice.result.now)) (sym c.in_ok-runner.ensures.netlist)
+    let e : cycles_of c.spans.result.now ≡ (read_for (levels_in c.args.checked.now) (tree_in c.args.checked.now) c.args.stimulus.now).stream =
+    c.spans.ensures ∙ ap (λ (p : Parsed). p.stream) c.in_ok-parsed.ensures in
+    subst (λ (n : Net). AllFit n.inputs (map (given ls) (cycles_of c.spans.result.now))) (sym c.in_ok-runner.ensures.netlist)
     (subst (λ (stream : List (List Tagged)). AllFit c.args.netlist.inputs (map (given ls) stream)) (sym e) (fits (goal.at.lines-requires-clause-fits c).In_ok-runner))
+
+pub lines-requires-clause-few : goal.lines-requires-clause-few
+lines-requires-clause-few c =
+    let ls = levels_in c.args.checked.now in
+    let d = tree_in c.args.checked.now in
+    let e : cycles_of c.spans.result.now ≡ (read_for (levels_in c.args.checked.now) (tree_in c.args.checked.now) c.args.stimulus.now).stream =
+    c.spans.ensures ∙ ap (λ (p : Parsed). p.stream) c.in_ok-parsed.ensures in
+    subst (λ (stream : List (List Tagged)). length stream < 2 ^ 48) (sym e) (stimulus_few ls (design_fields ls d) c.args.stimulus.now c.requires.short)
 
 pub returns : goal.returns
 returns c =
     let ls = levels_in c.args.checked.now in
     let d = tree_in c.args.checked.now in
-    let e : c.as_slice.result.now ≡ (read_for (levels_in c.args.checked.now) (tree_in c.args.checked.now) c.args.stimulus.now).stream =
-    c.as_slice.ensures ∙ ap (λ (p : Parsed). p.stream) c.in_ok-parsed.ensures in
+    let e : cycles_of c.spans.result.now ≡ (read_for (levels_in c.args.checked.now) (tree_in c.args.checked.now) c.args.stimulus.now).stream =
+    c.spans.ensures ∙ ap (λ (p : Parsed). p.stream) c.in_ok-parsed.ensures in
     let w = c.one_run.ensures.some (map (given ls) (read_for ls d c.args.stimulus.now).stream) (fits (goal.at.returns c).In_ok-runner) in
-    let there : IsRun c.in_ok-runner.runner.net (map (given (levels_in c.args.checked.now)) c.as_slice.result.now) w.0 =
-    subst (λ (n : Net). IsRun n (map (given ls) c.as_slice.result.now) w.0) (sym c.in_ok-runner.ensures.netlist)
+    let there : IsRun c.in_ok-runner.runner.net (map (given (levels_in c.args.checked.now)) (cycles_of c.spans.result.now)) w.0 =
+    subst (λ (n : Net). IsRun n (map (given ls) (cycles_of c.spans.result.now)) w.0) (sym c.in_ok-runner.ensures.netlist)
     (subst (λ (stream : List (List Tagged)). IsRun c.args.netlist (map (given ls) stream) w.0) (sym e) w.1) in
     record {
       trace = record {

@@ -1,8 +1,34 @@
-use Rattle.sap_lines.proofs.Answered.{next_told}
+use Rattle.std.proofs.Common.{◌-◌, [], subst}
+use Rattle.std.specs.Prelude.{IfSome}
+use Rattle.sap_lines.specs.Fetched.{ReadsLeast}
+use Rattle.sap_lines.specs.Reader.{Reader}
+use Rattle.sap_lines.proofs.Answered.{next_some, next_told}
+use Rattle.sap_lines.proofs.Reading.{reads_least}
 use Rattle.sap_lines.proofs.lines.Lines.next.Goals as goal
 
 pub returns-in-Ok-clause-lines : goal.returns-in-Ok-clause-lines
 returns-in-Ok-clause-lines g c =
     next_told c.args.lattice.now c.as_slice.result.now c.self.inside.fields.items c.args.channel c.self.inside.count c.keep.new.count c.self.inside.held c.fetch.new.held c.take_line-next.new.held
-    c.self.inside.inputs c.take_line-next.new.inputs c.self.inside.live c.keep.new.live c.take_line-next.result _ _ _ _ c.args.self.now c.self.view_is c.as_slice.ensures.value c.keep.ensures.count
+    c.self.inside.line c.take_line-next.new.line c.self.inside.live c.keep.new.live c.take_line-next.result _ _ _ _ c.args.self.now c.self.view_is c.as_slice.ensures.value c.keep.ensures.count
     c.in-Ok.ensures.more c.in-Ok.ensures.decided c.take_line-next.ensures.tells
+
+pub returns-in-Ok-clause-some : goal.returns-in-Ok-clause-some
+returns-in-Ok-clause-some g c =
+    next_some c.args.lattice.now c.as_slice.result.now c.self.inside.fields.items c.self.inside.count c.keep.new.count c.self.inside.held c.fetch.new.held c.take_line-next.new.held
+    c.self.inside.line c.take_line-next.new.line c.self.inside.live c.keep.new.live c.take_line-next.result c.args.self.now c.self.view_is c.as_slice.ensures.value c.keep.ensures.count
+    c.fetch.ensures.behind c.take_line-next.ensures.decided c.take_line-next.ensures.tells
+
+pub returns-in-Err-clause-some : goal.returns-in-Err-clause-some
+returns-in-Err-clause-some g c = λ _. ([], λ rest _. tt)
+
+pub returns-in-Ok-clause-least : goal.returns-in-Ok-clause-least
+returns-in-Ok-clause-least g c =
+    let count = g.D.Desk.given c.fetch.new.desk c.args.channel - g.D.Desk.given c.args.desk.now c.args.channel in
+    subst (λ (r : Reader). IfSome (g.D.Desk.told c.args.desk.now) (ReadsLeast c.args.channel r.pending count)) c.self.view_is
+    (reads_least c.args.channel c.in-Ok.ensures.more.count c.self.inside.held c.fetch.new.held (g.D.Desk.told c.args.desk.now) (g.D.Desk.given c.args.desk.now) (g.D.Desk.given c.fetch.new.desk) c.in-Ok.ensures.more.size c.in-Ok.ensures.more.bytes c.in-Ok.ensures.more.given c.in-Ok.ensures.least)
+
+pub returns-in-Err-clause-least : goal.returns-in-Err-clause-least
+returns-in-Err-clause-least g c =
+    let count = g.D.Desk.given c.fetch.new.desk c.args.channel - g.D.Desk.given c.args.desk.now c.args.channel in
+    subst (λ (r : Reader). IfSome (g.D.Desk.told c.args.desk.now) (ReadsLeast c.args.channel r.pending count)) c.self.view_is
+    (reads_least c.args.channel c.in-Err.ensures.failed.count c.self.inside.held c.fetch.new.held (g.D.Desk.told c.args.desk.now) (g.D.Desk.given c.args.desk.now) (g.D.Desk.given c.fetch.new.desk) c.in-Err.ensures.failed.size c.in-Err.ensures.failed.bytes c.in-Err.ensures.failed.given c.in-Err.ensures.least)
