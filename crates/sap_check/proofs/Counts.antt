@@ -1,28 +1,21 @@
 -- How many sites and points a design has, by its commands.
-use Rattle.std.proofs.Common.{ℕ, ◌+◌, ◌*◌, ◌^◌, ◌<◌, ◌≤◌, List, ◌++◌, Bool, ◌&&◌, length, length-append, arith, inl, inr}
-use Rattle.std.proofs.lemmas.Bool.{cases_Bool}
+use Rattle.std.proofs.Common.{ℕ, ◌+◌, ◌*◌, ◌^◌, ◌<◌, ◌≤◌, List, ◌++◌, Bool, ◌&&◌, length, length-append, arith}
+use Rattle.std.proofs.lemmas.List.{length-map}
 use Rattle.std.proofs.lemmas.Grind.{common_steps}
 use Rattle.std.specs.Bool.{IsTrue}
 use Rattle.std.specs.List.{count_by}
 use Rattle.std.specs.Prelude.{nat_le}
 use Rattle.sap_tree.specs.Syntax.{SimpleCommand, Assign, Write, SetTag, SetCellTag, Goto, Fall, Command, Do, Try, If, TryThen, Case, Arms, Last, Arm, CommandBlock, Commands, ElseBlock, NoElse, Else, CommandList, NoCommand, AndCommand, StateTree, StateOf, StateList, NoState, AndState, DesignTree}
 use Rattle.sap_tree.specs.Whole.{command_count, block_count, else_count, arms_count, list_count, state_commands, states_commands, states_count, states_depth, is_whole, is_tree, is_input, is_register, is_memory}
-use Rattle.sap_names.specs.declared.entity.Entity.{Entity}
 use Rattle.sap_names.specs.Entities.{entities_of}
-use Rattle.sap_shape.specs.Sites.{is_site}
-use Rattle.sap_check.specs.declared.site.Site.{Site}
+use Rattle.sap_shape.specs.Sites.{check_sites}
+use Rattle.sap_shape.proofs.SiteCounts.{states_few}
 use Rattle.sap_check.specs.declared.point.Point.{Point}
-use Rattle.sap_check.specs.Sites.{Home, simple_sites, command_sites, block_sites, else_sites, arms_sites, list_sites, state_sites, states_sites, sites_of}
+use Rattle.sap_check.specs.Sites.{site_of, sites_of}
 use Rattle.sap_check.specs.Points.{simple_points, command_points, block_points, else_points, arms_points, list_points, state_points, states_points, points_of}
-
-both_sites : (a b : List Site) (m n : ℕ) → length a ≤ m → length b ≤ n → length (a ++ b) ≤ m + n
-both_sites a b m n h k = rw length-append (omega arith)
 
 both_points : (a b : List Point) (m n : ℕ) → length a ≤ 2 * m → length b ≤ 2 * n → length (a ++ b) ≤ 2 * (m + n)
 both_points a b m n h k = rw length-append (omega arith)
-
-simple_sites-few : (h : Home) (k : SimpleCommand) → length (simple_sites h k) ≤ 1
-simple_sites-few h k = elim (cases_Bool (is_site h.entities h.kind h.children k)) [ inl e ↦ rw e (omega arith) | inr e ↦ rw e (omega arith) ]
 
 simple_points-few : (k : SimpleCommand) → length (simple_points k) ≤ 1
 simple_points-few (Assign target e) = omega arith
@@ -31,48 +24,6 @@ simple_points-few (SetTag place target tag) = omega arith
 simple_points-few (SetCellTag place target index tag) = omega arith
 simple_points-few (Goto place target) = omega arith
 simple_points-few (Fall place) = omega arith
-
-module _ (h : Home) where
-  mutual
-    unfolding command_count block_count else_count arms_count list_count
-
-    command_sites-few : (c : Command) → length (command_sites h c) ≤ command_count c
-    command_sites-few (Do k) = simple_sites-few h k
-    command_sites-few (Try k place handler) = both_sites (simple_sites h k) (block_sites h handler) 1 (block_count handler) (simple_sites-few h k) (block_sites-few handler)
-    command_sites-few (If place e one other) =
-        let r = both_sites (block_sites h one) (else_sites h other) (block_count one) (else_count other) (block_sites-few one) (else_sites-few other) in omega arith
-    command_sites-few (TryThen k place accepted refused) =
-        let r = both_sites (block_sites h accepted) (block_sites h refused) (block_count accepted) (block_count refused) (block_sites-few accepted) (block_sites-few refused) in
-        let s = both_sites (simple_sites h k) (block_sites h accepted ++ block_sites h refused) 1 (block_count accepted + block_count refused) (simple_sites-few h k) r in omega arith
-    command_sites-few (Case place e arms) = let r = arms_sites-few arms in omega arith
-
-    arms_sites-few : (arms : Arms) → length (arms_sites h arms) ≤ arms_count arms
-    arms_sites-few (Last b) = block_sites-few b
-    arms_sites-few (Arm constants b arms) = both_sites (block_sites h b) (arms_sites h arms) (block_count b) (arms_count arms) (block_sites-few b) (arms_sites-few arms)
-
-    block_sites-few : (b : CommandBlock) → length (block_sites h b) ≤ block_count b
-    block_sites-few (Commands cs after) = list_sites-few cs
-
-    else_sites-few : (b : ElseBlock) → length (else_sites h b) ≤ else_count b
-    else_sites-few NoElse = omega arith
-    else_sites-few (Else b) = block_sites-few b
-
-    list_sites-few : (cs : CommandList) → length (list_sites h cs) ≤ list_count cs
-    list_sites-few NoCommand = omega arith
-    list_sites-few (AndCommand c cs) = both_sites (command_sites h c) (list_sites h cs) (command_count c) (list_count cs) (command_sites-few c) (list_sites-few cs)
-
-module _ (es : List Entity) where
-  mutual
-    unfolding state_commands states_commands
-
-    state_sites-few : (s : StateTree) → length (state_sites es s) ≤ state_commands s
-    state_sites-few (StateOf place name kind body children) =
-        both_sites (block_sites (record { entities = es; name = name.name; kind = kind; children = children }) body) (states_sites es children)
-        (block_count body) (states_commands children) (block_sites-few _ body) (states_sites-few children)
-
-    states_sites-few : (ss : StateList) → length (states_sites es ss) ≤ states_commands ss
-    states_sites-few NoState = omega arith
-    states_sites-few (AndState s ss) = both_sites (state_sites es s) (states_sites es ss) (state_commands s) (states_commands ss) (state_sites-few s) (states_sites-few ss)
 
 mutual
   unfolding command_count block_count else_count arms_count list_count
@@ -122,7 +73,7 @@ few_commands d h =
     limited (is_tree d) (count_by is_input d.declarations) (count_by is_register d.declarations) (count_by is_memory d.declarations) (states_count d.states) (states_depth d.states) (states_commands d.states) h
 
 pub few_sites : (d : DesignTree) → IsTrue (is_whole d) → length (sites_of d) < 2 ^ 32
-few_sites d h = let r = states_sites-few (entities_of d) d.states in let m = few_commands d h in omega arith
+few_sites d h = let r = states_few (entities_of d) d.states in let m = few_commands d h in omega (arith, length-map (check_sites d) site_of)
 
 pub few_points : (d : DesignTree) → IsTrue (is_whole d) → length (points_of d) < 2 ^ 32
 few_points d h = let r = states_points-few d.states in let m = few_commands d h in omega arith

@@ -1,5 +1,7 @@
 -- The sites of lists of commands and of states, from a place on.
 use Rattle.std.proofs.Common.{◌≡◌, ℕ, zero, suc, ◌+◌, ◌<◌, ◌≤◌, List, [], ◌∷◌, ◌++◌, length, get_or, drop, refl, sym, ap, ◌∙◌, arith, add-one, append_assoc, Some}
+use Rattle.std.specs.Prelude.{map}
+use Rattle.std.proofs.lemmas.List.{map-append}
 use Rattle.sap_tree.specs.declared.syntax.Block.{Block}
 use Rattle.sap_tree.specs.declared.syntax.Arm.{Arm}
 use Rattle.sap_tree.specs.declared.syntax.Cmd.{Cmd}
@@ -10,12 +12,14 @@ use Rattle.sap_tree.specs.declared.version.Version.{Version}
 use Rattle.sap_names.specs.Entities.{entities_of}
 use Rattle.std.proofs.lemmas.Grind.{common_steps}
 use Rattle.sap_tree.specs.Syntax.{StateTree}
-use Rattle.sap_tree.specs.Trees.{command_of, block_of, arm_block_of, arms_of, else_of, state_of, states_of}
+use Rattle.sap_tree.specs.Trees.{command_of, commands_of, block_of, arm_block_of, arms_of, else_of, state_of, states_of}
 use Rattle.sap_tree.proofs.Views.{state_of-out}
 use Rattle.sap_names.specs.declared.entity.Entity.{Entity}
 use Rattle.sap_check.specs.declared.site.Site.{Site}
-use Rattle.sap_check.specs.Sites.{Home, command_sites, block_sites, else_sites, state_sites, sites_of}
-use Rattle.sap_check.specs.Sites as sites
+use Rattle.sap_shape.specs.Sites.{Home, command_sites, block_sites, else_sites, state_sites}
+use Rattle.sap_shape.specs.Sites as sites
+use Rattle.sap_shape.specs.Lists as shape_lists
+use Rattle.sap_check.specs.Sites.{site_of, sites_of}
 use Rattle.sap_check.specs.Lists.{list_sites, arms_sites, group_sites}
 
 -- one part, and those behind it
@@ -25,10 +29,12 @@ after_part old new part rest all h e =
 
 module _ (h : Home) where
   list_sites-drop : (cs : List Cmd) (n : ℕ) (d : Cmd) → n < length cs → d ≡ get_or cs n d
-      → list_sites h (drop n cs) ≡ command_sites h (command_of d) ++ list_sites h (drop (n + 1) cs)
+      → list_sites h (drop n cs) ≡ map site_of (command_sites h (command_of d)) ++ list_sites h (drop (n + 1) cs)
   unfolding list_sites
   list_sites-drop [] n d l e = absurd (omega arith)
-  list_sites-drop (c ∷ cs) zero d l e = ap (λ (x : Cmd). command_sites h (command_of x) ++ list_sites h cs) (sym e)
+  list_sites-drop (c ∷ cs) zero d l e =
+      map-append site_of (command_sites h (command_of c)) (sites.list_sites h (commands_of cs))
+      ∙ ap (λ (x : Cmd). map site_of (command_sites h (command_of x)) ++ list_sites h cs) (sym e)
   list_sites-drop (c ∷ cs) (suc n) d l e = let r = list_sites-drop cs n d (omega arith) e in simp (add-one) (simp (add-one) at r)
 
   pub list_sites-past : (cs : List Cmd) (n : ℕ) → length cs ≤ n → list_sites h (drop n cs) ≡ []
@@ -38,20 +44,22 @@ module _ (h : Home) where
   list_sites-past (c ∷ cs) zero l = absurd (omega arith)
   list_sites-past (c ∷ cs) (suc n) l = list_sites-past cs n (omega arith)
 
-  pub sites_step : (cs : List Cmd) (n : ℕ) (d : Cmd) (old new : List Site) → n < length cs → d ≡ get_or cs n d → new ≡ old ++ command_sites h (command_of d)
+  pub sites_step : (cs : List Cmd) (n : ℕ) (d : Cmd) (old new : List Site) → n < length cs → d ≡ get_or cs n d → new ≡ old ++ map site_of (command_sites h (command_of d))
       → new ++ list_sites h (drop (n + 1) cs) ≡ old ++ list_sites h (drop n cs)
   sites_step cs n d old new l e k = after_part old new _ _ _ k (list_sites-drop cs n d l e)
 
   arms_sites-drop : (arms : List Arm) (n : ℕ) (d : Arm) (cs : List Cmd) → n < length arms → d ≡ get_or arms n d → cs ≡ d.block.commands.items
       → arms_sites h (drop n arms) ≡ list_sites h cs ++ arms_sites h (drop (n + 1) arms)
-  unfolding arms_sites list_sites
+  unfolding arms_sites list_sites shape_lists.arms_sites
   arms_sites-drop [] n d cs l e f = absurd (omega arith)
   arms_sites-drop (arm ∷ arms) zero d cs l e f =
-      ap (λ (a : Arm). block_sites h (arm_block_of a) ++ arms_sites h arms) (sym e) ∙ ap (λ (k : List Cmd). list_sites h k ++ arms_sites h arms) (sym f)
+      map-append site_of (block_sites h (arm_block_of arm)) (shape_lists.arms_sites h arms)
+      ∙ ap (λ (a : Arm). map site_of (block_sites h (arm_block_of a)) ++ arms_sites h arms) (sym e)
+      ∙ ap (λ (k : List Cmd). list_sites h k ++ arms_sites h arms) (sym f)
   arms_sites-drop (arm ∷ arms) (suc n) d cs l e f = let r = arms_sites-drop arms n d cs (omega arith) e f in simp (add-one) (simp (add-one) at r)
 
   pub arms_sites-past : (arms : List Arm) (n : ℕ) → length arms ≤ n → arms_sites h (drop n arms) ≡ []
-  unfolding arms_sites
+  unfolding arms_sites shape_lists.arms_sites
   arms_sites-past [] zero l = refl
   arms_sites-past [] (suc n) l = refl
   arms_sites-past (arm ∷ arms) zero l = absurd (omega arith)
@@ -61,26 +69,33 @@ module _ (h : Home) where
       → new ++ arms_sites h (drop (n + 1) arms) ≡ old ++ arms_sites h (drop n arms)
   arms_step arms n d cs old new l e f k = after_part old new _ _ _ k (arms_sites-drop arms n d cs l e f)
 
-  pub arms_sites-of : (arms : List Arm) (last : Block) → sites.arms_sites h (arms_of arms (block_of last)) ≡ arms_sites h arms ++ list_sites h last.commands.items
-  unfolding arms_sites list_sites
+  pub arms_sites-of : (arms : List Arm) (last : Block) → map site_of (sites.arms_sites h (arms_of arms (block_of last))) ≡ arms_sites h arms ++ list_sites h last.commands.items
+  unfolding arms_sites list_sites shape_lists.arms_sites
   arms_sites-of [] last = refl
   arms_sites-of (arm ∷ arms) last =
-      ap (λ (l : List Site). block_sites h (arm_block_of arm) ++ l) (arms_sites-of arms last) ∙ sym (append_assoc (block_sites h (arm_block_of arm)) (arms_sites h arms) (list_sites h last.commands.items))
+      let here = map site_of (block_sites h (arm_block_of arm)) in
+      let end = list_sites h last.commands.items in
+      map-append site_of (block_sites h (arm_block_of arm)) (sites.arms_sites h (arms_of arms (block_of last)))
+      ∙ ap (λ (l : List Site). here ++ l) (arms_sites-of arms last)
+      ∙ sym (append_assoc here (arms_sites h arms) end)
+      ∙ ap (λ (l : List Site). l ++ end) (sym (map-append site_of (block_sites h (arm_block_of arm)) (shape_lists.arms_sites h arms)))
 
-  pub block_sites-is : (b : Block) → block_sites h (block_of b) ≡ list_sites h b.commands.items
+  pub block_sites-is : (b : Block) → map site_of (block_sites h (block_of b)) ≡ list_sites h b.commands.items
   unfolding list_sites
   block_sites-is b = refl
 
-  pub else_sites-is : (b : Block) → else_sites h (else_of (Some b)) ≡ list_sites h b.commands.items
+  pub else_sites-is : (b : Block) → map site_of (else_sites h (else_of (Some b))) ≡ list_sites h b.commands.items
   unfolding list_sites
   else_sites-is b = refl
 
 module _ (es : List Entity) where
   group_sites-drop : (ss : List State) (n : ℕ) (d : State) → n < length ss → d ≡ get_or ss n d
-      → group_sites es (drop n ss) ≡ state_sites es (state_of d) ++ group_sites es (drop (n + 1) ss)
+      → group_sites es (drop n ss) ≡ map site_of (state_sites es (state_of d)) ++ group_sites es (drop (n + 1) ss)
   unfolding group_sites
   group_sites-drop [] n d l e = absurd (omega arith)
-  group_sites-drop (s ∷ ss) zero d l e = ap (λ (x : State). state_sites es (state_of x) ++ group_sites es ss) (sym e)
+  group_sites-drop (s ∷ ss) zero d l e =
+      map-append site_of (state_sites es (state_of s)) (sites.states_sites es (states_of ss))
+      ∙ ap (λ (x : State). map site_of (state_sites es (state_of x)) ++ group_sites es ss) (sym e)
   group_sites-drop (s ∷ ss) (suc n) d l e = let r = group_sites-drop ss n d (omega arith) e in simp (add-one) (simp (add-one) at r)
 
   pub group_sites-past : (ss : List State) (n : ℕ) → length ss ≤ n → group_sites es (drop n ss) ≡ []
@@ -90,16 +105,16 @@ module _ (es : List Entity) where
   group_sites-past (s ∷ ss) zero l = absurd (omega arith)
   group_sites-past (s ∷ ss) (suc n) l = group_sites-past ss n (omega arith)
 
-  pub states_step : (ss : List State) (n : ℕ) (d : State) (old new : List Site) → n < length ss → d ≡ get_or ss n d → new ≡ old ++ state_sites es (state_of d)
+  pub states_step : (ss : List State) (n : ℕ) (d : State) (old new : List Site) → n < length ss → d ≡ get_or ss n d → new ≡ old ++ map site_of (state_sites es (state_of d))
       → new ++ group_sites es (drop (n + 1) ss) ≡ old ++ group_sites es (drop n ss)
   states_step ss n d old new l e k = after_part old new _ _ _ k (group_sites-drop ss n d l e)
 
-  pub state_sites-is : (s : State) → state_sites es (state_of s)
+  pub state_sites-is : (s : State) → map site_of (state_sites es (state_of s))
       ≡ list_sites (record { entities = es; name = (out-State s).name.name; kind = (out-State s).kind; children = states_of (out-State s).children.items })
       (out-State s).body.commands.items
       ++ group_sites es (out-State s).children.items
   unfolding list_sites group_sites
-  state_sites-is s = ap (λ (t : StateTree). state_sites es t) (state_of-out s)
+  state_sites-is s = ap (λ (t : StateTree). map site_of (state_sites es t)) (state_of-out s) ∙ map-append site_of _ _
 
 pub sites_whole : (v : Version) (ds : List Decl) (ss : List State) (es : List Entity) (old new : List Site) (seen : List State) → es ≡ entities_of (tree_of v ds ss) → seen ≡ ss
     → old ≡ [] → new ≡ old ++ group_sites es seen → new ≡ sites_of (tree_of v ds ss)
@@ -121,6 +136,6 @@ group_end es ss n new all l e = sym (append_none new) ∙ ap (λ (r : List Site)
 
 pub ruleset lists = (list_sites-past, arms_sites-past, group_sites-past)
 
-pub ruleset blocks = (block_sites-is, else_sites-is, arms_sites-of, append_assoc)
+pub ruleset blocks = (block_sites-is, else_sites-is, arms_sites-of, append_assoc, map-append)
 
 pub ruleset states = (state_sites-is, append_assoc)

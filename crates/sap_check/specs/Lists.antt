@@ -1,5 +1,5 @@
 -- The sites and points of lists of commands and of states.
-use Rattle.std.specs.Prelude.{List, [], ◌∷◌, ◌++◌}
+use Rattle.std.specs.Prelude.{List, [], ◌∷◌, ◌++◌, map}
 use Rattle.sap_tree.specs.declared.syntax.Arm.{Arm}
 use Rattle.sap_tree.specs.declared.syntax.Cmd.{Cmd}
 use Rattle.sap_tree.specs.declared.syntax.State.{State}
@@ -9,17 +9,19 @@ use Rattle.sap_check.specs.declared.body.Body.{Body}
 use Rattle.sap_check.specs.declared.point.Point.{Point}
 use Rattle.sap_check.specs.declared.site.Site.{Site}
 use Rattle.sap_check.specs.Points as points
-use Rattle.sap_check.specs.Sites as sites
-use Rattle.sap_check.specs.Sites.{Home}
+use Rattle.sap_check.specs.Sites.{site_of}
+use Rattle.sap_shape.specs.Lists as shape_lists
+use Rattle.sap_shape.specs.Sites as sites
+use Rattle.sap_shape.specs.Sites.{Home}
 
 abbrev pub home_of : List Entity → Body → Home
 home_of es b = record { entities = es; name = b.name.now; kind = b.kind.now; children = states_of b.children.now }
 
 unfoldable pub list_sites : Home → List Cmd → List Site
-list_sites h cs = sites.list_sites h (commands_of cs)
+list_sites h cs = map site_of (sites.list_sites h (commands_of cs))
 
 unfoldable pub group_sites : List Entity → List State → List Site
-group_sites es states = sites.states_sites es (states_of states)
+group_sites es states = map site_of (sites.states_sites es (states_of states))
 
 unfoldable pub list_points : List Cmd → List Point
 list_points cs = points.list_points (commands_of cs)
@@ -30,8 +32,7 @@ group_points states = points.states_points (states_of states)
 -- the arms of a `case`, without the block after `else`
 
 unfoldable pub arms_sites : Home → List Arm → List Site
-arms_sites h [] = []
-arms_sites h (arm ∷ arms) = sites.block_sites h (arm_block_of arm) ++ arms_sites h arms
+arms_sites h arms = map site_of (shape_lists.arms_sites h arms)
 
 unfoldable pub arms_points : List Arm → List Point
 arms_points [] = []

@@ -1,9 +1,11 @@
 //! The check sites of a design.
 
-ghost use Rattle.std.specs.Prelude.{◌≡◌, ◌++◌, OnOk};
+ghost use Rattle.std.specs.Prelude.{◌≡◌, ◌++◌, OnOk, map};
 ghost use Rattle.sap_check.specs.Lists as lists;
 ghost use Rattle.sap_check.specs.Lists.{home_of};
 ghost use Rattle.sap_check.specs.Sites as spec;
+ghost use Rattle.sap_check.specs.Sites.{site_of};
+ghost use Rattle.sap_shape.specs.Sites as walk;
 ghost use Rattle.sap_tree.specs.Trees.{command_of, else_of, simple_of, state_of};
 
 use crate::body::Body;
@@ -66,7 +68,7 @@ fn add_simple(
     command: &Simple,
     sites: &mut Vec<Site>,
 ) -> Result<(), AllocError>
-    ensures { OnOk result (sites.new.items ≡ sites.old.items ++ spec.simple_sites (home_of names.now body.now) (simple_of command.now)) }
+    ensures { OnOk result (sites.new.items ≡ sites.old.items ++ map site_of (walk.simple_sites (home_of names.now body.now) (simple_of command.now))) }
 {
     if is_site(names, body.kind, body.children, command) {
         let site = Site {
@@ -87,7 +89,7 @@ fn add_command(
     command: &Cmd,
     sites: &mut Vec<Site>,
 ) -> Result<(), AllocError>
-    ensures { OnOk result (sites.new.items ≡ sites.old.items ++ spec.command_sites (home_of names.now body.now) (command_of command.now)) }
+    ensures { OnOk result (sites.new.items ≡ sites.old.items ++ map site_of (walk.command_sites (home_of names.now body.now) (command_of command.now))) }
 {
     match command {
         Cmd::Do(simple) => add_simple(names, body, simple, sites),
@@ -136,7 +138,7 @@ fn add_else(
     other: &Option<Block>,
     sites: &mut Vec<Site>,
 ) -> Result<(), AllocError>
-    ensures { OnOk result (sites.new.items ≡ sites.old.items ++ spec.else_sites (home_of names.now body.now) (else_of other.now)) }
+    ensures { OnOk result (sites.new.items ≡ sites.old.items ++ map site_of (walk.else_sites (home_of names.now body.now) (else_of other.now))) }
 {
     match other {
         Some(block) => add_list(names, body, block.commands.as_slice(), sites),
@@ -163,7 +165,7 @@ fn add_list(
 #[cycle(states)]
 #[tactic(auto, using(crate::proofs::SiteLists::states))]
 fn add_state(names: &Names, state: &State, sites: &mut Vec<Site>) -> Result<(), AllocError>
-    ensures { OnOk result (sites.new.items ≡ sites.old.items ++ spec.state_sites names.now (state_of state.now)) }
+    ensures { OnOk result (sites.new.items ≡ sites.old.items ++ map site_of (walk.state_sites names.now (state_of state.now))) }
 {
     let body = Body {
         name: &state.name.name,

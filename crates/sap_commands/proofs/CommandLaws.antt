@@ -11,7 +11,7 @@ use Rattle.sap_stream.proofs.Agreeing.{at_most_one}
 use Rattle.sap_run.specs.RunOf.{read_for as design_stimulus}
 use Rattle.sap_sim.specs.Simulated.{read_for as module_stimulus}
 use Rattle.sap_commands.specs.Ending.{Ending, Refusal, done, refused, failed, no_memory, status_of, status_of_refusal, IsFree}
-use Rattle.sap_commands.specs.Kinds.{IsLawful, design_file, design_text_file, lattice_file, module_file, stream_file}
+use Rattle.sap_commands.specs.Kinds.{design_file, design_text_file, lattice_file, module_file, stream_file}
 use Rattle.sap_commands.specs.Twin.{IsVerdict}
 use Rattle.sap_words.specs.Words.{Words, IsTwin, compile, run, trace, fmt, sim, report, twin, gen, command_of}
 use Rattle.sap_commands.specs.Asks.{Asks, file, by, AreLawful, MayEnd, end_of}

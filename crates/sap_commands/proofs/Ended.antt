@@ -1,5 +1,5 @@
 -- The steps of a command joined, once for all of them: from how what it asks next ends to how the whole ends.
-use Rattle.std.proofs.Common.{◌≡◌, ◌≢◌, ◌≤◌, ℕ, List, [], length, take, refl, sym, ◌∙◌, ap, subst, inl, inr, ◌⊎◌, arith, length-take}
+use Rattle.std.proofs.Common.{◌≡◌, ◌≢◌, ℕ, List, [], length, take, refl, sym, ◌∙◌, ap, subst, inl, inr, arith, length-take}
 use Rattle.std.specs.Prelude.{Option, Some, None, IfSome, Bool, cond, unwrap_or}
 use Rattle.std.proofs.lemmas.List.{append-nil, take_all}
 use Rattle.sap_desk.specs.Desk.{Told, Use}
@@ -8,9 +8,9 @@ use Rattle.sap_desk.specs.Whole.{Between, FailedWriting, FillsFile}
 use Rattle.sap_maps.proofs.Scopes.{same_name}
 use Rattle.sap_commands.specs.Ending.{Ending, Refusal, done, refused, failed, no_memory, IsFree}
 use Rattle.sap_commands.specs.Kinds.{Kind, Has, IsRefused}
-use Rattle.sap_commands.specs.Asks.{Asks, file, by, gives, prints, writes, stops, Cause, Files, IsCut, IsOutput, IsPrefix, Leaves, Output, Shows, Starved}
+use Rattle.sap_commands.specs.Asks.{Asks, file, by, gives, prints, writes, stops, Files, IsCut, IsPrefix, Leaves, Output, Starved}
 use Rattle.sap_commands.specs.Outside.{FullFile}
-use Rattle.sap_commands.specs.After.{Blames, Opens, OpensFailed}
+use Rattle.sap_commands.specs.After.{Opens}
 use Rattle.sap_commands.specs.Steps.{Counted, Ends, FaultRose, Left, Moment, NotRead, OpensUnread, Quiet, Reads, Refuses, Same, Stops}
 
 pub whole_prefix : (text : List ℕ) → IsPrefix text text

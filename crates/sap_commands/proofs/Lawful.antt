@@ -1,6 +1,6 @@
 -- A command has at most one cause and at most one text, once for all of them.
-use Rattle.std.proofs.Common.{◌≡◌, ℕ, List, [], refl, sym, ◌∙◌, ap, subst, inl, inr, ◌⊎◌}
-use Rattle.std.specs.Prelude.{Option, Some, None}
+use Rattle.std.proofs.Common.{◌≡◌, ℕ, List, sym, ◌∙◌, ap, subst, inl, inr}
+use Rattle.std.specs.Prelude.{Option, Some}
 use Rattle.sap_desk.specs.Desk.{Told}
 use Rattle.sap_commands.specs.Ending.{Ending, Refusal, status_of, status_of_refusal}
 use Rattle.sap_commands.specs.Kinds.{Kind, Has, IsRefused, IsLawful}

@@ -8,7 +8,6 @@ use Rattle.sap_desk.proofs.Steps.{other_number}
 use Rattle.sap_lattice.specs.Levels.{Levels}
 use Rattle.sap_stim.specs.declared.fault.StimFault.{StimFault}
 use Rattle.sap_stim.specs.declared.field.Field.{Field}
-use Rattle.sap_stim.specs.Stimulus.{stimulus_of}
 use Rattle.sap_stepping.specs.Followed.{IsFaultOfSome, Shows, blamed_for}
 use Rattle.sap_stepping.specs.Printed.{IsPartOf, Printed, Stops, StopsFor, Unprinted}
 use Rattle.sap_stepping.specs.declared.stopped.Stopped.{Stopped}
@@ -17,7 +16,7 @@ use Rattle.sap_commands.specs.Ending.{Ending, done, refused, failed, no_memory, 
 use Rattle.sap_commands.specs.Asks.{prints, Cause, Files, IsCut, Leaves, MayEnd, Output, Shows as ShowsOn, end_of}
 use Rattle.sap_commands.specs.After.{Blames, Opens, OpensFailed}
 use Rattle.sap_commands.specs.Outside.{OutsideOf}
-use Rattle.sap_commands.specs.Steps.{Counted, Ends, FaultRose, HasWhole, Left, Moment, Same, printed_fault, printed_text}
+use Rattle.sap_commands.specs.Steps.{Counted, Ends, FaultRose, HasWhole, Left, Moment, printed_fault, printed_text}
 use Rattle.sap_commands.proofs.Ended.{between_map, starved_left}
 
 -- with why it failed

@@ -18,7 +18,7 @@ use Rattle.sap_meaning.specs.Program.{World, Group, Program, root}
 use Rattle.sap_meaning.specs.Touches.{root_touches}
 use Rattle.sap_resolve.specs.Worlds.{position, level_number, declared_level, authority_level, authority_of, declared, all_declared, states_in, state_entities, group_entities, world_of}
 use Rattle.sap_resolve.specs.Terms.{level_term, level_terms}
-use Rattle.sap_resolve.specs.Sites.{Home, simple_sites, command_sites, block_sites, state_sites}
+use Rattle.sap_shape.specs.Sites.{Home, simple_sites, command_sites, block_sites, state_sites}
 use Rattle.sap_resolve.specs.Resolve.{site_number, step_of, command_of, block_of, else_of, arms_of, list_of, state_of, group_of, states_of}
 use Rattle.sap_resolve.specs.Fill.{filled_group, table, program_of}
 
@@ -88,11 +88,11 @@ module _ (l m : Levels) (same : AreSame l m) where
   mutual
     command_in : (h : Home) (k : ℕ) (c : tree.Command) → command_of l h k c ≡ command_of m h k c
     command_in h k (tree.Do c) = rw (step_in h (site_number h k c) c) refl
-    command_in h k (tree.Try c place handler) = rw (step_in h (site_number h k c) c, block_in h (k + simple_sites h c) handler) refl
+    command_in h k (tree.Try c place handler) = rw (step_in h (site_number h k c) c, block_in h (k + length (simple_sites h c)) handler) refl
     command_in h k (tree.If place condition then_block else_block) =
-        rw (block_in h k then_block, else_in h (k + block_sites h then_block) else_block) refl
+        rw (block_in h k then_block, else_in h (k + length (block_sites h then_block)) else_block) refl
     command_in h k (tree.TryThen c then accepted refused) =
-        rw (step_in h (site_number h k c) c, block_in h (k + simple_sites h c) accepted, block_in h (k + simple_sites h c + block_sites h accepted) refused) refl
+        rw (step_in h (site_number h k c) c, block_in h (k + length (simple_sites h c)) accepted, block_in h (k + length (simple_sites h c) + length (block_sites h accepted)) refused) refl
     command_in h k (tree.Case place e arms) = rw (arms_in h k arms) refl
 
     block_in : (h : Home) (k : ℕ) (b : CommandBlock) → block_of l h k b ≡ block_of m h k b
@@ -104,21 +104,21 @@ module _ (l m : Levels) (same : AreSame l m) where
 
     arms_in : (h : Home) (k : ℕ) (arms : tree.Arms) → arms_of l h k arms ≡ arms_of m h k arms
     arms_in h k (tree.Last b) = rw (block_in h k b) refl
-    arms_in h k (tree.Arm constants b arms) = rw (block_in h k b, arms_in h (k + block_sites h b) arms) refl
+    arms_in h k (tree.Arm constants b arms) = rw (block_in h k b, arms_in h (k + length (block_sites h b)) arms) refl
 
     list_in : (h : Home) (k : ℕ) (cs : CommandList) → list_of l h k cs ≡ list_of m h k cs
     list_in h k NoCommand = refl
-    list_in h k (AndCommand c cs) = rw (command_in h k c, list_in h (k + command_sites h c) cs) refl
+    list_in h k (AndCommand c cs) = rw (command_in h k c, list_in h (k + length (command_sites h c)) cs) refl
 
   mutual
     node_in : (es : List Named) (k x : ℕ) (s : StateTree) → state_of l es k x s ≡ state_of m es k x s
     node_in es k x (StateOf place name kind body children) =
-        let h : Home = record { entities = es; kind = kind; children = children } in
-        rw (block_in h k body, nodes_in es (k + block_sites h body) (x + 1) children) refl
+        let h : Home = record { entities = es; name = name.name; kind = kind; children = children } in
+        rw (block_in h k body, nodes_in es (k + length (block_sites h body)) (x + 1) children) refl
 
     nodes_in : (es : List Named) (k x : ℕ) (g : StateList) → group_of l es k x g ≡ group_of m es k x g
     nodes_in es k x NoState = refl
-    nodes_in es k x (AndState s rest) = rw (node_in es k x s, nodes_in es (k + state_sites es s) (x + states_in s) rest) refl
+    nodes_in es k x (AndState s rest) = rw (node_in es k x s, nodes_in es (k + length (state_sites es s)) (x + states_in s) rest) refl
 
   states_same : (d : DesignTree) → states_of l d ≡ states_of m d
   states_same d = nodes_in (entities_of d) 1 (length d.declarations) d.states

@@ -1,6 +1,6 @@
 -- How the streams of `twin` end, step by step, behind its design.
 use Rattle.std.proofs.Common.{◌≡◌, ℕ, List, refl, subst}
-use Rattle.std.specs.Prelude.{Some, None, Ok, Err}
+use Rattle.std.specs.Prelude.{None, Ok, Err}
 use Rattle.sap_lattice.specs.Levels.{Levels, order_of}
 use Rattle.sap_lattice.specs.Order.{Order}
 use Rattle.sap_latfile.specs.LatticeFile.{IsLatticeOfFile}

@@ -1,6 +1,6 @@
 -- The level and the two streams of `twin`: what reading and comparing them come to.
-use Rattle.std.proofs.Common.{◌≡◌, ◌≢◌, ◌<◌, ◌≤◌, ◌+◌, ◌-◌, ℕ, zero, suc, drop, Bool, true, false, List, [], length, get_or, refl, sym, ◌∙◌, ap, subst, inl, inr, ◌⊎◌, arith, Result, Ok, Err}
-use Rattle.std.specs.Prelude.{Option, Some, None, All, bytes_eq, slice_get, slice_index_or, MatchOption, cond}
+use Rattle.std.proofs.Common.{◌≡◌, ◌≢◌, ◌<◌, ◌+◌, ◌-◌, ℕ, zero, suc, drop, true, false, List, [], length, get_or, refl, sym, ◌∙◌, ap, subst, inl, inr, arith, Err}
+use Rattle.std.specs.Prelude.{Option, Some, None, bytes_eq, slice_get, slice_index_or}
 use Rattle.std.proofs.lemmas.Bool.{cases_Bool}
 use Rattle.std.proofs.lemmas.Bool.Decides.{nat_tests}
 use Rattle.std.proofs.lemmas.List.Sums.{position_or_len_is}

@@ -1,5 +1,5 @@
 -- Two lattices that are the same give a design the same trace.
-use Rattle.std.proofs.Common.{◌≡◌, ℕ, ◌+◌, List, [], ◌∷◌, ◌++◌, refl, sym, ◌∙◌, ap}
+use Rattle.std.proofs.Common.{◌≡◌, ℕ, ◌+◌, List, [], ◌∷◌, ◌++◌, refl, ◌∙◌, ap}
 use Rattle.sap_lattice.specs.Levels.{Levels}
 use Rattle.sap_latfile.specs.OneLattice.{AreSame}
 use Rattle.sap_tree.specs.Syntax.{DesignTree}

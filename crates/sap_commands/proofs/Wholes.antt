@@ -1,5 +1,5 @@
 -- The whole text of a stimulus, of which the text of its first lines is the beginning.
-use Rattle.std.proofs.Common.{◌≡◌, ◌<◌, ℕ, List, ◌++◌, ◌+◌, append_assoc, length, map, take, refl, sym, ◌∙◌, ap, subst, arith, length-append}
+use Rattle.std.proofs.Common.{◌≡◌, ℕ, List, ◌++◌, ◌+◌, append_assoc, length, map, take, sym, ◌∙◌, ap, arith, length-append}
 use Rattle.std.specs.Prelude.{None}
 use Rattle.std.proofs.lemmas.List.{take-append-le, take_all}
 use Rattle.sap_lattice.specs.Codes.{width_of}
@@ -11,7 +11,6 @@ use Rattle.sap_net.specs.Laws.{SomeRun}
 use Rattle.sap_net.specs.Net.{Net}
 use Rattle.sap_net.specs.Runs.{AllFit, IsRun, observed}
 use Rattle.sap_net.proofs.Same.{run_same}
-use Rattle.sap_stim.specs.Stimulus.{stimulus_of}
 use Rattle.sap_sim.specs.Fields.{fields_of}
 use Rattle.sap_sim.specs.Numbers.{numbers_of}
 use Rattle.sap_sim.specs.Shown.{register_ports, rows_from, shown_registers}

@@ -2,7 +2,7 @@
 use Rattle.std.specs.Prelude.{◌≡◌, ◌⊎◌, ℕ, List, length, Option, Some, None}
 use Rattle.sap_desk.specs.Desk.{Told, bytes_of, stream}
 use Rattle.sap_desk.specs.Whole.{MissingOrLong}
-use Rattle.sap_commands.specs.Kinds.{Kind, Has}
+use Rattle.sap_commands.specs.Kinds.{Has}
 use Rattle.sap_commands.specs.Asks.{Asks, file, by, gives, prints, writes, stops}
 
 -- a file holds as much as there is room for

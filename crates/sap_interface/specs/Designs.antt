@@ -1,10 +1,10 @@
 -- The module of a design.
-use Rattle.std.specs.Prelude.{ℕ, map}
+use Rattle.std.specs.Prelude.{ℕ, length, map}
 use Rattle.sap_tree.specs.Syntax.{DesignTree}
 use Rattle.sap_lattice.specs.Levels.{Levels, order_of}
 use Rattle.sap_lattice.specs.Codes.{code_of, width_of}
 use Rattle.sap_names.specs.Entities.{entities_of}
-use Rattle.sap_resolve.specs.Sites.{group_sites}
+use Rattle.sap_shape.specs.Sites.{check_sites}
 use Rattle.sap_resolve.specs.Fill.{program_of}
 use Rattle.sap_net.specs.Net.{Net}
 use Rattle.sap_interface.specs.StandsFor.{Named}
@@ -16,7 +16,7 @@ named_of ls d = record { program = program_of ls d; names = map (λ e. e.name.na
 
 -- how many check sites a design has
 abbrev pub sites_of : DesignTree → ℕ
-sites_of d = group_sites (entities_of d) d.states
+sites_of d = length (check_sites d)
 
 -- the netlist stands for the design
 abbrev pub StandsForDesign : Levels → DesignTree → Net → Type 0

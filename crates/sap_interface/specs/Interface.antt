@@ -1,10 +1,9 @@
 -- The interface of a compiled module: its ports in order, and what else it declares, with their widths.
-use Rattle.std.specs.Prelude.{◌≡◌, ◌<◌, ◌≤◌, ◌⊎◌, ◌^◌, ◌+◌, ◌-◌, ℕ, zero, suc, Bool, true, false, List, [], ◌∷◌, ◌++◌, map, get_or, if◌then◌else◌}
+use Rattle.std.specs.Prelude.{◌≡◌, ◌<◌, ◌≤◌, ◌⊎◌, ◌^◌, ◌+◌, ℕ, zero, suc, Bool, true, false, List, [], ◌∷◌, ◌++◌, map, if◌then◌else◌}
 use Rattle.std.specs.List.{AllByRecursion}
-use Rattle.sap_meaning.specs.Program.{World, Entity, entity, root, children, width, is_input, is_register, is_memory, is_state, is_dynamic}
+use Rattle.sap_meaning.specs.Program.{Entity, root, children, width, is_input, is_register, is_memory, is_state, is_dynamic}
 use Rattle.sap_net.specs.declared.parts.PortKind.{PortKind}
 use Rattle.sap_net.specs.declared.parts.PortKind.TheVariants as kind
-use Rattle.sap_net.specs.declared.parts.Port.{Port}
 use Rattle.sap_net.specs.declared.parts.Input.{Input}
 use Rattle.sap_net.specs.declared.parts.Wire.{Wire}
 use Rattle.sap_net.specs.declared.parts.Register.{Register}

@@ -1,5 +1,5 @@
 -- The names of a compiled module.
-use Rattle.std.specs.Prelude.{ℕ, List, [], ◌∷◌, ◌++◌, codes, get_or}
+use Rattle.std.specs.Prelude.{ℕ, List, ◌++◌, codes}
 use Rattle.std.specs.Fmt.{decimal}
 
 -- the value and the tag of an entity, by its name; for a state the number of its current child

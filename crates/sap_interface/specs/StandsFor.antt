@@ -1,7 +1,7 @@
 -- When the numbers of a module's cycle stand for a state of a design and the refusals of a cycle.
-use Rattle.std.specs.Prelude.{◌≡◌, ◌<◌, ◌≤◌, ◌⊎◌, ◌↔◌, ℕ, Bool, true, false, List, [], ◌∷◌, get_or}
+use Rattle.std.specs.Prelude.{◌≡◌, ◌<◌, ◌≤◌, ◌⊎◌, ◌↔◌, ℕ, true, false, List, [], ◌∷◌, get_or}
 use Rattle.sap_maps.specs.Maps.{Valuation}
-use Rattle.sap_meaning.specs.Program.{World, Program, Entity, entity, root, children, is_register, is_memory, is_state, is_dynamic, depth_of}
+use Rattle.sap_meaning.specs.Program.{World, Program, entity, root, children, is_register, is_memory, is_state, is_dynamic, depth_of}
 use Rattle.sap_meaning.specs.Store.{Store, own, start, start_whole, number, level, child, Refusal}
 use Rattle.sap_interface.specs.PortNames.{value_name, tag_name, seat_name, root_seat, refused_name, level_name}
 

@@ -22,7 +22,7 @@ use Rattle.sap_meaning.specs.Checks.{Spot}
 use Rattle.sap_meaning.proofs.Bools.{or_left, or_right, same_number, not_true, eq_self}
 use Rattle.sap_resolve.specs.Fill.{table, filled, filled_arms, filled_block, filled_state, filled_group}
 use Rattle.sap_resolve.specs.Resolve.{site_number, step_of, command_of, arms_of, block_of, else_of, list_of, state_of, group_of}
-use Rattle.sap_resolve.specs.Sites.{Home, simple_sites, command_sites, block_sites, state_sites}
+use Rattle.sap_shape.specs.Sites.{Home, simple_sites, command_sites, block_sites, state_sites}
 use Rattle.sap_resolve.specs.Terms.{entity_number}
 use Rattle.sap_resolve.specs.Worlds.{states_in, world_of}
 use Rattle.sap_resolve.proofs.Lookup.{entities_length}
@@ -86,10 +86,10 @@ module _ (ls : Levels) (le : ℕ → ℕ → Bool) (ds : List Decl) (es : List E
   of_state y name b i e =
       where_equal b (is_dynamic w x) (bytes_eq name n) (nat_eq x y) (same y name i) (λ t. e ∙ ap (λ (z : ℕ). is_dynamic w z) (sym (same_number x y t)))
 
-  -- what is assigned
-  module _ (kind : Kind) (children : StateList) where
+  -- what is assigned, in the body of a state with this name
+  module _ (own_name : List ℕ) (kind : Kind) (children : StateList) where
     abbrev h : Home
-    h = record { entities = es; kind = kind; children = children }
+    h = record { entities = es; name = own_name; kind = kind; children = children }
 
     simple_same : (m : ℕ) (c : SimpleCommand) → simple_faults ls.names means c ≡ []
         → (is_dynamic_store ds n && tree.simple_assigns c n) ≡ (is_dynamic w x && step_assigns (step_of ls h m c) x)
@@ -112,14 +112,14 @@ module _ (ls : Levels) (le : ℕ → ℕ → Bool) (ds : List Decl) (es : List E
       command_same m (Do c) f = simple_same (site_number h m c) c f
       command_same m (Try c place handler) f =
           let p = none_two (simple_faults ls.names means c) (block_faults ls.names means handler) f in
-          and_or (is_dynamic_store ds n) (is_dynamic w x) _ _ _ _ (simple_same (site_number h m c) c p.0) (block_same (m + simple_sites h c) handler p.1)
+          and_or (is_dynamic_store ds n) (is_dynamic w x) _ _ _ _ (simple_same (site_number h m c) c p.0) (block_same (m + length (simple_sites h c)) handler p.1)
       command_same m (If place condition one other) f =
           let p = none_three (expression_faults means condition (Some 1)) (block_faults ls.names means one) (else_faults ls.names means other) f in
-          and_or (is_dynamic_store ds n) (is_dynamic w x) _ _ _ _ (block_same m one p.1) (else_same (m + block_sites h one) other p.2)
+          and_or (is_dynamic_store ds n) (is_dynamic w x) _ _ _ _ (block_same m one p.1) (else_same (m + length (block_sites h one)) other p.2)
       command_same m (TryThen c place one other) f =
           let p = none_three (simple_faults ls.names means c) (block_faults ls.names means one) (block_faults ls.names means other) f in
           and_or (is_dynamic_store ds n) (is_dynamic w x) _ _ _ _ (simple_same (site_number h m c) c p.0)
-          (and_or (is_dynamic_store ds n) (is_dynamic w x) _ _ _ _ (block_same (m + simple_sites h c) one p.1) (block_same (m + simple_sites h c + block_sites h one) other p.2))
+          (and_or (is_dynamic_store ds n) (is_dynamic w x) _ _ _ _ (block_same (m + length (simple_sites h c)) one p.1) (block_same (m + length (simple_sites h c) + length (block_sites h one)) other p.2))
       command_same m (Case place e arms) f =
           let p = none_two (expression_faults means e None) (arms_faults ls.names means (own_of means e) arms) f in
           arms_same m (own_of means e) arms p.1
@@ -129,7 +129,7 @@ module _ (ls : Levels) (le : ℕ → ℕ → Bool) (ds : List Decl) (es : List E
       arms_same m asked (Last b) f = block_same m b f
       arms_same m asked (Arm constants b arms) f =
           let p = none_three (constants_faults means asked constants) (block_faults ls.names means b) (arms_faults ls.names means asked arms) f in
-          and_or (is_dynamic_store ds n) (is_dynamic w x) _ _ _ _ (block_same m b p.1) (arms_same (m + block_sites h b) asked arms p.2)
+          and_or (is_dynamic_store ds n) (is_dynamic w x) _ _ _ _ (block_same m b p.1) (arms_same (m + length (block_sites h b)) asked arms p.2)
 
       block_same : (m : ℕ) (b : CommandBlock) → block_faults ls.names means b ≡ []
           → (is_dynamic_store ds n && tree.block_assigns b n) ≡ (is_dynamic w x && block_assigns (block_of ls h m b) x)
@@ -145,7 +145,7 @@ module _ (ls : Levels) (le : ℕ → ℕ → Bool) (ds : List Decl) (es : List E
       list_same m NoCommand f = both_none (is_dynamic_store ds n) (is_dynamic w x)
       list_same m (AndCommand c cs) f =
           let p = none_two (command_faults ls.names means c) (commands_faults ls.names means cs) f in
-          and_or (is_dynamic_store ds n) (is_dynamic w x) _ _ _ _ (command_same m c p.0) (list_same (m + command_sites h c) cs p.1)
+          and_or (is_dynamic_store ds n) (is_dynamic w x) _ _ _ _ (command_same m c p.0) (list_same (m + length (command_sites h c)) cs p.1)
 
     -- what is touched in the body of a state with the number s and the children g
     module _ (home : tree.Home) (s : ℕ) (g : Group) (own : (home.dynamic && bytes_eq home.name n) ≡ (is_dynamic w x && nat_eq x s))
@@ -168,14 +168,14 @@ module _ (ls : Levels) (le : ℕ → ℕ → Bool) (ds : List Decl) (es : List E
         command_touched m (Do c) f = simple_touched (site_number h m c) c f
         command_touched m (Try c place handler) f =
             let p = none_two (simple_faults ls.names means c) (block_faults ls.names means handler) f in
-            or_and (is_dynamic w x) _ _ _ _ (simple_touched (site_number h m c) c p.0) (block_touched (m + simple_sites h c) handler p.1)
+            or_and (is_dynamic w x) _ _ _ _ (simple_touched (site_number h m c) c p.0) (block_touched (m + length (simple_sites h c)) handler p.1)
         command_touched m (If place condition one other) f =
             let p = none_three (expression_faults means condition (Some 1)) (block_faults ls.names means one) (else_faults ls.names means other) f in
-            or_and (is_dynamic w x) _ _ _ _ (block_touched m one p.1) (else_touched (m + block_sites h one) other p.2)
+            or_and (is_dynamic w x) _ _ _ _ (block_touched m one p.1) (else_touched (m + length (block_sites h one)) other p.2)
         command_touched m (TryThen c place one other) f =
             let p = none_three (simple_faults ls.names means c) (block_faults ls.names means one) (block_faults ls.names means other) f in
             or_and (is_dynamic w x) _ _ _ _ (simple_touched (site_number h m c) c p.0)
-            (or_and (is_dynamic w x) _ _ _ _ (block_touched (m + simple_sites h c) one p.1) (block_touched (m + simple_sites h c + block_sites h one) other p.2))
+            (or_and (is_dynamic w x) _ _ _ _ (block_touched (m + length (simple_sites h c)) one p.1) (block_touched (m + length (simple_sites h c) + length (block_sites h one)) other p.2))
         command_touched m (Case place e arms) f =
             let p = none_two (expression_faults means e None) (arms_faults ls.names means (own_of means e) arms) f in
             arms_touched m (own_of means e) arms p.1
@@ -185,7 +185,7 @@ module _ (ls : Levels) (le : ℕ → ℕ → Bool) (ds : List Decl) (es : List E
         arms_touched m asked (Last b) f = block_touched m b f
         arms_touched m asked (Arm constants b arms) f =
             let p = none_three (constants_faults means asked constants) (block_faults ls.names means b) (arms_faults ls.names means asked arms) f in
-            or_and (is_dynamic w x) _ _ _ _ (block_touched m b p.1) (arms_touched (m + block_sites h b) asked arms p.2)
+            or_and (is_dynamic w x) _ _ _ _ (block_touched m b p.1) (arms_touched (m + length (block_sites h b)) asked arms p.2)
 
         block_touched : (m : ℕ) (b : CommandBlock) → block_faults ls.names means b ≡ []
             → tree.block_touches ds home b n ≡ (is_dynamic w x && block_hangs s g (block_of ls h m b) x)
@@ -201,7 +201,7 @@ module _ (ls : Levels) (le : ℕ → ℕ → Bool) (ds : List Decl) (es : List E
         list_touched m NoCommand f = never (is_dynamic w x)
         list_touched m (AndCommand c cs) f =
             let p = none_two (command_faults ls.names means c) (commands_faults ls.names means cs) f in
-            or_and (is_dynamic w x) _ _ _ _ (command_touched m c p.0) (list_touched (m + command_sites h c) cs p.1)
+            or_and (is_dynamic w x) _ _ _ _ (command_touched m c p.0) (list_touched (m + length (command_sites h c)) cs p.1)
 
   mutual
     unfolding tree.state_assigns tree.states_assign
@@ -210,15 +210,15 @@ module _ (ls : Levels) (le : ℕ → ℕ → Bool) (ds : List Decl) (es : List E
         → (is_dynamic_store ds n && tree.state_assigns s n) ≡ (is_dynamic w x && state_assigns (state_of ls es m y s) x)
     state_same m y (StateOf place name kind body children) f =
         let p = none_three (kind_faults ls.names le kind) (block_faults ls.names means body) (states_faults ls.names le means children) f in
-        let h : Home = record { entities = es; kind = kind; children = children } in
-        and_or (is_dynamic_store ds n) (is_dynamic w x) _ _ _ _ (block_same kind children m body p.1) (states_same (m + block_sites h body) (y + 1) children p.2)
+        let h : Home = record { entities = es; name = name.name; kind = kind; children = children } in
+        and_or (is_dynamic_store ds n) (is_dynamic w x) _ _ _ _ (block_same name.name kind children m body p.1) (states_same (m + length (block_sites h body)) (y + 1) children p.2)
 
     states_same : (m y : ℕ) (g : StateList) → states_faults ls.names le means g ≡ []
         → (is_dynamic_store ds n && tree.states_assign g n) ≡ (is_dynamic w x && group_assigns (group_of ls es m y g) x)
     states_same m y NoState f = both_none (is_dynamic_store ds n) (is_dynamic w x)
     states_same m y (AndState s rest) f =
         let p = none_two (state_faults ls.names le means s) (states_faults ls.names le means rest) f in
-        and_or (is_dynamic_store ds n) (is_dynamic w x) _ _ _ _ (state_same m y s p.0) (states_same (m + state_sites es s) (y + states_in s) rest p.1)
+        and_or (is_dynamic_store ds n) (is_dynamic w x) _ _ _ _ (state_same m y s p.0) (states_same (m + length (state_sites es s)) (y + states_in s) rest p.1)
 
   own_same : (a y : ℕ) (place : Place) (name : Mention) (kind : Kind) (body : CommandBlock) (children : StateList) → LaidState ls es w a y (StateOf place name kind body children)
       → (tree.is_dynamic kind && bytes_eq name.name n) ≡ (is_dynamic w x && nat_eq x y)
@@ -233,7 +233,7 @@ module _ (ls : Levels) (le : ℕ → ℕ → Bool) (ds : List Decl) (es : List E
       let s = StateOf place name kind body children in
       or_and (is_dynamic w x) _ _ _ _
       (and_swap (bytes_eq name.name n) (tree.is_dynamic kind) ∙ own_same a y place name kind body children (laid_first ls es w a y s rest l))
-      (child_same (m + state_sites es s) (suc a) (y + states_in s) rest (laid_rest ls es w a y s rest l))
+      (child_same (m + length (state_sites es s)) (suc a) (y + states_in s) rest (laid_rest ls es w a y s rest l))
 
   -- what a fall into these states touches
   falls_same : (m a y : ℕ) (g : StateList) → Laid ls es w a y g → states_faults ls.names le means g ≡ []
@@ -273,7 +273,7 @@ module _ (ls : Levels) (le : ℕ → ℕ → Bool) (ds : List Decl) (es : List E
       (own : (x : ℕ) → x < length es → (home.dynamic && bytes_eq home.name (name_at es x)) ≡ (is_dynamic w x && nat_eq x s))
       (falls : (x : ℕ) → x < length es → fall_touches ds home.children (name_at es x) ≡ (is_dynamic w x && (among g x || group_assigns g x))) where
     abbrev here : Home
-    here = record { entities = es; kind = kind; children = children }
+    here = record { entities = es; name = home.name; kind = kind; children = children }
 
     abbrev at : Spot
     at = record { state = s; parent = parent; children = g }
@@ -282,7 +282,7 @@ module _ (ls : Levels) (le : ℕ → ℕ → Bool) (ds : List Decl) (es : List E
         → table (root w) (touches w at (command_of ls here m c)) ≡ row_of es (tree.touches ds home c)
     command_row m c f =
         tabled (touches w at (command_of ls here m c)) (tree.touches ds home c)
-        (λ x l. command_touched ls le ds es w k kinds x (same x l) (store x l) kind children home s g (own x l) (falls x l) m c f)
+        (λ x l. command_touched ls le ds es w k kinds x (same x l) (store x l) home.name kind children home s g (own x l) (falls x l) m c f)
 
     simple_rows : (m : ℕ) (c : SimpleCommand) → simple_faults ls.names what c ≡ []
         → rows (filled w at (command_of ls here m (Do c))) ≡ pointed (hang.simple_points home c)
@@ -303,18 +303,18 @@ module _ (ls : Levels) (le : ℕ → ℕ → Bool) (ds : List Decl) (es : List E
       command_rows m (Try c place handler) f =
           let p = none_two (simple_faults ls.names what c) (block_faults ls.names what handler) f in
           parts (hang.simple_points home c) (hang.point home (Try c place handler) ∷ hang.block_points home handler) _ _ (simple_rows m c p.0)
-          (ap (λ (l : List Bool). l ∷ block_rows (filled_block w at (block_of ls here (m + simple_sites here c) handler))) (command_row m (Try c place handler) f)
-          ∙ ap (λ (l : List (List Bool)). row_of es (tree.touches ds home (Try c place handler)) ∷ l) (body_rows (m + simple_sites here c) handler p.1))
+          (ap (λ (l : List Bool). l ∷ block_rows (filled_block w at (block_of ls here (m + length (simple_sites here c)) handler))) (command_row m (Try c place handler) f)
+          ∙ ap (λ (l : List (List Bool)). row_of es (tree.touches ds home (Try c place handler)) ∷ l) (body_rows (m + length (simple_sites here c)) handler p.1))
       command_rows m (If place condition one other) f =
           let p = none_three (expression_faults what condition (Some 1)) (block_faults ls.names what one) (else_faults ls.names what other) f in
           let c = If place condition one other in
-          ap (λ (l : List Bool). l ∷ (block_rows (filled_block w at (block_of ls here m one)) ++ block_rows (filled_block w at (else_of ls here (m + block_sites here one) other)))) (command_row m c f)
+          ap (λ (l : List Bool). l ∷ (block_rows (filled_block w at (block_of ls here m one)) ++ block_rows (filled_block w at (else_of ls here (m + length (block_sites here one)) other)))) (command_row m c f)
           ∙ ap (λ (l : List (List Bool)). row_of es (tree.touches ds home c) ∷ l)
-          (parts (hang.block_points home one) (hang.else_points home other) _ _ (body_rows m one p.1) (else_rows (m + block_sites here one) other p.2))
+          (parts (hang.block_points home one) (hang.else_points home other) _ _ (body_rows m one p.1) (else_rows (m + length (block_sites here one)) other p.2))
       command_rows m (TryThen c place one other) f =
           let p = none_three (simple_faults ls.names what c) (block_faults ls.names what one) (block_faults ls.names what other) f in
-          let i = m + simple_sites here c in
-          let j = i + block_sites here one in
+          let i = m + length (simple_sites here c) in
+          let j = i + length (block_sites here one) in
           let d = TryThen c place one other in
           parts (hang.simple_points home c) (hang.point home d ∷ (hang.block_points home one ++ hang.block_points home other)) _ _ (simple_rows m c p.0)
           (ap (λ (l : List Bool). l ∷ (block_rows (filled_block w at (block_of ls here i one)) ++ block_rows (filled_block w at (block_of ls here j other)))) (command_row m d f)
@@ -331,7 +331,7 @@ module _ (ls : Levels) (le : ℕ → ℕ → Bool) (ds : List Decl) (es : List E
       all_rows m asked (Last b) f = body_rows m b f
       all_rows m asked (Arm constants b arms) f =
           let p = none_three (constants_faults what asked constants) (block_faults ls.names what b) (arms_faults ls.names what asked arms) f in
-          parts (hang.block_points home b) (hang.arms_points home arms) _ _ (body_rows m b p.1) (all_rows (m + block_sites here b) asked arms p.2)
+          parts (hang.block_points home b) (hang.arms_points home arms) _ _ (body_rows m b p.1) (all_rows (m + length (block_sites here b)) asked arms p.2)
 
       body_rows : (m : ℕ) (b : CommandBlock) → block_faults ls.names what b ≡ []
           → block_rows (filled_block w at (block_of ls here m b)) ≡ pointed (hang.block_points home b)
@@ -347,7 +347,7 @@ module _ (ls : Levels) (le : ℕ → ℕ → Bool) (ds : List Decl) (es : List E
       list_rows m NoCommand f = refl
       list_rows m (AndCommand c cs) f =
           let p = none_two (command_faults ls.names what c) (commands_faults ls.names what cs) f in
-          parts (hang.command_points home c) (hang.list_points home cs) _ _ (command_rows m c p.0) (list_rows (m + command_sites here c) cs p.1)
+          parts (hang.command_points home c) (hang.list_points home cs) _ _ (command_rows m c p.0) (list_rows (m + length (command_sites here c)) cs p.1)
 
   mutual
     unfolding pointed
@@ -356,8 +356,8 @@ module _ (ls : Levels) (le : ℕ → ℕ → Bool) (ds : List Decl) (es : List E
         → state_rows (filled_state w parent (state_of ls es m y s)) ≡ pointed (hang.state_points s)
     tree_rows parent m a y (StateOf place name kind body children) l f =
         let p = none_three (kind_faults ls.names le kind) (block_faults ls.names what body) (states_faults ls.names le what children) f in
-        let h : Home = record { entities = es; kind = kind; children = children } in
-        let i = m + block_sites h body in
+        let h : Home = record { entities = es; name = name.name; kind = kind; children = children } in
+        let i = m + length (block_sites h body) in
         let below = laid_below ls es w a y place name kind body children l in
         let home = tree.home_of (StateOf place name kind body children) in
         parts (hang.block_points home body) (hang.states_points children) _ _
@@ -372,7 +372,7 @@ module _ (ls : Levels) (le : ℕ → ℕ → Bool) (ds : List Decl) (es : List E
     trees_rows parent m a y (AndState s rest) l f =
         let p = none_two (state_faults ls.names le what s) (states_faults ls.names le what rest) f in
         parts (hang.state_points s) (hang.states_points rest) _ _ (tree_rows parent m a y s (laid_first ls es w a y s rest l) p.0)
-        (trees_rows parent (m + state_sites es s) (suc a) (y + states_in s) rest (laid_rest ls es w a y s rest l) p.1)
+        (trees_rows parent (m + length (state_sites es s)) (suc a) (y + states_in s) rest (laid_rest ls es w a y s rest l) p.1)
 
 -- a name and a number are those of one entity, or neither
 name_same : (es : List Entity) → twice [] es ≡ [] → (x : ℕ) → x < length es → (y : ℕ) (name : List ℕ) → IsNamed es y name → bytes_eq name (name_at es x) ≡ nat_eq x y

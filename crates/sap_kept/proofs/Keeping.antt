@@ -1,5 +1,5 @@
 -- Resolving keeps expressions, commands and states in which no fault of names and widths stands.
-use Rattle.std.proofs.Common.{◌≡◌, ℕ, suc, ◌+◌, ◌-◌, ◌≤◌, Bool, true, false, not, ◌&&◌, List, [], Option, Some, None, refl, sym, ap, ◌∙◌, subst, arith, inl, inr, if◌then◌else◌}
+use Rattle.std.proofs.Common.{◌≡◌, ℕ, suc, ◌+◌, ◌-◌, ◌≤◌, Bool, true, false, not, ◌&&◌, List, [], Option, Some, None, refl, sym, ap, ◌∙◌, subst, arith, inl, inr, if◌then◌else◌, length}
 use Rattle.std.specs.Prelude.{eqb}
 use Rattle.std.proofs.lemmas.Bool.{eqb-true}
 use Rattle.sap_tree.specs.declared.name.Mention.{Mention}
@@ -18,11 +18,11 @@ use Rattle.sap_names.specs.declared.kind.Code.TheVariants.{E7, E8}
 use Rattle.sap_names.specs.Entities.{what_is}
 use Rattle.sap_names.specs.NameFaults.{fault_if, unsettled, too_large, use_faults, name_faults, expression_faults, parts_faults, level_faults, tag_faults, tags_faults, simple_faults, command_faults, block_faults, else_faults, arms_faults, constants_faults, commands_faults, under_faults, kind_faults, state_faults, states_faults}
 use Rattle.sap_names.specs.Widths.{own, width_of, family, asked_left, asked_right, asked_one, index_width, register_width, cell_width, sound_width, is_sound, all_sound}
-use Rattle.sap_meaning.specs.Program.{World, entity, root, kind_is_state}
+use Rattle.sap_meaning.specs.Program.{World, entity, kind_is_state}
 use Rattle.sap_meaning.specs.Program as program
 use Rattle.sap_meaning.specs.Checks.{Spot}
 use Rattle.sap_resolve.specs.Worlds.{states_in, declared_level, authority_level, authority_of, is_dynamic_kind}
-use Rattle.sap_resolve.specs.Sites.{Home, simple_sites, command_sites, block_sites, state_sites}
+use Rattle.sap_shape.specs.Sites.{Home, simple_sites, command_sites, block_sites, state_sites}
 use Rattle.sap_resolve.specs.Terms.{known, entity_number, widened, term_of, parts_of, level_term, level_terms}
 use Rattle.sap_resolve.specs.Resolve.{site_number, step_of, number_of, numbers_of, command_of, arms_of, block_of, else_of, list_of, state_of, group_of}
 use Rattle.sap_resolve.specs.Fill.{filled_step, filled, filled_arms, filled_block, filled_state, filled_group}
@@ -209,13 +209,13 @@ module _ (ls : Levels) (h : Home) (k : Known h.entities) (w : World) (at : Spot)
     command_kept n (Do c) f = step_kept (site_number h n c) c f
     command_kept n (Try c place handler) f =
         let p = none_two (simple_faults ls.names means c) (block_faults ls.names means handler) f in
-        (step_kept (site_number h n c) c p.0, block_kept (n + simple_sites h c) handler p.1)
+        (step_kept (site_number h n c) c p.0, block_kept (n + length (simple_sites h c)) handler p.1)
     command_kept n (If place condition then_block else_block) f =
         let p = none_three (expression_faults means condition (Some 1)) (block_faults ls.names means then_block) (else_faults ls.names means else_block) f in
-        (term_kept names k condition (Some 1) p.0, block_kept n then_block p.1, else_kept (n + block_sites h then_block) else_block p.2)
+        (term_kept names k condition (Some 1) p.0, block_kept n then_block p.1, else_kept (n + length (block_sites h then_block)) else_block p.2)
     command_kept n (TryThen c place accepted refused) f =
         let p = none_three (simple_faults ls.names means c) (block_faults ls.names means accepted) (block_faults ls.names means refused) f in
-        (step_kept (site_number h n c) c p.0, block_kept (n + simple_sites h c) accepted p.1, block_kept (n + simple_sites h c + block_sites h accepted) refused p.2)
+        (step_kept (site_number h n c) c p.0, block_kept (n + length (simple_sites h c)) accepted p.1, block_kept (n + length (simple_sites h c) + length (block_sites h accepted)) refused p.2)
     command_kept n (Case place e arms) f =
         let p = none_two (expression_faults means e None) (arms_faults ls.names means (own means e) arms) f in
         (term_kept names k e None p.0, arms_kept n (own means e) arms p.1)
@@ -224,7 +224,7 @@ module _ (ls : Levels) (h : Home) (k : Known h.entities) (w : World) (at : Spot)
     arms_kept n asked (Last b) f = block_kept n b f
     arms_kept n asked (Arm constants b arms) f =
         let p = none_three (constants_faults means asked constants) (block_faults ls.names means b) (arms_faults ls.names means asked arms) f in
-        (constants_kept constants, block_kept n b p.1, arms_kept (n + block_sites h b) asked arms p.2)
+        (constants_kept constants, block_kept n b p.1, arms_kept (n + length (block_sites h b)) asked arms p.2)
 
     pub block_kept : (n : ℕ) (b : CommandBlock) → block_faults ls.names means b ≡ [] → IsBlock ls names b (filled_block w at (block_of ls h n b))
     block_kept n (Commands cs after) f = list_kept n cs f
@@ -237,7 +237,7 @@ module _ (ls : Levels) (h : Home) (k : Known h.entities) (w : World) (at : Spot)
     list_kept n NoCommand f = tt
     list_kept n (AndCommand c cs) f =
         let p = none_two (command_faults ls.names means c) (commands_faults ls.names means cs) f in
-        (command_kept n c p.0, list_kept (n + command_sites h c) cs p.1)
+        (command_kept n c p.0, list_kept (n + length (command_sites h c)) cs p.1)
 
 -- kinds of declarations and of states
 authority_kept : (ls : Levels) (le : ℕ → ℕ → Bool) (level : Mention) (under : Option Under) → under_faults ls.names le level under ≡ []
@@ -265,7 +265,7 @@ module _ (ls : Levels) (le : ℕ → ℕ → Bool) (es : List Entity) (w : World
     state_kept : (p n m x : ℕ) (s : StateTree) → LaidState ls es w m x s → state_faults ls.names le (what_is es) s ≡ []
         → IsState ls es w s (filled_state w p (state_of ls es n x s))
     state_kept p n m x (StateOf place name kind body children) laid f =
-        let h : Home = record { entities = es; kind = kind; children = children } in
+        let h : Home = record { entities = es; name = name.name; kind = kind; children = children } in
         let j = none_three (kind_faults ls.names le kind) (block_faults ls.names (what_is es) body) (states_faults ls.names le (what_is es) children) f in
         let e : entity w x ≡ state_entity ls m x kind children = laid_entity ls es w m x place name kind body children laid in
         let i : IsOfKind ls kind (entity w x) = record {
@@ -277,7 +277,7 @@ module _ (ls : Levels) (le : ℕ → ℕ → Bool) (es : List Entity) (w : World
           ap (λ (g : program.Entity). kind_is_state g.kind) e,
           kind_kept ls le kind (entity w x) j.0 i,
           block_kept ls h k w _ n body j.1,
-          group_kept x (n + block_sites h body) 0 (x + 1) children (laid_below ls es w m x place name kind body children laid) j.2,
+          group_kept x (n + length (block_sites h body)) 0 (x + 1) children (laid_below ls es w m x place name kind body children laid) j.2,
         )
 
     pub group_kept : (p n m x : ℕ) (g : StateList) → Laid ls es w m x g → states_faults ls.names le (what_is es) g ≡ []
@@ -286,5 +286,5 @@ module _ (ls : Levels) (le : ℕ → ℕ → Bool) (es : List Entity) (w : World
     group_kept p n m x (AndState s rest) laid f =
         let j = none_two (state_faults ls.names le (what_is es) s) (states_faults ls.names le (what_is es) rest) f in (
           state_kept p n m x s (laid_first ls es w m x s rest laid) j.0,
-          group_kept p (n + state_sites es s) (suc m) (x + states_in s) rest (laid_rest ls es w m x s rest laid) j.1,
+          group_kept p (n + length (state_sites es s)) (suc m) (x + states_in s) rest (laid_rest ls es w m x s rest laid) j.1,
         )

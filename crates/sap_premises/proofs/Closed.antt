@@ -1,12 +1,12 @@
 -- Bodies without E10 close, and stay closed with numbers for names.
-use Rattle.std.proofs.Common.{◌≡◌, ℕ, ◌+◌, true, false, List, [], ◌++◌, refl}
+use Rattle.std.proofs.Common.{◌≡◌, ℕ, ◌+◌, true, false, List, [], ◌++◌, refl, length}
 use Rattle.sap_tree.specs.declared.place.Place.{Place}
 use Rattle.sap_tree.specs.Syntax.{SimpleCommand, Assign, Write, SetTag, SetCellTag, Goto, Fall, Command, Do, Try, If, TryThen, Case, Arms, Last, Arm, CommandBlock, Commands, ElseBlock, NoElse, Else, CommandList, NoCommand, AndCommand}
 use Rattle.sap_lattice.specs.Levels.{Levels}
 use Rattle.sap_names.specs.declared.fault.Fault.{Fault}
 use Rattle.sap_shape.specs.Closing.{transfer_faults, then_faults, open_faults, open_arms_faults, open_block_faults, open_else_faults, open_list_faults, last_simple_faults, last_faults, closing_arms_faults, closing_faults, closing_else_faults, closing_list_faults}
 use Rattle.sap_meaning.specs.Fine.{transfers, Open, OpenArms, OpenBlock, Closes, Final, ClosingArms}
-use Rattle.sap_resolve.specs.Sites.{Home, simple_sites, block_sites, command_sites}
+use Rattle.sap_shape.specs.Sites.{Home, simple_sites, block_sites, command_sites}
 use Rattle.sap_resolve.specs.Resolve.{site_number, step_of, command_of, arms_of, block_of, else_of, list_of}
 use Rattle.sap_premises.proofs.Faultless.{nil_left, nil_right}
 
@@ -33,20 +33,20 @@ module _ (ls : Levels) (h : Home) where
     open_command k (Do c) f = open_step (site_number h k c) c f
     open_command k (Try c place b) f = (
       open_step (site_number h k c) c (nil_left _ _ f),
-      open_body (k + simple_sites h c) b (nil_right _ _ f),
+      open_body (k + length (simple_sites h c)) b (nil_right _ _ f),
     )
     open_command k (If place e b other) f = (
       open_body k b (nil_left _ _ f),
-      open_else (k + block_sites h b) other (nil_right _ _ f),
+      open_else (k + length (block_sites h b)) other (nil_right _ _ f),
     )
     open_command k (TryThen c place a b) f =
         let t = then_step (site_number h k c) c place (open_block_faults a ++ open_block_faults b) f in
-        (t.0, open_body (k + simple_sites h c) a (nil_left _ _ t.1), open_body (k + simple_sites h c + block_sites h a) b (nil_right _ _ t.1))
+        (t.0, open_body (k + length (simple_sites h c)) a (nil_left _ _ t.1), open_body (k + length (simple_sites h c) + length (block_sites h a)) b (nil_right _ _ t.1))
     open_command k (Case place e arms) f = open_arms k arms f
 
     open_arms : (k : ℕ) (arms : Arms) → open_arms_faults arms ≡ [] → OpenArms (arms_of ls h k arms)
     open_arms k (Last b) f = open_body k b f
-    open_arms k (Arm constants b arms) f = (open_body k b (nil_left _ _ f), open_arms (k + block_sites h b) arms (nil_right _ _ f))
+    open_arms k (Arm constants b arms) f = (open_body k b (nil_left _ _ f), open_arms (k + length (block_sites h b)) arms (nil_right _ _ f))
 
     open_body : (k : ℕ) (b : CommandBlock) → open_block_faults b ≡ [] → OpenBlock (block_of ls h k b)
     open_body k (Commands cs after) f = open_list k cs f
@@ -59,7 +59,7 @@ module _ (ls : Levels) (h : Home) where
     open_list k NoCommand f = tt
     open_list k (AndCommand c cs) f = (
       open_command k c (nil_left _ _ f),
-      open_list (k + command_sites h c) cs (nil_right _ _ f),
+      open_list (k + length (command_sites h c)) cs (nil_right _ _ f),
     )
 
   last_step : (n : ℕ) (c : SimpleCommand) (after : Place) → last_simple_faults c after ≡ [] → transfers (step_of ls h n c) ≡ true
@@ -77,20 +77,20 @@ module _ (ls : Levels) (h : Home) where
     last_command k (Try (Write target index e) place b) after f = cc
     last_command k (Try (SetTag p target tag) place b) after f = cc
     last_command k (Try (SetCellTag p target index tag) place b) after f = cc
-    last_command k (Try (Goto p target) place b) after f = (refl, closed_body (k + simple_sites h (Goto p target)) b f)
-    last_command k (Try (Fall p) place b) after f = (refl, closed_body (k + simple_sites h (Fall p)) b f)
+    last_command k (Try (Goto p target) place b) after f = (refl, closed_body (k + length (simple_sites h (Goto p target))) b f)
+    last_command k (Try (Fall p) place b) after f = (refl, closed_body (k + length (simple_sites h (Fall p))) b f)
     last_command k (If place e b other) after f = (
       closed_body k b (nil_left _ _ f),
-      closed_else (k + block_sites h b) other place (nil_right _ _ f),
+      closed_else (k + length (block_sites h b)) other place (nil_right _ _ f),
     )
     last_command k (TryThen c place a b) after f =
         let t = then_step (site_number h k c) c place (closing_faults a ++ closing_faults b) f in
-        (t.0, closed_body (k + simple_sites h c) a (nil_left _ _ t.1), closed_body (k + simple_sites h c + block_sites h a) b (nil_right _ _ t.1))
+        (t.0, closed_body (k + length (simple_sites h c)) a (nil_left _ _ t.1), closed_body (k + length (simple_sites h c) + length (block_sites h a)) b (nil_right _ _ t.1))
     last_command k (Case place e arms) after f = closed_arms k arms f
 
     closed_arms : (k : ℕ) (arms : Arms) → closing_arms_faults arms ≡ [] → ClosingArms (arms_of ls h k arms)
     closed_arms k (Last b) f = closed_body k b f
-    closed_arms k (Arm constants b arms) f = (closed_body k b (nil_left _ _ f), closed_arms (k + block_sites h b) arms (nil_right _ _ f))
+    closed_arms k (Arm constants b arms) f = (closed_body k b (nil_left _ _ f), closed_arms (k + length (block_sites h b)) arms (nil_right _ _ f))
 
     pub closed_body : (k : ℕ) (b : CommandBlock) → closing_faults b ≡ [] → Closes (block_of ls h k b)
     closed_body k (Commands cs after) f = closed_list k cs after f
@@ -104,5 +104,5 @@ module _ (ls : Levels) (h : Home) where
     closed_list k (AndCommand c NoCommand) after f = last_command k c after f
     closed_list k (AndCommand c (AndCommand d ds)) after f = (
       open_command k c (nil_left _ _ f),
-      closed_list (k + command_sites h c) (AndCommand d ds) after (nil_right _ _ f),
+      closed_list (k + length (command_sites h c)) (AndCommand d ds) after (nil_right _ _ f),
     )

@@ -12,7 +12,7 @@ use Rattle.sap_meaning.specs.Touches.{among}
 use Rattle.sap_meaning.specs.Fine.{FineNode, FineState, FineGroup, number_of}
 use Rattle.sap_meaning.proofs.Bools.{or_left, or_right, or_false}
 use Rattle.sap_resolve.specs.Worlds.{states_in}
-use Rattle.sap_resolve.specs.Sites.{Home, block_sites, state_sites}
+use Rattle.sap_shape.specs.Sites.{Home, block_sites, state_sites}
 use Rattle.sap_resolve.specs.Resolve.{block_of, state_of, group_of}
 use Rattle.sap_resolve.specs.Terms.{entity_number}
 use Rattle.sap_resolve.specs.Named.{NamedState, NamedGroup}
@@ -40,10 +40,10 @@ module _ (ls : Levels) (levels : List (List ℕ)) (le : ℕ → ℕ → Bool) (e
         → state_faults levels le (what_is es) s ≡ [] → state_shape es group above s ≡ []
         → NamedState w (state_of ls es k x s) → FineState w q n (state_of ls es k x s)
     fine_state k n x q group above (StateOf place name kind body children) laid targets f s i =
-        let h : Home = record { entities = es; kind = kind; children = children } in
+        let h : Home = record { entities = es; name = name.name; kind = kind; children = children } in
         let at : Body = record { name = name.name; kind = kind; group = group; children = children; above = above } in
         let b : Block = block_of ls h k body in
-        let k' : ℕ = k + block_sites h body in
+        let k' : ℕ = k + length (block_sites h body) in
         let g : Group = group_of ls es k' (x + 1) children in
         let below : Laid ls es w 0 (x + 1) children = laid_below ls es w n x place name kind body children laid in
         let fitting : block_faults levels (what_is es) body ≡ [] = body_fits levels (what_is es) le place name kind body children f in
@@ -78,11 +78,11 @@ module _ (ls : Levels) (levels : List (List ℕ)) (le : ℕ → ℕ → Bool) (e
     fine_group k n x q group above (AndState t rest) laid targets f s i = (
       fine_state k n x q group above t (laid_first ls es w n x t rest laid) targets (nil_left _ _ f)
           (nil_left _ _ s) i.0,
-      fine_group (k + state_sites es t) (suc n) (x + states_in t) q group above rest (laid_rest ls es w n x t rest laid) targets (nil_right _ _ f)
+      fine_group (k + length (state_sites es t)) (suc n) (x + states_in t) q group above rest (laid_rest ls es w n x t rest laid) targets (nil_right _ _ f)
           (nil_right _ _ s) i.1,
       λ y j.
           let later : Laid ls es w (suc n) (x + states_in t) rest = laid_rest ls es w n x t rest laid in
-          let r : Inside ls es w (x + states_in t) rest y = inside_of ls es w (k + state_sites es t) (suc n) (x + states_in t) rest later y j in
+          let r : Inside ls es w (x + states_in t) rest y = inside_of ls es w (k + length (state_sites es t)) (suc n) (x + states_in t) rest later y j in
           let l = last_before ls es w k n x t (laid_first ls es w n x t rest laid) in
           let f = r.from in
           omega arith,

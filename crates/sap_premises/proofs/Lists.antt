@@ -12,7 +12,7 @@ use Rattle.sap_meaning.specs.Touches.{among, step_assigns, assigns, arms_assign,
 use Rattle.sap_meaning.specs.Fine.{ExactStep, Exact, ExactArms, ExactBlock, ExactState, ExactGroup, ExactProgram}
 use Rattle.sap_meaning.proofs.Bools.{and_right, or_of, not_true, same_number}
 use Rattle.sap_resolve.specs.Worlds.{states_in, states_below, group_entities, world_of}
-use Rattle.sap_resolve.specs.Sites.{Home, simple_sites, block_sites, command_sites, state_sites}
+use Rattle.sap_shape.specs.Sites.{Home, simple_sites, block_sites, command_sites, state_sites}
 use Rattle.sap_resolve.specs.Resolve.{site_number, step_of, command_of, arms_of, block_of, else_of, list_of, state_of, group_of}
 use Rattle.sap_resolve.specs.Terms.{known, entity_number}
 use Rattle.sap_resolve.specs.Fill.{table, filled_step, filled, filled_arms, filled_block, filled_state, filled_group, program_of}
@@ -112,14 +112,14 @@ module _ (r x : ℕ) where
       command_assigned : (k : ℕ) (c : Command) → Low (assigns (command_of ls h k c) x)
       command_assigned k (Do c) = step_assigned (site_number h k c) c
       command_assigned k (Try c place b) =
-          low_or (step_assigns (step_of ls h (site_number h k c) c) x) (block_assigns (block_of ls h (k + simple_sites h c) b) x)
-          (step_assigned (site_number h k c) c) (block_assigned (k + simple_sites h c) b)
+          low_or (step_assigns (step_of ls h (site_number h k c) c) x) (block_assigns (block_of ls h (k + length (simple_sites h c)) b) x)
+          (step_assigned (site_number h k c) c) (block_assigned (k + length (simple_sites h c)) b)
       command_assigned k (If place e b other) =
-          low_or (block_assigns (block_of ls h k b) x) (block_assigns (else_of ls h (k + block_sites h b) other) x) (block_assigned k b)
-          (else_assigned (k + block_sites h b) other)
+          low_or (block_assigns (block_of ls h k b) x) (block_assigns (else_of ls h (k + length (block_sites h b)) other) x) (block_assigned k b)
+          (else_assigned (k + length (block_sites h b)) other)
       command_assigned k (TryThen c place a b) =
-          let i = k + simple_sites h c in
-          let j = i + block_sites h a in
+          let i = k + length (simple_sites h c) in
+          let j = i + length (block_sites h a) in
           low_or (step_assigns (step_of ls h (site_number h k c) c) x) (block_assigns (block_of ls h i a) x || block_assigns (block_of ls h j b) x)
           (step_assigned (site_number h k c) c)
           (low_or (block_assigns (block_of ls h i a) x) (block_assigns (block_of ls h j b) x) (block_assigned i a) (block_assigned j b))
@@ -128,7 +128,7 @@ module _ (r x : ℕ) where
       arms_assigned : (k : ℕ) (arms : Arms) → Low (arms_assign (arms_of ls h k arms) x)
       arms_assigned k (Last b) = block_assigned k b
       arms_assigned k (Arm constants b arms) =
-          low_or (block_assigns (block_of ls h k b) x) (arms_assign (arms_of ls h (k + block_sites h b) arms) x) (block_assigned k b) (arms_assigned (k + block_sites h b) arms)
+          low_or (block_assigns (block_of ls h k b) x) (arms_assign (arms_of ls h (k + length (block_sites h b)) arms) x) (block_assigned k b) (arms_assigned (k + length (block_sites h b)) arms)
 
       block_assigned : (k : ℕ) (b : CommandBlock) → Low (block_assigns (block_of ls h k b) x)
       block_assigned k (Commands cs after) = list_assigned k cs
@@ -140,8 +140,8 @@ module _ (r x : ℕ) where
       list_assigned : (k : ℕ) (cs : CommandList) → Low (block_assigns (list_of ls h k cs) x)
       list_assigned k NoCommand = low_false
       list_assigned k (AndCommand c cs) =
-          low_or (assigns (command_of ls h k c) x) (block_assigns (list_of ls h (k + command_sites h c) cs) x) (command_assigned k c)
-          (list_assigned (k + command_sites h c) cs)
+          low_or (assigns (command_of ls h k c) x) (block_assigns (list_of ls h (k + length (command_sites h c)) cs) x) (command_assigned k c)
+          (list_assigned (k + length (command_sites h c)) cs)
 
     module _ (s : ℕ) (own : s < r) (g : Group) (kids : Low (among g x)) (below : Low (group_assigns g x)) where
       step_hung : (n : ℕ) (c : SimpleCommand) → Low (step_hangs s g (step_of ls h n c) x)
@@ -156,14 +156,14 @@ module _ (r x : ℕ) where
         pub command_hung : (k : ℕ) (c : Command) → Low (hangs s g (command_of ls h k c) x)
         command_hung k (Do c) = step_hung (site_number h k c) c
         command_hung k (Try c place b) =
-            low_or (step_hangs s g (step_of ls h (site_number h k c) c) x) (block_hangs s g (block_of ls h (k + simple_sites h c) b) x)
-            (step_hung (site_number h k c) c) (block_hung (k + simple_sites h c) b)
+            low_or (step_hangs s g (step_of ls h (site_number h k c) c) x) (block_hangs s g (block_of ls h (k + length (simple_sites h c)) b) x)
+            (step_hung (site_number h k c) c) (block_hung (k + length (simple_sites h c)) b)
         command_hung k (If place e b other) =
-            low_or (block_hangs s g (block_of ls h k b) x) (block_hangs s g (else_of ls h (k + block_sites h b) other) x) (block_hung k b)
-            (else_hung (k + block_sites h b) other)
+            low_or (block_hangs s g (block_of ls h k b) x) (block_hangs s g (else_of ls h (k + length (block_sites h b)) other) x) (block_hung k b)
+            (else_hung (k + length (block_sites h b)) other)
         command_hung k (TryThen c place a b) =
-            let i = k + simple_sites h c in
-            let j = i + block_sites h a in
+            let i = k + length (simple_sites h c) in
+            let j = i + length (block_sites h a) in
             low_or (step_hangs s g (step_of ls h (site_number h k c) c) x) (block_hangs s g (block_of ls h i a) x || block_hangs s g (block_of ls h j b) x)
             (step_hung (site_number h k c) c)
             (low_or (block_hangs s g (block_of ls h i a) x) (block_hangs s g (block_of ls h j b) x) (block_hung i a) (block_hung j b))
@@ -172,7 +172,7 @@ module _ (r x : ℕ) where
         arms_hung : (k : ℕ) (arms : Arms) → Low (arms_hang s g (arms_of ls h k arms) x)
         arms_hung k (Last b) = block_hung k b
         arms_hung k (Arm constants b arms) =
-            low_or (block_hangs s g (block_of ls h k b) x) (arms_hang s g (arms_of ls h (k + block_sites h b) arms) x) (block_hung k b) (arms_hung (k + block_sites h b) arms)
+            low_or (block_hangs s g (block_of ls h k b) x) (arms_hang s g (arms_of ls h (k + length (block_sites h b)) arms) x) (block_hung k b) (arms_hung (k + length (block_sites h b)) arms)
 
         block_hung : (k : ℕ) (b : CommandBlock) → Low (block_hangs s g (block_of ls h k b) x)
         block_hung k (Commands cs after) = list_hung k cs
@@ -184,22 +184,22 @@ module _ (r x : ℕ) where
         list_hung : (k : ℕ) (cs : CommandList) → Low (block_hangs s g (list_of ls h k cs) x)
         list_hung k NoCommand = low_false
         list_hung k (AndCommand c cs) =
-            low_or (hangs s g (command_of ls h k c) x) (block_hangs s g (list_of ls h (k + command_sites h c) cs) x) (command_hung k c)
-            (list_hung (k + command_sites h c) cs)
+            low_or (hangs s g (command_of ls h k c) x) (block_hangs s g (list_of ls h (k + length (command_sites h c)) cs) x) (command_hung k c)
+            (list_hung (k + length (command_sites h c)) cs)
 
   module _ (ls : Levels) (es : List declared_entity.Entity) where
     mutual
       state_assigned : (k n : ℕ) (t : StateTree) → ((name : List ℕ) → entity_number es name < r) → Low (state_assigns (state_of ls es k n t) x)
       state_assigned k n (StateOf place name kind body children) bound =
-          let h : Home = record { entities = es; kind = kind; children = children } in
-          low_or (block_assigns (block_of ls h k body) x) (group_assigns (group_of ls es (k + block_sites h body) (n + 1) children) x)
-          (block_assigned ls h bound k body) (group_assigned (k + block_sites h body) (n + 1) children bound)
+          let h : Home = record { entities = es; name = name.name; kind = kind; children = children } in
+          low_or (block_assigns (block_of ls h k body) x) (group_assigns (group_of ls es (k + length (block_sites h body)) (n + 1) children) x)
+          (block_assigned ls h bound k body) (group_assigned (k + length (block_sites h body)) (n + 1) children bound)
 
       group_assigned : (k n : ℕ) (g : StateList) → ((name : List ℕ) → entity_number es name < r) → Low (group_assigns (group_of ls es k n g) x)
       group_assigned k n NoState bound = low_false
       group_assigned k n (AndState t rest) bound =
-          low_or (state_assigns (state_of ls es k n t) x) (group_assigns (group_of ls es (k + state_sites es t) (n + states_in t) rest) x)
-          (state_assigned k n t bound) (group_assigned (k + state_sites es t) (n + states_in t) rest bound)
+          low_or (state_assigns (state_of ls es k n t) x) (group_assigns (group_of ls es (k + length (state_sites es t)) (n + states_in t) rest) x)
+          (state_assigned k n t bound) (group_assigned (k + length (state_sites es t)) (n + states_in t) rest bound)
 
     group_low : (k n : ℕ) (g : StateList) → n + states_below g ≤ r → Low (among (group_of ls es k n g) x)
     group_low k n NoState h = low_false
@@ -207,8 +207,8 @@ module _ (r x : ℕ) where
         let t : StateTree = StateOf place name kind body children in
         let own : n < r = omega arith in
         let later : (n + states_in t) + states_below rest ≤ r = omega arith in
-        low_or (nat_eq x n) (among (group_of ls es (k + state_sites es t) (n + states_in t) rest) x) (low_equal n own)
-        (group_low (k + state_sites es t) (n + states_in t) rest later)
+        low_or (nat_eq x n) (among (group_of ls es (k + length (state_sites es t)) (n + states_in t) rest) x) (low_equal n own)
+        (group_low (k + length (state_sites es t)) (n + states_in t) rest later)
 
 module _ (ls : Levels) (w : World) where
   module _ (h : Home) (bound : (name : List ℕ) → entity_number h.entities name < root w) (s p : ℕ) (own : s < root w) (g : Group)
@@ -238,14 +238,14 @@ module _ (ls : Levels) (w : World) where
     mutual
       exact_command : (k : ℕ) (c : Command) → Exact w After (filled w Before (command_of ls h k c))
       exact_command k (Do c) = exact_step k c
-      exact_command k (Try c place b) = (exact_list k (Try c place b), exact_block (k + simple_sites h c) b)
-      exact_command k (If place e b other) = (exact_list k (If place e b other), exact_block k b, exact_else (k + block_sites h b) other)
-      exact_command k (TryThen c place a b) = (exact_list k (TryThen c place a b), exact_block (k + simple_sites h c) a, exact_block (k + simple_sites h c + block_sites h a) b)
+      exact_command k (Try c place b) = (exact_list k (Try c place b), exact_block (k + length (simple_sites h c)) b)
+      exact_command k (If place e b other) = (exact_list k (If place e b other), exact_block k b, exact_else (k + length (block_sites h b)) other)
+      exact_command k (TryThen c place a b) = (exact_list k (TryThen c place a b), exact_block (k + length (simple_sites h c)) a, exact_block (k + length (simple_sites h c) + length (block_sites h a)) b)
       exact_command k (Case place e arms) = (exact_list k (Case place e arms), exact_arms k arms)
 
       exact_arms : (k : ℕ) (arms : Arms) → ExactArms w After (filled_arms w Before (arms_of ls h k arms))
       exact_arms k (Last b) = exact_block k b
-      exact_arms k (Arm constants b arms) = (exact_block k b, exact_arms (k + block_sites h b) arms)
+      exact_arms k (Arm constants b arms) = (exact_block k b, exact_arms (k + length (block_sites h b)) arms)
 
       exact_block : (k : ℕ) (b : CommandBlock) → ExactBlock w After (filled_block w Before (block_of ls h k b))
       exact_block k (Commands cs after) = exact_commands k cs
@@ -256,7 +256,7 @@ module _ (ls : Levels) (w : World) where
 
       exact_commands : (k : ℕ) (cs : CommandList) → ExactBlock w After (filled_block w Before (list_of ls h k cs))
       exact_commands k NoCommand = tt
-      exact_commands k (AndCommand c cs) = (exact_command k c, exact_commands (k + command_sites h c) cs)
+      exact_commands k (AndCommand c cs) = (exact_command k c, exact_commands (k + length (command_sites h c)) cs)
 
   module _ (es : List declared_entity.Entity) (same : root w ≡ length es) where
     bounded : 0 < root w → (name : List ℕ) → entity_number es name < root w
@@ -265,8 +265,8 @@ module _ (ls : Levels) (w : World) where
     mutual
       exact_state : (k n p : ℕ) (t : StateTree) → n + states_in t ≤ root w → ExactState w p (filled_state w p (state_of ls es k n t))
       exact_state k n p (StateOf place name kind body children) within =
-          let h : Home = record { entities = es; kind = kind; children = children } in
-          let k' : ℕ = k + block_sites h body in
+          let h : Home = record { entities = es; name = name.name; kind = kind; children = children } in
+          let k' : ℕ = k + length (block_sites h body) in
           let g : Group = group_of ls es k' (n + 1) children in
           let own : n < root w = omega arith in
           let some : 0 < root w = omega arith in
@@ -281,7 +281,7 @@ module _ (ls : Levels) (w : World) where
       exact_group k n p (AndState t rest) within =
           let first : n + states_in t ≤ root w = omega arith in
           let later : (n + states_in t) + states_below rest ≤ root w = omega arith in
-          (exact_state k n p t first, exact_group (k + state_sites es t) (n + states_in t) p rest later)
+          (exact_state k n p t first, exact_group (k + length (state_sites es t)) (n + states_in t) p rest later)
 
     -- what hangs on the root's fall
     root_low : (k n : ℕ) (g : StateList) → n + states_below g ≤ root w → (x : ℕ) → root_touches w (group_of ls es k n g) x ≡ true → x < root w

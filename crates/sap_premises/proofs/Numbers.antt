@@ -13,7 +13,7 @@ use Rattle.sap_meaning.specs.Touches.{among}
 use Rattle.sap_meaning.specs.Fine.{size, inside, number_of}
 use Rattle.sap_meaning.proofs.Bools.{and_both, or_left, or_right, or_of, same_number, eq_self}
 use Rattle.sap_resolve.specs.Worlds.{states_in, states_below, group_length, is_dynamic_kind}
-use Rattle.sap_resolve.specs.Sites.{Home, block_sites, state_sites}
+use Rattle.sap_shape.specs.Sites.{Home, block_sites, state_sites}
 use Rattle.sap_resolve.specs.Resolve.{state_of, group_of}
 use Rattle.sap_resolve.specs.Terms.{entity_number}
 use Rattle.sap_premises.proofs.Places.{Laid, LaidState, laid_first, laid_rest, laid_below, laid_entity, laid_name, laid_named, laid_within, name_at}
@@ -21,7 +21,7 @@ use Rattle.sap_premises.proofs.Lookups.{same_name, name_is}
 
 pub size_of : (ls : Levels) (es : List declared_entity.Entity) (k x : ℕ) (g : StateList) → size (group_of ls es k x g) ≡ group_length g
 size_of ls es k x NoState = refl
-size_of ls es k x (AndState s rest) = let h = size_of ls es (k + state_sites es s) (x + states_in s) rest in omega arith
+size_of ls es k x (AndState s rest) = let h = size_of ls es (k + length (state_sites es s)) (x + states_in s) rest in omega arith
 
 pub number_of_state : (ls : Levels) (es : List declared_entity.Entity) (k x : ℕ) (s : StateTree) → number_of (state_of ls es k x s) ≡ x
 number_of_state ls es k x (StateOf place name kind body children) = refl
@@ -41,10 +41,10 @@ module _ (ls : Levels) (es : List declared_entity.Entity) (w : World) where
   inside_of k n x NoState laid y h = cc
   inside_of k n x (AndState (StateOf p name kind body children) rest) laid y h =
       let s : StateTree = StateOf p name kind body children in
-      let home : Home = record { entities = es; kind = kind; children = children } in
+      let home : Home = record { entities = es; name = name.name; kind = kind; children = children } in
       let mine : LaidState ls es w n x s = laid_first ls es w n x s rest laid in
-      let here : Group = group_of ls es (k + block_sites home body) (x + 1) children in
-      let later : Group = group_of ls es (k + state_sites es s) (x + states_in s) rest in
+      let here : Group = group_of ls es (k + length (block_sites home body)) (x + 1) children in
+      let later : Group = group_of ls es (k + length (state_sites es s)) (x + states_in s) rest in
       elim (or_of (nat_eq y x) (inside here y || inside later y) h) [
         | inl e ↦
             let i : y ≡ x = same_number y x e in
@@ -59,7 +59,7 @@ module _ (ls : Levels) (es : List declared_entity.Entity) (w : World) where
             })
         | inr e ↦ elim (or_of (inside here y) (inside later y) e) [
           | inl i ↦
-              let r : Inside (x + 1) children y = inside_of (k + block_sites home body) 0 (x + 1) children (laid_below ls es w n x p name kind body children mine) y i in
+              let r : Inside (x + 1) children y = inside_of (k + length (block_sites home body)) 0 (x + 1) children (laid_below ls es w n x p name kind body children mine) y i in
               let f = r.from in
               let t = r.to in
               record {
@@ -70,7 +70,7 @@ module _ (ls : Levels) (es : List declared_entity.Entity) (w : World) where
                     (or_right (bytes_eq name.name (name_at es y)) (is_in_group children (name_at es y)) r.name);
               }
           | inr i ↦
-              let r : Inside (x + states_in s) rest y = inside_of (k + state_sites es s) (suc n) (x + states_in s) rest (laid_rest ls es w n x s rest laid) y i in
+              let r : Inside (x + states_in s) rest y = inside_of (k + length (state_sites es s)) (suc n) (x + states_in s) rest (laid_rest ls es w n x s rest laid) y i in
               let f = r.from in
               let t = r.to in
               record {
@@ -89,14 +89,14 @@ module _ (ls : Levels) (es : List declared_entity.Entity) (w : World) where
   among_of numbered k n x (AndState (StateOf p name kind body children) rest) laid called h =
       let s : StateTree = StateOf p name kind body children in
       let mine : LaidState ls es w n x s = laid_first ls es w n x s rest laid in
-      let later : Group = group_of ls es (k + state_sites es s) (x + states_in s) rest in
+      let later : Group = group_of ls es (k + length (state_sites es s)) (x + states_in s) rest in
       elim (or_of (bytes_eq name.name called) (is_among rest called) h) [
         | inl e ↦
             let i : name_at es x ≡ called = laid_name ls es w n x p name kind body children mine ∙ name_is name.name called e in
             let j : entity_number es called ≡ x = sym (ap (λ a. entity_number es a) i) ∙ numbered x (laid_named ls es w n x p name kind body children mine) in
             or_left (nat_eq (entity_number es called) x) (among later (entity_number es called)) (rw j (eq_self x))
         | inr e ↦ or_right (nat_eq (entity_number es called) x) (among later (entity_number es called))
-            (among_of numbered (k + state_sites es s) (suc n) (x + states_in s) rest (laid_rest ls es w n x s rest laid) called e)
+            (among_of numbered (k + length (state_sites es s)) (suc n) (x + states_in s) rest (laid_rest ls es w n x s rest laid) called e)
       ]
 
   module _ (n x : ℕ) (p : Place) (name : Mention) (kind : Kind) (body : CommandBlock) (children : StateList)

@@ -1,5 +1,5 @@
 -- Where no path writes a memory twice, no memory is written after it was written, with numbers for names.
-use Rattle.std.proofs.Common.{◌≡◌, ℕ, ◌+◌, Option, Bool, true, false, ◌&&◌, ◌||◌, List, [], ◌∷◌, ◌++◌, if◌then◌else◌, refl, ap, ◌∙◌, subst, nat_eq, inl, inr, ◌⊎◌, bytes_eq}
+use Rattle.std.proofs.Common.{◌≡◌, ℕ, ◌+◌, Option, Bool, true, false, ◌&&◌, ◌||◌, List, [], ◌∷◌, ◌++◌, if◌then◌else◌, refl, ap, ◌∙◌, subst, nat_eq, inl, inr, bytes_eq, length}
 use Rattle.sap_tree.specs.declared.name.Mention.{Mention}
 use Rattle.sap_tree.specs.declared.place.Place.{Place}
 use Rattle.sap_tree.specs.Syntax.{SimpleCommand, Assign, Write, SetTag, SetCellTag, Goto, Fall, Command, Do, Try, If, TryThen, Case, Arms, Last, Arm, CommandBlock, Commands, ElseBlock, NoElse, Else, CommandList, NoCommand, AndCommand, StateTree, StateOf, StateList, NoState, AndState}
@@ -18,7 +18,7 @@ use Rattle.sap_meaning.specs.Program.{World, Group}
 use Rattle.sap_meaning.specs.Fine.{step_writes, step_reaching, reaching, arms_reaching, block_reaching, state_reaches, group_reaches, OnceStep, Once, OnceArms, OnceBlock, OnceState, OnceGroup}
 use Rattle.sap_meaning.proofs.Bools.{or_left, or_right, or_of, or_false, not_true, same_number}
 use Rattle.sap_resolve.specs.Worlds.{states_in}
-use Rattle.sap_resolve.specs.Sites.{Home, simple_sites, block_sites, command_sites, state_sites}
+use Rattle.sap_shape.specs.Sites.{Home, simple_sites, block_sites, command_sites, state_sites}
 use Rattle.sap_resolve.specs.Resolve.{site_number, step_of, command_of, arms_of, block_of, else_of, list_of, state_of, group_of}
 use Rattle.sap_resolve.specs.Terms.{entity_number}
 use Rattle.sap_resolve.proofs.Lookup.{AllMatch}
@@ -100,21 +100,21 @@ module _ (ls : Levels) (levels : List (List ℕ)) (h : Home) (w : World) (match 
           → reaching falls (command_of ls h k c) m ≡ true → past c p (name_at h.entities m) ≡ true
       command_written k (Do c) f o m p i = open_written (site_number h k c) c f o m p i
       command_written k (Try c place b) f o m p i =
-          elim (or_of (step_reaching falls (step_of ls h (site_number h k c) c) m) (block_reaching falls (block_of ls h (k + simple_sites h c) b) m) i) [
+          elim (or_of (step_reaching falls (step_of ls h (site_number h k c) c) m) (block_reaching falls (block_of ls h (k + length (simple_sites h c)) b) m) i) [
             | inl j ↦ or_left _ _
                 (open_written (site_number h k c) c (nil_left _ _ f) (nil_left _ _ o) m p j)
             | inr j ↦ or_right _ _
-                (block_written (k + simple_sites h c) b (nil_right _ _ f) (nil_right _ _ o) m (past_simple c p) j)
+                (block_written (k + length (simple_sites h c)) b (nil_right _ _ f) (nil_right _ _ o) m (past_simple c p) j)
           ]
       command_written k (If place e b other) f o m p i =
-          elim (or_of (block_reaching falls (block_of ls h k b) m) (block_reaching falls (else_of ls h (k + block_sites h b) other) m) i) [
+          elim (or_of (block_reaching falls (block_of ls h k b) m) (block_reaching falls (else_of ls h (k + length (block_sites h b)) other) m) i) [
             | inl j ↦ or_left _ _ (block_written k b (if_first levels What place e b other f) (nil_left _ _ o) m p j)
-            | inr j ↦ or_right _ _ (else_written (k + block_sites h b) other (if_other levels What place e b other f) (nil_right _ _ o) m p j)
+            | inr j ↦ or_right _ _ (else_written (k + length (block_sites h b)) other (if_other levels What place e b other f) (nil_right _ _ o) m p j)
           ]
       command_written k (TryThen c place a b) f o m p i =
           let q = past_simple c p in
-          let x = k + simple_sites h c in
-          let y = x + block_sites h a in
+          let x = k + length (simple_sites h c) in
+          let y = x + length (block_sites h a) in
           let opened = then_parts c place (open_block_faults a ++ open_block_faults b) o in
           elim (or_of (step_reaching falls (step_of ls h (site_number h k c) c) m) (block_reaching falls (block_of ls h x a) m || block_reaching falls (block_of ls h y b) m) i) [
             | inl j ↦ or_left _ _ (past_body (name_at h.entities m) a q (open_written (site_number h k c) c (nil_left _ _ (nil_left _ _ f)) opened.0 m p j))
@@ -129,9 +129,9 @@ module _ (ls : Levels) (levels : List (List ℕ)) (h : Home) (w : World) (match 
           → arms_reaching falls (arms_of ls h k arms) m ≡ true → past_arms arms p (name_at h.entities m) ≡ true
       arms_written asked k (Last b) f o m p i = block_written k b f o m p i
       arms_written asked k (Arm constants b arms) f o m p i =
-          elim (or_of (block_reaching falls (block_of ls h k b) m) (arms_reaching falls (arms_of ls h (k + block_sites h b) arms) m) i) [
+          elim (or_of (block_reaching falls (block_of ls h k b) m) (arms_reaching falls (arms_of ls h (k + length (block_sites h b)) arms) m) i) [
             | inl j ↦ or_left _ _ (block_written k b (nil_right _ _ (nil_left _ _ f)) (nil_left _ _ o) m p j)
-            | inr j ↦ or_right _ _ (arms_written asked (k + block_sites h b) arms (nil_right _ _ f) (nil_right _ _ o) m p j)
+            | inr j ↦ or_right _ _ (arms_written asked (k + length (block_sites h b)) arms (nil_right _ _ f) (nil_right _ _ o) m p j)
           ]
 
       block_written : (k : ℕ) (b : CommandBlock) → Fits b → open_block_faults b ≡ [] → (m : ℕ) (p : Written)
@@ -147,10 +147,10 @@ module _ (ls : Levels) (levels : List (List ℕ)) (h : Home) (w : World) (match 
           → block_reaching falls (list_of ls h k cs) m ≡ true → past_list cs p (name_at h.entities m) ≡ true
       list_written k NoCommand f o m p i = cc
       list_written k (AndCommand c cs) f o m p i =
-          elim (or_of (reaching falls (command_of ls h k c) m) (block_reaching falls (list_of ls h (k + command_sites h c) cs) m) i) [
+          elim (or_of (reaching falls (command_of ls h k c) m) (block_reaching falls (list_of ls h (k + length (command_sites h c)) cs) m) i) [
             | inl j ↦ past_commands (name_at h.entities m) cs (past c p)
                 (command_written k c (nil_left _ _ f) (nil_left _ _ o) m p j)
-            | inr j ↦ list_written (k + command_sites h c) cs (nil_right _ _ f) (nil_right _ _ o) m (past c p) j
+            | inr j ↦ list_written (k + length (command_sites h c)) cs (nil_right _ _ f) (nil_right _ _ o) m (past c p) j
           ]
 
     -- what was written before is reached no more, unless a fall leads to it
@@ -180,20 +180,20 @@ module _ (ls : Levels) (levels : List (List ℕ)) (h : Home) (w : World) (match 
             → Safe (entering c p (name_at h.entities m)) → reaching falls (command_of ls h k c) m ≡ false
         command_unreached k (Do c) f p i s d = step_unreached (site_number h k c) c f p i s d
         command_unreached k (Try c place b) f p i s d =
-            or_false (step_reaching falls (step_of ls h (site_number h k c) c) m) (block_reaching falls (block_of ls h (k + simple_sites h c) b) m)
+            or_false (step_reaching falls (step_of ls h (site_number h k c) c) m) (block_reaching falls (block_of ls h (k + length (simple_sites h c)) b) m)
             (step_unreached (site_number h k c) c (nil_left _ _ f) p i (nil_left _ _ s)
             (λ j. d (or_left _ _ j)))
-            (body_unreached (k + simple_sites h c) b (nil_right _ _ f) (past_simple c p) (past_step (name_at h.entities m) c p i)
+            (body_unreached (k + length (simple_sites h c)) b (nil_right _ _ f) (past_simple c p) (past_step (name_at h.entities m) c p i)
             (nil_right _ _ s) (λ j. d (or_right _ _ j)))
         command_unreached k (If place e b other) f p i s d =
-            or_false (block_reaching falls (block_of ls h k b) m) (block_reaching falls (else_of ls h (k + block_sites h b) other) m)
+            or_false (block_reaching falls (block_of ls h k b) m) (block_reaching falls (else_of ls h (k + length (block_sites h b)) other) m)
             (body_unreached k b (if_first levels What place e b other f) p i (nil_left _ _ s) (λ j. d (or_left _ _ j)))
-            (else_unreached (k + block_sites h b) other (if_other levels What place e b other f) p i (nil_right _ _ s) (λ j. d (or_right _ _ j)))
+            (else_unreached (k + length (block_sites h b)) other (if_other levels What place e b other f) p i (nil_right _ _ s) (λ j. d (or_right _ _ j)))
         command_unreached k (TryThen c place a b) f p i s d =
             let q = past_simple c p in
             let behind = past_step (name_at h.entities m) c p i in
-            let x = k + simple_sites h c in
-            let y = x + block_sites h a in
+            let x = k + length (simple_sites h c) in
+            let y = x + length (block_sites h a) in
             or_false (step_reaching falls (step_of ls h (site_number h k c) c) m) (block_reaching falls (block_of ls h x a) m || block_reaching falls (block_of ls h y b) m)
             (step_unreached (site_number h k c) c (nil_left _ _ (nil_left _ _ f)) p i (nil_left _ _ (nil_left _ _ s)) (λ j. d (or_left _ _ j)))
             (or_false (block_reaching falls (block_of ls h x a) m) (block_reaching falls (block_of ls h y b) m)
@@ -205,9 +205,9 @@ module _ (ls : Levels) (levels : List (List ℕ)) (h : Home) (w : World) (match 
             → second_arms arms p ≡ [] → Safe (entering_arms arms p (name_at h.entities m)) → arms_reaching falls (arms_of ls h k arms) m ≡ false
         arms_unreached asked k (Last b) f p i s d = body_unreached k b f p i s d
         arms_unreached asked k (Arm constants b arms) f p i s d =
-            or_false (block_reaching falls (block_of ls h k b) m) (arms_reaching falls (arms_of ls h (k + block_sites h b) arms) m)
+            or_false (block_reaching falls (block_of ls h k b) m) (arms_reaching falls (arms_of ls h (k + length (block_sites h b)) arms) m)
             (body_unreached k b (nil_right _ _ (nil_left _ _ f)) p i (nil_left _ _ s) (λ j. d (or_left _ _ j)))
-            (arms_unreached asked (k + block_sites h b) arms (nil_right _ _ f) p i (nil_right _ _ s) (λ j. d (or_right _ _ j)))
+            (arms_unreached asked (k + length (block_sites h b)) arms (nil_right _ _ f) p i (nil_right _ _ s) (λ j. d (or_right _ _ j)))
 
         pub body_unreached : (k : ℕ) (b : CommandBlock) → Fits b → (p : Written) → p (name_at h.entities m) ≡ true → second_block b p ≡ []
             → Safe (entering_block b p (name_at h.entities m)) → block_reaching falls (block_of ls h k b) m ≡ false
@@ -222,10 +222,10 @@ module _ (ls : Levels) (levels : List (List ℕ)) (h : Home) (w : World) (match 
             → second_list cs p ≡ [] → Safe (entering_list cs p (name_at h.entities m)) → block_reaching falls (list_of ls h k cs) m ≡ false
         list_unreached k NoCommand f p i s d = refl
         list_unreached k (AndCommand c cs) f p i s d =
-            or_false (reaching falls (command_of ls h k c) m) (block_reaching falls (list_of ls h (k + command_sites h c) cs) m)
+            or_false (reaching falls (command_of ls h k c) m) (block_reaching falls (list_of ls h (k + length (command_sites h c)) cs) m)
             (command_unreached k c (nil_left _ _ f) p i (nil_left _ _ s)
             (λ j. d (or_left _ _ j)))
-            (list_unreached (k + command_sites h c) cs (nil_right _ _ f) (past c p) (past_command (name_at h.entities m) c p i)
+            (list_unreached (k + length (command_sites h c)) cs (nil_right _ _ f) (past c p) (past_command (name_at h.entities m) c p i)
             (nil_right _ _ s) (λ j. d (or_right _ _ j)))
 
   and_if : (a b : Bool) → (a ≡ true → b ≡ false) → (a && b) ≡ false
@@ -252,11 +252,11 @@ module _ (ls : Levels) (levels : List (List ℕ)) (h : Home) (w : World) (match 
       once_command k (Do c) f o p s d i = once_step (site_number h k c) c i
       once_command k (Try c place b) f o p s d i = (
         once_step (site_number h k c) c (λ j. i (or_left _ _ j)),
-        once_body (k + simple_sites h c) b (nil_right _ _ f)
+        once_body (k + length (simple_sites h c)) b (nil_right _ _ f)
             (shut_handler c place b o) (past_simple c p) (nil_right _ _ s)
             (λ m j. d m (or_right _ _ j)) (λ j. i (or_right _ _ j)),
-        λ m. and_if (step_writes (step_of ls h (site_number h k c) c) m) (block_reaching (group_reaches g) (block_of ls h (k + simple_sites h c) b) m) (λ w.
-            body_unreached (group_reaches g) m (k + simple_sites h c) b (nil_right _ _ f) (past_simple c p)
+        λ m. and_if (step_writes (step_of ls h (site_number h k c) c) m) (block_reaching (group_reaches g) (block_of ls h (k + length (simple_sites h c)) b) m) (λ w.
+            body_unreached (group_reaches g) m (k + length (simple_sites h c)) b (nil_right _ _ f) (past_simple c p)
             (step_written (site_number h k c) c (nil_left _ _ f) m p w)
             (nil_right _ _ s)
             (λ j. d m (or_right _ _ j))),
@@ -264,13 +264,13 @@ module _ (ls : Levels) (levels : List (List ℕ)) (h : Home) (w : World) (match 
       once_command k (If place e b other) f o p s d i = (
         once_body k b (if_first levels What place e b other f)
             (shut_branch place e b other o) p (nil_left _ _ s) (λ m j. d m (or_left _ _ j)) (λ j. i (or_left _ _ j)),
-        once_else (k + block_sites h b) other (if_other levels What place e b other f)
+        once_else (k + length (block_sites h b)) other (if_other levels What place e b other f)
             (shut_other place e b other o) p (nil_right _ _ s) (λ m j. d m (or_right _ _ j)) (λ j. i (or_right _ _ j)),
       )
       once_command k (TryThen c place a b) f o p s d i =
           let q = past_simple c p in
-          let x = k + simple_sites h c in
-          let y = x + block_sites h a in
+          let x = k + length (simple_sites h c) in
+          let y = x + length (block_sites h a) in
           let first : simple_faults levels What c ≡ [] = nil_left _ _ (nil_left _ _ f) in
           let accepted : Fits a = nil_right _ _ (nil_left _ _ f) in
           let refused : Fits b = nil_right _ _ f in
@@ -298,7 +298,7 @@ module _ (ls : Levels) (levels : List (List ℕ)) (h : Home) (w : World) (match 
       once_arms asked k (Arm constants b arms) f o p s d i = (
         once_body k b (nil_right _ _ (nil_left _ _ f))
             (shut_arm constants b arms o) p (nil_left _ _ s) (λ m j. d m (or_left _ _ j)) (λ j. i (or_left _ _ j)),
-        once_arms asked (k + block_sites h b) arms (nil_right _ _ f)
+        once_arms asked (k + length (block_sites h b)) arms (nil_right _ _ f)
             (shut_later constants b arms o) p (nil_right _ _ s) (λ m j. d m (or_right _ _ j)) (λ j. i (or_right _ _ j)),
       )
 
@@ -328,11 +328,11 @@ module _ (ls : Levels) (levels : List (List ℕ)) (h : Home) (w : World) (match 
           let later = nil_right _ _ s in (
             once_command k c first (inl opened) p (nil_left _ _ s)
                 (λ m j. d m (or_left _ _ j)) (λ j. i (or_left _ _ j)),
-            once_list (k + command_sites h c) (AndCommand e es) rest
+            once_list (k + length (command_sites h c)) (AndCommand e es) rest
                 (shut_rest c cs o) (past c p) later (λ m j. d m (or_right _ _ j)) (λ j. i (or_right _ _ j)),
-            λ m. and_if (reaching (group_reaches g) (command_of ls h k c) m) (block_reaching (group_reaches g) (list_of ls h (k + command_sites h c) cs) m)
+            λ m. and_if (reaching (group_reaches g) (command_of ls h k c) m) (block_reaching (group_reaches g) (list_of ls h (k + length (command_sites h c)) cs) m)
                 (λ w.
-                list_unreached (group_reaches g) m (k + command_sites h c) cs rest (past c p) (command_written (group_reaches g) k c first opened m p w) later
+                list_unreached (group_reaches g) m (k + length (command_sites h c)) cs rest (past c p) (command_written (group_reaches g) k c first opened m p w) later
                 (λ j. d m (or_right _ _ j))),
           )
 
@@ -397,21 +397,21 @@ module _ (ls : Levels) (levels : List (List ℕ)) (le : ℕ → ℕ → Bool) (e
     state_unreached : (k x : ℕ) (s : StateTree) → state_faults levels le (what_is es) s ≡ [] → (p : Written) → p (name_at es m) ≡ true → second_state s p ≡ []
         → state_reaches (state_of ls es k x s) m ≡ false
     state_unreached k x (StateOf place name kind body children) f p i s =
-        let h : Home = record { entities = es; kind = kind; children = children } in
-        let g : Group = group_of ls es (k + block_sites h body) (x + 1) children in
+        let h : Home = record { entities = es; name = name.name; kind = kind; children = children } in
+        let g : Group = group_of ls es (k + length (block_sites h body)) (x + 1) children in
         body_unreached ls levels h w match (group_reaches g) m k body
         (body_fits levels (what_is es) le place name kind body children f)
         p i (once_within body children p s)
-        (λ j. group_unreached (k + block_sites h body) (x + 1) children (nil_right _ _ f)
+        (λ j. group_unreached (k + length (block_sites h body)) (x + 1) children (nil_right _ _ f)
         (entering_block body p) j (once_down body children p s (body_falls (name_at es m) body p j)))
 
     pub group_unreached : (k x : ℕ) (g : StateList) → states_faults levels le (what_is es) g ≡ [] → (p : Written) → p (name_at es m) ≡ true
         → second_states g p ≡ [] → group_reaches (group_of ls es k x g) m ≡ false
     group_unreached k x NoState f p i s = refl
     group_unreached k x (AndState t rest) f p i s =
-        or_false (state_reaches (state_of ls es k x t) m) (group_reaches (group_of ls es (k + state_sites es t) (x + states_in t) rest) m)
+        or_false (state_reaches (state_of ls es k x t) m) (group_reaches (group_of ls es (k + length (state_sites es t)) (x + states_in t) rest) m)
         (state_unreached k x t (nil_left _ _ f) p i (nil_left _ _ s))
-        (group_unreached (k + state_sites es t) (x + states_in t) rest (nil_right _ _ f) p i (nil_right _ _ s))
+        (group_unreached (k + length (state_sites es t)) (x + states_in t) rest (nil_right _ _ f) p i (nil_right _ _ s))
 
 -- Where no path writes a memory twice, no body that a path comes to writes one after it was written.
 module _ (ls : Levels) (levels : List (List ℕ)) (le : ℕ → ℕ → Bool) (es : List Entity) (w : World) (match : AllMatch es w.entities) where
@@ -419,15 +419,15 @@ module _ (ls : Levels) (levels : List (List ℕ)) (le : ℕ → ℕ → Bool) (e
     once_state : (k x : ℕ) (group : StateList) (above : List (List ℕ)) (s : StateTree) → state_faults levels le (what_is es) s ≡ [] → state_shape es group above s ≡ []
         → (p : Written) → second_state s p ≡ [] → OnceState (state_of ls es k x s)
     once_state k x group above (StateOf place name kind body children) f s p once =
-        let h : Home = record { entities = es; kind = kind; children = children } in
-        let g : Group = group_of ls es (k + block_sites h body) (x + 1) children in
+        let h : Home = record { entities = es; name = name.name; kind = kind; children = children } in
+        let g : Group = group_of ls es (k + length (block_sites h body)) (x + 1) children in
         let fitting = below_fits levels (what_is es) le place name kind body children f in
         let closing : closing_faults body ≡ [] = nil_left _ _ (nil_left _ _ s) in
         once_body ls levels h w match g (OnceGroup g) k body (body_fits levels (what_is es) le place name kind body children f) (inr closing) p
         (once_within body children p once)
-        (λ m j. group_unreached ls levels le es w match m (k + block_sites h body) (x + 1) children fitting (entering_block body p) j
+        (λ m j. group_unreached ls levels le es w match m (k + length (block_sites h body)) (x + 1) children fitting (entering_block body p) j
         (once_down body children p once (body_falls (name_at es m) body p j)))
-        (λ i. once_group (k + block_sites h body) (x + 1) children (name.name ∷ above) children fitting (nil_right _ _ s) (entering_block body p)
+        (λ i. once_group (k + length (block_sites h body)) (x + 1) children (name.name ∷ above) children fitting (nil_right _ _ s) (entering_block body p)
         (once_down body children p once i))
 
     pub once_group : (k x : ℕ) (group : StateList) (above : List (List ℕ)) (g : StateList) → states_faults levels le (what_is es) g ≡ []
@@ -436,6 +436,6 @@ module _ (ls : Levels) (levels : List (List ℕ)) (le : ℕ → ℕ → Bool) (e
     once_group k x group above (AndState t rest) f s p once = (
       once_state k x group above t (nil_left _ _ f)
           (nil_left _ _ s) p (nil_left _ _ once),
-      once_group (k + state_sites es t) (x + states_in t) group above rest (nil_right _ _ f)
+      once_group (k + length (state_sites es t)) (x + states_in t) group above rest (nil_right _ _ f)
           (nil_right _ _ s) p (nil_right _ _ once),
     )

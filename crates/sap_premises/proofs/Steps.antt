@@ -1,6 +1,6 @@
 -- What E11, E12, E16 and E17 keep out of a body: targets of another group, a fall with nothing to fall into, retagging of what is dynamic, of the state and
 -- of those above and below it.
-use Rattle.std.proofs.Common.{◌≡◌, ℕ, ◌+◌, ◌<◌, ◌||◌, Option, Bool, true, false, not, List, [], ◌∷◌, ◌++◌, refl, ap, ◌∙◌, subst, arith, nat_eq}
+use Rattle.std.proofs.Common.{◌≡◌, ℕ, ◌+◌, ◌<◌, ◌||◌, Option, Bool, true, false, not, List, [], ◌∷◌, ◌++◌, refl, ap, ◌∙◌, subst, arith, nat_eq, length}
 use Rattle.sap_tree.specs.declared.place.Place.{Place}
 use Rattle.sap_tree.specs.Syntax.{SimpleCommand, Assign, Write, SetTag, SetCellTag, Goto, Fall, Command, Do, Try, If, TryThen, Case, Arms, Last, Arm, CommandBlock, Commands, ElseBlock, NoElse, Else, CommandList, NoCommand, AndCommand, StateTree, StateOf, StateList, NoState, AndState}
 use Rattle.sap_lattice.specs.Levels.{Levels}
@@ -11,14 +11,13 @@ use Rattle.sap_names.specs.Widths.{own}
 use Rattle.sap_names.specs.declared.kind.Use.TheVariants.{Indexed as indexed, Retagged as retagged}
 use Rattle.sap_names.specs.NameFaults.{fault_if, simple_faults, command_faults, block_faults, arms_faults, else_faults, commands_faults, state_faults, states_faults}
 use Rattle.sap_shape.specs.Closing.{transfer_faults, closing_faults}
-use Rattle.sap_shape.specs.Sites.{is_dynamic}
+use Rattle.sap_shape.specs.Sites.{is_dynamic, Home, simple_sites, block_sites, command_sites, state_sites}
 use Rattle.sap_shape.specs.ShapeFaults.{Body, is_among, is_in, is_leaf, is_comparable, simple_shape, then_shape, command_shape, block_shape, arms_shape, else_shape, list_shape, state_shape, states_shape}
 use Rattle.sap_meaning.specs.Program.{World, Group}
 use Rattle.sap_meaning.specs.Touches.{among}
 use Rattle.sap_meaning.specs.Fine.{size, FineStep, FineCommand, FineArms, FineBlock, step_retags, retags, arms_retag, block_retags, state_retags, group_retags}
 use Rattle.sap_meaning.proofs.Bools.{or_left, or_right, or_false, not_true, same_number}
 use Rattle.sap_resolve.specs.Worlds.{states_in}
-use Rattle.sap_resolve.specs.Sites.{Home, simple_sites, block_sites, command_sites, state_sites}
 use Rattle.sap_resolve.specs.Resolve.{site_number, step_of, command_of, arms_of, block_of, else_of, list_of, state_of, group_of}
 use Rattle.sap_resolve.specs.Terms.{entity_number}
 use Rattle.sap_resolve.specs.Named.{NamedStep, Named, NamedArms, NamedBlock}
@@ -83,16 +82,16 @@ module _ (ls : Levels) (levels : List (List ℕ)) (h : Home) (w : World) (match 
             → retags (command_of ls h k c) y ≡ false
         command_unmarked k (Do c) f s = step_unmarked (site_number h k c) c f s
         command_unmarked k (Try c place b) f s =
-            or_false (step_retags (step_of ls h (site_number h k c) c) y) (block_retags (block_of ls h (k + simple_sites h c) b) y)
+            or_false (step_retags (step_of ls h (site_number h k c) c) y) (block_retags (block_of ls h (k + length (simple_sites h c)) b) y)
             (step_unmarked (site_number h k c) c (nil_left _ _ f) (try_first c place b s))
-            (block_unmarked (k + simple_sites h c) b (nil_right _ _ f) (try_handler c place b s))
+            (block_unmarked (k + length (simple_sites h c)) b (nil_right _ _ f) (try_handler c place b s))
         command_unmarked k (If place e b other) f s =
-            or_false (block_retags (block_of ls h k b) y) (block_retags (else_of ls h (k + block_sites h b) other) y)
+            or_false (block_retags (block_of ls h k b) y) (block_retags (else_of ls h (k + length (block_sites h b)) other) y)
             (block_unmarked k b (if_first levels What place e b other f) (nil_left _ _ s))
-            (else_unmarked (k + block_sites h b) other (if_other levels What place e b other f) (nil_right _ _ s))
+            (else_unmarked (k + length (block_sites h b)) other (if_other levels What place e b other f) (nil_right _ _ s))
         command_unmarked k (TryThen c place a b) f s =
-            let i = k + simple_sites h c in
-            let j = i + block_sites h a in
+            let i = k + length (simple_sites h c) in
+            let j = i + length (block_sites h a) in
             or_false (step_retags (step_of ls h (site_number h k c) c) y) (block_retags (block_of ls h i a) y || block_retags (block_of ls h j b) y)
             (then_unmarked (site_number h k c) c place (nil_left _ _ (nil_left _ _ f)) (nil_left _ _ (nil_left _ _ s)))
             (or_false (block_retags (block_of ls h i a) y) (block_retags (block_of ls h j b) y)
@@ -104,9 +103,9 @@ module _ (ls : Levels) (levels : List (List ℕ)) (h : Home) (w : World) (match 
             → arms_retag (arms_of ls h k arms) y ≡ false
         arms_unmarked asked k (Last b) f s = block_unmarked k b f s
         arms_unmarked asked k (Arm constants b arms) f s =
-            or_false (block_retags (block_of ls h k b) y) (arms_retag (arms_of ls h (k + block_sites h b) arms) y)
+            or_false (block_retags (block_of ls h k b) y) (arms_retag (arms_of ls h (k + length (block_sites h b)) arms) y)
             (block_unmarked k b (nil_right _ _ (nil_left _ _ f)) (nil_left _ _ s))
-            (arms_unmarked asked (k + block_sites h b) arms (nil_right _ _ f) (nil_right _ _ s))
+            (arms_unmarked asked (k + length (block_sites h b)) arms (nil_right _ _ f) (nil_right _ _ s))
 
         pub block_unmarked : (k : ℕ) (b : CommandBlock) → block_faults levels What b ≡ [] → block_shape h.entities at b ≡ []
             → block_retags (block_of ls h k b) y ≡ false
@@ -120,9 +119,9 @@ module _ (ls : Levels) (levels : List (List ℕ)) (h : Home) (w : World) (match 
             → block_retags (list_of ls h k cs) y ≡ false
         list_unmarked k NoCommand f s = refl
         list_unmarked k (AndCommand c cs) f s =
-            or_false (retags (command_of ls h k c) y) (block_retags (list_of ls h (k + command_sites h c) cs) y)
+            or_false (retags (command_of ls h k c) y) (block_retags (list_of ls h (k + length (command_sites h c)) cs) y)
             (command_unmarked k c (nil_left _ _ f) (nil_left _ _ s))
-            (list_unmarked (k + command_sites h c) cs (nil_right _ _ f) (nil_right _ _ s))
+            (list_unmarked (k + length (command_sites h c)) cs (nil_right _ _ f) (nil_right _ _ s))
 
     -- steps with names of fitting entities, among the states of a group
     module _ (q g : Group) (targets : (name : List ℕ) → is_among at.group name ≡ true → among q (entity_number h.entities name) ≡ true)
@@ -163,17 +162,17 @@ module _ (ls : Levels) (levels : List (List ℕ)) (h : Home) (w : World) (match 
         fine_command k (Do c) f s o i = fine_step (site_number h k c) c f s i
         fine_command k (Try c place b) f s o i = (
           fine_step (site_number h k c) c (nil_left _ _ f) (try_first c place b s) i.0,
-          fine_body (k + simple_sites h c) b (nil_right _ _ f) (try_handler c place b s) (shut_handler c place b o) i.1,
+          fine_body (k + length (simple_sites h c)) b (nil_right _ _ f) (try_handler c place b s) (shut_handler c place b o) i.1,
         )
         fine_command k (If place e b other) f s o i = (
           i.0,
           fine_body k b (if_first levels What place e b other f) (nil_left _ _ s) (shut_branch place e b other o) i.1,
-          fine_else (k + block_sites h b) other (if_other levels What place e b other f) (nil_right _ _ s) (shut_other place e b other o) i.2,
+          fine_else (k + length (block_sites h b)) other (if_other levels What place e b other f) (nil_right _ _ s) (shut_other place e b other o) i.2,
         )
         fine_command k (TryThen c place a b) f s o i = (
           fine_then (site_number h k c) c place (nil_left _ _ (nil_left _ _ f)) (nil_left _ _ (nil_left _ _ s)) (no_transfer c place a b o) i.0,
-          fine_body (k + simple_sites h c) a (nil_right _ _ (nil_left _ _ f)) (nil_right _ _ (nil_left _ _ s)) (shut_accepted c place a b o) i.1,
-          fine_body (k + simple_sites h c + block_sites h a) b (nil_right _ _ f) (nil_right _ _ s) (shut_refused c place a b o) i.2,
+          fine_body (k + length (simple_sites h c)) a (nil_right _ _ (nil_left _ _ f)) (nil_right _ _ (nil_left _ _ s)) (shut_accepted c place a b o) i.1,
+          fine_body (k + length (simple_sites h c) + length (block_sites h a)) b (nil_right _ _ f) (nil_right _ _ s) (shut_refused c place a b o) i.2,
         )
         fine_command k (Case place e arms) f s o i = (i.0, fine_arms (own What e) k arms (nil_right _ _ f) s (shut_arms place e arms o) i.1)
 
@@ -182,7 +181,7 @@ module _ (ls : Levels) (levels : List (List ℕ)) (h : Home) (w : World) (match 
         fine_arms asked k (Last b) f s o i = fine_body k b f s o i
         fine_arms asked k (Arm constants b arms) f s o i = (
           fine_body k b (nil_right _ _ (nil_left _ _ f)) (nil_left _ _ s) (shut_arm constants b arms o) i.0,
-          fine_arms asked (k + block_sites h b) arms (nil_right _ _ f) (nil_right _ _ s) (shut_later constants b arms o) i.1,
+          fine_arms asked (k + length (block_sites h b)) arms (nil_right _ _ f) (nil_right _ _ s) (shut_later constants b arms o) i.1,
         )
 
         pub fine_body : (k : ℕ) (b : CommandBlock) → block_faults levels What b ≡ [] → block_shape h.entities at b ≡ [] → Shut b → NamedBlock w (block_of ls h k b)
@@ -199,7 +198,7 @@ module _ (ls : Levels) (levels : List (List ℕ)) (h : Home) (w : World) (match 
         fine_list k NoCommand f s o i = tt
         fine_list k (AndCommand c cs) f s o i = (
           fine_command k c (nil_left _ _ f) (nil_left _ _ s) (shut_first c cs o) i.0,
-          fine_list (k + command_sites h c) cs (nil_right _ _ f) (nil_right _ _ s) (shut_rest c cs o) i.1,
+          fine_list (k + length (command_sites h c)) cs (nil_right _ _ f) (nil_right _ _ s) (shut_rest c cs o) i.1,
         )
 
 -- a state above is not retagged in the states below
@@ -208,19 +207,19 @@ module _ (ls : Levels) (levels : List (List ℕ)) (le : ℕ → ℕ → Bool) (e
     state_unmarked : (k x : ℕ) (group : StateList) (above : List (List ℕ)) (s : StateTree) → is_in above (name_at es y) ≡ true
         → state_faults levels le (what_is es) s ≡ [] → state_shape es group above s ≡ [] → state_retags (state_of ls es k x s) y ≡ false
     state_unmarked k x group above (StateOf place name kind body children) high f s =
-        let h : Home = record { entities = es; kind = kind; children = children } in
+        let h : Home = record { entities = es; name = name.name; kind = kind; children = children } in
         let at : Body = record { name = name.name; kind = kind; group = group; children = children; above = above } in
         let front : closing_faults body ++ block_shape es at body ≡ [] = nil_left _ _ s in
-        or_false (block_retags (block_of ls h k body) y) (group_retags (group_of ls es (k + block_sites h body) (x + 1) children) y)
+        or_false (block_retags (block_of ls h k body) y) (group_retags (group_of ls es (k + length (block_sites h body)) (x + 1) children) y)
         (block_unmarked ls levels h w match at y (or_left _ _ (or_right _ _ high)) k body (body_fits levels (what_is es) le place name kind body children f)
         (nil_right _ _ front))
-        (group_unmarked (k + block_sites h body) (x + 1) children (name.name ∷ above) children (or_right _ _ high)
+        (group_unmarked (k + length (block_sites h body)) (x + 1) children (name.name ∷ above) children (or_right _ _ high)
         (below_fits levels (what_is es) le place name kind body children f) (nil_right _ _ s))
 
     pub group_unmarked : (k x : ℕ) (group : StateList) (above : List (List ℕ)) (g : StateList) → is_in above (name_at es y) ≡ true
         → states_faults levels le (what_is es) g ≡ [] → states_shape es group above g ≡ [] → group_retags (group_of ls es k x g) y ≡ false
     group_unmarked k x group above NoState high f s = refl
     group_unmarked k x group above (AndState t rest) high f s =
-        or_false (state_retags (state_of ls es k x t) y) (group_retags (group_of ls es (k + state_sites es t) (x + states_in t) rest) y)
+        or_false (state_retags (state_of ls es k x t) y) (group_retags (group_of ls es (k + length (state_sites es t)) (x + states_in t) rest) y)
         (state_unmarked k x group above t high (nil_left _ _ f) (nil_left _ _ s))
-        (group_unmarked (k + state_sites es t) (x + states_in t) group above rest high (nil_right _ _ f) (nil_right _ _ s))
+        (group_unmarked (k + length (state_sites es t)) (x + states_in t) group above rest high (nil_right _ _ f) (nil_right _ _ s))

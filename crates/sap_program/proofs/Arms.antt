@@ -1,5 +1,5 @@
 -- The arms, their sites and their points of lists in code, from a place on.
-use Rattle.std.proofs.Common.{◌≡◌, ℕ, ◌+◌, ◌<◌, ◌≤◌, List, [], ◌∷◌, ◌++◌, append_assoc, append-nil, length, get_or, drop, refl, sym, ap, ◌∙◌, arith}
+use Rattle.std.proofs.Common.{◌≡◌, ℕ, ◌+◌, ◌<◌, ◌≤◌, List, [], ◌∷◌, ◌++◌, append_assoc, append-nil, length, get_or, drop, refl, sym, ap, ◌∙◌, arith, length-append}
 use Rattle.sap_tree.specs.declared.syntax.Arm.{Arm as ArmTree}
 use Rattle.sap_tree.specs.declared.syntax.Block.{Block}
 use Rattle.sap_tree.specs.declared.syntax.Cmd.{Cmd}
@@ -9,8 +9,9 @@ use Rattle.sap_lattice.specs.Levels.{Levels}
 use Rattle.sap_meaning.specs.Program.{Arms, Last, End}
 use Rattle.sap_meaning.specs.Program as program
 use Rattle.sap_resolve.specs.Resolve as resolve
-use Rattle.sap_resolve.specs.Sites as sites
-use Rattle.sap_resolve.specs.Sites.{Home}
+use Rattle.sap_shape.specs.Lists as shape_lists
+use Rattle.sap_shape.specs.Sites as sites
+use Rattle.sap_shape.specs.Sites.{Home}
 use Rattle.sap_program.specs.declared.program.Arm.{Arm}
 use Rattle.sap_program.specs.Views as views
 use Rattle.sap_program.specs.Lists.{list_from, list_sites, arms_from, arms_sites, numbers_of}
@@ -47,7 +48,7 @@ numbers_end es n made all l e =
 module _ (ls : Levels) (h : Home) where
   arms_from-more : (k : ℕ) (d : ArmTree) (rest : List ArmTree) (last : program.Block)
       → arms_from ls h k (d ∷ rest) last
-      ≡ program.Arm (resolve.numbers_of (trees.constants_of d)) (resolve.block_of ls h k (trees.arm_block_of d)) (arms_from ls h (k + sites.block_sites h (trees.arm_block_of d)) rest last)
+      ≡ program.Arm (resolve.numbers_of (trees.constants_of d)) (resolve.block_of ls h k (trees.arm_block_of d)) (arms_from ls h (k + length (sites.block_sites h (trees.arm_block_of d))) rest last)
   unfolding arms_from
   arms_from-more k d rest last = refl
 
@@ -55,12 +56,12 @@ module _ (ls : Levels) (h : Home) where
   unfolding arms_from
   arms_from-none k last = refl
 
-  arms_sites-more : (d : ArmTree) (rest : List ArmTree) → arms_sites h (d ∷ rest) ≡ sites.block_sites h (trees.arm_block_of d) + arms_sites h rest
-  unfolding arms_sites
-  arms_sites-more d rest = refl
+  arms_sites-more : (d : ArmTree) (rest : List ArmTree) → arms_sites h (d ∷ rest) ≡ length (sites.block_sites h (trees.arm_block_of d)) + arms_sites h rest
+  unfolding arms_sites shape_lists.arms_sites
+  arms_sites-more d rest = length-append (sites.block_sites h (trees.arm_block_of d)) (shape_lists.arms_sites h rest)
 
   arms_sites-none : arms_sites h [] ≡ 0
-  unfolding arms_sites
+  unfolding arms_sites shape_lists.arms_sites
   arms_sites-none = refl
 
   -- the commands of an arm, as the code sees them
@@ -68,7 +69,7 @@ module _ (ls : Levels) (h : Home) where
     pub arm_block : (k : ℕ) → list_from ls h k seen ≡ resolve.block_of ls h k (trees.arm_block_of d)
     arm_block k = ap (list_from ls h k) same ∙ sym (block_from ls h k d.block)
 
-    pub arm_sites : list_sites h seen ≡ sites.block_sites h (trees.arm_block_of d)
+    pub arm_sites : list_sites h seen ≡ length (sites.block_sites h (trees.arm_block_of d))
     arm_sites = ap (list_sites h) same ∙ sym (block_sites-is h d.block)
 
     module _ (arms : List ArmTree) (n k : ℕ) (l : n < length arms) (e : d ≡ get_or arms n d) where
@@ -77,7 +78,7 @@ module _ (ls : Levels) (h : Home) where
           ≡ program.Arm (resolve.numbers_of (trees.constants_of d)) (resolve.block_of ls h k (trees.arm_block_of d)) (arms_from ls h j (drop (n + 1) arms) last)
       arms_drop j last q =
           let here = resolve.block_of ls h k (trees.arm_block_of d) in
-          let to : k + sites.block_sites h (trees.arm_block_of d) ≡ j = ap (λ (i : ℕ). k + i) (sym arm_sites) ∙ sym q in
+          let to : k + length (sites.block_sites h (trees.arm_block_of d)) ≡ j = ap (λ (i : ℕ). k + i) (sym arm_sites) ∙ sym q in
           ap (λ (l : List ArmTree). arms_from ls h k l last) (item_drop arms n d l e) ∙ arms_from-more k d (drop (n + 1) arms) last
           ∙ ap (λ (i : ℕ). program.Arm (resolve.numbers_of (trees.constants_of d)) here (arms_from ls h i (drop (n + 1) arms) last)) to
 
@@ -138,22 +139,27 @@ module _ (ls : Levels) (h : Home) where
 
   -- the arms of a tree: those of the list, and the block after `else`
 
-  pub arms_sites-of : (arms : List ArmTree) (last : Block) → sites.arms_sites h (trees.arms_of arms (trees.block_of last)) ≡ arms_sites h arms + list_sites h last.commands.items
-  unfolding arms_sites list_sites
+  pub arms_sites-of : (arms : List ArmTree) (last : Block) → length (sites.arms_sites h (trees.arms_of arms (trees.block_of last))) ≡ arms_sites h arms + list_sites h last.commands.items
+  unfolding arms_sites list_sites shape_lists.arms_sites
   arms_sites-of [] last = omega arith
-  arms_sites-of (arm ∷ arms) last = (let r = arms_sites-of arms last in omega (arith, r))
+  arms_sites-of (arm ∷ arms) last =
+      let r = arms_sites-of arms last in
+      let here = sites.block_sites h (trees.arm_block_of arm) in
+      let a = length-append here (sites.arms_sites h (trees.arms_of arms (trees.block_of last))) in
+      let b = length-append here (shape_lists.arms_sites h arms) in omega (arith, r, a, b)
 
   pub arms_from-of : (k : ℕ) (arms : List ArmTree) (last : Block)
       → resolve.arms_of ls h k (trees.arms_of arms (trees.block_of last)) ≡ arms_from ls h k arms (list_from ls h (k + arms_sites h arms) last.commands.items)
-  unfolding arms_from arms_sites list_from
+  unfolding arms_from arms_sites list_from shape_lists.arms_sites
   arms_from-of k [] last = (let z : k ≡ k + 0 = omega arith in ap (λ (n : ℕ). Last (resolve.list_of ls h n (trees.commands_of last.commands.items))) z)
   arms_from-of k (arm ∷ arms) last =
-      let j = k + sites.block_sites h (trees.arm_block_of arm) in
-      let to : j + arms_sites h arms ≡ k + (sites.block_sites h (trees.arm_block_of arm) + arms_sites h arms) = omega arith in
+      let j = k + length (sites.block_sites h (trees.arm_block_of arm)) in
+      let to : j + arms_sites h arms ≡ k + arms_sites h (arm ∷ arms) =
+      (let a = length-append (sites.block_sites h (trees.arm_block_of arm)) (shape_lists.arms_sites h arms) in omega (arith, a)) in
       ap (λ (a : Arms). program.Arm (resolve.numbers_of (trees.constants_of arm)) (resolve.block_of ls h k (trees.arm_block_of arm)) a)
       (arms_from-of j arms last ∙ ap (λ (n : ℕ). arms_from ls h j arms (resolve.list_of ls h n (trees.commands_of last.commands.items))) to)
 
   pub arms_points-from : (k : ℕ) (arms : List ArmTree) (last : program.Block) → arms_points (arms_from ls h k arms last) ≡ arms_points (arms_from ls h k arms End) + block_points last
   unfolding arms_from
   arms_points-from k [] last = omega arith
-  arms_points-from k (arm ∷ arms) last = (let r = arms_points-from (k + sites.block_sites h (trees.arm_block_of arm)) arms last in omega (arith, r))
+  arms_points-from k (arm ∷ arms) last = (let r = arms_points-from (k + length (sites.block_sites h (trees.arm_block_of arm))) arms last in omega (arith, r))

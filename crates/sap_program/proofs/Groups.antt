@@ -1,5 +1,5 @@
 -- The states and the sites of groups in code, from a place on.
-use Rattle.std.proofs.Common.{◌≡◌, ℕ, ◌+◌, ◌<◌, ◌≤◌, List, [], ◌∷◌, ◌++◌, length, get_or, drop, refl, sym, ap, ap₂, ◌∙◌, arith, Result, Ok, Err, OnOk}
+use Rattle.std.proofs.Common.{◌≡◌, ℕ, ◌+◌, ◌<◌, ◌≤◌, List, [], ◌∷◌, ◌++◌, length, get_or, drop, refl, sym, ap, ap₂, ◌∙◌, arith, Result, Ok, Err, OnOk, length-append}
 use Rattle.sap_tree.specs.declared.syntax.Cmd.{Cmd}
 use Rattle.sap_tree.specs.declared.syntax.Decl.{Decl}
 use Rattle.sap_tree.specs.declared.syntax.State.{State, out-State}
@@ -15,8 +15,8 @@ use Rattle.sap_lattice.specs.Levels.{Levels}
 use Rattle.sap_meaning.specs.Program.{None, More, Node, Group}
 use Rattle.sap_meaning.specs.Program as program
 use Rattle.sap_resolve.specs.Resolve as resolve
-use Rattle.sap_resolve.specs.Sites as sites
-use Rattle.sap_resolve.specs.Sites.{Home}
+use Rattle.sap_shape.specs.Sites as sites
+use Rattle.sap_shape.specs.Sites.{Home}
 use Rattle.sap_resolve.specs.Worlds as worlds
 use Rattle.sap_program.specs.declared.program.State as code
 use Rattle.sap_program.specs.Views as views
@@ -27,12 +27,12 @@ use Rattle.sap_program.proofs.Shown.{joined-none, joined-push}
 
 -- where a state's body stands
 abbrev pub home : List Entity → State → Home
-home es s = record { entities = es; kind = (out-State s).kind; children = states_of (out-State s).children.items }
+home es s = record { entities = es; name = (out-State s).name.name; kind = (out-State s).kind; children = states_of (out-State s).children.items }
 
 module _ (ls : Levels) (es : List Entity) where
   group_from-more : (k x : ℕ) (d : State) (rest : List State)
       → group_from ls es k x (d ∷ rest)
-      ≡ More (resolve.state_of ls es k x (trees.state_of d)) (group_from ls es (k + sites.state_sites es (trees.state_of d)) (x + worlds.states_in (trees.state_of d)) rest)
+      ≡ More (resolve.state_of ls es k x (trees.state_of d)) (group_from ls es (k + length (sites.state_sites es (trees.state_of d))) (x + worlds.states_in (trees.state_of d)) rest)
   unfolding group_from
   group_from-more k x d rest = refl
 
@@ -40,7 +40,7 @@ module _ (ls : Levels) (es : List Entity) where
   unfolding group_from
   group_from-none k x = refl
 
-  group_drop : (ss : List State) (n : ℕ) (d : State) (k j x y : ℕ) → n < length ss → d ≡ get_or ss n d → j ≡ k + sites.state_sites es (trees.state_of d)
+  group_drop : (ss : List State) (n : ℕ) (d : State) (k j x y : ℕ) → n < length ss → d ≡ get_or ss n d → j ≡ k + length (sites.state_sites es (trees.state_of d))
       → y ≡ x + worlds.states_in (trees.state_of d)
       → group_from ls es k x (drop n ss) ≡ More (resolve.state_of ls es k x (trees.state_of d)) (group_from ls es j y (drop (n + 1) ss))
   group_drop ss n d k j x y l e q r =
@@ -50,7 +50,7 @@ module _ (ls : Levels) (es : List Entity) where
 
   -- one state more is made
   pub states_step : (m : ℕ) (rows : Rows) (ss : List State) (n : ℕ) (d : State) (k j x y p u : ℕ) (old new : List code.State) (s : code.State) → n < length ss → d ≡ get_or ss n d
-      → new ≡ old ++ s ∷ [] → views.state_of m s ≡ state_with rows p (resolve.state_of ls es k x (trees.state_of d)) → j ≡ k + sites.state_sites es (trees.state_of d)
+      → new ≡ old ++ s ∷ [] → views.state_of m s ≡ state_with rows p (resolve.state_of ls es k x (trees.state_of d)) → j ≡ k + length (sites.state_sites es (trees.state_of d))
       → y ≡ x + worlds.states_in (trees.state_of d) → u ≡ p + state_points (resolve.state_of ls es k x (trees.state_of d))
       → views.joined (views.group_of m new) (group_with rows u (group_from ls es j y (drop (n + 1) ss)))
       ≡ views.joined (views.group_of m old) (group_with rows p (group_from ls es k x (drop n ss)))
@@ -70,7 +70,7 @@ module _ (ls : Levels) (es : List Entity) where
       ∙ ap (λ (b : Group). views.joined (views.group_of m made) (group_with rows p b)) (sym (ap (group_from ls es k x) (drop_past ss n l) ∙ group_from-none k x))
       ∙ e
 
-  pub group_points_step : (ss : List State) (n : ℕ) (d : State) (k j x y p u : ℕ) → n < length ss → d ≡ get_or ss n d → j ≡ k + sites.state_sites es (trees.state_of d)
+  pub group_points_step : (ss : List State) (n : ℕ) (d : State) (k j x y p u : ℕ) → n < length ss → d ≡ get_or ss n d → j ≡ k + length (sites.state_sites es (trees.state_of d))
       → y ≡ x + worlds.states_in (trees.state_of d) → u ≡ p + state_points (resolve.state_of ls es k x (trees.state_of d))
       → u + group_points (group_from ls es j y (drop (n + 1) ss)) ≡ p + group_points (group_from ls es k x (drop n ss))
   group_points_step ss n d k j x y p u l e q r w =
@@ -86,7 +86,7 @@ module _ (ls : Levels) (es : List Entity) where
   pub group_points_within : (ss : List State) (n : ℕ) (d : State) (k x p all limit : ℕ) → n < length ss → d ≡ get_or ss n d
       → p + group_points (group_from ls es k x (drop n ss)) ≡ all → all < limit → p + state_points (resolve.state_of ls es k x (trees.state_of d)) < limit
   group_points_within ss n d k x p all limit l e i f =
-      let g = ap (λ (b : Group). p + group_points b) (group_drop ss n d k (k + sites.state_sites es (trees.state_of d)) x (x + worlds.states_in (trees.state_of d)) l e refl refl) in
+      let g = ap (λ (b : Group). p + group_points b) (group_drop ss n d k (k + length (sites.state_sites es (trees.state_of d))) x (x + worlds.states_in (trees.state_of d)) l e refl refl) in
       omega (arith, g, i, f)
 
   pub state_from : (k x : ℕ) (s : State)
@@ -96,33 +96,35 @@ module _ (ls : Levels) (es : List Entity) where
   state_from k x s = ap (λ (t : StateTree). resolve.state_of ls es k x t) (state_of-out s)
 
 module _ (es : List Entity) where
-  group_sites-more : (d : State) (rest : List State) → group_sites es (d ∷ rest) ≡ sites.state_sites es (trees.state_of d) + group_sites es rest
+  group_sites-more : (d : State) (rest : List State) → group_sites es (d ∷ rest) ≡ length (sites.state_sites es (trees.state_of d)) + group_sites es rest
   unfolding group_sites
-  group_sites-more d rest = refl
+  group_sites-more d rest = length-append (sites.state_sites es (trees.state_of d)) (sites.states_sites es (states_of rest))
 
   group_sites-none : group_sites es [] ≡ 0
   unfolding group_sites
   group_sites-none = refl
 
-  pub group_sites_step : (ss : List State) (n : ℕ) (d : State) (k j : ℕ) → n < length ss → d ≡ get_or ss n d → j ≡ k + sites.state_sites es (trees.state_of d)
+  pub group_sites_step : (ss : List State) (n : ℕ) (d : State) (k j : ℕ) → n < length ss → d ≡ get_or ss n d → j ≡ k + length (sites.state_sites es (trees.state_of d))
       → j + group_sites es (drop (n + 1) ss) ≡ k + group_sites es (drop n ss)
   group_sites_step ss n d k j l e q =
       ap (λ (i : ℕ). i + group_sites es (drop (n + 1) ss)) q
-      ∙ add_add k (sites.state_sites es (trees.state_of d)) (group_sites es (drop (n + 1) ss))
+      ∙ add_add k (length (sites.state_sites es (trees.state_of d))) (group_sites es (drop (n + 1) ss))
       ∙ ap (λ (i : ℕ). k + i) (sym (ap (group_sites es) (item_drop ss n d l e) ∙ group_sites-more d (drop (n + 1) ss)))
 
   pub group_sites_end : (ss : List State) (n k all : ℕ) → length ss ≤ n → k + group_sites es (drop n ss) ≡ all → k ≡ all
   group_sites_end ss n k all l e = (let z : group_sites es (drop n ss) ≡ 0 = ap (group_sites es) (drop_past ss n l) ∙ group_sites-none in omega (arith, z, e))
 
   pub group_sites_within : (ss : List State) (n : ℕ) (d : State) (k all limit : ℕ) → n < length ss → d ≡ get_or ss n d
-      → k + group_sites es (drop n ss) ≡ all → all < limit → k + sites.state_sites es (trees.state_of d) < limit
+      → k + group_sites es (drop n ss) ≡ all → all < limit → k + length (sites.state_sites es (trees.state_of d)) < limit
   group_sites_within ss n d k all limit l e i f =
       let g = ap (λ (x : ℕ). k + x) (ap (group_sites es) (item_drop ss n d l e) ∙ group_sites-more d (drop (n + 1) ss)) in omega (arith, g, i, f)
 
   pub state_sites-is : (s : State)
-      → sites.state_sites es (trees.state_of s) ≡ list_sites (home es s) (out-State s).body.commands.items + group_sites es (out-State s).children.items
+      → length (sites.state_sites es (trees.state_of s)) ≡ list_sites (home es s) (out-State s).body.commands.items + group_sites es (out-State s).children.items
   unfolding list_sites group_sites
-  state_sites-is s = ap (λ (t : StateTree). sites.state_sites es t) (state_of-out s)
+  state_sites-is s =
+      ap (λ (t : StateTree). length (sites.state_sites es t)) (state_of-out s)
+      ∙ length-append (sites.list_sites (home es s) (trees.commands_of (out-State s).body.commands.items)) (sites.states_sites es (states_of (out-State s).children.items))
 
 below-more : (d : State) (rest : List State) → states_below (d ∷ rest) ≡ worlds.states_in (trees.state_of d) + states_below rest
 unfolding states_below
@@ -159,15 +161,15 @@ below_inside s rest r = states_in-is s ∙ ap (λ (g : List State). 1 + states_b
 module _ (es : List Entity) (s : State) (first : List State) (first_is : first ≡ (out-State s).children.items) (body : List Cmd) (body_is : body ≡ (out-State s).body.commands.items)
     (rest : List State) (rest_is : rest ≡ (out-State s).children.items) (limit : ℕ) where
   abbrev here : Home
-  here = record { entities = es; kind = (out-State s).kind; children = states_of first }
+  here = record { entities = es; name = (out-State s).name.name; kind = (out-State s).kind; children = states_of first }
 
   here_is : here ≡ home es s
-  here_is = ap (λ (l : List State). record { entities = es; kind = (out-State s).kind; children = states_of l }) first_is
+  here_is = ap (λ (l : List State). record { entities = es; name = (out-State s).name.name; kind = (out-State s).kind; children = states_of l }) first_is
 
   body_sites : list_sites here body ≡ list_sites (home es s) (out-State s).body.commands.items
   body_sites = ap₂ (λ (h : Home) (l : List Cmd). list_sites h l) here_is body_is
 
-  pub rest_sites : (k j : ℕ) → j ≡ k + list_sites here body → k + sites.state_sites es (trees.state_of s) < limit → j + group_sites es rest < limit
+  pub rest_sites : (k j : ℕ) → j ≡ k + list_sites here body → k + length (sites.state_sites es (trees.state_of s)) < limit → j + group_sites es rest < limit
   rest_sites k j e l =
       (let a = state_sites-is es s in let b = body_sites in let d = ap (λ (r : List State). group_sites es r) rest_is in omega (arith, a, b, d, e, l))
 
@@ -190,7 +192,7 @@ unfolding group_from
 whole_states v ls ds ss es seen x rows made a b d h = h ∙ rw (a, b, d) refl
 
 pub whole_sites : (v : Version) (ds : List Decl) (ss : List State) (es : List Entity) (seen : List State) (j count : ℕ) → es ≡ entities_of (tree_of v ds ss) → seen ≡ ss
-    → j ≡ 1 + group_sites es seen → count + 1 ≡ j → count ≡ sites.group_sites (entities_of (tree_of v ds ss)) (states_of ss)
+    → j ≡ 1 + group_sites es seen → count + 1 ≡ j → count ≡ length (sites.check_sites (tree_of v ds ss))
 unfolding group_sites
 whole_sites v ds ss es seen j count a b h k = (let e = ap₂ (λ (x : List Entity) (l : List State). group_sites x l) a b in omega (arith, e, h, k))
 

@@ -1,7 +1,6 @@
 -- How many sites, points and entities a design has.
-use Rattle.std.proofs.Common.{◌≡◌, ℕ, ◌+◌, ◌*◌, ◌^◌, ◌<◌, ◌≤◌, List, [], ◌∷◌, Bool, ◌&&◌, length, arith, ap, cond, refl, ◌∙◌, inl, inr}
+use Rattle.std.proofs.Common.{◌≡◌, ℕ, ◌+◌, ◌*◌, ◌^◌, ◌<◌, ◌≤◌, List, [], ◌∷◌, Bool, ◌&&◌, length, arith, ap, cond, refl, ◌∙◌}
 use Rattle.std.proofs.lemmas.List.Sums.{sum_by-cons}
-use Rattle.std.proofs.lemmas.Bool.{cases_Bool}
 use Rattle.std.proofs.lemmas.Grind.{common_steps}
 use Rattle.std.specs.Bool.{IsTrue}
 use Rattle.std.specs.List.{count_by}
@@ -15,16 +14,13 @@ use Rattle.sap_tree.specs.Parts.{tree_of}
 use Rattle.sap_tree.specs.declared.version.Version.{Version}
 use Rattle.sap_lattice.specs.Levels.{Levels}
 use Rattle.sap_names.specs.declared.entity.Entity.{Entity}
-use Rattle.sap_shape.specs.Sites.{is_site}
+use Rattle.sap_shape.proofs.SiteCounts.{states_few}
 use Rattle.sap_resolve.specs.Resolve as resolve
-use Rattle.sap_resolve.specs.Sites as sites
-use Rattle.sap_resolve.specs.Sites.{Home}
+use Rattle.sap_shape.specs.Sites as sites
+use Rattle.sap_shape.specs.Sites.{Home}
 use Rattle.sap_resolve.specs.Worlds as worlds
 use Rattle.sap_program.specs.Lists as lists
 use Rattle.sap_program.specs.Rows.{step_points, command_points, arms_points, block_points, state_points, group_points}
-
-simple_sites-few : (h : Home) (k : SimpleCommand) → sites.simple_sites h k ≤ 1
-simple_sites-few h k = elim (cases_Bool (is_site h.entities h.kind h.children k)) [ inl e ↦ rw e (omega arith) | inr e ↦ rw e (omega arith) ]
 
 step_points-few : (ls : Levels) (h : Home) (n : ℕ) (k : SimpleCommand) → step_points (resolve.step_of ls h n k) ≤ 1
 step_points-few ls h n (Assign target e) = omega arith
@@ -34,33 +30,6 @@ step_points-few ls h n (SetCellTag place target index tag) = omega arith
 step_points-few ls h n (Goto place target) = omega arith
 step_points-few ls h n (Fall place) = omega arith
 
-module _ (h : Home) where
-  mutual
-    unfolding command_count block_count arms_count else_count list_count
-
-    command_sites-few : (c : Command) → sites.command_sites h c ≤ command_count c
-    command_sites-few (Do k) = simple_sites-few h k
-    command_sites-few (Try k place handler) = let a = simple_sites-few h k in let b = block_sites-few handler in omega arith
-    command_sites-few (If place e one other) = let a = block_sites-few one in let b = else_sites-few other in omega arith
-    command_sites-few (TryThen k place accepted refused) =
-        let a = simple_sites-few h k in let b = block_sites-few accepted in let c = block_sites-few refused in omega arith
-    command_sites-few (Case place e arms) = let a = arms_sites-few arms in omega arith
-
-    arms_sites-few : (arms : Arms) → sites.arms_sites h arms ≤ arms_count arms
-    arms_sites-few (Last b) = block_sites-few b
-    arms_sites-few (Arm constants b arms) = let a = block_sites-few b in let c = arms_sites-few arms in omega arith
-
-    block_sites-few : (b : CommandBlock) → sites.block_sites h b ≤ block_count b
-    block_sites-few (Commands cs after) = list_sites-few cs
-
-    else_sites-few : (b : ElseBlock) → sites.else_sites h b ≤ else_count b
-    else_sites-few NoElse = omega arith
-    else_sites-few (Else b) = block_sites-few b
-
-    list_sites-few : (cs : CommandList) → sites.list_sites h cs ≤ list_count cs
-    list_sites-few NoCommand = omega arith
-    list_sites-few (AndCommand c cs) = let a = command_sites-few c in let b = list_sites-few cs in omega arith
-
 module _ (ls : Levels) (h : Home) where
   mutual
     unfolding command_count block_count arms_count else_count list_count
@@ -68,18 +37,18 @@ module _ (ls : Levels) (h : Home) where
     command_points-few : (k : ℕ) (c : Command) → command_points (resolve.command_of ls h k c) ≤ 2 * command_count c
     command_points-few k (Do c) = let a = step_points-few ls h (resolve.site_number h k c) c in omega arith
     command_points-few k (Try c place handler) =
-        let a = step_points-few ls h (resolve.site_number h k c) c in let b = block_points-few (k + sites.simple_sites h c) handler in omega arith
-    command_points-few k (If place e one other) = let a = block_points-few k one in let b = else_points-few (k + sites.block_sites h one) other in omega arith
+        let a = step_points-few ls h (resolve.site_number h k c) c in let b = block_points-few (k + length (sites.simple_sites h c)) handler in omega arith
+    command_points-few k (If place e one other) = let a = block_points-few k one in let b = else_points-few (k + length (sites.block_sites h one)) other in omega arith
     command_points-few k (TryThen c place accepted refused) =
         let a = step_points-few ls h (resolve.site_number h k c) c in
-        let b = block_points-few (k + sites.simple_sites h c) accepted in
-        let d = block_points-few (k + sites.simple_sites h c + sites.block_sites h accepted) refused in omega arith
+        let b = block_points-few (k + length (sites.simple_sites h c)) accepted in
+        let d = block_points-few (k + length (sites.simple_sites h c) + length (sites.block_sites h accepted)) refused in omega arith
     command_points-few k (Case place e arms) = let a = arms_points-few k arms in omega arith
 
     arms_points-few : (k : ℕ) (arms : Arms) → arms_points (resolve.arms_of ls h k arms) ≤ 2 * arms_count arms
     arms_points-few k (Last b) = block_points-few k b
     arms_points-few k (Arm constants b arms) =
-        let a = block_points-few k b in let c = arms_points-few (k + sites.block_sites h b) arms in omega arith
+        let a = block_points-few k b in let c = arms_points-few (k + length (sites.block_sites h b)) arms in omega arith
 
     block_points-few : (k : ℕ) (b : CommandBlock) → block_points (resolve.block_of ls h k b) ≤ 2 * block_count b
     block_points-few k (Commands cs after) = list_points-few k cs
@@ -90,32 +59,21 @@ module _ (ls : Levels) (h : Home) where
 
     list_points-few : (k : ℕ) (cs : CommandList) → block_points (resolve.list_of ls h k cs) ≤ 2 * list_count cs
     list_points-few k NoCommand = omega arith
-    list_points-few k (AndCommand c cs) = let a = command_points-few k c in let b = list_points-few (k + sites.command_sites h c) cs in omega arith
+    list_points-few k (AndCommand c cs) = let a = command_points-few k c in let b = list_points-few (k + length (sites.command_sites h c)) cs in omega arith
 
 module _ (ls : Levels) (es : List Entity) where
   mutual
     unfolding state_commands states_commands
 
-    state_sites-few : (s : StateTree) → sites.state_sites es s ≤ state_commands s
-    state_sites-few (StateOf place name kind body children) =
-        let a = block_sites-few (record { entities = es; kind = kind; children = children }) body in let b = group_sites-few children in omega arith
-
-    group_sites-few : (ss : StateList) → sites.group_sites es ss ≤ states_commands ss
-    group_sites-few NoState = omega arith
-    group_sites-few (AndState s ss) = let a = state_sites-few s in let b = group_sites-few ss in omega arith
-
-  mutual
-    unfolding state_commands states_commands
-
     state_points-few : (k x : ℕ) (s : StateTree) → state_points (resolve.state_of ls es k x s) ≤ 2 * state_commands s
     state_points-few k x (StateOf place name kind body children) =
-        let h : Home = record { entities = es; kind = kind; children = children } in
-        let a = block_points-few ls h k body in let b = group_points-few (k + sites.block_sites h body) (x + 1) children in omega arith
+        let h : Home = record { entities = es; name = name.name; kind = kind; children = children } in
+        let a = block_points-few ls h k body in let b = group_points-few (k + length (sites.block_sites h body)) (x + 1) children in omega arith
 
     group_points-few : (k x : ℕ) (ss : StateList) → group_points (resolve.group_of ls es k x ss) ≤ 2 * states_commands ss
     group_points-few k x NoState = omega arith
     group_points-few k x (AndState s ss) =
-        let a = state_points-few k x s in let b = group_points-few (k + sites.state_sites es s) (x + worlds.states_in s) ss in omega arith
+        let a = state_points-few k x s in let b = group_points-few (k + length (sites.state_sites es s)) (x + worlds.states_in s) ss in omega arith
 
 mutual
   unfolding state_count states_count
@@ -152,8 +110,8 @@ module _ (t : DesignTree) (whole : IsTrue (is_whole t)) where
   limits =
       limited (is_tree t) (count_by is_input t.declarations) (count_by is_register t.declarations) (count_by is_memory t.declarations) (states_count t.states) (states_depth t.states) (states_commands t.states) whole
 
-  pub few_sites : (ls : Levels) (es : List Entity) → 1 + sites.group_sites es t.states < 2 ^ 32
-  few_sites ls es = let a = group_sites-few ls es t.states in let b = limits in omega arith
+  pub few_sites : (ls : Levels) (es : List Entity) → 1 + length (sites.states_sites es t.states) < 2 ^ 32
+  few_sites ls es = let a = states_few es t.states in let b = limits in omega arith
 
   pub few_points : (ls : Levels) (es : List Entity) (k x : ℕ) → 1 + group_points (resolve.group_of ls es k x t.states) < 2 ^ 32
   few_points ls es k x = let a = group_points-few ls es k x t.states in let b = limits in omega arith

@@ -10,7 +10,7 @@ use Rattle.sap_meaning.specs.Program as program
 use Rattle.sap_hang.specs.Hang.{Table, IsHangTable}
 use Rattle.sap_resolve.specs.Fill.{program_of}
 use Rattle.sap_resolve.specs.Resolve.{states_of}
-use Rattle.sap_resolve.specs.Sites.{group_sites}
+use Rattle.sap_shape.specs.Sites.{check_sites}
 use Rattle.sap_resolve.specs.Worlds.{world_of}
 use Rattle.sap_kept.specs.Hangs.{group_rows, row_of, rows_of}
 use Rattle.sap_program.specs.declared.program.Program.{Program}
@@ -35,7 +35,7 @@ size f (x ∷ xs) = (let r = size f xs in omega (arith, r))
 pub program_made : (ls m : Levels) (d e : DesignTree) (es : List Entity) (t : Table) (p : Program) → m ≡ ls → e ≡ d → es ≡ entities_of d → IsHangTable d t
     → (group_rows (program_of ls d).states ≡ rows_of d) × ((program_of ls d).hang ≡ row_of (entities_of d) (root_touches d))
     → map entity_of p.entities.items ≡ (world_of m e).entities → own_names p.entities.items ≡ names_of (entities_of e) → p.children.items ≡ (world_of ls e).children
-    → group_of (length es) p.states.items ≡ group_with (rows_in (length es) t) 1 (states_of m e) → p.sites ≡ group_sites (entities_of e) e.states
+    → group_of (length es) p.states.items ≡ group_with (rows_in (length es) t) 1 (states_of m e) → p.sites ≡ length (check_sites e)
     → flags (length es) p.hang ≡ row_of es (root_touches e) → IsProgramOf ls d p
 program_made ls m d e es t p a b c is agree entities named children states sites hang =
     let names = named ∙ ap (λ (x : DesignTree). names_of (entities_of x)) b in
@@ -49,5 +49,5 @@ program_made ls m d e es t p a b c is agree entities named children states sites
           ∙ ap₂ (λ (l : Levels) (x : DesignTree). group_with (rows_in (length (entities_of d)) t) 1 (states_of l x)) a b ∙ placed ls d t is agree.0)
           (ap (λ (n : ℕ). flags n p.hang) (counted ∙ sym same) ∙ hang ∙ ap₂ (λ (l : List Entity) (x : DesignTree). row_of l (root_touches x)) c b ∙ sym agree.1);
       names = names;
-      sites = sites ∙ ap (λ (x : DesignTree). group_sites (entities_of x) x.states) b;
+      sites = sites ∙ ap (λ (x : DesignTree). length (check_sites x)) b;
     }

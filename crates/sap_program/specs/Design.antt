@@ -1,10 +1,10 @@
 -- The program of a design, as data.
-use Rattle.std.specs.Prelude.{◌≡◌, map}
+use Rattle.std.specs.Prelude.{◌≡◌, length, map}
 use Rattle.sap_lattice.specs.Levels.{Levels, order_of}
 use Rattle.sap_tree.specs.Syntax.{DesignTree}
 use Rattle.sap_names.specs.Entities.{entities_of}
 use Rattle.sap_resolve.specs.Fill.{program_of}
-use Rattle.sap_resolve.specs.Sites.{group_sites}
+use Rattle.sap_shape.specs.Sites.{check_sites}
 use Rattle.sap_program.specs.declared.program.Program.{Program}
 use Rattle.sap_program.specs.Views.{program_in, names_in}
 
@@ -12,4 +12,4 @@ use Rattle.sap_program.specs.Views.{program_in, names_in}
 pub record IsProgramOf (ls : Levels) (d : DesignTree) (p : Program) : Type 0 where
   pub program : program_in (order_of ls) p ≡ program_of ls d
   pub names : names_in p ≡ map (λ e. e.name.name) (entities_of d)
-  pub sites : p.sites ≡ group_sites (entities_of d) d.states
+  pub sites : p.sites ≡ length (check_sites d)

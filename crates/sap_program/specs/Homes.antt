@@ -1,13 +1,13 @@
 -- Where a body stands, and what hangs on the points of its design.
 use Rattle.std.specs.Prelude.{length}
 use Rattle.sap_tree.specs.Trees.{states_of}
-use Rattle.sap_resolve.specs.Sites.{Home}
+use Rattle.sap_shape.specs.Sites.{Home}
 use Rattle.sap_program.specs.Rows.{Rows, rows_in}
 use Rattle.sap_program.specs.declared.seat.Known.{Known}
 use Rattle.sap_program.specs.declared.seat.Seat.{Seat}
 
 abbrev pub home_of : Seat → Home
-home_of s = record { entities = s.names.now; kind = s.kind.now; children = states_of s.children.now }
+home_of s = record { entities = s.names.now; name = s.name.now; kind = s.kind.now; children = states_of s.children.now }
 
 abbrev pub rows_of : Seat → Rows
 rows_of s = rows_in (length s.names.now) s.table.now

@@ -1,5 +1,5 @@
 -- What is made of the commands and states that code has in lists.
-use Rattle.std.specs.Prelude.{ℕ, ◌+◌, List, [], ◌∷◌, map}
+use Rattle.std.specs.Prelude.{ℕ, ◌+◌, List, [], ◌∷◌, map, length}
 use Rattle.sap_tree.specs.declared.syntax.Arm.{Arm}
 use Rattle.sap_tree.specs.declared.syntax.Cmd.{Cmd}
 use Rattle.sap_tree.specs.declared.syntax.Expr.{Expr}
@@ -12,26 +12,27 @@ use Rattle.sap_meaning.specs.Program as program
 use Rattle.sap_names.specs.Entities as names
 use Rattle.sap_program.specs.declared.program.Entity as code
 use Rattle.sap_resolve.specs.Resolve as resolve
-use Rattle.sap_resolve.specs.Sites as sites
-use Rattle.sap_resolve.specs.Sites.{Home}
+use Rattle.sap_shape.specs.Lists as shape_lists
+use Rattle.sap_shape.specs.Sites as sites
+use Rattle.sap_shape.specs.Sites.{Home}
 use Rattle.sap_resolve.specs.Worlds as worlds
 
 -- where the next site has the number k
 unfoldable pub list_from : Levels → Home → (k : ℕ) → List Cmd → Block
 list_from ls h k cs = resolve.list_of ls h k (commands_of cs)
 
+-- how many check sites they have
 unfoldable pub list_sites : Home → List Cmd → ℕ
-list_sites h cs = sites.list_sites h (commands_of cs)
+list_sites h cs = length (sites.list_sites h (commands_of cs))
 
 -- with this block for no arm
 unfoldable pub arms_from : Levels → Home → (k : ℕ) → List Arm → Block → Arms
 arms_from ls h k [] last = Last last
 arms_from ls h k (arm ∷ arms) last =
-    program.Arm (resolve.numbers_of (constants_of arm)) (resolve.block_of ls h k (arm_block_of arm)) (arms_from ls h (k + sites.block_sites h (arm_block_of arm)) arms last)
+    program.Arm (resolve.numbers_of (constants_of arm)) (resolve.block_of ls h k (arm_block_of arm)) (arms_from ls h (k + length (sites.block_sites h (arm_block_of arm))) arms last)
 
 unfoldable pub arms_sites : Home → List Arm → ℕ
-arms_sites h [] = 0
-arms_sites h (arm ∷ arms) = sites.block_sites h (arm_block_of arm) + arms_sites h arms
+arms_sites h arms = length (shape_lists.arms_sites h arms)
 
 unfoldable pub numbers_of : List Expr → List ℕ
 numbers_of es = resolve.numbers_of (expressions_of es)
@@ -41,7 +42,7 @@ unfoldable pub group_from : Levels → List Entity → (k x : ℕ) → List Stat
 group_from ls es k x ss = resolve.group_of ls es k x (states_of ss)
 
 unfoldable pub group_sites : List Entity → List State → ℕ
-group_sites es ss = sites.group_sites es (states_of ss)
+group_sites es ss = length (sites.states_sites es (states_of ss))
 
 unfoldable pub states_below : List State → ℕ
 states_below ss = worlds.states_below (states_of ss)

@@ -8,7 +8,7 @@ ghost use Rattle.sap_program.specs.Lists as lists;
 ghost use Rattle.sap_program.specs.Rows.{arms_points, arms_with, command_points, command_with, block_points, block_with};
 ghost use Rattle.sap_program.specs.Views as views;
 ghost use Rattle.sap_resolve.specs.Resolve as resolve;
-ghost use Rattle.sap_resolve.specs.Sites as sites;
+ghost use Rattle.sap_shape.specs.Sites as sites;
 ghost use Rattle.sap_tree.specs.Trees as trees;
 
 use crate::hang::Hang;
@@ -41,11 +41,11 @@ fn command(
     point: &mut u32,
     c: &Cmd,
 ) -> Result<Command, AllocError>
-    requires sites { next.old + sites.command_sites (home_of seat.now) (trees.command_of c.now) < 2 ^ 32 }
+    requires sites { next.old + length (sites.command_sites (home_of seat.now) (trees.command_of c.now)) < 2 ^ 32 }
     requires points { point.old + command_points (resolve.command_of seat.now.lattice.now (home_of seat.now) next.old (trees.command_of c.now)) < 2 ^ 32 }
     ensures command { IfOk result (λ r. views.command_of (length seat.now.names.now) r
         ≡ command_with (rows_of seat.now) point.old (resolve.command_of seat.now.lattice.now (home_of seat.now) next.old (trees.command_of c.now))) }
-    ensures next { OnOk result (next.new ≡ next.old + sites.command_sites (home_of seat.now) (trees.command_of c.now)) }
+    ensures next { OnOk result (next.new ≡ next.old + length (sites.command_sites (home_of seat.now) (trees.command_of c.now))) }
     ensures point { OnOk result (point.new ≡ point.old + command_points (resolve.command_of seat.now.lattice.now (home_of seat.now) next.old (trees.command_of c.now))) }
 {
     match c {
@@ -168,11 +168,11 @@ fn otherwise(
     point: &mut u32,
     other: &Option<Block>,
 ) -> Result<Vec<Command>, AllocError>
-    requires sites { next.old + sites.else_sites (home_of seat.now) (trees.else_of other.now) < 2 ^ 32 }
+    requires sites { next.old + length (sites.else_sites (home_of seat.now) (trees.else_of other.now)) < 2 ^ 32 }
     requires points { point.old + block_points (resolve.else_of seat.now.lattice.now (home_of seat.now) next.old (trees.else_of other.now)) < 2 ^ 32 }
     ensures commands { IfOk result (λ r. views.block_of (length seat.now.names.now) r.items
         ≡ block_with (rows_of seat.now) point.old (resolve.else_of seat.now.lattice.now (home_of seat.now) next.old (trees.else_of other.now))) }
-    ensures next { OnOk result (next.new ≡ next.old + sites.else_sites (home_of seat.now) (trees.else_of other.now)) }
+    ensures next { OnOk result (next.new ≡ next.old + length (sites.else_sites (home_of seat.now) (trees.else_of other.now))) }
     ensures point { OnOk result (point.new ≡ point.old + block_points (resolve.else_of seat.now.lattice.now (home_of seat.now) next.old (trees.else_of other.now))) }
 {
     match other {

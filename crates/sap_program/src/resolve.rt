@@ -9,7 +9,7 @@ ghost use Rattle.sap_program.specs.Homes.{known_rows};
 ghost use Rattle.sap_program.specs.Rows.{group_with};
 ghost use Rattle.sap_program.specs.Views.{group_of};
 ghost use Rattle.sap_resolve.specs.Resolve as resolve;
-ghost use Rattle.sap_resolve.specs.Sites.{group_sites};
+ghost use Rattle.sap_shape.specs.Sites.{check_sites};
 ghost use Rattle.sap_tree.specs.Designs.{design_of};
 
 use crate::children::children;
@@ -33,7 +33,7 @@ fn resolve_states(
 ) -> Result<(Vec<State>, u32), AllocError>
     requires { known.now.names.now ≡ entities_of (design_of design.now) }
     ensures states { IfOk result (λ r. group_of (length known.now.names.now) r.0.items ≡ group_with (known_rows known.now) 1 (resolve.states_of known.now.lattice.now (design_of design.now))) }
-    ensures sites { IfOk result (λ r. r.1 ≡ group_sites (entities_of (design_of design.now)) (design_of design.now).states) }
+    ensures sites { IfOk result (λ r. r.1 ≡ length (check_sites (design_of design.now))) }
 {
     design_is_whole(design);
     let mut next = 1;

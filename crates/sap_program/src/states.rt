@@ -6,7 +6,7 @@ ghost use Rattle.sap_program.specs.Lists as lists;
 ghost use Rattle.sap_program.specs.Rows.{group_points, group_with, state_points, state_with};
 ghost use Rattle.sap_program.specs.Views as views;
 ghost use Rattle.sap_resolve.specs.Resolve as resolve;
-ghost use Rattle.sap_resolve.specs.Sites as sites;
+ghost use Rattle.sap_shape.specs.Sites as sites;
 ghost use Rattle.sap_resolve.specs.Worlds as worlds;
 ghost use Rattle.sap_tree.specs.Trees as trees;
 
@@ -27,12 +27,12 @@ fn state(
     number: &mut usize,
     s: &StateTree,
 ) -> Result<State, AllocError>
-    requires sites { next.old + sites.state_sites known.now.names.now (trees.state_of s.now) < 2 ^ 32 }
+    requires sites { next.old + length (sites.state_sites known.now.names.now (trees.state_of s.now)) < 2 ^ 32 }
     requires points { point.old + state_points (resolve.state_of known.now.lattice.now known.now.names.now next.old number.old (trees.state_of s.now)) < 2 ^ 32 }
     requires states { number.old + worlds.states_in (trees.state_of s.now) < 2 ^ 32 }
     ensures state { IfOk result (λ r. views.state_of (length known.now.names.now) r
         ≡ state_with (known_rows known.now) point.old (resolve.state_of known.now.lattice.now known.now.names.now next.old number.old (trees.state_of s.now))) }
-    ensures next { OnOk result (next.new ≡ next.old + sites.state_sites known.now.names.now (trees.state_of s.now)) }
+    ensures next { OnOk result (next.new ≡ next.old + length (sites.state_sites known.now.names.now (trees.state_of s.now))) }
     ensures point { OnOk result (point.new ≡ point.old + state_points (resolve.state_of known.now.lattice.now known.now.names.now next.old number.old (trees.state_of s.now))) }
     ensures number { OnOk result (number.new ≡ number.old + worlds.states_in (trees.state_of s.now)) }
 {
@@ -42,6 +42,7 @@ fn state(
         names: known.names,
         lattice: known.lattice,
         table: known.table,
+        name: &s.name.name,
         kind: &s.kind,
         children: s.children.as_slice(),
     };

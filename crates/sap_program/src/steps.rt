@@ -6,7 +6,7 @@ ghost use Rattle.sap_program.specs.Homes.{home_of, rows_of};
 ghost use Rattle.sap_program.specs.Rows.{step_points, step_with};
 ghost use Rattle.sap_program.specs.Views.{step_of};
 ghost use Rattle.sap_resolve.specs.Resolve as resolve;
-ghost use Rattle.sap_resolve.specs.Sites.{simple_sites};
+ghost use Rattle.sap_shape.specs.Sites.{simple_sites};
 ghost use Rattle.sap_tree.specs.Syntax as tree;
 ghost use Rattle.sap_tree.specs.Trees.{expression_of, simple_of, tag_of};
 
@@ -24,9 +24,9 @@ use std::alloc::{AllocError, Global};
 
 /// The number of a command, 0 where it is no site. The next site's number is kept.
 pub(crate) fn take_site(seat: &Seat<'_>, next: &mut u32, command: &Simple) -> u32
-    requires { next.old + simple_sites (home_of seat.now) (simple_of command.now) < 2 ^ 32 }
+    requires { next.old + length (simple_sites (home_of seat.now) (simple_of command.now)) < 2 ^ 32 }
     ensures number { result ≡ resolve.site_number (home_of seat.now) next.old (simple_of command.now) }
-    ensures next { next.new ≡ next.old + simple_sites (home_of seat.now) (simple_of command.now) }
+    ensures next { next.new ≡ next.old + length (simple_sites (home_of seat.now) (simple_of command.now)) }
 {
     if is_site(seat.names, seat.kind, seat.children, command) {
         let site = *next;

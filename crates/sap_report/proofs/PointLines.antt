@@ -1,6 +1,6 @@
 -- The lines of points and the names in them, from a place on.
-use Rattle.std.proofs.Common.{◌≡◌, ℕ, zero, suc, ◌+◌, ◌-◌, ◌<◌, ◌≤◌, List, [], ◌∷◌, ◌++◌, ◌&&◌, length, drop, refl, sym, ap, ◌∙◌, arith, append_assoc, Bool, true, false, not}
-use Rattle.std.specs.Prelude.{Option, Some, None, slice_get, unwrap_or, option_map, codes, if◌then◌else◌}
+use Rattle.std.proofs.Common.{◌≡◌, ℕ, ◌+◌, ◌-◌, ◌<◌, ◌≤◌, List, [], ◌∷◌, ◌++◌, ◌&&◌, length, drop, refl, sym, ap, ◌∙◌, arith, append_assoc, Bool, true, false, not}
+use Rattle.std.specs.Prelude.{Option, Some, slice_get, unwrap_or, option_map, codes, if◌then◌else◌}
 use Rattle.sap_tree.specs.Syntax.{DesignTree}
 use Rattle.sap_names.specs.declared.entity.Entity.{Entity}
 use Rattle.sap_names.specs.Entities.{entities_of}

@@ -1,14 +1,14 @@
 -- The lines of check sites, from a place on; and that the entity of each site is one of the design.
 use Rattle.std.proofs.Common.{◌≡◌, ℕ, zero, suc, ◌+◌, ◌-◌, ◌<◌, ◌≤◌, List, [], ◌∷◌, ◌++◌, length, drop, refl, sym, ap, ◌∙◌, subst, arith, Bool, true, false}
-use Rattle.std.specs.Prelude.{Option, Some, None, slice_get, unwrap_or, option_map, if◌then◌else◌}
+use Rattle.std.specs.Prelude.{Option, Some, None, map, slice_get, unwrap_or, option_map, if◌then◌else◌}
 use Rattle.std.specs.Str.{bytes_eq}
-use Rattle.std.proofs.lemmas.List.{length-append}
+use Rattle.std.proofs.lemmas.List.{length-append, map-append}
 use Rattle.sap_tree.specs.Syntax.{SimpleCommand, Command, Do, Try, If, TryThen, Case, Arms, Last, Arm, CommandBlock, Commands, ElseBlock, NoElse, Else, CommandList, NoCommand, AndCommand, StateTree, StateOf, StateList, NoState, AndState, DesignTree}
 use Rattle.sap_names.specs.declared.entity.Entity.{Entity}
 use Rattle.sap_names.specs.Entities.{entities_of, declared_in, group_entities, number_of}
-use Rattle.sap_shape.specs.Sites.{is_site}
+use Rattle.sap_shape.specs.Sites.{is_site, Home, CheckSite, simple_sites, command_sites, block_sites, else_sites, arms_sites, list_sites, state_sites, states_sites}
 use Rattle.sap_check.specs.declared.site.Site.{Site}
-use Rattle.sap_check.specs.Sites.{Home, entity_number, target_of, site_of, simple_sites, command_sites, block_sites, else_sites, arms_sites, list_sites, state_sites, states_sites, sites_of}
+use Rattle.sap_check.specs.Sites.{entity_number, target_of, site_of, sites_of}
 use Rattle.sap_report.specs.Report.{site_line, site_lines}
 use Rattle.sap_report.proofs.Lists.{after_part, at_end, drop-at, drop-past}
 
@@ -72,61 +72,64 @@ small-at n [] k s p h = absurd (cc h)
 small-at n (x ∷ ss) zero s p h = let e : x.entity ≡ s.entity = ap (λ (o : Option Site). (unwrap_or o x).entity) h in omega (arith, p.0)
 small-at n (x ∷ ss) (suc k) s p h = small-at n ss k s p.1 h
 
-small-choice : (n : ℕ) (b : Bool) (s : Site) → s.entity < n → Small n (if b then s ∷ [] else [])
+small-choice : (n : ℕ) (b : Bool) (s : CheckSite) → (site_of s).entity < n → Small n (map site_of (if b then s ∷ [] else []))
 unfolding Small
 small-choice n true s h = (h, tt)
 small-choice n false s h = tt
 
+small-parts : (n : ℕ) (a b : List CheckSite) → Small n (map site_of a) → Small n (map site_of b) → Small n (map site_of (a ++ b))
+small-parts n a b p q = subst (λ (ss : List Site). Small n ss) (sym (map-append site_of a b)) (small-both n (map site_of a) (map site_of b) p q)
+
 module _ (h : Home) (p : 0 < length h.entities) where
-  simple-small : (k : SimpleCommand) → Small (length h.entities) (simple_sites h k)
-  simple-small k = small-choice (length h.entities) (is_site h.entities h.kind h.children k) (site_of h k) (number-small h.entities (target_of h k) p)
+  simple-small : (k : SimpleCommand) → Small (length h.entities) (map site_of (simple_sites h k))
+  simple-small k = small-choice (length h.entities) (is_site h.entities h.kind h.children k) (record { home = h; command = k }) (number-small h.entities (target_of h k) p)
 
   mutual
     unfolding Small
 
-    command-small : (c : Command) → Small (length h.entities) (command_sites h c)
+    command-small : (c : Command) → Small (length h.entities) (map site_of (command_sites h c))
     command-small (Do k) = simple-small k
-    command-small (Try k place handler) = small-both (length h.entities) (simple_sites h k) (block_sites h handler) (simple-small k) (block-small handler)
-    command-small (If place condition one other) = small-both (length h.entities) (block_sites h one) (else_sites h other) (block-small one) (else-small other)
+    command-small (Try k place handler) = small-parts (length h.entities) (simple_sites h k) (block_sites h handler) (simple-small k) (block-small handler)
+    command-small (If place condition one other) = small-parts (length h.entities) (block_sites h one) (else_sites h other) (block-small one) (else-small other)
     command-small (TryThen k place accepted refused) =
-        small-both (length h.entities) (simple_sites h k) (block_sites h accepted ++ block_sites h refused) (simple-small k)
-        (small-both (length h.entities) (block_sites h accepted) (block_sites h refused) (block-small accepted) (block-small refused))
+        small-parts (length h.entities) (simple_sites h k) (block_sites h accepted ++ block_sites h refused) (simple-small k)
+        (small-parts (length h.entities) (block_sites h accepted) (block_sites h refused) (block-small accepted) (block-small refused))
     command-small (Case place e arms) = arms-small arms
 
-    arms-small : (arms : Arms) → Small (length h.entities) (arms_sites h arms)
+    arms-small : (arms : Arms) → Small (length h.entities) (map site_of (arms_sites h arms))
     arms-small (Last b) = block-small b
-    arms-small (Arm constants b arms) = small-both (length h.entities) (block_sites h b) (arms_sites h arms) (block-small b) (arms-small arms)
+    arms-small (Arm constants b arms) = small-parts (length h.entities) (block_sites h b) (arms_sites h arms) (block-small b) (arms-small arms)
 
-    block-small : (b : CommandBlock) → Small (length h.entities) (block_sites h b)
+    block-small : (b : CommandBlock) → Small (length h.entities) (map site_of (block_sites h b))
     block-small (Commands cs after) = list-small cs
 
-    else-small : (b : ElseBlock) → Small (length h.entities) (else_sites h b)
+    else-small : (b : ElseBlock) → Small (length h.entities) (map site_of (else_sites h b))
     else-small NoElse = tt
     else-small (Else b) = block-small b
 
-    list-small : (cs : CommandList) → Small (length h.entities) (list_sites h cs)
+    list-small : (cs : CommandList) → Small (length h.entities) (map site_of (list_sites h cs))
     list-small NoCommand = tt
-    list-small (AndCommand c cs) = small-both (length h.entities) (command_sites h c) (list_sites h cs) (command-small c) (list-small cs)
+    list-small (AndCommand c cs) = small-parts (length h.entities) (command_sites h c) (list_sites h cs) (command-small c) (list-small cs)
 
 module _ (es : List Entity) (p : 0 < length es) where
   mutual
     unfolding Small
 
-    state-small : (s : StateTree) → Small (length es) (state_sites es s)
+    state-small : (s : StateTree) → Small (length es) (map site_of (state_sites es s))
     state-small (StateOf place name kind body children) =
         let h : Home = record { entities = es; name = name.name; kind = kind; children = children } in
-        small-both (length es) (block_sites h body) (states_sites es children) (block-small h p body) (states-small children)
+        small-parts (length es) (block_sites h body) (states_sites es children) (block-small h p body) (states-small children)
 
-    states-small : (ss : StateList) → Small (length es) (states_sites es ss)
+    states-small : (ss : StateList) → Small (length es) (map site_of (states_sites es ss))
     states-small NoState = tt
-    states-small (AndState s ss) = small-both (length es) (state_sites es s) (states_sites es ss) (state-small s) (states-small ss)
+    states-small (AndState s ss) = small-parts (length es) (state_sites es s) (states_sites es ss) (state-small s) (states-small ss)
 
 -- a design with a state has an entity
 some-entity : (s : StateTree) (ss : StateList) (es : List Entity) → 0 < length (es ++ group_entities (AndState s ss))
 some-entity (StateOf place name kind body children) ss es =
     let n = length-append es (group_entities (AndState (StateOf place name kind body children) ss)) in omega (arith, n)
 
-all-small : (d : DesignTree) (ss : StateList) → d.states ≡ ss → Small (length (entities_of d)) (states_sites (entities_of d) ss)
+all-small : (d : DesignTree) (ss : StateList) → d.states ≡ ss → Small (length (entities_of d)) (map site_of (states_sites (entities_of d) ss))
 unfolding Small
 all-small d NoState e = tt
 all-small d (AndState s ss) e =

@@ -1,7 +1,6 @@
 -- The points on which entities hang are those that the check numbers.
-use Rattle.std.specs.Prelude.{◌≡◌, List, map}
-use Rattle.sap_tree.specs.declared.place.Place.{Place}
-use Rattle.sap_tree.specs.Syntax.{SimpleCommand, Assign, Write, SetTag, SetCellTag, Goto, Fall, Command, Do, Try, If, TryThen, Case, DesignTree}
+use Rattle.std.specs.Prelude.{◌≡◌, map}
+use Rattle.sap_tree.specs.Syntax.{Command, Do, Try, If, TryThen, Case, DesignTree}
 use Rattle.sap_check.specs.declared.point.Point.{Point}
 use Rattle.sap_check.specs.declared.point.PointKind.TheVariants as kind
 use Rattle.sap_check.specs.Points.{point, points_of}

@@ -1,5 +1,5 @@
 -- What hangs on each command that raises, as a list over the entities' numbers; and the program of a design.
-use Rattle.std.specs.Prelude.{ℕ, zero, suc, Bool, List, [], ◌∷◌, ◌++◌, length}
+use Rattle.std.specs.Prelude.{ℕ, zero, suc, Bool, List, [], ◌∷◌, ◌++◌}
 use Rattle.sap_tree.specs.Syntax.{DesignTree}
 use Rattle.sap_meaning.specs.Program.{World, root, Step, Set, Write, Retag, RetagCell, Goto, Fall, Command, Do, Try, If, TryThen, Case, Arms, Last, Arm, Block, End, Then, State, Node, Group, None, More, Program}
 use Rattle.sap_meaning.specs.Checks.{Spot}

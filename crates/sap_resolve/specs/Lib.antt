@@ -1,5 +1,4 @@
 pub mod Worlds
-pub mod Sites
 pub mod Terms
 pub mod Resolve
 pub mod Fill

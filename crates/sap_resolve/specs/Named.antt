@@ -1,5 +1,5 @@
 -- Programs in which each name is that of an entity of the kind that its place asks for.
-use Rattle.std.specs.Prelude.{◌≡◌, ℕ, Bool, true, ◌||◌}
+use Rattle.std.specs.Prelude.{◌≡◌, true, ◌||◌}
 use Rattle.sap_meaning.specs.Program.{World, is_register, is_memory, is_state, Step, Set, Write, Retag, RetagCell, Goto, Fall, Command, Do, Try, If, TryThen, Case, Arms, Last, Arm, Block, End, Then, State, Node, Group, None, More}
 use Rattle.sap_meaning.specs.Fine.{FineTerm, FineLevel}
 

@@ -1,8 +1,6 @@
--- The commands and states of a design with numbers for names. Each check site has its number, from 1 in the order of the text; another command has 0 in that place.
--- What hangs where is filled in afterwards.
+-- The commands and states of a design with numbers for names. Each check site has its number, from 1 in the order of the text: it is one more than the length of
+-- the walk's list up to it (`sap_shape`, `Sites`). Another command has 0 in that place. What hangs where is filled in afterwards.
 use Rattle.std.specs.Prelude.{ℕ, ◌+◌, List, [], ◌∷◌, length, Some, None as NoWidth, if◌then◌else◌}
-use Rattle.sap_tree.specs.declared.syntax.Kind.{Kind}
-use Rattle.sap_tree.specs.declared.name.Mention.{Mention}
 use Rattle.sap_tree.specs.Syntax.{Expression, Expressions, Number, Sized, NoPart, AndPart, SimpleCommand, Assign, Write, SetTag, SetCellTag, CommandBlock, Commands, ElseBlock, NoElse, Else, CommandList, NoCommand, AndCommand, StateTree, StateOf, StateList, NoState, AndState, DesignTree}
 use Rattle.sap_tree.specs.Syntax as tree
 use Rattle.sap_names.specs.Entities.{what_is, entities_of}
@@ -10,10 +8,9 @@ use Rattle.sap_names.specs.declared.entity.Entity.{Entity}
 use Rattle.sap_names.specs.Widths.{register_width, cell_width, index_width}
 use Rattle.sap_meaning.specs.Program.{Step, Set, Retag, RetagCell, Goto, Fall, Command, Do, Try, If, TryThen, Case, Arms, Last, Arm, Block, End, Then, State, Node, Group, None, More}
 use Rattle.sap_meaning.specs.Program as program
-use Rattle.sap_shape.specs.Sites.{is_site}
+use Rattle.sap_shape.specs.Sites.{is_site, Home, simple_sites, command_sites, block_sites, state_sites}
 use Rattle.sap_lattice.specs.Levels.{Levels}
 use Rattle.sap_resolve.specs.Worlds.{states_in}
-use Rattle.sap_resolve.specs.Sites.{Home, simple_sites, command_sites, block_sites, list_sites, state_sites}
 use Rattle.sap_resolve.specs.Terms.{entity_number, term_of, level_term}
 
 -- the number of a command where the next site has the number k
@@ -49,13 +46,13 @@ abbrev mutual
   pub command_of : Levels → Home → (k : ℕ) → tree.Command → Command
   command_of ls h k (tree.Do c) = Do (step_of ls h (site_number h k c) c)
   command_of ls h k (tree.Try c place handler) =
-      Try (step_of ls h (site_number h k c) c) [] (block_of ls h (k + simple_sites h c) handler)
+      Try (step_of ls h (site_number h k c) c) [] (block_of ls h (k + length (simple_sites h c)) handler)
   command_of ls h k (tree.If place condition then_block else_block) =
       If [] (term_of h.entities condition (Some 1)) (block_of ls h k then_block)
-      (else_of ls h (k + block_sites h then_block) else_block)
+      (else_of ls h (k + length (block_sites h then_block)) else_block)
   command_of ls h k (tree.TryThen c place accepted refused) =
-      TryThen (step_of ls h (site_number h k c) c) [] (block_of ls h (k + simple_sites h c) accepted)
-      (block_of ls h (k + simple_sites h c + block_sites h accepted) refused)
+      TryThen (step_of ls h (site_number h k c) c) [] (block_of ls h (k + length (simple_sites h c)) accepted)
+      (block_of ls h (k + length (simple_sites h c) + length (block_sites h accepted)) refused)
   command_of ls h k (tree.Case place e arms) = Case [] (term_of h.entities e NoWidth) (arms_of ls h k arms)
 
   pub block_of : Levels → Home → (k : ℕ) → CommandBlock → Block
@@ -68,22 +65,22 @@ abbrev mutual
 
   pub arms_of : Levels → Home → (k : ℕ) → tree.Arms → Arms
   arms_of ls h k (tree.Last b) = Last (block_of ls h k b)
-  arms_of ls h k (tree.Arm constants b arms) = Arm (numbers_of constants) (block_of ls h k b) (arms_of ls h (k + block_sites h b) arms)
+  arms_of ls h k (tree.Arm constants b arms) = Arm (numbers_of constants) (block_of ls h k b) (arms_of ls h (k + length (block_sites h b)) arms)
 
   pub list_of : Levels → Home → (k : ℕ) → CommandList → Block
   list_of ls h k NoCommand = End
-  list_of ls h k (AndCommand c cs) = Then (command_of ls h k c) (list_of ls h (k + command_sites h c) cs)
+  list_of ls h k (AndCommand c cs) = Then (command_of ls h k c) (list_of ls h (k + length (command_sites h c)) cs)
 
 -- and a state whose number is x
 abbrev mutual
   pub state_of : Levels → List Entity → (k x : ℕ) → StateTree → State
   state_of ls es k x (StateOf place name kind body children) =
-      let h : Home = record { entities = es; kind = kind; children = children } in
-      Node x (block_of ls h k body) (group_of ls es (k + block_sites h body) (x + 1) children)
+      let h : Home = record { entities = es; name = name.name; kind = kind; children = children } in
+      Node x (block_of ls h k body) (group_of ls es (k + length (block_sites h body)) (x + 1) children)
 
   pub group_of : Levels → List Entity → (k x : ℕ) → StateList → Group
   group_of ls es k x NoState = None
-  group_of ls es k x (AndState s rest) = More (state_of ls es k x s) (group_of ls es (k + state_sites es s) (x + states_in s) rest)
+  group_of ls es k x (AndState s rest) = More (state_of ls es k x s) (group_of ls es (k + length (state_sites es s)) (x + states_in s) rest)
 
 -- the states of a design
 abbrev pub states_of : Levels → DesignTree → Group

@@ -1,5 +1,5 @@
 -- Expressions with numbers for names and a width for each number.
-use Rattle.std.specs.Prelude.{ℕ, zero, suc, ◌-◌, List, Option, Some, None, eqb, if◌then◌else◌}
+use Rattle.std.specs.Prelude.{ℕ, ◌-◌, List, Option, Some, None, eqb, if◌then◌else◌}
 use Rattle.sap_bits.specs.declared.Op1.{Op1}
 use Rattle.sap_bits.specs.declared.Op1.TheVariants as one
 use Rattle.sap_bits.specs.declared.Op2.{Op2}

@@ -7,7 +7,7 @@ use Rattle.sap_lattice.specs.Order.{Laws}
 use Rattle.sap_lattice.specs.Levels.{Levels, order_of}
 use Rattle.sap_names.specs.Entities.{entities_of}
 use Rattle.sap_shape.specs.WellFormed.{WellFormed}
-use Rattle.sap_meaning.specs.Program.{Program, root}
+use Rattle.sap_meaning.specs.Program.{Program, entity, root, width}
 use Rattle.sap_meaning.proofs.Bools.{and_left}
 use Rattle.sap_premises.specs.Premises.{ProgramsAreFine}
 use Rattle.sap_resolve.specs.Fill.{program_of}
@@ -16,7 +16,7 @@ use Rattle.sap_sized.specs.Sound.{SizesFit, WidthsInRange}
 use Rattle.sap_check.specs.Sites.{sites_of}
 use Rattle.sap_meaning.specs.Fine.{FineProgram, ExactProgram}
 use Rattle.sap_meaning.specs.Sites.{program_sites}
-use Rattle.sap_resolve.specs.Sites.{group_sites}
+use Rattle.sap_shape.specs.Sites.{check_sites}
 use Rattle.sap_sites.specs.Numbering.{numbers_from}
 use Rattle.sap_program.specs.Design.{IsProgramOf}
 use Rattle.sap_program.specs.declared.program.Program as code
@@ -42,8 +42,12 @@ module _ (ls ks : Levels) (d : DesignTree) (p : code.Program) (same : ks ≡ ls)
   pub fine_as : FineProgram (program_of ls d) → FineProgram (meant ks p)
   fine_as f = subst (λ (q : Program). FineProgram q) (sym meant_is) f
 
+  pub initials_as : ((x : ℕ) → (entity (program_of ls d).world x).initial < 2 ^ width (program_of ls d).world x)
+      → (x : ℕ) → (entity (meant ks p).world x).initial < 2 ^ width (meant ks p).world x
+  initials_as f = subst (λ (q : Program). (x : ℕ) → (entity q.world x).initial < 2 ^ width q.world x) (sym meant_is) f
+
   pub sound_as : AbleGroup (program_of ls d).world (program_of ls d).states → FineProgram (program_of ls d) → ExactProgram (program_of ls d)
-      → program_sites (program_of ls d) ≡ numbers_from 1 (length (sites_of d)) → group_sites (entities_of d) d.states ≡ length (sites_of d) → IsSound ks p
+      → program_sites (program_of ls d) ≡ numbers_from 1 (length (sites_of d)) → length (check_sites d) ≡ length (sites_of d) → IsSound ks p
   sound_as able fine exact sites count = record {
     able = subst (λ (q : Program). AbleGroup q.world q.states) (sym meant_is) able;
     fine = fine_as fine;

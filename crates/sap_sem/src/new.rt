@@ -8,9 +8,8 @@ ghost use Rattle.sap_meaning.specs.Fine.{ExactProgram, FineProgram};
 ghost use Rattle.sap_meaning.specs.Program as program;
 ghost use Rattle.sap_meaning.specs.State.{first};
 ghost use Rattle.sap_meaning.specs.Sites.{program_sites};
-ghost use Rattle.sap_names.specs.Entities.{entities_of};
 ghost use Rattle.sap_resolve.specs.Fill as resolve;
-ghost use Rattle.sap_resolve.specs.Sites.{group_sites};
+ghost use Rattle.sap_shape.specs.Sites.{check_sites};
 ghost use Rattle.sap_sites.specs.Numbering.{numbers_from};
 ghost use Rattle.sap_sem.specs.Able.{AbleGroup};
 ghost use Rattle.sap_sem.specs.Machine.{levels_of, program_of, refusals_of, refused_at, sites_of, state_of};
@@ -36,7 +35,7 @@ fn program_serves(checked: &Checked)
     ensures initials { let w = (resolve.program_of (levels_in checked.now) (tree_in checked.now)).world in
         (x : ℕ) → (program.entity w x).initial < 2 ^ program.width w x }
     ensures sites { program_sites (resolve.program_of (levels_in checked.now) (tree_in checked.now)) ≡ numbers_from 1 (length (check.sites_of (tree_in checked.now))) }
-    ensures count { group_sites (entities_of (tree_in checked.now)) (tree_in checked.now).states ≡ length (check.sites_of (tree_in checked.now)) }
+    ensures count { length (check_sites (tree_in checked.now)) ≡ length (check.sites_of (tree_in checked.now)) }
 {
     checked.lawful();
     let lattice = checked.lattice();

@@ -8,3 +8,4 @@ pub mod Falling
 pub mod Followed
 pub mod Again
 pub mod Groups
+pub mod SiteCounts

@@ -1,4 +1,4 @@
--- The faults of shape of lists of commands and of states.
+-- The faults of shape, and the check sites, of lists of commands and of states.
 use Rattle.std.specs.Prelude.{ℕ, List, [], ◌∷◌, ◌++◌, Bool, false, ◌||◌}
 use Rattle.sap_tree.specs.declared.place.Place.{Place}
 use Rattle.sap_tree.specs.declared.syntax.Arm.{Arm}
@@ -13,6 +13,8 @@ use Rattle.sap_shape.specs.Closing as closing
 use Rattle.sap_shape.specs.Walk as paths
 use Rattle.sap_shape.specs.Walk.{Written, fresh, either}
 use Rattle.sap_shape.specs.ShapeFaults as shape
+use Rattle.sap_shape.specs.Sites as sites
+use Rattle.sap_shape.specs.Sites.{Home, CheckSite}
 use Rattle.sap_shape.specs.ShapeFaults.{Body, is_in}
 
 unfoldable pub open_list : List Cmd → List Fault
@@ -75,6 +77,10 @@ falls_arms (arm ∷ arms) = paths.falls_block (arm_block_of arm) || falls_arms a
 unfoldable pub second_arms : List Arm → Written → List Fault
 second_arms [] p = []
 second_arms (arm ∷ arms) p = paths.second_block (arm_block_of arm) p ++ second_arms arms p
+
+unfoldable pub arms_sites : Home → List Arm → List CheckSite
+arms_sites h [] = []
+arms_sites h (arm ∷ arms) = sites.block_sites h (arm_block_of arm) ++ arms_sites h arms
 
 -- all faults of shape that are found in a design
 abbrev pub shape_faults : DesignTree → List Fault

@@ -1,6 +1,10 @@
 -- Numbered lists of sites: one part behind another, and their numbers alone.
-use Rattle.std.proofs.Common.{◌≡◌, ℕ, suc, ◌+◌, List, [], ◌∷◌, ◌++◌, length, length-append, refl, ap, ◌∙◌, arith}
+use Rattle.std.proofs.Common.{◌≡◌, ℕ, suc, ◌+◌, List, [], ◌∷◌, ◌++◌, length, refl, sym, ap, ◌∙◌, arith}
+use Rattle.std.specs.Prelude.{map}
+use Rattle.std.proofs.lemmas.List.{length-map, map-append}
+use Rattle.sap_shape.specs.Sites.{CheckSite}
 use Rattle.sap_check.specs.declared.site.Site.{Site}
+use Rattle.sap_check.specs.Sites.{site_of as told}
 use Rattle.sap_sites.specs.ProgramSites.{ProgramSite}
 use Rattle.sap_sites.specs.Numbering.{numbers_from, numbered}
 
@@ -11,16 +15,14 @@ numbered_join k (x ∷ xs) ys =
     ap (λ (n : ℕ). numbered k (x ∷ xs) ++ numbered n ys) e
     ∙ ap (λ (ts : List ProgramSite). record { number = k; kind = x.kind; entity = x.entity } ∷ ts) (numbered_join (suc k) xs ys)
 
--- where the first part has m sites
-pub joined : (k m : ℕ) (as' bs : List ProgramSite) (xs ys : List Site) → m ≡ length xs → as' ≡ numbered k xs → bs ≡ numbered (k + m) ys
-    → as' ++ bs ≡ numbered k (xs ++ ys)
-joined k m as' bs xs ys c e f =
+-- those of a design
+pub joined : (k : ℕ) (as' bs : List ProgramSite) (xs ys : List CheckSite) → as' ≡ numbered k (map told xs) → bs ≡ numbered (k + length xs) (map told ys)
+    → as' ++ bs ≡ numbered k (map told (xs ++ ys))
+joined k as' bs xs ys e f =
     ap (λ (ts : List ProgramSite). ts ++ bs) e
-    ∙ ap (λ (ts : List ProgramSite). numbered k xs ++ ts) (f ∙ ap (λ (n : ℕ). numbered (k + n) ys) c)
-    ∙ numbered_join k xs ys
-
-pub counted : (m n : ℕ) (xs ys : List Site) → m ≡ length xs → n ≡ length ys → m + n ≡ length (xs ++ ys)
-counted m n xs ys e f = let l = length-append xs ys in omega arith
+    ∙ ap (λ (ts : List ProgramSite). numbered k (map told xs) ++ ts) (f ∙ ap (λ (n : ℕ). numbered (k + n) (map told ys)) (sym (length-map xs told)))
+    ∙ numbered_join k (map told xs) (map told ys)
+    ∙ ap (λ (ss : List Site). numbered k ss) (sym (map-append told xs ys))
 
 -- the numbers alone
 abbrev pub numbers_of : List ProgramSite → List ℕ

@@ -1,9 +1,11 @@
 -- One numbering of check sites in every well-formed design.
 use Rattle.std.proofs.Common.{◌≡◌, List, [], length, sym, ap, ◌∙◌}
+use Rattle.std.proofs.lemmas.List.{length-map}
 use Rattle.sap_lattice.specs.Levels.{order_of}
 use Rattle.sap_names.specs.Entities.{entities_of, what_is}
 use Rattle.sap_names.specs.NameFaults.{twice, states_faults}
-use Rattle.sap_check.specs.Sites.{sites_of}
+use Rattle.sap_shape.specs.Sites.{check_sites}
+use Rattle.sap_check.specs.Sites.{site_of, sites_of}
 use Rattle.sap_meaning.specs.Program.{World, Group, root}
 use Rattle.sap_resolve.specs.Worlds.{world_of}
 use Rattle.sap_resolve.specs.Resolve.{states_of}
@@ -15,7 +17,7 @@ use Rattle.sap_premises.proofs.Worlds.{laid}
 use Rattle.sap_sites.specs.ProgramSites.{ProgramSite, sites_in}
 use Rattle.sap_sites.specs.Numbering.{numbered, SitesAgree}
 use Rattle.sap_sites.proofs.Counts.{numbers_of, numbers_numbered}
-use Rattle.sap_sites.proofs.Numbering.{group_count, group_numbered}
+use Rattle.sap_sites.proofs.Numbering.{group_numbered}
 use Rattle.sap_sites.proofs.Filled.{group_filled, group_numbers}
 
 pub sites_agree_law : SitesAgree
@@ -32,5 +34,5 @@ sites_agree_law ls d formed =
       numbers =
           sym (group_numbers w (program_of ls d).states) ∙ ap (λ (ts : List ProgramSite). numbers_of ts) commands ∙ numbers_numbered 1 (sites_of d);
       commands = commands;
-      count = group_count es d.states;
+      count = sym (length-map (check_sites d) site_of);
     }

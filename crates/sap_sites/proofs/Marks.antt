@@ -1,15 +1,14 @@
 -- The numbers of a program's sites, as its commands have them.
-use Rattle.std.proofs.Common.{◌≡◌, ℕ, zero, suc, ◌+◌, ◌≤◌, Bool, true, false, List, [], ◌∷◌, ◌++◌, nat_eq, refl, sym, ap, ◌∙◌, subst, arith, if◌then◌else◌}
+use Rattle.std.proofs.Common.{◌≡◌, ℕ, zero, suc, ◌+◌, ◌≤◌, Bool, true, false, List, [], ◌∷◌, ◌++◌, length, length-append, nat_eq, refl, sym, ap, ◌∙◌, subst, arith, if◌then◌else◌}
 use Rattle.sap_tree.specs.Syntax.{SimpleCommand, Assign, SetTag, SetCellTag, CommandBlock, Commands, ElseBlock, NoElse, Else, CommandList, NoCommand, AndCommand, StateTree, StateOf, StateList, NoState, AndState}
 use Rattle.sap_tree.specs.Syntax as tree
 use Rattle.sap_lattice.specs.Levels.{Levels}
 use Rattle.sap_names.specs.declared.entity.Entity.{Entity}
 use Rattle.sap_shape.specs.Sites as shape
+use Rattle.sap_shape.specs.Sites.{Home, CheckSite, simple_sites}
 use Rattle.sap_meaning.specs.Program.{World, Step, Set, Write, Retag, RetagCell, Goto, Fall, Command, Do, Try, If, TryThen, Case, Arms, Last, Arm, Block, End, Then, State, Node, Group, None, More}
 use Rattle.sap_meaning.specs.Checks.{Spot, site_of}
 use Rattle.sap_resolve.specs.Worlds.{states_in}
-use Rattle.sap_resolve.specs.Sites.{Home, simple_sites}
-use Rattle.sap_resolve.specs.Sites as counts
 use Rattle.sap_resolve.specs.Resolve.{site_number, step_of, command_of, arms_of, block_of, else_of, list_of, state_of, group_of}
 use Rattle.sap_resolve.specs.Fill.{filled_step, filled, filled_arms, filled_block, filled_state, filled_group}
 use Rattle.sap_sites.specs.Numbering.{numbers_from}
@@ -97,17 +96,21 @@ numbers_join k (suc m) n =
     ap (λ (i : ℕ). (k ∷ numbers_from (suc k) m) ++ numbers_from i n) a ∙ ap (λ (xs : List ℕ). k ∷ xs) (numbers_join (suc k) m n)
     ∙ ap (λ (i : ℕ). numbers_from k i) (sym b)
 
-joined : (k m n : ℕ) (xs ys : List ℕ) → xs ≡ numbers_from k m → ys ≡ numbers_from (k + m) n → xs ++ ys ≡ numbers_from k (m + n)
-joined k m n xs ys e f = both xs ys (numbers_from k m) (numbers_from (k + m) n) e f ∙ numbers_join k m n
+joined : (k : ℕ) (a b : List CheckSite) (xs ys : List ℕ) → xs ≡ numbers_from k (length a) → ys ≡ numbers_from (k + length a) (length b)
+    → xs ++ ys ≡ numbers_from k (length (a ++ b))
+joined k a b xs ys e f =
+    both xs ys (numbers_from k (length a)) (numbers_from (k + length a) (length b)) e f ∙ numbers_join k (length a) (length b)
+    ∙ ap (λ (n : ℕ). numbers_from k n) (sym (length-append a b))
 
 never_zero : (k : ℕ) → 1 ≤ k → nat_eq k 0 ≡ false
 never_zero k p = eq_not k 0 (λ e. omega arith)
 
 -- a site has its number, and another command none
-one_mark : (k n : ℕ) (yes : Bool) → 1 ≤ k → n ≡ (if yes then k else 0) → (if nat_eq n 0 then [] else n ∷ []) ≡ numbers_from k (if yes then 1 else 0)
-one_mark k n true p e =
+one_mark : (k n : ℕ) (yes : Bool) (s : CheckSite) → 1 ≤ k → n ≡ (if yes then k else 0)
+    → (if nat_eq n 0 then [] else n ∷ []) ≡ numbers_from k (length (if yes then s ∷ [] else []))
+one_mark k n true s p e =
     subst (λ (m : ℕ). (if nat_eq m 0 then [] else m ∷ []) ≡ k ∷ []) (sym e) (ap (λ (b : Bool). if b then [] else k ∷ []) (never_zero k p))
-one_mark k n false p e = subst (λ (m : ℕ). (if nat_eq m 0 then [] else m ∷ []) ≡ []) (sym e) refl
+one_mark k n false s p e = subst (λ (m : ℕ). (if nat_eq m 0 then [] else m ∷ []) ≡ []) (sym e) refl
 
 module _ (ls : Levels) where
   module _ (h : Home) where
@@ -119,63 +122,60 @@ module _ (ls : Levels) where
     number_is n (tree.Goto place target) = refl
     number_is n (tree.Fall place) = refl
 
-    simple_marked : (k : ℕ) → 1 ≤ k → (c : SimpleCommand) → own_site (step_of ls h (site_number h k c) c) ≡ numbers_from k (simple_sites h c)
+    simple_marked : (k : ℕ) → 1 ≤ k → (c : SimpleCommand) → own_site (step_of ls h (site_number h k c) c) ≡ numbers_from k (length (simple_sites h c))
     simple_marked k p c =
-        one_mark k (site_of (step_of ls h (site_number h k c) c)) (shape.is_site h.entities h.kind h.children c) p (number_is (site_number h k c) c)
+        one_mark k (site_of (step_of ls h (site_number h k c) c)) (shape.is_site h.entities h.kind h.children c) (record { home = h; command = c }) p (number_is (site_number h k c) c)
 
     mutual
-      command_marked : (k : ℕ) → 1 ≤ k → (c : tree.Command) → marks (command_of ls h k c) ≡ numbers_from k (counts.command_sites h c)
+      command_marked : (k : ℕ) → 1 ≤ k → (c : tree.Command) → marks (command_of ls h k c) ≡ numbers_from k (length (shape.command_sites h c))
       command_marked k p (tree.Do c) = simple_marked k p c
       command_marked k p (tree.Try c place b) =
-          joined k (simple_sites h c) (counts.block_sites h b) (own_site (step_of ls h (site_number h k c) c))
-          (block_marks (block_of ls h (k + simple_sites h c) b)) (simple_marked k p c) (block_marked (k + simple_sites h c) (omega arith) b)
+          joined k (simple_sites h c) (shape.block_sites h b) (own_site (step_of ls h (site_number h k c) c))
+          (block_marks (block_of ls h (k + length (simple_sites h c)) b)) (simple_marked k p c) (block_marked (k + length (simple_sites h c)) (omega arith) b)
       command_marked k p (tree.If place e b other) =
-          joined k (counts.block_sites h b) (counts.else_sites h other) (block_marks (block_of ls h k b))
-          (block_marks (else_of ls h (k + counts.block_sites h b) other)) (block_marked k p b)
-          (else_marked (k + counts.block_sites h b) (omega arith) other)
+          joined k (shape.block_sites h b) (shape.else_sites h other) (block_marks (block_of ls h k b))
+          (block_marks (else_of ls h (k + length (shape.block_sites h b)) other)) (block_marked k p b)
+          (else_marked (k + length (shape.block_sites h b)) (omega arith) other)
       command_marked k p (tree.TryThen c place a b) =
-          let m = simple_sites h c in
-          let n = counts.block_sites h a in
-          let o = counts.block_sites h b in
-          let whole : m + (n + o) ≡ m + n + o = omega arith in
-          joined k m (n + o) (own_site (step_of ls h (site_number h k c) c)) (block_marks (block_of ls h (k + m) a) ++ block_marks (block_of ls h (k + m + n) b))
-          (simple_marked k p c)
-          (joined (k + m) n o (block_marks (block_of ls h (k + m) a)) (block_marks (block_of ls h (k + m + n) b)) (block_marked (k + m) (omega arith) a)
-          (block_marked (k + m + n) (omega arith) b))
-          ∙ ap (λ (i : ℕ). numbers_from k i) whole
+          let i = k + length (simple_sites h c) in
+          let j = i + length (shape.block_sites h a) in
+          joined k (simple_sites h c) (shape.block_sites h a ++ shape.block_sites h b) (own_site (step_of ls h (site_number h k c) c))
+          (block_marks (block_of ls h i a) ++ block_marks (block_of ls h j b)) (simple_marked k p c)
+          (joined i (shape.block_sites h a) (shape.block_sites h b) (block_marks (block_of ls h i a)) (block_marks (block_of ls h j b))
+          (block_marked i (omega arith) a) (block_marked j (omega arith) b))
       command_marked k p (tree.Case place e arms) = arms_marked k p arms
 
-      arms_marked : (k : ℕ) → 1 ≤ k → (arms : tree.Arms) → arms_marks (arms_of ls h k arms) ≡ numbers_from k (counts.arms_sites h arms)
+      arms_marked : (k : ℕ) → 1 ≤ k → (arms : tree.Arms) → arms_marks (arms_of ls h k arms) ≡ numbers_from k (length (shape.arms_sites h arms))
       arms_marked k p (tree.Last b) = block_marked k p b
       arms_marked k p (tree.Arm constants b arms) =
-          joined k (counts.block_sites h b) (counts.arms_sites h arms) (block_marks (block_of ls h k b)) (arms_marks (arms_of ls h (k + counts.block_sites h b) arms))
-          (block_marked k p b) (arms_marked (k + counts.block_sites h b) (omega arith) arms)
+          joined k (shape.block_sites h b) (shape.arms_sites h arms) (block_marks (block_of ls h k b)) (arms_marks (arms_of ls h (k + length (shape.block_sites h b)) arms))
+          (block_marked k p b) (arms_marked (k + length (shape.block_sites h b)) (omega arith) arms)
 
-      block_marked : (k : ℕ) → 1 ≤ k → (b : CommandBlock) → block_marks (block_of ls h k b) ≡ numbers_from k (counts.block_sites h b)
+      block_marked : (k : ℕ) → 1 ≤ k → (b : CommandBlock) → block_marks (block_of ls h k b) ≡ numbers_from k (length (shape.block_sites h b))
       block_marked k p (Commands cs after) = list_marked k p cs
 
-      else_marked : (k : ℕ) → 1 ≤ k → (b : ElseBlock) → block_marks (else_of ls h k b) ≡ numbers_from k (counts.else_sites h b)
+      else_marked : (k : ℕ) → 1 ≤ k → (b : ElseBlock) → block_marks (else_of ls h k b) ≡ numbers_from k (length (shape.else_sites h b))
       else_marked k p NoElse = refl
       else_marked k p (Else b) = block_marked k p b
 
-      list_marked : (k : ℕ) → 1 ≤ k → (cs : CommandList) → block_marks (list_of ls h k cs) ≡ numbers_from k (counts.list_sites h cs)
+      list_marked : (k : ℕ) → 1 ≤ k → (cs : CommandList) → block_marks (list_of ls h k cs) ≡ numbers_from k (length (shape.list_sites h cs))
       list_marked k p NoCommand = refl
       list_marked k p (AndCommand c cs) =
-          joined k (counts.command_sites h c) (counts.list_sites h cs) (marks (command_of ls h k c))
-          (block_marks (list_of ls h (k + counts.command_sites h c) cs)) (command_marked k p c)
-          (list_marked (k + counts.command_sites h c) (omega arith) cs)
+          joined k (shape.command_sites h c) (shape.list_sites h cs) (marks (command_of ls h k c))
+          (block_marks (list_of ls h (k + length (shape.command_sites h c)) cs)) (command_marked k p c)
+          (list_marked (k + length (shape.command_sites h c)) (omega arith) cs)
 
   mutual
-    state_marked : (es : List Entity) (k x : ℕ) → 1 ≤ k → (s : StateTree) → state_marks (state_of ls es k x s) ≡ numbers_from k (counts.state_sites es s)
+    state_marked : (es : List Entity) (k x : ℕ) → 1 ≤ k → (s : StateTree) → state_marks (state_of ls es k x s) ≡ numbers_from k (length (shape.state_sites es s))
     state_marked es k x p (StateOf place name kind body children) =
-        let h : Home = record { entities = es; kind = kind; children = children } in
-        joined k (counts.block_sites h body) (counts.group_sites es children) (block_marks (block_of ls h k body))
-        (group_marks (group_of ls es (k + counts.block_sites h body) (x + 1) children)) (block_marked h k p body)
-        (group_marked es (k + counts.block_sites h body) (x + 1) (omega arith) children)
+        let h : Home = record { entities = es; name = name.name; kind = kind; children = children } in
+        joined k (shape.block_sites h body) (shape.states_sites es children) (block_marks (block_of ls h k body))
+        (group_marks (group_of ls es (k + length (shape.block_sites h body)) (x + 1) children)) (block_marked h k p body)
+        (group_marked es (k + length (shape.block_sites h body)) (x + 1) (omega arith) children)
 
-    pub group_marked : (es : List Entity) (k x : ℕ) → 1 ≤ k → (g : StateList) → group_marks (group_of ls es k x g) ≡ numbers_from k (counts.group_sites es g)
+    pub group_marked : (es : List Entity) (k x : ℕ) → 1 ≤ k → (g : StateList) → group_marks (group_of ls es k x g) ≡ numbers_from k (length (shape.states_sites es g))
     group_marked es k x p NoState = refl
     group_marked es k x p (AndState s rest) =
-        joined k (counts.state_sites es s) (counts.group_sites es rest) (state_marks (state_of ls es k x s))
-        (group_marks (group_of ls es (k + counts.state_sites es s) (x + states_in s) rest)) (state_marked es k x p s)
-        (group_marked es (k + counts.state_sites es s) (x + states_in s) (omega arith) rest)
+        joined k (shape.state_sites es s) (shape.states_sites es rest) (state_marks (state_of ls es k x s))
+        (group_marks (group_of ls es (k + length (shape.state_sites es s)) (x + states_in s) rest)) (state_marked es k x p s)
+        (group_marked es (k + length (shape.state_sites es s)) (x + states_in s) (omega arith) rest)

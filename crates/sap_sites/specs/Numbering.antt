@@ -1,14 +1,14 @@
--- The check sites of a design and those of its program are one list. The walk over the tree that finds them stands in `sap_check`, `Sites`; that which
--- numbers the program's commands counts them, in `sap_resolve`, `Sites` and `Resolve`. What ties the two is stated here.
+-- The check sites of a design and those of its program are one list. One walk over the tree finds them (`sap_shape`, `Sites`): the check tells of its list
+-- (`sap_check`, `Sites`), and the program's commands are numbered by its length (`sap_resolve`, `Resolve`). That the commands so numbered are the sites that
+-- the program itself has, found by walking it, is stated here.
 use Rattle.std.specs.Prelude.{◌≡◌, ℕ, zero, suc, List, [], ◌∷◌, length}
 use Rattle.sap_tree.specs.Syntax.{DesignTree}
 use Rattle.sap_lattice.specs.Levels.{Levels}
-use Rattle.sap_names.specs.Entities.{entities_of}
+use Rattle.sap_shape.specs.Sites.{check_sites}
 use Rattle.sap_shape.specs.WellFormed.{WellFormed}
 use Rattle.sap_check.specs.declared.site.Site.{Site}
 use Rattle.sap_check.specs.Sites.{sites_of}
 use Rattle.sap_meaning.specs.Sites.{program_sites}
-use Rattle.sap_resolve.specs.Sites.{group_sites}
 use Rattle.sap_resolve.specs.Fill.{program_of}
 use Rattle.sap_sites.specs.ProgramSites.{ProgramSite, sites_in}
 
@@ -27,8 +27,8 @@ pub record OneNumbering (ls : Levels) (d : DesignTree) : Type 0 where
   pub numbers : program_sites (program_of ls d) ≡ numbers_from 1 (length (sites_of d))
   -- site k of the program is that of the design, in what it does and in its entity
   pub commands : sites_in (program_of ls d) ≡ numbered 1 (sites_of d)
-  -- and there are as many as are counted
-  pub count : group_sites (entities_of d) d.states ≡ length (sites_of d)
+  -- and there are as many as the walk finds
+  pub count : length (check_sites d) ≡ length (sites_of d)
 
 abbrev pub SitesAgree : Type 0
 SitesAgree = (ls : Levels) (d : DesignTree) → WellFormed ls d → OneNumbering ls d

@@ -1,5 +1,5 @@
 -- Commands, bodies and states in which no fault stands: their names are those of entities of the right kind, and their widths fit.
-use Rattle.std.proofs.Common.{◌≡◌, ℕ, zero, suc, ◌+◌, ◌^◌, ◌<◌, List, [], Bool, true, false, ◌||◌, Option, Some, None, refl, sym, ap, subst, ◌∙◌, arith}
+use Rattle.std.proofs.Common.{◌≡◌, ℕ, ◌+◌, ◌^◌, ◌<◌, List, [], Bool, true, false, ◌||◌, Option, Some, None, refl, sym, ap, subst, ◌∙◌, length}
 use Rattle.std.proofs.Math.Pow.{pow_pos}
 use Rattle.sap_tree.specs.declared.name.Mention.{Mention}
 use Rattle.sap_tree.specs.Syntax as tree
@@ -17,7 +17,7 @@ use Rattle.sap_meaning.specs.Program.{World, entity, width, is_register, is_memo
 use Rattle.sap_meaning.specs.Expressions.{width_of}
 use Rattle.sap_meaning.specs.Sized.{SizedTerm, Indexes, AreWithin, SizedStep, Sized, SizedArms, SizedBlock, SizedState, SizedGroup}
 use Rattle.sap_meaning.specs.Fine.{FineTerm}
-use Rattle.sap_resolve.specs.Sites.{Home, simple_sites, command_sites, block_sites, state_sites}
+use Rattle.sap_shape.specs.Sites.{Home, simple_sites, command_sites, block_sites, state_sites}
 use Rattle.sap_resolve.specs.Worlds.{states_in}
 use Rattle.sap_resolve.specs.Terms.{entity_number, term_of}
 use Rattle.sap_resolve.specs.Resolve.{site_number, step_of, number_of, numbers_of, command_of, arms_of, block_of, else_of, list_of, state_of, group_of}
@@ -160,20 +160,20 @@ module _ (ls : Levels) (h : Home) (w : World) (r : Ready ls h.entities w) where
     command_fits k (Try c place handler) f =
         let n = none_two (simple_faults ls.names what c) (block_faults ls.names what handler) f in
         let s = step_fits (site_number h k c) c n.0 in
-        let b = block_fits (k + simple_sites h c) handler n.1 in
+        let b = block_fits (k + length (simple_sites h c)) handler n.1 in
         ((s.0, b.0), (s.1, b.1))
     command_fits k (If place condition one other) f =
         let n = none_three (expression_faults what condition (Some 1)) (block_faults ls.names what one) (else_faults ls.names what other) f in
         let t = expression_fitted es w r.names condition (Some 1) n.0 in
         let i = asked_width w (term_of es condition (Some 1)) (own what condition) (Some 1) 1 refl t in
         let a = block_fits k one n.1 in
-        let b = else_fits (k + block_sites h one) other n.2 in
+        let b = else_fits (k + length (block_sites h one)) other n.2 in
         ((t.fine, a.0, b.0), ((t.fits, t.indexed), i, a.1, b.1))
     command_fits k (TryThen c place one other) f =
         let n = none_three (simple_faults ls.names what c) (block_faults ls.names what one) (block_faults ls.names what other) f in
         let s = step_fits (site_number h k c) c n.0 in
-        let a = block_fits (k + simple_sites h c) one n.1 in
-        let b = block_fits (k + simple_sites h c + block_sites h one) other n.2 in
+        let a = block_fits (k + length (simple_sites h c)) one n.1 in
+        let b = block_fits (k + length (simple_sites h c) + length (block_sites h one)) other n.2 in
         ((s.0, a.0, b.0), (s.1, a.1, b.1))
     command_fits k (Case place e arms) f =
         let n = none_two (expression_faults what e None) (arms_faults ls.names what (own what e) arms) f in
@@ -187,7 +187,7 @@ module _ (ls : Levels) (h : Home) (w : World) (r : Ready ls h.entities w) where
     arms_fit u k (tree.Arm constants b arms) f =
         let n = none_three (constants_faults what (Some u) constants) (block_faults ls.names what b) (arms_faults ls.names what (Some u) arms) f in
         let a = block_fits k b n.1 in
-        let rest = arms_fit u (k + block_sites h b) arms n.2 in
+        let rest = arms_fit u (k + length (block_sites h b)) arms n.2 in
         ((a.0, rest.0), (constants_within u constants n.0, a.1, rest.1))
 
     pub block_fits : (k : ℕ) (b : CommandBlock) → block_faults ls.names what b ≡ [] → BlockFits (block_of ls h k b)
@@ -202,7 +202,7 @@ module _ (ls : Levels) (h : Home) (w : World) (r : Ready ls h.entities w) where
     list_fits k (AndCommand c cs) f =
         let n = none_two (command_faults ls.names what c) (commands_faults ls.names what cs) f in
         let a = command_fits k c n.0 in
-        let b = list_fits (k + command_sites h c) cs n.1 in
+        let b = list_fits (k + length (command_sites h c)) cs n.1 in
         ((a.0, b.0), (a.1, b.1))
 
 module _ (ls : Levels) (le : ℕ → ℕ → Bool) (es : List Entity) (w : World) (r : Ready ls es w) where
@@ -211,9 +211,9 @@ module _ (ls : Levels) (le : ℕ → ℕ → Bool) (es : List Entity) (w : World
         → NamedState w (state_of ls es k x s) × SizedState w (state_of ls es k x s)
     state_fits k x (StateOf place name kind body children) f =
         let n = none_three (kind_faults ls.names le kind) (block_faults ls.names (what_is es) body) (states_faults ls.names le (what_is es) children) f in
-        let h : Home = record { entities = es; kind = kind; children = children } in
+        let h : Home = record { entities = es; name = name.name; kind = kind; children = children } in
         let a = block_fits ls h w r k body n.1 in
-        let b = group_fits (k + block_sites h body) (x + 1) children n.2 in
+        let b = group_fits (k + length (block_sites h body)) (x + 1) children n.2 in
         ((a.0, b.0), (a.1, b.1))
 
     pub group_fits : (k x : ℕ) (g : StateList) → states_faults ls.names le (what_is es) g ≡ []
@@ -222,5 +222,5 @@ module _ (ls : Levels) (le : ℕ → ℕ → Bool) (es : List Entity) (w : World
     group_fits k x (AndState s rest) f =
         let n = none_two (state_faults ls.names le (what_is es) s) (states_faults ls.names le (what_is es) rest) f in
         let a = state_fits k x s n.0 in
-        let b = group_fits (k + state_sites es s) (x + states_in s) rest n.1 in
+        let b = group_fits (k + length (state_sites es s)) (x + states_in s) rest n.1 in
         ((a.0, b.0), (a.1, b.1))

@@ -1,5 +1,5 @@
 -- In the commands and states of a design without faults every width is from 1 to 64.
-use Rattle.std.proofs.Common.{◌≡◌, ℕ, ◌+◌, List, [], Bool, true, ◌&&◌, Option, Some, None}
+use Rattle.std.proofs.Common.{◌≡◌, ℕ, ◌+◌, List, [], Bool, true, ◌&&◌, Option, Some, None, length}
 use Rattle.std.specs.Prelude.{nat_le}
 use Rattle.sap_tree.specs.Extent.{fits, tag_fits}
 use Rattle.sap_tree.specs.Limits.{most_arms, most_blocks}
@@ -16,7 +16,7 @@ use Rattle.sap_names.specs.declared.kind.Use.TheVariants.{Indexed as indexed, As
 use Rattle.sap_names.specs.NameFaults.{name_faults, expression_faults, tag_faults, tags_faults, simple_faults, command_faults, constants_faults, arms_faults, block_faults, else_faults, commands_faults, kind_faults, state_faults, states_faults}
 use Rattle.sap_names.specs.Widths.{own, register_width, cell_width, index_width}
 use Rattle.sap_meaning.specs.Program.{World}
-use Rattle.sap_resolve.specs.Sites.{Home, simple_sites, command_sites, block_sites, state_sites}
+use Rattle.sap_shape.specs.Sites.{Home, simple_sites, command_sites, block_sites, state_sites}
 use Rattle.sap_resolve.specs.Worlds.{states_in}
 use Rattle.sap_resolve.specs.Terms.{term_of, level_term, level_terms}
 use Rattle.sap_resolve.specs.Resolve.{site_number, step_of, command_of, arms_of, block_of, else_of, list_of, state_of, group_of}
@@ -92,17 +92,17 @@ module _ (version : Version) (ls : Levels) (h : Home) (w : World) (r : Resolved 
     command_ranged k (Try c place handler) i f =
         let j = both_true (is_simple version c) (is_block version handler) i in
         let n = none_two (simple_faults ls.names what c) (block_faults ls.names what handler) f in
-        (step_ranged (site_number h k c) c j.0 n.0, block_ranged (k + simple_sites h c) handler j.1 n.1)
+        (step_ranged (site_number h k c) c j.0 n.0, block_ranged (k + length (simple_sites h c)) handler j.1 n.1)
     command_ranged k (If place condition one other) i f =
         let j = three_true (is_outermost version condition) (is_block version one) (is_else version other) i in
         let n = none_three (expression_faults what condition (Some 1)) (block_faults ls.names what one) (else_faults ls.names what other) f in
-        (outer_ranged version ls es w r condition (Some 1) j.0 range_one n.0, block_ranged k one j.1 n.1, else_ranged (k + block_sites h one) other j.2 n.2)
+        (outer_ranged version ls es w r condition (Some 1) j.0 range_one n.0, block_ranged k one j.1 n.1, else_ranged (k + length (block_sites h one)) other j.2 n.2)
     command_ranged k (TryThen c place one other) i f =
         let j = both_true (is_second version && is_simple version c && is_block version one) (is_block version other) i in
         let m = both_true (is_second version && is_simple version c) (is_block version one) j.0 in
         let p = both_true (is_second version) (is_simple version c) m.0 in
         let n = none_three (simple_faults ls.names what c) (block_faults ls.names what one) (block_faults ls.names what other) f in
-        (step_ranged (site_number h k c) c p.1 n.0, block_ranged (k + simple_sites h c) one m.1 n.1, block_ranged (k + simple_sites h c + block_sites h one) other j.1 n.2)
+        (step_ranged (site_number h k c) c p.1 n.0, block_ranged (k + length (simple_sites h c)) one m.1 n.1, block_ranged (k + length (simple_sites h c) + length (block_sites h one)) other j.1 n.2)
     command_ranged k (Case place e arms) i f =
         let j = both_true (is_second version && is_outermost version e && has_arm arms && nat_le (arm_count arms) most_arms) (are_arms version arms) i in
         let m = both_true (is_second version && is_outermost version e && has_arm arms) (nat_le (arm_count arms) most_arms) j.0 in
@@ -117,7 +117,7 @@ module _ (version : Version) (ls : Levels) (h : Home) (w : World) (r : Resolved 
         let j = both_true (has_constant constants && are_constants constants && is_block version b) (are_arms version arms) i in
         let m = both_true (has_constant constants && are_constants constants) (is_block version b) j.0 in
         let n = none_three (constants_faults what asked constants) (block_faults ls.names what b) (arms_faults ls.names what asked arms) f in
-        (block_ranged k b m.1 n.1, arms_ranged (k + block_sites h b) asked arms j.1 n.2)
+        (block_ranged k b m.1 n.1, arms_ranged (k + length (block_sites h b)) asked arms j.1 n.2)
 
     pub block_ranged : (k : ℕ) (b : CommandBlock) → is_block version b ≡ true → block_faults ls.names what b ≡ [] → RangedBlock w (block_of ls h k b)
     block_ranged k (Commands cs after) i f = list_ranged k cs i f
@@ -131,7 +131,7 @@ module _ (version : Version) (ls : Levels) (h : Home) (w : World) (r : Resolved 
     list_ranged k (AndCommand c cs) i f =
         let j = both_true (is_command version c) (are_commands version cs) i in
         let n = none_two (command_faults ls.names what c) (commands_faults ls.names what cs) f in
-        (command_ranged k c j.0 n.0, list_ranged (k + command_sites h c) cs j.1 n.1)
+        (command_ranged k c j.0 n.0, list_ranged (k + length (command_sites h c)) cs j.1 n.1)
 
 module _ (version : Version) (ls : Levels) (le : ℕ → ℕ → Bool) (es : List Entity) (w : World) (r : Resolved es w) where
   mutual
@@ -140,15 +140,15 @@ module _ (version : Version) (ls : Levels) (le : ℕ → ℕ → Bool) (es : Lis
     state_ranged : (k x : ℕ) (s : StateTree) → is_state version s ≡ true → state_faults ls.names le (what_is es) s ≡ [] → RangedState w (state_of ls es k x s)
     state_ranged k x (StateOf place name kind body children) i f =
         let n = none_three (kind_faults ls.names le kind) (block_faults ls.names (what_is es) body) (states_faults ls.names le (what_is es) children) f in
-        let h : Home = record { entities = es; kind = kind; children = children } in
+        let h : Home = record { entities = es; name = name.name; kind = kind; children = children } in
         let j = both_true (is_name version name.name && is_kind version kind && is_block version body && nat_le (block_depth body) most_blocks) (are_states version children) i in
         let m = both_true (is_name version name.name && is_kind version kind && is_block version body) (nat_le (block_depth body) most_blocks) j.0 in
         let b = both_true (is_name version name.name && is_kind version kind) (is_block version body) m.0 in
-        (block_ranged version ls h w r k body b.1 n.1, group_ranged (k + block_sites h body) (x + 1) children j.1 n.2)
+        (block_ranged version ls h w r k body b.1 n.1, group_ranged (k + length (block_sites h body)) (x + 1) children j.1 n.2)
 
     pub group_ranged : (k x : ℕ) (g : StateList) → are_states version g ≡ true → states_faults ls.names le (what_is es) g ≡ [] → RangedGroup w (group_of ls es k x g)
     group_ranged k x NoState i f = tt
     group_ranged k x (AndState s rest) i f =
         let j = both_true (is_state version s) (are_states version rest) i in
         let n = none_two (state_faults ls.names le (what_is es) s) (states_faults ls.names le (what_is es) rest) f in
-        (state_ranged k x s j.0 n.0, group_ranged (k + state_sites es s) (x + states_in s) rest j.1 n.1)
+        (state_ranged k x s j.0 n.0, group_ranged (k + length (state_sites es s)) (x + states_in s) rest j.1 n.1)

@@ -6,9 +6,8 @@ use Rattle.sap_tree.specs.Whole.{is_declaration, has_state, are_states, is_tree}
 use Rattle.sap_lattice.specs.Levels.{order_of}
 use Rattle.sap_names.specs.declared.kind.Declared.{Declared}
 use Rattle.sap_names.specs.declared.kind.Declared.TheVariants.{Input, Register, Memory, State}
-use Rattle.sap_names.specs.Entities as names
 use Rattle.sap_names.specs.declared.entity.Entity as declared_entity
-use Rattle.sap_names.specs.Entities.{what_is, entities_of}
+use Rattle.sap_names.specs.Entities.{entities_of}
 use Rattle.sap_names.specs.Widths.{sound_width, index_bits, is_sound}
 use Rattle.sap_meaning.specs.Program.{World, Entity, nothing, root, kind_is_state, kind_is_memory, depth_of, Step, Set, Write, Retag, RetagCell, Goto, Fall, Command, Do, Try, If, TryThen, Case, Arms, Last, Arm, Block, End, Then, Node, Group, None, More}
 use Rattle.sap_meaning.specs.Program as program

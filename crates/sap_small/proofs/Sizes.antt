@@ -1,10 +1,10 @@
 -- The program of a design is no larger than the design.
-use Rattle.std.proofs.Common.{None, ◌≡◌, ℕ, ◌+◌, ◌≤◌, List, [], ◌∷◌, length, Option, Some, refl, ap, arith, inl, inr, length-append}
+use Rattle.std.proofs.Common.{None, ◌≡◌, ℕ, ◌+◌, ◌≤◌, List, [], ◌∷◌, ◌++◌, length, Option, Some, refl, ap, arith, inl, inr, length-append}
 use Rattle.std.specs.Prelude.{eqb}
 use Rattle.std.proofs.lemmas.Bool.{cases_Bool}
 use Rattle.sap_tree.specs.declared.syntax.Decl.{Decl}
 use Rattle.sap_tree.specs.declared.syntax.Kind.{Kind}
-use Rattle.sap_tree.specs.Syntax.{Expression, Number, Sized, Read, Cell, Unary, Binary, Choose, Slice, Concat, Zext, Expressions, NoPart, AndPart, TagExpression, Level, TagOf, LevelAt, Join, TagExpressions, NoTag, AndTag, SimpleCommand, Assign, SetTag, SetCellTag, CommandBlock, Commands, ElseBlock, NoElse, Else, CommandList, NoCommand, AndCommand, StateTree, StateOf, StateList, NoState, AndState, DesignTree}
+use Rattle.sap_tree.specs.Syntax.{Expression, Number, Sized, Read, Cell, Unary, Binary, Choose, Slice, Concat, Zext, Expressions, NoPart, AndPart, TagExpression, Level, TagOf, LevelAt, Join, TagExpressions, NoTag, AndTag, SimpleCommand, Assign, SetTag, SetCellTag, CommandBlock, Commands, ElseBlock, NoElse, Else, CommandList, NoCommand, AndCommand, StateTree, StateOf, StateList, NoState, AndState}
 use Rattle.sap_tree.specs.Syntax as tree
 use Rattle.sap_tree.specs.Whole.{state_count, states_count}
 use Rattle.sap_names.specs.Entities.{what_is}
@@ -12,13 +12,13 @@ use Rattle.sap_names.specs.declared.entity.Entity.{Entity}
 use Rattle.sap_names.specs.Widths.{own, width_of, family, asked_left, asked_right, asked_one, register_width, cell_width, index_width}
 use Rattle.sap_maps.specs.Term.{Term}
 use Rattle.sap_lattice.specs.Levels.{Levels}
-use Rattle.sap_shape.specs.Sites.{is_site}
+use Rattle.sap_shape.specs.Sites.{Home, simple_sites, command_sites, arms_sites, block_sites, else_sites, list_sites, state_sites, states_sites}
+use Rattle.sap_shape.proofs.SiteCounts.{simple_few}
 use Rattle.sap_meaning.specs.Program.{World, Step, Set, Retag, RetagCell, Goto, Fall, Command, Do, Try, If, TryThen, Case, Arms, Last, Arm, Block, End, Then, State, Node, Group, More}
 use Rattle.sap_meaning.specs.Program as program
 use Rattle.sap_meaning.specs.Checks.{Spot}
 use Rattle.sap_resolve.specs.Worlds.{states_in, all_declared, state_entities, group_entities}
 use Rattle.sap_resolve.specs.Worlds as worlds
-use Rattle.sap_resolve.specs.Sites.{Home, simple_sites, command_sites, arms_sites, block_sites, else_sites, list_sites, state_sites, group_sites}
 use Rattle.sap_resolve.specs.Terms.{known, widened, term_of, parts_of, level_term, level_terms}
 use Rattle.sap_resolve.specs.Resolve.{site_number, step_of, numbers_of, command_of, arms_of, block_of, else_of, list_of, state_of, group_of}
 use Rattle.sap_resolve.specs.Fill.{filled_step, filled, filled_arms, filled_block, filled_state, filled_group}
@@ -120,17 +120,17 @@ mutual
   command_within ls h k (tree.Do c) = let r = step_within ls h (site_number h k c) c in omega (arith, r)
   command_within ls h k (tree.Try c place handler) =
       let r = step_within ls h (site_number h k c) c in
-      let s = block_within ls h (k + simple_sites h c) handler in
+      let s = block_within ls h (k + length (simple_sites h c)) handler in
       omega (arith, r, s)
   command_within ls h k (tree.If place e one other) =
       let q = term_within h.entities e (Some 1) in
       let r = block_within ls h k one in
-      let s = else_within ls h (k + block_sites h one) other in
+      let s = else_within ls h (k + length (block_sites h one)) other in
       omega (arith, q, r, s)
   command_within ls h k (tree.TryThen c place one other) =
       let q = step_within ls h (site_number h k c) c in
-      let r = block_within ls h (k + simple_sites h c) one in
-      let s = block_within ls h (k + simple_sites h c + block_sites h one) other in
+      let r = block_within ls h (k + length (simple_sites h c)) one in
+      let s = block_within ls h (k + length (simple_sites h c) + length (block_sites h one)) other in
       omega (arith, q, r, s)
   command_within ls h k (tree.Case place e arms) =
       let q = term_within h.entities e None in
@@ -142,7 +142,7 @@ mutual
   arms_within ls h k (tree.Arm constants b arms) =
       let q = constants_within constants in
       let r = block_within ls h k b in
-      let s = arms_within ls h (k + block_sites h b) arms in
+      let s = arms_within ls h (k + length (block_sites h b)) arms in
       omega (arith, q, r, s)
 
   block_within : (ls : Levels) (h : Home) (k : ℕ) (b : CommandBlock) → block_size (block_of ls h k b) ≤ block_nodes b
@@ -156,27 +156,27 @@ mutual
   list_within ls h k NoCommand = omega arith
   list_within ls h k (AndCommand c cs) =
       let r = command_within ls h k c in
-      let s = list_within ls h (k + command_sites h c) cs in
+      let s = list_within ls h (k + length (command_sites h c)) cs in
       omega (arith, r, s)
 
 -- states
 
-abbrev home : List Entity → Kind → StateList → Home
-home es kind children = record { entities = es; kind = kind; children = children }
+abbrev home : List Entity → List ℕ → Kind → StateList → Home
+home es name kind children = record { entities = es; name = name; kind = kind; children = children }
 
 mutual
   state_within : (ls : Levels) (es : List Entity) (k x : ℕ) (s : StateTree) → state_size (state_of ls es k x s) ≤ state_nodes s
   state_within ls es k x (StateOf place name kind body children) =
-      let h = home es kind children in
+      let h = home es name.name kind children in
       let r = block_within ls h k body in
-      let s = group_within ls es (k + block_sites h body) (x + 1) children in
+      let s = group_within ls es (k + length (block_sites h body)) (x + 1) children in
       omega (arith, r, s)
 
   pub group_within : (ls : Levels) (es : List Entity) (k x : ℕ) (g : StateList) → group_size (group_of ls es k x g) ≤ states_nodes g
   group_within ls es k x NoState = omega arith
   group_within ls es k x (AndState s rest) =
       let r = state_within ls es k x s in
-      let q = group_within ls es (k + state_sites es s) (x + states_in s) rest in
+      let q = group_within ls es (k + length (state_sites es s)) (x + states_in s) rest in
       omega (arith, r, q)
 
 -- how many there are
@@ -184,14 +184,14 @@ mutual
 mutual
   state_counted : (ls : Levels) (es : List Entity) (k x : ℕ) (s : StateTree) → states_of (state_of ls es k x s) ≡ states_in s
   state_counted ls es k x (StateOf place name kind body children) =
-      let h = home es kind children in
-      ap (λ (n : ℕ). 1 + n) (group_counted ls es (k + block_sites h body) (x + 1) children)
+      let h = home es name.name kind children in
+      ap (λ (n : ℕ). 1 + n) (group_counted ls es (k + length (block_sites h body)) (x + 1) children)
 
   pub group_counted : (ls : Levels) (es : List Entity) (k x : ℕ) (g : StateList) → states_below (group_of ls es k x g) ≡ worlds.states_below g
   group_counted ls es k x NoState = refl
   group_counted ls es k x (AndState s rest) =
       let r = state_counted ls es k x s in
-      let q = group_counted ls es (k + state_sites es s) (x + states_in s) rest in
+      let q = group_counted ls es (k + length (state_sites es s)) (x + states_in s) rest in
       omega (arith, r, q)
 
 mutual
@@ -222,44 +222,49 @@ mutual
 
 -- check sites are commands
 
-site_within : (h : Home) (c : SimpleCommand) → simple_sites h c ≤ 1
-site_within h c = elim (cases_Bool (is_site h.entities h.kind h.children c)) [ inl t ↦ rw t (omega arith) | inr f ↦ rw f (omega arith) ]
-
 mutual
-  command_sited : (h : Home) (c : tree.Command) → command_sites h c ≤ command_nodes c
-  command_sited h (tree.Do c) = let r = site_within h c in omega (arith, r)
+  command_sited : (h : Home) (c : tree.Command) → length (command_sites h c) ≤ command_nodes c
+  command_sited h (tree.Do c) = let r = simple_few h c in omega (arith, r)
   command_sited h (tree.Try c place handler) =
-      let r = site_within h c in let s = block_sited h handler in omega (arith, r, s)
+      let r = simple_few h c in let s = block_sited h handler in omega (arith, r, s, length-append (simple_sites h c) (block_sites h handler))
   command_sited h (tree.If place e one other) =
-      let r = block_sited h one in let s = else_sited h other in omega (arith, r, s)
+      let r = block_sited h one in let s = else_sited h other in omega (arith, r, s, length-append (block_sites h one) (else_sites h other))
   command_sited h (tree.TryThen c place one other) =
-      let q = site_within h c in let r = block_sited h one in let s = block_sited h other in omega (arith, q, r, s)
+      let q = simple_few h c in
+      let r = block_sited h one in
+      let s = block_sited h other in
+      omega (arith, q, r, s, length-append (simple_sites h c) (block_sites h one ++ block_sites h other), length-append (block_sites h one) (block_sites h other))
   command_sited h (tree.Case place e arms) = let r = arms_sited h arms in omega (arith, r)
 
-  arms_sited : (h : Home) (arms : tree.Arms) → arms_sites h arms ≤ arms_nodes arms
+  arms_sited : (h : Home) (arms : tree.Arms) → length (arms_sites h arms) ≤ arms_nodes arms
   arms_sited h (tree.Last b) = block_sited h b
-  arms_sited h (tree.Arm constants b arms) = let r = block_sited h b in let s = arms_sited h arms in omega (arith, r, s)
+  arms_sited h (tree.Arm constants b arms) =
+      let r = block_sited h b in let s = arms_sited h arms in omega (arith, r, s, length-append (block_sites h b) (arms_sites h arms))
 
-  block_sited : (h : Home) (b : CommandBlock) → block_sites h b ≤ block_nodes b
+  block_sited : (h : Home) (b : CommandBlock) → length (block_sites h b) ≤ block_nodes b
   block_sited h (Commands cs after) = list_sited h cs
 
-  else_sited : (h : Home) (b : ElseBlock) → else_sites h b ≤ else_nodes b
+  else_sited : (h : Home) (b : ElseBlock) → length (else_sites h b) ≤ else_nodes b
   else_sited h NoElse = omega arith
   else_sited h (Else b) = block_sited h b
 
-  list_sited : (h : Home) (cs : CommandList) → list_sites h cs ≤ list_nodes cs
+  list_sited : (h : Home) (cs : CommandList) → length (list_sites h cs) ≤ list_nodes cs
   list_sited h NoCommand = omega arith
   list_sited h (AndCommand c cs) =
-      let r = command_sited h c in let s = list_sited h cs in omega (arith, r, s)
+      let r = command_sited h c in let s = list_sited h cs in omega (arith, r, s, length-append (command_sites h c) (list_sites h cs))
 
 mutual
-  state_sited : (es : List Entity) (s : StateTree) → state_sites es s ≤ state_nodes s
+  state_sited : (es : List Entity) (s : StateTree) → length (state_sites es s) ≤ state_nodes s
   state_sited es (StateOf place name kind body children) =
-      let r = block_sited (home es kind children) body in let s = group_sited es children in omega (arith, r, s)
+      let h = home es name.name kind children in
+      let r = block_sited h body in
+      let s = group_sited es children in
+      omega (arith, r, s, length-append (block_sites h body) (states_sites es children))
 
-  pub group_sited : (es : List Entity) (g : StateList) → group_sites es g ≤ states_nodes g
+  pub group_sited : (es : List Entity) (g : StateList) → length (states_sites es g) ≤ states_nodes g
   group_sited es NoState = omega arith
-  group_sited es (AndState s rest) = let r = state_sited es s in let q = group_sited es rest in omega (arith, r, q)
+  group_sited es (AndState s rest) =
+      let r = state_sited es s in let q = group_sited es rest in omega (arith, r, q, length-append (state_sites es s) (states_sites es rest))
 
 -- What hangs where adds nothing.
 

@@ -5,13 +5,12 @@ use Rattle.std.proofs.lemmas.Grind.{common_steps}
 use Rattle.std.proofs.lemmas.List.{length-take-le, length-drop}
 use Rattle.std.proofs.Math.Pow.{pow_pos}
 use Rattle.sap_bits.specs.declared.Op2.TheVariants.{Eq}
-use Rattle.sap_maps.specs.Term.{Term, constant, two, choose, part}
+use Rattle.sap_maps.specs.Term.{Term, constant, two}
 use Rattle.sap_meaning.specs.Program.{root, listed, Command, Do, Try, If, TryThen, Case, Arms, Last, Arm, Block, End, Then, Node, Group, None, More}
 use Rattle.sap_meaning.specs.Expressions.{width_of}
 use Rattle.sap_meaning.specs.Checks.{Spot}
 use Rattle.sap_meaning.specs.Runs.{listed_alone}
-use Rattle.sap_plain.specs.Nested.{Body, stop, act, cases, goto, fall, Forest, state_names}
-use Rattle.sap_plain.specs.Views.{follow}
+use Rattle.sap_plain.specs.Nested.{Body, stop, cases, Forest, state_names}
 use Rattle.sap_size.specs.Terms.{term_size}
 use Rattle.sap_size.specs.Nested.{states_in, body_weight, forest_weight}
 use Rattle.sap_size.specs.Programs.{command_size, arms_size, block_size, group_size, states_below}

@@ -16,13 +16,13 @@ use Rattle.sap_names.specs.Widths as widths
 use Rattle.sap_names.specs.Widths.{own, own_parts, register_width, cell_width, index_width, sliced, extended, family, asked_left, asked_right, asked_one, is_sound, all_sound}
 use Rattle.sap_maps.specs.Term.{Term, constant, read, cell, one, two, choose, join, part}
 use Rattle.sap_meaning.specs.Program as program
-use Rattle.sap_meaning.specs.Program.{World, root, LevelTerm, fixed, of, at_place, both, Step, Set, Write, Retag, RetagCell, Goto, Fall, Block, End, Then, State, Node, Group, None, More}
+use Rattle.sap_meaning.specs.Program.{World, LevelTerm, fixed, of, at_place, both, Step, Set, Write, Retag, RetagCell, Goto, Fall, Block, End, Then, State, Node, Group, None, More}
 use Rattle.sap_meaning.specs.Checks.{Spot}
 use Rattle.sap_meaning.specs.Expressions as meaning
 use Rattle.sap_lattice.specs.Levels.{Levels}
 use Rattle.sap_resolve.specs.Terms.{known, term_of, parts_of, widened, level_term, level_terms}
 use Rattle.sap_resolve.specs.Worlds.{states_in}
-use Rattle.sap_resolve.specs.Sites.{Home, simple_sites, command_sites, block_sites, state_sites}
+use Rattle.sap_shape.specs.Sites.{Home, simple_sites, command_sites, block_sites, state_sites}
 use Rattle.sap_resolve.specs.Resolve.{site_number, step_of, command_of, arms_of, block_of, else_of, list_of, state_of, group_of}
 use Rattle.sap_resolve.specs.Fill.{filled_step, filled, filled_arms, filled_block, filled_state, filled_group}
 use Rattle.sap_sized.proofs.Faultless.{none_two, none_three, none_four}
@@ -174,13 +174,13 @@ module _ (ls : Levels) (h : Home) (w : World) (r : Resolved h.entities w) where
     command_conditions k (tree.Do c) f = step_conditions (site_number h k c) c f
     command_conditions k (tree.Try c place b) f =
         let s = none_two (simple_faults ls.names known_as c) (block_faults ls.names known_as b) f in
-        (step_conditions (site_number h k c) c s.0, block_conditions (k + simple_sites h c) b s.1)
+        (step_conditions (site_number h k c) c s.0, block_conditions (k + length (simple_sites h c)) b s.1)
     command_conditions k (tree.If place e a b) f =
         let s = none_three (expression_faults known_as e (Some 1)) (block_faults ls.names known_as a) (else_faults ls.names known_as b) f in
-        (conditions h.entities w r e (Some 1) s.0, block_conditions k a s.1, else_conditions (k + block_sites h a) b s.2)
+        (conditions h.entities w r e (Some 1) s.0, block_conditions k a s.1, else_conditions (k + length (block_sites h a)) b s.2)
     command_conditions k (tree.TryThen c place a b) f =
         let s = none_three (simple_faults ls.names known_as c) (block_faults ls.names known_as a) (block_faults ls.names known_as b) f in
-        (step_conditions (site_number h k c) c s.0, block_conditions (k + simple_sites h c) a s.1, block_conditions (k + simple_sites h c + block_sites h a) b s.2)
+        (step_conditions (site_number h k c) c s.0, block_conditions (k + length (simple_sites h c)) a s.1, block_conditions (k + length (simple_sites h c) + length (block_sites h a)) b s.2)
     command_conditions k (tree.Case place e arms) f =
         let s = none_two (expression_faults known_as e common.None) (arms_faults ls.names known_as (own known_as e) arms) f in
         (conditions h.entities w r e common.None s.0, arms_conditions k (own known_as e) arms s.1)
@@ -189,7 +189,7 @@ module _ (ls : Levels) (h : Home) (w : World) (r : Resolved h.entities w) where
     arms_conditions k asked (tree.Last b) f = block_conditions k b f
     arms_conditions k asked (tree.Arm constants b arms) f =
         let s = none_three (constants_faults known_as asked constants) (block_faults ls.names known_as b) (arms_faults ls.names known_as asked arms) f in
-        (block_conditions k b s.1, arms_conditions (k + block_sites h b) asked arms s.2)
+        (block_conditions k b s.1, arms_conditions (k + length (block_sites h b)) asked arms s.2)
 
     block_conditions : (k : ℕ) (b : tree.CommandBlock) → block_faults ls.names known_as b ≡ [] → BlockConditions w (block_of ls h k b)
     block_conditions k (tree.Commands cs after) f = list_conditions k cs f
@@ -202,21 +202,21 @@ module _ (ls : Levels) (h : Home) (w : World) (r : Resolved h.entities w) where
     list_conditions k tree.NoCommand f = tt
     list_conditions k (tree.AndCommand c cs) f =
         let s = none_two (command_faults ls.names known_as c) (commands_faults ls.names known_as cs) f in
-        (command_conditions k c s.0, list_conditions (k + command_sites h c) cs s.1)
+        (command_conditions k c s.0, list_conditions (k + length (command_sites h c)) cs s.1)
 
 module _ (ls : Levels) (le : ℕ → ℕ → Bool) (es : List Entity) (w : World) (r : Resolved es w) where
   mutual
     state_conditions : (k x : ℕ) (s : tree.StateTree) → state_faults ls.names le (what_is es) s ≡ [] → StateConditions w (state_of ls es k x s)
     state_conditions k x (tree.StateOf place name kind body children) f =
-        let h : Home = record { entities = es; kind = kind; children = children } in
+        let h : Home = record { entities = es; name = name.name; kind = kind; children = children } in
         let s = none_three (kind_faults ls.names le kind) (block_faults ls.names (what_is es) body) (states_faults ls.names le (what_is es) children) f in
-        (block_conditions ls h w r k body s.1, group_conditions (k + block_sites h body) (x + 1) children s.2)
+        (block_conditions ls h w r k body s.1, group_conditions (k + length (block_sites h body)) (x + 1) children s.2)
 
     pub group_conditions : (k x : ℕ) (g : tree.StateList) → states_faults ls.names le (what_is es) g ≡ [] → GroupConditions w (group_of ls es k x g)
     group_conditions k x tree.NoState f = tt
     group_conditions k x (tree.AndState s rest) f =
         let n = none_two (state_faults ls.names le (what_is es) s) (states_faults ls.names le (what_is es) rest) f in
-        (state_conditions k x s n.0, group_conditions (k + state_sites es s) (x + states_in s) rest n.1)
+        (state_conditions k x s n.0, group_conditions (k + length (state_sites es s)) (x + states_in s) rest n.1)
 
 -- filling in what hangs changes none
 module _ (w : World) where

@@ -40,7 +40,8 @@ use Rattle.sap_tagged.proofs.FewArms.{group_few, filled_group_few}
 use Rattle.sap_tagged.proofs.Premises.{Design}
 use Rattle.sap_tagged.proofs.Cycle.{run_stands}
 use Rattle.sap_tagged.proofs.Shown.{interface}
-use Rattle.sap_tagged.proofs.Counts.{numbered, states_few, tidy}
+use Rattle.sap_shape.proofs.SiteCounts.{states_few}
+use Rattle.sap_tagged.proofs.Counts.{numbered, tidy}
 
 and_left : (p q : Bool) → (p && q) ≡ true → p ≡ true
 and_left p q h = (both_true p q h).0

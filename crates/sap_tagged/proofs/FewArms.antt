@@ -1,5 +1,5 @@
 -- The program of a whole design has cases with few arms, each with a constant.
-use Rattle.std.proofs.Common.{◌≡◌, ℕ, suc, ◌+◌, ◌≤◌, List, length, Bool, true, ◌&&◌, refl, sym, ap, ◌∙◌, subst, arith, nat_le}
+use Rattle.std.proofs.Common.{◌≡◌, ℕ, suc, ◌+◌, ◌≤◌, List, length, Bool, true, ◌&&◌, refl, sym, ap, subst, arith, nat_le}
 use Rattle.std.proofs.lemmas.Grind.{common_steps}
 use Rattle.sap_tree.specs.Limits.{most_arms, most_blocks}
 use Rattle.sap_tree.specs.Syntax as tree
@@ -12,7 +12,7 @@ use Rattle.sap_names.specs.declared.entity.Entity.{Entity}
 use Rattle.sap_meaning.specs.Program.{World, Command, Do, Try, If, TryThen, Case, Arms, Last, Arm, Block, End, Then, State, Node, Group, None, More}
 use Rattle.sap_meaning.specs.Checks.{Spot}
 use Rattle.sap_resolve.specs.Worlds.{states_in}
-use Rattle.sap_resolve.specs.Sites.{Home, simple_sites, command_sites, block_sites, state_sites}
+use Rattle.sap_shape.specs.Sites.{Home, simple_sites, command_sites, block_sites, state_sites}
 use Rattle.sap_resolve.specs.Resolve.{numbers_of, command_of, arms_of, block_of, else_of, list_of, state_of, group_of}
 use Rattle.sap_resolve.specs.Fill.{filled, filled_arms, filled_block, filled_state, filled_group}
 use Rattle.sap_tagged.specs.Commands.{arm_count}
@@ -37,20 +37,20 @@ some_number (tree.AndPart e constants) h = omega arith
 module _ (version : Version) (ls : Levels) (h : Home) where
   arms_counted : (k : ℕ) (arms : tree.Arms) → arm_count (arms_of ls h k arms) ≡ whole.arm_count arms
   arms_counted k (tree.Last b) = refl
-  arms_counted k (tree.Arm constants b arms) = let i = arms_counted (k + block_sites h b) arms in omega (arith, i)
+  arms_counted k (tree.Arm constants b arms) = let i = arms_counted (k + length (block_sites h b)) arms in omega (arith, i)
 
   mutual
     unfolding is_command is_block is_else are_arms are_commands
 
     command_few : (k : ℕ) (c : tree.Command) → is_command version c ≡ true → Few (command_of ls h k c)
     command_few k (tree.Do c) i = tt
-    command_few k (tree.Try c place b) i = block_few (k + simple_sites h c) b (and_right (is_simple version c) (is_block version b) i)
+    command_few k (tree.Try c place b) i = block_few (k + length (simple_sites h c)) b (and_right (is_simple version c) (is_block version b) i)
     command_few k (tree.If place x a b) i =
         let j = both_true (is_outermost version x && is_block version a) (is_else version b) i in
-        (block_few k a (and_right (is_outermost version x) (is_block version a) j.0), else_few (k + block_sites h a) b j.1)
+        (block_few k a (and_right (is_outermost version x) (is_block version a) j.0), else_few (k + length (block_sites h a)) b j.1)
     command_few k (tree.TryThen c place a b) i =
         let j = both_true (is_second version && is_simple version c && is_block version a) (is_block version b) i in
-        (block_few (k + simple_sites h c) a (and_right (is_second version && is_simple version c) (is_block version a) j.0), block_few (k + simple_sites h c + block_sites h a) b j.1)
+        (block_few (k + length (simple_sites h c)) a (and_right (is_second version && is_simple version c) (is_block version a) j.0), block_few (k + length (simple_sites h c) + length (block_sites h a)) b j.1)
     command_few k (tree.Case place x arms) i =
         let j = both_true (is_second version && is_outermost version x && has_arm arms && nat_le (whole.arm_count arms) most_arms) (are_arms version arms) i in
         let l = at_most (whole.arm_count arms) most_arms (and_right (is_second version && is_outermost version x && has_arm arms) (nat_le (whole.arm_count arms) most_arms) j.0) in
@@ -61,7 +61,7 @@ module _ (version : Version) (ls : Levels) (h : Home) where
     arms_few k (tree.Arm constants b arms) i =
         let j = both_true (has_constant constants && are_constants constants && is_block version b) (are_arms version arms) i in
         let m = both_true (has_constant constants && are_constants constants) (is_block version b) j.0 in
-        (some_number constants (and_left (has_constant constants) (are_constants constants) m.0), block_few k b m.1, arms_few (k + block_sites h b) arms j.1)
+        (some_number constants (and_left (has_constant constants) (are_constants constants) m.0), block_few k b m.1, arms_few (k + length (block_sites h b)) arms j.1)
 
     block_few : (k : ℕ) (b : tree.CommandBlock) → is_block version b ≡ true → FewBlock (block_of ls h k b)
     block_few k (tree.Commands cs after) i = list_few k cs i
@@ -73,7 +73,7 @@ module _ (version : Version) (ls : Levels) (h : Home) where
     list_few : (k : ℕ) (cs : tree.CommandList) → are_commands version cs ≡ true → FewBlock (list_of ls h k cs)
     list_few k tree.NoCommand i = tt
     list_few k (tree.AndCommand c cs) i =
-        let j = both_true (is_command version c) (are_commands version cs) i in (command_few k c j.0, list_few (k + command_sites h c) cs j.1)
+        let j = both_true (is_command version c) (are_commands version cs) i in (command_few k c j.0, list_few (k + length (command_sites h c)) cs j.1)
 
 module _ (version : Version) (ls : Levels) (es : List Entity) where
   mutual
@@ -81,15 +81,15 @@ module _ (version : Version) (ls : Levels) (es : List Entity) where
 
     state_few : (k x : ℕ) (s : tree.StateTree) → is_state version s ≡ true → FewState (state_of ls es k x s)
     state_few k x (tree.StateOf place name kind body children) i =
-        let h : Home = record { entities = es; kind = kind; children = children } in
+        let h : Home = record { entities = es; name = name.name; kind = kind; children = children } in
         let j = both_true (is_name version name.name && is_kind version kind && is_block version body && nat_le (block_depth body) most_blocks) (are_states version children) i in
         let m = and_left (is_name version name.name && is_kind version kind && is_block version body) (nat_le (block_depth body) most_blocks) j.0 in
-        (block_few version ls h k body (and_right (is_name version name.name && is_kind version kind) (is_block version body) m), group_few (k + block_sites h body) (x + 1) children j.1)
+        (block_few version ls h k body (and_right (is_name version name.name && is_kind version kind) (is_block version body) m), group_few (k + length (block_sites h body)) (x + 1) children j.1)
 
     pub group_few : (k x : ℕ) (g : tree.StateList) → are_states version g ≡ true → FewGroup (group_of ls es k x g)
     group_few k x tree.NoState i = tt
     group_few k x (tree.AndState s rest) i =
-        let j = both_true (is_state version s) (are_states version rest) i in (state_few k x s j.0, group_few (k + state_sites es s) (x + states_in s) rest j.1)
+        let j = both_true (is_state version s) (are_states version rest) i in (state_few k x s j.0, group_few (k + length (state_sites es s)) (x + states_in s) rest j.1)
 
 -- and so does filling in what hangs
 module _ (w : World) where

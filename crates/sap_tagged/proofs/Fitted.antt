@@ -12,7 +12,7 @@ use Rattle.sap_names.specs.declared.entity.Entity.{Entity}
 use Rattle.sap_meaning.specs.Program.{World, root, Command, Do, Try, If, TryThen, Case, Arms, Last, Arm, Block, End, Then, State, Node, Group, None, More}
 use Rattle.sap_meaning.specs.Checks.{Spot}
 use Rattle.sap_resolve.specs.Worlds.{world_of, states_in}
-use Rattle.sap_resolve.specs.Sites.{Home, simple_sites, command_sites, block_sites, state_sites}
+use Rattle.sap_shape.specs.Sites.{Home, simple_sites, command_sites, block_sites, state_sites}
 use Rattle.sap_resolve.specs.Resolve.{command_of, arms_of, block_of, else_of, list_of, state_of, group_of, states_of}
 use Rattle.sap_resolve.specs.Fill.{filled, filled_arms, filled_block, filled_state, filled_group}
 use Rattle.sap_sized.specs.Ranges.{IsWidth}
@@ -66,15 +66,15 @@ module _ (ls : Levels) (h : Home) where
 
     command_few : (k : ℕ) (c : tree.Command) → wires (command_of ls h k c) ≤ 5 * command_count c
     command_few k (tree.Do c) = omega arith
-    command_few k (tree.Try c place b) = let i = block_few (k + simple_sites h c) b in omega (arith, i)
-    command_few k (tree.If place e a b) = let i = block_few k a in let j = else_few (k + block_sites h a) b in omega (arith, i, j)
+    command_few k (tree.Try c place b) = let i = block_few (k + length (simple_sites h c)) b in omega (arith, i)
+    command_few k (tree.If place e a b) = let i = block_few k a in let j = else_few (k + length (block_sites h a)) b in omega (arith, i, j)
     command_few k (tree.TryThen c place a b) =
-        let i = block_few (k + simple_sites h c) a in let j = block_few (k + simple_sites h c + block_sites h a) b in omega (arith, i, j)
+        let i = block_few (k + length (simple_sites h c)) a in let j = block_few (k + length (simple_sites h c) + length (block_sites h a)) b in omega (arith, i, j)
     command_few k (tree.Case place e arms) = let i = arms_few k arms in omega (arith, i)
 
     arms_few : (k : ℕ) (arms : tree.Arms) → wires_arms (arms_of ls h k arms) ≤ 5 * arms_count arms
     arms_few k (tree.Last b) = block_few k b
-    arms_few k (tree.Arm constants b arms) = let i = block_few k b in let j = arms_few (k + block_sites h b) arms in omega (arith, i, j)
+    arms_few k (tree.Arm constants b arms) = let i = block_few k b in let j = arms_few (k + length (block_sites h b)) arms in omega (arith, i, j)
 
     block_few : (k : ℕ) (b : tree.CommandBlock) → wires_block (block_of ls h k b) ≤ 5 * block_count b
     block_few k (tree.Commands cs after) = list_few k cs
@@ -85,7 +85,7 @@ module _ (ls : Levels) (h : Home) where
 
     list_few : (k : ℕ) (cs : tree.CommandList) → wires_block (list_of ls h k cs) ≤ 5 * list_count cs
     list_few k tree.NoCommand = omega arith
-    list_few k (tree.AndCommand c cs) = let i = command_few k c in let j = list_few (k + command_sites h c) cs in omega (arith, i, j)
+    list_few k (tree.AndCommand c cs) = let i = command_few k c in let j = list_few (k + length (command_sites h c)) cs in omega (arith, i, j)
 
 module _ (ls : Levels) (es : List Entity) where
   mutual
@@ -93,15 +93,15 @@ module _ (ls : Levels) (es : List Entity) where
 
     state_few : (k x : ℕ) (s : tree.StateTree) → wires_state (state_of ls es k x s) ≤ 5 * state_commands s + state_count s
     state_few k x (tree.StateOf place name kind body kids) =
-        let h : Home = record { entities = es; kind = kind; children = kids } in
+        let h : Home = record { entities = es; name = name.name; kind = kind; children = kids } in
         let i = block_few ls h k body in
-        let j = group_few (k + block_sites h body) (x + 1) kids in
+        let j = group_few (k + length (block_sites h body)) (x + 1) kids in
         omega (arith, i, j)
 
     pub group_few : (k x : ℕ) (g : tree.StateList) → wires_group (group_of ls es k x g) ≤ 5 * states_commands g + states_count g
     group_few k x tree.NoState = omega arith
     group_few k x (tree.AndState s rest) =
-        let i = state_few k x s in let j = group_few (k + state_sites es s) (x + states_in s) rest in omega (arith, i, j)
+        let i = state_few k x s in let j = group_few (k + length (state_sites es s)) (x + states_in s) rest in omega (arith, i, j)
 
 limited : (t : Bool) (i r m s d c : ℕ) → IsTrue (t && (nat_le i 64 && nat_le r 256 && nat_le m 16 && nat_le s 256 && nat_le d 16 && nat_le c 4096)) → (s ≤ 256) × (c ≤ 4096)
 limited t i r m s d c h = (grind (arith, common_steps), grind (arith, common_steps))

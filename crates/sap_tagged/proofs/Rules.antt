@@ -18,7 +18,7 @@ use Rattle.sap_plain.proofs.SeatWidths.{seat_positive, seat_within}
 use Rattle.sap_interface.specs.StandsFor.{Named, world, depth}
 use Rattle.sap_tagged.specs.Keys.{Key, Value, Tag, First, Inner, key_name}
 use Rattle.sap_tagged.specs.Setting.{Setting, setting_of}
-use Rattle.sap_tagged.specs.Commands.{arm_count, pick_width, wires, wires_block}
+use Rattle.sap_tagged.specs.Commands.{arm_count, wires, wires_block}
 use Rattle.sap_tagged.specs.States.{saved, wires_group}
 use Rattle.sap_tagged.specs.Plain.{variable, wire, names_of, level_at_start, value_var, tag_var, seat_var, for_entities, shown_registers, has_own_tag, tag_registers, seat_registers, site_wires, step_wires, command_wires, arms_wires, block_wires, state_wires, group_wires, first_wires, inner_wires, memory_of, tags_of, plain_of}
 use Rattle.sap_tagged.proofs.Bools.{apart_tests, either_second}

@@ -1,6 +1,5 @@
-use Rattle.std.proofs.Common.{refl, ap}
 use Rattle.std.proofs.lemmas.Result.{err_from_is_err_and}
-use Rattle.sap_compile.specs.Parts.{design_of, levels_of, module_of, netlist_of}
+use Rattle.sap_compile.specs.Parts.{design_of, levels_of, netlist_of}
 use Rattle.sap_commands.specs.Steps.{ending, whole}
 use Rattle.sap_commands.proofs.Designs.{compiled_same}
 use Rattle.sap_commands.proofs.CompiledDesigns.{compiled_past}

@@ -1,7 +1,6 @@
 use Rattle.std.proofs.Common.{◌≡◌, sym, ap, subst}
 use Rattle.std.proofs.lemmas.Result.{err_from_is_err_and}
 use Rattle.sap_check.specs.Checked.{tree_in}
-use Rattle.sap_shape.specs.WellFormed.{WellFormed}
 use Rattle.sap_tree.specs.Designs.{design_of}
 use Rattle.sap_tree.specs.Syntax.{DesignTree}
 use Rattle.sap_tree.specs.declared.design.Design.{Design}

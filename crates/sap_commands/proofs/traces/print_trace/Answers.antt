@@ -8,7 +8,7 @@ use Rattle.sap_stim.specs.Line.{IsSized}
 use Rattle.sap_stim.specs.Stimulus.{stimulus_of}
 use Rattle.sap_run.specs.Fields.{design_fields}
 use Rattle.sap_run.specs.RunOf.{read_for}
-use Rattle.sap_trace.specs.Stepping.{AreLines, IsAfter, LinesAddUp}
+use Rattle.sap_trace.specs.Stepping.{AreLines, IsAfter}
 use Rattle.sap_commands.specs.Commands.{AreTraceLines}
 use Rattle.sap_commands.specs.Steps.{HasWhole}
 use Rattle.sap_commands.proofs.Ended.{quiet_self, starved}

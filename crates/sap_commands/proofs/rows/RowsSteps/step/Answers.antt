@@ -1,4 +1,4 @@
-use Rattle.std.proofs.Common.{◌≡◌, ◌+◌, ℕ, List, [], ◌∷◌, ◌++◌, length, sym, ap, subst, arith}
+use Rattle.std.proofs.Common.{◌+◌, ℕ, List, [], ◌∷◌, ◌++◌, length, sym, subst, arith}
 use Rattle.sap_net.specs.Net.{Net}
 use Rattle.sap_sim.specs.Stepping.{AreRows, HasRowMore, IsAfter}
 use Rattle.sap_commands.proofs.rows.RowsSteps.step.Goals as goal

@@ -1,4 +1,4 @@
-use Rattle.std.proofs.Common.{◌≡◌, ◌+◌, ℕ, List, [], ◌∷◌, ◌++◌, length, sym, ap, subst, arith}
+use Rattle.std.proofs.Common.{◌+◌, ℕ, List, [], ◌∷◌, ◌++◌, length, sym, subst, arith}
 use Rattle.sap_check.specs.Checked.{levels_in, tree_in}
 use Rattle.sap_net.specs.Net.{Net}
 use Rattle.sap_trace.specs.Stepping.{AreLines, HasLinesMore, IsAfter}

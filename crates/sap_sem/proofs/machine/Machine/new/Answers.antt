@@ -5,8 +5,15 @@ use Rattle.sap_meaning.specs.State.{Resting}
 use Rattle.sap_meaning.specs.Store.{Store}
 use Rattle.sap_sem.specs.Sound.{meant}
 use Rattle.sap_sem.proofs.Refused.{listed_again, none_marked}
-use Rattle.sap_sem.proofs.Served.{fine_as, sound_as}
+use Rattle.sap_sem.proofs.Served.{fine_as, initials_as, sound_as}
 use Rattle.sap_sem.proofs.machine.Machine.new.Goals as goal
+
+pub first_store-requires : goal.first_store-requires
+first_store-requires c =
+    let ls = levels_in c.args.checked.now in
+    let d = tree_in c.args.checked.now in
+    let same : c.in_ok-lattice.lattice ≡ ls = c.in_ok-lattice.ensures ∙ c.lattice-levels.ensures in
+    initials_as ls c.in_ok-lattice.lattice d c.in_ok-program.program same c.in_ok-program.ensures c.program_serves.ensures.initials
 
 pub invariant_of-result-clause-sound : goal.invariant_of-result-clause-sound
 invariant_of-result-clause-sound c =
