@@ -1,4 +1,5 @@
 pub mod Decoding
+mod Digits
 pub mod Lists
 pub mod Maps
 pub mod Helpers

@@ -6,6 +6,7 @@ use Rattle.std.specs.List.{list_any}
 use Rattle.std.specs.Map.{lookup, IsKeyTest, AreApart, KeepsOthers}
 use Rattle.std.specs.Set as set
 use Rattle.std.specs.HashMap as hash
+use Rattle.std.specs.Option.{option_map}
 use Rattle.std.specs.HashSet as bag
 use Rattle.std.specs.declared.hash.FoldHasher.{FoldHasher}
 use Rattle.std.specs.declared.hash.BuildHasherDefault.{BuildHasherDefault}
@@ -17,7 +18,7 @@ use Rattle.sap_maps.specs.Scope.{find}
 use Rattle.sap_maps.proofs.Scopes.{same_name, name_is, apart_back, not_behind}
 use Rattle.sap_net.specs.declared.parts.Wire.{Wire}
 use Rattle.sap_fold.specs.Keys.{key}
-use Rattle.sap_fold.specs.Names.{NameSet, holds}
+use Rattle.sap_fold.specs.Names.{NameSet, helper, holds}
 use Rattle.sap_fold.specs.Wires.{rights, RightMap, at_key, NamesRights}
 
 others_kept : {K X : Type 0} (eq : K → K → Bool) (test : K → Bool) (old new : List (K × X)) → KeepsOthers eq test old new → (other : K → Bool) → IsKeyTest eq other → AreApart test other → lookup other new ≡ lookup other old
@@ -76,9 +77,9 @@ last_other : (ws : List Wire) (w : Wire) (k : List ℕ) → bytes_eq (key_of w) 
 last_other [] w k f = rw f refl
 last_other (x ∷ ws) w k f = ap (λ o. if bytes_eq (key_of x) k then Some x.name else o) (last_other ws w k f)
 
-pub one_more : (m m' : RightMap) (ws : List Wire) (w : Wire) → find (rights ws) (key_of w) ≡ None → hash.UpdatesBy same_bytes (λ k. bytes_eq (key_of w) k.items) m m' (Some w.name) → NamesRights m ws → NamesRights m' (ws ++ w ∷ [])
-one_more m m' ws w new h is k =
-    elim (cases_Bool (bytes_eq (key_of w) k)) [
-      | inl t ↦ subst (λ (x : List ℕ). at_key m' x ≡ find (rights (ws ++ w ∷ [])) x) (name_is (key_of w) k t) (h.1 ∙ sym (last_here ws w new))
-      | inr f ↦ at_other m m' (key_of w) (Some w.name) h k f ∙ is k ∙ sym (last_other ws w k f)
+pub one_more : (m m' : RightMap) (ws : List Wire) (w : Wire) (k : ℕ) → w.name ≡ helper k → find (rights ws) (key_of w) ≡ None → hash.UpdatesBy same_bytes (λ b. bytes_eq (key_of w) b.items) m m' (Some k) → NamesRights m ws → NamesRights m' (ws ++ w ∷ [])
+one_more m m' ws w k named new h is b =
+    elim (cases_Bool (bytes_eq (key_of w) b)) [
+      | inl t ↦ subst (λ (x : List ℕ). at_key m' x ≡ find (rights (ws ++ w ∷ [])) x) (name_is (key_of w) b t) (ap (option_map helper) h.1 ∙ ap Some (sym named) ∙ sym (last_here ws w new))
+      | inr f ↦ ap (option_map helper) (at_other m m' (key_of w) (Some k) h b f) ∙ is b ∙ sym (last_other ws w b f)
     ]

@@ -1,5 +1,5 @@
--- Numbers that tell the right side of a wire, and its width, from every other.
-use Rattle.std.specs.Prelude.{ℕ, List, [], ◌∷◌, ◌++◌, length}
+-- Bytes that tell the right side of a wire, and its width, from every other.
+use Rattle.std.specs.Prelude.{ℕ, zero, suc, ◌+◌, ◌/◌, ◌%◌, List, [], ◌∷◌, ◌++◌, length, nat_lt, if◌then◌else◌}
 use Rattle.sap_bits.specs.declared.Op1.{Op1}
 use Rattle.sap_bits.specs.declared.Op1.TheVariants.{Not, Neg, AllOnes, AnyOne, Odd}
 use Rattle.sap_bits.specs.declared.Op2.{Op2}
@@ -30,23 +30,31 @@ number2 Le = 9
 number2 Shl = 10
 number2 Shr = 11
 
+-- the digits of a number in base 128, the least first, 128 added to each but the last; for a number of at most `most`
+abbrev pub digits : (most n : ℕ) → List ℕ
+digits zero n = n ∷ []
+digits (suc most) n = if nat_lt n 128 then n ∷ [] else (128 + n % 128) ∷ digits most (n / 128)
+
+unfoldable pub number : ℕ → List ℕ
+number n = digits n n
+
 -- a name with its length in front, or a number with its width
-abbrev pub operand_numbers : Operand → List ℕ
-operand_numbers (Named x) = 0 ∷ length x ∷ x
-operand_numbers (Constant w n) = 1 ∷ w ∷ n ∷ []
+abbrev pub operand_bytes : Operand → List ℕ
+operand_bytes (Named x) = 0 ∷ number (length x) ++ x
+operand_bytes (Constant w n) = 1 ∷ number w ++ number n
 
-abbrev pub operands_numbers : List Operand → List ℕ
-operands_numbers [] = []
-operands_numbers (o ∷ os) = operand_numbers o ++ operands_numbers os
+abbrev pub operands_bytes : List Operand → List ℕ
+operands_bytes [] = []
+operands_bytes (o ∷ os) = operand_bytes o ++ operands_bytes os
 
-abbrev pub right_numbers : Right → List ℕ
-right_numbers (Copy a) = 0 ∷ operand_numbers a
-right_numbers (One op a) = 1 ∷ number1 op ∷ operand_numbers a
-right_numbers (Two op a b) = 2 ∷ number2 op ∷ operand_numbers a ++ operand_numbers b
-right_numbers (Choose c a b) = 3 ∷ operand_numbers c ++ (operand_numbers a ++ operand_numbers b)
-right_numbers (Concat os) = 4 ∷ length os ∷ operands_numbers os
-right_numbers (Slice x hi lo) = 5 ∷ hi ∷ lo ∷ x
-right_numbers (Cell m i) = 6 ∷ operand_numbers i ++ m
+abbrev pub right_bytes : Right → List ℕ
+right_bytes (Copy a) = 0 ∷ operand_bytes a
+right_bytes (One op a) = 1 ∷ number1 op ∷ operand_bytes a
+right_bytes (Two op a b) = 2 ∷ number2 op ∷ operand_bytes a ++ operand_bytes b
+right_bytes (Choose c a b) = 3 ∷ operand_bytes c ++ (operand_bytes a ++ operand_bytes b)
+right_bytes (Concat os) = 4 ∷ number (length os) ++ operands_bytes os
+right_bytes (Slice x hi lo) = 5 ∷ number hi ++ (number lo ++ x)
+right_bytes (Cell m i) = 6 ∷ operand_bytes i ++ m
 
 unfoldable pub key : (width : ℕ) → Right → List ℕ
-key w r = w ∷ right_numbers r
+key w r = number w ++ right_bytes r

@@ -1,6 +1,7 @@
 -- One more helping wire, or the one that has its right side already.
 use Rattle.std.specs.Prelude.{◌≡◌, ℕ, ◌+◌, ◌^◌, ◌<◌, ◌≤◌, ◌⊎◌, Bool, false, List, [], ◌∷◌, ◌++◌, map, length, slice_index_or, Option, Some, None, bytes_eq}
 use Rattle.std.specs.HashMap.{HashMap, get_by}
+use Rattle.std.specs.Option.{option_map}
 use Rattle.std.specs.declared.hash.FoldHasher.{FoldHasher}
 use Rattle.std.specs.declared.hash.BuildHasherDefault.{BuildHasherDefault}
 use Rattle.std.specs.declared.vec.Vec.{Vec}
@@ -20,12 +21,13 @@ abbrev pub rights : List Wire → List (Name × Name)
 rights ws = map (λ w. (key w.width w.right, w.name)) ws
 
 abbrev pub RightMap : Type 0
-RightMap = HashMap (Vec ℕ Global) Name (BuildHasherDefault FoldHasher)
+RightMap = HashMap (Vec ℕ Global) ℕ (BuildHasherDefault FoldHasher)
 
+-- the name with the number that the map has for a right side
 abbrev pub at_key : RightMap → List ℕ → Option Name
-at_key m k = get_by (λ x. bytes_eq k x.items) m
+at_key m k = option_map helper (get_by (λ x. bytes_eq k x.items) m)
 
--- each right side has the name of its wire, and nothing else has one
+-- each right side has the number in the name of its wire, and nothing else has one
 abbrev pub NamesRights : RightMap → List Wire → Type 0
 NamesRights m ws = (k : List ℕ) → at_key m k ≡ find (rights ws) k
 

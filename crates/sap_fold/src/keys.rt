@@ -1,4 +1,4 @@
-//! The numbers that tell right sides apart.
+//! The bytes that tell right sides apart.
 
 ghost use Rattle.std.specs.Prelude.{◌≡◌, ◌++◌, IfOk, OnOk};
 ghost use Rattle.sap_fold.specs.Keys as spec;
@@ -7,7 +7,10 @@ use sap_bits::{Op1, Op2};
 use sap_net::parts::{Operand, Right};
 use std::alloc::{AllocError, Global};
 
-fn number_one(op: Op1) -> u64
+/// The bytes of the right side of an operator on two names of up to eight bytes, which most wires have.
+const MOST_BYTES: usize = 24;
+
+fn number_one(op: Op1) -> u8
     ensures { result ≡ spec.number1 op }
 {
     match op {
@@ -19,7 +22,7 @@ fn number_one(op: Op1) -> u64
     }
 }
 
-fn number_two(op: Op2) -> u64
+fn number_two(op: Op2) -> u8
     ensures { result ≡ spec.number2 op }
 {
     match op {
@@ -38,36 +41,47 @@ fn number_two(op: Op2) -> u64
     }
 }
 
-fn add_bytes(key: &mut Vec<u64>, bytes: &[u8]) -> Result<(), AllocError>
+fn add_number(key: &mut Vec<u8>, number: u64) -> Result<(), AllocError>
+    ensures { OnOk result (key.new.items ≡ key.old.items ++ spec.number number) }
+{
+    let mut rest = number;
+    while rest >= 128 {
+        key.push((128 + rest % 128) as u8)?;
+        rest /= 128;
+    }
+    key.push(rest as u8)?;
+    Ok(())
+}
+
+fn add_bytes(key: &mut Vec<u8>, bytes: &[u8]) -> Result<(), AllocError>
     ensures { OnOk result (key.new.items ≡ key.old.items ++ bytes.now) }
 {
     for byte in bytes {
-        key.push(u64::from(*byte))?;
+        key.push(*byte)?;
     }
     Ok(())
 }
 
-fn add_operand(key: &mut Vec<u64>, operand: &Operand) -> Result<(), AllocError>
-    ensures { OnOk result (key.new.items ≡ key.old.items ++ spec.operand_numbers operand.now) }
+fn add_operand(key: &mut Vec<u8>, operand: &Operand) -> Result<(), AllocError>
+    ensures { OnOk result (key.new.items ≡ key.old.items ++ spec.operand_bytes operand.now) }
 {
     match operand {
         Operand::Named(name) => {
             let bytes = name.as_bytes();
             key.push(0)?;
-            key.push(bytes.len() as u64)?;
+            add_number(key, bytes.len() as u64)?;
             add_bytes(key, bytes)
         }
         Operand::Constant { width, value } => {
             key.push(1)?;
-            key.push(u64::from(*width))?;
-            key.push(*value)?;
-            Ok(())
+            add_number(key, u64::from(*width))?;
+            add_number(key, *value)
         }
     }
 }
 
-fn add_operands(key: &mut Vec<u64>, operands: &[Operand]) -> Result<(), AllocError>
-    ensures { OnOk result (key.new.items ≡ key.old.items ++ spec.operands_numbers operands.now) }
+fn add_operands(key: &mut Vec<u8>, operands: &[Operand]) -> Result<(), AllocError>
+    ensures { OnOk result (key.new.items ≡ key.old.items ++ spec.operands_bytes operands.now) }
 {
     for operand in operands {
         add_operand(key, operand)?;
@@ -75,8 +89,8 @@ fn add_operands(key: &mut Vec<u64>, operands: &[Operand]) -> Result<(), AllocErr
     Ok(())
 }
 
-fn add_right(key: &mut Vec<u64>, right: &Right) -> Result<(), AllocError>
-    ensures { OnOk result (key.new.items ≡ key.old.items ++ spec.right_numbers right.now) }
+fn add_right(key: &mut Vec<u8>, right: &Right) -> Result<(), AllocError>
+    ensures { OnOk result (key.new.items ≡ key.old.items ++ spec.right_bytes right.now) }
 {
     match right {
         Right::Copy(a) => {
@@ -103,13 +117,13 @@ fn add_right(key: &mut Vec<u64>, right: &Right) -> Result<(), AllocError>
         Right::Concat(operands) => {
             let operands = operands.as_slice();
             key.push(4)?;
-            key.push(operands.len() as u64)?;
+            add_number(key, operands.len() as u64)?;
             add_operands(key, operands)
         }
         Right::Slice { name, hi, lo } => {
             key.push(5)?;
-            key.push(u64::from(*hi))?;
-            key.push(u64::from(*lo))?;
+            add_number(key, u64::from(*hi))?;
+            add_number(key, u64::from(*lo))?;
             add_bytes(key, name.as_bytes())
         }
         Right::Cell { memory, index } => {
@@ -120,13 +134,13 @@ fn add_right(key: &mut Vec<u64>, right: &Right) -> Result<(), AllocError>
     }
 }
 
-/// The numbers of a right side at a width.
+/// The bytes of a right side at a width.
 #[tactic(auto, unfolding(crate::specs::Keys::key))]
-pub fn key(alloc: Global, width: u32, right: &Right) -> Result<Vec<u64>, AllocError>
+pub fn key(alloc: Global, width: u32, right: &Right) -> Result<Vec<u8>, AllocError>
     ensures { IfOk result (λ k. k.items ≡ spec.key width right.now) }
 {
-    let mut key = Vec::new(alloc);
-    key.push(u64::from(width))?;
+    let mut key = Vec::with_capacity(alloc, MOST_BYTES)?;
+    add_number(&mut key, u64::from(width))?;
     add_right(&mut key, right)?;
     Ok(key)
 }

@@ -187,8 +187,8 @@ pub fn see_equal(
     a: Operand,
     b: Operand,
 ) -> Result<Right, AllocError>
-    requires { NamesRights wires.old.names wires.old.list.items }
-    ensures names { OnOk result (NamesRights wires.new.names wires.new.list.items) }
+    requires { NamesRights wires.old.numbers wires.old.list.items }
+    ensures names { OnOk result (NamesRights wires.new.numbers wires.new.list.items) }
     ensures becomes { IfOk result (λ r. Becomes (holds taken.now) wires.old.list.items wires.old.next width (right.Two two.Eq a b) r wires.new.list.items wires.new.next) }
 {
     match either_bit(alloc, wires, &a, &b)? {

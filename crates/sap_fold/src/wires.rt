@@ -1,6 +1,6 @@
 //! Helping wires, one for each right side and width.
 
-ghost use Rattle.std.specs.Prelude.{◌≡◌, ◌∷◌, [], ◌++◌, None, Some, IfOk, IfSome, OnOk};
+ghost use Rattle.std.specs.Prelude.{◌≡◌, ◌≤◌, ◌∷◌, [], ◌++◌, None, Some, IfOk, IfSome, OnOk, length};
 ghost use Rattle.sap_maps.specs.Scope.{find};
 ghost use Rattle.sap_fold.specs.Keys as spec;
 ghost use Rattle.sap_fold.specs.Names.{helper, holds};
@@ -12,13 +12,12 @@ use sap_net::parts::{Name, Operand, Right, Wire};
 use std::alloc::{AllocError, Global};
 use std::collections::{HashMap, HashSet};
 
-/// The helping wires so far, in order, with maps from their right sides to their names and from these to their places. The next one has number `next` or
-/// the first behind it that is not taken.
+/// The helping wires so far, in order, and by the bytes of its right side the number in the name of each. The next one has number `next` or the first
+/// behind it that is not taken, so that the numbers rise.
 #[derive(Drop)]
 pub struct Wires {
     pub list: Vec<Wire>,
-    pub names: HashMap<Vec<u64>, Name>,
-    places: HashMap<Vec<u8>, usize>,
+    pub numbers: HashMap<Vec<u8>, u64>,
     pub next: u64,
 }
 
@@ -51,25 +50,52 @@ fn free_name(alloc: Global, taken: &HashSet<Vec<u8>>, from: u64) -> Result<Free,
     Err(AllocError)
 }
 
+/// The number that the digits of a name make, where it is the name of a helping wire.
+fn number_in(name: &Name) -> usize {
+    let mut number: usize = 0;
+    for byte in name.as_bytes() {
+        if byte.is_ascii_digit() {
+            number = number
+                .wrapping_mul(10)
+                .wrapping_add(usize::from(*byte - b'0'));
+        }
+    }
+    number
+}
+
 impl Wires {
     pub fn new(alloc: Global) -> Wires
         ensures list { result.list.items ≡ [] }
-        ensures names { NamesRights result.names [] }
+        ensures names { NamesRights result.numbers [] }
         ensures next { result.next ≡ 0 }
     {
         Wires {
             list: Vec::new(alloc),
-            names: HashMap::new(alloc),
-            places: HashMap::new(alloc),
+            numbers: HashMap::new(alloc),
             next: 0,
         }
+    }
+
+    /// Where a wire of a name has to be, if there is one: as many places below its number as were left out before it, and these are at most all.
+    fn place(&self, name: &Name) -> usize
+        ensures { result ≤ length self.now.list.items }
+    {
+        let number = number_in(name);
+        let wires = self.list.as_slice();
+        let skipped = (self.next as usize).saturating_sub(wires.len());
+        let low = number.saturating_sub(skipped).min(wires.len());
+        let high = number.min(wires.len());
+        if high < low {
+            return low;
+        }
+        low + wires[low..high].partition_point(|wire| number_in(&wire.name) < number)
     }
 
     /// The wire of a name, if it is one of these.
     pub fn wire(&self, name: &Name) -> Option<&Wire>
         ensures { IfSome result (λ w. HasWire self.now.list.items name.now w.now) }
     {
-        let place = self.places.get(name.as_bytes()).copied()?;
+        let place = self.place(name);
         if place >= self.list.len() {
             return None;
         }
@@ -88,8 +114,8 @@ impl Wires {
         width: u32,
         right: Right,
     ) -> Result<Operand, AllocError>
-        requires { NamesRights self.old.names self.old.list.items }
-        ensures names { OnOk result (NamesRights self.new.names self.new.list.items) }
+        requires { NamesRights self.old.numbers self.old.list.items }
+        ensures names { OnOk result (NamesRights self.new.numbers self.new.list.items) }
         ensures provides { IfOk result (λ o. Provides (holds taken.now) self.old.list.items self.old.next width right o self.new.list.items self.new.next) }
     {
         match right {
@@ -109,8 +135,8 @@ impl Wires {
         width: u32,
         right: Right,
     ) -> Result<Name, AllocError>
-        requires { NamesRights self.old.names self.old.list.items }
-        ensures names { OnOk result (NamesRights self.new.names self.new.list.items) }
+        requires { NamesRights self.old.numbers self.old.list.items }
+        ensures names { OnOk result (NamesRights self.new.numbers self.new.list.items) }
         ensures adds { IfOk result (λ n. Adds (holds taken.now) self.old.list.items self.old.next width right n self.new.list.items self.new.next) }
     {
         let key = key(alloc, width, &right)?;
@@ -120,14 +146,14 @@ impl Wires {
         }
     }
 
-    /// The name of the wire with the numbers of its right side.
-    fn known(&self, alloc: Global, key: &[u64]) -> Result<Option<Name>, AllocError>
-        requires { NamesRights self.now.names self.now.list.items }
+    /// The name of the wire with the bytes of its right side.
+    fn known(&self, alloc: Global, key: &[u8]) -> Result<Option<Name>, AllocError>
+        requires { NamesRights self.now.numbers self.now.list.items }
         ensures { IfOk result (λ o. o ≡ find (rights self.now.list.items) key.now) }
     {
-        match self.names.get(key) {
-            Some(name) => {
-                let name = name.copy(alloc)?;
+        match self.numbers.get(key) {
+            Some(number) => {
+                let name = helper_name(alloc, *number)?;
                 Ok(Some(name))
             }
             None => Ok(None),
@@ -139,28 +165,24 @@ impl Wires {
         &mut self,
         alloc: Global,
         taken: &HashSet<Vec<u8>>,
-        key: Vec<u64>,
+        key: Vec<u8>,
         width: u32,
         right: Right,
     ) -> Result<Name, AllocError>
-        requires names { NamesRights self.old.names self.old.list.items }
-        requires numbers { key.items ≡ spec.key width right }
+        requires names { NamesRights self.old.numbers self.old.list.items }
+        requires bytes { key.items ≡ spec.key width right }
         requires new { find (rights self.old.list.items) (spec.key width right) ≡ None }
-        ensures names { OnOk result (NamesRights self.new.names self.new.list.items) }
+        ensures names { OnOk result (NamesRights self.new.numbers self.new.list.items) }
         ensures adds { IfOk result (λ n. AddsNew (holds taken.now) self.old.list.items self.old.next width right n self.new.list.items self.new.next) }
     {
         let free = free_name(alloc, taken, self.next)?;
-        let known = free.name.copy(alloc)?;
         let shown = free.name.copy(alloc)?;
-        let placed = free.name.as_bytes().to_vec(alloc)?;
-        let place = self.list.len();
         self.list.push(Wire {
             name: free.name,
             width,
             right,
         })?;
-        self.names.insert(key, known)?;
-        self.places.insert(placed, place)?;
+        self.numbers.insert(key, free.number)?;
         self.next = free.number + 1;
         Ok(shown)
     }

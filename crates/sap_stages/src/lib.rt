@@ -31,7 +31,7 @@ pub fn netlist(alloc: Global, program: &Plain) -> Result<Netlist, AllocError>
     let lowered = lower(alloc, &source)?;
     lowered.rules();
     one_run(&lowered);
-    let net = trim(alloc, &lowered)?;
+    let net = trim(alloc, lowered)?;
     net.rules();
     Ok(net)
 }

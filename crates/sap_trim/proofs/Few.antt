@@ -1,5 +1,5 @@
 -- How many wires the second pass leaves.
-use Rattle.std.proofs.Common.{◌≡◌, ℕ, ◌+◌, ◌≤◌, List, [], ◌∷◌, map, filter, length, Bool, sym, ap, subst, refl, inl, inr, arith, length-append}
+use Rattle.std.proofs.Common.{◌≡◌, ℕ, ◌+◌, ◌≤◌, List, [], ◌∷◌, map, length, Bool, ap, refl, inl, inr, arith, length-append}
 use Rattle.std.proofs.lemmas.Bool.{cases_Bool}
 use Rattle.std.proofs.lemmas.List.{length-map}
 use Rattle.sap_maps.specs.Maps.{Name}
@@ -9,8 +9,10 @@ use Rattle.sap_net.specs.declared.parts.Right.{Right}
 use Rattle.sap_net.specs.declared.parts.Right.TheVariants.{Copy, One, Two, Choose, Concat, Slice, Cell}
 use Rattle.sap_net.specs.declared.parts.Wire.{Wire}
 use Rattle.sap_trim.specs.Built.{built, wire_of}
-use Rattle.sap_trim.specs.Few.{calculated, HasFewWires}
-use Rattle.sap_trim.specs.Names.{shown_wires}
+use Rattle.sap_trim.specs.Few.{calculated, HasFewWires, most_left}
+use Rattle.sap_trim.specs.Names.{port_names, shown_wires}
+use Rattle.sap_trim.specs.Needed.{is_needed, needed, needed_wires}
+use Rattle.sap_trim.specs.Reads.{edge_reads}
 use Rattle.sap_trim.specs.Replaced.{Stands, replaced, standing}
 use Rattle.sap_trim.specs.Walked.{State, Begins, Copies, Walked}
 use Rattle.sap_fold.specs.Slices.{sliced}
@@ -88,11 +90,11 @@ copies_few taken (w ∷ ws) s t k =
     let r = copies_few taken ws k.0 t k.2 in
     omega (arith, p, c, r)
 
-costs_some : (f : Wire → Bool) (ws : List Wire) → costs (filter f ws) ≤ costs ws
-costs_some f [] = omega arith
-costs_some f (w ∷ ws) =
-    let r = costs_some f ws in
-    elim (cases_Bool (f w)) [ inl t ↦ rw t (omega (arith, r)) | inr g ↦ rw g (omega (arith, r)) ]
+costs_needed : (P E : List Name) (ws : List Wire) → costs (needed P E ws) ≤ costs ws
+costs_needed P E [] = omega arith
+costs_needed P E (w ∷ ws) =
+    let r = costs_needed P E ws in
+    elim (cases_Bool (is_needed P E w (needed P E ws))) [ inl t ↦ rw t (omega (arith, r)) | inr g ↦ rw g (omega (arith, r)) ]
 
 built_count : (n : Net) (ws : List Wire) (e : Stands) → length (built n ws e).wires ≡ length ws + length (shown_wires n)
 built_count n ws e =
@@ -103,16 +105,18 @@ built_count n ws e =
 begun : (n : Net) (s : State) → Begins n s → length s.wires ≡ 0
 begun n s b = let e = ap length b.wires in omega (arith, e)
 
-pub dropped_few : (n : Net) (taken : Name → Bool) (f : Wire → Bool) (s t : State) (ws : List Wire) (r : Net) → Begins n s → ws ≡ n.wires → Walked (Copies taken) s (filter f ws) t → r ≡ built n t.wires t.stands → HasFewWires n r
-dropped_few n taken f s t ws r b e k p =
-    let few = copies_few taken (filter f ws) s t k in
+pub built_left : (n : Net) (taken : Name → Bool) (s t : State) → Begins n s → Walked (Copies taken) s (needed_wires n) t → length (built n t.wires t.stands).wires ≤ most_left n
+built_left n taken s t b k =
+    let few = copies_few taken (needed_wires n) s t k in
     let none = begun n s b in
-    let some = costs_some f ws in
-    let same = ap costs e in
-    let before = costs_are n.wires in
+    let same = costs_are (needed_wires n) in
     let count = built_count n t.wires t.stands in
-    subst (HasFewWires n) (sym p) (omega (arith, few, none, some, same, before, count))
+    omega (arith, few, none, same, count)
 
--- A netlist of no more wires than another has as few.
-pub few_fewer : (a b c : Net) → HasFewWires a b → length c.wires ≤ length b.wires → HasFewWires a c
-few_fewer a b c h k = omega (arith, h, k)
+-- What is left is few.
+pub left_few : (n r : Net) → length r.wires ≤ most_left n → HasFewWires n r
+left_few n r l =
+    let some = costs_needed (port_names n) (edge_reads n) n.wires in
+    let before = costs_are n.wires in
+    let after = costs_are (needed_wires n) in
+    omega (arith, l, some, before, after)

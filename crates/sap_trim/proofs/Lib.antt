@@ -5,6 +5,7 @@ pub mod Follows
 pub mod Declared
 pub mod Built
 pub mod Cycle
+mod Counts
 pub mod Kept
 pub mod Shared
 pub mod Read

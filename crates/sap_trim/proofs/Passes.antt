@@ -1,5 +1,5 @@
 -- What is known of the two passes.
-use Rattle.std.proofs.Common.{◌≡◌, ℕ, List, [], ◌∷◌, ◌++◌, filter, Some, Bool, false, sym, ap, ap₂, ◌∙◌, subst, refl, length}
+use Rattle.std.proofs.Common.{◌≡◌, ◌≤◌, ℕ, List, [], ◌∷◌, ◌++◌, filter, Some, Bool, false, sym, ap, ap₂, ◌∙◌, subst, refl, length}
 use Rattle.std.specs.List.{AllByRecursion}
 use Rattle.sap_maps.specs.Maps.{Name}
 use Rattle.sap_maps.specs.Scope.{Scope, find}
@@ -24,6 +24,8 @@ use Rattle.sap_trim.proofs.Cycle.{Done, found_each, runs_alike, declares_alike}
 use Rattle.sap_trim.proofs.Kept.{AgreeOn, needed_fits, needed_agree, needed_within, needed_holds, shown_needed, edge_kept, needed_named, filter_each}
 use Rattle.sap_trim.proofs.Shared.{Tidy, walk_tidy, begins_tidy, helping_are}
 use Rattle.sap_trim.proofs.Read.{walk_reads, all_read}
+use Rattle.sap_trim.specs.Few.{most_left}
+use Rattle.sap_trim.proofs.Few.{built_left}
 
 pub done_fold : (n : Net) (taken : Name → Bool) (s t : State) (ws : List Wire) → IsNetlist n → ((x : Name) → taken x ≡ is_among x (lasting_names n)) → Begins n s → ws ≡ n.wires → Walked (Folds taken) s ws t → Done n taken n.wires s t
 done_fold n taken s t ws rules is b e k =
@@ -52,7 +54,7 @@ everywhere : (n : Net) (kept : NameSet) (ws : List Wire) → ((x : Name) → hol
 everywhere n kept [] h = tt
 everywhere n kept (w ∷ ws) h = (h w.name, everywhere n kept ws h)
 
-kept_wires : (n : Net) (kept : NameSet) (ws : List Wire) → IsNetlist n → ws ≡ n.wires → ((x : Name) → holds kept x ≡ is_among x (names_of (needed_wires n))) → filter (λ w. holds kept w.name) ws ≡ needed_wires n
+pub kept_wires : (n : Net) (kept : NameSet) (ws : List Wire) → IsNetlist n → ws ≡ n.wires → ((x : Name) → holds kept x ≡ is_among x (names_of (needed_wires n))) → filter (λ w. holds kept w.name) ws ≡ needed_wires n
 kept_wires n kept ws rules e h =
     ap (λ (xs : List Wire). filter (λ w. holds kept w.name) xs) e
     ∙ filter_each (λ w. holds kept w.name) (λ w. is_among w.name (names_of (needed_wires n))) n.wires (everywhere n kept n.wires h)
@@ -159,6 +161,7 @@ pub record Tidied (n r : Net) : Type 0 where
   pub numbered : NumbersWires r
   pub shared : SharesWires r
   pub read : ReadsWires r
+  pub left : length r.wires ≤ most_left n
 
 pub tidied_all : (n : Net) (taken : Name → Bool) (kept : NameSet) (s t : State) (ws : List Wire) (r : Net) → IsNetlist n → ((x : Name) → taken x ≡ is_among x (lasting_names n)) → ((x : Name) → holds kept x ≡ is_among x (names_of (needed_wires n))) → Begins n s → ws ≡ n.wires → Walked (Copies taken) s (filter (λ w. holds kept w.name) ws) t → r ≡ built n t.wires t.stands → Tidied n r
 tidied_all n taken kept s t ws r rules is needs b e k p =
@@ -172,5 +175,6 @@ tidied_all n taken kept s t ws r rules is needs b e k p =
       numbered = dropped_numbers n taken s t d;
       shared = dropped_shares n taken s t d;
       read = dropped_reads n taken s t d;
+      left = built_left n taken s t b d.copied;
     }
     )

@@ -1,10 +1,11 @@
 -- How many wires a trimmed netlist has.
-use Rattle.std.specs.Prelude.{◌+◌, ◌≤◌, Bool, true, false, not, List, filter, length}
+use Rattle.std.specs.Prelude.{ℕ, ◌+◌, ◌≤◌, Bool, true, false, not, List, filter, length}
 use Rattle.sap_net.specs.Net.{Net}
 use Rattle.sap_net.specs.declared.parts.Right.{Right}
 use Rattle.sap_net.specs.declared.parts.Right.TheVariants.{Copy}
 use Rattle.sap_net.specs.declared.parts.Wire.{Wire}
 use Rattle.sap_trim.specs.Names.{shown_wires}
+use Rattle.sap_trim.specs.Needed.{needed_wires}
 
 abbrev pub is_copy : Right → Bool
 is_copy (Copy a) = true
@@ -17,3 +18,7 @@ calculated ws = filter (λ w. not (is_copy w.right)) ws
 -- It has at most one wire for each wire of the given netlist that is no copy, and one for each that is a port.
 abbrev pub HasFewWires : (given result : Net) → Type 0
 HasFewWires g r = length r.wires ≤ length (calculated g.wires) + length (shown_wires g)
+
+-- one for each wire that is needed and no copy, and one for each that is a port
+abbrev pub most_left : Net → ℕ
+most_left n = length (calculated (needed_wires n)) + length (shown_wires n)

@@ -2,6 +2,7 @@
 #![tactic(auto)]
 
 mod build;
+mod left;
 mod names;
 mod needed;
 mod replace;

@@ -117,7 +117,7 @@ impl Walk {
     /// No wires yet.
     pub fn new(alloc: Global, netlist: &Netlist) -> Result<Walk, AllocError>
         ensures begins { IfOk result (λ w. Begins netlist.now (state_of w)) }
-        ensures names { IfOk result (λ w. NamesRights w.wires.names w.wires.list.items) }
+        ensures names { IfOk result (λ w. NamesRights w.wires.numbers w.wires.list.items) }
     {
         let mut stands = HashMap::new(alloc);
         bind_registers(alloc, &mut stands, netlist.registers())?;
@@ -137,8 +137,8 @@ impl Walk {
         width: u32,
         right: Right,
     ) -> Result<(), AllocError>
-        requires { NamesRights self.old.wires.names self.old.wires.list.items }
-        ensures names { OnOk result (NamesRights self.new.wires.names self.new.wires.list.items) }
+        requires { NamesRights self.old.wires.numbers self.old.wires.list.items }
+        ensures names { OnOk result (NamesRights self.new.wires.numbers self.new.wires.list.items) }
         ensures steps { OnOk result (Steps (holds taken.now) (state_of self.old) name.now width right (state_of self.new)) }
     {
         let operand = self.wires.provide(alloc, taken, width, right)?;
@@ -151,8 +151,8 @@ impl Walk {
         taken: &HashSet<Vec<u8>>,
         wire: &Wire,
     ) -> Result<(), AllocError>
-        requires { NamesRights self.old.wires.names self.old.wires.list.items }
-        ensures names { OnOk result (NamesRights self.new.wires.names self.new.wires.list.items) }
+        requires { NamesRights self.old.wires.numbers self.old.wires.list.items }
+        ensures names { OnOk result (NamesRights self.new.wires.numbers self.new.wires.list.items) }
         ensures folds { OnOk result (Folds (holds taken.now) (state_of self.old) wire.now (state_of self.new)) }
     {
         let replaced = replace(alloc, &self.stands, &wire.right)?;
@@ -166,8 +166,8 @@ impl Walk {
         taken: &HashSet<Vec<u8>>,
         wire: &Wire,
     ) -> Result<(), AllocError>
-        requires { NamesRights self.old.wires.names self.old.wires.list.items }
-        ensures names { OnOk result (NamesRights self.new.wires.names self.new.wires.list.items) }
+        requires { NamesRights self.old.wires.numbers self.old.wires.list.items }
+        ensures names { OnOk result (NamesRights self.new.wires.numbers self.new.wires.list.items) }
         ensures copies { OnOk result (Copies (holds taken.now) (state_of self.old) wire.now (state_of self.new)) }
     {
         let right = replace(alloc, &self.stands, &wire.right)?;
@@ -182,8 +182,8 @@ impl Walk {
         kept: &HashSet<Vec<u8>>,
         wire: &Wire,
     ) -> Result<(), AllocError>
-        requires { NamesRights self.old.wires.names self.old.wires.list.items }
-        ensures names { OnOk result (NamesRights self.new.wires.names self.new.wires.list.items) }
+        requires { NamesRights self.old.wires.numbers self.old.wires.list.items }
+        ensures names { OnOk result (NamesRights self.new.wires.numbers self.new.wires.list.items) }
         ensures walked { OnOk result (Walked (Copies (holds taken.now)) (state_of self.old) (filter (λ w. holds kept.now w.name) (wire.now ∷ [])) (state_of self.new)) }
     {
         if !has(kept, &wire.name) {
@@ -199,7 +199,7 @@ impl Walk {
         taken: &HashSet<Vec<u8>>,
         wires: &[Wire],
     ) -> Result<(), AllocError>
-        requires { NamesRights self.old.wires.names self.old.wires.list.items }
+        requires { NamesRights self.old.wires.numbers self.old.wires.list.items }
         ensures { OnOk result (Walked (Folds (holds taken.now)) (state_of self.old) wires.now (state_of self.new)) }
     {
         for wire in wires {
@@ -216,7 +216,7 @@ impl Walk {
         kept: &HashSet<Vec<u8>>,
         wires: &[Wire],
     ) -> Result<(), AllocError>
-        requires { NamesRights self.old.wires.names self.old.wires.list.items }
+        requires { NamesRights self.old.wires.numbers self.old.wires.list.items }
         ensures { OnOk result (Walked (Copies (holds taken.now)) (state_of self.old) (filter (λ w. holds kept.now w.name) wires.now) (state_of self.new)) }
     {
         for wire in wires {

@@ -6,7 +6,7 @@ pub returns : goal.returns
 returns c =
     let fits = c.args.self.now.list.ok in
     record {
-      place = c.in_ok-place.place;
+      place = c.place-place.result;
       within = omega (arith, fits, c.len.ensures, c.if-place-len.false);
       is = c.index-wire.ensures;
       named = name_is c.index-wire.result.now.name c.args.name.now (sym (c.if-not-same.ensures {u = tt}));

@@ -6,6 +6,6 @@ use Rattle.sap_trim.proofs.walk.Walk.fold_all.Given as goal
 
 abbrev pub invariant-loop-wire : goal.invariant-loop-wire
 invariant-loop-wire l = record {
-  names : NamesRights l.self.wires.names l.self.wires.list.items;
+  names : NamesRights l.self.wires.numbers l.self.wires.list.items;
   walked : Walked (Folds (holds l.taken)) (state_of l.fn.self) (take l.wire-index l.wires) (state_of l.self);
 }

@@ -1,0 +1,71 @@
+//! How many wires are left.
+
+ghost use Rattle.std.specs.Prelude.{◌≡◌, ◌≤◌, [], ◌∷◌, filter, length};
+ghost use Rattle.sap_maps.specs.Maps as spec;
+ghost use Rattle.sap_net.specs.Names.{is_among};
+ghost use Rattle.sap_fold.specs.Names.{holds};
+ghost use Rattle.sap_trim.specs.Few.{calculated, most_left};
+ghost use Rattle.sap_trim.specs.Names.{names_of, port_names};
+ghost use Rattle.sap_trim.specs.Needed.{needed_wires};
+
+use sap_fold::names::has;
+use sap_net::netlist::Netlist;
+use sap_net::parts::{Right, Wire};
+use std::collections::HashSet;
+
+/// One for a wire that is kept and no copy.
+fn calculates(kept: &HashSet<Vec<u8>>, wire: &Wire) -> usize
+    ensures same { result ≡ length (calculated (filter (λ w. holds kept.now w.name) (wire.now ∷ []))) }
+    ensures most { result ≤ 1 }
+{
+    if !has(kept, &wire.name) {
+        return 0;
+    }
+    match wire.right {
+        Right::Copy(_) => 0,
+        _ => 1,
+    }
+}
+
+/// How many of the wires with the names that are kept are no copies.
+fn count_calculated(kept: &HashSet<Vec<u8>>, wires: &[Wire]) -> usize
+    ensures same { result ≡ length (calculated (filter (λ w. holds kept.now w.name) wires.now)) }
+    ensures most { result ≤ length wires.now }
+{
+    let mut count = 0;
+    for wire in wires {
+        count += calculates(kept, wire);
+    }
+    count
+}
+
+/// One for a wire that is a port.
+fn shows(shown: &HashSet<Vec<u8>>, wire: &Wire) -> usize
+    ensures same { result ≡ length (filter (λ w. holds shown.now w.name) (wire.now ∷ [])) }
+    ensures most { result ≤ 1 }
+{
+    if has(shown, &wire.name) { 1 } else { 0 }
+}
+
+/// How many of the wires are ports.
+fn count_shown(shown: &HashSet<Vec<u8>>, wires: &[Wire]) -> usize
+    ensures same { result ≡ length (filter (λ w. holds shown.now w.name) wires.now) }
+    ensures most { result ≤ length wires.now }
+{
+    let mut count = 0;
+    for wire in wires {
+        count += shows(shown, wire);
+    }
+    count
+}
+
+/// How many wires are left at most without those that nothing reads.
+pub fn wires_left(netlist: &Netlist, shown: &HashSet<Vec<u8>>, kept: &HashSet<Vec<u8>>) -> usize
+    requires shown { (n : spec.Name) → holds shown.now n ≡ is_among n (port_names netlist.now) }
+    requires kept { (n : spec.Name) → holds kept.now n ≡ is_among n (names_of (needed_wires netlist.now)) }
+    ensures { result ≡ most_left netlist.now }
+{
+    netlist.rules();
+    let wires = netlist.wires();
+    count_calculated(kept, wires) + count_shown(shown, wires)
+}
