@@ -159,6 +159,7 @@ impl Desk for MemoryDesk {
     fn write(&mut self, channel: usize, bytes: &[u8]) -> Result<(), Failed>
         ensures told { OnOk result ((shown self.new).told ≡ added channel bytes.now (shown self.old).told) }
         ensures open { OnOk result (IsWriting ((shown self.old).told.uses channel)) }
+        ensures fits { OnOk result (length ((shown self.old).told.written channel) + length bytes.now ≤ (shown self.old).told.room) }
         ensures given { (shown self.new).given ≡ (shown self.old).given }
         ensures failed { OnErr result (Took channel bytes.now (Some (shown self.old).told) (Some (shown self.new).told)) }
         // A call that fails by its number takes the first half of its bytes, and any other takes all: what fits of them.

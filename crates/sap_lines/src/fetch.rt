@@ -20,15 +20,13 @@ pub(crate) fn is_decided(bytes: &[u8]) -> bool
     bytes.contains(&b'\n')
 }
 
-/// Reads pieces of a channel until the bytes that are held tell the next line, or the channel is at
-/// its end.
-pub fn fetch<D: Desk>(held: &mut Held, desk: &mut D, channel: usize) -> Result<(), Failed>
+// Reads pieces of a channel until the bytes that are held tell the next line, or the channel is at its end.
+fn read_pieces<D: Desk>(held: &mut Held, desk: &mut D, channel: usize) -> Result<(), Failed>
     requires { channel ≢ 2 }
     ensures more { OnOk result (More channel held.old held.new (D.told desk.old) (D.told desk.new) (D.given desk.old) (D.given desk.new)) }
     ensures behind { (piece : List ℕ) × (held.new ≡ held.old ++ piece) }
     ensures decided { OnOk result (IfSome (D.told desk.new) (EndsOrDecided channel held.new)) }
     ensures least { HoldsLeast held.old held.new }
-    ensures still { IsDecided held.old → (held.new ≡ held.old) × (desk.new ≡ desk.old) }
     ensures failed { OnErr result (MoreAndFailed channel held.old held.new (D.told desk.old) (D.told desk.new) (D.given desk.old) (D.given desk.new)) }
     ensures bounded { D.given desk.old channel < 2 ^ 32 → D.given desk.new channel < 2 ^ 32 }
     ensures counts { CountsAt channel (D.faults desk.old) (D.faults desk.new) (D.lost desk.old) (D.lost desk.new) result }
@@ -44,4 +42,25 @@ pub fn fetch<D: Desk>(held: &mut Held, desk: &mut D, channel: usize) -> Result<(
         held.add(&piece[..count]);
     }
     Ok(())
+}
+
+/// Reads pieces of a channel until the bytes that are held tell the next line, or the channel is at
+/// its end.
+pub fn fetch<D: Desk>(held: &mut Held, desk: &mut D, channel: usize) -> Result<(), Failed>
+    requires { channel ≢ 2 }
+    ensures more { OnOk result (More channel held.old held.new (D.told desk.old) (D.told desk.new) (D.given desk.old) (D.given desk.new)) }
+    ensures behind { (piece : List ℕ) × (held.new ≡ held.old ++ piece) }
+    ensures decided { OnOk result (IfSome (D.told desk.new) (EndsOrDecided channel held.new)) }
+    ensures least { HoldsLeast held.old held.new }
+    ensures still { IsDecided held.old → (held.new ≡ held.old) × (desk.new ≡ desk.old) }
+    ensures failed { OnErr result (MoreAndFailed channel held.old held.new (D.told desk.old) (D.told desk.new) (D.given desk.old) (D.given desk.new)) }
+    ensures bounded { D.given desk.old channel < 2 ^ 32 → D.given desk.new channel < 2 ^ 32 }
+    ensures counts { CountsAt channel (D.faults desk.old) (D.faults desk.new) (D.lost desk.old) (D.lost desk.new) result }
+    ensures sure { D.sure desk.old → D.sure desk.new }
+    ensures cause { OnErr result (D.sure desk.old → IfSome (D.told desk.new) (FailsToRead channel (D.given desk.new channel) PIECE_BYTES)) }
+{
+    if is_decided(held.as_slice()) {
+        return Ok(());
+    }
+    read_pieces(held, desk, channel)
 }

@@ -2,6 +2,8 @@
 use Rattle.std.proofs.Common.{◌≡◌, ℕ, zero, suc, ◌+◌, ◌-◌, ◌<◌, ◌≤◌, Bool, true, false, cond, eqb, Some, None, List, [], ◌∷◌, ◌++◌, length, get_or, drop, take, refl, sym, ap, subst, ◌∙◌, length-append, arith}
 use Rattle.std.specs.Prelude.{count_by}
 use Rattle.std.specs.List.{position_or_len}
+use Rattle.std.proofs.lemmas.List.{take-append-drop, length-drop}
+use Rattle.std.proofs.lemmas.List.Sums.{sum_by-append}
 use borrow.Author.Tests.{eq-eqb}
 use Rattle.sap_stim.specs.Line.{split_at, pushed, pieces_of, is_starred, fields_in, fields_of, count_in}
 use Rattle.sap_stim.proofs.Pieces.{is_mark, split_unmarked, split_count}
@@ -77,9 +79,20 @@ count_pieces [] = refl
 count_pieces (b ∷ bs) = refl
 
 -- the count of a line by its last piece
-pub count_found : (s piece : List ℕ) (b : Bool) → EndsWith 32 s piece → b ≡ is_starred piece → count_in (pieces_of s) ≡ cond b (Some piece) None
-count_found s piece b ends e =
-    count_pieces s ∙ ap count_in ends.1 ∙ count_last ends.0 piece ∙ ap (λ (t : Bool). cond t (Some piece) None) (sym e)
+pub count_found : (s piece : List ℕ) → EndsWith 32 s piece → count_in (pieces_of s) ≡ count_in (piece ∷ [])
+count_found s piece ends = count_pieces s ∙ ap count_in ends.1 ∙ count_last ends.0 piece
+
+-- no mark stands in the last piece
+none_marked : (m : ℕ) (s : List ℕ) → IsUnmarked m s → count_by (is_mark m) s ≡ 0
+none_marked m s u = let one : length (split_at m s) ≡ 1 = ap length (split_unmarked m s u) in omega (arith, one, split_count m s)
+
+pub marks_before : (m n : ℕ) (s piece : List ℕ) → n ≤ length s → IsUnmarked m (drop n s) → piece ≡ drop n s → count_by (is_mark m) (take (length s - length piece) s) ≡ count_by (is_mark m) s
+marks_before m n s piece h u p =
+    let size : length piece ≡ length s - n = ap length p ∙ length-drop n s in
+    let front : length s - length piece ≡ n = omega (arith, size) in
+    let parts : count_by (is_mark m) (take n s ++ drop n s) ≡ count_by (is_mark m) (take n s) + count_by (is_mark m) (drop n s) = sum_by-append _ (take n s) (drop n s) in
+    let whole : count_by (is_mark m) (take n s ++ drop n s) ≡ count_by (is_mark m) s = ap (count_by (is_mark m)) (take-append-drop n s) in
+    ap (λ (k : ℕ). count_by (is_mark m) (take k s)) front ∙ (let none = none_marked m (drop n s) u in omega (arith, parts, whole, none))
 
 -- the number of a line's fields by its last piece and its spaces
 fields_found : (s piece : List ℕ) (n : ℕ) → 0 < length s → EndsWith 32 s piece → n ≡ count_by (is_mark 32) s → (others : List (List ℕ)) × (length others ≡ n) × (fields_of s ≡ cond (is_starred piece) others (others ++ piece ∷ []))

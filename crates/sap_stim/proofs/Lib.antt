@@ -7,5 +7,7 @@ pub mod EachField
 pub mod Fitting
 pub mod Lines
 pub mod Coded
+pub mod PairsOfDigits
 pub mod RowTexts
 pub mod RowRoom
+pub mod RowLeast

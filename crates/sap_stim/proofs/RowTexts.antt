@@ -1,7 +1,7 @@
 -- The texts of rows, from left to right.
-use Rattle.std.proofs.Common.{◌≡◌, ◌+◌, ◌<◌, ◌≤◌, ◌^◌, ◌/◌, ◌%◌, ℕ, zero, suc, List, [], ◌∷◌, ◌++◌, length, get_or, drop, refl, sym, ap, ◌∙◌, append_assoc, arith, rules, length-append, Option, Some, Result, Ok, Err, OnOk, if◌then◌else◌}
+use Rattle.std.proofs.Common.{◌≡◌, ◌+◌, ◌<◌, ◌≤◌, ◌^◌, ℕ, zero, suc, List, [], ◌∷◌, ◌++◌, length, get_or, drop, refl, sym, ap, ◌∙◌, append_assoc, arith, rules, length-append, Option, Some, Result, Ok, Err, OnOk, if◌then◌else◌}
 use Rattle.std.specs.Prelude.{decimal, is_ok, option_map, OnErr, IsOk}
-use Rattle.std.proofs.lemmas.Fmt.{decimal_digit, decimal_step, length-decimal-le}
+use Rattle.std.proofs.lemmas.Fmt.{decimal_digit, length-decimal-le}
 use Rattle.std.proofs.Math.Seq.{drop-cons}
 use Rattle.sap_lattice.specs.Closure.{name_at}
 use Rattle.sap_lattice.specs.Levels.{Levels, level_in}
@@ -10,11 +10,6 @@ use Rattle.sap_stim.specs.Rows.{Shown, shown, shown_of, shown_text, all_shown, r
 
 pub one_digit : (out old : List ℕ) (n d : ℕ) → n < 10 → out ≡ old ++ (d ∷ []) → d ≡ 48 + n → out ≡ old ++ decimal n
 one_digit out old n d h e f = e ∙ ap (λ x. old ++ (x ∷ [])) f ∙ ap (λ z. old ++ z) (sym (decimal_digit n h))
-
-pub more_digits : (out mid old : List ℕ) (n d : ℕ) → 10 ≤ n → n < 2 ^ 64 → mid ≡ old ++ decimal (n / 10) → out ≡ mid ++ (d ∷ []) → d ≡ 48 + n % 10 → out ≡ old ++ decimal n
-more_digits out mid old n d h small e f g =
-    f ∙ ap (λ z. z ++ (d ∷ [])) e ∙ append_assoc old (decimal (n / 10)) (d ∷ []) ∙ ap (λ x. old ++ (decimal (n / 10) ++ (x ∷ []))) g
-    ∙ ap (λ z. old ++ z) (sym (decimal_step n h small))
 
 -- the registers from a place on
 abbrev pub shown_from : Levels → List (List ℕ) → List ℕ → List ℕ → ℕ → List ℕ
@@ -63,9 +58,6 @@ level_written ls tag level text old new r coded small t e =
     (t ∙ ap (λ (k : ℕ). get_or ls.names k []) (level_in_place (length ls.names) level small) ∙ ap (λ (o : Option ℕ). level_text (option_map (name_at ls.names) o) tag) coded)
 
 -- the room of texts
-
-pub longer_decimal : (n : ℕ) → 10 ≤ n → n < 2 ^ 64 → length (decimal n) ≡ length (decimal (n / 10)) + 1
-longer_decimal n h small = ap length (decimal_step n h small) ∙ length-append (decimal (n / 10)) _
 
 pub row_fits : (cycle : ℕ) (ss : List Shown) → cycle < 2 ^ 64 → length (row_text cycle ss) ≤ row_room ss
 row_fits cycle ss small =

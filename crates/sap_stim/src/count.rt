@@ -1,14 +1,14 @@
 //! For how many cycles a line stands.
 
-ghost use Rattle.std.specs.Prelude.{◌≡◌, ◌==◌, ◌&&◌, IfOk, length, nat_le, if◌then◌else◌};
+ghost use Rattle.std.specs.Prelude.{◌≡◌, ◌==◌, ◌&&◌, [], ◌∷◌, IfOk, length, nat_le, if◌then◌else◌};
 ghost use Rattle.std.specs.Char.{is_ascii_digit};
 ghost use Rattle.std.specs.List.{list_all};
 ghost use Rattle.std.specs.Str.Parse.{digits_value};
 ghost use Rattle.sap_stream.specs.Spans.{IsCount};
-ghost use Rattle.sap_stim.specs.Line.{count_in, count_of, is_count, pieces_of};
+ghost use Rattle.sap_stim.specs.Line.{count_in, count_of, is_count};
 
 use crate::fault::StimCode;
-use crate::text::{is_starred, last_piece};
+use crate::text::is_starred;
 use crate::value::{are_digits, number};
 use crate::{MOST_COUNT, MOST_COUNT_DIGITS};
 
@@ -38,12 +38,11 @@ fn read_digits(digits: &[u8]) -> Result<u32, StimCode>
     }
 }
 
-/// For how many cycles a line stands.
-pub fn read_count(line: &[u8]) -> Result<u32, StimCode>
-    ensures number { result ≡ count_of (count_in (pieces_of line.now)) }
+/// For how many cycles a line with this last piece stands.
+pub fn read_count(piece: &[u8]) -> Result<u32, StimCode>
+    ensures number { result ≡ count_of (count_in (piece.now ∷ [])) }
     ensures within { IfOk result IsCount }
 {
-    let piece = last_piece(line);
     if !is_starred(piece) {
         return Ok(1);
     }

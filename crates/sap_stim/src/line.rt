@@ -9,7 +9,7 @@ use crate::MOST_LINE_BYTES;
 use crate::count::read_count;
 use crate::fault::StimCode;
 use crate::field::Field;
-use crate::text::{count_fields, cut};
+use crate::text::{count_fields, cut, last_piece};
 use crate::value::read_field;
 use sap_lattice::lattice::Lattice;
 use sap_stream::inputs::{Inputs, Tagged};
@@ -63,11 +63,12 @@ pub fn read_line_into(
     if !ended {
         return Err(StimCode::S5);
     }
-    if count_fields(line) != fields.len() {
+    let piece = last_piece(line);
+    if count_fields(line, piece) != fields.len() {
         return Err(StimCode::S4);
     }
     read_fields(line, fields, lattice, inputs)?;
-    read_count(line)
+    read_count(piece)
 }
 
 /// What a line gives, without its LF; `ended` says whether it has one.

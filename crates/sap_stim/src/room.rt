@@ -1,6 +1,6 @@
 //! How much room rows take.
 
-ghost use Rattle.std.specs.Prelude.{◌≤◌, ◌<◌, ℕ, IfSome, length};
+ghost use Rattle.std.specs.Prelude.{◌≡◌, ◌≤◌, ◌<◌, ◌^◌, ◌⊎◌, ℕ, IfNone, IfSome, length};
 ghost use Rattle.sap_lattice.specs.Closure.{name_at};
 ghost use Rattle.sap_stim.specs.Rows.{HoldsRows};
 
@@ -11,6 +11,7 @@ use sap_lattice::name::Name;
 pub fn longest_level(lattice: &Lattice) -> usize
     ensures number { 21 ≤ result }
     ensures names { (k : ℕ) → k < length lattice.now.names → length (name_at lattice.now.names k) ≤ result }
+    ensures some { (result ≡ 21) ⊎ ((k : ℕ) × (k < length lattice.now.names) × (length (name_at lattice.now.names k) ≡ result)) }
 {
     let mut longest = 21;
     for place in 0..u64::from(lattice.count()) {
@@ -20,11 +21,14 @@ pub fn longest_level(lattice: &Lattice) -> usize
     longest
 }
 
-/// For how many bytes a buffer needs room to take any row of the registers of these names. There is no
-/// answer where there can't be such a buffer.
+/// For how many bytes a buffer needs room to take any row of the registers of these names: the fewest. There is
+/// no answer where they are 2^64 or more, so that there can't be such a buffer.
 pub fn row_room(names: &[Name], lattice: &Lattice) -> Option<usize>
-    ensures { IfSome result (HoldsRows lattice.now names.now) }
+    ensures holds { IfSome result (HoldsRows lattice.now names.now) }
+    ensures least { IfSome result (λ room. (other : ℕ) → HoldsRows lattice.now names.now other → room ≤ other) }
+    ensures none { IfNone result ((other : ℕ) → HoldsRows lattice.now names.now other → 2 ^ 64 ≤ other) }
 {
+    lattice.lawful();
     let level = longest_level(lattice);
     let mut room = 28usize;
     for name in names {

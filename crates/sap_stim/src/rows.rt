@@ -5,6 +5,8 @@ ghost use Rattle.std.specs.Fmt.{decimal};
 ghost use Rattle.sap_lattice.specs.Closure.{name_at};
 ghost use Rattle.sap_stim.specs.Rows.{row_room, row_text, shown, shown_of, shown_text, level_coded, level_text, all_shown};
 
+use crate::MOST_DIGITS;
+use crate::digits::write_digits;
 use sap_desk::{Bytes, RowBuf};
 use sap_lattice::lattice::Lattice;
 use sap_lattice::level::Level;
@@ -21,9 +23,9 @@ pub fn number(out: &mut Vec<u8>, n: u64) -> Result<(), AllocError>
         out.push(b'0' + n as u8)?;
         return Ok(());
     }
-    number(out, n / 10)?;
-    out.push(b'0' + (n % 10) as u8)?;
-    Ok(())
+    let mut bytes = [0u8; MOST_DIGITS];
+    let start = write_digits(n, &mut bytes);
+    out.extend_from_slice(&bytes[start..])
 }
 
 /// The level whose code is the tag.

@@ -1,6 +1,6 @@
 //! Pieces of texts.
 
-ghost use Rattle.std.specs.Prelude.{◌≡◌, ◌==◌, ◌≤◌, ℕ, List, [], ◌∷◌, ◌++◌, length, position, count_by};
+ghost use Rattle.std.specs.Prelude.{◌≡◌, ◌==◌, ◌≤◌, ◌-◌, ℕ, List, [], ◌∷◌, ◌++◌, length, take, position, count_by};
 ghost use Rattle.std.specs.List.{before_first, after_first};
 ghost use Rattle.sap_stim.specs.Line.{fields_of, is_starred, split_at};
 ghost use Rattle.sap_stim.specs.declared.TheConstants.{MOST_LINE_BYTES};
@@ -30,7 +30,9 @@ fn count_spaces(line: &[u8]) -> usize
 
 /// What stands behind the last space of a line, or all where there is none: its last piece.
 pub fn last_piece(line: &[u8]) -> &[u8]
-    ensures { (others : List (List ℕ)) × (split_at 32 line.now ≡ others ++ result.now ∷ []) }
+    ensures last { (others : List (List ℕ)) × (split_at 32 line.now ≡ others ++ result.now ∷ []) }
+    ensures within { length result.now ≤ length line.now }
+    ensures spaces { count_by (λ b. b == 32) (take (length line.now - length result.now) line.now) ≡ count_by (λ b. b == 32) line.now }
 {
     let mut start = line.len();
     while start > 0 && line[start - 1] != b' ' {
@@ -46,16 +48,19 @@ pub fn is_starred(piece: &[u8]) -> bool
     !piece.is_empty() && piece[0] == b'*'
 }
 
-/// How many fields a line has; a count is none.
-pub fn count_fields(line: &[u8]) -> usize
-    requires { length line.now ≤ MOST_LINE_BYTES }
+/// How many fields a line with this last piece has; a count is none.
+pub(crate) fn count_fields(line: &[u8], piece: &[u8]) -> usize
+    requires short { length line.now ≤ MOST_LINE_BYTES }
+    requires last { (others : List (List ℕ)) × (split_at 32 line.now ≡ others ++ piece.now ∷ []) }
+    requires within { length piece.now ≤ length line.now }
+    requires spaces { count_by (λ b. b == 32) (take (length line.now - length piece.now) line.now) ≡ count_by (λ b. b == 32) line.now }
     ensures { result ≡ length (fields_of line.now) }
 {
     if line.is_empty() {
         return 0;
     }
-    let spaces = count_spaces(line);
-    if is_starred(last_piece(line)) {
+    let spaces = count_spaces(&line[..line.len() - piece.len()]);
+    if is_starred(piece) {
         return spaces;
     }
     spaces + 1

@@ -4,7 +4,7 @@ ghost use Rattle.std.specs.Prelude.{◌≡◌, ◌≤◌, ◌<◌, ◌^◌, ◌=
 ghost use Rattle.std.specs.Char.{is_ascii_digit};
 ghost use Rattle.std.specs.List.{list_all};
 ghost use Rattle.std.specs.Str.Parse.{digits_value};
-ghost use Rattle.sap_stim.specs.Line.{is_value, value_of, level_named, tagged_of, plain_of, field_of, IsSized};
+ghost use Rattle.sap_stim.specs.Line.{value_of, level_named, tagged_of, plain_of, field_of, IsSized};
 
 use crate::MOST_DIGITS;
 use crate::fault::StimCode;
@@ -20,19 +20,15 @@ pub(crate) fn are_digits(text: &[u8]) -> bool
     text.iter().all(|b| b.is_ascii_digit())
 }
 
-fn is_value(text: &[u8]) -> bool
-    ensures { result ≡ is_value text.now }
-{
-    are_digits(text) && 1 <= text.len() && text.len() <= MOST_DIGITS
-}
-
-/// The number of these digits, where it has at most 64 bits.
-pub(crate) fn number(digits: &[u8]) -> Option<u64>
-    requires { list_all is_ascii_digit digits.now ≡ true }
-    ensures { SomeIff result (digits_value 10 digits.now < 2 ^ 64) (digits_value 10 digits.now) }
+/// The number of a text, where it is of digits and has at most 64 bits.
+pub(crate) fn number(text: &[u8]) -> Option<u64>
+    ensures { SomeIff result ((list_all is_ascii_digit text.now ≡ true) × (digits_value 10 text.now < 2 ^ 64)) (digits_value 10 text.now) }
 {
     let mut n = 0u64;
-    for b in digits {
+    for b in text {
+        if !b.is_ascii_digit() {
+            return None;
+        }
         n = n.checked_mul(10)?.checked_add(u64::from(*b - b'0'))?;
     }
     Some(n)
@@ -52,11 +48,12 @@ fn read_value(text: &[u8], width: u32) -> Result<u64, StimCode>
     requires narrow { width ≤ 64 }
     ensures { result ≡ value_of width text.now }
 {
-    if !is_value(text) {
+    if text.is_empty() || text.len() > MOST_DIGITS {
         return Err(StimCode::S1);
     }
     match number(text) {
         Some(value) if is_within(value, width) => Ok(value),
+        None if !are_digits(text) => Err(StimCode::S1),
         _ => Err(StimCode::S2),
     }
 }

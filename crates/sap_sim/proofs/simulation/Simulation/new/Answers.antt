@@ -44,7 +44,7 @@ returns c =
         sized =
             subst (λ (fs : List Field). All IsSized fs) (sym (fields_are d))
             (subst (λ (tag : ℕ). All IsSized (map (field_of tag n.inputs) (with_field tag n.inputs))) c.width-tag.ensures (fields_sized c.width-tag.result n c.rules.ensures));
-        room = subst (λ (names : List Name). HoldsRows ls names c.in-Some.room) c.deref-2.ensures.value c.in-Some.ensures;
+        room = subst (λ (names : List Name). HoldsRows ls names c.in-Some.room) c.deref-2.ensures.value c.in-Some.ensures.holds;
       };
       shows = λ run h. subst (λ (vs : List Valuation). Shows c.in-Ok.runner (last_or None vs)) (sym (no_run n None run h)) c.in-Ok.ensures.unstepped;
     }

@@ -3,14 +3,13 @@ use Rattle.std.proofs.lemmas.List.{append-nil}
 use Rattle.sap_desk.proofs.Steps.{on_err}
 use Rattle.sap_lines.specs.Fetched.{IsDecided}
 use Rattle.sap_lines.proofs.Reading.{no_more, behind_more, piece_more, same_more, failed_more, end_read, fails_now, least_more}
-use Rattle.sap_lines.proofs.fetch.fetch.Goals as goal
+use Rattle.sap_lines.proofs.fetch.read_pieces.Goals as goal
 
 pub loop-piece-init : goal.loop-piece-init
 loop-piece-init g c = record {
   more = no_more c.args.channel c.args.held.now _ _;
   behind = ([], sym (append-nil c.args.held.now));
   least = inl refl;
-  still = λ decided. (refl, refl);
   bounded = λ small. small;
   faults = refl;
   lost = refl;
@@ -30,7 +29,6 @@ loop-piece-preserved g c =
       more = piece_more c.args.channel c.in_ok-count.count _ _ _ _ _ _ _ _ _ _ _ c.loop-piece.invariant.more within c.in_ok-count.ensures.told c.in_ok-count.ensures.gave c.in_ok-count.ensures.given items;
       behind = behind_more c.args.held.now c.loop-piece.held c.add.new.self (take c.in_ok-count.count c.read.new.buf) c.loop-piece.invariant.behind items;
       least = least_more c.args.held.now c.loop-piece.held c.add.new.self (take c.in_ok-count.count c.read.new.buf) undecided grown some most items;
-      still = λ decided. absurd (undecided (subst IsDecided (sym (c.loop-piece.invariant.still decided).0) decided));
       bounded = λ small. c.in_ok-count.ensures.bounded;
       faults = search rules;
       lost = search rules;

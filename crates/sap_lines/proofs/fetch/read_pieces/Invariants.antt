@@ -1,6 +1,6 @@
 use Rattle.std.proofs.Common.{◌≡◌, ◌-◌, ◌<◌, ◌^◌, ◌++◌, ℕ, List}
-use Rattle.sap_lines.specs.Fetched.{HoldsLeast, IsDecided, More}
-use Rattle.sap_lines.proofs.fetch.fetch.Given as goal
+use Rattle.sap_lines.specs.Fetched.{HoldsLeast, More}
+use Rattle.sap_lines.proofs.fetch.read_pieces.Given as goal
 
 -- the pieces so far
 abbrev pub invariant-loop-piece : goal.invariant-loop-piece
@@ -8,7 +8,6 @@ invariant-loop-piece g l = record {
   more : More l.channel l.fn.held l.held (g.D.Desk.told l.fn.desk) (g.D.Desk.told l.desk) (g.D.Desk.given l.fn.desk) (g.D.Desk.given l.desk);
   behind : (piece : List ℕ) × (l.held ≡ l.fn.held ++ piece);
   least : HoldsLeast l.fn.held l.held;
-  still : IsDecided l.fn.held → (l.held ≡ l.fn.held) × (l.desk ≡ l.fn.desk);
   bounded : g.D.Desk.given l.fn.desk l.channel < 2 ^ 32 → g.D.Desk.given l.desk l.channel < 2 ^ 32;
   faults : g.D.Desk.faults l.desk ≡ g.D.Desk.faults l.fn.desk;
   lost : g.D.Desk.lost l.desk ≡ g.D.Desk.lost l.fn.desk;

@@ -1,0 +1,52 @@
+//! The decimal digits of a number, written from the last to the first, two at a time.
+
+ghost use Rattle.std.specs.Prelude.{◌≡◌, ◌+◌, ◌/◌, ◌%◌, ◌<◌, ◌≤◌, ◌∷◌, ◌++◌, drop, length};
+ghost use Rattle.std.specs.Fmt.{decimal};
+
+use crate::MOST_DIGITS;
+
+// The two digits of each number below 100.
+static PAIRS: [u8; 200] =
+    *b"00010203040506070809101112131415161718192021222324252627282930313233343536373839404142434445464748495051525354555657585960616263646566676869707172737475767778798081828384858687888990919293949596979899";
+
+// Writes two digits at a place.
+fn write_pair(pair: u64, bytes: &mut [u8], start: usize)
+    requires small { pair < 100 }
+    requires within { start + 2 ≤ length bytes.old }
+    ensures { drop start bytes.new ≡ (48 + pair / 10) ∷ (48 + pair % 10) ∷ drop (start + 2) bytes.old }
+{
+    let place = pair as usize * 2;
+    bytes[start] = PAIRS[place];
+    bytes[start + 1] = PAIRS[place + 1];
+}
+
+// Writes the first one or two digits before a place, and tells where they start.
+fn write_first(left: u64, bytes: &mut [u8], end: usize) -> usize
+    requires small { left < 100 }
+    requires room { length (decimal left) ≤ end }
+    requires within { end ≤ length bytes.old }
+    ensures text { drop result bytes.new ≡ decimal left ++ drop end bytes.old }
+    ensures before { result ≤ end }
+{
+    if left < 10 {
+        bytes[end - 1] = b'0' + left as u8;
+        return end - 1;
+    }
+    write_pair(left, bytes, end - 2);
+    end - 2
+}
+
+/// Writes the digits of a number to the end of the bytes, and tells where they start.
+pub(crate) fn write_digits(number: u64, bytes: &mut [u8; MOST_DIGITS]) -> usize
+    ensures text { drop result bytes.new ≡ decimal number }
+    ensures within { result ≤ MOST_DIGITS }
+{
+    let mut start = MOST_DIGITS;
+    let mut left = number;
+    while left >= 100 {
+        start -= 2;
+        write_pair(left % 100, bytes, start);
+        left /= 100;
+    }
+    write_first(left, bytes, start)
+}
