@@ -1,5 +1,5 @@
 -- What may be asked of the program beside its commands.
-use Rattle.std.specs.Prelude.{◌≡◌, ◌+◌, ℕ, Bool, false, not, List, [], ◌∷◌, ◌++◌, take, length, bytes_eq, codes, Option, Some, None, option_map, if◌then◌else◌}
+use Rattle.std.specs.Prelude.{◌≡◌, ◌≤◌, ◌⊎◌, ℕ, Bool, false, not, List, [], ◌∷◌, ◌++◌, take, length, bytes_eq, codes, Option, Some, None, option_map, if◌then◌else◌}
 use Rattle.sap_desk.specs.Desk.{Told, added}
 use Rattle.sap_help.specs.Codes.{is_code, IsTextOf}
 use Rattle.sap_help.specs.declared.asking.Question.{Question}
@@ -40,3 +40,21 @@ pub record IsAnswered (asked : Asked) (before after : Option Told) : Type 0 wher
   pub text : List ℕ
   pub is_answer : IsAnswer asked text
   pub told : after ≡ option_map (added 1 text) before
+
+-- the status of an answer: done; no code; a write on channel 1 failed; want of memory
+abbrev pub IsStatus : ℕ → Type 0
+IsStatus status = (status ≡ 0) ⊎ ((status ≡ 2) ⊎ ((status ≡ 6) ⊎ (status ≡ 7)))
+
+-- files and channel 1 are as before
+pub record Untouched (t n : Told) : Type 0 where
+  pub files : n.files ≡ t.files
+  pub output : n.written 1 ≡ t.written 1
+
+-- files are as before, and channel 1 has a part more of a text that is asked for, from its first byte on
+pub record IsCutOff (asked : Asked) (t n : Told) : Type 0 where
+  pub text : List ℕ
+  pub is_answer : IsAnswer asked text
+  pub files : n.files ≡ t.files
+  pub count : ℕ
+  pub within : count ≤ length text
+  pub output : n.written 1 ≡ t.written 1 ++ take count text

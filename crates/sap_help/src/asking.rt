@@ -1,9 +1,11 @@
 //! What may be asked of the program beside its commands.
 
-ghost use Rattle.std.specs.Prelude.{◌≡◌, ◌≢◌, [], ◌∷◌, IfSome, Some, None, true, is_some, map, string_bytes, option_map, false};
+ghost use Rattle.std.specs.Prelude.{◌≡◌, ◌≢◌, ◌⊎◌, [], ◌∷◌, IfSome, Some, None, true, is_some, map, string_bytes, option_map, false};
 ghost use Rattle.std.specs.Option.{option_map_or};
+ghost use Rattle.sap_desk.specs.Cause.{counted};
 ghost use Rattle.sap_desk.specs.Desk.{added};
-ghost use Rattle.sap_help.specs.Questions.{IsAnswered, asked_by, asked_of, is_unknown};
+ghost use Rattle.sap_desk.specs.Whole.{Between};
+ghost use Rattle.sap_help.specs.Questions.{Asked, IsAnswer, IsAnswered, IsCutOff, IsStatus, Untouched, asked_by, asked_of, is_unknown};
 
 use crate::explaining::explain;
 use crate::page::{VERSION, help};
@@ -51,17 +53,27 @@ fn question_of<'a>(words: &'a [String]) -> Option<Question<'a>>
 }
 
 // Writes a line on channel 2, and answers the status.
+#[tactic(auto, using(crate::proofs::Channels::quiet_line))]
 fn tell<D: Desk>(desk: &mut D, line: &[u8], status: u8) -> u8
-    ensures { result ≡ status }
+    ensures status { result ≡ status }
+    ensures quiet { Between (D.told desk.old) (D.told desk.new) Untouched }
+    ensures faults { D.faults desk.new ≡ D.faults desk.old }
+    ensures sure { D.sure desk.old → D.sure desk.new }
 {
     let _ = write_line(desk, &[line]);
     status
 }
 
 // Writes a text on channel 1.
+#[tactic(auto, using(crate::proofs::Channels::cut_off))]
 fn put<D: Desk>(desk: &mut D, text: &str) -> u8
     ensures done { result ≡ 0 → D.told desk.new ≡ option_map (added 1 text.now) (D.told desk.old) }
     ensures not_refused { result ≢ 2 }
+    ensures status { (result ≡ 0) ⊎ (result ≡ 6) }
+    ensures cut { result ≡ 6 → (asked : Asked) → IsAnswer asked text.now → Between (D.told desk.old) (D.told desk.new) (IsCutOff asked) }
+    ensures failed { result ≡ 6 → D.faults desk.new ≡ counted (D.faults desk.old) }
+    ensures counted { result ≢ 6 → D.faults desk.new ≡ D.faults desk.old }
+    ensures sure { D.sure desk.old → D.sure desk.new }
 {
     match write_output(desk, text.as_bytes()) {
         Ok(()) => 0,
@@ -73,6 +85,12 @@ fn reply<D: Desk>(alloc: Global, desk: &mut D, question: Question<'_>) -> u8
     ensures unknown { is_unknown (asked_of question.entry) ≡ true → result ≡ 2 }
     ensures known { is_unknown (asked_of question.entry) ≡ false → result ≢ 2 }
     ensures done { result ≡ 0 → IsAnswered (asked_of question.entry) (D.told desk.old) (D.told desk.new) }
+    ensures status { IsStatus result }
+    ensures cut { result ≡ 6 → Between (D.told desk.old) (D.told desk.new) (IsCutOff (asked_of question.entry)) }
+    ensures quiet { result ≢ 0 → result ≢ 6 → Between (D.told desk.old) (D.told desk.new) Untouched }
+    ensures failed { result ≡ 6 → D.faults desk.new ≡ counted (D.faults desk.old) }
+    ensures counted { result ≢ 6 → D.faults desk.new ≡ D.faults desk.old }
+    ensures sure { D.sure desk.old → D.sure desk.new }
 {
     match question {
         Question::Help => match help(alloc) {
@@ -93,6 +111,13 @@ pub fn answer<D: Desk>(alloc: Global, desk: &mut D, words: &[String]) -> Option<
     ensures unknown { option_map_or is_unknown (asked_by (map string_bytes words.now)) false ≡ true → result ≡ Some 2 }
     ensures known { option_map_or is_unknown (asked_by (map string_bytes words.now)) true ≡ false → result ≢ Some 2 }
     ensures done { result ≡ Some 0 → IfSome (asked_by (map string_bytes words.now)) (λ asked. IsAnswered asked (D.told desk.old) (D.told desk.new)) }
+    // A write that fails leaves a part of the answer; a word that is no code, and want of memory, leave files and channel 1.
+    ensures status { IfSome result IsStatus }
+    ensures cut { result ≡ Some 6 → IfSome (asked_by (map string_bytes words.now)) (λ asked. Between (D.told desk.old) (D.told desk.new) (IsCutOff asked)) }
+    ensures quiet { result ≢ Some 0 → result ≢ Some 6 → Between (D.told desk.old) (D.told desk.new) Untouched }
+    ensures failed { result ≡ Some 6 → D.faults desk.new ≡ counted (D.faults desk.old) }
+    ensures counted { result ≢ Some 6 → D.faults desk.new ≡ D.faults desk.old }
+    ensures sure { D.sure desk.old → D.sure desk.new }
     // Where they ask for none of it nothing is done.
     ensures other { result ≡ None → desk.new ≡ desk.old }
 {

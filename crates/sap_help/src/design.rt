@@ -3,6 +3,8 @@
 ghost use Rattle.std.specs.Prelude.{◌≡◌, IfSome, is_some};
 ghost use Rattle.sap_help.specs.Codes.{IsTextOf, is_one_of, design_codes};
 
+use crate::text::text_of;
+
 const E1: &str = "E1: a byte begins no token, or a number is badly written or over 2^64 - 1.
 
 The place is that byte, or the first digit of the number.
@@ -232,45 +234,30 @@ Cure: Make the design smaller there: shorter names, an expression in two assignm
 states. Two designs side by side have each their own limits.
 ";
 
+// Each code with its text.
+static DESIGN_FAULTS: [(&str, &str); 17] = [
+    ("E1", E1),
+    ("E2", E2),
+    ("E3", E3),
+    ("E4", E4),
+    ("E5", E5),
+    ("E6", E6),
+    ("E7", E7),
+    ("E8", E8),
+    ("E9", E9),
+    ("E10", E10),
+    ("E11", E11),
+    ("E12", E12),
+    ("E14", E14),
+    ("E15", E15),
+    ("E16", E16),
+    ("E17", E17),
+    ("E18", E18),
+];
+
 pub(crate) fn design_fault(code: &str) -> Option<&'static str>
     ensures known { is_some result ≡ is_one_of design_codes code.now }
     ensures begins { IfSome result (λ text. IsTextOf code.now text.now) }
 {
-    if code == "E1" {
-        Some(E1)
-    } else if code == "E2" {
-        Some(E2)
-    } else if code == "E3" {
-        Some(E3)
-    } else if code == "E4" {
-        Some(E4)
-    } else if code == "E5" {
-        Some(E5)
-    } else if code == "E6" {
-        Some(E6)
-    } else if code == "E7" {
-        Some(E7)
-    } else if code == "E8" {
-        Some(E8)
-    } else if code == "E9" {
-        Some(E9)
-    } else if code == "E10" {
-        Some(E10)
-    } else if code == "E11" {
-        Some(E11)
-    } else if code == "E12" {
-        Some(E12)
-    } else if code == "E14" {
-        Some(E14)
-    } else if code == "E15" {
-        Some(E15)
-    } else if code == "E16" {
-        Some(E16)
-    } else if code == "E17" {
-        Some(E17)
-    } else if code == "E18" {
-        Some(E18)
-    } else {
-        None
-    }
+    text_of(&DESIGN_FAULTS, code)
 }

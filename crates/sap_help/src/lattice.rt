@@ -3,6 +3,8 @@
 ghost use Rattle.std.specs.Prelude.{◌≡◌, IfSome, is_some};
 ghost use Rattle.sap_help.specs.Codes.{IsTextOf, is_one_of, lattice_codes};
 
+use crate::text::text_of;
+
 const L1: &str = "L1: the lattice file is no TOML.
 
 Example:
@@ -98,27 +100,21 @@ Example:
 Cure: Add a level below all others, with its pairs.
 ";
 
+// Each code with its text.
+static LATTICE_FAULTS: [(&str, &str); 8] = [
+    ("L1", L1),
+    ("L2", L2),
+    ("L3", L3),
+    ("L4", L4),
+    ("L5", L5),
+    ("L6", L6),
+    ("L7", L7),
+    ("L8", L8),
+];
+
 pub(crate) fn lattice_fault(code: &str) -> Option<&'static str>
     ensures known { is_some result ≡ is_one_of lattice_codes code.now }
     ensures begins { IfSome result (λ text. IsTextOf code.now text.now) }
 {
-    if code == "L1" {
-        Some(L1)
-    } else if code == "L2" {
-        Some(L2)
-    } else if code == "L3" {
-        Some(L3)
-    } else if code == "L4" {
-        Some(L4)
-    } else if code == "L5" {
-        Some(L5)
-    } else if code == "L6" {
-        Some(L6)
-    } else if code == "L7" {
-        Some(L7)
-    } else if code == "L8" {
-        Some(L8)
-    } else {
-        None
-    }
+    text_of(&LATTICE_FAULTS, code)
 }

@@ -8,6 +8,7 @@ mod lattice;
 mod module;
 mod page;
 mod stimulus;
+mod text;
 
 pub use asking::answer;
 pub use explaining::explain;

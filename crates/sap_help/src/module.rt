@@ -3,6 +3,8 @@
 ghost use Rattle.std.specs.Prelude.{◌≡◌, IfSome, is_some};
 ghost use Rattle.sap_help.specs.Codes.{IsTextOf, is_one_of, module_codes};
 
+use crate::text::text_of;
+
 const V1: &str = "V1: a byte begins no token, or a number is over 2^64 - 1.
 
 The place is that byte, or the first digit of the number.
@@ -96,25 +98,20 @@ Cure: An input gets its number from outside: assign to a wire. The number behind
 its depth less 1: `[0:3]` is one of 4 cells, with an index of 2 bits.
 ";
 
+// Each code with its text.
+static MODULE_FAULTS: [(&str, &str); 7] = [
+    ("V1", V1),
+    ("V2", V2),
+    ("V3", V3),
+    ("V4", V4),
+    ("V5", V5),
+    ("V6", V6),
+    ("V7", V7),
+];
+
 pub(crate) fn module_fault(code: &str) -> Option<&'static str>
     ensures known { is_some result ≡ is_one_of module_codes code.now }
     ensures begins { IfSome result (λ text. IsTextOf code.now text.now) }
 {
-    if code == "V1" {
-        Some(V1)
-    } else if code == "V2" {
-        Some(V2)
-    } else if code == "V3" {
-        Some(V3)
-    } else if code == "V4" {
-        Some(V4)
-    } else if code == "V5" {
-        Some(V5)
-    } else if code == "V6" {
-        Some(V6)
-    } else if code == "V7" {
-        Some(V7)
-    } else {
-        None
-    }
+    text_of(&MODULE_FAULTS, code)
 }

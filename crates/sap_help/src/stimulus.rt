@@ -3,6 +3,8 @@
 ghost use Rattle.std.specs.Prelude.{◌≡◌, IfSome, is_some};
 ghost use Rattle.sap_help.specs.Codes.{IsTextOf, is_one_of, stimulus_codes};
 
+use crate::text::text_of;
+
 const S1: &str = "S1: a field isn't of the form `VALUE@LEVEL`, or a line is longer than 65536 bytes.
 
 The line's number stands behind the code. VALUE is 1 to 20 decimal digits. For `sim` an input of the
@@ -66,23 +68,19 @@ Example:
 Cure: Write `5@low *3` for three cycles, and `5@low` for one.
 ";
 
+// Each code with its text.
+static STIMULUS_FAULTS: [(&str, &str); 6] = [
+    ("S1", S1),
+    ("S2", S2),
+    ("S3", S3),
+    ("S4", S4),
+    ("S5", S5),
+    ("S6", S6),
+];
+
 pub(crate) fn stimulus_fault(code: &str) -> Option<&'static str>
     ensures known { is_some result ≡ is_one_of stimulus_codes code.now }
     ensures begins { IfSome result (λ text. IsTextOf code.now text.now) }
 {
-    if code == "S1" {
-        Some(S1)
-    } else if code == "S2" {
-        Some(S2)
-    } else if code == "S3" {
-        Some(S3)
-    } else if code == "S4" {
-        Some(S4)
-    } else if code == "S5" {
-        Some(S5)
-    } else if code == "S6" {
-        Some(S6)
-    } else {
-        None
-    }
+    text_of(&STIMULUS_FAULTS, code)
 }

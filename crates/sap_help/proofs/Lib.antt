@@ -1,0 +1,2 @@
+mod Elements
+pub mod Channels
