@@ -135,7 +135,7 @@ is_some (Some n) = true
 abbrev pub is_level : List (List ℕ) → List ℕ → Bool
 is_level levels name = is_some (level_number levels name)
 
--- both are levels, and the first is not at or le the second
+-- both are levels, and the first is not at or below the second
 abbrev pub not_below : (ℕ → ℕ → Bool) → Option ℕ → Option ℕ → Bool
 not_below le (Some a) (Some b) = not (le a b)
 not_below le (Some a) None = false
@@ -197,7 +197,7 @@ abbrev mutual
   commands_faults levels what NoCommand = []
   commands_faults levels what (AndCommand c cs) = command_faults levels what c ++ commands_faults levels what cs
 
--- what a kind says: E6 at a level name that is no level, E9 where the authority isn't at or le the level; `le` is the order of the levels
+-- what a kind says: E6 at a level name that is no level, E9 where the authority isn't at or below the level; `le` is the order of the levels
 abbrev pub under_faults : List (List ℕ) → (le : ℕ → ℕ → Bool) → Mention → Option Under → List Fault
 under_faults levels le level None = []
 under_faults levels le level (Some under) =
