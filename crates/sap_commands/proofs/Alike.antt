@@ -18,9 +18,9 @@ use Rattle.sap_stim.specs.declared.field.Field.TheVariants as field
 use Rattle.sap_stim.specs.declared.stimulus.Parsed.{Parsed}
 use Rattle.sap_sim.specs.declared.rows.Rows.{Rows}
 use Rattle.sap_stim.specs.Stimulus.{stimulus_of}
-use Rattle.sap_run.specs.Fields.{design_fields}
-use Rattle.sap_run.specs.LabelledRows.{labelled_row, labelled_rows, register_shown, registers_shown, rows_of_run}
-use Rattle.sap_run.specs.RunOf.{IsRunOf, read_for}
+use Rattle.sap_sim.specs.Labelled.Fields.{design_fields}
+use Rattle.sap_sim.specs.Labelled.LabelledRows.{labelled_row, labelled_rows, register_shown, registers_shown, rows_of_run}
+use Rattle.sap_sim.specs.Labelled.RunOf.{IsRunOf, read_for}
 use Rattle.sap_commands.proofs.Programs.{program_in, world_in}
 use Rattle.sap_commands.proofs.Stimuli.{stimulus_in}
 

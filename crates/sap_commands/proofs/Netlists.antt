@@ -3,8 +3,8 @@ use Rattle.std.proofs.Common.{ℕ, List, subst}
 use Rattle.sap_net.specs.Net.{Net}
 use Rattle.sap_net.specs.IsNetlist.{IsNetlist}
 use Rattle.sap_modtext.specs.Modules.{IsModule}
-use Rattle.sap_vbuild.proofs.Netlist.{file_netlist}
-use Rattle.sap_vbuild.proofs.SpelledNames.{spelled_written}
+use Rattle.sap_vread.proofs.build.Netlist.{file_netlist}
+use Rattle.sap_vread.proofs.build.SpelledNames.{spelled_written}
 use Rattle.sap_vread.proofs.Faults.{text_of}
 
 pub module_netlist : (text : List ℕ) (n : Net) → IsModule text n → IsNetlist n

@@ -8,10 +8,10 @@ use Rattle.sap_desk.proofs.Steps.{other_number}
 use Rattle.sap_lattice.specs.Levels.{Levels}
 use Rattle.sap_stim.specs.declared.fault.StimFault.{StimFault}
 use Rattle.sap_stim.specs.declared.field.Field.{Field}
-use Rattle.sap_stepping.specs.Followed.{IsFaultOfSome, Shows, blamed_for}
-use Rattle.sap_stepping.specs.Printed.{IsPartOf, Printed, Stops, StopsFor, Unprinted}
-use Rattle.sap_stepping.specs.declared.stopped.Stopped.{Stopped}
-use Rattle.sap_stepping.specs.declared.stopped.Stopped.TheVariants.{Input, Output as OnOutput, Memory}
+use Rattle.sap_lines.specs.Stepping.Followed.{IsFaultOfSome, Shows, blamed_for}
+use Rattle.sap_lines.specs.Stepping.Printed.{IsPartOf, Printed, Stops, StopsFor, Unprinted}
+use Rattle.sap_lines.specs.declared.stepping.stopped.Stopped.{Stopped}
+use Rattle.sap_lines.specs.declared.stepping.stopped.Stopped.TheVariants.{Input, Output as OnOutput, Memory}
 use Rattle.sap_commands.specs.Ending.{Ending, done, refused, failed, no_memory, IsFree}
 use Rattle.sap_commands.specs.Asks.{prints, Cause, Files, IsCut, Leaves, MayEnd, Output, Shows as ShowsOn, end_of}
 use Rattle.sap_commands.specs.After.{Blames, Opens, OpensFailed}

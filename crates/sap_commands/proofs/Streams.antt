@@ -25,9 +25,9 @@ use Rattle.sap_stim.proofs.Fitting.{fits}
 use Rattle.sap_stream.specs.Apart.{AreOfOneLength, IsApart}
 use Rattle.sap_stream.specs.declared.apart.Apart.{Apart}
 use Rattle.sap_sim.proofs.Fits.{counts}
-use Rattle.sap_run.specs.Fields.{design_fields}
-use Rattle.sap_run.specs.RunOf.{read_for}
-use Rattle.sap_run.proofs.Designs.{fit_stream}
+use Rattle.sap_sim.specs.Labelled.Fields.{design_fields}
+use Rattle.sap_sim.specs.Labelled.RunOf.{read_for}
+use Rattle.sap_sim.proofs.labelled.Designs.{fit_stream}
 use Rattle.sap_interface.specs.Designs.{named_of}
 use Rattle.sap_interface.specs.StandsFor.{world}
 use Rattle.sap_net.specs.Net.{Net}

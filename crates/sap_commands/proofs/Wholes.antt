@@ -18,8 +18,8 @@ use Rattle.sap_sim.specs.Simulated.{read_for}
 use Rattle.sap_sim.specs.Stepping.{AreRows, RowsAddUp, rows_of}
 use Rattle.sap_sim.proofs.Registers.{all_shown}
 use Rattle.sap_tree.specs.Syntax.{DesignTree}
-use Rattle.sap_run.specs.Fields.{design_fields}
-use Rattle.sap_run.specs.RunOf.{read_for as read_lines}
+use Rattle.sap_sim.specs.Labelled.Fields.{design_fields}
+use Rattle.sap_sim.specs.Labelled.RunOf.{read_for as read_lines}
 use Rattle.sap_trace.specs.Lines.{labelled_trace}
 use Rattle.sap_trace.specs.Stepping.{AreLines, LinesAddUp, trace_as}
 use Rattle.sap_commands.specs.Asks.{IsPrefix}

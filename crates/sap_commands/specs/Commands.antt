@@ -8,7 +8,7 @@ use Rattle.sap_net.specs.Net.{Net}
 use Rattle.sap_stim.specs.Line.{level_named}
 use Rattle.sap_stim.specs.declared.fault.StimFault.{StimFault}
 use Rattle.sap_stream.specs.declared.apart.Apart.{Apart}
-use Rattle.sap_run.specs.RunOf.{IsRunOf, read_for as design_stimulus}
+use Rattle.sap_sim.specs.Labelled.RunOf.{IsRunOf, read_for as design_stimulus}
 use Rattle.sap_trace.specs.TraceOf.{IsTraceOf}
 use Rattle.sap_sim.specs.Simulated.{IsSimulated, read_for as module_stimulus}
 use Rattle.sap_show.specs.Canonical.{canonical_text}

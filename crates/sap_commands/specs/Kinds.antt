@@ -12,7 +12,7 @@ use Rattle.sap_parse.specs.declared.fault.ReadFault.{ReadFault}
 use Rattle.sap_shape.specs.WellFormed.{WellFormed}
 use Rattle.sap_meaning.specs.Cycle.{Tagged}
 use Rattle.sap_stim.specs.declared.fault.StimFault.{StimFault}
-use Rattle.sap_run.specs.RunOf.{read_for}
+use Rattle.sap_sim.specs.Labelled.RunOf.{read_for}
 use Rattle.sap_net.specs.Net.{Net}
 use Rattle.sap_modtext.specs.Modules.{IsModule}
 use Rattle.sap_vread.specs.ModuleFault.{IsModuleFault}

@@ -36,7 +36,7 @@ use Rattle.sap_commands.specs.Twin.{agreement_line, difference}
 use Rattle.sap_stim.specs.declared.fault.StimFault.{StimFault}
 use Rattle.sap_stim.specs.declared.field.Field.{Field}
 use Rattle.sap_stim.specs.Stimulus.{stimulus_of}
-use Rattle.sap_stepping.specs.Followed.{IsPartShown, Shows as ShowsOf}
+use Rattle.sap_lines.specs.Stepping.Followed.{IsPartShown, Shows as ShowsOf}
 use Rattle.sap_commands.specs.Asks.{Asks, Cause, IsPrefix, Leaves, MayEnd, Output}
 use Rattle.sap_commands.specs.Commands.{asks_streams}
 use Rattle.sap_commands.specs.After.{Blames, Opens}

@@ -2,15 +2,14 @@
 
 ghost use Rattle.std.specs.Prelude.{◌≡◌, ◌≤◌, []};
 ghost use Rattle.sap_lines.specs.Reader.{IsNew};
-ghost use Rattle.sap_stepping.specs.declared.TheConstants.{LARGE_BYTES};
+ghost use Rattle.sap_lines.specs.declared.stepping.TheConstants.{LARGE_BYTES};
 ghost use Rattle.sap_commands.specs.Asks.{prints};
 ghost use Rattle.sap_commands.specs.Steps.{Ends, HasWhole, ending_of, printed_fault, printed_text, seen};
 
 use crate::failure::Failure;
 use crate::output::end;
 use sap_desk::{Desk, RowBuf};
-use sap_lines::Lines;
-use sap_stepping::{Steps, Stopped, print};
+use sap_lines::{Lines, Steps, Stopped, print};
 
 /// Prints what the steps on the lines of a stimulus file show, and ends as its lines do. Each step is put into `out`, and
 /// what it shows waits in `waiting` to be written.

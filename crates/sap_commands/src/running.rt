@@ -8,7 +8,7 @@ use crate::failure::Failure;
 use crate::inputs::{compiled_from, lattice_from, read, read_design};
 use crate::rows::print_rows;
 use sap_desk::Desk;
-use sap_run::rows_of_run;
+use sap_sim::rows_of_run;
 use std::alloc::Global;
 
 /// Prints the rows of a design file's run on a stimulus file, over a lattice file.

@@ -2,7 +2,7 @@
 
 ghost use Rattle.sap_check.specs.Checked.{levels_in, tree_in};
 ghost use Rattle.sap_interface.specs.Designs.{StandsForDesign};
-ghost use Rattle.sap_run.specs.RunOf.{read_for};
+ghost use Rattle.sap_sim.specs.Labelled.RunOf.{read_for};
 ghost use Rattle.sap_trace.specs.Stepping.{AreLines, IsAfter};
 ghost use Rattle.sap_commands.specs.Asks.{prints};
 ghost use Rattle.sap_commands.specs.Commands.{AreTraceLines};
@@ -13,9 +13,8 @@ use crate::printing::print_steps;
 use sap_check::Checked;
 use sap_desk::{Desk, RowBuf};
 use sap_lattice::Lattice;
-use sap_lines::Lines;
+use sap_lines::{LARGE_BYTES, Lines, Steps};
 use sap_net::netlist::Netlist;
-use sap_stepping::{LARGE_BYTES, Steps};
 use sap_stream::Inputs;
 use sap_trace::Tracing;
 use std::alloc::Global;

@@ -15,8 +15,8 @@ use Rattle.sap_meaning.specs.State.{Resting, Fits, InputsFit, StreamFits, first,
 use Rattle.sap_meaning.specs.Agree.{Low, High, Alike, PartsAlike, seen}
 use Rattle.sap_meaning.specs.Agree as meaning
 use Rattle.sap_resolve.specs.Fill.{program_of}
-use Rattle.sap_premises.specs.Premises.{ProgramsAreFine}
-use Rattle.sap_low.specs.Designs.{RunsOfDesignsAgree, DesignStatesRest, DesignNumbersFit}
+use Rattle.sap_resolve.specs.Premises.Premises.{ProgramsAreFine}
+use Rattle.sap_secure.specs.Designs.Designs.{RunsOfDesignsAgree, DesignStatesRest, DesignNumbersFit}
 use Rattle.sap_net.specs.Laws.{SomeRun, OneRun}
 use Rattle.sap_net.specs.Net.{Net}
 use Rattle.sap_net.specs.Runs.{observed}

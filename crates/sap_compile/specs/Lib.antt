@@ -4,3 +4,4 @@ pub mod Failures
 pub mod Faults
 pub mod Parts
 pub mod Runs
+pub mod Stages

@@ -6,6 +6,7 @@ mod compiler;
 mod fault;
 mod module;
 mod read;
+pub mod stages;
 
 pub use compiled::Compiled;
 pub use compiler::compile;

@@ -9,13 +9,13 @@ ghost use Rattle.sap_compile.specs.Runs.{HasOneRunOnStreams};
 ghost use Rattle.sap_interface.specs.Designs.{StandsForDesign};
 
 use crate::compiled::Compiled;
+use crate::stages::netlist;
 use sap_check::Checked;
 use sap_hang::hang::hang;
 use sap_net::laws::one_run;
 use sap_net::netlist::Netlist;
-use sap_premises::well_formed_serves;
 use sap_program::resolve::resolve;
-use sap_stages::netlist;
+use sap_resolve::premises::well_formed_serves;
 use sap_tags::insert::insert;
 use sap_vprint::print;
 use std::alloc::{AllocError, Global};
@@ -30,8 +30,8 @@ fn runs(checked: &Checked, netlist: &Netlist)
     one_run(netlist);
     checked.lawful();
     checked.lattice().lawful();
-    sap_low::runs_agree();
-    sap_low::states_keep();
+    sap_secure::designs::runs_agree();
+    sap_secure::designs::states_keep();
     well_formed_serves()
 }
 

@@ -14,10 +14,10 @@ use Rattle.sap_ir.specs.Guarded.{Going, value_in, after_action}
 use Rattle.sap_ir.specs.IsGuarded.{TermFine, ActionFine, declared}
 use Rattle.sap_ir.proofs.Declared.{found_first, assignable_readable}
 use Rattle.sap_ir.proofs.Passes.{WidthsDeclared, fine_width}
-use Rattle.sap_plain.specs.Nested.{Forest, has_states, size, seat_width}
-use Rattle.sap_plain.specs.Does.{put_value}
-use Rattle.sap_plain.specs.IsPlain.{SeatFine}
-use Rattle.sap_plain.proofs.SeatWidths.{seat_register}
+use Rattle.sap_ir.specs.Plain.Nested.{Forest, has_states, size, seat_width}
+use Rattle.sap_ir.specs.Plain.Does.{put_value}
+use Rattle.sap_ir.specs.Plain.IsPlain.{SeatFine}
+use Rattle.sap_ir.proofs.plain.SeatWidths.{seat_register}
 use Rattle.sap_flat.specs.Gates.{gate_name}
 use Rattle.sap_flat.proofs.GateNames.{gate_differs}
 

@@ -12,9 +12,9 @@ use Rattle.sap_net.specs.Rules.{Shapes, IsWidth}
 use Rattle.sap_ir.specs.Source.{Action, set, put, Command, readable, shapes}
 use Rattle.sap_ir.specs.IsGuarded.{TermFine, assignable, ActionFine, CommandFine}
 use Rattle.sap_ir.proofs.Declared.{found_first}
-use Rattle.sap_plain.specs.Nested.{Body, stop, act, cases, goto, fall, Forest, none, state, Nested, declarations, has_states, size, group_names, place, children_of, seat_name, seat_width}
-use Rattle.sap_plain.specs.IsPlain.{BodyFine, SeatFine, ForestFine}
-use Rattle.sap_plain.proofs.SeatWidths.{seat_positive, seat_within, seat_register}
+use Rattle.sap_ir.specs.Plain.Nested.{Body, stop, act, cases, goto, fall, Forest, none, state, Nested, declarations, has_states, size, group_names, place, children_of, seat_name, seat_width}
+use Rattle.sap_ir.specs.Plain.IsPlain.{BodyFine, SeatFine, ForestFine}
+use Rattle.sap_ir.proofs.plain.SeatWidths.{seat_positive, seat_within, seat_register}
 use Rattle.sap_flat.specs.Gates.{gate_name}
 use Rattle.sap_flat.specs.Flat.{under, is_number, seated, flat_first, flat_restart, flat_goto, flat_body, flat_gates, flat_group, flattened}
 use Rattle.sap_flat.proofs.Listed.{all_behind}

@@ -13,7 +13,7 @@ use Rattle.sap_maps.specs.Maps.{Name}
 use Rattle.sap_maps.proofs.Scopes.{name_is}
 use Rattle.sap_net.specs.Names.{is_inner, is_name, is_among}
 use Rattle.sap_ir.specs.IsGuarded.{is_helping}
-use Rattle.sap_plain.specs.IsPlain.{is_gate}
+use Rattle.sap_ir.specs.Plain.IsPlain.{is_gate}
 use Rattle.sap_flat.specs.Gates.{gate_name}
 
 below : (a b : ℕ) → nat_lt a b ≡ true → a < b

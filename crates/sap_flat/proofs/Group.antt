@@ -7,10 +7,10 @@ use Rattle.sap_maps.specs.Scope.{find}
 use Rattle.sap_maps.specs.Term.{Term, read}
 use Rattle.sap_ir.specs.Source.{set, Command, Source, readable}
 use Rattle.sap_ir.specs.Guarded.{Going, value_in, after_action}
-use Rattle.sap_plain.specs.Nested.{Body, Forest, none, state, has_states, size, group_names, seat_name, seat_width}
-use Rattle.sap_plain.specs.Does.{put_value, enter, child_does, falls_of}
-use Rattle.sap_plain.specs.Writes.{child_writes}
-use Rattle.sap_plain.specs.IsPlain.{ends_in_transfers, SeatFine, ForestFine}
+use Rattle.sap_ir.specs.Plain.Nested.{Body, Forest, none, state, has_states, size, group_names, seat_name, seat_width}
+use Rattle.sap_ir.specs.Plain.Does.{put_value, enter, child_does, falls_of}
+use Rattle.sap_ir.specs.Plain.Writes.{child_writes}
+use Rattle.sap_ir.specs.Plain.IsPlain.{ends_in_transfers, SeatFine, ForestFine}
 use Rattle.sap_flat.specs.Gates.{gate_name}
 use Rattle.sap_flat.specs.Flat.{Flat, is_number, flat_body, flat_gates, flat_group}
 use Rattle.sap_flat.proofs.Runs.{Runs, runs_none, runs_on, runs_append, runs_last}

@@ -12,13 +12,13 @@ use Rattle.sap_ir.specs.declared.guarded.Act.{Act}
 use Rattle.sap_ir.specs.declared.guarded.Calc.{Calc}
 use Rattle.sap_ir.specs.Calcs.{term_of, action_of}
 use Rattle.sap_ir.specs.Source.{set, Command}
-use Rattle.sap_plain.specs.declared.nested.PlainCmd.{PlainCmd}
-use Rattle.sap_plain.specs.declared.nested.PlainCmd.TheVariants as cmd
-use Rattle.sap_plain.specs.declared.nested.PlainCmd.TheViews as shown
-use Rattle.sap_plain.specs.declared.nested.PlainState.{PlainState, out-PlainState}
-use Rattle.sap_plain.specs.Nested.{Body, stop, act, cases, goto, fall, Forest, none, state, size, place, children_of, seat_name, root_seat, seat_width}
-use Rattle.sap_plain.specs.Views.{command_before, body_of, state_before, forest_of, follow, planted}
-use Rattle.sap_plain.proofs.Views.{body_of-none, body_of-more, before-do, before-if, before-goto, before-fall, forest_of-none, forest_of-more, state_before-out, follow-before, planted-before}
+use Rattle.sap_ir.specs.declared.plain.nested.PlainCmd.{PlainCmd}
+use Rattle.sap_ir.specs.declared.plain.nested.PlainCmd.TheVariants as cmd
+use Rattle.sap_ir.specs.declared.plain.nested.PlainCmd.TheViews as shown
+use Rattle.sap_ir.specs.declared.plain.nested.PlainState.{PlainState, out-PlainState}
+use Rattle.sap_ir.specs.Plain.Nested.{Body, stop, act, cases, goto, fall, Forest, none, state, size, place, children_of, seat_name, root_seat, seat_width}
+use Rattle.sap_ir.specs.Plain.Views.{command_before, body_of, state_before, forest_of, follow, planted}
+use Rattle.sap_ir.proofs.plain.Views.{body_of-none, body_of-more, before-do, before-if, before-goto, before-fall, forest_of-none, forest_of-more, state_before-out, follow-before, planted-before}
 use Rattle.sap_flat.specs.Gates.{gate_name, gate_wire, gate_wires}
 use Rattle.sap_flat.specs.Flat.{Flat, under, is_number, flat_first, flat_restart, flat_goto, flat_body, flat_gates, flat_group, flat_states}
 use Rattle.sap_flat.specs.Lists.{first_commands, restart_commands, restart_one, place_in, goto_commands, choice_commands, commands_flat, command_flat, gates_commands, states_flat, state_flat}

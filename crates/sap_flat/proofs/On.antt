@@ -8,9 +8,9 @@ use Rattle.sap_net.specs.Names.{is_among}
 use Rattle.sap_ir.specs.Source.{Action, set, Command, Source, readable, shapes}
 use Rattle.sap_ir.specs.IsGuarded.{TermFine, ActionFine}
 use Rattle.sap_ir.specs.Guarded.{Going, value_in, after_action}
-use Rattle.sap_plain.specs.Nested.{Body, stop, act, cases, goto, fall, Forest, group_names}
-use Rattle.sap_plain.specs.Does.{put_value, enter}
-use Rattle.sap_plain.specs.IsPlain.{BodyFine, is_stop, ends_in_transfers, SeatFine, ForestFine}
+use Rattle.sap_ir.specs.Plain.Nested.{Body, stop, act, cases, goto, fall, Forest, group_names}
+use Rattle.sap_ir.specs.Plain.Does.{put_value, enter}
+use Rattle.sap_ir.specs.Plain.IsPlain.{BodyFine, is_stop, ends_in_transfers, SeatFine, ForestFine}
 use Rattle.sap_flat.specs.Gates.{gate_name}
 use Rattle.sap_flat.specs.Flat.{under, is_number, flat_goto, flat_body}
 use Rattle.sap_flat.proofs.Runs.{Runs, runs_none, runs_on, runs_append, runs_end, runs_last}

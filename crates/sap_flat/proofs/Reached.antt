@@ -7,10 +7,10 @@ use Rattle.sap_maps.specs.Term.{Term}
 use Rattle.sap_ir.specs.Source.{Action, set, put}
 use Rattle.sap_ir.specs.Guarded.{Going, value_in, after_action}
 use Rattle.sap_ir.specs.Writes.{with_memory}
-use Rattle.sap_plain.specs.Nested.{Body, stop, act, cases, goto, fall}
-use Rattle.sap_plain.specs.Does.{body_does}
-use Rattle.sap_plain.specs.Writes.{body_writes}
-use Rattle.sap_plain.specs.IsPlain.{is_stop, transfers, ends_in_transfers}
+use Rattle.sap_ir.specs.Plain.Nested.{Body, stop, act, cases, goto, fall}
+use Rattle.sap_ir.specs.Plain.Does.{body_does}
+use Rattle.sap_ir.specs.Plain.Writes.{body_writes}
+use Rattle.sap_ir.specs.Plain.IsPlain.{is_stop, transfers, ends_in_transfers}
 
 -- Where a body ends, or where it falls, and which memories it has written until then.
 pub record Reached : Type 0 where

@@ -5,9 +5,9 @@ use Rattle.sap_ir.specs.declared.guarded.Var.{Var}
 use Rattle.sap_ir.specs.declared.guarded.Store.{Store}
 use Rattle.sap_ir.specs.Source.{Command, Source}
 use Rattle.sap_ir.specs.Writes.{WritesOnce}
-use Rattle.sap_plain.specs.Nested.{Nested}
-use Rattle.sap_plain.specs.Writes.{PlainWritesOnce}
-use Rattle.sap_plain.specs.IsPlain.{IsPlain}
+use Rattle.sap_ir.specs.Plain.Nested.{Nested}
+use Rattle.sap_ir.specs.Plain.Writes.{PlainWritesOnce}
+use Rattle.sap_ir.specs.Plain.IsPlain.{IsPlain}
 use Rattle.sap_size.specs.Flat.{source_weight}
 use Rattle.sap_size.specs.Nested.{nested_weight}
 use Rattle.sap_flat.specs.Gates.{gate_wires}

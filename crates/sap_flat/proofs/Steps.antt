@@ -12,12 +12,12 @@ use Rattle.sap_ir.specs.declared.guarded.Calc.{Calc}
 use Rattle.sap_ir.specs.declared.guarded.GuardedCmd.{GuardedCmd}
 use Rattle.sap_ir.specs.Calcs.{term_of, action_of, command_of, commands_of}
 use Rattle.sap_ir.specs.Source.{Action, set, Command}
-use Rattle.sap_plain.specs.declared.nested.PlainCmd.{PlainCmd}
-use Rattle.sap_plain.specs.declared.nested.PlainCmd.TheVariants as cmd
-use Rattle.sap_plain.specs.declared.nested.PlainCmd.TheViews as shown
-use Rattle.sap_plain.specs.declared.nested.PlainState.{PlainState, out-PlainState}
-use Rattle.sap_plain.specs.Nested.{Forest, seat_name, root_seat, seat_width}
-use Rattle.sap_plain.specs.Views.{body_of, forest_of}
+use Rattle.sap_ir.specs.declared.plain.nested.PlainCmd.{PlainCmd}
+use Rattle.sap_ir.specs.declared.plain.nested.PlainCmd.TheVariants as cmd
+use Rattle.sap_ir.specs.declared.plain.nested.PlainCmd.TheViews as shown
+use Rattle.sap_ir.specs.declared.plain.nested.PlainState.{PlainState, out-PlainState}
+use Rattle.sap_ir.specs.Plain.Nested.{Forest, seat_name, root_seat, seat_width}
+use Rattle.sap_ir.specs.Plain.Views.{body_of, forest_of}
 use Rattle.sap_flat.specs.Gates.{gate_name}
 use Rattle.sap_flat.specs.Flat.{Flat, under, is_number, flat_states}
 use Rattle.sap_flat.specs.Lists.{first_commands, restart_commands, place_in, goto_commands, choice_commands, commands_flat, command_flat, gates_commands, states_flat, state_flat}

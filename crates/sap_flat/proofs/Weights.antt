@@ -3,12 +3,12 @@ use Rattle.std.proofs.Common.{◌≡◌, ℕ, zero, suc, ◌+◌, ◌<◌, ◌�
 use Rattle.std.specs.declared.vec.Vec.{Vec}
 use Rattle.std.specs.declared.alloc.Global.{Global}
 use Rattle.sap_ir.specs.declared.guarded.Calc.{Calc}
-use Rattle.sap_plain.specs.declared.nested.PlainCmd.{PlainCmd}
-use Rattle.sap_plain.specs.declared.nested.PlainCmd.TheViews as shown
-use Rattle.sap_plain.specs.declared.nested.PlainState.{PlainState, out-PlainState}
-use Rattle.sap_plain.specs.Nested.{Body, stop, act, cases, goto, fall, Forest, none, state}
-use Rattle.sap_plain.specs.Views.{command_before, body_of, state_before, forest_of, follow, planted}
-use Rattle.sap_plain.proofs.Views.{body_of-more, before-if, forest_of-more, state_before-out, follow-before, planted-before}
+use Rattle.sap_ir.specs.declared.plain.nested.PlainCmd.{PlainCmd}
+use Rattle.sap_ir.specs.declared.plain.nested.PlainCmd.TheViews as shown
+use Rattle.sap_ir.specs.declared.plain.nested.PlainState.{PlainState, out-PlainState}
+use Rattle.sap_ir.specs.Plain.Nested.{Body, stop, act, cases, goto, fall, Forest, none, state}
+use Rattle.sap_ir.specs.Plain.Views.{command_before, body_of, state_before, forest_of, follow, planted}
+use Rattle.sap_ir.proofs.plain.Views.{body_of-more, before-if, forest_of-more, state_before-out, follow-before, planted-before}
 
 abbrev pub body_weight : Body → ℕ
 body_weight stop = 1

@@ -17,11 +17,11 @@ use Rattle.sap_ir.specs.Guarded.{Going, first_number, register_number, number_at
 use Rattle.sap_ir.specs.Writes.{WithinBefore, WritesOnce}
 use Rattle.sap_ir.specs.IsGuarded.{variable_names, memory_names}
 use Rattle.sap_ir.proofs.Declared.{not_front, not_behind_list}
-use Rattle.sap_plain.specs.Nested.{Nested, declarations, has_states, size, root_seat, seats, seat_width}
-use Rattle.sap_plain.specs.Does as plain
-use Rattle.sap_plain.specs.Does.{enter, falls_of}
-use Rattle.sap_plain.specs.Writes.{child_writes, cycle_writes, PlainWritesOnce}
-use Rattle.sap_plain.specs.IsPlain.{IsPlain}
+use Rattle.sap_ir.specs.Plain.Nested.{Nested, declarations, has_states, size, root_seat, seats, seat_width}
+use Rattle.sap_ir.specs.Plain.Does as plain
+use Rattle.sap_ir.specs.Plain.Does.{enter, falls_of}
+use Rattle.sap_ir.specs.Plain.Writes.{child_writes, cycle_writes, PlainWritesOnce}
+use Rattle.sap_ir.specs.Plain.IsPlain.{IsPlain}
 use Rattle.sap_flat.specs.Gates.{gate_name}
 use Rattle.sap_flat.specs.Flat.{flat_gates, flat_group, flattened}
 use Rattle.sap_flat.specs.Same.{SameNumbers, AllSame, RunsAlike}

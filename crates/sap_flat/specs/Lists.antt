@@ -3,10 +3,10 @@ use Rattle.std.specs.Prelude.{ℕ, List, [], ◌∷◌}
 use Rattle.sap_maps.specs.Maps.{Name}
 use Rattle.sap_maps.specs.Term.{Term, read}
 use Rattle.sap_ir.specs.Source.{set, Command}
-use Rattle.sap_plain.specs.declared.nested.PlainCmd.{PlainCmd}
-use Rattle.sap_plain.specs.declared.nested.PlainState.{PlainState}
-use Rattle.sap_plain.specs.Nested.{stop, none, place}
-use Rattle.sap_plain.specs.Views.{command_before, body_of, state_before, forest_of}
+use Rattle.sap_ir.specs.declared.plain.nested.PlainCmd.{PlainCmd}
+use Rattle.sap_ir.specs.declared.plain.nested.PlainState.{PlainState}
+use Rattle.sap_ir.specs.Plain.Nested.{stop, none, place}
+use Rattle.sap_ir.specs.Plain.Views.{command_before, body_of, state_before, forest_of}
 use Rattle.sap_flat.specs.Gates.{gate_name}
 use Rattle.sap_flat.specs.Flat.{Flat, under, is_number, flat_first, flat_restart, flat_goto, flat_body, flat_gates, flat_group}
 

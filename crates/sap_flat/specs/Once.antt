@@ -3,7 +3,7 @@ use Rattle.std.specs.Prelude.{◌≡◌, ◌&&◌, Bool, true, not, List, [], �
 use Rattle.sap_net.specs.Names.{is_among}
 use Rattle.sap_ir.specs.Source.{Action, set, put, Command, Source}
 use Rattle.sap_ir.specs.IsGuarded.{declared}
-use Rattle.sap_plain.specs.Nested.{Body, stop, act, cases, goto, fall, Forest, none, state, Nested, declarations, seats}
+use Rattle.sap_ir.specs.Plain.Nested.{Body, stop, act, cases, goto, fall, Forest, none, state, Nested, declarations, seats}
 
 -- those of a body, in the order of the text
 abbrev pub body_actions : Body → List Action

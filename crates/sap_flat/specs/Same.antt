@@ -5,9 +5,9 @@ use Rattle.sap_maps.specs.Maps.{Valuation}
 use Rattle.sap_ir.specs.declared.guarded.Var.{Var}
 use Rattle.sap_ir.specs.Source.{Source}
 use Rattle.sap_ir.specs.Guarded.{guarded_run}
-use Rattle.sap_plain.specs.Nested.{Nested}
-use Rattle.sap_plain.specs.Does.{plain_run}
-use Rattle.sap_plain.specs.IsPlain.{is_gate}
+use Rattle.sap_ir.specs.Plain.Nested.{Nested}
+use Rattle.sap_ir.specs.Plain.Does.{plain_run}
+use Rattle.sap_ir.specs.Plain.IsPlain.{is_gate}
 
 -- a wire of one bit whose name is a `g` and digits
 abbrev pub IsGate : Var → Type 0

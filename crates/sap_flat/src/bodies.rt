@@ -9,8 +9,8 @@ use crate::copies;
 use crate::gates::Gates;
 use crate::moves::goto;
 use sap_ir::guarded::{Calc, GuardedCmd};
+use sap_ir::plain::nested::{PlainCmd, PlainState};
 use sap_net::parts::Name;
-use sap_plain::nested::{PlainCmd, PlainState};
 use std::alloc::{AllocError, Global};
 
 /// A choice's two gates, under the gate `j`: one is 1 where the test isn't 0, the other where it is.

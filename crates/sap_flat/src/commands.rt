@@ -4,15 +4,15 @@ ghost use Rattle.std.specs.Prelude.{◌≡◌, ◌∷◌, [], ◌++◌, IfOk, On
 ghost use Rattle.sap_maps.specs.Term.{constant, read};
 ghost use Rattle.sap_ir.specs.Calcs.{action_of, commands_of, term_of};
 ghost use Rattle.sap_ir.specs.Source.{set};
-ghost use Rattle.sap_plain.specs.Nested.{seat_width};
+ghost use Rattle.sap_ir.specs.Plain.Nested.{seat_width};
 ghost use Rattle.sap_flat.specs.Gates.{gate_name};
 ghost use Rattle.sap_flat.specs.Flat.{is_number, under};
 
 use crate::gates;
 use sap_bits::Op2;
 use sap_ir::guarded::{Act, Calc, GuardedCmd};
+use sap_ir::plain::seats;
 use sap_net::parts::Name;
-use sap_plain::seats;
 use std::alloc::{AllocError, Global};
 
 /// Whether a gate is 1.

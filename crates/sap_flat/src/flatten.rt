@@ -5,8 +5,8 @@ ghost use Rattle.sap_ir.specs.Calcs.{commands_of};
 ghost use Rattle.sap_ir.specs.Parts.{parts_source};
 ghost use Rattle.sap_ir.specs.Program.{source_of};
 ghost use Rattle.sap_ir.specs.Writes.{WritesOnce};
-ghost use Rattle.sap_plain.specs.Program.{nested_of};
-ghost use Rattle.sap_plain.specs.Writes.{PlainWritesOnce};
+ghost use Rattle.sap_ir.specs.Plain.Program.{nested_of};
+ghost use Rattle.sap_ir.specs.Plain.Writes.{PlainWritesOnce};
 ghost use Rattle.sap_size.specs.Flat.{source_weight};
 ghost use Rattle.sap_size.specs.Nested.{nested_weight};
 ghost use Rattle.sap_flat.specs.Flat.{flat_states, flattened};
@@ -17,9 +17,9 @@ use crate::copies;
 use crate::gates::Gates;
 use crate::groups::{mark, states};
 use sap_ir::guarded::{Calc, GuardedCmd, GuardedParts};
+use sap_ir::plain::program::Plain;
+use sap_ir::plain::seats;
 use sap_ir::program::Guarded;
-use sap_plain::program::Plain;
-use sap_plain::seats;
 use std::alloc::{AllocError, Global};
 
 /// The commands of all states of a program, whose gates are the first.

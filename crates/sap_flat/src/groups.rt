@@ -2,7 +2,7 @@
 
 ghost use Rattle.std.specs.Prelude.{◌≡◌, ◌<◌, ◌≤◌, ◌+◌, ◌^◌, ◌++◌, OnOk, length};
 ghost use Rattle.sap_ir.specs.Calcs.{commands_of, term_of};
-ghost use Rattle.sap_plain.specs.Nested.{seat_width};
+ghost use Rattle.sap_ir.specs.Plain.Nested.{seat_width};
 ghost use Rattle.sap_flat.specs.Lists.{gates_commands, state_flat, states_flat};
 
 use crate::bodies::commands;
@@ -10,9 +10,9 @@ use crate::commands::{is_equal, is_open};
 use crate::gates;
 use crate::gates::Gates;
 use sap_ir::guarded::{Act, Calc, GuardedCmd};
+use sap_ir::plain::nested::PlainState;
+use sap_ir::plain::seats;
 use sap_net::parts::Name;
-use sap_plain::nested::PlainState;
-use sap_plain::seats;
 use std::alloc::{AllocError, Global};
 
 /// The gates from `first` on of a group: where `when` holds, that of the current state becomes 1.

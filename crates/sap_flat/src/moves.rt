@@ -6,9 +6,9 @@ ghost use Rattle.sap_flat.specs.Lists.{first_commands, goto_commands, place_in, 
 
 use crate::commands::set_seat;
 use sap_ir::guarded::GuardedCmd;
+use sap_ir::plain::nested::PlainState;
+use sap_ir::plain::seats;
 use sap_net::parts::Name;
-use sap_plain::nested::PlainState;
-use sap_plain::seats;
 use std::alloc::{AllocError, Global};
 
 /// A state returns to its first child, where it has children.
@@ -31,7 +31,7 @@ fn first_child(
 }
 
 #[cycle(restart)]
-#[tactic(auto, using(sap_plain::proofs::Views::views, crate::proofs::Makes::restarts, crate::proofs::Weights::weights))]
+#[tactic(auto, using(sap_ir::proofs::plain::Views::views, crate::proofs::Makes::restarts, crate::proofs::Weights::weights))]
 fn restart_state(
     alloc: Global,
     out: &mut Vec<GuardedCmd>,

@@ -23,7 +23,7 @@ use Rattle.sap_meaning.specs.State.{labelled_run}
 use Rattle.sap_interface.specs.Designs.{named_of}
 use Rattle.sap_interface.specs.StandsFor.{Named, name, world}
 use Rattle.sap_stim.specs.Rows.{Shown, row_text}
-use Rattle.sap_run.specs.LabelledRows.{register_shown, registers_shown}
+use Rattle.sap_sim.specs.Labelled.LabelledRows.{register_shown, registers_shown}
 use Rattle.sap_gen.specs.Design.{generated_design}
 use Rattle.sap_gen.specs.Stream.{cycle_count, generated_stream}
 use Rattle.sap_gen.specs.Text.{generated_run, refusal_count, row_of_cycle, row_shown, summary, text_over}

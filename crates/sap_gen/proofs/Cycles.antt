@@ -10,7 +10,7 @@ use Rattle.sap_meaning.specs.State.{InputsFit}
 use Rattle.sap_meaning.specs.Store.{Store, After, Refusal}
 use Rattle.sap_meaning.specs.Cycle.{Tagged, cycle, run_from}
 use Rattle.sap_interface.specs.StandsFor.{Named}
-use Rattle.sap_run.specs.LabelledRows.{labelled_row}
+use Rattle.sap_sim.specs.Labelled.LabelledRows.{labelled_row}
 use Rattle.sap_gen.specs.Running.{last_store}
 use Rattle.sap_gen.specs.Stream.{cycle_count, generated_stream, given}
 use Rattle.sap_gen.specs.Text.{refusal_count, row_shown}

@@ -19,7 +19,7 @@ use Rattle.sap_resolve.proofs.Lookup.{AllMatch, Stands, entities_match, entities
 use Rattle.sap_interface.specs.StandsFor.{Named, world}
 use Rattle.sap_interface.specs.Designs.{named_of}
 use Rattle.sap_stim.specs.Rows.{Shown, all_shown, shown_text}
-use Rattle.sap_run.specs.LabelledRows.{register_shown, registers_shown}
+use Rattle.sap_sim.specs.Labelled.LabelledRows.{register_shown, registers_shown}
 use Rattle.sap_gen.specs.Shown.{entity_shown}
 
 abbrev pub is_register_kind : EntityKind → Bool

@@ -11,7 +11,7 @@ use Rattle.sap_meaning.specs.State.{first}
 use Rattle.sap_meaning.specs.Store.{Store}
 use Rattle.sap_resolve.specs.Fill.{program_of}
 use Rattle.sap_interface.specs.Designs.{named_of}
-use Rattle.sap_run.specs.LabelledRows.{labelled_row}
+use Rattle.sap_sim.specs.Labelled.LabelledRows.{labelled_row}
 use Rattle.sap_gen.specs.Diamond.{diamond, level_names, level_pairs}
 use Rattle.sap_gen.specs.Design.{design_of_counts, generated_design, register_count, state_count}
 use Rattle.sap_gen.specs.Running.{last_store}

@@ -6,7 +6,7 @@ use Rattle.sap_meaning.specs.Program.{is_register}
 use Rattle.sap_meaning.specs.Store.{Store}
 use Rattle.sap_interface.specs.StandsFor.{Named, world}
 use Rattle.sap_stim.specs.Rows.{shown_text}
-use Rattle.sap_run.specs.LabelledRows.{register_shown}
+use Rattle.sap_sim.specs.Labelled.LabelledRows.{register_shown}
 
 -- a blank, and NAME=VALUE@LEVEL
 abbrev pub register_text : (name : List ℕ) → (value : ℕ) → (level : List ℕ) → List ℕ

@@ -7,7 +7,7 @@ use Rattle.sap_meaning.specs.State.{labelled_run}
 use Rattle.sap_resolve.specs.Fill.{program_of}
 use Rattle.sap_interface.specs.StandsFor.{Named}
 use Rattle.sap_interface.specs.Designs.{named_of}
-use Rattle.sap_run.specs.LabelledRows.{labelled_row}
+use Rattle.sap_sim.specs.Labelled.LabelledRows.{labelled_row}
 use Rattle.sap_gen.specs.Diamond.{diamond}
 use Rattle.sap_gen.specs.Design.{register_count, state_count, generated_design}
 use Rattle.sap_gen.specs.Stream.{cycle_count, generated_stream}

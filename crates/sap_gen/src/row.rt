@@ -6,7 +6,7 @@ ghost use Rattle.sap_interface.specs.Designs.{named_of};
 ghost use Rattle.sap_meaning.specs.Program.{is_register};
 ghost use Rattle.sap_names.specs.Entities.{entities_of};
 ghost use Rattle.sap_resolve.specs.Fill as resolve;
-ghost use Rattle.sap_run.specs.LabelledRows.{labelled_row, register_shown, registers_shown};
+ghost use Rattle.sap_sim.specs.Labelled.LabelledRows.{labelled_row, register_shown, registers_shown};
 ghost use Rattle.sap_sem.specs.Machine.{program_of, state_of};
 ghost use Rattle.sap_stim.specs.Rows.{all_shown, shown_text};
 ghost use Rattle.sap_gen.specs.Shown.{entity_shown, register_text};

@@ -6,3 +6,4 @@ pub mod Writes
 pub mod Test
 pub mod Parts
 pub mod Program
+pub mod Plain

@@ -3,4 +3,5 @@
 
 pub mod calc;
 pub mod guarded;
+pub mod plain;
 pub mod program;

@@ -2,3 +2,4 @@ pub mod Fetched
 pub mod Reader
 pub mod Answers
 pub mod Follows
+pub mod Stepping

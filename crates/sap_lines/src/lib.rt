@@ -10,11 +10,13 @@ mod fetch;
 mod held;
 mod lines;
 mod next;
+pub mod stepping;
 mod taken;
 
 pub use lines::Lines;
 pub use next::Next;
 use sap_stim::MOST_LINE_BYTES;
+pub use stepping::{LARGE_BYTES, Steps, Stopped, print};
 
 /// How many bytes are read at a time.
 pub const PIECE_BYTES: usize = 4096;

@@ -1,7 +1,7 @@
 -- The numbers below n that pass a test, in rising order.
 use Rattle.std.proofs.Common.{◌≡◌, ℕ, zero, suc, ◌+◌, ◌<◌, List, [], ◌∷◌, ◌++◌, Bool, true, false, ◌&&◌, ◌||◌, refl, sym, ap, ap₂, ◌∙◌, arith, add-one, if◌then◌else◌, inl, inr, length, Some}
 use Rattle.std.specs.Prelude.{slice_get, option_map}
-use Rattle.sap_kept.specs.Hangs.{row_of}
+use Rattle.sap_resolve.specs.Kept.Hangs.{row_of}
 use Rattle.sap_names.specs.declared.entity.Entity.{Entity}
 use Rattle.std.proofs.lemmas.Bool.Decides.{nat_tests}
 use Rattle.std.proofs.lemmas.Bool.{cases_Bool}

@@ -16,7 +16,7 @@ use Rattle.sap_hang.specs.Points.{Point, points_of}
 use Rattle.sap_resolve.specs.Fill.{table, filled_step, filled, filled_arms, filled_block, filled_state, filled_group, program_of}
 use Rattle.sap_resolve.specs.Resolve.{states_of}
 use Rattle.sap_resolve.specs.Worlds.{world_of}
-use Rattle.sap_kept.specs.Hangs.{step_rows, rows, arms_rows, block_rows, state_rows, group_rows, point_row, rows_of}
+use Rattle.sap_resolve.specs.Kept.Hangs.{step_rows, rows, arms_rows, block_rows, state_rows, group_rows, point_row, rows_of}
 use Rattle.sap_program.specs.Rows.{Rows, rows_in, step_points, command_points, arms_points, block_points, state_points, group_points, step_with, command_with, arms_with, block_with, state_with, group_with}
 use Rattle.sap_program.proofs.Chosen.{named, table_same, table_named}
 

@@ -12,7 +12,7 @@ use Rattle.sap_resolve.specs.Fill.{program_of}
 use Rattle.sap_resolve.specs.Resolve.{states_of}
 use Rattle.sap_shape.specs.Sites.{check_sites}
 use Rattle.sap_resolve.specs.Worlds.{world_of}
-use Rattle.sap_kept.specs.Hangs.{group_rows, row_of, rows_of}
+use Rattle.sap_resolve.specs.Kept.Hangs.{group_rows, row_of, rows_of}
 use Rattle.sap_program.specs.declared.program.Program.{Program}
 use Rattle.sap_program.specs.Design.{IsProgramOf}
 use Rattle.sap_program.specs.Hangs.{flags}

@@ -20,7 +20,7 @@ use crate::seat::Known;
 use crate::states::states;
 use sap_check::Checked;
 use sap_hang::HangTable;
-use sap_kept::hangs_agree;
+use sap_resolve::kept::hangs_agree;
 use sap_tree::design::Design;
 use sap_tree::whole::design_is_whole;
 use std::alloc::{AllocError, Global};

@@ -1,7 +1,7 @@
 //! What hangs on points, as lists of numbers.
 
 ghost use Rattle.std.specs.Prelude.{◌≡◌, IfOk, length};
-ghost use Rattle.sap_kept.specs.Hangs.{row_of};
+ghost use Rattle.sap_resolve.specs.Kept.Hangs.{row_of};
 ghost use Rattle.sap_program.specs.Hangs.{flags};
 ghost use Rattle.sap_program.specs.Rows.{rows_in};
 ghost use Rattle.sap_tree.specs.Designs.{design_of};

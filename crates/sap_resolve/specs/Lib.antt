@@ -4,3 +4,6 @@ pub mod Resolve
 pub mod Fill
 pub mod Examples
 pub mod Named
+pub mod Sized
+pub mod Premises
+pub mod Kept

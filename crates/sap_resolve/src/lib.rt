@@ -3,6 +3,10 @@
 //! The definitions stand in `specs/`.
 #![tactic(auto)]
 
+pub mod kept;
+pub mod premises;
+pub mod sized;
+
 ghost use Rattle.sap_resolve.specs.Examples.{Entities, States, Hangs, Children};
 
 /// The program of a small design, worked out.

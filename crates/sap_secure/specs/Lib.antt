@@ -1,2 +1,5 @@
 pub mod Laws
 pub mod Confinement
+pub mod Designs
+pub mod Once
+pub mod CheckSites

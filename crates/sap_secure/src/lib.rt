@@ -3,6 +3,10 @@
 //! Each law stands on an empty function, whose clause a caller in another crate has by calling it.
 #![tactic(auto)]
 
+pub mod check_sites;
+pub mod designs;
+pub mod once;
+
 ghost use Rattle.sap_secure.specs.Confinement.{Confinement};
 ghost use Rattle.sap_secure.specs.Laws.{OneCycle, LaterRunsAgree, LabelledRunsAgree};
 

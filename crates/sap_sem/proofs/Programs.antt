@@ -9,7 +9,7 @@ use Rattle.sap_meaning.specs.Touches.{among}
 use Rattle.sap_meaning.specs.Fine.{FineStep, FineCommand, FineArms, FineBlock, FineState, FineGroup, FineProgram, inside, FineNode}
 use Rattle.sap_meaning.specs.Sized.{SizedTerm, SizedLevel, SizedStep, Sized, SizedArms, SizedBlock, SizedState, SizedGroup, SizedProgram}
 use Rattle.sap_meaning.proofs.Bools.{same_number, eq_self}
-use Rattle.sap_sized.specs.Ranges.{RangedTerm, RangedLevel, RangedStep, Ranged, RangedArms, RangedBlock, RangedState, RangedGroup, RangedProgram}
+use Rattle.sap_resolve.specs.Sized.Ranges.{RangedTerm, RangedLevel, RangedStep, Ranged, RangedArms, RangedBlock, RangedState, RangedGroup, RangedProgram}
 use Rattle.sap_sem.specs.Able.{AbleTerm, AbleLevel, AbleTarget, AbleStep, AbleCommand, AbleArms, AbleBlock, AbleState, AbleGroup}
 use Rattle.sap_sem.proofs.Worlds.{beyond}
 

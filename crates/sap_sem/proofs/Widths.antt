@@ -11,7 +11,7 @@ use Rattle.sap_maps.proofs.Terms.{term_within}
 use Rattle.sap_meaning.specs.Program.{World, width}
 use Rattle.sap_meaning.specs.Store.{own, start, number}
 use Rattle.sap_meaning.specs.Expressions.{width_of, value}
-use Rattle.sap_sized.specs.Ranges.{IsWidth, RangedTerm}
+use Rattle.sap_resolve.specs.Sized.Ranges.{IsWidth, RangedTerm}
 use Rattle.sap_sem.specs.declared.store.Store as code
 use Rattle.sap_meaning.specs.Sized.{depth}
 use Rattle.sap_sem.specs.Able.{AbleTerm, AbleIndex, AbleValue}

@@ -4,7 +4,7 @@ use Rattle.sap_maps.specs.Term.{Term}
 use Rattle.sap_meaning.specs.Program.{World, root, is_dynamic, width, place, last, LevelTerm, fixed, of, at_place, both, Step, Set, Write, Retag, RetagCell, Goto, Fall, Command, Do, Try, If, TryThen, Case, Arms, Last, Arm, Block, End, Then, State, Node, Group, None, More}
 use Rattle.sap_meaning.specs.Expressions.{width_of}
 use Rattle.sap_meaning.specs.Sized.{SizedTerm, Indexes}
-use Rattle.sap_sized.specs.Ranges.{RangedTerm}
+use Rattle.sap_resolve.specs.Sized.Ranges.{RangedTerm}
 
 -- the widths fit one another, and are from 1 to 64
 pub record AbleTerm (w : World) (e : Term ℕ) : Type 0 where

@@ -8,3 +8,4 @@ pub mod First
 pub mod Sound
 pub mod Machine
 pub mod Props
+pub mod Pair

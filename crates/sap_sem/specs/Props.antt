@@ -9,7 +9,7 @@ use Rattle.sap_meaning.specs.Checks.{Spot}
 use Rattle.sap_lattice.specs.Levels.{Levels}
 use Rattle.sap_meaning.specs.Fine.{FineTerm, FineLevel, FineStep, FineCommand, FineArms, FineBlock, Open, OpenArms, OpenBlock, Closes, Final, ClosingArms, OnceStep, Once, OnceArms, OnceBlock, OnceState, OnceGroup, FineState, FineGroup, ExactStep, Exact, ExactArms, ExactBlock, ExactState, ExactGroup}
 use Rattle.sap_meaning.specs.Sized.{Indexed}
-use Rattle.sap_sized.specs.Ranges.{RangedTerm}
+use Rattle.sap_resolve.specs.Sized.Ranges.{RangedTerm}
 use Rattle.sap_program.specs.declared.program.Program as code
 use Rattle.sap_sem.specs.Able.{AbleTerm, AbleLevel, AbleStep, AbleCommand, AbleArms, AbleBlock, AbleState, AbleGroup}
 use Rattle.sap_sem.specs.Sound.{IsSound}

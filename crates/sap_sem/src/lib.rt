@@ -11,6 +11,7 @@ mod first;
 mod half;
 pub mod machine;
 mod new;
+pub mod pair;
 mod readers;
 mod run;
 mod setting;

@@ -10,7 +10,7 @@ ghost use Rattle.sap_meaning.specs.State.{first};
 ghost use Rattle.sap_meaning.specs.Sites.{program_sites};
 ghost use Rattle.sap_resolve.specs.Fill as resolve;
 ghost use Rattle.sap_shape.specs.Sites.{check_sites};
-ghost use Rattle.sap_sites.specs.Numbering.{numbers_from};
+ghost use Rattle.sap_secure.specs.CheckSites.Numbering.{numbers_from};
 ghost use Rattle.sap_sem.specs.Able.{AbleGroup};
 ghost use Rattle.sap_sem.specs.Machine.{levels_of, program_of, refusals_of, refused_at, sites_of, state_of};
 
@@ -20,10 +20,10 @@ use crate::setting::Setting;
 use sap_check::Checked;
 use sap_hang::HangTable;
 use sap_meaning::states_keep;
-use sap_premises::well_formed_serves;
 use sap_program::resolve::resolve;
-use sap_sites::sites_agree;
-use sap_sized::{sizes_fit, widths_in_range};
+use sap_resolve::premises::well_formed_serves;
+use sap_resolve::sized::{sizes_fit, widths_in_range};
+use sap_secure::check_sites::sites_agree;
 use sap_tree::whole::design_is_whole;
 use std::alloc::{AllocError, Global};
 

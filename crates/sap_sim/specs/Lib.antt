@@ -7,3 +7,4 @@ pub mod Stepping
 pub mod Lookup
 pub mod Layout
 pub mod Examples
+pub mod Labelled

@@ -5,6 +5,7 @@
 #![tactic(auto)]
 
 mod fields;
+pub mod labelled;
 mod lookup;
 mod ports;
 pub mod rows;
@@ -15,6 +16,7 @@ mod steps;
 
 ghost use Rattle.sap_sim.specs.Examples as examples;
 
+pub use labelled::{rows_of_run, run};
 pub use rows::{Rows, simulate};
 pub use simulation::Simulation;
 

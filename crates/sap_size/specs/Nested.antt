@@ -1,6 +1,6 @@
 -- How large programs of nested states are.
 use Rattle.std.specs.Prelude.{ℕ, ◌+◌, length}
-use Rattle.sap_plain.specs.Nested.{Body, stop, act, cases, goto, fall, Forest, none, state, Nested, state_names, children_of}
+use Rattle.sap_ir.specs.Plain.Nested.{Body, stop, act, cases, goto, fall, Forest, none, state, Nested, state_names, children_of}
 use Rattle.sap_size.specs.Terms.{operations}
 use Rattle.sap_size.specs.Flat.{action_weight}
 

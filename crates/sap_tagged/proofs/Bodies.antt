@@ -17,14 +17,14 @@ use Rattle.sap_meaning.specs.Runs.{listed_alone}
 use Rattle.sap_meaning.specs.Sites as sites
 use Rattle.sap_meaning.specs.Fine.{FineStep, FineCommand, FineArms, FineBlock, size}
 use Rattle.sap_meaning.specs.Sized.{SizedStep, AreWithin, Sized, SizedArms, SizedBlock, depth}
-use Rattle.sap_sized.specs.Ranges.{IsWidth, RangedStep, Ranged, RangedArms, RangedBlock}
+use Rattle.sap_resolve.specs.Sized.Ranges.{IsWidth, RangedStep, Ranged, RangedArms, RangedBlock}
 use Rattle.sap_net.specs.Names.{is_among}
 use Rattle.sap_ir.specs.Source.{Source, readable, shapes}
 use Rattle.sap_ir.specs.IsGuarded.{assignable}
-use Rattle.sap_plain.specs.Nested.{Body, stop, act, cases, goto, fall}
-use Rattle.sap_plain.specs.IsPlain.{BodyFine}
-use Rattle.sap_plain.specs.Views.{follow}
-use Rattle.sap_plain.proofs.SeatWidths.{seat_positive, seat_within, seat_holds}
+use Rattle.sap_ir.specs.Plain.Nested.{Body, stop, act, cases, goto, fall}
+use Rattle.sap_ir.specs.Plain.IsPlain.{BodyFine}
+use Rattle.sap_ir.specs.Plain.Views.{follow}
+use Rattle.sap_ir.proofs.plain.SeatWidths.{seat_positive, seat_within, seat_holds}
 use Rattle.sap_tagged.specs.Keys.{Key, Value, Tag, Refused, Level, Wire, First, Inner, sort}
 use Rattle.sap_tagged.specs.Setting.{Setting}
 use Rattle.sap_tagged.specs.Levels.{var, bits, lub, yes, expr, tag_of, guard_of, test_of, written, stays, always, all_dynamic}

@@ -11,7 +11,7 @@ use Rattle.sap_meaning.specs.Checks.{Spot}
 use Rattle.sap_meaning.specs.Does.{effect}
 use Rattle.sap_meaning.specs.Fine.{FineStep}
 use Rattle.sap_ir.specs.Guarded.{Going, value_in, set_cell}
-use Rattle.sap_plain.specs.Does.{body_does}
+use Rattle.sap_ir.specs.Plain.Does.{body_does}
 use Rattle.sap_tagged.specs.Keys.{Key, Value, Tag, Seat, Wire, First, same}
 use Rattle.sap_tagged.specs.Setting.{Setting}
 use Rattle.sap_tagged.specs.Levels.{var, lub, expr}

@@ -9,9 +9,9 @@ use Rattle.sap_meaning.specs.Checks.{Spot}
 use Rattle.sap_meaning.specs.Runs.{listed_alone}
 use Rattle.sap_meaning.specs.Fine as fine
 use Rattle.sap_meaning.specs.Fine.{Open, OpenArms, OpenBlock, Closes, Final, ClosingArms}
-use Rattle.sap_plain.specs.Nested.{Body, stop, act, cases, goto, fall}
-use Rattle.sap_plain.specs.IsPlain.{transfers, ends_in_transfers}
-use Rattle.sap_plain.specs.Views.{follow}
+use Rattle.sap_ir.specs.Plain.Nested.{Body, stop, act, cases, goto, fall}
+use Rattle.sap_ir.specs.Plain.IsPlain.{transfers, ends_in_transfers}
+use Rattle.sap_ir.specs.Plain.Views.{follow}
 use Rattle.sap_tagged.specs.Keys.{Key, Tag, Wire}
 use Rattle.sap_tagged.specs.Setting.{Setting}
 use Rattle.sap_tagged.specs.Levels.{always, expr, var, lub, bits}

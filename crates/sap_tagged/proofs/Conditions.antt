@@ -25,10 +25,10 @@ use Rattle.sap_resolve.specs.Worlds.{states_in}
 use Rattle.sap_shape.specs.Sites.{Home, simple_sites, command_sites, block_sites, state_sites}
 use Rattle.sap_resolve.specs.Resolve.{site_number, step_of, command_of, arms_of, block_of, else_of, list_of, state_of, group_of}
 use Rattle.sap_resolve.specs.Fill.{filled_step, filled, filled_arms, filled_block, filled_state, filled_group}
-use Rattle.sap_sized.proofs.Faultless.{none_two, none_three, none_four}
-use Rattle.sap_sized.proofs.Declared.{Resolved}
-use Rattle.sap_sized.proofs.Operators.{asked_width}
-use Rattle.sap_sized.proofs.Expressions.{expression_fitted}
+use Rattle.sap_resolve.proofs.sized.Faultless.{none_two, none_three, none_four}
+use Rattle.sap_resolve.proofs.sized.Declared.{Resolved}
+use Rattle.sap_resolve.proofs.sized.Operators.{asked_width}
+use Rattle.sap_resolve.proofs.sized.Expressions.{expression_fitted}
 
 -- the condition of each choice has one bit
 

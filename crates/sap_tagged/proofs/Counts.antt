@@ -15,11 +15,11 @@ use Rattle.sap_resolve.specs.Worlds.{states_in, states_below, world_of}
 use Rattle.sap_resolve.specs.Resolve.{state_of, group_of, states_of}
 use Rattle.sap_resolve.specs.Fill.{filled_group, program_of}
 use Rattle.sap_resolve.proofs.Lookup.{entities_match}
-use Rattle.sap_premises.proofs.Places.{Laid, LaidState, laid_first, laid_rest, laid_below}
-use Rattle.sap_premises.proofs.Numbers.{here_last}
-use Rattle.sap_premises.proofs.Filling.{inside_filled}
-use Rattle.sap_premises.proofs.Rises.{count_from, group_counted, group_sites_filled}
-use Rattle.sap_premises.proofs.Worlds.{laid}
+use Rattle.sap_resolve.proofs.premises.Places.{Laid, LaidState, laid_first, laid_rest, laid_below}
+use Rattle.sap_resolve.proofs.premises.Numbers.{here_last}
+use Rattle.sap_resolve.proofs.premises.Filling.{inside_filled}
+use Rattle.sap_resolve.proofs.premises.Rises.{count_from, group_counted, group_sites_filled}
+use Rattle.sap_resolve.proofs.premises.Worlds.{laid}
 use Rattle.sap_tagged.proofs.Bools.{either_first, either_second, both_true}
 use Rattle.sap_tagged.proofs.Groups.{Tidy, TidyState}
 

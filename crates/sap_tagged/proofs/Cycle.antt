@@ -19,10 +19,10 @@ use Rattle.sap_ir.specs.Source.{Source, readable, width_of}
 use Rattle.sap_ir.specs.IsGuarded.{variable_names, memory_names}
 use Rattle.sap_ir.specs.Guarded.{Going, first_number, first_cell, number_at_start, begun}
 use Rattle.sap_ir.proofs.Declared.{distinct_front, distinct_behind, apart_lists, among_front, among_behind, found_first, found_second, not_found, not_readable, readable_width}
-use Rattle.sap_plain.specs.Nested.{Nested, Forest, declarations}
-use Rattle.sap_plain.specs.Nested as nested
-use Rattle.sap_plain.specs.Does.{child_does, enter, falls_of, run_after}
-use Rattle.sap_plain.specs.Does as plain
+use Rattle.sap_ir.specs.Plain.Nested.{Nested, Forest, declarations}
+use Rattle.sap_ir.specs.Plain.Nested as nested
+use Rattle.sap_ir.specs.Plain.Does.{child_does, enter, falls_of, run_after}
+use Rattle.sap_ir.specs.Plain.Does as plain
 use Rattle.sap_interface.specs.PortNames as ports
 use Rattle.sap_interface.specs.StandsFor.{Named, name, world, depth, StandsFor, IsRefusedAt}
 use Rattle.sap_interface.specs.Compiled.{coded, coded_stream, CyclesStand}

@@ -22,13 +22,13 @@ use Rattle.sap_resolve.specs.Worlds.{states_in, states_below, all_declared, no_c
 use Rattle.sap_resolve.specs.Worlds as worlds
 use Rattle.sap_resolve.specs.Resolve.{states_of}
 use Rattle.sap_resolve.proofs.Lookup.{entities_length}
-use Rattle.sap_sized.proofs.Programs.{names_fit_law}
-use Rattle.sap_premises.proofs.Faultless.{nil_left, nil_right}
-use Rattle.sap_premises.proofs.Lookups.{unique}
-use Rattle.sap_premises.proofs.Places.{name_at, group_count, group_kids}
-use Rattle.sap_premises.proofs.Programs.{fine_law}
-use Rattle.sap_premises.proofs.Lists.{exact}
-use Rattle.sap_premises.proofs.Worlds.{root_children}
+use Rattle.sap_resolve.proofs.sized.Programs.{names_fit_law}
+use Rattle.sap_resolve.proofs.premises.Faultless.{nil_left, nil_right}
+use Rattle.sap_resolve.proofs.premises.Lookups.{unique}
+use Rattle.sap_resolve.proofs.premises.Places.{name_at, group_count, group_kids}
+use Rattle.sap_resolve.proofs.premises.Programs.{fine_law}
+use Rattle.sap_resolve.proofs.premises.Lists.{exact}
+use Rattle.sap_resolve.proofs.premises.Worlds.{root_children}
 use Rattle.sap_interface.specs.StandsFor.{Named, name}
 use Rattle.sap_interface.specs.Designs.{named_of, sites_of}
 use Rattle.sap_meaning.specs.Laws.{ListsServe, SitesInOrder}

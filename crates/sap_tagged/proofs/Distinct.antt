@@ -8,7 +8,7 @@ use Rattle.sap_net.specs.Names.{is_among, AreDistinct}
 use Rattle.sap_ir.specs.declared.guarded.Var.{Var}
 use Rattle.sap_ir.specs.declared.guarded.Store.{Store}
 use Rattle.sap_ir.specs.IsGuarded.{declared}
-use Rattle.sap_plain.specs.Nested.{declarations}
+use Rattle.sap_ir.specs.Plain.Nested.{declarations}
 use Rattle.sap_interface.specs.StandsFor.{Named, world, depth}
 use Rattle.sap_tagged.specs.Keys.{Key, Value, Tag, Seat, Refused, Level, Wire, First, Inner, index, same, key_name}
 use Rattle.sap_tagged.specs.Commands.{wires, wires_arms, wires_block}

@@ -12,7 +12,7 @@ use Rattle.sap_meaning.specs.Checks.{Spot, guard, child_level}
 use Rattle.sap_meaning.specs.Does.{effect}
 use Rattle.sap_meaning.specs.Fine.{FineStep}
 use Rattle.sap_ir.specs.Guarded.{Going, value_in}
-use Rattle.sap_plain.specs.Does.{body_does}
+use Rattle.sap_ir.specs.Plain.Does.{body_does}
 use Rattle.sap_tagged.specs.Keys.{Value, Tag, Seat, Refused, Level, Wire, Inner}
 use Rattle.sap_tagged.specs.Setting.{Setting}
 use Rattle.sap_tagged.specs.Levels.{expr}

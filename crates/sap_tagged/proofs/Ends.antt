@@ -3,7 +3,7 @@ use Rattle.std.proofs.Common.{◌≡◌, ℕ, zero, suc, ◌+◌, ◌<◌, ◌�
 use Rattle.std.proofs.lemmas.Bool.{cases_Bool, eqb-true, eq-eqb, ne_eqb}
 use Rattle.sap_meaning.specs.Store.{Refusal}
 use Rattle.sap_meaning.specs.Sites.{refused_sites, RisesFrom, Sublist}
-use Rattle.sap_premises.proofs.Rises.{count_from}
+use Rattle.sap_resolve.proofs.premises.Rises.{count_from}
 use Rattle.sap_interface.specs.StandsFor.{IsRefusedAt, IsRefused}
 use Rattle.sap_tagged.specs.Stands.{refused_after, level_after}
 use Rattle.sap_tagged.proofs.Bools.{apart_tests, second, either_second}

@@ -11,8 +11,8 @@ use Rattle.sap_meaning.specs.Runs.{run_state, run_child}
 use Rattle.sap_meaning.specs.Cycle.{root_fall}
 use Rattle.sap_meaning.specs.Fine.{FineNode, FineGroup, size}
 use Rattle.sap_ir.specs.Guarded.{Going, value_in}
-use Rattle.sap_plain.specs.Nested.{Body, Forest, none, state, seat_name}
-use Rattle.sap_plain.specs.Does.{body_does, child_does, enter}
+use Rattle.sap_ir.specs.Plain.Nested.{Body, Forest, none, state, seat_name}
+use Rattle.sap_ir.specs.Plain.Does.{body_does, child_does, enter}
 use Rattle.sap_tagged.specs.Keys.{Value, Tag, Seat, Refused, Level, Wire, First, Inner}
 use Rattle.sap_tagged.specs.Setting.{Setting}
 use Rattle.sap_tagged.specs.Levels.{var}

@@ -17,11 +17,11 @@ use Rattle.sap_meaning.specs.Expressions.{width_of}
 use Rattle.sap_meaning.specs.Checks.{Spot, entry}
 use Rattle.sap_meaning.specs.Fine.{FineTerm, FineLevel, FineStep, size}
 use Rattle.sap_meaning.specs.Sized.{depth, Indexes, SizedTerm, SizedLevel, SizedStep}
-use Rattle.sap_sized.specs.Ranges.{IsWidth, RangedTerm, RangedLevel, RangedStep}
+use Rattle.sap_resolve.specs.Sized.Ranges.{IsWidth, RangedTerm, RangedLevel, RangedStep}
 use Rattle.sap_ir.specs.Source.{Source, readable, shapes}
 use Rattle.sap_ir.specs.IsGuarded.{TermFine}
-use Rattle.sap_plain.specs.Nested.{seat_width}
-use Rattle.sap_plain.proofs.SeatWidths.{seat_positive, seat_within}
+use Rattle.sap_ir.specs.Plain.Nested.{seat_width}
+use Rattle.sap_ir.proofs.plain.SeatWidths.{seat_positive, seat_within}
 use Rattle.sap_tagged.specs.Keys.{Value, Tag, Seat, First, Inner}
 use Rattle.sap_tagged.specs.Setting.{Setting}
 use Rattle.sap_tagged.specs.Levels.{var, bits, lub, below_or_at, yes, expr, cell_tag, tag_of, place_width, widened, placed, new_tag, told_tag, child_tag, enters, child_enters, seat_bits, seat_of, guard_of, test_of, written, stays}

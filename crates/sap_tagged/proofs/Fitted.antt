@@ -15,11 +15,11 @@ use Rattle.sap_resolve.specs.Worlds.{world_of, states_in}
 use Rattle.sap_shape.specs.Sites.{Home, simple_sites, command_sites, block_sites, state_sites}
 use Rattle.sap_resolve.specs.Resolve.{command_of, arms_of, block_of, else_of, list_of, state_of, group_of, states_of}
 use Rattle.sap_resolve.specs.Fill.{filled, filled_arms, filled_block, filled_state, filled_group}
-use Rattle.sap_sized.specs.Ranges.{IsWidth}
-use Rattle.sap_sized.proofs.Declared.{resolved}
-use Rattle.sap_sized.proofs.Programs.{faultless, sizes_fit_law}
-use Rattle.sap_sized.proofs.RangedPrograms.{widths_in_range_law}
-use Rattle.sap_sized.proofs.Tags.{level_count}
+use Rattle.sap_resolve.specs.Sized.Ranges.{IsWidth}
+use Rattle.sap_resolve.proofs.sized.Declared.{resolved}
+use Rattle.sap_resolve.proofs.sized.Programs.{faultless, sizes_fit_law}
+use Rattle.sap_resolve.proofs.sized.RangedPrograms.{widths_in_range_law}
+use Rattle.sap_resolve.proofs.sized.Tags.{level_count}
 use Rattle.sap_interface.specs.Designs.{named_of, sites_of}
 use Rattle.sap_tagged.specs.Commands.{wires, wires_arms, wires_block}
 use Rattle.sap_tagged.specs.States.{wires_state, wires_group}

@@ -10,14 +10,14 @@ use Rattle.sap_meaning.specs.Touches.{among}
 use Rattle.sap_meaning.specs.Sites as sites
 use Rattle.sap_meaning.specs.Fine.{FineGroup, size, ExactGroup}
 use Rattle.sap_meaning.specs.Sized.{SizedGroup}
-use Rattle.sap_sized.specs.Ranges.{RangedGroup}
+use Rattle.sap_resolve.specs.Sized.Ranges.{RangedGroup}
 use Rattle.sap_net.specs.Names.{is_among}
 use Rattle.sap_ir.specs.declared.guarded.Var.{Var}
 use Rattle.sap_ir.specs.Source.{Source, readable}
 use Rattle.sap_ir.specs.IsGuarded.{assignable}
-use Rattle.sap_plain.specs.Nested.{Body, Forest, none, state, has_states, group_names, seat_name, seat_width}
-use Rattle.sap_plain.specs.Nested as nested
-use Rattle.sap_plain.specs.IsPlain.{BodyFine, ForestFine, SeatFine, IsSeat}
+use Rattle.sap_ir.specs.Plain.Nested.{Body, Forest, none, state, has_states, group_names, seat_name, seat_width}
+use Rattle.sap_ir.specs.Plain.Nested as nested
+use Rattle.sap_ir.specs.Plain.IsPlain.{BodyFine, ForestFine, SeatFine, IsSeat}
 use Rattle.sap_interface.specs.StandsFor.{Named, world}
 use Rattle.sap_tagged.specs.Keys.{Tag, Seat, Wire, First, Inner}
 use Rattle.sap_tagged.specs.Setting.{Setting, setting_of}

@@ -10,8 +10,8 @@ use Rattle.sap_meaning.specs.Checks.{Spot}
 use Rattle.sap_meaning.specs.Touches.{among}
 use Rattle.sap_meaning.specs.Does.{effect}
 use Rattle.sap_ir.specs.Guarded.{Going}
-use Rattle.sap_plain.specs.Nested.{Body, stop, goto}
-use Rattle.sap_plain.specs.Does.{body_does}
+use Rattle.sap_ir.specs.Plain.Nested.{Body, stop, goto}
+use Rattle.sap_ir.specs.Plain.Does.{body_does}
 use Rattle.sap_tagged.specs.Keys.{Value, Tag, Seat, Refused, Level, Wire, First}
 use Rattle.sap_tagged.specs.Setting.{Setting}
 use Rattle.sap_tagged.specs.Levels.{var, bits}

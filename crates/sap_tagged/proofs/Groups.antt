@@ -7,9 +7,9 @@ use Rattle.sap_meaning.specs.Program.{World, root, is_state, is_memory, children
 use Rattle.sap_meaning.specs.Touches.{among}
 use Rattle.sap_meaning.specs.Fine.{FineNode, FineGroup, inside, size}
 use Rattle.sap_ir.specs.Guarded.{Going}
-use Rattle.sap_plain.specs.Nested.{Body, Forest, none, state, seat_name, root_seat}
-use Rattle.sap_plain.specs.Nested as nested
-use Rattle.sap_plain.specs.Does.{put_value, first_child, restart, enter}
+use Rattle.sap_ir.specs.Plain.Nested.{Body, Forest, none, state, seat_name, root_seat}
+use Rattle.sap_ir.specs.Plain.Nested as nested
+use Rattle.sap_ir.specs.Plain.Does.{put_value, first_child, restart, enter}
 use Rattle.sap_tagged.specs.Keys.{Key, Value, Tag, Seat, Refused, Level, Wire, First, same}
 use Rattle.sap_tagged.specs.Setting.{Setting}
 use Rattle.sap_tagged.specs.Stands.{Lawful, at}

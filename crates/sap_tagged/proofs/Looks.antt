@@ -8,8 +8,8 @@ use Rattle.sap_meaning.specs.Store.{Store, raise, Refusal, After, and_then, stay
 use Rattle.sap_meaning.specs.Checks.{Spot, guard, test}
 use Rattle.sap_meaning.specs.Fine.{FineStep}
 use Rattle.sap_ir.specs.Guarded.{Going, value_in}
-use Rattle.sap_plain.specs.Nested.{Body}
-use Rattle.sap_plain.specs.Does.{body_does}
+use Rattle.sap_ir.specs.Plain.Nested.{Body}
+use Rattle.sap_ir.specs.Plain.Does.{body_does}
 use Rattle.sap_tagged.specs.Keys.{Key, Value, Tag, Seat, Refused, Level, Wire, First, Inner}
 use Rattle.sap_tagged.specs.Setting.{Setting}
 use Rattle.sap_tagged.specs.Levels.{var, lub, guard_of, test_of, written, stays}

@@ -10,8 +10,8 @@ use Rattle.sap_meaning.specs.Fine.{FineGroup, inside}
 use Rattle.sap_net.specs.Names.{is_initial, is_inner, is_word, is_name, is_among, AreDistinct}
 use Rattle.sap_ir.specs.IsGuarded.{is_helping}
 use Rattle.sap_ir.proofs.Declared.{among_append}
-use Rattle.sap_plain.specs.Nested.{Forest, none, state, state_names}
-use Rattle.sap_plain.specs.IsPlain.{is_gate}
+use Rattle.sap_ir.specs.Plain.Nested.{Forest, none, state, state_names}
+use Rattle.sap_ir.specs.Plain.IsPlain.{is_gate}
 use Rattle.sap_interface.specs.StandsFor.{Named, name, world}
 use Rattle.sap_tagged.specs.Keys.{Key, Value, Tag, Seat, Refused, Level, Wire, First, Inner, numeral, entity_word, seat_word, key_name}
 use Rattle.sap_tagged.specs.Setting.{Setting}

@@ -13,10 +13,10 @@ use Rattle.sap_net.specs.Names.{is_among, AreDistinct}
 use Rattle.sap_ir.specs.Source.{set, put}
 use Rattle.sap_ir.specs.Source.{width_of}
 use Rattle.sap_ir.specs.Guarded.{Going, value_in, after_action, begun}
-use Rattle.sap_plain.specs.Nested.{Body, stop, act, cases, goto, fall, seat_name, root_seat, declarations}
-use Rattle.sap_plain.specs.Does.{body_does, falls_of, enter}
-use Rattle.sap_plain.specs.Views.{follow}
-use Rattle.sap_plain.specs.Writes.{body_writes, child_writes, PlainWritesOnce}
+use Rattle.sap_ir.specs.Plain.Nested.{Body, stop, act, cases, goto, fall, seat_name, root_seat, declarations}
+use Rattle.sap_ir.specs.Plain.Does.{body_does, falls_of, enter}
+use Rattle.sap_ir.specs.Plain.Views.{follow}
+use Rattle.sap_ir.specs.Plain.Writes.{body_writes, child_writes, PlainWritesOnce}
 use Rattle.sap_tagged.specs.Keys.{Key, Value, Tag, First, Wire, Inner, same}
 use Rattle.sap_interface.specs.StandsFor.{Named}
 use Rattle.sap_tagged.specs.Setting.{Setting, setting_of}

@@ -12,8 +12,8 @@ use Rattle.sap_meaning.specs.Program.{Arms, Last, Arm}
 use Rattle.sap_meaning.specs.Store.{Store}
 use Rattle.sap_meaning.specs.Does.{is_constant}
 use Rattle.sap_ir.specs.Guarded.{Going}
-use Rattle.sap_plain.specs.Nested.{Body, stop}
-use Rattle.sap_plain.specs.Does.{body_does}
+use Rattle.sap_ir.specs.Plain.Nested.{Body, stop}
+use Rattle.sap_ir.specs.Plain.Does.{body_does}
 use Rattle.sap_tagged.specs.Keys.{Wire}
 use Rattle.sap_tagged.specs.Setting.{Setting}
 use Rattle.sap_tagged.specs.Commands.{arm_count, picks_arm, picks, decides}

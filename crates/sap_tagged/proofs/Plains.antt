@@ -15,10 +15,10 @@ use Rattle.sap_ir.specs.declared.guarded.Store.{Store}
 use Rattle.sap_ir.specs.Source.{Source, readable}
 use Rattle.sap_ir.specs.IsGuarded.{assignable, variable_names, memory_names}
 use Rattle.sap_ir.proofs.Declared.{distinct_front, distinct_behind, apart_lists, among_front, found_first, found_second, not_found}
-use Rattle.sap_plain.specs.Nested.{Nested, Forest, declarations, group_names, state_names, seat_name, seats}
-use Rattle.sap_plain.specs.Nested as nested
-use Rattle.sap_plain.specs.IsPlain.{IsPlain, is_gate}
-use Rattle.sap_plain.proofs.SeatWidths.{seat_holds}
+use Rattle.sap_ir.specs.Plain.Nested.{Nested, Forest, declarations, group_names, state_names, seat_name, seats}
+use Rattle.sap_ir.specs.Plain.Nested as nested
+use Rattle.sap_ir.specs.Plain.IsPlain.{IsPlain, is_gate}
+use Rattle.sap_ir.proofs.plain.SeatWidths.{seat_holds}
 use Rattle.sap_interface.specs.StandsFor.{Named, name, world}
 use Rattle.sap_tagged.specs.Keys.{numeral, entity_word, Key, Seat, First, Inner, sort, index, same, key_name}
 use Rattle.sap_tagged.specs.Setting.{Setting, setting_of}

@@ -3,10 +3,10 @@ use Rattle.std.proofs.Common.{◌≡◌, ℕ, ◌+◌, ◌^◌, ◌<◌, ◌≤�
 use Rattle.sap_meaning.specs.Program.{root, children}
 use Rattle.sap_meaning.specs.Fine.{FineProgram, ExactProgram}
 use Rattle.sap_meaning.specs.Sites.{program_sites}
-use Rattle.sap_premises.proofs.Rises.{count_from}
+use Rattle.sap_resolve.proofs.premises.Rises.{count_from}
 use Rattle.sap_net.specs.Names.{AreDistinct}
 use Rattle.sap_ir.specs.IsGuarded.{declared}
-use Rattle.sap_plain.specs.Nested.{declarations}
+use Rattle.sap_ir.specs.Plain.Nested.{declarations}
 use Rattle.sap_interface.specs.StandsFor.{Named, world}
 use Rattle.sap_tagged.specs.Few.{FewGroup}
 use Rattle.sap_tagged.specs.Plain.{plain_of}

@@ -7,9 +7,9 @@ use Rattle.sap_maps.specs.Term.{Term}
 use Rattle.sap_meaning.specs.Program.{is_memory, children}
 use Rattle.sap_meaning.specs.Store.{own, start, next, start_whole, next_whole, Store, number, child, same_slot, put_number, put_level, raised, raise}
 use Rattle.sap_ir.specs.Guarded.{Going, value_in}
-use Rattle.sap_plain.specs.Nested.{Body, stop, act, cases, goto, fall}
-use Rattle.sap_plain.specs.Does.{body_does}
-use Rattle.sap_plain.specs.Views.{follow}
+use Rattle.sap_ir.specs.Plain.Nested.{Body, stop, act, cases, goto, fall}
+use Rattle.sap_ir.specs.Plain.Does.{body_does}
+use Rattle.sap_ir.specs.Plain.Views.{follow}
 use Rattle.sap_tagged.specs.Keys.{Key, Value, Tag, Seat, First, same}
 use Rattle.sap_tagged.specs.Setting.{Setting}
 use Rattle.sap_tagged.specs.Commands.{gives, sweep}

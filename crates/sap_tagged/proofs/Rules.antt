@@ -7,14 +7,14 @@ use Rattle.sap_maps.specs.Scope.{find}
 use Rattle.sap_meaning.specs.Program as program
 use Rattle.sap_meaning.specs.Program.{World, Kind, entity, root, children, width, is_input, is_register, is_memory, is_dynamic, State, Node, Group, More, Command, Do, Try, If, TryThen, Case, Arms, Last, Arm, Block, End, Then, kind_is_input, kind_is_register, kind_is_memory, kind_is_state}
 use Rattle.sap_meaning.specs.Sized.{SizedProgram}
-use Rattle.sap_sized.specs.Ranges.{IsWidth, Ranged, RangedArms, RangedBlock, RangedState, RangedGroup, RangedProgram}
+use Rattle.sap_resolve.specs.Sized.Ranges.{IsWidth, Ranged, RangedArms, RangedBlock, RangedState, RangedGroup, RangedProgram}
 use Rattle.sap_net.specs.Names.{is_name, is_among, AreDistinct}
 use Rattle.sap_ir.specs.declared.guarded.Var.{Var}
 use Rattle.sap_ir.specs.Source.{Source}
 use Rattle.sap_ir.specs.IsGuarded.{IsGuarded, IsPlainVar, IsRegisterVar, IsStore, declared, is_helping, variable_names}
 use Rattle.sap_ir.proofs.Declared.{among_front, among_behind}
-use Rattle.sap_plain.specs.Nested.{Nested, declarations, seat_width}
-use Rattle.sap_plain.proofs.SeatWidths.{seat_positive, seat_within}
+use Rattle.sap_ir.specs.Plain.Nested.{Nested, declarations, seat_width}
+use Rattle.sap_ir.proofs.plain.SeatWidths.{seat_positive, seat_within}
 use Rattle.sap_interface.specs.StandsFor.{Named, world, depth}
 use Rattle.sap_tagged.specs.Keys.{Key, Value, Tag, First, Inner, key_name}
 use Rattle.sap_tagged.specs.Setting.{Setting, setting_of}

@@ -12,10 +12,10 @@ use Rattle.sap_meaning.specs.Does.{effect, attempt, attempt_then, select, branch
 use Rattle.sap_meaning.specs.Runs.{run, run_arms, run_block}
 use Rattle.sap_meaning.specs.Fine.{FineTerm, FineStep, FineCommand, FineArms, FineBlock}
 use Rattle.sap_ir.specs.Guarded.{Going, value_in}
-use Rattle.sap_plain.specs.Nested.{Body, stop, cases}
-use Rattle.sap_plain.specs.Does.{body_does}
-use Rattle.sap_plain.specs.Views.{follow}
-use Rattle.sap_plain.proofs.SeatWidths.{seat_holds}
+use Rattle.sap_ir.specs.Plain.Nested.{Body, stop, cases}
+use Rattle.sap_ir.specs.Plain.Does.{body_does}
+use Rattle.sap_ir.specs.Plain.Views.{follow}
+use Rattle.sap_ir.proofs.plain.SeatWidths.{seat_holds}
 use Rattle.sap_tagged.specs.Keys.{Value, Tag, Seat, Refused, Level, Wire}
 use Rattle.sap_tagged.specs.Setting.{Setting}
 use Rattle.sap_tagged.specs.Levels.{var, lub, expr, tag_of, always}

@@ -9,8 +9,8 @@ use Rattle.sap_net.specs.declared.parts.PortKind.TheVariants as kind
 use Rattle.sap_ir.specs.declared.guarded.Var.{Var}
 use Rattle.sap_ir.specs.declared.guarded.Store.{Store}
 use Rattle.sap_ir.proofs.Declared.{apart_lists, among_front}
-use Rattle.sap_plain.specs.Nested.{Nested, seat_width}
-use Rattle.sap_plain.proofs.SeatWidths.{seat_positive, seat_holds, seat_least}
+use Rattle.sap_ir.specs.Plain.Nested.{Nested, seat_width}
+use Rattle.sap_ir.proofs.plain.SeatWidths.{seat_positive, seat_holds, seat_least}
 use Rattle.sap_interface.specs.PortNames.{value_name, tag_name, seat_name, root_seat, refused_name, level_name}
 use Rattle.sap_interface.specs.StandsFor.{Named, name, world, depth}
 use Rattle.sap_interface.specs.Interface.{Shown, pairs_of, site_ports, ports_of}

@@ -8,8 +8,8 @@ use Rattle.sap_meaning.specs.Expressions.{width_of}
 use Rattle.sap_meaning.specs.Checks.{Spot, site_of}
 use Rattle.sap_meaning.specs.Runs.{listed_alone}
 use Rattle.sap_ir.specs.Source.{set, put}
-use Rattle.sap_plain.specs.Nested.{Body, stop, act, cases, goto, fall, seat_width}
-use Rattle.sap_plain.specs.Views.{follow}
+use Rattle.sap_ir.specs.Plain.Nested.{Body, stop, act, cases, goto, fall, seat_width}
+use Rattle.sap_ir.specs.Plain.Views.{follow}
 use Rattle.sap_tagged.specs.Keys.{Key, Value, Tag, Refused, Level, Wire, Inner}
 use Rattle.sap_tagged.specs.Setting.{Setting}
 use Rattle.sap_tagged.specs.Levels.{var, bits, lub, yes, expr, tag_of, guard_of, test_of, written, stays, always}

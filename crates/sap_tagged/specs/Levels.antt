@@ -6,7 +6,7 @@ use Rattle.sap_maps.specs.Term.{Term, constant, read, cell, one, two, choose, jo
 use Rattle.sap_meaning.specs.Program.{World, is_dynamic, authority, children, LevelTerm, fixed, of, at_place, both, Step, Set, Write, Retag, RetagCell, Goto, Fall, Node, Group, None, More}
 use Rattle.sap_meaning.specs.Expressions.{width_of}
 use Rattle.sap_meaning.specs.Checks.{Spot, entry}
-use Rattle.sap_plain.specs.Nested.{seat_width}
+use Rattle.sap_ir.specs.Plain.Nested.{seat_width}
 use Rattle.sap_tagged.specs.Keys.{Key, Value, Tag, Seat, First}
 use Rattle.sap_tagged.specs.Setting.{Setting}
 

@@ -7,3 +7,4 @@ pub mod States
 pub mod Stands
 pub mod Plain
 pub mod Law
+pub mod Small

@@ -8,7 +8,7 @@ use Rattle.sap_meaning.specs.Store.{own}
 use Rattle.sap_meaning.specs.State.{first_level}
 use Rattle.sap_ir.specs.declared.guarded.Var.{Var}
 use Rattle.sap_ir.specs.declared.guarded.Store.{Store}
-use Rattle.sap_plain.specs.Nested.{Nested, seat_width}
+use Rattle.sap_ir.specs.Plain.Nested.{Nested, seat_width}
 use Rattle.sap_interface.specs.StandsFor.{Named, world, depth}
 use Rattle.sap_tagged.specs.Keys.{Value, Tag, Seat, Refused, Level, Wire, First, Inner, key_name}
 use Rattle.sap_tagged.specs.Setting.{setting_of}

@@ -1,7 +1,7 @@
 -- The states of a plain program.
 use Rattle.std.specs.Prelude.{ℕ, ◌+◌, ◌&&◌, Bool}
 use Rattle.sap_meaning.specs.Program.{World, root, is_dynamic, is_memory, State, Node, Group, None, More}
-use Rattle.sap_plain.specs.Nested.{Body, Forest, none, state}
+use Rattle.sap_ir.specs.Plain.Nested.{Body, Forest, none, state}
 use Rattle.sap_tagged.specs.Keys.{Tag, Wire, First, Inner}
 use Rattle.sap_tagged.specs.Setting.{Setting}
 use Rattle.sap_tagged.specs.Levels.{var}

@@ -4,6 +4,8 @@
 //! The laws stand on an empty function, whose clauses a caller in another crate has by calling it.
 #![tactic(auto)]
 
+pub mod small;
+
 ghost use Rattle.sap_tagged.specs.Law.{PlainStands, PlainsKeepRules, PlainsWriteOnce};
 
 /// The plain program of a whole and well-formed design over a lattice has the design's interface, and in every cycle of every

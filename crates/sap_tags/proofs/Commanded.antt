@@ -9,10 +9,10 @@ use Rattle.sap_meaning.specs.Program as program
 use Rattle.sap_meaning.specs.Runs.{listed_alone}
 use Rattle.sap_maps.specs.Maps.{Name}
 use Rattle.sap_maps.specs.Term.{Term}
-use Rattle.sap_plain.specs.Nested.{Body, stop, cases, seat_width}
-use Rattle.sap_plain.specs.declared.nested.PlainCmd.{PlainCmd}
-use Rattle.sap_plain.specs.Views.{body_of, follow}
-use Rattle.sap_plain.proofs.Views.{body_of-none, follow-end, follow-more}
+use Rattle.sap_ir.specs.Plain.Nested.{Body, stop, cases, seat_width}
+use Rattle.sap_ir.specs.declared.plain.nested.PlainCmd.{PlainCmd}
+use Rattle.sap_ir.specs.Plain.Views.{body_of, follow}
+use Rattle.sap_ir.proofs.plain.Views.{body_of-none, follow-end, follow-more}
 use Rattle.sap_program.specs.Hangs.{flags}
 use Rattle.sap_program.specs.declared.program.Number.{Number}
 use Rattle.sap_program.specs.declared.program.Step.{Step}
@@ -21,7 +21,7 @@ use Rattle.sap_program.specs.declared.program.Command.{Command}
 use Rattle.sap_program.specs.declared.program.Command.TheVariants as command
 use Rattle.sap_program.specs.declared.program.Command.TheViews as shown
 use Rattle.sap_program.specs.Views.{term_of, step_of, constants_of, commands_in, arm_block, arms_before, command_of, block_of}
-use Rattle.sap_sized.specs.Ranges.{Ranged, RangedArms, RangedBlock, RangedStep, RangedTerm}
+use Rattle.sap_resolve.specs.Sized.Ranges.{Ranged, RangedArms, RangedBlock, RangedStep, RangedTerm}
 use Rattle.sap_tags.specs.Built.{ArmsFew, ArmsRanged, CommandFew, CommandRanged, CommandsFew, CommandsRanged, arm_bodies, arm_wires, command_body, command_wires, commands_body, commands_wires, decided}
 use Rattle.sap_terms.specs.Code.{entities_in, setting_in, spot_in, world_in}
 use Rattle.sap_tagged.specs.Commands.{gives, looks, raises, effect_of, refusal, attempt_of, attempt_then_of, arm_count, pick_width, picks_arm, picks, decides, pick_of, select_of, wires_arms, wires_block, command_plain, arms_plain, block_plain}

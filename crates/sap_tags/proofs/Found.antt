@@ -19,8 +19,8 @@ use Rattle.sap_resolve.proofs.Lookup.{Stands, AllMatch, entities_match}
 use Rattle.sap_program.specs.declared.program.Program.{Program}
 use Rattle.sap_program.specs.Design.{IsProgramOf}
 use Rattle.sap_program.specs.Views.{count, group_of, program_in}
-use Rattle.sap_sized.specs.Ranges.{IsWidth, RangedProgram}
-use Rattle.sap_sized.specs.Sound.{WidthsInRange}
+use Rattle.sap_resolve.specs.Sized.Ranges.{IsWidth, RangedProgram}
+use Rattle.sap_resolve.specs.Sized.Sound.{WidthsInRange}
 use Rattle.sap_shape.specs.WellFormed.{WellFormed}
 use Rattle.sap_interface.specs.StandsFor.{Named}
 use Rattle.sap_interface.specs.Designs.{named_of}

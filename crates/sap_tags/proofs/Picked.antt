@@ -9,13 +9,13 @@ use Rattle.sap_maps.specs.Maps.{Name}
 use Rattle.sap_maps.specs.Term.{Term, constant, two, choose, part}
 use Rattle.sap_meaning.specs.Program.{Arms, Last, Block, End}
 use Rattle.sap_meaning.specs.Program as program
-use Rattle.sap_plain.specs.Nested.{Body, stop, cases, seat_width}
+use Rattle.sap_ir.specs.Plain.Nested.{Body, stop, cases, seat_width}
 use Rattle.sap_ir.specs.Calcs.{term_of}
 use Rattle.sap_ir.specs.declared.guarded.Calc.{Calc}
-use Rattle.sap_plain.specs.declared.nested.PlainCmd.{PlainCmd}
-use Rattle.sap_plain.specs.declared.nested.PlainCmd.TheViews as shown
-use Rattle.sap_plain.specs.Views.{body_of, follow}
-use Rattle.sap_plain.proofs.Views.{body_of-push, before-if, follow-end, follow-more}
+use Rattle.sap_ir.specs.declared.plain.nested.PlainCmd.{PlainCmd}
+use Rattle.sap_ir.specs.declared.plain.nested.PlainCmd.TheViews as shown
+use Rattle.sap_ir.specs.Plain.Views.{body_of, follow}
+use Rattle.sap_ir.proofs.plain.Views.{body_of-push, before-if, follow-end, follow-more}
 use Rattle.sap_program.specs.declared.program.Arm.{Arm}
 use Rattle.sap_program.specs.Views.{constants_of, arm_block, arms_before}
 use Rattle.sap_tagged.specs.Keys.{Wire}

@@ -3,15 +3,15 @@ use Rattle.std.proofs.Common.{◌≡◌, ℕ, Bool, zero, suc, ◌+◌, ◌<◌,
 use Rattle.sap_maps.specs.Maps.{Name}
 use Rattle.sap_meaning.specs.Program.{root, listed, Block, State, Node, Group, None, More}
 use Rattle.sap_meaning.specs.Checks as checks
-use Rattle.sap_plain.specs.Nested.{Body, stop, Forest, none, state}
-use Rattle.sap_plain.specs.declared.nested.PlainState.{PlainState, PlainState-F, roll-PlainState}
-use Rattle.sap_plain.specs.Views.{body_of, follow, forest_of, state_before, planted}
-use Rattle.sap_plain.proofs.Views.{follow-more, forest_of-none, forest_of-push, state_before-roll}
+use Rattle.sap_ir.specs.Plain.Nested.{Body, stop, Forest, none, state}
+use Rattle.sap_ir.specs.declared.plain.nested.PlainState.{PlainState, PlainState-F, roll-PlainState}
+use Rattle.sap_ir.specs.Plain.Views.{body_of, follow, forest_of, state_before, planted}
+use Rattle.sap_ir.proofs.plain.Views.{follow-more, forest_of-none, forest_of-push, state_before-roll}
 use Rattle.sap_program.specs.Hangs.{flags}
 use Rattle.sap_program.specs.declared.program.State.{State as StateCode, out-State}
 use Rattle.sap_program.specs.declared.program.Command.{Command}
 use Rattle.sap_program.specs.Views.{block_of, state_of, group_of}
-use Rattle.sap_sized.specs.Ranges.{RangedBlock, RangedState, RangedGroup}
+use Rattle.sap_resolve.specs.Sized.Ranges.{RangedBlock, RangedState, RangedGroup}
 use Rattle.sap_tags.specs.Built.{CommandsFew, CommandsRanged, StateFew, StateRanged, StatesFew, StatesRanged, commands_body, commands_wires, state_forest, state_wires, states_forest, states_wires, top_forest, tops_forest}
 use Rattle.sap_terms.specs.Code.{named_in, entities_in, setting_in, spot_in, world_in}
 use Rattle.sap_tagged.specs.Keys.{First, Tag, Wire, Inner, entity_word}

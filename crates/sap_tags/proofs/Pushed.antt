@@ -1,9 +1,9 @@
 -- What stands behind a body, after each part of a step.
 use Rattle.std.proofs.Common.{◌≡◌, ℕ, ◌+◌, ◌++◌, List, [], ◌∷◌, Bool, true, false, refl, sym, ap, ◌∙◌, if◌then◌else◌}
-use Rattle.sap_plain.specs.Nested.{Body, stop, goto}
-use Rattle.sap_plain.specs.declared.nested.PlainCmd.{PlainCmd}
-use Rattle.sap_plain.specs.Views.{body_of, command_before, follow}
-use Rattle.sap_plain.proofs.Views.{body_of-none, body_of-more, follow-before, follow-end, follow-more}
+use Rattle.sap_ir.specs.Plain.Nested.{Body, stop, goto}
+use Rattle.sap_ir.specs.declared.plain.nested.PlainCmd.{PlainCmd}
+use Rattle.sap_ir.specs.Plain.Views.{body_of, command_before, follow}
+use Rattle.sap_ir.proofs.plain.Views.{body_of-none, body_of-more, follow-before, follow-end, follow-more}
 use Rattle.sap_maps.specs.Maps.{Name}
 use Rattle.sap_maps.specs.Term.{Term}
 use Rattle.sap_tagged.specs.Keys.{Key, Tag, Wire}

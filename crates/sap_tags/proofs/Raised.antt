@@ -9,9 +9,9 @@ use Rattle.sap_meaning.specs.Program.{root, is_dynamic, listed, Goto}
 use Rattle.sap_meaning.specs.Checks.{Spot}
 use Rattle.sap_meaning.specs.Runs.{listed_alone}
 use Rattle.sap_resolve.specs.Fill.{table}
-use Rattle.sap_plain.specs.Nested.{Body, stop}
-use Rattle.sap_plain.specs.Views.{follow}
-use Rattle.sap_plain.proofs.Views.{follow-end, follow-more}
+use Rattle.sap_ir.specs.Plain.Nested.{Body, stop}
+use Rattle.sap_ir.specs.Plain.Views.{follow}
+use Rattle.sap_ir.proofs.plain.Views.{follow-end, follow-more}
 use Rattle.sap_program.specs.Hangs.{rises_from, rises, hangs, flags}
 use Rattle.sap_program.specs.declared.program.Step.{Step}
 use Rattle.sap_program.specs.declared.program.Step.TheVariants as step

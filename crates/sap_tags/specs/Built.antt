@@ -2,9 +2,9 @@
 use Rattle.std.specs.Prelude.{ℕ, ◌+◌, List, [], ◌∷◌, if◌then◌else◌}
 use Rattle.sap_meaning.specs.Program.{Step, Last, End, None, More}
 use Rattle.sap_meaning.specs.Checks as checks
-use Rattle.sap_sized.specs.Ranges.{Ranged, RangedArms, RangedBlock, RangedState, RangedGroup}
-use Rattle.sap_plain.specs.Nested.{Body, stop, cases, Forest}
-use Rattle.sap_plain.specs.Views.{follow}
+use Rattle.sap_resolve.specs.Sized.Ranges.{Ranged, RangedArms, RangedBlock, RangedState, RangedGroup}
+use Rattle.sap_ir.specs.Plain.Nested.{Body, stop, cases, Forest}
+use Rattle.sap_ir.specs.Plain.Views.{follow}
 use Rattle.sap_program.specs.declared.program.Arm.{Arm}
 use Rattle.sap_program.specs.declared.program.Command.{Command}
 use Rattle.sap_program.specs.declared.program.State.{State}

@@ -2,15 +2,15 @@
 
 ghost use Rattle.std.specs.Prelude.{◌≡◌, ◌+◌, ◌<◌, ◌≤◌, ◌^◌, OnOk, length, map};
 ghost use Rattle.sap_meaning.specs.Program as program;
-ghost use Rattle.sap_plain.specs.Nested.{stop};
-ghost use Rattle.sap_plain.specs.Views.{body_of, follow};
+ghost use Rattle.sap_ir.specs.Plain.Nested.{stop};
+ghost use Rattle.sap_ir.specs.Plain.Views.{body_of, follow};
 ghost use Rattle.sap_program.specs.Views as views;
 ghost use Rattle.sap_tagged.specs.Commands as spec;
 ghost use Rattle.sap_terms.specs.Code.{entities_in, setting_in};
 
 use crate::pushes::{set_wire, wire_variable};
 use sap_ir::guarded::Calc;
-use sap_plain::nested::PlainCmd;
+use sap_ir::plain::nested::PlainCmd;
 use sap_program::program::Arm;
 use sap_terms::calcs::is_number;
 use sap_terms::setting::Setting;
@@ -74,7 +74,7 @@ pub(crate) fn pick(
 }
 
 /// The block whose number is in a wire, told by the lowest bits of that number, so many of them.
-#[tactic(auto, using(crate::proofs::Pushed::behind, sap_plain::proofs::Views::commands))]
+#[tactic(auto, using(crate::proofs::Pushed::behind, sap_ir::proofs::plain::Views::commands))]
 pub(crate) fn decide_block(
     alloc: Global,
     setting: &Setting<'_>,

@@ -5,10 +5,10 @@ ghost use Rattle.sap_ir.specs.Calcs.{term_of};
 ghost use Rattle.sap_meaning.specs.Checks.{site_of};
 ghost use Rattle.sap_meaning.specs.Expressions.{width_of as term_width};
 ghost use Rattle.sap_meaning.specs.Program as program;
-ghost use Rattle.sap_plain.specs.Nested.{cases, stop};
-ghost use Rattle.sap_plain.specs.Views.{body_of, follow};
+ghost use Rattle.sap_ir.specs.Plain.Nested.{cases, stop};
+ghost use Rattle.sap_ir.specs.Plain.Views.{body_of, follow};
 ghost use Rattle.sap_program.specs.Views as views;
-ghost use Rattle.sap_sized.specs.Ranges.{RangedStep, RangedTerm};
+ghost use Rattle.sap_resolve.specs.Sized.Ranges.{RangedStep, RangedTerm};
 ghost use Rattle.sap_tagged.specs.Commands as spec;
 ghost use Rattle.sap_tagged.specs.Keys.{Wire};
 ghost use Rattle.sap_tagged.specs.Levels as levels;
@@ -21,8 +21,8 @@ use crate::outcomes::effect;
 use crate::pushes::{push, set_wire, wire_variable};
 use crate::raises::{raise_all, raise_alone};
 use sap_ir::guarded::{Act, Calc};
-use sap_plain::nested::PlainCmd;
-use sap_plain::seats;
+use sap_ir::plain::nested::PlainCmd;
+use sap_ir::plain::seats;
 use sap_program::program::{Arm, Command, Number, Step};
 use sap_terms::calcs::{expr, lub, tag_of, width_of, yes};
 use sap_terms::names::{level_name, refused_name};
@@ -103,7 +103,7 @@ fn refuse(
 }
 
 /// What comes behind the raises of a step; `accepted` comes behind its effect, and `refused` is what a refusal does.
-#[tactic(auto, using(sap_plain::proofs::Views::commands, crate::proofs::Pushed::accepted), unfolding(crate::specs::Built::decided))]
+#[tactic(auto, using(sap_ir::proofs::plain::Views::commands, crate::proofs::Pushed::accepted), unfolding(crate::specs::Built::decided))]
 fn decide(
     alloc: Global,
     setting: &Setting<'_>,
@@ -157,7 +157,7 @@ fn choose(
 }
 
 /// Where the condition isn't 0 `yes`, else `no`.
-#[tactic(auto, using(sap_plain::proofs::Views::commands))]
+#[tactic(auto, using(sap_ir::proofs::plain::Views::commands))]
 fn select(
     alloc: Global,
     setting: &Setting<'_>,

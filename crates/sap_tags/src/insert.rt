@@ -2,14 +2,14 @@
 
 ghost use Rattle.std.specs.Prelude.{◌≡◌, ◌<◌, ◌≤◌, ◌^◌, ◌++◌, IfOk, OnOk};
 ghost use Rattle.sap_check.specs.Checked.{levels_in, tree_in};
-ghost use Rattle.sap_plain.specs.Parts.{parts_nested};
-ghost use Rattle.sap_plain.specs.Program.{nested_of};
-ghost use Rattle.sap_plain.specs.Writes.{PlainWritesOnce};
+ghost use Rattle.sap_ir.specs.Plain.Parts.{parts_nested};
+ghost use Rattle.sap_ir.specs.Plain.Program.{nested_of};
+ghost use Rattle.sap_ir.specs.Plain.Writes.{PlainWritesOnce};
 ghost use Rattle.sap_program.specs.Design.{IsProgramOf};
 ghost use Rattle.sap_program.specs.Views.{group_of};
 ghost use Rattle.sap_size.specs.Items.{most_items};
 ghost use Rattle.sap_size.specs.Nested.{nested_weight};
-ghost use Rattle.sap_sized.specs.Ranges.{RangedProgram};
+ghost use Rattle.sap_resolve.specs.Sized.Ranges.{RangedProgram};
 ghost use Rattle.sap_tagged.specs.Law.{IsSound, PlainStandsForDesign};
 ghost use Rattle.sap_tagged.specs.Plain.{names_of, plain_of};
 ghost use Rattle.sap_tagged.specs.States.{wires_group};
@@ -22,13 +22,13 @@ use crate::variables::{add_inputs, add_seat_registers, add_shown_registers, add_
 use crate::wires::{add_first_wires, add_inner_wires, add_site_wires, add_state_wires};
 use sap_check::Checked;
 use sap_ir::guarded::Var;
+use sap_ir::plain::nested::PlainParts;
+use sap_ir::plain::program::Plain;
 use sap_net::parts::Name;
-use sap_plain::nested::PlainParts;
-use sap_plain::program::Plain;
 use sap_program::program::Program;
-use sap_sized::widths_in_range;
-use sap_small::plain_small;
+use sap_resolve::sized::widths_in_range;
 use sap_tagged::plain_stands;
+use sap_tagged::small::plain_small;
 use sap_terms::setting::Setting;
 use sap_tree::whole::design_is_whole;
 use std::alloc::{AllocError, Global};

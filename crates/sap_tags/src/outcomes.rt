@@ -4,10 +4,10 @@ ghost use Rattle.std.specs.Prelude.{◌≡◌, ◌+◌, ◌<◌, ◌^◌, IfOk, 
 ghost use Rattle.sap_ir.specs.Calcs.{term_of};
 ghost use Rattle.sap_maps.specs.Term as term;
 ghost use Rattle.sap_meaning.specs.Program as program;
-ghost use Rattle.sap_plain.specs.Nested.{goto, stop};
-ghost use Rattle.sap_plain.specs.Views.{body_of, follow};
+ghost use Rattle.sap_ir.specs.Plain.Nested.{goto, stop};
+ghost use Rattle.sap_ir.specs.Plain.Views.{body_of, follow};
 ghost use Rattle.sap_program.specs.Views as views;
-ghost use Rattle.sap_sized.specs.Ranges.{RangedStep, RangedTerm};
+ghost use Rattle.sap_resolve.specs.Sized.Ranges.{RangedStep, RangedTerm};
 ghost use Rattle.sap_tagged.specs.Commands as spec;
 ghost use Rattle.sap_tagged.specs.Keys.{Tag, Value, Wire};
 ghost use Rattle.sap_tagged.specs.Levels as levels;
@@ -18,7 +18,7 @@ use crate::pushes::{
 };
 use crate::raises::reset_below;
 use sap_ir::guarded::Calc;
-use sap_plain::nested::PlainCmd;
+use sap_ir::plain::nested::PlainCmd;
 use sap_program::program::{Number, Step};
 use sap_terms::calcs::{entity_width, expr, is_dynamic, is_register, lub, tag_variable};
 use sap_terms::names::{state_name, value_name};
@@ -148,7 +148,7 @@ fn keep_cell(
 }
 
 /// Goes to a state.
-#[tactic(auto, using(sap_plain::proofs::Views::commands))]
+#[tactic(auto, using(sap_ir::proofs::plain::Views::commands))]
 fn go(
     alloc: Global,
     setting: &Setting<'_>,
@@ -164,7 +164,7 @@ fn go(
 }
 
 /// The effect of a step, which finds what it looked at in the wires from `k` on.
-#[tactic(auto, using(sap_plain::proofs::Views::commands, crate::proofs::Pushed::effects))]
+#[tactic(auto, using(sap_ir::proofs::plain::Views::commands, crate::proofs::Pushed::effects))]
 pub(crate) fn effect(
     alloc: Global,
     setting: &Setting<'_>,

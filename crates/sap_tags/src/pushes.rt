@@ -2,21 +2,21 @@
 
 ghost use Rattle.std.specs.Prelude.{◌≡◌, IfOk, OnOk};
 ghost use Rattle.sap_ir.specs.Calcs.{action_of, term_of};
-ghost use Rattle.sap_plain.specs.Nested.{act, stop};
-ghost use Rattle.sap_plain.specs.Views.{body_of, follow};
+ghost use Rattle.sap_ir.specs.Plain.Nested.{act, stop};
+ghost use Rattle.sap_ir.specs.Plain.Views.{body_of, follow};
 ghost use Rattle.sap_tagged.specs.Commands.{gives, stores};
 ghost use Rattle.sap_tagged.specs.Keys.{Inner, Tag, Value, Wire};
 ghost use Rattle.sap_tagged.specs.Levels.{var};
 ghost use Rattle.sap_terms.specs.Code.{setting_in};
 
 use sap_ir::guarded::{Act, Calc};
-use sap_plain::nested::PlainCmd;
+use sap_ir::plain::nested::PlainCmd;
 use sap_terms::names::{inner_name, tag_name, value_name, wire_name};
 use sap_terms::setting::Setting;
 use std::alloc::{AllocError, Global};
 
 /// One assignment or write more.
-#[tactic(auto, using(sap_plain::proofs::Views::commands))]
+#[tactic(auto, using(sap_ir::proofs::plain::Views::commands))]
 pub(crate) fn push(out: &mut Vec<PlainCmd>, action: Act) -> Result<(), AllocError>
     ensures { OnOk result (body_of out.new.items ≡ follow (body_of out.old.items) (act (action_of action) stop)) }
 {

@@ -3,8 +3,8 @@
 ghost use Rattle.std.specs.Prelude.{◌≡◌, IsTrue, OnOk, if◌then◌else◌, nat_lt};
 ghost use Rattle.sap_meaning.specs.Program as program;
 ghost use Rattle.sap_meaning.specs.Runs.{listed_alone};
-ghost use Rattle.sap_plain.specs.Nested.{stop};
-ghost use Rattle.sap_plain.specs.Views.{body_of, follow};
+ghost use Rattle.sap_ir.specs.Plain.Nested.{stop};
+ghost use Rattle.sap_ir.specs.Plain.Views.{body_of, follow};
 ghost use Rattle.sap_program.specs.Hangs.{flags, rises};
 ghost use Rattle.sap_program.specs.Views as views;
 ghost use Rattle.sap_tagged.specs.Commands as spec;
@@ -15,7 +15,7 @@ ghost use Rattle.sap_terms.specs.Code.{entities_in, setting_in, spot_in, world_i
 
 use crate::pushes::{push, set_tag, wire_variable};
 use sap_ir::guarded::Act;
-use sap_plain::nested::PlainCmd;
+use sap_ir::plain::nested::PlainCmd;
 use sap_program::program::{Sort, Step};
 use sap_terms::calcs::{bits, is_dynamic, is_memory, is_state, lub, tag_variable};
 use sap_terms::names::first_name;

@@ -2,11 +2,11 @@
 
 ghost use Rattle.std.specs.Prelude.{◌≡◌, ◌+◌, ◌<◌, ◌^◌, IfOk, OnOk};
 ghost use Rattle.sap_meaning.specs.Program.{listed};
-ghost use Rattle.sap_plain.specs.Nested.{none};
-ghost use Rattle.sap_plain.specs.Views.{forest_of, state_before};
+ghost use Rattle.sap_ir.specs.Plain.Nested.{none};
+ghost use Rattle.sap_ir.specs.Plain.Views.{forest_of, state_before};
 ghost use Rattle.sap_program.specs.Hangs.{flags};
 ghost use Rattle.sap_program.specs.Views as views;
-ghost use Rattle.sap_sized.specs.Ranges.{RangedGroup};
+ghost use Rattle.sap_resolve.specs.Sized.Ranges.{RangedGroup};
 ghost use Rattle.sap_tagged.specs.States.{top_plain, wires_group};
 ghost use Rattle.sap_tags.specs.Built.{StateFew, StateRanged, StatesFew, StatesRanged, state_forest, state_wires, states_forest, states_wires, top_forest};
 ghost use Rattle.sap_terms.specs.Code.{entities_in, setting_in, world_in};
@@ -14,7 +14,7 @@ ghost use Rattle.sap_terms.specs.Code.{entities_in, setting_in, world_in};
 use crate::commands::commands;
 use crate::pushes::{inner_variable, set_wire};
 use crate::raises::{raise_all, save_all};
-use sap_plain::nested::PlainState;
+use sap_ir::plain::nested::PlainState;
 use sap_program::program::State;
 use sap_terms::calcs::tag_variable;
 use sap_terms::names::state_name;

@@ -2,12 +2,12 @@
 
 ghost use Rattle.std.specs.Prelude.{◌≡◌, ◌++◌, ◌∷◌, [], OnOk};
 ghost use Rattle.sap_meaning.specs.Program as program;
-ghost use Rattle.sap_sized.specs.Ranges.{IsWidth, RangedProgram};
+ghost use Rattle.sap_resolve.specs.Sized.Ranges.{IsWidth, RangedProgram};
 ghost use Rattle.sap_tagged.specs.Plain.{inputs_of, seat_registers, seat_var, shown_registers, tag_registers, tag_var, value_var};
 ghost use Rattle.sap_terms.specs.Code.{named_in, tag_width, world_in};
 
 use sap_ir::guarded::Var;
-use sap_plain::seats;
+use sap_ir::plain::seats;
 use sap_terms::calcs::{child_count, entity_width, is_register};
 use sap_terms::entities::{first_code, first_number, has_tag, is_input};
 use sap_terms::names::{seat_name, tag_name, value_name};

@@ -11,7 +11,7 @@ ghost use Rattle.sap_tags.specs.Built.{ArmsFew, ArmsRanged, CommandFew, CommandR
 ghost use Rattle.sap_terms.specs.Code.{entities_in, named_in, tag_width};
 
 use sap_ir::guarded::Var;
-use sap_plain::seats;
+use sap_ir::plain::seats;
 use sap_program::program::{Arm, Command, State};
 use sap_terms::calcs::{child_count, width_of};
 use sap_terms::entities::is_saved;

@@ -15,7 +15,7 @@ use Rattle.sap_bits.specs.declared.Op2.TheVariants.{Eq}
 use Rattle.sap_maps.specs.Maps.{Name}
 use Rattle.sap_maps.specs.Term.{Term, constant, two, choose, part}
 use Rattle.sap_meaning.specs.Expressions.{width_of}
-use Rattle.sap_sized.specs.Ranges.{RangedTerm}
+use Rattle.sap_resolve.specs.Sized.Ranges.{RangedTerm}
 use Rattle.sap_tagged.specs.Setting.{Setting}
 use Rattle.sap_tagged.specs.Levels.{bits, placed}
 use Rattle.sap_terms.specs.Code.{named_over}

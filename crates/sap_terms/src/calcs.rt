@@ -7,7 +7,7 @@ ghost use Rattle.sap_maps.specs.Term as term;
 ghost use Rattle.sap_meaning.specs.Program as program;
 ghost use Rattle.sap_meaning.specs.Expressions as expressions;
 ghost use Rattle.sap_program.specs.Views as views;
-ghost use Rattle.sap_sized.specs.Ranges.{RangedLevel, RangedTerm};
+ghost use Rattle.sap_resolve.specs.Sized.Ranges.{RangedLevel, RangedTerm};
 ghost use Rattle.sap_tagged.specs.Keys.{First, Tag};
 ghost use Rattle.sap_tagged.specs.Levels as spec;
 ghost use Rattle.sap_terms.specs.Code.{setting_in, world_in};

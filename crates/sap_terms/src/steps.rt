@@ -6,7 +6,7 @@ ghost use Rattle.sap_maps.specs.Term as term;
 ghost use Rattle.sap_meaning.specs.Checks.{entry};
 ghost use Rattle.sap_meaning.specs.Program as program;
 ghost use Rattle.sap_program.specs.Views as views;
-ghost use Rattle.sap_sized.specs.Ranges.{RangedLevel, RangedStep};
+ghost use Rattle.sap_resolve.specs.Sized.Ranges.{RangedLevel, RangedStep};
 ghost use Rattle.sap_tagged.specs.Keys.{Tag};
 ghost use Rattle.sap_tagged.specs.Levels as spec;
 ghost use Rattle.sap_terms.specs.Code.{entities_in, setting_in, spot_in, world_in};
@@ -19,8 +19,8 @@ use crate::names::seat_name;
 use crate::setting::{Setting, Spot};
 use sap_bits::Op2;
 use sap_ir::guarded::Calc;
+use sap_ir::plain::seats;
 use sap_lattice::level::Level;
-use sap_plain::seats;
 use sap_program::program::{State, Step, TagOf};
 use std::alloc::{AllocError, Global};
 

@@ -17,10 +17,10 @@ use Rattle.sap_interface.specs.Designs as interface
 use Rattle.sap_resolve.specs.Fill.{program_of}
 use Rattle.sap_stim.specs.Fits.{StimulusFits}
 use Rattle.sap_check.specs.Sites.{sites_of}
-use Rattle.sap_run.specs.Fields.{design_fields}
-use Rattle.sap_run.specs.RunOf.{read_for}
-use Rattle.sap_run.proofs.Designs.{fit_stream}
-use Rattle.sap_sites.specs.Numbering.{OneNumbering}
+use Rattle.sap_sim.specs.Labelled.Fields.{design_fields}
+use Rattle.sap_sim.specs.Labelled.RunOf.{read_for}
+use Rattle.sap_sim.proofs.labelled.Designs.{fit_stream}
+use Rattle.sap_secure.specs.CheckSites.Numbering.{OneNumbering}
 use Rattle.sap_trace.specs.Fields.{given}
 use Rattle.sap_trace.specs.Lines.{labelled_trace}
 use Rattle.sap_trace.specs.Seen.{HasSiteWires, lines_from}

@@ -20,7 +20,7 @@ use Rattle.sap_stim.specs.declared.field.Field.{Field}
 use Rattle.sap_stim.specs.declared.field.Field.TheVariants.{Tagged}
 use Rattle.sap_stim.specs.Line.{IsSized}
 use Rattle.sap_sim.proofs.Registers.{each}
-use Rattle.sap_run.specs.Fields.{design_fields}
+use Rattle.sap_sim.specs.Labelled.Fields.{design_fields}
 use Rattle.sap_trace.specs.Fields.{field_of, field_at, fields_among}
 
 append_nil : (xs : List Field) → xs ++ [] ≡ xs

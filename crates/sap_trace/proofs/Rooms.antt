@@ -13,7 +13,7 @@ use Rattle.sap_check.specs.declared.site.SiteKind.{SiteKind}
 use Rattle.sap_check.specs.declared.site.SiteKind.TheVariants as kind
 use Rattle.sap_check.specs.Sites.{sites_of}
 use Rattle.sap_report.specs.Report.{entity_name, site_target, site_word}
-use Rattle.sap_run.specs.LabelledRows.{level_name}
+use Rattle.sap_sim.specs.Labelled.LabelledRows.{level_name}
 use Rattle.sap_stim.specs.Rows.{level_coded}
 use Rattle.sap_stim.proofs.RowRoom.{Within, each_name, text_within}
 use Rattle.sap_trace.specs.Lines.{line_head, site_at, site_line, target_text}

@@ -14,7 +14,7 @@ use Rattle.sap_interface.specs.Compiled.{CyclesStand}
 use Rattle.sap_interface.specs.Designs.{named_of}
 use Rattle.sap_interface.specs.Designs as interface
 use Rattle.sap_resolve.specs.Fill.{program_of}
-use Rattle.sap_sites.specs.Numbering.{OneNumbering}
+use Rattle.sap_secure.specs.CheckSites.Numbering.{OneNumbering}
 use Rattle.sap_trace.specs.Lines.{trace_of_run}
 use Rattle.sap_trace.specs.Seen.{seen_lines, lines_from}
 use Rattle.sap_trace.proofs.Seen.{append_nil, append_three, lines_told}

@@ -16,9 +16,9 @@ use Rattle.sap_interface.specs.Designs.{named_of}
 use Rattle.sap_interface.specs.Designs as interface
 use Rattle.sap_resolve.specs.Fill.{program_of}
 use Rattle.sap_stim.specs.Rows.{level_text}
-use Rattle.sap_run.specs.LabelledRows.{level_name}
-use Rattle.sap_run.proofs.Levels.{name_coded}
-use Rattle.sap_sites.specs.Numbering.{numbers_from, OneNumbering}
+use Rattle.sap_sim.specs.Labelled.LabelledRows.{level_name}
+use Rattle.sap_sim.proofs.labelled.Levels.{name_coded}
+use Rattle.sap_secure.specs.CheckSites.Numbering.{numbers_from, OneNumbering}
 use Rattle.sap_trace.specs.Lines.{site_line, refusal_lines}
 use Rattle.sap_trace.specs.Seen.{coded_name, seen_line, seen_lines}
 

@@ -19,13 +19,13 @@ use Rattle.sap_interface.specs.Designs.{StandsForDesign}
 use Rattle.sap_resolve.specs.Fill.{program_of}
 use Rattle.sap_stim.specs.declared.field.Field.{Field}
 use Rattle.sap_stim.specs.Fits.{LineFits, StimulusFits}
-use Rattle.sap_run.specs.Fields.{design_fields}
-use Rattle.sap_run.proofs.Designs.{fit_stream}
+use Rattle.sap_sim.specs.Labelled.Fields.{design_fields}
+use Rattle.sap_sim.proofs.labelled.Designs.{fit_stream}
 use Rattle.sap_sim.proofs.Fits.{line_count}
-use Rattle.sap_run.specs.RunOf.{read_for}
+use Rattle.sap_sim.specs.Labelled.RunOf.{read_for}
 use Rattle.sap_sim.proofs.OneMore.{run_split, run_ends, EndsIn, last_pushed, run_front, no_run}
 use Rattle.sap_sim.proofs.Runs.{run_count}
-use Rattle.sap_sites.specs.Numbering.{OneNumbering}
+use Rattle.sap_secure.specs.CheckSites.Numbering.{OneNumbering}
 use Rattle.sap_trace.specs.declared.trace.Trace.{Trace}
 use Rattle.sap_trace.specs.Fields.{given}
 use Rattle.sap_trace.specs.Lines.{labelled_trace}

@@ -9,7 +9,7 @@ use Rattle.sap_tree.specs.declared.syntax.BinaryOperator.TheVariants as operator
 use Rattle.sap_tree.specs.Syntax.{Expression, Number, Read, Binary, Assign, Write, Goto, Fall, Command, Do, Try, If, CommandBlock, Commands, Else, CommandList, NoCommand, AndCommand, StateTree, StateOf, StateList, NoState, AndState, DesignTree}
 use Rattle.sap_tree.specs.declared.version.Version.TheVariants.{One}
 use Rattle.sap_meaning.specs.Cycle.{Tagged}
-use Rattle.sap_run.specs.Examples.{at, spot, levels, line}
+use Rattle.sap_sim.specs.Labelled.Examples.{at, spot, levels, line}
 use Rattle.sap_trace.specs.Lines.{labelled_trace}
 
 -- the places don't matter

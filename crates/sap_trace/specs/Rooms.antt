@@ -5,7 +5,7 @@ use Rattle.sap_lattice.specs.Levels.{Levels}
 use Rattle.sap_tree.specs.Syntax.{DesignTree}
 use Rattle.sap_names.specs.Entities.{entities_of}
 use Rattle.sap_check.specs.Sites.{sites_of}
-use Rattle.sap_run.specs.LabelledRows.{level_name}
+use Rattle.sap_sim.specs.Labelled.LabelledRows.{level_name}
 use Rattle.sap_trace.specs.Lines.{line_end, site_at, target_text}
 use Rattle.sap_trace.specs.Seen.{coded_name}
 

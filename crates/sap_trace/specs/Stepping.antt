@@ -13,8 +13,8 @@ use Rattle.sap_interface.specs.Designs.{StandsForDesign}
 use Rattle.sap_stim.specs.declared.fault.StimFault.{StimFault}
 use Rattle.sap_stim.specs.declared.field.Field.{Field}
 use Rattle.sap_stim.specs.Line.{IsSized}
-use Rattle.sap_run.specs.Fields.{design_fields}
-use Rattle.sap_run.specs.RunOf.{read_for}
+use Rattle.sap_sim.specs.Labelled.Fields.{design_fields}
+use Rattle.sap_sim.specs.Labelled.RunOf.{read_for}
 use Rattle.sap_trace.specs.declared.trace.Trace.{Trace}
 use Rattle.sap_trace.specs.declared.wires.Wires.{Wires}
 use Rattle.sap_trace.specs.Fields.{given}

@@ -5,7 +5,7 @@ ghost use Rattle.sap_maps.specs.Maps.{Valuation};
 ghost use Rattle.sap_check.specs.Checked.{levels_in, tree_in};
 ghost use Rattle.sap_check.specs.Sites.{sites_of};
 ghost use Rattle.sap_cycle.specs.Running.{Shows, seen};
-ghost use Rattle.sap_run.specs.LabelledRows.{level_name};
+ghost use Rattle.sap_sim.specs.Labelled.LabelledRows.{level_name};
 ghost use Rattle.sap_trace.specs.Lines.{line_before, line_head, refusal_line, site_line};
 ghost use Rattle.sap_trace.specs.Rooms.{HoldsCycle, HoldsLine, site_room};
 ghost use Rattle.sap_trace.specs.Seen.{AreWires, coded_name, seen_line, seen_lines};

@@ -4,7 +4,7 @@ ghost use Rattle.std.specs.Prelude.{◌≡◌, ◌<◌, ◌^◌, None, IfOk, len
 ghost use Rattle.sap_check.specs.Checked.{levels_in, tree_in};
 ghost use Rattle.sap_cycle.specs.Running.{Shows};
 ghost use Rattle.sap_interface.specs.Designs.{StandsForDesign};
-ghost use Rattle.sap_run.specs.RunOf.{read_for};
+ghost use Rattle.sap_sim.specs.Labelled.RunOf.{read_for};
 ghost use Rattle.sap_trace.specs.TraceOf.{IsTraceOf};
 
 use crate::fields::fields_of;

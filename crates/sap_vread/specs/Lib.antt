@@ -1,3 +1,4 @@
 pub mod Codes
 pub mod ModuleFault
 pub mod Places
+pub mod Build

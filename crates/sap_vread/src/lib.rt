@@ -3,6 +3,7 @@
 //! `read` answers the netlist of a text, or its fault, with the line and the column of the byte where it stands.
 #![tactic(auto)]
 
+pub mod build;
 pub mod fault;
 pub mod law;
 pub mod place;

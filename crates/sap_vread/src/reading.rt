@@ -10,11 +10,11 @@ ghost use Rattle.sap_vread.specs.ModuleFault.{IsModuleFault, IsRefusal};
 ghost use Rattle.sap_vread.specs.declared.fault.ModFault.{ModFault as AnyFault};
 ghost use Rattle.sap_vread.specs.declared.fault.ModFault.TheVariants.{Memory};
 
+use crate::build::build;
 use crate::fault::{ModCode, ModFault, code_of};
 use crate::law::one_module_or_fault;
 use crate::place::place_at;
 use sap_net::netlist::Netlist;
-use sap_vbuild::build;
 use sap_vjudge::fault::JudgeFault;
 use sap_vjudge::judging::judge;
 use sap_vparse::items::File;

@@ -11,8 +11,8 @@ use Rattle.sap_stim.specs.declared.stimulus.Parsed.{Parsed}
 use Rattle.sap_stim.specs.Stimulus.{stimulus_of}
 use Rattle.sap_sim.specs.Fields.{fields_of}
 use Rattle.sap_sim.specs.Simulated.{read_for as module_stimulus}
-use Rattle.sap_run.specs.Fields.{design_fields}
-use Rattle.sap_run.specs.RunOf.{GivesRuns, read_for as design_stimulus}
+use Rattle.sap_sim.specs.Labelled.Fields.{design_fields}
+use Rattle.sap_sim.specs.Labelled.RunOf.{GivesRuns, read_for as design_stimulus}
 use Rattle.sap_compile.specs.Parts.{design_of, levels_of, netlist_of}
 use Rattle.sap_commands.specs.Commands.{AreDesignRows, AreModuleRows}
 use Rattle.sap_commands.specs.Steps.{ending, whole}

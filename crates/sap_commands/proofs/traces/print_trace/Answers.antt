@@ -6,8 +6,8 @@ use Rattle.sap_net.specs.Net.{Net}
 use Rattle.sap_stim.specs.declared.field.Field.{Field}
 use Rattle.sap_stim.specs.Line.{IsSized}
 use Rattle.sap_stim.specs.Stimulus.{stimulus_of}
-use Rattle.sap_run.specs.Fields.{design_fields}
-use Rattle.sap_run.specs.RunOf.{read_for}
+use Rattle.sap_sim.specs.Labelled.Fields.{design_fields}
+use Rattle.sap_sim.specs.Labelled.RunOf.{read_for}
 use Rattle.sap_trace.specs.Stepping.{AreLines, IsAfter}
 use Rattle.sap_commands.specs.Commands.{AreTraceLines}
 use Rattle.sap_commands.specs.Steps.{HasWhole}

@@ -1,7 +1,7 @@
 use Rattle.std.proofs.Common.{ap}
 use Rattle.std.proofs.lemmas.Result.{err_from_is_err_and}
 use Rattle.sap_stim.specs.declared.stimulus.Parsed.{Parsed}
-use Rattle.sap_run.specs.RunOf.{read_for as design_stimulus}
+use Rattle.sap_sim.specs.Labelled.RunOf.{read_for as design_stimulus}
 use Rattle.sap_compile.specs.Parts.{design_of, levels_of}
 use Rattle.sap_commands.specs.Commands.{AreTraceLines}
 use Rattle.sap_commands.specs.Steps.{ending, whole}

@@ -1,6 +1,6 @@
 use Rattle.std.proofs.Common.{ap, arith}
 use Rattle.sap_ir.specs.Calcs.{commands_of}
-use Rattle.sap_plain.specs.Program.{nested_of}
+use Rattle.sap_ir.specs.Plain.Program.{nested_of}
 use Rattle.sap_flat.proofs.Steps.{all_made}
 use Rattle.sap_flat.proofs.flatten.all_commands.Goals as goal
 

@@ -3,7 +3,7 @@ use Rattle.std.proofs.lemmas.Option.{slice_get_read, slice_get_past}
 use Rattle.sap_maps.specs.Term.{constant}
 use Rattle.sap_ir.specs.Calcs.{commands_of}
 use Rattle.sap_ir.specs.Source.{set}
-use Rattle.sap_plain.specs.Nested.{seat_width}
+use Rattle.sap_ir.specs.Plain.Nested.{seat_width}
 use Rattle.sap_flat.specs.Flat.{under}
 use Rattle.sap_flat.proofs.Steps.{goto_found, goto_missing}
 use Rattle.sap_flat.proofs.moves.goto.Goals as goal

@@ -2,7 +2,7 @@ use Rattle.std.proofs.Common.{◌*◌, ◌++◌, ◌∙◌, List, ℕ, subst, ap
 use Rattle.sap_check.specs.Checked.{levels_in, tree_in}
 use Rattle.sap_hang.specs.Hang.{IsHangTable}
 use Rattle.sap_interface.specs.Designs.{named_of}
-use Rattle.sap_run.specs.LabelledRows.{labelled_row}
+use Rattle.sap_sim.specs.Labelled.LabelledRows.{labelled_row}
 use Rattle.sap_tree.specs.Designs.{design_of}
 use Rattle.sap_tree.specs.declared.design.Design.{Design}
 use Rattle.sap_sem.specs.Machine.{program_of, state_of}

@@ -1,7 +1,7 @@
 use Rattle.std.proofs.Common.{◌≡◌, ◌∙◌, ◌-◌, ◌<◌, ◌≤◌, ◌^◌, OnOk, drop, length, suc, take, subst, ap, sym, arith}
-use Rattle.sap_plain.specs.Nested.{Body}
-use Rattle.sap_plain.specs.Views.{body_of, follow}
-use Rattle.sap_plain.proofs.SeatWidths.{shifted}
+use Rattle.sap_ir.specs.Plain.Nested.{Body}
+use Rattle.sap_ir.specs.Plain.Views.{body_of, follow}
+use Rattle.sap_ir.proofs.plain.SeatWidths.{shifted}
 use Rattle.sap_terms.specs.Code.{setting_in}
 use Rattle.sap_tags.proofs.Commanded.{fresh}
 use Rattle.sap_tags.proofs.Picked.{code_choice, code_few, code_first, code_many, code_none}

@@ -1,5 +1,5 @@
 use Rattle.std.proofs.Common.{◌-◌, ◌∙◌, length, refl, sym, ap, arith}
-use Rattle.sap_plain.specs.Views.{body_of}
+use Rattle.sap_ir.specs.Plain.Views.{body_of}
 use Rattle.sap_program.specs.Views.{constants_of}
 use Rattle.sap_terms.specs.Code.{entities_in, setting_in}
 use Rattle.sap_tags.proofs.Picked.{arms_begin, arms_step, arms_end}

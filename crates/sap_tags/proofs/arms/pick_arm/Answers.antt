@@ -2,7 +2,7 @@ use Rattle.std.proofs.Common.{get_or, ◌∙◌, ap, ap₂, arith}
 use Rattle.sap_bits.specs.declared.Op2.TheVariants.{Eq}
 use Rattle.sap_maps.specs.Maps.{Name}
 use Rattle.sap_maps.specs.Term.{Term, constant, two, choose}
-use Rattle.sap_plain.specs.Views.{body_of}
+use Rattle.sap_ir.specs.Plain.Views.{body_of}
 use Rattle.sap_terms.specs.Code.{setting_in}
 use Rattle.sap_tags.proofs.Picked.{constants_step, constants_rest}
 use Rattle.sap_tags.proofs.arms.pick_arm.Goals as goal

@@ -1,9 +1,9 @@
 use Rattle.std.proofs.Common.{◌≡◌, ◌+◌, ◌++◌, ◌∙◌, List, map, OnOk, ap, sym, subst, arith}
 use Rattle.std.specs.declared.vec.Vec.{Vec}
 use Rattle.std.specs.declared.alloc.Global.{Global}
-use Rattle.sap_plain.specs.declared.nested.PlainCmd.{PlainCmd}
-use Rattle.sap_plain.specs.Nested.{Body}
-use Rattle.sap_plain.specs.Views.{body_of}
+use Rattle.sap_ir.specs.declared.plain.nested.PlainCmd.{PlainCmd}
+use Rattle.sap_ir.specs.Plain.Nested.{Body}
+use Rattle.sap_ir.specs.Plain.Views.{body_of}
 use Rattle.sap_program.specs.declared.program.Command.{Command}
 use Rattle.sap_program.specs.declared.program.Arm.{Arm}
 use Rattle.sap_tags.specs.Built.{CommandFew, CommandRanged, CommandsFew, CommandsRanged, arm_wires, command_wires, commands_wires}

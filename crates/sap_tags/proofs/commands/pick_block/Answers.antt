@@ -1,7 +1,7 @@
 use Rattle.std.proofs.Common.{◌≡◌, ◌∙◌, ◌+◌, ℕ, OnOk, length, map, ap, subst, arith}
-use Rattle.sap_plain.specs.Nested.{Body, seat_width}
-use Rattle.sap_plain.specs.Views.{body_of}
-use Rattle.sap_plain.proofs.SeatWidths.{seat_least}
+use Rattle.sap_ir.specs.Plain.Nested.{Body, seat_width}
+use Rattle.sap_ir.specs.Plain.Views.{body_of}
+use Rattle.sap_ir.proofs.plain.SeatWidths.{seat_least}
 use Rattle.sap_program.specs.Views.{term_of}
 use Rattle.sap_terms.specs.Code.{entities_in, setting_in, world_in}
 use Rattle.sap_terms.proofs.Words.{width_within}

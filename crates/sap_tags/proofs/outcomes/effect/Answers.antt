@@ -1,6 +1,6 @@
 use Rattle.std.proofs.Common.{◌≡◌, OnOk, subst}
-use Rattle.sap_plain.specs.Nested.{Body}
-use Rattle.sap_plain.specs.Views.{body_of}
+use Rattle.sap_ir.specs.Plain.Nested.{Body}
+use Rattle.sap_ir.specs.Plain.Views.{body_of}
 use Rattle.sap_terms.specs.Code.{entities_in, setting_in, spot_in}
 use Rattle.sap_tags.proofs.Pushed.{goto_effect}
 use Rattle.sap_tags.proofs.outcomes.effect.Goals as goal

@@ -1,6 +1,6 @@
 use Rattle.std.proofs.Common.{◌∙◌, ap, sym, arith}
-use Rattle.sap_plain.specs.Views.{body_of, follow}
-use Rattle.sap_plain.proofs.Views.{follow-end}
+use Rattle.sap_ir.specs.Plain.Views.{body_of, follow}
+use Rattle.sap_ir.proofs.plain.Views.{follow-end}
 use Rattle.sap_terms.specs.Code.{entities_in, setting_in}
 use Rattle.sap_tagged.specs.Keys.{Tag}
 use Rattle.sap_tags.proofs.Raised.{raised, walk_step, walk_rest, raises_listed, entities_count}

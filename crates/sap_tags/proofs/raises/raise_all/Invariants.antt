@@ -1,5 +1,5 @@
 use Rattle.std.proofs.Common.{◌≡◌, drop}
-use Rattle.sap_plain.specs.Views.{body_of, follow}
+use Rattle.sap_ir.specs.Plain.Views.{body_of, follow}
 use Rattle.sap_terms.specs.Code.{entities_in, setting_in}
 use Rattle.sap_tagged.specs.Keys.{Tag}
 use Rattle.sap_tags.proofs.Raised.{walk, raised}

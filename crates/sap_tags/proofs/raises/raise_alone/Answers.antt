@@ -1,6 +1,6 @@
 use Rattle.std.proofs.Common.{◌≡◌, ◌∙◌, OnOk, refl, sym, subst}
-use Rattle.sap_plain.specs.Nested.{Body}
-use Rattle.sap_plain.specs.Views.{body_of, follow}
+use Rattle.sap_ir.specs.Plain.Nested.{Body}
+use Rattle.sap_ir.specs.Plain.Views.{body_of, follow}
 use Rattle.sap_terms.specs.Code.{entities_in, setting_in, spot_in}
 use Rattle.sap_tags.proofs.Raised.{goto_dynamic, goto_enforced, quiet, entities_count}
 use Rattle.sap_tags.proofs.raises.raise_alone.Goals as goal

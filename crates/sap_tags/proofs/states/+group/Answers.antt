@@ -1,6 +1,6 @@
 use Rattle.std.proofs.Common.{◌∙◌, refl, ap, sym, subst, arith}
-use Rattle.sap_plain.specs.Nested.{stop}
-use Rattle.sap_plain.specs.Views.{body_of, forest_of}
+use Rattle.sap_ir.specs.Plain.Nested.{stop}
+use Rattle.sap_ir.specs.Plain.Views.{body_of, forest_of}
 use Rattle.sap_program.specs.declared.program.State.{out-State}
 use Rattle.sap_tags.specs.Built.{StateFew, StateRanged, state_wires}
 use Rattle.sap_terms.specs.Code.{setting_in}

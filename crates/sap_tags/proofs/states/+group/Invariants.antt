@@ -1,5 +1,5 @@
 use Rattle.std.proofs.Common.{◌≡◌, ◌+◌, ◌*◌, drop}
-use Rattle.sap_plain.specs.Views.{forest_of, planted}
+use Rattle.sap_ir.specs.Plain.Views.{forest_of, planted}
 use Rattle.sap_tags.specs.Built.{state_wires, states_forest, states_wires}
 use Rattle.sap_tags.proofs.states.+group.Given as goal
 

@@ -1,6 +1,6 @@
 use Rattle.std.proofs.Common.{◌∙◌, refl, ap, arith}
-use Rattle.sap_plain.specs.Nested.{stop}
-use Rattle.sap_plain.specs.Views.{body_of, follow}
+use Rattle.sap_ir.specs.Plain.Nested.{stop}
+use Rattle.sap_ir.specs.Plain.Views.{body_of, follow}
 use Rattle.sap_program.specs.declared.program.State.{out-State}
 use Rattle.sap_terms.specs.Code.{setting_in}
 use Rattle.sap_tagged.specs.Commands.{gives}

@@ -1,6 +1,6 @@
 use Rattle.std.proofs.Common.{◌∙◌, List, ap, sym, subst, arith}
 use Rattle.sap_meaning.specs.Program.{listed}
-use Rattle.sap_plain.specs.Views.{forest_of}
+use Rattle.sap_ir.specs.Plain.Views.{forest_of}
 use Rattle.sap_program.specs.Hangs.{flags}
 use Rattle.sap_program.specs.Views.{group_of}
 use Rattle.sap_program.specs.declared.program.State.{State}

@@ -1,5 +1,5 @@
 use Rattle.std.proofs.Common.{◌≡◌, ◌+◌, drop}
-use Rattle.sap_plain.specs.Views.{forest_of, planted}
+use Rattle.sap_ir.specs.Plain.Views.{forest_of, planted}
 use Rattle.sap_tags.specs.Built.{states_wires, tops_forest}
 use Rattle.sap_tags.proofs.states.top_states.Given as goal
 

@@ -2,7 +2,7 @@ use Rattle.std.proofs.Common.{◌≡◌, ◌+◌, ◌∙◌, IfOk, OnOk, ap, sym
 use Rattle.sap_program.specs.Views.{block_of, command_of, term_of}
 use Rattle.sap_terms.specs.Code.{entities_in, named_in, tag_width, world_in}
 use Rattle.sap_terms.proofs.Words.{width_within}
-use Rattle.sap_plain.specs.Nested.{seat_width}
+use Rattle.sap_ir.specs.Plain.Nested.{seat_width}
 use Rattle.sap_tagged.specs.Commands.{wires, wires_block}
 use Rattle.sap_tags.specs.Built.{CommandFew, CommandRanged, CommandsFew, CommandsRanged, arm_wires, commands_wires}
 use Rattle.sap_tags.proofs.Listed.{arms_in, wires_block_are}

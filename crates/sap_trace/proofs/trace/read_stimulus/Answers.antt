@@ -7,8 +7,8 @@ use Rattle.sap_stim.specs.declared.field.Field.{Field}
 use Rattle.sap_stim.specs.declared.stimulus.Parsed.{Parsed}
 use Rattle.sap_stim.specs.Line.{IsSized}
 use Rattle.sap_stim.specs.Stimulus.{stimulus_of}
-use Rattle.sap_run.specs.Fields.{design_fields}
-use Rattle.sap_run.specs.RunOf.{read_for}
+use Rattle.sap_sim.specs.Labelled.Fields.{design_fields}
+use Rattle.sap_sim.specs.Labelled.RunOf.{read_for}
 use Rattle.sap_trace.specs.Fields.{fields_among}
 use Rattle.sap_trace.proofs.FieldLists.{all_sized, fields_are}
 use Rattle.sap_trace.proofs.trace.read_stimulus.Goals as goal

@@ -5,8 +5,8 @@ use Rattle.sap_net.specs.Runs.{AllFit, IsRun}
 use Rattle.sap_check.specs.Checked.{levels_in, tree_in}
 use Rattle.sap_stream.specs.Spans.{cycles_of}
 use Rattle.sap_stim.specs.declared.stimulus.Parsed.{Parsed}
-use Rattle.sap_run.specs.Fields.{design_fields}
-use Rattle.sap_run.specs.RunOf.{read_for}
+use Rattle.sap_sim.specs.Labelled.Fields.{design_fields}
+use Rattle.sap_sim.specs.Labelled.RunOf.{read_for}
 use Rattle.sap_sim.proofs.Few.{stimulus_few}
 use Rattle.sap_trace.specs.Fields.{given}
 use Rattle.sap_trace.specs.Seen.{AreReadable, AreWires, lines_from}

@@ -4,7 +4,7 @@ use Rattle.sap_meaning.specs.Cycle.{cycle, cycle_listed}
 use Rattle.sap_meaning.specs.Sites.{Sublist, refused_sites}
 use Rattle.sap_meaning.specs.State.{Resting}
 use Rattle.sap_meaning.specs.Store.{After, Store}
-use Rattle.sap_sites.specs.Numbering.{numbers_from}
+use Rattle.sap_secure.specs.CheckSites.Numbering.{numbers_from}
 use Rattle.sap_sem.specs.Machine.{program_of, refusals_from, sites_of, state_of}
 use Rattle.sap_sem.specs.Runs.{GroupAble}
 use Rattle.sap_sem.proofs.Refused.{told, told_again}

@@ -1,0 +1,217 @@
+-- A netlist that is alike to one that stands for a design stands for it too.
+use Rattle.std.proofs.Common.{◌≡◌, ◌≤◌, ◌⊎◌, ℕ, List, [], ◌∷◌, ◌++◌, map, true, false, inl, inr, ◌↔◌, sym, ap, ap₂, ◌∙◌, subst, length}
+use Rattle.std.specs.Prelude.{unwrap_or, Option}
+use Rattle.std.specs.List.{AllByRecursion}
+use Rattle.std.proofs.lemmas.Bool.{cases_Bool}
+use Rattle.sap_maps.specs.Maps.{Name, Valuation}
+use Rattle.sap_meaning.specs.Cycle.{Tagged}
+use Rattle.sap_meaning.specs.Store.{Store, After, Refusal}
+use Rattle.sap_meaning.specs.State.{StreamFits, labelled_run}
+use Rattle.sap_net.specs.Names.{is_among, IsHelpingName}
+use Rattle.sap_net.specs.Net.{Net}
+use Rattle.sap_net.specs.IsNetlist.{IsNetlist, PortShows, input_names, wire_names, register_names, memory_names, first_readable, shapes, width_of}
+use Rattle.sap_net.specs.Laws.{SomeRun}
+use Rattle.sap_net.specs.Runs.{AllFit, observed}
+use Rattle.sap_net.specs.declared.parts.PortKind.{PortKind}
+use Rattle.sap_net.specs.declared.parts.PortKind.TheVariants as kind
+use Rattle.sap_net.specs.declared.parts.Port.{Port}
+use Rattle.sap_net.specs.declared.parts.Input.{Input}
+use Rattle.sap_net.specs.declared.parts.Wire.{Wire}
+use Rattle.sap_trim.specs.Alike.{DeclaresAlike, ShowsAlike, AllShowAlike, RunsAlike}
+use Rattle.sap_trim.specs.Names.{helper, port_names, lasting_names, helping_wires, NoneNumbered}
+use Rattle.sap_trim.specs.Trimmed.{NumbersWires}
+use Rattle.sap_interface.specs.PortNames.{refused_name, level_name}
+use Rattle.sap_interface.specs.StandsFor.{Named, world, StandsFor, IsRefused}
+use Rattle.sap_interface.specs.InterfaceNames.{IsInterfaceName}
+use Rattle.sap_interface.specs.Interface.{Shown, HasInput, HasWire, HasRegister, HasMemory, HasSeat, HasInterface, ports_of}
+use Rattle.sap_interface.specs.Compiled.{coded_stream, CyclesStand, NetStandsFor}
+use Rattle.sap_tagged.specs.Law.{AreSites, RefusalsAreSites}
+use Rattle.sap_tagged.proofs.Members.{In}
+use Rattle.sap_ir.proofs.Declared.{among_front, among_behind}
+use Rattle.sap_compile.proofs.stages.Ports.{all_of_map, named_among, refused_port, level_port, ports_named}
+use Rattle.sap_compile.proofs.stages.Declared.{of_port, of_port_name, of_wire_name, of_register, of_memory, each_name, register_alike, memory_alike, same_registers, same_memories, wire_read, some_wire}
+use Rattle.sap_compile.proofs.stages.Helping.{among_either, numbered_helping, helping_there}
+
+-- the ports that a netlist shows, where it has an interface
+
+abbrev pub shown_ports : Net → List Shown
+shown_ports n = map (λ p. (p.name, p.kind)) n.ports
+
+-- each helping wire is named an n and a number
+abbrev pub HelpersNamed : Net → Type 0
+HelpersNamed n = AllByRecursion (λ w. IsHelpingName w.name) (helping_wires n)
+
+pub port_named : (d : Named) (sites : ℕ) (n : Net) → shown_ports n ≡ ports_of d sites → (x : Name) → is_among x (port_names n) ≡ true → IsInterfaceName d sites x
+port_named d sites n e x h =
+    of_port_name (λ (y : Name). IsInterfaceName d sites y) n.ports
+    (all_of_map (λ (q : Shown). IsInterfaceName d sites q.0) (λ (p : Port). (p.name, p.kind)) n.ports
+    (subst (λ (qs : List Shown). AllByRecursion (λ q. IsInterfaceName d sites q.0) qs) (sym e) (ports_named d sites)))
+    x h
+
+-- of two netlists that declare alike
+module _ (given result : Net) (before : IsNetlist given) (after : IsNetlist result) (declares : DeclaresAlike given result) where
+  has_register : (x : Name) (u : ℕ) → HasRegister given.registers x u → HasRegister result.registers x u
+  has_register x u h = register_alike given.registers result.registers x u declares.registers h
+
+  has_memory : (x : Name) (u k : ℕ) → HasMemory given.memories x u k → HasMemory result.memories x u k
+  has_memory x u k h = memory_alike given.memories result.memories x u k declares.memories h
+
+  has_input : (x : Name) (u : ℕ) → HasInput given.inputs x u → HasInput result.inputs x u
+  has_input x u h = subst (λ (is : List Input). HasInput is x u) (sym declares.inputs) h
+
+  has_seat : (count : ℕ) (x : Name) → HasSeat given count x → HasSeat result count x
+  has_seat count x h = (h.0, h.1, has_register x h.0 h.2)
+
+  same_ports : shown_ports result ≡ shown_ports given
+  same_ports = ap (λ (ps : List Port). map {B = Shown} (λ p. (p.name, p.kind)) ps) declares.ports
+
+  same_register_names : register_names result ≡ register_names given
+  same_register_names = same_registers given.registers result.registers declares.registers
+
+  same_memory_names : memory_names result ≡ memory_names given
+  same_memory_names = same_memories given.memories result.memories declares.memories
+
+  wire_width : (n : Net) → IsNetlist n → (x : Name) (u : ℕ) → HasWire n.wires x u → width_of n x ≡ u
+  wire_width n rules x u h = ap (λ (o : Option ℕ). unwrap_or o 0) (wire_read (shapes n) n.wires (first_readable n) rules.assigns x u h)
+
+  has_wire : (x : Name) (u : ℕ) → HasWire given.wires x u → In (shown_ports given) (x, kind.Wire) → HasWire result.wires x u
+  has_wire x u h port =
+      let p : In (shown_ports result) (x, kind.Wire) = subst (λ (qs : List Shown). In qs (x, kind.Wire)) (sym same_ports) port in
+      let w = some_wire result.wires x (of_port (PortShows result) result.ports x kind.Wire after.ports_show p) in
+      let same : width_of result x ≡ width_of given x = of_port (λ (k : PortKind) (y : Name). width_of result y ≡ width_of given y) given.ports x kind.Wire declares.widths port in
+      let e : w.0 ≡ u = sym (wire_width result after x w.0 w.1) ∙ same ∙ wire_width given before x u h in
+      subst (λ (k : ℕ). HasWire result.wires x k) e w.1
+
+  -- names
+
+  same_lasting : lasting_names result ≡ lasting_names given
+  same_lasting =
+      ap₂ (λ (xs ys : List Name). xs ++ ys) (ap (λ (ps : List Port). map (λ (p : Port). p.name) ps) declares.ports)
+      (ap₂ (λ (xs ys : List Name). xs ++ ys) same_register_names same_memory_names)
+
+  pub helpers_named : NoneNumbered given → NumbersWires result → HelpersNamed result
+  helpers_named none numbers =
+      let named = numbers (λ k. ap (λ (ns : List Name). is_among (helper k) ns) same_lasting ∙ none k) in
+      all_of_map IsHelpingName (λ (w : Wire). w.name) (helping_wires result)
+      (subst (λ (ns : List Name). AllByRecursion IsHelpingName ns) (sym named) (each_name IsHelpingName _ (numbered_helping (length (helping_wires result)))))
+
+  input_given : (x : Name) → is_among x (input_names result) ≡ true → is_among x given.names ≡ true
+  input_given x h =
+      before.declared x
+      ∙ among_front x (input_names given ++ wire_names given ++ register_names given) (memory_names given)
+      (among_front x (input_names given ++ wire_names given) (register_names given)
+      (among_front x (input_names given) (wire_names given) (subst (λ (is : List Input). is_among x (map (λ (i : Input). i.name) is) ≡ true) declares.inputs h)))
+
+  register_given : (x : Name) → is_among x (register_names result) ≡ true → is_among x given.names ≡ true
+  register_given x h =
+      before.declared x
+      ∙ among_front x (input_names given ++ wire_names given ++ register_names given) (memory_names given)
+      (among_behind x (input_names given ++ wire_names given) (register_names given) (subst (λ (ns : List Name). is_among x ns ≡ true) same_register_names h))
+
+  memory_given : (x : Name) → is_among x (memory_names result) ≡ true → is_among x given.names ≡ true
+  memory_given x h =
+      before.declared x
+      ∙ among_behind x (input_names given ++ wire_names given ++ register_names given) (memory_names given) (subst (λ (ns : List Name). is_among x ns ≡ true) same_memory_names h)
+
+  wire_helping : HelpersNamed result → (x : Name) → is_among x (port_names result) ≡ false → is_among x (wire_names result) ≡ true → IsHelpingName x
+  wire_helping named x f h = of_wire_name IsHelpingName (helping_wires result) named x (helping_there (port_names result) result.wires x f h)
+
+  -- the design, whose refusals are at its sites
+
+  module _ (d : Named) (tag sites : ℕ) (from : NetStandsFor d tag sites given) where
+    refused_shown : (k : ℕ) → 1 ≤ k → k ≤ sites → In (shown_ports given) (refused_name k, kind.Wire)
+    refused_shown k i j = subst (λ (qs : List Shown). In qs (refused_name k, kind.Wire)) (sym from.interface.ports) (refused_port d sites k i j)
+
+    level_shown : (k : ℕ) → 1 ≤ k → k ≤ sites → In (shown_ports given) (level_name k, kind.Wire)
+    level_shown k i j = subst (λ (qs : List Shown). In qs (level_name k, kind.Wire)) (sym from.interface.ports) (level_port d sites k i j)
+
+    abbrev IsNamed : Name → Type 0
+    IsNamed x = IsInterfaceName d sites x ⊎ IsHelpingName x
+
+    of_given : (x : Name) → is_among x given.names ≡ true → IsNamed x
+    of_given x h = named_among (λ (y : Name). IsInterfaceName d sites y ⊎ IsHelpingName y) given.names from.interface.names x h
+
+    wire_is : HelpersNamed result → (x : Name) → is_among x (wire_names result) ≡ true → IsNamed x
+    wire_is named x h =
+        elim (cases_Bool (is_among x (port_names result))) [
+          | inl p ↦ inl (port_named d sites result (same_ports ∙ from.interface.ports) x p)
+          | inr f ↦ inr (wire_helping named x f h)
+        ]
+
+    name_is : HelpersNamed result → (x : Name) → is_among x result.names ≡ true → IsNamed x
+    name_is named x h =
+        elim (among_either x (input_names result ++ wire_names result ++ register_names result) (memory_names result) (sym (after.declared x) ∙ h)) [
+          | inr m ↦ of_given x (memory_given x m)
+          | inl a ↦
+              elim (among_either x (input_names result ++ wire_names result) (register_names result) a) [
+                | inr r ↦ of_given x (register_given x r)
+                | inl b ↦
+                    elim (among_either x (input_names result) (wire_names result) b) [ inl i ↦ of_given x (input_given x i) | inr w ↦ wire_is named x w ]
+              ]
+        ]
+
+    has_interface : HelpersNamed result → HasInterface d tag sites result
+    has_interface named = record {
+      module_name = declares.module_name ∙ from.interface.module_name;
+      ports = same_ports ∙ from.interface.ports;
+      inputs = λ x h. (has_input _ _ (from.interface.inputs x h).0, has_input _ _ (from.interface.inputs x h).1);
+      registers = λ x h. (has_register _ _ (from.interface.registers x h).0, has_register _ _ (from.interface.registers x h).1);
+      site_wires = λ k i j.
+          (has_wire _ _ (from.interface.site_wires k i j).0 (refused_shown k i j), has_wire _ _ (from.interface.site_wires k i j).1 (level_shown k i j));
+      memories = λ m h. has_memory _ _ _ (from.interface.memories m h);
+      cell_tags = λ m h i. has_memory _ _ _ (from.interface.cell_tags m h i);
+      memory_tags = λ m h i. has_register _ _ (from.interface.memory_tags m h i);
+      state_tags = λ x h i. has_register _ _ (from.interface.state_tags x h i);
+      seats = λ x h i. has_seat _ _ (from.interface.seats x h i);
+      root_seat = has_seat _ _ from.interface.root_seat;
+      names = each_name (λ (x : Name). IsInterfaceName d sites x ⊎ IsHelpingName x) result.names (name_is named);
+    }
+
+    takes : (stream : List (List Tagged)) → StreamFits (world d) stream → AllFit result.inputs (coded_stream d.code stream)
+    takes stream fit = subst (λ (is : List Input). AllFit is (coded_stream d.code stream)) (sym declares.inputs) (from.takes stream fit)
+
+    -- a cycle of the one, and a cycle of the other in which the same is seen
+    module _ (v w : Valuation) (same : ShowsAlike given result v w) where
+      at_register : (x : Name) (u : ℕ) → HasRegister given.registers x u → (observed result w).value x ≡ (observed given v).value x
+      at_register x u h = sym (of_register (λ (y : Name). (observed given v).value y ≡ (observed result w).value y) given.registers x u same.registers h)
+
+      at_cell : (x : Name) (u k : ℕ) → HasMemory given.memories x u k → (i : ℕ) → (observed result w).cell x i ≡ (observed given v).cell x i
+      at_cell x u k h i =
+          sym (of_memory (λ (y : Name). (j : ℕ) → (observed given v).cell y j ≡ (observed result w).cell y j) given.memories x u k same.memories h i)
+
+      at_port : (x : Name) → In (shown_ports given) (x, kind.Wire) → (observed result w).value x ≡ (observed given v).value x
+      at_port x h =
+          sym (of_port (λ (k : PortKind) (y : Name). (observed given v).value y ≡ (observed result w).value y) given.ports x kind.Wire same.ports h)
+
+      pub cycle_stands : (t : Store) (rs : List Refusal) → AreSites sites rs → StandsFor d sites (observed given v) t rs → StandsFor d sites (observed result w) t rs
+      cycle_stands t rs are h = record {
+        register_values = λ x r. at_register _ _ (from.interface.registers x r).0 ∙ h.register_values x r;
+        register_tags = λ x r. at_register _ _ (from.interface.registers x r).1 ∙ h.register_tags x r;
+        cells = λ m i k l. at_cell _ _ _ (from.interface.memories m k) i ∙ h.cells m i k l;
+        cell_tags = λ m i k l o. at_cell _ _ _ (from.interface.cell_tags m k l) i ∙ h.cell_tags m i k l o;
+        memory_tags = λ m k l. at_register _ _ (from.interface.memory_tags m k l) ∙ h.memory_tags m k l;
+        state_tags = λ x k l. at_register _ _ (from.interface.state_tags x k l) ∙ h.state_tags x k l;
+        seats = λ x k l. at_register _ _ (from.interface.seats x k l).2 ∙ h.seats x k l;
+        root_seat = at_register _ _ from.interface.root_seat.2 ∙ h.root_seat;
+        refusals = λ k i j. subst (λ (z : ℕ). (z ≡ 1) ↔ IsRefused rs k) (sym (at_port _ (refused_shown k i j))) (h.refusals k i j);
+        refusal_levels = λ k l i. (let a = are k l i in at_port _ (level_shown k a.0 a.1) ∙ h.refusal_levels k l i);
+      }
+
+    cycles_stand : (vs ws : List Valuation) (run : List After) → AllShowAlike given result vs ws → RefusalsAreSites sites run → CyclesStand d sites (map (observed given) vs) run
+        → CyclesStand d sites (map (observed result) ws) run
+    cycles_stand [] [] run a r c = c
+    cycles_stand [] (w ∷ ws) run a r c = absurd a
+    cycles_stand (v ∷ vs) [] run a r c = absurd a
+    cycles_stand (v ∷ vs) (w ∷ ws) [] a r c = absurd c
+    cycles_stand (v ∷ vs) (w ∷ ws) (x ∷ run) a r c = (cycle_stands v w a.0 x.store x.refused r.0 c.0, cycles_stand vs ws run a.1 r.1 c.1)
+
+    pub stands_alike : HelpersNamed result → RunsAlike given result → SomeRun given
+        → ((stream : List (List Tagged)) → StreamFits (world d) stream → RefusalsAreSites sites (labelled_run d.program stream)) → NetStandsFor d tag sites result
+    stands_alike named alike some at_sites = record {
+      interface = has_interface named;
+      takes = takes;
+      stands = λ stream fit ws run. (let xss = coded_stream d.code stream in
+          let fits = from.takes stream fit in
+          let one = some xss fits in
+          cycles_stand one.0 ws (labelled_run d.program stream) (alike xss one.0 ws fits one.1 run) (at_sites stream fit) (from.stands stream fit one.0 one.1));
+    }

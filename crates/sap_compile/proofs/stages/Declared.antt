@@ -1,0 +1,117 @@
+-- What is declared under a name in one of two netlists that declare alike.
+use Rattle.std.proofs.Common.{◌≡◌, ℕ, List, [], ◌∷◌, map, true, Some, inl, inr, refl, sym, ap, ◌∙◌, subst, bytes_eq}
+use Rattle.std.specs.List.{AllByRecursion}
+use Rattle.std.proofs.lemmas.Bool.{cases_Bool}
+use Rattle.sap_maps.specs.Maps.{Name}
+use Rattle.sap_maps.specs.Scope.{Scope, find}
+use Rattle.sap_maps.proofs.Scopes.{same_name, name_is, apart_back, found_here}
+use Rattle.sap_net.specs.Names.{is_among}
+use Rattle.sap_net.specs.Rules.{Shapes, AreWires, readable_after}
+use Rattle.sap_net.proofs.Within.{readable_to_the_end}
+use Rattle.sap_net.specs.declared.parts.PortKind.{PortKind}
+use Rattle.sap_net.specs.declared.parts.Port.{Port}
+use Rattle.sap_net.specs.declared.parts.Wire.{Wire}
+use Rattle.sap_net.specs.declared.parts.Register.{Register}
+use Rattle.sap_net.specs.declared.parts.Memory.{Memory}
+use Rattle.sap_interface.specs.Interface.{Shown, HasWire, HasRegister, HasMemory}
+use Rattle.sap_tagged.proofs.Members.{In}
+use Rattle.sap_compile.proofs.stages.Found.{Shape, Stored, memory_stored}
+
+-- the width and the start of a register, under its name
+abbrev pub Kept : Type 0
+Kept = Name × Shape
+
+abbrev pub register_kept : Register → Kept
+register_kept r = (r.name, (r.width, r.start))
+
+-- what holds of all, of one under its name
+
+pub of_port : (P : PortKind → Name → Type 0) (ps : List Port) (n : Name) (k : PortKind) → AllByRecursion (λ p. P p.kind p.name) ps
+    → In (map {B = Shown} (λ p. (p.name, p.kind)) ps) (n, k) → P k n
+of_port P [] n k a h = absurd h
+of_port P (p ∷ ps) n k a (inl e) = subst (λ (q : Shown). P q.1 q.0) e a.0
+of_port P (p ∷ ps) n k a (inr h) = of_port P ps n k a.1 h
+
+pub of_port_name : (P : Name → Type 0) (ps : List Port) → AllByRecursion (λ p. P p.name) ps → (n : Name) → is_among n (map (λ p. p.name) ps) ≡ true → P n
+of_port_name P [] a n h = absurd (cc)
+of_port_name P (p ∷ ps) a n h =
+    elim (cases_Bool (bytes_eq n p.name)) [ inl t ↦ subst P (sym (name_is n p.name t)) a.0 | inr f ↦ of_port_name P ps a.1 n (rw f at h) ]
+
+pub of_wire_name : (P : Name → Type 0) (ws : List Wire) → AllByRecursion (λ w. P w.name) ws → (n : Name) → is_among n (map (λ w. w.name) ws) ≡ true → P n
+of_wire_name P [] a n h = absurd (cc)
+of_wire_name P (w ∷ ws) a n h =
+    elim (cases_Bool (bytes_eq n w.name)) [ inl t ↦ subst P (sym (name_is n w.name t)) a.0 | inr f ↦ of_wire_name P ws a.1 n (rw f at h) ]
+
+pub of_register : (P : Name → Type 0) (rs : List Register) (n : Name) (u : ℕ) → AllByRecursion (λ r. P r.name) rs → HasRegister rs n u → P n
+of_register P [] n u a h = absurd h
+of_register P (r ∷ rs) n u a (inl e) = subst P e.0 a.0
+of_register P (r ∷ rs) n u a (inr h) = of_register P rs n u a.1 h
+
+pub of_memory : (P : Name → Type 0) (ms : List Memory) (n : Name) (u k : ℕ) → AllByRecursion (λ m. P m.name) ms → HasMemory ms n u k → P n
+of_memory P [] n u k a h = absurd h
+of_memory P (m ∷ ms) n u k a (inl e) = subst P e.0 a.0
+of_memory P (m ∷ ms) n u k a (inr h) = of_memory P ms n u k a.1 h
+
+pub each_name : (P : Name → Type 0) (ns : List Name) → ((n : Name) → is_among n ns ≡ true → P n) → AllByRecursion P ns
+each_name P [] f = tt
+each_name P (n ∷ ns) f = (f n (rw (same_name n) refl), each_name P ns (λ m h. f m (behind m h)))
+  where
+    behind : (m : Name) → is_among m ns ≡ true → is_among m (n ∷ ns) ≡ true
+    behind m h = elim (cases_Bool (bytes_eq m n)) [ inl t ↦ rw t refl | inr f ↦ rw f h ]
+
+pub found_of : {X Y : Type 0} (name : Y → Name) (of : Y → X) (ys : List Y) (n : Name) → is_among n (map name ys) ≡ true → (x : X) × (find (map (λ y. (name y, of y)) ys) n ≡ Some x)
+found_of name of [] n h = absurd (cc)
+found_of name of (y ∷ ys) n h = elim (cases_Bool (bytes_eq (name y) n)) [
+  | inl t ↦ (of y, rw t refl)
+  | inr f ↦ (let g = apart_back (name y) n f in let r = found_of name of ys n (rw g at h) in (r.0, rw f r.1))
+]
+
+-- registers and memories
+
+pub register_alike : (rs qs : List Register) (n : Name) (u : ℕ) → map register_kept qs ≡ map register_kept rs → HasRegister rs n u → HasRegister qs n u
+register_alike [] qs n u e h = absurd h
+register_alike (r ∷ rs) [] n u e h = cc
+register_alike (r ∷ rs) (q ∷ qs) n u e (inl h) =
+    let f : register_kept q ≡ register_kept r = cc in
+    inl (ap (λ (p : Kept). p.0) f ∙ h.0, ap (λ (p : Kept). p.1.0) f ∙ h.1)
+register_alike (r ∷ rs) (q ∷ qs) n u e (inr h) =
+    let f : map register_kept qs ≡ map register_kept rs = cc in inr (register_alike rs qs n u f h)
+
+pub memory_alike : (ms ks : List Memory) (n : Name) (u k : ℕ) → map memory_stored ks ≡ map memory_stored ms → HasMemory ms n u k → HasMemory ks n u k
+memory_alike [] ks n u k e h = absurd h
+memory_alike (m ∷ ms) [] n u k e h = cc
+memory_alike (m ∷ ms) (j ∷ ks) n u k e (inl h) =
+    let f : memory_stored j ≡ memory_stored m = cc in
+    inl (ap (λ (q : Stored). q.0) f ∙ h.0, ap (λ (q : Stored). q.1.0) f ∙ h.1, ap (λ (q : Stored). q.1.1.0) f ∙ h.2)
+memory_alike (m ∷ ms) (j ∷ ks) n u k e (inr h) =
+    let f : map memory_stored ks ≡ map memory_stored ms = cc in inr (memory_alike ms ks n u k f h)
+
+registers_named : (rs : List Register) → map (λ (q : Kept). q.0) (map register_kept rs) ≡ map (λ (r : Register). r.name) rs
+registers_named [] = refl
+registers_named (r ∷ rs) = ap (λ (ns : List Name). r.name ∷ ns) (registers_named rs)
+
+pub same_registers : (rs qs : List Register) → map register_kept qs ≡ map register_kept rs → map (λ (r : Register). r.name) qs ≡ map (λ (r : Register). r.name) rs
+same_registers rs qs e = sym (registers_named qs) ∙ ap (λ (ks : List Kept). map (λ (q : Kept). q.0) ks) e ∙ registers_named rs
+
+pub memories_named : (ms : List Memory) → map (λ (q : Stored). q.0) (map memory_stored ms) ≡ map (λ (m : Memory). m.name) ms
+memories_named [] = refl
+memories_named (m ∷ ms) = ap (λ (ns : List Name). m.name ∷ ns) (memories_named ms)
+
+pub same_memories : (ms ks : List Memory) → map memory_stored ks ≡ map memory_stored ms → map (λ (m : Memory). m.name) ks ≡ map (λ (m : Memory). m.name) ms
+same_memories ms ks e = sym (memories_named ks) ∙ ap (λ (qs : List Stored). map (λ (q : Stored). q.0) qs) e ∙ memories_named ms
+
+-- wires
+
+pub wire_read : (shapes : Shapes) (ws : List Wire) (sc : Scope) → AreWires shapes sc ws → (n : Name) (u : ℕ) → HasWire ws n u → find (readable_after sc ws) n ≡ Some u
+wire_read shapes [] sc a n u h = absurd h
+wire_read shapes (w ∷ ws) sc a n u (inl e) =
+    readable_to_the_end shapes ws ((w.name, w.width) ∷ sc) a.4 n u
+    (subst (λ (m : Name). find ((w.name, w.width) ∷ sc) m ≡ Some u) e.0 (found_here w.name w.width sc ∙ ap (λ (k : ℕ). Some k) e.1))
+wire_read shapes (w ∷ ws) sc a n u (inr h) = wire_read shapes ws ((w.name, w.width) ∷ sc) a.4 n u h
+
+pub some_wire : (ws : List Wire) (n : Name) → is_among n (map (λ w. w.name) ws) ≡ true → (u : ℕ) × HasWire ws n u
+some_wire [] n h = absurd (cc)
+some_wire (w ∷ ws) n h = elim (cases_Bool (bytes_eq n w.name)) [
+  | inl t ↦ (w.width, inl (sym (name_is n w.name t), refl))
+  | inr f ↦ (let r = some_wire ws n (rw f at h) in (r.0, inr r.1))
+]

@@ -1,0 +1,11 @@
+-- When a netlist stands for all designs that nested states stand for.
+use Rattle.sap_tree.specs.Syntax.{DesignTree}
+use Rattle.sap_lattice.specs.Levels.{Levels}
+use Rattle.sap_net.specs.Net.{Net}
+use Rattle.sap_ir.specs.Plain.Nested.{Nested}
+use Rattle.sap_interface.specs.Designs.{StandsForDesign}
+use Rattle.sap_tagged.specs.Law.{PlainStandsForDesign}
+
+-- Over any lattice, the netlist stands for each design for which the nested states stand.
+abbrev pub StandsForTheSame : Nested → Net → Type 0
+StandsForTheSame p n = (ls : Levels) (d : DesignTree) → PlainStandsForDesign ls d p → StandsForDesign ls d n

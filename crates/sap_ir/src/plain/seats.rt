@@ -1,0 +1,35 @@
+//! The registers of current children.
+
+ghost use Rattle.std.specs.Prelude.{◌≡◌, ◌++◌, IfOk, codes};
+ghost use Rattle.sap_ir.specs.Plain.Nested.{seat_name, root_seat, seat_width};
+
+use sap_net::parts::Name;
+use std::alloc::{AllocError, Global};
+
+/// The least width of 1 or more that can hold the number of each of so many children.
+pub fn width(count: usize) -> u32
+    ensures { result ≡ seat_width count }
+{
+    for bits in 1..64 {
+        if count <= 1 << bits {
+            return bits;
+        }
+    }
+    64
+}
+
+/// The register of the current child of a state.
+pub fn of_state(alloc: Global, state: &Name) -> Result<Name, AllocError>
+    ensures { IfOk result (λ n. n ≡ seat_name state.now) }
+{
+    let mut bytes = b"s_".to_vec(alloc)?;
+    bytes.extend_from_slice(state.as_bytes())?;
+    Ok(Name::new(bytes))
+}
+
+/// The register of the current top-level state.
+pub fn of_root(alloc: Global) -> Result<Name, AllocError>
+    ensures { IfOk result (λ n. n ≡ root_seat) }
+{
+    Ok(Name::new(b"s_0".to_vec(alloc)?))
+}

@@ -1,0 +1,100 @@
+-- The cycles of a line, one after another.
+use Rattle.std.proofs.Common.{◌≡◌, ℕ, ◌+◌, ◌-◌, ◌<◌, ◌≤◌, List, [], ◌∷◌, ◌++◌, length, replicate, append_assoc, sym, ◌∙◌, ap, subst, arith, length-append}
+use Rattle.std.specs.Prelude.{Option}
+use Rattle.std.proofs.lemmas.List.{length-replicate, replicate-append-replicate, replicate_more}
+use Rattle.sap_desk.specs.Desk.{Told}
+use Rattle.sap_desk.specs.Whole.{CutOutput}
+use Rattle.sap_meaning.specs.Cycle.{Tagged as Given}
+use Rattle.sap_stream.specs.Spans.{Span, cycles_in}
+use Rattle.sap_lines.specs.Stepping.Cycles.{Adds, CyclesCut, CyclesShown}
+use Rattle.sap_lines.specs.Stepping.Followed.{Shows}
+use Rattle.sap_lines.specs.Stepping.Waiting.{PieceWritten}
+use Rattle.sap_lines.proofs.stepping.Pieces.{cut_then, written_behind, written_then}
+
+-- what was written behind that
+
+module _ (behind : List (List Given) → Type 0) (shows later : Shows) (count : ℕ) (waited waits : List ℕ) (before mid after : Option Told) where
+  pub shown_then : (cycles : List (List Given)) (left : List ℕ) → CyclesShown behind shows later count cycles waited waits before mid → PieceWritten waits left mid after
+      → CyclesShown behind shows later count cycles waited left before after
+  shown_then cycles left so wrote = record {
+    text = so.text;
+    adds = so.adds;
+    written = written_then (waited ++ so.text) waits left before mid after so.written wrote;
+  }
+
+  pub cut_last : (line : Span) → CyclesShown behind shows later count (cycles_in line) waited waits before mid → CutOutput waits mid after
+      → CyclesCut behind shows later count line waited before after
+  cut_last line so failed = record {
+    first = line.count;
+    within = omega arith;
+    text = so.text;
+    adds = so.adds;
+    cut = cut_then (waited ++ so.text) waits before mid after so.written failed;
+  }
+
+-- as many cycles as the line has
+pub all_shown : (behind : List (List Given) → Type 0) (shows later : Shows) (count n : ℕ) (line : Span) (waited waits : List ℕ) (before after : Option Told) → n ≡ line.count
+    → CyclesShown behind shows later count (replicate n line.inputs) waited waits before after → CyclesShown behind shows later count (cycles_in line) waited waits before after
+all_shown behind shows later count n line waited waits before after is so =
+    subst (λ (k : ℕ). CyclesShown behind shows later count (replicate k line.inputs) waited waits before after) is so
+
+-- one more
+
+cycle_more : (cycles : List (List Given)) (x : List Given) (i : ℕ) → (cycles ++ replicate i x) ++ x ∷ [] ≡ cycles ++ replicate (i + 1) x
+cycle_more cycles x i = append_assoc cycles (replicate i x) (x ∷ []) ∙ ap (λ (xs : List (List Given)). cycles ++ xs) (replicate_more i x)
+
+pub behind_more : (behind now after : List (List Given) → Type 0) (x line : List Given) (i : ℕ) → line ≡ x → ((cycles : List (List Given)) → behind cycles → now (cycles ++ replicate i x))
+    → ((cycles : List (List Given)) → now cycles → after (cycles ++ line ∷ [])) → (cycles : List (List Given)) → behind cycles → after (cycles ++ replicate (i + 1) x)
+behind_more behind now after x line i same so step cycles h =
+    subst after (cycle_more cycles x i) (subst (λ (l : List Given). after ((cycles ++ replicate i x) ++ l ∷ [])) same (step (cycles ++ replicate i x) (so cycles h)))
+
+module _ (behind now : List (List Given) → Type 0) (shows later last : Shows) (count cycle i : ℕ) (x line : List Given) (waited waits text bytes : List ℕ) (before mid after : Option Told)
+    (same : line ≡ x) (bytes_are : bytes ≡ text) (stands : (cycles : List (List Given)) → behind cycles → now (cycles ++ replicate i x)) (is : cycle ≡ count + i)
+    (step : (cycles : List (List Given)) (shown : List ℕ) → now cycles → cycle + 1 ≡ length cycles + 1 → later cycles shown → last (cycles ++ line ∷ []) (shown ++ text))
+    (so : CyclesShown behind shows later count (replicate i x) waited waits before mid) where
+  adds_more : Adds behind shows last count (replicate (i + 1) x) (so.text ++ text)
+  adds_more cycles shown h many is_shown =
+      let so_far : List (List Given) = cycles ++ replicate i x in
+      let size : length so_far ≡ length cycles + length (replicate i x) = length-append cycles (replicate i x) in
+      let here : last (so_far ++ line ∷ []) ((shown ++ so.text) ++ text)
+      = step so_far (shown ++ so.text) (stands cycles h) (omega (arith, size, length-replicate i x, is, many)) (so.adds cycles shown h many is_shown) in
+      subst (λ (all : List (List Given)). last all (shown ++ (so.text ++ text))) (cycle_more cycles x i)
+      (subst (λ (l : List Given). last (so_far ++ l ∷ []) (shown ++ (so.text ++ text))) same
+      (subst (last (so_far ++ line ∷ [])) (append_assoc shown so.text text) here))
+
+  bytes_more : (waited ++ so.text) ++ bytes ≡ waited ++ (so.text ++ text)
+  bytes_more = append_assoc waited so.text bytes ∙ ap (λ (l : List ℕ). waited ++ (so.text ++ l)) bytes_are
+
+  written_so : PieceWritten ((waited ++ so.text) ++ bytes) (waits ++ bytes) before mid
+  written_so = written_behind (waited ++ so.text) waits bytes before mid so.written
+
+  pub shown_more : (left : List ℕ) → PieceWritten (waits ++ bytes) left mid after → CyclesShown behind shows last count (replicate (i + 1) x) waited left before after
+  shown_more left wrote = record {
+    text = so.text ++ text;
+    adds = adds_more;
+    written =
+        subst (λ (l : List ℕ). PieceWritten l left before after) bytes_more
+        (written_then ((waited ++ so.text) ++ bytes) (waits ++ bytes) left before mid after written_so wrote);
+  }
+
+  pub cut_more : (n : ℕ) → i < n → CutOutput (waits ++ bytes) mid after → CyclesCut behind shows last count (record { inputs = x; count = n }) waited before after
+  cut_more n below failed = record {
+    first = i + 1;
+    within = omega arith;
+    text = so.text ++ text;
+    adds = adds_more;
+    cut =
+        subst (λ (l : List ℕ). CutOutput l before after) bytes_more
+        (cut_then ((waited ++ so.text) ++ bytes) (waits ++ bytes) before mid after written_so failed);
+  }
+
+-- the first cycles of a line and the others
+pub cycles_cut : (cycles rest : List (List Given)) (line : Span) (first : ℕ) → first ≤ line.count
+    → (cycles ++ cycles_in line) ++ rest ≡ (cycles ++ replicate first line.inputs) ++ (replicate (line.count - first) line.inputs ++ rest)
+cycles_cut cycles rest line first within =
+    let sum : first + (line.count - first) ≡ line.count = omega arith in
+    let both : replicate first line.inputs ++ replicate (line.count - first) line.inputs ≡ cycles_in line
+    = replicate-append-replicate first (line.count - first) line.inputs ∙ ap (λ (n : ℕ). replicate n line.inputs) sum in
+    ap (λ (xs : List (List Given)). (cycles ++ xs) ++ rest) (sym both)
+    ∙ ap (λ (xs : List (List Given)). xs ++ rest) (sym (append_assoc cycles (replicate first line.inputs) (replicate (line.count - first) line.inputs)))
+    ∙ append_assoc (cycles ++ replicate first line.inputs) (replicate (line.count - first) line.inputs) rest

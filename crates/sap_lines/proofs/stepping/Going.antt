@@ -1,0 +1,99 @@
+-- What reading a channel and writing on channel 1 make of a desk, one after another.
+use Rattle.std.proofs.Common.{◌≡◌, ℕ, ◌+◌, ◌<◌, true, List, [], ◌∷◌, ◌++◌, length, append_assoc, refl, sym, ◌∙◌, ap, arith}
+use Rattle.std.specs.Prelude.{eqb, Option, unwrap_or, cond, Bool, drop}
+use Rattle.std.proofs.lemmas.Bool.Decides.{nat_tests}
+use Rattle.std.proofs.lemmas.List.{append-nil}
+use Rattle.sap_desk.specs.Desk.{Told, Use, reads, writes, closed, stream, IsReading, added, at_number, blamed, moved, moved_use, name_if_reading, rest_of, rest_of_use}
+use Rattle.sap_desk.proofs.Steps.{at_number-keeps, at_number-same, moved-none, moved-twice, other_number}
+use Rattle.sap_lines.specs.Stepping.Followed.{Going}
+
+pub going_none : (channel : ℕ) (t : Told) → Going channel 0 [] t t
+going_none channel t = record {
+  uses = ap (λ (x : Told). x.uses) (sym (moved-none channel t));
+  files = refl;
+  output = sym (append-nil (t.written 1));
+  lines = refl;
+  room = refl;
+}
+
+module _ (channel count : ℕ) (gained : List ℕ) (t m : Told) (going : Going channel count gained t m) where
+  uses_more : (k : ℕ) → (moved channel k m).uses ≡ at_number channel (moved_use (count + k) (t.uses channel)) t.uses
+  uses_more k =
+      ap (λ (u : ℕ → Use). at_number channel (moved_use k (u channel)) u) going.uses
+      ∙ ap (λ (x : Told). x.uses) (moved-twice channel count k t)
+
+  pub going_read : (k : ℕ) → Going channel (count + k) gained t (moved channel k m)
+  going_read k = record { uses = uses_more k; files = going.files; output = going.output; lines = going.lines; room = going.room }
+
+  pub going_more : (k : ℕ) (piece : List ℕ) → Going channel (count + k) (gained ++ piece) t (added 1 piece (moved channel k m))
+  going_more k piece = record {
+    uses = uses_more k;
+    files = going.files;
+    output = ap (λ (l : List ℕ). l ++ piece) going.output ∙ append_assoc (t.written 1) gained piece;
+    lines = going.lines;
+    room = going.room;
+  }
+
+  pub going_added : (piece : List ℕ) → Going channel count (gained ++ piece) t (added 1 piece m)
+  going_added piece = record {
+    uses = going.uses;
+    files = going.files;
+    output = ap (λ (l : List ℕ). l ++ piece) going.output ∙ append_assoc (t.written 1) gained piece;
+    lines = going.lines;
+    room = going.room;
+  }
+
+  pub use_now : m.uses channel ≡ moved_use count (t.uses channel)
+  use_now = ap (λ (u : ℕ → Use). u channel) going.uses ∙ at_number-same channel (moved_use count (t.uses channel)) t.uses
+
+  pub output_use : 2 < channel → m.uses 1 ≡ t.uses 1
+  output_use above =
+      let other = other_number 1 channel (omega arith) in
+      ap (λ (u : ℕ → Use). u 1) going.uses ∙ ap (λ (b : Bool). cond b (moved_use count (t.uses channel)) (t.uses 1)) other
+
+pub going_blamed : (channel count : ℕ) (gained name : List ℕ) (t m : Told) → Going channel count gained t m → Going channel count gained t (blamed name m)
+going_blamed channel count gained name t m g = record { uses = g.uses; files = g.files; output = g.output; lines = g.lines; room = g.room }
+
+pub name_moved : (n : ℕ) (u : Use) → name_if_reading (moved_use n u) ≡ name_if_reading u
+name_moved n (reads name p) = refl
+name_moved n (writes name) = refl
+name_moved n closed = refl
+name_moved n stream = refl
+
+pub reading_moved : (n : ℕ) (u : Use) → IsReading u → IsReading (moved_use n u)
+reading_moved n (reads name p) h = tt
+reading_moved n (writes name) h = h
+reading_moved n closed h = h
+reading_moved n stream h = h
+
+rest_same : (m n : Told) (u : Use) → m.files ≡ n.files → rest_of_use m u ≡ rest_of_use n u
+rest_same m n (reads name p) is = ap (λ (files : List ℕ → Option (List ℕ)). drop p (unwrap_or (files name) [])) is
+rest_same m n (writes name) is = refl
+rest_same m n closed is = refl
+rest_same m n stream is = refl
+
+pub rest_added : (channel : ℕ) (piece : List ℕ) (m : Told) → rest_of (added 1 piece m) channel ≡ rest_of m channel
+rest_added channel piece m = rest_same (added 1 piece m) m (m.uses channel) refl
+
+-- what is left to read
+pub rest_now : (channel count : ℕ) (gained : List ℕ) (t m : Told) → Going channel count gained t m → rest_of m channel ≡ rest_of (moved channel count t) channel
+rest_now channel count gained t m g =
+    ap (λ (u : ℕ → Use). rest_of_use m (u channel)) g.uses
+    ∙ rest_same m (moved channel count t) (at_number channel (moved_use count (t.uses channel)) t.uses channel) g.files
+
+-- no byte is written
+
+empty_list : (text : List ℕ) → length text ≡ 0 → text ≡ []
+empty_list [] none = refl
+empty_list (x ∷ text) none = absurd (omega (arith, none))
+
+pub no_bytes : (text : List ℕ) (b : Bool) → b ≡ eqb (length text) 0 → b ≡ true → text ≡ []
+no_bytes text b is true_now =
+    let none : eqb (length text) 0 ≡ true = sym is ∙ true_now in
+    empty_list text (grind (arith, nat_tests))
+
+pub added_none : (text : List ℕ) (t : Told) → text ≡ [] → added 1 text t ≡ t
+added_none text t none =
+    let same : t.written 1 ≡ t.written 1 ++ text = sym (append-nil (t.written 1)) ∙ ap (λ (l : List ℕ). t.written 1 ++ l) (sym none) in
+    let kept = at_number-keeps 1 (t.written 1 ++ text) t.written same in
+    λ i. record t { written = kept i }

@@ -1,0 +1,200 @@
+-- A stimulus that was opened, followed and finished, or not to its end.
+use Rattle.std.proofs.Common.{◌≡◌, ℕ, ◌+◌, ◌<◌, ◌≤◌, List, [], length, refl, sym, ◌∙◌, ap, subst, inl, inr, arith}
+use Rattle.std.specs.Prelude.{◌^◌, Bool, cond, Option, Some, None, IfSome, IsSome, option_map}
+use Rattle.std.proofs.lemmas.List.{append-nil}
+use Rattle.sap_desk.specs.Desk.{Told, Use, IsOpen, IsReading, IsWriting, at_number, blame_at, blamed, bytes_of, closed, finished, moved_use, name_if_open, name_if_reading, opened, reads, rest_of, rest_of_use}
+use Rattle.sap_desk.specs.Whole.{Between, MissingOrLong, OneMore}
+use Rattle.sap_desk.proofs.Steps.{at_number-keeps, at_number-same, at_number-twice, file_there, other_number}
+use Rattle.sap_desk.proofs.WholeFiles.{blame_is, one_more}
+use Rattle.sap_lattice.specs.Levels.{Levels}
+use Rattle.sap_stim.specs.declared.fault.StimFault.{StimFault}
+use Rattle.sap_stim.specs.declared.field.Field.{Field}
+use Rattle.sap_stim.specs.Stimulus.{stimulus_of}
+use Rattle.sap_lines.specs.declared.stepping.stopped.Stopped.{Stopped}
+use Rattle.sap_lines.specs.declared.stepping.stopped.Stopped.TheVariants.{Input, Output, Memory}
+use Rattle.sap_lines.specs.Stepping.Followed.{Breaks, Broken, Followed, Going, IsPartShown, Shows}
+use Rattle.sap_lines.specs.Stepping.Printed.{IsPartOf, OutputGrew, Printed, Stops, StopsFor, Unprinted}
+
+-- what is known of a desk whose file is opened
+
+pub record CanOpen (channel : ℕ) (name : List ℕ) (t : Told) : Type 0 where
+  pub fresh : t.uses channel ≡ closed
+  pub there : IsSome (t.files name)
+
+pub can_open : (channel : ℕ) (name : List ℕ) (o : Option Told) → IfSome o (λ t. t.uses channel ≡ closed) → IfSome o (λ t. IsSome (t.files name))
+    → IfSome o (CanOpen channel name)
+can_open channel name None fresh there = tt
+can_open channel name (Some t) fresh there = record { fresh = fresh; there = there }
+
+-- from what comes of the open file to what comes of the file
+module _ (channel : ℕ) (name : List ℕ) (R Q : Told → Told → Type 0) where
+  pub from_open : (old one two : Option Told) → one ≡ option_map (opened channel name) old → IfSome old (CanOpen channel name)
+      → ((t n : Told) → CanOpen channel name t → R (opened channel name t) n → Q t n) → Between one two R → Between old two Q
+  from_open None one two is can h b = tt
+  from_open (Some t) one two is can h b =
+      let here : Between (Some (opened channel name t)) two R = subst (λ (o : Option Told). Between o two R) is b in
+      onto two here where
+        onto : (two : Option Told) → Between (Some (opened channel name t)) two R → Between (Some t) two Q
+        onto None r = r
+        onto (Some n) r = h t n can r
+
+  pub from_open_then : (f : Told → Told) (old one two three : Option Told) → one ≡ option_map (opened channel name) old → three ≡ option_map f two → IfSome old (CanOpen channel name)
+      → ((t n : Told) → CanOpen channel name t → R (opened channel name t) n → Q t (f n)) → Between one two R → Between old three Q
+  from_open_then f None one two three is also can h b = tt
+  from_open_then f (Some t) one two three is also can h b =
+      let here : Between (Some (opened channel name t)) two R = subst (λ (o : Option Told). Between o two R) is b in
+      onto two also here where
+        onto : (two : Option Told) → three ≡ option_map f two → Between (Some (opened channel name t)) two R → Between (Some t) three Q
+        onto None last r = absurd r
+        onto (Some n) last r = subst (λ (o : Option Told). Between (Some t) o Q) (sym last) (h t n can r)
+
+module _ (channel : ℕ) (name : List ℕ) (above : 2 < channel) (t n : Told) (can : CanOpen channel name t) where
+  whole : rest_of (opened channel name t) channel ≡ bytes_of t name
+  whole = ap (rest_of_use (opened channel name t)) (at_number-same channel (reads name 0) t.uses)
+
+  file : t.files name ≡ Some (bytes_of t name)
+  file = file_there (t.files name) can.there
+
+  module _ (count : ℕ) (gained : List ℕ) (going : Going channel count gained (opened channel name t) n) where
+    uses_open : n.uses ≡ at_number channel (reads name (0 + count)) t.uses
+    uses_open =
+        going.uses
+        ∙ ap (λ (u : Use). at_number channel (moved_use count u) (at_number channel (reads name 0) t.uses)) (at_number-same channel (reads name 0) t.uses)
+        ∙ at_number-twice channel (reads name 0) (reads name (0 + count)) t.uses
+
+    uses_finished : at_number channel closed n.uses ≡ t.uses
+    uses_finished =
+        ap (at_number channel closed) uses_open ∙ at_number-twice channel (reads name (0 + count)) closed t.uses ∙ at_number-keeps channel closed t.uses can.fresh
+
+    use_is : n.uses channel ≡ reads name (0 + count)
+    use_is = ap (λ (u : ℕ → Use). u channel) uses_open ∙ at_number-same channel (reads name (0 + count)) t.uses
+
+    left_open : OneMore name t.uses n.uses
+    left_open = subst (λ (u : ℕ → Use). OneMore name t.uses u) (sym uses_open) (one_more channel name (reads name (0 + count)) t above can.fresh refl)
+
+    grew : OutputGrew gained t n
+    grew = record { files = going.files; output = going.output; lines = going.lines; room = going.room }
+
+  module _ (shows : Shows) (ls : Levels) (fs : List Field) where
+    of_file : (gained : List ℕ) → IsPartShown shows ls fs (rest_of (opened channel name t) channel) gained → IsPartOf shows ls fs name gained t
+    of_file gained part = record { bytes = bytes_of t name; file = file; part = subst (λ (bytes : List ℕ). IsPartShown shows ls fs bytes gained) whole part }
+
+    pub printed : (fault : Option StimFault) → Followed shows ls fs channel fault (opened channel name t) n → Printed shows ls fs name fault t (finished channel n)
+    printed fault f = record {
+      bytes = bytes_of t name;
+      file = file;
+      is_fault = f.is_fault ∙ ap (λ (bytes : List ℕ). (stimulus_of ls fs bytes).fault) whole;
+      gained = f.gained;
+      shown = subst (λ (bytes : List ℕ). shows (stimulus_of ls fs bytes).stream f.gained) whole f.shown;
+      grew = record { files = f.going.files; output = f.going.output; lines = f.going.lines; room = f.going.room };
+      uses = uses_finished f.count f.gained f.going;
+    }
+
+    pub input_broken : Broken shows ls fs channel Input (opened channel name t) n → Unprinted shows ls fs Input name t n
+    input_broken b = record {
+      gained = b.gained;
+      part = inr (of_file b.gained b.part);
+      grew = grew b.count b.gained b.going;
+      blame = b.blame ∙ ap name_if_reading (at_number-same channel (reads name 0) t.uses);
+      uses = inr (left_open b.count b.gained b.going);
+    }
+
+    pub output_broken : Broken shows ls fs channel Output (opened channel name t) n → Unprinted shows ls fs Output name t n
+    output_broken b = record {
+      gained = b.gained;
+      part = inr (of_file b.gained b.part);
+      grew = grew b.count b.gained b.going;
+      blame = b.blame;
+      uses = left_open b.count b.gained b.going;
+    }
+
+    -- it was followed to its end, and could not be finished
+    pub unfinished : (fault : Option StimFault) → Followed shows ls fs channel fault (opened channel name t) n
+        → Unprinted shows ls fs Input name t (blame_at channel (name_if_open (n.uses channel)) n)
+    unfinished fault f =
+        subst (λ (x : Told). Unprinted shows ls fs Input name t x) (sym (blame_is channel name n above (name_if_open (n.uses channel)) n))
+        (record {
+          gained = f.gained;
+          part = inr (of_file f.gained (record {
+            lines = (stimulus_of ls fs (rest_of (opened channel name t) channel)).stream;
+            more = [];
+            stream = sym (append-nil (stimulus_of ls fs (rest_of (opened channel name t) channel)).stream);
+            rest = [];
+            shown = subst (shows (stimulus_of ls fs (rest_of (opened channel name t) channel)).stream) (sym (append-nil f.gained)) f.shown;
+          }));
+          grew = record { files = f.going.files; output = f.going.output; lines = f.going.lines; room = f.going.room };
+          blame = ap name_if_open (use_is f.count f.gained f.going);
+          uses = inr (left_open f.count f.gained f.going);
+        })
+
+  -- why, at a desk on which no call is still to fail by its number
+
+  pub input_for : Breaks channel Input (opened channel name t) n → MissingOrLong name t
+  input_for breaks =
+      inr (subst (λ (bytes : List ℕ). 2 ^ 32 ≤ length bytes) whole
+      (breaks (subst IsReading (sym (at_number-same channel (reads name 0) t.uses)) tt)))
+
+  pub output_for : Breaks channel Output (opened channel name t) n → StopsFor name Output t n
+  output_for breaks = λ writing.
+      breaks (subst IsWriting (sym (ap (λ (b : Bool). cond b (reads name 0) (t.uses 1)) (other_number 1 channel (omega arith)))) writing)
+
+-- it could not be opened
+
+pub unopened : (shows : Shows) (ls : Levels) (fs : List Field) (name : List ℕ) (old new : Option Told) → new ≡ option_map (blamed name) old
+    → Between old new (Unprinted shows ls fs Input name)
+unopened shows ls fs name None new is = tt
+unopened shows ls fs name (Some t) new is = subst (λ (o : Option Told). Between (Some t) o (Unprinted shows ls fs Input name)) (sym is) (record {
+  gained = [];
+  part = inl refl;
+  grew = record { files = refl; output = sym (append-nil (t.written 1)); lines = refl; room = refl };
+  blame = refl;
+  uses = inl refl;
+})
+
+pub missing : (name : List ℕ) (old new : Option Told) → new ≡ option_map (blamed name) old → IfSome old (λ t. t.files name ≡ None)
+    → Between old new (StopsFor name Input)
+missing name None new is none = tt
+missing name (Some t) new is none = subst (λ (o : Option Told). Between (Some t) o (StopsFor name Input)) (sym is) (inl none)
+
+-- a channel that is open can be finished
+pub never_unfinished : (channel : ℕ) (name : List ℕ) (R Q : Told → Told → Type 0) (f : Told → Told) (old one two three : Option Told) → one ≡ option_map (opened channel name) old
+    → three ≡ option_map f two → ((t n : Told) → R (opened channel name t) n → IsOpen (n.uses channel)) → Between one two R
+    → IfSome two (λ n. IsOpen (n.uses channel) → ⊥) → Between old three Q
+never_unfinished channel name R Q f None one two three is also open_now b shut = tt
+never_unfinished channel name R Q f (Some t) one two three is also open_now b shut =
+    let here : Between (Some (opened channel name t)) two R = subst (λ (o : Option Told). Between o two R) is b in
+    onto two here shut where
+      onto : (two : Option Told) → Between (Some (opened channel name t)) two R → IfSome two (λ n. IsOpen (n.uses channel) → ⊥) → Between (Some t) three Q
+      onto None r s = absurd r
+      onto (Some n) r s = absurd (s (open_now t n r))
+
+pub still_open : (channel count : ℕ) (name gained : List ℕ) (t n : Told) → Going channel count gained (opened channel name t) n → IsOpen (n.uses channel)
+still_open channel count name gained t n going =
+    let reading : n.uses channel ≡ moved_use count (reads name 0)
+    = ap (λ (u : ℕ → Use). u channel) going.uses
+    ∙ at_number-same channel (moved_use count ((opened channel name t).uses channel)) (opened channel name t).uses
+    ∙ ap (moved_use count) (at_number-same channel (reads name 0) t.uses) in
+    subst IsOpen (sym reading) tt
+
+-- a call failed on the way, whichever
+pub stops : (why : Stopped) (channel : ℕ) (name : List ℕ) → 2 < channel → (shows : Shows) (ls : Levels) (fs : List Field) (t n : Told) → CanOpen channel name t
+    → Broken shows ls fs channel why (opened channel name t) n → Stops shows ls fs name why t n
+stops Input channel name above shows ls fs t n can b = input_broken channel name above t n can shows ls fs b
+stops Output channel name above shows ls fs t n can b = output_broken channel name above t n can shows ls fs b
+stops Memory channel name above shows ls fs t n can b = absurd b.failed
+
+pub stops_for : (why : Stopped) (channel : ℕ) (name : List ℕ) → 2 < channel → (t n : Told) → CanOpen channel name t → Breaks channel why (opened channel name t) n
+    → StopsFor name why t n
+stops_for Input channel name above t n can breaks = input_for channel name above t n can breaks
+stops_for Output channel name above t n can breaks = output_for channel name above t n can breaks
+stops_for Memory channel name above t n can breaks = absurd breaks
+
+-- there was no memory to open it
+
+pub unchanged : (shows : Shows) (ls : Levels) (fs : List Field) (name : List ℕ) (old new : Option Told) → new ≡ old → Between old new (Stops shows ls fs name Memory)
+unchanged shows ls fs name None new is = tt
+unchanged shows ls fs name (Some t) new is = subst (λ (o : Option Told). Between (Some t) o (Stops shows ls fs name Memory)) (sym is) refl
+
+pub no_cause : (name : List ℕ) (old new : Option Told) → new ≡ old → Between old new (StopsFor name Memory)
+no_cause name None new is = tt
+no_cause name (Some t) new is = subst (λ (o : Option Told). Between (Some t) o (StopsFor name Memory)) (sym is) tt

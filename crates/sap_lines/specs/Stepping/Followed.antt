@@ -1,0 +1,85 @@
+-- What comes of the lines of a channel that is read by one line after another.
+use Rattle.std.specs.Prelude.{◌≡◌, ℕ, ◌^◌, ◌≤◌, List, ◌++◌, length, codes, Option, Result, Ok, Err}
+use Rattle.sap_desk.specs.Desk.{Told, IsReading, IsWriting, at_number, moved_use, name_if_reading, rest_of}
+use Rattle.sap_desk.specs.Cause.{counted}
+use Rattle.sap_lattice.specs.Levels.{Levels}
+use Rattle.sap_meaning.specs.Cycle.{Tagged as Given}
+use Rattle.sap_stim.specs.declared.fault.StimFault.{StimFault}
+use Rattle.sap_stim.specs.declared.field.Field.{Field}
+use Rattle.sap_stim.specs.Stimulus.{stimulus_of}
+use Rattle.sap_lines.specs.declared.stepping.stopped.Stopped.{Stopped}
+use Rattle.sap_lines.specs.declared.stepping.stopped.Stopped.TheVariants.{Input, Output, Memory}
+
+-- which text is shown of which lines
+abbrev pub Shows : Type 1
+Shows = List (List Given) → List ℕ → Type 0
+
+-- so many bytes more were read of a channel, this was written on channel 1, and nothing else changed but the blame
+pub record Going (channel count : ℕ) (gained : List ℕ) (t n : Told) : Type 0 where
+  pub uses : n.uses ≡ at_number channel (moved_use count (t.uses channel)) t.uses
+  pub files : n.files ≡ t.files
+  pub output : n.written 1 ≡ t.written 1 ++ gained
+  pub lines : n.written 2 ≡ t.written 2
+  pub room : n.room ≡ t.room
+
+-- the beginning of what is shown of the first lines of a stimulus
+pub record IsPartShown (shows : Shows) (ls : Levels) (fs : List Field) (bytes gained : List ℕ) : Type 0 where
+  pub lines : List (List Given)
+  pub more : List (List Given)
+  pub stream : (stimulus_of ls fs bytes).stream ≡ lines ++ more
+  pub rest : List ℕ
+  pub shown : shows lines (gained ++ rest)
+
+-- all lines before the first that is refused are shown
+pub record Followed (shows : Shows) (ls : Levels) (fs : List Field) (channel : ℕ) (fault : Option StimFault) (t n : Told) : Type 0 where
+  pub count : ℕ
+  pub gained : List ℕ
+  pub going : Going channel count gained t n
+  pub is_fault : fault ≡ (stimulus_of ls fs (rest_of t channel)).fault
+  pub shown : shows (stimulus_of ls fs (rest_of t channel)).stream gained
+
+-- all lines before the first that is refused are shown, but what is shown of the last of them still waits to be written
+pub record FollowedBut (shows : Shows) (ls : Levels) (fs : List Field) (channel : ℕ) (fault : Option StimFault) (waiting : List ℕ) (t n : Told) : Type 0 where
+  pub count : ℕ
+  pub gained : List ℕ
+  pub going : Going channel count gained t n
+  pub is_fault : fault ≡ (stimulus_of ls fs (rest_of t channel)).fault
+  pub shown : shows (stimulus_of ls fs (rest_of t channel)).stream (gained ++ waiting)
+
+-- on every desk: some bytes have this fault, or have none
+abbrev pub IsFaultOfSome : Levels → List Field → Option StimFault → Type 0
+IsFaultOfSome ls fs fault = (bytes : List ℕ) × (fault ≡ (stimulus_of ls fs bytes).fault)
+
+-- the file or the output that a failed call blames
+abbrev pub blamed_for : Stopped → (name : List ℕ) → (before : List ℕ) → List ℕ
+blamed_for Input name before = name
+blamed_for Output name before = codes "output"
+blamed_for Memory name before = before
+
+-- a call failed: the one or the other
+abbrev pub IsFailedCall : Stopped → Type 0
+IsFailedCall Input = Unit {0}
+IsFailedCall Output = Unit {0}
+IsFailedCall Memory = ⊥
+
+-- so it ended
+pub record Broken (shows : Shows) (ls : Levels) (fs : List Field) (channel : ℕ) (why : Stopped) (t n : Told) : Type 0 where
+  pub count : ℕ
+  pub gained : List ℕ
+  pub going : Going channel count gained t n
+  pub part : IsPartShown shows ls fs (rest_of t channel) gained
+  pub blame : n.blame ≡ blamed_for why (name_if_reading (t.uses channel)) t.blame
+  pub failed : IsFailedCall why
+
+-- why it failed, at a desk on which no call is still to fail by its number
+abbrev pub Breaks : (channel : ℕ) → Stopped → Told → Told → Type 0
+Breaks channel Input t n = IsReading (t.uses channel) → 2 ^ 32 ≤ length (rest_of t channel)
+Breaks channel Output t n = IsWriting (t.uses 1) → length (n.written 1) ≡ n.room
+Breaks channel Memory t n = ⊥
+
+-- a failed call counts once
+abbrev pub Counts : {T : Type 0} → Result T Stopped → (faults now : ℕ) → Type 0
+Counts (Ok x) faults now = now ≡ faults
+Counts (Err Input) faults now = now ≡ counted faults
+Counts (Err Output) faults now = now ≡ counted faults
+Counts (Err Memory) faults now = now ≡ faults

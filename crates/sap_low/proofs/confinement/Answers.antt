@@ -1,5 +1,0 @@
-use Rattle.sap_resolve.specs.Fill.{program_of}
-use Rattle.sap_low.proofs.confinement.Goals as goal
-
-pub returns : goal.returns
-returns c = λ ls d laws formed. c.confinement.ensures (program_of ls d) (c.well_formed_serves.ensures.fine ls d laws formed)

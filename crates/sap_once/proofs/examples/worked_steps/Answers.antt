@@ -1,5 +1,0 @@
-use Rattle.sap_once.proofs.Computed.{one_branch, written_twice, after_refusal, after_fall}
-use Rattle.sap_once.proofs.examples.worked_steps.Goals as goal
-
-pub returns : goal.returns
-returns c = record { one_branch = one_branch; written_twice = written_twice; after_refusal = after_refusal; after_fall = after_fall }

@@ -1,7 +1,0 @@
-//! Programs of nested states, whose tags are ordinary variables.
-#![tactic(auto)]
-
-pub mod examples;
-pub mod nested;
-pub mod program;
-pub mod seats;

@@ -1,0 +1,46 @@
+-- The names of entities and levels by their numbers.
+use Rattle.std.proofs.Common.{◌≡◌, ℕ, zero, suc, ◌+◌, ◌<◌, List, [], ◌∷◌, length, true, not, sym, ap, ◌∙◌, arith, inl, inr, bytes_eq}
+use Rattle.std.proofs.Math.Numerals.{one-add}
+use Rattle.std.proofs.lemmas.Bool.{cases_Bool}
+use Rattle.sap_tree.specs.declared.name.Mention.{Mention}
+use Rattle.sap_lattice.specs.Levels.{Levels}
+use Rattle.sap_names.specs.declared.entity.Entity.{Entity}
+use Rattle.sap_names.specs.declared.kind.Code.TheVariants.{E6}
+use Rattle.sap_names.specs.NameFaults.{level_from, is_some, is_level, level_faults, twice}
+use Rattle.sap_resolve.specs.Worlds.{position}
+use Rattle.sap_resolve.specs.Terms.{entity_number}
+use Rattle.sap_resolve.proofs.sized.Faultless.{no_fault, not_true}
+use Rattle.sap_resolve.proofs.premises.Places.{name_at}
+use Rattle.sap_resolve.proofs.premises.Lookups.{name_is, unique}
+use Rattle.sap_resolve.specs.Kept.Kept.{IsNth, IsNamed, IsLevel}
+
+pub named_at : (es : List Entity) (x : ℕ) (name : List ℕ) → x < length es → name_at es x ≡ name → IsNamed es x name
+named_at [] x name h e = absurd (omega arith)
+named_at (f ∷ es) zero name h e = e
+named_at (f ∷ es) (suc x) name h e = named_at es x name (omega arith) e
+
+pub named_of : (es : List Entity) (x : ℕ) (name : List ℕ) → IsNamed es x name → (x < length es) × (name_at es x ≡ name)
+named_of [] x name h = absurd h
+named_of (f ∷ es) zero name h = (omega arith, h)
+named_of (f ∷ es) (suc x) name h =
+    let r = named_of es x name h in
+    let l : x < length es = r.0 in
+    (omega arith, r.1)
+
+-- no two entities have one name
+pub one_name : (es : List Entity) → twice [] es ≡ [] → (x y : ℕ) (name : List ℕ) → IsNamed es x name → IsNamed es y name → x ≡ y
+one_name es once x y name h i =
+    let r = named_of es x name h in
+    let s = named_of es y name i in
+    sym (unique es once x r.0) ∙ ap (λ (n : List ℕ). entity_number es n) (r.1 ∙ sym s.1) ∙ unique es once y s.0
+
+-- a level's name
+level_nth : (n : ℕ) (names : List (List ℕ)) (name : List ℕ) → is_some (level_from n names name) ≡ true → IsNth names (position names name) name
+level_nth n [] name h = cc
+level_nth n (l ∷ ls) name h = elim (cases_Bool (bytes_eq l name)) [
+  | inl t ↦ rw t (name_is l name t)
+  | inr t ↦ rw (t, one-add) (level_nth (n + 1) ls name (rw t at h))
+]
+
+pub level_named : (ls : Levels) (m : Mention) → level_faults ls.names m ≡ [] → IsLevel ls (position ls.names m.name) m.name
+level_named ls m h = level_nth 0 ls.names m.name (not_true (is_level ls.names m.name) (no_fault (not (is_level ls.names m.name)) E6 m.place h))

@@ -1,0 +1,67 @@
+-- A cycle of a well-formed design comes to its sites in turn, to each at most once.
+use Rattle.std.proofs.Common.{◌≡◌, ℕ, ◌+◌, ◌≤◌, Bool, true, false, cond, List, [], ◌∷◌, ◌++◌, length, nat_eq, refl, sym, ap, ◌∙◌, subst, arith, if◌then◌else◌}
+use Rattle.std.proofs.lemmas.List.Sums.{sum_by-cons}
+use Rattle.sap_tree.specs.Syntax.{DesignTree}
+use Rattle.sap_lattice.specs.Levels.{Levels}
+use Rattle.sap_names.specs.Entities.{entities_of}
+use Rattle.sap_shape.specs.WellFormed.{WellFormed}
+use Rattle.sap_check.specs.Sites.{sites_of}
+use Rattle.sap_meaning.specs.Program.{Step, root}
+use Rattle.sap_meaning.specs.Store.{Store}
+use Rattle.sap_meaning.specs.Checks.{site_of}
+use Rattle.sap_meaning.specs.Cycle.{Tagged}
+use Rattle.sap_meaning.specs.Fine.{FineProgram}
+use Rattle.sap_meaning.specs.Sites.{program_sites, Sublist}
+use Rattle.sap_meaning.proofs.Bools.{same_number}
+use Rattle.sap_resolve.specs.Worlds.{world_of}
+use Rattle.sap_resolve.specs.Resolve.{states_of}
+use Rattle.sap_resolve.specs.Fill.{program_of}
+use Rattle.sap_secure.specs.Once.Steps.{cycle_steps}
+use Rattle.sap_secure.specs.CheckSites.Numbering.{numbers_from}
+use Rattle.sap_secure.specs.CheckSites.Once.{sites_met, comes_to}
+use Rattle.sap_secure.proofs.check_sites.Sublists.{occurs, hit, hit_other, occurs-cons, fewer, at_most_once}
+use Rattle.sap_secure.proofs.check_sites.Marks.{group_marks, group_filled, group_marked}
+use Rattle.sap_secure.proofs.check_sites.Reached.{sites_from}
+use Rattle.sap_secure.proofs.check_sites.Designs.{sites_agree_law}
+
+marks_are : (ls : Levels) (d : DesignTree) → WellFormed ls d → group_marks (program_of ls d).states ≡ program_sites (program_of ls d)
+marks_are ls d formed =
+    let agree = sites_agree_law ls d formed in
+    group_filled (world_of ls d) (root (world_of ls d)) (states_of ls d)
+    ∙ group_marked ls (entities_of d) 1 (length d.declarations) (omega arith) d.states
+    ∙ ap (λ (n : ℕ). numbers_from 1 n) agree.count ∙ sym agree.numbers
+
+pub in_turn : (ls : Levels) (d : DesignTree) → FineProgram (program_of ls d) → WellFormed ls d → (inputs : List Tagged) (s : Store)
+    → Sublist (sites_met (cycle_steps (program_of ls d) inputs s)) (program_sites (program_of ls d))
+in_turn ls d fine formed inputs s =
+    subst (λ (ys : List ℕ). Sublist (sites_met (cycle_steps (program_of ls d) inputs s)) ys) (marks_are ls d formed)
+    (sites_from (program_of ls d) fine inputs s)
+
+comes-cons : (k : ℕ) (j : Step) (js : List Step) → comes_to k (j ∷ js) ≡ hit k (site_of j) + comes_to k js
+comes-cons k j js = sum_by-cons (λ s. cond (nat_eq (site_of s) k) 1 0) j js
+
+own_once : (k n : ℕ) (ns : List ℕ) → 1 ≤ k → occurs k ((if nat_eq n 0 then [] else n ∷ []) ++ ns) ≡ hit k n + occurs k ns
+own_once k n ns p = decided (nat_eq n 0) refl where
+  decided : (b : Bool) → nat_eq n 0 ≡ b → occurs k ((if b then [] else n ∷ []) ++ ns) ≡ hit k n + occurs k ns
+  decided true t =
+      let e : n ≡ 0 = same_number n 0 t in
+      let z : hit k n ≡ 0 = hit_other k n (λ i. omega arith) in
+      omega arith
+  decided false f = occurs-cons k n ns
+
+-- to come to a site is to meet its number
+met_is : (k : ℕ) → 1 ≤ k → (js : List Step) → comes_to k js ≡ occurs k (sites_met js)
+met_is k p [] = refl
+met_is k p (j ∷ js) =
+    comes-cons k j js ∙ ap (λ (n : ℕ). hit k (site_of j) + n) (met_is k p js) ∙ sym (own_once k (site_of j) (sites_met js) p)
+
+pub once : (ls : Levels) (d : DesignTree) → FineProgram (program_of ls d) → WellFormed ls d → (inputs : List Tagged) (s : Store) → (k : ℕ) → 1 ≤ k
+    → comes_to k (cycle_steps (program_of ls d) inputs s) ≤ 1
+once ls d fine formed inputs s k p =
+    let js = cycle_steps (program_of ls d) inputs s in
+    let a : comes_to k (cycle_steps (program_of ls d) inputs s) ≡ occurs k (sites_met (cycle_steps (program_of ls d) inputs s)) = met_is k p js in
+    let b : occurs k (sites_met (cycle_steps (program_of ls d) inputs s)) ≤ occurs k (numbers_from 1 (length (sites_of d))) =
+    fewer k (sites_met js) (numbers_from 1 (length (sites_of d)))
+    (subst (λ (ys : List ℕ). Sublist (sites_met (cycle_steps (program_of ls d) inputs s)) ys) (sites_agree_law ls d formed).numbers (in_turn ls d fine formed inputs s)) in
+    let c : occurs k (numbers_from 1 (length (sites_of d))) ≤ 1 = at_most_once k 1 (length (sites_of d)) in
+    omega arith

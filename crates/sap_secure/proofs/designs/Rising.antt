@@ -1,0 +1,12 @@
+-- Refusals rise in each cycle of a run.
+use Rattle.std.proofs.Common.{List, [], ◌∷◌}
+use Rattle.sap_meaning.specs.Program.{Program}
+use Rattle.sap_meaning.specs.Store.{Store}
+use Rattle.sap_meaning.specs.Cycle.{Tagged, cycle, run_from}
+use Rattle.sap_meaning.specs.Sites.{RisesFrom, refused_sites}
+use Rattle.sap_secure.specs.Designs.Designs.{EachRises}
+
+pub each_rises : (p : Program) → ((inputs : List Tagged) (s : Store) → RisesFrom 1 (refused_sites (cycle p inputs s).refused))
+    → (s : Store) (stream : List (List Tagged)) → EachRises (run_from p s stream)
+each_rises p rises s [] = tt
+each_rises p rises s (inputs ∷ rest) = (rises inputs s, each_rises p rises (cycle p inputs s).store rest)

@@ -1,0 +1,25 @@
+//! One numbering of check sites: the sites of a design's program are the design's, and a cycle comes to each at most once.
+//!
+//! Each law stands on an empty function, whose clauses a caller in another crate has by calling it.
+
+pub mod examples;
+
+ghost use Rattle.sap_secure.specs.CheckSites.Numbering.{SitesAgree};
+ghost use Rattle.sap_secure.specs.CheckSites.Once.{EachSiteOnce, SitesInTurn};
+
+use sap_resolve::premises::well_formed_serves;
+
+/// The check sites of a well-formed design's program have the numbers from 1 on, in the order of their first tokens; and
+/// each is the command that has this number in the design: it does the same, to the same entity.
+pub fn sites_agree()
+    ensures { SitesAgree }
+{}
+
+/// A cycle of a well-formed design comes to its check sites in the order of the text, to each at most once, whether it is
+/// refused or not.
+pub fn each_site_once()
+    ensures turn { SitesInTurn }
+    ensures once { EachSiteOnce }
+{
+    well_formed_serves()
+}

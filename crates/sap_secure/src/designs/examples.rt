@@ -1,0 +1,15 @@
+//! A small design, and that the premises of the laws can be met.
+
+ghost use Rattle.sap_secure.specs.Designs.Examples.{Lawful, Formed, Meets};
+
+use sap_resolve::premises::well_formed_serves;
+
+/// A design with nested states of both kinds, handlers and a memory is well formed, and so has all that the laws ask for.
+pub fn premises_are_met()
+    ensures lawful { Lawful }
+    ensures formed { Formed }
+    ensures meets { Meets }
+{
+    sap_resolve::sized::examples::premises_are_met();
+    well_formed_serves()
+}

@@ -1,8 +1,0 @@
-use Rattle.sap_sites.proofs.InTurn.{in_turn, once}
-use Rattle.sap_sites.proofs.each_site_once.Goals as goal
-
-pub returns : goal.returns
-returns c = record {
-  turn = λ ls d laws formed. in_turn ls d (c.well_formed_serves.ensures.fine ls d laws formed) formed;
-  once = λ ls d laws formed. once ls d (c.well_formed_serves.ensures.fine ls d laws formed) formed;
-}

@@ -1,7 +1,0 @@
-use Rattle.std.proofs.Common.{refl}
-use Rattle.sap_lattice.specs.Levels.{order_of, order_by}
-use Rattle.sap_sites.proofs.examples.worked_numbers.Goals as goal
-
-pub returns : goal.returns
-unfolding order_of order_by
-returns c = refl
