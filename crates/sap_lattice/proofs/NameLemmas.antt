@@ -1,5 +1,5 @@
 -- Names by their places.
-use Rattle.std.proofs.Common.{◌≡◌, ℕ, ◌<◌, Bool, true, false, not, ◌||◌, ltb, IsTrue, Option, Some, None, List, [], length, get_or, take, sym, ◌∙◌, inl, inr, ◌⊎◌, arith}
+use Rattle.std.proofs.Common.{◌≡◌, ℕ, ◌<◌, Bool, true, false, not, ◌||◌, ltb, IsTrue, Option, Some, None, List, [], length, get_or, take, refl, sym, ap, ◌∙◌, inl, inr, ◌⊎◌, arith}
 use Rattle.std.specs.Prelude.{MatchOption, position, is_some}
 use Rattle.std.specs.List.{position_or_len}
 use Rattle.std.specs.Str.{bytes_eq}
@@ -44,6 +44,14 @@ names_apart names kept x y a b e =
             | inr more ↦ absurd (kept.named x (a, repeated y more (sym e)))
           ]
     ]
+
+-- where a name stands, a search finds it
+pub found_at : (names : List (List ℕ)) → KeepsNames names → (name : List ℕ) (x : ℕ) → x < length names → name_at names x ≡ name → Some x ≡ position (λ n. bytes_eq n name) names
+found_at names kept name x low same =
+    let r : Option ℕ = position (λ n. bytes_eq n name) names in by_search r (place_cases names name r refl) where
+      by_search : (r : Option ℕ) → MatchOption r ((k : ℕ) → k < length names → name_at names k ≡ name → ⊥) (λ k. (k < length names) × (name_at names k ≡ name)) → Some x ≡ r
+      by_search (Some y) found = ap Some (names_apart names kept x y low found.0 (same ∙ sym found.1))
+      by_search None none = absurd (none x low same)
 
 -- whether a search among the names before k finds the name at k
 pub stands_cases : (names : List (List ℕ)) (k : ℕ) (name : List ℕ) (r : Option ℕ) (found : Bool) → k < length names → name ≡ name_at names k → r ≡ position (λ n. bytes_eq n name) (take k names) → found ≡ is_some r → (IsTrue found → (j : ℕ) × (j < k) × (name_at names j ≡ name_at names k)) × ((j : ℕ) × (j < k) × (name_at names j ≡ name_at names k) → IsTrue found)

@@ -1,6 +1,7 @@
 // Lattices.
 
-ghost use Rattle.std.specs.Prelude.{◌≡◌, ◌≢◌, ◌<◌, ◌≤◌, ◌==◌, ℕ, IfOk, MatchOption, length, position, slice_index_or, [], nat_lt, if◌then◌else◌, map, bit_or};
+ghost use Rattle.std.specs.Prelude.{◌≡◌, ◌≢◌, ◌<◌, ◌≤◌, ◌==◌, ℕ, IfOk, IfSome, MatchOption, length, position, slice_index_or, [], nat_lt, if◌then◌else◌, map, bit_or};
+ghost use Rattle.std.specs.Str.{bytes_eq};
 ghost use Rattle.sap_lattice.specs.Codes.{Codes, code_of, width_of, is_in_code, number_of};
 ghost use Rattle.sap_lattice.specs.Finite.{HasJoins};
 ghost use Rattle.sap_lattice.specs.Lawful.{IsAntisymmetric, IsNarrow};
@@ -10,6 +11,7 @@ ghost use Rattle.sap_lattice.specs.Rows.{le_in, order_in};
 ghost use Rattle.sap_lattice.specs.Rules.{KeepsNames};
 
 use crate::codes::{codes_of, meet_irreducibles};
+use crate::guesses::Guesses;
 use crate::level::Level;
 use crate::name::Name;
 use crate::order::greatest;
@@ -28,6 +30,8 @@ pub struct Lattice {
     width: u32,
     bottom: Level,
     top: Level,
+    by_name: Guesses,
+    by_code: Guesses,
 }
 
 impl Model for Lattice {
@@ -61,12 +65,16 @@ impl Lattice {
         let irreducibles = meet_irreducibles(alloc, order, top)?;
         let codes = codes_of(alloc, order, irreducibles.as_slice())?;
         let names = copy_names(alloc, names)?;
+        let by_name = Guesses::of_names(names.as_slice());
+        let by_code = Guesses::of_codes(codes.as_slice());
         Ok(Lattice {
             names,
             codes,
             width: irreducibles.len() as u32,
             bottom: Level::new(bottom as u8),
             top: Level::new(top as u8),
+            by_name,
+            by_code,
         })
     }
 
@@ -148,13 +156,36 @@ impl Lattice {
         self.code(x) | upper == upper
     }
 
-    /// The level that has this code.
-    pub fn level_of_code(&self, code: u64) -> Option<Level>
+    /// The level that a guess gives, where it has this code.
+    fn guess_code(&self, code: u64) -> Option<Level>
+        ensures { let o = order_of self.now in IfSome result (λ x. (x < o.count) × (code_of o x ≡ code)) }
+    {
+        let level = Level::new(self.by_code.of_code(code));
+        if u32::from(level.place()) < self.count() && self.code(level) == code {
+            Some(level)
+        } else {
+            None
+        }
+    }
+
+    /// The level that has this code, looked for among all.
+    fn search_code(&self, code: u64) -> Option<Level>
         ensures { let o = order_of self.now in
             MatchOption result ((x : ℕ) → x < o.count → code_of o x ≢ code) (λ x. (x < o.count) × (code_of o x ≡ code)) }
     {
         let place = place_of_code(self.codes.as_slice(), code)?;
         Some(Level::new(place as u8))
+    }
+
+    /// The level that has this code.
+    pub fn level_of_code(&self, code: u64) -> Option<Level>
+        ensures { let o = order_of self.now in
+            MatchOption result ((x : ℕ) → x < o.count → code_of o x ≢ code) (λ x. (x < o.count) × (code_of o x ≡ code)) }
+    {
+        match self.guess_code(code) {
+            Some(level) => Some(level),
+            None => self.search_code(code),
+        }
     }
 
     /// The least upper bound.
@@ -165,6 +196,38 @@ impl Lattice {
         self.level_of_code(self.code(x) | self.code(y)).unwrap()
     }
 
+    /// The level that a guess gives, where these bytes are its name.
+    fn guess_name(&self, name: &[u8]) -> Option<Level>
+        ensures { let names = self.now.names in IfSome result (λ x. (x < length names) × (slice_index_or names x [] ≡ name.now)) }
+    {
+        let level = Level::new(self.by_name.of_name(name));
+        if u32::from(level.place()) < self.count() && self.name(level).as_bytes() == name {
+            Some(level)
+        } else {
+            None
+        }
+    }
+
+    /// The level whose name these bytes are, looked for among all.
+    fn search_name(&self, name: &[u8]) -> Option<Level>
+        ensures { result ≡ position (λ n. bytes_eq n name.now) self.now.names }
+    {
+        self.lawful();
+        let place = place_of(self.names.as_slice(), name)?;
+        Some(Level::new(place as u8))
+    }
+
+    /// The level whose name these bytes are.
+    pub fn level_named(&self, name: &[u8]) -> Option<Level>
+        ensures { result ≡ position (λ n. bytes_eq n name.now) self.now.names }
+    {
+        self.lawful();
+        match self.guess_name(name) {
+            Some(level) => Some(level),
+            None => self.search_name(name),
+        }
+    }
+
     /// The level that has this name.
     pub fn find(&self, name: &str) -> Option<Level>
         ensures { let names = self.now.names in
@@ -172,8 +235,7 @@ impl Lattice {
             ((x : ℕ) → x < length names → slice_index_or names x [] ≢ name.now)
             (λ x. (x < length names) × (slice_index_or names x [] ≡ name.now)) }
     {
-        let place = place_of(self.names.as_slice(), name.as_bytes())?;
-        Some(Level::new(place as u8))
+        self.level_named(name.as_bytes())
     }
 
     /// A second lattice of the same levels.
@@ -188,6 +250,8 @@ impl Lattice {
             width: self.width,
             bottom: self.bottom,
             top: self.top,
+            by_name: self.by_name,
+            by_code: self.by_code,
         })
     }
 }

@@ -9,6 +9,7 @@
 mod build;
 mod codes;
 pub mod fault;
+mod guesses;
 pub mod lattice;
 pub mod level;
 pub mod name;

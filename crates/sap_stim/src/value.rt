@@ -62,13 +62,7 @@ fn read_value(text: &[u8], width: u32) -> Result<u64, StimCode>
 fn find_level(lattice: &Lattice, name: &[u8]) -> Option<Level>
     ensures { result ≡ level_named lattice.now.names name.now }
 {
-    for place in 0..u64::from(lattice.count()) {
-        let level = lattice.level_at(place);
-        if lattice.name(level).as_bytes() == name {
-            return Some(level);
-        }
-    }
-    None
+    lattice.level_named(name)
 }
 
 fn read_tagged(text: &[u8], width: u32, lattice: &Lattice) -> Result<Tagged, StimCode>

@@ -4,8 +4,8 @@ use Rattle.sap_lattice.specs.Codes.{code_of}
 use Rattle.sap_lattice.specs.Levels.{Levels, order_of}
 use Rattle.sap_lattice.specs.Kept.{levels_of}
 use Rattle.sap_lattice.proofs.KeptLemmas.{code_cases, few, order_of-count}
-use Rattle.sap_lattice.proofs.lattice.Lattice.level_of_code.Goals as goal
-use Rattle.sap_lattice.proofs.lattice.Lattice.level_of_code.Goals.{After-place_of_code}
+use Rattle.sap_lattice.proofs.lattice.Lattice.search_code.Goals as goal
+use Rattle.sap_lattice.proofs.lattice.Lattice.search_code.Goals.{After-place_of_code}
 
 -- what the search says of the lattice
 Says : Levels → ℕ → Option ℕ → Type 0
