@@ -3,9 +3,10 @@
 ghost use Rattle.std.specs.Prelude.{◌≢◌, IfErr, IfOk, IsErr, IsOkUnless};
 ghost use Rattle.sap_compile.specs.Compiles.{IsModuleFor};
 ghost use Rattle.sap_compile.specs.Faults.{IsCompileFault};
-ghost use Rattle.sap_compile.specs.Parts.{design_of, levels_of, module_of, netlist_of};
+ghost use Rattle.sap_compile.specs.Parts.{design_of, hang_of, levels_of, module_of, netlist_of};
 ghost use Rattle.sap_compile.specs.declared.fault.CompileFault.TheVariants.{Memory};
 ghost use Rattle.sap_compile.specs.declared.fault.CompileFault.{CompileFault as Fault};
+ghost use Rattle.sap_hang.specs.Hang.{IsHangTable};
 ghost use Rattle.sap_latfile.specs.LatticeFile.{IsLatticeOfFile};
 ghost use Rattle.sap_lattice.specs.Levels.{Levels};
 ghost use Rattle.sap_parse.specs.Text.{IsText};
@@ -22,6 +23,7 @@ use std::alloc::Global;
 pub fn compile(alloc: Global, lattice: &[u8], design: &[u8]) -> Result<Compiled, CompileFault>
     ensures lattice { IfOk result (λ c. IsLatticeOfFile lattice.now (levels_of c)) }
     ensures design { IfOk result (λ c. IsText design.now (design_of c)) }
+    ensures hang { IfOk result (λ c. IsHangTable (design_of c) (hang_of c)) }
     ensures compiled { IfOk result (λ c. IsModuleFor (levels_of c) (design_of c) (netlist_of c) (module_of c)) }
     ensures refused { IfErr result (λ fault. fault ≢ Memory → IsCompileFault lattice.now design.now fault) }
     ensures exact { (fault : Fault) → IsCompileFault lattice.now design.now fault → IsErr result }

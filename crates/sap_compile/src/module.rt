@@ -4,8 +4,9 @@ ghost use Rattle.std.specs.Prelude.{◌≡◌, IfOk};
 ghost use Rattle.sap_check.specs.Checked.{levels_in, tree_in};
 ghost use Rattle.sap_compile.specs.Agree.{RunsAgree, RunsLookAlike};
 ghost use Rattle.sap_compile.specs.Compiles.{IsModuleFor};
-ghost use Rattle.sap_compile.specs.Parts.{checked_of, module_of, netlist_of};
+ghost use Rattle.sap_compile.specs.Parts.{checked_of, hang_of, module_of, netlist_of};
 ghost use Rattle.sap_compile.specs.Runs.{HasOneRunOnStreams};
+ghost use Rattle.sap_hang.specs.Hang.{IsHangTable};
 ghost use Rattle.sap_interface.specs.Designs.{StandsForDesign};
 
 use crate::compiled::Compiled;
@@ -38,6 +39,7 @@ fn runs(checked: &Checked, netlist: &Netlist)
 /// Compiles a checked design.
 pub(crate) fn module(alloc: Global, checked: Checked) -> Result<Compiled, AllocError>
     ensures same { IfOk result (λ c. checked_of c ≡ checked) }
+    ensures hang { IfOk result (λ c. IsHangTable (tree_in checked) (hang_of c)) }
     ensures compiled { IfOk result (λ c. IsModuleFor (levels_in checked) (tree_in checked) (netlist_of c) (module_of c)) }
 {
     checked.lawful();

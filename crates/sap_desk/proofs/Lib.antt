@@ -10,3 +10,4 @@ pub mod Added
 pub mod Told
 pub mod Shown
 pub mod Written
+pub mod Gaining

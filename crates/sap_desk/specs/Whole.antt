@@ -109,6 +109,16 @@ pub record CutLine (line : List ℕ) (before after : Option Told) : Type 0 where
   pub within : count ≤ length line
   pub told : after ≡ option_map (added 2 (take count line)) before
 
+-- channel 2 gained a line; or a call on it failed, one alone, and it gained a part of the line, from its first byte on
+abbrev pub Gained : (line : List ℕ) → (lost lost_now : ℕ) → Told → Told → Type 0
+Gained line lost lost_now t n =
+    ((lost_now ≡ lost) × (n.written 2 ≡ t.written 2 ++ line))
+    ⊎ ((lost_now ≡ counted lost) × ((count : ℕ) × (count ≤ length line) × (n.written 2 ≡ t.written 2 ++ take count line)))
+
+-- a count after a call in which at most one call on channel 2 fails
+abbrev pub LostAtMostOne : (lost lost_now : ℕ) → Type 0
+LostAtMostOne lost lost_now = (lost_now ≡ lost) ⊎ (lost_now ≡ counted lost)
+
 -- the parts one after another
 abbrev pub joined : List (Bor (List ℕ)) → List ℕ
 joined parts = flat_map (λ part. part.now) parts

@@ -1,5 +1,5 @@
 -- What may be asked of the program beside its commands.
-use Rattle.std.specs.Prelude.{◌≡◌, ◌≤◌, ◌⊎◌, ℕ, Bool, false, not, List, [], ◌∷◌, ◌++◌, take, length, bytes_eq, codes, Option, Some, None, option_map, if◌then◌else◌}
+use Rattle.std.specs.Prelude.{◌≡◌, ◌≤◌, ◌⊎◌, ℕ, Bool, false, not, List, [], ◌∷◌, ◌++◌, take, length, bytes_eq, codes, Option, Some, None, option_map, if◌then◌else◌, nat_eq}
 use Rattle.sap_desk.specs.Desk.{Told, added}
 use Rattle.sap_help.specs.Codes.{is_code, IsTextOf}
 use Rattle.sap_help.specs.declared.asking.Question.{Question}
@@ -44,6 +44,13 @@ pub record IsAnswered (asked : Asked) (before after : Option Told) : Type 0 wher
 -- the status of an answer: done; no code; a write on channel 1 failed; want of memory
 abbrev pub IsStatus : ℕ → Type 0
 IsStatus status = (status ≡ 0) ⊎ ((status ≡ 2) ⊎ ((status ≡ 6) ⊎ (status ≡ 7)))
+
+-- what an answer with a status writes on channel 2: nothing where it is done, and else one line
+abbrev pub line_at : (status : ℕ) → List ℕ
+line_at status =
+    if nat_eq status 2 then codes "words\n"
+    else (if nat_eq status 6 then codes "desk: output\n"
+    else (if nat_eq status 7 then codes "memory\n" else []))
 
 -- files and channel 1 are as before
 pub record Untouched (t n : Told) : Type 0 where

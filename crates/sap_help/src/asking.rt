@@ -1,11 +1,11 @@
 //! What may be asked of the program beside its commands.
 
-ghost use Rattle.std.specs.Prelude.{◌≡◌, ◌≢◌, ◌⊎◌, [], ◌∷◌, IfSome, Some, None, true, is_some, map, string_bytes, option_map, false};
+ghost use Rattle.std.specs.Prelude.{◌≡◌, ◌≢◌, ◌⊎◌, [], ◌∷◌, ◌++◌, IfSome, Some, None, true, is_some, map, string_bytes, option_map, false};
 ghost use Rattle.std.specs.Option.{option_map_or};
 ghost use Rattle.sap_desk.specs.Cause.{counted};
 ghost use Rattle.sap_desk.specs.Desk.{added};
-ghost use Rattle.sap_desk.specs.Whole.{Between};
-ghost use Rattle.sap_help.specs.Questions.{Asked, IsAnswer, IsAnswered, IsCutOff, IsStatus, Untouched, asked_by, asked_of, is_unknown};
+ghost use Rattle.sap_desk.specs.Whole.{Between, Gained, LostAtMostOne};
+ghost use Rattle.sap_help.specs.Questions.{Asked, IsAnswer, IsAnswered, IsCutOff, IsStatus, Untouched, asked_by, asked_of, is_unknown, line_at};
 
 use crate::explaining::explain;
 use crate::page::{VERSION, help};
@@ -52,16 +52,16 @@ fn question_of<'a>(words: &'a [String]) -> Option<Question<'a>>
     }
 }
 
-// Writes a line on channel 2, and answers the status.
+// Writes a line on channel 2.
 #[tactic(auto, using(crate::proofs::Channels::quiet_line))]
-fn tell<D: Desk>(desk: &mut D, line: &[u8], status: u8) -> u8
-    ensures status { result ≡ status }
+fn tell<D: Desk>(desk: &mut D, line: &[u8])
     ensures quiet { Between (D.told desk.old) (D.told desk.new) Untouched }
+    ensures line { Between (D.told desk.old) (D.told desk.new) (Gained (line.now ++ 10 ∷ []) (D.lost desk.old) (D.lost desk.new)) }
+    ensures lost { LostAtMostOne (D.lost desk.old) (D.lost desk.new) }
     ensures faults { D.faults desk.new ≡ D.faults desk.old }
     ensures sure { D.sure desk.old → D.sure desk.new }
 {
     let _ = write_line(desk, &[line]);
-    status
 }
 
 // Writes a text on channel 1.
@@ -71,13 +71,18 @@ fn put<D: Desk>(desk: &mut D, text: &str) -> u8
     ensures not_refused { result ≢ 2 }
     ensures status { (result ≡ 0) ⊎ (result ≡ 6) }
     ensures cut { result ≡ 6 → (asked : Asked) → IsAnswer asked text.now → Between (D.told desk.old) (D.told desk.new) (IsCutOff asked) }
+    ensures line { Between (D.told desk.old) (D.told desk.new) (Gained (line_at result) (D.lost desk.old) (D.lost desk.new)) }
+    ensures lost { LostAtMostOne (D.lost desk.old) (D.lost desk.new) }
     ensures failed { result ≡ 6 → D.faults desk.new ≡ counted (D.faults desk.old) }
     ensures counted { result ≢ 6 → D.faults desk.new ≡ D.faults desk.old }
     ensures sure { D.sure desk.old → D.sure desk.new }
 {
     match write_output(desk, text.as_bytes()) {
         Ok(()) => 0,
-        Err(_) => tell(desk, b"desk: output", 6),
+        Err(_) => {
+            tell(desk, b"desk: output");
+            6
+        }
     }
 }
 
@@ -88,6 +93,8 @@ fn reply<D: Desk>(alloc: Global, desk: &mut D, question: Question<'_>) -> u8
     ensures status { IsStatus result }
     ensures cut { result ≡ 6 → Between (D.told desk.old) (D.told desk.new) (IsCutOff (asked_of question.entry)) }
     ensures quiet { result ≢ 0 → result ≢ 6 → Between (D.told desk.old) (D.told desk.new) Untouched }
+    ensures line { Between (D.told desk.old) (D.told desk.new) (Gained (line_at result) (D.lost desk.old) (D.lost desk.new)) }
+    ensures lost { LostAtMostOne (D.lost desk.old) (D.lost desk.new) }
     ensures failed { result ≡ 6 → D.faults desk.new ≡ counted (D.faults desk.old) }
     ensures counted { result ≢ 6 → D.faults desk.new ≡ D.faults desk.old }
     ensures sure { D.sure desk.old → D.sure desk.new }
@@ -95,12 +102,18 @@ fn reply<D: Desk>(alloc: Global, desk: &mut D, question: Question<'_>) -> u8
     match question {
         Question::Help => match help(alloc) {
             Ok(text) => put(desk, text.as_str()),
-            Err(_) => tell(desk, b"memory", 7),
+            Err(_) => {
+                tell(desk, b"memory");
+                7
+            }
         },
         Question::Version => put(desk, VERSION),
         Question::Explanation(code) => match explain(code) {
             Some(text) => put(desk, text),
-            None => tell(desk, b"words", 2),
+            None => {
+                tell(desk, b"words");
+                2
+            }
         },
     }
 }
@@ -115,6 +128,9 @@ pub fn answer<D: Desk>(alloc: Global, desk: &mut D, words: &[String]) -> Option<
     ensures status { IfSome result IsStatus }
     ensures cut { result ≡ Some 6 → IfSome (asked_by (map string_bytes words.now)) (λ asked. Between (D.told desk.old) (D.told desk.new) (IsCutOff asked)) }
     ensures quiet { result ≢ Some 0 → result ≢ Some 6 → Between (D.told desk.old) (D.told desk.new) Untouched }
+    // On channel 2 stands exactly the line of the status, or a part of it where a call on it failed, and no call on it is made after that.
+    ensures line { IfSome result (λ status. Between (D.told desk.old) (D.told desk.new) (Gained (line_at status) (D.lost desk.old) (D.lost desk.new))) }
+    ensures lost { LostAtMostOne (D.lost desk.old) (D.lost desk.new) }
     ensures failed { result ≡ Some 6 → D.faults desk.new ≡ counted (D.faults desk.old) }
     ensures counted { result ≢ Some 6 → D.faults desk.new ≡ D.faults desk.old }
     ensures sure { D.sure desk.old → D.sure desk.new }

@@ -1,10 +1,10 @@
 -- From the end of a command and its line to the answer of the call.
-use Rattle.std.proofs.Common.{◌≡◌, ◌≢◌, ◌≤◌, ℕ, List, [], ◌++◌, length, refl, sym, ◌∙◌, ap, subst, inl, inr, ◌⊎◌, arith}
+use Rattle.std.proofs.Common.{◌≡◌, ◌≢◌, ◌≤◌, ℕ, List, [], ◌++◌, length, take, refl, sym, ◌∙◌, ap, subst, inl, inr, ◌⊎◌, arith}
 use Rattle.std.specs.Prelude.{◌↔◌, Option, Some, None, IfSome, unwrap_or, Result}
 use Rattle.std.proofs.lemmas.List.{append-nil}
 use Rattle.sap_desk.specs.Desk.{Told, Use}
-use Rattle.sap_desk.specs.Cause.{Rose, counted}
-use Rattle.sap_desk.specs.Whole.{Between}
+use Rattle.sap_desk.specs.Cause.{counted}
+use Rattle.sap_desk.specs.Whole.{Between, Gained, LostAtMostOne}
 use Rattle.sap_stim.specs.declared.fault.StimFault.{StimFault}
 use Rattle.sap_words.specs.Words.{Words, IsTwin, command_of}
 use Rattle.sap_commands.specs.Ending.{Ending, Refusal, done, refused, failed, no_memory, no_command, lattice_refused, design_refused, stimulus_refused, module_refused, level_refused, lengths_apart, inputs_apart, status_of, status_of_refusal, line_of, IsFree}
@@ -14,7 +14,7 @@ use Rattle.sap_commands.specs.After.{Blames, Opens}
 use Rattle.sap_commands.specs.Outside.{FullFile, FullOutput, OutsideOf}
 use Rattle.sap_commands.specs.Steps.{Counted, Ends, FaultRose, Left, Moment, Same, ending_of}
 use Rattle.sap_commands.specs.declared.failure.Failure.{Failure}
-use Rattle.sapper.specs.Answers.{Answers, Gained, MayAnswer}
+use Rattle.sapper.specs.Answers.{Answers, MayAnswer}
 use Rattle.sapper.specs.Exact.{Exact}
 use Rattle.sapper.specs.Outside.{FullLines, Outside}
 use Rattle.sapper.specs.Lines.{Reports, TakesMemory, Tells, ToldLine}
@@ -43,7 +43,7 @@ free_status no_memory free = inr refl
 
 silent_line : (t : Told) (lost : ℕ) (F : Type 0) → (F → ⊥) → ToldLine [] lost lost F t t
 silent_line t lost F never = record {
-  gained = inl (sym (append-nil (t.written 2)));
+  gained = inl (refl, sym (append-nil (t.written 2)));
   files = refl;
   blame = refl;
   output = refl;
@@ -60,6 +60,7 @@ pub silent : (m : Moment) → Tells [] m m
 silent m = record {
   told = silent_between m.lost ((m.lost ≢ m.lost) × m.sure) m.told (λ (changed, sure). changed refl);
   faults = refl;
+  lost = inl refl;
   sure = λ s. s;
 }
 
@@ -137,8 +138,8 @@ two_words words answer m two = two_if (command_of words) m.ending m.may (sym m.s
 
 gained_from : (text : List ℕ) (mid lost now : ℕ) (t m n : Told) → m.written 2 ≡ t.written 2 → mid ≡ lost → Gained text mid now m n → Gained text lost now t n
 gained_from text mid lost now t m n same is g = elim g [
-  | inl whole ↦ inl (whole ∙ ap (λ (l : List ℕ). l ++ text) same)
-  | inr cut ↦ inr (subst (λ (k : ℕ). Rose k now) is cut.0, (cut.1.0, cut.1.1, cut.1.2 ∙ ap (λ (l : List ℕ). l ++ cut.1.0) same))
+  | inl whole ↦ inl (whole.0 ∙ is, whole.1 ∙ ap (λ (l : List ℕ). l ++ text) same)
+  | inr cut ↦ inr (cut.0 ∙ ap counted is, (cut.1.0, cut.1.1, cut.1.2 ∙ ap (λ (l : List ℕ). l ++ take cut.1.0 text) same))
 ]
 
 -- where a fault comes from
@@ -213,6 +214,10 @@ module _ (words : List (List ℕ)) (e : Ending) where
   full_between F G mid now (Some t) None new rose o w = absurd o
   full_between F G mid now (Some t) (Some m) None rose o w = absurd w
   full_between F G mid now (Some t) (Some m) (Some n) rose o w = full_told F G mid now t m n rose o w
+
+  -- the count of failed calls on channel 2
+  pub lost_once : (a b c : Moment) → Ends (asks_for words) e a b → Tells (line_of e) b c → LostAtMostOne a.lost c.lost
+  lost_once a b c ended tells = subst (λ (k : ℕ). LostAtMostOne k c.lost) ended.lost tells.lost
 
   pub full_lines : (a b c : Moment) → Ends (asks_for words) e a b → Tells (line_of e) b c → (c.lost ≢ a.lost) → a.sure → Between a.told c.told FullLines
   full_lines a b c ended tells changed sure =

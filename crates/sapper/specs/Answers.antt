@@ -1,16 +1,11 @@
 -- What a whole call answers, and what stands after it.
 use Rattle.std.specs.Prelude.{◌≡◌, ◌⊎◌, ℕ, List, ◌++◌}
 use Rattle.sap_desk.specs.Desk.{Told}
-use Rattle.sap_desk.specs.Cause.{Rose}
+use Rattle.sap_desk.specs.Whole.{Gained}
 use Rattle.sap_commands.specs.Ending.{Ending, status_of, line_of, IsFree}
-use Rattle.sap_commands.specs.Asks.{Cause, IsPrefix, Leaves, MayEnd, Output}
+use Rattle.sap_commands.specs.Asks.{Cause, Leaves, MayEnd, Output}
 use Rattle.sap_commands.specs.Commands.{asks_for}
 use Rattle.sap_commands.specs.After.{Blames, Opens}
-
--- channel 2 gained a line, or a prefix of it where a call on it failed
-abbrev pub Gained : (line : List ℕ) → (lost lost_now : ℕ) → Told → Told → Type 0
-Gained line lost lost_now t n =
-    (n.written 2 ≡ t.written 2 ++ line) ⊎ (Rose lost lost_now × ((part : List ℕ) × IsPrefix part line × (n.written 2 ≡ t.written 2 ++ part)))
 
 -- some ending, with its status and its line, and what it leaves
 pub record Answers (words : List (List ℕ)) (lost lost_now answer : ℕ) (t n : Told) : Type 0 where

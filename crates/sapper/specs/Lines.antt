@@ -1,10 +1,9 @@
 -- How the line of a call is told: the words of contracts within the crate.
 use Rattle.std.specs.Prelude.{◌≡◌, ◌≢◌, ◌⊎◌, ℕ, List}
 use Rattle.sap_desk.specs.Desk.{Told}
-use Rattle.sap_desk.specs.Whole.{Between}
+use Rattle.sap_desk.specs.Whole.{Between, Gained, LostAtMostOne}
 use Rattle.sap_commands.specs.Ending.{Ending, Refusal as Reason, refused, no_memory, no_command, lattice_refused, design_refused, stimulus_refused, module_refused, level_refused, lengths_apart, inputs_apart, status_of, line_of}
 use Rattle.sap_commands.specs.Steps.{Moment}
-use Rattle.sapper.specs.Answers.{Gained}
 use Rattle.sapper.specs.Outside.{FullLines}
 
 -- channel 2 has a line more
@@ -20,6 +19,7 @@ pub record ToldLine (line : List ℕ) (lost now : ℕ) (rose : Type 0) (t n : To
 pub record Tells (line : List ℕ) (before after : Moment) : Type 0 where
   pub told : Between before.told after.told (ToldLine line before.lost after.lost ((after.lost ≢ before.lost) × before.sure))
   pub faults : after.faults ≡ before.faults
+  pub lost : LostAtMostOne before.lost after.lost
   pub sure : before.sure → after.sure
 
 -- its line takes memory: each refusal's but that of a stimulus, behind whose lines none is taken

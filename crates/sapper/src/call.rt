@@ -2,7 +2,7 @@
 
 ghost use Rattle.std.specs.Prelude.{◌≡◌, ◌≢◌, ◌⊎◌, ◌++◌, None, map, string_bytes, is_some, IfSome};
 ghost use Rattle.sap_desk.specs.Cause.{counted};
-ghost use Rattle.sap_desk.specs.Whole.{Between};
+ghost use Rattle.sap_desk.specs.Whole.{Between, LostAtMostOne};
 ghost use Rattle.sap_commands.specs.Commands.{asks_for};
 ghost use Rattle.sap_words.specs.Words.{IsTwin, command_of as words_for};
 ghost use Rattle.sapper.specs.Answers.{Answers, MayAnswer};
@@ -119,6 +119,8 @@ pub fn sapper<D: Desk>(alloc: Global, words: &[String], desk: &mut D) -> u8
     ensures refused { words_for (map string_bytes words.now) ≡ None → result ≡ 2 }
     ensures may { MayAnswer (map string_bytes words.now) result }
     ensures words { result ≡ 2 → (words_for (map string_bytes words.now) ≡ None) ⊎ IsTwin (words_for (map string_bytes words.now)) }
+    // Of all calls on channel 2 at most one fails: none is made after it.
+    ensures lost { LostAtMostOne (D.lost desk.old) (D.lost desk.new) }
     ensures sure { D.sure desk.old → D.sure desk.new }
 {
     match ask(alloc, desk, words) {

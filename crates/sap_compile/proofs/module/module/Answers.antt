@@ -1,5 +1,8 @@
-use Rattle.std.proofs.Common.{rules, arith}
+use Rattle.std.proofs.Common.{rules, arith, subst}
 use Rattle.sap_check.specs.Checked.{levels_in, tree_in}
+use Rattle.sap_hang.specs.Hang.{IsHangTable}
+use Rattle.sap_tree.specs.Designs.{design_of}
+use Rattle.sap_tree.specs.declared.design.Design.{Design}
 use Rattle.sap_compile.proofs.module.module.Goals as goal
 
 pub runs-requires : goal.runs-requires
@@ -20,3 +23,6 @@ returns-clause-compiled c =
       read = c.in_ok-netlist.ensures.read;
       small = omega (arith, p, n);
     }
+
+pub returns-clause-hang : goal.returns-clause-hang
+returns-clause-hang c = subst (λ (d : Design). IsHangTable (design_of d) c.in_ok-hang.hang) c.design.ensures c.in_ok-hang.ensures

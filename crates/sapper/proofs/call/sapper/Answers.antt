@@ -1,10 +1,11 @@
-use Rattle.std.proofs.Common.{rules, refl, subst}
+use Rattle.std.proofs.Common.{rules, refl, subst, inl}
 use Rattle.std.specs.Prelude.{map, string_bytes}
+use Rattle.sap_desk.specs.Whole.{LostAtMostOne}
 use Rattle.sap_commands.specs.Ending.{done, no_command, refused, line_of}
 use Rattle.sap_words.specs.Called.{words_of}
 use Rattle.sap_commands.specs.Steps.{ending, seen}
 use Rattle.sapper.specs.Lines.{Tells}
-use Rattle.sapper.proofs.Calls.{answers, exact, full_lines, may_answer, named, no_words, outside, same_end, silent, told_end, two_words}
+use Rattle.sapper.proofs.Calls.{answers, exact, full_lines, lost_once, may_answer, named, no_words, outside, same_end, silent, told_end, two_words}
 use Rattle.sapper.proofs.Headline.{headline_told}
 use Rattle.sap_commands.proofs.CommandLaws.{lawful_words}
 use Rattle.sapper.proofs.call.sapper.Goals as goal
@@ -46,6 +47,19 @@ returns-in-Some-Err-clause-lines g c = λ changed sure.
     let ended = same_end words _ _ _ _ c.in-Some-Err.field-0-is c.in-Some-Err.ensures.asked in
     let told = c.report.ensures in
     full_lines words told.as_told _ _ _ (told_end _ (ending c.in-Some-Err.failure) c.report.result _ _ _ ended told) told.line changed sure
+
+pub returns-in-Some-Ok-clause-lost : goal.returns-in-Some-Ok-clause-lost
+returns-in-Some-Ok-clause-lost g c = inl (same_end (map string_bytes c.args.words.now) _ _ _ _ c.in-Some-Ok.field-0-is c.in-Some-Ok.ensures.asked).lost
+
+pub returns-in-Some-Err-clause-lost : goal.returns-in-Some-Err-clause-lost
+returns-in-Some-Err-clause-lost g c =
+    let words = map string_bytes c.args.words.now in
+    let ended = same_end words _ _ _ _ c.in-Some-Err.field-0-is c.in-Some-Err.ensures.asked in
+    let told = c.report.ensures in
+    lost_once words told.as_told _ _ _ (told_end _ (ending c.in-Some-Err.failure) c.report.result _ _ _ ended told) told.line
+
+pub returns-in-None-clause-lost : goal.returns-in-None-clause-lost
+returns-in-None-clause-lost g c = subst (λ d. LostAtMostOne (g.D.Desk.lost d) (g.D.Desk.lost c.tell.new.desk)) (c.in-None.ensures.nothing refl) c.tell.ensures.lost
 
 pub returns-in-None-clause-answers : goal.returns-in-None-clause-answers
 returns-in-None-clause-answers g c =
