@@ -1,5 +1,6 @@
 -- The points of lists of commands and of states, from a place on.
 use Rattle.std.proofs.Common.{◌≡◌, ℕ, zero, suc, ◌+◌, ◌<◌, ◌≤◌, List, [], ◌∷◌, ◌++◌, length, get_or, drop, refl, sym, ap, ◌∙◌, arith, add-one, append_assoc, Some}
+use Rattle.std.proofs.lemmas.List.{append-nil}
 use Rattle.sap_tree.specs.declared.syntax.Block.{Block}
 use Rattle.sap_tree.specs.declared.syntax.Arm.{Arm}
 use Rattle.sap_tree.specs.declared.syntax.Cmd.{Cmd}
@@ -9,7 +10,6 @@ use Rattle.sap_tree.specs.Parts.{tree_of}
 use Rattle.sap_tree.specs.declared.version.Version.{Version}
 use Rattle.sap_tree.specs.declared.place.Place.{Place}
 use Rattle.sap_tree.specs.Syntax.{Expression, SimpleCommand, Command, If, TryThen, Case, ElseBlock, StateTree}
-use Rattle.std.proofs.lemmas.Grind.{common_steps}
 use Rattle.sap_check.specs.declared.point.PointKind.TheVariants as kind
 use Rattle.sap_tree.specs.Trees.{command_of, block_of, arm_block_of, arms_of, else_of, state_of}
 use Rattle.sap_tree.proofs.Views.{state_of-out}
@@ -103,18 +103,15 @@ pub points_whole : (v : Version) (ds : List Decl) (ss : List State) (old new : L
 unfolding group_points
 points_whole v ds ss old new seen b c h = h ∙ rw (b, c) refl
 
-append_none : (l : List Point) → l ++ [] ≡ l
-append_none l = grind (arith, common_steps)
-
 -- at the end nothing is left
 pub list_end : (cs : List Cmd) (n : ℕ) (new all : List Point) → length cs ≤ n → new ++ list_points (drop n cs) ≡ all → new ≡ all
-list_end cs n new all l h = sym (append_none new) ∙ ap (λ (r : List Point). new ++ r) (sym (list_points-past cs n l)) ∙ h
+list_end cs n new all l h = sym (append-nil new) ∙ ap (λ (r : List Point). new ++ r) (sym (list_points-past cs n l)) ∙ h
 
 pub arms_end : (arms : List Arm) (n : ℕ) (new all : List Point) → length arms ≤ n → new ++ arms_points (drop n arms) ≡ all → new ≡ all
-arms_end arms n new all l h = sym (append_none new) ∙ ap (λ (r : List Point). new ++ r) (sym (arms_points-past arms n l)) ∙ h
+arms_end arms n new all l h = sym (append-nil new) ∙ ap (λ (r : List Point). new ++ r) (sym (arms_points-past arms n l)) ∙ h
 
 pub group_end : (ss : List State) (n : ℕ) (new all : List Point) → length ss ≤ n → new ++ group_points (drop n ss) ≡ all → new ≡ all
-group_end ss n new all l h = sym (append_none new) ∙ ap (λ (r : List Point). new ++ r) (sym (group_points-past ss n l)) ∙ h
+group_end ss n new all l h = sym (append-nil new) ∙ ap (λ (r : List Point). new ++ r) (sym (group_points-past ss n l)) ∙ h
 
 if_whole : (x : Expression) (place : Place) (one : Block) (other : ElseBlock)
     → command_points (If place x (block_of one) other) ≡ (point kind.If place ∷ []) ++ (list_points one.commands.items ++ else_points other)

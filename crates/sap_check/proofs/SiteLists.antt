@@ -1,7 +1,7 @@
 -- The sites of lists of commands and of states, from a place on.
 use Rattle.std.proofs.Common.{◌≡◌, ℕ, zero, suc, ◌+◌, ◌<◌, ◌≤◌, List, [], ◌∷◌, ◌++◌, length, get_or, drop, refl, sym, ap, ◌∙◌, arith, add-one, append_assoc, Some}
 use Rattle.std.specs.Prelude.{map}
-use Rattle.std.proofs.lemmas.List.{map-append}
+use Rattle.std.proofs.lemmas.List.{map-append, append-nil}
 use Rattle.sap_tree.specs.declared.syntax.Block.{Block}
 use Rattle.sap_tree.specs.declared.syntax.Arm.{Arm}
 use Rattle.sap_tree.specs.declared.syntax.Cmd.{Cmd}
@@ -10,7 +10,6 @@ use Rattle.sap_tree.specs.declared.syntax.Decl.{Decl}
 use Rattle.sap_tree.specs.Parts.{tree_of}
 use Rattle.sap_tree.specs.declared.version.Version.{Version}
 use Rattle.sap_names.specs.Entities.{entities_of}
-use Rattle.std.proofs.lemmas.Grind.{common_steps}
 use Rattle.sap_tree.specs.Syntax.{StateTree}
 use Rattle.sap_tree.specs.Trees.{command_of, commands_of, block_of, arm_block_of, arms_of, else_of, state_of, states_of}
 use Rattle.sap_tree.proofs.Views.{state_of-out}
@@ -121,18 +120,15 @@ pub sites_whole : (v : Version) (ds : List Decl) (ss : List State) (es : List En
 unfolding group_sites
 sites_whole v ds ss es old new seen a b c h = h ∙ rw (a, b, c) refl
 
-append_none : (l : List Site) → l ++ [] ≡ l
-append_none l = grind (arith, common_steps)
-
 -- at the end nothing is left
 pub list_end : (h : Home) (cs : List Cmd) (n : ℕ) (new all : List Site) → length cs ≤ n → new ++ list_sites h (drop n cs) ≡ all → new ≡ all
-list_end h cs n new all l e = sym (append_none new) ∙ ap (λ (r : List Site). new ++ r) (sym (list_sites-past h cs n l)) ∙ e
+list_end h cs n new all l e = sym (append-nil new) ∙ ap (λ (r : List Site). new ++ r) (sym (list_sites-past h cs n l)) ∙ e
 
 pub arms_end : (h : Home) (arms : List Arm) (n : ℕ) (new all : List Site) → length arms ≤ n → new ++ arms_sites h (drop n arms) ≡ all → new ≡ all
-arms_end h arms n new all l e = sym (append_none new) ∙ ap (λ (r : List Site). new ++ r) (sym (arms_sites-past h arms n l)) ∙ e
+arms_end h arms n new all l e = sym (append-nil new) ∙ ap (λ (r : List Site). new ++ r) (sym (arms_sites-past h arms n l)) ∙ e
 
 pub group_end : (es : List Entity) (ss : List State) (n : ℕ) (new all : List Site) → length ss ≤ n → new ++ group_sites es (drop n ss) ≡ all → new ≡ all
-group_end es ss n new all l e = sym (append_none new) ∙ ap (λ (r : List Site). new ++ r) (sym (group_sites-past es ss n l)) ∙ e
+group_end es ss n new all l e = sym (append-nil new) ∙ ap (λ (r : List Site). new ++ r) (sym (group_sites-past es ss n l)) ∙ e
 
 pub ruleset lists = (list_sites-past, arms_sites-past, group_sites-past)
 

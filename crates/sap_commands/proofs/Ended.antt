@@ -2,10 +2,10 @@
 use Rattle.std.proofs.Common.{◌≡◌, ◌≢◌, ℕ, List, [], length, take, refl, sym, ◌∙◌, ap, subst, inl, inr, arith, length-take}
 use Rattle.std.specs.Prelude.{Option, Some, None, IfSome, Bool, cond, unwrap_or}
 use Rattle.std.proofs.lemmas.List.{append-nil, take_all}
+use Rattle.sap_lemmas.proofs.Texts.{bytes_eq_same}
 use Rattle.sap_desk.specs.Desk.{Told, Use}
 use Rattle.sap_desk.specs.Cause.{counted}
 use Rattle.sap_desk.specs.Whole.{Between, FailedWriting, FillsFile}
-use Rattle.sap_maps.proofs.Scopes.{same_name}
 use Rattle.sap_commands.specs.Ending.{Ending, Refusal, done, refused, failed, no_memory, IsFree}
 use Rattle.sap_commands.specs.Kinds.{Kind, Has, IsRefused}
 use Rattle.sap_commands.specs.Asks.{Asks, file, by, gives, prints, writes, stops, Files, IsCut, IsPrefix, Leaves, Output, Starved}
@@ -314,7 +314,7 @@ not_given {name = name} {bytes = bytes} {k = k} {rest = rest} {a = a} {b = b} e 
 fills : (name text : List ℕ) (t n : Told) → FillsFile name text t n → n.room ≡ t.room → FullFile name t n
 fills name text t n full room =
     let there : n.files name ≡ Some (take t.room text) =
-    ap (λ (files : Files). files name) full.full ∙ ap (λ (b : Bool). cond b (Some (take t.room text)) (t.files name)) (same_name name) in
+    ap (λ (files : Files). files name) full.full ∙ ap (λ (b : Bool). cond b (Some (take t.room text)) (t.files name)) (bytes_eq_same name) in
     let short : length (take t.room text) ≡ t.room = simp length-take (omega (arith, full.beyond)) in
     ap (λ (o : Option (List ℕ)). length (unwrap_or o [])) there ∙ short ∙ sym room
 

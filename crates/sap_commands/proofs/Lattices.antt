@@ -2,13 +2,14 @@
 use Rattle.std.proofs.Common.{◌≡◌, ◌≢◌, ◌↔◌, ◌<◌, ℕ, Bool, true, false, List, [], length, refl, sym, ◌∙◌, ap, subst, inl, inr, arith, Ok}
 use Rattle.std.specs.Prelude.{map, slice_index_or}
 use Rattle.std.proofs.lemmas.List.FromFn.{get_or-map-range_with_len}
+use Rattle.sap_lattice.proofs.LevelsLemmas.{level_in_same}
 use mathlib.Core.Path.{fun_ext}
 use Rattle.sap_lattice.specs.Built.{IsLatticeOf}
 use Rattle.sap_lattice.specs.Closure.{Below, IsGreatest, IsJoin, IsLeast, IsLevel}
 use Rattle.sap_lattice.specs.Levels.{Levels, is_below, level_in, numbers, order_by, order_of}
 use Rattle.sap_lattice.specs.Order.{Order}
 use Rattle.sap_lattice.specs.declared.pair.Pair.{Pair}
-use Rattle.sap_lattice.proofs.Orders.{level_in_below, level_in_same}
+use Rattle.sap_lattice.proofs.Orders.{level_in_below}
 use Rattle.sap_latfile.specs.LatticeFile.{FirstFault, IsLatticeOfFile}
 use Rattle.sap_latfile.specs.OneLattice.{AreSame}
 use Rattle.sap_latfile.specs.declared.fault.LatFileFault.{LatFileFault}

@@ -3,6 +3,7 @@ use Rattle.std.proofs.Common.{◌≡◌, ℕ, ◌+◌, true, false, List, [], �
 use Rattle.std.specs.Prelude.{◌==◌, bytes_eq, find as find_level, if◌then◌else◌, length, option_map}
 use Rattle.std.specs.List.{AllByRecursion}
 use Rattle.std.proofs.lemmas.Bool.{cases_Bool, false≢true}
+use Rattle.sap_lemmas.proofs.Texts.{bytes_eq_same, equal_of_bytes_eq}
 use Rattle.sap_lattice.specs.Closure.{name_at}
 use Rattle.sap_lattice.specs.Levels.{Levels, numbers, order_of}
 use Rattle.sap_lattice.specs.Codes.{code_of, width_of}
@@ -10,7 +11,6 @@ use Rattle.sap_lattice.specs.Order.{Order}
 use Rattle.sap_latfile.specs.OneLattice.{AreSame}
 use Rattle.sap_maps.specs.Maps.{Name, Valuation}
 use Rattle.sap_maps.specs.Scope.{find}
-use Rattle.sap_maps.proofs.Scopes.{name_is, same_name}
 use Rattle.sap_net.specs.declared.parts.Input.{Input}
 use Rattle.sap_net.specs.declared.parts.Register.{Register}
 use Rattle.sap_net.specs.Net.{Net}
@@ -86,7 +86,7 @@ module _ (l m : Levels) (same : AreSame l m) where
 among_rest : (x : Name) (r : Register) (rs : List Register) → bytes_eq r.name x ≡ false → is_among x (map (λ r. r.name) (r ∷ rs)) ≡ true
     → is_among x (map (λ r. r.name) rs) ≡ true
 among_rest x r rs apart among = elim (cases_Bool (bytes_eq x r.name)) [
-  | inl t ↦ absurd (false≢true (sym apart ∙ subst (λ (y : Name). bytes_eq y x ≡ true) (name_is x r.name t) (same_name x)))
+  | inl t ↦ absurd (false≢true (sym apart ∙ subst (λ (y : Name). bytes_eq y x ≡ true) (equal_of_bytes_eq x r.name t) (bytes_eq_same x)))
   | inr f ↦ rw f at among
 ]
 

@@ -5,12 +5,12 @@ use Rattle.std.proofs.lemmas.Bool.{cases_Bool}
 use Rattle.std.proofs.lemmas.Bool.Decides.{nat_tests}
 use Rattle.std.proofs.lemmas.List.Sums.{position_or_len_is}
 use Rattle.std.specs.List.{position_or_len}
+use Rattle.sap_lemmas.proofs.Texts.{bytes_eq_same, equal_of_bytes_eq}
 use Rattle.sap_lattice.specs.Levels.{Levels, order_by, order_of}
 use Rattle.sap_lattice.specs.Order.{Order}
 use Rattle.sap_lattice.specs.Rules.{KeepsNames, repeated}
 use Rattle.sap_latfile.specs.LatticeFile.{IsLatticeOfFile}
 use Rattle.sap_latfile.specs.OneLattice.{AreSame}
-use Rattle.sap_maps.proofs.Scopes.{name_is, same_name}
 use Rattle.sap_meaning.specs.Agree.{StreamsAgree}
 use Rattle.sap_meaning.specs.Cycle.{Tagged}
 use Rattle.sap_meaning.specs.State.{StreamFits}
@@ -46,7 +46,7 @@ use Rattle.sap_commands.proofs.Ended.{chosen, quiet_self, starved, stopped_by}
 
 module _ (names : List (List ℕ)) (word : List ℕ) where
   differs : (k : ℕ) → (get_or names k [] ≡ word → ⊥) → bytes_eq (get_or names k []) word ≡ false
-  differs k other = elim (cases_Bool (bytes_eq (get_or names k []) word)) [ inl t ↦ absurd (other (name_is (get_or names k []) word t)) | inr f ↦ f ]
+  differs k other = elim (cases_Bool (bytes_eq (get_or names k []) word)) [ inl t ↦ absurd (other (equal_of_bytes_eq (get_or names k []) word t)) | inr f ↦ f ]
 
   at_place : (x : ℕ) → x < length names → position_or_len (λ level. bytes_eq level word) names ≡ x → Some x ≡ level_named names word
   at_place x low is = rw is (grind (arith, nat_tests))
@@ -59,7 +59,7 @@ module _ (names : List (List ℕ)) (word : List ℕ) where
       at_place x low
       (position_or_len_is (λ level. bytes_eq level word) names x [] (omega arith)
       (λ k before. differs k (λ same. keeps.named x (low, repeated k before (same ∙ sym is))))
-      (λ here. ap (λ (name : List ℕ). bytes_eq name word) is ∙ same_name word))
+      (λ here. ap (λ (name : List ℕ). bytes_eq name word) is ∙ bytes_eq_same word))
 
   missing : ((x : ℕ) → x < length names → get_or names x [] ≢ word) → None ≡ level_named names word
   missing none =

@@ -1,13 +1,14 @@
 -- What stands for a well-formed design has runs that agree, and look alike, where their streams agree.
-use Rattle.std.proofs.Common.{◌≡◌, ◌<◌, ◌≤◌, ℕ, true, not, ◌==◌, bit_or, List, [], ◌∷◌, map, inl, inr, refl, sym, ap, ◌∙◌, subst}
+use Rattle.std.proofs.Common.{◌≡◌, ◌<◌, ◌≤◌, ℕ, true, ◌==◌, bit_or, List, [], ◌∷◌, map, inl, inr, sym, ap, ◌∙◌, subst}
 use Rattle.std.proofs.lemmas.Bool.{cases_Bool}
+use Rattle.sap_meaning.proofs.ProgramLemmas.{register_no_memory_test, state_no_memory_test}
 use Rattle.sap_lattice.specs.Order.{Order, Laws}
 use Rattle.sap_lattice.specs.Levels.{Levels, order_of}
 use Rattle.sap_lattice.specs.Codes.{Codes}
 use Rattle.sap_maps.specs.Maps.{Valuation}
 use Rattle.sap_tree.specs.Syntax.{DesignTree}
 use Rattle.sap_shape.specs.WellFormed.{WellFormed}
-use Rattle.sap_meaning.specs.Program.{Kind, input, register, memory, state, entity, kind_is_register, kind_is_memory, kind_is_state, is_memory}
+use Rattle.sap_meaning.specs.Program.{entity, is_memory}
 use Rattle.sap_meaning.specs.Store.{Store, own, start, start_whole, home, number, level, Refusal, After}
 use Rattle.sap_meaning.specs.Cycle.{Tagged, cycle, run_from}
 use Rattle.sap_meaning.specs.Fine.{FineProgram}
@@ -21,7 +22,7 @@ use Rattle.sap_net.specs.Laws.{SomeRun, OneRun}
 use Rattle.sap_net.specs.Net.{Net}
 use Rattle.sap_net.specs.Runs.{observed}
 use Rattle.sap_interface.specs.PortNames.{tag_name}
-use Rattle.sap_interface.specs.StandsFor.{Named, name, world, depth, IsRefusedAt, StandsFor}
+use Rattle.sap_interface.specs.StandsFor.{Named, name, world, IsRefusedAt, StandsFor}
 use Rattle.sap_interface.specs.Compiled.{coded_stream, CyclesStand}
 use Rattle.sap_interface.specs.Designs.{named_of, sites_of, StandsForDesign}
 use Rattle.sap_compile.specs.Agree.{IsState, CyclesAgree, LookAlike, MemoriesLookAlike, IsToldAt, CyclesLookAlike, InEveryCycle, RunsAgree, RunsLookAlike}
@@ -49,18 +50,6 @@ from_seen o l (r ∷ rs) k t h =
     kept f (inr i) = inr (f i)
 
 -- what has a level of its own
-
-register_held : (k : Kind) → kind_is_register k ≡ true → not (kind_is_memory k) ≡ true
-register_held input h = refl
-register_held register h = refl
-register_held (memory depth) h = cc
-register_held (state place last) h = refl
-
-state_held : (k : Kind) → kind_is_state k ≡ true → not (kind_is_memory k) ≡ true
-state_held input h = refl
-state_held register h = refl
-state_held (memory depth) h = cc
-state_held (state place last) h = refl
 
 -- one cycle
 
@@ -117,11 +106,11 @@ module _ (d : Named) (within : (x y : ℕ) → (bit_or (d.code x) (d.code y) == 
             (c.other_is_state.fits.levels (home w (start m i))) (c.states.enforced_memories m i is enforced).0;
         memories = λ m is dynamic. memory_alike v u c m is (one.memory_tags m is dynamic) (other.memory_tags m is dynamic) (c.states.dynamic_memories m is dynamic).0;
         register_tags = λ x is enforced low.
-            one.register_tags x is ∙ ap (λ (y : ℕ). d.code y) (c.states.enforced_levels (own x) (register_held (entity w x).kind is) enforced low) ∙ sym (other.register_tags x is);
+            one.register_tags x is ∙ ap (λ (y : ℕ). d.code y) (c.states.enforced_levels (own x) (register_no_memory_test (entity w x).kind is) enforced low) ∙ sym (other.register_tags x is);
         cell_tags = λ m i is enforced low below.
             one.cell_tags m i is enforced below ∙ ap (λ (y : ℕ). d.code y) (c.states.enforced_levels (start m i) is enforced low) ∙ sym (other.cell_tags m i is enforced below);
         state_tags = λ x is below enforced low.
-            one.state_tags x is below ∙ ap (λ (y : ℕ). d.code y) (c.states.enforced_levels (own x) (state_held (entity w x).kind is) enforced low) ∙ sym (other.state_tags x is below);
+            one.state_tags x is below ∙ ap (λ (y : ℕ). d.code y) (c.states.enforced_levels (own x) (state_no_memory_test (entity w x).kind is) enforced low) ∙ sym (other.state_tags x is below);
         paths = paths_look_alike d l sites v u c fine;
         refusals = λ k n i j.
             (told k n i j v u c.one c.other one other c.refusals, told k n i j u v c.other c.one other one (sym c.refusals));

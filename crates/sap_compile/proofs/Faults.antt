@@ -1,17 +1,16 @@
 -- A lattice file and a design that are taken have no fault, and the other way round.
-use Rattle.std.proofs.Common.{◌≡◌, ◌≢◌, ◌⊎◌, ℕ, List, [], ◌∷◌, Some, inl, inr, refl, sym, ap, ◌∙◌, subst, Ok}
+use Rattle.std.proofs.Common.{◌≡◌, ◌≢◌, ◌⊎◌, ℕ, List, [], inl, inr, refl, sym, ap, ◌∙◌, subst, Ok}
 use Rattle.std.specs.Prelude.{IsErrOf}
+use Rattle.sap_compile.proofs.FaultsLemmas.{no_check_fault}
 use Rattle.sap_latfile.specs.LatticeFile.{IsLatticeOfFile, FirstFault}
 use Rattle.sap_latfile.specs.OneLattice.{AreSame, OneLattice}
 use Rattle.sap_latfile.specs.declared.fault.LatFileFault.{LatFileFault}
 use Rattle.sap_latfile.specs.declared.fault.LatFileFault.TheVariants as lattice_fault
 use Rattle.sap_lattice.specs.Levels.{Levels, order_of}
 use Rattle.sap_lattice.specs.Order.{Order}
-use Rattle.sap_names.specs.Fault.{First}
 use Rattle.sap_names.specs.NameFaults.{design_name_faults}
 use Rattle.sap_names.specs.declared.fault.CheckFault.{CheckFault}
 use Rattle.sap_names.specs.declared.fault.CheckFault.TheVariants as check
-use Rattle.sap_names.specs.declared.fault.Fault.{Fault}
 use Rattle.sap_names.specs.declared.kind.Code.{Code}
 use Rattle.sap_parse.specs.Text.{IsText, IsReadFault}
 use Rattle.sap_parse.specs.declared.fault.ReadFault.{ReadFault}
@@ -20,7 +19,7 @@ use Rattle.sap_shape.specs.WellFormed.{WellFormed, IsFirstFault}
 use Rattle.sap_tree.specs.Syntax.{DesignTree}
 use Rattle.sap_tree.specs.declared.place.Place.{Place}
 use Rattle.sap_compile.specs.Failures.{read_failure, check_failure}
-use Rattle.sap_compile.specs.Faults.{IsCheckFault, IsCompileFault}
+use Rattle.sap_compile.specs.Faults.{IsCompileFault}
 use Rattle.sap_compile.specs.declared.fault.CompileFault.{CompileFault}
 use Rattle.sap_compile.specs.declared.fault.CompileFault.TheVariants.{Lattice, Read, Check, Memory}
 
@@ -46,18 +45,6 @@ formed_over one_lattice one_design lattice design ls ms d e l m t u w =
 
 -- a well-formed design has no fault
 
-none_first : (f : Fault) (fs : List Fault) → fs ≡ [] → First (Some f) fs → ⊥
-none_first f [] e h = h.0
-none_first f (x ∷ fs) e h = cc
-
-no_first : (ls : Levels) (d : DesignTree) (f : Fault) → WellFormed ls d → IsFirstFault ls d f → ⊥
-no_first ls d f w (inl h) = none_first f (design_name_faults ls.names (order_of ls).le d) w.names h
-no_first ls d f w (inr h) = w.shape f h.1.0
-
-no_check : (ls : Levels) (d : DesignTree) (f : CheckFault) → WellFormed ls d → IsCheckFault ls d f → ⊥
-no_check ls d (check.Rule code place) w h = no_first ls d (record { code = code; place = place }) w h
-no_check ls d check.Memory w h = h
-
 -- what is read has no fault of reading
 
 pub no_err : (ls : Levels) (f : LatFileFault) → IsErrOf (Ok ls) f ⊎ IsErrOf (Ok ls) lattice_fault.Memory → ⊥
@@ -71,7 +58,7 @@ module _ (one_lattice : OneLattice) (one_design : OneDesign) (not_both : NotBoth
   no_fault (Lattice f) h = sound f h.0 h.1
   no_fault (Read f) h = not_both design d f is_text h.2
   no_fault (Check f) h =
-      no_check h.0 h.1 f (formed_over one_lattice one_design lattice design ls h.0 d h.1 is_lattice h.2 is_text h.3 formed) h.4
+      no_check_fault h.0 h.1 f (formed_over one_lattice one_design lattice design ls h.0 d h.1 is_lattice h.2 is_text h.3 formed) h.4
   no_fault Memory h = h
 
 -- what is refused

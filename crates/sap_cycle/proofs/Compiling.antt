@@ -3,6 +3,7 @@ use Rattle.std.proofs.Common.{◌≡◌, ℕ, ◌+◌, ◌<◌, ◌≤◌, List,
 use Rattle.std.specs.Prelude.{unwrap_or}
 use Rattle.std.specs.List.{AllByRecursion}
 use Rattle.std.proofs.lemmas.List.{map_more, take_more, take_all, drop_more}
+use Rattle.sap_net.proofs.RulesLemmas.{readable_kept}
 use Rattle.sap_maps.specs.Maps.{Name}
 use Rattle.sap_maps.specs.Scope.{Scope, find}
 use Rattle.sap_maps.proofs.Scopes.{found_here}
@@ -12,7 +13,6 @@ use Rattle.sap_net.specs.declared.parts.Memory.{Memory}
 use Rattle.sap_net.specs.Net.{Net}
 use Rattle.sap_net.specs.Rules.{AreWires, readable_after, IsRegister, IsMemory}
 use Rattle.sap_net.specs.IsNetlist.{IsNetlist, first_readable, readable, shapes, width_of}
-use Rattle.sap_net.proofs.Within.{readable_to_the_end}
 use Rattle.sap_cycle.specs.declared.known.Known.{Known}
 use Rattle.sap_cycle.specs.declared.steps.Part.{Part}
 use Rattle.sap_cycle.specs.declared.steps.Step.{Step}
@@ -60,7 +60,7 @@ compiling_more n i k steps parts c w lt is new adds =
     let whole : readable_after ((w.name, w.width) ∷ c.scope) (drop (i + 1) n.wires) ≡ readable n = sym (ap (readable_after c.scope) e) ∙ c.whole in
     let f : find (readable n) w.name ≡ Some w.width =
     subst (λ (sc : Scope). find sc w.name ≡ Some w.width) whole
-    (readable_to_the_end (shapes n) (drop (i + 1) n.wires) ((w.name, w.width) ∷ c.scope) rest.4 w.name w.width (found_here w.name w.width c.scope)) in
+    (readable_kept (shapes n) (drop (i + 1) n.wires) ((w.name, w.width) ∷ c.scope) rest.4 w.name w.width (found_here w.name w.width c.scope)) in
     let width : width_of n w.name ≡ w.width = ap (λ o. unwrap_or o 0) f in
     let taken : take (i + 1) n.wires ≡ take i n.wires ++ w ∷ [] = take_more n.wires i w lt ∙ ap (λ (x : Wire). take i n.wires ++ x ∷ []) (sym is) in
     let more : first_names n ++ map (λ w. w.name) (take (i + 1) n.wires) ≡ names ++ w.name ∷ [] =

@@ -1,9 +1,12 @@
 -- Names of a netlist are found where they are declared, and nowhere else.
 use Rattle.std.proofs.Common.{◌≡◌, ℕ, List, [], ◌∷◌, ◌++◌, map, Some, None, refl}
 use Rattle.std.specs.List.{AllByRecursion}
+use Rattle.sap_lemmas.proofs.Texts.{bytes_eq_apart_back}
+use Rattle.sap_net.proofs.RulesLemmas.{readable_kept, values_found, values_past}
+use Rattle.sap_net.proofs.InputLemmas.{past_inputs}
 use Rattle.sap_maps.specs.Maps.{Name}
 use Rattle.sap_maps.specs.Scope.{Scope, find}
-use Rattle.sap_maps.proofs.Scopes.{found_here, apart_back, not_first, not_behind}
+use Rattle.sap_maps.proofs.Scopes.{found_here, not_first, not_behind}
 use Rattle.sap_net.specs.declared.parts.Input.{Input}
 use Rattle.sap_net.specs.declared.parts.Wire.{Wire}
 use Rattle.sap_net.specs.declared.parts.Register.{Register}
@@ -11,7 +14,6 @@ use Rattle.sap_net.specs.declared.parts.Memory.{Memory}
 use Rattle.sap_net.specs.Net.{Net}
 use Rattle.sap_net.specs.Rules.{Shapes, AreWires, AreValues, AreMemories, readable_after}
 use Rattle.sap_net.specs.IsNetlist.{IsNetlist, shapes, first_readable, readable}
-use Rattle.sap_net.proofs.Within.{readable_to_the_end}
 
 -- a list under its names, each with something of its own
 abbrev pub listed : {A X : Type 0} → (key : A → Name) → (of : A → X) → List A → List (Name × X)
@@ -26,7 +28,7 @@ AreFresh key of (a ∷ list) = (find (listed key of list) (key a) ≡ None) × A
 pub none_listed : {A X Y : Type 0} (key : A → Name) (f : A → X) (g : A → Y) (list : List A) (x : Name) → find (listed key f list) x ≡ None → find (listed key g list) x ≡ None
 none_listed {A} {X} {Y} key f g [] x h = refl
 none_listed {A} {X} {Y} key f g (a ∷ list) x h =
-    rw (apart_back x (key a) (not_first (key a, f a) _ x h)) (none_listed key f g list x (not_behind (key a, f a) _ x h))
+    rw (bytes_eq_apart_back x (key a) (not_first (key a, f a) _ x h)) (none_listed key f g list x (not_behind (key a, f a) _ x h))
 
 keep_listed : {A X Y : Type 0} (key : A → Name) (f : A → X) (g : A → Y) (a : A) (all list : List A) → find (listed key f list) (key a) ≡ None
     → AllByRecursion (λ b. find (listed key g all) (key b) ≡ Some (g b)) list → AllByRecursion (λ b. find (listed key g (a ∷ all)) (key b) ≡ Some (g b)) list
@@ -42,14 +44,6 @@ found_listed {A} {X} {Y} key f g (a ∷ list) fresh = (
   found_here (key a) (g a) (listed key g list),
   keep_listed key f g a list list fresh.0 (found_listed key f g list fresh.1),
 )
-
-past_inputs : (is : List Input) (sd : Scope) (x : Name) → find (map (λ i. (i.name, i.width)) is ++ sd) x ≡ None → find sd x ≡ None
-past_inputs [] sd x h = h
-past_inputs (i ∷ is) sd x h = past_inputs is sd x (not_behind (i.name, i.width) _ x h)
-
-values_past : (ms : Shapes) (is : List Input) (sd : Scope) → AreValues ms (map (λ i. (i.name, i.width)) is ++ sd) → AreValues ms sd
-values_past ms [] sd rules = rules
-values_past ms (i ∷ is) sd rules = values_past ms is sd rules.3
 
 fresh_registers : (ms : Shapes) (rs : List Register) → AreValues ms (map (λ r. (r.name, r.width)) rs) → AreFresh (λ r. r.name) (λ r. r.width) rs
 fresh_registers ms [] rules = tt
@@ -97,10 +91,6 @@ keep_entries : (e : Name × ℕ) (all es : Scope) → find es e.0 ≡ None → A
 keep_entries e all [] fresh h = tt
 keep_entries e all (d ∷ es) fresh h = (rw (not_first d es e.0 fresh) h.0, keep_entries e all es (not_behind d es e.0 fresh) h.1)
 
-entries_found : (ms : Shapes) (es : Scope) → AreValues ms es → AllByRecursion (λ d. find es d.0 ≡ Some d.1) es
-entries_found ms [] rules = tt
-entries_found ms (e ∷ es) rules = (found_here e.0 e.1 es, keep_entries e es es rules.1 (entries_found ms es rules.3))
-
 abbrev pub AreReadable : {A : Type 0} → Scope → (key : A → Name) → (width : A → ℕ) → List A → Type 0
 AreReadable sc key width list = AllByRecursion (λ a. find sc (key a) ≡ Some (width a)) list
 
@@ -115,24 +105,24 @@ first_registers sc (r ∷ rs) h = (h.0, first_registers sc rs h.1)
 all_readable_after : {A : Type 0} (ms : Shapes) (sc : Scope) (ws : List Wire) → AreWires ms sc ws → (key : A → Name) (width : A → ℕ) (list : List A) → AreReadable sc key width list → AreReadable (readable_after sc ws) key width list
 all_readable_after {A} ms sc ws rules key width [] h = tt
 all_readable_after {A} ms sc ws rules key width (a ∷ list) h =
-    (readable_to_the_end ms ws sc rules (key a) (width a) h.0, all_readable_after ms sc ws rules key width list h.1)
+    (readable_kept ms ws sc rules (key a) (width a) h.0, all_readable_after ms sc ws rules key width list h.1)
 
 wires_readable_after : (ms : Shapes) (sc : Scope) (ws : List Wire) → AreWires ms sc ws → AreReadable (readable_after sc ws) (λ w. w.name) (λ w. w.width) ws
 wires_readable_after ms sc [] rules = tt
 wires_readable_after ms sc (w ∷ ws) rules = (
-  readable_to_the_end ms ws ((w.name, w.width) ∷ sc) rules.4 w.name w.width (found_here w.name w.width sc),
+  readable_kept ms ws ((w.name, w.width) ∷ sc) rules.4 w.name w.width (found_here w.name w.width sc),
   wires_readable_after ms ((w.name, w.width) ∷ sc) ws rules.4,
 )
 
 pub inputs_readable : (n : Net) → IsNetlist n → AreReadable (readable n) (λ i. i.name) (λ i. i.width) n.inputs
 inputs_readable n rules =
     all_readable_after (shapes n) (first_readable n) n.wires rules.assigns (λ i. i.name) (λ i. i.width) n.inputs
-    (first_inputs (first_readable n) _ n.inputs (entries_found (shapes n) (first_readable n) rules.values)).0
+    (first_inputs (first_readable n) _ n.inputs (values_found (shapes n) (first_readable n) rules.values)).0
 
 pub registers_readable : (n : Net) → IsNetlist n → AreReadable (readable n) (λ r. r.name) (λ r. r.width) n.registers
 registers_readable n rules =
     all_readable_after (shapes n) (first_readable n) n.wires rules.assigns (λ r. r.name) (λ r. r.width) n.registers
-    (first_registers (first_readable n) n.registers (first_inputs (first_readable n) _ n.inputs (entries_found (shapes n) (first_readable n) rules.values)).1)
+    (first_registers (first_readable n) n.registers (first_inputs (first_readable n) _ n.inputs (values_found (shapes n) (first_readable n) rules.values)).1)
 
 pub wires_readable : (n : Net) → IsNetlist n → AreReadable (readable n) (λ w. w.name) (λ w. w.width) n.wires
 wires_readable n rules = wires_readable_after (shapes n) (first_readable n) n.wires rules.assigns

@@ -1,23 +1,18 @@
 -- A map of places, name by name.
-use Rattle.std.proofs.Common.{◌≡◌, ◌<◌, ℕ, zero, suc, arith, List, [], ◌∷◌, ◌++◌, Option, Some, None, Bool, true, false, length, sym, ap, ◌∙◌, subst, refl, inl, inr, true≢false, ⊎_elim}
+use Rattle.std.proofs.Common.{◌≡◌, ◌<◌, ℕ, zero, suc, arith, List, [], ◌∷◌, ◌++◌, Option, Some, None, length, sym, ap, ◌∙◌, subst, refl, inl, inr, true≢false, ⊎_elim}
 use Rattle.std.specs.Prelude.{slice_get, Contains, IsSome, if◌then◌else◌, Vec}
 use Rattle.std.specs.Str.{bytes_eq}
 use Rattle.std.specs.HashMap.{UpdatesBy}
-use Rattle.std.specs.Map.{lookup, IsKeyTest, AreApart, KeepsOthers}
+use Rattle.std.specs.Map.{lookup}
 use Rattle.std.specs.Cmp.Lexicographic.{nat_list_eq_equiv}
 use Rattle.std.specs.declared.alloc.Global.{Global}
 use Rattle.std.proofs.lemmas.Slice.Eq.{bytes_eq-Decides}
 use Rattle.std.proofs.lemmas.Bool.{cases_Bool, cond-true, cond-false}
 use Rattle.std.proofs.lemmas.List.Elements.{Contains-push_cases}
+use Rattle.sap_lemmas.proofs.Lists.{others_kept}
+use Rattle.sap_lemmas.proofs.Texts.{bytes_eq_apart}
 use Rattle.sap_maps.specs.Maps.{Name}
 use Rattle.sap_cycle.specs.Places.{Places, Finds, place_in}
-
-others : {K X : Type 0} (eq : K → K → Bool) (test : K → Bool) (old new : List (K × X)) → KeepsOthers eq test old new → (other : K → Bool) → IsKeyTest eq other → AreApart test other → lookup other new ≡ lookup other old
-unfolding KeepsOthers
-others {K} {X} eq test old new h = h
-
-apart : (bs cs ks : List ℕ) → bytes_eq bs cs ≡ false → bytes_eq bs ks ≡ true → bytes_eq cs ks ≡ false
-apart bs cs ks n y = nat_list_eq_equiv.symm cs ks ∙ sym (nat_list_eq_equiv.congr bs ks cs y) ∙ n
 
 -- what the map has after a name got a place
 pub put_is : (key : Vec ℕ Global) (m n : Places) (w : Option ℕ) → UpdatesBy (λ x y. bytes_eq x.items y.items) (λ k. bytes_eq key.items k.items) m n w
@@ -25,7 +20,7 @@ pub put_is : (key : Vec ℕ Global) (m n : Places) (w : Option ℕ) → UpdatesB
 put_is key m n w h x =
     ⊎_elim
     (λ y. subst (λ l. place_in n l ≡ w) ((bytes_eq-Decides key.items x).0 y) h.1 ∙ sym (cond-true (bytes_eq key.items x) w (place_in m x) y))
-    (λ f. others _ _ _ _ h.3 (λ k. bytes_eq x k.items) (λ a b. nat_list_eq_equiv.congr x a.items b.items) (λ k. apart key.items x k.items f) ∙ sym (cond-false (bytes_eq key.items x) w (place_in m x) f))
+    (λ f. others_kept _ _ _ _ h.3 (λ k. bytes_eq x k.items) (λ a b. nat_list_eq_equiv.congr x a.items b.items) (λ k. bytes_eq_apart key.items x k.items f) ∙ sym (cond-false (bytes_eq key.items x) w (place_in m x) f))
     (cases_Bool (bytes_eq key.items x))
 
 get_push : (xs : List Name) (y : Name) (k : ℕ) (q : Name) → slice_get xs k ≡ Some q → slice_get (xs ++ y ∷ []) k ≡ Some q

@@ -7,9 +7,10 @@ use Rattle.std.proofs.lemmas.Bool.{cases_Bool, cases_lt, lt-ltb, le-ltb, le-leb,
 use Rattle.std.proofs.lemmas.List.{length-map}
 use Rattle.std.proofs.lemmas.List.Elements.{Contains-append_left, Contains-append_right, Contains-push}
 use Rattle.std.proofs.lemmas.Option.{slice_get-map, get_or_from_slice_get}
+use Rattle.sap_lemmas.proofs.Everywhere.{all_append}
+use Rattle.sap_lemmas.proofs.Texts.{equal_of_bytes_eq}
 use Rattle.sap_maps.specs.Maps.{Name, Valuation}
 use Rattle.sap_maps.specs.Scope.{Scope, find}
-use Rattle.sap_maps.proofs.Scopes.{name_is}
 use Rattle.sap_net.specs.declared.parts.Input.{Input}
 use Rattle.sap_net.specs.declared.parts.Wire.{Wire}
 use Rattle.sap_net.specs.Net.{Net}
@@ -26,14 +27,14 @@ Covers {X} es names = (x : Name) (u : X) → find es x ≡ Some u → Contains n
 pub covers_front : {X : Type 0} (m : Name) (k : X) (es : List (Name × X)) (names : List Name) → Covers es names → Covers ((m, k) ∷ es) (m ∷ names)
 covers_front {X} m k es names cov x u h =
     ⊎_elim
-    (λ t. (0, omega arith, name_is m x t))
+    (λ t. (0, omega arith, equal_of_bytes_eq m x t))
     (λ f. Contains-append_right (m ∷ []) names x (cov x u (rw f at h)))
     (cases_Bool (bytes_eq m x))
 
 pub covers_push : {X : Type 0} (m : Name) (k : X) (es : List (Name × X)) (names : List Name) → Covers es names → Covers ((m, k) ∷ es) (names ++ m ∷ [])
 covers_push {X} m k es names cov x u h =
     ⊎_elim
-    (λ t. subst (Contains (names ++ m ∷ [])) (name_is m x t) (Contains-push names m))
+    (λ t. subst (Contains (names ++ m ∷ [])) (equal_of_bytes_eq m x t) (Contains-push names m))
     (λ f. Contains-append_left names (m ∷ []) x (cov x u (rw f at h)))
     (cases_Bool (bytes_eq m x))
 
@@ -73,10 +74,6 @@ all_names : {A : Type 0} (P : Name → Type 0) (key : A → Name) (list : List A
 all_names {A} P key [] h = tt
 all_names {A} P key (a ∷ list) h = (h.0, all_names P key list h.1)
 
-all_both : {A : Type 0} (P : A → Type 0) (xs ys : List A) → AllByRecursion P xs → AllByRecursion P ys → AllByRecursion P (xs ++ ys)
-all_both {A} P [] ys a b = b
-all_both {A} P (x ∷ xs) ys a b = (a.0, all_both P xs ys a.1 b)
-
 pub all_at : {A : Type 0} (P : A → Type 0) (xs : List A) (k : ℕ) (x : A) → AllByRecursion P xs → slice_get xs k ≡ Some x → P x
 all_at {A} P [] k x h e = absurd (cc)
 all_at {A} P (y ∷ xs) zero x h e = let q : y ≡ x = cc in subst P q h.0
@@ -106,8 +103,8 @@ isnt_found {A} es key (a ∷ list) h = (rw h.0 refl, isnt_found es key list h.1)
 all_readable : (n : Net) → IsNetlist n → AllByRecursion (λ x. is_some (find (readable n) x) ≡ true) (value_names n)
 all_readable n rules =
     let P = λ (x : Name). is_some (find (readable n) x) ≡ true in
-    all_both P (first_names n) (wire_names n)
-    (all_both P (input_names n) (register_names n)
+    all_append P (first_names n) (wire_names n)
+    (all_append P (input_names n) (register_names n)
     (all_names P (λ i. i.name) n.inputs (is_found (readable n) (λ i. i.name) (λ i. i.width) n.inputs (inputs_readable n rules)))
     (all_names P (λ r. r.name) n.registers (is_found (readable n) (λ r. r.name) (λ r. r.width) n.registers (registers_readable n rules))))
     (all_names P (λ w. w.name) n.wires (is_found (readable n) (λ w. w.name) (λ w. w.width) n.wires (wires_readable n rules)))

@@ -5,6 +5,7 @@ use Rattle.std.proofs.Math.ListN.{length-set}
 use Rattle.std.proofs.lemmas.Grind.{take-set_at}
 use Rattle.std.proofs.lemmas.List.{map-append, take_at, drop_at}
 use Rattle.std.proofs.lemmas.Option.{some_pair_parts}
+use Rattle.sap_net.proofs.RulesLemmas.{readable_kept}
 use Rattle.sap_maps.specs.Maps.{Name, Valuation}
 use Rattle.sap_maps.specs.Scope.{Scope, find}
 use Rattle.sap_maps.proofs.Terms.{right_fits}
@@ -17,7 +18,7 @@ use Rattle.sap_net.specs.declared.parts.Memory.{Memory}
 use Rattle.sap_net.specs.Values.{operand_value, operands_width, operands_value, right_value, Holds}
 use Rattle.sap_net.specs.Rules.{Shapes, IsRight, AreWires, readable_after, IsWidth}
 use Rattle.sap_net.proofs.Same.{AreFound}
-use Rattle.sap_net.proofs.Within.{ValuesBelow, WidthsAre, operand_below, operand_is_wide, readable_to_the_end}
+use Rattle.sap_net.proofs.Within.{ValuesBelow, WidthsAre, operand_below, operand_is_wide}
 use Rattle.sap_cycle.specs.declared.steps.Part.{Part}
 use Rattle.sap_cycle.specs.declared.steps.Step.{Step}
 use Rattle.sap_cycle.specs.declared.steps.Step.TheVariants.{Copy, One, Two, Choose, Concat, Slice, Cell}
@@ -152,8 +153,8 @@ settled_matches widths ms shapes parts v cells c [] (y ∷ ws) sc names values m
 settled_matches widths ms shapes parts v cells c (s ∷ ss) [] sc names values mean rules b w holds m le = absurd mean
 settled_matches widths ms shapes parts v cells c (s ∷ ss) (y ∷ ws) sc names values mean rules b w holds m le =
     let x = step_value values cells parts s in
-    let b' : ValuesBelow sc v = λ n u h. b n u (readable_to_the_end shapes (y ∷ ws) sc rules n u h) in
-    let w' : WidthsAre sc widths = λ n u h. w n u (readable_to_the_end shapes (y ∷ ws) sc rules n u h) in
+    let b' : ValuesBelow sc v = λ n u h. b n u (readable_kept shapes (y ∷ ws) sc rules n u h) in
+    let w' : WidthsAre sc widths = λ n u h. w n u (readable_kept shapes (y ∷ ws) sc rules n u h) in
     let e : x ≡ v.value y.name = step_is widths ms shapes sc parts v names values cells b' m c y.width s y.right mean.0 rules.3 ∙ sym holds.0 in
     let l : length (names ++ y.name ∷ []) ≡ length names + 1 = omega (arith, length-append names (y.name ∷ [])) in
     let m' = matches_more v names values y.name x (omega arith) m e in

@@ -5,6 +5,7 @@ use Rattle.std.proofs.lemmas.Bool.{cases_Bool}
 use Rattle.std.proofs.lemmas.Bool.Decides.{nat_tests}
 use Rattle.std.specs.List.{position_or_len}
 use Rattle.std.proofs.lemmas.List.Sums.{get_or-le-sum_by}
+use Rattle.sap_lemmas.proofs.Texts.{bytes_eq_apart_back, bytes_eq_same}
 use Rattle.sap_desk.specs.Desk.{Use, closed, reads, writes, stream, at_number, at_name, added, added_to, IsWriting}
 use Rattle.sap_desk.proofs.Places.{placed_read}
 use Rattle.sap_desk.specs.declared.stored.StoredFile.{StoredFile}
@@ -12,16 +13,16 @@ use Rattle.sap_desk.specs.declared.stored.Channel.{Channel}
 use Rattle.sap_desk.specs.Memory.{named, use_of, use_at, uses_of, written_of, given_of, file_named, files_of, told_of, KeepsNames}
 use Rattle.sap_desk.specs.MemoryCalls.{fitting_use}
 use Rattle.sap_desk.specs.Room.{claim, claim_of, claims, Stands, Changed, LongerFile, LongerChannel, Puts}
-use Rattle.sap_desk.proofs.Files.{Found, found, not_found, own_name, other_way, puts-set, files_put}
+use Rattle.sap_desk.proofs.Files.{Found, found, not_found, puts-set, files_put}
 use Rattle.sap_desk.proofs.Channels.{read_is, told_before, told_after, told_same, claims_after, length_after, names_after}
 use Rattle.sap_desk.proofs.Rooms.{stands_putting, stands_changed, ClaimsLess, room_from, written_from}
 
 -- what is still claimed of a file by its writer
 claim_at : (room : ℕ) (owner : List ℕ) (w : ℕ) → claim_of room owner (writes owner) w ≡ room - w
-claim_at room owner w = rw (own_name owner) refl
+claim_at room owner w = rw (bytes_eq_same owner) refl
 
 claim_elsewhere : (room : ℕ) (owner name : List ℕ) (w : ℕ) → bytes_eq name owner ≡ false → claim_of room name (writes owner) w ≡ 0
-claim_elsewhere room owner name w other = rw (other_way name owner other) refl
+claim_elsewhere room owner name w other = rw (bytes_eq_apart_back name owner other) refl
 
 claim_shrinks : (room : ℕ) (name : List ℕ) (u : Use) (w more : ℕ) → claim_of room name u (w + more) ≤ claim_of room name u w
 claim_shrinks room name closed w more = omega arith

@@ -5,25 +5,13 @@ use Rattle.std.specs.List.{position_or_len}
 use Rattle.std.specs.Option.{option_or}
 use Rattle.std.proofs.lemmas.List.Folds.{find-set, find_past, find-append, find_at}
 use Rattle.std.proofs.lemmas.Bool.Decides.{nat_tests}
-use Rattle.std.proofs.lemmas.Slice.Eq.{bytes_eq-Decides}
 use Rattle.std.proofs.lemmas.Bool.{cases_Bool}
 use Rattle.std.proofs.lemmas.Option.{slice_get-get_or}
+use Rattle.sap_lemmas.proofs.Texts.{bytes_eq_apart_back, bytes_eq_same, equal_of_bytes_eq}
 use Rattle.sap_desk.specs.Desk.{at_name}
 use Rattle.sap_desk.specs.declared.stored.StoredFile.{StoredFile}
 use Rattle.sap_desk.specs.Memory.{file_named, files_of, named}
 use Rattle.sap_desk.specs.Room.{Puts}
-
-pub same_name : (a b : List ℕ) → bytes_eq a b ≡ true → a ≡ b
-same_name a b h = (bytes_eq-Decides a b).0 h
-
-pub own_name : (a : List ℕ) → bytes_eq a a ≡ true
-own_name a = (bytes_eq-Decides a a).1 refl
-
-pub other_way : (a b : List ℕ) → bytes_eq a b ≡ false → bytes_eq b a ≡ false
-other_way a b h = elim (cases_Bool (bytes_eq b a)) [
-  | inl tied ↦ let is : a ≡ b = sym (same_name b a tied) in let bad : true ≡ false = sym ((bytes_eq-Decides a b).1 is) ∙ h in absurd (cc bad)
-  | inr apart ↦ apart
-]
 
 first_passes : (p : StoredFile → Bool) (xs : List StoredFile) (d : StoredFile) → position_or_len p xs < length xs → p (get_or xs (position_or_len p xs) d) ≡ true
 first_passes p [] d h = absurd (omega arith)
@@ -49,7 +37,7 @@ found files name i d h = elim (cases_Bool (nat_lt (position_or_len (named name) 
         first = sym is;
         within = omega arith;
         file = find_at (named name) files ∙ ap (λ (j : ℕ). slice_get files j) is ∙ slice_get-get_or files i d (omega arith);
-        bears = same_name _ _ passes;
+        bears = equal_of_bytes_eq _ _ passes;
       }
   | inr past ↦ let bad : None ≡ Some i = rw past at h in absurd (cc bad)
 ]
@@ -82,11 +70,11 @@ puts-set files i f d first within was n =
     let name = string_bytes f.name in
     elim (cases_Bool (bytes_eq n name)) [
       | inl same ↦
-          let is_n : n ≡ name = same_name n name same in
+          let is_n : n ≡ name = equal_of_bytes_eq n name same in
           let P : List ℕ → Type 0 = λ m. file_named (set files i f) m ≡ Some f in
-          subst P (sym is_n) (find-set (named name) files i f first within (own_name name)) ∙ rw same refl
+          subst P (sym is_n) (find-set (named name) files i f first within (bytes_eq_same name)) ∙ rw same refl
       | inr other ↦
-          let misses : bytes_eq name n ≡ false = other_way n name other in
+          let misses : bytes_eq name n ≡ false = bytes_eq_apart_back n name other in
           let before : named n (get_or files i d) ≡ false = rw was misses in
           find_past (named n) files i f d before misses ∙ rw other refl
     ]
@@ -101,13 +89,13 @@ puts-push files f none n =
     let name = string_bytes f.name in
     elim (cases_Bool (bytes_eq n name)) [
       | inl same ↦
-          let is_n : n ≡ name = same_name n name same in
+          let is_n : n ≡ name = equal_of_bytes_eq n name same in
           let P : List ℕ → Type 0 = λ m. file_named (files ++ f ∷ []) m ≡ Some f in
-          let passes : named name f ≡ true = own_name name in
+          let passes : named name f ≡ true = bytes_eq_same name in
           let here : file_named (files ++ f ∷ []) name ≡ Some f = find-append (named name) files (f ∷ []) ∙ rw (none, passes) refl in
           subst P (sym is_n) here ∙ rw same refl
       | inr other ↦
-          let misses : named n f ≡ false = other_way n name other in
+          let misses : named n f ≡ false = bytes_eq_apart_back n name other in
           find-append (named n) files (f ∷ []) ∙ rw (misses, other) (or_none (file_named files n))
     ]
 

@@ -11,3 +11,4 @@ pub mod Told
 pub mod Shown
 pub mod Written
 pub mod Gaining
+pub mod DeskLemmas

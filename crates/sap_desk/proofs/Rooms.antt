@@ -2,12 +2,12 @@
 use Rattle.std.proofs.Common.{◌≡◌, ℕ, ◌+◌, ◌<◌, ◌≤◌, true, false, List, [], length, set, refl, sym, ◌∙◌, ap, subst, arith, inl, inr}
 use Rattle.std.specs.Prelude.{bytes_eq, string_bytes, slice_get, vec_capacity, is_some, eqb, Some}
 use Rattle.std.proofs.lemmas.Bool.{cases_Bool, eqb-true}
+use Rattle.sap_lemmas.proofs.Texts.{equal_of_bytes_eq}
 use Rattle.sap_desk.specs.Desk.{Use, closed, writes, at_number, IsWriting}
 use Rattle.sap_desk.specs.declared.stored.StoredFile.{StoredFile}
 use Rattle.sap_desk.specs.declared.stored.Channel.{Channel}
 use Rattle.sap_desk.specs.Memory.{use_at, uses_of, written_of, file_named}
 use Rattle.sap_desk.specs.Room.{claim, claims, rooms_of, Stands, Puts}
-use Rattle.sap_desk.proofs.Files.{same_name}
 use Rattle.sap_desk.proofs.Channels.{told_before, told_after, claims_after, length_after}
 
 -- the same files, and channels that claim no more
@@ -48,7 +48,7 @@ module _ (room : ℕ) (files later : List StoredFile) (old new : List Channel) (
     | inl same ↦
         let both : Some f ≡ Some g = sym (at_put name same) ∙ is in
         let file : f ≡ g = cc both in
-        let named_as : string_bytes f.name ≡ name = sym (same_name name (string_bytes f.name) same) in
+        let named_as : string_bytes f.name ≡ name = sym (equal_of_bytes_eq name (string_bytes f.name) same) in
         let P : List ℕ → Type 0 = λ n. length f.bytes.items + claims room n new ≤ vec_capacity f.bytes in
         let Q : StoredFile → Type 0 = λ h. length h.bytes.items + claims room name new ≤ vec_capacity h.bytes in
         subst Q file (subst P named_as fits)

@@ -2,12 +2,13 @@
 use Rattle.std.proofs.Common.{◌≡◌, ℕ, ◌+◌, ◌<◌, Bool, true, false, cond, List, [], ◌++◌, length, take, drop, append_assoc, refl, sym, ◌∙◌, ap, subst, arith, inl, inr}
 use Rattle.std.specs.Prelude.{eqb, Option, Some, None, option_map}
 use Rattle.std.proofs.lemmas.Bool.{cases_eq}
-use Rattle.std.proofs.lemmas.Slice.Eq.{bytes_eq-Decides}
 use Rattle.std.proofs.lemmas.Bool.Decides.{nat_tests}
 use Rattle.std.proofs.lemmas.List.{drop-drop, take-append-drop, append-nil}
 use Rattle.std.proofs.Math.Seq.{drop-nil}
 use Rattle.sap_desk.specs.Cause.{Gave}
 use Rattle.std.specs.Prelude.{bytes_eq, ltb, IfSome, IsSome, unwrap_or, Result, Ok, Err, OnErr}
+use Rattle.sap_lemmas.proofs.Numbers.{test_of_same}
+use Rattle.sap_lemmas.proofs.Texts.{bytes_eq_same}
 use Rattle.sap_desk.specs.Desk.{Told, Use, at_name, added, added_to, closed, reads, writes, stream, at_number, rest_of, rest_of_use, moved, moved_use, bytes_of}
 
 pub option_map-twice : {A B C : Type 0} (f : B → C) (g : A → B) (o : Option A) → option_map f (option_map g o) ≡ option_map (λ a. f (g a)) o
@@ -22,11 +23,8 @@ pub option_map-id : {A : Type 0} (f : A → A) (o : Option A) → ((a : A) → f
 option_map-id f None h = refl
 option_map-id f (Some a) h = ap Some (sym (h a))
 
-pub eqb-same : (k : ℕ) → eqb k k ≡ true
-eqb-same k = grind (arith, nat_tests)
-
 pub at_number-same : {A : Type 0} (k : ℕ) (x : A) (f : ℕ → A) → at_number k x f k ≡ x
-at_number-same k x f = rw (eqb-same k) refl
+at_number-same k x f = rw (test_of_same k) refl
 
 at_number-twice-at : {A : Type 0} (k : ℕ) (x y : A) (f : ℕ → A) (n : ℕ) → at_number k y (at_number k x f) n ≡ at_number k y f n
 at_number-twice-at k x y f n = elim (eqb n k) as (λ b. cond b y (cond b x (f n)) ≡ cond b y (f n)) [ true ↦ refl | false ↦ refl ]
@@ -36,7 +34,7 @@ at_number-twice k x y f = λ i n. at_number-twice-at k x y f n i
 
 at_number-keeps-at : {A : Type 0} (k : ℕ) (x : A) (f : ℕ → A) → f k ≡ x → (n : ℕ) → at_number k x f n ≡ f n
 at_number-keeps-at k x f h n = elim (cases_eq n k) [
-  | inl same ↦ rw (same, eqb-same k) (sym h)
+  | inl same ↦ rw (same, test_of_same k) (sym h)
   | inr other ↦ let no : eqb n k ≡ false = grind (arith, nat_tests) in rw no refl
 ]
 
@@ -123,11 +121,8 @@ pub file_there : (o : Option (List ℕ)) → IsSome o → o ≡ Some (unwrap_or 
 file_there None h = cc
 file_there (Some x) h = refl
 
-pub bytes_eq-same : (k : List ℕ) → bytes_eq k k ≡ true
-bytes_eq-same k = grind (arith, bytes_eq-Decides k k)
-
 pub at_name-same : {A : Type 0} (k : List ℕ) (x : A) (f : List ℕ → A) → at_name k x f k ≡ x
-at_name-same k x f = let same : bytes_eq k k ≡ true = bytes_eq-same k in rw same refl
+at_name-same k x f = let same : bytes_eq k k ≡ true = bytes_eq_same k in rw same refl
 
 at_name-twice-at : {A : Type 0} (k : List ℕ) (x y : A) (f : List ℕ → A) (n : List ℕ) → at_name k y (at_name k x f) n ≡ at_name k y f n
 at_name-twice-at k x y f n = elim (bytes_eq n k) as (λ b. cond b y (cond b x (f n)) ≡ cond b y (f n)) [ true ↦ refl | false ↦ refl ]

@@ -3,6 +3,7 @@ use Rattle.std.proofs.Common.{◌≡◌, ℕ, ◌+◌, ◌-◌, ◌<◌, ◌≤�
 use Rattle.std.specs.Prelude.{bytes_eq, string_bytes, vec_capacity, eqb}
 use Rattle.std.proofs.lemmas.Bool.{cases_Bool, eqb-true}
 use Rattle.std.proofs.lemmas.Bool.Decides.{nat_tests}
+use Rattle.sap_lemmas.proofs.Texts.{bytes_eq_apart_back, bytes_eq_same}
 use Rattle.sap_desk.specs.Desk.{Use, closed, reads, writes, at_number, opened, moved, moved_use, created, finished, IsWriting}
 use Rattle.sap_desk.proofs.Steps.{at_number-keeps}
 use Rattle.sap_desk.proofs.Places.{placed_end}
@@ -12,7 +13,7 @@ use Rattle.sap_desk.specs.declared.stored.State.TheVariants.{Closed, Reading}
 use Rattle.sap_desk.specs.Memory.{use_at, uses_of, written_of, given_of, names_of, told_of, KeepsNames}
 use Rattle.sap_desk.specs.MemoryCalls.{with_file}
 use Rattle.sap_desk.specs.Room.{claim, claim_of, claims, rooms_of, Stands, Changed, Puts}
-use Rattle.sap_desk.proofs.Files.{own_name, other_way, files_put}
+use Rattle.sap_desk.proofs.Files.{files_put}
 use Rattle.sap_desk.proofs.Channels.{told_before, told_after, told_same, names_after, told_added, claims_added, length_added}
 use Rattle.sap_desk.proofs.Rooms.{stands_with, stands_putting, stands_changed}
 
@@ -153,11 +154,11 @@ module _ (old new : List Channel) (c : Channel) (now : new ≡ old ++ c ∷ []) 
     pub stands_created : (room : ℕ) → Stands room files old → f.bytes.items ≡ [] → claims room (string_bytes f.name) old + room ≤ vec_capacity f.bytes → room ≤ vec_capacity c.written → Stands room later new
     stands_created room s no_bytes fits roomy = stands_putting room files later old new f s puts
         (omega (arith, length_added old new c now))
-        (let own : claim room (string_bytes f.name) c ≡ room - 0 = claim_more room (string_bytes f.name) ∙ rw (own_name (string_bytes f.name)) refl in
+        (let own : claim room (string_bytes f.name) c ≡ room - 0 = claim_more room (string_bytes f.name) ∙ rw (bytes_eq_same (string_bytes f.name)) refl in
         let size : length f.bytes.items ≡ 0 = ap length no_bytes in
         omega (arith, claims_added old new c now room (string_bytes f.name), own, size, fits))
         (λ n other.
-        let misses : bytes_eq (string_bytes f.name) n ≡ false = other_way n (string_bytes f.name) other in
+        let misses : bytes_eq (string_bytes f.name) n ≡ false = bytes_eq_apart_back n (string_bytes f.name) other in
         let own : claim room n c ≡ 0 = claim_more room n ∙ rw misses refl in
         omega (arith, claims_added old new c now room n, own))
         (λ k n is. elim (cases_Bool (eqb k (length old))) [
@@ -168,7 +169,7 @@ module _ (old new : List Channel) (c : Channel) (now : new ≡ old ++ c ∷ []) 
           | inl here ↦
               let owner : writes (string_bytes f.name) ≡ writes n = sym writing ∙ sym (use_added k here) ∙ is in
               let same : string_bytes f.name ≡ n = cc owner in
-              let bad : true ≡ false = sym (own_name n) ∙ ap (bytes_eq n) (sym same) ∙ other in
+              let bad : true ≡ false = sym (bytes_eq_same n) ∙ ap (bytes_eq n) (sym same) ∙ other in
               absurd (cc bad)
           | inr apart ↦ sym (use_old k apart) ∙ is
         ])

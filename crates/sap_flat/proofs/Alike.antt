@@ -3,16 +3,18 @@ use Rattle.std.proofs.Common.{◌≡◌, ℕ, ◌≤◌, ◌&&◌, ◌==◌, map
 use Rattle.std.specs.Prelude.{if◌then◌else◌}
 use Rattle.std.specs.Str.{bytes_eq}
 use Rattle.std.proofs.lemmas.Bool.{cases_Bool}
+use Rattle.sap_lemmas.proofs.Texts.{bytes_eq_apart_back, bytes_eq_same}
+use Rattle.sap_maps.proofs.ScopeLemmas.{found_first}
 use Rattle.sap_bits.specs.Arithmetic.{value1, value2, slice_of, joined}
 use Rattle.sap_maps.specs.Maps.{Name}
 use Rattle.sap_maps.specs.Scope.{find}
 use Rattle.sap_maps.specs.Term.{Term, constant, read, cell, one, two, choose, join, part, term_width}
-use Rattle.sap_maps.proofs.Scopes.{same_name, apart, apart_back}
+use Rattle.sap_maps.proofs.Scopes.{apart}
 use Rattle.sap_net.specs.Names.{AreDistinct}
 use Rattle.sap_ir.specs.Source.{Action, set, put, Source, readable, shapes}
 use Rattle.sap_ir.specs.Guarded.{Going, value_in, after_action}
 use Rattle.sap_ir.specs.IsGuarded.{TermFine, ActionFine, declared}
-use Rattle.sap_ir.proofs.Declared.{found_first, assignable_readable}
+use Rattle.sap_ir.proofs.Declared.{assignable_readable}
 use Rattle.sap_ir.proofs.Passes.{WidthsDeclared, fine_width}
 use Rattle.sap_ir.specs.Plain.Nested.{Forest, has_states, size, seat_width}
 use Rattle.sap_ir.specs.Plain.Does.{put_value}
@@ -68,7 +70,7 @@ set_alike s g h a n x y e =
 pub gate_alike : (s : Source) (vf vp : Name → ℕ) → World s vf vp → (g h : Going) → Alike s g h → (k x : ℕ) → Alike s (put_value g (gate_name k) x) h
 gate_alike s vf vp w g h a k x =
     record {
-      value = λ m u f. rw (apart_back (gate_name k) m (apart (readable s) (gate_name k) m u (w.new k) f)) (a.value m u f);
+      value = λ m u f. rw (bytes_eq_apart_back (gate_name k) m (apart (readable s) (gate_name k) m u (w.new k) f)) (a.value m u f);
       cells = a.cells;
       next = a.next;
     }
@@ -87,7 +89,7 @@ act_alike s vf vp w g h al (put m i t) f =
 -- gates
 
 pub at_gate : (g : Going) (k x : ℕ) → (put_value g (gate_name k) x).now.value (gate_name k) ≡ x
-at_gate g k x = rw (same_name (gate_name k)) refl
+at_gate g k x = rw (bytes_eq_same (gate_name k)) refl
 
 pub past_gate : (g : Going) (k j x : ℕ) → (j == k) ≡ false → (put_value g (gate_name k) x).now.value (gate_name j) ≡ g.now.value (gate_name j)
 past_gate g k j x f = rw (gate_differs j k f) refl

@@ -1,13 +1,17 @@
 -- What the flat program declares, and that it is one.
 use Rattle.std.proofs.Common.{◌≡◌, ℕ, ◌^◌, ◌≤◌, List, [], ◌∷◌, ◌++◌, map, None, true, false, sym, ap, ◌∙◌, subst, refl, arith, append_assoc}
 use Rattle.std.specs.List.{AllByRecursion}
+use Rattle.sap_lemmas.proofs.Everywhere.{all_append}
+use Rattle.sap_net.proofs.NamesLemmas.{among_front, not_found}
+use Rattle.sap_maps.proofs.ScopeLemmas.{found_first, found_second}
+use Rattle.sap_ir.proofs.IsGuardedLemmas.{variables_append}
 use Rattle.sap_maps.specs.Maps.{Name}
 use Rattle.sap_maps.specs.Scope.{Scope, find}
 use Rattle.sap_net.specs.Names.{is_name, is_among, AreDistinct}
 use Rattle.sap_ir.specs.declared.guarded.Var.{Var}
 use Rattle.sap_ir.specs.Source.{readable, width_of}
 use Rattle.sap_ir.specs.IsGuarded.{assignable, variable_names, memory_names, declared, is_helping, IsPlainVar, IsGuarded}
-use Rattle.sap_ir.proofs.Declared.{among_front, found_first, found_second, not_found, not_front, not_behind_list, readable_width, shape_width}
+use Rattle.sap_ir.proofs.Declared.{not_front, not_behind_list, readable_width, shape_width}
 use Rattle.sap_ir.proofs.Passes.{source_widths}
 use Rattle.sap_ir.specs.Plain.Nested.{Nested, declarations, root_seat, seats}
 use Rattle.sap_ir.specs.Plain.IsPlain.{IsPlain}
@@ -15,7 +19,7 @@ use Rattle.sap_flat.specs.Gates.{gate_name, gate_wires}
 use Rattle.sap_flat.specs.Flat.{flat_states, flattened}
 use Rattle.sap_flat.proofs.GateNames.{gate_not_among}
 use Rattle.sap_flat.proofs.Alike.{World, seat_found}
-use Rattle.sap_flat.proofs.Listed.{all_behind, all_with, distinct_with, variables_append, gates_distinct, gates_apart, gates_named, gates_not_helping, gates_plain, gate_found, not_declared}
+use Rattle.sap_flat.proofs.Listed.{all_with, distinct_with, gates_distinct, gates_apart, gates_named, gates_not_helping, gates_plain, gate_found, not_declared}
 use Rattle.sap_flat.proofs.Fits.{Grown, states_fit}
 
 -- how many gates there are
@@ -137,7 +141,7 @@ flat_is_guarded p h l =
       not_helping = flat_all p (λ n. is_helping n ≡ false) d.not_helping (gates_not_helping 0 (gate_count p) (omega (arith, l)));
       declared_once = flat_distinct p h;
       inputs = d.inputs;
-      wires = all_behind IsPlainVar p.wires gates d.wires (gates_plain 0 (gate_count p));
+      wires = all_append IsPlainVar p.wires gates d.wires (gates_plain 0 (gate_count p));
       registers = d.registers;
       memories = d.memories;
       ports_declared = subst (λ (ns : List Name). AllByRecursion (λ x. is_among x (variable_names p.registers ++ ns) ≡ true) p.ports) (sym (variables_append p.wires gates)) (more_ports (variable_names p.registers) (variable_names p.wires) (variable_names gates) p.ports d.ports_declared);

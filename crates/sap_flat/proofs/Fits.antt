@@ -3,21 +3,22 @@ use Rattle.std.proofs.Common.{◌≡◌, ℕ, ◌+◌, ◌^◌, ◌<◌, ◌≤�
 use Rattle.std.specs.Str.{bytes_eq}
 use Rattle.std.specs.List.{AllByRecursion}
 use Rattle.std.proofs.lemmas.Bool.{cases_Bool}
+use Rattle.sap_lemmas.proofs.Everywhere.{all_append}
+use Rattle.sap_lemmas.proofs.Texts.{bytes_eq_apart_back}
+use Rattle.sap_net.proofs.RulesLemmas.{one_wide}
+use Rattle.sap_maps.proofs.ScopeLemmas.{found_first}
 use Rattle.sap_maps.specs.Maps.{Name}
 use Rattle.sap_maps.specs.Scope.{Scope, find}
 use Rattle.sap_maps.specs.Term.{Term, constant, read, cell, one, two, choose, join, part}
-use Rattle.sap_maps.proofs.Scopes.{apart_back}
 use Rattle.sap_net.specs.Names.{is_among}
 use Rattle.sap_net.specs.Rules.{Shapes, IsWidth}
 use Rattle.sap_ir.specs.Source.{Action, set, put, Command, readable, shapes}
 use Rattle.sap_ir.specs.IsGuarded.{TermFine, assignable, ActionFine, CommandFine}
-use Rattle.sap_ir.proofs.Declared.{found_first}
 use Rattle.sap_ir.specs.Plain.Nested.{Body, stop, act, cases, goto, fall, Forest, none, state, Nested, declarations, has_states, size, group_names, place, children_of, seat_name, seat_width}
 use Rattle.sap_ir.specs.Plain.IsPlain.{BodyFine, SeatFine, ForestFine}
 use Rattle.sap_ir.proofs.plain.SeatWidths.{seat_positive, seat_within, seat_register}
 use Rattle.sap_flat.specs.Gates.{gate_name}
 use Rattle.sap_flat.specs.Flat.{under, is_number, seated, flat_first, flat_restart, flat_goto, flat_body, flat_gates, flat_group, flattened}
-use Rattle.sap_flat.proofs.Listed.{all_behind}
 use Rattle.sap_flat.proofs.Grows.{body_grows, group_grows}
 use Rattle.sap_flat.proofs.Moved.{among_some, children_seat, children_fine}
 
@@ -52,13 +53,10 @@ abbrev pub Fit : Nested → List Command → Type 0
 Fit p cs = AllByRecursion (CommandFine (flattened p)) cs
 
 both_fit : (p : Nested) (cs ds : List Command) → Fit p cs → Fit p ds → Fit p (cs ++ ds)
-both_fit p cs ds a b = all_behind (CommandFine (flattened p)) cs ds a b
+both_fit p cs ds a b = all_append (CommandFine (flattened p)) cs ds a b
 
 width_fine : (n : ℕ) → IsWidth (seat_width n)
 width_fine n = (seat_positive n, seat_within n)
-
-one_wide : IsWidth 1
-one_wide = (omega arith, omega arith)
 
 -- registers of current children
 
@@ -93,7 +91,7 @@ place_below none x h = absurd (cc)
 place_below (state y b kids rest) x h =
     elim (cases_Bool (bytes_eq y x)) [
       | inl t ↦ rw t (omega arith)
-      | inr f ↦ rw f (let r = place_below rest x (rw (apart_back y x f) at h) in omega (arith, r))
+      | inr f ↦ rw f (let r = place_below rest x (rw (bytes_eq_apart_back y x f) at h) in omega (arith, r))
     ]
 
 goto_fits : (p : Nested) (count : ℕ) → Grown p count → (j : ℕ) → j < count → (ss gs : List Name) (seat : Name) (group : Forest) → SeatFine (declarations p) seat group → ForestFine (declarations p) ss gs group → (x : Name) → is_among x (group_names group) ≡ true → Fit p (flat_goto seat group j x)

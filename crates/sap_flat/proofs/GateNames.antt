@@ -7,26 +7,14 @@ use Rattle.std.specs.List.{AllByRecursion, list_all}
 use Rattle.std.specs.Str.{bytes_eq}
 use Rattle.std.proofs.lemmas.Fmt.{decimal_by_steps, decimal_injective}
 use Rattle.std.proofs.lemmas.List.{length-replicate}
-use Rattle.std.proofs.lemmas.Bool.{and_from, and_parts, cases_Bool, eq-eqb}
-use Rattle.std.proofs.lemmas.Bool.Decides.{nat_tests}
+use Rattle.std.proofs.lemmas.Bool.{and_from, and_parts, cases_Bool, eq-eqb, lt-ltb, ltb-true}
+use Rattle.sap_lemmas.proofs.Texts.{digit_in_range, equal_of_bytes_eq}
+use Rattle.sap_net.proofs.NamesLemmas.{digits_inner}
 use Rattle.sap_maps.specs.Maps.{Name}
-use Rattle.sap_maps.proofs.Scopes.{name_is}
 use Rattle.sap_net.specs.Names.{is_inner, is_name, is_among}
 use Rattle.sap_ir.specs.IsGuarded.{is_helping}
 use Rattle.sap_ir.specs.Plain.IsPlain.{is_gate}
 use Rattle.sap_flat.specs.Gates.{gate_name}
-
-below : (a b : ℕ) → nat_lt a b ≡ true → a < b
-below a b h = grind (arith, nat_tests)
-
-less : (a b : ℕ) → a < b → nat_lt a b ≡ true
-less a b h = grind (arith, nat_tests)
-
-digit_in : (c : ℕ) → 48 ≤ c → c < 58 → is_ascii_digit c ≡ true
-digit_in c h k = grind (arith, nat_tests)
-
-inner_is : (c : ℕ) → is_ascii_digit c ≡ true → is_inner c ≡ true
-inner_is c h = grind (arith, nat_tests)
 
 all_behind : (xs ys : List ℕ) → list_all is_ascii_digit xs ≡ true → list_all is_ascii_digit ys ≡ true → list_all is_ascii_digit (xs ++ ys) ≡ true
 all_behind [] ys h k = k
@@ -42,7 +30,7 @@ abbrev Digits : ℕ → List ℕ → Type 0
 Digits n ds = (0 < length ds) × (list_all is_ascii_digit ds ≡ true)
 
 one_digit : (n : ℕ) → n < 10 → Digits n ((48 + n) ∷ [])
-one_digit n h = (omega arith, and_from (is_ascii_digit (48 + n)) true (digit_in (48 + n) (omega arith) (omega (arith, h))) refl)
+one_digit n h = (omega arith, and_from (is_ascii_digit (48 + n)) true (digit_in_range (48 + n) (omega arith) (omega (arith, h))) refl)
 
 more_digits : (n : ℕ) (ds : List ℕ) → 10 ≤ n → Digits (n / 10) ds → Digits n (ds ++ ((48 + n % 10) ∷ []))
 more_digits n ds h r = (some_behind ds (48 + n % 10), all_behind ds ((48 + n % 10) ∷ []) r.1 (one_digit (n % 10) (omega arith)).1)
@@ -58,19 +46,13 @@ no_helping : (ds : List ℕ) → is_helping (103 ∷ ds) ≡ false
 no_helping [] = refl
 no_helping (d ∷ ds) = refl
 
-all_inner : (ds : List ℕ) → list_all is_ascii_digit ds ≡ true → list_all is_inner ds ≡ true
-all_inner [] h = refl
-all_inner (d ∷ ds) h =
-    let p = and_parts (is_ascii_digit d) (list_all is_ascii_digit ds) h in
-    and_from (is_inner d) (list_all is_inner ds) (inner_is d p.0) (all_inner ds p.1)
-
 word_of : (ds : List ℕ) → list_all is_inner ds ≡ true → is_name (103 ∷ ds) ≡ true
 unfolding is_name
 word_of ds h = rw h refl
 
 pub gate_small : (k : ℕ) → k < 2 ^ 64 → gate_name k ≡ 103 ∷ decimal k
 unfolding gate_name
-gate_small k l = rw (less k (2 ^ 64) l) refl
+gate_small k l = rw (lt-ltb k (2 ^ 64) l) refl
 
 gate_large : (k : ℕ) → nat_lt k (2 ^ 64) ≡ false → gate_name k ≡ replicate k 0
 unfolding gate_name
@@ -80,7 +62,7 @@ pub gate_is_gate : (k : ℕ) → k < 2 ^ 64 → is_gate (gate_name k) ≡ true
 gate_is_gate k l = let d = digits k l in ap is_gate (gate_small k l) ∙ gate_of (decimal k) d.0 d.1
 
 pub gate_is_name : (k : ℕ) → k < 2 ^ 64 → is_name (gate_name k) ≡ true
-gate_is_name k l = ap is_name (gate_small k l) ∙ word_of (decimal k) (all_inner (decimal k) (digits k l).1)
+gate_is_name k l = ap is_name (gate_small k l) ∙ word_of (decimal k) (digits_inner (decimal k) (digits k l).1)
 
 pub gate_is_not_helping : (k : ℕ) → k < 2 ^ 64 → is_helping (gate_name k) ≡ false
 gate_is_not_helping k l = ap is_helping (gate_small k l) ∙ no_helping (decimal k)
@@ -95,9 +77,9 @@ pub gate_other : (k : ℕ) (n : Name) → is_name n ≡ true → is_gate n ≡ f
 gate_other k n h g =
     elim (cases_Bool (bytes_eq (gate_name k) n)) [
       | inl t ↦
-          let e : gate_name k ≡ n = name_is (gate_name k) n t in
+          let e : gate_name k ≡ n = equal_of_bytes_eq (gate_name k) n t in
           elim (cases_Bool (nat_lt k (2 ^ 64))) [
-            | inl s ↦ absurd (let q = gate_is_gate k (below k (2 ^ 64) s) in let r : is_gate (gate_name k) ≡ is_gate n = ap is_gate e in cc)
+            | inl s ↦ absurd (let q = gate_is_gate k (ltb-true k (2 ^ 64) s) in let r : is_gate (gate_name k) ≡ is_gate n = ap is_gate e in cc)
             | inr l ↦ absurd (let q : is_name (gate_name k) ≡ false = ap is_name (gate_large k l) ∙ no_name k in let r : is_name (gate_name k) ≡ is_name n = ap is_name e in cc)
           ]
       | inr f ↦ f
@@ -125,17 +107,17 @@ unfolding tail
 gate_injective i j e =
     elim (cases_Bool (nat_lt i (2 ^ 64))) [
       | inl s ↦
-          let a = gate_small i (below i (2 ^ 64) s) in
+          let a = gate_small i (ltb-true i (2 ^ 64) s) in
           elim (cases_Bool (nat_lt j (2 ^ 64))) [
             | inl t ↦
-                let b = gate_small j (below j (2 ^ 64) t) in
-                decimal_injective i j (below i (2 ^ 64) s) (below j (2 ^ 64) t) (ap tail (sym a ∙ e ∙ b))
+                let b = gate_small j (ltb-true j (2 ^ 64) t) in
+                decimal_injective i j (ltb-true i (2 ^ 64) s) (ltb-true j (2 ^ 64) t) (ap tail (sym a ∙ e ∙ b))
             | inr t ↦ absurd (apart_ends i j (sym a ∙ e ∙ gate_large j t))
           ]
       | inr s ↦
           let a = gate_large i s in
           elim (cases_Bool (nat_lt j (2 ^ 64))) [
-            | inl t ↦ absurd (apart_ends j i (sym (gate_small j (below j (2 ^ 64) t)) ∙ sym e ∙ a))
+            | inl t ↦ absurd (apart_ends j i (sym (gate_small j (ltb-true j (2 ^ 64) t)) ∙ sym e ∙ a))
             | inr t ↦ sym (length-replicate i 0) ∙ ap length (sym a ∙ e ∙ gate_large j t) ∙ length-replicate j 0
           ]
     ]
@@ -143,7 +125,7 @@ gate_injective i j e =
 pub gate_differs : (i j : ℕ) → (i == j) ≡ false → bytes_eq (gate_name i) (gate_name j) ≡ false
 gate_differs i j h =
     elim (cases_Bool (bytes_eq (gate_name i) (gate_name j))) [
-      | inl t ↦ absurd (let e = eq-eqb i j (gate_injective i j (name_is (gate_name i) (gate_name j) t)) in cc)
+      | inl t ↦ absurd (let e = eq-eqb i j (gate_injective i j (equal_of_bytes_eq (gate_name i) (gate_name j) t)) in cc)
       | inr f ↦ f
     ]
 

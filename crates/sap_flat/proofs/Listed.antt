@@ -1,61 +1,40 @@
 -- Names on lists with gates among them.
-use Rattle.std.proofs.Common.{◌≡◌, ℕ, zero, suc, ◌+◌, ◌<◌, ◌≤◌, ◌^◌, ◌==◌, List, [], ◌∷◌, ◌++◌, map, Some, None, true, false, sym, ap, ◌∙◌, subst, refl, arith, inl, inr}
+use Rattle.std.proofs.Common.{◌≡◌, ℕ, zero, suc, ◌+◌, ◌<◌, ◌≤◌, ◌^◌, ◌==◌, List, [], ◌∷◌, ◌++◌, map, Some, None, true, false, sym, ◌∙◌, subst, refl, arith, inl, inr}
 use Rattle.std.specs.Str.{bytes_eq}
 use Rattle.std.specs.List.{AllByRecursion}
-use Rattle.std.proofs.lemmas.Bool.{cases_Bool, ne_eqb, eqb-true}
-use Rattle.std.proofs.lemmas.Bool.Decides.{nat_tests}
+use Rattle.std.proofs.lemmas.Bool.{cases_Bool, ne_eqb}
+use Rattle.sap_lemmas.proofs.Everywhere.{all_append}
+use Rattle.sap_lemmas.proofs.Numbers.{above_unequal, equal_of_test}
+use Rattle.sap_lemmas.proofs.Texts.{bytes_eq_apart_back, bytes_eq_same, equal_of_bytes_eq}
+use Rattle.sap_net.proofs.NamesLemmas.{among_behind, among_neither, distinct_both, not_found}
+use Rattle.sap_maps.proofs.ScopeLemmas.{found_second}
 use Rattle.sap_maps.specs.Maps.{Name}
 use Rattle.sap_maps.specs.Scope.{Scope, find}
-use Rattle.sap_maps.proofs.Scopes.{same_name, name_is, apart_back}
 use Rattle.sap_net.specs.Names.{is_name, is_among, AreDistinct}
 use Rattle.sap_ir.specs.declared.guarded.Var.{Var}
 use Rattle.sap_ir.specs.Source.{Source, readable}
 use Rattle.sap_ir.specs.IsGuarded.{variable_names, memory_names, declared, is_helping, IsPlainVar}
-use Rattle.sap_ir.proofs.Declared.{among_append, among_behind, not_front, not_behind_list, not_found, found_second}
+use Rattle.sap_ir.proofs.Declared.{not_front, not_behind_list}
 use Rattle.sap_flat.specs.Gates.{gate_name, gate_wires}
 use Rattle.sap_flat.specs.Same.{IsGate}
 use Rattle.sap_flat.proofs.GateNames.{gate_is_gate, gate_is_name, gate_is_not_helping, gate_differs}
 
-pub all_behind : {X : Type 0} (P : X → Type 0) (xs ys : List X) → AllByRecursion P xs → AllByRecursion P ys → AllByRecursion P (xs ++ ys)
-all_behind P [] ys a b = b
-all_behind P (x ∷ xs) ys a b = (a.0, all_behind P xs ys a.1 b)
-
 -- more names before the last ones
 pub all_with : {X : Type 0} (P : X → Type 0) (xs gs zs : List X) → AllByRecursion P (xs ++ zs) → AllByRecursion P gs → AllByRecursion P (xs ++ (gs ++ zs))
-all_with P [] gs zs a b = all_behind P gs zs b a
+all_with P [] gs zs a b = all_append P gs zs b a
 all_with P (x ∷ xs) gs zs a b = (a.0, all_with P xs gs zs a.1 b)
-
-not_both : (n : Name) (xs ys : List Name) → is_among n xs ≡ false → is_among n ys ≡ false → is_among n (xs ++ ys) ≡ false
-not_both n xs ys a b = among_append n xs ys ∙ rw (a, b) refl
-
-distinct_both : (gs zs : List Name) → AreDistinct gs → AreDistinct zs → ((n : Name) → is_among n gs ≡ true → is_among n zs ≡ false) → AreDistinct (gs ++ zs)
-distinct_both [] zs a b k = b
-distinct_both (x ∷ gs) zs a b k = (
-  not_both x gs zs a.0 (k x (rw (same_name x) refl)),
-  distinct_both gs zs a.1 b (λ n h. k n (among_behind n (x ∷ []) gs h)),
-)
 
 pub distinct_with : (xs gs zs : List Name) → AreDistinct (xs ++ zs) → AreDistinct gs → ((n : Name) → is_among n gs ≡ true → is_among n (xs ++ zs) ≡ false) → AreDistinct (xs ++ (gs ++ zs))
 distinct_with [] gs zs a b k = distinct_both gs zs b a k
 distinct_with (x ∷ xs) gs zs a b k =
     let new : is_among x gs ≡ false =
     elim (cases_Bool (is_among x gs)) [
-      | inl t ↦ absurd (let e : is_among x (x ∷ (xs ++ zs)) ≡ false = k x t in let q : is_among x (x ∷ (xs ++ zs)) ≡ true = rw (same_name x) refl in cc)
+      | inl t ↦ absurd (let e : is_among x (x ∷ (xs ++ zs)) ≡ false = k x t in let q : is_among x (x ∷ (xs ++ zs)) ≡ true = rw (bytes_eq_same x) refl in cc)
       | inr f ↦ f
     ] in (
-      not_both x xs (gs ++ zs) (not_front x xs zs a.0) (not_both x gs zs new (not_behind_list x xs zs a.0)),
+      among_neither x xs (gs ++ zs) (not_front x xs zs a.0) (among_neither x gs zs new (not_behind_list x xs zs a.0)),
       distinct_with xs gs zs a.1 b (λ n h. not_behind_list n (x ∷ []) (xs ++ zs) (k n h)),
     )
-
-pub variables_append : (xs ys : List Var) → variable_names (xs ++ ys) ≡ variable_names xs ++ variable_names ys
-variables_append [] ys = refl
-variables_append (x ∷ xs) ys = ap (λ (ns : List Name). x.name ∷ ns) (variables_append xs ys)
-
-is_equal : (a b : ℕ) → (a == b) ≡ true → a ≡ b
-is_equal a b h = eqb-true a b h
-
-beyond : (u v : ℕ) → u ≤ v → (u == v) ≡ false → u + 1 ≤ v
-beyond u v l q = grind (arith, nat_tests)
 
 -- the names of the gates
 
@@ -63,7 +42,7 @@ gate_among : (n : Name) (k count : ℕ) → is_among n (variable_names (gate_wir
 gate_among n k zero h = absurd (cc)
 gate_among n k (suc c) h =
     elim (cases_Bool (bytes_eq n (gate_name k))) [
-      | inl t ↦ (k, omega arith, name_is n (gate_name k) t)
+      | inl t ↦ (k, omega arith, equal_of_bytes_eq n (gate_name k) t)
       | inr f ↦ let r = gate_among n (k + 1) c (rw f at h) in (r.0, omega (arith, r.1), r.2)
     ]
 
@@ -71,7 +50,7 @@ pub gates_distinct : (k count : ℕ) → AreDistinct (variable_names (gate_wires
 gates_distinct k zero = tt
 gates_distinct k (suc c) = (
   elim (cases_Bool (is_among (gate_name k) (variable_names (gate_wires (k + 1) c)))) [
-    | inl t ↦ absurd (let r = gate_among (gate_name k) (k + 1) c t in let d = gate_differs k r.0 (ne_eqb k r.0 (λ e. omega (arith, e, r.1))) in let s : bytes_eq (gate_name k) (gate_name r.0) ≡ true = subst (λ (m : Name). bytes_eq (gate_name k) m ≡ true) r.2 (same_name (gate_name k)) in cc)
+    | inl t ↦ absurd (let r = gate_among (gate_name k) (k + 1) c t in let d = gate_differs k r.0 (ne_eqb k r.0 (λ e. omega (arith, e, r.1))) in let s : bytes_eq (gate_name k) (gate_name r.0) ≡ true = subst (λ (m : Name). bytes_eq (gate_name k) m ≡ true) r.2 (bytes_eq_same (gate_name k)) in cc)
     | inr f ↦ f
   ],
   gates_distinct (k + 1) c,
@@ -101,8 +80,8 @@ pub gate_found : (k count i : ℕ) → k ≤ i → i < k + count → find (map (
 gate_found k zero i l m = absurd (omega (arith, l, m))
 gate_found k (suc c) i l m =
     elim (cases_Bool (k == i)) [
-      | inl t ↦ let e : k ≡ i = is_equal k i t in rw (subst (λ (j : ℕ). bytes_eq (gate_name k) (gate_name j) ≡ true) e (same_name (gate_name k))) refl
-      | inr f ↦ rw (gate_differs k i f) (gate_found (k + 1) c i (beyond k i l f) (omega (arith, m)))
+      | inl t ↦ let e : k ≡ i = equal_of_test k i t in rw (subst (λ (j : ℕ). bytes_eq (gate_name k) (gate_name j) ≡ true) e (bytes_eq_same (gate_name k))) refl
+      | inr f ↦ rw (gate_differs k i f) (gate_found (k + 1) c i (above_unequal k i l f) (omega (arith, m)))
     ]
 
 -- a name that isn't declared is not found
@@ -129,7 +108,7 @@ found_some [] n h = absurd (cc)
 found_some (x ∷ xs) n h =
     elim (cases_Bool (bytes_eq x.name n)) [
       | inl t ↦ (x.width, rw t refl)
-      | inr f ↦ let r = found_some xs n (rw (apart_back x.name n f) at h) in (r.0, rw f r.1)
+      | inr f ↦ let r = found_some xs n (rw (bytes_eq_apart_back x.name n f) at h) in (r.0, rw f r.1)
     ]
 
 some_front : (es fs : Scope) (n : Name) (u : ℕ) → find es n ≡ Some u → (w : ℕ) × (find (es ++ fs) n ≡ Some w)
@@ -169,6 +148,6 @@ wire_found s n h =
 pub each_name : (xs : List Var) (P : Name → Type 0) → ((n : Name) → is_among n (variable_names xs) ≡ true → P n) → AllByRecursion (λ x. P x.name) xs
 each_name [] P k = tt
 each_name (x ∷ xs) P k = (
-  k x.name (rw (same_name x.name) refl),
+  k x.name (rw (bytes_eq_same x.name) refl),
   each_name xs P (λ n h. k n (among_behind n (x.name ∷ []) (variable_names xs) h)),
 )

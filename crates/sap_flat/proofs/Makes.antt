@@ -5,6 +5,7 @@ use Rattle.std.specs.declared.alloc.Global.{Global}
 use Rattle.std.specs.Prelude.{if◌then◌else◌, slice_get}
 use Rattle.std.specs.Str.{bytes_eq}
 use Rattle.std.proofs.lemmas.Bool.{cases_Bool}
+use Rattle.std.proofs.lemmas.List.{append-nil}
 use Rattle.sap_maps.specs.Maps.{Name}
 use Rattle.sap_maps.specs.Term.{Term, constant, read}
 use Rattle.sap_ir.specs.declared.guarded.Var.{Var}
@@ -43,10 +44,6 @@ pub size_is : (ss : List PlainState) → size (forest_of ss) ≡ length ss
 size_is [] = ap size forest_of-none
 size_is (s ∷ ss) = ap size (forest_of-more s ss ∙ state_before-out s (forest_of ss)) ∙ ap suc (size_is ss)
 
-pub list_none : (cs : List Command) → cs ++ [] ≡ cs
-list_none [] = refl
-list_none (c ∷ cs) = ap (λ (ds : List Command). c ∷ ds) (list_none cs)
-
 -- a state's children return to the first
 
 pub first_none : (j : ℕ) (x : Name) (ss : List PlainState) → length ss ≡ 0 → first_commands j x ss ≡ []
@@ -62,7 +59,7 @@ first_some j x (s ∷ ss) h =
     ap (flat_first j x) e
     ∙ ap (λ (n : ℕ). under j (set (seat_name x) (constant (seat_width n) 0)) ∷ []) (ap suc (size_is ss))
 
-pub ruleset firsts = (first_none, first_some, list_none)
+pub ruleset firsts = (first_none, first_some, append-nil)
 
 -- each group below returns to its first
 
@@ -96,13 +93,13 @@ restart-past j (s ∷ ss) (suc n) h = restart-past j ss n (omega arith)
 
 -- nothing is left
 pub restart_rest : (es : List Command) (j : ℕ) (ss : List PlainState) (n : ℕ) (all : List Command) → length ss ≤ n → es ++ restart_commands j (drop n ss) ≡ all → es ≡ all
-restart_rest es j ss n all h e = sym (list_none es) ∙ ap (λ (l : List Command). es ++ l) (sym (restart-past j ss n h)) ∙ e
+restart_rest es j ss n all h e = sym (append-nil es) ∙ ap (λ (l : List Command). es ++ l) (sym (restart-past j ss n h)) ∙ e
 
 pub restart_one-is : (j : ℕ) (s : PlainState) → restart_one j s ≡ first_commands j (out-PlainState s).name (out-PlainState s).children.items ++ restart_commands j (out-PlainState s).children.items
 unfolding restart_one first_commands restart_commands
 restart_one-is j s =
     ap (flat_restart j) (state_before-out s none)
-    ∙ ap (λ (cs : List Command). flat_first j (out-PlainState s).name (forest_of (out-PlainState s).children.items) ++ cs) (list_none (flat_restart j (forest_of (out-PlainState s).children.items)))
+    ∙ ap (λ (cs : List Command). flat_first j (out-PlainState s).name (forest_of (out-PlainState s).children.items) ++ cs) (append-nil (flat_restart j (forest_of (out-PlainState s).children.items)))
 
 pub ruleset restarts = (restart-drop, restart-past, restart_one-is, append_assoc)
 
@@ -240,19 +237,19 @@ command_if seat ss fell t ys ns j k =
     let y = flat_body seat (forest_of ss) fell (body_of ys.items) k (k + 2) in
     let n = flat_body seat (forest_of ss) fell (body_of ns.items) (k + 1) y.next in
     ap (λ (b : Body). flat_body seat (forest_of ss) fell b j k) (before-if t ys ns stop)
-    ∙ ap (λ (cs : List Command). made (under j (set (gate_name k) (term_of t)) ∷ under j (set (gate_name (k + 1)) (is_number (read (gate_name k)) 1 0)) ∷ cs) n.next) (list_none (y.commands ++ n.commands))
+    ∙ ap (λ (cs : List Command). made (under j (set (gate_name k) (term_of t)) ∷ under j (set (gate_name (k + 1)) (is_number (read (gate_name k)) 1 0)) ∷ cs) n.next) (append-nil (y.commands ++ n.commands))
 
 pub command_goto : (seat : Name) (ss : List PlainState) (fell : ℕ) (x : Name) (j k : ℕ) → command_flat seat ss fell (cmd.Goto x) j k ≡ made (goto_commands seat ss j x) k
 unfolding command_flat goto_commands
 command_goto seat ss fell x j k =
     ap (λ (b : Body). flat_body seat (forest_of ss) fell b j k) (before-goto x stop)
-    ∙ ap (λ (cs : List Command). made cs k) (list_none (flat_goto seat (forest_of ss) j x))
+    ∙ ap (λ (cs : List Command). made cs k) (append-nil (flat_goto seat (forest_of ss) j x))
 
 pub command_fall : (seat : Name) (ss : List PlainState) (fell : ℕ) (j k : ℕ) → command_flat seat ss fell cmd.Fall j k ≡ made (under j (set (gate_name fell) (constant 1 1)) ∷ []) k
 unfolding command_flat
 command_fall seat ss fell j k = ap (λ (b : Body). flat_body seat (forest_of ss) fell b j k) (before-fall stop)
 
-pub ruleset bodies = (commands-drop, commands-past, command_do, command_if, command_goto, command_fall, append_assoc, list_none)
+pub ruleset bodies = (commands-drop, commands-past, command_do, command_if, command_goto, command_fall, append_assoc, append-nil)
 
 -- gates of a group
 
@@ -275,7 +272,7 @@ gates-past c seat u [] (suc n) i j h = gates_none c seat u i j
 gates-past c seat u (s ∷ ss) zero i j h = absurd (omega arith)
 gates-past c seat u (s ∷ ss) (suc n) i j h = gates-past c seat u ss n i j (omega arith)
 
-pub ruleset marks = (gates-drop, gates-past, append_assoc, list_none)
+pub ruleset marks = (gates-drop, gates-past, append_assoc, append-nil)
 
 -- groups
 
@@ -294,7 +291,7 @@ state_is seat group s j k =
     let kids = forest_of (out-PlainState s).children.items in
     ap (λ (f : Forest). flat_group seat (forest_of group) f j k) (state_before-out s none)
     ∙ ap (λ (n : ℕ). one_state seat (forest_of group) x b kids n j k) (size_is (out-PlainState s).children.items)
-    ∙ ap (λ (cs : List Command). made cs (one_state seat (forest_of group) x b kids (length (out-PlainState s).children.items) j k).next) (list_none _)
+    ∙ ap (λ (cs : List Command). made cs (one_state seat (forest_of group) x b kids (length (out-PlainState s).children.items) j k).next) (append-nil _)
 
 states_more : (seat : Name) (group : List PlainState) (s : PlainState) (ss : List PlainState) (j k : ℕ) → states_flat seat group (s ∷ ss) j k ≡ then_flat (state_flat seat group s j k) (states_flat seat group ss (j + 1))
 unfolding states_flat state_flat
@@ -307,7 +304,7 @@ states_more seat group s ss j k =
     let cs : List Command = d.commands ++ (flat_gates (read (gate_name k)) (seat_name x) (seat_width (size kids)) kids 0 (k + 1) ++ c.commands) in
     let r = flat_group seat (forest_of group) (forest_of ss) (j + 1) c.next in
     ap (λ (f : Forest). flat_group seat (forest_of group) f j k) (forest_of-more s ss ∙ state_before-out s (forest_of ss))
-    ∙ ap (λ (l : List Command). made (l ++ r.commands) r.next) (sym (list_none cs))
+    ∙ ap (λ (l : List Command). made (l ++ r.commands) r.next) (sym (append-nil cs))
     ∙ sym (ap (λ (f : Forest). then_flat (flat_group seat (forest_of group) f j k) (flat_group seat (forest_of group) (forest_of ss) (j + 1))) (state_before-out s none))
 
 states_none : (seat : Name) (group : List PlainState) (j k : ℕ) → states_flat seat group [] j k ≡ made [] k
@@ -325,7 +322,7 @@ states-past seat group [] (suc n) j k h = states_none seat group j k
 states-past seat group (s ∷ ss) zero j k h = absurd (omega arith)
 states-past seat group (s ∷ ss) (suc n) j k h = states-past seat group ss n j k (omega arith)
 
-pub ruleset states = (states-drop, states-past, state_is, append_assoc, list_none)
+pub ruleset states = (states-drop, states-past, state_is, append_assoc, append-nil)
 
 -- the whole
 

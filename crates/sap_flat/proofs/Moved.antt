@@ -2,9 +2,9 @@
 use Rattle.std.proofs.Common.{◌≡◌, ℕ, ◌==◌, List, [], ◌∷◌, ◌++◌, Some, true, false, ap, ◌∙◌, subst, refl, inl, inr}
 use Rattle.std.specs.Str.{bytes_eq}
 use Rattle.std.proofs.lemmas.Bool.{cases_Bool}
+use Rattle.sap_lemmas.proofs.Texts.{equal_of_bytes_eq}
 use Rattle.sap_maps.specs.Maps.{Name}
 use Rattle.sap_maps.specs.Scope.{find}
-use Rattle.sap_maps.proofs.Scopes.{name_is}
 use Rattle.sap_net.specs.Names.{is_among}
 use Rattle.sap_ir.specs.Source.{Source, readable}
 use Rattle.sap_ir.specs.Guarded.{Going}
@@ -69,7 +69,7 @@ pub children_seat : (s : Source) (ss gs : List Name) (f : Forest) → ForestFine
 children_seat s ss gs none fine x = tt
 children_seat s ss gs (state y b kids rest) fine x =
     elim (cases_Bool (bytes_eq y x)) [
-      | inl t ↦ rw t (subst (λ (n : Name). SeatFine s (seat_name n) kids) (name_is y x t) fine.2)
+      | inl t ↦ rw t (subst (λ (n : Name). SeatFine s (seat_name n) kids) (equal_of_bytes_eq y x t) fine.2)
       | inr f ↦ rw f (children_seat s ss gs rest fine.4 x)
     ]
 

@@ -1,7 +1,9 @@
 -- A body, under a gate that is not 0: its commands do what it does until it falls, and then its other gate is 1.
 use Rattle.std.proofs.Common.{◌≡◌, ℕ, ◌+◌, ◌<◌, ◌≤◌, ◌==◌, List, [], ◌∷◌, ◌++◌, Bool, true, false, ap, ◌∙◌, refl, arith}
 use Rattle.std.specs.Prelude.{if◌then◌else◌}
-use Rattle.std.proofs.lemmas.Bool.{ne_eqb, eqb-true}
+use Rattle.std.proofs.lemmas.Bool.{ne_eqb}
+use Rattle.sap_lemmas.proofs.Numbers.{zero_of_test}
+use Rattle.sap_ir.proofs.PlainLemmas.{ends_stop}
 use Rattle.sap_maps.specs.Maps.{Name}
 use Rattle.sap_maps.specs.Term.{Term, constant, read}
 use Rattle.sap_net.specs.Names.{is_among}
@@ -89,15 +91,12 @@ chosen s vf vp w k v g h ze a =
       kept = λ i l. past_gate g1 (k + 1) i v2 (ne_eqb i (k + 1) (λ e. omega (arith, e, l))) ∙ past_gate g k i v (ne_eqb i k (λ e. omega (arith, e, l)));
     }
 
-is_zero : (n : ℕ) → (n == 0) ≡ true → n ≡ 0
-is_zero n h = eqb-true n 0 h
-
 -- the branch that is taken does its part, and the other nothing
 branches : (s : Source) (vf vp : Name → ℕ) (goes : Name → Going → Going) (seat : Name) (group : Forest) (fell : ℕ) (y n : Body) → On s vf vp goes seat group fell y → On s vf vp goes seat group fell n → (k v : ℕ) (g g2 h : Going) → Chosen s vf k v g g2 h → fell < k → g.now.value (gate_name fell) ≡ 0 → (b : Bool) → (v == 0) ≡ b → let fy = flat_body seat group fell y k (k + 2) in let fn = flat_body seat group fell n (k + 1) fy.next in Ran s vf fell k fn.next g2 (fy.commands ++ fn.commands) (if b then reached vp goes n h else reached vp goes y h)
 branches s vf vp goes seat group fell y n ony onn k v g g2 h c lf zf true q =
     let fy = flat_body seat group fell y k (k + 2) in
     let fn = flat_body seat group fell n (k + 1) fy.next in
-    let oy = body_off vf seat group fell y k (k + 2) g2 (c.first ∙ is_zero v q) c.free in
+    let oy = body_off vf seat group fell y k (k + 2) g2 (c.first ∙ zero_of_test v q) c.free in
     let rn = onn (k + 1) fy.next g2 h (omega (arith, oy.grows)) (ne_eqb (k + 1) fell (λ e. omega (arith, e, lf))) (omega (arith, oy.grows, lf)) (ap (λ (i : ℕ). i == 0) (c.second ∙ ap (λ (p : Bool). if p then 1 else 0) q)) (c.kept fell lf ∙ zf) (λ i l. c.free i (omega (arith, oy.grows, l))) c.alike in
     record {
       end = rn.end;
@@ -213,13 +212,6 @@ on_stop s vf vp goes seat group fell j k g h lj jf lf q zf ze a =
       free = ze;
       grows = omega arith;
     }
-
-ends_stop : (b : Body) → is_stop b ≡ true → ends_in_transfers b ≡ true
-ends_stop stop h = refl
-ends_stop (act d rest) h = absurd (cc)
-ends_stop (cases t y n rest) h = absurd (cc)
-ends_stop (goto x rest) h = absurd (cc)
-ends_stop (fall rest) h = absurd (cc)
 
 pub on_body : (s : Source) (vf vp : Name → ℕ) → World s vf vp → (ss : List Name) (seat : Name) (group : Forest) → SeatFine s seat group → ForestFine s ss (group_names group) group → (fell : ℕ) (nested : Bool) (b : Body) → BodyFine s ss (group_names group) nested b → ends_in_transfers b ≡ true → On s vf vp (enter seat group) seat group fell b
 on_body s vf vp w ss seat group sf fine fell nested stop bf en = on_stop s vf vp (enter seat group) seat group fell

@@ -2,15 +2,17 @@
 use Rattle.std.proofs.Common.{◌≡◌, ◌⊎◌, ◌&&◌, ℕ, ◌+◌, List, [], ◌∷◌, ◌++◌, map, filter, Some, Bool, true, false, not, sym, ap, ap₂, ◌∙◌, subst, refl, inl, inr}
 use Rattle.std.specs.Str.{bytes_eq}
 use Rattle.std.proofs.lemmas.Bool.{cases_Bool}
+use Rattle.sap_lemmas.proofs.Bools.{and_false}
+use Rattle.sap_lemmas.proofs.Texts.{bytes_eq_same, equal_of_bytes_eq}
+use Rattle.sap_net.proofs.NamesLemmas.{among_behind, among_front, found_among, not_found}
+use Rattle.sap_maps.proofs.ScopeLemmas.{found_second}
 use Rattle.sap_maps.specs.Maps.{Name}
 use Rattle.sap_maps.specs.Scope.{Scope, find}
 use Rattle.sap_maps.specs.Term.{Term, constant, read}
-use Rattle.sap_maps.proofs.Scopes.{same_name, name_is}
 use Rattle.sap_net.specs.Names.{is_among}
 use Rattle.sap_ir.specs.declared.guarded.Var.{Var}
 use Rattle.sap_ir.specs.Source.{Action, set, put, Command}
 use Rattle.sap_ir.specs.IsGuarded.{variable_names, memory_names, declared, assignable, ActionFine}
-use Rattle.sap_ir.proofs.Declared.{among_front, among_behind, found_among, not_found, found_second}
 use Rattle.sap_ir.specs.Plain.Nested.{Body, stop, act, cases, goto, fall, Forest, none, state, Nested, declarations, has_states, size, group_names, state_names, place, children_of, seat_name, root_seat, seats, seat_width}
 use Rattle.sap_ir.specs.Plain.IsPlain.{keeps_seats, BodyFine, ForestFine, IsPlain}
 use Rattle.sap_flat.specs.Gates.{gate_name}
@@ -44,12 +46,8 @@ GatesDiffer p = (k : ℕ) → is_among (gate_name k) (declared (declarations p))
 gate_other : (p : Nested) → GatesDiffer p → (k : ℕ) (t : Term Name) → is_own p (set (gate_name k) t) ≡ false
 gate_other p g k t = rw (g k) refl
 
-and_off : (b : Bool) → (b && false) ≡ false
-and_off true = refl
-and_off false = refl
-
 seat_other : (p : Nested) (x : Name) (t : Term Name) → is_among x (seats p) ≡ true → is_own p (set x t) ≡ false
-seat_other p x t h = rw h (and_off (is_among x (declared (declarations p))))
+seat_other p x t h = rw h (and_false (is_among x (declared (declarations p))))
 
 -- the registers of the states of a group, and of all below, are among these
 abbrev AreSeats : List Name → Forest → Type 0
@@ -59,7 +57,7 @@ AreSeats fixed (state x b kids rest) = (is_among (seat_name x) fixed ≡ true) �
 seats_of : (fixed : List Name) (f : Forest) → ((x : Name) → is_among x (state_names f) ≡ true → is_among (seat_name x) fixed ≡ true) → AreSeats fixed f
 seats_of fixed none h = tt
 seats_of fixed (state x b kids rest) h = (
-  h x (among_front x (x ∷ []) (state_names kids ++ state_names rest) (rw (same_name x) refl)),
+  h x (among_front x (x ∷ []) (state_names kids ++ state_names rest) (rw (bytes_eq_same x) refl)),
   seats_of fixed kids (λ y a. h y (among_behind y (x ∷ []) (state_names kids ++ state_names rest) (among_front y (state_names kids) (state_names rest) a))),
   seats_of fixed rest (λ y a. h y (among_behind y (x ∷ []) (state_names kids ++ state_names rest) (among_behind y (state_names kids) (state_names rest) a))),
 )
@@ -86,7 +84,7 @@ target_own : (p : Nested) (group : Forest) (j : ℕ) (x : Name) → AreSeats (se
 target_own p none j x h = refl
 target_own p (state y b kids rest) j x h =
     elim (cases_Bool (bytes_eq y x)) [
-      | inl t ↦ rw t (first_own p j x kids (subst (λ (z : Name). is_among (seat_name z) (seats p) ≡ true) (name_is y x t) h.0))
+      | inl t ↦ rw t (first_own p j x kids (subst (λ (z : Name). is_among (seat_name z) (seats p) ≡ true) (equal_of_bytes_eq y x t) h.0))
       | inr f ↦ rw f (target_own p rest j x h.2)
     ]
 
@@ -177,7 +175,7 @@ seat_among : (x : Name) (xs : List Name) → is_among x xs ≡ true → is_among
 seat_among x [] h = absurd (cc)
 seat_among x (y ∷ xs) h =
     elim (cases_Bool (bytes_eq x y)) [
-      | inl t ↦ among_front (seat_name x) (seat_name y ∷ []) (map seat_name xs) (rw (subst (λ (z : Name). bytes_eq (seat_name x) (seat_name z) ≡ true) (name_is x y t) (same_name (seat_name x))) refl)
+      | inl t ↦ among_front (seat_name x) (seat_name y ∷ []) (map seat_name xs) (rw (subst (λ (z : Name). bytes_eq (seat_name x) (seat_name z) ≡ true) (equal_of_bytes_eq x y t) (bytes_eq_same (seat_name x))) refl)
       | inr f ↦ among_behind (seat_name x) (seat_name y ∷ []) (map seat_name xs) (seat_among x xs (rw f at h))
     ]
 

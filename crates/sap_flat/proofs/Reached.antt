@@ -1,7 +1,9 @@
 -- A body up to its fall: what stands behind one does nothing.
-use Rattle.std.proofs.Common.{◌≡◌, ℕ, ◌&&◌, ◌||◌, ◌==◌, List, [], ◌∷◌, ◌++◌, Bool, true, false, not, sym, ap, ap₂, ◌∙◌, refl, append_assoc}
+use Rattle.std.proofs.Common.{◌≡◌, ℕ, ◌&&◌, ◌||◌, ◌==◌, List, [], ◌++◌, Bool, true, false, not, sym, ap, ap₂, ◌∙◌, refl, append_assoc}
 use Rattle.std.specs.Prelude.{if◌then◌else◌}
-use Rattle.std.proofs.lemmas.Bool.{and_parts}
+use Rattle.std.proofs.lemmas.Bool.{and_parts, or_left, or_right}
+use Rattle.std.proofs.lemmas.List.{append-nil}
+use Rattle.sap_ir.proofs.PlainLemmas.{ends_stop}
 use Rattle.sap_maps.specs.Maps.{Name}
 use Rattle.sap_maps.specs.Term.{Term}
 use Rattle.sap_ir.specs.Source.{Action, set, put}
@@ -44,25 +46,17 @@ abbrev pub finish_writes : (fell : Bool) → (below : Going → List Name) → G
 finish_writes true below g = below g
 finish_writes false below g = []
 
-or_first : (a b : Bool) → a ≡ true → (a || b) ≡ true
-or_first true b h = refl
-or_first false b h = absurd (cc)
-
-or_second : (a b : Bool) → b ≡ true → (a || b) ≡ true
-or_second true b h = refl
-or_second false b h = h
-
 stop_if : (t s : Bool) → t ≡ true → (not t || s) ≡ true → s ≡ true
 stop_if true s h k = k
 stop_if false s h k = absurd (cc)
 
 fell_behind : (f : Bool) (e : Reached) (r : Going → Reached) (p q : Bool) → (e.fell ≡ true → p ≡ true) → ((k : Going) → (r k).fell ≡ true → q ≡ true) → (behind_if f e r).fell ≡ true → (p || q) ≡ true
-fell_behind true e r p q k l h = or_first p q (k h)
-fell_behind false e r p q k l h = or_second p q (l e.going h)
+fell_behind true e r p q k l h = or_left p q (k h)
+fell_behind false e r p q k l h = or_right p q (l e.going h)
 
 fell_somewhere : (y n r : Bool) (b : Bool) (ey en : Reached) (f : Going → Reached) → (ey.fell ≡ true → y ≡ true) → (en.fell ≡ true → n ≡ true) → ((k : Going) → (f k).fell ≡ true → r ≡ true) → (behind (if b then en else ey) f).fell ≡ true → (y || n || r) ≡ true
-fell_somewhere y n r true ey en f a c d h = fell_behind en.fell en f (y || n) r (λ q. or_second y n (c q)) d h
-fell_somewhere y n r false ey en f a c d h = fell_behind ey.fell ey f (y || n) r (λ q. or_first y n (a q)) d h
+fell_somewhere y n r true ey en f a c d h = fell_behind en.fell en f (y || n) r (λ q. or_right y n (c q)) d h
+fell_somewhere y n r false ey en f a c d h = fell_behind ey.fell ey f (y || n) r (λ q. or_left y n (a q)) d h
 
 -- a fall is in the body
 pub fell_transfers : (vw : Name → ℕ) (goes : Name → Going → Going) (b : Body) (g : Going) → (reached vw goes b g).fell ≡ true → transfers b ≡ true
@@ -116,9 +110,9 @@ ending t y n rest h =
 -- where a branch of the choice falls, nothing stands behind
 pub last_of_branch : (vw : Name → ℕ) (goes : Name → Going → Going) (y n rest : Body) (g : Going) (b : Bool) → Ending y n rest → (if b then reached vw goes n g else reached vw goes y g).fell ≡ true → is_stop rest ≡ true
 last_of_branch vw goes y n rest g true e h =
-    e.last (or_second (transfers y) (transfers n) (fell_transfers vw goes n g h))
+    e.last (or_right (transfers y) (transfers n) (fell_transfers vw goes n g h))
 last_of_branch vw goes y n rest g false e h =
-    e.last (or_first (transfers y) (transfers n) (fell_transfers vw goes y g h))
+    e.last (or_left (transfers y) (transfers n) (fell_transfers vw goes y g h))
 
 -- what a body does is what it does until it falls, and then its fall
 
@@ -134,24 +128,13 @@ does_choice vw falls goes y n rest g false l dy dn dr =
     let e = reached vw goes y g in
     ap (λ x. body_does vw falls goes rest x) dy ∙ behind_does vw falls goes rest e.fell e l dr refl
 
-goto_ends : (b : Body) → is_stop b ≡ true → ends_in_transfers b ≡ true
-goto_ends stop k = refl
-goto_ends (act a b) k = absurd (cc)
-goto_ends (cases t y n b) k = absurd (cc)
-goto_ends (goto z b) k = absurd (cc)
-goto_ends (fall b) k = absurd (cc)
-
-names_none : (ms : List Name) → ms ++ [] ≡ ms
-names_none [] = refl
-names_none (m ∷ ms) = ap (λ (ns : List Name). m ∷ ns) (names_none ms)
-
 pub reached_does : (vw : Name → ℕ) (falls : Going → Going) (goes : Name → Going → Going) (b : Body) → ends_in_transfers b ≡ true → (g : Going) → body_does vw falls goes b g ≡ finish (reached vw goes b g).fell falls (reached vw goes b g).going
 reached_does vw falls goes stop h g = refl
 reached_does vw falls goes (act a rest) h g = reached_does vw falls goes rest h (after_action vw g a)
 reached_does vw falls goes (cases t y n rest) h g =
     let e = ending t y n rest h in
     does_choice vw falls goes y n rest g (value_in vw g t == 0) (last_of_branch vw goes y n rest g (value_in vw g t == 0) e) (reached_does vw falls goes y e.yes_ends g) (reached_does vw falls goes n e.no_ends g) (reached_does vw falls goes rest e.rest_ends)
-reached_does vw falls goes (goto x rest) h g = reached_does vw falls goes rest (goto_ends rest h) (goes x g)
+reached_does vw falls goes (goto x rest) h g = reached_does vw falls goes rest (ends_stop rest h) (goes x g)
 reached_does vw falls goes (fall rest) h g = stop_does vw falls goes rest (falls g) h
 
 written_assoc : (ms ns ks : List Name) → (ms ++ ns) ++ ks ≡ ms ++ (ns ++ ks)
@@ -166,10 +149,10 @@ with_behind (put m i t) ms ns = refl
 behind_writes : (vw : Name → ℕ) (falls : Going → Going) (below : Going → List Name) (goes : Name → Going → Going) (rest : Body) (f : Bool) (e : Reached) → (f ≡ true → is_stop rest ≡ true) → ((k : Going) → body_writes vw falls below goes rest k ≡ (reached vw goes rest k).written ++ finish_writes (reached vw goes rest k).fell below (reached vw goes rest k).going) → e.fell ≡ f → (e.written ++ finish_writes f below e.going) ++ body_writes vw falls below goes rest (finish f falls e.going) ≡ (behind_if f e (reached vw goes rest)).written ++ finish_writes (behind_if f e (reached vw goes rest)).fell below (behind_if f e (reached vw goes rest)).going
 behind_writes vw falls below goes rest true e l r q =
     ap (λ (ms : List Name). (e.written ++ below e.going) ++ ms) (stop_writes vw falls below goes rest (falls e.going) (l refl))
-    ∙ names_none (e.written ++ below e.going) ∙ sym (ap (λ b. e.written ++ finish_writes b below e.going) q)
+    ∙ append-nil (e.written ++ below e.going) ∙ sym (ap (λ b. e.written ++ finish_writes b below e.going) q)
 behind_writes vw falls below goes rest false e l r q =
     let t = reached vw goes rest e.going in
-    ap (λ (ms : List Name). ms ++ body_writes vw falls below goes rest e.going) (names_none e.written)
+    ap (λ (ms : List Name). ms ++ body_writes vw falls below goes rest e.going) (append-nil e.written)
     ∙ ap (λ (ms : List Name). e.written ++ ms) (r e.going) ∙ sym (written_assoc e.written t.written (finish_writes t.fell below t.going))
 
 written_choice : (vw : Name → ℕ) (falls : Going → Going) (below : Going → List Name) (goes : Name → Going → Going) (y n rest : Body) (g : Going) (b : Bool) → ((if b then reached vw goes n g else reached vw goes y g).fell ≡ true → is_stop rest ≡ true) → Ending y n rest → body_writes vw falls below goes y g ≡ (reached vw goes y g).written ++ finish_writes (reached vw goes y g).fell below (reached vw goes y g).going → body_writes vw falls below goes n g ≡ (reached vw goes n g).written ++ finish_writes (reached vw goes n g).fell below (reached vw goes n g).going → ((k : Going) → body_writes vw falls below goes rest k ≡ (reached vw goes rest k).written ++ finish_writes (reached vw goes rest k).fell below (reached vw goes rest k).going) → (if b then body_writes vw falls below goes n g ++ body_writes vw falls below goes rest (body_does vw falls goes n g) else body_writes vw falls below goes y g ++ body_writes vw falls below goes rest (body_does vw falls goes y g)) ≡ (let r : Reached = behind (if b then reached vw goes n g else reached vw goes y g) (reached vw goes rest) in r.written ++ finish_writes r.fell below r.going)
@@ -192,6 +175,6 @@ reached_writes vw falls below goes (cases t y n rest) h g =
     let e = ending t y n rest h in
     let b = value_in vw g t == 0 in
     written_choice vw falls below goes y n rest g b (last_of_branch vw goes y n rest g b e) e (reached_writes vw falls below goes y e.yes_ends g) (reached_writes vw falls below goes n e.no_ends g) (reached_writes vw falls below goes rest e.rest_ends)
-reached_writes vw falls below goes (goto x rest) h g = reached_writes vw falls below goes rest (goto_ends rest h) (goes x g)
+reached_writes vw falls below goes (goto x rest) h g = reached_writes vw falls below goes rest (ends_stop rest h) (goes x g)
 reached_writes vw falls below goes (fall rest) h g =
-    ap (λ (ms : List Name). below g ++ ms) (stop_writes vw falls below goes rest (falls g) h) ∙ names_none (below g)
+    ap (λ (ms : List Name). below g ++ ms) (stop_writes vw falls below goes rest (falls g) h) ∙ append-nil (below g)

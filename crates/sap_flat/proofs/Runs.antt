@@ -1,6 +1,7 @@
 -- What commands lead to, and which memories they write.
 use Rattle.std.proofs.Common.{◌≡◌, ℕ, ◌==◌, List, [], ◌∷◌, ◌++◌, Bool, true, false, ap, ap₂, ◌∙◌, refl}
 use Rattle.std.specs.Prelude.{if◌then◌else◌}
+use Rattle.std.proofs.lemmas.List.{append-nil as append_none, append-nil as names_none}
 use Rattle.sap_maps.specs.Maps.{Name}
 use Rattle.sap_ir.specs.Source.{Action, set, put, Command}
 use Rattle.sap_ir.specs.Guarded.{Going, value_in, after_action, after_command, after}
@@ -49,19 +50,11 @@ runs_append vw g h k cs ds ms ns r q =
           ∙ ap₂ (λ (a b : List Name). a ++ b) r.writes (ap (λ x. memories_written vw x ds) r.ends ∙ q.writes);
     }
 
-append_none : (cs : List Command) → cs ++ [] ≡ cs
-append_none [] = refl
-append_none (c ∷ cs) = ap (λ (ds : List Command). c ∷ ds) (append_none cs)
-
 -- with nothing behind
 pub runs_end : (vw : Name → ℕ) (g h : Going) (cs : List Command) (ms : List Name) → Runs vw g cs h ms → Runs vw g (cs ++ []) h ms
 runs_end vw g h cs ms r =
     let e = append_none cs in
     record { ends = ap (λ ds. after vw g ds) e ∙ r.ends; writes = ap (λ ds. memories_written vw g ds) e ∙ r.writes }
-
-names_none : (ms : List Name) → ms ++ [] ≡ ms
-names_none [] = refl
-names_none (m ∷ ms) = ap (λ (ns : List Name). m ∷ ns) (names_none ms)
 
 -- with nothing written behind
 pub runs_last : (vw : Name → ℕ) (g h : Going) (cs : List Command) (ms : List Name) → Runs vw g cs h (ms ++ []) → Runs vw g cs h ms

@@ -4,6 +4,7 @@ use Rattle.std.specs.Prelude.{slice_get, if◌then◌else◌}
 use Rattle.std.specs.Str.{bytes_eq}
 use Rattle.std.specs.declared.vec.Vec.{Vec}
 use Rattle.std.specs.declared.alloc.Global.{Global}
+use Rattle.std.proofs.lemmas.List.{append-nil}
 use Rattle.sap_maps.specs.Maps.{Name}
 use Rattle.sap_maps.specs.Term.{Term, constant, read}
 use Rattle.sap_ir.specs.declared.guarded.Act.{Act}
@@ -22,7 +23,7 @@ use Rattle.sap_flat.specs.Gates.{gate_name}
 use Rattle.sap_flat.specs.Flat.{Flat, under, is_number, flat_states}
 use Rattle.sap_flat.specs.Lists.{first_commands, restart_commands, place_in, goto_commands, choice_commands, commands_flat, command_flat, gates_commands, states_flat, state_flat}
 use Rattle.sap_flat.proofs.Grows.{body_grows}
-use Rattle.sap_flat.proofs.Makes.{list_none, made, then_flat, commands-drop, commands-past, command_do, command_if, command_goto, command_fall, place-drop, gates-drop, gates-past, state_is, states-drop, states-past, goto_some, goto_none, whole_is}
+use Rattle.sap_flat.proofs.Makes.{made, then_flat, commands-drop, commands-past, command_do, command_if, command_goto, command_fall, place-drop, gates-drop, gates-past, state_is, states-drop, states-past, goto_some, goto_none, whole_is}
 
 -- what is behind is what a flat list says
 pub record Behind (now init : List Command) (rest all : Flat) : Type 0 where
@@ -42,7 +43,7 @@ step now new init m one f rest all d e n b =
 -- nothing is behind
 rest_none : (now init : List Command) (k : ℕ) (rest all : Flat) → rest ≡ made [] k → Behind now init rest all → (now ≡ init ++ all.commands) × (k ≡ all.next)
 rest_none now init k rest all e b = (
-  sym (list_none now) ∙ ap (λ (r : Flat). now ++ r.commands) (sym e) ∙ b.commands,
+  sym (append-nil now) ∙ ap (λ (r : Flat). now ++ r.commands) (sym e) ∙ b.commands,
   ap (λ (r : Flat). r.next) (sym e) ∙ b.next,
 )
 
@@ -87,7 +88,7 @@ gates_step c seat u ss n i j now new all l e b =
 
 pub gates_rest : (c : Term Name) (seat : Name) (u : ℕ) (ss : List PlainState) (n i j : ℕ) (now all : List Command) → length ss ≤ n → now ++ gates_commands c seat u (drop n ss) i j ≡ all → now ≡ all
 gates_rest c seat u ss n i j now all l b =
-    sym (list_none now) ∙ ap (λ (cs : List Command). now ++ cs) (sym (gates-past c seat u ss n i j l)) ∙ b
+    sym (append-nil now) ∙ ap (λ (cs : List Command). now ++ cs) (sym (gates-past c seat u ss n i j l)) ∙ b
 
 -- states
 

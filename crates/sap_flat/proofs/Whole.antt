@@ -4,10 +4,10 @@ use Rattle.std.specs.Prelude.{if◌then◌else◌}
 use Rattle.std.specs.Str.{bytes_eq}
 use Rattle.std.specs.List.{AllByRecursion}
 use Rattle.std.proofs.lemmas.Bool.{cases_Bool}
+use Rattle.sap_lemmas.proofs.Texts.{bytes_eq_apart_back}
 use Rattle.sap_maps.specs.Maps.{Name, Valuation}
 use Rattle.sap_maps.specs.Scope.{find}
 use Rattle.sap_maps.specs.Term.{constant}
-use Rattle.sap_maps.proofs.Scopes.{apart_back}
 use Rattle.sap_net.specs.Names.{is_among, AreDistinct}
 use Rattle.sap_ir.specs.declared.guarded.Var.{Var}
 use Rattle.sap_ir.specs.declared.guarded.Store.{Store}
@@ -89,7 +89,7 @@ other_number b [] n h = refl
 other_number b (x ∷ xs) n h =
     elim (cases_Bool (bytes_eq n x.name)) [
       | inl t ↦ absurd (let e : true ≡ false = rw t at h in cc)
-      | inr f ↦ rw (apart_back n x.name f) (other_number b xs n (rw f at h))
+      | inr f ↦ rw (bytes_eq_apart_back n x.name f) (other_number b xs n (rw f at h))
     ]
 
 other_start : (s : Source) (b : Option Valuation) (n : Name) → register_number b s.registers n ≡ 0 → (is : List Var) (xs : List ℕ) → is_among n (variable_names is) ≡ false → number_at_start s b is xs n ≡ 0
@@ -98,7 +98,7 @@ other_start s b n e (i ∷ is) [] h = e
 other_start s b n e (i ∷ is) (x ∷ xs) h =
     elim (cases_Bool (bytes_eq n i.name)) [
       | inl t ↦ absurd (let q : true ≡ false = rw t at h in cc)
-      | inr f ↦ rw (apart_back n i.name f) (other_start s b n e is xs (rw f at h))
+      | inr f ↦ rw (bytes_eq_apart_back n i.name f) (other_start s b n e is xs (rw f at h))
     ]
 
 begun_zero : (p : Nested) → IsPlain p → (b : Option Valuation) (xs : List ℕ) → Zero 0 (begun (flattened p) b xs)

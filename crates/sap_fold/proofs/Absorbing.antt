@@ -5,6 +5,7 @@ use Rattle.std.specs.Int.{bit_at}
 use Rattle.std.specs.Int.Bits.{or_self, or_zero_l}
 use Rattle.std.proofs.lemmas.Nat.{and_comm, or_comm}
 use Rattle.std.proofs.lemmas.Nat.Bits.{same_from_bits, bit_at_and, bit_at_or}
+use Rattle.std.proofs.lemmas.Bool.{and_parts}
 use Rattle.sap_bits.specs.Arithmetic.{value2, width2}
 use Rattle.sap_bits.specs.declared.Op2.{Op2}
 use Rattle.sap_bits.specs.declared.Op2.TheVariants.{And, Or}
@@ -25,7 +26,7 @@ use Rattle.sap_fold.specs.Absorbed.{is_one_of, is_or_zero, absorbed_and, absorbe
 use Rattle.sap_fold.specs.declared.rules.Outcome.{Outcome}
 use Rattle.sap_fold.specs.declared.rules.Outcome.TheVariants.{Keep, First, Second}
 use Rattle.sap_fold.proofs.Folds.{KeepsWidth, SameWidths, same_is, number_is}
-use Rattle.sap_fold.proofs.Lists.{or_elim, and_both}
+use Rattle.sap_fold.proofs.Lists.{or_elim}
 use Rattle.sap_fold.proofs.Sees.{defined_same}
 
 -- numbers, bit by bit
@@ -106,8 +107,8 @@ chosen_or_zero false o x y (inr e) = ap (λ (n : ℕ). bit_or n o) e.1 ∙ or_ze
 or_zero_is : (v : Valuation) (o x y : Operand) → is_or_zero o x y ≡ true → ((operand_value v x ≡ operand_value v o) × (operand_value v y ≡ 0)) ⊎ ((operand_value v y ≡ operand_value v o) × (operand_value v x ≡ 0))
 or_zero_is v o x y h =
     or_elim (same_operand x o && is_number y 0) (same_operand y o && is_number x 0) (((operand_value v x ≡ operand_value v o) × (operand_value v y ≡ 0)) ⊎ ((operand_value v y ≡ operand_value v o) × (operand_value v x ≡ 0)))
-    (λ t. let q = and_both (same_operand x o) (is_number y 0) t in inl (ap (operand_value v) (same_is x o q.0), number_is v y 0 q.1))
-    (λ t. let q = and_both (same_operand y o) (is_number x 0) t in inr (ap (operand_value v) (same_is y o q.0), number_is v x 0 q.1)) h
+    (λ t. let q = and_parts (same_operand x o) (is_number y 0) t in inl (ap (operand_value v) (same_is x o q.0), number_is v y 0 q.1))
+    (λ t. let q = and_parts (same_operand y o) (is_number x 0) t in inr (ap (operand_value v) (same_is y o q.0), number_is v x 0 q.1)) h
 
 pub absorbs_or : (ws : List Wire) (a b : Operand) (r : Right) → Defines ws a r → Absorbs ws Or a b (absorbed_or r b)
 absorbs_or ws a b (Two Or x y) d =

@@ -4,6 +4,7 @@ use Rattle.std.specs.Prelude.{if◌then◌else◌, bit_and, bit_or}
 use Rattle.std.specs.Int.Bits.{and_zero_l, or_zero_l}
 use Rattle.std.proofs.lemmas.Nat.{and_comm, or_comm}
 use Rattle.std.proofs.lemmas.Bool.{cases_Bool}
+use Rattle.sap_lemmas.proofs.Numbers.{positive_of_test, zero_of_test}
 use Rattle.sap_bits.specs.Arithmetic.{value2, width2}
 use Rattle.sap_bits.specs.declared.Op2.{Op2}
 use Rattle.sap_bits.specs.declared.Op2.TheVariants.{And, Or}
@@ -22,7 +23,6 @@ use Rattle.sap_fold.specs.Wires.{Provides}
 use Rattle.sap_fold.specs.Gives.{Numbers, TakenApart, Provided, Grown, Gives, Becomes, ArmGives}
 use Rattle.sap_fold.specs.Under.{number, is_and, IsBitwise, Under}
 use Rattle.sap_fold.proofs.Provided.{Grows, operand_grows, provided, provided_value, grows_more, over_first}
-use Rattle.sap_fold.proofs.Sees.{not_zero, is_zero}
 use Rattle.sap_fold.proofs.Folds.{KeepsWidth, SameWidths, bit_cases, one_or}
 
 -- a right side that is provided gives its operand
@@ -106,7 +106,7 @@ arm_known taken ws next u c n a r q p after na k e g =
     }
 
 is_one : (x : ℕ) → x < 2 ^ 1 → (x == 0) ≡ false → x ≡ 1
-is_one x l h = let k = not_zero x h in omega (arith, k, l)
+is_one x l h = let k = positive_of_test x h in omega (arith, k, l)
 
 -- a choice where each arm was simplified, one after the other
 pub arms_become : (taken : Name → Bool) (ws : List Wire) (next u : ℕ) (c a b p q : Operand) (mid : List Wire) (nm : ℕ) (after : List Wire) (na : ℕ) → ArmGives taken ws next u c 1 a p mid nm → ArmGives taken mid nm u c 0 b q after na → Becomes taken ws next u (Choose c a b) (Choose c p q) after na
@@ -138,7 +138,7 @@ arms_become taken ws next u c a b p q mid nm after na d e =
           let before = over_first ms sc mid after k.more widths v k.wires over in
           let first = over_first ms sc ws mid g.more widths v g.wires before in
           elim (cases_Bool (operand_value v c == 0)) [
-            | inl t ↦ rw t (e.same ms sc widths v apart g.named g.fits w hc hb over (is_zero (operand_value v c) t))
+            | inl t ↦ rw t (e.same ms sc widths v apart g.named g.fits w hc hb over (zero_of_test (operand_value v c) t))
             | inr i ↦
                 let one = is_one (operand_value v c) (operand_below (readable_after sc ws) v first.below 1 c h.0) i in
                 rw i (d.same ms sc widths v apart named f w h.0 h.1 before one)

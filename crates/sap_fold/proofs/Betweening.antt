@@ -6,6 +6,8 @@ use Rattle.std.proofs.Math.Pow.{pow_pos}
 use Rattle.std.proofs.lemmas.Nat.{shr-shr}
 use Rattle.std.proofs.lemmas.Bool.{cases_Bool}
 use Rattle.std.proofs.lemmas.Bool.Decides.{nat_tests}
+use Rattle.sap_lemmas.proofs.Numbers.{equal_of_test}
+use Rattle.sap_net.proofs.RulesLemmas.{one_wide}
 use Rattle.sap_maps.specs.Maps.{Name, Valuation}
 use Rattle.sap_maps.specs.Scope.{Scope, find}
 use Rattle.sap_net.specs.declared.parts.Operand.{Operand}
@@ -18,7 +20,7 @@ use Rattle.sap_net.proofs.Within.{WidthsAre, operand_below}
 use Rattle.sap_fold.specs.Equals.{Over, Equals}
 use Rattle.sap_fold.specs.Under.{number, bit}
 use Rattle.sap_fold.specs.Parts.{AddsPart, between, bit_test, number_in, Between}
-use Rattle.sap_fold.proofs.Folds.{one_wide, bit_cases}
+use Rattle.sap_fold.proofs.Folds.{bit_cases}
 use Rattle.sap_fold.proofs.Parting.{SameList, are_both, one_are, one_value, values_both, parts_wide, glue_same}
 use Rattle.sap_fold.proofs.Unders.{bit_fits}
 
@@ -38,9 +40,6 @@ between_none c w a b =
 
 -- one more bit
 
-eq_is : (a b : ℕ) → (a == b) ≡ true → a ≡ b
-eq_is a b h = grind (arith, nat_tests)
-
 zero_is : (n : ℕ) → n < 2 → (n == 1) ≡ false → n ≡ 0
 zero_is n l h = grind (arith, nat_tests)
 
@@ -58,7 +57,7 @@ record BitIs (n k : ℕ) (t : Bool) : Type 0 where
   is : n / 2 ^ k % 2 ≡ number t
 
 bit_is : (n k : ℕ) (t : Bool) → bit_test n k ≡ t → BitIs n k t
-bit_is n k true h = record { is = eq_is (n / 2 ^ k % 2) 1 h }
+bit_is n k true h = record { is = equal_of_test (n / 2 ^ k % 2) 1 h }
 bit_is n k false h =
     let l : n / 2 ^ k % 2 < 2 = mod-lt (n / 2 ^ k) (omega arith) in
     record { is = zero_is (n / 2 ^ k % 2) l h }

@@ -1,13 +1,16 @@
 -- Each rule gives a right side that fits where the given one does, and has its value.
 use Rattle.std.proofs.Common.{◌≡◌, ℕ, zero, suc, ◌+◌, ◌-◌, ◌*◌, ◌/◌, ◌%◌, ◌^◌, ◌<◌, ◌≤◌, ◌==◌, ◌&&◌, ◌||◌, List, [], ◌∷◌, Some, None, Bool, true, false, sym, ap, ap₂, ◌∙◌, subst, refl, inl, inr, arith}
-use Rattle.std.specs.Prelude.{◌⊎◌, nat_le, nat_lt, if◌then◌else◌, bit_and, bit_or, bit_xor}
+use Rattle.std.specs.Prelude.{◌⊎◌, nat_le, if◌then◌else◌, bit_and, bit_or, bit_xor}
 use Rattle.std.specs.Int.Bits.{and_self, or_self, xor_self, and_zero_l, and_zero_r, or_zero_l, or_zero_r, xor_zero_l, xor_zero_r}
 use Rattle.std.specs.Str.{bytes_eq}
 use Rattle.std.proofs.Math.Pow.{pow_pos}
 use Rattle.std.proofs.Math.Nat.{add-mul-mod_self_left, mod-eq_of_lt, mod_self, div-eq_of_lt}
 use Rattle.std.proofs.lemmas.Nat.{and_mask, and_comm, or_comm, and_or_self}
-use Rattle.std.proofs.lemmas.Bool.{cases_Bool}
+use Rattle.std.proofs.lemmas.Bool.{cases_Bool, and_parts, le-leb, le-ltb, leb-true}
 use Rattle.std.proofs.lemmas.Bool.Decides.{nat_tests}
+use Rattle.sap_lemmas.proofs.Numbers.{equal_of_test, positive_of_test, test_of_zero}
+use Rattle.sap_lemmas.proofs.Texts.{equal_of_bytes_eq}
+use Rattle.sap_net.proofs.RulesLemmas.{one_wide}
 use Rattle.sap_bits.specs.Arithmetic.{value1, value2, width1, width2, RightFits}
 use Rattle.sap_bits.specs.declared.Op1.{Op1}
 use Rattle.sap_bits.specs.declared.Op1.TheVariants.{Not}
@@ -18,7 +21,6 @@ use Rattle.sap_bits.proofs.Low.{shl_past, shr_past}
 use Rattle.sap_maps.specs.Maps.{Name, Valuation}
 use Rattle.sap_maps.specs.Scope.{Scope, find}
 use Rattle.sap_maps.specs.Term.{CountFits}
-use Rattle.sap_maps.proofs.Scopes.{name_is}
 use Rattle.sap_maps.proofs.Terms.{right_fits}
 use Rattle.sap_net.specs.declared.parts.Operand.{Operand}
 use Rattle.sap_net.specs.declared.parts.Operand.TheVariants.{Named, Constant}
@@ -32,7 +34,7 @@ use Rattle.sap_fold.specs.declared.rules.Outcome.{Outcome}
 use Rattle.sap_fold.specs.declared.rules.Outcome.TheVariants.{Keep, Condition, First, Second, Number, NotCondition, NotFirst, NotSecond, ConditionAndFirst, ConditionOrSecond}
 use Rattle.sap_fold.specs.Equals.{Equals}
 use Rattle.sap_fold.specs.Folding.{or_else, is_number, is_bit, fits, is_full, same_operand, fold_one, is_second, fold_constants, fold_and, fold_or, fold_xor, fold_add, fold_sub, fold_mul, fold_equal, fold_unequal, fold_less, fold_at_most, fold_shift, fold_operator, fold_two, fold_choose_bit, fold_choose, of_one, of_two, of_choose, folded}
-use Rattle.sap_fold.proofs.Lists.{or_elim, and_both}
+use Rattle.sap_fold.proofs.Lists.{or_elim}
 
 -- Over any names: where a is a right side of width u, so is b, and both have the same value.
 pub record Same (u : ℕ) (a b : Right) : Type 0 where
@@ -51,36 +53,30 @@ keep u a = record { fit = λ ms sc h. h; value = λ ms sc widths v w b h. refl }
 
 -- operands
 
-eq_is : (a b : ℕ) → (a == b) ≡ true → a ≡ b
-eq_is a b h = grind (arith, nat_tests)
-
-le_of : (a b : ℕ) → nat_le a b ≡ true → a ≤ b
-le_of a b h = grind (arith, nat_tests)
-
 pub number_is : (v : Valuation) (o : Operand) (n : ℕ) → is_number o n ≡ true → operand_value v o ≡ n
 number_is v (Named x) n h = absurd (cc)
-number_is v (Constant w m) n h = eq_is m n h
+number_is v (Constant w m) n h = equal_of_test m n h
 
 full_is : (sc : Scope) (v : Valuation) (u : ℕ) (o : Operand) → IsOperand sc u o → is_full o ≡ true → operand_value v o ≡ 2 ^ u - 1
 full_is sc v u (Named x) f h = absurd (cc)
 full_is sc v u (Constant w n) f h =
-    let e = eq_is n (2 ^ w - 1) ((and_both (fits w n) (n == 2 ^ w - 1) h).1) in
+    let e = equal_of_test n (2 ^ w - 1) ((and_parts (fits w n) (n == 2 ^ w - 1) h).1) in
     e ∙ ap (λ (k : ℕ). 2 ^ k - 1) f.0
 
 pub same_is : (a b : Operand) → same_operand a b ≡ true → a ≡ b
-same_is (Named x) (Named y) h = ap Named (name_is x y h)
+same_is (Named x) (Named y) h = ap Named (equal_of_bytes_eq x y h)
 same_is (Named x) (Constant w n) h = absurd (cc)
 same_is (Constant w n) (Named y) h = absurd (cc)
 same_is (Constant w n) (Constant u m) h =
-    let r = and_both (w == u) (n == m) h in ap₂ Constant (eq_is w u r.0) (eq_is n m r.1)
+    let r = and_parts (w == u) (n == m) h in ap₂ Constant (equal_of_test w u r.0) (equal_of_test n m r.1)
 
 below_from : (w n : ℕ) → n ≤ 2 ^ w - 1 → n < 2 ^ w
 below_from w n h = omega (arith, h, pow_pos w)
 
 fits_is : (w n : ℕ) → fits w n ≡ true → n < 2 ^ w
 fits_is w n h =
-    let a = and_both (nat_le 1 w && nat_le w 64) (nat_le n (2 ^ w - 1)) h in
-    below_from w n (le_of n (2 ^ w - 1) a.1)
+    let a = and_parts (nat_le 1 w && nat_le w 64) (nat_le n (2 ^ w - 1)) h in
+    below_from w n (leb-true n (2 ^ w - 1) a.1)
 
 -- What is known of an operator's operands.
 record Facts (op : Op2) (sc : Scope) (v : Valuation) (u t : ℕ) (a b : Operand) : Type 0 where
@@ -299,21 +295,15 @@ one_fits w e = subst (λ (k : ℕ). 1 < 2 ^ k) (sym e) (omega arith)
 self_eq : (x y : ℕ) → y ≡ x → (x == y) ≡ true
 self_eq x y e = grind (arith, nat_tests)
 
-not_below : (x y : ℕ) → y ≤ x → nat_lt x y ≡ false
-not_below x y e = grind (arith, nat_tests)
-
-at_most_is : (x y : ℕ) → x ≤ y → nat_le x y ≡ true
-at_most_is x y e = grind (arith, nat_tests)
-
 -- a bit, compared with a number of one bit
 
 bit_is : (sc : Scope) (v : Valuation) (u : ℕ) (o : Operand) (n : ℕ) → IsOperand sc u o → is_bit o n ≡ true → operand_value v o ≡ n
 bit_is sc v u (Named x) n f h = absurd (cc)
-bit_is sc v u (Constant w m) n f h = eq_is m n ((and_both (w == 1) (m == n) h).1)
+bit_is sc v u (Constant w m) n f h = equal_of_test m n ((and_parts (w == 1) (m == n) h).1)
 
 bit_wide : (sc : Scope) (u : ℕ) (o : Operand) (n : ℕ) → IsOperand sc u o → is_bit o n ≡ true → u ≡ 1
 bit_wide sc u (Named x) n f h = absurd (cc)
-bit_wide sc u (Constant w m) n f h = sym f.0 ∙ eq_is w 1 ((and_both (w == 1) (m == n) h).0)
+bit_wide sc u (Constant w m) n f h = sym f.0 ∙ equal_of_test w 1 ((and_parts (w == 1) (m == n) h).0)
 
 bit_first : (w : ℕ) (op : Op2) (a b : Operand) (n : ℕ) → SameWidths op → ((u : ℕ) → width2 op u ≡ 1) → is_bit b n ≡ true → ((x u : ℕ) → x < 2 ^ 1 → value2 op u x n ≡ x) → Same w (Two op a b) (Copy a)
 bit_first w op a b n s e t k =
@@ -354,9 +344,6 @@ zero_differs : (x : ℕ) → x < 2 ^ 1 → (if 0 == x then 0 else 1) ≡ x
 zero_differs x h = elim (bit_cases x h) [ inl e ↦ rw e refl | inr e ↦ rw e refl ]
 
 -- the negation of a bit
-
-pub one_wide : IsWidth 1
-one_wide = (omega arith, omega arith)
 
 negated_first : (w : ℕ) (op : Op2) (a b : Operand) (n : ℕ) → SameWidths op → ((u : ℕ) → width2 op u ≡ 1) → is_bit b n ≡ true → ((x u : ℕ) → x < 2 ^ 1 → value2 op u x n ≡ 2 ^ 1 - 1 - x) → Same w (Two op a b) (One Not a)
 negated_first w op a b n s e t k =
@@ -436,7 +423,7 @@ good_lt w a b =
     (λ z. omega (arith, number_is v b 0 z))
     (λ z. omega (arith, full_is sc v u a f.left z, l)) y)
     (λ z. omega (arith, equal_values a b v z)) t in
-    let i = not_below (operand_value v a) (operand_value v b) x in rw i refl))
+    let i = le-ltb (operand_value v a) (operand_value v b) x in rw i refl))
     (keep w (Two Lt a b))
 
 good_le : (w : ℕ) (a b : Operand) → Good w Le a b (fold_at_most a b)
@@ -450,7 +437,7 @@ good_le w a b =
     (λ z. omega (arith, number_is v a 0 z))
     (λ z. let i = full_is sc v q b f.right z ∙ ap (λ (k : ℕ). 2 ^ k - 1) f.count in omega (arith, i, l)) y)
     (λ z. omega (arith, equal_values a b v z)) t in
-    let i = at_most_is (operand_value v a) (operand_value v b) x in rw i refl))
+    let i = le-leb (operand_value v a) (operand_value v b) x in rw i refl))
     (keep w (Two Le a b))
 
 -- shifts
@@ -477,7 +464,7 @@ to_past w op a k m e h =
       fit = λ ms sc r. (refl, zero_fits w);
       value = λ ms sc widths v wide below r.
           let i : w ≡ r.0 = r.7 ∙ e r.0 in
-          two_value_at op a (Constant k m) sc widths v r.0 wide r.4 ∙ h (operand_value v a) r.0 (subst (λ (z : ℕ). z ≤ m) i (le_of w m t)) (operand_below sc v below r.0 a r.4);
+          two_value_at op a (Constant k m) sc widths v r.0 wide r.4 ∙ h (operand_value v a) r.0 (subst (λ (z : ℕ). z ≤ m) i (leb-true w m t)) (operand_below sc v below r.0 a r.4);
     })
     (keep w (Two op a (Constant k m)))
 
@@ -492,7 +479,7 @@ good_shl w a (Constant k m) =
     good_if w Shl a (Constant k m) (m == 0 || is_number a 0) First _
     (λ t. to_first w Shl a (Constant k m) e (λ sc v u q f.
     or_elim (m == 0) (is_number a 0) ((operand_value v a * 2 ^ m) % 2 ^ u ≡ operand_value v a)
-    (λ z. let i = eq_is m 0 z in rw i (shl_zero (operand_value v a) (2 ^ u) f.left_below))
+    (λ z. let i = equal_of_test m 0 z in rw i (shl_zero (operand_value v a) (2 ^ u) f.left_below))
     (λ z. let i = number_is v a 0 z in rw i (no_bits (2 ^ u) (2 ^ m) (zero_fits u))) t))
     (to_past w Shl a k m e (λ x u l h. shl_past x m u l))
 
@@ -507,7 +494,7 @@ good_shr w a (Constant k m) =
     good_if w Shr a (Constant k m) (m == 0 || is_number a 0) First _
     (λ t. to_first w Shr a (Constant k m) e (λ sc v u q f.
     or_elim (m == 0) (is_number a 0) (operand_value v a / 2 ^ m ≡ operand_value v a)
-    (λ z. let i = eq_is m 0 z in rw i (over_one (operand_value v a)))
+    (λ z. let i = equal_of_test m 0 z in rw i (over_one (operand_value v a)))
     (λ z. let i = number_is v a 0 z in rw i (nothing_over (2 ^ m) (zero_fits m))) t))
     (to_past w Shr a k m e (λ x u l h. shr_past x m u l h))
 
@@ -534,7 +521,7 @@ good_constants w op (Constant k n) (Constant j m) =
     good_if w op (Constant k n) (Constant j m) (fits k n && is_second op k m) (Number (value2 op k n m)) Keep
     (λ t. to_number w op (Constant k n) (Constant j m) (value2 op k n m)
     (λ ms sc h. subst (λ (z : ℕ). value2 op k n m < 2 ^ z) (sym (h.7 ∙ sym (ap (width2 op) h.4.0)))
-    (value2_below op k n m (fits_is k n ((and_both (fits k n) (is_second op k m) t).0)) (right_fits op k h.1 m (subst (λ (z : ℕ). CountFits op z h.1) (sym h.4.0) h.6) h.5.1)))
+    (value2_below op k n m (fits_is k n ((and_parts (fits k n) (is_second op k m) t).0)) (right_fits op k h.1 m (subst (λ (z : ℕ). CountFits op z h.1) (sym h.4.0) h.6) h.5.1)))
     (λ sc v u q f. ap (λ (z : ℕ). value2 op z n m) (sym f.left.0)))
     (keep w (Two op (Constant k n) (Constant j m)))
 
@@ -562,9 +549,6 @@ choice_if : (w : ℕ) (c a b : Operand) (t : Bool) (f g : Outcome) → (t ≡ tr
 choice_if w c a b true f g h k = h refl
 choice_if w c a b false f g h k = k
 
-zero_test : (x : ℕ) → x ≡ 0 → (x == 0) ≡ true
-zero_test x e = grind (arith, nat_tests)
-
 one_test : (x : ℕ) → x ≡ 1 → (x == 0) ≡ false
 one_test x e = grind (arith, nat_tests)
 
@@ -572,15 +556,12 @@ both_same : (t : Bool) (x y : ℕ) → y ≡ x → (if t then y else x) ≡ x
 both_same true x y e = e
 both_same false x y e = refl
 
-not_zero : (x : ℕ) → (x == 0) ≡ false → 0 < x
-not_zero x h = grind (arith, nat_tests)
-
 -- 1 where a bit is 1, else 0
 bit_itself : (x y z : ℕ) → x < 2 ^ 1 → y ≡ 1 → z ≡ 0 → (if x == 0 then z else y) ≡ x
 bit_itself x y z h e f =
     elim (cases_Bool (x == 0)) [
-      | inl t ↦ let k = eq_is x 0 t in rw t (omega (arith, k, f))
-      | inr g ↦ let k = not_zero x g in rw g (omega (arith, k, h, e))
+      | inl t ↦ let k = equal_of_test x 0 t in rw t (omega (arith, k, f))
+      | inr g ↦ let k = positive_of_test x g in rw g (omega (arith, k, h, e))
     ]
 
 -- a bit or its negation, and both with another bit
@@ -606,14 +587,14 @@ bits_same : (w : ℕ) (c a b : Operand) → w ≡ 1 → GoodChoice w c a b (fold
 bits_same w c a b one =
     choice_if w c a b (is_number a 1 && is_number b 0) Condition _
     (λ t.
-    let q = and_both (is_number a 1) (is_number b 0) t in
+    let q = and_parts (is_number a 1) (is_number b 0) t in
     record {
       fit = λ ms sc h. subst (λ (k : ℕ). IsOperand sc k c) (sym one) h.0;
       value = λ ms sc widths v wide below h. bit_itself (operand_value v c) (operand_value v a) (operand_value v b) (operand_below sc v below 1 c h.0) (number_is v a 1 q.0) (number_is v b 0 q.1);
     })
     (choice_if w c a b (is_number a 0 && is_number b 1) NotCondition _
     (λ t.
-    let q = and_both (is_number a 0) (is_number b 1) t in
+    let q = and_parts (is_number a 0) (is_number b 1) t in
     record {
       fit = λ ms sc h. (1, one_wide, h.0, one);
       value = λ ms sc widths v wide below h.
@@ -639,7 +620,7 @@ choose_same w c a b =
     choice_if w c a b (is_number c 0) Second _
     (λ t. record {
       fit = λ ms sc h. h.2;
-      value = λ ms sc widths v wide below h. let i = zero_test (operand_value v c) (number_is v c 0 t) in rw i refl;
+      value = λ ms sc widths v wide below h. let i = test_of_zero (operand_value v c) (number_is v c 0 t) in rw i refl;
     })
     (choice_if w c a b (is_number c 1 || same_operand a b) First _
     (λ t. record {
@@ -650,7 +631,7 @@ choose_same w c a b =
           (λ z. both_same (operand_value v c == 0) (operand_value v a) (operand_value v b) (equal_values a b v z)) t;
     })
     (choice_if w c a b (w == 1) (fold_choose_bit a b) Keep
-    (λ t. bits_same w c a b (eq_is w 1 t))
+    (λ t. bits_same w c a b (equal_of_test w 1 t))
     (keep w (Choose c a b))))
 
 pub folded_same : (w : ℕ) (r : Right) → Same w r (folded w r)

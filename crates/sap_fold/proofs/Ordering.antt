@@ -7,8 +7,10 @@ use Rattle.std.proofs.lemmas.Nat.{or_comm, pow-add}
 use Rattle.std.proofs.Math.Nat.{add-mul}
 use Rattle.std.proofs.Math.Pow.{pow_pos}
 use Rattle.std.proofs.lemmas.Nat.Bits.{bit_at_or, bit_at-lt, same_from_bits_below, bit_at_above, bit_at_ones, bit_at_cat_low, bit_at_cat_high}
-use Rattle.std.proofs.lemmas.Bool.{cases_Bool}
+use Rattle.std.proofs.lemmas.Bool.{cases_Bool, ltb-true}
 use Rattle.std.proofs.lemmas.Bool.Decides.{nat_tests}
+use Rattle.sap_lemmas.proofs.Numbers.{equal_of_test, test_of_equal}
+use Rattle.sap_net.proofs.RulesLemmas.{one_wide}
 use Rattle.sap_bits.specs.Arithmetic.{value2, width2, slice_of}
 use Rattle.sap_bits.specs.declared.Op1.TheVariants.{Not}
 use Rattle.sap_bits.specs.declared.Op2.TheVariants.{Or, Eq, Ne, Lt, Le}
@@ -30,28 +32,19 @@ use Rattle.sap_fold.specs.Seen.{Defines}
 use Rattle.sap_fold.specs.Under.{other}
 use Rattle.sap_fold.specs.Slices.{HasWidth}
 use Rattle.sap_fold.specs.Order.{HasGap, JoinedWith, AsksBit, EitherAsks, BitBeside}
-use Rattle.sap_fold.proofs.Folds.{bit_cases, one_wide}
+use Rattle.sap_fold.proofs.Folds.{bit_cases}
 use Rattle.sap_fold.proofs.Provided.{provided, provided_value, over_first}
 use Rattle.sap_fold.proofs.Sees.{defined_right, defined_same}
 use Rattle.sap_fold.proofs.Unders.{one_width, other_is}
 
 -- tests
 
-below : (j i : ℕ) → nat_lt j i ≡ true → j < i
-below j i h = grind (arith, nat_tests)
-
 after : (j i : ℕ) → nat_lt j i ≡ false → (j == i) ≡ false → i + 1 ≤ j
 after j i h d = grind (arith, nat_tests)
 
-is_same : (a b : ℕ) → (a == b) ≡ true → a ≡ b
-is_same a b h = grind (arith, nat_tests)
-
-same_test : (a b : ℕ) → a ≡ b → (a == b) ≡ true
-same_test a b e = grind (arith, nat_tests)
-
 differ_test : (a b : ℕ) → (a ≡ b → ⊥) → (a == b) ≡ false
 differ_test a b h =
-    elim (cases_Bool (a == b)) [ inl t ↦ absurd (h (is_same a b t)) | inr f ↦ f ]
+    elim (cases_Bool (a == b)) [ inl t ↦ absurd (h (equal_of_test a b t)) | inr f ↦ f ]
 
 -- bits of a number with one gap
 
@@ -80,7 +73,7 @@ one_elsewhere w n i j l h d e =
     let is = two_pieces w n i l e in
     elim (cases_Bool (nat_lt j i)) [
       | inl t ↦
-          let b : j < i = below j i t in
+          let b : j < i = ltb-true j i t in
           ap (λ (m : ℕ). bit_at m j) is ∙ bit_at_cat_low a (i + 1) (2 ^ i - 1) j (omega (arith, b)) ∙ bit_at_ones i j b
       | inr f ↦
           let b : i + 1 ≤ j = after j i f d in
@@ -97,7 +90,7 @@ or_of_gap w n i x h l e z =
     elim (cases_Bool (j == i)) [
       | inl s ↦
           let p = bit_at_or x n j in
-          let q : bit_at x j ≡ 0 = subst (λ (m : ℕ). bit_at x m ≡ 0) (sym (is_same j i s)) z in
+          let q : bit_at x j ≡ 0 = subst (λ (m : ℕ). bit_at x m ≡ 0) (sym (equal_of_test j i s)) z in
           omega (arith, p, q)
       | inr d ↦
           let p = bit_at_or x n j in
@@ -120,14 +113,14 @@ bit_of_two x i = bit_cases (bit_at x i) (bit_at-lt x i)
 equal_gap : (w n i x : ℕ) → x < 2 ^ w → i < w → n + 2 ^ i ≡ 2 ^ w - 1 → (if n == bit_or x n then 1 else 0) ≡ 2 ^ 1 - 1 - bit_at x i
 equal_gap w n i x h l e =
     elim (bit_of_two x i) [
-      | inl z ↦ let t = same_test n (bit_or x n) (sym (or_of_gap w n i x h l e z)) in rw (t, z) refl
+      | inl z ↦ let t = test_of_equal n (bit_or x n) (sym (or_of_gap w n i x h l e z)) in rw (t, z) refl
       | inr z ↦ let t = differ_test n (bit_or x n) (λ s. other_gap w n i x l e z (sym s)) in rw (t, z) refl
     ]
 
 unequal_gap : (w n i x : ℕ) → x < 2 ^ w → i < w → n + 2 ^ i ≡ 2 ^ w - 1 → (if n == bit_or x n then 0 else 1) ≡ bit_at x i
 unequal_gap w n i x h l e =
     elim (bit_of_two x i) [
-      | inl z ↦ let t = same_test n (bit_or x n) (sym (or_of_gap w n i x h l e z)) in rw (t, z) refl
+      | inl z ↦ let t = test_of_equal n (bit_or x n) (sym (or_of_gap w n i x h l e z)) in rw (t, z) refl
       | inr z ↦ let t = differ_test n (bit_or x n) (λ s. other_gap w n i x l e z (sym s)) in rw (t, z) refl
     ]
 
@@ -205,8 +198,8 @@ not_both false e f = absurd (cc)
 turned_test : (a b x y : ℕ) → (if a == b then x else y) ≡ (if b == a then x else y)
 turned_test a b x y =
     elim (cases_Bool (a == b)) [
-      | inl t ↦ let s = same_test b a (sym (is_same a b t)) in rw (t, s) refl
-      | inr f ↦ let s = differ_test b a (λ e. not_both (a == b) (same_test a b (sym e)) f) in rw (f, s) refl
+      | inl t ↦ let s = test_of_equal b a (sym (equal_of_test a b t)) in rw (t, s) refl
+      | inr f ↦ let s = differ_test b a (λ e. not_both (a == b) (test_of_equal a b (sym e)) f) in rw (f, s) refl
     ]
 
 either_unequal : (ms : Shapes) (sc : Scope) (ws : List Wire) (widths : Name → ℕ) (v : Valuation) (a b : Operand) (x : Name) (k u : ℕ) → Over ms sc ws widths v → EitherAsks ws a b x k → IsOperand (readable_after sc ws) u a → IsOperand (readable_after sc ws) u b → (if operand_value v a == operand_value v b then 0 else 1) ≡ bit_at (v.value x) k

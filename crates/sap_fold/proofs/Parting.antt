@@ -4,8 +4,7 @@ use Rattle.std.specs.Prelude.{◌⊎◌, ◌&&◌, nat_le, if◌then◌else◌, 
 use Rattle.std.proofs.Math.Nat.{add-mul, mul_assoc}
 use Rattle.std.proofs.Math.Pow.{pow_pos, pow_mono}
 use Rattle.std.proofs.lemmas.Nat.{pow-add}
-use Rattle.std.proofs.lemmas.Bool.{cases_Bool}
-use Rattle.std.proofs.lemmas.Bool.Decides.{nat_tests}
+use Rattle.std.proofs.lemmas.Bool.{cases_Bool, and_parts, leb-true}
 use Rattle.sap_bits.specs.Arithmetic.{joined}
 use Rattle.sap_maps.specs.Maps.{Name, Valuation}
 use Rattle.sap_maps.specs.Scope.{Scope, find}
@@ -24,7 +23,6 @@ use Rattle.sap_fold.specs.Seen.{Defines}
 use Rattle.sap_fold.specs.Under.{number, bit, Under}
 use Rattle.sap_fold.specs.Parts.{Glues, GluesLast, AddsPart, put, SameParts, Whole}
 use Rattle.sap_fold.proofs.Folds.{same_is}
-use Rattle.sap_fold.proofs.Lists.{and_both}
 use Rattle.sap_fold.proofs.Sees.{defined_right, defined_same}
 use Rattle.sap_fold.proofs.Unders.{one_width, bit_fits, number_below}
 
@@ -135,12 +133,9 @@ same_push c n os ps o p s k =
 
 -- two numbers as one
 
-at_most : (a b : ℕ) → nat_le a b ≡ true → a ≤ b
-at_most a b h = grind (arith, nat_tests)
-
 pub front_below : (w u n : ℕ) → fits w n ≡ true → w + u ≤ 64 → n < 2 ^ (64 - u)
 front_below w u n h l =
-    let e = at_most n (2 ^ w - 1) ((and_both (nat_le 1 w && nat_le w 64) (nat_le n (2 ^ w - 1)) h).1) in
+    let e = leb-true n (2 ^ w - 1) ((and_parts (nat_le 1 w && nat_le w 64) (nat_le n (2 ^ w - 1)) h).1) in
     let p : 2 ^ w ≤ 2 ^ (64 - u) = pow_mono (omega (arith, l)) in
     omega (arith, e, p, pow_pos w)
 

@@ -1,12 +1,15 @@
 -- One more wire, or one that is there: the wires fit, and the operand has the right side's value.
-use Rattle.std.proofs.Common.{◌≡◌, ℕ, ◌+◌, ◌^◌, ◌<◌, ◌≤◌, List, [], ◌∷◌, ◌++◌, Some, None, Bool, true, false, sym, ap, ◌∙◌, subst, refl, inl, inr, arith, append-nil}
+use Rattle.std.proofs.Common.{◌≡◌, ℕ, ◌+◌, ◌^◌, ◌<◌, ◌≤◌, List, [], ◌∷◌, ◌++◌, Some, None, Bool, true, false, sym, ap, ◌∙◌, subst, inl, inr, arith, append-nil}
 use Rattle.std.specs.Prelude.{◌⊎◌}
 use Rattle.std.specs.Str.{bytes_eq}
 use Rattle.std.specs.List.{AllByRecursion}
 use Rattle.std.proofs.lemmas.Bool.{cases_Bool}
+use Rattle.sap_lemmas.proofs.Everywhere.{all_append, all_follow}
+use Rattle.sap_lemmas.proofs.Texts.{equal_of_bytes_eq}
+use Rattle.sap_net.proofs.RulesLemmas.{readable_both, wires_both}
 use Rattle.sap_maps.specs.Maps.{Name, Valuation}
 use Rattle.sap_maps.specs.Scope.{Scope, find}
-use Rattle.sap_maps.proofs.Scopes.{name_is, found_here, found_behind}
+use Rattle.sap_maps.proofs.Scopes.{found_here, found_behind}
 use Rattle.sap_net.specs.declared.parts.Operand.{Operand}
 use Rattle.sap_net.specs.declared.parts.Operand.TheVariants.{Named, Constant}
 use Rattle.sap_net.specs.declared.parts.Right.{Right}
@@ -21,7 +24,6 @@ use Rattle.sap_fold.specs.Equals.{Over}
 use Rattle.sap_fold.specs.Gives.{Numbers, Each, TakenApart, Provided}
 use Rattle.sap_fold.proofs.Decoding.{key_is}
 use Rattle.sap_fold.proofs.Helpers.{helpers_differ}
-use Rattle.sap_fold.proofs.Lists.{all_append, all_from}
 
 -- scopes of more and more wires
 
@@ -31,14 +33,6 @@ Grows sc sd = (n : Name) (u : ℕ) → find sc n ≡ Some u → find sd n ≡ So
 pub operand_grows : (sc sd : Scope) → Grows sc sd → (u : ℕ) (o : Operand) → IsOperand sc u o → IsOperand sd u o
 operand_grows sc sd g u (Named n) h = g n u h
 operand_grows sc sd g u (Constant w x) h = h
-
-pub readable_both : (ws xs : List Wire) (sc : Scope) → readable_after sc (ws ++ xs) ≡ readable_after (readable_after sc ws) xs
-readable_both [] xs sc = refl
-readable_both (w ∷ ws) xs sc = readable_both ws xs ((w.name, w.width) ∷ sc)
-
-pub wires_both : (ms : Shapes) (ws xs : List Wire) (sc : Scope) → AreWires ms sc ws → AreWires ms (readable_after sc ws) xs → AreWires ms sc (ws ++ xs)
-wires_both ms [] xs sc f g = g
-wires_both ms (w ∷ ws) xs sc f g = (f.0, f.1, f.2, f.3, wires_both ms ws xs _ f.4 g)
 
 pub wires_first : (ms : Shapes) (ws xs : List Wire) (sc : Scope) → AreWires ms sc (ws ++ xs) → AreWires ms sc ws × AreWires ms (readable_after sc ws) xs
 wires_first ms [] xs sc f = (tt, f)
@@ -62,7 +56,7 @@ known_readable ms [] sc u r n e a = absurd (cc)
 known_readable ms (w ∷ ws) sc u r n e a =
     elim (cases_Bool (bytes_eq (key w.width w.right) (key u r))) [
       | inl t ↦
-          let k = key_is w.width u w.right r (name_is (key w.width w.right) (key u r) t) in
+          let k = key_is w.width u w.right r (equal_of_bytes_eq (key w.width w.right) (key u r) t) in
           let g : Some w.name ≡ Some n = rw t at e in
           let m : w.name ≡ n = cc in
           let here = readable_kept ms ws ((w.name, w.width) ∷ sc) a.4 w.name w.width (found_here w.name w.width sc) in
@@ -75,7 +69,7 @@ known_value widths v [] u r n e h = absurd (cc)
 known_value widths v (w ∷ ws) u r n e h =
     elim (cases_Bool (bytes_eq (key w.width w.right) (key u r))) [
       | inl t ↦
-          let k = key_is w.width u w.right r (name_is (key w.width w.right) (key u r) t) in
+          let k = key_is w.width u w.right r (equal_of_bytes_eq (key w.width w.right) (key u r) t) in
           let g : Some w.name ≡ Some n = rw t at e in
           let m : w.name ≡ n = cc in
           subst (λ (x : Name). v.value x ≡ right_value widths v r) m (subst (λ (x : Right). v.value w.name ≡ right_value widths v x) k.1 h.0)
@@ -84,7 +78,7 @@ known_value widths v (w ∷ ws) u r n e h =
 
 others_differ : (taken : Name → Bool) (ws : List Wire) (next k : ℕ) → next ≤ k → k < 2 ^ 64 → Numbers taken ws next → AllByRecursion (λ w. bytes_eq w.name (helper k) ≡ false) ws
 others_differ taken ws next k l s n =
-    all_from _ (λ w. bytes_eq w.name (helper k) ≡ false) ws
+    all_follow _ (λ w. bytes_eq w.name (helper k) ≡ false) ws
     (λ w h. subst (λ (x : Name). bytes_eq x (helper k) ≡ false) (sym h.2) (helpers_differ h.0 k (omega (arith, h.1)) s (omega (arith, h.1)))) n.each
 
 new_fits : (taken : Name → Bool) (ms : Shapes) (sc : Scope) (ws : List Wire) (next u : ℕ) (r : Right) (n : Name) (after : List Wire) (next_after : ℕ) → TakenApart taken ms sc → Numbers taken ws next → AreWires ms sc ws → IsWidth u → IsRight ms (readable_after sc ws) u r → AddsNew taken ws next u r n after next_after → Provided taken ms sc ws u (Named n) after next_after
@@ -100,7 +94,7 @@ new_fits taken ms sc ws next u r n after next_after apart named fits w f a =
     let is : readable_after sc (ws ++ x ∷ []) ≡ (n, u) ∷ readable_after sc ws = readable_both ws (x ∷ []) sc in
     let names : Numbers taken (ws ++ x ∷ []) (k + 1) = record {
       small = free.small;
-      each = all_append _ ws (x ∷ []) (all_from _ _ ws (λ y h. (h.0, omega (arith, h.1, free.behind), h.2, h.3)) named.each) ((k, omega arith, free.name, free.free), tt);
+      each = all_append _ ws (x ∷ []) (all_follow _ _ ws (λ y h. (h.0, omega (arith, h.1, free.behind), h.2, h.3)) named.each) ((k, omega arith, free.name, free.free), tt);
     } in
     let after_is = a.wires in
     record {

@@ -1,9 +1,9 @@
 -- Rules that look at the right sides of helping wires.
-use Rattle.std.proofs.Common.{◌≡◌, ℕ, zero, suc, ◌+◌, ◌-◌, ◌^◌, ◌<◌, ◌≤◌, ◌==◌, List, [], ◌∷◌, length, get_or, Some, None, Bool, true, false, sym, ap, ap₂, ◌∙◌, subst, refl, inl, inr, arith}
+use Rattle.std.proofs.Common.{◌≡◌, ℕ, zero, suc, ◌+◌, ◌-◌, ◌^◌, ◌<◌, ◌≤◌, ◌==◌, List, [], ◌∷◌, length, get_or, Some, None, Bool, sym, ap, ap₂, ◌∙◌, subst, refl, inl, inr, arith}
 use Rattle.std.specs.Prelude.{◌⊎◌, if◌then◌else◌}
 use Rattle.std.specs.List.{AllByRecursion}
 use Rattle.std.proofs.lemmas.Bool.{cases_Bool}
-use Rattle.std.proofs.lemmas.Bool.Decides.{nat_tests}
+use Rattle.sap_lemmas.proofs.Numbers.{positive_of_test, test_of_positive, test_of_zero, zero_of_test}
 use Rattle.sap_bits.specs.Arithmetic.{value1, width1}
 use Rattle.sap_bits.specs.declared.Op1.TheVariants.{Not}
 use Rattle.sap_maps.specs.Maps.{Name, Valuation}
@@ -118,30 +118,18 @@ not_not ws u a d k =
           ap₂ (λ (n x : ℕ). 2 ^ n - 1 - x) w e ∙ back (2 ^ operand_width widths d) (operand_value v d) l;
     }
 
-pub not_zero : (x : ℕ) → (x == 0) ≡ false → 0 < x
-not_zero x h = grind (arith, nat_tests)
-
-pub is_zero : (x : ℕ) → (x == 0) ≡ true → x ≡ 0
-is_zero x h = grind (arith, nat_tests)
-
-zero_is : (x : ℕ) → x ≡ 0 → (x == 0) ≡ true
-zero_is x h = grind (arith, nat_tests)
-
-more_is : (x : ℕ) → 0 < x → (x == 0) ≡ false
-more_is x h = grind (arith, nat_tests)
-
 -- a choice by a bit's negation
 turned : (c d x y : ℕ) → d < 2 ^ 1 → c ≡ 2 ^ 1 - 1 - d → (if c == 0 then y else x) ≡ (if d == 0 then x else y)
 turned c d x y l e =
     elim (cases_Bool (d == 0)) [
       | inl t ↦
-          let z = is_zero d t in
+          let z = zero_of_test d t in
           let m : 0 < c = omega (arith, z, e) in
-          let q = more_is c m in rw (t, q) refl
+          let q = test_of_positive c m in rw (t, q) refl
       | inr f ↦
-          let z = not_zero d f in
+          let z = positive_of_test d f in
           let m : c ≡ 0 = omega (arith, z, e, l) in
-          let q = zero_is c m in rw (f, q) refl
+          let q = test_of_zero c m in rw (f, q) refl
     ]
 
 pub choose_turned : (ws : List Wire) (u : ℕ) (c d a b : Operand) → Defines ws c (One Not d) → Equals ws u (Choose c a b) (Choose d b a)

@@ -1,11 +1,12 @@
 -- Slices of slices, of parts of concatenations, and of whole wires.
 use Rattle.std.proofs.Common.{◌≡◌, ℕ, zero, suc, ◌+◌, ◌-◌, ◌*◌, ◌/◌, ◌%◌, ◌^◌, ◌<◌, ◌≤◌, ◌==◌, List, [], ◌∷◌, ◌++◌, length, take, drop, get_or, drop-cons, Option, Some, None, Bool, true, sym, ap, ap₂, ◌∙◌, subst, refl, arith}
-use Rattle.std.specs.Prelude.{nat_le, nat_lt, if◌then◌else◌, IfSome}
+use Rattle.std.specs.Prelude.{if◌then◌else◌, IfSome}
 use Rattle.std.proofs.Math.Nat.{add-mul, mul_assoc, mul_comm, div-add-mod, mod-lt, add-mul-mod_self_right, add-mul-div_right, mod-eq_of_lt}
 use Rattle.std.proofs.Math.Pow.{pow_pos}
 use Rattle.std.proofs.lemmas.List.{take-append-drop, length-take}
 use Rattle.std.proofs.lemmas.Nat.{pow-add, shr-shr, div-mul-add}
 use Rattle.std.proofs.lemmas.Bool.Decides.{nat_tests}
+use Rattle.std.proofs.lemmas.Bool.{le-leb, lt-ltb}
 use Rattle.sap_bits.specs.Arithmetic.{slice_of}
 use Rattle.sap_maps.specs.Maps.{Name, Valuation}
 use Rattle.sap_maps.specs.Scope.{Scope, find}
@@ -72,27 +73,21 @@ slice_part a u o b r hi lo h c d e =
 
 -- slices of operands
 
-le_is : (a b : ℕ) → a ≤ b → nat_le a b ≡ true
-le_is a b h = grind (arith, nat_tests)
-
-lt_is : (a b : ℕ) → a < b → nat_lt a b ≡ true
-lt_is a b h = grind (arith, nat_tests)
-
 slice_below : (n hi lo : ℕ) → slice_of n hi lo < 2 ^ (hi + 1 - lo)
 slice_below n hi lo = mod-lt _ (pow_pos _)
 
 pub sliced_fits : (ms : Shapes) (sn : Scope) (u t hi lo : ℕ) (o : Operand) → IsWidth u → IsOperand sn u o → lo ≤ hi → hi < u → t ≡ hi + 1 - lo → IsRight ms sn t (sliced o hi lo)
 sliced_fits ms sn u t hi lo (Named x) w h a b e = (u, w, h, a, b, e)
 sliced_fits ms sn u t hi lo (Constant k n) w h a b e =
-    let p = le_is lo hi a in
-    let q = lt_is hi 64 (omega (arith, w.1)) in
+    let p = le-leb lo hi a in
+    let q = lt-ltb hi 64 (omega (arith, w.1)) in
     rw (p, q) (sym e, rw e (slice_below n hi lo))
 
 pub sliced_value : (ww : Name → ℕ) (w : Valuation) (hi lo : ℕ) (o : Operand) → lo ≤ hi → hi < 64 → slice_of (operand_value w o) hi lo ≡ right_value ww w (sliced o hi lo)
 sliced_value ww w hi lo (Named x) a b = refl
 sliced_value ww w hi lo (Constant k n) a b =
-    let p = le_is lo hi a in
-    let q = lt_is hi 64 b in
+    let p = le-leb lo hi a in
+    let q = lt-ltb hi 64 b in
     rw (p, q) refl
 
 -- slices of wires

@@ -4,6 +4,9 @@ use Rattle.std.specs.Prelude.{codes, find, not, slice_get, Contains}
 use Rattle.std.specs.Str.{bytes_eq}
 use Rattle.std.proofs.lemmas.Bool.{both_ways, cases_lt, false≢true, not-true}
 use Rattle.std.proofs.lemmas.Option.{get_or_from_slice_get, slice_get_past}
+use Rattle.sap_lemmas.proofs.Bools.{iff_same}
+use Rattle.sap_lemmas.proofs.Texts.{bytes_eq_same}
+use Rattle.sap_lattice.proofs.LevelsLemmas.{level_in_same}
 use mathlib.Core.Path.{fun_ext}
 use Rattle.sap_lattice.specs.Built.{IsLatticeOf}
 use Rattle.sap_lattice.specs.Closure.{AtOrBelow, Below, name_at}
@@ -21,8 +24,7 @@ use Rattle.sap_lattice.specs.declared.order.PairRule.TheVariants.{Apart, Joined}
 use Rattle.sap_lattice.specs.declared.pair.Pair.{Pair}
 use Rattle.sap_lattice.proofs.Judged.{is_lattice_of, keeps_all}
 use Rattle.sap_lattice.proofs.Numbers.{every_at}
-use Rattle.sap_lattice.proofs.Orders.{level_in_below, level_in_same}
-use Rattle.sap_maps.proofs.Scopes.{same_name}
+use Rattle.sap_lattice.proofs.Orders.{level_in_below}
 use Rattle.sap_gen.specs.Diamond.{diamond, level_names, level_pairs, pair, table}
 
 -- the levels at or above each level, as the bits of a number
@@ -133,7 +135,7 @@ differ j k a b =
     (every_at (λ m. every m (λ i. not (bytes_eq (name_at level_names i) (name_at level_names m)))) 4 refl k b) j a)
 
 apart : (m n : List ℕ) → bytes_eq m n ≡ false → m ≡ n → ⊥
-apart m n f e = both_ways (bytes_eq m n) f (ap (bytes_eq m) (sym e) ∙ same_name m)
+apart m n f e = both_ways (bytes_eq m n) f (ap (bytes_eq m) (sym e) ∙ bytes_eq_same m)
 
 sound_name : (k : ℕ) → k < 4 → is_word (name_at level_names k) ≡ true → is_keyword (name_at level_names k) ≡ false → length (name_at level_names k) ≤ 40 → ¬ BadName level_names k
 sound_name k l w q s (no_word e) = both_ways _ e w
@@ -235,12 +237,6 @@ pub diamond_is : IsLatticeOf level_names level_pairs diamond
 diamond_is = is_lattice_of level_names level_pairs rows told no_cycle all_joined 0 least_found diamond keeps_rules diamond_names diamond_order
 
 -- any lattice of these names and pairs has the same order
-
-iff_same : (a b : Bool) → (a ≡ true → b ≡ true) → (b ≡ true → a ≡ true) → a ≡ b
-iff_same true true f g = refl
-iff_same true false f g = sym (f refl)
-iff_same false true f g = g refl
-iff_same false false f g = refl
 
 module _ (ls : Levels) (is : IsLatticeOf level_names level_pairs ls) where
   at_levels : (x y : ℕ) → x < 4 → y < 4 → (order_of ls).le x y ≡ tells rows x y

@@ -5,7 +5,7 @@ use Rattle.std.specs.List.{range_with_len}
 use Rattle.std.specs.Str.{bytes_eq}
 use Rattle.std.proofs.lemmas.Bool.{cases_eq}
 use Rattle.std.proofs.lemmas.List.{append-nil}
-use Rattle.sap_maps.proofs.Scopes.{same_name}
+use Rattle.sap_lemmas.proofs.Texts.{bytes_eq_same}
 use Rattle.sap_tree.specs.declared.place.Place.{Place}
 use Rattle.sap_names.specs.declared.fault.Fault.{Fault}
 use Rattle.sap_names.specs.declared.kind.Code.{Code}
@@ -44,7 +44,7 @@ found_later e es name f = rw f refl
 find_register : (a k i : ℕ) (rest : List Entity) → a ≤ i → i < a + k → a + k ≤ 64 → find (registers_from a k ++ rest) (register_name i) ≡ Some (register_entity i)
 find_register a zero i rest l h b = absurd (omega arith)
 find_register a (suc k) i rest l h b = elim (cases_eq a i) [
-  | inl e ↦ found_here (register_entity a) (registers_from (a + 1) k ++ rest) (register_name i) (ap (λ (z : ℕ). bytes_eq (register_name z) (register_name i)) e ∙ same_name (register_name i))
+  | inl e ↦ found_here (register_entity a) (registers_from (a + 1) k ++ rest) (register_name i) (ap (λ (z : ℕ). bytes_eq (register_name z) (register_name i)) e ∙ bytes_eq_same (register_name i))
       ∙ ap (λ (z : ℕ). Some (register_entity z)) e
   | inr ne ↦ found_later (register_entity a) (registers_from (a + 1) k ++ rest) (register_name i) (registers_differ a i (omega arith) (omega arith) ne)
       ∙ find_register (a + 1) k i rest (omega arith) (omega arith) (omega arith)
@@ -57,7 +57,7 @@ no_register a (suc k) j rest = found_later (register_entity a) (registers_from (
 find_state : (r t a k j : ℕ) → a ≤ j → j < a + k → a + k ≤ 64 → find (states_from r t a k) (state_name j) ≡ Some (state_entity j)
 find_state r t a zero j l h b = absurd (omega arith)
 find_state r t a (suc k) j l h b = elim (cases_eq a j) [
-  | inl e ↦ found_here (state_entity a) (states_from r t (a + 1) k) (state_name j) (ap (λ (z : ℕ). bytes_eq (state_name z) (state_name j)) e ∙ same_name (state_name j))
+  | inl e ↦ found_here (state_entity a) (states_from r t (a + 1) k) (state_name j) (ap (λ (z : ℕ). bytes_eq (state_name z) (state_name j)) e ∙ bytes_eq_same (state_name j))
       ∙ ap (λ (z : ℕ). Some (state_entity z)) e
   | inr ne ↦ found_later (state_entity a) (states_from r t (a + 1) k) (state_name j) (states_differ a j (omega arith) (omega arith) ne)
       ∙ find_state r t (a + 1) k j (omega arith) (omega arith) (omega arith)

@@ -3,6 +3,8 @@ use Rattle.std.proofs.Common.{◌≡◌, ℕ, zero, suc, ◌+◌, ◌<◌, ◌�
 use Rattle.std.proofs.lemmas.List.{append-nil}
 use Rattle.std.specs.Prelude.{is_ok, option_map, slice_get}
 use Rattle.std.proofs.Math.Seq.{drop-cons}
+use Rattle.sap_lemmas.proofs.Lists.{drop_past}
+use Rattle.sap_names.proofs.EntityKindLemmas.{some_kind}
 use Rattle.sap_lattice.specs.Levels.{Levels}
 use Rattle.sap_tree.specs.Syntax.{DesignTree}
 use Rattle.sap_names.specs.declared.entity.Entity.{Entity}
@@ -40,14 +42,11 @@ kind_stands (what.Register u) g s = ap kind_is_register s.0
 kind_stands (what.Memory u depth) g s = ap kind_is_register s.0
 kind_stands what.State g s = no_register g.kind s.0
 
-some_same : (a b : EntityKind) → Some a ≡ Some b → a ≡ b
-some_same a b e = cc
-
 kinds_match : (es : List Entity) (gs : List program.Entity) → AllMatch es gs → (x : ℕ) (k : EntityKind) → option_map (λ (e : Entity). kind_of e.what) (slice_get es x) ≡ Some k
     → kind_is_register (get_or gs x nothing).kind ≡ is_register_kind k
 kinds_match [] gs m x k h = cc
 kinds_match (e ∷ es) [] m x k h = absurd m
-kinds_match (e ∷ es) (g ∷ gs) m zero k h = kind_stands e.what g m.0.what ∙ ap is_register_kind (some_same (kind_of e.what) k h)
+kinds_match (e ∷ es) (g ∷ gs) m zero k h = kind_stands e.what g m.0.what ∙ ap is_register_kind (some_kind (kind_of e.what) k h)
 kinds_match (e ∷ es) (g ∷ gs) m (suc x) k h = kinds_match es gs m.1 x k h
 
 -- whether an entity of a design is a register
@@ -107,17 +106,11 @@ text_step ls t s x out new whole l before grown =
     ∙ ap (λ (z : List ℕ). out ++ z) (sym (text_more ls (named_of ls t) s x (omega arith)))
     ∙ before
 
-past_last : {A : Type 0} (xs : List A) (x : ℕ) → length xs ≤ x → drop x xs ≡ []
-past_last [] zero l = refl
-past_last [] (suc x) l = refl
-past_last (y ∷ xs) zero l = absurd (omega arith)
-past_last (y ∷ xs) (suc x) l = past_last xs x (omega arith)
-
 pub text_end : {E : Type 0} (r : Result (Unit {0}) E) (ls : Levels) (t : DesignTree) (s : Store) (x : ℕ) (out new whole : List ℕ) → length (entities_of t) ≤ x
     → out ++ text_from ls (named_of ls t) s x ≡ whole → new ≡ (if is_ok r then out ++ 10 ∷ [] else out) → OnOk r (new ≡ whole)
 text_end (Err f) ls t s x out new whole l before grown = tt
 text_end (Ok u) ls t s x out new whole l before grown =
     let e = entities_length ls t in
     grown
-    ∙ ap (λ (es : List program.Entity). out ++ all_shown (registers_shown ls (named_of ls t) s x es)) (sym (past_last (world_of ls t).entities x (omega arith)))
+    ∙ ap (λ (es : List program.Entity). out ++ all_shown (registers_shown ls (named_of ls t) s x es)) (sym (drop_past (world_of ls t).entities x (omega arith)))
     ∙ before

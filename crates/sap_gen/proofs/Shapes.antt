@@ -4,7 +4,6 @@ use Rattle.std.specs.Prelude.{not}
 use Rattle.std.specs.List.{range_with_len}
 use Rattle.std.specs.Str.{bytes_eq}
 use Rattle.std.proofs.lemmas.Bool.{cases_eq, or_left, or_right}
-use Rattle.sap_maps.proofs.Scopes.{same_name}
 use Rattle.sap_tree.specs.Bare.{nowhere}
 use Rattle.sap_tree.specs.Syntax.{CommandList, NoState, StateList}
 use Rattle.sap_names.specs.declared.fault.Fault.{Fault}
@@ -18,6 +17,7 @@ use Rattle.sap_shape.specs.Walk.{Written, falls_list, fresh, second_list, second
 use Rattle.sap_shape.proofs.Again.{no_faults}
 use Rattle.sap_gen.specs.Design.{assignment, commands, design_of_counts, enforced, state, state_name, states, transfer}
 use Rattle.std.specs.Prelude.{codes}
+use Rattle.sap_lemmas.proofs.Texts.{bytes_eq_same}
 use Rattle.sap_gen.proofs.Faultless.{none_of}
 
 -- the commands of a body from the a-th on, k of them before the goto
@@ -52,7 +52,7 @@ module _ (es : List Entity) (r t : ℕ) (group : StateList) (siblings : (j : ℕ
 among : (r t a k j : ℕ) → a ≤ j → j < a + k → is_among (states (map (state r t) (range_with_len a k))) (state_name j) ≡ true
 among r t a zero j l h = absurd (omega arith)
 among r t a (suc k) j l h = elim (cases_eq a j) [
-  | inl e ↦ or_left (bytes_eq (state_name a) (state_name j)) _ (ap (λ (z : ℕ). bytes_eq (state_name z) (state_name j)) e ∙ same_name (state_name j))
+  | inl e ↦ or_left (bytes_eq (state_name a) (state_name j)) _ (ap (λ (z : ℕ). bytes_eq (state_name z) (state_name j)) e ∙ bytes_eq_same (state_name j))
   | inr ne ↦ or_right (bytes_eq (state_name a) (state_name j)) _ (among r t (a + 1) k j (omega arith) (omega arith))
 ]
 

@@ -2,8 +2,7 @@
 use Rattle.std.proofs.Common.{◌≡◌, ℕ, zero, suc, ◌+◌, ◌*◌, ◌%◌, ◌<◌, ◌≤◌, max, [], ◌∷◌, ◌++◌, Bool, true, false, ◌&&◌, map, refl, ap, ◌∙◌, arith, if◌then◌else◌}
 use Rattle.std.specs.Prelude.{◌==◌, codes, nat_le}
 use Rattle.std.specs.List.{count_by, list_all, range_with_len}
-use Rattle.std.proofs.lemmas.Bool.{and_from}
-use Rattle.std.proofs.lemmas.Bool.Decides.{nat_tests}
+use Rattle.std.proofs.lemmas.Bool.{and_from, le-leb}
 use Rattle.std.proofs.lemmas.List.Sums.{sum_by-cons}
 use Rattle.sap_tree.specs.Bare.{nowhere}
 use Rattle.sap_tree.specs.Extent.{brackets, fits, tokens}
@@ -17,9 +16,6 @@ use Rattle.sap_tree.specs.declared.syntax.Kind.TheVariants.{Dynamic}
 use Rattle.sap_tree.specs.declared.version.Version.TheVariants.{One}
 use Rattle.sap_gen.specs.Design.{assignment, commands, declared_input, declared_register, design_of_counts, enforced, input_name, register_name, state, states, sum, transfer}
 use Rattle.sap_gen.proofs.Words.{register_is_name, state_is_name}
-
-at_most : (a b : ℕ) → a ≤ b → nat_le a b ≡ true
-at_most a b h = grind (arith, nat_tests)
 
 -- declarations
 
@@ -157,9 +153,9 @@ tree_is_whole r t some few more short =
     (and_from (list_all (is_declaration One) ds) (has_state ss) (and_from (is_declaration One declared_input) _ input_is (registers_are 0 r (omega arith))) (some_state r t t more))
     (states_are r t 0 t (omega arith) some (omega arith) more (omega arith)) in
     let a : nat_le (count_by is_input ds) 64 ≡ true = rw (one_input r) refl in
-    let b : nat_le (count_by is_register ds) 256 ≡ true = rw (all_registers r) (at_most r 256 (omega arith)) in
+    let b : nat_le (count_by is_register ds) 256 ≡ true = rw (all_registers r) (le-leb r 256 (omega arith)) in
     let c : nat_le (count_by is_memory ds) 16 ≡ true = rw (not_one_memory r) refl in
-    let d : nat_le (states_count ss) 256 ≡ true = rw (so_many_states r t 0 t) (at_most t 256 (omega arith)) in
-    let e : nat_le (states_depth ss) 16 ≡ true = at_most (states_depth ss) 16 (let h = one_level r t 0 t in omega arith) in
-    let f : nat_le (states_commands ss) 4096 ≡ true = at_most (states_commands ss) 4096 (let h = few_commands r t 0 t few in omega arith) in
+    let d : nat_le (states_count ss) 256 ≡ true = rw (so_many_states r t 0 t) (le-leb t 256 (omega arith)) in
+    let e : nat_le (states_depth ss) 16 ≡ true = le-leb (states_depth ss) 16 (let h = one_level r t 0 t in omega arith) in
+    let f : nat_le (states_commands ss) 4096 ≡ true = le-leb (states_commands ss) 4096 (let h = few_commands r t 0 t few in omega arith) in
     and_from _ _ tree (and_from _ _ (and_from _ _ (and_from _ _ (and_from _ _ (and_from _ _ a b) c) d) e) f)

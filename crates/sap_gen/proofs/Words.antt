@@ -4,11 +4,11 @@ use Rattle.std.specs.Fmt.{decimal, digits}
 use Rattle.std.specs.Str.{bytes_eq}
 use Rattle.std.proofs.lemmas.Bool.{cases_Bool}
 use Rattle.std.proofs.lemmas.Fmt.{decimal_injective}
+use Rattle.sap_lemmas.proofs.Texts.{equal_of_bytes_eq}
 use Rattle.sap_lattice.specs.Levels.{every}
 use Rattle.sap_lattice.proofs.Numbers.{every_at}
 use Rattle.sap_tree.specs.Words.{is_name}
 use Rattle.sap_tree.specs.declared.version.Version.TheVariants.{One}
-use Rattle.sap_maps.proofs.Scopes.{name_is}
 use Rattle.sap_gen.specs.Design.{register_name, state_name}
 
 -- the numbers in names are below 64
@@ -18,14 +18,14 @@ large i h = omega arith
 pub registers_differ : (i j : ℕ) → i < 64 → j < 64 → i ≢ j → bytes_eq (register_name i) (register_name j) ≡ false
 registers_differ i j a b ne =
     elim (cases_Bool (bytes_eq (register_name i) (register_name j))) [
-      | inl t ↦ absurd (let e : register_name i ≡ register_name j = name_is (register_name i) (register_name j) t in let d : decimal i ≡ decimal j = cc in ne (decimal_injective i j (large i a) (large j b) d))
+      | inl t ↦ absurd (let e : register_name i ≡ register_name j = equal_of_bytes_eq (register_name i) (register_name j) t in let d : decimal i ≡ decimal j = cc in ne (decimal_injective i j (large i a) (large j b) d))
       | inr f ↦ f
     ]
 
 pub states_differ : (i j : ℕ) → i < 64 → j < 64 → i ≢ j → bytes_eq (state_name i) (state_name j) ≡ false
 states_differ i j a b ne =
     elim (cases_Bool (bytes_eq (state_name i) (state_name j))) [
-      | inl t ↦ absurd (let e : state_name i ≡ state_name j = name_is (state_name i) (state_name j) t in let d : decimal i ≡ decimal j = cc in ne (decimal_injective i j (large i a) (large j b) d))
+      | inl t ↦ absurd (let e : state_name i ≡ state_name j = equal_of_bytes_eq (state_name i) (state_name j) t in let d : decimal i ≡ decimal j = cc in ne (decimal_injective i j (large i a) (large j b) d))
       | inr f ↦ f
     ]
 

@@ -1,7 +1,6 @@
 -- The columns of lists of commands and of states, from a place on.
 use Rattle.std.proofs.Common.{◌≡◌, ℕ, zero, suc, ◌+◌, ◌<◌, ◌≤◌, List, [], ◌∷◌, ◌++◌, ◌||◌, ◌&&◌, Bool, true, false, length, set, get_or, drop, refl, sym, ap, ◌∙◌, arith, add-one, append_assoc, Some}
-use Rattle.std.proofs.lemmas.Grind.{common_steps}
-use Rattle.std.proofs.lemmas.List.{map-append}
+use Rattle.std.proofs.lemmas.List.{map-append, append-nil}
 use Rattle.std.proofs.Math.Seq.{set-append_seam}
 use Rattle.sap_tree.specs.declared.place.Place.{Place}
 use Rattle.sap_tree.specs.declared.syntax.Block.{Block}
@@ -25,9 +24,6 @@ use Rattle.sap_hang.specs.Columns.{touching, list_touches, list_column, arms_tou
 after_part : (old new part rest all : List Bool) → new ≡ old ++ part → all ≡ part ++ rest → new ++ rest ≡ old ++ all
 after_part old new part rest all h e =
     ap (λ (l : List Bool). l ++ rest) h ∙ append_assoc old part rest ∙ ap (λ (l : List Bool). old ++ l) (sym e)
-
-append_none : (l : List Bool) → l ++ [] ≡ l
-append_none l = grind (arith, common_steps)
 
 -- points of two parts
 touching-both : (ds : List Decl) (x : List ℕ) (p q : List Point) → touching ds x (p ++ q) ≡ touching ds x p ++ touching ds x q
@@ -55,7 +51,7 @@ module _ (ds : List Decl) (h : Home) (x : List ℕ) where
   column_step cs n d old new l e k = after_part old new _ _ _ k (list_column-drop cs n d l e)
 
   pub column_end : (cs : List Cmd) (n : ℕ) (new all : List Bool) → length cs ≤ n → new ++ list_column ds h x (drop n cs) ≡ all → new ≡ all
-  column_end cs n new all l e = sym (append_none new) ∙ ap (λ (r : List Bool). new ++ r) (sym (list_column-past cs n l)) ∙ e
+  column_end cs n new all l e = sym (append-nil new) ∙ ap (λ (r : List Bool). new ++ r) (sym (list_column-past cs n l)) ∙ e
 
   list_touches-drop : (cs : List Cmd) (n : ℕ) (d : Cmd) → n < length cs → d ≡ get_or cs n d
       → list_touches ds h (drop n cs) x ≡ (touches ds h (command_of d) x || list_touches ds h (drop (n + 1) cs) x)
@@ -121,7 +117,7 @@ module _ (ds : List Decl) (h : Home) (x : List ℕ) where
   arms_step arms n d cs old new l e f k = after_part old new _ _ _ k (arms_column-drop arms n d cs l e f)
 
   pub arms_end : (arms : List Arm) (n : ℕ) (new all : List Bool) → length arms ≤ n → new ++ arms_column ds h x (drop n arms) ≡ all → new ≡ all
-  arms_end arms n new all l e = sym (append_none new) ∙ ap (λ (r : List Bool). new ++ r) (sym (arms_column-past arms n l)) ∙ e
+  arms_end arms n new all l e = sym (append-nil new) ∙ ap (λ (r : List Bool). new ++ r) (sym (arms_column-past arms n l)) ∙ e
 
   arms_touch-drop : (arms : List Arm) (n : ℕ) (d : Arm) (cs : List Cmd) → n < length arms → d ≡ get_or arms n d → cs ≡ d.block.commands.items
       → arms_touch ds h (drop n arms) x ≡ (list_touches ds h cs x || arms_touch ds h (drop (n + 1) arms) x)
@@ -286,7 +282,7 @@ module _ (ds : List Decl) (x : List ℕ) where
   group_step ss n d old new l e k = after_part old new _ _ _ k (group_column-drop ss n d l e)
 
   pub group_end : (ss : List State) (n : ℕ) (new all : List Bool) → length ss ≤ n → new ++ group_column ds x (drop n ss) ≡ all → new ≡ all
-  group_end ss n new all l e = sym (append_none new) ∙ ap (λ (r : List Bool). new ++ r) (sym (group_column-past ss n l)) ∙ e
+  group_end ss n new all l e = sym (append-nil new) ∙ ap (λ (r : List Bool). new ++ r) (sym (group_column-past ss n l)) ∙ e
 
   pub state_column : (s : State) → touching ds x (state_points (state_of s))
       ≡ list_column ds (record { name = (out-State s).name.name; dynamic = is_dynamic (out-State s).kind; children = states_of (out-State s).children.items }) x (out-State s).body.commands.items

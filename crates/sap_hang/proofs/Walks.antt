@@ -1,5 +1,6 @@
 -- Whether some part of a list passes a test, from a place on; and what the definitions of assigning and touching say of each construct.
-use Rattle.std.proofs.Common.{◌≡◌, ℕ, zero, suc, ◌+◌, ◌<◌, ◌≤◌, List, [], ◌∷◌, ◌||◌, ◌&&◌, Bool, true, false, length, get_or, drop, refl, sym, ap, ◌∙◌, arith, add-one, bytes_eq, Some}
+use Rattle.std.proofs.Common.{◌≡◌, ℕ, zero, suc, ◌+◌, ◌<◌, ◌≤◌, List, [], ◌∷◌, ◌||◌, ◌&&◌, Bool, false, length, get_or, drop, refl, sym, ap, ◌∙◌, arith, add-one, bytes_eq, Some}
+use Rattle.sap_lemmas.proofs.Bools.{or_assoc}
 use Rattle.sap_tree.specs.declared.place.Place.{Place}
 use Rattle.sap_tree.specs.declared.syntax.Block.{Block}
 use Rattle.sap_tree.specs.declared.syntax.Arm.{Arm}
@@ -86,10 +87,6 @@ pub child_past : (name : List ℕ) (ss : List State) (n : ℕ) → length ss ≤
 child_past name ss n h = any_past (λ (s : State). bears name (state_of s)) (λ (l : List State). is_dynamic_child (states_of l) name) (child_none name) (λ s l. child_more name (state_of s) (states_of l)) ss n h
 
 pub ruleset pasts = (commands_past, arms_past, states_past, child_past)
-
-or_assoc : (a b c : Bool) → (a || (b || c)) ≡ ((a || b) || c)
-or_assoc true b c = refl
-or_assoc false b c = refl
 
 -- what is assigned
 

@@ -4,33 +4,17 @@ use Rattle.std.specs.Prelude.{unwrap_or}
 use Rattle.std.specs.Str.{bytes_eq}
 use Rattle.std.specs.List.{AllByRecursion}
 use Rattle.std.proofs.lemmas.Bool.{cases_Bool}
+use Rattle.sap_lemmas.proofs.Texts.{equal_of_bytes_eq}
+use Rattle.sap_net.proofs.NamesLemmas.{among_append, among_behind, among_front, found_among, not_found}
+use Rattle.sap_maps.proofs.ScopeLemmas.{found_first, found_second}
 use Rattle.sap_maps.specs.Maps.{Name}
 use Rattle.sap_maps.specs.Scope.{Scope, find}
-use Rattle.sap_maps.proofs.Scopes.{same_name, name_is, apart_back}
 use Rattle.sap_net.specs.Names.{is_among, AreDistinct}
 use Rattle.sap_net.specs.Rules.{Shapes}
 use Rattle.sap_ir.specs.declared.guarded.Var.{Var}
 use Rattle.sap_ir.specs.declared.guarded.Store.{Store}
 use Rattle.sap_ir.specs.Source.{Source, readable, shapes, width_of}
 use Rattle.sap_ir.specs.IsGuarded.{assignable, variable_names, memory_names, declared}
-
-pub among_append : (n : Name) (xs ys : List Name) → is_among n (xs ++ ys) ≡ (is_among n xs || is_among n ys)
-among_append n [] ys = refl
-among_append n (x ∷ xs) ys =
-    elim (cases_Bool (bytes_eq n x)) [
-      | inl t ↦ rw t refl
-      | inr f ↦ rw f (among_append n xs ys)
-    ]
-
-pub among_behind : (n : Name) (xs ys : List Name) → is_among n ys ≡ true → is_among n (xs ++ ys) ≡ true
-among_behind n [] ys h = h
-among_behind n (x ∷ xs) ys h =
-    elim (cases_Bool (bytes_eq n x)) [ inl t ↦ rw t refl | inr f ↦ rw f (among_behind n xs ys h) ]
-
-pub among_front : (n : Name) (xs ys : List Name) → is_among n xs ≡ true → is_among n (xs ++ ys) ≡ true
-among_front n [] ys h = absurd (cc)
-among_front n (x ∷ xs) ys h =
-    elim (cases_Bool (bytes_eq n x)) [ inl t ↦ rw t refl | inr f ↦ rw f (among_front n xs ys (rw f at h)) ]
 
 -- a name that is not on the whole list is in neither part
 pub not_front : (n : Name) (xs ys : List Name) → is_among n (xs ++ ys) ≡ false → is_among n xs ≡ false
@@ -54,7 +38,7 @@ pub apart_lists : (xs ys : List Name) → AreDistinct (xs ++ ys) → (n : Name) 
 apart_lists [] ys d n h = refl
 apart_lists (x ∷ xs) ys d n h =
     elim (cases_Bool (bytes_eq n x)) [
-      | inl t ↦ absurd (let e : n ≡ x = name_is n x t in let g = among_behind n xs ys h in let k : is_among n (xs ++ ys) ≡ false = subst (λ (m : Name). is_among m (xs ++ ys) ≡ false) (sym e) d.0 in cc)
+      | inl t ↦ absurd (let e : n ≡ x = equal_of_bytes_eq n x t in let g = among_behind n xs ys h in let k : is_among n (xs ++ ys) ≡ false = subst (λ (m : Name). is_among m (xs ++ ys) ≡ false) (sym e) d.0 in cc)
       | inr f ↦ rw f (apart_lists xs ys d.1 n h)
     ]
 
@@ -63,32 +47,6 @@ apart_lists_back xs ys d n h =
     elim (cases_Bool (is_among n ys)) [ inl t ↦ absurd (let e = apart_lists xs ys d n t in cc) | inr f ↦ f ]
 
 -- names and what is found under them
-
-pub found_among : {X Y : Type 0} (name : Y → Name) (of : Y → X) (ys : List Y) (n : Name) (x : X) → find (map (λ y. (name y, of y)) ys) n ≡ Some x → is_among n (map name ys) ≡ true
-found_among name of [] n x h = absurd (cc)
-found_among name of (y ∷ ys) n x h =
-    elim (cases_Bool (bytes_eq (name y) n)) [
-      | inl t ↦ let e : bytes_eq n (name y) ≡ true = subst (λ (m : Name). bytes_eq m (name y) ≡ true) (name_is (name y) n t) (same_name (name y)) in rw e refl
-      | inr f ↦ rw (apart_back (name y) n f) (found_among name of ys n x (rw f at h))
-    ]
-
-pub not_found : {X Y : Type 0} (name : Y → Name) (of : Y → X) (ys : List Y) (n : Name) → is_among n (map name ys) ≡ false → find (map (λ y. (name y, of y)) ys) n ≡ None
-not_found name of [] n h = refl
-not_found name of (y ∷ ys) n h =
-    elim (cases_Bool (bytes_eq n (name y))) [
-      | inl t ↦ absurd (let e : (bytes_eq n (name y) || is_among n (map name ys)) ≡ true = rw t refl in cc)
-      | inr f ↦ rw (apart_back n (name y) f) (not_found name of ys n (rw f at h))
-    ]
-
-pub found_first : {X : Type 0} (es fs : List (Name × X)) (n : Name) (x : X) → find es n ≡ Some x → find (es ++ fs) n ≡ Some x
-found_first [] fs n x h = absurd (cc)
-found_first (e ∷ es) fs n x h =
-    elim (cases_Bool (bytes_eq e.0 n)) [ inl t ↦ rw t (rw t at h) | inr f ↦ rw f (found_first es fs n x (rw f at h)) ]
-
-pub found_second : {X : Type 0} (es fs : List (Name × X)) (n : Name) → find es n ≡ None → find (es ++ fs) n ≡ find fs n
-found_second [] fs n h = refl
-found_second (e ∷ es) fs n h =
-    elim (cases_Bool (bytes_eq e.0 n)) [ inl t ↦ absurd (let g : Some e.1 ≡ None = rw t at h in cc) | inr f ↦ rw f (found_second es fs n (rw f at h)) ]
 
 -- the names of a source
 

@@ -1,5 +1,8 @@
 -- Two lattices of one file are the same.
-use Rattle.std.proofs.Common.{◌≡◌, ◌↔◌, ℕ, ◌<◌, ◌≤◌, Bool, true, false, List, Option, Some, length, refl, sym, ap, ◌∙◌, subst, inl, inr, arith}
+use Rattle.std.proofs.Common.{◌≡◌, ◌↔◌, ℕ, ◌<◌, ◌≤◌, List, length, sym, ap, ◌∙◌, subst, inl, inr, arith}
+use Rattle.sap_lemmas.proofs.Bools.{iff_same}
+use Rattle.sap_lemmas.proofs.Options.{some_unique}
+use Rattle.sap_lattice.proofs.LevelsLemmas.{level_in_same}
 use mathlib.Core.Path.{fun_ext}
 use Rattle.toml.specs.Data.{Members}
 use Rattle.toml.specs.Parse.{parse_document}
@@ -8,32 +11,23 @@ use Rattle.sap_lattice.specs.Closure.{Below}
 use Rattle.sap_lattice.specs.Levels.{Levels, order_of, order_by, is_below, level_in}
 use Rattle.sap_lattice.specs.Rules.{KeepsAll}
 use Rattle.sap_lattice.specs.declared.pair.Pair.{Pair}
-use Rattle.sap_lattice.proofs.Orders.{level_in_below, level_in_same}
+use Rattle.sap_lattice.proofs.Orders.{level_in_below}
 use Rattle.sap_latfile.specs.Document.{Lists}
 use Rattle.sap_latfile.specs.LatticeFile.{IsFileOf, IsLatticeOfFile}
 use Rattle.sap_latfile.specs.OneLattice.{AreSame, OneLattice}
 
-some_same : {A : Type 0} (o : Option A) (a b : A) → o ≡ Some a → o ≡ Some b → a ≡ b
-some_same o a b p q = cc
-
 same_document : (bytes : List ℕ) (names others : List (List ℕ)) (pairs rest : List Pair) (f : IsFileOf bytes names pairs) (g : IsFileOf bytes others rest) → f.document ≡ g.document
-same_document bytes names others pairs rest f g = some_same (parse_document bytes) f.document g.document f.is_document.1 g.is_document.1
+same_document bytes names others pairs rest f g = some_unique (parse_document bytes) f.document g.document f.is_document.1 g.is_document.1
 
 same_names : (bytes : List ℕ) (names others : List (List ℕ)) (pairs rest : List Pair) → IsFileOf bytes names pairs → IsFileOf bytes others rest → names ≡ others
 same_names bytes names others pairs rest f g =
     let h : Lists g.document names pairs = subst (λ d. Lists d names pairs) (same_document bytes names others pairs rest f g) f.lists in
-    some_same _ names others h.levels g.lists.levels
+    some_unique _ names others h.levels g.lists.levels
 
 same_pairs : (bytes : List ℕ) (names others : List (List ℕ)) (pairs rest : List Pair) → IsFileOf bytes names pairs → IsFileOf bytes others rest → pairs ≡ rest
 same_pairs bytes names others pairs rest f g =
     let h : Lists g.document names pairs = subst (λ d. Lists d names pairs) (same_document bytes names others pairs rest f g) f.lists in
-    some_same _ pairs rest h.below g.lists.below
-
-iff_same : (a b : Bool) → (a ≡ true → b ≡ true) → (b ≡ true → a ≡ true) → a ≡ b
-iff_same true true f g = refl
-iff_same true false f g = sym (f refl)
-iff_same false true f g = g refl
-iff_same false false f g = refl
+    some_unique _ pairs rest h.below g.lists.below
 
 -- at places beyond the last the order is that at the first
 clamped : (l : Levels) (n : ℕ) → length l.names ≡ n → 0 < n → (x y : ℕ) → (order_of l).le x y ≡ (order_of l).le (level_in n x) (level_in n y)

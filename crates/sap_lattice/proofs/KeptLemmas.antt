@@ -3,13 +3,14 @@ use Rattle.std.proofs.Common.{◌≡◌, ◌≢◌, ℕ, ◌<◌, ◌≤◌, Boo
 use Rattle.std.specs.Prelude.{MatchOption, position, map, bit_or}
 use Rattle.std.proofs.lemmas.Bool.{eq-eqb, eqb-true, both_ways}
 use Rattle.std.proofs.lemmas.List.FromFn.{length-map-range_with_len, get_or-map-range_with_len}
+use Rattle.sap_lattice.proofs.LevelsLemmas.{level_in_same}
 use Rattle.sap_lattice.specs.Order.{Laws}
 use Rattle.sap_lattice.specs.Levels.{Levels, order_by, order_of, level_in, is_below}
 use Rattle.sap_lattice.specs.Codes.{Codes, code_of, meet_irreducibles, number_of}
 use Rattle.sap_lattice.specs.Kept.{IsKept}
 use Rattle.sap_lattice.specs.declared.TheConstants.{MOST_LEVELS}
 use Rattle.sap_lattice.proofs.NameLemmas.{position_cases}
-use Rattle.sap_lattice.proofs.Orders.{level_in_same, level_in_below}
+use Rattle.sap_lattice.proofs.Orders.{level_in_below}
 use mathlib.Core.Path.{fun_ext}
 
 pub order_of-count : (l : Levels) → (order_of l).count ≡ length l.names

@@ -10,3 +10,4 @@ pub mod Numbers
 pub mod Orders
 pub mod PairLemmas
 pub mod RowLemmas
+pub mod LevelsLemmas

@@ -1,6 +1,7 @@
 -- A test that is an order of n levels with joins and a least level is lawful.
 use Rattle.std.proofs.Common.{◌≡◌, ℕ, zero, suc, ◌<◌, ◌≤◌, Bool, true, not, ◌||◌, ltb, sym, ap, ◌∙◌, subst, inl, inr, arith}
 use Rattle.std.proofs.lemmas.Bool.{and_parts, and_from, cases_Bool, cases_lt, cases_eq, cond-true, cond-false, both_ways, or_left, or_right, or_cases, lt-ltb, le-ltb, not_from_true, not_from_false}
+use Rattle.sap_lattice.proofs.LevelsLemmas.{level_in_same}
 use Rattle.sap_lattice.specs.Order.{Laws}
 use Rattle.sap_lattice.specs.Levels.{every, first, is_upper_bound, is_join, is_least, is_greatest, order_by, level_in}
 use Rattle.sap_lattice.proofs.Numbers.{every_at, every_from, first_passes, first_below}
@@ -12,9 +13,6 @@ level_in_below n x some =
       | inl h ↦ subst (λ y. y < n) (sym (cond-true (ltb x n) x 0 (lt-ltb x n h))) h
       | inr h ↦ subst (λ y. y < n) (sym (cond-false (ltb x n) x 0 (le-ltb x n h))) some
     ]
-
-pub level_in_same : (n x : ℕ) → x < n → level_in n x ≡ x
-level_in_same n x h = cond-true (ltb x n) x 0 (lt-ltb x n h)
 
 -- what it says that j is a join
 pub record Joins (n : ℕ) (le : ℕ → ℕ → Bool) (x y j : ℕ) : Type 0 where

@@ -5,9 +5,10 @@ use Rattle.std.specs.Int.{bit_at}
 use Rattle.std.proofs.lemmas.Nat.Bits.{bit_at_or, bit_at-lt, bit_at-zero, bit_at-pow_same, bit_at-pow_other}
 use Rattle.std.proofs.lemmas.Bool.{cases_Bool, cases_eq, cases_lt, cond-true, cond-false, ne_eqb, eq-eqb, or_left, or_right, or_from, and_left, and_parts, and_from, or_cases, lt-ltb, le-ltb}
 use Rattle.std.proofs.lemmas.List.{get_or-set_same, get_or-set_other, get_or_past}
+use Rattle.sap_lattice.proofs.LevelsLemmas.{level_in_same}
 use Rattle.sap_lattice.specs.Rows.{holds, tells, passed, le_in, order_in, Reaches}
 use Rattle.sap_lattice.specs.Levels.{order_by, level_in}
-use Rattle.sap_lattice.proofs.Orders.{level_in_same, level_in_below}
+use Rattle.sap_lattice.proofs.Orders.{level_in_below}
 use Rattle.sap_lattice.specs.Rows.Reaches.{along}
 
 larger_test : (m n : ℕ) → m < 2 → n < 2 → (max m n == 1) ≡ ((m == 1) || (n == 1))

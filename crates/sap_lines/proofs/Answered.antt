@@ -1,7 +1,8 @@
 -- What an answer says, once the next line was told.
 use Rattle.std.proofs.Common.{◌≡◌, ℕ, ◌+◌, ◌<◌, ◌≤◌, Bool, false, List, [], ◌++◌, length, drop, append_assoc, refl, sym, ap, ◌∙◌, subst, inl, inr, arith}
 use Rattle.std.specs.Prelude.{◌⊎◌, ◌^◌, IsTrue, Option, Some, None, IfSome}
-use Rattle.sap_desk.specs.Desk.{Told, Use, reads, writes, closed, stream, blame_at, moved, moved_use, name_if_reading, rest_of}
+use Rattle.sap_desk.proofs.DeskLemmas.{name_moved}
+use Rattle.sap_desk.specs.Desk.{Told, blame_at, moved, moved_use, name_if_reading, rest_of}
 use Rattle.sap_desk.specs.Cause.{counted}
 use Rattle.sap_desk.specs.Whole.{Between}
 use Rattle.sap_desk.proofs.Steps.{at_number-same, option_map-same, rest-moved, number-at}
@@ -103,12 +104,6 @@ read_on next channel held now told told_now g h fine m = record {
   told = m.told ∙ option_map-same _ _ told (λ t. blames_none next channel (name_if_reading (t.uses channel)) (moved channel m.count t) fine);
   given = m.given;
 }
-
-name_moved : (n : ℕ) (u : Use) → name_if_reading (moved_use n u) ≡ name_if_reading u
-name_moved n (reads name p) = refl
-name_moved n (writes name) = refl
-name_moved n closed = refl
-name_moved n stream = refl
 
 pub read_on_failed : (channel : ℕ) (held now : List ℕ) (told told_now : Option Told) (g h : ℕ → ℕ) → MoreAndFailed channel held now told told_now g h → ReadOn Failed channel told told_now g h
 read_on_failed channel held now told told_now g h m = record {

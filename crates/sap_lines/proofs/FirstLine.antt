@@ -3,8 +3,7 @@ use Rattle.std.proofs.Common.{◌≡◌, ℕ, suc, ◌+◌, ◌-◌, ◌<◌, �
 use Rattle.std.specs.Prelude.{◌⊎◌, ◌||◌, nat_lt}
 use Rattle.std.specs.List.{position_or_len, before_first, after_first, list_any}
 use Rattle.std.proofs.lemmas.List.{append-nil, take-append-le, drop-append-le}
-use Rattle.std.proofs.lemmas.Bool.{cases_lt}
-use borrow.Author.Tests.{ltb-true}
+use Rattle.std.proofs.lemmas.Bool.{cases_lt, ltb-true as is_below, lt-ltb}
 use Rattle.std.proofs.lemmas.Bool.Decides.{nat_tests}
 use Rattle.sap_lattice.specs.Levels.{Levels}
 use Rattle.sap_stream.specs.Spans.{Span}
@@ -14,7 +13,7 @@ use Rattle.sap_stim.specs.declared.field.Field.{Field}
 use Rattle.sap_stim.specs.Line.{line_of}
 use Rattle.sap_stim.specs.Stimulus.{ahead, finished, stopped, going_on, read_from}
 use Rattle.sap_stim.proofs.Pieces.{is_mark, before_unmarked, length_before}
-use Rattle.sap_stim.proofs.Lines.{read_line, is_less}
+use Rattle.sap_stim.proofs.Lines.{read_line}
 use Rattle.sap_lines.specs.Fetched.{IsDecided}
 
 abbrev pub place : List ℕ → ℕ
@@ -62,7 +61,7 @@ place_none (b ∷ bs) rest h =
     ] h
 
 too_long : (ls : Levels) (fs : List Field) (ended : Bool) (text : List ℕ) → 65536 < length text → line_of ls fs ended text ≡ Err S1
-too_long ls fs ended text h = let e : nat_lt 65536 (length text) ≡ true = is_less 65536 (length text) h in rw e refl
+too_long ls fs ended text h = let e : nat_lt 65536 (length text) ≡ true = lt-ltb 65536 (length text) h in rw e refl
 
 -- what the first line gives, with its end or without
 abbrev pub first_of : Levels → List Field → List ℕ → Result Span StimCode
@@ -77,8 +76,8 @@ marked_same ls fs s rest h =
     let size : length (before s) ≡ place s = length_before 10 s h in
     let sizes : length (before (s ++ rest)) ≡ length (before s) = ap length same in
     let whole : length (s ++ rest) ≡ length s + length rest = length-append s rest in
-    let one : ltb (length (before (s ++ rest))) (length (s ++ rest)) ≡ true = is_less (length (before (s ++ rest))) (length (s ++ rest)) (omega arith) in
-    let other : ltb (length (before s)) (length s) ≡ true = is_less (length (before s)) (length s) (omega arith) in
+    let one : ltb (length (before (s ++ rest))) (length (s ++ rest)) ≡ true = lt-ltb (length (before (s ++ rest))) (length (s ++ rest)) (omega arith) in
+    let other : ltb (length (before s)) (length s) ≡ true = lt-ltb (length (before s)) (length s) (omega arith) in
     ap₂ (λ (b : Bool) (t : List ℕ). line_of ls fs b t) (one ∙ sym other) same
 
 long_same : (ls : Levels) (fs : List Field) (s rest : List ℕ) → length s ≤ place s → 65536 < length s → first_of ls fs (s ++ rest) ≡ first_of ls fs s
@@ -115,9 +114,6 @@ not_ended false x e = cc
 pub ok_ended : (ls : Levels) (fs : List Field) (ended : Bool) (text : List ℕ) (x : Span) → Ok x ≡ line_of ls fs ended text → ended ≡ true
 ok_ended ls fs true text x e = refl
 ok_ended ls fs false text x e = absurd (not_ended (nat_lt 65536 (length text)) x e)
-
-pub is_below : (a b : ℕ) → ltb a b ≡ true → a < b
-is_below a b e = ltb-true a b e
 
 ok_marked : (s : List ℕ) → ltb (length (before s)) (length s) ≡ true → place s < length s
 ok_marked s e =

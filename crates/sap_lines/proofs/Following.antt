@@ -2,9 +2,9 @@
 use Rattle.std.proofs.Common.{◌≡◌, ℕ, ◌+◌, List, [], ◌∷◌, ◌++◌, length, sym, ap, ap₂, ◌∙◌, subst, append_assoc, length-append, inl, inr, refl, rules, arith}
 use Rattle.std.specs.Prelude.{Some, None}
 use Rattle.std.proofs.lemmas.List.{append-nil}
+use Rattle.sap_stream.proofs.SpansLemmas.{cycles_more}
 use Rattle.sap_meaning.specs.Cycle.{Tagged as Given}
 use Rattle.sap_stream.specs.Spans.{Span, cycles_in, cycles_of}
-use Rattle.sap_stream.proofs.Spans.{cycles_of_push}
 use Rattle.sap_desk.specs.Cause.{counted}
 use Rattle.sap_stim.specs.declared.field.Field.{Field}
 use Rattle.sap_stim.specs.declared.stimulus.Parsed.{Parsed}
@@ -24,7 +24,7 @@ begins ls fs bytes r new = record {
 behind_more : (lines : List Span) (line : Span) (p : Parsed) → behind (cycles_of lines) (ahead line p) ≡ behind (cycles_of (lines ++ line ∷ [])) p
 behind_more lines line p =
     ap (λ (xs : List (List Given)). parsed_as xs p.fault)
-    (sym (append_assoc (cycles_of lines) (cycles_in line) p.stream) ∙ ap (λ (xs : List (List Given)). xs ++ p.stream) (sym (cycles_of_push lines line)))
+    (sym (append_assoc (cycles_of lines) (cycles_in line) p.stream) ∙ ap (λ (xs : List (List Given)). xs ++ p.stream) (sym (cycles_more lines line)))
 
 pub goes_on : GoesOn
 goes_on ls fs bytes lines r later rest rest_later follows small fields count tells = record {

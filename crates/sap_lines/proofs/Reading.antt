@@ -2,7 +2,8 @@
 use Rattle.std.proofs.Common.{◌≡◌, ℕ, ◌+◌, ◌<◌, ◌≤◌, List, ◌++◌, length, take, drop, append_assoc, refl, sym, ap, ◌∙◌, subst, inl, inr, length-append, length-take, arith}
 use Rattle.std.specs.Prelude.{◌-◌, Bool, true, false, cond, eqb, codes, Option, Some, None, option_map, IfSome}
 use Rattle.std.proofs.lemmas.List.{drop-drop, take-append-drop, take-append-le}
-use Rattle.std.proofs.Math.Seq.{take-append_seam, take-append-add}
+use Rattle.std.proofs.Math.Seq.{take-append-add}
+use Rattle.sap_lemmas.proofs.Lists.{take_front}
 use Rattle.sap_desk.specs.Desk.{Told, at_number, moved, rest_of, name_if_reading, blame_at, blamed}
 use Rattle.sap_desk.specs.Cause.{Gave, FailsToRead}
 use Rattle.sap_desk.proofs.Steps.{option_map-twice, option_map-id, at_number-twice, at_number-keeps, moved-none, rest-moved, told_more, number-at}
@@ -115,9 +116,6 @@ fails_now channel size piece (Some t) new g h same is stands fails =
     subst P (sym is) (blame_fails (eqb channel 2) channel (h channel) piece (cond (eqb channel 1) (codes "output") (name_if_reading (t.uses channel))) t here)
 
 -- what is read at least
-
-take_front : (held piece : List ℕ) → take (length held) (held ++ piece) ≡ held
-take_front held piece = take-append_seam held piece
 
 -- a piece was read behind bytes that don't tell the line
 pub least_more : (before held now piece : List ℕ) → (IsDecided held → ⊥) → length before ≤ length held → 0 < length piece → length piece ≤ 4096 → now ≡ held ++ piece → HoldsLeast before now

@@ -14,8 +14,5 @@ shifted xs now start n within size is =
     ∙ take-paste xs 0 (drop start xs) n (omega arith) (omega arith)
     ∙ take_all n (drop start xs) (omega arith)
 
-pub all_behind : (xs : List ℕ) (start : ℕ) → take (length xs - start) (drop start xs) ≡ drop start xs
-all_behind xs start = take_all (length xs - start) (drop start xs) (let left : length (drop start xs) ≡ length xs - start = length-drop start xs in omega arith)
-
 pub skipped : (xs : List ℕ) (start count : ℕ) → drop (start + count) xs ≡ drop count (drop start xs)
 skipped xs start count = sym (drop-drop count start xs)

@@ -1,13 +1,14 @@
 -- How a cycle begins: what each name and each write port stand for at first.
-use Rattle.std.proofs.Common.{◌≡◌, ℕ, zero, suc, ◌^◌, ◌<◌, ◌≤◌, ◌==◌, List, [], ◌∷◌, ◌++◌, map, Option, Some, true, false, sym, ap, ◌∙◌, subst, refl, arith, inl, inr, append_assoc}
+use Rattle.std.proofs.Common.{◌≡◌, ℕ, zero, suc, ◌^◌, ◌<◌, ◌≤◌, ◌==◌, List, [], ◌∷◌, ◌++◌, map, Option, Some, true, sym, ap, ◌∙◌, subst, refl, arith, inl, inr, append_assoc}
 use Rattle.std.specs.Str.{bytes_eq}
 use Rattle.std.specs.List.{AllByRecursion}
 use Rattle.std.proofs.Math.Pow.{pow_pos}
 use Rattle.std.proofs.lemmas.Bool.{cases_Bool}
-use Rattle.std.proofs.lemmas.Bool.Decides.{Decides-eqb, nat_tests}
+use Rattle.std.proofs.lemmas.Bool.Decides.{Decides-eqb}
+use Rattle.sap_lemmas.proofs.Numbers.{below_unequal, same_power}
+use Rattle.sap_lemmas.proofs.Texts.{equal_of_bytes_eq}
 use Rattle.sap_maps.specs.Maps.{Name, Valuation}
 use Rattle.sap_maps.specs.Scope.{Scope, find}
-use Rattle.sap_maps.proofs.Scopes.{name_is}
 use Rattle.sap_net.specs.Rules.{Shapes}
 use Rattle.sap_net.specs.Runs.{InputsAre}
 use Rattle.sap_net.specs.declared.parts.Operand.TheVariants.{Constant}
@@ -19,7 +20,6 @@ use Rattle.sap_lower.specs.declared.parts.Part.{Part}
 use Rattle.sap_lower.specs.declared.parts.WritePort.{WritePort}
 use Rattle.sap_lower.specs.Lowered.{named_entry, zero_entry, first_entries, first_port, bits_within, index_bits, input_of}
 use Rattle.sap_lower.proofs.Means.{Env}
-use Rattle.sap_lower.proofs.CommandsFit.{same_power}
 
 abbrev pub scope_of : List Var → Scope
 scope_of xs = map (λ x. (x.name, x.width)) xs
@@ -82,7 +82,7 @@ pub cells_first : (v : Valuation) (before : Option Valuation) (ms : List Store) 
 cells_first v before [] a n e f i = absurd (cc)
 cells_first v before (m ∷ ms) a n e f i =
     elim (cases_Bool (bytes_eq m.name n)) [
-      | inl t ↦ rw t (subst (λ (y : Name). v.cell y i ≡ first_cell before m i) (name_is m.name n t) (a.0 i))
+      | inl t ↦ rw t (subst (λ (y : Name). v.cell y i ≡ first_cell before m i) (equal_of_bytes_eq m.name n t) (a.0 i))
       | inr d ↦ rw d (cells_first v before ms a.1 n e (rw d at f) i)
     ]
 
@@ -101,14 +101,11 @@ first_port_found (m ∷ ms) n e f =
       | inr d ↦ rw d (first_port_found ms n e (rw d at f))
     ]
 
-less_then : (b k : ℕ) → b ≤ suc k → (b == suc k) ≡ false → b ≤ k
-less_then b k l q = grind (arith, nat_tests)
-
 pub bits_of_depth : (k d b : ℕ) → b ≤ k → 1 ≤ b → d ≡ 2 ^ b → bits_within k d ≡ b
 bits_of_depth zero d b l p e = absurd (omega (arith, l, p))
 bits_of_depth (suc k) d b l p e =
     elim (cases_Bool (d == 2 ^ suc k)) [
       | inl t ↦ rw t (same_power (suc k) b (sym ((Decides-eqb d (2 ^ suc k)).0 t) ∙ e))
       | inr f ↦
-          rw f (bits_of_depth k d b (elim (cases_Bool (b == suc k)) [ inl q ↦ absurd (let r : b ≡ suc k = (Decides-eqb b (suc k)).0 q in let g : (d == 2 ^ suc k) ≡ true = (Decides-eqb d (2 ^ suc k)).1 (e ∙ ap (λ (n : ℕ). 2 ^ n) r) in cc) | inr q ↦ less_then b k l q ]) p e)
+          rw f (bits_of_depth k d b (elim (cases_Bool (b == suc k)) [ inl q ↦ absurd (let r : b ≡ suc k = (Decides-eqb b (suc k)).0 q in let g : (d == 2 ^ suc k) ≡ true = (Decides-eqb d (2 ^ suc k)).1 (e ∙ ap (λ (n : ℕ). 2 ^ n) r) in cc) | inr q ↦ below_unequal b k l q ]) p e)
     ]

@@ -3,13 +3,14 @@ use Rattle.std.proofs.Common.{◌≡◌, ℕ, ◌^◌, ◌<◌, ◌≤◌, List,
 use Rattle.std.specs.Prelude.{unwrap_or, nat_lt}
 use Rattle.std.specs.Str.{bytes_eq}
 use Rattle.std.specs.List.{AllByRecursion}
-use Rattle.std.proofs.Math.Pow.{pow-lt}
 use Rattle.std.proofs.lemmas.Bool.{cases_Bool}
-use Rattle.std.proofs.lemmas.Bool.Decides.{Decides-ltb, nat_tests}
+use Rattle.std.proofs.lemmas.Bool.Decides.{nat_tests}
+use Rattle.sap_lemmas.proofs.Numbers.{same_power}
+use Rattle.sap_lemmas.proofs.Texts.{equal_of_bytes_eq}
+use Rattle.sap_net.proofs.RulesLemmas.{one_wide}
 use Rattle.sap_maps.specs.Maps.{Name}
 use Rattle.sap_maps.specs.Scope.{Scope, find}
 use Rattle.sap_maps.specs.Term.{Term}
-use Rattle.sap_maps.proofs.Scopes.{name_is}
 use Rattle.sap_net.specs.Rules.{Shapes, IsWidth, IsDepth, IsOperand, readable_after}
 use Rattle.sap_net.specs.declared.parts.Operand.TheVariants.{Constant}
 use Rattle.sap_net.specs.declared.parts.Right.TheVariants.{Choose}
@@ -62,17 +63,6 @@ port_grows sc sd g p w d f =
 neither : (a b : ℕ) → nat_lt a b ≡ false → nat_lt b a ≡ false → a ≡ b
 neither a b f g = grind (arith, nat_tests)
 
-pub same_power : (a b : ℕ) → 2 ^ a ≡ 2 ^ b → a ≡ b
-same_power a b e =
-    elim (cases_Bool (nat_lt a b)) [
-      | inl t ↦ absurd (let l : a < b = (Decides-ltb a b).0 t in let k = pow-lt l in omega (arith, k, e))
-      | inr f ↦
-          elim (cases_Bool (nat_lt b a)) [
-            | inl t ↦ absurd (let l : b < a = (Decides-ltb b a).0 t in let k = pow-lt l in omega (arith, k, e))
-            | inr g ↦ neither a b f g
-          ]
-    ]
-
 set_long : (ms : Shapes) (s : State) (c : Term Name) (n : Name) (t : Term Name) → length s.wires ≤ length (low_set ms s c n t).wires
 set_long ms s c n t =
     let es = s.entries in
@@ -100,9 +90,6 @@ action_long ms s c (put m i t) = put_long ms s.entries (port_of s.ports m) c i t
 commands_long : (ms : Shapes) (cs : List Command) (s : State) → length s.wires ≤ length (low_commands ms s cs).wires
 commands_long ms [] s = omega arith
 commands_long ms (c ∷ cs) s = omega (arith, action_long ms s c.when c.act, commands_long ms cs (low_command ms s c))
-
-one_wide : IsWidth 1
-one_wide = (omega arith, omega arith)
 
 ports_grow : (ms : Shapes) (sc sd : Scope) (ps : List (Name × WritePort)) → Grows sc sd → PortsFit ms sc ps → PortsFit ms sd ps
 ports_grow ms sc sd ps g f m e h = port_grows sc sd g (port_of ps m) e.0 e.1 (f m e h)
@@ -147,7 +134,7 @@ set_state_fits ms sc vars apart wide s c n t u found fc ft k l =
       env = λ q w h.
           elim (cases_Bool (bytes_eq n q)) [
             | inl same ↦
-                let nq : n ≡ q = name_is n q same in
+                let nq : n ≡ q = equal_of_bytes_eq n q same in
                 let found' : find vars q ≡ Some u = subst (λ (a : Name). find vars a ≡ Some u) nq found in
                 let uw : u ≡ w = cc in
                 let old = k.has n u found in
@@ -223,7 +210,7 @@ put_state_fits ms sc vars apart wide s c m i t w b ib found fc fi ft k len =
       ports = λ n q h.
           elim (cases_Bool (bytes_eq m n)) [
             | inl same ↦
-                let mn : m ≡ n = name_is m n same in
+                let mn : m ≡ n = equal_of_bytes_eq m n same in
                 let found' : find ms n ≡ Some (w, 2 ^ b) = subst (λ (a : Name). find ms a ≡ Some (w, 2 ^ b)) mn found in
                 let eq : (w, 2 ^ b) ≡ q = cc in
                 let old = k.has_ports m (w, 2 ^ b) found in

@@ -1,31 +1,26 @@
 -- Each wire that is a port is a copy.
-use Rattle.std.proofs.Common.{◌≡◌, ℕ, ◌^◌, ◌<◌, List, [], ◌∷◌, ◌++◌, map, length, Bool, true, false, sym, ap, ◌∙◌, subst, refl, inl, inr, append_assoc}
+use Rattle.std.proofs.Common.{◌≡◌, ℕ, ◌^◌, ◌<◌, List, [], ◌∷◌, ◌++◌, map, length, Bool, true, false, sym, ◌∙◌, subst, refl, inl, inr, append_assoc}
 use Rattle.std.specs.List.{AllByRecursion}
 use Rattle.std.proofs.lemmas.Bool.{cases_Bool}
+use Rattle.sap_net.proofs.NamesLemmas.{among_append}
+use Rattle.sap_lower.proofs.LoweredLemmas.{ports_named}
 use Rattle.sap_maps.specs.Maps.{Name}
 use Rattle.sap_net.specs.Names.{is_among}
 use Rattle.sap_net.specs.declared.parts.Operand.{Operand}
-use Rattle.sap_net.specs.declared.parts.Port.{Port}
 use Rattle.sap_net.specs.declared.parts.Right.TheVariants.{Copy}
 use Rattle.sap_net.specs.declared.parts.Wire.{Wire}
 use Rattle.sap_ir.specs.declared.guarded.Var.{Var}
 use Rattle.sap_ir.specs.Source.{Source}
 use Rattle.sap_ir.specs.IsGuarded.{variable_names, memory_names, IsGuarded}
-use Rattle.sap_ir.proofs.Declared.{among_front, among_append}
 use Rattle.sap_lower.proofs.Declares.{among_each}
 use Rattle.sap_ir.proofs.Declared.{not_front, not_behind_list}
 use Rattle.sap_lower.specs.declared.parts.Part.{Part}
 use Rattle.sap_lower.specs.Lowering.{helper}
-use Rattle.sap_lower.specs.Lowered.{input_port, port_shown, listed, out_wire, all_wires, last_state, lowered}
+use Rattle.sap_lower.specs.Lowered.{listed, out_wire, all_wires, last_state, lowered}
 use Rattle.sap_lower.specs.Same.{CopiesPorts}
 use Rattle.sap_lower.proofs.Fits.{IsHelper}
 use Rattle.sap_lower.proofs.Netlist.{helpers_apart, last_fits}
 use Rattle.sap_lower.proofs.Whole.{last_short}
-
-ports_named : (rs xs : List Var) (ps : List Name) → map (λ (p : Port). p.name) (map input_port xs ++ map (port_shown rs) ps) ≡ variable_names xs ++ ps
-ports_named rs [] [] = refl
-ports_named rs [] (p ∷ ps) = ap (λ (ns : List Name). p ∷ ns) (ports_named rs [] ps)
-ports_named rs (x ∷ xs) ps = ap (λ (ns : List Name). x.name ∷ ns) (ports_named rs xs ps)
 
 no_port : (s : Source) → IsGuarded s → (k : ℕ) → k < 2 ^ 64 → is_among (helper k) (variable_names s.inputs ++ s.ports) ≡ false
 no_port s g k l =

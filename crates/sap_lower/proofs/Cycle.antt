@@ -2,6 +2,8 @@
 use Rattle.std.proofs.Common.{◌≡◌, ℕ, ◌^◌, ◌<◌, ◌==◌, ◌&&◌, List, [], ◌∷◌, ◌++◌, map, Option, Some, None, Bool, false, sym, ap, ◌∙◌, subst, refl}
 use Rattle.std.specs.Prelude.{if◌then◌else◌, unwrap_or}
 use Rattle.std.specs.List.{AllByRecursion}
+use Rattle.sap_lemmas.proofs.Everywhere.{all_of_map, all_parts, all_second}
+use Rattle.sap_net.proofs.RulesLemmas.{readable_kept}
 use Rattle.sap_maps.specs.Maps.{Name, Valuation}
 use Rattle.sap_maps.specs.Scope.{Scope, find}
 use Rattle.sap_maps.proofs.Scopes.{found_here}
@@ -12,7 +14,7 @@ use Rattle.sap_net.specs.Values.{operand_value, Holds}
 use Rattle.sap_net.specs.IsNetlist.{first_readable, readable, shapes, width_of, IsNetlist}
 use Rattle.sap_net.specs.Runs.{written, IsWithin, InputsAre, IsCycle, IsRunAfter, observed}
 use Rattle.sap_net.specs.declared.parts.Wire.{Wire}
-use Rattle.sap_net.proofs.Within.{WidthsAre, widths_are, readable_to_the_end}
+use Rattle.sap_net.proofs.Within.{WidthsAre, widths_are}
 use Rattle.sap_net.proofs.Observed.{observed_inputs, observed_registers, observed_wires, observed_memories}
 use Rattle.sap_ir.specs.declared.guarded.Var.{Var}
 use Rattle.sap_ir.specs.declared.guarded.Store.{Store}
@@ -32,7 +34,7 @@ use Rattle.sap_lower.proofs.Shared.{Gives}
 use Rattle.sap_lower.proofs.Means.{Env, SameCells, Around, gives_front, gives_behind}
 use Rattle.sap_lower.proofs.Stands.{HasEntries}
 use Rattle.sap_lower.proofs.Standing.{CommandOk, PortsAre, Standing, Later, commands_stand}
-use Rattle.sap_lower.proofs.Order.{from_declared, all_map, all_behind}
+use Rattle.sap_lower.proofs.Order.{from_declared}
 use Rattle.sap_lower.proofs.Begins.{IsKnown, env_first, cells_first, first_port_found}
 use Rattle.sap_lower.proofs.Listed.{listed_holds}
 use Rattle.sap_lower.proofs.Inputs.{inputs_same}
@@ -55,16 +57,12 @@ pub record Known (s : Source) : Type 0 where
 gives_from : (widths : Name → ℕ) (v : Valuation) (ms : Shapes) (ws : List Wire) (sc : Scope) → AreWires ms sc ws → WidthsAre (readable_after sc ws) widths → Holds widths v ws → Gives widths v ws
 gives_from widths v ms [] sc f w h = tt
 gives_from widths v ms (x ∷ ws) sc f w h =
-    (h.0, w x.name x.width (readable_to_the_end ms ws _ f.4 x.name x.width (found_here x.name x.width sc)), gives_from widths v ms ws _ f.4 w h.1)
+    (h.0, w x.name x.width (readable_kept ms ws _ f.4 x.name x.width (found_here x.name x.width sc)), gives_from widths v ms ws _ f.4 w h.1)
 
 known_from : (n : Net) (v : Valuation) → IsWithin n v → (xs : List Var) → AllByRecursion (λ x. find (readable n) x.name ≡ Some x.width) xs → AllByRecursion (IsKnown (width_of n) v) xs
 known_from n v w [] a = tt
 known_from n v w (x ∷ xs) a =
     ((widths_are n x.name x.width a.0, w.value x.name x.width a.0), known_from n v w xs a.1)
-
-split_all : {X : Type 0} (P : X → Type 0) (xs ys : List X) → AllByRecursion P (xs ++ ys) → AllByRecursion P xs × AllByRecursion P ys
-split_all P [] ys a = (tt, a)
-split_all P (x ∷ xs) ys a = let r = split_all P xs ys a.1 in ((a.0, r.0), r.1)
 
 -- the netlist's cycle before and the program's cycle before have equal numbers after the edge
 pub record SameAfter (s : Source) (p e : Valuation) : Type 0 where
@@ -88,21 +86,21 @@ joined_all_at f g h (x ∷ xs) a b = (λ i. a.0 i ∙ b.0 i, joined_all_at f g h
 registers_begin : (s : Source) → Known s → (p e : Option Valuation) (xs : List ℕ) (v : Valuation) → SameBefore s p e → IsCycle (lowered s) p xs v → AllByRecursion (λ x. v.value x.name ≡ first_number e x) s.registers
 registers_begin s k None None xs v b c =
     let es = (last_state s).entries in
-    from_declared (λ x. v.value x.name ≡ x.start) s.registers s.ports k.registers_differ (all_map (λ r. v.value r.name ≡ r.start) (register_of es) (registers_declared s) c.begins.0)
+    from_declared (λ x. v.value x.name ≡ x.start) s.registers s.ports k.registers_differ (all_of_map (λ r. v.value r.name ≡ r.start) (register_of es) (registers_declared s) c.begins.0)
 registers_begin s k None (Some e) xs v b c = absurd b
 registers_begin s k (Some p) None xs v b c = absurd b
 registers_begin s k (Some p) (Some e) xs v b c =
     let es = (last_state s).entries in
-    let a = from_declared (λ x. v.value x.name ≡ operand_value p (present es x.name).operand) s.registers s.ports k.registers_differ (all_map (λ r. v.value r.name ≡ operand_value p r.next) (register_of es) (registers_declared s) c.begins.0) in
+    let a = from_declared (λ x. v.value x.name ≡ operand_value p (present es x.name).operand) s.registers s.ports k.registers_differ (all_of_map (λ r. v.value r.name ≡ operand_value p r.next) (register_of es) (registers_declared s) c.begins.0) in
     joined_all (λ (x : Var). v.value x.name) (λ x. operand_value p (present es x.name).operand) (λ x. e.value x.name) s.registers a b.registers
 
 cells_begin : (s : Source) (p e : Option Valuation) (xs : List ℕ) (v : Valuation) → SameBefore s p e → IsCycle (lowered s) p xs v → AllByRecursion (λ m. (i : ℕ) → v.cell m.name i ≡ first_cell e m i) s.memories
-cells_begin s None None xs v b c = all_map (λ m. (i : ℕ) → v.cell m.name i ≡ m.start) (memory_of (last_state s).ports) s.memories c.begins.1
+cells_begin s None None xs v b c = all_of_map (λ m. (i : ℕ) → v.cell m.name i ≡ m.start) (memory_of (last_state s).ports) s.memories c.begins.1
 cells_begin s None (Some e) xs v b c = absurd b
 cells_begin s (Some p) None xs v b c = absurd b
 cells_begin s (Some p) (Some e) xs v b c =
     let ps = (last_state s).ports in
-    let a = all_map (λ m. (i : ℕ) → v.cell m.name i ≡ written p m i) (memory_of ps) s.memories c.begins.1 in
+    let a = all_of_map (λ m. (i : ℕ) → v.cell m.name i ≡ written p m i) (memory_of ps) s.memories c.begins.1 in
     joined_all_at (λ (m : Store) i. v.cell m.name i) (λ m i. written p (memory_of ps m) i) (λ m i. e.cell m.name i) s.memories a b.memories
 
 -- the numbers that the program's cycle begins with are within their widths
@@ -166,7 +164,7 @@ cycle_same s k once p e xs v b c =
     let shown = listed s.ports s.wires in
     let w = c.valuation.within in
     let gives = gives_from widths v (shapes n) n.wires (first_readable n) k.netlist.assigns (widths_are n) c.valuation.equations in
-    let known = split_all (IsKnown widths v) s.inputs s.registers (known_from n v w (s.inputs ++ s.registers) k.found) in
+    let known = all_parts (IsKnown widths v) s.inputs s.registers (known_from n v w (s.inputs ++ s.registers) k.found) in
     let starts = registers_begin s k p e xs v b c in
     let cells = cells_begin s p e xs v b c in
     let below : (m : Name) (d : ℕ × ℕ) → find ms m ≡ Some d → (i : ℕ) → v.cell m i < 2 ^ d.0 =
@@ -203,11 +201,11 @@ cycle_seen s k v e same =
     let t = last_state s in
     let shown = listed s.ports s.wires in
     let rs = from_declared (λ x. (observed n v).value x.name ≡ operand_value v (present t.entries x.name).operand) s.registers s.ports k.registers_differ
-    (all_map (λ r. (observed n v).value r.name ≡ operand_value v r.next) (register_of t.entries) (registers_declared s) (observed_registers n k.netlist v)) in
-    let is = all_map (λ i. (observed n v).value i.name ≡ v.value i.name) input_of s.inputs (observed_inputs n k.netlist v) in
-    let ws = all_map (λ w. (observed n v).value w.name ≡ v.value w.name) (out_wire t.entries) shown
-    (all_behind (λ w. (observed n v).value w.name ≡ v.value w.name) t.wires (map (out_wire t.entries) shown) (observed_wires n k.netlist v)) in
-    let ms = all_map (λ m. (i : ℕ) → (observed n v).cell m.name i ≡ written v m i) (memory_of t.ports) s.memories (observed_memories n k.netlist v) in
+    (all_of_map (λ r. (observed n v).value r.name ≡ operand_value v r.next) (register_of t.entries) (registers_declared s) (observed_registers n k.netlist v)) in
+    let is = all_of_map (λ i. (observed n v).value i.name ≡ v.value i.name) input_of s.inputs (observed_inputs n k.netlist v) in
+    let ws = all_of_map (λ w. (observed n v).value w.name ≡ v.value w.name) (out_wire t.entries) shown
+    (all_second (λ w. (observed n v).value w.name ≡ v.value w.name) t.wires (map (out_wire t.entries) shown) (observed_wires n k.netlist v)) in
+    let ms = all_of_map (λ m. (i : ℕ) → (observed n v).cell m.name i ≡ written v m i) (memory_of t.ports) s.memories (observed_memories n k.netlist v) in
     record {
       inputs = joined_all (λ (x : Var). (observed n v).value x.name) (λ x. v.value x.name) (λ x. e.value x.name) s.inputs is same.inputs;
       registers = joined_all (λ (x : Var). (observed n v).value x.name) (λ x. operand_value v (present t.entries x.name).operand) (λ x. e.value x.name) s.registers rs same.after.registers;

@@ -1,25 +1,17 @@
 -- The names of the netlist of a program.
-use Rattle.std.proofs.Common.{◌≡◌, ◌&&◌, ◌||◌, List, [], ◌∷◌, ◌++◌, map, filter, Option, Some, None, Bool, true, false, not, sym, ap, ap₂, ◌∙◌, subst, refl, inl, inr}
+use Rattle.std.proofs.Common.{◌≡◌, ◌&&◌, List, [], ◌∷◌, ◌++◌, map, filter, Option, Some, None, Bool, true, false, not, sym, ap, ap₂, ◌∙◌, subst, refl, inl, inr}
 use Rattle.std.specs.Prelude.{if◌then◌else◌}
 use Rattle.std.specs.Str.{bytes_eq}
 use Rattle.std.specs.List.{AllByRecursion}
 use Rattle.std.proofs.lemmas.Bool.{cases_Bool}
+use Rattle.sap_lemmas.proofs.Bools.{and_false}
+use Rattle.sap_lemmas.proofs.Texts.{bytes_eq_apart_back, bytes_eq_same, equal_of_bytes_eq}
 use Rattle.sap_maps.specs.Maps.{Name}
 use Rattle.sap_maps.specs.Scope.{find}
-use Rattle.sap_maps.proofs.Scopes.{same_name, name_is, apart_back}
 use Rattle.sap_net.specs.Names.{is_among, AreDistinct}
 use Rattle.sap_ir.specs.declared.guarded.Var.{Var}
 use Rattle.sap_ir.specs.IsGuarded.{variable_names}
-use Rattle.sap_ir.proofs.Declared.{among_append}
 use Rattle.sap_lower.specs.Lowered.{in_front, picked, unlisted, unported}
-
-and_off : (b : Bool) → (b && false) ≡ false
-and_off true = refl
-and_off false = refl
-
-or_right : (a b : Bool) → b ≡ true → (a || b) ≡ true
-or_right true b h = refl
-or_right false b h = h
 
 -- what is found under a name bears it, and is found exactly where there is one
 abbrev OptionNames : Option Var → Name → Bool → Type 0
@@ -37,12 +29,12 @@ unported_among ps [] n = refl
 unported_among ps (x ∷ xs) n =
     elim (cases_Bool (bytes_eq n x)) [
       | inl t ↦
-          let e : n ≡ x = name_is n x t in
+          let e : n ≡ x = equal_of_bytes_eq n x t in
           elim (cases_Bool (is_among n ps)) [
             | inl a ↦
                 let a' : is_among x ps ≡ true = subst (λ (y : Name). is_among y ps ≡ true) e a in
                 let r : is_among n (unported ps xs) ≡ (is_among n xs && not (is_among n ps)) = unported_among ps xs n in
-                rw (a', t, a) (r ∙ rw a (and_off (is_among n xs)))
+                rw (a', t, a) (r ∙ rw a (and_false (is_among n xs)))
             | inr b ↦
                 let b' : is_among x ps ≡ false = subst (λ (y : Name). is_among y ps ≡ false) e b in
                 rw (b', t, b) refl
@@ -78,24 +70,13 @@ filter_same f g (x ∷ xs) h =
       | inr e ↦ let u : f x ≡ false = h x ∙ e in rw (u, e) (filter_same f g xs h)
     ]
 
--- what each element of a list has, by where it stands
-pub each_among : (P : Name → Type 0) (xs : List Name) → ((n : Name) → is_among n xs ≡ true → P n) → AllByRecursion P xs
-each_among P [] h = tt
-each_among P (x ∷ xs) h = (h x (rw (same_name x) refl), each_among P xs (λ n a. h n (or_right (bytes_eq n x) (is_among n xs) a)))
-
 pub among_each : (P : Name → Type 0) (xs : List Name) → AllByRecursion P xs → (n : Name) → is_among n xs ≡ true → P n
 among_each P [] a n h = absurd (cc)
 among_each P (x ∷ xs) a n h =
     elim (cases_Bool (bytes_eq n x)) [
-      | inl t ↦ subst P (sym (name_is n x t)) a.0
+      | inl t ↦ subst P (sym (equal_of_bytes_eq n x t)) a.0
       | inr f ↦ among_each P xs a.1 n (rw f at h)
     ]
-
--- lists with no name in common
-pub distinct_both : (xs ys : List Name) → AreDistinct xs → AreDistinct ys → ((n : Name) → is_among n xs ≡ true → is_among n ys ≡ false) → AreDistinct (xs ++ ys)
-distinct_both [] ys d e h = e
-distinct_both (x ∷ xs) ys d e h =
-    (among_append x xs ys ∙ rw (d.0, h x (rw (same_name x) refl)) refl, distinct_both xs ys d.1 e (λ n a. h n (or_right (bytes_eq n x) (is_among n xs) a)))
 
 pub unported_distinct : (ps xs : List Name) → AreDistinct xs → AreDistinct (unported ps xs)
 unported_distinct ps [] d = tt
@@ -123,10 +104,10 @@ option_name [] p = refl
 option_name (r ∷ rs) p =
     elim (cases_Bool (bytes_eq r.name p)) [
       | inl t ↦
-          let e : p ≡ r.name = sym (name_is r.name p t) in
-          let u : bytes_eq p r.name ≡ true = subst (λ (y : Name). bytes_eq p y ≡ true) e (same_name p) in
+          let e : p ≡ r.name = sym (equal_of_bytes_eq r.name p t) in
+          let u : bytes_eq p r.name ≡ true = subst (λ (y : Name). bytes_eq p y ≡ true) e (bytes_eq_same p) in
           rw (t, u) (sym e, refl)
-      | inr f ↦ let u = apart_back r.name p f in rw (f, u) (option_name rs p)
+      | inr f ↦ let u = bytes_eq_apart_back r.name p f in rw (f, u) (option_name rs p)
     ]
 
 pub picked_names : (rs : List Var) (ps : List Name) → filter (register_among rs) ps ≡ variable_names (picked rs ps)

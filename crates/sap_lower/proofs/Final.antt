@@ -4,9 +4,14 @@ use Rattle.std.specs.Prelude.{codes}
 use Rattle.std.specs.Str.{bytes_eq}
 use Rattle.std.specs.List.{AllByRecursion}
 use Rattle.std.proofs.lemmas.Bool.{cases_Bool}
+use Rattle.sap_lemmas.proofs.Bools.{or_follows}
+use Rattle.sap_lemmas.proofs.Everywhere.{all_append, map_of_all}
+use Rattle.sap_lemmas.proofs.Texts.{bytes_eq_apart_back}
+use Rattle.sap_net.proofs.NamesLemmas.{among_append, among_behind, among_front, distinct_both, each_among, not_found}
+use Rattle.sap_lower.proofs.LoweredLemmas.{ports_named}
+use Rattle.sap_ir.proofs.IsGuardedLemmas.{plain_wide, register_wide, variables_append}
 use Rattle.sap_maps.specs.Maps.{Name}
 use Rattle.sap_maps.specs.Scope.{Scope, find}
-use Rattle.sap_maps.proofs.Scopes.{apart_back}
 use Rattle.sap_net.specs.Names.{is_name, is_among, AreDistinct}
 use Rattle.sap_net.specs.Rules.{IsWidth, AreWires, readable_after, IsRegister, IsMemory, AreValues}
 use Rattle.sap_net.specs.declared.parts.Wire.{Wire}
@@ -17,21 +22,17 @@ use Rattle.sap_ir.specs.Source.{Source}
 use Rattle.sap_ir.specs.Source as source
 use Rattle.sap_ir.specs.IsGuarded as ir
 use Rattle.sap_ir.specs.IsGuarded.{variable_names, declared, IsGuarded, IsRegisterVar, IsStore}
-use Rattle.sap_ir.proofs.Declared.{among_append, among_front, among_behind, distinct_front, distinct_behind, apart_lists, apart_lists_back, not_found}
+use Rattle.sap_ir.proofs.Declared.{distinct_front, distinct_behind, apart_lists, apart_lists_back}
 use Rattle.sap_lower.specs.Lowered.{listed, register_of, memory_of, input_port, port_shown, registers_declared, all_wires, wire_list_names, names_declared, last_state, lowered}
-use Rattle.sap_lower.proofs.Order.{all_append, to_declared, map_all}
+use Rattle.sap_lower.proofs.Order.{to_declared}
 use Rattle.sap_lower.proofs.Begins.{scope_of}
-use Rattle.sap_lower.proofs.Declares.{distinct_both, each_among, among_each, filter_same}
+use Rattle.sap_lower.proofs.Declares.{among_each, filter_same}
 use Rattle.sap_lower.proofs.Netlist.{first_scope, first_found, last_fits}
 use Rattle.sap_lower.proofs.Rules.{first_readable_is, shapes_are, each_variable}
 use Rattle.sap_lower.proofs.Names.{inputs_named, registers_named, memories_named, outs_named, declared_named, declared_among, declared_distinct, wires_new, wires_distinct, new_to_first, new_to_second}
 use Rattle.sap_lower.proofs.Listed.{into_listed, of_listed}
-use Rattle.sap_lower.proofs.Whole.{last_short, wires_are, registers_found, nexts_are, writes_are, grows_to_all, stores_found, values_are, memories_are, plain_wide, register_wide}
-use Rattle.sap_lower.proofs.Result.{Kinds, names_distinct, names_among, registers_ordered, memories_ordered, ports_named, take_front, inputs_shown, of_unported}
-
-or_more : (r w a : Bool) → (w ≡ true → a ≡ true) → (r || w) ≡ true → (r || a) ≡ true
-or_more true w a k h = refl
-or_more false w a k h = k h
+use Rattle.sap_lower.proofs.Whole.{last_short, wires_are, registers_found, nexts_are, writes_are, grows_to_all, stores_found, values_are, memories_are}
+use Rattle.sap_lower.proofs.Result.{Kinds, names_distinct, names_among, registers_ordered, memories_ordered, take_front, inputs_shown, of_unported}
 
 or_else : (a b : Bool) (P : Type 0) → (a ≡ true → P) → (b ≡ true → P) → (a || b) ≡ true → P
 or_else true b P f g h = f refl
@@ -47,7 +48,7 @@ no_memory [] n h = refl
 no_memory (m ∷ ms) n h =
     elim (cases_Bool (bytes_eq m.name n)) [
       | inl t ↦ absurd (let g : Some (m.width, m.depth) ≡ None = rw t at h in cc)
-      | inr f ↦ let u = apart_back m.name n f in rw u (no_memory ms n (rw f at h))
+      | inr f ↦ let u = bytes_eq_apart_back m.name n f in rw u (no_memory ms n (rw f at h))
     ]
 
 top_named : is_name (codes "top") ≡ true
@@ -57,10 +58,6 @@ top_named = refl
 among_four : (x : Name) (a b c d : List Name) → is_among x (a ++ b ++ c ++ d) ≡ (((is_among x a || is_among x b) || is_among x c) || is_among x d)
 among_four x a b c d =
     among_append x (a ++ b ++ c) d ∙ ap (λ (q : Bool). q || is_among x d) (among_append x (a ++ b) c ∙ ap (λ (q : Bool). q || is_among x c) (among_append x a b))
-
-variables_append : (xs ys : List Var) → variable_names (xs ++ ys) ≡ variable_names xs ++ variable_names ys
-variables_append [] ys = refl
-variables_append (x ∷ xs) ys = ap (λ (ns : List Name). x.name ∷ ns) (variables_append xs ys)
 
 pub scopes_append : (xs ys : List Var) → scope_of (xs ++ ys) ≡ scope_of xs ++ scope_of ys
 scopes_append [] ys = refl
@@ -90,7 +87,7 @@ kinds_of s g w =
       wires = wires_distinct (source.shapes s) (all_wires s) (first_scope s) w;
       port_is = λ n h.
           let e : (is_among n R || is_among n W) ≡ true = sym (among_append n R W) ∙ port n h in
-          or_more (is_among n R) (is_among n W) (is_among n (wire_list_names (all_wires s))) (λ t. rw (outs_named (last_state s).entries (last_state s).wires (listed s.ports s.wires)) (among_behind n (wire_list_names (last_state s).wires) (variable_names (listed s.ports s.wires)) (into_listed s.ports s.wires n t h))) e;
+          or_follows (is_among n R) (is_among n W) (is_among n (wire_list_names (all_wires s))) (λ t. rw (outs_named (last_state s).entries (last_state s).wires (listed s.ports s.wires)) (among_behind n (wire_list_names (last_state s).wires) (variable_names (listed s.ports s.wires)) (into_listed s.ports s.wires n t h))) e;
       port_no_input = λ n h. apart_lists I (R ++ (W ++ M)) d n (subst (λ (l : List Name). is_among n l ≡ true) (append_assoc R W M) (among_front n (R ++ W) M (port n h)));
       port_no_memory = λ n h. apart_lists_back (R ++ W) M (subst AreDistinct (sym (append_assoc R W M)) d1) n (port n h);
       register_no_input = λ n h. apart_lists I (R ++ (W ++ M)) d n (among_front n R (W ++ M) h);
@@ -186,6 +183,6 @@ lowered_rules s g l =
       values = rw (sh, sc) values;
       memory_shapes = rw sh (memories_are s.memories k.memories g.memories);
       assigns = rw (sh, sc) wires;
-      nexts = rw sc (map_all (IsRegister all) (register_of t.entries) D nexts);
-      writes = rw sc (map_all (IsMemory all) (memory_of t.ports) s.memories writes);
+      nexts = rw sc (map_of_all (IsRegister all) (register_of t.entries) D nexts);
+      writes = rw sc (map_of_all (IsMemory all) (memory_of t.ports) s.memories writes);
     }

@@ -13,7 +13,7 @@ use Rattle.sap_bits.specs.declared.Op2.TheVariants.{Add, Sub, Mul, And, Or, Xor,
 use Rattle.sap_maps.specs.Maps.{Name}
 use Rattle.sap_maps.specs.Scope.{Scope, find}
 use Rattle.sap_maps.specs.Term.{Term, constant, read, cell, one, two, choose, join, part, CountFits}
-use Rattle.sap_maps.proofs.Scopes.{name_is, found_here, found_behind}
+use Rattle.sap_maps.proofs.Scopes.{found_here, found_behind}
 use Rattle.sap_net.specs.Rules.{Shapes, IsWidth, IsOperand, IsRight, AreWires, readable_after}
 use Rattle.sap_net.specs.declared.parts.Operand.{Operand}
 use Rattle.sap_net.specs.declared.parts.Operand.TheVariants.{Named, Constant}
@@ -22,9 +22,10 @@ use Rattle.sap_net.specs.declared.parts.Right.TheVariants.{One, Two, Choose, Con
 use Rattle.sap_net.specs.declared.parts.Wire.{Wire}
 use Rattle.sap_ir.specs.IsGuarded.{TermFine, is_helping}
 use Rattle.sap_lower.proofs.Helping.{other_name, helper_is_name}
-use Rattle.sap_lower.proofs.Order.{all_append}
 use Rattle.sap_net.specs.Names.{is_name}
 use Rattle.std.specs.List.{AllByRecursion}
+use Rattle.sap_lemmas.proofs.Everywhere.{all_append}
+use Rattle.sap_lemmas.proofs.Texts.{equal_of_bytes_eq}
 use Rattle.sap_lower.specs.declared.parts.Part.{Part}
 use Rattle.sap_lower.specs.Keys.{key}
 use Rattle.sap_lower.specs.Lowering.{helper, present, rights, shared, plus, leaves_nothing, low_two, sliced, is_outside, low_slice, cell_width, low, nothing}
@@ -72,7 +73,7 @@ helpers_differ : (j k : ℕ) → j < 2 ^ 64 → k < 2 ^ 64 → j < k → bytes_e
 unfolding helper
 helpers_differ j k a b l =
     elim (cases_Bool (bytes_eq (helper j) (helper k))) [
-      | inl t ↦ absurd (let e : helper j ≡ helper k = name_is (helper j) (helper k) t in let d : decimal j ≡ decimal k = cc in let s : j ≡ k = decimal_injective j k a b d in omega arith)
+      | inl t ↦ absurd (let e : helper j ≡ helper k = equal_of_bytes_eq (helper j) (helper k) t in let d : decimal j ≡ decimal k = cc in let s : j ≡ k = decimal_injective j k a b d in omega arith)
       | inr f ↦ f
     ]
 

@@ -2,27 +2,18 @@
 use Rattle.std.proofs.Common.{◌≡◌, ℕ, zero, List, [], ◌∷◌, ◌++◌, Option, Some, None, Bool, true, false, length, is_some, sym, ap, ◌∙◌, subst, refl, inl, inr}
 use Rattle.std.specs.Prelude.{if◌then◌else◌}
 use Rattle.std.specs.Str.{bytes_eq}
-use Rattle.std.specs.Map.{lookup, IsKeyTest, AreApart, KeepsOthers}
 use Rattle.std.specs.HashMap as hash
 use Rattle.std.specs.declared.hash.FoldHasher.{FoldHasher}
 use Rattle.std.specs.declared.hash.BuildHasherDefault.{BuildHasherDefault}
 use Rattle.std.specs.declared.vec.Vec.{Vec}
 use Rattle.std.specs.declared.alloc.Global.{Global}
 use Rattle.std.proofs.lemmas.Bool.{cases_Bool}
+use Rattle.sap_lemmas.proofs.Lists.{others_kept}
+use Rattle.sap_lemmas.proofs.Texts.{bytes_eq_alike, bytes_eq_apart, bytes_eq_same, equal_of_bytes_eq}
+use Rattle.sap_lower.proofs.PlacesLemmas.{none_further}
 use Rattle.sap_maps.specs.Maps.{Name}
-use Rattle.sap_maps.proofs.Scopes.{same_name, name_is, apart_back}
 use Rattle.sap_lower.specs.Places.{one_further, place_in}
 use Rattle.sap_lower.specs.Index.{PlaceMap, at_name, Indexes}
-
-others_kept : {K X : Type 0} (eq : K → K → Bool) (test : K → Bool) (old new : List (K × X)) → KeepsOthers eq test old new → (other : K → Bool) → IsKeyTest eq other → AreApart test other → lookup other new ≡ lookup other old
-unfolding KeepsOthers
-others_kept eq test old new h = h
-
-key_test : (cs x y : Name) → bytes_eq cs x ≡ true → bytes_eq cs y ≡ bytes_eq x y
-key_test cs x y t = ap (λ (n : Name). bytes_eq n y) (name_is cs x t)
-
-tests_apart : (bs cs ks : Name) → bytes_eq bs cs ≡ false → bytes_eq bs ks ≡ true → bytes_eq cs ks ≡ false
-tests_apart bs cs ks n y = apart_back ks cs (subst (λ (m : Name). bytes_eq m cs ≡ false) (name_is bs ks y) n)
 
 abbrev pub same_bytes : Vec ℕ Global → Vec ℕ Global → Bool
 same_bytes x y = bytes_eq x.items y.items
@@ -34,7 +25,7 @@ ListMap X = hash.HashMap (Vec ℕ Global) X (BuildHasherDefault FoldHasher)
 pub at_other : {X : Type 0} (m n : ListMap X) (bs : Name) (w : Option X) → hash.UpdatesBy same_bytes (λ k. bytes_eq bs k.items) m n w → (cs : Name) → bytes_eq bs cs ≡ false
     → hash.get_by (λ k. bytes_eq cs k.items) n ≡ hash.get_by (λ k. bytes_eq cs k.items) m
 at_other m n bs w h cs e =
-    others_kept same_bytes (λ k. bytes_eq bs k.items) m.entries n.entries h.3 (λ k. bytes_eq cs k.items) (λ x y. key_test cs x.items y.items) (λ k. tests_apart bs cs k.items e)
+    others_kept same_bytes (λ k. bytes_eq bs k.items) m.entries n.entries h.3 (λ k. bytes_eq cs k.items) (λ x y. bytes_eq_alike cs x.items y.items) (λ k. bytes_eq_apart bs cs k.items e)
 
 further : (o p : Option ℕ) (k : ℕ) → ((j : ℕ) → o ≡ Some j → p ≡ Some j) → one_further o ≡ Some k → one_further p ≡ Some k
 further None p k h e = absurd (cc)
@@ -48,12 +39,8 @@ place_push_old (x ∷ xs) y n k h =
       | inr f ↦ rw f (further (place_in xs n) (place_in (xs ++ y ∷ []) n) k (λ j g. place_push_old xs y n j g) (rw f at h))
     ]
 
-none_further : (o : Option ℕ) → one_further o ≡ None → o ≡ None
-none_further None e = refl
-none_further (Some j) e = absurd (cc)
-
 place_push_here : (xs : List Name) (y : Name) → place_in xs y ≡ None → place_in (xs ++ y ∷ []) y ≡ Some (length xs)
-place_push_here [] y h = rw (same_name y) refl
+place_push_here [] y h = rw (bytes_eq_same y) refl
 place_push_here (x ∷ xs) y h =
     elim (cases_Bool (bytes_eq x y)) [
       | inl t ↦ absurd (let g : Some zero ≡ None = rw t at h in cc)
@@ -67,21 +54,17 @@ place_push_other (x ∷ xs) y n f = ap (λ o. if bytes_eq x n then Some zero els
 pub added_new : (m m' : PlaceMap) (names : List Name) (y : Name) (k : ℕ) → at_name m y ≡ None → hash.UpdatesBy same_bytes (λ v. bytes_eq y v.items) m m' (Some k) → length names ≡ k → Indexes m names → Indexes m' (names ++ y ∷ [])
 added_new m m' names y k new h l is n =
     elim (cases_Bool (bytes_eq y n)) [
-      | inl t ↦ subst (λ (x : Name). at_name m' x ≡ place_in (names ++ y ∷ []) x) (name_is y n t) (h.1 ∙ sym (place_push_here names y (sym (is y) ∙ new) ∙ ap Some l))
+      | inl t ↦ subst (λ (x : Name). at_name m' x ≡ place_in (names ++ y ∷ []) x) (equal_of_bytes_eq y n t) (h.1 ∙ sym (place_push_here names y (sym (is y) ∙ new) ∙ ap Some l))
       | inr f ↦ at_other m m' y (Some k) h n f ∙ is n ∙ sym (place_push_other names y n f)
     ]
 
 pub added_old : (m : PlaceMap) (names : List Name) (y : Name) (j : ℕ) → at_name m y ≡ Some j → Indexes m names → Indexes m (names ++ y ∷ [])
 added_old m names y j old is n =
     elim (cases_Bool (bytes_eq y n)) [
-      | inl t ↦ subst (λ (x : Name). at_name m x ≡ place_in (names ++ y ∷ []) x) (name_is y n t) (old ∙ sym (place_push_old names y y j (sym (is y) ∙ old)))
+      | inl t ↦ subst (λ (x : Name). at_name m x ≡ place_in (names ++ y ∷ []) x) (equal_of_bytes_eq y n t) (old ∙ sym (place_push_old names y y j (sym (is y) ∙ old)))
       | inr f ↦ is n ∙ sym (place_push_other names y n f)
     ]
 
 pub is_there : (o : Option ℕ) → is_some o ≡ true → (j : ℕ) × (o ≡ Some j)
 is_there None h = absurd (cc)
 is_there (Some j) h = (j, refl)
-
-pub is_not_there : (o : Option ℕ) → is_some o ≡ false → o ≡ None
-is_not_there None h = refl
-is_not_there (Some j) h = absurd (cc)

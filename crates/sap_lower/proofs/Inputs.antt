@@ -4,16 +4,18 @@ use Rattle.std.specs.Prelude.{if◌then◌else◌}
 use Rattle.std.specs.Str.{bytes_eq}
 use Rattle.std.specs.List.{AllByRecursion}
 use Rattle.std.proofs.lemmas.Bool.{cases_Bool}
+use Rattle.sap_lemmas.proofs.Texts.{bytes_eq_same, equal_of_bytes_eq}
+use Rattle.sap_net.proofs.NamesLemmas.{not_found}
+use Rattle.sap_maps.proofs.ScopeLemmas.{found_second}
 use Rattle.sap_maps.specs.Maps.{Name, Valuation, set_value}
 use Rattle.sap_maps.specs.Scope.{find}
-use Rattle.sap_maps.proofs.Scopes.{same_name, name_is}
 use Rattle.sap_net.specs.Names.{is_among, AreDistinct}
 use Rattle.sap_net.specs.Runs.{InputsAre}
 use Rattle.sap_ir.specs.declared.guarded.Var.{Var}
 use Rattle.sap_ir.specs.Source.{Source, Action, set, put, Command, width_of}
 use Rattle.sap_ir.specs.Guarded.{Going, value_in, number_at_start, begun, after_action, after_command, after, cycle}
 use Rattle.sap_ir.specs.IsGuarded.{assignable, variable_names, memory_names, ActionFine, CommandFine, IsGuarded}
-use Rattle.sap_ir.proofs.Declared.{not_front, not_behind_list, distinct_front, apart_lists_back, not_found, found_second}
+use Rattle.sap_ir.proofs.Declared.{not_front, not_behind_list, distinct_front, apart_lists_back}
 use Rattle.sap_lower.specs.Lowered.{input_of}
 use Rattle.sap_lower.proofs.Rules.{each_variable}
 use Rattle.sap_lower.proofs.Whole.{both_hold}
@@ -27,7 +29,7 @@ chosen_kept false g x n a d = rw d refl
 other_name : (s : Source) (n x : Name) (u : ℕ) → find (assignable s) n ≡ None → find (assignable s) x ≡ Some u → bytes_eq n x ≡ false
 other_name s n x u new f =
     elim (cases_Bool (bytes_eq n x)) [
-      | inl t ↦ absurd (let e : find (assignable s) x ≡ None = subst (λ (m : Name). find (assignable s) m ≡ None) (name_is n x t) new in cc)
+      | inl t ↦ absurd (let e : find (assignable s) x ≡ None = subst (λ (m : Name). find (assignable s) m ≡ None) (equal_of_bytes_eq n x t) new in cc)
       | inr d ↦ d
     ]
 
@@ -61,7 +63,7 @@ given_at_start s before v [] [] a d = tt
 given_at_start s before v [] (x ∷ xs) a d = absurd a
 given_at_start s before v (i ∷ is) [] a d = absurd a
 given_at_start s before v (i ∷ is) (x ∷ xs) a d =
-    (rw (same_name i.name) a.0, past s before v i x is is xs d.0 (given_at_start s before v is xs a.1 d.1))
+    (rw (bytes_eq_same i.name) a.0, past s before v i x is is xs d.0 (given_at_start s before v is xs a.1 d.1))
 
 no_assigned : (s : Source) → IsGuarded s → AllByRecursion (λ x. find (assignable s) x.name ≡ None) s.inputs
 no_assigned s g =

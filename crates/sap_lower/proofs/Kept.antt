@@ -4,19 +4,20 @@ use Rattle.std.specs.Prelude.{codes}
 use Rattle.std.specs.Fmt.{decimal}
 use Rattle.std.specs.List.{AllByRecursion}
 use Rattle.std.proofs.lemmas.Bool.{cases_Bool}
+use Rattle.sap_lemmas.proofs.Bools.{or_other}
+use Rattle.sap_lemmas.proofs.Everywhere.{all_append}
+use Rattle.sap_net.proofs.NamesLemmas.{among_append, each_among}
 use Rattle.sap_maps.specs.Maps.{Name}
 use Rattle.sap_net.specs.Names.{is_among}
 use Rattle.sap_net.specs.declared.parts.Wire.{Wire}
 use Rattle.sap_ir.specs.Source.{Source}
 use Rattle.sap_ir.specs.IsGuarded.{variable_names, memory_names, IsGuarded}
-use Rattle.sap_ir.proofs.Declared.{among_append}
 use Rattle.sap_lower.specs.Lowering.{helper}
 use Rattle.sap_lower.specs.Lowered.{last_state, listed, all_wires, wire_list_names, unported, names_declared}
 use Rattle.sap_net.specs.Names.{IsHelpingName}
 use Rattle.sap_lower.specs.Same.{IsKept}
 use Rattle.sap_lower.proofs.Fits.{IsHelper}
-use Rattle.sap_lower.proofs.Order.{all_append}
-use Rattle.sap_lower.proofs.Declares.{unported_among, each_among, among_each}
+use Rattle.sap_lower.proofs.Declares.{unported_among, among_each}
 use Rattle.sap_lower.proofs.Names.{outs_named}
 use Rattle.sap_lower.proofs.Listed.{into_listed, listed_port}
 use Rattle.sap_lower.proofs.Result.{of_unported}
@@ -28,11 +29,6 @@ helper_shown k = refl
 helping_names : (ws : List Wire) → AllByRecursion IsHelper ws → AllByRecursion IsHelpingName (wire_list_names ws)
 helping_names [] a = tt
 helping_names (w ∷ ws) a = ((a.0.0, a.0.2 ∙ helper_shown a.0.0), helping_names ws a.1)
-
--- of two of which one holds
-other_holds : (a b : Bool) → (a || b) ≡ true → a ≡ false → b ≡ true
-other_holds true b h f = absurd (cc)
-other_holds false b h f = h
 
 no_port : (a p : Bool) → (a && not p) ≡ true → p ≡ true → ⊥
 no_port true true h e = cc
@@ -59,7 +55,7 @@ module _ (s : Source) (g : IsGuarded s) (helping : AllByRecursion IsHelper (last
       let d = among_each (λ n. is_among n (rs ++ ws) ≡ true) s.ports g.ports_declared x h in
       elim (cases_Bool (is_among x rs)) [
         | inl t ↦ inl (inr (inl t))
-        | inr f ↦ inl (inr (inr (inr (into_listed s.ports s.wires x (other_holds (is_among x rs) (is_among x ws) (sym (among_append x rs ws) ∙ d) f) h))))
+        | inr f ↦ inl (inr (inr (inr (into_listed s.ports s.wires x (or_other (is_among x rs) (is_among x ws) (sym (among_append x rs ws) ∙ d) f) h))))
       ]
 
   all_among : (x : Name) → is_among x all ≡ true → (is_among x helpers || is_among x shown) ≡ true
@@ -71,7 +67,7 @@ module _ (s : Source) (g : IsGuarded s) (helping : AllByRecursion IsHelper (last
       elim (cases_Bool (is_among x helpers)) [
         | inl t ↦ inr (among_each IsHelpingName helpers (helping_names (last_state s).wires helping) x t)
         | inr f ↦
-            let p = listed_port s.ports s.wires x (other_holds (is_among x helpers) (is_among x shown) (all_among x (of_unported s.ports all x h)) f) in
+            let p = listed_port s.ports s.wires x (or_other (is_among x helpers) (is_among x shown) (all_among x (of_unported s.ports all x h)) f) in
             absurd (no_port (is_among x all) (is_among x s.ports) (sym (unported_among s.ports all x) ∙ h) p)
       ]
 

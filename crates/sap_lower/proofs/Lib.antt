@@ -29,3 +29,5 @@ pub mod Made
 pub mod Sharing
 pub mod Small
 pub mod Copied
+pub mod LoweredLemmas
+pub mod PlacesLemmas

@@ -1,13 +1,14 @@
 -- The wires that are ports.
-use Rattle.std.proofs.Common.{◌≡◌, ◌&&◌, List, [], ◌∷◌, filter, Bool, true, false, sym, ap, ◌∙◌, subst, refl, inl, inr}
+use Rattle.std.proofs.Common.{◌≡◌, ◌&&◌, List, [], ◌∷◌, filter, true, sym, ap, ◌∙◌, subst, refl, inl, inr}
 use Rattle.std.specs.List.{AllByRecursion}
 use Rattle.std.proofs.lemmas.Bool.{cases_Bool, and_from}
+use Rattle.sap_lemmas.proofs.Bools.{and_left, and_right}
+use Rattle.sap_net.proofs.NamesLemmas.{filter_among, filter_distinct}
 use Rattle.sap_maps.specs.Maps.{Name}
 use Rattle.sap_net.specs.Names.{is_among, AreDistinct}
 use Rattle.sap_ir.specs.declared.guarded.Var.{Var}
 use Rattle.sap_ir.specs.IsGuarded.{variable_names}
 use Rattle.sap_lower.specs.Lowered.{listed}
-use Rattle.sap_lower.proofs.Names.{filter_among, filter_distinct}
 
 pub listed_names : (ps : List Name) (xs : List Var) → variable_names (listed ps xs) ≡ filter (λ n. is_among n ps) (variable_names xs)
 listed_names ps [] = refl
@@ -23,19 +24,11 @@ listed_among ps xs n = ap (λ (ns : List Name). is_among n ns) (listed_names ps 
 pub into_listed : (ps : List Name) (xs : List Var) (n : Name) → is_among n (variable_names xs) ≡ true → is_among n ps ≡ true → is_among n (variable_names (listed ps xs)) ≡ true
 into_listed ps xs n h p = listed_among ps xs n ∙ and_from (is_among n (variable_names xs)) (is_among n ps) h p
 
-first_holds : (a b : Bool) → (a && b) ≡ true → a ≡ true
-first_holds true b h = refl
-first_holds false b h = h
-
-second_holds : (a b : Bool) → (a && b) ≡ true → b ≡ true
-second_holds true b h = h
-second_holds false b h = absurd (cc)
-
 pub of_listed : (ps : List Name) (xs : List Var) (n : Name) → is_among n (variable_names (listed ps xs)) ≡ true → is_among n (variable_names xs) ≡ true
-of_listed ps xs n h = first_holds (is_among n (variable_names xs)) (is_among n ps) (sym (listed_among ps xs n) ∙ h)
+of_listed ps xs n h = and_left (is_among n (variable_names xs)) (is_among n ps) (sym (listed_among ps xs n) ∙ h)
 
 pub listed_port : (ps : List Name) (xs : List Var) (n : Name) → is_among n (variable_names (listed ps xs)) ≡ true → is_among n ps ≡ true
-listed_port ps xs n h = second_holds (is_among n (variable_names xs)) (is_among n ps) (sym (listed_among ps xs n) ∙ h)
+listed_port ps xs n h = and_right (is_among n (variable_names xs)) (is_among n ps) (sym (listed_among ps xs n) ∙ h)
 
 pub listed_distinct : (ps : List Name) (xs : List Var) → AreDistinct (variable_names xs) → AreDistinct (variable_names (listed ps xs))
 listed_distinct ps xs d = subst AreDistinct (sym (listed_names ps xs)) (filter_distinct (λ n. is_among n ps) (variable_names xs) d)

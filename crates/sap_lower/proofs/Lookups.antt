@@ -3,9 +3,10 @@ use Rattle.std.proofs.Common.{◌≡◌, ℕ, zero, suc, ◌<◌, List, [], ◌�
 use Rattle.std.specs.Prelude.{slice_set}
 use Rattle.std.specs.Str.{bytes_eq}
 use Rattle.std.proofs.lemmas.Bool.{cases_Bool}
+use Rattle.sap_lemmas.proofs.Texts.{bytes_eq_apart_back, bytes_eq_same, equal_of_bytes_eq}
+use Rattle.sap_lower.proofs.PlacesLemmas.{none_further}
 use Rattle.sap_maps.specs.Maps.{Name}
 use Rattle.sap_maps.specs.Scope.{find}
-use Rattle.sap_maps.proofs.Scopes.{same_name, name_is, apart_back}
 use Rattle.sap_net.specs.Names.{is_among}
 use Rattle.sap_lower.specs.Places.{one_further, place_in, names_of, replaced}
 
@@ -22,10 +23,6 @@ named_push (f ∷ es) e = ap (λ ns. f.0 ∷ ns) (named_push es e)
 before : (o : Option ℕ) (k : ℕ) → one_further o ≡ Some k → (j : ℕ) × (o ≡ Some j) × (k ≡ suc j)
 before None k h = absurd (cc)
 before (Some j) k h = let e : suc j ≡ k = cc in (j, refl, sym e)
-
-missing : (o : Option ℕ) → one_further o ≡ None → o ≡ None
-missing None h = refl
-missing (Some j) h = absurd (cc)
 
 pub entry_found : {X : Type 0} (es : List (Name × X)) (n : Name) (k : ℕ) → place_in (names_of es) n ≡ Some k → (k < length es) × ((d : Name × X) → find es n ≡ Some (get_or es k d).1)
 entry_found [] n k h = absurd (cc)
@@ -46,7 +43,7 @@ entry_missing [] n h = refl
 entry_missing (e ∷ es) n h =
     elim (cases_Bool (bytes_eq e.0 n)) [
       | inl t ↦ absurd (let g : Some zero ≡ None = rw t at h in cc)
-      | inr f ↦ rw f (entry_missing es n (missing (place_in (names_of es) n) (rw f at h)))
+      | inr f ↦ rw f (entry_missing es n (none_further (place_in (names_of es) n) (rw f at h)))
     ]
 
 pub item_found : {X Y : Type 0} (name : Y → Name) (of : Y → X) (ys : List Y) (n : Name) (k : ℕ) → place_in (map name ys) n ≡ Some k → (k < length ys) × ((d : Y) → find (map (λ y. (name y, of y)) ys) n ≡ Some (of (get_or ys k d)))
@@ -68,7 +65,7 @@ item_missing name of [] n h = refl
 item_missing name of (y ∷ ys) n h =
     elim (cases_Bool (bytes_eq (name y) n)) [
       | inl t ↦ absurd (let g : Some zero ≡ None = rw t at h in cc)
-      | inr f ↦ rw f (item_missing name of ys n (missing (place_in (map name ys) n) (rw f at h)))
+      | inr f ↦ rw f (item_missing name of ys n (none_further (place_in (map name ys) n) (rw f at h)))
     ]
 
 -- another part at a place
@@ -96,7 +93,7 @@ missing_replaced [] n x h = refl
 missing_replaced (e ∷ es) n x h =
     elim (cases_Bool (bytes_eq e.0 n)) [
       | inl t ↦ absurd (let g : Some zero ≡ None = rw t at h in cc)
-      | inr f ↦ rw f (ap (λ fs. e ∷ fs) (missing_replaced es n x (missing (place_in (names_of es) n) (rw f at h))))
+      | inr f ↦ rw f (ap (λ fs. e ∷ fs) (missing_replaced es n x (none_further (place_in (names_of es) n) (rw f at h))))
     ]
 
 pub names_long : {X : Type 0} (es : List (Name × X)) → length (names_of es) ≡ length es
@@ -112,6 +109,6 @@ pub placed : (names : List Name) (n : Name) → is_some (place_in names n) ≡ i
 placed [] n = refl
 placed (x ∷ xs) n =
     elim (cases_Bool (bytes_eq x n)) [
-      | inl t ↦ let u : bytes_eq n x ≡ true = subst (λ (y : Name). bytes_eq n y ≡ true) (sym (name_is x n t)) (same_name n) in rw (t, u) refl
-      | inr f ↦ let u = apart_back x n f in rw (f, u) (some_further (place_in xs n) ∙ placed xs n)
+      | inl t ↦ let u : bytes_eq n x ≡ true = subst (λ (y : Name). bytes_eq n y ≡ true) (sym (equal_of_bytes_eq x n t)) (bytes_eq_same n) in rw (t, u) refl
+      | inr f ↦ let u = bytes_eq_apart_back x n f in rw (f, u) (some_further (place_in xs n) ∙ placed xs n)
     ]

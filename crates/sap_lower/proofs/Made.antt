@@ -1,12 +1,14 @@
 -- What is made of a program is its netlist, with all that is known of it.
 use Rattle.std.proofs.Common.{◌≡◌, ℕ, ◌^◌, ◌<◌, List, [], ◌∷◌, ◌++◌, map, length, Some, true, false, sym, ap, ap₂, ◌∙◌, subst, refl}
+use Rattle.sap_net.proofs.RulesLemmas.{readable_kept}
+use Rattle.sap_net.proofs.NamesLemmas.{not_found}
+use Rattle.sap_maps.proofs.ScopeLemmas.{found_second}
 use Rattle.sap_maps.specs.Maps.{Name}
 use Rattle.sap_maps.specs.Scope.{Scope, find}
 use Rattle.sap_net.specs.Names.{is_among, AreDistinct}
 use Rattle.sap_net.specs.Net.{Net}
 use Rattle.sap_net.specs.Rules.{readable_after}
 use Rattle.sap_net.specs.IsNetlist.{readable}
-use Rattle.sap_net.proofs.Within.{readable_to_the_end}
 use Rattle.sap_net.specs.declared.parts.Wire.{Wire}
 use Rattle.sap_net.specs.declared.parts.Register.{Register}
 use Rattle.sap_net.specs.declared.parts.Memory.{Memory}
@@ -16,7 +18,7 @@ use Rattle.sap_ir.specs.Source.{Source, Command}
 use Rattle.sap_ir.specs.Source as source
 use Rattle.sap_ir.specs.IsGuarded as ir
 use Rattle.sap_ir.specs.IsGuarded.{variable_names, declared, IsGuarded}
-use Rattle.sap_ir.proofs.Declared.{not_front, distinct_front, distinct_behind, apart_lists, apart_lists_back, not_found, found_second}
+use Rattle.sap_ir.proofs.Declared.{not_front, distinct_front, distinct_behind, apart_lists, apart_lists_back}
 use Rattle.sap_lower.specs.declared.parts.Part.{Part}
 use Rattle.sap_lower.specs.declared.parts.WritePort.{WritePort}
 use Rattle.sap_lower.specs.Commands.{State, low_commands}
@@ -60,7 +62,7 @@ known_of s g l =
       found = found_mapped (λ x. find (scope_of (s.inputs ++ s.registers)) x.name ≡ Some x.width) (λ x. find (readable (lowered s)) x.name ≡ Some x.width) (s.inputs ++ s.registers)
           (λ x h.
           let e : find (first_scope s) x.name ≡ Some x.width = first_found s x.name ∙ subst (λ (sc : Scope). find sc x.name ≡ Some x.width) (scopes_append s.inputs s.registers) h in
-          let r = readable_to_the_end (source.shapes s) (all_wires s) (first_scope s) wires x.name x.width e in
+          let r = readable_kept (source.shapes s) (all_wires s) (first_scope s) wires x.name x.width e in
           subst (λ (sc : Scope). find (readable_after sc (all_wires s)) x.name ≡ Some x.width) (sym (first_readable_is s)) r)
           each;
       shapes = shapes_are s;

@@ -2,9 +2,13 @@
 use Rattle.std.proofs.Common.{◌≡◌, ℕ, ◌&&◌, ◌||◌, List, [], ◌∷◌, ◌++◌, map, filter, Some, None, Bool, true, false, not, sym, ap, ap₂, ◌∙◌, subst, refl, inl, inr}
 use Rattle.std.specs.Str.{bytes_eq}
 use Rattle.std.proofs.lemmas.Bool.{cases_Bool}
+use Rattle.sap_lemmas.proofs.Texts.{bytes_eq_apart_back, equal_of_bytes_eq}
+use Rattle.sap_net.proofs.NamesLemmas.{among_append, distinct_both, filter_among, filter_distinct}
+use Rattle.sap_maps.proofs.ScopeLemmas.{found_first}
+use Rattle.sap_ir.proofs.IsGuardedLemmas.{variables_append}
 use Rattle.sap_maps.specs.Maps.{Name}
 use Rattle.sap_maps.specs.Scope.{Scope, find}
-use Rattle.sap_maps.proofs.Scopes.{name_is, apart_back, found_here, not_behind}
+use Rattle.sap_maps.proofs.Scopes.{found_here, not_behind}
 use Rattle.sap_net.specs.Names.{is_among, AreDistinct}
 use Rattle.sap_net.specs.Rules.{Shapes, AreWires}
 use Rattle.sap_net.specs.declared.parts.Input.{Input}
@@ -15,12 +19,11 @@ use Rattle.sap_ir.specs.declared.guarded.Var.{Var}
 use Rattle.sap_ir.specs.declared.guarded.Store.{Store}
 use Rattle.sap_ir.specs.IsGuarded as ir
 use Rattle.sap_ir.specs.IsGuarded.{variable_names, declared, IsGuarded}
-use Rattle.sap_ir.proofs.Declared.{among_append, found_first}
 use Rattle.sap_lower.specs.declared.parts.Part.{Part}
 use Rattle.sap_lower.specs.declared.parts.WritePort.{WritePort}
 use Rattle.sap_lower.specs.Lowered.{out_wire, register_of, memory_of, input_of, picked, unlisted, unported, wire_list_names}
 use Rattle.sap_lower.proofs.Begins.{scope_of}
-use Rattle.sap_lower.proofs.Declares.{register_among, unported_among, distinct_both, unported_distinct, unlisted_names, picked_names}
+use Rattle.sap_lower.proofs.Declares.{register_among, unported_among, unported_distinct, unlisted_names, picked_names}
 
 -- names of the parts
 
@@ -41,45 +44,8 @@ outs_named es (w ∷ ws) xs = ap (λ (ns : List Name). w.name ∷ ns) (outs_name
 outs_named es [] [] = refl
 outs_named es [] (x ∷ xs) = ap (λ (ns : List Name). x.name ∷ ns) (outs_named es [] xs)
 
-variables_append : (xs ys : List Var) → variable_names (xs ++ ys) ≡ variable_names xs ++ variable_names ys
-variables_append [] ys = refl
-variables_append (x ∷ xs) ys = ap (λ (ns : List Name). x.name ∷ ns) (variables_append xs ys)
-
 pub declared_named : (rs : List Var) (ps : List Name) → variable_names (picked rs ps ++ unlisted ps rs) ≡ filter (register_among rs) ps ++ unported ps (variable_names rs)
 declared_named rs ps = variables_append (picked rs ps) (unlisted ps rs) ∙ ap₂ (λ (a b : List Name). a ++ b) (sym (picked_names rs ps)) (unlisted_names ps rs)
-
-both_off : (b : Bool) → (b && false) ≡ false
-both_off true = refl
-both_off false = refl
-
--- what is on a filtered list
-pub filter_among : (f : Name → Bool) (xs : List Name) (n : Name) → is_among n (filter f xs) ≡ (is_among n xs && f n)
-filter_among f [] n = refl
-filter_among f (x ∷ xs) n =
-    elim (cases_Bool (bytes_eq n x)) [
-      | inl t ↦
-          let e : n ≡ x = name_is n x t in
-          elim (cases_Bool (f n)) [
-            | inl a ↦ let a' : f x ≡ true = subst (λ (y : Name). f y ≡ true) e a in rw (a', t, a) refl
-            | inr b ↦
-                let b' : f x ≡ false = subst (λ (y : Name). f y ≡ false) e b in
-                let r : is_among n (filter f xs) ≡ (is_among n xs && f n) = filter_among f xs n in
-                rw (b', t, b) (r ∙ rw b (both_off (is_among n xs)))
-          ]
-      | inr g ↦
-          elim (cases_Bool (f x)) [
-            | inl a ↦ rw (a, g) (filter_among f xs n)
-            | inr b ↦ rw (b, g) (filter_among f xs n)
-          ]
-    ]
-
-pub filter_distinct : (f : Name → Bool) (xs : List Name) → AreDistinct xs → AreDistinct (filter f xs)
-filter_distinct f [] d = tt
-filter_distinct f (x ∷ xs) d =
-    elim (cases_Bool (f x)) [
-      | inl a ↦ rw a (filter_among f xs x ∙ rw d.0 refl, filter_distinct f xs d.1)
-      | inr b ↦ rw b (filter_distinct f xs d.1)
-    ]
 
 either_part : (p r : Bool) → ((p && r) || (r && not p)) ≡ r
 either_part true true = refl
@@ -113,7 +79,7 @@ wires_new ms [] sc a n h = absurd (cc)
 wires_new ms (w ∷ ws) sc a n h =
     elim (cases_Bool (bytes_eq n w.name)) [
       | inl t ↦
-          let e : w.name ≡ n = sym (name_is n w.name t) in
+          let e : w.name ≡ n = sym (equal_of_bytes_eq n w.name t) in
           (subst (λ (y : Name). find sc y ≡ None) e a.1, subst (λ (y : Name). find ms y ≡ None) e a.2)
       | inr f ↦
           let r = wires_new ms ws ((w.name, w.width) ∷ sc) a.4 n (rw f at h) in
@@ -135,7 +101,7 @@ among_found [] n h = absurd (cc)
 among_found (x ∷ xs) n h =
     elim (cases_Bool (bytes_eq x.name n)) [
       | inl t ↦ (x.width, rw t refl)
-      | inr f ↦ let g = apart_back x.name n f in let r = among_found xs n (rw g at h) in (r.0, rw f r.1)
+      | inr f ↦ let g = bytes_eq_apart_back x.name n f in let r = among_found xs n (rw g at h) in (r.0, rw f r.1)
     ]
 
 pub new_to_first : (is rs : List Var) (n : Name) → find (scope_of is ++ scope_of rs) n ≡ None → is_among n (variable_names is) ≡ false

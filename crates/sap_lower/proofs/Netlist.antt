@@ -5,9 +5,12 @@ use Rattle.std.specs.Str.{bytes_eq}
 use Rattle.std.specs.List.{AllByRecursion}
 use Rattle.std.proofs.Math.Pow.{pow_pos}
 use Rattle.std.proofs.lemmas.Bool.{cases_Bool}
+use Rattle.sap_lemmas.proofs.Texts.{equal_of_bytes_eq}
+use Rattle.sap_net.proofs.NamesLemmas.{not_found}
+use Rattle.sap_maps.proofs.ScopeLemmas.{found_first, found_second}
+use Rattle.sap_ir.proofs.IsGuardedLemmas.{plain_wide, register_wide}
 use Rattle.sap_maps.specs.Maps.{Name}
 use Rattle.sap_maps.specs.Scope.{Scope, find}
-use Rattle.sap_maps.proofs.Scopes.{name_is}
 use Rattle.sap_net.specs.Names.{is_among, AreDistinct}
 use Rattle.sap_net.specs.Rules.{IsWidth, IsDepth, IsOperand}
 use Rattle.sap_net.specs.declared.parts.Operand.TheVariants.{Named, Constant}
@@ -15,8 +18,8 @@ use Rattle.sap_ir.specs.declared.guarded.Var.{Var}
 use Rattle.sap_ir.specs.declared.guarded.Store.{Store}
 use Rattle.sap_ir.specs.Source.{Source, Action, set, put, Command}
 use Rattle.sap_ir.specs.Source as source
-use Rattle.sap_ir.specs.IsGuarded.{variable_names, memory_names, declared, is_helping, IsPlainVar, IsRegisterVar, IsStore, ActionFine, CommandFine, IsGuarded}
-use Rattle.sap_ir.proofs.Declared.{not_front, not_behind_list, not_found, found_first, found_second, assignable_readable}
+use Rattle.sap_ir.specs.IsGuarded.{variable_names, memory_names, declared, is_helping, IsStore, ActionFine, CommandFine, IsGuarded}
+use Rattle.sap_ir.proofs.Declared.{not_front, not_behind_list, assignable_readable}
 use Rattle.sap_lower.specs.declared.parts.Part.{Part}
 use Rattle.sap_lower.specs.Lowering.{helper, present}
 use Rattle.sap_lower.specs.Commands.{no_port, port_of}
@@ -76,7 +79,7 @@ named_fits n u sc (x ∷ xs) sd es k j h =
           let q : Some x.width ≡ Some u = rw t at h in
           let w : x.width ≡ u = cc in
           let here : find (scope_of (x ∷ xs)) n ≡ Some u = rw t q in
-          rw t (subst (λ (y : Name). find sc y ≡ Some u) (sym (name_is x.name n t)) (k here), w)
+          rw t (subst (λ (y : Name). find sc y ≡ Some u) (sym (equal_of_bytes_eq x.name n t)) (k here), w)
       | inr f ↦ rw f (named_fits n u sc xs sd es (λ g. k (rw f g)) (λ g. j (rw f g)) (rw f at h))
     ]
 
@@ -118,14 +121,6 @@ first_env s n u h =
     subst (λ (es : List (Name × Part)). PartFits sc u (present es n)) (sym (append_assoc (map named_entry s.inputs) (map named_entry s.registers) (map zero_entry s.wires))) r
 
 -- widths
-
-plain_wide : (xs : List Var) → AllByRecursion IsPlainVar xs → AllByRecursion (λ x. IsWidth x.width) xs
-plain_wide [] a = tt
-plain_wide (x ∷ xs) a = (a.0.0, plain_wide xs a.1)
-
-register_wide : (xs : List Var) → AllByRecursion IsRegisterVar xs → AllByRecursion (λ x. IsWidth x.width) xs
-register_wide [] a = tt
-register_wide (x ∷ xs) a = (a.0.0, register_wide xs a.1)
 
 wide_found : (xs : List Var) (sc : Scope) → AllByRecursion (λ x. IsWidth x.width) xs → AllWide sc → AllWide (scope_of xs ++ sc)
 wide_found [] sc a k n u h = k n u h

@@ -4,13 +4,14 @@ use Rattle.std.specs.Prelude.{if◌then◌else◌}
 use Rattle.std.specs.Str.{bytes_eq}
 use Rattle.std.specs.List.{AllByRecursion}
 use Rattle.std.proofs.lemmas.Bool.{cases_Bool}
+use Rattle.sap_lemmas.proofs.Everywhere.{all_append}
+use Rattle.sap_lemmas.proofs.Texts.{bytes_eq_apart_back, bytes_eq_same, equal_of_bytes_eq}
+use Rattle.sap_maps.proofs.ScopeLemmas.{found_first, found_second}
 use Rattle.sap_maps.specs.Maps.{Name}
 use Rattle.sap_maps.specs.Scope.{find}
-use Rattle.sap_maps.proofs.Scopes.{same_name, name_is, apart_back}
 use Rattle.sap_net.specs.Names.{is_among, AreDistinct}
 use Rattle.sap_ir.specs.declared.guarded.Var.{Var}
 use Rattle.sap_ir.specs.IsGuarded.{variable_names}
-use Rattle.sap_ir.proofs.Declared.{found_first, found_second}
 use Rattle.sap_lower.specs.Lowered.{in_front, picked, unlisted}
 
 abbrev pub under_names : List Var → List (Name × Var)
@@ -20,19 +21,19 @@ named_found : (rs : List Var) (n : Name) (r : Var) → find (under_names rs) n �
 named_found [] n r h = absurd (cc)
 named_found (x ∷ rs) n r h =
     elim (cases_Bool (bytes_eq x.name n)) [
-      | inl t ↦ let g : Some x ≡ Some r = rw t at h in let e : x ≡ r = cc in ap (λ (y : Var). y.name) (sym e) ∙ name_is x.name n t
+      | inl t ↦ let g : Some x ≡ Some r = rw t at h in let e : x ≡ r = cc in ap (λ (y : Var). y.name) (sym e) ∙ equal_of_bytes_eq x.name n t
       | inr f ↦ named_found rs n r (rw f at h)
     ]
 
 front_found : (o : Option Var) (rest : List Var) (p n : Name) → ((r : Var) → o ≡ Some r → r.name ≡ p) → bytes_eq n p ≡ false → find (under_names (in_front o rest)) n ≡ find (under_names rest) n
 front_found None rest p n h d = refl
 front_found (Some r) rest p n h d =
-    let e : bytes_eq r.name n ≡ false = subst (λ (y : Name). bytes_eq y n ≡ false) (sym (h r refl)) (apart_back n p d) in rw e refl
+    let e : bytes_eq r.name n ≡ false = subst (λ (y : Name). bytes_eq y n ≡ false) (sym (h r refl)) (bytes_eq_apart_back n p d) in rw e refl
 
 front_is : (o : Option Var) (rest : List Var) (p : Name) → ((r : Var) → o ≡ Some r → r.name ≡ p) → (o ≡ None → find (under_names rest) p ≡ None) → find (under_names (in_front o rest)) p ≡ o
 front_is None rest p h k = k refl
 front_is (Some r) rest p h k =
-    let e : bytes_eq r.name p ≡ true = subst (λ (y : Name). bytes_eq r.name y ≡ true) (h r refl) (same_name r.name) in rw e refl
+    let e : bytes_eq r.name p ≡ true = subst (λ (y : Name). bytes_eq r.name y ≡ true) (h r refl) (bytes_eq_same r.name) in rw e refl
 
 none_either : (b : Bool) (o : Option Var) → o ≡ None → (if b then o else None) ≡ None
 none_either true o h = h
@@ -43,7 +44,7 @@ picked_found rs [] n = refl
 picked_found rs (p ∷ ps) n =
     elim (cases_Bool (bytes_eq n p)) [
       | inl t ↦
-          let e : p ≡ n = sym (name_is n p t) in
+          let e : p ≡ n = sym (equal_of_bytes_eq n p t) in
           let here : find (under_names (picked rs (p ∷ ps))) p ≡ find (under_names rs) p =
           front_is (find (under_names rs) p) (picked rs ps) p (λ r h. named_found rs p r h) (λ z. picked_found rs ps p ∙ none_either (is_among p ps) (find (under_names rs) p) z) in
           rw t (subst (λ (y : Name). find (under_names (picked rs (p ∷ ps))) y ≡ find (under_names rs) y) e here)
@@ -59,7 +60,7 @@ unlisted_found ps [] n = sym (same_both (is_among n ps) None)
 unlisted_found ps (r ∷ rs) n =
     elim (cases_Bool (bytes_eq r.name n)) [
       | inl t ↦
-          let e : r.name ≡ n = name_is r.name n t in
+          let e : r.name ≡ n = equal_of_bytes_eq r.name n t in
           elim (cases_Bool (is_among n ps)) [
             | inl a ↦
                 let a' : is_among r.name ps ≡ true = subst (λ (y : Name). is_among y ps ≡ true) (sym e) a in
@@ -123,7 +124,7 @@ found_more y all (x ∷ xs) d a =
 
 pub each_found : (xs : List Var) → AreDistinct (variable_names xs) → AllByRecursion (λ x. find (under_names xs) x.name ≡ Some x) xs
 each_found [] d = tt
-each_found (x ∷ xs) d = (rw (same_name x.name) refl, found_more x xs xs d.0 (each_found xs d.1))
+each_found (x ∷ xs) d = (rw (bytes_eq_same x.name) refl, found_more x xs xs d.0 (each_found xs d.1))
 
 holds_of : (P : Var → Type 0) (all xs ys : List Var) → AllByRecursion P ys → ((n : Name) → find (under_names ys) n ≡ find (under_names all) n) → AllByRecursion (λ x. find (under_names all) x.name ≡ Some x) xs → AllByRecursion P xs
 holds_of P all [] ys a e f = tt
@@ -148,24 +149,8 @@ unlisted_holds P ps (r ∷ rs) a =
       | inr f ↦ rw f (a.0, unlisted_holds P ps rs a.1)
     ]
 
-pub all_append : {X : Type 0} (P : X → Type 0) (xs ys : List X) → AllByRecursion P xs → AllByRecursion P ys → AllByRecursion P (xs ++ ys)
-all_append P [] ys a b = b
-all_append P (x ∷ xs) ys a b = (a.0, all_append P xs ys a.1 b)
-
 pub to_declared : (P : Var → Type 0) (rs : List Var) (ps : List Name) → AllByRecursion P rs → AllByRecursion P (picked rs ps ++ unlisted ps rs)
 to_declared P rs ps a = all_append P (picked rs ps) (unlisted ps rs) (picked_holds P rs ps a) (unlisted_holds P ps rs a)
-
-pub all_map : {X Y : Type 0} (P : Y → Type 0) (f : X → Y) (xs : List X) → AllByRecursion P (map f xs) → AllByRecursion (λ x. P (f x)) xs
-all_map P f [] a = tt
-all_map P f (x ∷ xs) a = (a.0, all_map P f xs a.1)
-
-pub map_all : {X Y : Type 0} (P : Y → Type 0) (f : X → Y) (xs : List X) → AllByRecursion (λ x. P (f x)) xs → AllByRecursion P (map f xs)
-map_all P f [] a = tt
-map_all P f (x ∷ xs) a = (a.0, map_all P f xs a.1)
-
-pub all_behind : {X : Type 0} (P : X → Type 0) (xs ys : List X) → AllByRecursion P (xs ++ ys) → AllByRecursion P ys
-all_behind P [] ys a = a
-all_behind P (x ∷ xs) ys a = all_behind P xs ys a.1
 
 front_split : {X : Type 0} (f : Var → X) (o : Option Var) (rest : List Var) → map f (in_front o []) ++ map f rest ≡ map f (in_front o rest)
 front_split f None rest = refl

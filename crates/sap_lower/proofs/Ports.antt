@@ -4,10 +4,10 @@ use Rattle.std.specs.Prelude.{if◌then◌else◌}
 use Rattle.std.specs.Str.{bytes_eq}
 use Rattle.std.proofs.lemmas.Bool.{cases_Bool}
 use Rattle.std.proofs.lemmas.Bool.Decides.{Decides-eqb}
+use Rattle.sap_lemmas.proofs.Texts.{bytes_eq_apart_back, bytes_eq_same}
 use Rattle.sap_maps.specs.Maps.{Name, Valuation, set_value}
 use Rattle.sap_maps.specs.Scope.{Scope}
 use Rattle.sap_maps.specs.Term.{Term}
-use Rattle.sap_maps.proofs.Scopes.{same_name, apart_back}
 use Rattle.sap_net.specs.Rules.{Shapes}
 use Rattle.sap_net.specs.Values.{operand_value}
 use Rattle.sap_net.specs.declared.parts.Operand.TheVariants.{Constant}
@@ -40,7 +40,7 @@ write_is true e i x y t cells nexts m done once w n j = n j
 write_is false e i x y t cells nexts m done once w n j =
     let q : (e == 1) ≡ false = w ∙ once refl in
     let r : nexts m j ≡ cells m j = n j ∙ rw q refl in
-    rw (same_name m, same_test j y, r) refl
+    rw (bytes_eq_same m, same_test j y, r) refl
 
 bit_is : (off : Bool) (e : ℕ) (done : Bool) → (e == 1) ≡ done → ((if off then e else 1) == 1) ≡ (if off then done else true)
 bit_is true e done w = w
@@ -104,7 +104,7 @@ put_is ms vars vw widths v es g k p m done is c i t b w fc fi ft once ws h =
 -- another memory is left alone
 pub other_is : (v : Valuation) (p : WritePort) (n : Name) (g : Going) (done : Bool) → PortIs v p n g done → (off : Bool) (m : Name) (i t : ℕ) → bytes_eq m n ≡ false → PortIs v p n (if off then g else record { now = g.now; next = set_cell g.next m i t }) done
 other_is v p n g done is true m i t d = record { written = is.written; next = is.next }
-other_is v p n g done is false m i t d = record { written = is.written; next = λ j. rw (apart_back m n d) (is.next j) }
+other_is v p n g done is false m i t d = record { written = is.written; next = λ j. rw (bytes_eq_apart_back m n d) (is.next j) }
 
 -- an assignment changes no memory
 pub set_is : (v : Valuation) (p : WritePort) (n : Name) (g : Going) (done : Bool) → PortIs v p n g done → (off : Bool) (x : Name) (a : ℕ) → PortIs v p n (if off then g else record { now = set_value g.now x a; next = g.next }) done

@@ -1,15 +1,18 @@
 -- All rules of netlists, for the netlist of a program.
 use Rattle.std.proofs.Common.{◌≡◌, ◌&&◌, ◌||◌, List, [], ◌∷◌, ◌++◌, map, filter, take, length, Bool, true, false, not, sym, ap, ap₂, ◌∙◌, refl, inl, inr}
 use Rattle.std.proofs.lemmas.Bool.{cases_Bool}
+use Rattle.sap_lemmas.proofs.Bools.{and_false, and_left}
+use Rattle.sap_lemmas.proofs.Lists.{tail_equal}
+use Rattle.std.proofs.lemmas.List.{append-nil}
+use Rattle.sap_net.proofs.NamesLemmas.{among_append, among_neither, distinct_both, each_among}
 use Rattle.sap_maps.specs.Maps.{Name}
 use Rattle.sap_net.specs.Names.{is_among, AreDistinct}
 use Rattle.sap_net.specs.declared.parts.Port.{Port}
 use Rattle.sap_net.specs.IsNetlist.{is_input}
 use Rattle.sap_ir.specs.declared.guarded.Var.{Var}
 use Rattle.sap_ir.specs.IsGuarded.{variable_names}
-use Rattle.sap_ir.proofs.Declared.{among_append}
 use Rattle.sap_lower.specs.Lowered.{input_port, port_shown, unported}
-use Rattle.sap_lower.proofs.Declares.{unported_among, filter_append, filter_none, filter_all, each_among, distinct_both, unported_distinct}
+use Rattle.sap_lower.proofs.Declares.{unported_among, filter_append, filter_none, filter_all, unported_distinct}
 
 -- What is known of the names: the inputs I, registers R, wires W and memories M of a program, its ports P, and all wires A of its netlist.
 pub record Kinds (I R W M P A : List Name) : Type 0 where
@@ -36,29 +39,14 @@ turned : (a b : Bool) → (a ≡ true → b ≡ false) → b ≡ true → a ≡ 
 turned true b h t = absurd (let e = h refl in cc)
 turned false b h t = refl
 
-and_first : (a b : Bool) → (a && b) ≡ true → a ≡ true
-and_first true b h = refl
-and_first false b h = h
-
-and_second : (a b : Bool) → (a && b) ≡ true → b ≡ true
-and_second true b h = h
-and_second false b h = absurd (cc)
-
-and_not : (a : Bool) → (a && false) ≡ false
-and_not true = refl
-and_not false = refl
-
 pub of_unported : (P xs : List Name) (n : Name) → is_among n (unported P xs) ≡ true → is_among n xs ≡ true
-of_unported P xs n h = and_first (is_among n xs) (not (is_among n P)) (sym (unported_among P xs n) ∙ h)
+of_unported P xs n h = and_left (is_among n xs) (not (is_among n P)) (sym (unported_among P xs n) ∙ h)
 
 no_unported : (P xs : List Name) (n : Name) → is_among n xs ≡ false → is_among n (unported P xs) ≡ false
 no_unported P xs n h = unported_among P xs n ∙ rw h refl
 
 port_unported : (P xs : List Name) (n : Name) → is_among n P ≡ true → is_among n (unported P xs) ≡ false
-port_unported P xs n h = unported_among P xs n ∙ rw h (and_not (is_among n xs))
-
-none_of : (n : Name) (xs ys : List Name) → is_among n xs ≡ false → is_among n ys ≡ false → is_among n (xs ++ ys) ≡ false
-none_of n xs ys a b = among_append n xs ys ∙ rw (a, b) refl
+port_unported P xs n h = unported_among P xs n ∙ rw h (and_false (is_among n xs))
 
 pub names_distinct : (I R W M P A : List Name) → Kinds I R W M P A → AreDistinct (all_names I R M P A)
 names_distinct I R W M P A k =
@@ -66,13 +54,13 @@ names_distinct I R W M P A k =
     let FR = unported P R in
     let d1 = distinct_both FR M (unported_distinct P R k.registers) k.memories (λ n h. k.register_no_memory n (of_unported P R n h)) in
     let d2 = distinct_both FA (FR ++ M) (unported_distinct P A k.wires) d1
-    (λ n h. let a = of_unported P A n h in none_of n FR M (no_unported P R n (k.wire_no_register n a)) (k.wire_no_memory n a)) in
+    (λ n h. let a = of_unported P A n h in among_neither n FR M (no_unported P R n (k.wire_no_register n a)) (k.wire_no_memory n a)) in
     let d3 = distinct_both P (FA ++ (FR ++ M)) k.ports d2
-    (λ n h. none_of n FA (FR ++ M) (port_unported P A n h) (none_of n FR M (port_unported P R n h) (k.port_no_memory n h))) in
+    (λ n h. among_neither n FA (FR ++ M) (port_unported P A n h) (among_neither n FR M (port_unported P R n h) (k.port_no_memory n h))) in
     distinct_both I (P ++ (FA ++ (FR ++ M))) k.inputs d3
-    (λ n h. none_of n P (FA ++ (FR ++ M)) (turned (is_among n P) (is_among n I) (k.port_no_input n) h)
-    (none_of n FA (FR ++ M) (no_unported P A n (turned (is_among n A) (is_among n I) (k.wire_no_input n) h))
-    (none_of n FR M (no_unported P R n (turned (is_among n R) (is_among n I) (k.register_no_input n) h)) (turned (is_among n M) (is_among n I) (k.memory_no_input n) h))))
+    (λ n h. among_neither n P (FA ++ (FR ++ M)) (turned (is_among n P) (is_among n I) (k.port_no_input n) h)
+    (among_neither n FA (FR ++ M) (no_unported P A n (turned (is_among n A) (is_among n I) (k.wire_no_input n) h))
+    (among_neither n FR M (no_unported P R n (turned (is_among n R) (is_among n I) (k.register_no_input n) h)) (turned (is_among n M) (is_among n I) (k.memory_no_input n) h))))
 
 same_either : (i p a r m : Bool) → (p ≡ true → (r || a) ≡ true) → (i || (p || ((a && not p) || ((r && not p) || m)))) ≡ (((i || a) || r) || m)
 same_either true p a r m h = refl
@@ -91,10 +79,6 @@ names_among I R W M P A k n =
     ∙ ap (λ (b : Bool). is_among n I || b) (among_append n P (FA ++ (FR ++ M)) ∙ ap (λ (b : Bool). is_among n P || b) (among_append n FA (FR ++ M) ∙ ap₂ (λ (x y : Bool). x || y) (unported_among P A n) (among_append n FR M ∙ ap (λ (b : Bool). b || is_among n M) (unported_among P R n))))
     ∙ same_either (is_among n I) (is_among n P) (is_among n A) (is_among n R) (is_among n M) (k.port_is n)
 
-nothing_more : (xs : List Name) → xs ++ [] ≡ xs
-nothing_more [] = refl
-nothing_more (x ∷ xs) = ap (λ (ns : List Name). x ∷ ns) (nothing_more xs)
-
 pub registers_ordered : (I R W M P A : List Name) → Kinds I R W M P A → filter (λ x. is_among x R) (all_names I R M P A) ≡ filter (λ x. is_among x R) P ++ unported P R
 registers_ordered I R W M P A k =
     let f : Name → Bool = λ (x : Name). is_among x R in
@@ -105,7 +89,7 @@ registers_ordered I R W M P A k =
     let r = filter_all f FR (each_among (λ x. f x ≡ true) FR (λ n h. of_unported P R n h)) in
     let m = filter_none f M (each_among (λ x. f x ≡ false) M (λ n h. turned (is_among n R) (is_among n M) (k.register_no_memory n) h)) in
     filter_append f I (P ++ (FA ++ (FR ++ M)))
-    ∙ ap₂ (λ (x y : List Name). x ++ y) i (filter_append f P (FA ++ (FR ++ M)) ∙ ap (λ (y : List Name). filter f P ++ y) (filter_append f FA (FR ++ M) ∙ ap₂ (λ (x y : List Name). x ++ y) a (filter_append f FR M ∙ ap₂ (λ (x y : List Name). x ++ y) r m ∙ nothing_more FR)))
+    ∙ ap₂ (λ (x y : List Name). x ++ y) i (filter_append f P (FA ++ (FR ++ M)) ∙ ap (λ (y : List Name). filter f P ++ y) (filter_append f FA (FR ++ M) ∙ ap₂ (λ (x y : List Name). x ++ y) a (filter_append f FR M ∙ ap₂ (λ (x y : List Name). x ++ y) r m ∙ append-nil FR)))
 
 pub memories_ordered : (I R W M P A : List Name) → Kinds I R W M P A → filter (λ x. is_among x M) (all_names I R M P A) ≡ M
 memories_ordered I R W M P A k =
@@ -122,19 +106,11 @@ memories_ordered I R W M P A k =
 
 -- ports
 
-pub ports_named : (rs : List Var) (xs : List Var) (ps : List Name) → map (λ (p : Port). p.name) (map input_port xs ++ map (port_shown rs) ps) ≡ variable_names xs ++ ps
-ports_named rs [] [] = refl
-ports_named rs [] (p ∷ ps) = ap (λ (ns : List Name). p ∷ ns) (ports_named rs [] ps)
-ports_named rs (x ∷ xs) ps = ap (λ (ns : List Name). x.name ∷ ns) (ports_named rs xs ps)
-
-behind_equal : (x y : Name) (xs ys : List Name) → x ∷ xs ≡ y ∷ ys → xs ≡ ys
-behind_equal x y xs ys h = cc
-
 pub take_front : (xs : List Port) (ys zs : List Name) → map (λ (p : Port). p.name) xs ≡ ys → ys ≡ take (length xs) (ys ++ zs)
 take_front [] [] zs h = refl
 take_front [] (y ∷ ys) zs h = absurd (cc)
 take_front (x ∷ xs) [] zs h = absurd (cc)
-take_front (x ∷ xs) (y ∷ ys) zs h = ap (λ (ns : List Name). y ∷ ns) (take_front xs ys zs (behind_equal x.name y (map (λ (p : Port). p.name) xs) ys h))
+take_front (x ∷ xs) (y ∷ ys) zs h = ap (λ (ns : List Name). y ∷ ns) (take_front xs ys zs (tail_equal x.name y (map (λ (p : Port). p.name) xs) ys h))
 
 no_inputs : (rs : List Var) (ps : List Name) → map (λ (p : Port). p.name) (filter (λ (p : Port). is_input p.kind) (map (port_shown rs) ps)) ≡ []
 no_inputs rs [] = refl

@@ -4,8 +4,9 @@ use Rattle.std.specs.Prelude.{if◌then◌else◌}
 use Rattle.std.specs.Str.{bytes_eq}
 use Rattle.std.specs.HashMap as hash
 use Rattle.std.proofs.lemmas.Bool.{cases_Bool}
+use Rattle.sap_lemmas.proofs.Texts.{bytes_eq_same, equal_of_bytes_eq}
 use Rattle.sap_maps.specs.Scope.{find}
-use Rattle.sap_maps.proofs.Scopes.{name_is, same_name, not_behind}
+use Rattle.sap_maps.proofs.Scopes.{not_behind}
 use Rattle.sap_net.specs.declared.parts.Wire.{Wire}
 use Rattle.sap_lower.specs.Keys.{key}
 use Rattle.sap_lower.specs.Lowering.{rights}
@@ -16,7 +17,7 @@ abbrev pub key_of : Wire → List ℕ
 key_of w = key w.width w.right
 
 pub last_here : (ws : List Wire) (w : Wire) → find (rights ws) (key_of w) ≡ None → find (rights (ws ++ w ∷ [])) (key_of w) ≡ Some w.name
-last_here [] w h = rw (same_name (key_of w)) refl
+last_here [] w h = rw (bytes_eq_same (key_of w)) refl
 last_here (x ∷ ws) w h =
     elim (cases_Bool (bytes_eq (key_of x) (key_of w))) [
       | inl t ↦ absurd (let g : Some x.name ≡ None = rw t at h in cc)
@@ -30,6 +31,6 @@ last_other (x ∷ ws) w k f = ap (λ o. if bytes_eq (key_of x) k then Some x.nam
 pub one_more : (m m' : RightMap) (ws : List Wire) (w : Wire) → find (rights ws) (key_of w) ≡ None → hash.UpdatesBy same_bytes (λ k. bytes_eq (key_of w) k.items) m m' (Some w.name) → NamesRights m ws → NamesRights m' (ws ++ w ∷ [])
 one_more m m' ws w new h is k =
     elim (cases_Bool (bytes_eq (key_of w) k)) [
-      | inl t ↦ subst (λ (x : List ℕ). at_key m' x ≡ find (rights (ws ++ w ∷ [])) x) (name_is (key_of w) k t) (h.1 ∙ sym (last_here ws w new))
+      | inl t ↦ subst (λ (x : List ℕ). at_key m' x ≡ find (rights (ws ++ w ∷ [])) x) (equal_of_bytes_eq (key_of w) k t) (h.1 ∙ sym (last_here ws w new))
       | inr f ↦ at_other m m' (key_of w) (Some w.name) h k f ∙ is k ∙ sym (last_other ws w k f)
     ]

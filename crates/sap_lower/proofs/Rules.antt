@@ -1,15 +1,16 @@
 -- The netlist of a program follows all rules of netlists.
-use Rattle.std.proofs.Common.{◌≡◌, ℕ, ◌||◌, List, [], ◌∷◌, ◌++◌, map, Some, None, Bool, true, false, ap, ap₂, refl, inl, inr}
+use Rattle.std.proofs.Common.{◌≡◌, ℕ, List, [], ◌∷◌, ◌++◌, map, Some, None, true, false, ap, ap₂, refl, inl, inr}
 use Rattle.std.specs.Str.{bytes_eq}
 use Rattle.std.specs.List.{AllByRecursion}
-use Rattle.std.proofs.lemmas.Bool.{cases_Bool}
+use Rattle.std.proofs.lemmas.Bool.{cases_Bool, or_right}
+use Rattle.sap_lemmas.proofs.Texts.{bytes_eq_same}
+use Rattle.sap_net.proofs.NamesLemmas.{among_behind, among_front}
 use Rattle.sap_maps.specs.Maps.{Name}
 use Rattle.sap_maps.specs.Scope.{Scope, find}
-use Rattle.sap_maps.proofs.Scopes.{same_name, found_here, found_behind}
+use Rattle.sap_maps.proofs.Scopes.{found_here, found_behind}
 use Rattle.sap_net.specs.Names.{is_among, AreDistinct}
-use Rattle.sap_net.specs.Rules.{Shapes, IsWidth, IsOperand, AreWires, readable_after}
+use Rattle.sap_net.specs.Rules.{Shapes, IsWidth, IsOperand, AreWires}
 use Rattle.sap_net.specs.declared.parts.Input.{Input}
-use Rattle.sap_net.specs.declared.parts.Wire.{Wire}
 use Rattle.sap_net.specs.declared.parts.Register.{Register}
 use Rattle.sap_net.specs.declared.parts.Memory.{Memory}
 use Rattle.sap_net.specs.IsNetlist.{first_readable, shapes}
@@ -19,7 +20,7 @@ use Rattle.sap_ir.specs.Source.{Source}
 use Rattle.sap_ir.specs.Source as source
 use Rattle.sap_ir.specs.IsGuarded as ir
 use Rattle.sap_ir.specs.IsGuarded.{variable_names, declared, is_helping, IsPlainVar, IsRegisterVar, IsStore, IsGuarded}
-use Rattle.sap_ir.proofs.Declared.{among_front, among_behind, distinct_behind, apart_lists, apart_lists_back}
+use Rattle.sap_ir.proofs.Declared.{distinct_behind, apart_lists, apart_lists_back}
 use Rattle.sap_lower.specs.declared.parts.Part.{Part}
 use Rattle.sap_lower.specs.declared.parts.WritePort.{WritePort}
 use Rattle.sap_lower.specs.Lowering.{present}
@@ -49,14 +50,6 @@ pub shapes_are : (s : Source) → shapes (lowered s) ≡ source.shapes s
 shapes_are s = shapes_of_memories (last_state s).ports s.memories
 
 -- the wires that the program has
-
-pub wires_append : (ms : Shapes) (ws vs : List Wire) (sc : Scope) → AreWires ms sc ws → AreWires ms (readable_after sc ws) vs → AreWires ms sc (ws ++ vs)
-wires_append ms [] vs sc a b = b
-wires_append ms (w ∷ ws) vs sc a b = (a.0, a.1, a.2, a.3, wires_append ms ws vs ((w.name, w.width) ∷ sc) a.4 b)
-
-pub readable_append : (ws vs : List Wire) (sc : Scope) → readable_after sc (ws ++ vs) ≡ readable_after (readable_after sc ws) vs
-readable_append [] vs sc = refl
-readable_append (w ∷ ws) vs sc = readable_append ws vs ((w.name, w.width) ∷ sc)
 
 -- each name is new to a scope
 abbrev AllNew : {X : Type 0} → List (Name × X) → List Var → Type 0
@@ -93,13 +86,9 @@ wire_among s d n h =
     let f = among_front n ws ms h in
     (apart_lists is (rs ++ (ws ++ ms)) d n (among_behind n rs (ws ++ ms) f), apart_lists rs (ws ++ ms) d1 n f, apart_lists_back ws ms d2 n h)
 
-or_true : (a b : Bool) → b ≡ true → (a || b) ≡ true
-or_true true b h = refl
-or_true false b h = h
-
 each_var : (P : Var → Type 0) (all xs : List Var) → ((x : Var) → is_among x.name (variable_names all) ≡ true → P x) → ((n : Name) → is_among n (variable_names xs) ≡ true → is_among n (variable_names all) ≡ true) → AllByRecursion P xs
 each_var P all [] h k = tt
-each_var P all (x ∷ xs) h k = (h x (k x.name (rw (same_name x.name) refl)), each_var P all xs h (λ n a. k n (or_true (bytes_eq n x.name) (is_among n (variable_names xs)) a)))
+each_var P all (x ∷ xs) h k = (h x (k x.name (rw (bytes_eq_same x.name) refl)), each_var P all xs h (λ n a. k n (or_right (bytes_eq n x.name) (is_among n (variable_names xs)) a)))
 
 pub each_variable : (P : Var → Type 0) (xs : List Var) → ((x : Var) → is_among x.name (variable_names xs) ≡ true → P x) → AllByRecursion P xs
 each_variable P xs h = each_var P xs xs h (λ n a. a)

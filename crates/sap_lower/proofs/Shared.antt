@@ -2,9 +2,11 @@
 use Rattle.std.proofs.Common.{◌≡◌, ℕ, List, [], ◌∷◌, Some, true, subst, inl, inr}
 use Rattle.std.specs.Str.{bytes_eq}
 use Rattle.std.proofs.lemmas.Bool.{cases_Bool}
+use Rattle.sap_lemmas.proofs.Texts.{equal_of_bytes_eq}
+use Rattle.sap_net.proofs.RulesLemmas.{readable_kept}
 use Rattle.sap_maps.specs.Maps.{Name, Valuation}
 use Rattle.sap_maps.specs.Scope.{Scope, find}
-use Rattle.sap_maps.proofs.Scopes.{name_is, found_here, found_behind}
+use Rattle.sap_maps.proofs.Scopes.{found_here}
 use Rattle.sap_net.specs.Rules.{Shapes, AreWires, readable_after}
 use Rattle.sap_net.specs.Values.{right_value}
 use Rattle.sap_net.specs.declared.parts.Right.{Right}
@@ -17,7 +19,7 @@ use Rattle.sap_lower.proofs.Decoding.{key_is}
 known : (Known : ℕ → Right → Name → Type 0) (u : ℕ) (r : Right) (w : Wire) (n : Name) → bytes_eq (key w.width w.right) (key u r) ≡ true → Some w.name ≡ Some n
     → Known w.width w.right w.name → Known u r n
 known Known u r w n t e h =
-    let k = key_is w.width u w.right r (name_is (key w.width w.right) (key u r) t) in
+    let k = key_is w.width u w.right r (equal_of_bytes_eq (key w.width w.right) (key u r) t) in
     let m : w.name ≡ n = cc in
     subst (λ (x : Name). Known u r x) m (subst (λ (x : Right). Known u x w.name) k.1 (subst (λ (x : ℕ). Known x w.right w.name) k.0 h))
 
@@ -36,10 +38,6 @@ known_gives widths v (w ∷ ws) u r n e g =
     ]
 
 -- wires that fit
-
-pub readable_kept : (ms : Shapes) (ws : List Wire) (sc : Scope) → AreWires ms sc ws → (n : Name) (u : ℕ) → find sc n ≡ Some u → find (readable_after sc ws) n ≡ Some u
-readable_kept ms [] sc a n u h = h
-readable_kept ms (w ∷ ws) sc a n u h = readable_kept ms ws ((w.name, w.width) ∷ sc) a.4 n u (found_behind sc w.name w.width a.1 n u h)
 
 pub known_readable : (ms : Shapes) (ws : List Wire) (sc : Scope) (u : ℕ) (r : Right) (n : Name) → find (rights ws) (key u r) ≡ Some n → AreWires ms sc ws → find (readable_after sc ws) n ≡ Some u
 known_readable ms [] sc u r n e a = absurd (cc)

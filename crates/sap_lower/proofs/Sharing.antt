@@ -4,11 +4,12 @@ use Rattle.std.specs.Prelude.{if◌then◌else◌}
 use Rattle.std.specs.List.{AllByRecursion}
 use Rattle.std.specs.Str.{bytes_eq}
 use Rattle.std.proofs.lemmas.Bool.{cases_Bool}
+use Rattle.sap_lemmas.proofs.Texts.{bytes_eq_same}
 use Rattle.sap_bits.specs.Arithmetic.{width1, width2}
 use Rattle.sap_maps.specs.Maps.{Name}
 use Rattle.sap_maps.specs.Scope.{find}
 use Rattle.sap_maps.specs.Term.{Term, constant, read, cell, one, two, choose, join, part}
-use Rattle.sap_maps.proofs.Scopes.{same_name, not_behind}
+use Rattle.sap_maps.proofs.Scopes.{not_behind}
 use Rattle.sap_net.specs.Names.{is_among}
 use Rattle.sap_net.specs.Rules.{Shapes}
 use Rattle.sap_net.specs.declared.parts.Operand.{Operand}
@@ -39,7 +40,7 @@ differ_more : (w x : Wire) (ws : List Wire) → bytes_eq (key w.width w.right) (
 differ_more w x [] f d = (
   λ e r.
       let s : key w.width w.right ≡ key x.width x.right = ap₂ (λ (n : ℕ) (k : Right). key n k) (sym e) (sym r) in
-      let t : bytes_eq (key w.width w.right) (key x.width x.right) ≡ true = subst (λ (k : List ℕ). bytes_eq (key w.width w.right) k ≡ true) s (same_name (key w.width w.right)) in
+      let t : bytes_eq (key w.width w.right) (key x.width x.right) ≡ true = subst (λ (k : List ℕ). bytes_eq (key w.width w.right) k ≡ true) s (bytes_eq_same (key w.width w.right)) in
       absurd (cc),
   tt,
 )

@@ -6,12 +6,12 @@ use Rattle.std.specs.Set.{remove_key}
 use Rattle.std.specs.Str.{bytes_eq}
 use Rattle.std.proofs.lemmas.Bool.{cases_Bool}
 use Rattle.std.proofs.lemmas.Map.Made.{length-remove_key}
+use Rattle.sap_lemmas.proofs.Texts.{bytes_eq_apart_back, bytes_eq_same, equal_of_bytes_eq}
 use Rattle.sap_bits.specs.Arithmetic.{width1, width2, slice_of}
 use Rattle.sap_bits.specs.declared.Op2.{Op2}
 use Rattle.sap_maps.specs.Maps.{Name}
 use Rattle.sap_maps.specs.Scope.{find}
 use Rattle.sap_maps.specs.Term.{Term, constant, read, cell, one, two, choose, join, part}
-use Rattle.sap_maps.proofs.Scopes.{same_name, name_is, apart_back}
 use Rattle.sap_net.specs.Names.{is_among, AreDistinct}
 use Rattle.sap_net.specs.Rules.{Shapes}
 use Rattle.sap_net.specs.declared.parts.Operand.{Operand}
@@ -421,14 +421,14 @@ one_left_out p ps [] d h = absurd (cc)
 one_left_out p ps (n ∷ ns) d h =
     elim (cases_Bool (bytes_eq p n)) [
       | inl t ↦
-          let e : p ≡ n = name_is p n t in
-          let u : bytes_eq n p ≡ true = subst (λ (m : Name). bytes_eq m p ≡ true) e (same_name p) in
+          let e : p ≡ n = equal_of_bytes_eq p n t in
+          let u : bytes_eq n p ≡ true = subst (λ (m : Name). bytes_eq m p ≡ true) e (bytes_eq_same p) in
           let v : is_among n ps ≡ false = subst (λ (m : Name). is_among m ps ≡ false) e d in
           let r = left_out p ps ns in
           rw (u, v) (omega (arith, r))
       | inr f ↦
           let r = one_left_out p ps ns d (rw f at h) in
-          rw (apart_back p n f) (elim (cases_Bool (is_among n ps)) [ inl a ↦ rw a r | inr b ↦ rw b (omega (arith, r)) ])
+          rw (bytes_eq_apart_back p n f) (elim (cases_Bool (is_among n ps)) [ inl a ↦ rw a r | inr b ↦ rw b (omega (arith, r)) ])
     ]
 
 among_or_left : (ps ns : List Name) → AreDistinct ps → length (filter (λ p. is_among p ns) ps) + length (unported ps ns) ≤ length ns

@@ -4,10 +4,10 @@ use Rattle.std.specs.Prelude.{if◌then◌else◌, unwrap_or}
 use Rattle.std.specs.Str.{bytes_eq}
 use Rattle.std.specs.List.{AllByRecursion}
 use Rattle.std.proofs.lemmas.Bool.{cases_Bool}
+use Rattle.sap_lemmas.proofs.Texts.{bytes_eq_apart_back, bytes_eq_same, equal_of_bytes_eq}
 use Rattle.sap_maps.specs.Maps.{Name, Valuation, set_value}
 use Rattle.sap_maps.specs.Scope.{Scope, find}
 use Rattle.sap_maps.specs.Term.{Term}
-use Rattle.sap_maps.proofs.Scopes.{same_name, name_is, apart_back}
 use Rattle.sap_net.specs.Names.{is_among, AreDistinct}
 use Rattle.sap_net.specs.Rules.{Shapes, IsWidth}
 use Rattle.sap_ir.specs.Source.{Action, set, put, Command}
@@ -88,7 +88,7 @@ action_stands ms vars vw widths v s g done k c (put m i t) fc f once h =
     let p = port_of s.ports m in
     let q = low_put ms s.entries p c i t s.wires in
     let e = now_of off g m vi vt in
-    let here : is_among m (m ∷ []) ≡ true = rw (same_name m) refl in
+    let here : is_among m (m ∷ []) ≡ true = rw (bytes_eq_same m) refl in
     let is = put_is ms vars vw widths v s.entries g k.around p m (done m) (k.ports m (f.0, 2 ^ f.1) f.3) c i t f.1 f.0 fc f.4 f.5 (λ o. once m o here) s.wires h in
     let after : Going = if off then g else record { now = g.now; next = set_cell g.next m vi vt } in
     record {
@@ -98,10 +98,10 @@ action_stands ms vars vw widths v s g done k c (put m i t) fc f once h =
       ports = λ n r found.
           elim (cases_Bool (bytes_eq m n)) [
             | inl same ↦
-                let mn : m ≡ n = name_is m n same in
+                let mn : m ≡ n = equal_of_bytes_eq m n same in
                 let old = k.has_ports m (f.0, 2 ^ f.1) f.3 in
                 let z : port_of (replaced s.ports m q.port) m ≡ q.port = ap (λ o. unwrap_or o no_port) (replaced_same s.ports m q.port old.0 old.1) in
-                let d : (if off then done m else true) ≡ done_after off (put m i t) done m = rw (same_name m) refl in
+                let d : (if off then done m else true) ≡ done_after off (put m i t) done m = rw (bytes_eq_same m) refl in
                 let there : PortIs v (port_of (replaced s.ports m q.port) m) m after (done_after off (put m i t) done m) = rw z (subst (λ (b : Bool). PortIs v q.port m after b) d is) in
                 subst (λ (y : Name). PortIs v (port_of (replaced s.ports m q.port) y) y after (done_after off (put m i t) done y)) mn there
             | inr other ↦
@@ -122,8 +122,8 @@ later_set false (put m i a) done others l =
       distinct = l.distinct.1;
       apart = λ n h.
           elim (cases_Bool (bytes_eq m n)) [
-            | inl t ↦ absurd (let e : is_among n others ≡ false = subst (λ (y : Name). is_among y others ≡ false) (name_is m n t) l.distinct.0 in cc)
-            | inr f ↦ rw f (l.apart n (rw (apart_back m n f) h))
+            | inl t ↦ absurd (let e : is_among n others ≡ false = subst (λ (y : Name). is_among y others ≡ false) (equal_of_bytes_eq m n t) l.distinct.0 in cc)
+            | inr f ↦ rw f (l.apart n (rw (bytes_eq_apart_back m n f) h))
           ];
     }
 

@@ -3,10 +3,10 @@ use Rattle.std.proofs.Common.{◌≡◌, ℕ, ◌^◌, ◌==◌, List, [], ◌�
 use Rattle.std.specs.Prelude.{if◌then◌else◌, unwrap_or}
 use Rattle.std.specs.Str.{bytes_eq}
 use Rattle.std.proofs.lemmas.Bool.{cases_Bool}
+use Rattle.sap_lemmas.proofs.Texts.{bytes_eq_apart_back, bytes_eq_same, equal_of_bytes_eq}
 use Rattle.sap_maps.specs.Maps.{Name, Valuation, set_value}
 use Rattle.sap_maps.specs.Scope.{Scope, find}
 use Rattle.sap_maps.specs.Term.{Term}
-use Rattle.sap_maps.proofs.Scopes.{same_name, name_is, apart_back}
 use Rattle.sap_maps.proofs.Terms.{below_both}
 use Rattle.sap_net.specs.Rules.{Shapes}
 use Rattle.sap_net.specs.declared.parts.Right.TheVariants.{Choose}
@@ -29,7 +29,7 @@ pub replaced_other : {X : Type 0} (es : List (Name × X)) (n m : Name) (x : X) �
 replaced_other [] n m x d = refl
 replaced_other (e ∷ es) n m x d =
     elim (cases_Bool (bytes_eq e.0 n)) [
-      | inl t ↦ let k : bytes_eq e.0 m ≡ false = subst (λ (a : Name). bytes_eq a m ≡ false) (sym (name_is e.0 n t)) d in rw (t, k) refl
+      | inl t ↦ let k : bytes_eq e.0 m ≡ false = subst (λ (a : Name). bytes_eq a m ≡ false) (sym (equal_of_bytes_eq e.0 n t)) d in rw (t, k) refl
       | inr f ↦ rw f (ap (λ o. if bytes_eq e.0 m then Some e.1 else o) (replaced_other es n m x d))
     ]
 
@@ -42,7 +42,7 @@ replaced_has vars es n x h m u f =
     let g = h m u f in
     elim (cases_Bool (bytes_eq n m)) [
       | inl t ↦
-          let e : n ≡ m = name_is n m t in
+          let e : n ≡ m = equal_of_bytes_eq n m t in
           let q : find es n ≡ Some g.0 = subst (λ (a : Name). find es a ≡ Some g.0) (sym e) g.1 in
           (x, subst (λ (a : Name). find (replaced es n x) a ≡ Some x) e (replaced_same es n x g.0 q))
       | inr d ↦ (g.0, replaced_other es n m x d ∙ g.1)
@@ -56,7 +56,7 @@ set_at_other false g n m a d = rw d
 
 set_at_same : (b : Bool) (g : Going) (n : Name) (a : ℕ) → (if b then g else record { now = set_value g.now n a; next = g.next }).now.value n ≡ (if b then g.now.value n else a)
 set_at_same true g n a = refl
-set_at_same false g n a = rw (same_name n) refl
+set_at_same false g n a = rw (bytes_eq_same n) refl
 
 pub set_front : (widths : Name → ℕ) (v : Valuation) (ms : Shapes) (s : State) (c : Term Name) (n : Name) (t : Term Name) → Gives widths v (low_set ms s c n t).wires → Gives widths v s.wires
 set_front widths v ms s c n t h =
@@ -94,7 +94,7 @@ set_stands ms vars vw widths v s g k has c n t u found fc ft h m w f =
     let after : Going = if b then g else record { now = set_value g.now n a; next = g.next } in
     elim (cases_Bool (bytes_eq n m)) [
       | inl same ↦
-          let e : n ≡ m = name_is n m same in
+          let e : n ≡ m = equal_of_bytes_eq n m same in
           let found' : find vars n ≡ Some w = subst (λ (q : Name). find vars q ≡ Some w) (sym e) f in
           let uw : u ≡ w = cc in
           let old = has n u found in
@@ -105,6 +105,6 @@ set_stands ms vars vw widths v s g k has c n t u found fc ft h m w f =
       | inr d ↦
           let o = k.env m w f in
           let r : present (replaced s.entries n y) m ≡ present s.entries m = ap (λ o. unwrap_or o nothing) (replaced_other s.entries n m y d) in
-          let d' : bytes_eq m n ≡ false = apart_back n m d in
+          let d' : bytes_eq m n ≡ false = bytes_eq_apart_back n m d in
           rw (r, set_at_other b g n m a d') o
     ]

@@ -3,19 +3,22 @@ use Rattle.std.proofs.Common.{◌≡◌, ℕ, ◌^◌, ◌<◌, ◌≤◌, List,
 use Rattle.std.specs.Str.{bytes_eq}
 use Rattle.std.specs.List.{AllByRecursion}
 use Rattle.std.proofs.lemmas.Bool.{cases_Bool}
+use Rattle.sap_net.proofs.RulesLemmas.{readable_both, readable_kept, wires_both}
+use Rattle.sap_net.proofs.NamesLemmas.{among_behind, among_front, not_found}
+use Rattle.sap_maps.proofs.ScopeLemmas.{found_first, found_second}
+use Rattle.sap_ir.proofs.IsGuardedLemmas.{plain_wide}
 use Rattle.sap_maps.specs.Maps.{Name}
 use Rattle.sap_maps.specs.Scope.{Scope, find}
 use Rattle.sap_maps.proofs.Scopes.{found_here}
 use Rattle.sap_net.specs.Names.{is_among, AreDistinct}
 use Rattle.sap_net.specs.Rules.{Shapes, IsWidth, IsOperand, AreWires, readable_after, IsRegister, IsMemory, AreValues, AreMemories}
 use Rattle.sap_net.specs.declared.parts.Wire.{Wire}
-use Rattle.sap_net.proofs.Within.{readable_to_the_end}
 use Rattle.sap_ir.specs.declared.guarded.Var.{Var}
 use Rattle.sap_ir.specs.declared.guarded.Store.{Store}
 use Rattle.sap_ir.specs.Source.{Source}
 use Rattle.sap_ir.specs.Source as source
-use Rattle.sap_ir.specs.IsGuarded.{variable_names, memory_names, declared, is_helping, IsPlainVar, IsRegisterVar, IsStore, IsGuarded}
-use Rattle.sap_ir.proofs.Declared.{among_front, among_behind, distinct_front, distinct_behind, apart_lists, not_found, found_first, found_second}
+use Rattle.sap_ir.specs.IsGuarded.{variable_names, memory_names, declared, is_helping, IsRegisterVar, IsStore, IsGuarded}
+use Rattle.sap_ir.proofs.Declared.{distinct_front, distinct_behind, apart_lists}
 use Rattle.sap_lower.specs.declared.parts.Part.{Part}
 use Rattle.sap_lower.specs.declared.parts.WritePort.{WritePort}
 use Rattle.sap_lower.specs.Lowering.{present}
@@ -27,7 +30,7 @@ use Rattle.sap_lower.proofs.Begins.{scope_of, shapes_list}
 use Rattle.sap_lower.proofs.Declares.{among_each}
 use Rattle.sap_lower.proofs.Netlist.{first_scope, first_found}
 use Rattle.sap_lower.proofs.Listed.{listed_distinct, listed_holds}
-use Rattle.sap_lower.proofs.Rules.{wires_append, readable_append, outs_fit, wire_among, each_variable, kind_found}
+use Rattle.sap_lower.proofs.Rules.{outs_fit, wire_among, each_variable, kind_found}
 
 long_front : (ws vs : List Wire) → length ws ≤ length (ws ++ vs)
 long_front [] vs = omega arith
@@ -35,14 +38,6 @@ long_front (w ∷ ws) vs = omega (arith, long_front ws vs)
 
 pub last_short : (s : Source) → length (all_wires s) < 2 ^ 64 → length (last_state s).wires < 2 ^ 64
 last_short s l = omega (arith, long_front (last_state s).wires (map (out_wire (last_state s).entries) (listed s.ports s.wires)))
-
-pub plain_wide : (xs : List Var) → AllByRecursion IsPlainVar xs → AllByRecursion (λ x. IsWidth x.width) xs
-plain_wide [] a = tt
-plain_wide (x ∷ xs) a = (a.0.0, plain_wide xs a.1)
-
-pub register_wide : (xs : List Var) → AllByRecursion IsRegisterVar xs → AllByRecursion (λ x. IsWidth x.width) xs
-register_wide [] a = tt
-register_wide (x ∷ xs) a = (a.0.0, register_wide xs a.1)
 
 pub both_hold : (P Q R : Var → Type 0) (xs : List Var) → ((x : Var) → P x → Q x → R x) → AllByRecursion P xs → AllByRecursion Q xs → AllByRecursion R xs
 both_hold P Q R [] h a b = tt
@@ -108,13 +103,13 @@ outs_are s g k =
     (env_operands sc (source.readable s) t.entries k.env (listed P W) (listed_holds (λ x. find (source.readable s) x.name ≡ Some x.width) P W (wires_found s g)))
 
 pub wires_are : (s : Source) → IsGuarded s → StateFits (source.shapes s) (first_scope s) (source.readable s) (last_state s) → AreWires (source.shapes s) (first_scope s) (all_wires s)
-wires_are s g k = wires_append (source.shapes s) (last_state s).wires (outs s) (first_scope s) k.fits.wires (outs_are s g k)
+wires_are s g k = wires_both (source.shapes s) (last_state s).wires (outs s) (first_scope s) k.fits.wires (outs_are s g k)
 
 -- what can be read behind the helping wires can be read behind all
 pub grows_to_all : (s : Source) → IsGuarded s → (k : StateFits (source.shapes s) (first_scope s) (source.readable s) (last_state s)) → Grows (readable_after (first_scope s) (last_state s).wires) (readable_after (first_scope s) (all_wires s))
 grows_to_all s g k n u h =
     let sc = readable_after (first_scope s) (last_state s).wires in
-    subst (λ (sd : Scope). find sd n ≡ Some u) (sym (readable_append (last_state s).wires (outs s) (first_scope s))) (readable_to_the_end (source.shapes s) (outs s) sc (outs_are s g k) n u h)
+    subst (λ (sd : Scope). find sd n ≡ Some u) (sym (readable_both (last_state s).wires (outs s) (first_scope s))) (readable_kept (source.shapes s) (outs s) sc (outs_are s g k) n u h)
 
 pub nexts_are : (sc sd vars : Scope) (es : List (Name × Part)) → Grows sc sd → EnvFits sc vars es → (xs : List Var) → AllByRecursion (λ x. find vars x.name ≡ Some x.width) xs → AllByRecursion IsRegisterVar xs → AllByRecursion (λ x. IsRegister sd (register_of es x)) xs
 nexts_are sc sd vars es g e [] f a = tt

@@ -1,33 +1,21 @@
 -- Names that are found among declared ones, and names that are new to them.
-use Rattle.std.proofs.Common.{◌≡◌, ℕ, List, [], ◌∷◌, ◌++◌, Some, None, true, false, sym, subst, ⊎_elim, refl}
+use Rattle.std.proofs.Common.{◌≡◌, ℕ, List, [], ◌∷◌, ◌++◌, Some, None, false, sym, subst, ⊎_elim, refl}
 use Rattle.std.specs.Str.{bytes_eq}
 use Rattle.std.proofs.lemmas.Slice.Eq.{bytes_eq-Decides}
 use Rattle.std.proofs.lemmas.Bool.{cases_Bool}
+use Rattle.sap_lemmas.proofs.Texts.{bytes_eq_apart_back, bytes_eq_same, equal_of_bytes_eq}
 use Rattle.sap_maps.specs.Maps.{Name, Valuation, set_value}
 use Rattle.sap_maps.specs.Scope.{Scope, find, Agree}
 
-pub same_name : (m : Name) → bytes_eq m m ≡ true
-same_name m = (bytes_eq-Decides m m).1 refl
-
-pub name_is : (m n : Name) → bytes_eq m n ≡ true → m ≡ n
-name_is m n t = (bytes_eq-Decides m n).0 t
-
-pub apart_back : (m n : Name) → bytes_eq m n ≡ false → bytes_eq n m ≡ false
-apart_back m n f =
-    ⊎_elim
-    (λ t. let e : bytes_eq m n ≡ true = (bytes_eq-Decides m n).1 (sym (name_is n m t)) in absurd (cc))
-    (λ g. g)
-    (cases_Bool (bytes_eq n m))
-
 -- what was declared last is found
 pub found_here : {X : Type 0} (m : Name) (x : X) (es : List (Name × X)) → find ((m, x) ∷ es) m ≡ Some x
-found_here m x es = rw (same_name m) refl
+found_here m x es = rw (bytes_eq_same m) refl
 
 -- a name that is found is no new one
 pub apart : {X : Type 0} (es : List (Name × X)) (m n : Name) (x : X) → find es m ≡ None → find es n ≡ Some x → bytes_eq m n ≡ false
 apart {X} es m n x fresh has =
     ⊎_elim
-    (λ t. absurd (let f : find es n ≡ None = subst (λ (y : Name). find es y ≡ None) (name_is m n t) fresh in cc))
+    (λ t. absurd (let f : find es n ≡ None = subst (λ (y : Name). find es y ≡ None) (equal_of_bytes_eq m n t) fresh in cc))
     (λ f. f)
     (cases_Bool (bytes_eq m n))
 
@@ -39,7 +27,7 @@ found_behind {X} es m y fresh n x h = rw (apart es m n x fresh h) h
 pub not_first : {X : Type 0} (e : Name × X) (es : List (Name × X)) (m : Name) → find (e ∷ es) m ≡ None → bytes_eq m e.0 ≡ false
 not_first {X} e es m h =
     ⊎_elim
-    (λ t. absurd (let q : e.0 ≡ m = sym (name_is m e.0 t) in let g : Some e.1 ≡ None = rw ((bytes_eq-Decides e.0 m).1 q) at h in cc))
+    (λ t. absurd (let q : e.0 ≡ m = sym (equal_of_bytes_eq m e.0 t) in let g : Some e.1 ≡ None = rw ((bytes_eq-Decides e.0 m).1 q) at h in cc))
     (λ f. f)
     (cases_Bool (bytes_eq m e.0))
 
@@ -54,7 +42,7 @@ not_behind {X} e es m h =
 pub agree_more : (sc : Scope) (v w : Valuation) (m : Name) (k : ℕ) → Agree sc v w → v.value m ≡ w.value m → Agree ((m, k) ∷ sc) v w
 agree_more sc v w m k a e n u h =
     ⊎_elim
-    (λ t. subst (λ (x : Name). v.value x ≡ w.value x) (name_is m n t) e)
+    (λ t. subst (λ (x : Name). v.value x ≡ w.value x) (equal_of_bytes_eq m n t) e)
     (λ f. a n u (rw f at h))
     (cases_Bool (bytes_eq m n))
 
@@ -73,7 +61,7 @@ agree_both (e ∷ sc) sd v w a b n u h =
 
 -- another number at a new name leaves the others alone
 pub set_value_agrees : (sc : Scope) (v : Valuation) (m : Name) (x : ℕ) → find sc m ≡ None → Agree sc v (set_value v m x)
-set_value_agrees sc v m x fresh n u h = rw (apart_back m n (apart sc m n u fresh h))
+set_value_agrees sc v m x fresh n u h = rw (bytes_eq_apart_back m n (apart sc m n u fresh h))
 
 pub set_value_here : (v : Valuation) (m : Name) (x : ℕ) → (set_value v m x).value m ≡ x
-set_value_here v m x = rw (same_name m) refl
+set_value_here v m x = rw (bytes_eq_same m) refl

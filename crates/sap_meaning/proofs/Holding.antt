@@ -1,5 +1,6 @@
 -- The first state and every cycle keep what every state keeps.
 use Rattle.std.proofs.Common.{ℕ, zero, suc, Bool, refl, sym, ap, ◌∙◌, List, if◌then◌else◌}
+use Rattle.sap_lemmas.proofs.Bools.{and_left}
 use Rattle.sap_meaning.specs.Program.{World, Program, entity, is_dynamic, root, Node, Group, None, More}
 use Rattle.sap_meaning.specs.Store.{start, next, Store, child}
 use Rattle.sap_meaning.specs.Touches.{root_touches}
@@ -7,7 +8,6 @@ use Rattle.sap_meaning.specs.Does.{does_state}
 use Rattle.sap_meaning.specs.Cycle.{Tagged, set_inputs, root_fall, cycle}
 use Rattle.sap_meaning.specs.State.{Rests, Resting, first}
 use Rattle.sap_meaning.specs.Fine.{FineProgram, FineGroup}
-use Rattle.sap_meaning.proofs.Bools.{and_left}
 use Rattle.sap_meaning.proofs.Slots.{owner_home}
 use Rattle.sap_meaning.proofs.Trees.{lands}
 use Rattle.sap_meaning.proofs.Keeps.{OfDynamic, Keeps, Lands, holds_raise, holds_inputs, holds_settle, settle_rests, first_holds, state_holds}

@@ -1,7 +1,8 @@
 -- Every command keeps what every state keeps.
 use Rattle.std.proofs.Common.{◌≡◌, ℕ, zero, suc, ◌<◌, Bool, true, false, List, refl, sym, ap, ◌∙◌, subst, arith, nat_eq, inl, inr, if◌then◌else◌}
-use Rattle.std.proofs.lemmas.Bool.{cases_Bool}
+use Rattle.std.proofs.lemmas.Bool.{cases_Bool, eqb-true}
 use Rattle.std.proofs.lemmas.Grind.{common_steps}
+use Rattle.sap_lemmas.proofs.Bools.{and_left, and_right}
 use Rattle.sap_maps.specs.Term.{Term}
 use Rattle.sap_meaning.specs.Program.{World, entity, is_dynamic, is_input, authority, children, place, below, Step, Set, Write, Retag, RetagCell, Goto, Fall, Command, Do, Try, If, TryThen, Case, Arms, Last, Arm, Block, End, Then, State, Node, Group, None, More}
 use Rattle.sap_meaning.specs.Store.{Slot, own, start, next, start_whole, next_whole, Store, owner, home, level, child, same_slot, put_number, put_level, put_child, raised, raise, lowered, reset, source, settle, held, After, stay}
@@ -13,7 +14,6 @@ use Rattle.sap_meaning.specs.Cycle.{Tagged, at_inputs, given, set_inputs}
 use Rattle.sap_meaning.specs.State.{Holds, Rests, first}
 pub use Rattle.sap_meaning.specs.Laws.{Keeps}
 use Rattle.sap_meaning.specs.Fine.{FineStep, FineCommand, FineArms, FineBlock, FineState, FineGroup}
-use Rattle.sap_meaning.proofs.Bools.{and_left, and_right, same_number}
 use Rattle.sap_meaning.proofs.Trees.{lands}
 use Rattle.sap_meaning.proofs.Slots.{slot_same, owner_home, home_start, home_next, level_raise, level_reset, level_settle, owner_source, raised_hangs, lowered_dynamic, held_source, held_register}
 
@@ -122,7 +122,7 @@ module _ (w : World) (at : Spot) (q : Group) (landing : (target : ℕ) → among
   unfolding effect
   effect_holds (Set site x e) fine pc b s t r = holds_level w _ (own x) _ (holds_number w s (own x) _ r) (λ d. rw d (r.above (own x) (held_register w x fine.0) d))
   effect_holds (Write site m i e) fine pc b s t r = elim (cases_Bool (is_dynamic w m)) [
-    | inl d ↦ rw d (holds_number w _ _ _ (holds_raise w s (λ x. nat_eq x m) _ (λ x h. subst (λ y. is_dynamic w y ≡ true) (sym (same_number x m h)) d) r))
+    | inl d ↦ rw d (holds_number w _ _ _ (holds_raise w s (λ x. nat_eq x m) _ (λ x h. subst (λ y. is_dynamic w y ≡ true) (sym (eqb-true x m h)) d) r))
     | inr d ↦ rw d (holds_number w s _ _ r)
   ]
   effect_holds (Retag site x n) fine pc b s t r = holds_level w _ (own x) _ (holds_number w s (own x) _ r) (λ d. and_right _ _ t)

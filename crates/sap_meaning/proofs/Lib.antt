@@ -8,3 +8,7 @@ mod Fitting
 mod Rising
 mod Computed
 mod Sampled
+pub mod FineLemmas
+pub mod ProgramLemmas
+pub mod SitesLemmas
+pub mod StoreLemmas

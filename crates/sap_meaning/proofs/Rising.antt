@@ -1,6 +1,8 @@
 -- What is refused in a cycle stands in the order of the text.
 use Rattle.std.proofs.Common.{◌≡◌, ℕ, zero, suc, ◌≤◌, Bool, true, false, not, List, [], ◌∷◌, ◌++◌, append_assoc, refl, sym, ap, subst, arith, inl, inr}
-use Rattle.std.proofs.lemmas.Bool.{cases_Bool}
+use Rattle.std.proofs.lemmas.Bool.{cases_Bool, and_from, not-false, or_left}
+use Rattle.sap_lemmas.proofs.Bools.{neither_left, neither_right}
+use Rattle.sap_meaning.proofs.SitesLemmas.{sublist_append, sublist_behind, sublist_between, sublist_front}
 use Rattle.sap_maps.specs.Term.{Term}
 use Rattle.sap_meaning.specs.Program.{World, is_dynamic, root, Step, Set, Write, Retag, RetagCell, Goto, Fall, Command, Do, Try, If, TryThen, Case, Arms, Last, Arm, Block, End, Then, State, Node, Group, None, More}
 use Rattle.sap_meaning.specs.Store.{Store, child, raise, Refusal, After, stay}
@@ -11,29 +13,7 @@ use Rattle.sap_meaning.specs.Cycle.{set_inputs, root_fall, cycle}
 use Rattle.sap_meaning.specs.Fine.{transfers, Open, OpenArms, OpenBlock, Closes, Final, ClosingArms, FineState, FineGroup}
 use Rattle.sap_meaning.specs.Sites.{some_enforced, is_site, step_sites, sites, arms_sites, block_sites, state_sites, group_sites, program_sites, refused_sites, Sublist, RisesFrom}
 use Rattle.sap_meaning.specs.Laws.{SitesInOrder}
-use Rattle.sap_meaning.proofs.Bools.{and_both, or_left, neither_left, neither_right}
 use Rattle.sap_meaning.proofs.Keeps.{branch_all, choose_all}
-
-skip : (xs zs ys : List ℕ) → Sublist xs ys → Sublist xs (zs ++ ys)
-skip [] zs ys h = tt
-skip (x ∷ xs) [] ys h = h
-skip (x ∷ xs) (z ∷ zs) ys h = inr (skip (x ∷ xs) zs ys h)
-
-more : (xs ys zs : List ℕ) → Sublist xs ys → Sublist xs (ys ++ zs)
-more [] ys zs h = tt
-more (x ∷ xs) [] zs h = absurd h
-more (x ∷ xs) (y ∷ ys) zs h = elim h [ inl q ↦ inl (q.0, more xs ys zs q.1) | inr q ↦ inr (more (x ∷ xs) ys zs q) ]
-
--- one list behind another
-joins : (as' bs cs ds : List ℕ) → Sublist as' bs → Sublist cs ds → Sublist (as' ++ cs) (bs ++ ds)
-joins [] bs cs ds h k = skip cs bs ds k
-joins (a ∷ as') [] cs ds h k = absurd h
-joins (a ∷ as') (b ∷ bs) cs ds h k = elim h [ inl q ↦ inl (q.0, joins as' bs cs ds q.1 k) | inr q ↦ inr (joins (a ∷ as') bs cs ds q k) ]
-
-between : (xs as' bs gs : List ℕ) → Sublist xs (as' ++ gs) → Sublist xs ((as' ++ bs) ++ gs)
-between [] as' bs gs h = tt
-between (x ∷ xs) [] bs gs h = skip (x ∷ xs) bs gs h
-between (x ∷ xs) (a ∷ as') bs gs h = elim h [ inl q ↦ inl (q.0, between xs as' bs gs q.1) | inr q ↦ inr (between (x ∷ xs) as' bs gs q) ]
 
 refused-append : (a b : List Refusal) → refused_sites (a ++ b) ≡ refused_sites a ++ refused_sites b
 refused-append [] b = refl
@@ -51,25 +31,21 @@ sublist_rises (x ∷ xs) (y ∷ ys) n h r = elim h [
   | inr q ↦ (let k = r.0 in sublist_rises (x ∷ xs) ys n q (later_rises ys n (suc y) (omega arith) r.1))
 ]
 
-is_true : (b : Bool) → not b ≡ false → b ≡ true
-is_true true h = refl
-is_true false h = cc
-
 module _ (w : World) where
   opens_all : (g : Group) → some_enforced w g ≡ false → (n pc : ℕ) (s : Store) → child_opens w g n pc s ≡ true
   opens_all None h n pc s = refl
-  opens_all (More (Node c b k) None) h n pc s = or_left _ _ (is_true (is_dynamic w c) (neither_left _ _ h))
-  opens_all (More (Node c b k) (More t g)) h zero pc s = or_left _ _ (is_true (is_dynamic w c) (neither_left _ _ h))
+  opens_all (More (Node c b k) None) h n pc s = or_left _ _ (not-false (is_dynamic w c) (neither_left _ _ h))
+  opens_all (More (Node c b k) (More t g)) h zero pc s = or_left _ _ (not-false (is_dynamic w c) (neither_left _ _ h))
   opens_all (More (Node c b k) (More t g)) h (suc n) pc s = opens_all (More t g) (neither_right (not (is_dynamic w c)) _ h) n pc s
 
   -- what is no check site is not refused
   serves : (at : Spot) (k : Step) → is_site w at.state at.children k ≡ false → (pc : ℕ) (s : Store) → test w at k pc s ≡ true
-  serves at (Set site x e) h pc s = or_left _ _ (is_true (is_dynamic w x) h)
-  serves at (Write site m i e) h pc s = or_left _ _ (is_true (is_dynamic w m) h)
+  serves at (Set site x e) h pc s = or_left _ _ (not-false (is_dynamic w x) h)
+  serves at (Write site m i e) h pc s = or_left _ _ (not-false (is_dynamic w m) h)
   serves at (Retag site x n) h pc s = cc
   serves at (RetagCell site m j n) h pc s = cc
   serves at (Goto site target) h pc s =
-      and_both _ _ (or_left _ _ (is_true (is_dynamic w target) (neither_right (not (is_dynamic w at.state)) _ h))) (or_left _ _ (is_true (is_dynamic w at.state) (neither_left _ _ h)))
+      and_from _ _ (or_left _ _ (not-false (is_dynamic w target) (neither_right (not (is_dynamic w at.state)) _ h))) (or_left _ _ (not-false (is_dynamic w at.state) (neither_left _ _ h)))
   serves at (Fall site hang) h pc s = opens_all at.children h (child at.state s) pc s
 
   -- what is refused
@@ -108,7 +84,7 @@ module _ (w : World) where
     attempt_from : (k : Step) (hang : ℕ → Bool) (h : ℕ → Store → After) (ys zs : List ℕ) → ((pc : ℕ) (b s : Store) → From (effect w at enter k pc b s) ys) → ((xs : List ℕ) → Sublist xs ys → Sublist xs zs) → ((p : ℕ) (t : Store) → From (h p t) zs) → (pc : ℕ) (s : Store) → From (attempt w at enter k hang h pc s) (Own k ++ zs)
     unfolding attempt
     attempt_from k hang h ys zs f into g pc s = elim (cases_Bool (test w at k pc s)) [
-      | inl t ↦ rw t (skip _ (Own k) zs (into _ (f pc s _)))
+      | inl t ↦ rw t (sublist_behind _ (Own k) zs (into _ (f pc s _)))
       | inr t ↦ rw t (elim (cases_Bool (is_site w at.state at.children k)) [
         | inl i ↦ rw i (inl (refl, g _ _))
         | inr i ↦ (let no = serves at k i pc s in cc)
@@ -125,7 +101,7 @@ module _ (w : World) where
     unfolding attempt_then
     attempt_then_from k plain hang f g ys a b pc s = elim (cases_Bool (test w at k pc s)) [
       | inl t ↦ rw (t, refused-append (effect w at enter k pc s (raise w.order hang (guard w at k s) s)).refused)
-          (skip _ (Own k) ys (joins _ [] _ ys (effect_none k plain pc s (raise w.order hang (guard w at k s) s)) (a _ _)))
+          (sublist_behind _ (Own k) ys (sublist_append _ [] _ ys (effect_none k plain pc s (raise w.order hang (guard w at k s) s)) (a _ _)))
       | inr t ↦ rw t (elim (cases_Bool (is_site w at.state at.children k)) [
         | inl i ↦ rw i (inl (refl, b _ _))
         | inr i ↦ (let no = serves at k i pc s in cc)
@@ -150,21 +126,21 @@ module _ (w : World) where
       open_from : (c : Command) → Open c → (pc : ℕ) (s : Store) → From (does w at enter c pc s) (sites w at.state at.children c)
       open_from (Do k) plain pc s = subst (λ ys. From (attempt w at enter k (raised_alone w at k) (λ p t. stay t) pc s) ys) (append-nil (Own k)) (attempt_from k (raised_alone w at k) (λ p t. stay t) [] [] (effect_none k plain) (λ xs h. h) (λ p t. tt) pc s)
       open_from (Try k hang h) plain pc s = attempt_from k (touches w at (Try k hang h)) (does_block w at enter h) [] (OwnBlock h) (effect_none k plain.0) (λ xs i. none xs (OwnBlock h) i) (λ p t. open_list h plain.1 p t) pc s
-      open_from (If hang e a b) plain pc s = select_from e (touches w at (If hang e a b)) (does_block w at enter a) (does_block w at enter b) (OwnBlock a ++ OwnBlock b) (λ p t. more _ (OwnBlock a) (OwnBlock b) (open_list a plain.0 p t)) (λ p t. skip _ (OwnBlock a) (OwnBlock b) (open_list b plain.1 p t)) pc s
+      open_from (If hang e a b) plain pc s = select_from e (touches w at (If hang e a b)) (does_block w at enter a) (does_block w at enter b) (OwnBlock a ++ OwnBlock b) (λ p t. sublist_front _ (OwnBlock a) (OwnBlock b) (open_list a plain.0 p t)) (λ p t. sublist_behind _ (OwnBlock a) (OwnBlock b) (open_list b plain.1 p t)) pc s
       open_from (TryThen k hang a b) plain pc s =
           attempt_then_from k plain.0 (touches w at (TryThen k hang a b)) (does_block w at enter a) (does_block w at enter b) (OwnBlock a ++ OwnBlock b)
-          (λ p t. more _ (OwnBlock a) (OwnBlock b) (open_list a plain.1 p t)) (λ p t. skip _ (OwnBlock a) (OwnBlock b) (open_list b plain.2 p t)) pc s
+          (λ p t. sublist_front _ (OwnBlock a) (OwnBlock b) (open_list a plain.1 p t)) (λ p t. sublist_behind _ (OwnBlock a) (OwnBlock b) (open_list b plain.2 p t)) pc s
       open_from (Case hang e arms) plain pc s = pick_from e (touches w at (Case hang e arms)) (does_arms w at enter arms) (OwnArms arms) (λ v p t. open_arms arms plain v p t) pc s
 
       open_arms : (arms : Arms) → OpenArms arms → (v pc : ℕ) (s : Store) → From (does_arms w at enter arms v pc s) (OwnArms arms)
       open_arms (Last b) plain v pc s = open_list b plain pc s
       open_arms (Arm cs b arms) plain v pc s =
           choose_all (λ z. From z (OwnBlock b ++ OwnArms arms)) cs (does_block w at enter b) (does_arms w at enter arms) v pc s
-          (more _ (OwnBlock b) (OwnArms arms) (open_list b plain.0 pc s)) (skip _ (OwnBlock b) (OwnArms arms) (open_arms arms plain.1 v pc s))
+          (sublist_front _ (OwnBlock b) (OwnArms arms) (open_list b plain.0 pc s)) (sublist_behind _ (OwnBlock b) (OwnArms arms) (open_arms arms plain.1 v pc s))
 
       open_list : (b : Block) → OpenBlock b → (pc : ℕ) (s : Store) → From (does_block w at enter b pc s) (OwnBlock b)
       open_list End plain pc s = tt
-      open_list (Then c cs) plain pc s = rw (refused-append (does w at enter c pc s).refused) (joins _ (sites w at.state at.children c) _ (OwnBlock cs) (open_from c plain.0 pc s) (open_list cs plain.1 pc _))
+      open_list (Then c cs) plain pc s = rw (refused-append (does w at enter c pc s).refused) (sublist_append _ (sites w at.state at.children c) _ (OwnBlock cs) (open_from c plain.0 pc s) (open_list cs plain.1 pc _))
 
     mutual
       unfolding does does_arms does_block
@@ -173,17 +149,17 @@ module _ (w : World) where
       final_from (Do k) final pc s = attempt_from k (raised_alone w at k) (λ p t. stay t) below below (effect_from k) (λ xs h. h) (λ p t. tt) pc s
       final_from (Try k hang h) final pc s =
           subst (λ ys. From (attempt w at enter k (touches w at (Try k hang h)) (does_block w at enter h) pc s) ys) (sym (append_assoc (Own k) (OwnBlock h) below))
-          (attempt_from k (touches w at (Try k hang h)) (does_block w at enter h) below (OwnBlock h ++ below) (effect_from k) (λ xs i. skip xs (OwnBlock h) below i) (λ p t. closing_from h final.1 p t) pc s)
+          (attempt_from k (touches w at (Try k hang h)) (does_block w at enter h) below (OwnBlock h ++ below) (effect_from k) (λ xs i. sublist_behind xs (OwnBlock h) below i) (λ p t. closing_from h final.1 p t) pc s)
       final_from (If hang e a b) final pc s =
           select_from e (touches w at (If hang e a b)) (does_block w at enter a) (does_block w at enter b) ((OwnBlock a ++ OwnBlock b) ++ below)
-          (λ p t. between _ (OwnBlock a) (OwnBlock b) below (closing_from a final.0 p t))
-          (λ p t. subst (λ ys. From (does_block w at enter b p t) ys) (sym (append_assoc (OwnBlock a) (OwnBlock b) below)) (skip _ (OwnBlock a) (OwnBlock b ++ below) (closing_from b final.1 p t))) pc s
+          (λ p t. sublist_between _ (OwnBlock a) (OwnBlock b) below (closing_from a final.0 p t))
+          (λ p t. subst (λ ys. From (does_block w at enter b p t) ys) (sym (append_assoc (OwnBlock a) (OwnBlock b) below)) (sublist_behind _ (OwnBlock a) (OwnBlock b ++ below) (closing_from b final.1 p t))) pc s
       final_from (TryThen k hang a b) final pc s =
           subst (λ ys. From (attempt_then w at enter k (touches w at (TryThen k hang a b)) (does_block w at enter a) (does_block w at enter b) pc s) ys)
           (sym (append_assoc (Own k) (OwnBlock a ++ OwnBlock b) below))
           (attempt_then_from k final.0 (touches w at (TryThen k hang a b)) (does_block w at enter a) (does_block w at enter b) ((OwnBlock a ++ OwnBlock b) ++ below)
-          (λ p t. between _ (OwnBlock a) (OwnBlock b) below (closing_from a final.1 p t))
-          (λ p t. subst (λ ys. From (does_block w at enter b p t) ys) (sym (append_assoc (OwnBlock a) (OwnBlock b) below)) (skip _ (OwnBlock a) (OwnBlock b ++ below) (closing_from b final.2 p t))) pc s)
+          (λ p t. sublist_between _ (OwnBlock a) (OwnBlock b) below (closing_from a final.1 p t))
+          (λ p t. subst (λ ys. From (does_block w at enter b p t) ys) (sym (append_assoc (OwnBlock a) (OwnBlock b) below)) (sublist_behind _ (OwnBlock a) (OwnBlock b ++ below) (closing_from b final.2 p t))) pc s)
       final_from (Case hang e arms) final pc s =
           pick_from e (touches w at (Case hang e arms)) (does_arms w at enter arms) (OwnArms arms ++ below) (λ v p t. closing_arms arms final v p t) pc s
 
@@ -191,9 +167,9 @@ module _ (w : World) where
       closing_arms (Last b) closes v pc s = closing_from b closes pc s
       closing_arms (Arm cs b arms) closes v pc s =
           choose_all (λ z. From z ((OwnBlock b ++ OwnArms arms) ++ below)) cs (does_block w at enter b) (does_arms w at enter arms) v pc s
-          (between _ (OwnBlock b) (OwnArms arms) below (closing_from b closes.0 pc s))
+          (sublist_between _ (OwnBlock b) (OwnArms arms) below (closing_from b closes.0 pc s))
           (subst (λ ys. From (does_arms w at enter arms v pc s) ys) (sym (append_assoc (OwnBlock b) (OwnArms arms) below))
-          (skip _ (OwnBlock b) (OwnArms arms ++ below) (closing_arms arms closes.1 v pc s)))
+          (sublist_behind _ (OwnBlock b) (OwnArms arms ++ below) (closing_arms arms closes.1 v pc s)))
 
       pub closing_from : (b : Block) → Closes b → (pc : ℕ) (s : Store) → From (does_block w at enter b pc s) (OwnBlock b ++ below)
       closing_from End closes pc s = absurd closes
@@ -202,7 +178,7 @@ module _ (w : World) where
       closing_from (Then c (Then d ds)) closes pc s =
           rw (refused-append (does w at enter c pc s).refused)
           (subst (λ ys. Sublist (refused_sites (does w at enter c pc s).refused ++ refused_sites (does_block w at enter (Then d ds) pc (does w at enter c pc s).store).refused) ys) (sym (append_assoc (sites w at.state at.children c) (OwnBlock (Then d ds)) below))
-          (joins _ (sites w at.state at.children c) _ (OwnBlock (Then d ds) ++ below) (open_from c closes.0 pc s) (closing_from (Then d ds) closes.1 pc _)))
+          (sublist_append _ (sites w at.state at.children c) _ (OwnBlock (Then d ds) ++ below) (open_from c closes.0 pc s) (closing_from (Then d ds) closes.1 pc _)))
 
   mutual
     unfolding does_state does_child
@@ -212,14 +188,14 @@ module _ (w : World) where
 
     child_from : (g : Group) (p : ℕ) (q : Group) (n : ℕ) → FineGroup w q n g → (m pc : ℕ) (s : Store) → From (does_child w g p m pc s) (group_sites w g)
     child_from None p q n fine m pc s = tt
-    child_from (More t g) p q n fine zero pc s = more _ (state_sites w t) (group_sites w g) (state_from t p q n fine.0 pc s)
-    child_from (More t g) p q n fine (suc m) pc s = skip _ (state_sites w t) (group_sites w g) (child_from g p q (suc n) fine.1 m pc s)
+    child_from (More t g) p q n fine zero pc s = sublist_front _ (state_sites w t) (group_sites w g) (state_from t p q n fine.0 pc s)
+    child_from (More t g) p q n fine (suc m) pc s = sublist_behind _ (state_sites w t) (group_sites w g) (child_from g p q (suc n) fine.1 m pc s)
 
   root_from : (hang : ℕ → Bool) (p : ℕ) (g : Group) (q : Group) (n : ℕ) → FineGroup w q n g → (m : ℕ) (s : Store) → From (root_fall w hang (λ t. does_state w t p) g m s) (group_sites w g)
   unfolding root_fall
   root_from hang p None q n fine m s = tt
-  root_from hang p (More (Node c b k) g) q n fine zero s = more _ (state_sites w (Node c b k)) (group_sites w g) (state_from (Node c b k) p q n fine.0 _ _)
-  root_from hang p (More (Node c b k) g) q n fine (suc m) s = skip _ (state_sites w (Node c b k)) (group_sites w g) (root_from hang p g q (suc n) fine.1 m s)
+  root_from hang p (More (Node c b k) g) q n fine zero s = sublist_front _ (state_sites w (Node c b k)) (group_sites w g) (state_from (Node c b k) p q n fine.0 _ _)
+  root_from hang p (More (Node c b k) g) q n fine (suc m) s = sublist_behind _ (state_sites w (Node c b k)) (group_sites w g) (root_from hang p g q (suc n) fine.1 m s)
 
 pub sites_law : SitesInOrder
 unfolding cycle

@@ -1,12 +1,12 @@
 -- The sample program meets the premises.
 use Rattle.std.proofs.Common.{◌≡◌, ℕ, zero, suc, ◌<◌, ◌^◌, Bool, true, false, ◌&&◌, ◌||◌, [], refl, arith, nat_eq, inl, inr, if◌then◌else◌}
-use Rattle.std.proofs.lemmas.Bool.{cases_Bool}
+use Rattle.std.proofs.lemmas.Bool.{cases_Bool, eqb-true, or_cases}
 use Rattle.std.proofs.lemmas.Grind.{common_steps}
+use Rattle.sap_lemmas.proofs.Bools.{and_false}
 use Rattle.sap_lattice.specs.Order.{Laws}
 use Rattle.sap_maps.specs.Term.{constant, read, cell, two}
 use Rattle.sap_bits.specs.declared.Op2.TheVariants.{Eq}
 use Rattle.sap_meaning.specs.Program.{entity, is_dynamic, is_input, authority, width, below, listed, Set, Write, Goto, Fall, Command, Do, Try, If, End, Then, Node, None, More}
-use Rattle.sap_meaning.proofs.Bools.{or_of, same_number}
 use Rattle.sap_meaning.specs.Checks.{Spot}
 use Rattle.sap_meaning.specs.Touches.{touches, root_touches}
 use Rattle.sap_meaning.specs.Fine.{FineNode, FineProgram, ExactProgram, ExactList, reaches, block_reaches, OnceState, inside}
@@ -135,17 +135,13 @@ above : (x : ℕ) → two_levels.le (authority sample_world x) (entity sample_wo
 above = each (λ x. two_levels.le (authority sample_world x) (entity sample_world x).declared) (λ x. true) refl refl refl refl refl refl refl refl refl (λ x. refl)
 
 in_kids : (x : ℕ) → inside sample_kids x ≡ true → below sample_world 5 x ≡ true
-in_kids x h = elim (or_of (nat_eq x 6) _ h) [
-  | inl e ↦ rw (same_number x 6 e) refl
-  | inr e ↦ elim (or_of (nat_eq x 7) false e) [ inl f ↦ rw (same_number x 7 f) refl | inr f ↦ cc ]
+in_kids x h = elim (or_cases (nat_eq x 6) _ h) [
+  | inl e ↦ rw (eqb-true x 6 e) refl
+  | inr e ↦ elim (or_cases (nat_eq x 7) false e) [ inl f ↦ rw (eqb-true x 7 f) refl | inr f ↦ cc ]
 ]
 
-nothing : (b : Bool) → (b && false) ≡ false
-nothing true = refl
-nothing false = refl
-
 differ : (m j k : ℕ) → nat_eq j k ≡ false → nat_eq m j ≡ true → nat_eq m k ≡ false
-differ m j k e h = rw (same_number m j h) e
+differ m j k e h = rw (eqb-true m j h) e
 
 apart : (m : ℕ) → (reaches sample_kids (Do (Write 3 4 (read 0) (read 1))) m && block_reaches sample_kids (Then choosing End) m) ≡ false
 apart m = elim (cases_Bool (nat_eq m 4)) [
@@ -154,10 +150,10 @@ apart m = elim (cases_Bool (nat_eq m 4)) [
 ]
 
 after_seven : (x : ℕ) → inside (More (Node 8 body_q None) None) x ≡ true → 7 < x
-after_seven x h = elim (or_of (nat_eq x 8) false h) [ inl e ↦ (let f = same_number x 8 e in omega arith) | inr e ↦ cc ]
+after_seven x h = elim (or_cases (nat_eq x 8) false h) [ inl e ↦ (let f = eqb-true x 8 e in omega arith) | inr e ↦ cc ]
 
 after_six : (x : ℕ) → inside (More (Node 7 body_d None) None) x ≡ true → 6 < x
-after_six x h = elim (or_of (nat_eq x 7) false h) [ inl e ↦ (let f = same_number x 7 e in omega arith) | inr e ↦ cc ]
+after_six x h = elim (or_cases (nat_eq x 7) false h) [ inl e ↦ (let f = eqb-true x 7 e in omega arith) | inr e ↦ cc ]
 
 node_p : FineNode sample_world sample_states 0 5 body_p sample_kids
 node_p = record {
@@ -216,18 +212,18 @@ node_q = record {
 }
 
 once_c : OnceState (Node 6 body_c None)
-once_c = (tt, (tt, (tt, tt, λ m. refl), λ m. refl), λ m. nothing (nat_eq m 3))
+once_c = (tt, (tt, (tt, tt, λ m. refl), λ m. refl), λ m. and_false (nat_eq m 3))
 
 once_d : OnceState (Node 7 body_d None)
 once_d = (tt, (tt, tt, λ m. refl), λ m. refl)
 
 once_q : OnceState (Node 8 body_q None)
-once_q = (tt, (tt, (tt, tt, λ m. refl), λ m. refl), λ m. nothing (nat_eq m 4))
+once_q = (tt, (tt, (tt, tt, λ m. refl), λ m. refl), λ m. and_false (nat_eq m 4))
 
 once_p : OnceState (Node 5 body_p sample_kids)
 once_p = (
   (tt, (tt, tt, λ m. refl), λ m. refl),
-  (tt, (((tt, tt, λ m. refl), (((once_c, (once_d, tt)), (tt, tt, λ m. refl), λ m. refl), tt, λ m. nothing _)), tt, λ m. nothing _), apart),
+  (tt, (((tt, tt, λ m. refl), (((once_c, (once_d, tt)), (tt, tt, λ m. refl), λ m. refl), tt, λ m. and_false _)), tt, λ m. and_false _), apart),
   λ m. refl,
 )
 

@@ -1,27 +1,29 @@
 -- What writes, raises and resets do to numbers, levels and current children.
-use Rattle.std.proofs.Common.{◌≡◌, ℕ, Bool, true, false, not, refl, ap, arith, nat_eq, inl, inr, if◌then◌else◌}
-use Rattle.std.proofs.lemmas.Bool.{cases_Bool}
+use Rattle.std.proofs.Common.{◌≡◌, ℕ, Bool, true, false, refl, ap, arith, nat_eq, inl, inr, if◌then◌else◌}
+use Rattle.std.proofs.lemmas.Bool.{cases_Bool, eqb-true}
 use Rattle.std.proofs.lemmas.Grind.{common_steps}
+use Rattle.sap_lemmas.proofs.Bools.{and_left, and_right}
+use Rattle.sap_lemmas.proofs.Numbers.{test_of_same}
+use Rattle.sap_meaning.proofs.ProgramLemmas.{register_no_memory_test, state_no_memory_test}
 use Rattle.sap_lattice.specs.Order.{Order}
-use Rattle.sap_meaning.specs.Program.{World, Kind, input, register, memory, state, entity, kind_is_register, kind_is_memory, kind_is_state, is_dynamic, is_register, is_state, below}
+use Rattle.sap_meaning.specs.Program.{World, entity, is_dynamic, is_register, is_state, below}
 use Rattle.sap_meaning.specs.Store.{Slot, own, start, next, start_whole, next_whole, Store, owner, home, number, level, child, same_slot, put_number, put_level, put_child, raised, raise, lowered, reset, source, settle, held}
-use Rattle.sap_meaning.proofs.Bools.{and_left, and_right, eq_self, same_number}
 
 pub slot_self : (z : Slot) → same_slot z z ≡ true
-slot_self (own x) = eq_self x
-slot_self (start m i) = grind (arith, common_steps, eq_self m, eq_self i)
-slot_self (next m i) = grind (arith, common_steps, eq_self m, eq_self i)
-slot_self (start_whole m) = eq_self m
-slot_self (next_whole m) = eq_self m
+slot_self (own x) = test_of_same x
+slot_self (start m i) = grind (arith, common_steps, test_of_same m, test_of_same i)
+slot_self (next m i) = grind (arith, common_steps, test_of_same m, test_of_same i)
+slot_self (start_whole m) = test_of_same m
+slot_self (next_whole m) = test_of_same m
 
 pub slot_same : (y z : Slot) → same_slot y z ≡ true → y ≡ z
-slot_same (own x) (own y) h = ap own (same_number x y h)
+slot_same (own x) (own y) h = ap own (eqb-true x y h)
 slot_same (start m i) (start n j) h =
-    let a = same_number m n (and_left _ _ h) in let b = same_number i j (and_right (nat_eq m n) _ h) in cc
+    let a = eqb-true m n (and_left _ _ h) in let b = eqb-true i j (and_right (nat_eq m n) _ h) in cc
 slot_same (next m i) (next n j) h =
-    let a = same_number m n (and_left _ _ h) in let b = same_number i j (and_right (nat_eq m n) _ h) in cc
-slot_same (start_whole m) (start_whole n) h = ap start_whole (same_number m n h)
-slot_same (next_whole m) (next_whole n) h = ap next_whole (same_number m n h)
+    let a = eqb-true m n (and_left _ _ h) in let b = eqb-true i j (and_right (nat_eq m n) _ h) in cc
+slot_same (start_whole m) (start_whole n) h = ap start_whole (eqb-true m n h)
+slot_same (next_whole m) (next_whole n) h = ap next_whole (eqb-true m n h)
 slot_same (own x) (start n j) h = cc
 slot_same (own x) (next n j) h = cc
 slot_same (own x) (start_whole n) h = cc
@@ -153,23 +155,11 @@ held_source w (next m i) h = h
 held_source w (start_whole m) h = cc
 held_source w (next_whole m) h = cc
 
-not_memory : (k : Kind) → kind_is_register k ≡ true → not (kind_is_memory k) ≡ true
-not_memory input h = refl
-not_memory register h = refl
-not_memory (memory d) h = cc
-not_memory (state p n) h = refl
-
 pub held_register : (w : World) (x : ℕ) → is_register w x ≡ true → held w (own x) ≡ true
-held_register w x h = not_memory (entity w x).kind h
-
-no_memory : (k : Kind) → kind_is_state k ≡ true → not (kind_is_memory k) ≡ true
-no_memory input h = refl
-no_memory register h = refl
-no_memory (memory d) h = cc
-no_memory (state p n) h = refl
+held_register w x h = register_no_memory_test (entity w x).kind h
 
 pub held_state : (w : World) (x : ℕ) → is_state w x ≡ true → held w (own x) ≡ true
-held_state w x h = no_memory (entity w x).kind h
+held_state w x h = state_no_memory_test (entity w x).kind h
 
 pub level_settle : (w : World) (z : Slot) (s : Store) → level w z (settle s) ≡ level w (source z) s
 unfolding settle

@@ -1,11 +1,10 @@
 -- The states of a tree by their places.
 use Rattle.std.proofs.Common.{◌≡◌, ℕ, zero, suc, ◌+◌, ◌<◌, true, refl, sym, ap, ◌∙◌, subst, arith, nat_eq, inl, inr}
-use Rattle.std.proofs.lemmas.Bool.{cases_Bool}
+use Rattle.std.proofs.lemmas.Bool.{cases_Bool, eqb-true}
 use Rattle.sap_meaning.specs.Program.{World, children, place, State, Node, Group, None, More}
 use Rattle.sap_meaning.specs.Touches.{among}
 pub use Rattle.sap_meaning.specs.Fine.{Nth}
 use Rattle.sap_meaning.specs.Fine.{FineState, FineGroup, size, number_of}
-use Rattle.sap_meaning.proofs.Bools.{same_number}
 
 pub nth_size : (g : Group) (n : ℕ) (a : State) → Nth g n a → n < size g
 nth_size None n a h = absurd h
@@ -25,7 +24,7 @@ nth_same (More c g) (suc n) a b h k = nth_same g n a b h k
 pub among_nth : (g : Group) (x : ℕ) → among g x ≡ true → (n : ℕ) × (a : State) × Nth g n a × (number_of a ≡ x)
 among_nth None x h = cc
 among_nth (More (Node s b k) g) x h = elim (cases_Bool (nat_eq x s)) [
-  | inl e ↦ (zero, Node s b k, refl, sym (same_number x s e))
+  | inl e ↦ (zero, Node s b k, refl, sym (eqb-true x s e))
   | inr e ↦ (let r = among_nth g x (rw e at h) in (suc r.0, r.1, r.2, r.3))
 ]
 

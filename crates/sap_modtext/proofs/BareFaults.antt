@@ -4,6 +4,7 @@ use Rattle.std.specs.Prelude.{◌⊎◌, ◌||◌, map, flat_map, IsSome, option
 use Rattle.std.specs.Str.{bytes_eq}
 use Rattle.std.proofs.Common.{inl, inr}
 use Rattle.std.specs.List.{list_any}
+use Rattle.std.proofs.lemmas.List.{map-append}
 use Rattle.sap_bits.specs.declared.Op1.{Op1}
 use Rattle.sap_bits.specs.declared.Op2.{Op2}
 use Rattle.sap_modtext.specs.Items.{Mention, Number, Operand, Constant, Right, Item, Port, Direction, File}
@@ -24,10 +25,6 @@ bare_target t = record { setting = t.setting; name = bare_name t.name }
 abbrev bare_use : Use → Use
 bare_use u = record { manner = u.manner; name = bare_name u.name }
 
-map_append : {A B : Type 0} (f : A → B) (xs ys : List A) → map f (xs ++ ys) ≡ map f xs ++ map f ys
-map_append f [] ys = refl
-map_append f (x ∷ xs) ys = ap (λ zs. f x ∷ zs) (map_append f xs ys)
-
 ports_declared : (ps : List Port) → map port_declaration (map bare_port ps) ≡ map bare_declaration (map port_declaration ps)
 ports_declared [] = refl
 ports_declared (p ∷ ps) = ap (λ ds. bare_declaration (port_declaration p) ∷ ds) (ports_declared ps)
@@ -47,12 +44,12 @@ items_declared : (xs : List Item) → flat_map item_declarations (map bare_item 
 items_declared [] = refl
 items_declared (x ∷ xs) =
     ap (λ ds. ds ++ flat_map item_declarations (map bare_item xs)) (item_declared x) ∙ ap (λ ds. map bare_declaration (item_declarations x) ++ ds) (items_declared xs)
-    ∙ sym (map_append bare_declaration (item_declarations x) (flat_map item_declarations xs))
+    ∙ sym (map-append bare_declaration (item_declarations x) (flat_map item_declarations xs))
 
 pub all_declared : (ps : List Port) (xs : List Item) → declarations (map bare_port ps) (map bare_item xs) ≡ map bare_declaration (declarations ps xs)
 all_declared ps xs =
     ap (λ ds. ds ++ flat_map item_declarations (map bare_item xs)) (ports_declared ps) ∙ ap (λ ds. map bare_declaration (map port_declaration ps) ++ ds) (items_declared xs)
-    ∙ sym (map_append bare_declaration (map port_declaration ps) (flat_map item_declarations xs))
+    ∙ sym (map-append bare_declaration (map port_declaration ps) (flat_map item_declarations xs))
 
 pub bare_shape_in : (ds : List Declaration) (n : List ℕ) → shape_in (map bare_declaration ds) n ≡ shape_in ds n
 bare_shape_in [] n = refl
@@ -104,15 +101,15 @@ bare_operand_constants (item.constant c) = refl
 
 module _ {A : Type 0} (f : A → A) (of : Operand → List A) (one : (x : Operand) → of (bare_operand x) ≡ map f (of x)) where
   two_of : (x y : Operand) → of (bare_operand x) ++ of (bare_operand y) ≡ map f (of x ++ of y)
-  two_of x y = ap (λ z. z ++ of (bare_operand y)) (one x) ∙ ap (λ z. map f (of x) ++ z) (one y) ∙ sym (map_append f (of x) (of y))
+  two_of x y = ap (λ z. z ++ of (bare_operand y)) (one x) ∙ ap (λ z. map f (of x) ++ z) (one y) ∙ sym (map-append f (of x) (of y))
 
   three_of : (x y z : Operand) → of (bare_operand x) ++ (of (bare_operand y) ++ of (bare_operand z)) ≡ map f (of x ++ (of y ++ of z))
   three_of x y z =
-      ap (λ w. w ++ (of (bare_operand y) ++ of (bare_operand z))) (one x) ∙ ap (λ w. map f (of x) ++ w) (two_of y z) ∙ sym (map_append f (of x) (of y ++ of z))
+      ap (λ w. w ++ (of (bare_operand y) ++ of (bare_operand z))) (one x) ∙ ap (λ w. map f (of x) ++ w) (two_of y z) ∙ sym (map-append f (of x) (of y ++ of z))
 
   all_of : (xs : List Operand) → flat_map of (map bare_operand xs) ≡ map f (flat_map of xs)
   all_of [] = refl
-  all_of (x ∷ xs) = ap (λ z. z ++ flat_map of (map bare_operand xs)) (one x) ∙ ap (λ z. map f (of x) ++ z) (all_of xs) ∙ sym (map_append f (of x) (flat_map of xs))
+  all_of (x ∷ xs) = ap (λ z. z ++ flat_map of (map bare_operand xs)) (one x) ∙ ap (λ z. map f (of x) ++ z) (all_of xs) ∙ sym (map-append f (of x) (flat_map of xs))
 
 bare_right_uses : (right : Right) → right_uses (bare_right right) ≡ map bare_use (right_uses right)
 bare_right_uses (item.copy x) = bare_operand_uses x
@@ -136,7 +133,7 @@ bare_uses (item.always_cell condition x index value) =
     let target : Use = record { manner = Faults.as_memory; name = x } in
     ap (λ us. us ++ (bare_use target ∷ (operand_uses (bare_operand index) ++ operand_uses (bare_operand value)))) (bare_operand_uses condition)
     ∙ ap (λ us. map bare_use (operand_uses condition) ++ (bare_use target ∷ us)) (two_of bare_use operand_uses bare_operand_uses index value)
-    ∙ sym (map_append bare_use (operand_uses condition) (target ∷ (operand_uses index ++ operand_uses value)))
+    ∙ sym (map-append bare_use (operand_uses condition) (target ∷ (operand_uses index ++ operand_uses value)))
 
 bare_right_constants : (right : Right) → right_constants (bare_right right) ≡ map bare_constant (right_constants right)
 bare_right_constants (item.copy x) = bare_operand_constants x
@@ -230,7 +227,7 @@ bare_item_of : (f : File) (a : Above) (x : Item) → IsItemOf f a x → IsItemOf
 bare_item_of f a x h = record {
   below = map bare_item h.below;
   ports = ap (map bare_port) h.ports;
-  items = ap (map bare_item) h.items ∙ map_append bare_item a.items (x ∷ h.below);
+  items = ap (map bare_item) h.items ∙ map-append bare_item a.items (x ∷ h.below);
 }
 
 among_map : {A B : Type 0} (f : A → B) (x : A) (xs : List A) → Among x xs → Among (f x) (map f xs)
@@ -244,7 +241,7 @@ among_uses x u h = subst (λ us. Among (bare_use u) us) (sym (bare_uses x)) (amo
 v3_bare : (f : File) (p : ℕ) → V3 f p → V3 (bare f) 0
 v3_bare f p (Faults.declared_before before after d e s) =
     Faults.declared_before (map bare_declaration before) (map bare_declaration after) (bare_declaration d)
-    (all_declared f.ports f.items ∙ ap (map bare_declaration) e ∙ map_append bare_declaration before (d ∷ after))
+    (all_declared f.ports f.items ∙ ap (map bare_declaration) e ∙ map-append bare_declaration before (d ∷ after))
     (subst IsSome (sym (bare_shape_in before d.name.name)) s)
 v3_bare f p (Faults.second_integer {above = a} h e) = Faults.second_integer (bare_item_of f a _ h) (bare_has_integer a.items ∙ e)
 v3_bare f p (Faults.set_before {above = a} {x = x} t h e s g) =

@@ -1,8 +1,10 @@
 -- What a file without a fault has, item by item.
-use Rattle.std.proofs.Common.{◌≡◌, ◌≢◌, ℕ, ◌+◌, ◌^◌, ◌<◌, ◌≤◌, List, [], ◌∷◌, ◌++◌, Bool, true, false, cond, Option, Some, None, refl, sym, ap, ◌∙◌, subst, inl, inr, arith, append_assoc}
-use Rattle.std.specs.Prelude.{◌⊎◌, ◌||◌, map, IsSome, is_some}
+use Rattle.std.proofs.Common.{◌≡◌, ◌≢◌, ℕ, ◌+◌, ◌^◌, ◌<◌, ◌≤◌, List, [], ◌∷◌, ◌++◌, true, false, cond, Option, Some, None, refl, sym, ap, ◌∙◌, subst, inl, inr, arith, append_assoc}
+use Rattle.std.specs.Prelude.{◌⊎◌, map, IsSome, is_some}
 use Rattle.std.specs.List.{AllByRecursion}
 use Rattle.std.specs.Str.{bytes_eq}
+use Rattle.std.proofs.lemmas.Bool.{or_parts}
+use Rattle.std.proofs.lemmas.List.{append-nil}
 use Rattle.sap_net.specs.Names.{is_among, AreDistinct}
 use Rattle.sap_modtext.specs.Items.{Mention, Number, Operand, Constant, Right, Item, Port, File}
 use Rattle.sap_modtext.specs.Items as item
@@ -57,16 +59,12 @@ pub record IsGood (f : File) : Type 0 where
 
 -- Such a file has no fault.
 
-append_nil : (xs : List Item) → xs ++ [] ≡ xs
-append_nil [] = refl
-append_nil (x ∷ xs) = ap (λ ys. x ∷ ys) (append_nil xs)
-
 good_at : (ps : List Port) (before xs ys : List Item) (x : Item) (zs : List Item) → AreGood ps before xs → xs ≡ ys ++ x ∷ zs → IsGoodItem (above_of ps (before ++ ys)) x
 good_at ps before [] [] x zs h e = absurd (cc)
 good_at ps before [] (y ∷ ys) x zs h e = absurd (cc)
 good_at ps before (w ∷ xs) [] x zs h e =
     let same : w ≡ x = cc in
-    subst (λ z. IsGoodItem (above_of ps z) x) (sym (append_nil before)) (subst (λ z. IsGoodItem (above_of ps before) z) same h.0)
+    subst (λ z. IsGoodItem (above_of ps z) x) (sym (append-nil before)) (subst (λ z. IsGoodItem (above_of ps before) z) same h.0)
 good_at ps before (w ∷ xs) (y ∷ ys) x zs h e =
     let same : w ≡ y = cc in
     let rest : xs ≡ ys ++ x ∷ zs = cc in
@@ -81,17 +79,13 @@ among_all P x [] h m = absurd m
 among_all P x (y ∷ ys) h (inl e) = subst P (sym e) h.0
 among_all P x (y ∷ ys) h (inr m) = among_all P x ys h.1 m
 
-or_false : (a b : Bool) → (a || b) ≡ false → (a ≡ false) × (b ≡ false)
-or_false true b h = absurd (cc)
-or_false false b h = (refl, h)
-
 no_shape : (before after : List Declaration) (d : Declaration) → AreDistinct (map (λ e. e.name.name) (before ++ d ∷ after)) → shape_in before d.name.name ≡ None
 no_shape [] after d h = refl
 no_shape (e ∷ before) after d h =
     ap (λ b. cond b (Some e.shape) (shape_in before d.name.name)) (apart before h.0) ∙ no_shape before after d h.1 where
       apart : (ds : List Declaration) → is_among e.name.name (map (λ z. z.name.name) (ds ++ d ∷ after)) ≡ false → bytes_eq e.name.name d.name.name ≡ false
-      apart [] q = (or_false (bytes_eq e.name.name d.name.name) _ q).0
-      apart (c ∷ ds) q = apart ds (or_false (bytes_eq e.name.name c.name.name) _ q).1
+      apart [] q = (or_parts (bytes_eq e.name.name d.name.name) _ q).0
+      apart (c ∷ ds) q = apart ds (or_parts (bytes_eq e.name.name c.name.name) _ q).1
 
 v3_none : (f : File) → IsGood f → (p : ℕ) → V3 f p → ⊥
 v3_none f g p (fault.declared_before before after d e s) =

@@ -6,3 +6,5 @@ pub mod NameLists
 pub mod OneFile
 pub mod OneLexing
 pub mod Tokens
+pub mod FaultsLemmas
+pub mod LexingLemmas

@@ -1,42 +1,20 @@
 -- Lists of names, lists with names as keys, and what stands on a list.
-use Rattle.std.proofs.Common.{◌≡◌, List, [], ◌∷◌, ◌++◌, Bool, true, false, cond, Option, Some, None, refl, sym, ap, ◌∙◌, subst, inl, inr, ⊎_elim, append_assoc}
-use Rattle.std.specs.Prelude.{◌⊎◌, ◌||◌, map, flat_map, is_some}
+use Rattle.std.proofs.Common.{◌≡◌, List, [], ◌∷◌, ◌++◌, Bool, true, false, cond, Option, Some, None, refl, sym, ap, ◌∙◌, subst, inl, inr, ⊎_elim}
+use Rattle.std.specs.Prelude.{◌⊎◌, ◌||◌, map, is_some}
 use Rattle.std.specs.List.{AllByRecursion}
 use Rattle.std.specs.Str.{bytes_eq}
-use Rattle.std.proofs.lemmas.Bool.{cases_Bool}
+use Rattle.std.proofs.lemmas.Bool.{cases_Bool, or_from, or_right as or_here, or_parts}
+use Rattle.sap_lemmas.proofs.Texts.{bytes_eq_apart_back, bytes_eq_same, equal_of_bytes_eq}
+use Rattle.std.proofs.lemmas.List.{map-append}
+use Rattle.sap_net.proofs.NamesLemmas.{among_append}
 use Rattle.sap_maps.specs.Maps.{Name}
 use Rattle.sap_maps.specs.Scope.{find}
-use Rattle.sap_maps.proofs.Scopes.{name_is, same_name, apart_back}
 use Rattle.sap_net.specs.Names.{is_among, AreDistinct}
 use Rattle.sap_modtext.specs.Faults.{Among}
 
 -- Tests.
 
-pub or_here : (a b : Bool) → b ≡ true → (a || b) ≡ true
-or_here true b h = refl
-or_here false b h = h
-
-pub or_none : (a b : Bool) → a ≡ false → b ≡ false → (a || b) ≡ false
-or_none true b p q = absurd (cc)
-or_none false b p q = q
-
-pub or_right : (a b c : Bool) → (b ≡ true → c ≡ true) → (a || b) ≡ true → (a || c) ≡ true
-or_right true b c f h = refl
-or_right false b c f h = f h
-
-pub or_first : (a b : Bool) → (a || b) ≡ false → (a ≡ false) × (b ≡ false)
-or_first true b h = absurd (cc)
-or_first false b h = (refl, h)
-
 -- Lists.
-
-pub map_append : {A B : Type 0} (f : A → B) (xs ys : List A) → map f (xs ++ ys) ≡ map f xs ++ map f ys
-map_append f [] ys = refl
-map_append f (x ∷ xs) ys = ap (λ z. f x ∷ z) (map_append f xs ys)
-
-pub flat_map_append : {A B : Type 0} (f : A → List B) (xs ys : List A) → flat_map f (xs ++ ys) ≡ flat_map f xs ++ flat_map f ys
-flat_map_append f [] ys = refl
-flat_map_append f (x ∷ xs) ys = ap (λ z. f x ++ z) (flat_map_append f xs ys) ∙ sym (append_assoc (f x) (flat_map f xs) (flat_map f ys))
 
 pub among_left : {A : Type 0} (x : A) (xs ys : List A) → Among x xs → Among x (xs ++ ys)
 among_left x [] ys m = absurd m
@@ -59,31 +37,24 @@ among_mapped f x (y ∷ xs) (inr m) = inr (among_mapped f x xs m)
 
 -- Names.
 
-pub among_append : (x : Name) (xs ys : List Name) → is_among x (xs ++ ys) ≡ (is_among x xs || is_among x ys)
-among_append x [] ys = refl
-among_append x (y ∷ xs) ys = ap (λ b. bytes_eq x y || b) (among_append x xs ys) ∙ or_assoc (bytes_eq x y) (is_among x xs) (is_among x ys) where
-  or_assoc : (a b c : Bool) → (a || (b || c)) ≡ ((a || b) || c)
-  or_assoc true b c = refl
-  or_assoc false b c = refl
-
 pub among_name : {A : Type 0} (name : A → Name) (y : A) (xs : List A) → Among y xs → is_among (name y) (map name xs) ≡ true
 among_name name y [] m = absurd m
 among_name name y (x ∷ xs) (inl e) =
-    ap (λ b. b || is_among (name y) (map name xs)) (subst (λ z. bytes_eq (name y) (name z) ≡ true) e (same_name (name y)))
+    ap (λ b. b || is_among (name y) (map name xs)) (subst (λ z. bytes_eq (name y) (name z) ≡ true) e (bytes_eq_same (name y)))
 among_name name y (x ∷ xs) (inr m) = or_here (bytes_eq (name y) (name x)) (is_among (name y) (map name xs)) (among_name name y xs m)
 
 pub named_among : {A : Type 0} (name : A → Name) (xs : List A) (x : Name) → is_among x (map name xs) ≡ true → (y : A) × Among y xs × (name y ≡ x)
 named_among name [] x m = absurd (cc)
 named_among name (y ∷ ys) x m =
     ⊎_elim
-    (λ t. (y, inl refl, sym (name_is x (name y) t)))
+    (λ t. (y, inl refl, sym (equal_of_bytes_eq x (name y) t)))
     (λ f. let r = named_among name ys x (ap (λ b. b || is_among x (map name ys)) (sym f) ∙ m) in (r.0, inr r.1, r.2))
     (cases_Bool (bytes_eq x (name y)))
 
 pub all_from : (P : Name → Type 0) (xs zs : List Name) → ((x : Name) → is_among x zs ≡ true → P x) → ((x : Name) → is_among x xs ≡ true → is_among x zs ≡ true) → AllByRecursion P xs
 all_from P [] zs f g = tt
 all_from P (x ∷ xs) zs f g =
-    (f x (g x (ap (λ b. b || is_among x xs) (same_name x))), all_from P xs zs f (λ y m. g y (or_here (bytes_eq y x) (is_among y xs) m)))
+    (f x (g x (ap (λ b. b || is_among x xs) (bytes_eq_same x))), all_from P xs zs f (λ y m. g y (or_here (bytes_eq y x) (is_among y xs) m)))
 
 -- no name of the first list stands on the second
 abbrev pub NoneAmong : List Name → List Name → Type 0
@@ -93,13 +64,13 @@ pub not_among : (xs ys : List Name) (x : Name) → NoneAmong xs ys → is_among 
 not_among [] ys x h m k = absurd (cc)
 not_among (z ∷ xs) ys x h m k =
     ⊎_elim
-    (λ t. let e : is_among x ys ≡ false = subst (λ v. is_among v ys ≡ false) (sym (name_is x z t)) h.0 in absurd (cc))
+    (λ t. let e : is_among x ys ≡ false = subst (λ v. is_among v ys ≡ false) (sym (equal_of_bytes_eq x z t)) h.0 in absurd (cc))
     (λ f. not_among xs ys x h.1 m (ap (λ b. b || is_among x xs) (sym f) ∙ k))
     (cases_Bool (bytes_eq x z))
 
 pub none_among_append : (xs ys zs : List Name) → NoneAmong xs ys → NoneAmong xs zs → NoneAmong xs (ys ++ zs)
 none_among_append [] ys zs p q = tt
-none_among_append (x ∷ xs) ys zs p q = (among_append x ys zs ∙ or_none _ _ p.0 q.0, none_among_append xs ys zs p.1 q.1)
+none_among_append (x ∷ xs) ys zs p q = (among_append x ys zs ∙ or_from _ _ p.0 q.0, none_among_append xs ys zs p.1 q.1)
 
 pub none_among_parts : (xs ys zs : List Name) → NoneAmong (xs ++ ys) zs → NoneAmong xs zs × NoneAmong ys zs
 none_among_parts [] ys zs h = (tt, h)
@@ -107,13 +78,13 @@ none_among_parts (x ∷ xs) ys zs h = let r = none_among_parts xs ys zs h.1 in (
 
 pub distinct_append : (xs ys : List Name) → AreDistinct xs → AreDistinct ys → NoneAmong xs ys → AreDistinct (xs ++ ys)
 distinct_append [] ys p q n = q
-distinct_append (x ∷ xs) ys p q n = (among_append x xs ys ∙ or_none _ _ p.0 n.0, distinct_append xs ys p.1 q n.1)
+distinct_append (x ∷ xs) ys p q n = (among_append x xs ys ∙ or_from _ _ p.0 n.0, distinct_append xs ys p.1 q n.1)
 
 pub distinct_parts : (xs ys : List Name) → AreDistinct (xs ++ ys) → AreDistinct xs × AreDistinct ys × NoneAmong xs ys
 distinct_parts [] ys h = (tt, h, tt)
 distinct_parts (x ∷ xs) ys h =
     let r = distinct_parts xs ys h.1 in
-    let s = or_first (is_among x xs) (is_among x ys) (sym (among_append x xs ys) ∙ h.0) in
+    let s = or_parts (is_among x xs) (is_among x ys) (sym (among_append x xs ys) ∙ h.0) in
     ((s.0, r.0), r.1, (s.1, r.2))
 
 -- Lists with names as keys.
@@ -127,7 +98,7 @@ AreNew [] = Unit {0}
 AreNew (e ∷ es) = (find es e.0 ≡ None) × AreNew es
 
 pub keys_append : {X : Type 0} (es ds : List (Name × X)) → keys (es ++ ds) ≡ keys es ++ keys ds
-keys_append es ds = map_append (λ e. e.0) es ds
+keys_append es ds = map-append (λ e. e.0) es ds
 
 pub keys_map : {A X : Type 0} (name : A → Name) (f : A → X) (xs : List A) → keys (map (λ x. (name x, f x)) xs) ≡ map name xs
 keys_map name f [] = refl
@@ -137,9 +108,9 @@ pub found_key : {X : Type 0} (es : List (Name × X)) (x : Name) → is_some (fin
 found_key [] x = refl
 found_key (e ∷ es) x =
     ⊎_elim
-    (λ t. let s : bytes_eq x e.0 ≡ true = subst (λ z. bytes_eq z e.0 ≡ true) (name_is e.0 x t) (same_name e.0) in
+    (λ t. let s : bytes_eq x e.0 ≡ true = subst (λ z. bytes_eq z e.0 ≡ true) (equal_of_bytes_eq e.0 x t) (bytes_eq_same e.0) in
     ap (λ b. is_some (cond b (Some e.1) (find es x))) t ∙ ap (λ b. b || is_among x (keys es)) (sym s))
-    (λ f. ap (λ b. is_some (cond b (Some e.1) (find es x))) f ∙ found_key es x ∙ ap (λ b. b || is_among x (keys es)) (sym (apart_back e.0 x f)))
+    (λ f. ap (λ b. is_some (cond b (Some e.1) (find es x))) f ∙ found_key es x ∙ ap (λ b. b || is_among x (keys es)) (sym (bytes_eq_apart_back e.0 x f)))
     (cases_Bool (bytes_eq e.0 x))
 
 pub none_key : {X : Type 0} (es : List (Name × X)) (x : Name) → find es x ≡ None → is_among x (keys es) ≡ false
@@ -166,7 +137,7 @@ pub among_found : {X : Type 0} (es : List (Name × X)) (x : Name) (s : X) → fi
 among_found [] x s f = absurd (cc)
 among_found {X = X} (e ∷ es) x s f =
     ⊎_elim
-    (λ t. let q : Some e.1 ≡ Some s = rw t at f in let p : e.1 ≡ s = cc in inl (pair_same (sym (name_is e.0 x t)) (sym p)))
+    (λ t. let q : Some e.1 ≡ Some s = rw t at f in let p : e.1 ≡ s = cc in inl (pair_same (sym (equal_of_bytes_eq e.0 x t)) (sym p)))
     (λ t. inr (among_found es x s (rw t at f)))
     (cases_Bool (bytes_eq e.0 x)) where
       pair_same : {n m : Name} {a b : X} → n ≡ m → a ≡ b → ◌≡◌ {A = Name × X} (n, a) (m, b)
@@ -177,10 +148,10 @@ found_among [] h x s m = absurd m
 found_among {X = X} (e ∷ es) h x s (inl p) =
     let q : x ≡ e.0 = ap (λ (z : Name × X). z.0) p in
     let r : s ≡ e.1 = ap (λ (z : Name × X). z.1) p in
-    ap (λ b. cond b (Some e.1) (find es x)) (subst (λ z. bytes_eq e.0 z ≡ true) (sym q) (same_name e.0)) ∙ ap (λ z. Some z) (sym r)
+    ap (λ b. cond b (Some e.1) (find es x)) (subst (λ z. bytes_eq e.0 z ≡ true) (sym q) (bytes_eq_same e.0)) ∙ ap (λ z. Some z) (sym r)
 found_among (e ∷ es) h x s (inr m) =
     let f = found_among es h.1 x s m in
     ⊎_elim
-    (λ t. let g : find es x ≡ None = subst (λ z. find es z ≡ None) (name_is e.0 x t) h.0 in absurd (cc))
+    (λ t. let g : find es x ≡ None = subst (λ z. find es z ≡ None) (equal_of_bytes_eq e.0 x t) h.0 in absurd (cc))
     (λ t. ap (λ b. cond b (Some e.1) (find es x)) t ∙ f)
     (cases_Bool (bytes_eq e.0 x))

@@ -1,52 +1,39 @@
 -- What the entities of a design without faults have: widths from 1 to 64, and numbers of 32 bits.
-use Rattle.std.proofs.Common.{◌≡◌, ◌∙◌, ℕ, zero, suc, ◌+◌, ◌<◌, ◌≤◌, ◌^◌, List, [], ◌∷◌, ◌++◌, length, Bool, true, false, cond, refl, ap, subst, arith, length-append}
-use Rattle.std.proofs.lemmas.List.Sums.{sum_by-cons}
+use Rattle.std.proofs.Common.{◌≡◌, ℕ, zero, suc, ◌+◌, ◌<◌, ◌≤◌, ◌^◌, List, [], ◌∷◌, ◌++◌, length, Bool, false, refl, subst, arith, length-append}
 use Rattle.std.proofs.lemmas.Grind.{common_steps}
 use Rattle.std.specs.Prelude.{Some, IsTrue, nat_le, ◌&&◌, slice_get, not}
 use Rattle.std.specs.List.{count_by}
-use Rattle.sap_tree.specs.declared.place.Place.{Place}
+use Rattle.sap_tree.proofs.DeclLemmas.{count_more}
+use Rattle.sap_names.proofs.NameFaultsLemmas.{no_fault}
+use Rattle.sap_names.proofs.FaultLemmas.{nil_left, nil_right}
 use Rattle.sap_tree.specs.declared.syntax.Numeral.{Numeral}
 use Rattle.sap_tree.specs.declared.syntax.Decl.{Decl}
 use Rattle.sap_tree.specs.declared.syntax.Decl.TheVariants.{Input, Register, Memory}
 use Rattle.sap_tree.specs.Syntax.{StateTree, StateOf, StateList, NoState, AndState, DesignTree}
 use Rattle.sap_tree.specs.Whole.{is_whole, is_tree, is_input, is_register, is_memory, state_count, states_count, states_depth, states_commands}
 use Rattle.sap_names.specs.Entities.{Entity, HasWidth, HaveWidths, declared_width, declared_in, entities_of, entity_of, group_entities, state_entities}
-use Rattle.sap_names.specs.Fault.{Fault}
-use Rattle.sap_names.specs.NameFaults.{declaration_faults, declarations_faults, design_name_faults, fault_if, width_faults}
+use Rattle.sap_names.specs.NameFaults.{declaration_faults, declarations_faults, design_name_faults, width_faults}
 use Rattle.sap_names.specs.Widths.{is_sound, sound_width}
-use Rattle.sap_names.specs.declared.kind.Code.{Code}
 use Rattle.sap_names.specs.declared.kind.Declared.{Declared}
 use Rattle.sap_names.specs.declared.kind.Declared.TheVariants as d
-
-first_none : (a b : List Fault) → a ++ b ≡ [] → a ≡ []
-first_none [] b h = refl
-first_none (f ∷ a) b h = absurd (cc)
-
-rest_none : (a b : List Fault) → a ++ b ≡ [] → b ≡ []
-rest_none [] b h = h
-rest_none (f ∷ a) b h = absurd (cc)
-
-not_faulty : (test : Bool) (code : Code) (place : Place) → fault_if test code place ≡ [] → test ≡ false
-not_faulty true code place h = absurd (cc)
-not_faulty false code place h = refl
 
 within_64 : (w : ℕ) → not (is_sound (sound_width w)) ≡ false → (1 ≤ w) × (w ≤ 64)
 within_64 w h = grind (arith, common_steps)
 
 fits : (width : Numeral) → width_faults width ≡ [] → (1 ≤ width.value) × (width.value ≤ 64)
-fits width h = within_64 width.value (not_faulty _ _ _ h)
+fits width h = within_64 width.value (no_fault _ _ _ h)
 
 module _ (levels : List (List ℕ)) (le : ℕ → ℕ → Bool) where
   declared_width-fits : (x : Decl) → declaration_faults levels le x ≡ [] → HasWidth (entity_of x).what
   declared_width-fits (Input place name width) h = fits width h
-  declared_width-fits (Register place name width kind start) h = fits width (first_none _ _ (first_none _ _ h))
-  declared_width-fits (Memory place name width depth kind) h = fits width (first_none _ _ (first_none _ _ h))
+  declared_width-fits (Register place name width kind start) h = fits width (nil_left _ _ (nil_left _ _ h))
+  declared_width-fits (Memory place name width depth kind) h = fits width (nil_left _ _ (nil_left _ _ h))
 
   declared-fit : (xs : List Decl) → declarations_faults levels le xs ≡ [] → HaveWidths (declared_in xs)
   declared-fit [] h = tt
   declared-fit (x ∷ xs) h = (
-    declared_width-fits x (first_none (declaration_faults levels le x) (declarations_faults levels le xs) h),
-    declared-fit xs (rest_none (declaration_faults levels le x) (declarations_faults levels le xs) h),
+    declared_width-fits x (nil_left (declaration_faults levels le x) (declarations_faults levels le xs) h),
+    declared-fit xs (nil_right (declaration_faults levels le x) (declarations_faults levels le xs) h),
   )
 
 have_widths-append : (es fs : List Entity) → HaveWidths es → HaveWidths fs → HaveWidths (es ++ fs)
@@ -64,7 +51,7 @@ mutual
 -- without faults, all entities that need one have a width
 pub faultless-fit : (levels : List (List ℕ)) (le : ℕ → ℕ → Bool) (x : DesignTree) → design_name_faults levels le x ≡ [] → HaveWidths (entities_of x)
 faultless-fit levels le x h =
-    have_widths-append (declared_in x.declarations) (group_entities x.states) (declared-fit levels le x.declarations (rest_none _ _ (first_none _ _ h))) (group-fit x.states)
+    have_widths-append (declared_in x.declarations) (group_entities x.states) (declared-fit levels le x.declarations (nil_right _ _ (nil_left _ _ h))) (group-fit x.states)
 
 width-fit : (w : Declared) → HasWidth w → declared_width w ≤ 64
 width-fit (d.Input width) h = h.1
@@ -77,18 +64,14 @@ width-fits [] n e h k = absurd (cc)
 width-fits (x ∷ es) zero e h k = let same : x ≡ e = cc in subst (λ (y : Entity). declared_width y.what ≤ 64) same (width-fit x.what h.0)
 width-fits (x ∷ es) (suc n) e h k = width-fits es n e h.1 k
 
--- as many entities as declarations and states
-count-cons : (p : Decl → Bool) (x : Decl) (xs : List Decl) (n : ℕ) → cond (p x) 1 0 ≡ n → count_by p (x ∷ xs) ≡ n + count_by p xs
-count-cons p x xs n h = sum_by-cons (λ (y : Decl). cond (p y) 1 0) x xs ∙ ap (λ (k : ℕ). k + count_by p xs) h
-
 length-declared : (xs : List Decl) → length (declared_in xs) ≡ count_by is_input xs + count_by is_register xs + count_by is_memory xs
 length-declared [] = refl
 length-declared (Input place name width ∷ xs) =
-    omega (arith, length-declared xs, count-cons is_input (Input place name width) xs 1 refl, count-cons is_register (Input place name width) xs 0 refl, count-cons is_memory (Input place name width) xs 0 refl)
+    omega (arith, length-declared xs, count_more is_input (Input place name width) xs 1 refl, count_more is_register (Input place name width) xs 0 refl, count_more is_memory (Input place name width) xs 0 refl)
 length-declared (Register place name width kind start ∷ xs) =
-    omega (arith, length-declared xs, count-cons is_input (Register place name width kind start) xs 0 refl, count-cons is_register (Register place name width kind start) xs 1 refl, count-cons is_memory (Register place name width kind start) xs 0 refl)
+    omega (arith, length-declared xs, count_more is_input (Register place name width kind start) xs 0 refl, count_more is_register (Register place name width kind start) xs 1 refl, count_more is_memory (Register place name width kind start) xs 0 refl)
 length-declared (Memory place name width depth kind ∷ xs) =
-    omega (arith, length-declared xs, count-cons is_input (Memory place name width depth kind) xs 0 refl, count-cons is_register (Memory place name width depth kind) xs 0 refl, count-cons is_memory (Memory place name width depth kind) xs 1 refl)
+    omega (arith, length-declared xs, count_more is_input (Memory place name width depth kind) xs 0 refl, count_more is_register (Memory place name width depth kind) xs 0 refl, count_more is_memory (Memory place name width depth kind) xs 1 refl)
 
 mutual
   unfolding state_count states_count

@@ -1,5 +1,6 @@
 -- The entities of lists of parts, from a place on.
 use Rattle.std.proofs.Common.{◌≡◌, ℕ, zero, suc, ◌+◌, ◌<◌, ◌≤◌, List, [], ◌∷◌, ◌++◌, length, get_or, drop, refl, sym, ap, ◌∙◌, arith, add-one, append_assoc}
+use Rattle.std.proofs.lemmas.List.{append-nil}
 use Rattle.sap_tree.specs.declared.syntax.Decl.{Decl}
 use Rattle.sap_tree.specs.declared.syntax.State.{State}
 use Rattle.sap_tree.specs.Trees.{state_of, states_of}
@@ -35,12 +36,8 @@ pub states_entities-all : (ss : List State) → states_entities ss ≡ group_ent
 unfolding states_entities
 states_entities-all ss = refl
 
-append-none : (es : List Entity) → es ++ [] ≡ es
-append-none [] = refl
-append-none (e ∷ es) = ap (λ (l : List Entity). e ∷ l) (append-none es)
-
 -- nothing is left
 pub states_rest : (es : List Entity) (ss : List State) (n : ℕ) (all : List Entity) → length ss ≤ n → es ++ states_entities (drop n ss) ≡ all → es ≡ all
-states_rest es ss n all h e = sym (append-none es) ∙ ap (λ (l : List Entity). es ++ l) (sym (states_entities-past ss n h)) ∙ e
+states_rest es ss n all h e = sym (append-nil es) ∙ ap (λ (l : List Entity). es ++ l) (sym (states_entities-past ss n h)) ∙ e
 
 pub ruleset groups = (declared_in-drop, declared_in-past, states_entities-drop, states_entities-past, states_entities-all, append_assoc)

@@ -9,3 +9,6 @@ pub mod Commands
 pub mod Numbers
 pub mod Twice
 pub mod Built
+pub mod EntityKindLemmas
+pub mod FaultLemmas
+pub mod NameFaultsLemmas

@@ -9,6 +9,7 @@ use Rattle.std.proofs.lemmas.Slice.Eq.{bytes_eq-Decides}
 use Rattle.std.specs.Prelude.{Option, Some, None, if◌then◌else◌, option_map, option_and_then, is_some, slice_get, option_copied, ltb, IfSome}
 use Rattle.std.specs.Option.{option_or}
 use Rattle.std.specs.Str.{bytes_eq}
+use Rattle.sap_lemmas.proofs.Options.{none_of_test}
 use Rattle.sap_names.specs.Entities.{Entity, find, number_of}
 use Rattle.sap_names.specs.Index.{under, Numbers}
 
@@ -84,13 +85,9 @@ numbers_passed es n e entries new h is there same all name =
     ∙ numbers_skip (take n es) e entries there all name
     ∙ ap (λ (l : List Entity). number_of l name) (one_taken es n e h is)
 
-none_of : (o : Option ℕ) → is_some o ≡ false → o ≡ None
-none_of None h = refl
-none_of (Some n) h = absurd (true≢false h)
-
 -- a name that is not there
 pub under_none : (entries : List (Vec ℕ Global × ℕ)) (name key : List ℕ) → key ≡ name → is_some (under entries name) ≡ false → under entries key ≡ None
-under_none entries name key same h = ap (λ (l : List ℕ). under entries l) same ∙ none_of (under entries name) h
+under_none entries name key same h = ap (λ (l : List ℕ). under entries l) same ∙ none_of_test (under entries name) h
 
 found : (b : Bool) (e : Entity) (es : List Entity) (f : Option Entity) (o : Option ℕ) → f ≡ option_and_then (λ (n : ℕ). slice_get es n) o
     → (if b then Some e else f) ≡ option_and_then (λ (n : ℕ). slice_get (e ∷ es) n) (if b then Some 0 else option_map (λ k. k + 1) o)

@@ -1,6 +1,6 @@
 -- The first of some parts, and the others.
 use Rattle.std.proofs.Common.{◌≡◌, ℕ, ◌-◌, ◌<◌, ◌≤◌, List, [], ◌∷◌, ◌++◌, None, ◌&&◌, Bool, length, get_or, drop, take, refl, ap, ap₂, sym, ◌∙◌, not, Option, arith}
-use Rattle.std.proofs.lemmas.Grind.{common_steps}
+use Rattle.sap_lemmas.proofs.Lists.{take_rest_of}
 use Rattle.sap_tree.specs.declared.syntax.Expr.{Expr}
 use Rattle.sap_tree.specs.Trees.{expression_of, expressions_of}
 use Rattle.sap_names.specs.Entities.{Lookup}
@@ -13,16 +13,12 @@ use Rattle.sap_names.proofs.Faults.{both}
 use Rattle.sap_tree.specs.declared.place.Spot.{Spot}
 use Rattle.sap_tree.specs.Syntax.{Expression, Concat, Expressions}
 
--- a list without its first, as a pattern's rest is seen
-pub rest_of : {A : Type 0} (x : A) (xs : List A) → take (length (x ∷ xs) - 1) (drop 1 (x ∷ xs)) ≡ xs
-rest_of x xs = grind (arith, common_steps)
-
 pub parts_first : (what : Lookup) (xs : List Expr) (d : Expr) → 1 ≤ length xs → d ≡ get_or xs 0 d
     → parts_faults what (expressions_of xs)
     ≡ expression_faults what (expression_of d) None ++ parts_faults what (expressions_of (take (length xs - 1) (drop 1 xs)))
 parts_first what [] d h e = absurd (omega arith)
 parts_first what (x ∷ xs) d h e =
-    ap (λ (r : List Expr). expression_faults what (expression_of x) None ++ parts_faults what (expressions_of r)) (sym (rest_of x xs))
+    ap (λ (r : List Expr). expression_faults what (expression_of x) None ++ parts_faults what (expressions_of r)) (sym (take_rest_of x xs))
     ∙ ap (λ (y : Expr). expression_faults what (expression_of y) None ++ parts_faults what (expressions_of (take (length (x ∷ xs) - 1) (drop 1 (x ∷ xs))))) (sym e)
 
 pub sound_first : (what : Lookup) (xs : List Expr) (d : Expr) → 1 ≤ length xs → d ≡ get_or xs 0 d
@@ -30,7 +26,7 @@ pub sound_first : (what : Lookup) (xs : List Expr) (d : Expr) → 1 ≤ length x
     ≡ (is_sound (own what (expression_of d)) && all_sound what (expressions_of (take (length xs - 1) (drop 1 xs))))
 sound_first what [] d h e = absurd (omega arith)
 sound_first what (x ∷ xs) d h e =
-    ap (λ (r : List Expr). is_sound (own what (expression_of x)) && all_sound what (expressions_of r)) (sym (rest_of x xs))
+    ap (λ (r : List Expr). is_sound (own what (expression_of x)) && all_sound what (expressions_of r)) (sym (take_rest_of x xs))
     ∙ ap (λ (y : Expr). is_sound (own what (expression_of y)) && all_sound what (expressions_of (take (length (x ∷ xs) - 1) (drop 1 (x ∷ xs))))) (sym e)
 
 pub parts_none : (what : Lookup) (xs : List Expr) → length xs < 1 → parts_faults what (expressions_of xs) ≡ []

@@ -3,9 +3,11 @@ use Rattle.std.proofs.Common.{◌≡◌, ℕ, List, [], ◌∷◌, ◌++◌, map
 use Rattle.std.specs.Prelude.{unwrap_or}
 use Rattle.std.specs.Str.{bytes_eq}
 use Rattle.std.specs.List.{AllByRecursion}
+use Rattle.sap_lemmas.proofs.Texts.{bytes_eq_same}
+use Rattle.sap_net.proofs.InputLemmas.{past_inputs}
 use Rattle.sap_maps.specs.Maps.{Name, Valuation}
 use Rattle.sap_maps.specs.Scope.{Scope, find, Agree}
-use Rattle.sap_maps.proofs.Scopes.{same_name, found_here, not_first, not_behind, agree_less}
+use Rattle.sap_maps.proofs.Scopes.{found_here, not_first, not_behind, agree_less}
 use Rattle.sap_net.specs.declared.parts.Input.{Input}
 use Rattle.sap_net.specs.declared.parts.Register.{Register}
 use Rattle.sap_net.specs.declared.parts.Memory.{Memory}
@@ -32,7 +34,7 @@ at_other : (m : Name) (x : ℕ) (es : List (Name × ℕ)) (fs : List (Name × (�
 at_other m x es fs n f = rw f
 
 at_same : (m : Name) (x : ℕ) (es : List (Name × ℕ)) (fs : List (Name × (ℕ → ℕ))) → (from_entries ((m, x) ∷ es) fs).value m ≡ x
-at_same m x es fs = rw (same_name m)
+at_same m x es fs = rw (bytes_eq_same m)
 
 inputs_kept : (is : List Input) (xs : List ℕ) (sd : Scope) (m : Name) (x : ℕ) (es : List (Name × ℕ)) (fs : List (Name × (ℕ → ℕ))) → find (map (λ i. (i.name, i.width)) is ++ sd) m ≡ None → InputsAre (from_entries es fs) is xs → InputsAre (from_entries ((m, x) ∷ es) fs) is xs
 inputs_kept [] [] sd m x es fs h a = tt
@@ -57,10 +59,6 @@ registers_hold ms f (r ∷ rs) fs rules = (
   registers_kept f rs r.name (f r) _ fs rules.1 (registers_hold ms f rs fs rules.3),
 )
 
-behind_inputs : (is : List Input) (sd : Scope) (m : Name) → find (map (λ i. (i.name, i.width)) is ++ sd) m ≡ None → find sd m ≡ None
-behind_inputs [] sd m h = h
-behind_inputs (i ∷ is) sd m h = behind_inputs is sd m (not_behind (i.name, i.width) _ m h)
-
 first_hold : (ms : Shapes) (f : Register → ℕ) (is : List Input) (xs : List ℕ) (rs : List Register) (fs : List (Name × (ℕ → ℕ))) → AreValues ms (map (λ i. (i.name, i.width)) is ++ map (λ r. (r.name, r.width)) rs) → InputsFit is xs → let v = from_entries (given is xs ++ map (λ r. (r.name, f r)) rs) fs in InputsAre v is xs × AllByRecursion (λ r. v.value r.name ≡ f r) rs
 first_hold ms f [] [] rs fs rules fit = (tt, registers_hold ms f rs fs rules)
 first_hold ms f [] (x ∷ xs) rs fs rules fit = absurd fit
@@ -68,7 +66,7 @@ first_hold ms f (i ∷ is) [] rs fs rules fit = absurd fit
 first_hold ms f (i ∷ is) (x ∷ xs) rs fs rules fit =
     let a = first_hold ms f is xs rs fs rules.3 fit.1 in (
       (at_same i.name x _ fs, inputs_kept is xs (map (λ r. (r.name, r.width)) rs) i.name x _ fs rules.1 a.0),
-      registers_kept f rs i.name x _ fs (behind_inputs is _ i.name rules.1) a.1,
+      registers_kept f rs i.name x _ fs (past_inputs is _ i.name rules.1) a.1,
     )
 
 cells_kept : (f : Memory → ℕ → ℕ) (ms : List Memory) (m : Name) (x : ℕ → ℕ) (es : List (Name × ℕ)) (fs : List (Name × (ℕ → ℕ))) → find {X = ℕ × ℕ} (map (λ k. (k.name, (k.width, k.depth))) ms) m ≡ None → AllByRecursion (λ k. (i : ℕ) → (from_entries es fs).cell k.name i ≡ f k i) ms → AllByRecursion (λ k. (i : ℕ) → (from_entries es ((m, x) ∷ fs)).cell k.name i ≡ f k i) ms
@@ -81,7 +79,7 @@ cells_kept f (k ∷ ms) m x es fs h a = (
 cells_hold : (f : Memory → ℕ → ℕ) (ms : List Memory) (es : List (Name × ℕ)) → AreMemories (map (λ m. (m.name, (m.width, m.depth))) ms) → AllByRecursion (λ k. (i : ℕ) → (from_entries es (map (λ m. (m.name, f m)) ms)).cell k.name i ≡ f k i) ms
 cells_hold f [] es rules = tt
 cells_hold f (m ∷ ms) es rules = (
-  (λ i. rw (same_name m.name) refl),
+  (λ i. rw (bytes_eq_same m.name) refl),
   cells_kept f ms m.name (f m) es _ rules.1 (cells_hold f ms es rules.2),
 )
 

@@ -5,3 +5,6 @@ pub mod Within
 pub mod Exists
 pub mod Observed
 pub mod Examples
+pub mod InputLemmas
+pub mod NamesLemmas
+pub mod RulesLemmas

@@ -1,9 +1,12 @@
 -- What is seen of a cycle: inputs and wires as they are, registers and memories as they are after the edge.
 use Rattle.std.proofs.Common.{◌≡◌, ℕ, List, [], ◌∷◌, ◌++◌, map, None, ap, refl}
 use Rattle.std.specs.List.{AllByRecursion}
+use Rattle.sap_lemmas.proofs.Texts.{bytes_eq_apart_back}
+use Rattle.sap_net.proofs.RulesLemmas.{values_past}
+use Rattle.sap_net.proofs.InputLemmas.{past_inputs}
 use Rattle.sap_maps.specs.Maps.{Name, Valuation}
 use Rattle.sap_maps.specs.Scope.{Scope, find}
-use Rattle.sap_maps.proofs.Scopes.{found_here, apart_back, not_first, not_behind}
+use Rattle.sap_maps.proofs.Scopes.{found_here, not_first, not_behind}
 use Rattle.sap_net.specs.declared.parts.Operand.{Operand}
 use Rattle.sap_net.specs.declared.parts.Input.{Input}
 use Rattle.sap_net.specs.declared.parts.Wire.{Wire}
@@ -25,11 +28,7 @@ memories_of ms = map (λ m. (m.name, m)) ms
 no_next : (rs : List Register) (x : Name) → find {X = ℕ} (map (λ r. (r.name, r.width)) rs) x ≡ None → find (nexts_of rs) x ≡ None
 no_next [] x h = refl
 no_next (r ∷ rs) x h =
-    rw (apart_back x r.name (not_first (r.name, r.width) _ x h)) (no_next rs x (not_behind (r.name, r.width) _ x h))
-
-past_inputs : (is : List Input) (sd : Scope) (x : Name) → find (map (λ i. (i.name, i.width)) is ++ sd) x ≡ None → find sd x ≡ None
-past_inputs [] sd x h = h
-past_inputs (i ∷ is) sd x h = past_inputs is sd x (not_behind (i.name, i.width) _ x h)
+    rw (bytes_eq_apart_back x r.name (not_first (r.name, r.width) _ x h)) (no_next rs x (not_behind (r.name, r.width) _ x h))
 
 -- one register more in front, of another name, changes nothing
 keep_nexts : (v : Valuation) (r : Register) (all rs : List Register) → find {X = ℕ} (map (λ r. (r.name, r.width)) rs) r.name ≡ None
@@ -48,10 +47,6 @@ registers_after ms v (r ∷ rs) rules = (
   ap (value_after v r.name) (found_here r.name r.next (nexts_of rs)),
   keep_nexts v r rs rs rules.1 (registers_after ms v rs rules.3),
 )
-
-values_past : (ms : Shapes) (is : List Input) (sd : Scope) → AreValues ms (map (λ i. (i.name, i.width)) is ++ sd) → AreValues ms sd
-values_past ms [] sd rules = rules
-values_past ms (i ∷ is) sd rules = values_past ms is sd rules.3
 
 pub observed_registers : (n : Net) → IsNetlist n → (v : Valuation) → AllByRecursion (λ r. (observed n v).value r.name ≡ operand_value v r.next) n.registers
 observed_registers n rules v = registers_after (shapes n) v n.registers (values_past (shapes n) n.inputs _ rules.values)

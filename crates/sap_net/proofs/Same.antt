@@ -1,11 +1,13 @@
 -- Cycles and runs on the same inputs have equal numbers.
-use Rattle.std.proofs.Common.{◌≡◌, ℕ, List, [], ◌∷◌, map, Option, Some, None, sym, ◌∙◌, subst, ⊎_elim, refl}
+use Rattle.std.proofs.Common.{◌≡◌, ℕ, List, [], ◌∷◌, map, Option, Some, None, sym, ◌∙◌, subst, ⊎_elim}
 use Rattle.std.specs.Str.{bytes_eq}
 use Rattle.std.specs.List.{AllByRecursion}
 use Rattle.std.proofs.lemmas.Bool.{cases_Bool}
+use Rattle.sap_lemmas.proofs.Everywhere.{all_equal, all_equal_at}
+use Rattle.sap_lemmas.proofs.Texts.{equal_of_bytes_eq}
 use Rattle.sap_maps.specs.Maps.{Name, Valuation}
 use Rattle.sap_maps.specs.Scope.{Scope, find, Agree}
-use Rattle.sap_maps.proofs.Scopes.{name_is, found_here, found_behind, agree_more, agree_both}
+use Rattle.sap_maps.proofs.Scopes.{found_here, found_behind, agree_more, agree_both}
 use Rattle.sap_net.specs.declared.parts.Input.{Input}
 use Rattle.sap_net.specs.declared.parts.Register.{Register}
 use Rattle.sap_net.specs.declared.parts.Memory.{Memory}
@@ -33,7 +35,7 @@ cells_agree : (f g : Memory → ℕ → ℕ) (ms : List Memory) (v w : Valuation
 cells_agree f g [] v w a b e n u h i = absurd (cc)
 cells_agree f g (m ∷ ms) v w a b e n u h i =
     ⊎_elim
-    (λ t. subst (λ (x : Name). v.cell x i ≡ w.cell x i) (name_is m.name n t) (a.0 i ∙ e.0 i ∙ sym (b.0 i)))
+    (λ t. subst (λ (x : Name). v.cell x i ≡ w.cell x i) (equal_of_bytes_eq m.name n t) (a.0 i ∙ e.0 i ∙ sym (b.0 i)))
     (λ q. cells_agree f g ms v w a.1 b.1 e.1 n u (rw q at h) i)
     (cases_Bool (bytes_eq m.name n))
 
@@ -66,14 +68,6 @@ all_written_agree : (sc : Scope) (shapes : Shapes) (p q : Valuation) → Agree s
 all_written_agree sc shapes p q a c [] rules has = tt
 all_written_agree sc shapes p q a c (m ∷ ms) rules has =
     (written_agree sc shapes p q a c m rules.0 has.0, all_written_agree sc shapes p q a c ms rules.1 has.1)
-
-all_equal : {X : Type 0} (xs : List X) (f : X → ℕ) → AllByRecursion (λ x. f x ≡ f x) xs
-all_equal [] f = tt
-all_equal (x ∷ xs) f = (refl, all_equal xs f)
-
-all_equal_at : {X : Type 0} (xs : List X) (f : X → ℕ → ℕ) → AllByRecursion (λ x. (i : ℕ) → f x i ≡ f x i) xs
-all_equal_at [] f = tt
-all_equal_at (x ∷ xs) f = (λ i. refl, all_equal_at xs f)
 
 same_from : (n : Net) → IsNetlist n → (f g : Register → ℕ) (c d : Memory → ℕ → ℕ) (p q : Option Valuation) (xs : List ℕ) (v w : Valuation) → IsCycle n p xs v → IsCycle n q xs w
     → AllByRecursion (λ r. v.value r.name ≡ f r) n.registers → AllByRecursion (λ r. w.value r.name ≡ g r) n.registers → AllByRecursion (λ r. f r ≡ g r) n.registers

@@ -6,10 +6,11 @@ use Rattle.std.specs.List.{AllByRecursion}
 use Rattle.std.proofs.Math.Pow.{pow_pos}
 use Rattle.std.proofs.Math.Nat.{mod-lt}
 use Rattle.std.proofs.lemmas.Bool.{cases_Bool}
+use Rattle.sap_lemmas.proofs.Texts.{equal_of_bytes_eq}
+use Rattle.sap_net.proofs.RulesLemmas.{readable_kept}
 use Rattle.sap_bits.proofs.Within.{value1_below, value2_below}
 use Rattle.sap_maps.specs.Maps.{Name, Valuation}
 use Rattle.sap_maps.specs.Scope.{Scope, find}
-use Rattle.sap_maps.proofs.Scopes.{name_is, found_behind}
 use Rattle.sap_maps.proofs.Terms.{right_fits, below_both, joined_below}
 use Rattle.sap_net.specs.declared.parts.Operand.{Operand}
 use Rattle.sap_net.specs.declared.parts.Operand.TheVariants.{Named, Constant}
@@ -72,19 +73,14 @@ right_below ms sc v widths b c w u (Cell m i) h = c m _ h.1 (operand_value v i)
 below_more : (sc : Scope) (v : Valuation) (m : Name) (k : ℕ) → v.value m < 2 ^ k → ValuesBelow sc v → ValuesBelow ((m, k) ∷ sc) v
 below_more sc v m k h b n u g =
     ⊎_elim
-    (λ t. let e : m ≡ n = name_is m n t in let q : Some k ≡ Some u = rw t at g in let j : k ≡ u = cc in subst (λ (x : Name). v.value x < 2 ^ u) e (subst (λ (x : ℕ). v.value m < 2 ^ x) j h))
+    (λ t. let e : m ≡ n = equal_of_bytes_eq m n t in let q : Some k ≡ Some u = rw t at g in let j : k ≡ u = cc in subst (λ (x : Name). v.value x < 2 ^ u) e (subst (λ (x : ℕ). v.value m < 2 ^ x) j h))
     (λ f. b n u (rw f at g))
     (cases_Bool (bytes_eq m n))
-
--- a name that can be read can be read behind the wires too
-pub readable_to_the_end : (ms : Shapes) (ws : List Wire) (sc : Scope) → AreWires ms sc ws → (n : Name) (u : ℕ) → find sc n ≡ Some u → find (readable_after sc ws) n ≡ Some u
-readable_to_the_end ms [] sc rules n u h = h
-readable_to_the_end ms (x ∷ ws) sc rules n u h = readable_to_the_end ms ws _ rules.4 n u (found_behind sc x.name x.width rules.1 n u h)
 
 pub wires_below : (ms : Shapes) (v : Valuation) (widths : Name → ℕ) (ws : List Wire) (sc : Scope) → AreWires ms sc ws → WidthsAre (readable_after sc ws) widths → CellsBelow ms v → Holds widths v ws → ValuesBelow sc v → ValuesBelow (readable_after sc ws) v
 wires_below ms v widths [] sc rules w c holds b = b
 wires_below ms v widths (x ∷ ws) sc rules w c holds b =
-    let w' : WidthsAre sc widths = λ n u h. w n u (readable_to_the_end ms (x ∷ ws) sc rules n u h) in
+    let w' : WidthsAre sc widths = λ n u h. w n u (readable_kept ms (x ∷ ws) sc rules n u h) in
     let r = right_below ms sc v widths b c w' x.width x.right rules.3 in
     wires_below ms v widths ws _ rules.4 w c holds.1 (below_more sc v x.name x.width (rw holds.0 r) b)
 
@@ -107,7 +103,7 @@ cells_below : (f : Memory → ℕ → ℕ) (ms : List Memory) (v : Valuation) �
 cells_below f [] v h a n s g i = absurd (cc)
 cells_below f (m ∷ ms) v h a n s g i =
     ⊎_elim
-    (λ t. let e : m.name ≡ n = name_is m.name n t in
+    (λ t. let e : m.name ≡ n = equal_of_bytes_eq m.name n t in
     let shape : ℕ × ℕ = (m.width, m.depth) in
     let q : Some shape ≡ Some s = rw t at g in
     let j : m.width ≡ s.0 = ap (λ (o : Option (ℕ × ℕ)). (unwrap_or o (0, 0)).0) q in

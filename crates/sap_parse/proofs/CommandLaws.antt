@@ -1,5 +1,6 @@
 -- What the symbols of commands read.
 use Rattle.std.proofs.Common.{◌≡◌, ◌≢◌, ◌+◌, ℕ, List, [], ◌∷◌, Bool, true, false, Ok, Err, refl, sym, ap, ◌∙◌}
+use Rattle.sap_walk.proofs.RowsLemmas.{push_none}
 use Rattle.sap_parse.specs.Choices.{command_head, is_constant, primary_of, word_command}
 use Rattle.sap_parse.specs.Reading.{Enter, ahead, ahead_of, read_by, steps_by}
 use Rattle.sap_parse.specs.Stages.{Stage}
@@ -17,7 +18,7 @@ use Rattle.sap_parse.specs.declared.token.Sign.TheVariants as j
 use Rattle.sap_parse.specs.declared.token.Token.{Token}
 use Rattle.sap_tree.specs.declared.word.Word.TheVariants as w
 use Rattle.sap_parse.proofs.ExprLaws.{front_by, nothing_ahead, same_row}
-use Rattle.sap_parse.proofs.Laws.{IsFull, or_full, push_full, push_none, name_full, number_full, sign_full, word_full, sign_then, sign_there, sign_missing, skips, stands, step, step_at, stops, word_then, word_there, word_missing}
+use Rattle.sap_parse.proofs.Laws.{IsFull, or_full, push_full, name_full, number_full, sign_full, word_full, sign_then, sign_there, sign_missing, skips, stands, step, step_at, stops, word_then, word_there, word_missing}
 use Rattle.sap_parse.proofs.Single.{ahead_back, kind_ahead, next_not_sign, next_not_word, word_kind_ahead}
 use Rattle.sap_walk.specs.Rows.{push, optional, ◌or◌}
 use Rattle.sap_walk.specs.Walk.{Take, Skip, Stop, at_token, ◌>>=◌}

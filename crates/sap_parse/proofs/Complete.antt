@@ -2,9 +2,10 @@
 use Rattle.std.proofs.Common.{◌≡◌, ◌≢◌, ◌<◌, ◌≤◌, ◌+◌, ℕ, List, [], ◌∷◌, ◌++◌, Option, Some, None, Result, Ok, Err, Bool, true, false, refl, sym, ap, subst, ◌∙◌, arith}
 use Rattle.std.specs.Prelude.{nat_lt}
 use Rattle.std.proofs.lemmas.Bool.Decides.{nat_tests}
+use Rattle.sap_parse.proofs.ReadingLemmas.{ok_one}
 use Rattle.sap_parse.specs.Grammar as g
 use Rattle.sap_parse.specs.Grammar.{sign_of, unary_sign_of}
-use Rattle.sap_parse.specs.Reading.{Outcome, leniently}
+use Rattle.sap_parse.specs.Reading.{leniently}
 use Rattle.sap_parse.specs.Stages.{Stage, IsToken, IsSign}
 use Rattle.sap_parse.specs.Table as s
 use Rattle.sap_parse.specs.Table.{Symbol, Row, next, operator_of, tails, index_symbols, expr_symbols}
@@ -201,9 +202,6 @@ expr_full i = by_row (s.unary_next i) (unary_full leniently i) where
   by_row (Take role σ) ne e = cc
   by_row Skip ne e = ne refl
   by_row Stop ne e = cc
-
-ok_one : {a b : Stage} (o : Outcome) → o ≡ Ok a → o ≡ Ok b → a ≡ b
-ok_one o e f = cc
 
 some_one : {a b : Kind} (i : Option Kind) → i ≡ Some a → i ≡ Some b → a ≡ b
 some_one i e f = cc

@@ -1,5 +1,6 @@
 -- What the symbols of declarations and states read.
 use Rattle.std.proofs.Common.{◌≡◌, ◌≢◌, ◌+◌, ℕ, List, [], ◌∷◌, Ok, Err, refl, sym, ap, ◌∙◌}
+use Rattle.sap_walk.proofs.RowsLemmas.{push_none}
 use Rattle.sap_parse.specs.Choices.{declaration_head, word_declaration}
 use Rattle.sap_parse.specs.Reading.{Enter, ahead, ahead_of, read_by, steps_by, table}
 use Rattle.sap_parse.specs.Stages.{Stage}
@@ -16,7 +17,7 @@ use Rattle.sap_parse.specs.declared.token.Token.{Token}
 use Rattle.sap_tree.specs.declared.word.Word.TheVariants as w
 use Rattle.sap_parse.proofs.ExprLaws.{front_by, nothing_ahead, same_row}
 use Rattle.sap_parse.proofs.IndexLaws.{firsts_read}
-use Rattle.sap_parse.proofs.Laws.{IsFull, or_full, push_full, push_none, word_full, sign_there, sign_missing, skips, stands, step_at, steps_are, stops, stops_at, word_then, word_there, word_missing}
+use Rattle.sap_parse.proofs.Laws.{IsFull, or_full, push_full, word_full, sign_there, sign_missing, skips, stands, step_at, steps_are, stops, stops_at, word_then, word_there, word_missing}
 use Rattle.sap_parse.proofs.Single.{ahead_back, next_not_word, word_kind_ahead}
 use Rattle.sap_walk.specs.Rows.{push, optional, ◌or◌, firsts}
 use Rattle.sap_walk.specs.Walk.{Take, Skip, Stop, at_end, at_token, walk, ◌>>=◌}

@@ -1,8 +1,9 @@
 -- The front of a list of tokens.
-use Rattle.std.proofs.Common.{◌≡◌, ◌<◌, ◌≤◌, ◌+◌, ℕ, List, [], ◌∷◌, length, drop, get_or, ap, refl, sym, suc, Some, ◌≢◌, ◌∙◌, arith, drop-cons}
+use Rattle.std.proofs.Common.{◌≡◌, ◌<◌, ◌≤◌, ◌+◌, ℕ, List, [], ◌∷◌, length, drop, get_or, ap, refl, sym, Some, ◌≢◌, ◌∙◌, arith, drop-cons}
 use Rattle.std.proofs.lemmas.Grind.{common_steps}
 use Rattle.std.proofs.lemmas.List.{drop-drop}
 use Rattle.std.proofs.Common.{None}
+use Rattle.sap_lemmas.proofs.Numbers.{one_more}
 use Rattle.sap_parse.specs.Reading.{Passes, ahead, ahead_of, front_name, front_number, front_sized, name_in, number_in, second, sized_in}
 use Rattle.sap_parse.specs.Stages.{Stage, first_place}
 use Rattle.sap_parse.specs.declared.cursor.Ahead.{Ahead}
@@ -24,9 +25,6 @@ drop_end ts n h = grind (arith, common_steps)
 pub ahead_end : (ts : List Token) (n : ℕ) → length ts ≤ n → ahead (drop n ts) ≡ a.Nothing
 unfolding ahead
 ahead_end ts n h = ap ahead (drop_end ts n h)
-
-one_more : (n : ℕ) → suc n ≡ n + 1
-one_more n = omega arith
 
 behind : (ts : List Token) → second ts ≡ ahead (drop 1 ts)
 unfolding second ahead

@@ -1,5 +1,6 @@
 -- What stands behind a name and a bracket: a slice, or an index.
 use Rattle.std.proofs.Common.{◌≡◌, ◌≢◌, ℕ, List, [], ◌∷◌, ◌++◌, Result, Ok, Err, refl, sym, ap, ◌∙◌}
+use Rattle.std.proofs.lemmas.List.{append-nil}
 use Rattle.sap_parse.specs.Limits.{Counts}
 use Rattle.sap_parse.specs.Reading.{Enter, Outcome, ahead, ahead_of, read_by, second, steps_by, table}
 use Rattle.sap_parse.specs.Stages.{Stage}
@@ -20,7 +21,7 @@ use Rattle.sap_parse.proofs.Single.{ahead_back, kind_ahead, next_not_sign}
 use Rattle.sap_walk.specs.Limits.{Past}
 use Rattle.sap_walk.specs.Rows.{push, ◌or◌, firsts, first_then}
 use Rattle.sap_walk.specs.Walk.{Next, Take, Skip, Stop, Move, Taken, Unneeded, Refused, Breaks, chosen, entered, moved, at_token, at_limit, ◌>>=◌, settle, read, walk, at_end}
-use Rattle.sap_walk.proofs.Walking.{append_none, bind_bind, bind_pure, bind_same, read_take, read_break, walk_steps}
+use Rattle.sap_walk.proofs.Walking.{bind_bind, bind_pure, bind_same, read_take, read_break, walk_steps}
 
 module _ (enter : Enter) where
   by_left : (p : Stage) (x : Symbol) (t : Token) (ts : List Token) → p.left ≡ t ∷ ts → read_by enter x p ≡ read_by enter x (record { past = p.past; left = t ∷ ts })
@@ -56,7 +57,7 @@ module _ (enter : Enter) where
     by_row : (n : Next Symbol Role) → chosen (firsts (λ x. next x t.kind) σ) (λ role τ. entered (enter role t past) (τ ++ [])) Unneeded Refused ≡ settle (table enter) t past σ
         → chosen (first_then n σ (firsts (λ x. next x t.kind) σ)) (λ role τ. entered (enter role t past) (τ ++ [])) Unneeded Refused
         ≡ chosen n (λ role τ. entered (enter role t past) (τ ++ σ)) (settle (table enter) t past σ) Refused
-    by_row (Take role τ) e = ap (λ l. entered (enter role t past) l) (append_none (τ ++ σ))
+    by_row (Take role τ) e = ap (λ l. entered (enter role t past) l) (append-nil (τ ++ σ))
     by_row Skip e = e
     by_row Stop e = refl
 

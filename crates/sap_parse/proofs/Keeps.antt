@@ -1,6 +1,7 @@
 -- A token that a symbol takes, with what is then to come, stands for that symbol.
 use Rattle.std.proofs.Common.{◌≡◌, ◌≢◌, ◌<◌, ◌≤◌, ◌+◌, ◌-◌, ℕ, zero, suc, List, [], ◌∷◌, ◌++◌, Option, Some, None, Result, Ok, Err, Bool, true, false, cond, refl, sym, ap, subst, ◌∙◌, arith, eqb}
 use Rattle.std.proofs.lemmas.Bool.Decides.{nat_tests}
+use Rattle.std.proofs.lemmas.Bool.{eqb-true}
 use Rattle.sap_parse.specs.Grammar as g
 use Rattle.sap_parse.specs.Grammar.{sign_of, unary_sign_of}
 use Rattle.sap_parse.specs.Limits.{Counts, tally, breach}
@@ -34,11 +35,8 @@ use Rattle.sap_walk.specs.Rows.{push, optional, ◌or◌, first_then, firsts}
 use Rattle.sap_walk.specs.Walk.{Next, Take, Skip, Stop}
 use Rattle.sap_walk.proofs.Spelling.{split}
 
-same_test : (n m : ℕ) → eqb n m ≡ true → n ≡ m
-same_test n m e = grind arith
-
 sign_same : (i x : SignOf) → eqb (sign_number i) (sign_number x) ≡ true → i ≡ x
-sign_same i x e = sym (sign_back i) ∙ ap sign_by (same_test (sign_number i) (sign_number x) e) ∙ sign_back x
+sign_same i x e = sym (sign_back i) ∙ ap sign_by (eqb-true (sign_number i) (sign_number x) e) ∙ sign_back x
 
 word_by : ℕ → WordOf
 word_by n =
@@ -72,7 +70,7 @@ word_back w.Sapper = refl
 word_back w.Two = refl
 
 word_same : (i x : WordOf) → eqb (word_number i) (word_number x) ≡ true → i ≡ x
-word_same i x e = sym (word_back i) ∙ ap word_by (same_test (word_number i) (word_number x) e) ∙ word_back x
+word_same i x e = sym (word_back i) ∙ ap word_by (eqb-true (word_number i) (word_number x) e) ∙ word_back x
 
 operator_sign : (x : SignOf) (o : BinaryOperator) → operator_of x ≡ Some o → x ≡ sign_of o
 operator_sign j.Bar o e = cc
@@ -309,7 +307,7 @@ module _ (token : Token) (ts : List Token) (past : Past Counts Limit) where
         (c.0, g.other o at (stands r.Inner (k.Sign (sign_of o)) e) (y.1 le) c.1))
 
     by_test : (o : BinaryOperator) → token.kind ≡ k.Sign (sign_of o) → (b : Bool) → eqb (precedence o) l ≡ b → Keeps (cond b (Take r.Inner (s.Bin (l + 1) ∷ s.Tail l ∷ [])) Skip) (λ q. Lang (s.Tail l) here q)
-    by_test o e true f = by_level o e (same_test (precedence o) l f)
+    by_test o e true f = by_level o e (eqb-true (precedence o) l f)
     by_test o e false f = λ role σ g. absurd (cc)
 
     by_operator : (x : SignOf) → token.kind ≡ k.Sign x → (o : Option BinaryOperator) → operator_of x ≡ o → Keeps (same_level l o) (λ q. Lang (s.Tail l) here q)

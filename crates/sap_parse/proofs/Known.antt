@@ -1,5 +1,6 @@
 -- What the walk reads where the first token is known, or where it is known that a symbol is read.
-use Rattle.std.proofs.Common.{◌≡◌, ◌≢◌, ◌+◌, ℕ, List, [], ◌∷◌, ◌++◌, Option, Some, None, Result, Ok, Err, Bool, true, false, refl, sym, ap, subst, ◌∙◌, arith, eqb}
+use Rattle.std.proofs.Common.{◌≡◌, ◌≢◌, ◌+◌, ℕ, List, [], ◌∷◌, ◌++◌, Option, Some, None, Result, Ok, Err, Bool, true, false, refl, sym, ap, subst, ◌∙◌}
+use Rattle.sap_lemmas.proofs.Numbers.{test_of_same}
 use Rattle.sap_parse.specs.Limits.{Counts, tally, breach}
 use Rattle.sap_parse.specs.Reading.{Enter, Outcome, leniently, read_by, steps_by, table}
 use Rattle.sap_parse.specs.Stages.{Stage, IsToken}
@@ -95,14 +96,11 @@ token_reads x {p} {q} {role} {kind} h row =
     ∙ read_take (table leniently) x h.token q.left p.past role [] (passed tally breach role h.token p.past) here refl
     ∙ ap (λ past. Ok (record { past = past; left = q.left })) (sym h.past)
 
-same_test : (n : ℕ) → eqb n n ≡ true
-same_test n = grind arith
-
 pub sign_reads : {p q : Stage} {role : Role} {sign : SignOf} → IsToken p role (k.Sign sign) q → R (s.Sign role sign) p ≡ Ok q
-sign_reads {role = role} {sign = sign} h = token_reads (s.Sign role sign) h (ap (s.if_same role) (same_test (s.sign_number sign)))
+sign_reads {role = role} {sign = sign} h = token_reads (s.Sign role sign) h (ap (s.if_same role) (test_of_same (s.sign_number sign)))
 
 pub word_reads : {p q : Stage} {role : Role} {word : WordOf} → IsToken p role (k.Word word) q → R (s.Word role word) p ≡ Ok q
-word_reads {role = role} {word = word} h = token_reads (s.Word role word) h (ap (s.if_same role) (same_test (s.word_number word)))
+word_reads {role = role} {word = word} h = token_reads (s.Word role word) h (ap (s.if_same role) (test_of_same (s.word_number word)))
 
 pub name_reads : {p q : Stage} {role : Role} {name : List ℕ} → IsToken p role (k.Name name) q → R (s.Name role) p ≡ Ok q
 name_reads {role = role} h = token_reads (s.Name role) h refl

@@ -1,5 +1,5 @@
 -- What each symbol of the table reads, by the symbols of its production. `enter` may be any way to go past a token.
-use Rattle.std.proofs.Common.{◌≡◌, ◌≢◌, ◌<◌, ◌≤◌, ◌+◌, ◌-◌, ℕ, zero, suc, List, [], ◌∷◌, ◌++◌, Option, Some, None, Result, Ok, Err, Bool, true, false, refl, sym, ap, subst, ◌∙◌, append_assoc, arith, eqb}
+use Rattle.std.proofs.Common.{◌≡◌, ◌≢◌, ◌<◌, ◌≤◌, ◌+◌, ◌-◌, ℕ, zero, suc, List, [], ◌∷◌, ◌++◌, Option, Some, None, Result, Ok, Err, Bool, true, false, refl, sym, ap, subst, ◌∙◌, arith, eqb}
 use Rattle.std.proofs.lemmas.Bool.Decides.{nat_tests}
 use Rattle.std.specs.Prelude.{◌==◌, if◌then◌else◌}
 use Rattle.sap_parse.specs.Limits.{Counts}
@@ -23,19 +23,9 @@ use Rattle.sap_parse.proofs.Single.{ahead_back, kind_ahead, next_not_sign, next_
 use Rattle.sap_walk.specs.Limits.{Past}
 use Rattle.sap_walk.specs.Rows.{push, optional, ◌or◌, firsts, first_then}
 use Rattle.sap_walk.specs.Walk.{Table, Next, Take, Skip, Stop, Halt, at_token, at_limit, ◌>>=◌, steps}
-use Rattle.sap_walk.proofs.Walking.{append_none, bind_bind, bind_pure, bind_same, read_take, read_break, read_skip, read_stop, read_empty, read_end, steps_append}
+use Rattle.sap_walk.proofs.Walking.{bind_bind, bind_pure, bind_same, read_take, read_break, read_skip, read_stop, read_empty, read_end, steps_append}
 
 -- rows
-
-pub push_none : {S R : Type 0} (n : Next S R) → push n [] ≡ n
-push_none (Take role σ) = ap (λ x. Take role x) (append_none σ)
-push_none Skip = refl
-push_none Stop = refl
-
-pub push_push : {S R : Type 0} (n : Next S R) (σ τ : List S) → push (push n σ) τ ≡ push n (σ ++ τ)
-push_push (Take role ρ) σ τ = ap (λ x. Take role x) (append_assoc ρ σ τ)
-push_push Skip σ τ = refl
-push_push Stop σ τ = refl
 
 -- a row of what isn't empty
 abbrev pub IsFull : {S R : Type 0} → Next S R → Type 0

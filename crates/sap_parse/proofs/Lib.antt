@@ -33,3 +33,4 @@ pub mod FitsDesign
 pub mod OneLexing
 pub mod OneReading
 pub mod Behind
+pub mod ReadingLemmas

@@ -3,12 +3,15 @@ use Rattle.std.proofs.Common.{◌≡◌, ◌<◌, ◌+◌, ◌^◌, ℕ, suc, Li
 use Rattle.std.proofs.lemmas.Bool.Decides.{nat_tests}
 use Rattle.std.proofs.lemmas.Grind.{common_steps}
 use Rattle.std.proofs.lemmas.List.Folds.{length-prefix_len}
-use Rattle.std.proofs.lemmas.Slice.Eq.{bytes_eq-Decides}
 use Rattle.std.proofs.Math.Seq.{take-add}
 use Rattle.std.specs.Prelude.{slice_index, ◌||◌, ◌&&◌, ◌==◌, nat_lt}
 use Rattle.std.specs.Char.{is_ascii_digit}
 use Rattle.std.specs.List.{find, list_all, list_any, prefix_len}
 use Rattle.std.specs.Str.{byte, bytes_eq}
+use Rattle.sap_lemmas.proofs.Lists.{index_drop}
+use Rattle.sap_lemmas.proofs.Numbers.{equal_of_test}
+use Rattle.sap_lemmas.proofs.Texts.{equal_of_bytes_eq}
+use Rattle.sap_tree.proofs.WordsLemmas.{initial_inner}
 use Rattle.sap_tree.specs.Words.{is_initial, is_inner, is_word, word_text, first_words}
 use Rattle.sap_tree.specs.declared.version.Version.TheVariants as v
 use Rattle.sap_parse.specs.Lexemes.{is_in, run, is_blank, is_comment, lexeme_of, name_at, number_at, number_of, number_lexeme, sized_at, sized_in, sized_lexeme, sign_at, sign_or, value_of, word_or_name}
@@ -31,9 +34,6 @@ by_test P true f g = f refl
 by_test P false f g = g refl
 
 -- lists
-
-pub same_bytes : (a b : List ℕ) → bytes_eq a b ≡ true → a ≡ b
-same_bytes a b e = grind (arith, bytes_eq-Decides)
 
 pub find_passes : {X : Type 0} (p : X → Bool) (xs : List X) {x : X} → find p xs ≡ Some x → p x ≡ true
 find_passes p [] e = absurd (cc)
@@ -79,27 +79,24 @@ run_passes p (x ∷ xs) =
 
 -- words and names
 
-initial_is_inner : (b : ℕ) → is_initial b ≡ true → is_inner b ≡ true
-initial_is_inner b h = grind (arith, nat_tests)
-
 name_is_word : (bytes : List ℕ) → is_initial (slice_index bytes 0) ≡ true → is_word (take (run c.Inner bytes) bytes) ≡ true
 name_is_word [] h = h
 name_is_word (x ∷ xs) h =
     let all : list_all is_inner (take (prefix_len is_inner xs) xs) ≡ true = run_passes is_inner xs in
     let whole : is_word (x ∷ take (prefix_len is_inner xs) xs) ≡ true = cc in
-    subst (λ b. is_word (take (cond b (1 + prefix_len is_inner xs) 0) (x ∷ xs)) ≡ true) (sym (initial_is_inner x h))
+    subst (λ b. is_word (take (cond b (1 + prefix_len is_inner xs) 0) (x ∷ xs)) ≡ true) (sym (initial_inner x h))
     (subst (λ m. is_word (take m (x ∷ xs)) ≡ true) (one_more (prefix_len is_inner xs)) whole)
 
 name_spelled : (bytes name : List ℕ) (n : ℕ) → take n bytes ≡ name → is_word name ≡ true → (o : Option Word) → word_of name ≡ o → IsSpelled bytes (word_or_name o name n)
 name_spelled bytes name n same h (Some word) e =
-    (same ∙ same_bytes name (word_text word) (find_passes (λ w. bytes_eq name (word_text w)) first_words e), find_among (λ w. bytes_eq name (word_text w)) (is_of v.One) first_words word refl e)
+    (same ∙ equal_of_bytes_eq name (word_text word) (find_passes (λ w. bytes_eq name (word_text w)) first_words e), find_among (λ w. bytes_eq name (word_text w)) (is_of v.One) first_words word refl e)
 name_spelled bytes name n same h None e = (same, h, none_passes (λ w. bytes_eq name (word_text w)) first_words e)
 
 -- signs
 
 sign_spelled : (bytes text : List ℕ) → take (length text) bytes ≡ text → (other : Lexeme) → IsSpelled bytes other → (o : Option Sign) → sign_of text ≡ o
     → IsSpelled bytes (sign_or o (length text) other)
-sign_spelled bytes text same other h (Some sign) e = same ∙ same_bytes text (sign_text sign) (find_passes (λ s. bytes_eq text (sign_text s)) signs e)
+sign_spelled bytes text same other h (Some sign) e = same ∙ equal_of_bytes_eq text (sign_text sign) (find_passes (λ s. bytes_eq text (sign_text s)) signs e)
 sign_spelled bytes text same other h None e = h
 
 take_length : (n : ℕ) (bytes : List ℕ) → take (length (take n bytes)) bytes ≡ take n bytes
@@ -129,9 +126,6 @@ two_bytes : (xs : List ℕ) (a b : ℕ) → 0 < a → 0 < b → slice_index xs 0
 two_bytes [] a b p q e f = absurd (omega arith)
 two_bytes (x ∷ []) a b p q e f = absurd (omega arith)
 two_bytes (x ∷ y ∷ xs) a b p q e f = cc
-
-index_drop : (xs : List ℕ) (n i : ℕ) → slice_index (drop n xs) i ≡ slice_index xs (n + i)
-index_drop xs n i = grind (arith, common_steps)
 
 pieces : (bytes : List ℕ) (w m a b : ℕ) → 0 < a → 0 < b → slice_index bytes w ≡ a → slice_index bytes (w + 1) ≡ b
     → take (w + 2 + m) bytes ≡ take w bytes ++ ((a ∷ b ∷ []) ++ take m (drop (w + 2) bytes))
@@ -166,9 +160,6 @@ sized_in_spelled class base width bytes make some all =
     (λ h. sized_spelled bytes class base (width + 2 + run class (drop (width + 2) bytes)) (take width bytes) (take (run class (drop (width + 2) bytes)) (drop (width + 2) bytes)) make some all
     (some_in_run class (drop (width + 2) bytes) h) (run_passes (is_in class) (drop (width + 2) bytes)) _ refl _ refl _)
 
-is_byte : (a b : ℕ) → (a == b) ≡ true → a ≡ b
-is_byte a b h = grind (arith, nat_tests)
-
 sized_at_spelled : (width : ℕ) (bytes : List ℕ) → slice_index bytes width ≡ byte "'" → 0 < length (take width bytes) → list_all is_ascii_digit (take width bytes) ≡ true
     → IsSpelled bytes (sized_at width bytes)
 unfolding sized_at
@@ -176,11 +167,11 @@ sized_at_spelled width bytes quote some all =
     by_test (IsSpelled bytes) (slice_index bytes (width + 1) == byte "d")
     (λ d. sized_in_spelled c.Decimal 10 width bytes
     (λ w n. decimal (take width bytes) (take (run c.Decimal (drop (width + 2) bytes)) (drop (width + 2) bytes))
-    (pieces bytes width (run c.Decimal (drop (width + 2) bytes)) 39 100 (omega arith) (omega arith) quote (is_byte (slice_index bytes (width + 1)) 100 d))) some all)
+    (pieces bytes width (run c.Decimal (drop (width + 2) bytes)) 39 100 (omega arith) (omega arith) quote (equal_of_test (slice_index bytes (width + 1)) 100 d))) some all)
     (λ _. by_test (IsSpelled bytes) (slice_index bytes (width + 1) == byte "h")
     (λ h. sized_in_spelled c.Hexadecimal 16 width bytes
     (λ w n. hexadecimal (take width bytes) (take (run c.Hexadecimal (drop (width + 2) bytes)) (drop (width + 2) bytes))
-    (pieces bytes width (run c.Hexadecimal (drop (width + 2) bytes)) 39 104 (omega arith) (omega arith) quote (is_byte (slice_index bytes (width + 1)) 104 h))) some all)
+    (pieces bytes width (run c.Hexadecimal (drop (width + 2) bytes)) 39 104 (omega arith) (omega arith) quote (equal_of_test (slice_index bytes (width + 1)) 104 h))) some all)
     (λ _. tt))
 
 digit_first : (bytes : List ℕ) → is_ascii_digit (slice_index bytes 0) ≡ true → (run c.Decimal bytes == 0) ≡ false
@@ -193,7 +184,7 @@ number_at_spelled bytes h =
     let some = some_in_run c.Decimal bytes (digit_first bytes h) in
     let all = run_passes is_ascii_digit bytes in
     by_test (IsSpelled bytes) (slice_index bytes (run c.Decimal bytes) == byte "'")
-    (λ quote. sized_at_spelled (run c.Decimal bytes) bytes (is_byte (slice_index bytes (run c.Decimal bytes)) 39 quote) some all)
+    (λ quote. sized_at_spelled (run c.Decimal bytes) bytes (equal_of_test (slice_index bytes (run c.Decimal bytes)) 39 quote) some all)
     (λ _. number_spelled bytes (take (run c.Decimal bytes) bytes) (run c.Decimal bytes) refl some all _ refl _)
 
 name_at_spelled : (bytes : List ℕ) → is_initial (slice_index bytes 0) ≡ true → IsSpelled bytes (name_at bytes)

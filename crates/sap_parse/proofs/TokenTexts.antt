@@ -4,7 +4,7 @@ use Rattle.std.proofs.lemmas.List.Elements.{All-append}
 use Rattle.std.proofs.lemmas.Bool.Decides.{nat_tests}
 use Rattle.std.proofs.lemmas.Grind.{common_steps}
 use Rattle.std.proofs.lemmas.List.Folds.{list_any-append}
-use Rattle.std.specs.Prelude.{codes, map, ◌||◌, ◌&&◌, ◌==◌}
+use Rattle.std.specs.Prelude.{codes, map, ◌||◌, ◌==◌}
 use Rattle.std.specs.Str.{bytes_eq}
 use Rattle.sap_tree.specs.Words.{is_word, is_keyword, keywords, later_words, word_text}
 use Rattle.sap_tree.specs.declared.version.Version.TheVariants as v
@@ -16,13 +16,15 @@ use Rattle.sap_parse.specs.declared.token.Sign.{Sign}
 use Rattle.sap_tree.specs.declared.word.Word.TheVariants as w
 use Rattle.sap_tree.specs.declared.word.Word.{Word}
 use Rattle.std.specs.List.{All}
+use Rattle.sap_lemmas.proofs.Texts.{equal_of_bytes_eq}
+use Rattle.std.proofs.lemmas.Bool.{and_parts}
 use Rattle.sap_walk.specs.Reached.{start, blank, token}
 use Rattle.sap_parse.specs.Lexing.{AreSpanned, AreTokens, Reached, StandsAt, behind_sapper, is_number_two, is_sapper, is_two, keyed, kind_by, later_kind, later_token, second_token, version_of, version_of_kind, version_of_word, with_kind}
 use Rattle.sap_parse.specs.Spelled.{Spells, SpellsNumber, SpellsSized, decimal, hexadecimal, HasText, AreInOrder, is_of, text_of}
 use Rattle.sap_parse.specs.declared.lexeme.Class.TheVariants as c
 use Rattle.sap_parse.specs.declared.token.Kind.{Kind}
 use Rattle.sap_parse.specs.declared.token.Token.{Token}
-use Rattle.sap_parse.proofs.Spelled.{by_test, find_passes, lexeme_spelled, none_passes, same_bytes, IsSpelled}
+use Rattle.sap_parse.proofs.Spelled.{by_test, find_passes, lexeme_spelled, none_passes, IsSpelled}
 
 text_is : (text : List ℕ) (n : ℕ) (t : Token) (len : ℕ) → StandsAt text n t len → HasText v.One text t
 text_is text n t len s =
@@ -75,7 +77,7 @@ version_kind (k.Sized width n) text e = refl
 sapper_spelled : (kind : Kind) (text : List ℕ) → Spells v.One kind text → is_sapper kind ≡ true → Spells v.Two (k.Word w.Sapper) text
 sapper_spelled (k.Word word) text e h = absurd (cc)
 sapper_spelled (k.Sign sign) text e h = absurd (cc)
-sapper_spelled (k.Name name) text e h = (e.0 ∙ same_bytes name (word_text w.Sapper) h, refl)
+sapper_spelled (k.Name name) text e h = (e.0 ∙ equal_of_bytes_eq name (word_text w.Sapper) h, refl)
 sapper_spelled (k.Number n) text e h = absurd (cc)
 sapper_spelled (k.Sized width n) text e h = absurd (cc)
 
@@ -85,7 +87,7 @@ no_keyword name first later =
     ∙ ap₂ (λ (a b : Bool). a || b) first (none_passes (λ word. bytes_eq name (word_text word)) later_words later)
 
 name_spelled : (text name : List ℕ) → Spells v.One (k.Name name) text → (o : Option Word) → later_word_of name ≡ o → Spells v.Two (kind_by o (k.Name name)) text
-name_spelled text name e (Some word) h = (e.0 ∙ same_bytes name (word_text word) (find_passes (λ word. bytes_eq name (word_text word)) later_words h), refl)
+name_spelled text name e (Some word) h = (e.0 ∙ equal_of_bytes_eq name (word_text word) (find_passes (λ word. bytes_eq name (word_text word)) later_words h), refl)
 name_spelled text name e None h = (e.0, e.1, no_keyword name e.2 h)
 
 later_spelled : (kind : Kind) (text : List ℕ) → Spells v.One kind text → Spells v.Two (later_kind kind) text
@@ -107,18 +109,13 @@ two_spelled (k.Name name) text e h l = absurd (cc)
 two_spelled (k.Number n) text e h l = (digit_two n text e h l, refl)
 two_spelled (k.Sized width n) text e h l = absurd (cc)
 
-both_true : (a b : Bool) → (a && b) ≡ true → (a ≡ true) × (b ≡ true)
-both_true true true h = (refl, refl)
-both_true true false h = absurd (cc)
-both_true false b h = absurd (cc)
-
 later_text : (source : List ℕ) (t : Token) → HasText v.One source t → HasText v.Two source (later_token t)
 later_text source t e = later_spelled t.kind (text_of source t) e
 
 second_text : (source : List ℕ) (t : Token) → HasText v.One source t → HasText v.Two source (second_token t)
 second_text source t e =
     by_test (HasText v.Two source) (is_two t)
-    (λ h. let parts = both_true (is_number_two t.kind) (t.to == t.from + 1) h in
+    (λ h. let parts = and_parts (is_number_two t.kind) (t.to == t.from + 1) h in
     let next : t.to ≡ t.from + 1 = (let p = parts.1 in grind (arith, nat_tests)) in
     two_spelled t.kind (text_of source t) e parts.0 (let l = length-take (t.to - t.from) (drop t.from source) in omega (arith, l, next)))
     (λ h. later_text source t e)

@@ -2,10 +2,11 @@
 use Rattle.std.proofs.Common.{◌≡◌, ◌≢◌, ◌<◌, ◌≤◌, ◌+◌, ℕ, List, [], ◌∷◌, Option, Some, None, Result, Ok, Err, Bool, true, false, refl, sym, ap, subst, ◌∙◌, arith}
 use Rattle.std.specs.Prelude.{nat_lt}
 use Rattle.std.proofs.lemmas.Bool.Decides.{nat_tests}
+use Rattle.sap_tree.proofs.SyntaxLemmas.{and_part}
+use Rattle.sap_parse.proofs.ReadingLemmas.{ok_one}
 use Rattle.sap_parse.specs.Grammar as g
 use Rattle.sap_parse.specs.Grammar.{sign_of, unary_sign_of}
 use Rattle.sap_parse.specs.Limits.{Counts, tally, breach}
-use Rattle.sap_parse.specs.Reading.{Outcome}
 use Rattle.sap_parse.specs.Stages.{Stage, IsToken, IsSign, IsName, IsNumber, here, spot_here}
 use Rattle.sap_parse.specs.Table as s
 use Rattle.sap_parse.specs.Table.{Symbol}
@@ -32,10 +33,6 @@ use Rattle.sap_parse.proofs.Complete.{ends, ends_expr, expr_bin_ends, no_bracket
 use Rattle.sap_parse.proofs.Known.{R, first_is, first_kind}
 use Rattle.sap_walk.specs.Limits.{Past, passed}
 use Rattle.sap_walk.specs.Walk.{Stage as StageOf}
-
--- what is read from one stage ends at one stage
-ok_one : {a b : Stage} (o : Outcome) → o ≡ Ok a → o ≡ Ok b → a ≡ b
-ok_one o e f = cc
 
 pub same_rest : (x : Symbol) {p p' q q' : Stage} → p ≡ p' → R x p ≡ Ok q → R x p' ≡ Ok q' → q ≡ q'
 same_rest x {p} e a b = ok_one (R x p) a (ap (λ z. R x z) e ∙ b)
@@ -231,9 +228,6 @@ slice_same a b c d = cc
 spot_same : {p p' q q' : Place} → p ≡ p' → q ≡ q' → ◌≡◌ {A = Spot} (record { first = p; at = q }) (record { first = p'; at = q' })
 spot_same a b = cc
 
-part_same : {x x' : t.Expression} {xs xs' : t.Expressions} → x ≡ x' → xs ≡ xs' → t.AndPart x xs ≡ t.AndPart x' xs'
-part_same a b = cc
-
 pub here_same : {p p' : Stage} → p ≡ p' → here p ≡ here p'
 here_same e = ap here e
 
@@ -380,4 +374,4 @@ mutual
   parts_one e (g.part a x more) (g.part a' x' more') h h' n n' =
       let m2 = same_behind e a a' in
       let m3 = same_rest s.Expr m2 (expr_reads x (parts_end more h)) (expr_reads x' (parts_end more' h')) in
-      part_same (expr_one m2 x x' (parts_end more h) (parts_end more' h')) (parts_one m3 more more' h h' n n')
+      and_part (expr_one m2 x x' (parts_end more h) (parts_end more' h')) (parts_one m3 more more' h h' n n')

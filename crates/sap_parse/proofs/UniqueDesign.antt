@@ -1,5 +1,6 @@
 -- Tokens have at most one tree: tag expressions, commands, declarations, states and designs.
 use Rattle.std.proofs.Common.{◌≡◌, ◌≢◌, ◌+◌, ℕ, List, [], ◌∷◌, Option, Some, None, Ok, Bool, true, false, refl, sym, ap, subst, ◌∙◌}
+use Rattle.sap_tree.proofs.SyntaxLemmas.{and_part}
 use Rattle.sap_parse.specs.Grammar as g
 use Rattle.sap_parse.specs.Stages.{Stage, here, mention, numeral, spot_here}
 use Rattle.sap_parse.specs.Table as s
@@ -187,9 +188,6 @@ constant_one e (g.plain n) (g.plain n') = number_tree e (same_token e n n')
 constant_one e (g.plain n) (g.wide n') = let t = same_token e n n' in absurd (cc)
 constant_one e (g.wide n) (g.plain n') = let t = same_token e n n' in absurd (cc)
 constant_one e (g.wide n) (g.wide n') = sized_tree e (same_token e n n')
-
-and_part : {x x' : t.Expression} {xs xs' : t.Expressions} → x ≡ x' → xs ≡ xs' → t.AndPart x xs ≡ t.AndPart x' xs'
-and_part e f = cc
 
 constants_one : {p p' q q' : Stage} {xs ys : t.Expressions} → p ≡ p' → g.Constants p xs q → g.Constants p' ys q' → first_kind q ≢ Some (k.Sign j.Comma) → first_kind q' ≢ Some (k.Sign j.Comma) → xs ≡ ys
 constants_one e g.no_constant g.no_constant n n' = refl

@@ -1,5 +1,6 @@
 -- Each symbol can be spelled, and tokens that the walk takes go on as the grammar has it.
-use Rattle.std.proofs.Common.{arith, eqb, ◌≡◌, ◌≢◌, ◌+◌, ◌-◌, ℕ, zero, suc, List, [], ◌∷◌, ◌++◌, Option, Some, None, Result, Ok, Err, Bool, true, false, cond, refl, sym, ap, subst, ◌∙◌, append_assoc}
+use Rattle.std.proofs.Common.{◌≡◌, ◌≢◌, ◌+◌, ◌-◌, ℕ, zero, suc, List, [], ◌∷◌, ◌++◌, Option, Some, None, Result, Ok, Err, Bool, true, false, cond, refl, sym, ap, subst, ◌∙◌, append_assoc}
+use Rattle.sap_lemmas.proofs.Numbers.{test_of_same}
 use Rattle.sap_parse.specs.Fault.{Spells, SpellsSome}
 use Rattle.sap_parse.specs.Limits.{Counts, none_yet, tally, breach}
 use Rattle.sap_parse.specs.Reading.{leniently}
@@ -212,14 +213,11 @@ empty : (x : Symbol) → s.may_be_empty x ≡ true → Shortest x
 unfolding Shortest
 empty x e past = record { tokens = []; after = past; spelled = λ rest. nothing x e (record { past = past; left = rest }) }
 
-same_test : (n : ℕ) → eqb n n ≡ true
-same_test n = grind arith
-
 short_sign : (role : Role) (x : SignOf) → Shortest (s.Sign role x)
-short_sign role x = by_token (s.Sign role x) (k.Sign x) role [] (ap (s.if_same role) (same_test (s.sign_number x))) tt
+short_sign role x = by_token (s.Sign role x) (k.Sign x) role [] (ap (s.if_same role) (test_of_same (s.sign_number x))) tt
 
 short_word : (role : Role) (x : WordOf) → Shortest (s.Word role x)
-short_word role x = by_token (s.Word role x) (k.Word x) role [] (ap (s.if_same role) (same_test (s.word_number x))) tt
+short_word role x = by_token (s.Word role x) (k.Word x) role [] (ap (s.if_same role) (test_of_same (s.word_number x))) tt
 
 short_name : (role : Role) → Shortest (s.Name role)
 short_name role = by_token (s.Name role) (k.Name []) role [] refl tt

@@ -1,5 +1,6 @@
 -- The arms, their sites and their points of lists in code, from a place on.
 use Rattle.std.proofs.Common.{◌≡◌, ℕ, ◌+◌, ◌<◌, ◌≤◌, List, [], ◌∷◌, ◌++◌, append_assoc, append-nil, length, get_or, drop, refl, sym, ap, ◌∙◌, arith, length-append}
+use Rattle.sap_lemmas.proofs.Lists.{drop_past}
 use Rattle.sap_tree.specs.declared.syntax.Arm.{Arm as ArmTree}
 use Rattle.sap_tree.specs.declared.syntax.Block.{Block}
 use Rattle.sap_tree.specs.declared.syntax.Cmd.{Cmd}
@@ -16,7 +17,7 @@ use Rattle.sap_program.specs.declared.program.Arm.{Arm}
 use Rattle.sap_program.specs.Views as views
 use Rattle.sap_program.specs.Lists.{list_from, list_sites, arms_from, arms_sites, numbers_of}
 use Rattle.sap_program.specs.Rows.{Rows, block_points, arms_points, block_with, arms_with}
-use Rattle.sap_program.proofs.Lists.{item_drop, drop_past, block_from, block_sites-is}
+use Rattle.sap_program.proofs.Lists.{item_drop, block_from, block_sites-is}
 use Rattle.sap_program.proofs.Shown.{before-push}
 
 -- constants

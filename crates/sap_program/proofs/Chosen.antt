@@ -4,10 +4,12 @@ use Rattle.std.specs.Prelude.{slice_get, option_map}
 use Rattle.sap_resolve.specs.Kept.Hangs.{row_of}
 use Rattle.sap_names.specs.declared.entity.Entity.{Entity}
 use Rattle.std.proofs.lemmas.Bool.Decides.{nat_tests}
-use Rattle.std.proofs.lemmas.Bool.{cases_Bool}
+use Rattle.std.proofs.lemmas.Bool.{cases_Bool, and_from}
 use Rattle.std.proofs.lemmas.Grind.{common_steps}
 use Rattle.std.specs.Bool.{IsTrue}
 use Rattle.std.specs.Prelude.{nat_eq, nat_lt}
+use Rattle.sap_lemmas.proofs.Bools.{or_assoc, or_false, or_true}
+use Rattle.sap_resolve.proofs.FillLemmas.{table_front}
 use Rattle.sap_resolve.specs.Fill.{table}
 use Rattle.sap_program.specs.Hangs.{rises_from, rises, hangs, flags}
 
@@ -27,21 +29,9 @@ taken f n m b old new t e i o w = w ∙ ap₂ (λ (l : List ℕ) (k : ℕ). l ++
 pub passed : (f : ℕ → Bool) (n : ℕ) (b : Bool) (old new : List ℕ) → b ≡ false → b ≡ f n → old ≡ chosen f n → new ≡ old → new ≡ chosen f (n + 1)
 passed f n b old new t e o w = w ∙ o ∙ sym (chosen_passed f n (sym e ∙ t))
 
-or_none : (a : Bool) → (a || false) ≡ a
-or_none true = refl
-or_none false = refl
-
-or_or : (a b c : Bool) → (a || (b || c)) ≡ ((a || b) || c)
-or_or true b c = refl
-or_or false b c = refl
-
-or_true : (a : Bool) → (a || true) ≡ true
-or_true true = refl
-or_true false = refl
-
 hangs_more : (xs : List ℕ) (n y : ℕ) → hangs (xs ++ n ∷ []) y ≡ (hangs xs y || nat_eq n y)
-hangs_more [] n y = or_none (nat_eq n y)
-hangs_more (x ∷ xs) n y = ap (λ (b : Bool). nat_eq x y || b) (hangs_more xs n y) ∙ or_or (nat_eq x y) (hangs xs y) (nat_eq n y)
+hangs_more [] n y = or_false (nat_eq n y)
+hangs_more (x ∷ xs) n y = ap (λ (b : Bool). nat_eq x y || b) (hangs_more xs n y) ∙ or_assoc (nat_eq x y) (hangs xs y) (nat_eq n y)
 
 last_taken : (f : ℕ → Bool) (n y : ℕ) → f n ≡ true → ((nat_lt y n && f y) || nat_eq n y) ≡ (nat_lt y (suc n) && f y)
 last_taken f n y h = elim (cases_Bool (nat_eq n y)) [
@@ -67,15 +57,12 @@ hangs_chosen f (suc n) y = elim (cases_Bool (f n)) [
 below_chosen : (f : ℕ → Bool) (n y : ℕ) → hangs (chosen f n) y ≡ true → y < n
 below_chosen f n y h = let k : (nat_lt y n && f y) ≡ true = sym (hangs_chosen f n y) ∙ h in grind (arith, nat_tests, common_steps)
 
-and_true : (a b : Bool) → a ≡ true → b ≡ true → (a && b) ≡ true
-and_true a b h k = rw (h, k) refl
-
 rises_from_more : (x : ℕ) (xs : List ℕ) (n : ℕ) → rises_from x xs ≡ true → x < n → ((y : ℕ) → hangs xs y ≡ true → y < n) → rises_from x (xs ++ n ∷ []) ≡ true
-rises_from_more x [] n r l h = and_true (nat_lt x n) true (grind (arith, nat_tests)) refl
+rises_from_more x [] n r l h = and_from (nat_lt x n) true (grind (arith, nat_tests)) refl
 rises_from_more x (y ∷ xs) n r l h =
     let a : nat_lt x y ≡ true = grind (arith, common_steps) in
     let b : rises_from y xs ≡ true = grind (arith, common_steps) in
-    and_true (nat_lt x y) (rises_from y (xs ++ n ∷ [])) a
+    and_from (nat_lt x y) (rises_from y (xs ++ n ∷ [])) a
     (rises_from_more y xs n b (h y (let e : nat_eq y y ≡ true = grind (arith, nat_tests) in rw e refl))
     (λ z k. h z (rw k (or_true (nat_eq y z)))))
 
@@ -118,10 +105,6 @@ named_is [] f zero name h = absurd (cc)
 named_is [] f (suc n) name h = absurd (cc)
 named_is (e ∷ es) f zero name h = (let i : e.name.name ≡ name = cc in ap f i)
 named_is (e ∷ es) f (suc n) name h = named_is es f n name h
-
-table_front : (m : ℕ) (f : ℕ → Bool) → table (suc m) f ≡ f 0 ∷ table m (λ x. f (suc x))
-table_front zero f = refl
-table_front (suc m) f = ap (λ (l : List Bool). l ++ f (suc m) ∷ []) (table_front m f)
 
 -- a row over entities as a table
 pub table_named : (es : List Entity) (f : List ℕ → Bool) → table (length es) (named es f) ≡ row_of es f

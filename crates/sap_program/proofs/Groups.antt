@@ -1,5 +1,6 @@
 -- The states and the sites of groups in code, from a place on.
 use Rattle.std.proofs.Common.{◌≡◌, ℕ, ◌+◌, ◌<◌, ◌≤◌, List, [], ◌∷◌, ◌++◌, length, get_or, drop, refl, sym, ap, ap₂, ◌∙◌, arith, Result, Ok, Err, OnOk, length-append}
+use Rattle.sap_lemmas.proofs.Lists.{drop_past}
 use Rattle.sap_tree.specs.declared.syntax.Cmd.{Cmd}
 use Rattle.sap_tree.specs.declared.syntax.Decl.{Decl}
 use Rattle.sap_tree.specs.declared.syntax.State.{State, out-State}
@@ -22,7 +23,7 @@ use Rattle.sap_program.specs.declared.program.State as code
 use Rattle.sap_program.specs.Views as views
 use Rattle.sap_program.specs.Lists.{list_from, list_sites, group_from, group_sites, states_below}
 use Rattle.sap_program.specs.Rows.{Rows, block_points, state_points, group_points, state_with, group_with}
-use Rattle.sap_program.proofs.Lists.{item_drop, drop_past, add_add}
+use Rattle.sap_program.proofs.Lists.{item_drop, add_add}
 use Rattle.sap_program.proofs.Shown.{joined-none, joined-push}
 
 -- where a state's body stands

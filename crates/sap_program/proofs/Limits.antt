@@ -1,10 +1,10 @@
 -- How many sites, points and entities a design has.
-use Rattle.std.proofs.Common.{◌≡◌, ℕ, ◌+◌, ◌*◌, ◌^◌, ◌<◌, ◌≤◌, List, [], ◌∷◌, Bool, ◌&&◌, length, arith, ap, cond, refl, ◌∙◌}
-use Rattle.std.proofs.lemmas.List.Sums.{sum_by-cons}
+use Rattle.std.proofs.Common.{◌≡◌, ℕ, ◌+◌, ◌*◌, ◌^◌, ◌<◌, ◌≤◌, List, [], ◌∷◌, Bool, ◌&&◌, length, arith, ap, refl}
 use Rattle.std.proofs.lemmas.Grind.{common_steps}
 use Rattle.std.specs.Bool.{IsTrue}
 use Rattle.std.specs.List.{count_by}
 use Rattle.std.specs.Prelude.{nat_le}
+use Rattle.sap_tree.proofs.DeclLemmas.{count_more}
 use Rattle.sap_tree.specs.declared.syntax.Decl.{Decl}
 use Rattle.sap_tree.specs.declared.syntax.Decl.TheVariants as d
 use Rattle.sap_tree.specs.Syntax.{SimpleCommand, Assign, Write, SetTag, SetCellTag, Goto, Fall, Command, Do, Try, If, TryThen, Case, Arms, Last, Arm, CommandBlock, Commands, ElseBlock, NoElse, Else, CommandList, NoCommand, AndCommand, StateTree, StateOf, StateList, NoState, AndState, DesignTree}
@@ -85,20 +85,17 @@ mutual
   states_below-few NoState = omega arith
   states_below-few (AndState s ss) = let a = states_in-few s in let b = states_below-few ss in omega arith
 
-count-cons : (p : Decl → Bool) (x : Decl) (xs : List Decl) (n : ℕ) → cond (p x) 1 0 ≡ n → count_by p (x ∷ xs) ≡ n + count_by p xs
-count-cons p x xs n h = sum_by-cons (λ (y : Decl). cond (p y) 1 0) x xs ∙ ap (λ (k : ℕ). k + count_by p xs) h
-
 declarations-few : (ds : List Decl) → length ds ≤ count_by is_input ds + count_by is_register ds + count_by is_memory ds
 declarations-few [] = omega arith
 declarations-few (d.Input place name width ∷ ds) =
     let x = d.Input place name width in
-    let a = declarations-few ds in omega (arith, a, count-cons is_input x ds 1 refl, count-cons is_register x ds 0 refl, count-cons is_memory x ds 0 refl)
+    let a = declarations-few ds in omega (arith, a, count_more is_input x ds 1 refl, count_more is_register x ds 0 refl, count_more is_memory x ds 0 refl)
 declarations-few (d.Register place name width kind start ∷ ds) =
     let x = d.Register place name width kind start in
-    let a = declarations-few ds in omega (arith, a, count-cons is_input x ds 0 refl, count-cons is_register x ds 1 refl, count-cons is_memory x ds 0 refl)
+    let a = declarations-few ds in omega (arith, a, count_more is_input x ds 0 refl, count_more is_register x ds 1 refl, count_more is_memory x ds 0 refl)
 declarations-few (d.Memory place name width depth kind ∷ ds) =
     let x = d.Memory place name width depth kind in
-    let a = declarations-few ds in omega (arith, a, count-cons is_input x ds 0 refl, count-cons is_register x ds 0 refl, count-cons is_memory x ds 1 refl)
+    let a = declarations-few ds in omega (arith, a, count_more is_input x ds 0 refl, count_more is_register x ds 0 refl, count_more is_memory x ds 1 refl)
 
 limited : (t : Bool) (i r m s d c : ℕ) → IsTrue (t && (nat_le i 64 && nat_le r 256 && nat_le m 16 && nat_le s 256 && nat_le d 16 && nat_le c 4096))
     → (i + r + m ≤ 336) × ((s ≤ 256) × (c ≤ 4096))

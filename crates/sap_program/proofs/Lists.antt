@@ -1,5 +1,6 @@
 -- The commands and the sites of lists in code, from a place on.
 use Rattle.std.proofs.Common.{◌≡◌, ℕ, zero, suc, ◌+◌, ◌<◌, ◌≤◌, List, [], ◌∷◌, ◌++◌, length, get_or, drop, refl, sym, ap, ◌∙◌, arith, add-one, Some, length-append}
+use Rattle.sap_lemmas.proofs.Lists.{drop_past}
 use Rattle.sap_tree.specs.declared.syntax.Block.{Block}
 use Rattle.sap_tree.specs.declared.syntax.Cmd.{Cmd}
 use Rattle.sap_tree.specs.Trees as trees
@@ -19,12 +20,6 @@ pub item_drop : {A : Type 0} (xs : List A) (n : ℕ) (d : A) → n < length xs �
 item_drop [] n d l e = absurd (omega arith)
 item_drop (x ∷ xs) zero d l e = ap (λ y. y ∷ xs) (sym e)
 item_drop (x ∷ xs) (suc n) d l e = let r = item_drop xs n d (omega arith) e in simp (add-one) (simp (add-one) at r)
-
-pub drop_past : {A : Type 0} (xs : List A) (n : ℕ) → length xs ≤ n → drop n xs ≡ []
-drop_past [] zero l = refl
-drop_past [] (suc n) l = refl
-drop_past (x ∷ xs) zero l = absurd (omega arith)
-drop_past (x ∷ xs) (suc n) l = drop_past xs n (omega arith)
 
 pub add_add : (a b c : ℕ) → a + b + c ≡ a + (b + c)
 add_add a b c = omega arith

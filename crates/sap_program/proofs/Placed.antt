@@ -1,6 +1,7 @@
 -- A program whose rows stand at its points is the filled one.
 use Rattle.std.proofs.Common.{◌≡◌, ℕ, zero, suc, ◌+◌, List, [], ◌∷◌, ◌++◌, Bool, Option, Some, length, map, refl, sym, ap, ap₂, subst, ◌∙◌, arith, append_assoc}
 use Rattle.std.specs.Prelude.{slice_get}
+use Rattle.std.proofs.lemmas.List.{append-nil}
 use Rattle.sap_tree.specs.declared.syntax.Decl.{Decl}
 use Rattle.sap_tree.specs.Syntax.{DesignTree}
 use Rattle.sap_tree.specs.Touches as tree
@@ -133,10 +134,6 @@ said d t is i x e =
     (λ y l. is (suc i) y ∙ ap (λ (p : Option Point). touches_entity d.declarations p (slice_get (entities_of d) y)) e ∙ touched d.declarations x (entities_of d) y)
     ∙ table_named (entities_of d) (λ name. tree.touches d.declarations x.home x.command name)
 
-append_none : {A : Type 0} (l : List A) → l ++ [] ≡ l
-append_none [] = refl
-append_none (x ∷ l) = ap (λ r. x ∷ r) (append_none l)
-
 pub placed : (ls : Levels) (d : DesignTree) (t : Table) → IsHangTable d t → group_rows (program_of ls d).states ≡ rows_of d
     → group_with (rows_in (length (entities_of d)) t) 1 (states_of ls d) ≡ (program_of ls d).states
 placed ls d t is agree =
@@ -145,4 +142,4 @@ placed ls d t is agree =
     let r = rows_in (length (entities_of d)) t in
     let follows : Follow r 1 (rows_of d) =
     follow_map r 1 (points_of d) (point_row d.declarations (entities_of d)) (λ i x e. let n : 1 + i ≡ suc i = omega arith in ap r n ∙ said d t is i x e) in
-    (group_placed r w (root w) g 1 [] (subst (λ (l : List (List Bool)). Follow r 1 l) (sym (append_none (group_rows (filled_group w (root w) g)) ∙ agree)) follows)).0
+    (group_placed r w (root w) g 1 [] (subst (λ (l : List (List Bool)). Follow r 1 l) (sym (append-nil (group_rows (filled_group w (root w) g)) ∙ agree)) follows)).0

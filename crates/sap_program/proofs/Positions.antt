@@ -1,6 +1,6 @@
 -- The number of a level's name, looked for from the first on.
 use Rattle.std.proofs.Common.{◌≡◌, ℕ, zero, suc, ◌+◌, ◌<◌, ◌≤◌, List, [], ◌∷◌, length, drop, get_or, refl, sym, ap, ◌∙◌, arith, add-one, bytes_eq, Bool, true, false, if◌then◌else◌}
-use Rattle.std.proofs.lemmas.Grind.{common_steps}
+use Rattle.sap_lattice.proofs.LevelsLemmas.{level_in_same}
 use Rattle.sap_lattice.specs.Levels.{level_in}
 use Rattle.sap_resolve.specs.Worlds.{position}
 
@@ -16,15 +16,12 @@ position_past [] (suc n) name h = refl
 position_past (l ∷ ls) zero name h = absurd (omega arith)
 position_past (l ∷ ls) (suc n) name h = position_past ls n name (omega arith)
 
-within : (n x : ℕ) → x < n → level_in n x ≡ x
-within n x h = grind (arith, common_steps)
-
 step : (ls : List (List ℕ)) (n p : ℕ) (name x : List ℕ) → n < length ls → p ≡ n → x ≡ get_or ls (level_in (length ls) p) []
     → position (drop n ls) name ≡ (if bytes_eq x name then 0 else 1 + position (drop (n + 1) ls) name)
 step ls n p name x h same is =
     position_drop ls n name h
     ∙ ap (λ (y : List ℕ). if bytes_eq y name then 0 else 1 + position (drop (n + 1) ls) name)
-    (sym (is ∙ ap (λ (q : ℕ). get_or ls (level_in (length ls) q) []) same ∙ ap (λ (q : ℕ). get_or ls q []) (within (length ls) n h)))
+    (sym (is ∙ ap (λ (q : ℕ). get_or ls (level_in (length ls) q) []) same ∙ ap (λ (q : ℕ). get_or ls q []) (level_in_same (length ls) n h)))
 
 pub position_found : (ls : List (List ℕ)) (n p : ℕ) (name x : List ℕ) → n < length ls → p ≡ n → x ≡ get_or ls (level_in (length ls) p) []
     → bytes_eq x name ≡ true → position (drop n ls) name ≡ 0

@@ -1,5 +1,6 @@
 -- A program that is made of its parts.
-use Rattle.std.proofs.Common.{◌≡◌, ℕ, List, [], ◌∷◌, Bool, length, map, refl, sym, ap, ap₂, ◌∙◌, arith}
+use Rattle.std.proofs.Common.{◌≡◌, ℕ, List, Bool, length, map, sym, ap, ap₂, ◌∙◌}
+use Rattle.sap_lemmas.proofs.Lists.{length_map}
 use Rattle.sap_tree.specs.Syntax.{DesignTree}
 use Rattle.sap_tree.specs.Touches.{root_touches}
 use Rattle.sap_lattice.specs.Levels.{Levels, order_of}
@@ -27,10 +28,6 @@ build o entities children states hang = record { world = record { order = o; ent
 build_same : (o : Order) (a b : List program.Entity) (c d : List ℕ) (s t : program.Group) (h i : List Bool) → a ≡ b → c ≡ d → s ≡ t → h ≡ i → build o a c s h ≡ build o b d t i
 build_same o a b c d s t h i e f g k = ap₂ (λ (x : List program.Entity) (y : List ℕ). build o x y s h) e f ∙ ap₂ (λ (x : program.Group) (y : List Bool). build o b d x y) g k
 
-size : {X Y : Type 0} (f : X → Y) (xs : List X) → length (map f xs) ≡ length xs
-size f [] = refl
-size f (x ∷ xs) = (let r = size f xs in omega (arith, r))
-
 -- where the code sees these entities, levels and tree as the design's
 pub program_made : (ls m : Levels) (d e : DesignTree) (es : List Entity) (t : Table) (p : Program) → m ≡ ls → e ≡ d → es ≡ entities_of d → IsHangTable d t
     → (group_rows (program_of ls d).states ≡ rows_of d) × ((program_of ls d).hang ≡ row_of (entities_of d) (root_touches d))
@@ -39,7 +36,7 @@ pub program_made : (ls m : Levels) (d e : DesignTree) (es : List Entity) (t : Ta
     → flags (length es) p.hang ≡ row_of es (root_touches e) → IsProgramOf ls d p
 program_made ls m d e es t p a b c is agree entities named children states sites hang =
     let names = named ∙ ap (λ (x : DesignTree). names_of (entities_of x)) b in
-    let counted : count p ≡ length (entities_of d) = sym (size (λ x. x.name) p.entities.items) ∙ ap length names ∙ size (λ x. x.name.name) (entities_of d) in
+    let counted : count p ≡ length (entities_of d) = sym (length_map (λ x. x.name) p.entities.items) ∙ ap length names ∙ length_map (λ x. x.name.name) (entities_of d) in
     let same : length es ≡ length (entities_of d) = ap length c in
     record {
       program = build_same (order_of ls) _ _ _ _ _ _ _ _

@@ -1,6 +1,7 @@
 -- The entities and the children of declarations and of states.
 use Rattle.std.proofs.Common.{◌≡◌, ℕ, ◌+◌, ◌<◌, ◌≤◌, List, [], ◌∷◌, ◌++◌, Bool, length, get_or, drop, map, refl, sym, ap, ap₂, ◌∙◌, arith, append_assoc}
-use Rattle.std.proofs.lemmas.List.{map-append}
+use Rattle.std.proofs.lemmas.List.{map-append, append-nil}
+use Rattle.sap_lemmas.proofs.Lists.{drop_past}
 use Rattle.sap_tree.specs.declared.syntax.Decl.{Decl}
 use Rattle.sap_tree.specs.declared.syntax.State.{State, out-State}
 use Rattle.sap_tree.specs.Parts.{tree_of}
@@ -16,11 +17,7 @@ use Rattle.sap_resolve.specs.Worlds as worlds
 use Rattle.sap_program.specs.declared.program.Entity.{Entity}
 use Rattle.sap_program.specs.Lists.{states_below, group_entities, group_names, group_children, names_of, own_names}
 use Rattle.sap_program.specs.Views.{entity_of}
-use Rattle.sap_program.proofs.Lists.{item_drop, drop_past}
-
-append_none : {A : Type 0} (l : List A) → l ++ [] ≡ l
-append_none [] = refl
-append_none (x ∷ l) = ap (λ r. x ∷ r) (append_none l)
+use Rattle.sap_program.proofs.Lists.{item_drop}
 
 -- one part, and those behind it
 after_part : {A : Type 0} (old new part rest all : List A) → new ≡ old ++ part → all ≡ part ++ rest → new ++ rest ≡ old ++ all
@@ -33,7 +30,7 @@ module _ {X Y : Type 0} (part : X → List Y) (all : List X → List Y) (none : 
   parts_step xs n d old new l e k = after_part old new (part d) (all (drop (n + 1) xs)) (all (drop n xs)) k (ap all (item_drop xs n d l e) ∙ more d (drop (n + 1) xs))
 
   parts_end : (xs : List X) (n : ℕ) (new whole : List Y) → length xs ≤ n → new ++ all (drop n xs) ≡ whole → new ≡ whole
-  parts_end xs n new whole l e = sym (ap (λ r. new ++ r) (ap all (drop_past xs n l) ∙ none) ∙ append_none new) ∙ e
+  parts_end xs n new whole l e = sym (ap (λ r. new ++ r) (ap all (drop_past xs n l) ∙ none) ∙ append-nil new) ∙ e
 
 -- one entity more
 
@@ -100,7 +97,7 @@ module _ (ls : Levels) where
       ∙ ap (λ (i : ℕ). worlds.state_entities ls n x (trees.state_of d) ++ group_entities ls (n + 1) i (drop (n + 1) ss)) (sym q))
 
   pub entities_end : (ss : List State) (n m x : ℕ) (new whole : List program.Entity) → length ss ≤ n → new ++ group_entities ls m x (drop n ss) ≡ whole → new ≡ whole
-  entities_end ss n m x new whole l e = sym (ap (λ r. new ++ r) (ap (group_entities ls m x) (drop_past ss n l) ∙ entities_none m x) ∙ append_none new) ∙ e
+  entities_end ss n m x new whole l e = sym (ap (λ r. new ++ r) (ap (group_entities ls m x) (drop_past ss n l) ∙ entities_none m x) ∙ append-nil new) ∙ e
 
   state_laid : (s : State) (n x : ℕ)
       → record {

@@ -3,20 +3,19 @@ use Rattle.std.proofs.Common.{◌≡◌, ℕ, suc, ◌+◌, ◌<◌, ◌≤◌, 
 use Rattle.std.proofs.Math.Seq.{drop-cons}
 use Rattle.std.proofs.lemmas.Bool.Decides.{nat_tests}
 use Rattle.std.specs.Prelude.{nat_lt, if◌then◌else◌}
+use Rattle.sap_lemmas.proofs.Lists.{after_part, drop_past}
+use Rattle.sap_lattice.proofs.LevelsLemmas.{level_in_same}
 use Rattle.sap_lattice.specs.Closure.{name_at}
 use Rattle.sap_lattice.specs.Codes.{code_of}
-use Rattle.sap_lattice.specs.Levels.{Levels, level_in, order_of}
+use Rattle.sap_lattice.specs.Levels.{Levels, order_of}
 use Rattle.sap_report.specs.Report.{level_line, level_lines}
-use Rattle.sap_report.proofs.Lists.{after_part, at_end, drop-past}
+use Rattle.sap_report.proofs.Lists.{at_end}
 
 -- the level at a place of the file
 pub at_place : (n place top : ℕ) → place < n → (if nat_lt place n then place else top) ≡ place
 at_place n place top h = grind (arith, nat_tests)
 
-pub level_is : (n place : ℕ) → place < n → level_in n place ≡ place
-level_is n place h = grind (arith, nat_tests)
-
-pub ruleset levels = (at_place, level_is)
+pub ruleset levels = (at_place, level_in_same)
 
 level_lines-drop : (ls : Levels) (n : ℕ) → n < length ls.names
     → level_lines ls n (drop n ls.names) ≡ level_line (name_at ls.names n) (code_of (order_of ls) n) ++ level_lines ls (n + 1) (drop (n + 1) ls.names)
@@ -30,4 +29,4 @@ pub levels_step : (ls : Levels) (n : ℕ) (old new all : List ℕ) → n < lengt
 levels_step ls n old new all h e i = after_part old new _ _ _ e (level_lines-drop ls n h) ∙ i
 
 pub levels_end : (ls : Levels) (n : ℕ) (new all : List ℕ) → length ls.names ≤ n → new ++ level_lines ls n (drop n ls.names) ≡ all → new ≡ all
-levels_end ls n new all h i = at_end new _ all (ap (λ (l : List (List ℕ)). level_lines ls n l) (drop-past ls.names n h)) i
+levels_end ls n new all h i = at_end new _ all (ap (λ (l : List (List ℕ)). level_lines ls n l) (drop_past ls.names n h)) i

@@ -1,17 +1,14 @@
 -- A name that is written last.
-use Rattle.std.proofs.Common.{◌≡◌, ℕ, ◌+◌, ◌<◌, List, [], ◌++◌, length, sym, ap, ◌∙◌, subst, Option, Some, Result, Ok, Err, OnOk, if◌then◌else◌}
+use Rattle.std.proofs.Common.{◌≡◌, ℕ, ◌+◌, ◌<◌, List, [], ◌++◌, length, sym, ap, ◌∙◌, subst, Option, Some, Result, OnOk, if◌then◌else◌}
 use Rattle.std.specs.Prelude.{OnErr, is_ok, option_map, slice_get, unwrap_or}
+use Rattle.sap_lemmas.proofs.Lists.{joined_part_on_last}
 use Rattle.sap_names.specs.declared.entity.Entity.{Entity}
 use Rattle.sap_report.specs.Report.{entity_name}
-
-on_last : {E : Type 0} (r : Result (Unit {0}) E) (new a t x : List ℕ) → new ≡ (if is_ok r then a ++ t else a) → t ≡ x → OnOk r (new ≡ a ++ x)
-on_last (Ok u) new a t x e f = e ∙ ap (λ (z : List ℕ). a ++ z) f
-on_last (Err e) new a t x p f = tt
 
 pub entity_written : {E : Type 0} (es : List Entity) (n : ℕ) (name text old new : List ℕ) (r : Result (Unit {0}) E)
     → option_map (λ (e : Entity). e.name.name) (slice_get es n) ≡ Some name → text ≡ name → new ≡ (if is_ok r then old ++ text else old) → OnOk r (new ≡ old ++ entity_name es n)
 entity_written es n name text old new r h t e =
-    on_last r new old text (entity_name es n) e (t ∙ sym (ap (λ (o : Option (List ℕ)). unwrap_or o []) h))
+    joined_part_on_last r new old text (entity_name es n) e (t ∙ sym (ap (λ (o : Option (List ℕ)). unwrap_or o []) h))
 
 -- there was no room for it
 pub entity_full : {E : Type 0} (es : List Entity) (n capacity size old : ℕ) (name text : List ℕ) (r : Result (Unit {0}) E)

@@ -1,13 +1,15 @@
 -- The lines of points and the names in them, from a place on.
 use Rattle.std.proofs.Common.{◌≡◌, ℕ, ◌+◌, ◌-◌, ◌<◌, ◌≤◌, List, [], ◌∷◌, ◌++◌, ◌&&◌, length, drop, refl, sym, ap, ◌∙◌, arith, append_assoc, Bool, true, false, not}
 use Rattle.std.specs.Prelude.{Option, Some, slice_get, unwrap_or, option_map, codes, if◌then◌else◌}
+use Rattle.sap_lemmas.proofs.Lists.{after_part, drop_past}
+use Rattle.std.proofs.lemmas.List.{append-nil}
 use Rattle.sap_tree.specs.Syntax.{DesignTree}
 use Rattle.sap_names.specs.declared.entity.Entity.{Entity}
 use Rattle.sap_names.specs.Entities.{entities_of}
 use Rattle.sap_check.specs.declared.point.Point.{Point}
 use Rattle.sap_hang.specs.Hang.{IsHangTable, Table, hangs, says}
 use Rattle.sap_report.specs.Report.{each_name, entity_name, hanging, is_none, names_text, point_line, point_lines, where_hung}
-use Rattle.sap_report.proofs.Lists.{after_part, at_end, drop-at, drop-past, drop-some}
+use Rattle.sap_report.proofs.Lists.{at_end, drop-at, drop-some}
 
 -- names, where there is one and where there is none
 
@@ -34,10 +36,6 @@ names-some names b old new e t h = h ∙ ap (λ (l : List ℕ). old ++ l) (sym (
 
 pub ruleset named = (text-none, each-none, text-some)
 
-append_none : (l : List ℕ) → l ++ [] ≡ l
-append_none [] = refl
-append_none (x ∷ l) = ap (λ (z : List ℕ). x ∷ z) (append_none l)
-
 -- what the table says is what hangs
 pub says_so : (d : DesignTree) (table : Table) (p x : ℕ) (b : Bool) → IsHangTable d table → b ≡ says table p x → b ≡ hangs d p x
 says_so d table p x b h e = e ∙ h p x
@@ -46,12 +44,12 @@ pub name_hung : (d : DesignTree) (p x : ℕ) (b : Bool) (out mid new : List ℕ)
     → new ≡ out ++ each_name (where_hung d p x)
 name_hung d p x b out mid new h t e k =
     let n = entity_name (entities_of d) x in
-    k ∙ ap (λ (l : List ℕ). l ++ n) e ∙ append_assoc out (codes " ") n ∙ ap (λ (l : List ℕ). out ++ (codes " " ++ l)) (sym (append_none n))
+    k ∙ ap (λ (l : List ℕ). l ++ n) e ∙ append_assoc out (codes " ") n ∙ ap (λ (l : List ℕ). out ++ (codes " " ++ l)) (sym (append-nil n))
     ∙ ap (λ (c : Bool). out ++ each_name (if c then n ∷ [] else [])) (sym t ∙ h)
 
 pub name_free : (d : DesignTree) (p x : ℕ) (b : Bool) (out : List ℕ) → b ≡ hangs d p x → b ≡ false → out ≡ out ++ each_name (where_hung d p x)
 name_free d p x b out h t =
-    sym (append_none out) ∙ ap (λ (c : Bool). out ++ each_name (if c then entity_name (entities_of d) x ∷ [] else [])) (sym t ∙ h)
+    sym (append-nil out) ∙ ap (λ (c : Bool). out ++ each_name (if c then entity_name (entities_of d) x ∷ [] else [])) (sym t ∙ h)
 
 none_step : (b none : Bool) (n : List ℕ) (rest : List (List ℕ)) → ((none && not b) && is_none rest) ≡ (none && is_none (if b then n ∷ rest else rest))
 none_step true true n rest = refl
@@ -60,7 +58,7 @@ none_step false true n rest = refl
 none_step false false n rest = refl
 
 each_step : (b : Bool) (n : List ℕ) (rest : List (List ℕ)) → each_name (if b then n ∷ [] else []) ++ each_name rest ≡ each_name (if b then n ∷ rest else rest)
-each_step true n rest = ap (λ (l : List ℕ). (codes " " ++ l) ++ each_name rest) (append_none n) ∙ append_assoc (codes " ") n (each_name rest)
+each_step true n rest = ap (λ (l : List ℕ). (codes " " ++ l) ++ each_name rest) (append-nil n) ∙ append_assoc (codes " ") n (each_name rest)
 each_step false n rest = refl
 
 module _ (d : DesignTree) (p : ℕ) where
@@ -104,4 +102,4 @@ pub points_step : (d : DesignTree) (qs : List Point) (n : ℕ) (q : Point) (old 
 points_step d qs n q old new all h e i = after_part old new _ _ _ e (point_lines-drop d qs n q h) ∙ i
 
 pub points_end : (d : DesignTree) (qs : List Point) (n : ℕ) (new all : List ℕ) → length qs ≤ n → new ++ point_lines d (n + 1) (drop n qs) ≡ all → new ≡ all
-points_end d qs n new all h i = at_end new _ all (ap (λ (l : List Point). point_lines d (n + 1) l) (drop-past qs n h)) i
+points_end d qs n new all h i = at_end new _ all (ap (λ (l : List Point). point_lines d (n + 1) l) (drop_past qs n h)) i

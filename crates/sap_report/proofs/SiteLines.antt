@@ -3,6 +3,7 @@ use Rattle.std.proofs.Common.{◌≡◌, ℕ, zero, suc, ◌+◌, ◌-◌, ◌<�
 use Rattle.std.specs.Prelude.{Option, Some, None, map, slice_get, unwrap_or, option_map, if◌then◌else◌}
 use Rattle.std.specs.Str.{bytes_eq}
 use Rattle.std.proofs.lemmas.List.{length-append, map-append}
+use Rattle.sap_lemmas.proofs.Lists.{after_part, drop_past}
 use Rattle.sap_tree.specs.Syntax.{SimpleCommand, Command, Do, Try, If, TryThen, Case, Arms, Last, Arm, CommandBlock, Commands, ElseBlock, NoElse, Else, CommandList, NoCommand, AndCommand, StateTree, StateOf, StateList, NoState, AndState, DesignTree}
 use Rattle.sap_names.specs.declared.entity.Entity.{Entity}
 use Rattle.sap_names.specs.Entities.{entities_of, declared_in, group_entities, number_of}
@@ -10,7 +11,7 @@ use Rattle.sap_shape.specs.Sites.{is_site, Home, CheckSite, simple_sites, comman
 use Rattle.sap_check.specs.declared.site.Site.{Site}
 use Rattle.sap_check.specs.Sites.{entity_number, target_of, site_of, sites_of}
 use Rattle.sap_report.specs.Report.{site_line, site_lines}
-use Rattle.sap_report.proofs.Lists.{after_part, at_end, drop-at, drop-past}
+use Rattle.sap_report.proofs.Lists.{at_end, drop-at}
 
 site_lines-drop : (es : List Entity) (ss : List Site) (n : ℕ) (s : Site) → slice_get ss ((n + 1) - 1) ≡ Some s
     → site_lines es (n + 1) (drop n ss) ≡ site_line es (n + 1) s ++ site_lines es ((n + 1) + 1) (drop (n + 1) ss)
@@ -23,7 +24,7 @@ pub sites_step : (es : List Entity) (ss : List Site) (n : ℕ) (s : Site) (old n
 sites_step es ss n s old new all h e i = after_part old new _ _ _ e (site_lines-drop es ss n s h) ∙ i
 
 pub sites_end : (es : List Entity) (ss : List Site) (n : ℕ) (new all : List ℕ) → length ss ≤ n → new ++ site_lines es (n + 1) (drop n ss) ≡ all → new ≡ all
-sites_end es ss n new all h i = at_end new _ all (ap (λ (l : List Site). site_lines es (n + 1) l) (drop-past ss n h)) i
+sites_end es ss n new all h i = at_end new _ all (ap (λ (l : List Site). site_lines es (n + 1) l) (drop_past ss n h)) i
 
 -- numbers of names
 

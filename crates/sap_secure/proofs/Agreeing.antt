@@ -1,11 +1,11 @@
 -- Stores that look alike while a cycle runs.
 use Rattle.std.proofs.Common.{◌≡◌, ℕ, Bool, true, false, ◌||◌, refl, sym, ap, ◌∙◌, subst, inl, inr, if◌then◌else◌}
-use Rattle.std.proofs.lemmas.Bool.{cases_Bool}
+use Rattle.std.proofs.lemmas.Bool.{cases_Bool, false_from_ne_true}
+use Rattle.sap_meaning.proofs.ProgramLemmas.{state_no_value}
 use Rattle.sap_lattice.specs.Order.{Laws}
-use Rattle.sap_meaning.specs.Program.{World, Kind, input, register, memory, state, entity, is_dynamic, is_input, is_register, is_memory, is_state, kind_is_input, kind_is_register, kind_is_state, authority}
+use Rattle.sap_meaning.specs.Program.{World, entity, is_dynamic, is_input, is_register, is_memory, is_state, authority}
 use Rattle.sap_meaning.specs.Store.{Slot, own, start, next, start_whole, next_whole, Store, owner, home, number, level, same_slot, put_number, put_level, put_child, raised, raise, lowered, reset, held}
 use Rattle.sap_meaning.specs.Agree.{Low, High}
-use Rattle.sap_meaning.proofs.Bools.{not_true}
 use Rattle.sap_meaning.proofs.Slots.{slot_self, slot_same, home_own, home_cell, home_next, level_number, level_raise, number_put}
 use Rattle.sap_meaning.proofs.Keeps.{OfDynamic, raise_keeps, reset_keeps}
 use Rattle.sap_secure.proofs.Levels.{Like, Same, high_left, high_right, low_join, same_high, same_self, same_flip, same_next, same_raised}
@@ -29,20 +29,13 @@ Sole w z = (y : Slot) → same_slot (home w y) (home w z) ≡ true → y ≡ z
 pub sole_own : (w : World) (x : ℕ) → Sole w (own x)
 sole_own w x y h = slot_same y (own x) (sym (home_own w y x) ∙ h)
 
--- a state is nothing that is read
-pub not_both : (k : Kind) → kind_is_state k ≡ true → (kind_is_input k || kind_is_register k) ≡ false
-not_both input h = cc
-not_both register h = cc
-not_both (memory d) h = cc
-not_both (state p n) h = refl
-
 pub sole_cell : (w : World) (m i : ℕ) → is_dynamic w m ≡ false → Sole w (next m i)
 sole_cell w m i d y h = home_cell w y m i (subst (λ z. same_slot (home w y) z ≡ true) (home_next w m i d) h)
 
 pub sole_test : (w : World) (z : Slot) → Sole w z → (y : Slot) → same_slot (home w y) (home w z) ≡ same_slot y z
 sole_test w z sole y = elim (cases_Bool (same_slot y z)) [
   | inl h ↦ (ap (λ x. same_slot (home w x) (home w z)) (slot_same y z h) ∙ slot_self (home w z)) ∙ sym h
-  | inr h ↦ not_true _ (λ j. let k : same_slot y z ≡ true = ap (λ x. same_slot x z) (sole y j) ∙ slot_self z in cc) ∙ sym h
+  | inr h ↦ false_from_ne_true _ (λ j. let k : same_slot y z ≡ true = ap (λ x. same_slot x z) (sole y j) ∙ slot_self z in cc) ∙ sym h
 ]
 
 module _ (w : World) (laws : Laws w.order) (l : ℕ) where
@@ -172,7 +165,7 @@ module _ (w : World) (laws : Laws w.order) (l : ℕ) where
     where
       off : (y : Slot) → compared w y ≡ true → lowered w target (home w y) ≡ false
       off (own x) g = elim (cases_Bool (is_state w x)) [
-        | inl k ↦ (let no = not_both (entity w x).kind k in cc)
+        | inl k ↦ (let no = state_no_value (entity w x).kind k in cc)
         | inr k ↦ rw k refl
       ]
       off (start m i) g = elim (cases_Bool (is_dynamic w m)) [ inl d ↦ rw d refl | inr d ↦ rw d refl ]
@@ -193,7 +186,7 @@ module _ (w : World) (laws : Laws w.order) (l : ℕ) where
   }
     where
       both : (y : Slot) → compared w y ≡ true → (i : Bool) → (i ≡ true → y ≡ own x) → Same w.order l (number y s) (level w y s) (number y s) (if i then a else level w y s)
-      both y g true at = let g' = subst (λ z. compared w z ≡ true) (at refl) g in let no = not_both (entity w x).kind st in cc
+      both y g true at = let g' = subst (λ z. compared w z ≡ true) (at refl) g in let no = state_no_value (entity w x).kind st in cc
       both y g false at = same_self w.order laws l _ _
 
       tagged : (y : Slot) → is_dynamic w (owner y) ≡ false → (i : Bool) → (i ≡ true → y ≡ own x) → level w y s ≡ (if i then a else level w y s)

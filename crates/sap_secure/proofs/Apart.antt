@@ -1,56 +1,41 @@
 -- What registers, memories and states have apart.
 use Rattle.std.proofs.Common.{◌≡◌, ℕ, suc, Bool, true, false, ◌||◌, refl, sym, ◌∙◌, nat_eq, inl, inr}
-use Rattle.sap_meaning.specs.Program.{World, is_dynamic, Kind, input, register, memory, state, entity, is_register, is_memory, is_state, kind_is_register, kind_is_memory, kind_is_state, Step, Set, Write, Retag, RetagCell, Goto, Fall, Command, Do, Try, If, TryThen, Case, Arms, Last, Arm, Block, End, Then, State, Node, Group, None, More}
+use Rattle.sap_lemmas.proofs.Bools.{and_left}
+use Rattle.std.proofs.lemmas.Bool.{eqb-true, false_from_ne_true, ne_eqb, or_cases, or_from, or_left, or_right}
+use Rattle.sap_meaning.proofs.ProgramLemmas.{memory_no_state, register_no_memory, register_no_state}
+use Rattle.sap_meaning.proofs.FineLemmas.{inside_among}
+use Rattle.sap_meaning.specs.Program.{World, is_dynamic, entity, is_register, is_memory, is_state, Step, Set, Write, Retag, RetagCell, Goto, Fall, Command, Do, Try, If, TryThen, Case, Arms, Last, Arm, Block, End, Then, State, Node, Group, None, More}
 use Rattle.sap_meaning.specs.Touches.{among, step_assigns, assigns, arms_assign, block_assigns, state_assigns, group_assigns, step_hangs, hangs, arms_hang, block_hangs}
 use Rattle.sap_meaning.specs.Fine.{FineStep, FineCommand, FineArms, FineBlock, FineState, FineGroup, inside, step_writes, writes, arms_write, block_writes, step_reaches, reaches, arms_reaching, block_reaches, group_reaches}
 use Rattle.sap_secure.proofs.Concerns.{parted_of, group_parted, step_concerns, concerns, arms_concern, block_concerns}
-use Rattle.sap_meaning.proofs.Bools.{and_left, or_left, or_right, or_of, or_false, not_true, same_number, eq_not}
 
 either_of : (a b c d : Bool) → (a ≡ true → c ≡ true) → (b ≡ true → d ≡ true) → (a || b) ≡ true → (c || d) ≡ true
-either_of a b c d f g h = elim (or_of a b h) [ inl i ↦ or_left c d (f i) | inr i ↦ or_right c d (g i) ]
-
-register_state : (k : Kind) → kind_is_register k ≡ true → kind_is_state k ≡ false
-register_state input h = cc
-register_state register h = refl
-register_state (memory d) h = cc
-register_state (state p n) h = cc
-
-memory_state : (k : Kind) → kind_is_memory k ≡ true → kind_is_state k ≡ false
-memory_state input h = cc
-memory_state register h = cc
-memory_state (memory d) h = refl
-memory_state (state p n) h = cc
-
-register_memory : (k : Kind) → kind_is_register k ≡ true → kind_is_memory k ≡ false
-register_memory input h = cc
-register_memory register h = refl
-register_memory (memory d) h = cc
-register_memory (state p n) h = cc
+either_of a b c d f g h = elim (or_cases a b h) [ inl i ↦ or_left c d (f i) | inr i ↦ or_right c d (g i) ]
 
 module _ (w : World) where
   pub register_apart : (x y : ℕ) → is_state w x ≡ true → is_register w y ≡ true → nat_eq x y ≡ false
-  register_apart x y s r = eq_not x y (λ e. let r' = rw (← e) at r in let f = register_state (entity w x).kind r' in cc)
+  register_apart x y s r = ne_eqb x y (λ e. let r' = rw (← e) at r in let f = register_no_state (entity w x).kind r' in cc)
 
   pub memory_apart : (x y : ℕ) → is_state w x ≡ true → is_memory w y ≡ true → nat_eq x y ≡ false
-  memory_apart x y s r = eq_not x y (λ e. let r' = rw (← e) at r in let f = memory_state (entity w x).kind r' in cc)
+  memory_apart x y s r = ne_eqb x y (λ e. let r' = rw (← e) at r in let f = memory_no_state (entity w x).kind r' in cc)
 
   pub cell_apart : (m y : ℕ) → is_memory w m ≡ true → is_register w y ≡ true → nat_eq m y ≡ false
-  cell_apart m y s r = eq_not m y (λ e. let r' = rw (← e) at r in let f = register_memory (entity w m).kind r' in cc)
+  cell_apart m y s r = ne_eqb m y (λ e. let r' = rw (← e) at r in let f = register_no_memory (entity w m).kind r' in cc)
 
   pub state_no_register : (x : ℕ) → is_state w x ≡ true → is_register w x ≡ false
-  state_no_register x s = not_true _ (λ r. let f = register_state (entity w x).kind r in cc)
+  state_no_register x s = false_from_ne_true _ (λ r. let f = register_no_state (entity w x).kind r in cc)
 
   pub state_no_memory : (x : ℕ) → is_state w x ≡ true → is_memory w x ≡ false
-  state_no_memory x s = not_true _ (λ r. let f = memory_state (entity w x).kind r in cc)
+  state_no_memory x s = false_from_ne_true _ (λ r. let f = memory_no_state (entity w x).kind r in cc)
 
   pub no_state : (x : ℕ) → (is_register w x || is_memory w x) ≡ true → is_state w x ≡ false
-  no_state x h = elim (or_of _ _ h) [ inl r ↦ register_state (entity w x).kind r | inr m ↦ memory_state (entity w x).kind m ]
+  no_state x h = elim (or_cases _ _ h) [ inl r ↦ register_no_state (entity w x).kind r | inr m ↦ memory_no_state (entity w x).kind m ]
 
   -- what is neither register nor memory is assigned nowhere
   module _ (x : ℕ) (r : is_register w x ≡ false) (m : is_memory w x ≡ false) where
     step_unassigned : (q j : Group) (k : Step) → FineStep w q j k → step_assigns k x ≡ false
-    step_unassigned q j (Set site y e) fine = eq_not x y (λ h. let yes : is_register w y ≡ true = fine.0 in let r' = rw h at r in cc)
-    step_unassigned q j (Write site n i e) fine = eq_not x n (λ h. let yes : is_memory w n ≡ true = fine.0 in let m' = rw h at m in cc)
+    step_unassigned q j (Set site y e) fine = ne_eqb x y (λ h. let yes : is_register w y ≡ true = fine.0 in let r' = rw h at r in cc)
+    step_unassigned q j (Write site n i e) fine = ne_eqb x n (λ h. let yes : is_memory w n ≡ true = fine.0 in let m' = rw h at m in cc)
     step_unassigned q j (Retag site y n) fine = refl
     step_unassigned q j (RetagCell site n d t) fine = refl
     step_unassigned q j (Goto site target) fine = refl
@@ -59,26 +44,26 @@ module _ (w : World) where
     mutual
       pub unassigned : (q j : Group) (c : Command) → FineCommand w q j c → assigns c x ≡ false
       unassigned q j (Do k) fine = step_unassigned q j k fine
-      unassigned q j (Try k hang h) fine = or_false _ _ (step_unassigned q j k fine.0) (block_unassigned q j h fine.1)
-      unassigned q j (If hang e a b) fine = or_false _ _ (block_unassigned q j a fine.1) (block_unassigned q j b fine.2)
-      unassigned q j (TryThen k hang a b) fine = or_false _ _ (step_unassigned q j k fine.0) (or_false _ _ (block_unassigned q j a fine.1) (block_unassigned q j b fine.2))
+      unassigned q j (Try k hang h) fine = or_from _ _ (step_unassigned q j k fine.0) (block_unassigned q j h fine.1)
+      unassigned q j (If hang e a b) fine = or_from _ _ (block_unassigned q j a fine.1) (block_unassigned q j b fine.2)
+      unassigned q j (TryThen k hang a b) fine = or_from _ _ (step_unassigned q j k fine.0) (or_from _ _ (block_unassigned q j a fine.1) (block_unassigned q j b fine.2))
       unassigned q j (Case hang e arms) fine = arms_unassigned q j arms fine.1
 
       arms_unassigned : (q j : Group) (arms : Arms) → FineArms w q j arms → arms_assign arms x ≡ false
       arms_unassigned q j (Last b) fine = block_unassigned q j b fine
-      arms_unassigned q j (Arm constants b arms) fine = or_false _ _ (block_unassigned q j b fine.0) (arms_unassigned q j arms fine.1)
+      arms_unassigned q j (Arm constants b arms) fine = or_from _ _ (block_unassigned q j b fine.0) (arms_unassigned q j arms fine.1)
 
       pub block_unassigned : (q j : Group) (b : Block) → FineBlock w q j b → block_assigns b x ≡ false
       block_unassigned q j End fine = refl
-      block_unassigned q j (Then c cs) fine = or_false _ _ (unassigned q j c fine.0) (block_unassigned q j cs fine.1)
+      block_unassigned q j (Then c cs) fine = or_from _ _ (unassigned q j c fine.0) (block_unassigned q j cs fine.1)
 
     mutual
       pub state_unassigned : (q : Group) (n : ℕ) (t : State) → FineState w q n t → state_assigns t x ≡ false
-      state_unassigned q n (Node e b g) fine = or_false _ _ (block_unassigned q g b fine.0.steps) (group_unassigned g 0 g fine.1)
+      state_unassigned q n (Node e b g) fine = or_from _ _ (block_unassigned q g b fine.0.steps) (group_unassigned g 0 g fine.1)
 
       pub group_unassigned : (q : Group) (n : ℕ) (g : Group) → FineGroup w q n g → group_assigns g x ≡ false
       group_unassigned q n None fine = refl
-      group_unassigned q n (More t g) fine = or_false _ _ (state_unassigned q n t fine.0) (group_unassigned q (suc n) g fine.1)
+      group_unassigned q n (More t g) fine = or_from _ _ (state_unassigned q n t fine.0) (group_unassigned q (suc n) g fine.1)
 
   -- an enforced memory that concerns a body is reached
   module _ (m : ℕ) (mem : is_memory w m ≡ true) (d : is_dynamic w m ≡ false) (e : ℕ) (g : Group) (own : nat_eq m e ≡ false) (kids : among g m ≡ false) where
@@ -117,23 +102,23 @@ module _ (w : World) where
     step_unhung q (Retag site y n) fine = refl
     step_unhung q (RetagCell site m j n) fine = refl
     step_unhung q (Goto site target) fine = own
-    step_unhung q (Fall site hang) fine = or_false _ _ kids free
+    step_unhung q (Fall site hang) fine = or_from _ _ kids free
 
     mutual
       pub unhung : (q : Group) (c : Command) → FineCommand w q g c → hangs e g c x ≡ false
       unhung q (Do k) fine = step_unhung q k fine
-      unhung q (Try k hang h) fine = or_false _ _ (step_unhung q k fine.0) (block_unhung q h fine.1)
-      unhung q (If hang t a b) fine = or_false _ _ (block_unhung q a fine.1) (block_unhung q b fine.2)
-      unhung q (TryThen k hang a b) fine = or_false _ _ (step_unhung q k fine.0) (or_false _ _ (block_unhung q a fine.1) (block_unhung q b fine.2))
+      unhung q (Try k hang h) fine = or_from _ _ (step_unhung q k fine.0) (block_unhung q h fine.1)
+      unhung q (If hang t a b) fine = or_from _ _ (block_unhung q a fine.1) (block_unhung q b fine.2)
+      unhung q (TryThen k hang a b) fine = or_from _ _ (step_unhung q k fine.0) (or_from _ _ (block_unhung q a fine.1) (block_unhung q b fine.2))
       unhung q (Case hang t arms) fine = arms_unhung q arms fine.1
 
       arms_unhung : (q : Group) (arms : Arms) → FineArms w q g arms → arms_hang e g arms x ≡ false
       arms_unhung q (Last b) fine = block_unhung q b fine
-      arms_unhung q (Arm constants b arms) fine = or_false _ _ (block_unhung q b fine.0) (arms_unhung q arms fine.1)
+      arms_unhung q (Arm constants b arms) fine = or_from _ _ (block_unhung q b fine.0) (arms_unhung q arms fine.1)
 
       pub block_unhung : (q : Group) (b : Block) → FineBlock w q g b → block_hangs e g b x ≡ false
       block_unhung q End fine = refl
-      block_unhung q (Then c cs) fine = or_false _ _ (unhung q c fine.0) (block_unhung q cs fine.1)
+      block_unhung q (Then c cs) fine = or_from _ _ (unhung q c fine.0) (block_unhung q cs fine.1)
 
   -- what writes, reaches
   module _ (g : Group) (m : ℕ) where
@@ -201,25 +186,17 @@ module _ (e : ℕ) (g : Group) (x : ℕ) (own : nat_eq x e ≡ false) (kids : am
     block_found End = λ h. cc
     block_found (Then c cs) = either_side (hangs e g c x) (block_hangs e g cs x) (assigns c x) (block_assigns cs x) (found c) (block_found cs)
 
--- the states of a group are inside it
-pub inside_among : (g : Group) (x : ℕ) → among g x ≡ true → inside g x ≡ true
-inside_among None x h = h
-inside_among (More (Node c b k) g) x h = elim (or_of (nat_eq x c) (among g x) h) [
-  | inl e ↦ or_left _ _ e
-  | inr e ↦ or_right (nat_eq x c) _ (or_right (inside k x) _ (inside_among g x e))
-]
-
 module _ (w : World) where
   -- and are states
   pub inside_state : (q : Group) (n : ℕ) (g : Group) → FineGroup w q n g → (x : ℕ) → inside g x ≡ true → is_state w x ≡ true
   inside_state q n None fine x h = cc
-  inside_state q n (More (Node c b k) g) fine x h = elim (or_of (nat_eq x c) _ h) [
-    | inl e ↦ rw (same_number x c e) fine.0.0.kind
-    | inr e ↦ elim (or_of (inside k x) (inside g x) e) [
+  inside_state q n (More (Node c b k) g) fine x h = elim (or_cases (nat_eq x c) _ h) [
+    | inl e ↦ rw (eqb-true x c e) fine.0.0.kind
+    | inr e ↦ elim (or_cases (inside k x) (inside g x) e) [
       | inl i ↦ and_left _ _ (fine.0.0.numbers x i)
       | inr i ↦ inside_state q (suc n) g fine.1 x i
     ]
   ]
 
   pub apart_of : (q : Group) (n : ℕ) (g : Group) → FineGroup w q n g → (x : ℕ) → is_state w x ≡ false → among g x ≡ false
-  apart_of q n g fine x s = not_true (among g x) (λ h. let k = inside_state q n g fine x (inside_among g x h) in cc)
+  apart_of q n g fine x s = false_from_ne_true (among g x) (λ h. let k = inside_state q n g fine x (inside_among g x h) in cc)

@@ -1,18 +1,18 @@
 -- Two runs that both arrive at a state look alike from there down.
 use Rattle.std.proofs.Common.{◌≡◌, ℕ, Bool, true, false, ◌||◌, refl, sym, ◌∙◌, subst, nat_eq, inl, inr, ◌⊎◌, if◌then◌else◌}
-use Rattle.std.proofs.lemmas.Bool.{cases_Bool}
+use Rattle.std.proofs.lemmas.Bool.{cases_Bool, eqb-true, or_cases, or_left, or_right}
+use Rattle.sap_meaning.proofs.FineLemmas.{inside_among}
 use Rattle.sap_lattice.specs.Order.{Laws}
 use Rattle.sap_meaning.specs.Program.{World, is_dynamic, is_state, place, below, Goto, State, Node, Group, None, More}
 use Rattle.sap_meaning.specs.Store.{own, Store, level, child, put_level, put_child, reset, After}
 use Rattle.sap_meaning.specs.State.{Holds}
 use Rattle.sap_meaning.specs.Does.{effect}
 use Rattle.sap_meaning.specs.Fine.{inside, number_of}
-use Rattle.sap_meaning.proofs.Bools.{or_left, or_right, or_of, same_number}
 use Rattle.sap_meaning.proofs.Slots.{level_put, child_level_put, level_reset, child_reset, held_state}
 use Rattle.sap_meaning.proofs.Trees.{Nth, lands, nth_fine}
 use Rattle.sap_meaning.proofs.Keeps.{holds_level, holds_reset, holds_child}
 use Rattle.sap_secure.proofs.Agreeing.{Agree, agree_flip, agree_next, agree_child, agree_reset, agree_state}
-use Rattle.sap_secure.proofs.Apart.{inside_state, inside_among}
+use Rattle.sap_secure.proofs.Apart.{inside_state}
 use Rattle.sap_secure.proofs.Sites.{ProperStep, spot}
 use Rattle.sap_secure.proofs.Walks.{path, from_nth, from_settled}
 use Rattle.sap_secure.proofs.Still.{Scene, target_of, moved_child}
@@ -61,17 +61,17 @@ module _ (w : World) (laws : Laws w.order) (l : ℕ) (c : Scene w l) (site targe
   spanned : (a : State) → Nth c.site.siblings (place w target) a → number_of a ≡ target → (x : ℕ) → inside (More a None) x ≡ true → (nat_eq x target || below w target x) ≡ true
   spanned (Node e b k) nth name x h =
       let f = nth_fine w c.site.siblings 0 c.site.siblings (place w target) (Node e b k) nth c.site.around.fine in
-      elim (or_of (nat_eq x e) _ h) [
+      elim (or_cases (nat_eq x e) _ h) [
         | inl i ↦ or_left _ _ (subst (λ y. nat_eq x y ≡ true) name i)
-        | inr i ↦ or_right (nat_eq x target) _ (subst (λ y. below w y x ≡ true) name (f.0.numbers x (elim (or_of (inside k x) false i) [ inl j ↦ j | inr j ↦ cc ])))
+        | inr i ↦ or_right (nat_eq x target) _ (subst (λ y. below w y x ≡ true) name (f.0.numbers x (elim (or_cases (inside k x) false i) [ inl j ↦ j | inr j ↦ cc ])))
       ]
 
   spanned_state : (a : State) → Nth c.site.siblings (place w target) a → (x : ℕ) → inside (More a None) x ≡ true → is_state w x ≡ true
   spanned_state (Node e b k) nth x h =
       let f = nth_fine w c.site.siblings 0 c.site.siblings (place w target) (Node e b k) nth c.site.around.fine in
-      elim (or_of (nat_eq x e) _ h) [
-        | inl i ↦ rw (same_number x e i) f.0.kind
-        | inr i ↦ inside_state w k 0 k f.1 x (elim (or_of (inside k x) false i) [ inl j ↦ j | inr j ↦ cc ])
+      elim (or_cases (nat_eq x e) _ h) [
+        | inl i ↦ rw (eqb-true x e i) f.0.kind
+        | inr i ↦ inside_state w k 0 k f.1 x (elim (or_cases (inside k x) false i) [ inl j ↦ j | inr j ↦ cc ])
       ]
 
   same_path : (a : State) → Nth c.site.siblings (place w target) a → (s t : Store) → Agree w l s t → Holds w s → Holds w t → child c.site.parent s ≡ place w target → child c.site.parent t ≡ place w target → ((x : ℕ) → inside (More a None) x ≡ true → child x s ≡ child x t) → ((x : ℕ) → inside (More a None) x ≡ true → is_dynamic w x ≡ true → level w (own x) s ≡ level w (own x) t) → path w l c.site.parent c.site.siblings s ≡ path w l c.site.parent c.site.siblings t
@@ -95,13 +95,13 @@ module _ (w : World) (laws : Laws w.order) (l : ℕ) (c : Scene w l) (site targe
           path = same_path a.0 a.1 (put_level w (own target) pc (moved s)) (put_level w (own target) pc (moved t)) one two three
               (child_level_put w c.site.parent (own target) pc (moved s) ∙ seat s) (child_level_put w c.site.parent (own target) pc (moved t) ∙ seat t)
               (λ x i. child_level_put w x (own target) pc (moved s) ∙ child_moved x s (spanned a.0 a.1 a.2 x i) ∙ sym (child_level_put w x (own target) pc (moved t) ∙ child_moved x t (spanned a.0 a.1 a.2 x i)))
-              (λ x i y. wrote x y (or_of _ _ (spanned a.0 a.1 a.2 x i)));
+              (λ x i y. wrote x y (or_cases _ _ (spanned a.0 a.1 a.2 x i)));
         })
     | inr d ↦ rw d (record {
       same = agree_moved s t like;
       path = same_path a.0 a.1 (moved s) (moved t) (agree_moved s t like) (holds_moved s hs) (holds_moved t ht) (seat s) (seat t)
           (λ x i. child_moved x s (spanned a.0 a.1 a.2 x i) ∙ sym (child_moved x t (spanned a.0 a.1 a.2 x i)))
-          (λ x i y. still x d y (or_of _ _ (spanned a.0 a.1 a.2 x i)));
+          (λ x i y. still x d y (or_cases _ _ (spanned a.0 a.1 a.2 x i)));
     })
   ]
     where
@@ -122,7 +122,7 @@ module _ (w : World) (laws : Laws w.order) (l : ℕ) (c : Scene w l) (site targe
       ]
 
       still : (x : ℕ) → is_dynamic w target ≡ false → is_dynamic w x ≡ true → ((nat_eq x target ≡ true) ⊎ (below w target x ≡ true)) → level w (own x) (moved s) ≡ level w (own x) (moved t)
-      still x d y (inl e) = let y' = rw (same_number x target e) at y in cc
+      still x d y (inl e) = let y' = rw (eqb-true x target e) at y in cc
       still x d y (inr e) = level_moved x s e y ∙ sym (level_moved x t e y)
 
   -- a goto that succeeds in both runs

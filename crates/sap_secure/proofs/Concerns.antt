@@ -1,9 +1,10 @@
 -- What concerns a command: what hangs on it; but an enforced memory only where it, or a body that it may fall into, writes a cell.
 use Rattle.std.proofs.Common.{◌≡◌, ℕ, Bool, true, false, not, ◌&&◌, ◌||◌, refl, sym, ap, ◌∙◌, nat_eq, if◌then◌else◌}
+use Rattle.sap_lemmas.proofs.Bools.{or_equal}
+use Rattle.std.proofs.lemmas.Bool.{and_from}
 use Rattle.sap_meaning.specs.Program.{World, is_dynamic, is_memory, Step, Set, Write, Retag, RetagCell, Goto, Fall, Command, Do, Try, If, TryThen, Case, Arms, Last, Arm, Block, End, Then, State, Node, Group, None, More}
 use Rattle.sap_meaning.specs.Touches.{among, block_assigns, state_assigns, group_assigns, step_hangs, hangs, block_hangs, arms_hang}
 use Rattle.sap_meaning.specs.Fine.{block_reaches, state_reaches, group_reaches}
-use Rattle.sap_meaning.proofs.Bools.{and_both}
 
 -- an enforced memory
 abbrev pub parted : World → ℕ → Bool
@@ -40,12 +41,9 @@ abbrev mutual
   block_concerns w s g End x = false
   block_concerns w s g (Then c cs) x = concerns w s g c x || block_concerns w s g cs x
 
-or_same : (a b c d : Bool) → a ≡ c → b ≡ d → (a || b) ≡ (c || d)
-or_same a b c d e f = ap (λ (r : Bool). r || b) e ∙ ap (λ (r : Bool). c || r) f
-
 module _ (w : World) (x : ℕ) where
   pub parted_of : is_memory w x ≡ true → is_dynamic w x ≡ false → parted w x ≡ true
-  parted_of m d = and_both (is_memory w x) (not (is_dynamic w x)) m (rw d refl)
+  parted_of m d = and_from (is_memory w x) (not (is_dynamic w x)) m (rw d refl)
 
   and_not : (a b : Bool) → b ≡ true → (a && not b) ≡ false
   and_not true b h = rw h refl
@@ -58,14 +56,14 @@ module _ (w : World) (x : ℕ) where
   pub group_parted : parted w x ≡ true → (g : Group) → group_concerns w g x ≡ group_reaches g x
   group_parted p None = refl
   group_parted p (More (Node s b k) g) =
-      or_same (state_concerns w (Node s b k) x) (group_concerns w g x) (state_reaches (Node s b k) x) (group_reaches g x) (rw p refl) (group_parted p g)
+      or_equal (state_concerns w (Node s b k) x) (group_concerns w g x) (state_reaches (Node s b k) x) (group_reaches g x) (rw p refl) (group_parted p g)
 
   -- of what is none
   module _ (p : parted w x ≡ false) where
     group_whole : (g : Group) → group_concerns w g x ≡ group_assigns g x
     group_whole None = refl
     group_whole (More (Node s b k) g) =
-        or_same (state_concerns w (Node s b k) x) (group_concerns w g x) (state_assigns (Node s b k) x) (group_assigns g x) (rw p refl) (group_whole g)
+        or_equal (state_concerns w (Node s b k) x) (group_concerns w g x) (state_assigns (Node s b k) x) (group_assigns g x) (rw p refl) (group_whole g)
 
     step_whole : (s : ℕ) (g : Group) (k : Step) → step_concerns w s g k x ≡ step_hangs s g k x
     step_whole s g (Set site y e) = refl
@@ -78,21 +76,21 @@ module _ (w : World) (x : ℕ) where
     mutual
       pub whole : (s : ℕ) (g : Group) (c : Command) → concerns w s g c x ≡ hangs s g c x
       whole s g (Do k) = step_whole s g k
-      whole s g (Try k hang h) = or_same (step_concerns w s g k x) (block_concerns w s g h x) (step_hangs s g k x) (block_hangs s g h x) (step_whole s g k) (block_whole s g h)
-      whole s g (If hang e a b) = or_same (block_concerns w s g a x) (block_concerns w s g b x) (block_hangs s g a x) (block_hangs s g b x) (block_whole s g a) (block_whole s g b)
+      whole s g (Try k hang h) = or_equal (step_concerns w s g k x) (block_concerns w s g h x) (step_hangs s g k x) (block_hangs s g h x) (step_whole s g k) (block_whole s g h)
+      whole s g (If hang e a b) = or_equal (block_concerns w s g a x) (block_concerns w s g b x) (block_hangs s g a x) (block_hangs s g b x) (block_whole s g a) (block_whole s g b)
       whole s g (TryThen k hang a b) =
-          or_same (step_concerns w s g k x) (block_concerns w s g a x || block_concerns w s g b x) (step_hangs s g k x) (block_hangs s g a x || block_hangs s g b x) (step_whole s g k)
-          (or_same (block_concerns w s g a x) (block_concerns w s g b x) (block_hangs s g a x) (block_hangs s g b x) (block_whole s g a) (block_whole s g b))
+          or_equal (step_concerns w s g k x) (block_concerns w s g a x || block_concerns w s g b x) (step_hangs s g k x) (block_hangs s g a x || block_hangs s g b x) (step_whole s g k)
+          (or_equal (block_concerns w s g a x) (block_concerns w s g b x) (block_hangs s g a x) (block_hangs s g b x) (block_whole s g a) (block_whole s g b))
       whole s g (Case hang e arms) = arms_whole s g arms
 
       arms_whole : (s : ℕ) (g : Group) (arms : Arms) → arms_concern w s g arms x ≡ arms_hang s g arms x
       arms_whole s g (Last b) = block_whole s g b
       arms_whole s g (Arm constants b arms) =
-          or_same (block_concerns w s g b x) (arms_concern w s g arms x) (block_hangs s g b x) (arms_hang s g arms x) (block_whole s g b) (arms_whole s g arms)
+          or_equal (block_concerns w s g b x) (arms_concern w s g arms x) (block_hangs s g b x) (arms_hang s g arms x) (block_whole s g b) (arms_whole s g arms)
 
       pub block_whole : (s : ℕ) (g : Group) (b : Block) → block_concerns w s g b x ≡ block_hangs s g b x
       block_whole s g End = refl
-      block_whole s g (Then c cs) = or_same (concerns w s g c x) (block_concerns w s g cs x) (hangs s g c x) (block_hangs s g cs x) (whole s g c) (block_whole s g cs)
+      block_whole s g (Then c cs) = or_equal (concerns w s g c x) (block_concerns w s g cs x) (hangs s g c x) (block_hangs s g cs x) (whole s g c) (block_whole s g cs)
 
 with_both : (a b c : Bool) → (a ≡ true → b ≡ c) → (a && b) ≡ true → (a && c) ≡ true
 with_both true b c f h = sym (f refl) ∙ h

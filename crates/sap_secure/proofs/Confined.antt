@@ -1,6 +1,10 @@
 -- In a context or under a guard that is not at or below l, nothing changes that is.
 use Rattle.std.proofs.Common.{◌≡◌, ℕ, zero, suc, ◌+◌, ◌<◌, Bool, true, false, ◌&&◌, ◌||◌, [], refl, sym, ◌∙◌, arith, nat_eq, inl, inr, ◌⊎◌}
-use Rattle.std.proofs.lemmas.Bool.{cases_Bool}
+use Rattle.std.proofs.lemmas.Bool.{cases_Bool, and_from, eqb-true, false_from_ne_true, or_cases, or_left, or_right}
+use Rattle.sap_lemmas.proofs.Bools.{and_left, and_right}
+use Rattle.sap_lemmas.proofs.Numbers.{test_of_same}
+use Rattle.sap_meaning.proofs.ProgramLemmas.{state_no_value}
+use Rattle.sap_meaning.proofs.FineLemmas.{inside_among}
 use Rattle.sap_lattice.specs.Order.{Laws}
 use Rattle.sap_maps.specs.Term.{Term}
 use Rattle.sap_meaning.specs.Program.{World, entity, is_dynamic, is_input, is_register, is_memory, is_state, authority, children, place, Step, Set, Write, Retag, RetagCell, Goto, Fall, Command, Do, Try, If, TryThen, Case, Arms, Last, Arm, Block, End, Then, State, Node, Group, None, More, LevelTerm}
@@ -11,14 +15,13 @@ use Rattle.sap_meaning.specs.Checks.{Spot, guard, test}
 use Rattle.sap_meaning.specs.Touches.{among, step_hangs, touches, raised_alone}
 use Rattle.sap_meaning.specs.Does.{effect, attempt, select, branch, does, does_block, does_state, does_child, attempt_then, does_arms}
 use Rattle.sap_meaning.specs.Agree.{High, seen}
-use Rattle.sap_meaning.proofs.Bools.{and_left, and_right, and_both, or_left, or_right, or_of, not_true, same_number, eq_self}
 use Rattle.sap_meaning.proofs.Slots.{owner_home, raised_hangs, held_register, held_state}
 use Rattle.sap_meaning.proofs.Trees.{Nth, lands}
 use Rattle.sap_meaning.proofs.Keeps.{OfDynamic, Keeps, branch_all, raise_keeps, holds_raise, does_holds, block_holds, alone_dynamic, child_holds, choose_all, effect_holds}
 use Rattle.sap_secure.proofs.Levels.{high_above, high_left, high_right, low_join, same_high, seen_nothing}
-use Rattle.sap_secure.proofs.Agreeing.{compared, not_both, Agree, sole_own, sole_cell, agree_self, agree_next, agree_over, agree_hidden, agree_raise, raise_high, raise_to, agree_child, agree_reset, agree_state}
+use Rattle.sap_secure.proofs.Agreeing.{compared, Agree, sole_own, sole_cell, agree_self, agree_next, agree_over, agree_hidden, agree_raise, raise_high, raise_to, agree_child, agree_reset, agree_state}
 use Rattle.sap_secure.proofs.Concerns.{parted, dynamic_whole, block_whole, concerned, step_concerns, concerns, block_concerns, state_concerns, group_concerns, arms_concern}
-use Rattle.sap_secure.proofs.Apart.{block_hung, block_found, inside_state, inside_among, no_state}
+use Rattle.sap_secure.proofs.Apart.{block_hung, block_found, inside_state, no_state}
 use Rattle.sap_secure.proofs.Sites.{Around, Site, spot, Proper, ProperBlock, ProperStep, Disjoint, fine_command, fine_block, kids_around, node, not_own, no_kid, proper_body, ProperArms}
 use Rattle.sap_secure.proofs.Frames.{start_kept, next_kept}
 
@@ -111,7 +114,7 @@ module _ (w : World) (laws : Laws w.order) (l : ℕ) where
   -- what is raised to a high level is quiet
   pub quiet_raise : (h hang : ℕ → Bool) (a : ℕ) (s : Store) → ((x : ℕ) → (is_dynamic w x && h x) ≡ true → hang x ≡ true) → OfDynamic w hang → High w.order l a → Even w h s → Quiet w l h (raise w.order hang a s)
   quiet_raise h hang a s inn dyn far e z g i =
-      (λ d. raise_to w laws l s hang a z (raises_home w hang z g d (inn (owner z) (and_both _ _ d i))) far, λ d. inl (even_raise h hang s a dyn e z g d i))
+      (λ d. raise_to w laws l s hang a z (raises_home w hang z g d (inn (owner z) (and_from _ _ d i))) far, λ d. inl (even_raise h hang s a dyn e z g d i))
 
   pub confined_self : (s : Store) → Confined w l s (stay s)
   confined_self s = record { same = agree_self w laws l s; quiet = refl }
@@ -194,7 +197,7 @@ module _ (w : World) (laws : Laws w.order) (l : ℕ) where
     cell_high site m j n pc b t (inr h) = h
 
     pub held_target : (x : ℕ) → (is_register w x || is_state w x) ≡ true → held w (own x) ≡ true
-    held_target x h = elim (or_of _ _ h) [ inl r ↦ held_register w x r | inr s ↦ held_state w x s ]
+    held_target x h = elim (or_cases _ _ h) [ inl r ↦ held_register w x r | inr s ↦ held_state w x s ]
 
     -- the effect of a step, from the raised store r
     pub step_confined : (k : Step) → ProperStep w i k → (pc : ℕ) (b r : Store) → ((z : Slot) → is_dynamic w (owner z) ≡ false → level w z r ≡ level w z b) → Holds w r → Quiet w l (step_concerns w i.state i.kids k) r → test w At k pc b ≡ true → Up pc k b → Confined w l r (effect w At i.enter k pc b r)
@@ -203,7 +206,7 @@ module _ (w : World) (laws : Laws w.order) (l : ℕ) where
         let over = agree_over w laws l r (own x) (value w e b) in
         elim (cases_Bool (is_dynamic w x)) [
           | inl d ↦ rw d (
-              let mine : High w.order l (level w (own x) r) = (quiet (own x) (or_right _ _ fine.0.0) (eq_self x)).0 d in
+              let mine : High w.order l (level w (own x) r) = (quiet (own x) (or_right _ _ fine.0.0) (test_of_same x)).0 d in
               let high : High w.order l (w.order.join pc (tag w e b)) = high_left w.order laws l pc _ (pc_high d up) in
               record { same = over _ (sole_own w x) (λ _. same_high w.order laws l _ _ _ _ mine high) (λ no _. cc); quiet = refl })
           | inr d ↦ rw d (
@@ -217,16 +220,16 @@ module _ (w : World) (laws : Laws w.order) (l : ℕ) where
     step_confined (Write site m j e) fine pc b r kept holds quiet t up = elim (cases_Bool (is_dynamic w m)) [
       | inl d ↦ rw d (
           let v = w.order.join pc (w.order.join (tag w j b) (tag w e b)) in
-          let dyn : OfDynamic w (λ y. nat_eq y m) = λ y h. rw (same_number y m h) d in
+          let dyn : OfDynamic w (λ y. nat_eq y m) = λ y h. rw (eqb-true y m h) d in
           let cells : (y : Slot) → compared w y ≡ true → raised (λ y. nat_eq y m) (home w y) ≡ true → High w.order l (level w y r) =
-          hushed (λ y. nat_eq y m) (λ y. nat_eq y m) r (λ y h. and_both _ _ (dyn y h) h) quiet in
-          let high = raise_high w laws l r (λ y. nat_eq y m) v (next m (value w j b)) ((quiet (next m (value w j b)) fine.0.0 (eq_self m)).0 d) in
+          hushed (λ y. nat_eq y m) (λ y. nat_eq y m) r (λ y h. and_from _ _ (dyn y h) h) quiet in
+          let high = raise_high w laws l r (λ y. nat_eq y m) v (next m (value w j b)) ((quiet (next m (value w j b)) fine.0.0 (test_of_same m)).0 d) in
           record {
             same = agree_next w laws l _ _ _ (agree_raise w laws l r (λ y. nat_eq y m) v dyn cells) (agree_hidden w laws l _ (next m (value w j b)) _ (λ _. high));
             quiet = refl;
           })
       | inr d ↦ rw d (
-          let was : High w.order l (level w (next m (value w j b)) r) = cell_was d ((quiet (next m (value w j b)) fine.0.0 (eq_self m)).1 d) in
+          let was : High w.order l (level w (next m (value w j b)) r) = cell_was d ((quiet (next m (value w j b)) fine.0.0 (test_of_same m)).1 d) in
           record { same = agree_hidden w laws l r (next m (value w j b)) _ (λ _. was); quiet = refl })
     ]
       where
@@ -377,7 +380,7 @@ module _ (w : World) (laws : Laws w.order) (l : ℕ) where
 
 -- a slot that changes belongs to no state
 pub changing_no_state : (w : World) (z : Slot) → changing w z ≡ true → is_state w (owner z) ≡ false
-changing_no_state w (own x) g = not_true _ (λ s. let no = not_both (entity w x).kind s in cc)
+changing_no_state w (own x) g = false_from_ne_true _ (λ s. let no = state_no_value (entity w x).kind s in cc)
 changing_no_state w (start m j) g = cc
 changing_no_state w (next m j) g = no_state w m (or_right _ _ g)
 changing_no_state w (start_whole m) g = cc
@@ -387,7 +390,7 @@ module _ (w : World) (laws : Laws w.order) (l : ℕ) where
   -- what concerns a state's body, concerns the state
   body_concerned : (i : Site w) (x : ℕ) → is_state w x ≡ false → block_concerns w i.state i.kids i.body x ≡ true → state_concerns w (Node i.state i.body i.kids) x ≡ true
   body_concerned i x st h = elim (cases_Bool (parted w x)) [
-    | inl p ↦ rw p (block_hung w x (and_left (is_memory w x) _ p) (not_true (is_dynamic w x) (λ d. let no = dynamic_whole w x d in cc)) i.state i.kids (not_own w i x st) (no_kid w i x st) i.siblings i.kids i.body (node w i).steps h)
+    | inl p ↦ rw p (block_hung w x (and_left (is_memory w x) _ p) (false_from_ne_true (is_dynamic w x) (λ d. let no = dynamic_whole w x d in cc)) i.state i.kids (not_own w i x st) (no_kid w i x st) i.siblings i.kids i.body (node w i).steps h)
     | inr p ↦ rw p (block_found i.state i.kids x (not_own w i x st) (no_kid w i x st) i.body (sym (block_whole w x p i.state i.kids i.body) ∙ h))
   ]
 

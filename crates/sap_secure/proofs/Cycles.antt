@@ -1,6 +1,7 @@
 -- One cycle from states that agree.
 use Rattle.std.proofs.Common.{◌≡◌, ℕ, zero, suc, ◌<◌, Bool, [], refl, sym, ap, ◌∙◌, subst, arith, inl, inr}
-use Rattle.std.proofs.lemmas.Bool.{cases_Bool}
+use Rattle.std.proofs.lemmas.Bool.{cases_Bool, and_from, or_right}
+use Rattle.sap_lemmas.proofs.Bools.{and_left, and_right}
 use Rattle.sap_lattice.specs.Order.{Laws}
 use Rattle.sap_meaning.specs.Program.{World, is_dynamic, children, State, Node, Group, None, More}
 use Rattle.sap_meaning.specs.Store.{own, Store, owner, level, child, raise, After}
@@ -10,7 +11,6 @@ use Rattle.sap_meaning.specs.Does.{does_state, does_child}
 use Rattle.sap_meaning.specs.Cycle.{root_fall}
 use Rattle.sap_meaning.specs.Agree.{Low, High}
 use Rattle.sap_meaning.specs.Fine.{OnceState, OnceGroup, number_of}
-use Rattle.sap_meaning.proofs.Bools.{and_left, and_right, and_both, or_right}
 use Rattle.sap_meaning.proofs.Slots.{child_raise}
 use Rattle.sap_meaning.proofs.Trees.{Nth, nth_of}
 use Rattle.sap_meaning.proofs.Keeps.{OfDynamic, holds_raise}
@@ -77,7 +77,7 @@ module _ (w : World) (laws : Laws w.order) (l : ℕ) (p : ℕ) (g : Group) (arou
   side m t a s nth here hs high up ev =
       let r = raise w.order (root_touches w g) t s in
       let hr = holds_raise w s (root_touches w g) t dyn hs in
-      let quiet : Quiet w l (group_concerns w g) r = quiet_raise w laws l (group_concerns w g) (root_touches w g) t s (λ x i. and_both _ _ (and_left (is_dynamic w x) _ i) (or_right (among g x) _ (and_right (is_dynamic w x) _ (group_hanging w p g x i)))) dyn high ev in (
+      let quiet : Quiet w l (group_concerns w g) r = quiet_raise w laws l (group_concerns w g) (root_touches w g) t s (λ x i. and_from _ _ (and_left (is_dynamic w x) _ i) (or_right (among g x) _ (and_right (is_dynamic w x) _ (group_hanging w p g x i)))) dyn high ev in (
         child_confined w laws l p g around m t r hr high quiet,
         covered_by w laws l g p around m t r a nth hr high quiet (child_raise w.order p (root_touches w g) t s ∙ here) (raise_high w laws l s (root_touches w g) t (own (number_of a)) up),
       )

@@ -1,6 +1,9 @@
 -- What runs leave alone.
 use Rattle.std.proofs.Common.{◌≡◌, ℕ, zero, suc, Bool, true, false, ◌&&◌, ◌||◌, refl, sym, ap, ◌∙◌, nat_eq, inl, inr}
-use Rattle.std.proofs.lemmas.Bool.{cases_Bool}
+use Rattle.std.proofs.lemmas.Bool.{cases_Bool, false_from_ne_true, or_cases, or_from, or_left, or_right}
+use Rattle.sap_lemmas.proofs.Bools.{neither_left, neither_right}
+use Rattle.sap_lemmas.proofs.Numbers.{test_of_same}
+use Rattle.sap_meaning.proofs.FineLemmas.{inside_among}
 use Rattle.sap_maps.specs.Term.{Term}
 use Rattle.sap_meaning.specs.Program.{World, is_dynamic, is_memory, is_state, place, below, Step, Set, Write, Retag, RetagCell, Goto, Fall, Command, Do, Try, If, TryThen, Case, Arms, Last, Arm, Block, End, Then, State, Node, Group, None, More}
 use Rattle.sap_meaning.specs.Store.{Slot, own, start, next, Store, owner, home, level, child, same_slot, put_number, put_level, put_child, raised, raise, lowered, reset, After, stay}
@@ -9,10 +12,9 @@ use Rattle.sap_meaning.specs.Checks.{Spot, guard, test}
 use Rattle.sap_meaning.specs.Touches.{among, step_hangs, hangs, block_hangs, touches, raised_alone, group_assigns, arms_hang}
 use Rattle.sap_meaning.specs.Does.{effect, attempt, select, branch, does, does_block, does_state, does_child, attempt_then, does_arms}
 use Rattle.sap_meaning.specs.Fine.{FineStep, FineCommand, FineBlock, FineState, FineGroup, transfers, Open, OpenBlock, step_writes, writes, block_writes, step_retags, retags, block_retags, state_retags, group_retags, inside, FineArms, OpenArms, arms_write, arms_retag}
-use Rattle.sap_meaning.proofs.Bools.{or_left, or_right, or_of, or_false, neither_left, neither_right, not_true, eq_self}
 use Rattle.sap_meaning.proofs.Slots.{slot_same, home_next, home_start, owner_home}
 use Rattle.sap_meaning.proofs.Keeps.{branch_all, choose_all}
-use Rattle.sap_secure.proofs.Apart.{register_apart, memory_apart, state_no_register, state_no_memory, group_unassigned, inside_among, unhung}
+use Rattle.sap_secure.proofs.Apart.{register_apart, memory_apart, state_no_register, state_no_memory, group_unassigned, unhung}
 use Rattle.sap_secure.proofs.Sites.{Site, spot, Proper, ProperBlock, ProperStep, ProperArms}
 
 -- the level of z and the current child of q
@@ -112,18 +114,18 @@ module _ (w : World) (i : Site w) (q : ℕ) where
     mutual
       command_off : (c : Command) → Proper w i c → Open c → hangs i.state i.kids c x ≡ false
       command_off (Do k) fine plain = step_off k fine plain
-      command_off (Try k hang h) fine plain = or_false _ _ (step_off k fine.0 plain.0) (block_off h fine.1 plain.1)
-      command_off (If hang e a b) fine plain = or_false _ _ (block_off a fine.1 plain.0) (block_off b fine.2 plain.1)
-      command_off (TryThen k hang a b) fine plain = or_false _ _ (step_off k fine.0 plain.0) (or_false _ _ (block_off a fine.1 plain.1) (block_off b fine.2 plain.2))
+      command_off (Try k hang h) fine plain = or_from _ _ (step_off k fine.0 plain.0) (block_off h fine.1 plain.1)
+      command_off (If hang e a b) fine plain = or_from _ _ (block_off a fine.1 plain.0) (block_off b fine.2 plain.1)
+      command_off (TryThen k hang a b) fine plain = or_from _ _ (step_off k fine.0 plain.0) (or_from _ _ (block_off a fine.1 plain.1) (block_off b fine.2 plain.2))
       command_off (Case hang e arms) fine plain = arms_off arms fine.1 plain
 
       arms_off : (arms : Arms) → ProperArms w i arms → OpenArms arms → arms_hang i.state i.kids arms x ≡ false
       arms_off (Last b) fine plain = block_off b fine plain
-      arms_off (Arm constants b arms) fine plain = or_false _ _ (block_off b fine.0 plain.0) (arms_off arms fine.1 plain.1)
+      arms_off (Arm constants b arms) fine plain = or_from _ _ (block_off b fine.0 plain.0) (arms_off arms fine.1 plain.1)
 
       block_off : (b : Block) → ProperBlock w i b → OpenBlock b → block_hangs i.state i.kids b x ≡ false
       block_off End fine plain = refl
-      block_off (Then c cs) fine plain = or_false _ _ (command_off c fine.0 plain.0) (block_off cs fine.1 plain.1)
+      block_off (Then c cs) fine plain = or_from _ _ (command_off c fine.0 plain.0) (block_off cs fine.1 plain.1)
 
     untouched : (d a : Bool) → a ≡ false → (d && a) ≡ false
     untouched true a h = h
@@ -173,10 +175,10 @@ module _ (w : World) (i : Site w) (q : ℕ) where
     cell_step (RetagCell site n j t') plain un pc b t = kept_next w z q _ _ _ (kept_number w z q t (next n _) _) (kept_level w z q _ (next n _) _ (other (value w j b)))
       where
         other : (j : ℕ) → same_slot (home w z) (home w (next n j)) ≡ false
-        other j = not_true _ (λ h.
+        other j = false_from_ne_true _ (λ h.
             let e : owner (home w z) ≡ owner (home w (next n j)) = ap owner (slot_same (home w z) (home w (next n j)) h) in
             let f : m ≡ n = sym at ∙ sym (owner_home w z) ∙ e ∙ owner_home w (next n j) in
-            let g : nat_eq m n ≡ true = rw f (eq_self n) in cc)
+            let g : nat_eq m n ≡ true = rw f (test_of_same n) in cc)
     cell_step (Goto site target) plain un pc b t = cc
     cell_step (Fall site hang) plain un pc b t = cc
 
@@ -276,7 +278,7 @@ module _ (w : World) (e p : ℕ) (s : is_state w e ≡ true) where
     alone_free (Retag site y n) fine = refl
     alone_free (RetagCell site m i n) fine = refl
     alone_free (Goto site target) fine = not_touched (is_dynamic w e) _ own_out
-    alone_free (Fall site hang) fine = not_touched (is_dynamic w e) _ (or_false _ _ kids_out free)
+    alone_free (Fall site hang) fine = not_touched (is_dynamic w e) _ (or_from _ _ kids_out free)
 
     mutual
       unfolding does does_arms does_block
@@ -310,7 +312,7 @@ module _ (w : World) (e p : ℕ) (s : is_state w e ≡ true) where
       under_list (Then j js) fine un pc t = kept_next w (own e) p _ _ _ (under_kept j fine.0 (neither_left _ _ un) pc t) (under_list js fine.1 (neither_right (retags j e) _ un) pc _)
 
   outside : (g : Group) → Under g → among g e ≡ false
-  outside g out = not_true (among g e) (λ h. let f = neither_left (nat_eq e e) _ (out e (inside_among g e h)).0 in let k = eq_self e in cc)
+  outside g out = false_from_ne_true (among g e) (λ h. let f = neither_left (nat_eq e e) _ (out e (inside_among g e h)).0 in let k = test_of_same e in cc)
 
   mutual
     unfolding does_state does_child
@@ -318,7 +320,7 @@ module _ (w : World) (e p : ℕ) (s : is_state w e ≡ true) where
     state_under : (t : State) (r : ℕ) (q : Group) (n : ℕ) → FineState w q n t → Under q → ((x : ℕ) → inside (More t None) x ≡ true → inside q x ≡ true) → nat_eq p r ≡ false → state_retags t e ≡ false → (pc : ℕ) (u : Store) → Kept w (own e) p u (does_state w t r pc u).store
     state_under (Node c b k) r q n fine out within away un pc u =
         let below_out : Under k = λ x h. out x (within x (or_right (nat_eq x c) _ (or_left _ _ h))) in
-        let here = out c (within c (or_left (nat_eq c c) _ (eq_self c))) in
+        let here = out c (within c (or_left (nat_eq c c) _ (test_of_same c))) in
         under_list c r k q (does_child w k c) out (neither_left _ _ here.0) (outside k below_out) (group_unassigned w e (state_no_register w e s) (state_no_memory w e s) k 0 k fine.1) away
         (λ m z v. child_under k c k 0 fine.1 below_out (λ x h. h) (neither_left _ _ here.1) (neither_right (block_retags b e) _ un) m z v)
         b fine.0.steps (neither_left _ _ un) pc u
@@ -329,9 +331,9 @@ module _ (w : World) (e p : ℕ) (s : is_state w e ≡ true) where
         state_under (Node c b k) r q n fine.0 out (λ x h. within x (first x h)) away (neither_left _ _ un) pc u
       where
         first : (x : ℕ) → inside (More (Node c b k) None) x ≡ true → inside (More (Node c b k) g) x ≡ true
-        first x h = elim (or_of (nat_eq x c) _ h) [
+        first x h = elim (or_cases (nat_eq x c) _ h) [
           | inl i ↦ or_left _ _ i
-          | inr i ↦ or_right (nat_eq x c) _ (elim (or_of (inside k x) false i) [ inl j ↦ or_left _ _ j | inr j ↦ cc ])
+          | inr i ↦ or_right (nat_eq x c) _ (elim (or_cases (inside k x) false i) [ inl j ↦ or_left _ _ j | inr j ↦ cc ])
         ]
     child_under (More (Node c b k) g) r q n fine out within away un (suc m) pc u =
         child_under g r q (suc n) fine.1 out (λ x h. within x (or_right (nat_eq x c) _ (or_right (inside k x) _ h))) away (neither_right (state_retags (Node c b k) e) _ un) m pc u

@@ -1,5 +1,8 @@
 -- A state whose level is not at or below l, and all below it, leave the active path ended: by induction over the tree.
 use Rattle.std.proofs.Common.{◌≡◌, ℕ, zero, suc, true, [], sym, ap, ◌∙◌, subst, nat_eq}
+use Rattle.sap_lemmas.proofs.Bools.{neither_left, neither_right}
+use Rattle.sap_lemmas.proofs.Numbers.{test_of_same}
+use Rattle.std.proofs.lemmas.Bool.{or_left, or_right}
 use Rattle.sap_lattice.specs.Order.{Laws}
 use Rattle.sap_meaning.specs.Program.{World, below, Block, State, Node, Group, None, More}
 use Rattle.sap_meaning.specs.Store.{own, Store, owner, level, child}
@@ -7,7 +10,6 @@ use Rattle.sap_meaning.specs.State.{Holds}
 use Rattle.sap_meaning.specs.Does.{does_state, does_child}
 use Rattle.sap_meaning.specs.Agree.{High}
 use Rattle.sap_meaning.specs.Fine.{inside, number_of, block_retags}
-use Rattle.sap_meaning.proofs.Bools.{or_left, or_right, neither_left, neither_right, eq_self}
 use Rattle.sap_meaning.proofs.Trees.{Nth}
 use Rattle.sap_secure.proofs.Concerns.{state_concerns, group_concerns}
 use Rattle.sap_secure.proofs.Sites.{Around, node, own_fine, kids_around, proper_body}
@@ -18,7 +20,7 @@ use Rattle.sap_secure.proofs.Still.{Covered, Scene, block_still}
 
 pub nth_inside : (g : Group) (n e : ℕ) (b : Block) (k : Group) → Nth g n (Node e b k) → inside g e ≡ true
 nth_inside None n e b k h = absurd h
-nth_inside (More t g) zero e b k h = subst (λ x. inside (More x g) e ≡ true) (sym h) (or_left (nat_eq e e) _ (eq_self e))
+nth_inside (More t g) zero e b k h = subst (λ x. inside (More x g) e ≡ true) (sym h) (or_left (nat_eq e e) _ (test_of_same e))
 nth_inside (More (Node c a j) g) (suc n) e b k h = or_right (nat_eq e c) _ (or_right (inside j e) _ (nth_inside g n e b k h))
 
 pub nth_below : (g : Group) (n e : ℕ) (b : Block) (k : Group) → Nth g n (Node e b k) → (x : ℕ) → inside k x ≡ true → inside g x ≡ true

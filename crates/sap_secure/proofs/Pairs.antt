@@ -1,6 +1,7 @@
 -- Two runs of a list that closes, from stores that look alike on the active path too.
 use Rattle.std.proofs.Common.{◌≡◌, ℕ, Bool, true, false, ◌&&◌, ◌||◌, List, [], ◌∷◌, refl, sym, ap, ◌∙◌, subst, inl, inr}
-use Rattle.std.proofs.lemmas.Bool.{cases_Bool}
+use Rattle.std.proofs.lemmas.Bool.{cases_Bool, or_left, or_right}
+use Rattle.sap_meaning.proofs.FineLemmas.{inside_among}
 use Rattle.sap_lattice.specs.Order.{Laws}
 use Rattle.sap_maps.specs.Term.{Term}
 use Rattle.sap_meaning.specs.Program.{World, is_dynamic, Step, Set, Write, Retag, RetagCell, Goto, Fall, Command, Do, Try, If, TryThen, Case, Arms, Last, Arm, Block, End, Then, State, Node, Group}
@@ -12,13 +13,12 @@ use Rattle.sap_meaning.specs.Touches.{among, step_hangs, block_hangs, touches, r
 use Rattle.sap_meaning.specs.Does.{effect, attempt, select, branch, does, does_block, attempt_then, does_arms}
 use Rattle.sap_meaning.specs.Agree.{Low, High}
 use Rattle.sap_meaning.specs.Fine.{FineTerm, transfers, Closes, Final, OnceStep, Once, OnceBlock, number_of, ClosingArms, OnceArms}
-use Rattle.sap_meaning.proofs.Bools.{or_left, or_right}
 use Rattle.sap_meaning.proofs.Slots.{child_raise, held_state}
 use Rattle.sap_meaning.proofs.Trees.{Nth, nth_same}
 use Rattle.sap_meaning.proofs.Keeps.{OfDynamic, branch_all, holds_raise, alone_dynamic, choose_all, effect_holds}
 use Rattle.sap_secure.proofs.Levels.{Like, high_right, low_join, seen_parts}
 use Rattle.sap_secure.proofs.Agreeing.{Agree, agree_raised, raise_low, raise_to}
-use Rattle.sap_secure.proofs.Apart.{inside_state, inside_among}
+use Rattle.sap_secure.proofs.Apart.{inside_state}
 use Rattle.sap_secure.proofs.Concerns.{step_concerns, concerns, block_concerns, group_concerns, hanging, block_hanging, arms_concern}
 use Rattle.sap_secure.proofs.Sites.{spot, Proper, ProperBlock, ProperStep, fine_block, apart_from, ProperArms}
 use Rattle.sap_secure.proofs.Confined.{Confined, Quiet, Even, confined_self, quiet_raise, even_raise, even_next, landing, keeps, attempt_confined, select_confined, block_confined, touches_dynamic, attempt_then_confined, hush_next, quiet_left, quiet_right}

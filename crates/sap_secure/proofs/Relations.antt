@@ -1,13 +1,12 @@
 -- States that agree, in the words of the law and in those of the proofs.
 use Rattle.std.proofs.Common.{◌≡◌, ℕ, zero, suc, ◌+◌, ◌<◌, true, false, refl, sym, ap, ◌∙◌, subst, arith, inl, inr}
-use Rattle.std.proofs.lemmas.Bool.{cases_Bool}
+use Rattle.std.proofs.lemmas.Bool.{cases_Bool, or_right}
 use Rattle.sap_lattice.specs.Order.{Order, Laws}
 use Rattle.sap_meaning.specs.Program.{World, Program, is_dynamic, is_input, root, children, Block, State, Node, Group, None, More}
 use Rattle.sap_meaning.specs.Store.{Slot, own, start, next, start_whole, next_whole, Store, owner, home, number, level, child}
 use Rattle.sap_meaning.specs.State.{Holds}
 use Rattle.sap_meaning.specs.Agree.{Low, High, Alike, PartsAlike, Onward, PathsAgree, StatesAgree}
 use Rattle.sap_meaning.specs.Fine.{number_of, kids_of}
-use Rattle.sap_meaning.proofs.Bools.{or_right}
 use Rattle.sap_meaning.proofs.Trees.{Nth, nth_of, nth_fine}
 use Rattle.sap_secure.proofs.Levels.{Same, same_high}
 use Rattle.sap_secure.proofs.Agreeing.{compared, Agree}

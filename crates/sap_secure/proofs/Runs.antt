@@ -1,8 +1,9 @@
 -- Whole cycles, with inputs and the edge, and runs.
 use Rattle.std.proofs.Common.{◌≡◌, ℕ, zero, suc, true, false, List, [], ◌∷◌, get_or, refl, sym, ◌∙◌, subst, inl, inr, ◌⊎◌}
 use Rattle.std.proofs.lemmas.Bool.{cases_Bool}
+use Rattle.sap_meaning.proofs.ProgramLemmas.{memory_no_input, state_no_input}
 use Rattle.sap_lattice.specs.Order.{Order, Laws}
-use Rattle.sap_meaning.specs.Program.{World, Program, Kind, input, register, memory, state, entity, kind_is_input, kind_is_state, kind_is_memory, is_dynamic, is_input, root}
+use Rattle.sap_meaning.specs.Program.{World, Program, entity, is_dynamic, is_input, root}
 use Rattle.sap_meaning.specs.Store.{Slot, own, start, next, start_whole, next_whole, Store, owner, home, number, level, child, source, settle}
 use Rattle.sap_meaning.specs.State.{Rests, Resting, first}
 use Rattle.sap_meaning.specs.Cycle.{Tagged, given, inputs_before, at_inputs, set_inputs, cycle}
@@ -21,18 +22,6 @@ use Rattle.sap_secure.proofs.Confined.{Even}
 use Rattle.sap_secure.proofs.Walks.{path, from_same}
 use Rattle.sap_secure.proofs.Cycles.{fall_pair}
 use Rattle.sap_secure.proofs.Relations.{same_of, slots_same, states_agree, paths_same}
-
-state_no_input : (k : Kind) → kind_is_state k ≡ true → kind_is_input k ≡ false
-state_no_input input h = cc
-state_no_input register h = refl
-state_no_input (memory d) h = refl
-state_no_input (state p n) h = refl
-
-memory_no_input : (k : Kind) → kind_is_memory k ≡ true → kind_is_input k ≡ false
-memory_no_input input h = cc
-memory_no_input register h = refl
-memory_no_input (memory d) h = refl
-memory_no_input (state p n) h = refl
 
 input_same : (o : Order) (laws : Laws o) (l : ℕ) (a b : List Tagged) (d : Tagged) → InputsAgree o l a b → (n : ℕ) → Same o l (get_or a n d).number (get_or a n d).level (get_or b n d).number (get_or b n d).level
 input_same o laws l [] [] d same zero = same_self o laws l _ _

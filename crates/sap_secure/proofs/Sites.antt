@@ -1,12 +1,14 @@
 -- A state in its group, with what is known of both, and commands in its body.
 use Rattle.std.proofs.Common.{◌≡◌, ℕ, suc, ◌+◌, ◌<◌, ◌≤◌, Bool, true, false, ◌&&◌, ◌||◌, refl, arith, nat_eq, nat_lt, nat_le, inl, inr, ◌⊎◌}
 use Rattle.std.proofs.lemmas.Grind.{common_steps}
+use Rattle.sap_lemmas.proofs.Bools.{and_left, and_right, neither_left, neither_right}
+use Rattle.std.proofs.lemmas.Bool.{eqb-true, false_from_ne_true, or_cases, or_from, or_right}
 use Rattle.sap_meaning.specs.Program.{World, children, is_dynamic, is_memory, is_state, last, below, root, Step, Command, Do, Try, If, TryThen, Case, Arms, Last, Arm, Block, End, Then, Node, Group, None, More}
 use Rattle.sap_meaning.specs.Store.{Store, After}
 use Rattle.sap_meaning.specs.Checks.{Spot}
 use Rattle.sap_meaning.specs.Touches.{among}
 use Rattle.sap_meaning.specs.Fine.{FineTerm, FineStep, FineCommand, FineBlock, FineNode, FineState, FineGroup, Open, OpenBlock, Closes, Final, writes, reaches, block_reaches, step_retags, retags, block_retags, inside, size, FineArms, arms_retag}
-use Rattle.sap_meaning.proofs.Bools.{and_left, and_right, and_false, or_right, or_of, or_false, neither_left, neither_right, not_true, same_number}
+use Rattle.sap_meaning.proofs.Bools.{and_false}
 use Rattle.sap_meaning.proofs.Trees.{Nth, nth_fine}
 use Rattle.sap_secure.proofs.Concerns.{block_concerns}
 use Rattle.sap_secure.proofs.Apart.{no_state, writes_within, block_hung, apart_of, inside_state}
@@ -58,7 +60,7 @@ module _ (w : World) where
   pub kids_apart : (e : ℕ) (g : Group) → ((x : ℕ) → inside g x ≡ true → below w e x ≡ true) → (x : ℕ) → inside g x ≡ true → (nat_eq e x || below w x e) ≡ false
   kids_apart e g f x h =
       let k = and_left _ _ (and_right (is_state w x) _ (f x h)) in
-      or_false _ _ (not_same e x k) (and_falsely (is_state w e) (nat_lt x e) (nat_le e (last w x)) (not_after e x k))
+      or_from _ _ (not_same e x k) (and_falsely (is_state w e) (nat_lt x e) (nat_le e (last w x)) (not_after e x k))
 
   -- the children of a state with the state
   pub around_kids : (q : Group) (n e : ℕ) (b : Block) (g : Group) → FineState w q n (Node e b g) → Around w e g
@@ -69,9 +71,9 @@ module _ (w : World) where
 
   inside_root : (q : Group) (n : ℕ) (g : Group) → FineGroup w q n g → (x : ℕ) → inside g x ≡ true → x ≤ last w x × (last w x < root w)
   inside_root q n None fine x h = cc
-  inside_root q n (More (Node c b k) g) fine x h = elim (or_of (nat_eq x c) _ h) [
-    | inl e ↦ rw (same_number x c e) (fine.0.0.itself, fine.0.0.declared)
-    | inr e ↦ elim (or_of (inside k x) (inside g x) e) [
+  inside_root q n (More (Node c b k) g) fine x h = elim (or_cases (nat_eq x c) _ h) [
+    | inl e ↦ rw (eqb-true x c e) (fine.0.0.itself, fine.0.0.declared)
+    | inr e ↦ elim (or_cases (inside k x) (inside g x) e) [
       | inl i ↦ inside_root k 0 k fine.0.1 x i
       | inr i ↦ inside_root q (suc n) g fine.1 x i
     ]
@@ -87,13 +89,13 @@ module _ (w : World) where
 
   -- the states at a place
   pub mine_state : (i : Site w) (x : ℕ) → mine i x ≡ true → is_state w x ≡ true
-  mine_state i x h = elim (or_of (nat_eq x i.state) _ h) [
-    | inl e ↦ rw (same_number x i.state e) (node i).kind
+  mine_state i x h = elim (or_cases (nat_eq x i.state) _ h) [
+    | inl e ↦ rw (eqb-true x i.state e) (node i).kind
     | inr e ↦ inside_state w i.kids 0 i.kids (own_fine i).1 x e
   ]
 
   pub not_mine : (i : Site w) (x : ℕ) → is_state w x ≡ false → mine i x ≡ false
-  not_mine i x s = not_true _ (λ h. let k = mine_state i x h in cc)
+  not_mine i x s = false_from_ne_true _ (λ h. let k = mine_state i x h in cc)
 
   pub not_own : (i : Site w) (x : ℕ) → is_state w x ≡ false → nat_eq x i.state ≡ false
   not_own i x s = neither_left _ _ (not_mine i x s)
@@ -144,7 +146,7 @@ module _ (w : World) (i : Site w) where
       let s : is_state w m ≡ false = no_state w m (or_right _ _ mem) in
       let r : block_reaches i.kids cs m ≡ true = block_hung w m mem d i.state i.kids (not_own w i m s) (no_kid w i m s) i.siblings i.kids cs fine h in
       let n : reaches i.kids c m ≡ false = and_false _ _ (once m) r in
-      (open_, not_true (writes c m) (λ y. let z = writes_within w i.kids m c y in cc))
+      (open_, false_from_ne_true (writes c m) (λ y. let z = writes_within w i.kids m c y in cc))
 
   mutual
     pub proper : (c : Command) → FineCommand w i.siblings i.kids c → Unmarked c → Proper w i c
@@ -176,8 +178,8 @@ module _ (w : World) (i : Site w) where
         (proper c fine.0 (λ x m. neither_left _ _ (un x m)), proper_block cs fine.1 (λ x m. neither_right (retags c x) _ (un x m)))
 
   body_unmarked : UnmarkedBlock i.body
-  body_unmarked x h = elim (or_of (nat_eq x i.state) _ h) [
-    | inl e ↦ rw (same_number x i.state e) (neither_left _ _ (node w i).retags_itself)
+  body_unmarked x h = elim (or_cases (nat_eq x i.state) _ h) [
+    | inl e ↦ rw (eqb-true x i.state e) (neither_left _ _ (node w i).retags_itself)
     | inr e ↦ (node w i).retags_below x e
   ]
 
@@ -205,15 +207,15 @@ mutual
 mutual
   pub unmarked : (w : World) (i : Site w) (c : Command) → Proper w i c → (x : ℕ) → mine i x ≡ true → retags c x ≡ false
   unmarked w i (Do k) p x m = p.1 x m
-  unmarked w i (Try k hang h) p x m = or_false _ _ (p.0.1 x m) (block_unmarked w i h p.1 x m)
-  unmarked w i (If hang e a b) p x m = or_false _ _ (block_unmarked w i a p.1 x m) (block_unmarked w i b p.2 x m)
-  unmarked w i (TryThen k hang a b) p x m = or_false _ _ (p.0.1 x m) (or_false _ _ (block_unmarked w i a p.1 x m) (block_unmarked w i b p.2 x m))
+  unmarked w i (Try k hang h) p x m = or_from _ _ (p.0.1 x m) (block_unmarked w i h p.1 x m)
+  unmarked w i (If hang e a b) p x m = or_from _ _ (block_unmarked w i a p.1 x m) (block_unmarked w i b p.2 x m)
+  unmarked w i (TryThen k hang a b) p x m = or_from _ _ (p.0.1 x m) (or_from _ _ (block_unmarked w i a p.1 x m) (block_unmarked w i b p.2 x m))
   unmarked w i (Case hang e arms) p x m = arms_unmarked w i arms p.1 x m
 
   arms_unmarked : (w : World) (i : Site w) (arms : Arms) → ProperArms w i arms → (x : ℕ) → mine i x ≡ true → arms_retag arms x ≡ false
   arms_unmarked w i (Last b) p x m = block_unmarked w i b p x m
-  arms_unmarked w i (Arm constants b arms) p x m = or_false _ _ (block_unmarked w i b p.0 x m) (arms_unmarked w i arms p.1 x m)
+  arms_unmarked w i (Arm constants b arms) p x m = or_from _ _ (block_unmarked w i b p.0 x m) (arms_unmarked w i arms p.1 x m)
 
   pub block_unmarked : (w : World) (i : Site w) (b : Block) → ProperBlock w i b → (x : ℕ) → mine i x ≡ true → block_retags b x ≡ false
   block_unmarked w i End p x m = refl
-  block_unmarked w i (Then c cs) p x m = or_false _ _ (unmarked w i c p.0 x m) (block_unmarked w i cs p.1 x m)
+  block_unmarked w i (Then c cs) p x m = or_from _ _ (unmarked w i c p.0 x m) (block_unmarked w i cs p.1 x m)

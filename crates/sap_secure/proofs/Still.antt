@@ -1,7 +1,10 @@
 -- In a high context the active path stays as it is.
 use Rattle.std.proofs.Common.{◌≡◌, ℕ, zero, suc, ◌<◌, Bool, true, false, ◌&&◌, ◌||◌, List, [], refl, sym, ap, ◌∙◌, subst, arith, nat_eq, nat_lt, nat_le, inl, inr, ◌⊎◌}
-use Rattle.std.proofs.lemmas.Bool.{cases_Bool}
+use Rattle.std.proofs.lemmas.Bool.{cases_Bool, and_from, false_from_ne_true, or_left, or_right}
 use Rattle.std.proofs.lemmas.Grind.{common_steps}
+use Rattle.sap_lemmas.proofs.Bools.{and_left, and_right, neither_left, neither_right}
+use Rattle.sap_lemmas.proofs.Numbers.{test_of_same}
+use Rattle.sap_meaning.proofs.FineLemmas.{inside_among}
 use Rattle.sap_lattice.specs.Order.{Laws}
 use Rattle.sap_maps.specs.Term.{Term}
 use Rattle.sap_meaning.specs.Program.{World, is_dynamic, is_state, children, place, last, below, Step, Set, Write, Retag, RetagCell, Goto, Fall, Command, Do, Try, If, TryThen, Case, Arms, Last, Arm, Block, End, Then, State, Node, Group, None, More}
@@ -13,13 +16,12 @@ use Rattle.sap_meaning.specs.Touches.{among, step_hangs, hangs, block_hangs, tou
 use Rattle.sap_meaning.specs.Does.{effect, attempt, select, branch, does, does_block, attempt_then, does_arms}
 use Rattle.sap_meaning.specs.Agree.{Low, High}
 use Rattle.sap_meaning.specs.Fine.{transfers, Open, Closes, Final, number_of, ClosingArms}
-use Rattle.sap_meaning.proofs.Bools.{and_left, and_right, and_both, or_left, or_right, neither_left, neither_right, not_true, eq_self}
 use Rattle.sap_meaning.proofs.Slots.{child_raise, child_put, child_reset, level_put, child_level_put, level_child, held_state}
 use Rattle.sap_meaning.proofs.Trees.{Nth, nth_of, placed}
 use Rattle.sap_meaning.proofs.Keeps.{OfDynamic, Keeps, branch_all, raise_keeps, reset_keeps, holds_raise, alone_dynamic, choose_all, effect_holds}
 use Rattle.sap_secure.proofs.Levels.{Like, high_above, high_left}
 use Rattle.sap_secure.proofs.Agreeing.{raise_high, Agree}
-use Rattle.sap_secure.proofs.Apart.{inside_state, inside_among, group_unassigned, state_no_register, state_no_memory, unhung}
+use Rattle.sap_secure.proofs.Apart.{inside_state, group_unassigned, state_no_register, state_no_memory, unhung}
 use Rattle.sap_secure.proofs.Concerns.{step_concerns, concerns, block_concerns, group_concerns, arms_concern}
 use Rattle.sap_secure.proofs.Sites.{Site, spot, mine, Proper, ProperBlock, ProperStep, node, own_fine, unmarked, mine_state, fine_command, ProperArms}
 use Rattle.sap_secure.proofs.Frames.{Kept, kept_raise, open_kept, open_step}
@@ -88,7 +90,7 @@ module _ (w : World) (laws : Laws w.order) (l : ℕ) where
   }
     where
       me : Kept w (own i.state) i.state s t
-      me = kept i.state (or_left _ _ (eq_self i.state))
+      me = kept i.state (or_left _ _ (test_of_same i.state))
 
   module _ (c : Scene w l) where
     abbrev I : Site w
@@ -134,12 +136,12 @@ module _ (w : World) (laws : Laws w.order) (l : ℕ) where
         let f = target_apart site target fine in
         child_reset w c.site.parent target (put_child c.site.parent (place w target) s)
         ∙ rw (neither_left (nat_eq c.site.parent target) (below w target c.site.parent) f, neither_right (nat_eq c.site.parent target) (below w target c.site.parent) f)
-        (child_put c.site.parent c.site.parent (place w target) s ∙ rw (eq_self c.site.parent) refl)
+        (child_put c.site.parent c.site.parent (place w target) s ∙ rw (test_of_same c.site.parent) refl)
 
     -- a goto where it succeeds: the state left is high, and so is the one that is entered
     pub goto_source : (site target pc : ℕ) (b r : Store) → ((z : Slot) → is_dynamic w (owner z) ≡ false → level w z r ≡ level w z b) → Mine (λ x. is_dynamic w x && step_hangs c.site.state c.site.kids (Goto site target) x) r → test w At (Goto site target) pc b ≡ true → UpAt pc (Goto site target) b → MyHigh r
     goto_source site target pc b r same cover t up = elim (cases_Bool (is_dynamic w c.site.state)) [
-      | inl d ↦ cover.own_high (and_both _ _ d (eq_self c.site.state))
+      | inl d ↦ cover.own_high (and_from _ _ d (test_of_same c.site.state))
       | inr d ↦ subst (λ v. High w.order l v) (sym (same (own c.site.state) d))
           (high_above w.order laws l _ _ (rw d at (and_right (is_dynamic w target || w.order.le pc (level w (own target) b)) _ t)) (up_join w laws l c.site c.entering c.holding pc (Goto site target) b up))
     ]
@@ -153,7 +155,7 @@ module _ (w : World) (laws : Laws w.order) (l : ℕ) where
         elim (cases_Bool (is_dynamic w target)) [
           | inl d ↦ rw d (path_high w laws l c.site.parent (place w target) c.site.siblings a.0 (put_level w (own target) pc moved) a.1 (child_level_put w c.site.parent (own target) pc moved ∙ seat)
               (subst (λ x. High w.order l (level w (own x) (put_level w (own target) pc moved))) (sym a.2)
-              (subst (λ v. High w.order l v) (sym (level_put w (own target) (own target) pc moved ∙ rw (eq_self target) refl)) (dynamic_up d up))))
+              (subst (λ v. High w.order l v) (sym (level_put w (own target) (own target) pc moved ∙ rw (test_of_same target) refl)) (dynamic_up d up))))
           | inr d ↦ rw d (path_high w laws l c.site.parent (place w target) c.site.siblings a.0 moved a.1 seat
               (subst (λ x. High w.order l (level w (own x) moved)) (sym a.2)
               (subst (λ v. High w.order l v) (sym (reset_keeps w (put_child c.site.parent (place w target) r) target (own target) d ∙ level_child w (own target) c.site.parent (place w target) r)) (enforced_up d up))))
@@ -209,7 +211,7 @@ module _ (w : World) (laws : Laws w.order) (l : ℕ) where
 
         kid : Low w.order l (level w (own c.site.state) r) → ((is_dynamic w (number_of a.0) ≡ true) ⊎ (is_dynamic w (number_of a.0) ≡ false)) → High w.order l (level w (own (number_of a.0)) r)
         kid low (inl d) =
-            cover.kid_high a.0 (subst (λ n. Nth c.site.kids n a.0) (sym seats) a.1) low (and_both _ _ d (or_left _ _ (nth_among c.site.kids (child c.site.state b) a.0 a.1)))
+            cover.kid_high a.0 (subst (λ n. Nth c.site.kids n a.0) (sym seats) a.1) low (and_from _ _ d (or_left _ _ (nth_among c.site.kids (child c.site.state b) a.0 a.1)))
         kid low (inr d) = subst (λ v. High w.order l v) (sym (same (own (number_of a.0)) d)) (upper up)
           where
             upper : UpAt pc (Fall site hang) b → High w.order l (level w (own (number_of a.0)) b)
@@ -277,7 +279,7 @@ module _ (w : World) (laws : Laws w.order) (l : ℕ) where
     clear d fine plain pc s q x m = open_kept w c.site q x (mine_state w c.site x m) d fine plain (unmarked w c.site d fine x m) pc s
 
     pub own_mine : mine c.site c.site.state ≡ true
-    own_mine = or_left _ _ (eq_self c.site.state)
+    own_mine = or_left _ _ (test_of_same c.site.state)
 
     pub clear_own : (d : Command) → Proper w c.site d → Open d → (pc : ℕ) (s : Store) → Kept w (own c.site.state) c.site.parent s (does w At c.site.enter d pc s).store
     clear_own d fine plain pc s = clear d fine plain pc s c.site.parent c.site.state own_mine
@@ -333,7 +335,7 @@ module _ (w : World) (laws : Laws w.order) (l : ℕ) where
           let dyn : OfDynamic w hang = alone_dynamic w At c.site.siblings (landing w laws l c.site c.entering c.holding) c.site.enter c.holding k in
           let inn = alone_within w laws l c.site c.entering c.holding k in
           attempt_still k final fine hang (λ r t. stay t) pc s dyn holds (quiet_kept w laws l c.site c.entering c.holding (step_concerns w c.site.state c.site.kids k) hang _ s dyn quiet) here (cover_raise _ _ _ s _ _ cover) (inl high) (λ r u. refl)
-          ∙ raised_path hang _ s here (cover_part _ _ _ _ s inn cover) (λ x h. not_true _ (λ i. let no = shallow (Do k) fine x h in let yes = inn x i in cc))
+          ∙ raised_path hang _ s here (cover_part _ _ _ _ s inn cover) (λ x h. false_from_ne_true _ (λ i. let no = shallow (Do k) fine x h in let yes = inn x i in cc))
       does_still (Try k hang h) fine final pc s holds high quiet here cover =
           let hung = touches w At (Try k hang h) in
           let dyn : OfDynamic w hung = touches_dynamic w laws l c.site c.entering c.holding (Try k hang h) in

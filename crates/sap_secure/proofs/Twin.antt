@@ -1,6 +1,8 @@
 -- Two runs of open commands, from stores that look alike, look alike.
 use Rattle.std.proofs.Common.{◌≡◌, ℕ, Bool, true, false, ◌&&◌, ◌||◌, List, ◌∷◌, refl, sym, ap, ◌∙◌, subst, nat_eq, inl, inr, ◌⊎◌, if◌then◌else◌}
-use Rattle.std.proofs.lemmas.Bool.{cases_Bool}
+use Rattle.std.proofs.lemmas.Bool.{cases_Bool, eqb-true, or_left, or_right}
+use Rattle.sap_lemmas.proofs.Bools.{and_left, iff_same}
+use Rattle.sap_lemmas.proofs.Numbers.{test_of_same}
 use Rattle.sap_lattice.specs.Order.{Laws}
 use Rattle.sap_maps.specs.Term.{Term, constant, read, cell, one, two, choose, join, part}
 use Rattle.sap_meaning.specs.Program.{World, is_dynamic, authority, LevelTerm, fixed, of, at_place, both, Step, Set, Write, Retag, RetagCell, Goto, Fall, Command, Do, Try, If, TryThen, Case, Arms, Last, Arm, Block, End, Then, is_memory}
@@ -12,7 +14,6 @@ use Rattle.sap_meaning.specs.Touches.{touches, raised_alone}
 use Rattle.sap_meaning.specs.Does.{effect, attempt, select, branch, does, does_block, attempt_then, is_constant, choose_arm, does_arms}
 use Rattle.sap_meaning.specs.Agree.{Low, High, seen}
 use Rattle.sap_meaning.specs.Fine.{FineTerm, FineLevel, transfers, Open, OpenBlock, Once, OnceBlock, OpenArms, OnceArms, step_writes, step_reaches, block_reaches}
-use Rattle.sap_meaning.proofs.Bools.{and_left, or_left, or_right, same_number, eq_self}
 use Rattle.sap_meaning.proofs.Slots.{held_register}
 use Rattle.sap_meaning.proofs.Keeps.{OfDynamic, Keeps, branch_all, holds_raise, alone_dynamic, effect_holds}
 use Rattle.sap_secure.proofs.Levels.{Like, Same, high_right, low_below, low_left, low_right, low_join, not_below, same_high, seen_parts}
@@ -26,11 +27,6 @@ use Rattle.sap_secure.proofs.Confined.{held_target, Confined, Entering, Quiet, E
 pub record Twin (w : World) (l : ℕ) (a b : After) : Type 0 where
   pub same : Agree w l a.store b.store
   pub refused : seen w.order l a.refused ≡ seen w.order l b.refused
-
-both_ways : (a b : Bool) → (a ≡ true → b ≡ true) → (b ≡ true → a ≡ true) → a ≡ b
-both_ways true b f g = sym (f refl)
-both_ways false true f g = g refl
-both_ways false false f g = refl
 
 -- what holds of both blocks holds of the one that is picked
 pub branch_both : (P : After → After → Type 0) (a b : ℕ → Store → After) (v p : ℕ) (t u : Store) → P (a p t) (a p u) → P (b p t) (b p u) → P (branch a b v p t) (branch a b v p u)
@@ -94,7 +90,7 @@ module _ (w : World) (laws : Laws w.order) (l : ℕ) where
   tag_low (part a hi lo) fine s t r h = tag_low a fine s t r h
 
   pub tag_same : (e : Term ℕ) → FineTerm w e → (s t : Store) → Agree w l s t → w.order.le (tag w e s) l ≡ w.order.le (tag w e t) l
-  tag_same e fine s t r = both_ways _ _ (λ h. rw (sym (tag_low e fine s t r h)) h) (λ h. rw (sym (tag_low e fine t s (agree_flip w laws l s t r) h)) h)
+  tag_same e fine s t r = iff_same _ _ (λ h. rw (sym (tag_low e fine s t r h)) h) (λ h. rw (sym (tag_low e fine t s (agree_flip w laws l s t r) h)) h)
 
   pub told_low : (n : LevelTerm) → FineLevel w n → (s t : Store) → Agree w l s t → Low w.order l (told w n s) → (told w n s ≡ told w n t) × (new_level w n s ≡ new_level w n t)
   told_low (fixed n) fine s t r h = (refl, refl)
@@ -105,7 +101,7 @@ module _ (w : World) (laws : Laws w.order) (l : ℕ) where
       let f0 = f.0 in let f1 = f.1 in let g0 = g.0 in let g1 = g.1 in (cc, cc)
 
   pub told_same : (n : LevelTerm) → FineLevel w n → (s t : Store) → Agree w l s t → w.order.le (told w n s) l ≡ w.order.le (told w n t) l
-  told_same n fine s t r = both_ways _ _ (λ h. rw (sym (told_low n fine s t r h).0) h) (λ h. rw (sym (told_low n fine t s (agree_flip w laws l s t r) h).0) h)
+  told_same n fine s t r = iff_same _ _ (λ h. rw (sym (told_low n fine s t r h).0) h) (λ h. rw (sym (told_low n fine t s (agree_flip w laws l s t r) h).0) h)
 
   -- both results are those of high contexts
   pub twin_confined : (r u : Store) (a b : After) → Agree w l r u → Confined w l r a → Confined w l u b → Twin w l a b
@@ -135,7 +131,7 @@ module _ (w : World) (laws : Laws w.order) (l : ℕ) where
     guard_low (Fall site hang) fine plain s t r h = cc
 
     told_joined : (n : LevelTerm) (j : Term ℕ) → FineLevel w n → FineTerm w j → (s t : Store) → Agree w l s t → w.order.le (w.order.join (told w n s) (tag w j s)) l ≡ w.order.le (w.order.join (told w n t) (tag w j t)) l
-    told_joined n j fn fj s t r = both_ways _ _ (λ h. one_way s t r h) (λ h. one_way t s (agree_flip w laws l s t r) h)
+    told_joined n j fn fj s t r = iff_same _ _ (λ h. one_way s t r h) (λ h. one_way t s (agree_flip w laws l s t r) h)
       where
         one_way : (s t : Store) → Agree w l s t → Low w.order l (w.order.join (told w n s) (tag w j s)) → Low w.order l (w.order.join (told w n t) (tag w j t))
         one_way s t r h = rw (← (told_low n fn s t r (left_low _ _ h)).0, ← tag_low j fj s t r (right_low (told w n s) _ h)) h
@@ -223,7 +219,7 @@ module _ (w : World) (laws : Laws w.order) (l : ℕ) where
         here y = nat_eq y m
 
         dyn : is_dynamic w m ≡ true → OfDynamic w here
-        dyn d y z = rw (same_number y m z) d
+        dyn d y z = rw (eqb-true y m z) d
 
         v_low : (a b : Store) → Agree w l a b → Low w.order l (v a) → v a ≡ v b
         v_low a b q low =
@@ -233,13 +229,13 @@ module _ (w : World) (laws : Laws w.order) (l : ℕ) where
             ap (λ x. w.order.join pc (w.order.join x (tag w e a))) ti ∙ ap (λ x. w.order.join pc (w.order.join (tag w j b) x)) te
 
         v_like : Like w.order l (v s) (v t)
-        v_like = (both_ways _ _ (λ z. rw (sym (v_low s t like z)) z) (λ z. rw (sym (v_low t s (agree_flip w laws l s t like) z)) z), v_low s t like)
+        v_like = (iff_same _ _ (λ z. rw (sym (v_low s t like z)) z) (λ z. rw (sym (v_low t s (agree_flip w laws l s t like) z)) z), v_low s t like)
 
         lifted : is_dynamic w m ≡ true → Agree w l (raise w.order here (v s) r) (raise w.order here (v t) u)
         lifted d = agree_raised w laws l r u here (v s) (v t) (dyn d) lifts v_like
 
         hidden : is_dynamic w m ≡ true → (b z : Store) → High w.order l (v b) → Agree w l (raise w.order here (v b) z) (put_number (next m (value w j b)) (value w e b) (raise w.order here (v b) z))
-        hidden d b z high = agree_hidden w laws l (raise w.order here (v b) z) (next m (value w j b)) (value w e b) (λ _. raise_to w laws l z here (v b) (next m (value w j b)) (rw d (eq_self m)) high)
+        hidden d b z high = agree_hidden w laws l (raise w.order here (v b) z) (next m (value w j b)) (value w e b) (λ _. raise_to w laws l z here (v b) (next m (value w j b)) (rw d (test_of_same m)) high)
 
         dynamic_write : is_dynamic w m ≡ true → (Low w.order l (v s) ⊎ High w.order l (v s)) → Twin w l (stay (put_number (next m (value w j s)) (value w e s) (raise w.order here (v s) r))) (stay (put_number (next m (value w j t)) (value w e t) (raise w.order here (v t) u)))
         dynamic_write d (inl low) =
@@ -383,11 +379,11 @@ module _ (w : World) (laws : Laws w.order) (l : ℕ) where
     -- a step alone whose guard is high touches nothing that it does not raise
     alone_quiet : (k : Step) → ProperStep w i k → transfers k ≡ false → (s : Store) → Even w (step_concerns w i.state i.kids k) s → High w.order l (guard w At k s) → Quiet w l (step_concerns w i.state i.kids k) (raise w.order (raised_alone w At k) (guard w At k s) s)
     alone_quiet (Set site x e) fine plain s even high z g h = (
-      λ d. (let dx : is_dynamic w x ≡ true = rw (same_number (owner z) x h) at d in let high' = rw dx at high in let low = laws.least_of_all l in cc),
+      λ d. (let dx : is_dynamic w x ≡ true = rw (eqb-true (owner z) x h) at d in let high' = rw dx at high in let low = laws.least_of_all l in cc),
       λ d. inl (even_raise w laws l (step_concerns w i.state i.kids (Set site x e)) (λ y. false) s _ (λ y h. cc) even z g d h),
     )
     alone_quiet (Write site m j e) fine plain s even high z g h = (
-      λ d. (let dx : is_dynamic w m ≡ true = rw (same_number (owner z) m h) at d in let high' = rw dx at high in let low = laws.least_of_all l in cc),
+      λ d. (let dx : is_dynamic w m ≡ true = rw (eqb-true (owner z) m h) at d in let high' = rw dx at high in let low = laws.least_of_all l in cc),
       λ d. inl (even_raise w laws l (step_concerns w i.state i.kids (Write site m j e)) (λ y. false) s _ (λ y h. cc) even z g d h),
     )
     alone_quiet (Retag site x n) fine plain s even high z g h = cc

@@ -1,6 +1,10 @@
 -- Confinement of a command on the active path.
 use Rattle.std.proofs.Common.{◌≡◌, ℕ, zero, suc, Bool, true, false, ◌||◌, List, [], ◌∷◌, refl, sym, ◌∙◌, subst, nat_eq, inl, inr, ◌⊎◌}
-use Rattle.std.proofs.lemmas.Bool.{cases_Bool}
+use Rattle.std.proofs.lemmas.Bool.{cases_Bool, and_from, false_from_ne_true, ne_eqb, or_cases, or_from, or_left, or_right}
+use Rattle.sap_lemmas.proofs.Bools.{and_left, and_right, neither_left, neither_right}
+use Rattle.sap_lemmas.proofs.Numbers.{test_of_same}
+use Rattle.sap_meaning.proofs.ProgramLemmas.{register_no_memory}
+use Rattle.sap_meaning.proofs.FineLemmas.{inside_among}
 use Rattle.sap_lattice.specs.Order.{Laws}
 use Rattle.sap_meaning.specs.Program.{World, Kind, input, register, memory, state, entity, kind_is_input, kind_is_register, kind_is_memory, is_dynamic, is_register, is_memory, is_state, root, below, Step, Set, Write, Retag, RetagCell, Goto, Fall, Command, Do, Try, If, TryThen, Case, Arms, Last, Arm, Block, End, Then, State, Node, Group, None, More}
 use Rattle.sap_meaning.specs.Store.{own, start, next, start_whole, next_whole, Store, home, level, child}
@@ -8,9 +12,8 @@ use Rattle.sap_meaning.specs.Touches.{among, step_hangs, hangs, block_hangs, tou
 use Rattle.sap_meaning.specs.Does.{does, does_child}
 use Rattle.sap_meaning.specs.Agree.{High}
 use Rattle.sap_meaning.specs.Fine.{FineStep, FineCommand, FineBlock, step_retags, retags, block_retags, state_retags, group_retags, reaches, inside, number_of, kids_of, Nth, FineArms, OpenArms, ClosingArms, arms_retag}
-use Rattle.sap_meaning.proofs.Bools.{and_left, and_right, and_both, or_left, or_right, or_of, or_false, neither_left, neither_right, not_true, eq_self, eq_not}
 use Rattle.sap_secure.specs.Confinement.{last_group, last_parent, Active, StandsIn, StandsInBlock, is_goto, is_fall, has_goto, block_has_goto, has_fall, block_has_fall, level_slot, EqualParts, SomeHigh, Guarded, Confinement, StandsInArms, arms_have_goto, arms_have_fall}
-use Rattle.sap_secure.proofs.Apart.{found, hung, unassigned, group_unassigned, inside_state, inside_among, state_no_register, state_no_memory, register_apart, memory_apart}
+use Rattle.sap_secure.proofs.Apart.{found, hung, unassigned, group_unassigned, inside_state, state_no_register, state_no_memory, register_apart, memory_apart}
 use Rattle.sap_secure.proofs.Concerns.{concerns, hanging}
 use Rattle.sap_secure.proofs.Sites.{Around, Site, spot, Proper, ProperBlock, Ended, Shut, node, own_fine, kids_around, around_root, proper_body, fine_command, not_own, no_kid, ProperArms}
 use Rattle.sap_secure.proofs.Frames.{Kept, child_under, under_kept}
@@ -72,7 +75,7 @@ module _ (w : World) (i : Site w) where
   out x s = group_unassigned w x (state_no_register w x s) (state_no_memory w x s) i.kids 0 i.kids (own_fine w i).1
 
   own_out : among i.kids i.state ≡ false
-  own_out = not_true _ (λ h. let f = neither_left (nat_eq i.state i.state) _ ((kids_around w i).apart i.state (inside_among i.kids i.state h)) in let k = eq_self i.state in cc)
+  own_out = false_from_ne_true _ (λ h. let f = neither_left (nat_eq i.state i.state) _ ((kids_around w i).apart i.state (inside_among i.kids i.state h)) in let k = test_of_same i.state in cc)
 
   step_own : (k : Step) → FineStep w i.siblings i.kids k → step_hangs i.state i.kids k i.state ≡ true → is_goto k ≡ true
   step_own (Set site y t) fine h = let no = register_apart w i.state y (node w i).kind fine.0 in cc
@@ -80,10 +83,10 @@ module _ (w : World) (i : Site w) where
   step_own (Retag site y n) fine h = cc
   step_own (RetagCell site m j n) fine h = cc
   step_own (Goto site target) fine h = refl
-  step_own (Fall site hang) fine h = let no = or_false _ _ own_out (out i.state (node w i).kind) in cc
+  step_own (Fall site hang) fine h = let no = or_from _ _ own_out (out i.state (node w i).kind) in cc
 
   either : (a b c d : Bool) → (a ≡ true → c ≡ true) → (b ≡ true → d ≡ true) → (a || b) ≡ true → (c || d) ≡ true
-  either a b c d f g h = elim (or_of a b h) [ inl x ↦ or_left c d (f x) | inr x ↦ or_right c d (g x) ]
+  either a b c d f g h = elim (or_cases a b h) [ inl x ↦ or_left c d (f x) | inr x ↦ or_right c d (g x) ]
 
   mutual
     own_goto : (c : Command) → FineCommand w i.siblings i.kids c → hangs i.state i.kids c i.state ≡ true → has_goto c ≡ true
@@ -131,12 +134,6 @@ module _ (w : World) (i : Site w) where
       block_kid : (b : Block) → FineBlock w i.siblings i.kids b → block_hangs i.state i.kids b x ≡ true → block_has_fall b ≡ true
       block_kid End fine h = h
       block_kid (Then c cs) fine h = either (hangs i.state i.kids c x) (block_hangs i.state i.kids cs x) (has_fall c) (block_has_fall cs) (kid_fall c fine.0) (block_kid cs fine.1) h
-
-register_no_memory : (k : Kind) → kind_is_register k ≡ true → kind_is_memory k ≡ false
-register_no_memory input h = cc
-register_no_memory register h = refl
-register_no_memory (memory d) h = cc
-register_no_memory (state p n) h = cc
 
 -- an input is no register and no memory
 input_alone : (k : Kind) → kind_is_register k ≡ false → (kind_is_input k || kind_is_register k) ≡ true → (kind_is_register k ≡ false) × (kind_is_memory k ≡ false)
@@ -274,9 +271,9 @@ module _ (w : World) (laws : Laws w.order) (l : ℕ) where
         kid_away = neither_left (nat_eq p e) (below w e p) (out e e_inside).1
 
         kids_out : among g c ≡ false
-        kids_out = not_true _ (λ h.
+        kids_out = false_from_ne_true _ (λ h.
             let f = neither_left (nat_eq c c) (below w c c) (out c (nth_below (last_group k way) (child (last_parent c way) s) e b g self c (inside_among g c h))).0 in
-            let z = eq_self c in cc)
+            let z = test_of_same c in cc)
 
         free : group_assigns g c ≡ false
         free = group_unassigned w c (state_no_register w c (node w i).kind) (state_no_memory w c (node w i).kind) g 0 g (own_fine w j).1
@@ -297,17 +294,17 @@ module _ (w : World) (laws : Laws w.order) (l : ℕ) (i : Site w) (c : Command) 
       dynamic : is_dynamic w x ≡ true → ((is_register w x ≡ true) ⊎ (is_register w x ≡ false)) → High w.order l (s.level (own x))
       dynamic d (inl r) =
           let n : is_memory w x ≡ false = register_no_memory (entity w x).kind r in
-          let high = f x (or_left _ _ r) (hanging w i.state i.kids c x (and_both _ _ d h)) in
+          let high = f x (or_left _ _ r) (hanging w i.state i.kids c x (and_from _ _ d h)) in
           rw n at high
       dynamic d (inr r) =
           let z = input_alone (entity w x).kind r k in
           let st = changing_no_state w (own x) k in
-          let y = found i.state i.kids x (not_own w i x st) (no_kid w i x st) c (and_right (is_dynamic w x) _ (hanging w i.state i.kids c x (and_both _ _ d h))) in
-          let no = or_false _ _ (unassigned w x z.0 z.1 i.siblings i.kids c (fine_command w i c fine)) (group_unassigned w x z.0 z.1 i.kids 0 i.kids (own_fine w i).1) in
+          let y = found i.state i.kids x (not_own w i x st) (no_kid w i x st) c (and_right (is_dynamic w x) _ (hanging w i.state i.kids c x (and_from _ _ d h))) in
+          let no = or_from _ _ (unassigned w x z.0 z.1 i.siblings i.kids c (fine_command w i c fine)) (group_unassigned w x z.0 z.1 i.kids 0 i.kids (own_fine w i).1) in
           cc
   quiet_of f g (start m j) k h = cc
   quiet_of f g (next m j) k h = (
-    λ d. (let high = f m (or_right _ _ k) (hanging w i.state i.kids c m (and_both _ _ d h)) in let high' = rw k at high in subst (λ z. High w.order l (s.level z)) (sym (whole m j d)) high'),
+    λ d. (let high = f m (or_right _ _ k) (hanging w i.state i.kids c m (and_from _ _ d h)) in let high' = rw k at high in subst (λ z. High w.order l (s.level z)) (sym (whole m j d)) high'),
     λ d. (let st = changing_no_state w (next m j) k in
         let r = hung w m k d i.state i.kids (not_own w i m st) (no_kid w i m st) i.siblings i.kids c (fine_command w i c fine) h in
         inl (g m k d r j).1),
@@ -329,7 +326,7 @@ module _ (w : World) (laws : Laws w.order) (l : ℕ) (i : Site w) (c : Command) 
   }
     where
       other : (x : ℕ) → inside i.kids x ≡ true → nat_eq x i.state ≡ false
-      other x m = eq_not x i.state (λ z. let f = neither_left (nat_eq i.state x) (below w x i.state) ((kids_around w i).apart x m) in let y = subst (λ v. nat_eq i.state v ≡ true) (sym z) (eq_self i.state) in cc)
+      other x m = ne_eqb x i.state (λ z. let f = neither_left (nat_eq i.state x) (below w x i.state) ((kids_around w i).apart x m) in let y = subst (λ v. nat_eq i.state v ≡ true) (sym z) (test_of_same i.state) in cc)
 
 pub confinement_law : Confinement
 unfolding scene_at

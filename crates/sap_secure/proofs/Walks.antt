@@ -1,7 +1,10 @@
 -- The active path from a parent down, as the list of its states, as long as their levels are at or below l.
 use Rattle.std.proofs.Common.{◌≡◌, ℕ, zero, suc, ◌<◌, ◌≤◌, Bool, true, false, ◌&&◌, ◌||◌, List, [], ◌∷◌, refl, sym, ap, ◌∙◌, subst, arith, nat_eq, nat_lt, nat_le, inl, inr, ◌⊎◌, if◌then◌else◌}
-use Rattle.std.proofs.lemmas.Bool.{cases_Bool}
+use Rattle.std.proofs.lemmas.Bool.{cases_Bool, false_from_ne_true, or_cases, or_from, or_left, or_right}
 use Rattle.std.proofs.lemmas.Grind.{common_steps}
+use Rattle.sap_lemmas.proofs.Bools.{and_left, and_right}
+use Rattle.sap_lemmas.proofs.Numbers.{test_of_same}
+use Rattle.sap_meaning.proofs.FineLemmas.{inside_among}
 use Rattle.sap_lattice.specs.Order.{Laws}
 use Rattle.sap_meaning.specs.Program.{World, is_dynamic, is_state, authority, last, Block, State, Node, Group, None, More}
 use Rattle.sap_meaning.specs.Store.{Slot, own, Store, home, level, child, raised, raise, held}
@@ -9,12 +12,10 @@ use Rattle.sap_meaning.specs.State.{Holds}
 use Rattle.sap_meaning.specs.Touches.{among}
 use Rattle.sap_meaning.specs.Fine.{FineGroup, inside, number_of}
 use Rattle.sap_meaning.specs.Agree.{Low, High}
-use Rattle.sap_meaning.proofs.Bools.{and_left, and_right, or_left, or_right, or_of, or_false, not_true, eq_self}
 use Rattle.sap_meaning.proofs.Slots.{level_raise, child_raise}
 use Rattle.sap_meaning.proofs.Trees.{Nth}
 use Rattle.sap_secure.proofs.Levels.{Like, high_above, high_left, high_right}
 use Rattle.sap_secure.proofs.Agreeing.{Agree, raise_high}
-use Rattle.sap_secure.proofs.Apart.{inside_among}
 
 -- a current child, by its place, with its level
 pub record Stop : Type 0 where
@@ -42,14 +43,14 @@ deeper (More (Node c b k) g) x = inside k x || deeper g x
 pub from_same : (w : World) (l : ℕ) (g : Group) (n i : ℕ) (s t : Store) → ((x : ℕ) → inside g x ≡ true → (level w (own x) s ≡ level w (own x) t) × (child x s ≡ child x t)) → from w l g n i s ≡ from w l g n i t
 from_same w l None n i s t f = refl
 from_same w l (More (Node c b k) g) zero i s t f =
-    let e = f c (or_left (nat_eq c c) _ (eq_self c)) in
+    let e = f c (or_left (nat_eq c c) _ (test_of_same c)) in
     rw (e.0, e.1) (ap (λ u. if w.order.le (level w (own c) t) l then stop i (level w (own c) t) ∷ u else [])
     (from_same w l k (child c t) (child c t) s t (λ x h. f x (or_right (nat_eq x c) _ (or_left _ _ h)))))
 from_same w l (More (Node c b k) g) (suc n) i s t f = from_same w l g n i s t (λ x h. f x (or_right (nat_eq x c) _ (or_right (inside k x) _ h)))
 
 pub nth_among : (g : Group) (n : ℕ) (a : State) → Nth g n a → among g (number_of a) ≡ true
 nth_among None n a h = absurd h
-nth_among (More (Node c b k) g) zero a h = or_left (nat_eq (number_of a) c) (among g (number_of a)) (subst (λ x. nat_eq (number_of x) c ≡ true) h (eq_self c))
+nth_among (More (Node c b k) g) zero a h = or_left (nat_eq (number_of a) c) (among g (number_of a)) (subst (λ x. nat_eq (number_of x) c ≡ true) h (test_of_same c))
 nth_among (More (Node c b k) g) (suc n) a h = or_right (nat_eq (number_of a) c) _ (nth_among g n a h)
 
 pub from_nth : (w : World) (l : ℕ) (q : Group) (n i : ℕ) (a : State) (s : Store) → Nth q n a → from w l q n i s ≡ from w l (More a None) zero i s
@@ -138,7 +139,7 @@ module _ (w : World) (laws : Laws w.order) (l : ℕ) where
       (rw (f c here) (from_settled k (child c t) (child c t) s t like hs ht (λ x h. held' x (or_right (nat_eq x c) _ (or_left _ _ h))) (λ x h. f x (or_right (nat_eq x c) _ (or_left _ _ h))) (λ x h. d x (or_right (nat_eq x c) _ (or_left _ _ h)))))
     where
       here : inside (More (Node c b k) g) c ≡ true
-      here = or_left (nat_eq c c) _ (eq_self c)
+      here = or_left (nat_eq c c) _ (test_of_same c)
 
       alike : ((is_dynamic w c ≡ true) ⊎ (is_dynamic w c ≡ false)) → Like w.order l (level w (own c) s) (level w (own c) t)
       alike (inl y) = let e = d c here y in (ap (λ v. w.order.le v l) e, λ _. e)
@@ -197,15 +198,15 @@ module _ (w : World) (laws : Laws w.order) (l : ℕ) where
 module _ (w : World) where
   pub deeper_inside : (g : Group) (x : ℕ) → deeper g x ≡ true → inside g x ≡ true
   deeper_inside None x h = h
-  deeper_inside (More (Node c b k) g) x h = or_right (nat_eq x c) _ (elim (or_of (inside k x) _ h) [ inl i ↦ or_left _ _ i | inr i ↦ or_right (inside k x) _ (deeper_inside g x i) ])
+  deeper_inside (More (Node c b k) g) x h = or_right (nat_eq x c) _ (elim (or_cases (inside k x) _ h) [ inl i ↦ or_left _ _ i | inr i ↦ or_right (inside k x) _ (deeper_inside g x i) ])
 
   pub deeper_not_among : (q : Group) (n : ℕ) (g : Group) → FineGroup w q n g → (x : ℕ) → deeper g x ≡ true → among g x ≡ false
   deeper_not_among q n None fine x h = refl
-  deeper_not_among q n (More (Node c b k) g) fine x h = elim (or_of (inside k x) _ h) [
+  deeper_not_among q n (More (Node c b k) g) fine x h = elim (or_cases (inside k x) _ h) [
     | inl i ↦ (
         let y = and_right (is_state w x) _ (fine.0.0.numbers x i) in
-        or_false _ _ (after c x _ y) (not_true _ (λ j. later c x (last w c) y (fine.2 x (inside_among g x j)))))
-    | inr i ↦ or_false _ _ (beyond x c (last w c) fine.0.0.itself (fine.2 x (deeper_inside g x i))) (deeper_not_among q (suc n) g fine.1 x i)
+        or_from _ _ (after c x _ y) (false_from_ne_true _ (λ j. later c x (last w c) y (fine.2 x (inside_among g x j)))))
+    | inr i ↦ or_from _ _ (beyond x c (last w c) fine.0.0.itself (fine.2 x (deeper_inside g x i))) (deeper_not_among q (suc n) g fine.1 x i)
   ]
     where
       after : (c x : ℕ) (a : Bool) → (nat_lt c x && a) ≡ true → nat_eq x c ≡ false

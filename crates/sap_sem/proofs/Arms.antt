@@ -1,8 +1,8 @@
 -- Which arm has a number.
 use Rattle.std.proofs.Common.{◌≡◌, ℕ, zero, suc, ◌+◌, ◌<◌, ◌≤◌, Bool, true, false, ◌||◌, List, [], ◌∷◌, length, get_or, drop, refl, sym, ap, ◌∙◌, arith, add-one, inl, inr, nat_eq, if◌then◌else◌}
-use Rattle.std.proofs.lemmas.Bool.{cases_Bool}
+use Rattle.std.proofs.lemmas.Bool.{cases_Bool, eqb-true}
+use Rattle.sap_lemmas.proofs.Numbers.{test_of_same}
 use Rattle.sap_meaning.specs.Does.{is_constant}
-use Rattle.sap_meaning.proofs.Bools.{same_number, eq_self}
 use Rattle.sap_program.specs.declared.program.Arm.{Arm}
 use Rattle.sap_program.specs.declared.program.Command.{Command}
 use Rattle.sap_program.specs.Views.{constants_of, commands_in}
@@ -12,7 +12,7 @@ use Rattle.sap_sem.specs.Runs.{picked_in}
 
 pub constant_found : (cs : List ℕ) (x n : ℕ) → n < length cs → get_or cs n 0 ≡ x → is_constant (drop n cs) x ≡ true
 constant_found [] x n h e = absurd (omega arith)
-constant_found (c ∷ cs) x zero h e = ap (λ (b : Bool). b || is_constant cs x) (ap (λ (y : ℕ). nat_eq x y) e ∙ eq_self x)
+constant_found (c ∷ cs) x zero h e = ap (λ (b : Bool). b || is_constant cs x) (ap (λ (y : ℕ). nat_eq x y) e ∙ test_of_same x)
 constant_found (c ∷ cs) x (suc n) h e = constant_found cs x n (omega arith) e
 
 pub constant_later : (cs : List ℕ) (x n : ℕ) → n < length cs → (get_or cs n 0 ≡ x → ⊥) → is_constant (drop n cs) x ≡ is_constant (drop (n + 1) cs) x
@@ -20,7 +20,7 @@ constant_later [] x n h e = absurd (omega arith)
 constant_later (c ∷ cs) x zero h e = ap (λ (b : Bool). b || is_constant cs x) (differs x c e)
   where
     differs : (m n : ℕ) → (n ≡ m → ⊥) → nat_eq m n ≡ false
-    differs m n e = elim (cases_Bool (nat_eq m n)) [ inl h ↦ absurd (e (sym (same_number m n h))) | inr h ↦ h ]
+    differs m n e = elim (cases_Bool (nat_eq m n)) [ inl h ↦ absurd (e (sym (eqb-true m n h))) | inr h ↦ h ]
 constant_later (c ∷ cs) x (suc n) h e = let r = constant_later cs x n (omega arith) e in simp (add-one) (simp (add-one) at r)
 
 pub constant_past : (cs : List ℕ) (x n : ℕ) → length cs ≤ n → is_constant (drop n cs) x ≡ false

@@ -2,6 +2,8 @@
 use Rattle.std.proofs.Common.{◌≡◌, ℕ, zero, suc, ◌+◌, ◌<◌, ◌^◌, List, [], ◌∷◌, length, get_or, map, refl, sym, ap, ◌∙◌, arith, if◌then◌else◌}
 use Rattle.std.specs.Prelude.{replicate}
 use Rattle.std.proofs.Math.Pow.{pow_pos}
+use Rattle.sap_lemmas.proofs.Lists.{length_map}
+use Rattle.std.proofs.lemmas.List.{length-replicate}
 use Rattle.sap_lattice.specs.Order.{Order}
 use Rattle.sap_meaning.specs.Program.{World, nothing, entity, root, width, depth_of}
 use Rattle.sap_meaning.specs.Program as program
@@ -16,13 +18,8 @@ use Rattle.sap_sem.specs.declared.store.Store as code
 use Rattle.sap_sem.specs.Half.{Cells, no_cell}
 use Rattle.sap_sem.specs.First.{started}
 use Rattle.sap_sem.specs.Kept.{no_entry, past, store_of, Shaped, Ready}
-use Rattle.sap_sem.proofs.Worlds.{length_map}
 use Rattle.sap_sem.proofs.Stored.{store_same}
 use Rattle.sap_sem.proofs.Fits.{Numbers, ready_as}
-
-copies : {A : Type 0} (n : ℕ) (a : A) → length (replicate n a) ≡ n
-copies zero a = refl
-copies (suc n) a = ap (λ (k : ℕ). suc k) (copies n a)
 
 zero_cell : (n i t u : ℕ) → (get_or (replicate n (no_cell t)) i (no_cell u)).number ≡ 0
 zero_cell zero i t u = refl
@@ -120,7 +117,7 @@ module _ (o : Order) (p : Program) (s : code.Store) (n : ℕ) (entries : s.entri
       shaped : Shaped w s
       shaped = record {
         entries = ap (λ (xs : List kept.Entry). length xs) entries ∙ length_map (started o.bottom) es ∙ sym (length_map entity_of es);
-        starts = λ m. ap (λ (h : Cells). length h.cells) (start_at m) ∙ copies (depth w m) _;
-        nexts = λ m. ap (λ (h : Cells). length h.cells) (next_at m) ∙ copies (depth w m) _;
-        seats = ap (λ (xs : List ℕ). length xs) seats ∙ copies n 0 ∙ (let l = length_map entity_of es in omega (arith, e, l));
+        starts = λ m. ap (λ (h : Cells). length h.cells) (start_at m) ∙ length-replicate (depth w m) _;
+        nexts = λ m. ap (λ (h : Cells). length h.cells) (next_at m) ∙ length-replicate (depth w m) _;
+        seats = ap (λ (xs : List ℕ). length xs) seats ∙ length-replicate n 0 ∙ (let l = length_map entity_of es in omega (arith, e, l));
       }

@@ -1,37 +1,26 @@
 -- A program that is fine, with widths that fit and are in range, has what a machine needs.
-use Rattle.std.proofs.Common.{◌≡◌, ℕ, suc, ◌<◌, ◌≤◌, ◌^◌, Bool, true, false, ◌||◌, refl, sym, ap, subst, arith, nat_eq, nat_lt, inl, inr}
-use Rattle.std.proofs.lemmas.Bool.{cases_Bool}
+use Rattle.std.proofs.Common.{◌≡◌, ℕ, suc, ◌<◌, ◌≤◌, ◌^◌, true, false, refl, sym, ap, subst, arith, nat_eq, nat_lt, inl, inr}
+use Rattle.std.proofs.lemmas.Bool.{cases_Bool, eqb-true}
 use Rattle.std.proofs.lemmas.Grind.{common_steps}
+use Rattle.sap_lemmas.proofs.Bools.{or_other}
+use Rattle.sap_lemmas.proofs.Numbers.{test_of_same}
+use Rattle.std.proofs.lemmas.List.{get_or_past}
+use Rattle.sap_meaning.proofs.FineLemmas.{inside_among}
 use Rattle.sap_maps.specs.Term.{Term}
 use Rattle.sap_meaning.specs.Program.{World, Program, Entity, nothing, entity, kind_is_register, kind_is_memory, root, is_register, is_memory, is_dynamic, last, LevelTerm, fixed, of, at_place, both, Step, Set, Write, Retag, RetagCell, Goto, Fall, Command, Do, Try, If, TryThen, Case, Arms, Last, Arm, Block, End, Then, State, Node, Group, None, More}
 use Rattle.sap_meaning.specs.Expressions.{width_of}
 use Rattle.sap_meaning.specs.Touches.{among}
-use Rattle.sap_meaning.specs.Fine.{FineStep, FineCommand, FineArms, FineBlock, FineState, FineGroup, FineProgram, inside, FineNode}
+use Rattle.sap_meaning.specs.Fine.{FineStep, FineCommand, FineArms, FineBlock, FineState, FineGroup, FineProgram, FineNode}
 use Rattle.sap_meaning.specs.Sized.{SizedTerm, SizedLevel, SizedStep, Sized, SizedArms, SizedBlock, SizedState, SizedGroup, SizedProgram}
-use Rattle.sap_meaning.proofs.Bools.{same_number, eq_self}
 use Rattle.sap_resolve.specs.Sized.Ranges.{RangedTerm, RangedLevel, RangedStep, Ranged, RangedArms, RangedBlock, RangedState, RangedGroup, RangedProgram}
 use Rattle.sap_sem.specs.Able.{AbleTerm, AbleLevel, AbleTarget, AbleStep, AbleCommand, AbleArms, AbleBlock, AbleState, AbleGroup}
-use Rattle.sap_sem.proofs.Worlds.{beyond}
-
-or_second : (p q : Bool) → (p || q) ≡ true → p ≡ false → q ≡ true
-or_second true q h e = cc
-or_second false q h e = h
-
-inside_among : (g : Group) (x : ℕ) → among g x ≡ true → inside g x ≡ true
-inside_among None x h = h
-inside_among (More (Node s b k) g) x h = deeper (nat_eq x s) (among g x) (inside k x) (inside g x) h (inside_among g x)
-  where
-    deeper : (p a i j : Bool) → (p || a) ≡ true → (a ≡ true → j ≡ true) → (p || (i || j)) ≡ true
-    deeper true a i j h f = refl
-    deeper false a true j h f = refl
-    deeper false a false j h f = f h
 
 module _ (w : World) where
   -- what is no entity is nothing
   known : (x : ℕ) → ((entity w x ≡ nothing) → ⊥) → x < root w
   known x h = elim (cases_Bool (nat_lt x (root w))) [
     | inl l ↦ below x (root w) l
-    | inr l ↦ absurd (h (beyond w.entities x nothing (above x (root w) l)))
+    | inr l ↦ absurd (h (get_or_past w.entities x nothing (above x (root w) l)))
   ]
     where
       below : (m n : ℕ) → nat_lt m n ≡ true → m < n
@@ -73,8 +62,8 @@ module _ (w : World) where
     able_target : (q g : Group) (n x : ℕ) → FineGroup w q n g → ((y : ℕ) → among g y ≡ true → n ≤ y) → among g x ≡ true → AbleTarget w x
     able_target q None n x fine least h = cc
     able_target q (More (Node s b k) g) n x fine least h = elim (cases_Bool (nat_eq x s)) [
-      | inl e ↦ subst (AbleTarget w) (sym (same_number x s e)) (itself q n s b k fine.0.0 (least s (rw (eq_self s) refl)))
-      | inr e ↦ able_target q g (suc n) x fine.1 (λ y i. later q n s b k fine.0.0 (least s (rw (eq_self s) refl)) y (fine.2 y (inside_among g y i))) (or_second (nat_eq x s) (among g x) h e)
+      | inl e ↦ subst (AbleTarget w) (sym (eqb-true x s e)) (itself q n s b k fine.0.0 (least s (rw (test_of_same s) refl)))
+      | inr e ↦ able_target q g (suc n) x fine.1 (λ y i. later q n s b k fine.0.0 (least s (rw (test_of_same s) refl)) y (fine.2 y (inside_among g y i))) (or_other (nat_eq x s) (among g x) h e)
     ]
 
     able_step : (q g : Group) → FineGroup w q 0 q → (k : Step) → FineStep w q g k → SizedStep w k → RangedStep w k → AbleStep w k

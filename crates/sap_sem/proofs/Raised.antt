@@ -1,53 +1,18 @@
 -- Raising one entity after another.
-use Rattle.std.proofs.Common.{◌≡◌, ℕ, zero, suc, ◌+◌, ◌<◌, ◌≤◌, Bool, true, false, ◌&&◌, ◌||◌, List, [], ◌∷◌, ◌++◌, length, length-append, get_or, drop, refl, sym, ap, ◌∙◌, arith, add-one, nat_eq, nat_lt, if◌then◌else◌, inl, inr}
+use Rattle.std.proofs.Common.{◌≡◌, ℕ, zero, suc, ◌+◌, ◌<◌, ◌≤◌, Bool, true, false, ◌&&◌, ◌||◌, List, [], ◌∷◌, length, get_or, drop, refl, sym, ap, ◌∙◌, arith, add-one, nat_eq, nat_lt, if◌then◌else◌, inl, inr}
 use Rattle.std.proofs.lemmas.Bool.{cases_Bool, lt-ltb, ltb-true, eq-eqb, eqb-true, ne_eqb, and_parts}
-use Rattle.std.proofs.lemmas.List.{get_or-append-add}
+use Rattle.sap_lemmas.proofs.Bools.{and_false, and_true}
+use Rattle.std.proofs.lemmas.List.{get_or_past}
+use Rattle.sap_resolve.proofs.FillLemmas.{table_at, table_length}
 use Rattle.sap_lattice.specs.Order.{Order}
 use Rattle.sap_meaning.specs.Program.{World, root, listed}
 use Rattle.sap_meaning.specs.Store.{Slot, own, start, next, start_whole, next_whole, Store, raised, raise}
 use Rattle.sap_resolve.specs.Fill.{table}
 use Rattle.sap_program.specs.Hangs.{rises_from, rises, hangs, flags}
 use Rattle.sap_sem.specs.Passes.{only, raised_one}
-use Rattle.sap_sem.proofs.Worlds.{beyond}
 use Rattle.sap_sem.proofs.Stored.{store_same}
 
 -- tables
-
-table_length : (n : ℕ) (test : ℕ → Bool) → length (table n test) ≡ n
-table_length zero test = refl
-table_length (suc n) test =
-    let h = table_length n test in
-    let e : length (table n test ++ test n ∷ []) ≡ length (table n test) + 1 = length-append (table n test) (test n ∷ []) in
-    omega arith
-
-get_early : (xs ys : List Bool) (x : ℕ) → x < length xs → get_or (xs ++ ys) x false ≡ get_or xs x false
-get_early [] ys x h = absurd (omega arith)
-get_early (y ∷ xs) ys zero h = refl
-get_early (y ∷ xs) ys (suc x) h = let k : x < length xs = omega arith in get_early xs ys x k
-
-table_at : (n : ℕ) (test : ℕ → Bool) (x : ℕ) → x < n → get_or (table n test) x false ≡ test x
-table_at zero test x h = absurd (omega arith)
-table_at (suc n) test x h = elim (cases_Bool (nat_lt x n)) [
-  | inl t ↦
-      let k : x < n = ltb-true x n t in
-      let l = table_length n test in
-      let i : x < length (table n test) = omega arith in
-      get_early (table n test) (test n ∷ []) x i ∙ table_at n test x k
-  | inr t ↦
-      let k : x ≡ n = grind (arith) in
-      let l = table_length n test in
-      let e : x ≡ length (table n test) + 0 = omega arith in
-      let f : get_or (table n test ++ test n ∷ []) (length (table n test) + 0) false ≡ test n = get_or-append-add (table n test) (test n ∷ []) 0 false in
-      ap (λ (m : ℕ). get_or (table n test ++ test n ∷ []) m false) e ∙ f ∙ ap test (sym k)
-]
-
-and_true : (a : Bool) → (a && true) ≡ a
-and_true true = refl
-and_true false = refl
-
-and_false : (a : Bool) → (a && false) ≡ false
-and_false true = refl
-and_false false = refl
 
 -- what the flags of a list say
 pub flagged : (n : ℕ) (hang : List ℕ) (x : ℕ) → listed (flags n hang) x ≡ (hangs hang x && nat_lt x n)
@@ -55,7 +20,7 @@ flagged n hang x = elim (cases_Bool (nat_lt x n)) [
   | inl t ↦ rw t (table_at n (hangs hang) x (ltb-true x n t) ∙ sym (and_true (hangs hang x)))
   | inr t ↦
       rw t
-      (beyond (table n (hangs hang)) x false (let l = table_length n (hangs hang) in let k : n ≤ x = grind (arith) in omega (arith, l, k))
+      (get_or_past (table n (hangs hang)) x false (let l = table_length n (hangs hang) in let k : n ≤ x = grind (arith) in omega (arith, l, k))
       ∙ sym (and_false (hangs hang x)))
 ]
 

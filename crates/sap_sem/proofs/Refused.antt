@@ -4,6 +4,7 @@ use Rattle.std.specs.Prelude.{slice_set, replicate}
 use Rattle.std.proofs.Math.ListN.{length-set}
 use Rattle.std.proofs.lemmas.Bool.{cases_Bool, eqb-true, eq-eqb, ne_eqb}
 use Rattle.std.proofs.lemmas.Grind.{get_or-set_at}
+use Rattle.std.proofs.lemmas.List.{length-replicate}
 use Rattle.sap_meaning.specs.Store.{Refusal}
 use Rattle.sap_sem.specs.Runs.{marked}
 use Rattle.sap_meaning.specs.Sites.{refused_sites, Sublist}
@@ -63,10 +64,6 @@ otherwise_none None = refl
 pub marks_tell : (rs : List Refusal) (n k : ℕ) → k < length (replicate n unmarked) → get_or (marked rs (replicate n unmarked)) k None ≡ last_refusal rs k
 marks_tell rs n k h = marked_get rs (replicate n unmarked) k h ∙ ap (otherwise (last_refusal rs k)) (none_marked n k) ∙ otherwise_none (last_refusal rs k)
 
-copies : (n : ℕ) (a : Option ℕ) → length (replicate n a) ≡ n
-copies zero a = refl
-copies (suc n) a = ap (λ (k : ℕ). suc k) (copies n a)
-
 -- Sites that rise are refused once.
 
 -- a site before all of these is not refused
@@ -121,7 +118,7 @@ pub told : (rs qs : List Refusal) (ms : List (Option ℕ)) (n sites k : ℕ) →
     → get_or ms k None ≡ refusal_of qs k
 told rs qs ms n sites k e f rises g h =
     ap (λ (l : List (Option ℕ)). get_or l k None) e
-    ∙ marks_tell rs n k (let c = copies n unmarked in omega (arith, c, g, h))
+    ∙ marks_tell rs n k (let c = length-replicate n unmarked in omega (arith, c, g, h))
     ∙ ap (λ (l : List Refusal). last_refusal l k) f
     ∙ last_is qs 1 sites k rises
 

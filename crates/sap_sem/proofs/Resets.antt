@@ -3,11 +3,12 @@ use Rattle.std.proofs.Common.{◌≡◌, ℕ, zero, suc, ◌+◌, ◌<◌, ◌�
 use Rattle.std.specs.Prelude.{nat_le}
 use Rattle.std.proofs.lemmas.Bool.{cases_Bool, lt-ltb, le-ltb, ltb-true, leb-true, le-leb, eqb-true}
 use Rattle.std.proofs.lemmas.Grind.{common_steps}
+use Rattle.sap_lemmas.proofs.Bools.{and_false, and_true}
+use Rattle.std.proofs.lemmas.List.{get_or_past}
 use Rattle.sap_meaning.specs.Program.{World, Entity, entity, nothing, kind_is_input, root, is_input, is_state, is_dynamic, last, below}
 use Rattle.sap_meaning.specs.Store.{Slot, own, start, next, start_whole, next_whole, Store, owner, same_slot, put_number, put_level, put_child, lowered, reset}
 use Rattle.sap_meaning.specs.Cycle.{Tagged, inputs_before, given, at_inputs, set_inputs}
 use Rattle.sap_sem.specs.Passes.{reset_one, given_one}
-use Rattle.sap_sem.proofs.Worlds.{beyond}
 use Rattle.sap_sem.proofs.Stored.{store_same}
 
 module _ (w : World) (target : ℕ) where
@@ -147,35 +148,27 @@ module _ (w : World) (target : ℕ) where
 
 -- one state
 
-and_off : (q : Bool) → (q && false) ≡ false
-and_off true = refl
-and_off false = refl
-
-and_on : (q : Bool) → (q && true) ≡ q
-and_on true = refl
-and_on false = refl
-
 module _ (w : World) (x : ℕ) (s : Store) where
   pub reset_other : is_state w x ≡ false → reset_one w x s ≡ s
   unfolding reset_one
   reset_other e =
       store_same _ _ (λ z. refl)
-      (λ z. ap (λ (q : Bool). if q then w.order.bottom else s.level z) (ap (λ (b : Bool). same_slot z (own x) && (b && is_dynamic w x)) e ∙ and_off (same_slot z (own x))))
-      (λ p. ap (λ (q : Bool). if q then 0 else s.child p) (ap (λ (b : Bool). nat_eq p x && b) e ∙ and_off (nat_eq p x)))
+      (λ z. ap (λ (q : Bool). if q then w.order.bottom else s.level z) (ap (λ (b : Bool). same_slot z (own x) && (b && is_dynamic w x)) e ∙ and_false (same_slot z (own x))))
+      (λ p. ap (λ (q : Bool). if q then 0 else s.child p) (ap (λ (b : Bool). nat_eq p x && b) e ∙ and_false (nat_eq p x)))
 
   pub reset_dynamic : is_state w x ≡ true → is_dynamic w x ≡ true → put_child x 0 (put_level w (own x) w.order.bottom s) ≡ reset_one w x s
   unfolding reset_one put_child put_level
   reset_dynamic e f =
       store_same _ _ (λ z. refl)
-      (λ z. ap (λ (q : Bool). if q then w.order.bottom else s.level z) (sym (ap (λ (b : Bool). same_slot z (own x) && (b && is_dynamic w x)) e ∙ ap (λ (b : Bool). same_slot z (own x) && b) f ∙ and_on (same_slot z (own x)))))
-      (λ p. ap (λ (q : Bool). if q then 0 else s.child p) (sym (ap (λ (b : Bool). nat_eq p x && b) e ∙ and_on (nat_eq p x))))
+      (λ z. ap (λ (q : Bool). if q then w.order.bottom else s.level z) (sym (ap (λ (b : Bool). same_slot z (own x) && (b && is_dynamic w x)) e ∙ ap (λ (b : Bool). same_slot z (own x) && b) f ∙ and_true (same_slot z (own x)))))
+      (λ p. ap (λ (q : Bool). if q then 0 else s.child p) (sym (ap (λ (b : Bool). nat_eq p x && b) e ∙ and_true (nat_eq p x))))
 
   pub reset_enforced : is_state w x ≡ true → is_dynamic w x ≡ false → put_child x 0 s ≡ reset_one w x s
   unfolding reset_one put_child
   reset_enforced e f =
       store_same _ _ (λ z. refl)
-      (λ z. ap (λ (q : Bool). if q then w.order.bottom else s.level z) (sym (ap (λ (b : Bool). same_slot z (own x) && (b && is_dynamic w x)) e ∙ ap (λ (b : Bool). same_slot z (own x) && b) f ∙ and_off (same_slot z (own x)))))
-      (λ p. ap (λ (q : Bool). if q then 0 else s.child p) (sym (ap (λ (b : Bool). nat_eq p x && b) e ∙ and_on (nat_eq p x))))
+      (λ z. ap (λ (q : Bool). if q then w.order.bottom else s.level z) (sym (ap (λ (b : Bool). same_slot z (own x) && (b && is_dynamic w x)) e ∙ ap (λ (b : Bool). same_slot z (own x) && b) f ∙ and_false (same_slot z (own x)))))
+      (λ p. ap (λ (q : Bool). if q then 0 else s.child p) (sym (ap (λ (b : Bool). nat_eq p x && b) e ∙ and_true (nat_eq p x))))
 
 -- inputs
 
@@ -215,7 +208,7 @@ module _ (w : World) (inputs : List Tagged) where
   input_within : (x : ℕ) → is_input w x ≡ true → x < root w
   input_within x h = elim (cases_Bool (nat_lt x (root w))) [
     | inl t ↦ ltb-true x (root w) t
-    | inr t ↦ absurd (let e : kind_is_input (entity w x).kind ≡ false = ap (λ (d : Entity). kind_is_input d.kind) (beyond w.entities x nothing (above x (root w) t)) in cc)
+    | inr t ↦ absurd (let e : kind_is_input (entity w x).kind ≡ false = ap (λ (d : Entity). kind_is_input d.kind) (get_or_past w.entities x nothing (above x (root w) t)) in cc)
   ]
     where
       above : (m n : ℕ) → nat_lt m n ≡ false → n ≤ m

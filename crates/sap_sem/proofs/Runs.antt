@@ -1,13 +1,14 @@
 -- What the code's commands and states do, one at a time.
-use Rattle.std.proofs.Common.{◌≡◌, ℕ, zero, suc, ◌+◌, ◌<◌, ◌≤◌, Bool, List, [], ◌∷◌, append-nil, length, get_or, drop, refl, sym, ap, ◌∙◌, arith, add-one, inl, inr}
+use Rattle.std.proofs.Common.{◌≡◌, ℕ, zero, suc, ◌+◌, ◌<◌, ◌≤◌, Bool, List, [], ◌∷◌, length, get_or, drop, refl, sym, ap, ◌∙◌, arith, add-one, inl, inr}
 use Rattle.std.proofs.lemmas.Bool.{cases_Bool}
 use Rattle.std.specs.declared.vec.Vec.{Vec}
 use Rattle.std.specs.declared.alloc.Global.{Global}
+use Rattle.sap_meaning.proofs.StoreLemmas.{and_stay}
 use Rattle.sap_meaning.specs.Program.{World, Block, Last, root, listed}
 use Rattle.sap_meaning.specs.Program as program
 use Rattle.sap_meaning.specs.Checks.{test}
 use Rattle.sap_meaning.specs.Checks as checks
-use Rattle.sap_meaning.specs.Store.{Store, After, Refusal, stay, and_then}
+use Rattle.sap_meaning.specs.Store.{Store, After, stay, and_then}
 use Rattle.sap_meaning.specs.Does.{attempt, attempt_then, select, is_constant}
 use Rattle.sap_meaning.specs.Runs.{listed_alone, run, run_arms, run_block, run_state, run_child}
 use Rattle.sap_program.specs.declared.program.Number.{Number}
@@ -28,13 +29,10 @@ use Rattle.sap_sem.proofs.Views.{command_of-do, command_of-try, command_of-if, c
 
 -- a step with nothing behind where it is accepted
 
-and_then-stay : (a : After) → and_then a (λ t. stay t) ≡ a
-and_then-stay a = ap (λ (l : List Refusal). record { store = a.store; refused = l }) (append-nil a.refused)
-
 nothing_behind : (w : World) (at : checks.Spot) (enter : ℕ → ℕ → Store → After) (k : program.Step) (hangs : ℕ → Bool) (h : ℕ → Store → After) (pc : ℕ) (s : Store)
     → attempt w at enter k hangs h pc s ≡ attempt_then w at enter k hangs (λ p t. stay t) h pc s
 unfolding attempt attempt_then
-nothing_behind w at enter k hangs h pc s = elim (cases_Bool (test w at k pc s)) [ inl e ↦ rw e (sym (and_then-stay _)) | inr e ↦ rw e refl ]
+nothing_behind w at enter k hangs h pc s = elim (cases_Bool (test w at k pc s)) [ inl e ↦ rw e (sym (and_stay _)) | inr e ↦ rw e refl ]
 
 module _ (d : Setting) (at : Spot) (pc : ℕ) (s : Store) where
   pub run-do : (k : Step) (hang : List ℕ) → ((x : ℕ) → listed (flags (entities_in d) hang) x ≡ listed_alone (world_in d) (spot_in d at) (step_of (entities_in d) k) x)

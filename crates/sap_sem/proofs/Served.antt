@@ -1,14 +1,14 @@
 -- The program of a checked design serves a machine.
-use Rattle.std.proofs.Common.{◌≡◌, ℕ, ◌<◌, ◌^◌, true, length, sym, ap, subst, ◌∙◌, arith}
+use Rattle.std.proofs.Common.{◌≡◌, ℕ, ◌<◌, ◌^◌, length, sym, ap, subst, ◌∙◌, arith}
 use Rattle.std.specs.Prelude.{IsTrue}
+use Rattle.sap_tree.proofs.SyntaxLemmas.{tree_of_whole}
 use Rattle.sap_tree.specs.Syntax.{DesignTree}
-use Rattle.sap_tree.specs.Whole.{is_tree, is_whole, is_within_limits}
+use Rattle.sap_tree.specs.Whole.{is_whole}
 use Rattle.sap_lattice.specs.Order.{Laws}
 use Rattle.sap_lattice.specs.Levels.{Levels, order_of}
 use Rattle.sap_names.specs.Entities.{entities_of}
 use Rattle.sap_shape.specs.WellFormed.{WellFormed}
 use Rattle.sap_meaning.specs.Program.{Program, entity, root, width}
-use Rattle.sap_meaning.proofs.Bools.{and_left}
 use Rattle.sap_resolve.specs.Premises.Premises.{ProgramsAreFine}
 use Rattle.sap_resolve.specs.Fill.{program_of}
 use Rattle.sap_resolve.proofs.Lookup.{entities_length}
@@ -24,14 +24,10 @@ use Rattle.sap_sem.specs.Able.{AbleGroup}
 use Rattle.sap_sem.specs.Sound.{IsSound, meant}
 use Rattle.sap_sem.proofs.Programs.{able_program}
 
-tree_of : (d : DesignTree) → IsTrue (is_whole d) → is_tree d ≡ true
-unfolding is_whole
-tree_of d h = and_left (is_tree d) (is_within_limits d) h
-
 pub serves : (ls : Levels) (d : DesignTree) → ProgramsAreFine → SizesFit → WidthsInRange → Laws (order_of ls) → WellFormed ls d → IsTrue (is_whole d) → length (entities_of d) < 2 ^ 32
     → AbleGroup (program_of ls d).world (program_of ls d).states
 serves ls d fine sized ranged laws formed whole few =
-    able_program (program_of ls d) (fine ls d laws formed) (sized ls d laws formed.names) (ranged ls d (tree_of d whole) formed.names)
+    able_program (program_of ls d) (fine ls d laws formed) (sized ls d laws formed.names) (ranged ls d (tree_of_whole d whole) formed.names)
     (let e : root (program_of ls d).world ≡ length (entities_of d) = entities_length ls d in omega (arith, e, few))
 
 -- a program that is the design's, over levels that are those

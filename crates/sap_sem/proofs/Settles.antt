@@ -2,6 +2,7 @@
 use Rattle.std.proofs.Common.{◌≡◌, ℕ, ◌+◌, ◌≤◌, Bool, true, false, refl, sym, ap, ◌∙◌, arith, nat_eq, nat_lt, if◌then◌else◌}
 use Rattle.std.proofs.lemmas.Bool.{lt-ltb, le-ltb, eqb-true}
 use Rattle.std.proofs.lemmas.Grind.{common_steps}
+use Rattle.std.proofs.lemmas.List.{get_or_past}
 use Rattle.sap_meaning.specs.Program.{World, root}
 use Rattle.sap_meaning.specs.Store.{Slot, own, start, next, start_whole, next_whole, Store, owner, source, settle}
 use Rattle.sap_meaning.proofs.Slots.{owner_source}
@@ -10,7 +11,6 @@ use Rattle.sap_sem.specs.declared.store.Store as code
 use Rattle.sap_sem.specs.Half.{cell_at}
 use Rattle.sap_sem.specs.Kept.{no_entry, entry_at, past, number_in, level_in, store_of, Shaped}
 use Rattle.sap_sem.specs.Passes.{settled_one}
-use Rattle.sap_sem.proofs.Worlds.{beyond}
 use Rattle.sap_sem.proofs.Stored.{store_same}
 
 -- what belongs to the entities before number k settles
@@ -48,7 +48,7 @@ settled_next s k = store_same _ _ (at s.number) (at s.level) (λ p. refl)
 module _ (w : World) (s : code.Store) (shaped : Shaped w s) where
   -- what belongs to no entity has settled
   absent : (m : ℕ) → root w ≤ m → entry_at w s.entries.items m ≡ no_entry w.order.bottom
-  absent m h = beyond s.entries.items m (no_entry w.order.bottom) (let e = shaped.entries in omega (arith, e, h))
+  absent m h = get_or_past s.entries.items m (no_entry w.order.bottom) (let e = shaped.entries in omega (arith, e, h))
 
   number_rests : (z : Slot) → root w ≤ owner z → number_in w s.entries.items (source z) ≡ number_in w s.entries.items z
   number_rests (own x) h = refl

@@ -1,15 +1,14 @@
 -- What writes to the code's store do to what it is seen as.
 use Rattle.std.proofs.Common.{◌≡◌, ℕ, ◌<◌, ◌≤◌, Bool, true, false, List, length, get_or, set, refl, sym, ap, ◌∙◌, get_or-set_other, nat_eq, inl, inr, if◌then◌else◌}
-use Rattle.std.proofs.lemmas.Bool.{cases_Bool, eqb-true, eq-eqb}
+use Rattle.std.proofs.lemmas.Bool.{cases_Bool, eqb-true, eq-eqb, eqb-true as same_number}
 use Rattle.std.proofs.lemmas.Grind.{get_or-set_at}
+use Rattle.std.proofs.lemmas.List.{get_or_past}
 use Rattle.sap_meaning.specs.Program.{World, entity, is_dynamic}
 use Rattle.sap_meaning.specs.Store.{Slot, start, start_whole, Store, level}
-use Rattle.sap_meaning.proofs.Bools.{same_number}
 use Rattle.sap_sem.specs.declared.entry.Entry.{Entry}
 use Rattle.sap_sem.specs.declared.store.Store as kept
 use Rattle.sap_sem.specs.Half.{cell_at}
 use Rattle.sap_sem.specs.Kept.{no_entry, entry_at, past, level_in, store_of}
-use Rattle.sap_sem.proofs.Worlds.{beyond}
 
 pub store_same : (a b : Store) → ((z : Slot) → a.number z ≡ b.number z) → ((z : Slot) → a.level z ≡ b.level z) → ((p : ℕ) → a.child p ≡ b.child p) → a ≡ b
 store_same a b e f g = λ i. record { number = λ z. e z i; level = λ z. f z i; child = λ p. g p i }
@@ -58,4 +57,4 @@ absent_level w s m i h = elim (cases_Bool (is_dynamic w m)) [
 ]
   where
     none : entry_at w s.entries.items m ≡ no_entry w.order.bottom
-    none = beyond s.entries.items m (no_entry w.order.bottom) h
+    none = get_or_past s.entries.items m (no_entry w.order.bottom) h

@@ -1,55 +1,20 @@
 -- The widths of terms, and what operators ask of their numbers.
 use Rattle.std.proofs.Common.{◌≡◌, ℕ, ◌+◌, ◌-◌, ◌^◌, ◌<◌, ◌≤◌, sym, subst, arith}
 use Rattle.std.proofs.Math.Nat.{pow-le-pow_right}
-use Rattle.sap_bits.specs.Arithmetic.{width1, width2, RightFits}
+use Rattle.sap_resolve.proofs.SizedLemmas.{ranged_width}
+use Rattle.sap_bits.specs.Arithmetic.{RightFits}
 use Rattle.sap_bits.specs.declared.Op1.{Op1}
-use Rattle.sap_bits.specs.declared.Op1.TheVariants.{Not, Neg, AllOnes, AnyOne, Odd}
 use Rattle.sap_bits.specs.declared.Op2.{Op2}
 use Rattle.sap_bits.specs.declared.Op2.TheVariants.{Add, Sub, Mul, And, Or, Xor, Eq, Ne, Lt, Le, Shl, Shr}
-use Rattle.sap_maps.specs.Term.{Term, constant, read, cell, one, two, choose, join, part, CountFits}
+use Rattle.sap_maps.specs.Term.{Term, cell, one, two, choose, join, part, CountFits}
 use Rattle.sap_maps.proofs.Terms.{term_within}
 use Rattle.sap_meaning.specs.Program.{World, width}
 use Rattle.sap_meaning.specs.Store.{own, start, number}
 use Rattle.sap_meaning.specs.Expressions.{width_of, value}
-use Rattle.sap_resolve.specs.Sized.Ranges.{IsWidth, RangedTerm}
 use Rattle.sap_sem.specs.declared.store.Store as code
 use Rattle.sap_meaning.specs.Sized.{depth}
 use Rattle.sap_sem.specs.Able.{AbleTerm, AbleIndex, AbleValue}
 use Rattle.sap_sem.specs.Kept.{Ready, store_of}
-
-one_width : (op : Op1) (k : ℕ) → IsWidth k → IsWidth (width1 op k)
-one_width Not k h = h
-one_width Neg k h = h
-one_width AllOnes k h = (omega arith, omega arith)
-one_width AnyOne k h = (omega arith, omega arith)
-one_width Odd k h = (omega arith, omega arith)
-
-two_width : (op : Op2) (k : ℕ) → IsWidth k → IsWidth (width2 op k)
-two_width Add k h = h
-two_width Sub k h = h
-two_width Mul k h = h
-two_width And k h = h
-two_width Or k h = h
-two_width Xor k h = h
-two_width Shl k h = h
-two_width Shr k h = h
-two_width Eq k h = (omega arith, omega arith)
-two_width Ne k h = (omega arith, omega arith)
-two_width Lt k h = (omega arith, omega arith)
-two_width Le k h = (omega arith, omega arith)
-
-part_width : (hi lo k : ℕ) → lo ≤ hi → hi < k → IsWidth k → IsWidth (hi + 1 - lo)
-part_width hi lo k h i w = let top : k ≤ 64 = w.1 in (omega arith, omega arith)
-
-ranged_width : (w : World) (e : Term ℕ) → RangedTerm w e → IsWidth (width_of w e)
-ranged_width w (constant u n) r = r
-ranged_width w (read x) r = r
-ranged_width w (cell m i) r = r.0
-ranged_width w (one op a) r = one_width op (width_of w a) (ranged_width w a r)
-ranged_width w (two op a b) r = two_width op (width_of w a) (ranged_width w a r.0)
-ranged_width w (choose c a b) r = ranged_width w a r.1
-ranged_width w (join a b) r = r.0
-ranged_width w (part a hi lo) r = part_width hi lo (width_of w a) r.0 r.1 (ranged_width w a r.2)
 
 right_fits : (op : Op2) (w u b : ℕ) → CountFits op w u → b < 2 ^ u → RightFits op w b
 right_fits Add w u b c h = subst (λ (k : ℕ). b < 2 ^ k) c h

@@ -1,10 +1,10 @@
 -- What writes to the code's store do to what it is seen as.
 use Rattle.std.proofs.Common.{◌≡◌, ℕ, zero, suc, ◌<◌, ◌^◌, Bool, true, false, ◌&&◌, List, [], ◌∷◌, length, get_or, set, refl, sym, ap, ◌∙◌, arith, nat_eq, if◌then◌else◌}
 use Rattle.std.proofs.Math.ListN.{length-set}
-use Rattle.std.proofs.lemmas.Bool.{lt-ltb}
+use Rattle.std.proofs.lemmas.Bool.{lt-ltb, eqb-true, ne_eqb}
+use Rattle.sap_lemmas.proofs.Numbers.{test_of_same}
 use Rattle.sap_meaning.specs.Program.{World, root, width, is_dynamic}
 use Rattle.sap_meaning.specs.Store.{Slot, own, start, next, start_whole, next_whole, Store, owner, same_slot, put_number, put_level, put_child, raise, raised, source}
-use Rattle.sap_meaning.proofs.Bools.{same_number, eq_self, eq_not}
 use Rattle.sap_sem.specs.declared.cell.Cell.{Cell}
 use Rattle.sap_sem.specs.declared.entry.Entry.{Entry}
 use Rattle.sap_sem.specs.declared.store.Store as code
@@ -128,7 +128,7 @@ module _ (w : World) (s t : code.Store) (x : ℕ) (e : Entry) (written : Written
 
   cell_number_level : (h : Cells) (i k u n : ℕ) → i < length h.cells → (cell_at u (with_number i n h) k).level ≡ (cell_at u h k).level
   cell_number_level h i k u n l =
-      ap (λ (c : Cell). c.level) (cell_set h i k u (record { number = n; level = (get_or h.cells i (no_cell 0)).level }) l) ∙ by (nat_eq k i) (same_number k i)
+      ap (λ (c : Cell). c.level) (cell_set h i k u (record { number = n; level = (get_or h.cells i (no_cell 0)).level }) l) ∙ by (nat_eq k i) (eqb-true k i)
     where
       by : (q : Bool) → (q ≡ true → k ≡ i) → (if q then record { number = n; level = (get_or h.cells i (no_cell 0)).level } else cell_at u h k).level ≡ (cell_at u h k).level
       by true g = level_apart h.cells i 0 u l ∙ ap (λ (j : ℕ). (cell_at u h j).level) (sym (g refl))
@@ -144,7 +144,7 @@ module _ (w : World) (s t : code.Store) (x : ℕ) (e : Entry) (written : Written
 
   cell_level_number : (h : Cells) (i k u v : ℕ) → i < length h.cells → (cell_at u (with_level i v h) k).number ≡ (cell_at u h k).number
   cell_level_number h i k u v l =
-      ap (λ (c : Cell). c.number) (cell_set h i k u (record { number = (get_or h.cells i (no_cell 0)).number; level = v }) l) ∙ by (nat_eq k i) (same_number k i)
+      ap (λ (c : Cell). c.number) (cell_set h i k u (record { number = (get_or h.cells i (no_cell 0)).number; level = v }) l) ∙ by (nat_eq k i) (eqb-true k i)
     where
       by : (q : Bool) → (q ≡ true → k ≡ i) → (if q then record { number = (get_or h.cells i (no_cell 0)).number; level = v } else cell_at u h k).number ≡ (cell_at u h k).number
       by true g = number_apart h.cells i 0 u l ∙ ap (λ (j : ℕ). (cell_at u h j).number) (sym (g refl))
@@ -159,14 +159,14 @@ module _ (w : World) (s t : code.Store) (x : ℕ) (e : Entry) (written : Written
   -- a field of a cell of the next part, where one cell's is new
   next_field : (f : Cell → ℕ) (i v : ℕ) → ((k u : ℕ) → f (cell_at u e.next k) ≡ (if nat_eq k i then v else f (cell_at u (before x).next k)))
       → (m k : ℕ) → f (cell_at (past w m) (after m).next k) ≡ (if nat_eq m x && nat_eq k i then v else f (cell_at (past w m) (before m).next k))
-  next_field f i v g m k = ap (λ (h : Cells). f (cell_at (past w m) h k)) (next_at m) ∙ by (nat_eq m x) (same_number m x)
+  next_field f i v g m k = ap (λ (h : Cells). f (cell_at (past w m) h k)) (next_at m) ∙ by (nat_eq m x) (eqb-true m x)
     where
       by : (q : Bool) → (q ≡ true → m ≡ x) → f (cell_at (past w m) (if q then e.next else (before m).next) k) ≡ (if q && nat_eq k i then v else f (cell_at (past w m) (before m).next k))
       by true h = g k (past w m) ∙ ap (λ (y : ℕ). if nat_eq k i then v else f (cell_at (past w m) (before y).next k)) (sym (h refl))
       by false h = refl
 
   next_kept : (f : Cell → ℕ) → ((k u : ℕ) → f (cell_at u e.next k) ≡ f (cell_at u (before x).next k)) → (m k : ℕ) → f (cell_at (past w m) (after m).next k) ≡ f (cell_at (past w m) (before m).next k)
-  next_kept f g m k = ap (λ (h : Cells). f (cell_at (past w m) h k)) (next_at m) ∙ by (nat_eq m x) (same_number m x)
+  next_kept f g m k = ap (λ (h : Cells). f (cell_at (past w m) h k)) (next_at m) ∙ by (nat_eq m x) (eqb-true m x)
     where
       by : (q : Bool) → (q ≡ true → m ≡ x) → f (cell_at (past w m) (if q then e.next else (before m).next) k) ≡ f (cell_at (past w m) (before m).next k)
       by true h = g k (past w m) ∙ ap (λ (y : ℕ). f (cell_at (past w m) (before y).next k)) (sym (h refl))
@@ -228,8 +228,8 @@ module _ (w : World) (s t : code.Store) (x : ℕ) (e : Entry) (written : Written
       up f i y = new f (w.order.join (f (before x)) u) i y ∙ by (nat_eq y x) refl
         where
           by : (q : Bool) → nat_eq y x ≡ q → (if q then w.order.join (f (before x)) u else f (before y)) ≡ (if only w x y then w.order.join (f (before y)) u else f (before y))
-          by true g = let j = same_number y x g in rw (j, eq_self x, lt-ltb x (root w) l) refl
-          by false g = rw (eq_not x y (λ j. let k = eq_self y in let f = ap (λ (v : ℕ). nat_eq y v) j in cc)) refl
+          by true g = let j = eqb-true y x g in rw (j, test_of_same x, lt-ltb x (root w) l) refl
+          by false g = rw (ne_eqb x y (λ j. let k = test_of_same y in let f = ap (λ (v : ℕ). nat_eq y v) j in cc)) refl
 
       levels : (z : Slot) → level_in w t.entries.items z ≡ (if raised (only w x) z then w.order.join (level_in w s.entries.items z) u else level_in w s.entries.items z)
       levels (own y) = up (λ (d : Entry). d.own.level) o y
@@ -268,7 +268,7 @@ module _ (w : World) (s t : code.Store) (x : ℕ) (e : Entry) (written : Written
   settle_put i j k = store_same _ _ numbers levels (seats_same w s t x e written)
     where
       start_new : (f : Cell → ℕ) (m n : ℕ) → f (cell_at (past w m) (entry_at w t.entries.items m).start n) ≡ (if nat_eq m x then f (cell_at (past w m) (entry_at w s.entries.items m).next n) else f (cell_at (past w m) (entry_at w s.entries.items m).start n))
-      start_new f m n = ap (λ (h : Cells). f (cell_at (past w m) h n)) (new w s t x e written (λ (b : Entry). b.start) (entry_at w s.entries.items x).next j m) ∙ by (nat_eq m x) (same_number m x)
+      start_new f m n = ap (λ (h : Cells). f (cell_at (past w m) h n)) (new w s t x e written (λ (b : Entry). b.start) (entry_at w s.entries.items x).next j m) ∙ by (nat_eq m x) (eqb-true m x)
         where
           by : (q : Bool) → (q ≡ true → m ≡ x) → f (cell_at (past w m) (if q then (entry_at w s.entries.items x).next else (entry_at w s.entries.items m).start) n) ≡ (if q then f (cell_at (past w m) (entry_at w s.entries.items m).next n) else f (cell_at (past w m) (entry_at w s.entries.items m).start n))
           by true g = ap (λ (y : ℕ). f (cell_at (past w m) (entry_at w s.entries.items y).next n)) (sym (g refl))
@@ -286,7 +286,7 @@ module _ (w : World) (s t : code.Store) (x : ℕ) (e : Entry) (written : Written
       numbers (next_whole m) = both (nat_eq m x) 0
 
       whole_new : (m : ℕ) (q : Bool) → nat_eq m x ≡ q → (if q then (entry_at w s.entries.items x).next.whole else (entry_at w s.entries.items m).start.whole) ≡ (if q then (entry_at w s.entries.items m).next.whole else (entry_at w s.entries.items m).start.whole)
-      whole_new m true g = ap (λ (y : ℕ). (entry_at w s.entries.items y).next.whole) (sym (same_number m x g))
+      whole_new m true g = ap (λ (y : ℕ). (entry_at w s.entries.items y).next.whole) (sym (eqb-true m x g))
       whole_new m false g = refl
 
       levels : (z : Slot) → level_in w t.entries.items z ≡ (if nat_eq (owner z) x then level_in w s.entries.items (source z) else level_in w s.entries.items z)

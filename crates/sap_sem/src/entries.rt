@@ -19,7 +19,7 @@ use sap_lattice::level::Level;
 use sap_stream::inputs::{Inputs, Tagged};
 
 /// An entity's own number and level.
-#[tactic(auto, using(crate::proofs::Worlds::beyond), unfolding(crate::specs::Kept::store_of))]
+#[tactic(auto, using(std::proofs::lemmas::List::get_or_past), unfolding(crate::specs::Kept::store_of))]
 pub(crate) fn own(setting: &Setting<'_>, store: &Store, x: usize) -> Cell
     ensures number { result.number ≡ meaning.number (meaning.own x) (store_in setting.now store.now) }
     ensures level { result.level ≡ meaning.level (world_in setting.now) (meaning.own x) (store_in setting.now store.now) }
@@ -59,7 +59,7 @@ pub(crate) fn start_cell(setting: &Setting<'_>, store: &Store, memory: usize, i:
 }
 
 /// The place of the current child.
-#[tactic(auto, using(crate::proofs::Worlds::beyond), unfolding(crate::specs::Kept::store_of))]
+#[tactic(auto, using(std::proofs::lemmas::List::get_or_past), unfolding(crate::specs::Kept::store_of))]
 pub(crate) fn child(setting: &Setting<'_>, store: &Store, parent: usize) -> u32
     ensures { result ≡ meaning.child parent (store_in setting.now store.now) }
 {

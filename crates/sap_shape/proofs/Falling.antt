@@ -1,5 +1,6 @@
 -- Whether a list of commands falls, from a place on.
-use Rattle.std.proofs.Common.{◌≡◌, ℕ, zero, suc, ◌+◌, ◌<◌, ◌≤◌, List, [], ◌∷◌, ◌||◌, Bool, true, false, length, get_or, drop, refl, sym, ap, ◌∙◌, arith, add-one, Some}
+use Rattle.std.proofs.Common.{◌≡◌, ℕ, zero, suc, ◌+◌, ◌<◌, ◌≤◌, List, [], ◌∷◌, ◌||◌, Bool, false, length, get_or, drop, refl, sym, ap, ◌∙◌, arith, add-one, Some}
+use Rattle.sap_lemmas.proofs.Bools.{or_assoc}
 use Rattle.sap_tree.specs.declared.syntax.Arm.{Arm}
 use Rattle.sap_tree.specs.declared.syntax.Cmd.{Cmd}
 use Rattle.sap_tree.specs.declared.syntax.Block.{Block}
@@ -37,10 +38,6 @@ unfolding falls_list
 falls_else-is b = refl
 
 -- arms
-
-or_assoc : (a b c : Bool) → (a || (b || c)) ≡ ((a || b) || c)
-or_assoc true b c = refl
-or_assoc false b c = refl
 
 pub arms_here : (arms : List Arm) (n : ℕ) (d : Arm) (cs : List Cmd) (b : Bool) → n < length arms → d ≡ get_or arms n d → cs ≡ d.block.commands.items → b ≡ falls_list cs
     → falls_arms (drop n arms) ≡ (b || falls_arms (drop (n + 1) arms))

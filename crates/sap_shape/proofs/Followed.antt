@@ -1,21 +1,10 @@
 -- What the walk knows of the paths through commands: which memories are written, and where each `fall` is.
-use Rattle.std.proofs.Common.{◌≡◌, ◌⊎◌, inl, inr, ℕ, List, [], ◌∷◌, ◌++◌, Bool, true, false, ◌||◌, refl, ap, sym, subst, ◌∙◌, append_assoc, bytes_eq}
+use Rattle.std.proofs.Common.{◌≡◌, ◌⊎◌, inl, inr, ℕ, List, [], ◌∷◌, ◌++◌, true, ◌||◌, refl, ap, sym, subst, ◌∙◌, append_assoc, bytes_eq}
 use Rattle.std.proofs.lemmas.Slice.Eq.{bytes_eq-Decides}
+use Rattle.std.proofs.lemmas.Bool.{or_cases, or_left, or_right}
 use Rattle.sap_tree.specs.Syntax.{SimpleCommand, Assign, Write, SetTag, SetCellTag, Goto, Fall, Command, Do, Try, If, TryThen, Case, Arms, Last, Arm, CommandBlock, Commands, ElseBlock, NoElse, Else, CommandList, NoCommand, AndCommand}
 use Rattle.sap_shape.specs.Paths.{Path, Through, ThroughBlock, ThroughElse, ThroughArms, ThroughList, IsFall, UpToFall, UpToFallBlock, UpToFallElse, UpToFallArms, UpToFallList, IsOfMemory}
 use Rattle.sap_shape.specs.Walk.{Written, past_simple, past, past_block, past_else, past_arms, past_list, is_fall, falls, falls_block, falls_else, falls_arms, falls_list, entering_simple, entering, entering_block, entering_else, entering_arms, entering_list}
-
-pub or_of : (a b : Bool) → (a || b) ≡ true → (a ≡ true) ⊎ (b ≡ true)
-or_of true b h = inl refl
-or_of false b h = inr h
-
-pub or_left : (a b : Bool) → a ≡ true → (a || b) ≡ true
-or_left true b h = refl
-or_left false b h = cc
-
-pub or_right : (a b : Bool) → b ≡ true → (a || b) ≡ true
-or_right true b h = refl
-or_right false b h = h
 
 -- a command of the path is of the memory m
 abbrev pub Has : Path → List ℕ → Type 0
@@ -42,10 +31,10 @@ Did p path m = (p m ≡ true) ⊎ Has path m
 
 pub step_past : (k : SimpleCommand) (p : Written) (m : List ℕ) → past_simple k p m ≡ true → (p m ≡ true) ⊎ IsOfMemory k m
 step_past (Assign target e) p m h = inl h
-step_past (Write target index e) p m h = elim (or_of (bytes_eq target.name m) (p m) h) [ inl i ↦ inr ((bytes_eq-Decides target.name m).0 i) | inr i ↦ inl i ]
+step_past (Write target index e) p m h = elim (or_cases (bytes_eq target.name m) (p m) h) [ inl i ↦ inr ((bytes_eq-Decides target.name m).0 i) | inr i ↦ inl i ]
 step_past (SetTag place target tag) p m h = inl h
 step_past (SetCellTag place target index tag) p m h =
-    elim (or_of (bytes_eq target.name m) (p m) h) [ inl i ↦ inr ((bytes_eq-Decides target.name m).0 i) | inr i ↦ inl i ]
+    elim (or_cases (bytes_eq target.name m) (p m) h) [ inl i ↦ inr ((bytes_eq-Decides target.name m).0 i) | inr i ↦ inl i ]
 step_past (Goto place target) p m h = inl h
 step_past (Fall place) p m h = inl h
 
@@ -113,17 +102,17 @@ module _ (m : List ℕ) where
   mutual
     pub past_found : (c : Command) (p : Written) → past c p m ≡ true → (path : Path) × Through c path × Did p path m
     past_found (Do k) p h = (k ∷ [], refl, did_more k p [] m (inl h))
-    past_found (Try k place b) p h = elim (or_of (past_simple k p m) (past_block b (past_simple k p) m) h) [
+    past_found (Try k place b) p h = elim (or_cases (past_simple k p m) (past_block b (past_simple k p) m) h) [
       | inl i ↦ (k ∷ [], inl refl, did_more k p [] m (inl i))
       | inr i ↦ (
           let f = past_block_found b (past_simple k p) i in
           (k ∷ f.0, inr (f.0, f.1, refl), did_more k p f.0 m f.2))
     ]
-    past_found (If place e b other) p h = elim (or_of (past_block b p m) (past_else other p m) h) [
+    past_found (If place e b other) p h = elim (or_cases (past_block b p m) (past_else other p m) h) [
       | inl i ↦ (let f = past_block_found b p i in (f.0, inl f.1, f.2))
       | inr i ↦ (let f = past_else_found other p i in (f.0, inr f.1, f.2))
     ]
-    past_found (TryThen k place a b) p h = elim (or_of (past_block a (past_simple k p) m) (past_block b (past_simple k p) m) h) [
+    past_found (TryThen k place a b) p h = elim (or_cases (past_block a (past_simple k p) m) (past_block b (past_simple k p) m) h) [
       | inl i ↦ (
           let f = past_block_found a (past_simple k p) i in
           (k ∷ f.0, inl (f.0, f.1, refl), did_more k p f.0 m f.2))
@@ -135,7 +124,7 @@ module _ (m : List ℕ) where
 
     past_arms_found : (arms : Arms) (p : Written) → past_arms arms p m ≡ true → (path : Path) × ThroughArms arms path × Did p path m
     past_arms_found (Last b) p h = past_block_found b p h
-    past_arms_found (Arm constants b arms) p h = elim (or_of (past_block b p m) (past_arms arms p m) h) [
+    past_arms_found (Arm constants b arms) p h = elim (or_cases (past_block b p m) (past_arms arms p m) h) [
       | inl i ↦ (let f = past_block_found b p i in (f.0, inl f.1, f.2))
       | inr i ↦ (let f = past_arms_found arms p i in (f.0, inr f.1, f.2))
     ]
@@ -221,17 +210,17 @@ is_that_fall (Fall place) h = refl
 mutual
   falls_found : (c : Command) → falls c ≡ true → (path : Path) × UpToFall c path
   falls_found (Do k) h = (k ∷ [], (fall_is k h, refl))
-  falls_found (Try k place b) h = elim (or_of (is_fall k) (falls_block b) h) [
+  falls_found (Try k place b) h = elim (or_cases (is_fall k) (falls_block b) h) [
     | inl i ↦ (k ∷ [], inl (fall_is k i, refl))
     | inr i ↦ (let f = falls_block_found b i in (k ∷ f.0, inr (f.0, f.1, refl)))
   ]
-  falls_found (If place e b other) h = elim (or_of (falls_block b) (falls_else other) h) [
+  falls_found (If place e b other) h = elim (or_cases (falls_block b) (falls_else other) h) [
     | inl i ↦ (let f = falls_block_found b i in (f.0, inl f.1))
     | inr i ↦ (let f = falls_else_found other i in (f.0, inr f.1))
   ]
-  falls_found (TryThen k place a b) h = elim (or_of (is_fall k) (falls_block a || falls_block b) h) [
+  falls_found (TryThen k place a b) h = elim (or_cases (is_fall k) (falls_block a || falls_block b) h) [
     | inl i ↦ (k ∷ [], inl (fall_is k i, refl))
-    | inr i ↦ elim (or_of (falls_block a) (falls_block b) i) [
+    | inr i ↦ elim (or_cases (falls_block a) (falls_block b) i) [
       | inl j ↦ (let f = falls_block_found a j in (k ∷ f.0, inr (inl (f.0, f.1, refl))))
       | inr j ↦ (let f = falls_block_found b j in (k ∷ f.0, inr (inr (f.0, f.1, refl))))
     ]
@@ -240,7 +229,7 @@ mutual
 
   falls_arms_found : (arms : Arms) → falls_arms arms ≡ true → (path : Path) × UpToFallArms arms path
   falls_arms_found (Last b) h = falls_block_found b h
-  falls_arms_found (Arm constants b arms) h = elim (or_of (falls_block b) (falls_arms arms) h) [
+  falls_arms_found (Arm constants b arms) h = elim (or_cases (falls_block b) (falls_arms arms) h) [
     | inl i ↦ (let f = falls_block_found b i in (f.0, inl f.1))
     | inr i ↦ (let f = falls_arms_found arms i in (f.0, inr f.1))
   ]
@@ -254,7 +243,7 @@ mutual
 
   falls_list_found : (cs : CommandList) → falls_list cs ≡ true → (path : Path) × UpToFallList cs path
   falls_list_found NoCommand h = cc
-  falls_list_found (AndCommand c cs) h = elim (or_of (falls c) (falls_list cs) h) [
+  falls_list_found (AndCommand c cs) h = elim (or_cases (falls c) (falls_list cs) h) [
     | inl i ↦ (let f = falls_found c i in (f.0, inl f.1))
     | inr i ↦ (
         let f = some_path c in
@@ -306,19 +295,19 @@ module _ (m : List ℕ) where
   mutual
     entering_found : (c : Command) (p : Written) → entering c p m ≡ true → (path : Path) × UpToFall c path × Did p path m
     entering_found (Do k) p h = let f = step_entering k p h in (k ∷ [], (f.0, refl), inl f.1)
-    entering_found (Try k place b) p h = elim (or_of (entering_simple k p m) (entering_block b (past_simple k p) m) h) [
+    entering_found (Try k place b) p h = elim (or_cases (entering_simple k p m) (entering_block b (past_simple k p) m) h) [
       | inl i ↦ (let f = step_entering k p i in (k ∷ [], inl (f.0, refl), inl f.1))
       | inr i ↦ (
           let f = entering_block_found b (past_simple k p) i in
           (k ∷ f.0, inr (f.0, f.1, refl), did_more k p f.0 m f.2))
     ]
-    entering_found (If place e b other) p h = elim (or_of (entering_block b p m) (entering_else other p m) h) [
+    entering_found (If place e b other) p h = elim (or_cases (entering_block b p m) (entering_else other p m) h) [
       | inl i ↦ (let f = entering_block_found b p i in (f.0, inl f.1, f.2))
       | inr i ↦ (let f = entering_else_found other p i in (f.0, inr f.1, f.2))
     ]
-    entering_found (TryThen k place a b) p h = elim (or_of (entering_simple k p m) (entering_block a (past_simple k p) m || entering_block b (past_simple k p) m) h) [
+    entering_found (TryThen k place a b) p h = elim (or_cases (entering_simple k p m) (entering_block a (past_simple k p) m || entering_block b (past_simple k p) m) h) [
       | inl i ↦ (let f = step_entering k p i in (k ∷ [], inl (f.0, refl), inl f.1))
-      | inr i ↦ elim (or_of (entering_block a (past_simple k p) m) (entering_block b (past_simple k p) m) i) [
+      | inr i ↦ elim (or_cases (entering_block a (past_simple k p) m) (entering_block b (past_simple k p) m) i) [
         | inl j ↦ (
             let f = entering_block_found a (past_simple k p) j in
             (k ∷ f.0, inr (inl (f.0, f.1, refl)), did_more k p f.0 m f.2))
@@ -331,7 +320,7 @@ module _ (m : List ℕ) where
 
     entering_arms_found : (arms : Arms) (p : Written) → entering_arms arms p m ≡ true → (path : Path) × UpToFallArms arms path × Did p path m
     entering_arms_found (Last b) p h = entering_block_found b p h
-    entering_arms_found (Arm constants b arms) p h = elim (or_of (entering_block b p m) (entering_arms arms p m) h) [
+    entering_arms_found (Arm constants b arms) p h = elim (or_cases (entering_block b p m) (entering_arms arms p m) h) [
       | inl i ↦ (let f = entering_block_found b p i in (f.0, inl f.1, f.2))
       | inr i ↦ (let f = entering_arms_found arms p i in (f.0, inr f.1, f.2))
     ]
@@ -345,7 +334,7 @@ module _ (m : List ℕ) where
 
     entering_list_found : (cs : CommandList) (p : Written) → entering_list cs p m ≡ true → (path : Path) × UpToFallList cs path × Did p path m
     entering_list_found NoCommand p h = cc
-    entering_list_found (AndCommand c cs) p h = elim (or_of (entering c p m) (entering_list cs (past c p) m) h) [
+    entering_list_found (AndCommand c cs) p h = elim (or_cases (entering c p m) (entering_list cs (past c p) m) h) [
       | inl i ↦ (let f = entering_found c p i in (f.0, inl f.1, f.2))
       | inr i ↦ (
           let g = entering_list_found cs (past c p) i in

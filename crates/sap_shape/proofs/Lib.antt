@@ -9,3 +9,4 @@ pub mod Followed
 pub mod Again
 pub mod Groups
 pub mod SiteCounts
+pub mod WellFormedLemmas

@@ -3,6 +3,7 @@ use Rattle.std.proofs.Common.{◌≡◌, ℕ, zero, suc, ◌+◌, ◌<◌, ◌�
 use mathlib.Core.Path.{fun_ext}
 use Rattle.std.proofs.lemmas.Bool.{cases_Bool}
 use Rattle.std.proofs.lemmas.Slice.Eq.{bytes_eq-Decides}
+use Rattle.sap_lemmas.proofs.Bools.{or_false}
 use Rattle.sap_shape.specs.Lists.{written_in}
 use Rattle.sap_shape.specs.Walk.{Written, either, fresh, writing}
 use Rattle.sap_shape.specs.ShapeFaults.{is_in}
@@ -17,15 +18,11 @@ or_assoc : (a b c : Bool) → ((a || b) || c) ≡ (a || (b || c))
 or_assoc true b c = refl
 or_assoc false b c = refl
 
-or_none : (a : Bool) → (a || false) ≡ a
-or_none true = refl
-or_none false = refl
-
 pub either_assoc : (p q r : Written) → either (either p q) r ≡ either p (either q r)
 either_assoc p q r = fun_ext (λ (m : List ℕ). or_assoc (p m) (q m) (r m))
 
 pub either_fresh : (p : Written) → either p fresh ≡ p
-either_fresh p = fun_ext (λ (m : List ℕ). or_none (p m))
+either_fresh p = fun_ext (λ (m : List ℕ). or_false (p m))
 
 pub written_none : written_in [] ≡ fresh
 unfolding written_in

@@ -1,15 +1,21 @@
 -- Each piece is taken as the token that it stands for.
-use Rattle.std.proofs.Common.{◌≡◌, ◌<◌, ◌+◌, ◌*◌, ◌^◌, ℕ, suc, List, [], ◌∷◌, ◌++◌, length, take, drop, Bool, true, false, cond, refl, sym, ap, ◌∙◌, arith, Option, Some, None, length-append, append_assoc, rules}
+use Rattle.std.proofs.Common.{◌≡◌, ◌<◌, ◌+◌, ◌*◌, ◌^◌, ℕ, suc, List, [], ◌∷◌, ◌++◌, length, take, drop, Bool, true, false, cond, refl, sym, ap, ◌∙◌, arith, Option, Some, None, length-append, append_assoc}
 use Rattle.std.proofs.lemmas.Bool.Decides.{nat_tests}
 use Rattle.std.proofs.lemmas.Grind.{common_steps}
 use Rattle.std.proofs.lemmas.List.Folds.{list_any-append}
-use Rattle.std.proofs.lemmas.Str.Parse.{IsNumeralModel, numerals_by_value}
 use Rattle.std.proofs.lemmas.Fmt.{decimal_digit, digits_decimal, digits_value-decimal, decimal_nonempty}
 use Rattle.std.specs.Char.{is_ascii_digit, digit_value}
-use Rattle.std.specs.List.{prefix_len, list_all, list_any, find}
+use Rattle.std.specs.List.{prefix_len, list_all, list_any}
 use Rattle.std.specs.Prelude.{slice_index, ◌||◌, ◌&&◌, ◌==◌, nat_lt, nat_le, not, decimal, map}
 use Rattle.std.specs.Str.{bytes_eq}
-use Rattle.std.specs.Str.Parse.{digits_value, digits_value_after}
+use Rattle.std.specs.Str.Parse.{digits_value_after}
+use Rattle.sap_lemmas.proofs.Bools.{fourth_case, third_case}
+use Rattle.sap_lemmas.proofs.Everywhere.{none_found, prefix_run}
+use Rattle.sap_lemmas.proofs.Lists.{quoted_length, take_front}
+use Rattle.sap_lemmas.proofs.Numbers.{test_of_positive}
+use Rattle.sap_lemmas.proofs.Texts.{digits_model}
+use Rattle.std.proofs.lemmas.Bool.{and_from, and_left, and_parts, not-true, or_parts}
+use Rattle.sap_tree.proofs.WordsLemmas.{initial_inner}
 use Rattle.sap_parse.specs.Lexing.{kind_by, later_kind}
 use Rattle.sap_parse.specs.Lexemes.{is_blank, is_comment, clings, word_or_name, name_at, value_after, value_of, number_of, number_lexeme, sized_lexeme, sized_in, sized_at, number_at, sign_or, sign_at, lexeme_of}
 use Rattle.sap_parse.specs.Spelling.{later_word_of, sign_text, word_of}
@@ -22,7 +28,6 @@ use Rattle.sap_parse.specs.declared.token.Sign.{Sign}
 use Rattle.sap_tree.specs.declared.word.Word.TheVariants as w
 use Rattle.sap_tree.specs.declared.word.Word.{Word}
 use Rattle.sap_show.proofs.Pieces.{Piece, space, line, token, bytes_of, kind_bytes}
-use Rattle.sap_show.proofs.ReadBack.{both}
 use Rattle.sap_show.proofs.Spaced.{ends_run, ends_sign, follows, is_spelled, apart}
 use Rattle.sap_tree.specs.Limits.{most_name_bytes}
 use Rattle.sap_tree.specs.Whole.{is_number}
@@ -30,38 +35,13 @@ use Rattle.sap_tree.specs.Words.{first_words, is_initial, is_inner, is_keyword, 
 use Rattle.sap_tree.specs.declared.version.Version.TheVariants as v
 use Rattle.sap_tree.specs.declared.version.Version.{Version}
 
-and_true : (a b : Bool) → a ≡ true → b ≡ true → (a && b) ≡ true
-and_true a b p q = ap (λ x. x && b) p ∙ q
-
-and_false : (a b : Bool) → a ≡ false → (a && b) ≡ false
-and_false a b h = ap (λ x. x && b) h
-
 -- runs and parts of lists
-
-run_of : (p : ℕ → Bool) (ds rest : List ℕ) → list_all p ds ≡ true → p (slice_index rest 0) ≡ false → prefix_len p (ds ++ rest) ≡ length ds
-run_of p [] [] all stop = refl
-run_of p [] (x ∷ xs) all stop = ap (λ b. cond b (1 + prefix_len p xs) 0) stop
-run_of p (d ∷ ds) rest all stop =
-    let f = both (p d) (list_all p ds) all in
-    ap (λ b. cond b (1 + prefix_len p (ds ++ rest)) 0) f.0 ∙ (let ih = run_of p ds rest f.1 stop in omega arith)
-
-front_part : (a b : List ℕ) → take (length a) (a ++ b) ≡ a
-front_part a b = grind (arith, common_steps)
-
-back_part : (a b : List ℕ) → drop (length a) (a ++ b) ≡ b
-back_part a b = grind (arith, common_steps)
 
 byte_after : (a b : List ℕ) → slice_index (a ++ b) (length a) ≡ slice_index b 0
 byte_after [] b = refl
 byte_after (x ∷ a) b = byte_after a b
 
 -- which arm of a chain of tests
-
-third : {A : Type 0} (a b c : Bool) (x y z w : A) → a ≡ false → b ≡ false → c ≡ true → cond a x (cond b y (cond c z w)) ≡ z
-third a b c x y z w p q r = cc
-
-fourth : {A : Type 0} (a b c d : Bool) (x y z v w : A) → a ≡ false → b ≡ false → c ≡ false → d ≡ true → cond a x (cond b y (cond c z (cond d v w))) ≡ v
-fourth a b c d x y z v w p q r s = cc
 
 record NameStart (b : ℕ) : Type 0 where
   white : is_blank b ≡ false
@@ -94,9 +74,9 @@ unfolding lexeme_of name_at
 name_taken b bs rest start all stop =
     let f = name_start b start in
     let whole = (b ∷ bs) ++ rest in
-    third (is_blank b) (is_comment whole) (is_initial b) _ _ _ _ f.white (and_false (b == 47) _ f.slash) start
-    ∙ ap (λ n. word_or_name (word_of (take n whole)) (take n whole) n) (run_of is_inner (b ∷ bs) rest all stop)
-    ∙ ap (λ x. word_or_name (word_of x) x (length (b ∷ bs))) (front_part (b ∷ bs) rest)
+    third_case (is_blank b) (is_comment whole) (is_initial b) _ _ _ _ f.white (and_left (b == 47) _ f.slash) start
+    ∙ ap (λ n. word_or_name (word_of (take n whole)) (take n whole) n) (prefix_run is_inner (b ∷ bs) rest all stop)
+    ∙ ap (λ x. word_or_name (word_of x) x (length (b ∷ bs))) (take_front (b ∷ bs) rest)
 
 word_at : (x : Word) (rest : List ℕ) → is_initial (slice_index (word_text x) 0) ≡ true → list_all is_inner (slice_index (word_text x) 0 ∷ drop 1 (word_text x)) ≡ true
     → word_of (slice_index (word_text x) 0 ∷ drop 1 (word_text x)) ≡ Some x → clings (slice_index rest 0) ≡ false
@@ -111,21 +91,12 @@ found_step : {X : Type 0} (b : Bool) (y : X) (any : Bool) (found : Option X) →
 found_step true y any found h ih = absurd (cc)
 found_step false y any found h ih = ih h
 
-none_found : {X : Type 0} (p : X → Bool) (xs : List X) → list_any p xs ≡ false → find p xs ≡ None
-none_found p [] e = refl
-none_found p (y ∷ ys) e = found_step (p y) y (list_any p ys) (find p ys) e (λ h. none_found p ys h)
-
 no_word : (n : List ℕ) → is_keyword v.One n ≡ false → word_of n ≡ None
 no_word n h = none_found (λ word. bytes_eq n (word_text word)) first_words h
 
--- what is no keyword of a version is none of the first, and in the second none of the later words
-neither : (a b : Bool) → (a || b) ≡ false → (a ≡ false) × (b ≡ false)
-neither true b h = absurd (cc)
-neither false b h = (refl, h)
-
 no_keyword : (n : List ℕ) → is_keyword v.Two n ≡ false → (is_keyword v.One n ≡ false) × (list_any (bytes_eq n) (map word_text later_words) ≡ false)
 no_keyword n h =
-    neither (is_keyword v.One n) (list_any (bytes_eq n) (map word_text later_words)) (sym (list_any-append (bytes_eq n) (keywords v.One) (map word_text later_words)) ∙ h)
+    or_parts (is_keyword v.One n) (list_any (bytes_eq n) (map word_text later_words)) (sym (list_any-append (bytes_eq n) (keywords v.One) (map word_text later_words)) ∙ h)
 
 no_first_keyword : (version : Version) (n : List ℕ) → is_keyword version n ≡ false → is_keyword v.One n ≡ false
 no_first_keyword v.One n h = h
@@ -134,32 +105,25 @@ no_first_keyword v.Two n h = (no_keyword n h).0
 no_later_word : (n : List ℕ) → is_keyword v.Two n ≡ false → later_word_of n ≡ None
 no_later_word n h = none_found (λ word. bytes_eq n (word_text word)) later_words (no_keyword n h).1
 
-from_not : (b : Bool) → not b ≡ true → b ≡ false
-from_not true h = absurd (cc)
-from_not false h = refl
-
-initial_inner : (b : ℕ) → is_initial b ≡ true → is_inner b ≡ true
-initial_inner b h = grind (arith, nat_tests)
-
 pub name_keyword : (version : Version) (n : List ℕ) → is_name version n ≡ true → is_keyword version n ≡ false
 unfolding is_name
 name_keyword version n h =
-    from_not (is_keyword version n) (both (is_word n) (not (is_keyword version n)) (both (is_word n && not (is_keyword version n)) (nat_le (length n) most_name_bytes) h).0).1
+    not-true (is_keyword version n) (and_parts (is_word n) (not (is_keyword version n)) (and_parts (is_word n && not (is_keyword version n)) (nat_le (length n) most_name_bytes) h).0).1
 
 pub name_no_later : (n : List ℕ) → is_name v.Two n ≡ true → later_word_of n ≡ None
 name_no_later n h = no_later_word n (name_keyword v.Two n h)
 
 name_lexed : (version : Version) (n rest : List ℕ) → is_name version n ≡ true → clings (slice_index rest 0) ≡ false → lexeme_of (n ++ rest) ≡ l.Token (k.Name n) (length n)
 unfolding is_name
-name_lexed version n rest h stop = by_list n f.0 (no_first_keyword version n (from_not (is_keyword version n) f.1)) where
+name_lexed version n rest h stop = by_list n f.0 (no_first_keyword version n (not-true (is_keyword version n) f.1)) where
   f : (is_word n ≡ true) × (not (is_keyword version n) ≡ true)
-  f = both (is_word n) (not (is_keyword version n)) (both (is_word n && not (is_keyword version n)) (nat_le (length n) most_name_bytes) h).0
+  f = and_parts (is_word n) (not (is_keyword version n)) (and_parts (is_word n && not (is_keyword version n)) (nat_le (length n) most_name_bytes) h).0
 
   by_list : (m : List ℕ) → is_word m ≡ true → is_keyword v.One m ≡ false → lexeme_of (m ++ rest) ≡ l.Token (k.Name m) (length m)
   by_list [] p q = absurd (cc)
   by_list (b ∷ bs) p q =
-      let g = both (is_initial b) (list_all is_inner bs) p in
-      name_taken b bs rest g.0 (and_true (is_inner b) (list_all is_inner bs) (initial_inner b g.0) g.1) (stops_run (slice_index rest 0) stop).inner
+      let g = and_parts (is_initial b) (list_all is_inner bs) p in
+      name_taken b bs rest g.0 (and_from (is_inner b) (list_all is_inner bs) (initial_inner b g.0) g.1) (stops_run (slice_index rest 0) stop).inner
       ∙ ap (λ o. word_or_name o (b ∷ bs) (length (b ∷ bs))) (no_word (b ∷ bs) q)
 
 -- numbers
@@ -174,18 +138,15 @@ digits_taken : (ds rest : List ℕ) → IsDigits ds → lexeme_of (ds ++ rest) �
 unfolding lexeme_of
 digits_taken ds rest h =
     let all : list_all is_ascii_digit (h.first ∷ h.others) ≡ true = ap (list_all is_ascii_digit) (sym h.parts) ∙ h.all in
-    let start = (both (is_ascii_digit h.first) (list_all is_ascii_digit h.others) all).0 in
+    let start = (and_parts (is_ascii_digit h.first) (list_all is_ascii_digit h.others) all).0 in
     let f = digit_start h.first start in
     let whole = (h.first ∷ h.others) ++ rest in
     ap (λ x. lexeme_of (x ++ rest)) h.parts
-    ∙ fourth (is_blank h.first) (is_comment whole) (is_initial h.first) (is_ascii_digit h.first) _ _ _ _ _ f.white (and_false (h.first == 47) _ f.slash) f.name start
+    ∙ fourth_case (is_blank h.first) (is_comment whole) (is_initial h.first) (is_ascii_digit h.first) _ _ _ _ _ f.white (and_left (h.first == 47) _ f.slash) f.name start
     ∙ ap (λ x. number_at (x ++ rest)) (sym h.parts)
 
-own : IsNumeralModel (λ ds. list_all is_ascii_digit ds ≡ true) (digits_value 10)
-own = numerals_by_value _ (search rules)
-
 decimal_digits : (n : ℕ) → n < 2 ^ 64 → IsDigits (decimal n)
-decimal_digits n h = by_list (decimal n) (decimal_nonempty n h) (digits_decimal own n h) where
+decimal_digits n h = by_list (decimal n) (decimal_nonempty n h) (digits_decimal digits_model n h) where
   by_list : (ds : List ℕ) → 0 < length ds → list_all is_ascii_digit ds ≡ true → IsDigits ds
   by_list [] p q = absurd (omega arith)
   by_list (d ∷ ds) p q = record { first = d; others = ds; parts = refl; all = q }
@@ -199,7 +160,7 @@ below n h = grind (arith, nat_tests)
 
 number_is : (n : ℕ) → is_number n ≡ true → number_of 10 (decimal n) ≡ Some n
 number_is n h =
-    let value : value_of 10 (decimal n) ≡ n = same_value 0 (decimal n) ∙ digits_value-decimal own n (below n h) in
+    let value : value_of 10 (decimal n) ≡ n = same_value 0 (decimal n) ∙ digits_value-decimal digits_model n (below n h) in
     ap (λ v. cond (nat_lt v (2 ^ 64)) (Some v) None) value ∙ ap (λ b. cond b (Some n) None) h
 
 number_lexed : (n : ℕ) (rest : List ℕ) → is_number n ≡ true → clings (slice_index rest 0) ≡ false
@@ -213,10 +174,10 @@ number_lexed n rest h stop =
     let digits = decimal_digits n (below n h) in
     digits_taken ds rest digits
     ∙ ap (λ m. cond (slice_index whole m == 39) (sized_at m whole) (number_lexeme (number_of 10 (take m whole)) (clings (slice_index whole m)) m))
-    (run_of is_ascii_digit ds rest digits.all f.digit)
+    (prefix_run is_ascii_digit ds rest digits.all f.digit)
     ∙ ap (λ b. cond (b == 39) (sized_at len whole) (number_lexeme (number_of 10 (take len whole)) (clings b) len)) (byte_after ds rest)
     ∙ ap (λ t. cond t (sized_at len whole) (number_lexeme (number_of 10 (take len whole)) (clings (slice_index rest 0)) len)) f.quote
-    ∙ ap (λ x. number_lexeme (number_of 10 x) (clings (slice_index rest 0)) len) (front_part ds rest)
+    ∙ ap (λ x. number_lexeme (number_of 10 x) (clings (slice_index rest 0)) len) (take_front ds rest)
     ∙ ap (λ x. number_lexeme x (clings (slice_index rest 0)) len) (number_is n h)
     ∙ ap (λ t. number_lexeme (Some n) t len) stop
 
@@ -283,12 +244,6 @@ byte_behind a x y b d =
     length_is : (a : List ℕ) (x y : ℕ) (b : List ℕ) → length a + 2 + length b ≡ length (a ++ (x ∷ y ∷ b))
     length_is a x y b = simp length-append (omega arith)
 
-length_of : (a b : List ℕ) → length a + 2 + length b ≡ length (a ++ (39 ∷ 100 ∷ b))
-length_of a b = simp length-append (omega arith)
-
-some_length : (n : ℕ) → 0 < n → (n == 0) ≡ false
-some_length n h = grind (arith, nat_tests)
-
 sized_lexed : (width n : ℕ) (rest : List ℕ) → is_number width ≡ true → is_number n ≡ true → clings (slice_index rest 0) ≡ false
     → lexeme_of ((decimal width ++ (39 ∷ 100 ∷ decimal n)) ++ rest) ≡ l.Token (k.Sized width n) (length (decimal width ++ (39 ∷ 100 ∷ decimal n)))
 unfolding number_at sized_at sized_in
@@ -305,22 +260,22 @@ sized_lexed width n rest h g stop =
     ap lexeme_of (append_assoc ds (39 ∷ 100 ∷ vs) rest)
     ∙ digits_taken ds after digits
     ∙ ap (λ m. cond (slice_index whole m == 39) (sized_at m whole) (number_lexeme (number_of 10 (take m whole)) (clings (slice_index whole m)) m))
-    (run_of is_ascii_digit ds after digits.all refl)
+    (prefix_run is_ascii_digit ds after digits.all refl)
     ∙ ap (λ b. cond (b == 39) (sized_at len whole) (number_lexeme (number_of 10 (take len whole)) (clings b) len)) (byte_after ds after)
     ∙ ap (λ b. cond (b == 100) (sized_in c.Decimal 10 len whole) (cond (b == 104) (sized_in c.Hexadecimal 16 len whole) l.Bad)) (next_byte ds 39 100 (vs ++ rest))
     ∙ ap (λ z. cond (prefix_len is_ascii_digit z == 0) l.Bad (sized_lexeme (number_of 10 (take len whole)) (number_of 10 (take (prefix_len is_ascii_digit z) z))
     (clings (slice_index whole (len + 2 + prefix_len is_ascii_digit z))) (len + 2 + prefix_len is_ascii_digit z))) (behind_two ds 39 100 (vs ++ rest))
     ∙ ap (λ m. cond (m == 0) l.Bad (sized_lexeme (number_of 10 (take len whole)) (number_of 10 (take m (vs ++ rest))) (clings (slice_index whole (len + 2 + m))) (len + 2 + m)))
-    (run_of is_ascii_digit vs rest others.all f.digit)
+    (prefix_run is_ascii_digit vs rest others.all f.digit)
     ∙ ap (λ t. cond t l.Bad (sized_lexeme (number_of 10 (take len whole)) (number_of 10 (take more (vs ++ rest))) (clings (slice_index whole (len + 2 + more))) (len + 2 + more)))
-    (some_length more (decimal_nonempty n (below n g)))
-    ∙ ap (λ x. sized_lexeme (number_of 10 x) (number_of 10 (take more (vs ++ rest))) (clings (slice_index whole (len + 2 + more))) (len + 2 + more)) (front_part ds after)
+    (test_of_positive more (decimal_nonempty n (below n g)))
+    ∙ ap (λ x. sized_lexeme (number_of 10 x) (number_of 10 (take more (vs ++ rest))) (clings (slice_index whole (len + 2 + more))) (len + 2 + more)) (take_front ds after)
     ∙ ap (λ x. sized_lexeme x (number_of 10 (take more (vs ++ rest))) (clings (slice_index whole (len + 2 + more))) (len + 2 + more)) (number_is width h)
-    ∙ ap (λ x. sized_lexeme (Some width) (number_of 10 x) (clings (slice_index whole (len + 2 + more))) (len + 2 + more)) (front_part vs rest)
+    ∙ ap (λ x. sized_lexeme (Some width) (number_of 10 x) (clings (slice_index whole (len + 2 + more))) (len + 2 + more)) (take_front vs rest)
     ∙ ap (λ x. sized_lexeme (Some width) x (clings (slice_index whole (len + 2 + more))) (len + 2 + more)) (number_is n g)
     ∙ ap (λ b. sized_lexeme (Some width) (Some n) (clings b) (len + 2 + more)) (byte_behind ds 39 100 vs rest)
     ∙ ap (λ t. sized_lexeme (Some width) (Some n) t (len + 2 + more)) stop
-    ∙ ap (λ m. l.Token (k.Sized width n) m) (length_of ds vs)
+    ∙ ap (λ m. l.Token (k.Sized width n) m) (quoted_length ds vs)
 
 -- signs
 
@@ -352,7 +307,7 @@ sign_lexed _ (b ∷ rest) stop = refl
 first_digit : (ds rest : List ℕ) → IsDigits ds → is_ascii_digit (slice_index (ds ++ rest) 0) ≡ true
 first_digit ds rest h =
     let all : list_all is_ascii_digit (h.first ∷ h.others) ≡ true = ap (list_all is_ascii_digit) (sym h.parts) ∙ h.all in
-    ap (λ x. is_ascii_digit (slice_index (x ++ rest) 0)) h.parts ∙ (both (is_ascii_digit h.first) (list_all is_ascii_digit h.others) all).0
+    ap (λ x. is_ascii_digit (slice_index (x ++ rest) 0)) h.parts ∙ (and_parts (is_ascii_digit h.first) (list_all is_ascii_digit h.others) all).0
 
 no_sign_byte : (b : ℕ) → is_ascii_digit b ≡ true → (b == 61 || b == 60) ≡ false
 no_sign_byte b h = grind (arith, nat_tests)
@@ -376,7 +331,7 @@ behind_sign version [] h a = refl
 behind_sign version (space ∷ ps) h a = refl
 behind_sign version (line ∷ ps) h a = refl
 behind_sign version (token role (k.Number n) ∷ ps) h a =
-    let f = both (is_number n) (follows (k.Number n) ps && apart version ps) a in
+    let f = and_parts (is_number n) (follows (k.Number n) ps && apart version ps) a in
     no_sign_byte (slice_index (decimal n ++ bytes_of ps) 0) (first_digit (decimal n) (bytes_of ps) (decimal_digits n (below n f.0)))
 behind_sign version (token role (k.Sign x) ∷ ps) h a = absurd (cc)
 behind_sign version (token role (k.Word x) ∷ ps) h a = absurd (cc)
@@ -396,7 +351,7 @@ piece_lexed version (k.Word x) ps h e a = word_lexed x (bytes_of ps) (behind_run
 piece_lexed version (k.Sign x) ps h e a = sign_lexed x (bytes_of ps) (sign_behind version x ps e a)
 piece_lexed version (k.Name n) ps h e a = name_lexed version n (bytes_of ps) h (behind_run ps e)
 piece_lexed version (k.Number n) ps h e a = number_lexed n (bytes_of ps) h (behind_run ps e)
-piece_lexed version (k.Sized width n) ps h e a = let f = both (is_number width) (is_number n) h in sized_lexed width n (bytes_of ps) f.0 f.1 (behind_run ps e)
+piece_lexed version (k.Sized width n) ps h e a = let f = and_parts (is_number width) (is_number n) h in sized_lexed width n (bytes_of ps) f.0 f.1 (behind_run ps e)
 
 -- a word of the first line, and a sign
 pub first_lexed : (x : Word) (ps : List Piece) → ends_run ps ≡ true → lexeme_of (word_text x ++ bytes_of ps) ≡ l.Token (raw_word x) (length (word_text x))

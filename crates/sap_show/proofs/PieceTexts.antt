@@ -1,6 +1,7 @@
 -- The canonical text is that of the pieces.
 use Rattle.std.proofs.Common.{◌≡◌, ℕ, zero, suc, ◌+◌, List, [], ◌∷◌, ◌++◌, refl, sym, ap, ◌∙◌, append_assoc, Bool, true, false, Option, Some, None, cond}
 use Rattle.std.specs.Prelude.{codes, decimal, nat_lt, flat_map}
+use Rattle.std.proofs.lemmas.List.{append-nil}
 use Rattle.sap_parse.specs.Grammar.{sign_of, unary_sign_of}
 use Rattle.sap_parse.specs.Spelling.{sign_text}
 use Rattle.sap_parse.specs.declared.limit.Role.TheVariants as r
@@ -380,10 +381,6 @@ mutual
       state_says x level depth (states xs level depth rest)
       ∙ cat (state_text (spaces level) x) (states_text (spaces level) xs) (bytes_of rest) _ (states_say xs level depth rest)
 
-append_none : (xs : List ℕ) → xs ++ [] ≡ xs
-append_none [] = refl
-append_none (x ∷ xs) = ap (λ ys. x ∷ ys) (append_none xs)
-
 header_says : (version : Version) → Says (header version) (version_text version)
 header_says One rest = refl
 header_says Two rest = refl
@@ -394,4 +391,4 @@ design_says x =
     header_says x.version (parts_of x)
     ∙ ap (λ z. version_text x.version ++ z)
     (declarations_say x.declarations (states x.states 0 1 [])
-    ∙ ap (λ z. flat_map declaration_text x.declarations ++ z) (states_say x.states 0 1 [] ∙ append_none (states_text [] x.states)))
+    ∙ ap (λ z. flat_map declaration_text x.declarations ++ z) (states_say x.states 0 1 [] ∙ append-nil (states_text [] x.states)))

@@ -2,6 +2,7 @@
 use Rattle.std.proofs.Common.{◌≡◌, ◌≤◌, ◌<◌, ◌+◌, ◌-◌, ℕ, zero, suc, List, [], ◌∷◌, Bool, true, false, refl, ap, ◌∙◌, arith, subst}
 use Rattle.std.proofs.lemmas.Bool.Decides.{nat_tests}
 use Rattle.std.specs.Prelude.{nat_lt, ◌&&◌}
+use Rattle.std.proofs.lemmas.Bool.{and_parts}
 use Rattle.sap_parse.specs.Grammar as g
 use Rattle.sap_parse.specs.Grammar.{sign_of, unary_sign_of}
 use Rattle.sap_parse.specs.Stages.{Stage, IsToken, IsSign, here, spot_here}
@@ -113,10 +114,6 @@ bare_enclosed place (Slice spot x high low) = refl
 bare_enclosed place (Concat spot xs) = refl
 bare_enclosed place (Zext spot x width) = refl
 
-pub both : (a c : Bool) → (a && c) ≡ true → (a ≡ true) × (c ≡ true)
-both true c h = (refl, h)
-both false c h = absurd (cc)
-
 -- the same tree is read between two stages, and then stand the pieces that follow
 pub record Reads (x : Expression) (least : ℕ) (rest : List Piece) (p q : Stage) : Type 0 where
   pub tree : Expression
@@ -186,7 +183,7 @@ mutual
       record { tree = Read (spot_here p) n; same = refl; level = primary_precedence; tightly = omega arith; end = h.0; read = tight (g.post (g.read h.1) g.no_cut); follow = h.2 }
   expression_reads version (Cell spot n i) d rest p q h =
       let c = h.2 in
-      let a = expression_reads version i (both (is_name version n) (is_expression version i) d).1 (sign r.Closing s.CloseBracket ∷ rest) c.0 q c.2 in
+      let a = expression_reads version i (and_parts (is_name version n) (is_expression version i) d).1 (sign r.Closing s.CloseBracket ∷ rest) c.0 q c.2 in
       record {
         tree = Cell (spot_here p) n a.tree;
         same = ap (λ z. Cell no_spot n z) a.same;
@@ -209,7 +206,7 @@ mutual
       }
   expression_reads version (Binary spot o x y) d rest p q h =
       let small = precedence_small o in
-      let e = both (is_expression version x) (is_expression version y) d in
+      let e = and_parts (is_expression version x) (is_expression version y) d in
       let a = in_place (precedence o) x (λ ps. expression x ps) (λ ps p q k. expression_reads version x e.0 ps p q k) (omega arith) _ p q h in
       let c = a.follow in
       let v = in_place (precedence o + 1) y (λ ps. expression y ps) (λ ps p q k. expression_reads version y e.1 ps p q k) (omega arith) rest c.0 q c.2 in
@@ -224,8 +221,8 @@ mutual
         follow = v.follow;
       }
   expression_reads version (Choose spot x y z) d rest p q h =
-      let e = both (is_expression version x && is_expression version y) (is_expression version z) d in
-      let f = both (is_expression version x) (is_expression version y) e.0 in
+      let e = and_parts (is_expression version x && is_expression version y) (is_expression version z) d in
+      let f = and_parts (is_expression version x) (is_expression version y) e.0 in
       let a = in_place 1 x (λ ps. expression x ps) (λ ps p q k. expression_reads version x f.0 ps p q k) (omega arith) _ p q h in
       let c = a.follow in
       let v = expression_reads version y f.1 (space ∷ sign r.Inner s.Colon ∷ space ∷ expression z rest) c.0 q c.2 in
@@ -242,7 +239,7 @@ mutual
         follow = t.follow;
       }
   expression_reads version (Slice spot x high low) d rest p q h =
-      let a = in_place slice_precedence x (λ ps. expression x ps) (λ ps p q k. expression_reads version x (both (is_expression version x) (is_number high) (both (is_expression version x && is_number high) (is_number low) d).0).0 ps p q k) (omega arith) (bounds high low rest) p q h in
+      let a = in_place slice_precedence x (λ ps. expression x ps) (λ ps p q k. expression_reads version x (and_parts (is_expression version x) (is_number high) (and_parts (is_expression version x && is_number high) (is_number low) d).0).0 ps p q k) (omega arith) (bounds high low rest) p q h in
       let i = a.follow in let j = i.2 in let k = j.2 in let l = k.2 in let m = l.2 in
       record {
         tree = Slice (record { first = first_of a.tree; at = here a.end }) a.tree high low;
@@ -254,7 +251,7 @@ mutual
         follow = m.2;
       }
   expression_reads version (Concat spot xs) d rest p q h =
-      let e = both (has_two_parts xs) (are_expressions version xs) d in
+      let e = and_parts (has_two_parts xs) (are_expressions version xs) d in
       let a = two_read version xs e.0 e.1 (sign r.Closing s.CloseBrace ∷ rest) h.0 q h.2 in
       record {
         tree = Concat (spot_here p) (AndPart a.first (AndPart a.second a.others));
@@ -267,7 +264,7 @@ mutual
       }
   expression_reads version (Zext spot x width) d rest p q h =
       let c = h.2 in
-      let a = expression_reads version x (both (is_expression version x) (is_number width) d).0 _ c.0 q c.2 in
+      let a = expression_reads version x (and_parts (is_expression version x) (is_number width) d).0 _ c.0 q c.2 in
       let i = a.follow in let j = i.2 in let k = j.2 in
       record {
         tree = Zext (spot_here p) a.tree width;
@@ -283,8 +280,8 @@ mutual
   two_read version NoPart t d rest p q h = absurd (cc)
   two_read version (AndPart x NoPart) t d rest p q h = absurd (cc)
   two_read version (AndPart x (AndPart y xs)) t d rest p q h =
-      let e = both (is_expression version x) (are_expressions version (AndPart y xs)) d in
-      let f = both (is_expression version y) (are_expressions version xs) e.1 in
+      let e = and_parts (is_expression version x) (are_expressions version (AndPart y xs)) d in
+      let f = and_parts (is_expression version y) (are_expressions version xs) e.1 in
       let a = expression_reads version x e.0 (more_parts (AndPart y xs) rest) p q h in
       let c = a.follow in
       let v = expression_reads version y f.0 (more_parts xs rest) c.0 q c.2 in
@@ -309,7 +306,7 @@ mutual
   parts_read : (version : Version) (xs : Expressions) → are_expressions version xs ≡ true → (rest : List Piece) (p q : Stage) → Stand (more_parts xs rest) p q → ReadsParts xs rest p q
   parts_read version NoPart d rest p q h = record { tree = NoPart; same = refl; end = p; read = g.no_part; follow = h }
   parts_read version (AndPart x xs) d rest p q h =
-      let e = both (is_expression version x) (are_expressions version xs) d in
+      let e = and_parts (is_expression version x) (are_expressions version xs) d in
       let a = expression_reads version x e.0 (more_parts xs rest) h.0 q h.2 in
       let t = parts_read version xs e.1 rest a.end q a.follow in
       record {

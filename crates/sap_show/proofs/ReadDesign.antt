@@ -2,18 +2,19 @@
 use Rattle.std.proofs.Common.{◌≡◌, ◌+◌, ℕ, zero, suc, List, [], ◌∷◌, true, false, refl, ap, ◌∙◌, subst, Option, Some, None}
 use Rattle.std.specs.Prelude.{nat_le, ◌&&◌, map}
 use Rattle.std.specs.List.{list_all}
+use Rattle.std.proofs.lemmas.Bool.{and_parts}
+use Rattle.sap_tree.proofs.SyntaxLemmas.{expression_of_outermost, tag_of_outermost}
 use Rattle.sap_parse.specs.Grammar as g
 use Rattle.sap_parse.specs.Stages.{Stage, IsSign, here, spot_here, mention, numeral}
 use Rattle.sap_parse.specs.declared.limit.Role.TheVariants as r
 use Rattle.sap_parse.specs.declared.token.Sign.TheVariants as s
 use Rattle.sap_tree.specs.declared.word.Word.TheVariants as w
 use Rattle.sap_show.proofs.Pieces.{Piece, space, line, sign, word, name, expression, tag, tags, more_tags, constant, more_constants, constants, simple, margin, command, arms, block, else_part, commands, authority, kind, start, declaration, declarations, state, states, header, design}
-use Rattle.sap_show.proofs.ReadBack.{Stand, expression_reads, as_expression, both}
+use Rattle.sap_show.proofs.ReadBack.{Stand, expression_reads, as_expression}
 use Rattle.sap_tree.specs.Bare.{nowhere, bare_name, bare_number, bare_expression, bare_expressions, bare_tag, bare_tags, bare_simple, bare_command, bare_block, bare_else, bare_arms, bare_list, bare_authority, bare_kind, bare_start, bare_declaration, bare_state, bare_states, bare}
-use Rattle.sap_tree.specs.Extent.{fits, tag_fits}
 use Rattle.sap_tree.specs.Limits.{most_arms, most_blocks}
 use Rattle.sap_tree.specs.Syntax.{Expression, Number, Sized, Read, Cell, Unary, Binary, Choose, Slice, Concat, Zext, Expressions, NoPart, AndPart, TagExpression, TagExpressions, Level, TagOf, LevelAt, Join, NoTag, AndTag, SimpleCommand, Assign, Write, SetTag, SetCellTag, Goto, Fall, Command, Do, Try, If, TryThen, Case, Arms, Last, Arm, CommandBlock, Commands, ElseBlock, NoElse, Else, CommandList, NoCommand, AndCommand, StateTree, StateOf, StateList, NoState, AndState, DesignTree}
-use Rattle.sap_tree.specs.Whole.{is_expression, is_tag, are_tags, has_two_tags, is_outermost, is_outermost_tag, is_simple, is_command, is_block, is_else, is_constant, are_constants, has_constant, arm_count, are_arms, are_commands, is_kind, is_state, are_states, has_state, block_depth, is_tree, is_declaration}
+use Rattle.sap_tree.specs.Whole.{is_tag, are_tags, has_two_tags, is_outermost, is_outermost_tag, is_simple, is_command, is_block, is_else, is_constant, are_constants, has_constant, arm_count, are_arms, are_commands, is_kind, is_state, are_states, has_state, block_depth, is_tree, is_declaration}
 use Rattle.sap_tree.specs.Words.{is_name, is_second}
 use Rattle.sap_tree.specs.declared.syntax.Decl.TheVariants as d
 use Rattle.sap_tree.specs.declared.syntax.Decl.{Decl}
@@ -82,7 +83,7 @@ mutual
         follow = a.follow.2;
       }
   tag_reads version (Join place xs) h rest p q o =
-      let e = both (has_two_tags xs) (are_tags version xs) h in
+      let e = and_parts (has_two_tags xs) (are_tags version xs) h in
       let i = o.2 in
       let a = two_read version xs e.0 e.1 (sign r.Closing s.CloseParen ∷ rest) i.0 q i.2 in
       record {
@@ -97,8 +98,8 @@ mutual
   two_read version NoTag t h rest p q o = absurd (cc)
   two_read version (AndTag x NoTag) t h rest p q o = absurd (cc)
   two_read version (AndTag x (AndTag y xs)) t h rest p q o =
-      let e = both (is_tag version x) (are_tags version (AndTag y xs)) h in
-      let f = both (is_tag version y) (are_tags version xs) e.1 in
+      let e = and_parts (is_tag version x) (are_tags version (AndTag y xs)) h in
+      let f = and_parts (is_tag version y) (are_tags version xs) e.1 in
       let a = tag_reads version x e.0 (more_tags (AndTag y xs) rest) p q o in
       let i = a.follow in
       let v = tag_reads version y f.0 (more_tags xs rest) i.0 q i.2 in
@@ -123,7 +124,7 @@ mutual
   tags_read : (version : Version) (xs : TagExpressions) → are_tags version xs ≡ true → (rest : List Piece) (p q : Stage) → Stand (more_tags xs rest) p q → ReadsTags xs rest p q
   tags_read version NoTag h rest p q o = record { tree = NoTag; same = refl; end = p; read = g.no_tag; follow = o }
   tags_read version (AndTag x xs) h rest p q o =
-      let e = both (is_tag version x) (are_tags version xs) h in
+      let e = and_parts (is_tag version x) (are_tags version xs) h in
       let a = tag_reads version x e.0 (more_tags xs rest) o.0 q o.2 in
       let l = tags_read version xs e.1 rest a.end q a.follow in
       record {
@@ -136,12 +137,6 @@ mutual
 
 -- an expression or a tag expression that stands in no other
 
-inner : (version : Version) (x : Expression) → is_outermost version x ≡ true → is_expression version x ≡ true
-inner version x h = (both (is_expression version x) (fits x) h).0
-
-inner_tag : (version : Version) (x : TagExpression) → is_outermost_tag version x ≡ true → is_tag version x ≡ true
-inner_tag version x h = (both (is_tag version x) (tag_fits x) h).0
-
 pub record ReadsSimple (depth : ℕ) (c : SimpleCommand) (rest : List Piece) (p q : Stage) : Type 0 where
   pub tree : SimpleCommand
   pub same : bare_simple tree ≡ bare_simple c
@@ -153,7 +148,7 @@ simple_reads : (version : Version) (depth : ℕ) (c : SimpleCommand) → is_simp
 unfolding bare_simple is_simple
 simple_reads version depth (Assign n x) h rest p q o =
     let i = o.2 in
-    let a = expression_reads version x (inner version x (both (is_name version n.name) (is_outermost version x) h).1) rest i.0 q i.2 in
+    let a = expression_reads version x (expression_of_outermost version x (and_parts (is_name version n.name) (is_outermost version x) h).1) rest i.0 q i.2 in
     record {
       tree = Assign (mention p n.name) a.tree;
       same = ap (λ z. Assign (bare_name n) z) a.same;
@@ -162,13 +157,13 @@ simple_reads version depth (Assign n x) h rest p q o =
       follow = a.follow;
     }
 simple_reads version depth (Write n y x) h rest p q o =
-    let e = both (is_name version n.name && is_outermost version y) (is_outermost version x) h in
-    let f = both (is_name version n.name) (is_outermost version y) e.0 in
+    let e = and_parts (is_name version n.name && is_outermost version y) (is_outermost version x) h in
+    let f = and_parts (is_name version n.name) (is_outermost version y) e.0 in
     let i = o.2 in
-    let a = expression_reads version y (inner version y f.1) (sign r.Plain s.CloseBracket ∷ space ∷ sign r.Plain s.Becomes ∷ space ∷ expression x rest) i.0 q i.2 in
+    let a = expression_reads version y (expression_of_outermost version y f.1) (sign r.Plain s.CloseBracket ∷ space ∷ sign r.Plain s.Becomes ∷ space ∷ expression x rest) i.0 q i.2 in
     let j = a.follow in
     let l = j.2 in
-    let v = expression_reads version x (inner version x e.1) rest l.0 q l.2 in
+    let v = expression_reads version x (expression_of_outermost version x e.1) rest l.0 q l.2 in
     record {
       tree = Write (mention p n.name) a.tree v.tree;
       same = ap (λ z. Write (bare_name n) z (bare_expression v.tree)) a.same ∙ ap (λ z. Write (bare_name n) (bare_expression y) z) v.same;
@@ -178,7 +173,7 @@ simple_reads version depth (Write n y x) h rest p q o =
     }
 simple_reads version depth (SetTag place n x) h rest p q o =
     let i = o.2 in let j = i.2 in let l = j.2 in
-    let a = tag_reads version x (inner_tag version x (both (is_name version n.name) (is_outermost_tag version x) h).1) (sign r.Plain s.CloseParen ∷ rest) l.0 q l.2 in
+    let a = tag_reads version x (tag_of_outermost version x (and_parts (is_name version n.name) (is_outermost_tag version x) h).1) (sign r.Plain s.CloseParen ∷ rest) l.0 q l.2 in
     record {
       tree = SetTag (here p) (mention i.0 n.name) a.tree;
       same = ap (λ z. SetTag nowhere (bare_name n) z) a.same;
@@ -187,12 +182,12 @@ simple_reads version depth (SetTag place n x) h rest p q o =
       follow = a.follow.2;
     }
 simple_reads version depth (SetCellTag place n y x) h rest p q o =
-    let e = both (is_name version n.name && is_outermost version y) (is_outermost_tag version x) h in
-    let f = both (is_name version n.name) (is_outermost version y) e.0 in
+    let e = and_parts (is_name version n.name && is_outermost version y) (is_outermost_tag version x) h in
+    let f = and_parts (is_name version n.name) (is_outermost version y) e.0 in
     let i = o.2 in let j = i.2 in let l = j.2 in
-    let a = expression_reads version y (inner version y f.1) (sign r.Plain s.CloseBracket ∷ sign r.Plain s.Comma ∷ space ∷ tag x (sign r.Plain s.CloseParen ∷ rest)) l.0 q l.2 in
+    let a = expression_reads version y (expression_of_outermost version y f.1) (sign r.Plain s.CloseBracket ∷ sign r.Plain s.Comma ∷ space ∷ tag x (sign r.Plain s.CloseParen ∷ rest)) l.0 q l.2 in
     let m = a.follow in let u = m.2 in
-    let v = tag_reads version x (inner_tag version x e.1) (sign r.Plain s.CloseParen ∷ rest) u.0 q u.2 in
+    let v = tag_reads version x (tag_of_outermost version x e.1) (sign r.Plain s.CloseParen ∷ rest) u.0 q u.2 in
     record {
       tree = SetCellTag (here p) (mention i.0 n.name) a.tree v.tree;
       same = ap (λ z. SetCellTag nowhere (bare_name n) z (bare_tag v.tree)) a.same ∙ ap (λ z. SetCellTag nowhere (bare_name n) (bare_expression y) z) v.same;
@@ -238,7 +233,7 @@ constants_read : (xs : Expressions) → are_constants xs ≡ true → (rest : Li
 unfolding bare_expression
 constants_read NoPart h rest p q o = record { tree = NoPart; same = refl; end = p; read = g.no_constant; follow = o }
 constants_read (AndPart x xs) h rest p q o =
-    let e = both (is_constant x) (are_constants xs) h in
+    let e = and_parts (is_constant x) (are_constants xs) h in
     let a = constant_reads x e.0 (more_constants xs rest) o.0 q o.2 in
     let v = constants_read xs e.1 rest a.end q a.follow in
     record {
@@ -304,7 +299,7 @@ values_read : (xs : Expressions) → (has_constant xs && are_constants xs) ≡ t
 unfolding bare_expression
 values_read NoPart h rest p q o = absurd (no_arm h)
 values_read (AndPart x xs) h rest p q o =
-    let f = both (is_constant x) (are_constants xs) h in
+    let f = and_parts (is_constant x) (are_constants xs) h in
     let a = constant_reads x f.0 (more_constants xs (sign r.Plain s.Colon ∷ rest)) p q o in
     let v = constants_read xs f.1 (sign r.Plain s.Colon ∷ rest) a.end q a.follow in
     let i = v.follow in
@@ -324,7 +319,7 @@ mutual
       let a = simple_reads version depth c h (sign r.Plain s.Semicolon ∷ line ∷ rest) p q (behind_margin level _ p q o) in
       record { tree = Do a.tree; same = ap (λ z. Do z) a.same; end = a.follow.0; read = g.unhandled a.read a.follow.1; follow = a.follow.2 }
   command_reads version (Try c place handler) level depth h rest p q o =
-      let e = both (is_simple version c) (is_block version handler) h in
+      let e = and_parts (is_simple version c) (is_block version handler) h in
       let a = simple_reads version depth c e.0 (space ∷ word r.Plain w.Otherwise ∷ block handler level depth (line ∷ rest)) p q (behind_margin level _ p q o) in
       let i = a.follow in
       let v = block_reads version handler level depth e.1 (line ∷ rest) i.0 q i.2 in
@@ -336,12 +331,12 @@ mutual
         follow = v.follow;
       }
   command_reads version (If place x one other) level depth h rest p q o =
-      let e = both (is_outermost version x && is_block version one) (is_else version other) h in
-      let f = both (is_outermost version x) (is_block version one) e.0 in
+      let e = and_parts (is_outermost version x && is_block version one) (is_else version other) h in
+      let f = and_parts (is_outermost version x) (is_block version one) e.0 in
       let i = behind_margin level (word (r.Command depth) w.If ∷ space ∷ sign r.Plain s.OpenParen
       ∷ expression x (sign r.Plain s.CloseParen ∷ block one level depth (else_part other level depth (line ∷ rest)))) p q o in
       let j = i.2 in
-      let a = expression_reads version x (inner version x f.0) (sign r.Plain s.CloseParen ∷ block one level depth (else_part other level depth (line ∷ rest))) j.0 q j.2 in
+      let a = expression_reads version x (expression_of_outermost version x f.0) (sign r.Plain s.CloseParen ∷ block one level depth (else_part other level depth (line ∷ rest))) j.0 q j.2 in
       let l = a.follow in
       let v = block_reads version one level depth f.1 (else_part other level depth (line ∷ rest)) l.0 q l.2 in
       let u = else_reads version other level depth e.1 (line ∷ rest) v.end q v.follow in
@@ -354,9 +349,9 @@ mutual
         follow = u.follow;
       }
   command_reads version (TryThen c place one other) level depth h rest p q o =
-      let e = both (is_second version && is_simple version c && is_block version one) (is_block version other) h in
-      let f = both (is_second version && is_simple version c) (is_block version one) e.0 in
-      let i = both (is_second version) (is_simple version c) f.0 in
+      let e = and_parts (is_second version && is_simple version c && is_block version one) (is_block version other) h in
+      let f = and_parts (is_second version && is_simple version c) (is_block version one) e.0 in
+      let i = and_parts (is_second version) (is_simple version c) f.0 in
       let last = space ∷ word r.Plain w.Otherwise ∷ block other level depth (line ∷ rest) in
       let a = simple_reads version depth c i.1 (space ∷ word r.Plain w.Then ∷ block one level depth last) p q (behind_margin level _ p q o) in
       let j = a.follow in
@@ -372,25 +367,25 @@ mutual
         follow = u.follow;
       }
   command_reads version (Case place x (Last b)) level depth h rest p q o =
-      let f = both (is_second version && is_outermost version x && false && nat_le 0 most_arms) (is_block version b) h in
-      let g = both (is_second version && is_outermost version x && false) (nat_le 0 most_arms) f.0 in
-      absurd (no_arm (both (is_second version && is_outermost version x) false g.0).1)
+      let f = and_parts (is_second version && is_outermost version x && false && nat_le 0 most_arms) (is_block version b) h in
+      let g = and_parts (is_second version && is_outermost version x && false) (nat_le 0 most_arms) f.0 in
+      absurd (no_arm (and_parts (is_second version && is_outermost version x) false g.0).1)
   command_reads version (Case place x (Arm xs b list)) level depth h rest p q o =
-      let f = both (is_second version && is_outermost version x && true && nat_le (1 + arm_count list) most_arms) (are_arms version (Arm xs b list)) h in
-      let i = both (is_second version && is_outermost version x && true) (nat_le (1 + arm_count list) most_arms) f.0 in
-      let j = both (is_second version && is_outermost version x) true i.0 in
-      let l = both (is_second version) (is_outermost version x) j.0 in
-      let m = both (has_constant xs && are_constants xs && is_block version b) (are_arms version list) f.1 in
+      let f = and_parts (is_second version && is_outermost version x && true && nat_le (1 + arm_count list) most_arms) (are_arms version (Arm xs b list)) h in
+      let i = and_parts (is_second version && is_outermost version x && true) (nat_le (1 + arm_count list) most_arms) f.0 in
+      let j = and_parts (is_second version && is_outermost version x) true i.0 in
+      let l = and_parts (is_second version) (is_outermost version x) j.0 in
+      let m = and_parts (has_constant xs && are_constants xs && is_block version b) (are_arms version list) f.1 in
       let foot = margin level (sign r.Plain s.CloseBrace ∷ line ∷ rest) in
       let more = arms list (suc level) depth foot in
       let first = arms (Arm xs b list) (suc level) depth foot in
       let n = behind_margin level (word (r.Command depth) w.Case ∷ space ∷ sign r.Plain s.OpenParen
       ∷ expression x (sign r.Plain s.CloseParen ∷ space ∷ sign r.Plain s.OpenBrace ∷ line ∷ first)) p q o in
       let t = n.2 in
-      let a = expression_reads version x (inner version x l.1) (sign r.Plain s.CloseParen ∷ space ∷ sign r.Plain s.OpenBrace ∷ line ∷ first) t.0 q t.2 in
+      let a = expression_reads version x (expression_of_outermost version x l.1) (sign r.Plain s.CloseParen ∷ space ∷ sign r.Plain s.OpenBrace ∷ line ∷ first) t.0 q t.2 in
       let u = a.follow in
       let y = u.2 in
-      let e = both (has_constant xs && are_constants xs) (is_block version b) m.0 in
+      let e = and_parts (has_constant xs && are_constants xs) (is_block version b) m.0 in
       let c = values_read xs e.0 (block b (suc level) depth (line ∷ more)) y.0 q (behind_margin (suc level) _ y.0 q y.2) in
       let k = block_reads version b (suc level) depth e.1 (line ∷ more) c.end q c.follow in
       let v = arms_read version list (suc level) depth m.1 foot k.end q k.follow in
@@ -412,9 +407,9 @@ mutual
       let a = block_reads version b level depth h (line ∷ rest) i.0 q i.2 in
       record { tree = Last a.tree; same = ap (λ z. Last z) a.same; end = a.end; read = g.last i.1 a.read; follow = a.follow }
   arms_read version (Arm xs b list) level depth h rest p q o =
-      let e = both (has_constant xs && are_constants xs && is_block version b) (are_arms version list) h in
+      let e = and_parts (has_constant xs && are_constants xs && is_block version b) (are_arms version list) h in
       let more = arms list level depth rest in
-      let f = both (has_constant xs && are_constants xs) (is_block version b) e.0 in
+      let f = and_parts (has_constant xs && are_constants xs) (is_block version b) e.0 in
       let c = values_read xs f.0 (block b level depth (line ∷ more)) p q (behind_margin level _ p q o) in
       let i = block_reads version b level depth f.1 (line ∷ more) c.end q c.follow in
       let v = arms_read version list level depth e.1 rest i.end q i.follow in
@@ -442,7 +437,7 @@ mutual
   commands_read : (version : Version) (cs : CommandList) (level depth : ℕ) → are_commands version cs ≡ true → (rest : List Piece) (p q : Stage) → Stand (commands cs level depth rest) p q → ReadsCommands depth cs rest p q
   commands_read version NoCommand level depth h rest p q o = record { tree = NoCommand; same = refl; end = p; read = g.no_cmd; follow = o }
   commands_read version (AndCommand c cs) level depth h rest p q o =
-      let e = both (is_command version c) (are_commands version cs) h in
+      let e = and_parts (is_command version c) (are_commands version cs) h in
       let a = command_reads version c level depth e.0 (commands cs level depth rest) p q o in
       let v = commands_read version cs level depth e.1 rest a.end q a.follow in
       record {
@@ -589,9 +584,9 @@ mutual
   state_reads : (version : Version) (x : StateTree) (level depth : ℕ) → is_state version x ≡ true → (rest : List Piece) (p q : Stage) → Stand (state x level depth rest) p q → ReadsState depth x rest p q
   state_reads version (StateOf place n x (Commands cs after) children) level depth h rest p q o =
       let b = Commands cs after in
-      let e = both (is_name version n.name && is_kind version x && is_block version b && nat_le (block_depth b) most_blocks) (are_states version children) h in
-      let f = both (is_name version n.name && is_kind version x && is_block version b) (nat_le (block_depth b) most_blocks) e.0 in
-      let u = both (is_name version n.name && is_kind version x) (is_block version b) f.0 in
+      let e = and_parts (is_name version n.name && is_kind version x && is_block version b && nat_le (block_depth b) most_blocks) (are_states version children) h in
+      let f = and_parts (is_name version n.name && is_kind version x && is_block version b) (nat_le (block_depth b) most_blocks) e.0 in
+      let u = and_parts (is_name version n.name && is_kind version x) (is_block version b) f.0 in
       let last = margin level (sign r.Plain s.CloseBrace ∷ line ∷ rest) in
       let below = states children (suc level) (depth + 1) last in
       let i = behind_margin level (word (r.State depth) w.State ∷ space ∷ name r.Plain n.name ∷ space ∷ kind x (space ∷ sign r.Plain s.OpenBrace ∷ line
@@ -615,7 +610,7 @@ mutual
   states_read : (version : Version) (xs : StateList) (level depth : ℕ) → are_states version xs ≡ true → (rest : List Piece) (p q : Stage) → Stand (states xs level depth rest) p q → ReadsStates depth xs rest p q
   states_read version NoState level depth h rest p q o = record { tree = NoState; same = refl; end = p; read = g.no_state; follow = o }
   states_read version (AndState x xs) level depth h rest p q o =
-      let e = both (is_state version x) (are_states version xs) h in
+      let e = and_parts (is_state version x) (are_states version xs) h in
       let a = state_reads version x level depth e.0 (states xs level depth rest) p q o in
       let v = states_read version xs level depth e.1 rest a.end q a.follow in
       record {
@@ -647,12 +642,12 @@ with_parts version declarations states = record { version = version; declaration
 
 pub design_reads : (x : DesignTree) → is_tree x ≡ true → (p q : Stage) → Stand (design x) p q → ReadsDesign x p q
 unfolding bare bare_state is_state
-design_reads x h p q o = by_states x.states (both (list_all (is_declaration x.version) x.declarations && has_state x.states) (are_states x.version x.states) h) o where
+design_reads x h p q o = by_states x.states (and_parts (list_all (is_declaration x.version) x.declarations && has_state x.states) (are_states x.version x.states) h) o where
   by_states : (ss : StateList) → ((list_all (is_declaration x.version) x.declarations && has_state ss) ≡ true) × (are_states x.version ss ≡ true)
       → Stand (header x.version (declarations x.declarations (states ss 0 1 []))) p q → ReadsDesign (with_parts x.version x.declarations ss) p q
-  by_states NoState e o = absurd (no_arm (both (list_all (is_declaration x.version) x.declarations) false e.0).1)
+  by_states NoState e o = absurd (no_arm (and_parts (list_all (is_declaration x.version) x.declarations) false e.0).1)
   by_states (AndState y ys) e o =
-      let f = both (is_state x.version y) (are_states x.version ys) e.1 in
+      let f = and_parts (is_state x.version y) (are_states x.version ys) e.1 in
       let first = header_reads x.version (declarations x.declarations (states (AndState y ys) 0 1 [])) p q o in
       let a = declarations_read x.declarations (states (AndState y ys) 0 1 []) first.end q first.follow in
       let v = state_reads x.version y 0 1 f.0 (states ys 0 1 []) a.end q a.follow in

@@ -2,6 +2,8 @@
 use Rattle.std.proofs.Common.{◌≡◌, ◌+◌, ℕ, List, [], ◌∷◌, ◌++◌, length, drop, true, refl, sym, ap, ◌∙◌, arith, subst, Option, None, append_assoc, length-append}
 use Rattle.std.proofs.lemmas.Grind.{common_steps}
 use Rattle.std.specs.Prelude.{◌&&◌, map}
+use Rattle.std.proofs.lemmas.Bool.{and_parts}
+use Rattle.std.proofs.lemmas.List.{append-nil}
 use Rattle.sap_walk.specs.Reached as walk
 use Rattle.sap_walk.specs.Limits.{Past, passed, first_of}
 use Rattle.sap_parse.specs.Lexemes.{lexeme_of}
@@ -21,7 +23,7 @@ use Rattle.sap_show.proofs.Lexed.{first_lexed, later_is, piece_lexed, raw, raw_i
 use Rattle.sap_show.proofs.Pieces.{Piece, space, line, token, sign, word, bytes_of, kind_bytes, declarations, states, header, parts_of, design}
 use Rattle.sap_show.proofs.PieceTexts.{design_says}
 use Rattle.sap_show.proofs.PlacesAside.{places_aside}
-use Rattle.sap_show.proofs.ReadBack.{Stand, both}
+use Rattle.sap_show.proofs.ReadBack.{Stand}
 use Rattle.sap_show.proofs.ReadDesign.{design_reads}
 use Rattle.sap_show.proofs.Spaced.{apart, follows, is_spelled, design_apart}
 use Rattle.sap_show.proofs.Within.{Within, after, tally_is}
@@ -65,10 +67,6 @@ further n text a b e = dropped n (length a) text ∙ ap (λ z. drop (length a) z
   back_part : (a b : List ℕ) → drop (length a) (a ++ b) ≡ b
   back_part a b = grind (arith, common_steps)
 
-append_none : (ts : List Token) → ts ++ [] ≡ ts
-append_none [] = refl
-append_none (t ∷ ts) = ap (λ us. t ∷ us) (append_none ts)
-
 blank_lexed : (b : ℕ) (rest : List ℕ) → (b ≡ 32) → lexeme_of (b ∷ rest) ≡ l.Blank 1
 unfolding lexeme_of
 blank_lexed b rest e = ap (λ c. lexeme_of (c ∷ rest)) e
@@ -88,7 +86,7 @@ pub reached : (version : Version) (text : List ℕ) (ps : List Piece) (n : ℕ) 
     → Reached text (n + length (bytes_of ps)) (ts ++ raw_tokens_at text n ps)
 reached version text [] n ts r e a =
     let none : n ≡ n + 0 = omega arith in
-    subst (λ m. Reached text m (ts ++ [])) none (subst (λ us. Reached text n us) (sym (append_none ts)) r)
+    subst (λ m. Reached text m (ts ++ [])) none (subst (λ us. Reached text n us) (sym (append-nil ts)) r)
 reached version text (space ∷ ps) n ts r e a =
     let ih = reached version text ps (n + 1) ts (walk.blank 1 r (ap lexeme_of e ∙ blank_lexed 32 (bytes_of ps) refl)) (further n text (32 ∷ []) (bytes_of ps) e) a in
     let same : (n + 1) + length (bytes_of ps) ≡ n + length (bytes_of (space ∷ ps)) = omega arith in
@@ -98,8 +96,8 @@ reached version text (line ∷ ps) n ts r e a =
     let same : (n + 1) + length (bytes_of ps) ≡ n + length (bytes_of (line ∷ ps)) = omega arith in
     subst (λ m. Reached text m (ts ++ raw_tokens_at text (n + 1) ps)) same ih
 reached version text (token role kind ∷ ps) n ts r e a =
-    let f = both (is_spelled version kind) (follows kind ps && apart version ps) a in
-    let g = both (follows kind ps) (apart version ps) f.1 in
+    let f = and_parts (is_spelled version kind) (follows kind ps && apart version ps) a in
+    let g = and_parts (follows kind ps) (apart version ps) f.1 in
     let t = raw_at text n kind in
     let len = length (kind_bytes kind) in
     let ih = reached version text ps (n + len) (ts ++ t ∷ []) (taken text n ts kind ps r e (piece_lexed version kind ps f.0 g.0 g.1)) (further n text (kind_bytes kind) (bytes_of ps) e) g.1 in
@@ -140,8 +138,8 @@ later_tokens text n [] a = refl
 later_tokens text n (space ∷ ps) a = later_tokens text (n + 1) ps a
 later_tokens text n (line ∷ ps) a = later_tokens text (n + 1) ps a
 later_tokens text n (token role kind ∷ ps) a =
-    let f = both (is_spelled version_is.Two kind) (follows kind ps && apart version_is.Two ps) a in
-    let g = both (follows kind ps) (apart version_is.Two ps) f.1 in
+    let f = and_parts (is_spelled version_is.Two kind) (follows kind ps && apart version_is.Two ps) a in
+    let g = and_parts (follows kind ps) (apart version_is.Two ps) f.1 in
     let len = length (kind_bytes kind) in
     ap (λ (kind' : Kind). with_kind (token_at text n kind) kind' ∷ map later_token (raw_tokens_at text (n + len) ps)) (later_is kind f.0)
     ∙ ap (λ (ts : List Token). token_at text n kind ∷ ts) (later_tokens text (n + len) ps g.1)
@@ -151,8 +149,8 @@ same_tokens text n [] a = refl
 same_tokens text n (space ∷ ps) a = same_tokens text (n + 1) ps a
 same_tokens text n (line ∷ ps) a = same_tokens text (n + 1) ps a
 same_tokens text n (token role kind ∷ ps) a =
-    let f = both (is_spelled version_is.One kind) (follows kind ps && apart version_is.One ps) a in
-    let g = both (follows kind ps) (apart version_is.One ps) f.1 in
+    let f = and_parts (is_spelled version_is.One kind) (follows kind ps && apart version_is.One ps) a in
+    let g = and_parts (follows kind ps) (apart version_is.One ps) f.1 in
     let len = length (kind_bytes kind) in
     ap (λ (kind' : Kind). with_kind (token_at text n kind) kind' ∷ raw_tokens_at text (n + len) ps) (raw_is kind f.0)
     ∙ ap (λ (ts : List Token). token_at text n kind ∷ ts) (same_tokens text (n + len) ps g.1)
@@ -209,7 +207,7 @@ kept (token role kind ∷ ps) p q a e h =
 pub shown : (x : DesignTree) (text : List ℕ) → is_whole x ≡ true → text ≡ canonical_text x → ReadsAs text x
 unfolding is_whole
 shown x text h e =
-    let tree : is_tree x ≡ true = (both (is_tree x) (is_within_limits x) h).0 in
+    let tree : is_tree x ≡ true = (and_parts (is_tree x) (is_within_limits x) h).0 in
     let ps = design x in
     let bytes : text ≡ bytes_of ps = e ∙ sym (design_says x) in
     let tokens = tokens_at text 0 ps in

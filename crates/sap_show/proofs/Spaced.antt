@@ -2,6 +2,8 @@
 use Rattle.std.proofs.Common.{◌≡◌, ◌+◌, ℕ, zero, suc, List, [], ◌∷◌, Bool, true, false, refl, ap, ◌∙◌, Option, Some, None}
 use Rattle.std.specs.Prelude.{nat_lt, nat_le, ◌&&◌}
 use Rattle.std.specs.List.{list_all}
+use Rattle.std.proofs.lemmas.Bool.{and_parts}
+use Rattle.sap_tree.proofs.SyntaxLemmas.{expression_of_outermost, tag_of_outermost}
 use Rattle.sap_parse.specs.Grammar.{sign_of, unary_sign_of}
 use Rattle.sap_parse.specs.declared.limit.Role.TheVariants as r
 use Rattle.sap_parse.specs.declared.limit.Role.{Role}
@@ -11,8 +13,6 @@ use Rattle.sap_parse.specs.declared.token.Sign.TheVariants as s
 use Rattle.sap_tree.specs.declared.word.Word.TheVariants as w
 use Rattle.sap_tree.specs.declared.word.Word.{Word}
 use Rattle.sap_show.proofs.Pieces.{Piece, space, line, token, sign, word, name, number, wrapped, bounds, expression, parts, more_parts, tag, tags, more_tags, constant, more_constants, constants, cell, simple, margin, command, arms, block, else_part, commands, authority, kind, start, declared, declaration, declarations, state, states, parts_of}
-use Rattle.sap_show.proofs.ReadBack.{both}
-use Rattle.sap_tree.specs.Extent.{fits, tag_fits}
 use Rattle.sap_tree.specs.Limits.{most_arms, most_blocks}
 use Rattle.sap_tree.specs.Precedence.{precedence, unary_precedence, slice_precedence, precedence_of}
 use Rattle.sap_tree.specs.Syntax.{Expression, Expressions, Number, Sized, Read, Cell, Unary, Binary, Choose, Slice, Concat, Zext, NoPart, AndPart, TagExpression, TagExpressions, Level, TagOf, LevelAt, Join, NoTag, AndTag, SimpleCommand, Assign, Write, SetTag, SetCellTag, Goto, Fall, Command, Do, Try, If, TryThen, Case, Arms, Last, Arm, CommandBlock, Commands, ElseBlock, NoElse, Else, CommandList, NoCommand, AndCommand, StateTree, StateOf, StateList, NoState, AndState, DesignTree}
@@ -130,47 +130,47 @@ mutual
   expression_apart version (Sized spot width n) h rest e a = three (is_number width && is_number n) (ends_run rest) (apart version rest) h e a
   expression_apart version (Read spot n) h rest e a = a_name version r.Inner n h rest e a
   expression_apart version (Cell spot n i) h rest e a =
-      let f = both (is_name version n) (is_expression version i) h in
+      let f = and_parts (is_name version n) (is_expression version i) h in
       a_name version r.Inner n f.0 (sign r.Opening s.OpenBracket ∷ expression i (sign r.Closing s.CloseBracket ∷ rest)) refl
       (expression_apart version i f.1 (sign r.Closing s.CloseBracket ∷ rest) refl a)
   expression_apart version (Unary spot o x) h rest e a =
       unary_apart version o (wrapped (nat_lt (precedence_of x) unary_precedence) (λ ps. expression x ps) rest)
       (wrapped_apart version (nat_lt (precedence_of x) unary_precedence) (λ ps. expression x ps) (λ ps i j. expression_apart version x h ps i j) rest e a)
   expression_apart version (Binary spot o x y) h rest e a =
-      let f = both (is_expression version x) (is_expression version y) h in
+      let f = and_parts (is_expression version x) (is_expression version y) h in
       let behind = wrapped (nat_lt (precedence_of y) (precedence o + 1)) (λ ps. expression y ps) rest in
       wrapped_apart version (nat_lt (precedence_of x) (precedence o)) (λ ps. expression x ps) (λ ps i j. expression_apart version x f.0 ps i j)
       (space ∷ sign r.Inner (sign_of o) ∷ space ∷ behind) refl
       (binary_apart version o behind
       (wrapped_apart version (nat_lt (precedence_of y) (precedence o + 1)) (λ ps. expression y ps) (λ ps i j. expression_apart version y f.1 ps i j) rest e a))
   expression_apart version (Choose spot x y z) h rest e a =
-      let f = both (is_expression version x && is_expression version y) (is_expression version z) h in
-      let g = both (is_expression version x) (is_expression version y) f.0 in
+      let f = and_parts (is_expression version x && is_expression version y) (is_expression version z) h in
+      let g = and_parts (is_expression version x) (is_expression version y) f.0 in
       wrapped_apart version (nat_lt (precedence_of x) 1) (λ ps. expression x ps) (λ ps i j. expression_apart version x g.0 ps i j)
       (space ∷ sign r.Inner s.Question ∷ space ∷ expression y (space ∷ sign r.Inner s.Colon ∷ space ∷ expression z rest)) refl
       (expression_apart version y g.1 (space ∷ sign r.Inner s.Colon ∷ space ∷ expression z rest) refl (expression_apart version z f.1 rest e a))
   expression_apart version (Slice spot x high low) h rest e a =
-      let f = both (is_expression version x && is_number high) (is_number low) h in
-      let g = both (is_expression version x) (is_number high) f.0 in
+      let f = and_parts (is_expression version x && is_number high) (is_number low) h in
+      let g = and_parts (is_expression version x) (is_number high) f.0 in
       wrapped_apart version (nat_lt (precedence_of x) slice_precedence) (λ ps. expression x ps) (λ ps i j. expression_apart version x g.0 ps i j)
       (bounds high low rest) refl (bounds_apart version high low g.1 f.1 rest e a)
   expression_apart version (Concat spot xs) h rest e a =
-      parts_apart version xs (both (has_two_parts xs) (are_expressions version xs) h).1 (sign r.Closing s.CloseBrace ∷ rest) refl a
+      parts_apart version xs (and_parts (has_two_parts xs) (are_expressions version xs) h).1 (sign r.Closing s.CloseBrace ∷ rest) refl a
   expression_apart version (Zext spot x width) h rest e a =
-      let f = both (is_expression version x) (is_number width) h in
+      let f = and_parts (is_expression version x) (is_number width) h in
       expression_apart version x f.0 (sign r.Inner s.Comma ∷ space ∷ number r.Inner width ∷ sign r.Closing s.CloseParen ∷ rest) refl
       (a_number version r.Inner width f.1 (sign r.Closing s.CloseParen ∷ rest) refl a)
 
   parts_apart : (version : Version) (xs : Expressions) → are_expressions version xs ≡ true → Apart version (parts xs)
   parts_apart version NoPart h rest e a = a
   parts_apart version (AndPart x xs) h rest e a =
-      let f = both (is_expression version x) (are_expressions version xs) h in
+      let f = and_parts (is_expression version x) (are_expressions version xs) h in
       expression_apart version x f.0 (more_parts xs rest) (more_parts_end xs rest e) (more_parts_apart version xs f.1 rest e a)
 
   more_parts_apart : (version : Version) (xs : Expressions) → are_expressions version xs ≡ true → Apart version (more_parts xs)
   more_parts_apart version NoPart h rest e a = a
   more_parts_apart version (AndPart x xs) h rest e a =
-      let f = both (is_expression version x) (are_expressions version xs) h in
+      let f = and_parts (is_expression version x) (are_expressions version xs) h in
       expression_apart version x f.0 (more_parts xs rest) (more_parts_end xs rest e) (more_parts_apart version xs f.1 rest e a)
 
   more_parts_end : (xs : Expressions) (rest : List Piece) → ends_run rest ≡ true → ends_run (more_parts xs rest) ≡ true
@@ -188,49 +188,43 @@ mutual
   tag_apart version (Level n) h rest e a = a_name version r.Inner n.name h rest e a
   tag_apart version (TagOf place x) h rest e a = expression_apart version x h (sign r.Closing s.CloseParen ∷ rest) refl a
   tag_apart version (LevelAt place x) h rest e a = expression_apart version x h (sign r.Closing s.CloseParen ∷ rest) refl a
-  tag_apart version (Join place xs) h rest e a = tags_apart version xs (both (has_two_tags xs) (are_tags version xs) h).1 (sign r.Closing s.CloseParen ∷ rest) refl a
+  tag_apart version (Join place xs) h rest e a = tags_apart version xs (and_parts (has_two_tags xs) (are_tags version xs) h).1 (sign r.Closing s.CloseParen ∷ rest) refl a
 
   tags_apart : (version : Version) (xs : TagExpressions) → are_tags version xs ≡ true → Apart version (tags xs)
   tags_apart version NoTag h rest e a = a
   tags_apart version (AndTag x xs) h rest e a =
-      let f = both (is_tag version x) (are_tags version xs) h in
+      let f = and_parts (is_tag version x) (are_tags version xs) h in
       tag_apart version x f.0 (more_tags xs rest) (more_tags_end xs rest e) (more_tags_apart version xs f.1 rest e a)
 
   more_tags_apart : (version : Version) (xs : TagExpressions) → are_tags version xs ≡ true → Apart version (more_tags xs)
   more_tags_apart version NoTag h rest e a = a
   more_tags_apart version (AndTag x xs) h rest e a =
-      let f = both (is_tag version x) (are_tags version xs) h in
+      let f = and_parts (is_tag version x) (are_tags version xs) h in
       tag_apart version x f.0 (more_tags xs rest) (more_tags_end xs rest e) (more_tags_apart version xs f.1 rest e a)
-
-inner : (version : Version) (x : Expression) → is_outermost version x ≡ true → is_expression version x ≡ true
-inner version x h = (both (is_expression version x) (fits x) h).0
-
-inner_tag : (version : Version) (x : TagExpression) → is_outermost_tag version x ≡ true → is_tag version x ≡ true
-inner_tag version x h = (both (is_tag version x) (tag_fits x) h).0
 
 cell_apart : (version : Version) (role : Role) (n : List ℕ) (i : Expression) → is_name version n ≡ true → is_outermost version i ≡ true → Apart version (cell role n i)
 cell_apart version role n i h f rest e a =
     a_name version role n h (sign r.Plain s.OpenBracket ∷ expression i (sign r.Plain s.CloseBracket ∷ rest)) refl
-    (expression_apart version i (inner version i f) (sign r.Plain s.CloseBracket ∷ rest) refl a)
+    (expression_apart version i (expression_of_outermost version i f) (sign r.Plain s.CloseBracket ∷ rest) refl a)
 
 simple_apart : (version : Version) (depth : ℕ) (c : SimpleCommand) → is_simple version c ≡ true → Apart version (simple depth c)
 unfolding is_simple
 simple_apart version depth (Assign n x) h rest e a =
-    let f = both (is_name version n.name) (is_outermost version x) h in
-    a_name version (r.Command depth) n.name f.0 (space ∷ sign r.Plain s.Becomes ∷ space ∷ expression x rest) refl (expression_apart version x (inner version x f.1) rest e a)
+    let f = and_parts (is_name version n.name) (is_outermost version x) h in
+    a_name version (r.Command depth) n.name f.0 (space ∷ sign r.Plain s.Becomes ∷ space ∷ expression x rest) refl (expression_apart version x (expression_of_outermost version x f.1) rest e a)
 simple_apart version depth (Write n i x) h rest e a =
-    let f = both (is_name version n.name && is_outermost version i) (is_outermost version x) h in
-    let g = both (is_name version n.name) (is_outermost version i) f.0 in
-    cell_apart version (r.Command depth) n.name i g.0 g.1 (space ∷ sign r.Plain s.Becomes ∷ space ∷ expression x rest) refl (expression_apart version x (inner version x f.1) rest e a)
+    let f = and_parts (is_name version n.name && is_outermost version i) (is_outermost version x) h in
+    let g = and_parts (is_name version n.name) (is_outermost version i) f.0 in
+    cell_apart version (r.Command depth) n.name i g.0 g.1 (space ∷ sign r.Plain s.Becomes ∷ space ∷ expression x rest) refl (expression_apart version x (expression_of_outermost version x f.1) rest e a)
 simple_apart version depth (SetTag place n x) h rest e a =
-    let f = both (is_name version n.name) (is_outermost_tag version x) h in
+    let f = and_parts (is_name version n.name) (is_outermost_tag version x) h in
     a_name version r.Plain n.name f.0 (sign r.Plain s.Comma ∷ space ∷ tag x (sign r.Plain s.CloseParen ∷ rest)) refl
-    (tag_apart version x (inner_tag version x f.1) (sign r.Plain s.CloseParen ∷ rest) refl a)
+    (tag_apart version x (tag_of_outermost version x f.1) (sign r.Plain s.CloseParen ∷ rest) refl a)
 simple_apart version depth (SetCellTag place n i x) h rest e a =
-    let f = both (is_name version n.name && is_outermost version i) (is_outermost_tag version x) h in
-    let g = both (is_name version n.name) (is_outermost version i) f.0 in
+    let f = and_parts (is_name version n.name && is_outermost version i) (is_outermost_tag version x) h in
+    let g = and_parts (is_name version n.name) (is_outermost version i) f.0 in
     cell_apart version r.Plain n.name i g.0 g.1 (sign r.Plain s.Comma ∷ space ∷ tag x (sign r.Plain s.CloseParen ∷ rest)) refl
-    (tag_apart version x (inner_tag version x f.1) (sign r.Plain s.CloseParen ∷ rest) refl a)
+    (tag_apart version x (tag_of_outermost version x f.1) (sign r.Plain s.CloseParen ∷ rest) refl a)
 simple_apart version depth (Goto place n) h rest e a = a_name version r.Plain n.name h rest e a
 simple_apart version depth (Fall place) h rest e a = three true (ends_run rest) (apart version rest) refl e a
 
@@ -255,13 +249,13 @@ more_constants_end (AndPart x xs) rest e = refl
 more_constants_apart : (version : Version) (xs : Expressions) → are_constants xs ≡ true → Apart version (more_constants xs)
 more_constants_apart version NoPart h rest e a = a
 more_constants_apart version (AndPart x xs) h rest e a =
-    let f = both (is_constant x) (are_constants xs) h in
+    let f = and_parts (is_constant x) (are_constants xs) h in
     constant_apart version x f.0 (more_constants xs rest) (more_constants_end xs rest e) (more_constants_apart version xs f.1 rest e a)
 
 constants_apart : (version : Version) (xs : Expressions) → are_constants xs ≡ true → Apart version (constants xs)
 constants_apart version NoPart h rest e a = a
 constants_apart version (AndPart x xs) h rest e a =
-    let f = both (is_constant x) (are_constants xs) h in
+    let f = and_parts (is_constant x) (are_constants xs) h in
     constant_apart version x f.0 (more_constants xs rest) (more_constants_end xs rest e) (more_constants_apart version xs f.1 rest e a)
 
 margin_apart : (version : Version) (level : ℕ) (rest : List Piece) → apart version rest ≡ true → apart version (margin level rest) ≡ true
@@ -279,20 +273,20 @@ mutual
   command_apart version (Do c) level depth h rest a =
       margin_apart version level _ (simple_apart version depth c h (sign r.Plain s.Semicolon ∷ line ∷ rest) refl a)
   command_apart version (Try c place handler) level depth h rest a =
-      let f = both (is_simple version c) (is_block version handler) h in
+      let f = and_parts (is_simple version c) (is_block version handler) h in
       margin_apart version level _
       (simple_apart version depth c f.0 (space ∷ word r.Plain w.Otherwise ∷ block handler level depth (line ∷ rest)) refl
       (three true _ _ refl (block_ends handler level depth (line ∷ rest)) (block_apart version handler level depth f.1 (line ∷ rest) a)))
   command_apart version (If place x one other) level depth h rest a =
-      let f = both (is_outermost version x && is_block version one) (is_else version other) h in
-      let g = both (is_outermost version x) (is_block version one) f.0 in
+      let f = and_parts (is_outermost version x && is_block version one) (is_else version other) h in
+      let g = and_parts (is_outermost version x) (is_block version one) f.0 in
       margin_apart version level _
-      (expression_apart version x (inner version x g.0) (sign r.Plain s.CloseParen ∷ block one level depth (else_part other level depth (line ∷ rest))) refl
+      (expression_apart version x (expression_of_outermost version x g.0) (sign r.Plain s.CloseParen ∷ block one level depth (else_part other level depth (line ∷ rest))) refl
       (block_apart version one level depth g.1 (else_part other level depth (line ∷ rest)) (else_apart version other level depth f.1 (line ∷ rest) a)))
   command_apart version (TryThen c place one other) level depth h rest a =
-      let f = both (is_second version && is_simple version c && is_block version one) (is_block version other) h in
-      let g = both (is_second version && is_simple version c) (is_block version one) f.0 in
-      let i = both (is_second version) (is_simple version c) g.0 in
+      let f = and_parts (is_second version && is_simple version c && is_block version one) (is_block version other) h in
+      let g = and_parts (is_second version && is_simple version c) (is_block version one) f.0 in
+      let i = and_parts (is_second version) (is_simple version c) g.0 in
       let last = space ∷ word r.Plain w.Otherwise ∷ block other level depth (line ∷ rest) in
       margin_apart version level _
       (simple_apart version depth c i.1 (space ∷ word r.Plain w.Then ∷ block one level depth last) refl
@@ -300,23 +294,23 @@ mutual
       (block_apart version one level depth g.1 last
       (three true _ _ refl (block_ends other level depth (line ∷ rest)) (block_apart version other level depth f.1 (line ∷ rest) a)))))
   command_apart version (Case place x list) level depth h rest a =
-      let f = both (is_second version && is_outermost version x && has_arm list && nat_le (arm_count list) most_arms) (are_arms version list) h in
-      let g = both (is_second version && is_outermost version x && has_arm list) (nat_le (arm_count list) most_arms) f.0 in
-      let i = both (is_second version && is_outermost version x) (has_arm list) g.0 in
-      let j = both (is_second version) (is_outermost version x) i.0 in
+      let f = and_parts (is_second version && is_outermost version x && has_arm list && nat_le (arm_count list) most_arms) (are_arms version list) h in
+      let g = and_parts (is_second version && is_outermost version x && has_arm list) (nat_le (arm_count list) most_arms) f.0 in
+      let i = and_parts (is_second version && is_outermost version x) (has_arm list) g.0 in
+      let j = and_parts (is_second version) (is_outermost version x) i.0 in
       let foot = margin level (sign r.Plain s.CloseBrace ∷ line ∷ rest) in
       margin_apart version level _
       (three (is_second version) true _ j.0 refl
-      (expression_apart version x (inner version x j.1) (sign r.Plain s.CloseParen ∷ space ∷ sign r.Plain s.OpenBrace ∷ line ∷ arms list (suc level) depth foot) refl
+      (expression_apart version x (expression_of_outermost version x j.1) (sign r.Plain s.CloseParen ∷ space ∷ sign r.Plain s.OpenBrace ∷ line ∷ arms list (suc level) depth foot) refl
       (arms_apart version list (suc level) depth f.1 foot (margin_apart version level _ a))))
 
   arms_apart : (version : Version) (list : Arms) (level depth : ℕ) → are_arms version list ≡ true → (rest : List Piece) → apart version rest ≡ true → apart version (arms list level depth rest) ≡ true
   arms_apart version (Last b) level depth h rest a =
       margin_apart version level _ (three true _ _ refl (block_ends b level depth (line ∷ rest)) (block_apart version b level depth h (line ∷ rest) a))
   arms_apart version (Arm xs b list) level depth h rest a =
-      let f = both (has_constant xs && are_constants xs && is_block version b) (are_arms version list) h in
-      let g = both (has_constant xs && are_constants xs) (is_block version b) f.0 in
-      let i = both (has_constant xs) (are_constants xs) g.0 in
+      let f = and_parts (has_constant xs && are_constants xs && is_block version b) (are_arms version list) h in
+      let g = and_parts (has_constant xs && are_constants xs) (is_block version b) f.0 in
+      let i = and_parts (has_constant xs) (are_constants xs) g.0 in
       let behind = line ∷ arms list level depth rest in
       margin_apart version level _
       (constants_apart version xs i.1 (sign r.Plain s.Colon ∷ block b level depth behind) refl
@@ -339,7 +333,7 @@ mutual
   commands_apart : (version : Version) (cs : CommandList) (level depth : ℕ) → are_commands version cs ≡ true → (rest : List Piece) → apart version rest ≡ true → apart version (commands cs level depth rest) ≡ true
   commands_apart version NoCommand level depth h rest a = a
   commands_apart version (AndCommand c cs) level depth h rest a =
-      let f = both (is_command version c) (are_commands version cs) h in
+      let f = and_parts (is_command version c) (are_commands version cs) h in
       command_apart version c level depth f.0 (commands cs level depth rest) (commands_apart version cs level depth f.1 rest a)
 
 authority_apart : (version : Version) (x : Option Under) → is_authority version x ≡ true → Apart version (authority x)
@@ -353,7 +347,7 @@ authority_ends (Some under) rest e = refl
 kind_apart : (version : Version) (x : KindTree) → is_kind version x ≡ true → Apart version (kind x)
 kind_apart version (how.Dynamic place) h rest e a = three true _ _ refl e a
 kind_apart version (how.Enforced n under) h rest e a =
-    let f = both (is_name version n.name) (is_authority version under) h in
+    let f = and_parts (is_name version n.name) (is_authority version under) h in
     a_name version r.Plain n.name f.0 (authority under rest) (authority_ends under rest e) (authority_apart version under f.1 rest e a)
 
 start_apart : (version : Version) (x : Option Numeral) → is_start x ≡ true → Apart version (start x)
@@ -372,19 +366,19 @@ declared_apart version role x n width known h f rest e a =
 
 declaration_apart : (version : Version) (x : Decl) → is_declaration version x ≡ true → (rest : List Piece) → apart version rest ≡ true → apart version (declaration x rest) ≡ true
 declaration_apart version (d.Input place n width) h rest a =
-    let f = both (is_name version n.name) (is_number width.value) h in
+    let f = and_parts (is_name version n.name) (is_number width.value) h in
     declared_apart version r.Input w.Input n.name width.value refl f.0 f.1 (sign r.Plain s.Semicolon ∷ line ∷ rest) refl a
 declaration_apart version (d.Register place n width x initial) h rest a =
-    let f = both (is_name version n.name && is_number width.value && is_kind version x) (is_start initial) h in
-    let g = both (is_name version n.name && is_number width.value) (is_kind version x) f.0 in
-    let i = both (is_name version n.name) (is_number width.value) g.0 in
+    let f = and_parts (is_name version n.name && is_number width.value && is_kind version x) (is_start initial) h in
+    let g = and_parts (is_name version n.name && is_number width.value) (is_kind version x) f.0 in
+    let i = and_parts (is_name version n.name) (is_number width.value) g.0 in
     let last = sign r.Plain s.Semicolon ∷ line ∷ rest in
     declared_apart version r.Register w.Reg n.name width.value refl i.0 i.1 (space ∷ kind x (start initial last)) refl
     (kind_apart version x g.1 (start initial last) (start_ends initial last refl) (start_apart version initial f.1 last refl a))
 declaration_apart version (d.Memory place n width depth x) h rest a =
-    let f = both (is_name version n.name && is_number width.value && is_number depth.value) (is_kind version x) h in
-    let g = both (is_name version n.name && is_number width.value) (is_number depth.value) f.0 in
-    let i = both (is_name version n.name) (is_number width.value) g.0 in
+    let f = and_parts (is_name version n.name && is_number width.value && is_number depth.value) (is_kind version x) h in
+    let g = and_parts (is_name version n.name && is_number width.value) (is_number depth.value) f.0 in
+    let i = and_parts (is_name version n.name) (is_number width.value) g.0 in
     let last = sign r.Plain s.Semicolon ∷ line ∷ rest in
     declared_apart version r.Memory w.Mem n.name width.value refl i.0 i.1
     (sign r.Plain s.OpenBracket ∷ number r.Plain depth.value ∷ sign r.Plain s.CloseBracket ∷ space ∷ kind x last) refl
@@ -393,7 +387,7 @@ declaration_apart version (d.Memory place n width depth x) h rest a =
 declarations_apart : (version : Version) (xs : List Decl) → list_all (is_declaration version) xs ≡ true → (rest : List Piece) → apart version rest ≡ true → apart version (declarations xs rest) ≡ true
 declarations_apart version [] h rest a = a
 declarations_apart version (x ∷ xs) h rest a =
-    let f = both (is_declaration version x) (list_all (is_declaration version) xs) h in
+    let f = and_parts (is_declaration version x) (list_all (is_declaration version) xs) h in
     declaration_apart version x f.0 (declarations xs rest) (declarations_apart version xs f.1 rest a)
 
 mutual
@@ -402,10 +396,10 @@ mutual
   state_apart : (version : Version) (x : StateTree) (level depth : ℕ) → is_state version x ≡ true → (rest : List Piece) → apart version rest ≡ true → apart version (state x level depth rest) ≡ true
   state_apart version (StateOf place n x (Commands cs after) children) level depth h rest a =
       let inside = Commands cs after in
-      let f = both (is_name version n.name && is_kind version x && is_block version inside && nat_le (block_depth inside) most_blocks) (are_states version children) h in
-      let g = both (is_name version n.name && is_kind version x && is_block version inside) (nat_le (block_depth inside) most_blocks) f.0 in
-      let i = both (is_name version n.name && is_kind version x) (is_block version inside) g.0 in
-      let j = both (is_name version n.name) (is_kind version x) i.0 in
+      let f = and_parts (is_name version n.name && is_kind version x && is_block version inside && nat_le (block_depth inside) most_blocks) (are_states version children) h in
+      let g = and_parts (is_name version n.name && is_kind version x && is_block version inside) (nat_le (block_depth inside) most_blocks) f.0 in
+      let i = and_parts (is_name version n.name && is_kind version x) (is_block version inside) g.0 in
+      let j = and_parts (is_name version n.name) (is_kind version x) i.0 in
       let last = margin level (sign r.Plain s.CloseBrace ∷ line ∷ rest) in
       let below = states children (suc level) (depth + 1) last in
       margin_apart version level _
@@ -416,11 +410,11 @@ mutual
   states_apart : (version : Version) (xs : StateList) (level depth : ℕ) → are_states version xs ≡ true → (rest : List Piece) → apart version rest ≡ true → apart version (states xs level depth rest) ≡ true
   states_apart version NoState level depth h rest a = a
   states_apart version (AndState x xs) level depth h rest a =
-      let f = both (is_state version x) (are_states version xs) h in
+      let f = and_parts (is_state version x) (are_states version xs) h in
       state_apart version x level depth f.0 (states xs level depth rest) (states_apart version xs level depth f.1 rest a)
 
 pub design_apart : (x : DesignTree) → is_tree x ≡ true → apart x.version (parts_of x) ≡ true
 design_apart x h =
-    let f = both (list_all (is_declaration x.version) x.declarations && has_state x.states) (are_states x.version x.states) h in
-    let g = both (list_all (is_declaration x.version) x.declarations) (has_state x.states) f.0 in
+    let f = and_parts (list_all (is_declaration x.version) x.declarations && has_state x.states) (are_states x.version x.states) h in
+    let g = and_parts (list_all (is_declaration x.version) x.declarations) (has_state x.states) f.0 in
     declarations_apart x.version x.declarations g.0 (states x.states 0 1 []) (states_apart x.version x.states 0 1 f.1 [] refl)

@@ -1,9 +1,9 @@
 -- The text of each construct, from left to right.
-use Rattle.std.proofs.Common.{◌≡◌, ℕ, zero, suc, ◌+◌, ◌-◌, ◌<◌, ◌≤◌, List, [], ◌∷◌, ◌++◌, length, get_or, drop, take, refl, sym, ap, ◌∙◌, arith, add-one, append_assoc, Some, None, if◌then◌else◌, Result, Ok, Err, OnOk, true, false, cond, Bool}
+use Rattle.std.proofs.Common.{◌≡◌, ℕ, zero, suc, ◌+◌, ◌-◌, ◌<◌, ◌≤◌, List, [], ◌∷◌, ◌++◌, length, get_or, drop, take, refl, sym, ap, ◌∙◌, arith, add-one, append_assoc, Some, None, Result, Ok, Err, OnOk, true, false, cond, Bool}
 use Rattle.std.proofs.lemmas.Bool.Decides.{nat_tests}
-use Rattle.std.proofs.lemmas.Grind.{common_steps}
-use Rattle.std.proofs.lemmas.Fmt.{decimal_digit, decimal_step}
-use Rattle.std.specs.Prelude.{codes, decimal, nat_lt, is_ok, flat_map, ◌/◌, ◌%◌, ◌^◌}
+use Rattle.std.specs.Prelude.{codes, decimal, nat_lt, flat_map}
+use Rattle.sap_lemmas.proofs.Lists.{after_part, take_rest_of}
+use Rattle.std.proofs.lemmas.List.{append-nil}
 use Rattle.sap_show.specs.Canonical.{unary_text, binary_text, operand_text, bounds_text, expression_text, parts_text, more_parts_text, tag_text, tags_text, more_tags_text, cell_text, simple_text, command_text, arms_text, block_text, else_text, declaration_text, head_text, state_text, version_text, canonical_text}
 use Rattle.sap_show.specs.Lists.{list_arms_text, list_text, group_text}
 use Rattle.sap_tree.specs.Parts.{tree_of}
@@ -27,14 +27,6 @@ use Rattle.sap_tree.specs.declared.version.Version.{Version}
 use Rattle.sap_tree.proofs.Views.{state_of-out}
 
 -- digits
-
-pub one_digit : (out old : List ℕ) (n d : ℕ) → n < 10 → out ≡ old ++ (d ∷ []) → d ≡ 48 + n → out ≡ old ++ decimal n
-one_digit out old n d h e f = e ∙ ap (λ x. old ++ (x ∷ [])) f ∙ ap (λ z. old ++ z) (sym (decimal_digit n h))
-
-pub more_digits : (out mid old : List ℕ) (n d : ℕ) → 10 ≤ n → n < 2 ^ 64 → mid ≡ old ++ decimal (n / 10) → out ≡ mid ++ (d ∷ []) → d ≡ 48 + n % 10 → out ≡ old ++ decimal n
-more_digits out mid old n d h small e f g =
-    f ∙ ap (λ z. z ++ (d ∷ [])) e ∙ append_assoc old (decimal (n / 10)) (d ∷ []) ∙ ap (λ x. old ++ (decimal (n / 10) ++ (x ∷ []))) g
-    ∙ ap (λ z. old ++ z) (sym (decimal_step n h small))
 
 -- operands
 
@@ -124,21 +116,10 @@ pub grow_eight : (old a b c d e f g new p q r s t u v x all : List ℕ) → a �
 grow_eight old a b c d e f g new p q r s t u v x all h i j k l m n o whole =
     grow_four old a b c new p q r (s ++ (t ++ (u ++ (v ++ x)))) all h i j (grow_five c d e f g new s t u v x (s ++ (t ++ (u ++ (v ++ x)))) k l m n o refl) whole
 
-append_none : (l : List ℕ) → l ++ [] ≡ l
-append_none l = grind (arith, common_steps)
-
 pub nothing_more : (old t : List ℕ) → t ≡ [] → old ≡ old ++ t
-nothing_more old t e = sym (append_none old) ∙ ap (λ z. old ++ z) (sym e)
-
--- what is written last
-pub on_last : {E : Type 0} (r : Result (Unit {0}) E) (new a t x : List ℕ) → new ≡ (if is_ok r then a ++ t else a) → a ++ t ≡ x → OnOk r (new ≡ x)
-on_last (Ok u) new a t x e f = e ∙ f
-on_last (Err e) new a t x p f = tt
+nothing_more old t e = sym (append-nil old) ∙ ap (λ z. old ++ z) (sym e)
 
 -- parts, the first of them in front; a pattern's rest is seen as what is left behind the first
-
-rest_of : {A : Type 0} (x : A) (xs : List A) → take (length (x ∷ xs) - 1) (drop 1 (x ∷ xs)) ≡ xs
-rest_of x xs = grind (arith, common_steps)
 
 pub parts_none : (xs : List Expr) → length xs < 1 → parts_text (expressions_of xs) ≡ []
 unfolding expression_text
@@ -155,7 +136,7 @@ pub parts_first : (xs : List Expr) (d : Expr) → 1 ≤ length xs → d ≡ get_
 unfolding expression_text
 parts_first [] d h e = absurd (omega arith)
 parts_first (x ∷ xs) d h e =
-    ap (λ (r : List Expr). expression_text (expression_of x) ++ more_parts_text (expressions_of r)) (sym (rest_of x xs))
+    ap (λ (r : List Expr). expression_text (expression_of x) ++ more_parts_text (expressions_of r)) (sym (take_rest_of x xs))
     ∙ ap (λ (y : Expr). expression_text (expression_of y) ++ more_parts_text (expressions_of (take (length (x ∷ xs) - 1) (drop 1 (x ∷ xs))))) (sym e)
 
 pub more_parts_first : (xs : List Expr) (d : Expr) → 1 ≤ length xs → d ≡ get_or xs 0 d
@@ -163,7 +144,7 @@ pub more_parts_first : (xs : List Expr) (d : Expr) → 1 ≤ length xs → d ≡
 unfolding expression_text
 more_parts_first [] d h e = absurd (omega arith)
 more_parts_first (x ∷ xs) d h e =
-    ap (λ (r : List Expr). codes ", " ++ (expression_text (expression_of x) ++ more_parts_text (expressions_of r))) (sym (rest_of x xs))
+    ap (λ (r : List Expr). codes ", " ++ (expression_text (expression_of x) ++ more_parts_text (expressions_of r))) (sym (take_rest_of x xs))
     ∙ ap (λ (y : Expr). codes ", " ++ (expression_text (expression_of y) ++ more_parts_text (expressions_of (take (length (x ∷ xs) - 1) (drop 1 (x ∷ xs)))))) (sym e)
 
 pub tags_none : (xs : List TagExpr) → length xs < 1 → tags_text (tags_of xs) ≡ []
@@ -181,7 +162,7 @@ pub tags_first : (xs : List TagExpr) (d : TagExpr) → 1 ≤ length xs → d ≡
 unfolding tag_text
 tags_first [] d h e = absurd (omega arith)
 tags_first (x ∷ xs) d h e =
-    ap (λ (r : List TagExpr). tag_text (tag_of x) ++ more_tags_text (tags_of r)) (sym (rest_of x xs))
+    ap (λ (r : List TagExpr). tag_text (tag_of x) ++ more_tags_text (tags_of r)) (sym (take_rest_of x xs))
     ∙ ap (λ (y : TagExpr). tag_text (tag_of y) ++ more_tags_text (tags_of (take (length (x ∷ xs) - 1) (drop 1 (x ∷ xs))))) (sym e)
 
 pub more_tags_first : (xs : List TagExpr) (d : TagExpr) → 1 ≤ length xs → d ≡ get_or xs 0 d
@@ -189,7 +170,7 @@ pub more_tags_first : (xs : List TagExpr) (d : TagExpr) → 1 ≤ length xs → 
 unfolding tag_text
 more_tags_first [] d h e = absurd (omega arith)
 more_tags_first (x ∷ xs) d h e =
-    ap (λ (r : List TagExpr). codes ", " ++ (tag_text (tag_of x) ++ more_tags_text (tags_of r))) (sym (rest_of x xs))
+    ap (λ (r : List TagExpr). codes ", " ++ (tag_text (tag_of x) ++ more_tags_text (tags_of r))) (sym (take_rest_of x xs))
     ∙ ap (λ (y : TagExpr). codes ", " ++ (tag_text (tag_of y) ++ more_tags_text (tags_of (take (length (x ∷ xs) - 1) (drop 1 (x ∷ xs)))))) (sym e)
 
 -- tag expressions
@@ -341,10 +322,6 @@ list_text-past margin [] (suc n) l = refl
 list_text-past margin (c ∷ cs) zero l = absurd (omega arith)
 list_text-past margin (c ∷ cs) (suc n) l = list_text-past margin cs n (omega arith)
 
--- one part, and those behind it
-after_part : (old new part rest all : List ℕ) → new ≡ old ++ part → all ≡ part ++ rest → new ++ rest ≡ old ++ all
-after_part old new part rest all h e = ap (λ l. l ++ rest) h ∙ append_assoc old part rest ∙ ap (λ l. old ++ l) (sym e)
-
 pub commands_step : (margin : List ℕ) (cs : List Cmd) (n : ℕ) (d : Cmd) (old new : List ℕ) → n < length cs → d ≡ get_or cs n d
     → new ≡ old ++ command_text margin (command_of d) → new ++ list_text margin (drop (n + 1) cs) ≡ old ++ list_text margin (drop n cs)
 commands_step margin cs n d old new l e k = after_part old new _ _ _ k (list_text-drop margin cs n d l e)
@@ -376,11 +353,11 @@ arms_step margin arms n d constants old a b c e new l is own h i j k m =
     (i ∙ ap (λ z. a ++ parts_text (expressions_of z)) own) j k (ap (λ z. z ++ rest) m ∙ append_assoc e (codes "\n") rest) (list_arms_text-drop margin arms n d l is)
 
 pub arms_end : (margin : List ℕ) (arms : List Arm) (n : ℕ) (new all : List ℕ) → length arms ≤ n → new ++ list_arms_text margin (drop n arms) ≡ all → new ≡ all
-arms_end margin arms n new all l h = sym (append_none new) ∙ ap (λ r. new ++ r) (sym (list_arms_text-past margin arms n l)) ∙ h
+arms_end margin arms n new all l h = sym (append-nil new) ∙ ap (λ r. new ++ r) (sym (list_arms_text-past margin arms n l)) ∙ h
 
 -- at the end nothing is left
 pub list_end : (margin : List ℕ) (cs : List Cmd) (n : ℕ) (new all : List ℕ) → length cs ≤ n → new ++ list_text margin (drop n cs) ≡ all → new ≡ all
-list_end margin cs n new all l h = sym (append_none new) ∙ ap (λ r. new ++ r) (sym (list_text-past margin cs n l)) ∙ h
+list_end margin cs n new all l h = sym (append-nil new) ∙ ap (λ r. new ++ r) (sym (list_text-past margin cs n l)) ∙ h
 
 -- states
 
@@ -403,7 +380,7 @@ pub states_step : (margin : List ℕ) (ss : List State) (n : ℕ) (d : State) (o
 states_step margin ss n d old new l e k = after_part old new _ _ _ k (group_text-drop margin ss n d l e)
 
 pub group_end : (margin : List ℕ) (ss : List State) (n : ℕ) (new all : List ℕ) → length ss ≤ n → new ++ group_text margin (drop n ss) ≡ all → new ≡ all
-group_end margin ss n new all l h = sym (append_none new) ∙ ap (λ r. new ++ r) (sym (group_text-past margin ss n l)) ∙ h
+group_end margin ss n new all l h = sym (append-nil new) ∙ ap (λ r. new ++ r) (sym (group_text-past margin ss n l)) ∙ h
 
 pub text_state : (margin : List ℕ) (s : State)
     → state_text margin (state_of s)

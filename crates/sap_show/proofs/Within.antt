@@ -2,6 +2,7 @@
 use Rattle.std.proofs.Common.{◌≡◌, ◌≤◌, ◌+◌, ◌-◌, ℕ, List, [], ◌∷◌, length, max, Bool, true, false, cond, refl, ap, ◌∙◌, arith, subst, Some, None}
 use Rattle.std.proofs.lemmas.Bool.Decides.{nat_tests}
 use Rattle.std.specs.Prelude.{nat_lt, nat_le, ◌&&◌, not}
+use Rattle.std.proofs.lemmas.Bool.{and_parts}
 use Rattle.sap_parse.specs.Grammar.{sign_of, unary_sign_of}
 use Rattle.sap_parse.specs.Limits.{Counts, outside, tally, breach_of_name, breach_of_role, above, ◌or_else◌}
 use Rattle.sap_parse.specs.declared.limit.Limit.TheVariants as l
@@ -15,7 +16,6 @@ use Rattle.sap_parse.specs.declared.token.Sign.{Sign}
 use Rattle.sap_parse.specs.declared.token.Token.{Token}
 use Rattle.sap_tree.specs.declared.word.Word.TheVariants as w
 use Rattle.sap_show.proofs.Pieces.{Piece, space, line, token, sign, wrapped, bounds, expression, parts, more_parts}
-use Rattle.sap_show.proofs.ReadBack.{both}
 use Rattle.sap_tree.specs.Extent.{tokens, part_tokens, brackets, part_brackets, parentheses, opened}
 use Rattle.sap_tree.specs.Limits.{most_name_bytes, most_brackets, most_tokens}
 use Rattle.sap_tree.specs.Precedence.{precedence, unary_precedence, slice_precedence, precedence_of}
@@ -63,7 +63,7 @@ not_above most n limit h = let e : nat_lt most n ≡ false = grind (arith, nat_t
 
 pub short_name : (version : Version) (n : List ℕ) → is_name version n ≡ true → breach_of_name (k.Name n) ≡ None
 unfolding is_name
-short_name version n h = not_above most_name_bytes (length n) l.Name (bytes (length n) (both (is_word n && not (is_keyword version n)) (nat_le (length n) most_name_bytes) h).1) where
+short_name version n h = not_above most_name_bytes (length n) l.Name (bytes (length n) (and_parts (is_word n && not (is_keyword version n)) (nat_le (length n) most_name_bytes) h).1) where
   bytes : (m : ℕ) → nat_le m most_name_bytes ≡ true → m ≤ most_name_bytes
   bytes m h = grind (arith, nat_tests)
 
@@ -148,7 +148,7 @@ module _ (c : Counts) where
     expression_counted version (Sized spot width n) d t u b rest e top room h = inner_step t u b (k.Sized width n) rest refl e top h
     expression_counted version (Read spot n) d t u b rest e top room h = inner_step t u b (k.Name n) rest (short_name version n d) e top h
     expression_counted version (Cell spot n i) d t u b rest e top room h =
-        let f = both (is_name version n) (is_expression version i) d in
+        let f = and_parts (is_name version n) (is_expression version i) d in
         let same : u ≡ t + (tokens i + 3) = e in
         let fits : b + (1 + brackets i) ≤ most_brackets = room in (
           inner_free t (k.Name n) (short_name version n f.0) (omega arith),
@@ -163,7 +163,7 @@ module _ (c : Counts) where
         let fits : b + (opened unary_precedence x + brackets x) ≤ most_brackets = room in
         (inner_free t (k.Sign (unary_sign_of o)) refl (omega arith), (wrapped_counted unary_precedence x (λ ps. expression x ps) (expression_counted version x d) (t + 1) u b rest (omega arith) top fits h))
     expression_counted version (Binary spot o x y) d t u b rest e top room h =
-        let f = both (is_expression version x) (is_expression version y) d in
+        let f = and_parts (is_expression version x) (is_expression version y) d in
         let n = parentheses (precedence o) x + tokens x in
         let m = parentheses (precedence o + 1) y + tokens y in
         let same : u ≡ t + (n + 1 + m) = e in
@@ -173,8 +173,8 @@ module _ (c : Counts) where
         (first_le t n m u same top) (left_fits b _ _ fits)
         (inner_free (t + n) (k.Sign (sign_of o)) refl (both_le t n m u same top), (wrapped_counted (precedence o + 1) y (λ ps. expression y ps) (expression_counted version y f.1) (t + n + 1) u b rest (rest_is t n m u same) top (right_fits b _ _ fits) h))
     expression_counted version (Choose spot x y z) d t u b rest e top room h =
-        let f = both (is_expression version x && is_expression version y) (is_expression version z) d in
-        let g = both (is_expression version x) (is_expression version y) f.0 in
+        let f = and_parts (is_expression version x && is_expression version y) (is_expression version z) d in
+        let g = and_parts (is_expression version x) (is_expression version y) f.0 in
         let n = parentheses 1 x + tokens x in
         let same : u ≡ t + (n + 1 + tokens y + 1 + tokens z) = e in
         let fits : b + max (opened 1 x + brackets x) (max (brackets y) (brackets z)) ≤ most_brackets = room in
@@ -188,19 +188,19 @@ module _ (c : Counts) where
           ),
         )
     expression_counted version (Slice spot x high low) d t u b rest e top room h =
-        let f = both (is_expression version x) (is_number high) (both (is_expression version x && is_number high) (is_number low) d).0 in
+        let f = and_parts (is_expression version x) (is_number high) (and_parts (is_expression version x && is_number high) (is_number low) d).0 in
         let n = parentheses slice_precedence x + tokens x in
         let same : u ≡ t + (n + 5) = e in
         let fits : b + max (opened slice_precedence x + brackets x) 1 ≤ most_brackets = room in
         wrapped_counted slice_precedence x (λ ps. expression x ps) (expression_counted version x f.0) t (t + n) b (bounds high low rest) refl (first_of t n 5 u same top) (left_fits b _ _ fits)
         (bounds_counted high low (t + n) u b rest (sum_is t n 5 u same) top (right_fits b _ _ fits) h)
     expression_counted version (Concat spot xs) d t u b rest e top room h =
-        let f = both (has_two_parts xs) (are_expressions version xs) d in
+        let f = and_parts (has_two_parts xs) (are_expressions version xs) d in
         let same : u ≡ t + (1 + part_tokens xs) = e in
         let fits : b + (1 + part_brackets xs) ≤ most_brackets = room in
         (opening_free t b (omega arith) (omega arith), (parts_counted version xs f.0 f.1 (t + 1) u b rest (omega arith) top (omega arith) h))
     expression_counted version (Zext spot x width) d t u b rest e top room h =
-        let f = both (is_expression version x) (is_number width) d in
+        let f = and_parts (is_expression version x) (is_number width) d in
         let same : u ≡ t + (tokens x + 5) = e in
         let fits : b + (1 + brackets x) ≤ most_brackets = room in (
           inner_free t (k.Word w.Zext) refl (omega arith),
@@ -216,7 +216,7 @@ module _ (c : Counts) where
         → b + (1 + part_brackets xs) ≤ most_brackets → Within (at c u b) rest → Within (at c t (b + 1)) (parts xs (sign r.Closing s.CloseBrace ∷ rest))
     parts_counted version NoPart two d t u b rest e top room h = absurd (cc)
     parts_counted version (AndPart x xs) two d t u b rest e top room h =
-        let f = both (is_expression version x) (are_expressions version xs) d in
+        let f = and_parts (is_expression version x) (are_expressions version xs) d in
         let same : u ≡ t + (tokens x + 1 + part_tokens xs) = e in
         let fits : b + (1 + max (brackets x) (part_brackets xs)) ≤ most_brackets = room in
         expression_counted version x f.0 t (t + tokens x) (b + 1) (more_parts xs (sign r.Closing s.CloseBrace ∷ rest)) refl (omega arith) (omega arith)
@@ -226,7 +226,7 @@ module _ (c : Counts) where
         → b + (1 + part_brackets xs) ≤ most_brackets → Within (at c u b) rest → Within (at c t (b + 1)) (more_parts xs (sign r.Closing s.CloseBrace ∷ rest))
     more_parts_counted version NoPart d t u b rest e top room h = closing_step t u b s.CloseBrace rest e top h
     more_parts_counted version (AndPart x xs) d t u b rest e top room h =
-        let f = both (is_expression version x) (are_expressions version xs) d in
+        let f = and_parts (is_expression version x) (are_expressions version xs) d in
         let same : u ≡ t + (1 + (tokens x + 1 + part_tokens xs)) = e in
         let fits : b + (1 + max (brackets x) (part_brackets xs)) ≤ most_brackets = room in (
           inner_free t (k.Sign s.Comma) refl (omega arith),

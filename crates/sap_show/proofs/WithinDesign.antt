@@ -1,9 +1,9 @@
 -- The same of tag expressions, commands, declarations and states.
 use Rattle.std.proofs.Common.{◌≡◌, ◌≤◌, ◌+◌, ℕ, zero, suc, List, [], ◌∷◌, max, Bool, true, cond, refl, ap, ◌∙◌, arith, subst, Option, Some, None}
-use Rattle.std.proofs.lemmas.Bool.Decides.{nat_tests}
 use Rattle.std.proofs.lemmas.List.Sums.{sum_by-cons}
 use Rattle.std.specs.List.{list_all, count_by}
 use Rattle.std.specs.Prelude.{nat_le, ◌&&◌}
+use Rattle.std.proofs.lemmas.Bool.{and_parts, leb-true}
 use Rattle.sap_parse.specs.Limits.{Counts, none_yet, breach_of_name, above, ◌or_else◌}
 use Rattle.sap_parse.specs.declared.limit.Limit.TheVariants as l
 use Rattle.sap_parse.specs.declared.limit.Role.TheVariants as r
@@ -12,7 +12,6 @@ use Rattle.sap_parse.specs.declared.token.Kind.{Kind}
 use Rattle.sap_parse.specs.declared.token.Sign.TheVariants as s
 use Rattle.sap_tree.specs.declared.word.Word.TheVariants as w
 use Rattle.sap_show.proofs.Pieces.{Piece, space, line, token, sign, word, name, number, expression, tag, tags, more_tags, constant, more_constants, constants, simple, margin, command, arms, block, else_part, commands, authority, kind, start, declarations, state, states, header, parts_of, design}
-use Rattle.sap_show.proofs.ReadBack.{both}
 use Rattle.sap_show.proofs.Within.{Within, at, Counted, inner_step, inner_free, opening_free, closing_step, not_above, short_name, expression_counted}
 use Rattle.sap_tree.specs.Extent.{tokens, brackets, tag_tokens, tag_part_tokens, tag_brackets, tag_part_brackets, fits, tag_fits}
 use Rattle.sap_tree.specs.Limits.{most_brackets, most_tokens, most_commands, most_arms, most_blocks, most_states, most_nesting, most_inputs, most_registers, most_memories}
@@ -27,9 +26,6 @@ use Rattle.sap_tree.specs.declared.syntax.Numeral.{Numeral}
 use Rattle.sap_tree.specs.declared.syntax.Under.{Under}
 use Rattle.sap_tree.specs.declared.version.Version.TheVariants.{One, Two}
 use Rattle.sap_tree.specs.declared.version.Version.{Version}
-
-pub from_le : (n m : ℕ) → nat_le n m ≡ true → n ≤ m
-from_le n m h = grind (arith, nat_tests)
 
 -- tag expressions
 module _ (c : Counts) where
@@ -59,7 +55,7 @@ module _ (c : Counts) where
           ),
         )
     tag_counted version (Join place xs) h t u b rest e top room a =
-        let f = both (has_two_tags xs) (are_tags version xs) h in
+        let f = and_parts (has_two_tags xs) (are_tags version xs) h in
         let same : u ≡ t + (2 + tag_part_tokens xs) = e in
         let fits : b + (1 + tag_part_brackets xs) ≤ most_brackets = room in
         (inner_free t (k.Word w.Join) refl (omega arith), (opening_free (t + 1) b (omega arith) (omega arith), (tags_counted version xs f.0 f.1 (t + 1 + 1) u b rest (omega arith) top fits a)))
@@ -68,7 +64,7 @@ module _ (c : Counts) where
         → b + (1 + tag_part_brackets xs) ≤ most_brackets → Within (at c u b) rest → Within (at c t (b + 1)) (tags xs (sign r.Closing s.CloseParen ∷ rest))
     tags_counted version NoTag two h t u b rest e top room a = absurd (cc)
     tags_counted version (AndTag x xs) two h t u b rest e top room a =
-        let f = both (is_tag version x) (are_tags version xs) h in
+        let f = and_parts (is_tag version x) (are_tags version xs) h in
         let same : u ≡ t + (tag_tokens x + 1 + tag_part_tokens xs) = e in
         let fits : b + (1 + max (tag_brackets x) (tag_part_brackets xs)) ≤ most_brackets = room in
         tag_counted version x f.0 t (t + tag_tokens x) (b + 1) (more_tags xs (sign r.Closing s.CloseParen ∷ rest)) refl (omega arith) (omega arith)
@@ -78,7 +74,7 @@ module _ (c : Counts) where
         → b + (1 + tag_part_brackets xs) ≤ most_brackets → Within (at c u b) rest → Within (at c t (b + 1)) (more_tags xs (sign r.Closing s.CloseParen ∷ rest))
     more_tags_counted version NoTag h t u b rest e top room a = closing_step c t u b s.CloseParen rest e top a
     more_tags_counted version (AndTag x xs) h t u b rest e top room a =
-        let f = both (is_tag version x) (are_tags version xs) h in
+        let f = and_parts (is_tag version x) (are_tags version xs) h in
         let same : u ≡ t + (1 + (tag_tokens x + 1 + tag_part_tokens xs)) = e in
         let fits : b + (1 + max (tag_brackets x) (tag_part_brackets xs)) ≤ most_brackets = room in (
           inner_free t (k.Sign s.Comma) refl (omega arith),
@@ -99,9 +95,9 @@ plain c kind ps free h t b = (ap (λ o. o or_else None) free, h)
 -- an expression that stands in no other, in front of a token that stands in none
 outermost : (version : Version) (c : Counts) (x : Expression) (rest : List Piece) → is_outermost version x ≡ true → Always c rest → Within (at c 0 0) (expression x rest)
 outermost version c x rest h a =
-    let f = both (is_expression version x) (fits x) h in
-    let g = both (nat_le (tokens x) most_tokens) (nat_le (brackets x) most_brackets) f.1 in
-    expression_counted c version x f.0 0 (tokens x) 0 rest (zero_more (tokens x)) (from_le (tokens x) most_tokens g.0) (none_open (brackets x) (from_le (brackets x) most_brackets g.1)) (a (tokens x) 0)
+    let f = and_parts (is_expression version x) (fits x) h in
+    let g = and_parts (nat_le (tokens x) most_tokens) (nat_le (brackets x) most_brackets) f.1 in
+    expression_counted c version x f.0 0 (tokens x) 0 rest (zero_more (tokens x)) (leb-true (tokens x) most_tokens g.0) (none_open (brackets x) (leb-true (brackets x) most_brackets g.1)) (a (tokens x) 0)
   where
     zero_more : (n : ℕ) → n ≡ 0 + n
     zero_more n = omega arith
@@ -111,9 +107,9 @@ outermost version c x rest h a =
 
 outermost_tag : (version : Version) (c : Counts) (x : TagExpression) (rest : List Piece) → is_outermost_tag version x ≡ true → Always c rest → Within (at c 0 0) (tag x rest)
 outermost_tag version c x rest h a =
-    let f = both (is_tag version x) (tag_fits x) h in
-    let g = both (nat_le (tag_tokens x) most_tokens) (nat_le (tag_brackets x) most_brackets) f.1 in
-    tag_counted c version x f.0 0 (tag_tokens x) 0 rest (zero_more (tag_tokens x)) (from_le (tag_tokens x) most_tokens g.0) (none_open (tag_brackets x) (from_le (tag_brackets x) most_brackets g.1)) (a (tag_tokens x) 0)
+    let f = and_parts (is_tag version x) (tag_fits x) h in
+    let g = and_parts (nat_le (tag_tokens x) most_tokens) (nat_le (tag_brackets x) most_brackets) f.1 in
+    tag_counted c version x f.0 0 (tag_tokens x) 0 rest (zero_more (tag_tokens x)) (leb-true (tag_tokens x) most_tokens g.0) (none_open (tag_brackets x) (leb-true (tag_brackets x) most_brackets g.1)) (a (tag_tokens x) 0)
   where
     zero_more : (n : ℕ) → n ≡ 0 + n
     zero_more n = omega arith
@@ -144,12 +140,12 @@ simple_within : (version : Version) (depth : ℕ) (x : SimpleCommand) → is_sim
     → Always (with_commands c (c.commands + 1)) rest → Always c (simple depth x rest)
 unfolding is_simple
 simple_within version depth (Assign n x) h c rest m p a =
-    let f = both (is_name version n.name) (is_outermost version x) h in
+    let f = and_parts (is_name version n.name) (is_outermost version x) h in
     let c' : Counts = with_commands c (c.commands + 1) in
     (λ t b. (begins_free c depth (k.Name n.name) (short_name version n.name f.0) m p, (plain_free (k.Sign s.Becomes) refl, (outermost version c' x rest f.1 a))))
 simple_within version depth (Write n i x) h c rest m p a =
-    let f = both (is_name version n.name && is_outermost version i) (is_outermost version x) h in
-    let g = both (is_name version n.name) (is_outermost version i) f.0 in
+    let f = and_parts (is_name version n.name && is_outermost version i) (is_outermost version x) h in
+    let g = and_parts (is_name version n.name) (is_outermost version i) f.0 in
     let c' : Counts = with_commands c (c.commands + 1) in
     (λ t b. (
       begins_free c depth (k.Name n.name) (short_name version n.name g.0) m p,
@@ -161,12 +157,12 @@ simple_within version depth (Write n i x) h c rest m p a =
       ),
     ))
 simple_within version depth (SetTag place n x) h c rest m p a =
-    let f = both (is_name version n.name) (is_outermost_tag version x) h in
+    let f = and_parts (is_name version n.name) (is_outermost_tag version x) h in
     let c' : Counts = with_commands c (c.commands + 1) in
     (λ t b. (begins_free c depth (k.Word w.SetTag) refl m p, (plain_free (k.Sign s.OpenParen) refl, (plain_free (k.Name n.name) (short_name version n.name f.0), (plain_free (k.Sign s.Comma) refl, (outermost_tag version c' x (sign r.Plain s.CloseParen ∷ rest) f.1 (plain c' (k.Sign s.CloseParen) rest refl (a 0 0))))))))
 simple_within version depth (SetCellTag place n i x) h c rest m p a =
-    let f = both (is_name version n.name && is_outermost version i) (is_outermost_tag version x) h in
-    let g = both (is_name version n.name) (is_outermost version i) f.0 in
+    let f = and_parts (is_name version n.name && is_outermost version i) (is_outermost_tag version x) h in
+    let g = and_parts (is_name version n.name) (is_outermost version i) f.0 in
     let c' : Counts = with_commands c (c.commands + 1) in
     (λ t b. (
       begins_free c depth (k.Word w.SetTag) refl m p,
@@ -206,14 +202,14 @@ constant_within c (Zext spot x width) h rest a t b = absurd (cc)
 more_constants_within : (c : Counts) (xs : Expressions) → are_constants xs ≡ true → (rest : List Piece) → Within (at c 0 0) rest → Within (at c 0 0) (more_constants xs rest)
 more_constants_within c NoPart h rest a = a
 more_constants_within c (AndPart x xs) h rest a =
-    let f = both (is_constant x) (are_constants xs) h in
+    let f = and_parts (is_constant x) (are_constants xs) h in
     (plain_free (k.Sign s.Comma) refl, constant_within c x f.0 (more_constants xs rest) (more_constants_within c xs f.1 rest a) 0 0)
 
 -- behind whatever is counted before
 constants_within : (c : Counts) (xs : Expressions) → has_constant xs ≡ true → are_constants xs ≡ true → (rest : List Piece) → Within (at c 0 0) rest → Always c (constants xs rest)
 constants_within c NoPart some h rest a t b = absurd (cc)
 constants_within c (AndPart x xs) some h rest a t b =
-    let f = both (is_constant x) (are_constants xs) h in
+    let f = and_parts (is_constant x) (are_constants xs) h in
     constant_within c x f.0 (more_constants xs rest) (more_constants_within c xs f.1 rest a) t b
 
 margin_within : (level : ℕ) (c : Counts) (rest : List Piece) → Within c rest → Within c (margin level rest)
@@ -230,7 +226,7 @@ mutual
       (simple_within version depth x h (with_commands c n) (sign r.Plain s.Semicolon ∷ line ∷ rest) (omega arith) (omega arith)
       (plain (with_commands c (n + 1)) (k.Sign s.Semicolon) (line ∷ rest) refl (subst (λ i. Within (at (with_commands c i) 0 0) rest) e (a 0 0))) t b)
   command_within version (Try x place handler) level depth h c n m rest e top deep a t b =
-      let f = both (is_simple version x) (is_block version handler) h in
+      let f = and_parts (is_simple version x) (is_block version handler) h in
       let same : m ≡ n + (1 + block_count handler) = e in
       let fits : depth + (1 + block_depth handler) ≤ most_blocks + 1 = deep in
       margin_within level _ _
@@ -238,8 +234,8 @@ mutual
       (plain (with_commands c (n + 1)) (k.Word w.Otherwise) (block handler level depth (line ∷ rest)) refl
       (block_within version handler level depth f.1 c (n + 1) m (line ∷ rest) (omega arith) top (omega arith) a 0 0)) t b)
   command_within version (If place x one other) level depth h c n m rest e top deep a t b =
-      let f = both (is_outermost version x && is_block version one) (is_else version other) h in
-      let g = both (is_outermost version x) (is_block version one) f.0 in
+      let f = and_parts (is_outermost version x && is_block version one) (is_else version other) h in
+      let g = and_parts (is_outermost version x) (is_block version one) f.0 in
       let same : m ≡ n + (1 + block_count one + else_count other) = e in
       let fits : depth + (1 + max (block_depth one) (else_depth other)) ≤ most_blocks + 1 = deep in
       let c' : Counts = with_commands c (n + 1) in
@@ -255,9 +251,9 @@ mutual
         ),
       )
   command_within version (TryThen x place one other) level depth h c n m rest e top deep a t b =
-      let f = both (is_second version && is_simple version x && is_block version one) (is_block version other) h in
-      let g = both (is_second version && is_simple version x) (is_block version one) f.0 in
-      let i = both (is_second version) (is_simple version x) g.0 in
+      let f = and_parts (is_second version && is_simple version x && is_block version one) (is_block version other) h in
+      let g = and_parts (is_second version && is_simple version x) (is_block version one) f.0 in
+      let i = and_parts (is_second version) (is_simple version x) g.0 in
       let same : m ≡ n + (1 + block_count one + block_count other) = e in
       let fits : depth + (1 + max (block_depth one) (block_depth other)) ≤ most_blocks + 1 = deep in
       let c' : Counts = with_commands c (n + 1 + block_count one) in
@@ -269,10 +265,10 @@ mutual
       (plain c' (k.Word w.Otherwise) (block other level depth (line ∷ rest)) refl
       (block_within version other level depth f.1 c (n + 1 + block_count one) m (line ∷ rest) (omega arith) top (omega arith) a 0 0)) 0 0)) t b)
   command_within version (Case place x list) level depth h c n m rest e top deep a t b =
-      let f = both (is_second version && is_outermost version x && has_arm list && nat_le (arm_count list) most_arms) (are_arms version list) h in
-      let g = both (is_second version && is_outermost version x && has_arm list) (nat_le (arm_count list) most_arms) f.0 in
-      let i = both (is_second version && is_outermost version x) (has_arm list) g.0 in
-      let j = both (is_second version) (is_outermost version x) i.0 in
+      let f = and_parts (is_second version && is_outermost version x && has_arm list && nat_le (arm_count list) most_arms) (are_arms version list) h in
+      let g = and_parts (is_second version && is_outermost version x && has_arm list) (nat_le (arm_count list) most_arms) f.0 in
+      let i = and_parts (is_second version && is_outermost version x) (has_arm list) g.0 in
+      let j = and_parts (is_second version) (is_outermost version x) i.0 in
       let same : m ≡ n + (1 + arms_count list) = e in
       let fits : depth + (1 + arms_depth list) ≤ most_blocks + 1 = deep in
       let c' : Counts = with_commands c (n + 1) in
@@ -296,9 +292,9 @@ mutual
       margin_within level _ _
       (plain (with_commands c n) (k.Word w.Else) (block b level depth (line ∷ rest)) refl (block_within version b level depth h c n m (line ∷ rest) e top deep a 0 0) t u)
   arms_within version (Arm xs b list) level depth h c n m rest e top deep a t u =
-      let f = both (has_constant xs && are_constants xs && is_block version b) (are_arms version list) h in
-      let g = both (has_constant xs && are_constants xs) (is_block version b) f.0 in
-      let i = both (has_constant xs) (are_constants xs) g.0 in
+      let f = and_parts (has_constant xs && are_constants xs && is_block version b) (are_arms version list) h in
+      let g = and_parts (has_constant xs && are_constants xs) (is_block version b) f.0 in
+      let i = and_parts (has_constant xs) (are_constants xs) g.0 in
       let same : m ≡ n + (block_count b + arms_count list) = e in
       let fits : depth + 1 + max (block_depth b) (arms_depth list) ≤ most_blocks + 1 = deep in
       let behind = line ∷ arms list level depth rest in
@@ -329,7 +325,7 @@ mutual
   commands_within version NoCommand level depth h c n m rest e top deep a =
       let same : m ≡ n = omega arith in subst (λ i. Always (with_commands c i) rest) same a
   commands_within version (AndCommand x cs) level depth h c n m rest e top deep a =
-      let f = both (is_command version x) (are_commands version cs) h in
+      let f = and_parts (is_command version x) (are_commands version cs) h in
       let same : m ≡ n + (command_count x + list_count cs) = e in
       let fits : depth + max (command_depth x) (list_depth cs) ≤ most_blocks + 1 = deep in
       command_within version x level depth f.0 c n (n + command_count x) (commands cs level depth rest) refl (omega arith) (omega arith)
@@ -344,7 +340,7 @@ authority_within version (Some under) h c rest a = (plain_free (k.Word w.Under) 
 kind_within : (version : Version) (x : KindTree) → is_kind version x ≡ true → (c : Counts) (rest : List Piece) → Within (at c 0 0) rest → Within (at c 0 0) (kind x rest)
 kind_within version (how.Dynamic place) h c rest a = plain c (k.Word w.Dynamic) rest refl a 0 0
 kind_within version (how.Enforced n under) h c rest a =
-    let f = both (is_name version n.name) (is_authority version under) h in
+    let f = and_parts (is_name version n.name) (is_authority version under) h in
     (plain_free (k.Word w.Enforced) refl, (plain_free (k.Name n.name) (short_name version n.name f.0), (authority_within version under f.1 c rest a)))
 
 start_within : (x : Option Numeral) (c : Counts) (rest : List Piece) → Within (at c 0 0) rest → Within (at c 0 0) (start x rest)
@@ -378,8 +374,8 @@ declarations_within version [] h c rest i n m e f g p q o a =
     subst (λ v. Within (at (with_declared c c.inputs c.registers v) 0 0) rest) z
     (subst (λ v. Within (at (with_declared c c.inputs v m) 0 0) rest) y (subst (λ v. Within (at (with_declared c v n m) 0 0) rest) x a))
 declarations_within version (d.Input place x width ∷ xs) h c rest i n m e f g p q o a =
-    let u = both (is_name version x.name && is_number width.value) (list_all (is_declaration version) xs) h in
-    let v = both (is_name version x.name) (is_number width.value) u.0 in
+    let u = and_parts (is_name version x.name && is_number width.value) (list_all (is_declaration version) xs) h in
+    let v = and_parts (is_name version x.name) (is_number width.value) u.0 in
     let c' : Counts = with_declared c (c.inputs + 1) c.registers c.memories in
     let all_inputs : i ≡ c.inputs + (1 + count_by is_input xs) = one_counted is_input (d.Input place x width) xs c.inputs i 1 refl e in
     let all_registers : n ≡ c.registers + (0 + count_by is_register xs) = one_counted is_register (d.Input place x width) xs c.registers n 0 refl f in
@@ -392,9 +388,9 @@ declarations_within version (d.Input place x width ∷ xs) h c rest i n m e f g 
           (plain_free (k.Sign s.Semicolon) refl, (declarations_within version xs u.1 c' rest i n m inputs_left registers_left memories_left p q o a)),
     )
 declarations_within version (d.Register place x width y initial ∷ xs) h c rest i n m e f g p q o a =
-    let u = both (is_name version x.name && is_number width.value && is_kind version y && is_start initial) (list_all (is_declaration version) xs) h in
-    let v = both (is_name version x.name && is_number width.value) (is_kind version y) (both (is_name version x.name && is_number width.value && is_kind version y) (is_start initial) u.0).0 in
-    let z = both (is_name version x.name) (is_number width.value) v.0 in
+    let u = and_parts (is_name version x.name && is_number width.value && is_kind version y && is_start initial) (list_all (is_declaration version) xs) h in
+    let v = and_parts (is_name version x.name && is_number width.value) (is_kind version y) (and_parts (is_name version x.name && is_number width.value && is_kind version y) (is_start initial) u.0).0 in
+    let z = and_parts (is_name version x.name) (is_number width.value) v.0 in
     let c' : Counts = with_declared c c.inputs (c.registers + 1) c.memories in
     let all_inputs : i ≡ c.inputs + (0 + count_by is_input xs) = one_counted is_input (d.Register place x width y initial) xs c.inputs i 0 refl e in
     let all_registers : n ≡ c.registers + (1 + count_by is_register xs) = one_counted is_register (d.Register place x width y initial) xs c.registers n 1 refl f in
@@ -408,9 +404,9 @@ declarations_within version (d.Register place x width y initial ∷ xs) h c rest
           (kind_within version y v.1 c' (start initial last) (start_within initial c' last (plain_free (k.Sign s.Semicolon) refl, (declarations_within version xs u.1 c' rest i n m inputs_left registers_left memories_left p q o a)))),
     )
 declarations_within version (d.Memory place x width depth y ∷ xs) h c rest i n m e f g p q o a =
-    let u = both (is_name version x.name && is_number width.value && is_number depth.value && is_kind version y) (list_all (is_declaration version) xs) h in
-    let v = both (is_name version x.name && is_number width.value && is_number depth.value) (is_kind version y) u.0 in
-    let z = both (is_name version x.name) (is_number width.value) (both (is_name version x.name && is_number width.value) (is_number depth.value) v.0).0 in
+    let u = and_parts (is_name version x.name && is_number width.value && is_number depth.value && is_kind version y) (list_all (is_declaration version) xs) h in
+    let v = and_parts (is_name version x.name && is_number width.value && is_number depth.value) (is_kind version y) u.0 in
+    let z = and_parts (is_name version x.name) (is_number width.value) (and_parts (is_name version x.name && is_number width.value) (is_number depth.value) v.0).0 in
     let c' : Counts = with_declared c c.inputs c.registers (c.memories + 1) in
     let all_inputs : i ≡ c.inputs + (0 + count_by is_input xs) = one_counted is_input (d.Memory place x width depth y) xs c.inputs i 0 refl e in
     let all_registers : n ≡ c.registers + (0 + count_by is_register xs) = one_counted is_register (d.Memory place x width depth y) xs c.registers n 0 refl f in
@@ -441,14 +437,14 @@ mutual
       → Always (with_states c j m) rest → Always (with_states c i n) (state x level depth rest)
   state_within version (StateOf place name x (Commands cs behind) children) level depth h c i j n m rest e top f much deep a t b =
       let inside = Commands cs behind in
-      let u = both (is_name version name.name && is_kind version x && is_block version inside && nat_le (block_depth inside) most_blocks) (are_states version children) h in
-      let v = both (is_name version name.name && is_kind version x && is_block version inside) (nat_le (block_depth inside) most_blocks) u.0 in
-      let y = both (is_name version name.name && is_kind version x) (is_block version inside) v.0 in
-      let z = both (is_name version name.name) (is_kind version x) y.0 in
+      let u = and_parts (is_name version name.name && is_kind version x && is_block version inside && nat_le (block_depth inside) most_blocks) (are_states version children) h in
+      let v = and_parts (is_name version name.name && is_kind version x && is_block version inside) (nat_le (block_depth inside) most_blocks) u.0 in
+      let y = and_parts (is_name version name.name && is_kind version x) (is_block version inside) v.0 in
+      let z = and_parts (is_name version name.name) (is_kind version x) y.0 in
       let states_are : j ≡ i + (1 + states_count children) = e in
       let commands_are : m ≡ n + (list_count cs + states_commands children) = f in
       let fits : depth + (1 + states_depth children) ≤ most_nesting + 1 = deep in
-      let short : list_depth cs ≤ most_blocks = from_le (list_depth cs) most_blocks v.1 in
+      let short : list_depth cs ≤ most_blocks = leb-true (list_depth cs) most_blocks v.1 in
       let last = margin level (sign r.Plain s.CloseBrace ∷ line ∷ rest) in
       let below = states children (suc level) (depth + 1) last in
       let c' : Counts = with_states c (i + 1) n in
@@ -473,7 +469,7 @@ mutual
       let y : m ≡ n = omega arith in
       subst (λ v. Always (with_states c i v) rest) y (subst (λ v. Always (with_states c v m) rest) x a)
   states_within version (AndState x xs) level depth h c i j n m rest e top f much deep a =
-      let g = both (is_state version x) (are_states version xs) h in
+      let g = and_parts (is_state version x) (are_states version xs) h in
       let states_are : j ≡ i + (state_count x + states_count xs) = e in
       let commands_are : m ≡ n + (state_commands x + states_commands xs) = f in
       let fits : depth + max (state_depth x) (states_depth xs) ≤ most_nesting + 1 = deep in
@@ -487,29 +483,29 @@ header_within Two rest a = (plain_free (k.Word w.Sapper) refl, (plain_free (k.Wo
 pub design_within : (x : DesignTree) → is_whole x ≡ true → Within none_yet (design x)
 unfolding is_whole
 design_within x h =
-    let f = both (is_tree x) (is_within_limits x) h in
-    let g = both (list_all (is_declaration x.version) x.declarations && has_state x.states) (are_states x.version x.states) f.0 in
-    let g' = both (list_all (is_declaration x.version) x.declarations) (has_state x.states) g.0 in
+    let f = and_parts (is_tree x) (is_within_limits x) h in
+    let g = and_parts (list_all (is_declaration x.version) x.declarations && has_state x.states) (are_states x.version x.states) f.0 in
+    let g' = and_parts (list_all (is_declaration x.version) x.declarations) (has_state x.states) g.0 in
     let in1 = nat_le (count_by is_input x.declarations) most_inputs in
     let in2 = nat_le (count_by is_register x.declarations) most_registers in
     let in3 = nat_le (count_by is_memory x.declarations) most_memories in
     let in4 = nat_le (states_count x.states) most_states in
     let in5 = nat_le (states_depth x.states) most_nesting in
     let in6 = nat_le (states_commands x.states) most_commands in
-    let l1 = both (in1 && in2 && in3 && in4 && in5) in6 f.1 in
-    let l2 = both (in1 && in2 && in3 && in4) in5 l1.0 in
-    let l3 = both (in1 && in2 && in3) in4 l2.0 in
-    let l4 = both (in1 && in2) in3 l3.0 in
-    let l5 = both in1 in2 l4.0 in
+    let l1 = and_parts (in1 && in2 && in3 && in4 && in5) in6 f.1 in
+    let l2 = and_parts (in1 && in2 && in3 && in4) in5 l1.0 in
+    let l3 = and_parts (in1 && in2 && in3) in4 l2.0 in
+    let l4 = and_parts (in1 && in2) in3 l3.0 in
+    let l5 = and_parts in1 in2 l4.0 in
     let i = count_by is_input x.declarations in
     let n = count_by is_register x.declarations in
     let m = count_by is_memory x.declarations in
     header_within x.version (parts_of x)
     (declarations_within x.version x.declarations g'.0 none_yet (states x.states 0 1 []) i n m (zero_more i) (zero_more n) (zero_more m)
-    (from_le i most_inputs l5.0) (from_le n most_registers l5.1) (from_le m most_memories l4.1)
+    (leb-true i most_inputs l5.0) (leb-true n most_registers l5.1) (leb-true m most_memories l4.1)
     (states_within x.version x.states 0 1 g.1 (with_declared none_yet i n m) 0 (states_count x.states) 0 (states_commands x.states) [] (zero_more (states_count x.states))
-    (from_le (states_count x.states) most_states l3.1) (zero_more (states_commands x.states)) (from_le (states_commands x.states) most_commands l1.1)
-    (one_more (states_depth x.states) (from_le (states_depth x.states) most_nesting l2.1)) (λ t b. tt) 0 0))
+    (leb-true (states_count x.states) most_states l3.1) (zero_more (states_commands x.states)) (leb-true (states_commands x.states) most_commands l1.1)
+    (one_more (states_depth x.states) (leb-true (states_depth x.states) most_nesting l2.1)) (λ t b. tt) 0 0))
   where
     zero_more : (n : ℕ) → n ≡ 0 + n
     zero_more n = omega arith

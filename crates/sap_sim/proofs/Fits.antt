@@ -1,14 +1,18 @@
 -- The numbers of a line that fits its fields fit the inputs.
-use Rattle.std.proofs.Common.{◌≡◌, ℕ, suc, ◌^◌, ◌<◌, List, [], ◌∷◌, ◌++◌, Bool, true, Some, None, length, get_or, map, sym, ap, ◌∙◌, subst, refl, bytes_eq, inl, inr}
+use Rattle.std.proofs.Common.{◌≡◌, ℕ, ◌^◌, ◌<◌, List, [], ◌∷◌, ◌++◌, Bool, true, Some, None, length, get_or, map, sym, ◌∙◌, subst, refl, bytes_eq, inl, inr}
 use Rattle.std.specs.Prelude.{filter, All, not, ◌==◌}
 use Rattle.std.specs.List.{AllByRecursion}
 use Rattle.std.proofs.lemmas.Bool.{cases_Bool, false≢true}
 use Rattle.std.proofs.lemmas.Bool.Decides.{Decides-eqb}
+use Rattle.sap_lemmas.proofs.Bools.{and_left}
+use Rattle.sap_lemmas.proofs.Options.{some_same}
+use Rattle.sap_lemmas.proofs.Texts.{bytes_eq_apart_back, equal_of_bytes_eq}
+use Rattle.sap_stim.proofs.FitsLemmas.{line_count}
 use Rattle.sap_lattice.specs.Levels.{Levels, order_of}
 use Rattle.sap_lattice.specs.Codes.{Codes, code_of}
 use Rattle.sap_maps.specs.Maps.{Name}
 use Rattle.sap_maps.specs.Scope.{Scope, find}
-use Rattle.sap_maps.proofs.Scopes.{name_is, apart_back, not_first, not_behind}
+use Rattle.sap_maps.proofs.Scopes.{not_first, not_behind}
 use Rattle.sap_meaning.specs.Cycle.{Tagged as Given}
 use Rattle.sap_net.specs.declared.parts.Input.{Input}
 use Rattle.sap_net.specs.Names.{is_among}
@@ -22,12 +26,12 @@ use Rattle.sap_stim.specs.Line.{IsSized, field_width}
 use Rattle.sap_stim.specs.Fits.{LineFits, StreamFits}
 use Rattle.sap_sim.specs.Fields.{tag_width, input_widths, is_tagged, is_tag, with_field, field_of, fields_of}
 use Rattle.sap_sim.specs.Numbers.{place, nothing, field_names, given, value_for, number_for, numbers_of}
-use Rattle.sap_sim.proofs.Registers.{and_left, each}
+use Rattle.sap_sim.proofs.Registers.{each}
 use Rattle.sap_sim.proofs.Origins.{names_of, among_filter}
 
 front_none : (es sd : Scope) (x : Name) → find (es ++ sd) x ≡ None → find es x ≡ None
 front_none [] sd x h = refl
-front_none (e ∷ es) sd x h = rw (apart_back x e.0 (not_first e (es ++ sd) x h)) (front_none es sd x (not_behind e (es ++ sd) x h))
+front_none (e ∷ es) sd x h = rw (bytes_eq_apart_back x e.0 (not_first e (es ++ sd) x h)) (front_none es sd x (not_behind e (es ++ sd) x h))
 
 pub fresh_inputs : (ms : Shapes) (is : List Input) (sd : Scope) → AreValues ms (input_widths is ++ sd) → AreFresh (λ i. i.name) (λ i. i.width) is
 fresh_inputs ms [] sd rules = tt
@@ -57,9 +61,6 @@ pub fields_sized : (tag : ℕ) (n : Net) → IsNetlist n → All IsSized (map (f
 fields_sized tag n net =
     each IsSized _ (all_sized tag n.inputs (with_field tag n.inputs) (all_filtered (λ (i : Input). IsWidth i.width) (λ i. not (is_tag tag n.inputs i)) n.inputs (input_sizes (shapes n) n.inputs _ net.values)))
 
-some_same : (a b : ℕ) → Some a ≡ Some b → a ≡ b
-some_same a b h = cc
-
 -- the value in the field of a name fits the width found by the name
 own_fits : (ls : Levels) (tag : ℕ) (is : List Input) (sc : Scope) (fs : List Input) → AllByRecursion (λ j. find sc j.name ≡ Some j.width) fs → (xs : List Given) → LineFits ls (map (field_of tag is) fs) xs
     → (x : Name) (w : ℕ) → is_among x (names_of fs) ≡ true → find sc x ≡ Some w → (get_or xs (place (names_of fs) x) nothing).number < 2 ^ w
@@ -68,12 +69,12 @@ own_fits ls tag is sc (m ∷ fs) all [] fits x w h e = absurd fits
 own_fits ls tag is sc (m ∷ fs) all (y ∷ ys) fits x w h e =
     elim (cases_Bool (bytes_eq m.name x)) [
       | inl t ↦ (
-          let i : find sc x ≡ Some m.width = subst (λ (z : Name). find sc z ≡ Some m.width) (name_is m.name x t) all.0 in
+          let i : find sc x ≡ Some m.width = subst (λ (z : Name). find sc z ≡ Some m.width) (equal_of_bytes_eq m.name x t) all.0 in
           let j : w ≡ m.width = some_same w m.width (sym e ∙ i) in
           let k : y.number < 2 ^ m.width = subst (λ (u : ℕ). y.number < 2 ^ u) (field_width_is tag is m) fits.0.value in
           rw t (subst (λ (u : ℕ). y.number < 2 ^ u) (sym j) k)
           )
-      | inr f ↦ rw f (own_fits ls tag is sc fs all.1 ys fits.1 x w (rw (apart_back m.name x f) at h) e)
+      | inr f ↦ rw f (own_fits ls tag is sc fs all.1 ys fits.1 x w (rw (bytes_eq_apart_back m.name x f) at h) e)
     ]
 
 number_fits : (ls : Levels) → Codes (order_of ls) → (is : List Input) → AllByRecursion (λ j. find (input_widths is) j.name ≡ Some j.width) is → (xs : List Given)
@@ -106,12 +107,6 @@ line_fits ls codes n net xs fits =
 pub stream_fits : (ls : Levels) → Codes (order_of ls) → (n : Net) → IsNetlist n → (stream : List (List Given)) → StreamFits ls (fields_of ls n) stream → AllFit n.inputs (map (numbers_of ls n) stream)
 stream_fits ls codes n net [] fits = tt
 stream_fits ls codes n net (xs ∷ stream) fits = (line_fits ls codes n net xs fits.0, stream_fits ls codes n net stream fits.1)
-
-pub line_count : (ls : Levels) (fs : List Field) (xs : List Given) → LineFits ls fs xs → length xs ≡ length fs
-line_count ls [] [] fits = refl
-line_count ls [] (x ∷ xs) fits = absurd fits
-line_count ls (f ∷ fs) [] fits = absurd fits
-line_count ls (f ∷ fs) (x ∷ xs) fits = ap suc (line_count ls fs xs fits.1)
 
 stream_counts : (ls : Levels) (fs : List Field) (stream : List (List Given)) → StreamFits ls fs stream → AllByRecursion (λ xs. length xs ≡ length fs) stream
 stream_counts ls fs [] fits = tt

@@ -1,7 +1,7 @@
 -- Lists, an element at a time.
 use Rattle.std.proofs.Common.{◌≡◌, ℕ, ◌+◌, ◌<◌, List, [], ◌∷◌, ◌++◌, Bool, true, false, length, get_or, take, set, map, sym, ap, ap₂, ◌∙◌, refl}
 use Rattle.std.specs.Prelude.{filter}
-use Rattle.std.proofs.lemmas.List.{take_more, take_more_set, map-append}
+use Rattle.std.proofs.lemmas.List.{take_more, take_more_set, map-append, append-nil}
 use Rattle.std.proofs.lemmas.List.Elements.{filter-append}
 
 -- one element more
@@ -17,10 +17,6 @@ passed {X} p x h = rw h refl
 pub dropped : {X : Type 0} (p : X → Bool) (x : X) → p x ≡ false → filter p (x ∷ []) ≡ []
 dropped {X} p x h = rw h refl
 
-append_nil : {X : Type 0} (xs : List X) → xs ++ [] ≡ xs
-append_nil [] = refl
-append_nil (x ∷ xs) = ap (λ ys. x ∷ ys) (append_nil xs)
-
 pub filtered_more : {X Y : Type 0} (p : X → Bool) (f : X → Y) (xs : List X) (k : ℕ) (x : X) → k < length xs → x ≡ get_or xs k x → p x ≡ true
     → map f (filter p (take (k + 1) xs)) ≡ map f (filter p (take k xs)) ++ f x ∷ []
 filtered_more {X} {Y} p f xs k x h e t =
@@ -31,7 +27,7 @@ pub filtered_same : {X Y : Type 0} (p : X → Bool) (f : X → Y) (xs : List X) 
     → map f (filter p (take (k + 1) xs)) ≡ map f (filter p (take k xs))
 filtered_same {X} {Y} p f xs k x h e t =
     ap (λ (ys : List X). map f (filter p ys)) (taken xs k x h e)
-    ∙ ap (map f) (filter-append p (take k xs) (x ∷ []) ∙ ap (λ (ys : List X). filter p (take k xs) ++ ys) (dropped p x t) ∙ append_nil (filter p (take k xs)))
+    ∙ ap (map f) (filter-append p (take k xs) (x ∷ []) ∙ ap (λ (ys : List X). filter p (take k xs) ++ ys) (dropped p x t) ∙ append-nil (filter p (take k xs)))
 
 -- one element more is written over a list
 pub written_more : {X Y : Type 0} (f : X → Y) (xs : List X) (ys : List Y) (k : ℕ) (d : X) (y : Y) → k < length xs → k < length ys → y ≡ f (get_or xs k d) → take k ys ≡ map f (take k xs)

@@ -2,15 +2,15 @@
 use Rattle.std.proofs.Common.{◌≡◌, ℕ, suc, ◌+◌, List, [], ◌∷◌, true, length, sym, ap, ◌∙◌, refl, arith, bytes_eq, inl, inr}
 use Rattle.std.specs.Prelude.{unwrap_or, is_some}
 use Rattle.std.proofs.lemmas.Bool.{cases_Bool}
+use Rattle.sap_lemmas.proofs.Texts.{bytes_eq_apart_back, bytes_eq_same, equal_of_bytes_eq}
 use Rattle.sap_maps.specs.Maps.{Name}
 use Rattle.sap_maps.specs.Scope.{find}
-use Rattle.sap_maps.proofs.Scopes.{name_is, same_name, apart_back}
 use Rattle.sap_net.specs.Names.{is_among}
 use Rattle.sap_sim.specs.Lookup.{places_from}
 use Rattle.sap_sim.specs.Numbers.{place}
 
 pub same_back : (m n : Name) → bytes_eq m n ≡ true → bytes_eq n m ≡ true
-same_back m n h = ap (λ (x : Name). bytes_eq x m) (sym (name_is m n h)) ∙ same_name m
+same_back m n h = ap (λ (x : Name). bytes_eq x m) (sym (equal_of_bytes_eq m n h)) ∙ bytes_eq_same m
 
 pub place_found : (ns : List Name) (k : ℕ) (n : Name) → unwrap_or (find (places_from k ns) n) (k + length ns) ≡ k + place ns n
 place_found [] k n = refl
@@ -29,5 +29,5 @@ found_among [] k x = refl
 found_among (m ∷ ns) k x =
     elim (cases_Bool (bytes_eq m x)) [
       | inl t ↦ rw (t, same_back m x t) refl
-      | inr f ↦ rw (f, apart_back m x f) (found_among ns (k + 1) x)
+      | inr f ↦ rw (f, bytes_eq_apart_back m x f) (found_among ns (k + 1) x)
     ]

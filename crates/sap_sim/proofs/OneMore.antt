@@ -1,6 +1,7 @@
 -- A run with a cycle more.
 use Rattle.std.proofs.Common.{◌≡◌, ℕ, ◌+◌, List, [], ◌∷◌, ◌++◌, Option, Some, length, refl, ap, ◌∙◌, arith}
 use Rattle.std.specs.List.{last_or}
+use Rattle.sap_lemmas.proofs.Lists.{append_three}
 use Rattle.sap_lattice.specs.Levels.{Levels}
 use Rattle.sap_maps.specs.Maps.{Name, Valuation}
 use Rattle.sap_net.specs.Net.{Net}
@@ -55,10 +56,6 @@ run_front n b (xs ∷ xss) yss (v ∷ vs) h =
 pub no_run : (n : Net) (b : Option Valuation) (run : List Valuation) → IsRunAfter n b [] run → run ≡ []
 no_run n b [] h = refl
 no_run n b (v ∷ vs) h = absurd h
-
-append_three : (xs ys zs : List ℕ) → xs ++ (ys ++ zs) ≡ (xs ++ ys) ++ zs
-append_three [] ys zs = refl
-append_three (x ∷ xs) ys zs = ap (λ ws. x ∷ ws) (append_three xs ys zs)
 
 -- the rows of two runs, one behind the other
 pub rows_split : (ls : Levels) (xs : List Name) (c : ℕ) (vs ws : List Valuation) → rows_from ls xs c (vs ++ ws) ≡ rows_from ls xs c vs ++ rows_from ls xs (c + length vs) ws

@@ -1,13 +1,14 @@
 -- Where the numbers of inputs come from.
-use Rattle.std.proofs.Common.{◌≡◌, ℕ, ◌<◌, List, [], ◌∷◌, Bool, true, false, ◌&&◌, Option, Some, None, length, map, ap, ◌∙◌, refl, arith, bytes_eq, inl, inr}
+use Rattle.std.proofs.Common.{◌≡◌, ℕ, ◌<◌, List, [], ◌∷◌, Bool, true, Option, Some, None, length, map, ap, ◌∙◌, refl, arith, bytes_eq, inl, inr}
 use Rattle.std.specs.Prelude.{filter, All, not, is_some, ◌==◌}
 use Rattle.std.specs.List.{AllByRecursion}
-use Rattle.std.proofs.lemmas.Bool.{cases_Bool, false≢true}
+use Rattle.std.proofs.lemmas.Bool.{cases_Bool, false≢true, not_from_false}
 use Rattle.std.proofs.lemmas.List.{length-map}
+use Rattle.sap_lemmas.proofs.Bools.{and_right, not_and_false}
+use Rattle.sap_lemmas.proofs.Texts.{bytes_eq_apart_back, bytes_eq_same, equal_of_bytes_eq}
 use Rattle.sap_lattice.specs.Levels.{Levels}
 use Rattle.sap_maps.specs.Maps.{Name}
 use Rattle.sap_maps.specs.Scope.{find}
-use Rattle.sap_maps.proofs.Scopes.{name_is, same_name, apart_back}
 use Rattle.sap_meaning.specs.Cycle.{Tagged as Given}
 use Rattle.sap_net.specs.declared.parts.Input.{Input}
 use Rattle.sap_net.specs.Names.{is_among}
@@ -17,7 +18,7 @@ use Rattle.sap_sim.specs.Fields.{tag_width, input_widths, is_tag, with_field}
 use Rattle.sap_sim.specs.Numbers.{place, field_names, value_for, number_for}
 use Rattle.sap_sim.specs.Layout.{source_of, source_place, number_from}
 use Rattle.sap_sim.proofs.Maps.{same_back}
-use Rattle.sap_sim.proofs.Registers.{and_right, behind_is, each}
+use Rattle.sap_sim.proofs.Registers.{behind_is, each}
 
 abbrev pub names_of : List Input → List Name
 names_of is = map (λ i. i.name) is
@@ -27,15 +28,8 @@ place_within [] n h = absurd (false≢true h)
 place_within (m ∷ ns) n h =
     elim (cases_Bool (bytes_eq m n)) [
       | inl t ↦ rw t (omega arith)
-      | inr f ↦ (let r : place ns n < length ns = place_within ns n (rw (apart_back m n f) at h) in rw f (omega arith))
+      | inr f ↦ (let r : place ns n < length ns = place_within ns n (rw (bytes_eq_apart_back m n f) at h) in rw f (omega arith))
     ]
-
-not_true : (b : Bool) → not b ≡ true → b ≡ false
-not_true true h = absurd (false≢true h)
-not_true false h = refl
-
-not_false : (b : Bool) → b ≡ false → not b ≡ true
-not_false b h = rw h refl
 
 -- an input that passes is among those that do
 among_filter_more : (p : Input → Bool) (i : Input) (is : List Input) (x : Name) → is_among x (names_of (filter p is)) ≡ true → is_among x (names_of (filter p (i ∷ is))) ≡ true
@@ -52,7 +46,7 @@ among_filter_rest p i is (j ∷ list) h = ((λ t. among_filter_more p i is j.nam
 
 pub among_filter : (p : Input → Bool) (is : List Input) → AllByRecursion (λ j. p j ≡ true → is_among j.name (names_of (filter p is)) ≡ true) is
 among_filter p [] = tt
-among_filter p (i ∷ is) = ((λ t. rw (t, same_name i.name) refl), among_filter_rest p i is is (among_filter p is))
+among_filter p (i ∷ is) = ((λ t. rw (t, bytes_eq_same i.name) refl), among_filter_rest p i is is (among_filter p is))
 
 -- a name whose inputs all pass is among those that do
 pub among_passing : (p : Input → Bool) (is : List Input) (x : Name) → ((j : Input) → j.name ≡ x → p j ≡ true) → is_some (find (input_widths is) x) ≡ true → is_among x (names_of (filter p is)) ≡ true
@@ -60,21 +54,17 @@ among_passing p [] x f h = absurd (false≢true h)
 among_passing p (i ∷ is) x f h =
     elim (cases_Bool (bytes_eq i.name x)) [
       | inl t ↦ (
-          let e : i.name ≡ x = name_is i.name x t in
+          let e : i.name ≡ x = equal_of_bytes_eq i.name x t in
           let u : p i ≡ true = f i e in
           rw u (rw (same_back i.name x t) refl)
           )
       | inr g ↦ among_filter_more p i is x (among_passing p is x f (rw g at h))
     ]
 
-and_no : (b : Bool) → not (b && false) ≡ true
-and_no true = refl
-and_no false = refl
-
 -- the value of a tag is no tag
 value_no_tag : (tag : ℕ) (is : List Input) (a : Name) (j : Input) → j.name ≡ 118 ∷ (95 ∷ a) → not (is_tag tag is j) ≡ true
-value_no_tag tag is [] j e = rw e (and_no (j.width == tag))
-value_no_tag tag is (c ∷ a) j e = rw e (and_no (j.width == tag))
+value_no_tag tag is [] j e = rw e (not_and_false (j.width == tag))
+value_no_tag tag is (c ∷ a) j e = rw e (not_and_false (j.width == tag))
 
 passes_some : (test : Name → Bool) (o : Option Name) → passes test o ≡ true → (x : Name) × (o ≡ Some x) × (test x ≡ true)
 passes_some test None h = absurd (false≢true h)
@@ -91,7 +81,7 @@ source_in : (tag : ℕ) (is : List Input) (i : Input) → (not (is_tag tag is i)
 source_in tag is i f =
     elim (cases_Bool (is_tag tag is i)) as (λ v. source_place (source_of tag is i) < length (field_names tag is)) [
       | inl t ↦ rw t (place_within (field_names tag is) (value_for i.name) (tag_partner tag is i t))
-      | inr g ↦ rw g (place_within (field_names tag is) i.name (f (not_false (is_tag tag is i) g)))
+      | inr g ↦ rw g (place_within (field_names tag is) i.name (f (not_from_false (is_tag tag is i) g)))
     ]
 
 sources_in : (tag : ℕ) (is list : List Input) → AllByRecursion (λ j. not (is_tag tag is j) ≡ true → is_among j.name (field_names tag is) ≡ true) list

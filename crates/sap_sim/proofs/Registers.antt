@@ -1,16 +1,19 @@
 -- The registers of a netlist, and those that rows show.
-use Rattle.std.proofs.Common.{◌≡◌, ℕ, zero, suc, ◌+◌, ◌<◌, ◌≤◌, List, [], ◌∷◌, ◌++◌, Bool, true, false, ◌||◌, ◌&&◌, Option, Some, None, length, get_or, take, map, sym, ap, ◌∙◌, subst, refl, arith, bytes_eq, inl, inr, ◌⊎◌, ⊎_elim, lit<}
+use Rattle.std.proofs.Common.{◌≡◌, ℕ, zero, suc, ◌+◌, ◌<◌, ◌≤◌, List, [], ◌∷◌, ◌++◌, true, ◌||◌, ◌&&◌, Option, Some, None, length, get_or, take, map, sym, ap, ◌∙◌, subst, refl, arith, bytes_eq, inl, inr, ⊎_elim, lit<}
 use Rattle.std.specs.Prelude.{slice_index, ◌==◌, nat_le}
 use Rattle.std.specs.List.{AllByRecursion, list_all}
 use Rattle.std.specs.Char.{is_ascii_alphabetic, is_ascii_alphanumeric}
 use Rattle.std.specs.Int.{is_in_range}
 use Rattle.std.specs.Str.{IsAscii, IsUtf8}
-use Rattle.std.proofs.lemmas.Bool.{cases_Bool, false≢true, leb-true}
+use Rattle.std.proofs.lemmas.Bool.{cases_Bool, false≢true, leb-true, or_cases}
 use Rattle.std.proofs.lemmas.Bool.Decides.{Decides-eqb}
 use Rattle.std.proofs.lemmas.Str.{IsUtf8-from_ascii}
+use Rattle.sap_lemmas.proofs.Bools.{and_left, and_right}
+use Rattle.sap_lemmas.proofs.Texts.{equal_of_bytes_eq}
+use Rattle.std.proofs.lemmas.List.{append-nil}
+use Rattle.sap_net.proofs.NamesLemmas.{among_behind, among_front, among_here}
 use Rattle.sap_maps.specs.Maps.{Name}
 use Rattle.sap_maps.specs.Scope.{Scope, find}
-use Rattle.sap_maps.proofs.Scopes.{name_is, same_name}
 use Rattle.sap_net.specs.declared.parts.Port.{Port}
 use Rattle.sap_net.specs.declared.parts.PortKind.{PortKind}
 use Rattle.sap_net.specs.declared.parts.PortKind.TheVariants as kind
@@ -23,30 +26,14 @@ use Rattle.sap_sim.specs.Ports.{value_name, tag_name, value_of, behind}
 use Rattle.sap_sim.specs.Shown.{register_ports, has_tag, shown_by, shown_among}
 use Rattle.sap_sim.proofs.Lists.{taken}
 
-pub and_left : (p q : Bool) → (p && q) ≡ true → p ≡ true
-and_left true q h = refl
-and_left false q h = h
-
-pub and_right : (p q : Bool) → (p && q) ≡ true → q ≡ true
-and_right true q h = h
-and_right false q h = cc
-
 -- what holds of each name of a list holds of one that is among them
 pub among_all : (P : Name → Type 0) (ns : List Name) (x : Name) → AllByRecursion P ns → is_among x ns ≡ true → P x
 among_all P [] x all h = absurd (false≢true h)
 among_all P (n ∷ ns) x all h =
     elim (cases_Bool (bytes_eq x n)) [
-      | inl t ↦ subst P (sym (name_is x n t)) all.0
+      | inl t ↦ subst P (sym (equal_of_bytes_eq x n t)) all.0
       | inr f ↦ among_all P ns x all.1 (rw f at h)
     ]
-
-pub among_behind : (x : Name) (xs ys : List Name) → is_among x ys ≡ true → is_among x (xs ++ ys) ≡ true
-among_behind x [] ys h = h
-among_behind x (y ∷ xs) ys h = elim (cases_Bool (bytes_eq x y)) [ inl t ↦ rw t refl | inr t ↦ rw t (among_behind x xs ys h) ]
-
-pub among_front : (x : Name) (xs ys : List Name) → is_among x xs ≡ true → is_among x (xs ++ ys) ≡ true
-among_front x [] ys h = absurd (false≢true h)
-among_front x (y ∷ xs) ys h = elim (cases_Bool (bytes_eq x y)) [ inl t ↦ rw t refl | inr t ↦ rw t (among_front x xs ys (rw t at h)) ]
 
 -- what holds of the names of a list's elements
 pub all_names : {A : Type 0} (key : A → Name) (P : Name → Type 0) (list : List A) → AllByRecursion (λ a. P (key a)) list → AllByRecursion P (map key list)
@@ -76,10 +63,6 @@ register_declared n net x h =
     net.declared x ∙ among_front x (input_names n ++ wire_names n ++ register_names n) (memory_names n) (among_behind x (input_names n ++ wire_names n) (register_names n) h)
 
 -- names are ASCII
-
-or_cases : (p q : Bool) → (p || q) ≡ true → (p ≡ true) ⊎ (q ≡ true)
-or_cases true q h = inl refl
-or_cases false q h = inr h
 
 in_range : (lo hi c : ℕ) → is_in_range lo hi c ≡ true → c ≤ hi
 in_range lo hi c h = leb-true c hi (and_right (nat_le lo c) (nat_le c hi) h)
@@ -130,16 +113,12 @@ register_utf8 n net x h = name_utf8 x (among_all (λ (y : Name). is_name y ≡ t
 
 -- what rows show
 
-append_nil : (xs : List Name) → xs ++ [] ≡ xs
-append_nil [] = refl
-append_nil (x ∷ xs) = ap (λ ys. x ∷ ys) (append_nil xs)
-
 append_three : (xs ys zs : List Name) → xs ++ (ys ++ zs) ≡ (xs ++ ys) ++ zs
 append_three [] ys zs = refl
 append_three (x ∷ xs) ys zs = ap (λ ws. x ∷ ws) (append_three xs ys zs)
 
 shown_push : (tag : ℕ) (n : Net) (ps : List Name) (p : Name) → shown_among tag n (ps ++ p ∷ []) ≡ shown_among tag n ps ++ shown_by tag n (value_of p)
-shown_push tag n [] p = append_nil (shown_by tag n (value_of p))
+shown_push tag n [] p = append-nil (shown_by tag n (value_of p))
 shown_push tag n (q ∷ ps) p =
     ap (λ (ys : List Name). shown_by tag n (value_of q) ++ ys) (shown_push tag n ps p)
     ∙ append_three (shown_by tag n (value_of q)) (shown_among tag n ps) (shown_by tag n (value_of p))
@@ -185,9 +164,6 @@ all_join : (P : Name → Type 0) (xs ys : List Name) → AllByRecursion P xs →
 all_join P [] ys h k = k
 all_join P (x ∷ xs) ys h k = (h.0, all_join P xs ys h.1 k)
 
-among_first : (p : Name) (ps : List Name) → is_among p (p ∷ ps) ≡ true
-among_first p ps = rw (same_name p) refl
-
 among_rest : (x p : Name) (ps : List Name) → is_among x ps ≡ true → is_among x (p ∷ ps) ≡ true
 among_rest x p ps h = elim (cases_Bool (bytes_eq x p)) [ inl t ↦ rw t refl | inr f ↦ rw f h ]
 
@@ -196,7 +172,7 @@ shown_here tag n p ps None e = tt
 shown_here tag n p ps (Some x) e =
     elim (cases_Bool (has_tag tag n x)) as (λ v. AllByRecursion (IsShown (p ∷ ps) (register_ports n.ports)) (shown_by tag n (Some x))) [
       | inl t ↦ (
-          let i : is_among (value_name x) (p ∷ ps) ≡ true = subst (λ (y : Name). is_among y (p ∷ ps) ≡ true) (behind_is 118 p x e) (among_first p ps) in
+          let i : is_among (value_name x) (p ∷ ps) ≡ true = subst (λ (y : Name). is_among y (p ∷ ps) ≡ true) (behind_is 118 p x e) (among_here p ps) in
           let j : is_among (tag_name x) (register_ports n.ports) ≡ true = and_left (is_among (tag_name x) (register_ports n.ports)) _ t in
           rw t ((i, j), tt)
           )

@@ -1,6 +1,7 @@
 -- Runs, and the rows of their cycles.
 use Rattle.std.proofs.Common.{◌≡◌, ℕ, zero, suc, ◌+◌, ◌<◌, List, [], ◌∷◌, ◌++◌, Option, Some, length, get_or, map, sym, ap, ◌∙◌, subst, refl, arith}
-use Rattle.std.proofs.lemmas.List.{length-map, map-append}
+use Rattle.std.proofs.lemmas.List.{length-map, map-append, append-nil}
+use Rattle.sap_lemmas.proofs.Lists.{append_three}
 use Rattle.sap_lattice.specs.Levels.{Levels}
 use Rattle.sap_maps.specs.Maps.{Name, Valuation}
 use Rattle.sap_net.specs.Net.{Net}
@@ -15,18 +16,10 @@ run_count n b [] (v ∷ vs) run = absurd run
 run_count n b (xs ∷ xss) [] run = absurd run
 run_count n b (xs ∷ xss) (v ∷ vs) run = ap suc (run_count n (Some v) xss vs run.1)
 
-append_three : (xs ys zs : List ℕ) → xs ++ (ys ++ zs) ≡ (xs ++ ys) ++ zs
-append_three [] ys zs = refl
-append_three (x ∷ xs) ys zs = ap (λ ws. x ∷ ws) (append_three xs ys zs)
-
-append_nil : (xs : List ℕ) → xs ++ [] ≡ xs
-append_nil [] = refl
-append_nil (x ∷ xs) = ap (λ ys. x ∷ ys) (append_nil xs)
-
 -- the rows of one cycle more
 pub rows_push : (ls : Levels) (xs : List Name) (c : ℕ) (vs : List Valuation) (v : Valuation) → rows_from ls xs c (vs ++ v ∷ []) ≡ rows_from ls xs c vs ++ row_of ls xs (c + length vs) v
 rows_push ls xs c [] v =
-    let e : c + 0 ≡ c = omega arith in append_nil (row_of ls xs c v) ∙ ap (λ (k : ℕ). row_of ls xs k v) (sym e)
+    let e : c + 0 ≡ c = omega arith in append-nil (row_of ls xs c v) ∙ ap (λ (k : ℕ). row_of ls xs k v) (sym e)
 rows_push ls xs c (w ∷ vs) v =
     let e : c + 1 + length vs ≡ c + suc (length vs) = omega arith in
     ap (λ (ys : List ℕ). row_of ls xs c w ++ ys) (rows_push ls xs (c + 1) vs v)

@@ -3,6 +3,7 @@ use Rattle.std.proofs.Common.{◌≡◌, ℕ, ◌+◌, ◌<◌, List, [], ◌∷
 use Rattle.std.specs.Prelude.{All}
 use Rattle.std.specs.List.{last_or}
 use Rattle.std.proofs.lemmas.List.{map-append, length-map}
+use Rattle.sap_stim.proofs.FitsLemmas.{line_count}
 use Rattle.sap_lattice.specs.Levels.{Levels, order_of}
 use Rattle.sap_lattice.specs.Codes.{Codes}
 use Rattle.sap_lattice.specs.Order.{Laws}
@@ -23,7 +24,7 @@ use Rattle.sap_sim.specs.Numbers.{numbers_of}
 use Rattle.sap_sim.specs.Shown.{shown_registers, row_of, rows_from}
 use Rattle.sap_sim.specs.Simulated.{IsSimulated, read_for}
 use Rattle.sap_sim.specs.Stepping.{Stepped, IsPlanned, IsRunOn, IsAfter, HasRowMore, AreRows, RowsAddUp}
-use Rattle.sap_sim.proofs.Fits.{line_count, line_fits, stream_fits}
+use Rattle.sap_sim.proofs.Fits.{line_fits, stream_fits}
 use Rattle.sap_sim.proofs.OneMore.{run_split, run_ends, EndsIn, last_pushed, run_front, no_run, rows_split}
 use Rattle.sap_sim.proofs.Origins.{numbers_are, sources_within}
 use Rattle.sap_sim.proofs.Runs.{rows_push, run_count}

@@ -4,15 +4,15 @@ use Rattle.std.specs.Cmp.{IsEquivalence}
 use Rattle.std.specs.List.{AllByRecursion, IsDistinct}
 use Rattle.std.specs.Set.{is_member, unique_keys}
 use Rattle.std.specs.Str.{bytes_eq}
-use Rattle.std.proofs.lemmas.Bool.{cases_Bool, and_from, and_parts, eqb-true, eq-eqb}
+use Rattle.std.proofs.lemmas.Bool.{cases_Bool, and_from, and_parts, eqb-true, eq-eqb, or_left, or_right}
 use Rattle.std.proofs.lemmas.Map.Made.{length-le_from_is_member}
+use Rattle.sap_lemmas.proofs.Texts.{bytes_eq_same, equal_of_bytes_eq}
 use Rattle.sap_bits.specs.declared.Op1.{Op1}
 use Rattle.sap_bits.specs.declared.Op1.TheVariants.{Not, Neg, AllOnes, AnyOne, Odd}
 use Rattle.sap_bits.specs.declared.Op2.{Op2}
 use Rattle.sap_bits.specs.declared.Op2.TheVariants.{Add, Sub, Mul, And, Or, Xor, Eq, Ne, Lt, Le, Shl, Shr}
 use Rattle.sap_maps.specs.Maps.{Name}
 use Rattle.sap_maps.specs.Term.{Term, constant, read, cell, one, two, choose, join, part}
-use Rattle.sap_maps.proofs.Scopes.{same_name, name_is}
 use Rattle.sap_size.specs.Terms.{same_one, same_two, same_term, operations_in, operations}
 
 one_is : (o p : Op1) → same_one o p ≡ true → o ≡ p
@@ -62,9 +62,9 @@ two_self Shr = refl
 pub term_is : (t u : Term Name) → same_term t u ≡ true → t ≡ u
 term_is (constant w x) (constant v y) h =
     let p = and_parts (w == v) (x == y) h in let d = eqb-true w v p.0 in let e = eqb-true x y p.1 in cc
-term_is (read m) (read n) h = ap (λ (k : Name). read k) (name_is m n h)
+term_is (read m) (read n) h = ap (λ (k : Name). read k) (equal_of_bytes_eq m n h)
 term_is (cell m i) (cell n j) h =
-    let p = and_parts (bytes_eq m n) (same_term i j) h in ap₂ (λ (k : Name) (a : Term Name). cell k a) (name_is m n p.0) (term_is i j p.1)
+    let p = and_parts (bytes_eq m n) (same_term i j) h in ap₂ (λ (k : Name) (a : Term Name). cell k a) (equal_of_bytes_eq m n p.0) (term_is i j p.1)
 term_is (one o a) (one p x) h =
     let q = and_parts (same_one o p) (same_term a x) h in ap₂ (λ (k : Op1) (b : Term Name). one k b) (one_is o p q.0) (term_is a x q.1)
 term_is (two o a b) (two p x y) h =
@@ -95,8 +95,8 @@ term_is _ _ h = absurd (cc)
 
 pub term_self : (t : Term Name) → same_term t t ≡ true
 term_self (constant w x) = and_from (w == w) (x == x) (eq-eqb w w refl) (eq-eqb x x refl)
-term_self (read n) = same_name n
-term_self (cell m i) = and_from (bytes_eq m m) (same_term i i) (same_name m) (term_self i)
+term_self (read n) = bytes_eq_same n
+term_self (cell m i) = and_from (bytes_eq m m) (same_term i i) (bytes_eq_same m) (term_self i)
 term_self (one o a) = and_from (same_one o o) (same_term a a) (one_self o) (term_self a)
 term_self (two o a b) =
     and_from (same_two o o) (same_term a a && same_term b b) (two_self o) (and_from (same_term a a) (same_term b b) (term_self a) (term_self b))
@@ -134,14 +134,6 @@ pub has_both : (xs ys : List (Term Name)) (q : Term Name) → has (xs ++ ys) q �
 has_both [] ys q = refl
 has_both (x ∷ xs) ys q =
     elim (cases_Bool (same_term q x)) [ inl t ↦ rw t refl | inr f ↦ rw f (has_both xs ys q) ]
-
-or_left : (a b : Bool) → a ≡ true → (a || b) ≡ true
-or_left true b h = refl
-or_left false b h = absurd (cc)
-
-or_right : (a b : Bool) → b ≡ true → (a || b) ≡ true
-or_right true b h = refl
-or_right false b h = h
 
 pub has_front : (xs ys : List (Term Name)) (q : Term Name) → has xs q ≡ true → has (xs ++ ys) q ≡ true
 has_front xs ys q h = has_both xs ys q ∙ or_left (has xs q) (has ys q) h

@@ -1,25 +1,11 @@
 -- The level that has a code.
-use Rattle.std.proofs.Common.{◌≡◌, ◌≢◌, ℕ, zero, suc, ◌+◌, ◌<◌, ◌≤◌, Bool, true, false, Option, Some, None, eqb, refl, sym, ap, ◌∙◌, subst, inl, inr, arith}
+use Rattle.std.proofs.Common.{◌≡◌, ◌≢◌, ℕ, zero, suc, ◌+◌, ◌<◌, Bool, true, Option, Some, None, eqb, refl, sym, ◌∙◌, arith}
 use Rattle.std.specs.Prelude.{find, MatchOption, IfSome}
 use Rattle.std.specs.List.{range_with_len}
-use Rattle.std.proofs.lemmas.Bool.{cases_eq, cond_both}
+use Rattle.std.proofs.lemmas.Bool.{cond_both}
+use Rattle.sap_lemmas.proofs.Options.{find_only_from}
 use borrow.Author.Tests.{eqb-true, eq-eqb}
 use Rattle.sap_lattice.specs.Levels.{numbers}
-
--- the only number below n of which the test is true is found
-only_from : (test : ℕ → Bool) (a n x : ℕ) → a ≤ x → x < a + n → test x ≡ true → ((k : ℕ) → k < a + n → test k ≡ true → k ≡ x) → find test (range_with_len a n) ≡ Some x
-only_from test a zero x low high h only = absurd (omega arith)
-only_from test a (suc n) x low high h only =
-    let rest : Option ℕ = find test (range_with_len (a + 1) n) in
-    cond_both (test a) (Some a) rest (λ o. o ≡ Some x)
-    (λ e. ap Some (only a (omega arith) e))
-    (λ e. elim (cases_eq a x) [
-      | inl same ↦ absurd (differ (test a) (subst (λ j. test j ≡ true) (sym same) h) e)
-      | inr ne ↦ only_from test (a + 1) n x (omega arith) (omega arith) h (λ k small. only k (omega arith))
-    ])
-  where
-    differ : (b : Bool) → b ≡ true → b ≡ false → ⊥
-    differ b p q = let e : true ≡ false = sym p ∙ q in cc
 
 none_from : (test : ℕ → Bool) (a n : ℕ) → ((k : ℕ) → k < a + n → test k ≡ true → ⊥) → find test (range_with_len a n) ≡ None
 none_from test a zero none = refl
@@ -34,7 +20,7 @@ pub level_found : (f : ℕ → ℕ) (n c : ℕ) (r : Option ℕ) → ((x y : ℕ
     → MatchOption r ((x : ℕ) → x < n → f x ≢ c) (λ x. (x < n) × (f x ≡ c)) → r ≡ find (λ x. eqb (f x) c) (numbers n)
 level_found f n c None apart h = sym (none_from (λ x. eqb (f x) c) 0 n (λ k small t. h k (omega arith) (eqb-true (f k) c t)))
 level_found f n c (Some x) apart h =
-    sym (only_from (λ k. eqb (f k) c) 0 n x (omega arith) (let s = h.0 in omega arith) (eq-eqb (f x) c h.1)
+    sym (find_only_from (λ k. eqb (f k) c) 0 n x (omega arith) (let s = h.0 in omega arith) (eq-eqb (f x) c h.1)
     (λ k small t. apart k x (omega arith) h.0 (eqb-true (f k) c t ∙ sym h.1)))
 
 pub found_within : (n : ℕ) (none : Type 0) (P : ℕ → Type 0) (r : Option ℕ) → MatchOption r none (λ x. (x < n) × P x) → IfSome r (λ x. x < n)

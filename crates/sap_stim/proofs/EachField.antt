@@ -1,7 +1,7 @@
 -- Fields, read one after another.
 use Rattle.std.proofs.Common.{◌≡◌, ℕ, zero, suc, ◌+◌, ◌-◌, ◌<◌, ◌≤◌, Result, Ok, Err, List, [], ◌∷◌, ◌++◌, length, get_or, take, drop, refl, sym, ap, ap₂, ◌∙◌, inl, inr, append_assoc, arith}
 use Rattle.std.specs.List.{position_or_len, before_first, after_first}
-use Rattle.std.proofs.lemmas.List.{append-nil}
+use Rattle.std.proofs.lemmas.List.{append-nil, drop_all}
 use Rattle.std.proofs.Math.Seq.{drop-cons}
 use Rattle.sap_lattice.specs.Levels.{Levels}
 use Rattle.sap_meaning.specs.Cycle.{Tagged as Given}
@@ -117,17 +117,11 @@ read_begins ls fs line h =
       λ some. let enough = first.1 in omega arith,
     )
 
-drop_past : (n : ℕ) (fs : List Field) → length fs ≤ n → drop n fs ≡ []
-drop_past zero [] h = refl
-drop_past (suc n) [] h = refl
-drop_past zero (f ∷ fs) h = absurd (omega arith)
-drop_past (suc n) (f ∷ fs) h = drop_past n fs (omega arith)
-
 pub nothing_read : (ls : Levels) (fs : List Field) (inputs : List Given) (line : List ℕ) → inputs ≡ [] → length (fields_of line) ≡ length fs → read_on ls fs 0 inputs line ≡ inputs_of ls fs (fields_of line)
 nothing_read ls fs inputs line e h = ap (λ (xs : List Given). read_on ls fs 0 xs line) e ∙ (read_begins ls fs line h).0
 
 -- after the last
 pub read_ends : (ls : Levels) (fs : List Field) (i : ℕ) (inputs : List Given) (rest : List ℕ) → length fs ≤ i → read_on ls fs i inputs rest ≡ Ok inputs
 read_ends ls fs i inputs rest h =
-    ap₂ (λ (x : List Field) (y : List (List ℕ)). onto inputs (inputs_of ls x y)) (drop_past i fs h) (take_none (length fs - i) (split_at 32 rest) (omega arith))
+    ap₂ (λ (x : List Field) (y : List (List ℕ)). onto inputs (inputs_of ls x y)) (drop_all i fs h) (take_none (length fs - i) (split_at 32 rest) (omega arith))
     ∙ ap Ok (append-nil inputs)

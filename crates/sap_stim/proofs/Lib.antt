@@ -2,7 +2,6 @@ pub mod Pieces
 pub mod LastPiece
 pub mod Counts
 pub mod Values
-pub mod Named
 pub mod EachField
 pub mod Fitting
 pub mod Lines
@@ -11,3 +10,4 @@ pub mod PairsOfDigits
 pub mod RowTexts
 pub mod RowRoom
 pub mod RowLeast
+pub mod FitsLemmas

@@ -2,7 +2,8 @@
 use Rattle.std.proofs.Common.{◌≡◌, ℕ, ◌+◌, ◌*◌, ◌<◌, ◌≤◌, Bool, true, false, Option, Some, None, Result, Ok, Err, ltb, List, [], ◌∷◌, ◌++◌, length, refl, sym, ap, ap₂, subst, IfOk, ◌∙◌, inl, inr, append_assoc, length-append, arith}
 use Rattle.std.specs.List.{position_or_len, before_first, after_first}
 use Rattle.std.proofs.lemmas.List.{append-nil, length-drop, length-replicate}
-use Rattle.std.proofs.lemmas.Bool.{cases_lt}
+use Rattle.std.proofs.lemmas.Bool.{cases_lt, le-ltb, lt-ltb}
+use Rattle.sap_stream.proofs.SpansLemmas.{cycles_more}
 use Rattle.sap_lattice.specs.Levels.{Levels}
 use Rattle.sap_meaning.specs.Cycle.{Tagged as Given}
 use Rattle.sap_stream.specs.Spans.{Span, IsCount, cycles_in, cycles_of}
@@ -29,12 +30,6 @@ last_piece : (ls : Levels) (fs : List Field) (n : ℕ) (text : List ℕ) → 0 <
 last_piece ls fs n [] h = absurd (omega arith)
 last_piece ls fs n (b ∷ bs) h = refl
 
-pub is_less : (a b : ℕ) → a < b → ltb a b ≡ true
-is_less a b h = grind (arith)
-
-pub is_no_less : (a b : ℕ) → b ≤ a → ltb a b ≡ false
-is_no_less a b h = grind (arith)
-
 -- one line, and then the others
 pub read_line : (ls : Levels) (fs : List Field) (n : ℕ) (s : List ℕ) → 0 < length s
     → read_from ls fs n s ≡ going_on n (line_of ls fs (ltb (length (before_first (is_mark 10) s)) (length s)) (before_first (is_mark 10) s)) (read_from ls fs (n + 1) (after_first (is_mark 10) s))
@@ -44,20 +39,16 @@ read_line ls fs n s h =
           let whole : before s ≡ s = before_unmarked 10 s unmarked in
           ap (read_pieces ls fs n) (split_unmarked 10 s unmarked)
           ∙ last_piece ls fs n s h
-          ∙ ap₂ (λ (b : Bool) (t : List ℕ). going_on n (line_of ls fs b t) finished) (sym (is_no_less (length (before s)) (length s) (let e : length (before s) ≡ length s = ap length whole in omega arith))) (sym whole)
+          ∙ ap₂ (λ (b : Bool) (t : List ℕ). going_on n (line_of ls fs b t) finished) (sym (le-ltb (length (before s)) (length s) (let e : length (before s) ≡ length s = ap length whole in omega arith))) (sym whole)
           ∙ ap (λ (t : List ℕ). going_on n (line_of ls fs (ltb (length (before s)) (length s)) (before s)) (read_from ls fs (n + 1) t)) (sym (after_unmarked 10 s unmarked))
       | inl marked ↦
           ap (read_pieces ls fs n) (split_marked 10 s marked)
           ∙ pieces_go_on ls fs n (before s) (split_at 10 (after s)) (let e = split_count 10 (after s) in omega arith)
-          ∙ ap (λ (b : Bool). going_on n (line_of ls fs b (before s)) (read_from ls fs (n + 1) (after s))) (sym (is_less (length (before s)) (length s) (let e = length_before 10 s marked in omega arith)))
+          ∙ ap (λ (b : Bool). going_on n (line_of ls fs b (before s)) (read_from ls fs (n + 1) (after s))) (sym (lt-ltb (length (before s)) (length s) (let e = length_before 10 s marked in omega arith)))
     ]
 
 pub shorter : (m : ℕ) (s : List ℕ) → 0 < length s → length (after_first (is_mark m) s) < length s
 shorter m s h = let e = length-drop (position_or_len (is_mark m) s + 1) s in omega arith
-
-cycles_more : (spans : List Span) (span : Span) → cycles_of (spans ++ span ∷ []) ≡ cycles_of spans ++ cycles_in span
-cycles_more [] span = append-nil (cycles_in span)
-cycles_more (s ∷ ss) span = ap (λ (xs : List (List Given)). cycles_in s ++ xs) (cycles_more ss span) ∙ sym (append_assoc (cycles_in s) (cycles_of ss) (cycles_in span))
 
 -- a line that gives its cycles
 pub parse_more : (ls : Levels) (fs : List Field) (spans next : List Span) (s text later : List ℕ) (span : Span) → 0 < length s

@@ -24,9 +24,6 @@ pairs_below (suc n) p t h =
 pub pair_at : (p : ℕ) → p < 100 → (get_or PAIRS (p * 2) 0 ≡ 48 + p / 10) × (get_or PAIRS (p * 2 + 1) 0 ≡ 48 + p % 10)
 pair_at p h = pairs_below 100 p tt h
 
-pub one_long : (n : ℕ) → n < 10 → length (decimal n) ≡ 1
-one_long n few = ap length (decimal_digit n few)
-
 pub two_digits : (n : ℕ) → 10 ≤ n → n < 100 → decimal n ≡ pair_of n
 two_digits n more few = rw (decimal_step n more (omega arith), decimal_digit (n / 10) (omega arith))
 

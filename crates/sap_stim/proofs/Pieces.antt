@@ -1,18 +1,16 @@
 -- The first piece of a text and the others.
-use Rattle.std.proofs.Common.{◌≡◌, ℕ, zero, suc, ◌+◌, ◌<◌, ◌≤◌, Bool, true, false, not, cond, eqb, ltb, ◌-◌, Some, None, List, [], ◌∷◌, length, take, drop, refl, sym, ap, ap₂, ◌∙◌, arith}
+use Rattle.std.proofs.Common.{◌≡◌, ℕ, suc, ◌+◌, ◌<◌, ◌≤◌, Bool, true, false, not, cond, eqb, ltb, ◌-◌, Some, None, List, [], ◌∷◌, length, take, drop, refl, sym, ap, ap₂, ◌∙◌, arith}
 use Rattle.std.specs.Prelude.{count_by, position}
 use Rattle.std.specs.List.{position_or_len, before_first, after_first}
-use Rattle.std.proofs.lemmas.List.{take_all, length-take-le, length-drop}
+use Rattle.std.proofs.lemmas.List.{take_all, length-take-le, length-drop, drop_all}
 use Rattle.std.proofs.lemmas.Bool.Decides.{nat_tests}
 use Rattle.std.proofs.lemmas.List.Sums.{sum_by-cons}
+use Rattle.sap_lemmas.proofs.Lists.{take_more}
 use Rattle.sap_stim.specs.Line.{split_at, pushed}
 
 -- whether a byte is the mark
 abbrev pub is_mark : ℕ → ℕ → Bool
 is_mark mark b = eqb b mark
-
-take_more : (n b : ℕ) (bs : List ℕ) → take (1 + n) (b ∷ bs) ≡ b ∷ take n bs
-take_more n b bs = let e : 1 + n ≡ suc n = omega arith in ap (λ (k : ℕ). take k (b ∷ bs)) e
 
 drop_more : (n b : ℕ) (bs : List ℕ) → drop (1 + n + 1) (b ∷ bs) ≡ drop (n + 1) bs
 drop_more n b bs = let e : 1 + n + 1 ≡ suc (n + 1) = omega arith in ap (λ (k : ℕ). drop k (b ∷ bs)) e
@@ -38,14 +36,8 @@ split_unmarked m (b ∷ bs) h =
 pub before_unmarked : (m : ℕ) (s : List ℕ) → length s ≤ position_or_len (is_mark m) s → before_first (is_mark m) s ≡ s
 before_unmarked m s h = take_all (position_or_len (is_mark m) s) s h
 
-drop_past : (n : ℕ) (s : List ℕ) → length s ≤ n → drop n s ≡ []
-drop_past zero [] h = refl
-drop_past (suc n) [] h = refl
-drop_past zero (b ∷ bs) h = absurd (omega arith)
-drop_past (suc n) (b ∷ bs) h = drop_past n bs (omega arith)
-
 pub after_unmarked : (m : ℕ) (s : List ℕ) → length s ≤ position_or_len (is_mark m) s → after_first (is_mark m) s ≡ []
-after_unmarked m s h = drop_past (position_or_len (is_mark m) s + 1) s (omega arith)
+after_unmarked m s h = drop_all (position_or_len (is_mark m) s + 1) s (omega arith)
 
 pub length_before : (m : ℕ) (s : List ℕ) → position_or_len (is_mark m) s < length s → length (before_first (is_mark m) s) ≡ position_or_len (is_mark m) s
 length_before m s h = length-take-le (position_or_len (is_mark m) s) s (omega arith)
@@ -93,5 +85,5 @@ uncut_before m s e = sym (before_unmarked m s (place_missing (position_or_len (i
 pub uncut_behind : (m : ℕ) (s : List ℕ) → None ≡ position (is_mark m) s → take (length s - length s) (drop (length s) s) ≡ after_first (is_mark m) s
 uncut_behind m s e =
     take_all (length s - length s) (drop (length s) s) (let l = length-drop (length s) s in omega arith)
-    ∙ drop_past (length s) s (omega arith)
+    ∙ drop_all (length s) s (omega arith)
     ∙ sym (after_unmarked m s (place_missing (position_or_len (is_mark m) s) (length s) _ refl e))

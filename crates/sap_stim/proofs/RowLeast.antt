@@ -6,13 +6,13 @@ use Rattle.std.proofs.lemmas.Bool.{cases_lt}
 use Rattle.std.proofs.lemmas.Bool.Decides.{nat_tests}
 use Rattle.std.proofs.lemmas.List.Elements.{All-nil, All-cons}
 use Rattle.std.proofs.lemmas.Nat.{pow_below}
+use Rattle.sap_lattice.proofs.LevelsLemmas.{level_in_same}
 use Rattle.sap_lattice.specs.Closure.{name_at}
 use Rattle.sap_lattice.specs.Codes.{Codes, code_of, width_of}
 use Rattle.sap_lattice.specs.Lawful.{IsNarrow}
 use Rattle.sap_lattice.specs.Levels.{Levels, level_in, order_of, order_by}
 use Rattle.sap_stim.specs.Rows.{shown, shown_of, shown_text, all_shown, level_coded, level_text, HoldsRows}
 use Rattle.sap_stim.proofs.Coded.{level_found}
-use Rattle.sap_stim.proofs.Named.{level_in_place}
 use Rattle.sap_stim.proofs.RowRoom.{taken}
 
 -- a bound on the texts of levels that one reaches: `#` and 20 digits, or one of the first names
@@ -35,7 +35,7 @@ reached_more names bound more place level size top text before small l t s is = 
   ]
   | inr grown ↦
       let here : level ≡ place = grind (arith, nat_tests) in
-      let own : text ≡ name_at names place = t ∙ ap (λ (j : ℕ). get_or names (level_in (length names) j) []) here ∙ ap (λ (j : ℕ). get_or names j []) (level_in_place (length names) place small) in
+      let own : text ≡ name_at names place = t ∙ ap (λ (j : ℕ). get_or names (level_in (length names) j) []) here ∙ ap (λ (j : ℕ). get_or names j []) (level_in_same (length names) place small) in
       inr (place, omega arith, sym (grown ∙ s ∙ ap length own))
 ]
 

@@ -6,10 +6,10 @@ use Rattle.std.proofs.lemmas.Bool.Decides.{nat_tests}
 use Rattle.std.proofs.lemmas.Fmt.{length-decimal-le}
 use Rattle.std.proofs.lemmas.List.Elements.{All-head, All-tail}
 use Rattle.std.proofs.Math.Seq.{drop-cons}
+use Rattle.sap_lattice.proofs.LevelsLemmas.{level_in_same}
 use Rattle.sap_lattice.specs.Closure.{name_at}
 use Rattle.sap_lattice.specs.Levels.{Levels, level_in}
 use Rattle.sap_stim.specs.Rows.{shown, shown_of, shown_text, all_shown, level_coded, level_text, HoldsRows}
-use Rattle.sap_stim.proofs.Named.{level_in_place}
 
 -- names are within a bound
 abbrev pub Within : List (List ℕ) → (bound count : ℕ) → Type 0
@@ -35,7 +35,7 @@ name_within names bound more place level size top text before small l t s grown 
       | inl less ↦ let b = before k less in omega arith
       | inr not_less ↦
           let same : level ≡ place = grind (arith, nat_tests) in
-          let here : text ≡ get_or names k [] = t ∙ ap (λ (j : ℕ). get_or names (level_in (length names) j) []) same ∙ ap (λ (j : ℕ). get_or names j []) (level_in_place (length names) place small ∙ omega arith) in
+          let here : text ≡ get_or names k [] = t ∙ ap (λ (j : ℕ). get_or names (level_in (length names) j) []) same ∙ ap (λ (j : ℕ). get_or names j []) (level_in_same (length names) place small ∙ omega arith) in
           let e : length text ≡ length (name_at names k) = ap length here in
           omega arith
     ]

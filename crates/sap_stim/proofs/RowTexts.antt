@@ -1,15 +1,13 @@
 -- The texts of rows, from left to right.
 use Rattle.std.proofs.Common.{◌≡◌, ◌+◌, ◌<◌, ◌≤◌, ◌^◌, ℕ, zero, suc, List, [], ◌∷◌, ◌++◌, length, get_or, drop, refl, sym, ap, ◌∙◌, append_assoc, arith, rules, length-append, Option, Some, Result, Ok, Err, OnOk, if◌then◌else◌}
 use Rattle.std.specs.Prelude.{decimal, is_ok, option_map, OnErr, IsOk}
-use Rattle.std.proofs.lemmas.Fmt.{decimal_digit, length-decimal-le}
+use Rattle.std.proofs.lemmas.Fmt.{length-decimal-le}
 use Rattle.std.proofs.Math.Seq.{drop-cons}
+use Rattle.sap_lemmas.proofs.Lists.{joined_part_on_last}
+use Rattle.sap_lattice.proofs.LevelsLemmas.{level_in_same}
 use Rattle.sap_lattice.specs.Closure.{name_at}
 use Rattle.sap_lattice.specs.Levels.{Levels, level_in}
-use Rattle.sap_stim.proofs.Named.{level_in_place}
 use Rattle.sap_stim.specs.Rows.{Shown, shown, shown_of, shown_text, all_shown, row_text, row_room, level_coded, level_text}
-
-pub one_digit : (out old : List ℕ) (n d : ℕ) → n < 10 → out ≡ old ++ (d ∷ []) → d ≡ 48 + n → out ≡ old ++ decimal n
-one_digit out old n d h e f = e ∙ ap (λ x. old ++ (x ∷ [])) f ∙ ap (λ z. old ++ z) (sym (decimal_digit n h))
 
 -- the registers from a place on
 abbrev pub shown_from : Levels → List (List ℕ) → List ℕ → List ℕ → ℕ → List ℕ
@@ -46,16 +44,11 @@ row_grows ls names values tags i name out old next h v t e before grown =
 pub row_ends : (ls : Levels) (names : List (List ℕ)) (values tags : List ℕ) (i : ℕ) (out old next : List ℕ) → length names ≤ i → out ++ shown_from ls names values tags i ≡ old → next ≡ out ++ 10 ∷ [] → next ≡ old
 row_ends ls names values tags i out old next h before grown = grown ∙ ap (λ (x : List ℕ). out ++ x) (sym (shown_past ls names values tags i h)) ∙ before
 
--- what is written last
-on_last : {E : Type 0} (r : Result (Unit {0}) E) (new a t x : List ℕ) → new ≡ (if is_ok r then a ++ t else a) → t ≡ x → OnOk r (new ≡ a ++ x)
-on_last (Ok u) new a t x e f = e ∙ ap (λ (z : List ℕ). a ++ z) f
-on_last (Err e) new a t x p f = tt
-
 pub level_written : {E : Type 0} (ls : Levels) (tag level : ℕ) (text old new : List ℕ) (r : Result (Unit {0}) E) → Some level ≡ level_coded ls tag → level < length ls.names → text ≡ get_or ls.names (level_in (length ls.names) level) []
     → new ≡ (if is_ok r then old ++ text else old) → OnOk r (new ≡ old ++ level_text (option_map (name_at ls.names) (level_coded ls tag)) tag)
 level_written ls tag level text old new r coded small t e =
-    on_last r new old text (level_text (option_map (name_at ls.names) (level_coded ls tag)) tag) e
-    (t ∙ ap (λ (k : ℕ). get_or ls.names k []) (level_in_place (length ls.names) level small) ∙ ap (λ (o : Option ℕ). level_text (option_map (name_at ls.names) o) tag) coded)
+    joined_part_on_last r new old text (level_text (option_map (name_at ls.names) (level_coded ls tag)) tag) e
+    (t ∙ ap (λ (k : ℕ). get_or ls.names k []) (level_in_same (length ls.names) level small) ∙ ap (λ (o : Option ℕ). level_text (option_map (name_at ls.names) o) tag) coded)
 
 -- the room of texts
 

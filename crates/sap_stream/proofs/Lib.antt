@@ -3,3 +3,4 @@ pub mod Places
 pub mod Agreeing
 pub mod Told
 pub mod Walk
+pub mod SpansLemmas

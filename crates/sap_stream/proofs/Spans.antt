@@ -1,13 +1,8 @@
 -- Spans and the cycles that they stand for, counted and cut.
-use Rattle.std.proofs.Common.{◌≡◌, ℕ, ◌+◌, ◌-◌, ◌<◌, ◌≤◌, List, [], ◌∷◌, ◌++◌, length, get_or, drop, replicate, sym, ap, ◌∙◌, arith}
-use Rattle.std.proofs.lemmas.List.{append-nil, append_assoc, length-append, length-replicate, get_or-replicate, get_or_append_left, get_or-drop, drop-append-le, drop-replicate, at_drop_more}
+use Rattle.std.proofs.Common.{◌≡◌, ℕ, ◌+◌, ◌-◌, ◌<◌, ◌≤◌, List, [], ◌++◌, length, get_or, drop, replicate, sym, ap, ◌∙◌, arith}
+use Rattle.std.proofs.lemmas.List.{length-append, length-replicate, get_or-replicate, get_or_append_left, get_or-drop, drop-append-le, drop-replicate, at_drop_more}
 use Rattle.sap_meaning.specs.Cycle.{Tagged}
 use Rattle.sap_stream.specs.Spans.{Span, cycles_in, cycles_of}
-
--- one more span at the end
-pub cycles_of_push : (ss : List Span) (s : Span) → cycles_of (ss ++ s ∷ []) ≡ cycles_of ss ++ cycles_in s
-cycles_of_push [] s = append-nil (cycles_in s)
-cycles_of_push (t ∷ ss) s = ap (λ (xs : List (List Tagged)). cycles_in t ++ xs) (cycles_of_push ss s) ∙ sym (append_assoc (cycles_in t) (cycles_of ss) (cycles_in s))
 
 -- the cycles of the spans from the place i on: those of the span there, and those of the spans behind it
 pub length_from : (ss : List Span) (i : ℕ) (s : Span) → i < length ss → s ≡ get_or ss i s

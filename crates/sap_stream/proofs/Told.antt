@@ -1,6 +1,7 @@
 -- What the calls see on their way, and what their answers say.
 use Rattle.std.proofs.Common.{◌≡◌, ◌↔◌, ℕ, ◌<◌, Bool, true, false, IsTrue, Option, Some, None, MatchOption, List, length, get_or, refl, sym, ap, subst, ◌∙◌, arith}
 use Rattle.std.proofs.lemmas.List.{get_or_default}
+use Rattle.std.proofs.lemmas.Bool.{both_ways}
 use Rattle.sap_lattice.specs.Order.{Order}
 use Rattle.sap_meaning.specs.Agree.{StreamsAgree}
 use Rattle.sap_meaning.specs.Cycle.{Tagged}
@@ -16,9 +17,6 @@ not_none a e = cc
 
 none_not : (a : Apart) → None ≡ Some a → ⊥
 none_not a e = cc
-
-not_true : (b : Bool) → b ≡ false → b ≡ true → ⊥
-not_true b e f = cc
 
 module _ (o : Order) (l : ℕ) where
   -- two inputs that were read
@@ -36,7 +34,7 @@ module _ (o : Order) (l : ℕ) where
       → (IsTrue b ↔ AreAlike o l x y) → b ≡ false → ¬ AreAlike o l (input_at xs k) (input_at ys k)
   apart_here xs ys k x y b n a e f says wrong alike =
       let there = both_alike xs ys k x y a (omega arith) e f in
-      not_true b wrong
+      both_ways b wrong
       (says.1
       (subst (λ (z : Tagged). AreAlike o l z y) (sym there.0) (subst (λ (z : Tagged). AreAlike o l (input_at xs k) z) (sym there.1) alike)))
 

@@ -1,14 +1,17 @@
 -- Bodies keep the rules of names and of widths.
 use Rattle.std.proofs.Common.{◌≡◌, ℕ, zero, suc, ◌+◌, ◌^◌, ◌<◌, ◌≤◌, List, [], ◌∷◌, ◌++◌, length, take, drop, Bool, true, false, not, ◌&&◌, ◌||◌, Some, refl, sym, ap, ◌∙◌, subst, if◌then◌else◌, arith, nat_lt, nat_le, inl, inr}
-use Rattle.std.proofs.lemmas.Bool.{cases_Bool}
+use Rattle.std.proofs.lemmas.Bool.{cases_Bool, and_parts, or_right}
 use Rattle.std.proofs.lemmas.Grind.{common_steps}
 use Rattle.std.proofs.Math.Pow.{pow_pos}
+use Rattle.sap_lemmas.proofs.Bools.{true_is_not_false}
+use Rattle.sap_resolve.proofs.SizedLemmas.{ranged_width}
+use Rattle.sap_meaning.proofs.ProgramLemmas.{memory_no_input, register_no_input, state_no_input}
 use Rattle.sap_maps.specs.Maps.{Name}
 use Rattle.sap_maps.specs.Scope.{find}
 use Rattle.sap_maps.specs.Term.{Term, constant, cell, two, choose}
 use Rattle.sap_bits.specs.declared.Op2.TheVariants.{Eq}
 use Rattle.sap_tree.specs.Limits.{most_arms}
-use Rattle.sap_meaning.specs.Program.{World, Kind, entity, root, is_dynamic, is_input, is_register, is_state, width, children, listed, Step, Set, Write, Retag, RetagCell, Goto, Fall, Command, Do, Try, If, TryThen, Case, Arms, Last, Arm, Block, End, Then, Group, kind_is_input, kind_is_register, kind_is_memory, kind_is_state}
+use Rattle.sap_meaning.specs.Program.{World, Kind, entity, root, is_dynamic, is_input, is_register, is_state, width, children, listed, Step, Set, Write, Retag, RetagCell, Goto, Fall, Command, Do, Try, If, TryThen, Case, Arms, Last, Arm, Block, End, Then, Group, kind_is_input, kind_is_register, kind_is_state}
 use Rattle.sap_meaning.specs.Program as program
 use Rattle.sap_meaning.specs.Expressions.{width_of}
 use Rattle.sap_meaning.specs.Checks.{Spot, site_of}
@@ -32,11 +35,11 @@ use Rattle.sap_tagged.specs.Commands.{gives, stores, sweep, raises, looks, reset
 use Rattle.sap_tagged.specs.Few.{Few, FewArms, FewBlock}
 use Rattle.sap_tagged.specs.States.{saved}
 use Rattle.sap_tagged.specs.Stands.{has_tag}
-use Rattle.sap_tagged.proofs.Bools.{apart_tests, both_true, either_second, tagged_within, register_within, value_no_memory, kept_no_memory, enforced_within, tagged, tagged_memory}
+use Rattle.sap_tagged.proofs.Bools.{tagged_within, register_within, value_no_memory, kept_no_memory, enforced_within, tagged, tagged_memory}
 use Rattle.sap_tagged.proofs.StepTerms.{Placed}
 use Rattle.sap_tagged.proofs.Ends.{Among}
 use Rattle.sap_tagged.proofs.Conditions.{StepConditions, CommandConditions, ArmsConditions, BlockConditions}
-use Rattle.sap_tagged.proofs.Fits.{Declares, Fine, number_fine, level_fine, lub_fine, bits_fine, yes_fine, guard_fine, test_fine, written_fine, stays_fine, ranged_width}
+use Rattle.sap_tagged.proofs.Fits.{Declares, Fine, number_fine, level_fine, lub_fine, bits_fine, yes_fine, guard_fine, test_fine, written_fine, stays_fine}
 
 -- what can be assigned, and is no register of a current child
 pub record Assigns (d : Setting) (s : Source) (fixed : List Name) : Type 0 where
@@ -106,7 +109,7 @@ among_right (x ∷ xs) ys k h = inr (among_right xs ys k h)
 -- a step that is no check site always happens
 
 all_or_some : (w : World) (g : Group) → all_dynamic w g ≡ false → sites.some_enforced w g ≡ true
-all_or_some w program.None h = absurd (apart_tests h)
+all_or_some w program.None h = absurd (true_is_not_false h)
 all_or_some w (program.More (program.Node c b k) g) h = by (is_dynamic w c) (all_dynamic w g) h (all_or_some w g)
   where
     by : (a e : Bool) → (a && e) ≡ false → (e ≡ false → sites.some_enforced w g ≡ true) → (not a || sites.some_enforced w g) ≡ true
@@ -121,7 +124,7 @@ site_step w sp (RetagCell site m j n) h = refl
 site_step w sp (Goto site target) h = by (is_dynamic w target) (is_dynamic w sp.state) h
   where
     by : (a b : Bool) → (a && b) ≡ false → (not b || not a) ≡ true
-    by true true h = absurd (apart_tests h)
+    by true true h = absurd (true_is_not_false h)
     by true false h = refl
     by false true h = refl
     by false false h = refl
@@ -132,29 +135,11 @@ site_listed w sp t h = rw (site_step w sp t h) (inl refl)
 
 -- kinds
 
-register_kind : (k : Kind) → kind_is_register k ≡ true → kind_is_input k ≡ false
-register_kind program.input h = absurd (apart_tests (sym h))
-register_kind program.register h = refl
-register_kind (program.memory depth) h = refl
-register_kind (program.state place last) h = refl
-
 kept_kind : (k : Kind) → (kind_is_register k || kind_is_state k) ≡ true → kind_is_input k ≡ false
-kept_kind program.input h = absurd (apart_tests (sym h))
+kept_kind program.input h = absurd (true_is_not_false (sym h))
 kept_kind program.register h = refl
 kept_kind (program.memory depth) h = refl
 kept_kind (program.state place last) h = refl
-
-memory_kind : (k : Kind) → kind_is_memory k ≡ true → kind_is_input k ≡ false
-memory_kind program.input h = absurd (apart_tests (sym h))
-memory_kind program.register h = refl
-memory_kind (program.memory depth) h = refl
-memory_kind (program.state place last) h = refl
-
-state_kind : (k : Kind) → kind_is_state k ≡ true → kind_is_input k ≡ false
-state_kind program.input h = absurd (apart_tests (sym h))
-state_kind program.register h = refl
-state_kind (program.memory depth) h = refl
-state_kind (program.state place last) h = refl
 
 module _ (d : Setting) (s : Source) (h : Declares d s) (fixed group : List Name) (w : Assigns d s fixed) (nested : Bool) where
   abbrev pub Good : Body → Type 0
@@ -221,9 +206,9 @@ module _ (d : Setting) (s : Source) (h : Declares d s) (fixed group : List Name)
     effect_fine k (Set site x e) ws f z r c =
         let number : Fine d s h (width d.world x) (expr d e) = subst (λ (u : ℕ). Fine d s h u (expr d e)) z.1 (number_fine d s h e f.1 z.0 r c) in
         let last : Good (gives d (Value x) (expr d e) stop) = gives_fine (Value x) (expr d e) stop (width d.world x) (w.values x f.0) number (λ e. omega arith) tt in
-        let m = value_no_memory d.world x (either_second _ (is_register d.world x) f.0) in
+        let m = value_no_memory d.world x (or_right _ (is_register d.world x) f.0) in
         elim (cases_Bool (is_dynamic d.world x)) [
-          | inl i ↦ rw i (tag_gives x (var d (Wire (k + 3))) (gives d (Value x) (expr d e) stop) (tagged d.world x (register_within d.world x f.0) m) (register_kind (entity d.world x).kind f.0) ws.3.0 last)
+          | inl i ↦ rw i (tag_gives x (var d (Wire (k + 3))) (gives d (Value x) (expr d e) stop) (tagged d.world x (register_within d.world x f.0) m) (register_no_input (entity d.world x).kind f.0) ws.3.0 last)
           | inr i ↦ rw i last
         ]
     effect_fine k (Write site m i e) ws f z r c =
@@ -233,7 +218,7 @@ module _ (d : Setting) (s : Source) (h : Declares d s) (fixed group : List Name)
         (elim (cases_Bool (is_dynamic d.world m)) [
           | inl j ↦
               rw j
-              (tag_gives m (lub (var d (Tag m)) (var d (Wire (k + 3)))) stop (tagged_memory d.world m f.0 j) (memory_kind (entity d.world m).kind f.0)
+              (tag_gives m (lub (var d (Tag m)) (var d (Wire (k + 3)))) stop (tagged_memory d.world m f.0 j) (memory_no_input (entity d.world m).kind f.0)
               (lub_fine d s h (var d (Tag m)) (var d (Wire (k + 3))) (h.tags m (tagged_memory d.world m f.0 j)) ws.3.0) tt)
           | inr j ↦ rw j tt
         ])
@@ -246,7 +231,7 @@ module _ (d : Setting) (s : Source) (h : Declares d s) (fixed group : List Name)
           | inl i ↦
               rw i
               (gives_fine (Value x) (choose (var d (Wire (k + 4))) (var d (Value x)) (constant (width d.world x) 0)) stop (width d.world x) (w.values x i)
-              (ws.4.0, h.values x (either_second _ (is_register d.world x) i), zero_fine (width d.world x)) (λ e. omega arith) tt)
+              (ws.4.0, h.values x (or_right _ (is_register d.world x) i), zero_fine (width d.world x)) (λ e. omega arith) tt)
           | inr i ↦ rw i tt
         ])
     effect_fine k (RetagCell site m j n) ws f z r c =
@@ -265,7 +250,7 @@ module _ (d : Setting) (s : Source) (h : Declares d s) (fixed group : List Name)
         (if is_dynamic d.world target then gives d (Tag target) (var d (Wire (k + 3))) (goto (d.state_name target) stop) else goto (d.state_name target) stop)
         (λ y l k e. let v = reset_tag target y (within y (root d.world) k) e in (d.tag, w.tags y v.0 v.1, bits_fine d s h d.world.order.bottom)) (λ y e. omega arith)
         (elim (cases_Bool (is_dynamic d.world target)) [
-          | inl j ↦ rw j (tag_gives target (var d (Wire (k + 3))) (goto (d.state_name target) stop) i.0 (state_kind (entity d.world target).kind state) ws.3.0 last)
+          | inl j ↦ rw j (tag_gives target (var d (Wire (k + 3))) (goto (d.state_name target) stop) i.0 (state_no_input (entity d.world target).kind state) ws.3.0 last)
           | inr j ↦ rw j last
         ])
       where
@@ -274,10 +259,10 @@ module _ (d : Setting) (s : Source) (h : Declares d s) (fixed group : List Name)
 
         reset_tag : (target y : ℕ) → nat_lt y (root d.world) ≡ true → resets d.world target y ≡ true → has_tag d.world y ≡ true × (is_input d.world y ≡ false)
         reset_tag target y l e =
-            let b = both_true _ (is_dynamic d.world y) e in
-            let state = (both_true (is_state d.world y) _ b.0).0 in
-            let m = kept_no_memory d.world y (either_second _ (is_state d.world y) state) in
-            (tagged d.world y l m, state_kind (entity d.world y).kind state)
+            let b = and_parts _ (is_dynamic d.world y) e in
+            let state = (and_parts (is_state d.world y) _ b.0).0 in
+            let m = kept_no_memory d.world y (or_right _ (is_state d.world y) state) in
+            (tagged d.world y l m, state_no_input (entity d.world y).kind state)
     effect_fine k (Fall site hang) ws f z r c =
         gives_fine (Inner sp.state) (var d (Wire (k + 2))) (fall stop) d.tag
         (w.inners sp.state (tagged_within d.world sp.state (placed.siblings sp.state placed.here).0) (rw placed.seated f)) ws.2.0 (λ e. omega arith) (kids f, tt)

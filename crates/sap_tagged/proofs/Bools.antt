@@ -1,41 +1,11 @@
 -- Tests, and what they decide.
-use Rattle.std.proofs.Common.{◌≡◌, ℕ, Bool, true, false, not, ◌&&◌, ◌||◌, List, length, get_or, refl, sym, ap, ◌∙◌, arith, nat_lt, nat_eq, inl, inr}
-use Rattle.std.proofs.lemmas.Bool.{cases_Bool, eqb-true, eq-eqb}
+use Rattle.std.proofs.Common.{◌≡◌, ℕ, Bool, true, false, not, ◌||◌, List, length, get_or, refl, sym, ap, ◌∙◌, arith, nat_lt, inl, inr}
+use Rattle.std.proofs.lemmas.Bool.{cases_Bool, and_parts, or_right}
 use Rattle.std.proofs.lemmas.Grind.{common_steps}
+use Rattle.sap_lemmas.proofs.Bools.{true_is_not_false}
 use Rattle.sap_meaning.specs.Program.{World, Entity, Kind, entity, nothing, root, is_dynamic, is_input, is_register, is_memory, is_state, kind_is_input, kind_is_register, kind_is_memory, kind_is_state}
 use Rattle.sap_meaning.specs.Program as program
 use Rattle.sap_tagged.specs.Stands.{is_value, has_tag}
-
-pub apart_tests : true ≡ false → ⊥
-apart_tests e = cc
-
-pub both_true : (a b : Bool) → (a && b) ≡ true → (a ≡ true) × (b ≡ true)
-both_true true b h = (refl, h)
-both_true false b h = absurd (apart_tests (sym h))
-
-pub both : (a b : Bool) → a ≡ true → b ≡ true → (a && b) ≡ true
-both a b e f = rw (e, f) refl
-
-pub second : (a b : Bool) → (a || b) ≡ true → a ≡ false → b ≡ true
-second true b h f = absurd (apart_tests f)
-second false b h f = h
-
-pub either_first : (a b : Bool) → a ≡ true → (a || b) ≡ true
-either_first a b e = rw e refl
-
-pub either_second : (a b : Bool) → b ≡ true → (a || b) ≡ true
-either_second true b e = refl
-either_second false b e = e
-
-pub refuted : (a : Bool) → (a ≡ true → ⊥) → a ≡ false
-refuted true f = absurd (f refl)
-refuted false f = refl
-
-pub flipped : (x y : ℕ) → nat_eq x y ≡ nat_eq y x
-flipped x y = elim (cases_Bool (nat_eq x y)) [
-  | inl t ↦ t ∙ sym (eq-eqb y x (sym (eqb-true x y t)))
-  | inr t ↦ t ∙ sym (refuted (nat_eq y x) (λ e. apart_tests (sym (eq-eqb x y (sym (eqb-true y x e))) ∙ t)))
-]
 
 -- what has a kind other than a state's is declared
 module _ (w : World) where
@@ -45,7 +15,7 @@ module _ (w : World) where
   within : (f : Entity → Bool) → f nothing ≡ false → (x : ℕ) → f (entity w x) ≡ true → nat_lt x (root w) ≡ true
   within f n x h = elim (cases_Bool (nat_lt x (root w))) [
     | inl t ↦ t
-    | inr t ↦ absurd (apart_tests (sym h ∙ ap f (past w.entities x t) ∙ n))
+    | inr t ↦ absurd (true_is_not_false (sym h ∙ ap f (past w.entities x t) ∙ n))
   ]
 
   pub memory_within : (x : ℕ) → is_memory w x ≡ true → nat_lt x (root w) ≡ true
@@ -63,13 +33,13 @@ module _ (w : World) where
   value_kind : (k : Kind) → (kind_is_input k || kind_is_register k) ≡ true → kind_is_memory k ≡ false
   value_kind program.input h = refl
   value_kind program.register h = refl
-  value_kind (program.memory depth) h = absurd (apart_tests (sym h))
+  value_kind (program.memory depth) h = absurd (true_is_not_false (sym h))
   value_kind (program.state place last) h = refl
 
   kept_kind : (k : Kind) → (kind_is_register k || kind_is_state k) ≡ true → kind_is_memory k ≡ false
   kept_kind program.input h = refl
   kept_kind program.register h = refl
-  kept_kind (program.memory depth) h = absurd (apart_tests (sym h))
+  kept_kind (program.memory depth) h = absurd (true_is_not_false (sym h))
   kept_kind (program.state place last) h = refl
 
   pub value_no_memory : (x : ℕ) → is_value w x ≡ true → is_memory w x ≡ false
@@ -82,7 +52,7 @@ module _ (w : World) where
   tagged x l m = rw (l, m) refl
 
   pub tagged_memory : (x : ℕ) → is_memory w x ≡ true → is_dynamic w x ≡ true → has_tag w x ≡ true
-  tagged_memory x m t = rw (memory_within x m, t) (either_second (not (is_memory w x)) true refl)
+  tagged_memory x m t = rw (memory_within x m, t) (or_right (not (is_memory w x)) true refl)
 
   pub tagged_within : (x : ℕ) → has_tag w x ≡ true → nat_lt x (root w) ≡ true
-  tagged_within x h = (both_true (nat_lt x (root w)) (not (is_memory w x) || is_dynamic w x) h).0
+  tagged_within x h = (and_parts (nat_lt x (root w)) (not (is_memory w x) || is_dynamic w x) h).0

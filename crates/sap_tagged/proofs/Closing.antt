@@ -1,6 +1,8 @@
 -- Nothing stands behind a goto or a fall.
 use Rattle.std.proofs.Common.{◌≡◌, ℕ, zero, suc, ◌+◌, ◌^◌, nat_le, List, [], ◌∷◌, length, take, drop, Bool, true, false, not, ◌&&◌, ◌||◌, refl, ap, ◌∙◌, inl, inr, if◌then◌else◌}
-use Rattle.std.proofs.lemmas.Bool.{cases_Bool}
+use Rattle.std.proofs.lemmas.Bool.{cases_Bool, and_parts, or_parts, or_right}
+use Rattle.sap_lemmas.proofs.Bools.{true_is_not_false}
+use Rattle.sap_ir.proofs.PlainLemmas.{follow_stop}
 use Rattle.sap_maps.specs.Maps.{Name}
 use Rattle.sap_maps.specs.Term.{Term, part}
 use Rattle.sap_meaning.specs.Program.{root, is_dynamic, is_register, listed, Step, Set, Write, Retag, RetagCell, Goto, Fall, Command, Do, Try, If, TryThen, Case, Arms, Last, Arm, Block, End, Then}
@@ -16,7 +18,6 @@ use Rattle.sap_tagged.specs.Keys.{Key, Tag, Wire}
 use Rattle.sap_tagged.specs.Setting.{Setting}
 use Rattle.sap_tagged.specs.Levels.{always, expr, var, lub, bits}
 use Rattle.sap_tagged.specs.Commands.{gives, sweep, resets, effect_of, refusal, outcome, attempt_of, outcome_then, attempt_then_of, pick_width, picks_arm, picks, decides, pick_of, select_of, wires, wires_block, command_plain, arms_plain, block_plain}
-use Rattle.sap_tagged.proofs.Bools.{apart_tests, both_true, either_second}
 
 -- a body that ends as it should; and one that goes nowhere either
 abbrev pub Ends : Body → Type 0
@@ -34,42 +35,31 @@ sweep_goes : (d : Setting) (v : ℕ → Key) (h : ℕ → Bool) (t : ℕ → Ter
 sweep_goes d v h t x zero rest e = e
 sweep_goes d v h t x (suc m) rest e = elim (cases_Bool (h x)) [ inl i ↦ rw i (sweep_goes d v h t (x + 1) m rest e) | inr i ↦ rw i (sweep_goes d v h t (x + 1) m rest e) ]
 
-follow_stop : (b : Body) → follow b stop ≡ b
-follow_stop stop = refl
-follow_stop (act a rest) = ap (act a) (follow_stop rest)
-follow_stop (cases t x y rest) = ap (cases t x y) (follow_stop rest)
-follow_stop (goto x rest) = ap (goto x) (follow_stop rest)
-follow_stop (fall rest) = ap fall (follow_stop rest)
-
-or_false : (a b : Bool) → (a || b) ≡ false → (a ≡ false) × (b ≡ false)
-or_false true b h = absurd (apart_tests h)
-or_false false b h = (refl, h)
-
 follow_ends : (a b : Body) → Stays a → Ends b → Ends (follow a b)
 follow_ends stop b s e = e
 follow_ends (act x rest) b s e = follow_ends rest b (record { ends = s.ends; goes = s.goes }) e
 follow_ends (cases t x y rest) b s e =
-    let g = or_false (transfers x || transfers y) (transfers rest) s.goes in
-    let i = or_false (transfers x) (transfers y) g.0 in
-    let p = both_true ((ends_in_transfers x && ends_in_transfers y) && ends_in_transfers rest) _ s.ends in
-    let q = both_true (ends_in_transfers x && ends_in_transfers y) (ends_in_transfers rest) p.0 in
-    let r = both_true (ends_in_transfers x) (ends_in_transfers y) q.0 in
+    let g = or_parts (transfers x || transfers y) (transfers rest) s.goes in
+    let i = or_parts (transfers x) (transfers y) g.0 in
+    let p = and_parts ((ends_in_transfers x && ends_in_transfers y) && ends_in_transfers rest) _ s.ends in
+    let q = and_parts (ends_in_transfers x && ends_in_transfers y) (ends_in_transfers rest) p.0 in
+    let r = and_parts (ends_in_transfers x) (ends_in_transfers y) q.0 in
     rw (r.0, r.1, follow_ends rest b (record { ends = q.1; goes = g.1 }) e, i.0, i.1) refl
-follow_ends (goto x rest) b s e = absurd (apart_tests s.goes)
-follow_ends (fall rest) b s e = absurd (apart_tests s.goes)
+follow_ends (goto x rest) b s e = absurd (true_is_not_false s.goes)
+follow_ends (fall rest) b s e = absurd (true_is_not_false s.goes)
 
 follow_goes : (a b : Body) → transfers a ≡ false → transfers b ≡ false → transfers (follow a b) ≡ false
 follow_goes stop b s e = e
 follow_goes (act x rest) b s e = follow_goes rest b s e
 follow_goes (cases t x y rest) b s e =
-    let g = or_false (transfers x || transfers y) (transfers rest) s in
-    let i = or_false (transfers x) (transfers y) g.0 in
+    let g = or_parts (transfers x || transfers y) (transfers rest) s in
+    let i = or_parts (transfers x) (transfers y) g.0 in
     rw (i.0, i.1) (follow_goes rest b g.1 e)
-follow_goes (goto x rest) b s e = absurd (apart_tests s)
-follow_goes (fall rest) b s e = absurd (apart_tests s)
+follow_goes (goto x rest) b s e = absurd (true_is_not_false s)
+follow_goes (fall rest) b s e = absurd (true_is_not_false s)
 
 choice_ends : (t : Term Name) (x y : Body) → Ends x → Ends y → Ends (cases t x y stop)
-choice_ends t x y e f = rw (e, f) (either_second (not (transfers x || transfers y)) true refl)
+choice_ends t x y e f = rw (e, f) (or_right (not (transfers x || transfers y)) true refl)
 
 choice_stays : (t : Term Name) (x y : Body) → Stays x → Stays y → Stays (cases t x y stop)
 choice_stays t x y e f = record { ends = choice_ends t x y e.ends f.ends; goes = rw (e.goes, f.goes) refl }
@@ -91,8 +81,8 @@ module _ (d : Setting) where
   effect_goes sp k (Write site m i e) f = elim (cases_Bool (is_dynamic d.world m)) [ inl i ↦ rw i refl | inr i ↦ rw i refl ]
   effect_goes sp k (Retag site x n) f = elim (cases_Bool (is_register d.world x)) [ inl i ↦ rw i refl | inr i ↦ rw i refl ]
   effect_goes sp k (RetagCell site m j n) f = refl
-  effect_goes sp k (Goto site target) f = absurd (apart_tests f)
-  effect_goes sp k (Fall site hang) f = absurd (apart_tests f)
+  effect_goes sp k (Goto site target) f = absurd (true_is_not_false f)
+  effect_goes sp k (Fall site hang) f = absurd (true_is_not_false f)
 
   module _ (sp : Spot) where
     attempt_ends : (p k : ℕ) (t : Step) (hangs : ℕ → Bool) (h : Body) → Ends h → Ends (attempt_of d sp p k t hangs h)

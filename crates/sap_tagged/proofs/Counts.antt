@@ -1,6 +1,6 @@
 -- The check sites of a design are numbered from 1 without a gap; and what is below a state stands in its children.
 use Rattle.std.proofs.Common.{◌≡◌, ℕ, suc, ◌+◌, ◌<◌, ◌≤◌, Bool, true, false, ◌&&◌, ◌||◌, List, [], length, nat_eq, nat_lt, nat_le, ◌∙◌, arith, inl, inr}
-use Rattle.std.proofs.lemmas.Bool.{cases_Bool}
+use Rattle.std.proofs.lemmas.Bool.{cases_Bool, and_parts, or_left, or_right}
 use Rattle.std.proofs.lemmas.Grind.{common_steps}
 use Rattle.sap_tree.specs.Syntax.{StateTree, StateOf, StateList, NoState, AndState, DesignTree}
 use Rattle.sap_lattice.specs.Levels.{Levels, order_of}
@@ -20,7 +20,6 @@ use Rattle.sap_resolve.proofs.premises.Numbers.{here_last}
 use Rattle.sap_resolve.proofs.premises.Filling.{inside_filled}
 use Rattle.sap_resolve.proofs.premises.Rises.{count_from, group_counted, group_sites_filled}
 use Rattle.sap_resolve.proofs.premises.Worlds.{laid}
-use Rattle.sap_tagged.proofs.Bools.{either_first, either_second, both_true}
 use Rattle.sap_tagged.proofs.Groups.{Tidy, TidyState}
 
 pub numbered : (ls : Levels) (d : DesignTree) → states_faults ls.names (order_of ls).le (what_is (entities_of d)) d.states ≡ []
@@ -47,20 +46,20 @@ module _ (ls : Levels) (es : List declared_entity.Entity) where
       let here : Group = group_of ls es (k + length (block_sites h body)) (x + 1) children in
       let later : Group = group_of ls es (k + length (state_sites es s)) (x + states_in s) rest in
       elim (cases_Bool (nat_eq y x)) [
-        | inl e ↦ either_first (nat_eq y x) (inside here y || inside later y) e
-        | inr e ↦ either_second (nat_eq y x) (inside here y || inside later y)
+        | inl e ↦ or_left (nat_eq y x) (inside here y || inside later y) e
+        | inr e ↦ or_right (nat_eq y x) (inside here y || inside later y)
             (elim (cases_Bool (nat_lt y (x + (1 + states_below children)))) [
               | inl t ↦
                   (let r = place_of x y (states_below children) (states_below rest) l m e t in
-                  either_first (inside here y) (inside later y) (stands_inside (k + length (block_sites h body)) (x + 1) children y r.0 r.1))
+                  or_left (inside here y) (inside later y) (stands_inside (k + length (block_sites h body)) (x + 1) children y r.0 r.1))
               | inr t ↦
                   (let r = later_than x y (states_below children) (states_below rest) m t in
-                  either_second (inside here y) (inside later y) (stands_inside (k + length (state_sites es s)) (x + states_in s) rest y r.0 r.1))
+                  or_right (inside here y) (inside later y) (stands_inside (k + length (state_sites es s)) (x + states_in s) rest y r.0 r.1))
             ])
       ]
 
   in_bounds : (x l y : ℕ) (b : Bool) → (b && (nat_lt x y && nat_le y l)) ≡ true → (x + 1 ≤ y) × (y ≤ l)
-  in_bounds x l y b h = let r = (both_true b (nat_lt x y && nat_le y l) h).1 in (grind (arith, common_steps), grind (arith, common_steps))
+  in_bounds x l y b h = let r = (and_parts b (nat_lt x y && nat_le y l) h).1 in (grind (arith, common_steps), grind (arith, common_steps))
 
   module _ (w : World) where
     mutual

@@ -1,11 +1,16 @@
 -- A cycle, and a run: the plain program does what the design does.
-use Rattle.std.proofs.Common.{◌≡◌, ℕ, zero, suc, ◌+◌, ◌^◌, ◌<◌, ◌≤◌, List, [], ◌∷◌, ◌++◌, map, length, Bool, true, false, not, ◌||◌, Option, Some, None, inl, inr, refl, sym, ap, ◌∙◌, subst, if◌then◌else◌, arith, get_or, nat_lt, nat_le, nat_eq}
+use Rattle.std.proofs.Common.{◌≡◌, ℕ, zero, suc, ◌+◌, ◌^◌, ◌<◌, ◌≤◌, List, [], ◌∷◌, ◌++◌, map, length, Bool, true, false, not, ◌||◌, Option, Some, None, inl, inr, refl, sym, ap, ◌∙◌, subst, if◌then◌else◌, arith, get_or, nat_lt, nat_eq}
 use Rattle.std.specs.Prelude.{unwrap_or, codes}
-use Rattle.std.proofs.lemmas.Bool.{cases_Bool, eqb-true, eq-eqb}
+use Rattle.std.proofs.lemmas.Bool.{cases_Bool, eqb-true, eq-eqb, and_parts, lt-ltb, ltb-true, or_right}
 use Rattle.std.proofs.lemmas.Grind.{common_steps}
+use Rattle.sap_lemmas.proofs.Bools.{or_other, true_is_not_false}
+use Rattle.sap_lemmas.proofs.Numbers.{less_of_tests, less_test_of_positive}
+use Rattle.sap_net.proofs.NamesLemmas.{among_behind, among_front, not_found}
+use Rattle.sap_meaning.proofs.ProgramLemmas.{own_kind, register_no_memory, state_no_memory}
+use Rattle.sap_maps.proofs.ScopeLemmas.{found_first, found_second}
 use Rattle.sap_maps.specs.Maps.{Name, Valuation}
 use Rattle.sap_meaning.specs.Program as program
-use Rattle.sap_meaning.specs.Program.{World, Kind, entity, nothing, root, children, width, is_input, is_register, is_memory, is_dynamic, listed, kind_is_input, kind_is_register, kind_is_memory, kind_is_state}
+use Rattle.sap_meaning.specs.Program.{World, Kind, entity, nothing, root, children, width, is_input, is_register, is_memory, is_dynamic, listed, kind_is_input, kind_is_memory}
 use Rattle.sap_meaning.specs.Store.{own, start, next, start_whole, next_whole, owner, Store, settle, After}
 use Rattle.sap_meaning.specs.Runs.{run_state}
 use Rattle.sap_meaning.specs.Cycle.{Tagged, given, set_inputs, root_fall, cycle, cycle_listed, run_from}
@@ -18,7 +23,7 @@ use Rattle.sap_ir.specs.declared.guarded.Store as stores
 use Rattle.sap_ir.specs.Source.{Source, readable, width_of}
 use Rattle.sap_ir.specs.IsGuarded.{variable_names, memory_names}
 use Rattle.sap_ir.specs.Guarded.{Going, first_number, first_cell, number_at_start, begun}
-use Rattle.sap_ir.proofs.Declared.{distinct_front, distinct_behind, apart_lists, among_front, among_behind, found_first, found_second, not_found, not_readable, readable_width}
+use Rattle.sap_ir.proofs.Declared.{distinct_front, distinct_behind, apart_lists, not_readable, readable_width}
 use Rattle.sap_ir.specs.Plain.Nested.{Nested, Forest, declarations}
 use Rattle.sap_ir.specs.Plain.Nested as nested
 use Rattle.sap_ir.specs.Plain.Does.{child_does, enter, falls_of, run_after}
@@ -32,7 +37,7 @@ use Rattle.sap_tagged.specs.States.{top_plain}
 use Rattle.sap_tagged.specs.Plain.{variable, level_at_start, value_var, tag_var, seat_var, all_entities, shown_registers, has_own_tag, tag_registers, seat_registers, site_wires, memory_of, tags_of, plain_of}
 use Rattle.sap_tagged.specs.Stands.{Lawful, at, has_tag, tag_slot, refused_after}
 use Rattle.sap_tagged.specs.Law.{AreSites, RefusalsAreSites, AllNumbersFit, RunStands}
-use Rattle.sap_tagged.proofs.Bools.{apart_tests, both_true, second, either_second, value_within, register_within, memory_within, tagged_within}
+use Rattle.sap_tagged.proofs.Bools.{value_within, register_within, memory_within, tagged_within}
 use Rattle.sap_tagged.proofs.KeyNames.{names_apart}
 use Rattle.sap_tagged.proofs.Members.{In, among_in, find_in, number_in, number_out, start_out, in_front, in_behind, in_entities, reached, among_store, cell_in, find_store}
 use Rattle.sap_tagged.proofs.Inputs.{From, GivenAt, given_at, numbers_fit}
@@ -42,20 +47,8 @@ use Rattle.sap_tagged.proofs.Ends.{refusals_told, levels_told, sites_told, count
 use Rattle.sap_tagged.proofs.Premises.{Design}
 use Rattle.sap_tagged.proofs.Numerals.{numeral_decimal}
 
-less_than : (x n : ℕ) → nat_lt x n ≡ true → x < n
-less_than x n h = grind (arith, common_steps)
-
-le_not : (x n : ℕ) → nat_le x n ≡ true → nat_eq x n ≡ false → nat_lt x n ≡ true
-le_not x n h e = grind (arith, common_steps)
-
 lt_not : (x n : ℕ) → nat_lt x n ≡ true → nat_eq x n ≡ false
 lt_not x n h = grind (arith, common_steps)
-
-pub test_of_lt : (x n : ℕ) → x < n → nat_lt x n ≡ true
-test_of_lt x n h = grind (arith, common_steps)
-
-positive : (n : ℕ) → 0 < n → nat_lt 0 n ≡ true
-positive n h = test_of_lt 0 n h
 
 -- the names of ports
 module _ (d : Named) where
@@ -92,42 +85,11 @@ level_in d u j k (suc n) l m = elim (reached k j l) [
   | inr e ↦ inr (inr (level_in d u j (k + 1) n e (omega arith)))
 ]
 
--- what has a tag is an input, a register, or has one of its own
-own_kind : (k : Kind) (b : Bool) → (not (kind_is_memory k) || b) ≡ true → kind_is_input k ≡ false → kind_is_register k ≡ false → (if kind_is_memory k then b else kind_is_state k) ≡ true
-own_kind program.input b h i r = absurd (apart_tests i)
-own_kind program.register b h i r = absurd (apart_tests r)
-own_kind (program.memory depth) b h i r = h
-own_kind (program.state place last) b h i r = refl
-
-register_no_input : (k : Kind) → kind_is_register k ≡ true → kind_is_input k ≡ false
-register_no_input program.input h = absurd (apart_tests (sym h))
-register_no_input program.register h = refl
-register_no_input (program.memory depth) h = refl
-register_no_input (program.state place last) h = refl
-
-memory_no_input : (k : Kind) → kind_is_memory k ≡ true → kind_is_input k ≡ false
-memory_no_input program.input h = absurd (apart_tests (sym h))
-memory_no_input program.register h = refl
-memory_no_input (program.memory depth) h = refl
-memory_no_input (program.state place last) h = refl
-
 input_no_memory : (k : Kind) → kind_is_input k ≡ true → kind_is_memory k ≡ false
 input_no_memory program.input h = refl
-input_no_memory program.register h = absurd (apart_tests (sym h))
-input_no_memory (program.memory depth) h = absurd (apart_tests (sym h))
-input_no_memory (program.state place last) h = absurd (apart_tests (sym h))
-
-state_no_memory : (k : Kind) → kind_is_state k ≡ true → kind_is_memory k ≡ false
-state_no_memory program.input h = absurd (apart_tests (sym h))
-state_no_memory program.register h = absurd (apart_tests (sym h))
-state_no_memory (program.memory depth) h = absurd (apart_tests (sym h))
-state_no_memory (program.state place last) h = refl
-
-register_no_memory : (k : Kind) → kind_is_register k ≡ true → kind_is_memory k ≡ false
-register_no_memory program.input h = absurd (apart_tests (sym h))
-register_no_memory program.register h = refl
-register_no_memory (program.memory depth) h = absurd (apart_tests (sym h))
-register_no_memory (program.state place last) h = absurd (apart_tests (sym h))
+input_no_memory program.register h = absurd (true_is_not_false (sym h))
+input_no_memory (program.memory depth) h = absurd (true_is_not_false (sym h))
+input_no_memory (program.state place last) h = absurd (true_is_not_false (sym h))
 
 module _ (d : Named) (tag sites : ℕ) (design : Design d tag sites) where
   abbrev w : World
@@ -154,7 +116,7 @@ module _ (d : Named) (tag sites : ℕ) (design : Design d tag sites) where
   -- what is declared
 
   pub in_all : {A : Type 0} (picks : ℕ → Bool) (of : ℕ → List A) (v : A) (x : ℕ) → nat_lt x n ≡ true → picks x ≡ true → In (of x) v → In (all_entities d picks of) v
-  in_all picks of v x l h i = let m : x < n = less_than x n l in in_entities picks of v x h i 0 w.entities (omega arith) (omega (arith, m))
+  in_all picks of v x l h i = let m : x < n = ltb-true x n l in in_entities picks of v x h i 0 w.entities (omega arith) (omega (arith, m))
 
   pub in_value : (x : ℕ) → is_register w x ≡ true → In src.registers (value_register x)
   in_value x r = in_front (shown_registers d tag) (tag_registers d tag ++ seat_registers d) (value_register x) (in_all (is_register w) _ (value_register x) x (register_within w x r) r (inl refl))
@@ -177,7 +139,7 @@ module _ (d : Named) (tag sites : ℕ) (design : Design d tag sites) where
             (inl (ap (seat_var d) (sym (eqb-true q n e))))
         | inr e ↦
             in_front (all_entities d (λ p. nat_lt 0 (children w p)) (λ p. seat_var d p ∷ [])) (seat_var d n ∷ []) (seat_var d q)
-            (in_all (λ p. nat_lt 0 (children w p)) (λ p. seat_var d p ∷ []) (seat_var d q) q (le_not q n (design.parents q h) e) (positive (children w q) h) (inl refl))
+            (in_all (λ p. nat_lt 0 (children w p)) (λ p. seat_var d p ∷ []) (seat_var d q) q (less_of_tests q n (design.parents q h) e) (less_test_of_positive (children w q) h) (inl refl))
       ]))
 
   pub in_memory : (m : ℕ) → is_memory w m ≡ true → In src.memories (memory_of d m)
@@ -260,7 +222,7 @@ module _ (d : Named) (tag sites : ℕ) (design : Design d tag sites) where
     order = design.within;
     values = λ x v. elim (cases_Bool (is_input w x)) [
       | inl i ↦ input_width x i (value_within w x v)
-      | inr i ↦ register_width (value_register x) (in_value x (second (is_input w x) (is_register w x) v i))
+      | inr i ↦ register_width (value_register x) (in_value x (or_other (is_input w x) (is_register w x) v i))
     ];
     cells = memory_width;
   }
@@ -360,7 +322,7 @@ module _ (d : Named) (tag sites : ℕ) (design : Design d tag sites) where
       let z : 0 + x ≡ x = omega arith in
       let m : 0 + length w.entities ≤ n = omega arith in
       let r : GivenAt d tag src before 0 w.entities inputs x default =
-      given_at d tag src before design.names default w.order.count 0 w.entities inputs x from_first fit m (less_than x n l) (ap (is_input w) z ∙ i) in (
+      given_at d tag src before design.names default w.order.count 0 w.entities inputs x from_first fit m (ltb-true x n l) (ap (is_input w) z ∙ i) in (
         ap (λ (y : ℕ). start_at before inputs (key_name d (Value y))) (sym z) ∙ r.number,
         ap (λ (y : ℕ). start_at before inputs (key_name d (Tag y))) (sym z) ∙ r.level,
       )
@@ -374,7 +336,7 @@ module _ (d : Named) (tag sites : ℕ) (design : Design d tag sites) where
     | inl e ↦ register_starts before inputs (tag_register x) (in_tag x e) ∙ r.levels x h i
     | inr e ↦
         register_starts before inputs (tag_register x)
-        (in_own_tag x (tagged_within w x h) (own_kind (entity w x).kind (is_dynamic w x) (both_true (nat_lt x n) (not (is_memory w x) || is_dynamic w x) h).1 i e))
+        (in_own_tag x (tagged_within w x h) (own_kind (entity w x).kind (is_dynamic w x) (and_parts (nat_lt x n) (not (is_memory w x) || is_dynamic w x) h).1 i e))
         ∙ r.levels x h i
   ]
 
@@ -385,8 +347,8 @@ module _ (d : Named) (tag sites : ℕ) (design : Design d tag sites) where
           (input_starts before inputs fit x i (value_within w x v)).0
           ∙ sym (entered_number inputs t x ∙ ap (λ (q : Bool). if q then (given w inputs x).number else t.number (own x)) i)
       | inr i ↦
-          register_starts before inputs (value_register x) (in_value x (second (is_input w x) (is_register w x) v i))
-          ∙ r.numbers x (second (is_input w x) (is_register w x) v i)
+          register_starts before inputs (value_register x) (in_value x (or_other (is_input w x) (is_register w x) v i))
+          ∙ r.numbers x (or_other (is_input w x) (is_register w x) v i)
           ∙ sym (entered_number inputs t x ∙ ap (λ (q : Bool). if q then (given w inputs x).number else t.number (own x)) i)
     ];
     tag = λ x h. elim (cases_Bool (is_input w x)) [
@@ -476,7 +438,7 @@ module _ (d : Named) (tag sites : ℕ) (design : Design d tag sites) where
       let st = c.stands in
       record {
         register_values = λ x r.
-            ap g.now.value (sym (value_known d x (register_within w x r))) ∙ st.value x (either_second (is_input w x) (is_register w x) r) ∙ sym (e.0 x);
+            ap g.now.value (sym (value_known d x (register_within w x r))) ∙ st.value x (or_right (is_input w x) (is_register w x) r) ∙ sym (e.0 x);
         register_tags = λ x r.
             ap g.now.value (sym (tag_known d x (register_within w x r)))
             ∙ own_level g s st x (register_within w x r) (register_no_memory (entity w x).kind r) ∙ ap d.code (sym (e.1 x));
@@ -486,12 +448,12 @@ module _ (d : Named) (tag sites : ℕ) (design : Design d tag sites) where
             ∙ ap (λ (b : Bool). d.code ((settle s).level (if b then start_whole m else start m i))) (sym q);
         memory_tags = λ m h q.
             ap g.now.value (sym (tag_known d m (memory_within w m h)))
-            ∙ st.tag m (rw (memory_within w m h, q) (either_second (not (is_memory w m)) true refl))
+            ∙ st.tag m (rw (memory_within w m h, q) (or_right (not (is_memory w m)) true refl))
             ∙ ap (λ (b : Bool). d.code (s.level (if b then next_whole m else own m))) h ∙ ap d.code (sym (e.4 m));
         state_tags = λ x h l.
-            let b = test_of_lt x n l in
+            let b = lt-ltb x n l in
             ap g.now.value (sym (tag_known d x b)) ∙ own_level g s st x b (state_no_memory (entity w x).kind h) ∙ ap d.code (sym (e.1 x));
-        seats = λ q l h. ap g.now.value (sym (seat_known d q (test_of_lt q n l))) ∙ st.seat q h ∙ sym (e.5 q);
+        seats = λ q l h. ap g.now.value (sym (seat_known d q (lt-ltb q n l))) ∙ st.seat q h ∙ sym (e.5 q);
         root_seat = ap g.now.value (sym (root_known d)) ∙ st.seat n some ∙ sym (e.5 n);
         refusals = λ k l m.
             refusals_told k a.refused (g.now.value (ports.refused_name k))
@@ -508,7 +470,7 @@ module _ (d : Named) (tag sites : ℕ) (design : Design d tag sites) where
       let e = settled_slots s in
       let st = c.stands in
       record {
-        numbers = λ x r. st.value x (either_second (is_input w x) (is_register w x) r) ∙ sym (e.0 x);
+        numbers = λ x r. st.value x (or_right (is_input w x) (is_register w x) r) ∙ sym (e.0 x);
         levels = λ x h i. st.tag x h ∙ ap d.code (sym (settled_tag s x));
         seats = λ q h. st.seat q h ∙ sym (e.5 q);
         cells = λ m i h. st.nexts m i h ∙ sym (e.2 m i);

@@ -1,8 +1,12 @@
 -- The program of a well-formed design has all that the law asks for.
 use Rattle.std.proofs.Common.{◌≡◌, ℕ, zero, suc, ◌+◌, ◌^◌, ◌<◌, ◌≤◌, List, [], ◌∷◌, ◌++◌, map, length, length-append, Bool, true, false, not, ◌&&◌, ◌||◌, refl, sym, ap, ◌∙◌, subst, arith, bytes_eq, nat_eq, nat_lt, nat_le, get_or}
 use Rattle.std.specs.List.{list_all, list_any}
-use Rattle.std.proofs.lemmas.Bool.{eqb-true, eq-eqb}
+use Rattle.std.proofs.lemmas.Bool.{eqb-true, eq-eqb, and_parts, leb-true, ltb-true, not-true}
 use Rattle.std.proofs.lemmas.Grind.{common_steps}
+use Rattle.sap_lemmas.proofs.Bools.{and_left, and_right, iff_same}
+use Rattle.sap_lemmas.proofs.Texts.{bytes_eq_same, equal_of_bytes_eq}
+use Rattle.sap_resolve.proofs.WorldsLemmas.{children_length, declared_length}
+use Rattle.sap_names.proofs.FaultLemmas.{nil_left, nil_right}
 use Rattle.sap_tree.specs.declared.syntax.Decl.{Decl}
 use Rattle.sap_tree.specs.declared.syntax.Decl.TheVariants as decl
 use Rattle.sap_tree.specs.Syntax.{StateTree, StateOf, StateList, NoState, AndState, DesignTree}
@@ -23,7 +27,6 @@ use Rattle.sap_resolve.specs.Worlds as worlds
 use Rattle.sap_resolve.specs.Resolve.{states_of}
 use Rattle.sap_resolve.proofs.Lookup.{entities_length}
 use Rattle.sap_resolve.proofs.sized.Programs.{names_fit_law}
-use Rattle.sap_resolve.proofs.premises.Faultless.{nil_left, nil_right}
 use Rattle.sap_resolve.proofs.premises.Lookups.{unique}
 use Rattle.sap_resolve.proofs.premises.Places.{name_at, group_count, group_kids}
 use Rattle.sap_resolve.proofs.premises.Programs.{fine_law}
@@ -33,8 +36,7 @@ use Rattle.sap_interface.specs.StandsFor.{Named, name}
 use Rattle.sap_interface.specs.Designs.{named_of, sites_of}
 use Rattle.sap_meaning.specs.Laws.{ListsServe, SitesInOrder}
 use Rattle.sap_tagged.specs.Law.{IsSound, PlainStands}
-use Rattle.sap_tagged.proofs.Bools.{both_true}
-use Rattle.sap_tagged.proofs.KeyNames.{NamesApart, same_name, name_is, same_test}
+use Rattle.sap_tagged.proofs.KeyNames.{NamesApart}
 use Rattle.sap_tagged.proofs.Distinct.{distinct}
 use Rattle.sap_tagged.proofs.FewArms.{group_few, filled_group_few}
 use Rattle.sap_tagged.proofs.Premises.{Design}
@@ -42,12 +44,6 @@ use Rattle.sap_tagged.proofs.Cycle.{run_stands}
 use Rattle.sap_tagged.proofs.Shown.{interface}
 use Rattle.sap_shape.proofs.SiteCounts.{states_few}
 use Rattle.sap_tagged.proofs.Counts.{numbered, tidy}
-
-and_left : (p q : Bool) → (p && q) ≡ true → p ≡ true
-and_left p q h = (both_true p q h).0
-
-and_right : (p q : Bool) → (p && q) ≡ true → q ≡ true
-and_right p q h = (both_true p q h).1
 
 -- names are those of the design language, and so words
 
@@ -65,17 +61,13 @@ any_front f (x ∷ xs) ys h = by (f x) h (λ e. any_front f xs ys e)
     by true e g = e
     by false e g = g e
 
-off : (b : Bool) → not b ≡ true → b ≡ false
-off true h = sym h
-off false h = refl
-
 first_name : (version : Version) (n : List ℕ) → words.is_name version n ≡ true → words.is_name One n ≡ true
 unfolding words.is_name
 first_name One n h = h
 first_name Two n h =
-    let a = both_true (words.is_word n && not (words.is_keyword Two n)) (nat_le (length n) most_name_bytes) h in
-    let b = both_true (words.is_word n) (not (words.is_keyword Two n)) a.0 in
-    let f : words.is_keyword One n ≡ false = any_front (bytes_eq n) (words.keywords One) (map words.word_text words.later_words) (off (words.is_keyword Two n) b.1) in
+    let a = and_parts (words.is_word n && not (words.is_keyword Two n)) (nat_le (length n) most_name_bytes) h in
+    let b = and_parts (words.is_word n) (not (words.is_keyword Two n)) a.0 in
+    let f : words.is_keyword One n ≡ false = any_front (bytes_eq n) (words.keywords One) (map words.word_text words.later_words) (not-true (words.is_keyword Two n) b.1) in
     rw (b.0, f, a.1) refl
 
 abbrev AllNamed : Version → List Entity → Type 0
@@ -94,7 +86,7 @@ declaration_named version (decl.Memory place name width depth kind) h = and_left
 declared_named : (version : Version) (ds : List Decl) → list_all (is_declaration version) ds ≡ true → AllNamed version (declared_in ds)
 declared_named version [] h = tt
 declared_named version (d ∷ ds) h =
-    let i = both_true (is_declaration version d) (list_all (is_declaration version) ds) h in (declaration_named version d i.0, declared_named version ds i.1)
+    let i = and_parts (is_declaration version d) (list_all (is_declaration version) ds) h in (declaration_named version d i.0, declared_named version ds i.1)
 
 mutual
   unfolding is_state are_states
@@ -106,7 +98,7 @@ mutual
   states_named : (version : Version) (g : StateList) → are_states version g ≡ true → AllNamed version (group_entities g)
   states_named version NoState h = tt
   states_named version (AndState s rest) h =
-      let i = both_true (is_state version s) (are_states version rest) h in
+      let i = and_parts (is_state version s) (are_states version rest) h in
       named_join version (state_entities s) (group_entities rest) (state_named version s i.0) (states_named version rest i.1)
 
 named_at : (version : Version) (es : List Entity) → AllNamed version es → (x : ℕ) → x < length es → words.is_name version (name_at es x) ≡ true
@@ -120,20 +112,6 @@ names_at (e ∷ es) zero = refl
 names_at (e ∷ es) (suc x) = names_at es x
 
 -- counts
-
-declared_length : (ls : Levels) (ds : List Decl) → length (all_declared ls ds) ≡ length ds
-declared_length ls [] = refl
-declared_length ls (d ∷ ds) = ap suc (declared_length ls ds)
-
-children_length : (ds : List Decl) → length (no_children ds) ≡ length ds
-children_length [] = refl
-children_length (d ∷ ds) = ap suc (children_length ds)
-
-less_than : (x n : ℕ) → nat_lt x n ≡ true → x < n
-less_than x n h = grind (arith, common_steps)
-
-at_most : (a b : ℕ) → nat_le a b ≡ true → a ≤ b
-at_most a b h = grind (arith, common_steps)
 
 past : (xs : List ℕ) (p : ℕ) → 0 < get_or xs p 0 → p < length xs
 past [] p h = absurd (omega arith)
@@ -232,7 +210,7 @@ module _ (ls : Levels) (D : DesignTree) (sg : IsSound ls D) where
   states_fit = nil_right _ _ sg.formed.names
 
   in_length : (x : ℕ) → nat_lt x (root w) ≡ true → x < length es
-  in_length x h = subst (λ (n : ℕ). x < n) (entities_length ls D) (less_than x (root w) h)
+  in_length x h = subst (λ (n : ℕ). x < n) (entities_length ls D) (ltb-true x (root w) h)
 
   number_at : (x : ℕ) → nat_lt x (root w) ≡ true → entity_number es (name d x) ≡ x
   number_at x l = ap (λ (a : List ℕ). entity_number es a) (names_at es x) ∙ unique es no_name_twice x (in_length x l)
@@ -254,16 +232,16 @@ module _ (ls : Levels) (D : DesignTree) (sg : IsSound ls D) where
   pub names : NamesApart d
   names = record {
     apart = λ x y l m.
-        same_test (bytes_eq (name d x) (name d y)) (nat_eq x y)
-        (λ i. eq-eqb x y (sym (number_at x l) ∙ ap (λ (a : List ℕ). entity_number es a) (name_is (name d x) (name d y) i) ∙ number_at y m))
-        (λ i. subst (λ (z : ℕ). bytes_eq (name d x) (name d z) ≡ true) (eqb-true x y i) (same_name (name d x)));
+        iff_same (bytes_eq (name d x) (name d y)) (nat_eq x y)
+        (λ i. eq-eqb x y (sym (number_at x l) ∙ ap (λ (a : List ℕ). entity_number es a) (equal_of_bytes_eq (name d x) (name d y) i) ∙ number_at y m))
+        (λ i. subst (λ (z : ℕ). bytes_eq (name d x) (name d z) ≡ true) (eqb-true x y i) (bytes_eq_same (name d x)));
     words = λ x l. word_of One (name d x) (is_named x l);
     named = is_named;
   }
 
   few_sites : 1 + sites_of D ≤ 2 ^ 64
   few_sites =
-      site_limit (sites_of D) (within (sites_of D) (states_commands D.states) (states_few es D.states) (at_most (states_commands D.states) most_commands (and_right _ (nat_le (states_commands D.states) most_commands) split.1)))
+      site_limit (sites_of D) (within (sites_of D) (states_commands D.states) (states_few es D.states) (leb-true (states_commands D.states) most_commands (and_right _ (nat_le (states_commands D.states) most_commands) split.1)))
     where
       within : (m n : ℕ) → m ≤ n → n ≤ 4096 → m ≤ 4096
       within m n h k = omega (arith, h, k)
@@ -288,7 +266,7 @@ module _ (ls : Levels) (D : DesignTree) (sg : IsSound ls D) where
       (most_join all (no_children D.declarations ++ group_children D.states) (group_length D.states ∷ [])
       (most_join all (no_children D.declarations) (group_children D.states) (no_kids all D.declarations) (kids_group D.states)) (length_below D.states, tt)) p)
       (counted_states D.states)
-      (at_most (states_count D.states) most_states (and_right _ (nat_le (states_count D.states) most_states) (and_left _ _ (and_left _ _ split.1))))
+      (leb-true (states_count D.states) most_states (and_right _ (nat_le (states_count D.states) most_states) (and_left _ _ (and_left _ _ split.1))))
 
   pub design : Design d (width_of (order_of ls)) (sites_of D)
   design = record {

@@ -1,6 +1,8 @@
 -- No name is declared twice.
 use Rattle.std.proofs.Common.{◌≡◌, ℕ, zero, suc, ◌+◌, ◌≤◌, List, [], ◌∷◌, ◌++◌, map, length, Bool, true, false, refl, sym, ap, ap₂, ◌∙◌, subst, if◌then◌else◌, arith, nat_lt, nat_eq, append_assoc}
-use Rattle.std.proofs.lemmas.Bool.{eqb-true, eq-eqb}
+use Rattle.std.proofs.lemmas.Bool.{eqb-true, eq-eqb, false_from_ne_true}
+use Rattle.sap_lemmas.proofs.Bools.{true_is_not_false}
+use Rattle.std.proofs.lemmas.List.{map-append}
 use Rattle.sap_maps.specs.Maps.{Name}
 use Rattle.sap_meaning.specs.Program as program
 use Rattle.sap_meaning.specs.Program.{World, Kind, Entity, entity, root, children, is_input, is_register, is_memory, is_dynamic, kind_is_input, kind_is_register, kind_is_memory, kind_is_state, Command, Do, Try, If, TryThen, Case, Arms, Last, Arm, Block, End, Then, State, Node, Group, None, More}
@@ -14,7 +16,6 @@ use Rattle.sap_tagged.specs.Keys.{Key, Value, Tag, Seat, Refused, Level, Wire, F
 use Rattle.sap_tagged.specs.Commands.{wires, wires_arms, wires_block}
 use Rattle.sap_tagged.specs.States.{wires_state, wires_group, saved}
 use Rattle.sap_tagged.specs.Plain.{names_of, level_at_start, for_entities, shown_registers, has_own_tag, tag_registers, seat_var, seat_registers, site_wires, step_wires, command_wires, arms_wires, block_wires, state_wires, group_wires, first_wires, inner_wires, memory_of, tags_of, plain_of}
-use Rattle.sap_tagged.proofs.Bools.{apart_tests, refuted}
 use Rattle.sap_tagged.proofs.KeyNames.{NamesApart, names_apart, same_is}
 
 -- lists of keys
@@ -43,7 +44,7 @@ once_join [] ys h k f = k
 once_join (a ∷ xs) ys h k f = (every_join (Other a) xs ys h.0 f.0, once_join xs ys h.1 k f.1)
 
 other_by : (a b : Key) (f : Key → ℕ) → (f a ≡ f b → ⊥) → Other a b
-other_by a b f n = refuted (same a b) (λ e. n (ap f (same_is a b e)))
+other_by a b f n = false_from_ne_true (same a b) (λ e. n (ap f (same_is a b e)))
 
 -- two lists apart by a number of each key
 pub lists_apart : (f : Key → ℕ) (c : ℕ) (xs ys : List Key) → Every (λ a. f a ≡ c) xs → Every (λ b. suc c ≤ f b) ys → Every (λ a. Every (Other a) ys) xs
@@ -61,10 +62,6 @@ module _ (d : Named) (names : NamesApart d) where
   pub distinct_keys : (ks : List Key) → OnceEach ks → AreDistinct (map (key_name d) ks)
   distinct_keys [] h = tt
   distinct_keys (a ∷ ks) h = (not_among a ks h.0, distinct_keys ks h.1)
-
-pub map_join : {A B : Type 0} (f : A → B) (xs ys : List A) → map f (xs ++ ys) ≡ map f xs ++ map f ys
-map_join f [] ys = refl
-map_join f (x ∷ xs) ys = ap (λ zs. f x ∷ zs) (map_join f xs ys)
 
 -- keys of entities, and of numbers in a row
 
@@ -118,9 +115,9 @@ pub entities_named : {A : Type 0} (f : A → Name) (d : Named) (picks : ℕ → 
     → map f (for_entities picks of x es) ≡ map (key_name d) (for_entities picks keys x es)
 entities_named f d picks of keys e x [] = refl
 entities_named f d picks of keys e x (u ∷ es) =
-    map_join f (if picks x then of x else []) (for_entities picks of (x + 1) es)
+    map-append f (if picks x then of x else []) (for_entities picks of (x + 1) es)
     ∙ ap₂ (λ (xs ys : List Name). xs ++ ys) (by (picks x)) (entities_named f d picks of keys e (x + 1) es)
-    ∙ sym (map_join (key_name d) (if picks x then keys x else []) (for_entities picks keys (x + 1) es))
+    ∙ sym (map-append (key_name d) (if picks x then keys x else []) (for_entities picks keys (x + 1) es))
   where
     by : (b : Bool) → map f (if b then of x else []) ≡ map (key_name d) (if b then keys x else [])
     by true = e x
@@ -193,7 +190,7 @@ module _ (d : Named) (tag : ℕ) where
 
   two_lists : (xs ys : List Var) (k m n : ℕ) → names_of xs ≡ keyed (wire_keys k m) → names_of ys ≡ keyed (wire_keys (k + m) n) → names_of (xs ++ ys) ≡ keyed (wire_keys k (m + n))
   two_lists xs ys k m n e f =
-      map_join (λ (x : Var). x.name) xs ys ∙ ap₂ (λ (a b : List Name). a ++ b) e f ∙ sym (map_join (key_name d) (wire_keys k m) (wire_keys (k + m) n)) ∙ ap keyed (wires_join k m n)
+      map-append (λ (x : Var). x.name) xs ys ∙ ap₂ (λ (a b : List Name). a ++ b) e f ∙ sym (map-append (key_name d) (wire_keys k m) (wire_keys (k + m) n)) ∙ ap keyed (wires_join k m n)
 
   one_more : (xs : List Var) (k n u : ℕ) → names_of xs ≡ keyed (wire_keys (k + 1) n) → key_name d (Wire k) ∷ names_of xs ≡ keyed (wire_keys k (1 + n))
   one_more xs k n u e = ap (λ (ns : List Name). key_name d (Wire k) ∷ ns) e ∙ ap (λ (i : ℕ). keyed (wire_keys k i)) (more n)
@@ -298,27 +295,27 @@ list_number w (Wire k) = 8
 
 input_lists : (k : Kind) (b : Bool) → kind_is_input k ≡ true → (value_list k ≡ 0) × (tag_list k b ≡ 0)
 input_lists program.input b h = (refl, refl)
-input_lists program.register b h = absurd (apart_tests (sym h))
-input_lists (program.memory depth) b h = absurd (apart_tests (sym h))
-input_lists (program.state place last) b h = absurd (apart_tests (sym h))
+input_lists program.register b h = absurd (true_is_not_false (sym h))
+input_lists (program.memory depth) b h = absurd (true_is_not_false (sym h))
+input_lists (program.state place last) b h = absurd (true_is_not_false (sym h))
 
 pub register_lists : (k : Kind) (b : Bool) → kind_is_register k ≡ true → (value_list k ≡ 1) × (tag_list k b ≡ 1)
-register_lists program.input b h = absurd (apart_tests (sym h))
+register_lists program.input b h = absurd (true_is_not_false (sym h))
 register_lists program.register b h = (refl, refl)
-register_lists (program.memory depth) b h = absurd (apart_tests (sym h))
-register_lists (program.state place last) b h = absurd (apart_tests (sym h))
+register_lists (program.memory depth) b h = absurd (true_is_not_false (sym h))
+register_lists (program.state place last) b h = absurd (true_is_not_false (sym h))
 
 own_lists : (k : Kind) (b : Bool) → (if kind_is_memory k then b else kind_is_state k) ≡ true → tag_list k b ≡ 2
-own_lists program.input b h = absurd (apart_tests (sym h))
-own_lists program.register b h = absurd (apart_tests (sym h))
+own_lists program.input b h = absurd (true_is_not_false (sym h))
+own_lists program.register b h = absurd (true_is_not_false (sym h))
 own_lists (program.memory depth) b h = rw h refl
 own_lists (program.state place last) b h = refl
 
 memory_lists : (k : Kind) (b : Bool) → kind_is_memory k ≡ true → (value_list k ≡ 9) × (b ≡ false → tag_list k b ≡ 9)
-memory_lists program.input b h = absurd (apart_tests (sym h))
-memory_lists program.register b h = absurd (apart_tests (sym h))
+memory_lists program.input b h = absurd (true_is_not_false (sym h))
+memory_lists program.register b h = absurd (true_is_not_false (sym h))
 memory_lists (program.memory depth) b h = (refl, λ e. rw e refl)
-memory_lists (program.state place last) b h = absurd (apart_tests (sym h))
+memory_lists (program.state place last) b h = absurd (true_is_not_false (sym h))
 
 module _ (d : Named) (tag sites : ℕ) (names : NamesApart d) where
   abbrev pub list_of : Key → ℕ
@@ -408,7 +405,7 @@ module _ (d : Named) (tag sites : ℕ) (names : NamesApart d) where
       (seats_list (x + 1) es (omega (arith, l)))
     where
       not_root : (x m n : ℕ) → x + suc m ≤ n → nat_eq x n ≡ false
-      not_root x m n l = refuted (nat_eq x n) (λ e. clash x m n l (eqb-true x n e))
+      not_root x m n l = false_from_ne_true (nat_eq x n) (λ e. clash x m n l (eqb-true x n e))
         where
           clash : (x m n : ℕ) → x + suc m ≤ n → x ≡ n → ⊥
           clash x m n l e = omega (arith, l, e)
@@ -495,12 +492,12 @@ module _ (d : Named) (tag sites : ℕ) (names : NamesApart d) where
       (of_entities (is_memory (world d)) store_keys))
     where
       joined_names : {A : Type 0} (f : A → Name) (xs ys : List A) (ks ls : List Key) → map f xs ≡ nk ks → map f ys ≡ nk ls → map f (xs ++ ys) ≡ nk (ks ++ ls)
-      joined_names f xs ys ks ls e g = map_join f xs ys ∙ ap₂ (λ (a b : List Name). a ++ b) e g ∙ sym (map_join (key_name d) ks ls)
+      joined_names f xs ys ks ls e g = map-append f xs ys ∙ ap₂ (λ (a b : List Name). a ++ b) e g ∙ sym (map-append (key_name d) ks ls)
 
       map_four : (a b c e : List Key) → nk (a ++ (b ++ (c ++ e))) ≡ nk a ++ (nk b ++ (nk c ++ nk e))
       map_four a b c e =
-          map_join (key_name d) a (b ++ (c ++ e))
-          ∙ ap (λ (z : List Name). nk a ++ z) (map_join (key_name d) b (c ++ e) ∙ ap (λ (z : List Name). nk b ++ z) (map_join (key_name d) c e))
+          map-append (key_name d) a (b ++ (c ++ e))
+          ∙ ap (λ (z : List Name). nk a ++ z) (map-append (key_name d) b (c ++ e) ∙ ap (λ (z : List Name). nk b ++ z) (map-append (key_name d) c e))
 
   pub distinct : AreDistinct (declared (declarations (plain_of d tag sites)))
   distinct = subst AreDistinct (sym all_named) (distinct_keys d names all_keys all_once)

@@ -1,7 +1,8 @@
 -- Effects of assignments, of new levels and of falls.
 use Rattle.std.proofs.Common.{◌≡◌, ℕ, ◌+◌, ◌≤◌, Bool, true, false, ◌||◌, List, refl, sym, ap, ◌∙◌, subst, nat_eq, inl, inr, if◌then◌else◌}
 use Rattle.std.specs.Prelude.{◌==◌}
-use Rattle.std.proofs.lemmas.Bool.{cases_Bool, eqb-true}
+use Rattle.std.proofs.lemmas.Bool.{cases_Bool, eqb-true, or_right}
+use Rattle.sap_lemmas.proofs.Bools.{true_is_not_false}
 use Rattle.sap_maps.specs.Maps.{Name}
 use Rattle.sap_maps.specs.Term.{Term}
 use Rattle.sap_meaning.specs.Program.{Kind, entity, is_dynamic, is_register, is_memory, children, kind_is_input, kind_is_register, kind_is_state, LevelTerm, Step, Set, Retag, Fall, Group}
@@ -18,7 +19,7 @@ use Rattle.sap_tagged.specs.Setting.{Setting}
 use Rattle.sap_tagged.specs.Levels.{expr}
 use Rattle.sap_tagged.specs.Commands.{effect_of}
 use Rattle.sap_tagged.specs.Stands.{Lawful, at, is_value, has_tag, Stands, Turns}
-use Rattle.sap_tagged.proofs.Bools.{apart_tests, either_second, register_within, tagged, value_no_memory, kept_no_memory}
+use Rattle.sap_tagged.proofs.Bools.{register_within, tagged, value_no_memory, kept_no_memory}
 use Rattle.sap_tagged.proofs.Terms.{bit, expr_value, own_tag}
 use Rattle.sap_tagged.proofs.StepTerms.{level_written, number_stays}
 use Rattle.sap_tagged.proofs.Puts.{put_to, at_put, kept_next, kept_put, memory_put, stands_set, stands_aside}
@@ -98,11 +99,11 @@ module _ (d : Setting) (widths : Name → ℕ) (laws : Lawful d widths) where
       (kept_put d widths laws g (Tag x) z (λ m. refl))
     where
       other : (n : ℕ) (b : Bool) → nat_eq n x ≡ b → is_value d.world n ≡ true → at d g (Value n) ≡ (if b then v else at d g (Value n))
-      other n true q h = absurd (apart_tests (sym h ∙ ap (is_value d.world) (eqb-true n x q) ∙ none))
+      other n true q h = absurd (true_is_not_false (sym h ∙ ap (is_value d.world) (eqb-true n x q) ∙ none))
       other n false q h = refl
 
   state_kind : (k : Kind) → (kind_is_register k || kind_is_state k) ≡ true → kind_is_register k ≡ false → (kind_is_input k || kind_is_register k) ≡ false
-  state_kind program.input h f = absurd (apart_tests (sym h))
+  state_kind program.input h f = absurd (true_is_not_false (sym h))
   state_kind program.register h f = f
   state_kind (program.memory depth) h f = refl
   state_kind (program.state place last) h f = refl
@@ -127,7 +128,7 @@ module _ (d : Setting) (widths : Name → ℕ) (laws : Lawful d widths) where
     ]
       where
         m : is_memory d.world x ≡ false
-        m = value_no_memory d.world x (either_second _ (is_register d.world x) fine.0)
+        m = value_no_memory d.world x (or_right _ (is_register d.world x) fine.0)
 
         w : has_tag d.world x ≡ true
         w = tagged d.world x (register_within d.world x fine.0) m
@@ -146,7 +147,7 @@ module _ (d : Setting) (widths : Name → ℕ) (laws : Lawful d widths) where
           (both_put g r x (if stay_test then number (own x) b else 0) (new_level d.world n b) _ (at d g (Wire (k + 3))) h.stands m
           (ap (λ (z : ℕ). if z == 0 then 0 else at d g1 (Value x)) (at_put d widths laws g (Tag x) (Wire (k + 4)) _ ∙ h.keeps)
           ∙ chosen stay_test (at d g1 (Value x)) 0
-          ∙ ap (λ (z : ℕ). if stay_test then z else 0) (at_put d widths laws g (Tag x) (Value x) _ ∙ h.reads x (either_second _ (is_register d.world x) t))) h.new))
+          ∙ ap (λ (z : ℕ). if stay_test then z else 0) (at_put d widths laws g (Tag x) (Value x) _ ∙ h.reads x (or_right _ (is_register d.world x) t))) h.new))
       | inr t ↦
           rw t
           (turns_stay d free g _ _ (quiet_tag free x g _)

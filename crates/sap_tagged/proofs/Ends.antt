@@ -1,12 +1,12 @@
 -- What the wires of sites say after a cycle in which they began at 0.
 use Rattle.std.proofs.Common.{◌≡◌, ℕ, zero, suc, ◌+◌, ◌<◌, ◌≤◌, ◌⊎◌, ◌↔◌, Bool, true, false, ◌||◌, List, [], ◌∷◌, refl, sym, ap, ◌∙◌, subst, arith, nat_eq, inl, inr, if◌then◌else◌}
-use Rattle.std.proofs.lemmas.Bool.{cases_Bool, eqb-true, eq-eqb, ne_eqb}
+use Rattle.std.proofs.lemmas.Bool.{cases_Bool, eqb-true, eq-eqb, ne_eqb, or_right}
+use Rattle.sap_lemmas.proofs.Bools.{or_other, true_is_not_false}
 use Rattle.sap_meaning.specs.Store.{Refusal}
 use Rattle.sap_meaning.specs.Sites.{refused_sites, RisesFrom, Sublist}
 use Rattle.sap_resolve.proofs.premises.Rises.{count_from}
 use Rattle.sap_interface.specs.StandsFor.{IsRefusedAt, IsRefused}
 use Rattle.sap_tagged.specs.Stands.{refused_after, level_after}
-use Rattle.sap_tagged.proofs.Bools.{apart_tests, second, either_second}
 
 abbrev has : ℕ → List Refusal → Bool
 has k [] = false
@@ -22,16 +22,16 @@ refused_is k (r ∷ rs) v = refused_is k rs _ ∙ both (nat_eq r.site k) (has k 
     both false b = refl
 
 has_refused : (k : ℕ) (rs : List Refusal) → has k rs ≡ true → IsRefused rs k
-has_refused k [] h = absurd (apart_tests (sym h))
+has_refused k [] h = absurd (true_is_not_false (sym h))
 has_refused k (r ∷ rs) h = elim (cases_Bool (nat_eq r.site k)) [
   | inl t ↦ (r.level, inl (eqb-true r.site k t, refl))
-  | inr t ↦ (let i = has_refused k rs (second (nat_eq r.site k) (has k rs) h t) in (i.0, inr i.1))
+  | inr t ↦ (let i = has_refused k rs (or_other (nat_eq r.site k) (has k rs) h t) in (i.0, inr i.1))
 ]
 
 refused_has : (k t : ℕ) (rs : List Refusal) → IsRefusedAt rs k t → has k rs ≡ true
 refused_has k t [] h = absurd h
 refused_has k t (r ∷ rs) (inl e) = rw (eq-eqb r.site k e.0) refl
-refused_has k t (r ∷ rs) (inr h) = either_second (nat_eq r.site k) (has k rs) (refused_has k t rs h)
+refused_has k t (r ∷ rs) (inr h) = or_right (nat_eq r.site k) (has k rs) (refused_has k t rs h)
 
 pub refusals_told : (k : ℕ) (rs : List Refusal) (v : ℕ) → v ≡ refused_after k rs 0 → (v ≡ 1) ↔ IsRefused rs k
 refusals_told k rs v e = (

@@ -1,6 +1,6 @@
 -- States, groups, and the root's fall.
 use Rattle.std.proofs.Common.{◌≡◌, ℕ, zero, suc, ◌+◌, ◌<◌, Bool, true, false, refl, sym, ap, ◌∙◌, arith, nat_eq, if◌then◌else◌}
-use Rattle.std.proofs.lemmas.Bool.{eq-eqb}
+use Rattle.std.proofs.lemmas.Bool.{eq-eqb, and_from, and_parts, or_left, or_right}
 use Rattle.sap_maps.specs.Maps.{Name}
 use Rattle.sap_maps.specs.Term.{Term}
 use Rattle.sap_meaning.specs.Program.{World, root, is_dynamic, is_memory, children, Block, Node, Group, None, More}
@@ -20,7 +20,7 @@ use Rattle.sap_tagged.specs.Commands.{gives, raises, wires_block, block_plain}
 use Rattle.sap_tagged.specs.Few.{FewGroup}
 use Rattle.sap_tagged.specs.States.{wires_group, group_plain, saved, saves, top_plain}
 use Rattle.sap_tagged.specs.Stands.{Lawful, at, is_value, has_tag, tag_slot, Stands, refused_after, level_after, Turns}
-use Rattle.sap_tagged.proofs.Bools.{both_true, both, either_first, either_second, tagged, tagged_memory, memory_within}
+use Rattle.sap_tagged.proofs.Bools.{tagged, tagged_memory, memory_within}
 use Rattle.sap_tagged.proofs.Terms.{own_tag}
 use Rattle.sap_tagged.proofs.StepTerms.{Placed}
 use Rattle.sap_tagged.proofs.Puts.{put_to, at_put, does_gives, swept, does_sweep, between, swept_is, within_all}
@@ -111,7 +111,7 @@ module _ (d : Setting) (widths : Name → ℕ) (laws : Lawful d widths) (names :
   group_runs (More (Node x b kids) rest) q n0 parent k go whole fine tidy few part goes zero g s l st pc =
       let base = k + 1 + wires_block b in
       let node = fine.0.0 in
-      let i : among q x ≡ true = part x (either_first (nat_eq x x) (among rest x) (eq-eqb x x refl)) in
+      let i : among q x ≡ true = part x (or_left (nat_eq x x) (among rest x) (eq-eqb x x refl)) in
       let forest = group_plain d x base kids in
       let declared = (group_states d.world q 0 q whole x i).declared in
       let seat = seat_name (d.state_name x) in
@@ -131,7 +131,7 @@ module _ (d : Setting) (widths : Name → ℕ) (laws : Lawful d widths) (names :
   group_runs (More (Node x b kids) rest) q n0 parent k go whole fine tidy few part goes (suc n) g s l st pc =
       let j = k + (1 + wires_block b + wires_group kids) in
       turns_less d k j g _ _ (omega arith)
-      (group_runs rest q (suc n0) parent j go whole fine.1 tidy.1 few.1 (λ t h. part t (either_second (nat_eq t x) (among rest t) h)) goes n g s l st pc)
+      (group_runs rest q (suc n0) parent j go whole fine.1 tidy.1 few.1 (λ t h. part t (or_right (nat_eq t x) (among rest t) h)) goes n g s l st pc)
 
   -- the tags that are kept
   save : (f : Going → Going) (go : Name → Going → Going) (k : ℕ) (g : Going) (s : Store) (rest : Body) → Loose d g s → ((m : ℕ) → saved d.world m ≡ true → s.level (start_whole m) ≡ s.level (next_whole m))
@@ -154,7 +154,7 @@ module _ (d : Setting) (widths : Name → ℕ) (laws : Lawful d widths) (names :
           start_tags = λ m i h q. ap (λ (c : Name → ℕ → ℕ). c (d.name (Tag m)) i) a.memory.0 ∙ r.start_tags m i h q;
           start_tag = λ m h.
               a.here m
-              ∙ ap (λ (b : Bool). if b then d.code (s.level (tag_slot d.world m)) else at d g (First m)) (both (saved d.world m) (between 0 n m) h (within_all m n (memory_within d.world m (is_kept m h).0)))
+              ∙ ap (λ (b : Bool). if b then d.code (s.level (tag_slot d.world m)) else at d g (First m)) (and_from (saved d.world m) (between 0 n m) h (within_all m n (memory_within d.world m (is_kept m h).0)))
               ∙ ap (λ (b : Bool). d.code (s.level (if b then next_whole m else own m))) (is_kept m h).0 ∙ ap d.code (sym (begins m h));
           nexts = λ m i h. ap (λ (c : Name → ℕ → ℕ). c (d.name (Value m)) i) a.memory.1 ∙ r.nexts m i h;
           next_tags = λ m i h q. ap (λ (c : Name → ℕ → ℕ). c (d.name (Tag m)) i) a.memory.1 ∙ r.next_tags m i h q;
@@ -163,7 +163,7 @@ module _ (d : Setting) (widths : Name → ℕ) (laws : Lawful d widths) (names :
       )
     where
       is_kept : (m : ℕ) → saved d.world m ≡ true → (is_memory d.world m ≡ true) × (is_dynamic d.world m ≡ true)
-      is_kept m h = both_true (is_memory d.world m) (is_dynamic d.world m) h
+      is_kept m h = and_parts (is_memory d.world m) (is_dynamic d.world m) h
 
       kept_tag : (m : ℕ) → saved d.world m ≡ true → has_tag d.world m ≡ true
       kept_tag m h = let q = is_kept m h in tagged_memory d.world m q.0 q.1
@@ -177,7 +177,7 @@ module _ (d : Setting) (widths : Name → ℕ) (laws : Lawful d widths) (names :
   top_runs hangs (More (Node x b kids) rest) q n0 k go whole fine tidy few part goes zero g s loose begins =
       let base = k + 1 + wires_block b in
       let node = fine.0.0 in
-      let i : among q x ≡ true = part x (either_first (nat_eq x x) (among rest x) (eq-eqb x x refl)) in
+      let i : among q x ≡ true = part x (or_left (nat_eq x x) (among rest x) (eq-eqb x x refl)) in
       let me = group_states d.world q 0 q whole x i in
       let forest = group_plain d x base kids in
       let seat = seat_name (d.state_name x) in
@@ -205,4 +205,4 @@ module _ (d : Setting) (widths : Name → ℕ) (laws : Lawful d widths) (names :
       (cycles d k g g0 _ _ kept.3
       (turns_after d k (k + 1) g0 g2 _ _ (omega arith) (quiet_next d k g0 g1 g2 (r0.quiet k (omega arith)) (raised_quiet d widths laws k g1 g2 up.3)) r))
   top_runs hangs (More (Node x b kids) rest) q n0 k go whole fine tidy few part goes (suc n) g s st begins =
-      top_runs hangs rest q (suc n0) (k + (1 + wires_block b + wires_group kids)) go whole fine.1 tidy.1 few.1 (λ t h. part t (either_second (nat_eq t x) (among rest t) h)) goes n g s st begins
+      top_runs hangs rest q (suc n0) (k + (1 + wires_block b + wires_group kids)) go whole fine.1 tidy.1 few.1 (λ t h. part t (or_right (nat_eq t x) (among rest t) h)) goes n g s st begins

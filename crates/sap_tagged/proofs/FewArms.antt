@@ -1,6 +1,7 @@
 -- The program of a whole design has cases with few arms, each with a constant.
-use Rattle.std.proofs.Common.{◌≡◌, ℕ, suc, ◌+◌, ◌≤◌, List, length, Bool, true, ◌&&◌, refl, sym, ap, subst, arith, nat_le}
-use Rattle.std.proofs.lemmas.Grind.{common_steps}
+use Rattle.std.proofs.Common.{◌≡◌, ℕ, suc, ◌+◌, ◌≤◌, List, length, true, ◌&&◌, refl, sym, ap, subst, arith, nat_le}
+use Rattle.sap_lemmas.proofs.Bools.{and_left, and_right}
+use Rattle.std.proofs.lemmas.Bool.{and_parts, leb-true}
 use Rattle.sap_tree.specs.Limits.{most_arms, most_blocks}
 use Rattle.sap_tree.specs.Syntax as tree
 use Rattle.sap_tree.specs.Whole as whole
@@ -17,16 +18,6 @@ use Rattle.sap_resolve.specs.Resolve.{numbers_of, command_of, arms_of, block_of,
 use Rattle.sap_resolve.specs.Fill.{filled, filled_arms, filled_block, filled_state, filled_group}
 use Rattle.sap_tagged.specs.Commands.{arm_count}
 use Rattle.sap_tagged.specs.Few.{Few, FewArms, FewBlock, FewState, FewGroup}
-use Rattle.sap_tagged.proofs.Bools.{both_true}
-
-at_most : (a b : ℕ) → nat_le a b ≡ true → a ≤ b
-at_most a b h = grind (arith, common_steps)
-
-and_left : (p q : Bool) → (p && q) ≡ true → p ≡ true
-and_left p q h = (both_true p q h).0
-
-and_right : (p q : Bool) → (p && q) ≡ true → q ≡ true
-and_right p q h = (both_true p q h).1
 
 -- resolving keeps the arms and their constants
 
@@ -46,21 +37,21 @@ module _ (version : Version) (ls : Levels) (h : Home) where
     command_few k (tree.Do c) i = tt
     command_few k (tree.Try c place b) i = block_few (k + length (simple_sites h c)) b (and_right (is_simple version c) (is_block version b) i)
     command_few k (tree.If place x a b) i =
-        let j = both_true (is_outermost version x && is_block version a) (is_else version b) i in
+        let j = and_parts (is_outermost version x && is_block version a) (is_else version b) i in
         (block_few k a (and_right (is_outermost version x) (is_block version a) j.0), else_few (k + length (block_sites h a)) b j.1)
     command_few k (tree.TryThen c place a b) i =
-        let j = both_true (is_second version && is_simple version c && is_block version a) (is_block version b) i in
+        let j = and_parts (is_second version && is_simple version c && is_block version a) (is_block version b) i in
         (block_few (k + length (simple_sites h c)) a (and_right (is_second version && is_simple version c) (is_block version a) j.0), block_few (k + length (simple_sites h c) + length (block_sites h a)) b j.1)
     command_few k (tree.Case place x arms) i =
-        let j = both_true (is_second version && is_outermost version x && has_arm arms && nat_le (whole.arm_count arms) most_arms) (are_arms version arms) i in
-        let l = at_most (whole.arm_count arms) most_arms (and_right (is_second version && is_outermost version x && has_arm arms) (nat_le (whole.arm_count arms) most_arms) j.0) in
+        let j = and_parts (is_second version && is_outermost version x && has_arm arms && nat_le (whole.arm_count arms) most_arms) (are_arms version arms) i in
+        let l = leb-true (whole.arm_count arms) most_arms (and_right (is_second version && is_outermost version x && has_arm arms) (nat_le (whole.arm_count arms) most_arms) j.0) in
         (subst (λ (n : ℕ). n ≤ most_arms) (sym (arms_counted k arms)) l, arms_few k arms j.1)
 
     arms_few : (k : ℕ) (arms : tree.Arms) → are_arms version arms ≡ true → FewArms (arms_of ls h k arms)
     arms_few k (tree.Last b) i = block_few k b i
     arms_few k (tree.Arm constants b arms) i =
-        let j = both_true (has_constant constants && are_constants constants && is_block version b) (are_arms version arms) i in
-        let m = both_true (has_constant constants && are_constants constants) (is_block version b) j.0 in
+        let j = and_parts (has_constant constants && are_constants constants && is_block version b) (are_arms version arms) i in
+        let m = and_parts (has_constant constants && are_constants constants) (is_block version b) j.0 in
         (some_number constants (and_left (has_constant constants) (are_constants constants) m.0), block_few k b m.1, arms_few (k + length (block_sites h b)) arms j.1)
 
     block_few : (k : ℕ) (b : tree.CommandBlock) → is_block version b ≡ true → FewBlock (block_of ls h k b)
@@ -73,7 +64,7 @@ module _ (version : Version) (ls : Levels) (h : Home) where
     list_few : (k : ℕ) (cs : tree.CommandList) → are_commands version cs ≡ true → FewBlock (list_of ls h k cs)
     list_few k tree.NoCommand i = tt
     list_few k (tree.AndCommand c cs) i =
-        let j = both_true (is_command version c) (are_commands version cs) i in (command_few k c j.0, list_few (k + length (command_sites h c)) cs j.1)
+        let j = and_parts (is_command version c) (are_commands version cs) i in (command_few k c j.0, list_few (k + length (command_sites h c)) cs j.1)
 
 module _ (version : Version) (ls : Levels) (es : List Entity) where
   mutual
@@ -82,14 +73,14 @@ module _ (version : Version) (ls : Levels) (es : List Entity) where
     state_few : (k x : ℕ) (s : tree.StateTree) → is_state version s ≡ true → FewState (state_of ls es k x s)
     state_few k x (tree.StateOf place name kind body children) i =
         let h : Home = record { entities = es; name = name.name; kind = kind; children = children } in
-        let j = both_true (is_name version name.name && is_kind version kind && is_block version body && nat_le (block_depth body) most_blocks) (are_states version children) i in
+        let j = and_parts (is_name version name.name && is_kind version kind && is_block version body && nat_le (block_depth body) most_blocks) (are_states version children) i in
         let m = and_left (is_name version name.name && is_kind version kind && is_block version body) (nat_le (block_depth body) most_blocks) j.0 in
         (block_few version ls h k body (and_right (is_name version name.name && is_kind version kind) (is_block version body) m), group_few (k + length (block_sites h body)) (x + 1) children j.1)
 
     pub group_few : (k x : ℕ) (g : tree.StateList) → are_states version g ≡ true → FewGroup (group_of ls es k x g)
     group_few k x tree.NoState i = tt
     group_few k x (tree.AndState s rest) i =
-        let j = both_true (is_state version s) (are_states version rest) i in (state_few k x s j.0, group_few (k + length (state_sites es s)) (x + states_in s) rest j.1)
+        let j = and_parts (is_state version s) (are_states version rest) i in (state_few k x s j.0, group_few (k + length (state_sites es s)) (x + states_in s) rest j.1)
 
 -- and so does filling in what hangs
 module _ (w : World) where

@@ -1,14 +1,11 @@
 -- Terms keep the rules of names and of widths.
 use Rattle.std.proofs.Common.{◌≡◌, ℕ, zero, suc, ◌+◌, ◌-◌, ◌^◌, ◌<◌, ◌≤◌, Bool, true, false, ◌||◌, Some, refl, sym, ap, ◌∙◌, subst, if◌then◌else◌, arith, nat_lt, inl, inr}
-use Rattle.std.proofs.lemmas.Bool.{cases_Bool, eq-eqb}
+use Rattle.std.proofs.lemmas.Bool.{cases_Bool, eq-eqb, or_left, or_right}
 use Rattle.std.proofs.lemmas.Grind.{common_steps}
 use Rattle.std.proofs.Math.Pow.{pow_pos}
 use Rattle.std.proofs.Math.Nat.{pow-le-pow_right}
-use Rattle.sap_bits.specs.Arithmetic.{width1, width2}
-use Rattle.sap_bits.specs.declared.Op1.{Op1}
-use Rattle.sap_bits.specs.declared.Op1.TheVariants.{Not, Neg, AllOnes, AnyOne, Odd}
-use Rattle.sap_bits.specs.declared.Op2.{Op2}
-use Rattle.sap_bits.specs.declared.Op2.TheVariants.{Add, Sub, Mul, And, Or, Xor, Eq, Ne, Lt, Le, Shl, Shr}
+use Rattle.sap_resolve.proofs.SizedLemmas.{ranged_width}
+use Rattle.sap_bits.specs.declared.Op2.TheVariants.{And, Eq}
 use Rattle.sap_maps.specs.Maps.{Name}
 use Rattle.sap_maps.specs.Scope.{find}
 use Rattle.sap_maps.specs.Term.{Term, constant, read, cell, one, two, choose, join, part}
@@ -27,7 +24,7 @@ use Rattle.sap_tagged.specs.Setting.{Setting}
 use Rattle.sap_tagged.specs.Levels.{var, bits, lub, below_or_at, yes, expr, cell_tag, tag_of, place_width, widened, placed, new_tag, told_tag, child_tag, enters, child_enters, seat_bits, seat_of, guard_of, test_of, written, stays}
 use Rattle.sap_tagged.specs.States.{saved}
 use Rattle.sap_tagged.specs.Stands.{is_value, has_tag}
-use Rattle.sap_tagged.proofs.Bools.{either_first, either_second, value_within, value_no_memory, kept_no_memory, enforced_within, tagged}
+use Rattle.sap_tagged.proofs.Bools.{value_within, value_no_memory, kept_no_memory, enforced_within, tagged}
 use Rattle.sap_tagged.proofs.Terms.{AllTagged}
 use Rattle.sap_tagged.proofs.StepTerms.{Placed}
 use Rattle.sap_tagged.proofs.Conditions.{Conditions, LevelConditions, StepConditions}
@@ -47,40 +44,6 @@ pub record Declares (d : Setting) (s : Source) : Type 0 where
   pub few_children : (p : ℕ) → children d.world p ≤ 2 ^ seat_width (children d.world p)
 
 -- widths
-
-one_width : (op : Op1) (k : ℕ) → IsWidth k → IsWidth (width1 op k)
-one_width Not k h = h
-one_width Neg k h = h
-one_width AllOnes k h = (omega arith, omega arith)
-one_width AnyOne k h = (omega arith, omega arith)
-one_width Odd k h = (omega arith, omega arith)
-
-two_width : (op : Op2) (k : ℕ) → IsWidth k → IsWidth (width2 op k)
-two_width Add k h = h
-two_width Sub k h = h
-two_width Mul k h = h
-two_width And k h = h
-two_width Or k h = h
-two_width Xor k h = h
-two_width Shl k h = h
-two_width Shr k h = h
-two_width Eq k h = (omega arith, omega arith)
-two_width Ne k h = (omega arith, omega arith)
-two_width Lt k h = (omega arith, omega arith)
-two_width Le k h = (omega arith, omega arith)
-
-part_width : (hi lo k : ℕ) → lo ≤ hi → hi < k → IsWidth k → IsWidth (hi + 1 - lo)
-part_width hi lo k h i w = let top : k ≤ 64 = w.1 in (omega arith, omega arith)
-
-pub ranged_width : (w : World) (e : Term ℕ) → RangedTerm w e → IsWidth (width_of w e)
-ranged_width w (constant u n) r = r
-ranged_width w (read x) r = r
-ranged_width w (cell m i) r = r.0
-ranged_width w (one op a) r = one_width op (width_of w a) (ranged_width w a r)
-ranged_width w (two op a b) r = two_width op (width_of w a) (ranged_width w a r.0)
-ranged_width w (choose c a b) r = ranged_width w a r.1
-ranged_width w (join a b) r = r.0
-ranged_width w (part a hi lo) r = part_width hi lo (width_of w a) r.0 r.1 (ranged_width w a r.2)
 
 pub one_bit : IsWidth 1
 one_bit = (omega arith, omega arith)
@@ -261,10 +224,10 @@ module _ (d : Setting) (s : Source) (h : Declares d s) where
   is_child u seat i w f l = (u, u, w, w, f, (refl, l), refl, refl)
 
   first_tagged : (c : ℕ) (b : _) (k g : Group) → AllTagged d.world (More (Node c b k) g) → has_tag d.world c ≡ true
-  first_tagged c b k g f = (f c (either_first _ _ (eq-eqb c c refl))).0
+  first_tagged c b k g f = (f c (or_left _ _ (eq-eqb c c refl))).0
 
   rest_tagged : (c : ℕ) (b : _) (k g : Group) → AllTagged d.world (More (Node c b k) g) → AllTagged d.world g
-  rest_tagged c b k g f n i = f n (either_second _ _ i)
+  rest_tagged c b k g f n i = f n (or_right _ _ i)
 
   child_tag_fine : (u : ℕ) (seat : Term Name) (g : Group) (i : ℕ) → IsWidth u → Fine u seat → i + size g ≤ 2 ^ u → AllTagged d.world g → Fine d.tag (child_tag d u seat g i)
   child_tag_fine u seat None i w f l t = bits_fine d.world.order.bottom
@@ -296,7 +259,7 @@ module _ (d : Setting) (s : Source) (h : Declares d s) where
     term_fit e f t r c = record { fine = f; sized = t; ranged = r; conditions = c }
 
     register_tag : (x : ℕ) → is_register d.world x ≡ true → Fine d.tag (var d (Tag x))
-    register_tag x r = own_tag_fine x (either_second _ (is_register d.world x) r)
+    register_tag x r = own_tag_fine x (or_right _ (is_register d.world x) r)
 
     retagged_fine : (x : ℕ) → (is_register d.world x || is_state d.world x) ≡ true → is_dynamic d.world x ≡ false → Fine d.tag (var d (Tag x))
     retagged_fine x k t = h.tags x (tagged d.world x (enforced_within d.world x t) (kept_no_memory d.world x k))

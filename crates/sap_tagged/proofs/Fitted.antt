@@ -1,7 +1,8 @@
 -- The program of a well-formed design has what the rules ask for.
-use Rattle.std.proofs.Common.{◌≡◌, ℕ, ◌+◌, ◌*◌, ◌<◌, ◌≤◌, List, length, Bool, true, ◌&&◌, IsTrue, refl, ap, ap₂, arith, nat_le}
+use Rattle.std.proofs.Common.{◌≡◌, ℕ, ◌+◌, ◌*◌, ◌<◌, ◌≤◌, List, length, Bool, ◌&&◌, IsTrue, refl, ap, ap₂, arith, nat_le}
 use Rattle.std.specs.List.{count_by}
 use Rattle.std.proofs.lemmas.Grind.{common_steps}
+use Rattle.sap_tree.proofs.SyntaxLemmas.{tree_of_whole}
 use Rattle.sap_tree.specs.Syntax as tree
 use Rattle.sap_tree.specs.Syntax.{DesignTree}
 use Rattle.sap_tree.specs.Whole.{is_tree, is_whole, is_input, is_register, is_memory, command_count, arms_count, block_count, else_count, list_count, state_count, states_count, states_depth, state_commands, states_commands}
@@ -24,7 +25,6 @@ use Rattle.sap_interface.specs.Designs.{named_of, sites_of}
 use Rattle.sap_tagged.specs.Commands.{wires, wires_arms, wires_block}
 use Rattle.sap_tagged.specs.States.{wires_state, wires_group}
 use Rattle.sap_tagged.specs.Law.{IsSound, PlainsKeepRules, PlainsWriteOnce}
-use Rattle.sap_tagged.proofs.Bools.{both_true}
 use Rattle.sap_tagged.proofs.Conditions.{group_conditions, filled_group_conditions}
 use Rattle.sap_tagged.proofs.Rules.{Fitting}
 use Rattle.sap_tagged.proofs.Plains.{plain}
@@ -111,10 +111,6 @@ unfolding is_whole
 limits d h =
     limited (is_tree d) (count_by is_input d.declarations) (count_by is_register d.declarations) (count_by is_memory d.declarations) (states_count d.states) (states_depth d.states) (states_commands d.states) h
 
-pub tree_of : (d : DesignTree) → IsTrue (is_whole d) → is_tree d ≡ true
-unfolding is_whole
-tree_of d h = (both_true (is_tree d) _ h).0
-
 module _ (ls : Levels) (D : DesignTree) (sg : IsSound ls D) where
   levels_few : (order_of ls).count ≤ 64
   levels_few = (let c : (order_of ls).count ≡ length ls.names = level_count ls in let e : length ls.names ≤ 64 = sg.lattice.names.before.not_too_many in omega arith)
@@ -129,7 +125,7 @@ module _ (ls : Levels) (D : DesignTree) (sg : IsSound ls D) where
   fitting : Fitting (named_of ls D) (width_of (order_of ls))
   fitting = record {
     sized = sizes_fit_law ls D sg.lattice.laws sg.formed.names;
-    ranged = widths_in_range_law ls D (tree_of D sg.whole) sg.formed.names;
+    ranged = widths_in_range_law ls D (tree_of_whole D sg.whole) sg.formed.names;
     conditions =
         (let n = faultless ls (order_of ls).le D sg.formed.names in
         let w = world_of ls D in

@@ -1,6 +1,8 @@
 -- The states of a plain program keep the rules.
 use Rattle.std.proofs.Common.{◌≡◌, ℕ, suc, ◌+◌, ◌^◌, ◌<◌, ◌≤◌, List, ◌++◌, map, Bool, true, Some, refl, sym, ap, ◌∙◌, subst, arith, nat_lt, nat_eq, bytes_eq, inl, inr}
-use Rattle.std.proofs.lemmas.Bool.{cases_Bool, eqb-true, eq-eqb}
+use Rattle.std.proofs.lemmas.Bool.{cases_Bool, eqb-true, eq-eqb, and_parts, or_right}
+use Rattle.sap_lemmas.proofs.Bools.{or_other, true_is_not_false}
+use Rattle.sap_lemmas.proofs.Texts.{bytes_eq_same}
 use Rattle.sap_maps.specs.Maps.{Name}
 use Rattle.sap_maps.specs.Scope.{find}
 use Rattle.sap_meaning.specs.Program.{World, root, is_dynamic, is_memory, children, Command, Do, Try, If, TryThen, Case, Arms, Last, Arm, Block, End, Then, Node, Group, None, More}
@@ -26,8 +28,7 @@ use Rattle.sap_tagged.specs.Commands.{gives, raises, pick_width, wires, wires_bl
 use Rattle.sap_tagged.specs.Few.{FewGroup}
 use Rattle.sap_tagged.specs.States.{wires_group, group_plain, saved, saves, top_plain}
 use Rattle.sap_tagged.specs.Plain.{wire, step_wires, command_wires, arms_wires, block_wires, state_wires, group_wires}
-use Rattle.sap_tagged.proofs.Bools.{apart_tests, second, either_second, both_true, tagged_memory}
-use Rattle.sap_tagged.proofs.KeyNames.{same_name}
+use Rattle.sap_tagged.proofs.Bools.{tagged_memory}
 use Rattle.sap_tagged.proofs.Groups.{LawfulStates, Shaped, group_states}
 use Rattle.sap_tagged.proofs.Falls.{placed_in, shaped_group}
 use Rattle.sap_tagged.proofs.Members.{In, in_front, in_behind}
@@ -106,14 +107,14 @@ module _ (nd : Named) (tag : ℕ) (s : Source) where
 -- groups of forests
 
 pub group_has : (d : Setting) (g : Group) (f : Forest) → Shaped d g f → (t : ℕ) → among g t ≡ true → is_among (d.state_name t) (group_names f) ≡ true
-group_has d None none h t i = absurd (apart_tests (sym i))
+group_has d None none h t i = absurd (true_is_not_false (sym i))
 group_has d None (state x b kids rest) h t i = absurd h
 group_has d (More u g) none h t i = absurd h
 group_has d (More (Node s c k) g) (state x b kids rest) h t i = elim (cases_Bool (nat_eq t s)) [
   | inl e ↦
-      (let n : bytes_eq (d.state_name t) x ≡ true = ap (λ (a : ℕ). bytes_eq (d.state_name a) x) (eqb-true t s e) ∙ ap (bytes_eq (d.state_name s)) h.0 ∙ same_name (d.state_name s) in
+      (let n : bytes_eq (d.state_name t) x ≡ true = ap (λ (a : ℕ). bytes_eq (d.state_name a) x) (eqb-true t s e) ∙ ap (bytes_eq (d.state_name s)) h.0 ∙ bytes_eq_same (d.state_name s) in
       rw n refl)
-  | inr e ↦ either_second (bytes_eq (d.state_name t) x) _ (group_has d g rest h.2 t (second (nat_eq t s) (among g t) i e))
+  | inr e ↦ or_right (bytes_eq (d.state_name t) x) _ (group_has d g rest h.2 t (or_other (nat_eq t s) (among g t) i e))
 ]
 
 pub some_states : (d : Setting) (g : Group) (f : Forest) → Shaped d g f → 0 < size g → has_states f ≡ true
@@ -162,7 +163,7 @@ module _ (nd : Named) (tag : ℕ) (s : Source) (fixed : List Name) (decl : Decla
     count : children w x ≡ size q
 
   some_among : (q : Group) (x : ℕ) → among q x ≡ true → 0 < size q
-  some_among None x h = absurd (apart_tests (sym h))
+  some_among None x h = absurd (true_is_not_false (sym h))
   some_among (More t g) x h = omega arith
 
   group_fine : (grp q : Group) (n0 parent k : ℕ) (group : List Name) → FineGroup w q 0 q → FineGroup w q n0 grp → ((t : ℕ) → among grp t ≡ true → among q t ≡ true)
@@ -196,7 +197,7 @@ module _ (nd : Named) (tag : ℕ) (s : Source) (fixed : List Name) (decl : Decla
             (λ v a. mine v (inr (in_behind (block_wires nd tag (k + 1) b) (group_wires nd tag base kids) v a))) exact.0.1
             (λ n a. site n (among_left (sites.block_sites w x kids b ++ sites.group_sites w kids) (sites.group_sites w rest) n (among_right (sites.block_sites w x kids b) (sites.group_sites w kids) n a)))
             z.0.1 r.0.1 c.0.1 few.0.1,
-        group_fine rest q (suc n0) parent (k + (1 + wires_block b + wires_group kids)) group whole fine.1 (λ t h. part t (either_second (nat_eq t x) (among rest t) h)) named above (behind_found s own later ws)
+        group_fine rest q (suc n0) parent (k + (1 + wires_block b + wires_group kids)) group whole fine.1 (λ t h. part t (or_right (nat_eq t x) (among rest t) h)) named above (behind_found s own later ws)
             exact.1 (λ n a. site n (among_right (sites.block_sites w x kids b ++ sites.group_sites w kids) (sites.group_sites w rest) n a)) z.1 r.1 c.1 few.1,
       )
 
@@ -204,7 +205,7 @@ module _ (nd : Named) (tag : ℕ) (s : Source) (fixed : List Name) (decl : Decla
   saves_fine : (group : List Name) (nested : Bool) (rest : Body) → BodyFine s fixed group nested rest → BodyFine s fixed group nested (saves d rest)
   saves_fine group nested rest g =
       sweep_fine d s decl fixed group assigns nested First (saved w) (λ m. var d (Tag m)) 0 (root w) rest
-      (λ y l k e. let b = both_true (is_memory w y) (is_dynamic w y) e in (tag, assigns.firsts y e, decl.tags y (tagged_memory w y b.0 b.1))) (λ y e. omega arith) g
+      (λ y l k e. let b = and_parts (is_memory w y) (is_dynamic w y) e in (tag, assigns.firsts y e, decl.tags y (tagged_memory w y b.0 b.1))) (λ y e. omega arith) g
 
   pub top_fine : (grp q : Group) (n0 k : ℕ) (hangs : ℕ → Bool) (group : List Name) → FineGroup w q 0 q → FineGroup w q n0 grp → ((t : ℕ) → among grp t ≡ true → among q t ≡ true)
       → ((t : ℕ) → among q t ≡ true → is_among (d.state_name t) group ≡ true) → Hangs w hangs → AllFound s (group_wires nd tag k grp) → ExactGroup w (root w) grp → SitesOf (sites.group_sites w grp)
@@ -240,6 +241,6 @@ module _ (nd : Named) (tag : ℕ) (s : Source) (fixed : List Name) (decl : Decla
             (λ v a. mine v (inr (in_behind (block_wires nd tag (k + 1) b) (group_wires nd tag base kids) v a))) exact.0.1
             (λ n a. site n (among_left (sites.block_sites w x kids b ++ sites.group_sites w kids) (sites.group_sites w rest) n (among_right (sites.block_sites w x kids b) (sites.group_sites w kids) n a)))
             z.0.1 r.0.1 c.0.1 few.0.1,
-        top_fine rest q (suc n0) (k + (1 + wires_block b + wires_group kids)) hangs group whole fine.1 (λ t h. part t (either_second (nat_eq t x) (among rest t) h)) named hs (behind_found s own later ws)
+        top_fine rest q (suc n0) (k + (1 + wires_block b + wires_group kids)) hangs group whole fine.1 (λ t h. part t (or_right (nat_eq t x) (among rest t) h)) named hs (behind_found s own later ws)
             exact.1 (λ n a. site n (among_right (sites.block_sites w x kids b ++ sites.group_sites w kids) (sites.group_sites w rest) n a)) z.1 r.1 c.1 few.1,
       )

@@ -1,10 +1,10 @@
 -- A goto: the resets below the target, its tag, and the seats.
-use Rattle.std.proofs.Common.{◌≡◌, ℕ, ◌+◌, Bool, true, false, ◌&&◌, ◌||◌, refl, sym, ap, ◌∙◌, subst, arith, nat_lt, nat_le, nat_eq, if◌then◌else◌}
+use Rattle.std.proofs.Common.{◌≡◌, ℕ, ◌+◌, Bool, true, false, ◌&&◌, refl, sym, ap, ◌∙◌, subst, arith, nat_lt, nat_le, nat_eq, if◌then◌else◌}
 use Rattle.std.proofs.lemmas.Bool.{eqb-true}
+use Rattle.sap_meaning.proofs.ProgramLemmas.{memory_no_state, state_no_value}
 use Rattle.sap_maps.specs.Maps.{Name}
 use Rattle.sap_maps.specs.Term.{Term}
-use Rattle.sap_meaning.specs.Program.{World, Kind, root, entity, is_dynamic, is_state, is_memory, kind_is_input, kind_is_register, kind_is_state, kind_is_memory, place, last, below, Goto, Group}
-use Rattle.sap_meaning.specs.Program as program
+use Rattle.sap_meaning.specs.Program.{World, root, entity, is_dynamic, is_state, is_memory, place, last, below, Goto, Group}
 use Rattle.sap_meaning.specs.Store.{own, next_whole, Store, put_number, put_level, put_child, lowered, reset, After, stay}
 use Rattle.sap_meaning.specs.Checks.{Spot}
 use Rattle.sap_meaning.specs.Touches.{among}
@@ -17,7 +17,7 @@ use Rattle.sap_tagged.specs.Setting.{Setting}
 use Rattle.sap_tagged.specs.Levels.{var, bits}
 use Rattle.sap_tagged.specs.Commands.{gives, for_each, resets, effect_of}
 use Rattle.sap_tagged.specs.Stands.{Lawful, at, is_value, has_tag, tag_slot, Stands, Turns}
-use Rattle.sap_tagged.proofs.Bools.{apart_tests, tagged_within}
+use Rattle.sap_tagged.proofs.Bools.{tagged_within}
 use Rattle.sap_tagged.proofs.Puts.{put_to, does_gives, swept, does_sweep, between, swept_is, within_all, stands_changed}
 use Rattle.sap_tagged.proofs.Looks.{Quiet, quiet_next, turns_stay}
 use Rattle.sap_tagged.proofs.Effects.{tag_put, quiet_tag}
@@ -46,18 +46,6 @@ levelled : (w : World) (parent target l : ℕ) (s : Store)
     → moved w parent target (put_level w (own target) l (emptied w target s)) ≡ put_level w (own target) l (reset w target (put_child parent (place w target) s))
 unfolding moved emptied reset put_child put_level
 levelled w parent target l s = refl
-
-state_no_value : (k : Kind) → kind_is_state k ≡ true → (kind_is_input k || kind_is_register k) ≡ false
-state_no_value program.input h = absurd (apart_tests (sym h))
-state_no_value program.register h = absurd (apart_tests (sym h))
-state_no_value (program.memory depth) h = refl
-state_no_value (program.state place last) h = refl
-
-memory_no_state : (k : Kind) → kind_is_memory k ≡ true → kind_is_state k ≡ false
-memory_no_state program.input h = absurd (apart_tests (sym h))
-memory_no_state program.register h = absurd (apart_tests (sym h))
-memory_no_state (program.memory depth) h = refl
-memory_no_state (program.state place last) h = absurd (apart_tests (sym h))
 
 module _ (d : Setting) (widths : Name → ℕ) (laws : Lawful d widths) where
   -- a level alone, of a state

@@ -1,7 +1,9 @@
 -- The states of a group: their names, their places, and what a goto among them does to seats.
 use Rattle.std.proofs.Common.{◌≡◌, ℕ, suc, ◌+◌, ◌<◌, ◌≤◌, Bool, true, false, ◌||◌, refl, sym, ap, ◌∙◌, subst, arith, nat_lt, nat_eq, inl, inr, bytes_eq, if◌then◌else◌}
-use Rattle.std.proofs.lemmas.Bool.{cases_Bool, eqb-true, eq-eqb}
+use Rattle.std.proofs.lemmas.Bool.{cases_Bool, eqb-true, eq-eqb, false_from_ne_true, or_right}
 use Rattle.std.proofs.lemmas.Grind.{common_steps}
+use Rattle.sap_lemmas.proofs.Bools.{or_other, true_is_not_false}
+use Rattle.sap_lemmas.proofs.Numbers.{test_symmetric}
 use Rattle.sap_maps.specs.Maps.{Name}
 use Rattle.sap_meaning.specs.Program.{World, root, is_state, is_memory, children, place, last, below, Block, State, Node, Group, None, More}
 use Rattle.sap_meaning.specs.Touches.{among}
@@ -13,7 +15,7 @@ use Rattle.sap_ir.specs.Plain.Does.{put_value, first_child, restart, enter}
 use Rattle.sap_tagged.specs.Keys.{Key, Value, Tag, Seat, Refused, Level, Wire, First, same}
 use Rattle.sap_tagged.specs.Setting.{Setting}
 use Rattle.sap_tagged.specs.Stands.{Lawful, at}
-use Rattle.sap_tagged.proofs.Bools.{apart_tests, second, flipped, either_second, tagged, kept_no_memory, refuted}
+use Rattle.sap_tagged.proofs.Bools.{tagged, kept_no_memory}
 use Rattle.sap_tagged.proofs.Terms.{AllTagged}
 use Rattle.sap_tagged.proofs.Puts.{put_to, at_put, memory_put, stands_changed}
 use Rattle.sap_tagged.proofs.Gotos.{moved, GoesRun}
@@ -49,16 +51,16 @@ lt_test : (s l n : ℕ) → s ≤ l → l < n → nat_lt s n ≡ true
 lt_test s l n h k = grind (arith, common_steps)
 
 pub no_memory : (w : World) (t : ℕ) → is_state w t ≡ true → is_memory w t ≡ false
-no_memory w t h = kept_no_memory w t (either_second _ (is_state w t) h)
+no_memory w t h = kept_no_memory w t (or_right _ (is_state w t) h)
 
 pub node_state : (w : World) (q : Group) (n s : ℕ) (b : Block) (g : Group) → FineNode w q n s b g → IsState w s
 node_state w q n s b g f = record { kind = f.kind; declared = lt_test s (last w s) (root w) f.itself f.declared }
 
 pub group_states : (w : World) (q : Group) (n : ℕ) (g : Group) → FineGroup w q n g → (t : ℕ) → among g t ≡ true → IsState w t
-group_states w q n None f t h = absurd (apart_tests (sym h))
+group_states w q n None f t h = absurd (true_is_not_false (sym h))
 group_states w q n (More (Node s b k) g) f t h = elim (cases_Bool (nat_eq t s)) [
   | inl e ↦ subst (λ (x : ℕ). IsState w x) (sym (eqb-true t s e)) (node_state w q n s b k f.0.0)
-  | inr e ↦ group_states w q (suc n) g f.1 t (second (nat_eq t s) (among g t) h e)
+  | inr e ↦ group_states w q (suc n) g f.1 t (or_other (nat_eq t s) (among g t) h e)
 ]
 
 pub group_tagged : (w : World) (q : Group) (n : ℕ) (g : Group) → FineGroup w q n g → AllTagged w g
@@ -110,7 +112,7 @@ module _ (d : Setting) (widths : Name → ℕ) (laws : Lawful d widths) (names :
   first_child_is : (s : ℕ) (x : Name) (k : Group) (kids : Forest) (g : Going) → nat_lt s (root d.world) ≡ true → x ≡ d.state_name s → children d.world s ≡ size k → Shaped d k kids
       → Restarted d (λ p. nat_eq p s) g (first_child x kids g)
   first_child_is s x None none g l e c h =
-      restarted_none d g (λ p. nat_eq p s) (λ p i. refuted (nat_eq p s) (λ q. no_child p i (eqb-true p s q)))
+      restarted_none d g (λ p. nat_eq p s) (λ p i. false_from_ne_true (nat_eq p s) (λ q. no_child p i (eqb-true p s q)))
     where
       no_child : (p : ℕ) → 0 < children d.world p → p ≡ s → ⊥
       no_child p i q = let z : children d.world p ≡ 0 = ap (children d.world) q ∙ c in omega (arith, i, z)
@@ -167,7 +169,7 @@ module _ (d : Setting) (widths : Name → ℕ) (laws : Lawful d widths) (names :
       }
 
   pub found : (q : Group) (n : ℕ) (g : Group) (forest : Forest) → FineGroup d.world q n g → Tidy d.world g → Shaped d g forest → (target : ℕ) → among g target ≡ true → Found target n forest
-  found q n None none f t h target i = absurd (apart_tests (sym i))
+  found q n None none f t h target i = absurd (true_is_not_false (sym i))
   found q n None (state y b kids rest) f t h target i = absurd h
   found q n (More s g) none f t h target i = absurd h
   found q n (More (Node s c k) g) (state x b kids rest) f t h target i = elim (cases_Bool (nat_eq target s)) [
@@ -175,12 +177,12 @@ module _ (d : Setting) (widths : Name → ℕ) (laws : Lawful d widths) (names :
         subst (λ (z : ℕ). Found z n (state x b kids rest)) (sym (eqb-true target s e))
         (found_here q n s c k x b kids rest f.0.0 f.0.1 t.0 h.0 h.1)
     | inr e ↦
-        (let j = second (nat_eq target s) (among g target) i e in
+        (let j = or_other (nat_eq target s) (among g target) i e in
         let r = found q (suc n) g rest f.1 t.1 h.2 target j in
         let there = group_states d.world q (suc n) g f.1 target j in
         let me = node_state d.world q n s c k f.0.0 in
         let miss : bytes_eq x (d.state_name target) ≡ false =
-        ap (λ (y : Name). bytes_eq y (d.state_name target)) h.0 ∙ names.apart s target me.declared there.declared ∙ flipped s target ∙ e in
+        ap (λ (y : Name). bytes_eq y (d.state_name target)) h.0 ∙ names.apart s target me.declared there.declared ∙ test_symmetric s target ∙ e in
         record {
           kids = r.kids;
           shaped = subst (λ (c : Bool). Shaped d r.kids (if c then kids else nested.children_of rest (d.state_name target))) (sym miss) r.shaped;

@@ -1,6 +1,7 @@
 -- What hangs has a tag that can be assigned.
 use Rattle.std.proofs.Common.{◌≡◌, ℕ, suc, Bool, true, false, ◌||◌, List, refl, sym, ◌∙◌, subst, nat_lt, nat_eq, inl, inr}
-use Rattle.std.proofs.lemmas.Bool.{cases_Bool, eqb-true}
+use Rattle.std.proofs.lemmas.Bool.{cases_Bool, eqb-true, and_parts}
+use Rattle.sap_lemmas.proofs.Bools.{true_is_not_false}
 use Rattle.sap_meaning.specs.Program.{World, Kind, entity, root, is_dynamic, is_input, is_memory, is_register, is_state, listed, Step, Set, Write, Retag, RetagCell, Goto, Fall, Command, Do, Try, If, TryThen, Case, Arms, Last, Arm, Block, End, Then, State, Node, Group, None, More, kind_is_input, kind_is_register, kind_is_memory, kind_is_state}
 use Rattle.sap_meaning.specs.Program as program
 use Rattle.sap_meaning.specs.Checks.{Spot}
@@ -8,7 +9,7 @@ use Rattle.sap_meaning.specs.Touches.{step_assigns, assigns, arms_assign, block_
 use Rattle.sap_meaning.specs.Runs.{listed_alone}
 use Rattle.sap_meaning.specs.Fine.{FineStep, FineCommand, FineArms, FineBlock, FineGroup, ExactStep, Exact, ExactArms, ExactBlock}
 use Rattle.sap_tagged.specs.Stands.{has_tag}
-use Rattle.sap_tagged.proofs.Bools.{apart_tests, both_true, register_within, memory_within, tagged, tagged_memory}
+use Rattle.sap_tagged.proofs.Bools.{register_within, memory_within, tagged, tagged_memory}
 use Rattle.sap_tagged.proofs.Groups.{IsState, group_states}
 use Rattle.sap_tagged.proofs.Bodies.{Hangs, CommandHangs, ArmsHang, BlockHangs}
 
@@ -20,7 +21,7 @@ register_can : (w : World) (x : ℕ) → is_register w x ≡ true → CanHang w 
 register_can w x h = (register_within w x h, by (entity w x).kind h)
   where
     by : (k : Kind) → kind_is_register k ≡ true → kind_is_input k ≡ false
-    by program.input h = absurd (apart_tests (sym h))
+    by program.input h = absurd (true_is_not_false (sym h))
     by program.register h = refl
     by (program.memory depth) h = refl
     by (program.state place last) h = refl
@@ -29,7 +30,7 @@ memory_can : (w : World) (x : ℕ) → is_memory w x ≡ true → CanHang w x
 memory_can w x h = (memory_within w x h, by (entity w x).kind h)
   where
     by : (k : Kind) → kind_is_memory k ≡ true → kind_is_input k ≡ false
-    by program.input h = absurd (apart_tests (sym h))
+    by program.input h = absurd (true_is_not_false (sym h))
     by program.register h = refl
     by (program.memory depth) h = refl
     by (program.state place last) h = refl
@@ -38,7 +39,7 @@ state_can : (w : World) (x : ℕ) → IsState w x → CanHang w x
 state_can w x h = (h.declared, by (entity w x).kind h.kind)
   where
     by : (k : Kind) → kind_is_state k ≡ true → kind_is_input k ≡ false
-    by program.input h = absurd (apart_tests (sym h))
+    by program.input h = absurd (true_is_not_false (sym h))
     by program.register h = refl
     by (program.memory depth) h = refl
     by (program.state place last) h = refl
@@ -55,10 +56,10 @@ module _ (w : World) (x : ℕ) where
     step_assigned : (k : Step) → FineStep w q g k → step_assigns k x ≡ true → CanHang w x
     step_assigned (Set site y e) f h = moved w x y h (register_can w y f.0)
     step_assigned (Write site m i e) f h = moved w x m h (memory_can w m f.0)
-    step_assigned (Retag site y n) f h = absurd (apart_tests (sym h))
-    step_assigned (RetagCell site m j n) f h = absurd (apart_tests (sym h))
-    step_assigned (Goto site target) f h = absurd (apart_tests (sym h))
-    step_assigned (Fall site hang) f h = absurd (apart_tests (sym h))
+    step_assigned (Retag site y n) f h = absurd (true_is_not_false (sym h))
+    step_assigned (RetagCell site m j n) f h = absurd (true_is_not_false (sym h))
+    step_assigned (Goto site target) f h = absurd (true_is_not_false (sym h))
+    step_assigned (Fall site hang) f h = absurd (true_is_not_false (sym h))
 
     mutual
       assigned : (c : Command) → FineCommand w q g c → assigns c x ≡ true → CanHang w x
@@ -75,11 +76,11 @@ module _ (w : World) (x : ℕ) where
       arms_assigned (Arm constants b arms) f h = either (block_assigns b x) (arms_assign arms x) h (block_assigned b f.0) (arms_assigned arms f.1)
 
       block_assigned : (b : Block) → FineBlock w q g b → block_assigns b x ≡ true → CanHang w x
-      block_assigned End f h = absurd (apart_tests (sym h))
+      block_assigned End f h = absurd (true_is_not_false (sym h))
       block_assigned (Then c cs) f h = either (assigns c x) (block_assigns cs x) h (assigned c f.0) (block_assigned cs f.1)
 
   group_assigned : (q : Group) (n : ℕ) (g : Group) → FineGroup w q n g → group_assigns g x ≡ true → CanHang w x
-  group_assigned q n None f h = absurd (apart_tests (sym h))
+  group_assigned q n None f h = absurd (true_is_not_false (sym h))
   group_assigned q n (More (Node s b k) g) f h =
       either (block_assigns b x || group_assigns k x) (group_assigns g x) h
       (λ i. either (block_assigns b x) (group_assigns k x) i (block_assigned q k b f.0.0.steps) (group_assigned k 0 k f.0.1)) (group_assigned q (suc n) g f.1)
@@ -88,8 +89,8 @@ module _ (w : World) (x : ℕ) where
     step_hung : (k : Step) → FineStep w q g k → step_hangs s g k x ≡ true → CanHang w x
     step_hung (Set site y e) f h = moved w x y h (register_can w y f.0)
     step_hung (Write site m i e) f h = moved w x m h (memory_can w m f.0)
-    step_hung (Retag site y n) f h = absurd (apart_tests (sym h))
-    step_hung (RetagCell site m j n) f h = absurd (apart_tests (sym h))
+    step_hung (Retag site y n) f h = absurd (true_is_not_false (sym h))
+    step_hung (RetagCell site m j n) f h = absurd (true_is_not_false (sym h))
     step_hung (Goto site target) f h = moved w x s h (state_can w s here)
     step_hung (Fall site hang) f h = either (among g x) (group_assigns g x) h (λ i. state_can w x (group_states w g 0 g kids x i)) (group_assigned g 0 g kids)
 
@@ -108,7 +109,7 @@ module _ (w : World) (x : ℕ) where
       arms_hung (Arm constants b arms) f h = either (block_hangs s g b x) (arms_hang s g arms x) h (block_hung b f.0) (arms_hung arms f.1)
 
       block_hung : (b : Block) → FineBlock w q g b → block_hangs s g b x ≡ true → CanHang w x
-      block_hung End f h = absurd (apart_tests (sym h))
+      block_hung End f h = absurd (true_is_not_false (sym h))
       block_hung (Then c cs) f h = either (hangs s g c x) (block_hangs s g cs x) h (hung c f.0) (block_hung cs f.1)
 
 -- a dynamic entity that can hang has a tag
@@ -121,17 +122,17 @@ dynamic_tag w x t c = elim (cases_Bool (is_memory w x)) [
 module _ (w : World) (q : Group) (sp : Spot) (here : IsState w sp.state) (kids : FineGroup w sp.children 0 sp.children) where
   touched : (c : Command) → FineCommand w q sp.children c → Hangs w (touches w sp c)
   touched c f x h =
-      let b = both_true (is_dynamic w x) (hangs sp.state sp.children c x) h in
+      let b = and_parts (is_dynamic w x) (hangs sp.state sp.children c x) h in
       dynamic_tag w x b.0 (hung w x q sp.state sp.children here kids c f b.1)
 
   exact_hangs : (c : Command) (list : List Bool) → FineCommand w q sp.children c → ((x : ℕ) → listed list x ≡ touches w sp c x) → Hangs w (listed list)
   exact_hangs c list f e x h = touched c f x (sym (e x) ∙ h)
 
   alone_hangs : (k : Step) → FineStep w q sp.children k → ExactStep w sp k → Hangs w (listed_alone w sp k)
-  alone_hangs (Set site y e) f i x h = absurd (apart_tests (sym h))
-  alone_hangs (Write site m j e) f i x h = absurd (apart_tests (sym h))
-  alone_hangs (Retag site y n) f i x h = absurd (apart_tests (sym h))
-  alone_hangs (RetagCell site m j n) f i x h = absurd (apart_tests (sym h))
+  alone_hangs (Set site y e) f i x h = absurd (true_is_not_false (sym h))
+  alone_hangs (Write site m j e) f i x h = absurd (true_is_not_false (sym h))
+  alone_hangs (Retag site y n) f i x h = absurd (true_is_not_false (sym h))
+  alone_hangs (RetagCell site m j n) f i x h = absurd (true_is_not_false (sym h))
   alone_hangs (Goto site target) f i x h = touched (Do (Goto site target)) f x h
   alone_hangs (Fall site hang) f i x h = exact_hangs (Do (Fall site hang)) hang f i x h
 
@@ -153,5 +154,5 @@ module _ (w : World) (q : Group) (sp : Spot) (here : IsState w sp.state) (kids :
 
 pub root_hangs : (w : World) (g : Group) (list : List Bool) → FineGroup w g 0 g → ((x : ℕ) → listed list x ≡ root_touches w g x) → Hangs w (listed list)
 root_hangs w g list f e x h =
-    let b = both_true (is_dynamic w x) (among g x || group_assigns g x) (sym (e x) ∙ h) in
+    let b = and_parts (is_dynamic w x) (among g x || group_assigns g x) (sym (e x) ∙ h) in
     dynamic_tag w x b.0 (either (among g x) (group_assigns g x) b.1 (λ i. state_can w x (group_states w g 0 g f x i)) (group_assigned w x g 0 g f))

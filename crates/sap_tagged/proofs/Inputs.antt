@@ -1,6 +1,7 @@
 -- What the inputs are given at the start of a cycle.
-use Rattle.std.proofs.Common.{◌≡◌, ℕ, zero, suc, ◌+◌, ◌^◌, ◌<◌, ◌≤◌, List, [], ◌∷◌, ◌++◌, length, Bool, true, false, Option, refl, sym, ap, ◌∙◌, subst, if◌then◌else◌, arith, get_or, nat_eq}
+use Rattle.std.proofs.Common.{◌≡◌, ℕ, zero, suc, ◌+◌, ◌^◌, ◌<◌, ◌≤◌, List, [], ◌∷◌, ◌++◌, length, Bool, true, false, Option, refl, sym, ap, ◌∙◌, subst, if◌then◌else◌, arith, get_or}
 use Rattle.std.proofs.lemmas.Bool.Decides.{Decides-eqb}
+use Rattle.std.proofs.lemmas.Bool.{ne_eqb}
 use Rattle.sap_maps.specs.Maps.{Valuation}
 use Rattle.sap_meaning.specs.Program.{Entity, entity, nothing, root, is_input, kind_is_input}
 use Rattle.sap_meaning.specs.Cycle.{Tagged, inputs_before}
@@ -13,11 +14,7 @@ use Rattle.sap_interface.specs.Compiled.{coded}
 use Rattle.sap_ir.specs.declared.guarded.Var.{Var}
 use Rattle.sap_tagged.specs.Keys.{Key, Value, Tag, key_name}
 use Rattle.sap_tagged.specs.Plain.{for_entities, value_var, tag_var}
-use Rattle.sap_tagged.proofs.Bools.{refuted}
 use Rattle.sap_tagged.proofs.KeyNames.{NamesApart, names_apart}
-
-is_other : (x y : ℕ) → (x ≡ y → ⊥) → nat_eq x y ≡ false
-is_other x y f = refuted (nat_eq x y) (λ e. f ((Decides-eqb x y).0 e))
 
 abbrev pub input_of : Named → (tag x : ℕ) → List Var
 input_of d tag x = value_var d x 0 ∷ tag_var d tag x 0 ∷ []
@@ -55,11 +52,11 @@ module _ (d : Named) (u : ℕ) (s : Source) (before : Option Valuation) (names :
   -- past an input
   past_value : (x y : ℕ) (es : List Entity) (t : Tagged) (ts : List Tagged) → x < n → y < n → (x ≡ y → ⊥) → starts_if true x es (t ∷ ts) (Value y) ≡ starts (x + 1) es ts (Value y)
   past_value x y es t ts l m f =
-      rw (names_apart d names (Value x) (Value y) ∙ is_other x y f, names_apart d names (Tag x) (Value y)) refl
+      rw (names_apart d names (Value x) (Value y) ∙ ne_eqb x y f, names_apart d names (Tag x) (Value y)) refl
 
   past_tag : (x y : ℕ) (es : List Entity) (t : Tagged) (ts : List Tagged) → x < n → y < n → (x ≡ y → ⊥) → starts_if true x es (t ∷ ts) (Tag y) ≡ starts (x + 1) es ts (Tag y)
   past_tag x y es t ts l m f =
-      rw (names_apart d names (Tag x) (Tag y) ∙ is_other x y f) refl
+      rw (names_apart d names (Tag x) (Tag y) ∙ ne_eqb x y f) refl
 
   here_value : (x : ℕ) (es : List Entity) (t : Tagged) (ts : List Tagged) → x < n → starts_if true x es (t ∷ ts) (Value x) ≡ t.number
   here_value x es t ts l = rw (names_apart d names (Value x) (Value x) ∙ (Decides-eqb x x).1 refl) refl

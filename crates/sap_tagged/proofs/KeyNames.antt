@@ -2,9 +2,11 @@
 use Rattle.std.proofs.Common.{◌≡◌, ℕ, zero, suc, ◌<◌, [], ◌∷◌, Bool, true, false, refl, sym, ap, ap₂, ◌∙◌, subst, arith, nat_lt, nat_eq, inl, inr, bytes_eq, if◌then◌else◌}
 use Rattle.std.specs.List.{list_all}
 use Rattle.std.specs.Char.{is_ascii_digit}
-use Rattle.std.proofs.lemmas.Bool.{cases_Bool, eqb-true, eq-eqb}
+use Rattle.std.proofs.lemmas.Bool.{cases_Bool, eqb-true, eq-eqb, and_parts, false_from_ne_true}
 use Rattle.std.proofs.lemmas.Grind.{common_steps}
-use Rattle.std.proofs.lemmas.Slice.Eq.{bytes_eq-Decides}
+use Rattle.sap_lemmas.proofs.Bools.{iff_same, true_is_not_false}
+use Rattle.sap_lemmas.proofs.Numbers.{test_symmetric}
+use Rattle.sap_lemmas.proofs.Texts.{bytes_eq_same, equal_of_bytes_eq}
 use Rattle.sap_maps.specs.Maps.{Name}
 use Rattle.sap_meaning.specs.Program.{root}
 use Rattle.sap_tree.specs.Words.{is_name}
@@ -12,26 +14,13 @@ use Rattle.sap_tree.specs.declared.version.Version.TheVariants.{One}
 use Rattle.sap_net.specs.Names.{is_initial, is_word}
 use Rattle.sap_interface.specs.StandsFor.{Named, name, world}
 use Rattle.sap_tagged.specs.Keys.{Key, Value, Tag, Seat, Refused, Level, Wire, First, Inner, sort, index, same, numeral, entity_word, seat_word, key_name}
-use Rattle.sap_tagged.proofs.Bools.{apart_tests, both_true, flipped, refuted}
 use Rattle.sap_tagged.proofs.Numerals.{numeral_injective, numeral_digits, numeral_zero}
-
-pub same_name : (a : Name) → bytes_eq a a ≡ true
-same_name a = (bytes_eq-Decides a a).1 refl
-
-pub name_is : (a b : Name) → bytes_eq a b ≡ true → a ≡ b
-name_is a b h = (bytes_eq-Decides a b).0 h
-
-pub same_test : (p q : Bool) → (p ≡ true → q ≡ true) → (q ≡ true → p ≡ true) → p ≡ q
-same_test true true f g = refl
-same_test true false f g = sym (f refl)
-same_test false true f g = g refl
-same_test false false f g = refl
 
 numerals_apart : (j k : ℕ) → bytes_eq (numeral j) (numeral k) ≡ nat_eq j k
 numerals_apart j k =
-    same_test (bytes_eq (numeral j) (numeral k)) (nat_eq j k)
-    (λ h. eq-eqb j k (numeral_injective j k (name_is (numeral j) (numeral k) h)))
-    (λ h. subst (λ (i : ℕ). bytes_eq (numeral j) (numeral i) ≡ true) (eqb-true j k h) (same_name (numeral j)))
+    iff_same (bytes_eq (numeral j) (numeral k)) (nat_eq j k)
+    (λ h. eq-eqb j k (numeral_injective j k (equal_of_bytes_eq (numeral j) (numeral k) h)))
+    (λ h. subst (λ (i : ℕ). bytes_eq (numeral j) (numeral i) ≡ true) (eqb-true j k h) (bytes_eq_same (numeral j)))
 
 -- entities have names of their own, which are words, and which the design language takes as names
 pub record NamesApart (d : Named) : Type 0 where
@@ -45,7 +34,7 @@ no_initial c h = grind (arith, common_steps)
 
 no_word : (n : Name) → list_all is_ascii_digit n ≡ true → is_word n ≡ false
 no_word [] h = refl
-no_word (c ∷ cs) h = rw (no_initial c (both_true (is_ascii_digit c) (list_all is_ascii_digit cs) h).0) refl
+no_word (c ∷ cs) h = rw (no_initial c (and_parts (is_ascii_digit c) (list_all is_ascii_digit cs) h).0) refl
 
 outside : (x n : ℕ) → nat_lt x n ≡ false → nat_eq x n ≡ false → n < x
 outside x n h e = grind (arith, common_steps)
@@ -58,16 +47,16 @@ module _ (d : Named) (names : NamesApart d) where
   n = root (world d)
 
   word_no_numeral : (x y : ℕ) → nat_lt x n ≡ true → name d x ≡ numeral y → ⊥
-  word_no_numeral x y h e = apart_tests (sym (names.words x h) ∙ ap is_word e ∙ no_word (numeral y) (numeral_digits y))
+  word_no_numeral x y h e = true_is_not_false (sym (names.words x h) ∙ ap is_word e ∙ no_word (numeral y) (numeral_digits y))
 
   entities_apart : (x y : ℕ) → bytes_eq (entity_word d x) (entity_word d y) ≡ nat_eq x y
   entities_apart x y = elim (cases_Bool (nat_lt x n)) [
     | inl i ↦ elim (cases_Bool (nat_lt y n)) [
       | inl j ↦ rw (i, j) (names.apart x y i j)
-      | inr j ↦ rw (i, j) (refuted (bytes_eq (name d x) (numeral y)) (λ e. word_no_numeral x y i (name_is (name d x) (numeral y) e)) ∙ sym (in_and_out x y n i j))
+      | inr j ↦ rw (i, j) (false_from_ne_true (bytes_eq (name d x) (numeral y)) (λ e. word_no_numeral x y i (equal_of_bytes_eq (name d x) (numeral y) e)) ∙ sym (in_and_out x y n i j))
     ]
     | inr i ↦ elim (cases_Bool (nat_lt y n)) [
-      | inl j ↦ rw (i, j) (refuted (bytes_eq (numeral x) (name d y)) (λ e. word_no_numeral y x j (sym (name_is (numeral x) (name d y) e))) ∙ sym (flipped x y ∙ in_and_out y x n j i))
+      | inl j ↦ rw (i, j) (false_from_ne_true (bytes_eq (numeral x) (name d y)) (λ e. word_no_numeral y x j (sym (equal_of_bytes_eq (numeral x) (name d y) e))) ∙ sym (test_symmetric x y ∙ in_and_out y x n j i))
       | inr j ↦ rw (i, j) (numerals_apart x y)
     ]
   ]
@@ -88,13 +77,13 @@ module _ (d : Named) (names : NamesApart d) where
       | inl j ↦ rw (i, j) (sym (eq-eqb p q (eqb-true p n i ∙ sym (eqb-true q n j))))
       | inr j ↦
           rw (i, j)
-          (refuted (bytes_eq (48 ∷ []) (entity_word d q)) (λ e. root_word q j (name_is (48 ∷ []) (entity_word d q) e))
-          ∙ sym (ap (λ (z : ℕ). nat_eq z q) (eqb-true p n i) ∙ flipped n q ∙ j))
+          (false_from_ne_true (bytes_eq (48 ∷ []) (entity_word d q)) (λ e. root_word q j (equal_of_bytes_eq (48 ∷ []) (entity_word d q) e))
+          ∙ sym (ap (λ (z : ℕ). nat_eq z q) (eqb-true p n i) ∙ test_symmetric n q ∙ j))
     ]
     | inr i ↦ elim (cases_Bool (nat_eq q n)) [
       | inl j ↦
           rw (i, j)
-          (refuted (bytes_eq (entity_word d p) (48 ∷ [])) (λ e. root_word p i (sym (name_is (entity_word d p) (48 ∷ []) e))) ∙ sym (ap (nat_eq p) (eqb-true q n j) ∙ i))
+          (false_from_ne_true (bytes_eq (entity_word d p) (48 ∷ [])) (λ e. root_word p i (sym (equal_of_bytes_eq (entity_word d p) (48 ∷ []) e))) ∙ sym (ap (nat_eq p) (eqb-true q n j) ∙ i))
       | inr j ↦ rw (i, j) (entities_apart p q)
     ]
   ]
@@ -188,5 +177,5 @@ key_back (Inner x) = refl
 
 pub same_is : (a b : Key) → same a b ≡ true → a ≡ b
 same_is a b h =
-    let t = both_true (nat_eq (sort a) (sort b)) (nat_eq (index a) (index b)) h in
+    let t = and_parts (nat_eq (sort a) (sort b)) (nat_eq (index a) (index b)) h in
     sym (key_back a) ∙ ap₂ (λ (i j : ℕ). key_at i j) (eqb-true (sort a) (sort b) t.0) (eqb-true (index a) (index b) t.1) ∙ key_back b

@@ -1,6 +1,8 @@
 -- Variables on a list on which no name stands twice.
-use Rattle.std.proofs.Common.{◌≡◌, ℕ, zero, suc, ◌+◌, ◌<◌, ◌≤◌, List, [], ◌∷◌, ◌++◌, map, length, Bool, true, false, ◌||◌, Option, Some, ◌⊎◌, inl, inr, refl, sym, ap, subst, arith, bytes_eq, if◌then◌else◌}
-use Rattle.std.proofs.lemmas.Bool.{cases_Bool}
+use Rattle.std.proofs.Common.{◌≡◌, ℕ, zero, suc, ◌+◌, ◌<◌, ◌≤◌, List, [], ◌∷◌, ◌++◌, map, length, Bool, true, false, Option, Some, ◌⊎◌, inl, inr, refl, sym, ap, subst, arith, bytes_eq, if◌then◌else◌}
+use Rattle.std.proofs.lemmas.Bool.{cases_Bool, or_parts}
+use Rattle.sap_lemmas.proofs.Texts.{bytes_eq_apart_back, bytes_eq_same}
+use Rattle.sap_net.proofs.NamesLemmas.{apart_by_membership}
 use Rattle.sap_maps.specs.Maps.{Name, Valuation}
 use Rattle.sap_maps.specs.Scope.{find}
 use Rattle.sap_meaning.specs.Program.{Entity}
@@ -11,7 +13,6 @@ use Rattle.sap_ir.specs.declared.guarded.Store.{Store}
 use Rattle.sap_ir.specs.IsGuarded.{memory_names}
 use Rattle.sap_ir.specs.Guarded.{first_number, register_number, number_at_start, first_cell, cell_at_start}
 use Rattle.sap_tagged.specs.Plain.{names_of, for_entities}
-use Rattle.sap_tagged.proofs.KeyNames.{same_name, name_is}
 
 -- it stands on the list
 abbrev pub In : {A : Type 0} → List A → A → Type 0
@@ -20,48 +21,31 @@ In (y ∷ ys) x = (y ≡ x) ⊎ In ys x
 
 pub among_in : (xs : List Var) (x : Var) → In xs x → is_among x.name (names_of xs) ≡ true
 among_in [] x h = absurd h
-among_in (y ∷ ys) x (inl e) = subst (λ (z : Var). is_among x.name (z.name ∷ names_of ys) ≡ true) (sym e) (rw (same_name x.name) refl)
+among_in (y ∷ ys) x (inl e) = subst (λ (z : Var). is_among x.name (z.name ∷ names_of ys) ≡ true) (sym e) (rw (bytes_eq_same x.name) refl)
 among_in (y ∷ ys) x (inr h) = elim (cases_Bool (bytes_eq x.name y.name)) [ inl t ↦ rw t refl | inr t ↦ rw t (among_in ys x h) ]
-
--- a name that stands on no list behind it is another
-pub other : (a b : Name) (ns : List Name) → is_among a ns ≡ false → is_among b ns ≡ true → bytes_eq a b ≡ false
-other a b ns f t = elim (cases_Bool (bytes_eq a b)) [
-  | inl e ↦ (let i : a ≡ b = name_is a b e in let j : is_among b ns ≡ false = subst (λ (c : Name). is_among c ns ≡ false) i f in cc)
-  | inr e ↦ e
-]
 
 pub find_in : (xs : List Var) (x : Var) → AreDistinct (names_of xs) → In xs x → find (map (λ (z : Var). (z.name, z.width)) xs) x.name ≡ Some x.width
 find_in [] x d h = absurd h
 find_in (y ∷ ys) x d (inl e) =
-    subst (λ (z : Var). find (map (λ (v : Var). (v.name, v.width)) (z ∷ ys)) x.name ≡ Some x.width) (sym e) (rw (same_name x.name) refl)
+    subst (λ (z : Var). find (map (λ (v : Var). (v.name, v.width)) (z ∷ ys)) x.name ≡ Some x.width) (sym e) (rw (bytes_eq_same x.name) refl)
 find_in (y ∷ ys) x d (inr h) =
-    let o : bytes_eq y.name x.name ≡ false = other y.name x.name (names_of ys) d.0 (among_in ys x h) in
+    let o : bytes_eq y.name x.name ≡ false = apart_by_membership y.name x.name (names_of ys) d.0 (among_in ys x h) in
     rw o (find_in ys x d.1 h)
 
 pub number_in : (before : Option Valuation) (xs : List Var) (x : Var) → AreDistinct (names_of xs) → In xs x → register_number before xs x.name ≡ first_number before x
 number_in before [] x d h = absurd h
 number_in before (y ∷ ys) x d (inl e) =
-    subst (λ (z : Var). register_number before (z ∷ ys) x.name ≡ first_number before x) (sym e) (rw (same_name x.name) refl)
+    subst (λ (z : Var). register_number before (z ∷ ys) x.name ≡ first_number before x) (sym e) (rw (bytes_eq_same x.name) refl)
 number_in before (y ∷ ys) x d (inr h) =
-    let o : bytes_eq y.name x.name ≡ false = other y.name x.name (names_of ys) d.0 (among_in ys x h) in
+    let o : bytes_eq y.name x.name ≡ false = apart_by_membership y.name x.name (names_of ys) d.0 (among_in ys x h) in
     rw o (number_in before ys x d.1 h)
-
-flipped : (a b : Name) → bytes_eq a b ≡ false → bytes_eq b a ≡ false
-flipped a b f = elim (cases_Bool (bytes_eq b a)) [
-  | inl e ↦ (let i : b ≡ a = name_is b a e in let j : bytes_eq a b ≡ true = subst (λ (c : Name). bytes_eq c b ≡ true) i (same_name b) in cc)
-  | inr e ↦ e
-]
-
-or_false : (a b : Bool) → (a || b) ≡ false → (a ≡ false) × (b ≡ false)
-or_false true b h = cc
-or_false false b h = (refl, h)
 
 -- a name that no register has is 0
 pub number_out : (before : Option Valuation) (xs : List Var) (n : Name) → is_among n (names_of xs) ≡ false → register_number before xs n ≡ 0
 number_out before [] n f = refl
 number_out before (y ∷ ys) n f =
-    let p = or_false (bytes_eq n y.name) (is_among n (names_of ys)) f in
-    let o : bytes_eq y.name n ≡ false = flipped n y.name p.0 in
+    let p = or_parts (bytes_eq n y.name) (is_among n (names_of ys)) f in
+    let o : bytes_eq y.name n ≡ false = bytes_eq_apart_back n y.name p.0 in
     rw o (number_out before ys n p.1)
 
 -- a name that no input has is a register's
@@ -70,8 +54,8 @@ pub start_out : (s : Source) (before : Option Valuation) (is : List Var) (ns : L
 start_out s before [] ns n f = refl
 start_out s before (i ∷ is) [] n f = refl
 start_out s before (i ∷ is) (x ∷ ns) n f =
-    let p = or_false (bytes_eq n i.name) (is_among n (names_of is)) f in
-    let o : bytes_eq i.name n ≡ false = flipped n i.name p.0 in
+    let p = or_parts (bytes_eq n i.name) (is_among n (names_of is)) f in
+    let o : bytes_eq i.name n ≡ false = bytes_eq_apart_back n i.name p.0 in
     rw o (start_out s before is ns n p.1)
 
 pub in_front : {A : Type 0} (xs ys : List A) (x : A) → In xs x → In (xs ++ ys) x
@@ -106,21 +90,21 @@ in_entities picks of v y p h x (e ∷ es) l m = elim (reached x y l) [
 
 pub among_store : (ms : List Store) (m : Store) → In ms m → is_among m.name (memory_names ms) ≡ true
 among_store [] m h = absurd h
-among_store (y ∷ ys) m (inl e) = subst (λ (z : Store). is_among m.name (z.name ∷ memory_names ys) ≡ true) (sym e) (rw (same_name m.name) refl)
+among_store (y ∷ ys) m (inl e) = subst (λ (z : Store). is_among m.name (z.name ∷ memory_names ys) ≡ true) (sym e) (rw (bytes_eq_same m.name) refl)
 among_store (y ∷ ys) m (inr h) = elim (cases_Bool (bytes_eq m.name y.name)) [ inl t ↦ rw t refl | inr t ↦ rw t (among_store ys m h) ]
 
 pub cell_in : (before : Option Valuation) (ms : List Store) (m : Store) (i : ℕ) → AreDistinct (memory_names ms) → In ms m → cell_at_start before ms m.name i ≡ first_cell before m i
 cell_in before [] m i d h = absurd h
 cell_in before (y ∷ ys) m i d (inl e) =
-    subst (λ (z : Store). cell_at_start before (z ∷ ys) m.name i ≡ first_cell before m i) (sym e) (rw (same_name m.name) refl)
+    subst (λ (z : Store). cell_at_start before (z ∷ ys) m.name i ≡ first_cell before m i) (sym e) (rw (bytes_eq_same m.name) refl)
 cell_in before (y ∷ ys) m i d (inr h) =
-    let o : bytes_eq y.name m.name ≡ false = other y.name m.name (memory_names ys) d.0 (among_store ys m h) in
+    let o : bytes_eq y.name m.name ≡ false = apart_by_membership y.name m.name (memory_names ys) d.0 (among_store ys m h) in
     rw o (cell_in before ys m i d.1 h)
 
 pub find_store : (ms : List Store) (m : Store) → AreDistinct (memory_names ms) → In ms m → find (map (λ (z : Store). (z.name, z.width)) ms) m.name ≡ Some m.width
 find_store [] m d h = absurd h
 find_store (y ∷ ys) m d (inl e) =
-    subst (λ (z : Store). find (map (λ (v : Store). (v.name, v.width)) (z ∷ ys)) m.name ≡ Some m.width) (sym e) (rw (same_name m.name) refl)
+    subst (λ (z : Store). find (map (λ (v : Store). (v.name, v.width)) (z ∷ ys)) m.name ≡ Some m.width) (sym e) (rw (bytes_eq_same m.name) refl)
 find_store (y ∷ ys) m d (inr h) =
-    let o : bytes_eq y.name m.name ≡ false = other y.name m.name (memory_names ys) d.0 (among_store ys m h) in
+    let o : bytes_eq y.name m.name ≡ false = apart_by_membership y.name m.name (memory_names ys) d.0 (among_store ys m h) in
     rw o (find_store ys m d.1 h)

@@ -1,8 +1,9 @@
 -- The registers and memories of a plain program have names of the interface.
 use Rattle.std.proofs.Common.{◌≡◌, ℕ, ◌+◌, ◌<◌, ◌≤◌, List, [], ◌∷◌, ◌++◌, length, Bool, true, false, inl, inr, refl, sym, subst, if◌then◌else◌, arith, nat_lt}
 use Rattle.std.specs.List.{AllByRecursion}
-use Rattle.std.proofs.lemmas.Bool.{cases_Bool}
+use Rattle.std.proofs.lemmas.Bool.{cases_Bool, lt-ltb, or_left, or_right}
 use Rattle.std.proofs.lemmas.Grind.{common_steps}
+use Rattle.sap_lemmas.proofs.Everywhere.{all_append}
 use Rattle.sap_maps.specs.Maps.{Name}
 use Rattle.sap_meaning.specs.Program.{World, Entity, root, children, is_input, is_register, is_memory, is_state, is_dynamic}
 use Rattle.sap_ir.specs.declared.guarded.Var.{Var}
@@ -11,13 +12,8 @@ use Rattle.sap_interface.specs.StandsFor.{Named, world}
 use Rattle.sap_interface.specs.InterfaceNames.{holds_numbers, IsInterfaceName, value_of, tag_of, state_tag_of, child_of, child_of_root}
 use Rattle.sap_tagged.specs.Keys.{Value, Tag, Seat, key_name}
 use Rattle.sap_tagged.specs.Plain.{for_entities, tag_var, seat_var, level_at_start, shown_registers, has_own_tag, tag_registers, seat_registers, registers_of, memory_of, tags_of, memories_of}
-use Rattle.sap_tagged.proofs.Bools.{either_first, either_second}
-use Rattle.sap_tagged.proofs.Cycle.{value_known, tag_known, seat_known, root_known, test_of_lt}
+use Rattle.sap_tagged.proofs.Cycle.{value_known, tag_known, seat_known, root_known}
 use Rattle.sap_tagged.proofs.Premises.{Design}
-
-all_append : {X : Type 0} (P : X → Type 0) (xs ys : List X) → AllByRecursion P xs → AllByRecursion P ys → AllByRecursion P (xs ++ ys)
-all_append P [] ys a b = b
-all_append P (x ∷ xs) ys a b = (a.0, all_append P xs ys a.1 b)
 
 picked_all : {X : Type 0} (P : X → Type 0) (b : Bool) (xs : List X) → (b ≡ true → AllByRecursion P xs) → AllByRecursion P (if b then xs else [])
 picked_all P true xs h = h refl
@@ -42,25 +38,25 @@ module _ (d : Named) (tag sites : ℕ) (design : Design d tag sites) where
   IsNamed n = IsInterfaceName d sites n
 
   value_named : (x : ℕ) → x < root w → holds_numbers w x ≡ true → IsNamed (key_name d (Value x))
-  value_named x l h = subst (λ (n : Name). IsNamed n) (sym (value_known d x (test_of_lt x (root w) l))) (value_of x h)
+  value_named x l h = subst (λ (n : Name). IsNamed n) (sym (value_known d x (lt-ltb x (root w) l))) (value_of x h)
 
   tag_named : (x : ℕ) → x < root w → holds_numbers w x ≡ true → IsNamed (key_name d (Tag x))
-  tag_named x l h = subst (λ (n : Name). IsNamed n) (sym (tag_known d x (test_of_lt x (root w) l))) (tag_of x h)
+  tag_named x l h = subst (λ (n : Name). IsNamed n) (sym (tag_known d x (lt-ltb x (root w) l))) (tag_of x h)
 
   state_tag_named : (x : ℕ) → x < root w → is_state w x ≡ true → IsNamed (key_name d (Tag x))
-  state_tag_named x l h = subst (λ (n : Name). IsNamed n) (sym (tag_known d x (test_of_lt x (root w) l))) (state_tag_of x h l)
+  state_tag_named x l h = subst (λ (n : Name). IsNamed n) (sym (tag_known d x (lt-ltb x (root w) l))) (state_tag_of x h l)
 
   child_named : (p : ℕ) → p < root w → 0 < children w p → IsNamed (key_name d (Seat p))
-  child_named p l h = subst (λ (n : Name). IsNamed n) (sym (seat_known d p (test_of_lt p (root w) l))) (child_of p l h)
+  child_named p l h = subst (λ (n : Name). IsNamed n) (sym (seat_known d p (lt-ltb p (root w) l))) (child_of p l h)
 
   root_named : IsNamed (key_name d (Seat (root w)))
   root_named = subst (λ (n : Name). IsNamed n) (sym (root_known d)) child_of_root
 
   register_holds : (x : ℕ) → is_register w x ≡ true → holds_numbers w x ≡ true
-  register_holds x h = either_second (is_input w x) _ (either_first (is_register w x) (is_memory w x) h)
+  register_holds x h = or_right (is_input w x) _ (or_left (is_register w x) (is_memory w x) h)
 
   memory_holds : (x : ℕ) → is_memory w x ≡ true → holds_numbers w x ≡ true
-  memory_holds x h = either_second (is_input w x) _ (either_second (is_register w x) (is_memory w x) h)
+  memory_holds x h = or_right (is_input w x) _ (or_right (is_register w x) (is_memory w x) h)
 
   own_tag_named : (x : ℕ) → x < root w → has_own_tag d x ≡ true → IsNamed (key_name d (Tag x))
   own_tag_named x l h = elim (cases_Bool (is_memory w x)) [

@@ -1,28 +1,24 @@
 -- States have names of their own, and all names are names.
 use Rattle.std.proofs.Common.{◌≡◌, ℕ, suc, ◌<◌, ◌≤◌, List, [], ◌∷◌, ◌++◌, Bool, true, false, ◌&&◌, ◌||◌, ◌==◌, refl, sym, ap, ◌∙◌, subst, arith, nat_lt, nat_le, nat_eq, bytes_eq, inl, inr}
 use Rattle.std.specs.List.{AllByRecursion, list_all}
-use Rattle.std.specs.Char.{is_ascii_digit}
-use Rattle.std.proofs.lemmas.Bool.{cases_Bool, eqb-true, eq-eqb}
+use Rattle.std.proofs.lemmas.Bool.{cases_Bool, eqb-true, eq-eqb, and_parts, false_from_ne_true, or_left, or_right}
 use Rattle.std.proofs.lemmas.Grind.{common_steps}
+use Rattle.sap_lemmas.proofs.Bools.{or_other, true_is_not_false}
+use Rattle.sap_lemmas.proofs.Everywhere.{all_append}
+use Rattle.sap_net.proofs.NamesLemmas.{among_append, digits_inner, initial_inner}
 use Rattle.sap_maps.specs.Maps.{Name}
 use Rattle.sap_meaning.specs.Program.{World, root, is_state, below, last, Node, Group, None, More}
 use Rattle.sap_meaning.specs.Fine.{FineGroup, inside}
 use Rattle.sap_net.specs.Names.{is_initial, is_inner, is_word, is_name, is_among, AreDistinct}
 use Rattle.sap_ir.specs.IsGuarded.{is_helping}
-use Rattle.sap_ir.proofs.Declared.{among_append}
 use Rattle.sap_ir.specs.Plain.Nested.{Forest, none, state, state_names}
 use Rattle.sap_ir.specs.Plain.IsPlain.{is_gate}
 use Rattle.sap_interface.specs.StandsFor.{Named, name, world}
 use Rattle.sap_tagged.specs.Keys.{Key, Value, Tag, Seat, Refused, Level, Wire, First, Inner, numeral, entity_word, seat_word, key_name}
 use Rattle.sap_tagged.specs.Setting.{Setting}
-use Rattle.sap_tagged.proofs.Bools.{apart_tests, both_true, second, either_first, either_second, refuted}
 use Rattle.sap_tagged.proofs.KeyNames.{NamesApart}
 use Rattle.sap_tagged.proofs.Numerals.{numeral_digits}
 use Rattle.sap_tagged.proofs.Groups.{LawfulStates, Shaped, IsState, node_state}
-
-pub all_join : {A : Type 0} (P : A → Type 0) (xs ys : List A) → AllByRecursion P xs → AllByRecursion P ys → AllByRecursion P (xs ++ ys)
-all_join P [] ys h k = k
-all_join P (x ∷ xs) ys h k = (h.0, all_join P xs ys h.1 k)
 
 -- the names of the states of a forest
 pub all_states : (d : Setting) (P : Name → Type 0) (g : Group) (f : Forest) → Shaped d g f → ((t : ℕ) → inside g t ≡ true → P (d.state_name t)) → AllByRecursion P (state_names f)
@@ -30,27 +26,27 @@ all_states d P None none h p = tt
 all_states d P None (state x b kids rest) h p = absurd h
 all_states d P (More u g) none h p = absurd h
 all_states d P (More (Node s c k) g) (state x b kids rest) h p = (
-  subst P (sym h.0) (p s (either_first (nat_eq s s) (inside k s || inside g s) (eq-eqb s s refl))),
-  all_join P (state_names kids) (state_names rest)
-      (all_states d P k kids h.1 (λ t i. p t (either_second (nat_eq t s) (inside k t || inside g t) (either_first (inside k t) (inside g t) i))))
-      (all_states d P g rest h.2 (λ t i. p t (either_second (nat_eq t s) (inside k t || inside g t) (either_second (inside k t) (inside g t) i)))),
+  subst P (sym h.0) (p s (or_left (nat_eq s s) (inside k s || inside g s) (eq-eqb s s refl))),
+  all_append P (state_names kids) (state_names rest)
+      (all_states d P k kids h.1 (λ t i. p t (or_right (nat_eq t s) (inside k t || inside g t) (or_left (inside k t) (inside g t) i))))
+      (all_states d P g rest h.2 (λ t i. p t (or_right (nat_eq t s) (inside k t || inside g t) (or_right (inside k t) (inside g t) i)))),
 )
 
 pub inside_state : (w : World) (q : Group) (n : ℕ) (g : Group) → FineGroup w q n g → (t : ℕ) → inside g t ≡ true → IsState w t
-inside_state w q n None f t h = absurd (apart_tests (sym h))
+inside_state w q n None f t h = absurd (true_is_not_false (sym h))
 inside_state w q n (More (Node s b k) g) f t h = elim (cases_Bool (nat_eq t s)) [
   | inl e ↦ subst (λ (x : ℕ). IsState w x) (sym (eqb-true t s e)) (node_state w q n s b k f.0.0)
   | inr e ↦
-      (let i = second (nat_eq t s) (inside k t || inside g t) h e in
+      (let i = or_other (nat_eq t s) (inside k t || inside g t) h e in
       elim (cases_Bool (inside k t)) [
         | inl j ↦ inside_state w k 0 k f.0.1 t j
-        | inr j ↦ inside_state w q (suc n) g f.1 t (second (inside k t) (inside g t) i j)
+        | inr j ↦ inside_state w q (suc n) g f.1 t (or_other (inside k t) (inside g t) i j)
       ])
 ]
 
 -- what is below a state, and behind it
 below_bounds : (w : World) (s t : ℕ) → below w s t ≡ true → (s < t) × (t ≤ last w s)
-below_bounds w s t h = bounds s t (last w s) (both_true (is_state w t) _ h).1
+below_bounds w s t h = bounds s t (last w s) (and_parts (is_state w t) _ h).1
   where
     bounds : (s t l : ℕ) → (nat_lt s t && nat_le t l) ≡ true → (s < t) × (t ≤ l)
     bounds s t l h = (grind (arith, common_steps), grind (arith, common_steps))
@@ -80,7 +76,7 @@ module _ (d : Setting) (names : LawfulStates d) where
       rw a (among_append (d.state_name t) (state_names kids) (state_names rest) ∙ rw (b, r) refl)
     where
       or_false : (a b : Bool) → (a || b) ≡ false → (a ≡ false) × (b ≡ false)
-      or_false true b h = absurd (apart_tests h)
+      or_false true b h = absurd (true_is_not_false h)
       or_false false b h = (refl, h)
 
   pub states_once : (q : Group) (n : ℕ) (g : Group) (f : Forest) → FineGroup d.world q n g → Shaped d g f → AreDistinct (state_names f)
@@ -90,10 +86,10 @@ module _ (d : Setting) (names : LawfulStates d) where
   states_once q n (More (Node s c k) g) (state x b kids rest) f h =
       let me = node_state d.world q n s c k f.0.0 in
       let node = f.0.0 in
-      let own : inside k s ≡ false = refuted (inside k s) (λ i. clash s s (below_bounds d.world s s (node.numbers s i)).0 refl) in
-      let later : inside g s ≡ false = refuted (inside g s) (λ i. let a = f.2 s i in let z = node.itself in omega (arith, a, z)) in
+      let own : inside k s ≡ false = false_from_ne_true (inside k s) (λ i. clash s s (below_bounds d.world s s (node.numbers s i)).0 refl) in
+      let later : inside g s ≡ false = false_from_ne_true (inside g s) (λ i. let a = f.2 s i in let z = node.itself in omega (arith, a, z)) in
       let cross : (t : ℕ) → inside k t ≡ true → inside g t ≡ false =
-      λ t i. refuted (inside g t) (λ j. let a = f.2 t j in let z = (below_bounds d.world s t (node.numbers t i)).1 in omega (arith, a, z)) in (
+      λ t i. false_from_ne_true (inside g t) (λ j. let a = f.2 t j in let z = (below_bounds d.world s t (node.numbers t i)).1 in omega (arith, a, z)) in (
         ap (λ (y : Name). is_among y (state_names kids ++ state_names rest)) h.0
             ∙ among_append (d.state_name s) (state_names kids) (state_names rest)
             ∙ rw (outside_among k 0 k kids f.0.1 h.1 s me.declared own, outside_among q (suc n) g rest f.1 h.2 s me.declared later) refl,
@@ -107,36 +103,14 @@ module _ (d : Setting) (names : LawfulStates d) where
 
 -- all names of a program
 
-digits_inner : (ds : List ℕ) → list_all is_ascii_digit ds ≡ true → list_all is_inner ds ≡ true
-digits_inner [] h = refl
-digits_inner (c ∷ ds) h =
-    let b = both_true (is_ascii_digit c) (list_all is_ascii_digit ds) h in
-    rw (digit_inner c b.0, digits_inner ds b.1) refl
-  where
-    digit_inner : (c : ℕ) → is_ascii_digit c ≡ true → is_inner c ≡ true
-    digit_inner c h = rw h refl
-
 numeral_inner : (k : ℕ) → list_all is_inner (numeral k) ≡ true
 numeral_inner k = digits_inner (numeral k) (numeral_digits k)
-
-initial_inner : (c : ℕ) → is_initial c ≡ true → is_inner c ≡ true
-initial_inner c h = more (is_ascii_digit c) _ _ (c == 95) h
-  where
-    more : (a b c d : Bool) → ((b || c) || d) ≡ true → (((a || b) || c) || d) ≡ true
-    more true b c d h = refl
-    more false b c d h = h
 
 word_inner : (n : List ℕ) → is_word n ≡ true → list_all is_inner n ≡ true
 word_inner [] h = refl
 word_inner (c ∷ cs) h =
-    let b = both_true (is_initial c) (list_all is_inner cs) h in
+    let b = and_parts (is_initial c) (list_all is_inner cs) h in
     rw (initial_inner c b.0, b.1) refl
-
-less : (k n : ℕ) → nat_lt k n ≡ true → k < n
-less k n h = grind (arith, common_steps)
-
-le_not : (x n : ℕ) → nat_le x n ≡ true → nat_eq x n ≡ false → nat_lt x n ≡ true
-le_not x n h e = grind (arith, common_steps)
 
 no_help : (c : ℕ) (cs : List ℕ) → (c == 110) ≡ false → is_helping (c ∷ cs) ≡ false
 no_help c [] h = refl

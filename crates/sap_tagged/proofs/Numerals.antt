@@ -3,11 +3,10 @@ use Rattle.std.proofs.Common.{◌≡◌, ℕ, zero, suc, ◌+◌, ◌-◌, ◌*�
 use Rattle.std.specs.Fmt.{decimal}
 use Rattle.std.specs.List.{list_all}
 use Rattle.std.specs.Char.{is_ascii_digit}
-use Rattle.std.proofs.lemmas.Bool.{cases_Bool}
+use Rattle.std.proofs.lemmas.Bool.{cases_Bool, and_parts}
 use Rattle.std.proofs.lemmas.Grind.{common_steps}
 use Rattle.std.proofs.lemmas.Fmt.{decimal_digit, decimal_step}
 use Rattle.sap_tagged.specs.Keys.{last_digits, numeral}
-use Rattle.sap_tagged.proofs.Bools.{both_true}
 
 one_digit : (n : ℕ) → nat_lt n 10 ≡ true → n < 10
 one_digit n h = grind (arith, common_steps)
@@ -45,7 +44,7 @@ a_digit r h = grind (arith, common_steps)
 
 all_and : (ds : List ℕ) (c : ℕ) → list_all is_ascii_digit ds ≡ true → is_ascii_digit c ≡ true → list_all is_ascii_digit (ds ++ c ∷ []) ≡ true
 all_and [] c h e = rw e refl
-all_and (d ∷ ds) c h e = let b = both_true (is_ascii_digit d) (list_all is_ascii_digit ds) h in rw (b.0, all_and ds c b.1 e) refl
+all_and (d ∷ ds) c h e = let b = and_parts (is_ascii_digit d) (list_all is_ascii_digit ds) h in rw (b.0, all_and ds c b.1 e) refl
 
 all_digits : (k n : ℕ) → list_all is_ascii_digit (last_digits k n) ≡ true
 all_digits zero n = refl

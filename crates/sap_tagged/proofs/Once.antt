@@ -1,7 +1,8 @@
 -- No memory is written twice in a cycle.
 use Rattle.std.proofs.Common.{◌≡◌, ℕ, zero, suc, ◌+◌, ◌^◌, nat_le, ◌⊎◌, List, [], ◌∷◌, ◌++◌, length, take, drop, Bool, true, false, ◌&&◌, ◌||◌, refl, sym, ap, ap₂, ◌∙◌, subst, inl, inr, bytes_eq, nat_eq, if◌then◌else◌, append_assoc}
 use Rattle.std.specs.Prelude.{◌==◌}
-use Rattle.std.proofs.lemmas.Bool.{cases_Bool, eqb-true, eq-eqb}
+use Rattle.std.proofs.lemmas.Bool.{cases_Bool, eqb-true, eq-eqb, or_left, or_right}
+use Rattle.sap_lemmas.proofs.Bools.{true_is_not_false}
 use Rattle.sap_maps.specs.Maps.{Name}
 use Rattle.sap_maps.specs.Term.{Term, part}
 use Rattle.sap_meaning.specs.Program.{root, is_dynamic, is_register, listed, Step, Set, Write, Retag, RetagCell, Goto, Fall, Command, Do, Try, If, TryThen, Case, Arms, Last, Arm, Block, End, Then, Node, Group, None, More}
@@ -24,7 +25,6 @@ use Rattle.sap_tagged.specs.Plain.{plain_of}
 use Rattle.sap_tagged.specs.Levels.{var, lub, bits, expr, always}
 use Rattle.sap_tagged.specs.Commands.{gives, sweep, raises, resets, effect_of, refusal, outcome, attempt_of, outcome_then, attempt_then_of, pick_width, picks_arm, picks, decides, pick_of, select_of, wires, wires_block, command_plain, arms_plain, block_plain}
 use Rattle.sap_tagged.specs.States.{wires_group, group_plain, saved, top_plain}
-use Rattle.sap_tagged.proofs.Bools.{apart_tests, either_first, either_second}
 use Rattle.sap_tagged.proofs.KeyNames.{NamesApart, names_apart}
 
 -- a name of one of some memories: of its contents, or of its cells' tags
@@ -60,8 +60,8 @@ module _ (d : Setting) (apart : (a b : Key) → bytes_eq (d.name a) (d.name b) �
   -- names of different memories
   memory_of : (a b : ℕ) (x y : Name) → ((x ≡ d.name (Value a)) ⊎ (x ≡ d.name (Tag a))) → ((y ≡ d.name (Value b)) ⊎ (y ≡ d.name (Tag b))) → bytes_eq x y ≡ true → nat_eq a b ≡ true
   memory_of a b x y (inl e) (inl f) h = sym (ap₂ (λ (p q : Name). bytes_eq p q) e f ∙ apart (Value a) (Value b)) ∙ h
-  memory_of a b x y (inl e) (inr f) h = absurd (apart_tests (sym (sym (ap₂ (λ (p q : Name). bytes_eq p q) e f ∙ apart (Value a) (Tag b)) ∙ h)))
-  memory_of a b x y (inr e) (inl f) h = absurd (apart_tests (sym (sym (ap₂ (λ (p q : Name). bytes_eq p q) e f ∙ apart (Tag a) (Value b)) ∙ h)))
+  memory_of a b x y (inl e) (inr f) h = absurd (true_is_not_false (sym (sym (ap₂ (λ (p q : Name). bytes_eq p q) e f ∙ apart (Value a) (Tag b)) ∙ h)))
+  memory_of a b x y (inr e) (inl f) h = absurd (true_is_not_false (sym (sym (ap₂ (λ (p q : Name). bytes_eq p q) e f ∙ apart (Tag a) (Value b)) ∙ h)))
   memory_of a b x y (inr e) (inr f) h = sym (ap₂ (λ (p q : Name). bytes_eq p q) e f ∙ apart (Tag a) (Tag b)) ∙ h
 
   and_true : (a b : Bool) → a ≡ true → b ≡ true → (a && b) ≡ true
@@ -72,7 +72,7 @@ module _ (d : Setting) (apart : (a b : Key) → bytes_eq (d.name a) (d.name b) �
   not_among P Q f n h (y ∷ ys) k = elim (cases_Bool (bytes_eq n y)) [
     | inl e ↦
         (let m : h.memory ≡ k.0.memory = eqb-true h.memory k.0.memory (memory_of h.memory k.0.memory n y h.named k.0.named e) in
-        absurd (apart_tests (sym (and_true (P k.0.memory) (Q k.0.memory) (ap P (sym m) ∙ h.picked) k.0.picked) ∙ f k.0.memory)))
+        absurd (true_is_not_false (sym (and_true (P k.0.memory) (Q k.0.memory) (ap P (sym m) ∙ h.picked) k.0.picked) ∙ f k.0.memory)))
     | inr e ↦ rw e (not_among P Q f n h ys k.1)
   ]
 
@@ -83,7 +83,7 @@ module _ (d : Setting) (apart : (a b : Key) → bytes_eq (d.name a) (d.name b) �
       outside : (x : Name) (xs : List Name) → is_among x xs ≡ false → is_among x ys ≡ false → is_among x (xs ++ ys) ≡ false
       outside x [] a b = b
       outside x (z ∷ zs) a b = elim (cases_Bool (bytes_eq x z)) [
-        | inl e ↦ absurd (apart_tests (sym (either_first (bytes_eq x z) (is_among x zs) e) ∙ a))
+        | inl e ↦ absurd (true_is_not_false (sym (or_left (bytes_eq x z) (is_among x zs) e) ∙ a))
         | inr e ↦ rw e (outside x zs (rw e at a) b)
       ]
 
@@ -253,25 +253,25 @@ module _ (d : Setting) (apart : (a b : Key) → bytes_eq (d.name a) (d.name b) �
           command_writes grp e p k (Do t) o = attempt_writes p k t o (listed_alone d.world sp t) stop (reaching reach (Do t)) (λ m h. h) (λ g. written_none (reaching reach (Do t)))
           command_writes grp e p k (Try t hang b) o =
               attempt_writes p k t o.0 (listed hang) (block_plain d sp (k + 2) (k + 5) b) (reaching reach (Try t hang b))
-              (λ m h. either_first (step_reaching reach t m) (block_reaching reach b m) h)
-              (λ g. written_more (block_reaching reach b) (reaching reach (Try t hang b)) (λ m h. either_second (step_reaching reach t m) (block_reaching reach b m) h) _
+              (λ m h. or_left (step_reaching reach t m) (block_reaching reach b m) h)
+              (λ g. written_more (block_reaching reach b) (reaching reach (Try t hang b)) (λ m h. or_right (step_reaching reach t m) (block_reaching reach b m) h) _
               (block_writes_once grp e (k + 2) (k + 5) b o.1 g))
           command_writes grp e p k (If hang c a b) o =
               select_writes p k c (listed hang) (block_plain d sp (k + 1) (k + 2) a) (block_plain d sp (k + 1) (k + 2 + wires_block a) b) (reaching reach (If hang c a b))
-              (λ g. written_more (block_reaching reach a) (reaching reach (If hang c a b)) (λ m h. either_first (block_reaching reach a m) (block_reaching reach b m) h) _
+              (λ g. written_more (block_reaching reach a) (reaching reach (If hang c a b)) (λ m h. or_left (block_reaching reach a m) (block_reaching reach b m) h) _
               (block_writes_once grp e (k + 1) (k + 2) a o.0 g))
-              (λ g. written_more (block_reaching reach b) (reaching reach (If hang c a b)) (λ m h. either_second (block_reaching reach a m) (block_reaching reach b m) h) _
+              (λ g. written_more (block_reaching reach b) (reaching reach (If hang c a b)) (λ m h. or_right (block_reaching reach a m) (block_reaching reach b m) h) _
               (block_writes_once grp e (k + 1) (k + 2 + wires_block a) b o.1 g))
           command_writes grp e p k (TryThen t hang a b) o =
               let same : reach ≡ group_reaches grp = λ i m. e m i in
               let both : ℕ → Bool = λ m. block_reaching reach a m || block_reaching reach b m in
               attempt_then_writes p k t o.0 (listed hang) (block_plain d sp (k + 2) (k + 5) a) (block_plain d sp (k + 2) (k + 5 + wires_block a) b) (reaching reach (TryThen t hang a b))
               (block_reaching reach a) (λ m. ap (λ (r : ℕ → Bool). step_reaching r t m && block_reaching r a m) same ∙ o.3 m)
-              (λ m h. either_first (step_reaching reach t m) (both m) h)
-              (λ m h. either_second (step_reaching reach t m) (both m) (either_first (block_reaching reach a m) (block_reaching reach b m) h))
+              (λ m h. or_left (step_reaching reach t m) (both m) h)
+              (λ m h. or_right (step_reaching reach t m) (both m) (or_left (block_reaching reach a m) (block_reaching reach b m) h))
               (block_writes_once grp e (k + 2) (k + 5) a o.1)
               (λ g. written_more (block_reaching reach b) (reaching reach (TryThen t hang a b))
-              (λ m h. either_second (step_reaching reach t m) (both m) (either_second (block_reaching reach a m) (block_reaching reach b m) h)) _
+              (λ m h. or_right (step_reaching reach t m) (both m) (or_right (block_reaching reach a m) (block_reaching reach b m) h)) _
               (block_writes_once grp e (k + 2) (k + 5 + wires_block a) b o.2 g))
           command_writes grp e p k (Case hang c arms) o =
               pick_writes p k c (listed hang) arms (arms_plain d sp (k + 1) (k + 4) arms) (reaching reach (Case hang c arms)) (arms_write_once grp e (k + 1) (k + 4) arms o)
@@ -280,9 +280,9 @@ module _ (d : Setting) (apart : (a b : Key) → bytes_eq (d.name a) (d.name b) �
               → AllWrite (arms_reaching reach arms) (arms_plain d sp p k arms)
           arms_write_once grp e p k (Last b) o = (block_writes_once grp e p k b o, tt)
           arms_write_once grp e p k (Arm constants b arms) o = (
-            λ g. written_more (block_reaching reach b) (arms_reaching reach (Arm constants b arms)) (λ m h. either_first (block_reaching reach b m) (arms_reaching reach arms m) h) _
+            λ g. written_more (block_reaching reach b) (arms_reaching reach (Arm constants b arms)) (λ m h. or_left (block_reaching reach b m) (arms_reaching reach arms m) h) _
                 (block_writes_once grp e p k b o.0 g),
-            all_more (arms_reaching reach arms) (arms_reaching reach (Arm constants b arms)) (λ m h. either_second (block_reaching reach b m) (arms_reaching reach arms m) h)
+            all_more (arms_reaching reach arms) (arms_reaching reach (Arm constants b arms)) (λ m h. or_right (block_reaching reach b m) (arms_reaching reach arms m) h)
                 (arms_plain d sp p (k + wires_block b) arms) (arms_write_once grp e p (k + wires_block b) arms o.1),
           )
 
@@ -295,7 +295,7 @@ module _ (d : Setting) (apart : (a b : Key) → bytes_eq (d.name a) (d.name b) �
               subst (λ (ns : List Name). Written d (block_reaching reach (Then c cs)) ns) (sym (follow_writes a b g))
               (written_join (reaching reach c) (block_reaching reach cs) (block_reaching reach (Then c cs))
               (λ m. ap (λ (r : ℕ → Bool). reaching r c m && block_reaching r cs m) same ∙ o.2 m)
-              (λ m h. either_first (reaching reach c m) (block_reaching reach cs m) h) (λ m h. either_second (reaching reach c m) (block_reaching reach cs m) h) _ _
+              (λ m h. or_left (reaching reach c m) (block_reaching reach cs m) h) (λ m h. or_right (reaching reach c m) (block_reaching reach cs m) h) _ _
               (command_writes grp e p k c o.0 g) (block_writes_once grp e p (k + wires c) cs o.1 (body_does widths f go a g)))
 
   -- the states of a group
@@ -308,11 +308,11 @@ module _ (d : Setting) (apart : (a b : Key) → bytes_eq (d.name a) (d.name b) �
       let forest = group_plain d x base kids in
       let seat = seat_name (d.state_name x) in
       let below : Going → List Name = λ h. child_writes widths (enter seat forest) forest (h.now.value seat) h in
-      written_more (block_reaching (group_reaches kids) b) (group_reaches (More (Node x b kids) rest)) (λ m h. either_first (block_reaching (group_reaches kids) b m) (group_reaches rest m) h) _
+      written_more (block_reaching (group_reaches kids) b) (group_reaches (More (Node x b kids) rest)) (λ m h. or_left (block_reaching (group_reaches kids) b m) (group_reaches rest m) h) _
       (block_writes_once widths (falls_of widths seat forest) below go (group_reaches kids) (OnceGroup kids)
       (λ o h. group_writes widths kids x base (enter seat forest) o (h.now.value seat) h) (record { state = x; parent = parent; children = kids }) kids (λ m. refl) k (k + 1) b once.0 _)
   group_writes widths (More (Node x b kids) rest) parent k go once (suc n) g =
-      written_more (group_reaches rest) (group_reaches (More (Node x b kids) rest)) (λ m h. either_second (block_reaching (group_reaches kids) b m) (group_reaches rest m) h) _
+      written_more (group_reaches rest) (group_reaches (More (Node x b kids) rest)) (λ m h. or_right (block_reaching (group_reaches kids) b m) (group_reaches rest m) h) _
       (group_writes widths rest parent (k + (1 + wires_block b + wires_group kids)) go once.1 n g)
 
   pub top_writes : (widths : Name → ℕ) (hangs : ℕ → Bool) (grp : Group) (k : ℕ) (go : Name → Going → Going) → OnceGroup grp → (n : ℕ) (g : Going)
@@ -332,10 +332,10 @@ module _ (d : Setting) (apart : (a b : Key) → bytes_eq (d.name a) (d.name b) �
       (record { state = x; parent = root d.world; children = kids }) kids (λ m. refl) k (k + 1) b once.0 g in
       let raised : (g : Going) → Written d P (body_writes widths f below go (raises d hangs k body) g) =
       sweep_writes widths f below go P Tag hangs (λ x. lub (var d (Tag x)) (var d (Wire k))) 0 (root d.world) body own in
-      written_more P (group_reaches (More (Node x b kids) rest)) (λ m h. either_first (P m) (group_reaches rest m) h) _
+      written_more P (group_reaches (More (Node x b kids) rest)) (λ m h. or_left (P m) (group_reaches rest m) h) _
       (sweep_writes widths f below go P First (saved d.world) (λ m. var d (Tag m)) 0 (root d.world) (gives d (Wire k) (var d (Tag x)) (raises d hangs k body)) (λ g. raised _) g)
   top_writes widths hangs (More (Node x b kids) rest) k go once (suc n) g =
-      written_more (group_reaches rest) (group_reaches (More (Node x b kids) rest)) (λ m h. either_second (block_reaching (group_reaches kids) b m) (group_reaches rest m) h) _
+      written_more (group_reaches rest) (group_reaches (More (Node x b kids) rest)) (λ m h. or_right (block_reaching (group_reaches kids) b m) (group_reaches rest m) h) _
       (top_writes widths hangs rest (k + (1 + wires_block b + wires_group kids)) go once.1 n g)
 
 pub writes_once : (d : Named) (tag sites : ℕ) → NamesApart d → FineProgram d.program → PlainWritesOnce (plain_of d tag sites)

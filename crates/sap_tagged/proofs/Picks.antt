@@ -1,8 +1,7 @@
 -- Which block of a `case` runs: that of the first arm that has the number, told by a number in a wire.
 use Rattle.std.proofs.Common.{◌≡◌, ℕ, zero, suc, ◌+◌, ◌-◌, ◌*◌, ◌/◌, ◌%◌, ◌^◌, ◌<◌, ◌≤◌, Bool, true, false, ◌||◌, List, [], ◌∷◌, length, get_or, take, drop, refl, ap, ◌∙◌, arith, nat_le, nat_lt, inl, inr, if◌then◌else◌}
 use Rattle.std.specs.Prelude.{◌==◌}
-use Rattle.std.proofs.lemmas.Bool.{cases_Bool}
-use Rattle.std.proofs.lemmas.Grind.{common_steps}
+use Rattle.std.proofs.lemmas.Bool.{cases_Bool, leb-false, leb-true, ltb-false, ltb-true}
 use Rattle.std.proofs.lemmas.List.{get_or-take, get_or-drop, length-take-le, length-drop}
 use Rattle.std.proofs.lemmas.Nat.{div-mul-add}
 use Rattle.std.proofs.Math.Nat.{pow-suc}
@@ -35,18 +34,6 @@ arm_within (Arm constants b arms) n = elim (cases_Bool (is_constant constants n)
 ]
 
 -- bits of a number
-
-at_most : (a b : ℕ) → nat_le a b ≡ true → a ≤ b
-at_most a b h = grind (arith, common_steps)
-
-above : (a b : ℕ) → nat_le a b ≡ false → b < a
-above a b h = grind (arith, common_steps)
-
-less_than : (a b : ℕ) → nat_lt a b ≡ true → a < b
-less_than a b h = grind (arith, common_steps)
-
-no_less : (a b : ℕ) → nat_lt a b ≡ false → b ≤ a
-no_less a b h = grind (arith, common_steps)
 
 one_bit : (v m : ℕ) → slice_of v m m ≡ v / 2 ^ m % 2
 one_bit v m = let e : m + 1 - m ≡ 1 = omega arith in ap (λ (k : ℕ). v / 2 ^ m % 2 ^ k) e
@@ -85,19 +72,19 @@ module _ (d : Setting) (widths : Name → ℕ) (f : Going → Going) (go : Name 
   decided j zero [] v q r g e s l h = absurd (omega (arith, l))
   decided j zero (b ∷ bs) v q r g e s l h = let z : r ≡ 0 = omega (arith, l, h) in rw z refl
   decided j (suc m) bs v q r g e s l h = elim (cases_Bool (nat_le (length bs) (2 ^ m))) [
-    | inl t ↦ rw t (decided j m bs v (2 * q) r g e (lower v m q r s) l (at_most (length bs) (2 ^ m) t))
+    | inl t ↦ rw t (decided j m bs v (2 * q) r g e (lower v m q r s) l (leb-true (length bs) (2 ^ m) t))
     | inr t ↦
         rw t
         (elim (cases_Bool (nat_lt r (2 ^ m))) [
           | inl i ↦
-              (let below : r < 2 ^ m = less_than r (2 ^ m) i in
-              let size : length (take (2 ^ m) bs) ≡ 2 ^ m = length-take-le (2 ^ m) bs (let a = above (length bs) (2 ^ m) t in omega (arith, a)) in
+              (let below : r < 2 ^ m = ltb-true r (2 ^ m) i in
+              let size : length (take (2 ^ m) bs) ≡ 2 ^ m = length-take-le (2 ^ m) bs (let a = leb-false (length bs) (2 ^ m) t in omega (arith, a)) in
               let bit : slice_of (at d g (Wire j)) m m ≡ 0 = ap (λ (n : ℕ). slice_of n m m) e ∙ low_bit v m q r (lower v m q r s) below in
               rw bit
               (decided j m (take (2 ^ m) bs) v (2 * q) r g e (lower v m q r s) (omega (arith, size, below)) (omega (arith, size))
               ∙ ap (λ (b : Body). body_does widths f go b g) (get_or-take (2 ^ m) bs r stop below)))
           | inr i ↦
-              (let beyond : 2 ^ m ≤ r = no_less r (2 ^ m) i in
+              (let beyond : 2 ^ m ≤ r = ltb-false r (2 ^ m) i in
               let size : length (drop (2 ^ m) bs) ≡ length bs - 2 ^ m = length-drop (2 ^ m) bs in
               let most : length bs ≤ 2 ^ m + 2 ^ m = half (length bs) m h in
               let rest : r - 2 ^ m < 2 ^ m = omega (arith, l, most, beyond) in

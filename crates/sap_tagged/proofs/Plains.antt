@@ -1,7 +1,11 @@
 -- The plain program of a design keeps the rules of its type: names are found, and states are fine.
 use Rattle.std.proofs.Common.{◌≡◌, ℕ, ◌<◌, List, [], ◌∷◌, ◌++◌, map, Bool, true, false, not, ◌||◌, Some, None, refl, ap, ◌∙◌, subst, nat_lt, nat_eq, bytes_eq, inl, inr, if◌then◌else◌}
 use Rattle.std.specs.List.{AllByRecursion}
-use Rattle.std.proofs.lemmas.Bool.{cases_Bool, eqb-true}
+use Rattle.std.proofs.lemmas.Bool.{cases_Bool, eqb-true, and_parts, false_from_ne_true, lt-ltb, or_right}
+use Rattle.sap_lemmas.proofs.Bools.{or_other}
+use Rattle.sap_net.proofs.NamesLemmas.{among_front, not_found}
+use Rattle.sap_meaning.proofs.ProgramLemmas.{own_kind}
+use Rattle.sap_maps.proofs.ScopeLemmas.{found_first, found_second}
 use Rattle.sap_maps.specs.Maps.{Name}
 use Rattle.sap_maps.specs.Scope.{Scope, find}
 use Rattle.sap_meaning.specs.Program.{World, Group, entity, root, children, is_input, is_register, is_memory, is_dynamic, listed}
@@ -14,7 +18,7 @@ use Rattle.sap_ir.specs.declared.guarded.Var.{Var}
 use Rattle.sap_ir.specs.declared.guarded.Store.{Store}
 use Rattle.sap_ir.specs.Source.{Source, readable}
 use Rattle.sap_ir.specs.IsGuarded.{assignable, variable_names, memory_names}
-use Rattle.sap_ir.proofs.Declared.{distinct_front, distinct_behind, apart_lists, among_front, found_first, found_second, not_found}
+use Rattle.sap_ir.proofs.Declared.{distinct_front, distinct_behind, apart_lists}
 use Rattle.sap_ir.specs.Plain.Nested.{Nested, Forest, declarations, group_names, state_names, seat_name, seats}
 use Rattle.sap_ir.specs.Plain.Nested as nested
 use Rattle.sap_ir.specs.Plain.IsPlain.{IsPlain, is_gate}
@@ -25,20 +29,20 @@ use Rattle.sap_tagged.specs.Setting.{Setting, setting_of}
 use Rattle.sap_tagged.specs.States.{saved, top_plain}
 use Rattle.sap_tagged.specs.Plain.{variable, level_at_start, value_var, tag_var, seat_var, site_wires, group_wires, first_wires, inner_wires, memory_of, plain_of}
 use Rattle.sap_tagged.specs.Stands.{has_tag}
-use Rattle.sap_tagged.proofs.Bools.{second, either_second, both_true, refuted, value_within, memory_within, tagged_within}
+use Rattle.sap_tagged.proofs.Bools.{value_within, memory_within, tagged_within}
 use Rattle.sap_tagged.proofs.KeyNames.{names_apart}
 use Rattle.sap_tagged.proofs.Members.{In, among_in, in_front, in_behind}
 use Rattle.sap_tagged.proofs.Groups.{LawfulStates, Shaped}
 use Rattle.sap_tagged.proofs.Falls.{shaped_top}
 use Rattle.sap_tagged.proofs.Premises.{Design}
-use Rattle.sap_tagged.proofs.Cycle.{lawful_states, test_of_lt, in_value, in_tag, in_own_tag, in_seat, in_memory, in_tags, in_input, in_all, refused_in, level_in}
+use Rattle.sap_tagged.proofs.Cycle.{lawful_states, in_value, in_tag, in_own_tag, in_seat, in_memory, in_tags, in_input, in_all, refused_in, level_in}
 use Rattle.sap_tagged.proofs.Ends.{Among, counted_bounds}
 use Rattle.sap_tagged.proofs.Fits.{Declares}
 use Rattle.sap_tagged.proofs.Bodies.{Assigns, SiteWires}
 use Rattle.sap_tagged.proofs.Hanging.{root_hangs}
 use Rattle.sap_tagged.proofs.Forests.{AllFound, SeatRegisters, group_has, some_states, seat_is_fine, top_fine}
 use Rattle.sap_tagged.proofs.Namings.{all_states, inside_state, states_once, key_no_gate}
-use Rattle.sap_tagged.proofs.Rules.{Fitting, find_by, own_kind, all_names, guarded}
+use Rattle.sap_tagged.proofs.Rules.{Fitting, find_by, all_names, guarded}
 
 module _ (d : Named) (tag sites : ℕ) (design : Design d tag sites) (fit : Fitting d tag) where
   abbrev w : World
@@ -122,7 +126,7 @@ module _ (d : Named) (tag sites : ℕ) (design : Design d tag sites) (fit : Fitt
     where
       behind : (n : Name) (xs ys : List Name) → is_among n ys ≡ true → is_among n (xs ++ ys) ≡ true
       behind n [] ys h = h
-      behind n (x ∷ xs) ys h = either_second (bytes_eq n x) (is_among n (xs ++ ys)) (behind n xs ys h)
+      behind n (x ∷ xs) ys h = or_right (bytes_eq n x) (is_among n (xs ++ ys)) (behind n xs ys h)
 
   wire_assignable : (v : Var) → In src.wires v → find (assignable src) v.name ≡ Some v.width
   wire_assignable v i =
@@ -140,7 +144,7 @@ module _ (d : Named) (tag sites : ℕ) (design : Design d tag sites) (fit : Fitt
   in_tag_register x h i = elim (cases_Bool (is_register w x)) [
     | inl e ↦ in_tag d tag sites design x e
     | inr e ↦
-        in_own_tag d tag sites design x (tagged_within w x h) (own_kind (entity w x).kind (is_dynamic w x) (both_true (nat_lt x (root w)) (not (is_memory w x) || is_dynamic w x) h).1 i e)
+        in_own_tag d tag sites design x (tagged_within w x h) (own_kind (entity w x).kind (is_dynamic w x) (and_parts (nat_lt x (root w)) (not (is_memory w x) || is_dynamic w x) h).1 i e)
   ]
 
   abbrev first_wire : ℕ → Var
@@ -150,7 +154,7 @@ module _ (d : Named) (tag sites : ℕ) (design : Design d tag sites) (fit : Fitt
   in_first m h =
       in_behind (site_wires d tag 1 sites) (first_wires d tag ++ (inner_wires d tag ++ group_wires d tag 0 d.program.states)) (first_wire m)
       (in_front (first_wires d tag) (inner_wires d tag ++ group_wires d tag 0 d.program.states) (first_wire m)
-      (in_all d tag sites design (saved w) (λ m. first_wire m ∷ []) (first_wire m) m (memory_within w m (both_true (is_memory w m) (is_dynamic w m) h).0) h (inl refl)))
+      (in_all d tag sites design (saved w) (λ m. first_wire m ∷ []) (first_wire m) m (memory_within w m (and_parts (is_memory w m) (is_dynamic w m) h).0) h (inl refl)))
 
   abbrev inner_wire : ℕ → Var
   inner_wire x = variable (key_name d (Inner x)) tag 0
@@ -160,7 +164,7 @@ module _ (d : Named) (tag sites : ℕ) (design : Design d tag sites) (fit : Fitt
       in_behind (site_wires d tag 1 sites) (first_wires d tag ++ (inner_wires d tag ++ group_wires d tag 0 d.program.states)) (inner_wire x)
       (in_behind (first_wires d tag) (inner_wires d tag ++ group_wires d tag 0 d.program.states) (inner_wire x)
       (in_front (inner_wires d tag) (group_wires d tag 0 d.program.states) (inner_wire x)
-      (in_all d tag sites design (λ q. nat_lt 0 (children w q)) (λ q. inner_wire q ∷ []) (inner_wire x) x l (test_of_lt 0 (children w x) h) (inl refl))))
+      (in_all d tag sites design (λ q. nat_lt 0 (children w q)) (λ q. inner_wire q ∷ []) (inner_wire x) x l (lt-ltb 0 (children w x) h) (inl refl))))
 
   own_found : AllFound src (group_wires d tag 0 d.program.states)
   own_found v i =
@@ -186,7 +190,7 @@ module _ (d : Named) (tag sites : ℕ) (design : Design d tag sites) (fit : Fitt
   declares = record {
     values = λ x v. elim (cases_Bool (is_input w x)) [
       | inl i ↦ input_found (value_var d x 0) (in_input d tag sites design x i (value_within w x v))
-      | inr i ↦ register_found (value_var d x (entity w x).initial) (in_value d tag sites design x (second (is_input w x) (is_register w x) v i))
+      | inr i ↦ register_found (value_var d x (entity w x).initial) (in_value d tag sites design x (or_other (is_input w x) (is_register w x) v i))
     ];
     tags = λ x h. elim (cases_Bool (is_input w x)) [
       | inl i ↦ input_found (tag_var d tag x 0) (in_input_tag x i (tagged_within w x h))
@@ -216,7 +220,7 @@ module _ (d : Named) (tag sites : ℕ) (design : Design d tag sites) (fit : Fitt
 
   no_seat : (a : Key) (q : ℕ) (n : Name) → (sort a ≡ 2 → ⊥) → n ≡ key_name d (Seat q) → bytes_eq (key_name d a) n ≡ false
   no_seat a q n f e =
-      ap (bytes_eq (key_name d a)) e ∙ names_apart d design.names a (Seat q) ∙ refuted (same a (Seat q)) (λ s. f (eqb-true (sort a) 2 (both_true (nat_eq (sort a) 2) (nat_eq (index a) q) s).0))
+      ap (bytes_eq (key_name d a)) e ∙ names_apart d design.names a (Seat q) ∙ false_from_ne_true (same a (Seat q)) (λ s. f (eqb-true (sort a) 2 (and_parts (nat_eq (sort a) 2) (nat_eq (index a) q) s).0))
 
   none_of : (n : Name) (xs : List Name) → AllByRecursion (λ (x : Name). bytes_eq n (seat_name x) ≡ false) xs → is_among n (map seat_name xs) ≡ false
   none_of n [] h = refl

@@ -1,7 +1,8 @@
 -- What assignments do to numbers that stand for a store.
 use Rattle.std.proofs.Common.{◌≡◌, ℕ, zero, suc, ◌+◌, ◌<◌, ◌⊎◌, Bool, true, false, ◌&&◌, refl, sym, ap, ◌∙◌, arith, nat_lt, nat_eq, inl, inr, if◌then◌else◌}
-use Rattle.std.proofs.lemmas.Bool.{cases_Bool, eqb-true}
+use Rattle.std.proofs.lemmas.Bool.{cases_Bool, eqb-true, and_right}
 use Rattle.std.proofs.lemmas.Grind.{common_steps}
+use Rattle.sap_lemmas.proofs.Bools.{true_is_not_false}
 use Rattle.sap_maps.specs.Maps.{Name, set_value}
 use Rattle.sap_maps.specs.Term.{Term}
 use Rattle.sap_meaning.specs.Program.{is_memory, children}
@@ -14,7 +15,6 @@ use Rattle.sap_tagged.specs.Keys.{Key, Value, Tag, Seat, First, same}
 use Rattle.sap_tagged.specs.Setting.{Setting}
 use Rattle.sap_tagged.specs.Commands.{gives, sweep}
 use Rattle.sap_tagged.specs.Stands.{Lawful, at, is_value, has_tag, tag_slot, Stands}
-use Rattle.sap_tagged.proofs.Bools.{apart_tests}
 
 -- one assignment
 
@@ -101,10 +101,6 @@ outside_all x y = grind (arith, common_steps)
 pub within_all : (y n : ℕ) → nat_lt y n ≡ true → between 0 n y ≡ true
 within_all y n h = grind (arith, common_steps)
 
-and_false : (a b : Bool) → b ≡ false → (a && b) ≡ false
-and_false true b e = e
-and_false false b e = refl
-
 module _ (d : Setting) (widths : Name → ℕ) (laws : Lawful d widths) (v : ℕ → Key) (one : (y x : ℕ) → same (v y) (v x) ≡ nat_eq y x) (h : ℕ → Bool) (t : ℕ → Term Name) (F : ℕ → ℕ → ℕ)
     (Keeps : Going → Type 0) (keep : (y z : ℕ) (g : Going) → Keeps g → Keeps (put_to d g (v y) z))
     (gives_it : (y : ℕ) (g : Going) → Keeps g → h y ≡ true → value_in widths g (t y) ≡ F y (at d g (v y))) where
@@ -127,7 +123,7 @@ module _ (d : Setting) (widths : Name → ℕ) (laws : Lawful d widths) (v : ℕ
           ≡ (if h y && between x (suc m) y then F y (at d g (v y)) else at d g (v y))
       both y (inl q) =
           let same_number : y ≡ x = eqb-true y x q in
-          let past : (h y && between (x + 1) m y) ≡ false = and_false (h y) (between (x + 1) m y) (outside x m y same_number) in
+          let past : (h y && between (x + 1) m y) ≡ false = and_right (h y) (between (x + 1) m y) (outside x m y same_number) in
           let hy : h y ≡ true = ap h same_number ∙ e in
           rw (q, past, hy, inside_here x m y same_number) (fx refl ∙ ap (λ (z : ℕ). F z (at d g (v z))) (sym same_number))
       both y (inr q) = rw (q, inside_later x m y q) refl
@@ -148,7 +144,7 @@ module _ (d : Setting) (widths : Name → ℕ) (laws : Lawful d widths) (v : ℕ
   swept_is x zero g i = record { here = λ y. none y; there = λ a n. refl; memory = (refl, refl) }
     where
       none : (y : ℕ) → at d g (v y) ≡ (if h y && between x zero y then F y (at d g (v y)) else at d g (v y))
-      none y = let e : (h y && between x zero y) ≡ false = and_false (h y) (between x zero y) (outside_all x y) in rw e refl
+      none y = let e : (h y && between x zero y) ≡ false = and_right (h y) (between x zero y) (outside_all x y) in rw e refl
   swept_is x (suc m) g i =
       let g1 : Going = if h x then put_to d g (v x) (value_in widths g (t x)) else g in
       swept_step x m g g1 _ (h x) refl refl (λ e. gives_it x g i e) (swept_is (x + 1) m g1 (kept (h x)))
@@ -199,7 +195,7 @@ module _ (d : Setting) (g g' : Going) (s : Store) where
     where
       by : (b : Bool) → is_memory d.world k ≡ b → same_slot (if b then next_whole k else own k) (own x) ≡ nat_eq k x
       by true e = sym (elim (cases_Bool (nat_eq k x)) [
-        | inl t ↦ absurd (apart_tests (sym e ∙ ap (is_memory d.world) (eqb-true k x t) ∙ m))
+        | inl t ↦ absurd (true_is_not_false (sym e ∙ ap (is_memory d.world) (eqb-true k x t) ∙ m))
         | inr t ↦ t
       ])
       by false e = refl

@@ -1,7 +1,14 @@
 -- The plain program of a design keeps the rules of its type.
-use Rattle.std.proofs.Common.{◌≡◌, ℕ, zero, suc, ◌+◌, ◌≤◌, List, [], ◌∷◌, ◌++◌, map, Bool, true, false, not, ◌||◌, Some, refl, sym, ap, ap₂, ◌∙◌, subst, if◌then◌else◌, arith, nat_lt, bytes_eq, inl, inr}
+use Rattle.std.proofs.Common.{◌≡◌, ℕ, zero, suc, ◌+◌, ◌≤◌, List, [], ◌∷◌, ◌++◌, map, Bool, true, false, ◌||◌, Some, refl, sym, ap, ap₂, ◌∙◌, subst, if◌then◌else◌, arith, nat_lt, bytes_eq, inl, inr}
 use Rattle.std.specs.List.{AllByRecursion}
 use Rattle.std.proofs.Math.Pow.{pow_pos}
+use Rattle.sap_lemmas.proofs.Bools.{true_is_not_false}
+use Rattle.sap_lemmas.proofs.Everywhere.{all_append}
+use Rattle.sap_lemmas.proofs.Texts.{bytes_eq_same}
+use Rattle.std.proofs.lemmas.Bool.{or_right}
+use Rattle.std.proofs.lemmas.List.{map-append}
+use Rattle.sap_resolve.proofs.SizedLemmas.{ranged_width}
+use Rattle.sap_net.proofs.NamesLemmas.{among_behind, among_front, apart_by_membership}
 use Rattle.sap_maps.specs.Maps.{Name}
 use Rattle.sap_maps.specs.Scope.{find}
 use Rattle.sap_meaning.specs.Program as program
@@ -12,7 +19,6 @@ use Rattle.sap_net.specs.Names.{is_name, is_among, AreDistinct}
 use Rattle.sap_ir.specs.declared.guarded.Var.{Var}
 use Rattle.sap_ir.specs.Source.{Source}
 use Rattle.sap_ir.specs.IsGuarded.{IsGuarded, IsPlainVar, IsRegisterVar, IsStore, declared, is_helping, variable_names}
-use Rattle.sap_ir.proofs.Declared.{among_front, among_behind}
 use Rattle.sap_ir.specs.Plain.Nested.{Nested, declarations, seat_width}
 use Rattle.sap_ir.proofs.plain.SeatWidths.{seat_positive, seat_within}
 use Rattle.sap_interface.specs.StandsFor.{Named, world, depth}
@@ -21,14 +27,12 @@ use Rattle.sap_tagged.specs.Setting.{Setting, setting_of}
 use Rattle.sap_tagged.specs.Commands.{arm_count, wires, wires_block}
 use Rattle.sap_tagged.specs.States.{saved, wires_group}
 use Rattle.sap_tagged.specs.Plain.{variable, wire, names_of, level_at_start, value_var, tag_var, seat_var, for_entities, shown_registers, has_own_tag, tag_registers, seat_registers, site_wires, step_wires, command_wires, arms_wires, block_wires, state_wires, group_wires, first_wires, inner_wires, memory_of, tags_of, plain_of}
-use Rattle.sap_tagged.proofs.Bools.{apart_tests, either_second}
-use Rattle.sap_tagged.proofs.KeyNames.{same_name}
-use Rattle.sap_tagged.proofs.Members.{In, among_in, in_front, other}
+use Rattle.sap_tagged.proofs.Members.{In, among_in, in_front}
 use Rattle.sap_tagged.proofs.Premises.{Design}
-use Rattle.sap_tagged.proofs.Distinct.{Every, every_join, once_join, lists_apart, distinct_keys, map_join, entities_once, entities_all, entities_named, site_keys, sites_once, sites_named, list_number, all_keys, all_named, register_lists}
+use Rattle.sap_tagged.proofs.Distinct.{Every, every_join, once_join, lists_apart, distinct_keys, entities_once, entities_all, entities_named, site_keys, sites_once, sites_named, list_number, all_keys, all_named, register_lists}
 use Rattle.sap_tagged.proofs.Conditions.{GroupConditions}
-use Rattle.sap_tagged.proofs.Fits.{one_bit, ranged_width}
-use Rattle.sap_tagged.proofs.Namings.{all_join, key_is_name, key_no_help}
+use Rattle.sap_tagged.proofs.Fits.{one_bit}
+use Rattle.sap_tagged.proofs.Namings.{key_is_name, key_no_help}
 
 -- what the rules ask of a design's program besides
 pub record Fitting (d : Named) (tag : ℕ) : Type 0 where
@@ -49,36 +53,30 @@ all_named_keys d P f (a ∷ ks) = (f a, all_named_keys d P f ks)
 -- what is found under a name
 pub among_by : {A : Type 0} (f : A → Name) (xs : List A) (x : A) → In xs x → is_among (f x) (map f xs) ≡ true
 among_by f [] x h = absurd h
-among_by f (y ∷ ys) x (inl e) = ap (λ n. is_among n (map f (y ∷ ys))) (ap f (sym e)) ∙ rw (same_name (f y)) refl
-among_by f (y ∷ ys) x (inr h) = either_second (bytes_eq (f x) (f y)) (is_among (f x) (map f ys)) (among_by f ys x h)
+among_by f (y ∷ ys) x (inl e) = ap (λ n. is_among n (map f (y ∷ ys))) (ap f (sym e)) ∙ rw (bytes_eq_same (f y)) refl
+among_by f (y ∷ ys) x (inr h) = or_right (bytes_eq (f x) (f y)) (is_among (f x) (map f ys)) (among_by f ys x h)
 
 pub find_by : {A X : Type 0} (f : A → Name) (of : A → X) (xs : List A) (x : A) → AreDistinct (map f xs) → In xs x → find (map (λ z. (f z, of z)) xs) (f x) ≡ Some (of x)
 find_by f of [] x d h = absurd h
 find_by f of (y ∷ ys) x d (inl e) =
-    ap (λ z. find (map (λ z. (f z, of z)) (y ∷ ys)) (f z)) (sym e) ∙ rw (same_name (f y)) (ap (λ z. Some (of z)) e)
+    ap (λ z. find (map (λ z. (f z, of z)) (y ∷ ys)) (f z)) (sym e) ∙ rw (bytes_eq_same (f y)) (ap (λ z. Some (of z)) e)
 find_by f of (y ∷ ys) x d (inr h) =
-    let o : bytes_eq (f y) (f x) ≡ false = other (f y) (f x) (map f ys) d.0 (among_by f ys x h) in
+    let o : bytes_eq (f y) (f x) ≡ false = apart_by_membership (f y) (f x) (map f ys) d.0 (among_by f ys x h) in
     rw o (find_by f of ys x d.1 h)
 
 -- kinds
 
 no_state : (k : Kind) → kind_is_state k ≡ true → (kind_is_input k ≡ false) × (kind_is_register k ≡ false) × (kind_is_memory k ≡ false)
-no_state program.input h = absurd (apart_tests (sym h))
-no_state program.register h = absurd (apart_tests (sym h))
-no_state (program.memory depth) h = absurd (apart_tests (sym h))
+no_state program.input h = absurd (true_is_not_false (sym h))
+no_state program.register h = absurd (true_is_not_false (sym h))
+no_state (program.memory depth) h = absurd (true_is_not_false (sym h))
 no_state (program.state place last) h = (refl, refl, refl)
 
 plain_kind : (k : Kind) → (kind_is_input k || (kind_is_register k || kind_is_memory k)) ≡ true → kind_is_state k ≡ false
 plain_kind program.input h = refl
 plain_kind program.register h = refl
 plain_kind (program.memory depth) h = refl
-plain_kind (program.state place last) h = absurd (apart_tests (sym h))
-
-pub own_kind : (k : Kind) (b : Bool) → (not (kind_is_memory k) || b) ≡ true → kind_is_input k ≡ false → kind_is_register k ≡ false → (if kind_is_memory k then b else kind_is_state k) ≡ true
-own_kind program.input b h i r = absurd (apart_tests i)
-own_kind program.register b h i r = absurd (apart_tests r)
-own_kind (program.memory depth) b h i r = h
-own_kind (program.state place last) b h i r = refl
+plain_kind (program.state place last) h = absurd (true_is_not_false (sym h))
 
 module _ (d : Named) (tag sites : ℕ) (design : Design d tag sites) (fit : Fitting d tag) where
   abbrev w : World
@@ -115,7 +113,7 @@ module _ (d : Named) (tag sites : ℕ) (design : Design d tag sites) (fit : Fitt
       all_of IsRegisterVar src.registers
       (every_join IsRegisterVar (shown_registers d tag) (tag_registers d tag ++ seat_registers d)
       (each IsRegisterVar (is_register w) (λ x. value_var d x (entity w x).initial ∷ tag_var d tag x (level_at_start d x) ∷ [])
-      (λ x h. ((value_width x (either_second (is_input w x) (is_register w x || is_memory w x) (rw h refl)), fit.sized.initials x), ((fit.wide, design.small _), tt))))
+      (λ x h. ((value_width x (or_right (is_input w x) (is_register w x || is_memory w x) (rw h refl)), fit.sized.initials x), ((fit.wide, design.small _), tt))))
       (every_join IsRegisterVar (tag_registers d tag) (seat_registers d)
       (each IsRegisterVar (has_own_tag d) (λ x. tag_var d tag x (level_at_start d x) ∷ []) (λ x h. ((fit.wide, design.small _), tt)))
       (every_join IsRegisterVar (for_entities (λ q. nat_lt 0 (children w q)) (λ q. seat_var d q ∷ []) 0 w.entities) (seat_var d (root w) ∷ [])
@@ -183,7 +181,7 @@ module _ (d : Named) (tag sites : ℕ) (design : Design d tag sites) (fit : Fitt
       all_of IsStore src.memories
       (each IsStore (is_memory w) (λ m. memory_of d m ∷ tags_of d tag m)
       (λ m h. (
-        (value_width m (either_second (is_input w m) (is_register w m || is_memory w m) (either_second (is_register w m) (is_memory w m) h)), fit.ranged.depths m h, pow_pos (width w m)),
+        (value_width m (or_right (is_input w m) (is_register w m || is_memory w m) (or_right (is_register w m) (is_memory w m) h)), fit.ranged.depths m h, pow_pos (width w m)),
         by m h (is_dynamic w m),
       )))
     where
@@ -200,7 +198,7 @@ module _ (d : Named) (tag sites : ℕ) (design : Design d tag sites) (fit : Fitt
   ports_declared : AllByRecursion (λ (x : Name). is_among x (variable_names src.registers ++ variable_names src.wires) ≡ true) src.ports
   ports_declared =
       let all = variable_names src.registers ++ variable_names src.wires in
-      all_join (λ (x : Name). is_among x all ≡ true) (names_of (shown_registers d tag)) (names_of (site_wires d tag 1 sites))
+      all_append (λ (x : Name). is_among x all ≡ true) (names_of (shown_registers d tag)) (names_of (site_wires d tag 1 sites))
       (among_each all (shown_registers d tag)
       (λ v i. among_front v.name (variable_names src.registers) (variable_names src.wires) (among_in src.registers v (in_front (shown_registers d tag) (tag_registers d tag ++ seat_registers d) v i))))
       (among_each all (site_wires d tag 1 sites)
@@ -221,7 +219,7 @@ module _ (d : Named) (tag sites : ℕ) (design : Design d tag sites) (fit : Fitt
   ports_keys : src.ports ≡ map (key_name d) port_keys
   ports_keys =
       ap₂ (λ (a b : List Name). a ++ b) (entities_named {A = Var} (λ x. x.name) d (is_register w) (λ x. value_var d x (entity w x).initial ∷ tag_var d tag x (level_at_start d x) ∷ []) (λ x. Value x ∷ Tag x ∷ []) (λ x. refl) 0 w.entities) (sites_named d tag 1 sites)
-      ∙ sym (map_join (key_name d) (of_all (is_register w) (λ x. Value x ∷ Tag x ∷ [])) (site_keys 1 sites))
+      ∙ sym (map-append (key_name d) (of_all (is_register w) (λ x. Value x ∷ Tag x ∷ [])) (site_keys 1 sites))
 
   ports_once : AreDistinct src.ports
   ports_once =

@@ -1,6 +1,7 @@
 -- Commands and lists of commands.
 use Rattle.std.proofs.Common.{◌≡◌, ℕ, suc, ◌+◌, ◌*◌, ◌^◌, ◌<◌, ◌≤◌, Bool, List, ◌∷◌, length, get_or, refl, ap, ◌∙◌, arith, nat_eq, inl, inr, if◌then◌else◌}
 use Rattle.std.proofs.lemmas.Bool.{cases_Bool}
+use Rattle.sap_lemmas.proofs.Numbers.{test_symmetric}
 use Rattle.sap_tree.specs.Limits.{most_arms}
 use Rattle.sap_maps.specs.Maps.{Name}
 use Rattle.sap_maps.specs.Term.{Term}
@@ -22,7 +23,6 @@ use Rattle.sap_tagged.specs.Levels.{var, lub, expr, tag_of, always}
 use Rattle.sap_tagged.specs.Commands.{raises, looks, effect_of, refusal, outcome, attempt_of, outcome_then, attempt_then_of, arm_count, pick_width, picks, decides, pick_of, select_of, wires, wires_arms, wires_block, command_plain, arms_plain, block_plain}
 use Rattle.sap_tagged.specs.Few.{Few, FewArms, FewBlock}
 use Rattle.sap_tagged.specs.Stands.{Lawful, at, Stands, refused_after, level_after, Turns}
-use Rattle.sap_tagged.proofs.Bools.{flipped}
 use Rattle.sap_tagged.proofs.Terms.{bit, expr_value, tag_value, lub_value}
 use Rattle.sap_tagged.proofs.StepTerms.{Placed, always_holds}
 use Rattle.sap_tagged.proofs.Puts.{put_to, at_put, kept_put, kept_next, does_follow, Aside, stands_aside}
@@ -70,13 +70,13 @@ module _ (d : Setting) (widths : Name → ℕ) (laws : Lawful d widths) (f : Goi
         refused = λ j.
             q.refused j
             ∙ ap (refused_after j (m l r).refused)
-            (at_put d widths laws g1 (Level n) (Refused j) x ∙ at_put d widths laws g (Refused n) (Refused j) 1 ∙ ap (λ (b : Bool). if b then 1 else at d g (Refused j)) (flipped j n));
+            (at_put d widths laws g1 (Level n) (Refused j) x ∙ at_put d widths laws g (Refused n) (Refused j) 1 ∙ ap (λ (b : Bool). if b then 1 else at d g (Refused j)) (test_symmetric j n));
         levels = λ j.
             q.levels j
             ∙ ap (level_after d.code j (m l r).refused)
             (at_put d widths laws g1 (Level n) (Level j) x ∙ ap (λ (z : ℕ). if nat_eq j n then z else at d g1 (Level j)) ex
             ∙ ap (λ (z : ℕ). if nat_eq j n then d.code l else z) (at_put d widths laws g (Refused n) (Level j) 1)
-            ∙ ap (λ (b : Bool). if b then d.code l else at d g (Level j)) (flipped j n));
+            ∙ ap (λ (b : Bool). if b then d.code l else at d g (Level j)) (test_symmetric j n));
       }
 
   module _ (q : Group) (sp : Spot) (placed : Placed d.world q sp) (goes : GoesRun d go sp.parent q) (base : ℕ) (enter : ℕ → ℕ → Store → After) (falls : FallsRun d f base sp.state enter) where

@@ -1,14 +1,17 @@
 -- The interface of a plain program.
 use Rattle.std.proofs.Common.{◌≡◌, ℕ, zero, suc, ◌+◌, ◌<◌, ◌≤◌, List, [], ◌∷◌, ◌++◌, map, Bool, true, false, inl, inr, refl, sym, ap, ap₂, ◌∙◌, subst, if◌then◌else◌, arith, nat_lt}
+use Rattle.std.proofs.lemmas.Bool.{lt-ltb}
+use Rattle.std.proofs.lemmas.List.{map-append}
+use Rattle.sap_net.proofs.NamesLemmas.{among_front}
+use Rattle.sap_meaning.proofs.ProgramLemmas.{state_no_memory}
 use Rattle.sap_maps.specs.Maps.{Name}
-use Rattle.sap_meaning.specs.Program.{World, Kind, Entity, entity, root, children, width, is_input, is_register, kind_is_memory, kind_is_state}
-use Rattle.sap_meaning.specs.Program as program
+use Rattle.sap_meaning.specs.Program.{World, Entity, entity, root, children, width, is_input, is_register}
 use Rattle.sap_net.specs.Names.{is_among}
 use Rattle.sap_net.specs.declared.parts.PortKind.{PortKind}
 use Rattle.sap_net.specs.declared.parts.PortKind.TheVariants as kind
 use Rattle.sap_ir.specs.declared.guarded.Var.{Var}
 use Rattle.sap_ir.specs.declared.guarded.Store.{Store}
-use Rattle.sap_ir.proofs.Declared.{apart_lists, among_front}
+use Rattle.sap_ir.proofs.Declared.{apart_lists}
 use Rattle.sap_ir.specs.Plain.Nested.{Nested, seat_width}
 use Rattle.sap_ir.proofs.plain.SeatWidths.{seat_positive, seat_holds, seat_least}
 use Rattle.sap_interface.specs.PortNames.{value_name, tag_name, seat_name, root_seat, refused_name, level_name}
@@ -17,11 +20,11 @@ use Rattle.sap_interface.specs.Interface.{Shown, pairs_of, site_ports, ports_of}
 use Rattle.sap_tagged.specs.Keys.{Value, Tag, Seat, key_name}
 use Rattle.sap_tagged.specs.Plain.{names_of, for_entities, value_var, tag_var, seat_var, level_at_start, shown_registers, tag_registers, seat_registers, site_wires, first_wires, inner_wires, group_wires, memory_of, plain_of}
 use Rattle.sap_tagged.specs.Law.{HasVariable, HasStore, HasSeatRegister, shows, shown, PlainInterface}
-use Rattle.sap_tagged.proofs.Bools.{apart_tests, value_within, register_within, memory_within}
+use Rattle.sap_tagged.proofs.Bools.{value_within, register_within, memory_within}
 use Rattle.sap_tagged.proofs.Members.{In, among_in, in_front}
 use Rattle.sap_tagged.proofs.Named.{registers_named, memories_named}
 use Rattle.sap_tagged.proofs.Premises.{Design}
-use Rattle.sap_tagged.proofs.Cycle.{value_known, tag_known, seat_known, root_known, refused_known, level_known, refused_in, level_in, test_of_lt, in_all, in_value, in_tag, in_own_tag, in_seat, in_memory, in_tags, in_input, behind_inputs, site_bound}
+use Rattle.sap_tagged.proofs.Cycle.{value_known, tag_known, seat_known, root_known, refused_known, level_known, refused_in, level_in, in_all, in_value, in_tag, in_own_tag, in_seat, in_memory, in_tags, in_input, behind_inputs, site_bound}
 
 has_variable : (xs : List Var) (x : Var) → In xs x → HasVariable xs x.name x.width
 has_variable [] x h = absurd h
@@ -33,19 +36,9 @@ has_store [] m h = absurd h
 has_store (y ∷ ys) m (inl e) = inl (ap (λ (z : Store). z.name) e, ap (λ (z : Store). z.width) e, ap (λ (z : Store). z.depth) e)
 has_store (y ∷ ys) m (inr h) = inr (has_store ys m h)
 
-shown_join : {A : Type 0} (f : A → Shown) (xs ys : List A) → map f (xs ++ ys) ≡ map f xs ++ map f ys
-shown_join f [] ys = refl
-shown_join f (x ∷ xs) ys = ap (λ (zs : List Shown). f x ∷ zs) (shown_join f xs ys)
-
 shown_associates : (xs ys zs : List Shown) → (xs ++ ys) ++ zs ≡ xs ++ (ys ++ zs)
 shown_associates [] ys zs = refl
 shown_associates (x ∷ xs) ys zs = ap (λ (vs : List Shown). x ∷ vs) (shown_associates xs ys zs)
-
-state_no_memory : (k : Kind) → kind_is_state k ≡ true → kind_is_memory k ≡ false
-state_no_memory program.input h = absurd (apart_tests (sym h))
-state_no_memory program.register h = absurd (apart_tests (sym h))
-state_no_memory (program.memory depth) h = absurd (apart_tests (sym h))
-state_no_memory (program.state place last) h = refl
 
 module _ (d : Named) (tag sites : ℕ) (design : Design d tag sites) where
   abbrev w : World
@@ -62,7 +55,7 @@ module _ (d : Named) (tag sites : ℕ) (design : Design d tag sites) where
       → map {B = Shown} (λ (v : Var). (v.name, k)) (for_entities picks of x es) ≡ pairs_of picks k d x es
   pairs_shown k picks of f x [] = refl
   pairs_shown k picks of f x (e ∷ es) =
-      shown_join (λ (v : Var). (v.name, k)) (if picks x then of x else []) (for_entities picks of (x + 1) es)
+      map-append (λ (v : Var). (v.name, k)) (if picks x then of x else []) (for_entities picks of (x + 1) es)
       ∙ ap₂ (λ (a b : List Shown). a ++ b) (by_test (picks x) (f x)) (pairs_shown k picks of f (x + 1) es)
     where
       by_test : (q : Bool) → (q ≡ true → map {B = Shown} (λ (v : Var). (v.name, k)) (of x) ≡ pair_at k x)
@@ -117,7 +110,7 @@ module _ (d : Named) (tag sites : ℕ) (design : Design d tag sites) where
       let registers = shown_registers d tag in
       let wires = site_wires d tag 1 sites in
       ap₂ (λ (a b : List Shown). a ++ b) (pairs_shown kind.Input (is_input w) (λ x. value_var d x 0 ∷ tag_var d tag x 0 ∷ []) (λ x h. pair_named kind.Input x (input_within x h)) 0 w.entities)
-      (shown_join (λ (x : Name). (x, shows p x)) (names_of registers) (names_of wires)
+      (map-append (λ (x : Name). (x, shows p x)) (names_of registers) (names_of wires)
       ∙ ap₂ (λ (a b : List Shown). a ++ b)
       (shows_each kind.Register registers shows_register
       ∙ pairs_shown kind.Register (is_register w) (λ x. value_var d x (entity w x).initial ∷ tag_var d tag x (level_at_start d x) ∷ []) (λ x h. pair_named kind.Register x (register_within w x h)) 0 w.entities)
@@ -170,8 +163,8 @@ module _ (d : Named) (tag sites : ℕ) (design : Design d tag sites) where
     memory_tags = λ m h t.
         tag_has p.registers m (level_at_start d m) (memory_within w m h) (in_own_tag d tag sites design m (memory_within w m h) (rw (h, t) refl));
     state_tags = λ x h l.
-        tag_has p.registers x (level_at_start d x) (test_of_lt x (root w) l) (in_own_tag d tag sites design x (test_of_lt x (root w) l) (rw (state_no_memory (entity w x).kind h) h));
-    seats = λ q l h. seat_has q (seat_name (name d q)) (seat_known d q (test_of_lt q (root w) l)) h;
+        tag_has p.registers x (level_at_start d x) (lt-ltb x (root w) l) (in_own_tag d tag sites design x (lt-ltb x (root w) l) (rw (state_no_memory (entity w x).kind h) h));
+    seats = λ q l h. seat_has q (seat_name (name d q)) (seat_known d q (lt-ltb q (root w) l)) h;
     root_seat = seat_has (root w) root_seat (root_known d) some;
     register_names = registers_named d tag sites design;
     memory_names = memories_named d tag sites design;

@@ -1,7 +1,8 @@
 -- Guards, tests, and what a step writes.
 use Rattle.std.proofs.Common.{◌≡◌, ℕ, zero, suc, ◌<◌, Bool, true, false, ◌||◌, refl, sym, ap₂, ◌∙◌, inl, inr, if◌then◌else◌}
 use Rattle.std.specs.Prelude.{bit_and}
-use Rattle.std.proofs.lemmas.Bool.{cases_Bool}
+use Rattle.std.proofs.lemmas.Bool.{cases_Bool, and_parts, or_right}
+use Rattle.sap_lemmas.proofs.Bools.{true_is_not_false}
 use Rattle.sap_maps.specs.Maps.{Name}
 use Rattle.sap_maps.specs.Term.{Term, cell}
 use Rattle.sap_meaning.specs.Program.{World, is_dynamic, is_register, is_state, authority, children, Step, Set, Write, Retag, RetagCell, Goto, Fall, Node, Group, None, More}
@@ -15,7 +16,7 @@ use Rattle.sap_tagged.specs.Keys.{Tag}
 use Rattle.sap_tagged.specs.Setting.{Setting}
 use Rattle.sap_tagged.specs.Levels.{var, bits, lub, below_or_at, yes, expr, tag_of, new_tag, told_tag, seat_bits, seat_of, guard_of, test_of, written, stays, all_dynamic, always}
 use Rattle.sap_tagged.specs.Stands.{Lawful, at, Stands}
-use Rattle.sap_tagged.proofs.Bools.{apart_tests, both_true, either_second, tagged, enforced_within, kept_no_memory}
+use Rattle.sap_tagged.proofs.Bools.{tagged, enforced_within, kept_no_memory}
 use Rattle.sap_tagged.proofs.Terms.{bit, both_bits, AllTagged, lub_value, below_value, mark, own_tag, value_tag, tag_value, new_value, told_value, enters_value, child_tag_value, child_enters_value, seat_value}
 
 -- Where a body stands: its state and those of its group have tags, as have its children; if these are, they have a seat.
@@ -45,7 +46,7 @@ number_stays w (Fall site hang) s = true
 
 module _ (d : Setting) (widths : Name → ℕ) (laws : Lawful d widths) (g : Going) (s : Store) (stands : Stands d g s) where
   register_tag : (x : ℕ) → is_register d.world x ≡ true → at d g (Tag x) ≡ d.code (level d.world (own x) s)
-  register_tag x h = value_tag d widths laws g s stands x (either_second _ (is_register d.world x) h)
+  register_tag x h = value_tag d widths laws g s stands x (or_right _ (is_register d.world x) h)
 
   lubs : (a b : Term Name) (x y : ℕ) → value_in widths g a ≡ d.code x → value_in widths g b ≡ d.code y → value_in widths g (lub a b) ≡ d.code (d.world.order.join x y)
   lubs a b x y i j = lub_value d widths laws g a b x y i j
@@ -150,15 +151,15 @@ module _ (d : Setting) (widths : Name → ℕ) (laws : Lawful d widths) (g : Goi
 
 all_open : (w : World) (k : Group) (n l : ℕ) (s : Store) → all_dynamic w k ≡ true → child_opens w k n l s ≡ true
 all_open w None n l s h = refl
-all_open w (More (Node c b k) None) n l s h = rw ((both_true (is_dynamic w c) true h).0) refl
-all_open w (More (Node c b k) (More t g)) zero l s h = rw ((both_true (is_dynamic w c) (all_dynamic w (More t g)) h).0) refl
-all_open w (More (Node c b k) (More t g)) (suc n) l s h = all_open w (More t g) n l s ((both_true (is_dynamic w c) (all_dynamic w (More t g)) h).1)
+all_open w (More (Node c b k) None) n l s h = rw ((and_parts (is_dynamic w c) true h).0) refl
+all_open w (More (Node c b k) (More t g)) zero l s h = rw ((and_parts (is_dynamic w c) (all_dynamic w (More t g)) h).0) refl
+all_open w (More (Node c b k) (More t g)) (suc n) l s h = all_open w (More t g) n l s ((and_parts (is_dynamic w c) (all_dynamic w (More t g)) h).1)
 
 pub always_holds : (w : World) (sp : Spot) (k : Step) (l : ℕ) (s : Store) → always w sp k ≡ true → test w sp k l s ≡ true
 always_holds w sp (Set site x e) l s h = rw h refl
 always_holds w sp (Write site m i e) l s h = rw h refl
-always_holds w sp (Retag site x n) l s h = absurd (apart_tests (sym h))
-always_holds w sp (RetagCell site m j n) l s h = absurd (apart_tests (sym h))
+always_holds w sp (Retag site x n) l s h = absurd (true_is_not_false (sym h))
+always_holds w sp (RetagCell site m j n) l s h = absurd (true_is_not_false (sym h))
 always_holds w sp (Goto site target) l s h =
-    let a = both_true (is_dynamic w target) (is_dynamic w sp.state) h in rw (a.0, a.1) refl
+    let a = and_parts (is_dynamic w target) (is_dynamic w sp.state) h in rw (a.0, a.1) refl
 always_holds w sp (Fall site hang) l s h = all_open w sp.children (child sp.state s) l s h

@@ -1,7 +1,7 @@
 -- Terms have the numbers and the codes of the store for which the numbers stand.
 use Rattle.std.proofs.Common.{◌≡◌, ℕ, zero, suc, ◌+◌, ◌-◌, ◌<◌, ◌≤◌, Bool, true, false, ◌&&◌, refl, sym, ap, ap₂, ◌∙◌, arith, nat_lt, inl, inr, if◌then◌else◌, zero-add}
 use Rattle.std.specs.Prelude.{◌==◌, bit_or, bit_and}
-use Rattle.std.proofs.lemmas.Bool.{cases_Bool, eqb-true, eq-eqb, ne_eqb}
+use Rattle.std.proofs.lemmas.Bool.{cases_Bool, eqb-true, eq-eqb, ne_eqb, or_left, or_right}
 use Rattle.std.proofs.lemmas.Grind.{common_steps}
 use Rattle.sap_bits.specs.Arithmetic.{value1, value2, width1, width2, slice_of, joined}
 use Rattle.sap_maps.specs.Maps.{Name}
@@ -17,7 +17,7 @@ use Rattle.sap_tagged.specs.Keys.{Value, Tag, First}
 use Rattle.sap_tagged.specs.Setting.{Setting}
 use Rattle.sap_tagged.specs.Levels.{var, lub, below_or_at, expr, cell_tag, tag_of, place_width, widened, placed, new_tag, told_tag, child_tag, enters, child_enters, seat_of}
 use Rattle.sap_tagged.specs.Stands.{Lawful, at, is_value, has_tag, Stands}
-use Rattle.sap_tagged.proofs.Bools.{either_first, either_second, value_within, value_no_memory, tagged}
+use Rattle.sap_tagged.proofs.Bools.{value_within, value_no_memory, tagged}
 
 abbrev pub bit : Bool → ℕ
 bit b = if b then 1 else 0
@@ -149,10 +149,10 @@ module _ (d : Setting) (widths : Name → ℕ) (laws : Lawful d widths) where
     ]
 
     rest_tagged : (c : ℕ) (b : _) (k g' : Group) → AllTagged d.world (More (Node c b k) g') → AllTagged d.world g'
-    rest_tagged c b k g' f n h = f n (either_second _ (among g' n) h)
+    rest_tagged c b k g' f n h = f n (or_right _ (among g' n) h)
 
     first_tagged : (c : ℕ) (b : _) (k g' : Group) → AllTagged d.world (More (Node c b k) g') → has_tag d.world c ≡ true × (is_memory d.world c ≡ false)
-    first_tagged c b k g' f = f c (either_first _ (among g' c) (eq-eqb c c refl))
+    first_tagged c b k g' f = f c (or_left _ (among g' c) (eq-eqb c c refl))
 
     pub child_tag_value : (u : ℕ) (seat : Term Name) (k : Group) (n i : ℕ) → value_in widths g seat ≡ i + n → AllTagged d.world k → value_in widths g (child_tag d u seat k i) ≡ d.code (child_level d.world k n s)
     child_tag_value u seat None n i h f = refl

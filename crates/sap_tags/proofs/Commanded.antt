@@ -2,6 +2,7 @@
 use Rattle.std.proofs.Common.{◌≡◌, ℕ, zero, suc, ◌+◌, ◌<◌, ◌≤◌, Bool, List, [], ◌∷◌, ◌++◌, map, if◌then◌else◌, length, get_or, drop, refl, sym, ap, ap₂, ◌∙◌, subst, arith, add-one, append_assoc, append-nil}
 use Rattle.std.specs.declared.vec.Vec.{Vec}
 use Rattle.std.specs.declared.alloc.Global.{Global}
+use Rattle.sap_ir.proofs.PlainLemmas.{follow_stop}
 use Rattle.sap_tree.specs.Limits.{most_arms}
 use Rattle.sap_meaning.specs.Program.{listed, Arms, Last, End}
 use Rattle.sap_meaning.specs.Expressions.{width_of}
@@ -12,7 +13,7 @@ use Rattle.sap_maps.specs.Term.{Term}
 use Rattle.sap_ir.specs.Plain.Nested.{Body, stop, cases, seat_width}
 use Rattle.sap_ir.specs.declared.plain.nested.PlainCmd.{PlainCmd}
 use Rattle.sap_ir.specs.Plain.Views.{body_of, follow}
-use Rattle.sap_ir.proofs.plain.Views.{body_of-none, follow-end, follow-more}
+use Rattle.sap_ir.proofs.plain.Views.{body_of-none, follow-more}
 use Rattle.sap_program.specs.Hangs.{flags}
 use Rattle.sap_program.specs.declared.program.Number.{Number}
 use Rattle.sap_program.specs.declared.program.Step.{Step}
@@ -244,7 +245,7 @@ module _ (s : Setting) where
     unfolding decided
     decided_alone k j r =
         let d = setting_in s in
-        ap (λ (x : Body). if always d.world (spot_in s at) j then x else cases (var d (Wire k)) x r stop) (follow-end (effect_of d (spot_in s at) k j))
+        ap (λ (x : Body). if always d.world (spot_in s at) j then x else cases (var d (Wire k)) x r stop) (follow_stop (effect_of d (spot_in s at) k j))
 
     -- what is looked at, the raises, and what is behind them
     step_made : (k : ℕ) (j : program.Step) (hangs : ℕ → Bool) (b0 b1 b2 end : Body) → b1 ≡ follow b0 (looks (setting_in s) (spot_in s at) p k j stop)
@@ -422,7 +423,7 @@ module _ (s : Setting) where
         ∙ ap (follow now) (sym (body_drop k cs i c l)) ∙ h
 
     pub commands_rest : (cs : List Command) (i k : ℕ) (now all : Body) → length cs ≤ i → follow now (commands_body s at p k (drop i cs)) ≡ all → now ≡ all
-    commands_rest cs i k now all l h = sym (follow-end now) ∙ ap (follow now) (sym (body_past k cs i l)) ∙ h
+    commands_rest cs i k now all l h = sym (follow_stop now) ∙ ap (follow now) (sym (body_past k cs i l)) ∙ h
 
 pub wires_step : (cs : List Command) (i : ℕ) (c : Command) (k m all : ℕ) → i < length cs → c ≡ get_or cs i c → m ≡ k + command_wires c → k + commands_wires (drop i cs) ≡ all → m + commands_wires (drop (i + 1) cs) ≡ all
 wires_step cs i c k m all l e f h =

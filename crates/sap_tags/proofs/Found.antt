@@ -1,6 +1,7 @@
 -- What is built of a design's program is the plain program of the design.
 use Rattle.std.proofs.Common.{◌≡◌, ℕ, zero, suc, ◌+◌, ◌*◌, ◌^◌, ◌<◌, ◌≤◌, List, [], ◌∷◌, IsTrue, true, false, get_or, refl, sym, ap, ap₂, ◌∙◌, subst, inl, inr, arith}
 use Rattle.std.proofs.lemmas.Bool.{cases_Bool}
+use Rattle.sap_tree.proofs.SyntaxLemmas.{tree_of_whole}
 use Rattle.sap_tree.specs.Syntax.{DesignTree}
 use Rattle.sap_tree.specs.Whole.{is_whole, states_count, states_commands}
 use Rattle.sap_lattice.specs.Levels.{Levels, order_of}
@@ -31,7 +32,7 @@ use Rattle.sap_terms.specs.Narrow.{IsNarrow}
 use Rattle.sap_tagged.specs.Few.{FewGroup}
 use Rattle.sap_tagged.specs.States.{wires_group}
 use Rattle.sap_tagged.proofs.Designs.{design}
-use Rattle.sap_tagged.proofs.Fitted.{limits, group_few, group_filled, tree_of}
+use Rattle.sap_tagged.proofs.Fitted.{limits, group_few, group_filled}
 use Rattle.sap_tags.specs.Built.{StatesFew}
 use Rattle.sap_tags.proofs.FewArms.{few_group}
 
@@ -48,7 +49,7 @@ plain_found own ls d p e h =
 pub ranged_found : (own ls : Levels) (d : DesignTree) (p : Program) → own ≡ ls → IsProgramOf ls d p → WidthsInRange → IsSound ls d
     → RangedProgram (program_in (order_of own) p)
 ranged_found own ls d p e h ranged sound =
-    subst (λ q. RangedProgram q) (sym (ap (λ l. program_in (order_of l) p) e ∙ h.program)) (ranged ls d (tree_of d sound.whole) sound.formed.names)
+    subst (λ q. RangedProgram q) (sym (ap (λ l. program_in (order_of l) p) e ∙ h.program)) (ranged ls d (tree_of_whole d sound.whole) sound.formed.names)
 
 pub sound_found : (own ls : Levels) (d : DesignTree) → own ≡ ls → IsLattice own → IsTrue (is_whole d) → WellFormed ls d → IsSound ls d
 sound_found own ls d e l whole formed = record { lattice = subst (λ x. IsLattice x) e l; whole = whole; formed = formed }
@@ -93,7 +94,7 @@ narrow w x bare wide = elim (cases_Bool (is_state w x)) [ inl s ↦ (let z = bar
 
 pub narrow_found : (ls : Levels) (d : DesignTree) (p : Program) → IsProgramOf ls d p → WidthsInRange → IsSound ls d → IsNarrow p
 narrow_found ls d p h ranged sound =
-    let r = ranged ls d (tree_of d sound.whole) sound.formed.names in
+    let r = ranged ls d (tree_of_whole d sound.whole) sound.formed.names in
     let all : (x : ℕ) → (get_or (program_of ls d).world.entities x nothing).width ≤ 64 =
     λ x. narrow (world_of ls d) x (states_bare (entities_of d) (world_of ls d).entities (entities_match ls d) x) (r.widths x) in
     subst (λ (q : meaning.Program). (x : ℕ) → (get_or q.world.entities x nothing).width ≤ 64) (sym h.program) all

@@ -1,13 +1,15 @@
 -- What is declared for the first entities of a program.
-use Rattle.std.proofs.Common.{◌≡◌, ℕ, zero, suc, ◌+◌, ◌^◌, ◌<◌, ◌≤◌, nat_lt, List, [], ◌∷◌, ◌++◌, map, length, take, Bool, true, false, refl, sym, ap, ◌∙◌, subst, arith, add-one, append_assoc}
+use Rattle.std.proofs.Common.{◌≡◌, ℕ, zero, suc, ◌+◌, ◌^◌, ◌<◌, ◌≤◌, nat_lt, List, [], ◌∷◌, ◌++◌, length, take, Bool, true, false, refl, sym, ap, ◌∙◌, subst, arith, add-one, append_assoc}
 use Rattle.std.specs.Prelude.{if◌then◌else◌}
-use Rattle.std.proofs.lemmas.List.{take_all}
+use Rattle.std.proofs.lemmas.List.{take_all, append-nil}
 use Rattle.std.proofs.lemmas.Grind.{common_steps}
 use Rattle.std.proofs.Math.Nat.{pow-le-pow_right}
+use Rattle.sap_lemmas.proofs.Lists.{length_map}
+use Rattle.sap_meaning.proofs.ProgramLemmas.{memory_no_state, register_no_state}
 use Rattle.sap_ir.specs.declared.guarded.Var.{Var}
 use Rattle.sap_ir.specs.declared.guarded.Store.{Store}
 use Rattle.sap_meaning.specs.Program as program
-use Rattle.sap_meaning.specs.Program.{Program, Kind, Entity, children, width, is_input, is_register, is_memory, kind_is_input, kind_is_register, kind_is_memory, kind_is_state}
+use Rattle.sap_meaning.specs.Program.{Program, Kind, Entity, children, width, is_input, is_register, is_memory, kind_is_input, kind_is_state}
 use Rattle.sap_meaning.specs.Sized.{depth}
 use Rattle.sap_program.specs.Views.{entity_of}
 use Rattle.sap_resolve.specs.Sized.Ranges.{IsWidth, RangedProgram}
@@ -16,25 +18,17 @@ use Rattle.sap_terms.specs.Code.{named_in, tag_width, world_in, entities_in}
 use Rattle.sap_tagged.specs.Keys.{First, Inner, key_name}
 use Rattle.sap_tagged.specs.Plain.{variable, value_var, tag_var, seat_var, level_at_start, seat_registers, memory_of, tags_of, for_entities, all_entities}
 
-append_none : {A : Type 0} (l : List A) → l ++ [] ≡ l
-append_none [] = refl
-append_none (x ∷ l) = ap (λ r. x ∷ r) (append_none l)
-
 -- of one entity more
 for_more : {A : Type 0} (picks : ℕ → Bool) (of : ℕ → List A) (x : ℕ) (es : List Entity) (n : ℕ) → n < length es
     → for_entities picks of x (take (suc n) es) ≡ for_entities picks of x (take n es) ++ (if picks (x + n) then of (x + n) else [])
 for_more picks of x [] n l = absurd (omega arith)
 for_more picks of x (e ∷ es) zero l =
-    let z : x + 0 ≡ x = omega arith in append_none (if picks x then of x else []) ∙ rw z refl
+    let z : x + 0 ≡ x = omega arith in append-nil (if picks x then of x else []) ∙ rw z refl
 for_more picks of x (e ∷ es) (suc n) l =
     let z : x + 1 + n ≡ x + suc n = omega arith in
     ap (λ r. (if picks x then of x else []) ++ r) (for_more picks of (x + 1) es n (omega arith))
     ∙ sym (append_assoc (if picks x then of x else []) (for_entities picks of (x + 1) (take n es)) (if picks (x + 1 + n) then of (x + 1 + n) else []))
     ∙ ap (λ m. ((if picks x then of x else []) ++ for_entities picks of (x + 1) (take n es)) ++ (if picks m then of m else [])) z
-
-length_map : {A B : Type 0} (f : A → B) (xs : List A) → length (map f xs) ≡ length xs
-length_map f [] = refl
-length_map f (x ∷ xs) = ap suc (length_map f xs)
 
 -- what is declared for the first n entities
 abbrev pub of_first : {A : Type 0} → Setting → (picks : ℕ → Bool) → (of : ℕ → List A) → (n : ℕ) → List A
@@ -59,7 +53,7 @@ module _ {A : Type 0} (s : Setting) (picks : ℕ → Bool) (of : ℕ → List A)
   pub passed : (n : ℕ) (front old : List A) → n < entities_in s → picks n ≡ false → old ≡ front ++ of_first s picks of n
       → old ≡ front ++ of_first s picks of (n + 1)
   passed n front old l p e =
-      e ∙ ap (λ r. front ++ r) (sym (append_none (of_first s picks of n)))
+      e ∙ ap (λ r. front ++ r) (sym (append-nil (of_first s picks of n)))
       ∙ ap (λ b. front ++ (of_first s picks of n ++ (if b then of n else []))) (sym p)
       ∙ ap (λ r. front ++ r) (sym (one_more n l))
 
@@ -100,9 +94,6 @@ of_memory s m = memory_of (named_in s) m ∷ tags_of (named_in s) (tag_width s) 
 pub two_more : {A : Type 0} (x y : A) (old mid new : List A) → mid ≡ old ++ x ∷ [] → new ≡ mid ++ y ∷ [] → new ≡ old ++ x ∷ y ∷ []
 two_more x y old mid new e f = f ∙ ap (λ r. r ++ y ∷ []) e ∙ append_assoc old (x ∷ []) (y ∷ [])
 
-pub some : (n : ℕ) → 0 < n → nat_lt 0 n ≡ true
-some n h = grind (arith, common_steps)
-
 pub none : (n : ℕ) → n ≤ 0 → nat_lt 0 n ≡ false
 none n h = grind (arith, common_steps)
 
@@ -124,27 +115,15 @@ input_is_no_state program.register h = cc
 input_is_no_state (program.memory depth) h = cc
 input_is_no_state (program.state place last) h = cc
 
-register_is_no_state : (k : Kind) → kind_is_register k ≡ true → kind_is_state k ≡ false
-register_is_no_state program.input h = cc
-register_is_no_state program.register h = refl
-register_is_no_state (program.memory depth) h = cc
-register_is_no_state (program.state place last) h = cc
-
-memory_is_no_state : (k : Kind) → kind_is_memory k ≡ true → kind_is_state k ≡ false
-memory_is_no_state program.input h = cc
-memory_is_no_state program.register h = cc
-memory_is_no_state (program.memory depth) h = refl
-memory_is_no_state (program.state place last) h = cc
-
 module _ (p : Program) (ranged : RangedProgram p) (x : ℕ) where
   pub input_width : is_input p.world x ≡ true → IsWidth (width p.world x)
   input_width h = ranged.widths x (input_is_no_state (program.entity p.world x).kind h)
 
   pub register_width : is_register p.world x ≡ true → IsWidth (width p.world x)
-  register_width h = ranged.widths x (register_is_no_state (program.entity p.world x).kind h)
+  register_width h = ranged.widths x (register_no_state (program.entity p.world x).kind h)
 
   pub memory_width : is_memory p.world x ≡ true → IsWidth (width p.world x)
-  memory_width h = ranged.widths x (memory_is_no_state (program.entity p.world x).kind h)
+  memory_width h = ranged.widths x (memory_no_state (program.entity p.world x).kind h)
 
   pub memory_depth : is_memory p.world x ≡ true → depth p.world x ≤ 2 ^ 12
   memory_depth h =

@@ -4,6 +4,7 @@ use Rattle.std.proofs.lemmas.Bool.{le-leb, lt-leb}
 use Rattle.std.proofs.lemmas.List.{length-map, take-map, drop-map}
 use Rattle.std.specs.declared.vec.Vec.{Vec}
 use Rattle.std.specs.declared.alloc.Global.{Global}
+use Rattle.sap_ir.proofs.PlainLemmas.{follow_stop}
 use Rattle.sap_bits.specs.declared.Op2.TheVariants.{Eq}
 use Rattle.sap_maps.specs.Maps.{Name}
 use Rattle.sap_maps.specs.Term.{Term, constant, two, choose, part}
@@ -15,7 +16,7 @@ use Rattle.sap_ir.specs.declared.guarded.Calc.{Calc}
 use Rattle.sap_ir.specs.declared.plain.nested.PlainCmd.{PlainCmd}
 use Rattle.sap_ir.specs.declared.plain.nested.PlainCmd.TheViews as shown
 use Rattle.sap_ir.specs.Plain.Views.{body_of, follow}
-use Rattle.sap_ir.proofs.plain.Views.{body_of-push, before-if, follow-end, follow-more}
+use Rattle.sap_ir.proofs.plain.Views.{body_of-push, before-if, follow-more}
 use Rattle.sap_program.specs.declared.program.Arm.{Arm}
 use Rattle.sap_program.specs.Views.{constants_of, arm_block, arms_before}
 use Rattle.sap_tagged.specs.Keys.{Wire}
@@ -92,7 +93,7 @@ module _ (d : Setting) where
     constants_past (c ∷ cs) (suc k) l = constants_past cs k (omega arith)
 
     pub constants_rest : (cs : List ℕ) (k : ℕ) (now all : Body) → length cs ≤ k → follow now (picks_arm d u n w j i (drop k cs) stop) ≡ all → now ≡ all
-    constants_rest cs k now all l h = sym (follow-end now) ∙ ap (follow now) (sym (constants_past cs k l)) ∙ h
+    constants_rest cs k now all l h = sym (follow_stop now) ∙ ap (follow now) (sym (constants_past cs k l)) ∙ h
 
   -- one arm more, later arms first
 
@@ -151,7 +152,7 @@ module _ (d : Setting) where
   bodies_of bs = map (λ b. body_of b.items) bs
 
   pub code_none : (j bits : ℕ) (bs : List (Vec PlainCmd Global)) (now : Body) → bits ≡ 0 → length bs ≡ 0 → now ≡ follow now (decides d j bits (bodies_of bs))
-  code_none j bits [] now e f = sym (ap (λ (x : ℕ). follow now (decides d j x [])) e ∙ follow-end now)
+  code_none j bits [] now e f = sym (ap (λ (x : ℕ). follow now (decides d j x [])) e ∙ follow_stop now)
   code_none j bits (b ∷ bs) now e f = absurd (omega (arith, f))
 
   pub code_first : (j bits : ℕ) (bs rest : List (Vec PlainCmd Global)) (b : Vec PlainCmd Global) (now new : Body) → bits ≡ 0 → bs ≡ b ∷ rest → new ≡ follow now (body_of b.items) → new ≡ follow now (decides d j bits (bodies_of bs))

@@ -1,5 +1,6 @@
 -- What a group is after a state, and after each of a list.
 use Rattle.std.proofs.Common.{◌≡◌, ℕ, Bool, zero, suc, ◌+◌, ◌<◌, ◌≤◌, List, [], ◌∷◌, ◌++◌, length, get_or, drop, refl, sym, ap, ap₂, ◌∙◌, subst, arith, add-one}
+use Rattle.sap_ir.proofs.PlainLemmas.{planted_end}
 use Rattle.sap_maps.specs.Maps.{Name}
 use Rattle.sap_meaning.specs.Program.{root, listed, Block, State, Node, Group, None, More}
 use Rattle.sap_meaning.specs.Checks as checks
@@ -48,10 +49,6 @@ few_one (t ∷ ts) zero e l r = r.0
 few_one (t ∷ ts) (suc i) e l r = few_one ts i e (omega arith) r.1
 
 -- groups, one state more
-
-planted_end : (f : Forest) → planted f none ≡ f
-planted_end none = refl
-planted_end (state x b kids rest) = ap (state x b kids) (planted_end rest)
 
 planted_more : (a b c : Forest) → planted (planted a b) c ≡ planted a (planted b c)
 planted_more none b c = refl

@@ -1,9 +1,10 @@
 -- What stands behind a body, after each part of a step.
 use Rattle.std.proofs.Common.{◌≡◌, ℕ, ◌+◌, ◌++◌, List, [], ◌∷◌, Bool, true, false, refl, sym, ap, ◌∙◌, if◌then◌else◌}
+use Rattle.sap_ir.proofs.PlainLemmas.{follow_stop}
 use Rattle.sap_ir.specs.Plain.Nested.{Body, stop, goto}
 use Rattle.sap_ir.specs.declared.plain.nested.PlainCmd.{PlainCmd}
 use Rattle.sap_ir.specs.Plain.Views.{body_of, command_before, follow}
-use Rattle.sap_ir.proofs.plain.Views.{body_of-none, body_of-more, follow-before, follow-end, follow-more}
+use Rattle.sap_ir.proofs.plain.Views.{body_of-none, body_of-more, follow-before, follow-more}
 use Rattle.sap_maps.specs.Maps.{Name}
 use Rattle.sap_maps.specs.Term.{Term}
 use Rattle.sap_tagged.specs.Keys.{Key, Tag, Wire}
@@ -51,8 +52,8 @@ goto_effect d sp n k st site target b0 b1 b2 i e f =
     ∙ ap (follow b0) (for_each_follow d Tag (resets d.world target) (λ x. bits d d.world.order.bottom) (if is_dynamic d.world target then follow own go else go))
     ∙ ap (λ (s : Step). follow b0 (effect_of d sp k (step_of n s))) (sym i)
 
-pub ruleset behind = (follow-end, follow-more)
+pub ruleset behind = (follow_stop, follow-more)
 
 pub ruleset accepted = (body_of-behind, follow-more)
 
-pub ruleset effects = (follow-end, follow-more, follow_if, for_each_follow)
+pub ruleset effects = (follow_stop, follow-more, follow_if, for_each_follow)

@@ -1,57 +1,30 @@
 -- Assignments to the tags of many entities, as walks along lists of numbers.
-use Rattle.std.proofs.Common.{◌≡◌, ℕ, zero, suc, ◌+◌, ◌-◌, ◌<◌, ◌≤◌, Bool, true, false, ◌&&◌, ◌||◌, List, [], ◌∷◌, ◌++◌, length, length-append, get_or, drop, map, refl, sym, ap, ◌∙◌, arith, add-one, nat_eq, nat_lt, if◌then◌else◌, inl, inr}
+use Rattle.std.proofs.Common.{◌≡◌, ℕ, zero, suc, ◌+◌, ◌-◌, ◌<◌, ◌≤◌, Bool, true, false, ◌&&◌, ◌||◌, List, [], ◌∷◌, length, get_or, drop, map, refl, sym, ap, ◌∙◌, arith, add-one, nat_eq, nat_lt, if◌then◌else◌, inl, inr}
 use Rattle.std.specs.Prelude.{nat_le}
 use Rattle.std.proofs.lemmas.Bool.{cases_Bool, lt-ltb, le-ltb, ltb-true, leb-true, le-leb, eq-eqb, eqb-true, ne_eqb, and_parts, and_left, and_right}
-use Rattle.std.proofs.lemmas.List.{get_or-append-add}
+use Rattle.sap_lemmas.proofs.Lists.{length_map}
+use Rattle.sap_lemmas.proofs.Numbers.{test_symmetric}
+use Rattle.sap_resolve.proofs.FillLemmas.{table_at}
+use Rattle.sap_ir.proofs.PlainLemmas.{follow_stop}
 use Rattle.sap_maps.specs.Maps.{Name}
 use Rattle.sap_maps.specs.Term.{Term}
 use Rattle.sap_meaning.specs.Program.{root, is_dynamic, listed, Goto}
 use Rattle.sap_meaning.specs.Checks.{Spot}
 use Rattle.sap_meaning.specs.Runs.{listed_alone}
-use Rattle.sap_resolve.specs.Fill.{table}
 use Rattle.sap_ir.specs.Plain.Nested.{Body, stop}
 use Rattle.sap_ir.specs.Plain.Views.{follow}
-use Rattle.sap_ir.proofs.plain.Views.{follow-end, follow-more}
+use Rattle.sap_ir.proofs.plain.Views.{follow-more}
 use Rattle.sap_program.specs.Hangs.{rises_from, rises, hangs, flags}
 use Rattle.sap_program.specs.declared.program.Step.{Step}
 use Rattle.sap_program.specs.declared.program.Step.TheVariants as step
 use Rattle.sap_program.specs.Views.{entity_of, step_of}
 use Rattle.sap_program.specs.declared.program.Entity.{Entity}
-use Rattle.sap_tagged.proofs.Bools.{flipped}
 use Rattle.sap_tagged.specs.Keys.{Key, Tag, Wire}
 use Rattle.sap_tagged.specs.Setting.{Setting}
 use Rattle.sap_tagged.specs.Levels.{var, lub}
 use Rattle.sap_tagged.specs.Commands.{gives, sweep, raises}
 
 -- tables
-
-table_length : (n : ℕ) (test : ℕ → Bool) → length (table n test) ≡ n
-table_length zero test = refl
-table_length (suc n) test =
-    let h = table_length n test in
-    let e : length (table n test ++ test n ∷ []) ≡ length (table n test) + 1 = length-append (table n test) (test n ∷ []) in
-    omega arith
-
-get_early : (xs ys : List Bool) (x : ℕ) → x < length xs → get_or (xs ++ ys) x false ≡ get_or xs x false
-get_early [] ys x h = absurd (omega arith)
-get_early (y ∷ xs) ys zero h = refl
-get_early (y ∷ xs) ys (suc x) h = let k : x < length xs = omega arith in get_early xs ys x k
-
-table_at : (n : ℕ) (test : ℕ → Bool) (x : ℕ) → x < n → get_or (table n test) x false ≡ test x
-table_at zero test x h = absurd (omega arith)
-table_at (suc n) test x h = elim (cases_Bool (nat_lt x n)) [
-  | inl t ↦
-      let k : x < n = ltb-true x n t in
-      let l = table_length n test in
-      let i : x < length (table n test) = omega arith in
-      get_early (table n test) (test n ∷ []) x i ∙ table_at n test x k
-  | inr t ↦
-      let k : x ≡ n = grind (arith) in
-      let l = table_length n test in
-      let e : x ≡ length (table n test) + 0 = omega arith in
-      let f : get_or (table n test ++ test n ∷ []) (length (table n test) + 0) false ≡ test n = get_or-append-add (table n test) (test n ∷ []) 0 false in
-      ap (λ (m : ℕ). get_or (table n test ++ test n ∷ []) m false) e ∙ f ∙ ap test (sym k)
-]
 
 -- rising lists
 
@@ -188,7 +161,7 @@ alone_dynamic d at j n site target e t =
     picked : (y : ℕ) → y < n → listed_alone d.world at (Goto site target) y ≡ hangs (at.state ∷ []) y
     picked y l = elim (cases_Bool (nat_eq y at.state)) [
       | inl i ↦ (let k = eqb-true y at.state i in rw (k, t, eq-eqb at.state at.state refl) refl)
-      | inr i ↦ and_right (is_dynamic d.world y) (nat_eq y at.state) i ∙ sym (ap (λ (b : Bool). b || false) (flipped at.state y ∙ i))
+      | inr i ↦ and_right (is_dynamic d.world y) (nat_eq y at.state) i ∙ sym (ap (λ (b : Bool). b || false) (test_symmetric at.state y ∙ i))
     ]
 
 pub alone_enforced : (d : Setting) (at : Spot) (j site target : ℕ) → is_dynamic d.world at.state ≡ false → raises d (listed_alone d.world at (Goto site target)) j stop ≡ stop
@@ -199,10 +172,6 @@ alone_enforced d at j site target t = walk_is d Tag (raised d j) (listed_alone d
       | inl i ↦ and_left (is_dynamic d.world y) (nat_eq y at.state) (ap (is_dynamic d.world) (eqb-true y at.state i) ∙ t)
       | inr i ↦ and_right (is_dynamic d.world y) (nat_eq y at.state) i
     ]
-
-length_map : {A B : Type 0} (f : A → B) (xs : List A) → length (map f xs) ≡ length xs
-length_map f [] = refl
-length_map f (x ∷ xs) = ap (λ (n : ℕ). suc n) (length_map f xs)
 
 pub entities_count : (es : List Entity) → length (map entity_of es) ≡ length es
 entities_count es = length_map entity_of es
@@ -215,11 +184,11 @@ goto_dynamic d at j n k site target i e t = rw i (sym (alone_dynamic d at j n si
 
 pub goto_enforced : (d : Setting) (at : Spot) (j n : ℕ) (k : Step) (site target : ℕ) (b : Body) → k ≡ step.Goto site target → is_dynamic d.world at.state ≡ false
     → b ≡ follow b (raises d (listed_alone d.world at (step_of n k)) j stop)
-goto_enforced d at j n k site target b i t = rw i (sym (ap (follow b) (alone_enforced d at j site target t) ∙ follow-end b))
+goto_enforced d at j n k site target b i t = rw i (sym (ap (follow b) (alone_enforced d at j site target t) ∙ follow_stop b))
 
 pub quiet : (d : Setting) (at : Spot) (j n : ℕ) (k : Step) (b : Body) → ((x : ℕ) → listed_alone d.world at (step_of n k) x ≡ false)
     → b ≡ follow b (raises d (listed_alone d.world at (step_of n k)) j stop)
 quiet d at j n k b h =
-    sym (ap (follow b) (walk_is d Tag (raised d j) (listed_alone d.world at (step_of n k)) (root d.world) [] refl (λ y l. h y)) ∙ follow-end b)
+    sym (ap (follow b) (walk_is d Tag (raised d j) (listed_alone d.world at (step_of n k)) (root d.world) [] refl (λ y l. h y)) ∙ follow_stop b)
 
-pub ruleset sweeps = (sweep_next, sweep_rest, entities_count, follow-end, follow-more)
+pub ruleset sweeps = (sweep_next, sweep_rest, entities_count, follow_stop, follow-more)

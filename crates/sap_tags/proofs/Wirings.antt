@@ -2,6 +2,7 @@
 use Rattle.std.proofs.Common.{◌≡◌, ℕ, zero, suc, ◌+◌, ◌<◌, ◌≤◌, ◌^◌, List, [], ◌∷◌, ◌++◌, length, get_or, drop, refl, sym, ap, ap₂, ◌∙◌, arith, add-one, append_assoc}
 use Rattle.std.specs.declared.vec.Vec.{Vec}
 use Rattle.std.specs.declared.alloc.Global.{Global}
+use Rattle.std.proofs.lemmas.List.{append-nil}
 use Rattle.sap_ir.specs.declared.guarded.Var.{Var}
 use Rattle.sap_meaning.specs.Program as program
 use Rattle.sap_meaning.specs.Program.{Arms, Last, Block, End, Then, Group, None, More, Node}
@@ -22,10 +23,6 @@ use Rattle.sap_tags.specs.Built.{arm_wires, commands_wires}
 use Rattle.sap_program.proofs.Shown.{command_of-do, command_of-try, command_of-if, command_of-then, command_of-case, state_of-out}
 use Rattle.sap_tags.proofs.Listed.{wires_before, wires_arms_are, wires_block_are, arms_drop, arms_past}
 use Rattle.sap_tags.proofs.Picked.{alone, alone_next, alone_past, counted}
-
-pub append_none : (l : List Var) → l ++ [] ≡ l
-append_none [] = refl
-append_none (x ∷ l) = ap (λ (r : List Var). x ∷ r) (append_none l)
 
 -- sites
 
@@ -189,7 +186,7 @@ module _ (d : Named) (tag n : ℕ) where
           ∙ ap (λ (x : Arms). old ++ arms_wires d tag k x) (sym (alone_next n arms i a l is)) ∙ e)
 
     pub arm_end : (k : ℕ) (new all : List Var) → length arms ≤ i → new ++ arms_wires d tag k (alone n (drop i arms)) ≡ all → new ≡ all
-    arm_end k new all l e = sym (append_none new) ∙ ap (λ (x : Arms). new ++ arms_wires d tag k x) (sym (alone_past n arms i l)) ∙ e
+    arm_end k new all l e = sym (append-nil new) ∙ ap (λ (x : Arms). new ++ arms_wires d tag k x) (sym (alone_past n arms i l)) ∙ e
 
     pub arm_last : (k total : ℕ) → length arms ≤ i → k + arm_wires (drop i arms) ≡ total → k ≡ total
     arm_last k total l e = let r = arms_past arms i l in omega (arith, r, e)
@@ -213,7 +210,7 @@ module _ (d : Named) (tag n : ℕ) where
           ∙ ap (λ (b : Block). old ++ block_wires d tag k b) (sym (block-drop n cs i c l is)) ∙ e)
 
     pub block_end : (k : ℕ) (new all : List Var) → length cs ≤ i → new ++ block_wires d tag k (block_of n (drop i cs)) ≡ all → new ≡ all
-    block_end k new all l e = sym (append_none new) ∙ ap (λ (b : Block). new ++ block_wires d tag k b) (sym (block-past n cs i l)) ∙ e
+    block_end k new all l e = sym (append-nil new) ∙ ap (λ (b : Block). new ++ block_wires d tag k b) (sym (block-past n cs i l)) ∙ e
 
     pub block_last : (k total : ℕ) → length cs ≤ i → k + wires_block (block_of n (drop i cs)) ≡ total → k ≡ total
     block_last k total l e = let r = ap (λ (b : Block). k + wires_block b) (sym (block-past n cs i l)) ∙ e in omega (arith, r)
@@ -239,17 +236,17 @@ module _ (d : Named) (tag n : ℕ) where
           ∙ ap (λ (g : Group). old ++ group_wires d tag k g) (sym (group-drop n ss i s l is)) ∙ e)
 
     pub group_end : (k : ℕ) (new all : List Var) → length ss ≤ i → new ++ group_wires d tag k (group_of n (drop i ss)) ≡ all → new ≡ all
-    group_end k new all l e = sym (append_none new) ∙ ap (λ (g : Group). new ++ group_wires d tag k g) (sym (group-past n ss i l)) ∙ e
+    group_end k new all l e = sym (append-nil new) ∙ ap (λ (g : Group). new ++ group_wires d tag k g) (sym (group-past n ss i l)) ∙ e
 
     pub group_last : (k total : ℕ) → length ss ≤ i → k + wires_group (group_of n (drop i ss)) ≡ total → k ≡ total
     group_last k total l e = let r = ap (λ (g : Group). k + wires_group g) (sym (group-past n ss i l)) ∙ e in omega (arith, r)
 
 pub ruleset commands = (command_of-do, command_of-try, command_of-if, command_of-then, append_assoc)
 
-pub ruleset arms = (append_none)
+pub ruleset arms = (append-nil)
 
-pub ruleset blocks = (append_none)
+pub ruleset blocks = (append-nil)
 
 pub ruleset states = (state_of-out, append_assoc)
 
-pub ruleset groups = (append_none)
+pub ruleset groups = (append-nil)

@@ -1,9 +1,11 @@
 -- Entities and their words, as the code takes them.
-use Rattle.std.proofs.Common.{◌≡◌, ℕ, ◌-◌, ◌+◌, zero, suc, ◌++◌, ◌^◌, ◌<◌, ◌≤◌, List, [], ◌∷◌, Bool, map, length, get_or, true, false, refl, ap, ◌∙◌, arith, nat_lt, if◌then◌else◌}
+use Rattle.std.proofs.Common.{◌≡◌, ℕ, ◌-◌, ◌+◌, zero, suc, ◌++◌, ◌^◌, ◌<◌, ◌≤◌, Bool, map, length, get_or, true, false, refl, ap, ◌∙◌, arith, nat_lt, if◌then◌else◌}
 use Rattle.std.specs.Prelude.{codes, ◌==◌}
-use Rattle.std.proofs.lemmas.Grind.{common_steps}
-use Rattle.std.proofs.lemmas.List.{get_or-map}
+use Rattle.std.proofs.lemmas.List.{get_or-map, get_or_past}
 use Rattle.std.specs.Fmt.{decimal}
+use Rattle.sap_lemmas.proofs.Lists.{length_map}
+use Rattle.std.proofs.lemmas.Bool.{le-ltb}
+use Rattle.sap_resolve.proofs.SizedLemmas.{ranged_width}
 use Rattle.sap_lattice.specs.Levels.{Levels}
 use Rattle.sap_interface.specs.StandsFor.{name, world}
 use Rattle.sap_meaning.specs.Program.{World, entity, nothing}
@@ -19,26 +21,13 @@ use Rattle.sap_resolve.specs.Sized.Ranges.{RangedTerm}
 use Rattle.sap_tagged.specs.Setting.{Setting}
 use Rattle.sap_tagged.specs.Levels.{bits, placed}
 use Rattle.sap_terms.specs.Code.{named_over}
-use Rattle.sap_tagged.proofs.Fits.{ranged_width}
 use Rattle.sap_tagged.proofs.Numerals.{numeral_decimal}
-
-length_map : {A B : Type 0} (f : A → B) (xs : List A) → length (map f xs) ≡ length xs
-length_map f [] = refl
-length_map f (x ∷ xs) = ap (λ (n : ℕ). suc n) (length_map f xs)
-
-beyond : (x n : ℕ) → n ≤ x → nat_lt x n ≡ false
-beyond x n h = grind (arith, common_steps)
-
-past : {A : Type 0} (xs : List A) (x : ℕ) (a : A) → length xs ≤ x → get_or xs x a ≡ a
-past [] x a h = refl
-past (y ∷ ys) zero a h = absurd (omega (arith, h))
-past (y ∷ ys) (suc x) a h = past ys x a (omega (arith, h))
 
 -- words
 
 pub word_past : (ls : Levels) (p : Program) (x : ℕ) → length p.entities.items ≤ x → entity_word (named_over ls p) x ≡ numeral x
 word_past ls p x l =
-    ap (λ (b : Bool). if b then name (named_over ls p) x else numeral x) (ap (nat_lt x) (length_map entity_of p.entities.items) ∙ beyond x (length p.entities.items) l)
+    ap (λ (b : Bool). if b then name (named_over ls p) x else numeral x) (ap (nat_lt x) (length_map entity_of p.entities.items) ∙ le-ltb x (length p.entities.items) l)
 
 pub seat_word_is : (ls : Levels) (p : Program) (x : ℕ) → (x == length p.entities.items) ≡ false → key_name (named_over ls p) (Seat x) ≡ codes "s_" ++ entity_word (named_over ls p) x
 seat_word_is ls p x e = rw (length_map entity_of p.entities.items, e) refl
@@ -57,7 +46,7 @@ pub entity_found : (ls : Levels) (p : Program) (x : ℕ) (e : Entity) → x < le
 entity_found ls p x e l i = get_or-map entity_of p.entities.items x e nothing l ∙ ap entity_of i
 
 pub entity_past : (ls : Levels) (p : Program) (x : ℕ) → length p.entities.items ≤ x → entity (world (named_over ls p)) x ≡ nothing
-entity_past ls p x l = past (map entity_of p.entities.items) x nothing (let e : length (map entity_of p.entities.items) ≡ length p.entities.items = length_map entity_of p.entities.items in omega (arith, e, l))
+entity_past ls p x l = get_or_past (map entity_of p.entities.items) x nothing (let e : length (map entity_of p.entities.items) ≡ length p.entities.items = length_map entity_of p.entities.items in omega (arith, e, l))
 
 pub ruleset entities = (entity_found, entity_past)
 

@@ -2,7 +2,9 @@
 use Rattle.std.proofs.Common.{◌≡◌, ℕ, zero, suc, ◌+◌, ◌<◌, ◌≤◌, true, List, [], ◌∷◌, ◌++◌, Option, Some, None, length, take, map, refl, sym, ap, ◌∙◌, arith, if◌then◌else◌}
 use Rattle.std.specs.Prelude.{All, option_map, slice_get}
 use Rattle.std.specs.List.{AllByRecursion}
-use Rattle.std.proofs.lemmas.List.{take_all}
+use Rattle.std.proofs.lemmas.List.{take_all, append-nil}
+use Rattle.sap_lemmas.proofs.Options.{some_same}
+use Rattle.sap_names.proofs.EntityKindLemmas.{some_kind}
 use Rattle.sap_tree.specs.Syntax.{DesignTree}
 use Rattle.sap_lattice.specs.Levels.{Levels}
 use Rattle.sap_names.specs.declared.kind.Declared.{Declared}
@@ -23,10 +25,6 @@ use Rattle.sap_sim.proofs.Registers.{each}
 use Rattle.sap_sim.specs.Labelled.Fields.{design_fields}
 use Rattle.sap_trace.specs.Fields.{field_of, field_at, fields_among}
 
-append_nil : (xs : List Field) → xs ++ [] ≡ xs
-append_nil [] = refl
-append_nil (x ∷ xs) = ap (λ (ys : List Field). x ∷ ys) (append_nil xs)
-
 append_three : (xs ys zs : List Field) → (xs ++ ys) ++ zs ≡ xs ++ (ys ++ zs)
 append_three [] ys zs = refl
 append_three (x ∷ xs) ys zs = ap (λ (us : List Field). x ∷ us) (append_three xs ys zs)
@@ -44,16 +42,10 @@ other_field (what.Register u) h = refl
 other_field (what.Memory u depth) h = refl
 other_field what.State h = refl
 
-some_kind : (a b : EntityKind) → Some a ≡ Some b → a ≡ b
-some_kind a b h = cc
-
-some_width : (a b : ℕ) → Some a ≡ Some b → a ≡ b
-some_width a b h = cc
-
 pub input_there : (o : Option Entity) (w : ℕ) → option_map (λ (e : Entity). kind_of e.what) o ≡ Some kinds.Input → option_map (λ (e : Entity). declared_width e.what) o ≡ Some w
     → field_at o ≡ Tagged w ∷ []
 input_there None w h e = cc
-input_there (Some x) w h e = input_field x.what w (some_kind (kind_of x.what) kinds.Input h) (some_width (declared_width x.what) w e)
+input_there (Some x) w h e = input_field x.what w (some_kind (kind_of x.what) kinds.Input h) (some_same (declared_width x.what) w e)
 
 pub other_there : (o : Option Entity) (k : EntityKind) → option_map (λ (e : Entity). kind_of e.what) o ≡ Some k → (k ≡ kinds.Input → ⊥) → field_at o ≡ []
 other_there None k h n = refl
@@ -64,7 +56,7 @@ pub fields_more : (es : List Entity) (n : ℕ) → n < length es → fields_amon
 fields_more es n h = let e : n + 1 ≡ suc n = omega arith in ap (λ (k : ℕ). fields_among (take k es)) e ∙ one_more es n h where
   one_more : (fs : List Entity) (k : ℕ) → k < length fs → fields_among (take (suc k) fs) ≡ fields_among (take k fs) ++ field_at (slice_get fs k)
   one_more [] k l = absurd (omega arith)
-  one_more (f ∷ fs) zero l = append_nil (field_of f.what)
+  one_more (f ∷ fs) zero l = append-nil (field_of f.what)
   one_more (f ∷ fs) (suc k) l =
       ap (λ (xs : List Field). field_of f.what ++ xs) (one_more fs k (omega arith))
       ∙ sym (append_three (field_of f.what) (fields_among (take k fs)) (field_at (slice_get fs k)))

@@ -1,5 +1,6 @@
 -- The lines of a netlist's run, cycle by cycle, and those of the labelled run for which it stands.
 use Rattle.std.proofs.Common.{◌≡◌, ℕ, suc, ◌+◌, ◌<◌, List, [], ◌∷◌, ◌++◌, length, map, refl, sym, ap, ap₂, ◌∙◌, arith}
+use Rattle.std.proofs.lemmas.List.{append-nil}
 use Rattle.sap_tree.specs.Syntax.{DesignTree}
 use Rattle.sap_lattice.specs.Levels.{Levels, order_of}
 use Rattle.sap_lattice.specs.Codes.{Codes}
@@ -17,7 +18,7 @@ use Rattle.sap_resolve.specs.Fill.{program_of}
 use Rattle.sap_secure.specs.CheckSites.Numbering.{OneNumbering}
 use Rattle.sap_trace.specs.Lines.{trace_of_run}
 use Rattle.sap_trace.specs.Seen.{seen_lines, lines_from}
-use Rattle.sap_trace.proofs.Seen.{append_nil, append_three, lines_told}
+use Rattle.sap_trace.proofs.Seen.{append_three, lines_told}
 
 -- what is seen of one cycle
 abbrev pub cycle_lines : Levels → DesignTree → Net → (c : ℕ) → Valuation → List ℕ
@@ -27,7 +28,7 @@ cycle_lines ls d n c v = seen_lines ls d c 1 (length (sites_of d)) (observed n v
 pub lines_last : (ls : Levels) (d : DesignTree) (n : Net) (c : ℕ) (vs : List Valuation) (v : Valuation)
     → lines_from ls d n c (vs ++ v ∷ []) ≡ lines_from ls d n c vs ++ cycle_lines ls d n (c + length vs) v
 lines_last ls d n c [] v =
-    let e : c ≡ c + 0 = omega arith in append_nil (cycle_lines ls d n c v) ∙ ap (λ (k : ℕ). cycle_lines ls d n k v) e
+    let e : c ≡ c + 0 = omega arith in append-nil (cycle_lines ls d n c v) ∙ ap (λ (k : ℕ). cycle_lines ls d n k v) e
 lines_last ls d n c (w ∷ vs) v =
     let e : c + 1 + length vs ≡ c + suc (length vs) = omega arith in
     ap (λ (xs : List ℕ). cycle_lines ls d n c w ++ xs) (lines_last ls d n (c + 1) vs v)

@@ -2,6 +2,7 @@
 use Rattle.std.proofs.Common.{◌≡◌, ℕ, zero, suc, ◌+◌, ◌<◌, ◌≤◌, Bool, true, false, List, [], ◌∷◌, ◌++◌, Option, length, refl, sym, ap, ap₂, ◌∙◌, subst, arith, inl, inr, ◌↔◌, if◌then◌else◌}
 use Rattle.std.specs.Prelude.{◌==◌}
 use Rattle.std.proofs.lemmas.Bool.Decides.{Decides-eqb}
+use Rattle.std.proofs.lemmas.List.{append-nil}
 use Rattle.sap_tree.specs.Syntax.{DesignTree}
 use Rattle.sap_lattice.specs.Levels.{Levels, order_of}
 use Rattle.sap_lattice.specs.Codes.{Codes, code_of}
@@ -22,10 +23,6 @@ use Rattle.sap_secure.specs.CheckSites.Numbering.{numbers_from, OneNumbering}
 use Rattle.sap_trace.specs.Lines.{site_line, refusal_lines}
 use Rattle.sap_trace.specs.Seen.{coded_name, seen_line, seen_lines}
 
-pub append_nil : (xs : List ℕ) → xs ++ [] ≡ xs
-append_nil [] = refl
-append_nil (x ∷ xs) = ap (λ (ys : List ℕ). x ∷ ys) (append_nil xs)
-
 pub append_three : (xs ys zs : List ℕ) → (xs ++ ys) ++ zs ≡ xs ++ (ys ++ zs)
 append_three [] ys zs = refl
 append_three (x ∷ xs) ys zs = ap (λ (us : List ℕ). x ∷ us) (append_three xs ys zs)
@@ -33,7 +30,7 @@ append_three (x ∷ xs) ys zs = ap (λ (us : List ℕ). x ∷ us) (append_three 
 -- the lines of one site more
 seen_last : (ls : Levels) (d : DesignTree) (c k n : ℕ) (v : Valuation) → seen_lines ls d c k (suc n) v ≡ seen_lines ls d c k n v ++ seen_line ls d c (k + n) v
 seen_last ls d c k zero v =
-    let e : k ≡ k + 0 = omega arith in append_nil (seen_line ls d c k v) ∙ ap (λ (j : ℕ). seen_line ls d c j v) e
+    let e : k ≡ k + 0 = omega arith in append-nil (seen_line ls d c k v) ∙ ap (λ (j : ℕ). seen_line ls d c j v) e
 seen_last ls d c k (suc n) v =
     let e : suc k + n ≡ k + suc n = omega arith in
     ap (λ (xs : List ℕ). seen_line ls d c k v ++ xs) (seen_last ls d c (suc k) n v)
@@ -59,13 +56,13 @@ line_shown ls d c k v flag tag old new f t one e =
 
 pub line_hidden : (ls : Levels) (d : DesignTree) (c k : ℕ) (v : Valuation) (flag : ℕ) (old : List ℕ) → flag ≡ v.value (refused_name k) → (flag ≡ 1 → ⊥)
     → old ≡ old ++ seen_line ls d c k v
-line_hidden ls d c k v flag old f none = sym (append_nil old) ∙ ap (λ (xs : List ℕ). old ++ xs) (sym (decided (v.value (refused_name k) == 1) refl)) where
+line_hidden ls d c k v flag old f none = sym (append-nil old) ∙ ap (λ (xs : List ℕ). old ++ xs) (sym (decided (v.value (refused_name k) == 1) refl)) where
   decided : (b : Bool) → (v.value (refused_name k) == 1) ≡ b → (if b then site_line d c k (coded_name ls (v.value (ports.level_name k))) else []) ≡ []
   decided true t = absurd (none (f ∙ (Decides-eqb (v.value (refused_name k)) 1).0 t))
   decided false t = refl
 
 pub no_lines : (old : List ℕ) → old ≡ old ++ []
-no_lines old = sym (append_nil old)
+no_lines old = sym (append-nil old)
 
 -- a site among some numbers
 beyond : (m n : ℕ) (rs : List Refusal) → Sublist (refused_sites rs) (numbers_from m n) → (k t : ℕ) → IsRefusedAt rs k t → m ≤ k

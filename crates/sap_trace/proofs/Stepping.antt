@@ -2,6 +2,7 @@
 use Rattle.std.proofs.Common.{◌≡◌, ℕ, ◌+◌, ◌<◌, List, [], ◌∷◌, ◌++◌, Option, Some, None, length, map, refl, sym, ap, ap₂, ◌∙◌, subst, arith}
 use Rattle.std.specs.List.{last_or}
 use Rattle.std.proofs.lemmas.List.{map-append, length-map}
+use Rattle.sap_stim.proofs.FitsLemmas.{line_count}
 use Rattle.sap_tree.specs.Syntax.{DesignTree}
 use Rattle.sap_lattice.specs.Levels.{Levels, order_of}
 use Rattle.sap_lattice.specs.Codes.{Codes}
@@ -21,7 +22,6 @@ use Rattle.sap_stim.specs.declared.field.Field.{Field}
 use Rattle.sap_stim.specs.Fits.{LineFits, StimulusFits}
 use Rattle.sap_sim.specs.Labelled.Fields.{design_fields}
 use Rattle.sap_sim.proofs.labelled.Designs.{fit_stream}
-use Rattle.sap_sim.proofs.Fits.{line_count}
 use Rattle.sap_sim.specs.Labelled.RunOf.{read_for}
 use Rattle.sap_sim.proofs.OneMore.{run_split, run_ends, EndsIn, last_pushed, run_front, no_run}
 use Rattle.sap_sim.proofs.Runs.{run_count}

@@ -1,11 +1,17 @@
 -- The netlist of a walk's wires is a netlist.
-use Rattle.std.proofs.Common.{◌≡◌, ℕ, ◌||◌, ◌&&◌, List, [], ◌∷◌, ◌++◌, map, filter, Some, Bool, true, false, sym, ap, ap₂, ◌∙◌, subst, refl, inl, inr, arith, append-nil}
+use Rattle.std.proofs.Common.{◌≡◌, ℕ, ◌||◌, ◌&&◌, List, [], ◌∷◌, ◌++◌, map, filter, Some, Bool, true, false, sym, ap, ap₂, ◌∙◌, subst, refl, inl, inr, arith}
 use Rattle.std.specs.Str.{bytes_eq}
 use Rattle.std.specs.List.{AllByRecursion}
-use Rattle.std.proofs.lemmas.Bool.{cases_Bool}
+use Rattle.std.proofs.lemmas.Bool.{cases_Bool, and_parts, or_parts}
+use Rattle.sap_lemmas.proofs.Bools.{or_true}
+use Rattle.sap_lemmas.proofs.Everywhere.{all_append, all_filter, all_follow, map_of_all}
+use Rattle.sap_lemmas.proofs.Texts.{bytes_eq_apart_back}
+use Rattle.std.proofs.lemmas.List.{append-nil as append_nothing}
+use Rattle.sap_net.proofs.RulesLemmas.{readable_both, wires_both}
+use Rattle.sap_net.proofs.NamesLemmas.{among_behind, among_front, distinct_both, each_among, filter_among, filter_distinct}
 use Rattle.sap_maps.specs.Maps.{Name}
 use Rattle.sap_maps.specs.Scope.{Scope, find}
-use Rattle.sap_maps.proofs.Scopes.{found_behind, apart_back}
+use Rattle.sap_maps.proofs.Scopes.{found_behind}
 use Rattle.sap_net.specs.Names.{is_name, is_among, AreDistinct}
 use Rattle.sap_net.specs.Net.{Net}
 use Rattle.sap_net.specs.declared.parts.PortKind.{PortKind}
@@ -23,11 +29,11 @@ use Rattle.sap_trim.specs.Replaced.{Stands, standing, standing_operand}
 use Rattle.sap_trim.specs.Walked.{State}
 use Rattle.sap_trim.specs.Built.{wire_of, register_of, memory_of, built}
 use Rattle.sap_fold.proofs.Helpers.{helper_is_name}
-use Rattle.sap_fold.proofs.Lists.{or_none, or_elim, or_true, among_front, among_behind, none_among, filter_among, filter_distinct, filter_append, filter_none, filter_same, filter_within, and_both, each_among, among_each, distinct_both, all_append, all_map, all_from}
-use Rattle.sap_trim.proofs.Declared.{wires_distinct, IsNewWire, each_new, all_filter, filter_holds, names_filter, names_append, declared_names, ports_in_front}
+use Rattle.sap_fold.proofs.Lists.{or_elim, none_among, filter_append, filter_none, filter_same, filter_within, among_each}
+use Rattle.sap_trim.proofs.Declared.{wires_distinct, IsNewWire, each_new, filter_holds, names_filter, names_append, declared_names, ports_in_front}
 use Rattle.sap_trim.proofs.Replaced.{Finds, name_fits, operand_fits}
 use Rattle.sap_fold.proofs.Provided as wires
-use Rattle.sap_fold.proofs.Provided.{Grows, operand_grows, readable_both, wires_both, readable_kept, new_behind}
+use Rattle.sap_fold.proofs.Provided.{Grows, operand_grows, readable_kept, new_behind}
 use Rattle.sap_trim.proofs.Follows.{Follows}
 
 -- What ports, registers and memories of a netlist read is in a scope.
@@ -68,12 +74,12 @@ built_shapes n ws e = memories_wide e n.memories
 
 -- a wire's name that none of those behind it has
 name_apart : (n m : Name) → is_among n (m ∷ []) ≡ false → bytes_eq n m ≡ false
-name_apart n m h = (or_none (bytes_eq n m) false h).0
+name_apart n m h = (or_parts (bytes_eq n m) false h).0
 
 shown_new : (ms : Shapes) (w : Wire) (sd : Scope) (xs : List Wire) → is_among w.name (names_of xs) ≡ false → AllByRecursion (IsNewWire ms sd) xs → AllByRecursion (IsNewWire ms ((w.name, w.width) ∷ sd)) xs
 shown_new ms w sd [] d a = tt
 shown_new ms w sd (x ∷ xs) d a =
-    let r = or_none (bytes_eq w.name x.name) (is_among w.name (names_of xs)) d in
+    let r = or_parts (bytes_eq w.name x.name) (is_among w.name (names_of xs)) d in
     let f = r.0 in
     ((a.0.0, rw f a.0.1, a.0.2), shown_new ms w sd xs r.1 a.1)
 
@@ -93,15 +99,15 @@ names_apart [] n h = tt
 names_apart (w ∷ ws) n h =
     let r = none_among n (w.name ∷ []) (names_of ws) h in
     let q : bytes_eq n w.name ≡ false = name_apart n w.name r.0 in
-    (apart_back n w.name q, names_apart ws n r.1)
+    (bytes_eq_apart_back n w.name q, names_apart ws n r.1)
 
 pub untaken : (taken : Name → Bool) (ws : List Wire) (next : ℕ) → Numbers taken ws next → AllByRecursion (λ x. taken x ≡ false) (names_of ws)
-untaken taken ws next n = all_map (λ x. taken x ≡ false) (λ (w : Wire). w.name) ws (all_from _ (λ (w : Wire). taken w.name ≡ false) ws (λ w h. h.3) n.each)
+untaken taken ws next n = map_of_all (λ x. taken x ≡ false) (λ (w : Wire). w.name) ws (all_follow _ (λ (w : Wire). taken w.name ≡ false) ws (λ w h. h.3) n.each)
 
 helpers_named : (taken : Name → Bool) (ws : List Wire) (next : ℕ) → Numbers taken ws next → AllByRecursion (λ x. is_name x ≡ true) (names_of ws)
 helpers_named taken ws next n =
-    all_map (λ x. is_name x ≡ true) (λ (w : Wire). w.name) ws
-    (all_from _ (λ (w : Wire). is_name w.name ≡ true) ws (λ w h. subst (λ (x : Name). is_name x ≡ true) (sym h.2) (helper_is_name h.0 (omega (arith, h.1, n.small)))) n.each)
+    map_of_all (λ x. is_name x ≡ true) (λ (w : Wire). w.name) ws
+    (all_follow _ (λ (w : Wire). is_name w.name ≡ true) ws (λ w h. subst (λ (x : Name). is_name x ≡ true) (sym h.2) (helper_is_name h.0 (omega (arith, h.1, n.small)))) n.each)
 
 -- a name that is taken is none of untaken ones
 apart_names : (taken : Name → Bool) (ns : List Name) → AllByRecursion (λ x. taken x ≡ false) ns → (x : Name) → taken x ≡ true → is_among x ns ≡ false
@@ -115,9 +121,6 @@ not_among : (x : Name) (ns : List Name) (kept : Bool) → kept ≡ false → (is
 not_among x ns kept f h =
     elim (cases_Bool (is_among x ns)) [ inl t ↦ absurd (let e = h t in cc) | inr g ↦ g ]
 
-append_nothing : (xs : List Name) → xs ++ [] ≡ xs
-append_nothing xs = append-nil xs
-
 -- port wires are new behind helping wires
 still_new : (ms : Shapes) (sc : Scope) (hs : List Wire) (taken : Name → Bool) (xs : List Wire) → AllByRecursion (λ x. taken x ≡ false) (names_of hs) → AllByRecursion (λ w. taken w.name ≡ true) xs → AllByRecursion (IsNewWire ms sc) xs → AllByRecursion (IsNewWire ms (readable_after sc hs)) xs
 still_new ms sc hs taken [] f a b = tt
@@ -126,7 +129,7 @@ still_new ms sc hs taken (x ∷ xs) f a b =
 
 port_taken : (n : Net) (taken : Name → Bool) → ((x : Name) → taken x ≡ is_among x (lasting_names n)) → (xs : List Wire) → AllByRecursion (λ w. is_among w.name (port_names n) ≡ true) xs → AllByRecursion (λ w. taken w.name ≡ true) xs
 port_taken n taken is xs a =
-    all_from (λ w. is_among w.name (port_names n) ≡ true) (λ w. taken w.name ≡ true) xs (λ w h. is w.name ∙ among_front w.name (port_names n) (register_names n ++ memory_names n) h) a
+    all_follow (λ w. is_among w.name (port_names n) ≡ true) (λ w. taken w.name ≡ true) xs (λ w h. is w.name ∙ among_front w.name (port_names n) (register_names n ++ memory_names n) h) a
 
 among_some : (f : Port → Bool) (ps : List Port) (x : Name) → is_among x (map (λ p. p.name) (filter f ps)) ≡ true → is_among x (map (λ p. p.name) ps) ≡ true
 among_some f [] x h = h
@@ -232,7 +235,7 @@ built_rules n taken so s k =
     let free = untaken taken s.wires s.next f.named in
     let apart : (x : Name) → kept x ≡ true → is_among x H ≡ false = λ x h. apart_names taken H free x (k.taken_is x ∙ h) in
     let none_of : (ns : List Name) → ((x : Name) → is_among x ns ≡ true → kept x ≡ true) → filter (λ x. is_among x ns) H ≡ [] =
-    λ ns h. filter_none (λ x. is_among x ns) H (all_from (λ x. taken x ≡ false) (λ x. is_among x ns ≡ false) H (λ x t. not_among x ns (kept x) (sym (k.taken_is x) ∙ t) (h x)) free) in
+    λ ns h. filter_none (λ x. is_among x ns) H (all_follow (λ x. taken x ≡ false) (λ x. is_among x ns ≡ false) H (λ x t. not_among x ns (kept x) (sym (k.taken_is x) ∙ t) (h x)) free) in
     let in_r : (x : Name) → is_among x R ≡ true → kept x ≡ true = λ x h. among_behind x P (R ++ M) (among_front x R M h) in
     let in_m : (x : Name) → is_among x M ≡ true → kept x ≡ true = λ x h. among_behind x P (R ++ M) (among_behind x R M h) in
     let in_p : (x : Name) → is_among x P ≡ true → kept x ≡ true = λ x h. among_front x P (R ++ M) h in
@@ -247,7 +250,7 @@ built_rules n taken so s k =
       module_named = rules.module_named;
       named = all_append (λ x. is_name x ≡ true) (filter kept n.names) H (all_filter (λ x. is_name x ≡ true) kept n.names rules.named) (helpers_named taken s.wires s.next f.named);
       declared_once = distinct_both (filter kept n.names) H (filter_distinct kept n.names rules.declared_once) (wires_distinct (shapes n) s.wires sc f.fits)
-          (λ x h. apart x ((and_both (is_among x n.names) (kept x) (sym (filter_among kept n.names x) ∙ h)).1));
+          (λ x h. apart x ((and_parts (is_among x n.names) (kept x) (sym (filter_among kept n.names x) ∙ h)).1));
       declared = λ x.
           declared_names (input_names n) (wire_names n) R M P n.names H (names_of shown) rules.declared (inputs_are_ports n rules) (shown_among n) x
           ∙ sym (ap₂ (λ (a b : List Name). is_among x (input_names n ++ a ++ b ++ memory_names B)) ew er ∙ ap (λ (c : List Name). is_among x (input_names n ++ (H ++ names_of shown) ++ R ++ c)) em);

@@ -1,6 +1,7 @@
 -- One pass behind another.
 use Rattle.std.proofs.Common.{◌≡◌, ℕ, List, [], ◌∷◌, map, None, sym, ap, ◌∙◌, subst, refl}
 use Rattle.std.specs.List.{AllByRecursion}
+use Rattle.sap_lemmas.proofs.Everywhere.{all_of_map, map_of_all}
 use Rattle.sap_maps.specs.Maps.{Name, Valuation}
 use Rattle.sap_net.specs.Net.{Net}
 use Rattle.sap_net.specs.declared.parts.Port.{Port}
@@ -11,7 +12,6 @@ use Rattle.sap_net.specs.IsNetlist.{width_of, IsNetlist}
 use Rattle.sap_net.specs.Runs.{AllFit, observed}
 use Rattle.sap_net.proofs.Exists.{run_exists}
 use Rattle.sap_trim.specs.Alike.{DeclaresAlike, ShowsAlike, AllShowAlike, RunsAlike}
-use Rattle.sap_fold.proofs.Lists.{all_map, map_all}
 
 joined : {X : Type 0} (f g h : Name → X) (xs : List Name) → AllByRecursion (λ x. f x ≡ g x) xs → AllByRecursion (λ x. g x ≡ h x) xs → AllByRecursion (λ x. f x ≡ h x) xs
 joined f g h [] a b = tt
@@ -24,10 +24,10 @@ joined_at f g h (x ∷ xs) a b = (λ i. a.0 i ∙ b.0 i, joined_at f g h xs a.1 
 -- by names
 
 by_ports : (P : Name → Type 0) (ps : List Port) → AllByRecursion (λ p. P p.name) ps → AllByRecursion P (map (λ p. p.name) ps)
-by_ports P ps a = all_map P (λ (p : Port). p.name) ps a
+by_ports P ps a = map_of_all P (λ (p : Port). p.name) ps a
 
 of_ports : (P : Name → Type 0) (ps : List Port) → AllByRecursion P (map (λ p. p.name) ps) → AllByRecursion (λ p. P p.name) ps
-of_ports P ps a = map_all P (λ (p : Port). p.name) ps a
+of_ports P ps a = all_of_map P (λ (p : Port). p.name) ps a
 
 first_of : (rs : List Register) → map (λ (e : Name × (ℕ × ℕ)). e.0) (map (λ r. (r.name, (r.width, r.start))) rs) ≡ map (λ r. r.name) rs
 first_of [] = refl
@@ -64,15 +64,15 @@ shows_both a b c d u v w s t =
     let g = (observed b v).value in
     let h = (observed c w).value in
     let p : AllByRecursion (λ p. g p.name ≡ h p.name) a.ports = subst (λ (ps : List Port). AllByRecursion (λ p. g p.name ≡ h p.name) ps) d.ports t.ports in
-    let r : AllByRecursion (λ x. g x ≡ h x) (map (λ r. r.name) a.registers) = subst (AllByRecursion (λ x. g x ≡ h x)) (registers_same a b d) (all_map (λ x. g x ≡ h x) (λ (r : Register). r.name) b.registers t.registers) in
+    let r : AllByRecursion (λ x. g x ≡ h x) (map (λ r. r.name) a.registers) = subst (AllByRecursion (λ x. g x ≡ h x)) (registers_same a b d) (map_of_all (λ x. g x ≡ h x) (λ (r : Register). r.name) b.registers t.registers) in
     let fc = (observed a u).cell in
     let gc = (observed b v).cell in
     let hc = (observed c w).cell in
-    let m : AllByRecursion (λ x. (i : ℕ) → gc x i ≡ hc x i) (map (λ m. m.name) a.memories) = subst (AllByRecursion (λ x. (i : ℕ) → gc x i ≡ hc x i)) (memories_same a b d) (all_map (λ x. (i : ℕ) → gc x i ≡ hc x i) (λ (m : Memory). m.name) b.memories t.memories) in
+    let m : AllByRecursion (λ x. (i : ℕ) → gc x i ≡ hc x i) (map (λ m. m.name) a.memories) = subst (AllByRecursion (λ x. (i : ℕ) → gc x i ≡ hc x i)) (memories_same a b d) (map_of_all (λ x. (i : ℕ) → gc x i ≡ hc x i) (λ (m : Memory). m.name) b.memories t.memories) in
     record {
       ports = of_ports (λ x. f x ≡ h x) a.ports (joined f g h (map (λ p. p.name) a.ports) (by_ports (λ x. f x ≡ g x) a.ports s.ports) (by_ports (λ x. g x ≡ h x) a.ports p));
-      registers = map_all (λ x. f x ≡ h x) (λ (r : Register). r.name) a.registers (joined f g h (map (λ r. r.name) a.registers) (all_map (λ x. f x ≡ g x) (λ (r : Register). r.name) a.registers s.registers) r);
-      memories = map_all (λ x. (i : ℕ) → fc x i ≡ hc x i) (λ (m : Memory). m.name) a.memories (joined_at fc gc hc (map (λ m. m.name) a.memories) (all_map (λ x. (i : ℕ) → fc x i ≡ gc x i) (λ (m : Memory). m.name) a.memories s.memories) m);
+      registers = all_of_map (λ x. f x ≡ h x) (λ (r : Register). r.name) a.registers (joined f g h (map (λ r. r.name) a.registers) (map_of_all (λ x. f x ≡ g x) (λ (r : Register). r.name) a.registers s.registers) r);
+      memories = all_of_map (λ x. (i : ℕ) → fc x i ≡ hc x i) (λ (m : Memory). m.name) a.memories (joined_at fc gc hc (map (λ m. m.name) a.memories) (map_of_all (λ x. (i : ℕ) → fc x i ≡ gc x i) (λ (m : Memory). m.name) a.memories s.memories) m);
     }
 
 all_both : (a b c : Net) → DeclaresAlike a b → (us vs ws : List Valuation) → AllShowAlike a b us vs → AllShowAlike b c vs ws → AllShowAlike a c us ws

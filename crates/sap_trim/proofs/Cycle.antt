@@ -3,9 +3,13 @@ use Rattle.std.proofs.Common.{◌≡◌, ℕ, List, [], ◌∷◌, ◌++◌, map
 use Rattle.std.specs.Str.{bytes_eq}
 use Rattle.std.specs.List.{AllByRecursion}
 use Rattle.std.proofs.lemmas.Bool.{cases_Bool}
+use Rattle.sap_lemmas.proofs.Everywhere.{all_equal, all_equal_at, all_of_map, all_second, map_of_all}
+use Rattle.sap_lemmas.proofs.Texts.{equal_of_bytes_eq}
+use Rattle.sap_net.proofs.NamesLemmas.{each_among, found_of, not_found}
+use Rattle.sap_maps.proofs.ScopeLemmas.{found_first, found_second}
 use Rattle.sap_maps.specs.Maps.{Name, Valuation}
 use Rattle.sap_maps.specs.Scope.{Scope, find, Agree}
-use Rattle.sap_maps.proofs.Scopes.{name_is, found_here, agree_more, agree_both}
+use Rattle.sap_maps.proofs.Scopes.{found_here, agree_more, agree_both}
 use Rattle.sap_net.specs.Names.{is_among}
 use Rattle.sap_net.specs.Net.{Net}
 use Rattle.sap_net.specs.declared.parts.PortKind.{PortKind}
@@ -28,7 +32,7 @@ use Rattle.sap_trim.specs.Replaced.{Stands, standing_operand}
 use Rattle.sap_fold.specs.Equals.{Over}
 use Rattle.sap_trim.specs.Walked.{State, Begins, Folds, Walked}
 use Rattle.sap_trim.specs.Built.{wire_of, register_of, memory_of, built}
-use Rattle.sap_fold.proofs.Lists.{among_found, not_found, found_first, found_second, each_among, among_each, all_map, map_all, all_second}
+use Rattle.sap_fold.proofs.Lists.{among_each}
 use Rattle.sap_trim.proofs.Replaced.{Means, operand_same}
 use Rattle.sap_fold.proofs.Provided.{Grows, holds_both, readable_kept}
 use Rattle.sap_trim.proofs.Follows.{taken_apart, SettledIn, settled_first, settled_next, begins_follow, begins_mean, means_walk}
@@ -72,7 +76,7 @@ cells_agree : (f g : Memory → ℕ → ℕ) (ms : List Memory) (v w : Valuation
 cells_agree f g [] v w a b e n u h i = absurd (cc)
 cells_agree f g (m ∷ ms) v w a b e n u h i =
     elim (cases_Bool (bytes_eq m.name n)) [
-      | inl t ↦ subst (λ (x : Name). v.cell x i ≡ w.cell x i) (name_is m.name n t) (a.0 i ∙ e.0 i ∙ sym (b.0 i))
+      | inl t ↦ subst (λ (x : Name). v.cell x i ≡ w.cell x i) (equal_of_bytes_eq m.name n t) (a.0 i ∙ e.0 i ∙ sym (b.0 i))
       | inr q ↦ cells_agree f g ms v w a.1 b.1 e.1 n u (rw q at h) i
     ]
 
@@ -92,14 +96,6 @@ all_written : (ms : Shapes) (so : Scope) (e : Stands) (p q : Valuation) → Mean
 all_written ms so e p q k c [] a f = tt
 all_written ms so e p q k c (m ∷ xs) a f = (written_same ms so e p q k c m a.0 f.0, all_written ms so e p q k c xs a.1 f.1)
 
-all_equal : {X : Type 0} (xs : List X) (f : X → ℕ) → AllByRecursion (λ x. f x ≡ f x) xs
-all_equal [] f = tt
-all_equal (x ∷ xs) f = (refl, all_equal xs f)
-
-all_equal_at : {X : Type 0} (xs : List X) (f : X → ℕ → ℕ) → AllByRecursion (λ x. (i : ℕ) → f x i ≡ f x i) xs
-all_equal_at [] f = tt
-all_equal_at (x ∷ xs) f = (λ i. refl, all_equal_at xs f)
-
 -- inputs, registers and cells, as a cycle begins
 pub record SameFirst (n : Net) (v w : Valuation) : Type 0 where
   pub first : Agree (first_readable n) v w
@@ -111,8 +107,8 @@ begins_same n taken ws s t d None None xs v w b c k =
     let e = t.stands in
     record {
       first = agree_both _ _ v w (inputs_agree n.inputs xs v w c.given k.given)
-          (registers_agree (λ r. r.start) (λ r. r.start) n.registers v w c.begins.0 (map_all (λ r. w.value r.name ≡ r.start) (register_of e) n.registers k.begins.0) (all_equal n.registers (λ r. r.start)));
-      cells = cells_agree (λ m i. m.start) (λ m i. m.start) n.memories v w c.begins.1 (map_all (λ m. (i : ℕ) → w.cell m.name i ≡ m.start) (memory_of e) n.memories k.begins.1) (all_equal_at n.memories (λ m i. m.start));
+          (registers_agree (λ r. r.start) (λ r. r.start) n.registers v w c.begins.0 (all_of_map (λ r. w.value r.name ≡ r.start) (register_of e) n.registers k.begins.0) (all_equal n.registers (λ r. r.start)));
+      cells = cells_agree (λ m i. m.start) (λ m i. m.start) n.memories v w c.begins.1 (all_of_map (λ m. (i : ℕ) → w.cell m.name i ≡ m.start) (memory_of e) n.memories k.begins.1) (all_equal_at n.memories (λ m i. m.start));
       settled = settled_first n.wires v n.registers c.begins.0;
     }
 begins_same n taken ws s t d None (Some q) xs v w b c k = absurd b
@@ -123,9 +119,9 @@ begins_same n taken ws s t d (Some p) (Some q) xs v w b c k =
     record {
       first = agree_both _ _ v w (inputs_agree n.inputs xs v w c.given k.given)
           (registers_agree (λ r. operand_value p r.next) (λ r. operand_value q (standing_operand e r.next)) n.registers v w c.begins.0
-          (map_all (λ r. w.value r.name ≡ operand_value q r.next) (register_of e) n.registers k.begins.0) (nexts_same so e p q b.means n.registers d.walks.covers.nexts));
+          (all_of_map (λ r. w.value r.name ≡ operand_value q r.next) (register_of e) n.registers k.begins.0) (nexts_same so e p q b.means n.registers d.walks.covers.nexts));
       cells = cells_agree (written p) (λ m i. written q (memory_of e m) i) n.memories v w c.begins.1
-          (map_all (λ m. (i : ℕ) → w.cell m.name i ≡ written q m i) (memory_of e) n.memories k.begins.1)
+          (all_of_map (λ m. (i : ℕ) → w.cell m.name i ≡ written q m i) (memory_of e) n.memories k.begins.1)
           (all_written (shapes n) so e p q b.means b.cells n.memories d.walks.covers.writes (all_found n.memories d.walks.rules.memory_shapes));
       settled = settled_next n.wires (width_of n) p v n.registers b.equations b.settled c.begins.0;
     }
@@ -181,7 +177,7 @@ cells_seen ms so e v w k c x i h (m ∷ xs) a f =
 -- inputs and registers are found
 pub input_found : (n : Net) (x : Name) → is_among x (input_names n) ≡ true → (u : ℕ) × (find (first_readable n) x ≡ Some u)
 input_found n x h =
-    let r = among_found (λ (i : Input). i.name) (λ i. i.width) n.inputs x h in
+    let r = found_of (λ (i : Input). i.name) (λ i. i.width) n.inputs x h in
     (r.0, found_first (map (λ i. (i.name, i.width)) n.inputs) (map (λ r. (r.name, r.width)) n.registers) x r.0 r.1)
 
 pub register_found : (n : Net) (x : Name) → is_among x (register_names n) ≡ true → (u : ℕ) × (find (first_readable n) x ≡ Some u)
@@ -189,7 +185,7 @@ register_found n x h =
     elim (cases_Bool (is_among x (input_names n))) [
       | inl t ↦ input_found n x t
       | inr f ↦
-          let r = among_found (λ (r : Register). r.name) (λ r. r.width) n.registers x h in
+          let r = found_of (λ (r : Register). r.name) (λ r. r.width) n.registers x h in
           (r.0, found_second (map (λ i. (i.name, i.width)) n.inputs) (map (λ r. (r.name, r.width)) n.registers) x (not_found (λ (i : Input). i.name) (λ i. i.width) n.inputs x f) ∙ r.1)
     ]
 
@@ -221,12 +217,12 @@ cycle_shows n taken ws s t d q xs v w same c =
     let outs = map (wire_of e) (shown_wires n) in
     let k = d.walks.covers in
     let found = all_found n.memories d.walks.rules.memory_shapes in
-    let shown = all_map (λ x. v.value x ≡ w.value x) (λ (x : Wire). x.name) (shown_wires n)
+    let shown = map_of_all (λ x. v.value x ≡ w.value x) (λ (x : Wire). x.name) (shown_wires n)
     (shown_same so e (width_of (built n t.wires e)) v w same.means (shown_wires n) k.shown (holds_both (width_of (built n t.wires e)) w t.wires outs c.valuation.equations).1) in
     let seen : (x : Name) → v.value x ≡ w.value x → (observed n v).value x ≡ (observed (built n t.wires e) w).value x = λ x h. values_seen so e v w same.means x h n.registers k.nexts in
     record {
       ports = all_ports n d.walks.rules (λ x. (observed n v).value x ≡ (observed (built n t.wires e) w).value x) (λ j x p h. seen x (port_same n v w same.first shown j x p h));
-      registers = map_all (λ x. (observed n v).value x ≡ (observed (built n t.wires e) w).value x) (λ (r : Register). r.name) n.registers
+      registers = all_of_map (λ x. (observed n v).value x ≡ (observed (built n t.wires e) w).value x) (λ (r : Register). r.name) n.registers
           (each_among (λ x. (observed n v).value x ≡ (observed (built n t.wires e) w).value x) (register_names n) (λ x h. let r = register_found n x h in seen x (same.first x r.0 r.1)));
       memories = memories_seen (λ x. (i : ℕ) → (observed n v).cell x i ≡ (observed (built n t.wires e) w).cell x i) (shapes n)
           (λ x u h i. cells_seen (shapes n) so e v w same.means same.cells x i (same.cells x u h i) n.memories k.writes found) n.memories found;
@@ -299,5 +295,5 @@ declares_alike n taken ws s t d =
       registers = registers_declared t.stands n.registers;
       memories = memories_declared t.stands n.memories;
       widths = all_ports n d.walks.rules (λ x. width_of B x ≡ width_of n x)
-          (port_wide n B (built_first n t.wires t.stands) d.walks.rules rules (all_map (λ x. width_of B x ≡ width_of n x) (λ (x : Wire). x.name) (shown_wires n) wide));
+          (port_wide n B (built_first n t.wires t.stands) d.walks.rules rules (map_of_all (λ x. width_of B x ≡ width_of n x) (λ (x : Wire). x.name) (shown_wires n) wide));
     }

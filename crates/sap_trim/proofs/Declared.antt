@@ -4,22 +4,25 @@ use Rattle.std.specs.Str.{bytes_eq}
 use Rattle.std.specs.List.{AllByRecursion}
 use Rattle.std.proofs.lemmas.Bool.{cases_Bool}
 use Rattle.std.proofs.lemmas.List.{take-append-drop, take_at}
+use Rattle.sap_lemmas.proofs.Bools.{or_false, or_true}
+use Rattle.sap_lemmas.proofs.Texts.{equal_of_bytes_eq}
+use Rattle.sap_net.proofs.NamesLemmas.{among_append, filter_among}
 use Rattle.sap_maps.specs.Maps.{Name}
 use Rattle.sap_maps.specs.Scope.{Scope, find}
-use Rattle.sap_maps.proofs.Scopes.{name_is, found_here, not_behind}
+use Rattle.sap_maps.proofs.Scopes.{found_here, not_behind}
 use Rattle.sap_net.specs.Names.{is_among, AreDistinct}
 use Rattle.sap_net.specs.Rules.{Shapes, IsWidth, AreWires}
 use Rattle.sap_net.specs.declared.parts.Port.{Port}
 use Rattle.sap_net.specs.declared.parts.Wire.{Wire}
 use Rattle.sap_trim.specs.Names.{names_of}
-use Rattle.sap_fold.proofs.Lists.{or_true, or_false, among_append, filter_among, filter_append, filter_all}
+use Rattle.sap_fold.proofs.Lists.{filter_append, filter_all}
 
 pub wires_new : (ms : Shapes) (ws : List Wire) (sc : Scope) → AreWires ms sc ws → (n : Name) → is_among n (names_of ws) ≡ true → (find sc n ≡ None) × (find ms n ≡ None)
 wires_new ms [] sc a n h = absurd (cc)
 wires_new ms (w ∷ ws) sc a n h =
     elim (cases_Bool (bytes_eq n w.name)) [
       | inl t ↦
-          let e : w.name ≡ n = sym (name_is n w.name t) in
+          let e : w.name ≡ n = sym (equal_of_bytes_eq n w.name t) in
           (subst (λ (y : Name). find sc y ≡ None) e a.1, subst (λ (y : Name). find ms y ≡ None) e a.2)
       | inr f ↦
           let r = wires_new ms ws ((w.name, w.width) ∷ sc) a.4 n (rw f at h) in
@@ -48,11 +51,6 @@ pub each_new : (ms : Shapes) (ws : List Wire) (sc : Scope) → AreWires ms sc ws
 each_new ms [] sc a = tt
 each_new ms (w ∷ ws) sc a =
     ((a.0, a.1, a.2), less_new ms sc (w.name, w.width) ws (each_new ms ws ((w.name, w.width) ∷ sc) a.4))
-
-pub all_filter : {X : Type 0} (P : X → Type 0) (f : X → Bool) (xs : List X) → AllByRecursion P xs → AllByRecursion P (filter f xs)
-all_filter P f [] a = tt
-all_filter P f (x ∷ xs) a =
-    elim (cases_Bool (f x)) [ inl t ↦ rw t (a.0, all_filter P f xs a.1) | inr e ↦ rw e (all_filter P f xs a.1) ]
 
 pub filter_holds : {X : Type 0} (f : X → Bool) (xs : List X) → AllByRecursion (λ x. f x ≡ true) (filter f xs)
 filter_holds f [] = tt

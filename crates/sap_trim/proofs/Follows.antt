@@ -3,10 +3,14 @@ use Rattle.std.proofs.Common.{◌≡◌, ℕ, ◌^◌, ◌<◌, List, [], ◌∷
 use Rattle.std.specs.Prelude.{◌⊎◌, unwrap_or}
 use Rattle.std.specs.Str.{bytes_eq}
 use Rattle.std.specs.List.{AllByRecursion}
-use Rattle.std.proofs.lemmas.Bool.{cases_Bool}
+use Rattle.std.proofs.lemmas.Bool.{cases_Bool, or_parts}
+use Rattle.sap_lemmas.proofs.Everywhere.{all_follow, all_of_map, all_second}
+use Rattle.sap_lemmas.proofs.Texts.{equal_of_bytes_eq}
+use Rattle.sap_net.proofs.RulesLemmas.{values_found}
+use Rattle.sap_net.proofs.NamesLemmas.{among_behind, among_front, found_among, not_found}
+use Rattle.sap_maps.proofs.ScopeLemmas.{found_second}
 use Rattle.sap_maps.specs.Maps.{Name, Valuation}
 use Rattle.sap_maps.specs.Scope.{Scope, find, Agree}
-use Rattle.sap_maps.proofs.Scopes.{name_is, found_here, found_behind}
 use Rattle.sap_net.specs.Names.{is_among}
 use Rattle.sap_net.specs.Net.{Net}
 use Rattle.sap_net.specs.declared.parts.Port.{Port}
@@ -16,7 +20,7 @@ use Rattle.sap_net.specs.declared.parts.Memory.{Memory}
 use Rattle.sap_net.specs.declared.parts.Operand.{Operand}
 use Rattle.sap_net.specs.declared.parts.Operand.TheVariants.{Named, Constant}
 use Rattle.sap_net.specs.declared.parts.Wire.{Wire}
-use Rattle.sap_net.specs.Rules.{Shapes, IsWidth, IsOperand, IsRight, AreWires, AreValues, IsRegister, readable_after}
+use Rattle.sap_net.specs.Rules.{Shapes, IsWidth, IsOperand, IsRight, AreWires, IsRegister, readable_after}
 use Rattle.sap_net.specs.Values.{operand_value, right_value, Holds}
 use Rattle.sap_net.specs.IsNetlist.{input_names, register_names, memory_names, first_readable, readable, shapes, is_input, IsNetlist}
 use Rattle.sap_net.proofs.Settle.{CellsAgree}
@@ -28,7 +32,7 @@ use Rattle.sap_fold.specs.Gives as wires
 use Rattle.sap_fold.specs.Gives.{TakenApart, Provided}
 use Rattle.sap_trim.specs.Stays.{KeepsStart}
 use Rattle.sap_trim.specs.Walked.{State, Begins, SomeRegister, StartsAt, Copies, Folds, Walked}
-use Rattle.sap_fold.proofs.Lists.{or_none, among_front, among_behind, none_among, found_among, not_found, found_second, all_from, all_second, map_all}
+use Rattle.sap_fold.proofs.Lists.{none_among}
 use Rattle.sap_trim.proofs.Replaced.{Finds, Means, stands_for, replaced_fits, replaced_same}
 use Rattle.sap_fold.proofs.Provided.{Grows, operand_grows, readable_kept, grows_more, over_first}
 use Rattle.sap_fold.proofs.Becoming.{gives_provided}
@@ -59,7 +63,7 @@ means_more so e f x u o v w h i b y t k =
     elim (cases_Bool (bytes_eq x y)) [
       | inl q ↦
           let p : f y ≡ Some o = rw q at (b y) in
-          subst (λ (z : Name). v.value z ≡ operand_value w (standing f y)) (name_is x y q) (i ∙ sym (ap (operand_value w) (stands_for f y o p)))
+          subst (λ (z : Name). v.value z ≡ operand_value w (standing f y)) (equal_of_bytes_eq x y q) (i ∙ sym (ap (operand_value w) (stands_for f y o p)))
       | inr d ↦
           let p : f y ≡ e y = rw d at (b y) in
           h y t (rw d at k) ∙ ap (λ (z : Option Operand). operand_value w (unwrap_or z (Constant 0 0))) (sym p)
@@ -145,7 +149,7 @@ copies_walk taken (w ∷ ws) s t k = (k.0, copies_fold taken s k.0 w k.1, copies
 among_kept : (f : Port → Bool) (ps : List Port) (x : Name) → is_among x (map (λ p. p.name) ps) ≡ false → is_among x (map (λ p. p.name) (filter f ps)) ≡ false
 among_kept f [] x h = refl
 among_kept f (p ∷ ps) x h =
-    let r = or_none (bytes_eq x p.name) (is_among x (map (λ p. p.name) ps)) h in
+    let r = or_parts (bytes_eq x p.name) (is_among x (map (λ p. p.name) ps)) h in
     let q = r.0 in
     elim (cases_Bool (f p)) [
       | inl t ↦ rw (t, q) (among_kept f ps x r.1)
@@ -181,7 +185,7 @@ each_settled : (ws : List Wire) (rs : List Register) → AllByRecursion (HasStar
 each_settled ws [] = tt
 each_settled ws (r ∷ rs) = (
   λ v h. h.0,
-  all_from (HasStart ws rs) (HasStart ws (r ∷ rs)) rs (λ s h v k. h v k.1) (each_settled ws rs),
+  all_follow (HasStart ws rs) (HasStart ws (r ∷ rs)) rs (λ s h v k. h v k.1) (each_settled ws rs),
 )
 
 some_elim : (P : Register → Type 0) (G : Type 0) (rs : List Register) → AllByRecursion (λ r. P r → G) rs → SomeRegister P rs → G
@@ -189,16 +193,9 @@ some_elim P G [] a h = absurd h
 some_elim P G (r ∷ rs) a (inl h) = a.0 h
 some_elim P G (r ∷ rs) a (inr h) = some_elim P G rs a.1 h
 
-values_found : (ms : Shapes) (es : Scope) → AreValues ms es → AllByRecursion (λ e. find es e.0 ≡ Some e.1) es
-values_found ms [] a = tt
-values_found ms (e ∷ es) a = (
-  found_here e.0 e.1 es,
-  all_from (λ f. find es f.0 ≡ Some f.1) (λ f. find (e ∷ es) f.0 ≡ Some f.1) es (λ f h. found_behind es e.0 e.1 a.1 f.0 f.1 h) (values_found ms es a.3),
-)
-
 registers_found : (n : Net) → IsNetlist n → AllByRecursion (λ r. find (first_readable n) r.name ≡ Some r.width) n.registers
 registers_found n rules =
-    map_all (λ (e : Name × ℕ). find (first_readable n) e.0 ≡ Some e.1) (λ (r : Register). (r.name, r.width)) n.registers
+    all_of_map (λ (e : Name × ℕ). find (first_readable n) e.0 ≡ Some e.1) (λ (r : Register). (r.name, r.width)) n.registers
     (all_second {X = Name × ℕ} (λ (e : Name × ℕ). find (first_readable n) e.0 ≡ Some e.1) (map {B = Name × ℕ} (λ i. (i.name, i.width)) n.inputs) (map {B = Name × ℕ} (λ r. (r.name, r.width)) n.registers) (values_found (shapes n) (first_readable n) rules.values))
 
 -- What a name stands for at first: itself, or a number that it always has.
@@ -245,7 +242,7 @@ begins_at n rules s b x u h =
       | inl e ↦ let f : s.stands x ≡ Some (Named x) = e ∙ rw t refl in (Named x, f, inl refl)
       | inr q ↦
           some_elim (StartsAt n.wires x (s.stands x)) ((o : Operand) × (s.stands x ≡ Some o) × Begun n x u o) n.registers
-          (all_from (IsKept n) (λ r. StartsAt n.wires x (s.stands x) r → (o : Operand) × (s.stands x ≡ Some o) × Begun n x u o) n.registers (λ r k. begun_start n x u (s.stands x) r h k) kept) q
+          (all_follow (IsKept n) (λ r. StartsAt n.wires x (s.stands x) r → (o : Operand) × (s.stands x ≡ Some o) × Begun n x u o) n.registers (λ r k. begun_start n x u (s.stands x) r h k) kept) q
     ]
 
 begun_fits : (n : Net) (sc : Scope) (x : Name) (u : ℕ) (o : Operand) → find sc x ≡ Some u → Begun n x u o → IsOperand sc u o
@@ -278,7 +275,7 @@ begins_mean n rules s v w b a t x u h =
 -- from cycle to cycle
 
 pub settled_first : (ws : List Wire) (v : Valuation) (rs : List Register) → AllByRecursion (λ r. v.value r.name ≡ r.start) rs → SettledIn ws rs v
-settled_first ws v rs a = all_from (λ r. v.value r.name ≡ r.start) (λ r. KeepsStart ws r → v.value r.name ≡ r.start) rs (λ r h t. h) a
+settled_first ws v rs a = all_follow (λ r. v.value r.name ≡ r.start) (λ r. KeepsStart ws r → v.value r.name ≡ r.start) rs (λ r h t. h) a
 
 pub settled_next : (ws : List Wire) (widths : Name → ℕ) (p v : Valuation) (rs : List Register) → Holds widths p ws → SettledIn ws rs p → AllByRecursion (λ r. v.value r.name ≡ operand_value p r.next) rs → SettledIn ws rs v
 settled_next ws widths p v [] h s a = tt

@@ -2,10 +2,12 @@
 use Rattle.std.proofs.Common.{◌≡◌, ℕ, List, [], ◌∷◌, ◌++◌, filter, Some, None, Bool, true, false, sym, ap, ◌∙◌, subst, refl, inl, inr, append_assoc}
 use Rattle.std.specs.Str.{bytes_eq}
 use Rattle.std.specs.List.{AllByRecursion}
-use Rattle.std.proofs.lemmas.Bool.{cases_Bool}
+use Rattle.std.proofs.lemmas.Bool.{cases_Bool, or_parts}
+use Rattle.sap_lemmas.proofs.Texts.{bytes_eq_apart_back, equal_of_bytes_eq}
+use Rattle.sap_net.proofs.NamesLemmas.{among_behind, among_front, among_here}
 use Rattle.sap_maps.specs.Maps.{Name, Valuation}
 use Rattle.sap_maps.specs.Scope.{Scope, find}
-use Rattle.sap_maps.proofs.Scopes.{name_is, apart_back, not_behind, found_behind}
+use Rattle.sap_maps.proofs.Scopes.{not_behind, found_behind}
 use Rattle.sap_net.specs.Names.{is_among, AreDistinct}
 use Rattle.sap_net.specs.declared.parts.Operand.{Operand}
 use Rattle.sap_net.specs.declared.parts.Operand.TheVariants.{Named, Constant}
@@ -19,7 +21,6 @@ use Rattle.sap_net.specs.Values.{Holds}
 use Rattle.sap_trim.specs.Names.{names_of}
 use Rattle.sap_trim.specs.Reads.{operand_reads, operands_reads, right_reads, wire_reads, register_reads, memory_reads}
 use Rattle.sap_trim.specs.Needed.{is_needed, needed}
-use Rattle.sap_fold.proofs.Lists.{or_none, among_here, among_front, among_behind}
 use Rattle.sap_fold.proofs.Provided.{Grows}
 
 -- the same is found of each name on the list
@@ -75,7 +76,7 @@ smaller_both_more so sk y u s x h =
 agree_one_more : (xs : List Name) (so sk : Scope) (y : Name) (u : ℕ) → is_among y xs ≡ false → AgreeOn xs so sk → AgreeOn xs ((y, u) ∷ so) sk
 agree_one_more xs so sk y u n a x h =
     elim (cases_Bool (bytes_eq y x)) [
-      | inl t ↦ absurd (let g : is_among y xs ≡ true = subst (λ (z : Name). is_among z xs ≡ true) (sym (name_is y x t)) h in cc)
+      | inl t ↦ absurd (let g : is_among y xs ≡ true = subst (λ (z : Name). is_among z xs ≡ true) (sym (equal_of_bytes_eq y x t)) h in cc)
       | inr f ↦ rw f (a x h)
     ]
 
@@ -87,7 +88,7 @@ grows_both so sk y u g x t h =
     elim (cases_Bool (bytes_eq y x)) [ inl q ↦ rw q (rw q at h) | inr f ↦ rw f (g x t (rw f at h)) ]
 
 unread : (P E : List Name) (w : Wire) (ks : List Wire) → is_needed P E w ks ≡ false → is_among w.name (wire_reads ks ++ E) ≡ false
-unread P E w ks f = (or_none (is_among w.name P) (is_among w.name (wire_reads ks ++ E)) f).1
+unread P E w ks f = (or_parts (is_among w.name P) (is_among w.name (wire_reads ks ++ E)) f).1
 
 reads_of : (w : Wire) (ks : List Wire) (E : List Name) (so sk : Scope) → AgreeOn (wire_reads (w ∷ ks) ++ E) so sk → AgreeOn (right_reads w.right) so sk × AgreeOn (wire_reads ks ++ E) so sk
 reads_of w ks E so sk a =
@@ -198,7 +199,7 @@ needed_among : (P E : List Name) (ws : List Wire) (x : Name) → is_among x (nam
 needed_among P E [] x h = refl
 needed_among P E (w ∷ ws) x h =
     let ks = needed P E ws in
-    let r = or_none (bytes_eq x w.name) (is_among x (names_of ws)) h in
+    let r = or_parts (bytes_eq x w.name) (is_among x (names_of ws)) h in
     elim (cases_Bool (is_needed P E w ks)) [
       | inl t ↦ let q = r.0 in rw (t, q) (needed_among P E ws x r.1)
       | inr e ↦ rw e (needed_among P E ws x r.1)
@@ -207,8 +208,8 @@ needed_among P E (w ∷ ws) x h =
 others : (n : Name) (ks : List Wire) (ws : List Wire) → is_among n (names_of ws) ≡ false → AllByRecursion (λ w. is_among w.name (n ∷ names_of ks) ≡ is_among w.name (names_of ks)) ws
 others n ks [] h = tt
 others n ks (w ∷ ws) h =
-    let r = or_none (bytes_eq n w.name) (is_among n (names_of ws)) h in
-    let q = apart_back n w.name r.0 in
+    let r = or_parts (bytes_eq n w.name) (is_among n (names_of ws)) h in
+    let q = bytes_eq_apart_back n w.name r.0 in
     (rw q refl, others n ks ws r.1)
 
 pub needed_named : (P E : List Name) (ws : List Wire) → AreDistinct (names_of ws) → filter (λ w. is_among w.name (names_of (needed P E ws))) ws ≡ needed P E ws

@@ -7,7 +7,6 @@ use Rattle.std.specs.declared.vec.Vec.{Vec}
 use Rattle.std.specs.declared.alloc.Global.{Global}
 use Rattle.std.proofs.lemmas.Bool.{cases_Bool}
 use Rattle.sap_maps.specs.Maps.{Name}
-use Rattle.sap_maps.proofs.Scopes.{name_is, same_name, apart_back}
 use Rattle.sap_net.specs.Names.{is_among}
 use Rattle.sap_net.specs.Net.{Net}
 use Rattle.sap_net.specs.IsNetlist.{input_names, register_names}
@@ -23,10 +22,12 @@ use Rattle.sap_trim.specs.Names.{names_of, lasting_names}
 use Rattle.sap_trim.specs.Reads.{register_reads, memory_reads, edge_reads, right_reads, wire_reads}
 use Rattle.sap_trim.specs.Needed.{is_needed}
 use Rattle.std.specs.Map.{lookup}
+use Rattle.sap_lemmas.proofs.Bools.{or_false, or_true}
+use Rattle.sap_lemmas.proofs.Texts.{bytes_eq_apart_back, bytes_eq_same, equal_of_bytes_eq}
+use Rattle.sap_net.proofs.NamesLemmas.{among_append}
 use Rattle.sap_trim.specs.Replaced.{Stands, Binds, OperandMap, stands_in}
 use Rattle.sap_trim.specs.Stays.{KeepsStart}
 use Rattle.sap_trim.specs.Walked.{State, Walked, SomeRegister, StartsAt, Starts}
-use Rattle.sap_fold.proofs.Lists.{or_true, or_false, among_append}
 
 empty_holds : (s : NameSet) (n : Name) → s.keys ≡ [] → holds s n ≡ false
 empty_holds s n e = ap (λ (ks : List (Vec ℕ Global)). list_any (λ k. bytes_eq n k.items) ks) e
@@ -60,13 +61,13 @@ itself_more ns y d e f h b x =
     let s = among_append x ns (y ∷ []) in
     elim (cases_Bool (bytes_eq y x)) [
       | inl t ↦
-          let q : y ≡ x = name_is y x t in
-          let back : bytes_eq x y ≡ true = subst (λ (z : Name). bytes_eq x z ≡ true) (sym q) (same_name x) in
+          let q : y ≡ x = equal_of_bytes_eq y x t in
+          let back : bytes_eq x y ≡ true = subst (λ (z : Name). bytes_eq x z ≡ true) (sym q) (bytes_eq_same x) in
           let all : is_among x (ns ++ y ∷ []) ≡ true = s ∙ ap (λ (z : Bool). is_among x ns || (z || false)) back ∙ or_true (is_among x ns) in
           let g : f x ≡ Some (Named y) = rw t at (b x) in
           rw all (g ∙ ap (λ (z : Name). Some (Named z)) q)
       | inr n ↦
-          let back = apart_back y x n in
+          let back = bytes_eq_apart_back y x n in
           let all : is_among x (ns ++ y ∷ []) ≡ is_among x ns = s ∙ ap (λ (z : Bool). is_among x ns || (z || false)) back ∙ or_false (is_among x ns) in
           let g : f x ≡ e x = rw n at (b x) in
           g ∙ h x ∙ ap (λ (z : Bool). if z then Some (Named x) else d x) (sym all)
@@ -160,7 +161,7 @@ starts_push ws rs x a b c r h (inr q) = inr (some_last (StartsAt ws x c) rs r q)
 pub start_bound : (ws : List Wire) (e f : Stands) (r : Register) → KeepsStart ws r → Binds e r.name (Constant r.width r.start) f → (x : Name) → (f x ≡ e x) ⊎ StartsAt ws x (f x) r
 start_bound ws e f r s b x =
     elim (cases_Bool (bytes_eq r.name x)) [
-      | inl t ↦ inr (s, name_is r.name x t, rw t at (b x))
+      | inl t ↦ inr (s, equal_of_bytes_eq r.name x t, rw t at (b x))
       | inr n ↦ inl (rw n at (b x))
     ]
 

@@ -1,6 +1,7 @@
 -- What is known of the two passes.
 use Rattle.std.proofs.Common.{◌≡◌, ◌≤◌, ℕ, List, [], ◌∷◌, ◌++◌, filter, Some, Bool, false, sym, ap, ap₂, ◌∙◌, subst, refl, length}
 use Rattle.std.specs.List.{AllByRecursion}
+use Rattle.sap_lemmas.proofs.Everywhere.{all_filter, all_follow, all_of_map}
 use Rattle.sap_maps.specs.Maps.{Name}
 use Rattle.sap_maps.specs.Scope.{Scope, find}
 use Rattle.sap_net.specs.Names.{is_among}
@@ -15,9 +16,9 @@ use Rattle.sap_trim.specs.Trimmed.{AllDiffer, SharesWires, NamesWires, NumbersWi
 use Rattle.sap_trim.specs.Walked.{State, Begins, Folds, Copies, Walked}
 use Rattle.sap_trim.specs.Needed.{needed_wires}
 use Rattle.sap_trim.specs.Built.{built}
-use Rattle.sap_fold.proofs.Lists.{none_among, all_from, map_all}
+use Rattle.sap_fold.proofs.Lists.{none_among}
 use Rattle.sap_trim.proofs.Follows.{taken_apart, begins_follow, follows_walk, copies_walk}
-use Rattle.sap_trim.proofs.Declared.{wires_distinct, all_filter}
+use Rattle.sap_trim.proofs.Declared.{wires_distinct}
 use Rattle.sap_trim.specs.Alike.{DeclaresAlike, RunsAlike}
 use Rattle.sap_trim.proofs.Built.{Walks, built_rules, registers_named, memories_named, untaken}
 use Rattle.sap_trim.proofs.Cycle.{Done, found_each, runs_alike, declares_alike}
@@ -102,9 +103,9 @@ done_copy n taken kept s t ws rules is needs b e k =
 
 no_ports : (n : Net) (taken : Name → Bool) (so : Scope) (t : State) → Walks n taken so t → AllByRecursion (λ w. is_among w.name (port_names n) ≡ false) t.wires
 no_ports n taken so t k =
-    all_from (λ w. taken w.name ≡ false) (λ w. is_among w.name (port_names n) ≡ false) t.wires
+    all_follow (λ w. taken w.name ≡ false) (λ w. is_among w.name (port_names n) ≡ false) t.wires
     (λ w h. (none_among w.name (port_names n) (register_names n ++ memory_names n) (sym (k.taken_is w.name) ∙ h)).0)
-    (map_all (λ x. taken x ≡ false) (λ (w : Wire). w.name) t.wires (untaken taken t.wires t.next k.follows.named))
+    (all_of_map (λ x. taken x ≡ false) (λ (w : Wire). w.name) t.wires (untaken taken t.wires t.next k.follows.named))
 
 helpers_are : (n : Net) (taken : Name → Bool) (s t : State) → Dropped n taken s t → helping_wires (built n t.wires t.stands) ≡ t.wires
 helpers_are n taken s t d =
@@ -127,7 +128,7 @@ dropped_numbers n taken s t d = λ none.
 pub dropped_names : (n : Net) (taken : Name → Bool) (s t : State) → Dropped n taken s t → NamesWires (built n t.wires t.stands)
 dropped_names n taken s t d =
     subst (λ (xs : List Wire). AllByRecursion (λ w. (k : ℕ) × (w.name ≡ helper k)) xs) (sym (helpers_are n taken s t d))
-    (all_from _ (λ (w : Wire). (k : ℕ) × (w.name ≡ helper k)) t.wires (λ w h. (h.0, h.2)) d.done.walks.follows.named.each)
+    (all_follow _ (λ (w : Wire). (k : ℕ) × (w.name ≡ helper k)) t.wires (λ w h. (h.0, h.2)) d.done.walks.follows.named.each)
 
 pub dropped_reads : (n : Net) (taken : Name → Bool) (s t : State) → Dropped n taken s t → ReadsWires (built n t.wires t.stands)
 dropped_reads n taken s t d =

@@ -4,9 +4,13 @@ use Rattle.std.specs.Prelude.{◌⊎◌}
 use Rattle.std.specs.Str.{bytes_eq}
 use Rattle.std.specs.List.{AllByRecursion}
 use Rattle.std.proofs.lemmas.Bool.{cases_Bool}
+use Rattle.sap_lemmas.proofs.Bools.{or_false}
+use Rattle.sap_lemmas.proofs.Everywhere.{all_append, all_follow, map_of_all}
+use Rattle.sap_lemmas.proofs.Texts.{bytes_eq_same, equal_of_bytes_eq}
+use Rattle.sap_net.proofs.NamesLemmas.{among_behind, among_front, among_here}
 use Rattle.sap_maps.specs.Maps.{Name}
 use Rattle.sap_maps.specs.Scope.{Scope, find}
-use Rattle.sap_maps.proofs.Scopes.{name_is, same_name, apart, found_here, found_behind}
+use Rattle.sap_maps.proofs.Scopes.{apart, found_here, found_behind}
 use Rattle.sap_net.specs.Names.{is_among}
 use Rattle.sap_net.specs.Net.{Net}
 use Rattle.sap_net.specs.declared.parts.Operand.{Operand}
@@ -28,11 +32,11 @@ use Rattle.sap_trim.specs.Walked.{State, Copies, Walked}
 use Rattle.sap_trim.specs.Needed.{is_needed, needed, needed_wires}
 use Rattle.sap_trim.specs.Built.{wire_of, register_of, memory_of, built}
 use Rattle.sap_fold.proofs.Decoding.{key_is}
-use Rattle.sap_fold.proofs.Lists.{or_elim, or_false, among_here, among_front, among_behind, among_split, among_each, all_append, all_from, all_map}
+use Rattle.sap_fold.proofs.Lists.{or_elim, among_split, among_each}
 use Rattle.sap_trim.proofs.Replaced.{stands_for}
 
 single : (x z : Name) → is_among x (z ∷ []) ≡ true → x ≡ z
-single x z h = name_is x z (sym (or_false (bytes_eq x z)) ∙ h)
+single x z h = equal_of_bytes_eq x z (sym (or_false (bytes_eq x z)) ∙ h)
 
 -- x stands for the name y
 abbrev pub StandsFor : Stands → Name → Name → Type 0
@@ -83,7 +87,7 @@ found_reads [] u r n y e h = absurd (cc)
 found_reads (w ∷ ws) u r n y e h =
     elim (cases_Bool (bytes_eq (key w.width w.right) (key u r))) [
       | inl t ↦
-          let k = key_is w.width u w.right r (name_is (key w.width w.right) (key u r) t) in
+          let k = key_is w.width u w.right r (equal_of_bytes_eq (key w.width w.right) (key u r) t) in
           among_front y (right_reads w.right) (wire_reads ws) (subst (λ (q : Right). is_among y (right_reads q) ≡ true) (sym k.1) h)
       | inr f ↦ among_behind y (right_reads w.right) (wire_reads ws) (found_reads ws u r n y (rw f at e) h)
     ]
@@ -171,7 +175,7 @@ right_found ms so u (Slice z hi lo) h x t = (h.0, subst (λ (a : Name). find so 
 right_found ms so u (Cell m i) h x t = operand_found so h.0 i h.2 x t
 
 bound_here : (e f : Stands) (x : Name) (o : Operand) → Binds e x o f → f x ≡ Some o
-bound_here e f x o b = let t = same_name x in b x ∙ rw t refl
+bound_here e f x o b = let t = bytes_eq_same x in b x ∙ rw t refl
 
 bound_other : (e f : Stands) (x : Name) (o : Operand) → Binds e x o f → (y : Name) → bytes_eq x y ≡ false → f y ≡ e y
 bound_other e f x o b y d = b y ∙ rw d refl
@@ -210,8 +214,8 @@ walk_reads taken ms (w ∷ ws) so s t f k =
       more = a.0 ++ r.more;
       wires = r.wires ∙ ap (λ (ys : List Wire). ys ++ r.more) a.1 ∙ append_assoc s.wires a.0 r.more;
       images = all_append (λ h. (n : Name) × (is_among n (names_of (w ∷ ws)) ≡ true) × StandsFor t.stands n h.name) a.0 r.more
-          (all_from (λ h. c.operand ≡ Named h.name) (λ h. (n : Name) × (is_among n (names_of (w ∷ ws)) ≡ true) × StandsFor t.stands n h.name) a.0 (λ h e. (w.name, among_here w.name (names_of ws), here ∙ ap Some e)) a.2)
-          (all_from (λ h. (n : Name) × (is_among n (names_of ws) ≡ true) × StandsFor t.stands n h.name) (λ h. (n : Name) × (is_among n (names_of (w ∷ ws)) ≡ true) × StandsFor t.stands n h.name) r.more (λ h e. (e.0, among_behind e.0 (w.name ∷ []) (names_of ws) e.1, e.2)) r.images);
+          (all_follow (λ h. c.operand ≡ Named h.name) (λ h. (n : Name) × (is_among n (names_of (w ∷ ws)) ≡ true) × StandsFor t.stands n h.name) a.0 (λ h e. (w.name, among_here w.name (names_of ws), here ∙ ap Some e)) a.2)
+          (all_follow (λ h. (n : Name) × (is_among n (names_of ws) ≡ true) × StandsFor t.stands n h.name) (λ h. (n : Name) × (is_among n (names_of (w ∷ ws)) ≡ true) × StandsFor t.stands n h.name) r.more (λ h e. (e.0, among_behind e.0 (w.name ∷ []) (names_of ws) e.1, e.2)) r.images);
     }
 
 -- what registers and memories read
@@ -253,7 +257,7 @@ PortsRead e P ws outs = AllByRecursion (λ w. is_among w.name P ≡ true → (y 
 
 ports_more : (e : Stands) (P : List Name) (ws : List Wire) (a b : List Name) → PortsRead e P ws b → PortsRead e P ws (a ++ b)
 ports_more e P ws a b h =
-    all_from (λ w. is_among w.name P ≡ true → (y : Name) → StandsFor e w.name y → is_among y b ≡ true) (λ w. is_among w.name P ≡ true → (y : Name) → StandsFor e w.name y → is_among y (a ++ b) ≡ true) ws
+    all_follow (λ w. is_among w.name P ≡ true → (y : Name) → StandsFor e w.name y → is_among y b ≡ true) (λ w. is_among w.name P ≡ true → (y : Name) → StandsFor e w.name y → is_among y (a ++ b) ≡ true) ws
     (λ w k p y s. among_behind y a b (k p y s)) h
 
 ports_read : (e : Stands) (P : List Name) (ws : List Wire) → PortsRead e P ws (wire_reads (map (wire_of e) (filter (λ w. is_among w.name P) ws)))
@@ -317,11 +321,11 @@ all_read n so s t none r =
     let all = wire_reads B.wires ++ edge_reads B in
     let from_helpers : (z : Name) → is_among z (wire_reads hs) ≡ true → is_among z all ≡ true = λ z h. among_front z (wire_reads B.wires) (edge_reads B) (reads_front hs outs z h) in
     let from_edge : (x y : Name) → StandsFor e x y → is_among x E ≡ true → is_among y all ≡ true = λ x y q h. among_behind y (wire_reads B.wires) (edge_reads B) (edge_read n hs e x y q h) in
-    let ports = all_from (λ w. is_among w.name P ≡ true → (y : Name) → StandsFor e w.name y → is_among y (wire_reads outs) ≡ true) (λ w. is_among w.name P ≡ true → (y : Name) → StandsFor e w.name y → is_among y all ≡ true) n.wires
+    let ports = all_follow (λ w. is_among w.name P ≡ true → (y : Name) → StandsFor e w.name y → is_among y (wire_reads outs) ≡ true) (λ w. is_among w.name P ≡ true → (y : Name) → StandsFor e w.name y → is_among y all ≡ true) n.wires
     (λ w k p y q. among_front y (wire_reads B.wires) (edge_reads B) (reads_behind hs outs y (k p y q))) (ports_read e P n.wires) in
     let operands = needed_read e hs all P E from_helpers from_edge n.wires ports r.passes in
-    let named : AllByRecursion (λ x. (y : Name) → StandsFor e x y → is_among y all ≡ true) (names_of (needed_wires n)) = all_map (λ x. (y : Name) → StandsFor e x y → is_among y all ≡ true) (λ (w : Wire). w.name) (needed_wires n) operands in
-    let images = all_from (λ h. (m : Name) × (is_among m (names_of (needed_wires n)) ≡ true) × StandsFor e m h.name) (λ h. is_among h.name all ≡ true) r.more
+    let named : AllByRecursion (λ x. (y : Name) → StandsFor e x y → is_among y all ≡ true) (names_of (needed_wires n)) = map_of_all (λ x. (y : Name) → StandsFor e x y → is_among y all ≡ true) (λ (w : Wire). w.name) (needed_wires n) operands in
+    let images = all_follow (λ h. (m : Name) × (is_among m (names_of (needed_wires n)) ≡ true) × StandsFor e m h.name) (λ h. is_among h.name all ≡ true) r.more
     (λ h k. among_each (λ x. (y : Name) → StandsFor e x y → is_among y all ≡ true) (names_of (needed_wires n)) named k.0 k.1 h.name k.2) r.images in
     let is : hs ≡ r.more = r.wires ∙ ap (λ (xs : List Wire). xs ++ r.more) none in
     subst (λ (xs : List Wire). AllByRecursion (λ h. is_among h.name all ≡ true) xs) (sym is) images

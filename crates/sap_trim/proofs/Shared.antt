@@ -3,9 +3,11 @@ use Rattle.std.proofs.Common.{◌≡◌, ℕ, suc, ◌+◌, List, [], ◌∷◌,
 use Rattle.std.specs.Str.{bytes_eq}
 use Rattle.std.specs.List.{AllByRecursion}
 use Rattle.std.proofs.lemmas.Bool.{cases_Bool}
+use Rattle.sap_lemmas.proofs.Everywhere.{all_follow}
+use Rattle.sap_lemmas.proofs.Texts.{bytes_eq_same}
 use Rattle.sap_maps.specs.Maps.{Name}
 use Rattle.sap_maps.specs.Scope.{find}
-use Rattle.sap_maps.proofs.Scopes.{same_name, not_behind}
+use Rattle.sap_maps.proofs.Scopes.{not_behind}
 use Rattle.sap_net.specs.Names.{is_among}
 use Rattle.sap_net.specs.Net.{Net}
 use Rattle.sap_net.specs.declared.parts.Operand.{Operand}
@@ -21,7 +23,7 @@ use Rattle.sap_fold.specs.Wires.{rights, AddsNew, Adds}
 use Rattle.sap_fold.specs.Wires.{Provides}
 use Rattle.sap_trim.specs.Walked.{State, Begins, Copies, Walked}
 use Rattle.sap_trim.specs.Built.{wire_of, built}
-use Rattle.sap_fold.proofs.Lists.{filter_append, filter_all, filter_none, all_from}
+use Rattle.sap_fold.proofs.Lists.{filter_append, filter_all, filter_none}
 use Rattle.sap_trim.proofs.Declared.{names_append, filter_holds}
 
 -- one more wire whose right side is new
@@ -30,7 +32,7 @@ differ_more : (w x : Wire) (ws : List Wire) → bytes_eq (key w.width w.right) (
 differ_more w x [] f d = (
   λ e r.
       let s : key w.width w.right ≡ key x.width x.right = ap₂ (λ (n : ℕ) (k : Right). key n k) (sym e) (sym r) in
-      let t : bytes_eq (key w.width w.right) (key x.width x.right) ≡ true = subst (λ (k : List ℕ). bytes_eq (key w.width w.right) k ≡ true) s (same_name (key w.width w.right)) in
+      let t : bytes_eq (key w.width w.right) (key x.width x.right) ≡ true = subst (λ (k : List ℕ). bytes_eq (key w.width w.right) k ≡ true) s (bytes_eq_same (key w.width w.right)) in
       absurd (cc),
   tt,
 )
@@ -104,5 +106,5 @@ helping_are n ws e a =
     let P = port_names n in
     let f = λ (w : Wire). not (is_among w.name P) in
     filter_append f ws (map (wire_of e) (shown_wires n))
-    ∙ ap₂ (λ (xs ys : List Wire). xs ++ ys) (filter_all f ws (all_from (λ w. is_among w.name P ≡ false) (λ w. f w ≡ true) ws (λ w h. ap not h) a)) (filter_none f (map (wire_of e) (shown_wires n)) (shown_ports e P (shown_wires n) (filter_holds (λ w. is_among w.name P) n.wires)))
+    ∙ ap₂ (λ (xs ys : List Wire). xs ++ ys) (filter_all f ws (all_follow (λ w. is_among w.name P ≡ false) (λ w. f w ≡ true) ws (λ w h. ap not h) a)) (filter_none f (map (wire_of e) (shown_wires n)) (shown_ports e P (shown_wires n) (filter_holds (λ w. is_among w.name P) n.wires)))
     ∙ append-nil ws

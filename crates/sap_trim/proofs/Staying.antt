@@ -1,12 +1,12 @@
 -- Names that have one number as long as a register has its start.
-use Rattle.std.proofs.Common.{◌≡◌, ℕ, ◌==◌, List, [], ◌∷◌, ◌++◌, Option, Some, None, Bool, true, false, sym, ap, ◌∙◌, subst, refl, inl, inr, arith}
+use Rattle.std.proofs.Common.{◌≡◌, ℕ, ◌==◌, List, [], ◌∷◌, ◌++◌, Option, Some, None, Bool, true, false, sym, ap, ◌∙◌, subst, refl, inl, inr}
 use Rattle.std.specs.Prelude.{if◌then◌else◌, IfSome}
 use Rattle.std.specs.Str.{bytes_eq}
 use Rattle.std.specs.HashMap as hash
-use Rattle.std.proofs.lemmas.Bool.{cases_Bool}
-use Rattle.std.proofs.lemmas.Bool.Decides.{nat_tests}
+use Rattle.std.proofs.lemmas.Bool.{cases_Bool, and_parts}
+use Rattle.sap_lemmas.proofs.Numbers.{equal_of_test}
+use Rattle.sap_lemmas.proofs.Texts.{equal_of_bytes_eq}
 use Rattle.sap_maps.specs.Maps.{Name, Valuation}
-use Rattle.sap_maps.proofs.Scopes.{name_is}
 use Rattle.sap_net.specs.Values.{operand_value, right_value, Holds}
 use Rattle.sap_net.specs.declared.parts.Operand.{Operand}
 use Rattle.sap_net.specs.declared.parts.Operand.TheVariants.{Named, Constant}
@@ -14,7 +14,6 @@ use Rattle.sap_net.specs.declared.parts.Right.{Right}
 use Rattle.sap_net.specs.declared.parts.Right.TheVariants.{Copy, Choose}
 use Rattle.sap_net.specs.declared.parts.Register.{Register}
 use Rattle.sap_net.specs.declared.parts.Wire.{Wire}
-use Rattle.sap_fold.proofs.Lists.{and_both}
 use Rattle.sap_fold.proofs.Maps.{same_bytes, at_other}
 use Rattle.sap_fold.proofs.Provided.{holds_both}
 use Rattle.sap_trim.specs.declared.stays.Stay.{Stay}
@@ -25,12 +24,9 @@ use Rattle.sap_trim.specs.Stays.{StayMap, stays_in, number_of, Stays, NameStays,
 pub puts : (m n : StayMap) (x : Name) (s : Stay) → hash.UpdatesBy same_bytes (λ k. bytes_eq x k.items) m n (Some s) → Puts (stays_in m) x s (stays_in n)
 puts m n x s h y =
     elim (cases_Bool (bytes_eq x y)) [
-      | inl t ↦ rw t (subst (λ (z : Name). stays_in n z ≡ Some s) (name_is x y t) h.1)
+      | inl t ↦ rw t (subst (λ (z : Name). stays_in n z ≡ Some s) (equal_of_bytes_eq x y t) h.1)
       | inr f ↦ rw f (at_other m n x (Some s) h y f)
     ]
-
-eq_is : (a b : ℕ) → (a == b) ≡ true → a ≡ b
-eq_is a b h = grind (arith, nat_tests)
 
 -- what an operand stays at
 abbrev OperandStays : List Wire → Operand → Stay → Type 0
@@ -53,15 +49,15 @@ both_if a b r s false h e = absurd (let g : None ≡ Some s = e in cc)
 
 both_good : (a b : Stay) → agree a b ≡ true → Both a b (stronger a b)
 both_good (Always m) (Always n) t =
-    let e = eq_is m n t in record { first = sym e; second = refl; one = λ v k. tt; other = λ v k. tt }
+    let e = equal_of_test m n t in record { first = sym e; second = refl; one = λ v k. tt; other = λ v k. tt }
 both_good (Always m) (While y n) t =
-    let e = eq_is m n t in record { first = sym e; second = refl; one = λ v k. tt; other = λ v k. k }
+    let e = equal_of_test m n t in record { first = sym e; second = refl; one = λ v k. tt; other = λ v k. k }
 both_good (While x m) (Always n) t =
-    let e = eq_is m n t in record { first = refl; second = e; one = λ v k. k; other = λ v k. tt }
+    let e = equal_of_test m n t in record { first = refl; second = e; one = λ v k. k; other = λ v k. tt }
 both_good (While x m) (While y n) t =
-    let q = and_both (m == n) (bytes_eq x y) t in
-    let e = eq_is m n q.0 in
-    record { first = refl; second = e; one = λ v k. k; other = λ v k. ap v.value (sym (name_is x y q.1)) ∙ k ∙ e }
+    let q = and_parts (m == n) (bytes_eq x y) t in
+    let e = equal_of_test m n q.0 in
+    record { first = refl; second = e; one = λ v k. k; other = λ v k. ap v.value (sym (equal_of_bytes_eq x y q.1)) ∙ k ∙ e }
 
 both_are : (a b s : Stay) → both a b ≡ Some s → Both a b s
 both_are a b s h = both_if a b (stronger a b) s (agree a b) (both_good a b) h
@@ -100,7 +96,7 @@ wire_stays ws w e f s a h p x =
           subst (λ (o : Option Stay). IfSome o (NameStays (ws ++ w ∷ []) x)) (sym g)
           (λ widths v k i.
           let d = holds_both widths v ws (w ∷ []) k in
-          ap v.value (sym (name_is w.name x t)) ∙ d.1.0 ∙ right_stays ws e w.right s a h widths v d.0 i)
+          ap v.value (sym (equal_of_bytes_eq w.name x t)) ∙ d.1.0 ∙ right_stays ws e w.right s a h widths v d.0 i)
       | inr n ↦
           let g : f x ≡ e x = rw n at (p x) in
           subst (λ (o : Option Stay). IfSome o (NameStays (ws ++ w ∷ []) x)) (sym g) (stays_more ws (w ∷ []) x (e x) (a x))
@@ -111,7 +107,7 @@ register_stays r e f y i a p x =
     elim (cases_Bool (bytes_eq r.name x)) [
       | inl t ↦
           let g : f x ≡ Some (While y r.start) = rw t at (p x) in
-          subst (λ (o : Option Stay). IfSome o (NameStays [] x)) (sym g) (λ widths v k q. ap v.value (sym (i ∙ name_is r.name x t)) ∙ q)
+          subst (λ (o : Option Stay). IfSome o (NameStays [] x)) (sym g) (λ widths v k q. ap v.value (sym (i ∙ equal_of_bytes_eq r.name x t)) ∙ q)
       | inr m ↦
           let g : f x ≡ e x = rw m at (p x) in subst (λ (o : Option Stay). IfSome o (NameStays [] x)) (sym g) (a x)
     ]
@@ -125,11 +121,11 @@ record IsAt (s : Stay) (x : Name) (n : ℕ) : Type 0 where
   asked : (v : Valuation) → v.value x ≡ n → Stays v s
 
 at_is : (s : Stay) (x : Name) (n : ℕ) → is_at s x n ≡ true → IsAt s x n
-at_is (Always m) x n h = record { number = eq_is m n h; asked = λ v k. tt }
+at_is (Always m) x n h = record { number = equal_of_test m n h; asked = λ v k. tt }
 at_is (While r m) x n h =
-    let q = and_both (m == n) (bytes_eq r x) h in
-    let e = eq_is m n q.0 in
-    record { number = e; asked = λ v k. ap v.value (name_is r x q.1) ∙ k ∙ sym e }
+    let q = and_parts (m == n) (bytes_eq r x) h in
+    let e = equal_of_test m n q.0 in
+    record { number = e; asked = λ v k. ap v.value (equal_of_bytes_eq r x q.1) ∙ k ∙ sym e }
 
 pub keeps : (ws : List Wire) (e : Name → Option Stay) (r : Register) (s : Stay) → AllStay ws e → operand_stay e r.next ≡ Some s → is_at s r.name r.start ≡ true → KeepsStart ws r
 keeps ws e r s a h t = λ widths v k i.

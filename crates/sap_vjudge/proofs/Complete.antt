@@ -4,6 +4,7 @@ use Rattle.std.proofs.lemmas.Grind.{common_steps}
 use Rattle.std.proofs.lemmas.List.{append-nil, map-append}
 use Rattle.std.specs.Prelude.{Option, Some, None, is_some, IsSome, ◌||◌, ◌&&◌, ◌==◌, not, nat_lt, nat_le, map, flat_map}
 use Rattle.std.specs.List.{list_any}
+use Rattle.std.proofs.lemmas.Bool.{and_from, lt-ltb, not_from_false, or_left, or_right}
 use Rattle.sap_modtext.specs.Items.{Mention, Number, Constant, Operand, Right, Port, Item, File}
 use Rattle.sap_modtext.specs.Items as item
 use Rattle.sap_modtext.specs.Faults.{V3, V4, V5, V6, V7, Shape, wire, memory, shape_width, Setting, assign, initial, always, Declaration, port_declaration, item_declarations, declarations, shape_in, Above, shape_above, is_set, has_integer, IsItemOf, Target, target_of, is_settable, needs, Manner, as_value, Use, uses, suits, ranges, constants, constant_fits, indexes, operand_place, Differ, Among, IsDepth}
@@ -40,25 +41,6 @@ in_flat_map a f x (y ∷ ys) (inr h) k = in_right a (f y) (flat_map f ys) (in_fl
 noted : (test : Bool) (c : Code) (place : ℕ) → test ≡ true → StandsIn (at_place c place) (fault_if test c place)
 noted true c place h = inl refl
 noted false c place h = absurd (true≢false (sym h))
-
-not_from : (b : Bool) → b ≡ false → not b ≡ true
-not_from true h = absurd (true≢false h)
-not_from false h = refl
-
-both : (a b : Bool) → a ≡ true → b ≡ true → (a && b) ≡ true
-both true b h k = k
-both false b h k = absurd (true≢false (sym h))
-
-or_left : (a b : Bool) → a ≡ true → (a || b) ≡ true
-or_left true b h = refl
-or_left false b h = absurd (true≢false (sym h))
-
-or_right : (a b : Bool) → b ≡ true → (a || b) ≡ true
-or_right true b h = refl
-or_right false b h = h
-
-less : (m n : ℕ) → m < n → nat_lt m n ≡ true
-less m n h = grind (arith, common_steps)
 
 apart : (m n : ℕ) → m ≢ n → not (m == n) ≡ true
 apart m n h = grind (arith, common_steps)
@@ -168,7 +150,7 @@ in_port_range : (ps : List Port) (p : Port) → 63 < p.range.value → StandsIn 
 unfolding port_faults
 in_port_range ps p h =
     in_right (at_place code.V5 p.range.place) (twice_faults (known_above (ports_only ps)) (port_declaration p)) _
-    (noted (nat_lt 63 p.range.value) code.V5 p.range.place (less _ _ h))
+    (noted (nat_lt 63 p.range.value) code.V5 p.range.place (lt-ltb _ _ h))
 
 -- where in the list it is
 split : {A : Type 0} (x : A) (xs : List A) → Among x xs → (above : List A) × (below : List A) × (xs ≡ above ++ x ∷ below)
@@ -314,7 +296,7 @@ module _ (f : File) where
   v3_listed _ (faults.set_before {above} {x} t at e settable set) =
       of_item (at_place code.V3 t.name.place) at (in_target (at_place code.V3 t.name.place) (known_above above) x
       (subst (λ o. StandsIn (at_place code.V3 t.name.place) (target_faults (known_above above) o)) (sym e)
-      (noted (is_settable (shape_above above t.name.name) && is_set t.setting t.name.name above.items) code.V3 t.name.place (both _ _ settable set))))
+      (noted (is_settable (shape_above above t.name.name) && is_set t.setting t.name.name above.items) code.V3 t.name.place (and_from _ _ settable set))))
 
   -- an operand that is a wire not assigned before
   unassigned_is : (m : Manner) (width : ℕ) (b : Bool) → m ≡ as_value → b ≡ false → is_unassigned m (wire width) b ≡ true
@@ -334,7 +316,7 @@ module _ (f : File) where
       (noted (is_unassigned u.manner (wire width) (is_set assign u.name.name above.items)) code.V4 u.name.place (unassigned_is u.manner width _ manner unset)))
   v4_listed _ (faults.no_integer {above} {place} {bound} {x} {value} at h) =
       of_item (at_place code.V4 place) at (in_integer (at_place code.V4 place) (known_above above) (item.initial_cells place bound x value)
-      (noted (not (has_integer above.items)) code.V4 place (not_from _ h)))
+      (noted (not (has_integer above.items)) code.V4 place (not_from_false _ h)))
 
   -- what doesn't hold of both
   not_both : (low high width : ℕ) → (low ≤ high → high < width → ⊥) → (nat_le low high && nat_lt high width) ≡ false
@@ -344,9 +326,9 @@ module _ (f : File) where
   v5_listed _ (faults.wide_port p among h) =
       let r = split p f.ports among in of_port (at_place code.V5 p.range.place) r.0 r.1 p r.2 (in_port_range r.0 p h)
   v5_listed _ (faults.wide_range {above} {x} n at among h) =
-      of_item (at_place code.V5 n.place) at (in_ranges (at_place code.V5 n.place) (known_above above) x n among (noted (nat_lt 63 n.value) code.V5 n.place (less _ _ h)))
+      of_item (at_place code.V5 n.place) at (in_ranges (at_place code.V5 n.place) (known_above above) x n among (noted (nat_lt 63 n.value) code.V5 n.place (lt-ltb _ _ h)))
   v5_listed _ (faults.unfit {above} {x} c at among h) =
-      of_item (at_place code.V5 c.place) at (in_constants (at_place code.V5 c.place) (known_above above) x c among (noted (not (constant_fits c)) code.V5 c.place (not_from _ h)))
+      of_item (at_place code.V5 c.place) at (in_constants (at_place code.V5 c.place) (known_above above) x c among (noted (not (constant_fits c)) code.V5 c.place (not_from_false _ h)))
   v5_listed _ (faults.widths_differ {above} {x} t p at e among h) =
       of_item (at_place code.V5 t.name.place) at (in_target_widths (known_above above) x t e
       (or_left _ (item_too_wide (known_above above) x) (some-differs (pairs (known_above above) x) p (subst (λ ps. Among p ps) (sym (pairs-above above x)) among) h)))
@@ -358,7 +340,7 @@ module _ (f : File) where
   v5_listed _ (faults.out_of_range {above} {x} {y} {high} {low} {shape} at e h) =
       of_item (at_place code.V5 y.place) at (in_slices (at_place code.V5 y.place) (known_above above) (item.assign x (item.slice y high low))
       (subst (λ (o : Option Shape). StandsIn (at_place code.V5 y.place) (past_shape o high low y.place)) (sym e)
-      (noted (not (nat_le low high && nat_lt high (shape_width shape))) code.V5 y.place (not_from _ (not_both low high (shape_width shape) h)))))
+      (noted (not (nat_le low high && nat_lt high (shape_width shape))) code.V5 y.place (not_from_false _ (not_both low high (shape_width shape) h)))))
 
   abbrev last : Known
   last = known_above (record { ports = f.ports; items = f.items })
@@ -371,7 +353,7 @@ module _ (f : File) where
   unset_listed : (d : Declaration) (s : Setting) → needs d.shape s ≡ true → is_set s d.name.name f.items ≡ false
       → StandsIn (at_place code.V6 d.name.place) (unset_faults last d)
   unset_listed d s need unset =
-      noted (lacks last d assign || (lacks last d initial || lacks last d always)) code.V6 d.name.place (lacks_some d s (both (needs d.shape s) _ need (not_from _ unset)))
+      noted (lacks last d assign || (lacks last d initial || lacks last d always)) code.V6 d.name.place (lacks_some d s (and_from (needs d.shape s) _ need (not_from_false _ unset)))
 
   in_port_unset : (a : Fault) (d : Declaration) → Among d (map port_declaration f.ports) → StandsIn a (unset_faults last d) → StandsIn a (file_faults f)
   unfolding ports_unset unsets_faults
@@ -397,7 +379,7 @@ module _ (f : File) where
   v7_listed : (place : ℕ) → V7 f place → StandsIn (at_place code.V7 place) (file_faults f)
   v7_listed _ (faults.no_depth {above} {range} {last = cells} {x} at h) =
       of_item (at_place code.V7 cells.place) at (in_depths (at_place code.V7 cells.place) (known_above above) (item.memory range x cells)
-      (noted (not (is_depth (cells.value + 1))) code.V7 cells.place (not_from _ (not_true _ (λ d. h (is_depth-IsDepth (cells.value + 1) d))))))
+      (noted (not (is_depth (cells.value + 1))) code.V7 cells.place (not_from_false _ (not_true _ (λ d. h (is_depth-IsDepth (cells.value + 1) d))))))
   v7_listed _ (faults.other_bound {above} {place} {bound} {x} {value} {width} {depth} at e h) =
       of_item (at_place code.V7 bound.place) at (in_bounds (at_place code.V7 bound.place) (known_above above) (item.initial_cells place bound x value)
       (subst (λ (o : Option Shape). StandsIn (at_place code.V7 bound.place) (listed.other_bound o bound)) (sym e)
@@ -410,7 +392,7 @@ module _ (f : File) where
   v7_listed _ (faults.other_kind {above} {x} u {shape} at among e h) =
       of_use (at_place code.V7 u.name.place) above x u (Some shape) at among e
       (in_right (at_place code.V7 u.name.place) (fault_if (is_unassigned u.manner shape (is_set assign u.name.name above.items)) code.V4 u.name.place) _
-      (noted (not (suits u.manner shape)) code.V7 u.name.place (not_from _ h)))
+      (noted (not (suits u.manner shape)) code.V7 u.name.place (not_from_false _ h)))
 
   pub all_listed : (c : Code) (place : ℕ) → Stands f c place → StandsIn (at_place c place) (file_faults f)
   all_listed code.V3 place h = v3_listed place h

@@ -4,6 +4,8 @@ use Rattle.std.proofs.lemmas.Grind.{common_steps}
 use Rattle.std.proofs.lemmas.List.{append-nil, map-append}
 use Rattle.std.specs.Prelude.{Option, Some, None, is_some, ◌||◌, ◌&&◌, ◌==◌, not, nat_lt, nat_le, map, flat_map}
 use Rattle.std.specs.List.{list_any}
+use Rattle.sap_lemmas.proofs.Bools.{and_left, and_right}
+use Rattle.std.proofs.lemmas.Bool.{ltb-true, not-true, or_cases}
 use Rattle.sap_modtext.specs.Items.{Mention, Number, Constant, Operand, Right, Port, Item, File}
 use Rattle.sap_modtext.specs.Items as item
 use Rattle.sap_modtext.specs.Faults.{V3, V4, V5, V6, V7, Shape, wire, memory, shape_width, Setting, assign, initial, always, Declaration, port_declaration, item_declarations, declarations, shape_in, Above, shape_above, is_set, has_integer, IsItemOf, Target, target_of, is_settable, needs, Manner, as_value, Use, uses, suits, ranges, constants, constant_fits, indexes, operand_place, Differ, Among, IsDepth}
@@ -46,25 +48,6 @@ Stood f a = Stands f a.code a.place
 noted : (f : File) (test : Bool) (c : Code) (place : ℕ) → (test ≡ true → Stands f c place) → Each (Stood f) (fault_if test c place)
 noted f true c place h = (h refl, tt)
 noted f false c place h = tt
-
-not_true : (b : Bool) → not b ≡ true → b ≡ false
-not_true true h = absurd (true≢false (sym h))
-not_true false h = refl
-
-and_left : (a b : Bool) → (a && b) ≡ true → a ≡ true
-and_left true b h = refl
-and_left false b h = h
-
-and_right : (a b : Bool) → (a && b) ≡ true → b ≡ true
-and_right true b h = h
-and_right false b h = absurd (true≢false (sym h))
-
-or_either : (a b : Bool) → (a || b) ≡ true → (a ≡ true) ⊎ (b ≡ true)
-or_either true b h = inl refl
-or_either false b h = inr h
-
-below : (m n : ℕ) → nat_lt m n ≡ true → m < n
-below m n h = grind (arith, common_steps)
 
 apart : (m n : ℕ) → not (m == n) ≡ true → m ≢ n
 apart m n h = λ e. absurd (grind (arith, common_steps))
@@ -113,7 +96,7 @@ module _ (f : File) (above : Above) where
   integer_stands : (x : Item) → IsItemOf f above x → Each (Stood f) (integer_faults known x)
   integer_stands (item.integer place) at = noted f (has_integer above.items) code.V3 place (λ h. faults.second_integer at h)
   integer_stands (item.initial_cells place bound x value) at =
-      noted f (not (has_integer above.items)) code.V4 place (λ h. faults.no_integer at (not_true _ h))
+      noted f (not (has_integer above.items)) code.V4 place (λ h. faults.no_integer at (not-true _ h))
   integer_stands (item.wire range x) at = tt
   integer_stands (item.register range x) at = tt
   integer_stands (item.memory range x last) at = tt
@@ -146,7 +129,7 @@ module _ (f : File) (above : Above) where
       (noted f (is_unassigned u.manner s (is_set assign u.name.name above.items)) code.V4 u.name.place (λ h.
       let r = unassigned_parts u.manner s (is_set assign u.name.name above.items) h in
       faults.unassigned u at among r.1 (e ∙ ap (λ (t : Shape). Some t) r.2) r.3))
-      (noted f (not (suits u.manner s)) code.V7 u.name.place (λ h. faults.other_kind u at among e (not_true _ h)))
+      (noted f (not (suits u.manner s)) code.V7 u.name.place (λ h. faults.other_kind u at among e (not-true _ h)))
 
   uses_stand : (x : Item) → IsItemOf f above x → Each (Stood f) (uses_faults known (uses x))
   unfolding uses_faults
@@ -155,12 +138,12 @@ module _ (f : File) (above : Above) where
   ranges_stand : (x : Item) → IsItemOf f above x → Each (Stood f) (ranges_faults (ranges x))
   unfolding ranges_faults
   ranges_stand x at =
-      each-flat_map (Stood f) range_faults (ranges x) (λ n among. noted f (nat_lt 63 n.value) code.V5 n.place (λ h. faults.wide_range n at among (below _ _ h)))
+      each-flat_map (Stood f) range_faults (ranges x) (λ n among. noted f (nat_lt 63 n.value) code.V5 n.place (λ h. faults.wide_range n at among (ltb-true _ _ h)))
 
   constants_stand : (x : Item) → IsItemOf f above x → Each (Stood f) (constants_faults (constants x))
   unfolding constants_faults
   constants_stand x at =
-      each-flat_map (Stood f) constant_faults (constants x) (λ c among. noted f (not (constant_fits c)) code.V5 c.place (λ h. faults.unfit c at among (not_true _ h)))
+      each-flat_map (Stood f) constant_faults (constants x) (λ c among. noted f (not (constant_fits c)) code.V5 c.place (λ h. faults.unfit c at among (not-true _ h)))
 
   too_wide_stands : (x : Item) → IsItemOf f above x → item_too_wide known x ≡ true → (t : Target) → target_of x ≡ Some t → V5 f t.name.place
   too_wide_stands (item.assign x (item.concat parts)) at h t e =
@@ -182,7 +165,7 @@ module _ (f : File) (above : Above) where
   too_wide_stands (item.always_cell condition x index value) at h t e = absurd (true≢false (sym h))
 
   differs_stands : (x : Item) → IsItemOf f above x → (t : Target) → target_of x ≡ Some t → item_differs known x ≡ true → V5 f t.name.place
-  differs_stands x at t e h = either (or_either (list_any differ (pairs known x)) (item_too_wide known x) h)
+  differs_stands x at t e h = either (or_cases (list_any differ (pairs known x)) (item_too_wide known x) h)
     where
       either : (list_any differ (pairs known x) ≡ true) ⊎ (item_too_wide known x ≡ true) → V5 f t.name.place
       either (inl k) = let r = differs-some (pairs known x) k in faults.widths_differ t r.0 at e (subst (λ ps. Among r.0 ps) (pairs-above above x) r.1) r.2
@@ -197,7 +180,7 @@ module _ (f : File) (above : Above) where
   past_stands x y high low at None e = tt
   past_stands x y high low at (Some s) e =
       noted f (not (nat_le low high && nat_lt high (shape_width s))) code.V5 y.place (λ h.
-      faults.out_of_range at e (λ (up : low ≤ high) (within : high < shape_width s). contradiction up within (not_true _ h)))
+      faults.out_of_range at e (λ (up : low ≤ high) (within : high < shape_width s). contradiction up within (not-true _ h)))
     where
       contradiction : low ≤ high → high < shape_width s → (nat_le low high && nat_lt high (shape_width s)) ≡ false → ⊥
       contradiction up within h = absurd (grind (arith, common_steps))
@@ -228,7 +211,7 @@ module _ (f : File) (above : Above) where
   depth_stands : (x : Item) → IsItemOf f above x → Each (Stood f) (depth_faults x)
   depth_stands (item.memory range x last) at =
       noted f (not (is_depth (last.value + 1))) code.V7 last.place
-      (λ h. faults.no_depth at (λ d. true≢false (sym (IsDepth-is_depth (last.value + 1) d) ∙ not_true _ h)))
+      (λ h. faults.no_depth at (λ d. true≢false (sym (IsDepth-is_depth (last.value + 1) d) ∙ not-true _ h)))
   depth_stands (item.wire range x) at = tt
   depth_stands (item.register range x) at = tt
   depth_stands (item.integer place) at = tt
@@ -307,7 +290,7 @@ module _ (f : File) where
   items_stand a [] ports items = tt
   items_stand a (x ∷ xs) ports items =
       each-append (Stood f) (item_faults (known_above a) x) (items_faults (after_item (known_above a) x) xs)
-      (item_stands f a x (record { below = xs; ports = ports; items = items }))
+      (item_stands f a x (record { ltb-true = xs; ports = ports; items = items }))
       (subst (λ (k : Known). Each (Stood f) (items_faults k xs)) (sym (after_item_above a x))
       (items_stand (under_item a x) xs ports (items ∙ sym (append_assoc a.items (x ∷ []) xs))))
 
@@ -326,7 +309,7 @@ module _ (f : File) where
       (noted f (is_some (shape_above (ports_only before) p.name.name)) code.V3 p.name.place (λ h.
       faults.declared_before (declarations before []) (map port_declaration after ++ flat_map item_declarations f.items) (port_declaration p) (port_declared before after p e) h))
       (noted f (nat_lt 63 p.range.value) code.V5 p.range.place (λ h.
-      faults.wide_port p (subst (λ (ps : List Port). Among p ps) (sym e) (among-middle before after p)) (below _ _ h)))
+      faults.wide_port p (subst (λ (ps : List Port). Among p ps) (sym e) (among-middle before after p)) (ltb-true _ _ h)))
 
   ports_stand : (before ps : List Port) → f.ports ≡ before ++ ps → Each (Stood f) (ports_faults (known_above (ports_only before)) ps)
   unfolding ports_faults
@@ -343,10 +326,10 @@ module _ (f : File) where
   unset_stands : (d : Declaration) → Among d (declarations f.ports f.items) → Each (Stood f) (unset_faults last d)
   unset_stands d among =
       noted f (lacks last d assign || (lacks last d initial || lacks last d always)) code.V6 d.name.place (λ h.
-      some_lack (or_either (lacks last d assign) (lacks last d initial || lacks last d always) h))
+      some_lack (or_cases (lacks last d assign) (lacks last d initial || lacks last d always) h))
     where
       one_lack : (s : Setting) → lacks last d s ≡ true → V6 f d.name.place
-      one_lack s h = faults.unset d s among (and_left (needs d.shape s) _ h) (not_true _ (and_right (needs d.shape s) _ h))
+      one_lack s h = faults.unset d s among (and_left (needs d.shape s) _ h) (not-true _ (and_right (needs d.shape s) _ h))
 
       two_lack : (lacks last d initial ≡ true) ⊎ (lacks last d always ≡ true) → V6 f d.name.place
       two_lack (inl h) = one_lack initial h
@@ -354,7 +337,7 @@ module _ (f : File) where
 
       some_lack : (lacks last d assign ≡ true) ⊎ ((lacks last d initial || lacks last d always) ≡ true) → V6 f d.name.place
       some_lack (inl h) = one_lack assign h
-      some_lack (inr h) = two_lack (or_either (lacks last d initial) (lacks last d always) h)
+      some_lack (inr h) = two_lack (or_cases (lacks last d initial) (lacks last d always) h)
 
   ports_unset_stand : Each (Stood f) (ports_unset last f.ports)
   unfolding ports_unset unsets_faults

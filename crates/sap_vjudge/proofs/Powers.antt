@@ -1,5 +1,5 @@
 -- Powers of two are the numbers with one bit set.
-use Rattle.std.proofs.Common.{◌≡◌, ◌≢◌, ◌∙◌, ℕ, zero, suc, ◌+◌, ◌*◌, ◌/◌, ◌^◌, ◌<◌, ◌≤◌, ◌⊎◌, Bool, true, false, refl, ap, sym, arith, inl, inr, true≢false}
+use Rattle.std.proofs.Common.{◌≡◌, ◌≢◌, ◌∙◌, ℕ, zero, suc, ◌+◌, ◌*◌, ◌/◌, ◌^◌, ◌<◌, ◌≤◌, ◌⊎◌, true, false, refl, ap, sym, arith, inl, inr}
 use Rattle.std.proofs.lemmas.Nat.{ones_cat, zero_from_ones, ones_le_self, pow_below, pow_pos}
 use Rattle.std.proofs.lemmas.Grind.{common_steps}
 use Rattle.std.proofs.Math.Nat.{pow-suc}
@@ -7,6 +7,7 @@ use Rattle.std.proofs.Math.Pow.{pow_mono}
 use Rattle.std.specs.Prelude.{◌==◌, ◌&&◌, not, nat_le}
 use Rattle.std.specs.Int.{is_power_of_two}
 use Rattle.std.specs.Int.RustNames.{count_ones}
+use Rattle.sap_lemmas.proofs.Bools.{and_left, and_right}
 use Rattle.sap_modtext.specs.Faults.{IsDepth}
 use Rattle.sap_vjudge.specs.Listed.{is_depth, is_other}
 
@@ -59,14 +60,6 @@ power_up_to (suc m) (suc n) h e = elim (parity (suc n)) [
       (suc r.0, twice (suc n) r.0 even r.1))
   | inr odd ↦ (0, single (suc n) odd e)
 ]
-
-and_left : (a b : Bool) → (a && b) ≡ true → a ≡ true
-and_left true b h = refl
-and_left false b h = h
-
-and_right : (a b : Bool) → (a && b) ≡ true → b ≡ true
-and_right true b h = h
-and_right false b h = absurd (true≢false (sym h))
 
 pub power-some : (n : ℕ) → is_power_of_two n ≡ true → (b : ℕ) × (n ≡ 2 ^ b)
 power-some n h = power_up_to n n (omega arith) (grind (arith, common_steps))

@@ -6,6 +6,7 @@ use Rattle.std.specs.Map.{lookup}
 use Rattle.std.specs.Prelude.{Result, Ok, Err, OnOk, Option, Some, None, if◌then◌else◌, ◌||◌, ◌&&◌}
 use Rattle.std.specs.Option.{option_or}
 use Rattle.std.specs.Str.{bytes_eq}
+use Rattle.sap_lemmas.proofs.Bools.{and_false, and_true, or_false}
 use Rattle.sap_modtext.specs.Faults.{Shape, Setting, same_setting}
 use Rattle.sap_vjudge.specs.declared.entry.Entry.{Entry}
 use Rattle.sap_vjudge.specs.declared.table.Table.{Table}
@@ -55,18 +56,6 @@ known_of-with_integer old new h e = ap₂ of_entries h e
 pub option_or-none : (o : Option Shape) → option_or o None ≡ o
 option_or-none None = refl
 option_or-none (Some s) = refl
-
-pub or_false : (b : Bool) → (b || false) ≡ b
-or_false true = refl
-or_false false = refl
-
-and_true : (b : Bool) → (b && true) ≡ b
-and_true true = refl
-and_true false = refl
-
-and_false : (b : Bool) → (b && false) ≡ false
-and_false true = refl
-and_false false = refl
 
 module _ (old new : Table) (x : List ℕ) (e : Entry) (entries : (n : List ℕ) → entry_of new n ≡ (if bytes_eq x n then Some e else entry_of old n)) (integer : new.integer ≡ old.integer) where
   pub known_declared : (s : Shape) → entry_shape (Some e) ≡ option_or (entry_shape (entry_of old x)) (Some s)

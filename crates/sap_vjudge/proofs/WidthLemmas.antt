@@ -3,6 +3,7 @@ use Rattle.std.proofs.Common.{◌≡◌, ◌∙◌, ℕ, ◌<◌, List, [], ◌�
 use Rattle.std.proofs.lemmas.Grind.{common_steps}
 use Rattle.std.specs.Prelude.{Option, Some, None, ◌||◌}
 use Rattle.std.specs.List.{list_any}
+use Rattle.sap_lemmas.proofs.Bools.{or_true}
 use Rattle.sap_modtext.specs.Items.{Operand, Right, Item}
 use Rattle.sap_modtext.specs.Items as item
 use Rattle.sap_modtext.specs.Faults as faults
@@ -61,10 +62,6 @@ differs-some (p ∷ ps) h = by_test (differ p) refl h (λ g. differs-some ps g)
         → (q : Option ℕ × Option ℕ) × Among q (p ∷ ps) × Differ q
     by_test true e g rest = (p, inl refl, differ-Differ p.0 p.1 e)
     by_test false e g rest = let r = rest g in (r.0, inr r.1, r.2)
-
-or_true : (b : Bool) → (b || true) ≡ true
-or_true true = refl
-or_true false = refl
 
 pub some-differs : (ps : Pairs) (p : Option ℕ × Option ℕ) → Among p ps → Differ p → list_any differ ps ≡ true
 some-differs [] p h d = absurd h

@@ -1,6 +1,7 @@
 -- What the grammar has is what the walk reads.
 use Rattle.std.proofs.Common.{◌≡◌, ◌≢◌, ℕ, List, [], Ok, true, refl, sym, ap, ◌∙◌}
 use Rattle.std.specs.Prelude.{◌&&◌}
+use Rattle.sap_lemmas.proofs.Numbers.{test_of_same}
 use Rattle.sap_bits.specs.declared.Op1.TheVariants as unary
 use Rattle.sap_bits.specs.declared.Op1.{Op1}
 use Rattle.sap_bits.specs.declared.Op2.TheVariants as binary
@@ -18,7 +19,7 @@ use Rattle.sap_vparse.specs.declared.choice.AfterHead.TheVariants as a
 use Rattle.sap_vparse.specs.declared.choice.RightHead.TheVariants as r
 use Rattle.sap_walk.proofs.Walking.{bind_ok, bind_pure}
 use Rattle.sap_vparse.proofs.Laws.{after_choose, after_end, after_two, bracket_cell, bracket_slice, clock_update, clock_write, clocked_steps, end_there, file_steps, initial_cells, initial_start, item_always, item_assign, item_initial, item_integer, item_register, item_wire, items_end, items_more, kind_reg, kind_wire, loop_steps, name_bracket, name_other, operand_constant, operand_name, parts_end, parts_more, port_input, port_output, ports_end, ports_more, range_steps, register_end, register_memory, right_concat, right_constant, right_name, right_one}
-use Rattle.sap_vparse.proofs.Single.{reads_first, same_number}
+use Rattle.sap_vparse.proofs.Single.{reads_first}
 
 -- single tokens
 
@@ -26,10 +27,10 @@ token_reads : (x : Symbol) {p q : List t.Token} {place : ℕ} {kind : t.Kind} �
 token_reads x {q = q} {place} {kind} h e = ap (reads x) h.parts ∙ reads_first x (record { place = place; kind = kind }) q [] e
 
 word : {p q : List t.Token} {x : t.Word} → IsWord p x q → reads (s.Word x) p ≡ Ok q
-word {x = x} h = token_reads (s.Word x) h.is (ap s.if_same (same_number (s.word_number x)))
+word {x = x} h = token_reads (s.Word x) h.is (ap s.if_same (test_of_same (s.word_number x)))
 
 sign : {p q : List t.Token} {x : t.Sign} → IsSign p x q → reads (s.Sign x) p ≡ Ok q
-sign {x = x} h = token_reads (s.Sign x) h.is (ap s.if_same (same_number (s.sign_number x)))
+sign {x = x} h = token_reads (s.Sign x) h.is (ap s.if_same (test_of_same (s.sign_number x)))
 
 name : {p q : List t.Token} {x : item.Mention} → IsName p x q → reads s.Name p ≡ Ok q
 name h = token_reads s.Name h refl
@@ -41,7 +42,7 @@ constant : {p q : List t.Token} {c : item.Constant} → IsConstant p c q → rea
 constant h = token_reads s.Constant h refl
 
 digit : {p q : List t.Token} {n : ℕ} → IsDigit p n q → reads (s.Digit n) p ≡ Ok q
-digit {n = n} h = token_reads (s.Digit n) h.is (ap (λ b. s.if_same (b && true)) (same_number n))
+digit {n = n} h = token_reads (s.Digit n) h.is (ap (λ b. s.if_same (b && true)) (test_of_same n))
 
 -- what stands at the front
 

@@ -3,12 +3,14 @@ use Rattle.std.proofs.Common.{◌≡◌, ◌<◌, ◌+◌, ◌^◌, ℕ, List, [
 use Rattle.std.proofs.lemmas.Grind.{common_steps}
 use Rattle.std.proofs.lemmas.List.{drop-drop}
 use Rattle.std.proofs.lemmas.List.Folds.{length-prefix_len}
-use Rattle.std.proofs.lemmas.Bool.Decides.{nat_tests}
 use Rattle.std.specs.Prelude.{◌&&◌, nat_lt, nat_eq, find, slice_index, take_while, codes}
 use Rattle.std.specs.Char.{is_ascii_digit}
 use Rattle.std.specs.List.{prefix_len, starts_with}
 use Rattle.std.specs.Str.{bytes_eq}
 use Rattle.std.specs.Str.Parse.{digits_value}
+use Rattle.sap_lemmas.proofs.Bools.{and_false, and_true}
+use Rattle.sap_lemmas.proofs.Lists.{index_drop}
+use Rattle.sap_lemmas.proofs.Numbers.{test_symmetric}
 use Rattle.sap_net.specs.Names.{is_initial, is_inner}
 use Rattle.sap_modtext.specs.Lexing as l
 use Rattle.sap_modtext.specs.Lexing.{word_text, sign_text, words, signs, is_white, is_in_line, sign_or_bad, sign_front, name_front, number_front, constant_front, digits_front, digits_of_front, front}
@@ -23,17 +25,6 @@ use Rattle.sap_vparse.specs.declared.token.Sign.{Sign}
 use Rattle.sap_vparse.specs.declared.token.Word.TheVariants as d
 use Rattle.sap_vparse.specs.declared.token.Word.{Word}
 
-eq_sym : (a b : ℕ) → eqb a b ≡ eqb b a
-eq_sym a b = grind (arith, nat_tests)
-
-and_true : (p : Bool) → (p && true) ≡ p
-and_true true = refl
-and_true false = refl
-
-and_false : (p : Bool) → (p && false) ≡ false
-and_false true = refl
-and_false false = refl
-
 and_swap : (p q : Bool) → (p && (q && true)) ≡ (q && p)
 and_swap true true = refl
 and_swap true false = refl
@@ -44,12 +35,12 @@ and_swap false false = refl
 
 starts_one : (xs : List ℕ) (x : ℕ) → eqb 0 x ≡ false → starts_with nat_eq xs (x ∷ []) ≡ eqb (slice_index xs 0) x
 starts_one [] x e = sym e
-starts_one (c ∷ xs) x e = and_true (eqb x c) ∙ eq_sym x c
+starts_one (c ∷ xs) x e = and_true (eqb x c) ∙ test_symmetric x c
 
 starts_two : (xs : List ℕ) (x y : ℕ) → eqb 0 y ≡ false → starts_with nat_eq xs (x ∷ y ∷ []) ≡ (eqb (slice_index xs 1) y && eqb (slice_index xs 0) x)
 starts_two [] x y e = sym (ap (λ b. b && eqb 0 x) e)
 starts_two (c ∷ []) x y e = and_false (eqb x c) ∙ sym (ap (λ b. b && eqb c x) e)
-starts_two (c ∷ f ∷ xs) x y e = and_swap (eqb x c) (eqb y f) ∙ ap (λ b. b && eqb x c) (eq_sym y f) ∙ ap (λ b. eqb f y && b) (eq_sym x c)
+starts_two (c ∷ f ∷ xs) x y e = and_swap (eqb x c) (eqb y f) ∙ ap (λ b. b && eqb x c) (test_symmetric y f) ∙ ap (λ b. eqb f y && b) (test_symmetric x c)
 
 -- keywords
 
@@ -154,9 +145,6 @@ constant_is width digits len size =
 
 index_take : (xs : List ℕ) (n : ℕ) → 0 < n → slice_index (take n xs) 0 ≡ slice_index xs 0
 index_take xs n h = grind (arith, common_steps)
-
-index_drop : (xs : List ℕ) (n i : ℕ) → slice_index (drop n xs) i ≡ slice_index xs (n + i)
-index_drop xs n i = grind (arith, common_steps)
 
 index_first : (xs : List ℕ) (n : ℕ) → slice_index (drop n xs) 0 ≡ slice_index xs n
 index_first xs n = grind (arith, common_steps)

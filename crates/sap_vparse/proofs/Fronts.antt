@@ -1,6 +1,7 @@
 -- The front of a list of tokens.
-use Rattle.std.proofs.Common.{◌≡◌, ◌<◌, ◌≤◌, ◌+◌, ℕ, List, [], ◌∷◌, length, drop, get_or, ap, refl, sym, suc, None, ◌≢◌, ◌∙◌, arith, drop-cons}
+use Rattle.std.proofs.Common.{◌≡◌, ◌<◌, ◌≤◌, ◌+◌, ℕ, List, [], ◌∷◌, length, drop, get_or, ap, refl, sym, None, ◌≢◌, ◌∙◌, arith, drop-cons}
 use Rattle.std.proofs.lemmas.Grind.{common_steps}
+use Rattle.sap_lemmas.proofs.Numbers.{one_more}
 use Rattle.sap_modtext.specs.Tokens as t
 use Rattle.sap_vparse.specs.Reading.{Passes, constant_in, front_constant, front_name, front_number, head, head_of, here, name_in, number_in, of_nothing, Head}
 use Rattle.sap_vparse.specs.Spelling.{kind_of, token_of, tokens_of}
@@ -8,9 +9,6 @@ use Rattle.sap_vparse.specs.declared.token.Token.{Token}
 
 drop_end : (ts : List Token) (n : ℕ) → length ts ≤ n → drop n ts ≡ []
 drop_end ts n h = grind (arith, common_steps)
-
-one_more : (n : ℕ) → suc n ≡ n + 1
-one_more n = omega arith
 
 pub from_at : (ts : List Token) (n : ℕ) (d : Token) → n < length ts → tokens_of (drop n ts) ≡ token_of (get_or ts n d) ∷ tokens_of (drop (n + 1) ts)
 from_at ts n d h = ap tokens_of (drop-cons ts n d h) ∙ ap (λ m. token_of (get_or ts n d) ∷ tokens_of (drop m ts)) (one_more n)

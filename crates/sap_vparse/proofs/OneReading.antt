@@ -1,8 +1,10 @@
 -- The read fault of a text is where the walk stops, and a text has one reading.
 use Rattle.std.proofs.Common.{◌≡◌, ◌≢◌, ◌+◌, ℕ, List, [], ◌∷◌, ◌++◌, length, drop, None, Result, Ok, Err, IfOk, IfErr, refl, sym, ap, subst, ◌∙◌, append_assoc, arith}
+use Rattle.std.proofs.lemmas.List.{append-nil}
+use Rattle.sap_modtext.proofs.LexingLemmas.{front_at_end}
 use Rattle.sap_modtext.specs.Grammar.{IsFile}
 use Rattle.sap_modtext.specs.Items.{File}
-use Rattle.sap_modtext.specs.Lexing.{Front, Lexed, bad, blank, front, token}
+use Rattle.sap_modtext.specs.Lexing.{Front, Lexed, blank, front, token}
 use Rattle.sap_modtext.specs.Lexing as x
 use Rattle.sap_modtext.specs.Tokens.{Token}
 use Rattle.sap_modtext.proofs.OneFile.{one_file}
@@ -23,7 +25,6 @@ use Rattle.sap_walk.specs.Walk as walk
 use Rattle.sap_walk.specs.Walk.{Halt, Point, at_token, at_limit}
 use Rattle.sap_walk.proofs.Prefixes as prefix
 use Rattle.sap_walk.proofs.Running.{Halts, Runs, Stops, too_short, refuses, refused_there, walk_halts}
-use Rattle.sap_walk.proofs.Walking.{append_none}
 
 -- the walk and the grammar
 
@@ -46,7 +47,7 @@ there ts left e q halts same = by_stops halts.front halts.kept halts.to_come hal
   by_stops : (front : List Token) (k : Unit {0}) (σ : List Symbol) → Runs grammar front tt (s.File ∷ []) k σ → (q : Point grammar) → ts ≡ front ++ q.left
       → Stops grammar k σ (at_token q) → q.left ≡ left → IsUnexpected ts left
   by_stops front k σ runs q parts (too_short short) same =
-      let whole = parts ∙ append_none front in
+      let whole = parts ∙ append-nil front in
       subst (IsUnexpected ts) same
       (p.end (subst (p.Begins SpellsSome) (sym whole) (begins runs)) (λ w. apart (reads s.File ts) (whole_reads ts w) e))
   by_stops front k σ runs q parts (refuses y rest never) same =
@@ -87,10 +88,6 @@ text_is text ts start left x lexed begin spelled whole = record {
 }
 
 -- a text has one list of tokens, or one first byte at which none begins
-
-front_at_end : front [] ≡ bad
-unfolding front
-front_at_end = refl
 
 not_bad : {from m place : ℕ} {bs cs : List ℕ} {ts : List Token} → bs ≡ cs → Lexed from bs ts → IsBadAt m cs place → ⊥
 not_bad q x.end (here full stands) = let e = ap length q in omega arith

@@ -1,7 +1,8 @@
 -- What the walk does with a symbol that is a single token.
 use Rattle.std.proofs.Common.{◌≡◌, ◌≢◌, ◌<◌, ℕ, List, [], ◌∷◌, length, Option, Some, None, Ok, Err, Bool, true, false, refl, sym, ap, ◌∙◌, arith, eqb}
-use Rattle.std.proofs.lemmas.Bool.Decides.{nat_tests}
 use Rattle.std.specs.Prelude.{◌==◌, ◌&&◌, if◌then◌else◌}
+use Rattle.sap_lemmas.proofs.Numbers.{test_of_same}
+use Rattle.std.proofs.lemmas.Bool.{eqb-true}
 use Rattle.sap_modtext.specs.Tokens as t
 use Rattle.sap_modtext.specs.Tokens.{IsToken}
 use Rattle.sap_vparse.specs.Reading.{Passes, Head, ahead_of, constant_in, front_constant, front_name, front_number, head, head_of, name_in, number_in, of_name, of_nothing, of_number, of_sign, of_word, plain, reads, steps}
@@ -60,12 +61,6 @@ passed_is {q = q} {place} {kind} h e = record {
 
 -- signs and words by number
 
-pub same_number : (n : ℕ) → eqb n n ≡ true
-same_number n = grind (arith, nat_tests)
-
-same_test : (n m : ℕ) → eqb n m ≡ true → n ≡ m
-same_test n m e = grind (arith, nat_tests)
-
 pub sign_by : ℕ → t.Sign
 sign_by n = if n == 0 then t.OpenParen else (if n == 1 then t.CloseParen else (if n == 2 then t.OpenBrace else (if n == 3 then t.CloseBrace else (if n == 4 then t.OpenBracket else (if n == 5 then t.CloseBracket else (if n == 6 then t.Comma else (if n == 7 then t.Semicolon else (if n == 8 then t.Colon else (if n == 9 then t.Question else (if n == 10 then t.At else (if n == 11 then t.Is else (if n == 12 then t.Equal else (if n == 13 then t.NotEqual else (if n == 14 then t.Less else (if n == 15 then t.LessOrEqual else (if n == 16 then t.ShiftLeft else (if n == 17 then t.ShiftRight else (if n == 18 then t.Plus else (if n == 19 then t.Minus else (if n == 20 then t.Star else (if n == 21 then t.Ampersand else (if n == 22 then t.Bar else (if n == 23 then t.Caret else (t.Tilde))))))))))))))))))))))))
 
@@ -119,10 +114,10 @@ word_back t.Clk = refl
 word_back t.I = refl
 
 pub sign_same : (x y : t.Sign) → eqb (sign_number x) (sign_number y) ≡ true → x ≡ y
-sign_same x y e = sym (sign_back x) ∙ ap sign_by (same_test (sign_number x) (sign_number y) e) ∙ sign_back y
+sign_same x y e = sym (sign_back x) ∙ ap sign_by (eqb-true (sign_number x) (sign_number y) e) ∙ sign_back y
 
 pub word_same : (x y : t.Word) → eqb (word_number x) (word_number y) ≡ true → x ≡ y
-word_same x y e = sym (word_back x) ∙ ap word_by (same_test (word_number x) (word_number y) e) ∙ word_back y
+word_same x y e = sym (word_back x) ∙ ap word_by (eqb-true (word_number x) (word_number y) e) ∙ word_back y
 
 signs_apart : (x y : t.Sign) → x ≢ y → eqb (sign_number x) (sign_number y) ≡ false
 signs_apart x y ne = by_test (eqb (sign_number x) (sign_number y)) refl where
@@ -217,7 +212,7 @@ pub sign_is : (p q : List t.Token) (place : ℕ) (x : t.Sign) → head p ≡ of_
 sign_is p q place x e h = passed_is h (sign_kind x e h)
 
 pub next_sign : (x : t.Sign) (i : t.Kind) → i ≡ t.sign x → next (s.Sign x) i ≡ first []
-next_sign x i e = ap (next (s.Sign x)) e ∙ ap if_same (same_number (sign_number x))
+next_sign x i e = ap (next (s.Sign x)) e ∙ ap if_same (test_of_same (sign_number x))
 
 pub next_not_sign : (x : t.Sign) (i : t.Kind) → head_of i ≢ of_sign x → next (s.Sign x) i ≡ Stop
 next_not_sign x (t.sign i) ne = ap if_same (signs_apart i x (λ e. ne (ap of_sign e)))
@@ -241,7 +236,7 @@ pub word_is : (p q : List t.Token) (place : ℕ) (x : t.Word) → head p ≡ of_
 word_is p q place x e h = passed_is h (word_kind x e h)
 
 pub next_word : (x : t.Word) (i : t.Kind) → i ≡ t.word x → next (s.Word x) i ≡ first []
-next_word x i e = ap (next (s.Word x)) e ∙ ap if_same (same_number (word_number x))
+next_word x i e = ap (next (s.Word x)) e ∙ ap if_same (test_of_same (word_number x))
 
 pub next_not_word : (x : t.Word) (i : t.Kind) → head_of i ≢ of_word x → next (s.Word x) i ≡ Stop
 next_not_word x (t.word i) ne = ap if_same (words_apart i x (λ e. ne (ap of_word e)))
@@ -283,7 +278,7 @@ next_not_digit n (t.constant i m) e = refl
 
 pub digit_read : (p q : List t.Token) (place : ℕ) (n : ℕ) → front_number p ≡ Some (n, 1) → Passes p place q → reads (s.Digit n) p ≡ Ok q
 digit_read p q place n e h =
-    passed (s.Digit n) h (ap (next (s.Digit n)) (number_kind h.token.kind (n, 1) (number_front h.token q e h.parts)) ∙ ap (λ b. if_same (b && true)) (same_number n))
+    passed (s.Digit n) h (ap (next (s.Digit n)) (number_kind h.token.kind (n, 1) (number_front h.token q e h.parts)) ∙ ap (λ b. if_same (b && true)) (test_of_same n))
 
 pub digit_refused : (p : List t.Token) (n : ℕ) → front_number p ≡ None → reads (s.Digit n) p ≡ Err p
 digit_refused p n e = refused (s.Digit n) p refl (λ y ts h. next_not_digit n y.kind (number_front y ts e h))

@@ -1,7 +1,7 @@
 -- Each symbol can be spelled, and tokens that the walk takes go on as the grammar has it.
-use Rattle.std.proofs.Common.{◌≡◌, ℕ, List, [], ◌∷◌, ◌++◌, Bool, true, false, refl, sym, ap, subst, ◌∙◌, eqb, ◌⊎◌, inl, inr, arith}
-use Rattle.std.proofs.lemmas.Bool.Decides.{nat_tests}
+use Rattle.std.proofs.Common.{◌≡◌, ℕ, List, [], ◌∷◌, ◌++◌, Bool, true, false, refl, sym, ap, subst, ◌∙◌, eqb, ◌⊎◌, inl, inr}
 use Rattle.std.specs.Prelude.{◌&&◌}
+use Rattle.std.proofs.lemmas.Bool.{eqb-true}
 use Rattle.sap_bits.specs.declared.Op1.TheVariants as unary
 use Rattle.sap_bits.specs.declared.Op2.TheVariants as binary
 use Rattle.sap_modtext.specs.Grammar as g
@@ -94,9 +94,6 @@ one_digit p n ts = record { place = p; is = record { parts = refl } }
 one_constant : (p width n : ℕ) (ts : List t.Token) → IsConstant (token p (t.constant width n) ∷ ts) (record { place = p; width = width; value = n }) ts
 one_constant p width n ts = record { parts = refl }
 
-same_numbers : (n m : ℕ) → eqb n m ≡ true → n ≡ m
-same_numbers n m e = grind (arith, nat_tests)
-
 sign_gives : (p : ℕ) (j : t.Sign) (k : t.Kind) → Gives (s.sign_next j k) (λ ts r. IsSign (token p k ∷ ts) j r)
 sign_gives p j (t.sign x) = by_test (eqb (s.sign_number x) (s.sign_number j)) refl where
   by_test : (b : Bool) → eqb (s.sign_number x) (s.sign_number j) ≡ b → Gives (s.if_same b) (λ ts r. IsSign (token p (t.sign x) ∷ ts) j r)
@@ -132,8 +129,8 @@ digit_gives : (p n : ℕ) (k : t.Kind) → Gives (s.digit_next n k) (λ ts r. Is
 digit_gives p n (t.number x d) = by_tests (eqb x n) (eqb d 1) refl refl where
   by_tests : (a b : Bool) → eqb x n ≡ a → eqb d 1 ≡ b → Gives (s.if_same (a && b)) (λ ts r. IsDigit (token p (t.number x d) ∷ ts) n r)
   by_tests true true e f = λ ts r h.
-      subst (λ z. IsDigit (token p (t.number z d) ∷ ts) n r) (sym (same_numbers x n e))
-      (subst (λ z. IsDigit (token p (t.number n z) ∷ ts) n r) (sym (same_numbers d 1 f)) (subst (λ z. IsDigit (token p (t.number n 1) ∷ ts) n z) h (one_digit p n ts)))
+      subst (λ z. IsDigit (token p (t.number z d) ∷ ts) n r) (sym (eqb-true x n e))
+      (subst (λ z. IsDigit (token p (t.number n z) ∷ ts) n r) (sym (eqb-true d 1 f)) (subst (λ z. IsDigit (token p (t.number n 1) ∷ ts) n z) h (one_digit p n ts)))
   by_tests true false e f = tt
   by_tests false b e f = tt
 digit_gives p n (t.word x) = tt

@@ -3,12 +3,15 @@ use Rattle.std.proofs.Common.{◌≡◌, ℕ, ◌+◌, ◌-◌, ◌<◌, List, [
 use Rattle.std.specs.Prelude.{◌||◌, map, flat_map, filter, is_some}
 use Rattle.std.specs.List.{AllByRecursion}
 use Rattle.std.specs.Str.{bytes_eq}
-use Rattle.std.proofs.lemmas.Bool.{cases_Bool}
-use Rattle.std.proofs.lemmas.List.{take-append-drop}
+use Rattle.std.proofs.lemmas.Bool.{cases_Bool, or_right as or_here}
+use Rattle.std.proofs.lemmas.List.{take-append-drop, map-append}
 use Rattle.std.proofs.lemmas.Nat.{pow_pos}
+use Rattle.sap_lemmas.proofs.Bools.{or_follows}
+use Rattle.sap_lemmas.proofs.Texts.{bytes_eq_apart_back, bytes_eq_same, equal_of_bytes_eq}
+use Rattle.std.proofs.lemmas.Grind.{flat_map-append}
+use Rattle.sap_net.proofs.NamesLemmas.{among_append}
 use Rattle.sap_maps.specs.Maps.{Name}
 use Rattle.sap_maps.specs.Scope.{find}
-use Rattle.sap_maps.proofs.Scopes.{name_is, same_name, apart_back}
 use Rattle.sap_net.specs.declared.parts.PortKind.{PortKind}
 use Rattle.sap_net.specs.declared.parts.PortKind.TheVariants as kind
 use Rattle.sap_net.specs.declared.parts.Port.{Port}
@@ -20,7 +23,7 @@ use Rattle.sap_net.specs.Names.{is_among, AreDistinct}
 use Rattle.sap_net.specs.Net.{Net}
 use Rattle.sap_net.specs.IsNetlist.{IsNetlist, input_names, wire_names, register_names, memory_names, PortShows, is_input}
 use Rattle.sap_modtext.specs.Faults.{Shape, input, wire, register, memory, Among, Declaration, port_shape, port_declaration, item_declarations, declarations, shape_in}
-use Rattle.sap_modtext.proofs.NameLists.{found_key, among_append, distinct_parts, found_among, among_found, found_all, or_right, or_here, map_append, named_among, among_left, among_right, among_mapped, flat_map_append, among_cases, not_among, all_from}
+use Rattle.sap_modtext.proofs.NameLists.{found_key, distinct_parts, found_among, among_found, found_all, named_among, among_left, among_right, among_mapped, among_cases, not_among, all_from}
 use Rattle.sap_vprint.specs.Printed.{mention, input_entries, register_entries, wire_entries, memory_entries, entities, width_or_0, direction_of, printed_port, declared_items, declarations_of}
 use Rattle.sap_vprint.proofs.Entities.{entity_keys, entities_new, entities_fit, IsShape}
 
@@ -44,7 +47,7 @@ entry_of name f (y ∷ ys) x s (inl e) =
     let p : x ≡ name y = ap (λ (z : Name × Shape). z.0) e in
     record {
       of = y;
-      among = ap (λ b. b || is_among x (map name ys)) (subst (λ z. bytes_eq x z ≡ true) p (same_name x));
+      among = ap (λ b. b || is_among x (map name ys)) (subst (λ z. bytes_eq x z ≡ true) p (bytes_eq_same x));
       shape = ap (λ (z : Name × Shape). z.1) e;
     }
 entry_of name f (y ∷ ys) x s (inr m) =
@@ -144,7 +147,7 @@ module _ (n : Net) (h : IsNetlist n) where
   inners_declared (x ∷ xs) m =
       let s = m.0.0 in
       let is = m.0.1 in
-      flat_map_append item_declarations (declared_items x (find (entities n) x)) (declarations_of n xs)
+      flat_map-append item_declarations (declared_items x (find (entities n) x)) (declarations_of n xs)
       ∙ ap (λ o. flat_map item_declarations (declared_items x o) ++ flat_map item_declarations (declarations_of n xs)) is
       ∙ ap (λ z. z ++ flat_map item_declarations (declarations_of n xs)) (inner_declared x s (found_all IsShape (entities n) x s (entities_fit n h) is) m.0.2)
       ∙ ap (λ z. (let d : Declaration = record { name = mention x; shape = s } in d) ∷ z) (inners_declared xs m.1)
@@ -164,7 +167,7 @@ module _ (n : Net) (h : IsNetlist n) where
     by_kind : (b : Bool) → (is_among x (map (λ q. q.name) (filter (λ q. is_input q.kind) ps)) ≡ true → is_among x (map (λ q. q.name) ps) ≡ true)
         → is_among x (map (λ q. q.name) (cond b (p ∷ filter (λ q. is_input q.kind) ps) (filter (λ q. is_input q.kind) ps))) ≡ true
         → (bytes_eq x p.name || is_among x (map (λ q. q.name) ps)) ≡ true
-    by_kind true f m = or_right (bytes_eq x p.name) _ _ f m
+    by_kind true f m = or_follows (bytes_eq x p.name) _ _ f m
     by_kind false f m = or_here (bytes_eq x p.name) _ (f m)
 
   perm : (a b c d : Bool) → (((a || b) || c) || d) ≡ (a || (c || (b || d)))
@@ -266,16 +269,16 @@ module _ (n : Net) (h : IsNetlist n) where
   all_declared =
       ap (λ z. z ++ flat_map item_declarations (declarations_of n inner_names)) (ports_declared n.ports h.ports_show)
       ∙ ap (λ z. map (declare n) (map (λ p. p.name) n.ports) ++ z) (inners_declared inner_names (all_from IsInner inner_names inner_names inner_is (λ x m. m)))
-      ∙ sym (map_append (declare n) (map (λ p. p.name) n.ports) inner_names)
+      ∙ sym (map-append (declare n) (map (λ p. p.name) n.ports) inner_names)
       ∙ sym (ap (map (declare n)) all_named)
 
   shape_of_list : (xs : List Name) (x : Name) → shape_in (map (declare n) xs) x ≡ cond (is_among x xs) (Some (or_input (find (entities n) x))) None
   shape_of_list [] x = refl
   shape_of_list (y ∷ xs) x =
       ⊎_elim
-      (λ t. let e = name_is y x t in rw t (subst (λ z. Some (or_input (find (entities n) z)) ≡ cond (is_among x (y ∷ xs)) (Some (or_input (find (entities n) x))) None) (sym e)
-      (ap (λ b. cond (b || is_among x xs) (Some (or_input (find (entities n) x))) None) (sym (subst (λ z. bytes_eq x z ≡ true) (sym e) (same_name x))))))
-      (λ f. rw f (shape_of_list xs x ∙ ap (λ b. cond (b || is_among x xs) (Some (or_input (find (entities n) x))) None) (sym (apart_back y x f))))
+      (λ t. let e = equal_of_bytes_eq y x t in rw t (subst (λ z. Some (or_input (find (entities n) z)) ≡ cond (is_among x (y ∷ xs)) (Some (or_input (find (entities n) x))) None) (sym e)
+      (ap (λ b. cond (b || is_among x xs) (Some (or_input (find (entities n) x))) None) (sym (subst (λ z. bytes_eq x z ≡ true) (sym e) (bytes_eq_same x))))))
+      (λ f. rw f (shape_of_list xs x ∙ ap (λ b. cond (b || is_among x xs) (Some (or_input (find (entities n) x))) None) (sym (bytes_eq_apart_back y x f))))
       (cases_Bool (bytes_eq y x))
 
   pub shape_found : (x : Name) → shape_in (map (declare n) n.names) x ≡ find (entities n) x

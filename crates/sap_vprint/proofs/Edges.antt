@@ -1,8 +1,11 @@
 -- The printed first contents and edges have no fault.
-use Rattle.std.proofs.Common.{◌≡◌, ℕ, arith, List, [], ◌∷◌, ◌++◌, Bool, true, false, Some, refl, sym, ap, ◌∙◌, append_assoc}
+use Rattle.std.proofs.Common.{◌≡◌, ℕ, arith, List, [], ◌∷◌, ◌++◌, true, false, Some, refl, sym, ap, ◌∙◌, append_assoc}
 use Rattle.std.specs.Prelude.{◌||◌, map}
 use Rattle.std.specs.List.{AllByRecursion}
 use Rattle.std.specs.Str.{bytes_eq}
+use Rattle.sap_lemmas.proofs.Bools.{or_false}
+use Rattle.sap_lemmas.proofs.Everywhere.{all_append}
+use Rattle.std.proofs.lemmas.Bool.{or_left, or_parts}
 use Rattle.sap_maps.specs.Maps.{Name}
 use Rattle.sap_maps.specs.Scope.{find}
 use Rattle.sap_net.specs.declared.parts.Register.{Register}
@@ -15,15 +18,8 @@ use Rattle.sap_modtext.specs.Items as item
 use Rattle.sap_modtext.specs.Faults.{register, memory, shape_above, item_declarations, Setting, assign, initial, always, target_of, is_target, is_set, has_integer, as_memory, Use, operand_uses, operand_constants, constant_fits, operand_width, value_width, register_width, memory_width}
 use Rattle.sap_modtext.proofs.Good.{IsGoodUse, above_of, AreGood}
 use Rattle.sap_vprint.specs.Printed.{mention, entities, operand_of, initial_of, initial_cells_of, always_of, always_cell_of}
-use Rattle.sap_vprint.proofs.Operands.{all_append, Sees, operand_good, operand_fits, operand_is, index_good, fits_is, constant_is, no_differ}
-use Rattle.sap_vprint.proofs.Stages.{or_nil, integer_append, fresh_target, ports, found_kept, set_more}
-
-pub or_left : (a b : Bool) → a ≡ true → (a || b) ≡ true
-or_left a b e = ap (λ z. z || b) e
-
-pub or_parts : (a b : Bool) → (a || b) ≡ false → (a ≡ false) × (b ≡ false)
-or_parts true b h = absurd (cc)
-or_parts false b h = (refl, h)
+use Rattle.sap_vprint.proofs.Operands.{Sees, operand_good, operand_fits, operand_is, index_good, fits_is, constant_is, no_differ}
+use Rattle.sap_vprint.proofs.Stages.{integer_append, fresh_target, ports, found_kept, set_more}
 
 -- none of these is set so far
 abbrev pub AreFresh : {A : Type 0} → (A → Name) → Setting → List A → List item.Item → Type 0
@@ -46,7 +42,7 @@ module _ (n : Net) (h : IsNetlist n) where
       found = found_kept n h before y q.declares g.sees.found;
       values = λ x w f.
           ap (value_width (find (entities n) x))
-          (set_more n h assign x before y ∙ ap (λ b. is_set assign x before || b) (q.assigns x) ∙ or_nil (is_set assign x before))
+          (set_more n h assign x before y ∙ ap (λ b. is_set assign x before || b) (q.assigns x) ∙ or_false (is_set assign x before))
           ∙ g.sees.values x w f;
       cells = g.sees.cells;
       deep = g.sees.deep;
@@ -60,7 +56,7 @@ module _ (n : Net) (h : IsNetlist n) where
   fresh_more name s x [] before y new is g = tt
   fresh_more name s x (z ∷ zs) before y new is g =
       let w = or_parts (bytes_eq x (name z)) (is_among x (map name zs)) new in (
-        set_more n h s (name z) before y ∙ ap (λ b. is_set s (name z) before || b) (is (name z) ∙ w.0) ∙ or_nil (is_set s (name z) before) ∙ g.0,
+        set_more n h s (name z) before y ∙ ap (λ b. is_set s (name z) before || b) (is (name z) ∙ w.0) ∙ or_false (is_set s (name z) before) ∙ g.0,
         fresh_more name s x zs before y w.1 is g.1,
       )
 

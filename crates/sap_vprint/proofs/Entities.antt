@@ -3,10 +3,11 @@ use Rattle.std.proofs.Common.{◌≡◌, ℕ, List, [], ◌∷◌, ◌++◌, tru
 use Rattle.std.specs.Prelude.{◌⊎◌, map}
 use Rattle.std.specs.List.{AllByRecursion}
 use Rattle.std.specs.Str.{bytes_eq}
-use Rattle.std.proofs.lemmas.Bool.{cases_Bool}
+use Rattle.std.proofs.lemmas.Bool.{cases_Bool, or_from}
+use Rattle.sap_lemmas.proofs.Texts.{bytes_eq_apart_back, equal_of_bytes_eq}
 use Rattle.sap_maps.specs.Maps.{Name}
 use Rattle.sap_maps.specs.Scope.{Scope, find}
-use Rattle.sap_maps.proofs.Scopes.{name_is, apart_back, found_here, found_behind}
+use Rattle.sap_maps.proofs.Scopes.{found_here, found_behind}
 use Rattle.sap_net.specs.declared.parts.Input.{Input}
 use Rattle.sap_net.specs.declared.parts.Wire.{Wire}
 use Rattle.sap_net.specs.declared.parts.Register.{Register}
@@ -16,7 +17,7 @@ use Rattle.sap_net.specs.Net.{Net}
 use Rattle.sap_net.specs.Rules.{Shapes, IsWidth, IsMemory, AreWires, AreValues, AreMemories}
 use Rattle.sap_net.specs.IsNetlist.{IsNetlist, input_names, wire_names, register_names, memory_names, first_readable, readable, shapes}
 use Rattle.sap_modtext.specs.Faults.{Shape, input, wire, register, memory, Among, IsDepth}
-use Rattle.sap_modtext.proofs.NameLists.{AreNew, keys, or_none, none_key, new_keys, NoneAmong, none_among_append, distinct_append, distinct_parts, found_among, keys_map, keys_append, none_among_parts}
+use Rattle.sap_modtext.proofs.NameLists.{AreNew, keys, none_key, new_keys, NoneAmong, none_among_append, distinct_append, distinct_parts, found_among, keys_map, keys_append, none_among_parts}
 use Rattle.sap_vprint.specs.Printed.{entities}
 
 -- What a netlist's rules say of its names.
@@ -39,9 +40,9 @@ wires_fresh : (ms : Shapes) (readable : Scope) (ws : List Wire) (n : Name) (k : 
 wires_fresh ms readable [] n k h f = refl
 wires_fresh ms readable (w ∷ ws) n k h f =
     let apart : bytes_eq w.name n ≡ false = differ w.name (cases_Bool (bytes_eq w.name n)) h.1 in
-    or_none _ _ (apart_back w.name n apart) (wires_fresh ms ((w.name, w.width) ∷ readable) ws n k h.4 (found_behind readable w.name w.width h.1 n k f)) where
+    or_from _ _ (bytes_eq_apart_back w.name n apart) (wires_fresh ms ((w.name, w.width) ∷ readable) ws n k h.4 (found_behind readable w.name w.width h.1 n k f)) where
       differ : (m : Name) → (bytes_eq m n ≡ true) ⊎ (bytes_eq m n ≡ false) → find readable m ≡ None → bytes_eq m n ≡ false
-      differ m (inl t) g = absurd (let e : find readable n ≡ None = subst (λ z. find readable z ≡ None) (name_is m n t) g in cc)
+      differ m (inl t) g = absurd (let e : find readable n ≡ None = subst (λ z. find readable z ≡ None) (equal_of_bytes_eq m n t) g in cc)
       differ m (inr t) g = t
 
 wires_distinct : (ms : Shapes) (readable : Scope) (ws : List Wire) → AreWires ms readable ws → AreDistinct (names_of ws) × NoneAmong (names_of ws) (keys ms)

@@ -1,11 +1,12 @@
 -- What is looked up in a netlist's lists is what it has.
-use Rattle.std.proofs.Common.{◌≡◌, ◌<◌, ℕ, zero, suc, arith, List, [], ◌∷◌, ◌++◌, length, get_or, Bool, false, Option, Some, None, refl, sym, ap, ◌∙◌, subst, inl, inr, ⊎_elim}
-use Rattle.std.specs.Prelude.{◌||◌, map, is_some, IfNone, IfSome}
+use Rattle.std.proofs.Common.{◌≡◌, ◌<◌, ℕ, zero, suc, arith, List, [], ◌∷◌, ◌++◌, length, get_or, false, Option, Some, None, refl, sym, ap, ◌∙◌, subst, inl, inr, ⊎_elim}
+use Rattle.std.specs.Prelude.{map, is_some, IfNone, IfSome}
 use Rattle.std.specs.Str.{bytes_eq}
-use Rattle.std.proofs.lemmas.Bool.{cases_Bool}
+use Rattle.std.proofs.lemmas.Bool.{cases_Bool, or_from}
+use Rattle.sap_lemmas.proofs.Texts.{equal_of_bytes_eq}
+use Rattle.sap_net.proofs.NamesLemmas.{among_append}
 use Rattle.sap_maps.specs.Maps.{Name}
 use Rattle.sap_maps.specs.Scope.{find}
-use Rattle.sap_maps.proofs.Scopes.{name_is}
 use Rattle.sap_net.specs.declared.parts.Input.{Input}
 use Rattle.sap_net.specs.declared.parts.Wire.{Wire}
 use Rattle.sap_net.specs.declared.parts.Register.{Register}
@@ -14,21 +15,18 @@ use Rattle.sap_net.specs.Names.{is_among}
 use Rattle.sap_net.specs.Net.{Net}
 use Rattle.sap_net.specs.IsNetlist.{IsNetlist, input_names, wire_names, register_names, memory_names}
 use Rattle.sap_modtext.specs.Faults.{Shape, input, wire, register, memory, Among}
-use Rattle.sap_modtext.proofs.NameLists.{found_key, among_append}
+use Rattle.sap_modtext.proofs.NameLists.{found_key}
 use Rattle.sap_vprint.specs.declared.lookup.Entity.{Entity}
 use Rattle.sap_vprint.specs.Lookup.{shape_of, shape_found}
 use Rattle.sap_vprint.specs.Printed.{entities}
 use Rattle.sap_vprint.proofs.Entities.{entity_keys}
 use Rattle.sap_vprint.proofs.Declared.{input_found, register_found, wire_found, memory_found}
 
-or_false : (a b : Bool) → a ≡ false → b ≡ false → (a || b) ≡ false
-or_false a b p q = ap (λ z. z || b) p ∙ q
-
 pub not_listed : {A : Type 0} (name : A → Name) (xs : List A) (x : Name) → ((k : ℕ) (y : A) → k < length xs → name (get_or xs k y) ≡ x → ⊥) → is_among x (map name xs) ≡ false
 not_listed name [] x f = refl
 not_listed name (y ∷ ys) x f =
-    or_false (bytes_eq x (name y)) (is_among x (map name ys))
-    (⊎_elim (λ t. absurd (f 0 y (omega arith) (sym (name_is x (name y) t)))) (λ e. e) (cases_Bool (bytes_eq x (name y))))
+    or_from (bytes_eq x (name y)) (is_among x (map name ys))
+    (⊎_elim (λ t. absurd (f 0 y (omega arith) (sym (equal_of_bytes_eq x (name y) t)))) (λ e. e) (cases_Bool (bytes_eq x (name y))))
     (not_listed name ys x (λ k z lt e. f (suc k) z (omega arith) e))
 
 listed : {A : Type 0} (xs : List A) (i : ℕ) (d : A) → i < length xs → Among (get_or xs i d) xs
@@ -72,7 +70,7 @@ nothing_else n x w r i m = by_case (find (entities n) x) (found_key (entities n)
   all_false : is_among x (input_names n ++ (register_names n ++ (wire_names n ++ memory_names n))) ≡ false
   all_false =
       among_append x (input_names n) (register_names n ++ (wire_names n ++ memory_names n))
-      ∙ or_false _ _ i (among_append x (register_names n) (wire_names n ++ memory_names n) ∙ or_false _ _ r (among_append x (wire_names n) (memory_names n) ∙ or_false _ _ w m))
+      ∙ or_from _ _ i (among_append x (register_names n) (wire_names n ++ memory_names n) ∙ or_from _ _ r (among_append x (wire_names n) (memory_names n) ∙ or_from _ _ w m))
 
 -- what the last list has, or nothing
 pub looked_up : (n : Net) (x : Name) (o : Option Entity) → IfSome o (λ e. find (entities n) x ≡ Some (shape_of e)) → IfNone o (is_among x (memory_names n) ≡ false)

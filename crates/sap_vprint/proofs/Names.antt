@@ -1,14 +1,16 @@
 -- A netlist's names are written as names, and its numbers are small.
-use Rattle.std.proofs.Common.{◌≡◌, ℕ, ◌^◌, ◌<◌, ◌≤◌, arith, List, [], ◌∷◌, length, Bool, true, false, cond, Option, Some, None, refl, sym, ap, ◌∙◌, subst, ⊎_elim}
-use Rattle.std.specs.Prelude.{◌||◌, ◌&&◌, not, map, find as first_such, is_some}
-use Rattle.std.specs.List.{AllByRecursion, list_all, list_any}
+use Rattle.std.proofs.Common.{◌≡◌, ℕ, ◌^◌, ◌<◌, ◌≤◌, arith, List, [], ◌∷◌, length, true, Option, Some, None, refl, sym, ap, ◌∙◌, subst, ⊎_elim}
+use Rattle.std.specs.Prelude.{◌||◌, ◌&&◌, not, map, is_some}
+use Rattle.std.specs.List.{AllByRecursion, list_all}
 use Rattle.std.specs.Str.{bytes_eq}
-use Rattle.std.proofs.lemmas.Bool.{cases_Bool}
-use Rattle.std.proofs.lemmas.Bool.Decides.{nat_tests}
+use Rattle.std.proofs.lemmas.Bool.{cases_Bool, and_parts, not-true}
 use Rattle.std.proofs.Math.Pow.{pow_mono}
+use Rattle.sap_lemmas.proofs.Everywhere.{all_append, none_found}
+use Rattle.sap_lemmas.proofs.Texts.{equal_of_bytes_eq}
+use Rattle.sap_net.proofs.NamesLemmas.{initial_inner}
+use Rattle.sap_modtext.proofs.LexingLemmas.{keywords_are}
 use Rattle.sap_maps.specs.Maps.{Name}
 use Rattle.sap_maps.specs.Scope.{Scope, find}
-use Rattle.sap_maps.proofs.Scopes.{name_is}
 use Rattle.sap_net.specs.declared.parts.Operand.{Operand}
 use Rattle.sap_net.specs.declared.parts.Operand.TheVariants.{Named, Constant}
 use Rattle.sap_net.specs.declared.parts.Right.{Right}
@@ -30,31 +32,9 @@ use Rattle.sap_vprint.proofs.Spelled.{IsName, IsWritable}
 use Rattle.sap_vprint.proofs.Written.{IsOperandWritten, IsRightWritten, IsItemWritten, IsPortWritten, IsFileWritten}
 use Rattle.sap_vprint.proofs.Entities.{IsShape, entities_fit}
 use Rattle.sap_vprint.proofs.Declared.{IsInner, inner_names, declared_found, port_found}
-use Rattle.sap_vprint.proofs.Operands.{all_append}
 use Rattle.sap_vprint.proofs.Whole.{first_found, cells_found, cells_deep, inner_all, wires_found, registers_are, stores_are, port_small}
 use Rattle.sap_vprint.proofs.ReadBack.{HasParts}
 use Rattle.sap_vprint.proofs.Edges.{AreRegisters, AreStores}
-
-and_parts : (a b : Bool) → (a && b) ≡ true → (a ≡ true) × (b ≡ true)
-and_parts true b h = (refl, h)
-and_parts false b h = absurd (cc)
-
-none_such : {A : Type 0} (p : A → Bool) (xs : List A) → list_any p xs ≡ false → first_such p xs ≡ None
-none_such p [] h = refl
-none_such p (x ∷ xs) h = by_test (p x) h (none_such p xs) where
-  by_test : (b : Bool) → (b || list_any p xs) ≡ false → (list_any p xs ≡ false → first_such p xs ≡ None) → cond b (Some x) (first_such p xs) ≡ None
-  by_test true g f = absurd (cc)
-  by_test false g f = f g
-
-initial_inner : (c : ℕ) → is_initial c ≡ true → is_inner c ≡ true
-initial_inner c h = grind (arith, nat_tests)
-
-not_true : (b : Bool) → not b ≡ true → b ≡ false
-not_true true h = absurd (cc)
-not_true false h = refl
-
-keywords_are : (n : List ℕ) → list_any (λ w. bytes_eq n (word_text w)) words ≡ is_keyword n
-keywords_are n = refl
 
 pub name_written : (n : List ℕ) → is_name n ≡ true → IsName n
 unfolding is_name
@@ -68,7 +48,7 @@ name_written (c ∷ cs) h =
       parts = refl;
       start = v.0;
       bytes = ap (λ b. b && list_all is_inner cs) (initial_inner c v.0) ∙ v.1;
-      kind = ap (λ o. word_or_name o (c ∷ cs)) (none_such (λ w. bytes_eq (c ∷ cs) (word_text w)) words (keywords_are (c ∷ cs) ∙ not_true (is_keyword (c ∷ cs)) w.1));
+      kind = ap (λ o. word_or_name o (c ∷ cs)) (none_found (λ w. bytes_eq (c ∷ cs) (word_text w)) words (keywords_are (c ∷ cs) ∙ not-true (is_keyword (c ∷ cs)) w.1));
     }
 
 small_width : (w v : ℕ) → IsWidth w → v < 2 ^ w → IsWritable (constant w v)
@@ -82,7 +62,7 @@ module _ (n : Net) (h : IsNetlist n) where
   among_named [] x a m = absurd (cc)
   among_named (y ∷ ys) x a m =
       ⊎_elim
-      (λ t. subst (λ z. is_name z ≡ true) (sym (name_is x y t)) a.0)
+      (λ t. subst (λ z. is_name z ≡ true) (sym (equal_of_bytes_eq x y t)) a.0)
       (λ f. among_named ys x a.1 (ap (λ b. b || is_among x ys) (sym f) ∙ m))
       (cases_Bool (bytes_eq x y))
 
@@ -106,7 +86,7 @@ module _ (n : Net) (h : IsNetlist n) where
   names_more : (w : Wire) (readable : Scope) → find (entities n) w.name ≡ Some (wire w.width) → AreNames readable → AreNames ((w.name, w.width) ∷ readable)
   names_more w readable found names x u f =
       ⊎_elim
-      (λ t. subst IsName (name_is w.name x t) (found_name w.name (wire w.width) found))
+      (λ t. subst IsName (equal_of_bytes_eq w.name x t) (found_name w.name (wire w.width) found))
       (λ e. names x u (rw e at f))
       (cases_Bool (bytes_eq w.name x))
 

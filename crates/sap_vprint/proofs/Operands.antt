@@ -1,9 +1,10 @@
 -- What a wire, a register or a memory reads is used without a fault where it can be read.
-use Rattle.std.proofs.Common.{◌≡◌, ℕ, ◌+◌, ◌-◌, ◌^◌, ◌<◌, ◌≤◌, List, [], ◌∷◌, ◌++◌, Bool, true, false, cond, ltb, leb, Option, Some, None, refl, sym, ap, ◌∙◌, subst, arith}
+use Rattle.std.proofs.Common.{◌≡◌, ℕ, ◌+◌, ◌-◌, ◌^◌, ◌<◌, ◌≤◌, List, [], ◌∷◌, Bool, true, false, cond, ltb, leb, Option, Some, None, refl, sym, ap, ◌∙◌, subst, arith}
 use Rattle.std.specs.Prelude.{◌&&◌, map, flat_map}
 use Rattle.std.specs.List.{AllByRecursion}
 use Rattle.std.proofs.lemmas.Bool.Decides.{nat_tests}
-use Rattle.std.proofs.lemmas.Nat.{pow_below}
+use Rattle.sap_lemmas.proofs.Everywhere.{all_append}
+use Rattle.sap_lemmas.proofs.Numbers.{same_power}
 use Rattle.sap_bits.specs.Arithmetic.{width1, width2}
 use Rattle.sap_bits.specs.declared.Op1.{Op1}
 use Rattle.sap_bits.specs.declared.Op1.TheVariants as unary
@@ -23,10 +24,6 @@ use Rattle.sap_modtext.specs.Items as item
 use Rattle.sap_modtext.specs.Faults.{Shape, input, wire, register, memory, shape_width, Above, shape_above, assign, is_set, as_value, suits, operand_uses, right_uses, operand_constants, right_constants, right_indexes, constant_fits, constant_width, value_width, operand_width, add_widths, parts_width, slice_width, unary_rule, binary_rule, unary_pairs, binary_pairs, right_pairs, Differ, memory_width}
 use Rattle.sap_modtext.proofs.Good.{IsGoodUse, IsGoodIndex, IsFit}
 use Rattle.sap_vprint.specs.Printed.{mention, constant, entities, operand_of, right_of}
-
-pub all_append : {A : Type 0} (P : A → Type 0) (xs ys : List A) → AllByRecursion P xs → AllByRecursion P ys → AllByRecursion P (xs ++ ys)
-all_append P [] ys p q = q
-all_append P (x ∷ xs) ys p q = (p.0, all_append P xs ys p.1 q)
 
 -- all declared names are above, and what can be read is an input, a register or an assigned wire there
 pub record Sees (n : Net) (a : Above) (readable : Scope) : Type 0 where
@@ -64,13 +61,6 @@ fits_is w v h g = both (leb 1 w) (leb w 64) (ltb v (2 ^ w)) (le_true 1 w h.0) (l
 
 pub constant_is : (w v : ℕ) → constant_fits (constant w v) ≡ true → constant_width (constant w v) ≡ Some w
 constant_is w v h = ap (λ b. cond b (Some w) None) h
-
-pub same_power : (b c : ℕ) → 2 ^ b ≡ 2 ^ c → b ≡ c
-same_power b c e = by_order (ltb b c) (ltb c b) refl refl where
-  by_order : (p q : Bool) → ltb b c ≡ p → ltb c b ≡ q → b ≡ c
-  by_order true q h g = let less : b < c = grind (arith, nat_tests) in absurd (omega (arith, pow_below b c less))
-  by_order false true h g = let less : c < b = grind (arith, nat_tests) in absurd (omega (arith, pow_below c b less))
-  by_order false false h g = grind (arith, nat_tests)
 
 pub no_differ : (p q : Option ℕ) (w : ℕ) → p ≡ Some w → q ≡ Some w → Differ (p, q) → ⊥
 no_differ p q w e f d =

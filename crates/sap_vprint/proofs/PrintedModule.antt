@@ -1,6 +1,7 @@
 -- The text that is printed for a netlist is a module, with this netlist.
 use Rattle.std.proofs.Common.{◌≡◌, List, [], ◌∷◌, ◌++◌, length, drop, Option, Some, None, refl, sym, ap, ◌∙◌, subst}
 use Rattle.std.specs.Prelude.{map}
+use Rattle.std.proofs.lemmas.List.{map-append}
 use Rattle.sap_maps.specs.Maps.{Name}
 use Rattle.sap_maps.specs.Scope.{find}
 use Rattle.sap_net.specs.declared.parts.Operand.{Operand}
@@ -18,7 +19,6 @@ use Rattle.sap_modtext.proofs.Bare.{bare_operand, bare_right, bare_item, bare_po
 use Rattle.sap_modtext.proofs.BareFaults.{bare_faultless}
 use Rattle.sap_modtext.proofs.BareNet.{bare_netlist}
 use Rattle.sap_modtext.proofs.Good.{good_faultless}
-use Rattle.sap_modtext.proofs.NameLists.{map_append}
 use Rattle.sap_vprint.specs.Text.{text_of, file_pieces}
 use Rattle.sap_vprint.specs.Printed.{mention, entities, operand_of, right_of, printed_port, declared_items, declarations_of, integer_of, assign_of, initial_of, initial_cells_of, always_of, always_cell_of, items_of, file_of}
 use Rattle.sap_vprint.proofs.Names.{file_written}
@@ -52,7 +52,7 @@ list_bare f e [] = refl
 list_bare f e (x ∷ xs) = let a = e x in let b = list_bare f e xs in cc
 
 both_bare : (xs ys : List item.Item) → map bare_item xs ≡ xs → map bare_item ys ≡ ys → map bare_item (xs ++ ys) ≡ xs ++ ys
-both_bare xs ys p q = map_append bare_item xs ys ∙ ap (λ z. z ++ map bare_item ys) p ∙ ap (λ z. xs ++ z) q
+both_bare xs ys p q = map-append bare_item xs ys ∙ ap (λ z. z ++ map bare_item ys) p ∙ ap (λ z. xs ++ z) q
 
 declared_bare : (x : Name) (o : Option Shape) → map bare_item (declared_items x o) ≡ declared_items x o
 declared_bare x None = refl

@@ -3,10 +3,12 @@ use Rattle.std.proofs.Common.{◌≡◌, ℕ, ◌+◌, ◌-◌, arith, List, [],
 use Rattle.std.specs.Prelude.{◌⊎◌, map, flat_map, filter, unwrap_or}
 use Rattle.std.specs.List.{AllByRecursion}
 use Rattle.std.specs.Str.{bytes_eq}
-use Rattle.std.proofs.lemmas.Bool.{cases_Bool}
+use Rattle.std.proofs.lemmas.Bool.{cases_Bool, or_parts}
+use Rattle.sap_lemmas.proofs.Texts.{bytes_eq_same, bytes_eq_symmetric, equal_of_bytes_eq}
+use Rattle.std.proofs.lemmas.Grind.{flat_map-append}
+use Rattle.std.proofs.lemmas.List.{append-nil}
 use Rattle.sap_maps.specs.Maps.{Name}
 use Rattle.sap_maps.specs.Scope.{find}
-use Rattle.sap_maps.proofs.Scopes.{name_is, same_name}
 use Rattle.sap_net.specs.declared.parts.Operand.{Operand}
 use Rattle.sap_net.specs.declared.parts.Operand.TheVariants.{Named, Constant}
 use Rattle.sap_net.specs.declared.parts.Right.{Right}
@@ -25,13 +27,11 @@ use Rattle.sap_modtext.specs.Items as item
 use Rattle.sap_modtext.specs.Faults.{Shape, input, wire, register, memory, Declaration, declarations, Among}
 use Rattle.sap_modtext.specs.Modules.{net_operand, net_right, net_kind, net_port, net_input, port_input, declared_width, net_wires, first_of, first_given, when, initial_number, next_operand, Write, cell_write, nothing, net_register, written_memory, net_memory, shape_registers, shape_memories, netlist_of}
 use Rattle.sap_modtext.proofs.BareNet.{net_same}
-use Rattle.sap_modtext.proofs.NameLists.{found_all, named_among, among_name, flat_map_append}
+use Rattle.sap_modtext.proofs.NameLists.{found_all, named_among, among_name}
 use Rattle.sap_vprint.specs.Printed.{entities, operand_of, right_of, direction_of, width_or_0, printed_port, declared_items, declarations_of, integer_of, assign_of, initial_of, initial_cells_of, always_of, always_cell_of, items_of, file_of}
 use Rattle.sap_vprint.proofs.Entities.{names_apart, IsShape, entities_fit}
 use Rattle.sap_vprint.proofs.Declared.{declare, or_input, shape_found, inner_names, input_found, register_found, wire_found, memory_found, register_named, memory_named, port_found}
 use Rattle.sap_vprint.proofs.Whole.{whole_declared, no_register}
-use Rattle.sap_vprint.proofs.Stages.{eq_back, append_nil}
-use Rattle.sap_vprint.proofs.Edges.{or_parts}
 
 operand_back : (o : Operand) → net_operand (operand_of o) ≡ o
 operand_back (Named x) = refl
@@ -71,7 +71,7 @@ module _ {A B : Type 0} (f : A → item.Item) (give : item.Item → Option B) wh
       → (y : A) → Among y ys → name y ≡ x → first_given give (map f ys) ≡ Some (value y)
   gives_one name x value e [] d y m p = absurd m
   gives_one name x value e (z ∷ zs) d y (inl q) p =
-      let same : bytes_eq (name z) x ≡ true = subst (λ v. bytes_eq v x ≡ true) (sym p ∙ ap name q) (same_name x) in
+      let same : bytes_eq (name z) x ≡ true = subst (λ v. bytes_eq v x ≡ true) (sym p ∙ ap name q) (bytes_eq_same x) in
       ap (λ o. first_of o (first_given give (map f zs))) (e z ∙ ap (λ b. cond b (Some (value z)) None) same) ∙ ap (λ v. Some (value v)) (sym q)
   gives_one name x value e (z ∷ zs) d y (inr m) p =
       let other : bytes_eq (name z) x ≡ false = apart zs d.0 m (cases_Bool (bytes_eq (name z) x)) in
@@ -79,7 +79,7 @@ module _ {A B : Type 0} (f : A → item.Item) (give : item.Item → Option B) wh
         apart : (us : List A) → is_among (name z) (map name us) ≡ false → Among y us → (bytes_eq (name z) x ≡ true) ⊎ (bytes_eq (name z) x ≡ false) → bytes_eq (name z) x ≡ false
         apart us g a (inr t) = t
         apart us g a (inl t) =
-            let q : is_among (name z) (map name us) ≡ true = subst (λ v. is_among v (map name us) ≡ true) (p ∙ sym (name_is (name z) x t)) (among_name name y us a) in
+            let q : is_among (name z) (map name us) ≡ true = subst (λ v. is_among v (map name us) ≡ true) (p ∙ sym (equal_of_bytes_eq (name z) x t)) (among_name name y us a) in
             absurd (cc)
 
   -- none of them has the name
@@ -88,7 +88,7 @@ module _ {A B : Type 0} (f : A → item.Item) (give : item.Item → Option B) wh
   gives_other name x value e [] d = refl
   gives_other name x value e (z ∷ zs) d =
       let w = or_parts (bytes_eq x (name z)) (is_among x (map name zs)) d in
-      ap (λ o. first_of o (first_given give (map f zs))) (e z ∙ ap (λ b. cond b (Some (value z)) None) (eq_back (name z) x ∙ w.0)) ∙ gives_other name x value e zs w.1
+      ap (λ o. first_of o (first_given give (map f zs))) (e z ∙ ap (λ b. cond b (Some (value z)) None) (bytes_eq_symmetric (name z) x ∙ w.0)) ∙ gives_other name x value e zs w.1
 
 module _ {B : Type 0} (give : item.Item → Option B) where
   -- what gives nothing, or something, in front
@@ -352,7 +352,7 @@ module _ (n : Net) (h : IsNetlist n) where
   declarations_wires : (xs : List Name) → flat_map (net_wires all) (declarations_of n xs) ≡ []
   declarations_wires [] = refl
   declarations_wires (x ∷ xs) =
-      flat_map_append (net_wires all) (declared_items x (find (entities n) x)) (declarations_of n xs)
+      flat_map-append (net_wires all) (declared_items x (find (entities n) x)) (declarations_of n xs)
       ∙ ap (λ z. z ++ flat_map (net_wires all) (declarations_of n xs)) (declared_wires x (find (entities n) x)) ∙ declarations_wires xs
 
   integer_wires : (ms : List Memory) → flat_map (net_wires all) (integer_of ms) ≡ []
@@ -360,7 +360,7 @@ module _ (n : Net) (h : IsNetlist n) where
   integer_wires (m ∷ ms) = refl
 
   behind_none : (xs ys : List item.Item) → flat_map (net_wires all) xs ≡ [] → flat_map (net_wires all) (xs ++ ys) ≡ flat_map (net_wires all) ys
-  behind_none xs ys e = flat_map_append (net_wires all) xs ys ∙ ap (λ z. z ++ flat_map (net_wires all) ys) e
+  behind_none xs ys e = flat_map-append (net_wires all) xs ys ∙ ap (λ z. z ++ flat_map (net_wires all) ys) e
 
   edges_wires : flat_map (net_wires all) (map initial_of n.registers ++ (map initial_cells_of n.memories ++ (map always_of n.registers ++ map always_cell_of n.memories))) ≡ []
   edges_wires =
@@ -374,9 +374,9 @@ module _ (n : Net) (h : IsNetlist n) where
       ap (λ ds. flat_map (net_wires ds) (items_of n)) (whole_declared n h)
       ∙ behind_none declared _ (declarations_wires (inner_names n h))
       ∙ behind_none (integer_of n.memories) _ (integer_wires n.memories)
-      ∙ flat_map_append (net_wires all) (map assign_of n.wires) _
+      ∙ flat_map-append (net_wires all) (map assign_of n.wires) _
       ∙ ap (λ z. flat_map (net_wires all) (map assign_of n.wires) ++ z) edges_wires
-      ∙ append_nil _
+      ∙ append-nil _
       ∙ assigns_back n.wires wire_back
 
   pub netlist_back : netlist_of (file_of n) ≡ n

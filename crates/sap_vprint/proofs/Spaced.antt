@@ -1,8 +1,8 @@
 -- Pieces that don't run into one another are read as the tokens that they stand for.
 use Rattle.std.proofs.Common.{◌≡◌, ◌+◌, ℕ, List, [], ◌∷◌, ◌++◌, length, drop, Bool, true, false, eqb, refl, sym, subst}
-use Rattle.std.proofs.lemmas.Grind.{common_steps}
-use Rattle.std.proofs.Common.{arith}
 use Rattle.std.specs.Prelude.{slice_index, ◌||◌, ◌&&◌, decimal}
+use Rattle.sap_lemmas.proofs.Lists.{drop_front}
+use Rattle.std.proofs.lemmas.Bool.{and_parts}
 use Rattle.sap_net.specs.Names.{is_inner}
 use Rattle.sap_modtext.specs.Items.{Operand, Constant, Right, Item, Port, Direction, File}
 use Rattle.sap_modtext.specs.Items as item
@@ -120,53 +120,46 @@ behind p [] h = at_end p where
   at_end _ = refl
 behind p (q ∷ qs) h = apart p q (text_of qs) h
 
-cut : (a b : List ℕ) → drop (length a) (a ++ b) ≡ b
-cut a b = grind (arith, common_steps)
-
-both_true : (a b : Bool) → (a && b) ≡ true → (a ≡ true) × (b ≡ true)
-both_true true b h = (refl, h)
-both_true false b h = absurd (cc)
-
 -- what is left behind a piece
 lexed_behind : (p : Piece) (qs : List Piece) (from : ℕ) (ts : List Token) → Lexed (from + length (piece_text p)) (text_of qs) ts
     → Lexed (from + length (piece_text p)) (drop (length (piece_text p)) (piece_text p ++ text_of qs)) ts
-lexed_behind p qs from ts h = subst (λ bs. Lexed (from + length (piece_text p)) bs ts) (sym (cut (piece_text p) (text_of qs))) h
+lexed_behind p qs from ts h = subst (λ bs. Lexed (from + length (piece_text p)) bs ts) (sym (drop_front (piece_text p) (text_of qs))) h
 
 pub pieces_lexed : (ps : List Piece) (from : ℕ) → AreSpelled ps → is_spaced ps ≡ true → Lexed from (text_of ps) (tokens_at from ps)
 pieces_lexed [] from h sp = end
 pieces_lexed (space ∷ ps) from h sp =
-    let w = both_true (follows space ps) (is_spaced ps) sp in
+    let w = and_parts (follows space ps) (is_spaced ps) sp in
     blank_first 1 (piece_spelled space (text_of ps) tt (behind space ps w.0)) (pieces_lexed ps (from + 1) h w.1)
 pieces_lexed (line ∷ ps) from h sp =
-    let w = both_true (follows line ps) (is_spaced ps) sp in
+    let w = and_parts (follows line ps) (is_spaced ps) sp in
     blank_first 1 (piece_spelled line (text_of ps) tt (behind line ps w.0)) (pieces_lexed ps (from + 1) h w.1)
 pieces_lexed (zero ∷ ps) from h sp =
-    let w = both_true (follows zero ps) (is_spaced ps) sp in
+    let w = and_parts (follows zero ps) (is_spaced ps) sp in
     token_first (t.number 0 1) 1 (piece_spelled zero (text_of ps) tt (behind zero ps w.0)) (pieces_lexed ps (from + 1) h w.1)
 pieces_lexed (one ∷ ps) from h sp =
-    let w = both_true (follows one ps) (is_spaced ps) sp in
+    let w = and_parts (follows one ps) (is_spaced ps) sp in
     token_first (t.number 1 1) 1 (piece_spelled one (text_of ps) tt (behind one ps w.0)) (pieces_lexed ps (from + 1) h w.1)
 pieces_lexed (word w ∷ ps) from h sp =
-    let v = both_true (follows (word w) ps) (is_spaced ps) sp in
+    let v = and_parts (follows (word w) ps) (is_spaced ps) sp in
     let p = word w in
     token_first (t.word w) (length (piece_text p)) (piece_spelled p (text_of ps) tt (behind p ps v.0)) (lexed_behind p ps from _ (pieces_lexed ps (from + length (piece_text p)) h v.1))
 pieces_lexed (sign s ∷ ps) from h sp =
-    let v = both_true (follows (sign s) ps) (is_spaced ps) sp in
+    let v = and_parts (follows (sign s) ps) (is_spaced ps) sp in
     let p = sign s in
     token_first (t.sign s) (length (piece_text p)) (piece_spelled p (text_of ps) tt (behind p ps v.0)) (lexed_behind p ps from _ (pieces_lexed ps (from + length (piece_text p)) h v.1))
 pieces_lexed (name n ∷ ps) from h sp =
-    let v = both_true (follows (name n) ps) (is_spaced ps) sp in
+    let v = and_parts (follows (name n) ps) (is_spaced ps) sp in
     let p = name n in
     token_first (t.name n) (length (piece_text p)) (piece_spelled p (text_of ps) h.0 (behind p ps v.0)) (lexed_behind p ps from _ (pieces_lexed ps (from + length (piece_text p)) h.1 v.1))
 pieces_lexed (number n ∷ ps) from h sp =
-    let v = both_true (follows (number n) ps) (is_spaced ps) sp in
+    let v = and_parts (follows (number n) ps) (is_spaced ps) sp in
     let p = number n in
     token_first (t.number n (length (decimal n))) (length (piece_text p)) (piece_spelled p (text_of ps) h.0 (behind p ps v.0)) (lexed_behind p ps from _ (pieces_lexed ps (from + length (piece_text p)) h.1 v.1))
 pieces_lexed (operand (item.named x) ∷ ps) from h sp =
     let p = operand (item.named x) in
-    let v = both_true (follows p ps) (is_spaced ps) sp in
+    let v = and_parts (follows p ps) (is_spaced ps) sp in
     token_first (t.name x.name) (length (piece_text p)) (piece_spelled p (text_of ps) h.0 (behind p ps v.0)) (lexed_behind p ps from _ (pieces_lexed ps (from + length (piece_text p)) h.1 v.1))
 pieces_lexed (operand (item.constant c) ∷ ps) from h sp =
     let p = operand (item.constant c) in
-    let v = both_true (follows p ps) (is_spaced ps) sp in
+    let v = and_parts (follows p ps) (is_spaced ps) sp in
     token_first (t.constant c.width c.value) (length (piece_text p)) (piece_spelled p (text_of ps) h.0 (behind p ps v.0)) (lexed_behind p ps from _ (pieces_lexed ps (from + length (piece_text p)) h.1 v.1))

@@ -1,14 +1,16 @@
 -- What is written is taken as the token that it stands for.
-use Rattle.std.proofs.Common.{◌≡◌, ◌<◌, ◌+◌, ◌^◌, ℕ, List, [], ◌∷◌, ◌++◌, length, take, drop, Bool, true, false, cond, eqb, refl, sym, ap, ◌∙◌, arith, Some, length-append, append_assoc, lit<}
+use Rattle.std.proofs.Common.{◌≡◌, ◌<◌, ◌+◌, ◌^◌, ℕ, List, [], ◌∷◌, ◌++◌, length, take, drop, Bool, true, false, cond, eqb, refl, sym, ap, ◌∙◌, arith, Some, append_assoc, lit<}
 use Rattle.std.proofs.lemmas.Bool.Decides.{nat_tests}
-use Rattle.std.proofs.lemmas.Grind.{common_steps}
 use Rattle.std.specs.Prelude.{slice_index, ◌||◌, ◌&&◌, nat_eq, not, decimal, codes, take_while}
-use Rattle.std.specs.List.{prefix_len, starts_with, list_all}
+use Rattle.std.specs.List.{starts_with, list_all}
 use Rattle.std.specs.Char.{is_ascii_digit}
 use Rattle.std.specs.Str.Parse.{digits_value}
-use Rattle.std.proofs.lemmas.Str.Parse.{IsNumeralModel, numerals_by_value}
 use Rattle.std.proofs.lemmas.Fmt.{digits_decimal, digits_value-decimal, decimal_nonempty, first_decimal}
-use Rattle.std.proofs.Common.{rules}
+use Rattle.sap_lemmas.proofs.Bools.{fourth_case, third_case}
+use Rattle.sap_lemmas.proofs.Everywhere.{prefix_run}
+use Rattle.sap_lemmas.proofs.Lists.{drop_front, quoted_length, take_front}
+use Rattle.sap_lemmas.proofs.Texts.{digits_model}
+use Rattle.std.proofs.lemmas.Bool.{and_from, and_left, and_parts}
 use Rattle.sap_net.specs.Names.{is_initial, is_inner}
 use Rattle.sap_modtext.specs.Items.{Operand, Constant}
 use Rattle.sap_modtext.specs.Items as item
@@ -59,46 +61,15 @@ front_of (number n) = token (t.number n (length (decimal n))) (length (decimal n
 front_of (operand (item.named x)) = token (t.name x.name) (length x.name)
 front_of (operand (item.constant c)) = token (t.constant c.width c.value) (length (operand_text (item.constant c)))
 
-and_true : (a b : Bool) → (a && b) ≡ true → (a ≡ true) × (b ≡ true)
-and_true true b h = (refl, h)
-and_true false b h = absurd (cc)
-
-is_true : (a b : Bool) → a ≡ true → b ≡ true → (a && b) ≡ true
-is_true a b p q = ap (λ x. x && b) p ∙ q
-
-and_false : (a b : Bool) → a ≡ false → (a && b) ≡ false
-and_false a b h = ap (λ x. x && b) h
-
 middle_false : (a b c : Bool) → b ≡ false → (a && (b && c)) ≡ false
-middle_false true b c h = and_false b c h
+middle_false true b c h = and_left b c h
 middle_false false b c h = refl
 
--- a run ends where what follows is not in it
-run_of : (p : ℕ → Bool) (ds rest : List ℕ) → list_all p ds ≡ true → p (slice_index rest 0) ≡ false → prefix_len p (ds ++ rest) ≡ length ds
-run_of p [] [] all stop = refl
-run_of p [] (x ∷ xs) all stop = ap (λ b. cond b (1 + prefix_len p xs) 0) stop
-run_of p (d ∷ ds) rest all stop =
-    let both = and_true (p d) (list_all p ds) all in
-    ap (λ b. cond b (1 + prefix_len p (ds ++ rest)) 0) both.0 ∙ (let ih = run_of p ds rest both.1 stop in omega arith)
-
-front_part : (a b : List ℕ) → take (length a) (a ++ b) ≡ a
-front_part a b = grind (arith, common_steps)
-
-back_part : (a b : List ℕ) → drop (length a) (a ++ b) ≡ b
-back_part a b = grind (arith, common_steps)
-
 run_taken : (p : ℕ → Bool) (ds rest : List ℕ) → list_all p ds ≡ true → p (slice_index rest 0) ≡ false → take_while p (ds ++ rest) ≡ ds
-run_taken p ds rest all stop = ap (λ n. take n (ds ++ rest)) (run_of p ds rest all stop) ∙ front_part ds rest
-
--- which arm of a chain of tests
-third : {A : Type 0} (a b c : Bool) (x y z w : A) → a ≡ false → b ≡ false → c ≡ true → cond a x (cond b y (cond c z w)) ≡ z
-third a b c x y z w p q r = cc
-
-fourth : {A : Type 0} (a b c d : Bool) (x y z v w : A) → a ≡ false → b ≡ false → c ≡ false → d ≡ true → cond a x (cond b y (cond c z (cond d v w))) ≡ v
-fourth a b c d x y z v w p q r s = cc
+run_taken p ds rest all stop = ap (λ n. take n (ds ++ rest)) (prefix_run p ds rest all stop) ∙ take_front ds rest
 
 no_comment : (b : ℕ) (bs : List ℕ) → eqb 47 b ≡ false → starts_with nat_eq (b ∷ bs) (codes "//") ≡ false
-no_comment b bs h = and_false (eqb 47 b) _ h
+no_comment b bs h = and_left (eqb 47 b) _ h
 
 pub record NameStart (b : ℕ) : Type 0 where
   white : is_white b ≡ false
@@ -120,7 +91,7 @@ name_taken : (b : ℕ) (bs rest : List ℕ) → is_initial b ≡ true → list_a
 unfolding front
 name_taken b bs rest start all stop =
     let w = name_start b start in
-    third (is_white b) (starts_with nat_eq (b ∷ (bs ++ rest)) (codes "//")) (is_initial b) _ _ _ _ w.white (no_comment b (bs ++ rest) w.slash) start
+    third_case (is_white b) (starts_with nat_eq (b ∷ (bs ++ rest)) (codes "//")) (is_initial b) _ _ _ _ w.white (no_comment b (bs ++ rest) w.slash) start
     ∙ ap name_front (run_taken is_inner (b ∷ bs) rest all stop)
 
 no_name_byte : (b : ℕ) → (is_inner b || eqb b 39) ≡ false → (is_inner b ≡ false) × (is_ascii_digit b ≡ false) × (eqb 39 b ≡ false)
@@ -174,21 +145,18 @@ digits_taken : (ds rest : List ℕ) → IsDigits ds → is_ascii_digit (slice_in
 unfolding front
 digits_taken ds rest h stop =
     let all : list_all is_ascii_digit (h.first ∷ h.others) ≡ true = ap (list_all is_ascii_digit) (sym h.parts) ∙ h.all in
-    let start = (and_true (is_ascii_digit h.first) (list_all is_ascii_digit h.others) all).0 in
+    let start = (and_parts (is_ascii_digit h.first) (list_all is_ascii_digit h.others) all).0 in
     let w = digit_start h.first start in
     let whole = h.first ∷ (h.others ++ rest) in
     let e : whole ≡ ds ++ rest = ap (λ x. x ++ rest) (sym h.parts) in
     let run : digits_of_front whole ≡ ds = ap digits_of_front e ∙ run_taken is_ascii_digit ds rest h.all stop in
     ap front (sym e)
-    ∙ fourth (is_white h.first) (starts_with nat_eq whole (codes "//")) (is_initial h.first) (is_ascii_digit h.first) _ _ _ _ _ w.white (no_comment h.first (h.others ++ rest) w.slash) w.name start
+    ∙ fourth_case (is_white h.first) (starts_with nat_eq whole (codes "//")) (is_initial h.first) (is_ascii_digit h.first) _ _ _ _ _ w.white (no_comment h.first (h.others ++ rest) w.slash) w.name start
     ∙ ap (λ x. digits_front x (drop (length x) whole)) run
-    ∙ ap (digits_front ds) (ap (drop (length ds)) e ∙ back_part ds rest)
-
-own : IsNumeralModel (λ ds. list_all is_ascii_digit ds ≡ true) (digits_value 10)
-own = numerals_by_value _ (search rules)
+    ∙ ap (digits_front ds) (ap (drop (length ds)) e ∙ drop_front ds rest)
 
 decimal_digits : (n : ℕ) → n < 2 ^ 64 → IsDigits (decimal n)
-decimal_digits n h = by_list (decimal n) (decimal_nonempty n h) (digits_decimal own n h) where
+decimal_digits n h = by_list (decimal n) (decimal_nonempty n h) (digits_decimal digits_model n h) where
   by_list : (ds : List ℕ) → 0 < length ds → list_all is_ascii_digit ds ≡ true → IsDigits ds
   by_list [] p q = absurd (omega arith)
   by_list (d ∷ ds) p q = record { first = d; others = ds; parts = refl; all = q }
@@ -198,7 +166,7 @@ small n h = grind (arith, nat_tests)
 
 no_constant : (ds rest : List ℕ) → eqb 39 (slice_index rest 0) ≡ false → is_constant ds rest ≡ false
 no_constant ds [] h = middle_false (not (eqb (slice_index ds 0) 48)) false (is_ascii_digit (slice_index [] 2)) refl
-no_constant ds (c ∷ rest) h = middle_false (not (eqb (slice_index ds 0) 48)) (starts_with nat_eq (c ∷ rest) (codes "'d")) _ (and_false (eqb 39 c) _ h)
+no_constant ds (c ∷ rest) h = middle_false (not (eqb (slice_index ds 0) 48)) (starts_with nat_eq (c ∷ rest) (codes "'d")) _ (and_left (eqb 39 c) _ h)
 
 digits_spelled : (ds rest : List ℕ) (n : ℕ) → IsDigits ds → digits_value 10 ds ≡ n → n < 2 ^ 64
     → (is_inner (slice_index rest 0) || eqb (slice_index rest 0) 39) ≡ false → front (ds ++ rest) ≡ token (t.number n (length ds)) (length ds)
@@ -211,26 +179,23 @@ digits_spelled ds rest n digits value fits stop =
 
 number_spelled : (n : ℕ) (rest : List ℕ) → n < 2 ^ 64 → (is_inner (slice_index rest 0) || eqb (slice_index rest 0) 39) ≡ false
     → front (decimal n ++ rest) ≡ token (t.number n (length (decimal n))) (length (decimal n))
-number_spelled n rest fits stop = digits_spelled (decimal n) rest n (decimal_digits n fits) (digits_value-decimal own n fits) fits stop
+number_spelled n rest fits stop = digits_spelled (decimal n) rest n (decimal_digits n fits) (digits_value-decimal digits_model n fits) fits stop
 
 digit_spelled : (d : ℕ) (rest : List ℕ) → is_ascii_digit d ≡ true → digits_value 10 (d ∷ []) < 2 ^ 64 → (is_inner (slice_index rest 0) || eqb (slice_index rest 0) 39) ≡ false
     → front ((d ∷ []) ++ rest) ≡ token (t.number (digits_value 10 (d ∷ [])) 1) 1
 digit_spelled d rest h fits stop =
-    digits_spelled (d ∷ []) rest (digits_value 10 (d ∷ [])) (record { first = d; others = []; parts = refl; all = is_true (is_ascii_digit d) true h refl }) refl fits stop
+    digits_spelled (d ∷ []) rest (digits_value 10 (d ∷ [])) (record { first = d; others = []; parts = refl; all = and_from (is_ascii_digit d) true h refl }) refl fits stop
 
 not_zero : (d : ℕ) → 48 < d → not (eqb d 48) ≡ true
 not_zero d h = grind (arith, nat_tests)
 
 constant_test : (ds vs : List ℕ) → 48 < slice_index ds 0 → is_ascii_digit (slice_index vs 0) ≡ true → is_constant ds (39 ∷ 100 ∷ vs) ≡ true
-constant_test ds vs h g = is_true (not (eqb (slice_index ds 0) 48)) (is_ascii_digit (slice_index vs 0)) (not_zero (slice_index ds 0) h) g
+constant_test ds vs h g = and_from (not (eqb (slice_index ds 0) 48)) (is_ascii_digit (slice_index vs 0)) (not_zero (slice_index ds 0) h) g
 
 first_digit : (ds rest : List ℕ) → IsDigits ds → is_ascii_digit (slice_index (ds ++ rest) 0) ≡ true
 first_digit ds rest h =
     let all : list_all is_ascii_digit (h.first ∷ h.others) ≡ true = ap (list_all is_ascii_digit) (sym h.parts) ∙ h.all in
-    ap (λ x. is_ascii_digit (slice_index (x ++ rest) 0)) h.parts ∙ (and_true (is_ascii_digit h.first) (list_all is_ascii_digit h.others) all).0
-
-length_of : (a b : List ℕ) → length a + 2 + length b ≡ length (a ++ (39 ∷ 100 ∷ b))
-length_of a b = simp length-append (omega arith)
+    ap (λ x. is_ascii_digit (slice_index (x ++ rest) 0)) h.parts ∙ (and_parts (is_ascii_digit h.first) (list_all is_ascii_digit h.others) all).0
 
 constant_spelled : (c : Constant) (rest : List ℕ) → IsWritable c → (is_inner (slice_index rest 0) || eqb (slice_index rest 0) 39) ≡ false
     → front (operand_text (item.constant c) ++ rest) ≡ token (t.constant c.width c.value) (length (operand_text (item.constant c)))
@@ -241,15 +206,15 @@ constant_spelled c rest h stop =
     let after = 39 ∷ 100 ∷ (vs ++ rest) in
     let other = decimal_digits c.value h.value in
     let run : digits_of_front (vs ++ rest) ≡ vs = run_taken is_ascii_digit vs rest other.all w.1 in
-    let fits : (is_below_2_64 c.width && is_below_2_64 c.value) ≡ true = is_true (is_below_2_64 c.width) (is_below_2_64 c.value) (small c.width h.width) (small c.value h.value) in
+    let fits : (is_below_2_64 c.width && is_below_2_64 c.value) ≡ true = and_from (is_below_2_64 c.width) (is_below_2_64 c.value) (small c.width h.width) (small c.value h.value) in
     ap front (append_assoc ds (39 ∷ 100 ∷ vs) rest)
     ∙ digits_taken ds after (decimal_digits c.width h.width) refl
     ∙ ap (λ b. cond b (constant_front ds (digits_of_front (vs ++ rest))) (number_front ds)) (constant_test ds (vs ++ rest) (first_decimal c.width h.positive h.width) (first_digit vs rest other))
     ∙ ap (constant_front ds) run
-    ∙ ap (λ v. cond (is_below_2_64 v && is_below_2_64 (digits_value 10 vs)) (token (t.constant v (digits_value 10 vs)) (length ds + 2 + length vs)) bad) (digits_value-decimal own c.width h.width)
-    ∙ ap (λ v. cond (is_below_2_64 c.width && is_below_2_64 v) (token (t.constant c.width v) (length ds + 2 + length vs)) bad) (digits_value-decimal own c.value h.value)
+    ∙ ap (λ v. cond (is_below_2_64 v && is_below_2_64 (digits_value 10 vs)) (token (t.constant v (digits_value 10 vs)) (length ds + 2 + length vs)) bad) (digits_value-decimal digits_model c.width h.width)
+    ∙ ap (λ v. cond (is_below_2_64 c.width && is_below_2_64 v) (token (t.constant c.width v) (length ds + 2 + length vs)) bad) (digits_value-decimal digits_model c.value h.value)
     ∙ ap (λ b. cond b (token (t.constant c.width c.value) (length ds + 2 + length vs)) bad) fits
-    ∙ ap (token (t.constant c.width c.value)) (length_of ds vs)
+    ∙ ap (token (t.constant c.width c.value)) (quoted_length ds vs)
 
 other_byte : (b c : ℕ) → eqb b c ≡ false → eqb c b ≡ false
 other_byte b c h = grind (arith, nat_tests)

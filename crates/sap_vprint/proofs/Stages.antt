@@ -1,13 +1,17 @@
 -- The printed items, one kind behind another, have no fault.
-use Rattle.std.proofs.Common.{◌≡◌, ℕ, ◌+◌, ◌-◌, ◌<◌, List, [], ◌∷◌, ◌++◌, Bool, true, false, Option, Some, None, refl, sym, ap, ◌∙◌, subst, inl, inr, arith, ⊎_elim, append_assoc}
+use Rattle.std.proofs.Common.{◌≡◌, ℕ, ◌+◌, ◌-◌, ◌<◌, List, [], ◌∷◌, ◌++◌, true, false, Option, Some, None, refl, sym, ap, ◌∙◌, subst, inl, inr, arith, append_assoc}
 use Rattle.std.specs.Prelude.{◌⊎◌, ◌||◌, map, flat_map}
 use Rattle.std.specs.List.{AllByRecursion}
 use Rattle.std.specs.Str.{bytes_eq}
 use Rattle.std.proofs.lemmas.Bool.{cases_Bool}
 use Rattle.std.proofs.lemmas.Nat.{pow_pos}
+use Rattle.sap_lemmas.proofs.Bools.{or_assoc, or_false, or_true}
+use Rattle.sap_lemmas.proofs.Texts.{equal_of_bytes_eq}
+use Rattle.std.proofs.lemmas.Grind.{flat_map-append}
+use Rattle.std.proofs.lemmas.List.{append-nil}
+use Rattle.sap_modtext.proofs.FaultsLemmas.{set_append}
 use Rattle.sap_maps.specs.Maps.{Name}
 use Rattle.sap_maps.specs.Scope.{Scope, find}
-use Rattle.sap_maps.proofs.Scopes.{name_is, same_name, apart_back}
 use Rattle.sap_net.specs.declared.parts.Wire.{Wire}
 use Rattle.sap_net.specs.declared.parts.Memory.{Memory}
 use Rattle.sap_net.specs.Net.{Net}
@@ -16,42 +20,15 @@ use Rattle.sap_net.specs.IsNetlist.{IsNetlist, shapes, readable}
 use Rattle.sap_modtext.specs.Items as item
 use Rattle.sap_modtext.specs.Faults.{Shape, input, wire, register, memory, shape_above, declarations, port_declaration, item_declarations, shape_in, Setting, assign, initial, Target, target_of, is_target, is_set, is_integer, has_integer, value_width, wire_width}
 use Rattle.sap_modtext.proofs.Good.{IsGoodItem, above_of, AreGood}
-use Rattle.sap_modtext.proofs.NameLists.{found_all, flat_map_append}
+use Rattle.sap_modtext.proofs.NameLists.{found_all}
 use Rattle.sap_vprint.specs.Printed.{mention, entities, printed_port, declared_items, declarations_of, integer_of, assign_of}
 use Rattle.sap_vprint.proofs.Entities.{IsShape, entities_fit}
 use Rattle.sap_vprint.proofs.Declared.{IsInner}
 use Rattle.sap_vprint.proofs.Operands.{Sees, right_good, right_fits, right_equal, right_indexed, right_fit}
 
-pub append_nil : {A : Type 0} (xs : List A) → xs ++ [] ≡ xs
-append_nil [] = refl
-append_nil (x ∷ xs) = ap (λ ys. x ∷ ys) (append_nil xs)
-
 pub good_append : (ps : List item.Port) (before xs ys : List item.Item) → AreGood ps before xs → AreGood ps (before ++ xs) ys → AreGood ps before (xs ++ ys)
-good_append ps before [] ys p q = subst (λ z. AreGood ps z ys) (append_nil before) q
+good_append ps before [] ys p q = subst (λ z. AreGood ps z ys) (append-nil before) q
 good_append ps before (x ∷ xs) ys p q = (p.0, good_append ps (before ++ (x ∷ [])) xs ys p.1 (subst (λ z. AreGood ps z ys) (sym (append_assoc before (x ∷ []) xs)) q))
-
-pub eq_back : (a b : Name) → bytes_eq a b ≡ bytes_eq b a
-eq_back a b =
-    ⊎_elim
-    (λ t. let e = name_is a b t in t ∙ sym (subst (λ z. bytes_eq b z ≡ true) (sym e) (same_name b)))
-    (λ f. f ∙ sym (apart_back a b f))
-    (cases_Bool (bytes_eq a b))
-
-pub or_assoc : (a b c : Bool) → (a || (b || c)) ≡ ((a || b) || c)
-or_assoc true b c = refl
-or_assoc false b c = refl
-
-pub or_true : (a : Bool) → (a || true) ≡ true
-or_true true = refl
-or_true false = refl
-
-pub or_nil : (a : Bool) → (a || false) ≡ a
-or_nil true = refl
-or_nil false = refl
-
-pub set_append : (s : Setting) (x : Name) (xs ys : List item.Item) → is_set s x (xs ++ ys) ≡ (is_set s x xs || is_set s x ys)
-set_append s x [] ys = refl
-set_append s x (y ∷ xs) ys = ap (λ b. is_target s x (target_of y) || b) (set_append s x xs ys) ∙ or_assoc (is_target s x (target_of y)) (is_set s x xs) (is_set s x ys)
 
 pub integer_append : (xs ys : List item.Item) → has_integer (xs ++ ys) ≡ (has_integer xs || has_integer ys)
 integer_append [] ys = refl
@@ -60,7 +37,7 @@ integer_append (y ∷ xs) ys = ap (λ b. is_integer y || b) (integer_append xs y
 -- an item that declares nothing leaves the declarations
 pub declares_nothing : (ps : List item.Port) (before : List item.Item) (xs : List item.Item) → flat_map item_declarations xs ≡ [] → declarations ps (before ++ xs) ≡ declarations ps before
 declares_nothing ps before xs e =
-    ap (λ z. map port_declaration ps ++ z) (flat_map_append item_declarations before xs ∙ ap (λ z. flat_map item_declarations before ++ z) e ∙ append_nil (flat_map item_declarations before))
+    ap (λ z. map port_declaration ps ++ z) (flat_map-append item_declarations before xs ∙ ap (λ z. flat_map item_declarations before ++ z) e ∙ append-nil (flat_map item_declarations before))
 
 -- a target that nothing set before
 pub fresh_target : (t u : Target) (before : List item.Item) → Some u ≡ Some t → is_set u.setting u.name.name before ≡ false → is_set t.setting t.name.name before ≡ false
@@ -143,7 +120,7 @@ module _ (n : Net) (h : IsNetlist n) where
   found_kept before y e f x = ap (λ ds. shape_in ds x) (declares_nothing ports before (y ∷ []) (ap (λ z. z ++ []) e)) ∙ f x
 
   pub set_more : (s : Setting) (x : Name) (before : List item.Item) (y : item.Item) → is_set s x (before ++ (y ∷ [])) ≡ (is_set s x before || is_target s x (target_of y))
-  set_more s x before y = set_append s x before (y ∷ []) ∙ ap (λ b. is_set s x before || b) (or_nil (is_target s x (target_of y)))
+  set_more s x before y = set_append s x before (y ∷ []) ∙ ap (λ b. is_set s x before || b) (or_false (is_target s x (target_of y)))
 
   -- an assigned wire can be read
   sees_more : (w : Wire) (readable : Scope) (before : List item.Item) → Sees n (above_of ports before) readable → find (entities n) w.name ≡ Some (wire w.width)
@@ -157,19 +134,19 @@ module _ (n : Net) (h : IsNetlist n) where
     by_name : (x : Name) (u : ℕ) → (bytes_eq w.name x ≡ true) ⊎ (bytes_eq w.name x ≡ false) → find ((w.name, w.width) ∷ readable) x ≡ Some u
         → value_width (find (entities n) x) (is_set assign x (before ++ (assign_of w ∷ []))) ≡ Some u
     by_name x u (inl t) f =
-        let e = name_is w.name x t in
+        let e = equal_of_bytes_eq w.name x t in
         let width : Some w.width ≡ Some u = rw t at f in
         let set : is_set assign x (before ++ (assign_of w ∷ [])) ≡ true = set_more assign x before (assign_of w) ∙ ap (λ b. is_set assign x before || b) t ∙ or_true (is_set assign x before) in
         ap (λ b. value_width (find (entities n) x) b) set
         ∙ ap (λ o. value_width o true) (subst (λ z. find (entities n) z ≡ Some (wire w.width)) e found) ∙ width
     by_name x u (inr t) f =
-        let set : is_set assign x (before ++ (assign_of w ∷ [])) ≡ is_set assign x before = set_more assign x before (assign_of w) ∙ ap (λ b. is_set assign x before || b) t ∙ or_nil (is_set assign x before) in
+        let set : is_set assign x (before ++ (assign_of w ∷ [])) ≡ is_set assign x before = set_more assign x before (assign_of w) ∙ ap (λ b. is_set assign x before || b) t ∙ or_false (is_set assign x before) in
         ap (λ b. value_width (find (entities n) x) b) set ∙ sees.values x u (rw t at f)
 
   only_more : (w : Wire) (readable : Scope) (before : List item.Item) → OnlyRead readable before → OnlyRead ((w.name, w.width) ∷ readable) (before ++ (assign_of w ∷ []))
   only_more w readable before only x none =
       let apart = first_apart (cases_Bool (bytes_eq w.name x)) none in
-      set_more assign x before (assign_of w) ∙ ap (λ b. is_set assign x before || b) apart.0 ∙ or_nil (is_set assign x before) ∙ only x apart.1 where
+      set_more assign x before (assign_of w) ∙ ap (λ b. is_set assign x before || b) apart.0 ∙ or_false (is_set assign x before) ∙ only x apart.1 where
         first_apart : (bytes_eq w.name x ≡ true) ⊎ (bytes_eq w.name x ≡ false) → find ((w.name, w.width) ∷ readable) x ≡ None → (bytes_eq w.name x ≡ false) × (find readable x ≡ None)
         first_apart (inl t) f = absurd (let g : Some w.width ≡ None = rw t at f in cc)
         first_apart (inr t) f = (t, rw t at f)
@@ -184,7 +161,7 @@ module _ (n : Net) (h : IsNetlist n) where
 
   pub assigns_seen : (ws : List Wire) (readable : Scope) (before : List item.Item) → Sees n (above_of ports before) readable
       → AllByRecursion (λ w. find (entities n) w.name ≡ Some (wire w.width)) ws → Sees n (above_of ports (before ++ map assign_of ws)) (readable_after readable ws)
-  assigns_seen [] readable before sees found = subst (λ z. Sees n (above_of ports z) readable) (sym (append_nil before)) sees
+  assigns_seen [] readable before sees found = subst (λ z. Sees n (above_of ports z) readable) (sym (append-nil before)) sees
   assigns_seen (w ∷ ws) readable before sees found =
       subst (λ z. Sees n (above_of ports z) (readable_after ((w.name, w.width) ∷ readable) ws)) (append_assoc before (assign_of w ∷ []) (map assign_of ws))
       (assigns_seen ws ((w.name, w.width) ∷ readable) (before ++ (assign_of w ∷ [])) (sees_more w readable before sees found.0) found.1)

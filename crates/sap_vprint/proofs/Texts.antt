@@ -1,9 +1,8 @@
 -- The texts of lines, from left to right.
-use Rattle.std.proofs.Common.{◌≡◌, ◌-◌, ◌+◌, ◌<◌, ◌≤◌, ◌^◌, ◌/◌, ◌%◌, ℕ, List, [], ◌∷◌, ◌++◌, refl, sym, ap, ◌∙◌, append_assoc, if◌then◌else◌, Result, Ok, Err, OnOk}
-use Rattle.std.specs.Prelude.{is_ok}
+use Rattle.std.proofs.Common.{◌≡◌, ◌-◌, ◌+◌, ◌<◌, ℕ, List, [], ◌∷◌, ◌++◌, refl, sym, ap, ◌∙◌, append_assoc, Result, Ok, Err, OnOk}
 use Rattle.std.specs.Prelude.{codes, decimal, map, flat_map}
-use Rattle.std.proofs.lemmas.Fmt.{decimal_digit, decimal_step}
 use Rattle.std.proofs.lemmas.Grind.{flat_map-append}
+use Rattle.std.proofs.lemmas.List.{append-nil}
 use Rattle.sap_net.specs.declared.parts.Operand.{Operand}
 use Rattle.sap_net.specs.declared.parts.Register.{Register}
 use Rattle.sap_net.specs.declared.parts.Memory.{Memory}
@@ -12,11 +11,6 @@ use Rattle.sap_net.specs.declared.parts.PortKind.{PortKind}
 use Rattle.sap_net.specs.declared.parts.PortKind.TheVariants as kind
 use Rattle.sap_vprint.specs.Text.{range_pieces, head_pieces, port_text, part_pieces, parts_pieces, piece_text, text_of, operand_text, item_text, clocked_text, loop_text}
 use Rattle.sap_vprint.specs.Printed.{direction_text, port_of, operand_of, initial_cells_of, always_of, always_cell_of}
-
--- what is written last
-pub on_last : {E : Type 0} (r : Result (Unit {0}) E) (new a t x : List ℕ) → new ≡ (if is_ok r then a ++ t else a) → a ++ t ≡ x → OnOk r (new ≡ x)
-on_last (Ok u) new a t x e f = e ∙ f
-on_last (Err e) new a t x p f = tt
 
 pub loop_grows : (n : ℕ) (o a b : List ℕ) → a ≡ o ++ codes "for (i = 0; i < " → b ≡ a ++ decimal n → b ++ codes "; i = i + 1) " ≡ o ++ loop_text n
 unfolding loop_text
@@ -59,15 +53,11 @@ on_ok (Err e) P Q f h = tt
 pub begin_grows : (n o a b : List ℕ) → a ≡ o ++ codes "module " → b ≡ a ++ n → b ++ codes "(\n  input clk" ≡ o ++ text_of (head_pieces n)
 begin_grows n o a b e f = rw (f, e) (simp append_assoc)
 
-append_nil : (xs : List ℕ) → xs ++ [] ≡ xs
-append_nil [] = refl
-append_nil (x ∷ xs) = ap (λ ys. x ∷ ys) (append_nil xs)
-
 pub port_text_is : (k : PortKind) (x : Name) (w : ℕ) → port_text (port_of k x w) ≡ codes ",\n  " ++ (direction_text k ++ (text_of (range_pieces (w - 1)) ++ x))
 unfolding port_text
-port_text_is kind.Input x w = simp (append_assoc, append_nil)
-port_text_is kind.Register x w = simp (append_assoc, append_nil)
-port_text_is kind.Wire x w = simp (append_assoc, append_nil)
+port_text_is kind.Input x w = simp (append_assoc, append-nil)
+port_text_is kind.Register x w = simp (append_assoc, append-nil)
+port_text_is kind.Wire x w = simp (append_assoc, append-nil)
 
 pub port_grows : (k : PortKind) (x : Name) (w : ℕ) (o a b c : List ℕ) → a ≡ o ++ codes ",\n  " → b ≡ a ++ direction_text k → c ≡ b ++ text_of (range_pieces (w - 1))
     → c ++ x ≡ o ++ port_text (port_of k x w)
@@ -79,11 +69,3 @@ port_grows k x w o a b c e f g =
     ∙ ap (λ z. o ++ z) (sym (port_text_is k x w))
 
 -- digits
-
-pub one_digit : (out old : List ℕ) (n d : ℕ) → n < 10 → out ≡ old ++ (d ∷ []) → d ≡ 48 + n → out ≡ old ++ decimal n
-one_digit out old n d h e f = e ∙ ap (λ x. old ++ (x ∷ [])) f ∙ ap (λ z. old ++ z) (sym (decimal_digit n h))
-
-pub more_digits : (out mid old : List ℕ) (n d : ℕ) → 10 ≤ n → n < 2 ^ 64 → mid ≡ old ++ decimal (n / 10) → out ≡ mid ++ (d ∷ []) → d ≡ 48 + n % 10 → out ≡ old ++ decimal n
-more_digits out mid old n d h small e f g =
-    f ∙ ap (λ z. z ++ (d ∷ [])) e ∙ append_assoc old (decimal (n / 10)) (d ∷ []) ∙ ap (λ x. old ++ (decimal (n / 10) ++ (x ∷ []))) g
-    ∙ ap (λ z. old ++ z) (sym (decimal_step n h small))

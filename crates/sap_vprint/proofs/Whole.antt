@@ -3,10 +3,14 @@ use Rattle.std.proofs.Common.{◌≡◌, ℕ, ◌-◌, ◌^◌, ◌≤◌, arith
 use Rattle.std.specs.Prelude.{◌⊎◌, ◌||◌, map, flat_map}
 use Rattle.std.specs.List.{AllByRecursion}
 use Rattle.std.specs.Str.{bytes_eq}
-use Rattle.std.proofs.lemmas.Bool.{cases_Bool}
+use Rattle.std.proofs.lemmas.Bool.{cases_Bool, or_left, or_right}
+use Rattle.sap_lemmas.proofs.Numbers.{same_power}
+use Rattle.sap_lemmas.proofs.Texts.{bytes_eq_symmetric, equal_of_bytes_eq}
+use Rattle.std.proofs.lemmas.Grind.{flat_map-append}
+use Rattle.std.proofs.lemmas.List.{append-nil}
+use Rattle.sap_modtext.proofs.FaultsLemmas.{all_alike, set_append}
 use Rattle.sap_maps.specs.Maps.{Name}
 use Rattle.sap_maps.specs.Scope.{find}
-use Rattle.sap_maps.proofs.Scopes.{name_is}
 use Rattle.sap_net.specs.declared.parts.Port.{Port}
 use Rattle.sap_net.specs.declared.parts.Input.{Input}
 use Rattle.sap_net.specs.declared.parts.Register.{Register}
@@ -18,13 +22,13 @@ use Rattle.sap_net.specs.IsNetlist.{IsNetlist, PortShows, register_names, wire_n
 use Rattle.sap_modtext.specs.Items as item
 use Rattle.sap_modtext.specs.Faults.{Shape, input, wire, register, memory, port_shape, declarations, item_declarations, shape_in, Setting, assign, initial, always, target_of, is_target, is_set, has_integer, value_width, needs, Among}
 use Rattle.sap_modtext.proofs.Good.{above_of, AreGood, IsSet, IsGood}
-use Rattle.sap_modtext.proofs.NameLists.{found_all, or_here, among_name, flat_map_append, not_among, all_from}
+use Rattle.sap_modtext.proofs.NameLists.{found_all, among_name, not_among, all_from}
 use Rattle.sap_vprint.specs.Printed.{entities, width_or_0, direction_of, printed_port, declarations_of, integer_of, assign_of, initial_of, initial_cells_of, always_of, always_cell_of, items_of, file_of}
 use Rattle.sap_vprint.proofs.Entities.{IsShape, names_apart, entities_fit}
 use Rattle.sap_vprint.proofs.Declared.{declare, or_input, all_declared, shape_found, inner_names, inner_is, IsInner, register_found, wire_found, memory_found, wire_named, register_named, memory_named, port_found, width_of_port}
-use Rattle.sap_vprint.proofs.Operands.{Sees, same_power}
-use Rattle.sap_vprint.proofs.Stages.{append_nil, set_append, integer_append, eq_back, good_append, declares_nothing, ports, declarations_good, declarations_set, declarations_integer, integer_good, assigns_good, assigns_seen}
-use Rattle.sap_vprint.proofs.Edges.{or_left, IsQuiet, Stage, stage_more, AreRegisters, AreStores, initials_good, initial_cells_good, always_good, always_cells_good}
+use Rattle.sap_vprint.proofs.Operands.{Sees}
+use Rattle.sap_vprint.proofs.Stages.{integer_append, good_append, declares_nothing, ports, declarations_good, declarations_set, declarations_integer, integer_good, assigns_good, assigns_seen}
+use Rattle.sap_vprint.proofs.Edges.{IsQuiet, Stage, stage_more, AreRegisters, AreStores, initials_good, initial_cells_good, always_good, always_cells_good}
 
 -- what a list of items that are made alike sets
 module _ {A : Type 0} (s : Setting) (x : Name) (f : A → item.Item) where
@@ -35,7 +39,7 @@ module _ {A : Type 0} (s : Setting) (x : Name) (f : A → item.Item) where
   pub sets_named : (name : A → Name) → ((y : A) → is_target s x (target_of (f y)) ≡ bytes_eq (name y) x) → (ys : List A) → is_set s x (map f ys) ≡ is_among x (map name ys)
   sets_named name e [] = refl
   sets_named name e (y ∷ ys) =
-      ap (λ b. b || is_set s x (map f ys)) (e y ∙ eq_back (name y) x) ∙ ap (λ b. bytes_eq x (name y) || b) (sets_named name e ys)
+      ap (λ b. b || is_set s x (map f ys)) (e y ∙ bytes_eq_symmetric (name y) x) ∙ ap (λ b. bytes_eq x (name y) || b) (sets_named name e ys)
 
 declares_none : {A : Type 0} (f : A → item.Item) → ((y : A) → item_declarations (f y) ≡ []) → (ys : List A) → flat_map item_declarations (map f ys) ≡ []
 declares_none f e [] = refl
@@ -50,11 +54,7 @@ integer_set s x [] = refl
 integer_set s x (m ∷ ms) = refl
 
 none_both : (xs ys : List item.Item) → flat_map item_declarations xs ≡ [] → flat_map item_declarations ys ≡ [] → flat_map item_declarations (xs ++ ys) ≡ []
-none_both xs ys p q = flat_map_append item_declarations xs ys ∙ ap (λ z. z ++ flat_map item_declarations ys) p ∙ q
-
-all_alike : {A : Type 0} (P : A → Type 0) (xs : List A) → ((x : A) → Among x xs → P x) → AllByRecursion P xs
-all_alike P [] f = tt
-all_alike P (x ∷ xs) f = (f x (inl refl), all_alike P xs (λ y m. f y (inr m)))
+none_both xs ys p q = flat_map-append item_declarations xs ys ∙ ap (λ z. z ++ flat_map item_declarations ys) p ∙ q
 
 all_pairs : {A : Type 0} (P Q R : A → Type 0) (xs : List A) → AllByRecursion P xs → AllByRecursion Q xs → AllByRecursion R xs → AllByRecursion (λ x. P x × Q x × R x) xs
 all_pairs P Q R [] p q r = tt
@@ -106,7 +106,7 @@ module _ (n : Net) (h : IsNetlist n) where
   cell_found [] x w d f = absurd (cc)
   cell_found (m ∷ ms) x w d f =
       ⊎_elim
-      (λ t. let g : ◌≡◌ {A = Option (ℕ × ℕ)} (Some (m.width, m.depth)) (Some (w, d)) = rw t at f in (m, inl refl, name_is m.name x t, (some_pair m.width m.depth w d g).0, (some_pair m.width m.depth w d g).1))
+      (λ t. let g : ◌≡◌ {A = Option (ℕ × ℕ)} (Some (m.width, m.depth)) (Some (w, d)) = rw t at f in (m, inl refl, equal_of_bytes_eq m.name x t, (some_pair m.width m.depth w d g).0, (some_pair m.width m.depth w d g).1))
       (λ t. let r = cell_found ms x w d (rw t at f) in (r.0, inr r.1, r.2, r.3, r.4))
       (cases_Bool (bytes_eq m.name x)) where
         first_or : Option (ℕ × ℕ) → ℕ
@@ -160,13 +160,13 @@ module _ (n : Net) (h : IsNetlist n) where
   integer_there m ms e =
       integer_append first_items (map assign_of n.wires)
       ∙ or_left (has_integer first_items) _
-      (integer_append declared (integer_of n.memories) ∙ or_here (has_integer declared) _ (ap (λ z. has_integer (integer_of z)) e))
+      (integer_append declared (integer_of n.memories) ∙ or_right (has_integer declared) _ (ap (λ z. has_integer (integer_of z)) e))
 
   assigned_stage : Stage n h assigned_items
   assigned_stage = record { sees = assigns_seen n h n.wires (first_readable n) first_items first_seen wires_found; integer = integer_there }
 
   stage_list : {A : Type 0} (f : A → item.Item) → ((x : A) → IsQuiet (f x)) → (xs : List A) (before : List item.Item) → Stage n h before → Stage n h (before ++ map f xs)
-  stage_list f q [] before g = subst (Stage n h) (sym (append_nil before)) g
+  stage_list f q [] before g = subst (Stage n h) (sym (append-nil before)) g
   stage_list f q (x ∷ xs) before g = subst (Stage n h) (append_assoc before (f x ∷ []) (map f xs)) (stage_list f q xs (before ++ (f x ∷ [])) (stage_more n h before (f x) (q x) g))
 
   abbrev started_items : List item.Item
@@ -258,7 +258,7 @@ module _ (n : Net) (h : IsNetlist n) where
 
   -- the later of two tests
   later : (a b : Bool) → b ≡ true → (a || b) ≡ true
-  later a b e = or_here a b e
+  later a b e = or_right a b e
 
   assigns_set : (x : Name) → is_among x (wire_names n) ≡ true → is_set assign x (items_of n) ≡ true
   assigns_set x m =

@@ -1,7 +1,8 @@
 -- A file whose names are names and whose numbers are below 2 to 64 is written so that it can be read.
-use Rattle.std.proofs.Common.{◌≡◌, ◌<◌, ◌^◌, ℕ, List, [], ◌∷◌, ◌++◌, Bool, true, refl, sym, ap, ◌∙◌, subst, append_assoc}
+use Rattle.std.proofs.Common.{◌≡◌, ◌<◌, ◌^◌, ℕ, List, [], ◌∷◌, ◌++◌, true, refl, sym, subst, append_assoc}
 use Rattle.std.specs.Prelude.{◌&&◌, flat_map}
 use Rattle.std.specs.List.{AllByRecursion}
+use Rattle.std.proofs.lemmas.Bool.{and_from}
 use Rattle.sap_bits.specs.declared.Op1.{Op1}
 use Rattle.sap_bits.specs.declared.Op1.TheVariants as unary
 use Rattle.sap_bits.specs.declared.Op2.{Op2}
@@ -15,9 +16,6 @@ use Rattle.sap_vprint.specs.Text.{Piece, space, line, zero, one, word, sign, nam
 use Rattle.sap_vprint.proofs.Spelled.{IsName, IsWritable, IsSpelled}
 use Rattle.sap_vprint.proofs.Spaced.{is_spaced, follows, may_follow, ends_run, AreSpelled, tokens_at, pieces_lexed}
 use Rattle.sap_vprint.proofs.ReadBack.{HasParts, IsWhole}
-
-both : (a b : Bool) → a ≡ true → b ≡ true → (a && b) ≡ true
-both a b p q = ap (λ x. x && b) p ∙ q
 
 behind_line : (qs : List Piece) → is_spaced qs ≡ true → (follows line qs && is_spaced qs) ≡ true
 behind_line [] h = refl
@@ -39,8 +37,8 @@ parts_spaced x (z ∷ zs) qs h = parts_spaced z zs qs h
 -- before a right side stands a space, and behind it `;`
 right_spaced : (right : Right) (qs : List Piece) → HasParts right → is_spaced (sign t.Semicolon ∷ qs) ≡ true → is_spaced (space ∷ (right_pieces right ++ (sign t.Semicolon ∷ qs))) ≡ true
 right_spaced (item.copy x) qs w h = h
-right_spaced (item.one op x) qs w h = both (may_follow (sign (unary_sign op)) (operand x)) _ (unary_follows op x) h
-right_spaced (item.two op x y) qs w h = both (may_follow (sign (binary_sign op)) space) _ (binary_follows op) h
+right_spaced (item.one op x) qs w h = and_from (may_follow (sign (unary_sign op)) (operand x)) _ (unary_follows op x) h
+right_spaced (item.two op x y) qs w h = and_from (may_follow (sign (binary_sign op)) space) _ (binary_follows op) h
 right_spaced (item.choose c x y) qs w h = h
 right_spaced (item.concat []) qs w h = absurd w
 right_spaced (item.concat (x ∷ [])) qs w h = absurd w
@@ -78,12 +76,12 @@ port_spaced item.output_wire n x qs h = h
 -- behind a keyword or a name
 ports_spaced : (p : Piece) → ((q : Piece) → ends_run q ≡ true → may_follow p q ≡ true) → (xs : List Port) (qs : List Piece) → is_spaced (line ∷ qs) ≡ true
     → is_spaced (p ∷ (flat_map port_pieces xs ++ (line ∷ qs))) ≡ true
-ports_spaced p follow [] qs h = both (may_follow p line) _ (follow line refl) h
+ports_spaced p follow [] qs h = and_from (may_follow p line) _ (follow line refl) h
 ports_spaced p follow (x ∷ xs) qs h =
     let rest = flat_map port_pieces xs ++ (line ∷ qs) in
     let e = append_assoc (port_pieces x) (flat_map port_pieces xs) (line ∷ qs) in
     let first = port_spaced x.direction x.range x.name rest (ports_spaced (name x.name.name) (λ q g. g) xs qs h) in
-    subst (λ ps. is_spaced (p ∷ ps) ≡ true) (sym e) (both (may_follow p (sign t.Comma)) _ (follow (sign t.Comma) refl) first)
+    subst (λ ps. is_spaced (p ∷ ps) ≡ true) (sym e) (and_from (may_follow p (sign t.Comma)) _ (follow (sign t.Comma) refl) first)
 
 file_spaced : (f : File) → AllByRecursion IsWhole f.items → is_spaced (file_pieces f) ≡ true
 file_spaced f w = ports_spaced (word t.Clk) (λ q h. h) f.ports (sign t.CloseParen ∷ sign t.Semicolon ∷ line ∷ (flat_map item_pieces f.items ++ end_of_file)) (behind_line (flat_map item_pieces f.items ++ end_of_file) (items_spaced f.items end_of_file w refl))

@@ -6,3 +6,4 @@ pub mod Running
 pub mod Spelling
 pub mod Walking
 pub mod Laws
+pub mod RowsLemmas

@@ -1,11 +1,11 @@
 -- Where the walk stops, the tokens of the text go wrong, and there alone.
 use Rattle.std.proofs.Common.{◌≡◌, ◌+◌, ℕ, List, [], ◌∷◌, ◌++◌, length, Option, Some, None, Result, Ok, Err, refl, sym, ap, subst, ◌∙◌, append_assoc, arith}
+use Rattle.std.proofs.lemmas.List.{append-nil}
 use Rattle.sap_walk.specs.Limits.{Limited, Past, lenient, strict}
 use Rattle.sap_walk.specs.Prefix.{IsWhole, Begins, IsUnexpected, token, end, IsOver, over}
 use Rattle.sap_walk.specs.Walk.{Halt, at_token, at_limit, Point, walk, read}
 use Rattle.sap_walk.proofs.Limits.{Kept, beside, beside_refused, beside_broken, runs_both, first_stays, short_both, strict_ok, strict_stops}
 use Rattle.sap_walk.proofs.Running.{Runs, stay, take, runs_walk, runs_more, Stops, too_short, refuses, breaks, walk_halts, refused_there, broken_there}
-use Rattle.sap_walk.proofs.Walking.{append_none}
 
 -- two ways to cut a list before an element
 data Cut {A : Type 0} (a : List A) (t : A) (r : List A) (b : List A) (u : A) (s : List A) : Type 0 where
@@ -34,7 +34,7 @@ module _ {Token Limit : Type 0} (Reads : List Token → Option (ℕ × Limit) �
   shorter a m b = (m ++ b.0, subst (IsWhole Reads) (append_assoc a m b.0) b.1)
 
   pub whole_begins : (ts : List Token) → IsWhole Reads ts → Begins Reads ts
-  whole_begins ts h = ([], subst (IsWhole Reads) (sym (append_none ts)) h)
+  whole_begins ts h = ([], subst (IsWhole Reads) (sym (append-nil ts)) h)
 
   one_more : (front rest : List Token) (t : Token) → (front ++ t ∷ []) ++ rest ≡ front ++ t ∷ rest
   one_more front rest t = append_assoc front (t ∷ []) rest
@@ -88,7 +88,7 @@ module _ (G : Limited) (start : G.Symbol) (nothing : Past G.Counts G.Limit) (Rea
       by_stops : (front : List G.Token) (q : Kept G) (σ : List G.Symbol) → Runs (strict G) front nothing (start ∷ []) q σ → (p : Point (strict G)) → ts ≡ front ++ p.left
           → Stops (strict G) q σ (at_token p) → IsUnexpected Reads ts p.left
       by_stops front q σ runs p parts (too_short short) =
-          let whole = parts ∙ append_none front in
+          let whole = parts ∙ append-nil front in
           end (subst (Begins Reads) (sym whole) (begins front q σ runs))
           (λ w. whole_walk ts (at_token (record { past = q; left = [] })) w
           (ap (λ x. walk (lenient G) x nothing (start ∷ [])) parts ∙ runs_walk (lenient G) (runs_both G runs reading.fresh).runs [] ∙ short_both G q σ short))

@@ -1,18 +1,9 @@
 -- What the rows of a table say of the walk.
 use Rattle.std.proofs.Common.{◌≡◌, ◌≢◌, List, [], ◌∷◌, ◌++◌, Ok, Err, Bool, true, false, refl, sym, ap, ◌∙◌, append_assoc}
+use Rattle.std.proofs.lemmas.List.{append-nil}
 use Rattle.sap_walk.specs.Rows.{push, first_then, firsts}
 use Rattle.sap_walk.specs.Walk.{Next, Take, Skip, Stop, Table, at_token, Move, Unneeded, Refused, chosen, entered, if_empty, Point, settle, at_end, walk, read, steps}
-use Rattle.sap_walk.proofs.Walking.{append_none, after, walk_steps}
-
-pub push_push : {S R : Type 0} (n : Next S R) (σ τ : List S) → push (push n σ) τ ≡ push n (σ ++ τ)
-push_push (Take role ρ) σ τ = ap (λ x. Take role x) (append_assoc ρ σ τ)
-push_push Skip σ τ = refl
-push_push Stop σ τ = refl
-
-pub push_none : {S R : Type 0} (n : Next S R) → push n [] ≡ n
-push_none (Take role ρ) = ap (λ x. Take role x) (append_none ρ)
-push_none Skip = refl
-push_none Stop = refl
+use Rattle.sap_walk.proofs.Walking.{after, walk_steps}
 
 pub push_taken : {S R : Type 0} (n : Next S R) (σ : List S) → n ≢ Skip → push n σ ≢ Skip
 push_taken (Take role ρ) σ h e = cc
@@ -62,7 +53,7 @@ module _ (W : Table) where
       (settle_firsts t past (s ∷ []) ∙ ap (as_move t past) (alone (W.next s t)) ∙ ap (as_move t past) e ∙ sym (settle_firsts t past γ))
       ∙ walk_steps W γ (record { past = past; left = t ∷ ts }) where
         alone : (n : Next W.Symbol W.Role) → first_then n [] Skip ≡ n
-        alone (Take role σ) = ap (λ x. Take role x) (append_none σ)
+        alone (Take role σ) = ap (λ x. Take role x) (append-nil σ)
         alone Skip = refl
         alone Stop = refl
 

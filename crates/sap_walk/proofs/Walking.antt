@@ -1,10 +1,7 @@
 -- Laws of the walk.
 use Rattle.std.proofs.Common.{◌≡◌, List, [], ◌∷◌, ◌++◌, Result, Ok, Err, Bool, true, false, refl, sym, ap, ◌∙◌, append_assoc}
+use Rattle.std.proofs.lemmas.List.{append-nil}
 use Rattle.sap_walk.specs.Walk.{Next, Take, Skip, Stop, Table, at_token, at_limit, Move, Taken, Unneeded, Refused, Breaks, ◌>>=◌, chosen, moved, entered, if_empty, Point, Outcome, settle, at_end, walk, read, steps}
-
-pub append_none : {A : Type 0} (xs : List A) → xs ++ [] ≡ xs
-append_none [] = refl
-append_none (x ∷ xs) = ap (λ ys. x ∷ ys) (append_none xs)
 
 pub bind_ok : {S E : Type 0} (o : Result S E) (f : S → Result S E) (p : S) → o ≡ Ok p → (o >>= f) ≡ f p
 bind_ok o f p e = ap (λ x. x >>= f) e
@@ -99,7 +96,7 @@ module _ (W : Table) where
     unfolding read walk settle
     read_take role σ q h e =
         ap (λ n. after t ts past (chosen n (λ role σ. entered (W.enter role t past) (σ ++ [])) Unneeded Refused)) h
-        ∙ ap (λ r. after t ts past (entered r (σ ++ []))) e ∙ ap (λ x. walk W ts q x) (append_none σ) ∙ walk_steps σ (record { past = q; left = ts })
+        ∙ ap (λ r. after t ts past (entered r (σ ++ []))) e ∙ ap (λ x. walk W ts q x) (append-nil σ) ∙ walk_steps σ (record { past = q; left = ts })
 
     pub read_break : (role : W.Role) (σ : List W.Symbol) (limit : W.Limit) → W.next s t ≡ Take role σ → W.enter role t past ≡ Err limit
         → read W s (record { past = past; left = t ∷ ts }) ≡ Err (at_limit limit (record { past = past; left = t ∷ ts }))

@@ -3,8 +3,8 @@ use Rattle.std.proofs.Common.{◌≡◌, ◌≤◌, ℕ, List, [], ◌∷◌, Op
 use Rattle.std.specs.Prelude.{codes, if◌then◌else◌, ◌&&◌}
 use Rattle.std.specs.Str.{bytes_eq}
 use Rattle.std.specs.Str.Parse.{digits_value}
-use Rattle.std.proofs.lemmas.Slice.Eq.{bytes_eq-Decides}
 use Rattle.std.proofs.lemmas.Bool.{cases_Bool}
+use Rattle.sap_lemmas.proofs.Texts.{equal_of_bytes_eq}
 use Rattle.sap_words.specs.Words.{Words, compile, run, trace, fmt, sim, report, twin, gen, is_operand, one, two, three, five, row, command_of, numbered, number_of, are_few_digits, is_run_number}
 use Rattle.sap_words.specs.Table.{AreOperands, IsRunNumber, IsCommand, compile_row, sim_row, run_row, trace_row, twin_row, report_row, fmt_row, gen_row, ReadsTable}
 
@@ -153,9 +153,6 @@ either : {G : Type 0} (b : Bool) (x y : Option Words) (c : Words) → (if b then
 either true x y c h here later = here refl h
 either false x y c h here later = later h
 
-named : (name : List ℕ) (word : List ℕ) → bytes_eq name word ≡ true → name ≡ word
-named name word t = (bytes_eq-Decides name word).0 t
-
 read_gen : (name : List ℕ) (operands : List (List ℕ)) (c : Words) → name ≡ codes "gen" → one (λ word. numbered (number_of word)) operands ≡ Some c → IsCommand (name ∷ operands) c
 read_gen name operands c e h =
     let k : One (λ word. numbered (number_of word)) operands c = one_gives _ operands c h in
@@ -195,14 +192,14 @@ read_compile name operands c e h =
 
 read : (name : List ℕ) (operands : List (List ℕ)) (c : Words) → row name operands ≡ Some c → IsCommand (name ∷ operands) c
 read name operands c h0 =
-    either (bytes_eq name (codes "compile")) _ _ c h0 (λ t k. read_compile name operands c (named name _ t) k) (λ h1.
-    either (bytes_eq name (codes "run")) _ _ c h1 (λ t k. read_run name operands c (named name _ t) k) (λ h2.
-    either (bytes_eq name (codes "trace")) _ _ c h2 (λ t k. read_trace name operands c (named name _ t) k) (λ h3.
-    either (bytes_eq name (codes "sim")) _ _ c h3 (λ t k. read_sim name operands c (named name _ t) k) (λ h4.
-    either (bytes_eq name (codes "report")) _ _ c h4 (λ t k. read_report name operands c (named name _ t) k) (λ h5.
-    either (bytes_eq name (codes "twin")) _ _ c h5 (λ t k. read_twin name operands c (named name _ t) k) (λ h6.
-    either (bytes_eq name (codes "fmt")) _ _ c h6 (λ t k. read_fmt name operands c (named name _ t) k) (λ h7.
-    either (bytes_eq name (codes "gen")) _ _ c h7 (λ t k. read_gen name operands c (named name _ t) k) (λ h8.
+    either (bytes_eq name (codes "compile")) _ _ c h0 (λ t k. read_compile name operands c (equal_of_bytes_eq name _ t) k) (λ h1.
+    either (bytes_eq name (codes "run")) _ _ c h1 (λ t k. read_run name operands c (equal_of_bytes_eq name _ t) k) (λ h2.
+    either (bytes_eq name (codes "trace")) _ _ c h2 (λ t k. read_trace name operands c (equal_of_bytes_eq name _ t) k) (λ h3.
+    either (bytes_eq name (codes "sim")) _ _ c h3 (λ t k. read_sim name operands c (equal_of_bytes_eq name _ t) k) (λ h4.
+    either (bytes_eq name (codes "report")) _ _ c h4 (λ t k. read_report name operands c (equal_of_bytes_eq name _ t) k) (λ h5.
+    either (bytes_eq name (codes "twin")) _ _ c h5 (λ t k. read_twin name operands c (equal_of_bytes_eq name _ t) k) (λ h6.
+    either (bytes_eq name (codes "fmt")) _ _ c h6 (λ t k. read_fmt name operands c (equal_of_bytes_eq name _ t) k) (λ h7.
+    either (bytes_eq name (codes "gen")) _ _ c h7 (λ t k. read_gen name operands c (equal_of_bytes_eq name _ t) k) (λ h8.
     absurd (cc)))))))))
 
 pub tabled : (words : List (List ℕ)) → ReadsTable words

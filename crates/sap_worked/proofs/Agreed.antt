@@ -1,5 +1,7 @@
 -- Pairs of states that agree, by computation.
 use Rattle.std.proofs.Common.{inl, inr, refl}
+use Rattle.sap_lemmas.proofs.Bools.{true_is_not_false}
+use Rattle.std.proofs.lemmas.Bool.{eqb-false}
 use Rattle.sap_meaning.specs.Store.{put_number, put_level, put_child}
 use Rattle.sap_meaning.specs.State.{first}
 use Rattle.sap_worked.specs.Rows.{low, left}
@@ -7,7 +9,6 @@ use Rattle.sap_worked.specs.Ground.{register_x}
 use Rattle.sap_worked.specs.Agreeing.{RegistersAbove, EnforcedRegistersAbove, CellsAbove, MemoriesAbove, StateLevelsAbove, ChildrenAbove, BelowTheWalk, InactiveChildren, InactiveLevels, InputsAside, AgreeBelow}
 use Rattle.sap_worked.proofs.Grounded.{cells, later, agreed}
 use Rattle.sap_worked.proofs.Rested.{one_rests, other_rests}
-use Rattle.sap_worked.proofs.Unequal.{unequal, never}
 
 pub registers_above : RegistersAbove
 unfolding first put_number put_level put_child
@@ -248,6 +249,6 @@ agree_below = record {
     level_q = refl;
     paths = inl (refl, (refl, refl, inr (refl, refl)));
   });
-  not_at_right = λ a. elim (a.registers register_x refl) [ inl e ↦ unequal 5 6 refl e.0 | inr e ↦ never e.0 ];
-  not_at_high = λ a. elim (a.registers register_x refl) [ inl e ↦ unequal 5 6 refl e.0 | inr e ↦ never e.0 ];
+  not_at_right = λ a. elim (a.registers register_x refl) [ inl e ↦ eqb-false 5 6 refl e.0 | inr e ↦ true_is_not_false e.0 ];
+  not_at_high = λ a. elim (a.registers register_x refl) [ inl e ↦ eqb-false 5 6 refl e.0 | inr e ↦ true_is_not_false e.0 ];
 }

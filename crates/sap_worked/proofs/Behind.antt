@@ -1,15 +1,13 @@
 -- Nothing behind an accepted step.
-use Rattle.std.proofs.Common.{◌≡◌, ℕ, Bool, List, append-nil, refl, sym, ap, inl, inr}
+use Rattle.std.proofs.Common.{◌≡◌, ℕ, Bool, refl, sym, inl, inr}
 use Rattle.std.proofs.lemmas.Bool.{cases_Bool}
+use Rattle.sap_meaning.proofs.StoreLemmas.{and_stay}
 use Rattle.sap_meaning.specs.Program.{World, Step, Try}
-use Rattle.sap_meaning.specs.Store.{Store, After, Refusal, stay, and_then}
+use Rattle.sap_meaning.specs.Store.{Store, After, stay}
 use Rattle.sap_meaning.specs.Checks.{Spot, test}
 use Rattle.sap_meaning.specs.Touches.{touches}
 use Rattle.sap_meaning.specs.Does.{attempt, attempt_then, does, does_block}
 use Rattle.sap_worked.specs.Deciding.{NothingBehind}
-
-and_stay : (a : After) → and_then a (λ t. stay t) ≡ a
-and_stay a = ap (λ (l : List Refusal). record { store = a.store; refused = l }) (append-nil a.refused)
 
 attempt_is : (w : World) (at : Spot) (enter : ℕ → ℕ → Store → After) (k : Step) (hangs : ℕ → Bool) (h : ℕ → Store → After) (pc : ℕ) (s : Store)
     → attempt w at enter k hangs h pc s ≡ attempt_then w at enter k hangs (λ p t. stay t) h pc s

@@ -1,6 +1,5 @@
 mod Computed
 mod Behind
-mod Unequal
 mod Grounded
 mod Rested
 mod Agreed

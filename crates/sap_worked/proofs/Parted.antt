@@ -1,91 +1,92 @@
 -- Pairs of states that don't agree, each by the one thing in which it differs.
 use Rattle.std.proofs.Common.{inl, inr, refl}
+use Rattle.sap_lemmas.proofs.Bools.{true_is_not_false}
+use Rattle.std.proofs.lemmas.Bool.{eqb-false}
 use Rattle.sap_meaning.specs.Store.{own, start, next, put_number, put_level, put_child}
 use Rattle.sap_meaning.specs.State.{first}
 use Rattle.sap_worked.specs.Ground.{register_x, register_y, memory_m, memory_k, state_d, state_q}
 use Rattle.sap_worked.specs.Apart.{RegisterNumber, RegisterLevel, RegisterSeenInOne, CellNumber, NextCellNumber, MemoryNumber, NextMemoryNumber, MemoryLevel, NextMemoryLevel, MemorySeenInOne, EnforcedRegisterLevel, EnforcedCellLevel, NextEnforcedCellLevel, InactiveStateLevel, ActiveStateLevel, OtherChild, OtherChildBelow, ChildLevel, ChildLevelBelow, ChildSeenInOne, OtherChildSeenInOne}
-use Rattle.sap_worked.proofs.Unequal.{unequal, never}
 
 pub register_number : RegisterNumber
 unfolding first put_number put_level put_child
-register_number = λ a. elim (a.registers register_x refl) [ inl e ↦ unequal 5 6 refl e.0 | inr e ↦ never e.0 ]
+register_number = λ a. elim (a.registers register_x refl) [ inl e ↦ eqb-false 5 6 refl e.0 | inr e ↦ true_is_not_false e.0 ]
 
 pub register_level : RegisterLevel
 unfolding first put_number put_level put_child
-register_level = λ a. elim (a.registers register_x refl) [ inl e ↦ unequal 0 1 refl e.1 | inr e ↦ never e.0 ]
+register_level = λ a. elim (a.registers register_x refl) [ inl e ↦ eqb-false 0 1 refl e.1 | inr e ↦ true_is_not_false e.0 ]
 
 pub register_seen_in_one : RegisterSeenInOne
 unfolding first put_number put_level put_child
-register_seen_in_one = λ a. elim (a.registers register_x refl) [ inl e ↦ unequal 1 2 refl e.1 | inr e ↦ never e.0 ]
+register_seen_in_one = λ a. elim (a.registers register_x refl) [ inl e ↦ eqb-false 1 2 refl e.1 | inr e ↦ true_is_not_false e.0 ]
 
 pub cell_number : CellNumber
 unfolding first put_number put_level put_child
-cell_number = λ a. elim ((a.enforced_memories memory_k 1 refl refl).0) [ inl e ↦ unequal 0 5 refl e.0 | inr e ↦ never e.0 ]
+cell_number = λ a. elim ((a.enforced_memories memory_k 1 refl refl).0) [ inl e ↦ eqb-false 0 5 refl e.0 | inr e ↦ true_is_not_false e.0 ]
 
 pub next_cell_number : NextCellNumber
 unfolding first put_number put_level put_child
-next_cell_number = λ a. elim ((a.enforced_memories memory_k 1 refl refl).1) [ inl e ↦ unequal 0 5 refl e.0 | inr e ↦ never e.0 ]
+next_cell_number = λ a. elim ((a.enforced_memories memory_k 1 refl refl).1) [ inl e ↦ eqb-false 0 5 refl e.0 | inr e ↦ true_is_not_false e.0 ]
 
 pub memory_number : MemoryNumber
 unfolding first put_number put_level put_child
-memory_number = λ a. elim ((a.dynamic_memories memory_m refl refl).0) [ inl e ↦ unequal 0 5 refl (e.0 1) | inr e ↦ never e.0 ]
+memory_number = λ a. elim ((a.dynamic_memories memory_m refl refl).0) [ inl e ↦ eqb-false 0 5 refl (e.0 1) | inr e ↦ true_is_not_false e.0 ]
 
 pub next_memory_number : NextMemoryNumber
 unfolding first put_number put_level put_child
-next_memory_number = λ a. elim ((a.dynamic_memories memory_m refl refl).1) [ inl e ↦ unequal 0 5 refl (e.0 1) | inr e ↦ never e.0 ]
+next_memory_number = λ a. elim ((a.dynamic_memories memory_m refl refl).1) [ inl e ↦ eqb-false 0 5 refl (e.0 1) | inr e ↦ true_is_not_false e.0 ]
 
 pub memory_level : MemoryLevel
 unfolding first put_number put_level put_child
-memory_level = λ a. elim ((a.dynamic_memories memory_m refl refl).0) [ inl e ↦ unequal 0 1 refl e.1 | inr e ↦ never e.0 ]
+memory_level = λ a. elim ((a.dynamic_memories memory_m refl refl).0) [ inl e ↦ eqb-false 0 1 refl e.1 | inr e ↦ true_is_not_false e.0 ]
 
 pub next_memory_level : NextMemoryLevel
 unfolding first put_number put_level put_child
-next_memory_level = λ a. elim ((a.dynamic_memories memory_m refl refl).1) [ inl e ↦ unequal 0 1 refl e.1 | inr e ↦ never e.0 ]
+next_memory_level = λ a. elim ((a.dynamic_memories memory_m refl refl).1) [ inl e ↦ eqb-false 0 1 refl e.1 | inr e ↦ true_is_not_false e.0 ]
 
 pub memory_seen_in_one : MemorySeenInOne
 unfolding first put_number put_level put_child
-memory_seen_in_one = λ a. elim ((a.dynamic_memories memory_m refl refl).0) [ inl e ↦ unequal 0 2 refl e.1 | inr e ↦ never e.0 ]
+memory_seen_in_one = λ a. elim ((a.dynamic_memories memory_m refl refl).0) [ inl e ↦ eqb-false 0 2 refl e.1 | inr e ↦ true_is_not_false e.0 ]
 
 pub enforced_register_level : EnforcedRegisterLevel
 unfolding first put_number put_level put_child
-enforced_register_level = λ a. unequal 2 3 refl (a.enforced_levels (own register_y) refl refl refl)
+enforced_register_level = λ a. eqb-false 2 3 refl (a.enforced_levels (own register_y) refl refl refl)
 
 pub enforced_cell_level : EnforcedCellLevel
 unfolding first put_number put_level put_child
-enforced_cell_level = λ a. unequal 2 3 refl (a.enforced_levels (start memory_k 0) refl refl refl)
+enforced_cell_level = λ a. eqb-false 2 3 refl (a.enforced_levels (start memory_k 0) refl refl refl)
 
 pub next_enforced_cell_level : NextEnforcedCellLevel
 unfolding first put_number put_level put_child
-next_enforced_cell_level = λ a. unequal 2 3 refl (a.enforced_levels (next memory_k 0) refl refl refl)
+next_enforced_cell_level = λ a. eqb-false 2 3 refl (a.enforced_levels (next memory_k 0) refl refl refl)
 
 pub inactive_state_level : InactiveStateLevel
 unfolding first put_number put_level put_child
-inactive_state_level = λ a. unequal 2 3 refl (a.enforced_levels (own state_q) refl refl refl)
+inactive_state_level = λ a. eqb-false 2 3 refl (a.enforced_levels (own state_q) refl refl refl)
 
 pub active_state_level : ActiveStateLevel
 unfolding first put_number put_level put_child
-active_state_level = λ a. unequal 2 3 refl (a.enforced_levels (own state_d) refl refl refl)
+active_state_level = λ a. eqb-false 2 3 refl (a.enforced_levels (own state_d) refl refl refl)
 
 pub other_child : OtherChild
 unfolding first put_number put_level put_child
-other_child = λ a. elim (a.paths) [ inl e ↦ unequal 0 1 refl e.0 | inr e ↦ never e.0 ]
+other_child = λ a. elim (a.paths) [ inl e ↦ eqb-false 0 1 refl e.0 | inr e ↦ true_is_not_false e.0 ]
 
 pub other_child_below : OtherChildBelow
 unfolding first put_number put_level put_child
-other_child_below = λ a. elim (a.paths) [ inl e ↦ elim (e.1.2) [ inl u ↦ elim (u.1.2) [ inl v ↦ unequal 0 1 refl v.0 | inr v ↦ never v.0 ] | inr u ↦ never u.0 ] | inr e ↦ never e.0 ]
+other_child_below = λ a. elim (a.paths) [ inl e ↦ elim (e.1.2) [ inl u ↦ elim (u.1.2) [ inl v ↦ eqb-false 0 1 refl v.0 | inr v ↦ true_is_not_false v.0 ] | inr u ↦ true_is_not_false u.0 ] | inr e ↦ true_is_not_false e.0 ]
 
 pub child_level : ChildLevel
 unfolding first put_number put_level put_child
-child_level = λ a. elim (a.paths) [ inl e ↦ elim (e.1.2) [ inl u ↦ unequal 0 1 refl u.1.0 | inr u ↦ never u.0 ] | inr e ↦ never e.0 ]
+child_level = λ a. elim (a.paths) [ inl e ↦ elim (e.1.2) [ inl u ↦ eqb-false 0 1 refl u.1.0 | inr u ↦ true_is_not_false u.0 ] | inr e ↦ true_is_not_false e.0 ]
 
 pub child_level_below : ChildLevelBelow
 unfolding first put_number put_level put_child
-child_level_below = λ a. elim (a.paths) [ inl e ↦ elim (e.1.2) [ inl u ↦ elim (u.1.2) [ inl v ↦ unequal 0 1 refl v.1.0 | inr v ↦ never v.0 ] | inr u ↦ never u.0 ] | inr e ↦ never e.0 ]
+child_level_below = λ a. elim (a.paths) [ inl e ↦ elim (e.1.2) [ inl u ↦ elim (u.1.2) [ inl v ↦ eqb-false 0 1 refl v.1.0 | inr v ↦ true_is_not_false v.0 ] | inr u ↦ true_is_not_false u.0 ] | inr e ↦ true_is_not_false e.0 ]
 
 pub child_seen_in_one : ChildSeenInOne
 unfolding first put_number put_level put_child
-child_seen_in_one = λ a. elim (a.paths) [ inl e ↦ elim (e.1.2) [ inl u ↦ unequal 0 2 refl u.1.0 | inr u ↦ never u.0 ] | inr e ↦ never e.0 ]
+child_seen_in_one = λ a. elim (a.paths) [ inl e ↦ elim (e.1.2) [ inl u ↦ eqb-false 0 2 refl u.1.0 | inr u ↦ true_is_not_false u.0 ] | inr e ↦ true_is_not_false e.0 ]
 
 pub other_child_seen_in_one : OtherChildSeenInOne
 unfolding first put_number put_level put_child
-other_child_seen_in_one = λ a. elim (a.paths) [ inl e ↦ elim (e.1.2) [ inl u ↦ unequal 0 1 refl u.0 | inr u ↦ never u.0 ] | inr e ↦ never e.0 ]
+other_child_seen_in_one = λ a. elim (a.paths) [ inl e ↦ elim (e.1.2) [ inl u ↦ eqb-false 0 1 refl u.0 | inr u ↦ true_is_not_false u.0 ] | inr e ↦ true_is_not_false e.0 ]

@@ -27,6 +27,3 @@ first_written number left start bytes few some within is =
 
 pub shorter : (left : ℕ) → 10 ≤ left → left < 2 ^ 64 → length (decimal left) ≡ length (decimal (left / 10)) + 1
 shorter left more small = ap length (decimal_step left more small) ∙ length-append (decimal (left / 10)) ((48 + left % 10) ∷ [])
-
-pub one_long : (left : ℕ) → left < 10 → length (decimal left) ≡ 1
-one_long left few = ap length (decimal_digit left few)

@@ -3,6 +3,8 @@ use Rattle.std.proofs.Common.{◌≡◌, ◌≤◌, ◌⊎◌, ℕ, List, [], �
 use Rattle.std.specs.Prelude.{unwrap_or, Option}
 use Rattle.std.specs.List.{AllByRecursion}
 use Rattle.std.proofs.lemmas.Bool.{cases_Bool}
+use Rattle.sap_lemmas.proofs.Everywhere.{all_of_map}
+use Rattle.sap_net.proofs.NamesLemmas.{among_behind, among_front, each_among}
 use Rattle.sap_maps.specs.Maps.{Name, Valuation}
 use Rattle.sap_meaning.specs.Cycle.{Tagged}
 use Rattle.sap_meaning.specs.Store.{Store, After, Refusal}
@@ -27,9 +29,8 @@ use Rattle.sap_interface.specs.Interface.{Shown, HasInput, HasWire, HasRegister,
 use Rattle.sap_interface.specs.Compiled.{coded_stream, CyclesStand, NetStandsFor}
 use Rattle.sap_tagged.specs.Law.{AreSites, RefusalsAreSites}
 use Rattle.sap_tagged.proofs.Members.{In}
-use Rattle.sap_ir.proofs.Declared.{among_front, among_behind}
-use Rattle.sap_compile.proofs.stages.Ports.{all_of_map, named_among, refused_port, level_port, ports_named}
-use Rattle.sap_compile.proofs.stages.Declared.{of_port, of_port_name, of_wire_name, of_register, of_memory, each_name, register_alike, memory_alike, same_registers, same_memories, wire_read, some_wire}
+use Rattle.sap_compile.proofs.stages.Ports.{named_among, refused_port, level_port, ports_named}
+use Rattle.sap_compile.proofs.stages.Declared.{of_port, of_port_name, of_wire_name, of_register, of_memory, register_alike, memory_alike, same_registers, same_memories, wire_read, some_wire}
 use Rattle.sap_compile.proofs.stages.Helping.{among_either, numbered_helping, helping_there}
 
 -- the ports that a netlist shows, where it has an interface
@@ -93,7 +94,7 @@ module _ (given result : Net) (before : IsNetlist given) (after : IsNetlist resu
   helpers_named none numbers =
       let named = numbers (λ k. ap (λ (ns : List Name). is_among (helper k) ns) same_lasting ∙ none k) in
       all_of_map IsHelpingName (λ (w : Wire). w.name) (helping_wires result)
-      (subst (λ (ns : List Name). AllByRecursion IsHelpingName ns) (sym named) (each_name IsHelpingName _ (numbered_helping (length (helping_wires result)))))
+      (subst (λ (ns : List Name). AllByRecursion IsHelpingName ns) (sym named) (each_among IsHelpingName _ (numbered_helping (length (helping_wires result)))))
 
   input_given : (x : Name) → is_among x (input_names result) ≡ true → is_among x given.names ≡ true
   input_given x h =
@@ -164,7 +165,7 @@ module _ (given result : Net) (before : IsNetlist given) (after : IsNetlist resu
       state_tags = λ x h i. has_register _ _ (from.interface.state_tags x h i);
       seats = λ x h i. has_seat _ _ (from.interface.seats x h i);
       root_seat = has_seat _ _ from.interface.root_seat;
-      names = each_name (λ (x : Name). IsInterfaceName d sites x ⊎ IsHelpingName x) result.names (name_is named);
+      names = each_among (λ (x : Name). IsInterfaceName d sites x ⊎ IsHelpingName x) result.names (name_is named);
     }
 
     takes : (stream : List (List Tagged)) → StreamFits (world d) stream → AllFit result.inputs (coded_stream d.code stream)

@@ -2,12 +2,13 @@
 use Rattle.std.proofs.Common.{◌≡◌, ℕ, List, [], ◌∷◌, map, true, Some, inl, inr, refl, sym, ap, ◌∙◌, subst, bytes_eq}
 use Rattle.std.specs.List.{AllByRecursion}
 use Rattle.std.proofs.lemmas.Bool.{cases_Bool}
+use Rattle.sap_lemmas.proofs.Texts.{equal_of_bytes_eq}
+use Rattle.sap_net.proofs.RulesLemmas.{readable_kept}
 use Rattle.sap_maps.specs.Maps.{Name}
 use Rattle.sap_maps.specs.Scope.{Scope, find}
-use Rattle.sap_maps.proofs.Scopes.{same_name, name_is, apart_back, found_here}
+use Rattle.sap_maps.proofs.Scopes.{found_here}
 use Rattle.sap_net.specs.Names.{is_among}
 use Rattle.sap_net.specs.Rules.{Shapes, AreWires, readable_after}
-use Rattle.sap_net.proofs.Within.{readable_to_the_end}
 use Rattle.sap_net.specs.declared.parts.PortKind.{PortKind}
 use Rattle.sap_net.specs.declared.parts.Port.{Port}
 use Rattle.sap_net.specs.declared.parts.Wire.{Wire}
@@ -35,12 +36,12 @@ of_port P (p ∷ ps) n k a (inr h) = of_port P ps n k a.1 h
 pub of_port_name : (P : Name → Type 0) (ps : List Port) → AllByRecursion (λ p. P p.name) ps → (n : Name) → is_among n (map (λ p. p.name) ps) ≡ true → P n
 of_port_name P [] a n h = absurd (cc)
 of_port_name P (p ∷ ps) a n h =
-    elim (cases_Bool (bytes_eq n p.name)) [ inl t ↦ subst P (sym (name_is n p.name t)) a.0 | inr f ↦ of_port_name P ps a.1 n (rw f at h) ]
+    elim (cases_Bool (bytes_eq n p.name)) [ inl t ↦ subst P (sym (equal_of_bytes_eq n p.name t)) a.0 | inr f ↦ of_port_name P ps a.1 n (rw f at h) ]
 
 pub of_wire_name : (P : Name → Type 0) (ws : List Wire) → AllByRecursion (λ w. P w.name) ws → (n : Name) → is_among n (map (λ w. w.name) ws) ≡ true → P n
 of_wire_name P [] a n h = absurd (cc)
 of_wire_name P (w ∷ ws) a n h =
-    elim (cases_Bool (bytes_eq n w.name)) [ inl t ↦ subst P (sym (name_is n w.name t)) a.0 | inr f ↦ of_wire_name P ws a.1 n (rw f at h) ]
+    elim (cases_Bool (bytes_eq n w.name)) [ inl t ↦ subst P (sym (equal_of_bytes_eq n w.name t)) a.0 | inr f ↦ of_wire_name P ws a.1 n (rw f at h) ]
 
 pub of_register : (P : Name → Type 0) (rs : List Register) (n : Name) (u : ℕ) → AllByRecursion (λ r. P r.name) rs → HasRegister rs n u → P n
 of_register P [] n u a h = absurd h
@@ -51,20 +52,6 @@ pub of_memory : (P : Name → Type 0) (ms : List Memory) (n : Name) (u k : ℕ) 
 of_memory P [] n u k a h = absurd h
 of_memory P (m ∷ ms) n u k a (inl e) = subst P e.0 a.0
 of_memory P (m ∷ ms) n u k a (inr h) = of_memory P ms n u k a.1 h
-
-pub each_name : (P : Name → Type 0) (ns : List Name) → ((n : Name) → is_among n ns ≡ true → P n) → AllByRecursion P ns
-each_name P [] f = tt
-each_name P (n ∷ ns) f = (f n (rw (same_name n) refl), each_name P ns (λ m h. f m (behind m h)))
-  where
-    behind : (m : Name) → is_among m ns ≡ true → is_among m (n ∷ ns) ≡ true
-    behind m h = elim (cases_Bool (bytes_eq m n)) [ inl t ↦ rw t refl | inr f ↦ rw f h ]
-
-pub found_of : {X Y : Type 0} (name : Y → Name) (of : Y → X) (ys : List Y) (n : Name) → is_among n (map name ys) ≡ true → (x : X) × (find (map (λ y. (name y, of y)) ys) n ≡ Some x)
-found_of name of [] n h = absurd (cc)
-found_of name of (y ∷ ys) n h = elim (cases_Bool (bytes_eq (name y) n)) [
-  | inl t ↦ (of y, rw t refl)
-  | inr f ↦ (let g = apart_back (name y) n f in let r = found_of name of ys n (rw g at h) in (r.0, rw f r.1))
-]
 
 -- registers and memories
 
@@ -105,13 +92,13 @@ same_memories ms ks e = sym (memories_named ks) ∙ ap (λ (qs : List Stored). m
 pub wire_read : (shapes : Shapes) (ws : List Wire) (sc : Scope) → AreWires shapes sc ws → (n : Name) (u : ℕ) → HasWire ws n u → find (readable_after sc ws) n ≡ Some u
 wire_read shapes [] sc a n u h = absurd h
 wire_read shapes (w ∷ ws) sc a n u (inl e) =
-    readable_to_the_end shapes ws ((w.name, w.width) ∷ sc) a.4 n u
+    readable_kept shapes ws ((w.name, w.width) ∷ sc) a.4 n u
     (subst (λ (m : Name). find ((w.name, w.width) ∷ sc) m ≡ Some u) e.0 (found_here w.name w.width sc ∙ ap (λ (k : ℕ). Some k) e.1))
 wire_read shapes (w ∷ ws) sc a n u (inr h) = wire_read shapes ws ((w.name, w.width) ∷ sc) a.4 n u h
 
 pub some_wire : (ws : List Wire) (n : Name) → is_among n (map (λ w. w.name) ws) ≡ true → (u : ℕ) × HasWire ws n u
 some_wire [] n h = absurd (cc)
 some_wire (w ∷ ws) n h = elim (cases_Bool (bytes_eq n w.name)) [
-  | inl t ↦ (w.width, inl (sym (name_is n w.name t), refl))
+  | inl t ↦ (w.width, inl (sym (equal_of_bytes_eq n w.name t), refl))
   | inr f ↦ (let r = some_wire ws n (rw f at h) in (r.0, inr r.1))
 ]

@@ -2,9 +2,10 @@
 use Rattle.std.proofs.Common.{◌≡◌, ℕ, List, [], ◌∷◌, ◌++◌, map, filter, Bool, true, false, Option, Some, None, inl, inr, refl, sym, ap, ◌∙◌, subst, if◌then◌else◌, bytes_eq}
 use Rattle.std.specs.List.{AllByRecursion}
 use Rattle.std.proofs.lemmas.Bool.{cases_Bool}
+use Rattle.sap_lemmas.proofs.Texts.{bytes_eq_same, equal_of_bytes_eq}
+use Rattle.sap_net.proofs.NamesLemmas.{apart_by_membership}
 use Rattle.sap_maps.specs.Maps.{Name}
 use Rattle.sap_maps.specs.Scope.{find}
-use Rattle.sap_maps.proofs.Scopes.{same_name, name_is}
 use Rattle.sap_net.specs.Names.{is_among, AreDistinct}
 use Rattle.sap_net.specs.Runs.{AllFit, InputsFit}
 use Rattle.sap_net.specs.declared.parts.Input.{Input}
@@ -50,7 +51,7 @@ input_there (x ∷ xs) n u (inr h) = inr (input_there xs n u h)
 pub wire_there : (ws : List Wire) (n : Name) (u : ℕ) → find {X = ℕ} (map (λ w. (w.name, w.width)) ws) n ≡ Some u → HasWire ws n u
 wire_there [] n u f = cc
 wire_there (w ∷ ws) n u f = elim (cases_Bool (bytes_eq w.name n)) [
-  | inl t ↦ (let e : Some w.width ≡ Some u = rw t at f in let i : w.width ≡ u = cc in inl (name_is w.name n t, i))
+  | inl t ↦ (let e : Some w.width ≡ Some u = rw t at f in let i : w.width ≡ u = cc in inl (equal_of_bytes_eq w.name n t, i))
   | inr t ↦ inr (wire_there ws n u (rw t at f))
 ]
 
@@ -77,7 +78,7 @@ listed_variable ps (x ∷ xs) n u (inr h) p =
 pub register_there : (rs : List Register) (n : Name) (u k : ℕ) → find {X = Shape} (map (λ r. (r.name, (r.width, r.start))) rs) n ≡ Some (u, k) → HasRegister rs n u
 register_there [] n u k f = cc
 register_there (r ∷ rs) n u k f = elim (cases_Bool (bytes_eq r.name n)) [
-  | inl t ↦ inl (name_is r.name n t, width_is (r.width, r.start) (u, k) (rw t at f))
+  | inl t ↦ inl (equal_of_bytes_eq r.name n t, width_is (r.width, r.start) (u, k) (rw t at f))
   | inr t ↦ inr (register_there rs n u k (rw t at f))
 ]
   where
@@ -90,27 +91,20 @@ register_there (r ∷ rs) n u k f = elim (cases_Bool (bytes_eq r.name n)) [
 
 among_variables : (xs : List Var) (n : Name) (u : ℕ) → HasVariable xs n u → is_among n (variable_names xs) ≡ true
 among_variables [] n u h = absurd h
-among_variables (x ∷ xs) n u (inl e) = subst (λ (m : Name). is_among m (x.name ∷ variable_names xs) ≡ true) e.0 (rw (same_name x.name) refl)
+among_variables (x ∷ xs) n u (inl e) = subst (λ (m : Name). is_among m (x.name ∷ variable_names xs) ≡ true) e.0 (rw (bytes_eq_same x.name) refl)
 among_variables (x ∷ xs) n u (inr h) = elim (cases_Bool (bytes_eq n x.name)) [ inl t ↦ rw t refl | inr t ↦ rw t (among_variables xs n u h) ]
-
--- a name that stands on no list behind it is another
-other : (a b : Name) (ns : List Name) → is_among a ns ≡ false → is_among b ns ≡ true → bytes_eq a b ≡ false
-other a b ns f t = elim (cases_Bool (bytes_eq a b)) [
-  | inl e ↦ (let i : a ≡ b = name_is a b e in let j : is_among b ns ≡ false = subst (λ (c : Name). is_among c ns ≡ false) i f in cc)
-  | inr e ↦ e
-]
 
 -- its start
 pub variable_found : (xs : List Var) (n : Name) (u : ℕ) → AreDistinct (variable_names xs) → HasVariable xs n u
     → (k : ℕ) × (find {X = Shape} (map (λ x. (x.name, (x.width, x.start))) xs) n ≡ Some (u, k))
 variable_found [] n u d h = absurd h
-variable_found (x ∷ xs) n u d (inl e) = (x.start, found (bytes_eq x.name n) (subst (λ (m : Name). bytes_eq x.name m ≡ true) e.0 (same_name x.name)))
+variable_found (x ∷ xs) n u d (inl e) = (x.start, found (bytes_eq x.name n) (subst (λ (m : Name). bytes_eq x.name m ≡ true) e.0 (bytes_eq_same x.name)))
   where
     found : (q : Bool) → q ≡ true → (if q then Some (x.width, x.start) else find {X = Shape} (map (λ y. (y.name, (y.width, y.start))) xs) n) ≡ Some (u, x.start)
     found true t = ap (λ (k : ℕ). Some (k, x.start)) e.1
     found false t = cc
 variable_found (x ∷ xs) n u d (inr h) =
-    let o : bytes_eq x.name n ≡ false = other x.name n (variable_names xs) d.0 (among_variables xs n u h) in
+    let o : bytes_eq x.name n ≡ false = apart_by_membership x.name n (variable_names xs) d.0 (among_variables xs n u h) in
     let r = variable_found xs n u d.1 h in
     (r.0, ap (λ (q : Bool). if q then Some (x.width, x.start) else find {X = Shape} (map (λ y. (y.name, (y.width, y.start))) xs) n) o ∙ r.1)
 

@@ -1,23 +1,19 @@
 -- The names of helping wires, which no port, register or memory has.
-use Rattle.std.proofs.Common.{◌≡◌, ◌⊎◌, ℕ, zero, suc, List, [], ◌∷◌, ◌++◌, filter, not, Bool, true, false, ◌||◌, inl, inr, refl, sym, ◌∙◌, subst, bytes_eq}
-use Rattle.std.proofs.lemmas.Bool.{cases_Bool}
+use Rattle.std.proofs.Common.{◌≡◌, ◌⊎◌, ℕ, zero, suc, List, [], ◌∷◌, ◌++◌, filter, not, true, false, inl, inr, refl, sym, ◌∙◌, subst, bytes_eq}
+use Rattle.std.proofs.lemmas.Bool.{cases_Bool, or_cases}
+use Rattle.sap_lemmas.proofs.Texts.{equal_of_bytes_eq}
+use Rattle.sap_net.proofs.NamesLemmas.{among_append}
 use Rattle.sap_maps.specs.Maps.{Name}
-use Rattle.sap_maps.proofs.Scopes.{name_is}
 use Rattle.sap_net.specs.Names.{is_among, IsHelpingName}
 use Rattle.sap_net.specs.declared.parts.Wire.{Wire}
-use Rattle.sap_ir.proofs.Declared.{among_append}
 use Rattle.sap_interface.specs.StandsFor.{Named}
 use Rattle.sap_interface.specs.InterfaceNames.{IsInterfaceName, value_of, tag_of, state_tag_of, child_of, child_of_root, refusal_of, level_of}
 use Rattle.sap_trim.specs.Names.{helper, numbered, names_of}
 
 -- a name on one of two lists
 
-either : (a b : Bool) → (a || b) ≡ true → (a ≡ true) ⊎ (b ≡ true)
-either true b h = inl refl
-either false b h = inr h
-
 pub among_either : (n : Name) (xs ys : List Name) → is_among n (xs ++ ys) ≡ true → (is_among n xs ≡ true) ⊎ (is_among n ys ≡ true)
-among_either n xs ys h = either (is_among n xs) (is_among n ys) (sym (among_append n xs ys) ∙ h)
+among_either n xs ys h = or_cases (is_among n xs) (is_among n ys) (sym (among_append n xs ys) ∙ h)
 
 -- a number behind an n is the name of a helping wire
 
@@ -26,7 +22,7 @@ unfolding helper
 numbered_helping zero n h = absurd (cc)
 numbered_helping (suc k) n h = elim (among_either n (numbered k) (helper k ∷ []) h) [
   | inl t ↦ numbered_helping k n t
-  | inr t ↦ elim (either (bytes_eq n (helper k)) false t) [ inl e ↦ (k, name_is n (helper k) e) | inr e ↦ absurd (cc) ]
+  | inr t ↦ elim (or_cases (bytes_eq n (helper k)) false t) [ inl e ↦ (k, equal_of_bytes_eq n (helper k) e) | inr e ↦ absurd (cc) ]
 ]
 
 -- no name of the interface
@@ -47,6 +43,6 @@ pub helping_there : (ns : List Name) (ws : List Wire) (n : Name) → is_among n 
     → is_among n (names_of (filter (λ w. not (is_among w.name ns)) ws)) ≡ true
 helping_there ns [] n f h = absurd (cc)
 helping_there ns (w ∷ ws) n f h = elim (cases_Bool (bytes_eq n w.name)) [
-  | inl t ↦ (let g : is_among w.name ns ≡ false = subst (λ (m : Name). is_among m ns ≡ false) (name_is n w.name t) f in rw (g, t) refl)
+  | inl t ↦ (let g : is_among w.name ns ≡ false = subst (λ (m : Name). is_among m ns ≡ false) (equal_of_bytes_eq n w.name t) f in rw (g, t) refl)
   | inr t ↦ (let r = helping_there ns ws n f (rw t at h) in elim (cases_Bool (is_among w.name ns)) [ inl g ↦ rw g r | inr g ↦ rw (g, t) r ])
 ]

@@ -2,9 +2,11 @@
 use Rattle.std.proofs.Common.{◌≡◌, ◌≤◌, ◌⊎◌, ℕ, List, [], ◌∷◌, ◌++◌, map, true, false, inl, inr, ◌↔◌, refl, sym, ap, ap₂, ◌∙◌, subst, if◌then◌else◌, bytes_eq}
 use Rattle.std.specs.List.{AllByRecursion}
 use Rattle.std.proofs.lemmas.Bool.{cases_Bool}
+use Rattle.sap_lemmas.proofs.Everywhere.{all_follow, all_of_map, all_second}
+use Rattle.sap_lemmas.proofs.Texts.{bytes_eq_same}
+use Rattle.sap_net.proofs.NamesLemmas.{found_among, found_of}
 use Rattle.sap_maps.specs.Maps.{Name, Valuation}
 use Rattle.sap_maps.specs.Scope.{find}
-use Rattle.sap_maps.proofs.Scopes.{same_name}
 use Rattle.sap_meaning.specs.Cycle.{Tagged}
 use Rattle.sap_meaning.specs.Store.{Store, After, Refusal}
 use Rattle.sap_meaning.specs.State.{StreamFits, labelled_run}
@@ -23,7 +25,7 @@ use Rattle.sap_ir.specs.declared.guarded.Store as ir
 use Rattle.sap_ir.specs.Source.{Source}
 use Rattle.sap_ir.specs.Guarded.{guarded_run}
 use Rattle.sap_ir.specs.IsGuarded.{variable_names, memory_names}
-use Rattle.sap_ir.proofs.Declared.{distinct_front, distinct_behind, found_among}
+use Rattle.sap_ir.proofs.Declared.{distinct_front, distinct_behind}
 use Rattle.sap_ir.specs.Plain.Nested.{Nested}
 use Rattle.sap_ir.specs.Plain.Does.{plain_run}
 use Rattle.sap_ir.specs.Plain.IsPlain.{IsPlain}
@@ -41,9 +43,9 @@ use Rattle.sap_interface.specs.Compiled.{coded_stream, CyclesStand, NetStandsFor
 use Rattle.sap_tagged.specs.Law.{HasVariable, HasStore, HasSeatRegister, AreSites, RefusalsAreSites, shows, shown, PlainStandsFor}
 use Rattle.sap_tagged.proofs.Members.{In}
 use Rattle.sap_compile.specs.Stages.Stages.{StandsForTheSame}
-use Rattle.sap_compile.proofs.stages.Ports.{all_front, all_behind, all_of_map, all_follow, named_among, variable_among, store_among, refused_port, level_port, ports_named, wire_among}
+use Rattle.sap_compile.proofs.stages.Ports.{all_front, named_among, variable_among, store_among, refused_port, level_port, ports_named, wire_among}
 use Rattle.sap_compile.proofs.stages.Alike.{port_named, helpers_named, stands_alike}
-use Rattle.sap_compile.proofs.stages.Declared.{found_of, memories_named}
+use Rattle.sap_compile.proofs.stages.Declared.{memories_named}
 use Rattle.sap_compile.proofs.stages.Helping.{among_either, no_helper}
 use Rattle.sap_compile.proofs.stages.Found.{as_input, Shape, Stored, store_stored, has_front, input_there, wire_there, wire_found, listed_variable, register_there, variable_found, memory_there, same_at, same_cells, all_fit}
 
@@ -154,7 +156,7 @@ module _ (d : Named) (tag sites : ℕ) (p : Nested) (s : Source) (n : Net) (from
   outputs_named : AllByRecursion IsNamed p.ports
   outputs_named =
       all_of_map (λ (q : Shown). IsNamed q.0) (λ (x : Name). (x, shows p x)) p.ports
-      (all_behind (λ (q : Shown). IsNamed q.0) (map input_shown p.inputs) (map (λ x. (x, shows p x)) p.ports) all_shown)
+      (all_second (λ (q : Shown). IsNamed q.0) (map input_shown p.inputs) (map (λ x. (x, shows p x)) p.ports) all_shown)
 
   kept_named : (x : Name) → low.IsKept s x → IsNamed x
   kept_named x (inl h) = variable_among IsNamed p.inputs inputs_named x (subst (λ (is : List Var). is_among x (variable_names is) ≡ true) flattens.inputs h)
@@ -192,7 +194,7 @@ module _ (d : Named) (tag sites : ℕ) (p : Nested) (s : Source) (n : Net) (from
   pub none_numbered : NoneNumbered n
   none_numbered = λ k.
       elim (cases_Bool (is_among (helper k) (lasting_names n))) [
-        | inl t ↦ absurd (let e : bytes_eq (helper k) (helper k) ≡ false = no_helper d sites (helper k) (lasting_named (helper k) t) k in let f = same_name (helper k) in cc)
+        | inl t ↦ absurd (let e : bytes_eq (helper k) (helper k) ≡ false = no_helper d sites (helper k) (lasting_named (helper k) t) k in let f = bytes_eq_same (helper k) in cc)
         | inr f ↦ f
       ]
 

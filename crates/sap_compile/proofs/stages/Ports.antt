@@ -2,8 +2,9 @@
 use Rattle.std.proofs.Common.{◌≡◌, ℕ, zero, suc, ◌+◌, ◌<◌, ◌≤◌, List, [], ◌∷◌, ◌++◌, map, Bool, true, false, ◌||◌, inl, inr, refl, sym, ap, subst, if◌then◌else◌, arith, bytes_eq}
 use Rattle.std.specs.List.{AllByRecursion}
 use Rattle.std.proofs.lemmas.Bool.{cases_Bool}
+use Rattle.sap_lemmas.proofs.Everywhere.{all_append}
+use Rattle.sap_lemmas.proofs.Texts.{bytes_eq_same, equal_of_bytes_eq}
 use Rattle.sap_maps.specs.Maps.{Name}
-use Rattle.sap_maps.proofs.Scopes.{same_name, name_is}
 use Rattle.sap_meaning.specs.Program.{Entity, is_input, is_register}
 use Rattle.sap_net.specs.Names.{is_among}
 use Rattle.sap_net.specs.declared.parts.PortKind.{PortKind}
@@ -19,40 +20,24 @@ use Rattle.sap_tagged.proofs.Members.{In, in_behind, reached}
 
 -- what holds of all
 
-all_append : {X : Type 0} (P : X → Type 0) (xs ys : List X) → AllByRecursion P xs → AllByRecursion P ys → AllByRecursion P (xs ++ ys)
-all_append P [] ys a b = b
-all_append P (x ∷ xs) ys a b = (a.0, all_append P xs ys a.1 b)
-
 pub all_front : {X : Type 0} (P : X → Type 0) (xs ys : List X) → AllByRecursion P (xs ++ ys) → AllByRecursion P xs
 all_front P [] ys a = tt
 all_front P (x ∷ xs) ys a = (a.0, all_front P xs ys a.1)
 
-pub all_behind : {X : Type 0} (P : X → Type 0) (xs ys : List X) → AllByRecursion P (xs ++ ys) → AllByRecursion P ys
-all_behind P [] ys a = a
-all_behind P (x ∷ xs) ys a = all_behind P xs ys a.1
-
-pub all_of_map : {X Y : Type 0} (P : Y → Type 0) (f : X → Y) (xs : List X) → AllByRecursion P (map f xs) → AllByRecursion (λ x. P (f x)) xs
-all_of_map P f [] a = tt
-all_of_map P f (x ∷ xs) a = (a.0, all_of_map P f xs a.1)
-
-pub all_follow : {X : Type 0} (P Q : X → Type 0) (xs : List X) → ((x : X) → P x → Q x) → AllByRecursion P xs → AllByRecursion Q xs
-all_follow P Q [] f a = tt
-all_follow P Q (x ∷ xs) f a = (f x a.0, all_follow P Q xs f a.1)
-
 pub named_among : (P : Name → Type 0) (ns : List Name) → AllByRecursion P ns → (n : Name) → is_among n ns ≡ true → P n
 named_among P [] a n h = absurd (cc)
 named_among P (m ∷ ns) a n h =
-    elim (cases_Bool (bytes_eq n m)) [ inl t ↦ subst P (sym (name_is n m t)) a.0 | inr f ↦ named_among P ns a.1 n (rw f at h) ]
+    elim (cases_Bool (bytes_eq n m)) [ inl t ↦ subst P (sym (equal_of_bytes_eq n m t)) a.0 | inr f ↦ named_among P ns a.1 n (rw f at h) ]
 
 pub variable_among : (P : Name → Type 0) (xs : List Var) → AllByRecursion (λ x. P x.name) xs → (n : Name) → is_among n (variable_names xs) ≡ true → P n
 variable_among P [] a n h = absurd (cc)
 variable_among P (x ∷ xs) a n h =
-    elim (cases_Bool (bytes_eq n x.name)) [ inl t ↦ subst P (sym (name_is n x.name t)) a.0 | inr f ↦ variable_among P xs a.1 n (rw f at h) ]
+    elim (cases_Bool (bytes_eq n x.name)) [ inl t ↦ subst P (sym (equal_of_bytes_eq n x.name t)) a.0 | inr f ↦ variable_among P xs a.1 n (rw f at h) ]
 
 pub store_among : (P : Name → Type 0) (ms : List Store) → AllByRecursion (λ m. P m.name) ms → (n : Name) → is_among n (memory_names ms) ≡ true → P n
 store_among P [] a n h = absurd (cc)
 store_among P (m ∷ ms) a n h =
-    elim (cases_Bool (bytes_eq n m.name)) [ inl t ↦ subst P (sym (name_is n m.name t)) a.0 | inr f ↦ store_among P ms a.1 n (rw f at h) ]
+    elim (cases_Bool (bytes_eq n m.name)) [ inl t ↦ subst P (sym (equal_of_bytes_eq n m.name t)) a.0 | inr f ↦ store_among P ms a.1 n (rw f at h) ]
 
 -- the wires of a site are ports
 
@@ -134,6 +119,6 @@ wire_among (i ∷ is) shows ns n (inl e) = absurd (no_input (ap (λ (q : Shown).
 wire_among (i ∷ is) shows ns n (inr h) = wire_among is shows ns n h
 wire_among [] shows [] n h = absurd h
 wire_among [] shows (m ∷ ns) n (inl e) =
-    let t : bytes_eq n m ≡ true = subst (λ (x : Name). bytes_eq n x ≡ true) (sym (ap (λ (q : Shown). q.0) e)) (same_name n) in rw t refl
+    let t : bytes_eq n m ≡ true = subst (λ (x : Name). bytes_eq n x ≡ true) (sym (ap (λ (q : Shown). q.0) e)) (bytes_eq_same n) in rw t refl
 wire_among [] shows (m ∷ ns) n (inr h) =
     elim (cases_Bool (bytes_eq n m)) [ inl t ↦ rw t refl | inr f ↦ rw f (wire_among [] shows ns n h) ]

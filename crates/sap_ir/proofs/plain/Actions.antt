@@ -1,6 +1,7 @@
 -- Tests and actions over what a program declares: the rule and its test.
 use Rattle.std.proofs.Common.{◌≡◌, ℕ, [], ◌∷◌, map, Some, true, refl, arith}
 use Rattle.std.proofs.lemmas.Bool.{and_from, and_parts}
+use Rattle.sap_maps.proofs.ScopeLemmas.{found_first}
 use Rattle.sap_maps.specs.Maps.{Name}
 use Rattle.sap_maps.specs.Scope.{find}
 use Rattle.sap_maps.specs.Term.{Term, constant, read}
@@ -8,7 +9,7 @@ use Rattle.sap_net.specs.Names.{AreDistinct}
 use Rattle.sap_ir.specs.Source.{Action, set, Command, Source, readable, shapes}
 use Rattle.sap_ir.specs.IsGuarded.{TermFine, assignable, ActionFine, CommandFine, declared, IsGuarded}
 use Rattle.sap_ir.specs.Test.{value_is_fine, action_is_fine, command_is_fine, is_guarded}
-use Rattle.sap_ir.proofs.Declared.{found_first, assignable_readable}
+use Rattle.sap_ir.proofs.Declared.{assignable_readable}
 use Rattle.sap_ir.proofs.Tested.{guarded_from}
 use Rattle.sap_ir.proofs.Passes.{guarded_to}
 

@@ -1,23 +1,18 @@
 -- Registers of current children, and their widths.
-use Rattle.std.proofs.Common.{◌≡◌, ℕ, zero, suc, ◌+◌, ◌-◌, ◌*◌, ◌%◌, ◌^◌, ◌<◌, ◌≤◌, ◌==◌, List, [], ◌∷◌, map, Some, true, false, ap, ◌∙◌, refl, arith, inl, inr}
+use Rattle.std.proofs.Common.{◌≡◌, ℕ, zero, suc, ◌+◌, ◌-◌, ◌*◌, ◌%◌, ◌^◌, ◌<◌, ◌≤◌, ◌==◌, List, [], ◌∷◌, map, Some, true, ap, ◌∙◌, refl, arith, inl, inr}
 use Rattle.std.specs.Prelude.{nat_le}
 use Rattle.std.specs.Str.{bytes_eq}
-use Rattle.std.proofs.lemmas.Bool.{cases_Bool}
-use Rattle.std.proofs.lemmas.Bool.Decides.{Decides-eqb, nat_tests}
+use Rattle.std.proofs.lemmas.Bool.{cases_Bool, le-leb, leb-false, leb-true, lt-leb}
+use Rattle.std.proofs.lemmas.Bool.Decides.{Decides-eqb}
 use Rattle.std.proofs.Math.Nat.{mod-eq_of_lt}
 use Rattle.std.proofs.Math.Pow.{pow-lt}
+use Rattle.sap_lemmas.proofs.Numbers.{above_unequal}
 use Rattle.sap_maps.specs.Maps.{Name}
 use Rattle.sap_maps.specs.Scope.{find}
 use Rattle.sap_ir.specs.declared.guarded.Var.{Var}
 use Rattle.sap_ir.specs.Source.{Source}
 use Rattle.sap_ir.specs.Plain.Nested.{Forest, none, state, has_states, size, width_from, seat_width}
 use Rattle.sap_ir.specs.Plain.IsPlain.{SeatFine}
-
-at_most : (a b : ℕ) → nat_le a b ≡ true → a ≤ b
-at_most a b h = grind (arith, nat_tests)
-
-above : (a b : ℕ) → nat_le a b ≡ false → b < a
-above a b h = grind (arith, nat_tests)
 
 -- a width from u on, that is u where it is not the first beyond those that are too small
 pub width_low : (k u count : ℕ) → u ≤ width_from k u count
@@ -40,12 +35,9 @@ pub width_holds : (k u count : ℕ) → count ≤ 2 ^ (u + k) → count ≤ 2 ^ 
 width_holds zero u count h = let e : u + 0 ≡ u = omega arith in rw e at h
 width_holds (suc k) u count h =
     elim (cases_Bool (nat_le count (2 ^ u))) [
-      | inl t ↦ rw t (at_most count (2 ^ u) t)
+      | inl t ↦ rw t (leb-true count (2 ^ u) t)
       | inr f ↦ rw f (width_holds k (u + 1) count (let e : u + suc k ≡ u + 1 + k = omega arith in rw e at h))
     ]
-
-beyond : (u v : ℕ) → u ≤ v → (u == v) ≡ false → u + 1 ≤ v
-beyond u v l q = grind (arith, nat_tests)
 
 pub width_least : (k u count v : ℕ) → u ≤ v → count ≤ 2 ^ v → width_from k u count ≤ v
 width_least zero u count v l h = l
@@ -54,8 +46,8 @@ width_least (suc k) u count v l h =
       | inl t ↦ rw t l
       | inr f ↦
           rw f (width_least k (u + 1) count v (elim (cases_Bool (u == v)) [
-            | inl q ↦ absurd (let e : u ≡ v = (Decides-eqb u v).0 q in let a = above count (2 ^ u) f in let b : 2 ^ u ≡ 2 ^ v = ap (λ (n : ℕ). 2 ^ n) e in omega (arith, a, b, h))
-            | inr q ↦ beyond u v l q
+            | inl q ↦ absurd (let e : u ≡ v = (Decides-eqb u v).0 q in let a = leb-false count (2 ^ u) f in let b : 2 ^ u ≡ 2 ^ v = ap (λ (n : ℕ). 2 ^ n) e in omega (arith, a, b, h))
+            | inr q ↦ above_unequal u v l q
           ]) h)
     ]
 
@@ -96,17 +88,11 @@ pub width_start : (count : ℕ) → width_from (64 - 1) 1 count ≡ seat_width c
 unfolding seat_width
 width_start count = refl
 
-below_is : (a b : ℕ) → a ≤ b → nat_le a b ≡ true
-below_is a b k = grind (arith, nat_tests)
-
-above_is : (a b : ℕ) → b < a → nat_le a b ≡ false
-above_is a b k = grind (arith, nat_tests)
-
 pub width_found : (u count : ℕ) → u < 64 → count ≤ 2 ^ u → width_from (64 - u) u count ≡ u
-width_found u count l h = let e : 64 - u ≡ suc (64 - (u + 1)) = omega arith in rw (e, below_is count (2 ^ u) h) refl
+width_found u count l h = let e : 64 - u ≡ suc (64 - (u + 1)) = omega arith in rw (e, le-leb count (2 ^ u) h) refl
 
 pub width_next : (u count : ℕ) → u < 64 → 2 ^ u < count → width_from (64 - u) u count ≡ width_from (64 - (u + 1)) (u + 1) count
-width_next u count l h = let e : 64 - u ≡ suc (64 - (u + 1)) = omega arith in rw (e, above_is count (2 ^ u) h) refl
+width_next u count l h = let e : 64 - u ≡ suc (64 - (u + 1)) = omega arith in rw (e, lt-leb count (2 ^ u) h) refl
 
 pub width_last : (u count : ℕ) → 64 ≤ u → width_from (64 - u) u count ≡ u
 width_last u count h = let e : 64 - u ≡ 0 = omega arith in rw e refl

@@ -52,13 +52,6 @@ pub before-fall : (b : Body) → command_before cmd.Fall b ≡ fall b
 unfolding command_before
 before-fall b = refl
 
-pub follow-end : (a : Body) → follow a stop ≡ a
-follow-end stop = refl
-follow-end (act d rest) = ap (act d) (follow-end rest)
-follow-end (cases t y n rest) = ap (cases t y n) (follow-end rest)
-follow-end (goto x rest) = ap (goto x) (follow-end rest)
-follow-end (fall rest) = ap fall (follow-end rest)
-
 pub follow-more : (a b c : Body) → follow (follow a b) c ≡ follow a (follow b c)
 follow-more stop b c = refl
 follow-more (act d rest) b c = ap (act d) (follow-more rest b c)
@@ -105,10 +98,6 @@ forest_of-none = refl
 pub forest_of-more : (s : PlainState) (ss : List PlainState) → forest_of (s ∷ ss) ≡ state_before s (forest_of ss)
 unfolding forest_of
 forest_of-more s ss = refl
-
-planted-end : (f : Forest) → planted f none ≡ f
-planted-end none = refl
-planted-end (state x b kids rest) = ap (state x b kids) (planted-end rest)
 
 -- a state that stands in front of none stands in front of all behind it
 pub planted-before : (s : PlainState) (f g : Forest) → planted (state_before s f) g ≡ state_before s (planted f g)

@@ -2,12 +2,12 @@
 use Rattle.std.proofs.Common.{◌≡◌, ℕ, ◌+◌, ◌*◌, ◌<◌, ◌≤◌, List, [], ◌∷◌, ◌++◌, length, append_assoc, refl, sym, ◌∙◌, ap, subst, arith, length-append}
 use Rattle.std.specs.Prelude.{◌^◌, Option, Some, None, option_map}
 use Rattle.std.proofs.lemmas.List.{length-replicate}
+use Rattle.sap_stream.proofs.SpansLemmas.{cycles_more}
 use Rattle.sap_desk.specs.Desk.{Told, added, moved, rest_of}
 use Rattle.sap_desk.specs.Whole.{Between}
 use Rattle.sap_lattice.specs.Levels.{Levels}
 use Rattle.sap_meaning.specs.Cycle.{Tagged as Given}
 use Rattle.sap_stream.specs.Spans.{Span, cycles_in, cycles_of}
-use Rattle.sap_stream.proofs.Spans.{cycles_of_push}
 use Rattle.sap_stim.specs.declared.field.Field.{Field}
 use Rattle.sap_lines.specs.declared.next.Next.TheVariants.{Line}
 use Rattle.sap_lines.specs.Answers.{Tells, count_after}
@@ -81,7 +81,7 @@ module _ (ls : Levels) (fs : List Field) (channel k : ℕ) (lines : List Span) (
           subst (λ (rest : List ℕ). Follows ls fs (rest_of t channel) (lines ++ s.line ∷ []) s rest) (sym (rest_added channel piece (moved channel k m)))
           (line_follows t m so.follows tells);
       shown =
-          subst (λ (cycles : List (List Given)). later cycles ((so.gained ++ piece) ++ left)) (sym (cycles_of_push lines s.line))
+          subst (λ (cycles : List (List Given)). later cycles ((so.gained ++ piece) ++ left)) (sym (cycles_more lines s.line))
           (subst (later (cycles_of lines ++ cycles_in s.line)) (still_whole so.gained piece waiting left text whole) (more (so.gained ++ waiting) so.shown));
     }
 
@@ -92,7 +92,7 @@ pub along_more : (shows later : Shows) (ls : Levels) (fs : List Field) (channel 
     → Between mid one (λ t n. Tells Line (to_come ls r (rest_of t channel)) s.line (to_come ls s (rest_of n channel)))
     → Along shows ls fs channel stands r cycle given waiting before mid → Along later ls fs channel then s cycle_now given_now left before two
 along_more shows later ls fs channel stands then r s cycle cycle_now given given_now k waiting left before mid one two law few fields counts steps most goes so gave read tells a =
-    let cycles : cycles_of (a.lines ++ s.line ∷ []) ≡ cycles_of a.lines ++ cycles_in s.line = cycles_of_push a.lines s.line in
+    let cycles : cycles_of (a.lines ++ s.line ∷ []) ≡ cycles_of a.lines ++ cycles_in s.line = cycles_more a.lines s.line in
     let size : length (cycles_of a.lines ++ cycles_in s.line) ≡ length (cycles_of a.lines) + length (cycles_in s.line) = length-append (cycles_of a.lines) (cycles_in s.line) in
     let sizes : length (cycles_of (a.lines ++ s.line ∷ [])) ≡ length (cycles_of a.lines ++ cycles_in s.line) = ap length cycles in
     record {

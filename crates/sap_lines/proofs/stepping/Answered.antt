@@ -2,6 +2,8 @@
 use Rattle.std.proofs.Common.{◌≡◌, ℕ, ◌+◌, ◌-◌, ◌<◌, ◌≤◌, List, [], ◌∷◌, ◌++◌, length, replicate, take, drop, append_assoc, refl, sym, ◌∙◌, ap, subst, inl, inr, ◌⊎◌, arith, length-drop}
 use Rattle.std.specs.Prelude.{◌^◌, Bool, true, false, cond, eqb, codes, Option, Some, None, IfSome, IsSomeAnd, option_map}
 use Rattle.std.proofs.lemmas.List.{take-append-drop}
+use Rattle.sap_stream.proofs.SpansLemmas.{cycles_more}
+use Rattle.sap_desk.proofs.DeskLemmas.{name_moved}
 use Rattle.sap_desk.specs.Desk.{Told, IsReading, IsWriting, added, blame_at, blamed, moved, moved_use, name_if_reading, rest_of}
 use Rattle.sap_desk.specs.Cause.{FailsToRead}
 use Rattle.sap_desk.specs.Whole.{Between, CutOutput}
@@ -10,7 +12,6 @@ use Rattle.sap_desk.proofs.WholeFiles.{blame_is}
 use Rattle.sap_lattice.specs.Levels.{Levels}
 use Rattle.sap_meaning.specs.Cycle.{Tagged as Given}
 use Rattle.sap_stream.specs.Spans.{Span, cycles_of}
-use Rattle.sap_stream.proofs.Spans.{cycles_of_push}
 use Rattle.sap_stim.specs.declared.fault.StimFault.{StimFault}
 use Rattle.sap_stim.specs.declared.field.Field.{Field}
 use Rattle.sap_stim.specs.declared.stimulus.Parsed.{Parsed}
@@ -23,7 +24,7 @@ use Rattle.sap_lines.specs.Reader.{Reader, to_come}
 use Rattle.sap_lines.specs.Stepping.Cycles.{Adds, CyclesCut}
 use Rattle.sap_lines.specs.Stepping.Followed.{Breaks, Broken, FollowedBut, IsPartShown, Shows}
 use Rattle.sap_lines.proofs.stepping.Between.{knowing, known_two, onward, through, through_two}
-use Rattle.sap_lines.proofs.stepping.Going.{going_blamed, going_more, going_read, name_moved, output_use, reading_moved, rest_now, use_now}
+use Rattle.sap_lines.proofs.stepping.Going.{going_blamed, going_more, going_read, output_use, reading_moved, rest_now, use_now}
 use Rattle.sap_lines.proofs.stepping.Cycles.{cycles_cut}
 use Rattle.sap_lines.proofs.stepping.Along.{Along, SoFar, line_follows}
 
@@ -166,7 +167,7 @@ module _ (base shows later : Shows) (back : (lines : List (List Given)) (text : 
             more = replicate (s.line.count - first) s.line.inputs ++ rest.stream;
             stream =
                 sym (ap (λ (p : Parsed). p.stream) follows.parsed)
-                ∙ ap (λ (cycles : List (List Given)). cycles ++ rest.stream) (cycles_of_push lines s.line)
+                ∙ ap (λ (cycles : List (List Given)). cycles ++ rest.stream) (cycles_more lines s.line)
                 ∙ cycles_cut (cycles_of lines) rest.stream s.line first within;
             rest = drop part whole_text;
             shown = back (cycles_of lines ++ replicate first s.line.inputs) ((so.gained ++ take part whole_text) ++ drop part whole_text)

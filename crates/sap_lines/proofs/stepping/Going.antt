@@ -3,7 +3,7 @@ use Rattle.std.proofs.Common.{◌≡◌, ℕ, ◌+◌, ◌<◌, true, List, [], 
 use Rattle.std.specs.Prelude.{eqb, Option, unwrap_or, cond, Bool, drop}
 use Rattle.std.proofs.lemmas.Bool.Decides.{nat_tests}
 use Rattle.std.proofs.lemmas.List.{append-nil}
-use Rattle.sap_desk.specs.Desk.{Told, Use, reads, writes, closed, stream, IsReading, added, at_number, blamed, moved, moved_use, name_if_reading, rest_of, rest_of_use}
+use Rattle.sap_desk.specs.Desk.{Told, Use, reads, writes, closed, stream, IsReading, added, at_number, blamed, moved, moved_use, rest_of, rest_of_use}
 use Rattle.sap_desk.proofs.Steps.{at_number-keeps, at_number-same, moved-none, moved-twice, other_number}
 use Rattle.sap_lines.specs.Stepping.Followed.{Going}
 
@@ -53,12 +53,6 @@ module _ (channel count : ℕ) (gained : List ℕ) (t m : Told) (going : Going c
 
 pub going_blamed : (channel count : ℕ) (gained name : List ℕ) (t m : Told) → Going channel count gained t m → Going channel count gained t (blamed name m)
 going_blamed channel count gained name t m g = record { uses = g.uses; files = g.files; output = g.output; lines = g.lines; room = g.room }
-
-pub name_moved : (n : ℕ) (u : Use) → name_if_reading (moved_use n u) ≡ name_if_reading u
-name_moved n (reads name p) = refl
-name_moved n (writes name) = refl
-name_moved n closed = refl
-name_moved n stream = refl
 
 pub reading_moved : (n : ℕ) (u : Use) → IsReading u → IsReading (moved_use n u)
 reading_moved n (reads name p) h = tt

@@ -1,6 +1,10 @@
 -- What hangs on the commands of a program is what they touch in the tree.
-use Rattle.std.proofs.Common.{◌≡◌, ℕ, zero, suc, ◌+◌, ◌<◌, Bool, true, false, ◌&&◌, ◌||◌, List, [], ◌∷◌, ◌++◌, length, map, nat_eq, refl, sym, ap, ◌∙◌, arith, bytes_eq, Option, Some, None}
+use Rattle.std.proofs.Common.{◌≡◌, ℕ, suc, ◌+◌, ◌<◌, Bool, true, false, ◌&&◌, ◌||◌, List, [], ◌∷◌, ◌++◌, length, map, nat_eq, refl, sym, ap, ◌∙◌, arith, bytes_eq, Option, Some, None}
 use Rattle.std.proofs.lemmas.List.{map-append}
+use Rattle.sap_lemmas.proofs.Numbers.{test_of_same}
+use Rattle.sap_lemmas.proofs.Texts.{bytes_eq_same, equal_of_bytes_eq}
+use Rattle.std.proofs.lemmas.Bool.{eqb-true, false_from_ne_true, or_left, or_right}
+use Rattle.sap_resolve.proofs.FillLemmas.{table_front}
 use Rattle.sap_tree.specs.declared.place.Place.{Place}
 use Rattle.sap_tree.specs.declared.name.Mention.{Mention}
 use Rattle.sap_tree.specs.declared.syntax.Decl.{Decl}
@@ -19,7 +23,6 @@ use Rattle.sap_hang.specs.Points as hang
 use Rattle.sap_meaning.specs.Program.{World, Group, is_dynamic, is_register, is_memory, root}
 use Rattle.sap_meaning.specs.Touches.{step_assigns, assigns, arms_assign, block_assigns, state_assigns, group_assigns, among, step_hangs, hangs, arms_hang, block_hangs, touches}
 use Rattle.sap_meaning.specs.Checks.{Spot}
-use Rattle.sap_meaning.proofs.Bools.{or_left, or_right, same_number, not_true, eq_self}
 use Rattle.sap_resolve.specs.Fill.{table, filled, filled_arms, filled_block, filled_state, filled_group}
 use Rattle.sap_resolve.specs.Resolve.{site_number, step_of, command_of, arms_of, block_of, else_of, list_of, state_of, group_of}
 use Rattle.sap_shape.specs.Sites.{Home, simple_sites, command_sites, block_sites, state_sites}
@@ -27,7 +30,7 @@ use Rattle.sap_resolve.specs.Terms.{entity_number}
 use Rattle.sap_resolve.specs.Worlds.{states_in, world_of}
 use Rattle.sap_resolve.proofs.Lookup.{entities_length}
 use Rattle.sap_resolve.proofs.sized.Faultless.{none_two, none_three}
-use Rattle.sap_resolve.proofs.premises.Lookups.{name_is, same_name, unique}
+use Rattle.sap_resolve.proofs.premises.Lookups.{unique}
 use Rattle.sap_resolve.proofs.premises.Numbers.{here_dynamic}
 use Rattle.sap_resolve.proofs.premises.Places.{Laid, LaidState, laid_first, laid_rest, laid_below, laid_name, laid_named, name_at}
 use Rattle.sap_resolve.proofs.premises.Worlds.{laid}
@@ -80,11 +83,11 @@ module _ (ls : Levels) (le : ℕ → ℕ → Bool) (ds : List Decl) (es : List E
   stored : (y : ℕ) (name : List ℕ) → IsNamed es y name → (is_register w y || is_memory w y) ≡ true → (is_dynamic_store ds n && bytes_eq name n) ≡ (is_dynamic w x && nat_eq x y)
   stored y name i j =
       where_equal (is_dynamic_store ds n) (is_dynamic w x) (bytes_eq name n) (nat_eq x y) (same y name i)
-      (λ t. store (ap (λ (z : ℕ). is_register w z || is_memory w z) (same_number x y t) ∙ j))
+      (λ t. store (ap (λ (z : ℕ). is_register w z || is_memory w z) (eqb-true x y t) ∙ j))
 
   of_state : (y : ℕ) (name : List ℕ) (b : Bool) → IsNamed es y name → b ≡ is_dynamic w y → (b && bytes_eq name n) ≡ (is_dynamic w x && nat_eq x y)
   of_state y name b i e =
-      where_equal b (is_dynamic w x) (bytes_eq name n) (nat_eq x y) (same y name i) (λ t. e ∙ ap (λ (z : ℕ). is_dynamic w z) (sym (same_number x y t)))
+      where_equal b (is_dynamic w x) (bytes_eq name n) (nat_eq x y) (same y name i) (λ t. e ∙ ap (λ (z : ℕ). is_dynamic w z) (sym (eqb-true x y t)))
 
   -- what is assigned, in the body of a state with this name
   module _ (own_name : List ℕ) (kind : Kind) (children : StateList) where
@@ -243,10 +246,6 @@ module _ (ls : Levels) (le : ℕ → ℕ → Bool) (ds : List Decl) (es : List E
 
 -- tables and rows
 
-table_front : (m : ℕ) (f : ℕ → Bool) → table (suc m) f ≡ f 0 ∷ table m (λ x. f (suc x))
-table_front zero f = refl
-table_front (suc m) f = ap (λ (l : List Bool). l ++ f (suc m) ∷ []) (table_front m f)
-
 row_is : (es : List Entity) (f : ℕ → Bool) (g : List ℕ → Bool) → ((x : ℕ) → x < length es → f x ≡ g (name_at es x)) → table (length es) f ≡ row_of es g
 row_is [] f g h = refl
 row_is (e ∷ es) f g h =
@@ -382,12 +381,12 @@ name_same es once x l y name i = decided (bytes_eq name (name_at es x)) refl whe
 
   decided : (b : Bool) → bytes_eq name (name_at es x) ≡ b → b ≡ nat_eq x y
   decided true t =
-      let e : x ≡ y = sym (unique es once x l) ∙ ap (λ (z : List ℕ). entity_number es z) (sym (name_is name (name_at es x) t) ∙ sym its.1) ∙ unique es once y its.0 in
-      sym (ap (λ (z : ℕ). nat_eq z y) e ∙ eq_self y)
+      let e : x ≡ y = sym (unique es once x l) ∙ ap (λ (z : List ℕ). entity_number es z) (sym (equal_of_bytes_eq name (name_at es x) t) ∙ sym its.1) ∙ unique es once y its.0 in
+      sym (ap (λ (z : ℕ). nat_eq z y) e ∙ test_of_same y)
   decided false t =
-      sym (not_true (nat_eq x y) (λ u.
-      let e : name_at es x ≡ name = ap (λ (z : ℕ). name_at es z) (same_number x y u) ∙ its.1 in
-      absurd (cc (sym t ∙ ap (λ (z : List ℕ). bytes_eq name z) e ∙ same_name name))))
+      sym (false_from_ne_true (nat_eq x y) (λ u.
+      let e : name_at es x ≡ name = ap (λ (z : ℕ). name_at es z) (eqb-true x y u) ∙ its.1 in
+      absurd (cc (sym t ∙ ap (λ (z : List ℕ). bytes_eq name z) e ∙ bytes_eq_same name))))
 
 pub hangs_agree_law : HangsAgree
 unfolding pointed

@@ -2,6 +2,7 @@
 use Rattle.std.proofs.Common.{◌≡◌, ℕ, suc, ◌+◌, ◌-◌, ◌≤◌, Bool, true, false, not, ◌&&◌, List, [], Option, Some, None, refl, sym, ap, ◌∙◌, subst, arith, inl, inr, if◌then◌else◌, length}
 use Rattle.std.specs.Prelude.{eqb}
 use Rattle.std.proofs.lemmas.Bool.{eqb-true}
+use Rattle.sap_names.proofs.NameFaultsLemmas.{no_fault}
 use Rattle.sap_tree.specs.declared.name.Mention.{Mention}
 use Rattle.sap_tree.specs.declared.place.Place.{Place}
 use Rattle.sap_tree.specs.declared.syntax.Under.{Under}
@@ -26,7 +27,7 @@ use Rattle.sap_shape.specs.Sites.{Home, simple_sites, command_sites, block_sites
 use Rattle.sap_resolve.specs.Terms.{known, entity_number, widened, term_of, parts_of, level_term, level_terms}
 use Rattle.sap_resolve.specs.Resolve.{site_number, step_of, number_of, numbers_of, command_of, arms_of, block_of, else_of, list_of, state_of, group_of}
 use Rattle.sap_resolve.specs.Fill.{filled_step, filled, filled_arms, filled_block, filled_state, filled_group}
-use Rattle.sap_resolve.proofs.sized.Faultless.{none_two, none_three, none_four, no_fault, settled_own, some_sound, sound_whole, extended_is}
+use Rattle.sap_resolve.proofs.sized.Faultless.{none_two, none_three, none_four, settled_own, some_sound, sound_whole, extended_is}
 use Rattle.sap_resolve.proofs.premises.Places.{Laid, LaidState, laid_first, laid_rest, laid_below, laid_entity, laid_name, laid_named, state_entity}
 use Rattle.sap_resolve.specs.Kept.Kept.{IsNamed, IsLevel, IsTerm, AreParts, IsTag, AreTags, IsStep, IsConstant, AreConstants, IsCommand, AreArms, IsBlock, IsElse, IsList, IsAuthority, HasKind, IsState, IsGroup}
 use Rattle.sap_resolve.proofs.kept.Names.{named_at, level_named}

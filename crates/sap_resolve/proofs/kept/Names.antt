@@ -1,7 +1,9 @@
 -- The names of entities and levels by their numbers.
 use Rattle.std.proofs.Common.{◌≡◌, ℕ, zero, suc, ◌+◌, ◌<◌, List, [], ◌∷◌, length, true, not, sym, ap, ◌∙◌, arith, inl, inr, bytes_eq}
 use Rattle.std.proofs.Math.Numerals.{one-add}
-use Rattle.std.proofs.lemmas.Bool.{cases_Bool}
+use Rattle.std.proofs.lemmas.Bool.{cases_Bool, not-false}
+use Rattle.sap_lemmas.proofs.Texts.{equal_of_bytes_eq}
+use Rattle.sap_names.proofs.NameFaultsLemmas.{no_fault}
 use Rattle.sap_tree.specs.declared.name.Mention.{Mention}
 use Rattle.sap_lattice.specs.Levels.{Levels}
 use Rattle.sap_names.specs.declared.entity.Entity.{Entity}
@@ -9,9 +11,8 @@ use Rattle.sap_names.specs.declared.kind.Code.TheVariants.{E6}
 use Rattle.sap_names.specs.NameFaults.{level_from, is_some, is_level, level_faults, twice}
 use Rattle.sap_resolve.specs.Worlds.{position}
 use Rattle.sap_resolve.specs.Terms.{entity_number}
-use Rattle.sap_resolve.proofs.sized.Faultless.{no_fault, not_true}
 use Rattle.sap_resolve.proofs.premises.Places.{name_at}
-use Rattle.sap_resolve.proofs.premises.Lookups.{name_is, unique}
+use Rattle.sap_resolve.proofs.premises.Lookups.{unique}
 use Rattle.sap_resolve.specs.Kept.Kept.{IsNth, IsNamed, IsLevel}
 
 pub named_at : (es : List Entity) (x : ℕ) (name : List ℕ) → x < length es → name_at es x ≡ name → IsNamed es x name
@@ -38,9 +39,9 @@ one_name es once x y name h i =
 level_nth : (n : ℕ) (names : List (List ℕ)) (name : List ℕ) → is_some (level_from n names name) ≡ true → IsNth names (position names name) name
 level_nth n [] name h = cc
 level_nth n (l ∷ ls) name h = elim (cases_Bool (bytes_eq l name)) [
-  | inl t ↦ rw t (name_is l name t)
+  | inl t ↦ rw t (equal_of_bytes_eq l name t)
   | inr t ↦ rw (t, one-add) (level_nth (n + 1) ls name (rw t at h))
 ]
 
 pub level_named : (ls : Levels) (m : Mention) → level_faults ls.names m ≡ [] → IsLevel ls (position ls.names m.name) m.name
-level_named ls m h = level_nth 0 ls.names m.name (not_true (is_level ls.names m.name) (no_fault (not (is_level ls.names m.name)) E6 m.place h))
+level_named ls m h = level_nth 0 ls.names m.name (not-false (is_level ls.names m.name) (no_fault (not (is_level ls.names m.name)) E6 m.place h))

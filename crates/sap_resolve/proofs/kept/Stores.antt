@@ -1,6 +1,9 @@
 -- The registers and memories of a design: dynamic by their declaration where they are dynamic in the world; and what is assigned or indexed is one.
 use Rattle.std.proofs.Common.{◌≡◌, ℕ, zero, suc, ◌+◌, ◌<◌, Bool, true, false, ◌&&◌, ◌||◌, List, [], ◌∷◌, ◌++◌, length, get_or, refl, sym, ap, ◌∙◌, arith, bytes_eq}
 use Rattle.std.specs.List.{list_any}
+use Rattle.sap_lemmas.proofs.Bools.{or_false}
+use Rattle.sap_lemmas.proofs.Texts.{bytes_eq_same, equal_of_bytes_eq}
+use Rattle.std.proofs.lemmas.Bool.{false_from_ne_true}
 use Rattle.sap_tree.specs.declared.place.Place.{Place}
 use Rattle.sap_tree.specs.declared.syntax.Decl.{Decl}
 use Rattle.sap_tree.specs.declared.syntax.Decl.TheVariants.{Input, Register, Memory}
@@ -18,12 +21,11 @@ use Rattle.sap_names.specs.Entities as names
 use Rattle.sap_names.specs.NameFaults.{fits_use, use_faults, twice}
 use Rattle.sap_meaning.specs.Program.{Entity, World, entity, nothing, kind_is_register, kind_is_memory, is_register, is_memory}
 use Rattle.sap_meaning.specs.Program as program
-use Rattle.sap_meaning.proofs.Bools.{not_true}
 use Rattle.sap_resolve.specs.Terms.{entity_number}
 use Rattle.sap_resolve.specs.Worlds.{states_in, is_dynamic_kind, declared, all_declared, state_entities, group_entities, world_of}
 use Rattle.sap_resolve.proofs.Lookup.{Stands, entity_stands}
 use Rattle.sap_resolve.proofs.sized.Expressions.{used}
-use Rattle.sap_resolve.proofs.premises.Lookups.{name_is, same_name, unique}
+use Rattle.sap_resolve.proofs.premises.Lookups.{unique}
 use Rattle.sap_resolve.proofs.premises.Places.{name_at}
 
 pub is_store : Entity → Bool
@@ -71,14 +73,14 @@ declares_other (Memory place name width depth kind) n h = ap (λ (b : Bool). b &
 declares_own : (ls : Levels) (d : Decl) → is_store (declared ls d) ≡ true → declares_dynamic (entity_of d).name.name d ≡ (declared ls d).dynamic
 unfolding is_store
 declares_own ls (Input place name width) h = absurd (cc h)
-declares_own ls (Register place name width kind start) h = ap (λ (b : Bool). b && is_dynamic kind) (same_name name.name) ∙ same_kind kind
-declares_own ls (Memory place name width depth kind) h = ap (λ (b : Bool). b && is_dynamic kind) (same_name name.name) ∙ same_kind kind
+declares_own ls (Register place name width kind start) h = ap (λ (b : Bool). b && is_dynamic kind) (bytes_eq_same name.name) ∙ same_kind kind
+declares_own ls (Memory place name width depth kind) h = ap (λ (b : Bool). b && is_dynamic kind) (bytes_eq_same name.name) ∙ same_kind kind
 
 absent : (ds : List Decl) (n : List ℕ) → ((y : ℕ) → y < length (declared_in ds) → name_at (declared_in ds) y ≡ n → ⊥) → list_any (declares_dynamic n) ds ≡ false
 absent [] n u = refl
 absent (d ∷ ds) n u =
     ap (λ (b : Bool). b || list_any (declares_dynamic n) ds)
-    (declares_other d n (not_true (bytes_eq (entity_of d).name.name n) (λ t. u 0 (omega arith) (name_is (entity_of d).name.name n t))))
+    (declares_other d n (false_from_ne_true (bytes_eq (entity_of d).name.name n) (λ t. u 0 (omega arith) (equal_of_bytes_eq (entity_of d).name.name n t))))
     ∙ absent ds n (λ y l e. u (suc y) (omega arith) e)
 
 name_left : (es fs : List tree.Entity) (y : ℕ) → y < length es → name_at (es ++ fs) y ≡ name_at es y
@@ -90,10 +92,6 @@ length_left : (es fs : List tree.Entity) → length es < suc (length (es ++ fs))
 length_left [] fs = omega arith
 length_left (e ∷ es) fs = let r = length_left es fs in omega arith
 
-or_none : (a : Bool) → (a || false) ≡ a
-or_none true = refl
-or_none false = refl
-
 present : (ls : Levels) (ds : List Decl) (fs : List tree.Entity) (gs : List Entity) (x : ℕ) → NoStores gs
     → ((y : ℕ) → y < length (declared_in ds ++ fs) → name_at (declared_in ds ++ fs) y ≡ name_at (declared_in ds ++ fs) x → y ≡ x)
     → is_store (get_or (all_declared ls ds ++ gs) x nothing) ≡ true
@@ -103,11 +101,11 @@ present ls (d ∷ ds) fs gs zero plain u s =
     let n = (entity_of d).name.name in
     let rest : list_any (declares_dynamic n) ds ≡ false =
     absent ds n (λ y l e. let b = length_left (declared_in ds) fs in let z : suc y ≡ 0 = u (suc y) (omega arith) (name_left (declared_in ds) fs y l ∙ e) in absurd (omega arith)) in
-    ap (λ (b : Bool). declares_dynamic n d || b) rest ∙ or_none (declares_dynamic n d) ∙ declares_own ls d s
+    ap (λ (b : Bool). declares_dynamic n d || b) rest ∙ or_false (declares_dynamic n d) ∙ declares_own ls d s
 present ls (d ∷ ds) fs gs (suc x) plain u s =
     let n = name_at (declared_in ds ++ fs) x in
     let head : declares_dynamic n d ≡ false =
-    declares_other d n (not_true (bytes_eq (entity_of d).name.name n) (λ t. let z : 0 ≡ suc x = u 0 (omega arith) (name_is (entity_of d).name.name n t) in absurd (omega arith))) in
+    declares_other d n (false_from_ne_true (bytes_eq (entity_of d).name.name n) (λ t. let z : 0 ≡ suc x = u 0 (omega arith) (equal_of_bytes_eq (entity_of d).name.name n t) in absurd (omega arith))) in
     ap (λ (b : Bool). b || list_any (declares_dynamic n) ds) head
     ∙ present ls ds fs gs x plain (λ y l e. let z : suc y ≡ suc x = u (suc y) (omega arith) e in omega arith) s
 

@@ -1,5 +1,6 @@
 -- Bodies without E10 close, and stay closed with numbers for names.
 use Rattle.std.proofs.Common.{◌≡◌, ℕ, ◌+◌, true, false, List, [], ◌++◌, refl, length}
+use Rattle.sap_names.proofs.FaultLemmas.{nil_left, nil_right}
 use Rattle.sap_tree.specs.declared.place.Place.{Place}
 use Rattle.sap_tree.specs.Syntax.{SimpleCommand, Assign, Write, SetTag, SetCellTag, Goto, Fall, Command, Do, Try, If, TryThen, Case, Arms, Last, Arm, CommandBlock, Commands, ElseBlock, NoElse, Else, CommandList, NoCommand, AndCommand}
 use Rattle.sap_lattice.specs.Levels.{Levels}
@@ -8,7 +9,6 @@ use Rattle.sap_shape.specs.Closing.{transfer_faults, then_faults, open_faults, o
 use Rattle.sap_meaning.specs.Fine.{transfers, Open, OpenArms, OpenBlock, Closes, Final, ClosingArms}
 use Rattle.sap_shape.specs.Sites.{Home, simple_sites, block_sites, command_sites}
 use Rattle.sap_resolve.specs.Resolve.{site_number, step_of, command_of, arms_of, block_of, else_of, list_of}
-use Rattle.sap_resolve.proofs.premises.Faultless.{nil_left, nil_right}
 
 module _ (ls : Levels) (h : Home) where
   pub open_step : (n : ℕ) (c : SimpleCommand) → transfer_faults c ≡ [] → transfers (step_of ls h n c) ≡ false

@@ -1,12 +1,12 @@
 -- Filling in what hangs leaves all else of a program as it was.
 use Rattle.std.proofs.Common.{◌≡◌, ℕ, suc, ◌<◌, Bool, ◌||◌, refl, sym, ap, ◌∙◌, subst, nat_eq}
+use Rattle.sap_lemmas.proofs.Bools.{or_equal}
 use Rattle.sap_meaning.specs.Program.{World, Step, Set, Write, Retag, RetagCell, Goto, Fall, Command, Do, Try, If, TryThen, Case, Arms, Last, Arm, Block, End, Then, State, Node, Group, None, More}
 use Rattle.sap_meaning.specs.Checks.{Spot}
 use Rattle.sap_meaning.specs.Touches.{step_assigns, assigns, arms_assign, block_assigns, state_assigns, group_assigns, among, step_hangs, hangs, arms_hang, block_hangs}
 use Rattle.sap_meaning.specs.Fine.{size, inside, transfers, Open, OpenArms, OpenBlock, Closes, Final, ClosingArms, step_writes, step_reaching, reaching, arms_reaching, block_reaching, state_reaches, group_reaches, OnceStep, Once, OnceArms, OnceBlock, OnceState, OnceGroup, step_retags, retags, arms_retag, block_retags, state_retags, group_retags, FineStep, FineCommand, FineArms, FineBlock, FineNode, FineState, FineGroup, number_of}
 use Rattle.sap_resolve.specs.Fill.{filled_step, filled, filled_arms, filled_block, filled_state, filled_group}
 use Rattle.sap_resolve.specs.Named.{NamedStep, Named, NamedArms, NamedBlock, NamedState, NamedGroup}
-use Rattle.sap_resolve.proofs.premises.Faultless.{or_same}
 
 module _ (w : World) where
   -- numbers of states
@@ -17,7 +17,7 @@ module _ (w : World) where
   pub inside_filled : (p : ℕ) (g : Group) (x : ℕ) → inside (filled_group w p g) x ≡ inside g x
   inside_filled p None x = refl
   inside_filled p (More (Node s b k) g) x =
-      ap (λ (r : Bool). nat_eq x s || r) (or_same _ _ _ _ (inside_filled s k x) (inside_filled p g x))
+      ap (λ (r : Bool). nat_eq x s || r) (or_equal _ _ _ _ (inside_filled s k x) (inside_filled p g x))
 
   pub size_filled : (p : ℕ) (g : Group) → size (filled_group w p g) ≡ size g
   size_filled p None = refl
@@ -80,18 +80,18 @@ module _ (w : World) where
     mutual
       assigns_filled : (c : Command) (x : ℕ) → assigns (filled w at c) x ≡ assigns c x
       assigns_filled (Do k) x = step_assigns_filled k x
-      assigns_filled (Try k hang b) x = or_same _ _ _ _ (step_assigns_filled k x) (block_assigns_filled b x)
-      assigns_filled (If hang e a b) x = or_same _ _ _ _ (block_assigns_filled a x) (block_assigns_filled b x)
-      assigns_filled (TryThen k hang a b) x = or_same _ _ _ _ (step_assigns_filled k x) (or_same _ _ _ _ (block_assigns_filled a x) (block_assigns_filled b x))
+      assigns_filled (Try k hang b) x = or_equal _ _ _ _ (step_assigns_filled k x) (block_assigns_filled b x)
+      assigns_filled (If hang e a b) x = or_equal _ _ _ _ (block_assigns_filled a x) (block_assigns_filled b x)
+      assigns_filled (TryThen k hang a b) x = or_equal _ _ _ _ (step_assigns_filled k x) (or_equal _ _ _ _ (block_assigns_filled a x) (block_assigns_filled b x))
       assigns_filled (Case hang e arms) x = arms_assign_filled arms x
 
       arms_assign_filled : (arms : Arms) (x : ℕ) → arms_assign (filled_arms w at arms) x ≡ arms_assign arms x
       arms_assign_filled (Last b) x = block_assigns_filled b x
-      arms_assign_filled (Arm constants b arms) x = or_same _ _ _ _ (block_assigns_filled b x) (arms_assign_filled arms x)
+      arms_assign_filled (Arm constants b arms) x = or_equal _ _ _ _ (block_assigns_filled b x) (arms_assign_filled arms x)
 
       block_assigns_filled : (b : Block) (x : ℕ) → block_assigns (filled_block w at b) x ≡ block_assigns b x
       block_assigns_filled End x = refl
-      block_assigns_filled (Then c cs) x = or_same _ _ _ _ (assigns_filled c x) (block_assigns_filled cs x)
+      block_assigns_filled (Then c cs) x = or_equal _ _ _ _ (assigns_filled c x) (block_assigns_filled cs x)
 
     step_writes_filled : (k : Step) (x : ℕ) → step_writes (filled_step w at k) x ≡ step_writes k x
     step_writes_filled (Set site y e) x = refl
@@ -112,18 +112,18 @@ module _ (w : World) where
     mutual
       retags_filled : (c : Command) (x : ℕ) → retags (filled w at c) x ≡ retags c x
       retags_filled (Do k) x = step_retags_filled k x
-      retags_filled (Try k hang b) x = or_same _ _ _ _ (step_retags_filled k x) (block_retags_filled b x)
-      retags_filled (If hang e a b) x = or_same _ _ _ _ (block_retags_filled a x) (block_retags_filled b x)
-      retags_filled (TryThen k hang a b) x = or_same _ _ _ _ (step_retags_filled k x) (or_same _ _ _ _ (block_retags_filled a x) (block_retags_filled b x))
+      retags_filled (Try k hang b) x = or_equal _ _ _ _ (step_retags_filled k x) (block_retags_filled b x)
+      retags_filled (If hang e a b) x = or_equal _ _ _ _ (block_retags_filled a x) (block_retags_filled b x)
+      retags_filled (TryThen k hang a b) x = or_equal _ _ _ _ (step_retags_filled k x) (or_equal _ _ _ _ (block_retags_filled a x) (block_retags_filled b x))
       retags_filled (Case hang e arms) x = arms_retag_filled arms x
 
       arms_retag_filled : (arms : Arms) (x : ℕ) → arms_retag (filled_arms w at arms) x ≡ arms_retag arms x
       arms_retag_filled (Last b) x = block_retags_filled b x
-      arms_retag_filled (Arm constants b arms) x = or_same _ _ _ _ (block_retags_filled b x) (arms_retag_filled arms x)
+      arms_retag_filled (Arm constants b arms) x = or_equal _ _ _ _ (block_retags_filled b x) (arms_retag_filled arms x)
 
       block_retags_filled : (b : Block) (x : ℕ) → block_retags (filled_block w at b) x ≡ block_retags b x
       block_retags_filled End x = refl
-      block_retags_filled (Then c cs) x = or_same _ _ _ _ (retags_filled c x) (block_retags_filled cs x)
+      block_retags_filled (Then c cs) x = or_equal _ _ _ _ (retags_filled c x) (block_retags_filled cs x)
 
     -- where a fall leads to the same
     module _ (f g : ℕ → Bool) (same : (m : ℕ) → f m ≡ g m) where
@@ -138,19 +138,19 @@ module _ (w : World) where
       mutual
         reaching_filled : (c : Command) (m : ℕ) → reaching f (filled w at c) m ≡ reaching g c m
         reaching_filled (Do k) m = step_reaching_filled k m
-        reaching_filled (Try k hang b) m = or_same _ _ _ _ (step_reaching_filled k m) (block_reaching_filled b m)
-        reaching_filled (If hang e a b) m = or_same _ _ _ _ (block_reaching_filled a m) (block_reaching_filled b m)
+        reaching_filled (Try k hang b) m = or_equal _ _ _ _ (step_reaching_filled k m) (block_reaching_filled b m)
+        reaching_filled (If hang e a b) m = or_equal _ _ _ _ (block_reaching_filled a m) (block_reaching_filled b m)
         reaching_filled (TryThen k hang a b) m =
-            or_same _ _ _ _ (step_reaching_filled k m) (or_same _ _ _ _ (block_reaching_filled a m) (block_reaching_filled b m))
+            or_equal _ _ _ _ (step_reaching_filled k m) (or_equal _ _ _ _ (block_reaching_filled a m) (block_reaching_filled b m))
         reaching_filled (Case hang e arms) m = arms_reaching_filled arms m
 
         arms_reaching_filled : (arms : Arms) (m : ℕ) → arms_reaching f (filled_arms w at arms) m ≡ arms_reaching g arms m
         arms_reaching_filled (Last b) m = block_reaching_filled b m
-        arms_reaching_filled (Arm constants b arms) m = or_same _ _ _ _ (block_reaching_filled b m) (arms_reaching_filled arms m)
+        arms_reaching_filled (Arm constants b arms) m = or_equal _ _ _ _ (block_reaching_filled b m) (arms_reaching_filled arms m)
 
         block_reaching_filled : (b : Block) (m : ℕ) → block_reaching f (filled_block w at b) m ≡ block_reaching g b m
         block_reaching_filled End m = refl
-        block_reaching_filled (Then c cs) m = or_same _ _ _ _ (reaching_filled c m) (block_reaching_filled cs m)
+        block_reaching_filled (Then c cs) m = or_equal _ _ _ _ (reaching_filled c m) (block_reaching_filled cs m)
 
     -- a child among the same children, siblings and all
     module _ (q j g i : Group) (siblings : (x : ℕ) → among j x ≡ among q x) (children : size i ≡ size g) where
@@ -186,23 +186,23 @@ module _ (w : World) where
       step_hangs_filled (Retag site y n) x = refl
       step_hangs_filled (RetagCell site m j n) x = refl
       step_hangs_filled (Goto site target) x = refl
-      step_hangs_filled (Fall site hang) x = or_same _ _ _ _ (children x) (assigned x)
+      step_hangs_filled (Fall site hang) x = or_equal _ _ _ _ (children x) (assigned x)
 
       mutual
         pub hangs_filled : (c : Command) (x : ℕ) → hangs s i (filled w at c) x ≡ hangs s g c x
         hangs_filled (Do k) x = step_hangs_filled k x
-        hangs_filled (Try k hang b) x = or_same _ _ _ _ (step_hangs_filled k x) (block_hangs_filled b x)
-        hangs_filled (If hang e a b) x = or_same _ _ _ _ (block_hangs_filled a x) (block_hangs_filled b x)
-        hangs_filled (TryThen k hang a b) x = or_same _ _ _ _ (step_hangs_filled k x) (or_same _ _ _ _ (block_hangs_filled a x) (block_hangs_filled b x))
+        hangs_filled (Try k hang b) x = or_equal _ _ _ _ (step_hangs_filled k x) (block_hangs_filled b x)
+        hangs_filled (If hang e a b) x = or_equal _ _ _ _ (block_hangs_filled a x) (block_hangs_filled b x)
+        hangs_filled (TryThen k hang a b) x = or_equal _ _ _ _ (step_hangs_filled k x) (or_equal _ _ _ _ (block_hangs_filled a x) (block_hangs_filled b x))
         hangs_filled (Case hang e arms) x = arms_hang_filled arms x
 
         arms_hang_filled : (arms : Arms) (x : ℕ) → arms_hang s i (filled_arms w at arms) x ≡ arms_hang s g arms x
         arms_hang_filled (Last b) x = block_hangs_filled b x
-        arms_hang_filled (Arm constants b arms) x = or_same _ _ _ _ (block_hangs_filled b x) (arms_hang_filled arms x)
+        arms_hang_filled (Arm constants b arms) x = or_equal _ _ _ _ (block_hangs_filled b x) (arms_hang_filled arms x)
 
         block_hangs_filled : (b : Block) (x : ℕ) → block_hangs s i (filled_block w at b) x ≡ block_hangs s g b x
         block_hangs_filled End x = refl
-        block_hangs_filled (Then c cs) x = or_same _ _ _ _ (hangs_filled c x) (block_hangs_filled cs x)
+        block_hangs_filled (Then c cs) x = or_equal _ _ _ _ (hangs_filled c x) (block_hangs_filled cs x)
 
     -- what is filled is named as before
     named_step_unfilled : (k : Step) → NamedStep w (filled_step w at k) → NamedStep w k
@@ -241,23 +241,23 @@ module _ (w : World) where
     state_assigns_filled : (p : ℕ) (t : State) (x : ℕ) → state_assigns (filled_state w p t) x ≡ state_assigns t x
     state_assigns_filled p (Node s b g) x =
         let at : Spot = record { state = s; parent = p; children = g } in
-        or_same (block_assigns (filled_block w at b) x) (group_assigns (filled_group w s g) x) (block_assigns b x) (group_assigns g x)
+        or_equal (block_assigns (filled_block w at b) x) (group_assigns (filled_group w s g) x) (block_assigns b x) (group_assigns g x)
         (block_assigns_filled at b x) (group_assigns_filled s g x)
 
     pub group_assigns_filled : (p : ℕ) (g : Group) (x : ℕ) → group_assigns (filled_group w p g) x ≡ group_assigns g x
     group_assigns_filled p None x = refl
-    group_assigns_filled p (More t g) x = or_same _ _ _ _ (state_assigns_filled p t x) (group_assigns_filled p g x)
+    group_assigns_filled p (More t g) x = or_equal _ _ _ _ (state_assigns_filled p t x) (group_assigns_filled p g x)
 
   mutual
     state_retags_filled : (p : ℕ) (t : State) (x : ℕ) → state_retags (filled_state w p t) x ≡ state_retags t x
     state_retags_filled p (Node s b g) x =
         let at : Spot = record { state = s; parent = p; children = g } in
-        or_same (block_retags (filled_block w at b) x) (group_retags (filled_group w s g) x) (block_retags b x) (group_retags g x) (block_retags_filled at b x)
+        or_equal (block_retags (filled_block w at b) x) (group_retags (filled_group w s g) x) (block_retags b x) (group_retags g x) (block_retags_filled at b x)
         (group_retags_filled s g x)
 
     group_retags_filled : (p : ℕ) (g : Group) (x : ℕ) → group_retags (filled_group w p g) x ≡ group_retags g x
     group_retags_filled p None x = refl
-    group_retags_filled p (More t g) x = or_same _ _ _ _ (state_retags_filled p t x) (group_retags_filled p g x)
+    group_retags_filled p (More t g) x = or_equal _ _ _ _ (state_retags_filled p t x) (group_retags_filled p g x)
 
   mutual
     state_reaches_filled : (p : ℕ) (t : State) (m : ℕ) → state_reaches (filled_state w p t) m ≡ state_reaches t m
@@ -267,7 +267,7 @@ module _ (w : World) where
 
     group_reaches_filled : (p : ℕ) (g : Group) (m : ℕ) → group_reaches (filled_group w p g) m ≡ group_reaches g m
     group_reaches_filled p None m = refl
-    group_reaches_filled p (More t g) m = or_same _ _ _ _ (state_reaches_filled p t m) (group_reaches_filled p g m)
+    group_reaches_filled p (More t g) m = or_equal _ _ _ _ (state_reaches_filled p t m) (group_reaches_filled p g m)
 
   module _ (at : Spot) (p : ℕ) (g : Group) where
     abbrev Same : Block → Type 0
@@ -336,7 +336,7 @@ module _ (w : World) where
           declared = node.declared;
           steps = fine_block_filled at q (filled_group w p q) g (filled_group w s g) (among_filled p q) (size_filled s g) b node.steps;
           closes = closes_filled at b node.closes;
-          retags_itself = or_same _ _ _ _ (block_retags_filled at b s) (group_retags_filled s g s) ∙ node.retags_itself;
+          retags_itself = or_equal _ _ _ _ (block_retags_filled at b s) (group_retags_filled s g s) ∙ node.retags_itself;
           retags_below = λ x i. block_retags_filled at b x ∙ node.retags_below x (sym (inside_filled s g x) ∙ i);
         } in
         (node', fine_group_filled s g 0 g h.1)

@@ -1,5 +1,8 @@
 -- The groups of states of a design without faults are fine.
 use Rattle.std.proofs.Common.{◌≡◌, inr, ℕ, suc, ◌+◌, ◌<◌, Bool, true, List, [], ◌∷◌, ◌++◌, length, sym, ◌∙◌, arith, bytes_eq}
+use Rattle.sap_lemmas.proofs.Texts.{bytes_eq_same}
+use Rattle.std.proofs.lemmas.Bool.{or_from, or_left, or_right}
+use Rattle.sap_names.proofs.FaultLemmas.{nil_left, nil_right}
 use Rattle.sap_tree.specs.Syntax.{StateTree, StateOf, StateList, NoState, AndState}
 use Rattle.sap_lattice.specs.Levels.{Levels}
 use Rattle.sap_names.specs.Entities.{what_is}
@@ -10,7 +13,6 @@ use Rattle.sap_shape.specs.ShapeFaults.{Body, is_among, block_shape, state_shape
 use Rattle.sap_meaning.specs.Program.{World, Block, Group, last}
 use Rattle.sap_meaning.specs.Touches.{among}
 use Rattle.sap_meaning.specs.Fine.{FineNode, FineState, FineGroup, number_of}
-use Rattle.sap_meaning.proofs.Bools.{or_left, or_right, or_false}
 use Rattle.sap_resolve.specs.Worlds.{states_in}
 use Rattle.sap_shape.specs.Sites.{Home, block_sites, state_sites}
 use Rattle.sap_resolve.specs.Resolve.{block_of, state_of, group_of}
@@ -18,9 +20,7 @@ use Rattle.sap_resolve.specs.Terms.{entity_number}
 use Rattle.sap_resolve.specs.Named.{NamedState, NamedGroup}
 use Rattle.sap_resolve.proofs.Lookup.{AllMatch}
 use Rattle.sap_resolve.proofs.premises.Commands.{body_fits, below_fits}
-use Rattle.sap_resolve.proofs.premises.Faultless.{nil_left, nil_right}
 use Rattle.sap_resolve.proofs.premises.Places.{Laid, LaidState, laid_first, laid_rest, laid_below, laid_children, laid_name, name_at}
-use Rattle.sap_resolve.proofs.premises.Lookups.{same_name}
 use Rattle.sap_resolve.proofs.premises.Numbers.{size_of, Inside, inside_of, among_of, here_state, here_placed, here_last, here_below, here_itself, here_declared}
 use Rattle.sap_resolve.proofs.premises.Closed.{closed_body}
 use Rattle.sap_resolve.proofs.premises.Steps.{some_child, block_unmarked, group_unmarked, fine_body}
@@ -52,7 +52,7 @@ module _ (ls : Levels) (levels : List (List ℕ)) (le : ℕ → ℕ → Bool) (e
         let closing : closing_faults body ≡ [] = nil_left _ _ front in
         let shaped : block_shape es at body ≡ [] = nil_right _ _ front in
         let shaped_below : states_shape es children (name.name ∷ above) children ≡ [] = nil_right _ _ s in
-        let own_name : bytes_eq name.name (name_at es x) ≡ true = rw (laid_name ls es w n x place name kind body children laid) (same_name name.name) in
+        let own_name : bytes_eq name.name (name_at es x) ≡ true = rw (laid_name ls es w n x place name kind body children laid) (bytes_eq_same name.name) in
         let node : FineNode w q n x b g = record {
           kind = here_state ls es w n x place name kind body children laid;
           placed = here_placed ls es w n x place name kind body children laid;
@@ -62,7 +62,7 @@ module _ (ls : Levels) (levels : List (List ℕ)) (le : ℕ → ℕ → Bool) (e
           declared = here_declared ls es w n x place name kind body children laid;
           steps = fine_body ls levels h w match at q g targets (some_child ls es k' (x + 1) children) k body fitting shaped (inr closing) i.0;
           closes = closed_body ls h k body closing;
-          retags_itself = or_false _ _
+          retags_itself = or_from _ _
               (block_unmarked ls levels h w match at x (or_left _ _ (or_left _ _ own_name)) k body fitting shaped)
               (group_unmarked ls levels le es w match x k' (x + 1) children (name.name ∷ above) children (or_left _ _ own_name) fitting_below shaped_below);
           retags_below = λ y j.

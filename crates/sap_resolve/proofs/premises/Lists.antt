@@ -1,7 +1,10 @@
 -- The lists in the program of a design have exactly what hangs.
-use Rattle.std.proofs.Common.{◌≡◌, ℕ, zero, suc, ◌+◌, ◌<◌, ◌≤◌, Bool, true, false, ◌&&◌, ◌||◌, List, [], ◌∷◌, ◌++◌, length, length-append, get_or, Option, Some, None, nat_eq, nat_lt, refl, sym, ap, ◌∙◌, arith, inl, inr, bytes_eq, option_map}
-use Rattle.std.proofs.lemmas.Bool.{cases_Bool}
+use Rattle.std.proofs.Common.{◌≡◌, ℕ, zero, suc, ◌+◌, ◌<◌, ◌≤◌, Bool, true, false, ◌&&◌, ◌||◌, List, [], ◌∷◌, ◌++◌, length, get_or, Option, Some, None, nat_eq, nat_lt, refl, sym, ap, ◌∙◌, arith, inl, inr, bytes_eq, option_map}
+use Rattle.std.proofs.lemmas.Bool.{cases_Bool, eqb-true, false_from_ne_true, or_cases}
 use Rattle.std.proofs.lemmas.List.{get_or-append-add}
+use Rattle.sap_lemmas.proofs.Bools.{and_right, or_equal}
+use Rattle.sap_lemmas.proofs.Lists.{get_early}
+use Rattle.sap_resolve.proofs.FillLemmas.{table_length}
 use Rattle.sap_tree.specs.Syntax.{SimpleCommand, Assign, Write, SetTag, SetCellTag, Goto, Fall, Command, Do, Try, If, TryThen, Case, Arms, Last, Arm, CommandBlock, Commands, ElseBlock, NoElse, Else, CommandList, NoCommand, AndCommand, StateTree, StateOf, StateList, NoState, AndState, DesignTree}
 use Rattle.sap_lattice.specs.Levels.{Levels}
 use Rattle.sap_names.specs.declared.entity.Entity as declared_entity
@@ -10,30 +13,15 @@ use Rattle.sap_meaning.specs.Program.{World, is_dynamic, root, listed, Group, No
 use Rattle.sap_meaning.specs.Checks.{Spot}
 use Rattle.sap_meaning.specs.Touches.{among, step_assigns, assigns, arms_assign, block_assigns, state_assigns, group_assigns, step_hangs, hangs, arms_hang, block_hangs, touches, root_touches}
 use Rattle.sap_meaning.specs.Fine.{ExactStep, Exact, ExactArms, ExactBlock, ExactState, ExactGroup, ExactProgram}
-use Rattle.sap_meaning.proofs.Bools.{and_right, or_of, not_true, same_number}
 use Rattle.sap_resolve.specs.Worlds.{states_in, states_below, group_entities, world_of}
 use Rattle.sap_shape.specs.Sites.{Home, simple_sites, block_sites, command_sites, state_sites}
 use Rattle.sap_resolve.specs.Resolve.{site_number, step_of, command_of, arms_of, block_of, else_of, list_of, state_of, group_of}
 use Rattle.sap_resolve.specs.Terms.{known, entity_number}
 use Rattle.sap_resolve.specs.Fill.{table, filled_step, filled, filled_arms, filled_block, filled_state, filled_group, program_of}
 use Rattle.sap_resolve.proofs.Lookup.{entities_length}
-use Rattle.sap_resolve.proofs.premises.Faultless.{or_same}
 use Rattle.sap_resolve.proofs.premises.Filling.{among_filled, group_assigns_filled, hangs_filled}
 use Rattle.sap_resolve.proofs.premises.Places.{part_within, group_count}
 use Rattle.sap_resolve.proofs.premises.Worlds.{laid}
-
--- a table has what its test says of the numbers below n, and no more
-table_length : (n : ℕ) (test : ℕ → Bool) → length (table n test) ≡ n
-table_length zero test = refl
-table_length (suc n) test =
-    let h = table_length n test in
-    let e : length (table n test ++ test n ∷ []) ≡ length (table n test) + 1 = length-append (table n test) (test n ∷ []) in
-    omega arith
-
-get_early : (xs ys : List Bool) (x : ℕ) → x < length xs → get_or (xs ++ ys) x false ≡ get_or xs x false
-get_early [] ys x h = absurd (omega arith)
-get_early (y ∷ xs) ys zero h = refl
-get_early (y ∷ xs) ys (suc x) h = let k : x < length xs = omega arith in get_early xs ys x k
 
 get_late : (xs : List Bool) (x : ℕ) → length xs ≤ x → get_or xs x false ≡ false
 get_late [] x h = refl
@@ -63,7 +51,7 @@ listed_is n test below x = elim (cases_Bool (nat_lt x n)) [
       let k : n ≤ x = grind (arith) in
       let l = table_length n test in
       let i : length (table n test) ≤ x = omega arith in
-      get_late (table n test) x i ∙ sym (not_true (test x) (λ j. let m = below x j in omega arith))
+      get_late (table n test) x i ∙ sym (false_from_ne_true (test x) (λ j. let m = below x j in omega arith))
 ]
 
 -- a number that stands for a name is below that of the root, where there are entities at all
@@ -91,13 +79,13 @@ module _ (r x : ℕ) where
   Low test = test ≡ true → x < r
 
   low_or : (a b : Bool) → Low a → Low b → Low (a || b)
-  low_or a b f g h = elim (or_of a b h) [ inl i ↦ f i | inr i ↦ g i ]
+  low_or a b f g h = elim (or_cases a b h) [ inl i ↦ f i | inr i ↦ g i ]
 
   low_false : Low false
   low_false h = cc
 
   low_equal : (y : ℕ) → y < r → Low (nat_eq x y)
-  low_equal y l h = let e = same_number x y h in omega arith
+  low_equal y l h = let e = eqb-true x y h in omega arith
 
   module _ (ls : Levels) (h : Home) (bound : (name : List ℕ) → entity_number h.entities name < r) where
     step_assigned : (n : ℕ) (c : SimpleCommand) → Low (step_assigns (step_of ls h n c) x)
@@ -297,7 +285,7 @@ module _ (ls : Levels) (w : World) where
         → listed (table (root w) (root_touches w (group_of ls es k n g))) x ≡ root_touches w (filled_group w p (group_of ls es k n g)) x
     exact_root k n p g within x =
         listed_is (root w) (root_touches w (group_of ls es k n g)) (root_low k n g within) x
-        ∙ ap (λ (b : Bool). is_dynamic w x && b) (sym (or_same _ _ _ _
+        ∙ ap (λ (b : Bool). is_dynamic w x && b) (sym (or_equal _ _ _ _
         (among_filled w p (group_of ls es k n g) x) (group_assigns_filled w p (group_of ls es k n g) x)))
 
 states_within : (ls : Levels) (d : DesignTree) → length d.declarations + states_below d.states ≤ root (world_of ls d)

@@ -2,7 +2,9 @@
 use Rattle.std.proofs.Common.{◌≡◌, ℕ, zero, suc, ◌+◌, ◌<◌, List, [], ◌∷◌, ◌++◌, length, Bool, true, false, not, Option, Some, None, refl, sym, ap, ◌∙◌, subst, arith, inl, inr, bytes_eq, option_map}
 use Rattle.std.proofs.Math.Numerals.{add-one}
 use Rattle.std.proofs.lemmas.Bool.{cases_Bool}
-use Rattle.std.proofs.lemmas.Slice.Eq.{bytes_eq-Decides}
+use Rattle.sap_lemmas.proofs.Texts.{bytes_eq_same, equal_of_bytes_eq}
+use Rattle.sap_names.proofs.NameFaultsLemmas.{no_fault}
+use Rattle.sap_names.proofs.FaultLemmas.{nil_left, nil_right}
 use Rattle.sap_tree.specs.declared.name.Mention.{Mention}
 use Rattle.sap_names.specs.Entities.{find, number_of, what_is}
 use Rattle.sap_names.specs.declared.entity.Entity.{Entity}
@@ -14,14 +16,7 @@ use Rattle.sap_names.specs.Entities as entities
 use Rattle.sap_meaning.specs.Program.{World, is_dynamic}
 use Rattle.sap_resolve.specs.Terms.{known, entity_number}
 use Rattle.sap_resolve.proofs.Lookup.{AllMatch, Numbered, numbered}
-use Rattle.sap_resolve.proofs.premises.Faultless.{nil_left, nil_right, no_fault}
 use Rattle.sap_resolve.proofs.premises.Places.{name_at}
-
-pub same_name : (a : List ℕ) → bytes_eq a a ≡ true
-same_name a = (bytes_eq-Decides a a).1 refl
-
-pub name_is : (a b : List ℕ) → bytes_eq a b ≡ true → a ≡ b
-name_is a b h = (bytes_eq-Decides a b).0 h
 
 plus_one : (o : Option ℕ) (x : ℕ) → option_map (λ n. n + 1) o ≡ Some x → (y : ℕ) × (o ≡ Some y) × (suc y ≡ x)
 plus_one None x h = cc
@@ -34,7 +29,7 @@ number_at (e ∷ es) a x h = elim (cases_Bool (bytes_eq e.name.name a)) [
   | inl t ↦
       let i : Some 0 ≡ Some x = rw t at h in
       let j : 0 ≡ x = cc in
-      subst (λ y. name_at (e ∷ es) y ≡ a) j (name_is e.name.name a t)
+      subst (λ y. name_at (e ∷ es) y ≡ a) j (equal_of_bytes_eq e.name.name a t)
   | inr t ↦
       let r = plus_one (number_of es a) x (rw t at h) in
       subst (λ y. name_at (e ∷ es) y ≡ a) r.2 (number_at es a r.0 r.1)
@@ -53,7 +48,7 @@ unique_from : (before es : List Entity) → twice before es ≡ [] → (x : ℕ)
     → (is_declared before (name_at es x) ≡ false) × (number_of es (name_at es x) ≡ Some x)
 unique_from before [] h x l = absurd (omega arith)
 unique_from before (e ∷ es) h zero l =
-    (no_fault (is_declared before e.name.name) E3 e.name.place (nil_left _ _ h), rw (same_name e.name.name) refl)
+    (no_fault (is_declared before e.name.name) E3 e.name.place (nil_left _ _ h), rw (bytes_eq_same e.name.name) refl)
 unique_from before (e ∷ es) h (suc x) l =
     let s : x < length es = omega arith in
     let r = unique_from (before ++ e ∷ []) es (nil_right _ _ h) x s in

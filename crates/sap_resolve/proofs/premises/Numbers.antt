@@ -1,6 +1,9 @@
 -- The numbers of the states of a group.
 use Rattle.std.proofs.Common.{◌≡◌, ℕ, suc, ◌+◌, ◌<◌, ◌≤◌, true, ◌&&◌, ◌||◌, List, length, nat_eq, nat_lt, nat_le, refl, sym, ap, ◌∙◌, subst, arith, inl, inr, bytes_eq}
 use Rattle.std.proofs.lemmas.Grind.{common_steps}
+use Rattle.sap_lemmas.proofs.Numbers.{test_of_same}
+use Rattle.sap_lemmas.proofs.Texts.{bytes_eq_same, equal_of_bytes_eq}
+use Rattle.std.proofs.lemmas.Bool.{and_from, eqb-true, or_cases, or_left, or_right}
 use Rattle.sap_tree.specs.declared.name.Mention.{Mention}
 use Rattle.sap_tree.specs.declared.place.Place.{Place}
 use Rattle.sap_tree.specs.declared.syntax.Kind.{Kind}
@@ -11,13 +14,11 @@ use Rattle.sap_shape.specs.ShapeFaults.{is_among, is_within, is_in_group}
 use Rattle.sap_meaning.specs.Program.{World, Entity, is_state, is_dynamic, root, place, last, below, last_of, place_of, kind_is_state, Group}
 use Rattle.sap_meaning.specs.Touches.{among}
 use Rattle.sap_meaning.specs.Fine.{size, inside, number_of}
-use Rattle.sap_meaning.proofs.Bools.{and_both, or_left, or_right, or_of, same_number, eq_self}
 use Rattle.sap_resolve.specs.Worlds.{states_in, states_below, group_length, is_dynamic_kind}
 use Rattle.sap_shape.specs.Sites.{Home, block_sites, state_sites}
 use Rattle.sap_resolve.specs.Resolve.{state_of, group_of}
 use Rattle.sap_resolve.specs.Terms.{entity_number}
 use Rattle.sap_resolve.proofs.premises.Places.{Laid, LaidState, laid_first, laid_rest, laid_below, laid_entity, laid_name, laid_named, laid_within, name_at}
-use Rattle.sap_resolve.proofs.premises.Lookups.{same_name, name_is}
 
 pub size_of : (ls : Levels) (es : List declared_entity.Entity) (k x : ℕ) (g : StateList) → size (group_of ls es k x g) ≡ group_length g
 size_of ls es k x NoState = refl
@@ -45,9 +46,9 @@ module _ (ls : Levels) (es : List declared_entity.Entity) (w : World) where
       let mine : LaidState ls es w n x s = laid_first ls es w n x s rest laid in
       let here : Group = group_of ls es (k + length (block_sites home body)) (x + 1) children in
       let later : Group = group_of ls es (k + length (state_sites es s)) (x + states_in s) rest in
-      elim (or_of (nat_eq y x) (inside here y || inside later y) h) [
+      elim (or_cases (nat_eq y x) (inside here y || inside later y) h) [
         | inl e ↦
-            let i : y ≡ x = same_number y x e in
+            let i : y ≡ x = eqb-true y x e in
             subst (λ z. Inside x (AndState s rest) z) (sym i) (record {
               state = ap (λ (a : Entity). kind_is_state a.kind) (laid_entity ls es w n x p name kind body children mine);
               from = omega arith;
@@ -55,9 +56,9 @@ module _ (ls : Levels) (es : List declared_entity.Entity) (w : World) where
               name =
                   or_left (is_within s (name_at es x)) (is_in_group rest (name_at es x))
                   (or_left (bytes_eq name.name (name_at es x)) (is_in_group children (name_at es x))
-                  (rw (laid_name ls es w n x p name kind body children mine) (same_name name.name)));
+                  (rw (laid_name ls es w n x p name kind body children mine) (bytes_eq_same name.name)));
             })
-        | inr e ↦ elim (or_of (inside here y) (inside later y) e) [
+        | inr e ↦ elim (or_cases (inside here y) (inside later y) e) [
           | inl i ↦
               let r : Inside (x + 1) children y = inside_of (k + length (block_sites home body)) 0 (x + 1) children (laid_below ls es w n x p name kind body children mine) y i in
               let f = r.from in
@@ -90,11 +91,11 @@ module _ (ls : Levels) (es : List declared_entity.Entity) (w : World) where
       let s : StateTree = StateOf p name kind body children in
       let mine : LaidState ls es w n x s = laid_first ls es w n x s rest laid in
       let later : Group = group_of ls es (k + length (state_sites es s)) (x + states_in s) rest in
-      elim (or_of (bytes_eq name.name called) (is_among rest called) h) [
+      elim (or_cases (bytes_eq name.name called) (is_among rest called) h) [
         | inl e ↦
-            let i : name_at es x ≡ called = laid_name ls es w n x p name kind body children mine ∙ name_is name.name called e in
+            let i : name_at es x ≡ called = laid_name ls es w n x p name kind body children mine ∙ equal_of_bytes_eq name.name called e in
             let j : entity_number es called ≡ x = sym (ap (λ a. entity_number es a) i) ∙ numbered x (laid_named ls es w n x p name kind body children mine) in
-            or_left (nat_eq (entity_number es called) x) (among later (entity_number es called)) (rw j (eq_self x))
+            or_left (nat_eq (entity_number es called) x) (among later (entity_number es called)) (rw j (test_of_same x))
         | inr e ↦ or_right (nat_eq (entity_number es called) x) (among later (entity_number es called))
             (among_of numbered (k + length (state_sites es s)) (suc n) (x + states_in s) rest (laid_rest ls es w n x s rest laid) called e)
       ]
@@ -117,7 +118,7 @@ module _ (ls : Levels) (es : List declared_entity.Entity) (w : World) where
     pub here_below : (k y : ℕ) → inside (group_of ls es k (x + 1) children) y ≡ true → below w x y ≡ true
     here_below k y h =
         let r : Inside (x + 1) children y = inside_of k 0 (x + 1) children (laid_below ls es w n x p name kind body children mine) y h in
-        and_both (is_state w y) (nat_lt x y && nat_le y (last w x)) r.state
+        and_from (is_state w y) (nat_lt x y && nat_le y (last w x)) r.state
         (rw here_last (in_range x y (states_below children) r.from r.to))
 
     pub here_itself : x ≤ last w x

@@ -1,5 +1,9 @@
 -- Where no path writes a memory twice, no memory is written after it was written, with numbers for names.
 use Rattle.std.proofs.Common.{◌≡◌, ℕ, ◌+◌, Option, Bool, true, false, ◌&&◌, ◌||◌, List, [], ◌∷◌, ◌++◌, if◌then◌else◌, refl, ap, ◌∙◌, subst, nat_eq, inl, inr, bytes_eq, length}
+use Rattle.sap_lemmas.proofs.Texts.{bytes_eq_same}
+use Rattle.std.proofs.lemmas.Bool.{eqb-true, false_from_ne_true, or_cases, or_from, or_left, or_right}
+use Rattle.sap_names.proofs.NameFaultsLemmas.{no_fault}
+use Rattle.sap_names.proofs.FaultLemmas.{nil_left, nil_right}
 use Rattle.sap_tree.specs.declared.name.Mention.{Mention}
 use Rattle.sap_tree.specs.declared.place.Place.{Place}
 use Rattle.sap_tree.specs.Syntax.{SimpleCommand, Assign, Write, SetTag, SetCellTag, Goto, Fall, Command, Do, Try, If, TryThen, Case, Arms, Last, Arm, CommandBlock, Commands, ElseBlock, NoElse, Else, CommandList, NoCommand, AndCommand, StateTree, StateOf, StateList, NoState, AndState}
@@ -16,16 +20,14 @@ use Rattle.sap_shape.specs.Walk.{Written, writing, past_simple, past, past_block
 use Rattle.sap_shape.specs.ShapeFaults.{state_shape, states_shape}
 use Rattle.sap_meaning.specs.Program.{World, Group}
 use Rattle.sap_meaning.specs.Fine.{step_writes, step_reaching, reaching, arms_reaching, block_reaching, state_reaches, group_reaches, OnceStep, Once, OnceArms, OnceBlock, OnceState, OnceGroup}
-use Rattle.sap_meaning.proofs.Bools.{or_left, or_right, or_of, or_false, not_true, same_number}
 use Rattle.sap_resolve.specs.Worlds.{states_in}
 use Rattle.sap_shape.specs.Sites.{Home, simple_sites, block_sites, command_sites, state_sites}
 use Rattle.sap_resolve.specs.Resolve.{site_number, step_of, command_of, arms_of, block_of, else_of, list_of, state_of, group_of}
 use Rattle.sap_resolve.specs.Terms.{entity_number}
 use Rattle.sap_resolve.proofs.Lookup.{AllMatch}
 use Rattle.sap_resolve.proofs.premises.Commands.{write_named, cell_named, if_first, if_other, body_fits, below_fits}
-use Rattle.sap_resolve.proofs.premises.Faultless.{nil_left, nil_right, no_fault}
 use Rattle.sap_resolve.proofs.premises.Places.{name_at}
-use Rattle.sap_resolve.proofs.premises.Lookups.{same_name, named}
+use Rattle.sap_resolve.proofs.premises.Lookups.{named}
 use Rattle.sap_resolve.proofs.premises.Shut.{Ended, Shut, ShutArms, ShutElse, ShutList, shut_list, shut_else, shut_first, shut_rest, shut_handler, shut_branch, shut_other, then_parts, no_transfer, shut_accepted, shut_refused, shut_arms, shut_arm, shut_later}
 
 -- what was written before, is still afterwards
@@ -67,12 +69,12 @@ module _ (ls : Levels) (levels : List (List ℕ)) (h : Home) (w : World) (match 
   -- a memory's number and its name
   target_of : (target : Mention) (m : ℕ) → name_faults indexed What target ≡ [] → nat_eq m (entity_number h.entities target.name) ≡ true
       → name_at h.entities m ≡ target.name
-  target_of target m f e = ap (λ n. name_at h.entities n) (same_number m (entity_number h.entities target.name) e) ∙ named h.entities w match indexed target f
+  target_of target m f e = ap (λ n. name_at h.entities n) (eqb-true m (entity_number h.entities target.name) e) ∙ named h.entities w match indexed target f
 
   writes_target : (target : Mention) (m : ℕ) (p : Written) → name_faults indexed What target ≡ [] → nat_eq m (entity_number h.entities target.name) ≡ true
       → writing target.name p (name_at h.entities m) ≡ true
   writes_target target m p f e =
-      or_left (bytes_eq target.name (name_at h.entities m)) (p (name_at h.entities m)) (rw (target_of target m f e) (same_name target.name))
+      or_left (bytes_eq target.name (name_at h.entities m)) (p (name_at h.entities m)) (rw (target_of target m f e) (bytes_eq_same target.name))
 
   -- what a step writes, is written behind it
   step_written : (n : ℕ) (c : SimpleCommand) → simple_faults levels What c ≡ [] → (m : ℕ) (p : Written) → step_writes (step_of ls h n c) m ≡ true
@@ -100,14 +102,14 @@ module _ (ls : Levels) (levels : List (List ℕ)) (h : Home) (w : World) (match 
           → reaching falls (command_of ls h k c) m ≡ true → past c p (name_at h.entities m) ≡ true
       command_written k (Do c) f o m p i = open_written (site_number h k c) c f o m p i
       command_written k (Try c place b) f o m p i =
-          elim (or_of (step_reaching falls (step_of ls h (site_number h k c) c) m) (block_reaching falls (block_of ls h (k + length (simple_sites h c)) b) m) i) [
+          elim (or_cases (step_reaching falls (step_of ls h (site_number h k c) c) m) (block_reaching falls (block_of ls h (k + length (simple_sites h c)) b) m) i) [
             | inl j ↦ or_left _ _
                 (open_written (site_number h k c) c (nil_left _ _ f) (nil_left _ _ o) m p j)
             | inr j ↦ or_right _ _
                 (block_written (k + length (simple_sites h c)) b (nil_right _ _ f) (nil_right _ _ o) m (past_simple c p) j)
           ]
       command_written k (If place e b other) f o m p i =
-          elim (or_of (block_reaching falls (block_of ls h k b) m) (block_reaching falls (else_of ls h (k + length (block_sites h b)) other) m) i) [
+          elim (or_cases (block_reaching falls (block_of ls h k b) m) (block_reaching falls (else_of ls h (k + length (block_sites h b)) other) m) i) [
             | inl j ↦ or_left _ _ (block_written k b (if_first levels What place e b other f) (nil_left _ _ o) m p j)
             | inr j ↦ or_right _ _ (else_written (k + length (block_sites h b)) other (if_other levels What place e b other f) (nil_right _ _ o) m p j)
           ]
@@ -116,9 +118,9 @@ module _ (ls : Levels) (levels : List (List ℕ)) (h : Home) (w : World) (match 
           let x = k + length (simple_sites h c) in
           let y = x + length (block_sites h a) in
           let opened = then_parts c place (open_block_faults a ++ open_block_faults b) o in
-          elim (or_of (step_reaching falls (step_of ls h (site_number h k c) c) m) (block_reaching falls (block_of ls h x a) m || block_reaching falls (block_of ls h y b) m) i) [
+          elim (or_cases (step_reaching falls (step_of ls h (site_number h k c) c) m) (block_reaching falls (block_of ls h x a) m || block_reaching falls (block_of ls h y b) m) i) [
             | inl j ↦ or_left _ _ (past_body (name_at h.entities m) a q (open_written (site_number h k c) c (nil_left _ _ (nil_left _ _ f)) opened.0 m p j))
-            | inr j ↦ elim (or_of (block_reaching falls (block_of ls h x a) m) (block_reaching falls (block_of ls h y b) m) j) [
+            | inr j ↦ elim (or_cases (block_reaching falls (block_of ls h x a) m) (block_reaching falls (block_of ls h y b) m) j) [
               | inl t ↦ or_left _ _ (block_written x a (nil_right _ _ (nil_left _ _ f)) (nil_left _ _ opened.1) m q t)
               | inr t ↦ or_right _ _ (block_written y b (nil_right _ _ f) (nil_right _ _ opened.1) m q t)
             ]
@@ -129,7 +131,7 @@ module _ (ls : Levels) (levels : List (List ℕ)) (h : Home) (w : World) (match 
           → arms_reaching falls (arms_of ls h k arms) m ≡ true → past_arms arms p (name_at h.entities m) ≡ true
       arms_written asked k (Last b) f o m p i = block_written k b f o m p i
       arms_written asked k (Arm constants b arms) f o m p i =
-          elim (or_of (block_reaching falls (block_of ls h k b) m) (arms_reaching falls (arms_of ls h (k + length (block_sites h b)) arms) m) i) [
+          elim (or_cases (block_reaching falls (block_of ls h k b) m) (arms_reaching falls (arms_of ls h (k + length (block_sites h b)) arms) m) i) [
             | inl j ↦ or_left _ _ (block_written k b (nil_right _ _ (nil_left _ _ f)) (nil_left _ _ o) m p j)
             | inr j ↦ or_right _ _ (arms_written asked (k + length (block_sites h b)) arms (nil_right _ _ f) (nil_right _ _ o) m p j)
           ]
@@ -147,7 +149,7 @@ module _ (ls : Levels) (levels : List (List ℕ)) (h : Home) (w : World) (match 
           → block_reaching falls (list_of ls h k cs) m ≡ true → past_list cs p (name_at h.entities m) ≡ true
       list_written k NoCommand f o m p i = cc
       list_written k (AndCommand c cs) f o m p i =
-          elim (or_of (reaching falls (command_of ls h k c) m) (block_reaching falls (list_of ls h (k + length (command_sites h c)) cs) m) i) [
+          elim (or_cases (reaching falls (command_of ls h k c) m) (block_reaching falls (list_of ls h (k + length (command_sites h c)) cs) m) i) [
             | inl j ↦ past_commands (name_at h.entities m) cs (past c p)
                 (command_written k c (nil_left _ _ f) (nil_left _ _ o) m p j)
             | inr j ↦ list_written (k + length (command_sites h c)) cs (nil_right _ _ f) (nil_right _ _ o) m (past c p) j
@@ -160,7 +162,7 @@ module _ (ls : Levels) (levels : List (List ℕ)) (h : Home) (w : World) (match 
 
       target_unwritten : (target : Mention) (place : Place) → name_faults indexed What target ≡ [] → (p : Written) → p (name_at h.entities m) ≡ true
           → fault_if (p target.name) E14 place ≡ [] → nat_eq m (entity_number h.entities target.name) ≡ false
-      target_unwritten target place f p i s = not_true (nat_eq m (entity_number h.entities target.name)) (λ j.
+      target_unwritten target place f p i s = false_from_ne_true (nat_eq m (entity_number h.entities target.name)) (λ j.
           let e : name_at h.entities m ≡ target.name = target_of target m f j in
           let no : p target.name ≡ false = no_fault (p target.name) E14 place s in
           let yes : p target.name ≡ true = subst (λ a. p a ≡ true) e i in
@@ -180,13 +182,13 @@ module _ (ls : Levels) (levels : List (List ℕ)) (h : Home) (w : World) (match 
             → Safe (entering c p (name_at h.entities m)) → reaching falls (command_of ls h k c) m ≡ false
         command_unreached k (Do c) f p i s d = step_unreached (site_number h k c) c f p i s d
         command_unreached k (Try c place b) f p i s d =
-            or_false (step_reaching falls (step_of ls h (site_number h k c) c) m) (block_reaching falls (block_of ls h (k + length (simple_sites h c)) b) m)
+            or_from (step_reaching falls (step_of ls h (site_number h k c) c) m) (block_reaching falls (block_of ls h (k + length (simple_sites h c)) b) m)
             (step_unreached (site_number h k c) c (nil_left _ _ f) p i (nil_left _ _ s)
             (λ j. d (or_left _ _ j)))
             (body_unreached (k + length (simple_sites h c)) b (nil_right _ _ f) (past_simple c p) (past_step (name_at h.entities m) c p i)
             (nil_right _ _ s) (λ j. d (or_right _ _ j)))
         command_unreached k (If place e b other) f p i s d =
-            or_false (block_reaching falls (block_of ls h k b) m) (block_reaching falls (else_of ls h (k + length (block_sites h b)) other) m)
+            or_from (block_reaching falls (block_of ls h k b) m) (block_reaching falls (else_of ls h (k + length (block_sites h b)) other) m)
             (body_unreached k b (if_first levels What place e b other f) p i (nil_left _ _ s) (λ j. d (or_left _ _ j)))
             (else_unreached (k + length (block_sites h b)) other (if_other levels What place e b other f) p i (nil_right _ _ s) (λ j. d (or_right _ _ j)))
         command_unreached k (TryThen c place a b) f p i s d =
@@ -194,9 +196,9 @@ module _ (ls : Levels) (levels : List (List ℕ)) (h : Home) (w : World) (match 
             let behind = past_step (name_at h.entities m) c p i in
             let x = k + length (simple_sites h c) in
             let y = x + length (block_sites h a) in
-            or_false (step_reaching falls (step_of ls h (site_number h k c) c) m) (block_reaching falls (block_of ls h x a) m || block_reaching falls (block_of ls h y b) m)
+            or_from (step_reaching falls (step_of ls h (site_number h k c) c) m) (block_reaching falls (block_of ls h x a) m || block_reaching falls (block_of ls h y b) m)
             (step_unreached (site_number h k c) c (nil_left _ _ (nil_left _ _ f)) p i (nil_left _ _ (nil_left _ _ s)) (λ j. d (or_left _ _ j)))
-            (or_false (block_reaching falls (block_of ls h x a) m) (block_reaching falls (block_of ls h y b) m)
+            (or_from (block_reaching falls (block_of ls h x a) m) (block_reaching falls (block_of ls h y b) m)
             (body_unreached x a (nil_right _ _ (nil_left _ _ f)) q behind (nil_right _ _ (nil_left _ _ s)) (λ j. d (or_right _ _ (or_left _ _ j))))
             (body_unreached y b (nil_right _ _ f) q behind (nil_right _ _ s) (λ j. d (or_right _ _ (or_right _ _ j)))))
         command_unreached k (Case place e arms) f p i s d = arms_unreached (own What e) k arms (nil_right _ _ f) p i s d
@@ -205,7 +207,7 @@ module _ (ls : Levels) (levels : List (List ℕ)) (h : Home) (w : World) (match 
             → second_arms arms p ≡ [] → Safe (entering_arms arms p (name_at h.entities m)) → arms_reaching falls (arms_of ls h k arms) m ≡ false
         arms_unreached asked k (Last b) f p i s d = body_unreached k b f p i s d
         arms_unreached asked k (Arm constants b arms) f p i s d =
-            or_false (block_reaching falls (block_of ls h k b) m) (arms_reaching falls (arms_of ls h (k + length (block_sites h b)) arms) m)
+            or_from (block_reaching falls (block_of ls h k b) m) (arms_reaching falls (arms_of ls h (k + length (block_sites h b)) arms) m)
             (body_unreached k b (nil_right _ _ (nil_left _ _ f)) p i (nil_left _ _ s) (λ j. d (or_left _ _ j)))
             (arms_unreached asked (k + length (block_sites h b)) arms (nil_right _ _ f) p i (nil_right _ _ s) (λ j. d (or_right _ _ j)))
 
@@ -222,7 +224,7 @@ module _ (ls : Levels) (levels : List (List ℕ)) (h : Home) (w : World) (match 
             → second_list cs p ≡ [] → Safe (entering_list cs p (name_at h.entities m)) → block_reaching falls (list_of ls h k cs) m ≡ false
         list_unreached k NoCommand f p i s d = refl
         list_unreached k (AndCommand c cs) f p i s d =
-            or_false (reaching falls (command_of ls h k c) m) (block_reaching falls (list_of ls h (k + length (command_sites h c)) cs) m)
+            or_from (reaching falls (command_of ls h k c) m) (block_reaching falls (list_of ls h (k + length (command_sites h c)) cs) m)
             (command_unreached k c (nil_left _ _ f) p i (nil_left _ _ s)
             (λ j. d (or_left _ _ j)))
             (list_unreached (k + length (command_sites h c)) cs (nil_right _ _ f) (past c p) (past_command (name_at h.entities m) c p i)
@@ -347,7 +349,7 @@ module _ (m : List ℕ) where
   step_falls (Fall place) p h = refl
 
   either_falls : (a b c d : Bool) → (a ≡ true → c ≡ true) → (b ≡ true → d ≡ true) → (a || b) ≡ true → (c || d) ≡ true
-  either_falls a b c d f g h = elim (or_of a b h) [ inl i ↦ or_left c d (f i) | inr i ↦ or_right c d (g i) ]
+  either_falls a b c d f g h = elim (or_cases a b h) [ inl i ↦ or_left c d (f i) | inr i ↦ or_right c d (g i) ]
 
   mutual
     command_falls : (c : Command) (p : Written) → entering c p m ≡ true → falls c ≡ true
@@ -409,7 +411,7 @@ module _ (ls : Levels) (levels : List (List ℕ)) (le : ℕ → ℕ → Bool) (e
         → second_states g p ≡ [] → group_reaches (group_of ls es k x g) m ≡ false
     group_unreached k x NoState f p i s = refl
     group_unreached k x (AndState t rest) f p i s =
-        or_false (state_reaches (state_of ls es k x t) m) (group_reaches (group_of ls es (k + length (state_sites es t)) (x + states_in t) rest) m)
+        or_from (state_reaches (state_of ls es k x t) m) (group_reaches (group_of ls es (k + length (state_sites es t)) (x + states_in t) rest) m)
         (state_unreached k x t (nil_left _ _ f) p i (nil_left _ _ s))
         (group_unreached (k + length (state_sites es t)) (x + states_in t) rest (nil_right _ _ f) p i (nil_right _ _ s))
 

@@ -1,5 +1,6 @@
 -- The program of a well-formed design.
 use Rattle.std.proofs.Common.{◌≡◌, ℕ, List, [], length, sym, ◌∙◌, subst}
+use Rattle.sap_names.proofs.FaultLemmas.{nil_left, nil_right}
 use Rattle.sap_tree.specs.Syntax.{DesignTree}
 use Rattle.sap_lattice.specs.Levels.{Levels, order_of}
 use Rattle.sap_names.specs.Entities.{entities_of, what_is}
@@ -17,7 +18,6 @@ use Rattle.sap_resolve.specs.Resolve.{states_of}
 use Rattle.sap_resolve.proofs.Lookup.{entities_match}
 use Rattle.sap_resolve.specs.Sized.Sound.{NamesFit}
 use Rattle.sap_resolve.specs.Premises.Premises.{ProgramsAreFine, SitesRise}
-use Rattle.sap_resolve.proofs.premises.Faultless.{nil_left, nil_right}
 use Rattle.sap_resolve.proofs.premises.Filling.{named_group_unfilled, fine_group_filled, once_group_filled, size_filled}
 use Rattle.sap_resolve.proofs.premises.Lookups.{unique}
 use Rattle.sap_resolve.proofs.premises.Numbers.{size_of, among_of}

@@ -1,5 +1,7 @@
 -- The check sites of a well-formed design are numbered from 1 in the order of the text.
 use Rattle.std.proofs.Common.{◌≡◌, ℕ, zero, suc, ◌+◌, Option, Bool, true, false, not, ◌||◌, List, [], ◌∷◌, ◌++◌, length, length-append, refl, sym, ap, ◌∙◌, subst, arith, if◌then◌else◌}
+use Rattle.sap_lemmas.proofs.Bools.{or_equal}
+use Rattle.sap_names.proofs.FaultLemmas.{nil_left, nil_right}
 use Rattle.sap_tree.specs.declared.syntax.Kind.{Kind}
 use Rattle.sap_tree.specs.declared.syntax.Kind.TheVariants.{Dynamic, Enforced}
 use Rattle.sap_tree.specs.Syntax.{SimpleCommand, Assign, Write, SetTag, SetCellTag, Goto, Fall, Command, Do, Try, If, TryThen, Case, Arms, Last, Arm, CommandBlock, Commands, ElseBlock, NoElse, Else, CommandList, NoCommand, AndCommand, StateTree, StateOf, StateList, NoState, AndState}
@@ -22,7 +24,6 @@ use Rattle.sap_resolve.specs.Terms.{entity_number}
 use Rattle.sap_resolve.specs.Fill.{filled_step, filled, filled_arms, filled_block, filled_state, filled_group}
 use Rattle.sap_resolve.proofs.Lookup.{AllMatch}
 use Rattle.sap_resolve.proofs.premises.Commands.{set_named, write_named, if_first, if_other, body_fits, below_fits}
-use Rattle.sap_resolve.proofs.premises.Faultless.{nil_left, nil_right, or_same}
 use Rattle.sap_resolve.proofs.premises.Places.{Laid, LaidState, laid_first, laid_rest, laid_below}
 use Rattle.sap_resolve.proofs.premises.Lookups.{enforced_same}
 use Rattle.sap_resolve.proofs.premises.Numbers.{here_dynamic}
@@ -61,7 +62,7 @@ module _ (ls : Levels) (es : List declared_entity.Entity) (w : World) where
       let s : StateTree = StateOf place name kind body children in
       let later : Group = group_of ls es (k + length (shape.state_sites es s)) (x + states_in s) rest in
       let mine : LaidState ls es w n x s = laid_first ls es w n x s rest laid in
-      or_same (not (is_dynamic w x)) (some_enforced w later) (is_enforced_kind kind) (any_enforced rest)
+      or_equal (not (is_dynamic w x)) (some_enforced w later) (is_enforced_kind kind) (any_enforced rest)
       (ap (λ (b : Bool). not b) (here_dynamic ls es w n x place name kind body children mine) ∙ enforced_kind kind)
       (some_same (k + length (shape.state_sites es s)) (suc n) (x + states_in s) rest (laid_rest ls es w n x s rest laid))
 
@@ -77,7 +78,7 @@ module _ (ls : Levels) (levels : List (List ℕ)) (h : Home) (w : World) (match 
   site_same n (SetTag place target tag) f = refl
   site_same n (SetCellTag place target index tag) f = refl
   site_same n (Goto place target) f =
-      or_same (not (is_dynamic w x)) (not (is_dynamic w (entity_number h.entities target.name))) (is_enforced_kind h.kind)
+      or_equal (not (is_dynamic w x)) (not (is_dynamic w (entity_number h.entities target.name))) (is_enforced_kind h.kind)
       (is_enforced h.entities target.name) own (enforced_same h.entities w match entered target f)
   site_same n (Fall place) f = kids
 

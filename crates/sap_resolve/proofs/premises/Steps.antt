@@ -1,6 +1,9 @@
 -- What E11, E12, E16 and E17 keep out of a body: targets of another group, a fall with nothing to fall into, retagging of what is dynamic, of the state and
 -- of those above and below it.
 use Rattle.std.proofs.Common.{◌≡◌, ℕ, ◌+◌, ◌<◌, ◌||◌, Option, Bool, true, false, not, List, [], ◌∷◌, ◌++◌, refl, ap, ◌∙◌, subst, arith, nat_eq, length}
+use Rattle.std.proofs.lemmas.Bool.{both_ways, eqb-true, false_from_ne_true, not-false, or_from, or_left, or_right}
+use Rattle.sap_names.proofs.NameFaultsLemmas.{no_fault}
+use Rattle.sap_names.proofs.FaultLemmas.{nil_left, nil_right}
 use Rattle.sap_tree.specs.declared.place.Place.{Place}
 use Rattle.sap_tree.specs.Syntax.{SimpleCommand, Assign, Write, SetTag, SetCellTag, Goto, Fall, Command, Do, Try, If, TryThen, Case, Arms, Last, Arm, CommandBlock, Commands, ElseBlock, NoElse, Else, CommandList, NoCommand, AndCommand, StateTree, StateOf, StateList, NoState, AndState}
 use Rattle.sap_lattice.specs.Levels.{Levels}
@@ -16,21 +19,15 @@ use Rattle.sap_shape.specs.ShapeFaults.{Body, is_among, is_in, is_leaf, is_compa
 use Rattle.sap_meaning.specs.Program.{World, Group}
 use Rattle.sap_meaning.specs.Touches.{among}
 use Rattle.sap_meaning.specs.Fine.{size, FineStep, FineCommand, FineArms, FineBlock, step_retags, retags, arms_retag, block_retags, state_retags, group_retags}
-use Rattle.sap_meaning.proofs.Bools.{or_left, or_right, or_false, not_true, same_number}
 use Rattle.sap_resolve.specs.Worlds.{states_in}
 use Rattle.sap_resolve.specs.Resolve.{site_number, step_of, command_of, arms_of, block_of, else_of, list_of, state_of, group_of}
 use Rattle.sap_resolve.specs.Terms.{entity_number}
 use Rattle.sap_resolve.specs.Named.{NamedStep, Named, NamedArms, NamedBlock}
 use Rattle.sap_resolve.proofs.Lookup.{AllMatch}
 use Rattle.sap_resolve.proofs.premises.Commands.{tag_named, cell_named, if_first, if_other, body_fits, below_fits}
-use Rattle.sap_resolve.proofs.premises.Faultless.{nil_left, nil_right, no_fault, not_false}
 use Rattle.sap_resolve.proofs.premises.Places.{name_at}
 use Rattle.sap_resolve.proofs.premises.Lookups.{named, dynamic_same}
 use Rattle.sap_resolve.proofs.premises.Shut.{Ended, Shut, ShutArms, ShutElse, ShutList, shut_list, shut_else, shut_first, shut_rest, shut_handler, shut_branch, shut_other, no_transfer, shut_accepted, shut_refused, shut_arms, shut_arm, shut_later}
-
-clash : (b : Bool) → b ≡ false → b ≡ true → ⊥
-clash true h k = cc
-clash false h k = cc
 
 pub some_child : (ls : Levels) (es : List Entity) (k x : ℕ) (g : StateList) → is_leaf g ≡ false → 0 < size (group_of ls es k x g)
 some_child ls es k x NoState h = cc
@@ -55,15 +52,15 @@ module _ (ls : Levels) (levels : List (List ℕ)) (h : Home) (w : World) (match 
           → step_retags (step_of ls h n c) y ≡ false
       step_unmarked n (Assign target e) f s = refl
       step_unmarked n (Write target index e) f s = refl
-      step_unmarked n (SetTag place target tag) f s = not_true (nat_eq y (entity_number h.entities target.name)) (λ j.
-          let number : y ≡ entity_number h.entities target.name = same_number y (entity_number h.entities target.name) j in
+      step_unmarked n (SetTag place target tag) f s = false_from_ne_true (nat_eq y (entity_number h.entities target.name)) (λ j.
+          let number : y ≡ entity_number h.entities target.name = eqb-true y (entity_number h.entities target.name) j in
           let own : name_at h.entities (entity_number h.entities target.name) ≡ target.name =
           named h.entities w match retagged target (tag_named levels What place target tag f) in
           let e : name_at h.entities y ≡ target.name = ap (λ z. name_at h.entities z) number ∙ own in
           let last : fault_if (is_comparable at target.name) E17 target.place ≡ [] = nil_right _ _ s in
           let far : is_comparable at target.name ≡ false = no_fault (is_comparable at target.name) E17 target.place last in
           let yes : is_comparable at target.name ≡ true = subst (λ a. is_comparable at a ≡ true) e near in
-          clash (is_comparable at target.name) far yes)
+          both_ways (is_comparable at target.name) far yes)
       step_unmarked n (SetCellTag place target index tag) f s = refl
       step_unmarked n (Goto place target) f s = refl
       step_unmarked n (Fall place) f s = refl
@@ -82,19 +79,19 @@ module _ (ls : Levels) (levels : List (List ℕ)) (h : Home) (w : World) (match 
             → retags (command_of ls h k c) y ≡ false
         command_unmarked k (Do c) f s = step_unmarked (site_number h k c) c f s
         command_unmarked k (Try c place b) f s =
-            or_false (step_retags (step_of ls h (site_number h k c) c) y) (block_retags (block_of ls h (k + length (simple_sites h c)) b) y)
+            or_from (step_retags (step_of ls h (site_number h k c) c) y) (block_retags (block_of ls h (k + length (simple_sites h c)) b) y)
             (step_unmarked (site_number h k c) c (nil_left _ _ f) (try_first c place b s))
             (block_unmarked (k + length (simple_sites h c)) b (nil_right _ _ f) (try_handler c place b s))
         command_unmarked k (If place e b other) f s =
-            or_false (block_retags (block_of ls h k b) y) (block_retags (else_of ls h (k + length (block_sites h b)) other) y)
+            or_from (block_retags (block_of ls h k b) y) (block_retags (else_of ls h (k + length (block_sites h b)) other) y)
             (block_unmarked k b (if_first levels What place e b other f) (nil_left _ _ s))
             (else_unmarked (k + length (block_sites h b)) other (if_other levels What place e b other f) (nil_right _ _ s))
         command_unmarked k (TryThen c place a b) f s =
             let i = k + length (simple_sites h c) in
             let j = i + length (block_sites h a) in
-            or_false (step_retags (step_of ls h (site_number h k c) c) y) (block_retags (block_of ls h i a) y || block_retags (block_of ls h j b) y)
+            or_from (step_retags (step_of ls h (site_number h k c) c) y) (block_retags (block_of ls h i a) y || block_retags (block_of ls h j b) y)
             (then_unmarked (site_number h k c) c place (nil_left _ _ (nil_left _ _ f)) (nil_left _ _ (nil_left _ _ s)))
-            (or_false (block_retags (block_of ls h i a) y) (block_retags (block_of ls h j b) y)
+            (or_from (block_retags (block_of ls h i a) y) (block_retags (block_of ls h j b) y)
             (block_unmarked i a (nil_right _ _ (nil_left _ _ f)) (nil_right _ _ (nil_left _ _ s)))
             (block_unmarked j b (nil_right _ _ f) (nil_right _ _ s)))
         command_unmarked k (Case place e arms) f s = arms_unmarked (own What e) k arms (nil_right _ _ f) s
@@ -103,7 +100,7 @@ module _ (ls : Levels) (levels : List (List ℕ)) (h : Home) (w : World) (match 
             → arms_retag (arms_of ls h k arms) y ≡ false
         arms_unmarked asked k (Last b) f s = block_unmarked k b f s
         arms_unmarked asked k (Arm constants b arms) f s =
-            or_false (block_retags (block_of ls h k b) y) (arms_retag (arms_of ls h (k + length (block_sites h b)) arms) y)
+            or_from (block_retags (block_of ls h k b) y) (arms_retag (arms_of ls h (k + length (block_sites h b)) arms) y)
             (block_unmarked k b (nil_right _ _ (nil_left _ _ f)) (nil_left _ _ s))
             (arms_unmarked asked (k + length (block_sites h b)) arms (nil_right _ _ f) (nil_right _ _ s))
 
@@ -119,7 +116,7 @@ module _ (ls : Levels) (levels : List (List ℕ)) (h : Home) (w : World) (match 
             → block_retags (list_of ls h k cs) y ≡ false
         list_unmarked k NoCommand f s = refl
         list_unmarked k (AndCommand c cs) f s =
-            or_false (retags (command_of ls h k c) y) (block_retags (list_of ls h (k + length (command_sites h c)) cs) y)
+            or_from (retags (command_of ls h k c) y) (block_retags (list_of ls h (k + length (command_sites h c)) cs) y)
             (command_unmarked k c (nil_left _ _ f) (nil_left _ _ s))
             (list_unmarked (k + length (command_sites h c)) cs (nil_right _ _ f) (nil_right _ _ s))
 
@@ -144,7 +141,7 @@ module _ (ls : Levels) (levels : List (List ℕ)) (h : Home) (w : World) (match 
         i.2,
       )
       fine_step n (Goto place target) f s i =
-          targets target.name (not_false (is_among at.group target.name) (no_fault (not (is_among at.group target.name)) E11 target.place s))
+          targets target.name (not-false (is_among at.group target.name) (no_fault (not (is_among at.group target.name)) E11 target.place s))
       fine_step n (Fall place) f s i = falling (no_fault (is_leaf at.children) E12 place s)
 
       fine_then : (n : ℕ) (c : SimpleCommand) (place : Place) → simple_faults levels What c ≡ [] → then_shape h.entities at c place ≡ [] → transfer_faults c ≡ []
@@ -210,7 +207,7 @@ module _ (ls : Levels) (levels : List (List ℕ)) (le : ℕ → ℕ → Bool) (e
         let h : Home = record { entities = es; name = name.name; kind = kind; children = children } in
         let at : Body = record { name = name.name; kind = kind; group = group; children = children; above = above } in
         let front : closing_faults body ++ block_shape es at body ≡ [] = nil_left _ _ s in
-        or_false (block_retags (block_of ls h k body) y) (group_retags (group_of ls es (k + length (block_sites h body)) (x + 1) children) y)
+        or_from (block_retags (block_of ls h k body) y) (group_retags (group_of ls es (k + length (block_sites h body)) (x + 1) children) y)
         (block_unmarked ls levels h w match at y (or_left _ _ (or_right _ _ high)) k body (body_fits levels (what_is es) le place name kind body children f)
         (nil_right _ _ front))
         (group_unmarked (k + length (block_sites h body)) (x + 1) children (name.name ∷ above) children (or_right _ _ high)
@@ -220,6 +217,6 @@ module _ (ls : Levels) (levels : List (List ℕ)) (le : ℕ → ℕ → Bool) (e
         → states_faults levels le (what_is es) g ≡ [] → states_shape es group above g ≡ [] → group_retags (group_of ls es k x g) y ≡ false
     group_unmarked k x group above NoState high f s = refl
     group_unmarked k x group above (AndState t rest) high f s =
-        or_false (state_retags (state_of ls es k x t) y) (group_retags (group_of ls es (k + length (state_sites es t)) (x + states_in t) rest) y)
+        or_from (state_retags (state_of ls es k x t) y) (group_retags (group_of ls es (k + length (state_sites es t)) (x + states_in t) rest) y)
         (state_unmarked k x group above t high (nil_left _ _ f) (nil_left _ _ s))
         (group_unmarked (k + length (state_sites es t)) (x + states_in t) group above rest high (nil_right _ _ f) (nil_right _ _ s))

@@ -1,6 +1,9 @@
 -- The world of a design: where its states stand, inputs and authorities.
 use Rattle.std.proofs.Common.{◌≡◌, ℕ, zero, suc, ◌+◌, Bool, true, false, not, List, [], ◌∷◌, ◌++◌, length, append_assoc, length-append, get_or, Some, None, refl, sym, ap, ◌∙◌, arith, inl, inr, bytes_eq}
-use Rattle.std.proofs.lemmas.Bool.{cases_Bool}
+use Rattle.std.proofs.lemmas.Bool.{cases_Bool, not-false}
+use Rattle.sap_resolve.proofs.WorldsLemmas.{children_length, declared_length}
+use Rattle.sap_names.proofs.NameFaultsLemmas.{no_fault}
+use Rattle.sap_names.proofs.FaultLemmas.{nil_left, nil_right}
 use Rattle.sap_tree.specs.declared.name.Mention.{Mention}
 use Rattle.sap_tree.specs.declared.syntax.Kind.{Kind}
 use Rattle.sap_tree.specs.declared.syntax.Kind.TheVariants.{Dynamic, Enforced}
@@ -16,24 +19,15 @@ use Rattle.sap_names.specs.NameFaults.{fault_if, level_from, is_some, is_level, 
 use Rattle.sap_names.specs.NameFaults as faults
 use Rattle.sap_meaning.specs.Program.{World, Entity, nothing, entity, children, root, kind_is_input}
 use Rattle.sap_resolve.specs.Worlds.{position, level_number, declared_level, authority_of, is_dynamic_kind, declared, all_declared, states_in, group_length, state_entities, group_entities, group_children, no_children, world_of}
-use Rattle.sap_resolve.proofs.premises.Faultless.{nil_left, nil_right, no_fault, not_false}
 use Rattle.sap_resolve.proofs.premises.Places.{Part, part_head, group_count, group_kids, Laid}
 
 append_nil : {A : Type 0} (xs : List A) → xs ≡ xs ++ []
 append_nil [] = refl
 append_nil (x ∷ xs) = ap (λ ys. x ∷ ys) (append_nil xs)
 
-declared_length : (ls : Levels) (ds : List Decl) → length (all_declared ls ds) ≡ length ds
-declared_length ls [] = refl
-declared_length ls (d ∷ ds) = ap suc (declared_length ls ds)
-
 names_length : (ds : List Decl) → length (tree.declared_in ds) ≡ length ds
 names_length [] = refl
 names_length (d ∷ ds) = ap suc (names_length ds)
-
-children_length : (ds : List Decl) → length (no_children ds) ≡ length ds
-children_length [] = refl
-children_length (d ∷ ds) = ap suc (children_length ds)
 
 -- the states of a design stand behind its declarations
 pub laid : (ls : Levels) (d : DesignTree) → Laid ls (entities_of d) (world_of ls d) 0 (length d.declarations) d.states
@@ -110,7 +104,7 @@ module _ (ls : Levels) (laws : Laws (order_of ls)) where
 
   level_is : (m : Mention) → level_faults ls.names m ≡ [] → faults.level_number ls.names m.name ≡ Some (level_number ls m)
   level_is m h =
-      level_place 0 ls.names m.name (not_false (is_level ls.names m.name) (no_fault (not (is_level ls.names m.name)) E6 m.place h))
+      level_place 0 ls.names m.name (not-false (is_level ls.names m.name) (no_fault (not (is_level ls.names m.name)) E6 m.place h))
       ∙ ap (λ (n : ℕ). Some n) (omega arith)
 
   kind_above : (kind : Kind) → kind_faults ls.names O.le kind ≡ [] → is_dynamic_kind kind ≡ false → O.le (authority_of ls kind) (declared_level ls kind) ≡ true
@@ -123,7 +117,7 @@ module _ (ls : Levels) (laws : Laws (order_of ls)) where
       let m = level_is under.level (nil_left _ _ u) in
       let no : test ≡ false = no_fault test E9 level.place (nil_right _ _ u) in
       let no' : not (O.le (level_number ls under.level) (level_number ls level)) ≡ false = rw (l, m) at no in
-      not_false (O.le (level_number ls under.level) (level_number ls level)) no'
+      not-false (O.le (level_number ls under.level) (level_number ls level)) no'
 
   declared_sound : (d : Decl) → declaration_faults ls.names O.le d ≡ [] → Sound O (declared ls d)
   declared_sound (Input place name width) h = record { input = λ i. refl; above = λ i. cc }

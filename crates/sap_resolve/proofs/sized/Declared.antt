@@ -1,6 +1,7 @@
 -- Where no fault stands in the declarations, the widths and depths that a name is declared with are sound.
 use Rattle.std.proofs.Common.{◌≡◌, ℕ, List, [], ◌∷◌, ◌++◌, Bool, true, not, Some, subst, inl, inr, bytes_eq}
-use Rattle.std.proofs.lemmas.Bool.{cases_Bool}
+use Rattle.std.proofs.lemmas.Bool.{cases_Bool, not-false}
+use Rattle.sap_names.proofs.NameFaultsLemmas.{no_fault}
 use Rattle.sap_tree.specs.declared.syntax.Numeral.{Numeral}
 use Rattle.sap_tree.specs.declared.syntax.Decl.{Decl}
 use Rattle.sap_tree.specs.declared.syntax.Decl.TheVariants as decl
@@ -17,7 +18,7 @@ use Rattle.sap_meaning.specs.Program.{World, entity}
 use Rattle.sap_resolve.specs.Terms.{entity_number}
 use Rattle.sap_resolve.specs.Worlds.{world_of}
 use Rattle.sap_resolve.proofs.Lookup.{Stands, entity_stands, what_found}
-use Rattle.sap_resolve.proofs.sized.Faultless.{none_two, none_three, no_fault, not_true}
+use Rattle.sap_resolve.proofs.sized.Faultless.{none_two, none_three}
 
 -- its widths are from 1 to 64, and its depth is one that a memory can have
 abbrev pub Sound : Declared → Type 0
@@ -35,7 +36,7 @@ sound_append [] fs a b = b
 sound_append (e ∷ es) fs a b = (a.0, sound_append es fs a.1 b)
 
 pub width_sound : (n : Numeral) → width_faults n ≡ [] → is_sound (sound_width n.value) ≡ true
-width_sound n h = not_true (is_sound (sound_width n.value)) (no_fault (not (is_sound (sound_width n.value))) E7 n.place h)
+width_sound n h = not-false (is_sound (sound_width n.value)) (no_fault (not (is_sound (sound_width n.value))) E7 n.place h)
 
 declared_sound : (levels : List (List ℕ)) (le : ℕ → ℕ → Bool) (d : Decl) → declaration_faults levels le d ≡ [] → Sound (entity_of d).what
 declared_sound levels le (decl.Input place name width) h = width_sound width h
@@ -44,7 +45,7 @@ declared_sound levels le (decl.Register place name width kind start) h =
 declared_sound levels le (decl.Memory place name width depth kind) h =
     let shallow = not (is_sound (index_bits depth.value)) in
     let n = none_three (width_faults width) (fault_if shallow E7 depth.place) (kind_faults levels le kind) h in
-    (width_sound width n.0, not_true (is_sound (index_bits depth.value)) (no_fault shallow E7 depth.place n.1))
+    (width_sound width n.0, not-false (is_sound (index_bits depth.value)) (no_fault shallow E7 depth.place n.1))
 
 all_declared_sound : (levels : List (List ℕ)) (le : ℕ → ℕ → Bool) (ds : List Decl) → declarations_faults levels le ds ≡ [] → AllSound (declared_in ds)
 all_declared_sound levels le [] h = tt

@@ -1,5 +1,8 @@
 -- An expression in which no fault stands gives a term whose names are known and whose widths fit.
 use Rattle.std.proofs.Common.{◌≡◌, ℕ, ◌+◌, ◌^◌, ◌≤◌, List, [], Bool, true, not, ◌&&◌, ◌||◌, Option, Some, None, refl, sym, ap, ◌∙◌, arith}
+use Rattle.sap_lemmas.proofs.Options.{some_same}
+use Rattle.std.proofs.lemmas.Bool.{not-false}
+use Rattle.sap_names.proofs.NameFaultsLemmas.{no_fault}
 use Rattle.sap_tree.specs.declared.place.Place.{Place}
 use Rattle.sap_tree.specs.Syntax.{Expression, Number, Sized, Read, Cell, Unary, Binary, Choose, Slice, Concat, Zext, Expressions, NoPart, AndPart}
 use Rattle.sap_names.specs.declared.kind.Declared.{Declared}
@@ -19,14 +22,14 @@ use Rattle.sap_meaning.specs.Fine.{FineTerm}
 use Rattle.sap_meaning.specs.Sized.{depth, Indexed}
 use Rattle.sap_resolve.specs.Terms.{known, entity_number, term_of, parts_of}
 use Rattle.sap_resolve.proofs.Lookup.{Stands}
-use Rattle.sap_resolve.proofs.sized.Faultless.{none_two, none_three, none_four, no_fault, not_true, settled_own, sound_some, some_sound, sound_whole, same_some, fits_width, sound_same, index_power, slice_is, extended_is, joined_is}
+use Rattle.sap_resolve.proofs.sized.Faultless.{none_two, none_three, none_four, settled_own, sound_some, some_sound, sound_whole, fits_width, sound_same, index_power, slice_is, extended_is, joined_is}
 use Rattle.sap_resolve.proofs.sized.Declared.{Sound, Resolved}
 use Rattle.sap_resolve.proofs.sized.Operators.{Fitted, asked_width, own_width, unary_fitted, binary_fitted, choose_fitted, widened_fitted}
 
 -- what is declared of a name that is used so
 pub used : (how : Uses) (o : Option Declared) (place : Place) → use_faults how o place ≡ [] → (x : Declared) × (o ≡ Some x) × (fits_use how x ≡ true)
 used how None place h = cc
-used how (Some x) place h = (x, refl, not_true (fits_use how x) (no_fault (not (fits_use how x)) E5 place h))
+used how (Some x) place h = (x, refl, not-false (fits_use how x) (no_fault (not (fits_use how x)) E5 place h))
 
 -- the entity of a name that is read plain
 record ReadAs (w : World) (x : Declared) (n : ℕ) : Type 0 where
@@ -99,7 +102,7 @@ module _ (es : List Entity) (w : World) (r : Resolved es w) where
     expression_fitted (Sized spot u value) asked h =
         let n = none_three (fault_if (unsettled (sound_width u) asked) E7 spot.first) (fault_if (not (is_sound (sound_width u))) E7 spot.at)
         (fault_if (too_large (sound_width u) value) E8 spot.at) h in
-        let s = sound_same u (not_true (is_sound (sound_width u)) (no_fault (not (is_sound (sound_width u))) E7 spot.at n.1)) in
+        let s = sound_same u (not-false (is_sound (sound_width u)) (no_fault (not (is_sound (sound_width u))) E7 spot.at n.1)) in
         record {
           settles = no_fault (unsettled (sound_width u) asked) E7 spot.first n.0;
           wide = ap (λ o. else_of o asked) s;
@@ -197,7 +200,7 @@ module _ (es : List Entity) (w : World) (r : Resolved es w) where
         (no_fault (unsettled mine asked) E7 spot.first n.0) (l ∙ sym k) from f.fine f.fits f.indexed
 
     pub parts_fitted : (ps : Expressions) → parts_faults what ps ≡ [] → FittedParts w (parts_of es ps) (own_parts what ps) (all_sound what ps)
-    parts_fitted NoPart h = record { sound = refl; wide = λ u e. same_some 0 u e; fine = tt; fits = omega arith; indexed = tt }
+    parts_fitted NoPart h = record { sound = refl; wide = λ u e. some_same 0 u e; fine = tt; fits = omega arith; indexed = tt }
     parts_fitted (AndPart e NoPart) h =
         let n = none_two (expression_faults what e None) [] h in
         let f = expression_fitted e None n.0 in
@@ -205,7 +208,7 @@ module _ (es : List Entity) (w : World) (r : Resolved es w) where
         record {
           sound = ap (λ b. b && true) (some_sound (own what e) i.0 i.1);
           wide = λ u j. (let p = joined_is (own what e) (Some 0) u j in
-              let x : 0 ≡ p.1 = same_some 0 p.1 p.3 in
+              let x : 0 ≡ p.1 = some_same 0 p.1 p.3 in
               let y : width_of w (term_of es e None) ≡ p.0 = own_width w (term_of es e None) (own what e) None p.0 p.2 f in
               let z : p.0 + p.1 ≡ u = p.4 in
               omega arith);
@@ -234,4 +237,4 @@ module _ (es : List Entity) (w : World) (r : Resolved es w) where
   -- the width that an expression has is that of its term
   pub expression_width : (e : Expression) (asked : Option ℕ) (u : ℕ) → expression_faults what e asked ≡ [] → widths.width_of what e asked ≡ Some u
       → width_of w (term_of es e asked) ≡ u
-  expression_width e asked u h i = same_some (width_of w (term_of es e asked)) u (sym (expression_fitted e asked h).wide ∙ i)
+  expression_width e asked u h i = some_same (width_of w (term_of es e asked)) u (sym (expression_fitted e asked h).wide ∙ i)

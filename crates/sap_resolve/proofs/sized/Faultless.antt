@@ -1,59 +1,32 @@
 -- Where no fault stands, each test of one is false; and what that says of widths.
-use Rattle.std.proofs.Common.{◌≡◌, ℕ, zero, suc, ◌+◌, ◌-◌, ◌^◌, ◌<◌, ◌≤◌, List, [], ◌∷◌, ◌++◌, Bool, true, false, not, ◌&&◌, Option, Some, None, refl, sym, ap, ◌∙◌, subst, arith, inl, inr, if◌then◌else◌}
+use Rattle.std.proofs.Common.{◌≡◌, ℕ, zero, suc, ◌+◌, ◌-◌, ◌^◌, ◌<◌, ◌≤◌, List, [], ◌++◌, Bool, true, false, not, ◌&&◌, Option, Some, None, refl, sym, ap, ◌∙◌, subst, arith, inl, inr, if◌then◌else◌}
 use Rattle.std.specs.Prelude.{eqb, leb, ltb}
-use Rattle.std.proofs.lemmas.Bool.{cases_Bool, eqb-true, leb-true, leb-false, ltb-true}
-use Rattle.sap_tree.specs.declared.place.Place.{Place}
-use Rattle.sap_names.specs.declared.kind.Code.{Code}
+use Rattle.std.proofs.lemmas.Bool.{cases_Bool, eqb-true, leb-true, leb-false, ltb-true, not-false}
+use Rattle.sap_lemmas.proofs.Options.{some_same}
+use Rattle.sap_names.proofs.FaultLemmas.{nil_left, nil_right}
 use Rattle.sap_names.specs.declared.fault.Fault.{Fault}
-use Rattle.sap_names.specs.NameFaults.{fault_if, unsettled, too_large}
+use Rattle.sap_names.specs.NameFaults.{unsettled, too_large}
 use Rattle.sap_resolve.specs.Sized.Ranges.{IsWidth, IsDepth}
 use Rattle.sap_names.specs.Widths.{sound_width, bits_up_to, index_bits, else_of, extended, sliced, joined, is_sound}
 
-pub none_left : (xs ys : List Fault) → xs ++ ys ≡ [] → xs ≡ []
-none_left [] ys h = refl
-none_left (x ∷ xs) ys h = cc
-
-pub none_right : (xs ys : List Fault) → xs ++ ys ≡ [] → ys ≡ []
-none_right [] ys h = h
-none_right (x ∷ xs) ys h = cc
-
 -- no fault in two lists, three or four
 pub none_two : (xs ys : List Fault) → xs ++ ys ≡ [] → (xs ≡ []) × (ys ≡ [])
-none_two xs ys h = (none_left xs ys h, none_right xs ys h)
+none_two xs ys h = (nil_left xs ys h, nil_right xs ys h)
 
 pub none_three : (xs ys zs : List Fault) → xs ++ ys ++ zs ≡ [] → (xs ≡ []) × (ys ≡ []) × (zs ≡ [])
 none_three xs ys zs h =
-    let l = none_left (xs ++ ys) zs h in
-    (none_left xs ys l, none_right xs ys l, none_right (xs ++ ys) zs h)
+    let l = nil_left (xs ++ ys) zs h in
+    (nil_left xs ys l, nil_right xs ys l, nil_right (xs ++ ys) zs h)
 
 pub none_four : (xs ys zs us : List Fault) → xs ++ ys ++ zs ++ us ≡ [] → (xs ≡ []) × (ys ≡ []) × (zs ≡ []) × (us ≡ [])
 none_four xs ys zs us h =
-    let l = none_three xs ys zs (none_left (xs ++ ys ++ zs) us h) in
-    (l.0, l.1, l.2, none_right (xs ++ ys ++ zs) us h)
-
-pub no_fault : (test : Bool) (code : Code) (place : Place) → fault_if test code place ≡ [] → test ≡ false
-no_fault true code place h = cc
-no_fault false code place h = refl
-
-pub not_true : (b : Bool) → not b ≡ false → b ≡ true
-not_true true h = refl
-not_true false h = cc
-
--- several tests at once
-pub both_true : (a b : Bool) → (a && b) ≡ true → (a ≡ true) × (b ≡ true)
-both_true true b h = (refl, h)
-both_true false b h = cc
-
-pub three_true : (a b c : Bool) → (a && b && c) ≡ true → (a ≡ true) × (b ≡ true) × (c ≡ true)
-three_true a b c h =
-    let l = both_true (a && b) c h in
-    let m = both_true a b l.0 in
-    (m.0, m.1, l.1)
+    let l = none_three xs ys zs (nil_left (xs ++ ys ++ zs) us h) in
+    (l.0, l.1, l.2, nil_right (xs ++ ys ++ zs) us h)
 
 -- own and asked-for width settle to one
 pub settled_as : (mine : Option ℕ) (r : ℕ) → unsettled mine (Some r) ≡ false → else_of mine (Some r) ≡ Some r
 settled_as None r h = refl
-settled_as (Some w) r h = ap (λ n. Some n) (eqb-true w r (not_true (eqb w r) h))
+settled_as (Some w) r h = ap (λ n. Some n) (eqb-true w r (not-false (eqb w r) h))
 
 pub settled : (mine asked : Option ℕ) → unsettled mine asked ≡ false → (u : ℕ) × (else_of mine asked ≡ Some u)
 settled None None h = cc
@@ -78,18 +51,15 @@ pub sound_whole : (mine : Option ℕ) (parts : Bool) → (not (is_sound mine) &&
 sound_whole None parts h p = cc
 sound_whole (Some w) parts h p = (w, refl)
 
-pub same_some : (a b : ℕ) → Some a ≡ Some b → a ≡ b
-same_some a b h = cc
-
 pub fits_width : (mine : Option ℕ) (w value : ℕ) → mine ≡ Some w → too_large mine value ≡ false → value < 2 ^ w
 fits_width None w value e h = cc
-fits_width (Some u) w value e h = subst (λ (k : ℕ). value < 2 ^ k) (same_some u w e) (leb-false (2 ^ u) value h)
+fits_width (Some u) w value e h = subst (λ (k : ℕ). value < 2 ^ k) (some_same u w e) (leb-false (2 ^ u) value h)
 
 pub sound_is : (w u : ℕ) → sound_width w ≡ Some u → (w ≡ u) × IsWidth w
 sound_is w u h = part (leb 1 w) (leb w 64) refl refl h
   where
     part : (a b : Bool) → leb 1 w ≡ a → leb w 64 ≡ b → (if a && b then Some w else None) ≡ Some u → (w ≡ u) × IsWidth w
-    part true true i j k = (same_some w u k, (leb-true 1 w i, leb-true w 64 j))
+    part true true i j k = (some_same w u k, (leb-true 1 w i, leb-true w 64 j))
     part true false i j k = cc
     part false b i j k = cc
 
@@ -104,7 +74,7 @@ power_bits zero depth b h = cc
 power_bits (suc n) depth b h = elim (cases_Bool (eqb depth (2 ^ suc n))) [
   | inl t ↦
       let e : Some (suc n) ≡ Some b = rw t at h in
-      let f : suc n ≡ b = same_some (suc n) b e in
+      let f : suc n ≡ b = some_same (suc n) b e in
       (omega arith, omega arith, subst (λ (k : ℕ). depth ≡ 2 ^ k) f (eqb-true depth (2 ^ suc n) t))
   | inr t ↦
       let p = power_bits n depth b (rw t at h) in
@@ -131,7 +101,7 @@ slice_is (Some w) high low u h = part (leb low high) (ltb high w) refl refl h
     part true true i j k =
         let l : low ≤ high = leb-true low high i in
         let m : high < w = ltb-true high w j in
-        let e : high - low + 1 ≡ u = same_some (high - low + 1) u k in
+        let e : high - low + 1 ≡ u = some_same (high - low + 1) u k in
         record { whole = w; is = refl; order = l; within = m; wide = omega arith }
     part true false i j k = cc
     part false b i j k = cc
@@ -143,7 +113,7 @@ extended_is (Some w) width u h = part (leb w width) (leb width 64) refl refl h
   where
     part : (a b : Bool) → leb w width ≡ a → leb width 64 ≡ b → (if a && b then Some width else None) ≡ Some u
         → (v : ℕ) × (Some w ≡ Some v) × (v ≤ width) × (width ≡ u) × (width ≤ 64)
-    part true true i j k = (w, refl, leb-true w width i, same_some width u k, leb-true width 64 j)
+    part true true i j k = (w, refl, leb-true w width i, some_same width u k, leb-true width 64 j)
     part true false i j k = cc
     part false b i j k = cc
 
@@ -156,7 +126,7 @@ joined_is (Some a) (Some b) u h = part (leb (a + b) 64) refl h
     part : (t : Bool) → leb (a + b) 64 ≡ t → (if t then Some (a + b) else None) ≡ Some u
         → (x : ℕ) × (y : ℕ) × (Some a ≡ Some x) × (Some b ≡ Some y) × (x + y ≡ u) × (u ≤ 64)
     part true i k =
-        let e : a + b ≡ u = same_some (a + b) u k in
+        let e : a + b ≡ u = some_same (a + b) u k in
         let l : a + b ≤ 64 = leb-true (a + b) 64 i in
         (a, b, refl, refl, e, omega arith)
     part false i k = cc

@@ -3,6 +3,7 @@ use Rattle.std.proofs.Common.{◌≡◌, ℕ, ◌+◌, ◌-◌, ◌≤◌, Bool,
 use Rattle.std.specs.Prelude.{eqb}
 use Rattle.std.proofs.lemmas.Bool.{cases_Bool, eqb-true}
 use Rattle.std.proofs.Math.Pow.{pow_pos}
+use Rattle.sap_lemmas.proofs.Options.{some_same}
 use Rattle.sap_bits.specs.Arithmetic.{width1, width2}
 use Rattle.sap_tree.specs.declared.syntax.UnaryOperator.{UnaryOperator}
 use Rattle.sap_tree.specs.declared.syntax.UnaryOperator.TheVariants.{Not, Neg, AllOnes, AnyOne, Odd}
@@ -18,7 +19,7 @@ use Rattle.sap_meaning.specs.Expressions.{width_of}
 use Rattle.sap_meaning.specs.Fine.{FineTerm}
 use Rattle.sap_meaning.specs.Sized.{Indexed}
 use Rattle.sap_resolve.specs.Terms.{one_of, two_of, widened}
-use Rattle.sap_resolve.proofs.sized.Faultless.{settled_as, settled, same_some}
+use Rattle.sap_resolve.proofs.sized.Faultless.{settled_as, settled}
 
 -- A term for an expression with this own width, where this width or none is asked for.
 pub record Fitted (w : World) (t : Term ℕ) (mine asked : Option ℕ) : Type 0 where
@@ -32,12 +33,12 @@ pub record Fitted (w : World) (t : Term ℕ) (mine asked : Option ℕ) : Type 0 
 pub asked_width : (w : World) (t : Term ℕ) (mine asked : Option ℕ) (u : ℕ) → asked ≡ Some u → Fitted w t mine asked → width_of w t ≡ u
 asked_width w t mine None u e f = cc
 asked_width w t mine (Some r) u e f =
-    same_some (width_of w t) u (sym f.wide ∙ settled_as mine r f.settles ∙ e)
+    some_same (width_of w t) u (sym f.wide ∙ settled_as mine r f.settles ∙ e)
 
 -- or its own
 pub own_width : (w : World) (t : Term ℕ) (mine asked : Option ℕ) (u : ℕ) → mine ≡ Some u → Fitted w t mine asked → width_of w t ≡ u
 own_width w t None asked u e f = cc
-own_width w t (Some r) asked u e f = same_some (width_of w t) u (sym f.wide ∙ e)
+own_width w t (Some r) asked u e f = some_same (width_of w t) u (sym f.wide ∙ e)
 
 plain_width1 : (o : UnaryOperator) (u : ℕ) → is_reduction o ≡ false → width1 (one_of o) u ≡ u
 plain_width1 Not u h = refl
@@ -200,7 +201,7 @@ pub widened_fitted : (w : World) (t : Term ℕ) (from u : ℕ) (mine asked : Opt
     → width_of w t ≡ from → from ≤ u → FineTerm w t → TermFits (width w) t → Indexed w t → Fitted w (widened from u t) mine asked
 widened_fitted w t from u None asked e s i l fine fits indexed = cc
 widened_fitted w t from u (Some v) asked e s i l fine fits indexed =
-    let m : v ≡ u = same_some v u e in
+    let m : v ≡ u = some_same v u e in
     elim (cases_Bool (eqb from u)) [
       | inl q ↦
           let n : from ≡ u = eqb-true from u q in

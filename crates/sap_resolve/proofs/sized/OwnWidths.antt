@@ -1,5 +1,8 @@
 -- Own widths are from 1 to 64, where concatenations have parts.
 use Rattle.std.proofs.Common.{◌≡◌, ℕ, ◌+◌, ◌-◌, ◌<◌, ◌≤◌, Bool, true, false, Option, Some, None, subst, arith, if◌then◌else◌}
+use Rattle.sap_lemmas.proofs.Bools.{three_parts}
+use Rattle.sap_lemmas.proofs.Options.{some_same}
+use Rattle.std.proofs.lemmas.Bool.{and_parts}
 use Rattle.sap_tree.specs.Syntax.{Expression, Number, Sized, Read, Cell, Unary, Binary, Choose, Slice, Concat, Zext, NoPart, AndPart}
 use Rattle.sap_tree.specs.declared.version.Version.{Version}
 use Rattle.sap_tree.specs.Whole.{is_number, has_two_parts, is_expression, are_expressions}
@@ -10,7 +13,7 @@ use Rattle.sap_names.specs.declared.kind.Family.TheVariants.{Arithmetic, Shift, 
 use Rattle.sap_names.specs.Entities.{Lookup}
 use Rattle.sap_names.specs.Widths.{sound_width, plain_width, register_width, cell_width, index_width, else_of, own, own_parts, own_binary, family, asked_left, asked_right, asked_count, is_reduction, sliced, extended}
 use Rattle.sap_resolve.specs.Sized.Ranges.{IsWidth}
-use Rattle.sap_resolve.proofs.sized.Faultless.{sound_is, same_some, index_power, slice_is, extended_is, joined_is, both_true, three_true}
+use Rattle.sap_resolve.proofs.sized.Faultless.{sound_is, index_power, slice_is, extended_is, joined_is}
 
 -- where it is a width, it is from 1 to 64
 abbrev pub Ranges : Option ℕ → Type 0
@@ -20,7 +23,7 @@ pub range_none : Ranges None
 range_none u h = cc
 
 pub range_some : (v : ℕ) → IsWidth v → Ranges (Some v)
-range_some v r u h = subst (λ (k : ℕ). IsWidth k) (same_some v u h) r
+range_some v r u h = subst (λ (k : ℕ). IsWidth k) (some_same v u h) r
 
 pub range_one : Ranges (Some 1)
 range_one = range_some 1 (omega arith, omega arith)
@@ -118,21 +121,21 @@ own_ranges version what (Read spot name) i = plain_ranges (what name)
 own_ranges version what (Cell spot name index) i = cell_ranges (what name)
 own_ranges version what (Unary spot o e) i = one_ranges (is_reduction o) (own what e) (own_ranges version what e i)
 own_ranges version what (Binary spot o a b) i =
-    let n = both_true (is_expression version a) (is_expression version b) i in
+    let n = and_parts (is_expression version a) (is_expression version b) i in
     binary_ranges (family o) (own what a) (own what b) (own_ranges version what a n.0) (own_ranges version what b n.1)
 own_ranges version what (Choose spot c a b) i =
-    let n = three_true (is_expression version c) (is_expression version a) (is_expression version b) i in
+    let n = three_parts (is_expression version c) (is_expression version a) (is_expression version b) i in
     else_ranges (own what a) (own what b) (own_ranges version what a n.1) (own_ranges version what b n.2)
 own_ranges version what (Slice spot e high low) i =
-    slice_ranges (own what e) high low (own_ranges version what e (three_true (is_expression version e) (is_number high) (is_number low) i).0)
+    slice_ranges (own what e) high low (own_ranges version what e (three_parts (is_expression version e) (is_number high) (is_number low) i).0)
 own_ranges version what (Concat spot NoPart) i = cc
 own_ranges version what (Concat spot (AndPart e parts)) i =
-    let n = both_true (has_two_parts (AndPart e parts)) (are_expressions version (AndPart e parts)) i in
-    let m = both_true (is_expression version e) (are_expressions version parts) n.1 in
+    let n = and_parts (has_two_parts (AndPart e parts)) (are_expressions version (AndPart e parts)) i in
+    let m = and_parts (is_expression version e) (are_expressions version parts) n.1 in
     λ u h. (let j = joined_is (own what e) (own_parts what parts) u h in
     let k = own_ranges version what e m.0 j.0 j.2 in
     let bottom : 1 ≤ j.0 = k.0 in
     let sum : j.0 + j.1 ≡ u = j.4 in
     (omega arith, j.5))
 own_ranges version what (Zext spot e width) i =
-    extended_ranges (own what e) width (own_ranges version what e (both_true (is_expression version e) (is_number width) i).0)
+    extended_ranges (own what e) width (own_ranges version what e (and_parts (is_expression version e) (is_number width) i).0)

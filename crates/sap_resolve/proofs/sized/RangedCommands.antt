@@ -1,6 +1,8 @@
 -- In the commands and states of a design without faults every width is from 1 to 64.
 use Rattle.std.proofs.Common.{◌≡◌, ℕ, ◌+◌, List, [], Bool, true, ◌&&◌, Option, Some, None, length}
 use Rattle.std.specs.Prelude.{nat_le}
+use Rattle.sap_lemmas.proofs.Bools.{three_parts}
+use Rattle.std.proofs.lemmas.Bool.{and_parts}
 use Rattle.sap_tree.specs.Extent.{fits, tag_fits}
 use Rattle.sap_tree.specs.Limits.{most_arms, most_blocks}
 use Rattle.sap_tree.specs.Syntax as tree
@@ -21,7 +23,7 @@ use Rattle.sap_resolve.specs.Worlds.{states_in}
 use Rattle.sap_resolve.specs.Terms.{term_of, level_term, level_terms}
 use Rattle.sap_resolve.specs.Resolve.{site_number, step_of, command_of, arms_of, block_of, else_of, list_of, state_of, group_of}
 use Rattle.sap_resolve.specs.Sized.Ranges.{RangedTerm, RangedLevel, RangedStep, Ranged, RangedArms, RangedBlock, RangedState, RangedGroup}
-use Rattle.sap_resolve.proofs.sized.Faultless.{none_two, none_three, both_true, three_true}
+use Rattle.sap_resolve.proofs.sized.Faultless.{none_two, none_three}
 use Rattle.sap_resolve.proofs.sized.Declared.{Resolved}
 use Rattle.sap_resolve.proofs.sized.OwnWidths.{Ranges, range_none, range_one, cell_ranges, index_ranges, register_ranges}
 use Rattle.sap_resolve.proofs.sized.RangedTerms.{term_ranged}
@@ -29,7 +31,7 @@ use Rattle.sap_resolve.proofs.sized.RangedTerms.{term_ranged}
 module _ (version : Version) (ls : Levels) (es : List Entity) (w : World) (r : Resolved es w) where
   outer_ranged : (e : Expression) (asked : Option ℕ) → is_outermost version e ≡ true → Ranges asked → expression_faults (what_is es) e asked ≡ []
       → RangedTerm w (term_of es e asked)
-  outer_ranged e asked i a h = term_ranged version es w r e asked (both_true (is_expression version e) (fits e) i).0 a h
+  outer_ranged e asked i a h = term_ranged version es w r e asked (and_parts (is_expression version e) (fits e) i).0 a h
 
   mutual
     unfolding is_tag are_tags
@@ -38,19 +40,19 @@ module _ (version : Version) (ls : Levels) (es : List Entity) (w : World) (r : R
     tag_ranged (Level m) i h = tt
     tag_ranged (TagOf place e) i h = term_ranged version es w r e None i range_none h
     tag_ranged (LevelAt place e) i h = term_ranged version es w r e None i range_none h
-    tag_ranged (Join place parts) i h = tags_ranged parts (both_true (has_two_tags parts) (are_tags version parts) i).1 h
+    tag_ranged (Join place parts) i h = tags_ranged parts (and_parts (has_two_tags parts) (are_tags version parts) i).1 h
 
     tags_ranged : (ts : TagExpressions) → are_tags version ts ≡ true → tags_faults ls.names (what_is es) ts ≡ [] → RangedLevel w (level_terms ls es ts)
     tags_ranged NoTag i h = tt
     tags_ranged (AndTag t NoTag) i h =
-        tag_ranged t (both_true (is_tag version t) true i).0 (none_two (tag_faults ls.names (what_is es) t) [] h).0
+        tag_ranged t (and_parts (is_tag version t) true i).0 (none_two (tag_faults ls.names (what_is es) t) [] h).0
     tags_ranged (AndTag t (AndTag u ts)) i h =
-        let j = both_true (is_tag version t) (are_tags version (AndTag u ts)) i in
+        let j = and_parts (is_tag version t) (are_tags version (AndTag u ts)) i in
         let n = none_two (tag_faults ls.names (what_is es) t) (tags_faults ls.names (what_is es) (AndTag u ts)) h in
         (tag_ranged t j.0 n.0, tags_ranged (AndTag u ts) j.1 n.1)
 
   outer_tag_ranged : (t : TagExpression) → is_outermost_tag version t ≡ true → tag_faults ls.names (what_is es) t ≡ [] → RangedLevel w (level_term ls es t)
-  outer_tag_ranged t i h = tag_ranged t (both_true (is_tag version t) (tag_fits t) i).0 h
+  outer_tag_ranged t i h = tag_ranged t (and_parts (is_tag version t) (tag_fits t) i).0 h
 
 module _ (version : Version) (ls : Levels) (h : Home) (w : World) (r : Resolved h.entities w) where
   abbrev es : List Entity
@@ -63,12 +65,12 @@ module _ (version : Version) (ls : Levels) (h : Home) (w : World) (r : Resolved 
   unfolding is_simple
   step_ranged k (Assign target e) i f =
       let asked = register_width (what target.name) in
-      let j = both_true (is_name version target.name) (is_outermost version e) i in
+      let j = and_parts (is_name version target.name) (is_outermost version e) i in
       let n = none_two (name_faults assigned what target) (expression_faults what e asked) f in
       outer_ranged version ls es w r e asked j.1 (register_ranges (what target.name)) n.1
   step_ranged k (Write target index e) i f =
       let asked = cell_width (what target.name) in
-      let j = three_true (is_name version target.name) (is_outermost version index) (is_outermost version e) i in
+      let j = three_parts (is_name version target.name) (is_outermost version index) (is_outermost version e) i in
       let n = none_three (name_faults indexed what target) (expression_faults what index (index_width (what target.name)))
       (expression_faults what e asked) f in (
         outer_ranged version ls es w r index (index_width (what target.name)) j.1 (index_ranges (what target.name)) n.1,
@@ -76,9 +78,9 @@ module _ (version : Version) (ls : Levels) (h : Home) (w : World) (r : Resolved 
       )
   step_ranged k (SetTag place target tag) i f =
       let n = none_two (name_faults retagged what target) (tag_faults ls.names what tag) f in
-      outer_tag_ranged version ls es w r tag (both_true (is_name version target.name) (is_outermost_tag version tag) i).1 n.1
+      outer_tag_ranged version ls es w r tag (and_parts (is_name version target.name) (is_outermost_tag version tag) i).1 n.1
   step_ranged k (SetCellTag place target index tag) i f =
-      let j = three_true (is_name version target.name) (is_outermost version index) (is_outermost_tag version tag) i in
+      let j = three_parts (is_name version target.name) (is_outermost version index) (is_outermost_tag version tag) i in
       let n = none_three (name_faults indexed what target) (expression_faults what index (index_width (what target.name))) (tag_faults ls.names what tag) f in
       (outer_ranged version ls es w r index (index_width (what target.name)) j.1 (index_ranges (what target.name)) n.1, outer_tag_ranged version ls es w r tag j.2 n.2)
   step_ranged k (Goto place target) i f = tt
@@ -90,32 +92,32 @@ module _ (version : Version) (ls : Levels) (h : Home) (w : World) (r : Resolved 
     command_ranged : (k : ℕ) (c : Command) → is_command version c ≡ true → command_faults ls.names what c ≡ [] → Ranged w (command_of ls h k c)
     command_ranged k (Do c) i f = step_ranged (site_number h k c) c i f
     command_ranged k (Try c place handler) i f =
-        let j = both_true (is_simple version c) (is_block version handler) i in
+        let j = and_parts (is_simple version c) (is_block version handler) i in
         let n = none_two (simple_faults ls.names what c) (block_faults ls.names what handler) f in
         (step_ranged (site_number h k c) c j.0 n.0, block_ranged (k + length (simple_sites h c)) handler j.1 n.1)
     command_ranged k (If place condition one other) i f =
-        let j = three_true (is_outermost version condition) (is_block version one) (is_else version other) i in
+        let j = three_parts (is_outermost version condition) (is_block version one) (is_else version other) i in
         let n = none_three (expression_faults what condition (Some 1)) (block_faults ls.names what one) (else_faults ls.names what other) f in
         (outer_ranged version ls es w r condition (Some 1) j.0 range_one n.0, block_ranged k one j.1 n.1, else_ranged (k + length (block_sites h one)) other j.2 n.2)
     command_ranged k (TryThen c place one other) i f =
-        let j = both_true (is_second version && is_simple version c && is_block version one) (is_block version other) i in
-        let m = both_true (is_second version && is_simple version c) (is_block version one) j.0 in
-        let p = both_true (is_second version) (is_simple version c) m.0 in
+        let j = and_parts (is_second version && is_simple version c && is_block version one) (is_block version other) i in
+        let m = and_parts (is_second version && is_simple version c) (is_block version one) j.0 in
+        let p = and_parts (is_second version) (is_simple version c) m.0 in
         let n = none_three (simple_faults ls.names what c) (block_faults ls.names what one) (block_faults ls.names what other) f in
         (step_ranged (site_number h k c) c p.1 n.0, block_ranged (k + length (simple_sites h c)) one m.1 n.1, block_ranged (k + length (simple_sites h c) + length (block_sites h one)) other j.1 n.2)
     command_ranged k (Case place e arms) i f =
-        let j = both_true (is_second version && is_outermost version e && has_arm arms && nat_le (arm_count arms) most_arms) (are_arms version arms) i in
-        let m = both_true (is_second version && is_outermost version e && has_arm arms) (nat_le (arm_count arms) most_arms) j.0 in
-        let p = both_true (is_second version && is_outermost version e) (has_arm arms) m.0 in
-        let q = both_true (is_second version) (is_outermost version e) p.0 in
+        let j = and_parts (is_second version && is_outermost version e && has_arm arms && nat_le (arm_count arms) most_arms) (are_arms version arms) i in
+        let m = and_parts (is_second version && is_outermost version e && has_arm arms) (nat_le (arm_count arms) most_arms) j.0 in
+        let p = and_parts (is_second version && is_outermost version e) (has_arm arms) m.0 in
+        let q = and_parts (is_second version) (is_outermost version e) p.0 in
         let n = none_two (expression_faults what e None) (arms_faults ls.names what (own what e) arms) f in
         (outer_ranged version ls es w r e None q.1 range_none n.0, arms_ranged k (own what e) arms j.1 n.1)
 
     arms_ranged : (k : ℕ) (asked : Option ℕ) (arms : Arms) → are_arms version arms ≡ true → arms_faults ls.names what asked arms ≡ [] → RangedArms w (arms_of ls h k arms)
     arms_ranged k asked (Last b) i f = block_ranged k b i f
     arms_ranged k asked (tree.Arm constants b arms) i f =
-        let j = both_true (has_constant constants && are_constants constants && is_block version b) (are_arms version arms) i in
-        let m = both_true (has_constant constants && are_constants constants) (is_block version b) j.0 in
+        let j = and_parts (has_constant constants && are_constants constants && is_block version b) (are_arms version arms) i in
+        let m = and_parts (has_constant constants && are_constants constants) (is_block version b) j.0 in
         let n = none_three (constants_faults what asked constants) (block_faults ls.names what b) (arms_faults ls.names what asked arms) f in
         (block_ranged k b m.1 n.1, arms_ranged (k + length (block_sites h b)) asked arms j.1 n.2)
 
@@ -129,7 +131,7 @@ module _ (version : Version) (ls : Levels) (h : Home) (w : World) (r : Resolved 
     list_ranged : (k : ℕ) (cs : CommandList) → are_commands version cs ≡ true → commands_faults ls.names what cs ≡ [] → RangedBlock w (list_of ls h k cs)
     list_ranged k NoCommand i f = tt
     list_ranged k (AndCommand c cs) i f =
-        let j = both_true (is_command version c) (are_commands version cs) i in
+        let j = and_parts (is_command version c) (are_commands version cs) i in
         let n = none_two (command_faults ls.names what c) (commands_faults ls.names what cs) f in
         (command_ranged k c j.0 n.0, list_ranged (k + length (command_sites h c)) cs j.1 n.1)
 
@@ -141,14 +143,14 @@ module _ (version : Version) (ls : Levels) (le : ℕ → ℕ → Bool) (es : Lis
     state_ranged k x (StateOf place name kind body children) i f =
         let n = none_three (kind_faults ls.names le kind) (block_faults ls.names (what_is es) body) (states_faults ls.names le (what_is es) children) f in
         let h : Home = record { entities = es; name = name.name; kind = kind; children = children } in
-        let j = both_true (is_name version name.name && is_kind version kind && is_block version body && nat_le (block_depth body) most_blocks) (are_states version children) i in
-        let m = both_true (is_name version name.name && is_kind version kind && is_block version body) (nat_le (block_depth body) most_blocks) j.0 in
-        let b = both_true (is_name version name.name && is_kind version kind) (is_block version body) m.0 in
+        let j = and_parts (is_name version name.name && is_kind version kind && is_block version body && nat_le (block_depth body) most_blocks) (are_states version children) i in
+        let m = and_parts (is_name version name.name && is_kind version kind && is_block version body) (nat_le (block_depth body) most_blocks) j.0 in
+        let b = and_parts (is_name version name.name && is_kind version kind) (is_block version body) m.0 in
         (block_ranged version ls h w r k body b.1 n.1, group_ranged (k + length (block_sites h body)) (x + 1) children j.1 n.2)
 
     pub group_ranged : (k x : ℕ) (g : StateList) → are_states version g ≡ true → states_faults ls.names le (what_is es) g ≡ [] → RangedGroup w (group_of ls es k x g)
     group_ranged k x NoState i f = tt
     group_ranged k x (AndState s rest) i f =
-        let j = both_true (is_state version s) (are_states version rest) i in
+        let j = and_parts (is_state version s) (are_states version rest) i in
         let n = none_two (state_faults ls.names le (what_is es) s) (states_faults ls.names le (what_is es) rest) f in
         (state_ranged k x s j.0 n.0, group_ranged (k + length (state_sites es s)) (x + states_in s) rest j.1 n.1)

@@ -1,6 +1,7 @@
 -- The law of ranges: filling in what hangs changes no width, and the entities' widths and depths are in range.
 use Rattle.std.proofs.Common.{◌≡◌, ℕ, zero, suc, List, [], ◌∷◌, length, true, false, get_or, sym, ap, subst}
 use Rattle.std.specs.List.{list_all}
+use Rattle.sap_lemmas.proofs.Bools.{three_parts}
 use Rattle.sap_tree.specs.Syntax.{DesignTree}
 use Rattle.sap_tree.specs.Whole.{is_declaration, has_state, are_states, is_tree}
 use Rattle.sap_lattice.specs.Levels.{order_of}
@@ -18,7 +19,7 @@ use Rattle.sap_resolve.specs.Fill.{filled_step, filled, filled_arms, filled_bloc
 use Rattle.sap_resolve.proofs.Lookup.{Stands, AllMatch, entities_match}
 use Rattle.sap_resolve.specs.Sized.Ranges.{IsWidth, IsDepth, RangedStep, Ranged, RangedArms, RangedBlock, RangedState, RangedGroup}
 use Rattle.sap_resolve.specs.Sized.Sound.{WidthsInRange}
-use Rattle.sap_resolve.proofs.sized.Faultless.{three_true, sound_some, sound_same, sound_is, index_power}
+use Rattle.sap_resolve.proofs.sized.Faultless.{sound_some, sound_same, sound_is, index_power}
 use Rattle.sap_resolve.proofs.sized.Declared.{Sound, AllSound, entities_sound, resolved}
 use Rattle.sap_resolve.proofs.sized.RangedCommands.{group_ranged}
 use Rattle.sap_resolve.proofs.sized.Programs.{faultless}
@@ -96,7 +97,7 @@ entities_ranged (e ∷ es) (g ∷ gs) a s zero = entity_ranged e.what g a.0.what
 entities_ranged (e ∷ es) (g ∷ gs) a s (suc x) = entities_ranged es gs a.1 s.1 x
 
 states_of_tree : (d : DesignTree) → is_tree d ≡ true → are_states d.version d.states ≡ true
-states_of_tree d h = (three_true (list_all (is_declaration d.version) d.declarations) (has_state d.states) (are_states d.version d.states) h).2
+states_of_tree d h = (three_parts (list_all (is_declaration d.version) d.declarations) (has_state d.states) (are_states d.version d.states) h).2
 
 pub widths_in_range_law : WidthsInRange
 widths_in_range_law ls d tree h =

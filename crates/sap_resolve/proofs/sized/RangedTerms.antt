@@ -1,7 +1,9 @@
 -- In the term of an expression without faults every width is from 1 to 64, and each slice is within what it is taken from.
 use Rattle.std.proofs.Common.{◌≡◌, ◌≢◌, ℕ, ◌+◌, ◌<◌, ◌≤◌, List, [], Bool, true, false, not, ◌&&◌, Option, Some, None, refl, sym, ap, ◌∙◌, arith, inl, inr}
 use Rattle.std.specs.Prelude.{eqb}
-use Rattle.std.proofs.lemmas.Bool.{cases_Bool, eq-eqb}
+use Rattle.std.proofs.lemmas.Bool.{cases_Bool, eq-eqb, and_parts}
+use Rattle.sap_lemmas.proofs.Bools.{three_parts}
+use Rattle.sap_names.proofs.NameFaultsLemmas.{no_fault}
 use Rattle.sap_tree.specs.Syntax.{Expression, Number, Sized, Read, Cell, Unary, Binary, Choose, Slice, Concat, Zext, Expressions, NoPart, AndPart}
 use Rattle.sap_tree.specs.declared.version.Version.{Version}
 use Rattle.sap_tree.specs.Whole.{is_number, has_two_parts, is_expression, are_expressions}
@@ -19,7 +21,7 @@ use Rattle.sap_meaning.specs.Program.{World}
 use Rattle.sap_meaning.specs.Expressions.{width_of}
 use Rattle.sap_resolve.specs.Terms.{known, term_of, parts_of, widened}
 use Rattle.sap_resolve.specs.Sized.Ranges.{IsWidth, RangedTerm}
-use Rattle.sap_resolve.proofs.sized.Faultless.{none_two, none_three, none_four, no_fault, settled_own, some_sound, sound_whole, slice_is, extended_is, joined_is, both_true, three_true}
+use Rattle.sap_resolve.proofs.sized.Faultless.{none_two, none_three, none_four, settled_own, some_sound, sound_whole, slice_is, extended_is, joined_is}
 use Rattle.sap_resolve.proofs.sized.Declared.{Resolved}
 use Rattle.sap_resolve.proofs.sized.Operators.{Fitted, own_width}
 use Rattle.sap_resolve.proofs.sized.Expressions.{expression_fitted, parts_fitted}
@@ -73,7 +75,7 @@ module _ (version : Version) (es : List Entity) (w : World) (r : Resolved es w) 
         let n = none_three (fault_if (unsettled (cell_width (what name)) asked) E7 spot.first) (use_faults indexed (what name) spot.at)
         (expression_faults what index (index_width (what name))) h in (
           width_range (Cell spot name index) asked i a h,
-          term_ranged index (index_width (what name)) (both_true (is_name version name) (is_expression version index) i).1 (index_ranges (what name)) n.2,
+          term_ranged index (index_width (what name)) (and_parts (is_name version name) (is_expression version index) i).1 (index_ranges (what name)) n.2,
         )
     term_ranged (Unary spot o e) asked i a h =
         let whole = whole_of (Unary spot o e) asked in
@@ -85,7 +87,7 @@ module _ (version : Version) (es : List Entity) (w : World) (r : Resolved es w) 
         let right = asked_right (family o) whole (own what x) (own what y) in
         let n = none_three (fault_if (unsettled (own what (Binary spot o x y)) asked) E7 spot.first) (expression_faults what x left)
         (expression_faults what y right) h in
-        let j = both_true (is_expression version x) (is_expression version y) i in
+        let j = and_parts (is_expression version x) (is_expression version y) i in
         let q = whole_ranges (Binary spot o x y) asked i a in
         let s = own_ranges version what x j.0 in
         let t = own_ranges version what y j.1 in (
@@ -96,7 +98,7 @@ module _ (version : Version) (es : List Entity) (w : World) (r : Resolved es w) 
         let whole = whole_of (Choose spot c x y) asked in
         let n = none_four (fault_if (unsettled (own what (Choose spot c x y)) asked) E7 spot.first) (expression_faults what c (Some 1))
         (expression_faults what x whole) (expression_faults what y whole) h in
-        let j = three_true (is_expression version c) (is_expression version x) (is_expression version y) i in
+        let j = three_parts (is_expression version c) (is_expression version x) (is_expression version y) i in
         let q = whole_ranges (Choose spot c x y) asked i a in
         (term_ranged c (Some 1) j.0 range_one n.1, term_ranged x whole j.1 q n.2, term_ranged y whole j.2 q n.3)
     term_ranged (Slice spot e high low) asked i a h =
@@ -110,14 +112,14 @@ module _ (version : Version) (es : List Entity) (w : World) (r : Resolved es w) 
         let s = slice_is (own what e) high low u.0 u.1 in
         let v : width_of w (term_of es e None) ≡ s.whole = own_width w (term_of es e None) (own what e) None s.whole s.is f in
         let l : high < s.whole = s.within in
-        (s.order, omega arith, term_ranged e None (three_true (is_expression version e) (is_number high) (is_number low) i).0 range_none n.2)
+        (s.order, omega arith, term_ranged e None (three_parts (is_expression version e) (is_number high) (is_number low) i).0 range_none n.2)
     term_ranged (Concat spot parts) asked i a h =
         let mine = own_parts what parts in
         let n = none_three (fault_if (unsettled mine asked) E7 spot.first) (fault_if (not (is_sound mine) && all_sound what parts) E7 spot.first)
         (parts_faults what parts) h in
         let f = parts_fitted es w r parts n.2 in
         let u = sound_whole mine (all_sound what parts) (no_fault (not (is_sound mine) && all_sound what parts) E7 spot.first n.1) f.sound in
-        let j = both_true (has_two_parts parts) (are_expressions version parts) i in
+        let j = and_parts (has_two_parts parts) (are_expressions version parts) i in
         parts_ranged parts (part_of_two parts j.0) j.1 u.0 u.1 n.2
     term_ranged (Zext spot e u) asked i a h =
         let mine = extended (own what e) u in
@@ -128,7 +130,7 @@ module _ (version : Version) (es : List Entity) (w : World) (r : Resolved es w) 
         let s = sound_whole mine (is_sound (own what e)) (no_fault (not (is_sound mine) && is_sound (own what e)) E7 spot.first n.1)
         (some_sound (own what e) k.0 k.1) in
         let x = extended_is (own what e) u s.0 s.1 in
-        let j = (both_true (is_expression version e) (is_number u) i).0 in
+        let j = (and_parts (is_expression version e) (is_number u) i).0 in
         let m : known (own what e) ≡ x.0 = ap known x.1 in
         let l : width_of w (term_of es e None) ≡ x.0 = own_width w (term_of es e None) (own what e) None x.0 x.1 f in
         let b = own_ranges version what e j x.0 x.1 in
@@ -140,10 +142,10 @@ module _ (version : Version) (es : List Entity) (w : World) (r : Resolved es w) 
         → RangedTerm w (parts_of es ps)
     parts_ranged NoPart some i u o h = cc
     parts_ranged (AndPart e NoPart) some i u o h =
-        term_ranged e None (both_true (is_expression version e) true i).0 range_none (none_two (expression_faults what e None) [] h).0
+        term_ranged e None (and_parts (is_expression version e) true i).0 range_none (none_two (expression_faults what e None) [] h).0
     parts_ranged (AndPart e (AndPart g ps)) some i u o h =
         let rest = AndPart g ps in
-        let m = both_true (is_expression version e) (are_expressions version rest) i in
+        let m = and_parts (is_expression version e) (are_expressions version rest) i in
         let n = none_two (expression_faults what e None) (parts_faults what rest) h in
         let f = expression_fitted es w r e None n.0 in
         let q = parts_fitted es w r rest n.1 in

@@ -1,6 +1,7 @@
 -- What the entities of a design start with: registers with numbers that fit them, all with levels of the lattice.
 use Rattle.std.proofs.Common.{◌≡◌, ℕ, zero, suc, ◌+◌, ◌^◌, ◌<◌, List, [], ◌∷◌, ◌++◌, length, Bool, true, not, Option, Some, None, get_or, sym, subst, arith}
 use Rattle.std.proofs.Math.Pow.{pow_pos}
+use Rattle.sap_names.proofs.NameFaultsLemmas.{no_fault}
 use Rattle.sap_tree.specs.declared.syntax.Numeral.{Numeral}
 use Rattle.sap_tree.specs.declared.syntax.Kind.{Kind}
 use Rattle.sap_tree.specs.declared.syntax.Kind.TheVariants.{Dynamic, Enforced}
@@ -15,7 +16,7 @@ use Rattle.sap_names.specs.NameFaults.{fault_if, too_large, level_faults, under_
 use Rattle.sap_names.specs.Widths.{sound_width, index_bits, is_sound}
 use Rattle.sap_meaning.specs.Program.{Entity, nothing}
 use Rattle.sap_resolve.specs.Worlds.{declared_level, initial_of, declared, all_declared, states_in, state_entities, group_entities, world_of}
-use Rattle.sap_resolve.proofs.sized.Faultless.{none_two, none_three, no_fault, fits_width, sound_same}
+use Rattle.sap_resolve.proofs.sized.Faultless.{none_two, none_three, fits_width, sound_same}
 use Rattle.sap_resolve.proofs.sized.Declared.{width_sound}
 use Rattle.sap_resolve.proofs.sized.Tags.{known_level, level_count}
 

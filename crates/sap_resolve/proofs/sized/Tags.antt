@@ -1,6 +1,7 @@
 -- A tag expression in which no fault stands has levels of the lattice, and expressions that fit.
 use Rattle.std.proofs.Common.{◌≡◌, ℕ, ◌+◌, ◌<◌, List, [], ◌∷◌, length, true, not, None, refl, sym, subst, arith, inl, inr, bytes_eq}
-use Rattle.std.proofs.lemmas.Bool.{cases_Bool}
+use Rattle.std.proofs.lemmas.Bool.{cases_Bool, not-false}
+use Rattle.sap_names.proofs.NameFaultsLemmas.{no_fault}
 use Rattle.sap_tree.specs.declared.name.Mention.{Mention}
 use Rattle.sap_tree.specs.Syntax.{TagExpression, Level, TagOf, LevelAt, Join, TagExpressions, NoTag, AndTag}
 use Rattle.sap_lattice.specs.Levels.{Levels, order_of, order_by}
@@ -13,7 +14,7 @@ use Rattle.sap_meaning.specs.Fine.{FineLevel}
 use Rattle.sap_meaning.specs.Sized.{SizedLevel}
 use Rattle.sap_resolve.specs.Worlds.{position}
 use Rattle.sap_resolve.specs.Terms.{level_term, level_terms}
-use Rattle.sap_resolve.proofs.sized.Faultless.{none_two, no_fault, not_true}
+use Rattle.sap_resolve.proofs.sized.Faultless.{none_two}
 use Rattle.sap_resolve.proofs.sized.Declared.{Resolved}
 use Rattle.sap_resolve.proofs.sized.Expressions.{expression_fitted}
 
@@ -28,7 +29,7 @@ position_below n (l ∷ ls) name h = elim (cases_Bool (bytes_eq l name)) [
 
 -- the number of a name that is a level's
 pub known_level : (names : List (List ℕ)) (m : Mention) → level_faults names m ≡ [] → position names m.name < length names
-known_level names m h = position_below 0 names m.name (not_true (is_level names m.name) (no_fault (not (is_level names m.name)) E6 m.place h))
+known_level names m h = position_below 0 names m.name (not-false (is_level names m.name) (no_fault (not (is_level names m.name)) E6 m.place h))
 
 pub level_count : (ls : Levels) → (order_of ls).count ≡ length ls.names
 unfolding order_of order_by

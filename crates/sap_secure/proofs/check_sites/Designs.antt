@@ -1,6 +1,7 @@
 -- One numbering of check sites in every well-formed design.
 use Rattle.std.proofs.Common.{◌≡◌, List, [], length, sym, ap, ◌∙◌}
 use Rattle.std.proofs.lemmas.List.{length-map}
+use Rattle.sap_names.proofs.FaultLemmas.{nil_left, nil_right}
 use Rattle.sap_lattice.specs.Levels.{order_of}
 use Rattle.sap_names.specs.Entities.{entities_of, what_is}
 use Rattle.sap_names.specs.NameFaults.{twice, states_faults}
@@ -11,7 +12,6 @@ use Rattle.sap_resolve.specs.Worlds.{world_of}
 use Rattle.sap_resolve.specs.Resolve.{states_of}
 use Rattle.sap_resolve.specs.Fill.{program_of}
 use Rattle.sap_resolve.proofs.Lookup.{entities_match}
-use Rattle.sap_resolve.proofs.premises.Faultless.{nil_left, nil_right}
 use Rattle.sap_resolve.proofs.premises.Lookups.{unique}
 use Rattle.sap_resolve.proofs.premises.Worlds.{laid}
 use Rattle.sap_secure.specs.CheckSites.ProgramSites.{ProgramSite, sites_in}

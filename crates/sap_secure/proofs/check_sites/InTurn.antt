@@ -1,6 +1,7 @@
 -- A cycle of a well-formed design comes to its sites in turn, to each at most once.
 use Rattle.std.proofs.Common.{◌≡◌, ℕ, ◌+◌, ◌≤◌, Bool, true, false, cond, List, [], ◌∷◌, ◌++◌, length, nat_eq, refl, sym, ap, ◌∙◌, subst, arith, if◌then◌else◌}
 use Rattle.std.proofs.lemmas.List.Sums.{sum_by-cons}
+use Rattle.std.proofs.lemmas.Bool.{eqb-true}
 use Rattle.sap_tree.specs.Syntax.{DesignTree}
 use Rattle.sap_lattice.specs.Levels.{Levels}
 use Rattle.sap_names.specs.Entities.{entities_of}
@@ -12,7 +13,6 @@ use Rattle.sap_meaning.specs.Checks.{site_of}
 use Rattle.sap_meaning.specs.Cycle.{Tagged}
 use Rattle.sap_meaning.specs.Fine.{FineProgram}
 use Rattle.sap_meaning.specs.Sites.{program_sites, Sublist}
-use Rattle.sap_meaning.proofs.Bools.{same_number}
 use Rattle.sap_resolve.specs.Worlds.{world_of}
 use Rattle.sap_resolve.specs.Resolve.{states_of}
 use Rattle.sap_resolve.specs.Fill.{program_of}
@@ -44,7 +44,7 @@ own_once : (k n : ℕ) (ns : List ℕ) → 1 ≤ k → occurs k ((if nat_eq n 0 
 own_once k n ns p = decided (nat_eq n 0) refl where
   decided : (b : Bool) → nat_eq n 0 ≡ b → occurs k ((if b then [] else n ∷ []) ++ ns) ≡ hit k n + occurs k ns
   decided true t =
-      let e : n ≡ 0 = same_number n 0 t in
+      let e : n ≡ 0 = eqb-true n 0 t in
       let z : hit k n ≡ 0 = hit_other k n (λ i. omega arith) in
       omega arith
   decided false f = occurs-cons k n ns

@@ -1,5 +1,6 @@
 -- The numbers of a program's sites, as its commands have them.
 use Rattle.std.proofs.Common.{◌≡◌, ℕ, zero, suc, ◌+◌, ◌≤◌, Bool, true, false, List, [], ◌∷◌, ◌++◌, length, length-append, nat_eq, refl, sym, ap, ◌∙◌, subst, arith, if◌then◌else◌}
+use Rattle.std.proofs.lemmas.Bool.{ne_eqb}
 use Rattle.sap_tree.specs.Syntax.{SimpleCommand, Assign, SetTag, SetCellTag, CommandBlock, Commands, ElseBlock, NoElse, Else, CommandList, NoCommand, AndCommand, StateTree, StateOf, StateList, NoState, AndState}
 use Rattle.sap_tree.specs.Syntax as tree
 use Rattle.sap_lattice.specs.Levels.{Levels}
@@ -13,7 +14,6 @@ use Rattle.sap_resolve.specs.Resolve.{site_number, step_of, command_of, arms_of,
 use Rattle.sap_resolve.specs.Fill.{filled_step, filled, filled_arms, filled_block, filled_state, filled_group}
 use Rattle.sap_secure.specs.CheckSites.Numbering.{numbers_from}
 use Rattle.sap_secure.specs.CheckSites.Once.{own_site}
-use Rattle.sap_meaning.proofs.Bools.{eq_not}
 
 abbrev mutual
   pub marks : Command → List ℕ
@@ -103,7 +103,7 @@ joined k a b xs ys e f =
     ∙ ap (λ (n : ℕ). numbers_from k n) (sym (length-append a b))
 
 never_zero : (k : ℕ) → 1 ≤ k → nat_eq k 0 ≡ false
-never_zero k p = eq_not k 0 (λ e. omega arith)
+never_zero k p = ne_eqb k 0 (λ e. omega arith)
 
 -- a site has its number, and another command none
 one_mark : (k n : ℕ) (yes : Bool) (s : CheckSite) → 1 ≤ k → n ≡ (if yes then k else 0)

@@ -1,6 +1,7 @@
 -- The check sites of a well-formed design's program are those of the design, numbered in the order of the text.
 use Rattle.std.proofs.Common.{◌≡◌, ℕ, suc, ◌+◌, ◌<◌, Bool, true, false, not, List, [], ◌∷◌, ◌++◌, length, refl, sym, ap, ◌∙◌, if◌then◌else◌}
 use Rattle.std.specs.Prelude.{Option, Some, None, map, unwrap_or}
+use Rattle.sap_names.proofs.FaultLemmas.{nil_left, nil_right}
 use Rattle.sap_tree.specs.Syntax.{SimpleCommand, Assign, Write, SetTag, SetCellTag, Goto, Fall, Command, Do, Try, If, TryThen, Case, Arms, Last, Arm, CommandBlock, Commands, ElseBlock, NoElse, Else, CommandList, NoCommand, AndCommand, StateTree, StateOf, StateList, NoState, AndState}
 use Rattle.sap_lattice.specs.Levels.{Levels}
 use Rattle.sap_names.specs.declared.entity.Entity.{Entity}
@@ -20,7 +21,6 @@ use Rattle.sap_resolve.specs.Resolve.{site_number, step_of, command_of, arms_of,
 use Rattle.sap_resolve.specs.Terms.{known, entity_number}
 use Rattle.sap_resolve.proofs.Lookup.{AllMatch}
 use Rattle.sap_resolve.proofs.premises.Commands.{if_first, if_other, body_fits, below_fits}
-use Rattle.sap_resolve.proofs.premises.Faultless.{nil_left, nil_right}
 use Rattle.sap_resolve.proofs.premises.Places.{Laid, LaidState, laid_first, laid_rest, laid_below, laid_name, laid_named, name_at}
 use Rattle.sap_resolve.proofs.premises.Numbers.{here_dynamic}
 use Rattle.sap_resolve.proofs.premises.Rises.{enforced_kind, some_same, site_same, site_is}

@@ -1,5 +1,7 @@
 -- The sites that a cycle comes to stand in the order of the text.
 use Rattle.std.proofs.Common.{◌≡◌, ℕ, zero, suc, Bool, true, false, List, [], ◌∷◌, ◌++◌, append_assoc, nat_eq, refl, sym, ap, ◌∙◌, subst, if◌then◌else◌}
+use Rattle.std.proofs.lemmas.List.{append-nil}
+use Rattle.sap_meaning.proofs.SitesLemmas.{sublist_append, sublist_behind, sublist_between, sublist_front}
 use Rattle.sap_maps.specs.Term.{Term}
 use Rattle.sap_meaning.specs.Program.{World, root, Program, Step, Set, Write, Retag, RetagCell, Goto, Fall, Command, Do, Try, If, TryThen, Case, Arms, Last, Arm, Block, End, Then, State, Node, Group, None, More}
 use Rattle.sap_meaning.specs.Store.{Store, child, raise}
@@ -12,7 +14,7 @@ use Rattle.sap_meaning.specs.Fine.{transfers, Open, OpenArms, OpenBlock, Closes,
 use Rattle.sap_meaning.specs.Sites.{Sublist}
 use Rattle.sap_secure.specs.Once.Steps.{onward, tried, tried_then, picked, chosen, steps, arms_steps, block_steps, state_steps, child_steps, root_steps, cycle_steps}
 use Rattle.sap_secure.specs.CheckSites.Once.{own_site, sites_met}
-use Rattle.sap_secure.proofs.check_sites.Sublists.{same, skip, more, joins, between, none, append-nil}
+use Rattle.sap_secure.proofs.check_sites.Sublists.{same, none}
 use Rattle.sap_secure.proofs.check_sites.Marks.{marks, arms_marks, block_marks, state_marks, group_marks}
 
 met-append : (xs ys : List Step) → sites_met (xs ++ ys) ≡ sites_met xs ++ sites_met ys
@@ -28,7 +30,7 @@ either false xs ys zs f g = g
 
 -- steps behind steps
 behind : (xs ys : List Step) (as' bs : List ℕ) → From xs as' → From ys bs → From (xs ++ ys) (as' ++ bs)
-behind xs ys as' bs f g = subst (λ (u : List ℕ). Sublist u (as' ++ bs)) (sym (met-append xs ys)) (joins (sites_met xs) as' (sites_met ys) bs f g)
+behind xs ys as' bs f g = subst (λ (u : List ℕ). Sublist u (as' ++ bs)) (sym (met-append xs ys)) (sublist_append (sites_met xs) as' (sites_met ys) bs f g)
 
 module _ (w : World) where
   module _ (at : Spot) (entered : ℕ → ℕ → Store → List Step) (below : List ℕ) (entering : (n pc : ℕ) (s : Store) → From (entered n pc s) below) where
@@ -57,7 +59,7 @@ module _ (w : World) where
         let r = raise w.order hangs (guard w at k s) s in
         let on = onward w at entered k pc s r in
         let handled = h (w.order.join pc (guard w at k s)) r in
-        joins (own_site k) (own_site k) (sites_met (if test w at k pc s then on else handled)) zs (same (own_site k))
+        sublist_append (own_site k) (own_site k) (sites_met (if test w at k pc s then on else handled)) zs (same (own_site k))
         (either (test w at k pc s) on handled zs (into (sites_met on) (f pc s r)) (g (w.order.join pc (guard w at k s)) r))
 
     chosen_from : (e : Term ℕ) (hangs : ℕ → Bool) (a b : ℕ → Store → List Step) (ys : List ℕ) → ((p : ℕ) (t : Store) → From (a p t) ys)
@@ -77,7 +79,7 @@ module _ (w : World) where
         let inside = w.order.join pc (guard w at k s) in
         let on = onward w at entered k pc s r in
         let next = (effect w at (does_child w at.children at.state) k pc s r).store in
-        joins (own_site k) (own_site k) (sites_met (if test w at k pc s then on ++ f inside next else g inside r)) zs (same (own_site k))
+        sublist_append (own_site k) (own_site k) (sites_met (if test w at k pc s then on ++ f inside next else g inside r)) zs (same (own_site k))
         (either (test w at k pc s) (on ++ f inside next) (g inside r) zs (behind on (f inside next) [] zs (onward_none k plain pc s r) (accepted inside next)) (refused inside r))
 
     picked_from : (e : Term ℕ) (hangs : ℕ → Bool) (pick : ℕ → ℕ → Store → List Step) (ys : List ℕ) → ((v p : ℕ) (t : Store) → From (pick v p t) ys) → (pc : ℕ) (s : Store)
@@ -97,10 +99,10 @@ module _ (w : World) where
           (λ xs i. none xs (block_marks h) i) (λ p t. open_list h plain.1 p t) pc s
       open_from (If hang e a b) plain pc s =
           chosen_from e (touches w at (If hang e a b)) (block_steps w at entered a) (block_steps w at entered b) (block_marks a ++ block_marks b)
-          (λ p t. more _ (block_marks a) (block_marks b) (open_list a plain.0 p t)) (λ p t. skip _ (block_marks a) (block_marks b) (open_list b plain.1 p t)) pc s
+          (λ p t. sublist_front _ (block_marks a) (block_marks b) (open_list a plain.0 p t)) (λ p t. sublist_behind _ (block_marks a) (block_marks b) (open_list b plain.1 p t)) pc s
       open_from (TryThen k hang a b) plain pc s =
           tried_then_from k plain.0 (touches w at (TryThen k hang a b)) (block_steps w at entered a) (block_steps w at entered b) (block_marks a ++ block_marks b)
-          (λ p t. more _ (block_marks a) (block_marks b) (open_list a plain.1 p t)) (λ p t. skip _ (block_marks a) (block_marks b) (open_list b plain.2 p t)) pc s
+          (λ p t. sublist_front _ (block_marks a) (block_marks b) (open_list a plain.1 p t)) (λ p t. sublist_behind _ (block_marks a) (block_marks b) (open_list b plain.2 p t)) pc s
       open_from (Case hang e arms) plain pc s =
           picked_from e (touches w at (Case hang e arms)) (arms_steps w at entered arms) (arms_marks arms) (λ v p t. open_arms arms plain v p t) pc s
 
@@ -108,7 +110,7 @@ module _ (w : World) where
       open_arms (Last b) plain v pc s = open_list b plain pc s
       open_arms (Arm cs b arms) plain v pc s =
           either (is_constant cs v) (block_steps w at entered b pc s) (arms_steps w at entered arms v pc s) (block_marks b ++ arms_marks arms)
-          (more _ (block_marks b) (arms_marks arms) (open_list b plain.0 pc s)) (skip _ (block_marks b) (arms_marks arms) (open_arms arms plain.1 v pc s))
+          (sublist_front _ (block_marks b) (arms_marks arms) (open_list b plain.0 pc s)) (sublist_behind _ (block_marks b) (arms_marks arms) (open_arms arms plain.1 v pc s))
 
       open_list : (b : Block) → OpenBlock b → (pc : ℕ) (s : Store) → From (block_steps w at entered b pc s) (block_marks b)
       open_list End plain pc s = tt
@@ -126,20 +128,20 @@ module _ (w : World) where
           subst (λ (ys : List ℕ). From (tried w at entered k (touches w at (Try k hang h)) (block_steps w at entered h) pc s) ys)
           (sym (append_assoc (own_site k) (block_marks h) below))
           (tried_from k (touches w at (Try k hang h)) (block_steps w at entered h) below (block_marks h ++ below) (onward_from k)
-          (λ xs i. skip xs (block_marks h) below i) (λ p t. closing_from h final.1 p t) pc s)
+          (λ xs i. sublist_behind xs (block_marks h) below i) (λ p t. closing_from h final.1 p t) pc s)
       final_from (If hang e a b) final pc s =
           chosen_from e (touches w at (If hang e a b)) (block_steps w at entered a) (block_steps w at entered b) ((block_marks a ++ block_marks b) ++ below)
-          (λ p t. between _ (block_marks a) (block_marks b) below (closing_from a final.0 p t))
+          (λ p t. sublist_between _ (block_marks a) (block_marks b) below (closing_from a final.0 p t))
           (λ p t. subst (λ (ys : List ℕ). From (block_steps w at entered b p t) ys) (sym (append_assoc (block_marks a) (block_marks b) below))
-          (skip _ (block_marks a) (block_marks b ++ below) (closing_from b final.1 p t))) pc s
+          (sublist_behind _ (block_marks a) (block_marks b ++ below) (closing_from b final.1 p t))) pc s
       final_from (TryThen k hang a b) final pc s =
           let both = block_marks a ++ block_marks b in
           subst (λ (ys : List ℕ). From (tried_then w at entered k (touches w at (TryThen k hang a b)) (block_steps w at entered a) (block_steps w at entered b) pc s) ys)
           (sym (append_assoc (own_site k) both below))
           (tried_then_from k final.0 (touches w at (TryThen k hang a b)) (block_steps w at entered a) (block_steps w at entered b) (both ++ below)
-          (λ p t. between _ (block_marks a) (block_marks b) below (closing_from a final.1 p t))
+          (λ p t. sublist_between _ (block_marks a) (block_marks b) below (closing_from a final.1 p t))
           (λ p t. subst (λ (ys : List ℕ). From (block_steps w at entered b p t) ys) (sym (append_assoc (block_marks a) (block_marks b) below))
-          (skip _ (block_marks a) (block_marks b ++ below) (closing_from b final.2 p t))) pc s)
+          (sublist_behind _ (block_marks a) (block_marks b ++ below) (closing_from b final.2 p t))) pc s)
       final_from (Case hang e arms) final pc s =
           picked_from e (touches w at (Case hang e arms)) (arms_steps w at entered arms) (arms_marks arms ++ below) (λ v p t. closing_arms arms final v p t) pc s
 
@@ -147,9 +149,9 @@ module _ (w : World) where
       closing_arms (Last b) final v pc s = closing_from b final pc s
       closing_arms (Arm cs b arms) final v pc s =
           either (is_constant cs v) (block_steps w at entered b pc s) (arms_steps w at entered arms v pc s) ((block_marks b ++ arms_marks arms) ++ below)
-          (between _ (block_marks b) (arms_marks arms) below (closing_from b final.0 pc s))
+          (sublist_between _ (block_marks b) (arms_marks arms) below (closing_from b final.0 pc s))
           (subst (λ (ys : List ℕ). From (arms_steps w at entered arms v pc s) ys) (sym (append_assoc (block_marks b) (arms_marks arms) below))
-          (skip _ (block_marks b) (arms_marks arms ++ below) (closing_arms arms final.1 v pc s)))
+          (sublist_behind _ (block_marks b) (arms_marks arms ++ below) (closing_arms arms final.1 v pc s)))
 
       pub closing_from : (b : Block) → Closes b → (pc : ℕ) (s : Store) → From (block_steps w at entered b pc s) (block_marks b ++ below)
       closing_from End closes pc s = absurd closes
@@ -173,16 +175,16 @@ module _ (w : World) where
 
     child_from : (g : Group) (p : ℕ) (q : Group) (n : ℕ) → FineGroup w q n g → (m pc : ℕ) (s : Store) → From (child_steps w g p m pc s) (group_marks g)
     child_from None p q n fine m pc s = tt
-    child_from (More t g) p q n fine zero pc s = more _ (state_marks t) (group_marks g) (state_from t p q n fine.0 pc s)
-    child_from (More t g) p q n fine (suc m) pc s = skip _ (state_marks t) (group_marks g) (child_from g p q (suc n) fine.1 m pc s)
+    child_from (More t g) p q n fine zero pc s = sublist_front _ (state_marks t) (group_marks g) (state_from t p q n fine.0 pc s)
+    child_from (More t g) p q n fine (suc m) pc s = sublist_behind _ (state_marks t) (group_marks g) (child_from g p q (suc n) fine.1 m pc s)
 
   root_from : (hangs : ℕ → Bool) (g : Group) (q : Group) (n : ℕ) → FineGroup w q n g → (m : ℕ) (s : Store) → From (root_steps w hangs g m s) (group_marks g)
   unfolding root_steps
   root_from hangs None q n fine m s = tt
   root_from hangs (More (Node c b k) g) q n fine zero s =
-      more _ (state_marks (Node c b k)) (group_marks g) (state_from (Node c b k) (root w) q n fine.0 _ _)
+      sublist_front _ (state_marks (Node c b k)) (group_marks g) (state_from (Node c b k) (root w) q n fine.0 _ _)
   root_from hangs (More (Node c b k) g) q n fine (suc m) s =
-      skip _ (state_marks (Node c b k)) (group_marks g) (root_from hangs g q (suc n) fine.1 m s)
+      sublist_behind _ (state_marks (Node c b k)) (group_marks g) (root_from hangs g q (suc n) fine.1 m s)
 
 pub sites_from : (p : Program) → FineProgram p → (inputs : List Tagged) (s : Store) → Sublist (sites_met (cycle_steps p inputs s)) (group_marks p.states)
 unfolding cycle_steps

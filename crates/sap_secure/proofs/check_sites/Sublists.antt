@@ -1,44 +1,18 @@
 -- Lists of numbers with some left out.
-use Rattle.std.proofs.Common.{◌≡◌, ℕ, zero, suc, ◌+◌, ◌<◌, ◌≤◌, true, cond, List, [], ◌∷◌, ◌++◌, nat_eq, refl, ap, arith, inl, inr}
+use Rattle.std.proofs.Common.{◌≡◌, ℕ, zero, suc, ◌+◌, ◌<◌, ◌≤◌, true, cond, List, [], ◌∷◌, nat_eq, refl, ap, arith, inl, inr}
 use Rattle.std.specs.Prelude.{count_by}
-use Rattle.std.proofs.lemmas.Bool.{cases_Bool}
+use Rattle.std.proofs.lemmas.Bool.{cases_Bool, eqb-true, ne_eqb}
 use Rattle.std.proofs.lemmas.List.Sums.{sum_by-cons}
 use Rattle.sap_meaning.specs.Sites.{Sublist}
-use Rattle.sap_meaning.proofs.Bools.{same_number, eq_not}
 use Rattle.sap_secure.specs.CheckSites.Numbering.{numbers_from}
 
 pub same : (xs : List ℕ) → Sublist xs xs
 same [] = tt
 same (x ∷ xs) = inl (refl, same xs)
 
-pub skip : (xs zs ys : List ℕ) → Sublist xs ys → Sublist xs (zs ++ ys)
-skip [] zs ys h = tt
-skip (x ∷ xs) [] ys h = h
-skip (x ∷ xs) (z ∷ zs) ys h = inr (skip (x ∷ xs) zs ys h)
-
-pub more : (xs ys zs : List ℕ) → Sublist xs ys → Sublist xs (ys ++ zs)
-more [] ys zs h = tt
-more (x ∷ xs) [] zs h = absurd h
-more (x ∷ xs) (y ∷ ys) zs h = elim h [ inl q ↦ inl (q.0, more xs ys zs q.1) | inr q ↦ inr (more (x ∷ xs) ys zs q) ]
-
--- one list behind another
-pub joins : (as' bs cs ds : List ℕ) → Sublist as' bs → Sublist cs ds → Sublist (as' ++ cs) (bs ++ ds)
-joins [] bs cs ds h k = skip cs bs ds k
-joins (a ∷ as') [] cs ds h k = absurd h
-joins (a ∷ as') (b ∷ bs) cs ds h k = elim h [ inl q ↦ inl (q.0, joins as' bs cs ds q.1 k) | inr q ↦ inr (joins (a ∷ as') bs cs ds q k) ]
-
-pub between : (xs as' bs gs : List ℕ) → Sublist xs (as' ++ gs) → Sublist xs ((as' ++ bs) ++ gs)
-between [] as' bs gs h = tt
-between (x ∷ xs) [] bs gs h = skip (x ∷ xs) bs gs h
-between (x ∷ xs) (a ∷ as') bs gs h = elim h [ inl q ↦ inl (q.0, between xs as' bs gs q.1) | inr q ↦ inr (between (x ∷ xs) as' bs gs q) ]
-
 pub none : (xs ys : List ℕ) → Sublist xs [] → Sublist xs ys
 none [] ys h = tt
 none (x ∷ xs) ys h = absurd h
-
-pub append-nil : (xs : List ℕ) → xs ++ [] ≡ xs
-append-nil [] = refl
-append-nil (x ∷ xs) = ap (λ (ys : List ℕ). x ∷ ys) (append-nil xs)
 
 -- how often a number stands in a list
 abbrev pub occurs : ℕ → List ℕ → ℕ
@@ -52,7 +26,7 @@ pub hit_itself : (k n : ℕ) → nat_eq n k ≡ true → hit k n ≡ 1
 hit_itself k n e = rw e refl
 
 pub hit_other : (k n : ℕ) → (n ≡ k → ⊥) → hit k n ≡ 0
-hit_other k n h = rw (eq_not n k h) refl
+hit_other k n h = rw (ne_eqb n k h) refl
 
 pub occurs-cons : (k n : ℕ) (ns : List ℕ) → occurs k (n ∷ ns) ≡ hit k n + occurs k ns
 occurs-cons k n ns = sum_by-cons (λ n. cond (nat_eq n k) 1 0) n ns
@@ -87,7 +61,7 @@ at_most_once k m (suc n) =
     let a : occurs k (m ∷ numbers_from (suc m) n) ≡ hit k m + occurs k (numbers_from (suc m) n) = occurs-cons k m (numbers_from (suc m) n) in
     elim (cases_Bool (nat_eq m k)) [
       | inl t ↦
-          let e : m ≡ k = same_number m k t in
+          let e : m ≡ k = eqb-true m k t in
           let c : hit k m ≡ 1 = hit_itself k m t in
           let r : occurs k (numbers_from (suc m) n) ≡ 0 = none_under k (suc m) n (omega arith) in
           omega arith

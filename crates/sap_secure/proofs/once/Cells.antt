@@ -1,6 +1,6 @@
 -- The steps that a cycle comes to tell which cells it may change.
 use Rattle.std.proofs.Common.{◌≡◌, ℕ, zero, suc, ◌+◌, ◌≤◌, Bool, true, false, ◌&&◌, List, [], ◌∷◌, ◌++◌, refl, sym, ◌∙◌, subst, arith, inl, inr, nat_eq, if◌then◌else◌}
-use Rattle.std.proofs.lemmas.Bool.{cases_Bool}
+use Rattle.std.proofs.lemmas.Bool.{cases_Bool, ne_eqb}
 use Rattle.sap_maps.specs.Term.{Term}
 use Rattle.sap_meaning.specs.Program.{World, is_dynamic, root, place, Program, Step, Set, Write, Retag, RetagCell, Goto, Fall, Command, Do, Try, If, TryThen, Case, Arms, Last, Arm, Block, End, Then, State, Node, Group, None, More}
 use Rattle.sap_meaning.specs.Store.{own, start, next, start_whole, next_whole, source, Store, number, level, child, put_number, put_level, put_child, raise, reset, settle, After, stay, and_then}
@@ -11,7 +11,6 @@ use Rattle.sap_meaning.specs.Does.{effect, attempt, attempt_then, select, branch
 use Rattle.sap_meaning.specs.Cycle.{Tagged, set_inputs, root_fall, cycle}
 use Rattle.sap_meaning.specs.State.{Resting}
 use Rattle.sap_meaning.specs.Fine.{step_writes}
-use Rattle.sap_meaning.proofs.Bools.{eq_not}
 use Rattle.sap_secure.specs.Once.Steps.{onward, tried, tried_then, picked, chosen, steps, arms_steps, block_steps, state_steps, child_steps, root_steps, cycle_steps}
 use Rattle.sap_secure.specs.Once.Once.{writes_to, CellStays, WritesOnce, UnwrittenStays, ChangesOneCell}
 use Rattle.sap_secure.proofs.once.Counts.{writing, writes_to-cons, writes_to-append, split_one}
@@ -74,7 +73,7 @@ moved_same w m target parent false t n s j = (refl, refl)
 
 -- the slot of another cell
 apart : (m n i j : ℕ) → (nat_eq m n ≡ false → (nat_eq m n && nat_eq j i) ≡ false) × ((j ≡ i → ⊥) → (nat_eq m n && nat_eq j i) ≡ false)
-apart m n i j = (λ h. rw h refl, λ h. elim (cases_Bool (nat_eq m n)) [ inl t ↦ rw t (eq_not j i h) | inr f ↦ rw f refl ])
+apart m n i j = (λ h. rw h refl, λ h. elim (cases_Bool (nat_eq m n)) [ inl t ↦ rw t (ne_eqb j i h) | inr f ↦ rw f refl ])
 
 write_same : (w : World) (m n i j v t : ℕ) (h : ℕ → Bool) (d : Bool) (s : Store) → (nat_eq m n && nat_eq j i) ≡ false
     → Same m j s (put_number (next n i) v (if d then raise w.order h t s else s))

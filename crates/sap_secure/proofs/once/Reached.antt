@@ -1,6 +1,7 @@
 -- In a fine program at most one step that a cycle comes to writes a memory.
 use Rattle.std.proofs.Common.{◌≡◌, ℕ, zero, suc, ◌+◌, ◌≤◌, Bool, true, false, ◌&&◌, ◌||◌, List, [], ◌∷◌, ◌++◌, refl, sym, ◌∙◌, arith, inl, inr, nat_eq, if◌then◌else◌}
-use Rattle.std.proofs.lemmas.Bool.{cases_Bool}
+use Rattle.std.proofs.lemmas.Bool.{cases_Bool, false_from_ne_true, or_from}
+use Rattle.sap_lemmas.proofs.Bools.{neither_left, neither_right}
 use Rattle.sap_maps.specs.Term.{Term}
 use Rattle.sap_meaning.specs.Program.{World, root, Program, Step, Set, Write, Retag, RetagCell, Goto, Fall, Command, Do, Try, If, TryThen, Case, Arms, Last, Arm, Block, End, Then, State, Node, Group, None, More}
 use Rattle.sap_meaning.specs.Store.{Store, own, level, child, raise}
@@ -10,7 +11,7 @@ use Rattle.sap_meaning.specs.Touches.{touches, root_touches, raised_alone}
 use Rattle.sap_meaning.specs.Does.{does, does_child, effect, is_constant}
 use Rattle.sap_meaning.specs.Cycle.{set_inputs}
 use Rattle.sap_meaning.specs.Fine.{step_writes, step_reaching, reaching, arms_reaching, block_reaching, state_reaches, group_reaches, OnceStep, Once, OnceArms, OnceBlock, OnceState, OnceGroup, FineProgram}
-use Rattle.sap_meaning.proofs.Bools.{or_false, neither_left, neither_right, and_false, not_true}
+use Rattle.sap_meaning.proofs.Bools.{and_false}
 use Rattle.sap_secure.specs.Once.Steps.{onward, tried, tried_then, picked, chosen, steps, arms_steps, block_steps, state_steps, child_steps, root_steps, cycle_steps}
 use Rattle.sap_secure.specs.Once.Once.{writes_to, WritesOnce}
 use Rattle.sap_secure.proofs.once.Counts.{writing, writes_to-cons, written, unwritten, Counted, counted_nothing, counted_weaker, counted_both}
@@ -79,7 +80,7 @@ module _ (w : World) (m : ℕ) (at : Spot) (entered : ℕ → ℕ → Store → 
               omega arith;
           once = elim (cases_Bool (step_writes k m)) [
             | inl t ↦
-                let n : may ≡ false = not_true may (λ i. absurd (both t i)) in
+                let n : may ≡ false = false_from_ne_true may (λ i. absurd (both t i)) in
                 let x : writes_to m ys ≡ 0 = d.none n in
                 let y : writing m k ≡ 1 = written m k t in
                 omega arith
@@ -139,10 +140,10 @@ module _ (w : World) (m : ℕ) (at : Spot) (entered : ℕ → ℕ → Store → 
           → Counted m (mine || (a || b)) (k ∷ (if i then xs ++ ys else zs))
       one_of true xs ys zs cx none cy cz =
           let first : Counted m mine (k ∷ xs) = counted_weaker m (mine || false) mine (k ∷ xs) (or_nothing mine) (behind k once false (alone k) true xs [] cx none (counted_nothing m)) in
-          counted_weaker m (mine || a) (mine || (a || b)) (k ∷ (xs ++ ys)) (λ h. or_false mine a (neither_left mine (a || b) h) (neither_left a b (neither_right mine (a || b) h)))
+          counted_weaker m (mine || a) (mine || (a || b)) (k ∷ (xs ++ ys)) (λ h. or_from mine a (neither_left mine (a || b) h) (neither_left a b (neither_right mine (a || b) h)))
           (counted_both m mine a (k ∷ xs) ys first cy apart)
       one_of false xs ys zs cx none cy cz =
-          counted_weaker m (mine || b) (mine || (a || b)) (k ∷ zs) (λ h. or_false mine b (neither_left mine (a || b) h) (neither_right a b (neither_right mine (a || b) h)))
+          counted_weaker m (mine || b) (mine || (a || b)) (k ∷ zs) (λ h. or_from mine b (neither_left mine (a || b) h) (neither_right a b (neither_right mine (a || b) h)))
           (behind k once b other false xs zs cx none cz)
 
   picked_counted : (e : Term ℕ) (hangs : ℕ → Bool) (may : Bool) (pick : ℕ → ℕ → Store → List Step) → ((v : ℕ) → AllCounted m may (pick v)) → AllCounted m may (picked w e hangs pick)

@@ -1,9 +1,11 @@
 -- The rows of a netlist that stands for a design are those of the design's labelled run.
-use Rattle.std.proofs.Common.{◌≡◌, ℕ, suc, ◌+◌, ◌<◌, List, [], ◌∷◌, Bool, true, false, ◌||◌, Some, None, length, map, sym, ap, ap₂, ◌∙◌, subst, refl, arith, bytes_eq, inl, inr}
+use Rattle.std.proofs.Common.{◌≡◌, ℕ, ◌+◌, ◌<◌, List, [], ◌∷◌, Bool, true, false, Some, None, length, map, sym, ap, ap₂, ◌∙◌, subst, refl, arith, bytes_eq, inl, inr}
 use Rattle.std.specs.Prelude.{filter, not}
-use Rattle.std.proofs.lemmas.Bool.{cases_Bool, false≢true}
+use Rattle.std.proofs.lemmas.Bool.{cases_Bool, or_from}
 use Rattle.std.proofs.lemmas.Bool.Decides.{Decides-eqb}
 use Rattle.std.proofs.lemmas.List.{length-map}
+use Rattle.sap_lemmas.proofs.Bools.{neither_left, neither_right}
+use Rattle.sap_stim.proofs.FitsLemmas.{line_count}
 use Rattle.sap_tree.specs.Syntax.{DesignTree}
 use Rattle.sap_tree.specs.Whole.{is_whole}
 use Rattle.sap_lattice.specs.Levels.{Levels, order_of}
@@ -50,21 +52,10 @@ use Rattle.sap_sim.proofs.labelled.Cycles.{from_first, rows_stand}
 
 -- names that are found once are distinct
 
-neither : (a b : Bool) → a ≡ false → b ≡ false → (a || b) ≡ false
-neither a b f g = rw f g
-
-left : (p q : Bool) → (p || q) ≡ false → p ≡ false
-left true q h = h
-left false q h = refl
-
-right : (p q : Bool) → (p || q) ≡ false → q ≡ false
-right true q h = absurd (false≢true (sym h))
-right false q h = h
-
 none_among : (is : List Input) (x : Name) → find (fields.input_widths is) x ≡ None → is_among x (map (λ i. i.name) is) ≡ false
 none_among [] x h = refl
 none_among (i ∷ is) x h =
-    neither (bytes_eq x i.name) _ (not_first (i.name, i.width) (fields.input_widths is) x h) (none_among is x (not_behind (i.name, i.width) (fields.input_widths is) x h))
+    or_from (bytes_eq x i.name) _ (not_first (i.name, i.width) (fields.input_widths is) x h) (none_among is x (not_behind (i.name, i.width) (fields.input_widths is) x h))
 
 distinct_inputs : (is : List Input) → AreFresh (λ i. i.name) (λ i. i.width) is → AreDistinct (map (λ i. i.name) is)
 distinct_inputs [] h = tt
@@ -73,8 +64,8 @@ distinct_inputs (i ∷ is) h = (none_among is i.name h.0, distinct_inputs is h.1
 fewer : (p : Input → Bool) (is : List Input) (x : Name) → is_among x (map (λ i. i.name) is) ≡ false → is_among x (map (λ i. i.name) (filter p is)) ≡ false
 fewer p [] x h = refl
 fewer p (i ∷ is) x h =
-    let a : bytes_eq x i.name ≡ false = left (bytes_eq x i.name) _ h in
-    let b : is_among x (map (λ i. i.name) is) ≡ false = right (bytes_eq x i.name) _ h in
+    let a : bytes_eq x i.name ≡ false = neither_left (bytes_eq x i.name) _ h in
+    let b : is_among x (map (λ i. i.name) is) ≡ false = neither_right (bytes_eq x i.name) _ h in
     elim (cases_Bool (p i)) [ inl t ↦ rw (t, a) (fewer p is x b) | inr f ↦ rw f (fewer p is x b) ]
 
 distinct_filtered : (p : Input → Bool) (is : List Input) → AreDistinct (map (λ i. i.name) is) → AreDistinct (map (λ i. i.name) (filter p is))
@@ -93,12 +84,6 @@ fit_line ls (u ∷ us) (x ∷ xs) h = (h.0.value, h.0.level, fit_line ls us xs h
 pub fit_stream : (ls : Levels) (t : DesignTree) (stream : List (List Given)) → stim.StreamFits ls (design_fields ls t) stream → StreamFits (world (named_of ls t)) stream
 fit_stream ls t [] h = tt
 fit_stream ls t (xs ∷ stream) h = (fit_line ls (input_widths (world (named_of ls t)).entities) xs h.0, fit_stream ls t stream h.1)
-
-line_count : (ls : Levels) (fs : List Field) (xs : List Given) → LineFits ls fs xs → length xs ≡ length fs
-line_count ls [] [] fits = refl
-line_count ls [] (x ∷ xs) fits = absurd fits
-line_count ls (f ∷ fs) [] fits = absurd fits
-line_count ls (f ∷ fs) (x ∷ xs) fits = ap suc (line_count ls fs xs fits.1)
 
 module _ (ls : Levels) (t : DesignTree) (n : Net) (whole : is_whole t ≡ true) (net : IsNetlist n) (stands : StandsForDesign ls t n) where
   abbrev d : Named

@@ -1,14 +1,17 @@
 -- The inputs of a module with a design's interface: their fields, and the numbers of a line.
-use Rattle.std.proofs.Common.{◌≡◌, ℕ, suc, ◌+◌, List, [], ◌∷◌, ◌++◌, Bool, true, false, ◌||◌, ◌&&◌, Some, None, length, get_or, map, sym, ap, ap₂, ◌∙◌, subst, refl, arith, bytes_eq, if◌then◌else◌, inl, inr}
+use Rattle.std.proofs.Common.{◌≡◌, ℕ, suc, ◌+◌, List, [], ◌∷◌, ◌++◌, Bool, true, false, Some, None, length, get_or, map, sym, ap, ap₂, ◌∙◌, subst, refl, arith, bytes_eq, if◌then◌else◌, inl, inr}
 use Rattle.std.specs.Prelude.{filter, not, ◌==◌}
 use Rattle.std.specs.List.{AllByRecursion}
-use Rattle.std.proofs.lemmas.Bool.{cases_Bool, false≢true}
+use Rattle.std.proofs.lemmas.Bool.{cases_Bool, and_right}
 use Rattle.std.proofs.lemmas.Bool.Decides.{Decides-eqb}
+use Rattle.sap_lemmas.proofs.Bools.{neither_left, neither_right, not_and_false}
+use Rattle.sap_lemmas.proofs.Lists.{tail_equal}
+use Rattle.sap_lemmas.proofs.Options.{some_same}
+use Rattle.sap_lemmas.proofs.Texts.{bytes_eq_same}
 use Rattle.sap_lattice.specs.Levels.{Levels, order_of}
 use Rattle.sap_lattice.specs.Codes.{code_of}
 use Rattle.sap_maps.specs.Maps.{Name}
 use Rattle.sap_maps.specs.Scope.{Scope, find}
-use Rattle.sap_maps.proofs.Scopes.{same_name}
 use Rattle.sap_meaning.specs.Cycle.{Tagged as Given}
 use Rattle.sap_meaning.specs.Program.{Entity, entity, nothing, width, is_input, kind_is_input}
 use Rattle.sap_meaning.specs.State.{input_widths}
@@ -71,14 +74,8 @@ all_scope d tag sc known x (e ∷ es) =
       | inr f ↦ rw f (all_scope d tag sc known (x + 1) es)
     ]
 
-some_same : (a b : ℕ) → Some a ≡ Some b → a ≡ b
-some_same a b h = cc
-
 heads : (a b : Name) (xs ys : List Name) → a ∷ xs ≡ b ∷ ys → a ≡ b
 heads a b xs ys h = cc
-
-tails : (a b : Name) (xs ys : List Name) → a ∷ xs ≡ b ∷ ys → xs ≡ ys
-tails a b xs ys h = cc
 
 same_inputs : (sc : Scope) (is : List Input) (es : Scope) → map (λ i. i.name) is ≡ map (λ (e : Name × ℕ). e.0) es → AllByRecursion (λ i. find sc i.name ≡ Some i.width) is
     → AllByRecursion (λ (e : Name × ℕ). find sc e.0 ≡ Some e.1) es → is ≡ map to_input es
@@ -89,7 +86,7 @@ same_inputs sc (i ∷ is) (e ∷ es) h all known =
     let n : i.name ≡ e.0 = heads i.name e.0 _ _ h in
     let w : i.width ≡ e.1 = some_same i.width e.1 (sym all.0 ∙ ap (find sc) n ∙ known.0) in
     let mk : Name → ℕ → Input = λ a b. record { name = a; width = b } in
-    ap₂ (λ (j : Input) (js : List Input). j ∷ js) (ap₂ mk n w) (same_inputs sc is es (tails i.name e.0 _ _ h) all.1 known.1)
+    ap₂ (λ (j : Input) (js : List Input). j ∷ js) (ap₂ mk n w) (same_inputs sc is es (tail_equal i.name e.0 _ _ h) all.1 known.1)
 
 pub inputs_are : (d : Named) (tag : ℕ) (is : List Input) → map (λ i. i.name) is ≡ pair_names (is_input (world d)) d 0 (world d).entities
     → AllByRecursion (λ i. find (fields.input_widths is) i.name ≡ Some i.width) is → ((x : ℕ) → is_input (world d) x ≡ true → Known d tag (fields.input_widths is) x)
@@ -109,16 +106,12 @@ abbrev pub value_scope : Named → (x : ℕ) → List Entity → Scope
 value_scope d x [] = []
 value_scope d x (e ∷ es) = (if is_input (world d) x then (value_name (name d x), width (world d) x) ∷ [] else []) ++ value_scope d (x + 1) es
 
-and_no : (b : Bool) → not (b && false) ≡ true
-and_no true = refl
-and_no false = refl
-
 module _ (d : Named) (tag : ℕ) (is : List Input) (known : (x : ℕ) → is_input (world d) x ≡ true → Known d tag (fields.input_widths is) x) where
   abbrev has_field : Input → Bool
   has_field i = not (is_tag tag is i)
 
   value_has : (x : ℕ) → is_input (world d) x ≡ true → has_field (to_input (value_name (name d x), width (world d) x)) ≡ true
-  value_has x t = rw (known x t).no_tag (and_no (width (world d) x == tag))
+  value_has x t = rw (known x t).no_tag (not_and_false (width (world d) x == tag))
 
   tag_has_none : (x : ℕ) → is_input (world d) x ≡ true → has_field (to_input (tag_name (name d x), tag)) ≡ false
   tag_has_none x t = rw ((known x t).tag_base, (Decides-eqb tag tag).1 refl, (known x t).value) refl
@@ -152,16 +145,12 @@ module _ (d : Named) (tag : ℕ) (is : List Input) (known : (x : ℕ) → is_inp
 
 -- the numbers
 
-pub no_value_tag : (b c : Bool) → c ≡ false → (b && c) ≡ false
-no_value_tag true c h = h
-no_value_tag false c h = refl
-
 module _ (ls : Levels) (d : Named) (is : List Input) (known : (x : ℕ) → is_input (world d) x ≡ true → Known d (tag_width ls) (fields.input_widths is) x) where
   abbrev tag : ℕ
   tag = tag_width ls
 
   value_plain : (x : ℕ) → is_input (world d) x ≡ true → is_tag (tag_width ls) is (to_input (value_name (name d x), width (world d) x)) ≡ false
-  value_plain x t = rw (known x t).no_tag (no_value_tag (width (world d) x == tag) false refl)
+  value_plain x t = rw (known x t).no_tag (and_right (width (world d) x == tag) false refl)
 
   tag_tag : (x : ℕ) → is_input (world d) x ≡ true → is_tag (tag_width ls) is (to_input (tag_name (name d x), tag_width ls)) ≡ true
   tag_tag x t = rw ((known x t).tag_base, (Decides-eqb tag tag).1 refl, (known x t).value) refl
@@ -179,17 +168,9 @@ module _ (ls : Levels) (d : Named) (is : List Input) (known : (x : ℕ) → is_i
 
 -- each list of distinct names has its line back, name by name
 
-or_left : (p q : Bool) → (p || q) ≡ false → p ≡ false
-or_left true q h = h
-or_left false q h = refl
-
-or_right : (p q : Bool) → (p || q) ≡ false → q ≡ false
-or_right true q h = absurd (false≢true (sym h))
-or_right false q h = h
-
 apart_all : (v : Name) (vs : List Name) → is_among v vs ≡ false → AllByRecursion (λ u. bytes_eq v u ≡ false) vs
 apart_all v [] h = tt
-apart_all v (u ∷ vs) h = (or_left (bytes_eq v u) (is_among v vs) h, apart_all v vs (or_right (bytes_eq v u) (is_among v vs) h))
+apart_all v (u ∷ vs) h = (neither_left (bytes_eq v u) (is_among v vs) h, apart_all v vs (neither_right (bytes_eq v u) (is_among v vs) h))
 
 shifted : (v : Name) (vs list : List Name) (x : Given) (xs : List Given) → AllByRecursion (λ u. bytes_eq v u ≡ false) list
     → map (λ u. get_or (x ∷ xs) (place (v ∷ vs) u) numbers.nothing) list ≡ map (λ u. get_or xs (place vs u) numbers.nothing) list
@@ -201,4 +182,4 @@ given_back [] h [] l = refl
 given_back [] h (x ∷ xs) l = absurd (omega arith)
 given_back (v ∷ vs) h [] l = absurd (omega arith)
 given_back (v ∷ vs) h (x ∷ xs) l =
-    ap₂ (λ (y : Given) (ys : List Given). y ∷ ys) (rw (same_name v) refl) (shifted v vs vs x xs (apart_all v vs h.0) ∙ given_back vs h.1 xs (omega arith))
+    ap₂ (λ (y : Given) (ys : List Given). y ∷ ys) (rw (bytes_eq_same v) refl) (shifted v vs vs x xs (apart_all v vs h.0) ∙ given_back vs h.1 xs (omega arith))

@@ -1,9 +1,9 @@
 -- The level of a code.
-use Rattle.std.proofs.Common.{◌≡◌, ℕ, zero, suc, ◌+◌, ◌<◌, ◌≤◌, Bool, true, false, Option, Some, length, map, sym, ap, ◌∙◌, refl, arith, inl, inr}
-use Rattle.std.specs.Prelude.{find, option_map, ◌==◌, nat_lt, not}
-use Rattle.std.specs.List.{range_with_len}
+use Rattle.std.proofs.Common.{◌≡◌, ℕ, ◌<◌, ◌≤◌, Bool, true, false, Option, Some, length, map, sym, ap, ◌∙◌, refl, arith, inl, inr}
+use Rattle.std.specs.Prelude.{option_map, ◌==◌, nat_lt, not}
 use Rattle.std.proofs.lemmas.Bool.{cases_Bool, cases_lt, lt-ltb, le-ltb, false≢true}
 use Rattle.std.proofs.lemmas.Bool.Decides.{Decides-eqb}
+use Rattle.sap_lemmas.proofs.Options.{find_only_from}
 use Rattle.sap_lattice.specs.Closure.{name_at}
 use Rattle.sap_lattice.specs.Levels.{Levels, level_in, order_of, order_by, is_below}
 use Rattle.sap_lattice.specs.Codes.{Codes, code_of, meet_irreducibles, number_of}
@@ -41,18 +41,6 @@ not_here : (test : ℕ → Bool) (a k : ℕ) → a ≤ k → test a ≡ false �
 not_here test a k l f t =
     elim (cases_lt a k) [ inl h ↦ h | inr g ↦ (let e : a ≡ k = omega arith in let c : false ≡ true = sym f ∙ ap test e ∙ t in absurd (false≢true c)) ]
 
--- the only number from a on that passes is found
-found_from : (test : ℕ → Bool) (a count k : ℕ) → a ≤ k → k < a + count → test k ≡ true → ((j : ℕ) → j < a + count → test j ≡ true → j ≡ k) → find test (range_with_len a count) ≡ Some k
-found_from test a zero k l h t only = absurd (omega arith)
-found_from test a (suc count) k l h t only =
-    elim (cases_Bool (test a)) [
-      | inl u ↦ (let e : a ≡ k = only a (omega arith) u in rw u (ap (λ (j : ℕ). Some j) e))
-      | inr f ↦ (
-          let d : a < k = not_here test a k l f t in
-          rw f (found_from test (a + 1) count k (omega arith) (omega arith) t (λ j m u. only j (omega arith) u))
-          )
-    ]
-
 -- the name of the level whose code this level has is its name
 pub name_coded : (ls : Levels) → Codes (order_of ls) → 0 < length ls.names → (t : ℕ) → option_map (name_at ls.names) (level_coded ls (code_of (order_of ls) t)) ≡ Some (level_name ls t)
 name_coded ls codes h t =
@@ -60,6 +48,6 @@ name_coded ls codes h t =
     let small : level_in (length ls.names) t < length ls.names = bottom_level ls h t in
     let c : code_of (order_of ls) (level_in (length ls.names) t) ≡ code_of (order_of ls) t = code_in ls t in
     ap (λ (o : Option ℕ). option_map (name_at ls.names) o)
-    (found_from (λ level. code_of (order_of ls) level == code_of (order_of ls) t) 0 (length ls.names) k (omega arith) (omega arith)
+    (find_only_from (λ level. code_of (order_of ls) level == code_of (order_of ls) t) 0 (length ls.names) k (omega arith) (omega arith)
     ((Decides-eqb (code_of (order_of ls) k) (code_of (order_of ls) t)).1 c)
     (λ j m u. codes.apart j k (rw count_is (omega arith)) (rw count_is small) ((Decides-eqb (code_of (order_of ls) j) (code_of (order_of ls) t)).0 u ∙ sym c)))

@@ -2,6 +2,7 @@
 use Rattle.std.proofs.Common.{◌≡◌, ℕ, zero, suc, ◌+◌, List, [], ◌∷◌, ◌++◌, Bool, true, false, map, sym, ap, ◌∙◌, refl, if◌then◌else◌, inl, inr}
 use Rattle.std.specs.Prelude.{filter}
 use Rattle.std.proofs.lemmas.Bool.{cases_Bool}
+use Rattle.std.proofs.lemmas.List.{append-nil}
 use Rattle.sap_maps.specs.Maps.{Name}
 use Rattle.sap_meaning.specs.Program.{Entity, is_input, is_register}
 use Rattle.sap_net.specs.declared.parts.PortKind.{PortKind}
@@ -53,10 +54,6 @@ sites_gone : (test : PortKind → Bool) → test kind.Wire ≡ false → (k site
 sites_gone test h k zero = refl
 sites_gone test h k (suc n) = rw h (sites_gone test h (k + 1) n)
 
-append_nil : (xs : List Name) → xs ++ [] ≡ xs
-append_nil [] = refl
-append_nil (x ∷ xs) = ap (λ ys. x ∷ ys) (append_nil xs)
-
 module _ (d : Named) (sites : ℕ) where
   abbrev inputs : List Shown
   inputs = pairs_of (is_input (world d)) kind.Input d 0 (world d).entities
@@ -76,7 +73,7 @@ module _ (d : Named) (sites : ℕ) where
         kept netlist.is_input kind.Input refl (is_input (world d)) d 0 (world d).entities,
         gone netlist.is_input kind.Register refl (is_register (world d)) d 0 (world d).entities,
         sites_gone netlist.is_input refl 1 sites,
-      ) (append_nil _ ∙ append_nil _)
+      ) (append-nil _ ∙ append-nil _)
 
   passing_registers : passing rows.is_register (ports_of d sites) ≡ pair_names (is_register (world d)) d 0 (world d).entities
   passing_registers =
@@ -85,7 +82,7 @@ module _ (d : Named) (sites : ℕ) where
         kept rows.is_register kind.Register refl (is_register (world d)) d 0 (world d).entities,
         gone rows.is_register kind.Input refl (is_input (world d)) d 0 (world d).entities,
         sites_gone rows.is_register refl 1 sites,
-      ) (append_nil _)
+      ) (append-nil _)
 
   pub input_names_are : (n : Net) → IsNetlist n → map (λ p. (p.name, p.kind)) n.ports ≡ ports_of d sites → input_names n ≡ pair_names (is_input (world d)) d 0 (world d).entities
   input_names_are n net e =

@@ -3,12 +3,12 @@ use Rattle.std.proofs.Common.{◌≡◌, ℕ, zero, suc, ◌+◌, ◌<◌, ◌�
 use Rattle.std.specs.Prelude.{option_map}
 use Rattle.std.specs.List.{AllByRecursion}
 use Rattle.std.proofs.lemmas.Bool.{cases_Bool}
+use Rattle.sap_lemmas.proofs.Texts.{bytes_eq_same}
 use Rattle.sap_lattice.specs.Closure.{name_at}
 use Rattle.sap_lattice.specs.Levels.{Levels, order_of}
 use Rattle.sap_lattice.specs.Codes.{Codes, code_of}
 use Rattle.sap_maps.specs.Maps.{Name, Valuation}
 use Rattle.sap_maps.specs.Scope.{Scope, find}
-use Rattle.sap_maps.proofs.Scopes.{same_name}
 use Rattle.sap_meaning.specs.Program.{Entity, is_register, kind_is_register}
 use Rattle.sap_meaning.specs.Store.{Store, own, number, level}
 use Rattle.sap_net.specs.declared.parts.Register.{Register}
@@ -60,7 +60,7 @@ tag_among d x [] k l t = absurd (omega arith)
 tag_among d x (e ∷ es) zero l t =
     let z : x + 0 ≡ x = omega arith in
     let u : is_register (world d) x ≡ true = ap (is_register (world d)) (sym z) ∙ t in
-    rw (z, u) (second (bytes_eq (tag_name (name d x)) (value_name (name d x))) (bytes_eq (tag_name (name d x)) (tag_name (name d x))) _ (same_name (tag_name (name d x))))
+    rw (z, u) (second (bytes_eq (tag_name (name d x)) (value_name (name d x))) (bytes_eq (tag_name (name d x)) (tag_name (name d x))) _ (bytes_eq_same (tag_name (name d x))))
 tag_among d x (e ∷ es) (suc k) l t =
     let z : x + suc k ≡ x + 1 + k = omega arith in
     let u : is_register (world d) (x + 1 + k) ≡ true = ap (is_register (world d)) (sym z) ∙ t in

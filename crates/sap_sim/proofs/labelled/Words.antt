@@ -1,7 +1,8 @@
 -- Inputs and registers are declared, and their names aren't empty.
-use Rattle.std.proofs.Common.{◌≡◌, ℕ, zero, suc, ◌+◌, List, [], ◌∷◌, ◌++◌, Bool, true, false, ◌||◌, ◌&&◌, Some, None, length, get_or, map, sym, ◌∙◌, refl}
+use Rattle.std.proofs.Common.{◌≡◌, ℕ, zero, suc, ◌+◌, List, [], ◌∷◌, ◌++◌, Bool, true, false, ◌||◌, Some, None, length, get_or, map, sym, ◌∙◌, refl}
 use Rattle.std.specs.List.{AllByRecursion, list_all}
-use Rattle.std.proofs.lemmas.Bool.{false≢true}
+use Rattle.std.proofs.lemmas.Bool.{false≢true, or_left, or_right}
+use Rattle.sap_lemmas.proofs.Bools.{and_left, and_right}
 use Rattle.sap_tree.specs.Words as words
 use Rattle.sap_tree.specs.Whole.{is_whole, is_declaration}
 use Rattle.sap_tree.specs.Syntax.{StateTree, StateOf, StateList, NoState, AndState, DesignTree}
@@ -50,14 +51,6 @@ unfolding words.is_name
 name_some version [] h e = false≢true h
 name_some version (c ∷ cs) h e = cc
 
-and_left : (p q : Bool) → (p && q) ≡ true → p ≡ true
-and_left true q h = refl
-and_left false q h = h
-
-and_right : (p q : Bool) → (p && q) ≡ true → q ≡ true
-and_right true q h = h
-and_right false q h = cc
-
 declaration_some : (version : Version) (d : Decl) → is_declaration version d ≡ true → IsSome (entity_of d).name.name
 declaration_some version (decl.Input place name width) h = name_some version name.name (and_left _ _ h)
 declaration_some version (decl.Register place name width kind start) h = name_some version name.name (and_left _ _ (and_left _ _ (and_left _ _ h)))
@@ -73,20 +66,13 @@ whole_declarations : (t : DesignTree) → is_whole t ≡ true → list_all (is_d
 unfolding is_whole
 whole_declarations t h = and_left _ _ (and_left _ _ (and_left _ _ h))
 
-or_first : (p q : Bool) → p ≡ true → (p || q) ≡ true
-or_first p q h = rw h refl
-
-or_second : (p q : Bool) → q ≡ true → (p || q) ≡ true
-or_second true q h = refl
-or_second false q h = h
-
 pub input_some : (ls : Levels) (t : DesignTree) → is_whole t ≡ true → (x : ℕ) → is_input (world (named_of ls t)) x ≡ true → IsSome (name (named_of ls t) x)
 input_some ls t w x h =
-    named_some t.version ls t.declarations _ (named_group t.states) (group_plain ls 0 (length t.declarations) t.states) (whole_declarations t w) x (or_first (is_input (world (named_of ls t)) x) (is_register (world (named_of ls t)) x) h)
+    named_some t.version ls t.declarations _ (named_group t.states) (group_plain ls 0 (length t.declarations) t.states) (whole_declarations t w) x (or_left (is_input (world (named_of ls t)) x) (is_register (world (named_of ls t)) x) h)
 
 pub register_some : (ls : Levels) (t : DesignTree) → is_whole t ≡ true → (x : ℕ) → is_register (world (named_of ls t)) x ≡ true → IsSome (name (named_of ls t) x)
 register_some ls t w x h =
-    named_some t.version ls t.declarations _ (named_group t.states) (group_plain ls 0 (length t.declarations) t.states) (whole_declarations t w) x (or_second (is_input (world (named_of ls t)) x) (is_register (world (named_of ls t)) x) h)
+    named_some t.version ls t.declarations _ (named_group t.states) (group_plain ls 0 (length t.declarations) t.states) (whole_declarations t w) x (or_right (is_input (world (named_of ls t)) x) (is_register (world (named_of ls t)) x) h)
 
 pub value_back : (n : Name) → IsSome n → value_of (value_name n) ≡ Some n
 value_back [] h = absurd (h refl)

@@ -1,8 +1,7 @@
 -- The program of a design is no larger than the design.
-use Rattle.std.proofs.Common.{None, ◌≡◌, ℕ, ◌+◌, ◌≤◌, List, [], ◌∷◌, ◌++◌, length, Option, Some, refl, ap, arith, inl, inr, length-append}
+use Rattle.std.proofs.Common.{None, ◌≡◌, ℕ, ◌+◌, ◌≤◌, List, ◌++◌, length, Option, Some, refl, ap, arith, inl, inr, length-append}
 use Rattle.std.specs.Prelude.{eqb}
 use Rattle.std.proofs.lemmas.Bool.{cases_Bool}
-use Rattle.sap_tree.specs.declared.syntax.Decl.{Decl}
 use Rattle.sap_tree.specs.declared.syntax.Kind.{Kind}
 use Rattle.sap_tree.specs.Syntax.{Expression, Number, Sized, Read, Cell, Unary, Binary, Choose, Slice, Concat, Zext, Expressions, NoPart, AndPart, TagExpression, Level, TagOf, LevelAt, Join, TagExpressions, NoTag, AndTag, SimpleCommand, Assign, SetTag, SetCellTag, CommandBlock, Commands, ElseBlock, NoElse, Else, CommandList, NoCommand, AndCommand, StateTree, StateOf, StateList, NoState, AndState}
 use Rattle.sap_tree.specs.Syntax as tree
@@ -17,7 +16,7 @@ use Rattle.sap_shape.proofs.SiteCounts.{simple_few}
 use Rattle.sap_meaning.specs.Program.{World, Step, Set, Retag, RetagCell, Goto, Fall, Command, Do, Try, If, TryThen, Case, Arms, Last, Arm, Block, End, Then, State, Node, Group, More}
 use Rattle.sap_meaning.specs.Program as program
 use Rattle.sap_meaning.specs.Checks.{Spot}
-use Rattle.sap_resolve.specs.Worlds.{states_in, all_declared, state_entities, group_entities}
+use Rattle.sap_resolve.specs.Worlds.{states_in, state_entities, group_entities}
 use Rattle.sap_resolve.specs.Worlds as worlds
 use Rattle.sap_resolve.specs.Terms.{known, widened, term_of, parts_of, level_term, level_terms}
 use Rattle.sap_resolve.specs.Resolve.{site_number, step_of, numbers_of, command_of, arms_of, block_of, else_of, list_of, state_of, group_of}
@@ -205,10 +204,6 @@ mutual
       let q = group_entered ls (n + 1) (x + states_in s) rest in
       let l = length-append (state_entities ls n x s) (group_entities ls (n + 1) (x + states_in s) rest) in
       omega (arith, r, q, l)
-
-pub all_entered : (ls : Levels) (ds : List Decl) → length (all_declared ls ds) ≡ length ds
-all_entered ls [] = refl
-all_entered ls (d ∷ ds) = let r = all_entered ls ds in omega (arith, r)
 
 mutual
   unfolding state_count states_count

@@ -1,7 +1,6 @@
 -- How large bodies and states are.
-use Rattle.std.proofs.Common.{◌≡◌, ℕ, zero, suc, ◌+◌, ◌-◌, ◌*◌, ◌^◌, ◌<◌, ◌≤◌, nat_le, Bool, true, false, List, [], ◌∷◌, length, take, drop, refl, arith, inl, inr, length-append}
-use Rattle.std.proofs.lemmas.Bool.{cases_Bool}
-use Rattle.std.proofs.lemmas.Grind.{common_steps}
+use Rattle.std.proofs.Common.{◌≡◌, ℕ, zero, suc, ◌+◌, ◌-◌, ◌*◌, ◌^◌, ◌≤◌, nat_le, Bool, List, [], ◌∷◌, length, take, drop, refl, arith, inl, inr, length-append}
+use Rattle.std.proofs.lemmas.Bool.{cases_Bool, leb-false}
 use Rattle.std.proofs.lemmas.List.{length-take-le, length-drop}
 use Rattle.std.proofs.Math.Pow.{pow_pos}
 use Rattle.sap_bits.specs.declared.Op2.TheVariants.{Eq}
@@ -44,12 +43,6 @@ total_split group zero bs = omega arith
 total_split group (suc n) [] = omega arith
 total_split group (suc n) (b ∷ bs) = let r = total_split group n bs in omega (arith, r)
 
-at_most : (a b : ℕ) → nat_le a b ≡ true → a ≤ b
-at_most a b h = grind (arith, common_steps)
-
-above : (a b : ℕ) → nat_le a b ≡ false → b < a
-above a b h = grind (arith, common_steps)
-
 module _ (d : Setting) (room : ℕ) (r : Roomy d room) where
   module _ (at : Spot) (few : states_below at.children ≤ root d.world) (group : Forest) (small : states_in group ≤ root d.world) where
     select_weighs : (p k : ℕ) (e : Term ℕ) (hangs : ℕ → Bool) (a b : Body) → body_weight group (select_of d p k e hangs a b) ≤ room * (1 + term_size e) + body_weight group a + body_weight group b
@@ -89,7 +82,7 @@ module _ (d : Setting) (room : ℕ) (r : Roomy d room) where
       | inl t ↦ rw t (decides_weigh j m bs l)
       | inr t ↦
           rw t
-          (let a = above (length bs) (2 ^ m) t in
+          (let a = leb-false (length bs) (2 ^ m) t in
           let p = pow_pos m in
           let first : length (take (2 ^ m) bs) ≡ 2 ^ m = length-take-le (2 ^ m) bs (omega (arith, a)) in
           let last : length (drop (2 ^ m) bs) ≡ length bs - 2 ^ m = length-drop (2 ^ m) bs in

@@ -1,6 +1,7 @@
 -- The plain program of a design weighs no more than its module may have items.
 use Rattle.std.proofs.Common.{◌≡◌, ℕ, ◌+◌, ◌*◌, ◌≤◌, length, subst, refl, arith, length-append}
 use Rattle.std.proofs.Math.Nat.{mul-le-mul_left}
+use Rattle.sap_resolve.proofs.WorldsLemmas.{declared_length}
 use Rattle.sap_tree.specs.Syntax.{DesignTree}
 use Rattle.sap_lattice.specs.Levels.{Levels, order_by, order_of}
 use Rattle.sap_lattice.specs.Codes.{width_of}
@@ -16,7 +17,7 @@ use Rattle.sap_size.specs.Items.{most_items}
 use Rattle.sap_tagged.specs.Law.{IsSound, plain_for}
 use Rattle.sap_tagged.proofs.Designs.{design}
 use Rattle.sap_tagged.proofs.small.Declared.{plain_weighs}
-use Rattle.sap_tagged.proofs.small.Sizes.{group_within, group_counted, group_entered, all_entered, states_same, group_sited, group_filled, group_kept}
+use Rattle.sap_tagged.proofs.small.Sizes.{group_within, group_counted, group_entered, states_same, group_sited, group_filled, group_kept}
 
 levels_are : (ls : Levels) → (order_of ls).count ≡ length ls.names
 unfolding order_of order_by
@@ -35,7 +36,7 @@ plain_small ls d sound =
     let g = states_of ls d in
     let states = group_counted ls es 1 (length d.declarations) d.states in
     let entered = group_entered ls 0 (length d.declarations) d.states in
-    let declared = all_entered ls d.declarations in
+    let declared = declared_length ls d.declarations in
     let same = states_same d.states in
     let both = length-append (all_declared ls d.declarations) (group_entities ls 0 (length d.declarations) d.states) in
     let kept = group_kept w (root w) g in

@@ -4,6 +4,8 @@ use Rattle.std.specs.Prelude.{◌⊎◌, map, flat_map, unwrap_or, slice_get}
 use Rattle.std.specs.Str.{bytes_eq}
 use Rattle.std.proofs.Common.{inl, inr}
 use Rattle.std.proofs.lemmas.Bool.{cases_Bool}
+use Rattle.std.proofs.lemmas.Grind.{flat_map-append}
+use Rattle.std.proofs.lemmas.List.{length_push, map-append}
 use Rattle.sap_maps.specs.Maps.{Name}
 use Rattle.sap_net.specs.declared.parts.Parts.{Parts}
 use Rattle.sap_net.specs.declared.parts.Wire.{Wire}
@@ -13,7 +15,6 @@ use Rattle.sap_net.specs.Net.{net_of}
 use Rattle.sap_modtext.specs.Items as item
 use Rattle.sap_modtext.specs.Faults.{Shape, wire, register, memory, port_shape, Declaration, port_declaration, item_declarations, declarations, shape_in, shape_width}
 use Rattle.sap_modtext.specs.Modules.{netlist_of, net_operand, net_right, net_port, port_input, net_wires, declared_width, first_of, first_given, when, initial_number, next_operand, cell_write, nothing, net_register, net_memory, written_memory, shape_registers, shape_memories}
-use Rattle.sap_modtext.proofs.NameLists.{map_append, flat_map_append}
 use Rattle.sap_vparse.specs.declared.items.File.{File}
 use Rattle.sap_vparse.specs.declared.items.Item.{Item}
 use Rattle.sap_vparse.specs.declared.items.Port.{Port}
@@ -31,17 +32,9 @@ use Rattle.sap_vread.proofs.build.NotedLists.{all_noted-none, all_noted-cons, po
 
 -- Lists.
 
-map_twice : {A B C : Type 0} (g : B → C) (h : A → B) (xs : List A) → map g (map h xs) ≡ map (λ x. g (h x)) xs
-map_twice g h [] = refl
-map_twice g h (x ∷ xs) = ap (λ z. g (h x) ∷ z) (map_twice g h xs)
-
-flat_twice : {A B C : Type 0} (g : B → List C) (h : A → B) (xs : List A) → flat_map g (map h xs) ≡ flat_map (λ x. g (h x)) xs
-flat_twice g h [] = refl
-flat_twice g h (x ∷ xs) = ap (λ z. g (h x) ++ z) (flat_twice g h xs)
-
 flat_flat : {A B C : Type 0} (g : B → List C) (h : A → List B) (xs : List A) → flat_map g (flat_map h xs) ≡ flat_map (λ x. flat_map g (h x)) xs
 flat_flat g h [] = refl
-flat_flat g h (x ∷ xs) = flat_map_append g (h x) (flat_map h xs) ∙ ap (λ z. flat_map g (h x) ++ z) (flat_flat g h xs)
+flat_flat g h (x ∷ xs) = flat_map-append g (h x) (flat_map h xs) ∙ ap (λ z. flat_map g (h x) ++ z) (flat_flat g h xs)
 
 flat_same : {A B : Type 0} (g h : A → List B) (xs : List A) → ((x : A) → g x ≡ h x) → flat_map g xs ≡ flat_map h xs
 flat_same g h [] e = refl
@@ -49,7 +42,7 @@ flat_same g h (x ∷ xs) e = ap (λ z. z ++ flat_map g xs) (e x) ∙ ap (λ z. h
 
 map_flat : {A B C : Type 0} (g : B → C) (h : A → List B) (xs : List A) → map g (flat_map h xs) ≡ flat_map (λ x. map g (h x)) xs
 map_flat g h [] = refl
-map_flat g h (x ∷ xs) = map_append g (h x) (flat_map h xs) ∙ ap (λ z. map g (h x) ++ z) (map_flat g h xs)
+map_flat g h (x ∷ xs) = map-append g (h x) (flat_map h xs) ∙ ap (λ z. map g (h x) ++ z) (map_flat g h xs)
 
 abbrev narrow_ports : List Port → List item.Port
 narrow_ports ps = map narrow_port (ports_of ps)
@@ -79,7 +72,7 @@ all_item_names [] = refl
 all_item_names (x ∷ xs) =
     ap (λ z. z ++ flat_map (λ y. map (λ (d : Declaration). d.name.name) (item_declarations (item_of y))) xs) (sym (item_names (item_of x)))
     ∙ ap (λ z. map (λ (d : Declaration). d.name.name) (item_declarations (narrow_item (item_of x))) ++ z) (all_item_names xs)
-    ∙ sym (map_append (λ (d : Declaration). d.name.name) (item_declarations (narrow_item (item_of x))) (flat_map item_declarations (narrow_items xs)))
+    ∙ sym (map-append (λ (d : Declaration). d.name.name) (item_declarations (narrow_item (item_of x))) (flat_map item_declarations (narrow_items xs)))
 
 pub names_built : (f : File) → map (λ p. p.name.name) f.ports.items ++ flat_map (λ x. map (λ (d : Declaration). d.name.name) (item_declarations (item_of x))) f.items.items
     ≡ (netlist_of (narrow_file (file_of f))).names
@@ -88,7 +81,7 @@ names_built f =
     let xs = f.items.items in
     ap (λ z. z ++ flat_map (λ x. map (λ (d : Declaration). d.name.name) (item_declarations (item_of x))) xs) (port_names ps)
     ∙ ap (λ z. declared_names (map port_declaration (narrow_ports ps)) ++ z) (all_item_names xs)
-    ∙ sym (map_append (λ (d : Declaration). d.name.name) (map port_declaration (narrow_ports ps)) (flat_map item_declarations (narrow_items xs)))
+    ∙ sym (map-append (λ (d : Declaration). d.name.name) (map port_declaration (narrow_ports ps)) (flat_map item_declarations (narrow_items xs)))
 
 ports_built : (ps : List Port) → map (λ p. net_port (narrow_port (port_of p))) ps ≡ map net_port (narrow_ports ps)
 ports_built [] = refl
@@ -228,10 +221,6 @@ at_length [] x after (suc place) e = absurd (omega arith)
 at_length (y ∷ before) x after zero e = absurd (omega arith)
 at_length (y ∷ before) x after (suc place) e = at_length before x after place (omega arith)
 
-length_more : {A : Type 0} (before : List A) (x : A) → length (before ++ x ∷ []) ≡ length before + 1
-length_more [] x = refl
-length_more (y ∷ before) x = let r = length_more before x in omega arith
-
 -- both say nothing, or one gives the place, and the other what the item says
 abbrev Says : {A : Type 0} → (item.Item → A) → Option ℕ → Option A → ℕ → item.Item → Type 0
 Says h q g place x = ((q ≡ None) × (g ≡ None)) ⊎ ((q ≡ Some place) × (g ≡ Some (h x)))
@@ -242,7 +231,7 @@ module _ {A : Type 0} (noting : Noting) (h : item.Item → A) (other : A) (g : i
       → b.at_place h other (before ++ rest) (all_noted noting n place (items_of rest)) ≡ unwrap_or (first_given g (narrow_items rest)) other
   found_at before [] place e = ap (b.at_place h other (before ++ [])) (all_noted-none noting n place)
   found_at before (x ∷ rest) place e =
-      let later = found_at (before ++ x ∷ []) rest (place + 1) (length_more before x ∙ ap (λ k. k + 1) e) in
+      let later = found_at (before ++ x ∷ []) rest (place + 1) (length_push before x ∙ ap (λ k. k + 1) e) in
       let all = before ++ x ∷ rest in
       let others = all_noted noting n (place + 1) (items_of rest) in
       ap (b.at_place h other all) (all_noted-cons noting n place (item_of x) (items_of rest))
@@ -349,7 +338,7 @@ module _ (f : File) (t : Tables) (h : AreNoted t (file_of f)) where
       let g = λ (d : Declaration). shape_registers d.name.name d.shape (narrow_items f.items.items) in
       ap (λ z. z ++ flat_map (λ x. b.item_registers (number_of t.starts) (number_of t.nexts) f.items.items (item_of x)) xs) (port_registers_built ps)
       ∙ ap (λ z. flat_map (λ d. shape_registers d.name.name d.shape (narrow_items f.items.items)) (map port_declaration (narrow_ports ps)) ++ z) (item_registers_built xs)
-      ∙ sym (flat_map_append (λ (d : Declaration). shape_registers d.name.name d.shape (narrow_items f.items.items)) (map port_declaration (narrow_ports ps)) (flat_map item_declarations (narrow_items xs)))
+      ∙ sym (flat_map-append (λ (d : Declaration). shape_registers d.name.name d.shape (narrow_items f.items.items)) (map port_declaration (narrow_ports ps)) (flat_map item_declarations (narrow_items xs)))
 
   no_memory : (d : item.Direction) (n : Name) (w : ℕ) (items : List item.Item) (ms : List Memory) → shape_memories n (port_shape d w) items ++ ms ≡ ms
   no_memory item.input n w items ms = refl
@@ -387,7 +376,7 @@ module _ (f : File) (t : Tables) (h : AreNoted t (file_of f)) where
   memories_built =
       item_memories_built f.items.items
       ∙ sym (no_memories f.ports.items (flat_map (λ d. shape_memories d.name.name d.shape (narrow_items f.items.items)) (flat_map item_declarations (narrow_items f.items.items))))
-      ∙ sym (flat_map_append (λ (d : Declaration). shape_memories d.name.name d.shape (narrow_items f.items.items)) (map port_declaration (narrow_ports f.ports.items)) (flat_map item_declarations (narrow_items f.items.items)))
+      ∙ sym (flat_map-append (λ (d : Declaration). shape_memories d.name.name d.shape (narrow_items f.items.items)) (map port_declaration (narrow_ports f.ports.items)) (flat_map item_declarations (narrow_items f.items.items)))
 
   pub net_built : (p : Parts) → p.module_name ≡ f.module_name → p.names.items ≡ (netlist_of (narrow_file (file_of f))).names
       → p.ports.items ≡ map (λ q. net_port (narrow_port (port_of q))) f.ports.items → p.inputs.items ≡ flat_map (λ q. port_input (narrow_port (port_of q))) f.ports.items

@@ -4,9 +4,10 @@ use Rattle.std.specs.Prelude.{◌||◌, flat_map, is_some, unwrap_or}
 use Rattle.std.specs.List.{AllByRecursion, list_any}
 use Rattle.std.specs.Str.{bytes_eq}
 use Rattle.std.proofs.lemmas.Bool.{cases_Bool}
+use Rattle.sap_lemmas.proofs.Everywhere.{all_parts}
+use Rattle.sap_lemmas.proofs.Texts.{equal_of_bytes_eq}
 use Rattle.sap_maps.specs.Maps.{Name}
 use Rattle.sap_maps.specs.Scope.{Scope}
-use Rattle.sap_maps.proofs.Scopes.{name_is}
 use Rattle.sap_net.specs.declared.parts.Operand as net
 use Rattle.sap_net.specs.Rules.{IsOperand, IsRegister, IsMemory}
 use Rattle.sap_net.specs.IsNetlist.{readable}
@@ -20,7 +21,7 @@ use Rattle.sap_vread.proofs.build.Entries.{own_shape}
 use Rattle.sap_vread.proofs.build.Sound.{names_distinct, good_use, good_uses, good_constants, good_pairs, good_index, all_set, Part}
 use Rattle.sap_vread.proofs.build.Parts.{all_declared, item_in, shape_below}
 use Rattle.sap_vread.proofs.build.Readable.{small_constant, fine_shape, operand_is, operand_wide}
-use Rattle.sap_vread.proofs.build.WiresFit.{all_parts, equal, HasParts, last_reads, more_below}
+use Rattle.sap_vread.proofs.build.WiresFit.{equal, HasParts, last_reads, more_below}
 
 -- The first item that gives something.
 
@@ -62,7 +63,7 @@ when_there x n a t = ap (λ b. is_some (cond b (Some a) None)) t
 when_given : {A : Type 0} (x n : Name) (a b : A) → when x n a ≡ Some b → (x ≡ n) × (a ≡ b)
 when_given x n a b e =
     ⊎_elim
-    (λ t. let q : Some a ≡ Some b = rw t at e in let p : a ≡ b = cc in (name_is x n t, p))
+    (λ t. let q : Some a ≡ Some b = rw t at e in let p : a ≡ b = cc in (equal_of_bytes_eq x n t, p))
     (λ t. let q : None ≡ Some b = rw t at e in absurd (cc))
     (cases_Bool (bytes_eq x n))
 
@@ -163,7 +164,7 @@ module _ (f : File) (h : IsFaultless f) where
       let r = as_declared_memory (item.always_cell condition x index value) p x
       (among_right (let u : Use = record { manner = as_memory; name = x } in u) (operand_uses condition)
       ((let u : Use = record { manner = as_memory; name = x } in u) ∷ (operand_uses index ++ operand_uses value)) (inl refl)) in
-      let q = same_shape n (register w) (memory r.0 r.1) d (subst (λ z. shape_in (all_declared f) z ≡ Some (memory r.0 r.1)) (name_is x.name n t) r.3) in
+      let q = same_shape n (register w) (memory r.0 r.1) d (subst (λ z. shape_in (all_declared f) z ≡ Some (memory r.0 r.1)) (equal_of_bytes_eq x.name n t) r.3) in
       absurd (cc)
   next_there n w d (item.wire range x) p t = absurd (cc)
   next_there n w d (item.register range x) p t = absurd (cc)
@@ -242,7 +243,7 @@ module _ (f : File) (h : IsFaultless f) where
       when_there x.name n (let r : Write = record { enable = net_operand condition; index = net_operand index; value = net_operand value } in r) t
   write_there n w depth d (item.always x next) p t =
       let r = as_declared_register (item.always x next) p x (inl refl) in
-      let q = same_shape n (memory w depth) (register r.0) d (subst (λ z. shape_in (all_declared f) z ≡ Some (register r.0)) (name_is x.name n t) r.2) in
+      let q = same_shape n (memory w depth) (register r.0) d (subst (λ z. shape_in (all_declared f) z ≡ Some (register r.0)) (equal_of_bytes_eq x.name n t) r.2) in
       absurd (cc)
   write_there n w depth d (item.wire range x) p t = absurd (cc)
   write_there n w depth d (item.register range x) p t = absurd (cc)

@@ -4,9 +4,10 @@ use Rattle.std.specs.Prelude.{map, filter, is_some}
 use Rattle.std.specs.List.{AllByRecursion}
 use Rattle.std.specs.Str.{bytes_eq}
 use Rattle.std.proofs.lemmas.Bool.{cases_Bool}
+use Rattle.sap_lemmas.proofs.Texts.{equal_of_bytes_eq}
+use Rattle.sap_modtext.proofs.FaultsLemmas.{all_alike}
 use Rattle.sap_maps.specs.Maps.{Name}
 use Rattle.sap_maps.specs.Scope.{find}
-use Rattle.sap_maps.proofs.Scopes.{name_is}
 use Rattle.sap_net.specs.Names.{is_among, AreDistinct}
 use Rattle.sap_modtext.specs.Faults.{Shape, Declaration, shape_in, Among}
 use Rattle.sap_modtext.proofs.NameLists.{keys, keys_map, AreNew, new_keys, found_key, found_among, among_mapped, NoneAmong, all_from}
@@ -55,7 +56,7 @@ declared_by (d ∷ ds) n s e =
     ⊎_elim
     (λ t. let q : Some d.shape ≡ Some s = rw t at e in
     let p : d.shape ≡ s = cc in
-    record { declaration = d; among = inl refl; name = name_is d.name.name n t; shape = p })
+    record { declaration = d; among = inl refl; name = equal_of_bytes_eq d.name.name n t; shape = p })
     (λ t. let r = declared_by ds n s (rw t at e) in record { declaration = r.declaration; among = inr r.among; name = r.name; shape = r.shape })
     (cases_Bool (bytes_eq d.name.name n))
 
@@ -105,7 +106,7 @@ found_entry pick [] h n = refl
 found_entry pick (d ∷ ds) h n =
     let rest = found_entry pick ds h.1 n in
     ⊎_elim
-    (λ t. let none : shape_in ds n ≡ None = no_shape ds n (subst (λ z. is_among z (declared_names ds) ≡ false) (name_is d.name.name n t) h.0) in
+    (λ t. let none : shape_in ds n ≡ None = no_shape ds n (subst (λ z. is_among z (declared_names ds) ≡ false) (equal_of_bytes_eq d.name.name n t) h.0) in
     found_first d.name.name n (pick d.shape) (entries pick ds) t (rest ∙ ap (picked pick) none)
     ∙ sym (ap (λ b. picked pick (cond b (Some d.shape) (shape_in ds n))) t))
     (λ t. found_later d.name.name n (pick d.shape) (entries pick ds) t ∙ rest
@@ -154,13 +155,9 @@ filtered test pick [] a = refl
 filtered test pick (d ∷ ds) a =
     added_key (test d.name.name) d.name.name (pick d.shape) (filter test (declared_names ds)) (entries pick ds) a.0 (filtered test pick ds a.1)
 
-pub all_among : {A : Type 0} (P : A → Type 0) (xs : List A) → ((x : A) → Among x xs → P x) → AllByRecursion P xs
-all_among P [] f = tt
-all_among P (x ∷ xs) f = (f x (inl refl), all_among P xs (λ y m. f y (inr m)))
-
 pub in_order : {X : Type 0} (pick : Shape → Option X) (ds : List Declaration) → AreDistinct (declared_names ds)
     → filter (λ x. is_among x (keys (entries pick ds))) (declared_names ds) ≡ keys (entries pick ds)
 in_order pick ds h =
     filtered (λ x. is_among x (keys (entries pick ds))) pick ds
-    (all_among (λ d. is_among d.name.name (keys (entries pick ds)) ≡ is_some (pick d.shape)) ds
+    (all_alike (λ d. is_among d.name.name (keys (entries pick ds)) ≡ is_some (pick d.shape)) ds
     (λ d m. key_picked pick ds h d.name.name ∙ ap (λ o. is_some (picked pick o)) (own_shape ds h d m)))

@@ -4,6 +4,7 @@ use Rattle.std.specs.Prelude.{map, flat_map}
 use Rattle.std.specs.List.{AllByRecursion}
 use Rattle.std.proofs.lemmas.Bool.{lt-ltb}
 use Rattle.std.proofs.Math.Pow.{pow_mono}
+use Rattle.sap_lemmas.proofs.Everywhere.{all_parts}
 use Rattle.sap_modtext.specs.Items.{Mention, Number, Constant, Operand, Right, Port, Item, File}
 use Rattle.sap_modtext.specs.Items as item
 use Rattle.sap_modtext.specs.Faults.{as_value, operand_constants, right_constants, constant_fits, Among, IsDepth, IsFaultless}
@@ -12,7 +13,6 @@ use Rattle.sap_vread.specs.Build.Narrow.{narrow, narrow_number, narrow_constant,
 use Rattle.sap_vread.proofs.build.Sound.{good_use, good_constants, slice_fits, good_depth, small_port, small_range, Part}
 use Rattle.sap_vread.proofs.build.Parts.{item_in, shape_below}
 use Rattle.sap_vread.proofs.build.Readable.{small_constant, fine_shape, fine_width}
-use Rattle.sap_vread.proofs.build.WiresFit.{all_parts}
 
 pub narrow_small : (n : ℕ) → n < 4096 → narrow n ≡ n
 narrow_small n h = ap (λ b. cond b n 0) (lt-ltb n 4096 h)

@@ -4,9 +4,11 @@ use Rattle.std.specs.Prelude.{◌||◌, map, flat_map, filter, is_some}
 use Rattle.std.specs.List.{AllByRecursion, list_any}
 use Rattle.std.specs.Str.{bytes_eq}
 use Rattle.std.proofs.lemmas.Bool.{cases_Bool}
+use Rattle.sap_lemmas.proofs.Texts.{bytes_eq_symmetric, equal_of_bytes_eq}
+use Rattle.std.proofs.lemmas.Grind.{flat_map-append}
+use Rattle.sap_net.proofs.NamesLemmas.{among_append}
 use Rattle.sap_maps.specs.Maps.{Name}
 use Rattle.sap_maps.specs.Scope.{Scope}
-use Rattle.sap_maps.proofs.Scopes.{name_is, same_name, apart_back}
 use Rattle.sap_net.specs.declared.parts.Input.{Input}
 use Rattle.sap_net.specs.declared.parts.Wire.{Wire}
 use Rattle.sap_net.specs.declared.parts.Register.{Register}
@@ -18,7 +20,7 @@ use Rattle.sap_modtext.specs.Items.{Direction, Port, Item, File}
 use Rattle.sap_modtext.specs.Items as item
 use Rattle.sap_modtext.specs.Faults.{Shape, input, wire, register, memory, port_shape, port_declaration, item_declarations, Declaration, declarations, shape_in, IsItemOf, assign, is_target, target_of, is_set, as_wire, suits, needs, Use, Among, IsFaultless}
 use Rattle.sap_modtext.specs.Modules.{net_kind, net_port, net_input, port_input, net_wires, shape_registers, shape_memories, netlist_of}
-use Rattle.sap_modtext.proofs.NameLists.{keys, keys_map, among_append, flat_map_append, among_left, among_mapped}
+use Rattle.sap_modtext.proofs.NameLists.{keys, keys_map, among_left, among_mapped}
 use Rattle.sap_modtext.proofs.Good.{above_of}
 use Rattle.sap_vread.proofs.build.Entries.{declared_names, add_entry, entries, entries_append, picked, key_picked, in_order, own_shape, shape_known, shape_kept, declared_by}
 use Rattle.sap_vread.proofs.build.Sound.{names_distinct, good_use, all_set, Part}
@@ -126,20 +128,13 @@ pub memory_names_are : (f : File) → memory_names (netlist_of f) ≡ keys (entr
 memory_names_are f =
     sym (keys_map (λ (x : Memory). x.name) (λ (x : Memory). let p : ℕ × ℕ = (x.width, x.depth) in p) (netlist_of f).memories) ∙ ap keys (memories_are f)
 
-eq_back : (m n : Name) → bytes_eq m n ≡ bytes_eq n m
-eq_back m n =
-    ⊎_elim
-    (λ t. t ∙ sym (subst (λ z. bytes_eq z m ≡ true) (name_is m n t) (same_name m)))
-    (λ t. t ∙ sym (apart_back m n t))
-    (cases_Bool (bytes_eq m n))
-
 one_wire : (ds : List Declaration) (x : Item) (n : Name) (ws : List Wire) (set : Bool) → is_among n (map (λ w. w.name) ws) ≡ set
     → is_among n (map (λ w. w.name) (net_wires ds x ++ ws)) ≡ (is_target assign n (target_of x) || set)
 one_wire ds (item.wire range x) n ws set e = e
 one_wire ds (item.register range x) n ws set e = e
 one_wire ds (item.memory range x last) n ws set e = e
 one_wire ds (item.integer place) n ws set e = e
-one_wire ds (item.assign x right) n ws set e = ap (λ b. b || is_among n (map (λ w. w.name) ws)) (eq_back n x.name) ∙ ap (λ b. bytes_eq x.name n || b) e
+one_wire ds (item.assign x right) n ws set e = ap (λ b. b || is_among n (map (λ w. w.name) ws)) (bytes_eq_symmetric n x.name) ∙ ap (λ b. bytes_eq x.name n || b) e
 one_wire ds (item.initial x value) n ws set e = e
 one_wire ds (item.initial_cells place bound x value) n ws set e = e
 one_wire ds (item.always x next) n ws set e = e
@@ -165,7 +160,7 @@ pub item_in : (f : File) (x : Item) (p : Part x f.items) → IsItemOf f (above_o
 item_in f x p = record { below = p.after; ports = refl; items = p.is }
 
 map_flat_append : (xs ys : List Item) → flat_map item_declarations (xs ++ ys) ≡ flat_map item_declarations xs ++ flat_map item_declarations ys
-map_flat_append xs ys = flat_map_append item_declarations xs ys
+map_flat_append xs ys = flat_map-append item_declarations xs ys
 
 -- what is declared above an item is declared in the file
 pub shape_below : (f : File) (before after : List Item) (n : Name) (s : Shape) → f.items ≡ before ++ after → shape_in (declarations f.ports before) n ≡ Some s
@@ -184,7 +179,7 @@ module _ (f : File) (h : IsFaultless f) where
       let u : Use = record { manner = as_wire; name = x } in
       let g = good_use f h (above_of f.ports p.before) (item.assign x right) (item_in f (item.assign x right) p) u (inl refl) in
       let r = of_shape g.shape g.suits in
-      (r.0, shape_below f p.before (item.assign x right ∷ p.after) n (wire r.0) p.is (subst (λ z. shape_in (declarations f.ports p.before) z ≡ Some (wire r.0)) (name_is x.name n t) (g.declared ∙ ap (λ z. Some z) r.1))) where
+      (r.0, shape_below f p.before (item.assign x right ∷ p.after) n (wire r.0) p.is (subst (λ z. shape_in (declarations f.ports p.before) z ≡ Some (wire r.0)) (equal_of_bytes_eq x.name n t) (g.declared ∙ ap (λ z. Some z) r.1))) where
         of_shape : (s : Shape) → suits as_wire s ≡ true → (width : ℕ) × (s ≡ wire width)
         of_shape (input w) e = absurd (cc)
         of_shape (wire w) e = (w, refl)

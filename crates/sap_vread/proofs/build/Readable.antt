@@ -4,6 +4,7 @@ use Rattle.std.specs.Prelude.{◌&&◌, map, flat_map, is_some, nat_lt, nat_le}
 use Rattle.std.specs.List.{AllByRecursion}
 use Rattle.std.specs.Str.{bytes_eq}
 use Rattle.std.proofs.lemmas.Bool.{and_parts, ltb-true, leb-true}
+use Rattle.sap_modtext.proofs.FaultsLemmas.{all_alike}
 use Rattle.sap_maps.specs.Maps.{Name}
 use Rattle.sap_maps.specs.Scope.{Scope, find}
 use Rattle.sap_net.specs.Names.{AreDistinct}
@@ -15,7 +16,7 @@ use Rattle.sap_modtext.specs.Faults.{Shape, input, wire, register, memory, port_
 use Rattle.sap_modtext.specs.Modules.{netlist_of, net_operand, first_of}
 use Rattle.sap_modtext.proofs.NameLists.{keys, keys_append, key_none, new_keys, found_among, distinct_append, among_cases}
 use Rattle.sap_modtext.proofs.Good.{IsGoodUse, above_of}
-use Rattle.sap_vread.proofs.build.Entries.{entries, picked, found_entry, distinct_entries, entries_apart, declared_by, all_among}
+use Rattle.sap_vread.proofs.build.Entries.{entries, picked, found_entry, distinct_entries, entries_apart, declared_by}
 use Rattle.sap_vread.proofs.build.Sound.{names_distinct, small_port, small_range, good_depth, Part, part_of}
 use Rattle.sap_vread.proofs.build.Parts.{all_declared, register_entries, input_width, register_width, memory_shape, inputs_are, registers_are, memories_are, item_in, shape_below}
 
@@ -181,7 +182,7 @@ module _ (f : File) (h : IsFaultless f) where
   values_are =
       let es = first_readable (netlist_of f) in
       are_values (shapes (netlist_of f)) es first_distinct
-      (all_among (λ e. IsWidth e.1 × (find (shapes (netlist_of f)) e.0 ≡ None)) es (λ e m. one e (found_among es (new_keys es first_distinct) e.0 e.1 m))) where
+      (all_alike (λ e. IsWidth e.1 × (find (shapes (netlist_of f)) e.0 ≡ None)) es (λ e m. one e (found_among es (new_keys es first_distinct) e.0 e.1 m))) where
         one : (e : Name × ℕ) → find (first_readable (netlist_of f)) e.0 ≡ Some e.1 → IsWidth e.1 × (find (shapes (netlist_of f)) e.0 ≡ None)
         one e g =
             let v = value_of (shape_in (all_declared f) e.0) false e.1 (sym (first_found e.0) ∙ g) in
@@ -197,7 +198,7 @@ module _ (f : File) (h : IsFaultless f) where
   pub memories_sized : AreMemories (shapes (netlist_of f))
   memories_sized =
       let es = shapes (netlist_of f) in
-      are_memories es memories_distinct (all_among (λ e. IsWidth e.1.0) es (λ e m. one e (found_among es (new_keys es memories_distinct) e.0 e.1 m))) where
+      are_memories es memories_distinct (all_alike (λ e. IsWidth e.1.0) es (λ e m. one e (found_among es (new_keys es memories_distinct) e.0 e.1 m))) where
         by_shape : (e : Name × (ℕ × ℕ)) (o : Option Shape) → shape_in (all_declared f) e.0 ≡ o → picked memory_shape o ≡ Some e.1 → IsWidth e.1.0
         by_shape e None s g = absurd (cc)
         by_shape e (Some (input w)) s g = absurd (cc)

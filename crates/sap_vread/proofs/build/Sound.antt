@@ -3,6 +3,7 @@ use Rattle.std.proofs.Common.{◌≡◌, ℕ, suc, zero, ◌+◌, ◌^◌, ◌<�
 use Rattle.std.specs.Prelude.{◌⊎◌, IsSome}
 use Rattle.std.specs.List.{AllByRecursion}
 use Rattle.std.proofs.lemmas.Bool.{cases_lt, cases_eq, true_from_ne_false, false_from_ne_true}
+use Rattle.sap_modtext.proofs.FaultsLemmas.{all_alike}
 use Rattle.sap_maps.specs.Maps.{Name}
 use Rattle.sap_net.specs.Names.{is_among, AreDistinct}
 use Rattle.sap_modtext.specs.Items.{Mention, Number, Operand, Constant, Right, Item, Port, File}
@@ -11,7 +12,7 @@ use Rattle.sap_modtext.specs.Faults.{Shape, wire, memory, Declaration, declarati
 use Rattle.sap_modtext.specs.Faults as fault
 use Rattle.sap_modtext.proofs.Good.{IsGoodUse, IsGoodIndex}
 use Rattle.sap_modtext.proofs.NameLists.{named_among, among_name, among_right}
-use Rattle.sap_vread.proofs.build.Entries.{declared_names, shape_known, all_among}
+use Rattle.sap_vread.proofs.build.Entries.{declared_names, shape_known}
 
 -- A power of two up to a bound, or none.
 
@@ -86,14 +87,14 @@ module _ (f : File) (h : IsFaultless f) where
     }
 
   pub good_uses : (a : Above) (x : Item) → IsItemOf f a x → AllByRecursion (IsGoodUse a) (uses x)
-  good_uses a x i = all_among (IsGoodUse a) (uses x) (good_use a x i)
+  good_uses a x i = all_alike (IsGoodUse a) (uses x) (good_use a x i)
 
   pub good_constants : (a : Above) (x : Item) → IsItemOf f a x → AllByRecursion (λ c. constant_fits c ≡ true) (constants x)
   good_constants a x i =
-      all_among (λ c. constant_fits c ≡ true) (constants x) (λ c m. true_from_ne_false (constant_fits c) (λ n. h.v5 c.place (fault.unfit c i m n)))
+      all_alike (λ c. constant_fits c ≡ true) (constants x) (λ c m. true_from_ne_false (constant_fits c) (λ n. h.v5 c.place (fault.unfit c i m n)))
 
   pub good_pairs : (a : Above) (x : Item) (t : Target) → IsItemOf f a x → target_of x ≡ Some t → AllByRecursion (λ p. Differ p → ⊥) (pairs a x)
-  good_pairs a x t i e = all_among (λ p. Differ p → ⊥) (pairs a x) (λ p m d. h.v5 t.name.place (fault.widths_differ t p i e m d))
+  good_pairs a x t i e = all_alike (λ p. Differ p → ⊥) (pairs a x) (λ p m d. h.v5 t.name.place (fault.widths_differ t p i e m d))
 
   pub good_index : (a : Above) (x : Item) → IsItemOf f a x → (m : Mention) (index : Operand) → Among {A = Mention × Operand} (m, index) (indexes x) → IsGoodIndex a (m, index)
   good_index a x i m index among width b u e v =

@@ -1,11 +1,15 @@
 -- Names that a text spells are written as names, and its `{}` have two parts at least.
-use Rattle.std.proofs.Common.{◌≡◌, ℕ, ◌+◌, List, [], ◌∷◌, ◌++◌, length, take, drop, one-add, Bool, true, false, cond, Option, Some, None, refl, sym, ap, ◌∙◌, subst, arith}
-use Rattle.std.specs.Prelude.{◌||◌, not, map, flat_map, find as first_such, take_while, nat_eq, codes}
-use Rattle.std.specs.List.{AllByRecursion, list_all, list_any, prefix_len, starts_with}
+use Rattle.std.proofs.Common.{◌≡◌, ℕ, ◌+◌, List, [], ◌∷◌, ◌++◌, length, take, drop, Bool, true, false, cond, Option, Some, None, refl, sym, ap, ◌∙◌, subst, arith}
+use Rattle.std.specs.Prelude.{not, map, flat_map, find as first_such, take_while, nat_eq, codes}
+use Rattle.std.specs.List.{AllByRecursion, list_all, prefix_len, starts_with}
 use Rattle.std.specs.Char.{is_ascii_digit}
 use Rattle.std.specs.Str.{bytes_eq}
 use Rattle.std.proofs.lemmas.Bool.{and_from}
-use Rattle.std.proofs.lemmas.Bool.Decides.{nat_tests}
+use Rattle.sap_lemmas.proofs.Everywhere.{none_passes}
+use Rattle.sap_lemmas.proofs.Lists.{take_more}
+use Rattle.std.proofs.lemmas.List.{map-append}
+use Rattle.sap_net.proofs.NamesLemmas.{initial_inner}
+use Rattle.sap_modtext.proofs.LexingLemmas.{keywords_are}
 use Rattle.sap_net.specs.Names.{is_initial, is_inner, is_word, is_keyword, is_name}
 use Rattle.sap_modtext.specs.Tokens.{Word, Sign, Kind, Token, IsToken}
 use Rattle.sap_modtext.specs.Tokens as t
@@ -16,7 +20,6 @@ use Rattle.sap_modtext.specs.Items as item
 use Rattle.sap_modtext.specs.Faults.{port_declaration, item_declarations}
 use Rattle.sap_modtext.specs.Grammar as g
 use Rattle.sap_modtext.specs.Grammar.{IsWord, IsSign, IsName, IsNumber, IsDigit, IsConstant, IsOperand, IsRange, IsPort, ArePorts, AreParts, IsRight, IsClocked, IsLoop, IsItem, AreItems, IsFile}
-use Rattle.sap_modtext.proofs.NameLists.{map_append}
 use Rattle.sap_vread.specs.Build.Spelled.{IsSpelled}
 use Rattle.sap_vread.proofs.build.Entries.{declared_names}
 use Rattle.sap_vread.proofs.build.WiresFit.{HasParts}
@@ -37,40 +40,24 @@ cond_named : (b : Bool) (x y : Front) → (b ≡ true → IsNamedFront x) → (b
 cond_named true x y f k = f refl
 cond_named false x y f k = k refl
 
-none_there : {A : Type 0} (p : A → Bool) (xs : List A) → first_such p xs ≡ None → list_any p xs ≡ false
-none_there p [] h = refl
-none_there p (x ∷ xs) h = by_test (p x) h (none_there p xs) where
-  by_test : (b : Bool) → cond b (Some x) (first_such p xs) ≡ None → (first_such p xs ≡ None → list_any p xs ≡ false) → (b || list_any p xs) ≡ false
-  by_test true q k = absurd (cc)
-  by_test false q k = k q
-
-keywords_are : (n : List ℕ) → list_any (λ w. bytes_eq n (word_text w)) words ≡ is_keyword n
-keywords_are n = refl
-
 kind_named : (run : List ℕ) (o : Option Word) → first_such (λ w. bytes_eq run (word_text w)) words ≡ o → is_word run ≡ true → IsNamed (word_or_name o run)
 unfolding is_name
 kind_named run (Some w) e h = tt
 kind_named run None e h =
-    let none : is_keyword run ≡ false = sym (keywords_are run) ∙ none_there (λ w. bytes_eq run (word_text w)) words e in
+    let none : is_keyword run ≡ false = sym (keywords_are run) ∙ none_passes (λ w. bytes_eq run (word_text w)) words e in
     and_from (is_word run) (not (is_keyword run)) h (ap not none)
-
-take_first : (n x : ℕ) (xs : List ℕ) → take (1 + n) (x ∷ xs) ≡ x ∷ take n xs
-take_first n x xs = rw one-add refl
 
 all_taken : (p : ℕ → Bool) (xs : List ℕ) → list_all p (take_while p xs) ≡ true
 all_taken p [] = refl
 all_taken p (x ∷ xs) = by_test (p x) refl (all_taken p xs) where
   by_test : (b : Bool) → p x ≡ b → list_all p (take_while p xs) ≡ true → list_all p (take (cond b (1 + prefix_len p xs) 0) (x ∷ xs)) ≡ true
-  by_test true e k = ap (list_all p) (take_first (prefix_len p xs) x xs) ∙ and_from (p x) (list_all p (take_while p xs)) e k
+  by_test true e k = ap (list_all p) (take_more (prefix_len p xs) x xs) ∙ and_from (p x) (list_all p (take_while p xs)) e k
   by_test false e k = refl
-
-initial_inner : (c : ℕ) → is_initial c ≡ true → is_inner c ≡ true
-initial_inner c h = grind (arith, nat_tests)
 
 run_word : (b : ℕ) (bs : List ℕ) → is_initial b ≡ true → is_word (take_while is_inner (b ∷ bs)) ≡ true
 run_word b bs h =
     let first : take_while is_inner (b ∷ bs) ≡ b ∷ take_while is_inner bs =
-    ap (λ c. take (cond c (1 + prefix_len is_inner bs) 0) (b ∷ bs)) (initial_inner b h) ∙ take_first (prefix_len is_inner bs) b bs in
+    ap (λ c. take (cond c (1 + prefix_len is_inner bs) 0) (b ∷ bs)) (initial_inner b h) ∙ take_more (prefix_len is_inner bs) b bs in
     ap is_word first ∙ and_from (is_initial b) (list_all is_inner (take_while is_inner bs)) h (all_taken is_inner bs)
 
 name_named : (run : List ℕ) → is_word run ≡ true → IsNamedFront (name_front run)
@@ -208,7 +195,7 @@ past_items g.no_item n = (tt, tt, n)
 past_items (g.next_item {x = x} {xs = xs} a b) n =
     let p = past_item a n in
     let q = past_items b p.1 in (
-      subst AreNames (sym (map_append (λ d. d.name.name) (item_declarations x) (flat_map item_declarations xs)))
+      subst AreNames (sym (map-append (λ d. d.name.name) (item_declarations x) (flat_map item_declarations xs)))
           (joined (declared_names (item_declarations x)) (declared_names (flat_map item_declarations xs)) p.0.0 q.0),
       (p.0.1, q.1),
       q.2,
@@ -221,7 +208,7 @@ file_written (g.file {ps = ps} {xs = xs} a b c d e ports h i items z) n =
     let q = past_items items (past_sign i (past_sign h p.1)) in
     record {
       module_named = x.0;
-      named = subst AreNames (sym (map_append (λ y. y.name.name) (map port_declaration ps) (flat_map item_declarations xs)))
+      named = subst AreNames (sym (map-append (λ y. y.name.name) (map port_declaration ps) (flat_map item_declarations xs)))
           (joined (declared_names (map port_declaration ps)) (declared_names (flat_map item_declarations xs)) p.0 q.0);
       parts = q.1;
     }

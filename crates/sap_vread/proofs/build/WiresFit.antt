@@ -1,9 +1,13 @@
 -- Each wire reads what stands above it, and its widths fit.
-use Rattle.std.proofs.Common.{◌≡◌, ℕ, suc, ◌+◌, ◌-◌, ◌^◌, ◌<◌, ◌≤◌, List, [], ◌∷◌, ◌++◌, length, Bool, true, false, cond, Option, Some, None, refl, sym, ap, ◌∙◌, subst, inl, ⊎_elim, append_assoc, append-nil}
+use Rattle.std.proofs.Common.{◌≡◌, ℕ, ◌+◌, ◌-◌, ◌^◌, ◌<◌, ◌≤◌, List, [], ◌∷◌, ◌++◌, length, Bool, true, false, cond, Option, Some, None, refl, sym, ap, ◌∙◌, subst, inl, ⊎_elim, append_assoc, append-nil}
 use Rattle.std.specs.Prelude.{◌||◌, ◌&&◌, map, flat_map, nat_lt}
 use Rattle.std.specs.List.{AllByRecursion}
 use Rattle.std.specs.Str.{bytes_eq}
-use Rattle.std.proofs.lemmas.Bool.{cases_Bool, cases_eq, lt-ltb, le-leb}
+use Rattle.std.proofs.lemmas.Bool.{cases_Bool, cases_eq, lt-ltb, le-leb, or_left}
+use Rattle.sap_lemmas.proofs.Everywhere.{all_parts}
+use Rattle.sap_lemmas.proofs.Lists.{length_map}
+use Rattle.sap_lemmas.proofs.Texts.{equal_of_bytes_eq}
+use Rattle.sap_modtext.proofs.FaultsLemmas.{set_append}
 use Rattle.sap_bits.specs.declared.Op1.{Op1}
 use Rattle.sap_bits.specs.declared.Op1.TheVariants as unary
 use Rattle.sap_bits.specs.declared.Op2.{Op2}
@@ -12,22 +16,17 @@ use Rattle.sap_bits.specs.Arithmetic.{width1, width2}
 use Rattle.sap_maps.specs.Maps.{Name}
 use Rattle.sap_maps.specs.Term.{CountFits}
 use Rattle.sap_maps.specs.Scope.{Scope, find}
-use Rattle.sap_maps.proofs.Scopes.{name_is}
 use Rattle.sap_net.specs.Rules.{IsWidth, IsOperand, AreOperands, IsRight, AreWires, readable_after}
 use Rattle.sap_net.specs.IsNetlist.{first_readable, readable, shapes}
 use Rattle.sap_modtext.specs.Items.{Mention, Number, Constant, Operand, Right, Port, Item, File}
 use Rattle.sap_modtext.specs.Items as item
-use Rattle.sap_modtext.specs.Faults.{Shape, input, wire, register, memory, declarations, shape_in, IsItemOf, shape_above, Setting, assign, target_of, is_target, is_set, as_cell, as_wire, suits, uses, operand_uses, operand_constants, operand_width, parts_width, add_widths, slice_width, memory_width, wire_width, constant_fits, value_width, unary_pairs, unary_rule, binary_pairs, binary_rule, Differ, IsFaultless}
+use Rattle.sap_modtext.specs.Faults.{Shape, input, wire, register, memory, declarations, shape_in, IsItemOf, shape_above, assign, target_of, is_target, is_set, as_cell, as_wire, suits, uses, operand_uses, operand_constants, operand_width, parts_width, add_widths, slice_width, memory_width, wire_width, constant_fits, value_width, unary_pairs, unary_rule, binary_pairs, binary_rule, Differ, IsFaultless}
 use Rattle.sap_modtext.specs.Modules.{netlist_of, net_operand, net_right, net_wires, declared_width}
 use Rattle.sap_modtext.proofs.Good.{IsGoodUse, above_of}
 use Rattle.sap_vread.proofs.build.Entries.{picked}
 use Rattle.sap_vread.proofs.build.Sound.{good_uses, good_constants, good_pairs, good_index, assigned_first, slice_fits, Part}
 use Rattle.sap_vread.proofs.build.Parts.{all_declared, memory_shape, item_in, shape_below}
 use Rattle.sap_vread.proofs.build.Readable.{value_of, fine_shape, memory_found, first_found, IsReadable, AssignsMore, operand_is, operand_wide}
-
-pub all_parts : {A : Type 0} (P : A → Type 0) (xs ys : List A) → AllByRecursion P (xs ++ ys) → AllByRecursion P xs × AllByRecursion P ys
-all_parts P [] ys h = (tt, h)
-all_parts P (x ∷ xs) ys h = let r = all_parts P xs ys h.1 in ((h.0, r.0), r.1)
 
 some_same : {A : Type 0} (x y : A) → Some x ≡ Some y → x ≡ y
 some_same x y e = cc
@@ -41,14 +40,6 @@ equal (Some a) (Some b) u v e g d =
 
 -- What is set above.
 
-pub is_set_append : (s : Setting) (n : Name) (xs ys : List Item) → is_set s n (xs ++ ys) ≡ (is_set s n xs || is_set s n ys)
-is_set_append s n [] ys = refl
-is_set_append s n (x ∷ xs) ys =
-    ap (λ b. is_target s n (target_of x) || b) (is_set_append s n xs ys) ∙ or_assoc (is_target s n (target_of x)) (is_set s n xs) (is_set s n ys) where
-      or_assoc : (a b c : Bool) → (a || (b || c)) ≡ ((a || b) || c)
-      or_assoc true b c = refl
-      or_assoc false b c = refl
-
 or_nothing : (a b : Bool) → b ≡ false → (a || (b || false)) ≡ a
 or_nothing true b e = refl
 or_nothing false true e = absurd (cc)
@@ -58,10 +49,6 @@ or_last : (a b : Bool) → b ≡ true → (a || (b || false)) ≡ true
 or_last true b e = refl
 or_last false true e = refl
 or_last false false e = absurd (cc)
-
-or_more : (a b : Bool) → a ≡ true → (a || b) ≡ true
-or_more true b e = refl
-or_more false b e = absurd (cc)
 
 -- Operators.
 
@@ -97,10 +84,6 @@ slice_is : (u high low : ℕ) → low ≤ high → high < u → slice_width (Som
 slice_is u high low p q =
     ap (λ b. cond (b && nat_lt high u) (Some (high + 1 - low)) None) (le-leb low high p)
     ∙ ap (λ b. cond b (Some (high + 1 - low)) None) (lt-ltb high u q)
-
-length_mapped : {A B : Type 0} (g : A → B) (xs : List A) → length (map g xs) ≡ length xs
-length_mapped g [] = refl
-length_mapped g (x ∷ xs) = ap suc (length_mapped g xs)
 
 -- a `{}` has two parts at least
 abbrev pub HasParts : Item → Type 0
@@ -206,7 +189,7 @@ module _ (f : File) (h : IsFaultless f) where
       let ps = good_pairs f h a (item.assign x (item.concat os)) (record { setting = assign; name = x }) i refl in
       let y = reads_all before (item.assign x (item.concat os) ∷ after) sc e r os us.1 cs in
       let same : w ≡ y.width = equal (wire_width (shape_above a x.name)) (parts_width a os) w y.width (ap wire_width s) y.is ps.0 in
-      (subst (λ n. 2 ≤ n) (sym (length_mapped net_operand os)) two, subst (λ z. AreOperands sc z (map net_operand os)) (sym same) y.operands)
+      (subst (λ n. 2 ≤ n) (sym (length_map net_operand os)) two, subst (λ z. AreOperands sc z (map net_operand os)) (sym same) y.operands)
   right_is before after sc x (item.slice y high low) w e two r s =
       let p : Part (item.assign x (item.slice y high low)) f.items = record { before = before; after = after; is = e } in
       let a = above_of f.ports before in
@@ -252,16 +235,16 @@ module _ (f : File) (h : IsFaultless f) where
       → IsReadable f h sc (before ++ x ∷ [])
   kept_reads sc before x other r n =
       r n ∙ ap (value_width (shape_in (all_declared f) n))
-      (sym (is_set_append assign n before (x ∷ []) ∙ or_nothing (is_set assign n before) (is_target assign n (target_of x)) (other n)))
+      (sym (set_append assign n before (x ∷ []) ∙ or_nothing (is_set assign n before) (is_target assign n (target_of x)) (other n)))
 
   wire_reads : (sc : Scope) (before : List Item) (x : Mention) (right : Right) (w : ℕ) → shape_in (all_declared f) x.name ≡ Some (wire w) → IsReadable f h sc before
       → IsReadable f h ((x.name, w) ∷ sc) (before ++ item.assign x right ∷ [])
   wire_reads sc before x right w s r n =
-      let set = is_set_append assign n before (item.assign x right ∷ []) in
+      let set = set_append assign n before (item.assign x right ∷ []) in
       ⊎_elim
       (λ t. ap (λ b. cond b (Some w) (find sc n)) t
       ∙ sym (ap (value_width (shape_in (all_declared f) n)) (set ∙ or_last (is_set assign n before) (bytes_eq x.name n) t)
-      ∙ ap (λ o. value_width o true) (subst (λ z. shape_in (all_declared f) z ≡ Some (wire w)) (name_is x.name n t) s)))
+      ∙ ap (λ o. value_width o true) (subst (λ z. shape_in (all_declared f) z ≡ Some (wire w)) (equal_of_bytes_eq x.name n t) s)))
       (λ t. ap (λ b. cond b (Some w) (find sc n)) t ∙ r n
       ∙ ap (value_width (shape_in (all_declared f) n)) (sym (set ∙ or_nothing (is_set assign n before) (bytes_eq x.name n) t)))
       (cases_Bool (bytes_eq x.name n))
@@ -348,4 +331,4 @@ module _ (f : File) (h : IsFaultless f) where
   last_reads two = (wires_from [] f.items (first_readable (netlist_of f)) refl two nothing_set).1
 
   pub more_below : (before after : List Item) → f.items ≡ before ++ after → AssignsMore f h before f.items
-  more_below before after e n s = ap (is_set assign n) e ∙ is_set_append assign n before after ∙ or_more (is_set assign n before) (is_set assign n after) s
+  more_below before after e n s = ap (is_set assign n) e ∙ set_append assign n before after ∙ or_left (is_set assign n before) (is_set assign n after) s

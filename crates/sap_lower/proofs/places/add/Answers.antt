@@ -1,8 +1,9 @@
 use Rattle.std.proofs.Common.{◌≡◌, ◌∙◌, sym, subst, Some, None, rules}
 use Rattle.std.specs.Str.{bytes_eq}
 use Rattle.std.specs.HashMap as hash
+use Rattle.sap_lemmas.proofs.Options.{none_of_test}
 use Rattle.sap_maps.specs.Maps.{Name}
-use Rattle.sap_lower.proofs.Index.{added_new, added_old, is_there, is_not_there, same_bytes}
+use Rattle.sap_lower.proofs.Index.{added_new, added_old, is_there, same_bytes}
 use Rattle.sap_lower.specs.Index.{at_name}
 use Rattle.sap_lower.proofs.places.add.Goals as goal
 
@@ -12,7 +13,7 @@ returns-in_ok-insert c = λ names l is.
     let y = c.args.name.now in
     let e : c.in_ok-key.key.items ≡ y = search rules in
     let h : hash.UpdatesBy same_bytes (λ k. same_bytes c.in_ok-key.key k) m c.insert.new.self (Some c.args.k) = c.in_ok-insert.ensures.updates in
-    let new : at_name m y ≡ None = sym c.place.ensures ∙ is_not_there c.place.result c.if-is_none.ensures in
+    let new : at_name m y ≡ None = sym c.place.ensures ∙ none_of_test c.place.result c.if-is_none.ensures in
     let updates = subst (λ (b : Name). hash.UpdatesBy same_bytes (λ k. bytes_eq b k.items) m c.insert.new.self (Some c.args.k)) e h in
     added_new m c.insert.new.self names y c.args.k new updates l is
 

@@ -1,11 +1,12 @@
 use Rattle.std.proofs.Common.{◌≡◌, ◌∙◌, ◌++◌, ◌∷◌, [], List, append_assoc, sym, ap, subst, refl, rules, arith}
+use Rattle.std.proofs.lemmas.List.{append-nil}
 use Rattle.sap_parse.specs.Grammar as g
 use Rattle.sap_parse.specs.Reading.{steps_by, strictly}
 use Rattle.sap_parse.specs.Table as s
 use Rattle.sap_tree.specs.declared.syntax.Decl.{Decl}
 use Rattle.sap_parse.proofs.DesignLaws.{declarations_there}
 use Rattle.sap_parse.proofs.Faults.{fault_goes}
-use Rattle.sap_walk.proofs.Walking.{append_none, bind_ok, bind_pure}
+use Rattle.sap_walk.proofs.Walking.{bind_ok, bind_pure}
 use Rattle.sap_parse.proofs.declaration.declarations.Goals as goal
 
 pub returns-in_err-next-clause-goes : goal.returns-in_err-next-clause-goes
@@ -24,4 +25,4 @@ declarations-preserved c = record {
 
 pub returns-clause-tree : goal.returns-clause-tree
 returns-clause-tree c =
-    subst (λ (xs : List Decl). g.Declarations c.args.tokens.now xs c.declarations.tokens) (append_none c.declarations.list.items) (c.declarations.invariant.tree [] c.declarations.tokens g.no_declaration)
+    subst (λ (xs : List Decl). g.Declarations c.args.tokens.now xs c.declarations.tokens) (append-nil c.declarations.list.items) (c.declarations.invariant.tree [] c.declarations.tokens g.no_declaration)

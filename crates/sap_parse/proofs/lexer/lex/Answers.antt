@@ -5,8 +5,8 @@ use Rattle.sap_parse.specs.Lexing.{AreTokens, Reached, IsWithin, place_of, versi
 use Rattle.sap_parse.specs.declared.token.Token.{Token}
 use Rattle.sap_parse.proofs.Places.{advanced}
 use Rattle.std.specs.List.{All}
+use Rattle.std.proofs.lemmas.List.{take_rest}
 use Rattle.sap_parse.specs.Spelled.{AreInOrder, HasText}
-use Rattle.sap_parse.proofs.Runs.{rest_from}
 use Rattle.sap_parse.proofs.TokenTexts.{texts_are, in_order, spanned, tokens_order}
 use Rattle.sap_parse.proofs.lexer.lex.Goals as goal
 
@@ -22,7 +22,7 @@ lexemes-init c = record {
 
 pub lexemes-preserved-in-Blank : goal.lexemes-preserved-in-Blank
 lexemes-preserved-in-Blank c =
-    let same = rest_from c.args.text.now c.lexemes.n in
+    let same = take_rest c.args.text.now c.lexemes.n in
     let fits = subst (IsWithin (take (length c.args.text.now - c.lexemes.n) (drop c.lexemes.n c.args.text.now))) c.in-Blank.is c.in_ok-len.ensures.within in
     record {
       within = omega (arith, fits.1, ap length same, length-drop c.lexemes.n c.args.text.now);
@@ -34,7 +34,7 @@ lexemes-preserved-in-Blank c =
 
 pub lexemes-preserved : goal.lexemes-preserved
 lexemes-preserved c =
-    let same = rest_from c.args.text.now c.lexemes.n in
+    let same = take_rest c.args.text.now c.lexemes.n in
     let fits = subst (IsWithin (take (length c.args.text.now - c.lexemes.n) (drop c.lexemes.n c.args.text.now))) c.in-Token.is c.in_ok-len.ensures.within in
     record {
       within = omega (arith, fits.1, ap length same, length-drop c.lexemes.n c.args.text.now);

@@ -1,9 +1,10 @@
 use Rattle.std.proofs.Common.{◌++◌, ◌∙◌, ap, arith}
 use Rattle.std.specs.Prelude.{codes}
+use Rattle.sap_lemmas.proofs.Lists.{joined_on_last}
 use Rattle.sap_show.specs.Canonical.{command_text, else_text}
 use Rattle.sap_tree.specs.Trees.{command_of, else_of}
 use Rattle.sap_tree.proofs.Views.{command_of-case, command_of-if, command_of-try_then}
-use Rattle.sap_show.proofs.Texts.{arms_end, arms_step, case_grows, commands_step, decided_grows, list_end, nothing_more, on_last, if_grows, text_no_else}
+use Rattle.sap_show.proofs.Texts.{arms_end, arms_step, case_grows, commands_step, decided_grows, list_end, nothing_more, if_grows, text_no_else}
 use Rattle.sap_show.proofs.command.+command.Goals as goal
 
 pub commands-loop-one-preserved : goal.commands-loop-one-preserved
@@ -19,7 +20,7 @@ else_block-returns-in-None t c =
 
 pub command-returns-in_ok-else_block-in-If : goal.command-returns-in_ok-else_block-in-If
 command-returns-in_ok-else_block-in-If t c =
-    on_last c.extend_from_slice-in-If-3.result _ c.else_block.new.out.items (codes "\n") (c.args.out.now.items ++ command_text c.args.margin.now (command_of c.args.command.now))
+    joined_on_last c.extend_from_slice-in-If-3.result _ c.else_block.new.out.items (codes "\n") (c.args.out.now.items ++ command_text c.args.margin.now (command_of c.args.command.now))
     c.extend_from_slice-in-If-3.ensures.items
     (if_grows c.args.margin.now _ _ _ _ _ c.args.out.now.items _ _ _ _ _ _ (ap command_of c.in-If.is ∙ command_of-if _ _ _ _) c.in_ok-extend_from_slice.ensures.items
     c.in_ok-extend_from_slice-in-If.ensures.items c.in_ok-expression-in-If.ensures c.in_ok-extend_from_slice-in-If-2.ensures.items c.in_ok-block-in-If.ensures
@@ -36,7 +37,7 @@ arms-returns t c = arms_end c.args.margin.now c.args.list.now c.loop-arm.arm-ind
 
 pub command-returns-in_ok-block-in-TryThen-2 : goal.command-returns-in_ok-block-in-TryThen-2
 command-returns-in_ok-block-in-TryThen-2 t c =
-    on_last c.extend_from_slice-in-TryThen-3.result _ c.block-in-TryThen-2.new.out.items (codes "\n") (c.args.out.now.items ++ command_text c.args.margin.now (command_of c.args.command.now))
+    joined_on_last c.extend_from_slice-in-TryThen-3.result _ c.block-in-TryThen-2.new.out.items (codes "\n") (c.args.out.now.items ++ command_text c.args.margin.now (command_of c.args.command.now))
     c.extend_from_slice-in-TryThen-3.ensures.items
     (decided_grows c.args.margin.now _ _ _ _ _ c.args.out.now.items _ _ _ _ _ _ (ap command_of c.in-TryThen.is ∙ command_of-try_then _ _ _ _) c.in_ok-extend_from_slice.ensures.items
     c.in_ok-simple-in-TryThen.ensures c.in_ok-extend_from_slice-in-TryThen.ensures.items c.in_ok-block-in-TryThen.ensures c.in_ok-extend_from_slice-in-TryThen-2.ensures.items
@@ -44,7 +45,7 @@ command-returns-in_ok-block-in-TryThen-2 t c =
 
 pub command-returns-in_ok-extend_from_slice-in-Case-3 : goal.command-returns-in_ok-extend_from_slice-in-Case-3
 command-returns-in_ok-extend_from_slice-in-Case-3 t c =
-    on_last c.extend_from_slice-in-Case-4.result _ c.extend_from_slice-in-Case-3.new.self.items (codes "}\n") (c.args.out.now.items ++ command_text c.args.margin.now (command_of c.args.command.now))
+    joined_on_last c.extend_from_slice-in-Case-4.result _ c.extend_from_slice-in-Case-3.new.self.items (codes "}\n") (c.args.out.now.items ++ command_text c.args.margin.now (command_of c.args.command.now))
     c.extend_from_slice-in-Case-4.ensures.items
     (case_grows c.args.margin.now _ _ _ _ _ _ _ _ c.args.out.now.items _ _ _ _ _ _ _ (ap command_of c.in-Case.is ∙ command_of-case _ _ _ _) (c.as_slice.ensures.value ∙ c.in_ok-inner-in-Case.ensures)
     (c.as_slice-in-Case-2.ensures.value ∙ c.in_ok-inner-in-Case.ensures) c.as_slice-in-Case.ensures.value c.in_ok-extend_from_slice.ensures.items c.in_ok-extend_from_slice-in-Case.ensures.items

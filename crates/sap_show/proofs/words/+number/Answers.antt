@@ -1,5 +1,5 @@
 use Rattle.std.proofs.Common.{arith}
-use Rattle.sap_show.proofs.Texts.{one_digit, more_digits}
+use Rattle.sap_lemmas.proofs.Texts.{more_digits, one_digit}
 use Rattle.sap_show.proofs.words.+number.Goals as goal
 
 pub returns-then-n-lt10 : goal.returns-then-n-lt10

@@ -1,6 +1,6 @@
 use Rattle.std.proofs.Common.{◌∙◌, ap, sym, arith}
+use Rattle.sap_ir.proofs.PlainLemmas.{follow_stop}
 use Rattle.sap_ir.specs.Plain.Views.{body_of, follow}
-use Rattle.sap_ir.proofs.plain.Views.{follow-end}
 use Rattle.sap_terms.specs.Code.{entities_in, setting_in}
 use Rattle.sap_tagged.specs.Keys.{Tag}
 use Rattle.sap_tags.proofs.Raised.{raised, walk_step, walk_rest, raises_listed, entities_count}
@@ -16,7 +16,7 @@ pub returns : goal.returns
 returns c =
     let s = c.args.setting.now in
     let d = setting_in s in
-    sym (follow-end (body_of c.loop-x.out.items))
+    sym (follow_stop (body_of c.loop-x.out.items))
     ∙ ap (follow (body_of c.loop-x.out.items)) (sym (walk_rest d Tag (raised d c.args.wire) (entities_in s) c.args.hang.now c.loop-x.x-index (omega arith)))
     ∙ c.loop-x.invariant
     ∙ ap (follow (body_of c.args.out.now.items)) (sym (raises_listed d (entities_in s) c.args.hang.now c.args.wire (entities_count s.program.now.entities.items) c.requires))

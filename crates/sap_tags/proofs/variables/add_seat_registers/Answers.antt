@@ -1,6 +1,7 @@
 use Rattle.std.proofs.Common.{ap, ◌∙◌, arith}
+use Rattle.sap_lemmas.proofs.Numbers.{less_test_of_positive}
 use Rattle.sap_tags.proofs.OfEntities.{has_children}
-use Rattle.sap_tags.proofs.OfEntities.{of_parent, picked, passed, some, none, with_root}
+use Rattle.sap_tags.proofs.OfEntities.{of_parent, picked, passed, none, with_root}
 use Rattle.sap_tags.proofs.variables.add_seat_registers.Goals as goal
 use Rattle.sap_tags.proofs.variables.add_seat_registers.Goals.{then-child_count-gt0+in_ok-add_seat, else-child_count-gt0}
 
@@ -10,7 +11,7 @@ loop-p-preserved c =
     elim c.if-child_count-gt0.branch [
       | then-child_count-gt0+in_ok-add_seat w ↦
           ap (λ v. v.items) w.registers-is
-          ∙ picked s (has_children s) (of_parent s) c.loop-p.p c.args.registers.now.items c.loop-p.registers.items _ (omega arith) (some _ (omega (arith, c.child_count.ensures))) c.loop-p.invariant (w.in_ok-add_seat.ensures)
+          ∙ picked s (has_children s) (of_parent s) c.loop-p.p c.args.registers.now.items c.loop-p.registers.items _ (omega arith) (less_test_of_positive _ (omega (arith, c.child_count.ensures))) c.loop-p.invariant (w.in_ok-add_seat.ensures)
       | else-child_count-gt0 w ↦
           ap (λ v. v.items) w.registers-is
           ∙ passed s (has_children s) (of_parent s) c.loop-p.p c.args.registers.now.items c.loop-p.registers.items (omega arith) (none _ (omega (arith, c.child_count.ensures))) c.loop-p.invariant

@@ -1,11 +1,12 @@
 use Rattle.std.proofs.Common.{◌∙◌, ◌∷◌, [], List, refl, sym, subst}
+use Rattle.std.proofs.lemmas.List.{append-nil}
 use Rattle.sap_modtext.specs.Grammar as g
 use Rattle.sap_modtext.specs.Grammar.{AreItems}
 use Rattle.sap_modtext.specs.Items as item
 use Rattle.sap_vparse.specs.Views.{item_of, items_of}
 use Rattle.sap_vparse.proofs.Laws.{items_more}
 use Rattle.sap_vparse.proofs.Lists.{pushed}
-use Rattle.sap_walk.proofs.Walking.{append_none, bind_ok, bind_pure}
+use Rattle.sap_walk.proofs.Walking.{bind_ok, bind_pure}
 use Rattle.sap_vparse.proofs.file.items.Goals as goal
 
 pub items-preserved : goal.items-preserved
@@ -19,6 +20,6 @@ items-preserved c = record {
 pub returns-clause-tree : goal.returns-clause-tree
 returns-clause-tree c = record {
   last = c.items.tokens;
-  items = subst (λ (xs : List item.Item). AreItems c.args.tokens.now xs c.items.tokens) (append_none (items_of c.items.list.items)) (c.items.invariant.tree [] c.items.tokens g.no_item);
+  items = subst (λ (xs : List item.Item). AreItems c.args.tokens.now xs c.items.tokens) (append-nil (items_of c.items.list.items)) (c.items.invariant.tree [] c.items.tokens g.no_item);
   close = subst (λ (q : List _). g.IsWord c.items.tokens _ q) (sym c.end.ensures.stays) c.in_ok-word.ensures.tree;
 }

@@ -1,5 +1,5 @@
 use Rattle.std.proofs.Common.{◌≡◌, ◌-◌, ◌∙◌, ◌+◌, ◌<◌, ◌++◌, ◌∷◌, [], ℕ, List, sym, ap, subst, arith, length-drop, length, take, drop, append_assoc}
-use Rattle.std.proofs.lemmas.List.{drop-drop, map-append}
+use Rattle.std.proofs.lemmas.List.{drop-drop, map-append, append-nil, take_rest}
 use Rattle.sap_modtext.specs.Lexing.{Lexed, Front, end, blank_first, token_first, front}
 use Rattle.sap_modtext.specs.Lexing as l
 use Rattle.sap_modtext.specs.Tokens as t
@@ -11,8 +11,6 @@ use Rattle.sap_vparse.specs.Text as x
 use Rattle.sap_vparse.specs.declared.lexeme.Lexeme.{Lexeme}
 use Rattle.sap_vparse.specs.declared.token.Token.{Token}
 use Rattle.sap_vparse.proofs.FrontIs.{front_is}
-use Rattle.sap_vparse.proofs.Runs.{rest_from}
-use Rattle.sap_walk.proofs.Walking.{append_none}
 use Rattle.std.proofs.Common.{◌≤◌}
 use Rattle.std.proofs.lemmas.Grind.{common_steps}
 use Rattle.sap_vparse.proofs.lexer.lex.Goals as goal
@@ -22,7 +20,7 @@ length_rest xs n h = omega (arith, length-drop n xs)
 
 is_front : (xs : List ℕ) (n : ℕ) (lexeme : Lexeme) → n < length xs → lexeme ≡ lexeme_of (take (length xs - n) (drop n xs)) → front (drop n xs) ≡ front_of lexeme
 is_front xs n lexeme h e =
-    front_is (drop n xs) (length_rest xs n h) ∙ ap (λ bs. front_of (lexeme_of bs)) (sym (rest_from xs n)) ∙ ap front_of (sym e)
+    front_is (drop n xs) (length_rest xs n h) ∙ ap (λ bs. front_of (lexeme_of bs)) (sym (take_rest xs n)) ∙ ap front_of (sym e)
 
 pushed : (items more : List t.Token) (x : Token) (list : List Token) (old : List Token) → list ≡ old ++ x ∷ [] → tokens_of old ++ (token_of x ∷ more) ≡ tokens_of list ++ more
 pushed items more x list old e =
@@ -32,7 +30,7 @@ pub lexemes-preserved-in-Blank : goal.lexemes-preserved-in-Blank
 lexemes-preserved-in-Blank c =
     let text = c.args.text.now in
     let n = c.lexemes.n in
-    let same = rest_from text n in
+    let same = take_rest text n in
     let fits = subst (IsWithin (take (length text - n) (drop n text))) c.in-Blank.is c.in_ok-len.ensures.within in
     let stands : front (drop n text) ≡ l.blank c.in-Blank.len = is_front text n c.in_ok-len.field-0 (c.lexemes-test.true) c.in_ok-len.ensures.value ∙ ap front_of c.in-Blank.is in
     record {
@@ -45,7 +43,7 @@ pub lexemes-preserved : goal.lexemes-preserved
 lexemes-preserved c =
     let text = c.args.text.now in
     let n = c.lexemes.n in
-    let same = rest_from text n in
+    let same = take_rest text n in
     let fits = subst (IsWithin (take (length text - n) (drop n text))) c.in-Token.is c.in_ok-len.ensures.within in
     let stands : front (drop n text) ≡ l.token (kind_of c.in-Token.kind) c.in-Token.len = is_front text n c.in_ok-len.field-0 (c.lexemes-test.true) c.in_ok-len.ensures.value ∙ ap front_of c.in-Token.is in
     record {
@@ -71,5 +69,5 @@ pub returns-clause-tokens : goal.returns-clause-tokens
 returns-clause-tokens c =
     let text = c.args.text.now in
     let n = c.lexemes.n in
-    subst (Lexed 0 text) (append_none (tokens_of c.lexemes.tokens.items))
+    subst (Lexed 0 text) (append-nil (tokens_of c.lexemes.tokens.items))
     (c.lexemes.invariant.so_far [] (subst (λ bs. Lexed n bs []) (sym (drop_all text n (c.lexemes-test.false))) end))

@@ -1,11 +1,12 @@
 use Rattle.std.proofs.Common.{◌∙◌, ◌∷◌, [], List, refl, subst, arith}
+use Rattle.std.proofs.lemmas.List.{append-nil}
 use Rattle.sap_modtext.specs.Grammar as g
 use Rattle.sap_modtext.specs.Grammar.{ArePorts}
 use Rattle.sap_modtext.specs.Items as item
 use Rattle.sap_vparse.specs.Views.{port_of, ports_of}
 use Rattle.sap_vparse.proofs.Laws.{ports_more}
 use Rattle.sap_vparse.proofs.Lists.{pushed}
-use Rattle.sap_walk.proofs.Walking.{append_none, bind_ok, bind_pure}
+use Rattle.sap_walk.proofs.Walking.{bind_ok, bind_pure}
 use Rattle.sap_vparse.proofs.port.ports.Goals as goal
 
 pub ports-preserved : goal.ports-preserved
@@ -20,6 +21,6 @@ ports-preserved c = record {
 pub returns-clause-tree : goal.returns-clause-tree
 returns-clause-tree c = record {
   last = c.ports.tokens;
-  ports = subst (λ (xs : List item.Port). ArePorts c.args.tokens.now xs c.ports.tokens) (append_none (ports_of c.ports.list.items)) (c.ports.invariant.tree [] c.ports.tokens g.no_port);
+  ports = subst (λ (xs : List item.Port). ArePorts c.args.tokens.now xs c.ports.tokens) (append-nil (ports_of c.ports.list.items)) (c.ports.invariant.tree [] c.ports.tokens g.no_port);
   close = c.in_ok-sign-2.ensures.tree;
 }

@@ -1,10 +1,11 @@
 use Rattle.std.proofs.Common.{◌∙◌, ◌++◌, ◌∷◌, [], refl, sym, ap, arith}
+use Rattle.std.proofs.lemmas.List.{append-nil}
 use Rattle.sap_modtext.specs.Grammar as g
 use Rattle.sap_vparse.specs.Views.{operand_of, operands_of}
 use Rattle.sap_vparse.specs.declared.items.Operand.{Operand}
 use Rattle.sap_vparse.proofs.Laws.{parts_more}
 use Rattle.sap_vparse.proofs.Lists.{pushed}
-use Rattle.sap_walk.proofs.Walking.{append_none, bind_ok, bind_pure}
+use Rattle.sap_walk.proofs.Walking.{bind_ok, bind_pure}
 use Rattle.sap_vparse.proofs.right.parts.Goals as goal
 
 pub parts-preserved : goal.parts-preserved
@@ -23,4 +24,4 @@ parts-preserved c = record {
 pub returns-clause-tree : goal.returns-clause-tree
 returns-clause-tree c =
     let h = c.parts.invariant.tree [] c.parts.tokens g.no_part in
-    record { last = c.parts.tokens; added = h.0; all = sym (append_none (operands_of c.parts.list.items)) ∙ h.1; parts = h.2; close = c.in_ok-place.ensures.tree }
+    record { last = c.parts.tokens; added = h.0; all = sym (append-nil (operands_of c.parts.list.items)) ∙ h.1; parts = h.2; close = c.in_ok-place.ensures.tree }

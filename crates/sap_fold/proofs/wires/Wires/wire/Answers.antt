@@ -1,5 +1,5 @@
 use Rattle.std.proofs.Common.{sym, arith}
-use Rattle.sap_maps.proofs.Scopes.{name_is}
+use Rattle.sap_lemmas.proofs.Texts.{equal_of_bytes_eq}
 use Rattle.sap_fold.proofs.wires.Wires.wire.Goals as goal
 
 pub returns : goal.returns
@@ -9,5 +9,5 @@ returns c =
       place = c.place-place.result;
       within = omega (arith, fits, c.len.ensures, c.if-place-len.false);
       is = c.index-wire.ensures;
-      named = name_is c.index-wire.result.now.name c.args.name.now (sym (c.if-not-same.ensures {u = tt}));
+      named = equal_of_bytes_eq c.index-wire.result.now.name c.args.name.now (sym (c.if-not-same.ensures {u = tt}));
     }

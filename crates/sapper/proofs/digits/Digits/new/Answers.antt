@@ -2,7 +2,8 @@ use Rattle.std.proofs.Common.{◌≡◌, ◌<◌, ◌≤◌, ◌+◌, ◌-◌, �
 use Rattle.std.specs.Prelude.{decimal}
 use Rattle.std.proofs.lemmas.Fmt.{length-decimal-le}
 use Rattle.std.proofs.lemmas.List.{append-nil, length-set}
-use Rattle.sapper.proofs.Written.{first_written, last_written, one_long, shorter}
+use Rattle.sap_lemmas.proofs.Texts.{one_digit_long}
+use Rattle.sapper.proofs.Written.{first_written, last_written, shorter}
 use Rattle.sapper.proofs.digits.Digits.new.Goals as goal
 
 pub loop-left-init : goal.loop-left-init
@@ -32,16 +33,16 @@ loop-left-preserved c =
     }
 
 pub overflow_sub-start-2 : goal.overflow_sub-start-2
-overflow_sub-start-2 c = omega (arith, one_long c.loop-left.left (omega arith), c.loop-left.invariant.room)
+overflow_sub-start-2 c = omega (arith, one_digit_long c.loop-left.left (omega arith), c.loop-left.invariant.room)
 
 pub bounds-bytes-start-2 : goal.bounds-bytes-start-2
-bounds-bytes-start-2 c = omega (arith, one_long c.loop-left.left (omega arith), c.loop-left.invariant.room)
+bounds-bytes-start-2 c = omega (arith, one_digit_long c.loop-left.left (omega arith), c.loop-left.invariant.room)
 
 pub returns : goal.returns
 returns c =
-    let some : 1 ≤ c.loop-left.start = omega (arith, one_long c.loop-left.left (omega arith), c.loop-left.invariant.room) in
+    let some : 1 ≤ c.loop-left.start = omega (arith, one_digit_long c.loop-left.left (omega arith), c.loop-left.invariant.room) in
     first_written c.args.number c.loop-left.left c.loop-left.start c.loop-left.bytes (omega arith) some (omega (arith, c.loop-left.invariant.size)) c.loop-left.invariant.text
 
 pub invariant_of-result : goal.invariant_of-result
 invariant_of-result c =
-    omega (arith, one_long c.loop-left.left (omega arith), c.loop-left.invariant.room, length-set c.loop-left.bytes (c.loop-left.start - 1) (48 + c.loop-left.left), c.loop-left.invariant.size)
+    omega (arith, one_digit_long c.loop-left.left (omega arith), c.loop-left.invariant.room, length-set c.loop-left.bytes (c.loop-left.start - 1) (48 + c.loop-left.left), c.loop-left.invariant.size)

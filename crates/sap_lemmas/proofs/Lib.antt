@@ -1,0 +1,6 @@
+pub mod Bools
+pub mod Numbers
+pub mod Options
+pub mod Lists
+pub mod Everywhere
+pub mod Texts

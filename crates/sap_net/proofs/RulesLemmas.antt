@@ -1,0 +1,36 @@
+-- On what stands in Rules: what several crates cite.
+use Rattle.std.proofs.Common.{List, Some, [], arith, map, refl, ℕ, ◌++◌, ◌∷◌, ◌≡◌}
+use Rattle.std.specs.List.{AllByRecursion}
+use Rattle.sap_lemmas.proofs.Everywhere.{all_follow}
+use Rattle.sap_maps.proofs.Scopes.{found_behind, found_here}
+use Rattle.sap_maps.specs.Maps.{Name}
+use Rattle.sap_maps.specs.Scope.{Scope, find}
+use Rattle.sap_net.specs.Rules.{AreValues, AreWires, IsWidth, Shapes, readable_after}
+use Rattle.sap_net.specs.declared.parts.Input.{Input}
+use Rattle.sap_net.specs.declared.parts.Wire.{Wire}
+
+pub values_found : (ms : Shapes) (es : Scope) → AreValues ms es → AllByRecursion (λ e. find es e.0 ≡ Some e.1) es
+values_found ms [] a = tt
+values_found ms (e ∷ es) a = (
+  found_here e.0 e.1 es,
+  all_follow (λ f. find es f.0 ≡ Some f.1) (λ f. find (e ∷ es) f.0 ≡ Some f.1) es (λ f h. found_behind es e.0 e.1 a.1 f.0 f.1 h) (values_found ms es a.3),
+)
+
+pub values_past : (ms : Shapes) (is : List Input) (sd : Scope) → AreValues ms (map (λ i. (i.name, i.width)) is ++ sd) → AreValues ms sd
+values_past ms [] sd rules = rules
+values_past ms (i ∷ is) sd rules = values_past ms is sd rules.3
+
+pub wires_both : (ms : Shapes) (ws xs : List Wire) (sc : Scope) → AreWires ms sc ws → AreWires ms (readable_after sc ws) xs → AreWires ms sc (ws ++ xs)
+wires_both ms [] xs sc f g = g
+wires_both ms (w ∷ ws) xs sc f g = (f.0, f.1, f.2, f.3, wires_both ms ws xs _ f.4 g)
+
+pub one_wide : IsWidth 1
+one_wide = (omega arith, omega arith)
+
+pub readable_kept : (ms : Shapes) (ws : List Wire) (sc : Scope) → AreWires ms sc ws → (n : Name) (u : ℕ) → find sc n ≡ Some u → find (readable_after sc ws) n ≡ Some u
+readable_kept ms [] sc a n u h = h
+readable_kept ms (w ∷ ws) sc a n u h = readable_kept ms ws ((w.name, w.width) ∷ sc) a.4 n u (found_behind sc w.name w.width a.1 n u h)
+
+pub readable_both : (ws xs : List Wire) (sc : Scope) → readable_after sc (ws ++ xs) ≡ readable_after (readable_after sc ws) xs
+readable_both [] xs sc = refl
+readable_both (w ∷ ws) xs sc = readable_both ws xs ((w.name, w.width) ∷ sc)
