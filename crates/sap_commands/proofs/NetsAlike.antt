@@ -28,7 +28,7 @@ use Rattle.sap_stim.specs.Rows.{Shown, shown, shown_of, row_text}
 use Rattle.sap_stim.specs.Stimulus.{stimulus_of}
 use Rattle.sap_sim.specs.Fields.{field_of, fields_of, is_tag, with_field}
 use Rattle.sap_sim.specs.Numbers.{given, numbers_of, value_for}
-use Rattle.sap_sim.specs.Ports.{value_name, tag_name}
+use Rattle.sap_interface.specs.PortNames.{value_name, tag_name}
 use Rattle.sap_sim.specs.Shown.{register_ports, row_of, rows_from, shown_among, shown_registers}
 use Rattle.sap_sim.specs.Simulated.{IsSimulated, read_for}
 use Rattle.sap_sim.specs.declared.rows.Rows.{Rows}

@@ -6,7 +6,8 @@ use Rattle.sap_meaning.specs.Store.{Store, Refusal, own, level, child}
 use Rattle.sap_meaning.specs.Checks.{child_level}
 use Rattle.sap_meaning.specs.Fine.{FineNode, FineGroup, FineProgram, size}
 use Rattle.sap_meaning.specs.Agree.{Low, High, Meets, Onward}
-use Rattle.sap_interface.specs.PortNames.{tag_name, seat_name, root_seat}
+use Rattle.sap_interface.specs.PortNames.{tag_name}
+use Rattle.sap_ir.specs.Plain.Nested.{seat_name, root_seat}
 use Rattle.sap_interface.specs.StandsFor.{Named, name, world, StandsFor}
 use Rattle.sap_compile.specs.Agree.{IsState, CyclesAgree, IsLowCode, IsHighCode, HasHighTag, WalksMeet, WalksGoOn, PathsLookAlike}
 

@@ -10,7 +10,8 @@ use Rattle.sap_meaning.specs.State.{Resting, Fits, StreamFits}
 use Rattle.sap_meaning.specs.Agree.{Low, High, StatesAgree, RefusalsAgree, StreamsAgree}
 use Rattle.sap_net.specs.Net.{Net}
 use Rattle.sap_net.specs.Runs.{IsRun, observed}
-use Rattle.sap_interface.specs.PortNames.{value_name, tag_name, seat_name, root_seat, refused_name, level_name}
+use Rattle.sap_interface.specs.PortNames.{value_name, tag_name, refused_name, level_name}
+use Rattle.sap_ir.specs.Plain.Nested.{seat_name, root_seat}
 use Rattle.sap_interface.specs.StandsFor.{Named, name, world, depth, StandsFor}
 use Rattle.sap_interface.specs.Compiled.{coded_stream}
 use Rattle.sap_interface.specs.Designs.{named_of, sites_of}

@@ -9,7 +9,8 @@ use Rattle.sap_net.specs.declared.parts.Wire.{Wire}
 use Rattle.sap_net.specs.declared.parts.Register.{Register}
 use Rattle.sap_net.specs.declared.parts.Memory.{Memory}
 use Rattle.sap_net.specs.Net.{Net}
-use Rattle.sap_interface.specs.PortNames.{value_name, tag_name, seat_name, root_seat, refused_name, level_name, top_name}
+use Rattle.sap_interface.specs.PortNames.{value_name, tag_name, refused_name, level_name, top_name}
+use Rattle.sap_ir.specs.Plain.Nested.{seat_name, root_seat}
 use Rattle.sap_interface.specs.StandsFor.{Named, name, world, depth}
 use Rattle.sap_net.specs.Names.{IsHelpingName}
 use Rattle.sap_interface.specs.InterfaceNames.{IsInterfaceName}

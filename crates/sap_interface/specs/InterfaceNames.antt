@@ -1,7 +1,8 @@
 -- Which names the interface of a compiled module has.
 use Rattle.std.specs.Prelude.{◌≡◌, ◌<◌, ◌≤◌, ℕ, Bool, true, ◌||◌, List}
 use Rattle.sap_meaning.specs.Program.{World, root, children, is_input, is_register, is_memory, is_state}
-use Rattle.sap_interface.specs.PortNames.{value_name, tag_name, seat_name, root_seat, refused_name, level_name}
+use Rattle.sap_interface.specs.PortNames.{value_name, tag_name, refused_name, level_name}
+use Rattle.sap_ir.specs.Plain.Nested.{seat_name, root_seat}
 use Rattle.sap_interface.specs.StandsFor.{Named, name, world}
 
 -- an input, a register or a memory

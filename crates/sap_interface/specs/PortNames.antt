@@ -2,19 +2,12 @@
 use Rattle.std.specs.Prelude.{ℕ, List, ◌++◌, codes}
 use Rattle.std.specs.Fmt.{decimal}
 
--- the value and the tag of an entity, by its name; for a state the number of its current child
+-- The value and the tag of an entity, by its name. The number of a state's current child has the name that nested states give it.
 abbrev pub value_name : List ℕ → List ℕ
 value_name x = codes "v_" ++ x
 
 abbrev pub tag_name : List ℕ → List ℕ
 tag_name x = codes "t_" ++ x
-
-abbrev pub seat_name : List ℕ → List ℕ
-seat_name p = codes "s_" ++ p
-
--- that of the root
-abbrev pub root_seat : List ℕ
-root_seat = codes "s_0"
 
 -- whether a site is refused, and at which level
 abbrev pub refused_name : ℕ → List ℕ

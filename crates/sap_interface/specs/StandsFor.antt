@@ -3,7 +3,8 @@ use Rattle.std.specs.Prelude.{◌≡◌, ◌<◌, ◌≤◌, ◌⊎◌, ◌↔�
 use Rattle.sap_maps.specs.Maps.{Valuation}
 use Rattle.sap_meaning.specs.Program.{World, Program, entity, root, children, is_register, is_memory, is_state, is_dynamic, depth_of}
 use Rattle.sap_meaning.specs.Store.{Store, own, start, start_whole, number, level, child, Refusal}
-use Rattle.sap_interface.specs.PortNames.{value_name, tag_name, seat_name, root_seat, refused_name, level_name}
+use Rattle.sap_interface.specs.PortNames.{value_name, tag_name, refused_name, level_name}
+use Rattle.sap_ir.specs.Plain.Nested.{seat_name, root_seat}
 
 -- a program with the names of its entities, by number, and the code of each level
 pub record Named : Type 0 where

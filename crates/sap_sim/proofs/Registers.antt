@@ -22,7 +22,8 @@ use Rattle.sap_net.specs.Net.{Net}
 use Rattle.sap_net.specs.Names.{is_among, is_name, is_word, is_initial, is_inner}
 use Rattle.sap_net.specs.IsNetlist.{IsNetlist, readable, register_names, input_names, wire_names, memory_names, PortShows}
 use Rattle.sap_cycle.proofs.Distinct.{registers_readable}
-use Rattle.sap_sim.specs.Ports.{value_name, tag_name, value_of, behind}
+use Rattle.sap_sim.specs.Ports.{value_of, behind}
+use Rattle.sap_interface.specs.PortNames.{value_name, tag_name}
 use Rattle.sap_sim.specs.Shown.{register_ports, has_tag, shown_by, shown_among}
 use Rattle.sap_sim.proofs.Lists.{taken}
 

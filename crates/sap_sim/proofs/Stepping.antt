@@ -29,7 +29,7 @@ use Rattle.sap_sim.proofs.OneMore.{run_split, run_ends, EndsIn, last_pushed, run
 use Rattle.sap_sim.proofs.Origins.{numbers_are, sources_within}
 use Rattle.sap_sim.proofs.Runs.{rows_push, run_count}
 use Rattle.sap_sim.proofs.Seen.{places_count, row_is, seen_values}
-use Rattle.sap_sim.specs.Ports.{tag_name, value_name}
+use Rattle.sap_interface.specs.PortNames.{tag_name, value_name}
 
 module _ (ls : Levels) (n : Net) where
   pub numbers_more : (lines : List (List Given)) (line : List Given) → map (numbers_of ls n) (lines ++ line ∷ []) ≡ map (numbers_of ls n) lines ++ numbers_of ls n line ∷ []

@@ -1,12 +1,6 @@
--- Names of ports: `v_x` has the number of x, and `t_x` the code of its level.
-use Rattle.std.specs.Prelude.{ℕ, Bool, false, ◌==◌, ◌&&◌, [], ◌∷◌, ◌++◌, Option, Some, None, codes, if◌then◌else◌}
+-- Of which x a port of any module is `v_x`, the number, or `t_x`, the code of the level.
+use Rattle.std.specs.Prelude.{ℕ, Bool, false, ◌==◌, ◌&&◌, [], ◌∷◌, Option, Some, None, if◌then◌else◌}
 use Rattle.sap_maps.specs.Maps.{Name}
-
-abbrev pub value_name : Name → Name
-value_name x = codes "v_" ++ x
-
-abbrev pub tag_name : Name → Name
-tag_name x = codes "t_" ++ x
 
 -- x, where the name is this letter, `_` and x, a byte or more
 abbrev pub behind : (letter : ℕ) → Name → Option Name

@@ -10,7 +10,8 @@ use Rattle.sap_net.specs.declared.parts.Register.{Register}
 use Rattle.sap_net.specs.Names.{is_among}
 use Rattle.sap_net.specs.Net.{Net}
 use Rattle.sap_stim.specs.Rows.{row_text, shown_of}
-use Rattle.sap_sim.specs.Ports.{value_name, tag_name, value_of, is_number}
+use Rattle.sap_sim.specs.Ports.{value_of, is_number}
+use Rattle.sap_interface.specs.PortNames.{value_name, tag_name}
 use Rattle.sap_sim.specs.Fields.{tag_width}
 
 abbrev pub is_register : PortKind → Bool

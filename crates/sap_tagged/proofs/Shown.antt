@@ -12,9 +12,9 @@ use Rattle.sap_net.specs.declared.parts.PortKind.TheVariants as kind
 use Rattle.sap_ir.specs.declared.guarded.Var.{Var}
 use Rattle.sap_ir.specs.declared.guarded.Store.{Store}
 use Rattle.sap_ir.proofs.Declared.{apart_lists}
-use Rattle.sap_ir.specs.Plain.Nested.{Nested, seat_width}
+use Rattle.sap_ir.specs.Plain.Nested.{Nested, seat_width, seat_name, root_seat}
 use Rattle.sap_ir.proofs.plain.SeatWidths.{seat_positive, seat_holds, seat_least}
-use Rattle.sap_interface.specs.PortNames.{value_name, tag_name, seat_name, root_seat, refused_name, level_name}
+use Rattle.sap_interface.specs.PortNames.{value_name, tag_name, refused_name, level_name}
 use Rattle.sap_interface.specs.StandsFor.{Named, name, world, depth}
 use Rattle.sap_interface.specs.Interface.{Shown, pairs_of, site_ports, ports_of}
 use Rattle.sap_tagged.specs.Keys.{Value, Tag, Seat, key_name}

@@ -18,11 +18,11 @@ use Rattle.sap_net.specs.declared.parts.PortKind.TheVariants as kind
 use Rattle.sap_ir.specs.declared.guarded.Var.{Var}
 use Rattle.sap_ir.specs.declared.guarded.Store.{Store}
 use Rattle.sap_ir.specs.Writes.{NumbersFit}
-use Rattle.sap_ir.specs.Plain.Nested.{Nested}
+use Rattle.sap_ir.specs.Plain.Nested.{Nested, seat_name, root_seat}
 use Rattle.sap_ir.specs.Plain.Does.{plain_run}
 use Rattle.sap_ir.specs.Plain.IsPlain.{IsPlain}
 use Rattle.sap_ir.specs.Plain.Writes.{PlainWritesOnce}
-use Rattle.sap_interface.specs.PortNames.{value_name, tag_name, seat_name, root_seat, refused_name, level_name}
+use Rattle.sap_interface.specs.PortNames.{value_name, tag_name, refused_name, level_name}
 use Rattle.sap_interface.specs.StandsFor.{Named, name, world, depth, IsRefusedAt}
 use Rattle.sap_interface.specs.InterfaceNames.{IsInterfaceName}
 use Rattle.sap_interface.specs.Interface.{Shown, IsSeatWidth, ports_of}

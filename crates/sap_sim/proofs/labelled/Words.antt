@@ -17,7 +17,8 @@ use Rattle.sap_names.specs.declared.entity.Entity.{Entity as Declared}
 use Rattle.sap_resolve.specs.Worlds.{all_declared, state_entities, group_entities}
 use Rattle.sap_interface.specs.StandsFor.{name, world}
 use Rattle.sap_interface.specs.Designs.{named_of}
-use Rattle.sap_sim.specs.Ports.{value_name, tag_name, value_of, tag_of}
+use Rattle.sap_sim.specs.Ports.{value_of, tag_of}
+use Rattle.sap_interface.specs.PortNames.{value_name, tag_name}
 
 abbrev pub is_plain : Entity → Bool
 is_plain e = kind_is_input e.kind || kind_is_register e.kind

@@ -3,7 +3,7 @@ use Rattle.sap_maps.specs.Maps.{Name}
 use Rattle.sap_net.specs.declared.parts.Register.{Register}
 use Rattle.sap_net.specs.Net.{Net}
 use Rattle.sap_net.specs.IsNetlist.{IsNetlist}
-use Rattle.sap_sim.specs.Ports.{value_name, tag_name}
+use Rattle.sap_interface.specs.PortNames.{value_name, tag_name}
 use Rattle.sap_sim.specs.Shown.{shown_among, register_ports, register_widths}
 use Rattle.sap_sim.specs.Lookup.{Finds, places_from}
 use Rattle.sap_sim.specs.Layout.{ArePlaces}

@@ -1,7 +1,7 @@
 use Rattle.std.proofs.Common.{◌≡◌, ◌++◌, List, ℕ, length, map, sym, ap, ◌∙◌, subst}
 use Rattle.std.proofs.lemmas.List.{length-map}
 use Rattle.sap_net.specs.Runs.{InputsFit, IsCycle, observed}
-use Rattle.sap_sim.specs.Ports.{value_name, tag_name}
+use Rattle.sap_interface.specs.PortNames.{value_name, tag_name}
 use Rattle.sap_sim.specs.Fields.{tag_width, with_field, field_of}
 use Rattle.sap_sim.specs.Numbers.{numbers_of}
 use Rattle.sap_sim.specs.Shown.{shown_registers}
