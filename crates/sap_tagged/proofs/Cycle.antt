@@ -58,10 +58,10 @@ module _ (d : Named) where
   pub tag_known : (x : ℕ) → nat_lt x (root (world d)) ≡ true → key_name d (Tag x) ≡ ports.tag_name (name d x)
   tag_known x h = rw h refl
 
-  pub seat_known : (x : ℕ) → nat_lt x (root (world d)) ≡ true → key_name d (Seat x) ≡ ports.seat_name (name d x)
+  pub seat_known : (x : ℕ) → nat_lt x (root (world d)) ≡ true → key_name d (Seat x) ≡ nested.seat_name (name d x)
   seat_known x h = rw (lt_not x (root (world d)) h, h) refl
 
-  pub root_known : key_name d (Seat (root (world d))) ≡ ports.root_seat
+  pub root_known : key_name d (Seat (root (world d))) ≡ nested.root_seat
   root_known = rw (eq-eqb (root (world d)) (root (world d)) refl) refl
 
   pub refused_known : (k : ℕ) → k < 2 ^ 64 → key_name d (Refused k) ≡ ports.refused_name k
@@ -230,7 +230,7 @@ module _ (d : Named) (tag sites : ℕ) (design : Design d tag sites) where
   pub lawful_states : LawfulStates set
   lawful_states = record {
     apart = λ s t h k. rw (h, k) (design.names.apart s t h k);
-    seats = λ s h. ap (λ (b : Bool). ports.seat_name (if b then name d s else numeral s)) h ∙ sym (seat_known d s h);
+    seats = λ s h. ap (λ (b : Bool). nested.seat_name (if b then name d s else numeral s)) h ∙ sym (seat_known d s h);
     root_seat = sym (root_known d);
   }
 

@@ -290,7 +290,7 @@ module _ (f : File) where
   items_stand a [] ports items = tt
   items_stand a (x ∷ xs) ports items =
       each-append (Stood f) (item_faults (known_above a) x) (items_faults (after_item (known_above a) x) xs)
-      (item_stands f a x (record { ltb-true = xs; ports = ports; items = items }))
+      (item_stands f a x (record { below = xs; ports = ports; items = items }))
       (subst (λ (k : Known). Each (Stood f) (items_faults k xs)) (sym (after_item_above a x))
       (items_stand (under_item a x) xs ports (items ∙ sym (append_assoc a.items (x ∷ []) xs))))
 
