@@ -1,15 +1,5 @@
-//! Designs, lattices and modules by the top call over a desk in memory, by rows.
+//! The examples that the program's help has, by the top call over a desk in memory.
 #![tactic(auto)]
 
 #[cfg(test)]
-mod arms;
-#[cfg(test)]
-mod compiling;
-#[cfg(test)]
-mod designs;
-#[cfg(test)]
-mod falls;
-#[cfg(test)]
-mod lattices;
-#[cfg(test)]
-mod shapes;
+mod examples;

@@ -3,9 +3,16 @@
 use sap_desk::MemoryDesk;
 use sap_help::explain;
 use sapper::sapper;
-use sapper_fixture::{ADDS_ONE, COMPILE, REPORT, RUN, TWO, desk, words};
 use std::alloc::{AllocError, Global};
 use std::test::Fail;
+
+const TWO: &str = "levels = [\"low\", \"high\"]\nbelow = [[\"low\", \"high\"]]\n";
+
+const ADDS_ONE: &str =
+    "input a : 8; reg x : 8 dynamic;\nstate S enforced low { x := a + 1; goto S; }\n";
+
+// The room of the desk's channels.
+const ROOM: usize = 10_000;
 
 // Codes with the words that meet the example, the file that it is, what stands around it there, and the head of the fault's line.
 struct Trial {
@@ -28,7 +35,7 @@ static TRIALS: [Trial; 5] = [
             "E1", "E2", "E3", "E4", "E5", "E6", "E7", "E8", "E9", "E10", "E11", "E12", "E14",
             "E15", "E16", "E17", "E18",
         ],
-        words: COMPILE,
+        words: &["compile", "L", "D", "O"],
         file: "D",
         before: "",
         behind: "",
@@ -36,7 +43,7 @@ static TRIALS: [Trial; 5] = [
     },
     Trial {
         codes: &["L1", "L2", "L3", "L4", "L5", "L6", "L7", "L8"],
-        words: REPORT,
+        words: &["report", "L", "D"],
         file: "L",
         before: "",
         behind: "",
@@ -44,7 +51,7 @@ static TRIALS: [Trial; 5] = [
     },
     Trial {
         codes: &["S1", "S2", "S3", "S4", "S5", "S6"],
-        words: RUN,
+        words: &["run", "L", "D", "S"],
         file: "S",
         before: "",
         behind: "",
@@ -83,8 +90,19 @@ fn push_example(out: &mut String, code: &str) -> Result<(), AllocError> {
     Ok(())
 }
 
+fn words_of(alloc: Global, list: &[&str]) -> Result<Vec<String>, AllocError> {
+    let mut words = Vec::new(alloc);
+    for word in list {
+        words.push(String::from_str(alloc, word)?)?;
+    }
+    Ok(words)
+}
+
 fn files_of(alloc: Global, trial: &Trial, code: &str) -> Result<MemoryDesk, AllocError> {
-    let mut desk = desk(alloc, &[("L", TWO), ("D", ADDS_ONE), ("S", "5@low\n")])?;
+    let mut desk = MemoryDesk::new(alloc, ROOM)?;
+    desk.put_file("L", TWO.as_bytes())?;
+    desk.put_file("D", ADDS_ONE.as_bytes())?;
+    desk.put_file("S", b"5@low\n")?;
     let mut text = String::from_str(alloc, trial.before)?;
     push_example(&mut text, code)?;
     text.push_str(trial.behind)?;
@@ -93,7 +111,7 @@ fn files_of(alloc: Global, trial: &Trial, code: &str) -> Result<MemoryDesk, Allo
 }
 
 fn is_told(alloc: Global, trial: &Trial, code: &str) -> Result<bool, AllocError> {
-    let words = words(alloc, trial.words)?;
+    let words = words_of(alloc, trial.words)?;
     let mut desk = files_of(alloc, trial, code)?;
     sapper(alloc, &words, &mut desk);
     let head = trial.head;
