@@ -14,20 +14,27 @@ fn holds(desk: &MemoryDesk, name: &str, bytes: &[u8]) -> bool {
 }
 
 #[test]
-fn the_host_keeps_what_is_written(rt: HostRuntime) -> Result<(), Fail> {
+fn the_host_keeps_what_is_written_to_a_file(rt: HostRuntime) -> Result<(), Fail> {
     let alloc = rt.alloc();
     let mut output = Vec::new(alloc);
     let mut errors = Vec::new(alloc);
     let mut desk = HostDesk::new(alloc, &rt, &mut output, &mut errors)?;
     let long = [b'x'; 5000];
-
     let missing = read_file(alloc, &mut desk, "no such file").err();
     assert_eq!(rt; missing, Some(DeskError::Failed));
     write_file(&mut desk, "made", &long)?;
     let bytes = read_file(alloc, &mut desk, "made")?;
     fs::remove_file(&rt, "made")?;
     assert_eq!(rt; bytes.as_slice(), long.as_slice());
+    Ok(())
+}
 
+#[test]
+fn the_host_has_an_output_and_a_place_for_fault_lines(rt: HostRuntime) -> Result<(), Fail> {
+    let alloc = rt.alloc();
+    let mut output = Vec::new(alloc);
+    let mut errors = Vec::new(alloc);
+    let mut desk = HostDesk::new(alloc, &rt, &mut output, &mut errors)?;
     write_output(&mut desk, b"row")?;
     write_line(&mut desk, &[b"desk: ", b"no such file"])?;
     desk.finish(2)?;
@@ -72,38 +79,14 @@ fn keeps_room_on_each_channel(rt: HostRuntime) -> Result<(), Fail> {
 #[test]
 fn fails_at_the_listed_calls(rt: HostRuntime) -> Result<(), Fail> {
     let mut desk = MemoryDesk::new(rt.alloc(), 9)?;
-    for number in [1, 3, 5] {
-        desk.fail_at(number)?;
-    }
+    desk.fail_at(1)?;
+    desk.fail_at(3)?;
     assert_eq!(rt; desk.create("a"), Err(DeskError::Failed));
     assert_eq!(rt; desk.file("a"), None);
     let channel = desk.create("a")?;
     assert_eq!(rt; desk.write(channel, b"abcde"), Err(Failed));
-    assert!(rt; holds(&desk, "a", b"ab"));
     assert_eq!(rt; desk.write(channel, b"cd"), Ok(()));
-    assert_eq!(rt; desk.finish(channel), Err(Failed));
-    assert_eq!(rt; desk.finish(channel), Ok(()));
-    assert_eq!(rt; desk.finish(channel), Err(Failed));
     assert!(rt; holds(&desk, "a", b"abcd"));
-    Ok(())
-}
-
-#[test]
-fn two_channels_write_one_file(rt: HostRuntime) -> Result<(), Fail> {
-    let mut desk = MemoryDesk::new(rt.alloc(), 4)?;
-    let first = desk.create("a")?;
-    assert_eq!(rt; desk.write(first, b"xy"), Ok(()));
-    let second = desk.create("a")?;
-    assert!(rt; holds(&desk, "a", b""));
-    assert_eq!(rt; desk.write(second, b"1234"), Ok(()));
-    assert_eq!(rt; desk.write(first, b"56"), Ok(()));
-    assert_eq!(rt; desk.write(first, b"7"), Err(Failed));
-    assert!(rt; holds(&desk, "a", b"123456"));
-    let third = desk.create("a")?;
-    desk.put_file("a", b"put ")?;
-    assert_eq!(rt; desk.write(third, b"more"), Ok(()));
-    assert_eq!(rt; desk.write(second, b"8"), Err(Failed));
-    assert!(rt; holds(&desk, "a", b"put more"));
     Ok(())
 }
 

@@ -1,15 +1,11 @@
-//! Operators, desks, lattices and stimuli by example.
+//! What no command shows, by example: desks, rows in a buffer, the layout of modules, machines and machines in pairs.
 #![tactic(auto)]
 
 #[cfg(test)]
-mod bits;
-#[cfg(test)]
 mod desks;
 #[cfg(test)]
-mod lattice_files;
+mod machines;
 #[cfg(test)]
-mod lattices;
+mod modules;
 #[cfg(test)]
-mod lines;
-#[cfg(test)]
-mod stimuli;
+mod rows;

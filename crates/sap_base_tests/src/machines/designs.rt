@@ -1,0 +1,160 @@
+//! Worked designs with the rows and the traces of their machines.
+
+use super::shown::{push_refusals, push_row};
+use super::{DIAMOND, KEEPS_LOW, TWO, checked_design, inputs_of, start};
+use sap_check::Checked;
+use sap_latfile::read_lattice;
+use sap_lattice::lattice::Lattice;
+use sap_sem::machine::Machine;
+use std::alloc::{AllocError, Global};
+use std::test::Fail;
+
+/// A design with what its inputs get in each cycle, its rows and its trace.
+struct Run {
+    lattice: &'static str,
+    design: &'static str,
+    cycles: &'static [&'static [(u64, &'static str)]],
+    rows: &'static str,
+    trace: &'static str,
+}
+
+static RUNS: [Run; 7] = [
+    // a write that would raise an enforced register is refused
+    Run {
+        lattice: TWO,
+        design: KEEPS_LOW,
+        cycles: &[&[(5, "high")], &[(5, "low")]],
+        rows: "cycle 1: y=7@low\ncycle 2: y=5@low\n",
+        trace: "cycle 1: site 1 write y at low\n",
+    },
+    Run {
+        lattice: TWO,
+        design: "input a : 8; reg z : 8 enforced low = 3;\nstate S enforced low { setTag(z, level(a)); goto S; }\n",
+        cycles: &[&[(7, "low")], &[(0, "low")], &[(1, "high")]],
+        rows: "cycle 1: z=3@high\ncycle 2: z=0@low\ncycle 3: z=0@low\n",
+        trace: "cycle 3: site 1 setTag z at low\n",
+    },
+    // a state that is entered begins with its first child
+    Run {
+        lattice: TWO,
+        design: "input a : 8; reg x : 8 dynamic;\nstate P enforced low {\n  if (a == 1) { goto Q; } else { fall; }\n  state C1 enforced low { x := 1; goto C2; }\n  state C2 enforced low { x := 2; goto C2; }\n}\nstate Q enforced low { x := 9; goto P; }\n",
+        cycles: &[
+            &[(0, "low")],
+            &[(0, "low")],
+            &[(1, "low")],
+            &[(0, "low")],
+            &[(0, "low")],
+        ],
+        rows: "cycle 1: x=1@low\ncycle 2: x=2@low\ncycle 3: x=2@low\ncycle 4: x=9@low\ncycle 5: x=1@low\n",
+        trace: "",
+    },
+    // a dynamic memory, read as the cycle began, and an enforced one
+    Run {
+        lattice: TWO,
+        design: "input a : 2; input b : 2; mem m : 8[4] dynamic; reg x : 8 dynamic;\nstate S enforced low { m[a] := 5; x := m[b]; goto S; }\n",
+        cycles: &[&[(1, "high"), (1, "low")], &[(1, "high"), (1, "low")]],
+        rows: "cycle 1: x=0@low\ncycle 2: x=5@high\n",
+        trace: "",
+    },
+    Run {
+        lattice: TWO,
+        design: "input a : 2; mem k : 8[4] enforced low; reg y : 8 enforced low;\nstate S enforced low { k[a] := 1 otherwise { y := 9; } goto S; }\n",
+        cycles: &[&[(3, "high")]],
+        rows: "cycle 1: y=0@low\n",
+        trace: "cycle 1: site 1 write k at high\ncycle 1: site 2 write y at high\n",
+    },
+    // both run in the context of the guard, which raises what either assigns
+    Run {
+        lattice: DIAMOND,
+        design: "sapper 2; input b : 8; reg y : 8 enforced a; reg z : 8 enforced low; reg u : 8 dynamic; reg v : 8 dynamic;\nstate S enforced low { y := b then { u := 1; z := 1; } otherwise { v := 1; z := 2; } goto S; }\n",
+        cycles: &[&[(5, "low")], &[(5, "b")]],
+        rows: "cycle 1: y=5@a z=0@low u=1@a v=0@a\ncycle 2: y=5@a z=0@low u=1@a v=1@a\n",
+        trace: "cycle 1: site 2 write z at a\ncycle 2: site 1 write y at a\ncycle 2: site 3 write z at a\n",
+    },
+    Run {
+        lattice: TWO,
+        design: "sapper 2; input a : 2; reg x : 8 dynamic; reg z : 8 dynamic;\nstate S enforced low { case (a) { 1: { x := 1; } 3, 1: { z := 2; } else { z := 3; } } goto S; }\n",
+        cycles: &[&[(1, "high")], &[(3, "low")], &[(0, "low")]],
+        rows: "cycle 1: x=1@high z=0@high\ncycle 2: x=1@high z=2@low\ncycle 3: x=1@high z=3@low\n",
+        trace: "",
+    },
+];
+
+/// Steps a machine on inputs that fit; whether they do.
+fn step(
+    alloc: Global,
+    machine: &mut Machine,
+    lattice: &Lattice,
+    given: &[(u64, &str)],
+) -> Result<bool, AllocError> {
+    let inputs = match inputs_of(alloc, lattice, given)? {
+        Some(inputs) => inputs,
+        None => return Ok(false),
+    };
+    if !machine.fits(&inputs) {
+        return Ok(false);
+    }
+    machine.step(&inputs);
+    Ok(true)
+}
+
+/// Whether a machine has the entities and the check sites of the design.
+fn has_all(machine: &Machine, checked: &Checked) -> bool {
+    machine.entity_count() == checked.entity_count() as usize
+        && machine.site_count() == checked.site_count()
+}
+
+/// The rows and the lines of refusals, where all inputs fit.
+fn shown(
+    alloc: Global,
+    checked: &Checked,
+    cycles: &[&[(u64, &str)]],
+) -> Result<Option<(Vec<u8>, Vec<u8>)>, AllocError> {
+    let mut machine = start(alloc, checked)?;
+    if !has_all(&machine, checked) {
+        return Ok(None);
+    }
+    let mut rows = Vec::new(alloc);
+    let mut trace = Vec::new(alloc);
+    for (k, given) in cycles.iter().enumerate() {
+        if !step(alloc, &mut machine, checked.lattice(), given)? {
+            return Ok(None);
+        }
+        push_row(&mut rows, &machine, checked, k as u64 + 1)?;
+        push_refusals(&mut trace, &machine, checked, k as u64 + 1)?;
+    }
+    Ok(Some((rows, trace)))
+}
+
+fn runs_as_said(alloc: Global, run: &Run) -> Result<bool, AllocError> {
+    let lattice = match read_lattice(alloc, run.lattice.as_bytes()) {
+        Ok(lattice) => lattice,
+        Err(_) => return Ok(false),
+    };
+    let checked = match checked_design(alloc, run.design, &lattice) {
+        Some(checked) => checked,
+        None => return Ok(false),
+    };
+    match shown(alloc, &checked, run.cycles)? {
+        Some((rows, trace)) => {
+            Ok(rows.as_slice() == run.rows.as_bytes() && trace.as_slice() == run.trace.as_bytes())
+        }
+        None => Ok(false),
+    }
+}
+
+/// The place of the first run that is otherwise than said.
+fn first_wrong(alloc: Global, runs: &[Run]) -> Result<Option<usize>, AllocError> {
+    for (place, run) in runs.iter().enumerate() {
+        if !runs_as_said(alloc, run)? {
+            return Ok(Some(place));
+        }
+    }
+    Ok(None)
+}
+
+#[test]
+fn machines_run_as_worked(rt: HostRuntime) -> Result<(), Fail> {
+    assert_eq!(rt; first_wrong(rt.alloc(), &RUNS)?, None);
+    Ok(())
+}
