@@ -2,7 +2,7 @@
 
 use crate::blocks::Block;
 use crate::refusal::{Refusal, Why};
-use crate::table::{Answer, File, Held, Step, Target, Wanted};
+use crate::table::{Answer, Cut, File, Held, Step, Target, Wanted};
 use crate::texts::{number_of, push_escaped, push_line, text_of};
 use std::alloc::Global;
 
@@ -24,6 +24,7 @@ pub struct Draft {
     faults: Option<Wanted>,
     held: Vec<Held>,
     turns: Option<String>,
+    cut: Option<Cut>,
 }
 
 // The lines of text below a heading.
@@ -134,6 +135,22 @@ fn counted_of(alloc: Global, text: &str) -> Result<Held, Why> {
     })
 }
 
+// `NAME STATUS LINE ..`
+fn cut_of(alloc: Global, text: &str) -> Result<Cut, Why> {
+    let mut pieces = text.split(' ');
+    let file = name_of(alloc, pieces.next().unwrap_or(""))?;
+    let answer = answer_of(pieces.next().unwrap_or(""))?;
+    let mut lines = Vec::new(alloc);
+    for piece in pieces {
+        lines.push(word_of(alloc, piece)?)?;
+    }
+    Ok(Cut {
+        file,
+        answer,
+        lines,
+    })
+}
+
 // Sets what wasn't said before.
 fn set<T: Drop>(slot: &mut Option<T>, value: T) -> Result<(), Why> {
     if slot.is_some() {
@@ -157,6 +174,7 @@ impl Draft {
             faults: None,
             held: Vec::new(alloc),
             turns: None,
+            cut: None,
         }
     }
 
@@ -209,6 +227,7 @@ impl Draft {
             "changes" => self.hold(Held::Changed(name_of(alloc, block.rest)?)),
             "has" => self.hold(counted_of(alloc, block.rest)?),
             "in_turn" => set(&mut self.turns, name_of(alloc, block.rest)?),
+            "cut" => set(&mut self.cut, cut_of(alloc, block.rest)?),
             _ => Err(Why::Says("an unknown word")),
         }
     }
@@ -236,6 +255,7 @@ impl Draft {
             faults,
             held,
             turns,
+            cut,
             ..
         } = self;
         let (Some(call), Some(answer)) = (call, answer) else {
@@ -254,6 +274,7 @@ impl Draft {
             faults: faults.unwrap_or(Wanted::Exactly(Vec::new(alloc))),
             held,
             turns: turns.unwrap_or(String::new(alloc)),
+            cut,
         })
     }
 }

@@ -1,11 +1,12 @@
 //! Each call on the desk failing in turn.
 
-use crate::running::{Came, Difference, Run};
+use crate::running::{Came, Circumstance, Difference, Run};
 use crate::table::{Answer, Held, Step};
 use sap_desk::MemoryDesk;
 use std::alloc::{AllocError, Global};
 
 const OUTPUT: u8 = b'1';
+
 const FAULTS: u8 = b'2';
 
 /// A call on the desk that fails: its number, from 1, and its file or channel.
@@ -51,9 +52,7 @@ fn output_of<'a>(turn: &Turn<'a>) -> &'a [u8] {
 }
 
 fn changes(step: &Step, name: &str) -> bool {
-    step.held
-        .iter()
-        .any(|held| matches!(held, Held::Changed(_)) && held.name() == name)
+    step.held.iter().any(|held| matches!(held, Held::Changed(_)) && held.name() == name)
 }
 
 // A file that may change is as before, or where the call was on it the beginning of what it would be.
@@ -105,17 +104,13 @@ fn wrong_turn(
 }
 
 // With a call failing that is never made all is as the step says.
-fn wrong_behind(
-    alloc: Global,
-    step: &Step,
-    number: u64,
-) -> Result<Option<Difference>, AllocError> {
+fn wrong_behind(alloc: Global, step: &Step, number: u64) -> Result<Option<Difference>, AllocError> {
     let mut run = Run::new(alloc)?;
     run.desk.fail_at(number)?;
     match run.step(step)? {
         Some(came) => Ok(Some(Difference {
             call: 1,
-            failing: number,
+            circumstance: Circumstance::Failing(number),
             came,
         })),
         None => Ok(None),
@@ -140,7 +135,7 @@ pub fn first_wrong_turn(alloc: Global, step: &Step) -> Result<Option<Difference>
         if let Some(came) = wrong_turn(alloc, &turn, &whole.desk)? {
             return Ok(Some(Difference {
                 call: 1,
-                failing: number,
+                circumstance: Circumstance::Failing(number),
                 came,
             }));
         }

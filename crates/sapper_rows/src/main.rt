@@ -4,6 +4,7 @@
 #![tactic(auto)]
 
 mod blocks;
+mod cut;
 mod draft;
 mod in_turn;
 mod reading;
@@ -58,12 +59,7 @@ fn rows_of(alloc: Global, bytes: &[u8]) -> Result<Vec<Row>, Refusal> {
 }
 
 // Runs the rows of a table, and tells those that differ; gives how many.
-fn run_rows<D: Desk>(
-    alloc: Global,
-    desk: &mut D,
-    table: &str,
-    rows: &[Row],
-) -> Result<u64, Stop> {
+fn run_rows<D: Desk>(alloc: Global, desk: &mut D, table: &str, rows: &[Row]) -> Result<u64, Stop> {
     let mut differing = 0u64;
     for row in rows {
         if let Some(difference) = run_row(alloc, row)? {

@@ -55,7 +55,10 @@ impl OpenRow {
         let step = draft.finish()?;
         at(line, push(&mut steps, step))?;
         if steps.len() > 1 && steps.iter().any(|step| !step.turns.is_empty()) {
-            return at(line, Err(Why::Says("`in_turn` belongs to a row of one call")));
+            return at(
+                line,
+                Err(Why::Says("`in_turn` belongs to a row of one call")),
+            );
         }
         Ok(Row { name, steps })
     }

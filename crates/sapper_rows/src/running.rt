@@ -1,5 +1,6 @@
 //! Rows run over a desk in memory.
 
+use crate::cut::first_wrong_cut;
 use crate::in_turn::first_wrong_turn;
 use crate::table::{Answer, File, Held, Row, Step, Target, Wanted};
 use sap_desk::MemoryDesk;
@@ -22,11 +23,19 @@ pub enum Came {
     Words(String, u64),
 }
 
-/// Where a row came out otherwise: its call, from 1, and the call on the desk that was to fail in turn, or 0.
+/// How a row was run: as it stands, with this call on the desk failing, or with so many bytes of a file.
+#[derive(Clone, Copy)]
+pub enum Circumstance {
+    AsItStands,
+    Failing(u64),
+    CutAt(u64),
+}
+
+/// Where a row came out otherwise: its call, from 1, and how it was run.
 #[derive(Drop)]
 pub struct Difference {
     pub call: u64,
-    pub failing: u64,
+    pub circumstance: Circumstance,
     pub came: Came,
 }
 
@@ -35,7 +44,7 @@ fn is_within(part: &[u8], whole: &[u8]) -> bool {
 }
 
 impl Wanted {
-    fn fits(&self, came: &[u8]) -> bool {
+    pub fn fits(&self, came: &[u8]) -> bool {
         match self {
             Wanted::Exactly(text) => came == text.as_slice(),
             Wanted::Beginning(text) => came.starts_with(text.as_slice()),
@@ -190,12 +199,23 @@ fn run_once(alloc: Global, row: &Row) -> Result<Option<Difference>, AllocError> 
         if let Some(came) = run.step(step)? {
             return Ok(Some(Difference {
                 call: number,
-                failing: 0,
+                circumstance: Circumstance::AsItStands,
                 came,
             }));
         }
     }
     Ok(None)
+}
+
+// How a step comes out where calls fail in turn, or a file is cut.
+fn again(alloc: Global, step: &Step) -> Result<Option<Difference>, AllocError> {
+    if !step.turns.is_empty() {
+        return first_wrong_turn(alloc, step);
+    }
+    match &step.cut {
+        Some(cut) => first_wrong_cut(alloc, step, cut),
+        None => Ok(None),
+    }
 }
 
 /// How a row comes out otherwise than it says, if it does.
@@ -204,7 +224,7 @@ pub fn run_row(alloc: Global, row: &Row) -> Result<Option<Difference>, AllocErro
         return Ok(Some(difference));
     }
     match row.steps.first() {
-        Some(step) if !step.turns.is_empty() => first_wrong_turn(alloc, step),
-        _ => Ok(None),
+        Some(step) => again(alloc, step),
+        None => Ok(None),
     }
 }

@@ -1,7 +1,7 @@
 //! Differences and refusals as lines.
 
 use crate::refusal::{Refusal, Why};
-use crate::running::{Came, Difference};
+use crate::running::{Came, Circumstance, Difference};
 use crate::table::Answer;
 use std::alloc::{AllocError, Global};
 
@@ -63,11 +63,19 @@ pub fn difference(
 ) -> Result<String, AllocError> {
     let call = difference.call;
     let came = came(alloc, &difference.came)?;
-    if difference.failing == 0 {
-        return format!(in alloc; "{table}: {row}: call {call}: came {came}\n");
+    match difference.circumstance {
+        Circumstance::AsItStands => format!(in alloc; "{table}: {row}: call {call}: came {came}\n"),
+        Circumstance::Failing(number) => {
+            format!(in alloc;
+                "{table}: {row}: call {call} where call {number} on the desk fails: came {came}\n"
+            )
+        }
+        Circumstance::CutAt(length) => {
+            format!(in alloc;
+                "{table}: {row}: call {call} where {length} bytes are left: came {came}\n"
+            )
+        }
     }
-    let failing = difference.failing;
-    format!(in alloc; "{table}: {row}: call {call} where call {failing} on the desk fails: came {came}\n")
 }
 
 /// The line of a table that is refused.

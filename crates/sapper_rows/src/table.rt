@@ -69,6 +69,16 @@ pub struct Step {
     pub held: Vec<Held>,
     /// The file or channel of each call on the desk, where each is to fail in turn; else empty.
     pub turns: String,
+    pub cut: Option<Cut>,
+}
+
+/// What comes of a call where only a beginning of a file is there, whatever its length: this answer, and one of these
+/// at the head of the line on channel 2. A beginning that is whole comes out as the step says.
+#[derive(Drop)]
+pub struct Cut {
+    pub file: String,
+    pub answer: Answer,
+    pub lines: Vec<String>,
 }
 
 /// Calls one after another over one desk.
