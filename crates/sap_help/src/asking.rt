@@ -128,7 +128,7 @@ pub fn answer<D: Desk>(alloc: Global, desk: &mut D, words: &[String]) -> Option<
     ensures status { IfSome result IsStatus }
     ensures cut { result ≡ Some 6 → IfSome (asked_by (map string_bytes words.now)) (λ asked. Between (D.told desk.old) (D.told desk.new) (IsCutOff asked)) }
     ensures quiet { result ≢ Some 0 → result ≢ Some 6 → Between (D.told desk.old) (D.told desk.new) Untouched }
-    // On channel 2 stands exactly the line of the status, or a part of it where a call on it failed, and no call on it is made after that.
+    // Channel 2 gains exactly the line of the status, or a part of it where a call on it failed; at most one fails.
     ensures line { IfSome result (λ status. Between (D.told desk.old) (D.told desk.new) (Gained (line_at status) (D.lost desk.old) (D.lost desk.new))) }
     ensures lost { LostAtMostOne (D.lost desk.old) (D.lost desk.new) }
     ensures failed { result ≡ Some 6 → D.faults desk.new ≡ counted (D.faults desk.old) }

@@ -119,7 +119,7 @@ pub fn sapper<D: Desk>(alloc: Global, words: &[String], desk: &mut D) -> u8
     ensures refused { words_for (map string_bytes words.now) ≡ None → result ≡ 2 }
     ensures may { MayAnswer (map string_bytes words.now) result }
     ensures words { result ≡ 2 → (words_for (map string_bytes words.now) ≡ None) ⊎ IsTwin (words_for (map string_bytes words.now)) }
-    // Of all calls on channel 2 at most one fails: none is made after it.
+    // Of all the calls on channel 2 at most one fails.
     ensures lost { LostAtMostOne (D.lost desk.old) (D.lost desk.new) }
     ensures sure { D.sure desk.old → D.sure desk.new }
 {
