@@ -20,6 +20,9 @@ mod shown;
 
 pub const TWO: &str = "levels = [\"low\", \"high\"]\nbelow = [[\"low\", \"high\"]]\n";
 
+pub const ADDS_ONE: &str =
+    "input a : 8; reg x : 8 dynamic;\nstate S enforced low { x := a + 1; goto S; }\n";
+
 pub const DIAMOND: &str =
     "levels = [\"low\", \"a\", \"b\", \"high\"]\nbelow = [[\"low\", \"a\"], [\"low\", \"b\"], [\"a\", \"high\"], [\"b\", \"high\"]]\n";
 

@@ -2,7 +2,7 @@
 use Rattle.std.proofs.Common.{◌≡◌, refl}
 use Rattle.sap_shape.proofs.WellFormedLemmas.{no_first_fault}
 use Rattle.sap_tree.specs.Syntax.{DesignTree}
-use Rattle.sap_tree.specs.declared.place.Place.{Place}
+use Rattle.sap_text.specs.declared.place.Place.{Place}
 use Rattle.sap_lattice.specs.Levels.{Levels}
 use Rattle.sap_names.specs.declared.fault.CheckFault.{CheckFault}
 use Rattle.sap_names.specs.declared.fault.CheckFault.TheVariants.{Memory, Rule}

@@ -12,12 +12,12 @@ use Rattle.sap_check.specs.Points as points
 use Rattle.sap_check.specs.Sites.{site_of}
 use Rattle.sap_shape.specs.Lists as shape_lists
 use Rattle.sap_shape.specs.Sites as sites
-use Rattle.sap_shape.specs.Sites.{Home}
+use Rattle.sap_shape.specs.Sites.{Context}
 
-abbrev pub home_of : List Entity → Body → Home
-home_of es b = record { entities = es; name = b.name.now; kind = b.kind.now; children = states_of b.children.now }
+abbrev pub context_of : List Entity → Body → Context
+context_of es b = record { entities = es; home = record { name = b.name.now; kind = b.kind.now; children = states_of b.children.now } }
 
-unfoldable pub list_sites : Home → List Cmd → List Site
+unfoldable pub list_sites : Context → List Cmd → List Site
 list_sites h cs = map site_of (sites.list_sites h (commands_of cs))
 
 unfoldable pub group_sites : List Entity → List State → List Site
@@ -31,7 +31,7 @@ group_points states = points.states_points (states_of states)
 
 -- the arms of a `case`, without the block after `else`
 
-unfoldable pub arms_sites : Home → List Arm → List Site
+unfoldable pub arms_sites : Context → List Arm → List Site
 arms_sites h arms = map site_of (shape_lists.arms_sites h arms)
 
 unfoldable pub arms_points : List Arm → List Point

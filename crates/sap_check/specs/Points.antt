@@ -1,6 +1,6 @@
 -- The points of a design: each `if`, `otherwise`, `fall`, `then` and `case`, in the order of these words. The `otherwise` of a `then` is none.
 use Rattle.std.specs.Prelude.{List, [], ◌∷◌, ◌++◌}
-use Rattle.sap_tree.specs.declared.place.Place.{Place}
+use Rattle.sap_text.specs.declared.place.Place.{Place}
 use Rattle.sap_tree.specs.Syntax.{SimpleCommand, Assign, Write, SetTag, SetCellTag, Goto, Fall, Command, Do, Try, If, TryThen, Case, Arms, Last, Arm, CommandBlock, Commands, ElseBlock, NoElse, Else, CommandList, NoCommand, AndCommand, StateTree, StateOf, StateList, NoState, AndState, DesignTree}
 use Rattle.sap_check.specs.declared.point.Point.{Point}
 use Rattle.sap_check.specs.declared.point.PointKind.{PointKind}

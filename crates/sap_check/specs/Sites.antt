@@ -1,10 +1,11 @@
 -- The check sites of a design, as the check, the report and the trace tell of them. The walk that finds them stands in `sap_shape`, `Sites`.
 use Rattle.std.specs.Prelude.{ℕ, List, map, unwrap_or}
-use Rattle.sap_tree.specs.declared.place.Place.{Place}
+use Rattle.sap_text.specs.declared.place.Place.{Place}
 use Rattle.sap_tree.specs.Syntax.{SimpleCommand, Assign, Write, SetTag, SetCellTag, Goto, Fall, DesignTree}
 use Rattle.sap_names.specs.declared.entity.Entity.{Entity}
 use Rattle.sap_names.specs.Entities.{number_of}
-use Rattle.sap_shape.specs.Sites.{Home, CheckSite, check_sites}
+pub use Rattle.sap_shape.specs.Paths.{place_of}
+use Rattle.sap_shape.specs.Sites.{Context, CheckSite, check_sites}
 use Rattle.sap_check.specs.declared.site.Site.{Site}
 use Rattle.sap_check.specs.declared.site.SiteKind.{SiteKind}
 use Rattle.sap_check.specs.declared.site.SiteKind.TheVariants as kind
@@ -17,30 +18,21 @@ kind_of (SetCellTag place target index tag) = kind.SetTag
 kind_of (Goto place target) = kind.Goto
 kind_of (Fall place) = kind.Fall
 
--- the place of its first token
-abbrev pub place_of : SimpleCommand → Place
-place_of (Assign target e) = target.place
-place_of (Write target index e) = target.place
-place_of (SetTag place target tag) = place
-place_of (SetCellTag place target index tag) = place
-place_of (Goto place target) = place
-place_of (Fall place) = place
-
 -- what may refuse it: its target, and for a `fall` the state in whose body it stands
-abbrev pub target_of : Home → SimpleCommand → List ℕ
+abbrev pub target_of : Context → SimpleCommand → List ℕ
 target_of h (Assign target e) = target.name
 target_of h (Write target index e) = target.name
 target_of h (SetTag place target tag) = target.name
 target_of h (SetCellTag place target index tag) = target.name
 target_of h (Goto place target) = target.name
-target_of h (Fall place) = h.name
+target_of h (Fall place) = h.home.name
 
 -- the number of a name; 0 for one that is declared nowhere
 abbrev pub entity_number : List Entity → List ℕ → ℕ
 entity_number es name = unwrap_or (number_of es name) 0
 
 abbrev pub site_of : CheckSite → Site
-site_of s = record { place = place_of s.command; kind = kind_of s.command; entity = entity_number s.home.entities (target_of s.home s.command) }
+site_of s = record { place = place_of s.command; kind = kind_of s.command; entity = entity_number s.context.entities (target_of s.context s.command) }
 
 abbrev pub sites_of : DesignTree → List Site
 sites_of d = map site_of (check_sites d)

@@ -9,7 +9,7 @@ ghost use Rattle.sap_names.specs.declared.fault.CheckFault.TheVariants.{Memory, 
 ghost use Rattle.sap_names.specs.declared.kind.Code.{Code};
 ghost use Rattle.sap_shape.specs.WellFormed.{IsFirstFault, WellFormed};
 ghost use Rattle.sap_tree.specs.Designs.{design_of};
-ghost use Rattle.sap_tree.specs.declared.place.Place.{Place};
+ghost use Rattle.sap_text.specs.declared.place.Place.{Place};
 
 use crate::checked::{Checked, Refused};
 use crate::parts::Parts;

@@ -5,7 +5,7 @@ use Rattle.sap_lattice.specs.Order.{Order}
 use Rattle.sap_latfile.specs.OneLattice.{AreSame}
 use Rattle.sap_latfile.proofs.OneLattice.{one_lattice}
 use Rattle.sap_tree.specs.Syntax.{DesignTree}
-use Rattle.sap_tree.specs.declared.place.Place.{Place}
+use Rattle.sap_text.specs.declared.place.Place.{Place}
 use Rattle.sap_parse.specs.Text.{IsText, IsReadFault}
 use Rattle.sap_parse.specs.declared.fault.ReadFault.{ReadFault}
 use Rattle.sap_parse.specs.declared.fault.ReadFault.TheVariants as read

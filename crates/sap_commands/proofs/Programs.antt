@@ -18,7 +18,7 @@ use Rattle.sap_meaning.specs.Program.{World, Group, Program, root}
 use Rattle.sap_meaning.specs.Touches.{root_touches}
 use Rattle.sap_resolve.specs.Worlds.{position, level_number, declared_level, authority_level, authority_of, declared, all_declared, states_in, state_entities, group_entities, world_of}
 use Rattle.sap_resolve.specs.Terms.{level_term, level_terms}
-use Rattle.sap_shape.specs.Sites.{Home, simple_sites, command_sites, block_sites, state_sites}
+use Rattle.sap_shape.specs.Sites.{Context, simple_sites, command_sites, block_sites, state_sites}
 use Rattle.sap_resolve.specs.Resolve.{site_number, step_of, command_of, block_of, else_of, arms_of, list_of, state_of, group_of, states_of}
 use Rattle.sap_resolve.specs.Fill.{filled_group, table, program_of}
 
@@ -77,7 +77,7 @@ module _ (l m : Levels) (same : AreSame l m) where
     terms_in es (AndTag t NoTag) = term_in es t
     terms_in es (AndTag t (AndTag u parts)) = rw (term_in es t, terms_in es (AndTag u parts)) refl
 
-  step_in : (h : Home) (n : ℕ) (c : SimpleCommand) → step_of l h n c ≡ step_of m h n c
+  step_in : (h : Context) (n : ℕ) (c : SimpleCommand) → step_of l h n c ≡ step_of m h n c
   step_in h n (Assign target e) = refl
   step_in h n (Write target index e) = refl
   step_in h n (SetTag place target tag) = rw (term_in h.entities tag) refl
@@ -86,7 +86,7 @@ module _ (l m : Levels) (same : AreSame l m) where
   step_in h n (tree.Fall place) = refl
 
   mutual
-    command_in : (h : Home) (k : ℕ) (c : tree.Command) → command_of l h k c ≡ command_of m h k c
+    command_in : (h : Context) (k : ℕ) (c : tree.Command) → command_of l h k c ≡ command_of m h k c
     command_in h k (tree.Do c) = rw (step_in h (site_number h k c) c) refl
     command_in h k (tree.Try c place handler) = rw (step_in h (site_number h k c) c, block_in h (k + length (simple_sites h c)) handler) refl
     command_in h k (tree.If place condition then_block else_block) =
@@ -95,25 +95,25 @@ module _ (l m : Levels) (same : AreSame l m) where
         rw (step_in h (site_number h k c) c, block_in h (k + length (simple_sites h c)) accepted, block_in h (k + length (simple_sites h c) + length (block_sites h accepted)) refused) refl
     command_in h k (tree.Case place e arms) = rw (arms_in h k arms) refl
 
-    block_in : (h : Home) (k : ℕ) (b : CommandBlock) → block_of l h k b ≡ block_of m h k b
+    block_in : (h : Context) (k : ℕ) (b : CommandBlock) → block_of l h k b ≡ block_of m h k b
     block_in h k (Commands cs after) = list_in h k cs
 
-    else_in : (h : Home) (k : ℕ) (b : ElseBlock) → else_of l h k b ≡ else_of m h k b
+    else_in : (h : Context) (k : ℕ) (b : ElseBlock) → else_of l h k b ≡ else_of m h k b
     else_in h k NoElse = refl
     else_in h k (Else b) = block_in h k b
 
-    arms_in : (h : Home) (k : ℕ) (arms : tree.Arms) → arms_of l h k arms ≡ arms_of m h k arms
+    arms_in : (h : Context) (k : ℕ) (arms : tree.Arms) → arms_of l h k arms ≡ arms_of m h k arms
     arms_in h k (tree.Last b) = rw (block_in h k b) refl
     arms_in h k (tree.Arm constants b arms) = rw (block_in h k b, arms_in h (k + length (block_sites h b)) arms) refl
 
-    list_in : (h : Home) (k : ℕ) (cs : CommandList) → list_of l h k cs ≡ list_of m h k cs
+    list_in : (h : Context) (k : ℕ) (cs : CommandList) → list_of l h k cs ≡ list_of m h k cs
     list_in h k NoCommand = refl
     list_in h k (AndCommand c cs) = rw (command_in h k c, list_in h (k + length (command_sites h c)) cs) refl
 
   mutual
     node_in : (es : List Named) (k x : ℕ) (s : StateTree) → state_of l es k x s ≡ state_of m es k x s
     node_in es k x (StateOf place name kind body children) =
-        let h : Home = record { entities = es; name = name.name; kind = kind; children = children } in
+        let h : Context = record { entities = es; home = record { name = name.name; kind = kind; children = children } } in
         rw (block_in h k body, nodes_in es (k + length (block_sites h body)) (x + 1) children) refl
 
     nodes_in : (es : List Named) (k x : ℕ) (g : StateList) → group_of l es k x g ≡ group_of m es k x g

@@ -5,7 +5,7 @@ use Rattle.sap_lattice.specs.declared.fault.LatFault.{LatFault}
 use Rattle.sap_lattice.specs.declared.fault.LatFault.TheVariants as rule
 use Rattle.sap_latfile.specs.declared.fault.LatFileFault.{LatFileFault}
 use Rattle.sap_latfile.specs.declared.fault.LatFileFault.TheVariants as lattice
-use Rattle.sap_tree.specs.declared.place.Place.{Place}
+use Rattle.sap_text.specs.declared.place.Place.{Place}
 use Rattle.sap_parse.specs.declared.limit.Limit.{Limit}
 use Rattle.sap_parse.specs.declared.limit.Limit.TheVariants as limit
 use Rattle.sap_parse.specs.declared.fault.ReadFault.{ReadFault}

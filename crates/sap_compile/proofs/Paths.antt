@@ -5,7 +5,8 @@ use Rattle.sap_meaning.specs.Program.{Node, Group, None, More, Block, children, 
 use Rattle.sap_meaning.specs.Store.{Store, Refusal, own, level, child}
 use Rattle.sap_meaning.specs.Checks.{child_level}
 use Rattle.sap_meaning.specs.Fine.{FineNode, FineGroup, FineProgram, size}
-use Rattle.sap_meaning.specs.Agree.{Low, High, Meets, Onward}
+use Rattle.sap_meaning.specs.Agree.{Low, High}
+use Rattle.sap_meaning.proofs.Walks.{Meets, Onward, walks_of_seen}
 use Rattle.sap_interface.specs.PortNames.{tag_name}
 use Rattle.sap_ir.specs.Plain.Nested.{seat_name, root_seat}
 use Rattle.sap_interface.specs.StandsFor.{Named, name, world, StandsFor}
@@ -91,4 +92,6 @@ module _ (d : Named) (l : ℕ) where
     pub paths_look_alike : FineProgram d.program → PathsLookAlike d l v u
     paths_look_alike fine =
         walks_meet (root (world d)) root_seat d.program.states fine.states fine.count (λ i. c.one_stands.root_seat) (λ i. c.other_stands.root_seat)
-        (λ n. walks_go_on d.program.states 0 d.program.states n fine.states) c.states.paths
+        (λ n. walks_go_on d.program.states 0 d.program.states n fine.states)
+        (walks_of_seen (world d) l c.one.store c.other.store c.one_is_state.rests.holds c.other_is_state.rests.holds
+        (root (world d)) d.program.states fine.states fine.count c.states.paths)

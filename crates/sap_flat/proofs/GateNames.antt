@@ -9,7 +9,7 @@ use Rattle.std.proofs.lemmas.Fmt.{decimal_by_steps, decimal_injective}
 use Rattle.std.proofs.lemmas.List.{length-replicate}
 use Rattle.std.proofs.lemmas.Bool.{and_from, and_parts, cases_Bool, eq-eqb, lt-ltb, ltb-true}
 use Rattle.sap_lemmas.proofs.Texts.{digit_in_range, equal_of_bytes_eq}
-use Rattle.sap_net.proofs.NamesLemmas.{digits_inner}
+use Rattle.sap_text.proofs.NamesLemmas.{digits_inner}
 use Rattle.sap_maps.specs.Maps.{Name}
 use Rattle.sap_net.specs.Names.{is_inner, is_name, is_among}
 use Rattle.sap_ir.specs.IsGuarded.{is_helping}

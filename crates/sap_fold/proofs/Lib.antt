@@ -1,8 +1,6 @@
-pub mod Decoding
-mod Digits
 pub mod Lists
-pub mod Maps
-pub mod Helpers
+pub mod Sets
+pub mod Numerals
 pub mod Provided
 pub mod Folds
 pub mod Sees

@@ -5,11 +5,10 @@ use Rattle.std.specs.Str.{bytes_eq}
 use Rattle.std.specs.List.{AllByRecursion}
 use Rattle.std.proofs.lemmas.Bool.{cases_Bool}
 use Rattle.sap_lemmas.proofs.Everywhere.{all_append, all_follow}
-use Rattle.sap_lemmas.proofs.Texts.{equal_of_bytes_eq}
-use Rattle.sap_net.proofs.RulesLemmas.{readable_both, wires_both}
+use Rattle.sap_net.proofs.RulesLemmas.{readable_both, readable_kept, wires_both}
 use Rattle.sap_maps.specs.Maps.{Name, Valuation}
 use Rattle.sap_maps.specs.Scope.{Scope, find}
-use Rattle.sap_maps.proofs.Scopes.{found_here, found_behind}
+use Rattle.sap_maps.proofs.Scopes.{found_here}
 use Rattle.sap_net.specs.declared.parts.Operand.{Operand}
 use Rattle.sap_net.specs.declared.parts.Operand.TheVariants.{Named, Constant}
 use Rattle.sap_net.specs.declared.parts.Right.{Right}
@@ -17,13 +16,14 @@ use Rattle.sap_net.specs.declared.parts.Right.TheVariants.{Copy, One, Two, Choos
 use Rattle.sap_net.specs.declared.parts.Wire.{Wire}
 use Rattle.sap_net.specs.Rules.{Shapes, IsWidth, IsOperand, AreOperands, IsRight, AreWires, readable_after}
 use Rattle.sap_net.specs.Values.{operand_value, right_value, Holds}
-use Rattle.sap_fold.specs.Keys.{key}
-use Rattle.sap_fold.specs.Names.{helper}
-use Rattle.sap_fold.specs.Wires.{rights, AddsNew, IsThere, Adds, Provides}
+use Rattle.sap_share.specs.Keys.{key}
+use Rattle.sap_share.specs.Names.{helper}
+use Rattle.sap_share.specs.Rights.{rights}
+use Rattle.sap_fold.specs.Wires.{AddsNew, IsThere, Adds, Provides}
 use Rattle.sap_fold.specs.Equals.{Over}
 use Rattle.sap_fold.specs.Gives.{Numbers, Each, TakenApart, Provided}
-use Rattle.sap_fold.proofs.Decoding.{key_is}
-use Rattle.sap_fold.proofs.Helpers.{helpers_differ}
+use Rattle.sap_share.proofs.Found.{known, known_readable}
+use Rattle.sap_share.proofs.Helpers.{helpers_differ}
 
 -- scopes of more and more wires
 
@@ -42,37 +42,16 @@ pub holds_both : (widths : Name → ℕ) (v : Valuation) (ws xs : List Wire) →
 holds_both widths v [] xs h = (tt, h)
 holds_both widths v (w ∷ ws) xs h = let r = holds_both widths v ws xs h.1 in ((h.0, r.0), r.1)
 
-pub readable_kept : (ms : Shapes) (ws : List Wire) (sc : Scope) → AreWires ms sc ws → Grows sc (readable_after sc ws)
-readable_kept ms [] sc a n u h = h
-readable_kept ms (w ∷ ws) sc a n u h = readable_kept ms ws ((w.name, w.width) ∷ sc) a.4 n u (found_behind sc w.name w.width a.1 n u h)
-
 -- what is new to a scope and to the names of wires is new behind them
 pub new_behind : (ws : List Wire) (sc : Scope) (n : Name) → find sc n ≡ None → AllByRecursion (λ w. bytes_eq w.name n ≡ false) ws → find (readable_after sc ws) n ≡ None
 new_behind [] sc n h a = h
 new_behind (w ∷ ws) sc n h a = let f = a.0 in new_behind ws ((w.name, w.width) ∷ sc) n (rw f h) a.1
 
-known_readable : (ms : Shapes) (ws : List Wire) (sc : Scope) (u : ℕ) (r : Right) (n : Name) → find (rights ws) (key u r) ≡ Some n → AreWires ms sc ws → find (readable_after sc ws) n ≡ Some u
-known_readable ms [] sc u r n e a = absurd (cc)
-known_readable ms (w ∷ ws) sc u r n e a =
-    elim (cases_Bool (bytes_eq (key w.width w.right) (key u r))) [
-      | inl t ↦
-          let k = key_is w.width u w.right r (equal_of_bytes_eq (key w.width w.right) (key u r) t) in
-          let g : Some w.name ≡ Some n = rw t at e in
-          let m : w.name ≡ n = cc in
-          let here = readable_kept ms ws ((w.name, w.width) ∷ sc) a.4 w.name w.width (found_here w.name w.width sc) in
-          subst (λ (x : Name). find (readable_after sc (w ∷ ws)) x ≡ Some u) m (subst (λ (x : ℕ). find (readable_after sc (w ∷ ws)) w.name ≡ Some x) k.0 here)
-      | inr f ↦ known_readable ms ws ((w.name, w.width) ∷ sc) u r n (rw f at e) a.4
-    ]
-
 known_value : (widths : Name → ℕ) (v : Valuation) (ws : List Wire) (u : ℕ) (r : Right) (n : Name) → find (rights ws) (key u r) ≡ Some n → Holds widths v ws → v.value n ≡ right_value widths v r
 known_value widths v [] u r n e h = absurd (cc)
 known_value widths v (w ∷ ws) u r n e h =
     elim (cases_Bool (bytes_eq (key w.width w.right) (key u r))) [
-      | inl t ↦
-          let k = key_is w.width u w.right r (equal_of_bytes_eq (key w.width w.right) (key u r) t) in
-          let g : Some w.name ≡ Some n = rw t at e in
-          let m : w.name ≡ n = cc in
-          subst (λ (x : Name). v.value x ≡ right_value widths v r) m (subst (λ (x : Right). v.value w.name ≡ right_value widths v x) k.1 h.0)
+      | inl t ↦ known (λ x s m. v.value m ≡ right_value widths v s) u r w n t (rw t at e) h.0
       | inr f ↦ known_value widths v ws u r n (rw f at e) h.1
     ]
 

@@ -17,10 +17,11 @@ use Rattle.sap_net.specs.declared.parts.Wire.{Wire}
 use Rattle.sap_net.specs.Rules.{Shapes, IsOperand, AreOperands, IsRight, AreWires, readable_after}
 use Rattle.sap_net.specs.Values.{operand_value, operand_width, right_value, Holds}
 use Rattle.sap_net.proofs.Within.{operand_below, operand_is_wide}
+use Rattle.sap_net.proofs.RulesLemmas.{readable_kept}
 use Rattle.sap_fold.specs.Equals.{Over, Equals}
 use Rattle.sap_fold.specs.Wires.{HasWire}
 use Rattle.sap_fold.specs.Seen.{Defines}
-use Rattle.sap_fold.proofs.Provided.{Grows, operand_grows, readable_kept}
+use Rattle.sap_fold.proofs.Provided.{Grows, operand_grows}
 
 pub equals_itself : (ws : List Wire) (u : ℕ) (a : Right) → Equals ws u a a
 equals_itself ws u a = record { fits = λ ms sc f h. h; same = λ ms sc widths v o h. refl }

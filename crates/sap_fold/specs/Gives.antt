@@ -8,7 +8,7 @@ use Rattle.sap_net.specs.Values.{operand_value, right_value}
 use Rattle.sap_net.specs.declared.parts.Operand.{Operand}
 use Rattle.sap_net.specs.declared.parts.Right.{Right}
 use Rattle.sap_net.specs.declared.parts.Wire.{Wire}
-use Rattle.sap_fold.specs.Names.{helper}
+use Rattle.sap_share.specs.Names.{helper}
 use Rattle.sap_fold.specs.Equals.{Over}
 
 abbrev pub Each : (taken : Name → Bool) (ws : List Wire) (next : ℕ) → Type 0

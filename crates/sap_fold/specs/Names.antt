@@ -1,16 +1,11 @@
--- The names of helping wires, and sets of names.
-use Rattle.std.specs.Prelude.{ℕ, Bool, ◌∷◌, bytes_eq}
-use Rattle.std.specs.Fmt.{decimal}
+-- Sets of names.
+use Rattle.std.specs.Prelude.{ℕ, Bool, bytes_eq}
 use Rattle.std.specs.HashSet.{HashSet, contains_by}
 use Rattle.std.specs.declared.hash.FoldHasher.{FoldHasher}
 use Rattle.std.specs.declared.hash.BuildHasherDefault.{BuildHasherDefault}
 use Rattle.std.specs.declared.vec.Vec.{Vec}
 use Rattle.std.specs.declared.alloc.Global.{Global}
 use Rattle.sap_maps.specs.Maps.{Name}
-
--- the name of a helping wire: an n and its number
-unfoldable pub helper : ℕ → Name
-helper k = 110 ∷ decimal k
 
 abbrev pub NameSet : Type 0
 NameSet = HashSet (Vec ℕ Global) (BuildHasherDefault FoldHasher)

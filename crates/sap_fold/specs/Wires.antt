@@ -1,11 +1,5 @@
 -- One more helping wire, or the one that has its right side already.
-use Rattle.std.specs.Prelude.{◌≡◌, ℕ, ◌+◌, ◌^◌, ◌<◌, ◌≤◌, ◌⊎◌, Bool, false, List, [], ◌∷◌, ◌++◌, map, length, slice_index_or, Option, Some, None, bytes_eq}
-use Rattle.std.specs.HashMap.{HashMap, get_by}
-use Rattle.std.specs.Option.{option_map}
-use Rattle.std.specs.declared.hash.FoldHasher.{FoldHasher}
-use Rattle.std.specs.declared.hash.BuildHasherDefault.{BuildHasherDefault}
-use Rattle.std.specs.declared.vec.Vec.{Vec}
-use Rattle.std.specs.declared.alloc.Global.{Global}
+use Rattle.std.specs.Prelude.{◌≡◌, ℕ, ◌+◌, ◌^◌, ◌<◌, ◌≤◌, ◌⊎◌, Bool, false, List, [], ◌∷◌, ◌++◌, length, slice_index_or, Some, None}
 use Rattle.sap_maps.specs.Maps.{Name}
 use Rattle.sap_maps.specs.Scope.{find}
 use Rattle.sap_net.specs.declared.parts.Operand.{Operand}
@@ -13,23 +7,9 @@ use Rattle.sap_net.specs.declared.parts.Operand.TheVariants.{Named}
 use Rattle.sap_net.specs.declared.parts.Right.{Right}
 use Rattle.sap_net.specs.declared.parts.Right.TheVariants.{Copy}
 use Rattle.sap_net.specs.declared.parts.Wire.{Wire}
-use Rattle.sap_fold.specs.Keys.{key}
-use Rattle.sap_fold.specs.Names.{helper}
-
--- the right sides, each with the name of its wire
-abbrev pub rights : List Wire → List (Name × Name)
-rights ws = map (λ w. (key w.width w.right, w.name)) ws
-
-abbrev pub RightMap : Type 0
-RightMap = HashMap (Vec ℕ Global) ℕ (BuildHasherDefault FoldHasher)
-
--- the name with the number that the map has for a right side
-abbrev pub at_key : RightMap → List ℕ → Option Name
-at_key m k = option_map helper (get_by (λ x. bytes_eq k x.items) m)
-
--- each right side has the number in the name of its wire, and nothing else has one
-abbrev pub NamesRights : RightMap → List Wire → Type 0
-NamesRights m ws = (k : List ℕ) → at_key m k ≡ find (rights ws) k
+use Rattle.sap_share.specs.Keys.{key}
+use Rattle.sap_share.specs.Names.{helper}
+use Rattle.sap_share.specs.Rights.{rights}
 
 -- a number from `from` on whose name is not taken, and that name; `from` itself, where its name is not taken
 pub record IsFree (taken : Name → Bool) (from k : ℕ) (n : Name) : Type 0 where

@@ -3,7 +3,7 @@
 ghost use Rattle.std.specs.Prelude.{IfOk, OnOk};
 ghost use Rattle.sap_fold.specs.Gives.{Becomes, Gives};
 ghost use Rattle.sap_fold.specs.Names.{holds};
-ghost use Rattle.sap_fold.specs.Wires.{NamesRights};
+ghost use Rattle.sap_share.specs.Rights.{NamesRights};
 
 use crate::fold::fold;
 use crate::parts::spread;

@@ -7,7 +7,7 @@ ghost use Rattle.sap_fold.specs.Equals.{Equals};
 ghost use Rattle.sap_fold.specs.Gives.{Becomes};
 ghost use Rattle.sap_fold.specs.Names.{holds};
 ghost use Rattle.sap_fold.specs.Order as spec;
-ghost use Rattle.sap_fold.specs.Wires.{NamesRights};
+ghost use Rattle.sap_share.specs.Rights.{NamesRights};
 
 use crate::rules::fits;
 use crate::under::{definition, other};

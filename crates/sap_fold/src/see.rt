@@ -8,7 +8,7 @@ ghost use Rattle.sap_fold.specs.Gives.{ArmGives, Becomes};
 ghost use Rattle.sap_fold.specs.Names.{holds};
 ghost use Rattle.sap_fold.specs.Seen.{Defines};
 ghost use Rattle.sap_fold.specs.Under as spec;
-ghost use Rattle.sap_fold.specs.Wires.{NamesRights};
+ghost use Rattle.sap_share.specs.Rights.{NamesRights};
 
 use crate::absorb::absorb;
 use crate::fold::fold;

@@ -1,14 +1,18 @@
 //! Helping wires, one for each right side and width.
 
-ghost use Rattle.std.specs.Prelude.{◌≡◌, ◌≤◌, ◌∷◌, [], ◌++◌, None, Some, IfOk, IfSome, OnOk, length};
+ghost use Rattle.std.specs.Prelude.{◌≡◌, ◌≤◌, ◌<◌, ◌^◌, ◌∷◌, [], ◌++◌, ℕ, None, Some, IfOk, IfSome, OnOk, length};
 ghost use Rattle.sap_maps.specs.Scope.{find};
-ghost use Rattle.sap_fold.specs.Keys as spec;
-ghost use Rattle.sap_fold.specs.Names.{helper, holds};
-ghost use Rattle.sap_fold.specs.Wires.{Adds, AddsNew, HasWire, IsFree, NamesRights, Provides, rights};
+ghost use Rattle.sap_share.specs.Keys as spec;
+ghost use Rattle.sap_share.specs.Names.{helper};
+ghost use Rattle.sap_share.specs.Rights.{NamesRights, rights};
+ghost use Rattle.sap_fold.specs.Names.{holds};
+ghost use Rattle.sap_fold.specs.Wires.{Adds, AddsNew, HasWire, IsFree, Provides};
 
-use crate::keys::key;
 use crate::names::has;
 use sap_net::parts::{Name, Operand, Right, Wire};
+use sap_share::keys::key;
+use sap_share::names::helper_name;
+use sap_share::rights::known;
 use std::alloc::{AllocError, Global};
 use std::collections::{HashMap, HashSet};
 
@@ -28,15 +32,6 @@ struct Free {
     name: Name,
 }
 
-/// The name of the helping wire of a number.
-#[tactic(auto, unfolding(crate::specs::Names::helper))]
-fn helper_name(alloc: Global, k: u64) -> Result<Name, AllocError>
-    ensures { IfOk result (λ n. n ≡ helper k) }
-{
-    let text = format!(in alloc; "n{k}")?;
-    Ok(Name::new(text.into_bytes()))
-}
-
 /// The first number from `from` on whose name is not taken. A netlist never has so many names that there is none.
 fn free_name(alloc: Global, taken: &HashSet<Vec<u8>>, from: u64) -> Result<Free, AllocError>
     ensures { IfOk result (λ f. IsFree (holds taken.now) from f.number f.name) }
@@ -50,8 +45,10 @@ fn free_name(alloc: Global, taken: &HashSet<Vec<u8>>, from: u64) -> Result<Free,
     Err(AllocError)
 }
 
-/// The number that the digits of a name make, where it is the name of a helping wire.
-fn number_in(name: &Name) -> usize {
+/// The number in the name of a helping wire.
+fn number_in(name: &Name) -> usize
+    ensures { (k : ℕ) → k < 2 ^ 64 → name.now ≡ helper k → result ≡ k }
+{
     let mut number: usize = 0;
     for byte in name.as_bytes() {
         if byte.is_ascii_digit() {
@@ -140,23 +137,9 @@ impl Wires {
         ensures adds { IfOk result (λ n. Adds (holds taken.now) self.old.list.items self.old.next width right n self.new.list.items self.new.next) }
     {
         let key = key(alloc, width, &right)?;
-        match self.known(alloc, &key)? {
+        match known(alloc, &self.numbers, &key)? {
             Some(name) => Ok(name),
             None => self.push(alloc, taken, key, width, right),
-        }
-    }
-
-    /// The name of the wire with the bytes of its right side.
-    fn known(&self, alloc: Global, key: &[u8]) -> Result<Option<Name>, AllocError>
-        requires { NamesRights self.now.numbers self.now.list.items }
-        ensures { IfOk result (λ o. o ≡ find (rights self.now.list.items) key.now) }
-    {
-        match self.numbers.get(key) {
-            Some(number) => {
-                let name = helper_name(alloc, *number)?;
-                Ok(Some(name))
-            }
-            None => Ok(None),
         }
     }
 

@@ -6,7 +6,7 @@ use Rattle.std.proofs.lemmas.List.FromFn.{map-range_with_len_more}
 use Rattle.sap_tree.specs.Bare.{nowhere}
 use Rattle.sap_tree.specs.Syntax.{Command, Commands, CommandList, DesignTree, StateList, AndCommand, AndState}
 use Rattle.sap_tree.specs.Trees.{command_of, commands_of, state_of, states_of}
-use Rattle.sap_tree.specs.declared.place.Place.{Place}
+use Rattle.sap_text.specs.declared.place.Place.{Place}
 use Rattle.sap_tree.specs.declared.syntax.Cmd.{Cmd}
 use Rattle.sap_tree.specs.declared.syntax.Decl.{Decl}
 use Rattle.sap_tree.specs.declared.syntax.State.{State}

@@ -45,8 +45,8 @@ module _ (es : List Entity) (r t : ℕ) (group : StateList) (siblings : (j : ℕ
   states_shaped a (suc k) =
       none_of _ (states_shape es group [] (states (map (state r t) (range_with_len (a + 1) k))))
       (none_of _ []
-      (none_of (closing_list_faults (rest_of_body r t a 0 r) nowhere) (list_shape es (record { name = state_name a; kind = enforced (codes "low"); group = group; children = NoState; above = [] }) (rest_of_body r t a 0 r)) (closes r t a 0 r)
-      (shaped es (record { name = state_name a; kind = enforced (codes "low"); group = group; children = NoState; above = [] }) r t a 0 r (siblings a))) refl)
+      (none_of (closing_list_faults (rest_of_body r t a 0 r) nowhere) (list_shape es (record { home = record { name = state_name a; kind = enforced (codes "low"); children = NoState }; group = group; above = [] }) (rest_of_body r t a 0 r)) (closes r t a 0 r)
+      (shaped es (record { home = record { name = state_name a; kind = enforced (codes "low"); children = NoState }; group = group; above = [] }) r t a 0 r (siblings a))) refl)
       (states_shaped (a + 1) k)
 
 among : (r t a k j : ℕ) → a ≤ j → j < a + k → is_among (states (map (state r t) (range_with_len a k))) (state_name j) ≡ true

@@ -2,7 +2,7 @@
 use Rattle.std.proofs.Common.{◌≡◌, ℕ, zero, suc, ◌+◌, ◌<◌, ◌≤◌, List, [], ◌∷◌, ◌++◌, ◌||◌, ◌&&◌, Bool, true, false, length, set, get_or, drop, refl, sym, ap, ◌∙◌, arith, add-one, append_assoc, Some}
 use Rattle.std.proofs.lemmas.List.{map-append, append-nil}
 use Rattle.std.proofs.Math.Seq.{set-append_seam}
-use Rattle.sap_tree.specs.declared.place.Place.{Place}
+use Rattle.sap_text.specs.declared.place.Place.{Place}
 use Rattle.sap_tree.specs.declared.syntax.Block.{Block}
 use Rattle.sap_tree.specs.declared.syntax.Arm.{Arm}
 use Rattle.sap_tree.specs.declared.syntax.Cmd.{Cmd}
@@ -11,7 +11,7 @@ use Rattle.sap_tree.specs.declared.syntax.State.{State, out-State}
 use Rattle.sap_tree.specs.Parts.{tree_of}
 use Rattle.sap_tree.specs.declared.version.Version.{Version}
 use Rattle.sap_tree.specs.Syntax.{Expression, SimpleCommand, Fall, Command, Do, Try, If, TryThen, Case, ElseBlock, NoElse, Else, StateTree}
-use Rattle.sap_tree.specs.Touches.{Home, home_of, is_dynamic, touches, simple_touches, block_touches, else_touches, is_dynamic_child, is_dynamic_store, states_assign, fall_touches}
+use Rattle.sap_tree.specs.Touches.{Home, home_of, touches, simple_touches, block_touches, else_touches, is_dynamic_child, is_dynamic_store, states_assign, fall_touches}
 use Rattle.sap_tree.specs.Touches as tree
 use Rattle.sap_tree.specs.Trees.{command_of, commands_of, block_of, arm_block_of, arms_of, else_of, state_of, states_of}
 use Rattle.sap_tree.proofs.Views.{state_of-out}
@@ -285,13 +285,13 @@ module _ (ds : List Decl) (x : List ℕ) where
   group_end ss n new all l e = sym (append-nil new) ∙ ap (λ (r : List Bool). new ++ r) (sym (group_column-past ss n l)) ∙ e
 
   pub state_column : (s : State) → touching ds x (state_points (state_of s))
-      ≡ list_column ds (record { name = (out-State s).name.name; dynamic = is_dynamic (out-State s).kind; children = states_of (out-State s).children.items }) x (out-State s).body.commands.items
+      ≡ list_column ds (record { name = (out-State s).name.name; kind = (out-State s).kind; children = states_of (out-State s).children.items }) x (out-State s).body.commands.items
       ++ group_column ds x (out-State s).children.items
   unfolding list_column group_column
   state_column s =
       ap (λ (t : StateTree). touching ds x (state_points t)) (state_of-out s)
       ∙ touching-both ds x
-      (points.list_points (record { name = (out-State s).name.name; dynamic = is_dynamic (out-State s).kind; children = states_of (out-State s).children.items }) (commands_of (out-State s).body.commands.items))
+      (points.list_points (record { name = (out-State s).name.name; kind = (out-State s).kind; children = states_of (out-State s).children.items }) (commands_of (out-State s).body.commands.items))
       (points.states_points (states_of (out-State s).children.items))
 
 -- what a `fall` into states touches

@@ -1,14 +1,14 @@
 -- Whether some part of a list passes a test, from a place on; and what the definitions of assigning and touching say of each construct.
 use Rattle.std.proofs.Common.{◌≡◌, ℕ, zero, suc, ◌+◌, ◌<◌, ◌≤◌, List, [], ◌∷◌, ◌||◌, ◌&&◌, Bool, false, length, get_or, drop, refl, sym, ap, ◌∙◌, arith, add-one, bytes_eq, Some}
 use Rattle.sap_lemmas.proofs.Bools.{or_assoc}
-use Rattle.sap_tree.specs.declared.place.Place.{Place}
+use Rattle.sap_text.specs.declared.place.Place.{Place}
 use Rattle.sap_tree.specs.declared.syntax.Block.{Block}
 use Rattle.sap_tree.specs.declared.syntax.Arm.{Arm}
 use Rattle.sap_tree.specs.declared.syntax.Cmd.{Cmd}
 use Rattle.sap_tree.specs.declared.syntax.Decl.{Decl}
 use Rattle.sap_tree.specs.declared.syntax.State.{State, out-State}
 use Rattle.sap_tree.specs.Syntax.{Expression, SimpleCommand, Command, Do, Try, If, TryThen, Case, CommandBlock, ElseBlock, NoElse, Else, StateTree, StateOf, StateList, NoState, AndState}
-use Rattle.sap_tree.specs.Touches.{Home, is_dynamic, is_dynamic_child, simple_assigns, assigns, block_assigns, else_assigns, list_assigns, state_assigns, states_assign, simple_touches, touches, block_touches, else_touches}
+use Rattle.sap_tree.specs.Touches.{Home, is_dynamic_kind, is_dynamic_child, simple_assigns, assigns, block_assigns, else_assigns, list_assigns, state_assigns, states_assign, simple_touches, touches, block_touches, else_touches}
 use Rattle.sap_tree.specs.Touches as tree
 use Rattle.sap_tree.specs.Trees.{command_of, commands_of, block_of, arm_block_of, arms_of, else_of, state_of, states_of}
 use Rattle.sap_tree.proofs.Views.{state_of-out}
@@ -66,7 +66,7 @@ states_past name ss n h = any_past (λ (s : State). state_assigns (state_of s) n
 -- states of which one is the dynamic one of this name
 
 abbrev bears : List ℕ → StateTree → Bool
-bears name (StateOf place other kind body children) = bytes_eq other.name name && is_dynamic kind
+bears name (StateOf place other kind body children) = bytes_eq other.name name && is_dynamic_kind kind
 
 child_more : (name : List ℕ) (s : StateTree) (l : StateList) → is_dynamic_child (AndState s l) name ≡ (bears name s || is_dynamic_child l name)
 unfolding is_dynamic_child
@@ -77,7 +77,7 @@ unfolding is_dynamic_child
 child_none name = refl
 
 pub child_here : (name : List ℕ) (ss : List State) (n : ℕ) (d : State) (b : Bool) → n < length ss → d ≡ get_or ss n d
-    → b ≡ (bytes_eq (out-State d).name.name name && is_dynamic (out-State d).kind)
+    → b ≡ (bytes_eq (out-State d).name.name name && is_dynamic_kind (out-State d).kind)
     → is_dynamic_child (states_of (drop n ss)) name ≡ (b || is_dynamic_child (states_of (drop (n + 1) ss)) name)
 child_here name ss n d b h e t =
     any_here (λ (s : State). bears name (state_of s)) (λ (l : List State). is_dynamic_child (states_of l) name) (child_none name) (λ s l. child_more name (state_of s) (states_of l)) ss n d b h e

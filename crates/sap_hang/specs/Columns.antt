@@ -18,7 +18,7 @@ abbrev pub touching : List Decl → (name : List ℕ) → List Point → List Bo
 touching ds name ps = map (λ (p : Point). touches ds p.home p.command name) ps
 
 abbrev pub home_of : Seat → Home
-home_of s = record { name = s.state.now; dynamic = s.dynamic; children = states_of s.children.now }
+home_of s = record { name = s.state.now; kind = s.kind.now; children = states_of s.children.now }
 
 -- what is known of the entity is so
 abbrev pub Sees : Seat → Type 0

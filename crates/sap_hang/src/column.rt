@@ -9,7 +9,7 @@ ghost use Rattle.sap_tree.specs.Touches as tree;
 ghost use Rattle.sap_tree.specs.Trees.{command_of, else_of, simple_of, state_of};
 
 use crate::seat::Seat;
-use crate::touches::{fall_touches, is_dynamic, is_dynamic_store, simple_touches};
+use crate::touches::{fall_touches, is_dynamic_store, simple_touches};
 use sap_tree::design::Design;
 use sap_tree::name::Name;
 use sap_tree::syntax::{Arm, Block, Cmd, Decl, Simple, State};
@@ -142,7 +142,7 @@ fn add_state(
         entity,
         store,
         state: &state.name.name,
-        dynamic: is_dynamic(&state.kind),
+        kind: &state.kind,
         children,
         falls: fall_touches(store, children, entity),
     };

@@ -1,7 +1,7 @@
 //! Where a body stands.
 
 use sap_tree::name::Name;
-use sap_tree::syntax::{Decl, State};
+use sap_tree::syntax::{Decl, Kind, State};
 
 /// The body of a state, as one entity is seen from there: whether the entity is a dynamic register or memory, and whether a `fall`
 /// of the body touches it.
@@ -11,7 +11,7 @@ pub(crate) struct Seat<'a> {
     pub entity: &'a Name,
     pub store: bool,
     pub state: &'a Name,
-    pub dynamic: bool,
+    pub kind: &'a Kind,
     pub children: &'a [State],
     pub falls: bool,
 }

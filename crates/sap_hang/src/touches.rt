@@ -11,8 +11,8 @@ use crate::seat::Seat;
 use sap_tree::name::Name;
 use sap_tree::syntax::{Decl, Kind, Simple, State};
 
-pub(crate) fn is_dynamic(kind: &Kind) -> bool
-    ensures { result ≡ tree.is_dynamic kind.now }
+fn is_dynamic(kind: &Kind) -> bool
+    ensures { result ≡ tree.is_dynamic_kind kind.now }
 {
     match kind {
         Kind::Dynamic(_) => true,
@@ -22,7 +22,7 @@ pub(crate) fn is_dynamic(kind: &Kind) -> bool
 
 // Whether what has this name and kind is the dynamic entity that is wanted.
 fn is_dynamic_named(name: &Name, kind: &Kind, wanted: &Name) -> bool
-    ensures { result ≡ (bytes_eq name.now wanted.now && tree.is_dynamic kind.now) }
+    ensures { result ≡ (bytes_eq name.now wanted.now && tree.is_dynamic_kind kind.now) }
 {
     name.same(wanted) && is_dynamic(kind)
 }
@@ -77,7 +77,7 @@ pub(crate) fn simple_touches(seat: &Seat<'_>, command: &Simple) -> bool
         Simple::Write(_, _, _) => seat.store && simple_assigns(command, seat.entity),
         Simple::SetTag(_, _, _) => false,
         Simple::SetCellTag(_, _, _, _) => false,
-        Simple::Goto(_, _) => seat.dynamic && seat.state.same(seat.entity),
+        Simple::Goto(_, _) => is_dynamic(seat.kind) && seat.state.same(seat.entity),
         Simple::Fall(_) => seat.falls,
     }
 }

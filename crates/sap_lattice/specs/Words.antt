@@ -1,43 +1,9 @@
 -- What the design language takes as a name.
-use Rattle.std.specs.Prelude.{ℕ, Bool, false, ◌||◌, ◌&&◌, ◌==◌, List, [], ◌∷◌, codes}
-use Rattle.std.specs.Char.{is_ascii_alphabetic, is_ascii_alphanumeric}
-use Rattle.std.specs.List.{list_all, list_any}
+use Rattle.std.specs.Prelude.{ℕ, Bool, List}
+use Rattle.std.specs.List.{list_any}
 use Rattle.std.specs.Str.{bytes_eq}
-
--- a letter or `_`
-abbrev pub is_initial : ℕ → Bool
-is_initial c = is_ascii_alphabetic c || c == 95
-
--- a letter, a digit or `_`
-abbrev pub is_inner : ℕ → Bool
-is_inner c = is_ascii_alphanumeric c || c == 95
-
--- a letter or `_`, and then letters, digits and `_`
-abbrev pub is_word : List ℕ → Bool
-is_word [] = false
-is_word (c ∷ cs) = is_initial c && list_all is_inner cs
-
--- the keywords of the design language
-abbrev pub keywords : List (List ℕ)
-keywords =
-    codes "input"
-    ∷ codes "reg"
-    ∷ codes "mem"
-    ∷ codes "state"
-    ∷ codes "dynamic"
-    ∷ codes "enforced"
-    ∷ codes "under"
-    ∷ codes "if"
-    ∷ codes "else"
-    ∷ codes "goto"
-    ∷ codes "fall"
-    ∷ codes "setTag"
-    ∷ codes "otherwise"
-    ∷ codes "tag"
-    ∷ codes "level"
-    ∷ codes "join"
-    ∷ codes "zext"
-    ∷ []
+use Rattle.sap_text.specs.Names.{design_keywords}
+pub use Rattle.sap_text.specs.Names.{is_initial, is_inner, is_word}
 
 abbrev pub is_keyword : List ℕ → Bool
-is_keyword name = list_any (λ word. bytes_eq word name) keywords
+is_keyword name = list_any (λ word. bytes_eq word name) design_keywords

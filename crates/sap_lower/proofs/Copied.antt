@@ -15,7 +15,7 @@ use Rattle.sap_ir.specs.IsGuarded.{variable_names, memory_names, IsGuarded}
 use Rattle.sap_lower.proofs.Declares.{among_each}
 use Rattle.sap_ir.proofs.Declared.{not_front, not_behind_list}
 use Rattle.sap_lower.specs.declared.parts.Part.{Part}
-use Rattle.sap_lower.specs.Lowering.{helper}
+use Rattle.sap_share.specs.Names.{helper}
 use Rattle.sap_lower.specs.Lowered.{listed, out_wire, all_wires, last_state, lowered}
 use Rattle.sap_lower.specs.Same.{CopiesPorts}
 use Rattle.sap_lower.proofs.Fits.{IsHelper}

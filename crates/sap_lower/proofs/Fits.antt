@@ -21,16 +21,19 @@ use Rattle.sap_net.specs.declared.parts.Right.{Right}
 use Rattle.sap_net.specs.declared.parts.Right.TheVariants.{One, Two, Choose, Concat, Slice, Cell}
 use Rattle.sap_net.specs.declared.parts.Wire.{Wire}
 use Rattle.sap_ir.specs.IsGuarded.{TermFine, is_helping}
-use Rattle.sap_lower.proofs.Helping.{other_name, helper_is_name}
+use Rattle.sap_share.proofs.Helpers.{helper_is_name}
+use Rattle.sap_lower.proofs.Helping.{other_name}
 use Rattle.sap_net.specs.Names.{is_name}
 use Rattle.std.specs.List.{AllByRecursion}
 use Rattle.sap_lemmas.proofs.Everywhere.{all_append}
 use Rattle.sap_lemmas.proofs.Texts.{equal_of_bytes_eq}
 use Rattle.sap_lower.specs.declared.parts.Part.{Part}
-use Rattle.sap_lower.specs.Keys.{key}
-use Rattle.sap_lower.specs.Lowering.{helper, present, rights, shared, plus, leaves_nothing, low_two, sliced, is_outside, low_slice, cell_width, low, nothing}
+use Rattle.sap_share.specs.Keys.{key}
+use Rattle.sap_share.specs.Names.{helper}
+use Rattle.sap_share.specs.Rights.{rights}
+use Rattle.sap_lower.specs.Lowering.{present, shared, plus, leaves_nothing, low_two, sliced, is_outside, low_slice, cell_width, low, nothing}
 use Rattle.sap_lower.proofs.Means.{small_sum, slice_inside}
-use Rattle.sap_lower.proofs.Shared.{known_readable}
+use Rattle.sap_share.proofs.Found.{known_readable}
 
 -- a helping wire by its name
 abbrev pub IsHelper : Wire → Type 0

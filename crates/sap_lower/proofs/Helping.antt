@@ -8,11 +8,9 @@ use Rattle.std.specs.Str.Parse.{AllDigits}
 use Rattle.std.proofs.lemmas.Fmt.{decimal_is_IsNumeral}
 use Rattle.std.proofs.lemmas.Bool.{cases_Bool, and_from}
 use Rattle.sap_lemmas.proofs.Texts.{digit_of_value, equal_of_bytes_eq}
-use Rattle.sap_net.proofs.NamesLemmas.{numeral_inner, wire_name}
 use Rattle.sap_maps.specs.Maps.{Name}
-use Rattle.sap_net.specs.Names.{is_name}
 use Rattle.sap_ir.specs.IsGuarded.{is_helping}
-use Rattle.sap_lower.specs.Lowering.{helper}
+use Rattle.sap_share.specs.Names.{helper}
 
 all_digits : (ds : List ℕ) → AllDigits 10 ds → list_all is_ascii_digit ds ≡ true
 all_digits [] a = refl
@@ -33,7 +31,3 @@ other_name k l n h =
       | inl t ↦ absurd (let e : is_helping (helper k) ≡ is_helping n = ap is_helping (equal_of_bytes_eq (helper k) n t) in let g = helper_is_helping k l in cc)
       | inr f ↦ f
     ]
-
-pub helper_is_name : (k : ℕ) → k < 2 ^ 64 → is_name (helper k) ≡ true
-unfolding helper
-helper_is_name k l = wire_name (decimal k) (numeral_inner (decimal k) (decimal_is_IsNumeral k l).0.1)

@@ -12,7 +12,7 @@ use Rattle.sap_net.specs.Names.{is_among}
 use Rattle.sap_net.specs.declared.parts.Wire.{Wire}
 use Rattle.sap_ir.specs.Source.{Source}
 use Rattle.sap_ir.specs.IsGuarded.{variable_names, memory_names, IsGuarded}
-use Rattle.sap_lower.specs.Lowering.{helper}
+use Rattle.sap_share.specs.Names.{helper}
 use Rattle.sap_lower.specs.Lowered.{last_state, listed, all_wires, wire_list_names, unported, names_declared}
 use Rattle.sap_net.specs.Names.{IsHelpingName}
 use Rattle.sap_lower.specs.Same.{IsKept}

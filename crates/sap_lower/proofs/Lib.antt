@@ -1,7 +1,5 @@
-pub mod Decoding
 pub mod Shared
 pub mod Index
-pub mod Rights
 pub mod Lookups
 pub mod Glue
 pub mod Means

@@ -24,8 +24,10 @@ use Rattle.sap_net.specs.declared.parts.Wire.{Wire}
 use Rattle.sap_ir.specs.IsGuarded.{TermFine}
 use Rattle.sap_ir.proofs.Passes.{WidthsDeclared, fine_width}
 use Rattle.sap_lower.specs.declared.parts.Part.{Part}
-use Rattle.sap_lower.specs.Keys.{key}
-use Rattle.sap_lower.specs.Lowering.{helper, present, rights, shared, plus, is_past, leaves_nothing, low_two, sliced, is_outside, low_slice, low_join, cell_width, low, nothing}
+use Rattle.sap_share.specs.Keys.{key}
+use Rattle.sap_share.specs.Names.{helper}
+use Rattle.sap_share.specs.Rights.{rights}
+use Rattle.sap_lower.specs.Lowering.{present, shared, plus, is_past, leaves_nothing, low_two, sliced, is_outside, low_slice, low_join, cell_width, low, nothing}
 use Rattle.sap_lower.proofs.Shared.{Gives, known_gives}
 
 -- a part has this width and value

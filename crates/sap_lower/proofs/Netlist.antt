@@ -21,7 +21,8 @@ use Rattle.sap_ir.specs.Source as source
 use Rattle.sap_ir.specs.IsGuarded.{variable_names, memory_names, declared, is_helping, IsStore, ActionFine, CommandFine, IsGuarded}
 use Rattle.sap_ir.proofs.Declared.{not_front, not_behind_list, assignable_readable}
 use Rattle.sap_lower.specs.declared.parts.Part.{Part}
-use Rattle.sap_lower.specs.Lowering.{helper, present}
+use Rattle.sap_share.specs.Names.{helper}
+use Rattle.sap_lower.specs.Lowering.{present}
 use Rattle.sap_lower.specs.Commands.{no_port, port_of}
 use Rattle.sap_lower.specs.Lowered.{named_entry, zero_entry, first_entries, first_port, index_bits, first_state, last_state, registers_declared}
 use Rattle.sap_lower.proofs.Standing.{ActionOk, CommandOk}

@@ -1,29 +1,15 @@
--- A wire that is found by its right side has that right side.
-use Rattle.std.proofs.Common.{◌≡◌, ℕ, List, [], ◌∷◌, Some, true, subst, inl, inr}
+-- The equations of wires, and what they say of a wire that is found by its right side.
+use Rattle.std.proofs.Common.{◌≡◌, ℕ, List, [], ◌∷◌, Some, inl, inr}
 use Rattle.std.specs.Str.{bytes_eq}
 use Rattle.std.proofs.lemmas.Bool.{cases_Bool}
-use Rattle.sap_lemmas.proofs.Texts.{equal_of_bytes_eq}
-use Rattle.sap_net.proofs.RulesLemmas.{readable_kept}
 use Rattle.sap_maps.specs.Maps.{Name, Valuation}
-use Rattle.sap_maps.specs.Scope.{Scope, find}
-use Rattle.sap_maps.proofs.Scopes.{found_here}
-use Rattle.sap_net.specs.Rules.{Shapes, AreWires, readable_after}
+use Rattle.sap_maps.specs.Scope.{find}
 use Rattle.sap_net.specs.Values.{right_value}
 use Rattle.sap_net.specs.declared.parts.Right.{Right}
 use Rattle.sap_net.specs.declared.parts.Wire.{Wire}
-use Rattle.sap_lower.specs.Keys.{key}
-use Rattle.sap_lower.specs.Lowering.{rights}
-use Rattle.sap_lower.proofs.Decoding.{key_is}
-
--- what is known of the first wire of a right side, where it is known of each
-known : (Known : ℕ → Right → Name → Type 0) (u : ℕ) (r : Right) (w : Wire) (n : Name) → bytes_eq (key w.width w.right) (key u r) ≡ true → Some w.name ≡ Some n
-    → Known w.width w.right w.name → Known u r n
-known Known u r w n t e h =
-    let k = key_is w.width u w.right r (equal_of_bytes_eq (key w.width w.right) (key u r) t) in
-    let m : w.name ≡ n = cc in
-    subst (λ (x : Name). Known u r x) m (subst (λ (x : Right). Known u x w.name) k.1 (subst (λ (x : ℕ). Known x w.right w.name) k.0 h))
-
--- wires' equations
+use Rattle.sap_share.specs.Keys.{key}
+use Rattle.sap_share.specs.Rights.{rights}
+use Rattle.sap_share.proofs.Found.{known}
 
 abbrev pub Gives : (Name → ℕ) → Valuation → List Wire → Type 0
 Gives widths v [] = Unit {0}
@@ -35,17 +21,4 @@ known_gives widths v (w ∷ ws) u r n e g =
     elim (cases_Bool (bytes_eq (key w.width w.right) (key u r))) [
       | inl t ↦ known (λ x s m. (v.value m ≡ right_value widths v s) × (widths m ≡ x)) u r w n t (rw t at e) (g.0, g.1)
       | inr f ↦ known_gives widths v ws u r n (rw f at e) g.2
-    ]
-
--- wires that fit
-
-pub known_readable : (ms : Shapes) (ws : List Wire) (sc : Scope) (u : ℕ) (r : Right) (n : Name) → find (rights ws) (key u r) ≡ Some n → AreWires ms sc ws → find (readable_after sc ws) n ≡ Some u
-known_readable ms [] sc u r n e a = absurd (cc)
-known_readable ms (w ∷ ws) sc u r n e a =
-    let after = readable_after ((w.name, w.width) ∷ sc) ws in
-    elim (cases_Bool (bytes_eq (key w.width w.right) (key u r))) [
-      | inl t ↦
-          known (λ x s m. find after m ≡ Some x) u r w n t (rw t at e)
-          (readable_kept ms ws ((w.name, w.width) ∷ sc) a.4 w.name w.width (found_here w.name w.width sc))
-      | inr f ↦ known_readable ms ws ((w.name, w.width) ∷ sc) u r n (rw f at e) a.4
     ]

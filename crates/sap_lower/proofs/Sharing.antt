@@ -2,9 +2,6 @@
 use Rattle.std.proofs.Common.{◌≡◌, ℕ, ◌+◌, ◌-◌, ◌%◌, ◌^◌, ◌<◌, List, [], ◌∷◌, ◌++◌, map, filter, not, length, Option, Some, None, Bool, true, false, sym, ap, ap₂, subst, refl, inl, inr}
 use Rattle.std.specs.Prelude.{if◌then◌else◌}
 use Rattle.std.specs.List.{AllByRecursion}
-use Rattle.std.specs.Str.{bytes_eq}
-use Rattle.std.proofs.lemmas.Bool.{cases_Bool}
-use Rattle.sap_lemmas.proofs.Texts.{bytes_eq_same}
 use Rattle.sap_bits.specs.Arithmetic.{width1, width2}
 use Rattle.sap_maps.specs.Maps.{Name}
 use Rattle.sap_maps.specs.Scope.{find}
@@ -23,38 +20,22 @@ use Rattle.sap_ir.specs.IsGuarded.{variable_names, memory_names, IsGuarded}
 use Rattle.sap_ir.proofs.Declared.{not_front, not_behind_list}
 use Rattle.sap_lower.specs.declared.parts.Part.{Part}
 use Rattle.sap_lower.specs.declared.parts.WritePort.{WritePort}
-use Rattle.sap_lower.specs.Keys.{key}
-use Rattle.sap_lower.specs.Lowering.{helper, present, rights, shared, plus, leaves_nothing, sliced, is_outside, cell_width, low, nothing}
+use Rattle.sap_share.specs.Differing.{AllDiffer}
+use Rattle.sap_share.specs.Keys.{key}
+use Rattle.sap_share.specs.Names.{helper}
+use Rattle.sap_share.specs.Rights.{rights}
+use Rattle.sap_share.proofs.Differing.{all_more}
+use Rattle.sap_lower.specs.Lowering.{present, shared, plus, leaves_nothing, sliced, is_outside, cell_width, low, nothing}
 use Rattle.sap_lower.specs.Commands.{State, port_of, low_set, low_put, low_action, low_command, low_commands}
 use Rattle.sap_lower.specs.Lowered.{listed, out_wire, all_wires, first_state, last_state, lowered}
-use Rattle.sap_lower.specs.Same.{DifferFrom, AllDiffer, SharesWires}
+use Rattle.sap_lower.specs.Same.{SharesWires}
 use Rattle.sap_lower.proofs.Fits.{IsHelper}
 use Rattle.sap_lower.proofs.Listed.{listed_holds}
 use Rattle.sap_lower.proofs.Netlist.{helpers_apart, last_fits}
 use Rattle.sap_lower.proofs.Rules.{each_variable}
 use Rattle.sap_lower.proofs.Whole.{last_short}
 
--- one more wire whose right side is new
-
-differ_more : (w x : Wire) (ws : List Wire) → bytes_eq (key w.width w.right) (key x.width x.right) ≡ false → DifferFrom w ws → DifferFrom w (ws ++ x ∷ [])
-differ_more w x [] f d = (
-  λ e r.
-      let s : key w.width w.right ≡ key x.width x.right = ap₂ (λ (n : ℕ) (k : Right). key n k) (sym e) (sym r) in
-      let t : bytes_eq (key w.width w.right) (key x.width x.right) ≡ true = subst (λ (k : List ℕ). bytes_eq (key w.width w.right) k ≡ true) s (bytes_eq_same (key w.width w.right)) in
-      absurd (cc),
-  tt,
-)
-differ_more w x (y ∷ ws) f d = (d.0, differ_more w x ws f d.1)
-
-apart_first : (w : Wire) (ws : List Wire) (k : List ℕ) → find (rights (w ∷ ws)) k ≡ None → bytes_eq (key w.width w.right) k ≡ false
-apart_first w ws k h =
-    elim (cases_Bool (bytes_eq (key w.width w.right) k)) [ inl t ↦ absurd (let g : Some w.name ≡ None = rw t at h in cc) | inr f ↦ f ]
-
-all_more : (ws : List Wire) (x : Wire) → find (rights ws) (key x.width x.right) ≡ None → AllDiffer ws → AllDiffer (ws ++ x ∷ [])
-all_more [] x h a = (tt, tt)
-all_more (w ∷ ws) x h a =
-    let k = key x.width x.right in
-    (differ_more w x ws (apart_first w ws k h) a.0, all_more ws x (not_behind (key w.width w.right, w.name) (rights ws) k h) a.1)
+-- one more wire, or the one that is there
 
 shared_differ : (ws : List Wire) (u : ℕ) (r : Right) (o : Option Name) → find (rights ws) (key u r) ≡ o → AllDiffer ws → AllDiffer (shared o ws u r).wires
 shared_differ ws u r (Some n) e a = a

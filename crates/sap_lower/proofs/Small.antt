@@ -29,13 +29,15 @@ use Rattle.sap_size.specs.Flat.{action_weight, commands_weight, source_weight}
 use Rattle.sap_size.specs.Items.{items}
 use Rattle.sap_lower.specs.declared.parts.Part.{Part}
 use Rattle.sap_lower.specs.declared.parts.WritePort.{WritePort}
-use Rattle.sap_lower.specs.Keys.{key}
-use Rattle.sap_lower.specs.Lowering.{helper, nothing, present, Low, rights, shared, plus, leaves_nothing, low_two, sliced, is_outside, low_slice, cell_width, low_join, low}
+use Rattle.sap_share.specs.Keys.{key}
+use Rattle.sap_share.specs.Names.{helper}
+use Rattle.sap_share.specs.Rights.{rights}
+use Rattle.sap_lower.specs.Lowering.{nothing, present, Low, shared, plus, leaves_nothing, low_two, sliced, is_outside, low_slice, cell_width, low_join, low}
 use Rattle.sap_lower.specs.Commands.{State, port_of, low_chosen, merged_port, low_put, low_action, low_command, low_commands}
 use Rattle.sap_lower.specs.Lowered.{first_state, last_state, out_wire, listed, unlisted, unported, picked, register_of, memory_of, registers_declared, lowered}
 use Rattle.sap_lower.proofs.Declares.{picked_names, unlisted_names}
 use Rattle.sap_lower.proofs.Listed.{listed_names}
-use Rattle.sap_lower.proofs.Rights.{last_here}
+use Rattle.sap_share.proofs.RightMaps.{last_here}
 
 -- Wires are only added: what was found by its right side is found again.
 

@@ -1,4 +1,3 @@
-pub mod Keys
 pub mod Lowering
 pub mod Parts
 pub mod Places
@@ -7,4 +6,3 @@ pub mod Lookup
 pub mod Commands
 pub mod Lowered
 pub mod Same
-pub mod Rights

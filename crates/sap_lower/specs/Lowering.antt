@@ -1,6 +1,5 @@
 -- The wires that an expression becomes.
-use Rattle.std.specs.Prelude.{ℕ, ◌+◌, ◌-◌, ◌%◌, nat_le, nat_lt, ◌||◌, Bool, false, List, [], ◌∷◌, ◌++◌, length, map, Option, Some, None, unwrap_or, if◌then◌else◌}
-use Rattle.std.specs.Fmt.{decimal}
+use Rattle.std.specs.Prelude.{ℕ, ◌+◌, ◌-◌, ◌%◌, nat_le, nat_lt, ◌||◌, Bool, false, List, [], ◌∷◌, ◌++◌, length, Option, Some, None, unwrap_or, if◌then◌else◌}
 use Rattle.sap_bits.specs.Arithmetic.{width1, width2, slice_of}
 use Rattle.sap_bits.specs.declared.Op2.{Op2}
 use Rattle.sap_bits.specs.declared.Op2.TheVariants.{Shl, Shr}
@@ -13,12 +12,10 @@ use Rattle.sap_net.specs.declared.parts.Operand.TheVariants.{Named, Constant}
 use Rattle.sap_net.specs.declared.parts.Right.{Right}
 use Rattle.sap_net.specs.declared.parts.Right.TheVariants.{One, Two, Choose, Concat, Slice, Cell}
 use Rattle.sap_net.specs.declared.parts.Wire.{Wire}
+use Rattle.sap_share.specs.Keys.{key}
+use Rattle.sap_share.specs.Names.{helper}
+use Rattle.sap_share.specs.Rights.{rights}
 use Rattle.sap_lower.specs.declared.parts.Part.{Part}
-use Rattle.sap_lower.specs.Keys.{key}
-
--- the name of a helping wire: an n and its number
-unfoldable pub helper : ℕ → Name
-helper k = 110 ∷ decimal k
 
 abbrev pub nothing : Part
 nothing = record { operand = Constant 0 0; width = 0 }
@@ -31,10 +28,6 @@ present es x = unwrap_or (find es x) nothing
 pub record Low : Type 0 where
   pub wires : List Wire
   pub part : Part
-
--- the right sides so far, each with the name of its wire
-abbrev pub rights : List Wire → List (Name × Name)
-rights ws = map (λ w. (key w.width w.right, w.name)) ws
 
 -- a wire that is there, or one more wire
 abbrev pub shared : Option Name → List Wire → (width : ℕ) → Right → Low

@@ -12,6 +12,7 @@ use Rattle.sap_net.specs.declared.parts.Input.{Input}
 use Rattle.sap_net.specs.declared.parts.Operand.{Operand}
 use Rattle.sap_net.specs.declared.parts.Right.TheVariants.{Copy}
 use Rattle.sap_net.specs.declared.parts.Wire.{Wire}
+use Rattle.sap_share.specs.Differing.{AllDiffer}
 use Rattle.sap_ir.specs.declared.guarded.Var.{Var}
 use Rattle.sap_ir.specs.Source.{Source}
 use Rattle.sap_ir.specs.Guarded.{guarded_run}
@@ -69,14 +70,6 @@ AllSame s n (v ∷ vs) (e ∷ es) = SameNumbers s n v e × AllSame s n vs es
 -- cell and port.
 abbrev pub RunsAlike : Source → Net → Type 0
 RunsAlike s n = (xss : List (List ℕ)) (vs : List Valuation) → AllFit n.inputs xss → IsRun n xss vs → AllSame s n vs (guarded_run s xss)
-
--- Each wire differs from all behind it in its width or its right side.
-abbrev pub DifferFrom : Wire → List Wire → Type 0
-DifferFrom w ws = AllByRecursion (λ x. x.width ≡ w.width → x.right ≡ w.right → ⊥) ws
-
-abbrev pub AllDiffer : List Wire → Type 0
-AllDiffer [] = Unit {0}
-AllDiffer (w ∷ ws) = DifferFrom w ws × AllDiffer ws
 
 -- the wires that are none of the source's
 abbrev pub helping : Source → List Wire → List Wire

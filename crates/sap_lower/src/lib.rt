@@ -5,7 +5,6 @@ mod calc;
 mod commands;
 mod declare;
 mod first;
-mod keys;
 pub mod lower;
 mod parts;
 mod places;

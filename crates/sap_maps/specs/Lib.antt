@@ -1,4 +1,5 @@
 pub mod Maps
 pub mod Scope
 pub mod Term
+pub mod Ranges
 pub mod Laws

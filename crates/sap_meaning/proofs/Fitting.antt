@@ -103,9 +103,8 @@ module _ (w : World) (laws : Laws w.order) where
   module _ (at : Spot) (q : Group) (enter : ℕ → ℕ → Store → After) (entering : (n pc : ℕ) → Level pc → Fitting (enter n pc)) where
     child_level_fits : (g : Group) (n : ℕ) (s : Store) → Fits w s → Level (child_level w g n s)
     child_level_fits None n s f = laws.bottom_is_level
-    child_level_fits (More (Node c b k) None) n s f = f.levels _
-    child_level_fits (More (Node c b k) (More t g)) zero s f = f.levels _
-    child_level_fits (More (Node c b k) (More t g)) (suc n) s f = child_level_fits (More t g) n s f
+    child_level_fits (More (Node c b k) g) zero s f = f.levels _
+    child_level_fits (More (Node c b k) g) (suc n) s f = child_level_fits g n s f
 
     effect_fits : (k : Step) → FineStep w q at.children k → SizedStep w k → (pc : ℕ) (b s : Store) → Level pc → Fits w b → Fits w s → Fits w (effect w at enter k pc b s).store
     unfolding effect

@@ -1,6 +1,7 @@
 pub mod Bools
 pub mod Slots
 pub mod Trees
+pub mod Walks
 pub mod Keeps
 pub mod Holding
 mod Listed

@@ -34,9 +34,8 @@ sublist_rises (x ∷ xs) (y ∷ ys) n h r = elim h [
 module _ (w : World) where
   opens_all : (g : Group) → some_enforced w g ≡ false → (n pc : ℕ) (s : Store) → child_opens w g n pc s ≡ true
   opens_all None h n pc s = refl
-  opens_all (More (Node c b k) None) h n pc s = or_left _ _ (not-false (is_dynamic w c) (neither_left _ _ h))
-  opens_all (More (Node c b k) (More t g)) h zero pc s = or_left _ _ (not-false (is_dynamic w c) (neither_left _ _ h))
-  opens_all (More (Node c b k) (More t g)) h (suc n) pc s = opens_all (More t g) (neither_right (not (is_dynamic w c)) _ h) n pc s
+  opens_all (More (Node c b k) g) h zero pc s = or_left _ _ (not-false (is_dynamic w c) (neither_left _ _ h))
+  opens_all (More (Node c b k) g) h (suc n) pc s = opens_all g (neither_right (not (is_dynamic w c)) _ h) n pc s
 
   -- what is no check site is not refused
   serves : (at : Spot) (k : Step) → is_site w at.state at.children k ≡ false → (pc : ℕ) (s : Store) → test w at k pc s ≡ true

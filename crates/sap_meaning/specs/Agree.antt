@@ -3,7 +3,6 @@ use Rattle.std.specs.Prelude.{◌≡◌, ℕ, zero, suc, true, false, List, [], 
 use Rattle.sap_lattice.specs.Order.{Order}
 use Rattle.sap_meaning.specs.Program.{World, Program, is_dynamic, is_register, is_memory, authority, root, Node, Group, None, More}
 use Rattle.sap_meaning.specs.Store.{Store, Slot, own, start, next, start_whole, next_whole, owner, held, number, level, child, Refusal, After}
-use Rattle.sap_meaning.specs.Checks.{child_level}
 use Rattle.sap_meaning.specs.Cycle.{Tagged}
 
 -- t is at or below l
@@ -29,26 +28,24 @@ PartsAlike w l cell whole s t =
     (((i : ℕ) → number (cell i) s ≡ number (cell i) t) × (level w whole s ≡ level w whole t) × Low w.order l (level w whole s))
     ⊎ (High w.order l (level w whole s) × High w.order l (level w whole t))
 
--- How the walk goes on from the parent p: at a leaf it ends; the current children are the same state, from which
--- `onward` tells more; or neither child's level is at or below l, and it ends.
-abbrev pub Meets : World → ℕ → (p : ℕ) → Group → Store → Store → (onward : ℕ → Type 0) → Type 0
-Meets w l p None s t onward = Unit {0}
-Meets w l p (More a g) s t onward =
-    ((child p s ≡ child p t) × onward (child p s))
-    ⊎ (High w.order l (child_level w (More a g) (child p s) s) × High w.order l (child_level w (More a g) (child p t) t))
+-- a state on the active path, with its level
+pub record ActiveState : Type 0 where
+  pub state : ℕ
+  pub level : ℕ
 
--- the n-th of a group has equal levels at or below l, and the walk goes on below it
-abbrev pub Onward : World → ℕ → Group → (n : ℕ) → Store → Store → Type 0
-Onward w l None n s t = ⊥
-Onward w l (More (Node c b k) g) zero s t =
-    (level w (own c) s ≡ level w (own c) t) × Low w.order l (level w (own c) s) × Meets w l c k s t (λ n. Onward w l k n s t)
-Onward w l (More a g) (suc n) s t = Onward w l g n s t
+-- What is seen at l of the active path from the n-th of a group on: where its level is at or below l, the state with its level,
+-- and what is seen below it; else nothing.
+abbrev pub seen_from : World → ℕ → Group → ℕ → Store → List ActiveState
+seen_from w l None n s = []
+seen_from w l (More (Node c b k) g) zero s =
+    if w.order.le (level w (own c) s) l then record { state = c; level = level w (own c) s } ∷ seen_from w l k (child c s) s else []
+seen_from w l (More t g) (suc n) s = seen_from w l g n s
 
--- the active paths from a parent down
-abbrev pub PathsAgree : World → ℕ → (p : ℕ) → Group → Store → Store → Type 0
-PathsAgree w l p g s t = Meets w l p g s t (λ n. Onward w l g n s t)
+-- what is seen at l of the active path, from the root on
+abbrev pub seen_path : Program → ℕ → Store → List ActiveState
+seen_path p l s = seen_from p.world l p.states (child (root p.world) s) s
 
--- Two states look alike at or below l. Of inputs, of current children and of dynamic states off the walked path nothing
+-- Two states look alike at or below l. Of inputs, of current children and of dynamic states off the seen path nothing
 -- is asked.
 pub record StatesAgree (p : Program) (l : ℕ) (s t : Store) : Type 0 where
   pub registers : (x : ℕ) → is_register p.world x ≡ true → SlotsAlike p.world l (own x) s t
@@ -59,7 +56,8 @@ pub record StatesAgree (p : Program) (l : ℕ) (s t : Store) : Type 0 where
   -- of registers, cells and states, whether active or not
   pub enforced_levels : (z : Slot) → held p.world z ≡ true → is_dynamic p.world (owner z) ≡ false → Low p.world.order l (authority p.world (owner z))
       → level p.world z s ≡ level p.world z t
-  pub paths : PathsAgree p.world l (root p.world) p.states s t
+  -- the same states are seen on the active paths, with the same levels
+  pub paths : seen_path p l s ≡ seen_path p l t
 
 -- the refusals whose level is at or below l
 abbrev pub seen : Order → ℕ → List Refusal → List Refusal

@@ -22,24 +22,21 @@ site_of (Fall site hang) = site
 abbrev pub entry : World → ℕ → ℕ
 entry w x = if is_dynamic w x then w.order.bottom else authority w x
 
--- The level of the child at a place. The last child stands for all later places; a state's current child has a place
--- among its children.
+-- the level of the n-th child; where there is none, the bottom
 abbrev pub child_level : World → Group → ℕ → Store → ℕ
 child_level w None n s = w.order.bottom
-child_level w (More (Node c b k) None) n s = level w (own c) s
-child_level w (More (Node c b k) (More t g)) zero s = level w (own c) s
-child_level w (More (Node c b k) (More t g)) (suc n) s = child_level w (More t g) n s
+child_level w (More (Node c b k) g) zero s = level w (own c) s
+child_level w (More t g) (suc n) s = child_level w g n s
 
 -- whether a fall may enter a child in the context pc
 abbrev pub opens : World → ℕ → ℕ → Store → Bool
 opens w c pc s = is_dynamic w c || w.order.le pc (level w (own c) s)
 
--- whether a fall may enter the child at a place, likewise
+-- whether a fall may enter the n-th child; where there is none, it may
 abbrev pub child_opens : World → Group → ℕ → ℕ → Store → Bool
 child_opens w None n pc s = true
-child_opens w (More (Node c b k) None) n pc s = opens w c pc s
-child_opens w (More (Node c b k) (More t g)) zero pc s = opens w c pc s
-child_opens w (More (Node c b k) (More t g)) (suc n) pc s = child_opens w (More t g) n pc s
+child_opens w (More (Node c b k) g) zero pc s = opens w c pc s
+child_opens w (More t g) (suc n) pc s = child_opens w g n pc s
 
 abbrev pub guard : World → Spot → Step → Store → ℕ
 guard w at (Set site x e) s = if is_dynamic w x then w.order.bottom else level w (own x) s

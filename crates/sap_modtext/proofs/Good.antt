@@ -8,7 +8,7 @@ use Rattle.std.proofs.lemmas.List.{append-nil}
 use Rattle.sap_net.specs.Names.{is_among, AreDistinct}
 use Rattle.sap_modtext.specs.Items.{Mention, Number, Operand, Constant, Right, Item, Port, File}
 use Rattle.sap_modtext.specs.Items as item
-use Rattle.sap_modtext.specs.Faults.{Shape, memory, wire, Declaration, declarations, shape_in, shape_width, Above, IsItemOf, shape_above, Setting, assign, Target, target_of, is_set, is_integer, has_integer, Use, as_value, uses, suits, constants, ranges, indexes, constant_fits, operand_width, parts_width, pairs, Differ, Among, IsDepth, needs, V3, V4, V5, V6, V7, IsFaultless}
+use Rattle.sap_modtext.specs.Faults.{Shape, memory, wire, Declaration, declarations, shape_in, shape_width, Above, IsItemOf, shape_above, Setting, assign, Target, target_of, is_set, is_integer, has_integer, Use, as_value, uses, suits, constants, ranges, indexes, constant_fits, operand_width, parts_width, pairs, Differ, Among, HasIndex, needs, V3, V4, V5, V6, V7, IsFaultless}
 use Rattle.sap_modtext.specs.Faults as fault
 
 pub record IsGoodUse (a : Above) (u : Use) : Type 0 where
@@ -22,7 +22,7 @@ IsGoodIndex a p = (width b u : ℕ) → shape_above a (p.0).name ≡ Some (memor
 
 -- what some kinds of items have besides
 abbrev pub IsFit : Above → Item → Type 0
-IsFit a (item.memory range x last) = IsDepth (last.value + 1)
+IsFit a (item.memory range x last) = HasIndex (last.value + 1)
 IsFit a (item.integer place) = has_integer a.items ≡ false
 IsFit a (item.assign x (item.concat parts)) = (width : ℕ) → parts_width a parts ≡ Some width → width ≤ 64
 IsFit a (item.assign x (item.slice y high low)) = (shape : Shape) → shape_above a y.name ≡ Some shape → (low ≤ high) × (high < shape_width shape)

@@ -6,6 +6,7 @@ use Rattle.sap_bits.specs.declared.Op1.{Op1}
 use Rattle.sap_bits.specs.declared.Op1.TheVariants as unary
 use Rattle.sap_bits.specs.declared.Op2.{Op2}
 use Rattle.sap_bits.specs.declared.Op2.TheVariants as binary
+use Rattle.sap_maps.specs.Ranges.{IsDepth}
 use Rattle.sap_modtext.specs.Items.{Mention, Number, Constant, Operand, Right, Direction, Port, Item, File}
 use Rattle.sap_modtext.specs.Items as item
 
@@ -300,9 +301,9 @@ abbrev pub Among : {A : Type 0} → A → List A → Type 0
 Among x [] = ⊥
 Among x (y ∷ ys) = (x ≡ y) ⊎ Among x ys
 
--- a power of two from 2 to 4096
-abbrev pub IsDepth : ℕ → Type 0
-IsDepth depth = (b : ℕ) × (1 ≤ b) × (b ≤ 12) × (depth ≡ 2 ^ b)
+-- a power of two from 2 to 4096: a depth that an index has bits for
+abbrev pub HasIndex : ℕ → Type 0
+HasIndex depth = (b : ℕ) × IsDepth depth b
 
 -- a wire, a register or a memory
 abbrev pub is_settable : Option Shape → Bool
@@ -357,7 +358,7 @@ pub data V6 (f : File) : ℕ → Type 0 where
 -- a memory's number whose depth isn't a power of two from 2 to 4096; the number of a `for` that isn't the memory's depth; an index operand whose
 -- width isn't the memory's index width; a declared name used as another kind
 pub data V7 (f : File) : ℕ → Type 0 where
-  no_depth : {above : Above} {range last : Number} {x : Mention} → IsItemOf f above (item.memory range x last) → (IsDepth (last.value + 1) → ⊥)
+  no_depth : {above : Above} {range last : Number} {x : Mention} → IsItemOf f above (item.memory range x last) → (HasIndex (last.value + 1) → ⊥)
       → V7 f last.place
   other_bound : {above : Above} {place : ℕ} {bound : Number} {x : Mention} {value : Constant} {width depth : ℕ}
       → IsItemOf f above (item.initial_cells place bound x value) → shape_above above x.name ≡ Some (memory width depth) → bound.value ≢ depth

@@ -3,7 +3,7 @@ use Rattle.std.proofs.Common.{◌≡◌, ℕ, zero, suc, ◌+◌, ◌<◌, lengt
 use Rattle.std.specs.Prelude.{Option, Vec}
 use Rattle.std.proofs.Common.{Global}
 use Rattle.sap_tree.specs.declared.syntax.Simple.{Simple}
-use Rattle.sap_tree.specs.declared.place.Place.{Place}
+use Rattle.sap_text.specs.declared.place.Place.{Place}
 use Rattle.sap_tree.specs.declared.syntax.Arm.{Arm}
 use Rattle.sap_tree.specs.declared.syntax.Block.{Block}
 use Rattle.sap_tree.specs.declared.syntax.Expr.{Expr}

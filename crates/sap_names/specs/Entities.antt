@@ -1,7 +1,5 @@
 -- The entities of a design: its inputs, registers, memories and states, in the order of the text.
 use Rattle.std.specs.Prelude.{◌≤◌, ℕ, List, [], ◌∷◌, ◌++◌, Option, Some, None, Bool, true, false, not, bytes_eq, ◌+◌, if◌then◌else◌, option_map}
-use Rattle.sap_tree.specs.declared.syntax.Kind.{Kind}
-use Rattle.sap_tree.specs.declared.syntax.Kind.TheVariants.{Dynamic, Enforced}
 use Rattle.sap_names.specs.declared.kind.Declared.{Declared}
 use Rattle.sap_names.specs.declared.kind.Declared.TheVariants as what
 use Rattle.sap_names.specs.declared.kind.EntityKind.{EntityKind}
@@ -9,12 +7,9 @@ use Rattle.sap_names.specs.declared.kind.EntityKind.TheVariants as kinds
 use Rattle.sap_tree.specs.declared.syntax.Decl.{Decl}
 use Rattle.sap_tree.specs.declared.syntax.Decl.TheVariants.{Input, Register, Memory}
 use Rattle.sap_tree.specs.Syntax.{StateTree, StateOf, StateList, NoState, AndState, DesignTree}
+pub use Rattle.sap_tree.specs.Touches.{is_dynamic_kind}
 -- a declared name: where it is declared, what it is, and whether it is dynamic, as inputs are
 pub use Rattle.sap_names.specs.declared.entity.Entity.{Entity}
-
-abbrev pub is_dynamic_kind : Kind → Bool
-is_dynamic_kind (Dynamic place) = true
-is_dynamic_kind (Enforced level under) = false
 
 abbrev pub entity_of : Decl → Entity
 entity_of (Input place name width) = record { name = name; what = what.Input width.value; dynamic = true }

@@ -1,7 +1,7 @@
 -- The faults of names and widths, E3 to E9: each sentence once, over the tree. A list has the faults that stand, in no order that counts.
 use Rattle.std.specs.Prelude.{ℕ, List, [], ◌∷◌, ◌++◌, Option, Some, None, Bool, true, false, not, eqb, leb, ◌&&◌, ◌^◌, ◌+◌, if◌then◌else◌, bytes_eq}
 use Rattle.sap_tree.specs.declared.name.Mention.{Mention}
-use Rattle.sap_tree.specs.declared.place.Place.{Place}
+use Rattle.sap_text.specs.declared.place.Place.{Place}
 use Rattle.sap_tree.specs.declared.syntax.Numeral.{Numeral}
 use Rattle.sap_tree.specs.declared.syntax.Under.{Under}
 use Rattle.sap_tree.specs.declared.syntax.Kind.{Kind}

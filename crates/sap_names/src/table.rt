@@ -7,7 +7,7 @@ ghost use Rattle.sap_names.specs.Fault.{First};
 ghost use Rattle.sap_names.specs.NameFaults.{design_name_faults};
 ghost use Rattle.sap_names.specs.declared.kind.Code.{Code};
 ghost use Rattle.sap_names.specs.declared.fault.CheckFault.TheVariants.{Rule};
-ghost use Rattle.sap_tree.specs.declared.place.Place.{Place};
+ghost use Rattle.sap_text.specs.declared.place.Place.{Place};
 ghost use Rattle.sap_tree.specs.Designs.{design_of};
 
 use crate::design::first_fault;

@@ -1,15 +1,14 @@
 -- On what stands in Names: what several crates cite.
-use Rattle.std.proofs.Common.{Bool, List, None, Some, [], ap, arith, bytes_eq, false, filter, inl, inr, map, refl, subst, true, ℕ, ◌&&◌, ◌++◌, ◌||◌, ◌∙◌, ◌∷◌, ◌≡◌}
-use Rattle.std.specs.Char.{is_ascii_digit}
+use Rattle.std.proofs.Common.{Bool, List, None, Some, [], ap, bytes_eq, false, filter, inl, inr, map, refl, subst, true, ℕ, ◌&&◌, ◌++◌, ◌||◌, ◌∙◌, ◌∷◌, ◌≡◌}
 use Rattle.std.specs.List.{AllByRecursion, list_all}
 use Rattle.std.specs.Str.Parse.{AllDigits}
-use Rattle.std.proofs.lemmas.Bool.{and_from, and_parts, cases_Bool, or_right}
-use Rattle.std.proofs.lemmas.Bool.Decides.{nat_tests}
+use Rattle.std.proofs.lemmas.Bool.{and_from, cases_Bool, or_right}
 use Rattle.sap_lemmas.proofs.Bools.{and_false, or_true}
 use Rattle.sap_lemmas.proofs.Texts.{bytes_eq_apart_back, bytes_eq_same, digit_of_value, equal_of_bytes_eq}
+use Rattle.sap_text.proofs.NamesLemmas.{digit_inner}
 use Rattle.sap_maps.specs.Maps.{Name}
 use Rattle.sap_maps.specs.Scope.{find}
-use Rattle.sap_net.specs.Names.{AreDistinct, is_among, is_initial, is_inner, is_name}
+use Rattle.sap_net.specs.Names.{AreDistinct, is_among, is_inner, is_name}
 
 pub found_of : {X Y : Type 0} (name : Y → Name) (of : Y → X) (ys : List Y) (n : Name) → is_among n (map name ys) ≡ true → (x : X) × (find (map (λ y. (name y, of y)) ys) n ≡ Some x)
 found_of name of [] n h = absurd (cc)
@@ -99,12 +98,6 @@ found_among name of (y ∷ ys) n x h =
       | inr f ↦ rw (bytes_eq_apart_back (name y) n f) (found_among name of ys n x (rw f at h))
     ]
 
-pub digit_inner : (c : ℕ) → is_ascii_digit c ≡ true → is_inner c ≡ true
-digit_inner c h = grind (arith, nat_tests)
-
-pub initial_inner : (c : ℕ) → is_initial c ≡ true → is_inner c ≡ true
-initial_inner c h = grind (arith, nat_tests)
-
 pub wire_name : (ds : List ℕ) → list_all is_inner ds ≡ true → is_name (110 ∷ ds) ≡ true
 unfolding is_name
 wire_name ds h = rw h refl
@@ -112,9 +105,3 @@ wire_name ds h = rw h refl
 pub numeral_inner : (ds : List ℕ) → AllDigits 10 ds → list_all is_inner ds ≡ true
 numeral_inner [] a = refl
 numeral_inner (d ∷ ds) a = and_from (is_inner d) (list_all is_inner ds) (digit_inner d (digit_of_value d a.0)) (numeral_inner ds a.1)
-
-pub digits_inner : (ds : List ℕ) → list_all is_ascii_digit ds ≡ true → list_all is_inner ds ≡ true
-digits_inner [] h = refl
-digits_inner (d ∷ ds) h =
-    let p = and_parts (is_ascii_digit d) (list_all is_ascii_digit ds) h in
-    and_from (is_inner d) (list_all is_inner ds) (digit_inner d p.0) (digits_inner ds p.1)

@@ -1,23 +1,10 @@
 -- What the module subset takes as a name, and lists of names.
-use Rattle.std.specs.Prelude.{◌≡◌, ℕ, Bool, false, not, ◌||◌, ◌&&◌, ◌==◌, List, [], ◌∷◌, ◌++◌, codes}
-use Rattle.std.specs.Char.{is_ascii_alphabetic, is_ascii_alphanumeric}
+use Rattle.std.specs.Prelude.{◌≡◌, ℕ, Bool, false, not, ◌||◌, ◌&&◌, List, [], ◌∷◌, ◌++◌, codes}
 use Rattle.std.specs.Fmt.{decimal}
-use Rattle.std.specs.List.{list_all, list_any}
+use Rattle.std.specs.List.{list_any}
 use Rattle.std.specs.Str.{bytes_eq}
+pub use Rattle.sap_text.specs.Names.{is_initial, is_inner, is_word}
 use Rattle.sap_maps.specs.Maps.{Name}
-
--- a letter or `_`
-abbrev pub is_initial : ℕ → Bool
-is_initial c = is_ascii_alphabetic c || c == 95
-
--- a letter, a digit or `_`
-abbrev pub is_inner : ℕ → Bool
-is_inner c = is_ascii_alphanumeric c || c == 95
-
--- a letter or `_`, and then letters, digits and `_`
-abbrev pub is_word : List ℕ → Bool
-is_word [] = false
-is_word (c ∷ cs) = is_initial c && list_all is_inner cs
 
 -- the keywords of the module subset
 abbrev pub keywords : List (List ℕ)

@@ -2,6 +2,7 @@
 use Rattle.std.specs.Prelude.{◌≡◌, ℕ, ◌+◌, ◌-◌, ◌^◌, ◌<◌, ◌≤◌, List, [], ◌∷◌, length, Some, None}
 use Rattle.sap_bits.specs.Arithmetic.{width1, width2}
 use Rattle.sap_maps.specs.Maps.{Name}
+pub use Rattle.sap_maps.specs.Ranges.{IsDepth, IsWidth}
 use Rattle.sap_maps.specs.Scope.{Scope, find}
 use Rattle.sap_maps.specs.Term.{CountFits}
 use Rattle.sap_net.specs.declared.parts.Operand.{Operand}
@@ -11,13 +12,6 @@ use Rattle.sap_net.specs.declared.parts.Right.TheVariants.{Copy, One, Two, Choos
 use Rattle.sap_net.specs.declared.parts.Wire.{Wire}
 use Rattle.sap_net.specs.declared.parts.Register.{Register}
 use Rattle.sap_net.specs.declared.parts.Memory.{Memory}
-
-abbrev pub IsWidth : ℕ → Type 0
-IsWidth w = (1 ≤ w) × (w ≤ 64)
-
--- a depth of 2 to 4096, whose index has b bits
-abbrev pub IsDepth : (depth b : ℕ) → Type 0
-IsDepth depth b = (1 ≤ b) × (b ≤ 12) × (depth ≡ 2 ^ b)
 
 -- the width and the depth of each memory
 abbrev pub Shapes : Type 0

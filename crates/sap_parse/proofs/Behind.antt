@@ -1,8 +1,8 @@
 -- The place of a fault.
 use Rattle.std.proofs.Common.{◌≡◌, ◌≢◌, ℕ, List, [], ◌∷◌, length, take, refl, ap, sym, ◌∙◌, arith}
 use Rattle.std.proofs.lemmas.Grind.{common_steps}
-use Rattle.sap_parse.specs.Lexing.{place_after, place_of}
-use Rattle.sap_parse.specs.Lexing as lexing
+use Rattle.sap_text.specs.Places as places
+use Rattle.sap_text.specs.Places.{place_after, place_at}
 use Rattle.sap_parse.specs.Reading.{ahead}
 use Rattle.sap_parse.specs.Stages.{first_place}
 use Rattle.sap_parse.specs.Text.{fault_place}
@@ -12,9 +12,9 @@ use Rattle.sap_parse.specs.declared.token.Token.{Token}
 whole : (text : List ℕ) → text ≡ take (length text) text
 whole text = grind (arith, common_steps)
 
-pub at_end : (text : List ℕ) (left : List Token) → left ≡ [] → place_after lexing.first_place text ≡ fault_place text left
-unfolding place_of
-at_end text left e = ap (place_after lexing.first_place) (whole text) ∙ ap (fault_place text) (sym e)
+pub at_end : (text : List ℕ) (left : List Token) → left ≡ [] → place_after places.first_place text ≡ fault_place text left
+unfolding place_at
+at_end text left e = ap (place_after places.first_place) (whole text) ∙ ap (fault_place text) (sym e)
 
 pub at_token : (text : List ℕ) (left : List Token) → ahead left ≢ a.Nothing → first_place left ≡ fault_place text left
 unfolding ahead

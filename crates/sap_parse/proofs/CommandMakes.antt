@@ -9,7 +9,7 @@ use Rattle.sap_tree.specs.declared.word.Word.TheVariants as w
 use Rattle.sap_tree.specs.Syntax as t
 use Rattle.sap_tree.specs.Trees.{arm_block_of, arms_before, arms_of, command_of, commands_of, constants_of, expression_of, expressions_of}
 use Rattle.sap_tree.specs.declared.name.Mention.{Mention}
-use Rattle.sap_tree.specs.declared.place.Place.{Place}
+use Rattle.sap_text.specs.declared.place.Place.{Place}
 use Rattle.sap_tree.specs.declared.place.Spot.{Spot}
 use Rattle.sap_parse.proofs.Makes.{both}
 use Rattle.sap_tree.specs.declared.syntax.Arm.{Arm}

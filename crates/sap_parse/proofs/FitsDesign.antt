@@ -19,7 +19,7 @@ use Rattle.sap_tree.specs.Syntax as t
 use Rattle.sap_tree.specs.Whole.{is_number, is_block, are_commands, block_count, list_count, block_depth, list_depth, is_authority, is_kind, is_start, is_declaration, is_input, is_register, is_memory, is_state, are_states, state_count, states_count, state_depth, states_depth, state_commands, states_commands, has_state, is_whole}
 use Rattle.sap_tree.specs.Words.{is_name}
 use Rattle.sap_tree.specs.declared.name.Mention.{Mention}
-use Rattle.sap_tree.specs.declared.place.Place.{Place}
+use Rattle.sap_text.specs.declared.place.Place.{Place}
 use Rattle.sap_tree.specs.declared.syntax.Decl.TheVariants as d
 use Rattle.sap_tree.specs.declared.syntax.Decl.{Decl}
 use Rattle.sap_tree.specs.declared.syntax.Kind.{Kind}

@@ -13,7 +13,7 @@ use Rattle.sap_tree.specs.Spots.{enclosed, from_place}
 use Rattle.sap_tree.specs.Syntax as t
 use Rattle.sap_tree.specs.Whole.{is_number, is_expression, are_expressions, is_outermost}
 use Rattle.sap_tree.specs.Words.{is_name}
-use Rattle.sap_tree.specs.declared.place.Place.{Place}
+use Rattle.sap_text.specs.declared.place.Place.{Place}
 use Rattle.sap_tree.specs.declared.place.Spot.{Spot}
 use Rattle.sap_tree.specs.declared.syntax.BinaryOperator.{BinaryOperator}
 use Rattle.sap_tree.specs.declared.syntax.UnaryOperator.{UnaryOperator}

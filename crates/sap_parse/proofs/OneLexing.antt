@@ -8,7 +8,8 @@ use Rattle.std.specs.List.{prefix_len}
 use Rattle.std.specs.Str.{byte}
 use Rattle.sap_tree.specs.Words.{is_initial}
 use Rattle.sap_parse.specs.Lexemes.{clings, is_in, run, is_blank, is_comment, lexeme_of, name_at, number_at, number_of, number_lexeme, sized_at, sized_in, sized_lexeme, sign_at, sign_or, word_or_name}
-use Rattle.sap_parse.specs.Lexing.{AreTokens, IsBadAt, IsBlankAt, Reached, StandsAt, keyed, place_of}
+use Rattle.sap_parse.specs.Lexing.{AreTokens, IsBadAt, IsBlankAt, Reached, StandsAt, keyed}
+use Rattle.sap_text.specs.Places.{place_at}
 use Rattle.sap_tree.specs.declared.version.Version.TheVariants as v
 use Rattle.sap_parse.specs.Spelling.{sign_of, word_of}
 use Rattle.sap_parse.specs.declared.lexeme.Class.TheVariants as c
@@ -147,7 +148,7 @@ one_list text ts us a b = a.keyed_are ∙ ap keyed (reached.one_end (IsBlankAt t
 pub one_place : (text : List ℕ) (p q : _) → IsBadAt text p → IsBadAt text q → p ≡ q
 one_place text p q a b =
     let same = (reached.one_end (IsBlankAt text) (StandsAt text) (lexer text) a.before b.before (bad_end text a.at a.bad) (bad_end text b.at b.bad)).0 in
-    a.there ∙ ap (place_of text) same ∙ sym b.there
+    a.there ∙ ap (place_at text) same ∙ sym b.there
 
 pub not_bad : (text : List ℕ) (ts : List TokenOf) (p : _) → AreTokens text ts → IsBadAt text p → ⊥
 not_bad text ts p a b =

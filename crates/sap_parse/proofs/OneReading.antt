@@ -18,7 +18,7 @@ use Rattle.sap_parse.specs.declared.limit.Limit.{Limit}
 use Rattle.sap_parse.specs.declared.token.Token.{Token}
 use Rattle.sap_tree.specs.Syntax.{DesignTree}
 use Rattle.sap_tree.specs.Whole.{is_whole}
-use Rattle.sap_tree.specs.declared.place.Place.{Place}
+use Rattle.sap_text.specs.declared.place.Place.{Place}
 use Rattle.sap_parse.proofs.CompleteDesign.{design_reads}
 use Rattle.sap_parse.proofs.FitsDesign.{design_is_whole}
 use Rattle.sap_parse.proofs.TokenTexts.{texts_are, tokens_order}

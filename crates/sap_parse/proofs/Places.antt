@@ -2,8 +2,8 @@
 use Rattle.std.proofs.Common.{◌≡◌, ◌<◌, ◌≤◌, ◌+◌, ℕ, List, [], ◌∷◌, ◌++◌, length, take, drop, get_or, refl, ap, sym, ◌∙◌}
 use Rattle.std.proofs.Math.Seq.{take-add}
 use Rattle.std.proofs.lemmas.List.{at_drop_more, at_drop_all}
-use Rattle.sap_tree.specs.declared.place.Place.{Place}
-use Rattle.sap_parse.specs.Lexing.{first_place, next_place, place_after, place_of}
+use Rattle.sap_text.specs.declared.place.Place.{Place}
+use Rattle.sap_text.specs.Places.{first_place, next_place, place_after, place_at}
 
 pub place_more : (p : Place) (bs : List ℕ) (i : ℕ) → i < length bs → place_after p (drop i bs) ≡ place_after (next_place p (get_or bs i 0)) (drop (i + 1) bs)
 place_more p bs i h = at_drop_more (place_after p) bs i 0 h
@@ -17,11 +17,11 @@ place_after-append p (x ∷ a) b = place_after-append (next_place p x) a b
 
 pub ruleset places = (place_more, place_all)
 
-pub place_of-more : (text : List ℕ) (n len : ℕ) → place_of text (n + len) ≡ place_after (place_of text n) (take len (drop n text))
-unfolding place_of
-place_of-more text n len = ap (place_after first_place) (take-add n len text) ∙ place_after-append first_place (take n text) (take len (drop n text))
+pub place_at-more : (text : List ℕ) (n len : ℕ) → place_at text (n + len) ≡ place_after (place_at text n) (take len (drop n text))
+unfolding place_at
+place_at-more text n len = ap (place_after first_place) (take-add n len text) ∙ place_after-append first_place (take n text) (take len (drop n text))
 
-pub advanced : {place after : Place} {rest : List ℕ} (text : List ℕ) (n len : ℕ) → place ≡ place_of text n → rest ≡ drop n text
-    → after ≡ place_after place (take len rest) → after ≡ place_of text (n + len)
+pub advanced : {place after : Place} {rest : List ℕ} (text : List ℕ) (n len : ℕ) → place ≡ place_at text n → rest ≡ drop n text
+    → after ≡ place_after place (take len rest) → after ≡ place_at text (n + len)
 advanced {rest = rest} text n len here same next =
-    next ∙ ap (λ p. place_after p (take len rest)) here ∙ ap (λ bytes. place_after (place_of text n) (take len bytes)) same ∙ sym (place_of-more text n len)
+    next ∙ ap (λ p. place_after p (take len rest)) here ∙ ap (λ bytes. place_after (place_at text n) (take len bytes)) same ∙ sym (place_at-more text n len)

@@ -11,7 +11,7 @@ use Rattle.std.specs.Str.{byte, bytes_eq}
 use Rattle.sap_lemmas.proofs.Lists.{index_drop}
 use Rattle.sap_lemmas.proofs.Numbers.{equal_of_test}
 use Rattle.sap_lemmas.proofs.Texts.{equal_of_bytes_eq}
-use Rattle.sap_tree.proofs.WordsLemmas.{initial_inner}
+use Rattle.sap_text.proofs.NamesLemmas.{initial_inner}
 use Rattle.sap_tree.specs.Words.{is_initial, is_inner, is_word, word_text, first_words}
 use Rattle.sap_tree.specs.declared.version.Version.TheVariants as v
 use Rattle.sap_parse.specs.Lexemes.{is_in, run, is_blank, is_comment, lexeme_of, name_at, number_at, number_of, number_lexeme, sized_at, sized_in, sized_lexeme, sign_at, sign_or, value_of, word_or_name}

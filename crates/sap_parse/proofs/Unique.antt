@@ -23,7 +23,7 @@ use Rattle.sap_tree.specs.Precedence.{precedence, unary_precedence}
 use Rattle.sap_tree.specs.Spots.{first_of, enclosed}
 use Rattle.sap_tree.specs.Syntax as t
 use Rattle.sap_tree.specs.declared.name.Mention.{Mention}
-use Rattle.sap_tree.specs.declared.place.Place.{Place}
+use Rattle.sap_text.specs.declared.place.Place.{Place}
 use Rattle.sap_tree.specs.declared.place.Spot.{Spot}
 use Rattle.sap_tree.specs.declared.syntax.BinaryOperator.TheVariants as b
 use Rattle.sap_tree.specs.declared.syntax.BinaryOperator.{BinaryOperator}

@@ -1,8 +1,9 @@
 -- The tokens of a text.
-use Rattle.std.specs.Prelude.{◌≡◌, ℕ, ◌+◌, ◌<◌, ◌≤◌, List, [], ◌∷◌, map, Option, Some, None, Bool, false, ◌&&◌, ◌==◌, if◌then◌else◌, length, take, drop}
+use Rattle.std.specs.Prelude.{◌≡◌, ℕ, ◌+◌, ◌<◌, ◌≤◌, List, [], ◌∷◌, map, Option, Some, None, Bool, false, ◌&&◌, ◌==◌, if◌then◌else◌, length, drop}
 use Rattle.std.specs.Str.{bytes_eq}
 use Rattle.sap_tree.specs.Words.{word_text}
-use Rattle.sap_tree.specs.declared.place.Place.{Place}
+use Rattle.sap_text.specs.Places.{place_at}
+use Rattle.sap_text.specs.declared.place.Place.{Place}
 use Rattle.sap_tree.specs.declared.version.Version.TheVariants as v
 use Rattle.sap_tree.specs.declared.version.Version.{Version}
 use Rattle.sap_tree.specs.declared.word.Word.TheVariants as w
@@ -18,22 +19,6 @@ use Rattle.sap_parse.specs.declared.token.Kind.TheVariants as k
 use Rattle.sap_parse.specs.declared.token.Kind.{Kind}
 use Rattle.sap_parse.specs.declared.token.Token.{Token}
 
--- lines and columns, both from 1
-
-abbrev pub next_place : Place → ℕ → Place
-next_place place b = if b == 10 then record { line = place.line + 1; column = 1 } else record { line = place.line; column = place.column + 1 }
-
-abbrev pub place_after : Place → List ℕ → Place
-place_after place [] = place
-place_after place (b ∷ bytes) = place_after (next_place place b) bytes
-
-abbrev pub first_place : Place
-first_place = record { line = 1; column = 1 }
-
--- the place of byte n of a text
-unfoldable pub place_of : List ℕ → ℕ → Place
-place_of text n = place_after first_place (take n text)
-
 -- tokens
 
 abbrev pub IsBlankAt : List ℕ → ℕ → ℕ → Type 0
@@ -41,7 +26,7 @@ IsBlankAt text n len = lexeme_of (drop n text) ≡ l.Blank len
 
 pub record StandsAt (text : List ℕ) (n : ℕ) (token : Token) (len : ℕ) : Type 0 where
   pub lexeme : lexeme_of (drop n text) ≡ l.Token token.kind len
-  pub place : token.place ≡ place_of text n
+  pub place : token.place ≡ place_at text n
   pub from : token.from ≡ n
   pub to : token.to ≡ n + len
 
@@ -123,7 +108,7 @@ pub record IsBadAt (text : List ℕ) (place : Place) : Type 0 where
   pub tokens : List Token
   pub before : Reached text at tokens
   pub bad : lexeme_of (drop at text) ≡ l.Bad
-  pub there : place ≡ place_of text at
+  pub there : place ≡ place_at text at
 
 abbrev pub IsLexFault : List ℕ → ReadFault → Type 0
 IsLexFault text (f.E1 place) = IsBadAt text place

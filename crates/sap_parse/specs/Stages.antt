@@ -9,7 +9,7 @@ use Rattle.sap_parse.specs.declared.token.Sign.{Sign}
 use Rattle.sap_parse.specs.declared.token.Token.{Token}
 use Rattle.sap_tree.specs.declared.word.Word.{Word}
 use Rattle.sap_tree.specs.declared.name.Mention.{Mention}
-use Rattle.sap_tree.specs.declared.place.Place.{Place}
+use Rattle.sap_text.specs.declared.place.Place.{Place}
 use Rattle.sap_tree.specs.declared.place.Spot.{Spot}
 use Rattle.sap_tree.specs.declared.syntax.Numeral.{Numeral}
 use Rattle.sap_walk.specs.Limits.{Past, passed}

@@ -1,7 +1,8 @@
 -- The design of a text, and the read fault of a text that has none.
 use Rattle.std.specs.Prelude.{◌≡◌, ℕ, ◌<◌, ◌≤◌, List, [], ◌∷◌, length}
 use Rattle.sap_parse.specs.Fault.{IsDesign, IsUnexpected, IsOver}
-use Rattle.sap_parse.specs.Lexing.{AreTokens, IsBadAt, first_place, place_of}
+use Rattle.sap_parse.specs.Lexing.{AreTokens, IsBadAt}
+use Rattle.sap_text.specs.Places.{first_place, place_at}
 use Rattle.sap_parse.specs.Limits.{most_bytes}
 use Rattle.sap_parse.specs.declared.fault.ReadFault.TheVariants as f
 use Rattle.sap_parse.specs.declared.fault.ReadFault.{ReadFault}
@@ -9,7 +10,7 @@ use Rattle.sap_parse.specs.declared.limit.Limit.TheVariants as l
 use Rattle.sap_parse.specs.declared.limit.Limit.{Limit}
 use Rattle.sap_parse.specs.declared.token.Token.{Token}
 use Rattle.sap_tree.specs.Syntax.{DesignTree}
-use Rattle.sap_tree.specs.declared.place.Place.{Place}
+use Rattle.sap_text.specs.declared.place.Place.{Place}
 
 -- the text is this design, within the limits
 pub record IsText (text : List ℕ) (design : DesignTree) : Type 0 where
@@ -20,7 +21,7 @@ pub record IsText (text : List ℕ) (design : DesignTree) : Type 0 where
 
 -- the place of the first of the tokens that are left, or, where none is left, the one just behind the last byte
 abbrev pub fault_place : List ℕ → List Token → Place
-fault_place text [] = place_of text (length text)
+fault_place text [] = place_at text (length text)
 fault_place text (token ∷ rest) = token.place
 
 -- The read fault of a text. The limit on its bytes comes first, then the first byte at which no token begins. Then the tokens are taken one

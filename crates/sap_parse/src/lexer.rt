@@ -2,7 +2,8 @@
 
 ghost use Rattle.std.specs.Prelude.{◌≡◌, ◌≤◌, ◌<◌, ◌+◌, ◌^◌, IfErr, IfOk, length};
 ghost use Rattle.std.specs.List.{All};
-ghost use Rattle.sap_parse.specs.Lexing.{AreTokens, IsLexFault, place_after, version_of};
+ghost use Rattle.sap_parse.specs.Lexing.{AreTokens, IsLexFault, version_of};
+ghost use Rattle.sap_text.specs.Places.{place_after};
 ghost use Rattle.sap_parse.specs.Spelled.{AreInOrder, HasText};
 
 use crate::fault::ReadFault;

@@ -12,7 +12,7 @@ use Rattle.sap_meaning.specs.Program as program
 use Rattle.sap_resolve.specs.Resolve as resolve
 use Rattle.sap_shape.specs.Lists as shape_lists
 use Rattle.sap_shape.specs.Sites as sites
-use Rattle.sap_shape.specs.Sites.{Home}
+use Rattle.sap_shape.specs.Sites.{Context}
 use Rattle.sap_program.specs.declared.program.Arm.{Arm}
 use Rattle.sap_program.specs.Views as views
 use Rattle.sap_program.specs.Lists.{list_from, list_sites, arms_from, arms_sites, numbers_of}
@@ -46,7 +46,7 @@ pub numbers_end : (es : List Expr) (n : ℕ) (made all : List ℕ) → length es
 numbers_end es n made all l e =
     sym (append-nil made) ∙ ap (λ (a : List ℕ). made ++ a) (sym (ap numbers_of (drop_past es n l) ∙ numbers_of-none)) ∙ e
 
-module _ (ls : Levels) (h : Home) where
+module _ (ls : Levels) (h : Context) where
   arms_from-more : (k : ℕ) (d : ArmTree) (rest : List ArmTree) (last : program.Block)
       → arms_from ls h k (d ∷ rest) last
       ≡ program.Arm (resolve.numbers_of (trees.constants_of d)) (resolve.block_of ls h k (trees.arm_block_of d)) (arms_from ls h (k + length (sites.block_sites h (trees.arm_block_of d))) rest last)

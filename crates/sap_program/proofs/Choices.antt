@@ -1,6 +1,6 @@
 -- The sites and points of the parts of a command.
 use Rattle.std.proofs.Common.{◌≡◌, ℕ, ◌+◌, ◌<◌, Bool, List, ◌++◌, Option, Some, None, ap, sym, ◌∙◌, arith, length, length-append}
-use Rattle.sap_tree.specs.declared.place.Place.{Place}
+use Rattle.sap_text.specs.declared.place.Place.{Place}
 use Rattle.sap_tree.specs.declared.syntax.Arm.{Arm}
 use Rattle.sap_tree.specs.declared.syntax.Block.{Block}
 use Rattle.sap_tree.specs.declared.syntax.Cmd.{Cmd}
@@ -9,7 +9,7 @@ use Rattle.sap_tree.specs.Trees as trees
 use Rattle.sap_lattice.specs.Levels.{Levels}
 use Rattle.sap_resolve.specs.Resolve as resolve
 use Rattle.sap_shape.specs.Sites as sites
-use Rattle.sap_shape.specs.Sites.{Home}
+use Rattle.sap_shape.specs.Sites.{Context}
 use Rattle.sap_resolve.specs.Terms.{term_of}
 use Rattle.sap_maps.specs.Term.{Term}
 use Rattle.sap_meaning.specs.Program.{Arms, Block as Block', End}
@@ -19,7 +19,7 @@ use Rattle.sap_program.specs.Rows.{Rows, step_points, block_points, arms_points,
 use Rattle.sap_program.proofs.Arms.{arms_sites-of, arms_from-of, arms_points-from}
 
 -- how many sites a command has, by its parts
-module _ (h : Home) where
+module _ (h : Context) where
   try_count : (s : tree.SimpleCommand) (place : Place) (b : Block)
       → length (sites.command_sites h (tree.Try s place (trees.block_of b))) ≡ length (sites.simple_sites h s) + list_sites h b.commands.items
   unfolding list_sites
@@ -38,7 +38,7 @@ module _ (h : Home) where
       let i = length-append (sites.simple_sites h s) (sites.block_sites h (trees.block_of a) ++ sites.block_sites h (trees.block_of b)) in
       let j = length-append (sites.block_sites h (trees.block_of a)) (sites.block_sites h (trees.block_of b)) in omega (arith, i, j)
 
-module _ (ls : Levels) (h : Home) (k p limit : ℕ) (t : tree.Command) (few_sites : k + length (sites.command_sites h t) < limit)
+module _ (ls : Levels) (h : Context) (k p limit : ℕ) (t : tree.Command) (few_sites : k + length (sites.command_sites h t) < limit)
     (few_points : p + command_points (resolve.command_of ls h k t) < limit) where
   -- a command with a handler: the command itself, the `otherwise` and the handler
   module _ (s : tree.SimpleCommand) (place : Place) (b : Block) (is : t ≡ tree.Try s place (trees.block_of b)) where
@@ -149,7 +149,7 @@ module _ (ls : Levels) (h : Home) (k p limit : ℕ) (t : tree.Command) (few_site
         let a = points_in in omega (arith, e, f, u, v, a))
 
 -- a `case` as it is made
-pub case_made : (ls : Levels) (h : Home) (k p : ℕ) (r : Rows) (t : tree.Command) (place : Place) (x : tree.Expression) (arms : List Arm) (last : Block)
+pub case_made : (ls : Levels) (h : Context) (k p : ℕ) (r : Rows) (t : tree.Command) (place : Place) (x : tree.Expression) (arms : List Arm) (last : Block)
     → t ≡ tree.Case place x (trees.arms_of arms (trees.block_of last)) → (seen : List Arm) (after : List Cmd) (j q w : ℕ) → seen ≡ arms → after ≡ last.commands.items
     → j ≡ k + arms_sites h seen → q ≡ p + 1 → (hang : List Bool) (e : Term ℕ) (made : Block' → Arms) (end : Block') → hang ≡ r p → e ≡ term_of h.entities x None
     → ((b : Block') → made (block_with r w b) ≡ arms_with r q (arms_from ls h k seen b)) → end ≡ block_with r w (list_from ls h j after)
@@ -168,7 +168,7 @@ case_made ls h k p r t place x arms last is seen after j q w same end' g u hang 
     ∙ ap (λ (y : tree.Command). command_with r p (resolve.command_of ls h k y)) (sym is)
 
 -- how many sites and points a `case` has in all
-pub case_all_sites : (ls : Levels) (h : Home) (k : ℕ) (t : tree.Command) (place : Place) (x : tree.Expression) (arms : List Arm) (last : Block)
+pub case_all_sites : (ls : Levels) (h : Context) (k : ℕ) (t : tree.Command) (place : Place) (x : tree.Expression) (arms : List Arm) (last : Block)
     → t ≡ tree.Case place x (trees.arms_of arms (trees.block_of last)) → (seen : List Arm) (after : List Cmd) (j i : ℕ) → seen ≡ arms → after ≡ last.commands.items
     → j ≡ k + arms_sites h seen → i ≡ j + list_sites h after → i ≡ k + length (sites.command_sites h t)
 case_all_sites ls h k t place x arms last is seen after j i same end g f =
@@ -177,7 +177,7 @@ case_all_sites ls h k t place x arms last is seen after j i same end g f =
     let b = ap (arms_sites h) same in
     let c = ap (list_sites h) end in omega (arith, e, a, b, c, f, g))
 
-pub case_all_points : (ls : Levels) (h : Home) (k p : ℕ) (t : tree.Command) (place : Place) (x : tree.Expression) (arms : List Arm) (last : Block)
+pub case_all_points : (ls : Levels) (h : Context) (k p : ℕ) (t : tree.Command) (place : Place) (x : tree.Expression) (arms : List Arm) (last : Block)
     → t ≡ tree.Case place x (trees.arms_of arms (trees.block_of last)) → (seen : List Arm) (after : List Cmd) (j q w u : ℕ) → seen ≡ arms → after ≡ last.commands.items
     → j ≡ k + arms_sites h seen → q ≡ p + 1 → w ≡ q + arms_points (arms_from ls h k seen End) → u ≡ w + block_points (list_from ls h j after)
     → u ≡ p + command_points (resolve.command_of ls h k t)
@@ -195,7 +195,7 @@ case_all_points ls h k p t place x arms last is seen after j q w u same end g i 
 then_same : (s t : program.Step) (a b : List Bool) (x y u v : Block') → s ≡ t → a ≡ b → x ≡ y → u ≡ v → program.TryThen s a x u ≡ program.TryThen t b y v
 then_same s t a b x y u v h i j k = cc
 
-pub then_made : (ls : Levels) (h : Home) (k p : ℕ) (r : Rows) (t : tree.Command) (s : tree.SimpleCommand) (place : Place) (a b : Block)
+pub then_made : (ls : Levels) (h : Context) (k p : ℕ) (r : Rows) (t : tree.Command) (s : tree.SimpleCommand) (place : Place) (a b : Block)
     → t ≡ tree.TryThen s place (trees.block_of a) (trees.block_of b) → (seen after : List Cmd) (j i q w u site : ℕ) → seen ≡ a.commands.items → after ≡ b.commands.items
     → j ≡ k + length (sites.simple_sites h s) → i ≡ j + list_sites h seen → site ≡ resolve.site_number h k s → q ≡ p + step_points (resolve.step_of ls h site s) → w ≡ q + 1
     → u ≡ w + block_points (list_from ls h j seen) → (step : program.Step) (hang : List Bool) (one other : Block') → step ≡ step_with r p (resolve.step_of ls h site s)
@@ -219,7 +219,7 @@ then_made ls h k p r t s place a b is seen after j i q w u site same last g f x 
     ∙ ap (λ (l : tree.Command). command_with r p (resolve.command_of ls h k l)) (sym is)
 
 -- how many sites and points there are with `then`
-pub then_all_sites : (h : Home) (k : ℕ) (t : tree.Command) (s : tree.SimpleCommand) (place : Place) (a b : Block) → t ≡ tree.TryThen s place (trees.block_of a) (trees.block_of b)
+pub then_all_sites : (h : Context) (k : ℕ) (t : tree.Command) (s : tree.SimpleCommand) (place : Place) (a b : Block) → t ≡ tree.TryThen s place (trees.block_of a) (trees.block_of b)
     → (seen after : List Cmd) (j i n : ℕ) → seen ≡ a.commands.items → after ≡ b.commands.items → j ≡ k + length (sites.simple_sites h s) → i ≡ j + list_sites h seen
     → n ≡ i + list_sites h after → n ≡ k + length (sites.command_sites h t)
 unfolding list_sites
@@ -228,7 +228,7 @@ then_all_sites h k t s place a b is seen after j i n same last g f m =
     let u = ap (λ (l : List Cmd). list_sites h l) same in
     let v = ap (λ (l : List Cmd). list_sites h l) last in omega (arith, e, f, g, u, v, m, then_count h s place a b))
 
-pub then_all_points : (ls : Levels) (h : Home) (k p : ℕ) (t : tree.Command) (s : tree.SimpleCommand) (place : Place) (a b : Block)
+pub then_all_points : (ls : Levels) (h : Context) (k p : ℕ) (t : tree.Command) (s : tree.SimpleCommand) (place : Place) (a b : Block)
     → t ≡ tree.TryThen s place (trees.block_of a) (trees.block_of b) → (seen after : List Cmd) (j i q w u n site : ℕ) → seen ≡ a.commands.items → after ≡ b.commands.items
     → j ≡ k + length (sites.simple_sites h s) → i ≡ j + list_sites h seen → site ≡ resolve.site_number h k s → q ≡ p + step_points (resolve.step_of ls h site s) → w ≡ q + 1
     → u ≡ w + block_points (list_from ls h j seen) → n ≡ u + block_points (list_from ls h i after) → n ≡ p + command_points (resolve.command_of ls h k t)
@@ -246,7 +246,7 @@ then_all_points ls h k p t s place a b is seen after j i q w u n site same last 
 if_same : (a b : List Bool) (e f : Term ℕ) (x y u v : Block') → a ≡ b → e ≡ f → x ≡ y → u ≡ v → program.If a e x u ≡ program.If b f y v
 if_same a b e f x y u v h i j k = cc
 
-pub if_made : (ls : Levels) (h : Home) (k p : ℕ) (r : Rows) (t : tree.Command) (place : Place) (x : tree.Expression) (one : Block) (other : tree.ElseBlock)
+pub if_made : (ls : Levels) (h : Context) (k p : ℕ) (r : Rows) (t : tree.Command) (place : Place) (x : tree.Expression) (one : Block) (other : tree.ElseBlock)
     → t ≡ tree.If place x (trees.block_of one) other → (seen : List Cmd) (j q w : ℕ) → seen ≡ one.commands.items → j ≡ k + list_sites h seen → q ≡ p + 1
     → w ≡ q + block_points (list_from ls h k seen) → (hang : List Bool) (e : Term ℕ) (m n : Block') → hang ≡ r p → e ≡ term_of h.entities x (Some 1)
     → m ≡ block_with r q (list_from ls h k seen) → n ≡ block_with r w (resolve.else_of ls h j other)
@@ -261,13 +261,13 @@ if_made ls h k p r t place x one other is seen j q w same g u v hang e m n a b c
     ∙ ap (λ (l : tree.Command). command_with r p (resolve.command_of ls h k l)) (sym is)
 
 -- how many sites and points it has in all
-pub all_sites : (h : Home) (k : ℕ) (t : tree.Command) (place : Place) (x : tree.Expression) (one : Block) (other : tree.ElseBlock) → t ≡ tree.If place x (trees.block_of one) other
+pub all_sites : (h : Context) (k : ℕ) (t : tree.Command) (place : Place) (x : tree.Expression) (one : Block) (other : tree.ElseBlock) → t ≡ tree.If place x (trees.block_of one) other
     → (seen : List Cmd) (j i : ℕ) → seen ≡ one.commands.items → j ≡ k + list_sites h seen → i ≡ j + length (sites.else_sites h other) → i ≡ k + length (sites.command_sites h t)
 unfolding list_sites
 all_sites h k t place x one other is seen j i same g f =
     (let e = ap (λ (c : tree.Command). k + length (sites.command_sites h c)) is in let u = ap (λ (l : List Cmd). list_sites h l) same in omega (arith, e, f, g, u, if_count h place x one other))
 
-pub all_points : (ls : Levels) (h : Home) (k p : ℕ) (t : tree.Command) (place : Place) (x : tree.Expression) (one : Block) (other : tree.ElseBlock)
+pub all_points : (ls : Levels) (h : Context) (k p : ℕ) (t : tree.Command) (place : Place) (x : tree.Expression) (one : Block) (other : tree.ElseBlock)
     → t ≡ tree.If place x (trees.block_of one) other → (seen : List Cmd) (j q w u : ℕ) → seen ≡ one.commands.items → j ≡ k + list_sites h seen → q ≡ p + 1
     → w ≡ q + block_points (list_from ls h k seen) → u ≡ w + block_points (resolve.else_of ls h j other) → u ≡ p + command_points (resolve.command_of ls h k t)
 unfolding list_from list_sites
@@ -278,13 +278,13 @@ all_points ls h k p t place x one other is seen j q w u same g a v z =
     omega (arith, e, f, i, a, v, z))
 
 -- a written `else`
-pub some_sites : (h : Home) (k limit : ℕ) (other : Option Block) (b : Block) (seen : List Cmd) → other ≡ Some b → seen ≡ b.commands.items
+pub some_sites : (h : Context) (k limit : ℕ) (other : Option Block) (b : Block) (seen : List Cmd) → other ≡ Some b → seen ≡ b.commands.items
     → k + length (sites.else_sites h (trees.else_of other)) < limit → k + list_sites h seen < limit
 unfolding list_sites
 some_sites h k limit other b seen is same l =
     (let e = ap (λ (o : Option Block). length (sites.else_sites h (trees.else_of o))) is in let f = ap (λ (l : List Cmd). list_sites h l) same in omega (arith, e, f, l))
 
-pub some_points : (ls : Levels) (h : Home) (k p limit : ℕ) (other : Option Block) (b : Block) (seen : List Cmd) → other ≡ Some b → seen ≡ b.commands.items
+pub some_points : (ls : Levels) (h : Context) (k p limit : ℕ) (other : Option Block) (b : Block) (seen : List Cmd) → other ≡ Some b → seen ≡ b.commands.items
     → p + block_points (resolve.else_of ls h k (trees.else_of other)) < limit → p + block_points (list_from ls h k seen) < limit
 unfolding list_from
 some_points ls h k p limit other b seen is same l =

@@ -17,7 +17,7 @@ use Rattle.sap_meaning.specs.Program.{None, More, Node, Group}
 use Rattle.sap_meaning.specs.Program as program
 use Rattle.sap_resolve.specs.Resolve as resolve
 use Rattle.sap_shape.specs.Sites as sites
-use Rattle.sap_shape.specs.Sites.{Home}
+use Rattle.sap_shape.specs.Sites.{Context}
 use Rattle.sap_resolve.specs.Worlds as worlds
 use Rattle.sap_program.specs.declared.program.State as code
 use Rattle.sap_program.specs.Views as views
@@ -27,8 +27,8 @@ use Rattle.sap_program.proofs.Lists.{item_drop, add_add}
 use Rattle.sap_program.proofs.Shown.{joined-none, joined-push}
 
 -- where a state's body stands
-abbrev pub home : List Entity → State → Home
-home es s = record { entities = es; name = (out-State s).name.name; kind = (out-State s).kind; children = states_of (out-State s).children.items }
+abbrev pub context : List Entity → State → Context
+context es s = record { entities = es; home = record { name = (out-State s).name.name; kind = (out-State s).kind; children = states_of (out-State s).children.items } }
 
 module _ (ls : Levels) (es : List Entity) where
   group_from-more : (k x : ℕ) (d : State) (rest : List State)
@@ -92,7 +92,7 @@ module _ (ls : Levels) (es : List Entity) where
 
   pub state_from : (k x : ℕ) (s : State)
       → resolve.state_of ls es k x (trees.state_of s)
-      ≡ Node x (list_from ls (home es s) k (out-State s).body.commands.items) (group_from ls es (k + list_sites (home es s) (out-State s).body.commands.items) (x + 1) (out-State s).children.items)
+      ≡ Node x (list_from ls (context es s) k (out-State s).body.commands.items) (group_from ls es (k + list_sites (context es s) (out-State s).body.commands.items) (x + 1) (out-State s).children.items)
   unfolding list_from list_sites group_from
   state_from k x s = ap (λ (t : StateTree). resolve.state_of ls es k x t) (state_of-out s)
 
@@ -121,11 +121,11 @@ module _ (es : List Entity) where
       let g = ap (λ (x : ℕ). k + x) (ap (group_sites es) (item_drop ss n d l e) ∙ group_sites-more d (drop (n + 1) ss)) in omega (arith, g, i, f)
 
   pub state_sites-is : (s : State)
-      → length (sites.state_sites es (trees.state_of s)) ≡ list_sites (home es s) (out-State s).body.commands.items + group_sites es (out-State s).children.items
+      → length (sites.state_sites es (trees.state_of s)) ≡ list_sites (context es s) (out-State s).body.commands.items + group_sites es (out-State s).children.items
   unfolding list_sites group_sites
   state_sites-is s =
       ap (λ (t : StateTree). length (sites.state_sites es t)) (state_of-out s)
-      ∙ length-append (sites.list_sites (home es s) (trees.commands_of (out-State s).body.commands.items)) (sites.states_sites es (states_of (out-State s).children.items))
+      ∙ length-append (sites.list_sites (context es s) (trees.commands_of (out-State s).body.commands.items)) (sites.states_sites es (states_of (out-State s).children.items))
 
 below-more : (d : State) (rest : List State) → states_below (d ∷ rest) ≡ worlds.states_in (trees.state_of d) + states_below rest
 unfolding states_below
@@ -161,14 +161,14 @@ below_inside s rest r = states_in-is s ∙ ap (λ (g : List State). 1 + states_b
 
 module _ (es : List Entity) (s : State) (first : List State) (first_is : first ≡ (out-State s).children.items) (body : List Cmd) (body_is : body ≡ (out-State s).body.commands.items)
     (rest : List State) (rest_is : rest ≡ (out-State s).children.items) (limit : ℕ) where
-  abbrev here : Home
-  here = record { entities = es; name = (out-State s).name.name; kind = (out-State s).kind; children = states_of first }
+  abbrev here : Context
+  here = record { entities = es; home = record { name = (out-State s).name.name; kind = (out-State s).kind; children = states_of first } }
 
-  here_is : here ≡ home es s
-  here_is = ap (λ (l : List State). record { entities = es; name = (out-State s).name.name; kind = (out-State s).kind; children = states_of l }) first_is
+  here_is : here ≡ context es s
+  here_is = ap (λ (l : List State). record { entities = es; home = record { name = (out-State s).name.name; kind = (out-State s).kind; children = states_of l } }) first_is
 
-  body_sites : list_sites here body ≡ list_sites (home es s) (out-State s).body.commands.items
-  body_sites = ap₂ (λ (h : Home) (l : List Cmd). list_sites h l) here_is body_is
+  body_sites : list_sites here body ≡ list_sites (context es s) (out-State s).body.commands.items
+  body_sites = ap₂ (λ (h : Context) (l : List Cmd). list_sites h l) here_is body_is
 
   pub rest_sites : (k j : ℕ) → j ≡ k + list_sites here body → k + length (sites.state_sites es (trees.state_of s)) < limit → j + group_sites es rest < limit
   rest_sites k j e l =
@@ -178,7 +178,7 @@ module _ (es : List Entity) (s : State) (first : List State) (first_is : first �
       → p + state_points (resolve.state_of ls es k x (trees.state_of s)) < limit → u + group_points (group_from ls es j (x + 1) rest) < limit
   rest_points ls k j x p u e w l =
       (let a = ap (λ (t : program.State). p + state_points t) (state_from ls es k x s) in
-      let b = ap₂ (λ (h : Home) (cs : List Cmd). block_points (list_from ls h k cs)) here_is body_is in
+      let b = ap₂ (λ (h : Context) (cs : List Cmd). block_points (list_from ls h k cs)) here_is body_is in
       let d = ap₂ (λ (i : ℕ) (r : List State). group_points (group_from ls es i (x + 1) r)) (e ∙ ap (λ (n : ℕ). k + n) body_sites) rest_is in
       omega (arith, a, b, d, w, l))
 

@@ -1,6 +1,6 @@
 -- The parts of commands and of states weigh less than these.
 use Rattle.std.proofs.Common.{◌≡◌, ℕ, ◌+◌, ◌<◌, List, length, get_or, Option, Some, ap, arith}
-use Rattle.sap_tree.specs.declared.place.Place.{Place}
+use Rattle.sap_text.specs.declared.place.Place.{Place}
 use Rattle.sap_tree.specs.declared.syntax.Arm.{Arm}
 use Rattle.sap_tree.specs.declared.syntax.Block.{Block}
 use Rattle.sap_tree.specs.declared.syntax.Cmd.{Cmd}

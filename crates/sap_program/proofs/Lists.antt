@@ -9,7 +9,7 @@ use Rattle.sap_meaning.specs.Program.{End, Then}
 use Rattle.sap_meaning.specs.Program as program
 use Rattle.sap_resolve.specs.Resolve as resolve
 use Rattle.sap_shape.specs.Sites as sites
-use Rattle.sap_shape.specs.Sites.{Home}
+use Rattle.sap_shape.specs.Sites.{Context}
 use Rattle.sap_program.specs.declared.program.Command.{Command}
 use Rattle.sap_program.specs.Views as views
 use Rattle.sap_program.specs.Lists.{list_from, list_sites}
@@ -24,7 +24,7 @@ item_drop (x ∷ xs) (suc n) d l e = let r = item_drop xs n d (omega arith) e in
 pub add_add : (a b c : ℕ) → a + b + c ≡ a + (b + c)
 add_add a b c = omega arith
 
-module _ (ls : Levels) (h : Home) where
+module _ (ls : Levels) (h : Context) where
   list_from-more : (k : ℕ) (d : Cmd) (rest : List Cmd)
       → list_from ls h k (d ∷ rest) ≡ Then (resolve.command_of ls h k (trees.command_of d)) (list_from ls h (k + length (sites.command_sites h (trees.command_of d))) rest)
   unfolding list_from
@@ -87,7 +87,7 @@ module _ (ls : Levels) (h : Home) where
   unfolding list_from
   else_from k b = refl
 
-module _ (h : Home) where
+module _ (h : Context) where
   list_sites-more : (d : Cmd) (rest : List Cmd) → list_sites h (d ∷ rest) ≡ length (sites.command_sites h (trees.command_of d)) + list_sites h rest
   unfolding list_sites
   list_sites-more d rest = length-append (sites.command_sites h (trees.command_of d)) (sites.list_sites h (trees.commands_of rest))

@@ -1,6 +1,6 @@
 pub mod Hangs
 pub mod Views
 pub mod Rows
-pub mod Homes
+pub mod Contexts
 pub mod Lists
 pub mod Design

@@ -14,24 +14,24 @@ use Rattle.sap_program.specs.declared.program.Entity as code
 use Rattle.sap_resolve.specs.Resolve as resolve
 use Rattle.sap_shape.specs.Lists as shape_lists
 use Rattle.sap_shape.specs.Sites as sites
-use Rattle.sap_shape.specs.Sites.{Home}
+use Rattle.sap_shape.specs.Sites.{Context}
 use Rattle.sap_resolve.specs.Worlds as worlds
 
 -- where the next site has the number k
-unfoldable pub list_from : Levels → Home → (k : ℕ) → List Cmd → Block
+unfoldable pub list_from : Levels → Context → (k : ℕ) → List Cmd → Block
 list_from ls h k cs = resolve.list_of ls h k (commands_of cs)
 
 -- how many check sites they have
-unfoldable pub list_sites : Home → List Cmd → ℕ
+unfoldable pub list_sites : Context → List Cmd → ℕ
 list_sites h cs = length (sites.list_sites h (commands_of cs))
 
 -- with this block for no arm
-unfoldable pub arms_from : Levels → Home → (k : ℕ) → List Arm → Block → Arms
+unfoldable pub arms_from : Levels → Context → (k : ℕ) → List Arm → Block → Arms
 arms_from ls h k [] last = Last last
 arms_from ls h k (arm ∷ arms) last =
     program.Arm (resolve.numbers_of (constants_of arm)) (resolve.block_of ls h k (arm_block_of arm)) (arms_from ls h (k + length (sites.block_sites h (arm_block_of arm))) arms last)
 
-unfoldable pub arms_sites : Home → List Arm → ℕ
+unfoldable pub arms_sites : Context → List Arm → ℕ
 arms_sites h arms = length (shape_lists.arms_sites h arms)
 
 unfoldable pub numbers_of : List Expr → List ℕ

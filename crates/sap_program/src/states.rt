@@ -1,7 +1,7 @@
 //! States with their numbers and the numbers of their check sites, and with what hangs on their commands.
 
 ghost use Rattle.std.specs.Prelude.{◌≡◌, ◌+◌, ◌<◌, ◌^◌, IfOk, OnOk, length};
-ghost use Rattle.sap_program.specs.Homes.{known_rows};
+ghost use Rattle.sap_program.specs.Contexts.{known_rows};
 ghost use Rattle.sap_program.specs.Lists as lists;
 ghost use Rattle.sap_program.specs.Rows.{group_points, group_with, state_points, state_with};
 ghost use Rattle.sap_program.specs.Views as views;

@@ -3,7 +3,8 @@ use Rattle.std.specs.Prelude.{ℕ, ◌+◌, Bool, true, false, List, [], ◌∷�
 use Rattle.std.specs.Fmt.{decimal}
 use Rattle.sap_lattice.specs.Codes.{code_of}
 use Rattle.sap_lattice.specs.Levels.{Levels, order_of}
-use Rattle.sap_tree.specs.declared.place.Place.{Place}
+use Rattle.sap_text.specs.declared.place.Place.{Place}
+use Rattle.sap_text.specs.Places.{line_end}
 use Rattle.sap_tree.specs.Syntax.{DesignTree}
 use Rattle.sap_names.specs.declared.entity.Entity.{Entity}
 use Rattle.sap_names.specs.Entities.{entities_of}
@@ -16,9 +17,6 @@ use Rattle.sap_check.specs.declared.site.SiteKind.TheVariants as sites
 use Rattle.sap_check.specs.Points.{points_of}
 use Rattle.sap_check.specs.Sites.{sites_of}
 use Rattle.sap_hang.specs.Hang.{hangs}
-
-abbrev pub line_end : List ℕ
-line_end = 10 ∷ []
 
 -- LINE:COL
 abbrev pub place_text : Place → List ℕ

@@ -1,5 +1,5 @@
 -- What stays while a design runs: its entities, by number in the order of the text, over the levels of a lattice.
-use Rattle.std.specs.Prelude.{ℕ, ◌+◌, List, [], ◌∷◌, ◌++◌, length, Option, Some, None, Bool, true, false, bytes_eq, if◌then◌else◌}
+use Rattle.std.specs.Prelude.{ℕ, ◌+◌, List, [], ◌∷◌, ◌++◌, length, Option, Some, None, Bool, true, bytes_eq, if◌then◌else◌}
 use Rattle.sap_tree.specs.declared.name.Mention.{Mention}
 use Rattle.sap_tree.specs.declared.syntax.Numeral.{Numeral}
 use Rattle.sap_tree.specs.declared.syntax.Under.{Under}
@@ -8,6 +8,7 @@ use Rattle.sap_tree.specs.declared.syntax.Kind.TheVariants.{Dynamic, Enforced}
 use Rattle.sap_tree.specs.declared.syntax.Decl.{Decl}
 use Rattle.sap_tree.specs.declared.syntax.Decl.TheVariants.{Input, Register, Memory}
 use Rattle.sap_tree.specs.Syntax.{StateTree, StateOf, StateList, NoState, AndState, DesignTree}
+pub use Rattle.sap_tree.specs.Touches.{is_dynamic_kind}
 use Rattle.sap_lattice.specs.Levels.{Levels, order_of}
 use Rattle.sap_meaning.specs.Program.{World, Entity}
 use Rattle.sap_meaning.specs.Program as program
@@ -32,10 +33,6 @@ authority_level ls (Some under) = level_number ls under.level
 abbrev pub authority_of : Levels → Kind → ℕ
 authority_of ls (Dynamic place) = (order_of ls).bottom
 authority_of ls (Enforced level under) = authority_level ls under
-
-abbrev pub is_dynamic_kind : Kind → Bool
-is_dynamic_kind (Dynamic place) = true
-is_dynamic_kind (Enforced level under) = false
 
 -- a register starts at its written number, else at 0
 abbrev pub initial_of : Option Numeral → ℕ

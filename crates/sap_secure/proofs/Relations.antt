@@ -1,19 +1,16 @@
 -- States that agree, in the words of the law and in those of the proofs.
-use Rattle.std.proofs.Common.{◌≡◌, ℕ, zero, suc, ◌+◌, ◌<◌, true, false, refl, sym, ap, ◌∙◌, subst, arith, inl, inr}
+use Rattle.std.proofs.Common.{◌≡◌, ℕ, zero, suc, ◌+◌, true, false, [], map, refl, sym, ap, ◌∙◌, subst, arith, inl, inr}
 use Rattle.std.proofs.lemmas.Bool.{cases_Bool, or_right}
 use Rattle.sap_lattice.specs.Order.{Order, Laws}
-use Rattle.sap_meaning.specs.Program.{World, Program, is_dynamic, is_input, root, children, Block, State, Node, Group, None, More}
+use Rattle.sap_meaning.specs.Program.{World, Program, is_dynamic, is_input, root, place, Block, State, Node, Group, None, More}
 use Rattle.sap_meaning.specs.Store.{Slot, own, start, next, start_whole, next_whole, Store, owner, home, number, level, child}
-use Rattle.sap_meaning.specs.State.{Holds}
-use Rattle.sap_meaning.specs.Agree.{Low, High, Alike, PartsAlike, Onward, PathsAgree, StatesAgree}
-use Rattle.sap_meaning.specs.Fine.{number_of, kids_of}
-use Rattle.sap_meaning.proofs.Trees.{Nth, nth_of, nth_fine}
+use Rattle.sap_meaning.specs.Agree.{Low, Alike, PartsAlike, StatesAgree, ActiveState, seen_from}
+use Rattle.sap_meaning.specs.Fine.{FineGroup, number_of, kids_of}
+use Rattle.sap_meaning.proofs.Trees.{Nth, nth_fine}
 use Rattle.sap_secure.proofs.Levels.{Same, same_high}
 use Rattle.sap_secure.proofs.Agreeing.{compared, Agree}
 use Rattle.sap_secure.proofs.Sites.{Around, around_kids}
-use Rattle.sap_secure.proofs.Walks.{path, path_here, path_high, heads, one}
-use Rattle.sap_secure.proofs.Still.{child_level_nth}
-use Rattle.sap_secure.proofs.Pairs.{falls}
+use Rattle.sap_secure.proofs.Walks.{Stop, stop, from, path, path_cases, heads, heads_low}
 
 pub same_of : (o : Order) (l n t m u : ℕ) → Alike o l n t m u → Same o l n t m u
 same_of o l n t m u (inl a) = record { low = ap (λ v. o.le v l) a.1; number = λ h. a.0; level = λ h. a.1 }
@@ -26,82 +23,57 @@ alike_of o l n t m u r = elim (cases_Bool (o.le t l)) [
 ]
 
 module _ (w : World) (laws : Laws w.order) (l : ℕ) where
-  -- what stands in the walk at a place
-  onward_in : (g : Group) (n c : ℕ) (b : Block) (k : Group) (s t : Store) → Nth g n (Node c b k) → (level w (own c) s ≡ level w (own c) t) → Low w.order l (level w (own c) s) → PathsAgree w l c k s t → Onward w l g n s t
-  onward_in None n c b k s t h e low p = absurd h
-  onward_in (More (Node d a j) g) zero c b k s t h e low p = subst (λ x. Onward w l (More x g) zero s t) (sym h) (e, low, p)
-  onward_in (More (Node d a j) g) (suc n) c b k s t h e low p = onward_in g n c b k s t h e low p
-
-  onward_out : (g : Group) (n c : ℕ) (b : Block) (k : Group) (s t : Store) → Nth g n (Node c b k) → Onward w l g n s t → (level w (own c) s ≡ level w (own c) t) × Low w.order l (level w (own c) s) × PathsAgree w l c k s t
-  onward_out None n c b k s t h o = absurd h
-  onward_out (More (Node d a j) g) zero c b k s t h o = subst (λ x. Onward w l (More x g) zero s t) h o
-  onward_out (More (Node d a j) g) (suc n) c b k s t h o = onward_out g n c b k s t h o
-
-  abbrev Both : ℕ → Group → Store → Store → Type 0
-  Both p g s t = (path w l p g s ≡ path w l p g t → PathsAgree w l p g s t) × (PathsAgree w l p g s t → path w l p g s ≡ path w l p g t)
-
-  abbrev Law : State → Type 0
-  Law a = Around w (number_of a) (kids_of a) → (s t : Store) → Holds w s → Holds w t → Both (number_of a) (kids_of a) s t
-
   kids_around : (p : ℕ) (g : Group) (n c : ℕ) (b : Block) (k : Group) → Nth g n (Node c b k) → Around w p g → Around w c k
   kids_around p g n c b k h around = around_kids w g (0 + n) c b k (nth_fine w g 0 g n (Node c b k) h around.fine)
-
-  here : (p : ℕ) (a : State) (g : Group) → Around w p (More a g) → (s : Store) → Holds w s → (x : State) × Nth (More a g) (child p s) x
-  here p a g around s holds =
-      let n : 0 < children w p = rw around.count (omega arith) in
-      nth_of (More a g) (child p s) (rw around.count at (holds.seated p n))
-
-  to_walk : (p : ℕ) (a : State) (g : Group) (s t : Store) (c : ℕ) (b : Block) (j : Group) → Nth (More a g) (child p s) (Node c b j) → (y : State) → Nth (More a g) (child p t) y → Both c j s t → path w l p (More a g) s ≡ path w l p (More a g) t → PathsAgree w l p (More a g) s t
-  to_walk p a g s t c b j nx y ny kid e =
-      let z = falls w laws l p (child p s) (child p t) (More a g) s t (Node c b j) y refl refl nx ny e in
-      elim (cases_Bool (w.order.le (level w (own c) s) l)) [
-        | inl low ↦ (
-            let n : child p s ≡ child p t = z.1 low in
-            let e' : one w l (child p s) c j s ≡ one w l (child p s) c j t = sym (path_here w l p (child p s) c b j (More a g) s nx refl) ∙ e ∙ path_here w l p (child p s) c b j (More a g) t nx (sym n) in
-            let h = heads w laws l (child p s) (child p s) c c j j s t e' low in
-            inl (n, onward_in (More a g) (child p s) c b j s t nx h.1 low (kid.0 h.2)))
-        | inr high ↦ inr (
-          subst (λ v. High w.order l v) (sym (child_level_nth w (More a g) (child p s) (Node c b j) s nx)) high,
-          subst (λ v. High w.order l v) (sym (child_level_nth w (More a g) (child p t) y t ny)) (sym z.0.0 ∙ high),
-        )
-      ]
-
-  from_walk : (p : ℕ) (a : State) (g : Group) (s t : Store) (c : ℕ) (b : Block) (j : Group) → Nth (More a g) (child p s) (Node c b j) → (y : State) → Nth (More a g) (child p t) y → Both c j s t → PathsAgree w l p (More a g) s t → path w l p (More a g) s ≡ path w l p (More a g) t
-  from_walk p a g s t c b j nx y ny kid (inl z) =
-      let o = onward_out (More a g) (child p s) c b j s t nx z.1 in
-      let q = kid.1 o.2 in
-      path_here w l p (child p s) c b j (More a g) s nx refl ∙ rw (o.0, q) refl ∙ sym (path_here w l p (child p s) c b j (More a g) t nx (sym z.0))
-  from_walk p a g s t c b j nx y ny kid (inr z) =
-      path_high w laws l p (child p s) (More a g) (Node c b j) s nx refl (subst (λ v. High w.order l v) (child_level_nth w (More a g) (child p s) (Node c b j) s nx) z.0)
-      ∙ sym (path_high w laws l p (child p t) (More a g) y t ny refl (subst (λ v. High w.order l v) (child_level_nth w (More a g) (child p t) y t ny) z.1))
-
-  walk_both : (p : ℕ) (a : State) (g : Group) (s t : Store) (x : State) → Nth (More a g) (child p s) x → (y : State) → Nth (More a g) (child p t) y → Both (number_of x) (kids_of x) s t → Both p (More a g) s t
-  walk_both p a g s t (Node c b j) nx y ny kid = (to_walk p a g s t c b j nx y ny kid, from_walk p a g s t c b j nx y ny kid)
 
   pub kid_around : (p : ℕ) (g : Group) (n : ℕ) (x : State) → Nth g n x → Around w p g → Around w (number_of x) (kids_of x)
   kid_around p g n (Node c b k) h around = kids_around p g n c b k h around
 
-  group_both : (g : Group) (p : ℕ) → ((m : ℕ) (a : State) → Nth g m a → Law a) → Around w p g → (s t : Store) → Holds w s → Holds w t → Both p g s t
-  group_both None p laws' around s t hs ht = (λ e. tt, λ e. refl)
-  group_both (More a g) p laws' around s t hs ht =
-      let f = here p a g around s hs in
-      let k = here p a g around t ht in
-      walk_both p a g s t f.0 f.1 k.0 k.1 (laws' (child p s) f.0 f.1 (kid_around p (More a g) (child p s) f.0 f.1 around) s t hs ht)
+  -- a state that is seen, by its place
+  abbrev stop_of : ActiveState → Stop
+  stop_of x = stop (place w x.state) x.level
 
-  mutual
-    state_both : (a : State) → Law a
-    state_both (Node c b k) around s t hs ht = group_both k c (λ m a h. nth_both k m a h) around s t hs ht
+  from_seen : (q : Group) (m : ℕ) (g : Group) (n i : ℕ) (s : Store) → FineGroup w q m g → i ≡ m + n → from w l g n i s ≡ map stop_of (seen_from w l g n s)
+  from_seen q m None n i s fine e = refl
+  from_seen q m (More (Node c b k) g) zero i s fine e = elim (cases_Bool (w.order.le (level w (own c) s) l)) [
+    | inl low ↦ (
+        let here : place w c ≡ m = fine.0.0.placed in
+        let at : i ≡ place w c = omega arith in
+        rw (low, at, from_seen k 0 k (child c s) (child c s) s fine.0.1 (omega arith)) refl)
+    | inr high ↦ rw high refl
+  ]
+  from_seen q m (More (Node c b k) g) (suc n) i s fine e = from_seen q (suc m) g n i s fine.1 (omega arith)
 
-    nth_both : (g : Group) (m : ℕ) (a : State) → Nth g m a → Law a
-    nth_both None m a h = absurd h
-    nth_both (More c g) zero a h = subst Law h (state_both c)
-    nth_both (More c g) (suc m) a h = nth_both g m a h
+  -- where the same is seen, paths are the same, ..
+  pub paths_same : (p : ℕ) (g : Group) → FineGroup w g 0 g → (s t : Store) → seen_from w l g (child p s) s ≡ seen_from w l g (child p t) t → path w l p g s ≡ path w l p g t
+  paths_same p g fine s t e =
+      from_seen g 0 g (child p s) (child p s) s fine (omega arith) ∙ ap (λ xs. map stop_of xs) e ∙ sym (from_seen g 0 g (child p t) (child p t) t fine (omega arith))
 
-  pub paths_same : (p : ℕ) (g : Group) → Around w p g → (s t : Store) → Holds w s → Holds w t → PathsAgree w l p g s t → path w l p g s ≡ path w l p g t
-  paths_same p g around s t hs ht = (group_both g p (λ m a h. nth_both g m a h) around s t hs ht).1
+  unseen : (g : Group) (n i : ℕ) (s : Store) → from w l g n i s ≡ [] → seen_from w l g n s ≡ []
+  unseen None n i s e = refl
+  unseen (More (Node c b k) g) zero i s e = elim (cases_Bool (w.order.le (level w (own c) s) l)) [ inl low ↦ (let e' = rw low at e in cc) | inr high ↦ rw high refl ]
+  unseen (More (Node c b k) g) (suc n) i s e = unseen g n i s e
 
-  pub same_paths : (p : ℕ) (g : Group) → Around w p g → (s t : Store) → Holds w s → Holds w t → path w l p g s ≡ path w l p g t → PathsAgree w l p g s t
-  same_paths p g around s t hs ht = (group_both g p (λ m a h. nth_both g m a h) around s t hs ht).0
+  seen_below : (p : ℕ) (g : Group) (s t : Store) → ((n i : ℕ) → from w l g n i s ≡ from w l g n i t → seen_from w l g n s ≡ seen_from w l g n t) → path w l p g s ≡ path w l p g t → seen_from w l g (child p s) s ≡ seen_from w l g (child p t) t
+  seen_below p g s t below e = elim (path_cases w laws l g p p s t e) [
+    | inl same ↦ rw (← same) (below (child p s) (child p s) (rw (← same) at e))
+    | inr ended ↦ unseen g (child p s) (child p s) s ended.0 ∙ sym (unseen g (child p t) (child p t) t ended.1)
+  ]
+
+  seen_same : (g : Group) (n i : ℕ) (s t : Store) → from w l g n i s ≡ from w l g n i t → seen_from w l g n s ≡ seen_from w l g n t
+  seen_same None n i s t e = refl
+  seen_same (More (Node c b k) g) zero i s t e = elim (cases_Bool (w.order.le (level w (own c) s) l)) [
+    | inl low ↦ (
+        let h = heads w laws l i i c c k k s t e low in
+        let low' : Low w.order l (level w (own c) t) = subst (λ v. Low w.order l v) h.1 low in
+        rw (h.1, low', seen_below c k s t (λ n i. seen_same k n i s t) h.2) refl)
+    | inr high ↦ (let high' = sym (heads_low w laws l i i c c k k s t e) ∙ high in rw (high, high') refl)
+  ]
+  seen_same (More (Node c b k) g) (suc n) i s t e = seen_same g n i s t e
+
+  -- .. and where they are, the same is seen.
+  pub same_paths : (p : ℕ) (g : Group) (s t : Store) → path w l p g s ≡ path w l p g t → seen_from w l g (child p s) s ≡ seen_from w l g (child p t) t
+  same_paths p g s t e = seen_below p g s t (λ n i. seen_same g n i s t) e
 
   -- a cell of a part of a dynamic memory
   cell_alike : (cell : ℕ → Slot) (whole : Slot) (s t : Store) → ((i : ℕ) → home w (cell i) ≡ home w whole) → PartsAlike w l cell whole s t → (i : ℕ) → Same w.order l (number (cell i) s) (level w (cell i) s) (number (cell i) t) (level w (cell i) t)
@@ -144,11 +116,11 @@ module _ (p : Program) (laws : Laws p.world.order) (l : ℕ) where
   slots_same s t r (start_whole m) g n = cc
   slots_same s t r (next_whole m) g n = cc
 
-  pub states_agree : (s t : Store) → Around W (root W) p.states → Holds W s → Holds W t → Agree W l s t → path W l (root W) p.states s ≡ path W l (root W) p.states t → StatesAgree p l s t
-  states_agree s t around hs ht r e = record {
+  pub states_agree : (s t : Store) → Agree W l s t → path W l (root W) p.states s ≡ path W l (root W) p.states t → StatesAgree p l s t
+  states_agree s t r e = record {
     registers = λ x g. alike_of W.order l _ _ _ _ (r.cells (own x) (or_right (is_input W x) _ g));
     enforced_memories = λ m i g d. (alike_of W.order l _ _ _ _ (r.cells (start m i) g), alike_of W.order l _ _ _ _ (r.cells (next m i) g));
     dynamic_memories = λ m g d. (part_alike W laws l (start m) (start_whole m) s t (home_starts m d) (λ i. r.cells (start m i) g), part_alike W laws l (next m) (next_whole m) s t (home_nexts m d) (λ i. r.cells (next m i) g));
     enforced_levels = r.tags;
-    paths = same_paths W laws l (root W) p.states around s t hs ht e;
+    paths = same_paths W laws l (root W) p.states s t e;
   }

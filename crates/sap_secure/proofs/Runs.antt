@@ -130,9 +130,9 @@ module _ (p : Program) (fine : FineProgram p) (l : ℕ) where
       let s' = set_inputs p.world a s in
       let t' = set_inputs p.world b t in
       let like = agree_inputs s t a b r same in
-      let e = path_inputs s a ∙ paths_same p.world fine.order l (root p.world) p.states around s t rs.holds rt.holds r.paths ∙ sym (path_inputs t b) in
+      let e = path_inputs s a ∙ paths_same p.world fine.order l (root p.world) p.states around.fine s t r.paths ∙ sym (path_inputs t b) in
       let f = fall_pair p.world fine.order l (root p.world) p.states around fine.once s' t' (holds_inputs p.world s a fine.inputs rs.holds) (holds_inputs p.world t b fine.inputs rt.holds) like (even_inputs s a rs.rests) (even_inputs t b rt.rests) e in
-      (states_agree p fine.order l _ _ around (cycle_rests p fine a s rs).holds (cycle_rests p fine b t rt).holds (agree_settle _ _ f.twin.same) (path_settle _ ∙ f.path ∙ sym (path_settle _)), f.twin.refused)
+      (states_agree p fine.order l _ _ (agree_settle _ _ f.twin.same) (path_settle _ ∙ f.path ∙ sym (path_settle _)), f.twin.refused)
 
 pub one_cycle_law : OneCycle
 one_cycle_law p fine l s t rs rt r a b same = cycle_pair p fine l s t rs rt r a b same
@@ -146,8 +146,8 @@ later_law p fine l s t rs rt r (a ∷ as') (b ∷ bs) same =
     (f.0, f.1, later_law p fine l (cycle p a s).store (cycle p b t).store (cycle_rests p fine a s rs) (cycle_rests p fine b t rt) f.0 as' bs same.1)
 
 -- a state agrees with itself
-pub agrees_itself : (p : Program) → FineProgram p → (l : ℕ) (s : Store) → Resting p.world s → StatesAgree p l s s
-agrees_itself p fine l s r = states_agree p fine.order l s s (around_root p.world p.states fine.states fine.count) r.holds r.holds (agree_self p.world fine.order l s) refl
+pub agrees_itself : (p : Program) → FineProgram p → (l : ℕ) (s : Store) → StatesAgree p l s s
+agrees_itself p fine l s = states_agree p fine.order l s s (agree_self p.world fine.order l s) refl
 
 pub labelled_law : LabelledRunsAgree
-labelled_law p fine l a b same = later_law p fine l (first p.world) (first p.world) (first_rests p fine) (first_rests p fine) (agrees_itself p fine l (first p.world) (first_rests p fine)) a b same
+labelled_law p fine l a b same = later_law p fine l (first p.world) (first p.world) (first_rests p fine) (first_rests p fine) (agrees_itself p fine l (first p.world)) a b same

@@ -47,17 +47,13 @@ pub record Cover (w : World) (l e : ℕ) (g : Group) (h : ℕ → Bool) (s : Sto
 
 pub child_level_nth : (w : World) (g : Group) (n : ℕ) (a : State) (s : Store) → Nth g n a → child_level w g n s ≡ level w (own (number_of a)) s
 child_level_nth w None n a s h = absurd h
-child_level_nth w (More (Node c b k) None) zero a s h = ap (λ x. level w (own (number_of x)) s) h
-child_level_nth w (More (Node c b k) None) (suc n) a s h = absurd h
-child_level_nth w (More (Node c b k) (More t g)) zero a s h = ap (λ x. level w (own (number_of x)) s) h
-child_level_nth w (More (Node c b k) (More t g)) (suc n) a s h = child_level_nth w (More t g) n a s h
+child_level_nth w (More (Node c b k) g) zero a s h = ap (λ x. level w (own (number_of x)) s) h
+child_level_nth w (More (Node c b k) g) (suc n) a s h = child_level_nth w g n a s h
 
 pub child_opens_nth : (w : World) (g : Group) (n : ℕ) (a : State) (pc : ℕ) (s : Store) → Nth g n a → child_opens w g n pc s ≡ opens w (number_of a) pc s
 child_opens_nth w None n a pc s h = absurd h
-child_opens_nth w (More (Node c b k) None) zero a pc s h = ap (λ x. opens w (number_of x) pc s) h
-child_opens_nth w (More (Node c b k) None) (suc n) a pc s h = absurd h
-child_opens_nth w (More (Node c b k) (More t g)) zero a pc s h = ap (λ x. opens w (number_of x) pc s) h
-child_opens_nth w (More (Node c b k) (More t g)) (suc n) a pc s h = child_opens_nth w (More t g) n a pc s h
+child_opens_nth w (More (Node c b k) g) zero a pc s h = ap (λ x. opens w (number_of x) pc s) h
+child_opens_nth w (More (Node c b k) g) (suc n) a pc s h = child_opens_nth w g n a pc s h
 
 pub touched_in : (d a b : Bool) → (a ≡ true → b ≡ true) → (d && a) ≡ true → (d && b) ≡ true
 touched_in true a b f h = f h

@@ -17,7 +17,7 @@ use Rattle.sap_secure.proofs.Apart.{found, hung, unassigned, group_unassigned, i
 use Rattle.sap_secure.proofs.Concerns.{concerns, hanging}
 use Rattle.sap_secure.proofs.Sites.{Around, Site, spot, Proper, ProperBlock, Ended, Shut, node, own_fine, kids_around, around_root, proper_body, fine_command, not_own, no_kid, ProperArms}
 use Rattle.sap_secure.proofs.Frames.{Kept, child_under, under_kept}
-use Rattle.sap_secure.proofs.Confined.{Confined, Quiet, changing_no_state, site_at, keeps, does_confined}
+use Rattle.sap_secure.proofs.Confined.{Confined, Quiet, changing_no_state, site_at, does_confined}
 use Rattle.sap_secure.proofs.Walks.{path, path_here, path_high, nth_among}
 use Rattle.sap_secure.proofs.Still.{Scene, Cover, clear_path, does_still}
 use Rattle.sap_secure.proofs.Over.{nth_inside, nth_below, scene_at}
@@ -331,7 +331,7 @@ module _ (w : World) (laws : Laws w.order) (l : ℕ) (i : Site w) (c : Command) 
 pub confinement_law : Confinement
 unfolding scene_at
 confinement_law p fine l s way e b g c pc h =
-    (states_agree p fine.order l s _ top h.holds (keeps w laws l i sc.entering sc.holding c proper.0 pc s h.holds) conf.same (sym (way_path w laws l (root w) p.states s _ way (Node e b g) h.active (all_kept w laws l s e b g c h.command pc (root w) p.states top way h.active) below')), conf.quiet)
+    (states_agree p fine.order l s _ conf.same (sym (way_path w laws l (root w) p.states s _ way (Node e b g) h.active (all_kept w laws l s e b g c h.command pc (root w) p.states top way h.active) below')), conf.quiet)
   where
     w : World
     w = p.world

@@ -1,7 +1,7 @@
 -- What the code's parts do, in the words of the labelled meaning.
-use Rattle.std.specs.Prelude.{ℕ, zero, suc, ◌<◌, ◌≤◌, List, [], ◌∷◌, Option, Some, nat_eq, slice_set, if◌then◌else◌}
+use Rattle.std.specs.Prelude.{ℕ, ◌<◌, ◌≤◌, List, [], ◌∷◌, Option, Some, nat_eq, slice_set, if◌then◌else◌}
 use Rattle.sap_maps.specs.Term.{Term}
-use Rattle.sap_meaning.specs.Program.{World, root, is_dynamic, place, listed, LevelTerm, Last, Block, Node, Group, None, More}
+use Rattle.sap_meaning.specs.Program.{World, root, is_dynamic, place, listed, LevelTerm, Last, Block}
 use Rattle.sap_meaning.specs.Program as program
 use Rattle.sap_meaning.specs.Store.{Store, own, start, next, number, level, child, put_number, put_level, put_child, raise, reset, Refusal, After}
 use Rattle.sap_meaning.specs.Expressions.{value, tag, new_level}
@@ -21,13 +21,6 @@ use Rattle.sap_sem.specs.declared.setting.Spot.{Spot}
 use Rattle.sap_sem.specs.declared.effects.Raise.{Raise}
 use Rattle.sap_sem.specs.Able.{AbleCommand, AbleArms, AbleBlock, AbleState, AbleGroup}
 use Rattle.sap_sem.specs.Code.{program_of, world_in, entities_in, spot_in}
-
--- the child of a group at a place; the last one stands for all later places
-abbrev pub current_in : Group → ℕ → ℕ
-current_in None n = 0
-current_in (More (Node c b k) None) n = c
-current_in (More (Node c b k) (More t g)) zero = c
-current_in (More (Node c b k) (More t g)) (suc n) = current_in (More t g) n
 
 -- what hangs is raised
 abbrev pub raised_by : Setting → Raise → Store → Store

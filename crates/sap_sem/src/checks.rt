@@ -1,12 +1,11 @@
 //! The tests and the guards of steps.
 
-ghost use Rattle.std.specs.Prelude.{◌≡◌, ◌<◌, ℕ, length};
+ghost use Rattle.std.specs.Prelude.{◌≡◌};
 ghost use Rattle.sap_meaning.specs.Checks as checks;
 ghost use Rattle.sap_program.specs.Views as views;
 ghost use Rattle.sap_sem.specs.Able.{AbleStep};
 ghost use Rattle.sap_sem.specs.Code.{entities_in, spot_in, store_in, world_in};
 ghost use Rattle.sap_sem.specs.Kept.{Ready};
-ghost use Rattle.sap_sem.specs.Runs.{current_in};
 
 use crate::entries::{child, own, start_cell};
 use crate::setting::{Setting, Spot};
@@ -16,21 +15,7 @@ use crate::world::{authority, entry, is_dynamic};
 use sap_lattice::level::Level;
 use sap_program::program::{State, Step};
 
-/// The number of the child at a place; the last one stands for all later places.
-#[tactic(auto, using(crate::proofs::Children::current))]
-fn current(children: &[State], n: usize) -> usize
-    requires { 0 < length children.now }
-    ensures { (m : ℕ) → result ≡ current_in (views.group_of m children.now) n }
-{
-    let last = children.len() - 1;
-    if n < last {
-        children[n].number
-    } else {
-        children[last].number
-    }
-}
-
-/// The level of the child at a place, likewise.
+/// The level of the child at a place, the bottom where there is none.
 #[tactic(auto, using(crate::proofs::Children::levels))]
 pub(crate) fn child_level(
     setting: &Setting<'_>,
@@ -40,10 +25,10 @@ pub(crate) fn child_level(
 ) -> Level
     ensures { result ≡ checks.child_level (world_in setting.now) (views.group_of (entities_in setting.now) children.now) n (store_in setting.now store.now) }
 {
-    if children.is_empty() {
-        setting.lattice.bottom()
+    if n < children.len() {
+        own(setting, store, children[n].number).level
     } else {
-        own(setting, store, current(children, n)).level
+        setting.lattice.bottom()
     }
 }
 
@@ -57,7 +42,7 @@ fn opens(setting: &Setting<'_>, store: &Store, state: usize, context: Level) -> 
             .le(context, own(setting, store, state).level)
 }
 
-/// Whether the child at a place may.
+/// Whether the child at a place may; where there is none, it may.
 #[tactic(auto, using(crate::proofs::Children::opening))]
 fn child_opens(
     setting: &Setting<'_>,
@@ -68,7 +53,7 @@ fn child_opens(
 ) -> bool
     ensures { result ≡ checks.child_opens (world_in setting.now) (views.group_of (entities_in setting.now) children.now) n context (store_in setting.now store.now) }
 {
-    children.is_empty() || opens(setting, store, current(children, n), context)
+    n >= children.len() || opens(setting, store, children[n].number, context)
 }
 
 /// The level of what is overwritten, and of whether.

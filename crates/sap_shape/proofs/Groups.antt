@@ -40,7 +40,7 @@ module _ (es : List Entity) (group : List State) (above : List (List ℕ)) where
 
   pub state_shape-is : (s : State) → state_shape es (states_of group) above (state_of s)
       ≡ closing_list (out-State s).body.commands.items (out-State s).body.after
-      ++ list_shape es (record { name = (out-State s).name.name; kind = (out-State s).kind; group = states_of group; children = states_of (out-State s).children.items; above = above })
+      ++ list_shape es (record { home = record { name = (out-State s).name.name; kind = (out-State s).kind; children = states_of (out-State s).children.items }; group = states_of group; above = above })
       (out-State s).body.commands.items
       ++ group_shape es (out-State s).children.items ((out-State s).name.name ∷ above) (out-State s).children.items
   unfolding closing_list list_shape group_shape

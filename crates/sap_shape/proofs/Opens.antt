@@ -1,7 +1,7 @@
 -- The faults of lists that must be open or must close.
 use Rattle.std.proofs.Common.{◌≡◌, ℕ, zero, suc, ◌+◌, ◌-◌, ◌<◌, ◌≤◌, List, [], ◌∷◌, ◌++◌, length, get_or, take, drop, refl, sym, ap, ◌∙◌, arith, add-one, Some, true, append_assoc}
 use Rattle.std.specs.Prelude.{Option}
-use Rattle.sap_tree.specs.declared.place.Place.{Place}
+use Rattle.sap_text.specs.declared.place.Place.{Place}
 use Rattle.sap_tree.specs.declared.syntax.Arm.{Arm}
 use Rattle.sap_tree.specs.declared.syntax.Cmd.{Cmd}
 use Rattle.sap_tree.specs.declared.syntax.Block.{Block}

@@ -4,7 +4,7 @@ use Rattle.std.specs.Prelude.{Option}
 use Rattle.sap_tree.specs.declared.syntax.Arm.{Arm}
 use Rattle.sap_tree.specs.declared.syntax.Cmd.{Cmd}
 use Rattle.sap_tree.specs.declared.syntax.Block.{Block}
-use Rattle.sap_tree.specs.declared.place.Place.{Place}
+use Rattle.sap_text.specs.declared.place.Place.{Place}
 use Rattle.sap_tree.specs.Syntax.{Expression, Command, Case}
 use Rattle.sap_tree.specs.Trees.{command_of, block_of, arm_block_of, arms_of, else_of}
 use Rattle.sap_names.specs.declared.fault.Fault.{Fault}

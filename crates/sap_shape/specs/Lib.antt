@@ -4,6 +4,6 @@ pub mod Paths
 pub mod Walk
 pub mod ShapeFaults
 pub mod Lists
-pub mod Homes
+pub mod Positions
 pub mod Examples
 pub mod WellFormed

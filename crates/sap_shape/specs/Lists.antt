@@ -1,6 +1,6 @@
 -- The faults of shape, and the check sites, of lists of commands and of states.
 use Rattle.std.specs.Prelude.{ℕ, List, [], ◌∷◌, ◌++◌, Bool, false, ◌||◌}
-use Rattle.sap_tree.specs.declared.place.Place.{Place}
+use Rattle.sap_text.specs.declared.place.Place.{Place}
 use Rattle.sap_tree.specs.declared.syntax.Arm.{Arm}
 use Rattle.sap_tree.specs.declared.syntax.Cmd.{Cmd}
 use Rattle.sap_tree.specs.declared.syntax.State.{State}
@@ -14,7 +14,7 @@ use Rattle.sap_shape.specs.Walk as paths
 use Rattle.sap_shape.specs.Walk.{Written, fresh, either}
 use Rattle.sap_shape.specs.ShapeFaults as shape
 use Rattle.sap_shape.specs.Sites as sites
-use Rattle.sap_shape.specs.Sites.{Home, CheckSite}
+use Rattle.sap_shape.specs.Sites.{Context, CheckSite}
 use Rattle.sap_shape.specs.ShapeFaults.{Body, is_in}
 
 unfoldable pub open_list : List Cmd → List Fault
@@ -78,7 +78,7 @@ unfoldable pub second_arms : List Arm → Written → List Fault
 second_arms [] p = []
 second_arms (arm ∷ arms) p = paths.second_block (arm_block_of arm) p ++ second_arms arms p
 
-unfoldable pub arms_sites : Home → List Arm → List CheckSite
+unfoldable pub arms_sites : Context → List Arm → List CheckSite
 arms_sites h [] = []
 arms_sites h (arm ∷ arms) = sites.block_sites h (arm_block_of arm) ++ arms_sites h arms
 

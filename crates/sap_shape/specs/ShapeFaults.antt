@@ -1,8 +1,8 @@
 -- The faults of shape, E10 to E17: each sentence once, over the tree of a design without faults of names and widths.
 use Rattle.std.specs.Prelude.{◌⊎◌, ℕ, List, [], ◌∷◌, ◌++◌, Bool, true, false, not, ◌||◌, if◌then◌else◌, bytes_eq}
-use Rattle.sap_tree.specs.declared.place.Place.{Place}
-use Rattle.sap_tree.specs.declared.syntax.Kind.{Kind}
+use Rattle.sap_text.specs.declared.place.Place.{Place}
 use Rattle.sap_tree.specs.Syntax.{SimpleCommand, Assign, Write, SetTag, SetCellTag, Goto, Fall, Command, Do, Try, If, TryThen, Case, Arms, Last, Arm, CommandBlock, Commands, ElseBlock, NoElse, Else, CommandList, NoCommand, AndCommand, StateTree, StateOf, StateList, NoState, AndState, DesignTree}
+use Rattle.sap_tree.specs.Touches.{Home, home_of}
 use Rattle.sap_names.specs.declared.fault.Fault.{Fault}
 use Rattle.sap_names.specs.declared.kind.Code.TheVariants.{E11, E12, E15, E16, E17}
 use Rattle.sap_names.specs.NameFaults.{fault_if}
@@ -13,12 +13,10 @@ use Rattle.sap_shape.specs.Sites.{is_site, is_dynamic}
 use Rattle.sap_names.specs.Fault.{StandsIn, Before}
 use Rattle.sap_shape.specs.Paths.{PathFault}
 
--- where a body stands: its state's kind, the group it is of, its children, and the states above it
+-- where a body stands: its state, the group that the state is of, and the names of the states above it
 pub record Body : Type 0 where
-  pub name : List ℕ
-  pub kind : Kind
+  pub home : Home
   pub group : StateList
-  pub children : StateList
   pub above : List (List ℕ)
 
 abbrev pub name_of : StateTree → List ℕ
@@ -47,7 +45,7 @@ is_leaf (AndState s rest) = false
 
 -- the state of a body, an ancestor of it, or a descendant
 abbrev pub is_comparable : Body → List ℕ → Bool
-is_comparable at name = bytes_eq at.name name || is_in at.above name || is_in_group at.children name
+is_comparable at name = bytes_eq at.home.name name || is_in at.above name || is_in_group at.home.children name
 
 -- E11 a target of a `goto` in another group; E12 a `fall` in a leaf; E16 a `setTag` of a dynamic entity; E17 a `setTag` of a comparable state
 abbrev pub simple_shape : List Entity → Body → SimpleCommand → List Fault
@@ -57,18 +55,18 @@ simple_shape es at (SetTag place target tag) =
     fault_if (is_dynamic es target.name) E16 target.place ++ fault_if (is_comparable at target.name) E17 target.place
 simple_shape es at (SetCellTag place target index tag) = fault_if (is_dynamic es target.name) E16 target.place
 simple_shape es at (Goto place target) = fault_if (not (is_among at.group target.name)) E11 target.place
-simple_shape es at (Fall place) = fault_if (is_leaf at.children) E12 place
+simple_shape es at (Fall place) = fault_if (is_leaf at.home.children) E12 place
 
 -- A command with `then`: E15 stands at the `then` where the command can't be refused. Of a transfer nothing stands here: it has E10 at its `then`.
 abbrev pub then_shape : List Entity → Body → SimpleCommand → Place → List Fault
-then_shape es at k place = if is_transfer k then [] else (simple_shape es at k ++ fault_if (not (is_site es at.kind at.children k)) E15 place)
+then_shape es at k place = if is_transfer k then [] else (simple_shape es at k ++ fault_if (not (is_site es at.home.kind at.home.children k)) E15 place)
 
 abbrev mutual
   pub command_shape : List Entity → Body → Command → List Fault
   command_shape es at (Do k) = simple_shape es at k
   -- E15: a handler that can never run
   command_shape es at (Try k place handler) =
-      simple_shape es at k ++ fault_if (not (is_site es at.kind at.children k)) E15 place ++ block_shape es at handler
+      simple_shape es at k ++ fault_if (not (is_site es at.home.kind at.home.children k)) E15 place ++ block_shape es at handler
   command_shape es at (If place condition then_block else_block) = block_shape es at then_block ++ else_shape es at else_block
   command_shape es at (TryThen k place accepted refused) = then_shape es at k place ++ block_shape es at accepted ++ block_shape es at refused
   command_shape es at (Case place e arms) = arms_shape es at arms
@@ -93,7 +91,7 @@ abbrev mutual
   pub state_shape : List Entity → (group : StateList) → (above : List (List ℕ)) → StateTree → List Fault
   state_shape es group above (StateOf place name kind body children) =
       closing_faults body
-      ++ block_shape es (record { name = name.name; kind = kind; group = group; children = children; above = above }) body
+      ++ block_shape es (record { home = home_of (StateOf place name kind body children); group = group; above = above }) body
       ++ states_shape es children (name.name ∷ above) children
 
   pub states_shape : List Entity → (group : StateList) → (above : List (List ℕ)) → StateList → List Fault

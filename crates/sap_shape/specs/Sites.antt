@@ -4,6 +4,7 @@ use Rattle.std.specs.Prelude.{List, [], ◌∷◌, ◌++◌, Bool, true, false, 
 use Rattle.sap_tree.specs.declared.syntax.Kind.{Kind}
 use Rattle.sap_tree.specs.declared.syntax.Kind.TheVariants.{Dynamic, Enforced}
 use Rattle.sap_tree.specs.Syntax.{SimpleCommand, Assign, Write, SetTag, SetCellTag, Goto, Fall, Command, Do, Try, If, TryThen, Case, Arms, Last, Arm, CommandBlock, Commands, ElseBlock, NoElse, Else, CommandList, NoCommand, AndCommand, StateTree, StateOf, StateList, NoState, AndState, DesignTree}
+use Rattle.sap_tree.specs.Touches.{Home, home_of}
 use Rattle.sap_names.specs.declared.entity.Entity.{Entity}
 use Rattle.sap_names.specs.Entities.{find, enforced_of, dynamic_of, entities_of}
 
@@ -35,40 +36,38 @@ is_site es here children (SetCellTag place target index tag) = true
 is_site es here children (Goto place target) = is_enforced_kind here || is_enforced es target.name
 is_site es here children (Fall place) = any_enforced children
 
--- where a command stands: the entities of its design, and the name, kind and children of the state in whose body it is
-pub record Home : Type 0 where
+-- where a command stands: the entities of its design, and the state in whose body it is
+pub record Context : Type 0 where
   pub entities : List Entity
-  pub name : List ℕ
-  pub kind : Kind
-  pub children : StateList
+  pub home : Home
 
 pub record CheckSite : Type 0 where
-  pub home : Home
+  pub context : Context
   pub command : SimpleCommand
 
-abbrev pub simple_sites : Home → SimpleCommand → List CheckSite
-simple_sites h k = let s : CheckSite = record { home = h; command = k } in if is_site h.entities h.kind h.children k then s ∷ [] else []
+abbrev pub simple_sites : Context → SimpleCommand → List CheckSite
+simple_sites h k = let s : CheckSite = record { context = h; command = k } in if is_site h.entities h.home.kind h.home.children k then s ∷ [] else []
 
 abbrev mutual
-  pub command_sites : Home → Command → List CheckSite
+  pub command_sites : Context → Command → List CheckSite
   command_sites h (Do k) = simple_sites h k
   command_sites h (Try k place handler) = simple_sites h k ++ block_sites h handler
   command_sites h (If place condition then_block else_block) = block_sites h then_block ++ else_sites h else_block
   command_sites h (TryThen k place accepted refused) = simple_sites h k ++ (block_sites h accepted ++ block_sites h refused)
   command_sites h (Case place e arms) = arms_sites h arms
 
-  pub block_sites : Home → CommandBlock → List CheckSite
+  pub block_sites : Context → CommandBlock → List CheckSite
   block_sites h (Commands cs after) = list_sites h cs
 
-  pub else_sites : Home → ElseBlock → List CheckSite
+  pub else_sites : Context → ElseBlock → List CheckSite
   else_sites h NoElse = []
   else_sites h (Else b) = block_sites h b
 
-  pub arms_sites : Home → Arms → List CheckSite
+  pub arms_sites : Context → Arms → List CheckSite
   arms_sites h (Last b) = block_sites h b
   arms_sites h (Arm constants b arms) = block_sites h b ++ arms_sites h arms
 
-  pub list_sites : Home → CommandList → List CheckSite
+  pub list_sites : Context → CommandList → List CheckSite
   list_sites h NoCommand = []
   list_sites h (AndCommand c cs) = command_sites h c ++ list_sites h cs
 
@@ -76,7 +75,7 @@ abbrev mutual
 abbrev mutual
   pub state_sites : List Entity → StateTree → List CheckSite
   state_sites es (StateOf place name kind body children) =
-      block_sites (record { entities = es; name = name.name; kind = kind; children = children }) body ++ states_sites es children
+      block_sites (record { entities = es; home = home_of (StateOf place name kind body children) }) body ++ states_sites es children
 
   pub states_sites : List Entity → StateList → List CheckSite
   states_sites es NoState = []

@@ -8,7 +8,7 @@ ghost use Rattle.sap_names.specs.declared.kind.Code.{Code};
 ghost use Rattle.sap_shape.specs.Lists.{shape_faults};
 ghost use Rattle.sap_shape.specs.ShapeFaults.{HasShape, IsFirstShapeFault};
 ghost use Rattle.sap_tree.specs.Designs.{design_of};
-ghost use Rattle.sap_tree.specs.declared.place.Place.{Place};
+ghost use Rattle.sap_text.specs.declared.place.Place.{Place};
 
 use crate::states::{group_paths, group_shape};
 use crate::written::Written;

@@ -12,7 +12,7 @@ use crate::body::list_shape;
 use crate::closing::closing_list;
 use crate::falls::has_fall;
 use crate::paths::list_paths;
-use crate::place::Home;
+use crate::place::Position;
 use crate::written::Written;
 use sap_names::fault::Fault;
 use sap_names::table::Names;
@@ -46,14 +46,14 @@ fn state_shape(
 {
     let commands = state.body.commands.as_slice();
     closing_list(commands, state.body.after, best);
-    let home = Home {
+    let position = Position {
         name: &state.name.name,
         kind: &state.kind,
         group,
         children: state.children.as_slice(),
         above,
     };
-    list_shape(names, &home, commands, best);
+    list_shape(names, &position, commands, best);
     let below = below(alloc, &state.name.name, above)?;
     group_shape(
         alloc,

@@ -4,7 +4,7 @@ ghost use Rattle.std.specs.Prelude.{◌≡◌, IfOk, OnOk};
 ghost use Rattle.sap_shape.specs.Lists.{written_in};
 ghost use Rattle.sap_shape.specs.Walk.{either, fresh, writing};
 
-use crate::home::is_in;
+use crate::position::is_in;
 use sap_tree::name::Name;
 use std::alloc::{AllocError, Global};
 use std::marker::Model;

@@ -15,7 +15,7 @@ use Rattle.sap_lemmas.proofs.Lists.{quoted_length, take_front}
 use Rattle.sap_lemmas.proofs.Numbers.{test_of_positive}
 use Rattle.sap_lemmas.proofs.Texts.{digits_model}
 use Rattle.std.proofs.lemmas.Bool.{and_from, and_left, and_parts, not-true, or_parts}
-use Rattle.sap_tree.proofs.WordsLemmas.{initial_inner}
+use Rattle.sap_text.proofs.NamesLemmas.{initial_inner}
 use Rattle.sap_parse.specs.Lexing.{kind_by, later_kind}
 use Rattle.sap_parse.specs.Lexemes.{is_blank, is_comment, clings, word_or_name, name_at, value_after, value_of, number_of, number_lexeme, sized_lexeme, sized_in, sized_at, number_at, sign_or, sign_at, lexeme_of}
 use Rattle.sap_parse.specs.Spelling.{later_word_of, sign_text, word_of}

@@ -15,7 +15,7 @@ use Rattle.sap_tree.specs.Spots.{first_of, enclosed}
 use Rattle.sap_tree.specs.Syntax.{Expression, Expressions, Number, Sized, Read, Cell, Unary, Binary, Choose, Slice, Concat, Zext, NoPart, AndPart}
 use Rattle.sap_tree.specs.Whole.{is_expression, are_expressions, has_two_parts, is_number}
 use Rattle.sap_tree.specs.Words.{is_name}
-use Rattle.sap_tree.specs.declared.place.Place.{Place}
+use Rattle.sap_text.specs.declared.place.Place.{Place}
 use Rattle.sap_tree.specs.declared.syntax.BinaryOperator.TheVariants as b
 use Rattle.sap_tree.specs.declared.syntax.BinaryOperator.{BinaryOperator}
 use Rattle.sap_tree.specs.declared.version.Version.{Version}

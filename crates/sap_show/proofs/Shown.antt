@@ -7,7 +7,8 @@ use Rattle.std.proofs.lemmas.List.{append-nil}
 use Rattle.sap_walk.specs.Reached as walk
 use Rattle.sap_walk.specs.Limits.{Past, passed, first_of}
 use Rattle.sap_parse.specs.Lexemes.{lexeme_of}
-use Rattle.sap_parse.specs.Lexing.{Reached, StandsAt, keyed, later_token, place_of, with_kind}
+use Rattle.sap_parse.specs.Lexing.{Reached, StandsAt, keyed, later_token, with_kind}
+use Rattle.sap_text.specs.Places.{place_at}
 use Rattle.sap_parse.specs.Limits.{Counts, tally, breach, breach_of_name, breach_of_role, ◌or_else◌}
 use Rattle.sap_parse.specs.Stages.{Stage, IsToken, at_start}
 use Rattle.sap_parse.specs.Text.{IsText}
@@ -40,11 +41,11 @@ use Rattle.sap_tree.specs.declared.version.Version.{Version}
 use Rattle.sap_tree.specs.declared.word.Word.TheVariants as w
 
 abbrev pub token_at : List ℕ → ℕ → Kind → Token
-token_at text n kind = record { kind = kind; place = place_of text n; from = n; to = n + length (kind_bytes kind) }
+token_at text n kind = record { kind = kind; place = place_at text n; from = n; to = n + length (kind_bytes kind) }
 
 -- as it is taken, before the words of the second version are made
 abbrev pub raw_at : List ℕ → ℕ → Kind → Token
-raw_at text n kind = record { kind = raw kind; place = place_of text n; from = n; to = n + length (kind_bytes kind) }
+raw_at text n kind = record { kind = raw kind; place = place_at text n; from = n; to = n + length (kind_bytes kind) }
 
 -- the tokens of pieces that begin at byte n of a text
 abbrev pub tokens_at : List ℕ → ℕ → List Piece → List Token

@@ -13,7 +13,7 @@ use Rattle.sap_tree.specs.Syntax
 use Rattle.sap_tree.specs.Syntax.{Expression, Expressions, TagExpression, TagExpressions, StateTree}
 use Rattle.sap_tree.specs.Trees.{expression_of, expressions_of, tag_of, tags_of, command_of, block_of, else_of, constants_of, arm_block_of, arms_of, state_of}
 use Rattle.sap_tree.specs.declared.name.Mention.{Mention}
-use Rattle.sap_tree.specs.declared.place.Place.{Place}
+use Rattle.sap_text.specs.declared.place.Place.{Place}
 use Rattle.sap_tree.specs.declared.place.Spot.{Spot}
 use Rattle.sap_tree.specs.declared.syntax.BinaryOperator.{BinaryOperator}
 use Rattle.sap_tree.specs.declared.syntax.UnaryOperator.{UnaryOperator}

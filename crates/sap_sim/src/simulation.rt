@@ -77,7 +77,8 @@ fn push_held(
 impl Simulation {
     /// A netlist before the first line, its levels those of a lattice.
     pub fn new(alloc: Global, lattice: &Lattice, netlist: Netlist) -> Result<Simulation, AllocError>
-        ensures { IfOk result (IsAfter lattice.now netlist []) }
+        ensures after { IfOk result (IsAfter lattice.now netlist []) }
+        ensures least { IfOk result (λ s. (other : ℕ) → HoldsRows lattice.now s.plan.shown.names.items other → s.room ≤ other) }
     {
         netlist.rules();
         let tag = lattice.width();
@@ -113,7 +114,7 @@ impl Simulation {
         &self.fields
     }
 
-    /// For how many bytes a buffer needs room to take any row.
+    /// For how many bytes a buffer needs room to take any row: `new` makes it the fewest.
     pub fn room(&self) -> usize
         ensures { result ≡ self.now.room }
     {

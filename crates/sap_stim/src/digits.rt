@@ -1,9 +1,10 @@
-//! The decimal digits of a number, written from the last to the first, two at a time.
+//! A number in decimal digits, without memory. They are written from the last to the first, two at a time.
 
 ghost use Rattle.std.specs.Prelude.{◌≡◌, ◌+◌, ◌/◌, ◌%◌, ◌<◌, ◌≤◌, ◌∷◌, ◌++◌, drop, length};
 ghost use Rattle.std.specs.Fmt.{decimal};
 
 use crate::MOST_DIGITS;
+use std::marker::Model;
 
 // The two digits of each number below 100.
 static PAIRS: [u8; 200] =
@@ -36,8 +37,8 @@ fn write_first(left: u64, bytes: &mut [u8], end: usize) -> usize
     end - 2
 }
 
-/// Writes the digits of a number to the end of the bytes, and tells where they start.
-pub(crate) fn write_digits(number: u64, bytes: &mut [u8; MOST_DIGITS]) -> usize
+// Writes the digits of a number to the end of the bytes, and tells where they start.
+fn write_digits(number: u64, bytes: &mut [u8; MOST_DIGITS]) -> usize
     ensures text { drop result bytes.new ≡ decimal number }
     ensures within { result ≤ MOST_DIGITS }
 {
@@ -49,4 +50,38 @@ pub(crate) fn write_digits(number: u64, bytes: &mut [u8; MOST_DIGITS]) -> usize
         left /= 100;
     }
     write_first(left, bytes, start)
+}
+
+/// The decimal digits of a number. They stand at the end of the array.
+#[derive(Drop)]
+pub struct Digits {
+    bytes: [u8; MOST_DIGITS],
+    start: usize,
+}
+
+impl Model for Digits {
+    ghost use Rattle.std.specs.Prelude.{ℕ, List, ◌≤◌, drop, length};
+
+    ghost Value = { List ℕ };
+
+    ghost view = { λ d. drop d.start d.bytes };
+
+    ghost invariant = { λ d. d.start ≤ length d.bytes };
+}
+
+impl Digits {
+    /// It takes no memory.
+    pub fn new(number: u64) -> Digits
+        ensures { result ≡ decimal number }
+    {
+        let mut bytes = [0u8; MOST_DIGITS];
+        let start = write_digits(number, &mut bytes);
+        Digits { bytes, start }
+    }
+
+    pub fn as_bytes(&self) -> &[u8]
+        ensures { result.now ≡ self.now }
+    {
+        &self.bytes[self.start..]
+    }
 }

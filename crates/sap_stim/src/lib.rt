@@ -5,7 +5,7 @@
 #![tactic(auto)]
 
 mod count;
-mod digits;
+pub mod digits;
 pub mod fault;
 pub mod field;
 mod line;

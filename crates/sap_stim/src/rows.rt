@@ -5,8 +5,7 @@ ghost use Rattle.std.specs.Fmt.{decimal};
 ghost use Rattle.sap_lattice.specs.Closure.{name_at};
 ghost use Rattle.sap_stim.specs.Rows.{row_room, row_text, shown, shown_of, shown_text, level_coded, level_text, all_shown};
 
-use crate::MOST_DIGITS;
-use crate::digits::write_digits;
+use crate::digits::Digits;
 use sap_desk::{Bytes, RowBuf};
 use sap_lattice::lattice::Lattice;
 use sap_lattice::level::Level;
@@ -23,9 +22,8 @@ pub fn number(out: &mut Vec<u8>, n: u64) -> Result<(), AllocError>
         out.push(b'0' + n as u8)?;
         return Ok(());
     }
-    let mut bytes = [0u8; MOST_DIGITS];
-    let start = write_digits(n, &mut bytes);
-    out.extend_from_slice(&bytes[start..])
+    let digits = Digits::new(n);
+    out.extend_from_slice(digits.as_bytes())
 }
 
 /// The level whose code is the tag.

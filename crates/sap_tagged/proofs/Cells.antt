@@ -43,6 +43,7 @@ module _ (d : Setting) (widths : Name → ℕ) (laws : Lawful d widths) where
     value = λ x h. ap (λ w. w.value (d.name (Value x))) e ∙ st.value x h;
     tag = λ x h. ap (λ w. w.value (d.name (Tag x))) e ∙ st.tag x h;
     seat = λ x h. ap (λ w. w.value (d.name (Seat x))) e ∙ st.seat x h;
+    seated = st.seated;
     starts = λ k j h. ap (λ w. w.cell (d.name (Value k)) j) e ∙ st.starts k j h;
     start_tags = λ k j h t. ap (λ w. w.cell (d.name (Tag k)) j) e ∙ st.start_tags k j h t;
     start_tag = λ k h. ap (λ w. w.value (d.name (First k))) e ∙ st.start_tag k h;
@@ -59,6 +60,7 @@ module _ (d : Setting) (widths : Name → ℕ) (laws : Lawful d widths) where
     value = λ x h. ap (λ w. w.value (d.name (Value x))) e ∙ st.value x h;
     tag = λ x h. ap (λ w. w.value (d.name (Tag x))) e ∙ st.tag x h ∙ ap d.code (sym (other (tag_slot d.world x) (no_cell x)));
     seat = λ x h. ap (λ w. w.value (d.name (Seat x))) e ∙ st.seat x h;
+    seated = st.seated;
     starts = λ k j h. ap (λ w. w.cell (d.name (Value k)) j) e ∙ st.starts k j h;
     start_tags = λ k j h q. ap (λ w. w.cell (d.name (Tag k)) j) e ∙ st.start_tags k j h q ∙ ap d.code (sym (other (start k j) refl));
     start_tag = λ k h. ap (λ w. w.value (d.name (First k))) e ∙ st.start_tag k h ∙ ap d.code (sym (other (start_whole k) refl));

@@ -239,6 +239,7 @@ module _ (d : Named) (tag sites : ℕ) (design : Design d tag sites) where
     numbers : (x : ℕ) → is_register w x ≡ true → first_number before (value_register x) ≡ t.number (own x)
     levels : (x : ℕ) → has_tag w x ≡ true → is_input w x ≡ false → first_number before (tag_register x) ≡ d.code (t.level (tag_slot w x))
     seats : (q : ℕ) → 0 < children w q → first_number before (seat_var d q) ≡ t.child q
+    seated : (q : ℕ) → 0 < children w q → t.child q < children w q
     cells : (m i : ℕ) → is_memory w m ≡ true → first_cell before (memory_of d m) i ≡ t.number (start m i)
     next_cells : (m i : ℕ) → is_memory w m ≡ true → first_cell before (memory_of d m) i ≡ t.number (next m i)
     marks : (m i : ℕ) → is_memory w m ≡ true → is_dynamic w m ≡ false → first_cell before (tags_store m) i ≡ d.code (t.level (start m i))
@@ -258,6 +259,7 @@ module _ (d : Named) (tag sites : ℕ) (design : Design d tag sites) where
     numbers = λ x r. refl;
     levels = λ x r i. ap (λ (y : ℕ). d.code (if is_dynamic w y then w.order.bottom else (entity w y).declared)) (sym (owner_is x));
     seats = λ q h. refl;
+    seated = λ q h. h;
     cells = λ m i h. refl;
     next_cells = λ m i h. refl;
     marks = λ m i h t. refl;
@@ -359,6 +361,7 @@ module _ (d : Named) (tag sites : ℕ) (design : Design d tag sites) where
       | inr i ↦ tag_starts before inputs t r x h i ∙ ap d.code (sym (entered_slot inputs t x i))
     ];
     seat = λ q h. register_starts before inputs (seat_var d q) (in_seat q h) ∙ r.seats q h ∙ sym (entered_child inputs t q);
+    seated = λ q h. subst (λ (k : ℕ). k < children w q) (sym (entered_child inputs t q)) (r.seated q h);
     starts = λ m i h. cell_in before src.memories (memory_of d m) i stores_once (in_memory m h) ∙ r.cells m i h ∙ sym (entered_memory inputs t m i).0;
     start_tags = λ m i h q. cell_in before src.memories (tags_store m) i stores_once (in_tags m h q) ∙ r.marks m i h q ∙ ap d.code (sym (entered_memory inputs t m i).2);
     nexts = λ m i h. cell_in before src.memories (memory_of d m) i stores_once (in_memory m h) ∙ r.next_cells m i h ∙ sym (entered_memory inputs t m i).1;
@@ -388,7 +391,7 @@ module _ (d : Named) (tag sites : ℕ) (design : Design d tag sites) where
   turned before inputs t fit r some =
       let l = begins before inputs t fit r in
       let shape = shaped_top set (listed d.program.hang) 0 d.program.states in
-      let goes = goes_run set widths lawful lawful_states n nested.root_seat d.program.states forest (sym (root_known d)) design.fine.states design.tidy shape in
+      let goes = goes_run set widths lawful lawful_states n nested.root_seat d.program.states forest (sym (root_known d)) design.fine.count design.fine.states design.tidy shape in
       let z = root_number before inputs t l some in
       subst (λ (k : ℕ). Cycles set (going before inputs) (child_does widths (enter nested.root_seat forest) forest k (going before inputs)) (body_after inputs t)) (sym z)
       (top_runs set widths lawful lawful_states (listed d.program.hang) d.program.states d.program.states 0 0 (enter nested.root_seat forest) design.fine.states design.fine.states
@@ -473,6 +476,7 @@ module _ (d : Named) (tag sites : ℕ) (design : Design d tag sites) where
         numbers = λ x r. st.value x (or_right (is_input w x) (is_register w x) r) ∙ sym (e.0 x);
         levels = λ x h i. st.tag x h ∙ ap d.code (sym (settled_tag s x));
         seats = λ q h. st.seat q h ∙ sym (e.5 q);
+        seated = λ q h. subst (λ (k : ℕ). k < children w q) (sym (e.5 q)) (st.seated q h);
         cells = λ m i h. st.nexts m i h ∙ sym (e.2 m i);
         next_cells = λ m i h. st.nexts m i h ∙ sym (e.6 m i);
         marks = λ m i h q. st.next_tags m i h q ∙ ap d.code (sym (e.3 m i));

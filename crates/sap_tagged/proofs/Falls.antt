@@ -45,6 +45,7 @@ pub record Loose (d : Setting) (g : Going) (s : Store) : Type 0 where
   pub value : (x : ℕ) → is_value d.world x ≡ true → at d g (Value x) ≡ number (own x) s
   pub tag : (x : ℕ) → has_tag d.world x ≡ true → at d g (Tag x) ≡ d.code (s.level (tag_slot d.world x))
   pub seat : (p : ℕ) → 0 < children d.world p → at d g (Seat p) ≡ child p s
+  pub seated : (p : ℕ) → 0 < children d.world p → child p s < children d.world p
   pub starts : (m i : ℕ) → is_memory d.world m ≡ true → g.now.cell (d.name (Value m)) i ≡ number (start m i) s
   pub start_tags : (m i : ℕ) → is_memory d.world m ≡ true → is_dynamic d.world m ≡ false → g.now.cell (d.name (Tag m)) i ≡ d.code (s.level (start m i))
   pub nexts : (m i : ℕ) → is_memory d.world m ≡ true → g.next (d.name (Value m)) i ≡ number (next m i) s
@@ -55,6 +56,7 @@ loose d g s r = record {
   value = r.value;
   tag = r.tag;
   seat = r.seat;
+  seated = r.seated;
   starts = r.starts;
   start_tags = r.start_tags;
   nexts = r.nexts;
@@ -117,7 +119,7 @@ module _ (d : Setting) (widths : Name → ℕ) (laws : Lawful d widths) (names :
       let seat = seat_name (d.state_name x) in
       let e : seat ≡ d.name (Seat x) = names.seats x declared in
       let shape = shaped_group d x base kids in
-      let goes' = goes_run d widths laws names x seat kids forest e fine.0.1 tidy.0.1 shape in
+      let goes' = goes_run d widths laws names x seat kids forest e node.count fine.0.1 tidy.0.1 shape in
       let inner = group_runs kids kids 0 x base (enter seat forest) fine.0.1 fine.0.1 tidy.0.1 few.0.1 (λ t h. h) goes' in
       let falls = falls_run x kids forest base seat e node.count shape inner in
       let f : Going → Going = λ h. child_does widths (enter seat forest) forest (h.now.value seat) h in
@@ -150,6 +152,7 @@ module _ (d : Setting) (widths : Name → ℕ) (laws : Lawful d widths) (names :
           value = λ x h. a.there (Value x) (λ y. refl) ∙ r.value x h;
           tag = λ x h. a.there (Tag x) (λ y. refl) ∙ r.tag x h;
           seat = λ p h. a.there (Seat p) (λ y. refl) ∙ r.seat p h;
+          seated = r.seated;
           starts = λ m i h. ap (λ (c : Name → ℕ → ℕ). c (d.name (Value m)) i) a.memory.0 ∙ r.starts m i h;
           start_tags = λ m i h q. ap (λ (c : Name → ℕ → ℕ). c (d.name (Tag m)) i) a.memory.0 ∙ r.start_tags m i h q;
           start_tag = λ m h.
@@ -183,7 +186,7 @@ module _ (d : Setting) (widths : Name → ℕ) (laws : Lawful d widths) (names :
       let seat = seat_name (d.state_name x) in
       let e : seat ≡ d.name (Seat x) = names.seats x me.declared in
       let shape = shaped_group d x base kids in
-      let goes' = goes_run d widths laws names x seat kids forest e fine.0.1 tidy.0.1 shape in
+      let goes' = goes_run d widths laws names x seat kids forest e node.count fine.0.1 tidy.0.1 shape in
       let inner = group_runs kids kids 0 x base (enter seat forest) fine.0.1 fine.0.1 tidy.0.1 few.0.1 (λ t h. h) goes' in
       let falls = falls_run x kids forest base seat e node.count shape inner in
       let f : Going → Going = λ h. child_does widths (enter seat forest) forest (h.now.value seat) h in

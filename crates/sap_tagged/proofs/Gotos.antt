@@ -57,7 +57,7 @@ module _ (d : Setting) (widths : Name → ℕ) (laws : Lawful d widths) where
       stands_changed d (put_to d g (Tag x) z) (put_to d g (Tag x) z) (put_level d.world (own x) l (put_number (own x) (s.number (own x)) s)) (put_level d.world (own x) l s) r
       (record { cell = refl; next = refl; first = λ i. refl })
       (record { starts = λ m i. refl; start_tags = λ m i. refl; start_tag = λ m. refl; nexts = λ m i. refl; next_tags = λ m i. refl })
-      (λ k h. r.value k h ∙ same k (nat_eq k x) refl) (λ k h. r.tag k h) (λ p h. r.seat p h)
+      (λ k h. r.value k h ∙ same k (nat_eq k x) refl) (λ k h. r.tag k h) (λ p h. r.seat p h) r.seated
     where
       same : (k : ℕ) (b : Bool) → nat_eq k x ≡ b → (if b then s.number (own x) else s.number (own k)) ≡ s.number (own k)
       same k true q = ap (λ (i : ℕ). s.number (own i)) (sym (eqb-true k x q))
@@ -91,7 +91,7 @@ module _ (d : Setting) (widths : Name → ℕ) (laws : Lawful d widths) where
               (record { starts = λ m i. refl; start_tags = λ m i. refl; start_tag = λ m. refl; nexts = λ m i. refl; next_tags = λ m i. refl })
               (λ k q. r.there (Value k) (λ y. refl) ∙ st.value k q)
               (λ k q. r.here k ∙ new k q (h k) ∙ ap (λ (b : Bool). d.code (if b then d.world.order.bottom else s.level (tag_slot d.world k))) (sym (lowered_is target k)))
-              (λ p q. r.there (Seat p) (λ y. refl) ∙ st.seat p q),
+              (λ p q. r.there (Seat p) (λ y. refl) ∙ st.seat p q) st.seated,
           λ i. record { kept = λ j l. r.there (Wire j) (λ y. refl); refused = λ n. r.there (Refused n) (λ y. refl); levels = λ n. r.there (Level n) (λ y. refl) },
         )
       where

@@ -6,8 +6,10 @@ use Rattle.sap_lemmas.proofs.Bools.{or_other, true_is_not_false}
 use Rattle.sap_lemmas.proofs.Numbers.{test_symmetric}
 use Rattle.sap_maps.specs.Maps.{Name}
 use Rattle.sap_meaning.specs.Program.{World, root, is_state, is_memory, children, place, last, below, Block, State, Node, Group, None, More}
+use Rattle.sap_meaning.specs.Store.{child}
 use Rattle.sap_meaning.specs.Touches.{among}
 use Rattle.sap_meaning.specs.Fine.{FineNode, FineGroup, inside, size}
+use Rattle.sap_meaning.proofs.Trees.{lands}
 use Rattle.sap_ir.specs.Guarded.{Going}
 use Rattle.sap_ir.specs.Plain.Nested.{Body, Forest, none, state, seat_name, root_seat}
 use Rattle.sap_ir.specs.Plain.Nested as nested
@@ -199,10 +201,10 @@ module _ (d : Setting) (widths : Name → ℕ) (laws : Lawful d widths) (names :
       after n m = omega arith
 
   -- a goto among the states of a group
-  pub goes_run : (parent : ℕ) (seat : Name) (q : Group) (forest : Forest) → seat ≡ d.name (Seat parent) → FineGroup d.world q 0 q → Tidy d.world q → Shaped d q forest
-      → GoesRun d (enter seat forest) parent q
+  pub goes_run : (parent : ℕ) (seat : Name) (q : Group) (forest : Forest) → seat ≡ d.name (Seat parent) → children d.world parent ≡ size q → FineGroup d.world q 0 q → Tidy d.world q
+      → Shaped d q forest → GoesRun d (enter seat forest) parent q
   unfolding moved
-  goes_run parent seat q forest e f t h target i g s st =
+  goes_run parent seat q forest e count f t h target i g s st =
       let x = d.state_name target in
       let r = found q 0 q forest f t h target i in
       let it = group_states d.world q 0 q f target i in
@@ -231,7 +233,8 @@ module _ (d : Setting) (widths : Name → ℕ) (laws : Lawful d widths) (names :
             ∙ ap (λ (q : Bool). if q then 0 else (if nat_eq p target then 0 else (if nat_eq p parent then n else at d g (Seat p)))) (r.here p c)
             ∙ swapped (below d.world target p) (nat_eq p target) (if nat_eq p parent then n else at d g (Seat p))
             ∙ ap (λ (v : ℕ). if nat_eq p target then 0 else (if below d.world target p then 0 else (if nat_eq p parent then v else at d g (Seat p)))) (at_zero n ∙ r.placed)
-            ∙ ap (λ (v : ℕ). if nat_eq p target then 0 else (if below d.world target p then 0 else (if nat_eq p parent then place d.world target else v))) (st.seat p c)),
+            ∙ ap (λ (v : ℕ). if nat_eq p target then 0 else (if below d.world target p then 0 else (if nat_eq p parent then place d.world target else v))) (st.seat p c))
+            (λ p c. seated p c (nat_eq p target) (below d.world target p) (nat_eq p parent) refl),
         λ k. record { kept = λ j l. there (Wire j) (λ p. refl); refused = λ m. there (Refused m) (λ p. refl); levels = λ m. there (Level m) (λ p. refl) },
       )
     where
@@ -242,3 +245,10 @@ module _ (d : Setting) (widths : Name → ℕ) (laws : Lawful d widths) (names :
 
       at_zero : (n : ℕ) → n ≡ 0 + n
       at_zero n = omega arith
+
+      seated : (p : ℕ) → 0 < children d.world p → (a b c : Bool) → nat_eq p parent ≡ c
+          → (if a then 0 else (if b then 0 else (if c then place d.world target else child p s))) < children d.world p
+      seated p some true b c here = some
+      seated p some false true c here = some
+      seated p some false false true here = subst (λ (x : ℕ). place d.world target < children d.world x) (sym (eqb-true p parent here)) (lands d.world parent q f count target i)
+      seated p some false false false here = st.seated p some

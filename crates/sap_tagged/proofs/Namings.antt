@@ -5,7 +5,8 @@ use Rattle.std.proofs.lemmas.Bool.{cases_Bool, eqb-true, eq-eqb, and_parts, fals
 use Rattle.std.proofs.lemmas.Grind.{common_steps}
 use Rattle.sap_lemmas.proofs.Bools.{or_other, true_is_not_false}
 use Rattle.sap_lemmas.proofs.Everywhere.{all_append}
-use Rattle.sap_net.proofs.NamesLemmas.{among_append, digits_inner, initial_inner}
+use Rattle.sap_net.proofs.NamesLemmas.{among_append}
+use Rattle.sap_text.proofs.NamesLemmas.{digits_inner, initial_inner}
 use Rattle.sap_maps.specs.Maps.{Name}
 use Rattle.sap_meaning.specs.Program.{World, root, is_state, below, last, Node, Group, None, More}
 use Rattle.sap_meaning.specs.Fine.{FineGroup, inside}

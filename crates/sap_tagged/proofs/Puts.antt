@@ -171,11 +171,13 @@ module _ (d : Setting) (g g' : Going) (s : Store) where
   pub stands_changed : (s' : Store) → Stands d g s → Kept d g g' → SameMemories s s'
       → ((x : ℕ) → is_value d.world x ≡ true → at d g' (Value x) ≡ number (own x) s')
       → ((x : ℕ) → has_tag d.world x ≡ true → at d g' (Tag x) ≡ d.code (s'.level (tag_slot d.world x)))
-      → ((p : ℕ) → 0 < children d.world p → at d g' (Seat p) ≡ child p s') → Stands d g' s'
-  stands_changed s' r k e vs ts ss = record {
+      → ((p : ℕ) → 0 < children d.world p → at d g' (Seat p) ≡ child p s')
+      → ((p : ℕ) → 0 < children d.world p → child p s' < children d.world p) → Stands d g' s'
+  stands_changed s' r k e vs ts ss cs = record {
     value = vs;
     tag = ts;
     seat = ss;
+    seated = cs;
     starts = λ m i q. ap (λ (c : Name → ℕ → ℕ). c (d.name (Value m)) i) k.cell ∙ r.starts m i q ∙ sym (e.starts m i);
     start_tags = λ m i q t. ap (λ (c : Name → ℕ → ℕ). c (d.name (Tag m)) i) k.cell ∙ r.start_tags m i q t ∙ ap d.code (sym (e.start_tags m i));
     start_tag = λ m q. k.first m ∙ r.start_tag m q ∙ ap d.code (sym (e.start_tag m));
@@ -187,7 +189,7 @@ module _ (d : Setting) (g g' : Going) (s : Store) where
   stands_aside r a =
       stands_changed s r a.memory
       (record { starts = λ m i. refl; start_tags = λ m i. refl; start_tag = λ m. refl; nexts = λ m i. refl; next_tags = λ m i. refl })
-      (λ x h. a.value x ∙ r.value x h) (λ x h. a.tag x ∙ r.tag x h) (λ p h. a.seat p ∙ r.seat p h)
+      (λ x h. a.value x ∙ r.value x h) (λ x h. a.tag x ∙ r.tag x h) (λ p h. a.seat p ∙ r.seat p h) r.seated
 
   -- a number and a level of what is no memory
   slot_is : (x k : ℕ) → is_memory d.world x ≡ false → same_slot (tag_slot d.world k) (own x) ≡ nat_eq k x
@@ -212,7 +214,7 @@ module _ (d : Setting) (g g' : Going) (s : Store) where
       (λ k h.
       ts k h ∙ ap (λ (v : ℕ). if nat_eq k x then d.code t else v) (r.tag k h) ∙ coded (nat_eq k x) (s.level (tag_slot d.world k))
       ∙ ap (λ (b : Bool). d.code (if b then t else s.level (tag_slot d.world k))) (sym (slot_is x k m)))
-      (λ p h. ss p ∙ r.seat p h)
+      (λ p h. ss p ∙ r.seat p h) r.seated
     where
       coded : (b : Bool) (l : ℕ) → (if b then d.code t else d.code l) ≡ d.code (if b then t else l)
       coded true l = refl
@@ -237,7 +239,7 @@ module _ (d : Setting) (g g' : Going) (s : Store) where
       ts k q ∙ ap (λ (v : ℕ). if h k then d.code (d.world.order.join (s.level (tag_slot d.world k)) t) else v) (r.tag k q)
       ∙ coded (h k) (d.world.order.join (s.level (tag_slot d.world k)) t) (s.level (tag_slot d.world k))
       ∙ ap (λ (b : Bool). d.code (if b then d.world.order.join (s.level (tag_slot d.world k)) t else s.level (tag_slot d.world k))) (sym (raised_slot h k)))
-      (λ p q. ss p ∙ r.seat p q)
+      (λ p q. ss p ∙ r.seat p q) r.seated
     where
       coded : (b : Bool) (l k : ℕ) → (if b then d.code l else d.code k) ≡ d.code (if b then l else k)
       coded true l k = refl

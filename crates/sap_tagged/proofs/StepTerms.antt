@@ -1,5 +1,5 @@
 -- Guards, tests, and what a step writes.
-use Rattle.std.proofs.Common.{◌≡◌, ℕ, zero, suc, ◌<◌, Bool, true, false, ◌||◌, refl, sym, ap₂, ◌∙◌, inl, inr, if◌then◌else◌}
+use Rattle.std.proofs.Common.{◌≡◌, ℕ, zero, suc, ◌<◌, Bool, true, false, ◌||◌, refl, sym, ap₂, ◌∙◌, subst, inl, inr, if◌then◌else◌}
 use Rattle.std.specs.Prelude.{bit_and}
 use Rattle.std.proofs.lemmas.Bool.{cases_Bool, and_parts, or_right}
 use Rattle.sap_lemmas.proofs.Bools.{true_is_not_false}
@@ -55,6 +55,10 @@ module _ (d : Setting) (widths : Name → ℕ) (laws : Lawful d widths) (g : Goi
   retagged : (x : ℕ) → (is_register d.world x || is_state d.world x) ≡ true → is_dynamic d.world x ≡ false → at d g (Tag x) ≡ d.code (level d.world (own x) s)
   retagged x k t = let m = kept_no_memory d.world x k in own_tag d widths laws g s stands x (tagged d.world x (enforced_within d.world x t) m) m
 
+  -- the current child is one of the children
+  has_child : (q : Group) (sp : Spot) → Placed d.world q sp → 0 < children d.world sp.state → child sp.state s < size sp.children
+  has_child q sp placed some = subst (λ (k : ℕ). child sp.state s < k) placed.seated (stands.seated sp.state some)
+
   pub guard_value : (q : Group) (sp : Spot) (k : Step) → Placed d.world q sp → FineStep d.world q sp.children k → value_in widths g (guard_of d sp k) ≡ d.code (guard d.world sp k s)
   guard_value q sp (Set site x e) placed f = elim (cases_Bool (is_dynamic d.world x)) [
     | inl t ↦ rw t refl
@@ -71,11 +75,9 @@ module _ (d : Setting) (widths : Name → ℕ) (laws : Lawful d widths) (g : Goi
   guard_value q sp (RetagCell site m j n) placed f = refl
   guard_value q sp (Goto site target) placed f = refl
   guard_value q sp (Fall site hang) placed f =
-      child_tag_value d widths laws g s stands (seat_bits d sp.state) (seat_of d sp.state) sp.children (child sp.state s) 0
-      (seat_value d widths laws g s stands sp.state (has_seat f)) placed.kids
-    where
-      has_seat : 0 < size sp.children → 0 < children d.world sp.state
-      has_seat h = rw placed.seated h
+      let some : 0 < children d.world sp.state = rw placed.seated f in
+      child_tag_value d widths laws g s stands (seat_bits d sp.state) (seat_of d sp.state) sp.children (child sp.state s) 0 (has_child q sp placed some)
+      (seat_value d widths laws g s stands sp.state some) placed.kids
 
   pub test_value : (q : Group) (sp : Spot) (k : Step) (pc : Term Name) (l : ℕ) → Placed d.world q sp → FineStep d.world q sp.children k → value_in widths g pc ≡ d.code l
       → value_in widths g (test_of d sp pc k) ≡ bit (test d.world sp k l s)
@@ -119,11 +121,9 @@ module _ (d : Setting) (widths : Name → ℕ) (laws : Lawful d widths) (g : Goi
       unless true c t e = refl
       unless false c t e = e
   test_value q sp (Fall site hang) pc l placed f h =
-      child_enters_value d widths laws g s stands pc (seat_bits d sp.state) (seat_of d sp.state) l sp.children (child sp.state s) 0 h
-      (seat_value d widths laws g s stands sp.state (has_seat f)) placed.kids
-    where
-      has_seat : 0 < size sp.children → 0 < children d.world sp.state
-      has_seat h = rw placed.seated h
+      let some : 0 < children d.world sp.state = rw placed.seated f in
+      child_enters_value d widths laws g s stands pc (seat_bits d sp.state) (seat_of d sp.state) l sp.children (child sp.state s) 0 (has_child q sp placed some) h
+      (seat_value d widths laws g s stands sp.state some) placed.kids
 
   pub written_value : (q : Group) (sp : Spot) (k : Step) (pc : Term Name) (l : ℕ) → FineStep d.world q sp.children k → value_in widths g pc ≡ d.code l
       → value_in widths g (written d pc k) ≡ d.code (level_written d.world k l s)
@@ -151,9 +151,8 @@ module _ (d : Setting) (widths : Name → ℕ) (laws : Lawful d widths) (g : Goi
 
 all_open : (w : World) (k : Group) (n l : ℕ) (s : Store) → all_dynamic w k ≡ true → child_opens w k n l s ≡ true
 all_open w None n l s h = refl
-all_open w (More (Node c b k) None) n l s h = rw ((and_parts (is_dynamic w c) true h).0) refl
-all_open w (More (Node c b k) (More t g)) zero l s h = rw ((and_parts (is_dynamic w c) (all_dynamic w (More t g)) h).0) refl
-all_open w (More (Node c b k) (More t g)) (suc n) l s h = all_open w (More t g) n l s ((and_parts (is_dynamic w c) (all_dynamic w (More t g)) h).1)
+all_open w (More (Node c b k) g) zero l s h = rw ((and_parts (is_dynamic w c) (all_dynamic w g) h).0) refl
+all_open w (More (Node c b k) g) (suc n) l s h = all_open w g n l s ((and_parts (is_dynamic w c) (all_dynamic w g) h).1)
 
 pub always_holds : (w : World) (sp : Spot) (k : Step) (l : ℕ) (s : Store) → always w sp k ≡ true → test w sp k l s ≡ true
 always_holds w sp (Set site x e) l s h = rw h refl

@@ -11,7 +11,7 @@ use Rattle.sap_meaning.specs.Store.{Store, own, start, start_whole, next_whole, 
 use Rattle.sap_meaning.specs.Expressions.{width_of, value, tag, level_at, new_level, told}
 use Rattle.sap_meaning.specs.Checks.{child_level, opens, child_opens}
 use Rattle.sap_meaning.specs.Touches.{among}
-use Rattle.sap_meaning.specs.Fine.{FineTerm, FineLevel}
+use Rattle.sap_meaning.specs.Fine.{FineTerm, FineLevel, size}
 use Rattle.sap_ir.specs.Guarded.{Going, value_in}
 use Rattle.sap_tagged.specs.Keys.{Value, Tag, First}
 use Rattle.sap_tagged.specs.Setting.{Setting}
@@ -154,23 +154,27 @@ module _ (d : Setting) (widths : Name → ℕ) (laws : Lawful d widths) where
     first_tagged : (c : ℕ) (b : _) (k g' : Group) → AllTagged d.world (More (Node c b k) g') → has_tag d.world c ≡ true × (is_memory d.world c ≡ false)
     first_tagged c b k g' f = f c (or_left _ (among g' c) (eq-eqb c c refl))
 
-    pub child_tag_value : (u : ℕ) (seat : Term Name) (k : Group) (n i : ℕ) → value_in widths g seat ≡ i + n → AllTagged d.world k → value_in widths g (child_tag d u seat k i) ≡ d.code (child_level d.world k n s)
-    child_tag_value u seat None n i h f = refl
-    child_tag_value u seat (More (Node c b k) None) n i h f = let q = first_tagged c b k None f in own_tag c q.0 q.1
-    child_tag_value u seat (More (Node c b k) (More t k')) zero i h f =
+    -- The last child is compared with nothing, so the numbers are the meaning's where there is a child at the place.
+    pub child_tag_value : (u : ℕ) (seat : Term Name) (k : Group) (n i : ℕ) → n < size k → value_in widths g seat ≡ i + n → AllTagged d.world k
+        → value_in widths g (child_tag d u seat k i) ≡ d.code (child_level d.world k n s)
+    child_tag_value u seat None n i l h f = refl
+    child_tag_value u seat (More (Node c b k) None) zero i l h f = let q = first_tagged c b k None f in own_tag c q.0 q.1
+    child_tag_value u seat (More (Node c b k) None) (suc n) i l h f = absurd (omega (arith, l))
+    child_tag_value u seat (More (Node c b k) (More t k')) zero i l h f =
         let q = first_tagged c b k (More t k') f in rw (h, eq-eqb (i + 0) i (omega arith)) (own_tag c q.0 q.1)
-    child_tag_value u seat (More (Node c b k) (More t k')) (suc n) i h f =
-        let r = child_tag_value u seat (More t k') n (i + 1) (h ∙ omega arith) (rest_tagged c b k (More t k') f) in
+    child_tag_value u seat (More (Node c b k) (More t k')) (suc n) i l h f =
+        let r = child_tag_value u seat (More t k') n (i + 1) (omega (arith, l)) (h ∙ omega arith) (rest_tagged c b k (More t k') f) in
         rw (h, ne_eqb (i + suc n) i (λ e. omega arith)) r
 
-    pub child_enters_value : (pc : Term Name) (u : ℕ) (seat : Term Name) (l : ℕ) (k : Group) (n i : ℕ) → value_in widths g pc ≡ d.code l → value_in widths g seat ≡ i + n → AllTagged d.world k
-        → value_in widths g (child_enters d pc u seat k i) ≡ bit (child_opens d.world k n l s)
-    child_enters_value pc u seat l None n i p h f = refl
-    child_enters_value pc u seat l (More (Node c b k) None) n i p h f = let q = first_tagged c b k None f in enters_value pc l c p q.0 q.1
-    child_enters_value pc u seat l (More (Node c b k) (More t k')) zero i p h f =
+    pub child_enters_value : (pc : Term Name) (u : ℕ) (seat : Term Name) (l : ℕ) (k : Group) (n i : ℕ) → n < size k → value_in widths g pc ≡ d.code l → value_in widths g seat ≡ i + n
+        → AllTagged d.world k → value_in widths g (child_enters d pc u seat k i) ≡ bit (child_opens d.world k n l s)
+    child_enters_value pc u seat l None n i b p h f = refl
+    child_enters_value pc u seat l (More (Node c b k) None) zero i m p h f = let q = first_tagged c b k None f in enters_value pc l c p q.0 q.1
+    child_enters_value pc u seat l (More (Node c b k) None) (suc n) i m p h f = absurd (omega (arith, m))
+    child_enters_value pc u seat l (More (Node c b k) (More t k')) zero i m p h f =
         let q = first_tagged c b k (More t k') f in rw (h, eq-eqb (i + 0) i (omega arith)) (enters_value pc l c p q.0 q.1)
-    child_enters_value pc u seat l (More (Node c b k) (More t k')) (suc n) i p h f =
-        let r = child_enters_value pc u seat l (More t k') n (i + 1) p (h ∙ omega arith) (rest_tagged c b k (More t k') f) in
+    child_enters_value pc u seat l (More (Node c b k) (More t k')) (suc n) i m p h f =
+        let r = child_enters_value pc u seat l (More t k') n (i + 1) (omega (arith, m)) p (h ∙ omega arith) (rest_tagged c b k (More t k') f) in
         rw (h, ne_eqb (i + suc n) i (λ e. omega arith)) r
 
     pub seat_value : (p : ℕ) → 0 < children d.world p → value_in widths g (seat_of d p) ≡ 0 + child p s

@@ -73,7 +73,8 @@ told_tag d (of e) = tag_of d e
 told_tag d (at_place e) = tag_of d e
 told_tag d (both a b) = lub (told_tag d a) (told_tag d b)
 
--- the current child, of the children from the i-th on; `seat` is its number, of u bits
+-- The current child, of the children from the i-th on; `seat` is its number, of u bits. It is one of them, so the last is
+-- compared with nothing.
 
 abbrev pub child_tag : Setting → (u : ℕ) → (seat : Term Name) → Group → (i : ℕ) → Term Name
 child_tag d u seat None i = bits d d.world.order.bottom

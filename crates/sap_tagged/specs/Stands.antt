@@ -30,11 +30,12 @@ has_tag w x = nat_lt x (root w) && (not (is_memory w x) || is_dynamic w x)
 abbrev pub tag_slot : World → ℕ → Slot
 tag_slot w x = if is_memory w x then next_whole x else own x
 
--- Memories are read as the cycle began; what is written is in their next parts.
+-- Memories are read as the cycle began; what is written is in their next parts. The current children have places.
 pub record Stands (d : Setting) (g : Going) (s : Store) : Type 0 where
   pub value : (x : ℕ) → is_value d.world x ≡ true → at d g (Value x) ≡ number (own x) s
   pub tag : (x : ℕ) → has_tag d.world x ≡ true → at d g (Tag x) ≡ d.code (s.level (tag_slot d.world x))
   pub seat : (p : ℕ) → 0 < children d.world p → at d g (Seat p) ≡ child p s
+  pub seated : (p : ℕ) → 0 < children d.world p → child p s < children d.world p
   pub starts : (m i : ℕ) → is_memory d.world m ≡ true → g.now.cell (d.name (Value m)) i ≡ number (start m i) s
   pub start_tags : (m i : ℕ) → is_memory d.world m ≡ true → is_dynamic d.world m ≡ false → g.now.cell (d.name (Tag m)) i ≡ d.code (s.level (start m i))
   pub start_tag : (m : ℕ) → saved d.world m ≡ true → at d g (First m) ≡ d.code (s.level (start_whole m))

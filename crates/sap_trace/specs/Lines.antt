@@ -3,6 +3,7 @@
 use Rattle.std.specs.Prelude.{ℕ, ◌+◌, ◌-◌, List, [], ◌∷◌, ◌++◌, codes, Option, Some, None, slice_get}
 use Rattle.std.specs.Fmt.{decimal}
 use Rattle.sap_lattice.specs.Levels.{Levels}
+use Rattle.sap_text.specs.Places.{line_end}
 use Rattle.sap_tree.specs.Syntax.{DesignTree}
 use Rattle.sap_names.specs.declared.entity.Entity.{Entity}
 use Rattle.sap_names.specs.Entities.{entities_of}
@@ -14,9 +15,6 @@ use Rattle.sap_meaning.specs.State.{labelled_run}
 use Rattle.sap_resolve.specs.Fill.{program_of}
 use Rattle.sap_report.specs.Report.{site_target}
 use Rattle.sap_sim.specs.Labelled.LabelledRows.{level_name}
-
-abbrev pub line_end : List ℕ
-line_end = 10 ∷ []
 
 unfoldable pub line_head : (cycle k : ℕ) → List ℕ
 line_head cycle k = codes "cycle " ++ decimal cycle ++ codes ": site " ++ decimal k ++ codes " "

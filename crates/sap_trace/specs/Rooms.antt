@@ -6,7 +6,8 @@ use Rattle.sap_tree.specs.Syntax.{DesignTree}
 use Rattle.sap_names.specs.Entities.{entities_of}
 use Rattle.sap_check.specs.Sites.{sites_of}
 use Rattle.sap_sim.specs.Labelled.LabelledRows.{level_name}
-use Rattle.sap_trace.specs.Lines.{line_end, site_at, target_text}
+use Rattle.sap_text.specs.Places.{line_end}
+use Rattle.sap_trace.specs.Lines.{site_at, target_text}
 use Rattle.sap_trace.specs.Seen.{coded_name}
 
 -- the line of a site, whatever its cycle: the number of a cycle is counted as 20 digits

@@ -1,11 +1,12 @@
 //! A design that is stepped on a line of a stimulus at a time.
 
-ghost use Rattle.std.specs.Prelude.{◌≡◌, ◌≤◌, ◌+◌, ◌*◌, ◌∷◌, ◌++◌, [], List, IfOk, length};
+ghost use Rattle.std.specs.Prelude.{◌≡◌, ◌≤◌, ◌+◌, ◌*◌, ◌∷◌, ◌++◌, [], ℕ, List, IfOk, length};
 ghost use Rattle.sap_check.specs.Checked.{levels_in, tree_in};
 ghost use Rattle.sap_interface.specs.Designs.{StandsForDesign};
 ghost use Rattle.sap_meaning.specs.Cycle.{Tagged as Given};
 ghost use Rattle.sap_net.specs.Net.{Net};
 ghost use Rattle.sap_stim.specs.Fits.{LineFits};
+ghost use Rattle.sap_trace.specs.Rooms.{HoldsCycle};
 ghost use Rattle.sap_trace.specs.Stepping.{HasLinesMore, IsAfter, IsPlanned, LinesAddUp};
 
 use crate::fields::{fields_of, take_numbers};
@@ -63,7 +64,8 @@ impl Tracing {
     /// A netlist before the first line, which stands for a design.
     pub fn new(alloc: Global, checked: &Checked, netlist: Netlist) -> Result<Tracing, AllocError>
         requires stands { StandsForDesign (levels_in checked.now) (tree_in checked.now) netlist }
-        ensures { IfOk result (IsAfter (levels_in checked.now) (tree_in checked.now) netlist []) }
+        ensures after { IfOk result (IsAfter (levels_in checked.now) (tree_in checked.now) netlist []) }
+        ensures least { IfOk result (λ s. (other : ℕ) → HoldsCycle (levels_in checked.now) (tree_in checked.now) other → s.room ≤ other) }
     {
         known(checked);
         netlist.rules();
@@ -92,7 +94,7 @@ impl Tracing {
         &self.fields
     }
 
-    /// For how many bytes a buffer needs room to take the lines of any cycle.
+    /// For how many bytes a buffer needs room to take the lines of any cycle: `new` makes it the fewest.
     pub fn room(&self) -> usize
         ensures { result ≡ self.now.room }
     {

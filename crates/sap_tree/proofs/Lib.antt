@@ -1,4 +1,3 @@
 pub mod Views
 pub mod DeclLemmas
 pub mod SyntaxLemmas
-pub mod WordsLemmas

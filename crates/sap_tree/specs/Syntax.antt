@@ -3,7 +3,7 @@
 -- the `?`, the `[` of a slice, the `{` or the `zext`.
 use Rattle.std.specs.Prelude.{ℕ, List}
 use Rattle.sap_tree.specs.declared.name.Mention.{Mention}
-use Rattle.sap_tree.specs.declared.place.Place.{Place}
+use Rattle.sap_text.specs.declared.place.Place.{Place}
 use Rattle.sap_tree.specs.declared.place.Spot.{Spot}
 use Rattle.sap_tree.specs.declared.syntax.BinaryOperator.{BinaryOperator}
 use Rattle.sap_tree.specs.declared.syntax.Decl.{Decl}

@@ -10,15 +10,16 @@ use Rattle.sap_tree.specs.declared.syntax.Kind.{Kind}
 
 -- dynamic entities
 
-abbrev pub is_dynamic : Kind → Bool
-is_dynamic (k.Dynamic place) = true
-is_dynamic (k.Enforced level authority) = false
+-- whether a kind is dynamic
+abbrev pub is_dynamic_kind : Kind → Bool
+is_dynamic_kind (k.Dynamic place) = true
+is_dynamic_kind (k.Enforced level authority) = false
 
 -- whether x is declared here as a dynamic register or memory
 abbrev pub declares_dynamic : List ℕ → Decl → Bool
 declares_dynamic x (d.Input place name width) = false
-declares_dynamic x (d.Register place name width kind start) = bytes_eq name.name x && is_dynamic kind
-declares_dynamic x (d.Memory place name width depth kind) = bytes_eq name.name x && is_dynamic kind
+declares_dynamic x (d.Register place name width kind start) = bytes_eq name.name x && is_dynamic_kind kind
+declares_dynamic x (d.Memory place name width depth kind) = bytes_eq name.name x && is_dynamic_kind kind
 
 unfoldable pub is_dynamic_store : List Decl → List ℕ → Bool
 is_dynamic_store declarations x = list_any (declares_dynamic x) declarations
@@ -26,7 +27,7 @@ is_dynamic_store declarations x = list_any (declares_dynamic x) declarations
 -- whether x is one of these states and dynamic
 unfoldable pub is_dynamic_child : StateList → List ℕ → Bool
 is_dynamic_child NoState x = false
-is_dynamic_child (AndState (StateOf place name kind body children) states) x = (bytes_eq name.name x && is_dynamic kind) || is_dynamic_child states x
+is_dynamic_child (AndState (StateOf place name kind body children) states) x = (bytes_eq name.name x && is_dynamic_kind kind) || is_dynamic_child states x
 
 -- whether a command assigns x, as a register or as a memory
 
@@ -73,11 +74,11 @@ unfoldable mutual
 -- the state in whose body a command stands
 pub record Home : Type 0 where
   pub name : List ℕ
-  pub dynamic : Bool
+  pub kind : Kind
   pub children : StateList
 
 abbrev pub home_of : StateTree → Home
-home_of (StateOf place name kind body children) = record { name = name.name; dynamic = is_dynamic kind; children = children }
+home_of (StateOf place name kind body children) = record { name = name.name; kind = kind; children = children }
 
 -- what a `fall` into one of these states touches: the dynamic ones of them, and each dynamic register or memory that they or their descendants assign
 unfoldable pub fall_touches : List Decl → StateList → List ℕ → Bool
@@ -88,7 +89,7 @@ simple_touches declarations home (Assign register e) x = is_dynamic_store declar
 simple_touches declarations home (Write memory index e) x = is_dynamic_store declarations x && bytes_eq memory.name x
 simple_touches declarations home (SetTag place name n) x = false
 simple_touches declarations home (SetCellTag place memory index n) x = false
-simple_touches declarations home (Goto place target) x = home.dynamic && bytes_eq home.name x
+simple_touches declarations home (Goto place target) x = is_dynamic_kind home.kind && bytes_eq home.name x
 simple_touches declarations home (Fall place) x = fall_touches declarations home.children x
 
 unfoldable mutual

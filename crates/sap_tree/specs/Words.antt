@@ -1,26 +1,14 @@
 -- What the design language takes as a word and as a name.
-use Rattle.std.specs.Prelude.{ℕ, Bool, true, false, not, ◌||◌, ◌&&◌, ◌==◌, List, [], ◌∷◌, ◌++◌, length, map, nat_le, codes}
-use Rattle.std.specs.Char.{is_ascii_alphabetic, is_ascii_alphanumeric}
-use Rattle.std.specs.List.{list_all, list_any}
+use Rattle.std.specs.Prelude.{ℕ, Bool, true, false, not, ◌&&◌, List, [], ◌∷◌, ◌++◌, length, map, nat_le, codes}
+use Rattle.std.specs.List.{list_any}
 use Rattle.std.specs.Str.{bytes_eq}
+pub use Rattle.sap_text.specs.Names.{is_initial, is_inner, is_word}
+use Rattle.sap_text.specs.Names.{design_keywords}
 use Rattle.sap_tree.specs.Limits.{most_name_bytes}
 use Rattle.sap_tree.specs.declared.version.Version.TheVariants as v
 use Rattle.sap_tree.specs.declared.version.Version.{Version}
 use Rattle.sap_tree.specs.declared.word.Word.TheVariants as w
 use Rattle.sap_tree.specs.declared.word.Word.{Word}
-
--- a letter or `_`
-abbrev pub is_initial : ℕ → Bool
-is_initial c = is_ascii_alphabetic c || c == 95
-
--- a letter, a digit or `_`
-abbrev pub is_inner : ℕ → Bool
-is_inner c = is_ascii_alphanumeric c || c == 95
-
--- a letter or `_`, and then letters, digits and `_`
-abbrev pub is_word : List ℕ → Bool
-is_word [] = false
-is_word (c ∷ cs) = is_initial c && list_all is_inner cs
 
 -- how words are spelled
 abbrev pub word_text : Word → List ℕ
@@ -53,17 +41,14 @@ first_words = w.Input ∷ w.Reg ∷ w.Mem ∷ w.State ∷ w.Dynamic ∷ w.Enforc
 abbrev pub later_words : List Word
 later_words = w.Then ∷ w.Case ∷ []
 
-abbrev pub words : Version → List Word
-words v.One = first_words
-words v.Two = first_words ++ later_words
-
 abbrev pub is_second : Version → Bool
 is_second v.One = false
 is_second v.Two = true
 
 -- the keywords of the design language
 abbrev pub keywords : Version → List (List ℕ)
-keywords version = map word_text (words version)
+keywords v.One = design_keywords
+keywords v.Two = design_keywords ++ map word_text later_words
 
 abbrev pub is_keyword : Version → List ℕ → Bool
 is_keyword version name = list_any (bytes_eq name) (keywords version)

@@ -5,6 +5,7 @@ use Rattle.std.specs.List.{AllByRecursion}
 use Rattle.std.proofs.lemmas.Bool.{cases_Bool}
 use Rattle.sap_lemmas.proofs.Everywhere.{all_equal, all_equal_at, all_of_map, all_second, map_of_all}
 use Rattle.sap_lemmas.proofs.Texts.{equal_of_bytes_eq}
+use Rattle.sap_net.proofs.RulesLemmas.{readable_kept}
 use Rattle.sap_net.proofs.NamesLemmas.{each_among, found_of, not_found}
 use Rattle.sap_maps.proofs.ScopeLemmas.{found_first, found_second}
 use Rattle.sap_maps.specs.Maps.{Name, Valuation}
@@ -34,7 +35,7 @@ use Rattle.sap_trim.specs.Walked.{State, Begins, Folds, Walked}
 use Rattle.sap_trim.specs.Built.{wire_of, register_of, memory_of, built}
 use Rattle.sap_fold.proofs.Lists.{among_each}
 use Rattle.sap_trim.proofs.Replaced.{Means, operand_same}
-use Rattle.sap_fold.proofs.Provided.{Grows, holds_both, readable_kept}
+use Rattle.sap_fold.proofs.Provided.{Grows, holds_both}
 use Rattle.sap_trim.proofs.Follows.{taken_apart, SettledIn, settled_first, settled_next, begins_follow, begins_mean, means_walk}
 use Rattle.sap_trim.proofs.Built.{Walks, built_first, built_grows, built_rules, shown_among}
 

@@ -6,7 +6,7 @@ use Rattle.std.specs.List.{AllByRecursion}
 use Rattle.std.proofs.lemmas.Bool.{cases_Bool, or_parts}
 use Rattle.sap_lemmas.proofs.Everywhere.{all_follow, all_of_map, all_second}
 use Rattle.sap_lemmas.proofs.Texts.{equal_of_bytes_eq}
-use Rattle.sap_net.proofs.RulesLemmas.{values_found}
+use Rattle.sap_net.proofs.RulesLemmas.{readable_kept, values_found}
 use Rattle.sap_net.proofs.NamesLemmas.{among_behind, among_front, found_among, not_found}
 use Rattle.sap_maps.proofs.ScopeLemmas.{found_second}
 use Rattle.sap_maps.specs.Maps.{Name, Valuation}
@@ -34,7 +34,7 @@ use Rattle.sap_trim.specs.Stays.{KeepsStart}
 use Rattle.sap_trim.specs.Walked.{State, Begins, SomeRegister, StartsAt, Copies, Folds, Walked}
 use Rattle.sap_fold.proofs.Lists.{none_among}
 use Rattle.sap_trim.proofs.Replaced.{Finds, Means, stands_for, replaced_fits, replaced_same}
-use Rattle.sap_fold.proofs.Provided.{Grows, operand_grows, readable_kept, grows_more, over_first}
+use Rattle.sap_fold.proofs.Provided.{Grows, operand_grows, grows_more, over_first}
 use Rattle.sap_fold.proofs.Becoming.{gives_provided}
 
 pub record Follows (taken : Name → Bool) (ms : Shapes) (so sc : Scope) (s : State) : Type 0 where

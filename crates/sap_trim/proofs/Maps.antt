@@ -6,7 +6,7 @@ use Rattle.std.proofs.lemmas.Bool.{cases_Bool}
 use Rattle.sap_lemmas.proofs.Texts.{equal_of_bytes_eq}
 use Rattle.sap_maps.specs.Maps.{Name}
 use Rattle.sap_net.specs.declared.parts.Operand.{Operand}
-use Rattle.sap_fold.proofs.Maps.{same_bytes, at_other}
+use Rattle.sap_share.proofs.Maps.{same_bytes, at_other}
 use Rattle.sap_trim.specs.Replaced.{OperandMap, stands_in, Binds}
 
 -- one more name stands for an operand

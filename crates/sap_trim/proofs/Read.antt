@@ -21,17 +21,18 @@ use Rattle.sap_net.specs.declared.parts.Register.{Register}
 use Rattle.sap_net.specs.declared.parts.Memory.{Memory}
 use Rattle.sap_net.specs.declared.parts.Wire.{Wire}
 use Rattle.sap_net.specs.Rules.{Shapes, IsOperand, AreOperands, IsRight, AreWires}
-use Rattle.sap_fold.specs.Keys.{key}
+use Rattle.sap_share.specs.Keys.{key}
 use Rattle.sap_trim.specs.Names.{names_of, port_names, shown_wires}
 use Rattle.sap_trim.specs.Reads.{operand_reads, operands_reads, right_reads, wire_reads, register_reads, memory_reads, edge_reads, IsRead}
 use Rattle.sap_fold.specs.Slices.{sliced}
 use Rattle.sap_trim.specs.Replaced.{Stands, Binds, standing, standing_operand, replaced}
-use Rattle.sap_fold.specs.Wires.{rights, Adds}
+use Rattle.sap_share.specs.Rights.{rights}
+use Rattle.sap_fold.specs.Wires.{Adds}
 use Rattle.sap_fold.specs.Wires.{Provides}
 use Rattle.sap_trim.specs.Walked.{State, Copies, Walked}
 use Rattle.sap_trim.specs.Needed.{is_needed, needed, needed_wires}
 use Rattle.sap_trim.specs.Built.{wire_of, register_of, memory_of, built}
-use Rattle.sap_fold.proofs.Decoding.{key_is}
+use Rattle.sap_share.proofs.Decoding.{key_is}
 use Rattle.sap_fold.proofs.Lists.{or_elim, among_split, among_each}
 use Rattle.sap_trim.proofs.Replaced.{stands_for}
 

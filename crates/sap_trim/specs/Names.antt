@@ -5,7 +5,7 @@ use Rattle.sap_net.specs.Names.{is_among}
 use Rattle.sap_net.specs.Net.{Net}
 use Rattle.sap_net.specs.IsNetlist.{register_names, memory_names}
 use Rattle.sap_net.specs.declared.parts.Wire.{Wire}
-unfoldable pub use Rattle.sap_fold.specs.Names.{helper}
+unfoldable pub use Rattle.sap_share.specs.Names.{helper}
 
 -- the first names, in order
 abbrev pub numbered : ℕ → List Name

@@ -1,18 +1,10 @@
 -- The helping wires of a netlist: their names and right sides.
-use Rattle.std.specs.Prelude.{◌≡◌, ℕ, List, [], ◌∷◌, length}
+use Rattle.std.specs.Prelude.{◌≡◌, ℕ, length}
 use Rattle.std.specs.List.{AllByRecursion}
 use Rattle.sap_net.specs.Net.{Net}
-use Rattle.sap_net.specs.declared.parts.Wire.{Wire}
-use Rattle.sap_fold.specs.Names.{helper}
+use Rattle.sap_share.specs.Differing.{AllDiffer}
+use Rattle.sap_share.specs.Names.{helper}
 use Rattle.sap_trim.specs.Names.{numbered, names_of, helping_wires, NoneNumbered}
-
--- Each wire differs from all behind it in its width or its right side.
-abbrev pub DiffersFrom : Wire → List Wire → Type 0
-DiffersFrom w ws = AllByRecursion (λ x. x.width ≡ w.width → x.right ≡ w.right → ⊥) ws
-
-abbrev pub AllDiffer : List Wire → Type 0
-AllDiffer [] = Unit {0}
-AllDiffer (w ∷ ws) = DiffersFrom w ws × AllDiffer ws
 
 -- No two helping wires have the same width and the same right side.
 abbrev pub SharesWires : Net → Type 0

@@ -8,7 +8,7 @@ ghost use Rattle.sap_fold.specs.Names.{holds};
 ghost use Rattle.sap_trim.specs.Replaced.{Binds, stands_in};
 ghost use Rattle.sap_trim.specs.Stays.{AllStay, stays_in};
 ghost use Rattle.sap_trim.specs.Walked.{Begins, Copies, Folds, Starts, StartsAt, Steps, Walked, state_of};
-ghost use Rattle.sap_fold.specs.Wires.{NamesRights};
+ghost use Rattle.sap_share.specs.Rights.{NamesRights};
 
 use crate::replace::replace;
 use crate::stays::{Stay, keeps_start, stays};

@@ -7,7 +7,7 @@ use Rattle.std.specs.List.{list_any}
 use Rattle.std.proofs.lemmas.Bool.{and_from, lt-ltb, not_from_false, or_left, or_right}
 use Rattle.sap_modtext.specs.Items.{Mention, Number, Constant, Operand, Right, Port, Item, File}
 use Rattle.sap_modtext.specs.Items as item
-use Rattle.sap_modtext.specs.Faults.{V3, V4, V5, V6, V7, Shape, wire, memory, shape_width, Setting, assign, initial, always, Declaration, port_declaration, item_declarations, declarations, shape_in, Above, shape_above, is_set, has_integer, IsItemOf, Target, target_of, is_settable, needs, Manner, as_value, Use, uses, suits, ranges, constants, constant_fits, indexes, operand_place, Differ, Among, IsDepth}
+use Rattle.sap_modtext.specs.Faults.{V3, V4, V5, V6, V7, Shape, wire, memory, shape_width, Setting, assign, initial, always, Declaration, port_declaration, item_declarations, declarations, shape_in, Above, shape_above, is_set, has_integer, IsItemOf, Target, target_of, is_settable, needs, Manner, as_value, Use, uses, suits, ranges, constants, constant_fits, indexes, operand_place, Differ, Among, HasIndex}
 use Rattle.sap_modtext.specs.Faults as faults
 use Rattle.sap_vjudge.specs.declared.code.Code.{Code}
 use Rattle.sap_vjudge.specs.declared.code.Code.TheVariants as code
@@ -18,7 +18,7 @@ use Rattle.sap_vjudge.specs.Listed.{twice_faults, declarations_faults, target_fa
 use Rattle.sap_vjudge.specs.Listed as listed
 use Rattle.sap_vjudge.proofs.Above.{under_item, ports_only, after_item_above, after_port_next, after_ports_above, nothing_is, at_end, item_declared}
 use Rattle.sap_vjudge.proofs.First.{StandsIn}
-use Rattle.sap_vjudge.proofs.Powers.{is_depth-IsDepth, is_other-from}
+use Rattle.sap_vjudge.proofs.Powers.{is_depth-HasIndex, is_other-from}
 use Rattle.sap_vjudge.proofs.WidthLemmas.{operand_width-above, parts_width-above, pairs-above, some-differs, some-too_wide}
 
 abbrev pub at_place : Code → ℕ → Fault
@@ -379,7 +379,7 @@ module _ (f : File) where
   v7_listed : (place : ℕ) → V7 f place → StandsIn (at_place code.V7 place) (file_faults f)
   v7_listed _ (faults.no_depth {above} {range} {last = cells} {x} at h) =
       of_item (at_place code.V7 cells.place) at (in_depths (at_place code.V7 cells.place) (known_above above) (item.memory range x cells)
-      (noted (not (is_depth (cells.value + 1))) code.V7 cells.place (not_from_false _ (not_true _ (λ d. h (is_depth-IsDepth (cells.value + 1) d))))))
+      (noted (not (is_depth (cells.value + 1))) code.V7 cells.place (not_from_false _ (not_true _ (λ d. h (is_depth-HasIndex (cells.value + 1) d))))))
   v7_listed _ (faults.other_bound {above} {place} {bound} {x} {value} {width} {depth} at e h) =
       of_item (at_place code.V7 bound.place) at (in_bounds (at_place code.V7 bound.place) (known_above above) (item.initial_cells place bound x value)
       (subst (λ (o : Option Shape). StandsIn (at_place code.V7 bound.place) (listed.other_bound o bound)) (sym e)

@@ -8,7 +8,7 @@ use Rattle.sap_lemmas.proofs.Bools.{and_left, and_right}
 use Rattle.std.proofs.lemmas.Bool.{ltb-true, not-true, or_cases}
 use Rattle.sap_modtext.specs.Items.{Mention, Number, Constant, Operand, Right, Port, Item, File}
 use Rattle.sap_modtext.specs.Items as item
-use Rattle.sap_modtext.specs.Faults.{V3, V4, V5, V6, V7, Shape, wire, memory, shape_width, Setting, assign, initial, always, Declaration, port_declaration, item_declarations, declarations, shape_in, Above, shape_above, is_set, has_integer, IsItemOf, Target, target_of, is_settable, needs, Manner, as_value, Use, uses, suits, ranges, constants, constant_fits, indexes, operand_place, Differ, Among, IsDepth}
+use Rattle.sap_modtext.specs.Faults.{V3, V4, V5, V6, V7, Shape, wire, memory, shape_width, Setting, assign, initial, always, Declaration, port_declaration, item_declarations, declarations, shape_in, Above, shape_above, is_set, has_integer, IsItemOf, Target, target_of, is_settable, needs, Manner, as_value, Use, uses, suits, ranges, constants, constant_fits, indexes, operand_place, Differ, Among, HasIndex}
 use Rattle.sap_modtext.specs.Faults as faults
 use Rattle.sap_vjudge.specs.declared.code.Code.{Code}
 use Rattle.sap_vjudge.specs.declared.code.Code.TheVariants as code
@@ -19,7 +19,7 @@ use Rattle.sap_vjudge.specs.Listed.{twice_faults, declarations_faults, target_fa
 use Rattle.sap_vjudge.specs.Listed as listed
 use Rattle.sap_vjudge.proofs.Above.{under_item, ports_only, after_item_above, after_port_next, after_ports_above, nothing_is, at_end, items_declared}
 use Rattle.sap_vjudge.proofs.First.{StandsIn}
-use Rattle.sap_vjudge.proofs.Powers.{IsDepth-is_depth, is_other-some}
+use Rattle.sap_vjudge.proofs.Powers.{HasIndex-is_depth, is_other-some}
 use Rattle.sap_vjudge.proofs.WidthLemmas.{operand_width-above, parts_width-above, pairs-above, differs-some, too_wide-some}
 
 -- all of the faults are so
@@ -211,7 +211,7 @@ module _ (f : File) (above : Above) where
   depth_stands : (x : Item) → IsItemOf f above x → Each (Stood f) (depth_faults x)
   depth_stands (item.memory range x last) at =
       noted f (not (is_depth (last.value + 1))) code.V7 last.place
-      (λ h. faults.no_depth at (λ d. true≢false (sym (IsDepth-is_depth (last.value + 1) d) ∙ not-true _ h)))
+      (λ h. faults.no_depth at (λ d. true≢false (sym (HasIndex-is_depth (last.value + 1) d) ∙ not-true _ h)))
   depth_stands (item.wire range x) at = tt
   depth_stands (item.register range x) at = tt
   depth_stands (item.integer place) at = tt

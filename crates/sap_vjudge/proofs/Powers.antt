@@ -8,7 +8,7 @@ use Rattle.std.specs.Prelude.{◌==◌, ◌&&◌, not, nat_le}
 use Rattle.std.specs.Int.{is_power_of_two}
 use Rattle.std.specs.Int.RustNames.{count_ones}
 use Rattle.sap_lemmas.proofs.Bools.{and_left, and_right}
-use Rattle.sap_modtext.specs.Faults.{IsDepth}
+use Rattle.sap_modtext.specs.Faults.{HasIndex}
 use Rattle.sap_vjudge.specs.Listed.{is_depth, is_other}
 
 ones_zero : count_ones 0 ≡ 0
@@ -78,15 +78,15 @@ pow_inj b u h = by_order (order b u)
     by_order (inl (inr more)) = absurd (let k = pow_below u b more in omega arith)
     by_order (inr same) = same
 
-pub is_depth-IsDepth : (depth : ℕ) → is_depth depth ≡ true → IsDepth depth
-is_depth-IsDepth depth h =
+pub is_depth-HasIndex : (depth : ℕ) → is_depth depth ≡ true → HasIndex depth
+is_depth-HasIndex depth h =
     let p = power-some depth (and_left (is_power_of_two depth) (nat_le 2 depth && nat_le depth 4096) h) in
     let r = and_right (is_power_of_two depth) (nat_le 2 depth && nat_le depth 4096) h in
     bounded p.0 p.1 (grind (arith, common_steps)) (grind (arith, common_steps))
   where
-    bounded : (b : ℕ) → depth ≡ 2 ^ b → 2 ≤ depth → depth ≤ 4096 → IsDepth depth
+    bounded : (b : ℕ) → depth ≡ 2 ^ b → 2 ≤ depth → depth ≤ 4096 → HasIndex depth
     bounded zero e low high = absurd (omega arith)
-    bounded (suc b) e low high = (suc b, omega arith, at_most (order (suc b)), e)
+    bounded (suc b) e low high = (suc b, (omega arith, at_most (order (suc b)), e))
       where
         order : (i : ℕ) → (i ≤ 12) ⊎ (12 < i)
         order i = grind arith
@@ -95,11 +95,11 @@ is_depth-IsDepth depth h =
         at_most (inl within) = within
         at_most (inr past) = absurd (let k = pow_below 12 (suc b) past in omega arith)
 
-pub IsDepth-is_depth : (depth : ℕ) → IsDepth depth → is_depth depth ≡ true
-IsDepth-is_depth depth h =
-    let low : 2 ^ 1 ≤ 2 ^ h.0 = pow_mono h.1 in
-    let high : 2 ^ h.0 ≤ 2 ^ 12 = pow_mono h.2 in
-    let e = h.3 in
+pub HasIndex-is_depth : (depth : ℕ) → HasIndex depth → is_depth depth ≡ true
+HasIndex-is_depth depth h =
+    let low : 2 ^ 1 ≤ 2 ^ h.0 = pow_mono h.1.0 in
+    let high : 2 ^ h.0 ≤ 2 ^ 12 = pow_mono h.1.1 in
+    let e = h.1.2 in
     let p : is_power_of_two depth ≡ true = ap is_power_of_two e ∙ power-is h.0 in
     let small : 2 ≤ depth = omega arith in
     let large : depth ≤ 4096 = omega arith in

@@ -138,7 +138,7 @@ module _ (n : Net) (h : IsNetlist n) where
   inner_declared x (memory w d) g other =
       let low = g.0.0 in
       let e : w - 1 + 1 ≡ w = omega arith in
-      let p : 0 < d = subst (λ z. 0 < z) (sym g.1.3) (pow_pos g.1.0) in
+      let p : 0 < d = subst (λ z. 0 < z) (sym g.1.1.2) (pow_pos g.1.0) in
       let q : d - 1 + 1 ≡ d = omega arith in
       ap (λ z. z ∷ []) (declaration_same x (ap (λ z. memory z (d - 1 + 1)) e ∙ ap (memory w) q))
 

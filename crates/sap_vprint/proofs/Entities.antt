@@ -16,7 +16,7 @@ use Rattle.sap_net.specs.Names.{is_among, AreDistinct}
 use Rattle.sap_net.specs.Net.{Net}
 use Rattle.sap_net.specs.Rules.{Shapes, IsWidth, IsMemory, AreWires, AreValues, AreMemories}
 use Rattle.sap_net.specs.IsNetlist.{IsNetlist, input_names, wire_names, register_names, memory_names, first_readable, readable, shapes}
-use Rattle.sap_modtext.specs.Faults.{Shape, input, wire, register, memory, Among, IsDepth}
+use Rattle.sap_modtext.specs.Faults.{Shape, input, wire, register, memory, Among, HasIndex}
 use Rattle.sap_modtext.proofs.NameLists.{AreNew, keys, none_key, new_keys, NoneAmong, none_among_append, distinct_append, distinct_parts, found_among, keys_map, keys_append, none_among_parts}
 use Rattle.sap_vprint.specs.Printed.{entities}
 
@@ -134,7 +134,7 @@ abbrev pub IsShape : Shape → Type 0
 IsShape (input w) = IsWidth w
 IsShape (register w) = IsWidth w
 IsShape (wire w) = IsWidth w
-IsShape (memory w d) = IsWidth w × IsDepth d
+IsShape (memory w d) = IsWidth w × HasIndex d
 
 abbrev AreShapes : List (Name × Shape) → Type 0
 AreShapes es = AllByRecursion (λ e. IsShape e.1) es
@@ -159,7 +159,7 @@ wire_widths ms readable (w ∷ ws) h = (h.0, wire_widths ms ((w.name, w.width) �
 memory_widths : (readable : Scope) (ms : List Memory) → AreMemories (map (λ x. (x.name, (x.width, x.depth))) ms) → AllByRecursion (IsMemory readable) ms
     → AreShapes (map (λ x. (x.name, memory x.width x.depth)) ms)
 memory_widths readable [] h g = tt
-memory_widths readable (m ∷ ms) h g = ((h.0, (g.0.bits, g.0.depth.0, g.0.depth.1, g.0.depth.2)), memory_widths readable ms h.2 g.1)
+memory_widths readable (m ∷ ms) h g = ((h.0, (g.0.bits, g.0.depth)), memory_widths readable ms h.2 g.1)
 
 pub entities_fit : (n : Net) → IsNetlist n → AllByRecursion (λ e. IsShape e.1) (entities n)
 entities_fit n h =

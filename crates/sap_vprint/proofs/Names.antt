@@ -7,7 +7,7 @@ use Rattle.std.proofs.lemmas.Bool.{cases_Bool, and_parts, not-true}
 use Rattle.std.proofs.Math.Pow.{pow_mono}
 use Rattle.sap_lemmas.proofs.Everywhere.{all_append, none_found}
 use Rattle.sap_lemmas.proofs.Texts.{equal_of_bytes_eq}
-use Rattle.sap_net.proofs.NamesLemmas.{initial_inner}
+use Rattle.sap_text.proofs.NamesLemmas.{initial_inner}
 use Rattle.sap_modtext.proofs.LexingLemmas.{keywords_are}
 use Rattle.sap_maps.specs.Maps.{Name}
 use Rattle.sap_maps.specs.Scope.{Scope, find}
@@ -170,8 +170,8 @@ module _ (n : Net) (h : IsNetlist n) where
   declared_written x (register w) name g = let top = g.1 in ((omega arith, name), tt)
   declared_written x (memory w d) name g =
       let top = g.0.1 in
-      let most : 2 ^ g.1.0 ≤ 2 ^ 12 = pow_mono g.1.2 in
-      let depth = g.1.3 in
+      let most : 2 ^ g.1.0 ≤ 2 ^ 12 = pow_mono g.1.1.1 in
+      let depth = g.1.1.2 in
       ((omega arith, name, omega arith), tt)
 
   declarations_written : (xs : List Name) → AllByRecursion (IsInner n h) xs → AllByRecursion IsItemWritten (declarations_of n xs)

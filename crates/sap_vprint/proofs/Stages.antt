@@ -58,9 +58,9 @@ module _ (n : Net) (h : IsNetlist n) where
       (record { fresh = λ t e. absurd (cc); uses = tt; ranges = (omega arith, tt); constants = tt; pairs = tt; indexes = tt; fit = tt }, tt)
   declared_good x (memory w d) before g other =
       let top = g.0.1 in
-      let low : 0 < d = subst (λ z. 0 < z) (sym g.1.3) (pow_pos g.1.0) in
+      let low : 0 < d = subst (λ z. 0 < z) (sym g.1.1.2) (pow_pos g.1.0) in
       let back : d - 1 + 1 ≡ d = omega arith in
-      (record { fresh = λ t e. absurd (cc); uses = tt; ranges = (omega arith, tt); constants = tt; pairs = tt; indexes = tt; fit = (g.1.0, g.1.1, g.1.2, back ∙ g.1.3) }, tt)
+      (record { fresh = λ t e. absurd (cc); uses = tt; ranges = (omega arith, tt); constants = tt; pairs = tt; indexes = tt; fit = (g.1.0, (g.1.1.0, g.1.1.1, back ∙ g.1.1.2)) }, tt)
 
   pub declarations_good : (xs : List Name) (before : List item.Item) → AllByRecursion (IsInner n h) xs → AreGood ports before (declarations_of n xs)
   declarations_good [] before m = tt

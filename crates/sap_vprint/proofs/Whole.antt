@@ -130,8 +130,8 @@ module _ (n : Net) (h : IsNetlist n) where
   cells_deep x w b f =
       let s = found_all IsShape (entities n) x (memory w (2 ^ b)) (entities_fit n h) (cells_found x w (2 ^ b) f) in
       let d = s.1 in
-      let same = same_power b d.0 d.3 in
-      let low = d.1 in let top = d.2 in
+      let same = same_power b d.0 d.1.2 in
+      let low = d.1.0 in let top = d.1.1 in
       (omega arith, omega arith)
 
   -- behind the declarations all names are declared

@@ -14,12 +14,12 @@ use Rattle.sap_vparse.specs.declared.fault.ReadFault.{ReadFault}
 use Rattle.sap_vparse.specs.declared.fault.ReadFault.TheVariants as r
 use Rattle.sap_vread.specs.Codes.{code_of}
 use Rattle.sap_vread.specs.ModuleFault.{IsModuleFault, IsRefusal, no_token, unexpected, in_file}
-use Rattle.sap_vread.specs.Places.{place_at}
+use Rattle.sap_text.specs.Places.{place_at}
 use Rattle.sap_vread.specs.declared.fault.ModCode.{ModCode}
 use Rattle.sap_vread.specs.declared.fault.ModCode.TheVariants.{V1, V2}
 use Rattle.sap_vread.specs.declared.fault.ModFault.{ModFault}
 use Rattle.sap_vread.specs.declared.fault.ModFault.TheVariants.{Rule, Memory}
-use Rattle.sap_vread.specs.declared.place.Place.{Place}
+use Rattle.sap_text.specs.declared.place.Place.{Place}
 
 -- a file has at most one first fault
 

@@ -1,4 +1,3 @@
 pub mod Codes
 pub mod ModuleFault
-pub mod Places
 pub mod Build

@@ -1,14 +1,9 @@
 //! Lines and columns.
 
 ghost use Rattle.std.specs.Prelude.{◌≡◌};
-ghost use Rattle.sap_vread.specs.Places.{first_place, place_after, place_at};
+ghost use Rattle.sap_text.specs.Places.{first_place, place_after, place_at};
 
-/// A line and a column, both from 1. A line ends at LF alone, and a column counts bytes.
-#[derive(Clone, Copy, PartialEq, Eq, Debug)]
-pub struct Place {
-    pub line: u64,
-    pub column: u64,
-}
+pub use sap_text::place::Place;
 
 /// The place behind these bytes.
 #[tactic(auto, using(crate::proofs::Behind::places))]

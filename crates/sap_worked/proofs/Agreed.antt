@@ -6,7 +6,7 @@ use Rattle.sap_meaning.specs.Store.{put_number, put_level, put_child}
 use Rattle.sap_meaning.specs.State.{first}
 use Rattle.sap_worked.specs.Rows.{low, left}
 use Rattle.sap_worked.specs.Ground.{register_x}
-use Rattle.sap_worked.specs.Agreeing.{RegistersAbove, EnforcedRegistersAbove, CellsAbove, MemoriesAbove, StateLevelsAbove, ChildrenAbove, BelowTheWalk, InactiveChildren, InactiveLevels, InputsAside, AgreeBelow}
+use Rattle.sap_worked.specs.Agreeing.{RegistersAbove, EnforcedRegistersAbove, CellsAbove, MemoriesAbove, StateLevelsAbove, ChildrenAbove, BelowTheSeen, InactiveChildren, InactiveLevels, InputsAside, AgreeBelow}
 use Rattle.sap_worked.proofs.Grounded.{cells, later, agreed}
 use Rattle.sap_worked.proofs.Rested.{one_rests, other_rests}
 
@@ -27,7 +27,7 @@ registers_above = agreed left _ _ (record {
   level_d = refl;
   level_e = refl;
   level_q = refl;
-  paths = inl (refl, (refl, refl, inl (refl, (refl, refl, inl (refl, (refl, refl, tt))))));
+  paths = refl;
 })
 
 pub enforced_registers_above : EnforcedRegistersAbove
@@ -47,7 +47,7 @@ enforced_registers_above = agreed left _ _ (record {
   level_d = refl;
   level_e = refl;
   level_q = refl;
-  paths = inl (refl, (refl, refl, inl (refl, (refl, refl, inl (refl, (refl, refl, tt))))));
+  paths = refl;
 })
 
 pub cells_above : CellsAbove
@@ -67,7 +67,7 @@ cells_above = agreed left _ _ (record {
   level_d = refl;
   level_e = refl;
   level_q = refl;
-  paths = inl (refl, (refl, refl, inl (refl, (refl, refl, inl (refl, (refl, refl, tt))))));
+  paths = refl;
 })
 
 pub memories_above : MemoriesAbove
@@ -87,7 +87,7 @@ memories_above = agreed left _ _ (record {
   level_d = refl;
   level_e = refl;
   level_q = refl;
-  paths = inl (refl, (refl, refl, inl (refl, (refl, refl, inl (refl, (refl, refl, tt))))));
+  paths = refl;
 })
 
 pub state_levels_above : StateLevelsAbove
@@ -107,7 +107,7 @@ state_levels_above = agreed left _ _ (record {
   level_d = refl;
   level_e = refl;
   level_q = refl;
-  paths = inl (refl, (refl, refl, inl (refl, (refl, refl, inl (refl, (refl, refl, tt))))));
+  paths = refl;
 })
 
 pub children_above : ChildrenAbove
@@ -127,12 +127,12 @@ children_above = agreed left _ _ (record {
   level_d = refl;
   level_e = refl;
   level_q = refl;
-  paths = inl (refl, (refl, refl, inr (refl, refl)));
+  paths = refl;
 })
 
-pub below_the_walk : BelowTheWalk
+pub below_the_seen : BelowTheSeen
 unfolding first put_number put_level put_child
-below_the_walk = agreed left _ _ (record {
+below_the_seen = agreed left _ _ (record {
   right_above = refl;
   x = inl (refl, refl, refl);
   y = inl (refl, refl, refl);
@@ -147,7 +147,7 @@ below_the_walk = agreed left _ _ (record {
   level_d = refl;
   level_e = refl;
   level_q = refl;
-  paths = inl (refl, (refl, refl, inr (refl, refl)));
+  paths = refl;
 })
 
 pub inactive_children : InactiveChildren
@@ -167,7 +167,7 @@ inactive_children = agreed left _ _ (record {
   level_d = refl;
   level_e = refl;
   level_q = refl;
-  paths = inl (refl, (refl, refl, inl (refl, (refl, refl, inl (refl, (refl, refl, tt))))));
+  paths = refl;
 })
 
 pub inactive_levels : InactiveLevels
@@ -187,7 +187,7 @@ inactive_levels = agreed left _ _ (record {
   level_d = refl;
   level_e = refl;
   level_q = refl;
-  paths = inl (refl, (refl, refl, inl (refl, (refl, refl, inl (refl, (refl, refl, tt))))));
+  paths = refl;
 })
 
 pub inputs_aside : InputsAside
@@ -207,7 +207,7 @@ inputs_aside = agreed left _ _ (record {
   level_d = refl;
   level_e = refl;
   level_q = refl;
-  paths = inl (refl, (refl, refl, inl (refl, (refl, refl, inl (refl, (refl, refl, tt))))));
+  paths = refl;
 })
 
 pub agree_below : AgreeBelow
@@ -230,7 +230,7 @@ agree_below = record {
     level_d = refl;
     level_e = refl;
     level_q = refl;
-    paths = inl (refl, (refl, refl, inr (refl, refl)));
+    paths = refl;
   });
   at_left = agreed left _ _ (record {
     right_above = refl;
@@ -247,7 +247,7 @@ agree_below = record {
     level_d = refl;
     level_e = refl;
     level_q = refl;
-    paths = inl (refl, (refl, refl, inr (refl, refl)));
+    paths = refl;
   });
   not_at_right = λ a. elim (a.registers register_x refl) [ inl e ↦ eqb-false 5 6 refl e.0 | inr e ↦ true_is_not_false e.0 ];
   not_at_high = λ a. elim (a.registers register_x refl) [ inl e ↦ eqb-false 5 6 refl e.0 | inr e ↦ true_is_not_false e.0 ];

@@ -1,9 +1,9 @@
 -- The states of the ground design agree where finitely many facts hold.
 use Rattle.std.proofs.Common.{◌≡◌, ℕ, zero, suc, true, false, arith, nat_eq}
 use Rattle.std.proofs.lemmas.Grind.{common_steps}
-use Rattle.sap_meaning.specs.Program.{is_dynamic, is_register, is_memory, authority, root}
+use Rattle.sap_meaning.specs.Program.{is_dynamic, is_register, is_memory, authority}
 use Rattle.sap_meaning.specs.Store.{Store, Slot, own, start, next, start_whole, next_whole, owner, held, level}
-use Rattle.sap_meaning.specs.Agree.{Low, High, SlotsAlike, PartsAlike, PathsAgree, StatesAgree}
+use Rattle.sap_meaning.specs.Agree.{Low, High, SlotsAlike, PartsAlike, StatesAgree, seen_path}
 use Rattle.sap_meaning.specs.Examples.{four_levels}
 use Rattle.sap_worked.specs.Rows.{right}
 use Rattle.sap_worked.specs.Ground.{register_x, register_y, register_z, memory_m, memory_k, memory_h, state_p, state_d, state_e, state_q, ground, ground_world}
@@ -51,7 +51,7 @@ pub record Facts (l : ℕ) (s t : Store) : Type 0 where
   pub level_d : level ground_world (own state_d) s ≡ level ground_world (own state_d) t
   pub level_e : level ground_world (own state_e) s ≡ level ground_world (own state_e) t
   pub level_q : level ground_world (own state_q) s ≡ level ground_world (own state_q) t
-  pub paths : PathsAgree ground_world l (root ground_world) ground.states s t
+  pub paths : seen_path ground l s ≡ seen_path ground l t
 
 abbrev LevelKept : (l : ℕ) (s t : Store) → Slot → Type 0
 LevelKept l s t a = held ground_world a ≡ true → is_dynamic ground_world (owner a) ≡ false → Low four_levels l (authority ground_world (owner a))

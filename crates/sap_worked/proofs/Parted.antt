@@ -1,11 +1,27 @@
 -- Pairs of states that don't agree, each by the one thing in which it differs.
-use Rattle.std.proofs.Common.{inl, inr, refl}
+use Rattle.std.proofs.Common.{◌≡◌, Bool, true, false, ◌&&◌, List, [], ◌∷◌, nat_eq, inl, inr, refl, sym, ap, ◌∙◌}
 use Rattle.sap_lemmas.proofs.Bools.{true_is_not_false}
+use Rattle.sap_lemmas.proofs.Numbers.{test_of_same}
 use Rattle.std.proofs.lemmas.Bool.{eqb-false}
 use Rattle.sap_meaning.specs.Store.{own, start, next, put_number, put_level, put_child}
 use Rattle.sap_meaning.specs.State.{first}
+use Rattle.sap_meaning.specs.Agree.{ActiveState}
 use Rattle.sap_worked.specs.Ground.{register_x, register_y, memory_m, memory_k, state_d, state_q}
 use Rattle.sap_worked.specs.Apart.{RegisterNumber, RegisterLevel, RegisterSeenInOne, CellNumber, NextCellNumber, MemoryNumber, NextMemoryNumber, MemoryLevel, NextMemoryLevel, MemorySeenInOne, EnforcedRegisterLevel, EnforcedCellLevel, NextEnforcedCellLevel, InactiveStateLevel, ActiveStateLevel, OtherChild, OtherChildBelow, ChildLevel, ChildLevelBelow, ChildSeenInOne, OtherChildSeenInOne}
+
+-- whether two lists have the same states with the same levels
+abbrev same_states : List ActiveState → List ActiveState → Bool
+same_states [] [] = true
+same_states [] (y ∷ ys) = false
+same_states (x ∷ xs) [] = false
+same_states (x ∷ xs) (y ∷ ys) = (nat_eq x.state y.state && nat_eq x.level y.level) && same_states xs ys
+
+same_itself : (xs : List ActiveState) → same_states xs xs ≡ true
+same_itself [] = refl
+same_itself (x ∷ xs) = rw (test_of_same x.state, test_of_same x.level) (same_itself xs)
+
+lists_apart : (xs ys : List ActiveState) → same_states xs ys ≡ false → xs ≡ ys → ⊥
+lists_apart xs ys differ e = true_is_not_false (sym (same_itself xs) ∙ ap (λ (zs : List ActiveState). same_states xs zs) e ∙ differ)
 
 pub register_number : RegisterNumber
 unfolding first put_number put_level put_child
@@ -69,24 +85,24 @@ active_state_level = λ a. eqb-false 2 3 refl (a.enforced_levels (own state_d) r
 
 pub other_child : OtherChild
 unfolding first put_number put_level put_child
-other_child = λ a. elim (a.paths) [ inl e ↦ eqb-false 0 1 refl e.0 | inr e ↦ true_is_not_false e.0 ]
+other_child = λ a. lists_apart _ _ refl a.paths
 
 pub other_child_below : OtherChildBelow
 unfolding first put_number put_level put_child
-other_child_below = λ a. elim (a.paths) [ inl e ↦ elim (e.1.2) [ inl u ↦ elim (u.1.2) [ inl v ↦ eqb-false 0 1 refl v.0 | inr v ↦ true_is_not_false v.0 ] | inr u ↦ true_is_not_false u.0 ] | inr e ↦ true_is_not_false e.0 ]
+other_child_below = λ a. lists_apart _ _ refl a.paths
 
 pub child_level : ChildLevel
 unfolding first put_number put_level put_child
-child_level = λ a. elim (a.paths) [ inl e ↦ elim (e.1.2) [ inl u ↦ eqb-false 0 1 refl u.1.0 | inr u ↦ true_is_not_false u.0 ] | inr e ↦ true_is_not_false e.0 ]
+child_level = λ a. lists_apart _ _ refl a.paths
 
 pub child_level_below : ChildLevelBelow
 unfolding first put_number put_level put_child
-child_level_below = λ a. elim (a.paths) [ inl e ↦ elim (e.1.2) [ inl u ↦ elim (u.1.2) [ inl v ↦ eqb-false 0 1 refl v.1.0 | inr v ↦ true_is_not_false v.0 ] | inr u ↦ true_is_not_false u.0 ] | inr e ↦ true_is_not_false e.0 ]
+child_level_below = λ a. lists_apart _ _ refl a.paths
 
 pub child_seen_in_one : ChildSeenInOne
 unfolding first put_number put_level put_child
-child_seen_in_one = λ a. elim (a.paths) [ inl e ↦ elim (e.1.2) [ inl u ↦ eqb-false 0 2 refl u.1.0 | inr u ↦ true_is_not_false u.0 ] | inr e ↦ true_is_not_false e.0 ]
+child_seen_in_one = λ a. lists_apart _ _ refl a.paths
 
 pub other_child_seen_in_one : OtherChildSeenInOne
 unfolding first put_number put_level put_child
-other_child_seen_in_one = λ a. elim (a.paths) [ inl e ↦ elim (e.1.2) [ inl u ↦ eqb-false 0 1 refl u.0 | inr u ↦ true_is_not_false u.0 ] | inr e ↦ true_is_not_false e.0 ]
+other_child_seen_in_one = λ a. lists_apart _ _ refl a.paths

@@ -28,13 +28,13 @@ MemoriesAbove = StatesAgree ground left (cell_has memory_m 0 5 right calm) (cell
 abbrev pub StateLevelsAbove : Type 0
 StateLevelsAbove = StatesAgree ground left (level_is state_j right calm) (level_is state_j high calm)
 
--- P's current child is D, at right, or E, at high: the walk ends there.
+-- P's current child is D, at right, or E, at high: of the active path P alone is seen.
 abbrev pub ChildrenAbove : Type 0
 ChildrenAbove = StatesAgree ground left (child_is state_p 1 calm) (child_is state_p 2 calm)
 
--- C is at right or at high: the walk ends, and nothing is asked of what is below C.
-abbrev pub BelowTheWalk : Type 0
-BelowTheWalk = StatesAgree ground left (level_is state_c right calm) (level_is state_c high (level_is state_f left (child_is state_c 1 calm)))
+-- C is at right or at high: it isn't seen, and nothing is asked of what is below it.
+abbrev pub BelowTheSeen : Type 0
+BelowTheSeen = StatesAgree ground left (level_is state_c right calm) (level_is state_c high (level_is state_f left (child_is state_c 1 calm)))
 
 -- Q isn't active, so it may have any current child.
 abbrev pub InactiveChildren : Type 0

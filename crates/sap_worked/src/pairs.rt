@@ -1,6 +1,6 @@
 //! Pairs that agree at a level and pairs that don't, each by one part of the definitions.
 
-ghost use Rattle.sap_worked.specs.Agreeing.{RegistersAbove, EnforcedRegistersAbove, CellsAbove, MemoriesAbove, StateLevelsAbove, ChildrenAbove, BelowTheWalk, InactiveChildren, InactiveLevels, InputsAside, AgreeBelow};
+ghost use Rattle.sap_worked.specs.Agreeing.{RegistersAbove, EnforcedRegistersAbove, CellsAbove, MemoriesAbove, StateLevelsAbove, ChildrenAbove, BelowTheSeen, InactiveChildren, InactiveLevels, InputsAside, AgreeBelow};
 ghost use Rattle.sap_worked.specs.Apart.{RegisterNumber, RegisterLevel, RegisterSeenInOne, CellNumber, NextCellNumber, MemoryNumber, NextMemoryNumber, MemoryLevel, NextMemoryLevel, MemorySeenInOne, EnforcedRegisterLevel, EnforcedCellLevel, NextEnforcedCellLevel, InactiveStateLevel, ActiveStateLevel, OtherChild, OtherChildBelow, ChildLevel, ChildLevelBelow, ChildSeenInOne, OtherChildSeenInOne};
 ghost use Rattle.sap_worked.specs.Streams.{InputsAlike, InputNumber, InputLevel, InputSeenInOne, InputTooMany, StreamsAlike, LaterCycle, CycleTooMany, CycleLater, StreamsAgreeBelow, RefusalsAlike, RefusedSite, RefusedLevel, RefusedSeenInOne, RefusedTooMany, RefusalsAgreeBelow};
 
@@ -12,7 +12,7 @@ pub fn states_agree()
     ensures memories_above { MemoriesAbove }
     ensures state_levels_above { StateLevelsAbove }
     ensures children_above { ChildrenAbove }
-    ensures below_the_walk { BelowTheWalk }
+    ensures below_the_seen { BelowTheSeen }
     ensures inactive_children { InactiveChildren }
     ensures inactive_levels { InactiveLevels }
     ensures inputs_aside { InputsAside }

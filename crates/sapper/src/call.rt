@@ -13,12 +13,12 @@ ghost use Rattle.sapper.specs.Lines.{Reports, Tells};
 ghost use Rattle.sapper.specs.Outside.{Outside, FullLines};
 ghost use Rattle.sap_commands.specs.Steps.{Ends, ending, ending_of, reason, seen};
 
-use crate::digits::Digits;
 use sap_commands::failure::Failure;
 use sap_commands::refusal::Refusal;
 use sap_commands::{perform, refusal_text};
 use sap_desk::{Desk, write_line};
 use sap_stim::StimFault;
+use sap_stim::digits::Digits;
 use sap_words::command_of;
 use std::alloc::Global;
 

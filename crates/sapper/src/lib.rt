@@ -2,6 +2,5 @@
 #![tactic(auto)]
 
 mod call;
-mod digits;
 
 pub use call::sapper;

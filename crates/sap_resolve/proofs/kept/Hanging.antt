@@ -5,7 +5,7 @@ use Rattle.sap_lemmas.proofs.Numbers.{test_of_same}
 use Rattle.sap_lemmas.proofs.Texts.{bytes_eq_same, equal_of_bytes_eq}
 use Rattle.std.proofs.lemmas.Bool.{eqb-true, false_from_ne_true, or_left, or_right}
 use Rattle.sap_resolve.proofs.FillLemmas.{table_front}
-use Rattle.sap_tree.specs.declared.place.Place.{Place}
+use Rattle.sap_text.specs.declared.place.Place.{Place}
 use Rattle.sap_tree.specs.declared.name.Mention.{Mention}
 use Rattle.sap_tree.specs.declared.syntax.Decl.{Decl}
 use Rattle.sap_tree.specs.declared.syntax.Kind.{Kind}
@@ -25,7 +25,7 @@ use Rattle.sap_meaning.specs.Touches.{step_assigns, assigns, arms_assign, block_
 use Rattle.sap_meaning.specs.Checks.{Spot}
 use Rattle.sap_resolve.specs.Fill.{table, filled, filled_arms, filled_block, filled_state, filled_group}
 use Rattle.sap_resolve.specs.Resolve.{site_number, step_of, command_of, arms_of, block_of, else_of, list_of, state_of, group_of}
-use Rattle.sap_shape.specs.Sites.{Home, simple_sites, command_sites, block_sites, state_sites}
+use Rattle.sap_shape.specs.Sites.{Context, simple_sites, command_sites, block_sites, state_sites}
 use Rattle.sap_resolve.specs.Terms.{entity_number}
 use Rattle.sap_resolve.specs.Worlds.{states_in, world_of}
 use Rattle.sap_resolve.proofs.Lookup.{entities_length}
@@ -40,7 +40,7 @@ use Rattle.sap_resolve.specs.Kept.Laws.{HangsAgree}
 use Rattle.sap_resolve.proofs.kept.Names.{named_at, named_of}
 use Rattle.sap_resolve.proofs.kept.Keeping.{Known}
 use Rattle.sap_resolve.proofs.kept.Designs.{known_names}
-use Rattle.sap_resolve.proofs.kept.Stores.{same_kind, store_same, Kinds, kinds_of}
+use Rattle.sap_resolve.proofs.kept.Stores.{store_same, Kinds, kinds_of}
 
 -- truths
 
@@ -89,10 +89,10 @@ module _ (ls : Levels) (le : ℕ → ℕ → Bool) (ds : List Decl) (es : List E
   of_state y name b i e =
       where_equal b (is_dynamic w x) (bytes_eq name n) (nat_eq x y) (same y name i) (λ t. e ∙ ap (λ (z : ℕ). is_dynamic w z) (sym (eqb-true x y t)))
 
-  -- what is assigned, in the body of a state with this name
-  module _ (own_name : List ℕ) (kind : Kind) (children : StateList) where
-    abbrev h : Home
-    h = record { entities = es; name = own_name; kind = kind; children = children }
+  -- what is assigned, in the body of a state
+  module _ (home : tree.Home) where
+    abbrev h : Context
+    h = record { entities = es; home = home }
 
     simple_same : (m : ℕ) (c : SimpleCommand) → simple_faults ls.names means c ≡ []
         → (is_dynamic_store ds n && tree.simple_assigns c n) ≡ (is_dynamic w x && step_assigns (step_of ls h m c) x)
@@ -151,7 +151,7 @@ module _ (ls : Levels) (le : ℕ → ℕ → Bool) (ds : List Decl) (es : List E
           and_or (is_dynamic_store ds n) (is_dynamic w x) _ _ _ _ (command_same m c p.0) (list_same (m + length (command_sites h c)) cs p.1)
 
     -- what is touched in the body of a state with the number s and the children g
-    module _ (home : tree.Home) (s : ℕ) (g : Group) (own : (home.dynamic && bytes_eq home.name n) ≡ (is_dynamic w x && nat_eq x s))
+    module _ (s : ℕ) (g : Group) (own : (tree.is_dynamic_kind home.kind && bytes_eq home.name n) ≡ (is_dynamic w x && nat_eq x s))
         (falls : fall_touches ds home.children n ≡ (is_dynamic w x && (among g x || group_assigns g x))) where
       simple_touched : (m : ℕ) (c : SimpleCommand) → simple_faults ls.names means c ≡ []
           → simple_touches ds home c n ≡ (is_dynamic w x && step_hangs s g (step_of ls h m c) x)
@@ -213,8 +213,8 @@ module _ (ls : Levels) (le : ℕ → ℕ → Bool) (ds : List Decl) (es : List E
         → (is_dynamic_store ds n && tree.state_assigns s n) ≡ (is_dynamic w x && state_assigns (state_of ls es m y s) x)
     state_same m y (StateOf place name kind body children) f =
         let p = none_three (kind_faults ls.names le kind) (block_faults ls.names means body) (states_faults ls.names le means children) f in
-        let h : Home = record { entities = es; name = name.name; kind = kind; children = children } in
-        and_or (is_dynamic_store ds n) (is_dynamic w x) _ _ _ _ (block_same name.name kind children m body p.1) (states_same (m + length (block_sites h body)) (y + 1) children p.2)
+        let h : Context = record { entities = es; home = tree.home_of (StateOf place name kind body children) } in
+        and_or (is_dynamic_store ds n) (is_dynamic w x) _ _ _ _ (block_same h.home m body p.1) (states_same (m + length (block_sites h body)) (y + 1) children p.2)
 
     states_same : (m y : ℕ) (g : StateList) → states_faults ls.names le means g ≡ []
         → (is_dynamic_store ds n && tree.states_assign g n) ≡ (is_dynamic w x && group_assigns (group_of ls es m y g) x)
@@ -224,10 +224,10 @@ module _ (ls : Levels) (le : ℕ → ℕ → Bool) (ds : List Decl) (es : List E
         and_or (is_dynamic_store ds n) (is_dynamic w x) _ _ _ _ (state_same m y s p.0) (states_same (m + length (state_sites es s)) (y + states_in s) rest p.1)
 
   own_same : (a y : ℕ) (place : Place) (name : Mention) (kind : Kind) (body : CommandBlock) (children : StateList) → LaidState ls es w a y (StateOf place name kind body children)
-      → (tree.is_dynamic kind && bytes_eq name.name n) ≡ (is_dynamic w x && nat_eq x y)
+      → (tree.is_dynamic_kind kind && bytes_eq name.name n) ≡ (is_dynamic w x && nat_eq x y)
   own_same a y place name kind body children l =
-      of_state y name.name (tree.is_dynamic kind) (named_at es y name.name (laid_named ls es w a y place name kind body children l) (laid_name ls es w a y place name kind body children l))
-      (same_kind kind ∙ sym (here_dynamic ls es w a y place name kind body children l))
+      of_state y name.name (tree.is_dynamic_kind kind) (named_at es y name.name (laid_named ls es w a y place name kind body children l) (laid_name ls es w a y place name kind body children l))
+      (sym (here_dynamic ls es w a y place name kind body children l))
 
   child_same : (m a y : ℕ) (g : StateList) → Laid ls es w a y g → is_dynamic_child g n ≡ (is_dynamic w x && among (group_of ls es m y g) x)
   unfolding is_dynamic_child
@@ -235,7 +235,7 @@ module _ (ls : Levels) (le : ℕ → ℕ → Bool) (ds : List Decl) (es : List E
   child_same m a y (AndState (StateOf place name kind body children) rest) l =
       let s = StateOf place name kind body children in
       or_and (is_dynamic w x) _ _ _ _
-      (and_swap (bytes_eq name.name n) (tree.is_dynamic kind) ∙ own_same a y place name kind body children (laid_first ls es w a y s rest l))
+      (and_swap (bytes_eq name.name n) (tree.is_dynamic_kind kind) ∙ own_same a y place name kind body children (laid_first ls es w a y s rest l))
       (child_same (m + length (state_sites es s)) (suc a) (y + states_in s) rest (laid_rest ls es w a y s rest l))
 
   -- what a fall into these states touches
@@ -268,11 +268,11 @@ module _ (ls : Levels) (le : ℕ → ℕ → Bool) (ds : List Decl) (es : List E
   unfolding pointed
   parts p q a b h i = ap (λ (l : List (List Bool)). l ++ b) h ∙ ap (λ (l : List (List Bool)). map (point_row ds es) p ++ l) i ∙ sym (map-append (point_row ds es) p q)
 
-  module _ (kind : Kind) (children : StateList) (home : tree.Home) (s parent : ℕ) (g : Group)
-      (own : (x : ℕ) → x < length es → (home.dynamic && bytes_eq home.name (name_at es x)) ≡ (is_dynamic w x && nat_eq x s))
+  module _ (home : tree.Home) (s parent : ℕ) (g : Group)
+      (own : (x : ℕ) → x < length es → (tree.is_dynamic_kind home.kind && bytes_eq home.name (name_at es x)) ≡ (is_dynamic w x && nat_eq x s))
       (falls : (x : ℕ) → x < length es → fall_touches ds home.children (name_at es x) ≡ (is_dynamic w x && (among g x || group_assigns g x))) where
-    abbrev here : Home
-    here = record { entities = es; name = home.name; kind = kind; children = children }
+    abbrev here : Context
+    here = record { entities = es; home = home }
 
     abbrev at : Spot
     at = record { state = s; parent = parent; children = g }
@@ -281,7 +281,7 @@ module _ (ls : Levels) (le : ℕ → ℕ → Bool) (ds : List Decl) (es : List E
         → table (root w) (touches w at (command_of ls here m c)) ≡ row_of es (tree.touches ds home c)
     command_row m c f =
         tabled (touches w at (command_of ls here m c)) (tree.touches ds home c)
-        (λ x l. command_touched ls le ds es w k kinds x (same x l) (store x l) home.name kind children home s g (own x l) (falls x l) m c f)
+        (λ x l. command_touched ls le ds es w k kinds x (same x l) (store x l) home s g (own x l) (falls x l) m c f)
 
     simple_rows : (m : ℕ) (c : SimpleCommand) → simple_faults ls.names what c ≡ []
         → rows (filled w at (command_of ls here m (Do c))) ≡ pointed (hang.simple_points home c)
@@ -355,12 +355,12 @@ module _ (ls : Levels) (le : ℕ → ℕ → Bool) (ds : List Decl) (es : List E
         → state_rows (filled_state w parent (state_of ls es m y s)) ≡ pointed (hang.state_points s)
     tree_rows parent m a y (StateOf place name kind body children) l f =
         let p = none_three (kind_faults ls.names le kind) (block_faults ls.names what body) (states_faults ls.names le what children) f in
-        let h : Home = record { entities = es; name = name.name; kind = kind; children = children } in
+        let home = tree.home_of (StateOf place name kind body children) in
+        let h : Context = record { entities = es; home = home } in
         let i = m + length (block_sites h body) in
         let below = laid_below ls es w a y place name kind body children l in
-        let home = tree.home_of (StateOf place name kind body children) in
         parts (hang.block_points home body) (hang.states_points children) _ _
-        (body_rows kind children home y parent (group_of ls es i (y + 1) children)
+        (body_rows home y parent (group_of ls es i (y + 1) children)
         (λ x z. own_same ls le ds es w k kinds x (same x z) (store x z) a y place name kind body children l)
         (λ x z. falls_same ls le ds es w k kinds x (same x z) (store x z) i 0 (y + 1) children below p.2) m body p.1)
         (trees_rows y i 0 (y + 1) children below p.2)

@@ -4,13 +4,11 @@ use Rattle.std.specs.List.{list_any}
 use Rattle.sap_lemmas.proofs.Bools.{or_false}
 use Rattle.sap_lemmas.proofs.Texts.{bytes_eq_same, equal_of_bytes_eq}
 use Rattle.std.proofs.lemmas.Bool.{false_from_ne_true}
-use Rattle.sap_tree.specs.declared.place.Place.{Place}
+use Rattle.sap_text.specs.declared.place.Place.{Place}
 use Rattle.sap_tree.specs.declared.syntax.Decl.{Decl}
 use Rattle.sap_tree.specs.declared.syntax.Decl.TheVariants.{Input, Register, Memory}
-use Rattle.sap_tree.specs.declared.syntax.Kind.{Kind}
-use Rattle.sap_tree.specs.declared.syntax.Kind.TheVariants.{Dynamic, Enforced}
 use Rattle.sap_tree.specs.Syntax.{StateTree, StateOf, StateList, NoState, AndState, DesignTree}
-use Rattle.sap_tree.specs.Touches.{is_dynamic, declares_dynamic, is_dynamic_store}
+use Rattle.sap_tree.specs.Touches.{is_dynamic_kind, declares_dynamic, is_dynamic_store}
 use Rattle.sap_lattice.specs.Levels.{Levels}
 use Rattle.sap_names.specs.declared.entity.Entity as tree
 use Rattle.sap_names.specs.declared.kind.Declared.{Declared}
@@ -22,7 +20,7 @@ use Rattle.sap_names.specs.NameFaults.{fits_use, use_faults, twice}
 use Rattle.sap_meaning.specs.Program.{Entity, World, entity, nothing, kind_is_register, kind_is_memory, is_register, is_memory}
 use Rattle.sap_meaning.specs.Program as program
 use Rattle.sap_resolve.specs.Terms.{entity_number}
-use Rattle.sap_resolve.specs.Worlds.{states_in, is_dynamic_kind, declared, all_declared, state_entities, group_entities, world_of}
+use Rattle.sap_resolve.specs.Worlds.{states_in, declared, all_declared, state_entities, group_entities, world_of}
 use Rattle.sap_resolve.proofs.Lookup.{Stands, entity_stands}
 use Rattle.sap_resolve.proofs.sized.Expressions.{used}
 use Rattle.sap_resolve.proofs.premises.Lookups.{unique}
@@ -61,20 +59,16 @@ mutual
 
 -- declarations of a name
 
-pub same_kind : (k : Kind) → is_dynamic k ≡ is_dynamic_kind k
-same_kind (Dynamic place) = refl
-same_kind (Enforced level under) = refl
-
 declares_other : (d : Decl) (n : List ℕ) → bytes_eq (entity_of d).name.name n ≡ false → declares_dynamic n d ≡ false
 declares_other (Input place name width) n h = refl
-declares_other (Register place name width kind start) n h = ap (λ (b : Bool). b && is_dynamic kind) h
-declares_other (Memory place name width depth kind) n h = ap (λ (b : Bool). b && is_dynamic kind) h
+declares_other (Register place name width kind start) n h = ap (λ (b : Bool). b && is_dynamic_kind kind) h
+declares_other (Memory place name width depth kind) n h = ap (λ (b : Bool). b && is_dynamic_kind kind) h
 
 declares_own : (ls : Levels) (d : Decl) → is_store (declared ls d) ≡ true → declares_dynamic (entity_of d).name.name d ≡ (declared ls d).dynamic
 unfolding is_store
 declares_own ls (Input place name width) h = absurd (cc h)
-declares_own ls (Register place name width kind start) h = ap (λ (b : Bool). b && is_dynamic kind) (bytes_eq_same name.name) ∙ same_kind kind
-declares_own ls (Memory place name width depth kind) h = ap (λ (b : Bool). b && is_dynamic kind) (bytes_eq_same name.name) ∙ same_kind kind
+declares_own ls (Register place name width kind start) h = ap (λ (b : Bool). b && is_dynamic_kind kind) (bytes_eq_same name.name)
+declares_own ls (Memory place name width depth kind) h = ap (λ (b : Bool). b && is_dynamic_kind kind) (bytes_eq_same name.name)
 
 absent : (ds : List Decl) (n : List ℕ) → ((y : ℕ) → y < length (declared_in ds) → name_at (declared_in ds) y ≡ n → ⊥) → list_any (declares_dynamic n) ds ≡ false
 absent [] n u = refl

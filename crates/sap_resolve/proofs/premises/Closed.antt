@@ -1,16 +1,16 @@
 -- Bodies without E10 close, and stay closed with numbers for names.
 use Rattle.std.proofs.Common.{◌≡◌, ℕ, ◌+◌, true, false, List, [], ◌++◌, refl, length}
 use Rattle.sap_names.proofs.FaultLemmas.{nil_left, nil_right}
-use Rattle.sap_tree.specs.declared.place.Place.{Place}
+use Rattle.sap_text.specs.declared.place.Place.{Place}
 use Rattle.sap_tree.specs.Syntax.{SimpleCommand, Assign, Write, SetTag, SetCellTag, Goto, Fall, Command, Do, Try, If, TryThen, Case, Arms, Last, Arm, CommandBlock, Commands, ElseBlock, NoElse, Else, CommandList, NoCommand, AndCommand}
 use Rattle.sap_lattice.specs.Levels.{Levels}
 use Rattle.sap_names.specs.declared.fault.Fault.{Fault}
 use Rattle.sap_shape.specs.Closing.{transfer_faults, then_faults, open_faults, open_arms_faults, open_block_faults, open_else_faults, open_list_faults, last_simple_faults, last_faults, closing_arms_faults, closing_faults, closing_else_faults, closing_list_faults}
 use Rattle.sap_meaning.specs.Fine.{transfers, Open, OpenArms, OpenBlock, Closes, Final, ClosingArms}
-use Rattle.sap_shape.specs.Sites.{Home, simple_sites, block_sites, command_sites}
+use Rattle.sap_shape.specs.Sites.{Context, simple_sites, block_sites, command_sites}
 use Rattle.sap_resolve.specs.Resolve.{site_number, step_of, command_of, arms_of, block_of, else_of, list_of}
 
-module _ (ls : Levels) (h : Home) where
+module _ (ls : Levels) (h : Context) where
   pub open_step : (n : ℕ) (c : SimpleCommand) → transfer_faults c ≡ [] → transfers (step_of ls h n c) ≡ false
   open_step n (Assign target e) f = refl
   open_step n (Write target index e) f = refl

@@ -12,7 +12,7 @@ use Rattle.sap_names.specs.Entities.{what_is}
 use Rattle.sap_names.specs.Widths.{own as own_width}
 use Rattle.sap_names.specs.declared.kind.Use.TheVariants.{Assigned as assigned, Indexed as indexed, Entered as entered}
 use Rattle.sap_names.specs.NameFaults.{simple_faults, command_faults, block_faults, arms_faults, else_faults, commands_faults, state_faults, states_faults}
-use Rattle.sap_shape.specs.Sites.{is_enforced, is_enforced_kind, any_enforced, Home, CheckSite, simple_sites}
+use Rattle.sap_shape.specs.Sites.{is_enforced, is_enforced_kind, any_enforced, Context, CheckSite, simple_sites}
 use Rattle.sap_shape.specs.Sites as shape
 use Rattle.sap_meaning.specs.Program as program
 use Rattle.sap_meaning.specs.Program.{World, is_dynamic, Step, Block, State, Node, Group, None, More}
@@ -66,19 +66,19 @@ module _ (ls : Levels) (es : List declared_entity.Entity) (w : World) where
       (ap (λ (b : Bool). not b) (here_dynamic ls es w n x place name kind body children mine) ∙ enforced_kind kind)
       (some_same (k + length (shape.state_sites es s)) (suc n) (x + states_in s) rest (laid_rest ls es w n x s rest laid))
 
-module _ (ls : Levels) (levels : List (List ℕ)) (h : Home) (w : World) (match : AllMatch h.entities w.entities)
-    (x : ℕ) (g : Group) (own : not (is_dynamic w x) ≡ is_enforced_kind h.kind) (kids : some_enforced w g ≡ any_enforced h.children) where
+module _ (ls : Levels) (levels : List (List ℕ)) (h : Context) (w : World) (match : AllMatch h.entities w.entities)
+    (x : ℕ) (g : Group) (own : not (is_dynamic w x) ≡ is_enforced_kind h.home.kind) (kids : some_enforced w g ≡ any_enforced h.home.children) where
   abbrev What : tree.Lookup
   What = what_is h.entities
 
   -- a command is a check site where its step is
-  pub site_same : (n : ℕ) (c : SimpleCommand) → simple_faults levels What c ≡ [] → is_site w x g (step_of ls h n c) ≡ shape.is_site h.entities h.kind h.children c
+  pub site_same : (n : ℕ) (c : SimpleCommand) → simple_faults levels What c ≡ [] → is_site w x g (step_of ls h n c) ≡ shape.is_site h.entities h.home.kind h.home.children c
   site_same n (Assign target e) f = enforced_same h.entities w match assigned target (set_named levels What target e f)
   site_same n (Write target index e) f = enforced_same h.entities w match indexed target (write_named levels What target index e f)
   site_same n (SetTag place target tag) f = refl
   site_same n (SetCellTag place target index tag) f = refl
   site_same n (Goto place target) f =
-      or_equal (not (is_dynamic w x)) (not (is_dynamic w (entity_number h.entities target.name))) (is_enforced_kind h.kind)
+      or_equal (not (is_dynamic w x)) (not (is_dynamic w (entity_number h.entities target.name))) (is_enforced_kind h.home.kind)
       (is_enforced h.entities target.name) own (enforced_same h.entities w match entered target f)
   site_same n (Fall place) f = kids
 
@@ -98,8 +98,8 @@ module _ (ls : Levels) (levels : List (List ℕ)) (h : Home) (w : World) (match 
       → step_sites w x g (step_of ls h (site_number h k c) c) ≡ count_from (length (simple_sites h c)) k
   step_counted k c f =
       ap (λ (b : Bool). if b then site_of (step_of ls h (site_number h k c) c) ∷ [] else []) (site_same (site_number h k c) c f)
-      ∙ ap (λ (n : ℕ). if shape.is_site h.entities h.kind h.children c then n ∷ [] else []) (site_is (site_number h k c) c)
-      ∙ one_site k (shape.is_site h.entities h.kind h.children c) (record { home = h; command = c })
+      ∙ ap (λ (n : ℕ). if shape.is_site h.entities h.home.kind h.home.children c then n ∷ [] else []) (site_is (site_number h k c) c)
+      ∙ one_site k (shape.is_site h.entities h.home.kind h.home.children c) (record { context = h; command = c })
 
   mutual
     command_counted : (k : ℕ) (c : Command) → command_faults levels What c ≡ []
@@ -157,7 +157,7 @@ module _ (ls : Levels) (levels : List (List ℕ)) (le : ℕ → ℕ → Bool) (e
     state_counted : (k n x : ℕ) (s : StateTree) → LaidState ls es w n x s → state_faults levels le (what_is es) s ≡ []
         → state_sites w (state_of ls es k x s) ≡ count_from (length (shape.state_sites es s)) k
     state_counted k n x (StateOf place name kind body children) laid f =
-        let h : Home = record { entities = es; name = name.name; kind = kind; children = children } in
+        let h : Context = record { entities = es; home = record { name = name.name; kind = kind; children = children } } in
         let k' : ℕ = k + length (shape.block_sites h body) in
         let g : Group = group_of ls es k' (x + 1) children in
         let below : Laid ls es w 0 (x + 1) children = laid_below ls es w n x place name kind body children laid in

@@ -1,7 +1,7 @@
 -- What is without E10: it is open, or it closes.
 use Rattle.std.proofs.Common.{◌≡◌, ◌⊎◌, inl, inr, List, [], ◌++◌, refl}
 use Rattle.sap_names.proofs.FaultLemmas.{nil_left, nil_right}
-use Rattle.sap_tree.specs.declared.place.Place.{Place}
+use Rattle.sap_text.specs.declared.place.Place.{Place}
 use Rattle.sap_tree.specs.Syntax.{Expression, Expressions, SimpleCommand, Assign, Write, SetTag, SetCellTag, Goto, Fall, Command, Try, If, TryThen, Case, Arms, Arm, CommandBlock, ElseBlock, Else, CommandList, NoCommand, AndCommand}
 use Rattle.sap_names.specs.declared.fault.Fault.{Fault}
 use Rattle.sap_shape.specs.Closing.{transfer_faults, then_faults, open_faults, open_block_faults, open_arms_faults, open_else_faults, open_list_faults, last_faults, closing_faults, closing_arms_faults, closing_else_faults, closing_list_faults}

@@ -4,7 +4,7 @@ use Rattle.std.proofs.Common.{◌≡◌, ℕ, ◌+◌, ◌<◌, ◌||◌, Option
 use Rattle.std.proofs.lemmas.Bool.{both_ways, eqb-true, false_from_ne_true, not-false, or_from, or_left, or_right}
 use Rattle.sap_names.proofs.NameFaultsLemmas.{no_fault}
 use Rattle.sap_names.proofs.FaultLemmas.{nil_left, nil_right}
-use Rattle.sap_tree.specs.declared.place.Place.{Place}
+use Rattle.sap_text.specs.declared.place.Place.{Place}
 use Rattle.sap_tree.specs.Syntax.{SimpleCommand, Assign, Write, SetTag, SetCellTag, Goto, Fall, Command, Do, Try, If, TryThen, Case, Arms, Last, Arm, CommandBlock, Commands, ElseBlock, NoElse, Else, CommandList, NoCommand, AndCommand, StateTree, StateOf, StateList, NoState, AndState}
 use Rattle.sap_lattice.specs.Levels.{Levels}
 use Rattle.sap_names.specs.declared.kind.Code.TheVariants.{E11, E12, E16, E17}
@@ -14,7 +14,7 @@ use Rattle.sap_names.specs.Widths.{own}
 use Rattle.sap_names.specs.declared.kind.Use.TheVariants.{Indexed as indexed, Retagged as retagged}
 use Rattle.sap_names.specs.NameFaults.{fault_if, simple_faults, command_faults, block_faults, arms_faults, else_faults, commands_faults, state_faults, states_faults}
 use Rattle.sap_shape.specs.Closing.{transfer_faults, closing_faults}
-use Rattle.sap_shape.specs.Sites.{is_dynamic, Home, simple_sites, block_sites, command_sites, state_sites}
+use Rattle.sap_shape.specs.Sites.{is_dynamic, Context, simple_sites, block_sites, command_sites, state_sites}
 use Rattle.sap_shape.specs.ShapeFaults.{Body, is_among, is_in, is_leaf, is_comparable, simple_shape, then_shape, command_shape, block_shape, arms_shape, else_shape, list_shape, state_shape, states_shape}
 use Rattle.sap_meaning.specs.Program.{World, Group}
 use Rattle.sap_meaning.specs.Touches.{among}
@@ -33,7 +33,7 @@ pub some_child : (ls : Levels) (es : List Entity) (k x : ℕ) (g : StateList) �
 some_child ls es k x NoState h = cc
 some_child ls es k x (AndState s rest) h = omega arith
 
-module _ (ls : Levels) (levels : List (List ℕ)) (h : Home) (w : World) (match : AllMatch h.entities w.entities) where
+module _ (ls : Levels) (levels : List (List ℕ)) (h : Context) (w : World) (match : AllMatch h.entities w.entities) where
   abbrev What : Lookup
   What = what_is h.entities
 
@@ -122,7 +122,7 @@ module _ (ls : Levels) (levels : List (List ℕ)) (h : Home) (w : World) (match 
 
     -- steps with names of fitting entities, among the states of a group
     module _ (q g : Group) (targets : (name : List ℕ) → is_among at.group name ≡ true → among q (entity_number h.entities name) ≡ true)
-        (falling : is_leaf at.children ≡ false → 0 < size g) where
+        (falling : is_leaf at.home.children ≡ false → 0 < size g) where
       fine_step : (n : ℕ) (c : SimpleCommand) → simple_faults levels What c ≡ [] → simple_shape h.entities at c ≡ [] → NamedStep w (step_of ls h n c)
           → FineStep w q g (step_of ls h n c)
       fine_step n (Assign target e) f s i = i
@@ -142,7 +142,7 @@ module _ (ls : Levels) (levels : List (List ℕ)) (h : Home) (w : World) (match 
       )
       fine_step n (Goto place target) f s i =
           targets target.name (not-false (is_among at.group target.name) (no_fault (not (is_among at.group target.name)) E11 target.place s))
-      fine_step n (Fall place) f s i = falling (no_fault (is_leaf at.children) E12 place s)
+      fine_step n (Fall place) f s i = falling (no_fault (is_leaf at.home.children) E12 place s)
 
       fine_then : (n : ℕ) (c : SimpleCommand) (place : Place) → simple_faults levels What c ≡ [] → then_shape h.entities at c place ≡ [] → transfer_faults c ≡ []
           → NamedStep w (step_of ls h n c) → FineStep w q g (step_of ls h n c)
@@ -204,8 +204,8 @@ module _ (ls : Levels) (levels : List (List ℕ)) (le : ℕ → ℕ → Bool) (e
     state_unmarked : (k x : ℕ) (group : StateList) (above : List (List ℕ)) (s : StateTree) → is_in above (name_at es y) ≡ true
         → state_faults levels le (what_is es) s ≡ [] → state_shape es group above s ≡ [] → state_retags (state_of ls es k x s) y ≡ false
     state_unmarked k x group above (StateOf place name kind body children) high f s =
-        let h : Home = record { entities = es; name = name.name; kind = kind; children = children } in
-        let at : Body = record { name = name.name; kind = kind; group = group; children = children; above = above } in
+        let h : Context = record { entities = es; home = record { name = name.name; kind = kind; children = children } } in
+        let at : Body = record { home = record { name = name.name; kind = kind; children = children }; group = group; above = above } in
         let front : closing_faults body ++ block_shape es at body ≡ [] = nil_left _ _ s in
         or_from (block_retags (block_of ls h k body) y) (group_retags (group_of ls es (k + length (block_sites h body)) (x + 1) children) y)
         (block_unmarked ls levels h w match at y (or_left _ _ (or_right _ _ high)) k body (body_fits levels (what_is es) le place name kind body children f)

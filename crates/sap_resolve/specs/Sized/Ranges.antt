@@ -1,16 +1,10 @@
 -- Programs in which every width is from 1 to 64, each slice is within what it is taken from, and each memory has a depth that memories can have.
-use Rattle.std.specs.Prelude.{◌≡◌, ℕ, ◌+◌, ◌^◌, ◌<◌, ◌≤◌, true, false}
+use Rattle.std.specs.Prelude.{◌≡◌, ℕ, ◌+◌, ◌<◌, ◌≤◌, true, false}
+pub use Rattle.sap_maps.specs.Ranges.{IsDepth, IsWidth}
 use Rattle.sap_maps.specs.Term.{Term, constant, read, cell, one, two, choose, join, part}
 use Rattle.sap_meaning.specs.Program.{World, Program, width, is_memory, is_state, LevelTerm, fixed, of, at_place, both, Step, Set, Write, Retag, RetagCell, Goto, Fall, Command, Do, Try, If, TryThen, Case, Arms, Last, Arm, Block, End, Then, State, Node, Group, None, More}
 use Rattle.sap_meaning.specs.Expressions.{width_of}
 use Rattle.sap_meaning.specs.Sized.{depth}
-
-abbrev pub IsWidth : ℕ → Type 0
-IsWidth u = (1 ≤ u) × (u ≤ 64)
-
--- a depth of 2 to 4096, whose index has b bits
-abbrev pub IsDepth : (depth b : ℕ) → Type 0
-IsDepth depth b = (1 ≤ b) × (b ≤ 12) × (depth ≡ 2 ^ b)
 
 -- the widths of a term and of all its parts, those of indexes included
 abbrev pub RangedTerm : World → Term ℕ → Type 0

@@ -314,10 +314,10 @@ module _ (f : File) (h : IsFaultless f) where
       let s = shape_there d (memory w depth) m in
       let fine = fine_shape f h d.name.name (memory w depth) s in
       let b = fine.1.0 in
-      let r = first_write two d.name.name w depth b s fine.1.3 (set_there d (memory w depth) always m refl) in (
+      let r = first_write two d.name.name w depth b s fine.1.1.2 (set_there d (memory w depth) always m refl) in (
         record {
           bits = b;
-          depth = (fine.1.1, fine.1.2, fine.1.3);
+          depth = fine.1.1;
           start = first_start d.name.name (memory w depth) s (set_there d (memory w depth) initial m refl);
           enable = r.enable;
           index = r.index;

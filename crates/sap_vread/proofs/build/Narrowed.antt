@@ -7,7 +7,7 @@ use Rattle.std.proofs.Math.Pow.{pow_mono}
 use Rattle.sap_lemmas.proofs.Everywhere.{all_parts}
 use Rattle.sap_modtext.specs.Items.{Mention, Number, Constant, Operand, Right, Port, Item, File}
 use Rattle.sap_modtext.specs.Items as item
-use Rattle.sap_modtext.specs.Faults.{as_value, operand_constants, right_constants, constant_fits, Among, IsDepth, IsFaultless}
+use Rattle.sap_modtext.specs.Faults.{as_value, operand_constants, right_constants, constant_fits, Among, HasIndex, IsFaultless}
 use Rattle.sap_modtext.proofs.Good.{above_of}
 use Rattle.sap_vread.specs.Build.Narrow.{narrow, narrow_number, narrow_constant, narrow_operand, narrow_right, narrow_port, narrow_item, narrow_file}
 use Rattle.sap_vread.proofs.build.Sound.{good_use, good_constants, slice_fits, good_depth, small_port, small_range, Part}
@@ -69,12 +69,12 @@ module _ (f : File) (h : IsFaultless f) where
       cc
   right_same x (item.cell m index) p c = ap (item.cell m) (operand_same index c)
 
-  depth_small : (n : ℕ) → IsDepth (n + 1) → n < 4096
+  depth_small : (n : ℕ) → HasIndex (n + 1) → n < 4096
   depth_small n d =
-      let low = d.1 in
-      let high = d.2 in
+      let low = d.1.0 in
+      let high = d.1.1 in
       let most : 2 ^ d.0 ≤ 2 ^ 12 = pow_mono high in
-      let is = d.3 in
+      let is = d.1.2 in
       let top : 2 ^ 12 ≡ 4096 = refl in
       omega arith
 

@@ -12,7 +12,7 @@ use Rattle.sap_net.specs.Rules.{Shapes, IsWidth, IsOperand, AreValues, AreMemori
 use Rattle.sap_net.specs.IsNetlist.{first_readable, shapes}
 use Rattle.sap_modtext.specs.Items.{Mention, Number, Constant, Operand, Port, Item, File}
 use Rattle.sap_modtext.specs.Items as item
-use Rattle.sap_modtext.specs.Faults.{Shape, input, wire, register, memory, port_shape, port_declaration, item_declarations, Declaration, declarations, shape_in, shape_width, assign, is_set, as_value, suits, operand_uses, operand_constants, operand_width, constant_fits, constant_width, value_width, Among, IsDepth, IsFaultless}
+use Rattle.sap_modtext.specs.Faults.{Shape, input, wire, register, memory, port_shape, port_declaration, item_declarations, Declaration, declarations, shape_in, shape_width, assign, is_set, as_value, suits, operand_uses, operand_constants, operand_width, constant_fits, constant_width, value_width, Among, HasIndex, IsFaultless}
 use Rattle.sap_modtext.specs.Modules.{netlist_of, net_operand, first_of}
 use Rattle.sap_modtext.proofs.NameLists.{keys, keys_append, key_none, new_keys, found_among, distinct_append, among_cases}
 use Rattle.sap_modtext.proofs.Good.{IsGoodUse, above_of}
@@ -69,7 +69,7 @@ abbrev pub IsFine : Shape → Type 0
 IsFine (input width) = IsWidth width
 IsFine (wire width) = IsWidth width
 IsFine (register width) = IsWidth width
-IsFine (memory width depth) = IsWidth width × IsDepth depth
+IsFine (memory width depth) = IsWidth width × HasIndex depth
 
 pub fine_width : (s : Shape) → IsFine s → IsWidth (shape_width s)
 fine_width (input width) h = h

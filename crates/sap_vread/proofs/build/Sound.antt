@@ -8,7 +8,7 @@ use Rattle.sap_maps.specs.Maps.{Name}
 use Rattle.sap_net.specs.Names.{is_among, AreDistinct}
 use Rattle.sap_modtext.specs.Items.{Mention, Number, Operand, Constant, Right, Item, Port, File}
 use Rattle.sap_modtext.specs.Items as item
-use Rattle.sap_modtext.specs.Faults.{Shape, wire, memory, Declaration, declarations, shape_in, shape_width, Above, IsItemOf, shape_above, Setting, assign, Target, target_of, is_set, is_settable, Use, as_value, uses, suits, constants, indexes, constant_fits, operand_width, pairs, Differ, Among, IsDepth, needs, IsFaultless}
+use Rattle.sap_modtext.specs.Faults.{Shape, wire, memory, Declaration, declarations, shape_in, shape_width, Above, IsItemOf, shape_above, Setting, assign, Target, target_of, is_set, is_settable, Use, as_value, uses, suits, constants, indexes, constant_fits, operand_width, pairs, Differ, Among, HasIndex, needs, IsFaultless}
 use Rattle.sap_modtext.specs.Faults as fault
 use Rattle.sap_modtext.proofs.Good.{IsGoodUse, IsGoodIndex}
 use Rattle.sap_modtext.proofs.NameLists.{named_among, among_name, among_right}
@@ -34,8 +34,8 @@ find_power n (suc k) =
       by_bits p none differ (inl e) = differ (p.3 ∙ ap (λ b. 2 ^ b) e)
       by_bits p none differ (inr d) = let high = p.2 in none (p.0, p.1, omega arith, p.3)
 
-pub depth_stable : (n : ℕ) → ((IsDepth n → ⊥) → ⊥) → IsDepth n
-depth_stable n h = ⊎_elim (λ p. p) (λ none. absurd (h none)) (find_power n 12)
+pub depth_stable : (n : ℕ) → ((HasIndex n → ⊥) → ⊥) → HasIndex n
+depth_stable n h = ⊎_elim (λ p. (p.0, (p.1, p.2, p.3))) (λ none. absurd (h (λ d. none (d.0, d.1.0, d.1.1, d.1.2)))) (find_power n 12)
 
 -- a part of a list, with what stands before and behind it
 pub record Part {A : Type 0} (x : A) (xs : List A) : Type 0 where
@@ -115,7 +115,7 @@ module _ (f : File) (h : IsFaultless f) where
       (λ p. ⊎_elim (λ q. (p, q)) (λ more. absurd (wrong (λ r s. omega arith))) (cases_lt high (shape_width shape)))
       (cases_lt high low)
 
-  pub good_depth : (a : Above) (range last : Number) (x : Mention) → IsItemOf f a (item.memory range x last) → IsDepth (last.value + 1)
+  pub good_depth : (a : Above) (range last : Number) (x : Mention) → IsItemOf f a (item.memory range x last) → HasIndex (last.value + 1)
   good_depth a range last x i = depth_stable (last.value + 1) (λ n. h.v7 last.place (fault.no_depth i n))
 
   -- Ranges, and what is set.

@@ -8,7 +8,7 @@ use Rattle.std.proofs.lemmas.Bool.{and_from}
 use Rattle.sap_lemmas.proofs.Everywhere.{none_passes}
 use Rattle.sap_lemmas.proofs.Lists.{take_more}
 use Rattle.std.proofs.lemmas.List.{map-append}
-use Rattle.sap_net.proofs.NamesLemmas.{initial_inner}
+use Rattle.sap_text.proofs.NamesLemmas.{initial_inner}
 use Rattle.sap_modtext.proofs.LexingLemmas.{keywords_are}
 use Rattle.sap_net.specs.Names.{is_initial, is_inner, is_word, is_keyword, is_name}
 use Rattle.sap_modtext.specs.Tokens.{Word, Sign, Kind, Token, IsToken}

@@ -222,10 +222,10 @@ module _ (f : File) (h : IsFaultless f) where
         let b = fine.1.0 in
         let z = reads_at before (item.assign x (item.cell m index) ∷ after) sc e r index us.1.1 cs in
         let same : w ≡ u = equal (wire_width (shape_above a x.name)) (memory_width (shape_above a m.name)) w u (ap wire_width s) (ap memory_width d) ps.0 in
-        let deep : shape_above a m.name ≡ Some (memory u (2 ^ b)) = d ∙ ap (λ n. Some (memory u n)) fine.1.3 in
+        let deep : shape_above a m.name ≡ Some (memory u (2 ^ b)) = d ∙ ap (λ n. Some (memory u n)) fine.1.1.2 in
         let wide : z.width ≡ b = good_index f h a (item.assign x (item.cell m index)) i m index (inl refl) u b z.width deep z.is in (
           b,
-          memory_found f h m.name ∙ ap (picked memory_shape) below ∙ ap (λ n. let q : ℕ × ℕ = (n, depth) in Some q) (sym same) ∙ ap (λ n. let q : ℕ × ℕ = (w, n) in Some q) fine.1.3,
+          memory_found f h m.name ∙ ap (picked memory_shape) below ∙ ap (λ n. let q : ℕ × ℕ = (n, depth) in Some q) (sym same) ∙ ap (λ n. let q : ℕ × ℕ = (w, n) in Some q) fine.1.1.2,
           subst (λ n. IsOperand sc n (net_operand index)) wide z.operand,
         )
 

@@ -37,7 +37,7 @@ returns-in_err-waiting g c =
 pub print_steps-requires-clause-behind : goal.print_steps-requires-clause-behind
 print_steps-requires-clause-behind g c =
     let s = c.in_ok-simulation.simulation in
-    subst (λ (m : Net). IsAfter c.args.lattice.now m [] s) (sym c.in_ok-simulation.ensures.net) c.in_ok-simulation.ensures
+    subst (λ (m : Net). IsAfter c.args.lattice.now m [] s) (sym c.in_ok-simulation.ensures.after.net) c.in_ok-simulation.ensures.after
 
 pub print_steps-requires-clause-shows : goal.print_steps-requires-clause-shows
 print_steps-requires-clause-shows g c = c.rows_add_up.ensures.begins
@@ -47,12 +47,12 @@ print_steps-requires-clause-whole g c =
     let ls = c.args.lattice.now in
     let n = c.args.netlist in
     let s = c.in_ok-simulation.simulation in
-    let adds : RowsAddUp ls n = subst (λ (m : Net). RowsAddUp ls m) c.in_ok-simulation.ensures.net c.rows_add_up.ensures in
-    let fields : s.fields ≡ fields_of ls n = c.in_ok-simulation.ensures.planned.fields ∙ ap (fields_of ls) c.in_ok-simulation.ensures.net in
+    let adds : RowsAddUp ls n = subst (λ (m : Net). RowsAddUp ls m) c.in_ok-simulation.ensures.after.net c.rows_add_up.ensures in
+    let fields : s.fields ≡ fields_of ls n = c.in_ok-simulation.ensures.after.planned.fields ∙ ap (fields_of ls) c.in_ok-simulation.ensures.after.net in
     let whole = has_whole ls n c.rules.ensures c.one_run.ensures.some adds
     (λ bytes. stream_fits ls c.lawful.ensures.codes n c.rules.ensures (read_for ls n bytes).stream
     (c.stimulus_fits.ensures ls (fields_of ls n) bytes c.lawful.ensures.order.bottom_is_level)) in
-    subst (λ (m : Net). HasWhole (AreRows ls m) ls s.fields) (sym c.in_ok-simulation.ensures.net)
+    subst (λ (m : Net). HasWhole (AreRows ls m) ls s.fields) (sym c.in_ok-simulation.ensures.after.net)
     (subst (λ (fs : List Field). HasWhole (AreRows ls n) ls fs) (sym fields) whole)
 
 pub returns : goal.returns
@@ -60,13 +60,13 @@ returns g c =
     let ls = c.args.lattice.now in
     let n = c.args.netlist in
     let s = c.in_ok-simulation.simulation in
-    let adds : RowsAddUp ls n = subst (λ (m : Net). RowsAddUp ls m) c.in_ok-simulation.ensures.net c.rows_add_up.ensures in
-    let fields : s.fields ≡ fields_of ls n = c.in_ok-simulation.ensures.planned.fields ∙ ap (fields_of ls) c.in_ok-simulation.ensures.net in
+    let adds : RowsAddUp ls n = subst (λ (m : Net). RowsAddUp ls m) c.in_ok-simulation.ensures.after.net c.rows_add_up.ensures in
+    let fields : s.fields ≡ fields_of ls n = c.in_ok-simulation.ensures.after.planned.fields ∙ ap (fields_of ls) c.in_ok-simulation.ensures.after.net in
     let holds : (bytes given : List ℕ) → AreRows ls s.runner.net (stimulus_of ls s.fields bytes).stream given → AreModuleRows ls n bytes given
     = λ bytes given shown.
     let there : AreRows ls n (read_for ls n bytes).stream given
     = subst (λ (fs : List Field). AreRows ls n (stimulus_of ls fs bytes).stream given) fields
-    (subst (λ (m : Net). AreRows ls m (stimulus_of ls s.fields bytes).stream given) c.in_ok-simulation.ensures.net shown) in
+    (subst (λ (m : Net). AreRows ls m (stimulus_of ls s.fields bytes).stream given) c.in_ok-simulation.ensures.after.net shown) in
     ((read_for ls n bytes).fault, adds.whole bytes given there) in
     printed_same c.args.stimulus.now _ (AreModuleRows ls n) _ (λ bytes. (read_for ls n bytes).fault) holds
     (λ bytes. ap (λ (fs : List Field). (stimulus_of ls fs bytes).fault) fields) _ _ _ c.print_steps.ensures

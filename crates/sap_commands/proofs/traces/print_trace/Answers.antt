@@ -22,7 +22,7 @@ returns-in_err-tracing g c =
     rw (p.1, p.2) (starved _ (quiet_self _))
 
 pub new-requires-2 : goal.new-requires-2
-new-requires-2 g c = record { widths = subst (All IsSized) (sym c.fields.ensures) c.in_ok-tracing.ensures.planned.sized }
+new-requires-2 g c = record { widths = subst (All IsSized) (sym c.fields.ensures) c.in_ok-tracing.ensures.after.planned.sized }
 
 pub returns-in_err-lines : goal.returns-in_err-lines
 returns-in_err-lines g c =
@@ -42,7 +42,7 @@ returns-in_err-waiting g c =
 pub print_steps-requires-clause-behind : goal.print_steps-requires-clause-behind
 print_steps-requires-clause-behind g c =
     let s = c.in_ok-tracing.tracing in
-    subst (λ (m : Net). IsAfter (levels_in c.args.checked.now) (tree_in c.args.checked.now) m [] s) (sym c.in_ok-tracing.ensures.net) c.in_ok-tracing.ensures
+    subst (λ (m : Net). IsAfter (levels_in c.args.checked.now) (tree_in c.args.checked.now) m [] s) (sym c.in_ok-tracing.ensures.after.net) c.in_ok-tracing.ensures.after
 
 pub print_steps-requires-clause-shows : goal.print_steps-requires-clause-shows
 print_steps-requires-clause-shows g c = c.lines_add_up.ensures.begins
@@ -52,7 +52,7 @@ print_steps-requires-clause-whole g c =
     let ls = levels_in c.args.checked.now in
     let d = tree_in c.args.checked.now in
     let s = c.in_ok-tracing.tracing in
-    subst (λ (fs : List Field). HasWhole (AreLines ls d s.runner.net) ls fs) (sym c.in_ok-tracing.ensures.planned.fields)
+    subst (λ (fs : List Field). HasWhole (AreLines ls d s.runner.net) ls fs) (sym c.in_ok-tracing.ensures.after.planned.fields)
     (has_whole_lines ls d s.runner.net c.lines_add_up.ensures)
 
 pub returns : goal.returns
@@ -60,7 +60,7 @@ returns g c =
     let ls = levels_in c.args.checked.now in
     let d = tree_in c.args.checked.now in
     let s = c.in_ok-tracing.tracing in
-    let fields : s.fields ≡ design_fields ls d = c.in_ok-tracing.ensures.planned.fields in
+    let fields : s.fields ≡ design_fields ls d = c.in_ok-tracing.ensures.after.planned.fields in
     let holds : (bytes given : List ℕ) → AreLines ls d s.runner.net (stimulus_of ls s.fields bytes).stream given → AreTraceLines ls d bytes given
     = λ bytes given shown.
     let there : AreLines ls d s.runner.net (read_for ls d bytes).stream given

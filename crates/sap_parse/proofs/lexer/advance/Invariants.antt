@@ -1,5 +1,5 @@
 use Rattle.std.proofs.Common.{◌≡◌, ◌≤◌, ◌+◌, drop}
-use Rattle.sap_parse.specs.Lexing.{place_after}
+use Rattle.sap_text.specs.Places.{place_after}
 use Rattle.sap_parse.proofs.lexer.advance.Given as goal
 
 abbrev pub invariant-bytes : goal.invariant-bytes

@@ -1,7 +1,8 @@
 use Rattle.std.proofs.Common.{◌≡◌, ◌-◌, ◌∙◌, ◌+◌, sym, ap, subst, refl, arith, length-drop, length-take, length, take, drop}
 use Rattle.sap_walk.specs.Reached.{start, blank, token}
 use Rattle.sap_parse.specs.Lexemes.{lexeme_of}
-use Rattle.sap_parse.specs.Lexing.{AreTokens, Reached, IsWithin, place_of, version_of}
+use Rattle.sap_parse.specs.Lexing.{AreTokens, Reached, IsWithin, version_of}
+use Rattle.sap_text.specs.Places.{place_at}
 use Rattle.sap_parse.specs.declared.token.Token.{Token}
 use Rattle.sap_parse.proofs.Places.{advanced}
 use Rattle.std.specs.List.{All}
@@ -11,7 +12,7 @@ use Rattle.sap_parse.proofs.TokenTexts.{texts_are, in_order, spanned, tokens_ord
 use Rattle.sap_parse.proofs.lexer.lex.Goals as goal
 
 pub lexemes-init : goal.lexemes-init
-unfolding place_of
+unfolding place_at
 lexemes-init c = record {
   within = omega arith;
   reached = subst (Reached c.args.text.now 0) (sym c.new-tokens.ensures.items) start;

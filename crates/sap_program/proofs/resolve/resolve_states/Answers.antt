@@ -1,5 +1,5 @@
 use Rattle.std.proofs.Common.{arith, length}
-use Rattle.sap_program.specs.Homes.{known_rows}
+use Rattle.sap_program.specs.Contexts.{known_rows}
 use Rattle.sap_program.specs.Views.{group_of}
 use Rattle.sap_program.proofs.Groups.{whole_states, whole_sites}
 use Rattle.sap_program.proofs.Limits.{sites_fit, points_fit, states_fit}

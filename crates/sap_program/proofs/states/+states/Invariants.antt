@@ -1,7 +1,7 @@
 use Rattle.std.proofs.Common.{◌≡◌, ◌+◌, drop, length}
 use Rattle.sap_names.proofs.Weights.{state_weight, states_weight}
 use Rattle.sap_tree.specs.Trees.{state_of, states_of}
-use Rattle.sap_program.specs.Homes.{known_rows}
+use Rattle.sap_program.specs.Contexts.{known_rows}
 use Rattle.sap_program.specs.Lists.{group_from, group_sites, states_below}
 use Rattle.sap_program.specs.Rows.{group_points, group_with}
 use Rattle.sap_program.specs.Views.{group_of, joined}

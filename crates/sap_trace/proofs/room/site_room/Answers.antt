@@ -1,14 +1,29 @@
-use Rattle.std.proofs.Common.{◌≡◌, ◌<◌, ◌+◌, ◌^◌, length, subst, arith}
+use Rattle.std.proofs.Common.{length, subst, arith}
 use Rattle.sap_lattice.specs.Levels.{Levels}
 use Rattle.sap_check.specs.Checked.{levels_in, tree_in}
-use Rattle.sap_check.specs.Sites.{sites_of}
+use Rattle.sap_stim.proofs.RowLeast.{Longest, longest}
 use Rattle.sap_stim.proofs.RowRoom.{Within}
-use Rattle.sap_trace.proofs.Rooms.{holds_line}
+use Rattle.sap_trace.proofs.Rooms.{holds_line, no_less}
 use Rattle.sap_trace.proofs.room.site_room.Goals as goal
 
-pub returns : goal.returns
-returns c =
-    let few : length (sites_of (tree_in c.args.checked.now)) < 2 ^ 32 = omega (arith, c.site_count.ensures, c.site_count.type_inv) in
-    let is : c.in_ok-room.room ≡ c.longest_name-name.result + c.longest_level-level.result + 56 = omega (arith, c.in_ok-checked_add.ensures, c.in_ok-room.ensures) in
-    holds_line (levels_in c.args.checked.now) (tree_in c.args.checked.now) c.longest_name-name.result c.longest_level-level.result c.longest_level-level.ensures.number
-    (subst (λ (ls : Levels). Within ls.names c.longest_level-level.result (length ls.names)) c.lattice.ensures c.longest_level-level.ensures.names) c.longest_name-name.ensures few c.in_ok-room.room is
+pub returns-clause-holds : goal.returns-clause-holds
+returns-clause-holds c =
+    let level = c.longest_level-level.result in
+    holds_line (levels_in c.args.checked.now) (tree_in c.args.checked.now) c.most_beside_level.result level c.in_ok-room.room c.longest_level-level.ensures.number
+    (subst (λ (l : Levels). Within l.names level (length l.names)) c.lattice-lattice.ensures c.longest_level-level.ensures.names) c.most_beside_level.ensures.most (omega (arith, c.in_ok-room.ensures))
+
+pub returns-clause-least : goal.returns-clause-least
+returns-clause-least c = λ other holds.
+    let level = c.longest_level-level.result in
+    let most = longest c.lattice-lattice.result.now level c.lawful.ensures.codes c.lawful.ensures.narrow c.lawful.ensures.names.before.not_too_many c.longest_level-level.ensures.some in
+    let fewest = no_less (levels_in c.args.checked.now) (tree_in c.args.checked.now) c.most_beside_level.result level other (subst (λ (l : Levels). Longest l level) c.lattice-lattice.ensures most) c.most_beside_level.ensures.least
+    (omega (arith, c.site_count.ensures)) holds in
+    omega (arith, fewest, c.in_ok-room.ensures)
+
+pub returns-in_err-room-clause-none : goal.returns-in_err-room-clause-none
+returns-in_err-room-clause-none c = rw c.from_residual.ensures (λ other holds.
+    let level = c.longest_level-level.result in
+    let most = longest c.lattice-lattice.result.now level c.lawful.ensures.codes c.lawful.ensures.narrow c.lawful.ensures.names.before.not_too_many c.longest_level-level.ensures.some in
+    let fewest = no_less (levels_in c.args.checked.now) (tree_in c.args.checked.now) c.most_beside_level.result level other (subst (λ (l : Levels). Longest l level) c.lattice-lattice.ensures most) c.most_beside_level.ensures.least
+    (omega (arith, c.site_count.ensures)) holds in
+    omega (arith, fewest, c.in_err-room.ensures))

@@ -2,7 +2,7 @@ use Rattle.std.proofs.Common.{◌≡◌, Some, subst, rules}
 use Rattle.std.specs.Str.{bytes_eq}
 use Rattle.std.specs.HashMap as hash
 use Rattle.sap_maps.specs.Maps.{Name}
-use Rattle.sap_fold.proofs.Maps.{same_bytes}
+use Rattle.sap_share.proofs.Maps.{same_bytes}
 use Rattle.sap_trim.proofs.Maps.{binds}
 use Rattle.sap_trim.proofs.walk.bind.Goals as goal
 

@@ -1,5 +1,5 @@
 use Rattle.std.proofs.Common.{◌≡◌, ◌≤◌, ◌+◌, drop}
-use Rattle.sap_vread.specs.Places.{first_place, place_after}
+use Rattle.sap_text.specs.Places.{first_place, place_after}
 use Rattle.sap_vread.proofs.place.behind.Given as goal
 
 abbrev pub invariant-bytes : goal.invariant-bytes

@@ -1,5 +1,5 @@
 use Rattle.std.proofs.Common.{sym, ap, ◌∙◌}
-use Rattle.sap_vread.specs.Places.{first_place, place_after, place_at}
+use Rattle.sap_text.specs.Places.{first_place, place_after, place_at}
 use Rattle.sap_vread.proofs.Behind.{take_all}
 use Rattle.sap_vread.proofs.place.place_at.Goals as goal
 

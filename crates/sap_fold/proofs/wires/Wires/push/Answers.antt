@@ -2,10 +2,11 @@ use Rattle.std.proofs.Common.{◌≡◌, ◌++◌, [], ◌∷◌, List, ℕ, Som
 use Rattle.std.specs.Str.{bytes_eq}
 use Rattle.std.specs.HashMap as hash
 use Rattle.sap_net.specs.declared.parts.Wire.{Wire}
-use Rattle.sap_fold.specs.Keys.{key}
-use Rattle.sap_fold.specs.Names.{helper}
-use Rattle.sap_fold.specs.Wires.{NamesRights}
-use Rattle.sap_fold.proofs.Maps.{same_bytes, one_more}
+use Rattle.sap_share.specs.Keys.{key}
+use Rattle.sap_share.specs.Names.{helper}
+use Rattle.sap_share.specs.Rights.{NamesRights}
+use Rattle.sap_share.proofs.Maps.{same_bytes}
+use Rattle.sap_share.proofs.RightMaps.{one_more}
 use Rattle.sap_fold.proofs.wires.Wires.push.Goals as goal
 
 pub returns-clause-names : goal.returns-clause-names

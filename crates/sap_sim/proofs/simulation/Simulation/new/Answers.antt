@@ -22,11 +22,11 @@ fields_are c =
     ∙ ap (λ (is : List Input). map (field_of c.width-tag.result is) (with_field c.width-tag.result is)) c.inputs-2.ensures
     ∙ ap (λ (tag : ℕ). map (field_of tag c.args.netlist.inputs) (with_field tag c.args.netlist.inputs)) c.width-tag.ensures
 
-pub returns : goal.returns
-returns c =
+pub returns-clause-after : goal.returns-clause-after
+returns-clause-after c =
     let ls = c.args.lattice.now in
     let n = c.args.netlist in
-    let d = (goal.at.returns c).In_ok-line in
+    let d = (goal.at.returns-clause-after c).In_ok-line in
     record {
       net = c.in-Ok.ensures.netlist;
       planned = record {
@@ -48,3 +48,7 @@ returns c =
       };
       shows = λ run h. subst (λ (vs : List Valuation). Shows c.in-Ok.runner (last_or None vs)) (sym (no_run n None run h)) c.in-Ok.ensures.unstepped;
     }
+
+pub returns-clause-least : goal.returns-clause-least
+returns-clause-least c = λ other holds.
+    c.in-Some.ensures.least other (subst (λ (names : List Name). HoldsRows c.args.lattice.now names other) (sym c.deref-2.ensures.value) holds)

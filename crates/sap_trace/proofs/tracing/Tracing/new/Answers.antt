@@ -24,8 +24,8 @@ wires_of-requires c =
     (subst (λ (k : ℕ). AreReadable c.args.netlist k) (sym c.site_count.ensures)
     (sites_readable ls d c.args.netlist c.rules.ensures (site_wires ls d c.args.netlist c.requires.stands c.known.ensures.numbering)))
 
-pub returns : goal.returns
-returns c =
+pub returns-clause-after : goal.returns-clause-after
+returns-clause-after c =
     let ls = levels_in c.args.checked.now in
     let d = tree_in c.args.checked.now in
     record {
@@ -35,7 +35,10 @@ returns c =
         wires = subst (λ (k : ℕ). AreWires c.in_ok-runner.runner.net k c.in_ok-wires.wires) c.site_count.ensures c.in_ok-wires.ensures;
         fields = c.in_ok-fields.ensures ∙ ap fields_among c.names-names.ensures ∙ fields_are ls d;
         sized = subst (λ (fs : List Field). All IsSized fs) (sym c.in_ok-fields.ensures) (all_sized c.names-names.result.now c.have_widths.ensures);
-        room = c.in-Some.ensures;
+        room = c.in-Some.ensures.holds;
       };
       shows = λ run h. subst (λ (vs : List Valuation). Shows c.in_ok-runner.runner (last_or None vs)) (sym (no_run c.args.netlist None run h)) c.in_ok-runner.ensures.unstepped;
     }
+
+pub returns-clause-least : goal.returns-clause-least
+returns-clause-least c = c.in-Some.ensures.least

@@ -1,7 +1,7 @@
 use Rattle.std.proofs.Common.{take}
 use Rattle.sap_fold.specs.Names.{holds}
 use Rattle.sap_trim.specs.Walked.{Folds, Walked, state_of}
-use Rattle.sap_fold.specs.Wires.{NamesRights}
+use Rattle.sap_share.specs.Rights.{NamesRights}
 use Rattle.sap_trim.proofs.walk.Walk.fold_all.Given as goal
 
 abbrev pub invariant-loop-wire : goal.invariant-loop-wire

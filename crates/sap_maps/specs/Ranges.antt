@@ -1,0 +1,10 @@
+-- The widths of values, and the depths of memories.
+use Rattle.std.specs.Prelude.{◌≡◌, ℕ, ◌^◌, ◌≤◌}
+
+-- a width from 1 to 64
+abbrev pub IsWidth : ℕ → Type 0
+IsWidth w = (1 ≤ w) × (w ≤ 64)
+
+-- a depth of 2 to 4096, whose index has b bits
+abbrev pub IsDepth : (depth b : ℕ) → Type 0
+IsDepth depth b = (1 ≤ b) × (b ≤ 12) × (depth ≡ 2 ^ b)

@@ -1,0 +1,22 @@
+-- The names of helping wires.
+use Rattle.std.proofs.Common.{◌≡◌, ℕ, ◌^◌, ◌<◌, true, false, arith, inl, inr}
+use Rattle.std.specs.Fmt.{decimal}
+use Rattle.std.specs.Str.{bytes_eq}
+use Rattle.std.proofs.lemmas.Fmt.{decimal_is_IsNumeral, decimal_injective}
+use Rattle.std.proofs.lemmas.Bool.{cases_Bool}
+use Rattle.sap_lemmas.proofs.Texts.{equal_of_bytes_eq}
+use Rattle.sap_net.proofs.NamesLemmas.{numeral_inner, wire_name}
+use Rattle.sap_net.specs.Names.{is_name}
+use Rattle.sap_share.specs.Names.{helper}
+
+pub helper_is_name : (k : ℕ) → k < 2 ^ 64 → is_name (helper k) ≡ true
+unfolding helper
+helper_is_name k l = wire_name (decimal k) (numeral_inner (decimal k) (decimal_is_IsNumeral k l).0.1)
+
+pub helpers_differ : (j k : ℕ) → j < 2 ^ 64 → k < 2 ^ 64 → j < k → bytes_eq (helper j) (helper k) ≡ false
+unfolding helper
+helpers_differ j k a b l =
+    elim (cases_Bool (bytes_eq (helper j) (helper k))) [
+      | inl t ↦ absurd (let e : helper j ≡ helper k = equal_of_bytes_eq (helper j) (helper k) t in let d : decimal j ≡ decimal k = cc in let s : j ≡ k = decimal_injective j k a b d in omega arith)
+      | inr f ↦ f
+    ]

@@ -1,0 +1,7 @@
+mod Digits
+pub mod Decoding
+pub mod Helpers
+pub mod Maps
+pub mod RightMaps
+pub mod Found
+pub mod Differing

@@ -1,0 +1,146 @@
+//! The bytes that tell right sides apart.
+
+ghost use Rattle.std.specs.Prelude.{◌≡◌, ◌++◌, IfOk, OnOk};
+ghost use Rattle.sap_share.specs.Keys as spec;
+
+use sap_bits::{Op1, Op2};
+use sap_net::parts::{Operand, Right};
+use std::alloc::{AllocError, Global};
+
+/// The bytes of the right side of an operator on two names of up to eight bytes, which most wires have.
+const MOST_BYTES: usize = 24;
+
+fn number_one(op: Op1) -> u8
+    ensures { result ≡ spec.number1 op }
+{
+    match op {
+        Op1::Not => 0,
+        Op1::Neg => 1,
+        Op1::AllOnes => 2,
+        Op1::AnyOne => 3,
+        Op1::Odd => 4,
+    }
+}
+
+fn number_two(op: Op2) -> u8
+    ensures { result ≡ spec.number2 op }
+{
+    match op {
+        Op2::Add => 0,
+        Op2::Sub => 1,
+        Op2::Mul => 2,
+        Op2::And => 3,
+        Op2::Or => 4,
+        Op2::Xor => 5,
+        Op2::Eq => 6,
+        Op2::Ne => 7,
+        Op2::Lt => 8,
+        Op2::Le => 9,
+        Op2::Shl => 10,
+        Op2::Shr => 11,
+    }
+}
+
+fn add_number(key: &mut Vec<u8>, number: u64) -> Result<(), AllocError>
+    ensures { OnOk result (key.new.items ≡ key.old.items ++ spec.number number) }
+{
+    let mut rest = number;
+    while rest >= 128 {
+        key.push((128 + rest % 128) as u8)?;
+        rest /= 128;
+    }
+    key.push(rest as u8)?;
+    Ok(())
+}
+
+fn add_bytes(key: &mut Vec<u8>, bytes: &[u8]) -> Result<(), AllocError>
+    ensures { OnOk result (key.new.items ≡ key.old.items ++ bytes.now) }
+{
+    for byte in bytes {
+        key.push(*byte)?;
+    }
+    Ok(())
+}
+
+fn add_operand(key: &mut Vec<u8>, operand: &Operand) -> Result<(), AllocError>
+    ensures { OnOk result (key.new.items ≡ key.old.items ++ spec.operand_bytes operand.now) }
+{
+    match operand {
+        Operand::Named(name) => {
+            let bytes = name.as_bytes();
+            key.push(0)?;
+            add_number(key, bytes.len() as u64)?;
+            add_bytes(key, bytes)
+        }
+        Operand::Constant { width, value } => {
+            key.push(1)?;
+            add_number(key, u64::from(*width))?;
+            add_number(key, *value)
+        }
+    }
+}
+
+fn add_operands(key: &mut Vec<u8>, operands: &[Operand]) -> Result<(), AllocError>
+    ensures { OnOk result (key.new.items ≡ key.old.items ++ spec.operands_bytes operands.now) }
+{
+    for operand in operands {
+        add_operand(key, operand)?;
+    }
+    Ok(())
+}
+
+fn add_right(key: &mut Vec<u8>, right: &Right) -> Result<(), AllocError>
+    ensures { OnOk result (key.new.items ≡ key.old.items ++ spec.right_bytes right.now) }
+{
+    match right {
+        Right::Copy(a) => {
+            key.push(0)?;
+            add_operand(key, a)
+        }
+        Right::One(op, a) => {
+            key.push(1)?;
+            key.push(number_one(*op))?;
+            add_operand(key, a)
+        }
+        Right::Two(op, a, b) => {
+            key.push(2)?;
+            key.push(number_two(*op))?;
+            add_operand(key, a)?;
+            add_operand(key, b)
+        }
+        Right::Choose(c, a, b) => {
+            key.push(3)?;
+            add_operand(key, c)?;
+            add_operand(key, a)?;
+            add_operand(key, b)
+        }
+        Right::Concat(operands) => {
+            let operands = operands.as_slice();
+            key.push(4)?;
+            add_number(key, operands.len() as u64)?;
+            add_operands(key, operands)
+        }
+        Right::Slice { name, hi, lo } => {
+            key.push(5)?;
+            add_number(key, u64::from(*hi))?;
+            add_number(key, u64::from(*lo))?;
+            add_bytes(key, name.as_bytes())
+        }
+        Right::Cell { memory, index } => {
+            key.push(6)?;
+            add_operand(key, index)?;
+            add_bytes(key, memory.as_bytes())
+        }
+    }
+}
+
+/// The bytes of a right side at a width.
+#[tactic(auto, unfolding(crate::specs::Keys::key))]
+pub fn key(alloc: Global, width: u32, right: &Right) -> Result<Vec<u8>, AllocError>
+    ensures { IfOk result (λ k. k.items ≡ spec.key width right.now) }
+{
+    let mut key = Vec::with_capacity(alloc, MOST_BYTES)?;
+    add_number(&mut key, u64::from(width))?;
+    add_right(&mut key, right)?;
+    Ok(key)
+}

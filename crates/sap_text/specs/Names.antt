@@ -1,0 +1,39 @@
+-- What a text takes as a name, and the names that no version of the design language has.
+use Rattle.std.specs.Prelude.{ℕ, Bool, false, ◌||◌, ◌&&◌, ◌==◌, List, [], ◌∷◌, codes}
+use Rattle.std.specs.Char.{is_ascii_alphabetic, is_ascii_alphanumeric}
+use Rattle.std.specs.List.{list_all}
+
+-- a letter or `_`
+abbrev pub is_initial : ℕ → Bool
+is_initial c = is_ascii_alphabetic c || c == 95
+
+-- a letter, a digit or `_`
+abbrev pub is_inner : ℕ → Bool
+is_inner c = is_ascii_alphanumeric c || c == 95
+
+-- a letter or `_`, and then letters, digits and `_`
+abbrev pub is_word : List ℕ → Bool
+is_word [] = false
+is_word (c ∷ cs) = is_initial c && list_all is_inner cs
+
+-- the words that no name of a design is, in each version of the language
+abbrev pub design_keywords : List (List ℕ)
+design_keywords =
+    codes "input"
+    ∷ codes "reg"
+    ∷ codes "mem"
+    ∷ codes "state"
+    ∷ codes "dynamic"
+    ∷ codes "enforced"
+    ∷ codes "under"
+    ∷ codes "if"
+    ∷ codes "else"
+    ∷ codes "goto"
+    ∷ codes "fall"
+    ∷ codes "setTag"
+    ∷ codes "otherwise"
+    ∷ codes "tag"
+    ∷ codes "level"
+    ∷ codes "join"
+    ∷ codes "zext"
+    ∷ []

@@ -1,0 +1,24 @@
+-- Lines and columns, both from 1. A line ends at LF alone, and a column counts bytes.
+use Rattle.std.specs.Prelude.{ℕ, ◌+◌, List, [], ◌∷◌, ◌==◌, if◌then◌else◌, take}
+use Rattle.sap_text.specs.declared.place.Place.{Place}
+
+-- the end of a line
+abbrev pub line_end : List ℕ
+line_end = 10 ∷ []
+
+-- the place behind a byte
+abbrev pub next_place : Place → ℕ → Place
+next_place place b = if b == 10 then record { line = place.line + 1; column = 1 } else record { line = place.line; column = place.column + 1 }
+
+-- the place behind these bytes
+abbrev pub place_after : Place → List ℕ → Place
+place_after place [] = place
+place_after place (b ∷ bytes) = place_after (next_place place b) bytes
+
+-- where a text begins
+abbrev pub first_place : Place
+first_place = record { line = 1; column = 1 }
+
+-- the place of the byte behind the first n bytes of a text
+unfoldable pub place_at : List ℕ → ℕ → Place
+place_at text n = place_after first_place (take n text)

@@ -1,0 +1,4 @@
+//! What every text has: names, lines and places.
+#![tactic(auto)]
+
+pub mod place;
