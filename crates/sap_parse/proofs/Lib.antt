@@ -1,5 +1,6 @@
 pub mod Runs
 pub mod Places
+pub mod Spelling
 pub mod Spelled
 pub mod TokenTexts
 pub mod Keyed

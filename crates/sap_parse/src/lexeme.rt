@@ -4,7 +4,7 @@ ghost use Rattle.std.specs.Prelude.{◌≡◌, ◌≤◌, ◌<◌, ◌+◌, IfOk
 ghost use Rattle.std.specs.Char.{digit_value};
 ghost use Rattle.sap_parse.specs.Lexemes.{clings, is_blank, is_comment, is_in, lexeme_of, name_at, number_at, number_of, run, sign_at, sized_at, sized_in};
 ghost use Rattle.sap_parse.specs.Lexing.{IsWithin};
-ghost use Rattle.sap_parse.specs.Spelling.{sign_of, word_of};
+ghost use Rattle.sap_parse.specs.Spelling.{command_word, declaration_word, expression_word, pair_sign, sign_of, single_sign, word_of};
 ghost use Rattle.sap_tree.specs.Words.{is_initial, is_inner};
 
 use crate::token::{Kind, Sign};
@@ -60,8 +60,9 @@ fn byte_at(bytes: &[u8], i: usize) -> u8
     if i < bytes.len() { bytes[i] } else { 0 }
 }
 
-fn word(text: &[u8]) -> Option<Word>
-    ensures { result ≡ word_of text.now }
+#[tactic(auto, unfolding(crate::specs::Spelling::declaration_word))]
+fn declaration_word(text: &[u8]) -> Option<Word>
+    ensures { result ≡ declaration_word text.now }
 {
     if text == b"input".as_slice() {
         Some(Word::Input)
@@ -77,7 +78,16 @@ fn word(text: &[u8]) -> Option<Word>
         Some(Word::Enforced)
     } else if text == b"under".as_slice() {
         Some(Word::Under)
-    } else if text == b"if".as_slice() {
+    } else {
+        None
+    }
+}
+
+#[tactic(auto, unfolding(crate::specs::Spelling::command_word))]
+fn command_word(text: &[u8]) -> Option<Word>
+    ensures { result ≡ command_word text.now }
+{
+    if text == b"if".as_slice() {
         Some(Word::If)
     } else if text == b"else".as_slice() {
         Some(Word::Else)
@@ -89,7 +99,16 @@ fn word(text: &[u8]) -> Option<Word>
         Some(Word::SetTag)
     } else if text == b"otherwise".as_slice() {
         Some(Word::Otherwise)
-    } else if text == b"tag".as_slice() {
+    } else {
+        None
+    }
+}
+
+#[tactic(auto, unfolding(crate::specs::Spelling::expression_word))]
+fn expression_word(text: &[u8]) -> Option<Word>
+    ensures { result ≡ expression_word text.now }
+{
+    if text == b"tag".as_slice() {
         Some(Word::Tag)
     } else if text == b"level".as_slice() {
         Some(Word::Level)
@@ -100,6 +119,19 @@ fn word(text: &[u8]) -> Option<Word>
     } else {
         None
     }
+}
+
+#[tactic(auto, using(crate::proofs::Spelling::by_use))]
+fn word(text: &[u8]) -> Option<Word>
+    ensures { result ≡ word_of text.now }
+{
+    if let Some(word) = declaration_word(text) {
+        return Some(word);
+    }
+    if let Some(word) = command_word(text) {
+        return Some(word);
+    }
+    expression_word(text)
 }
 
 #[tactic(auto, unfolding(crate::specs::Lexemes::name_at))]
@@ -206,61 +238,57 @@ fn numeral(bytes: &[u8]) -> Lexeme
     }
 }
 
+#[tactic(auto, unfolding(crate::specs::Spelling::pair_sign))]
+fn pair_sign(first: u8, second: u8) -> Option<Sign>
+    ensures { result ≡ pair_sign first second }
+{
+    match (first, second) {
+        (b':', b'=') => Some(Sign::Becomes),
+        (b'=', b'=') => Some(Sign::Equal),
+        (b'!', b'=') => Some(Sign::NotEqual),
+        (b'<', b'=') => Some(Sign::LessOrEqual),
+        (b'<', b'<') => Some(Sign::ShiftLeft),
+        (b'>', b'>') => Some(Sign::ShiftRight),
+        _ => None,
+    }
+}
+
+#[tactic(auto, unfolding(crate::specs::Spelling::single_sign))]
+fn single_sign(byte: u8) -> Option<Sign>
+    ensures { result ≡ single_sign byte }
+{
+    match byte {
+        b'(' => Some(Sign::OpenParen),
+        b')' => Some(Sign::CloseParen),
+        b'{' => Some(Sign::OpenBrace),
+        b'}' => Some(Sign::CloseBrace),
+        b'[' => Some(Sign::OpenBracket),
+        b']' => Some(Sign::CloseBracket),
+        b':' => Some(Sign::Colon),
+        b';' => Some(Sign::Semicolon),
+        b',' => Some(Sign::Comma),
+        b'?' => Some(Sign::Question),
+        b'=' => Some(Sign::Is),
+        b'<' => Some(Sign::Less),
+        b'+' => Some(Sign::Plus),
+        b'-' => Some(Sign::Minus),
+        b'*' => Some(Sign::Star),
+        b'&' => Some(Sign::Ampersand),
+        b'|' => Some(Sign::Bar),
+        b'^' => Some(Sign::Caret),
+        b'~' => Some(Sign::Tilde),
+        _ => None,
+    }
+}
+
+#[tactic(auto, using(crate::proofs::Spelling::by_length))]
 fn spelled_sign(text: &[u8]) -> Option<Sign>
     ensures { result ≡ sign_of text.now }
 {
-    if text == b":=".as_slice() {
-        Some(Sign::Becomes)
-    } else if text == b"==".as_slice() {
-        Some(Sign::Equal)
-    } else if text == b"!=".as_slice() {
-        Some(Sign::NotEqual)
-    } else if text == b"<=".as_slice() {
-        Some(Sign::LessOrEqual)
-    } else if text == b"<<".as_slice() {
-        Some(Sign::ShiftLeft)
-    } else if text == b">>".as_slice() {
-        Some(Sign::ShiftRight)
-    } else if text == b"(".as_slice() {
-        Some(Sign::OpenParen)
-    } else if text == b")".as_slice() {
-        Some(Sign::CloseParen)
-    } else if text == b"{".as_slice() {
-        Some(Sign::OpenBrace)
-    } else if text == b"}".as_slice() {
-        Some(Sign::CloseBrace)
-    } else if text == b"[".as_slice() {
-        Some(Sign::OpenBracket)
-    } else if text == b"]".as_slice() {
-        Some(Sign::CloseBracket)
-    } else if text == b":".as_slice() {
-        Some(Sign::Colon)
-    } else if text == b";".as_slice() {
-        Some(Sign::Semicolon)
-    } else if text == b",".as_slice() {
-        Some(Sign::Comma)
-    } else if text == b"?".as_slice() {
-        Some(Sign::Question)
-    } else if text == b"=".as_slice() {
-        Some(Sign::Is)
-    } else if text == b"<".as_slice() {
-        Some(Sign::Less)
-    } else if text == b"+".as_slice() {
-        Some(Sign::Plus)
-    } else if text == b"-".as_slice() {
-        Some(Sign::Minus)
-    } else if text == b"*".as_slice() {
-        Some(Sign::Star)
-    } else if text == b"&".as_slice() {
-        Some(Sign::Ampersand)
-    } else if text == b"|".as_slice() {
-        Some(Sign::Bar)
-    } else if text == b"^".as_slice() {
-        Some(Sign::Caret)
-    } else if text == b"~".as_slice() {
-        Some(Sign::Tilde)
-    } else {
-        None
+    match text {
+        [byte] => single_sign(*byte),
+        [first, second] => pair_sign(*first, *second),
+        _ => None,
     }
 }
 
