@@ -1,9 +1,8 @@
 -- The check sites of a design, as the check, the report and the trace tell of them. The walk that finds them stands in `sap_shape`, `Sites`.
-use Rattle.std.specs.Prelude.{ℕ, List, map, unwrap_or}
+use Rattle.std.specs.Prelude.{ℕ, List, map}
 use Rattle.sap_text.specs.declared.place.Place.{Place}
 use Rattle.sap_tree.specs.Syntax.{SimpleCommand, Assign, Write, SetTag, SetCellTag, Goto, Fall, DesignTree}
-use Rattle.sap_names.specs.declared.entity.Entity.{Entity}
-use Rattle.sap_names.specs.Entities.{number_of}
+pub use Rattle.sap_names.specs.Entities.{entity_number}
 pub use Rattle.sap_shape.specs.Paths.{place_of}
 use Rattle.sap_shape.specs.Sites.{Context, CheckSite, check_sites}
 use Rattle.sap_check.specs.declared.site.Site.{Site}
@@ -26,10 +25,6 @@ target_of h (SetTag place target tag) = target.name
 target_of h (SetCellTag place target index tag) = target.name
 target_of h (Goto place target) = target.name
 target_of h (Fall place) = h.home.name
-
--- the number of a name; 0 for one that is declared nowhere
-abbrev pub entity_number : List Entity → List ℕ → ℕ
-entity_number es name = unwrap_or (number_of es name) 0
 
 abbrev pub site_of : CheckSite → Site
 site_of s = record { place = place_of s.command; kind = kind_of s.command; entity = entity_number s.context.entities (target_of s.context s.command) }

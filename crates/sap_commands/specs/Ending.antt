@@ -5,7 +5,7 @@ use Rattle.sap_lattice.specs.declared.fault.LatFault.{LatFault}
 use Rattle.sap_lattice.specs.declared.fault.LatFault.TheVariants as rule
 use Rattle.sap_latfile.specs.declared.fault.LatFileFault.{LatFileFault}
 use Rattle.sap_latfile.specs.declared.fault.LatFileFault.TheVariants as lattice
-use Rattle.sap_text.specs.declared.place.Place.{Place}
+pub use Rattle.sap_text.specs.Places.{place_text}
 use Rattle.sap_parse.specs.declared.limit.Limit.{Limit}
 use Rattle.sap_parse.specs.declared.limit.Limit.TheVariants as limit
 use Rattle.sap_parse.specs.declared.fault.ReadFault.{ReadFault}
@@ -87,9 +87,6 @@ lattice_text lattice.Shape = codes "L2"
 lattice_text (lattice.Rule fault) = rule_text fault
 lattice_text lattice.Memory = codes "memory"
 
-abbrev pub place_text : Place → List ℕ
-place_text p = decimal p.line ++ codes ":" ++ decimal p.column
-
 abbrev pub limit_text : Limit → List ℕ
 limit_text limit.Bytes = codes "bytes"
 limit_text limit.Name = codes "name"
@@ -121,7 +118,7 @@ abbrev pub stimulus_text : StimFault → List ℕ
 stimulus_text fault = codes "S" ++ decimal (stimulus_number fault.code) ++ codes " line " ++ decimal fault.line
 
 abbrev pub module_text : ModFault → List ℕ
-module_text (verilog.Rule code place) = codes "V" ++ decimal (module_number code) ++ codes " " ++ (decimal place.line ++ codes ":" ++ decimal place.column)
+module_text (verilog.Rule code place) = codes "V" ++ decimal (module_number code) ++ codes " " ++ place_text place
 module_text verilog.Memory = codes "memory"
 
 -- what a refusal is told by

@@ -1,7 +1,5 @@
 -- What names the netlist of a program declares.
-use Rattle.std.proofs.Common.{◌≡◌, ◌⊎◌, ℕ, ◌&&◌, ◌||◌, List, [], ◌∷◌, ◌++◌, Bool, true, false, not, sym, ap, ◌∙◌, refl, inl, inr}
-use Rattle.std.specs.Prelude.{codes}
-use Rattle.std.specs.Fmt.{decimal}
+use Rattle.std.proofs.Common.{◌≡◌, ◌⊎◌, ℕ, ◌&&◌, ◌||◌, List, [], ◌∷◌, ◌++◌, Bool, true, false, not, sym, ap, ◌∙◌, inl, inr}
 use Rattle.std.specs.List.{AllByRecursion}
 use Rattle.std.proofs.lemmas.Bool.{cases_Bool}
 use Rattle.sap_lemmas.proofs.Bools.{or_other}
@@ -12,7 +10,6 @@ use Rattle.sap_net.specs.Names.{is_among}
 use Rattle.sap_net.specs.declared.parts.Wire.{Wire}
 use Rattle.sap_ir.specs.Source.{Source}
 use Rattle.sap_ir.specs.IsGuarded.{variable_names, memory_names, IsGuarded}
-use Rattle.sap_share.specs.Names.{helper}
 use Rattle.sap_lower.specs.Lowered.{last_state, listed, all_wires, wire_list_names, unported, names_declared}
 use Rattle.sap_net.specs.Names.{IsHelpingName}
 use Rattle.sap_lower.specs.Same.{IsKept}
@@ -22,13 +19,9 @@ use Rattle.sap_lower.proofs.Names.{outs_named}
 use Rattle.sap_lower.proofs.Listed.{into_listed, listed_port}
 use Rattle.sap_lower.proofs.Result.{of_unported}
 
-helper_shown : (k : ℕ) → helper k ≡ codes "n" ++ decimal k
-unfolding helper
-helper_shown k = refl
-
 helping_names : (ws : List Wire) → AllByRecursion IsHelper ws → AllByRecursion IsHelpingName (wire_list_names ws)
 helping_names [] a = tt
-helping_names (w ∷ ws) a = ((a.0.0, a.0.2 ∙ helper_shown a.0.0), helping_names ws a.1)
+helping_names (w ∷ ws) a = ((a.0.0, a.0.2), helping_names ws a.1)
 
 no_port : (a p : Bool) → (a && not p) ≡ true → p ≡ true → ⊥
 no_port true true h e = cc

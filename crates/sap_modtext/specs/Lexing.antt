@@ -1,9 +1,10 @@
 -- The tokens that a text is made of, taken longest first.
-use Rattle.std.specs.Prelude.{◌≡◌, ℕ, ◌+◌, ◌^◌, List, [], ◌∷◌, length, drop, Bool, true, false, not, ◌&&◌, ◌||◌, ◌==◌, nat_eq, nat_lt, if◌then◌else◌, Option, Some, None, codes, find, slice_index, take_while}
+use Rattle.std.specs.Prelude.{◌≡◌, ℕ, ◌+◌, ◌^◌, List, [], ◌∷◌, length, drop, Bool, true, false, not, ◌&&◌, ◌==◌, nat_eq, nat_lt, if◌then◌else◌, Option, Some, None, codes, find, slice_index, take_while}
 use Rattle.std.specs.List.{prefix_len, starts_with}
 use Rattle.std.specs.Char.{is_ascii_digit}
 use Rattle.std.specs.Str.{bytes_eq}
 use Rattle.std.specs.Str.Parse.{digits_value}
+pub use Rattle.sap_text.specs.Blanks.{is_blank, is_in_line}
 use Rattle.sap_net.specs.Names.{is_initial, is_inner}
 use Rattle.sap_modtext.specs.Tokens.{Word, Module, Endmodule, Input, Output, Reg, Wire, Assign, Initial, Always, Posedge, If, For, Integer, Clk, I, Sign, OpenParen, CloseParen, OpenBrace, CloseBrace, OpenBracket, CloseBracket, Comma, Semicolon, Colon, Question, At, Is, Equal, NotEqual, Less, LessOrEqual, ShiftLeft, ShiftRight, Plus, Minus, Star, Ampersand, Bar, Caret, Tilde, Kind, word, sign, name, number, constant, Token}
 
@@ -60,12 +61,6 @@ signs =
     Equal ∷ NotEqual ∷ LessOrEqual ∷ ShiftLeft ∷ ShiftRight ∷ OpenParen ∷ CloseParen ∷ OpenBrace ∷ CloseBrace ∷ OpenBracket ∷ CloseBracket ∷ Comma ∷ Semicolon
     ∷ Colon ∷ Question ∷ At ∷ Is ∷ Less ∷ Plus ∷ Minus ∷ Star ∷ Ampersand ∷ Bar ∷ Caret ∷ Tilde ∷ []
 
-abbrev pub is_white : ℕ → Bool
-is_white b = b == 32 || (b == 9 || (b == 13 || b == 10))
-
-abbrev pub is_in_line : ℕ → Bool
-is_in_line b = not (b == 10)
-
 -- what stands at the front of a text, and how long it is: white space or a comment; a token; or neither
 pub data Front : Type 0 where
   blank : ℕ → Front
@@ -116,7 +111,7 @@ digits_front digits after = if is_constant digits after then constant_front digi
 unfoldable pub front : List ℕ → Front
 front [] = bad
 front (b ∷ bs) =
-    if is_white b then blank 1
+    if is_blank b then blank 1
     else (if starts_with nat_eq (b ∷ bs) (codes "//") then blank (prefix_len is_in_line (b ∷ bs))
     else (if is_initial b then name_front (take_while is_inner (b ∷ bs))
     else (if is_ascii_digit b then digits_front (digits_of_front (b ∷ bs)) (drop (length (digits_of_front (b ∷ bs))) (b ∷ bs))

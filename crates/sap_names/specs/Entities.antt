@@ -1,5 +1,5 @@
 -- The entities of a design: its inputs, registers, memories and states, in the order of the text.
-use Rattle.std.specs.Prelude.{◌≤◌, ℕ, List, [], ◌∷◌, ◌++◌, Option, Some, None, Bool, true, false, not, bytes_eq, ◌+◌, if◌then◌else◌, option_map}
+use Rattle.std.specs.Prelude.{◌≤◌, ℕ, List, [], ◌∷◌, ◌++◌, Option, Some, None, Bool, true, false, not, bytes_eq, ◌+◌, if◌then◌else◌, option_map, unwrap_or}
 use Rattle.sap_names.specs.declared.kind.Declared.{Declared}
 use Rattle.sap_names.specs.declared.kind.Declared.TheVariants as what
 use Rattle.sap_names.specs.declared.kind.EntityKind.{EntityKind}
@@ -47,6 +47,10 @@ find (e ∷ es) name = if bytes_eq e.name.name name then Some e else find es nam
 abbrev pub number_of : List Entity → List ℕ → Option ℕ
 number_of [] name = None
 number_of (e ∷ es) name = if bytes_eq e.name.name name then Some 0 else option_map (λ n. n + 1) (number_of es name)
+
+-- the same, and 0 for a name that is declared nowhere
+abbrev pub entity_number : List Entity → List ℕ → ℕ
+entity_number es name = unwrap_or (number_of es name) 0
 
 abbrev pub what_is : List Entity → Lookup
 what_is es name = option_map (λ e. e.what) (find es name)

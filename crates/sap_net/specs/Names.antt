@@ -1,5 +1,5 @@
 -- What the module subset takes as a name, and lists of names.
-use Rattle.std.specs.Prelude.{◌≡◌, ℕ, Bool, false, not, ◌||◌, ◌&&◌, List, [], ◌∷◌, ◌++◌, codes}
+use Rattle.std.specs.Prelude.{◌≡◌, ℕ, Bool, false, not, ◌||◌, ◌&&◌, List, [], ◌∷◌, codes}
 use Rattle.std.specs.Fmt.{decimal}
 use Rattle.std.specs.List.{list_any}
 use Rattle.std.specs.Str.{bytes_eq}
@@ -42,6 +42,9 @@ abbrev pub AreDistinct : List Name → Type 0
 AreDistinct [] = Unit {0}
 AreDistinct (x ∷ xs) = (is_among x xs ≡ false) × AreDistinct xs
 
--- the name of a helping wire: an `n` and a number
+-- the name of a helping wire: an `n` and its number
+unfoldable pub helper : ℕ → Name
+helper k = 110 ∷ decimal k
+
 abbrev pub IsHelpingName : Name → Type 0
-IsHelpingName x = (k : ℕ) × (x ≡ codes "n" ++ decimal k)
+IsHelpingName x = (k : ℕ) × (x ≡ helper k)

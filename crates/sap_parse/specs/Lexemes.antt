@@ -1,8 +1,9 @@
 -- What stands at the front of a text: tokens are taken longest first.
-use Rattle.std.specs.Prelude.{ℕ, ◌+◌, ◌*◌, ◌^◌, List, [], ◌∷◌, length, take, drop, Bool, true, false, not, ◌||◌, ◌&&◌, ◌==◌, nat_lt, if◌then◌else◌, Option, Some, None, slice_index}
+use Rattle.std.specs.Prelude.{ℕ, ◌+◌, ◌*◌, ◌^◌, List, [], ◌∷◌, length, take, drop, Bool, true, false, ◌||◌, ◌==◌, nat_lt, if◌then◌else◌, Option, Some, None, slice_index}
 use Rattle.std.specs.Char.{digit_value, is_ascii_digit, is_ascii_hexdigit}
 use Rattle.std.specs.List.{prefix_len}
 use Rattle.std.specs.Str.{byte}
+pub use Rattle.sap_text.specs.Blanks.{is_blank, is_comment, is_in_line}
 use Rattle.sap_tree.specs.Words.{is_initial, is_inner}
 use Rattle.sap_parse.specs.Spelling.{word_of, sign_of}
 use Rattle.sap_parse.specs.declared.lexeme.Class.TheVariants as c
@@ -18,19 +19,11 @@ abbrev pub is_in : Class → ℕ → Bool
 is_in c.Inner b = is_inner b
 is_in c.Decimal b = is_ascii_digit b
 is_in c.Hexadecimal b = is_ascii_hexdigit b
-is_in c.Comment b = not (b == 10)
+is_in c.Comment b = is_in_line b
 
 -- how many bytes of a class stand at the front
 abbrev pub run : Class → List ℕ → ℕ
 run class bytes = prefix_len (is_in class) bytes
-
--- blanks: space, tab, the end of a line in either form, and comments
-
-abbrev pub is_blank : ℕ → Bool
-is_blank b = b == 32 || b == 9 || b == 13 || b == 10
-
-abbrev pub is_comment : List ℕ → Bool
-is_comment bytes = slice_index bytes 0 == byte "/" && slice_index bytes 1 == byte "/"
 
 -- words and names
 

@@ -5,6 +5,7 @@ use Rattle.sap_lattice.specs.Codes.{code_of}
 use Rattle.sap_lattice.specs.Levels.{Levels, order_of}
 use Rattle.sap_text.specs.declared.place.Place.{Place}
 use Rattle.sap_text.specs.Places.{line_end}
+pub use Rattle.sap_text.specs.Places.{place_text}
 use Rattle.sap_tree.specs.Syntax.{DesignTree}
 use Rattle.sap_names.specs.declared.entity.Entity.{Entity}
 use Rattle.sap_names.specs.Entities.{entities_of}
@@ -17,10 +18,6 @@ use Rattle.sap_check.specs.declared.site.SiteKind.TheVariants as sites
 use Rattle.sap_check.specs.Points.{points_of}
 use Rattle.sap_check.specs.Sites.{sites_of}
 use Rattle.sap_hang.specs.Hang.{hangs}
-
--- LINE:COL
-abbrev pub place_text : Place → List ℕ
-place_text place = decimal place.line ++ codes ":" ++ decimal place.column
 
 -- `level NAME CODE`, in the order of the file; the first level has the number l
 abbrev pub level_line : (name : List ℕ) → (code : ℕ) → List ℕ

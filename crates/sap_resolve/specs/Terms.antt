@@ -1,5 +1,5 @@
 -- Expressions with numbers for names and a width for each number.
-use Rattle.std.specs.Prelude.{ℕ, ◌-◌, List, Option, Some, None, eqb, if◌then◌else◌}
+use Rattle.std.specs.Prelude.{ℕ, ◌-◌, List, Option, Some, None, eqb, if◌then◌else◌, unwrap_or}
 use Rattle.sap_bits.specs.declared.Op1.{Op1}
 use Rattle.sap_bits.specs.declared.Op1.TheVariants as one
 use Rattle.sap_bits.specs.declared.Op2.{Op2}
@@ -9,7 +9,8 @@ use Rattle.sap_tree.specs.declared.syntax.UnaryOperator.TheVariants as unary
 use Rattle.sap_tree.specs.declared.syntax.BinaryOperator.{BinaryOperator}
 use Rattle.sap_tree.specs.declared.syntax.BinaryOperator.TheVariants as binary
 use Rattle.sap_tree.specs.Syntax.{Expression, Number, Sized, Read, Cell, Unary, Binary, Choose, Slice, Concat, Zext, Expressions, NoPart, AndPart, TagExpression, Level, TagOf, LevelAt, Join, TagExpressions, NoTag, AndTag}
-use Rattle.sap_names.specs.Entities.{number_of, what_is}
+use Rattle.sap_names.specs.Entities.{what_is}
+pub use Rattle.sap_names.specs.Entities.{entity_number}
 use Rattle.sap_names.specs.declared.entity.Entity.{Entity}
 use Rattle.sap_names.specs.Widths.{own, width_of, family, asked_left, asked_right, asked_one, index_width}
 use Rattle.sap_maps.specs.Term.{Term}
@@ -41,11 +42,7 @@ two_of binary.Mul = two.Mul
 
 -- a number that is there in every well-formed design
 abbrev pub known : Option ℕ → ℕ
-known None = 0
-known (Some n) = n
-
-abbrev pub entity_number : List Entity → List ℕ → ℕ
-entity_number es name = known (number_of es name)
+known n = unwrap_or n 0
 
 -- filled with zeros in front, from one width to another
 abbrev pub widened : (from width : ℕ) → Term ℕ → Term ℕ

@@ -1,10 +1,15 @@
 -- Lines and columns, both from 1. A line ends at LF alone, and a column counts bytes.
-use Rattle.std.specs.Prelude.{ℕ, ◌+◌, List, [], ◌∷◌, ◌==◌, if◌then◌else◌, take}
+use Rattle.std.specs.Prelude.{ℕ, ◌+◌, List, [], ◌∷◌, ◌++◌, ◌==◌, codes, if◌then◌else◌, take}
+use Rattle.std.specs.Fmt.{decimal}
 use Rattle.sap_text.specs.declared.place.Place.{Place}
 
 -- the end of a line
 abbrev pub line_end : List ℕ
 line_end = 10 ∷ []
+
+-- LINE:COL
+abbrev pub place_text : Place → List ℕ
+place_text place = decimal place.line ++ codes ":" ++ decimal place.column
 
 -- the place behind a byte
 abbrev pub next_place : Place → ℕ → Place

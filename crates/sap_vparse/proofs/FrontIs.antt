@@ -8,12 +8,13 @@ use Rattle.std.specs.Char.{is_ascii_digit}
 use Rattle.std.specs.List.{prefix_len, starts_with}
 use Rattle.std.specs.Str.{bytes_eq}
 use Rattle.std.specs.Str.Parse.{digits_value}
+use mathlib.Core.Bool.{and_comm}
 use Rattle.sap_lemmas.proofs.Bools.{and_false, and_true}
 use Rattle.sap_lemmas.proofs.Lists.{index_drop}
 use Rattle.sap_lemmas.proofs.Numbers.{test_symmetric}
 use Rattle.sap_net.specs.Names.{is_initial, is_inner}
 use Rattle.sap_modtext.specs.Lexing as l
-use Rattle.sap_modtext.specs.Lexing.{word_text, sign_text, words, signs, is_white, is_in_line, sign_or_bad, sign_front, name_front, number_front, constant_front, digits_front, digits_of_front, front}
+use Rattle.sap_modtext.specs.Lexing.{word_text, sign_text, words, signs, is_blank, is_in_line, sign_or_bad, sign_front, name_front, number_front, constant_front, digits_front, digits_of_front, front}
 use Rattle.sap_modtext.specs.Tokens as t
 use Rattle.sap_vparse.specs.Lexemes.{front_of, run, word_in, word_or_name, name_at, number_of, number_lexeme, constant_lexeme, is_constant, constant_at, number_at, sign_or, single_at, sign_at, is_comment, lexeme_of}
 use Rattle.sap_vparse.specs.Spelling.{word_of, sign_of}
@@ -194,8 +195,9 @@ numbers_are b bs e =
 lexeme_is : (b : ℕ) (bs : List ℕ) → front (b ∷ bs) ≡ front_of (lexeme_of (b ∷ bs))
 unfolding front lexeme_of
 lexeme_is b bs =
-    ap (λ z. cond (is_white b) (l.blank 1) (cond z (l.blank (prefix_len is_in_line (b ∷ bs))) (by_name (is_initial b) (is_ascii_digit b)))) (starts_two (b ∷ bs) 47 47 refl)
-    ∙ by_tests (is_white b) (is_comment (b ∷ bs)) (is_initial b) (is_ascii_digit b) refl where
+    ap (λ z. cond (is_blank b) (l.blank 1) (cond z (l.blank (prefix_len is_in_line (b ∷ bs))) (by_name (is_initial b) (is_ascii_digit b))))
+    (starts_two (b ∷ bs) 47 47 refl ∙ and_comm (eqb (slice_index (b ∷ bs) 1) 47) (eqb (slice_index (b ∷ bs) 0) 47))
+    ∙ by_tests (is_blank b) (is_comment (b ∷ bs)) (is_initial b) (is_ascii_digit b) refl where
       by_name : Bool → Bool → l.Front
       by_name p q =
           cond p (name_front (take_while is_inner (b ∷ bs)))

@@ -1,9 +1,10 @@
 -- What stands at the front of a text, as the lexer finds it.
-use Rattle.std.specs.Prelude.{ℕ, ◌+◌, ◌^◌, List, take, drop, Bool, not, ◌||◌, ◌&&◌, ◌==◌, nat_lt, if◌then◌else◌, Option, Some, None, slice_index, codes}
+use Rattle.std.specs.Prelude.{ℕ, ◌+◌, ◌^◌, List, take, drop, Bool, not, ◌&&◌, ◌==◌, nat_lt, if◌then◌else◌, Option, Some, None, slice_index, codes}
 use Rattle.std.specs.Char.{is_ascii_digit}
 use Rattle.std.specs.List.{prefix_len}
 use Rattle.std.specs.Str.{bytes_eq}
 use Rattle.std.specs.Str.Parse.{digits_value}
+pub use Rattle.sap_text.specs.Blanks.{is_blank, is_comment, is_in_line}
 use Rattle.sap_modtext.specs.Lexing as l
 use Rattle.sap_net.specs.Names.{is_initial, is_inner}
 use Rattle.sap_vparse.specs.Spelling.{kind_of}
@@ -27,7 +28,7 @@ front_of Bad = l.bad
 abbrev pub is_in : Class → ℕ → Bool
 is_in c.Inner b = is_inner b
 is_in c.Decimal b = is_ascii_digit b
-is_in c.Comment b = not (b == 10)
+is_in c.Comment b = is_in_line b
 
 -- how many bytes of a class stand at the front
 abbrev pub run : Class → List ℕ → ℕ
@@ -128,12 +129,6 @@ single_at bytes = sign_or (single_in (slice_index bytes 0)) 1 Bad
 
 unfoldable pub sign_at : List ℕ → Lexeme
 sign_at bytes = sign_or (pair_in (slice_index bytes 0) (slice_index bytes 1)) 2 (single_at bytes)
-
-abbrev pub is_blank : ℕ → Bool
-is_blank b = b == 32 || (b == 9 || (b == 13 || b == 10))
-
-abbrev pub is_comment : List ℕ → Bool
-is_comment bytes = slice_index bytes 1 == 47 && slice_index bytes 0 == 47
 
 unfoldable pub lexeme_of : List ℕ → Lexeme
 lexeme_of bytes =

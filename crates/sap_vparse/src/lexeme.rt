@@ -279,7 +279,7 @@ fn is_blank(b: u8) -> bool
 fn is_comment(bytes: &[u8]) -> bool
     ensures { result ≡ is_comment bytes.now }
 {
-    byte_at(bytes, 1) == b'/' && byte_at(bytes, 0) == b'/'
+    byte_at(bytes, 0) == b'/' && byte_at(bytes, 1) == b'/'
 }
 
 fn is_initial(b: u8) -> bool

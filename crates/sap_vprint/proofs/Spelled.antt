@@ -14,7 +14,7 @@ use Rattle.std.proofs.lemmas.Bool.{and_from, and_left, and_parts}
 use Rattle.sap_net.specs.Names.{is_initial, is_inner}
 use Rattle.sap_modtext.specs.Items.{Operand, Constant}
 use Rattle.sap_modtext.specs.Items as item
-use Rattle.sap_modtext.specs.Lexing.{word_text, sign_text, is_white, kind_of_name, name_front, sign_or_bad, number_front, constant_front, digits_of_front, is_constant, digits_front, is_below_2_64, Front, blank, token, bad, front}
+use Rattle.sap_modtext.specs.Lexing.{word_text, sign_text, is_blank, kind_of_name, name_front, sign_or_bad, number_front, constant_front, digits_of_front, is_constant, digits_front, is_below_2_64, Front, blank, token, bad, front}
 use Rattle.sap_modtext.specs.Tokens.{Word, Sign, Kind, Token}
 use Rattle.sap_modtext.specs.Tokens as t
 use Rattle.sap_vprint.specs.Text.{Piece, space, line, zero, one, word, sign, name, number, operand, operand_text, piece_text}
@@ -72,14 +72,14 @@ no_comment : (b : ℕ) (bs : List ℕ) → eqb 47 b ≡ false → starts_with na
 no_comment b bs h = and_left (eqb 47 b) _ h
 
 pub record NameStart (b : ℕ) : Type 0 where
-  white : is_white b ≡ false
+  white : is_blank b ≡ false
   slash : eqb 47 b ≡ false
 
 name_start : (b : ℕ) → is_initial b ≡ true → NameStart b
 name_start b h = record { white = grind (arith, nat_tests); slash = grind (arith, nat_tests) }
 
 pub record DigitStart (b : ℕ) : Type 0 where
-  white : is_white b ≡ false
+  white : is_blank b ≡ false
   slash : eqb 47 b ≡ false
   name : is_initial b ≡ false
 
@@ -91,7 +91,7 @@ name_taken : (b : ℕ) (bs rest : List ℕ) → is_initial b ≡ true → list_a
 unfolding front
 name_taken b bs rest start all stop =
     let w = name_start b start in
-    third_case (is_white b) (starts_with nat_eq (b ∷ (bs ++ rest)) (codes "//")) (is_initial b) _ _ _ _ w.white (no_comment b (bs ++ rest) w.slash) start
+    third_case (is_blank b) (starts_with nat_eq (b ∷ (bs ++ rest)) (codes "//")) (is_initial b) _ _ _ _ w.white (no_comment b (bs ++ rest) w.slash) start
     ∙ ap name_front (run_taken is_inner (b ∷ bs) rest all stop)
 
 no_name_byte : (b : ℕ) → (is_inner b || eqb b 39) ≡ false → (is_inner b ≡ false) × (is_ascii_digit b ≡ false) × (eqb 39 b ≡ false)
@@ -151,7 +151,7 @@ digits_taken ds rest h stop =
     let e : whole ≡ ds ++ rest = ap (λ x. x ++ rest) (sym h.parts) in
     let run : digits_of_front whole ≡ ds = ap digits_of_front e ∙ run_taken is_ascii_digit ds rest h.all stop in
     ap front (sym e)
-    ∙ fourth_case (is_white h.first) (starts_with nat_eq whole (codes "//")) (is_initial h.first) (is_ascii_digit h.first) _ _ _ _ _ w.white (no_comment h.first (h.others ++ rest) w.slash) w.name start
+    ∙ fourth_case (is_blank h.first) (starts_with nat_eq whole (codes "//")) (is_initial h.first) (is_ascii_digit h.first) _ _ _ _ _ w.white (no_comment h.first (h.others ++ rest) w.slash) w.name start
     ∙ ap (λ x. digits_front x (drop (length x) whole)) run
     ∙ ap (digits_front ds) (ap (drop (length ds)) e ∙ drop_front ds rest)
 

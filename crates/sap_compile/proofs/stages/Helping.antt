@@ -18,7 +18,6 @@ among_either n xs ys h = or_cases (is_among n xs) (is_among n ys) (sym (among_ap
 -- a number behind an n is the name of a helping wire
 
 pub numbered_helping : (k : ℕ) (n : Name) → is_among n (numbered k) ≡ true → IsHelpingName n
-unfolding helper
 numbered_helping zero n h = absurd (cc)
 numbered_helping (suc k) n h = elim (among_either n (numbered k) (helper k ∷ []) h) [
   | inl t ↦ numbered_helping k n t

@@ -1,11 +1,11 @@
 -- The check sites of a well-formed design's program are those of the design, numbered in the order of the text.
 use Rattle.std.proofs.Common.{◌≡◌, ℕ, suc, ◌+◌, ◌<◌, Bool, true, false, not, List, [], ◌∷◌, ◌++◌, length, refl, sym, ap, ◌∙◌, if◌then◌else◌}
-use Rattle.std.specs.Prelude.{Option, Some, None, map, unwrap_or}
+use Rattle.std.specs.Prelude.{Option, map}
 use Rattle.sap_names.proofs.FaultLemmas.{nil_left, nil_right}
 use Rattle.sap_tree.specs.Syntax.{SimpleCommand, Assign, Write, SetTag, SetCellTag, Goto, Fall, Command, Do, Try, If, TryThen, Case, Arms, Last, Arm, CommandBlock, Commands, ElseBlock, NoElse, Else, CommandList, NoCommand, AndCommand, StateTree, StateOf, StateList, NoState, AndState}
 use Rattle.sap_lattice.specs.Levels.{Levels}
 use Rattle.sap_names.specs.declared.entity.Entity.{Entity}
-use Rattle.sap_names.specs.Entities.{Lookup, number_of, what_is}
+use Rattle.sap_names.specs.Entities.{Lookup, what_is}
 use Rattle.sap_names.specs.Widths.{own as own_width}
 use Rattle.sap_names.specs.NameFaults.{simple_faults, command_faults, block_faults, else_faults, arms_faults, commands_faults, state_faults, states_faults}
 use Rattle.sap_shape.specs.Sites.{is_enforced_kind, any_enforced, Context, CheckSite, simple_sites}
@@ -18,7 +18,7 @@ use Rattle.sap_meaning.specs.Checks.{site_of}
 use Rattle.sap_meaning.specs.Sites.{some_enforced}
 use Rattle.sap_resolve.specs.Worlds.{states_in}
 use Rattle.sap_resolve.specs.Resolve.{site_number, step_of, command_of, arms_of, block_of, else_of, list_of, state_of, group_of}
-use Rattle.sap_resolve.specs.Terms.{known, entity_number}
+use Rattle.sap_resolve.specs.Terms.{entity_number}
 use Rattle.sap_resolve.proofs.Lookup.{AllMatch}
 use Rattle.sap_resolve.proofs.premises.Commands.{if_first, if_other, body_fits, below_fits}
 use Rattle.sap_resolve.proofs.premises.Places.{Laid, LaidState, laid_first, laid_rest, laid_below, laid_name, laid_named, name_at}
@@ -27,11 +27,6 @@ use Rattle.sap_resolve.proofs.premises.Rises.{enforced_kind, some_same, site_sam
 use Rattle.sap_secure.specs.CheckSites.ProgramSites.{ProgramSite, kind_of, entity_of, step_sites, command_sites, arms_sites, block_sites, state_sites, group_sites}
 use Rattle.sap_secure.specs.CheckSites.Numbering.{numbered}
 use Rattle.sap_secure.proofs.check_sites.Counts.{joined}
-
--- the number of a name that is declared
-one_number : (o : Option ℕ) → known o ≡ unwrap_or o 0
-one_number None = refl
-one_number (Some n) = refl
 
 -- a site, and the same with the same number, kind and entity in the program
 one_site : (k n e : ℕ) (s : CheckSite) (yes : Bool) → n ≡ (if yes then k else 0) → e ≡ (told s).entity
@@ -55,11 +50,11 @@ module _ (ls : Levels) (levels : List (List ℕ)) (h : Context) (w : World) (mat
   kind_is n (Fall place) = refl
 
   entity_is : (n : ℕ) (c : SimpleCommand) → entity_of x (step_of ls h n c) ≡ check.entity_number h.entities (check.target_of h c)
-  entity_is n (Assign target e) = one_number (number_of h.entities target.name)
-  entity_is n (Write target index e) = one_number (number_of h.entities target.name)
-  entity_is n (SetTag place target tag) = one_number (number_of h.entities target.name)
-  entity_is n (SetCellTag place target index tag) = one_number (number_of h.entities target.name)
-  entity_is n (Goto place target) = one_number (number_of h.entities target.name)
+  entity_is n (Assign target e) = refl
+  entity_is n (Write target index e) = refl
+  entity_is n (SetTag place target tag) = refl
+  entity_is n (SetCellTag place target index tag) = refl
+  entity_is n (Goto place target) = refl
   entity_is n (Fall place) = mine
 
   step_numbered : (k : ℕ) (c : SimpleCommand) → simple_faults levels What c ≡ []
@@ -132,8 +127,7 @@ module _ (ls : Levels) (levels : List (List ℕ)) (le : ℕ → ℕ → Bool) (e
         ap (λ (b : Bool). not b) (here_dynamic ls es w n x place name kind body children laid) ∙ enforced_kind kind in
         let mine : x ≡ check.entity_number es name.name =
         sym (unique x (laid_named ls es w n x place name kind body children laid))
-        ∙ ap (λ (a : List ℕ). entity_number es a) (laid_name ls es w n x place name kind body children laid)
-        ∙ one_number (number_of es name.name) in
+        ∙ ap (λ (a : List ℕ). entity_number es a) (laid_name ls es w n x place name kind body children laid) in
         joined k (block_sites w x g (block_of ls h k body)) (group_sites w g) (shape.block_sites h body) (shape.states_sites es children)
         (block_numbered ls levels h w match x g own (some_same ls es w k' 0 (x + 1) children below) mine k body
         (body_fits levels (what_is es) le place name kind body children f))

@@ -13,7 +13,7 @@ use Rattle.sap_modtext.proofs.LexingLemmas.{keywords_are}
 use Rattle.sap_net.specs.Names.{is_initial, is_inner, is_word, is_keyword, is_name}
 use Rattle.sap_modtext.specs.Tokens.{Word, Sign, Kind, Token, IsToken}
 use Rattle.sap_modtext.specs.Tokens as t
-use Rattle.sap_modtext.specs.Lexing.{Front, blank, token, bad, word_text, words, word_or_name, kind_of_name, name_front, sign_or_bad, sign_front, number_front, constant_front, is_constant, digits_front, digits_of_front, is_white, front, Lexed}
+use Rattle.sap_modtext.specs.Lexing.{Front, blank, token, bad, word_text, words, word_or_name, kind_of_name, name_front, sign_or_bad, sign_front, number_front, constant_front, is_constant, digits_front, digits_of_front, is_blank, front, Lexed}
 use Rattle.sap_modtext.specs.Lexing as l
 use Rattle.sap_modtext.specs.Items.{Mention, Number, Constant, Operand, Right, Port, Item, File}
 use Rattle.sap_modtext.specs.Items as item
@@ -77,7 +77,7 @@ front_named : (bs : List ℕ) → IsNamedFront (front bs)
 unfolding front
 front_named [] = bad_named
 front_named (b ∷ bs) =
-    cond_named (is_white b) _ _ (λ p. blank_named)
+    cond_named (is_blank b) _ _ (λ p. blank_named)
     (λ p. cond_named (starts_with nat_eq (b ∷ bs) (codes "//")) _ _ (λ q. blank_named)
     (λ q. cond_named (is_initial b) _ _ (λ r. name_named (take_while is_inner (b ∷ bs)) (run_word b bs r))
     (λ r. cond_named (is_ascii_digit b) _ _ (λ s. digits_named (digits_of_front (b ∷ bs)) (drop (length (digits_of_front (b ∷ bs))) (b ∷ bs)))
