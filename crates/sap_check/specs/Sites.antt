@@ -9,13 +9,13 @@ use Rattle.sap_check.specs.declared.site.Site.{Site}
 use Rattle.sap_check.specs.declared.site.SiteKind.{SiteKind}
 use Rattle.sap_check.specs.declared.site.SiteKind.TheVariants as kind
 
-abbrev pub kind_of : SimpleCommand → SiteKind
-kind_of (Assign target e) = kind.Write
-kind_of (Write target index e) = kind.Write
-kind_of (SetTag place target tag) = kind.SetTag
-kind_of (SetCellTag place target index tag) = kind.SetTag
-kind_of (Goto place target) = kind.Goto
-kind_of (Fall place) = kind.Fall
+abbrev pub kind_of_command : SimpleCommand → SiteKind
+kind_of_command (Assign target e) = kind.Write
+kind_of_command (Write target index e) = kind.Write
+kind_of_command (SetTag place target tag) = kind.SetTag
+kind_of_command (SetCellTag place target index tag) = kind.SetTag
+kind_of_command (Goto place target) = kind.Goto
+kind_of_command (Fall place) = kind.Fall
 
 -- what may refuse it: its target, and for a `fall` the state in whose body it stands
 abbrev pub target_of : Context → SimpleCommand → List ℕ
@@ -27,7 +27,7 @@ target_of h (Goto place target) = target.name
 target_of h (Fall place) = h.home.name
 
 abbrev pub site_of : CheckSite → Site
-site_of s = record { place = place_of s.command; kind = kind_of s.command; entity = entity_number s.context.entities (target_of s.context s.command) }
+site_of s = record { place = place_of s.command; kind = kind_of_command s.command; entity = entity_number s.context.entities (target_of s.context s.command) }
 
 abbrev pub sites_of : DesignTree → List Site
 sites_of d = map site_of (check_sites d)

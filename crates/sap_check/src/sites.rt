@@ -37,7 +37,7 @@ fn site_place(command: &Simple) -> Place
 }
 
 fn site_kind(command: &Simple) -> SiteKind
-    ensures { result ≡ spec.kind_of (simple_of command.now) }
+    ensures { result ≡ spec.kind_of_command (simple_of command.now) }
 {
     match command {
         Simple::Assign(_, _) => SiteKind::Write,

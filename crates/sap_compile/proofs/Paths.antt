@@ -6,7 +6,7 @@ use Rattle.sap_meaning.specs.Store.{Store, Refusal, own, level, child}
 use Rattle.sap_meaning.specs.Checks.{child_level}
 use Rattle.sap_meaning.specs.Fine.{FineNode, FineGroup, FineProgram, size}
 use Rattle.sap_meaning.specs.Agree.{Low, High}
-use Rattle.sap_meaning.proofs.Walks.{Meets, Onward, walks_of_seen}
+use Rattle.sap_meaning.proofs.Walks.{PathsMeet, Onward, walks_of_seen}
 use Rattle.sap_interface.specs.PortNames.{tag_name}
 use Rattle.sap_ir.specs.Plain.Nested.{seat_name, root_seat}
 use Rattle.sap_interface.specs.StandsFor.{Named, name, world, StandsFor}
@@ -61,7 +61,7 @@ module _ (d : Named) (l : ℕ) where
     walks_meet : (p : ℕ) (seat : Name) (g : Group) → FineGroup (world d) g 0 g → children (world d) p ≡ size g
         → (0 < size g → v.value seat ≡ child p c.one.store) → (0 < size g → u.value seat ≡ child p c.other.store)
         → ((n : ℕ) → Onward (world d) l g n c.one.store c.other.store → WalksGoOn d l g n v u)
-        → Meets (world d) l p g c.one.store c.other.store (λ n. Onward (world d) l g n c.one.store c.other.store)
+        → PathsMeet (world d) l p g c.one.store c.other.store (λ n. Onward (world d) l g n c.one.store c.other.store)
         → WalksMeet d l seat g v u (λ n. WalksGoOn d l g n v u)
     walks_meet p seat None f e one other onward h = tt
     walks_meet p seat (More a g) f e one other onward (inl h) =

@@ -12,7 +12,7 @@ use Rattle.sap_names.specs.declared.kind.Declared.{Declared}
 use Rattle.sap_names.specs.declared.kind.Declared.TheVariants as what
 use Rattle.sap_names.specs.declared.kind.EntityKind.{EntityKind}
 use Rattle.sap_names.specs.declared.kind.EntityKind.TheVariants as kinds
-use Rattle.sap_names.specs.Entities.{entities_of, kind_of}
+use Rattle.sap_names.specs.Entities.{entities_of, kind_of_declared}
 use Rattle.sap_meaning.specs.Program as program
 use Rattle.sap_meaning.specs.Program.{is_register, kind_is_register, nothing}
 use Rattle.sap_meaning.specs.Store.{Store}
@@ -36,21 +36,21 @@ no_register program.register h = cc
 no_register (program.memory depth) h = refl
 no_register (program.state place last) h = refl
 
-kind_stands : (d : Declared) (g : program.Entity) → Stands d g → kind_is_register g.kind ≡ is_register_kind (kind_of d)
+kind_stands : (d : Declared) (g : program.Entity) → Stands d g → kind_is_register g.kind ≡ is_register_kind (kind_of_declared d)
 kind_stands (what.Input u) g s = ap kind_is_register s.0
 kind_stands (what.Register u) g s = ap kind_is_register s.0
 kind_stands (what.Memory u depth) g s = ap kind_is_register s.0
 kind_stands what.State g s = no_register g.kind s.0
 
-kinds_match : (es : List Entity) (gs : List program.Entity) → AllMatch es gs → (x : ℕ) (k : EntityKind) → option_map (λ (e : Entity). kind_of e.what) (slice_get es x) ≡ Some k
+kinds_match : (es : List Entity) (gs : List program.Entity) → AllMatch es gs → (x : ℕ) (k : EntityKind) → option_map (λ (e : Entity). kind_of_declared e.what) (slice_get es x) ≡ Some k
     → kind_is_register (get_or gs x nothing).kind ≡ is_register_kind k
 kinds_match [] gs m x k h = cc
 kinds_match (e ∷ es) [] m x k h = absurd m
-kinds_match (e ∷ es) (g ∷ gs) m zero k h = kind_stands e.what g m.0.what ∙ ap is_register_kind (some_kind (kind_of e.what) k h)
+kinds_match (e ∷ es) (g ∷ gs) m zero k h = kind_stands e.what g m.0.what ∙ ap is_register_kind (some_kind (kind_of_declared e.what) k h)
 kinds_match (e ∷ es) (g ∷ gs) m (suc x) k h = kinds_match es gs m.1 x k h
 
 -- whether an entity of a design is a register
-pub register_by_kind : (ls : Levels) (d : DesignTree) (x : ℕ) (k : EntityKind) → option_map (λ (e : Entity). kind_of e.what) (slice_get (entities_of d) x) ≡ Some k
+pub register_by_kind : (ls : Levels) (d : DesignTree) (x : ℕ) (k : EntityKind) → option_map (λ (e : Entity). kind_of_declared e.what) (slice_get (entities_of d) x) ≡ Some k
     → is_register (world_of ls d) x ≡ is_register_kind k
 register_by_kind ls d x k h = kinds_match (entities_of d) (world_of ls d).entities (entities_match ls d) x k h
 
@@ -71,12 +71,12 @@ shown_if b text t = rw t refl
 none_if : (b : Bool) (old text : List ℕ) → b ≡ false → old ≡ old ++ (if b then text else [])
 none_if b old text f = rw f (sym (append-nil old))
 
-pub register_written : (ls : Levels) (d : DesignTree) (s : Store) (x : ℕ) (k : EntityKind) → option_map (λ (e : Entity). kind_of e.what) (slice_get (entities_of d) x) ≡ Some k → k ≡ kinds.Register
+pub register_written : (ls : Levels) (d : DesignTree) (s : Store) (x : ℕ) (k : EntityKind) → option_map (λ (e : Entity). kind_of_declared e.what) (slice_get (entities_of d) x) ≡ Some k → k ≡ kinds.Register
     → shown_text (register_shown ls (named_of ls d) s x) ≡ entity_shown ls (named_of ls d) s x
 register_written ls d s x k h e =
     shown_if (is_register (world_of ls d) x) (shown_text (register_shown ls (named_of ls d) s x)) (register_by_kind ls d x k h ∙ ap is_register_kind e)
 
-pub nothing_written : (ls : Levels) (d : DesignTree) (s : Store) (x : ℕ) (k : EntityKind) (old : List ℕ) → option_map (λ (e : Entity). kind_of e.what) (slice_get (entities_of d) x) ≡ Some k → (k ≡ kinds.Register → ⊥)
+pub nothing_written : (ls : Levels) (d : DesignTree) (s : Store) (x : ℕ) (k : EntityKind) (old : List ℕ) → option_map (λ (e : Entity). kind_of_declared e.what) (slice_get (entities_of d) x) ≡ Some k → (k ≡ kinds.Register → ⊥)
     → old ≡ old ++ entity_shown ls (named_of ls d) s x
 nothing_written ls d s x k old h ne =
     none_if (is_register (world_of ls d) x) old (shown_text (register_shown ls (named_of ls d) s x)) (register_by_kind ls d x k h ∙ kind_other k ne)

@@ -12,7 +12,7 @@ use Rattle.sap_meaning.specs.Touches.{touches, root_touches}
 use Rattle.sap_meaning.specs.Fine.{FineNode, FineProgram, ExactProgram, ExactList, reaches, block_reaches, OnceState, inside}
 use Rattle.sap_meaning.specs.Sized.{SizedProgram}
 use Rattle.sap_meaning.specs.Examples.{two_levels}
-use Rattle.sap_meaning.specs.Sample.{sample_world, on_fall, on_root, body_c, body_d, body_q, body_p, sample_kids, sample_states, sample, Meets}
+use Rattle.sap_meaning.specs.Sample.{sample_world, on_fall, on_root, body_c, body_d, body_q, body_p, sample_kids, sample_states, sample, SampleIsFine}
 
 level_of : (b : Bool) → (if b then 1 else 0) < 2
 level_of true = omega arith
@@ -280,7 +280,7 @@ sized = record {
   declared = declared;
 }
 
-pub meets : Meets
+pub meets : SampleIsFine
 meets = record {
   fine = fine;
   exact = exact;

@@ -10,9 +10,9 @@ use Rattle.sap_meaning.specs.Fine.{FineGroup, size}
 
 -- How the walk goes on from the parent p: at a leaf it ends; the current children are the same state, from which
 -- `onward` tells more; or neither child's level is at or below l, and it ends.
-abbrev pub Meets : World → ℕ → (p : ℕ) → Group → Store → Store → (onward : ℕ → Type 0) → Type 0
-Meets w l p None s t onward = Unit {0}
-Meets w l p (More a g) s t onward =
+abbrev pub PathsMeet : World → ℕ → (p : ℕ) → Group → Store → Store → (onward : ℕ → Type 0) → Type 0
+PathsMeet w l p None s t onward = Unit {0}
+PathsMeet w l p (More a g) s t onward =
     ((child p s ≡ child p t) × onward (child p s))
     ⊎ (High w.order l (child_level w (More a g) (child p s) s) × High w.order l (child_level w (More a g) (child p t) t))
 
@@ -20,12 +20,12 @@ Meets w l p (More a g) s t onward =
 abbrev pub Onward : World → ℕ → Group → (n : ℕ) → Store → Store → Type 0
 Onward w l None n s t = ⊥
 Onward w l (More (Node c b k) g) zero s t =
-    (level w (own c) s ≡ level w (own c) t) × Low w.order l (level w (own c) s) × Meets w l c k s t (λ n. Onward w l k n s t)
+    (level w (own c) s ≡ level w (own c) t) × Low w.order l (level w (own c) s) × PathsMeet w l c k s t (λ n. Onward w l k n s t)
 Onward w l (More a g) (suc n) s t = Onward w l g n s t
 
 -- the active paths from a parent down
 abbrev pub PathsAgree : World → ℕ → (p : ℕ) → Group → Store → Store → Type 0
-PathsAgree w l p g s t = Meets w l p g s t (λ n. Onward w l g n s t)
+PathsAgree w l p g s t = PathsMeet w l p g s t (λ n. Onward w l g n s t)
 
 module _ (w : World) (l : ℕ) where
   -- from walks to what is seen

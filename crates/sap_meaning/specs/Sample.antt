@@ -52,7 +52,7 @@ abbrev pub sample : Program
 sample = record { world = sample_world; states = sample_states; hang = on_root }
 
 -- all of it holds of the sample
-pub record Meets : Type 0 where
+pub record SampleIsFine : Type 0 where
   pub fine : FineProgram sample
   pub exact : ExactProgram sample
   pub sized : SizedProgram sample

@@ -1,7 +1,7 @@
 // Small programs: what their runs show, and that the premises of the laws can be met.
 
 ghost use Rattle.sap_meaning.specs.Examples.{Sum, GuardedWrite, Handler, BranchNotTaken, LoweredTag, PlacedTag, UnderAuthority, EnforcedStates, DynamicStates, FallsTwice, FallsInto, Resets, MemoryRead, MemoryHandler};
-ghost use Rattle.sap_meaning.specs.Sample.{Meets};
+ghost use Rattle.sap_meaning.specs.Sample.{SampleIsFine};
 
 /// The runs of small programs on short streams, worked out.
 pub fn worked_runs()
@@ -23,5 +23,5 @@ pub fn worked_runs()
 
 /// A program with memories, handlers and nested states of both kinds has all that the laws ask for.
 pub fn premises_are_met()
-    ensures { Meets }
+    ensures { SampleIsFine }
 {}

@@ -8,9 +8,9 @@ abbrev pub first_kind : List Token → Option Kind
 first_kind [] = None
 first_kind (t ∷ ts) = Some t.kind
 
-abbrev first_place : List Token → ℕ
-first_place [] = 0
-first_place (t ∷ ts) = t.place
+abbrev front_place : List Token → ℕ
+front_place [] = 0
+front_place (t ∷ ts) = t.place
 
 abbrev pub others_of : List Token → List Token
 others_of [] = []
@@ -34,7 +34,7 @@ some_same e = cc
 pub same_token : {ts us r s : List Token} {p q : ℕ} {j k : Kind} → ts ≡ us → IsToken ts p j r → IsToken us q k s → SameToken p q j k r s
 same_token e a b =
     let both = sym a.parts ∙ e ∙ b.parts in
-    record { place = ap first_place both; kind = some_same (ap first_kind both); others = ap others_of both }
+    record { place = ap front_place both; kind = some_same (ap first_kind both); others = ap others_of both }
 
 pub after_word : {ts us r s : List Token} {v w : Word} → ts ≡ us → IsWord ts v r → IsWord us w s → r ≡ s
 after_word e a b = (same_token e a.is b.is).others

@@ -64,11 +64,11 @@ abbrev pub enforced_of : Option Entity → Bool
 enforced_of None = false
 enforced_of (Some e) = not e.dynamic
 
-abbrev pub kind_of : Declared → EntityKind
-kind_of (what.Input width) = kinds.Input
-kind_of (what.Register width) = kinds.Register
-kind_of (what.Memory width depth) = kinds.Memory
-kind_of what.State = kinds.State
+abbrev pub kind_of_declared : Declared → EntityKind
+kind_of_declared (what.Input width) = kinds.Input
+kind_of_declared (what.Register width) = kinds.Register
+kind_of_declared (what.Memory width depth) = kinds.Memory
+kind_of_declared what.State = kinds.State
 
 -- the declared width, 0 for a state
 abbrev pub declared_width : Declared → ℕ

@@ -1,13 +1,13 @@
 //! Kinds and widths of declared names.
 
 ghost use Rattle.std.specs.Prelude.{◌≡◌};
-ghost use Rattle.sap_names.specs.Entities.{declared_width, kind_of};
+ghost use Rattle.sap_names.specs.Entities.{declared_width, kind_of_declared};
 
 use crate::kind::{Declared, EntityKind};
 
 impl Declared {
     pub fn kind(self) -> EntityKind
-        ensures { result ≡ kind_of self }
+        ensures { result ≡ kind_of_declared self }
     {
         match self {
             Declared::Input(_) => EntityKind::Input,

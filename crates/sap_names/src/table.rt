@@ -2,7 +2,7 @@
 
 ghost use Rattle.std.specs.Prelude.{◌≡◌, ◌<◌, [], length, slice_get, option_map, IfOk, OnOk, IsErrOf, Some};
 ghost use Rattle.sap_lattice.specs.Levels.{order_of};
-ghost use Rattle.sap_names.specs.Entities.{HaveWidths, declared_width, dynamic_of, enforced_of, entities_of, find, kind_of, number_of, what_is};
+ghost use Rattle.sap_names.specs.Entities.{HaveWidths, declared_width, dynamic_of, enforced_of, entities_of, find, kind_of_declared, number_of, what_is};
 ghost use Rattle.sap_names.specs.Fault.{First};
 ghost use Rattle.sap_names.specs.NameFaults.{design_name_faults};
 ghost use Rattle.sap_names.specs.declared.kind.Code.{Code};
@@ -88,7 +88,7 @@ impl Names {
 
     pub fn kind(&self, entity: u32) -> EntityKind
         requires { entity < length self.now }
-        ensures { option_map (λ e. kind_of e.what) (slice_get self.now entity) ≡ Some result }
+        ensures { option_map (λ e. kind_of_declared e.what) (slice_get self.now entity) ≡ Some result }
     {
         self.entity(entity).what.kind()
     }

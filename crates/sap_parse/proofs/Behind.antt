@@ -4,7 +4,7 @@ use Rattle.std.proofs.lemmas.Grind.{common_steps}
 use Rattle.sap_text.specs.Places as places
 use Rattle.sap_text.specs.Places.{place_after, place_at}
 use Rattle.sap_parse.specs.Reading.{ahead}
-use Rattle.sap_parse.specs.Stages.{first_place}
+use Rattle.sap_parse.specs.Stages.{front_place}
 use Rattle.sap_parse.specs.Text.{fault_place}
 use Rattle.sap_parse.specs.declared.cursor.Ahead.TheVariants as a
 use Rattle.sap_parse.specs.declared.token.Token.{Token}
@@ -16,7 +16,7 @@ pub at_end : (text : List ℕ) (left : List Token) → left ≡ [] → place_aft
 unfolding place_at
 at_end text left e = ap (place_after places.first_place) (whole text) ∙ ap (fault_place text) (sym e)
 
-pub at_token : (text : List ℕ) (left : List Token) → ahead left ≢ a.Nothing → first_place left ≡ fault_place text left
+pub at_token : (text : List ℕ) (left : List Token) → ahead left ≢ a.Nothing → front_place left ≡ fault_place text left
 unfolding ahead
 at_token text [] h = absurd (h refl)
 at_token text (t ∷ ts) h = refl

@@ -5,7 +5,7 @@ use Rattle.std.proofs.lemmas.List.{drop-drop}
 use Rattle.std.proofs.Common.{None}
 use Rattle.sap_lemmas.proofs.Numbers.{one_more}
 use Rattle.sap_parse.specs.Reading.{Passes, ahead, ahead_of, front_name, front_number, front_sized, name_in, number_in, second, sized_in}
-use Rattle.sap_parse.specs.Stages.{Stage, first_place}
+use Rattle.sap_parse.specs.Stages.{Stage, front_place}
 use Rattle.sap_parse.specs.declared.cursor.Ahead.{Ahead}
 use Rattle.sap_parse.specs.declared.limit.Role.{Role}
 use Rattle.sap_parse.specs.declared.token.Kind.TheVariants as k
@@ -42,11 +42,11 @@ pub second_end : (ts : List Token) (n : ℕ) → length ts ≤ n + 1 → second 
 unfolding second
 second_end ts n h = behind (drop n ts) ∙ ap ahead (drop_drop ts n) ∙ ahead_end ts (n + 1) h
 
-pub here_at : (ts : List Token) (n : ℕ) (d : Token) → n < length ts → first_place (drop n ts) ≡ (get_or ts n d).place
-here_at ts n d h = ap first_place (drop-cons ts n d h)
+pub here_at : (ts : List Token) (n : ℕ) (d : Token) → n < length ts → front_place (drop n ts) ≡ (get_or ts n d).place
+here_at ts n d h = ap front_place (drop-cons ts n d h)
 
-pub here_end : (ts : List Token) (n : ℕ) → length ts ≤ n → first_place (drop n ts) ≡ record { line = 0; column = 0 }
-here_end ts n h = ap first_place (drop_end ts n h)
+pub here_end : (ts : List Token) (n : ℕ) → length ts ≤ n → front_place (drop n ts) ≡ record { line = 0; column = 0 }
+here_end ts n h = ap front_place (drop_end ts n h)
 
 pub number_at : (ts : List Token) (n : ℕ) (d : Token) → n < length ts → front_number (drop n ts) ≡ number_in (get_or ts n d).kind
 unfolding front_number

@@ -46,13 +46,13 @@ abbrev pub IsSized : Stage → Role → ℕ → ℕ → Stage → Type 0
 IsSized p role width n q = IsToken p role (k.Sized width n) q
 
 -- the place of the first token, where there is one
-abbrev pub first_place : List Token → Place
-first_place [] = record { line = 0; column = 0 }
-first_place (t ∷ ts) = t.place
+abbrev pub front_place : List Token → Place
+front_place [] = record { line = 0; column = 0 }
+front_place (t ∷ ts) = t.place
 
 -- the place of the token that stands here
 abbrev pub here : Stage → Place
-here p = first_place p.left
+here p = front_place p.left
 
 -- an expression that begins here and is named after the token here
 abbrev pub spot_here : Stage → Spot

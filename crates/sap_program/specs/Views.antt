@@ -20,14 +20,14 @@ use Rattle.sap_program.specs.declared.program.Command.{Command, Row_of-Command, 
 use Rattle.sap_program.specs.declared.program.Command.TheVariants as command
 use Rattle.sap_program.specs.declared.program.State.{State, State', Row_of-State, end_of-State, more_of-State}
 
-abbrev pub kind_of : Sort → program.Kind
-kind_of sort.Input = program.input
-kind_of sort.Register = program.register
-kind_of (sort.Memory depth) = program.memory depth
-kind_of (sort.State place last) = program.state place last
+abbrev pub kind_of_sort : Sort → program.Kind
+kind_of_sort sort.Input = program.input
+kind_of_sort sort.Register = program.register
+kind_of_sort (sort.Memory depth) = program.memory depth
+kind_of_sort (sort.State place last) = program.state place last
 
 abbrev pub entity_of : Entity → program.Entity
-entity_of e = record { kind = kind_of e.sort; width = e.width; dynamic = e.dynamic; declared = e.declared; authority = e.authority; initial = e.initial }
+entity_of e = record { kind = kind_of_sort e.sort; width = e.width; dynamic = e.dynamic; declared = e.declared; authority = e.authority; initial = e.initial }
 
 abbrev pub term_of : Number → Term ℕ
 term_of (number.Constant u n) = constant u n

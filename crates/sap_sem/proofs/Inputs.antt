@@ -6,7 +6,7 @@ use Rattle.sap_meaning.specs.Cycle.{Tagged}
 use Rattle.sap_meaning.specs.Program.{kind_is_input}
 use Rattle.sap_meaning.specs.State.{input_widths, AllFit}
 use Rattle.sap_program.specs.declared.program.Entity.{Entity}
-use Rattle.sap_program.specs.Views.{entity_of, kind_of}
+use Rattle.sap_program.specs.Views.{entity_of, kind_of_sort}
 use Rattle.sap_program.proofs.Lists.{item_drop}
 
 -- what is left fits
@@ -17,29 +17,29 @@ abbrev pub Within : (levels : ℕ) → Entity → Tagged → Type 0
 Within n e t = (t.number < 2 ^ e.width) × (t.level < n)
 
 module _ (n : ℕ) (e : Entity) (es : List Entity) where
-  taken : (t : Tagged) (ts : List Tagged) → kind_is_input (kind_of e.sort) ≡ true → Within n e t → Left n (e ∷ es) (t ∷ ts) ↔ Left n es ts
+  taken : (t : Tagged) (ts : List Tagged) → kind_is_input (kind_of_sort e.sort) ≡ true → Within n e t → Left n (e ∷ es) (t ∷ ts) ↔ Left n es ts
   taken t ts i h = rw i ((λ a. a.2), (λ a. (h.0, h.1, a)))
 
-  refused : (t : Tagged) (ts : List Tagged) → kind_is_input (kind_of e.sort) ≡ true → Left n (e ∷ es) (t ∷ ts) → Within n e t
+  refused : (t : Tagged) (ts : List Tagged) → kind_is_input (kind_of_sort e.sort) ≡ true → Left n (e ∷ es) (t ∷ ts) → Within n e t
   refused t ts i h = let a = rw i at h in (a.0, a.1)
 
-  missed : kind_is_input (kind_of e.sort) ≡ true → Left n (e ∷ es) [] → ⊥
+  missed : kind_is_input (kind_of_sort e.sort) ≡ true → Left n (e ∷ es) [] → ⊥
   missed i h = rw i at h
 
-  passed : (ts : List Tagged) → kind_is_input (kind_of e.sort) ≡ false → Left n (e ∷ es) ts ↔ Left n es ts
+  passed : (ts : List Tagged) → kind_is_input (kind_of_sort e.sort) ≡ false → Left n (e ∷ es) ts ↔ Left n es ts
   passed ts i = rw i ((λ a. a), (λ a. a))
 
 module _ (n : ℕ) (es : List Entity) (j : ℕ) (e : Entity) (at_j : j < length es) (is_e : e ≡ get_or es j e) where
   next : drop j es ≡ e ∷ drop (j + 1) es
   next = item_drop es j e at_j is_e
 
-  pub passed_at : (ts : List Tagged) → kind_is_input (kind_of e.sort) ≡ false → Left n (drop j es) ts ↔ Left n (drop (j + 1) es) ts
+  pub passed_at : (ts : List Tagged) → kind_is_input (kind_of_sort e.sort) ≡ false → Left n (drop j es) ts ↔ Left n (drop (j + 1) es) ts
   passed_at ts i = rw next (passed n e (drop (j + 1) es) ts i)
 
-  pub missed_at : (ts : List Tagged) (k : ℕ) → length ts ≤ k → kind_is_input (kind_of e.sort) ≡ true → Left n (drop j es) (drop k ts) → ⊥
+  pub missed_at : (ts : List Tagged) (k : ℕ) → length ts ≤ k → kind_is_input (kind_of_sort e.sort) ≡ true → Left n (drop j es) (drop k ts) → ⊥
   missed_at ts k l i h = missed n e (drop (j + 1) es) i (rw (next, drop_of_length-le ts l) at h)
 
-  module _ (ts : List Tagged) (k : ℕ) (t : Tagged) (at_k : k < length ts) (is_t : t ≡ get_or ts k t) (i : kind_is_input (kind_of e.sort) ≡ true) where
+  module _ (ts : List Tagged) (k : ℕ) (t : Tagged) (at_k : k < length ts) (is_t : t ≡ get_or ts k t) (i : kind_is_input (kind_of_sort e.sort) ≡ true) where
     after : drop k ts ≡ t ∷ drop (k + 1) ts
     after = item_drop ts k t at_k is_t
 

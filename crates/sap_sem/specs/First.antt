@@ -2,7 +2,7 @@
 use Rattle.std.specs.Prelude.{ℕ, replicate, if◌then◌else◌}
 use Rattle.sap_meaning.specs.Program.{depth_of}
 use Rattle.sap_program.specs.declared.program.Entity.{Entity}
-use Rattle.sap_program.specs.Views.{kind_of}
+use Rattle.sap_program.specs.Views.{kind_of_sort}
 use Rattle.sap_sem.specs.declared.entry.Entry as kept
 use Rattle.sap_sem.specs.Half.{Cells, no_cell}
 
@@ -10,7 +10,7 @@ abbrev pub start_level : (bottom : ℕ) → Entity → ℕ
 start_level b e = if e.dynamic then b else e.declared
 
 abbrev pub start_cells : (bottom : ℕ) → Entity → Cells
-start_cells b e = record { cells = replicate (depth_of (kind_of e.sort)) (no_cell (start_level b e)); whole = start_level b e }
+start_cells b e = record { cells = replicate (depth_of (kind_of_sort e.sort)) (no_cell (start_level b e)); whole = start_level b e }
 
 abbrev pub started : (bottom : ℕ) → Entity → kept.Entry
 started b e = record { own = record { number = e.initial; level = start_level b e }; start = start_cells b e; next = start_cells b e }

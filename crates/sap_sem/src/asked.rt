@@ -4,7 +4,7 @@ ghost use Rattle.std.specs.Prelude.{◌≡◌, ◌↔◌, ◌<◌, ◌^◌, IsTr
 ghost use Rattle.sap_meaning.specs.Program as program;
 ghost use Rattle.sap_meaning.specs.Sized as sized;
 ghost use Rattle.sap_meaning.specs.State.{InputsFit};
-ghost use Rattle.sap_program.specs.Views.{kind_of};
+ghost use Rattle.sap_program.specs.Views.{kind_of_sort};
 ghost use Rattle.sap_sem.specs.Machine.{program_of, sites_of};
 
 use crate::machine::Machine;
@@ -12,7 +12,7 @@ use sap_program::program::{Entity, Sort};
 use sap_stream::inputs::{Inputs, Tagged};
 
 fn is_input(entity: &Entity) -> bool
-    ensures { result ≡ program.kind_is_input (kind_of entity.now.sort) }
+    ensures { result ≡ program.kind_is_input (kind_of_sort entity.now.sort) }
 {
     matches!(entity.sort, Sort::Input)
 }

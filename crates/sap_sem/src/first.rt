@@ -3,7 +3,7 @@
 ghost use Rattle.std.specs.Prelude.{◌≡◌, ◌<◌, ◌^◌, ◌+◌, None, ℕ, map, replicate, IfOk};
 ghost use Rattle.sap_meaning.specs.Program as program;
 ghost use Rattle.sap_meaning.specs.State.{first};
-ghost use Rattle.sap_program.specs.Views.{kind_of};
+ghost use Rattle.sap_program.specs.Views.{kind_of_sort};
 ghost use Rattle.sap_sem.specs.Code.{store_in, world_in};
 ghost use Rattle.sap_sem.specs.First.{started};
 ghost use Rattle.sap_sem.specs.Kept.{Ready};
@@ -20,7 +20,7 @@ use std::alloc::{AllocError, Global};
 
 /// How many cells an entity has.
 fn depth(entity: &Entity) -> u64
-    ensures { result ≡ program.depth_of (kind_of entity.now.sort) }
+    ensures { result ≡ program.depth_of (kind_of_sort entity.now.sort) }
 {
     match entity.sort {
         Sort::Memory(depth) => depth,

@@ -4,7 +4,7 @@ use Rattle.sap_tree.specs.declared.syntax.State.{State, out-State}
 use Rattle.sap_tree.specs.Syntax.{StateTree, StateList, NoState, AndState}
 use Rattle.sap_tree.specs.Trees.{state_of, states_of}
 use Rattle.sap_tree.proofs.Views.{state_of-out}
-use Rattle.sap_shape.specs.Sites.{any_enforced, is_enforced_kind, kind_of}
+use Rattle.sap_shape.specs.Sites.{any_enforced, is_enforced_kind, kind_of_state}
 use Rattle.sap_shape.specs.ShapeFaults.{is_among, name_of, is_in_group, is_within, is_leaf}
 
 module _ (test : StateTree → Bool) (any : StateList → Bool) (none : any NoState ≡ false) (more : (s : StateTree) (rest : StateList) → any (AndState s rest) ≡ (test s || any rest)) where
@@ -25,7 +25,7 @@ module _ (test : StateTree → Bool) (any : StateList → Bool) (none : any NoSt
       any_drop ss n d h ∙ ap (λ (x : Bool). x || any (states_of (drop (n + 1) ss))) (ap (λ (s : State). test (state_of s)) (sym e) ∙ t)
 
 abbrev has_kind : StateTree → Bool
-has_kind s = is_enforced_kind (kind_of s)
+has_kind s = is_enforced_kind (kind_of_state s)
 
 pub enforced_here : (ss : List State) (n : ℕ) (d : State) (b : Bool) → n < length ss → d ≡ get_or ss n d → b ≡ is_enforced_kind (out-State d).kind
     → any_enforced (states_of (drop n ss)) ≡ (b || any_enforced (states_of (drop (n + 1) ss)))

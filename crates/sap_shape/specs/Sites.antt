@@ -20,12 +20,12 @@ abbrev pub is_dynamic : List Entity → List ℕ → Bool
 is_dynamic es name = dynamic_of (find es name)
 
 -- the kind of a state
-abbrev pub kind_of : StateTree → Kind
-kind_of (StateOf place name kind body children) = kind
+abbrev pub kind_of_state : StateTree → Kind
+kind_of_state (StateOf place name kind body children) = kind
 
 abbrev pub any_enforced : StateList → Bool
 any_enforced NoState = false
-any_enforced (AndState s rest) = is_enforced_kind (kind_of s) || any_enforced rest
+any_enforced (AndState s rest) = is_enforced_kind (kind_of_state s) || any_enforced rest
 
 -- in the body of a state of this kind with these children
 abbrev pub is_site : List Entity → Kind → StateList → SimpleCommand → Bool

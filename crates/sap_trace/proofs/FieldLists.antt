@@ -12,7 +12,7 @@ use Rattle.sap_names.specs.declared.kind.Declared.TheVariants as what
 use Rattle.sap_names.specs.declared.kind.EntityKind.{EntityKind}
 use Rattle.sap_names.specs.declared.kind.EntityKind.TheVariants as kinds
 use Rattle.sap_names.specs.declared.entity.Entity.{Entity}
-use Rattle.sap_names.specs.Entities.{HasWidth, HaveWidths, declared_width, kind_of, entities_of}
+use Rattle.sap_names.specs.Entities.{HasWidth, HaveWidths, declared_width, kind_of_declared, entities_of}
 use Rattle.sap_meaning.specs.Program.{kind_is_input}
 use Rattle.sap_meaning.specs.Program as program
 use Rattle.sap_meaning.specs.State.{input_widths}
@@ -30,26 +30,26 @@ append_three [] ys zs = refl
 append_three (x ∷ xs) ys zs = ap (λ (us : List Field). x ∷ us) (append_three xs ys zs)
 
 -- the field of an entity of a kind and a width
-input_field : (d : Declared) (w : ℕ) → kind_of d ≡ kinds.Input → declared_width d ≡ w → field_of d ≡ Tagged w ∷ []
+input_field : (d : Declared) (w : ℕ) → kind_of_declared d ≡ kinds.Input → declared_width d ≡ w → field_of d ≡ Tagged w ∷ []
 input_field (what.Input u) w h e = ap (λ (v : ℕ). Tagged v ∷ []) e
 input_field (what.Register u) w h e = cc
 input_field (what.Memory u depth) w h e = cc
 input_field what.State w h e = cc
 
-other_field : (d : Declared) → (kind_of d ≡ kinds.Input → ⊥) → field_of d ≡ []
+other_field : (d : Declared) → (kind_of_declared d ≡ kinds.Input → ⊥) → field_of d ≡ []
 other_field (what.Input u) h = absurd (h refl)
 other_field (what.Register u) h = refl
 other_field (what.Memory u depth) h = refl
 other_field what.State h = refl
 
-pub input_there : (o : Option Entity) (w : ℕ) → option_map (λ (e : Entity). kind_of e.what) o ≡ Some kinds.Input → option_map (λ (e : Entity). declared_width e.what) o ≡ Some w
+pub input_there : (o : Option Entity) (w : ℕ) → option_map (λ (e : Entity). kind_of_declared e.what) o ≡ Some kinds.Input → option_map (λ (e : Entity). declared_width e.what) o ≡ Some w
     → field_at o ≡ Tagged w ∷ []
 input_there None w h e = cc
-input_there (Some x) w h e = input_field x.what w (some_kind (kind_of x.what) kinds.Input h) (some_same (declared_width x.what) w e)
+input_there (Some x) w h e = input_field x.what w (some_kind (kind_of_declared x.what) kinds.Input h) (some_same (declared_width x.what) w e)
 
-pub other_there : (o : Option Entity) (k : EntityKind) → option_map (λ (e : Entity). kind_of e.what) o ≡ Some k → (k ≡ kinds.Input → ⊥) → field_at o ≡ []
+pub other_there : (o : Option Entity) (k : EntityKind) → option_map (λ (e : Entity). kind_of_declared e.what) o ≡ Some k → (k ≡ kinds.Input → ⊥) → field_at o ≡ []
 other_there None k h n = refl
-other_there (Some x) k h n = other_field x.what (λ e. n (sym (some_kind (kind_of x.what) k h) ∙ e))
+other_there (Some x) k h n = other_field x.what (λ e. n (sym (some_kind (kind_of_declared x.what) k h) ∙ e))
 
 -- one entity more
 pub fields_more : (es : List Entity) (n : ℕ) → n < length es → fields_among (take (n + 1) es) ≡ fields_among (take n es) ++ field_at (slice_get es n)

@@ -4,7 +4,7 @@ use Rattle.std.proofs.lemmas.Grind.{common_steps}
 use Rattle.sap_lemmas.proofs.Numbers.{one_more}
 use Rattle.sap_modtext.specs.Tokens as t
 use Rattle.sap_vparse.specs.Reading.{Passes, constant_in, front_constant, front_name, front_number, head, head_of, here, name_in, number_in, of_nothing, Head}
-use Rattle.sap_vparse.specs.Spelling.{kind_of, token_of, tokens_of}
+use Rattle.sap_vparse.specs.Spelling.{kind_of_token, token_of, tokens_of}
 use Rattle.sap_vparse.specs.declared.token.Token.{Token}
 
 drop_end : (ts : List Token) (n : ℕ) → length ts ≤ n → drop n ts ≡ []
@@ -16,7 +16,7 @@ from_at ts n d h = ap tokens_of (drop-cons ts n d h) ∙ ap (λ m. token_of (get
 from_end : (ts : List Token) (n : ℕ) → length ts ≤ n → tokens_of (drop n ts) ≡ []
 from_end ts n h = ap tokens_of (drop_end ts n h)
 
-pub head_at : (ts : List Token) (n : ℕ) (d : Token) → n < length ts → head (tokens_of (drop n ts)) ≡ head_of (kind_of (get_or ts n d).kind)
+pub head_at : (ts : List Token) (n : ℕ) (d : Token) → n < length ts → head (tokens_of (drop n ts)) ≡ head_of (kind_of_token (get_or ts n d).kind)
 unfolding head
 head_at ts n d h = ap head (from_at ts n d h)
 
@@ -30,7 +30,7 @@ here_at ts n d h = ap here (from_at ts n d h)
 pub here_end : (ts : List Token) (n : ℕ) → length ts ≤ n → here (tokens_of (drop n ts)) ≡ 0
 here_end ts n h = ap here (from_end ts n h)
 
-pub number_at : (ts : List Token) (n : ℕ) (d : Token) → n < length ts → front_number (tokens_of (drop n ts)) ≡ number_in (kind_of (get_or ts n d).kind)
+pub number_at : (ts : List Token) (n : ℕ) (d : Token) → n < length ts → front_number (tokens_of (drop n ts)) ≡ number_in (kind_of_token (get_or ts n d).kind)
 unfolding front_number
 number_at ts n d h = ap front_number (from_at ts n d h)
 
@@ -38,7 +38,7 @@ pub number_end : (ts : List Token) (n : ℕ) → length ts ≤ n → front_numbe
 unfolding front_number
 number_end ts n h = ap front_number (from_end ts n h)
 
-pub constant_at : (ts : List Token) (n : ℕ) (d : Token) → n < length ts → front_constant (tokens_of (drop n ts)) ≡ constant_in (kind_of (get_or ts n d).kind)
+pub constant_at : (ts : List Token) (n : ℕ) (d : Token) → n < length ts → front_constant (tokens_of (drop n ts)) ≡ constant_in (kind_of_token (get_or ts n d).kind)
 unfolding front_constant
 constant_at ts n d h = ap front_constant (from_at ts n d h)
 
@@ -46,7 +46,7 @@ pub constant_end : (ts : List Token) (n : ℕ) → length ts ≤ n → front_con
 unfolding front_constant
 constant_end ts n h = ap front_constant (from_end ts n h)
 
-pub name_at : (ts : List Token) (n : ℕ) (d : Token) → n < length ts → front_name (tokens_of (drop n ts)) ≡ name_in (kind_of (get_or ts n d).kind)
+pub name_at : (ts : List Token) (n : ℕ) (d : Token) → n < length ts → front_name (tokens_of (drop n ts)) ≡ name_in (kind_of_token (get_or ts n d).kind)
 unfolding front_name
 name_at ts n d h = ap front_name (from_at ts n d h)
 

@@ -7,7 +7,7 @@ use Rattle.std.specs.Str.Parse.{digits_value}
 pub use Rattle.sap_text.specs.Blanks.{is_blank, is_comment, is_in_line}
 use Rattle.sap_modtext.specs.Lexing as l
 use Rattle.sap_net.specs.Names.{is_initial, is_inner}
-use Rattle.sap_vparse.specs.Spelling.{kind_of}
+use Rattle.sap_vparse.specs.Spelling.{kind_of_token}
 use Rattle.sap_vparse.specs.declared.lexeme.Class.TheVariants as c
 use Rattle.sap_vparse.specs.declared.lexeme.Class.{Class}
 use Rattle.sap_vparse.specs.declared.lexeme.Lexeme.TheVariants.{Blank, Token, Bad}
@@ -21,7 +21,7 @@ use Rattle.sap_vparse.specs.declared.token.Word.{Word}
 -- the same in the words of the module grammar
 abbrev pub front_of : Lexeme → l.Front
 front_of (Blank len) = l.blank len
-front_of (Token kind len) = l.token (kind_of kind) len
+front_of (Token kind len) = l.token (kind_of_token kind) len
 front_of Bad = l.bad
 
 -- classes of bytes: those within a name, digits, and all but the end of a line

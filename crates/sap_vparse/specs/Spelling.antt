@@ -53,15 +53,15 @@ sign_of s.Bar = t.Bar
 sign_of s.Caret = t.Caret
 sign_of s.Tilde = t.Tilde
 
-abbrev pub kind_of : Kind → t.Kind
-kind_of (k.Word word) = t.word (word_of word)
-kind_of (k.Sign sign) = t.sign (sign_of sign)
-kind_of (k.Name name) = t.name name
-kind_of (k.Number n digits) = t.number n digits
-kind_of (k.Constant width n) = t.constant width n
+abbrev pub kind_of_token : Kind → t.Kind
+kind_of_token (k.Word word) = t.word (word_of word)
+kind_of_token (k.Sign sign) = t.sign (sign_of sign)
+kind_of_token (k.Name name) = t.name name
+kind_of_token (k.Number n digits) = t.number n digits
+kind_of_token (k.Constant width n) = t.constant width n
 
 abbrev pub token_of : Token → t.Token
-token_of x = record { place = x.place; kind = kind_of x.kind }
+token_of x = record { place = x.place; kind = kind_of_token x.kind }
 
 abbrev pub tokens_of : List Token → List t.Token
 tokens_of ts = map token_of ts

@@ -4,7 +4,7 @@ ghost use Rattle.std.specs.Prelude.{◌≡◌, ◌≢◌, ◌<◌, [], IfOk, fal
 ghost use Rattle.sap_modtext.specs.Grammar.{IsConstant, IsDigit, IsName, IsNumber, IsSign, IsWord};
 ghost use Rattle.sap_modtext.specs.Tokens as t;
 ghost use Rattle.sap_vparse.specs.Reading.{Goes, Passes, ahead_of, constant_in, front_constant, front_name, front_number, head, head_of, here, name_in, number_in, of_name, of_nothing, of_number, of_sign, of_word};
-ghost use Rattle.sap_vparse.specs.Spelling.{kind_of, sign_of, tokens_of, word_of};
+ghost use Rattle.sap_vparse.specs.Spelling.{kind_of_token, sign_of, tokens_of, word_of};
 ghost use Rattle.sap_vparse.specs.Table as s;
 ghost use Rattle.sap_vparse.specs.Views.{constant_of, mention_of, number_of};
 
@@ -56,7 +56,7 @@ pub enum Ahead {
 }
 
 fn ahead_of(kind: &Kind) -> Ahead
-    ensures { ahead_of result ≡ head_of (kind_of kind.now) }
+    ensures { ahead_of result ≡ head_of (kind_of_token kind.now) }
 {
     match kind {
         Kind::Word(word) => Ahead::Word(*word),
@@ -68,7 +68,7 @@ fn ahead_of(kind: &Kind) -> Ahead
 }
 
 fn number_in(kind: &Kind) -> Option<(u64, usize)>
-    ensures { result ≡ number_in (kind_of kind.now) }
+    ensures { result ≡ number_in (kind_of_token kind.now) }
 {
     match kind {
         Kind::Number(n, digits) => Some((*n, *digits)),
@@ -77,7 +77,7 @@ fn number_in(kind: &Kind) -> Option<(u64, usize)>
 }
 
 fn constant_in(kind: &Kind) -> Option<(u64, u64)>
-    ensures { result ≡ constant_in (kind_of kind.now) }
+    ensures { result ≡ constant_in (kind_of_token kind.now) }
 {
     match kind {
         Kind::Constant(width, n) => Some((*width, *n)),
@@ -86,7 +86,7 @@ fn constant_in(kind: &Kind) -> Option<(u64, u64)>
 }
 
 fn name_in(alloc: Global, kind: &Kind) -> Result<Option<Name>, AllocError>
-    ensures { IfOk result (λ name. name ≡ name_in (kind_of kind.now)) }
+    ensures { IfOk result (λ name. name ≡ name_in (kind_of_token kind.now)) }
 {
     match kind {
         Kind::Name(name) => Ok(Some(name.copy(alloc)?)),

@@ -5,7 +5,7 @@ use Rattle.sap_meaning.specs.Checks.{Spot, site_of}
 use Rattle.sap_meaning.specs.Sites.{some_enforced, is_site}
 use Rattle.sap_meaning.specs.Sites as meaning
 use Rattle.sap_resolve.specs.Fill.{filled_step, filled, filled_arms, filled_block, filled_state, filled_group}
-use Rattle.sap_secure.specs.CheckSites.ProgramSites.{ProgramSite, kind_of, entity_of, step_sites, command_sites, arms_sites, block_sites, state_sites, group_sites}
+use Rattle.sap_secure.specs.CheckSites.ProgramSites.{ProgramSite, kind_of_step, entity_of, step_sites, command_sites, arms_sites, block_sites, state_sites, group_sites}
 use Rattle.sap_secure.proofs.check_sites.Counts.{numbers_of, numbers_join}
 
 both : (a b c d : List ProgramSite) → a ≡ c → b ≡ d → a ++ b ≡ c ++ d
@@ -28,7 +28,7 @@ module _ (w : World) where
     step_filled (RetagCell site m j n) = refl
     step_filled (Goto site target) = refl
     step_filled (Fall site hang) =
-        ap (λ (b : Bool). if b then (let t : ProgramSite = record { number = site; kind = kind_of (Fall site hang); entity = s } in t ∷ []) else []) same
+        ap (λ (b : Bool). if b then (let t : ProgramSite = record { number = site; kind = kind_of_step (Fall site hang); entity = s } in t ∷ []) else []) same
 
     mutual
       command_filled : (c : Command) → command_sites w s i (filled w at c) ≡ command_sites w s g c
@@ -76,7 +76,7 @@ module _ (w : World) where
 
   module _ (s : ℕ) (g : Group) where
     step_numbers : (k : Step) → numbers_of (step_sites w s g k) ≡ meaning.step_sites w s g k
-    step_numbers k = one_numbered (is_site w s g k) (record { number = site_of k; kind = kind_of k; entity = entity_of s k })
+    step_numbers k = one_numbered (is_site w s g k) (record { number = site_of k; kind = kind_of_step k; entity = entity_of s k })
 
     mutual
       command_numbers : (c : Command) → numbers_of (command_sites w s g c) ≡ meaning.sites w s g c

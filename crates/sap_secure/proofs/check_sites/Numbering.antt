@@ -24,7 +24,7 @@ use Rattle.sap_resolve.proofs.premises.Commands.{if_first, if_other, body_fits, 
 use Rattle.sap_resolve.proofs.premises.Places.{Laid, LaidState, laid_first, laid_rest, laid_below, laid_name, laid_named, name_at}
 use Rattle.sap_resolve.proofs.premises.Numbers.{here_dynamic}
 use Rattle.sap_resolve.proofs.premises.Rises.{enforced_kind, some_same, site_same, site_is}
-use Rattle.sap_secure.specs.CheckSites.ProgramSites.{ProgramSite, kind_of, entity_of, step_sites, command_sites, arms_sites, block_sites, state_sites, group_sites}
+use Rattle.sap_secure.specs.CheckSites.ProgramSites.{ProgramSite, kind_of_step, entity_of, step_sites, command_sites, arms_sites, block_sites, state_sites, group_sites}
 use Rattle.sap_secure.specs.CheckSites.Numbering.{numbered}
 use Rattle.sap_secure.proofs.check_sites.Counts.{joined}
 
@@ -41,7 +41,7 @@ module _ (ls : Levels) (levels : List (List ℕ)) (h : Context) (w : World) (mat
   abbrev What : Lookup
   What = what_is h.entities
 
-  kind_is : (n : ℕ) (c : SimpleCommand) → kind_of (step_of ls h n c) ≡ check.kind_of c
+  kind_is : (n : ℕ) (c : SimpleCommand) → kind_of_step (step_of ls h n c) ≡ check.kind_of_command c
   kind_is n (Assign target e) = refl
   kind_is n (Write target index e) = refl
   kind_is n (SetTag place target tag) = refl
@@ -61,7 +61,7 @@ module _ (ls : Levels) (levels : List (List ℕ)) (h : Context) (w : World) (mat
       → step_sites w x g (step_of ls h (site_number h k c) c) ≡ numbered k (map told (simple_sites h c))
   step_numbered k c f =
       let t = step_of ls h (site_number h k c) c in
-      ap (λ (b : Bool). if b then (let s : ProgramSite = record { number = site_of t; kind = kind_of t; entity = entity_of x t } in s ∷ []) else [])
+      ap (λ (b : Bool). if b then (let s : ProgramSite = record { number = site_of t; kind = kind_of_step t; entity = entity_of x t } in s ∷ []) else [])
       (site_same ls levels h w match x g own kids (site_number h k c) c f)
       ∙ ap (λ (z : SiteKind). if shape.is_site h.entities h.home.kind h.home.children c then (let s : ProgramSite = record { number = site_of t; kind = z; entity = entity_of x t } in s ∷ []) else [])
       (kind_is (site_number h k c) c)

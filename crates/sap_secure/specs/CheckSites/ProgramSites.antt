@@ -11,13 +11,13 @@ pub record ProgramSite : Type 0 where
   pub kind : SiteKind
   pub entity : ℕ
 
-abbrev pub kind_of : Step → SiteKind
-kind_of (Set site x e) = kind.Write
-kind_of (Write site m i e) = kind.Write
-kind_of (Retag site x n) = kind.SetTag
-kind_of (RetagCell site m j n) = kind.SetTag
-kind_of (Goto site target) = kind.Goto
-kind_of (Fall site hang) = kind.Fall
+abbrev pub kind_of_step : Step → SiteKind
+kind_of_step (Set site x e) = kind.Write
+kind_of_step (Write site m i e) = kind.Write
+kind_of_step (Retag site x n) = kind.SetTag
+kind_of_step (RetagCell site m j n) = kind.SetTag
+kind_of_step (Goto site target) = kind.Goto
+kind_of_step (Fall site hang) = kind.Fall
 
 -- its target, and of a fall the state in whose body it stands
 abbrev pub entity_of : (state : ℕ) → Step → ℕ
@@ -31,7 +31,7 @@ entity_of s (Fall site hang) = s
 -- those of commands in the body of the state s with children g
 abbrev pub step_sites : World → (s : ℕ) → (g : Group) → Step → List ProgramSite
 step_sites w s g k =
-    if is_site w s g k then record { number = site_of k; kind = kind_of k; entity = entity_of s k } ∷ [] else []
+    if is_site w s g k then record { number = site_of k; kind = kind_of_step k; entity = entity_of s k } ∷ [] else []
 
 abbrev mutual
   pub command_sites : World → (s : ℕ) → (g : Group) → Command → List ProgramSite

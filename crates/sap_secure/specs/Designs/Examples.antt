@@ -107,5 +107,5 @@ abbrev pub Formed : Type 0
 Formed = WellFormed levels sample
 
 -- so the sample has all that the laws ask for
-abbrev pub Meets : Type 0
-Meets = FineProgram (program_of levels sample)
+abbrev pub SampleServes : Type 0
+SampleServes = FineProgram (program_of levels sample)

@@ -1,6 +1,6 @@
 //! A small design, and that the premises of the laws can be met.
 
-ghost use Rattle.sap_secure.specs.Designs.Examples.{Lawful, Formed, Meets};
+ghost use Rattle.sap_secure.specs.Designs.Examples.{Lawful, Formed, SampleServes};
 
 use sap_resolve::premises::well_formed_serves;
 
@@ -8,7 +8,7 @@ use sap_resolve::premises::well_formed_serves;
 pub fn premises_are_met()
     ensures lawful { Lawful }
     ensures formed { Formed }
-    ensures meets { Meets }
+    ensures meets { SampleServes }
 {
     sap_resolve::sized::examples::premises_are_met();
     well_formed_serves()
