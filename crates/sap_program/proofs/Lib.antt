@@ -1,12 +1,1 @@
-pub mod Positions
-pub mod Chosen
-pub mod Placed
 pub mod Shown
-pub mod Lists
-pub mod Arms
-pub mod Lighter
-pub mod Choices
-pub mod Groups
-pub mod Worlds
-pub mod Limits
-pub mod Programs
