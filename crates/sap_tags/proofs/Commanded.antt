@@ -1,9 +1,8 @@
 -- What stands behind a body after a command, and after each of a list.
-use Rattle.std.proofs.Common.{◌≡◌, ℕ, zero, suc, ◌+◌, ◌<◌, ◌≤◌, Bool, List, [], ◌∷◌, ◌++◌, map, if◌then◌else◌, length, get_or, drop, refl, sym, ap, ap₂, ◌∙◌, subst, arith, add-one, append_assoc, append-nil}
+use Rattle.std.proofs.Common.{◌≡◌, ℕ, zero, suc, ◌+◌, ◌<◌, ◌≤◌, Bool, List, [], ◌∷◌, ◌++◌, map, if◌then◌else◌, length, get_or, drop, refl, sym, ap, ap₂, ◌∙◌, arith, add-one, append_assoc, append-nil}
 use Rattle.std.specs.declared.vec.Vec.{Vec}
 use Rattle.std.specs.declared.alloc.Global.{Global}
 use Rattle.sap_ir.proofs.PlainLemmas.{follow_stop}
-use Rattle.sap_tree.specs.Limits.{most_arms}
 use Rattle.sap_meaning.specs.Program.{listed, Arms, Last, End}
 use Rattle.sap_meaning.specs.Expressions.{width_of}
 use Rattle.sap_meaning.specs.Program as program
@@ -13,7 +12,7 @@ use Rattle.sap_maps.specs.Term.{Term}
 use Rattle.sap_ir.specs.Plain.Nested.{Body, stop, cases, seat_width}
 use Rattle.sap_ir.specs.declared.plain.nested.PlainCmd.{PlainCmd}
 use Rattle.sap_ir.specs.Plain.Views.{body_of, follow}
-use Rattle.sap_ir.proofs.plain.Views.{body_of-none, follow-more}
+use Rattle.sap_ir.proofs.plain.Views.{follow-more}
 use Rattle.sap_program.specs.Hangs.{flags}
 use Rattle.sap_program.specs.declared.program.Number.{Number}
 use Rattle.sap_program.specs.declared.program.Step.{Step}
@@ -22,93 +21,19 @@ use Rattle.sap_program.specs.declared.program.Command.{Command}
 use Rattle.sap_program.specs.declared.program.Command.TheVariants as command
 use Rattle.sap_program.specs.declared.program.Command.TheViews as shown
 use Rattle.sap_program.specs.Views.{term_of, step_of, constants_of, commands_in, arm_block, arms_before, command_of, block_of}
-use Rattle.sap_resolve.specs.Sized.Ranges.{Ranged, RangedArms, RangedBlock, RangedStep, RangedTerm}
-use Rattle.sap_tags.specs.Built.{ArmsFew, ArmsRanged, CommandFew, CommandRanged, CommandsFew, CommandsRanged, arm_bodies, arm_wires, command_body, command_wires, commands_body, commands_wires, decided}
+use Rattle.sap_terms.specs.Parts.{arm_wires, command_wires, commands_wires}
+use Rattle.sap_tags.specs.Built.{arm_bodies, command_body, commands_body, decided}
 use Rattle.sap_terms.specs.Code.{entities_in, setting_in, spot_in, world_in}
-use Rattle.sap_tagged.specs.Commands.{gives, looks, raises, effect_of, refusal, attempt_of, attempt_then_of, arm_count, pick_width, picks_arm, picks, decides, pick_of, select_of, wires_arms, wires_block, command_plain, arms_plain, block_plain}
-use Rattle.sap_tagged.specs.Few.{Few, FewArms, FewBlock}
+use Rattle.sap_tagged.specs.Commands.{gives, looks, raises, effect_of, refusal, attempt_of, attempt_then_of, arm_count, pick_width, picks_arm, picks, decides, pick_of, select_of, wires_block, command_plain, arms_plain, block_plain}
 use Rattle.sap_tagged.specs.Keys.{Wire}
 use Rattle.sap_tagged.specs.Setting as pass
 use Rattle.sap_tagged.specs.Levels.{var, lub, expr, tag_of, always}
 use Rattle.sap_terms.specs.declared.setting.Setting.{Setting}
 use Rattle.sap_terms.specs.declared.setting.Spot.{Spot}
 use Rattle.sap_program.proofs.Shown.{command_of-do, command_of-try, command_of-if, command_of-then, command_of-case, block_of-none}
-use Rattle.sap_tags.proofs.Listed.{block_of-more, wires_are, wires_block_are, wires_arms_are, wires_drop, arms_drop}
-use Rattle.sap_tags.proofs.Raised.{raises_follow}
-use Rattle.sap_tags.proofs.Picked.{alone, counted}
-
--- few arms
-
-pub few_handler : (c : Command) (st : Step) (hang : List ℕ) (hs : Vec Command Global) (l : List Command) → c ≡ shown.Try st hang hs → l ≡ hs.items → CommandFew c → CommandsFew l
-unfolding CommandFew CommandsFew
-few_handler c st hang hs l i f r = subst (λ (l : List Command). FewBlock (block_of 0 l)) (sym f) (subst Few (ap (command_of 0) i ∙ command_of-try 0 st hang hs) r)
-
-few_if : (c : Command) (hang : List ℕ) (e : Number) (ys ns : Vec Command Global) → c ≡ shown.If hang e ys ns → CommandFew c → FewBlock (block_of 0 ys.items) × FewBlock (block_of 0 ns.items)
-unfolding CommandFew
-few_if c hang e ys ns i r = subst Few (ap (command_of 0) i ∙ command_of-if 0 hang e ys ns) r
-
-pub few_yes : (c : Command) (hang : List ℕ) (e : Number) (ys ns : Vec Command Global) (l : List Command) → c ≡ shown.If hang e ys ns → l ≡ ys.items → CommandFew c → CommandsFew l
-unfolding CommandsFew
-few_yes c hang e ys ns l i f r = subst (λ (l : List Command). FewBlock (block_of 0 l)) (sym f) (few_if c hang e ys ns i r).0
-
-pub few_no : (c : Command) (hang : List ℕ) (e : Number) (ys ns : Vec Command Global) (l : List Command) → c ≡ shown.If hang e ys ns → l ≡ ns.items → CommandFew c → CommandsFew l
-unfolding CommandsFew
-few_no c hang e ys ns l i f r = subst (λ (l : List Command). FewBlock (block_of 0 l)) (sym f) (few_if c hang e ys ns i r).1
-
-few_then : (c : Command) (st : Step) (hang : List ℕ) (ys ns : Vec Command Global) → c ≡ shown.TryThen st hang ys ns → CommandFew c → FewBlock (block_of 0 ys.items) × FewBlock (block_of 0 ns.items)
-unfolding CommandFew
-few_then c st hang ys ns i r = subst Few (ap (command_of 0) i ∙ command_of-then 0 st hang ys ns) r
-
-pub few_accepted : (c : Command) (st : Step) (hang : List ℕ) (ys ns : Vec Command Global) (l : List Command) → c ≡ shown.TryThen st hang ys ns → l ≡ ys.items → CommandFew c → CommandsFew l
-unfolding CommandsFew
-few_accepted c st hang ys ns l i f r = subst (λ (l : List Command). FewBlock (block_of 0 l)) (sym f) (few_then c st hang ys ns i r).0
-
-pub few_refused : (c : Command) (st : Step) (hang : List ℕ) (ys ns : Vec Command Global) (l : List Command) → c ≡ shown.TryThen st hang ys ns → l ≡ ns.items → CommandFew c → CommandsFew l
-unfolding CommandsFew
-few_refused c st hang ys ns l i f r = subst (λ (l : List Command). FewBlock (block_of 0 l)) (sym f) (few_then c st hang ys ns i r).1
-
-few_before : (n : ℕ) (arms : List Arm) (others : Arms) → FewArms (arms_before n arms others) → FewArms (arms_before n arms (Last End)) × FewArms others
-unfolding arms_before
-few_before n [] others r = (tt, r)
-few_before n (a ∷ arms) others r = let q = few_before n arms others r.2 in ((r.0, r.1, q.0), q.1)
-
-few_case : (c : Command) (hang : List ℕ) (e : Number) (arms : Vec Arm Global) (cs : Vec Command Global) → c ≡ shown.Case hang e arms cs → CommandFew c
-    → (let all = arms_before 0 arms.items (Last (block_of 0 cs.items)) in (arm_count all ≤ most_arms) × FewArms all)
-unfolding CommandFew
-few_case c hang e arms cs i r = subst Few (ap (command_of 0) i ∙ command_of-case 0 hang e arms cs) r
-
-pub few_arms : (c : Command) (hang : List ℕ) (e : Number) (arms : Vec Arm Global) (cs : Vec Command Global) (l : List Arm) → c ≡ shown.Case hang e arms cs → l ≡ arms.items → CommandFew c → ArmsFew l
-unfolding ArmsFew
-few_arms c hang e arms cs l i f r =
-    subst (λ (l : List Arm). FewArms (arms_before 0 l (Last End))) (sym f) (few_before 0 arms.items (Last (block_of 0 cs.items)) (few_case c hang e arms cs i r).1).0
-
-pub few_count : (c : Command) (hang : List ℕ) (e : Number) (arms : Vec Arm Global) (cs : Vec Command Global) (l : List Arm) → c ≡ shown.Case hang e arms cs → l ≡ arms.items → CommandFew c → length l ≤ most_arms
-few_count c hang e arms cs l i f r =
-    subst (λ (l : List Arm). length l ≤ most_arms) (sym f) (subst (λ (m : ℕ). m ≤ most_arms) (counted 0 arms.items (block_of 0 cs.items)) (few_case c hang e arms cs i r).0)
-
-pub few_last : (c : Command) (hang : List ℕ) (e : Number) (arms : Vec Arm Global) (cs : Vec Command Global) (l : List Command) → c ≡ shown.Case hang e arms cs → l ≡ cs.items → CommandFew c → CommandsFew l
-unfolding CommandsFew
-few_last c hang e arms cs l i f r =
-    subst (λ (l : List Command). FewBlock (block_of 0 l)) (sym f) (few_before 0 arms.items (Last (block_of 0 cs.items)) (few_case c hang e arms cs i r).1).1
-
-pub few_arm : (arms : List Arm) (i : ℕ) (e : Arm) → i < length arms → ArmsFew arms → CommandsFew (commands_in (get_or arms i e))
-unfolding ArmsFew CommandsFew arms_before
-few_arm [] i e l r = absurd (omega arith)
-few_arm (a ∷ arms) zero e l r = r.1
-few_arm (a ∷ arms) (suc i) e l r = few_arm arms i e (omega arith) r.2
-
-pub few_in : (cs : List Command) (i : ℕ) (e : Command) → i < length cs → CommandsFew cs → CommandFew (get_or cs i e)
-unfolding CommandsFew CommandFew block_of
-few_in [] i e l r = absurd (omega arith)
-few_in (c ∷ cs) zero e l r = r.0
-few_in (c ∷ cs) (suc i) e l r = few_in cs i e (omega arith) r.1
-
-pub empty : (cs : List PlainCmd) → cs ≡ [] → body_of cs ≡ stop
-empty cs e = ap body_of e ∙ body_of-none
-
--- behind nothing
-pub fresh : (cs : List PlainCmd) (b x : Body) → cs ≡ [] → b ≡ follow (body_of cs) x → b ≡ x
-fresh cs b x e h = h ∙ ap (λ (l : List PlainCmd). follow (body_of l) x) e ∙ ap (λ (y : Body). follow y x) body_of-none
+use Rattle.sap_terms.proofs.Listed.{block_of-more, wires_are, wires_block_are, wires_drop, arms_drop}
+use Rattle.sap_effects.proofs.Raised.{raises_follow}
+use Rattle.sap_terms.proofs.Alone.{alone}
 
 -- behind no blocks
 pub fresh_blocks : (old new : List (Vec PlainCmd Global)) (x : List Body) → old ≡ [] → map (λ b. body_of b.items) new ≡ map (λ b. body_of b.items) old ++ x → map (λ b. body_of b.items) new ≡ x
@@ -131,92 +56,6 @@ picks_same d u j w k i n [] b rest = refl
 picks_same d u j w k i n (a ∷ arms) b rest = picks_same d u j w k (suc i) n arms b (picks_arm d u j w k i (constants_of a) rest)
 
 module _ (s : Setting) where
-  -- widths
-
-  pub ranged_do : (c : Command) (st : Step) → c ≡ command.Do st → CommandRanged s c → RangedStep (world_in s) (step_of (entities_in s) st)
-  unfolding CommandRanged
-  ranged_do c st e r = subst (Ranged (world_in s)) (ap (command_of (entities_in s)) e ∙ command_of-do (entities_in s) st) r
-
-  ranged_try : (c : Command) (st : Step) (hang : List ℕ) (hs : Vec Command Global) → c ≡ shown.Try st hang hs → CommandRanged s c
-      → RangedStep (world_in s) (step_of (entities_in s) st) × RangedBlock (world_in s) (block_of (entities_in s) hs.items)
-  unfolding CommandRanged
-  ranged_try c st hang hs e r = subst (Ranged (world_in s)) (ap (command_of (entities_in s)) e ∙ command_of-try (entities_in s) st hang hs) r
-
-  pub ranged_try_step : (c : Command) (st : Step) (hang : List ℕ) (hs : Vec Command Global) → c ≡ shown.Try st hang hs → CommandRanged s c → RangedStep (world_in s) (step_of (entities_in s) st)
-  ranged_try_step c st hang hs e r = (ranged_try c st hang hs e r).0
-
-  pub ranged_handler : (c : Command) (st : Step) (hang : List ℕ) (hs : Vec Command Global) (hl : List Command) → c ≡ shown.Try st hang hs → hl ≡ hs.items → CommandRanged s c → CommandsRanged s hl
-  unfolding CommandsRanged
-  ranged_handler c st hang hs hl e f r = subst (λ (l : List Command). RangedBlock (world_in s) (block_of (entities_in s) l)) (sym f) (ranged_try c st hang hs e r).1
-
-  ranged_if : (c : Command) (hang : List ℕ) (e : Number) (ys ns : Vec Command Global) → c ≡ shown.If hang e ys ns → CommandRanged s c
-      → RangedTerm (world_in s) (term_of e) × RangedBlock (world_in s) (block_of (entities_in s) ys.items) × RangedBlock (world_in s) (block_of (entities_in s) ns.items)
-  unfolding CommandRanged
-  ranged_if c hang e ys ns i r = subst (Ranged (world_in s)) (ap (command_of (entities_in s)) i ∙ command_of-if (entities_in s) hang e ys ns) r
-
-  pub ranged_condition : (c : Command) (hang : List ℕ) (e : Number) (ys ns : Vec Command Global) → c ≡ shown.If hang e ys ns → CommandRanged s c → RangedTerm (world_in s) (term_of e)
-  ranged_condition c hang e ys ns i r = (ranged_if c hang e ys ns i r).0
-
-  pub ranged_yes : (c : Command) (hang : List ℕ) (e : Number) (ys ns : Vec Command Global) (l : List Command) → c ≡ shown.If hang e ys ns → l ≡ ys.items → CommandRanged s c → CommandsRanged s l
-  unfolding CommandsRanged
-  ranged_yes c hang e ys ns l i f r = subst (λ (l : List Command). RangedBlock (world_in s) (block_of (entities_in s) l)) (sym f) (ranged_if c hang e ys ns i r).1
-
-  pub ranged_no : (c : Command) (hang : List ℕ) (e : Number) (ys ns : Vec Command Global) (l : List Command) → c ≡ shown.If hang e ys ns → l ≡ ns.items → CommandRanged s c → CommandsRanged s l
-  unfolding CommandsRanged
-  ranged_no c hang e ys ns l i f r = subst (λ (l : List Command). RangedBlock (world_in s) (block_of (entities_in s) l)) (sym f) (ranged_if c hang e ys ns i r).2
-
-  ranged_then : (c : Command) (st : Step) (hang : List ℕ) (ys ns : Vec Command Global) → c ≡ shown.TryThen st hang ys ns → CommandRanged s c
-      → RangedStep (world_in s) (step_of (entities_in s) st) × RangedBlock (world_in s) (block_of (entities_in s) ys.items) × RangedBlock (world_in s) (block_of (entities_in s) ns.items)
-  unfolding CommandRanged
-  ranged_then c st hang ys ns i r = subst (Ranged (world_in s)) (ap (command_of (entities_in s)) i ∙ command_of-then (entities_in s) st hang ys ns) r
-
-  pub ranged_then_step : (c : Command) (st : Step) (hang : List ℕ) (ys ns : Vec Command Global) → c ≡ shown.TryThen st hang ys ns → CommandRanged s c → RangedStep (world_in s) (step_of (entities_in s) st)
-  ranged_then_step c st hang ys ns i r = (ranged_then c st hang ys ns i r).0
-
-  pub ranged_accepted : (c : Command) (st : Step) (hang : List ℕ) (ys ns : Vec Command Global) (l : List Command) → c ≡ shown.TryThen st hang ys ns → l ≡ ys.items → CommandRanged s c → CommandsRanged s l
-  unfolding CommandsRanged
-  ranged_accepted c st hang ys ns l i f r = subst (λ (l : List Command). RangedBlock (world_in s) (block_of (entities_in s) l)) (sym f) (ranged_then c st hang ys ns i r).1
-
-  pub ranged_refused : (c : Command) (st : Step) (hang : List ℕ) (ys ns : Vec Command Global) (l : List Command) → c ≡ shown.TryThen st hang ys ns → l ≡ ns.items → CommandRanged s c → CommandsRanged s l
-  unfolding CommandsRanged
-  ranged_refused c st hang ys ns l i f r = subst (λ (l : List Command). RangedBlock (world_in s) (block_of (entities_in s) l)) (sym f) (ranged_then c st hang ys ns i r).2
-
-  ranged_before : (arms : List Arm) (others : Arms) → RangedArms (world_in s) (arms_before (entities_in s) arms others)
-      → RangedArms (world_in s) (arms_before (entities_in s) arms (Last End)) × RangedArms (world_in s) others
-  unfolding arms_before
-  ranged_before [] others r = (tt, r)
-  ranged_before (a ∷ arms) others r = let q = ranged_before arms others r.1 in ((r.0, q.0), q.1)
-
-  ranged_case : (c : Command) (hang : List ℕ) (e : Number) (arms : Vec Arm Global) (cs : Vec Command Global) → c ≡ shown.Case hang e arms cs → CommandRanged s c
-      → RangedTerm (world_in s) (term_of e) × RangedArms (world_in s) (arms_before (entities_in s) arms.items (Last (block_of (entities_in s) cs.items)))
-  unfolding CommandRanged
-  ranged_case c hang e arms cs i r = subst (Ranged (world_in s)) (ap (command_of (entities_in s)) i ∙ command_of-case (entities_in s) hang e arms cs) r
-
-  pub ranged_number : (c : Command) (hang : List ℕ) (e : Number) (arms : Vec Arm Global) (cs : Vec Command Global) → c ≡ shown.Case hang e arms cs → CommandRanged s c → RangedTerm (world_in s) (term_of e)
-  ranged_number c hang e arms cs i r = (ranged_case c hang e arms cs i r).0
-
-  pub ranged_arms : (c : Command) (hang : List ℕ) (e : Number) (arms : Vec Arm Global) (cs : Vec Command Global) (l : List Arm) → c ≡ shown.Case hang e arms cs → l ≡ arms.items → CommandRanged s c → ArmsRanged s l
-  unfolding ArmsRanged
-  ranged_arms c hang e arms cs l i f r =
-      subst (λ (l : List Arm). RangedArms (world_in s) (arms_before (entities_in s) l (Last End))) (sym f) (ranged_before arms.items (Last (block_of (entities_in s) cs.items)) (ranged_case c hang e arms cs i r).1).0
-
-  pub ranged_last : (c : Command) (hang : List ℕ) (e : Number) (arms : Vec Arm Global) (cs : Vec Command Global) (l : List Command) → c ≡ shown.Case hang e arms cs → l ≡ cs.items → CommandRanged s c → CommandsRanged s l
-  unfolding CommandsRanged
-  ranged_last c hang e arms cs l i f r =
-      subst (λ (l : List Command). RangedBlock (world_in s) (block_of (entities_in s) l)) (sym f) (ranged_before arms.items (Last (block_of (entities_in s) cs.items)) (ranged_case c hang e arms cs i r).1).1
-
-  pub ranged_arm : (arms : List Arm) (i : ℕ) (e : Arm) → i < length arms → ArmsRanged s arms → CommandsRanged s (commands_in (get_or arms i e))
-  unfolding ArmsRanged CommandsRanged arms_before
-  ranged_arm [] i e l r = absurd (omega arith)
-  ranged_arm (a ∷ arms) zero e l r = r.0
-  ranged_arm (a ∷ arms) (suc i) e l r = ranged_arm arms i e (omega arith) r.1
-
-  pub ranged_in : (cs : List Command) (i : ℕ) (e : Command) → i < length cs → CommandsRanged s cs → CommandRanged s (get_or cs i e)
-  unfolding CommandsRanged CommandRanged block_of
-  ranged_in [] i e l r = absurd (omega arith)
-  ranged_in (c ∷ cs) zero e l r = r.0
-  ranged_in (c ∷ cs) (suc i) e l r = ranged_in cs i e (omega arith) r.1
-
   -- arms, and the block behind them
 
   arms_are : (at : Spot) (p k : ℕ) (arms : List Arm) (b : program.Block)

@@ -33,7 +33,7 @@ use Rattle.sap_tagged.specs.Few.{FewGroup}
 use Rattle.sap_tagged.specs.States.{wires_group}
 use Rattle.sap_tagged.proofs.Designs.{design}
 use Rattle.sap_tagged.proofs.Fitted.{limits, group_few, group_filled}
-use Rattle.sap_tags.specs.Built.{StatesFew}
+use Rattle.sap_terms.specs.Parts.{StatesFew}
 use Rattle.sap_tags.proofs.FewArms.{few_group}
 
 named_as : (ls : Levels) (d : DesignTree) (p : Program) → IsProgramOf ls d p → named_over ls p ≡ named_of ls d

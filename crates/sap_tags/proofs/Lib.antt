@@ -1,10 +1,4 @@
-pub mod OfEntities
-pub mod Wirings
-pub mod Found
-pub mod Raised
-pub mod Pushed
-pub mod Picked
-pub mod Listed
-pub mod FewArms
 pub mod Commanded
 pub mod Planted
+pub mod FewArms
+pub mod Found

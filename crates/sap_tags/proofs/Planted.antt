@@ -1,5 +1,5 @@
 -- What a group is after a state, and after each of a list.
-use Rattle.std.proofs.Common.{◌≡◌, ℕ, Bool, zero, suc, ◌+◌, ◌<◌, ◌≤◌, List, [], ◌∷◌, ◌++◌, length, get_or, drop, refl, sym, ap, ap₂, ◌∙◌, subst, arith, add-one}
+use Rattle.std.proofs.Common.{◌≡◌, ℕ, Bool, zero, suc, ◌+◌, ◌<◌, ◌≤◌, List, [], ◌∷◌, ◌++◌, length, get_or, drop, refl, sym, ap, ap₂, ◌∙◌, arith, add-one}
 use Rattle.sap_ir.proofs.PlainLemmas.{planted_end}
 use Rattle.sap_maps.specs.Maps.{Name}
 use Rattle.sap_meaning.specs.Program.{root, listed, Block, State, Node, Group, None, More}
@@ -12,41 +12,20 @@ use Rattle.sap_program.specs.Hangs.{flags}
 use Rattle.sap_program.specs.declared.program.State.{State as StateCode, out-State}
 use Rattle.sap_program.specs.declared.program.Command.{Command}
 use Rattle.sap_program.specs.Views.{block_of, state_of, group_of}
-use Rattle.sap_resolve.specs.Sized.Ranges.{RangedBlock, RangedState, RangedGroup}
-use Rattle.sap_tags.specs.Built.{CommandsFew, CommandsRanged, StateFew, StateRanged, StatesFew, StatesRanged, commands_body, commands_wires, state_forest, state_wires, states_forest, states_wires, top_forest, tops_forest}
-use Rattle.sap_terms.specs.Code.{named_in, entities_in, setting_in, spot_in, world_in}
+use Rattle.sap_terms.specs.Parts.{commands_wires, state_wires, states_wires}
+use Rattle.sap_tags.specs.Built.{commands_body, state_forest, states_forest, top_forest, tops_forest}
+use Rattle.sap_terms.specs.Code.{named_in, entities_in, setting_in, spot_in}
 use Rattle.sap_tagged.specs.Keys.{First, Tag, Wire, Inner, entity_word}
 use Rattle.sap_tagged.specs.Levels.{var}
 use Rattle.sap_tagged.specs.Commands.{gives, raises, block_plain, wires_block}
-use Rattle.sap_tagged.specs.Few.{FewBlock, FewState, FewGroup}
 use Rattle.sap_tagged.specs.Setting as pass
 use Rattle.sap_tagged.specs.States.{wires_state, saves, saved, group_plain, top_plain}
 use Rattle.sap_terms.specs.declared.setting.Setting.{Setting}
 use Rattle.sap_terms.specs.declared.setting.Spot.{Spot}
 use Rattle.sap_program.proofs.Shown.{state_of-out}
-use Rattle.sap_tags.proofs.Listed.{group_of-more, wires_block_are, wires_state_are, state_wires_are, states_drop}
-use Rattle.sap_tags.proofs.Raised.{raises_follow, entities_count}
-use Rattle.sap_tags.proofs.Pushed.{for_each_follow}
-
--- few arms
-
-few_state : (t : StateCode) → StateFew t → FewBlock (block_of 0 (out-State t).body.items) × FewGroup (group_of 0 (out-State t).children.items)
-unfolding StateFew
-few_state t r = subst FewState (state_of-out 0 t) r
-
-pub few_body : (t : StateCode) (l : List Command) → l ≡ (out-State t).body.items → StateFew t → CommandsFew l
-unfolding CommandsFew
-few_body t l e r = subst (λ (l : List Command). FewBlock (block_of 0 l)) (sym e) (few_state t r).0
-
-pub few_children : (t : StateCode) (l : List StateCode) → l ≡ (out-State t).children.items → StateFew t → StatesFew l
-unfolding StatesFew
-few_children t l e r = subst (λ (l : List StateCode). FewGroup (group_of 0 l)) (sym e) (few_state t r).1
-
-pub few_one : (ts : List StateCode) (i : ℕ) (e : StateCode) → i < length ts → StatesFew ts → StateFew (get_or ts i e)
-unfolding StatesFew StateFew group_of
-few_one [] i e l r = absurd (omega arith)
-few_one (t ∷ ts) zero e l r = r.0
-few_one (t ∷ ts) (suc i) e l r = few_one ts i e (omega arith) r.1
+use Rattle.sap_terms.proofs.Listed.{group_of-more, wires_block_are, wires_state_are, state_wires_are, states_drop}
+use Rattle.sap_effects.proofs.Raised.{raises_follow, entities_count}
+use Rattle.sap_effects.proofs.Pushed.{for_each_follow}
 
 -- groups, one state more
 
@@ -63,30 +42,6 @@ unfolding top_plain
 top_one d hangs k (Node x b kids) g = refl
 
 module _ (s : Setting) where
-  -- widths
-
-  ranged_state : (t : StateCode) → StateRanged s t → RangedBlock (world_in s) (block_of (entities_in s) (out-State t).body.items) × RangedGroup (world_in s) (group_of (entities_in s) (out-State t).children.items)
-  unfolding StateRanged
-  ranged_state t r = subst (RangedState (world_in s)) (state_of-out (entities_in s) t) r
-
-  pub ranged_body : (t : StateCode) (l : List Command) → l ≡ (out-State t).body.items → StateRanged s t → CommandsRanged s l
-  unfolding CommandsRanged
-  ranged_body t l e r = subst (λ (l : List Command). RangedBlock (world_in s) (block_of (entities_in s) l)) (sym e) (ranged_state t r).0
-
-  pub ranged_children : (t : StateCode) (l : List StateCode) → l ≡ (out-State t).children.items → StateRanged s t → StatesRanged s l
-  unfolding StatesRanged
-  ranged_children t l e r = subst (λ (l : List StateCode). RangedGroup (world_in s) (group_of (entities_in s) l)) (sym e) (ranged_state t r).1
-
-  pub ranged_one : (ts : List StateCode) (i : ℕ) (e : StateCode) → i < length ts → StatesRanged s ts → StateRanged s (get_or ts i e)
-  unfolding StatesRanged StateRanged group_of
-  ranged_one [] i e l r = absurd (omega arith)
-  ranged_one (t ∷ ts) zero e l r = r.0
-  ranged_one (t ∷ ts) (suc i) e l r = ranged_one ts i e (omega arith) r.1
-
-  pub ranged_all : (ts : List StateCode) → RangedGroup (world_in s) (group_of (entities_in s) ts) → StatesRanged s ts
-  unfolding StatesRanged
-  ranged_all ts r = r
-
   -- a state
 
   node_forest : (d : pass.Setting) (parent k x : ℕ) (b : Block) (kids : Group) → group_plain d parent k (More (Node x b kids) None)

@@ -1,76 +1,23 @@
 -- Lists of commands and of states, and what becomes of them.
 use Rattle.std.specs.Prelude.{ℕ, ◌+◌, List, [], ◌∷◌, if◌then◌else◌}
-use Rattle.sap_meaning.specs.Program.{Step, Last, End, None, More}
+use Rattle.sap_meaning.specs.Program.{Step, None, More}
 use Rattle.sap_meaning.specs.Checks as checks
-use Rattle.sap_resolve.specs.Sized.Ranges.{Ranged, RangedArms, RangedBlock, RangedState, RangedGroup}
 use Rattle.sap_ir.specs.Plain.Nested.{Body, stop, cases, Forest}
 use Rattle.sap_ir.specs.Plain.Views.{follow}
 use Rattle.sap_program.specs.declared.program.Arm.{Arm}
 use Rattle.sap_program.specs.declared.program.Command.{Command}
 use Rattle.sap_program.specs.declared.program.State.{State}
 use Rattle.sap_program.specs.Hangs.{flags}
-use Rattle.sap_program.specs.Views.{command_of, block_of, arm_block, arms_before, state_of, group_of}
+use Rattle.sap_program.specs.Views.{command_of, block_of, arm_block, state_of, group_of}
 use Rattle.sap_meaning.specs.Program as program
 use Rattle.sap_tagged.specs.Keys.{Wire}
 use Rattle.sap_tagged.specs.Setting as pass
 use Rattle.sap_tagged.specs.Levels.{var, always}
-use Rattle.sap_tagged.specs.Commands.{effect_of, wires, wires_arms, wires_block, command_plain, block_plain}
-use Rattle.sap_tagged.specs.Few.{Few, FewArms, FewBlock, FewState, FewGroup}
-use Rattle.sap_tagged.specs.States.{wires_state, wires_group, group_plain, top_plain}
-use Rattle.sap_terms.specs.Code.{setting_in, world_in, entities_in, spot_in}
+use Rattle.sap_tagged.specs.Commands.{effect_of, wires_block, command_plain, block_plain}
+use Rattle.sap_tagged.specs.States.{group_plain, top_plain}
+use Rattle.sap_terms.specs.Code.{setting_in, entities_in, spot_in}
 use Rattle.sap_terms.specs.declared.setting.Setting.{Setting}
 use Rattle.sap_terms.specs.declared.setting.Spot.{Spot}
-
--- how many wires they have
-
-unfoldable pub command_wires : Command → ℕ
-command_wires c = wires (command_of 0 c)
-
-unfoldable pub commands_wires : List Command → ℕ
-commands_wires cs = wires_block (block_of 0 cs)
-
-unfoldable pub arm_wires : List Arm → ℕ
-arm_wires arms = wires_arms (arms_before 0 arms (Last End))
-
-unfoldable pub state_wires : State → ℕ
-state_wires t = wires_state (state_of 0 t)
-
-unfoldable pub states_wires : List State → ℕ
-states_wires ts = wires_group (group_of 0 ts)
-
--- their widths are from 1 to 64
-
-unfoldable pub CommandRanged : Setting → Command → Type 0
-CommandRanged s c = Ranged (world_in s) (command_of (entities_in s) c)
-
-unfoldable pub CommandsRanged : Setting → List Command → Type 0
-CommandsRanged s cs = RangedBlock (world_in s) (block_of (entities_in s) cs)
-
-unfoldable pub ArmsRanged : Setting → List Arm → Type 0
-ArmsRanged s arms = RangedArms (world_in s) (arms_before (entities_in s) arms (Last End))
-
-unfoldable pub StateRanged : Setting → State → Type 0
-StateRanged s t = RangedState (world_in s) (state_of (entities_in s) t)
-
-unfoldable pub StatesRanged : Setting → List State → Type 0
-StatesRanged s ts = RangedGroup (world_in s) (group_of (entities_in s) ts)
-
--- their cases have few arms
-
-unfoldable pub CommandFew : Command → Type 0
-CommandFew c = Few (command_of 0 c)
-
-unfoldable pub CommandsFew : List Command → Type 0
-CommandsFew cs = FewBlock (block_of 0 cs)
-
-unfoldable pub ArmsFew : List Arm → Type 0
-ArmsFew arms = FewArms (arms_before 0 arms (Last End))
-
-unfoldable pub StateFew : State → Type 0
-StateFew t = FewState (state_of 0 t)
-
-unfoldable pub StatesFew : List State → Type 0
-StatesFew ts = FewGroup (group_of 0 ts)
 
 -- what they become; a state has none behind it
 

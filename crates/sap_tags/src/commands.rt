@@ -12,14 +12,16 @@ ghost use Rattle.sap_resolve.specs.Sized.Ranges.{RangedStep, RangedTerm};
 ghost use Rattle.sap_tagged.specs.Commands as spec;
 ghost use Rattle.sap_tagged.specs.Keys.{Wire};
 ghost use Rattle.sap_tagged.specs.Levels as levels;
-ghost use Rattle.sap_tags.specs.Built.{ArmsFew, ArmsRanged, CommandFew, CommandRanged, CommandsFew, CommandsRanged, arm_bodies, arm_wires, command_body, command_wires, commands_body, commands_wires, decided};
+ghost use Rattle.sap_terms.specs.Parts.{ArmsFew, ArmsRanged, CommandFew, CommandRanged, CommandsFew, CommandsRanged, arm_wires, command_wires, commands_wires};
+ghost use Rattle.sap_tags.specs.Built.{arm_bodies, command_body, commands_body, decided};
 ghost use Rattle.sap_tree.specs.Limits.{most_arms};
 ghost use Rattle.sap_terms.specs.Code.{entities_in, setting_in, spot_in, world_in};
 
-use crate::arms::{Sized, decide_block, pick};
-use crate::outcomes::effect;
-use crate::pushes::{push, set_wire, wire_variable};
-use crate::raises::{raise_all, raise_alone};
+use sap_effects::arms::{Sized, decide_block, pick};
+use sap_effects::outcomes::effect;
+use sap_effects::pushes::{push, set_wire, wire_variable};
+use sap_effects::raises::{raise_all, raise_alone};
+use sap_guards::steps::{always, guard_of, stays, test_of, written};
 use sap_ir::guarded::{Act, Calc};
 use sap_ir::plain::nested::PlainCmd;
 use sap_ir::plain::seats;
@@ -27,7 +29,6 @@ use sap_program::program::{Arm, Command, Number, Step};
 use sap_terms::calcs::{expr, lub, tag_of, width_of, yes};
 use sap_terms::names::{level_name, refused_name};
 use sap_terms::setting::{Setting, Spot};
-use sap_terms::steps::{always, guard_of, stays, test_of, written};
 use std::alloc::{AllocError, Global};
 
 /// A context inside another, which is in the wire `p`.
@@ -41,7 +42,7 @@ fn inside(alloc: Global, setting: &Setting<'_>, p: u32, own: u32) -> Result<Calc
 }
 
 /// What a step in the context of the wire `p` looks at goes into the wires from `k` on.
-#[tactic(auto, using(crate::proofs::Pushed::behind))]
+#[tactic(auto, using(sap_effects::proofs::Pushed::behind))]
 fn look(
     alloc: Global,
     setting: &Setting<'_>,
@@ -83,7 +84,7 @@ fn site(step: &Step) -> u32
 }
 
 /// Sets what tells of a refusal.
-#[tactic(auto, using(crate::proofs::Pushed::behind))]
+#[tactic(auto, using(sap_effects::proofs::Pushed::behind))]
 fn refuse(
     alloc: Global,
     setting: &Setting<'_>,
@@ -103,7 +104,7 @@ fn refuse(
 }
 
 /// What comes behind the raises of a step; `accepted` comes behind its effect, and `refused` is what a refusal does.
-#[tactic(auto, using(sap_ir::proofs::plain::Views::commands, crate::proofs::Pushed::accepted), unfolding(crate::specs::Built::decided))]
+#[tactic(auto, using(sap_ir::proofs::plain::Views::commands, sap_effects::proofs::Pushed::accepted), unfolding(crate::specs::Built::decided))]
 fn decide(
     alloc: Global,
     setting: &Setting<'_>,
@@ -136,7 +137,7 @@ fn decide(
 }
 
 /// The wires of a choice, and its raises.
-#[tactic(auto, using(crate::proofs::Pushed::behind))]
+#[tactic(auto, using(sap_effects::proofs::Pushed::behind))]
 fn choose(
     alloc: Global,
     setting: &Setting<'_>,
@@ -177,7 +178,7 @@ fn select(
 
 /// A command in the context of the wire `p`, whose own wires are those from `next` on.
 #[cycle(body)]
-#[tactic(auto, using(crate::proofs::Listed::counts))]
+#[tactic(auto, using(sap_terms::proofs::Listed::counts))]
 fn command(
     alloc: Global,
     setting: &Setting<'_>,
@@ -277,7 +278,7 @@ fn command(
 }
 
 /// Picks a block by the number of an expression, which wire `k + 2` has, and the number of the block goes into wire `k + 3`.
-#[tactic(auto, using(crate::proofs::Pushed::behind))]
+#[tactic(auto, using(sap_effects::proofs::Pushed::behind))]
 fn pick_block(
     alloc: Global,
     setting: &Setting<'_>,
@@ -310,7 +311,7 @@ fn pick_block(
 
 /// The blocks of arms.
 #[cycle(body)]
-#[tactic(auto, using(crate::proofs::Listed::counts))]
+#[tactic(auto, using(sap_terms::proofs::Listed::counts))]
 fn add_arms(
     alloc: Global,
     setting: &Setting<'_>,
@@ -337,7 +338,7 @@ fn add_arms(
 
 /// Commands in the context of the wire `p`, in order.
 #[cycle(body)]
-#[tactic(auto, using(crate::proofs::Listed::counts))]
+#[tactic(auto, using(sap_terms::proofs::Listed::counts))]
 pub(crate) fn commands(
     alloc: Global,
     setting: &Setting<'_>,

@@ -13,13 +13,10 @@ ghost use Rattle.sap_resolve.specs.Sized.Ranges.{RangedProgram};
 ghost use Rattle.sap_tagged.specs.Law.{IsSound, PlainStandsForDesign};
 ghost use Rattle.sap_tagged.specs.Plain.{names_of, plain_of};
 ghost use Rattle.sap_tagged.specs.States.{wires_group};
-ghost use Rattle.sap_tags.specs.Built.{StatesFew};
+ghost use Rattle.sap_terms.specs.Parts.{StatesFew};
 ghost use Rattle.sap_terms.specs.Code.{entities_in, named_in, tag_width};
 
-use crate::memories::add_memories;
 use crate::states::top_states;
-use crate::variables::{add_inputs, add_seat_registers, add_shown_registers, add_tag_registers};
-use crate::wires::{add_first_wires, add_inner_wires, add_site_wires, add_state_wires};
 use sap_check::Checked;
 use sap_ir::guarded::Var;
 use sap_ir::plain::nested::PlainParts;
@@ -31,6 +28,11 @@ use sap_tagged::plain_stands;
 use sap_tagged::small::plain_small;
 use sap_terms::setting::Setting;
 use sap_tree::whole::design_is_whole;
+use sap_variables::memories::add_memories;
+use sap_variables::registers::{
+    add_inputs, add_seat_registers, add_shown_registers, add_tag_registers,
+};
+use sap_variables::wires::{add_first_wires, add_inner_wires, add_site_wires, add_state_wires};
 use std::alloc::{AllocError, Global};
 
 /// The names of variables.

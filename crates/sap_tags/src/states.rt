@@ -8,12 +8,13 @@ ghost use Rattle.sap_program.specs.Hangs.{flags};
 ghost use Rattle.sap_program.specs.Views as views;
 ghost use Rattle.sap_resolve.specs.Sized.Ranges.{RangedGroup};
 ghost use Rattle.sap_tagged.specs.States.{top_plain, wires_group};
-ghost use Rattle.sap_tags.specs.Built.{StateFew, StateRanged, StatesFew, StatesRanged, state_forest, state_wires, states_forest, states_wires, top_forest};
+ghost use Rattle.sap_terms.specs.Parts.{StateFew, StateRanged, StatesFew, StatesRanged, state_wires, states_wires};
+ghost use Rattle.sap_tags.specs.Built.{state_forest, states_forest, top_forest};
 ghost use Rattle.sap_terms.specs.Code.{entities_in, setting_in, world_in};
 
 use crate::commands::commands;
-use crate::pushes::{inner_variable, set_wire};
-use crate::raises::{raise_all, save_all};
+use sap_effects::pushes::{inner_variable, set_wire};
+use sap_effects::raises::{raise_all, save_all};
 use sap_ir::plain::nested::PlainState;
 use sap_program::program::State;
 use sap_terms::calcs::tag_variable;

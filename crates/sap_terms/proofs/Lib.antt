@@ -1,2 +1,5 @@
 pub mod Words
-pub mod Children
+pub mod Listed
+pub mod Alone
+pub mod Few
+pub mod Ranged

@@ -5,4 +5,3 @@ pub mod calcs;
 pub mod entities;
 pub mod names;
 pub mod setting;
-pub mod steps;

@@ -5,7 +5,7 @@ use Rattle.sap_ir.proofs.plain.SeatWidths.{seat_least}
 use Rattle.sap_program.specs.Views.{term_of}
 use Rattle.sap_terms.specs.Code.{entities_in, setting_in, world_in}
 use Rattle.sap_terms.proofs.Words.{width_within}
-use Rattle.sap_tags.proofs.Picked.{block_picked}
+use Rattle.sap_effects.proofs.Picked.{block_picked}
 use Rattle.sap_tags.proofs.commands.pick_block.Goals as goal
 
 pub overflow_cast-seen : goal.overflow_cast-seen

@@ -5,8 +5,10 @@ use Rattle.sap_program.specs.declared.program.State.{out-State}
 use Rattle.sap_terms.specs.Code.{setting_in}
 use Rattle.sap_tagged.specs.Commands.{gives}
 use Rattle.sap_tagged.specs.Keys.{Wire}
-use Rattle.sap_tags.proofs.Commanded.{fresh}
-use Rattle.sap_tags.proofs.Planted.{few_body, few_children, ranged_body, ranged_children, top_made, room}
+use Rattle.sap_effects.proofs.Pushed.{fresh}
+use Rattle.sap_terms.proofs.Few.{few_body, few_children}
+use Rattle.sap_terms.proofs.Ranged.{ranged_body, ranged_children}
+use Rattle.sap_tags.proofs.Planted.{top_made, room}
 use Rattle.sap_tags.proofs.states.top_state.Goals as goal
 
 pub overflow_add-next : goal.overflow_add-next

@@ -1,0 +1,3 @@
+pub mod Raised
+pub mod Pushed
+pub mod Picked

@@ -1,0 +1,2 @@
+pub mod OfEntities
+pub mod Wirings
