@@ -1,16 +1,20 @@
 //! Desks by examples: one over the host's files, others in memory.
 
 use sap_desk::{
-    Desk, DeskError, Failed, HostDesk, MemoryDesk, read_file, write_file, write_line, write_output,
+    Desk, DeskError, HostDesk, MemoryDesk, read_file, write_file, write_line, write_output,
 };
+use std::alloc::Global;
 use std::fs;
 use std::test::Fail;
 
-fn holds(desk: &MemoryDesk, name: &str, bytes: &[u8]) -> bool {
-    match desk.file(name) {
-        Some(held) => held == bytes,
-        None => false,
-    }
+/// A desk over the host's files whose two streams are buffers.
+type Host<'a> = HostDesk<&'a HostRuntime, &'a mut Vec<u8>, &'a mut Vec<u8>>;
+
+/// Whether a missing file fails, and a file holds what is written to it.
+fn keeps(alloc: Global, desk: &mut Host<'_>, name: &str, bytes: &[u8]) -> bool {
+    matches!(read_file(alloc, desk, name), Err(DeskError::Failed))
+        && write_file(desk, name, bytes).is_ok()
+        && matches!(read_file(alloc, desk, name), Ok(held) if held.as_slice() == bytes)
 }
 
 #[test]
@@ -19,14 +23,17 @@ fn the_host_keeps_what_is_written_to_a_file(rt: HostRuntime) -> Result<(), Fail>
     let mut output = Vec::new(alloc);
     let mut errors = Vec::new(alloc);
     let mut desk = HostDesk::new(alloc, &rt, &mut output, &mut errors)?;
-    let long = [b'x'; 5000];
-    let missing = read_file(alloc, &mut desk, "no such file").err();
-    assert_eq!(rt; missing, Some(DeskError::Failed));
-    write_file(&mut desk, "made", &long)?;
-    let bytes = read_file(alloc, &mut desk, "made")?;
+    assert!(rt; keeps(alloc, &mut desk, "made", &[b'x'; 5000]));
     fs::remove_file(&rt, "made")?;
-    assert_eq!(rt; bytes.as_slice(), long.as_slice());
     Ok(())
+}
+
+/// Whether the output and the fault lines take a text each, and no line once they are finished.
+fn takes_texts(desk: &mut Host<'_>) -> bool {
+    write_output(desk, b"row").is_ok()
+        && write_line(desk, &[b"desk: ", b"no such file"]).is_ok()
+        && desk.finish(2).is_ok()
+        && write_line(desk, &[b"late"]).is_err()
 }
 
 #[test]
@@ -35,79 +42,187 @@ fn the_host_has_an_output_and_a_place_for_fault_lines(rt: HostRuntime) -> Result
     let mut output = Vec::new(alloc);
     let mut errors = Vec::new(alloc);
     let mut desk = HostDesk::new(alloc, &rt, &mut output, &mut errors)?;
-    write_output(&mut desk, b"row")?;
-    write_line(&mut desk, &[b"desk: ", b"no such file"])?;
-    desk.finish(2)?;
-    assert_eq!(rt; write_line(&mut desk, &[b"late"]), Err(Failed));
+    assert!(rt; takes_texts(&mut desk));
     drop(desk);
-    assert_eq!(rt; output.as_slice(), b"row".as_slice());
-    assert_eq!(rt; errors.as_slice(), b"desk: no such file\n".as_slice());
+    assert!(rt; output.as_slice() == b"row".as_slice());
+    assert!(rt; errors.as_slice() == b"desk: no such file\n".as_slice());
     Ok(())
 }
 
-#[test]
-fn reads_what_there_is_and_fits(rt: HostRuntime) -> Result<(), Fail> {
-    let mut desk = MemoryDesk::new(rt.alloc(), 0)?;
-    desk.put_file("a", b"old")?;
-    desk.put_file("a", b"abcd")?;
-    let channel = desk.open_in("a")?;
+/// A call on a desk in memory with what it answers, or what the desk then holds.
+enum Call {
+    Put(&'static str, &'static [u8]),
+    FailAt(u64),
+    /// The channel, or none where the call fails.
+    OpenIn(&'static str, Option<usize>),
+    Create(&'static str, Option<usize>),
+    /// What room for three bytes takes.
+    Read(usize, Option<&'static [u8]>),
+    Write(usize, &'static [u8], bool),
+    Finish(usize, bool),
+    File(&'static str, Option<&'static [u8]>),
+    Output(&'static [u8]),
+    FaultText(&'static [u8]),
+}
+
+fn is_channel(answer: Result<usize, DeskError>, wanted: Option<usize>) -> bool {
+    match answer {
+        Ok(channel) => wanted == Some(channel),
+        Err(DeskError::Failed) => wanted.is_none(),
+        Err(DeskError::Memory) => false,
+    }
+}
+
+fn opens(desk: &mut MemoryDesk, name: &str, wanted: Option<usize>) -> bool {
+    is_channel(desk.open_in(name), wanted)
+}
+
+fn creates(desk: &mut MemoryDesk, name: &str, wanted: Option<usize>) -> bool {
+    is_channel(desk.create(name), wanted)
+}
+
+fn is_text(bytes: &[u8], wanted: Option<&[u8]>) -> bool {
+    match wanted {
+        Some(text) => bytes == text,
+        None => false,
+    }
+}
+
+fn reads(desk: &mut MemoryDesk, channel: usize, wanted: Option<&[u8]>) -> bool {
     let mut piece = [0u8; 3];
-    assert_eq!(rt; desk.read(channel, &mut piece), Ok(3));
-    assert_eq!(rt; piece, *b"abc");
-    assert_eq!(rt; desk.read(channel, &mut piece), Ok(1));
-    assert_eq!(rt; piece[0], b'd');
-    assert_eq!(rt; desk.read(channel, &mut piece), Ok(0));
-    assert_eq!(rt; desk.finish(channel), Ok(()));
-    assert_eq!(rt; desk.read(channel, &mut piece), Err(Failed));
-    assert_eq!(rt; desk.open_in("b"), Err(DeskError::Failed));
-    Ok(())
-}
-
-#[test]
-fn keeps_room_on_each_channel(rt: HostRuntime) -> Result<(), Fail> {
-    let mut desk = MemoryDesk::new(rt.alloc(), 4)?;
-    assert_eq!(rt; desk.write(1, b"abc"), Ok(()));
-    assert_eq!(rt; desk.write(1, b"def"), Err(Failed));
-    assert_eq!(rt; desk.output(), b"abcd".as_slice());
-    assert_eq!(rt; desk.write(2, b"line"), Ok(()));
-    assert_eq!(rt; desk.finish(2), Ok(()));
-    assert_eq!(rt; desk.write(2, b""), Err(Failed));
-    assert_eq!(rt; desk.fault_text(), b"line".as_slice());
-    Ok(())
-}
-
-#[test]
-fn fails_at_the_listed_calls(rt: HostRuntime) -> Result<(), Fail> {
-    let mut desk = MemoryDesk::new(rt.alloc(), 9)?;
-    desk.fail_at(1)?;
-    desk.fail_at(3)?;
-    assert_eq!(rt; desk.create("a"), Err(DeskError::Failed));
-    assert_eq!(rt; desk.file("a"), None);
-    let channel = desk.create("a")?;
-    assert_eq!(rt; desk.write(channel, b"abcde"), Err(Failed));
-    assert_eq!(rt; desk.write(channel, b"cd"), Ok(()));
-    assert!(rt; holds(&desk, "a", b"abcd"));
-    Ok(())
-}
-
-#[test]
-fn fails_on_a_channel_that_is_not_open_for_the_call(rt: HostRuntime) -> Result<(), Fail> {
-    let mut desk = MemoryDesk::new(rt.alloc(), 4)?;
-    desk.put_file("a", b"a")?;
-    let reader = desk.open_in("a")?;
-    let writer = desk.create("b")?;
-    let mut piece = [0u8; 1];
-    for channel in [0, 1, writer, 99] {
-        assert_eq!(rt;
-            desk.read(channel, &mut piece),
-            Err(Failed),
-            "read {channel}"
-        );
+    match desk.read(channel, &mut piece) {
+        Ok(count) => is_text(&piece[..count], wanted),
+        Err(_) => wanted.is_none(),
     }
-    for channel in [0, reader, 99] {
-        assert_eq!(rt; desk.write(channel, b"w"), Err(Failed), "write {channel}");
+}
+
+fn writes(desk: &mut MemoryDesk, channel: usize, bytes: &[u8], done: bool) -> bool {
+    desk.write(channel, bytes).is_ok() == done
+}
+
+fn finishes(desk: &mut MemoryDesk, channel: usize, done: bool) -> bool {
+    desk.finish(channel).is_ok() == done
+}
+
+fn holds(desk: &MemoryDesk, name: &str, wanted: Option<&[u8]>) -> bool {
+    match desk.file(name) {
+        Some(bytes) => is_text(bytes, wanted),
+        None => wanted.is_none(),
     }
-    assert_eq!(rt; desk.finish(0), Err(Failed));
-    assert_eq!(rt; desk.finish(99), Err(Failed));
-    Ok(())
+}
+
+fn has_output(desk: &MemoryDesk, bytes: &[u8]) -> bool {
+    desk.output() == bytes
+}
+
+fn has_fault_text(desk: &MemoryDesk, bytes: &[u8]) -> bool {
+    desk.fault_text() == bytes
+}
+
+/// Makes a call; whether it answers what is said.
+fn is_so(desk: &mut MemoryDesk, call: &Call) -> bool {
+    match call {
+        Call::Put(name, bytes) => desk.put_file(name, bytes).is_ok(),
+        Call::FailAt(number) => desk.fail_at(*number).is_ok(),
+        Call::OpenIn(name, channel) => opens(desk, name, *channel),
+        Call::Create(name, channel) => creates(desk, name, *channel),
+        Call::Read(channel, bytes) => reads(desk, *channel, *bytes),
+        Call::Write(channel, bytes, done) => writes(desk, *channel, bytes, *done),
+        Call::Finish(channel, done) => finishes(desk, *channel, *done),
+        Call::File(name, bytes) => holds(desk, name, *bytes),
+        Call::Output(bytes) => has_output(desk, bytes),
+        Call::FaultText(bytes) => has_fault_text(desk, bytes),
+    }
+}
+
+/// Calls one after another on a new desk with so much room.
+struct Trial {
+    room: usize,
+    calls: &'static [Call],
+}
+
+static READS_WHAT_THERE_IS_AND_FITS: Trial = Trial {
+    room: 0,
+    calls: &[
+        Call::Put("a", b"old"),
+        Call::Put("a", b"abcd"),
+        Call::OpenIn("a", Some(3)),
+        Call::Read(3, Some(b"abc")),
+        Call::Read(3, Some(b"d")),
+        Call::Read(3, Some(b"")),
+        Call::Finish(3, true),
+        Call::Read(3, None),
+        Call::OpenIn("b", None),
+    ],
+};
+
+static KEEPS_ROOM_ON_EACH_CHANNEL: Trial = Trial {
+    room: 4,
+    calls: &[
+        Call::Write(1, b"abc", true),
+        Call::Write(1, b"def", false),
+        Call::Output(b"abcd"),
+        Call::Write(2, b"line", true),
+        Call::Finish(2, true),
+        Call::Write(2, b"", false),
+        Call::FaultText(b"line"),
+    ],
+};
+
+static FAILS_AT_THE_LISTED_CALLS: Trial = Trial {
+    room: 9,
+    calls: &[
+        Call::FailAt(1),
+        Call::FailAt(3),
+        Call::Create("a", None),
+        Call::File("a", None),
+        Call::Create("a", Some(3)),
+        Call::Write(3, b"abcde", false),
+        Call::Write(3, b"cd", true),
+        Call::File("a", Some(b"abcd")),
+    ],
+};
+
+// Channel 3 is open for reading, and channel 4 for writing.
+static FAILS_ON_A_CHANNEL_THAT_IS_NOT_OPEN_FOR_THE_CALL: Trial = Trial {
+    room: 4,
+    calls: &[
+        Call::Put("a", b"a"),
+        Call::OpenIn("a", Some(3)),
+        Call::Create("b", Some(4)),
+        Call::Read(0, None),
+        Call::Read(1, None),
+        Call::Read(4, None),
+        Call::Read(99, None),
+        Call::Write(0, b"w", false),
+        Call::Write(3, b"w", false),
+        Call::Write(99, b"w", false),
+        Call::Finish(0, false),
+        Call::Finish(99, false),
+    ],
+};
+
+fn answers_as_said(alloc: Global, trial: &Trial) -> bool {
+    let Ok(mut desk) = MemoryDesk::new(alloc, trial.room) else {
+        return false;
+    };
+    for call in trial.calls {
+        if !is_so(&mut desk, call) {
+            return false;
+        }
+    }
+    true
+}
+
+#[test]
+fn desks_in_memory_answer_as_said(rt: HostRuntime) {
+    assert!(rt; answers_as_said(rt.alloc(), &READS_WHAT_THERE_IS_AND_FITS));
+    assert!(rt; answers_as_said(rt.alloc(), &KEEPS_ROOM_ON_EACH_CHANNEL));
+    assert!(rt; answers_as_said(rt.alloc(), &FAILS_AT_THE_LISTED_CALLS));
+    assert!(rt;
+        answers_as_said(
+            rt.alloc(),
+            &FAILS_ON_A_CHANNEL_THAT_IS_NOT_OPEN_FOR_THE_CALL
+        )
+    );
 }

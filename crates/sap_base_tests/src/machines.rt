@@ -1,6 +1,6 @@
 //! Machines of worked designs, alone and in pairs: what these tests share.
 
-ghost use Rattle.std.specs.Prelude.{◌≡◌, IfOk};
+ghost use Rattle.std.specs.Prelude.{◌≡◌, IfSome};
 ghost use Rattle.sap_check.specs.Checked.{levels_in, tree_in};
 ghost use Rattle.sap_resolve.specs.Fill as resolve;
 ghost use Rattle.sap_sem.specs.Machine.{program_of};
@@ -12,7 +12,7 @@ use sap_lattice::lattice::Lattice;
 use sap_parse::parse;
 use sap_sem::machine::Machine;
 use sap_stream::inputs::{Inputs, Tagged};
-use std::alloc::{AllocError, Global};
+use std::alloc::Global;
 
 mod designs;
 mod pairs;
@@ -36,7 +36,9 @@ pub const TWO_STATES: &str =
 
 /// The design of a text, where it is one that is taken.
 pub fn checked_design(alloc: Global, text: &str, lattice: &Lattice) -> Option<Checked> {
-    let design = parse(alloc, text.as_bytes()).ok()?;
+    let Ok(design) = parse(alloc, text.as_bytes()) else {
+        return None;
+    };
     match check(alloc, design, lattice) {
         Ok(checked) => Some(checked),
         Err(_) => None,
@@ -44,25 +46,28 @@ pub fn checked_design(alloc: Global, text: &str, lattice: &Lattice) -> Option<Ch
 }
 
 /// The machine of a design at its start.
-pub fn start(alloc: Global, checked: &Checked) -> Result<Machine, AllocError>
-    ensures { IfOk result (λ m. program_of m ≡ resolve.program_of (levels_in checked.now) (tree_in checked.now)) }
+pub fn start(alloc: Global, checked: &Checked) -> Option<Machine>
+    ensures { IfSome result (λ m. program_of m ≡ resolve.program_of (levels_in checked.now) (tree_in checked.now)) }
 {
-    let table = hang(alloc, checked.design(), checked.names())?;
-    Machine::new(alloc, checked, &table)
+    let Ok(table) = hang(alloc, checked.design(), checked.names()) else {
+        return None;
+    };
+    match Machine::new(alloc, checked, &table) {
+        Ok(machine) => Some(machine),
+        Err(_) => None,
+    }
 }
 
 /// Numbers with the names of their levels, in the order of the inputs, where there are such levels.
-pub fn inputs_of(
-    alloc: Global,
-    lattice: &Lattice,
-    given: &[(u64, &str)],
-) -> Result<Option<Inputs>, AllocError> {
+pub fn inputs_of(alloc: Global, lattice: &Lattice, given: &[(u64, &str)]) -> Option<Inputs> {
     let mut values = Vec::new(alloc);
     for (number, name) in given {
-        match lattice.find(name) {
-            Some(level) => values.push(Tagged::new(*number, level))?,
-            None => return Ok(None),
+        let Some(level) = lattice.find(name) else {
+            return None;
+        };
+        if values.push(Tagged::new(*number, level)).is_err() {
+            return None;
         }
     }
-    Ok(Some(Inputs::new(values)))
+    Some(Inputs::new(values))
 }

@@ -1,20 +1,22 @@
 -- How many sites and points a design has, by its commands.
-use Rattle.std.proofs.Common.{ℕ, ◌+◌, ◌*◌, ◌^◌, ◌<◌, ◌≤◌, List, ◌++◌, Bool, ◌&&◌, length, length-append, arith}
+use Rattle.std.proofs.Common.{ℕ, ◌+◌, ◌*◌, ◌^◌, ◌<◌, ◌≤◌, List, ◌++◌, Bool, ◌&&◌, length, length-append, map, arith}
 use Rattle.std.proofs.lemmas.List.{length-map}
 use Rattle.std.proofs.lemmas.Grind.{common_steps}
 use Rattle.std.specs.Bool.{IsTrue}
 use Rattle.std.specs.List.{count_by}
 use Rattle.std.specs.Prelude.{nat_le}
 use Rattle.sap_tree.specs.Syntax.{SimpleCommand, Assign, Write, SetTag, SetCellTag, Goto, Fall, Command, Do, Try, If, TryThen, Case, Arms, Last, Arm, CommandBlock, Commands, ElseBlock, NoElse, Else, CommandList, NoCommand, AndCommand, StateTree, StateOf, StateList, NoState, AndState, DesignTree}
+use Rattle.sap_tree.specs.Points.{Point, point, simple_points, command_points, block_points, else_points, arms_points, list_points, state_points, states_points}
+use Rattle.sap_tree.specs.Points as tree
+use Rattle.sap_tree.specs.Touches.{home_of}
 use Rattle.sap_tree.specs.Whole.{command_count, block_count, else_count, arms_count, list_count, state_commands, states_commands, states_count, states_depth, is_whole, is_tree, is_input, is_register, is_memory}
 use Rattle.sap_names.specs.Entities.{entities_of}
 use Rattle.sap_shape.specs.Sites.{check_sites}
 use Rattle.sap_shape.proofs.SiteCounts.{states_few}
-use Rattle.sap_check.specs.declared.point.Point.{Point}
 use Rattle.sap_check.specs.Sites.{site_of, sites_of}
-use Rattle.sap_check.specs.Points.{simple_points, command_points, block_points, else_points, arms_points, list_points, state_points, states_points, points_of}
+use Rattle.sap_check.specs.Points.{word_of, points_of}
 
-both_points : (a b : List Point) (m n : ℕ) → length a ≤ 2 * m → length b ≤ 2 * n → length (a ++ b) ≤ 2 * (m + n)
+both_points : {A : Type 0} (a b : List A) (m n : ℕ) → length a ≤ 2 * m → length b ≤ 2 * n → length (a ++ b) ≤ 2 * (m + n)
 both_points a b m n h k = rw length-append (omega arith)
 
 simple_points-few : (k : SimpleCommand) → length (simple_points k) ≤ 1
@@ -58,7 +60,9 @@ mutual
 
   state_points-few : (s : StateTree) → length (state_points s) ≤ 2 * state_commands s
   state_points-few (StateOf place name kind body children) =
-      both_points (block_points body) (states_points children) (block_count body) (states_commands children) (block_points-few body) (states_points-few children)
+      let at = point (home_of (StateOf place name kind body children)) in
+      let b = block_points-few body in
+      both_points (map at (block_points body)) (states_points children) (block_count body) (states_commands children) (omega (arith, length-map (block_points body) at)) (states_points-few children)
 
   states_points-few : (ss : StateList) → length (states_points ss) ≤ 2 * states_commands ss
   states_points-few NoState = omega arith
@@ -76,6 +80,9 @@ pub few_sites : (d : DesignTree) → IsTrue (is_whole d) → length (sites_of d)
 few_sites d h = let r = states_few (entities_of d) d.states in let m = few_commands d h in omega (arith, length-map (check_sites d) site_of)
 
 pub few_points : (d : DesignTree) → IsTrue (is_whole d) → length (points_of d) < 2 ^ 32
-few_points d h = let r = states_points-few d.states in let m = few_commands d h in omega arith
+few_points d h =
+    let r = states_points-few d.states in
+    let m = few_commands d h in
+    omega (arith, length-map (tree.points_of d) (λ (p : Point). word_of p.command))
 
 pub ruleset counts = (few_sites, few_points)

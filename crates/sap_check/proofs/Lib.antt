@@ -2,3 +2,4 @@ pub mod SiteLists
 pub mod PointLists
 pub mod Counts
 pub mod Accepted
+pub mod FaultsLemmas

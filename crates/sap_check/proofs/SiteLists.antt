@@ -15,7 +15,7 @@ use Rattle.sap_tree.specs.Trees.{command_of, commands_of, block_of, arm_block_of
 use Rattle.sap_tree.proofs.Views.{state_of-out}
 use Rattle.sap_names.specs.declared.entity.Entity.{Entity}
 use Rattle.sap_check.specs.declared.site.Site.{Site}
-use Rattle.sap_shape.specs.Sites.{Context, command_sites, block_sites, else_sites, state_sites}
+use Rattle.sap_shape.specs.Sites.{Surroundings, command_sites, block_sites, else_sites, state_sites}
 use Rattle.sap_shape.specs.Sites as sites
 use Rattle.sap_shape.specs.Lists as shape_lists
 use Rattle.sap_check.specs.Sites.{site_of, sites_of}
@@ -26,7 +26,7 @@ pub after_part : (old new part rest all : List Site) → new ≡ old ++ part →
 after_part old new part rest all h e =
     ap (λ (l : List Site). l ++ rest) h ∙ append_assoc old part rest ∙ ap (λ (l : List Site). old ++ l) (sym e)
 
-module _ (h : Context) where
+module _ (h : Surroundings) where
   list_sites-drop : (cs : List Cmd) (n : ℕ) (d : Cmd) → n < length cs → d ≡ get_or cs n d
       → list_sites h (drop n cs) ≡ map site_of (command_sites h (command_of d)) ++ list_sites h (drop (n + 1) cs)
   unfolding list_sites
@@ -121,10 +121,10 @@ unfolding group_sites
 sites_whole v ds ss es old new seen a b c h = h ∙ rw (a, b, c) refl
 
 -- at the end nothing is left
-pub list_end : (h : Context) (cs : List Cmd) (n : ℕ) (new all : List Site) → length cs ≤ n → new ++ list_sites h (drop n cs) ≡ all → new ≡ all
+pub list_end : (h : Surroundings) (cs : List Cmd) (n : ℕ) (new all : List Site) → length cs ≤ n → new ++ list_sites h (drop n cs) ≡ all → new ≡ all
 list_end h cs n new all l e = sym (append-nil new) ∙ ap (λ (r : List Site). new ++ r) (sym (list_sites-past h cs n l)) ∙ e
 
-pub arms_end : (h : Context) (arms : List Arm) (n : ℕ) (new all : List Site) → length arms ≤ n → new ++ arms_sites h (drop n arms) ≡ all → new ≡ all
+pub arms_end : (h : Surroundings) (arms : List Arm) (n : ℕ) (new all : List Site) → length arms ≤ n → new ++ arms_sites h (drop n arms) ≡ all → new ≡ all
 arms_end h arms n new all l e = sym (append-nil new) ∙ ap (λ (r : List Site). new ++ r) (sym (arms_sites-past h arms n l)) ∙ e
 
 pub group_end : (es : List Entity) (ss : List State) (n : ℕ) (new all : List Site) → length ss ≤ n → new ++ group_sites es (drop n ss) ≡ all → new ≡ all

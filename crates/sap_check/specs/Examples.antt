@@ -1,5 +1,6 @@
 -- The check sites and points of small designs, worked out.
 use Rattle.std.specs.Prelude.{◌≡◌, ℕ, [], ◌∷◌, Some, codes}
+use Rattle.sap_tree.specs.Making.{at, spot, mention, numeral_at}
 use Rattle.sap_tree.specs.declared.syntax.Decl.TheVariants.{Register}
 use Rattle.sap_tree.specs.Syntax.{Read, Assign, Goto, Fall, Command, Do, Try, If, CommandBlock, Else, StateOf, NoState, AndState, DesignTree, AndCommand, NoCommand}
 use Rattle.sap_tree.specs.declared.version.Version.TheVariants.{One}
@@ -9,28 +10,28 @@ use Rattle.sap_check.specs.declared.site.SiteKind.{SiteKind}
 use Rattle.sap_check.specs.declared.site.SiteKind.TheVariants as sites
 use Rattle.sap_check.specs.Points.{point, points_of}
 use Rattle.sap_check.specs.Sites.{sites_of}
-use Rattle.sap_shape.specs.Examples.{at, spot, named, number, block, one, low, leaf, home}
+use Rattle.sap_shape.specs.Examples.{number, block, one, low, leaf, home}
 
 abbrev pub site : ℕ → SiteKind → ℕ → Site
 site column kind entity = record { place = at column; kind = kind; entity = entity }
 
 -- x := 0; goto S;
 abbrev pub assigning : CommandBlock
-assigning = block 56 (AndCommand (Do (Assign (named 40 (codes "x")) (number 45 0))) (AndCommand (home 48) NoCommand))
+assigning = block 56 (AndCommand (Do (Assign (mention (at 40) (codes "x")) (number 45 0))) (AndCommand (home 48) NoCommand))
 
 -- goto S otherwise { goto S; }
 abbrev pub leaving : CommandBlock
-leaving = one 87 (Try (Goto (at 60) (named 65 (codes "S"))) (at 67) (one 85 (home 77)))
+leaving = one 87 (Try (Goto (at 60) (mention (at 65) (codes "S"))) (at 67) (one 85 (home 77)))
 
 -- if (x) { x := 0; goto S; } else { goto S otherwise { goto S; } }
 abbrev pub choosing : Command
-choosing = If (at 30) (Read (spot 34) (codes "x")) assigning (Else leaving)
+choosing = If (at 30) (Read (spot (at 34)) (codes "x")) assigning (Else leaving)
 
 -- reg x : 1 enforced low = START; state S enforced low { .. }
 abbrev pub small : ℕ → DesignTree
 small start = record {
   version = One;
-  declarations = Register (at 1) (named 5 (codes "x")) (record { place = at 9; value = 1 }) low (Some (record { place = at 21; value = start })) ∷ [];
+  declarations = Register (at 1) (mention (at 5) (codes "x")) (numeral_at (at 9) 1) low (Some (numeral_at (at 21) start)) ∷ [];
   states = AndState (leaf (codes "S") low (one 90 choosing)) NoState;
 }
 
@@ -46,7 +47,7 @@ nested = record {
   version = One;
   declarations = [];
   states = AndState
-      (StateOf (at 1) (named 7 (codes "P")) low (one 60 (Try (Fall (at 25)) (at 30) (one 50 (Do (Goto (at 42) (named 47 (codes "P")))))))
+      (StateOf (at 1) (mention (at 7) (codes "P")) low (one 60 (Try (Fall (at 25)) (at 30) (one 50 (Do (Goto (at 42) (mention (at 47) (codes "P")))))))
       (AndState (leaf (codes "S") low (one 90 (home 80))) NoState))
       NoState;
 }

@@ -3,3 +3,4 @@ pub mod Points
 pub mod Lists
 pub mod Checked
 pub mod Examples
+pub mod Faults

@@ -4,7 +4,7 @@ use Rattle.sap_text.specs.declared.place.Place.{Place}
 use Rattle.sap_tree.specs.Syntax.{SimpleCommand, Assign, Write, SetTag, SetCellTag, Goto, Fall, DesignTree}
 pub use Rattle.sap_names.specs.Entities.{entity_number}
 pub use Rattle.sap_shape.specs.Paths.{place_of}
-use Rattle.sap_shape.specs.Sites.{Context, CheckSite, check_sites}
+use Rattle.sap_shape.specs.Sites.{Surroundings, CheckSite, check_sites}
 use Rattle.sap_check.specs.declared.site.Site.{Site}
 use Rattle.sap_check.specs.declared.site.SiteKind.{SiteKind}
 use Rattle.sap_check.specs.declared.site.SiteKind.TheVariants as kind
@@ -18,7 +18,7 @@ kind_of_command (Goto place target) = kind.Goto
 kind_of_command (Fall place) = kind.Fall
 
 -- what may refuse it: its target, and for a `fall` the state in whose body it stands
-abbrev pub target_of : Context → SimpleCommand → List ℕ
+abbrev pub target_of : Surroundings → SimpleCommand → List ℕ
 target_of h (Assign target e) = target.name
 target_of h (Write target index e) = target.name
 target_of h (SetTag place target tag) = target.name
@@ -27,7 +27,7 @@ target_of h (Goto place target) = target.name
 target_of h (Fall place) = h.home.name
 
 abbrev pub site_of : CheckSite → Site
-site_of s = record { place = place_of s.command; kind = kind_of_command s.command; entity = entity_number s.context.entities (target_of s.context s.command) }
+site_of s = record { place = place_of s.command; kind = kind_of_command s.command; entity = entity_number s.surroundings.entities (target_of s.surroundings s.command) }
 
 abbrev pub sites_of : DesignTree → List Site
 sites_of d = map site_of (check_sites d)

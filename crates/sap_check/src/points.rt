@@ -2,7 +2,8 @@
 
 ghost use Rattle.std.specs.Prelude.{◌≡◌, ◌++◌, ◌∷◌, [], OnOk};
 ghost use Rattle.sap_check.specs.Lists as lists;
-ghost use Rattle.sap_check.specs.Points as spec;
+ghost use Rattle.sap_check.specs.Points.{point, words_of, words_at};
+ghost use Rattle.sap_tree.specs.Points as tree;
 ghost use Rattle.sap_tree.specs.Trees.{command_of, else_of, simple_of, state_of};
 
 use crate::point::{Point, PointKind};
@@ -11,14 +12,14 @@ use sap_tree::syntax::{Arm, Block, Cmd, Simple, State};
 use std::alloc::AllocError;
 
 fn add_point(kind: PointKind, place: Place, points: &mut Vec<Point>) -> Result<(), AllocError>
-    ensures { OnOk result (points.new.items ≡ points.old.items ++ spec.point kind place ∷ []) }
+    ensures { OnOk result (points.new.items ≡ points.old.items ++ point kind place ∷ []) }
 {
     points.push(Point { kind, place })?;
     Ok(())
 }
 
 fn add_simple(command: &Simple, points: &mut Vec<Point>) -> Result<(), AllocError>
-    ensures { OnOk result (points.new.items ≡ points.old.items ++ spec.simple_points (simple_of command.now)) }
+    ensures { OnOk result (points.new.items ≡ points.old.items ++ words_of (tree.simple_points (simple_of command.now))) }
 {
     if let Simple::Fall(place) = command {
         add_point(PointKind::Fall, *place, points)?;
@@ -29,7 +30,7 @@ fn add_simple(command: &Simple, points: &mut Vec<Point>) -> Result<(), AllocErro
 #[cycle(body)]
 #[tactic(auto, using(sap_tree::proofs::Views::views, crate::proofs::PointLists::blocks))]
 fn add_command(command: &Cmd, points: &mut Vec<Point>) -> Result<(), AllocError>
-    ensures { OnOk result (points.new.items ≡ points.old.items ++ spec.command_points (command_of command.now)) }
+    ensures { OnOk result (points.new.items ≡ points.old.items ++ words_of (tree.command_points (command_of command.now))) }
 {
     match command {
         Cmd::Do(simple) => add_simple(simple, points),
@@ -75,7 +76,7 @@ fn add_arms(arms: &[Arm], points: &mut Vec<Point>) -> Result<(), AllocError>
 #[cycle(body)]
 #[tactic(auto, using(crate::proofs::PointLists::blocks))]
 fn add_else(other: &Option<Block>, points: &mut Vec<Point>) -> Result<(), AllocError>
-    ensures { OnOk result (points.new.items ≡ points.old.items ++ spec.else_points (else_of other.now)) }
+    ensures { OnOk result (points.new.items ≡ points.old.items ++ words_of (tree.else_points (else_of other.now))) }
 {
     match other {
         Some(block) => add_list(block.commands.as_slice(), points),
@@ -97,7 +98,7 @@ fn add_list(commands: &[Cmd], points: &mut Vec<Point>) -> Result<(), AllocError>
 #[cycle(states)]
 #[tactic(auto, using(crate::proofs::PointLists::states))]
 fn add_state(state: &State, points: &mut Vec<Point>) -> Result<(), AllocError>
-    ensures { OnOk result (points.new.items ≡ points.old.items ++ spec.state_points (state_of state.now)) }
+    ensures { OnOk result (points.new.items ≡ points.old.items ++ words_at (tree.state_points (state_of state.now))) }
 {
     add_list(state.body.commands.as_slice(), points)?;
     add_states(state.children.as_slice(), points)

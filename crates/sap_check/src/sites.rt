@@ -2,7 +2,7 @@
 
 ghost use Rattle.std.specs.Prelude.{◌≡◌, ◌++◌, OnOk, map};
 ghost use Rattle.sap_check.specs.Lists as lists;
-ghost use Rattle.sap_check.specs.Lists.{context_of};
+ghost use Rattle.sap_check.specs.Lists.{surroundings_of};
 ghost use Rattle.sap_check.specs.Sites as spec;
 ghost use Rattle.sap_check.specs.Sites.{site_of};
 ghost use Rattle.sap_shape.specs.Sites as walk;
@@ -50,7 +50,7 @@ fn site_kind(command: &Simple) -> SiteKind
 }
 
 fn site_entity(names: &Names, body: &Body<'_>, command: &Simple) -> u32
-    ensures { result ≡ spec.entity_number names.now (spec.target_of (context_of names.now body.now) (simple_of command.now)) }
+    ensures { result ≡ spec.entity_number names.now (spec.target_of (surroundings_of names.now body.now) (simple_of command.now)) }
 {
     match command {
         Simple::Assign(target, _) => entity_number(names, &target.name),
@@ -68,7 +68,7 @@ fn add_simple(
     command: &Simple,
     sites: &mut Vec<Site>,
 ) -> Result<(), AllocError>
-    ensures { OnOk result (sites.new.items ≡ sites.old.items ++ map site_of (walk.simple_sites (context_of names.now body.now) (simple_of command.now))) }
+    ensures { OnOk result (sites.new.items ≡ sites.old.items ++ map site_of (walk.simple_sites (surroundings_of names.now body.now) (simple_of command.now))) }
 {
     if is_site(names, body.kind, body.children, command) {
         let site = Site {
@@ -89,7 +89,7 @@ fn add_command(
     command: &Cmd,
     sites: &mut Vec<Site>,
 ) -> Result<(), AllocError>
-    ensures { OnOk result (sites.new.items ≡ sites.old.items ++ map site_of (walk.command_sites (context_of names.now body.now) (command_of command.now))) }
+    ensures { OnOk result (sites.new.items ≡ sites.old.items ++ map site_of (walk.command_sites (surroundings_of names.now body.now) (command_of command.now))) }
 {
     match command {
         Cmd::Do(simple) => add_simple(names, body, simple, sites),
@@ -122,7 +122,7 @@ fn add_arms(
     arms: &[Arm],
     sites: &mut Vec<Site>,
 ) -> Result<(), AllocError>
-    ensures { OnOk result (sites.new.items ≡ sites.old.items ++ lists.arms_sites (context_of names.now body.now) arms.now) }
+    ensures { OnOk result (sites.new.items ≡ sites.old.items ++ lists.arms_sites (surroundings_of names.now body.now) arms.now) }
 {
     for arm in arms {
         add_list(names, body, arm.block.commands.as_slice(), sites)?;
@@ -138,7 +138,7 @@ fn add_else(
     other: &Option<Block>,
     sites: &mut Vec<Site>,
 ) -> Result<(), AllocError>
-    ensures { OnOk result (sites.new.items ≡ sites.old.items ++ map site_of (walk.else_sites (context_of names.now body.now) (else_of other.now))) }
+    ensures { OnOk result (sites.new.items ≡ sites.old.items ++ map site_of (walk.else_sites (surroundings_of names.now body.now) (else_of other.now))) }
 {
     match other {
         Some(block) => add_list(names, body, block.commands.as_slice(), sites),
@@ -154,7 +154,7 @@ fn add_list(
     commands: &[Cmd],
     sites: &mut Vec<Site>,
 ) -> Result<(), AllocError>
-    ensures { OnOk result (sites.new.items ≡ sites.old.items ++ lists.list_sites (context_of names.now body.now) commands.now) }
+    ensures { OnOk result (sites.new.items ≡ sites.old.items ++ lists.list_sites (surroundings_of names.now body.now) commands.now) }
 {
     for command in commands {
         add_command(names, body, command, sites)?;

@@ -10,19 +10,19 @@ use Rattle.sap_stream.specs.declared.apart.Apart.{Apart}
 use Rattle.sap_stream.proofs.Agreeing.{at_most_one}
 use Rattle.sap_sim.specs.Labelled.RunOf.{read_for as design_stimulus}
 use Rattle.sap_sim.specs.Simulated.{read_for as module_stimulus}
-use Rattle.sap_commands.specs.Ending.{Ending, Refusal, done, refused, failed, no_memory, status_of, status_of_refusal, IsFree}
-use Rattle.sap_commands.specs.Kinds.{design_file, design_text_file, lattice_file, module_file, stream_file}
-use Rattle.sap_commands.specs.Twin.{IsVerdict}
+use Rattle.sap_files.specs.Ending.{Ending, Refusal, done, refused, failed, no_memory, status_of, status_of_refusal, IsFree}
+use Rattle.sap_files.specs.Kinds.{design_file, design_text_file, lattice_file, module_file, stream_file}
+use Rattle.sap_files.specs.Compared.{IsVerdict}
 use Rattle.sap_words.specs.Words.{Words, IsTwin, compile, run, trace, fmt, sim, report, twin, gen, command_of}
-use Rattle.sap_commands.specs.Asks.{Asks, file, by, AreLawful, MayEnd, end_of}
+use Rattle.sap_files.specs.Asks.{Asks, file, by, AreLawful, MayEnd, end_of}
 use Rattle.sap_commands.specs.Commands.{OneOutput, asks, asks_for, asks_if, at_level, compared}
-use Rattle.sap_commands.proofs.Lattices.{lattice_lawful}
-use Rattle.sap_commands.proofs.Designs.{design_lawful, text_lawful}
-use Rattle.sap_commands.proofs.Modules.{module_lawful}
-use Rattle.sap_commands.proofs.Netlists.{module_netlist}
-use Rattle.sap_commands.proofs.NetsAlike.{one_rows}
-use Rattle.sap_commands.proofs.Streams.{stream_lawful}
-use Rattle.sap_commands.proofs.Lawful.{one_text}
+use Rattle.sap_files.proofs.Lattices.{lattice_lawful}
+use Rattle.sap_files.proofs.Designs.{design_lawful, text_lawful}
+use Rattle.sap_files.proofs.Modules.{module_lawful}
+use Rattle.sap_files.proofs.Netlists.{module_netlist}
+use Rattle.sap_files.proofs.NetsAlike.{one_rows}
+use Rattle.sap_files.proofs.Streams.{stream_lawful}
+use Rattle.sap_files.proofs.Lawful.{one_text}
 
 -- two streams
 

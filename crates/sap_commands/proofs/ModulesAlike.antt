@@ -1,5 +1,6 @@
 -- Two lattices that are the same have the same modules for a design.
 use Rattle.std.proofs.Common.{ℕ, ◌+◌, ◌*◌, ◌≤◌, List, length, subst}
+use Rattle.std.specs.List.{AllZip}
 use Rattle.sap_lattice.specs.Levels.{Levels, order_of}
 use Rattle.sap_lattice.specs.Order.{Order}
 use Rattle.sap_lattice.specs.Codes.{width_of}
@@ -17,18 +18,18 @@ use Rattle.sap_size.specs.Trees.{design_nodes, entity_count}
 use Rattle.sap_interface.specs.Compiled.{NetStandsFor, coded_stream}
 use Rattle.sap_interface.specs.Designs.{named_of, sites_of}
 use Rattle.sap_interface.specs.StandsFor.{Named, world}
-use Rattle.sap_compile.specs.Agree.{CyclesAgree, CyclesLookAlike, InEveryCycle}
+use Rattle.sap_compile.specs.Agree.{CyclesAgree, CyclesLookAlike}
 use Rattle.sap_compile.specs.Compiles.{IsModuleFor}
 use Rattle.sap_compile.specs.Runs.{HasOneRun}
-use Rattle.sap_commands.proofs.Alike.{named_in}
-use Rattle.sap_commands.proofs.Designs.{well_formed_in}
+use Rattle.sap_files.proofs.Alike.{named_in}
+use Rattle.sap_files.proofs.Designs.{well_formed_in}
 
 -- what is seen of the netlist's runs on agreeing streams, by the order and the names alone
 abbrev OnStreams : Named → Order → Net → ((l : ℕ) → Valuation → Valuation → Type 0) → Type 0
 OnStreams d o n Pair =
     (l : ℕ) (a b : List (List Tagged)) → StreamFits (world d) a → StreamFits (world d) b → StreamsAgree o l a b
     → (vs us : List Valuation) → IsRun n (coded_stream d.code a) vs → IsRun n (coded_stream d.code b) us
-    → InEveryCycle (Pair l) (map (observed n) vs) (map (observed n) us)
+    → AllZip (Pair l) (map (observed n) vs) (map (observed n) us)
 
 module _ (l m : Levels) (same : AreSame l m) (d : DesignTree) (n : Net) where
   pub module_in : (text : List ℕ) → IsModuleFor l d n text → IsModuleFor m d n text

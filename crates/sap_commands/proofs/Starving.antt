@@ -8,9 +8,9 @@ use Rattle.sap_meaning.specs.Cycle.{Tagged}
 use Rattle.sap_tree.specs.Syntax.{DesignTree}
 use Rattle.sap_stream.specs.declared.apart.Apart.{Apart}
 use Rattle.sap_words.specs.Words.{Words, compile, run, trace, fmt, sim, report, twin, gen}
-use Rattle.sap_commands.specs.Asks.{Asks, file, by, gives, prints, writes, stops, IsCut, IsPrefix, Starved}
+use Rattle.sap_files.specs.Asks.{Asks, file, by, gives, prints, writes, stops, IsCut, IsPrefix, Starved}
 use Rattle.sap_commands.specs.Commands.{IsPrinted, WithoutMemory, asks, at_level, compared}
-use Rattle.sap_commands.proofs.Ended.{starved_none}
+use Rattle.sap_files.proofs.Ended.{starved_none}
 
 -- nothing of it is printed line by line
 abbrev PrintsNone : Asks → Type 0

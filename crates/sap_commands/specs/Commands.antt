@@ -6,36 +6,22 @@ use Rattle.sap_meaning.specs.Cycle.{Tagged}
 use Rattle.sap_tree.specs.Syntax.{DesignTree}
 use Rattle.sap_net.specs.Net.{Net}
 use Rattle.sap_stim.specs.Line.{level_named}
-use Rattle.sap_stim.specs.declared.fault.StimFault.{StimFault}
 use Rattle.sap_stream.specs.declared.apart.Apart.{Apart}
-use Rattle.sap_sim.specs.Labelled.RunOf.{IsRunOf, read_for as design_stimulus}
-use Rattle.sap_trace.specs.TraceOf.{IsTraceOf}
-use Rattle.sap_sim.specs.Simulated.{IsSimulated, read_for as module_stimulus}
-use Rattle.sap_show.specs.Canonical.{canonical_text}
-use Rattle.sap_report.specs.Report.{report_text}
+use Rattle.sap_sim.specs.Labelled.RunOf.{read_for as design_stimulus}
 use Rattle.sap_compile.specs.Compiles.{IsModuleFor}
 use Rattle.sap_gen.specs.Text.{generated_text}
 use Rattle.sap_words.specs.Words.{Words, compile, run, trace, fmt, sim, report, twin, gen, command_of}
-use Rattle.sap_commands.specs.Ending.{done, no_memory, no_command, level_refused}
-use Rattle.sap_commands.specs.Kinds.{lattice_file, design_file, design_text_file, module_file, stream_file}
-use Rattle.sap_commands.specs.Twin.{IsAgreement, IsVerdict, difference}
-use Rattle.sap_commands.specs.Asks.{Asks, file, by, gives, prints, writes, stops, IsCut, IsOutput, Output}
+use Rattle.sap_files.specs.Ending.{done, no_memory, no_command, level_refused}
+use Rattle.sap_files.specs.Kinds.{lattice_file, design_file, stream_file}
+use Rattle.sap_commands.specs.Twin.{IsAgreement}
+use Rattle.sap_files.specs.Compared.{IsVerdict, difference}
+use Rattle.sap_files.specs.StimulusTexts.{AreDesignRows, AreTraceLines}
+use Rattle.sap_files.specs.Uncompiled.{asks_canonical, asks_simulated, asks_report}
+use Rattle.sap_files.specs.Asks.{Asks, file, by, gives, prints, writes, stops, IsCut, IsOutput, Output}
 
 -- the text is one of a module for the design
 abbrev pub IsModuleText : Levels → DesignTree → (text : List ℕ) → Type 0
 IsModuleText ls d text = (net : Net) × IsModuleFor ls d net text
-
--- the text is the rows of a design's run on a stimulus, or on its lines before the first that is refused
-abbrev pub AreDesignRows : Levels → DesignTree → (bytes text : List ℕ) → Type 0
-AreDesignRows ls d bytes text = (fault : Option StimFault) × IsRunOf ls d bytes (record { text = text; fault = fault })
-
--- the lines of its trace, likewise
-abbrev pub AreTraceLines : Levels → DesignTree → (bytes text : List ℕ) → Type 0
-AreTraceLines ls d bytes text = (fault : Option StimFault) × IsTraceOf ls d bytes (record { text = text; fault = fault })
-
--- and the rows of a module's run
-abbrev pub AreModuleRows : Levels → Net → (bytes text : List ℕ) → Type 0
-AreModuleRows ls net bytes text = (fault : Option StimFault) × IsSimulated ls net bytes (record { text = text; fault = fault })
 
 -- what is asked behind a word that is to be a level: where it names none, it is refused
 abbrev pub at_level : (word : List ℕ) → (ℕ → Asks) → Option ℕ → Asks
@@ -62,13 +48,9 @@ asks (run lattice design stimulus) =
 asks (trace lattice design stimulus) =
     file lattice lattice_file (λ ls. file design (design_file ls) (λ d.
     prints stimulus (AreTraceLines ls d) (λ bytes. (design_stimulus ls d bytes).fault)))
-asks (fmt design) =
-    file design design_text_file (λ d. gives (λ text. text ≡ canonical_text d) done)
-asks (sim lattice verilog stimulus) =
-    file lattice lattice_file (λ ls. file verilog module_file (λ net.
-    prints stimulus (AreModuleRows ls net) (λ bytes. (module_stimulus ls net bytes).fault)))
-asks (report lattice design) =
-    file lattice lattice_file (λ ls. file design (design_file ls) (λ d. gives (λ text. text ≡ report_text ls d) done))
+asks (fmt design) = asks_canonical design
+asks (sim lattice verilog stimulus) = asks_simulated lattice verilog stimulus
+asks (report lattice design) = asks_report lattice design
 asks (twin lattice design first second level) =
     file lattice lattice_file (λ ls. by (Option ℕ) (λ named. named ≡ level_named ls.names level) (at_level level (λ l.
     file design (design_file ls) (λ d. asks_streams ls d first second level l))))

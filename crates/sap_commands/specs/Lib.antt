@@ -1,9 +1,3 @@
-pub mod DesignFaults
-pub mod Ending
-pub mod Kinds
 pub mod Twin
-pub mod Asks
 pub mod Commands
-pub mod After
-pub mod Outside
-pub mod Steps
+pub mod Compiling

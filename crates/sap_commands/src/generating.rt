@@ -2,11 +2,11 @@
 
 ghost use Rattle.sap_words.specs.Words.{gen};
 ghost use Rattle.sap_commands.specs.Commands.{asks};
-ghost use Rattle.sap_commands.specs.Steps.{Ends, ending_of, seen};
+ghost use Rattle.sap_files.specs.Steps.{Ends, ending_of, seen};
 
-use crate::failure::Failure;
-use crate::output::put;
 use sap_desk::Desk;
+use sap_files::failure::Failure;
+use sap_files::put;
 use sap_gen::generated;
 use sap_words::RunNumber;
 use std::alloc::Global;

@@ -2,18 +2,16 @@
 
 ghost use Rattle.sap_words.specs.Called.{words_of};
 ghost use Rattle.sap_commands.specs.Commands.{asks};
-ghost use Rattle.sap_commands.specs.Steps.{Ends, ending_of, seen};
+ghost use Rattle.sap_files.specs.Steps.{Ends, ending_of, seen};
 
 use crate::comparing::twin;
 use crate::compiling::compile;
-use crate::failure::Failure;
 use crate::generating::generate;
-use crate::reporting::report_design;
 use crate::running::run;
-use crate::showing::format;
-use crate::simulating::simulate;
 use crate::tracing::trace_design;
 use sap_desk::Desk;
+use sap_files::failure::Failure;
+use sap_files::{format, report_design, simulate};
 use sap_words::Command;
 use std::alloc::Global;
 

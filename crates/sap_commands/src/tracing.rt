@@ -2,12 +2,12 @@
 
 ghost use Rattle.sap_words.specs.Words.{trace};
 ghost use Rattle.sap_commands.specs.Commands.{asks};
-ghost use Rattle.sap_commands.specs.Steps.{Ends, ending_of, seen};
+ghost use Rattle.sap_files.specs.Steps.{Ends, ending_of, seen};
 
-use crate::failure::Failure;
-use crate::inputs::{compiled_from, lattice_from, read, read_design};
-use crate::traces::print_trace;
+use crate::compiled::compiled_of_file;
 use sap_desk::Desk;
+use sap_files::failure::Failure;
+use sap_files::{lattice_of_file, print_trace};
 use std::alloc::Global;
 
 /// Prints the trace of a design file on a stimulus file, over a lattice file.
@@ -20,10 +20,8 @@ pub fn trace_design<'a, D: Desk>(
 ) -> Result<(), Failure<'a>>
     ensures { Ends (asks (trace lattice.now design.now stimulus.now)) (ending_of result) (seen D.told D.faults D.lost D.sure desk.old) (seen D.told D.faults D.lost D.sure desk.new) }
 {
-    let bytes = read(alloc, desk, lattice)?;
-    let _levels = lattice_from(alloc, &bytes)?;
-    let source = read_design(alloc, desk, design)?;
-    let compiled = compiled_from(alloc, &bytes, &source)?;
+    let file = lattice_of_file(alloc, desk, lattice)?;
+    let compiled = compiled_of_file(alloc, desk, &file.bytes, design)?;
     let (checked, netlist) = compiled.into_parts();
     print_trace(alloc, desk, &checked, netlist, stimulus)
 }

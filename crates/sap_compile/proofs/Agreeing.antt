@@ -1,5 +1,6 @@
 -- What stands for a well-formed design has runs that agree, and look alike, where their streams agree.
 use Rattle.std.proofs.Common.{◌≡◌, ◌<◌, ◌≤◌, ℕ, true, ◌==◌, bit_or, List, [], ◌∷◌, map, inl, inr, sym, ap, ◌∙◌, subst}
+use Rattle.std.specs.List.{AllZip}
 use Rattle.std.proofs.lemmas.Bool.{cases_Bool}
 use Rattle.sap_meaning.proofs.ProgramLemmas.{register_no_memory_test, state_no_memory_test}
 use Rattle.sap_lattice.specs.Order.{Order, Laws}
@@ -25,7 +26,7 @@ use Rattle.sap_interface.specs.PortNames.{tag_name}
 use Rattle.sap_interface.specs.StandsFor.{Named, name, world, IsRefusedAt, StandsFor}
 use Rattle.sap_interface.specs.Compiled.{coded_stream, CyclesStand}
 use Rattle.sap_interface.specs.Designs.{named_of, sites_of, StandsForDesign}
-use Rattle.sap_compile.specs.Agree.{IsState, CyclesAgree, LookAlike, MemoriesLookAlike, IsToldAt, CyclesLookAlike, InEveryCycle, RunsAgree, RunsLookAlike}
+use Rattle.sap_compile.specs.Agree.{IsState, CyclesAgree, LookAlike, MemoriesLookAlike, IsToldAt, CyclesLookAlike, RunsAgree, RunsLookAlike}
 use Rattle.sap_compile.specs.Runs.{HasOneRunOnStreams}
 use Rattle.sap_compile.proofs.Paths.{paths_look_alike}
 
@@ -131,7 +132,7 @@ module _ (d : Named) (keeps : (inputs : List Tagged) (s : Store) → Resting (wo
       (next, all_states (cycle d.program inputs s).store rest fit.1 next)
 
 each_agrees : (d : Named) (sites l : ℕ) (vs us : List Valuation) (as' bs : List After) → CyclesStand d sites vs as' → CyclesStand d sites us bs
-    → AllStates d as' → AllStates d bs → meaning.RunsAgree d.program l as' bs → InEveryCycle (CyclesAgree d sites l) vs us
+    → AllStates d as' → AllStates d bs → meaning.RunsAgree d.program l as' bs → AllZip (CyclesAgree d sites l) vs us
 each_agrees d sites l [] [] as' bs p q s t r = tt
 each_agrees d sites l [] (u ∷ us) [] [] p q s t r = absurd q
 each_agrees d sites l [] (u ∷ us) [] (b ∷ bs) p q s t r = absurd r
@@ -153,7 +154,7 @@ each_agrees d sites l (v ∷ vs) (u ∷ us) (a ∷ as') (b ∷ bs) p q s t r = (
   each_agrees d sites l vs us as' bs p.1 q.1 s.1 t.1 r.2,
 )
 
-in_each : (P Q : Valuation → Valuation → Type 0) → ((v u : Valuation) → P v u → Q v u) → (vs us : List Valuation) → InEveryCycle P vs us → InEveryCycle Q vs us
+in_each : (P Q : Valuation → Valuation → Type 0) → ((v u : Valuation) → P v u → Q v u) → (vs us : List Valuation) → AllZip P vs us → AllZip Q vs us
 in_each P Q f [] [] h = h
 in_each P Q f [] (u ∷ us) h = h
 in_each P Q f (v ∷ vs) [] h = h

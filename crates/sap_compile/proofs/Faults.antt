@@ -1,7 +1,7 @@
 -- A lattice file and a design that are taken have no fault, and the other way round.
 use Rattle.std.proofs.Common.{◌≡◌, ◌≢◌, ◌⊎◌, ℕ, List, [], inl, inr, refl, sym, ap, ◌∙◌, subst, Ok}
 use Rattle.std.specs.Prelude.{IsErrOf}
-use Rattle.sap_compile.proofs.FaultsLemmas.{no_check_fault}
+use Rattle.sap_check.proofs.FaultsLemmas.{no_check_fault}
 use Rattle.sap_latfile.specs.LatticeFile.{IsLatticeOfFile, FirstFault}
 use Rattle.sap_latfile.specs.OneLattice.{AreSame, OneLattice}
 use Rattle.sap_latfile.specs.declared.fault.LatFileFault.{LatFileFault}

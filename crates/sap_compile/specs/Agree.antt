@@ -1,5 +1,6 @@
 -- When the runs of a design's module agree at a level l, and what the numbers show of it.
-use Rattle.std.specs.Prelude.{◌≡◌, ◌<◌, ◌≤◌, ◌⊎◌, ◌↔◌, ℕ, zero, suc, true, false, List, [], ◌∷◌, map}
+use Rattle.std.specs.Prelude.{◌≡◌, ◌<◌, ◌≤◌, ◌⊎◌, ◌↔◌, ℕ, zero, suc, true, false, List, map}
+use Rattle.std.specs.List.{AllZip}
 use Rattle.sap_lattice.specs.Levels.{Levels, order_of}
 use Rattle.sap_maps.specs.Maps.{Name, Valuation}
 use Rattle.sap_tree.specs.Syntax.{DesignTree}
@@ -100,20 +101,13 @@ pub record CyclesLookAlike (d : Named) (sites l : ℕ) (v u : Valuation) : Type 
   pub paths : PathsLookAlike d l v u
   pub refusals : (k n : ℕ) → 1 ≤ k → k ≤ sites → (IsToldAt d l v k n) ↔ (IsToldAt d l u k n)
 
--- as many cycles, and each pair is so related
-abbrev pub InEveryCycle : (Valuation → Valuation → Type 0) → List Valuation → List Valuation → Type 0
-InEveryCycle Pair [] [] = Unit {0}
-InEveryCycle Pair [] (u ∷ us) = ⊥
-InEveryCycle Pair (v ∷ vs) [] = ⊥
-InEveryCycle Pair (v ∷ vs) (u ∷ us) = Pair v u × InEveryCycle Pair vs us
-
 -- For every level l, and every two streams that fit the design and agree at l, their levels given as codes: what is seen
 -- of the netlist's runs is so related at l, cycle n with cycle n.
 abbrev pub OnAgreeingStreams : Levels → DesignTree → Net → (Pair : (l : ℕ) → Valuation → Valuation → Type 0) → Type 0
 OnAgreeingStreams ls d n Pair =
     (l : ℕ) (a b : List (List Tagged)) → StreamFits (world (named_of ls d)) a → StreamFits (world (named_of ls d)) b → StreamsAgree (order_of ls) l a b
     → (vs us : List Valuation) → IsRun n (coded_stream (named_of ls d).code a) vs → IsRun n (coded_stream (named_of ls d).code b) us
-    → InEveryCycle (Pair l) (map (observed n) vs) (map (observed n) us)
+    → AllZip (Pair l) (map (observed n) vs) (map (observed n) us)
 
 -- the runs agree
 abbrev pub RunsAgree : Levels → DesignTree → Net → Type 0

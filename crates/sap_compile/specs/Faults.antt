@@ -3,18 +3,11 @@ use Rattle.std.specs.Prelude.{◌≢◌, ℕ, List}
 use Rattle.sap_lattice.specs.Levels.{Levels}
 use Rattle.sap_latfile.specs.LatticeFile.{IsLatticeOfFile, FirstFault}
 use Rattle.sap_latfile.specs.declared.fault.LatFileFault.TheVariants as lattice_fault
-use Rattle.sap_names.specs.declared.fault.CheckFault.{CheckFault}
-use Rattle.sap_names.specs.declared.fault.CheckFault.TheVariants as check
+use Rattle.sap_check.specs.Faults.{IsCheckFault}
 use Rattle.sap_parse.specs.Text.{IsText, IsReadFault}
-use Rattle.sap_shape.specs.WellFormed.{IsFirstFault}
 use Rattle.sap_tree.specs.Syntax.{DesignTree}
 use Rattle.sap_compile.specs.declared.fault.CompileFault.{CompileFault}
 use Rattle.sap_compile.specs.declared.fault.CompileFault.TheVariants.{Lattice, Read, Check, Memory}
-
--- a fault of names, widths or shape: the first
-abbrev pub IsCheckFault : Levels → DesignTree → CheckFault → Type 0
-IsCheckFault ls d (check.Rule code place) = IsFirstFault ls d (record { code = code; place = place })
-IsCheckFault ls d check.Memory = ⊥
 
 abbrev pub IsCompileFault : (lattice design : List ℕ) → CompileFault → Type 0
 IsCompileFault lattice design (Lattice fault) = (fault ≢ lattice_fault.Memory) × FirstFault lattice fault

@@ -10,12 +10,13 @@ use Rattle.sap_net.specs.declared.parts.Memory.{Memory}
 use Rattle.sap_net.specs.declared.parts.Register.{Register}
 use Rattle.sap_net.specs.Net.{Net}
 use Rattle.sap_net.specs.IsNetlist.{IsNetlist, input_names, register_names, wire_names, readable, width_of}
+use Rattle.sap_net.specs.NameMaps.{NameMap}
 use Rattle.sap_cycle.specs.declared.known.Known.{Known}
 use Rattle.sap_cycle.specs.declared.steps.Slot.{Slot}
 use Rattle.sap_cycle.specs.declared.steps.WritePort.{WritePort}
 use Rattle.sap_cycle.specs.Means.{cell_count}
 use Rattle.sap_cycle.specs.Loaded.{bases_of}
-use Rattle.sap_cycle.specs.Places.{Places, Finds}
+use Rattle.sap_cycle.specs.Places.{Finds}
 use Rattle.sap_cycle.specs.Known.{AreStored, first_numbers, slot_found, ports_found}
 use Rattle.sap_cycle.specs.Running.{Shows, value_names, cells_of, seen}
 use Rattle.sap_cycle.proofs.Cells.{cells_with, cells_equal}
@@ -83,10 +84,10 @@ bases_push b (k ∷ ms) m =
     ∙ ap (λ (j : ℕ). b ∷ (bases_of (b + k.depth) ms ++ j ∷ [])) (let e : (b + k.depth) + cell_count ms ≡ b + (k.depth + cell_count ms) = omega arith in e)
 
 -- no memory, and one more
-pub stored_none : (m : Places) → m.entries ≡ [] → (bases cells : List ℕ) → bases ≡ [] → cells ≡ [] → AreStored [] m bases cells
+pub stored_none : (m : NameMap ℕ) → m.entries ≡ [] → (bases cells : List ℕ) → bases ≡ [] → cells ≡ [] → AreStored [] m bases cells
 stored_none m empty bases cells b c = record { found = finds_none m empty; bases_are = b; cells_are = c }
 
-pub stored_more : (ms : List Memory) (i : ℕ) (m : Memory) (old new : Places) (bases cells : List ℕ) → i < length ms → m ≡ get_or ms i m → AreStored (take i ms) old bases cells
+pub stored_more : (ms : List Memory) (i : ℕ) (m : Memory) (old new : NameMap ℕ) (bases cells : List ℕ) → i < length ms → m ≡ get_or ms i m → AreStored (take i ms) old bases cells
     → Finds new (map (λ k. k.name) (take i ms) ++ m.name ∷ []) → AreStored (take (i + 1) ms) new (bases ++ length cells ∷ []) (cells ++ replicate m.depth m.start)
 stored_more ms i m old new bases cells lt is s finds =
     let taken : take (i + 1) ms ≡ take i ms ++ m ∷ [] = take_more ms i m lt ∙ ap (λ (x : Memory). take i ms ++ x ∷ []) (sym is) in

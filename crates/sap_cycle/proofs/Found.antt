@@ -1,27 +1,15 @@
 -- A map of places, name by name.
-use Rattle.std.proofs.Common.{◌≡◌, ◌<◌, ℕ, zero, suc, arith, List, [], ◌∷◌, ◌++◌, Option, Some, None, length, sym, ap, ◌∙◌, subst, refl, inl, inr, true≢false, ⊎_elim}
+use Rattle.std.proofs.Common.{◌≡◌, ◌<◌, ℕ, zero, suc, arith, List, [], ◌∷◌, ◌++◌, Some, None, length, sym, ap, ◌∙◌, subst, refl, inl, inr, true≢false}
 use Rattle.std.specs.Prelude.{slice_get, Contains, IsSome, if◌then◌else◌, Vec}
 use Rattle.std.specs.Str.{bytes_eq}
-use Rattle.std.specs.HashMap.{UpdatesBy}
 use Rattle.std.specs.Map.{lookup}
-use Rattle.std.specs.Cmp.Lexicographic.{nat_list_eq_equiv}
 use Rattle.std.specs.declared.alloc.Global.{Global}
 use Rattle.std.proofs.lemmas.Slice.Eq.{bytes_eq-Decides}
-use Rattle.std.proofs.lemmas.Bool.{cases_Bool, cond-true, cond-false}
+use Rattle.std.proofs.lemmas.Bool.{cases_Bool}
 use Rattle.std.proofs.lemmas.List.Elements.{Contains-push_cases}
-use Rattle.sap_lemmas.proofs.Lists.{others_kept}
-use Rattle.sap_lemmas.proofs.Texts.{bytes_eq_apart}
 use Rattle.sap_maps.specs.Maps.{Name}
-use Rattle.sap_cycle.specs.Places.{Places, Finds, place_in}
-
--- what the map has after a name got a place
-pub put_is : (key : Vec ℕ Global) (m n : Places) (w : Option ℕ) → UpdatesBy (λ x y. bytes_eq x.items y.items) (λ k. bytes_eq key.items k.items) m n w
-    → (x : Name) → place_in n x ≡ (if bytes_eq key.items x then w else place_in m x)
-put_is key m n w h x =
-    ⊎_elim
-    (λ y. subst (λ l. place_in n l ≡ w) ((bytes_eq-Decides key.items x).0 y) h.1 ∙ sym (cond-true (bytes_eq key.items x) w (place_in m x) y))
-    (λ f. others_kept _ _ _ _ h.3 (λ k. bytes_eq x k.items) (λ a b. nat_list_eq_equiv.congr x a.items b.items) (λ k. bytes_eq_apart key.items x k.items f) ∙ sym (cond-false (bytes_eq key.items x) w (place_in m x) f))
-    (cases_Bool (bytes_eq key.items x))
+use Rattle.sap_net.specs.NameMaps.{at_name, NameMap}
+use Rattle.sap_cycle.specs.Places.{Finds}
 
 get_push : (xs : List Name) (y : Name) (k : ℕ) (q : Name) → slice_get xs k ≡ Some q → slice_get (xs ++ y ∷ []) k ≡ Some q
 get_push [] y k q h = absurd (cc)
@@ -33,7 +21,7 @@ get_end [] y = refl
 get_end (x ∷ xs) y = get_end xs y
 
 -- one more name, at the end
-pub finds_more : (m n : Places) (names : List Name) (y : Name) → ((x : Name) → place_in n x ≡ (if bytes_eq y x then Some (length names) else place_in m x)) → Finds m names → Finds n (names ++ y ∷ [])
+pub finds_more : (m n : NameMap ℕ) (names : List Name) (y : Name) → ((x : Name) → at_name n x ≡ (if bytes_eq y x then Some (length names) else at_name m x)) → Finds m names → Finds n (names ++ y ∷ [])
 finds_more m n names y u f =
     record {
       found = λ x k h.
@@ -43,24 +31,24 @@ finds_more m n names y u f =
                 let g : Some (length names) ≡ Some k = rw t at (sym (u x) ∙ h) in
                 let j : length names ≡ k = cc in
                 subst (λ (i : ℕ). slice_get (names ++ y ∷ []) i ≡ Some x) j (get_end names y ∙ ap Some e)
-            | inr d ↦ let g : place_in m x ≡ Some k = rw d at (sym (u x) ∙ h) in get_push names y k x (f.found x k g)
+            | inr d ↦ let g : at_name m x ≡ Some k = rw d at (sym (u x) ∙ h) in get_push names y k x (f.found x k g)
           ];
       all = λ x c.
           elim (cases_Bool (bytes_eq y x)) [
-            | inl t ↦ let g : place_in n x ≡ Some (length names) = u x ∙ rw t refl in subst (IsSome {T = ℕ}) (sym g) refl
+            | inl t ↦ let g : at_name n x ≡ Some (length names) = u x ∙ rw t refl in subst (IsSome {T = ℕ}) (sym g) refl
             | inr d ↦
                 let here : Contains names x =
                 elim (Contains-push_cases names y x c) [
                   | inl a ↦ a
                   | inr b ↦ absurd (true≢false (sym ((bytes_eq-Decides y x).1 b) ∙ d))
                 ] in
-                let g : place_in n x ≡ place_in m x = u x ∙ rw d refl in
+                let g : at_name n x ≡ at_name m x = u x ∙ rw d refl in
                 subst (IsSome {T = ℕ}) (sym g) (f.all x here)
           ];
     }
 
 -- a map of nothing
-pub finds_none : (m : Places) → m.entries ≡ [] → Finds m []
+pub finds_none : (m : NameMap ℕ) → m.entries ≡ [] → Finds m []
 finds_none m e =
     record {
       found = λ x k h.

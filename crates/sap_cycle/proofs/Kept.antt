@@ -9,9 +9,10 @@ use Rattle.sap_maps.specs.Scope.{find}
 use Rattle.sap_net.specs.declared.parts.Memory.{Memory}
 use Rattle.sap_net.specs.Net.{Net}
 use Rattle.sap_net.specs.IsNetlist.{IsNetlist, memory_names}
+use Rattle.sap_net.specs.NameMaps.{at_name, NameMap}
 use Rattle.sap_cycle.specs.declared.steps.WritePort.{WritePort}
 use Rattle.sap_cycle.specs.Means.{PortsMean, cell_count}
-use Rattle.sap_cycle.specs.Places.{Places, Finds, place_in}
+use Rattle.sap_cycle.specs.Places.{Finds}
 use Rattle.sap_cycle.specs.Running.{cells_of, seen, cell_seen}
 use Rattle.sap_cycle.proofs.Cells.{cells_long, cell_at, count_more}
 use Rattle.sap_cycle.proofs.Distinct.{memories_found}
@@ -92,6 +93,6 @@ cell_seen_there n rules k x a cycle i lt = rw (memory_found n rules k x a, lt-lt
 pub cell_not_seen : (n : Net) → IsNetlist n → (k : ℕ) (x : Name) (a : IsAt n.memories k x) (cycle : Option Valuation) (i : ℕ) → a.memory.depth ≤ i → cell_seen n cycle x i ≡ None
 cell_not_seen n rules k x a cycle i le = rw (memory_found n rules k x a, le-ltb i a.memory.depth le) refl
 
-pub cell_nowhere : (n : Net) (m : Places) → Finds m (memory_names n) → (x : Name) → place_in m x ≡ None → (cycle : Option Valuation) (i : ℕ) → cell_seen n cycle x i ≡ None
+pub cell_nowhere : (n : Net) (m : NameMap ℕ) → Finds m (memory_names n) → (x : Name) → at_name m x ≡ None → (cycle : Option Valuation) (i : ℕ) → cell_seen n cycle x i ≡ None
 cell_nowhere n m finds x h cycle i =
     rw (missing m (memory_names n) finds (map (λ k. (k.name, k)) n.memories) (covers_listed (λ k. k.name) (λ k. k) n.memories) x h) refl

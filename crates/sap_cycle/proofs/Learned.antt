@@ -14,13 +14,13 @@ use Rattle.sap_net.specs.declared.parts.Wire.{Wire}
 use Rattle.sap_net.specs.declared.parts.Memory.{Memory}
 use Rattle.sap_net.specs.Values.{operand_width}
 use Rattle.sap_net.specs.Rules.{Shapes, IsOperand, AreOperands, IsRight}
+use Rattle.sap_net.specs.NameMaps.{at_name}
 use Rattle.sap_cycle.specs.declared.known.Known.{Known}
 use Rattle.sap_cycle.specs.declared.steps.Part.{Part}
 use Rattle.sap_cycle.specs.declared.steps.Step.{Step}
 use Rattle.sap_cycle.specs.declared.steps.Step.TheVariants.{Copy, One, Two, Choose, Concat, Slice, Cell}
 use Rattle.sap_cycle.specs.Means.{SlotMeans, PartsMean, BeginsAt, cell_count, StepMeans, StepsMean}
 use Rattle.sap_cycle.specs.Loaded.{bases_of}
-use Rattle.sap_cycle.specs.Places.{place_in}
 use Rattle.sap_cycle.specs.Known.{Knows, IsKnown, IsKnownMemory, IsKnownOperand, IsKnownRight, slot_found, width_found, part_found, base_found, step_found, parts_found}
 use Rattle.sap_cycle.proofs.Looked.{Covers, cases_option, none_there, number_there}
 use Rattle.sap_cycle.proofs.Kept.{is_at, at_within}
@@ -50,8 +50,8 @@ bases_at (k ∷ before) m behind b d = omega (arith, bases_at before m behind (b
 
 known_name : (f : Name → ℕ) (ms : List Memory) (names : List Name) (k : Known) → Knows f ms names k → (x : Name) → Contains names x → IsKnown k x
 known_name f ms names k knows x c =
-    elim (cases_option (place_in k.places x)) [
-      | inl e ↦ absurd (none_there (place_in k.places x) e (knows.places.all x c))
+    elim (cases_option (at_name k.places x)) [
+      | inl e ↦ absurd (none_there (at_name k.places x) e (knows.places.all x c))
       | inr p ↦
           let lt : p.0 < length names = slice_get_within names p.0 x (knows.places.found x p.0 p.1) in
           record { place = p.0; found = p.1; within = omega (arith, lt, ap length knows.widths_are, length-map names f) }
@@ -59,8 +59,8 @@ known_name f ms names k knows x c =
 
 known_memory : (f : Name → ℕ) (ms : List Memory) (names : List Name) (k : Known) → Knows f ms names k → (x : Name) → Contains (map (λ m. m.name) ms) x → IsKnownMemory k x
 known_memory f ms names k knows x c =
-    elim (cases_option (place_in k.memories x)) [
-      | inl e ↦ absurd (none_there (place_in k.memories x) e (knows.memories.all x c))
+    elim (cases_option (at_name k.memories x)) [
+      | inl e ↦ absurd (none_there (at_name k.memories x) e (knows.memories.all x c))
       | inr p ↦
           let lt : p.0 < length ms = at_within ms p.0 x (knows.memories.found x p.0 p.1) in
           record { number = p.0; found = p.1; within = omega (arith, lt, ap length knows.bases, bases_long 0 ms) }
@@ -94,7 +94,7 @@ slot_means f ms names k knows (Constant w n) h = refl
 
 width_means : (f : Name → ℕ) (ms : List Memory) (names : List Name) (k : Known) → Knows f ms names k → (o : Operand) → IsKnownOperand k o → width_found k o ≡ operand_width f o
 width_means f ms names k knows (Named x) h =
-    number_there f names k.widths.items (unwrap_or (place_in k.places x) 0) x 0 knows.widths_are (slot_means f ms names k knows (Named x) h)
+    number_there f names k.widths.items (unwrap_or (at_name k.places x) 0) x 0 knows.widths_are (slot_means f ms names k knows (Named x) h)
 width_means f ms names k knows (Constant w n) h = refl
 
 parts_mean : (f : Name → ℕ) (ms : List Memory) (names : List Name) (k : Known) → Knows f ms names k → (os : List Operand) → AllByRecursion (IsKnownOperand k) os → PartsMean f names (map (part_found k) os) os

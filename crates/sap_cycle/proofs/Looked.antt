@@ -16,7 +16,8 @@ use Rattle.sap_net.specs.declared.parts.Wire.{Wire}
 use Rattle.sap_net.specs.Net.{Net}
 use Rattle.sap_net.specs.Rules.{readable_after}
 use Rattle.sap_net.specs.IsNetlist.{IsNetlist, first_readable, readable, input_names, register_names, wire_names}
-use Rattle.sap_cycle.specs.Places.{Places, Finds, place_in}
+use Rattle.sap_net.specs.NameMaps.{at_name, NameMap}
+use Rattle.sap_cycle.specs.Places.{Finds}
 use Rattle.sap_cycle.specs.Running.{first_names, value_names, can_be_seen}
 use Rattle.sap_cycle.proofs.Distinct.{inputs_readable, registers_readable, wires_readable, registers_found, inputs_no_registers, wires_no_registers}
 
@@ -66,8 +67,8 @@ none_there None e h = absurd (true≢false (sym h))
 none_there (Some k) e h = cc
 
 -- a name that a map of places doesn't find is none of those that the list covers
-pub missing : {X : Type 0} (m : Places) (names : List Name) → Finds m names → (es : List (Name × X)) → Covers es names → (x : Name) → place_in m x ≡ None → find es x ≡ None
-missing {X} m names finds es cov x h = elim (cases_option (find es x)) [ inl e ↦ e | inr s ↦ absurd (none_there (place_in m x) h (finds.all x (cov x s.0 s.1))) ]
+pub missing : {X : Type 0} (m : NameMap ℕ) (names : List Name) → Finds m names → (es : List (Name × X)) → Covers es names → (x : Name) → at_name m x ≡ None → find es x ≡ None
+missing {X} m names finds es cov x h = elim (cases_option (find es x)) [ inl e ↦ e | inr s ↦ absurd (none_there (at_name m x) h (finds.all x (cov x s.0 s.1))) ]
 
 -- a fact on each name of a list
 all_names : {A : Type 0} (P : Name → Type 0) (key : A → Name) (list : List A) → AllByRecursion (λ a. P (key a)) list → AllByRecursion P (map key list)
@@ -154,7 +155,7 @@ pub seen_there : (n : Net) → IsNetlist n → (x : Name) (k : ℕ) → slice_ge
 seen_there n rules x k h None stepped e = rw e (first_seen n rules x k h)
 seen_there n rules x k h (Some v) stepped e = rw e (all_at (λ y. is_some (find (readable n) y) ≡ true) (value_names n) k x (all_readable n rules) h)
 
-pub seen_nowhere : (n : Net) (m : Places) → Finds m (value_names n) → (x : Name) → place_in m x ≡ None → (cycle : Option Valuation) → can_be_seen n cycle x ≡ false
+pub seen_nowhere : (n : Net) (m : NameMap ℕ) → Finds m (value_names n) → (x : Name) → at_name m x ≡ None → (cycle : Option Valuation) → can_be_seen n cycle x ≡ false
 seen_nowhere n m finds x h None =
     let cov : Covers (registers_of n) (value_names n) = λ y u g. Contains-append_left (first_names n) (wire_names n) y (Contains-append_right (input_names n) (register_names n) y (covers_listed (λ r. r.name) (λ r. r.width) n.registers y u g)) in
     rw (missing m (value_names n) finds (registers_of n) cov x h) refl

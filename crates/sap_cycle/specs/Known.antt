@@ -14,8 +14,9 @@ use Rattle.sap_cycle.specs.declared.steps.Part.{Part}
 use Rattle.sap_cycle.specs.declared.steps.Step.{Step}
 use Rattle.sap_cycle.specs.declared.steps.Step.TheVariants.{Copy, One, Two, Choose, Concat, Slice, Cell}
 use Rattle.sap_net.specs.Net.{Net}
+use Rattle.sap_net.specs.NameMaps.{at_name, NameMap}
 use Rattle.sap_cycle.specs.declared.steps.WritePort.{WritePort}
-use Rattle.sap_cycle.specs.Places.{Places, Finds, place_in}
+use Rattle.sap_cycle.specs.Places.{Finds}
 use Rattle.sap_cycle.specs.Loaded.{bases_of}
 
 -- the names, each with its width, and the memories
@@ -27,12 +28,12 @@ pub record Knows (widths : Name → ℕ) (ms : List Memory) (names : List Name) 
 
 pub record IsKnown (k : Known) (x : Name) : Type 0 where
   pub place : ℕ
-  pub found : place_in k.places x ≡ Some place
+  pub found : at_name k.places x ≡ Some place
   pub within : place < length k.widths.items
 
 pub record IsKnownMemory (k : Known) (x : Name) : Type 0 where
   pub number : ℕ
-  pub found : place_in k.memories x ≡ Some number
+  pub found : at_name k.memories x ≡ Some number
   pub within : number < length k.bases.items
 
 abbrev pub IsKnownOperand : Known → Operand → Type 0
@@ -49,18 +50,18 @@ IsKnownRight k (right.Slice x hi lo) = IsKnown k x
 IsKnownRight k (right.Cell m i) = IsKnownMemory k m × IsKnownOperand k i
 
 abbrev pub slot_found : Known → Operand → Slot
-slot_found k (Named x) = At (unwrap_or (place_in k.places x) 0)
+slot_found k (Named x) = At (unwrap_or (at_name k.places x) 0)
 slot_found k (Constant w n) = Number n
 
 abbrev pub width_found : Known → Operand → ℕ
-width_found k (Named x) = slice_index k.widths.items (unwrap_or (place_in k.places x) 0)
+width_found k (Named x) = slice_index k.widths.items (unwrap_or (at_name k.places x) 0)
 width_found k (Constant w n) = w
 
 abbrev pub part_found : Known → Operand → Part
 part_found k o = record { slot = slot_found k o; width = width_found k o }
 
 abbrev pub base_found : Known → Name → ℕ
-base_found k x = slice_index k.bases.items (unwrap_or (place_in k.memories x) 0)
+base_found k x = slice_index k.bases.items (unwrap_or (at_name k.memories x) 0)
 
 -- the step of a right side whose parts, if it has any, stand from a place on
 abbrev pub step_found : Known → (from : ℕ) → Right → Step
@@ -69,7 +70,7 @@ step_found k from (right.One op a) = One op (width_found k a) (slot_found k a)
 step_found k from (right.Two op a b) = Two op (width_found k a) (slot_found k a) (slot_found k b)
 step_found k from (right.Choose c a b) = Choose (slot_found k c) (slot_found k a) (slot_found k b)
 step_found k from (right.Concat os) = Concat from (from + length os)
-step_found k from (right.Slice x hi lo) = Slice (At (unwrap_or (place_in k.places x) 0)) hi lo
+step_found k from (right.Slice x hi lo) = Slice (At (unwrap_or (at_name k.places x) 0)) hi lo
 step_found k from (right.Cell m i) = Cell (base_found k m) (slot_found k i)
 
 abbrev pub parts_found : Known → Right → List Part
@@ -86,7 +87,7 @@ ports_found k b (m ∷ ms) =
     record { base = b; enable = slot_found k m.enable; index = slot_found k m.index; value = slot_found k m.value } ∷ ports_found k (b + m.depth) ms
 
 -- The names of the memories, where the cells of each begin, and what the cells are first.
-pub record AreStored (ms : List Memory) (numbers : Places) (bases : List ℕ) (cells : List ℕ) : Type 0 where
+pub record AreStored (ms : List Memory) (numbers : NameMap ℕ) (bases : List ℕ) (cells : List ℕ) : Type 0 where
   pub found : Finds numbers (map (λ m. m.name) ms)
   pub bases_are : bases ≡ bases_of 0 ms
   pub cells_are : cells ≡ flat_map (λ m. replicate m.depth m.start) ms

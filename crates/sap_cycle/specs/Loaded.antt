@@ -5,9 +5,10 @@ use Rattle.sap_net.specs.declared.parts.Memory.{Memory}
 use Rattle.sap_net.specs.Net.{Net}
 use Rattle.sap_net.specs.IsNetlist.{IsNetlist, memory_names, width_of}
 use Rattle.sap_net.specs.Laws.{WithinBefore}
+use Rattle.sap_net.specs.NameMaps.{NameMap}
 use Rattle.sap_cycle.specs.declared.program.Program.{Program}
 use Rattle.sap_cycle.specs.Means.{StepsMean, NextsMean, PortsMean}
-use Rattle.sap_cycle.specs.Places.{Places, Finds}
+use Rattle.sap_cycle.specs.Places.{Finds}
 use Rattle.sap_cycle.specs.Running.{Running, first_names, value_names, Shows}
 
 pub record IsProgram (n : Net) (p : Program) : Type 0 where
@@ -21,7 +22,7 @@ bases_of k [] = []
 bases_of k (m ∷ ms) = k ∷ bases_of (k + m.depth) ms
 
 -- A runner keeps a cycle that it shows, or none yet, so the next cycle exists.
-pub record IsRunner (r : Running) (p : Program) (edge : List ℕ) (values memories : Places) : Type 0 where
+pub record IsRunner (r : Running) (p : Program) (edge : List ℕ) (values memories : NameMap ℕ) : Type 0 where
   pub rules : IsNetlist r.net
   pub program : IsProgram r.net p
   pub edge_long : length edge ≡ length r.net.registers

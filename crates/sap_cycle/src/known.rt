@@ -4,7 +4,7 @@ ghost use Rattle.std.specs.Prelude.{◌≡◌, ◌<◌, ◌++◌, [], ◌∷◌,
 ghost use Rattle.std.specs.List.{AllByRecursion};
 ghost use Rattle.sap_maps.specs.Maps.{Name as Text};
 ghost use Rattle.sap_net.specs.declared.parts.Memory.{Memory as Stored};
-ghost use Rattle.sap_cycle.specs.Places.{place_in};
+ghost use Rattle.sap_net.specs.NameMaps.{at_name};
 ghost use Rattle.sap_cycle.specs.Known.{Knows, IsKnown, IsKnownMemory, IsKnownOperand, IsKnownRight, slot_found, width_found, part_found, base_found, step_found, parts_found};
 
 use crate::places::{place_of, put};
@@ -59,7 +59,7 @@ pub fn learn_registers(
 fn place(known: &Known, name: &Name) -> usize
     requires { IsKnown known.now name.now }
     ensures within { result < length known.now.widths.items }
-    ensures is { result ≡ unwrap_or (place_in known.now.places name.now) 0 }
+    ensures is { result ≡ unwrap_or (at_name known.now.places name.now) 0 }
 {
     match place_of(&known.places, name.as_bytes()) {
         Some(place) => place,

@@ -1,7 +1,8 @@
 //! Names by their places in a list.
 
 ghost use Rattle.std.specs.Prelude.{◌≡◌, List, ℕ, ◌++◌, [], ◌∷◌, length, OnOk};
-ghost use Rattle.sap_cycle.specs.Places.{Finds, place_in};
+ghost use Rattle.sap_net.specs.NameMaps.{at_name};
+ghost use Rattle.sap_cycle.specs.Places.{Finds};
 
 use sap_net::parts::Name;
 use std::alloc::{AllocError, Global};
@@ -23,7 +24,7 @@ pub fn put(
 
 /// The place of a name.
 pub fn place_of(places: &HashMap<Vec<u8>, usize>, name: &[u8]) -> Option<usize>
-    ensures { result ≡ place_in places.now name.now }
+    ensures { result ≡ at_name places.now name.now }
 {
     places.get(name).copied()
 }

@@ -23,6 +23,7 @@ use Rattle.sap_tagged.specs.Keys.{Wire}
 use Rattle.sap_tagged.specs.Setting.{Setting}
 use Rattle.sap_tagged.specs.Levels.{var}
 use Rattle.sap_tagged.specs.Commands.{gives, pick_width, picks_arm, picks, decides}
+use Rattle.sap_terms.proofs.Alone.{alone, alone_next, alone_past, counted}
 
 module _ (d : Setting) where
   -- in front of others

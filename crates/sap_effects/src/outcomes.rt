@@ -20,9 +20,10 @@ use crate::raises::reset_below;
 use sap_ir::guarded::Calc;
 use sap_ir::plain::nested::PlainCmd;
 use sap_program::program::{Number, Step};
+use sap_program::spot::Spot;
 use sap_terms::calcs::{entity_width, expr, is_dynamic, is_register, lub, tag_variable};
 use sap_terms::names::{state_name, value_name};
-use sap_terms::setting::{Setting, Spot};
+use sap_terms::setting::Setting;
 use std::alloc::{AllocError, Global};
 
 /// A 0 of an entity's width.

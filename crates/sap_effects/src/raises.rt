@@ -17,9 +17,10 @@ use crate::pushes::{push, set_tag, wire_variable};
 use sap_ir::guarded::Act;
 use sap_ir::plain::nested::PlainCmd;
 use sap_program::program::{Sort, Step};
+use sap_program::spot::Spot;
 use sap_terms::calcs::{bits, is_dynamic, is_memory, is_state, lub, tag_variable};
 use sap_terms::names::first_name;
-use sap_terms::setting::{Setting, Spot};
+use sap_terms::setting::Setting;
 use std::alloc::{AllocError, Global};
 
 /// The tag of an entity becomes its join with the level in a wire.

@@ -2,7 +2,7 @@
 use Rattle.std.proofs.Common.{◌≡◌, ℕ, List, [], ◌∷◌, ◌++◌, Option, Some, None, true, false, sym, ap, subst, refl, arith, inl, inr}
 use Rattle.std.specs.Prelude.{if◌then◌else◌}
 use Rattle.std.specs.Str.{bytes_eq}
-use Rattle.std.specs.List.{AllByRecursion}
+use Rattle.std.specs.List.{AllByRecursion, AllZip}
 use Rattle.std.proofs.lemmas.Bool.{cases_Bool}
 use Rattle.sap_lemmas.proofs.Texts.{bytes_eq_apart_back}
 use Rattle.sap_maps.specs.Maps.{Name, Valuation}
@@ -24,7 +24,7 @@ use Rattle.sap_ir.specs.Plain.Writes.{child_writes, cycle_writes, PlainWritesOnc
 use Rattle.sap_ir.specs.Plain.IsPlain.{IsPlain}
 use Rattle.sap_flat.specs.Gates.{gate_name}
 use Rattle.sap_flat.specs.Flat.{flat_gates, flat_group, flattened}
-use Rattle.sap_flat.specs.Same.{SameNumbers, AllSame, RunsAlike}
+use Rattle.sap_flat.specs.Same.{SameNumbers, RunsAlike}
 use Rattle.sap_flat.proofs.Runs.{Runs, runs_append}
 use Rattle.sap_flat.proofs.Alike.{Alike, Zero, seat_found}
 use Rattle.sap_flat.proofs.Group.{on_group, gates_on}
@@ -159,7 +159,7 @@ cycle_same p h b c sb xs =
 
 -- runs
 
-runs_same : (p : Nested) → IsPlain p → (b c : Option Valuation) → SameBefore p b c → (xss : List (List ℕ)) → AllSame p (flat.run_after (flattened p) b xss) (plain.run_after p c xss)
+runs_same : (p : Nested) → IsPlain p → (b c : Option Valuation) → SameBefore p b c → (xss : List (List ℕ)) → AllZip (SameNumbers p) (flat.run_after (flattened p) b xss) (plain.run_after p c xss)
 runs_same p h b c sb [] = tt
 runs_same p h b c sb (xs ∷ xss) =
     let e = cycle_same p h b c sb xs in

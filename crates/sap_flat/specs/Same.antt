@@ -1,6 +1,6 @@
 -- What the flat program of nested states declares, and whose numbers its runs have.
-use Rattle.std.specs.Prelude.{◌≡◌, ℕ, true, List, [], ◌∷◌, ◌++◌}
-use Rattle.std.specs.List.{AllByRecursion}
+use Rattle.std.specs.Prelude.{◌≡◌, ℕ, true, List, ◌++◌}
+use Rattle.std.specs.List.{AllByRecursion, AllZip}
 use Rattle.sap_maps.specs.Maps.{Valuation}
 use Rattle.sap_ir.specs.declared.guarded.Var.{Var}
 use Rattle.sap_ir.specs.Source.{Source}
@@ -27,13 +27,6 @@ pub record SameNumbers (p : Nested) (v w : Valuation) : Type 0 where
   pub wires : AllByRecursion (λ x. v.value x.name ≡ w.value x.name) p.wires
   pub memories : AllByRecursion (λ m. (i : ℕ) → v.cell m.name i ≡ w.cell m.name i) p.memories
 
--- in each cycle
-abbrev pub AllSame : Nested → List Valuation → List Valuation → Type 0
-AllSame p [] [] = Unit {0}
-AllSame p [] (w ∷ ws) = ⊥
-AllSame p (v ∷ vs) [] = ⊥
-AllSame p (v ∷ vs) (w ∷ ws) = SameNumbers p v w × AllSame p vs ws
-
--- On all inputs the run of the flat program has the numbers of the nested states' run.
+-- On all inputs the run of the flat program has in each cycle the numbers of the nested states' run.
 abbrev pub RunsAlike : Nested → Source → Type 0
-RunsAlike p s = (xss : List (List ℕ)) → AllSame p (guarded_run s xss) (plain_run p xss)
+RunsAlike p s = (xss : List (List ℕ)) → AllZip (SameNumbers p) (guarded_run s xss) (plain_run p xss)

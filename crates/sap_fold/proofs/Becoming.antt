@@ -1,28 +1,29 @@
 -- Right sides that become others over the same wires and perhaps more.
-use Rattle.std.proofs.Common.{◌≡◌, ℕ, ◌^◌, ◌<◌, ◌==◌, List, [], ◌++◌, Some, Bool, true, false, sym, ap, ◌∙◌, subst, refl, inl, inr, arith, append_assoc, append-nil}
-use Rattle.std.specs.Prelude.{if◌then◌else◌, bit_and, bit_or}
-use Rattle.std.specs.Int.Bits.{and_zero_l, or_zero_l}
+use Rattle.std.proofs.Common.{◌≡◌, ℕ, ◌^◌, ◌<◌, ◌==◌, List, [], ◌++◌, Bool, false, sym, ap, ◌∙◌, subst, refl, inl, inr, arith, append_assoc, append-nil}
+use Rattle.std.specs.Prelude.{bit_and, bit_or}
+use Rattle.std.specs.Int.Bits.{and_zero_l}
 use Rattle.std.proofs.lemmas.Nat.{and_comm, or_comm}
 use Rattle.std.proofs.lemmas.Bool.{cases_Bool}
 use Rattle.sap_lemmas.proofs.Numbers.{positive_of_test, zero_of_test}
-use Rattle.sap_bits.specs.Arithmetic.{value2, width2}
+use Rattle.sap_bits.specs.Arithmetic.{value2}
 use Rattle.sap_bits.specs.declared.Op2.{Op2}
 use Rattle.sap_bits.specs.declared.Op2.TheVariants.{And, Or}
-use Rattle.sap_maps.specs.Maps.{Name, Valuation}
-use Rattle.sap_maps.specs.Scope.{Scope, find}
+use Rattle.sap_maps.specs.Maps.{Name}
+use Rattle.sap_maps.specs.Scope.{Scope}
 use Rattle.sap_maps.specs.Term.{CountFits}
 use Rattle.sap_net.specs.declared.parts.Operand.{Operand}
 use Rattle.sap_net.specs.declared.parts.Right.{Right}
-use Rattle.sap_net.specs.declared.parts.Right.TheVariants.{Copy, Two, Choose}
+use Rattle.sap_net.specs.declared.parts.Right.TheVariants.{Two, Choose}
 use Rattle.sap_net.specs.declared.parts.Wire.{Wire}
-use Rattle.sap_net.specs.Rules.{Shapes, IsWidth, IsOperand, IsRight, AreWires, readable_after}
-use Rattle.sap_net.specs.Values.{operand_value, operand_width, right_value}
+use Rattle.sap_net.specs.Rules.{Shapes, IsOperand, IsRight, readable_after}
+use Rattle.sap_net.specs.Values.{operand_value, operand_width}
 use Rattle.sap_net.proofs.Within.{operand_below}
-use Rattle.sap_fold.specs.Equals.{Over, Equals}
+use Rattle.sap_net.proofs.RulesLemmas.{operand_grows}
+use Rattle.sap_fold.specs.Equals.{Equals}
 use Rattle.sap_fold.specs.Wires.{Provides}
-use Rattle.sap_fold.specs.Gives.{Numbers, TakenApart, Provided, Grown, Gives, Becomes, ArmGives}
+use Rattle.sap_fold.specs.Gives.{Gives, Becomes, ArmGives}
 use Rattle.sap_fold.specs.Under.{number, is_and, IsBitwise, Under}
-use Rattle.sap_fold.proofs.Provided.{Grows, operand_grows, provided, provided_value, grows_more, over_first}
+use Rattle.sap_fold.proofs.Provided.{provided, provided_value, grows_more, over_first}
 use Rattle.sap_fold.proofs.Folds.{KeepsWidth, SameWidths, bit_cases, one_or}
 
 -- a right side that is provided gives its operand

@@ -1,9 +1,8 @@
 -- Names on lists, and what is found under them.
-use Rattle.std.proofs.Common.{◌≡◌, List, [], ◌∷◌, ◌++◌, ◌||◌, filter, Some, None, Bool, true, false, sym, ap, ◌∙◌, subst, refl, inl, inr}
+use Rattle.std.proofs.Common.{◌≡◌, List, [], ◌∷◌, ◌++◌, ◌||◌, filter, Some, None, Bool, true, false, sym, ap, ◌∙◌, refl, inl, inr}
 use Rattle.std.specs.Str.{bytes_eq}
 use Rattle.std.specs.List.{AllByRecursion}
 use Rattle.std.proofs.lemmas.Bool.{cases_Bool, or_parts}
-use Rattle.sap_lemmas.proofs.Texts.{equal_of_bytes_eq}
 use Rattle.sap_net.proofs.NamesLemmas.{among_append}
 use Rattle.sap_maps.specs.Maps.{Name}
 use Rattle.sap_maps.specs.Scope.{find}
@@ -57,14 +56,6 @@ filter_within f g (x ∷ xs) h =
             | inl a ↦ rw (a, e) (filter_within f g xs h)
             | inr b ↦ rw (b, e) (filter_within f g xs h)
           ]
-    ]
-
-pub among_each : (P : Name → Type 0) (xs : List Name) → AllByRecursion P xs → (n : Name) → is_among n xs ≡ true → P n
-among_each P [] a n h = absurd (cc)
-among_each P (x ∷ xs) a n h =
-    elim (cases_Bool (bytes_eq n x)) [
-      | inl t ↦ subst P (sym (equal_of_bytes_eq n x t)) a.0
-      | inr f ↦ among_each P xs a.1 n (rw f at h)
     ]
 
 -- names and what is found under them

@@ -1,38 +1,30 @@
 -- One more wire, or one that is there: the wires fit, and the operand has the right side's value.
-use Rattle.std.proofs.Common.{◌≡◌, ℕ, ◌+◌, ◌^◌, ◌<◌, ◌≤◌, List, [], ◌∷◌, ◌++◌, Some, None, Bool, true, false, sym, ap, ◌∙◌, subst, inl, inr, arith, append-nil}
-use Rattle.std.specs.Prelude.{◌⊎◌}
+use Rattle.std.proofs.Common.{◌≡◌, ℕ, ◌+◌, ◌^◌, ◌<◌, ◌≤◌, List, [], ◌∷◌, ◌++◌, Some, None, Bool, false, sym, ap, ◌∙◌, subst, inl, inr, arith, append-nil}
 use Rattle.std.specs.Str.{bytes_eq}
 use Rattle.std.specs.List.{AllByRecursion}
 use Rattle.std.proofs.lemmas.Bool.{cases_Bool}
 use Rattle.sap_lemmas.proofs.Everywhere.{all_append, all_follow}
-use Rattle.sap_net.proofs.RulesLemmas.{readable_both, readable_kept, wires_both}
+use Rattle.sap_net.proofs.RulesLemmas.{readable_both, readable_kept, wires_both, Grows}
 use Rattle.sap_maps.specs.Maps.{Name, Valuation}
 use Rattle.sap_maps.specs.Scope.{Scope, find}
 use Rattle.sap_maps.proofs.Scopes.{found_here}
 use Rattle.sap_net.specs.declared.parts.Operand.{Operand}
-use Rattle.sap_net.specs.declared.parts.Operand.TheVariants.{Named, Constant}
+use Rattle.sap_net.specs.declared.parts.Operand.TheVariants.{Named}
 use Rattle.sap_net.specs.declared.parts.Right.{Right}
 use Rattle.sap_net.specs.declared.parts.Right.TheVariants.{Copy, One, Two, Choose, Concat, Slice, Cell}
 use Rattle.sap_net.specs.declared.parts.Wire.{Wire}
-use Rattle.sap_net.specs.Rules.{Shapes, IsWidth, IsOperand, AreOperands, IsRight, AreWires, readable_after}
+use Rattle.sap_net.specs.Rules.{Shapes, IsWidth, IsOperand, IsRight, AreWires, readable_after}
 use Rattle.sap_net.specs.Values.{operand_value, right_value, Holds}
 use Rattle.sap_share.specs.Keys.{key}
 use Rattle.sap_share.specs.Names.{helper}
 use Rattle.sap_share.specs.Rights.{rights}
 use Rattle.sap_fold.specs.Wires.{AddsNew, IsThere, Adds, Provides}
 use Rattle.sap_fold.specs.Equals.{Over}
-use Rattle.sap_fold.specs.Gives.{Numbers, Each, TakenApart, Provided}
+use Rattle.sap_fold.specs.Gives.{Numbers, TakenApart, Provided}
 use Rattle.sap_share.proofs.Found.{known, known_readable}
 use Rattle.sap_share.proofs.Helpers.{helpers_differ}
 
 -- scopes of more and more wires
-
-abbrev pub Grows : Scope → Scope → Type 0
-Grows sc sd = (n : Name) (u : ℕ) → find sc n ≡ Some u → find sd n ≡ Some u
-
-pub operand_grows : (sc sd : Scope) → Grows sc sd → (u : ℕ) (o : Operand) → IsOperand sc u o → IsOperand sd u o
-operand_grows sc sd g u (Named n) h = g n u h
-operand_grows sc sd g u (Constant w x) h = h
 
 pub wires_first : (ms : Shapes) (ws xs : List Wire) (sc : Scope) → AreWires ms sc (ws ++ xs) → AreWires ms sc ws × AreWires ms (readable_after sc ws) xs
 wires_first ms [] xs sc f = (tt, f)

@@ -9,7 +9,7 @@ use Rattle.std.proofs.lemmas.Bool.{cases_Bool}
 use Rattle.sap_lemmas.proofs.Texts.{bytes_eq_alike, bytes_eq_apart, bytes_eq_apart_back, bytes_eq_same, equal_of_bytes_eq}
 use Rattle.sap_maps.specs.Maps.{Name}
 use Rattle.sap_fold.specs.Names.{NameSet, holds}
-use Rattle.sap_share.proofs.Maps.{same_bytes}
+use Rattle.sap_net.proofs.NameMaps.{same_bytes}
 
 keys_kept : {K : Type 0} (eq : K → K → Bool) (test : K → Bool) (old new : List K) → set.KeepsOthers eq test old new → (other : K → Bool) → IsKeyTest eq other → AreApart test other → list_any other new ≡ list_any other old
 unfolding set.KeepsOthers

@@ -29,7 +29,7 @@ use Rattle.sap_gen.specs.Stream.{cycle_count, generated_stream}
 use Rattle.sap_gen.specs.Text.{generated_run, refusal_count, row_of_cycle, row_shown, summary, text_over}
 use Rattle.sap_resolve.specs.Fill.{filled_group, program_of, table}
 use Rattle.sap_resolve.specs.Resolve as resolve
-use Rattle.sap_shape.specs.Sites.{Context, simple_sites, command_sites, block_sites, state_sites}
+use Rattle.sap_shape.specs.Sites.{Surroundings, simple_sites, command_sites, block_sites, state_sites}
 use Rattle.sap_resolve.specs.Terms.{entity_number, level_term, level_terms, term_of}
 use Rattle.sap_resolve.specs.Worlds.{all_declared, authority_level, authority_of, declared, declared_level, group_entities, group_children, group_length, is_dynamic_kind, level_number, no_children, position, state_entities, states_below, states_in, world_of}
 
@@ -97,7 +97,7 @@ module _ (l m : Levels) (names : l.names ≡ m.names) (order : order_of l ≡ or
     tags_same es (AndTag t NoTag) = tag_same es t
     tags_same es (AndTag t (AndTag u parts)) = ap₂ program.both (tag_same es t) (tags_same es (AndTag u parts))
 
-  step_same : (h : Context) (n : ℕ) (k : SimpleCommand) → resolve.step_of l h n k ≡ resolve.step_of m h n k
+  step_same : (h : Surroundings) (n : ℕ) (k : SimpleCommand) → resolve.step_of l h n k ≡ resolve.step_of m h n k
   step_same h n (Assign target e) = refl
   step_same h n (Write target index e) = refl
   step_same h n (SetTag place target tag) = ap (program.Retag n (entity_number h.entities target.name)) (tag_same h.entities tag)
@@ -107,7 +107,7 @@ module _ (l m : Levels) (names : l.names ≡ m.names) (order : order_of l ≡ or
   step_same h n (Fall place) = refl
 
   mutual
-    command_same : (h : Context) (k : ℕ) (c : Command) → resolve.command_of l h k c ≡ resolve.command_of m h k c
+    command_same : (h : Surroundings) (k : ℕ) (c : Command) → resolve.command_of l h k c ≡ resolve.command_of m h k c
     command_same h k (Do c) = ap program.Do (step_same h (resolve.site_number h k c) c)
     command_same h k (Try c place handler) =
         ap₂ (λ (s : program.Step) (b : Block). program.Try s [] b) (step_same h (resolve.site_number h k c) c) (block_same h (k + length (simple_sites h c)) handler)
@@ -120,19 +120,19 @@ module _ (l m : Levels) (names : l.names ≡ m.names) (order : order_of l ≡ or
         (block_same h (k + length (simple_sites h c) + length (block_sites h accepted)) refused)
     command_same h k (Case place e arms) = ap (λ (list : program.Arms). program.Case [] (term_of h.entities e None) list) (arms_same h k arms)
 
-    arms_same : (h : Context) (k : ℕ) (arms : Arms) → resolve.arms_of l h k arms ≡ resolve.arms_of m h k arms
+    arms_same : (h : Surroundings) (k : ℕ) (arms : Arms) → resolve.arms_of l h k arms ≡ resolve.arms_of m h k arms
     arms_same h k (Last b) = ap program.Last (block_same h k b)
     arms_same h k (Arm constants b arms) =
         ap₂ (λ (x : Block) (list : program.Arms). program.Arm (resolve.numbers_of constants) x list) (block_same h k b) (arms_same h (k + length (block_sites h b)) arms)
 
-    block_same : (h : Context) (k : ℕ) (b : CommandBlock) → resolve.block_of l h k b ≡ resolve.block_of m h k b
+    block_same : (h : Surroundings) (k : ℕ) (b : CommandBlock) → resolve.block_of l h k b ≡ resolve.block_of m h k b
     block_same h k (Commands cs after) = list_same h k cs
 
-    else_same : (h : Context) (k : ℕ) (b : ElseBlock) → resolve.else_of l h k b ≡ resolve.else_of m h k b
+    else_same : (h : Surroundings) (k : ℕ) (b : ElseBlock) → resolve.else_of l h k b ≡ resolve.else_of m h k b
     else_same h k NoElse = refl
     else_same h k (Else b) = block_same h k b
 
-    list_same : (h : Context) (k : ℕ) (cs : CommandList) → resolve.list_of l h k cs ≡ resolve.list_of m h k cs
+    list_same : (h : Surroundings) (k : ℕ) (cs : CommandList) → resolve.list_of l h k cs ≡ resolve.list_of m h k cs
     list_same h k NoCommand = refl
     list_same h k (AndCommand c cs) =
         ap₂ (λ (x : program.Command) (b : Block). program.Then x b) (command_same h k c) (list_same h (k + length (command_sites h c)) cs)

@@ -12,7 +12,8 @@ use Rattle.sap_tree.specs.declared.syntax.Decl.{Decl}
 use Rattle.sap_tree.specs.declared.syntax.State.{State}
 use Rattle.sap_tree.specs.Parts.{tree_of}
 use Rattle.sap_tree.specs.declared.version.Version.TheVariants.{One}
-use Rattle.sap_gen.specs.Design.{assignment, body, commands, declared_input, declared_register, design_of_counts, state, states, transfer}
+use Rattle.sap_gen.specs.Design.{assignment, body, declared_input, declared_register, design_of_counts, state, transfer}
+use Rattle.sap_tree.specs.Making.{commands, states}
 
 -- one more is added to what a range gives
 pub one_more : {A B : Type 0} (seen : A → B) (f : ℕ → B) (old new : List A) (x : A) (n : ℕ) → map seen old ≡ map f (range_with_len 0 n) → new ≡ old ++ x ∷ [] → seen x ≡ f n

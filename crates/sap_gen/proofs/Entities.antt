@@ -14,7 +14,8 @@ use Rattle.sap_names.specs.declared.kind.Declared.TheVariants as what
 use Rattle.sap_names.specs.declared.entity.Entity.{Entity}
 use Rattle.sap_names.specs.Entities.{declared_in, entities_of, entity_of, find, group_entities, what_is}
 use Rattle.sap_names.specs.NameFaults.{fault_if, is_declared, twice}
-use Rattle.sap_gen.specs.Design.{declared_input, declared_register, design_of_counts, input_name, mention, register_name, state, state_name, states}
+use Rattle.sap_gen.specs.Design.{declared_input, declared_register, design_of_counts, input_name, register_name, state, state_name}
+use Rattle.sap_tree.specs.Making.{named, states}
 use Rattle.sap_gen.proofs.Words.{registers_differ, states_differ}
 
 -- those of k registers from the a-th on, and of k states
@@ -31,7 +32,7 @@ abbrev pub register_entity : ℕ → Entity
 register_entity i = entity_of (declared_register i)
 
 abbrev pub state_entity : ℕ → Entity
-state_entity j = record { name = mention (state_name j); what = what.State; dynamic = false }
+state_entity j = record { name = named (state_name j); what = what.State; dynamic = false }
 
 -- a name among entities
 

@@ -11,7 +11,8 @@ use Rattle.sap_names.specs.declared.kind.Declared.TheVariants as d
 use Rattle.sap_names.specs.Entities.{Lookup, entities_of, what_is}
 use Rattle.sap_names.specs.NameFaults.{command_faults, commands_faults, declaration_faults, declarations_faults, design_name_faults, kind_faults, simple_faults, states_faults}
 use Rattle.sap_gen.specs.Diamond.{level_names}
-use Rattle.sap_gen.specs.Design.{assignment, commands, declared_register, design_of_counts, enforced, input_name, mention, register_name, state, state_name, states, transfer}
+use Rattle.sap_gen.specs.Design.{assignment, declared_register, design_of_counts, input_name, register_name, state, state_name, transfer}
+use Rattle.sap_tree.specs.Making.{commands, enforced, named, states}
 use Rattle.sap_gen.proofs.Entities.{each_once, what_input, what_register, what_state}
 
 pub none_of : (xs ys : List Fault) → xs ≡ [] → ys ≡ [] → xs ++ ys ≡ []
@@ -32,10 +33,10 @@ registers_faultless le a (suc k) =
 -- commands
 
 sum_faultless : (what : Lookup) (target operand input : List ℕ) → what target ≡ Some (d.Register 8) → what operand ≡ Some (d.Register 8) → what input ≡ Some (d.Input 8)
-    → simple_faults level_names what (Assign (mention target) (Binary no_spot Add (Read no_spot operand) (Read no_spot input))) ≡ []
+    → simple_faults level_names what (Assign (named target) (Binary no_spot Add (Read no_spot operand) (Read no_spot input))) ≡ []
 sum_faultless what target operand input a b c = rw (a, b, c) refl
 
-goto_faultless : (what : Lookup) (target : List ℕ) → what target ≡ Some d.State → simple_faults level_names what (Goto nowhere (mention target)) ++ [] ≡ []
+goto_faultless : (what : Lookup) (target : List ℕ) → what target ≡ Some d.State → simple_faults level_names what (Goto nowhere (named target)) ++ [] ≡ []
 goto_faultless what target a = rw a refl
 
 module _ (r t : ℕ) (some : 0 < r) (more : 0 < t) (what : Lookup) (input : what input_name ≡ Some (d.Input 8)) (registers : (i : ℕ) → i < r → what (register_name i) ≡ Some (d.Register 8)) (places : (j : ℕ) → j < t → what (state_name j) ≡ Some d.State) where

@@ -7,7 +7,8 @@ use Rattle.sap_meaning.specs.State.{AllFit, InputsFit, input_widths}
 use Rattle.sap_resolve.specs.Fill.{program_of}
 use Rattle.sap_resolve.specs.Worlds.{all_declared, group_entities, states_in}
 use Rattle.sap_gen.specs.Diamond.{level_names}
-use Rattle.sap_gen.specs.Design.{declared_register, design_of_counts, state, states}
+use Rattle.sap_gen.specs.Design.{declared_register, design_of_counts, state}
+use Rattle.sap_tree.specs.Making.{states}
 use Rattle.sap_gen.specs.Stream.{given}
 
 no_input_among_registers : (ls : Levels) (a k : ℕ) (rest : List Entity) → input_widths (all_declared ls (map declared_register (range_with_len a k)) ++ rest) ≡ input_widths rest

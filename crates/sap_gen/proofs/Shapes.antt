@@ -15,7 +15,8 @@ use Rattle.sap_shape.specs.Closing.{closing_list_faults, is_end}
 use Rattle.sap_shape.specs.ShapeFaults.{Body, HasShape, is_among, list_shape, states_shape}
 use Rattle.sap_shape.specs.Walk.{Written, falls_list, fresh, second_list, second_states}
 use Rattle.sap_shape.proofs.Again.{no_faults}
-use Rattle.sap_gen.specs.Design.{assignment, commands, design_of_counts, enforced, state, state_name, states, transfer}
+use Rattle.sap_gen.specs.Design.{assignment, design_of_counts, state, state_name, transfer}
+use Rattle.sap_tree.specs.Making.{commands, enforced, states}
 use Rattle.std.specs.Prelude.{codes}
 use Rattle.sap_lemmas.proofs.Texts.{bytes_eq_same}
 use Rattle.sap_gen.proofs.Faultless.{none_of}

@@ -14,7 +14,8 @@ use Rattle.sap_tree.specs.Words.{is_name}
 use Rattle.sap_tree.specs.declared.syntax.Decl.{Decl}
 use Rattle.sap_tree.specs.declared.syntax.Kind.TheVariants.{Dynamic}
 use Rattle.sap_tree.specs.declared.version.Version.TheVariants.{One}
-use Rattle.sap_gen.specs.Design.{assignment, commands, declared_input, declared_register, design_of_counts, enforced, input_name, register_name, state, states, sum, transfer}
+use Rattle.sap_gen.specs.Design.{assignment, declared_input, declared_register, design_of_counts, input_name, register_name, state, sum, transfer}
+use Rattle.sap_tree.specs.Making.{commands, enforced, states}
 use Rattle.sap_gen.proofs.Words.{register_is_name, state_is_name}
 
 -- declarations

@@ -2,14 +2,14 @@
 use Rattle.std.specs.Prelude.{ℕ, ◌+◌, ◌%◌, ◌==◌, List, [], ◌∷◌, ◌++◌, None, map, codes, if◌then◌else◌}
 use Rattle.std.specs.Fmt.{decimal}
 use Rattle.sap_lattice.specs.Levels.{numbers}
+use Rattle.sap_tree.specs.Making.{named, numeral, read, enforced, block, states}
 use Rattle.sap_tree.specs.Bare.{nowhere, no_spot}
-use Rattle.sap_tree.specs.Syntax.{Expression, Read, Binary, Assign, Goto, Command, Do, CommandBlock, Commands, CommandList, NoCommand, AndCommand, StateTree, StateOf, StateList, NoState, AndState, DesignTree}
-use Rattle.sap_tree.specs.declared.name.Mention.{Mention}
+use Rattle.sap_tree.specs.Syntax.{Expression, Binary, Assign, Goto, Command, Do, CommandBlock, StateTree, StateOf, NoState, DesignTree}
 use Rattle.sap_tree.specs.declared.syntax.BinaryOperator.TheVariants.{Add}
 use Rattle.sap_tree.specs.declared.syntax.Decl.{Decl}
 use Rattle.sap_tree.specs.declared.syntax.Decl.TheVariants.{Input, Register}
 use Rattle.sap_tree.specs.declared.syntax.Kind.{Kind}
-use Rattle.sap_tree.specs.declared.syntax.Kind.TheVariants.{Dynamic, Enforced}
+use Rattle.sap_tree.specs.declared.syntax.Kind.TheVariants.{Dynamic}
 use Rattle.sap_tree.specs.declared.syntax.Numeral.{Numeral}
 use Rattle.sap_tree.specs.declared.version.Version.TheVariants.{One}
 
@@ -30,19 +30,13 @@ register_name i = codes "x" ++ decimal i
 abbrev pub state_name : ℕ → List ℕ
 state_name j = codes "S" ++ decimal j
 
-abbrev pub mention : List ℕ → Mention
-mention name = record { place = nowhere; name = name }
-
 -- the one width
 abbrev pub eight_bits : Numeral
-eight_bits = record { place = nowhere; value = 8 }
-
-abbrev pub enforced : (level : List ℕ) → Kind
-enforced level = Enforced (mention level) None
+eight_bits = numeral 8
 
 -- input d : 8;
 abbrev pub declared_input : Decl
-declared_input = Input nowhere (mention input_name) eight_bits
+declared_input = Input nowhere (named input_name) eight_bits
 
 -- xI is dynamic where I is even, and else enforced at a
 abbrev pub register_kind : (i : ℕ) → Kind
@@ -50,34 +44,26 @@ register_kind i = if i % 2 == 0 then Dynamic nowhere else enforced (codes "a")
 
 -- reg xI : 8 KIND;
 abbrev pub declared_register : (i : ℕ) → Decl
-declared_register i = Register nowhere (mention (register_name i)) eight_bits (register_kind i) None
+declared_register i = Register nowhere (named (register_name i)) eight_bits (register_kind i) None
 
 -- xK + d
 abbrev pub sum : (k : ℕ) → Expression
-sum k = Binary no_spot Add (Read no_spot (register_name k)) (Read no_spot input_name)
+sum k = Binary no_spot Add (read (register_name k)) (read input_name)
 
 -- of r registers, in the state Sj: xI := xK + d; with K = (i + j) mod r
 abbrev pub assignment : (r j i : ℕ) → Command
-assignment r j i = Do (Assign (mention (register_name i)) (sum ((i + j) % r)))
+assignment r j i = Do (Assign (named (register_name i)) (sum ((i + j) % r)))
 
 -- of t states, in the state Sj: goto SM; with M = (j + 1) mod t
 abbrev pub transfer : (t j : ℕ) → Command
-transfer t j = Do (Goto nowhere (mention (state_name ((j + 1) % t))))
-
-abbrev pub commands : List Command → CommandList
-commands [] = NoCommand
-commands (c ∷ cs) = AndCommand c (commands cs)
+transfer t j = Do (Goto nowhere (named (state_name ((j + 1) % t))))
 
 abbrev pub body : (r t j : ℕ) → CommandBlock
-body r t j = Commands (commands (map (assignment r j) (numbers r) ++ transfer t j ∷ [])) nowhere
+body r t j = block (map (assignment r j) (numbers r) ++ transfer t j ∷ [])
 
 -- state SJ enforced low { an assignment to each register, and the goto }
 abbrev pub state : (r t j : ℕ) → StateTree
-state r t j = StateOf nowhere (mention (state_name j)) (enforced (codes "low")) (body r t j) NoState
-
-abbrev pub states : List StateTree → StateList
-states [] = NoState
-states (s ∷ ss) = AndState s (states ss)
+state r t j = StateOf nowhere (named (state_name j)) (enforced (codes "low")) (body r t j) NoState
 
 -- with r registers and t states
 abbrev pub design_of_counts : (r t : ℕ) → DesignTree

@@ -1,6 +1,6 @@
 -- Generated runs, worked out.
 use Rattle.std.specs.Prelude.{◌≡◌, ◌++◌, codes}
-use Rattle.sap_sim.specs.Labelled.Examples.{line}
+use Rattle.sap_text.specs.Places.{line}
 use Rattle.sap_gen.specs.Design.{register_count, state_count}
 use Rattle.sap_gen.specs.Stream.{cycle_count}
 use Rattle.sap_gen.specs.Text.{generated_text}

@@ -16,12 +16,13 @@ use sap_ir::guarded::Calc;
 use sap_ir::plain::seats;
 use sap_lattice::level::Level;
 use sap_program::program::{State, Step, TagOf};
+use sap_program::spot::Spot;
 use sap_terms::calcs::{
     authority, below_or_at, bits, cell_variable, child_count, enters, expr, is_dynamic, is_number,
     lub, new_tag, tag_of, tag_variable, told_tag, yes,
 };
 use sap_terms::names::seat_name;
-use sap_terms::setting::{Setting, Spot};
+use sap_terms::setting::Setting;
 use std::alloc::{AllocError, Global};
 
 /// What entering a state tells at least.

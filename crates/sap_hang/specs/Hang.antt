@@ -6,7 +6,7 @@ use Rattle.sap_tree.specs.Syntax.{DesignTree}
 use Rattle.sap_tree.specs.Touches.{touches}
 use Rattle.sap_names.specs.declared.entity.Entity.{Entity}
 use Rattle.sap_names.specs.Entities.{entities_of}
-use Rattle.sap_hang.specs.Points.{Point, points_of}
+use Rattle.sap_tree.specs.Points.{Point, points_of}
 
 abbrev pub touches_entity : List Decl → Option Point → Option Entity → Bool
 touches_entity ds None e = false

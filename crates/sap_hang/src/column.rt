@@ -2,8 +2,8 @@
 
 ghost use Rattle.std.specs.Prelude.{◌≡◌, ◌++◌, IfOk, OnOk};
 ghost use Rattle.sap_hang.specs.Columns as columns;
-ghost use Rattle.sap_hang.specs.Columns.{Sees, home_of, touching};
-ghost use Rattle.sap_hang.specs.Points as points;
+ghost use Rattle.sap_hang.specs.Columns.{Sees, home_of, touching, touching_at};
+ghost use Rattle.sap_tree.specs.Points as points;
 ghost use Rattle.sap_tree.specs.Designs.{design_of};
 ghost use Rattle.sap_tree.specs.Touches as tree;
 ghost use Rattle.sap_tree.specs.Trees.{command_of, else_of, simple_of, state_of};
@@ -18,7 +18,7 @@ use std::alloc::{AllocError, Global};
 fn add_simple(seat: &Seat<'_>, command: &Simple, column: &mut Vec<bool>) -> Result<bool, AllocError>
     requires { Sees seat.now }
     ensures touched { IfOk result (λ b. b ≡ tree.simple_touches seat.now.declarations.now (home_of seat.now) (simple_of command.now) seat.now.entity.now) }
-    ensures column { OnOk result (column.new.items ≡ column.old.items ++ touching seat.now.declarations.now seat.now.entity.now (points.simple_points (home_of seat.now) (simple_of command.now))) }
+    ensures column { OnOk result (column.new.items ≡ column.old.items ++ touching seat.now.declarations.now (home_of seat.now) seat.now.entity.now (points.simple_points (simple_of command.now))) }
 {
     let touched = simple_touches(seat, command);
     if let Simple::Fall(_) = command {
@@ -32,7 +32,7 @@ fn add_simple(seat: &Seat<'_>, command: &Simple, column: &mut Vec<bool>) -> Resu
 fn add_command(seat: &Seat<'_>, command: &Cmd, column: &mut Vec<bool>) -> Result<bool, AllocError>
     requires { Sees seat.now }
     ensures touched { IfOk result (λ b. b ≡ tree.touches seat.now.declarations.now (home_of seat.now) (command_of command.now) seat.now.entity.now) }
-    ensures column { OnOk result (column.new.items ≡ column.old.items ++ touching seat.now.declarations.now seat.now.entity.now (points.command_points (home_of seat.now) (command_of command.now))) }
+    ensures column { OnOk result (column.new.items ≡ column.old.items ++ touching seat.now.declarations.now (home_of seat.now) seat.now.entity.now (points.command_points (command_of command.now))) }
 {
     match command {
         Cmd::Do(simple) => add_simple(seat, simple, column),
@@ -101,7 +101,7 @@ fn add_else(
 ) -> Result<bool, AllocError>
     requires { Sees seat.now }
     ensures touched { IfOk result (λ b. b ≡ tree.else_touches seat.now.declarations.now (home_of seat.now) (else_of other.now) seat.now.entity.now) }
-    ensures column { OnOk result (column.new.items ≡ column.old.items ++ touching seat.now.declarations.now seat.now.entity.now (points.else_points (home_of seat.now) (else_of other.now))) }
+    ensures column { OnOk result (column.new.items ≡ column.old.items ++ touching seat.now.declarations.now (home_of seat.now) seat.now.entity.now (points.else_points (else_of other.now))) }
 {
     match other {
         Some(block) => add_list(seat, block.commands.as_slice(), column),
@@ -134,7 +134,7 @@ fn add_state(
     column: &mut Vec<bool>,
 ) -> Result<(), AllocError>
     requires { store ≡ tree.is_dynamic_store declarations.now entity.now }
-    ensures { OnOk result (column.new.items ≡ column.old.items ++ touching declarations.now entity.now (points.state_points (state_of state.now))) }
+    ensures { OnOk result (column.new.items ≡ column.old.items ++ touching_at declarations.now entity.now (points.state_points (state_of state.now))) }
 {
     let children = state.children.as_slice();
     let seat = Seat {
@@ -170,7 +170,7 @@ fn add_states(
 
 /// Whether the entity of this name hangs on each of the points of a design.
 pub(crate) fn column(alloc: Global, design: &Design, entity: &Name) -> Result<Vec<bool>, AllocError>
-    ensures { IfOk result (λ v. v.items ≡ touching (design_of design.now).declarations entity.now (points.points_of (design_of design.now))) }
+    ensures { IfOk result (λ v. v.items ≡ touching_at (design_of design.now).declarations entity.now (points.points_of (design_of design.now))) }
 {
     let declarations = design.declarations.as_slice();
     let store = is_dynamic_store(declarations, entity);

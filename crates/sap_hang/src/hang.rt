@@ -3,7 +3,7 @@
 ghost use Rattle.std.specs.Prelude.{◌≡◌, IfOk};
 ghost use Rattle.sap_hang.specs.Columns.{columns_of, items_of};
 ghost use Rattle.sap_hang.specs.Hang.{IsHangTable};
-ghost use Rattle.sap_hang.specs.Points.{points_of};
+ghost use Rattle.sap_tree.specs.Points.{points_of};
 ghost use Rattle.sap_names.specs.Entities.{entities_of};
 ghost use Rattle.sap_tree.specs.Designs.{design_of};
 

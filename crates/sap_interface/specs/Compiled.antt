@@ -1,5 +1,6 @@
 -- When a netlist stands for a design.
 use Rattle.std.specs.Prelude.{ℕ, List, [], ◌∷◌, map}
+use Rattle.std.specs.List.{AllZip}
 use Rattle.sap_maps.specs.Maps.{Valuation}
 use Rattle.sap_meaning.specs.Cycle.{Tagged}
 use Rattle.sap_meaning.specs.Store.{After}
@@ -19,10 +20,7 @@ coded_stream code stream = map (coded code) stream
 
 -- each cycle of a module stands for the same cycle of a labelled run
 abbrev pub CyclesStand : Named → (sites : ℕ) → List Valuation → List After → Type 0
-CyclesStand d sites [] [] = Unit {0}
-CyclesStand d sites [] (a ∷ rest) = ⊥
-CyclesStand d sites (v ∷ vs) [] = ⊥
-CyclesStand d sites (v ∷ vs) (a ∷ rest) = StandsFor d sites v a.store a.refused × CyclesStand d sites vs rest
+CyclesStand d sites = AllZip (λ (v : Valuation) (a : After). StandsFor d sites v a.store a.refused)
 
 -- It has the interface; and on every stream that fits the design, its levels given as codes, what is seen of its run in each cycle stands for the
 -- same cycle of the labelled run. `tag` is the width of tags.

@@ -1,6 +1,6 @@
 -- Which memories are written in a cycle.
 use Rattle.std.specs.Prelude.{ℕ, ◌^◌, ◌<◌, ◌==◌, Bool, List, [], ◌∷◌, Option, Some, None, if◌then◌else◌}
-use Rattle.std.specs.List.{AllByRecursion}
+use Rattle.std.specs.List.{AllByRecursion, AllZip}
 use Rattle.sap_maps.specs.Maps.{Name, Valuation}
 use Rattle.sap_net.specs.Names.{AreDistinct}
 use Rattle.sap_ir.specs.declared.guarded.Var.{Var}
@@ -30,10 +30,7 @@ WithinBefore s (Some v) = AreWithin s v
 
 -- one number for each input, within its width
 abbrev pub NumbersFit : List Var → List ℕ → Type 0
-NumbersFit [] [] = Unit {0}
-NumbersFit [] (n ∷ ns) = ⊥
-NumbersFit (x ∷ xs) [] = ⊥
-NumbersFit (x ∷ xs) (n ∷ ns) = (n < 2 ^ x.width) × NumbersFit xs ns
+NumbersFit = AllZip (λ (x : Var) (n : ℕ). n < 2 ^ x.width)
 
 -- In no cycle, from any numbers within their widths, is a memory written twice.
 abbrev pub WritesOnce : Source → Type 0

@@ -1,6 +1,7 @@
 pub mod Built
 pub mod Closure
 pub mod Codes
+pub mod Examples
 pub mod Finite
 pub mod Kept
 pub mod Lawful

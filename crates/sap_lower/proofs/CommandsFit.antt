@@ -7,7 +7,7 @@ use Rattle.std.proofs.lemmas.Bool.{cases_Bool}
 use Rattle.std.proofs.lemmas.Bool.Decides.{nat_tests}
 use Rattle.sap_lemmas.proofs.Numbers.{same_power}
 use Rattle.sap_lemmas.proofs.Texts.{equal_of_bytes_eq}
-use Rattle.sap_net.proofs.RulesLemmas.{one_wide}
+use Rattle.sap_net.proofs.RulesLemmas.{one_wide, Grows, operand_grows}
 use Rattle.sap_maps.specs.Maps.{Name}
 use Rattle.sap_maps.specs.Scope.{Scope, find}
 use Rattle.sap_maps.specs.Term.{Term}
@@ -24,7 +24,7 @@ use Rattle.sap_lower.specs.Places.{replaced}
 use Rattle.sap_lower.specs.Commands.{State, no_port, port_of, low_set, low_put, low_action, low_command, low_commands}
 use Rattle.sap_lower.proofs.Stands.{HasEntries, replaced_same, replaced_other, replaced_has}
 use Rattle.sap_lower.proofs.Standing.{ActionOk, CommandOk}
-use Rattle.sap_lower.proofs.Fits.{Fits, NoHelpers, Grows, EnvFits, env_grows, operand_grows, Lowered, plus_at, plus_long, low_long, low_fits}
+use Rattle.sap_lower.proofs.Fits.{Fits, NoHelpers, EnvFits, env_grows, Lowered, plus_at, plus_long, low_long, low_fits}
 
 abbrev pub AllWide : Scope → Type 0
 AllWide vars = (n : Name) (u : ℕ) → find vars n ≡ Some u → IsWidth u

@@ -1,7 +1,7 @@
 -- A cycle of the netlist has the numbers of the program's cycle.
 use Rattle.std.proofs.Common.{◌≡◌, ℕ, ◌^◌, ◌<◌, ◌==◌, ◌&&◌, List, [], ◌∷◌, ◌++◌, map, Option, Some, None, Bool, false, sym, ap, ◌∙◌, subst, refl}
 use Rattle.std.specs.Prelude.{if◌then◌else◌, unwrap_or}
-use Rattle.std.specs.List.{AllByRecursion}
+use Rattle.std.specs.List.{AllByRecursion, AllZip}
 use Rattle.sap_lemmas.proofs.Everywhere.{all_of_map, all_parts, all_second}
 use Rattle.sap_net.proofs.RulesLemmas.{readable_kept}
 use Rattle.sap_maps.specs.Maps.{Name, Valuation}
@@ -29,7 +29,7 @@ use Rattle.sap_lower.specs.declared.parts.WritePort.{WritePort}
 use Rattle.sap_lower.specs.Lowering.{present}
 use Rattle.sap_lower.specs.Commands.{port_of, no_port}
 use Rattle.sap_lower.specs.Lowered.{first_entries, first_port, input_of, listed, out_wire, register_of, memory_of, registers_declared, first_state, last_state, lowered}
-use Rattle.sap_lower.specs.Same.{SameNumbers, AllSame, RunsAlike}
+use Rattle.sap_lower.specs.Same.{SameNumbers, RunsAlike}
 use Rattle.sap_lower.proofs.Shared.{Gives}
 use Rattle.sap_lower.proofs.Means.{Env, SameCells, Around, gives_front, gives_behind}
 use Rattle.sap_lower.proofs.Stands.{HasEntries}
@@ -213,7 +213,7 @@ cycle_seen s k v e same =
       memories = joined_all_at (λ (m : Store) i. (observed n v).cell m.name i) (λ m i. written v (memory_of t.ports m) i) (λ m i. e.cell m.name i) s.memories ms same.after.memories;
     }
 
-run_same : (s : Source) → Known s → WritesOnce s → (xss : List (List ℕ)) (p e : Option Valuation) (vs : List Valuation) → SameBefore s p e → IsRunAfter (lowered s) p xss vs → AllSame s (lowered s) vs (run_after s e xss)
+run_same : (s : Source) → Known s → WritesOnce s → (xss : List (List ℕ)) (p e : Option Valuation) (vs : List Valuation) → SameBefore s p e → IsRunAfter (lowered s) p xss vs → AllZip (SameNumbers s (lowered s)) vs (run_after s e xss)
 run_same s k once [] p e [] b r = tt
 run_same s k once [] p e (v ∷ vs) b r = absurd r
 run_same s k once (xs ∷ xss) p e [] b r = absurd r

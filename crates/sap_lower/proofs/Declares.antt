@@ -70,14 +70,6 @@ filter_same f g (x ∷ xs) h =
       | inr e ↦ let u : f x ≡ false = h x ∙ e in rw (u, e) (filter_same f g xs h)
     ]
 
-pub among_each : (P : Name → Type 0) (xs : List Name) → AllByRecursion P xs → (n : Name) → is_among n xs ≡ true → P n
-among_each P [] a n h = absurd (cc)
-among_each P (x ∷ xs) a n h =
-    elim (cases_Bool (bytes_eq n x)) [
-      | inl t ↦ subst P (sym (equal_of_bytes_eq n x t)) a.0
-      | inr f ↦ among_each P xs a.1 n (rw f at h)
-    ]
-
 pub unported_distinct : (ps xs : List Name) → AreDistinct xs → AreDistinct (unported ps xs)
 unported_distinct ps [] d = tt
 unported_distinct ps (x ∷ xs) d =

@@ -1,13 +1,13 @@
 -- The netlist of a program is a netlist that declares what the program declares.
-use Rattle.std.proofs.Common.{◌≡◌, ℕ, ◌^◌, ◌<◌, ◌||◌, List, [], ◌∷◌, ◌++◌, map, take, length, Some, None, Bool, true, false, sym, ap, ◌∙◌, subst, refl, inl, inr, append_assoc}
+use Rattle.std.proofs.Common.{◌≡◌, ℕ, ◌^◌, ◌<◌, ◌||◌, List, [], ◌∷◌, ◌++◌, map, take, length, Some, None, Bool, true, false, sym, ap, ◌∙◌, subst, refl, inl, inr, append_assoc, ⊎_elim}
 use Rattle.std.specs.Prelude.{codes}
 use Rattle.std.specs.Str.{bytes_eq}
 use Rattle.std.specs.List.{AllByRecursion}
-use Rattle.std.proofs.lemmas.Bool.{cases_Bool}
+use Rattle.std.proofs.lemmas.Bool.{cases_Bool, or_cases}
 use Rattle.sap_lemmas.proofs.Bools.{or_follows}
 use Rattle.sap_lemmas.proofs.Everywhere.{all_append, map_of_all}
 use Rattle.sap_lemmas.proofs.Texts.{bytes_eq_apart_back}
-use Rattle.sap_net.proofs.NamesLemmas.{among_append, among_behind, among_front, distinct_both, each_among, not_found}
+use Rattle.sap_net.proofs.NamesLemmas.{among_append, among_behind, among_front, distinct_both, each_among, not_found, among_each}
 use Rattle.sap_lower.proofs.LoweredLemmas.{ports_named}
 use Rattle.sap_ir.proofs.IsGuardedLemmas.{plain_wide, register_wide, variables_append}
 use Rattle.sap_maps.specs.Maps.{Name}
@@ -15,7 +15,7 @@ use Rattle.sap_maps.specs.Scope.{Scope, find}
 use Rattle.sap_net.specs.Names.{is_name, is_among, AreDistinct}
 use Rattle.sap_net.specs.Rules.{IsWidth, AreWires, readable_after, IsRegister, IsMemory, AreValues}
 use Rattle.sap_net.specs.declared.parts.Wire.{Wire}
-use Rattle.sap_net.specs.IsNetlist.{input_names, register_names, memory_names, readable, PortShows, IsNetlist}
+use Rattle.sap_net.specs.IsNetlist.{input_names, register_names, memory_names, readable, PortShows, IsNetlist, names_of}
 use Rattle.sap_ir.specs.declared.guarded.Var.{Var}
 use Rattle.sap_ir.specs.declared.guarded.Store.{Store}
 use Rattle.sap_ir.specs.Source.{Source}
@@ -23,20 +23,16 @@ use Rattle.sap_ir.specs.Source as source
 use Rattle.sap_ir.specs.IsGuarded as ir
 use Rattle.sap_ir.specs.IsGuarded.{variable_names, declared, IsGuarded, IsRegisterVar, IsStore}
 use Rattle.sap_ir.proofs.Declared.{distinct_front, distinct_behind, apart_lists, apart_lists_back}
-use Rattle.sap_lower.specs.Lowered.{listed, register_of, memory_of, input_port, port_shown, registers_declared, all_wires, wire_list_names, names_declared, last_state, lowered}
+use Rattle.sap_lower.specs.Lowered.{listed, register_of, memory_of, input_port, port_shown, registers_declared, all_wires, names_declared, last_state, lowered}
 use Rattle.sap_lower.proofs.Order.{to_declared}
 use Rattle.sap_lower.proofs.Begins.{scope_of}
-use Rattle.sap_lower.proofs.Declares.{among_each, filter_same}
+use Rattle.sap_lower.proofs.Declares.{filter_same}
 use Rattle.sap_lower.proofs.Netlist.{first_scope, first_found, last_fits}
 use Rattle.sap_lower.proofs.Rules.{first_readable_is, shapes_are, each_variable}
 use Rattle.sap_lower.proofs.Names.{inputs_named, registers_named, memories_named, outs_named, declared_named, declared_among, declared_distinct, wires_new, wires_distinct, new_to_first, new_to_second}
 use Rattle.sap_lower.proofs.Listed.{into_listed, of_listed}
 use Rattle.sap_lower.proofs.Whole.{last_short, wires_are, registers_found, nexts_are, writes_are, grows_to_all, stores_found, values_are, memories_are}
 use Rattle.sap_lower.proofs.Result.{Kinds, names_distinct, names_among, registers_ordered, memories_ordered, take_front, inputs_shown, of_unported}
-
-or_else : (a b : Bool) (P : Type 0) → (a ≡ true → P) → (b ≡ true → P) → (a || b) ≡ true → P
-or_else true b P f g h = f refl
-or_else false b P f g h = g h
 
 -- of two that never hold together
 input_no_memory : (a b : Bool) → (b ≡ true → a ≡ false) → a ≡ true → b ≡ false
@@ -67,7 +63,7 @@ pub distinct_values : (xs ys : List Var) → AreDistinct (variable_names xs) →
 distinct_values xs ys d e h = subst AreDistinct (sym (variables_append xs ys)) (distinct_both (variable_names xs) (variable_names ys) d e h)
 
 -- the kinds of names
-kinds_of : (s : Source) → IsGuarded s → AreWires (source.shapes s) (first_scope s) (all_wires s) → Kinds (variable_names s.inputs) (variable_names s.registers) (variable_names s.wires) (ir.memory_names s.memories) s.ports (wire_list_names (all_wires s))
+kinds_of : (s : Source) → IsGuarded s → AreWires (source.shapes s) (first_scope s) (all_wires s) → Kinds (variable_names s.inputs) (variable_names s.registers) (variable_names s.wires) (ir.memory_names s.memories) s.ports (names_of (all_wires s))
 kinds_of s g w =
     let I = variable_names s.inputs in
     let R = variable_names s.registers in
@@ -77,7 +73,7 @@ kinds_of s g w =
     let d1 = distinct_behind I (R ++ (W ++ M)) d in
     let d2 = distinct_behind R (W ++ M) d1 in
     let new = wires_new (source.shapes s) (all_wires s) (first_scope s) w in
-    let first : (n : Name) → is_among n (wire_list_names (all_wires s)) ≡ true → find (scope_of s.inputs ++ scope_of s.registers) n ≡ None = λ n h. sym (first_found s n) ∙ (new n h).0 in
+    let first : (n : Name) → is_among n (names_of (all_wires s)) ≡ true → find (scope_of s.inputs ++ scope_of s.registers) n ≡ None = λ n h. sym (first_found s n) ∙ (new n h).0 in
     let port : (n : Name) → is_among n s.ports ≡ true → is_among n (R ++ W) ≡ true = λ n h. among_each (λ x. is_among x (R ++ W) ≡ true) s.ports g.ports_declared n h in
     record {
       inputs = distinct_front I (R ++ (W ++ M)) d;
@@ -87,7 +83,7 @@ kinds_of s g w =
       wires = wires_distinct (source.shapes s) (all_wires s) (first_scope s) w;
       port_is = λ n h.
           let e : (is_among n R || is_among n W) ≡ true = sym (among_append n R W) ∙ port n h in
-          or_follows (is_among n R) (is_among n W) (is_among n (wire_list_names (all_wires s))) (λ t. rw (outs_named (last_state s).entries (last_state s).wires (listed s.ports s.wires)) (among_behind n (wire_list_names (last_state s).wires) (variable_names (listed s.ports s.wires)) (into_listed s.ports s.wires n t h))) e;
+          or_follows (is_among n R) (is_among n W) (is_among n (names_of (all_wires s))) (λ t. rw (outs_named (last_state s).entries (last_state s).wires (listed s.ports s.wires)) (among_behind n (names_of (last_state s).wires) (variable_names (listed s.ports s.wires)) (into_listed s.ports s.wires n t h))) e;
       port_no_input = λ n h. apart_lists I (R ++ (W ++ M)) d n (subst (λ (l : List Name). is_among n l ≡ true) (append_assoc R W M) (among_front n (R ++ W) M (port n h)));
       port_no_memory = λ n h. apart_lists_back (R ++ W) M (subst AreDistinct (sym (append_assoc R W M)) d1) n (port n h);
       register_no_input = λ n h. apart_lists I (R ++ (W ++ M)) d n (among_front n R (W ++ M) h);
@@ -98,16 +94,16 @@ kinds_of s g w =
       wire_no_memory = λ n h. no_memory s.memories n (new n h).1;
     }
 
-named_wires : (ws : List Wire) → AllByRecursion (λ w. is_name w.name ≡ true) ws → AllByRecursion (λ x. is_name x ≡ true) (wire_list_names ws)
+named_wires : (ws : List Wire) → AllByRecursion (λ w. is_name w.name ≡ true) ws → AllByRecursion (λ x. is_name x ≡ true) (names_of ws)
 named_wires [] a = tt
 named_wires (w ∷ ws) a = (a.0, named_wires ws a.1)
 
-shows_ports : (s : Source) → Kinds (variable_names s.inputs) (variable_names s.registers) (variable_names s.wires) (ir.memory_names s.memories) s.ports (wire_list_names (all_wires s)) → (ps : List Name) → AllByRecursion (λ x. (is_among x (variable_names s.registers) || is_among x (wire_list_names (all_wires s))) ≡ true) ps → AllByRecursion (λ p. PortShows (lowered s) p.kind p.name) (map (port_shown s.registers) ps)
+shows_ports : (s : Source) → Kinds (variable_names s.inputs) (variable_names s.registers) (variable_names s.wires) (ir.memory_names s.memories) s.ports (names_of (all_wires s)) → (ps : List Name) → AllByRecursion (λ x. (is_among x (variable_names s.registers) || is_among x (names_of (all_wires s))) ≡ true) ps → AllByRecursion (λ p. PortShows (lowered s) p.kind p.name) (map (port_shown s.registers) ps)
 shows_ports s k [] a = tt
 shows_ports s k (p ∷ ps) a = (
   elim (cases_Bool (is_among p (variable_names s.registers))) [
     | inl t ↦ rw t (ap (λ (ns : List Name). is_among p ns) (registers_named (last_state s).entries (registers_declared s)) ∙ declared_among s.registers s.ports p ∙ t)
-    | inr f ↦ let h : (false || is_among p (wire_list_names (all_wires s))) ≡ true = rw f at a.0 in rw f h
+    | inr f ↦ let h : (false || is_among p (names_of (all_wires s))) ≡ true = rw f at a.0 in rw f h
   ],
   shows_ports s k ps a.1,
 )
@@ -125,7 +121,7 @@ lowered_rules s g l =
     let W = variable_names s.wires in
     let M = ir.memory_names s.memories in
     let P = s.ports in
-    let A = wire_list_names (all_wires s) in
+    let A = names_of (all_wires s) in
     let D = registers_declared s in
     let shown = listed s.ports s.wires in
     let fits = last_fits s g (last_short s l) in
@@ -141,9 +137,9 @@ lowered_rules s g l =
     let rw' : (x : Name) → is_among x W ≡ true → is_name x ≡ true = λ x h. among_all x (among_behind x I (R ++ (W ++ M)) (among_behind x R (W ++ M) (among_front x W M h))) in
     let names_a : AllByRecursion (λ x. is_name x ≡ true) A =
     rw (outs_named t.entries t.wires shown)
-    (all_append (λ x. is_name x ≡ true) (wire_list_names t.wires) (variable_names shown) (named_wires t.wires fits.fits.named) (each_among (λ x. is_name x ≡ true) (variable_names shown) (λ x h. rw' x (of_listed s.ports s.wires x h)))) in
+    (all_append (λ x. is_name x ≡ true) (names_of t.wires) (variable_names shown) (named_wires t.wires fits.fits.named) (each_among (λ x. is_name x ≡ true) (variable_names shown) (λ x h. rw' x (of_listed s.ports s.wires x h)))) in
     let ra : (x : Name) → is_among x A ≡ true → is_name x ≡ true = λ x h. among_each (λ y. is_name y ≡ true) A names_a x h in
-    let rp : (x : Name) → is_among x P ≡ true → is_name x ≡ true = λ x h. or_else (is_among x R) (is_among x A) (is_name x ≡ true) (rr x) (ra x) (k.port_is x h) in
+    let rp : (x : Name) → is_among x P ≡ true → is_name x ≡ true = λ x h. ⊎_elim (rr x) (ra x) (or_cases (is_among x R) (is_among x A) (k.port_is x h)) in
     let N = λ (x : Name). is_name x ≡ true in
     let sc = first_readable_is s in
     let sh = shapes_are s in

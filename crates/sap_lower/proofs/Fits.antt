@@ -21,9 +21,10 @@ use Rattle.sap_net.specs.declared.parts.Right.{Right}
 use Rattle.sap_net.specs.declared.parts.Right.TheVariants.{One, Two, Choose, Concat, Slice, Cell}
 use Rattle.sap_net.specs.declared.parts.Wire.{Wire}
 use Rattle.sap_ir.specs.IsGuarded.{TermFine, is_helping}
-use Rattle.sap_share.proofs.Helpers.{helper_is_name}
+use Rattle.sap_share.proofs.Helpers.{helper_is_name, helpers_differ}
 use Rattle.sap_lower.proofs.Helping.{other_name}
 use Rattle.sap_net.specs.Names.{is_name}
+use Rattle.sap_net.proofs.RulesLemmas.{Grows, operand_grows}
 use Rattle.std.specs.List.{AllByRecursion}
 use Rattle.sap_lemmas.proofs.Everywhere.{all_append}
 use Rattle.sap_lemmas.proofs.Texts.{equal_of_bytes_eq}
@@ -51,15 +52,8 @@ pub record Fits (ms : Shapes) (sc : Scope) (ws : List Wire) : Type 0 where
 abbrev pub NoHelpers : Shapes → Type 0
 NoHelpers ms = (k : ℕ) → k < 2 ^ 64 → find ms (helper k) ≡ None
 
-abbrev pub Grows : Scope → Scope → Type 0
-Grows sc sd = (n : Name) (u : ℕ) → find sc n ≡ Some u → find sd n ≡ Some u
-
 abbrev pub EnvFits : (sc vars : Scope) → List (Name × Part) → Type 0
 EnvFits sc vars es = (n : Name) (u : ℕ) → find vars n ≡ Some u → IsOperand sc u (present es n).operand × ((present es n).width ≡ u)
-
-pub operand_grows : (sc sd : Scope) → Grows sc sd → (u : ℕ) (o : Operand) → IsOperand sc u o → IsOperand sd u o
-operand_grows sc sd g u (Named n) h = g n u h
-operand_grows sc sd g u (Constant w x) h = h
 
 pub env_grows : (sc sd vars : Scope) (es : List (Name × Part)) → Grows sc sd → EnvFits sc vars es → EnvFits sd vars es
 env_grows sc sd vars es g e n u h = (operand_grows sc sd g u _ (e n u h).0, (e n u h).1)
@@ -71,14 +65,6 @@ readable_push (x ∷ ws) sc w = readable_push ws ((x.name, x.width) ∷ sc) w
 pub wires_push : (ms : Shapes) (ws : List Wire) (sc : Scope) (w : Wire) → AreWires ms sc ws → IsWidth w.width → find (readable_after sc ws) w.name ≡ None → find ms w.name ≡ None → IsRight ms (readable_after sc ws) w.width w.right → AreWires ms sc (ws ++ w ∷ [])
 wires_push ms [] sc w f i n k r = (i, n, k, r, tt)
 wires_push ms (x ∷ ws) sc w f i n k r = (f.0, f.1, f.2, f.3, wires_push ms ws _ w f.4 i n k r)
-
-helpers_differ : (j k : ℕ) → j < 2 ^ 64 → k < 2 ^ 64 → j < k → bytes_eq (helper j) (helper k) ≡ false
-unfolding helper
-helpers_differ j k a b l =
-    elim (cases_Bool (bytes_eq (helper j) (helper k))) [
-      | inl t ↦ absurd (let e : helper j ≡ helper k = equal_of_bytes_eq (helper j) (helper k) t in let d : decimal j ≡ decimal k = cc in let s : j ≡ k = decimal_injective j k a b d in omega arith)
-      | inr f ↦ f
-    ]
 
 pub record Lowered (ms : Shapes) (sc : Scope) (ws after : List Wire) (p : Part) (u : ℕ) : Type 0 where
   pub fits : Fits ms sc after

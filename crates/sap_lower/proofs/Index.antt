@@ -1,19 +1,21 @@
 -- A map from names to places, as one more name is added.
-use Rattle.std.proofs.Common.{◌≡◌, ℕ, zero, List, [], ◌∷◌, ◌++◌, Option, Some, None, true, false, length, is_some, sym, ap, ◌∙◌, subst, refl, inl, inr}
+use Rattle.std.proofs.Common.{◌≡◌, ℕ, zero, List, [], ◌∷◌, ◌++◌, Option, Some, None, true, false, length, is_some, sym, ap, ◌∙◌, subst, refl, inl, inr, suc}
 use Rattle.std.specs.Prelude.{if◌then◌else◌}
 use Rattle.std.specs.Str.{bytes_eq}
 use Rattle.std.specs.HashMap as hash
 use Rattle.std.proofs.lemmas.Bool.{cases_Bool}
+use Rattle.std.specs.Option.{option_map}
 use Rattle.sap_lemmas.proofs.Texts.{bytes_eq_same, equal_of_bytes_eq}
 use Rattle.sap_lower.proofs.PlacesLemmas.{none_further}
 use Rattle.sap_maps.specs.Maps.{Name}
-use Rattle.sap_share.proofs.Maps.{same_bytes, at_other}
-use Rattle.sap_lower.specs.Places.{one_further, place_in}
-use Rattle.sap_lower.specs.Index.{PlaceMap, at_name, Indexes}
+use Rattle.sap_net.proofs.NameMaps.{same_bytes, at_other}
+use Rattle.sap_net.specs.NameMaps.{at_name, NameMap}
+use Rattle.sap_lower.specs.Places.{place_in}
+use Rattle.sap_lower.specs.Index.{Indexes}
 
-further : (o p : Option ℕ) (k : ℕ) → ((j : ℕ) → o ≡ Some j → p ≡ Some j) → one_further o ≡ Some k → one_further p ≡ Some k
+further : (o p : Option ℕ) (k : ℕ) → ((j : ℕ) → o ≡ Some j → p ≡ Some j) → option_map suc o ≡ Some k → option_map suc p ≡ Some k
 further None p k h e = absurd (cc)
-further (Some j) p k h e = ap one_further (h j refl) ∙ e
+further (Some j) p k h e = ap (option_map suc) (h j refl) ∙ e
 
 place_push_old : (xs : List Name) (y n : Name) (k : ℕ) → place_in xs n ≡ Some k → place_in (xs ++ y ∷ []) n ≡ Some k
 place_push_old [] y n k h = absurd (cc)
@@ -28,21 +30,21 @@ place_push_here [] y h = rw (bytes_eq_same y) refl
 place_push_here (x ∷ xs) y h =
     elim (cases_Bool (bytes_eq x y)) [
       | inl t ↦ absurd (let g : Some zero ≡ None = rw t at h in cc)
-      | inr f ↦ rw f (ap one_further (place_push_here xs y (none_further (place_in xs y) (rw f at h))))
+      | inr f ↦ rw f (ap (option_map suc) (place_push_here xs y (none_further (place_in xs y) (rw f at h))))
     ]
 
 place_push_other : (xs : List Name) (y n : Name) → bytes_eq y n ≡ false → place_in (xs ++ y ∷ []) n ≡ place_in xs n
 place_push_other [] y n f = rw f refl
-place_push_other (x ∷ xs) y n f = ap (λ o. if bytes_eq x n then Some zero else one_further o) (place_push_other xs y n f)
+place_push_other (x ∷ xs) y n f = ap (λ o. if bytes_eq x n then Some zero else option_map suc o) (place_push_other xs y n f)
 
-pub added_new : (m m' : PlaceMap) (names : List Name) (y : Name) (k : ℕ) → at_name m y ≡ None → hash.UpdatesBy same_bytes (λ v. bytes_eq y v.items) m m' (Some k) → length names ≡ k → Indexes m names → Indexes m' (names ++ y ∷ [])
+pub added_new : (m m' : NameMap ℕ) (names : List Name) (y : Name) (k : ℕ) → at_name m y ≡ None → hash.UpdatesBy same_bytes (λ v. bytes_eq y v.items) m m' (Some k) → length names ≡ k → Indexes m names → Indexes m' (names ++ y ∷ [])
 added_new m m' names y k new h l is n =
     elim (cases_Bool (bytes_eq y n)) [
       | inl t ↦ subst (λ (x : Name). at_name m' x ≡ place_in (names ++ y ∷ []) x) (equal_of_bytes_eq y n t) (h.1 ∙ sym (place_push_here names y (sym (is y) ∙ new) ∙ ap Some l))
       | inr f ↦ at_other m m' y (Some k) h n f ∙ is n ∙ sym (place_push_other names y n f)
     ]
 
-pub added_old : (m : PlaceMap) (names : List Name) (y : Name) (j : ℕ) → at_name m y ≡ Some j → Indexes m names → Indexes m (names ++ y ∷ [])
+pub added_old : (m : NameMap ℕ) (names : List Name) (y : Name) (j : ℕ) → at_name m y ≡ Some j → Indexes m names → Indexes m (names ++ y ∷ [])
 added_old m names y j old is n =
     elim (cases_Bool (bytes_eq y n)) [
       | inl t ↦ subst (λ (x : Name). at_name m x ≡ place_in (names ++ y ∷ []) x) (equal_of_bytes_eq y n t) (old ∙ sym (place_push_old names y y j (sym (is y) ∙ old)))

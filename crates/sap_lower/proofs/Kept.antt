@@ -4,22 +4,23 @@ use Rattle.std.specs.List.{AllByRecursion}
 use Rattle.std.proofs.lemmas.Bool.{cases_Bool}
 use Rattle.sap_lemmas.proofs.Bools.{or_other}
 use Rattle.sap_lemmas.proofs.Everywhere.{all_append}
-use Rattle.sap_net.proofs.NamesLemmas.{among_append, each_among}
+use Rattle.sap_net.proofs.NamesLemmas.{among_append, each_among, among_each}
 use Rattle.sap_maps.specs.Maps.{Name}
 use Rattle.sap_net.specs.Names.{is_among}
 use Rattle.sap_net.specs.declared.parts.Wire.{Wire}
 use Rattle.sap_ir.specs.Source.{Source}
 use Rattle.sap_ir.specs.IsGuarded.{variable_names, memory_names, IsGuarded}
-use Rattle.sap_lower.specs.Lowered.{last_state, listed, all_wires, wire_list_names, unported, names_declared}
+use Rattle.sap_lower.specs.Lowered.{last_state, listed, all_wires, unported, names_declared}
 use Rattle.sap_net.specs.Names.{IsHelpingName}
+use Rattle.sap_net.specs.IsNetlist.{names_of}
 use Rattle.sap_lower.specs.Same.{IsKept}
 use Rattle.sap_lower.proofs.Fits.{IsHelper}
-use Rattle.sap_lower.proofs.Declares.{unported_among, among_each}
+use Rattle.sap_lower.proofs.Declares.{unported_among}
 use Rattle.sap_lower.proofs.Names.{outs_named}
 use Rattle.sap_lower.proofs.Listed.{into_listed, listed_port}
 use Rattle.sap_lower.proofs.Result.{of_unported}
 
-helping_names : (ws : List Wire) → AllByRecursion IsHelper ws → AllByRecursion IsHelpingName (wire_list_names ws)
+helping_names : (ws : List Wire) → AllByRecursion IsHelper ws → AllByRecursion IsHelpingName (names_of ws)
 helping_names [] a = tt
 helping_names (w ∷ ws) a = ((a.0.0, a.0.2), helping_names ws a.1)
 
@@ -33,10 +34,10 @@ IsNamed s x = IsKept s x ⊎ IsHelpingName x
 
 module _ (s : Source) (g : IsGuarded s) (helping : AllByRecursion IsHelper (last_state s).wires) where
   abbrev all : List Name
-  all = wire_list_names (all_wires s)
+  all = names_of (all_wires s)
 
   abbrev helpers : List Name
-  helpers = wire_list_names (last_state s).wires
+  helpers = names_of (last_state s).wires
 
   abbrev shown : List Name
   shown = variable_names (listed s.ports s.wires)

@@ -1,5 +1,6 @@
 -- What is made of a program is its netlist, with all that is known of it.
 use Rattle.std.proofs.Common.{◌≡◌, ℕ, ◌^◌, ◌<◌, List, [], ◌∷◌, ◌++◌, map, length, Some, true, false, sym, ap, ap₂, ◌∙◌, subst, refl}
+use Rattle.std.specs.Map.{keys_of}
 use Rattle.sap_net.proofs.RulesLemmas.{readable_kept}
 use Rattle.sap_net.proofs.NamesLemmas.{not_found}
 use Rattle.sap_maps.proofs.ScopeLemmas.{found_second}
@@ -8,7 +9,7 @@ use Rattle.sap_maps.specs.Scope.{Scope, find}
 use Rattle.sap_net.specs.Names.{is_among, AreDistinct}
 use Rattle.sap_net.specs.Net.{Net}
 use Rattle.sap_net.specs.Rules.{readable_after}
-use Rattle.sap_net.specs.IsNetlist.{readable}
+use Rattle.sap_net.specs.IsNetlist.{readable, names_of}
 use Rattle.sap_net.specs.declared.parts.Wire.{Wire}
 use Rattle.sap_net.specs.declared.parts.Register.{Register}
 use Rattle.sap_net.specs.declared.parts.Memory.{Memory}
@@ -23,8 +24,7 @@ use Rattle.sap_lower.specs.declared.parts.Part.{Part}
 use Rattle.sap_lower.specs.declared.parts.WritePort.{WritePort}
 use Rattle.sap_lower.specs.Commands.{State, low_commands}
 use Rattle.sap_lower.specs.Lookup.{shapes_of}
-use Rattle.sap_lower.specs.Lowered.{named_entry, zero_entry, first_entries, first_port, first_state, last_state, listed, out_wire, register_of, memory_of, registers_declared, all_wires, wire_list_names, net_declared, lowered}
-use Rattle.sap_lower.specs.Places.{names_of}
+use Rattle.sap_lower.specs.Lowered.{named_entry, zero_entry, first_entries, first_port, first_state, last_state, listed, out_wire, register_of, memory_of, registers_declared, all_wires, net_declared, lowered}
 use Rattle.sap_lower.specs.Same.{Declares}
 use Rattle.sap_lower.proofs.Steps.{same_state}
 use Rattle.sap_lower.proofs.Order.{same_found, found_of}
@@ -97,7 +97,7 @@ declares_all s g l =
     let wires = wires_are s g fits in
     let all = variable_names s.wires in
     let d2 = distinct_behind (variable_names s.registers) (all ++ M) (distinct_behind (variable_names s.inputs) (variable_names s.registers ++ (all ++ M)) g.declared_once) in
-    let apart : AreDistinct (wire_list_names t.wires ++ W) = subst AreDistinct (outs_named t.entries t.wires shown) (wires_distinct (source.shapes s) (all_wires s) (first_scope s) wires) in
+    let apart : AreDistinct (names_of t.wires ++ W) = subst AreDistinct (outs_named t.entries t.wires shown) (wires_distinct (source.shapes s) (all_wires s) (first_scope s) wires) in
     record {
       module_name = refl;
       ports = refl;
@@ -105,14 +105,14 @@ declares_all s g l =
       registers = λ x. ap (λ (es : List (Name × (ℕ × ℕ))). find es x) (register_pairs t.entries (registers_declared s)) ∙ found_of (λ (y : Var). (y.width, y.start)) (registers_declared s) s.registers x (same_found s.registers s.ports x);
       memories = memory_parts t.ports s.memories;
       wires = both_hold (λ x. find (scope_of shown) x.name ≡ Some x.width) (λ x. is_among x.name W ≡ true) (λ x. find (map (λ w. (w.name, w.width)) (all_wires s)) x.name ≡ Some x.width) shown
-          (λ x f a. ap (λ (es : Scope). find es x.name) (outs_scope t.entries t.wires shown) ∙ found_second (map (λ w. (w.name, w.width)) t.wires) (scope_of shown) x.name (not_found {X = ℕ} (λ (w : Wire). w.name) (λ w. w.width) t.wires x.name (apart_lists (wire_list_names t.wires) W apart x.name a)) ∙ f)
+          (λ x f a. ap (λ (es : Scope). find es x.name) (outs_scope t.entries t.wires shown) ∙ found_second (map (λ w. (w.name, w.width)) t.wires) (scope_of shown) x.name (not_found {X = ℕ} (λ (w : Wire). w.name) (λ w. w.width) t.wires x.name (apart_lists (names_of t.wires) W apart x.name a)) ∙ f)
           (kind_found shown (listed_distinct s.ports s.wires (distinct_front all M d2))) (each_variable (λ x. is_among x.name W ≡ true) shown (λ x a. a));
       names = names_kept s g fits.fits.helping;
     }
 
 -- what the code makes
 
-pub first_ports_named : (ms : List Store) → names_of (map first_port ms) ≡ map (λ m. m.name) ms
+pub first_ports_named : (ms : List Store) → keys_of (map first_port ms) ≡ map (λ m. m.name) ms
 first_ports_named [] = refl
 first_ports_named (m ∷ ms) = ap (λ (ns : List Name). m.name ∷ ns) (first_ports_named ms)
 

@@ -15,13 +15,14 @@ use Rattle.sap_net.specs.declared.parts.Input.{Input}
 use Rattle.sap_net.specs.declared.parts.Wire.{Wire}
 use Rattle.sap_net.specs.declared.parts.Register.{Register}
 use Rattle.sap_net.specs.declared.parts.Memory.{Memory}
+use Rattle.sap_net.specs.IsNetlist.{names_of}
 use Rattle.sap_ir.specs.declared.guarded.Var.{Var}
 use Rattle.sap_ir.specs.declared.guarded.Store.{Store}
 use Rattle.sap_ir.specs.IsGuarded as ir
 use Rattle.sap_ir.specs.IsGuarded.{variable_names, declared, IsGuarded}
 use Rattle.sap_lower.specs.declared.parts.Part.{Part}
 use Rattle.sap_lower.specs.declared.parts.WritePort.{WritePort}
-use Rattle.sap_lower.specs.Lowered.{out_wire, register_of, memory_of, input_of, picked, unlisted, unported, wire_list_names}
+use Rattle.sap_lower.specs.Lowered.{out_wire, register_of, memory_of, input_of, picked, unlisted, unported}
 use Rattle.sap_lower.proofs.Begins.{scope_of}
 use Rattle.sap_lower.proofs.Declares.{register_among, unported_among, unported_distinct, unlisted_names, picked_names}
 
@@ -39,7 +40,7 @@ pub memories_named : (ps : List (Name × WritePort)) (ms : List Store) → map (
 memories_named ps [] = refl
 memories_named ps (m ∷ ms) = ap (λ (ns : List Name). m.name ∷ ns) (memories_named ps ms)
 
-pub outs_named : (es : List (Name × Part)) (ws : List Wire) (xs : List Var) → wire_list_names (ws ++ map (out_wire es) xs) ≡ wire_list_names ws ++ variable_names xs
+pub outs_named : (es : List (Name × Part)) (ws : List Wire) (xs : List Var) → names_of (ws ++ map (out_wire es) xs) ≡ names_of ws ++ variable_names xs
 outs_named es (w ∷ ws) xs = ap (λ (ns : List Name). w.name ∷ ns) (outs_named es ws xs)
 outs_named es [] [] = refl
 outs_named es [] (x ∷ xs) = ap (λ (ns : List Name). x.name ∷ ns) (outs_named es [] xs)
@@ -74,7 +75,7 @@ declared_distinct rs ps d e =
 
 -- names of wires are new
 
-pub wires_new : (ms : Shapes) (ws : List Wire) (sc : Scope) → AreWires ms sc ws → (n : Name) → is_among n (wire_list_names ws) ≡ true → (find sc n ≡ None) × (find ms n ≡ None)
+pub wires_new : (ms : Shapes) (ws : List Wire) (sc : Scope) → AreWires ms sc ws → (n : Name) → is_among n (names_of ws) ≡ true → (find sc n ≡ None) × (find ms n ≡ None)
 wires_new ms [] sc a n h = absurd (cc)
 wires_new ms (w ∷ ws) sc a n h =
     elim (cases_Bool (bytes_eq n w.name)) [
@@ -86,10 +87,10 @@ wires_new ms (w ∷ ws) sc a n h =
           (not_behind (w.name, w.width) sc n r.0, r.1)
     ]
 
-pub wires_distinct : (ms : Shapes) (ws : List Wire) (sc : Scope) → AreWires ms sc ws → AreDistinct (wire_list_names ws)
+pub wires_distinct : (ms : Shapes) (ws : List Wire) (sc : Scope) → AreWires ms sc ws → AreDistinct (names_of ws)
 wires_distinct ms [] sc a = tt
 wires_distinct ms (w ∷ ws) sc a = (
-  elim (cases_Bool (is_among w.name (wire_list_names ws))) [
+  elim (cases_Bool (is_among w.name (names_of ws))) [
     | inl t ↦ absurd (let e = wires_new ms ws ((w.name, w.width) ∷ sc) a.4 w.name t in let g : find ((w.name, w.width) ∷ sc) w.name ≡ Some w.width = found_here w.name w.width sc in let q = e.0 in cc)
     | inr f ↦ f
   ],

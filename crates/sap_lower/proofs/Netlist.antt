@@ -6,7 +6,7 @@ use Rattle.std.specs.List.{AllByRecursion}
 use Rattle.std.proofs.Math.Pow.{pow_pos}
 use Rattle.std.proofs.lemmas.Bool.{cases_Bool}
 use Rattle.sap_lemmas.proofs.Texts.{equal_of_bytes_eq}
-use Rattle.sap_net.proofs.NamesLemmas.{not_found}
+use Rattle.sap_net.proofs.NamesLemmas.{not_found, among_each}
 use Rattle.sap_maps.proofs.ScopeLemmas.{found_first, found_second}
 use Rattle.sap_ir.proofs.IsGuardedLemmas.{plain_wide, register_wide}
 use Rattle.sap_maps.specs.Maps.{Name}
@@ -32,7 +32,6 @@ use Rattle.sap_lower.proofs.CommandsFit.{AllWide, PortsFit, StateFits, commands_
 use Rattle.sap_lower.proofs.Order.{same_found, found_of}
 use Rattle.sap_lower.proofs.Begins.{scope_of, shapes_list, port_at_first, first_port_found, bits_of_depth}
 use Rattle.sap_lower.proofs.Helping.{helper_is_helping}
-use Rattle.sap_lower.proofs.Declares.{among_each}
 
 -- what each name is at first
 

@@ -14,6 +14,7 @@ use Rattle.sap_net.specs.declared.parts.Input.{Input}
 use Rattle.sap_net.specs.declared.parts.Register.{Register}
 use Rattle.sap_net.specs.declared.parts.Memory.{Memory}
 use Rattle.sap_net.specs.IsNetlist.{first_readable, shapes}
+use Rattle.sap_net.proofs.RulesLemmas.{operand_grows}
 use Rattle.sap_ir.specs.declared.guarded.Var.{Var}
 use Rattle.sap_ir.specs.declared.guarded.Store.{Store}
 use Rattle.sap_ir.specs.Source.{Source}
@@ -25,7 +26,6 @@ use Rattle.sap_lower.specs.declared.parts.Part.{Part}
 use Rattle.sap_lower.specs.declared.parts.WritePort.{WritePort}
 use Rattle.sap_lower.specs.Lowering.{present}
 use Rattle.sap_lower.specs.Lowered.{out_wire, register_of, memory_of, input_of, registers_declared, last_state, lowered}
-use Rattle.sap_lower.proofs.Fits.{operand_grows}
 use Rattle.sap_lower.proofs.Begins.{scope_of, shapes_list}
 use Rattle.sap_lower.proofs.Netlist.{first_scope}
 

@@ -3,8 +3,8 @@ use Rattle.std.proofs.Common.{◌≡◌, ℕ, ◌^◌, ◌<◌, ◌≤◌, List,
 use Rattle.std.specs.Str.{bytes_eq}
 use Rattle.std.specs.List.{AllByRecursion}
 use Rattle.std.proofs.lemmas.Bool.{cases_Bool}
-use Rattle.sap_net.proofs.RulesLemmas.{readable_both, readable_kept, wires_both}
-use Rattle.sap_net.proofs.NamesLemmas.{among_behind, among_front, not_found}
+use Rattle.sap_net.proofs.RulesLemmas.{readable_both, readable_kept, wires_both, Grows, operand_grows}
+use Rattle.sap_net.proofs.NamesLemmas.{among_behind, among_front, not_found, among_each}
 use Rattle.sap_maps.proofs.ScopeLemmas.{found_first, found_second}
 use Rattle.sap_ir.proofs.IsGuardedLemmas.{plain_wide}
 use Rattle.sap_maps.specs.Maps.{Name}
@@ -24,10 +24,9 @@ use Rattle.sap_lower.specs.declared.parts.WritePort.{WritePort}
 use Rattle.sap_lower.specs.Lowering.{present}
 use Rattle.sap_lower.specs.Commands.{port_of}
 use Rattle.sap_lower.specs.Lowered.{listed, out_wire, register_of, memory_of, all_wires, last_state}
-use Rattle.sap_lower.proofs.Fits.{EnvFits, Grows, operand_grows}
+use Rattle.sap_lower.proofs.Fits.{EnvFits}
 use Rattle.sap_lower.proofs.CommandsFit.{PortsFit, StateFits}
 use Rattle.sap_lower.proofs.Begins.{scope_of, shapes_list}
-use Rattle.sap_lower.proofs.Declares.{among_each}
 use Rattle.sap_lower.proofs.Netlist.{first_scope, first_found}
 use Rattle.sap_lower.proofs.Listed.{listed_distinct, listed_holds}
 use Rattle.sap_lower.proofs.Rules.{outs_fit, wire_among, each_variable, kind_found}

@@ -13,6 +13,7 @@ use Rattle.sap_net.specs.declared.parts.Input.{Input}
 use Rattle.sap_net.specs.declared.parts.Wire.{Wire}
 use Rattle.sap_net.specs.declared.parts.Register.{Register}
 use Rattle.sap_net.specs.declared.parts.Memory.{Memory}
+use Rattle.sap_net.specs.IsNetlist.{names_of}
 use Rattle.sap_ir.specs.declared.guarded.Var.{Var}
 use Rattle.sap_ir.specs.declared.guarded.Store.{Store}
 use Rattle.sap_ir.specs.Source.{Source, shapes}
@@ -98,16 +99,13 @@ port_shown rs p = record { name = p; kind = kind_shown (is_among p (variable_nam
 abbrev pub all_wires : Source → List Wire
 all_wires s = let t = last_state s in t.wires ++ map (out_wire t.entries) (listed s.ports s.wires)
 
-abbrev pub wire_list_names : List Wire → List Name
-wire_list_names ws = map (λ w. w.name) ws
-
 -- what no port declares
 abbrev pub unported : List Name → List Name → List Name
 unported ps xs = filter (λ x. not (is_among x ps)) xs
 
 abbrev pub names_declared : Source → List Wire → List Name
 names_declared s ws =
-    variable_names s.inputs ++ (s.ports ++ (unported s.ports (wire_list_names ws) ++ (unported s.ports (variable_names s.registers) ++ memory_names s.memories)))
+    variable_names s.inputs ++ (s.ports ++ (unported s.ports (names_of ws) ++ (unported s.ports (variable_names s.registers) ++ memory_names s.memories)))
 
 -- the netlist of these wires, where each name and each memory stands for these operands at the end
 abbrev pub net_declared : Source → List Wire → List (Name × Part) → List (Name × WritePort) → Net

@@ -1,6 +1,6 @@
 -- What the netlist of a flat program declares, and whose numbers its runs have.
-use Rattle.std.specs.Prelude.{◌≡◌, ◌⊎◌, ℕ, true, List, [], ◌∷◌, ◌++◌, map, filter, not, Some, codes, if◌then◌else◌}
-use Rattle.std.specs.List.{AllByRecursion}
+use Rattle.std.specs.Prelude.{◌≡◌, ◌⊎◌, ℕ, true, List, ◌++◌, map, filter, not, Some, codes, if◌then◌else◌}
+use Rattle.std.specs.List.{AllByRecursion, AllZip}
 use Rattle.sap_maps.specs.Maps.{Name, Valuation}
 use Rattle.sap_maps.specs.Scope.{find}
 use Rattle.sap_net.specs.Names.{is_among, IsHelpingName}
@@ -59,17 +59,10 @@ pub record SameNumbers (s : Source) (n : Net) (v end : Valuation) : Type 0 where
   pub wires : AllByRecursion (λ x. (observed n v).value x.name ≡ end.value x.name) (port_wires s)
   pub memories : AllByRecursion (λ m. (i : ℕ) → (observed n v).cell m.name i ≡ end.cell m.name i) s.memories
 
--- in each cycle
-abbrev pub AllSame : Source → Net → List Valuation → List Valuation → Type 0
-AllSame s n [] [] = Unit {0}
-AllSame s n [] (e ∷ es) = ⊥
-AllSame s n (v ∷ vs) [] = ⊥
-AllSame s n (v ∷ vs) (e ∷ es) = SameNumbers s n v e × AllSame s n vs es
-
 -- On every stream of inputs that fits, each run of the netlist has in each cycle the numbers of the source's run, at each input, register, memory
 -- cell and port.
 abbrev pub RunsAlike : Source → Net → Type 0
-RunsAlike s n = (xss : List (List ℕ)) (vs : List Valuation) → AllFit n.inputs xss → IsRun n xss vs → AllSame s n vs (guarded_run s xss)
+RunsAlike s n = (xss : List (List ℕ)) (vs : List Valuation) → AllFit n.inputs xss → IsRun n xss vs → AllZip (SameNumbers s n) vs (guarded_run s xss)
 
 -- the wires that are none of the source's
 abbrev pub helping : Source → List Wire → List Wire

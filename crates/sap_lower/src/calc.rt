@@ -1,12 +1,12 @@
 //! Expressions to wires of one operator each.
 
 ghost use Rattle.std.specs.Prelude.{◌≡◌, ◌-◌, ◌+◌, ◌<◌, ◌≤◌, map, IfOk, OnOk};
+ghost use Rattle.std.specs.Map.{keys_of};
 ghost use Rattle.sap_bits.specs.Arithmetic.{width1, width2, slice_of};
 ghost use Rattle.sap_ir.specs.Calcs.{term_of};
 ghost use Rattle.sap_lower.specs.Index.{Indexes};
 ghost use Rattle.sap_lower.specs.Lowering.{cell_width, leaves_nothing, low, low_join, low_slice, low_two, nothing, present};
 ghost use Rattle.sap_lower.specs.Parts.{glued, low_all};
-ghost use Rattle.sap_lower.specs.Places.{names_of};
 ghost use Rattle.sap_lower.specs.Lookup.{shapes_of};
 
 use crate::parts::Part;
@@ -35,7 +35,7 @@ pub fn present_part(
     entries: &[(Name, Part)],
     name: &Name,
 ) -> Result<Part, AllocError>
-    requires { Indexes places.now (names_of entries.now) }
+    requires { Indexes places.now (keys_of entries.now) }
     ensures { IfOk result (λ p. p ≡ present entries.now name.now) }
 {
     match place(places, name) {
@@ -172,7 +172,7 @@ pub fn lower_calc(
     stores: &[Store],
     calc: &Calc,
 ) -> Result<Part, AllocError>
-    requires places { Indexes places.now (names_of entries.now) }
+    requires places { Indexes places.now (keys_of entries.now) }
     requires stores { Indexes store_places.now (map (λ m. m.name) stores.now) }
     ensures wires { OnOk result (wires.new ≡ (low (shapes_of stores.now) entries.now (term_of calc.now) wires.old).wires) }
     ensures part { IfOk result (λ p. p ≡ (low (shapes_of stores.now) entries.now (term_of calc.now) wires.old).part) }
@@ -240,7 +240,7 @@ fn lower_all(
     stores: &[Store],
     calcs: &[Calc],
 ) -> Result<Vec<Part>, AllocError>
-    requires places { Indexes places.now (names_of entries.now) }
+    requires places { Indexes places.now (keys_of entries.now) }
     requires stores { Indexes store_places.now (map (λ m. m.name) stores.now) }
     ensures wires { OnOk result (wires.new ≡ (low_all (shapes_of stores.now) entries.now (map term_of calcs.now) wires.old).wires) }
     ensures parts { IfOk result (λ ps. ps.items ≡ (low_all (shapes_of stores.now) entries.now (map term_of calcs.now) wires.old).parts) }

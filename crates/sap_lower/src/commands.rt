@@ -1,11 +1,12 @@
 //! Assignments and writes to wires, and what each name stands for after them.
 
 ghost use Rattle.std.specs.Prelude.{◌≡◌, map, IfOk, OnOk};
+ghost use Rattle.std.specs.Map.{keys_of};
 ghost use Rattle.sap_ir.specs.Calcs.{action_of, command_of, commands_of, term_of};
 ghost use Rattle.sap_lower.specs.Commands.{low_action, low_chosen, low_commands, low_put, merged_port, port_of};
 ghost use Rattle.sap_lower.specs.Index.{Indexes};
 ghost use Rattle.sap_lower.specs.Lookup.{shapes_of};
-ghost use Rattle.sap_lower.specs.Places.{names_of, replaced};
+ghost use Rattle.sap_lower.specs.Places.{replaced};
 
 use crate::calc::{lower_calc, present_part};
 use crate::parts::{Part, WritePort};
@@ -23,7 +24,7 @@ fn replace_part(
     name: &Name,
     part: Part,
 )
-    requires { Indexes places.now (names_of entries.old) }
+    requires { Indexes places.now (keys_of entries.old) }
     ensures { entries.new ≡ replaced entries.old name.now part }
 {
     match place(places, name) {
@@ -39,7 +40,7 @@ fn replace_port(
     memory: &Name,
     port: WritePort,
 )
-    requires { Indexes places.now (names_of ports.old) }
+    requires { Indexes places.now (keys_of ports.old) }
     ensures { ports.new ≡ replaced ports.old memory.now port }
 {
     match place(places, memory) {
@@ -55,7 +56,7 @@ pub fn present_port(
     ports: &[(Name, WritePort)],
     memory: &Name,
 ) -> Result<WritePort, AllocError>
-    requires { Indexes places.now (names_of ports.now) }
+    requires { Indexes places.now (keys_of ports.now) }
     ensures { IfOk result (λ p. p ≡ port_of ports.now memory.now) }
 {
     match place(places, memory) {
@@ -82,7 +83,7 @@ fn lower_set(
     name: &Name,
     value: &Calc,
 ) -> Result<Part, AllocError>
-    requires places { Indexes places.now (names_of entries.now) }
+    requires places { Indexes places.now (keys_of entries.now) }
     requires stores { Indexes store_places.now (map (λ m. m.name) stores.now) }
     ensures wires { OnOk result (wires.new ≡ (low_chosen (shapes_of stores.now) entries.now wires.old (term_of when.now) name.now (term_of value.now)).wires) }
     ensures part { IfOk result (λ p. p ≡ (low_chosen (shapes_of stores.now) entries.now wires.old (term_of when.now) name.now (term_of value.now)).part) }
@@ -110,7 +111,7 @@ fn lower_put(
     index: &Calc,
     value: &Calc,
 ) -> Result<WritePort, AllocError>
-    requires places { Indexes places.now (names_of entries.now) }
+    requires places { Indexes places.now (keys_of entries.now) }
     requires stores { Indexes store_places.now (map (λ m. m.name) stores.now) }
     ensures wires { OnOk result (wires.new ≡ (low_put (shapes_of stores.now) entries.now port (term_of when.now) (term_of index.now) (term_of value.now) wires.old).wires) }
     ensures port { IfOk result (λ p. p ≡ (low_put (shapes_of stores.now) entries.now port (term_of when.now) (term_of index.now) (term_of value.now) wires.old).port) }
@@ -166,9 +167,9 @@ fn lower_command(
     ports: &mut Vec<(Name, WritePort)>,
     cmd: &GuardedCmd,
 ) -> Result<(), AllocError>
-    requires places { Indexes places.now (names_of entries.old.items) }
+    requires places { Indexes places.now (keys_of entries.old.items) }
     requires stores { Indexes store_places.now (map (λ m. m.name) stores.now) }
-    requires ports { Indexes store_places.now (names_of ports.old.items) }
+    requires ports { Indexes store_places.now (keys_of ports.old.items) }
     ensures wires { OnOk result (wires.new ≡ (low_action (shapes_of stores.now) (record { wires = wires.old; entries = entries.old.items; ports = ports.old.items }) (term_of cmd.now.when) (action_of cmd.now.act)).wires) }
     ensures entries { OnOk result (entries.new.items ≡ (low_action (shapes_of stores.now) (record { wires = wires.old; entries = entries.old.items; ports = ports.old.items }) (term_of cmd.now.when) (action_of cmd.now.act)).entries) }
     ensures ports { OnOk result (ports.new.items ≡ (low_action (shapes_of stores.now) (record { wires = wires.old; entries = entries.old.items; ports = ports.old.items }) (term_of cmd.now.when) (action_of cmd.now.act)).ports) }
@@ -224,14 +225,14 @@ pub fn lower_commands(
     ports: &mut Vec<(Name, WritePort)>,
     cmds: &[GuardedCmd],
 ) -> Result<(), AllocError>
-    requires places { Indexes places.now (names_of entries.old.items) }
+    requires places { Indexes places.now (keys_of entries.old.items) }
     requires stores { Indexes store_places.now (map (λ m. m.name) stores.now) }
-    requires ports { Indexes store_places.now (names_of ports.old.items) }
+    requires ports { Indexes store_places.now (keys_of ports.old.items) }
     ensures wires { OnOk result (wires.new ≡ (low_commands (shapes_of stores.now) (record { wires = wires.old; entries = entries.old.items; ports = ports.old.items }) (commands_of cmds.now)).wires) }
     ensures entries { OnOk result (entries.new.items ≡ (low_commands (shapes_of stores.now) (record { wires = wires.old; entries = entries.old.items; ports = ports.old.items }) (commands_of cmds.now)).entries) }
     ensures ports { OnOk result (ports.new.items ≡ (low_commands (shapes_of stores.now) (record { wires = wires.old; entries = entries.old.items; ports = ports.old.items }) (commands_of cmds.now)).ports) }
-    ensures places { OnOk result (Indexes places.now (names_of entries.new.items)) }
-    ensures port_places { OnOk result (Indexes store_places.now (names_of ports.new.items)) }
+    ensures places { OnOk result (Indexes places.now (keys_of entries.new.items)) }
+    ensures port_places { OnOk result (Indexes store_places.now (keys_of ports.new.items)) }
 {
     for cmd in cmds {
         lower_command(

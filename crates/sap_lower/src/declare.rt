@@ -2,10 +2,11 @@
 
 ghost use Rattle.std.specs.Prelude.{◌≡◌, [], ◌∷◌, ◌++◌, map, IfOk, OnOk};
 ghost use Rattle.sap_net.specs.Names.{is_among};
+ghost use Rattle.sap_net.specs.IsNetlist.{names_of};
+ghost use Rattle.std.specs.Map.{keys_of};
 ghost use Rattle.sap_ir.specs.IsGuarded.{memory_names, variable_names};
 ghost use Rattle.sap_lower.specs.Index.{Indexes};
-ghost use Rattle.sap_lower.specs.Lowered.{input_of, input_port, listed, memory_of, net_declared, out_wire, picked, port_shown, register_of, unlisted, unported, wire_list_names};
-ghost use Rattle.sap_lower.specs.Places.{names_of};
+ghost use Rattle.sap_lower.specs.Lowered.{input_of, input_port, listed, memory_of, net_declared, out_wire, picked, port_shown, register_of, unlisted, unported};
 
 use crate::calc::present_part;
 use crate::commands::present_port;
@@ -40,7 +41,7 @@ fn register(
     entries: &[(Name, Part)],
     variable: &Var,
 ) -> Result<Register, AllocError>
-    requires { Indexes places.now (names_of entries.now) }
+    requires { Indexes places.now (keys_of entries.now) }
     ensures { IfOk result (λ r. r ≡ register_of entries.now variable.now) }
 {
     let name = variable.name.copy(alloc)?;
@@ -59,7 +60,7 @@ fn wire(
     entries: &[(Name, Part)],
     variable: &Var,
 ) -> Result<Wire, AllocError>
-    requires { Indexes places.now (names_of entries.now) }
+    requires { Indexes places.now (keys_of entries.now) }
     ensures { IfOk result (λ w. w ≡ out_wire entries.now variable.now) }
 {
     let name = variable.name.copy(alloc)?;
@@ -77,7 +78,7 @@ fn memory(
     ports: &[(Name, WritePort)],
     store: &Store,
 ) -> Result<Memory, AllocError>
-    requires { Indexes places.now (names_of ports.now) }
+    requires { Indexes places.now (keys_of ports.now) }
     ensures { IfOk result (λ m. m ≡ memory_of ports.now store.now) }
 {
     let name = store.name.copy(alloc)?;
@@ -103,7 +104,7 @@ pub fn out_wires(
     ports: &[Name],
     variables: &[Var],
 ) -> Result<(), AllocError>
-    requires entries { Indexes places.now (names_of entries.now) }
+    requires entries { Indexes places.now (keys_of entries.now) }
     requires ports { Indexes port_places.now ports.now }
     ensures { OnOk result (wires.new.items ≡ wires.old.items ++ map (out_wire entries.now) (listed ports.now variables.now)) }
 {
@@ -121,7 +122,7 @@ pub fn memories(
     ports: &[(Name, WritePort)],
     stores: &[Store],
 ) -> Result<Vec<Memory>, AllocError>
-    requires { Indexes places.now (names_of ports.now) }
+    requires { Indexes places.now (keys_of ports.now) }
     ensures { IfOk result (λ ms. ms.items ≡ map (memory_of ports.now) stores.now) }
 {
     let mut made = Vec::new(alloc);
@@ -141,7 +142,7 @@ fn port_register(
     registers: &[Var],
     port: &Name,
 ) -> Result<(), AllocError>
-    requires entries { Indexes places.now (names_of entries.now) }
+    requires entries { Indexes places.now (keys_of entries.now) }
     requires registers { Indexes register_places.now (map (λ x. x.name) registers.now) }
     ensures { OnOk result (made.new.items ≡ made.old.items ++ map (register_of entries.now) (picked registers.now (port.now ∷ []))) }
 {
@@ -165,7 +166,7 @@ fn port_registers(
     registers: &[Var],
     ports: &[Name],
 ) -> Result<(), AllocError>
-    requires entries { Indexes places.now (names_of entries.now) }
+    requires entries { Indexes places.now (keys_of entries.now) }
     requires registers { Indexes register_places.now (map (λ x. x.name) registers.now) }
     ensures { OnOk result (made.new.items ≡ made.old.items ++ map (register_of entries.now) (picked registers.now ports.now)) }
 {
@@ -193,7 +194,7 @@ fn other_registers(
     ports: &[Name],
     registers: &[Var],
 ) -> Result<(), AllocError>
-    requires entries { Indexes places.now (names_of entries.now) }
+    requires entries { Indexes places.now (keys_of entries.now) }
     requires ports { Indexes port_places.now ports.now }
     ensures { OnOk result (made.new.items ≡ made.old.items ++ map (register_of entries.now) (unlisted ports.now registers.now)) }
 {
@@ -215,7 +216,7 @@ pub fn registers(
     port_places: &HashMap<Vec<u8>, usize>,
     ports: &[Name],
 ) -> Result<Vec<Register>, AllocError>
-    requires entries { Indexes places.now (names_of entries.now) }
+    requires entries { Indexes places.now (keys_of entries.now) }
     requires registers { Indexes register_places.now (map (λ x. x.name) variables.now) }
     requires ports { Indexes port_places.now ports.now }
     ensures { IfOk result (λ rs. rs.items ≡ map (register_of entries.now) (picked variables.now ports.now) ++ map (register_of entries.now) (unlisted ports.now variables.now)) }
@@ -338,7 +339,7 @@ fn add_wires(
     wires: &[Wire],
 ) -> Result<(), AllocError>
     requires { Indexes port_places.now ports.now }
-    ensures { OnOk result (made.new.items ≡ made.old.items ++ unported ports.now (wire_list_names wires.now)) }
+    ensures { OnOk result (made.new.items ≡ made.old.items ++ unported ports.now (names_of wires.now)) }
 {
     for wire in wires {
         if !is_listed(port_places, ports, &wire.name) {
@@ -386,7 +387,7 @@ pub fn names(
     stores: &[Store],
 ) -> Result<Vec<Name>, AllocError>
     requires { Indexes port_places.now ports.now }
-    ensures { IfOk result (λ ns. ns.items ≡ variable_names inputs.now ++ (ports.now ++ (unported ports.now (wire_list_names wires.now) ++ (unported ports.now (variable_names registers.now) ++ memory_names stores.now)))) }
+    ensures { IfOk result (λ ns. ns.items ≡ variable_names inputs.now ++ (ports.now ++ (unported ports.now (names_of wires.now) ++ (unported ports.now (variable_names registers.now) ++ memory_names stores.now)))) }
 {
     let mut made = Vec::new(alloc);
     add_variables(alloc, &mut made, inputs)?;

@@ -2,13 +2,13 @@
 
 ghost use Rattle.std.specs.Prelude.{◌≡◌, ◌≤◌, map, codes, IfOk};
 ghost use Rattle.sap_net.specs.Net.{net_of};
+ghost use Rattle.std.specs.Map.{keys_of};
 ghost use Rattle.sap_ir.specs.Program.{source_of};
 ghost use Rattle.sap_ir.specs.Writes.{WritesOnce};
 ghost use Rattle.sap_size.specs.Flat.{source_weight};
 ghost use Rattle.sap_size.specs.Items.{items};
 ghost use Rattle.sap_lower.specs.Index.{Indexes};
 ghost use Rattle.sap_lower.specs.Lowered.{net_declared};
-ghost use Rattle.sap_lower.specs.Places.{names_of};
 ghost use Rattle.sap_lower.specs.Same.{CopiesPorts, Declares, RunsAlike, SharesWires};
 
 use crate::commands::lower_commands;
@@ -33,8 +33,8 @@ fn parts(
     ports: &[(Name, WritePort)],
     port_places: &HashMap<Vec<u8>, usize>,
 ) -> Result<Parts, AllocError>
-    requires places { Indexes places.now (names_of entries.now) }
-    requires ports { Indexes store_places.now (names_of ports.now) }
+    requires places { Indexes places.now (keys_of entries.now) }
+    requires ports { Indexes store_places.now (keys_of ports.now) }
     requires shown { Indexes port_places.now (source_of source.now).ports }
     ensures { IfOk result (λ p. net_of p ≡ net_declared (source_of source.now) wires.items entries.now ports.now) }
 {

@@ -1,8 +1,9 @@
 //! Places of names on lists.
 
 ghost use Rattle.std.specs.Prelude.{◌≡◌, ℕ, List, [], ◌∷◌, ◌++◌, length, map, OnOk, IfOk};
-ghost use Rattle.sap_lower.specs.Places.{names_of};
-ghost use Rattle.sap_lower.specs.Index.{at_name, Indexes};
+ghost use Rattle.sap_net.specs.NameMaps.{at_name};
+ghost use Rattle.std.specs.Map.{keys_of};
+ghost use Rattle.sap_lower.specs.Index.{Indexes};
 
 use crate::parts::Part;
 use sap_ir::guarded::{Store, Var};
@@ -60,7 +61,7 @@ pub fn index_entries(
     alloc: Global,
     entries: &[(Name, Part)],
 ) -> Result<HashMap<Vec<u8>, usize>, AllocError>
-    ensures { IfOk result (λ m. Indexes m (names_of entries.now)) }
+    ensures { IfOk result (λ m. Indexes m (keys_of entries.now)) }
 {
     let mut places = HashMap::new(alloc);
     for (k, entry) in entries.iter().enumerate() {

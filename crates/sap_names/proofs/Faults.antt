@@ -1,20 +1,17 @@
 -- The first fault, found one after another.
 use Rattle.std.proofs.Common.{◌≡◌, List, [], ◌∷◌, ◌++◌, Option, refl, ap, sym, ◌∙◌}
+use Rattle.sap_text.proofs.BestLemmas as best
 use Rattle.sap_names.specs.Fault.{Fault}
-use Rattle.sap_names.specs.Best.{better, best_of}
+use Rattle.sap_names.specs.Best.{better, best_of, comes_first}
 
 pub best_of-append : (o : Option Fault) (a b : List Fault) → best_of o (a ++ b) ≡ best_of (best_of o a) b
-unfolding best_of
-best_of-append o [] b = refl
-best_of-append o (f ∷ a) b = best_of-append (better o f) a b
+best_of-append o a b = best.best_of-append comes_first o a b
 
 pub best_of-none : (o : Option Fault) → best_of o [] ≡ o
-unfolding best_of
-best_of-none o = refl
+best_of-none o = best.best_of-none comes_first o
 
 pub best_of-one : (o : Option Fault) (f : Fault) → best_of o (f ∷ []) ≡ better o f
-unfolding best_of
-best_of-one o f = refl
+best_of-one o f = best.best_of-one comes_first o f
 
 -- one part after another
 pub both : (o m n : Option Fault) (a b all : List Fault) → m ≡ best_of o a → n ≡ best_of m b → all ≡ a ++ b → n ≡ best_of o all

@@ -1,5 +1,6 @@
 -- The first of several faults, found one after another.
-use Rattle.std.specs.Prelude.{List, [], ◌∷◌, Option, Some, None, Bool, ltb, leb, eqb, ◌||◌, ◌&&◌, if◌then◌else◌}
+use Rattle.std.specs.Prelude.{List, Option, Bool, ltb, leb, eqb, ◌||◌, ◌&&◌}
+use Rattle.sap_text.specs.Best as best
 use Rattle.sap_names.specs.Fault.{Fault, number}
 
 -- a stands before b, or at its place with no higher code
@@ -9,10 +10,8 @@ comes_first a b =
     && (ltb a.place.column b.place.column || (eqb a.place.column b.place.column && leb (number a.code) (number b.code))))
 
 abbrev pub better : Option Fault → Fault → Option Fault
-better None b = Some b
-better (Some a) b = if comes_first a b then Some a else Some b
+better o f = best.better comes_first o f
 
--- the first of a and those
-unfoldable pub best_of : Option Fault → List Fault → Option Fault
-best_of o [] = o
-best_of o (f ∷ fs) = best_of (better o f) fs
+-- the first of o and those
+abbrev pub best_of : Option Fault → List Fault → Option Fault
+best_of o fs = best.best_of comes_first o fs

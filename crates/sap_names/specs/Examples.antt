@@ -1,7 +1,6 @@
 -- Worked examples of the faults of names and widths.
 use Rattle.std.specs.Prelude.{◌≡◌, ℕ, List, [], ◌∷◌, Some, None, Bool, codes, leb}
-use Rattle.sap_tree.specs.declared.name.Mention.{Mention}
-use Rattle.sap_text.specs.declared.place.Place.{Place}
+use Rattle.sap_tree.specs.Making.{at, spot, mention, numeral_at}
 use Rattle.sap_tree.specs.declared.place.Spot.{Spot}
 use Rattle.sap_tree.specs.declared.syntax.Kind.{Kind}
 use Rattle.sap_tree.specs.declared.syntax.Kind.TheVariants.{Dynamic, Enforced}
@@ -15,17 +14,8 @@ use Rattle.sap_names.specs.declared.kind.Code.TheVariants.{E4, E7, E8}
 use Rattle.sap_names.specs.Entities.{Lookup}
 use Rattle.sap_names.specs.NameFaults.{design_name_faults, tag_faults}
 
-abbrev pub at : ℕ → Place
-at column = record { line = 1; column = column }
-
-abbrev pub spot : ℕ → Spot
-spot column = record { first = at column; at = at column }
-
 abbrev pub inside : ℕ → ℕ → Spot
 inside first column = record { first = at first; at = at column }
-
-abbrev pub named : ℕ → List ℕ → Mention
-named column name = record { place = at column; name = name }
 
 abbrev pub fault : Code → ℕ → Fault
 fault code column = record { code = code; place = at column }
@@ -40,10 +30,10 @@ abbrev pub below : ℕ → ℕ → Bool
 below a b = leb a b
 
 abbrev pub low : ℕ → Kind
-low column = Enforced (named column (codes "low")) None
+low column = Enforced (mention (at column) (codes "low")) None
 
 abbrev pub body : CommandList → StateList
-body cs = AndState (StateOf (at 1) (named 1 (codes "S")) (low 1) (Commands cs (at 90)) NoState) NoState
+body cs = AndState (StateOf (at 1) (mention (at 1) (codes "S")) (low 1) (Commands cs (at 90)) NoState) NoState
 
 abbrev pub only : Command → StateList
 only c = body (AndCommand c NoCommand)
@@ -52,8 +42,8 @@ only c = body (AndCommand c NoCommand)
 abbrev pub starting : (start : ℕ) → DesignTree
 starting start = record {
   version = One;
-  declarations = Register (at 1) (named 5 (codes "x")) (record { place = at 9; value = 8 }) (Dynamic (at 11)) (Some (record { place = at 21; value = start })) ∷ [];
-  states = only (Do (Goto (at 30) (named 35 (codes "S"))));
+  declarations = Register (at 1) (mention (at 5) (codes "x")) (numeral_at (at 9) 8) (Dynamic (at 11)) (Some (numeral_at (at 21) start)) ∷ [];
+  states = only (Do (Goto (at 30) (mention (at 35) (codes "S"))));
 }
 
 -- reg x : 8 dynamic = 256;
@@ -64,17 +54,17 @@ LargeStart = design_name_faults levels below (starting 256) ≡ fault E8 21 ∷ 
 abbrev pub WideNumber : Type 0
 WideNumber = design_name_faults levels below (record {
   version = One;
-  declarations = Register (at 1) (named 5 (codes "x")) (record { place = at 9; value = 8 }) (Dynamic (at 11)) None ∷ [];
-  states = only (Do (Assign (named 43 (codes "x")) (Sized (spot 48) 99 300)));
+  declarations = Register (at 1) (mention (at 5) (codes "x")) (numeral_at (at 9) 8) (Dynamic (at 11)) None ∷ [];
+  states = only (Do (Assign (mention (at 43) (codes "x")) (Sized (spot (at 48)) 99 300)));
 }) ≡ fault E7 48 ∷ []
 
 -- tag(zz), tag((zz)) and tag(1 + zz)
 abbrev pub UnknownPlain : Type 0
-UnknownPlain = tag_faults levels nothing (TagOf (at 1) (Read (spot 5) (codes "zz"))) ≡ fault E7 5 ∷ fault E4 5 ∷ []
+UnknownPlain = tag_faults levels nothing (TagOf (at 1) (Read (spot (at 5)) (codes "zz"))) ≡ fault E7 5 ∷ fault E4 5 ∷ []
 
 abbrev pub UnknownInside : Type 0
 UnknownInside = tag_faults levels nothing (TagOf (at 1) (Read (inside 5 6) (codes "zz"))) ≡ fault E7 5 ∷ fault E4 6 ∷ []
 
 abbrev pub UnknownBehind : Type 0
-UnknownBehind = tag_faults levels nothing (TagOf (at 1) (Binary (inside 5 7) Add (Number (spot 5) 1) (Read (spot 9) (codes "zz"))))
+UnknownBehind = tag_faults levels nothing (TagOf (at 1) (Binary (inside 5 7) Add (Number (spot (at 5)) 1) (Read (spot (at 9)) (codes "zz"))))
     ≡ fault E7 5 ∷ fault E7 5 ∷ fault E7 9 ∷ fault E4 9 ∷ []

@@ -1,5 +1,7 @@
 -- Faults of a design, and which of several is answered.
-use Rattle.std.specs.Prelude.{◌≡◌, ◌<◌, ◌≤◌, ◌⊎◌, ℕ, List, [], ◌∷◌, Option, Some, None}
+use Rattle.std.specs.Prelude.{◌≡◌, ◌<◌, ◌≤◌, ◌⊎◌, ℕ, List, Option}
+use Rattle.sap_text.specs.Best as best
+pub use Rattle.sap_text.specs.Best.{StandsIn}
 pub use Rattle.sap_names.specs.declared.fault.Fault.{Fault}
 use Rattle.sap_names.specs.declared.kind.Code.{Code}
 use Rattle.sap_names.specs.declared.kind.Code.TheVariants.{E3, E4, E5, E6, E7, E8, E9, E10, E11, E12, E14, E15, E16, E17}
@@ -26,15 +28,9 @@ Before a b = (a.place.line < b.place.line)
     ⊎ ((a.place.line ≡ b.place.line) × (a.place.column < b.place.column)
     ⊎ ((a.place.line ≡ b.place.line) × (a.place.column ≡ b.place.column) × (number a.code ≤ number b.code)))
 
-abbrev pub StandsIn : Fault → List Fault → Type 0
-StandsIn a [] = ⊥
-StandsIn a (f ∷ fs) = (a ≡ f) ⊎ StandsIn a fs
-
 abbrev pub BeforeAll : Fault → List Fault → Type 0
-BeforeAll a [] = Unit {0}
-BeforeAll a (f ∷ fs) = Before a f × BeforeAll a fs
+BeforeAll a fs = best.BeforeAll Before a fs
 
 -- the first of the faults that stand; none where none stands
 abbrev pub First : Option Fault → List Fault → Type 0
-First None fs = fs ≡ []
-First (Some a) fs = StandsIn a fs × BeforeAll a fs
+First o fs = best.First Before o fs

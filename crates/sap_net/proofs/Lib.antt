@@ -7,4 +7,5 @@ pub mod Observed
 pub mod Examples
 pub mod InputLemmas
 pub mod NamesLemmas
+pub mod NameMaps
 pub mod RulesLemmas

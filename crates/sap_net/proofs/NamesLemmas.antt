@@ -1,5 +1,5 @@
 -- On what stands in Names: what several crates cite.
-use Rattle.std.proofs.Common.{Bool, List, None, Some, [], ap, bytes_eq, false, filter, inl, inr, map, refl, subst, true, ℕ, ◌&&◌, ◌++◌, ◌||◌, ◌∙◌, ◌∷◌, ◌≡◌}
+use Rattle.std.proofs.Common.{Bool, List, None, Some, [], ap, bytes_eq, false, filter, inl, inr, map, refl, subst, sym, true, ℕ, ◌&&◌, ◌++◌, ◌||◌, ◌∙◌, ◌∷◌, ◌≡◌}
 use Rattle.std.specs.List.{AllByRecursion, list_all}
 use Rattle.std.specs.Str.Parse.{AllDigits}
 use Rattle.std.proofs.lemmas.Bool.{and_from, cases_Bool, or_right}
@@ -20,6 +20,11 @@ found_of name of (y ∷ ys) n h = elim (cases_Bool (bytes_eq (name y) n)) [
 pub each_among : (P : Name → Type 0) (xs : List Name) → ((n : Name) → is_among n xs ≡ true → P n) → AllByRecursion P xs
 each_among P [] h = tt
 each_among P (x ∷ xs) h = (h x (rw (bytes_eq_same x) refl), each_among P xs (λ n a. h n (or_right (bytes_eq n x) (is_among n xs) a)))
+
+pub among_each : (P : Name → Type 0) (xs : List Name) → AllByRecursion P xs → (n : Name) → is_among n xs ≡ true → P n
+among_each P [] a n h = absurd (cc)
+among_each P (x ∷ xs) a n h =
+    elim (cases_Bool (bytes_eq n x)) [ inl t ↦ subst P (sym (equal_of_bytes_eq n x t)) a.0 | inr f ↦ among_each P xs a.1 n (rw f at h) ]
 
 pub filter_among : (f : Name → Bool) (xs : List Name) (n : Name) → is_among n (filter f xs) ≡ (is_among n xs && f n)
 filter_among f [] n = refl

@@ -5,8 +5,10 @@ use Rattle.sap_lemmas.proofs.Everywhere.{all_follow}
 use Rattle.sap_maps.proofs.Scopes.{found_behind, found_here}
 use Rattle.sap_maps.specs.Maps.{Name}
 use Rattle.sap_maps.specs.Scope.{Scope, find}
-use Rattle.sap_net.specs.Rules.{AreValues, AreWires, IsWidth, Shapes, readable_after}
+use Rattle.sap_net.specs.Rules.{AreValues, AreWires, IsWidth, Shapes, readable_after, IsOperand}
 use Rattle.sap_net.specs.declared.parts.Input.{Input}
+use Rattle.sap_net.specs.declared.parts.Operand.{Operand}
+use Rattle.sap_net.specs.declared.parts.Operand.TheVariants.{Named, Constant}
 use Rattle.sap_net.specs.declared.parts.Wire.{Wire}
 
 pub values_found : (ms : Shapes) (es : Scope) → AreValues ms es → AllByRecursion (λ e. find es e.0 ≡ Some e.1) es
@@ -34,3 +36,11 @@ readable_kept ms (w ∷ ws) sc a n u h = readable_kept ms ws ((w.name, w.width) 
 pub readable_both : (ws xs : List Wire) (sc : Scope) → readable_after sc (ws ++ xs) ≡ readable_after (readable_after sc ws) xs
 readable_both [] xs sc = refl
 readable_both (w ∷ ws) xs sc = readable_both ws xs ((w.name, w.width) ∷ sc)
+
+-- a scope has what another has
+abbrev pub Grows : Scope → Scope → Type 0
+Grows sc sd = (n : Name) (u : ℕ) → find sc n ≡ Some u → find sd n ≡ Some u
+
+pub operand_grows : (sc sd : Scope) → Grows sc sd → (u : ℕ) (o : Operand) → IsOperand sc u o → IsOperand sd u o
+operand_grows sc sd g u (Named n) h = g n u h
+operand_grows sc sd g u (Constant w x) h = h

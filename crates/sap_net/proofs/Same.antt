@@ -20,18 +20,18 @@ use Rattle.sap_net.specs.Laws.{AreSame, AreSameRuns, SameBefore}
 use Rattle.sap_net.proofs.Settle.{CellsAgree}
 use Rattle.sap_net.proofs.Unique.{operand_agree, wires_agree}
 
-inputs_agree : (is : List Input) (xs : List ℕ) (v w : Valuation) → InputsAre v is xs → InputsAre w is xs → Agree (map (λ i. (i.name, i.width)) is) v w
+pub inputs_agree : (is : List Input) (xs : List ℕ) (v w : Valuation) → InputsAre v is xs → InputsAre w is xs → Agree (map (λ i. (i.name, i.width)) is) v w
 inputs_agree [] xs v w a b n u h = absurd (cc)
 inputs_agree (i ∷ is) [] v w a b n u h = absurd a
 inputs_agree (i ∷ is) (x ∷ xs) v w a b n u h =
     agree_more _ v w i.name i.width (inputs_agree is xs v w a.1 b.1) (a.0 ∙ sym b.0) n u h
 
-registers_agree : (f g : Register → ℕ) (rs : List Register) (v w : Valuation) → AllByRecursion (λ r. v.value r.name ≡ f r) rs → AllByRecursion (λ r. w.value r.name ≡ g r) rs → AllByRecursion (λ r. f r ≡ g r) rs → Agree (map (λ r. (r.name, r.width)) rs) v w
+pub registers_agree : (f g : Register → ℕ) (rs : List Register) (v w : Valuation) → AllByRecursion (λ r. v.value r.name ≡ f r) rs → AllByRecursion (λ r. w.value r.name ≡ g r) rs → AllByRecursion (λ r. f r ≡ g r) rs → Agree (map (λ r. (r.name, r.width)) rs) v w
 registers_agree f g [] v w a b e n u h = absurd (cc)
 registers_agree f g (r ∷ rs) v w a b e n u h =
     agree_more _ v w r.name r.width (registers_agree f g rs v w a.1 b.1 e.1) (a.0 ∙ e.0 ∙ sym b.0) n u h
 
-cells_agree : (f g : Memory → ℕ → ℕ) (ms : List Memory) (v w : Valuation) → AllByRecursion (λ m. (i : ℕ) → v.cell m.name i ≡ f m i) ms → AllByRecursion (λ m. (i : ℕ) → w.cell m.name i ≡ g m i) ms → AllByRecursion (λ m. (i : ℕ) → f m i ≡ g m i) ms → CellsAgree (map (λ m. (m.name, (m.width, m.depth))) ms) v w
+pub cells_agree : (f g : Memory → ℕ → ℕ) (ms : List Memory) (v w : Valuation) → AllByRecursion (λ m. (i : ℕ) → v.cell m.name i ≡ f m i) ms → AllByRecursion (λ m. (i : ℕ) → w.cell m.name i ≡ g m i) ms → AllByRecursion (λ m. (i : ℕ) → f m i ≡ g m i) ms → CellsAgree (map (λ m. (m.name, (m.width, m.depth))) ms) v w
 cells_agree f g [] v w a b e n u h i = absurd (cc)
 cells_agree f g (m ∷ ms) v w a b e n u h i =
     ⊎_elim

@@ -5,6 +5,7 @@ use Rattle.sap_maps.specs.Maps.{Name}
 use Rattle.sap_maps.specs.Scope.{Scope, find}
 use Rattle.sap_net.specs.declared.parts.PortKind.{PortKind}
 use Rattle.sap_net.specs.declared.parts.PortKind.TheVariants as kind
+use Rattle.sap_net.specs.declared.parts.Wire.{Wire}
 use Rattle.sap_net.specs.Net.{Net}
 use Rattle.sap_net.specs.Names.{is_name, is_among, AreDistinct}
 use Rattle.sap_net.specs.Rules.{Shapes, AreWires, readable_after, IsRegister, IsMemory, AreValues, AreMemories}
@@ -12,8 +13,11 @@ use Rattle.sap_net.specs.Rules.{Shapes, AreWires, readable_after, IsRegister, Is
 abbrev pub input_names : Net → List Name
 input_names n = map (λ x. x.name) n.inputs
 
+abbrev pub names_of : List Wire → List Name
+names_of ws = map (λ w. w.name) ws
+
 abbrev pub wire_names : Net → List Name
-wire_names n = map (λ x. x.name) n.wires
+wire_names n = names_of n.wires
 
 abbrev pub register_names : Net → List Name
 register_names n = map (λ x. x.name) n.registers

@@ -1,5 +1,6 @@
 -- What holds of the runs of every netlist.
-use Rattle.std.specs.Prelude.{◌≡◌, ℕ, List, [], ◌∷◌, Option, Some, None}
+use Rattle.std.specs.Prelude.{◌≡◌, ℕ, List, Option, Some, None}
+use Rattle.std.specs.List.{AllZip}
 use Rattle.sap_maps.specs.Maps.{Name, Valuation}
 use Rattle.sap_maps.specs.Scope.{find}
 use Rattle.sap_net.specs.Net.{Net}
@@ -14,10 +15,7 @@ pub record AreSame (n : Net) (v w : Valuation) : Type 0 where
 
 -- equal numbers in each cycle
 abbrev pub AreSameRuns : Net → List Valuation → List Valuation → Type 0
-AreSameRuns n [] [] = Unit {0}
-AreSameRuns n [] (w ∷ ws) = ⊥
-AreSameRuns n (v ∷ vs) [] = ⊥
-AreSameRuns n (v ∷ vs) (w ∷ ws) = AreSame n v w × AreSameRuns n vs ws
+AreSameRuns n = AllZip (AreSame n)
 
 -- a run on each list of inputs that fit
 abbrev pub SomeRun : Net → Type 0

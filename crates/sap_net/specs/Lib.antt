@@ -1,4 +1,5 @@
 pub mod Names
+pub mod NameMaps
 pub mod Net
 pub mod Values
 pub mod Rules

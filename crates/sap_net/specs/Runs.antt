@@ -1,6 +1,6 @@
 -- Valuations and runs.
 use Rattle.std.specs.Prelude.{◌≡◌, ℕ, ◌^◌, ◌<◌, ◌==◌, ◌&&◌, List, [], ◌∷◌, Option, Some, None, if◌then◌else◌, map}
-use Rattle.std.specs.List.{AllByRecursion}
+use Rattle.std.specs.List.{AllByRecursion, AllZip}
 use Rattle.sap_maps.specs.Maps.{Name, Valuation}
 use Rattle.sap_maps.specs.Scope.{find}
 use Rattle.sap_net.specs.declared.parts.Operand.{Operand}
@@ -36,17 +36,11 @@ Begins n (Some p) v =
 
 -- one number for each input, within its width
 abbrev pub InputsFit : List Input → List ℕ → Type 0
-InputsFit [] [] = Unit {0}
-InputsFit [] (x ∷ xs) = ⊥
-InputsFit (i ∷ is) [] = ⊥
-InputsFit (i ∷ is) (x ∷ xs) = (x < 2 ^ i.width) × InputsFit is xs
+InputsFit = AllZip (λ (i : Input) (x : ℕ). x < 2 ^ i.width)
 
 -- the inputs have these numbers
 abbrev pub InputsAre : Valuation → List Input → List ℕ → Type 0
-InputsAre v [] [] = Unit {0}
-InputsAre v [] (x ∷ xs) = ⊥
-InputsAre v (i ∷ is) [] = ⊥
-InputsAre v (i ∷ is) (x ∷ xs) = (v.value i.name ≡ x) × InputsAre v is xs
+InputsAre v = AllZip (λ (i : Input) (x : ℕ). v.value i.name ≡ x)
 
 -- the cycle after `before`, or the first, on these numbers of the inputs
 pub record IsCycle (n : Net) (before : Option Valuation) (inputs : List ℕ) (v : Valuation) : Type 0 where

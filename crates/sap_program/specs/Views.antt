@@ -3,6 +3,7 @@ use Rattle.std.specs.Prelude.{ℕ, List, [], ◌∷◌, length, map}
 use Rattle.sap_maps.specs.Term.{Term, constant, read, cell, one, two, choose, join, part}
 use Rattle.sap_meaning.specs.Program.{LevelTerm, fixed, of, at_place, both, Arms, Last, Block, End, Then, Group, None, More}
 use Rattle.sap_meaning.specs.Program as program
+use Rattle.sap_meaning.specs.Checks as checks
 use Rattle.sap_lattice.specs.Order.{Order}
 use Rattle.sap_program.specs.Hangs.{flags}
 use Rattle.sap_program.specs.declared.program.Program.{Program}
@@ -18,6 +19,7 @@ use Rattle.sap_program.specs.declared.program.Step.TheVariants as step
 use Rattle.sap_program.specs.declared.program.Arm.{Arm}
 use Rattle.sap_program.specs.declared.program.Command.{Command, Row_of-Command, end_of-Command, more_of-Command, Row_of-Arm, end_of-Arm, more_of-Arm}
 use Rattle.sap_program.specs.declared.program.Command.TheVariants as command
+use Rattle.sap_program.specs.declared.spot.Spot.{Spot}
 use Rattle.sap_program.specs.declared.program.State.{State, State', Row_of-State, end_of-State, more_of-State}
 
 abbrev pub kind_of_sort : Sort → program.Kind
@@ -100,6 +102,10 @@ unfoldable mutual
 unfoldable pub group_of : (n : ℕ) → List State → Group
 group_of n [] = None
 group_of n (s ∷ ss) = More (state_of n s) (group_of n ss)
+
+-- where a body stands
+abbrev pub spot_of : (n : ℕ) → Spot → checks.Spot
+spot_of n at = record { state = at.state; parent = at.parent; children = group_of n at.children.now }
 
 -- one block behind another
 abbrev pub followed : Block → Block → Block

@@ -4,3 +4,4 @@
 pub mod hang;
 mod makers;
 pub mod program;
+pub mod spot;

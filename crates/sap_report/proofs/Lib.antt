@@ -3,4 +3,3 @@ pub mod Names
 pub mod LevelLines
 pub mod PointLines
 pub mod SiteLines
-mod Agreeing

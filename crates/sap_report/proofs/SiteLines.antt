@@ -7,7 +7,7 @@ use Rattle.sap_lemmas.proofs.Lists.{after_part, drop_past}
 use Rattle.sap_tree.specs.Syntax.{SimpleCommand, Command, Do, Try, If, TryThen, Case, Arms, Last, Arm, CommandBlock, Commands, ElseBlock, NoElse, Else, CommandList, NoCommand, AndCommand, StateTree, StateOf, StateList, NoState, AndState, DesignTree}
 use Rattle.sap_names.specs.declared.entity.Entity.{Entity}
 use Rattle.sap_names.specs.Entities.{entities_of, declared_in, group_entities, number_of}
-use Rattle.sap_shape.specs.Sites.{is_site, Context, CheckSite, simple_sites, command_sites, block_sites, else_sites, arms_sites, list_sites, state_sites, states_sites}
+use Rattle.sap_shape.specs.Sites.{is_site, Surroundings, CheckSite, simple_sites, command_sites, block_sites, else_sites, arms_sites, list_sites, state_sites, states_sites}
 use Rattle.sap_check.specs.declared.site.Site.{Site}
 use Rattle.sap_check.specs.Sites.{entity_number, target_of, site_of, sites_of}
 use Rattle.sap_report.specs.Report.{site_line, site_lines}
@@ -81,9 +81,9 @@ small-choice n false s h = tt
 small-parts : (n : ℕ) (a b : List CheckSite) → Small n (map site_of a) → Small n (map site_of b) → Small n (map site_of (a ++ b))
 small-parts n a b p q = subst (λ (ss : List Site). Small n ss) (sym (map-append site_of a b)) (small-both n (map site_of a) (map site_of b) p q)
 
-module _ (h : Context) (p : 0 < length h.entities) where
+module _ (h : Surroundings) (p : 0 < length h.entities) where
   simple-small : (k : SimpleCommand) → Small (length h.entities) (map site_of (simple_sites h k))
-  simple-small k = small-choice (length h.entities) (is_site h.entities h.home.kind h.home.children k) (record { context = h; command = k }) (number-small h.entities (target_of h k) p)
+  simple-small k = small-choice (length h.entities) (is_site h.entities h.home.kind h.home.children k) (record { surroundings = h; command = k }) (number-small h.entities (target_of h k) p)
 
   mutual
     unfolding Small
@@ -118,7 +118,7 @@ module _ (es : List Entity) (p : 0 < length es) where
 
     state-small : (s : StateTree) → Small (length es) (map site_of (state_sites es s))
     state-small (StateOf place name kind body children) =
-        let h : Context = record { entities = es; home = record { name = name.name; kind = kind; children = children } } in
+        let h : Surroundings = record { entities = es; home = record { name = name.name; kind = kind; children = children } } in
         small-parts (length es) (block_sites h body) (states_sites es children) (block-small h p body) (states-small children)
 
     states-small : (ss : StateList) → Small (length es) (map site_of (states_sites es ss))

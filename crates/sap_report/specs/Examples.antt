@@ -1,28 +1,14 @@
 -- The reports of small designs, worked out.
-use Rattle.std.specs.Prelude.{◌≡◌, ℕ, List, [], ◌∷◌, ◌++◌, None, true, false, codes}
+use Rattle.std.specs.Prelude.{◌≡◌, [], ◌∷◌, ◌++◌, None, true, false, codes}
+use Rattle.sap_text.specs.Places.{line}
 use Rattle.sap_lattice.specs.Levels.{Levels}
-use Rattle.sap_tree.specs.declared.name.Mention.{Mention}
-use Rattle.sap_text.specs.declared.place.Place.{Place}
-use Rattle.sap_tree.specs.declared.place.Spot.{Spot}
+use Rattle.sap_tree.specs.Making.{on, spot, mention, numeral_at}
 use Rattle.sap_tree.specs.declared.syntax.Kind.TheVariants.{Dynamic, Enforced}
 use Rattle.sap_tree.specs.declared.syntax.Decl.TheVariants.{Input, Register}
 use Rattle.sap_tree.specs.declared.syntax.BinaryOperator.TheVariants as operator
 use Rattle.sap_tree.specs.Syntax.{Number, Read, Binary, Assign, Goto, Command, Do, If, Commands, NoElse, NoCommand, AndCommand, StateOf, NoState, AndState, DesignTree}
 use Rattle.sap_tree.specs.declared.version.Version.TheVariants.{One}
 use Rattle.sap_report.specs.Report.{report_text}
-
-abbrev pub at : ℕ → ℕ → Place
-at line column = record { line = line; column = column }
-
-abbrev pub spot : ℕ → ℕ → Spot
-spot line column = record { first = at line column; at = at line column }
-
-abbrev pub named : ℕ → ℕ → List ℕ → Mention
-named line column name = record { place = at line column; name = name }
-
--- a line of a text
-abbrev pub line : List ℕ → List ℕ
-line text = text ++ 10 ∷ []
 
 -- a and b between low and high
 abbrev pub four_levels : Levels
@@ -34,17 +20,17 @@ four_levels = record {
 -- if (a == 1) { x := 1; }
 abbrev pub choosing : Command
 choosing =
-    If (at 4 3) (Binary (record { first = at 4 7; at = at 4 9 }) operator.Eq (Read (spot 4 7) (codes "a")) (Number (spot 4 12) 1))
-    (Commands (AndCommand (Do (Assign (named 4 17 (codes "x")) (Number (spot 4 22) 1))) NoCommand) (at 4 25)) NoElse
+    If (on 4 3) (Binary (record { first = on 4 7; at = on 4 9 }) operator.Eq (Read (spot (on 4 7)) (codes "a")) (Number (spot (on 4 12)) 1))
+    (Commands (AndCommand (Do (Assign (mention (on 4 17) (codes "x")) (Number (spot (on 4 22)) 1))) NoCommand) (on 4 25)) NoElse
 
 -- On six lines: input a : 8; reg x : 8 dynamic; state S enforced low { if (a == 1) { x := 1; } goto S; }
 abbrev pub assigns_under_if : DesignTree
 assigns_under_if = record {
   version = One;
-  declarations = Input (at 1 1) (named 1 7 (codes "a")) (record { place = at 1 11; value = 8 })
-      ∷ Register (at 2 1) (named 2 5 (codes "x")) (record { place = at 2 9; value = 8 }) (Dynamic (at 2 11)) None ∷ [];
-  states = AndState (StateOf (at 3 1) (named 3 7 (codes "S")) (Enforced (named 3 18 (codes "low")) None)
-      (Commands (AndCommand choosing (AndCommand (Do (Goto (at 5 3) (named 5 8 (codes "S")))) NoCommand)) (at 6 1)) NoState) NoState;
+  declarations = Input (on 1 1) (mention (on 1 7) (codes "a")) (numeral_at (on 1 11) 8)
+      ∷ Register (on 2 1) (mention (on 2 5) (codes "x")) (numeral_at (on 2 9) 8) (Dynamic (on 2 11)) None ∷ [];
+  states = AndState (StateOf (on 3 1) (mention (on 3 7) (codes "S")) (Enforced (mention (on 3 18) (codes "low")) None)
+      (Commands (AndCommand choosing (AndCommand (Do (Goto (on 5 3) (mention (on 5 8) (codes "S")))) NoCommand)) (on 6 1)) NoState) NoState;
 }
 
 abbrev pub OnePoint : Type 0
@@ -65,8 +51,8 @@ abbrev pub staying : DesignTree
 staying = record {
   version = One;
   declarations = [];
-  states = AndState (StateOf (at 1 1) (named 1 7 (codes "S")) (Enforced (named 1 18 (codes "bot")) None)
-      (Commands (AndCommand (Do (Goto (at 1 24) (named 1 29 (codes "S")))) NoCommand) (at 1 32)) NoState) NoState;
+  states = AndState (StateOf (on 1 1) (mention (on 1 7) (codes "S")) (Enforced (mention (on 1 18) (codes "bot")) None)
+      (Commands (AndCommand (Do (Goto (on 1 24) (mention (on 1 29) (codes "S")))) NoCommand) (on 1 32)) NoState) NoState;
 }
 
 abbrev pub FiveLevels : Type 0

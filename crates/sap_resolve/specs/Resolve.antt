@@ -9,16 +9,16 @@ use Rattle.sap_names.specs.declared.entity.Entity.{Entity}
 use Rattle.sap_names.specs.Widths.{register_width, cell_width, index_width}
 use Rattle.sap_meaning.specs.Program.{Step, Set, Retag, RetagCell, Goto, Fall, Command, Do, Try, If, TryThen, Case, Arms, Last, Arm, Block, End, Then, State, Node, Group, None, More}
 use Rattle.sap_meaning.specs.Program as program
-use Rattle.sap_shape.specs.Sites.{is_site, Context, simple_sites, command_sites, block_sites, state_sites}
+use Rattle.sap_shape.specs.Sites.{is_site, Surroundings, simple_sites, command_sites, block_sites, state_sites}
 use Rattle.sap_lattice.specs.Levels.{Levels}
 use Rattle.sap_resolve.specs.Worlds.{states_in}
 use Rattle.sap_resolve.specs.Terms.{entity_number, term_of, level_term}
 
 -- the number of a command where the next site has the number k
-abbrev pub site_number : Context → ℕ → SimpleCommand → ℕ
+abbrev pub site_number : Surroundings → ℕ → SimpleCommand → ℕ
 site_number h k c = if is_site h.entities h.home.kind h.home.children c then k else 0
 
-abbrev pub step_of : Levels → Context → (site : ℕ) → SimpleCommand → Step
+abbrev pub step_of : Levels → Surroundings → (site : ℕ) → SimpleCommand → Step
 step_of ls h n (Assign target e) =
     Set n (entity_number h.entities target.name) (term_of h.entities e (register_width (what_is h.entities target.name)))
 step_of ls h n (Write target index e) =
@@ -44,7 +44,7 @@ numbers_of (AndPart e parts) = number_of e ∷ numbers_of parts
 
 -- a part in which the next site has the number k
 abbrev mutual
-  pub command_of : Levels → Context → (k : ℕ) → tree.Command → Command
+  pub command_of : Levels → Surroundings → (k : ℕ) → tree.Command → Command
   command_of ls h k (tree.Do c) = Do (step_of ls h (site_number h k c) c)
   command_of ls h k (tree.Try c place handler) =
       Try (step_of ls h (site_number h k c) c) [] (block_of ls h (k + length (simple_sites h c)) handler)
@@ -56,19 +56,19 @@ abbrev mutual
       (block_of ls h (k + length (simple_sites h c) + length (block_sites h accepted)) refused)
   command_of ls h k (tree.Case place e arms) = Case [] (term_of h.entities e NoWidth) (arms_of ls h k arms)
 
-  pub block_of : Levels → Context → (k : ℕ) → CommandBlock → Block
+  pub block_of : Levels → Surroundings → (k : ℕ) → CommandBlock → Block
   block_of ls h k (Commands cs after) = list_of ls h k cs
 
   -- a missing `else` is an empty one
-  pub else_of : Levels → Context → (k : ℕ) → ElseBlock → Block
+  pub else_of : Levels → Surroundings → (k : ℕ) → ElseBlock → Block
   else_of ls h k NoElse = End
   else_of ls h k (Else b) = block_of ls h k b
 
-  pub arms_of : Levels → Context → (k : ℕ) → tree.Arms → Arms
+  pub arms_of : Levels → Surroundings → (k : ℕ) → tree.Arms → Arms
   arms_of ls h k (tree.Last b) = Last (block_of ls h k b)
   arms_of ls h k (tree.Arm constants b arms) = Arm (numbers_of constants) (block_of ls h k b) (arms_of ls h (k + length (block_sites h b)) arms)
 
-  pub list_of : Levels → Context → (k : ℕ) → CommandList → Block
+  pub list_of : Levels → Surroundings → (k : ℕ) → CommandList → Block
   list_of ls h k NoCommand = End
   list_of ls h k (AndCommand c cs) = Then (command_of ls h k c) (list_of ls h (k + length (command_sites h c)) cs)
 
@@ -76,7 +76,7 @@ abbrev mutual
 abbrev mutual
   pub state_of : Levels → List Entity → (k x : ℕ) → StateTree → State
   state_of ls es k x (StateOf place name kind body children) =
-      let h : Context = record { entities = es; home = home_of (StateOf place name kind body children) } in
+      let h : Surroundings = record { entities = es; home = home_of (StateOf place name kind body children) } in
       Node x (block_of ls h k body) (group_of ls es (k + length (block_sites h body)) (x + 1) children)
 
   pub group_of : Levels → List Entity → (k x : ℕ) → StateList → Group

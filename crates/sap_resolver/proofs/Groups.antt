@@ -17,18 +17,18 @@ use Rattle.sap_meaning.specs.Program.{None, More, Node, Group}
 use Rattle.sap_meaning.specs.Program as program
 use Rattle.sap_resolve.specs.Resolve as resolve
 use Rattle.sap_shape.specs.Sites as sites
-use Rattle.sap_shape.specs.Sites.{Context}
+use Rattle.sap_shape.specs.Sites.{Surroundings}
 use Rattle.sap_resolve.specs.Worlds as worlds
 use Rattle.sap_program.specs.declared.program.State as code
 use Rattle.sap_program.specs.Views as views
-use Rattle.sap_resolver.specs.Lists.{list_from, list_sites, group_from, group_sites, states_below}
+use Rattle.sap_resolver.specs.Lists.{list_from, list_site_count, group_from, group_site_count, states_below}
 use Rattle.sap_resolver.specs.Rows.{Rows, block_points, state_points, group_points, state_with, group_with}
 use Rattle.sap_resolver.proofs.Lists.{item_drop, add_add}
 use Rattle.sap_program.proofs.Shown.{joined-none, joined-push}
 
 -- where a state's body stands
-abbrev pub context : List Entity → State → Context
-context es s = record { entities = es; home = record { name = (out-State s).name.name; kind = (out-State s).kind; children = states_of (out-State s).children.items } }
+abbrev pub surroundings : List Entity → State → Surroundings
+surroundings es s = record { entities = es; home = record { name = (out-State s).name.name; kind = (out-State s).kind; children = states_of (out-State s).children.items } }
 
 module _ (ls : Levels) (es : List Entity) where
   group_from-more : (k x : ℕ) (d : State) (rest : List State)
@@ -92,40 +92,40 @@ module _ (ls : Levels) (es : List Entity) where
 
   pub state_from : (k x : ℕ) (s : State)
       → resolve.state_of ls es k x (trees.state_of s)
-      ≡ Node x (list_from ls (context es s) k (out-State s).body.commands.items) (group_from ls es (k + list_sites (context es s) (out-State s).body.commands.items) (x + 1) (out-State s).children.items)
-  unfolding list_from list_sites group_from
+      ≡ Node x (list_from ls (surroundings es s) k (out-State s).body.commands.items) (group_from ls es (k + list_site_count (surroundings es s) (out-State s).body.commands.items) (x + 1) (out-State s).children.items)
+  unfolding list_from list_site_count group_from
   state_from k x s = ap (λ (t : StateTree). resolve.state_of ls es k x t) (state_of-out s)
 
 module _ (es : List Entity) where
-  group_sites-more : (d : State) (rest : List State) → group_sites es (d ∷ rest) ≡ length (sites.state_sites es (trees.state_of d)) + group_sites es rest
-  unfolding group_sites
-  group_sites-more d rest = length-append (sites.state_sites es (trees.state_of d)) (sites.states_sites es (states_of rest))
+  group_site_count-more : (d : State) (rest : List State) → group_site_count es (d ∷ rest) ≡ length (sites.state_sites es (trees.state_of d)) + group_site_count es rest
+  unfolding group_site_count
+  group_site_count-more d rest = length-append (sites.state_sites es (trees.state_of d)) (sites.states_sites es (states_of rest))
 
-  group_sites-none : group_sites es [] ≡ 0
-  unfolding group_sites
-  group_sites-none = refl
+  group_site_count-none : group_site_count es [] ≡ 0
+  unfolding group_site_count
+  group_site_count-none = refl
 
   pub group_sites_step : (ss : List State) (n : ℕ) (d : State) (k j : ℕ) → n < length ss → d ≡ get_or ss n d → j ≡ k + length (sites.state_sites es (trees.state_of d))
-      → j + group_sites es (drop (n + 1) ss) ≡ k + group_sites es (drop n ss)
+      → j + group_site_count es (drop (n + 1) ss) ≡ k + group_site_count es (drop n ss)
   group_sites_step ss n d k j l e q =
-      ap (λ (i : ℕ). i + group_sites es (drop (n + 1) ss)) q
-      ∙ add_add k (length (sites.state_sites es (trees.state_of d))) (group_sites es (drop (n + 1) ss))
-      ∙ ap (λ (i : ℕ). k + i) (sym (ap (group_sites es) (item_drop ss n d l e) ∙ group_sites-more d (drop (n + 1) ss)))
+      ap (λ (i : ℕ). i + group_site_count es (drop (n + 1) ss)) q
+      ∙ add_add k (length (sites.state_sites es (trees.state_of d))) (group_site_count es (drop (n + 1) ss))
+      ∙ ap (λ (i : ℕ). k + i) (sym (ap (group_site_count es) (item_drop ss n d l e) ∙ group_site_count-more d (drop (n + 1) ss)))
 
-  pub group_sites_end : (ss : List State) (n k all : ℕ) → length ss ≤ n → k + group_sites es (drop n ss) ≡ all → k ≡ all
-  group_sites_end ss n k all l e = (let z : group_sites es (drop n ss) ≡ 0 = ap (group_sites es) (drop_past ss n l) ∙ group_sites-none in omega (arith, z, e))
+  pub group_sites_end : (ss : List State) (n k all : ℕ) → length ss ≤ n → k + group_site_count es (drop n ss) ≡ all → k ≡ all
+  group_sites_end ss n k all l e = (let z : group_site_count es (drop n ss) ≡ 0 = ap (group_site_count es) (drop_past ss n l) ∙ group_site_count-none in omega (arith, z, e))
 
   pub group_sites_within : (ss : List State) (n : ℕ) (d : State) (k all limit : ℕ) → n < length ss → d ≡ get_or ss n d
-      → k + group_sites es (drop n ss) ≡ all → all < limit → k + length (sites.state_sites es (trees.state_of d)) < limit
+      → k + group_site_count es (drop n ss) ≡ all → all < limit → k + length (sites.state_sites es (trees.state_of d)) < limit
   group_sites_within ss n d k all limit l e i f =
-      let g = ap (λ (x : ℕ). k + x) (ap (group_sites es) (item_drop ss n d l e) ∙ group_sites-more d (drop (n + 1) ss)) in omega (arith, g, i, f)
+      let g = ap (λ (x : ℕ). k + x) (ap (group_site_count es) (item_drop ss n d l e) ∙ group_site_count-more d (drop (n + 1) ss)) in omega (arith, g, i, f)
 
   pub state_sites-is : (s : State)
-      → length (sites.state_sites es (trees.state_of s)) ≡ list_sites (context es s) (out-State s).body.commands.items + group_sites es (out-State s).children.items
-  unfolding list_sites group_sites
+      → length (sites.state_sites es (trees.state_of s)) ≡ list_site_count (surroundings es s) (out-State s).body.commands.items + group_site_count es (out-State s).children.items
+  unfolding list_site_count group_site_count
   state_sites-is s =
       ap (λ (t : StateTree). length (sites.state_sites es t)) (state_of-out s)
-      ∙ length-append (sites.list_sites (context es s) (trees.commands_of (out-State s).body.commands.items)) (sites.states_sites es (states_of (out-State s).children.items))
+      ∙ length-append (sites.list_sites (surroundings es s) (trees.commands_of (out-State s).body.commands.items)) (sites.states_sites es (states_of (out-State s).children.items))
 
 below-more : (d : State) (rest : List State) → states_below (d ∷ rest) ≡ worlds.states_in (trees.state_of d) + states_below rest
 unfolding states_below
@@ -161,24 +161,24 @@ below_inside s rest r = states_in-is s ∙ ap (λ (g : List State). 1 + states_b
 
 module _ (es : List Entity) (s : State) (first : List State) (first_is : first ≡ (out-State s).children.items) (body : List Cmd) (body_is : body ≡ (out-State s).body.commands.items)
     (rest : List State) (rest_is : rest ≡ (out-State s).children.items) (limit : ℕ) where
-  abbrev here : Context
+  abbrev here : Surroundings
   here = record { entities = es; home = record { name = (out-State s).name.name; kind = (out-State s).kind; children = states_of first } }
 
-  here_is : here ≡ context es s
+  here_is : here ≡ surroundings es s
   here_is = ap (λ (l : List State). record { entities = es; home = record { name = (out-State s).name.name; kind = (out-State s).kind; children = states_of l } }) first_is
 
-  body_sites : list_sites here body ≡ list_sites (context es s) (out-State s).body.commands.items
-  body_sites = ap₂ (λ (h : Context) (l : List Cmd). list_sites h l) here_is body_is
+  body_sites : list_site_count here body ≡ list_site_count (surroundings es s) (out-State s).body.commands.items
+  body_sites = ap₂ (λ (h : Surroundings) (l : List Cmd). list_site_count h l) here_is body_is
 
-  pub rest_sites : (k j : ℕ) → j ≡ k + list_sites here body → k + length (sites.state_sites es (trees.state_of s)) < limit → j + group_sites es rest < limit
+  pub rest_sites : (k j : ℕ) → j ≡ k + list_site_count here body → k + length (sites.state_sites es (trees.state_of s)) < limit → j + group_site_count es rest < limit
   rest_sites k j e l =
-      (let a = state_sites-is es s in let b = body_sites in let d = ap (λ (r : List State). group_sites es r) rest_is in omega (arith, a, b, d, e, l))
+      (let a = state_sites-is es s in let b = body_sites in let d = ap (λ (r : List State). group_site_count es r) rest_is in omega (arith, a, b, d, e, l))
 
-  pub rest_points : (ls : Levels) (k j x p u : ℕ) → j ≡ k + list_sites here body → u ≡ p + block_points (list_from ls here k body)
+  pub rest_points : (ls : Levels) (k j x p u : ℕ) → j ≡ k + list_site_count here body → u ≡ p + block_points (list_from ls here k body)
       → p + state_points (resolve.state_of ls es k x (trees.state_of s)) < limit → u + group_points (group_from ls es j (x + 1) rest) < limit
   rest_points ls k j x p u e w l =
       (let a = ap (λ (t : program.State). p + state_points t) (state_from ls es k x s) in
-      let b = ap₂ (λ (h : Context) (cs : List Cmd). block_points (list_from ls h k cs)) here_is body_is in
+      let b = ap₂ (λ (h : Surroundings) (cs : List Cmd). block_points (list_from ls h k cs)) here_is body_is in
       let d = ap₂ (λ (i : ℕ) (r : List State). group_points (group_from ls es i (x + 1) r)) (e ∙ ap (λ (n : ℕ). k + n) body_sites) rest_is in
       omega (arith, a, b, d, w, l))
 
@@ -193,9 +193,9 @@ unfolding group_from
 whole_states v ls ds ss es seen x rows made a b d h = h ∙ rw (a, b, d) refl
 
 pub whole_sites : (v : Version) (ds : List Decl) (ss : List State) (es : List Entity) (seen : List State) (j count : ℕ) → es ≡ entities_of (tree_of v ds ss) → seen ≡ ss
-    → j ≡ 1 + group_sites es seen → count + 1 ≡ j → count ≡ length (sites.check_sites (tree_of v ds ss))
-unfolding group_sites
-whole_sites v ds ss es seen j count a b h k = (let e = ap₂ (λ (x : List Entity) (l : List State). group_sites x l) a b in omega (arith, e, h, k))
+    → j ≡ 1 + group_site_count es seen → count + 1 ≡ j → count ≡ length (sites.check_sites (tree_of v ds ss))
+unfolding group_site_count
+whole_sites v ds ss es seen j count a b h k = (let e = ap₂ (λ (x : List Entity) (l : List State). group_site_count x l) a b in omega (arith, e, h, k))
 
 -- a call's clause as that of its caller
 pub on_ok : {T E : Type 0} (r : Result T E) (P Q : Type 0) → (P → Q) → OnOk r P → OnOk r Q

@@ -17,12 +17,12 @@ use Rattle.sap_names.specs.declared.entity.Entity.{Entity}
 use Rattle.sap_shape.proofs.SiteCounts.{states_few}
 use Rattle.sap_resolve.specs.Resolve as resolve
 use Rattle.sap_shape.specs.Sites as sites
-use Rattle.sap_shape.specs.Sites.{Context}
+use Rattle.sap_shape.specs.Sites.{Surroundings}
 use Rattle.sap_resolve.specs.Worlds as worlds
 use Rattle.sap_resolver.specs.Lists as lists
 use Rattle.sap_resolver.specs.Rows.{step_points, command_points, arms_points, block_points, state_points, group_points}
 
-step_points-few : (ls : Levels) (h : Context) (n : ℕ) (k : SimpleCommand) → step_points (resolve.step_of ls h n k) ≤ 1
+step_points-few : (ls : Levels) (h : Surroundings) (n : ℕ) (k : SimpleCommand) → step_points (resolve.step_of ls h n k) ≤ 1
 step_points-few ls h n (Assign target e) = omega arith
 step_points-few ls h n (Write target index e) = omega arith
 step_points-few ls h n (SetTag place target tag) = omega arith
@@ -30,7 +30,7 @@ step_points-few ls h n (SetCellTag place target index tag) = omega arith
 step_points-few ls h n (Goto place target) = omega arith
 step_points-few ls h n (Fall place) = omega arith
 
-module _ (ls : Levels) (h : Context) where
+module _ (ls : Levels) (h : Surroundings) where
   mutual
     unfolding command_count block_count arms_count else_count list_count
 
@@ -67,7 +67,7 @@ module _ (ls : Levels) (es : List Entity) where
 
     state_points-few : (k x : ℕ) (s : StateTree) → state_points (resolve.state_of ls es k x s) ≤ 2 * state_commands s
     state_points-few k x (StateOf place name kind body children) =
-        let h : Context = record { entities = es; home = record { name = name.name; kind = kind; children = children } } in
+        let h : Surroundings = record { entities = es; home = record { name = name.name; kind = kind; children = children } } in
         let a = block_points-few ls h k body in let b = group_points-few (k + length (sites.block_sites h body)) (x + 1) children in omega arith
 
     group_points-few : (k x : ℕ) (ss : StateList) → group_points (resolve.group_of ls es k x ss) ≤ 2 * states_commands ss
@@ -118,9 +118,9 @@ module _ (t : DesignTree) (whole : IsTrue (is_whole t)) where
 
 -- as the code sees them
 
-pub sites_fit : (v : Version) (ls : Levels) (ds : List Decl) (ss : List State) (es : List Entity) (seen : List State) → IsTrue (is_whole (tree_of v ds ss)) → seen ≡ ss → 1 + lists.group_sites es seen < 2 ^ 32
-unfolding lists.group_sites
-sites_fit v ls ds ss es seen whole b = (let a = few_sites (tree_of v ds ss) whole ls es in let e = ap (λ (l : List State). lists.group_sites es l) b in omega (arith, a, e))
+pub sites_fit : (v : Version) (ls : Levels) (ds : List Decl) (ss : List State) (es : List Entity) (seen : List State) → IsTrue (is_whole (tree_of v ds ss)) → seen ≡ ss → 1 + lists.group_site_count es seen < 2 ^ 32
+unfolding lists.group_site_count
+sites_fit v ls ds ss es seen whole b = (let a = few_sites (tree_of v ds ss) whole ls es in let e = ap (λ (l : List State). lists.group_site_count es l) b in omega (arith, a, e))
 
 pub points_fit : (v : Version) (ls : Levels) (ds : List Decl) (ss : List State) (es : List Entity) (k x : ℕ) (seen : List State) → IsTrue (is_whole (tree_of v ds ss)) → seen ≡ ss
     → 1 + group_points (lists.group_from ls es k x seen) < 2 ^ 32

@@ -9,10 +9,10 @@ use Rattle.sap_meaning.specs.Program.{End, Then}
 use Rattle.sap_meaning.specs.Program as program
 use Rattle.sap_resolve.specs.Resolve as resolve
 use Rattle.sap_shape.specs.Sites as sites
-use Rattle.sap_shape.specs.Sites.{Context}
+use Rattle.sap_shape.specs.Sites.{Surroundings}
 use Rattle.sap_program.specs.declared.program.Command.{Command}
 use Rattle.sap_program.specs.Views as views
-use Rattle.sap_resolver.specs.Lists.{list_from, list_sites}
+use Rattle.sap_resolver.specs.Lists.{list_from, list_site_count}
 use Rattle.sap_resolver.specs.Rows.{Rows, command_points, block_points, command_with, block_with}
 use Rattle.sap_program.proofs.Shown.{followed-end, followed-push}
 
@@ -24,7 +24,7 @@ item_drop (x ∷ xs) (suc n) d l e = let r = item_drop xs n d (omega arith) e in
 pub add_add : (a b c : ℕ) → a + b + c ≡ a + (b + c)
 add_add a b c = omega arith
 
-module _ (ls : Levels) (h : Context) where
+module _ (ls : Levels) (h : Surroundings) where
   list_from-more : (k : ℕ) (d : Cmd) (rest : List Cmd)
       → list_from ls h k (d ∷ rest) ≡ Then (resolve.command_of ls h k (trees.command_of d)) (list_from ls h (k + length (sites.command_sites h (trees.command_of d))) rest)
   unfolding list_from
@@ -87,36 +87,36 @@ module _ (ls : Levels) (h : Context) where
   unfolding list_from
   else_from k b = refl
 
-module _ (h : Context) where
-  list_sites-more : (d : Cmd) (rest : List Cmd) → list_sites h (d ∷ rest) ≡ length (sites.command_sites h (trees.command_of d)) + list_sites h rest
-  unfolding list_sites
-  list_sites-more d rest = length-append (sites.command_sites h (trees.command_of d)) (sites.list_sites h (trees.commands_of rest))
+module _ (h : Surroundings) where
+  list_site_count-more : (d : Cmd) (rest : List Cmd) → list_site_count h (d ∷ rest) ≡ length (sites.command_sites h (trees.command_of d)) + list_site_count h rest
+  unfolding list_site_count
+  list_site_count-more d rest = length-append (sites.command_sites h (trees.command_of d)) (sites.list_sites h (trees.commands_of rest))
 
-  list_sites-none : list_sites h [] ≡ 0
-  unfolding list_sites
-  list_sites-none = refl
+  list_site_count-none : list_site_count h [] ≡ 0
+  unfolding list_site_count
+  list_site_count-none = refl
 
   pub sites_step : (cs : List Cmd) (n : ℕ) (d : Cmd) (k j : ℕ) → n < length cs → d ≡ get_or cs n d → j ≡ k + length (sites.command_sites h (trees.command_of d))
-      → j + list_sites h (drop (n + 1) cs) ≡ k + list_sites h (drop n cs)
+      → j + list_site_count h (drop (n + 1) cs) ≡ k + list_site_count h (drop n cs)
   sites_step cs n d k j l e q =
-      ap (λ (i : ℕ). i + list_sites h (drop (n + 1) cs)) q
-      ∙ add_add k (length (sites.command_sites h (trees.command_of d))) (list_sites h (drop (n + 1) cs))
-      ∙ ap (λ (i : ℕ). k + i) (sym (ap (list_sites h) (item_drop cs n d l e) ∙ list_sites-more d (drop (n + 1) cs)))
+      ap (λ (i : ℕ). i + list_site_count h (drop (n + 1) cs)) q
+      ∙ add_add k (length (sites.command_sites h (trees.command_of d))) (list_site_count h (drop (n + 1) cs))
+      ∙ ap (λ (i : ℕ). k + i) (sym (ap (list_site_count h) (item_drop cs n d l e) ∙ list_site_count-more d (drop (n + 1) cs)))
 
-  pub sites_end : (cs : List Cmd) (n k all : ℕ) → length cs ≤ n → k + list_sites h (drop n cs) ≡ all → k ≡ all
-  sites_end cs n k all l e = (let z : list_sites h (drop n cs) ≡ 0 = ap (list_sites h) (drop_past cs n l) ∙ list_sites-none in omega (arith, z, e))
+  pub sites_end : (cs : List Cmd) (n k all : ℕ) → length cs ≤ n → k + list_site_count h (drop n cs) ≡ all → k ≡ all
+  sites_end cs n k all l e = (let z : list_site_count h (drop n cs) ≡ 0 = ap (list_site_count h) (drop_past cs n l) ∙ list_site_count-none in omega (arith, z, e))
 
   pub sites_within : (cs : List Cmd) (n : ℕ) (d : Cmd) (k all limit : ℕ) → n < length cs → d ≡ get_or cs n d
-      → k + list_sites h (drop n cs) ≡ all → all < limit → k + length (sites.command_sites h (trees.command_of d)) < limit
+      → k + list_site_count h (drop n cs) ≡ all → all < limit → k + length (sites.command_sites h (trees.command_of d)) < limit
   sites_within cs n d k all limit l e i f =
-      let g = ap (λ (x : ℕ). k + x) (ap (list_sites h) (item_drop cs n d l e) ∙ list_sites-more d (drop (n + 1) cs)) in omega (arith, g, i, f)
+      let g = ap (λ (x : ℕ). k + x) (ap (list_site_count h) (item_drop cs n d l e) ∙ list_site_count-more d (drop (n + 1) cs)) in omega (arith, g, i, f)
 
-  pub block_sites-is : (b : Block) → length (sites.block_sites h (trees.block_of b)) ≡ list_sites h b.commands.items
-  unfolding list_sites
+  pub block_sites-is : (b : Block) → length (sites.block_sites h (trees.block_of b)) ≡ list_site_count h b.commands.items
+  unfolding list_site_count
   block_sites-is b = refl
 
-  pub else_sites-is : (b : Block) → length (sites.else_sites h (trees.else_of (Some b))) ≡ list_sites h b.commands.items
-  unfolding list_sites
+  pub else_sites-is : (b : Block) → length (sites.else_sites h (trees.else_of (Some b))) ≡ list_site_count h b.commands.items
+  unfolding list_site_count
   else_sites-is b = refl
 
 pub ruleset blocks = (block_from, else_from, block_sites-is, else_sites-is, length-append, add_add)

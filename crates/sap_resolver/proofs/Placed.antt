@@ -13,7 +13,7 @@ use Rattle.sap_meaning.specs.Program.{World, Step, Set, Write, Retag, RetagCell,
 use Rattle.sap_meaning.specs.Checks.{Spot}
 use Rattle.sap_meaning.specs.Touches.{touches}
 use Rattle.sap_hang.specs.Hang.{Table, says, touches_entity, IsHangTable}
-use Rattle.sap_hang.specs.Points.{Point, points_of}
+use Rattle.sap_tree.specs.Points.{Point, points_of}
 use Rattle.sap_resolve.specs.Fill.{table, filled_step, filled, filled_arms, filled_block, filled_state, filled_group, program_of}
 use Rattle.sap_resolve.specs.Resolve.{states_of}
 use Rattle.sap_resolve.specs.Worlds.{world_of}

@@ -1,3 +1,3 @@
 pub mod Rows
-pub mod Contexts
+pub mod Surroundings
 pub mod Lists

@@ -14,25 +14,25 @@ use Rattle.sap_program.specs.declared.program.Entity as code
 use Rattle.sap_resolve.specs.Resolve as resolve
 use Rattle.sap_shape.specs.Lists as shape_lists
 use Rattle.sap_shape.specs.Sites as sites
-use Rattle.sap_shape.specs.Sites.{Context}
+use Rattle.sap_shape.specs.Sites.{Surroundings}
 use Rattle.sap_resolve.specs.Worlds as worlds
 
 -- where the next site has the number k
-unfoldable pub list_from : Levels → Context → (k : ℕ) → List Cmd → Block
+unfoldable pub list_from : Levels → Surroundings → (k : ℕ) → List Cmd → Block
 list_from ls h k cs = resolve.list_of ls h k (commands_of cs)
 
 -- how many check sites they have
-unfoldable pub list_sites : Context → List Cmd → ℕ
-list_sites h cs = length (sites.list_sites h (commands_of cs))
+unfoldable pub list_site_count : Surroundings → List Cmd → ℕ
+list_site_count h cs = length (shape_lists.list_sites h cs)
 
 -- with this block for no arm
-unfoldable pub arms_from : Levels → Context → (k : ℕ) → List Arm → Block → Arms
+unfoldable pub arms_from : Levels → Surroundings → (k : ℕ) → List Arm → Block → Arms
 arms_from ls h k [] last = Last last
 arms_from ls h k (arm ∷ arms) last =
     program.Arm (resolve.numbers_of (constants_of arm)) (resolve.block_of ls h k (arm_block_of arm)) (arms_from ls h (k + length (sites.block_sites h (arm_block_of arm))) arms last)
 
-unfoldable pub arms_sites : Context → List Arm → ℕ
-arms_sites h arms = length (shape_lists.arms_sites h arms)
+unfoldable pub arms_site_count : Surroundings → List Arm → ℕ
+arms_site_count h arms = length (shape_lists.arms_sites h arms)
 
 unfoldable pub numbers_of : List Expr → List ℕ
 numbers_of es = resolve.numbers_of (expressions_of es)
@@ -41,8 +41,8 @@ numbers_of es = resolve.numbers_of (expressions_of es)
 unfoldable pub group_from : Levels → List Entity → (k x : ℕ) → List State → Group
 group_from ls es k x ss = resolve.group_of ls es k x (states_of ss)
 
-unfoldable pub group_sites : List Entity → List State → ℕ
-group_sites es ss = length (sites.states_sites es (states_of ss))
+unfoldable pub group_site_count : List Entity → List State → ℕ
+group_site_count es ss = length (shape_lists.group_sites es ss)
 
 unfoldable pub states_below : List State → ℕ
 states_below ss = worlds.states_below (states_of ss)

@@ -3,7 +3,7 @@
 ghost use Rattle.std.specs.Prelude.{◌≡◌, ◌+◌, ◌++◌, ◌<◌, ◌^◌, IfOk, OnOk, length};
 ghost use Rattle.sap_meaning.specs.Program as meaning;
 ghost use Rattle.sap_program.specs.Hangs.{flags};
-ghost use Rattle.sap_resolver.specs.Contexts.{context_of, rows_of};
+ghost use Rattle.sap_resolver.specs.Surroundings.{surroundings_of, rows_of};
 ghost use Rattle.sap_resolver.specs.Lists as lists;
 ghost use Rattle.sap_resolver.specs.Rows.{arms_points, arms_with, command_points, command_with, block_points, block_with};
 ghost use Rattle.sap_program.specs.Views as views;
@@ -41,12 +41,12 @@ fn command(
     point: &mut u32,
     c: &Cmd,
 ) -> Result<Command, AllocError>
-    requires sites { next.old + length (sites.command_sites (context_of seat.now) (trees.command_of c.now)) < 2 ^ 32 }
-    requires points { point.old + command_points (resolve.command_of seat.now.lattice.now (context_of seat.now) next.old (trees.command_of c.now)) < 2 ^ 32 }
+    requires sites { next.old + length (sites.command_sites (surroundings_of seat.now) (trees.command_of c.now)) < 2 ^ 32 }
+    requires points { point.old + command_points (resolve.command_of seat.now.lattice.now (surroundings_of seat.now) next.old (trees.command_of c.now)) < 2 ^ 32 }
     ensures command { IfOk result (λ r. views.command_of (length seat.now.names.now) r
-        ≡ command_with (rows_of seat.now) point.old (resolve.command_of seat.now.lattice.now (context_of seat.now) next.old (trees.command_of c.now))) }
-    ensures next { OnOk result (next.new ≡ next.old + length (sites.command_sites (context_of seat.now) (trees.command_of c.now))) }
-    ensures point { OnOk result (point.new ≡ point.old + command_points (resolve.command_of seat.now.lattice.now (context_of seat.now) next.old (trees.command_of c.now))) }
+        ≡ command_with (rows_of seat.now) point.old (resolve.command_of seat.now.lattice.now (surroundings_of seat.now) next.old (trees.command_of c.now))) }
+    ensures next { OnOk result (next.new ≡ next.old + length (sites.command_sites (surroundings_of seat.now) (trees.command_of c.now))) }
+    ensures point { OnOk result (point.new ≡ point.old + command_points (resolve.command_of seat.now.lattice.now (surroundings_of seat.now) next.old (trees.command_of c.now))) }
 {
     match c {
         Cmd::Do(simple) => {
@@ -143,12 +143,12 @@ fn arms(
     point: &mut u32,
     list: &[ArmTree],
 ) -> Result<Vec<Arm>, AllocError>
-    requires sites { next.old + lists.arms_sites (context_of seat.now) list.now < 2 ^ 32 }
-    requires points { point.old + arms_points (lists.arms_from seat.now.lattice.now (context_of seat.now) next.old list.now meaning.End) < 2 ^ 32 }
+    requires sites { next.old + lists.arms_site_count (surroundings_of seat.now) list.now < 2 ^ 32 }
+    requires points { point.old + arms_points (lists.arms_from seat.now.lattice.now (surroundings_of seat.now) next.old list.now meaning.End) < 2 ^ 32 }
     ensures arms { IfOk result (λ r. (last : meaning.Block) → views.arms_before (length seat.now.names.now) r.items (meaning.Last (block_with (rows_of seat.now) point.new last))
-        ≡ arms_with (rows_of seat.now) point.old (lists.arms_from seat.now.lattice.now (context_of seat.now) next.old list.now last)) }
-    ensures next { OnOk result (next.new ≡ next.old + lists.arms_sites (context_of seat.now) list.now) }
-    ensures point { OnOk result (point.new ≡ point.old + arms_points (lists.arms_from seat.now.lattice.now (context_of seat.now) next.old list.now meaning.End)) }
+        ≡ arms_with (rows_of seat.now) point.old (lists.arms_from seat.now.lattice.now (surroundings_of seat.now) next.old list.now last)) }
+    ensures next { OnOk result (next.new ≡ next.old + lists.arms_site_count (surroundings_of seat.now) list.now) }
+    ensures point { OnOk result (point.new ≡ point.old + arms_points (lists.arms_from seat.now.lattice.now (surroundings_of seat.now) next.old list.now meaning.End)) }
 {
     let mut made = Vec::new(alloc);
     for arm in list {
@@ -168,12 +168,12 @@ fn otherwise(
     point: &mut u32,
     other: &Option<Block>,
 ) -> Result<Vec<Command>, AllocError>
-    requires sites { next.old + length (sites.else_sites (context_of seat.now) (trees.else_of other.now)) < 2 ^ 32 }
-    requires points { point.old + block_points (resolve.else_of seat.now.lattice.now (context_of seat.now) next.old (trees.else_of other.now)) < 2 ^ 32 }
+    requires sites { next.old + length (sites.else_sites (surroundings_of seat.now) (trees.else_of other.now)) < 2 ^ 32 }
+    requires points { point.old + block_points (resolve.else_of seat.now.lattice.now (surroundings_of seat.now) next.old (trees.else_of other.now)) < 2 ^ 32 }
     ensures commands { IfOk result (λ r. views.block_of (length seat.now.names.now) r.items
-        ≡ block_with (rows_of seat.now) point.old (resolve.else_of seat.now.lattice.now (context_of seat.now) next.old (trees.else_of other.now))) }
-    ensures next { OnOk result (next.new ≡ next.old + length (sites.else_sites (context_of seat.now) (trees.else_of other.now))) }
-    ensures point { OnOk result (point.new ≡ point.old + block_points (resolve.else_of seat.now.lattice.now (context_of seat.now) next.old (trees.else_of other.now))) }
+        ≡ block_with (rows_of seat.now) point.old (resolve.else_of seat.now.lattice.now (surroundings_of seat.now) next.old (trees.else_of other.now))) }
+    ensures next { OnOk result (next.new ≡ next.old + length (sites.else_sites (surroundings_of seat.now) (trees.else_of other.now))) }
+    ensures point { OnOk result (point.new ≡ point.old + block_points (resolve.else_of seat.now.lattice.now (surroundings_of seat.now) next.old (trees.else_of other.now))) }
 {
     match other {
         Some(block) => commands(alloc, seat, next, point, block.commands.as_slice()),
@@ -191,12 +191,12 @@ pub(crate) fn commands(
     point: &mut u32,
     list: &[Cmd],
 ) -> Result<Vec<Command>, AllocError>
-    requires sites { next.old + lists.list_sites (context_of seat.now) list.now < 2 ^ 32 }
-    requires points { point.old + block_points (lists.list_from seat.now.lattice.now (context_of seat.now) next.old list.now) < 2 ^ 32 }
+    requires sites { next.old + lists.list_site_count (surroundings_of seat.now) list.now < 2 ^ 32 }
+    requires points { point.old + block_points (lists.list_from seat.now.lattice.now (surroundings_of seat.now) next.old list.now) < 2 ^ 32 }
     ensures commands { IfOk result (λ r. views.block_of (length seat.now.names.now) r.items
-        ≡ block_with (rows_of seat.now) point.old (lists.list_from seat.now.lattice.now (context_of seat.now) next.old list.now)) }
-    ensures next { OnOk result (next.new ≡ next.old + lists.list_sites (context_of seat.now) list.now) }
-    ensures point { OnOk result (point.new ≡ point.old + block_points (lists.list_from seat.now.lattice.now (context_of seat.now) next.old list.now)) }
+        ≡ block_with (rows_of seat.now) point.old (lists.list_from seat.now.lattice.now (surroundings_of seat.now) next.old list.now)) }
+    ensures next { OnOk result (next.new ≡ next.old + lists.list_site_count (surroundings_of seat.now) list.now) }
+    ensures point { OnOk result (point.new ≡ point.old + block_points (lists.list_from seat.now.lattice.now (surroundings_of seat.now) next.old list.now)) }
 {
     let mut made = Vec::new(alloc);
     for c in list {

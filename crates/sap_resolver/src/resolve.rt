@@ -5,7 +5,7 @@ ghost use Rattle.sap_check.specs.Checked.{levels_in, tree_in};
 ghost use Rattle.sap_hang.specs.Hang.{IsHangTable};
 ghost use Rattle.sap_names.specs.Entities.{entities_of};
 ghost use Rattle.sap_program.specs.Design.{IsProgramOf};
-ghost use Rattle.sap_resolver.specs.Contexts.{known_rows};
+ghost use Rattle.sap_resolver.specs.Surroundings.{known_rows};
 ghost use Rattle.sap_resolver.specs.Rows.{group_with};
 ghost use Rattle.sap_program.specs.Views.{group_of};
 ghost use Rattle.sap_resolve.specs.Resolve as resolve;

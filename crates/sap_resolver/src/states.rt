@@ -1,7 +1,7 @@
 //! States with their numbers and the numbers of their check sites, and with what hangs on their commands.
 
 ghost use Rattle.std.specs.Prelude.{◌≡◌, ◌+◌, ◌<◌, ◌^◌, IfOk, OnOk, length};
-ghost use Rattle.sap_resolver.specs.Contexts.{known_rows};
+ghost use Rattle.sap_resolver.specs.Surroundings.{known_rows};
 ghost use Rattle.sap_resolver.specs.Lists as lists;
 ghost use Rattle.sap_resolver.specs.Rows.{group_points, group_with, state_points, state_with};
 ghost use Rattle.sap_program.specs.Views as views;
@@ -66,12 +66,12 @@ pub(crate) fn states(
     number: &mut usize,
     group: &[StateTree],
 ) -> Result<Vec<State>, AllocError>
-    requires sites { next.old + lists.group_sites known.now.names.now group.now < 2 ^ 32 }
+    requires sites { next.old + lists.group_site_count known.now.names.now group.now < 2 ^ 32 }
     requires points { point.old + group_points (lists.group_from known.now.lattice.now known.now.names.now next.old number.old group.now) < 2 ^ 32 }
     requires states { number.old + lists.states_below group.now < 2 ^ 32 }
     ensures states { IfOk result (λ r. views.group_of (length known.now.names.now) r.items
         ≡ group_with (known_rows known.now) point.old (lists.group_from known.now.lattice.now known.now.names.now next.old number.old group.now)) }
-    ensures next { OnOk result (next.new ≡ next.old + lists.group_sites known.now.names.now group.now) }
+    ensures next { OnOk result (next.new ≡ next.old + lists.group_site_count known.now.names.now group.now) }
     ensures point { OnOk result (point.new ≡ point.old + group_points (lists.group_from known.now.lattice.now known.now.names.now next.old number.old group.now)) }
     ensures number { OnOk result (number.new ≡ number.old + lists.states_below group.now) }
 {

@@ -2,7 +2,7 @@
 
 ghost use Rattle.std.specs.Prelude.{◌≡◌, ◌+◌, ◌<◌, ◌^◌, [], IfOk, OnOk, length};
 ghost use Rattle.sap_meaning.specs.Program as meaning;
-ghost use Rattle.sap_resolver.specs.Contexts.{context_of, rows_of};
+ghost use Rattle.sap_resolver.specs.Surroundings.{surroundings_of, rows_of};
 ghost use Rattle.sap_resolver.specs.Rows.{step_points, step_with};
 ghost use Rattle.sap_program.specs.Views.{step_of};
 ghost use Rattle.sap_resolve.specs.Resolve as resolve;
@@ -24,9 +24,9 @@ use std::alloc::{AllocError, Global};
 
 /// The number of a command, 0 where it is no site. The next site's number is kept.
 pub(crate) fn take_site(seat: &Seat<'_>, next: &mut u32, command: &Simple) -> u32
-    requires { next.old + length (simple_sites (context_of seat.now) (simple_of command.now)) < 2 ^ 32 }
-    ensures number { result ≡ resolve.site_number (context_of seat.now) next.old (simple_of command.now) }
-    ensures next { next.new ≡ next.old + length (simple_sites (context_of seat.now) (simple_of command.now)) }
+    requires { next.old + length (simple_sites (surroundings_of seat.now) (simple_of command.now)) < 2 ^ 32 }
+    ensures number { result ≡ resolve.site_number (surroundings_of seat.now) next.old (simple_of command.now) }
+    ensures next { next.new ≡ next.old + length (simple_sites (surroundings_of seat.now) (simple_of command.now)) }
 {
     if is_site(seat.names, seat.kind, seat.children, command) {
         let site = *next;
@@ -44,7 +44,7 @@ fn set(
     target: &Mention,
     e: &Expr,
 ) -> Result<Step, AllocError>
-    ensures { IfOk result (λ s. step_of (length seat.now.names.now) s ≡ resolve.step_of seat.now.lattice.now (context_of seat.now) site (tree.Assign target.now (expression_of e.now))) }
+    ensures { IfOk result (λ s. step_of (length seat.now.names.now) s ≡ resolve.step_of seat.now.lattice.now (surroundings_of seat.now) site (tree.Assign target.now (expression_of e.now))) }
 {
     let asked = register_width(seat.names.look(&target.name));
     Ok(Step::Set {
@@ -62,7 +62,7 @@ fn write(
     index: &Expr,
     e: &Expr,
 ) -> Result<Step, AllocError>
-    ensures { IfOk result (λ s. step_of (length seat.now.names.now) s ≡ resolve.step_of seat.now.lattice.now (context_of seat.now) site (tree.Write target.now (expression_of index.now) (expression_of e.now))) }
+    ensures { IfOk result (λ s. step_of (length seat.now.names.now) s ≡ resolve.step_of seat.now.lattice.now (surroundings_of seat.now) site (tree.Write target.now (expression_of index.now) (expression_of e.now))) }
 {
     let what = seat.names.look(&target.name);
     let at = number(alloc, seat.names, index, index_width(what))?;
@@ -83,7 +83,7 @@ fn retag_cell(
     index: &Expr,
     t: &TagExpr,
 ) -> Result<Step, AllocError>
-    ensures { IfOk result (λ s. step_of (length seat.now.names.now) s ≡ resolve.step_of seat.now.lattice.now (context_of seat.now) site (tree.SetCellTag target.now.place target.now (expression_of index.now) (tag_of t.now))) }
+    ensures { IfOk result (λ s. step_of (length seat.now.names.now) s ≡ resolve.step_of seat.now.lattice.now (surroundings_of seat.now) site (tree.SetCellTag target.now.place target.now (expression_of index.now) (tag_of t.now))) }
 {
     let asked = index_width(seat.names.look(&target.name));
     let at = number(alloc, seat.names, index, asked)?;
@@ -114,10 +114,10 @@ pub(crate) fn step(
     point: &mut u32,
     command: &Simple,
 ) -> Result<Step, AllocError>
-    requires { point.old + step_points (resolve.step_of seat.now.lattice.now (context_of seat.now) site (simple_of command.now)) < 2 ^ 32 }
+    requires { point.old + step_points (resolve.step_of seat.now.lattice.now (surroundings_of seat.now) site (simple_of command.now)) < 2 ^ 32 }
     ensures step { IfOk result (λ s. step_of (length seat.now.names.now) s
-        ≡ step_with (rows_of seat.now) point.old (resolve.step_of seat.now.lattice.now (context_of seat.now) site (simple_of command.now))) }
-    ensures point { OnOk result (point.new ≡ point.old + step_points (resolve.step_of seat.now.lattice.now (context_of seat.now) site (simple_of command.now))) }
+        ≡ step_with (rows_of seat.now) point.old (resolve.step_of seat.now.lattice.now (surroundings_of seat.now) site (simple_of command.now))) }
+    ensures point { OnOk result (point.new ≡ point.old + step_points (resolve.step_of seat.now.lattice.now (surroundings_of seat.now) site (simple_of command.now))) }
 {
     match command {
         Simple::Assign(target, e) => set(alloc, seat, site, target, e),

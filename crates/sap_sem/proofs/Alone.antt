@@ -9,7 +9,7 @@ use Rattle.sap_program.specs.Views.{step_of}
 use Rattle.sap_program.specs.declared.program.Step.{Step}
 use Rattle.sap_program.specs.declared.program.Step.TheVariants as step
 use Rattle.sap_sem.specs.declared.setting.Setting.{Setting}
-use Rattle.sap_sem.specs.declared.setting.Spot.{Spot}
+use Rattle.sap_program.specs.declared.spot.Spot.{Spot}
 use Rattle.sap_sem.specs.Code.{world_in, entities_in, spot_in}
 use Rattle.sap_sem.proofs.Worlds.{root_is}
 use Rattle.sap_sem.proofs.Raised.{flagged}

@@ -21,7 +21,7 @@ use Rattle.sap_program.specs.declared.program.State.{State, out-State}
 use Rattle.sap_program.specs.Hangs.{flags}
 use Rattle.sap_program.specs.Views.{term_of, step_of, block_of, arms_before, constants_of, group_of}
 use Rattle.sap_sem.specs.declared.setting.Setting.{Setting}
-use Rattle.sap_sem.specs.declared.setting.Spot.{Spot}
+use Rattle.sap_program.specs.declared.spot.Spot.{Spot}
 use Rattle.sap_sem.specs.Able.{AbleStep, AbleTerm, AbleCommand, AbleArms, AbleBlock, AbleState, AbleGroup}
 use Rattle.sap_sem.specs.Code.{world_in, entities_in, spot_in}
 use Rattle.sap_sem.specs.Runs.{entered, block_run, command_run, attempt_run, select_run, picked_in, choose_run, state_run, CommandAble, BlockAble, ArmsAble, StateAble, GroupAble}

@@ -5,9 +5,9 @@ use Rattle.sap_meaning.specs.Program.{World}
 use Rattle.sap_meaning.specs.Program as program
 use Rattle.sap_meaning.specs.Store as meaning
 use Rattle.sap_meaning.specs.Checks as checks
-use Rattle.sap_program.specs.Views.{count, program_in, group_of}
+use Rattle.sap_program.specs.declared.spot.Spot.{Spot}
+use Rattle.sap_program.specs.Views.{count, program_in, spot_of}
 use Rattle.sap_sem.specs.declared.setting.Setting.{Setting}
-use Rattle.sap_sem.specs.declared.setting.Spot.{Spot}
 use Rattle.sap_sem.specs.declared.store.Store.{Store}
 use Rattle.sap_sem.specs.Kept.{store_of}
 
@@ -22,7 +22,7 @@ abbrev pub entities_in : Setting → ℕ
 entities_in d = count d.program.now
 
 abbrev pub spot_in : Setting → Spot → checks.Spot
-spot_in d at = record { state = at.state; parent = at.parent; children = group_of (entities_in d) at.children.now }
+spot_in d at = spot_of (entities_in d) at
 
 abbrev pub store_in : Setting → Store → meaning.Store
 store_in d s = store_of (world_in d) s

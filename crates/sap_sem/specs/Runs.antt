@@ -17,7 +17,7 @@ use Rattle.sap_program.specs.declared.program.State.{State}
 use Rattle.sap_program.specs.declared.program.Step.{Step}
 use Rattle.sap_program.specs.declared.program.Step.TheVariants as step
 use Rattle.sap_sem.specs.declared.setting.Setting.{Setting}
-use Rattle.sap_sem.specs.declared.setting.Spot.{Spot}
+use Rattle.sap_program.specs.declared.spot.Spot.{Spot}
 use Rattle.sap_sem.specs.declared.effects.Raise.{Raise}
 use Rattle.sap_sem.specs.Able.{AbleCommand, AbleArms, AbleBlock, AbleState, AbleGroup}
 use Rattle.sap_sem.specs.Code.{program_of, world_in, entities_in, spot_in}

@@ -8,12 +8,13 @@ ghost use Rattle.sap_sem.specs.Code.{entities_in, spot_in, store_in, world_in};
 ghost use Rattle.sap_sem.specs.Kept.{Ready};
 
 use crate::entries::{child, own, start_cell};
-use crate::setting::{Setting, Spot};
+use crate::setting::Setting;
 use crate::store::Store;
 use crate::terms::{new_level, see, told};
 use crate::world::{authority, entry, is_dynamic};
 use sap_lattice::level::Level;
 use sap_program::program::{State, Step};
+use sap_program::spot::Spot;
 
 /// The level of the child at a place, the bottom where there is none.
 #[tactic(auto, using(crate::proofs::Children::levels))]

@@ -16,12 +16,13 @@ use crate::entries::{
     own, put_cell_level, put_cell_number, put_child, put_level, put_number, raise, raise_one,
     reset, start_cell,
 };
-use crate::setting::{Setting, Spot};
+use crate::setting::Setting;
 use crate::store::Store;
 use crate::terms::{new_level, see};
 use crate::world::{is_dynamic, place};
 use sap_lattice::level::Level;
 use sap_program::program::{Number, Step, TagOf};
+use sap_program::spot::Spot;
 
 /// What raises entities beforehand: what hangs, and by which level; and the context of a step.
 #[derive(Clone, Copy, Drop)]

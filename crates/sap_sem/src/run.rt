@@ -16,12 +16,13 @@ ghost use Rattle.sap_sem.specs.Runs.{ArmsAble, BlockAble, CommandAble, GroupAble
 use crate::checks::{guard, test};
 use crate::effects::{Raise, act};
 use crate::entries::{child, raise};
-use crate::setting::{Setting, Spot};
+use crate::setting::Setting;
 use crate::store::Store;
 use crate::terms::see;
 use crate::world::is_dynamic;
 use sap_lattice::level::Level;
 use sap_program::program::{Arm, Command, Number, State, Step};
+use sap_program::spot::Spot;
 
 /// The commands of a list, in order.
 #[cycle(run)]

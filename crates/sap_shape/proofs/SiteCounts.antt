@@ -4,12 +4,12 @@ use Rattle.std.proofs.lemmas.Bool.{cases_Bool}
 use Rattle.sap_tree.specs.Syntax.{SimpleCommand, Command, Do, Try, If, TryThen, Case, Arms, Last, Arm, CommandBlock, Commands, ElseBlock, NoElse, Else, CommandList, NoCommand, AndCommand, StateTree, StateOf, StateList, NoState, AndState}
 use Rattle.sap_tree.specs.Whole.{command_count, block_count, else_count, arms_count, list_count, state_commands, states_commands}
 use Rattle.sap_names.specs.declared.entity.Entity.{Entity}
-use Rattle.sap_shape.specs.Sites.{Context, is_site, simple_sites, command_sites, block_sites, else_sites, arms_sites, list_sites, state_sites, states_sites}
+use Rattle.sap_shape.specs.Sites.{Surroundings, is_site, simple_sites, command_sites, block_sites, else_sites, arms_sites, list_sites, state_sites, states_sites}
 
-pub simple_few : (h : Context) (k : SimpleCommand) → length (simple_sites h k) ≤ 1
+pub simple_few : (h : Surroundings) (k : SimpleCommand) → length (simple_sites h k) ≤ 1
 simple_few h k = elim (cases_Bool (is_site h.entities h.home.kind h.home.children k)) [ inl e ↦ rw e (omega arith) | inr e ↦ rw e (omega arith) ]
 
-module _ (h : Context) where
+module _ (h : Surroundings) where
   mutual
     unfolding command_count block_count else_count arms_count list_count
 
@@ -45,7 +45,7 @@ module _ (es : List Entity) where
 
     state_few : (s : StateTree) → length (state_sites es s) ≤ state_commands s
     state_few (StateOf place name kind body children) =
-        let h : Context = record { entities = es; home = record { name = name.name; kind = kind; children = children } } in
+        let h : Surroundings = record { entities = es; home = record { name = name.name; kind = kind; children = children } } in
         let a = block_few h body in
         let b = states_few children in
         omega (arith, length-append (block_sites h body) (states_sites es children))

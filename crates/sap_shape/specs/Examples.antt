@@ -1,33 +1,19 @@
 -- Worked examples of the faults of shape.
 use Rattle.std.specs.Prelude.{◌+◌, ℕ, List, [], ◌∷◌, None, codes}
-use Rattle.sap_tree.specs.declared.name.Mention.{Mention}
-use Rattle.sap_text.specs.declared.place.Place.{Place}
-use Rattle.sap_tree.specs.declared.place.Spot.{Spot}
+use Rattle.sap_tree.specs.Making.{at, spot, mention, numeral_at}
 use Rattle.sap_tree.specs.declared.syntax.Kind.{Kind}
 use Rattle.sap_tree.specs.declared.syntax.Kind.TheVariants.{Dynamic, Enforced}
 use Rattle.sap_tree.specs.declared.syntax.Decl.TheVariants.{Register, Memory}
 use Rattle.sap_tree.specs.Syntax.{Expression, Number, Level, Assign, Write, SetTag, Goto, Fall, Command, Do, Try, If, CommandBlock, Commands, NoElse, Else, CommandList, NoCommand, AndCommand, StateTree, StateOf, NoState, AndState, DesignTree}
 use Rattle.sap_tree.specs.declared.version.Version.TheVariants.{One}
 use Rattle.sap_names.specs.declared.fault.Fault.{Fault}
-use Rattle.sap_names.specs.declared.kind.Code.{Code}
 use Rattle.sap_names.specs.declared.kind.Code.TheVariants.{E10, E11, E12, E14, E15, E16, E17}
+use Rattle.sap_names.specs.Examples.{fault}
 use Rattle.sap_names.specs.Fault.{StandsIn}
 use Rattle.sap_shape.specs.ShapeFaults.{IsShapeFault}
 
-abbrev pub at : ℕ → Place
-at column = record { line = 1; column = column }
-
-abbrev pub spot : ℕ → Spot
-spot column = record { first = at column; at = at column }
-
-abbrev pub named : ℕ → List ℕ → Mention
-named column name = record { place = at column; name = name }
-
-abbrev pub fault : Code → ℕ → Fault
-fault code column = record { code = code; place = at column }
-
 abbrev pub number : ℕ → ℕ → Expression
-number column n = Number (spot column) n
+number column n = Number (spot (at column)) n
 
 abbrev pub block : ℕ → CommandList → CommandBlock
 block after cs = Commands cs (at after)
@@ -36,24 +22,24 @@ abbrev pub one : ℕ → Command → CommandBlock
 one after c = block after (AndCommand c NoCommand)
 
 abbrev pub low : Kind
-low = Enforced (named 2 (codes "low")) None
+low = Enforced (mention (at 2) (codes "low")) None
 
 abbrev pub leaf : List ℕ → Kind → CommandBlock → StateTree
-leaf name kind body = StateOf (at 1) (named 1 name) kind body NoState
+leaf name kind body = StateOf (at 1) (mention (at 1) name) kind body NoState
 
 abbrev pub design : CommandBlock → DesignTree
 design body = record {
   version = One;
-  declarations = Memory (at 1) (named 5 (codes "m")) (record { place = at 9; value = 8 }) (record { place = at 11; value = 4 }) (Dynamic (at 12))
-      ∷ Register (at 13) (named 14 (codes "x")) (record { place = at 15; value = 8 }) (Dynamic (at 16)) None ∷ [];
+  declarations = Memory (at 1) (mention (at 5) (codes "m")) (numeral_at (at 9) 8) (numeral_at (at 11) 4) (Dynamic (at 12))
+      ∷ Register (at 13) (mention (at 14) (codes "x")) (numeral_at (at 15) 8) (Dynamic (at 16)) None ∷ [];
   states = AndState (leaf (codes "S") low body) NoState;
 }
 
 abbrev pub writes : ℕ → Command
-writes column = Do (Write (named column (codes "m")) (number (column + 2) 0) (number (column + 6) 1))
+writes column = Do (Write (mention (at column) (codes "m")) (number (column + 2) 0) (number (column + 6) 1))
 
 abbrev pub home : ℕ → Command
-home column = Do (Goto (at column) (named (column + 5) (codes "S")))
+home column = Do (Goto (at column) (mention (at (column + 5)) (codes "S")))
 
 -- the faults of shape of a design of that body are these
 abbrev pub Faults : CommandBlock → List Fault → Type 0
@@ -83,13 +69,13 @@ abbrev pub FallsInLeaf : Type 0
 FallsInLeaf = Faults (one 90 (Do (Fall (at 20)))) (fault E12 20 ∷ [])
 
 abbrev pub ToNoSibling : Type 0
-ToNoSibling = Faults (one 90 (Do (Goto (at 20) (named 25 (codes "T"))))) (fault E11 25 ∷ [])
+ToNoSibling = Faults (one 90 (Do (Goto (at 20) (mention (at 25) (codes "T"))))) (fault E11 25 ∷ [])
 
 abbrev pub NeverRefused : Type 0
-NeverRefused = Faults (block 90 (AndCommand (Try (Assign (named 20 (codes "x")) (number 25 1)) (at 27) (one 50 (writes 40))) (AndCommand (home 60) NoCommand))) (fault E15 27 ∷ [])
+NeverRefused = Faults (block 90 (AndCommand (Try (Assign (mention (at 20) (codes "x")) (number 25 1)) (at 27) (one 50 (writes 40))) (AndCommand (home 60) NoCommand))) (fault E15 27 ∷ [])
 
 abbrev pub DynamicRetagged : Type 0
-DynamicRetagged = Faults (block 90 (AndCommand (Do (SetTag (at 20) (named 27 (codes "x")) (Level (named 30 (codes "low"))))) (AndCommand (home 60) NoCommand))) (fault E16 27 ∷ [])
+DynamicRetagged = Faults (block 90 (AndCommand (Do (SetTag (at 20) (mention (at 27) (codes "x")) (Level (mention (at 30) (codes "low"))))) (AndCommand (home 60) NoCommand))) (fault E16 27 ∷ [])
 
 abbrev pub ItselfRetagged : Type 0
-ItselfRetagged = Faults (block 90 (AndCommand (Do (SetTag (at 20) (named 27 (codes "S")) (Level (named 30 (codes "low"))))) (AndCommand (home 60) NoCommand))) (fault E17 27 ∷ [])
+ItselfRetagged = Faults (block 90 (AndCommand (Do (SetTag (at 20) (mention (at 27) (codes "S")) (Level (mention (at 30) (codes "low"))))) (AndCommand (home 60) NoCommand))) (fault E17 27 ∷ [])

@@ -14,7 +14,7 @@ use Rattle.sap_shape.specs.Walk as paths
 use Rattle.sap_shape.specs.Walk.{Written, fresh, either}
 use Rattle.sap_shape.specs.ShapeFaults as shape
 use Rattle.sap_shape.specs.Sites as sites
-use Rattle.sap_shape.specs.Sites.{Context, CheckSite}
+use Rattle.sap_shape.specs.Sites.{Surroundings, CheckSite}
 use Rattle.sap_shape.specs.ShapeFaults.{Body, is_in}
 
 unfoldable pub open_list : List Cmd → List Fault
@@ -78,7 +78,13 @@ unfoldable pub second_arms : List Arm → Written → List Fault
 second_arms [] p = []
 second_arms (arm ∷ arms) p = paths.second_block (arm_block_of arm) p ++ second_arms arms p
 
-unfoldable pub arms_sites : Context → List Arm → List CheckSite
+abbrev pub list_sites : Surroundings → List Cmd → List CheckSite
+list_sites h cs = sites.list_sites h (commands_of cs)
+
+abbrev pub group_sites : List Entity → List State → List CheckSite
+group_sites es states = sites.states_sites es (states_of states)
+
+unfoldable pub arms_sites : Surroundings → List Arm → List CheckSite
 arms_sites h [] = []
 arms_sites h (arm ∷ arms) = sites.block_sites h (arm_block_of arm) ++ arms_sites h arms
 

@@ -1,13 +1,12 @@
 -- E14: no path of one cycle writes a memory twice.
 use Rattle.std.specs.Prelude.{◌≡◌, ◌⊎◌, ◌+◌, ℕ, List, [], ◌∷◌, ◌++◌, None, codes}
-use Rattle.sap_tree.specs.declared.name.Mention.{Mention}
+use Rattle.sap_tree.specs.Making.{on, spot, mention, numeral_at}
 use Rattle.sap_text.specs.declared.place.Place.{Place}
-use Rattle.sap_tree.specs.declared.place.Spot.{Spot}
 use Rattle.sap_tree.specs.declared.syntax.Kind.{Kind}
 use Rattle.sap_tree.specs.declared.syntax.Kind.TheVariants.{Dynamic, Enforced}
 use Rattle.sap_tree.specs.declared.syntax.Decl.TheVariants.{Memory}
 use Rattle.sap_tree.specs.declared.version.Version.TheVariants.{One}
-use Rattle.sap_tree.specs.Syntax.{Expression, Number, SimpleCommand, Assign, Write, SetTag, SetCellTag, Goto, Fall, Command, Do, Try, If, TryThen, Case, Arms, Last, Arm, CommandBlock, Commands, ElseBlock, NoElse, Else, CommandList, NoCommand, AndCommand, StateTree, StateOf, StateList, NoState, AndState, DesignTree}
+use Rattle.sap_tree.specs.Syntax.{Number, SimpleCommand, Assign, Write, SetTag, SetCellTag, Goto, Fall, Command, Do, Try, If, TryThen, Case, Arms, Last, Arm, CommandBlock, Commands, ElseBlock, NoElse, Else, CommandList, NoCommand, AndCommand, StateTree, StateOf, StateList, NoState, AndState, DesignTree}
 use Rattle.sap_names.specs.declared.fault.Fault.{Fault}
 use Rattle.sap_names.specs.declared.kind.Code.TheVariants.{E14}
 
@@ -139,21 +138,12 @@ PathFault d f = (again : SimpleCommand) × WritesAgain d again × (f ≡ twice_a
 --     m[0] := 1; fall otherwise { m[1] := 2; goto P; }
 --     state C enforced low { goto C; } }
 
-abbrev pub at : (line column : ℕ) → Place
-at l c = record { line = l; column = c }
-
-abbrev pub mention : Place → List ℕ → Mention
-mention p n = record { place = p; name = n }
-
-abbrev pub number : Place → ℕ → Expression
-number p value = let here : Spot = record { first = p; at = p } in Number here value
-
 -- m[index] := value
 abbrev pub put : (line column index value : ℕ) → SimpleCommand
-put l c index value = Write (mention (at l c) (codes "m")) (number (at l (c + 2)) index) (number (at l (c + 8)) value)
+put l c index value = Write (mention (on l c) (codes "m")) (Number (spot (on l (c + 2))) index) (Number (spot (on l (c + 8))) value)
 
 abbrev pub goto : (line column : ℕ) → (target : List ℕ) → SimpleCommand
-goto l c target = Goto (at l c) (mention (at l (c + 5)) target)
+goto l c target = Goto (on l c) (mention (on l (c + 5)) target)
 
 abbrev pub low : Place → Kind
 low p = Enforced (mention p (codes "low")) None
@@ -161,21 +151,21 @@ low p = Enforced (mention p (codes "low")) None
 abbrev pub two_states : (parent child : CommandBlock) → DesignTree
 two_states parent child = record {
   version = One;
-  declarations = Memory (at 1 1) (mention (at 1 5) (codes "m")) (record { place = at 1 9; value = 8 }) (record { place = at 1 11; value = 4 }) (Dynamic (at 1 14)) ∷ [];
-  states = AndState (StateOf (at 2 1) (mention (at 2 7) (codes "P")) (low (at 2 18)) parent
-      (AndState (StateOf (at 4 1) (mention (at 4 7) (codes "C")) (low (at 4 18)) child NoState) NoState)) NoState;
+  declarations = Memory (on 1 1) (mention (on 1 5) (codes "m")) (numeral_at (on 1 9) 8) (numeral_at (on 1 11) 4) (Dynamic (on 1 14)) ∷ [];
+  states = AndState (StateOf (on 2 1) (mention (on 2 7) (codes "P")) (low (on 2 18)) parent
+      (AndState (StateOf (on 4 1) (mention (on 4 7) (codes "C")) (low (on 4 18)) child NoState) NoState)) NoState;
 }
 
 abbrev pub without_fall : DesignTree
 without_fall = two_states
-    (Commands (AndCommand (Do (goto 3 1 (codes "P"))) NoCommand) (at 4 1))
-    (Commands (AndCommand (Do (put 4 24 0 1)) (AndCommand (Do (put 4 35 1 2)) (AndCommand (Do (goto 4 46 (codes "C"))) NoCommand))) (at 4 54))
+    (Commands (AndCommand (Do (goto 3 1 (codes "P"))) NoCommand) (on 4 1))
+    (Commands (AndCommand (Do (put 4 24 0 1)) (AndCommand (Do (put 4 35 1 2)) (AndCommand (Do (goto 4 46 (codes "C"))) NoCommand))) (on 4 54))
 
 abbrev pub with_handler : DesignTree
 with_handler = two_states
-    (Commands (AndCommand (Do (put 3 1 0 1)) (AndCommand (Try (Fall (at 3 12)) (at 3 17)
-    (Commands (AndCommand (Do (put 3 29 1 2)) (AndCommand (Do (goto 3 40 (codes "P"))) NoCommand)) (at 3 48))) NoCommand)) (at 4 1))
-    (Commands (AndCommand (Do (goto 4 24 (codes "C"))) NoCommand) (at 4 32))
+    (Commands (AndCommand (Do (put 3 1 0 1)) (AndCommand (Try (Fall (on 3 12)) (on 3 17)
+    (Commands (AndCommand (Do (put 3 29 1 2)) (AndCommand (Do (goto 3 40 (codes "P"))) NoCommand)) (on 3 48))) NoCommand)) (on 4 1))
+    (Commands (AndCommand (Do (goto 4 24 (codes "C"))) NoCommand) (on 4 32))
 
 -- In the first no path enters C, so E14 stands nowhere.
 abbrev pub NoneWithoutFall : Type 0
@@ -183,4 +173,4 @@ NoneWithoutFall = (f : Fault) → PathFault without_fall f → ⊥
 
 -- In the second it stands at the write in the handler, and nowhere else.
 abbrev pub OneInHandler : Type 0
-OneInHandler = (f : Fault) → (PathFault with_handler f → f ≡ twice_at (at 3 29)) × (f ≡ twice_at (at 3 29) → PathFault with_handler f)
+OneInHandler = (f : Fault) → (PathFault with_handler f → f ≡ twice_at (on 3 29)) × (f ≡ twice_at (on 3 29) → PathFault with_handler f)

@@ -37,37 +37,37 @@ is_site es here children (Goto place target) = is_enforced_kind here || is_enfor
 is_site es here children (Fall place) = any_enforced children
 
 -- where a command stands: the entities of its design, and the state in whose body it is
-pub record Context : Type 0 where
+pub record Surroundings : Type 0 where
   pub entities : List Entity
   pub home : Home
 
 pub record CheckSite : Type 0 where
-  pub context : Context
+  pub surroundings : Surroundings
   pub command : SimpleCommand
 
-abbrev pub simple_sites : Context → SimpleCommand → List CheckSite
-simple_sites h k = let s : CheckSite = record { context = h; command = k } in if is_site h.entities h.home.kind h.home.children k then s ∷ [] else []
+abbrev pub simple_sites : Surroundings → SimpleCommand → List CheckSite
+simple_sites h k = let s : CheckSite = record { surroundings = h; command = k } in if is_site h.entities h.home.kind h.home.children k then s ∷ [] else []
 
 abbrev mutual
-  pub command_sites : Context → Command → List CheckSite
+  pub command_sites : Surroundings → Command → List CheckSite
   command_sites h (Do k) = simple_sites h k
   command_sites h (Try k place handler) = simple_sites h k ++ block_sites h handler
   command_sites h (If place condition then_block else_block) = block_sites h then_block ++ else_sites h else_block
   command_sites h (TryThen k place accepted refused) = simple_sites h k ++ (block_sites h accepted ++ block_sites h refused)
   command_sites h (Case place e arms) = arms_sites h arms
 
-  pub block_sites : Context → CommandBlock → List CheckSite
+  pub block_sites : Surroundings → CommandBlock → List CheckSite
   block_sites h (Commands cs after) = list_sites h cs
 
-  pub else_sites : Context → ElseBlock → List CheckSite
+  pub else_sites : Surroundings → ElseBlock → List CheckSite
   else_sites h NoElse = []
   else_sites h (Else b) = block_sites h b
 
-  pub arms_sites : Context → Arms → List CheckSite
+  pub arms_sites : Surroundings → Arms → List CheckSite
   arms_sites h (Last b) = block_sites h b
   arms_sites h (Arm constants b arms) = block_sites h b ++ arms_sites h arms
 
-  pub list_sites : Context → CommandList → List CheckSite
+  pub list_sites : Surroundings → CommandList → List CheckSite
   list_sites h NoCommand = []
   list_sites h (AndCommand c cs) = command_sites h c ++ list_sites h cs
 

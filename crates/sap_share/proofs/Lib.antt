@@ -1,7 +1,6 @@
 mod Digits
 pub mod Decoding
 pub mod Helpers
-pub mod Maps
 pub mod RightMaps
 pub mod Found
 pub mod Differing

@@ -12,7 +12,7 @@ use Rattle.sap_net.specs.declared.parts.Wire.{Wire}
 use Rattle.sap_share.specs.Keys.{key}
 use Rattle.sap_share.specs.Names.{helper}
 use Rattle.sap_share.specs.Rights.{rights, RightMap, at_key, NamesRights}
-use Rattle.sap_share.proofs.Maps.{same_bytes, at_other}
+use Rattle.sap_net.proofs.NameMaps.{same_bytes, at_other}
 
 abbrev key_of : Wire → List ℕ
 key_of w = key w.width w.right

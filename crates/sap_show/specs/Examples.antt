@@ -1,44 +1,22 @@
 -- Worked examples of canonical texts.
 use Rattle.std.specs.Prelude.{◌≡◌, ℕ, List, [], ◌∷◌, ◌++◌, Some, None, codes}
+use Rattle.sap_tree.specs.Making.{named, numeral, number, read, enforced, block}
 use Rattle.sap_tree.specs.Bare.{nowhere, no_spot}
-use Rattle.sap_tree.specs.Syntax.{Expression, Number, Sized, Read, Unary, Binary, Choose, Slice, Concat, Zext, NoPart, AndPart, Level, TagOf, Join, NoTag, AndTag, Assign, Write, SetCellTag, Goto, Fall, Command, Do, Try, If, TryThen, Case, Last, Arm, CommandBlock, Commands, Else, CommandList, NoCommand, AndCommand, StateOf, NoState, AndState, DesignTree}
-use Rattle.sap_tree.specs.declared.name.Mention.{Mention}
+use Rattle.sap_tree.specs.Syntax.{Expression, Sized, Unary, Binary, Choose, Slice, Concat, Zext, NoPart, AndPart, Level, TagOf, Join, NoTag, AndTag, Assign, Write, SetCellTag, Goto, Fall, Command, Do, Try, If, TryThen, Case, Last, Arm, Else, StateOf, NoState, AndState, DesignTree}
 use Rattle.sap_tree.specs.declared.syntax.BinaryOperator.TheVariants as b
 use Rattle.sap_tree.specs.declared.syntax.Decl.TheVariants as d
 use Rattle.sap_tree.specs.declared.syntax.Kind.TheVariants as k
-use Rattle.sap_tree.specs.declared.syntax.Kind.{Kind}
-use Rattle.sap_tree.specs.declared.syntax.Numeral.{Numeral}
 use Rattle.sap_tree.specs.declared.syntax.UnaryOperator.TheVariants as u
 use Rattle.sap_tree.specs.declared.version.Version.TheVariants.{One, Two}
 use Rattle.sap_show.specs.Canonical.{canonical_text}
-
-abbrev pub named : List ℕ → Mention
-named name = record { place = nowhere; name = name }
-
-abbrev pub numeral : ℕ → Numeral
-numeral n = record { place = nowhere; value = n }
-
-abbrev pub number : ℕ → Expression
-number n = Number no_spot n
-
-abbrev pub read : List ℕ → Expression
-read name = Read no_spot name
-
-abbrev pub level : List ℕ → Kind
-level name = k.Enforced (named name) None
-
-abbrev pub block : CommandList → CommandBlock
-block commands = Commands commands nowhere
 
 -- input a:8;reg x:8 dynamic;state S enforced low{x:=(a+1)&(a|x);goto S;}
 abbrev pub adder : DesignTree
 adder = record {
   version = One;
   declarations = d.Input nowhere (named (codes "a")) (numeral 8) ∷ d.Register nowhere (named (codes "x")) (numeral 8) (k.Dynamic nowhere) None ∷ [];
-  states = AndState (StateOf nowhere (named (codes "S")) (level (codes "low")) (block
-      (AndCommand (Do (Assign (named (codes "x"))
-      (Binary no_spot b.And (Binary no_spot b.Add (read (codes "a")) (number 1)) (Binary no_spot b.Or (read (codes "a")) (read (codes "x"))))))
-      (AndCommand (Do (Goto nowhere (named (codes "S")))) NoCommand)))
+  states = AndState (StateOf nowhere (named (codes "S")) (enforced (codes "low")) (block (Do (Assign (named (codes "x"))
+      (Binary no_spot b.And (Binary no_spot b.Add (read (codes "a")) (number 1)) (Binary no_spot b.Or (read (codes "a")) (read (codes "x"))))) ∷ Do (Goto nowhere (named (codes "S"))) ∷ []))
       NoState) NoState;
 }
 
@@ -58,13 +36,13 @@ chooses = Try
     (Assign (named (codes "x")) (Choose no_spot (read (codes "i"))
     (Concat no_spot (AndPart (Sized no_spot 4 1) (AndPart low_bits NoPart)))
     (Unary no_spot u.Neg (Unary no_spot u.Neg (read (codes "x"))))))
-    nowhere (block NoCommand)
+    nowhere (block [])
 
 abbrev pub retags : Command
 retags = Try
     (SetCellTag nowhere (named (codes "m")) (number 0)
     (Join nowhere (AndTag (Level (named (codes "high"))) (AndTag (TagOf nowhere (read (codes "x"))) NoTag))))
-    nowhere (block (AndCommand (Do (Fall nowhere)) NoCommand))
+    nowhere (block (Do (Fall nowhere) ∷ []))
 
 abbrev pub nested : DesignTree
 nested = record {
@@ -74,10 +52,8 @@ nested = record {
       (k.Enforced (named (codes "low")) (Some (record { place = nowhere; level = named (codes "low") }))) (Some (numeral 7))
       ∷ d.Memory nowhere (named (codes "m")) (numeral 8) (numeral 4) (k.Dynamic nowhere) ∷ [];
   states = AndState (StateOf nowhere (named (codes "S")) (k.Dynamic nowhere)
-      (block
-      (AndCommand (If nowhere (Binary no_spot b.Lt (read (codes "i")) (number 3)) (block (AndCommand stores NoCommand)) (Else (block (AndCommand chooses NoCommand))))
-      (AndCommand retags NoCommand)))
-      (AndState (StateOf nowhere (named (codes "T")) (level (codes "high")) (block (AndCommand (Do (Goto nowhere (named (codes "T")))) NoCommand)) NoState) NoState))
+      (block (If nowhere (Binary no_spot b.Lt (read (codes "i")) (number 3)) (block (stores ∷ [])) (Else (block (chooses ∷ []))) ∷ retags ∷ []))
+      (AndState (StateOf nowhere (named (codes "T")) (enforced (codes "high")) (block (Do (Goto nowhere (named (codes "T"))) ∷ [])) NoState) NoState))
       NoState;
 }
 
@@ -111,17 +87,17 @@ Nested = canonical_text nested
 -- a command of the second version that stores, and one that looks at a number, in a block of the first
 abbrev pub looks : Command
 looks = Case nowhere (read (codes "a"))
-    (Arm (AndPart (number 0) (AndPart (Sized no_spot 2 3) NoPart)) (block (AndCommand (Do (Assign (named (codes "x")) (number 7))) NoCommand))
-    (Arm (AndPart (number 1) NoPart) (block NoCommand) (Last (block (AndCommand (Do (Goto nowhere (named (codes "S")))) NoCommand)))))
+    (Arm (AndPart (number 0) (AndPart (Sized no_spot 2 3) NoPart)) (block (Do (Assign (named (codes "x")) (number 7)) ∷ []))
+    (Arm (AndPart (number 1) NoPart) (block []) (Last (block (Do (Goto nowhere (named (codes "S"))) ∷ [])))))
 
 abbrev pub decides : Command
-decides = TryThen (Assign (named (codes "y")) (read (codes "a"))) nowhere (block (AndCommand looks NoCommand)) (block (AndCommand (Do (Fall nowhere)) NoCommand))
+decides = TryThen (Assign (named (codes "y")) (read (codes "a"))) nowhere (block (looks ∷ [])) (block (Do (Fall nowhere) ∷ []))
 
 abbrev pub second : DesignTree
 second = record {
   version = Two;
   declarations = d.Input nowhere (named (codes "a")) (numeral 2) ∷ [];
-  states = AndState (StateOf nowhere (named (codes "S")) (level (codes "low")) (block (AndCommand decides NoCommand)) NoState) NoState;
+  states = AndState (StateOf nowhere (named (codes "S")) (enforced (codes "low")) (block (decides ∷ [])) NoState) NoState;
 }
 
 abbrev pub Second : Type 0

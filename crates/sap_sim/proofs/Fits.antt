@@ -20,6 +20,7 @@ use Rattle.sap_net.specs.Net.{Net}
 use Rattle.sap_net.specs.Rules.{Shapes, AreValues, IsWidth}
 use Rattle.sap_net.specs.IsNetlist.{IsNetlist, shapes}
 use Rattle.sap_net.specs.Runs.{InputsFit, AllFit}
+use Rattle.sap_lemmas.proofs.Everywhere.{all_filter}
 use Rattle.sap_cycle.proofs.Distinct.{AreFresh, found_listed}
 use Rattle.sap_stim.specs.declared.field.Field.{Field}
 use Rattle.sap_stim.specs.Line.{IsSized, field_width}
@@ -45,10 +46,6 @@ input_sizes : (ms : Shapes) (is : List Input) (sd : Scope) → AreValues ms (inp
 input_sizes ms [] sd rules = tt
 input_sizes ms (i ∷ is) sd rules = (rules.0, input_sizes ms is sd rules.3)
 
-pub all_filtered : {A : Type 0} (P : A → Type 0) (p : A → Bool) (list : List A) → AllByRecursion P list → AllByRecursion P (filter p list)
-all_filtered {A} P p [] h = tt
-all_filtered {A} P p (a ∷ list) h = elim (cases_Bool (p a)) [ inl t ↦ rw t (h.0, all_filtered P p list h.1) | inr f ↦ rw f (all_filtered P p list h.1) ]
-
 pub field_width_is : (tag : ℕ) (is : List Input) (i : Input) → field_width (field_of tag is i) ≡ i.width
 field_width_is tag is i =
     elim (cases_Bool (is_tagged tag is i.name)) as (λ v. field_width (field_of tag is i) ≡ i.width) [ inl t ↦ rw t refl | inr f ↦ rw f refl ]
@@ -59,7 +56,7 @@ all_sized tag is (i ∷ list) h = (rw field_width_is h.0, all_sized tag is list 
 
 pub fields_sized : (tag : ℕ) (n : Net) → IsNetlist n → All IsSized (map (field_of tag n.inputs) (with_field tag n.inputs))
 fields_sized tag n net =
-    each IsSized _ (all_sized tag n.inputs (with_field tag n.inputs) (all_filtered (λ (i : Input). IsWidth i.width) (λ i. not (is_tag tag n.inputs i)) n.inputs (input_sizes (shapes n) n.inputs _ net.values)))
+    each IsSized _ (all_sized tag n.inputs (with_field tag n.inputs) (all_filter (λ (i : Input). IsWidth i.width) (λ i. not (is_tag tag n.inputs i)) n.inputs (input_sizes (shapes n) n.inputs _ net.values)))
 
 -- the value in the field of a name fits the width found by the name
 own_fits : (ls : Levels) (tag : ℕ) (is : List Input) (sc : Scope) (fs : List Input) → AllByRecursion (λ j. find sc j.name ≡ Some j.width) fs → (xs : List Given) → LineFits ls (map (field_of tag is) fs) xs
@@ -90,7 +87,7 @@ number_fits ls codes is all xs fits i e own =
       | inr f ↦ (
           let g : not (is_tag (tag_width ls) is i) ≡ true = rw f refl in
           rw f (own_fits ls (tag_width ls) is (input_widths is) (with_field (tag_width ls) is)
-          (all_filtered (λ (j : Input). find (input_widths is) j.name ≡ Some j.width) (λ j. not (is_tag (tag_width ls) is j)) is all) xs fits i.name i.width (own g) e)
+          (all_filter (λ (j : Input). find (input_widths is) j.name ≡ Some j.width) (λ j. not (is_tag (tag_width ls) is j)) is all) xs fits i.name i.width (own g) e)
           )
     ]
 

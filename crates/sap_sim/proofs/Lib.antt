@@ -5,8 +5,10 @@ pub mod Seen
 pub mod Origins
 pub mod Fits
 pub mod Runs
+pub mod Told
 pub mod OneMore
 pub mod Following
 pub mod Spans
 pub mod Few
+pub mod Stepped
 pub mod Stepping

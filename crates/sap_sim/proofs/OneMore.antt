@@ -1,12 +1,9 @@
 -- A run with a cycle more.
-use Rattle.std.proofs.Common.{◌≡◌, ℕ, ◌+◌, List, [], ◌∷◌, ◌++◌, Option, Some, length, refl, ap, ◌∙◌, arith}
+use Rattle.std.proofs.Common.{◌≡◌, ℕ, List, [], ◌∷◌, ◌++◌, Option, Some, refl, ap}
 use Rattle.std.specs.List.{last_or}
-use Rattle.sap_lemmas.proofs.Lists.{append_three}
-use Rattle.sap_lattice.specs.Levels.{Levels}
-use Rattle.sap_maps.specs.Maps.{Name, Valuation}
+use Rattle.sap_maps.specs.Maps.{Valuation}
 use Rattle.sap_net.specs.Net.{Net}
 use Rattle.sap_net.specs.Runs.{IsCycle, IsRunAfter}
-use Rattle.sap_sim.specs.Shown.{row_of, rows_from}
 
 -- the last cycle, and the run before it
 pub run_split : (n : Net) (b : Option Valuation) (xss : List (List ℕ)) (xs : List ℕ) (run : List Valuation) (v : Valuation) → IsRunAfter n b (xss ++ xs ∷ []) (run ++ v ∷ [])
@@ -56,12 +53,3 @@ run_front n b (xs ∷ xss) yss (v ∷ vs) h =
 pub no_run : (n : Net) (b : Option Valuation) (run : List Valuation) → IsRunAfter n b [] run → run ≡ []
 no_run n b [] h = refl
 no_run n b (v ∷ vs) h = absurd h
-
--- the rows of two runs, one behind the other
-pub rows_split : (ls : Levels) (xs : List Name) (c : ℕ) (vs ws : List Valuation) → rows_from ls xs c (vs ++ ws) ≡ rows_from ls xs c vs ++ rows_from ls xs (c + length vs) ws
-rows_split ls xs c [] ws = let e : c ≡ c + 0 = omega arith in ap (λ (k : ℕ). rows_from ls xs k ws) e
-rows_split ls xs c (v ∷ vs) ws =
-    let e : c + 1 + length vs ≡ c + length (v ∷ vs) = omega arith in
-    ap (λ (ys : List ℕ). row_of ls xs c v ++ ys) (rows_split ls xs (c + 1) vs ws)
-    ∙ append_three (row_of ls xs c v) (rows_from ls xs (c + 1) vs) (rows_from ls xs (c + 1 + length vs) ws)
-    ∙ ap (λ (k : ℕ). (row_of ls xs c v ++ rows_from ls xs (c + 1) vs) ++ rows_from ls xs k ws) e

@@ -1,8 +1,10 @@
 pub mod Ports
 pub mod Fields
 pub mod Numbers
+pub mod Told
 pub mod Shown
 pub mod Simulated
+pub mod Stepped
 pub mod Stepping
 pub mod Lookup
 pub mod Layout

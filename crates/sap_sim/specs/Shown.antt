@@ -1,5 +1,5 @@
 -- The registers that rows show, and the rows of the cycles of a netlist.
-use Rattle.std.specs.Prelude.{ℕ, ◌+◌, Bool, true, false, ◌&&◌, List, [], ◌∷◌, ◌++◌, map, filter, Option, Some, None, if◌then◌else◌}
+use Rattle.std.specs.Prelude.{ℕ, Bool, true, false, ◌&&◌, List, [], ◌∷◌, ◌++◌, map, filter, Option, Some, None, if◌then◌else◌}
 use Rattle.sap_lattice.specs.Levels.{Levels}
 use Rattle.sap_maps.specs.Maps.{Name, Valuation}
 use Rattle.sap_maps.specs.Scope.{Scope, find}
@@ -13,6 +13,7 @@ use Rattle.sap_stim.specs.Rows.{row_text, shown_of}
 use Rattle.sap_sim.specs.Ports.{value_of, is_number}
 use Rattle.sap_interface.specs.PortNames.{value_name, tag_name}
 use Rattle.sap_sim.specs.Fields.{tag_width}
+use Rattle.sap_sim.specs.Told.{told_from}
 
 abbrev pub is_register : PortKind → Bool
 is_register kind.Input = false
@@ -48,5 +49,4 @@ abbrev pub row_of : Levels → List Name → (cycle : ℕ) → Valuation → Lis
 row_of ls xs cycle v = row_text cycle (shown_of ls xs (map (λ x. v.value (value_name x)) xs) (map (λ x. v.value (tag_name x)) xs))
 
 abbrev pub rows_from : Levels → List Name → (cycle : ℕ) → List Valuation → List ℕ
-rows_from ls xs cycle [] = []
-rows_from ls xs cycle (v ∷ vs) = row_of ls xs cycle v ++ rows_from ls xs (cycle + 1) vs
+rows_from ls xs = told_from (row_of ls xs)

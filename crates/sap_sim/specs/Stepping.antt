@@ -1,60 +1,39 @@
--- A netlist that is stepped on the lines of a stimulus, one after another, and the rows that it gives.
-use Rattle.std.specs.Prelude.{◌≡◌, ℕ, ◌+◌, List, [], ◌∷◌, ◌++◌, None, All, length, map, Option}
-use Rattle.std.specs.List.{last_or}
+-- The rows of a netlist that is stepped on the lines of a stimulus, one after another.
+use Rattle.std.specs.Prelude.{◌≡◌, ℕ, ◌+◌, List, [], ◌∷◌, ◌++◌, All, length, Option}
 use Rattle.sap_lattice.specs.Levels.{Levels}
-use Rattle.sap_maps.specs.Maps.{Valuation}
 use Rattle.sap_meaning.specs.Cycle.{Tagged as Given}
 use Rattle.sap_net.specs.Net.{Net}
-use Rattle.sap_net.specs.Runs.{IsRun, observed}
-use Rattle.sap_cycle.specs.Running.{Running, Shows}
 use Rattle.sap_stim.specs.declared.fault.StimFault.{StimFault}
-use Rattle.sap_stim.specs.declared.field.Field.{Field}
 use Rattle.sap_stim.specs.Line.{IsSized}
 use Rattle.sap_stim.specs.Rows.{HoldsRows}
 use Rattle.sap_sim.specs.declared.rows.Rows.{Rows}
 use Rattle.sap_sim.specs.declared.steps.Plan.{Plan}
 use Rattle.sap_sim.specs.Fields.{fields_of}
 use Rattle.sap_sim.specs.Numbers.{numbers_of}
-use Rattle.sap_sim.specs.Shown.{shown_registers, row_of, rows_from}
+use Rattle.sap_sim.specs.Shown.{shown_registers, row_of}
 use Rattle.sap_sim.specs.Layout.{IsPlan}
 use Rattle.sap_sim.specs.Simulated.{IsSimulated, read_for}
-
-pub record Stepped : Type 0 where
-  -- the netlist, and what it shows
-  pub runner : Running
-  -- where the numbers of its inputs come from, and what its rows show
-  pub plan : Plan
-  -- the fields of a line
-  pub fields : List Field
-  -- for how many bytes a buffer needs room to take any of its rows
-  pub room : ℕ
+use Rattle.sap_sim.specs.Stepped as stepped
+use Rattle.sap_sim.specs.Stepped.{Stepped, TellsMore, TellsAll}
 
 -- its plan, its fields and its room are those of the netlist
-pub record IsPlanned (ls : Levels) (s : Stepped) : Type 0 where
+pub record IsPlanned (ls : Levels) (s : Stepped Plan) : Type 0 where
   pub plan : IsPlan ls s.runner.net s.plan
   pub fields : s.fields ≡ fields_of ls s.runner.net
   pub sized : All IsSized s.fields
   pub room : HoldsRows ls s.plan.shown.names.items s.room
 
--- a run of a netlist on these lines
-abbrev pub IsRunOn : Levels → Net → (lines : List (List Given)) → List Valuation → Type 0
-IsRunOn ls n lines run = IsRun n (map (numbers_of ls n) lines) run
-
--- It is this netlist, stepped on these lines: it shows the last cycle of a run on them.
-pub record IsAfter (ls : Levels) (n : Net) (lines : List (List Given)) (s : Stepped) : Type 0 where
-  pub net : s.runner.net ≡ n
-  pub planned : IsPlanned ls s
-  pub shows : (run : List Valuation) → IsRunOn ls n lines run → Shows s.runner (last_or None run)
+-- this netlist, stepped on these lines
+abbrev pub IsAfter : Levels → Net → (lines : List (List Given)) → Stepped Plan → Type 0
+IsAfter ls n = stepped.IsAfter (IsPlanned ls) n (numbers_of ls n)
 
 -- behind the old bytes stands the row of the last of these lines
 abbrev pub HasRowMore : Levels → Net → (lines : List (List Given)) → (cycle : ℕ) → (old now : List ℕ) → Type 0
-HasRowMore ls n lines cycle old now =
-    (run : List Valuation) (v : Valuation) → IsRunOn ls n lines (run ++ v ∷ []) → now ≡ old ++ row_of ls (shown_registers ls n) cycle (observed n v)
+HasRowMore ls n = TellsMore (row_of ls (shown_registers ls n)) n (numbers_of ls n)
 
 -- the rows of all these lines, their cycles counted from 1
 abbrev pub AreRows : Levels → Net → (lines : List (List Given)) → (text : List ℕ) → Type 0
-AreRows ls n lines text =
-    (run : List Valuation) → IsRunOn ls n lines run → text ≡ rows_from ls (shown_registers ls n) 1 (map (observed n) run)
+AreRows ls n = TellsAll (row_of ls (shown_registers ls n)) n (numbers_of ls n)
 
 abbrev pub rows_of : (text : List ℕ) → Option StimFault → Rows
 rows_of text fault = record { text = text; fault = fault }

@@ -3,9 +3,10 @@
 ghost use Rattle.std.specs.Prelude.{◌≡◌, ℕ, ◌∷◌, IfOk, OnOk, map};
 ghost use Rattle.sap_maps.specs.Maps.{Name as Text};
 ghost use Rattle.sap_maps.specs.Scope.{Scope};
+ghost use Rattle.sap_net.specs.NameMaps.{at_name};
 ghost use Rattle.sap_sim.specs.Fields.{input_widths};
 ghost use Rattle.sap_sim.specs.Shown.{register_widths};
-ghost use Rattle.sap_sim.specs.Lookup.{Finds, number_in, places_from};
+ghost use Rattle.sap_sim.specs.Lookup.{Finds, places_from};
 
 use sap_net::parts::{Input, Name, Register};
 use std::alloc::{AllocError, Global};
@@ -27,7 +28,7 @@ fn put(
 
 /// The number of a name.
 pub fn number(numbers: &HashMap<Vec<u8>, usize>, name: &[u8]) -> Option<usize>
-    ensures { result ≡ number_in numbers.now name.now }
+    ensures { result ≡ at_name numbers.now name.now }
 {
     numbers.get(name).copied()
 }

@@ -39,9 +39,10 @@ pub struct Simulation {
 
 impl Model for Simulation {
     ghost use Rattle.std.specs.Prelude.{◌≡◌, length};
-    ghost use Rattle.sap_sim.specs.Stepping.{Stepped};
+    ghost use Rattle.sap_sim.specs.declared.steps.Plan.{Plan};
+    ghost use Rattle.sap_sim.specs.Stepped.{Stepped};
 
-    ghost Value = { Stepped };
+    ghost Value = { Stepped Plan };
 
     ghost view = { λ s. record { runner = s.runner; plan = s.plan; fields = s.fields; room = s.room } };
 

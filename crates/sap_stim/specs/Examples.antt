@@ -1,17 +1,14 @@
 -- Worked examples of stimulus files and rows, over the levels low and high, for one input of 8 bits.
-use Rattle.std.specs.Prelude.{◌≡◌, ℕ, List, [], ◌∷◌, ◌++◌, Some, None, true, false, codes}
-use Rattle.sap_lattice.specs.Levels.{Levels}
+use Rattle.std.specs.Prelude.{◌≡◌, ℕ, List, [], ◌∷◌, ◌++◌, Some, None, codes}
+use Rattle.sap_text.specs.Places.{line}
 use Rattle.sap_meaning.specs.Cycle.{Tagged as Given}
 use Rattle.sap_stim.specs.declared.fault.StimCode.{StimCode}
 use Rattle.sap_stim.specs.declared.fault.StimCode.TheVariants.{S1, S2, S3, S4, S5, S6}
 use Rattle.sap_stim.specs.declared.field.Field.TheVariants.{Tagged, Plain}
+use Rattle.sap_lattice.specs.Examples.{low_high}
 use Rattle.sap_stim.specs.declared.stimulus.Parsed.{Parsed}
 use Rattle.sap_stim.specs.Stimulus.{stimulus_of}
 use Rattle.sap_stim.specs.Rows.{row_text, shown_of}
-
--- low is below high
-abbrev pub levels : Levels
-levels = record { names = codes "low" ∷ codes "high" ∷ []; table = (true ∷ true ∷ []) ∷ (false ∷ true ∷ []) ∷ [] }
 
 abbrev pub input : ℕ → ℕ → Given
 input value level = record { number = value; level = level }
@@ -19,12 +16,8 @@ input value level = record { number = value; level = level }
 abbrev pub given : ℕ → ℕ → List Given
 given value level = input value level ∷ []
 
--- a text of lines: each with its LF
-abbrev pub line : List ℕ → List ℕ
-line text = text ++ 10 ∷ []
-
 abbrev pub read : List ℕ → Parsed
-read bytes = stimulus_of levels (Tagged 8 ∷ []) bytes
+read bytes = stimulus_of low_high (Tagged 8 ∷ []) bytes
 
 abbrev pub ends : List (List Given) → Parsed
 ends stream = record { stream = stream; fault = None }
@@ -62,20 +55,20 @@ abbrev pub TwoMarks : Type 0
 TwoMarks = read (line (codes "5@low@")) ≡ stops [] 1 S3
 
 abbrev pub PlainField : Type 0
-PlainField = stimulus_of levels (Plain 8 ∷ []) (line (codes "7")) ≡ ends (given 7 0 ∷ [])
+PlainField = stimulus_of low_high (Plain 8 ∷ []) (line (codes "7")) ≡ ends (given 7 0 ∷ [])
 
 abbrev pub MarkedPlain : Type 0
-MarkedPlain = stimulus_of levels (Plain 8 ∷ []) (line (codes "7@low")) ≡ stops [] 1 S1
+MarkedPlain = stimulus_of low_high (Plain 8 ∷ []) (line (codes "7@low")) ≡ stops [] 1 S1
 
 -- two fields; with two spaces between them the line has three, of which the middle one is empty: S4 where two are asked for, S1 where three are
 abbrev pub TwoFields : Type 0
-TwoFields = stimulus_of levels (Tagged 8 ∷ Plain 1 ∷ []) (line (codes "5@high 1")) ≡ ends ((input 5 1 ∷ input 1 0 ∷ []) ∷ [])
+TwoFields = stimulus_of low_high (Tagged 8 ∷ Plain 1 ∷ []) (line (codes "5@high 1")) ≡ ends ((input 5 1 ∷ input 1 0 ∷ []) ∷ [])
 
 abbrev pub TwoSpaces : Type 0
-TwoSpaces = stimulus_of levels (Tagged 8 ∷ Tagged 8 ∷ []) (line (codes "5@low  5@low")) ≡ stops [] 1 S4
+TwoSpaces = stimulus_of low_high (Tagged 8 ∷ Tagged 8 ∷ []) (line (codes "5@low  5@low")) ≡ stops [] 1 S4
 
 abbrev pub EmptyField : Type 0
-EmptyField = stimulus_of levels (Tagged 8 ∷ Tagged 8 ∷ Tagged 8 ∷ []) (line (codes "5@low  5@low")) ≡ stops [] 1 S1
+EmptyField = stimulus_of low_high (Tagged 8 ∷ Tagged 8 ∷ Tagged 8 ∷ []) (line (codes "5@low  5@low")) ≡ stops [] 1 S1
 
 -- 21 digits are no value, 20 are one
 abbrev pub TooLong : Type 0
@@ -122,7 +115,7 @@ TwoCounts = read (line (codes "5@low *2 *2")) ≡ stops [] 1 S4
 
 -- without inputs a line is empty or a count alone
 abbrev pub NoInputs : Type 0
-NoInputs = stimulus_of levels [] (line [] ++ line (codes "*2")) ≡ ends ([] ∷ [] ∷ [] ∷ [])
+NoInputs = stimulus_of low_high [] (line [] ++ line (codes "*2")) ≡ ends ([] ∷ [] ∷ [] ∷ [])
 
 -- 0 is the code of low and 1 that of high; 3 is none
 abbrev pub Row : Type 0
@@ -130,5 +123,5 @@ Row = row_text 1 (record { name = codes "x"; value = 6; level = Some (codes "low
     ≡ line (codes "cycle 1: x=6@low y=0@#3")
 
 abbrev pub RowOfTags : Type 0
-RowOfTags = row_text 12 (shown_of levels (codes "x" ∷ codes "y" ∷ codes "z" ∷ []) (6 ∷ 0 ∷ 70 ∷ []) (0 ∷ 3 ∷ 1 ∷ []))
+RowOfTags = row_text 12 (shown_of low_high (codes "x" ∷ codes "y" ∷ codes "z" ∷ []) (6 ∷ 0 ∷ 70 ∷ []) (0 ∷ 3 ∷ 1 ∷ []))
     ≡ line (codes "cycle 12: x=6@low y=0@#3 z=70@high")

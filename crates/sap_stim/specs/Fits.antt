@@ -1,5 +1,6 @@
 -- Streams whose lines fit the fields.
 use Rattle.std.specs.Prelude.{◌≡◌, ◌<◌, ◌^◌, ℕ, List, [], ◌∷◌, Bool, true, false}
+use Rattle.std.specs.List.{AllZip}
 use Rattle.sap_lattice.specs.Levels.{Levels, order_of}
 use Rattle.sap_meaning.specs.Cycle.{Tagged as Given}
 use Rattle.sap_stim.specs.declared.field.Field.{Field}
@@ -19,10 +20,7 @@ pub record InputFits (ls : Levels) (f : Field) (x : Given) : Type 0 where
 
 -- one input for each field
 abbrev pub LineFits : Levels → List Field → List Given → Type 0
-LineFits ls [] [] = Unit {0}
-LineFits ls [] (x ∷ xs) = ⊥
-LineFits ls (f ∷ fs) [] = ⊥
-LineFits ls (f ∷ fs) (x ∷ xs) = InputFits ls f x × LineFits ls fs xs
+LineFits ls = AllZip (InputFits ls)
 
 abbrev pub StreamFits : Levels → List Field → List (List Given) → Type 0
 StreamFits ls fs [] = Unit {0}

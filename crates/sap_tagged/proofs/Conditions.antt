@@ -22,7 +22,7 @@ use Rattle.sap_meaning.specs.Expressions as meaning
 use Rattle.sap_lattice.specs.Levels.{Levels}
 use Rattle.sap_resolve.specs.Terms.{known, term_of, parts_of, widened, level_term, level_terms}
 use Rattle.sap_resolve.specs.Worlds.{states_in}
-use Rattle.sap_shape.specs.Sites.{Context, simple_sites, command_sites, block_sites, state_sites}
+use Rattle.sap_shape.specs.Sites.{Surroundings, simple_sites, command_sites, block_sites, state_sites}
 use Rattle.sap_resolve.specs.Resolve.{site_number, step_of, command_of, arms_of, block_of, else_of, list_of, state_of, group_of}
 use Rattle.sap_resolve.specs.Fill.{filled_step, filled, filled_arms, filled_block, filled_state, filled_group}
 use Rattle.sap_resolve.proofs.sized.Faultless.{none_two, none_three, none_four}
@@ -150,7 +150,7 @@ module _ (es : List Entity) (w : World) (r : Resolved es w) where
         let n = none_two (tag_faults ls.names what t) (tags_faults ls.names what (tree.AndTag u parts)) h in
         (tag_conditions ls t n.0, tags_conditions ls (tree.AndTag u parts) n.1)
 
-module _ (ls : Levels) (h : Context) (w : World) (r : Resolved h.entities w) where
+module _ (ls : Levels) (h : Surroundings) (w : World) (r : Resolved h.entities w) where
   abbrev known_as : List ℕ → Option Declared
   known_as = what_is h.entities
 
@@ -208,7 +208,7 @@ module _ (ls : Levels) (le : ℕ → ℕ → Bool) (es : List Entity) (w : World
   mutual
     state_conditions : (k x : ℕ) (s : tree.StateTree) → state_faults ls.names le (what_is es) s ≡ [] → StateConditions w (state_of ls es k x s)
     state_conditions k x (tree.StateOf place name kind body children) f =
-        let h : Context = record { entities = es; home = record { name = name.name; kind = kind; children = children } } in
+        let h : Surroundings = record { entities = es; home = record { name = name.name; kind = kind; children = children } } in
         let s = none_three (kind_faults ls.names le kind) (block_faults ls.names (what_is es) body) (states_faults ls.names le (what_is es) children) f in
         (block_conditions ls h w r k body s.1, group_conditions (k + length (block_sites h body)) (x + 1) children s.2)
 

@@ -7,7 +7,7 @@ use Rattle.sap_lattice.specs.Levels.{Levels, order_of}
 use Rattle.sap_names.specs.Entities.{what_is, entities_of}
 use Rattle.sap_names.specs.declared.entity.Entity as declared_entity
 use Rattle.sap_names.specs.NameFaults.{states_faults}
-use Rattle.sap_shape.specs.Sites.{Context, block_sites, state_sites, check_sites}
+use Rattle.sap_shape.specs.Sites.{Surroundings, block_sites, state_sites, check_sites}
 use Rattle.sap_meaning.specs.Program.{World, root, children, last, is_state, Node, Group, None, More}
 use Rattle.sap_meaning.specs.Sites as meaning
 use Rattle.sap_meaning.specs.Fine.{inside}
@@ -42,7 +42,7 @@ module _ (ls : Levels) (es : List declared_entity.Entity) where
   stands_inside k x NoState y l m = absurd (omega arith)
   stands_inside k x (AndState (StateOf p name kind body children) rest) y l m =
       let s : StateTree = StateOf p name kind body children in
-      let h : Context = record { entities = es; home = record { name = name.name; kind = kind; children = children } } in
+      let h : Surroundings = record { entities = es; home = record { name = name.name; kind = kind; children = children } } in
       let here : Group = group_of ls es (k + length (block_sites h body)) (x + 1) children in
       let later : Group = group_of ls es (k + length (state_sites es s)) (x + states_in s) rest in
       elim (cases_Bool (nat_eq y x)) [
@@ -66,7 +66,7 @@ module _ (ls : Levels) (es : List declared_entity.Entity) where
       tidy_state : (k n x : ℕ) (s : StateTree) → LaidState ls es w n x s → TidyState w (state_of ls es k x s)
       tidy_state k n x (StateOf p name kind body kids) laid = (
         λ y b c.
-            let h : Context = record { entities = es; home = record { name = name.name; kind = kind; children = kids } } in
+            let h : Surroundings = record { entities = es; home = record { name = name.name; kind = kind; children = kids } } in
             let r = in_bounds x (last w x) y (is_state w y) b in
             let l = here_last ls es w n x p name kind body kids laid in
             let m : y < x + 1 + states_below kids = before x y (last w x) (states_below kids) l r.1 in

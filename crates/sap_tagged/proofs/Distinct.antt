@@ -9,13 +9,13 @@ use Rattle.sap_meaning.specs.Program.{World, Kind, Entity, entity, root, childre
 use Rattle.sap_net.specs.Names.{is_among, AreDistinct}
 use Rattle.sap_ir.specs.declared.guarded.Var.{Var}
 use Rattle.sap_ir.specs.declared.guarded.Store.{Store}
-use Rattle.sap_ir.specs.IsGuarded.{declared}
+use Rattle.sap_ir.specs.IsGuarded.{declared, variable_names}
 use Rattle.sap_ir.specs.Plain.Nested.{declarations}
 use Rattle.sap_interface.specs.StandsFor.{Named, world, depth}
 use Rattle.sap_tagged.specs.Keys.{Key, Value, Tag, Seat, Refused, Level, Wire, First, Inner, index, same, key_name}
 use Rattle.sap_tagged.specs.Commands.{wires, wires_arms, wires_block}
 use Rattle.sap_tagged.specs.States.{wires_state, wires_group, saved}
-use Rattle.sap_tagged.specs.Plain.{names_of, level_at_start, for_entities, shown_registers, has_own_tag, tag_registers, seat_var, seat_registers, site_wires, step_wires, command_wires, arms_wires, block_wires, state_wires, group_wires, first_wires, inner_wires, memory_of, tags_of, plain_of}
+use Rattle.sap_tagged.specs.Plain.{level_at_start, for_entities, shown_registers, has_own_tag, tag_registers, seat_var, seat_registers, site_wires, step_wires, command_wires, arms_wires, block_wires, state_wires, group_wires, first_wires, inner_wires, memory_of, tags_of, plain_of}
 use Rattle.sap_tagged.proofs.KeyNames.{NamesApart, names_apart, same_is}
 
 -- lists of keys
@@ -184,21 +184,21 @@ module _ (d : Named) (tag : ℕ) where
   abbrev keyed : List Key → List Name
   keyed ks = map (key_name d) ks
 
-  pub sites_named : (k n : ℕ) → names_of (site_wires d tag k n) ≡ keyed (site_keys k n)
+  pub sites_named : (k n : ℕ) → variable_names (site_wires d tag k n) ≡ keyed (site_keys k n)
   sites_named k zero = refl
   sites_named k (suc n) = ap (λ (ns : List Name). key_name d (Refused k) ∷ key_name d (Level k) ∷ ns) (sites_named (k + 1) n)
 
-  two_lists : (xs ys : List Var) (k m n : ℕ) → names_of xs ≡ keyed (wire_keys k m) → names_of ys ≡ keyed (wire_keys (k + m) n) → names_of (xs ++ ys) ≡ keyed (wire_keys k (m + n))
+  two_lists : (xs ys : List Var) (k m n : ℕ) → variable_names xs ≡ keyed (wire_keys k m) → variable_names ys ≡ keyed (wire_keys (k + m) n) → variable_names (xs ++ ys) ≡ keyed (wire_keys k (m + n))
   two_lists xs ys k m n e f =
       map-append (λ (x : Var). x.name) xs ys ∙ ap₂ (λ (a b : List Name). a ++ b) e f ∙ sym (map-append (key_name d) (wire_keys k m) (wire_keys (k + m) n)) ∙ ap keyed (wires_join k m n)
 
-  one_more : (xs : List Var) (k n u : ℕ) → names_of xs ≡ keyed (wire_keys (k + 1) n) → key_name d (Wire k) ∷ names_of xs ≡ keyed (wire_keys k (1 + n))
+  one_more : (xs : List Var) (k n u : ℕ) → variable_names xs ≡ keyed (wire_keys (k + 1) n) → key_name d (Wire k) ∷ variable_names xs ≡ keyed (wire_keys k (1 + n))
   one_more xs k n u e = ap (λ (ns : List Name). key_name d (Wire k) ∷ ns) e ∙ ap (λ (i : ℕ). keyed (wire_keys k i)) (more n)
     where
       more : (n : ℕ) → suc n ≡ 1 + n
       more n = omega arith
 
-  step_named : (k : ℕ) → names_of (step_wires d tag k) ≡ keyed (wire_keys k 5)
+  step_named : (k : ℕ) → variable_names (step_wires d tag k) ≡ keyed (wire_keys k 5)
   step_named k =
       let a : k + 2 ≡ k + 1 + 1 = omega arith in
       let b : k + 3 ≡ k + 1 + 1 + 1 = omega arith in
@@ -206,14 +206,14 @@ module _ (d : Named) (tag : ℕ) where
       rw (a, b, c) refl
 
   mutual
-    command_named : (k : ℕ) (c : Command) → names_of (command_wires d tag k c) ≡ keyed (wire_keys k (wires c))
+    command_named : (k : ℕ) (c : Command) → variable_names (command_wires d tag k c) ≡ keyed (wire_keys k (wires c))
     command_named k (Do s) = step_named k
     command_named k (Try s hang h) = two_lists (step_wires d tag k) (block_wires d tag (k + 5) h) k 5 (wires_block h) (step_named k) (block_named (k + 5) h)
     command_named k (If hang e a b) =
         let m = wires_block a in
         let n = wires_block b in
         let two : k + 2 ≡ k + 1 + 1 = omega arith in
-        let r : names_of (block_wires d tag (k + 2) a ++ block_wires d tag (k + 2 + m) b) ≡ keyed (wire_keys (k + 2) (m + n)) =
+        let r : variable_names (block_wires d tag (k + 2) a ++ block_wires d tag (k + 2 + m) b) ≡ keyed (wire_keys (k + 2) (m + n)) =
         two_lists (block_wires d tag (k + 2) a) (block_wires d tag (k + 2 + m) b) (k + 2) m n (block_named (k + 2) a) (block_named (k + 2 + m) b) in
         ap (λ (ns : List Name). key_name d (Wire k) ∷ key_name d (Wire (k + 1)) ∷ ns) (r ∙ ap (λ (i : ℕ). keyed (wire_keys i (m + n))) two)
         ∙ ap (λ (i : ℕ). keyed (wire_keys k i)) (count m n)
@@ -242,18 +242,18 @@ module _ (d : Named) (tag : ℕ) where
         count : (n : ℕ) → suc (suc (suc (suc n))) ≡ 4 + n
         count n = omega arith
 
-    arms_named : (k : ℕ) (arms : Arms) → names_of (arms_wires d tag k arms) ≡ keyed (wire_keys k (wires_arms arms))
+    arms_named : (k : ℕ) (arms : Arms) → variable_names (arms_wires d tag k arms) ≡ keyed (wire_keys k (wires_arms arms))
     arms_named k (Last b) = block_named k b
     arms_named k (Arm constants b arms) =
         two_lists (block_wires d tag k b) (arms_wires d tag (k + wires_block b) arms) k (wires_block b) (wires_arms arms) (block_named k b) (arms_named (k + wires_block b) arms)
 
-    block_named : (k : ℕ) (b : Block) → names_of (block_wires d tag k b) ≡ keyed (wire_keys k (wires_block b))
+    block_named : (k : ℕ) (b : Block) → variable_names (block_wires d tag k b) ≡ keyed (wire_keys k (wires_block b))
     block_named k End = refl
     block_named k (Then c cs) =
         two_lists (command_wires d tag k c) (block_wires d tag (k + wires c) cs) k (wires c) (wires_block cs) (command_named k c) (block_named (k + wires c) cs)
 
   mutual
-    state_named : (k : ℕ) (t : State) → names_of (state_wires d tag k t) ≡ keyed (wire_keys k (wires_state t))
+    state_named : (k : ℕ) (t : State) → variable_names (state_wires d tag k t) ≡ keyed (wire_keys k (wires_state t))
     state_named k (Node s b g) =
         let m = wires_block b in
         let n = wires_group g in
@@ -264,7 +264,7 @@ module _ (d : Named) (tag : ℕ) where
         count : (m n : ℕ) → 1 + (m + n) ≡ 1 + m + n
         count m n = omega arith
 
-    group_named : (k : ℕ) (g : Group) → names_of (group_wires d tag k g) ≡ keyed (wire_keys k (wires_group g))
+    group_named : (k : ℕ) (g : Group) → variable_names (group_wires d tag k g) ≡ keyed (wire_keys k (wires_group g))
     group_named k None = refl
     group_named k (More (Node s b g) rest) =
         let n = 1 + wires_block b + wires_group g in

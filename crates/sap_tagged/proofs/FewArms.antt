@@ -13,7 +13,7 @@ use Rattle.sap_names.specs.declared.entity.Entity.{Entity}
 use Rattle.sap_meaning.specs.Program.{World, Command, Do, Try, If, TryThen, Case, Arms, Last, Arm, Block, End, Then, State, Node, Group, None, More}
 use Rattle.sap_meaning.specs.Checks.{Spot}
 use Rattle.sap_resolve.specs.Worlds.{states_in}
-use Rattle.sap_shape.specs.Sites.{Context, simple_sites, command_sites, block_sites, state_sites}
+use Rattle.sap_shape.specs.Sites.{Surroundings, simple_sites, command_sites, block_sites, state_sites}
 use Rattle.sap_resolve.specs.Resolve.{numbers_of, command_of, arms_of, block_of, else_of, list_of, state_of, group_of}
 use Rattle.sap_resolve.specs.Fill.{filled, filled_arms, filled_block, filled_state, filled_group}
 use Rattle.sap_tagged.specs.Commands.{arm_count}
@@ -25,7 +25,7 @@ some_number : (constants : tree.Expressions) → has_constant constants ≡ true
 some_number tree.NoPart h = cc
 some_number (tree.AndPart e constants) h = omega arith
 
-module _ (version : Version) (ls : Levels) (h : Context) where
+module _ (version : Version) (ls : Levels) (h : Surroundings) where
   arms_counted : (k : ℕ) (arms : tree.Arms) → arm_count (arms_of ls h k arms) ≡ whole.arm_count arms
   arms_counted k (tree.Last b) = refl
   arms_counted k (tree.Arm constants b arms) = let i = arms_counted (k + length (block_sites h b)) arms in omega (arith, i)
@@ -72,7 +72,7 @@ module _ (version : Version) (ls : Levels) (es : List Entity) where
 
     state_few : (k x : ℕ) (s : tree.StateTree) → is_state version s ≡ true → FewState (state_of ls es k x s)
     state_few k x (tree.StateOf place name kind body children) i =
-        let h : Context = record { entities = es; home = record { name = name.name; kind = kind; children = children } } in
+        let h : Surroundings = record { entities = es; home = record { name = name.name; kind = kind; children = children } } in
         let j = and_parts (is_name version name.name && is_kind version kind && is_block version body && nat_le (block_depth body) most_blocks) (are_states version children) i in
         let m = and_left (is_name version name.name && is_kind version kind && is_block version body) (nat_le (block_depth body) most_blocks) j.0 in
         (block_few version ls h k body (and_right (is_name version name.name && is_kind version kind) (is_block version body) m), group_few (k + length (block_sites h body)) (x + 1) children j.1)

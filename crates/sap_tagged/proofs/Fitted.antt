@@ -13,7 +13,7 @@ use Rattle.sap_names.specs.declared.entity.Entity.{Entity}
 use Rattle.sap_meaning.specs.Program.{World, root, Command, Do, Try, If, TryThen, Case, Arms, Last, Arm, Block, End, Then, State, Node, Group, None, More}
 use Rattle.sap_meaning.specs.Checks.{Spot}
 use Rattle.sap_resolve.specs.Worlds.{world_of, states_in}
-use Rattle.sap_shape.specs.Sites.{Context, simple_sites, command_sites, block_sites, state_sites}
+use Rattle.sap_shape.specs.Sites.{Surroundings, simple_sites, command_sites, block_sites, state_sites}
 use Rattle.sap_resolve.specs.Resolve.{command_of, arms_of, block_of, else_of, list_of, state_of, group_of, states_of}
 use Rattle.sap_resolve.specs.Fill.{filled, filled_arms, filled_block, filled_state, filled_group}
 use Rattle.sap_resolve.specs.Sized.Ranges.{IsWidth}
@@ -60,7 +60,7 @@ module _ (w : World) where
 
 -- five wires a command, and one a state
 
-module _ (ls : Levels) (h : Context) where
+module _ (ls : Levels) (h : Surroundings) where
   mutual
     unfolding command_count arms_count block_count else_count list_count
 
@@ -93,7 +93,7 @@ module _ (ls : Levels) (es : List Entity) where
 
     state_few : (k x : ℕ) (s : tree.StateTree) → wires_state (state_of ls es k x s) ≤ 5 * state_commands s + state_count s
     state_few k x (tree.StateOf place name kind body kids) =
-        let h : Context = record { entities = es; home = record { name = name.name; kind = kind; children = kids } } in
+        let h : Surroundings = record { entities = es; home = record { name = name.name; kind = kind; children = kids } } in
         let i = block_few ls h k body in
         let j = group_few (k + length (block_sites h body)) (x + 1) kids in
         omega (arith, i, j)

@@ -10,51 +10,51 @@ use Rattle.sap_net.specs.Names.{is_among, AreDistinct}
 use Rattle.sap_ir.specs.declared.guarded.Var.{Var}
 use Rattle.sap_ir.specs.Source.{Source}
 use Rattle.sap_ir.specs.declared.guarded.Store.{Store}
-use Rattle.sap_ir.specs.IsGuarded.{memory_names}
+use Rattle.sap_ir.specs.IsGuarded.{memory_names, variable_names}
 use Rattle.sap_ir.specs.Guarded.{first_number, register_number, number_at_start, first_cell, cell_at_start}
-use Rattle.sap_tagged.specs.Plain.{names_of, for_entities}
+use Rattle.sap_tagged.specs.Plain.{for_entities}
 
 -- it stands on the list
 abbrev pub In : {A : Type 0} → List A → A → Type 0
 In [] x = ⊥
 In (y ∷ ys) x = (y ≡ x) ⊎ In ys x
 
-pub among_in : (xs : List Var) (x : Var) → In xs x → is_among x.name (names_of xs) ≡ true
+pub among_in : (xs : List Var) (x : Var) → In xs x → is_among x.name (variable_names xs) ≡ true
 among_in [] x h = absurd h
-among_in (y ∷ ys) x (inl e) = subst (λ (z : Var). is_among x.name (z.name ∷ names_of ys) ≡ true) (sym e) (rw (bytes_eq_same x.name) refl)
+among_in (y ∷ ys) x (inl e) = subst (λ (z : Var). is_among x.name (z.name ∷ variable_names ys) ≡ true) (sym e) (rw (bytes_eq_same x.name) refl)
 among_in (y ∷ ys) x (inr h) = elim (cases_Bool (bytes_eq x.name y.name)) [ inl t ↦ rw t refl | inr t ↦ rw t (among_in ys x h) ]
 
-pub find_in : (xs : List Var) (x : Var) → AreDistinct (names_of xs) → In xs x → find (map (λ (z : Var). (z.name, z.width)) xs) x.name ≡ Some x.width
+pub find_in : (xs : List Var) (x : Var) → AreDistinct (variable_names xs) → In xs x → find (map (λ (z : Var). (z.name, z.width)) xs) x.name ≡ Some x.width
 find_in [] x d h = absurd h
 find_in (y ∷ ys) x d (inl e) =
     subst (λ (z : Var). find (map (λ (v : Var). (v.name, v.width)) (z ∷ ys)) x.name ≡ Some x.width) (sym e) (rw (bytes_eq_same x.name) refl)
 find_in (y ∷ ys) x d (inr h) =
-    let o : bytes_eq y.name x.name ≡ false = apart_by_membership y.name x.name (names_of ys) d.0 (among_in ys x h) in
+    let o : bytes_eq y.name x.name ≡ false = apart_by_membership y.name x.name (variable_names ys) d.0 (among_in ys x h) in
     rw o (find_in ys x d.1 h)
 
-pub number_in : (before : Option Valuation) (xs : List Var) (x : Var) → AreDistinct (names_of xs) → In xs x → register_number before xs x.name ≡ first_number before x
+pub number_in : (before : Option Valuation) (xs : List Var) (x : Var) → AreDistinct (variable_names xs) → In xs x → register_number before xs x.name ≡ first_number before x
 number_in before [] x d h = absurd h
 number_in before (y ∷ ys) x d (inl e) =
     subst (λ (z : Var). register_number before (z ∷ ys) x.name ≡ first_number before x) (sym e) (rw (bytes_eq_same x.name) refl)
 number_in before (y ∷ ys) x d (inr h) =
-    let o : bytes_eq y.name x.name ≡ false = apart_by_membership y.name x.name (names_of ys) d.0 (among_in ys x h) in
+    let o : bytes_eq y.name x.name ≡ false = apart_by_membership y.name x.name (variable_names ys) d.0 (among_in ys x h) in
     rw o (number_in before ys x d.1 h)
 
 -- a name that no register has is 0
-pub number_out : (before : Option Valuation) (xs : List Var) (n : Name) → is_among n (names_of xs) ≡ false → register_number before xs n ≡ 0
+pub number_out : (before : Option Valuation) (xs : List Var) (n : Name) → is_among n (variable_names xs) ≡ false → register_number before xs n ≡ 0
 number_out before [] n f = refl
 number_out before (y ∷ ys) n f =
-    let p = or_parts (bytes_eq n y.name) (is_among n (names_of ys)) f in
+    let p = or_parts (bytes_eq n y.name) (is_among n (variable_names ys)) f in
     let o : bytes_eq y.name n ≡ false = bytes_eq_apart_back n y.name p.0 in
     rw o (number_out before ys n p.1)
 
 -- a name that no input has is a register's
-pub start_out : (s : Source) (before : Option Valuation) (is : List Var) (ns : List ℕ) (n : Name) → is_among n (names_of is) ≡ false
+pub start_out : (s : Source) (before : Option Valuation) (is : List Var) (ns : List ℕ) (n : Name) → is_among n (variable_names is) ≡ false
     → number_at_start s before is ns n ≡ register_number before s.registers n
 start_out s before [] ns n f = refl
 start_out s before (i ∷ is) [] n f = refl
 start_out s before (i ∷ is) (x ∷ ns) n f =
-    let p = or_parts (bytes_eq n i.name) (is_among n (names_of is)) f in
+    let p = or_parts (bytes_eq n i.name) (is_among n (variable_names is)) f in
     let o : bytes_eq i.name n ≡ false = bytes_eq_apart_back n i.name p.0 in
     rw o (start_out s before is ns n p.1)
 

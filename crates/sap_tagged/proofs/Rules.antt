@@ -26,7 +26,7 @@ use Rattle.sap_tagged.specs.Keys.{Key, Value, Tag, First, Inner, key_name}
 use Rattle.sap_tagged.specs.Setting.{Setting, setting_of}
 use Rattle.sap_tagged.specs.Commands.{arm_count, wires, wires_block}
 use Rattle.sap_tagged.specs.States.{saved, wires_group}
-use Rattle.sap_tagged.specs.Plain.{variable, wire, names_of, level_at_start, value_var, tag_var, seat_var, for_entities, shown_registers, has_own_tag, tag_registers, seat_registers, site_wires, step_wires, command_wires, arms_wires, block_wires, state_wires, group_wires, first_wires, inner_wires, memory_of, tags_of, plain_of}
+use Rattle.sap_tagged.specs.Plain.{variable, wire, level_at_start, value_var, tag_var, seat_var, for_entities, shown_registers, has_own_tag, tag_registers, seat_registers, site_wires, step_wires, command_wires, arms_wires, block_wires, state_wires, group_wires, first_wires, inner_wires, memory_of, tags_of, plain_of}
 use Rattle.sap_tagged.proofs.Members.{In, among_in, in_front}
 use Rattle.sap_tagged.proofs.Premises.{Design}
 use Rattle.sap_tagged.proofs.Distinct.{Every, every_join, once_join, lists_apart, distinct_keys, entities_once, entities_all, entities_named, site_keys, sites_once, sites_named, list_number, all_keys, all_named, register_lists}
@@ -191,14 +191,14 @@ module _ (d : Named) (tag sites : ℕ) (design : Design d tag sites) (fit : Fitt
 
   -- ports
 
-  among_each : (ys : List Name) (xs : List Var) → ((v : Var) → In xs v → is_among v.name ys ≡ true) → AllByRecursion (λ (x : Name). is_among x ys ≡ true) (names_of xs)
+  among_each : (ys : List Name) (xs : List Var) → ((v : Var) → In xs v → is_among v.name ys ≡ true) → AllByRecursion (λ (x : Name). is_among x ys ≡ true) (variable_names xs)
   among_each ys [] f = tt
   among_each ys (x ∷ xs) f = (f x (inl refl), among_each ys xs (λ v i. f v (inr i)))
 
   ports_declared : AllByRecursion (λ (x : Name). is_among x (variable_names src.registers ++ variable_names src.wires) ≡ true) src.ports
   ports_declared =
       let all = variable_names src.registers ++ variable_names src.wires in
-      all_append (λ (x : Name). is_among x all ≡ true) (names_of (shown_registers d tag)) (names_of (site_wires d tag 1 sites))
+      all_append (λ (x : Name). is_among x all ≡ true) (variable_names (shown_registers d tag)) (variable_names (site_wires d tag 1 sites))
       (among_each all (shown_registers d tag)
       (λ v i. among_front v.name (variable_names src.registers) (variable_names src.wires) (among_in src.registers v (in_front (shown_registers d tag) (tag_registers d tag ++ seat_registers d) v i))))
       (among_each all (site_wires d tag 1 sites)

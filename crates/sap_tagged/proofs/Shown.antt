@@ -9,6 +9,7 @@ use Rattle.sap_meaning.specs.Program.{World, Entity, entity, root, children, wid
 use Rattle.sap_net.specs.Names.{is_among}
 use Rattle.sap_net.specs.declared.parts.PortKind.{PortKind}
 use Rattle.sap_net.specs.declared.parts.PortKind.TheVariants as kind
+use Rattle.sap_ir.specs.IsGuarded.{variable_names}
 use Rattle.sap_ir.specs.declared.guarded.Var.{Var}
 use Rattle.sap_ir.specs.declared.guarded.Store.{Store}
 use Rattle.sap_ir.proofs.Declared.{apart_lists}
@@ -18,7 +19,7 @@ use Rattle.sap_interface.specs.PortNames.{value_name, tag_name, refused_name, le
 use Rattle.sap_interface.specs.StandsFor.{Named, name, world, depth}
 use Rattle.sap_interface.specs.Interface.{Shown, pairs_of, site_ports, ports_of}
 use Rattle.sap_tagged.specs.Keys.{Value, Tag, Seat, key_name}
-use Rattle.sap_tagged.specs.Plain.{names_of, for_entities, value_var, tag_var, seat_var, level_at_start, shown_registers, tag_registers, seat_registers, site_wires, first_wires, inner_wires, group_wires, memory_of, plain_of}
+use Rattle.sap_tagged.specs.Plain.{for_entities, value_var, tag_var, seat_var, level_at_start, shown_registers, tag_registers, seat_registers, site_wires, first_wires, inner_wires, group_wires, memory_of, plain_of}
 use Rattle.sap_tagged.specs.Law.{HasVariable, HasStore, HasSeatRegister, shows, shown, PlainInterface}
 use Rattle.sap_tagged.proofs.Bools.{value_within, register_within, memory_within}
 use Rattle.sap_tagged.proofs.Members.{In, among_in, in_front}
@@ -84,23 +85,23 @@ module _ (d : Named) (tag sites : ℕ) (design : Design d tag sites) where
 
   -- the kind that each of some ports shows
   shows_each : (k : PortKind) (xs : List Var) → ((v : Var) → In xs v → shows p v.name ≡ k)
-      → map {B = Shown} (λ (x : Name). (x, shows p x)) (names_of xs) ≡ map {B = Shown} (λ (v : Var). (v.name, k)) xs
+      → map {B = Shown} (λ (x : Name). (x, shows p x)) (variable_names xs) ≡ map {B = Shown} (λ (v : Var). (v.name, k)) xs
   shows_each k [] f = refl
   shows_each k (x ∷ xs) f = ap₂ (λ (j : PortKind) (zs : List Shown). let r : List Shown = (x.name, j) ∷ zs in r) (f x (inl refl)) (shows_each k xs (λ v i. f v (inr i)))
 
   shows_register : (v : Var) → In (shown_registers d tag) v → shows p v.name ≡ kind.Register
   shows_register v i =
-      let m : is_among v.name (names_of p.registers) ≡ true =
+      let m : is_among v.name (variable_names p.registers) ≡ true =
       among_in p.registers v (in_front (shown_registers d tag) (tag_registers d tag ++ seat_registers d) v i) in
       rw m refl
 
   shows_wire : (v : Var) → In (site_wires d tag 1 sites) v → shows p v.name ≡ kind.Wire
   shows_wire v i =
-      let m : is_among v.name (names_of p.wires) ≡ true =
+      let m : is_among v.name (variable_names p.wires) ≡ true =
       among_in p.wires v (in_front (site_wires d tag 1 sites) (first_wires d tag ++ (inner_wires d tag ++ group_wires d tag 0 d.program.states)) v i) in
       let stores = map (λ (s : Store). s.name) p.memories in
-      let f : is_among v.name (names_of p.registers) ≡ false =
-      apart_lists (names_of p.registers) (names_of p.wires ++ stores) (behind_inputs d tag sites design) v.name (among_front v.name (names_of p.wires) stores m) in
+      let f : is_among v.name (variable_names p.registers) ≡ false =
+      apart_lists (variable_names p.registers) (variable_names p.wires ++ stores) (behind_inputs d tag sites design) v.name (among_front v.name (variable_names p.wires) stores m) in
       rw f refl
 
   ports_shown : shown p ≡ ports_of d sites
@@ -110,7 +111,7 @@ module _ (d : Named) (tag sites : ℕ) (design : Design d tag sites) where
       let registers = shown_registers d tag in
       let wires = site_wires d tag 1 sites in
       ap₂ (λ (a b : List Shown). a ++ b) (pairs_shown kind.Input (is_input w) (λ x. value_var d x 0 ∷ tag_var d tag x 0 ∷ []) (λ x h. pair_named kind.Input x (input_within x h)) 0 w.entities)
-      (map-append (λ (x : Name). (x, shows p x)) (names_of registers) (names_of wires)
+      (map-append (λ (x : Name). (x, shows p x)) (variable_names registers) (variable_names wires)
       ∙ ap₂ (λ (a b : List Shown). a ++ b)
       (shows_each kind.Register registers shows_register
       ∙ pairs_shown kind.Register (is_register w) (λ x. value_var d x (entity w x).initial ∷ tag_var d tag x (level_at_start d x) ∷ []) (λ x h. pair_named kind.Register x (register_within w x h)) 0 w.entities)

@@ -8,6 +8,7 @@ use Rattle.sap_meaning.specs.Store.{own}
 use Rattle.sap_meaning.specs.State.{first_level}
 use Rattle.sap_ir.specs.declared.guarded.Var.{Var}
 use Rattle.sap_ir.specs.declared.guarded.Store.{Store}
+use Rattle.sap_ir.specs.IsGuarded.{variable_names}
 use Rattle.sap_ir.specs.Plain.Nested.{Nested, seat_width}
 use Rattle.sap_interface.specs.StandsFor.{Named, world, depth}
 use Rattle.sap_tagged.specs.Keys.{Value, Tag, Seat, Refused, Level, Wire, First, Inner, key_name}
@@ -17,9 +18,6 @@ use Rattle.sap_tagged.specs.States.{wires_group, saved, top_plain}
 
 abbrev pub variable : Name → (width start : ℕ) → Var
 variable n u start = record { name = n; width = u; start = start }
-
-abbrev pub names_of : List Var → List Name
-names_of xs = map (λ x. x.name) xs
 
 -- the code of the level that an entity starts with
 abbrev pub level_at_start : Named → ℕ → ℕ
@@ -134,6 +132,6 @@ plain_of d tag sites = record {
   wires = wires_of d tag sites;
   registers = registers_of d tag;
   memories = memories_of d tag;
-  ports = names_of (shown_registers d tag) ++ names_of (site_wires d tag 1 sites);
+  ports = variable_names (shown_registers d tag) ++ variable_names (site_wires d tag 1 sites);
   states = top_plain (setting_of d tag) (listed d.program.hang) 0 d.program.states;
 }

@@ -29,7 +29,7 @@ use Rattle.sap_tagged.specs.Keys.{Wire}
 use Rattle.sap_tagged.specs.Setting as pass
 use Rattle.sap_tagged.specs.Levels.{var, lub, expr, tag_of, always}
 use Rattle.sap_terms.specs.declared.setting.Setting.{Setting}
-use Rattle.sap_terms.specs.declared.setting.Spot.{Spot}
+use Rattle.sap_program.specs.declared.spot.Spot.{Spot}
 use Rattle.sap_program.proofs.Shown.{command_of-do, command_of-try, command_of-if, command_of-then, command_of-case, block_of-none}
 use Rattle.sap_terms.proofs.Listed.{block_of-more, wires_are, wires_block_are, wires_drop, arms_drop}
 use Rattle.sap_effects.proofs.Raised.{raises_follow}

@@ -21,7 +21,7 @@ use Rattle.sap_tagged.specs.Commands.{gives, raises, block_plain, wires_block}
 use Rattle.sap_tagged.specs.Setting as pass
 use Rattle.sap_tagged.specs.States.{wires_state, saves, saved, group_plain, top_plain}
 use Rattle.sap_terms.specs.declared.setting.Setting.{Setting}
-use Rattle.sap_terms.specs.declared.setting.Spot.{Spot}
+use Rattle.sap_program.specs.declared.spot.Spot.{Spot}
 use Rattle.sap_program.proofs.Shown.{state_of-out}
 use Rattle.sap_terms.proofs.Listed.{group_of-more, wires_block_are, wires_state_are, state_wires_are, states_drop}
 use Rattle.sap_effects.proofs.Raised.{raises_follow, entities_count}

@@ -17,7 +17,7 @@ use Rattle.sap_tagged.specs.Commands.{effect_of, wires_block, command_plain, blo
 use Rattle.sap_tagged.specs.States.{group_plain, top_plain}
 use Rattle.sap_terms.specs.Code.{setting_in, entities_in, spot_in}
 use Rattle.sap_terms.specs.declared.setting.Setting.{Setting}
-use Rattle.sap_terms.specs.declared.setting.Spot.{Spot}
+use Rattle.sap_program.specs.declared.spot.Spot.{Spot}
 
 -- what they become; a state has none behind it
 

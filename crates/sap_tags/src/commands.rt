@@ -26,9 +26,10 @@ use sap_ir::guarded::{Act, Calc};
 use sap_ir::plain::nested::PlainCmd;
 use sap_ir::plain::seats;
 use sap_program::program::{Arm, Command, Number, Step};
+use sap_program::spot::Spot;
 use sap_terms::calcs::{expr, lub, tag_of, width_of, yes};
 use sap_terms::names::{level_name, refused_name};
-use sap_terms::setting::{Setting, Spot};
+use sap_terms::setting::Setting;
 use std::alloc::{AllocError, Global};
 
 /// A context inside another, which is in the wire `p`.

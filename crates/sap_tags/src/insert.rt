@@ -1,6 +1,7 @@
 //! Whole designs.
 
 ghost use Rattle.std.specs.Prelude.{◌≡◌, ◌<◌, ◌≤◌, ◌^◌, ◌++◌, IfOk, OnOk};
+ghost use Rattle.sap_ir.specs.IsGuarded.{variable_names};
 ghost use Rattle.sap_check.specs.Checked.{levels_in, tree_in};
 ghost use Rattle.sap_ir.specs.Plain.Parts.{parts_nested};
 ghost use Rattle.sap_ir.specs.Plain.Program.{nested_of};
@@ -11,7 +12,7 @@ ghost use Rattle.sap_size.specs.Items.{most_items};
 ghost use Rattle.sap_size.specs.Nested.{nested_weight};
 ghost use Rattle.sap_resolve.specs.Sized.Ranges.{RangedProgram};
 ghost use Rattle.sap_tagged.specs.Law.{IsSound, PlainStandsForDesign};
-ghost use Rattle.sap_tagged.specs.Plain.{names_of, plain_of};
+ghost use Rattle.sap_tagged.specs.Plain.{plain_of};
 ghost use Rattle.sap_tagged.specs.States.{wires_group};
 ghost use Rattle.sap_terms.specs.Parts.{StatesFew};
 ghost use Rattle.sap_terms.specs.Code.{entities_in, named_in, tag_width};
@@ -37,7 +38,7 @@ use std::alloc::{AllocError, Global};
 
 /// The names of variables.
 fn add_names(alloc: Global, names: &mut Vec<Name>, variables: &[Var]) -> Result<(), AllocError>
-    ensures { OnOk result (names.new.items ≡ names.old.items ++ names_of variables.now) }
+    ensures { OnOk result (names.new.items ≡ names.old.items ++ variable_names variables.now) }
 {
     for variable in variables {
         names.push(variable.name.copy(alloc)?)?;

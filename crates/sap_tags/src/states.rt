@@ -17,9 +17,10 @@ use sap_effects::pushes::{inner_variable, set_wire};
 use sap_effects::raises::{raise_all, save_all};
 use sap_ir::plain::nested::PlainState;
 use sap_program::program::State;
+use sap_program::spot::Spot;
 use sap_terms::calcs::tag_variable;
 use sap_terms::names::state_name;
-use sap_terms::setting::{Setting, Spot};
+use sap_terms::setting::Setting;
 use std::alloc::{AllocError, Global};
 
 /// A state of a group; the wires from `next` on are its own, those of its body and those of all below it.

@@ -6,10 +6,10 @@ use Rattle.sap_meaning.specs.Program.{World}
 use Rattle.sap_meaning.specs.Checks as checks
 use Rattle.sap_interface.specs.StandsFor.{Named, world}
 use Rattle.sap_program.specs.declared.program.Program.{Program}
-use Rattle.sap_program.specs.Views.{count, program_in, names_in, group_of}
+use Rattle.sap_program.specs.declared.spot.Spot.{Spot}
+use Rattle.sap_program.specs.Views.{count, program_in, names_in, spot_of}
 use Rattle.sap_tagged.specs.Setting as pass
 use Rattle.sap_terms.specs.declared.setting.Setting.{Setting}
-use Rattle.sap_terms.specs.declared.setting.Spot.{Spot}
 
 -- a program with the names of its entities and the codes of levels
 abbrev pub named_over : Levels → Program → Named
@@ -32,4 +32,4 @@ abbrev pub entities_in : Setting → ℕ
 entities_in s = count s.program.now
 
 abbrev pub spot_in : Setting → Spot → checks.Spot
-spot_in s at = record { state = at.state; parent = at.parent; children = group_of (entities_in s) at.children.now }
+spot_in s at = spot_of (entities_in s) at

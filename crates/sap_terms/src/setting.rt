@@ -3,7 +3,7 @@
 ghost use Rattle.sap_terms.specs.Narrow.{IsNarrow};
 
 use sap_lattice::lattice::Lattice;
-use sap_program::program::{Program, State};
+use sap_program::program::Program;
 
 /// A program over the levels of a lattice.
 #[derive(Drop)]
@@ -11,12 +11,4 @@ pub struct Setting<'a> {
     pub lattice: &'a Lattice,
     pub program: &'a Program,
     pub ghost narrow: { IsNarrow program.now },
-}
-
-/// Where a body stands: in this state, with this parent and these children.
-#[derive(Drop)]
-pub struct Spot<'a> {
-    pub state: usize,
-    pub parent: usize,
-    pub children: &'a [State],
 }

@@ -1,1 +1,2 @@
 pub mod NamesLemmas
+pub mod BestLemmas

@@ -1,3 +1,4 @@
+pub mod Best
 pub mod Blanks
 pub mod Names
 pub mod Places

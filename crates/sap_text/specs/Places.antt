@@ -7,6 +7,10 @@ use Rattle.sap_text.specs.declared.place.Place.{Place}
 abbrev pub line_end : List ℕ
 line_end = 10 ∷ []
 
+-- a line and its end
+abbrev pub line : List ℕ → List ℕ
+line text = text ++ line_end
+
 -- LINE:COL
 abbrev pub place_text : Place → List ℕ
 place_text place = decimal place.line ++ codes ":" ++ decimal place.column

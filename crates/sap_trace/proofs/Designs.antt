@@ -10,7 +10,7 @@ use Rattle.sap_meaning.specs.Cycle.{Tagged, cycle}
 use Rattle.sap_meaning.specs.State.{StreamFits, first}
 use Rattle.sap_meaning.specs.Sites.{program_sites, refused_sites, Sublist}
 use Rattle.sap_net.specs.Net.{Net}
-use Rattle.sap_net.specs.Runs.{AllFit, IsRun}
+use Rattle.sap_net.specs.Runs.{AllFit, IsRun, observed}
 use Rattle.sap_interface.specs.StandsFor.{world}
 use Rattle.sap_interface.specs.Designs.{named_of, StandsForDesign}
 use Rattle.sap_interface.specs.Designs as interface
@@ -41,7 +41,7 @@ module _ (ls : Levels) (d : DesignTree) (n : Net) (stands : StandsForDesign ls d
     pub trace_is : Codes (order_of ls) → 0 < length ls.names → OneNumbering ls d
         → ((inputs : List Tagged) (s : Store) → Sublist (refused_sites (cycle (program_of ls d) inputs s).refused) (program_sites (program_of ls d)))
         → (vs : List Valuation) → IsRun n (map (given ls) (read_for ls d bytes).stream) vs
-        → lines_from ls d n 1 vs ≡ labelled_trace ls d (read_for ls d bytes).stream
+        → lines_from ls d 1 (map (observed n) vs) ≡ labelled_trace ls d (read_for ls d bytes).stream
     trace_is codes some one in_order vs run =
         let stream = (read_for ls d bytes).stream in
         lines_stand ls d codes some one n in_order 1 vs stream (first (program_of ls d).world) (stands.stands stream fitting vs run)

@@ -1,5 +1,5 @@
 -- The fields of a design: one by one, and as those by which a run's stimulus is read.
-use Rattle.std.proofs.Common.{◌≡◌, ℕ, zero, suc, ◌+◌, ◌<◌, ◌≤◌, true, List, [], ◌∷◌, ◌++◌, Option, Some, None, length, take, map, refl, sym, ap, ◌∙◌, arith, if◌then◌else◌}
+use Rattle.std.proofs.Common.{◌≡◌, ℕ, zero, suc, ◌+◌, ◌<◌, ◌≤◌, true, List, [], ◌∷◌, ◌++◌, Option, Some, None, length, take, map, refl, sym, ap, ◌∙◌, arith, if◌then◌else◌, append_assoc}
 use Rattle.std.specs.Prelude.{All, option_map, slice_get}
 use Rattle.std.specs.List.{AllByRecursion}
 use Rattle.std.proofs.lemmas.List.{take_all, append-nil}
@@ -24,10 +24,6 @@ use Rattle.sap_stim.specs.Line.{IsSized}
 use Rattle.sap_sim.proofs.Registers.{each}
 use Rattle.sap_sim.specs.Labelled.Fields.{design_fields}
 use Rattle.sap_trace.specs.Fields.{field_of, field_at, fields_among}
-
-append_three : (xs ys zs : List Field) → (xs ++ ys) ++ zs ≡ xs ++ (ys ++ zs)
-append_three [] ys zs = refl
-append_three (x ∷ xs) ys zs = ap (λ (us : List Field). x ∷ us) (append_three xs ys zs)
 
 -- the field of an entity of a kind and a width
 input_field : (d : Declared) (w : ℕ) → kind_of_declared d ≡ kinds.Input → declared_width d ≡ w → field_of d ≡ Tagged w ∷ []
@@ -59,7 +55,7 @@ fields_more es n h = let e : n + 1 ≡ suc n = omega arith in ap (λ (k : ℕ). 
   one_more (f ∷ fs) zero l = append-nil (field_of f.what)
   one_more (f ∷ fs) (suc k) l =
       ap (λ (xs : List Field). field_of f.what ++ xs) (one_more fs k (omega arith))
-      ∙ sym (append_three (field_of f.what) (fields_among (take k fs)) (field_at (slice_get fs k)))
+      ∙ sym (append_assoc (field_of f.what) (fields_among (take k fs)) (field_at (slice_get fs k)))
 
 pub fields_step : (es : List Entity) (n : ℕ) (old new : List Field) → n < length es → old ≡ fields_among (take n es) → new ≡ old ++ field_at (slice_get es n)
     → new ≡ fields_among (take (n + 1) es)

@@ -1,5 +1,5 @@
 -- What the wires of check sites tell of a cycle that stands for one of the design are its refusals.
-use Rattle.std.proofs.Common.{◌≡◌, ℕ, zero, suc, ◌+◌, ◌<◌, ◌≤◌, Bool, true, false, List, [], ◌∷◌, ◌++◌, Option, length, refl, sym, ap, ap₂, ◌∙◌, subst, arith, inl, inr, ◌↔◌, if◌then◌else◌}
+use Rattle.std.proofs.Common.{◌≡◌, ℕ, zero, suc, ◌+◌, ◌<◌, ◌≤◌, Bool, true, false, List, [], ◌∷◌, ◌++◌, Option, length, refl, sym, ap, ap₂, ◌∙◌, subst, arith, inl, inr, ◌↔◌, if◌then◌else◌, append_assoc}
 use Rattle.std.specs.Prelude.{◌==◌}
 use Rattle.std.proofs.lemmas.Bool.Decides.{Decides-eqb}
 use Rattle.std.proofs.lemmas.List.{append-nil}
@@ -23,10 +23,6 @@ use Rattle.sap_secure.specs.CheckSites.Numbering.{numbers_from, OneNumbering}
 use Rattle.sap_trace.specs.Lines.{site_line, refusal_lines}
 use Rattle.sap_trace.specs.Seen.{coded_name, seen_line, seen_lines}
 
-pub append_three : (xs ys zs : List ℕ) → (xs ++ ys) ++ zs ≡ xs ++ (ys ++ zs)
-append_three [] ys zs = refl
-append_three (x ∷ xs) ys zs = ap (λ (us : List ℕ). x ∷ us) (append_three xs ys zs)
-
 -- the lines of one site more
 seen_last : (ls : Levels) (d : DesignTree) (c k n : ℕ) (v : Valuation) → seen_lines ls d c k (suc n) v ≡ seen_lines ls d c k n v ++ seen_line ls d c (k + n) v
 seen_last ls d c k zero v =
@@ -34,7 +30,7 @@ seen_last ls d c k zero v =
 seen_last ls d c k (suc n) v =
     let e : suc k + n ≡ k + suc n = omega arith in
     ap (λ (xs : List ℕ). seen_line ls d c k v ++ xs) (seen_last ls d c (suc k) n v)
-    ∙ sym (append_three (seen_line ls d c k v) (seen_lines ls d c (suc k) n v) (seen_line ls d c (suc k + n) v))
+    ∙ sym (append_assoc (seen_line ls d c k v) (seen_lines ls d c (suc k) n v) (seen_line ls d c (suc k + n) v))
     ∙ ap (λ (j : ℕ). seen_lines ls d c k (suc n) v ++ seen_line ls d c j v) e
 
 pub seen_step : (ls : Levels) (d : DesignTree) (c n : ℕ) (v : Valuation) (first old new : List ℕ) → old ≡ first ++ seen_lines ls d c 1 n v → new ≡ old ++ seen_line ls d c (n + 1) v
@@ -43,7 +39,7 @@ seen_step ls d c n v first old new h e =
     let i : n + 1 ≡ 1 + n = omega arith in
     let j : suc n ≡ n + 1 = omega arith in
     e ∙ ap₂ (λ (xs ys : List ℕ). xs ++ ys) h (ap (λ (k : ℕ). seen_line ls d c k v) i)
-    ∙ append_three first (seen_lines ls d c 1 n v) (seen_line ls d c (1 + n) v)
+    ∙ append_assoc first (seen_lines ls d c 1 n v) (seen_line ls d c (1 + n) v)
     ∙ ap (λ (xs : List ℕ). first ++ xs) (sym (seen_last ls d c 1 n v) ∙ ap (λ (k : ℕ). seen_lines ls d c 1 k v) j)
 
 -- the line of a site, by the number of its wire

@@ -1,6 +1,6 @@
 -- The lines of a trace: one for each refusal of a cycle, `cycle N: site K KIND NAME at LEVEL`, with its LF. NAME is the target, for `fall` the state in whose body
 -- it stands; LEVEL is that at which the site is refused.
-use Rattle.std.specs.Prelude.{ℕ, ◌+◌, ◌-◌, List, [], ◌∷◌, ◌++◌, codes, Option, Some, None, slice_get}
+use Rattle.std.specs.Prelude.{ℕ, ◌-◌, List, [], ◌∷◌, ◌++◌, codes, Option, Some, None, slice_get}
 use Rattle.std.specs.Fmt.{decimal}
 use Rattle.sap_lattice.specs.Levels.{Levels}
 use Rattle.sap_text.specs.Places.{line_end}
@@ -14,6 +14,7 @@ use Rattle.sap_meaning.specs.Cycle.{Tagged}
 use Rattle.sap_meaning.specs.State.{labelled_run}
 use Rattle.sap_resolve.specs.Fill.{program_of}
 use Rattle.sap_report.specs.Report.{site_target}
+use Rattle.sap_sim.specs.Told.{told_from}
 use Rattle.sap_sim.specs.Labelled.LabelledRows.{level_name}
 
 unfoldable pub line_head : (cycle k : ℕ) → List ℕ
@@ -44,8 +45,7 @@ refusal_lines ls d cycle [] = []
 refusal_lines ls d cycle (r ∷ rs) = refusal_line ls d cycle r ++ refusal_lines ls d cycle rs
 
 abbrev pub trace_of_run : Levels → DesignTree → (cycle : ℕ) → List After → List ℕ
-trace_of_run ls d cycle [] = []
-trace_of_run ls d cycle (a ∷ rest) = refusal_lines ls d cycle a.refused ++ trace_of_run ls d (cycle + 1) rest
+trace_of_run ls d = told_from (λ cycle (a : After). refusal_lines ls d cycle a.refused)
 
 -- the lines of a design's labelled run on a stream, its cycles counted from 1
 abbrev pub labelled_trace : Levels → DesignTree → List (List Tagged) → List ℕ

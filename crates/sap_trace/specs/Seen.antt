@@ -1,5 +1,5 @@
 -- What the wires of check sites tell in a cycle.
-use Rattle.std.specs.Prelude.{◌≡◌, ◌≢◌, ◌<◌, ◌≤◌, ◌+◌, ℕ, zero, suc, ◌==◌, List, [], ◌∷◌, ◌++◌, None, length, get_or, option_map, if◌then◌else◌}
+use Rattle.std.specs.Prelude.{◌≡◌, ◌≢◌, ◌<◌, ◌≤◌, ◌+◌, ℕ, zero, suc, ◌==◌, List, [], ◌++◌, None, length, get_or, option_map, if◌then◌else◌}
 use Rattle.sap_tree.specs.Syntax.{DesignTree}
 use Rattle.sap_lattice.specs.Closure.{name_at}
 use Rattle.sap_lattice.specs.Codes.{width_of}
@@ -9,11 +9,11 @@ use Rattle.sap_maps.specs.Maps.{Name, Valuation}
 use Rattle.sap_maps.specs.Scope.{find}
 use Rattle.sap_net.specs.Net.{Net}
 use Rattle.sap_net.specs.IsNetlist.{readable}
-use Rattle.sap_net.specs.Runs.{observed}
 use Rattle.sap_cycle.specs.Running.{value_names, IsPlaceOf}
 use Rattle.sap_interface.specs.PortNames.{refused_name, level_name}
 use Rattle.sap_interface.specs.Interface.{HasWire}
 use Rattle.sap_stim.specs.Rows.{level_coded, level_text}
+use Rattle.sap_sim.specs.Told.{told_from}
 use Rattle.sap_trace.specs.declared.wires.Wires.{Wires}
 use Rattle.sap_trace.specs.Lines.{site_line}
 
@@ -51,7 +51,10 @@ abbrev pub seen_lines : Levels → DesignTree → (cycle k count : ℕ) → Valu
 seen_lines ls d cycle k zero v = []
 seen_lines ls d cycle k (suc count) v = seen_line ls d cycle k v ++ seen_lines ls d cycle (suc k) count v
 
--- and of all sites of a design, in each cycle of a netlist's run
-abbrev pub lines_from : Levels → DesignTree → Net → (cycle : ℕ) → List Valuation → List ℕ
-lines_from ls d n cycle [] = []
-lines_from ls d n cycle (v ∷ vs) = seen_lines ls d cycle 1 (length (sites_of d)) (observed n v) ++ lines_from ls d n (cycle + 1) vs
+-- and of all sites of a design
+abbrev pub cycle_lines : Levels → DesignTree → (cycle : ℕ) → Valuation → List ℕ
+cycle_lines ls d cycle v = seen_lines ls d cycle 1 (length (sites_of d)) v
+
+-- in each cycle
+abbrev pub lines_from : Levels → DesignTree → (cycle : ℕ) → List Valuation → List ℕ
+lines_from ls d = told_from (cycle_lines ls d)

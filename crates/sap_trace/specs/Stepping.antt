@@ -1,64 +1,44 @@
--- A netlist that stands for a design and is stepped on the lines of a stimulus, one after another, and the lines of the trace that it gives.
-use Rattle.std.specs.Prelude.{◌≡◌, ℕ, ◌+◌, List, [], ◌∷◌, ◌++◌, None, All, Option, length, map}
-use Rattle.std.specs.List.{last_or}
+-- The lines of the trace of a netlist that stands for a design, and is stepped on the lines of a stimulus, one after another.
+use Rattle.std.specs.Prelude.{◌≡◌, ℕ, ◌+◌, List, [], ◌∷◌, ◌++◌, All, Option, length}
 use Rattle.sap_tree.specs.Syntax.{DesignTree}
 use Rattle.sap_lattice.specs.Levels.{Levels}
-use Rattle.sap_maps.specs.Maps.{Valuation}
 use Rattle.sap_meaning.specs.Cycle.{Tagged as Given}
 use Rattle.sap_check.specs.Sites.{sites_of}
 use Rattle.sap_net.specs.Net.{Net}
-use Rattle.sap_net.specs.Runs.{IsRun, observed}
-use Rattle.sap_cycle.specs.Running.{Running, Shows}
 use Rattle.sap_interface.specs.Designs.{StandsForDesign}
 use Rattle.sap_stim.specs.declared.fault.StimFault.{StimFault}
-use Rattle.sap_stim.specs.declared.field.Field.{Field}
 use Rattle.sap_stim.specs.Line.{IsSized}
 use Rattle.sap_sim.specs.Labelled.Fields.{design_fields}
 use Rattle.sap_sim.specs.Labelled.RunOf.{read_for}
+use Rattle.sap_sim.specs.Stepped as stepped
+use Rattle.sap_sim.specs.Stepped.{Stepped, TellsMore, TellsAll}
 use Rattle.sap_trace.specs.declared.trace.Trace.{Trace}
 use Rattle.sap_trace.specs.declared.wires.Wires.{Wires}
 use Rattle.sap_trace.specs.Fields.{given}
 use Rattle.sap_trace.specs.Lines.{labelled_trace}
 use Rattle.sap_trace.specs.Rooms.{HoldsCycle}
-use Rattle.sap_trace.specs.Seen.{AreWires, lines_from, seen_lines}
+use Rattle.sap_trace.specs.Seen.{AreWires, cycle_lines}
 use Rattle.sap_trace.specs.TraceOf.{IsTraceOf}
 
-pub record Stepped : Type 0 where
-  -- the netlist, and what it shows
-  pub runner : Running
-  -- the wires of the check sites
-  pub wires : Wires
-  -- the fields of a line
-  pub fields : List Field
-  -- for how many bytes a buffer needs room to take the lines of any cycle
-  pub room : ℕ
-
--- the netlist stands for the design, and its wires, fields and room are the design's
-pub record IsPlanned (ls : Levels) (d : DesignTree) (s : Stepped) : Type 0 where
+-- the netlist stands for the design, and the wires of its check sites, its fields and its room are the design's
+pub record IsPlanned (ls : Levels) (d : DesignTree) (s : Stepped Wires) : Type 0 where
   pub stands : StandsForDesign ls d s.runner.net
-  pub wires : AreWires s.runner.net (length (sites_of d)) s.wires
+  pub wires : AreWires s.runner.net (length (sites_of d)) s.plan
   pub fields : s.fields ≡ design_fields ls d
   pub sized : All IsSized s.fields
   pub room : HoldsCycle ls d s.room
 
--- a run of a netlist on these lines
-abbrev pub IsRunOn : Levels → Net → (lines : List (List Given)) → List Valuation → Type 0
-IsRunOn ls n lines run = IsRun n (map (given ls) lines) run
-
--- It is this netlist, stepped on these lines: it shows the last cycle of a run on them.
-pub record IsAfter (ls : Levels) (d : DesignTree) (n : Net) (lines : List (List Given)) (s : Stepped) : Type 0 where
-  pub net : s.runner.net ≡ n
-  pub planned : IsPlanned ls d s
-  pub shows : (run : List Valuation) → IsRunOn ls n lines run → Shows s.runner (last_or None run)
+-- this netlist, stepped on these lines
+abbrev pub IsAfter : Levels → DesignTree → Net → (lines : List (List Given)) → Stepped Wires → Type 0
+IsAfter ls d n = stepped.IsAfter (IsPlanned ls d) n (given ls)
 
 -- behind the old bytes stand the lines of the sites that the last of these cycles refuses
 abbrev pub HasLinesMore : Levels → DesignTree → Net → (lines : List (List Given)) → (cycle : ℕ) → (old now : List ℕ) → Type 0
-HasLinesMore ls d n lines cycle old now =
-    (run : List Valuation) (v : Valuation) → IsRunOn ls n lines (run ++ v ∷ []) → now ≡ old ++ seen_lines ls d cycle 1 (length (sites_of d)) (observed n v)
+HasLinesMore ls d n = TellsMore (cycle_lines ls d) n (given ls)
 
 -- the lines of all these cycles, counted from 1
 abbrev pub AreLines : Levels → DesignTree → Net → (lines : List (List Given)) → (text : List ℕ) → Type 0
-AreLines ls d n lines text = (run : List Valuation) → IsRunOn ls n lines run → text ≡ lines_from ls d n 1 run
+AreLines ls d n = TellsAll (cycle_lines ls d) n (given ls)
 
 abbrev pub trace_as : (text : List ℕ) → Option StimFault → Trace
 trace_as text fault = record { text = text; fault = fault }

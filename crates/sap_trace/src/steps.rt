@@ -9,7 +9,7 @@ ghost use Rattle.sap_check.specs.Sites.{sites_of};
 ghost use Rattle.sap_stream.specs.Spans.{cycles_in, cycles_of};
 ghost use Rattle.sap_cycle.specs.Running.{Shows};
 ghost use Rattle.sap_trace.specs.Fields.{given};
-ghost use Rattle.sap_trace.specs.Seen.{AreWires, lines_from, seen_lines};
+ghost use Rattle.sap_trace.specs.Seen.{AreWires, cycle_lines, lines_from};
 
 use crate::fields::numbers;
 use crate::line::push_refused;
@@ -34,7 +34,7 @@ fn step(
     ensures netlist { runner.new.net ≡ runner.old.net }
     ensures shows { OnOk result ((before : Option Valuation) (v : Valuation) → Shows runner.old before → IsCycle runner.old.net before (given (levels_in checked.now) line.now) v → Shows runner.new (Some v)) }
     ensures lines { OnOk result ((before : Option Valuation) (v : Valuation) → Shows runner.old before → IsCycle runner.old.net before (given (levels_in checked.now) line.now) v
-        → out.new.items ≡ out.old.items ++ seen_lines (levels_in checked.now) (tree_in checked.now) cycle 1 (length (sites_of (tree_in checked.now))) (observed runner.old.net v)) }
+        → out.new.items ≡ out.old.items ++ cycle_lines (levels_in checked.now) (tree_in checked.now) cycle (observed runner.old.net v)) }
 {
     let inputs = numbers(alloc, checked.lattice(), line)?;
     runner.step(&inputs);
@@ -58,7 +58,7 @@ fn span_lines(
     ensures netlist { runner.new.net ≡ runner.old.net }
     ensures shows { OnOk result ((before : Option Valuation) (vs : List Valuation) → Shows runner.old before → IsRunAfter runner.old.net before (map (given (levels_in checked.now)) (cycles_in span.now)) vs → Shows runner.new (last_or before vs)) }
     ensures lines { OnOk result ((before : Option Valuation) (vs : List Valuation) → Shows runner.old before → IsRunAfter runner.old.net before (map (given (levels_in checked.now)) (cycles_in span.now)) vs
-        → out.new.items ≡ out.old.items ++ lines_from (levels_in checked.now) (tree_in checked.now) runner.old.net (done + 1) vs) }
+        → out.new.items ≡ out.old.items ++ lines_from (levels_in checked.now) (tree_in checked.now) (done + 1) (map (observed runner.old.net) vs)) }
 {
     for k in 0..span.count() {
         step(
@@ -87,7 +87,7 @@ pub(crate) fn lines(
     requires fits { AllFit runner.old.net.inputs (map (given (levels_in checked.now)) (cycles_of spans.now)) }
     requires few { length (cycles_of spans.now) < 2 ^ 48 }
     ensures { IfOk result (λ text. (vs : List Valuation) → IsRun runner.old.net (map (given (levels_in checked.now)) (cycles_of spans.now)) vs
-        → text.items ≡ lines_from (levels_in checked.now) (tree_in checked.now) runner.old.net 1 vs) }
+        → text.items ≡ lines_from (levels_in checked.now) (tree_in checked.now) 1 (map (observed runner.old.net) vs)) }
 {
     let mut out = Vec::new(alloc);
     let mut done = 0;

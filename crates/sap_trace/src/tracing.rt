@@ -39,11 +39,12 @@ pub struct Tracing {
 
 impl Model for Tracing {
     ghost use Rattle.std.specs.Prelude.{◌≡◌, ◌*◌, length};
-    ghost use Rattle.sap_trace.specs.Stepping.{Stepped};
+    ghost use Rattle.sap_sim.specs.Stepped.{Stepped};
+    ghost use Rattle.sap_trace.specs.declared.wires.Wires.{Wires};
 
-    ghost Value = { Stepped };
+    ghost Value = { Stepped Wires };
 
-    ghost view = { λ s. record { runner = s.runner; wires = s.wires; fields = s.fields; room = s.room } };
+    ghost view = { λ s. record { runner = s.runner; plan = s.wires; fields = s.fields; room = s.room } };
 
     ghost invariant = { λ s. length s.numbers.items ≡ 2 * length s.fields };
 }

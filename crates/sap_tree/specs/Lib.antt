@@ -7,6 +7,8 @@ pub mod Precedence
 pub mod Extent
 pub mod Whole
 pub mod Touches
+pub mod Points
 pub mod Bare
+pub mod Making
 pub mod Parts
 pub mod Designs

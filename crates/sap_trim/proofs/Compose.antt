@@ -1,6 +1,6 @@
 -- One pass behind another.
 use Rattle.std.proofs.Common.{◌≡◌, ℕ, List, [], ◌∷◌, map, None, sym, ap, ◌∙◌, subst, refl}
-use Rattle.std.specs.List.{AllByRecursion}
+use Rattle.std.specs.List.{AllByRecursion, AllZip}
 use Rattle.sap_lemmas.proofs.Everywhere.{all_of_map, map_of_all}
 use Rattle.sap_maps.specs.Maps.{Name, Valuation}
 use Rattle.sap_net.specs.Net.{Net}
@@ -11,7 +11,7 @@ use Rattle.sap_net.specs.declared.parts.Memory.{Memory}
 use Rattle.sap_net.specs.IsNetlist.{width_of, IsNetlist}
 use Rattle.sap_net.specs.Runs.{AllFit, observed}
 use Rattle.sap_net.proofs.Exists.{run_exists}
-use Rattle.sap_trim.specs.Alike.{DeclaresAlike, ShowsAlike, AllShowAlike, RunsAlike}
+use Rattle.sap_trim.specs.Alike.{DeclaresAlike, ShowsAlike, RunsAlike}
 
 joined : {X : Type 0} (f g h : Name → X) (xs : List Name) → AllByRecursion (λ x. f x ≡ g x) xs → AllByRecursion (λ x. g x ≡ h x) xs → AllByRecursion (λ x. f x ≡ h x) xs
 joined f g h [] a b = tt
@@ -75,7 +75,7 @@ shows_both a b c d u v w s t =
       memories = all_of_map (λ x. (i : ℕ) → fc x i ≡ hc x i) (λ (m : Memory). m.name) a.memories (joined_at fc gc hc (map (λ m. m.name) a.memories) (map_of_all (λ x. (i : ℕ) → fc x i ≡ gc x i) (λ (m : Memory). m.name) a.memories s.memories) m);
     }
 
-all_both : (a b c : Net) → DeclaresAlike a b → (us vs ws : List Valuation) → AllShowAlike a b us vs → AllShowAlike b c vs ws → AllShowAlike a c us ws
+all_both : (a b c : Net) → DeclaresAlike a b → (us vs ws : List Valuation) → AllZip (ShowsAlike a b) us vs → AllZip (ShowsAlike b c) vs ws → AllZip (ShowsAlike a c) us ws
 all_both a b c d [] [] [] s t = tt
 all_both a b c d [] [] (w ∷ ws) s t = absurd t
 all_both a b c d [] (v ∷ vs) ws s t = absurd s

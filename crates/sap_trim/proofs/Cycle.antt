@@ -1,11 +1,11 @@
 -- The cycles of the new netlist have the numbers of those of the given one.
 use Rattle.std.proofs.Common.{◌≡◌, ℕ, List, [], ◌∷◌, ◌++◌, map, Option, Some, None, Bool, true, sym, ap, ◌∙◌, subst, refl, inl, inr}
 use Rattle.std.specs.Str.{bytes_eq}
-use Rattle.std.specs.List.{AllByRecursion}
+use Rattle.std.specs.List.{AllByRecursion, AllZip}
 use Rattle.std.proofs.lemmas.Bool.{cases_Bool}
 use Rattle.sap_lemmas.proofs.Everywhere.{all_equal, all_equal_at, all_of_map, all_second, map_of_all}
 use Rattle.sap_lemmas.proofs.Texts.{equal_of_bytes_eq}
-use Rattle.sap_net.proofs.RulesLemmas.{readable_kept}
+use Rattle.sap_net.proofs.RulesLemmas.{readable_kept, Grows}
 use Rattle.sap_net.proofs.NamesLemmas.{each_among, found_of, not_found}
 use Rattle.sap_maps.proofs.ScopeLemmas.{found_first, found_second}
 use Rattle.sap_maps.specs.Maps.{Name, Valuation}
@@ -22,20 +22,20 @@ use Rattle.sap_net.specs.declared.parts.Memory.{Memory}
 use Rattle.sap_net.specs.declared.parts.Wire.{Wire}
 use Rattle.sap_net.specs.Rules.{Shapes, AreWires, readable_after, IsRegister, IsMemory}
 use Rattle.sap_net.specs.Values.{operand_value, Holds}
-use Rattle.sap_net.specs.IsNetlist.{input_names, register_names, first_readable, readable, shapes, width_of, PortShows, IsNetlist}
+use Rattle.sap_net.specs.IsNetlist.{input_names, register_names, first_readable, readable, shapes, width_of, PortShows, IsNetlist, names_of}
 use Rattle.sap_net.specs.Runs.{IsWithin, written, InputsAre, IsCycle, IsRunAfter, value_after, cell_after, observed}
 use Rattle.sap_net.proofs.Settle.{CellsAgree}
-use Rattle.sap_net.proofs.Same.{AreFound, all_found}
+use Rattle.sap_net.proofs.Same.{AreFound, all_found, inputs_agree, registers_agree, cells_agree}
 use Rattle.sap_net.proofs.Within.{WidthsAre, widths_are}
-use Rattle.sap_trim.specs.Names.{names_of, port_names, shown_wires}
-use Rattle.sap_trim.specs.Alike.{DeclaresAlike, ShowsAlike, AllShowAlike, RunsAlike}
+use Rattle.sap_trim.specs.Names.{port_names, shown_wires}
+use Rattle.sap_trim.specs.Alike.{DeclaresAlike, ShowsAlike, RunsAlike}
 use Rattle.sap_trim.specs.Replaced.{Stands, standing_operand}
 use Rattle.sap_fold.specs.Equals.{Over}
 use Rattle.sap_trim.specs.Walked.{State, Begins, Folds, Walked}
 use Rattle.sap_trim.specs.Built.{wire_of, register_of, memory_of, built}
-use Rattle.sap_fold.proofs.Lists.{among_each}
+use Rattle.sap_net.proofs.NamesLemmas.{among_each}
 use Rattle.sap_trim.proofs.Replaced.{Means, operand_same}
-use Rattle.sap_fold.proofs.Provided.{Grows, holds_both}
+use Rattle.sap_fold.proofs.Provided.{holds_both}
 use Rattle.sap_trim.proofs.Follows.{taken_apart, SettledIn, settled_first, settled_next, begins_follow, begins_mean, means_walk}
 use Rattle.sap_trim.proofs.Built.{Walks, built_first, built_grows, built_rules, shown_among}
 
@@ -61,25 +61,6 @@ SameBefore n so e None None = Unit {0}
 SameBefore n so e None (Some q) = ⊥
 SameBefore n so e (Some p) None = ⊥
 SameBefore n so e (Some p) (Some q) = Same n so e p q
-
-inputs_agree : (is : List Input) (xs : List ℕ) (v w : Valuation) → InputsAre v is xs → InputsAre w is xs → Agree (map (λ i. (i.name, i.width)) is) v w
-inputs_agree [] xs v w a b n u h = absurd (cc)
-inputs_agree (i ∷ is) [] v w a b n u h = absurd a
-inputs_agree (i ∷ is) (x ∷ xs) v w a b n u h =
-    agree_more _ v w i.name i.width (inputs_agree is xs v w a.1 b.1) (a.0 ∙ sym b.0) n u h
-
-registers_agree : (f g : Register → ℕ) (rs : List Register) (v w : Valuation) → AllByRecursion (λ r. v.value r.name ≡ f r) rs → AllByRecursion (λ r. w.value r.name ≡ g r) rs → AllByRecursion (λ r. f r ≡ g r) rs → Agree (map (λ r. (r.name, r.width)) rs) v w
-registers_agree f g [] v w a b e n u h = absurd (cc)
-registers_agree f g (r ∷ rs) v w a b e n u h =
-    agree_more _ v w r.name r.width (registers_agree f g rs v w a.1 b.1 e.1) (a.0 ∙ e.0 ∙ sym b.0) n u h
-
-cells_agree : (f g : Memory → ℕ → ℕ) (ms : List Memory) (v w : Valuation) → AllByRecursion (λ m. (i : ℕ) → v.cell m.name i ≡ f m i) ms → AllByRecursion (λ m. (i : ℕ) → w.cell m.name i ≡ g m i) ms → AllByRecursion (λ m. (i : ℕ) → f m i ≡ g m i) ms → CellsAgree (map (λ m. (m.name, (m.width, m.depth))) ms) v w
-cells_agree f g [] v w a b e n u h i = absurd (cc)
-cells_agree f g (m ∷ ms) v w a b e n u h i =
-    elim (cases_Bool (bytes_eq m.name n)) [
-      | inl t ↦ subst (λ (x : Name). v.cell x i ≡ w.cell x i) (equal_of_bytes_eq m.name n t) (a.0 i ∙ e.0 i ∙ sym (b.0 i))
-      | inr q ↦ cells_agree f g ms v w a.1 b.1 e.1 n u (rw q at h) i
-    ]
 
 nexts_same : (so : Scope) (e : Stands) (p q : Valuation) → Means so e p q → (rs : List Register) → AllByRecursion (IsRegister so) rs → AllByRecursion (λ r. operand_value p r.next ≡ operand_value q (standing_operand e r.next)) rs
 nexts_same so e p q m [] a = tt
@@ -229,7 +210,7 @@ cycle_shows n taken ws s t d q xs v w same c =
           (λ x u h i. cells_seen (shapes n) so e v w same.means same.cells x i (same.cells x u h i) n.memories k.writes found) n.memories found;
     }
 
-runs_from : (n : Net) (taken : Name → Bool) (ws : List Wire) (s t : State) → Done n taken ws s t → (xss : List (List ℕ)) (p q : Option Valuation) (vs us : List Valuation) → SameBefore n (readable_after (first_readable n) ws) t.stands p q → IsRunAfter n p xss vs → IsRunAfter (built n t.wires t.stands) q xss us → AllShowAlike n (built n t.wires t.stands) vs us
+runs_from : (n : Net) (taken : Name → Bool) (ws : List Wire) (s t : State) → Done n taken ws s t → (xss : List (List ℕ)) (p q : Option Valuation) (vs us : List Valuation) → SameBefore n (readable_after (first_readable n) ws) t.stands p q → IsRunAfter n p xss vs → IsRunAfter (built n t.wires t.stands) q xss us → AllZip (ShowsAlike n (built n t.wires t.stands)) vs us
 runs_from n taken ws s t d [] p q [] [] b a r = tt
 runs_from n taken ws s t d [] p q [] (u ∷ us) b a r = absurd r
 runs_from n taken ws s t d [] p q (v ∷ vs) us b a r = absurd a

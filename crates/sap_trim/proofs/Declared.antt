@@ -14,7 +14,7 @@ use Rattle.sap_net.specs.Names.{is_among, AreDistinct}
 use Rattle.sap_net.specs.Rules.{Shapes, IsWidth, AreWires}
 use Rattle.sap_net.specs.declared.parts.Port.{Port}
 use Rattle.sap_net.specs.declared.parts.Wire.{Wire}
-use Rattle.sap_trim.specs.Names.{names_of}
+use Rattle.sap_net.specs.IsNetlist.{names_of}
 use Rattle.sap_fold.proofs.Lists.{filter_append, filter_all}
 
 pub wires_new : (ms : Shapes) (ws : List Wire) (sc : Scope) → AreWires ms sc ws → (n : Name) → is_among n (names_of ws) ≡ true → (find sc n ≡ None) × (find ms n ≡ None)

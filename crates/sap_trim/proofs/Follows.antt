@@ -6,7 +6,7 @@ use Rattle.std.specs.List.{AllByRecursion}
 use Rattle.std.proofs.lemmas.Bool.{cases_Bool, or_parts}
 use Rattle.sap_lemmas.proofs.Everywhere.{all_follow, all_of_map, all_second}
 use Rattle.sap_lemmas.proofs.Texts.{equal_of_bytes_eq}
-use Rattle.sap_net.proofs.RulesLemmas.{readable_kept, values_found}
+use Rattle.sap_net.proofs.RulesLemmas.{readable_kept, values_found, Grows, operand_grows}
 use Rattle.sap_net.proofs.NamesLemmas.{among_behind, among_front, found_among, not_found}
 use Rattle.sap_maps.proofs.ScopeLemmas.{found_second}
 use Rattle.sap_maps.specs.Maps.{Name, Valuation}
@@ -25,8 +25,9 @@ use Rattle.sap_net.specs.Values.{operand_value, right_value, Holds}
 use Rattle.sap_net.specs.IsNetlist.{input_names, register_names, memory_names, first_readable, readable, shapes, is_input, IsNetlist}
 use Rattle.sap_net.proofs.Settle.{CellsAgree}
 use Rattle.sap_net.proofs.Within.{WidthsAre}
+use Rattle.sap_net.specs.NameMaps.{Puts}
 use Rattle.sap_trim.specs.Names.{port_names, lasting_names}
-use Rattle.sap_trim.specs.Replaced.{Stands, Binds, standing, replaced}
+use Rattle.sap_trim.specs.Replaced.{Stands, standing, replaced}
 use Rattle.sap_fold.specs.Equals.{Over}
 use Rattle.sap_fold.specs.Gives as wires
 use Rattle.sap_fold.specs.Gives.{TakenApart, Provided}
@@ -34,7 +35,7 @@ use Rattle.sap_trim.specs.Stays.{KeepsStart}
 use Rattle.sap_trim.specs.Walked.{State, Begins, SomeRegister, StartsAt, Copies, Folds, Walked}
 use Rattle.sap_fold.proofs.Lists.{none_among}
 use Rattle.sap_trim.proofs.Replaced.{Finds, Means, stands_for, replaced_fits, replaced_same}
-use Rattle.sap_fold.proofs.Provided.{Grows, operand_grows, grows_more, over_first}
+use Rattle.sap_fold.proofs.Provided.{grows_more, over_first}
 use Rattle.sap_fold.proofs.Becoming.{gives_provided}
 
 pub record Follows (taken : Name → Bool) (ms : Shapes) (so sc : Scope) (s : State) : Type 0 where
@@ -44,7 +45,7 @@ pub record Follows (taken : Name → Bool) (ms : Shapes) (so sc : Scope) (s : St
 
 -- what was put in front of a scope stands for an operand, the others as before
 
-finds_more : (so sc sd : Scope) (e f : Stands) (x : Name) (u : ℕ) (o : Operand) → Grows sc sd → Finds so sc e → IsOperand sd u o → Binds e x o f → Finds ((x, u) ∷ so) sd f
+finds_more : (so sc sd : Scope) (e f : Stands) (x : Name) (u : ℕ) (o : Operand) → Grows sc sd → Finds so sc e → IsOperand sd u o → Puts e x o f → Finds ((x, u) ∷ so) sd f
 finds_more so sc sd e f x u o g h i b y t k =
     elim (cases_Bool (bytes_eq x y)) [
       | inl q ↦
@@ -58,7 +59,7 @@ finds_more so sc sd e f x u o g h i b y t k =
           (r.0, p ∙ r.1, operand_grows sc sd g t r.0 r.2)
     ]
 
-means_more : (so : Scope) (e f : Stands) (x : Name) (u : ℕ) (o : Operand) (v w : Valuation) → Means so e v w → v.value x ≡ operand_value w o → Binds e x o f → Means ((x, u) ∷ so) f v w
+means_more : (so : Scope) (e f : Stands) (x : Name) (u : ℕ) (o : Operand) (v w : Valuation) → Means so e v w → v.value x ≡ operand_value w o → Puts e x o f → Means ((x, u) ∷ so) f v w
 means_more so e f x u o v w h i b y t k =
     elim (cases_Bool (bytes_eq x y)) [
       | inl q ↦

@@ -18,10 +18,10 @@ use Rattle.sap_net.specs.declared.parts.Memory.{Memory}
 use Rattle.sap_net.specs.declared.parts.Wire.{Wire}
 use Rattle.sap_net.specs.Rules.{Shapes, IsOperand, AreOperands, IsRight, AreWires, readable_after, IsRegister, IsMemory}
 use Rattle.sap_net.specs.Values.{Holds}
-use Rattle.sap_trim.specs.Names.{names_of}
+use Rattle.sap_net.proofs.RulesLemmas.{Grows}
+use Rattle.sap_net.specs.IsNetlist.{names_of}
 use Rattle.sap_trim.specs.Reads.{operand_reads, operands_reads, right_reads, wire_reads, register_reads, memory_reads}
 use Rattle.sap_trim.specs.Needed.{is_needed, needed}
-use Rattle.sap_fold.proofs.Provided.{Grows}
 
 -- the same is found of each name on the list
 abbrev pub AgreeOn : List Name → (so sk : Scope) → Type 0

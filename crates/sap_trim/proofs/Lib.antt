@@ -1,4 +1,3 @@
-pub mod Maps
 pub mod Replaced
 pub mod Staying
 pub mod Follows

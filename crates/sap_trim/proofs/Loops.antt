@@ -6,10 +6,11 @@ use Rattle.std.specs.List.{list_any}
 use Rattle.std.specs.declared.vec.Vec.{Vec}
 use Rattle.std.specs.declared.alloc.Global.{Global}
 use Rattle.std.proofs.lemmas.Bool.{cases_Bool}
+use Rattle.std.specs.Map.{lookup}
 use Rattle.sap_maps.specs.Maps.{Name}
 use Rattle.sap_net.specs.Names.{is_among}
 use Rattle.sap_net.specs.Net.{Net}
-use Rattle.sap_net.specs.IsNetlist.{input_names, register_names}
+use Rattle.sap_net.specs.IsNetlist.{input_names, register_names, names_of}
 use Rattle.sap_net.specs.declared.parts.Port.{Port}
 use Rattle.sap_net.specs.declared.parts.Input.{Input}
 use Rattle.sap_net.specs.declared.parts.Register.{Register}
@@ -18,14 +19,14 @@ use Rattle.sap_net.specs.declared.parts.Operand.{Operand}
 use Rattle.sap_net.specs.declared.parts.Operand.TheVariants.{Named, Constant}
 use Rattle.sap_net.specs.declared.parts.Wire.{Wire}
 use Rattle.sap_fold.specs.Names.{NameSet, holds}
-use Rattle.sap_trim.specs.Names.{names_of, lasting_names}
+use Rattle.sap_trim.specs.Names.{lasting_names}
 use Rattle.sap_trim.specs.Reads.{register_reads, memory_reads, edge_reads, right_reads, wire_reads}
 use Rattle.sap_trim.specs.Needed.{is_needed}
-use Rattle.std.specs.Map.{lookup}
 use Rattle.sap_lemmas.proofs.Bools.{or_false, or_true}
 use Rattle.sap_lemmas.proofs.Texts.{bytes_eq_apart_back, bytes_eq_same, equal_of_bytes_eq}
 use Rattle.sap_net.proofs.NamesLemmas.{among_append}
-use Rattle.sap_trim.specs.Replaced.{Stands, Binds, OperandMap, stands_in}
+use Rattle.sap_net.specs.NameMaps.{at_name, Puts, NameMap}
+use Rattle.sap_trim.specs.Replaced.{Stands}
 use Rattle.sap_trim.specs.Stays.{KeepsStart}
 use Rattle.sap_trim.specs.Walked.{State, Walked, SomeRegister, StartsAt, Starts}
 
@@ -56,7 +57,7 @@ edge_held n net rs ms s0 s1 s2 e r m a b =
 abbrev pub itself : List Name → Stands → Name → Option Operand
 itself ns e x = if is_among x ns then Some (Named x) else e x
 
-pub itself_more : (ns : List Name) (y : Name) (d e f : Stands) → ((x : Name) → e x ≡ itself ns d x) → Binds e y (Named y) f → (x : Name) → f x ≡ itself (ns ++ y ∷ []) d x
+pub itself_more : (ns : List Name) (y : Name) (d e f : Stands) → ((x : Name) → e x ≡ itself ns d x) → Puts e y (Named y) f → (x : Name) → f x ≡ itself (ns ++ y ∷ []) d x
 itself_more ns y d e f h b x =
     let s = among_append x ns (y ∷ []) in
     elim (cases_Bool (bytes_eq y x)) [
@@ -138,7 +139,7 @@ pub registers_push : (xs : List Register) (y : Register) → map (λ z. z.name) 
 registers_push [] y = refl
 registers_push (x ∷ xs) y = ap (λ (ns : List Name). x.name ∷ ns) (registers_push xs y)
 
-pub empty_stands : (m : OperandMap) → m.entries ≡ [] → (x : Name) → stands_in m x ≡ None
+pub empty_stands : (m : NameMap Operand) → m.entries ≡ [] → (x : Name) → at_name m x ≡ None
 empty_stands m e x = ap (λ (es : List (Vec ℕ Global × Operand)). lookup (λ k. bytes_eq x k.items) es) e
 
 -- starts of registers
@@ -158,7 +159,7 @@ starts_push ws rs x a b c r (inr h) (inl f) =
     inr (some_front (StartsAt ws x c) rs r (subst (λ (o : Option Operand). SomeRegister (StartsAt ws x o) rs) (sym f) h))
 starts_push ws rs x a b c r h (inr q) = inr (some_last (StartsAt ws x c) rs r q)
 
-pub start_bound : (ws : List Wire) (e f : Stands) (r : Register) → KeepsStart ws r → Binds e r.name (Constant r.width r.start) f → (x : Name) → (f x ≡ e x) ⊎ StartsAt ws x (f x) r
+pub start_bound : (ws : List Wire) (e f : Stands) (r : Register) → KeepsStart ws r → Puts e r.name (Constant r.width r.start) f → (x : Name) → (f x ≡ e x) ⊎ StartsAt ws x (f x) r
 start_bound ws e f r s b x =
     elim (cases_Bool (bytes_eq r.name x)) [
       | inl t ↦ inr (s, equal_of_bytes_eq r.name x t, rw t at (b x))

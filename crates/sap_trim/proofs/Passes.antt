@@ -8,10 +8,10 @@ use Rattle.sap_net.specs.Names.{is_among}
 use Rattle.sap_net.specs.Net.{Net}
 use Rattle.sap_net.specs.declared.parts.Wire.{Wire}
 use Rattle.sap_net.specs.Rules.{readable_after}
-use Rattle.sap_net.specs.IsNetlist.{register_names, memory_names, first_readable, readable, shapes, IsNetlist}
+use Rattle.sap_net.specs.IsNetlist.{register_names, memory_names, first_readable, readable, shapes, IsNetlist, names_of}
 use Rattle.sap_share.specs.Names.{helper}
 use Rattle.sap_fold.specs.Names.{NameSet, holds}
-use Rattle.sap_trim.specs.Names.{numbered, names_of, port_names, lasting_names, helping_wires}
+use Rattle.sap_trim.specs.Names.{numbered, port_names, lasting_names, helping_wires}
 use Rattle.sap_trim.specs.Reads.{edge_reads, IsRead, ReadsWires}
 use Rattle.sap_share.specs.Differing.{AllDiffer}
 use Rattle.sap_trim.specs.Trimmed.{SharesWires, NamesWires, NumbersWires}

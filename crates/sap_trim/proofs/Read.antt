@@ -21,11 +21,13 @@ use Rattle.sap_net.specs.declared.parts.Register.{Register}
 use Rattle.sap_net.specs.declared.parts.Memory.{Memory}
 use Rattle.sap_net.specs.declared.parts.Wire.{Wire}
 use Rattle.sap_net.specs.Rules.{Shapes, IsOperand, AreOperands, IsRight, AreWires}
+use Rattle.sap_net.specs.IsNetlist.{names_of}
+use Rattle.sap_net.specs.NameMaps.{Puts}
 use Rattle.sap_share.specs.Keys.{key}
-use Rattle.sap_trim.specs.Names.{names_of, port_names, shown_wires}
+use Rattle.sap_trim.specs.Names.{port_names, shown_wires}
 use Rattle.sap_trim.specs.Reads.{operand_reads, operands_reads, right_reads, wire_reads, register_reads, memory_reads, edge_reads, IsRead}
 use Rattle.sap_fold.specs.Slices.{sliced}
-use Rattle.sap_trim.specs.Replaced.{Stands, Binds, standing, standing_operand, replaced}
+use Rattle.sap_trim.specs.Replaced.{Stands, standing, standing_operand, replaced}
 use Rattle.sap_share.specs.Rights.{rights}
 use Rattle.sap_fold.specs.Wires.{Adds}
 use Rattle.sap_fold.specs.Wires.{Provides}
@@ -33,7 +35,8 @@ use Rattle.sap_trim.specs.Walked.{State, Copies, Walked}
 use Rattle.sap_trim.specs.Needed.{is_needed, needed, needed_wires}
 use Rattle.sap_trim.specs.Built.{wire_of, register_of, memory_of, built}
 use Rattle.sap_share.proofs.Decoding.{key_is}
-use Rattle.sap_fold.proofs.Lists.{or_elim, among_split, among_each}
+use Rattle.sap_fold.proofs.Lists.{or_elim, among_split}
+use Rattle.sap_net.proofs.NamesLemmas.{among_each}
 use Rattle.sap_trim.proofs.Replaced.{stands_for}
 
 single : (x z : Name) → is_among x (z ∷ []) ≡ true → x ≡ z
@@ -175,10 +178,10 @@ right_found ms so u (Concat os) h x t = operands_found so u os h.1 x t
 right_found ms so u (Slice z hi lo) h x t = (h.0, subst (λ (a : Name). find so a ≡ Some h.0) (sym (single x z t)) h.2)
 right_found ms so u (Cell m i) h x t = operand_found so h.0 i h.2 x t
 
-bound_here : (e f : Stands) (x : Name) (o : Operand) → Binds e x o f → f x ≡ Some o
+bound_here : (e f : Stands) (x : Name) (o : Operand) → Puts e x o f → f x ≡ Some o
 bound_here e f x o b = let t = bytes_eq_same x in b x ∙ rw t refl
 
-bound_other : (e f : Stands) (x : Name) (o : Operand) → Binds e x o f → (y : Name) → bytes_eq x y ≡ false → f y ≡ e y
+bound_other : (e f : Stands) (x : Name) (o : Operand) → Puts e x o f → (y : Name) → bytes_eq x y ≡ false → f y ≡ e y
 bound_other e f x o b y d = b y ∙ rw d refl
 
 pub walk_reads : (taken : Name → Bool) (ms : Shapes) (ws : List Wire) (so : Scope) (s t : State) → AreWires ms so ws → Walked (Copies taken) s ws t → Read ws so s t

@@ -9,10 +9,11 @@ use Rattle.sap_net.specs.declared.parts.Operand.{Operand}
 use Rattle.sap_net.specs.declared.parts.Right.{Right}
 use Rattle.sap_net.specs.declared.parts.Right.TheVariants.{Copy, One, Two, Choose, Concat, Slice, Cell}
 use Rattle.sap_net.specs.declared.parts.Wire.{Wire}
+use Rattle.sap_net.specs.IsNetlist.{names_of}
 use Rattle.sap_share.specs.Differing.{AllDiffer}
 use Rattle.sap_share.proofs.Differing.{all_more}
 use Rattle.sap_share.specs.Names.{helper}
-use Rattle.sap_trim.specs.Names.{numbered, names_of, port_names, shown_wires, helping_wires}
+use Rattle.sap_trim.specs.Names.{numbered, port_names, shown_wires, helping_wires}
 use Rattle.sap_trim.specs.Replaced.{Stands, replaced}
 use Rattle.sap_fold.specs.Wires.{AddsNew, Adds}
 use Rattle.sap_fold.specs.Wires.{Provides}

@@ -14,19 +14,12 @@ use Rattle.sap_net.specs.declared.parts.Right.{Right}
 use Rattle.sap_net.specs.declared.parts.Right.TheVariants.{Copy, Choose}
 use Rattle.sap_net.specs.declared.parts.Register.{Register}
 use Rattle.sap_net.specs.declared.parts.Wire.{Wire}
-use Rattle.sap_share.proofs.Maps.{same_bytes, at_other}
+use Rattle.sap_net.proofs.NameMaps.{same_bytes, at_other}
+use Rattle.sap_net.specs.NameMaps.{at_name, Puts, NameMap}
 use Rattle.sap_fold.proofs.Provided.{holds_both}
 use Rattle.sap_trim.specs.declared.stays.Stay.{Stay}
 use Rattle.sap_trim.specs.declared.stays.Stay.TheVariants.{Always, While}
-use Rattle.sap_trim.specs.Stays.{StayMap, stays_in, number_of, Stays, NameStays, AllStay, Puts, operand_stay, agree, stronger, both, either, right_stay, is_at, KeepsStart}
-
--- one more name in the map
-pub puts : (m n : StayMap) (x : Name) (s : Stay) → hash.UpdatesBy same_bytes (λ k. bytes_eq x k.items) m n (Some s) → Puts (stays_in m) x s (stays_in n)
-puts m n x s h y =
-    elim (cases_Bool (bytes_eq x y)) [
-      | inl t ↦ rw t (subst (λ (z : Name). stays_in n z ≡ Some s) (equal_of_bytes_eq x y t) h.1)
-      | inr f ↦ rw f (at_other m n x (Some s) h y f)
-    ]
+use Rattle.sap_trim.specs.Stays.{number_of, Stays, NameStays, AllStay, operand_stay, agree, stronger, both, either, right_stay, is_at, KeepsStart}
 
 -- what an operand stays at
 abbrev OperandStays : List Wire → Operand → Stay → Type 0
@@ -112,7 +105,7 @@ register_stays r e f y i a p x =
           let g : f x ≡ e x = rw m at (p x) in subst (λ (o : Option Stay). IfSome o (NameStays [] x)) (sym g) (a x)
     ]
 
-pub nothing_stays : (m : StayMap) → ((x : Name) → stays_in m x ≡ None) → AllStay [] (stays_in m)
+pub nothing_stays : (m : NameMap Stay) → ((x : Name) → at_name m x ≡ None) → AllStay [] (at_name m)
 nothing_stays m h x = subst (λ (o : Option Stay). IfSome o (NameStays [] x)) (sym (h x)) tt
 
 -- a stay that a register's start answers

@@ -1,6 +1,6 @@
 -- Two netlists of which the same is seen.
-use Rattle.std.specs.Prelude.{◌≡◌, ℕ, List, [], ◌∷◌, map}
-use Rattle.std.specs.List.{AllByRecursion}
+use Rattle.std.specs.Prelude.{◌≡◌, ℕ, List, map}
+use Rattle.std.specs.List.{AllByRecursion, AllZip}
 use Rattle.sap_maps.specs.Maps.{Name, Valuation}
 use Rattle.sap_net.specs.Net.{Net}
 use Rattle.sap_net.specs.IsNetlist.{width_of}
@@ -22,13 +22,6 @@ pub record ShowsAlike (given result : Net) (v w : Valuation) : Type 0 where
   pub registers : AllByRecursion (λ r. (observed given v).value r.name ≡ (observed result w).value r.name) given.registers
   pub memories : AllByRecursion (λ m. (i : ℕ) → (observed given v).cell m.name i ≡ (observed result w).cell m.name i) given.memories
 
--- in each cycle
-abbrev pub AllShowAlike : Net → Net → List Valuation → List Valuation → Type 0
-AllShowAlike g r [] [] = Unit {0}
-AllShowAlike g r [] (w ∷ ws) = ⊥
-AllShowAlike g r (v ∷ vs) [] = ⊥
-AllShowAlike g r (v ∷ vs) (w ∷ ws) = ShowsAlike g r v w × AllShowAlike g r vs ws
-
 -- On all inputs that fit, the two runs show the same numbers in each cycle.
 abbrev pub RunsAlike : Net → Net → Type 0
-RunsAlike g r = (xss : List (List ℕ)) (vs ws : List Valuation) → AllFit g.inputs xss → IsRun g xss vs → IsRun r xss ws → AllShowAlike g r vs ws
+RunsAlike g r = (xss : List (List ℕ)) (vs ws : List Valuation) → AllFit g.inputs xss → IsRun g xss vs → IsRun r xss ws → AllZip (ShowsAlike g r) vs ws

@@ -6,7 +6,8 @@ use Rattle.sap_net.specs.declared.parts.Right.TheVariants.{Copy}
 use Rattle.sap_net.specs.declared.parts.Wire.{Wire}
 use Rattle.sap_net.specs.declared.parts.Register.{Register}
 use Rattle.sap_net.specs.declared.parts.Memory.{Memory}
-use Rattle.sap_trim.specs.Names.{names_of, lasting_names, shown_wires}
+use Rattle.sap_net.specs.IsNetlist.{names_of}
+use Rattle.sap_trim.specs.Names.{lasting_names, shown_wires}
 use Rattle.sap_trim.specs.Replaced.{Stands, standing, standing_operand}
 
 abbrev pub wire_of : Stands → Wire → Wire

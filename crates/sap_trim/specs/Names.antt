@@ -12,9 +12,6 @@ abbrev pub numbered : ℕ → List Name
 numbered zero = []
 numbered (suc k) = numbered k ++ helper k ∷ []
 
-abbrev pub names_of : List Wire → List Name
-names_of ws = map (λ w. w.name) ws
-
 abbrev pub port_names : Net → List Name
 port_names n = map (λ p. p.name) n.ports
 

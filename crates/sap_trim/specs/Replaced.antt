@@ -16,16 +16,6 @@ use Rattle.sap_fold.specs.Slices.{sliced}
 abbrev pub Stands : Type 0
 Stands = Name → Option Operand
 
-abbrev pub OperandMap : Type 0
-OperandMap = HashMap (Vec ℕ Global) Operand (BuildHasherDefault FoldHasher)
-
-abbrev pub stands_in : OperandMap → Stands
-stands_in m n = get_by (λ k. bytes_eq n k.items) m
-
--- one name stands for another operand, the others as before
-abbrev pub Binds : Stands → Name → Operand → Stands → Type 0
-Binds e x o f = (n : Name) → f n ≡ (if bytes_eq x n then Some o else e n)
-
 abbrev pub standing : Stands → Name → Operand
 standing e x = unwrap_or (e x) (Constant 0 0)
 

@@ -1,10 +1,5 @@
 -- Wires that have one number as long as a register has its start.
 use Rattle.std.specs.Prelude.{◌≡◌, ℕ, ◌==◌, ◌&&◌, Bool, List, Option, Some, None, bytes_eq, if◌then◌else◌, IfSome}
-use Rattle.std.specs.HashMap.{HashMap, get_by}
-use Rattle.std.specs.declared.hash.FoldHasher.{FoldHasher}
-use Rattle.std.specs.declared.hash.BuildHasherDefault.{BuildHasherDefault}
-use Rattle.std.specs.declared.vec.Vec.{Vec}
-use Rattle.std.specs.declared.alloc.Global.{Global}
 use Rattle.sap_maps.specs.Maps.{Name, Valuation}
 use Rattle.sap_net.specs.Values.{operand_value, Holds}
 use Rattle.sap_net.specs.declared.parts.Operand.{Operand}
@@ -15,12 +10,6 @@ use Rattle.sap_net.specs.declared.parts.Register.{Register}
 use Rattle.sap_net.specs.declared.parts.Wire.{Wire}
 use Rattle.sap_trim.specs.declared.stays.Stay.{Stay}
 use Rattle.sap_trim.specs.declared.stays.Stay.TheVariants.{Always, While}
-
-abbrev pub StayMap : Type 0
-StayMap = HashMap (Vec ℕ Global) Stay (BuildHasherDefault FoldHasher)
-
-abbrev pub stays_in : StayMap → Name → Option Stay
-stays_in m n = get_by (λ k. bytes_eq n k.items) m
 
 abbrev pub number_of : Stay → ℕ
 number_of (Always n) = n
@@ -37,10 +26,6 @@ NameStays ws x s = (widths : Name → ℕ) (v : Valuation) → Holds widths v ws
 
 abbrev pub AllStay : List Wire → (Name → Option Stay) → Type 0
 AllStay ws e = (x : Name) → IfSome (e x) (NameStays ws x)
-
--- one name stays at a number, the others as before
-abbrev pub Puts : (Name → Option Stay) → Name → Stay → (Name → Option Stay) → Type 0
-Puts e x s f = (n : Name) → f n ≡ (if bytes_eq x n then Some s else e n)
 
 abbrev pub operand_stay : (Name → Option Stay) → Operand → Option Stay
 operand_stay e (Named x) = e x

@@ -2,9 +2,10 @@
 use Rattle.std.specs.Prelude.{◌≡◌, ℕ, length}
 use Rattle.std.specs.List.{AllByRecursion}
 use Rattle.sap_net.specs.Net.{Net}
+use Rattle.sap_net.specs.IsNetlist.{names_of}
 use Rattle.sap_share.specs.Differing.{AllDiffer}
 use Rattle.sap_share.specs.Names.{helper}
-use Rattle.sap_trim.specs.Names.{numbered, names_of, helping_wires, NoneNumbered}
+use Rattle.sap_trim.specs.Names.{numbered, helping_wires, NoneNumbered}
 
 -- No two helping wires have the same width and the same right side.
 abbrev pub SharesWires : Net → Type 0

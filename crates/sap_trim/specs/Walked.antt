@@ -9,9 +9,10 @@ use Rattle.sap_net.specs.declared.parts.Operand.TheVariants.{Named, Constant}
 use Rattle.sap_net.specs.declared.parts.Right.{Right}
 use Rattle.sap_net.specs.declared.parts.Register.{Register}
 use Rattle.sap_net.specs.declared.parts.Wire.{Wire}
+use Rattle.sap_net.specs.NameMaps.{at_name, Puts}
 use Rattle.sap_trim.specs.declared.walk.Walk.{Walk}
 use Rattle.sap_fold.specs.Gives.{Gives}
-use Rattle.sap_trim.specs.Replaced.{Stands, Binds, stands_in, replaced}
+use Rattle.sap_trim.specs.Replaced.{Stands, replaced}
 use Rattle.sap_fold.specs.Wires.{Provides}
 use Rattle.sap_trim.specs.Stays.{KeepsStart}
 
@@ -22,7 +23,7 @@ pub record State : Type 0 where
   pub stands : Stands
 
 abbrev pub state_of : Walk → State
-state_of w = record { wires = w.wires.list.items; next = w.wires.next; stands = stands_in w.stands }
+state_of w = record { wires = w.wires.list.items; next = w.wires.next; stands = at_name w.stands }
 
 abbrev pub SomeRegister : (Register → Type 0) → List Register → Type 0
 SomeRegister P [] = ⊥
@@ -46,7 +47,7 @@ pub record Begins (n : Net) (s : State) : Type 0 where
 pub record Steps (taken : Name → Bool) (s : State) (x : Name) (u : ℕ) (r : Right) (t : State) : Type 0 where
   pub operand : Operand
   pub provides : Provides taken s.wires s.next u r operand t.wires t.next
-  pub binds : Binds s.stands x operand t.stands
+  pub binds : Puts s.stands x operand t.stands
 
 -- a wire with its operands replaced
 abbrev pub Copies : (taken : Name → Bool) → State → Wire → State → Type 0
@@ -56,7 +57,7 @@ Copies taken s w t = Steps taken s w.name w.width (replaced s.stands w.right) t
 pub record Folds (taken : Name → Bool) (s : State) (w : Wire) (t : State) : Type 0 where
   pub operand : Operand
   pub gives : Gives taken s.wires s.next w.width (replaced s.stands w.right) operand t.wires t.next
-  pub binds : Binds s.stands w.name operand t.stands
+  pub binds : Puts s.stands w.name operand t.stands
 
 -- a step for each wire, in order
 abbrev pub Walked : (State → Wire → State → Type 0) → State → List Wire → State → Type 0

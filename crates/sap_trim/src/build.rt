@@ -4,10 +4,11 @@ ghost use Rattle.std.specs.Prelude.{◌≡◌, ◌++◌, map, filter, IfOk, OnOk
 ghost use Rattle.sap_maps.specs.Maps as spec;
 ghost use Rattle.sap_net.specs.Names.{is_among};
 ghost use Rattle.sap_net.specs.Net.{net_of};
+ghost use Rattle.sap_net.specs.IsNetlist.{names_of};
+ghost use Rattle.sap_net.specs.NameMaps.{at_name};
 ghost use Rattle.sap_trim.specs.Built.{built, memory_of, register_of, wire_of};
 ghost use Rattle.sap_fold.specs.Names.{holds};
-ghost use Rattle.sap_trim.specs.Names.{lasting_names, names_of, port_names};
-ghost use Rattle.sap_trim.specs.Replaced.{stands_in};
+ghost use Rattle.sap_trim.specs.Names.{lasting_names, port_names};
 
 use crate::replace::{stand, stand_name};
 use sap_fold::names::has;
@@ -70,7 +71,7 @@ fn inputs(alloc: Global, inputs: &[Input]) -> Result<Vec<Input>, AllocError>
 }
 
 fn wire(alloc: Global, stands: &HashMap<Vec<u8>, Operand>, shown: &Wire) -> Result<Wire, AllocError>
-    ensures { IfOk result (λ w. w ≡ wire_of (stands_in stands.now) shown.now) }
+    ensures { IfOk result (λ w. w ≡ wire_of (at_name stands.now) shown.now) }
 {
     let name = shown.name.copy(alloc)?;
     let operand = stand_name(alloc, stands, &shown.name)?;
@@ -89,7 +90,7 @@ fn add_shown(
     stands: &HashMap<Vec<u8>, Operand>,
     wires: &[Wire],
 ) -> Result<(), AllocError>
-    ensures { OnOk result (made.new.items ≡ made.old.items ++ map (wire_of (stands_in stands.now)) (filter (λ w. holds ports.now w.name) wires.now)) }
+    ensures { OnOk result (made.new.items ≡ made.old.items ++ map (wire_of (at_name stands.now)) (filter (λ w. holds ports.now w.name) wires.now)) }
 {
     for shown in wires {
         if has(ports, &shown.name) {
@@ -104,7 +105,7 @@ fn register(
     stands: &HashMap<Vec<u8>, Operand>,
     register: &Register,
 ) -> Result<Register, AllocError>
-    ensures { IfOk result (λ r. r ≡ register_of (stands_in stands.now) register.now) }
+    ensures { IfOk result (λ r. r ≡ register_of (at_name stands.now) register.now) }
 {
     let name = register.name.copy(alloc)?;
     let next = stand(alloc, stands, &register.next)?;
@@ -121,7 +122,7 @@ fn registers(
     stands: &HashMap<Vec<u8>, Operand>,
     registers: &[Register],
 ) -> Result<Vec<Register>, AllocError>
-    ensures { IfOk result (λ rs. rs.items ≡ map (register_of (stands_in stands.now)) registers.now) }
+    ensures { IfOk result (λ rs. rs.items ≡ map (register_of (at_name stands.now)) registers.now) }
 {
     let mut made = Vec::new(alloc);
     for given in registers {
@@ -135,7 +136,7 @@ fn memory(
     stands: &HashMap<Vec<u8>, Operand>,
     memory: &Memory,
 ) -> Result<Memory, AllocError>
-    ensures { IfOk result (λ m. m ≡ memory_of (stands_in stands.now) memory.now) }
+    ensures { IfOk result (λ m. m ≡ memory_of (at_name stands.now) memory.now) }
 {
     let name = memory.name.copy(alloc)?;
     let enable = stand(alloc, stands, &memory.enable)?;
@@ -157,7 +158,7 @@ fn memories(
     stands: &HashMap<Vec<u8>, Operand>,
     memories: &[Memory],
 ) -> Result<Vec<Memory>, AllocError>
-    ensures { IfOk result (λ ms. ms.items ≡ map (memory_of (stands_in stands.now)) memories.now) }
+    ensures { IfOk result (λ ms. ms.items ≡ map (memory_of (at_name stands.now)) memories.now) }
 {
     let mut made = Vec::new(alloc);
     for given in memories {
@@ -177,7 +178,7 @@ pub fn build(
 ) -> Result<Parts, AllocError>
     requires lasting { (n : spec.Name) → holds lasting.now n ≡ is_among n (lasting_names netlist.now) }
     requires shown { (n : spec.Name) → holds shown.now n ≡ is_among n (port_names netlist.now) }
-    ensures { IfOk result (λ p. net_of p ≡ built netlist.now wires.items (stands_in stands.now)) }
+    ensures { IfOk result (λ p. net_of p ≡ built netlist.now wires.items (at_name stands.now)) }
 {
     let module_name = netlist.module_name().copy(alloc)?;
     let mut names = Vec::new(alloc);

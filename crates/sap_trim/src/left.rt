@@ -3,9 +3,10 @@
 ghost use Rattle.std.specs.Prelude.{◌≡◌, ◌≤◌, [], ◌∷◌, filter, length};
 ghost use Rattle.sap_maps.specs.Maps as spec;
 ghost use Rattle.sap_net.specs.Names.{is_among};
+ghost use Rattle.sap_net.specs.IsNetlist.{names_of};
 ghost use Rattle.sap_fold.specs.Names.{holds};
 ghost use Rattle.sap_trim.specs.Few.{calculated, most_left};
-ghost use Rattle.sap_trim.specs.Names.{names_of, port_names};
+ghost use Rattle.sap_trim.specs.Names.{port_names};
 ghost use Rattle.sap_trim.specs.Needed.{needed_wires};
 
 use sap_fold::names::has;

@@ -4,8 +4,9 @@ ghost use Rattle.std.specs.Prelude.{◌≡◌, ◌||◌, ◌++◌, if◌then◌e
 ghost use Rattle.std.specs.Str.{bytes_eq};
 ghost use Rattle.sap_maps.specs.Maps as spec;
 ghost use Rattle.sap_net.specs.Names.{is_among};
+ghost use Rattle.sap_net.specs.IsNetlist.{names_of};
 ghost use Rattle.sap_fold.specs.Names.{holds};
-ghost use Rattle.sap_trim.specs.Names.{names_of, port_names};
+ghost use Rattle.sap_trim.specs.Names.{port_names};
 ghost use Rattle.sap_trim.specs.Needed.{needed_wires};
 ghost use Rattle.sap_trim.specs.Reads.{edge_reads, memory_reads, operand_reads, operands_reads, register_reads, right_reads};
 

@@ -1,7 +1,8 @@
 //! Operands of a netlist, replaced by what stands for them.
 
 ghost use Rattle.std.specs.Prelude.{◌≡◌, map, IfOk};
-ghost use Rattle.sap_trim.specs.Replaced.{replaced, standing, standing_operand, stands_in};
+ghost use Rattle.sap_net.specs.NameMaps.{at_name};
+ghost use Rattle.sap_trim.specs.Replaced.{replaced, standing, standing_operand};
 
 use sap_fold::slices::sliced;
 use sap_net::parts::{Name, Operand, Operands, Right};
@@ -14,7 +15,7 @@ pub fn stand_name(
     stands: &HashMap<Vec<u8>, Operand>,
     name: &Name,
 ) -> Result<Operand, AllocError>
-    ensures { IfOk result (λ o. o ≡ standing (stands_in stands.now) name.now) }
+    ensures { IfOk result (λ o. o ≡ standing (at_name stands.now) name.now) }
 {
     match stands.get(name.as_bytes()) {
         Some(operand) => operand.copy(alloc),
@@ -28,7 +29,7 @@ pub fn stand(
     stands: &HashMap<Vec<u8>, Operand>,
     operand: &Operand,
 ) -> Result<Operand, AllocError>
-    ensures { IfOk result (λ o. o ≡ standing_operand (stands_in stands.now) operand.now) }
+    ensures { IfOk result (λ o. o ≡ standing_operand (at_name stands.now) operand.now) }
 {
     match operand {
         Operand::Named(name) => stand_name(alloc, stands, name),
@@ -44,7 +45,7 @@ fn stand_all(
     stands: &HashMap<Vec<u8>, Operand>,
     operands: &[Operand],
 ) -> Result<Vec<Operand>, AllocError>
-    ensures { IfOk result (λ os. os.items ≡ map (standing_operand (stands_in stands.now)) operands.now) }
+    ensures { IfOk result (λ os. os.items ≡ map (standing_operand (at_name stands.now)) operands.now) }
 {
     let mut made = Vec::new(alloc);
     for operand in operands {
@@ -59,7 +60,7 @@ pub fn replace(
     stands: &HashMap<Vec<u8>, Operand>,
     right: &Right,
 ) -> Result<Right, AllocError>
-    ensures { IfOk result (λ r. r ≡ replaced (stands_in stands.now) right.now) }
+    ensures { IfOk result (λ r. r ≡ replaced (at_name stands.now) right.now) }
 {
     match right {
         Right::Copy(a) => {

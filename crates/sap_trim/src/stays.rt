@@ -1,6 +1,7 @@
 //! Wires that have one number as long as a register has its start.
 
 ghost use Rattle.std.specs.Prelude.{◌≡◌, true, List, [], ◌∷◌, ◌++◌, IfOk, OnOk};
+ghost use Rattle.sap_net.specs.NameMaps.{at_name, Puts};
 ghost use Rattle.sap_trim.specs.Stays as spec;
 
 use sap_net::netlist::Netlist;
@@ -33,7 +34,7 @@ fn name_stay(
     stays: &HashMap<Vec<u8>, Stay>,
     name: &Name,
 ) -> Result<Option<Stay>, AllocError>
-    ensures { IfOk result (λ s. s ≡ spec.stays_in stays.now name.now) }
+    ensures { IfOk result (λ s. s ≡ at_name stays.now name.now) }
 {
     match stays.get(name.as_bytes()) {
         Some(stay) => {
@@ -50,7 +51,7 @@ fn operand_stay(
     stays: &HashMap<Vec<u8>, Stay>,
     operand: &Operand,
 ) -> Result<Option<Stay>, AllocError>
-    ensures { IfOk result (λ s. s ≡ spec.operand_stay (spec.stays_in stays.now) operand.now) }
+    ensures { IfOk result (λ s. s ≡ spec.operand_stay (at_name stays.now) operand.now) }
 {
     match operand {
         Operand::Named(name) => name_stay(alloc, stays, name),
@@ -99,7 +100,7 @@ fn right_stay(
     stays: &HashMap<Vec<u8>, Stay>,
     right: &Right,
 ) -> Result<Option<Stay>, AllocError>
-    ensures { IfOk result (λ s. s ≡ spec.right_stay (spec.stays_in stays.now) right.now) }
+    ensures { IfOk result (λ s. s ≡ spec.right_stay (at_name stays.now) right.now) }
 {
     match right {
         Right::Copy(a) => operand_stay(alloc, stays, a),
@@ -119,7 +120,7 @@ fn put(
     name: &Name,
     stay: Stay,
 ) -> Result<(), AllocError>
-    ensures { OnOk result (spec.Puts (spec.stays_in stays.old) name.now stay (spec.stays_in stays.new)) }
+    ensures { OnOk result (Puts (at_name stays.old) name.now stay (at_name stays.new)) }
 {
     let key = name.as_bytes().to_vec(alloc)?;
     stays.insert(key, stay)?;
@@ -131,8 +132,8 @@ fn put_register(
     stays: &mut HashMap<Vec<u8>, Stay>,
     register: &Register,
 ) -> Result<(), AllocError>
-    requires { spec.AllStay [] (spec.stays_in stays.old) }
-    ensures { OnOk result (spec.AllStay [] (spec.stays_in stays.new)) }
+    requires { spec.AllStay [] (at_name stays.old) }
+    ensures { OnOk result (spec.AllStay [] (at_name stays.new)) }
 {
     let name = register.name.copy(alloc)?;
     let stay = Stay::While(name, register.start);
@@ -145,8 +146,8 @@ fn put_registers(
     stays: &mut HashMap<Vec<u8>, Stay>,
     registers: &[Register],
 ) -> Result<(), AllocError>
-    requires { spec.AllStay [] (spec.stays_in stays.old) }
-    ensures { OnOk result (spec.AllStay [] (spec.stays_in stays.new)) }
+    requires { spec.AllStay [] (at_name stays.old) }
+    ensures { OnOk result (spec.AllStay [] (at_name stays.new)) }
 {
     for register in registers {
         put_register(alloc, stays, register)?;
@@ -159,7 +160,7 @@ fn put_wire(
     stays: &mut HashMap<Vec<u8>, Stay>,
     wire: &Wire,
 ) -> Result<(), AllocError>
-    ensures { OnOk result ((ws : List Wire) → spec.AllStay ws (spec.stays_in stays.old) → spec.AllStay (ws ++ wire.now ∷ []) (spec.stays_in stays.new)) }
+    ensures { OnOk result ((ws : List Wire) → spec.AllStay ws (at_name stays.old) → spec.AllStay (ws ++ wire.now ∷ []) (at_name stays.new)) }
 {
     match right_stay(alloc, stays, &wire.right)? {
         Some(stay) => {
@@ -175,8 +176,8 @@ fn put_wires(
     stays: &mut HashMap<Vec<u8>, Stay>,
     wires: &[Wire],
 ) -> Result<(), AllocError>
-    requires { spec.AllStay [] (spec.stays_in stays.old) }
-    ensures { OnOk result (spec.AllStay wires.now (spec.stays_in stays.new)) }
+    requires { spec.AllStay [] (at_name stays.old) }
+    ensures { OnOk result (spec.AllStay wires.now (at_name stays.new)) }
 {
     for wire in wires {
         put_wire(alloc, stays, wire)?;
@@ -186,7 +187,7 @@ fn put_wires(
 
 /// What the registers and wires of a netlist stay at.
 pub fn stays(alloc: Global, netlist: &Netlist) -> Result<HashMap<Vec<u8>, Stay>, AllocError>
-    ensures { IfOk result (λ s. spec.AllStay netlist.now.wires (spec.stays_in s)) }
+    ensures { IfOk result (λ s. spec.AllStay netlist.now.wires (at_name s)) }
 {
     let mut stays = HashMap::new(alloc);
     put_registers(alloc, &mut stays, netlist.registers())?;
@@ -210,7 +211,7 @@ pub fn keeps_start(
     stays: &HashMap<Vec<u8>, Stay>,
     register: &Register,
 ) -> Result<bool, AllocError>
-    ensures { IfOk result (λ t. (ws : List Wire) → spec.AllStay ws (spec.stays_in stays.now) → t ≡ true → spec.KeepsStart ws register.now) }
+    ensures { IfOk result (λ t. (ws : List Wire) → spec.AllStay ws (at_name stays.now) → t ≡ true → spec.KeepsStart ws register.now) }
 {
     match operand_stay(alloc, stays, &register.next)? {
         Some(stay) => Ok(is_at(&stay, &register.name, register.start)),

@@ -3,10 +3,11 @@
 ghost use Rattle.std.specs.Prelude.{◌≡◌, ◌≤◌, length, IfOk};
 ghost use Rattle.sap_maps.specs.Maps as spec;
 ghost use Rattle.sap_net.specs.Names.{is_among};
+ghost use Rattle.sap_net.specs.IsNetlist.{names_of};
 ghost use Rattle.sap_fold.specs.Names.{holds};
 ghost use Rattle.sap_trim.specs.Alike.{DeclaresAlike, RunsAlike};
 ghost use Rattle.sap_trim.specs.Few.{HasFewWires, most_left};
-ghost use Rattle.sap_trim.specs.Names.{names_of, port_names};
+ghost use Rattle.sap_trim.specs.Names.{port_names};
 ghost use Rattle.sap_trim.specs.Needed.{needed_wires};
 ghost use Rattle.sap_trim.specs.Reads.{ReadsWires};
 ghost use Rattle.sap_trim.specs.Trimmed.{NamesWires, NumbersWires, SharesWires};

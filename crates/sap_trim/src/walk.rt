@@ -4,9 +4,9 @@ ghost use Rattle.std.specs.Prelude.{◌≡◌, ◌⊎◌, List, [], ◌∷◌, S
 ghost use Rattle.sap_maps.specs.Maps as spec;
 ghost use Rattle.sap_net.specs.Names.{is_among};
 ghost use Rattle.sap_net.specs.declared.parts.Operand.TheVariants as operand;
+ghost use Rattle.sap_net.specs.NameMaps.{at_name, Puts};
 ghost use Rattle.sap_fold.specs.Names.{holds};
-ghost use Rattle.sap_trim.specs.Replaced.{Binds, stands_in};
-ghost use Rattle.sap_trim.specs.Stays.{AllStay, stays_in};
+ghost use Rattle.sap_trim.specs.Stays.{AllStay};
 ghost use Rattle.sap_trim.specs.Walked.{Begins, Copies, Folds, Starts, StartsAt, Steps, Walked, state_of};
 ghost use Rattle.sap_share.specs.Rights.{NamesRights};
 
@@ -34,7 +34,7 @@ fn bind(
     name: &Name,
     operand: Operand,
 ) -> Result<(), AllocError>
-    ensures { OnOk result (Binds (stands_in stands.old) name.now operand (stands_in stands.new)) }
+    ensures { OnOk result (Puts (at_name stands.old) name.now operand (at_name stands.new)) }
 {
     let key = name.as_bytes().to_vec(alloc)?;
     stands.insert(key, operand)?;
@@ -47,7 +47,7 @@ fn bind_itself(
     stands: &mut HashMap<Vec<u8>, Operand>,
     name: &Name,
 ) -> Result<(), AllocError>
-    ensures { OnOk result (Binds (stands_in stands.old) name.now (operand.Named name.now) (stands_in stands.new)) }
+    ensures { OnOk result (Puts (at_name stands.old) name.now (operand.Named name.now) (at_name stands.new)) }
 {
     let itself = name.copy(alloc)?;
     bind(alloc, stands, name, Operand::Named(itself))
@@ -58,7 +58,7 @@ fn bind_inputs(
     stands: &mut HashMap<Vec<u8>, Operand>,
     inputs: &[Input],
 ) -> Result<(), AllocError>
-    ensures { OnOk result ((x : spec.Name) → stands_in stands.new x ≡ (if is_among x (map (λ i. i.name) inputs.now) then Some (operand.Named x) else stands_in stands.old x)) }
+    ensures { OnOk result ((x : spec.Name) → at_name stands.new x ≡ (if is_among x (map (λ i. i.name) inputs.now) then Some (operand.Named x) else at_name stands.old x)) }
 {
     for input in inputs {
         bind_itself(alloc, stands, &input.name)?;
@@ -71,7 +71,7 @@ fn bind_registers(
     stands: &mut HashMap<Vec<u8>, Operand>,
     registers: &[Register],
 ) -> Result<(), AllocError>
-    ensures { OnOk result ((x : spec.Name) → stands_in stands.new x ≡ (if is_among x (map (λ r. r.name) registers.now) then Some (operand.Named x) else stands_in stands.old x)) }
+    ensures { OnOk result ((x : spec.Name) → at_name stands.new x ≡ (if is_among x (map (λ r. r.name) registers.now) then Some (operand.Named x) else at_name stands.old x)) }
 {
     for register in registers {
         bind_itself(alloc, stands, &register.name)?;
@@ -86,7 +86,7 @@ fn bind_start(
     stays: &HashMap<Vec<u8>, Stay>,
     register: &Register,
 ) -> Result<(), AllocError>
-    ensures { OnOk result ((ws : List Wire) → AllStay ws (stays_in stays.now) → (x : spec.Name) → (stands_in stands.new x ≡ stands_in stands.old x) ⊎ StartsAt ws x (stands_in stands.new x) register.now) }
+    ensures { OnOk result ((ws : List Wire) → AllStay ws (at_name stays.now) → (x : spec.Name) → (at_name stands.new x ≡ at_name stands.old x) ⊎ StartsAt ws x (at_name stands.new x) register.now) }
 {
     if !keeps_start(alloc, stays, register)? {
         return Ok(());
@@ -105,7 +105,7 @@ fn bind_starts(
     stays: &HashMap<Vec<u8>, Stay>,
     registers: &[Register],
 ) -> Result<(), AllocError>
-    ensures { OnOk result ((ws : List Wire) → AllStay ws (stays_in stays.now) → (x : spec.Name) → Starts ws registers.now x (stands_in stands.old x) (stands_in stands.new x)) }
+    ensures { OnOk result ((ws : List Wire) → AllStay ws (at_name stays.now) → (x : spec.Name) → Starts ws registers.now x (at_name stands.old x) (at_name stands.new x)) }
 {
     for register in registers {
         bind_start(alloc, stands, stays, register)?;

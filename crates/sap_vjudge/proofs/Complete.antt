@@ -9,6 +9,7 @@ use Rattle.sap_modtext.specs.Items.{Mention, Number, Constant, Operand, Right, P
 use Rattle.sap_modtext.specs.Items as item
 use Rattle.sap_modtext.specs.Faults.{V3, V4, V5, V6, V7, Shape, wire, memory, shape_width, Setting, assign, initial, always, Declaration, port_declaration, item_declarations, declarations, shape_in, Above, shape_above, is_set, has_integer, IsItemOf, Target, target_of, is_settable, needs, Manner, as_value, Use, uses, suits, ranges, constants, constant_fits, indexes, operand_place, Differ, Among, HasIndex}
 use Rattle.sap_modtext.specs.Faults as faults
+use Rattle.sap_text.specs.Best.{StandsIn}
 use Rattle.sap_vjudge.specs.declared.code.Code.{Code}
 use Rattle.sap_vjudge.specs.declared.code.Code.TheVariants as code
 use Rattle.sap_vjudge.specs.Best.{Fault, fault_if}
@@ -17,9 +18,9 @@ use Rattle.sap_vjudge.specs.Known.{Known, nothing_known, after_ports, known_abov
 use Rattle.sap_vjudge.specs.Listed.{twice_faults, declarations_faults, target_faults, integer_faults, is_unassigned, shape_faults, use_faults, uses_faults, range_faults, ranges_faults, constant_faults, constants_faults, operand_width, parts_width, pairs, differ, item_too_wide, item_differs, at_target, target_width_faults, past_shape, slice_faults, widths_faults, is_depth, depth_faults, bound_faults, is_other, depth_index, index_faults, indexes_faults, declared_faults, sized_faults, memory_faults, item_faults, port_faults, ports_faults, items_faults, lacks, unset_faults, unsets_faults, ports_unset, items_unset, known_at_end, file_faults}
 use Rattle.sap_vjudge.specs.Listed as listed
 use Rattle.sap_vjudge.proofs.Above.{under_item, ports_only, after_item_above, after_port_next, after_ports_above, nothing_is, at_end, item_declared}
-use Rattle.sap_vjudge.proofs.First.{StandsIn}
 use Rattle.sap_vjudge.proofs.Powers.{is_depth-HasIndex, is_other-from}
 use Rattle.sap_vjudge.proofs.WidthLemmas.{operand_width-above, parts_width-above, pairs-above, some-differs, some-too_wide}
+use Rattle.sap_modtext.proofs.NameLists.{among_cases}
 
 abbrev pub at_place : Code → ℕ → Fault
 at_place c place = record { code = c; place = place }
@@ -157,11 +158,6 @@ split : {A : Type 0} (x : A) (xs : List A) → Among x xs → (above : List A) �
 split x [] h = absurd h
 split x (y ∷ ys) (inl e) = ([], ys, ap (λ z. z ∷ ys) (sym e))
 split x (y ∷ ys) (inr h) = let r = split x ys h in (y ∷ r.0, r.1, ap (λ zs. y ∷ zs) r.2)
-
-among-either : {A : Type 0} (x : A) (xs ys : List A) → Among x (xs ++ ys) → Among x xs ⊎ Among x ys
-among-either x [] ys h = inr h
-among-either x (z ∷ xs) ys (inl e) = inl (inl e)
-among-either x (z ∷ xs) ys (inr h) = elim (among-either x xs ys h) [ inl k ↦ inl (inr k) | inr k ↦ inr k ]
 
 module _ (f : File) where
   in_ports_part : (a : Fault) → StandsIn a (ports_faults nothing_known f.ports) → StandsIn a (file_faults f)
@@ -367,7 +363,7 @@ module _ (f : File) where
 
   v6_listed : (place : ℕ) → V6 f place → StandsIn (at_place code.V6 place) (file_faults f)
   v6_listed _ (faults.unset d s among need unset) =
-      elim (among-either d (map port_declaration f.ports) (flat_map item_declarations f.items) among) [
+      elim (among_cases d (map port_declaration f.ports) (flat_map item_declarations f.items) among) [
         | inl k ↦ in_port_unset (at_place code.V6 d.name.place) d k (unset_listed d s need unset)
         | inr k ↦ in_item_unset (at_place code.V6 d.name.place) d k (unset_listed d s need unset)
       ]

@@ -10,6 +10,7 @@ use Rattle.sap_modtext.specs.Items.{Mention, Number, Constant, Operand, Right, P
 use Rattle.sap_modtext.specs.Items as item
 use Rattle.sap_modtext.specs.Faults.{V3, V4, V5, V6, V7, Shape, wire, memory, shape_width, Setting, assign, initial, always, Declaration, port_declaration, item_declarations, declarations, shape_in, Above, shape_above, is_set, has_integer, IsItemOf, Target, target_of, is_settable, needs, Manner, as_value, Use, uses, suits, ranges, constants, constant_fits, indexes, operand_place, Differ, Among, HasIndex}
 use Rattle.sap_modtext.specs.Faults as faults
+use Rattle.sap_text.specs.Best.{StandsIn}
 use Rattle.sap_vjudge.specs.declared.code.Code.{Code}
 use Rattle.sap_vjudge.specs.declared.code.Code.TheVariants as code
 use Rattle.sap_vjudge.specs.Best.{Fault, fault_if}
@@ -18,7 +19,6 @@ use Rattle.sap_vjudge.specs.Known.{Known, nothing_known, after_port, after_ports
 use Rattle.sap_vjudge.specs.Listed.{twice_faults, declarations_faults, target_faults, integer_faults, is_unassigned, shape_faults, use_faults, uses_faults, range_faults, ranges_faults, constant_faults, constants_faults, operand_width, parts_width, pairs, differ, too_wide, right_too_wide, item_too_wide, item_differs, at_target, target_width_faults, past_shape, right_slice_faults, slice_faults, widths_faults, is_depth, depth_faults, bound_faults, is_other, depth_index, index_faults, indexes_faults, declared_faults, sized_faults, memory_faults, item_faults, port_faults, ports_faults, items_faults, lacks, unset_faults, unsets_faults, ports_unset, items_unset, known_at_end, file_faults}
 use Rattle.sap_vjudge.specs.Listed as listed
 use Rattle.sap_vjudge.proofs.Above.{under_item, ports_only, after_item_above, after_port_next, after_ports_above, nothing_is, at_end, items_declared}
-use Rattle.sap_vjudge.proofs.First.{StandsIn}
 use Rattle.sap_vjudge.proofs.Powers.{HasIndex-is_depth, is_other-some}
 use Rattle.sap_vjudge.proofs.WidthLemmas.{operand_width-above, parts_width-above, pairs-above, differs-some, too_wide-some}
 

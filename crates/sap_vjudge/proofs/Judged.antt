@@ -9,7 +9,7 @@ use Rattle.sap_vjudge.specs.Best.{Fault, best_of}
 use Rattle.sap_vjudge.specs.FirstFault.{Stands, IsFirstFault, number}
 use Rattle.sap_vjudge.specs.Listed.{file_faults}
 use Rattle.sap_vjudge.proofs.Complete.{all_listed, at_place}
-use Rattle.sap_vjudge.proofs.First.{Before, none_first, some_first}
+use Rattle.sap_vjudge.proofs.First.{Before, none_first, best_stands, best_before}
 use Rattle.sap_vjudge.proofs.Found.{all_stand, one_of_each}
 
 module _ (f : File) where
@@ -21,10 +21,10 @@ module _ (f : File) where
   stands_none h code.V7 place k = h.v7 place k
 
   stands_best : (a : Fault) → Some a ≡ best_of None (file_faults f) → Stands f a.code a.place
-  stands_best a h = one_of_each (λ (b : Fault). Stands f b.code b.place) a (file_faults f) (all_stand f) (some_first (file_faults f) a h).0
+  stands_best a h = one_of_each (λ (b : Fault). Stands f b.code b.place) a (file_faults f) (all_stand f) (best_stands (file_faults f) a h)
 
   before_each : (a : Fault) → Some a ≡ best_of None (file_faults f) → (c : Code) (place : ℕ) → Stands f c place → Before a (at_place c place)
-  before_each a h c place k = (some_first (file_faults f) a h).1 (at_place c place) (all_listed f c place k)
+  before_each a h c place k = best_before (file_faults f) a (at_place c place) h (all_listed f c place k)
 
   pub first_is : (a : Fault) → Some a ≡ best_of None (file_faults f) → IsFirstFault f a.code a.place
   first_is a h =

@@ -1,6 +1,7 @@
 -- Loops over lists of what has faults, each by what is known when it comes.
 use Rattle.std.proofs.Common.{◌≡◌, ◌∙◌, ℕ, zero, suc, ◌+◌, ◌<◌, ◌≤◌, List, [], ◌∷◌, ◌++◌, length, get_or, drop, refl, sym, ap, ap₂, arith, add-one}
 use Rattle.std.specs.Prelude.{Option}
+use Rattle.std.proofs.lemmas.List.{drop_all}
 use Rattle.sap_vjudge.specs.Best.{Fault, best_of}
 use Rattle.sap_vjudge.proofs.Noting.{best_of-append, best_of-none}
 
@@ -9,12 +10,6 @@ module _ {A : Type 0} where
   here [] n d h is = absurd (omega arith)
   here (x ∷ xs) zero d h is = ap (λ (y : A). y ∷ xs) (sym is)
   here (x ∷ xs) (suc n) d h is = let r = here xs n d (omega arith) is in simp (add-one) (simp (add-one) at r)
-
-  pub past : (xs : List A) (n : ℕ) → length xs ≤ n → drop n xs ≡ []
-  past [] zero h = refl
-  past [] (suc n) h = refl
-  past (x ∷ xs) zero h = absurd (omega arith)
-  past (x ∷ xs) (suc n) h = past xs n (omega arith)
 
 module _ {K A : Type 0} (all : K → List A → List Fault) (one : K → A → List Fault) (next : K → A → K) (none : (k : K) → all k [] ≡ [])
     (cons : (k : K) (x : A) (xs : List A) → all k (x ∷ xs) ≡ one k x ++ all (next k x) xs) where
@@ -25,7 +20,7 @@ module _ {K A : Type 0} (all : K → List A → List Fault) (one : K → A → L
       ∙ ap (best_of o) (sym (cons k d (drop (n + 1) xs))) ∙ ap (λ (ys : List A). best_of o (all k ys)) (sym (here xs n d h is))
 
   pub loop_end : (xs : List A) (n : ℕ) (k : K) (m o : Option Fault) → length xs ≤ n → best_of m (all k (drop n xs)) ≡ o → m ≡ o
-  loop_end xs n k m o h e = sym (best_of-none m) ∙ ap (best_of m) (sym (none k)) ∙ ap (λ (ys : List A). best_of m (all k ys)) (sym (past xs n h)) ∙ e
+  loop_end xs n k m o h e = sym (best_of-none m) ∙ ap (best_of m) (sym (none k)) ∙ ap (λ (ys : List A). best_of m (all k ys)) (sym (drop_all n xs h)) ∙ e
 
 module _ {K A : Type 0} (after : K → List A → K) (next : K → A → K) (none : (k : K) → after k [] ≡ k)
     (cons : (k : K) (x : A) (xs : List A) → after k (x ∷ xs) ≡ after (next k x) xs) where
@@ -35,4 +30,4 @@ module _ {K A : Type 0} (after : K → List A → K) (next : K → A → K) (non
       ap (λ (q : K). after q (drop (n + 1) xs)) known ∙ sym (cons k d (drop (n + 1) xs)) ∙ ap (after k) (sym (here xs n d h is))
 
   pub after_end : (xs : List A) (n : ℕ) (k l : K) → length xs ≤ n → after k (drop n xs) ≡ l → k ≡ l
-  after_end xs n k l h e = sym (none k) ∙ ap (after k) (sym (past xs n h)) ∙ e
+  after_end xs n k l h e = sym (none k) ∙ ap (after k) (sym (drop_all n xs h)) ∙ e

@@ -4,22 +4,19 @@ use Rattle.std.proofs.lemmas.Grind.{flat_map-append}
 use Rattle.std.proofs.lemmas.List.{append-nil}
 use Rattle.sap_modtext.specs.Items.{Mention, Operand, Number, Constant}
 use Rattle.sap_modtext.specs.Faults.{Declaration, Use}
-use Rattle.sap_vjudge.specs.Best.{Fault, better, best_of}
+use Rattle.sap_text.proofs.BestLemmas as best
+use Rattle.sap_vjudge.specs.Best.{Fault, better, best_of, comes_first}
 use Rattle.sap_vjudge.specs.Known.{Known}
 use Rattle.sap_vjudge.specs.Listed.{declarations_faults, twice_faults, uses_faults, use_faults, ranges_faults, range_faults, constants_faults, constant_faults, indexes_faults, index_faults, unsets_faults, unset_faults}
 
 pub best_of-append : (o : Option Fault) (a b : List Fault) → best_of o (a ++ b) ≡ best_of (best_of o a) b
-unfolding best_of
-best_of-append o [] b = refl
-best_of-append o (f ∷ a) b = best_of-append (better o f) a b
+best_of-append o a b = best.best_of-append comes_first o a b
 
 pub best_of-none : (o : Option Fault) → best_of o [] ≡ o
-unfolding best_of
-best_of-none o = refl
+best_of-none o = best.best_of-none comes_first o
 
 pub best_of-one : (o : Option Fault) (f : Fault) → best_of o (f ∷ []) ≡ better o f
-unfolding best_of
-best_of-one o f = refl
+best_of-one o f = best.best_of-one comes_first o f
 
 pub ruleset noting = (best_of-append, best_of-none, best_of-one)
 

@@ -1,13 +1,14 @@
 -- The sum of the widths of parts, one after another.
 use Rattle.std.proofs.Common.{◌≡◌, ◌∙◌, ℕ, ◌+◌, ◌<◌, ◌≤◌, List, [], ◌∷◌, length, get_or, drop, refl, sym, ap, arith}
 use Rattle.std.specs.Prelude.{Option, Some, None}
+use Rattle.std.proofs.lemmas.List.{drop_all}
 use Rattle.sap_modtext.specs.Items as item
 use Rattle.sap_modtext.specs.Faults.{add_widths}
 use Rattle.sap_vparse.specs.declared.items.Operand.{Operand}
 use Rattle.sap_vparse.specs.Views.{operand_of, operands_of}
 use Rattle.sap_vjudge.specs.Known.{Known}
 use Rattle.sap_vjudge.specs.Listed.{parts_width, operand_width}
-use Rattle.sap_vjudge.proofs.Loops.{here, past}
+use Rattle.sap_vjudge.proofs.Loops.{here}
 
 parts_width-none : (k : Known) → parts_width k [] ≡ Some 0
 unfolding parts_width
@@ -45,6 +46,6 @@ module _ (k : Known) (xs : List Operand) (n : ℕ) (s : ℕ) (all : Option ℕ) 
   pub part_end : length xs ≤ n → Some s ≡ all
   part_end h =
       let last : s ≡ s + 0 = omega arith in
-      ap (λ (m : ℕ). Some m) last ∙ ap (add_widths (Some s)) (sym (parts_width-none k)) ∙ ap (λ (ys : List Operand). add_widths (Some s) (parts_width k (operands_of ys))) (sym (past xs n h)) ∙ so_far
+      ap (λ (m : ℕ). Some m) last ∙ ap (add_widths (Some s)) (sym (parts_width-none k)) ∙ ap (λ (ys : List Operand). add_widths (Some s) (parts_width k (operands_of ys))) (sym (drop_all n xs h)) ∙ so_far
 
 pub ruleset parts = (add_widths-zero)

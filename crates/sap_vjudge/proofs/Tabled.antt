@@ -92,21 +92,21 @@ pub on_ok : {T E P Q : Type 0} (r : Result T E) → (P → Q) → OnOk r P → O
 on_ok (Ok x) f h = f h
 on_ok (Err e) f h = h
 
-over : (b : Bool) (e d : Entry) (o : Option Entry) → cond b (Some e) o ≡ (if b then Some e else cond b (Some d) o)
+over : {X : Type 0} (b : Bool) (e d : X) (o : Option X) → cond b (Some e) o ≡ (if b then Some e else cond b (Some d) o)
 over true e d o = refl
 over false e d o = refl
 
-beside : (b c : Bool) (e d : Entry) (o : Option Entry) → (b ≡ true → c ≡ true → ⊥) → cond c (Some d) (if b then Some e else o) ≡ (if b then Some e else cond c (Some d) o)
+beside : {X : Type 0} (b c : Bool) (e d : X) (o : Option X) → (b ≡ true → c ≡ true → ⊥) → cond c (Some d) (if b then Some e else o) ≡ (if b then Some e else cond c (Some d) o)
 beside true true e d o h = absurd (h refl refl)
 beside true false e d o h = refl
 beside false c e d o h = refl
 
 -- what is found under the bytes n once a key of the bytes x is put in
-module _ (eq : Vec ℕ Global → Vec ℕ Global → Bool) (same : (a b : Vec ℕ Global) → eq a b ≡ bytes_eq a.items b.items) (key : Vec ℕ Global) (e : Entry) (n : List ℕ) where
-  abbrev under : List (Vec ℕ Global × Entry) → Option Entry
+module _ {X : Type 0} (eq : Vec ℕ Global → Vec ℕ Global → Bool) (same : (a b : Vec ℕ Global) → eq a b ≡ bytes_eq a.items b.items) (key : Vec ℕ Global) (e : X) (n : List ℕ) where
+  abbrev under : List (Vec ℕ Global × X) → Option X
   under fs = lookup (λ (k : Vec ℕ Global). bytes_eq n k.items) fs
 
-  put_under : (x : List ℕ) → key.items ≡ x → (es : List (Vec ℕ Global × Entry))
+  put_under : (x : List ℕ) → key.items ≡ x → (es : List (Vec ℕ Global × X))
       → lookup (λ (k : Vec ℕ Global). bytes_eq n k.items) (insert_entry eq es key e)
       ≡ (if bytes_eq x n then Some e else lookup (λ (k : Vec ℕ Global). bytes_eq n k.items) es)
   put_under x is [] = ap (λ (b : Bool). cond b (Some e) None) (ap (λ (l : List ℕ). bytes_eq n l) is ∙ nat_list_eq_equiv.symm n x)
@@ -119,10 +119,10 @@ module _ (eq : Vec ℕ Global → Vec ℕ Global → Bool) (same : (a b : Vec �
           let test : bytes_eq n f.0.items ≡ bytes_eq x n = ap (λ (l : List ℕ). bytes_eq n l) (sym here) ∙ nat_list_eq_equiv.symm n x in
           ap (λ (b : Bool). cond b (Some e) (under es)) test ∙ over (bytes_eq x n) e f.1 (under es) ∙ ap (λ (b : Bool). if bytes_eq x n then Some e else cond b (Some f.1) (under es)) (sym test)
       by_test false h r =
-          ap (λ (o : Option Entry). cond (bytes_eq n f.0.items) (Some f.1) o) r
+          ap (λ (o : Option X). cond (bytes_eq n f.0.items) (Some f.1) o) r
           ∙ beside (bytes_eq x n) (bytes_eq n f.0.items) e f.1 (under es) (λ p q. true≢false (sym (
           same key f.0 ∙ ap (λ (l : List ℕ). bytes_eq l f.0.items) (is ∙ (bytes_eq-Decides x n).0 p) ∙ q) ∙ h))
 
-  pub put_entry : (x : List ℕ) (old new : List (Vec ℕ Global × Entry)) → key.items ≡ x → new ≡ insert_entry eq old key e
+  pub put_entry : (x : List ℕ) (old new : List (Vec ℕ Global × X)) → key.items ≡ x → new ≡ insert_entry eq old key e
       → lookup (λ (k : Vec ℕ Global). bytes_eq n k.items) new ≡ (if bytes_eq x n then Some e else lookup (λ (k : Vec ℕ Global). bytes_eq n k.items) old)
-  put_entry x old new is h = ap (λ (es : List (Vec ℕ Global × Entry)). under es) h ∙ put_under x is old
+  put_entry x old new is h = ap (λ (es : List (Vec ℕ Global × X)). under es) h ∙ put_under x is old

@@ -18,7 +18,8 @@ use Rattle.sap_vparse.specs.Table.{Symbol, first, next}
 use Rattle.sap_vparse.specs.declared.choice.AfterHead.TheVariants as a
 use Rattle.sap_vparse.specs.declared.choice.RightHead.TheVariants as r
 use Rattle.sap_walk.proofs.Walking.{bind_ok, bind_pure}
-use Rattle.sap_vparse.proofs.Laws.{after_choose, after_end, after_two, bracket_cell, bracket_slice, clock_update, clock_write, clocked_steps, end_there, file_steps, initial_cells, initial_start, item_always, item_assign, item_initial, item_integer, item_register, item_wire, items_end, items_more, kind_reg, kind_wire, loop_steps, name_bracket, name_other, operand_constant, operand_name, parts_end, parts_more, port_input, port_output, ports_end, ports_more, range_steps, register_end, register_memory, right_concat, right_constant, right_name, right_one}
+use Rattle.sap_vparse.proofs.ItemLaws.{clock_update, clock_write, end_there, initial_cells, initial_start, item_always, item_assign, item_initial, item_integer, item_register, item_wire, items_end, items_more, register_end, register_memory}
+use Rattle.sap_vparse.proofs.Laws.{after_choose, after_end, after_two, bracket_cell, bracket_slice, clocked_steps, file_steps, kind_reg, kind_wire, loop_steps, name_bracket, name_other, operand_constant, operand_name, parts_end, parts_more, port_input, port_output, ports_end, ports_more, range_steps, right_concat, right_constant, right_name, right_one}
 use Rattle.sap_vparse.proofs.Single.{reads_first}
 
 -- single tokens

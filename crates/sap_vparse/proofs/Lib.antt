@@ -3,9 +3,11 @@ pub mod Complete
 pub mod Faults
 pub mod FrontIs
 pub mod Fronts
+pub mod ItemLaws
 pub mod Laws
 pub mod Lists
 pub mod Makes
+pub mod NeverSkips
 pub mod OneReading
 pub mod Runs
 pub mod Single

@@ -16,7 +16,7 @@ use Rattle.sap_walk.specs.Rows.{push}
 use Rattle.sap_walk.specs.Walk.{Take, Skip, Stop, Point}
 use Rattle.sap_walk.proofs.Running.{Runs}
 use Rattle.sap_walk.proofs.Spelling as spelling
-use Rattle.sap_vparse.proofs.Laws.{never_skips}
+use Rattle.sap_vparse.proofs.NeverSkips.{never_skips}
 use Rattle.sap_vparse.proofs.Single.{sign_same, word_same}
 
 -- what stands for a symbol, in the words of the grammar

@@ -7,20 +7,20 @@ use Rattle.sap_desk.specs.Cause.{counted}
 use Rattle.sap_desk.specs.Whole.{Between, Gained, LostAtMostOne}
 use Rattle.sap_stim.specs.declared.fault.StimFault.{StimFault}
 use Rattle.sap_words.specs.Words.{Words, IsTwin, command_of}
-use Rattle.sap_commands.specs.Ending.{Ending, Refusal, done, refused, failed, no_memory, no_command, lattice_refused, design_refused, stimulus_refused, module_refused, level_refused, lengths_apart, inputs_apart, status_of, status_of_refusal, line_of, IsFree}
-use Rattle.sap_commands.specs.Asks.{Asks, file, by, gives, prints, writes, stops, AreLawful, Cause, Files, Shows, Starved, end_of}
+use Rattle.sap_files.specs.Ending.{Ending, Refusal, done, refused, failed, no_memory, no_command, lattice_refused, design_refused, stimulus_refused, module_refused, level_refused, lengths_apart, inputs_apart, status_of, status_of_refusal, line_of, IsFree}
+use Rattle.sap_files.specs.Asks.{Asks, file, by, gives, prints, writes, stops, AreLawful, Cause, Files, Shows, Starved, end_of}
 use Rattle.sap_commands.specs.Commands.{asks, asks_for, asks_if}
-use Rattle.sap_commands.specs.After.{Blames, Opens}
-use Rattle.sap_commands.specs.Outside.{FullFile, FullOutput, OutsideOf}
-use Rattle.sap_commands.specs.Steps.{Counted, Ends, FaultRose, Left, Moment, Same, ending_of}
-use Rattle.sap_commands.specs.declared.failure.Failure.{Failure}
+use Rattle.sap_files.specs.After.{Blames, Opens}
+use Rattle.sap_files.specs.Outside.{FullFile, FullOutput, OutsideOf}
+use Rattle.sap_files.specs.Steps.{Counted, Ends, FaultRose, Left, Moment, Same, ending_of}
+use Rattle.sap_files.specs.declared.failure.Failure.{Failure}
 use Rattle.sapper.specs.Answers.{Answers, MayAnswer}
 use Rattle.sapper.specs.Exact.{Exact}
 use Rattle.sapper.specs.Outside.{FullLines, Outside}
 use Rattle.sapper.specs.Lines.{Reports, TakesMemory, Tells, ToldLine}
 use Rattle.sap_commands.proofs.CommandLaws.{two_if}
-use Rattle.sap_commands.proofs.Lawful.{one_cause}
-use Rattle.sap_commands.proofs.Ended.{between_map, quiet_self, stopped_here, whole_prefix}
+use Rattle.sap_files.proofs.Lawful.{one_cause}
+use Rattle.sap_files.proofs.Ended.{between_map, quiet_self, stopped_here, whole_prefix}
 
 -- what words ask
 

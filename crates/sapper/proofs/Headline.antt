@@ -7,14 +7,14 @@ use Rattle.sap_desk.proofs.Steps.{at_name-same}
 use Rattle.sap_lattice.specs.Levels.{Levels}
 use Rattle.sap_tree.specs.Syntax.{DesignTree}
 use Rattle.sap_words.specs.Words.{Words, compile}
-use Rattle.sap_commands.specs.Kinds.{Has, lattice_file, design_file}
-use Rattle.sap_commands.specs.Ending.{Ending, done, refused, failed, no_memory, no_command, lattice_refused, design_refused, stimulus_refused, module_refused, level_refused, lengths_apart, inputs_apart, status_of}
-use Rattle.sap_commands.specs.Asks.{Cause, Files, Leaves, Written}
+use Rattle.sap_files.specs.Kinds.{Has, lattice_file, design_file}
+use Rattle.sap_files.specs.Ending.{Ending, done, refused, failed, no_memory, no_command, lattice_refused, design_refused, stimulus_refused, module_refused, level_refused, lengths_apart, inputs_apart, status_of}
+use Rattle.sap_files.specs.Asks.{Cause, Files, Leaves, Written}
 use Rattle.sap_commands.specs.Commands.{IsModuleText, asks, asks_for, asks_if}
 use Rattle.sapper.specs.Answers.{Answers}
 use Rattle.sapper.specs.Exact.{Exact}
 use Rattle.sapper.specs.Headline.{Headline, MeansDesign}
-use Rattle.sap_commands.proofs.Modules.{one_module}
+use Rattle.sap_files.proofs.Modules.{one_module}
 
 -- a text of a module for the design means it
 means : (ls : Levels) (d : DesignTree) (text : List ℕ) → IsModuleText ls d text → MeansDesign ls d text

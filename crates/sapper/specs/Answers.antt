@@ -2,10 +2,10 @@
 use Rattle.std.specs.Prelude.{◌≡◌, ◌⊎◌, ℕ, List, ◌++◌}
 use Rattle.sap_desk.specs.Desk.{Told}
 use Rattle.sap_desk.specs.Whole.{Gained}
-use Rattle.sap_commands.specs.Ending.{Ending, status_of, line_of, IsFree}
-use Rattle.sap_commands.specs.Asks.{Cause, Leaves, MayEnd, Output}
+use Rattle.sap_files.specs.Ending.{Ending, status_of, line_of, IsFree}
+use Rattle.sap_files.specs.Asks.{Cause, Leaves, MayEnd, Output}
 use Rattle.sap_commands.specs.Commands.{asks_for}
-use Rattle.sap_commands.specs.After.{Blames, Opens}
+use Rattle.sap_files.specs.After.{Blames, Opens}
 
 -- some ending, with its status and its line, and what it leaves
 pub record Answers (words : List (List ℕ)) (lost lost_now answer : ℕ) (t n : Told) : Type 0 where

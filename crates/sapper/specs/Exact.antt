@@ -1,8 +1,8 @@
 -- When each answer comes, exactly.
 use Rattle.std.specs.Prelude.{◌≡◌, ◌≢◌, ◌⊎◌, ℕ, List}
 use Rattle.sap_desk.specs.Desk.{Told}
-use Rattle.sap_commands.specs.Ending.{Ending, status_of}
-use Rattle.sap_commands.specs.Asks.{Cause}
+use Rattle.sap_files.specs.Ending.{Ending, status_of}
+use Rattle.sap_files.specs.Asks.{Cause}
 use Rattle.sap_commands.specs.Commands.{asks_for}
 
 -- An answer but 6 (a failed call) and 7 (want of memory) comes only for a cause in the words and files, and where a cause stands no other answer

@@ -17,7 +17,7 @@ use Rattle.sap_interface.specs.StandsFor.{world}
 use Rattle.sap_compile.specs.Agree.{RunsAgree, RunsLookAlike}
 use Rattle.sap_compile.specs.Runs.{HasOneRunOnStreams}
 use Rattle.sap_words.specs.Words.{command_of, compile}
-use Rattle.sap_commands.specs.Kinds.{Has, lattice_file, design_file}
+use Rattle.sap_files.specs.Kinds.{Has, lattice_file, design_file}
 
 -- In every cycle of each run of a netlist on a stream of tagged inputs, levels being given as codes, it has the values, tags, active states and refused
 -- writes of the same cycle of the design's labelled run.

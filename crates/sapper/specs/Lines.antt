@@ -2,8 +2,8 @@
 use Rattle.std.specs.Prelude.{◌≡◌, ◌≢◌, ◌⊎◌, ℕ, List}
 use Rattle.sap_desk.specs.Desk.{Told}
 use Rattle.sap_desk.specs.Whole.{Between, Gained, LostAtMostOne}
-use Rattle.sap_commands.specs.Ending.{Ending, Refusal as Reason, refused, no_memory, no_command, lattice_refused, design_refused, stimulus_refused, module_refused, level_refused, lengths_apart, inputs_apart, status_of, line_of}
-use Rattle.sap_commands.specs.Steps.{Moment}
+use Rattle.sap_files.specs.Ending.{Ending, Refusal as Reason, refused, no_memory, no_command, lattice_refused, design_refused, stimulus_refused, module_refused, level_refused, lengths_apart, inputs_apart, status_of, line_of}
+use Rattle.sap_files.specs.Steps.{Moment}
 use Rattle.sapper.specs.Outside.{FullLines}
 
 -- channel 2 has a line more

@@ -2,7 +2,7 @@
 use Rattle.std.specs.Prelude.{◌≡◌, ℕ, List, length}
 use Rattle.sap_desk.specs.Desk.{Told, stream}
 use Rattle.sap_commands.specs.Commands.{asks_for}
-use Rattle.sap_commands.specs.Outside.{OutsideOf}
+use Rattle.sap_files.specs.Outside.{OutsideOf}
 
 -- a fault on a file or on channel 1
 abbrev pub Outside : List (List ℕ) → Told → Told → Type 0

@@ -3,116 +3,173 @@
 //! The words of its command line are the files of the tables.
 #![tactic(auto)]
 
-mod blocks;
-mod cut;
-mod draft;
-mod in_turn;
-mod reading;
-mod refusal;
-mod running;
-mod showing;
-mod table;
-mod texts;
-
-use reading::read_table;
-use refusal::{Refusal, Why};
-use running::run_row;
-use sap_desk::{Desk, DeskError, HostDesk, read_file, write_output};
+use sap_desk::MemoryDesk;
+use sap_help::answer;
+use sap_rows::{
+    Answer, Circumstance, File, Row, Seen, Step, Target, behind, bytes_put, further_run,
+    further_runs, push_counts, push_difference, push_refusal, read_table, steps_of,
+};
+use sapper::sapper;
 use std::alloc::{AllocError, Global};
-use std::env;
+use std::io::{self, Write};
 use std::process::ExitCode;
-use table::Row;
+use std::{env, fs};
 
-// Why a run ends before its end.
-#[derive(Drop)]
-enum Stop {
-    Desk,
-    Refused,
-}
+// The room of a desk's channels and of the files that are written.
+const ROOM: usize = 1 << 20;
 
-impl From<AllocError> for Stop {
-    fn from(_: AllocError) -> Self {
-        Stop::Desk
+fn call(alloc: Global, desk: &mut MemoryDesk, step: &Step) -> Answer {
+    match step.target {
+        Target::TopCall => Answer::Status(sapper(alloc, &step.words, desk)),
+        Target::Help => match answer(alloc, desk, &step.words) {
+            Some(status) => Answer::Status(status),
+            None => Answer::Nothing,
+        },
     }
 }
 
-impl From<DeskError> for Stop {
-    fn from(_: DeskError) -> Self {
-        Stop::Desk
+// Puts the files of a step, and makes calls fail.
+fn prepare(
+    desk: &mut MemoryDesk,
+    step: &Step,
+    circumstance: Circumstance,
+) -> Result<(), AllocError> {
+    for file in &step.files {
+        desk.put_file(&file.name, bytes_put(step, file, circumstance))?;
     }
-}
-
-impl From<sap_desk::Failed> for Stop {
-    fn from(_: sap_desk::Failed) -> Self {
-        Stop::Desk
+    for number in &step.failing {
+        desk.fail_at(*number)?;
     }
-}
-
-fn rows_of(alloc: Global, bytes: &[u8]) -> Result<Vec<Row>, Refusal> {
-    match std::str::from_utf8(bytes) {
-        Ok(text) => read_table(alloc, text),
-        Err(_) => Err(Refusal {
-            line: 0,
-            why: Why::Says("no text"),
-        }),
-    }
-}
-
-// Runs the rows of a table, and tells those that differ; gives how many.
-fn run_rows<D: Desk>(alloc: Global, desk: &mut D, table: &str, rows: &[Row]) -> Result<u64, Stop> {
-    let mut differing = 0u64;
-    for row in rows {
-        if let Some(difference) = run_row(alloc, row)? {
-            differing = differing.saturating_add(1);
-            let line = showing::difference(alloc, table, &row.name, &difference)?;
-            write_output(desk, line.as_bytes())?;
-        }
-    }
-    Ok(differing)
-}
-
-fn run_table<D: Desk>(alloc: Global, desk: &mut D, table: &str) -> Result<(), Stop> {
-    let bytes = read_file(alloc, desk, table)?;
-    match rows_of(alloc, bytes.as_slice()) {
-        Ok(rows) => {
-            let differing = run_rows(alloc, desk, table, &rows)?;
-            let count = rows.len();
-            let line = format!(in alloc; "{table}: {count} rows, {differing} differ\n")?;
-            write_output(desk, line.as_bytes())?;
-            Ok(())
-        }
-        Err(refusal) => {
-            let line = showing::refusal(alloc, table, &refusal)?;
-            write_output(desk, line.as_bytes())?;
-            Err(Stop::Refused)
-        }
-    }
-}
-
-fn run_tables<D: Desk>(alloc: Global, desk: &mut D, tables: &[String]) -> Result<(), Stop> {
-    for table in tables {
-        run_table(alloc, desk, table)?;
+    if let Circumstance::Failing(number) = circumstance {
+        desk.fail_at(number as u64)?;
     }
     Ok(())
 }
 
-fn main(rt: HostRuntime) -> ExitCode {
-    let alloc = rt.alloc();
-    let (output, errors) = (rt.stdout(), rt.stderr());
-    let Ok(words) = env::args(&rt) else {
-        return ExitCode::FAILURE;
-    };
-    let mut tables = Vec::new(alloc);
-    for word in words.skip(1) {
-        if tables.push(word).is_err() {
-            return ExitCode::FAILURE;
+// Appends a file, where there is one of this name.
+fn push_file(
+    alloc: Global,
+    files: &mut Vec<File>,
+    desk: &MemoryDesk,
+    name: &str,
+) -> Result<(), AllocError> {
+    if let Some(bytes) = desk.file(name) {
+        files.push(File {
+            name: String::from_str(alloc, name)?,
+            bytes: bytes.to_vec(alloc)?,
+        })?;
+    }
+    Ok(())
+}
+
+// The files that there are of those that a row names.
+fn files_of(alloc: Global, desk: &MemoryDesk, row: &Row) -> Result<Vec<File>, AllocError> {
+    let mut files = Vec::new(alloc);
+    for step in &row.steps {
+        for file in &step.files {
+            push_file(alloc, &mut files, desk, &file.name)?;
+        }
+        for held in &step.held {
+            push_file(alloc, &mut files, desk, &held.name)?;
         }
     }
-    let Ok(mut desk) = HostDesk::new(alloc, rt, output, errors) else {
-        return ExitCode::FAILURE;
-    };
-    match run_tables(alloc, &mut desk, &tables) {
-        Ok(()) => ExitCode::SUCCESS,
-        Err(_) => ExitCode::FAILURE,
+    Ok(files)
+}
+
+fn make_call(
+    alloc: Global,
+    desk: &mut MemoryDesk,
+    row: &Row,
+    step: &Step,
+) -> Result<Seen, AllocError> {
+    let written = desk.output().len();
+    let told = desk.fault_text().len();
+    let answer = call(alloc, desk, step);
+    Ok(Seen {
+        answer,
+        output: behind(desk.output(), written).to_vec(alloc)?,
+        faults: behind(desk.fault_text(), told).to_vec(alloc)?,
+        files: files_of(alloc, desk, row)?,
+    })
+}
+
+// Makes the calls of a row over one desk, and gives what they left.
+fn run(alloc: Global, row: &Row, circumstance: Circumstance) -> Result<Vec<Seen>, AllocError> {
+    let mut desk = MemoryDesk::new(alloc, ROOM)?;
+    let mut seen = Vec::new(alloc);
+    for step in steps_of(row, circumstance) {
+        prepare(&mut desk, step, circumstance)?;
+        seen.push(make_call(alloc, &mut desk, row, step)?)?;
+    }
+    Ok(seen)
+}
+
+// Runs a row, and tells the first run in which it comes out otherwise; whether one does.
+fn run_row(alloc: Global, out: &mut String, table: &str, row: &Row) -> Result<bool, AllocError> {
+    let whole = run(alloc, row, Circumstance::AsItStands)?;
+    if push_difference(out, table, row, Circumstance::AsItStands, &whole, &whole)? {
+        return Ok(true);
+    }
+    for number in 0..further_runs(row) {
+        let circumstance = further_run(row, number);
+        let seen = run(alloc, row, circumstance)?;
+        if push_difference(out, table, row, circumstance, &whole, &seen)? {
+            return Ok(true);
+        }
+    }
+    Ok(false)
+}
+
+fn run_rows(alloc: Global, out: &mut String, table: &str, rows: &[Row]) -> Result<(), AllocError> {
+    let mut differing = 0u64;
+    for row in rows {
+        if run_row(alloc, out, table, row)? {
+            differing = differing.saturating_add(1);
+        }
+    }
+    push_counts(out, table, rows.len(), differing)
+}
+
+// Runs the table with these bytes; whether it is taken.
+fn run_table(
+    alloc: Global,
+    out: &mut String,
+    table: &str,
+    bytes: &[u8],
+) -> Result<bool, AllocError> {
+    match read_table(alloc, bytes) {
+        Ok(rows) => {
+            run_rows(alloc, out, table, &rows)?;
+            Ok(true)
+        }
+        Err(refusal) => {
+            push_refusal(out, table, refusal)?;
+            Ok(false)
+        }
+    }
+}
+
+fn run_file(rt: &HostRuntime, table: &str) -> io::Result<bool> {
+    let bytes = fs::read(rt, table)?;
+    let mut out = String::new(rt.alloc());
+    let is_taken = run_table(rt.alloc(), &mut out, table, bytes.as_slice())?;
+    rt.stdout().write_all(out.as_bytes())?;
+    Ok(is_taken)
+}
+
+// Runs one table after another up to the first that is refused; whether none is.
+fn run_files(rt: &HostRuntime) -> io::Result<bool> {
+    for table in env::args(rt)?.skip(1) {
+        if !run_file(rt, &table)? {
+            return Ok(false);
+        }
+    }
+    Ok(true)
+}
+
+fn main(rt: HostRuntime) -> ExitCode {
+    match run_files(&rt) {
+        Ok(true) => ExitCode::SUCCESS,
+        _ => ExitCode::FAILURE,
     }
 }

@@ -6,8 +6,7 @@ use sap_check::Checked;
 use sap_latfile::read_lattice;
 use sap_lattice::lattice::Lattice;
 use sap_sem::machine::Machine;
-use std::alloc::{AllocError, Global};
-use std::test::Fail;
+use std::alloc::Global;
 
 /// A design with what its inputs get in each cycle, its rows and its trace.
 struct Run {
@@ -222,21 +221,14 @@ static STATES_AND_TAGS: [Run; 17] = [
 ];
 
 /// Steps a machine on inputs that fit; whether they do.
-fn step(
-    alloc: Global,
-    machine: &mut Machine,
-    lattice: &Lattice,
-    given: &[(u64, &str)],
-) -> Result<bool, AllocError> {
-    let inputs = match inputs_of(alloc, lattice, given)? {
-        Some(inputs) => inputs,
-        None => return Ok(false),
-    };
-    if !machine.fits(&inputs) {
-        return Ok(false);
+fn step(alloc: Global, machine: &mut Machine, lattice: &Lattice, given: &[(u64, &str)]) -> bool {
+    match inputs_of(alloc, lattice, given) {
+        Some(inputs) if machine.fits(&inputs) => {
+            machine.step(&inputs);
+            true
+        }
+        _ => false,
     }
-    machine.step(&inputs);
-    Ok(true)
 }
 
 /// Whether a machine has the entities and the check sites of the design.
@@ -245,58 +237,49 @@ fn has_all(machine: &Machine, checked: &Checked) -> bool {
         && machine.site_count() == checked.site_count()
 }
 
-/// The rows and the lines of refusals, where all inputs fit.
-fn shown(
-    alloc: Global,
-    checked: &Checked,
-    cycles: &[&[(u64, &str)]],
-) -> Result<Option<(Vec<u8>, Vec<u8>)>, AllocError> {
-    let mut machine = start(alloc, checked)?;
-    if !has_all(&machine, checked) {
-        return Ok(None);
-    }
+/// Whether a machine shows these rows and this trace, where all inputs fit.
+fn shows(alloc: Global, machine: &mut Machine, checked: &Checked, run: &Run) -> bool {
     let mut rows = Vec::new(alloc);
     let mut trace = Vec::new(alloc);
-    for (k, given) in cycles.iter().enumerate() {
-        if !step(alloc, &mut machine, checked.lattice(), given)? {
-            return Ok(None);
+    let mut cycle = 0u64;
+    for given in run.cycles {
+        cycle = cycle.saturating_add(1);
+        if !step(alloc, machine, checked.lattice(), given)
+            || push_row(&mut rows, machine, checked, cycle).is_err()
+            || push_refusals(&mut trace, machine, checked, cycle).is_err()
+        {
+            return false;
         }
-        push_row(&mut rows, &machine, checked, k as u64 + 1)?;
-        push_refusals(&mut trace, &machine, checked, k as u64 + 1)?;
     }
-    Ok(Some((rows, trace)))
+    rows.as_slice() == run.rows.as_bytes() && trace.as_slice() == run.trace.as_bytes()
 }
 
-fn runs_as_said(alloc: Global, run: &Run) -> Result<bool, AllocError> {
-    let lattice = match read_lattice(alloc, run.lattice.as_bytes()) {
-        Ok(lattice) => lattice,
-        Err(_) => return Ok(false),
+fn runs_as_said(alloc: Global, run: &Run) -> bool {
+    let Ok(lattice) = read_lattice(alloc, run.lattice.as_bytes()) else {
+        return false;
     };
-    let checked = match checked_design(alloc, run.design, &lattice) {
-        Some(checked) => checked,
-        None => return Ok(false),
+    let Some(checked) = checked_design(alloc, run.design, &lattice) else {
+        return false;
     };
-    match shown(alloc, &checked, run.cycles)? {
-        Some((rows, trace)) => {
-            Ok(rows.as_slice() == run.rows.as_bytes() && trace.as_slice() == run.trace.as_bytes())
-        }
-        None => Ok(false),
+    match start(alloc, &checked) {
+        Some(mut machine) => has_all(&machine, &checked)
+            && shows(alloc, &mut machine, &checked, run),
+        None => false,
     }
 }
 
 /// The place of the first run that is otherwise than said.
-fn first_wrong(alloc: Global, runs: &[Run]) -> Result<Option<usize>, AllocError> {
+fn first_wrong(alloc: Global, runs: &[Run]) -> Option<usize> {
     for (place, run) in runs.iter().enumerate() {
-        if !runs_as_said(alloc, run)? {
-            return Ok(Some(place));
+        if !runs_as_said(alloc, run) {
+            return Some(place);
         }
     }
-    Ok(None)
+    None
 }
 
 #[test]
-fn machines_run_as_worked(rt: HostRuntime) -> Result<(), Fail> {
-    assert_eq!(rt; first_wrong(rt.alloc(), &VALUES)?, None);
-    assert_eq!(rt; first_wrong(rt.alloc(), &STATES_AND_TAGS)?, None);
-    Ok(())
+fn machines_run_as_worked(rt: HostRuntime) {
+    assert_eq!(rt; first_wrong(rt.alloc(), &VALUES), None);
+    assert_eq!(rt; first_wrong(rt.alloc(), &STATES_AND_TAGS), None);
 }

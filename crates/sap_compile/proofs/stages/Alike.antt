@@ -1,10 +1,10 @@
 -- A netlist that is alike to one that stands for a design stands for it too.
 use Rattle.std.proofs.Common.{◌≡◌, ◌≤◌, ◌⊎◌, ℕ, List, [], ◌∷◌, ◌++◌, map, true, false, inl, inr, ◌↔◌, sym, ap, ap₂, ◌∙◌, subst, length}
 use Rattle.std.specs.Prelude.{unwrap_or, Option}
-use Rattle.std.specs.List.{AllByRecursion}
+use Rattle.std.specs.List.{AllByRecursion, AllZip}
 use Rattle.std.proofs.lemmas.Bool.{cases_Bool}
 use Rattle.sap_lemmas.proofs.Everywhere.{all_of_map}
-use Rattle.sap_net.proofs.NamesLemmas.{among_behind, among_front, each_among}
+use Rattle.sap_net.proofs.NamesLemmas.{among_behind, among_front, each_among, among_each}
 use Rattle.sap_maps.specs.Maps.{Name, Valuation}
 use Rattle.sap_meaning.specs.Cycle.{Tagged}
 use Rattle.sap_meaning.specs.Store.{Store, After, Refusal}
@@ -19,7 +19,7 @@ use Rattle.sap_net.specs.declared.parts.PortKind.TheVariants as kind
 use Rattle.sap_net.specs.declared.parts.Port.{Port}
 use Rattle.sap_net.specs.declared.parts.Input.{Input}
 use Rattle.sap_net.specs.declared.parts.Wire.{Wire}
-use Rattle.sap_trim.specs.Alike.{DeclaresAlike, ShowsAlike, AllShowAlike, RunsAlike}
+use Rattle.sap_trim.specs.Alike.{DeclaresAlike, ShowsAlike, RunsAlike}
 use Rattle.sap_trim.specs.Names.{helper, port_names, lasting_names, helping_wires, NoneNumbered}
 use Rattle.sap_trim.specs.Trimmed.{NumbersWires}
 use Rattle.sap_interface.specs.PortNames.{refused_name, level_name}
@@ -29,7 +29,7 @@ use Rattle.sap_interface.specs.Interface.{Shown, HasInput, HasWire, HasRegister,
 use Rattle.sap_interface.specs.Compiled.{coded_stream, CyclesStand, NetStandsFor}
 use Rattle.sap_tagged.specs.Law.{AreSites, RefusalsAreSites}
 use Rattle.sap_tagged.proofs.Members.{In}
-use Rattle.sap_compile.proofs.stages.Ports.{named_among, refused_port, level_port, ports_named}
+use Rattle.sap_compile.proofs.stages.Ports.{refused_port, level_port, ports_named}
 use Rattle.sap_compile.proofs.stages.Declared.{of_port, of_port_name, of_wire_name, of_register, of_memory, register_alike, memory_alike, same_registers, same_memories, wire_read, some_wire}
 use Rattle.sap_compile.proofs.stages.Helping.{among_either, numbered_helping, helping_there}
 
@@ -130,7 +130,7 @@ module _ (given result : Net) (before : IsNetlist given) (after : IsNetlist resu
     IsNamed x = IsInterfaceName d sites x ⊎ IsHelpingName x
 
     of_given : (x : Name) → is_among x given.names ≡ true → IsNamed x
-    of_given x h = named_among (λ (y : Name). IsInterfaceName d sites y ⊎ IsHelpingName y) given.names from.interface.names x h
+    of_given x h = among_each (λ (y : Name). IsInterfaceName d sites y ⊎ IsHelpingName y) given.names from.interface.names x h
 
     wire_is : HelpersNamed result → (x : Name) → is_among x (wire_names result) ≡ true → IsNamed x
     wire_is named x h =
@@ -198,7 +198,7 @@ module _ (given result : Net) (before : IsNetlist given) (after : IsNetlist resu
         refusal_levels = λ k l i. (let a = are k l i in at_port _ (level_shown k a.0 a.1) ∙ h.refusal_levels k l i);
       }
 
-    cycles_stand : (vs ws : List Valuation) (run : List After) → AllShowAlike given result vs ws → RefusalsAreSites sites run → CyclesStand d sites (map (observed given) vs) run
+    cycles_stand : (vs ws : List Valuation) (run : List After) → AllZip (ShowsAlike given result) vs ws → RefusalsAreSites sites run → CyclesStand d sites (map (observed given) vs) run
         → CyclesStand d sites (map (observed result) ws) run
     cycles_stand [] [] run a r c = c
     cycles_stand [] (w ∷ ws) run a r c = absurd a

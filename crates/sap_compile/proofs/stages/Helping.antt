@@ -6,9 +6,10 @@ use Rattle.sap_net.proofs.NamesLemmas.{among_append}
 use Rattle.sap_maps.specs.Maps.{Name}
 use Rattle.sap_net.specs.Names.{is_among, IsHelpingName}
 use Rattle.sap_net.specs.declared.parts.Wire.{Wire}
+use Rattle.sap_net.specs.IsNetlist.{names_of}
 use Rattle.sap_interface.specs.StandsFor.{Named}
 use Rattle.sap_interface.specs.InterfaceNames.{IsInterfaceName, value_of, tag_of, state_tag_of, child_of, child_of_root, refusal_of, level_of}
-use Rattle.sap_trim.specs.Names.{helper, numbered, names_of}
+use Rattle.sap_trim.specs.Names.{helper, numbered}
 
 -- a name on one of two lists
 

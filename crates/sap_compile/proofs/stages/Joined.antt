@@ -1,10 +1,10 @@
 -- The netlist of nested states that stand for a design stands for it too.
 use Rattle.std.proofs.Common.{◌≡◌, ◌≤◌, ◌⊎◌, ℕ, List, [], ◌∷◌, ◌++◌, map, true, false, inl, inr, ◌↔◌, refl, sym, ap, ap₂, ◌∙◌, subst, if◌then◌else◌, bytes_eq}
-use Rattle.std.specs.List.{AllByRecursion}
+use Rattle.std.specs.List.{AllByRecursion, AllZip}
 use Rattle.std.proofs.lemmas.Bool.{cases_Bool}
 use Rattle.sap_lemmas.proofs.Everywhere.{all_follow, all_of_map, all_second}
 use Rattle.sap_lemmas.proofs.Texts.{bytes_eq_same}
-use Rattle.sap_net.proofs.NamesLemmas.{found_among, found_of}
+use Rattle.sap_net.proofs.NamesLemmas.{found_among, found_of, among_each}
 use Rattle.sap_maps.specs.Maps.{Name, Valuation}
 use Rattle.sap_maps.specs.Scope.{find}
 use Rattle.sap_meaning.specs.Cycle.{Tagged}
@@ -43,7 +43,7 @@ use Rattle.sap_interface.specs.Compiled.{coded_stream, CyclesStand, NetStandsFor
 use Rattle.sap_tagged.specs.Law.{HasVariable, HasStore, HasSeatRegister, AreSites, RefusalsAreSites, shows, shown, PlainStandsFor}
 use Rattle.sap_tagged.proofs.Members.{In}
 use Rattle.sap_compile.specs.Stages.Stages.{StandsForTheSame}
-use Rattle.sap_compile.proofs.stages.Ports.{all_front, named_among, variable_among, store_among, refused_port, level_port, ports_named, wire_among}
+use Rattle.sap_compile.proofs.stages.Ports.{all_front, variable_among, store_among, refused_port, level_port, ports_named, wire_among}
 use Rattle.sap_compile.proofs.stages.Alike.{port_named, helpers_named, stands_alike}
 use Rattle.sap_compile.proofs.stages.Declared.{memories_named}
 use Rattle.sap_compile.proofs.stages.Helping.{among_either, no_helper}
@@ -165,7 +165,7 @@ module _ (d : Named) (tag sites : ℕ) (p : Nested) (s : Source) (n : Net) (from
   kept_named x (inr (inr (inl h))) =
       store_among IsNamed p.memories from.interface.memory_names x (subst (λ (ms : List ir.Store). is_among x (memory_names ms) ≡ true) flattens.memories h)
   kept_named x (inr (inr (inr h))) =
-      named_among IsNamed p.ports outputs_named x (subst (λ (ns : List Name). is_among x ns ≡ true) flattens.ports (listed_port s.ports s.wires x h))
+      among_each IsNamed p.ports outputs_named x (subst (λ (ns : List Name). is_among x ns ≡ true) flattens.ports (listed_port s.ports s.wires x h))
 
   -- nothing that lasts is numbered
 
@@ -256,7 +256,7 @@ module _ (d : Named) (tag sites : ℕ) (p : Nested) (s : Source) (n : Net) (from
       refusal_levels = λ k l i. (let a = are k l i in of_wire _ _ (from.interface.site_wires k a.0 a.1).1 (level_shown k a.0 a.1) ∙ h.refusal_levels k l i);
     }
 
-  cycles_stand : (vs es fs : List Valuation) (run : List After) → low.AllSame s n vs es → flat.AllSame p es fs → RefusalsAreSites sites run → CyclesStand d sites fs run
+  cycles_stand : (vs es fs : List Valuation) (run : List After) → AllZip (low.SameNumbers s n) vs es → AllZip (flat.SameNumbers p) es fs → RefusalsAreSites sites run → CyclesStand d sites fs run
       → CyclesStand d sites (map (observed n) vs) run
   cycles_stand [] [] [] run a b r c = c
   cycles_stand [] [] (f ∷ fs) run a b r c = absurd b

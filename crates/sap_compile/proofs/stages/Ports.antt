@@ -24,11 +24,6 @@ pub all_front : {X : Type 0} (P : X → Type 0) (xs ys : List X) → AllByRecurs
 all_front P [] ys a = tt
 all_front P (x ∷ xs) ys a = (a.0, all_front P xs ys a.1)
 
-pub named_among : (P : Name → Type 0) (ns : List Name) → AllByRecursion P ns → (n : Name) → is_among n ns ≡ true → P n
-named_among P [] a n h = absurd (cc)
-named_among P (m ∷ ns) a n h =
-    elim (cases_Bool (bytes_eq n m)) [ inl t ↦ subst P (sym (equal_of_bytes_eq n m t)) a.0 | inr f ↦ named_among P ns a.1 n (rw f at h) ]
-
 pub variable_among : (P : Name → Type 0) (xs : List Var) → AllByRecursion (λ x. P x.name) xs → (n : Name) → is_among n (variable_names xs) ≡ true → P n
 variable_among P [] a n h = absurd (cc)
 variable_among P (x ∷ xs) a n h =

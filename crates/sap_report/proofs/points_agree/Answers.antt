@@ -1,5 +1,5 @@
-use Rattle.sap_report.proofs.Agreeing.{points_agree}
+use Rattle.std.proofs.Common.{refl}
 use Rattle.sap_report.proofs.points_agree.Goals as goal
 
 pub returns : goal.returns
-returns c = points_agree
+returns c d = refl

@@ -1,6 +1,7 @@
 -- What hangs on the commands of a program is what they touch in the tree.
 use Rattle.std.proofs.Common.{◌≡◌, ℕ, suc, ◌+◌, ◌<◌, Bool, true, false, ◌&&◌, ◌||◌, List, [], ◌∷◌, ◌++◌, length, map, nat_eq, refl, sym, ap, ◌∙◌, arith, bytes_eq, Option, Some, None}
 use Rattle.std.proofs.lemmas.List.{map-append}
+use Rattle.std.proofs.lemmas.Simd.{map-map}
 use Rattle.sap_lemmas.proofs.Numbers.{test_of_same}
 use Rattle.sap_lemmas.proofs.Texts.{bytes_eq_same, equal_of_bytes_eq}
 use Rattle.std.proofs.lemmas.Bool.{eqb-true, false_from_ne_true, or_left, or_right}
@@ -10,6 +11,7 @@ use Rattle.sap_tree.specs.declared.name.Mention.{Mention}
 use Rattle.sap_tree.specs.declared.syntax.Decl.{Decl}
 use Rattle.sap_tree.specs.declared.syntax.Kind.{Kind}
 use Rattle.sap_tree.specs.Syntax.{SimpleCommand, Assign, Write, SetTag, SetCellTag, Goto, Fall, Command, Do, Try, If, TryThen, Case, Arms, Last, Arm, CommandBlock, Commands, ElseBlock, NoElse, Else, CommandList, NoCommand, AndCommand, StateTree, StateOf, StateList, NoState, AndState}
+use Rattle.sap_tree.specs.Points as points
 use Rattle.sap_tree.specs.Touches as tree
 use Rattle.sap_tree.specs.Touches.{is_dynamic_store, is_dynamic_child, fall_touches, simple_touches, root_touches}
 use Rattle.sap_lattice.specs.Levels.{Levels, order_of}
@@ -19,13 +21,12 @@ use Rattle.sap_names.specs.declared.kind.Use.TheVariants.{Assigned as assigning,
 use Rattle.sap_names.specs.Entities.{entities_of, what_is}
 use Rattle.sap_names.specs.NameFaults.{name_faults, expression_faults, simple_faults, command_faults, block_faults, else_faults, arms_faults, constants_faults, commands_faults, kind_faults, state_faults, states_faults, declarations_faults, twice}
 use Rattle.sap_names.specs.Widths.{own as own_of, index_width, register_width, cell_width}
-use Rattle.sap_hang.specs.Points as hang
 use Rattle.sap_meaning.specs.Program.{World, Group, is_dynamic, is_register, is_memory, root}
 use Rattle.sap_meaning.specs.Touches.{step_assigns, assigns, arms_assign, block_assigns, state_assigns, group_assigns, among, step_hangs, hangs, arms_hang, block_hangs, touches}
 use Rattle.sap_meaning.specs.Checks.{Spot}
 use Rattle.sap_resolve.specs.Fill.{table, filled, filled_arms, filled_block, filled_state, filled_group}
 use Rattle.sap_resolve.specs.Resolve.{site_number, step_of, command_of, arms_of, block_of, else_of, list_of, state_of, group_of}
-use Rattle.sap_shape.specs.Sites.{Context, simple_sites, command_sites, block_sites, state_sites}
+use Rattle.sap_shape.specs.Sites.{Surroundings, simple_sites, command_sites, block_sites, state_sites}
 use Rattle.sap_resolve.specs.Terms.{entity_number}
 use Rattle.sap_resolve.specs.Worlds.{states_in, world_of}
 use Rattle.sap_resolve.proofs.Lookup.{entities_length}
@@ -91,7 +92,7 @@ module _ (ls : Levels) (le : ℕ → ℕ → Bool) (ds : List Decl) (es : List E
 
   -- what is assigned, in the body of a state
   module _ (home : tree.Home) where
-    abbrev h : Context
+    abbrev h : Surroundings
     h = record { entities = es; home = home }
 
     simple_same : (m : ℕ) (c : SimpleCommand) → simple_faults ls.names means c ≡ []
@@ -213,7 +214,7 @@ module _ (ls : Levels) (le : ℕ → ℕ → Bool) (ds : List Decl) (es : List E
         → (is_dynamic_store ds n && tree.state_assigns s n) ≡ (is_dynamic w x && state_assigns (state_of ls es m y s) x)
     state_same m y (StateOf place name kind body children) f =
         let p = none_three (kind_faults ls.names le kind) (block_faults ls.names means body) (states_faults ls.names le means children) f in
-        let h : Context = record { entities = es; home = tree.home_of (StateOf place name kind body children) } in
+        let h : Surroundings = record { entities = es; home = tree.home_of (StateOf place name kind body children) } in
         and_or (is_dynamic_store ds n) (is_dynamic w x) _ _ _ _ (block_same h.home m body p.1) (states_same (m + length (block_sites h body)) (y + 1) children p.2)
 
     states_same : (m y : ℕ) (g : StateList) → states_faults ls.names le means g ≡ []
@@ -261,21 +262,27 @@ module _ (ls : Levels) (le : ℕ → ℕ → Bool) (ds : List Decl) (es : List E
   tabled : (f : ℕ → Bool) (g : List ℕ → Bool) → ((x : ℕ) → x < length es → g (name_at es x) ≡ f x) → table (root w) f ≡ row_of es g
   tabled f g h = ap (λ (m : ℕ). table m f) size ∙ row_is es f g (λ x l. sym (h x l))
 
-  pointed : List hang.Point → List (List Bool)
+  pointed : List points.Point → List (List Bool)
   pointed ps = map (point_row ds es) ps
 
-  parts : (p q : List hang.Point) (a b : List (List Bool)) → a ≡ pointed p → b ≡ pointed q → (a ++ b) ≡ pointed (p ++ q)
-  unfolding pointed
-  parts p q a b h i = ap (λ (l : List (List Bool)). l ++ b) h ∙ ap (λ (l : List (List Bool)). map (point_row ds es) p ++ l) i ∙ sym (map-append (point_row ds es) p q)
+  parts : {A : Type 0} (f : A → List Bool) (p q : List A) (a b : List (List Bool)) → a ≡ map f p → b ≡ map f q → (a ++ b) ≡ map f (p ++ q)
+  parts f p q a b h i = ap (λ (l : List (List Bool)). l ++ b) h ∙ ap (λ (l : List (List Bool)). map f p ++ l) i ∙ sym (map-append f p q)
 
   module _ (home : tree.Home) (s parent : ℕ) (g : Group)
       (own : (x : ℕ) → x < length es → (tree.is_dynamic_kind home.kind && bytes_eq home.name (name_at es x)) ≡ (is_dynamic w x && nat_eq x s))
       (falls : (x : ℕ) → x < length es → fall_touches ds home.children (name_at es x) ≡ (is_dynamic w x && (among g x || group_assigns g x))) where
-    abbrev here : Context
+    abbrev here : Surroundings
     here = record { entities = es; home = home }
 
     abbrev at : Spot
     at = record { state = s; parent = parent; children = g }
+
+    -- of commands of this body
+    abbrev command_at : Command → List Bool
+    command_at c = row_of es (tree.touches ds home c)
+
+    told_rows : List Command → List (List Bool)
+    told_rows cs = map command_at cs
 
     command_row : (m : ℕ) (c : Command) → command_faults ls.names what c ≡ []
         → table (root w) (touches w at (command_of ls here m c)) ≡ row_of es (tree.touches ds home c)
@@ -284,8 +291,8 @@ module _ (ls : Levels) (le : ℕ → ℕ → Bool) (ds : List Decl) (es : List E
         (λ x l. command_touched ls le ds es w k kinds x (same x l) (store x l) home s g (own x l) (falls x l) m c f)
 
     simple_rows : (m : ℕ) (c : SimpleCommand) → simple_faults ls.names what c ≡ []
-        → rows (filled w at (command_of ls here m (Do c))) ≡ pointed (hang.simple_points home c)
-    unfolding pointed
+        → rows (filled w at (command_of ls here m (Do c))) ≡ told_rows (points.simple_points c)
+    unfolding told_rows
     simple_rows m (Assign target e) f = refl
     simple_rows m (Write target index e) f = refl
     simple_rows m (SetTag place target tag) f = refl
@@ -294,14 +301,14 @@ module _ (ls : Levels) (le : ℕ → ℕ → Bool) (ds : List Decl) (es : List E
     simple_rows m (Fall place) f = ap (λ (l : List Bool). l ∷ []) (command_row m (Do (Fall place)) f)
 
     mutual
-      unfolding pointed
+      unfolding told_rows
 
       command_rows : (m : ℕ) (c : Command) → command_faults ls.names what c ≡ []
-          → rows (filled w at (command_of ls here m c)) ≡ pointed (hang.command_points home c)
+          → rows (filled w at (command_of ls here m c)) ≡ told_rows (points.command_points c)
       command_rows m (Do c) f = simple_rows m c f
       command_rows m (Try c place handler) f =
           let p = none_two (simple_faults ls.names what c) (block_faults ls.names what handler) f in
-          parts (hang.simple_points home c) (hang.point home (Try c place handler) ∷ hang.block_points home handler) _ _ (simple_rows m c p.0)
+          parts command_at (points.simple_points c) (Try c place handler ∷ points.block_points handler) _ _ (simple_rows m c p.0)
           (ap (λ (l : List Bool). l ∷ block_rows (filled_block w at (block_of ls here (m + length (simple_sites here c)) handler))) (command_row m (Try c place handler) f)
           ∙ ap (λ (l : List (List Bool)). row_of es (tree.touches ds home (Try c place handler)) ∷ l) (body_rows (m + length (simple_sites here c)) handler p.1))
       command_rows m (If place condition one other) f =
@@ -309,16 +316,16 @@ module _ (ls : Levels) (le : ℕ → ℕ → Bool) (ds : List Decl) (es : List E
           let c = If place condition one other in
           ap (λ (l : List Bool). l ∷ (block_rows (filled_block w at (block_of ls here m one)) ++ block_rows (filled_block w at (else_of ls here (m + length (block_sites here one)) other)))) (command_row m c f)
           ∙ ap (λ (l : List (List Bool)). row_of es (tree.touches ds home c) ∷ l)
-          (parts (hang.block_points home one) (hang.else_points home other) _ _ (body_rows m one p.1) (else_rows (m + length (block_sites here one)) other p.2))
+          (parts command_at (points.block_points one) (points.else_points other) _ _ (body_rows m one p.1) (else_rows (m + length (block_sites here one)) other p.2))
       command_rows m (TryThen c place one other) f =
           let p = none_three (simple_faults ls.names what c) (block_faults ls.names what one) (block_faults ls.names what other) f in
           let i = m + length (simple_sites here c) in
           let j = i + length (block_sites here one) in
           let d = TryThen c place one other in
-          parts (hang.simple_points home c) (hang.point home d ∷ (hang.block_points home one ++ hang.block_points home other)) _ _ (simple_rows m c p.0)
+          parts command_at (points.simple_points c) (d ∷ (points.block_points one ++ points.block_points other)) _ _ (simple_rows m c p.0)
           (ap (λ (l : List Bool). l ∷ (block_rows (filled_block w at (block_of ls here i one)) ++ block_rows (filled_block w at (block_of ls here j other)))) (command_row m d f)
           ∙ ap (λ (l : List (List Bool)). row_of es (tree.touches ds home d) ∷ l)
-          (parts (hang.block_points home one) (hang.block_points home other) _ _ (body_rows i one p.1) (body_rows j other p.2)))
+          (parts command_at (points.block_points one) (points.block_points other) _ _ (body_rows i one p.1) (body_rows j other p.2)))
       command_rows m (Case place e arms) f =
           let p = none_two (expression_faults what e None) (arms_faults ls.names what (own_of what e) arms) f in
           let c = Case place e arms in
@@ -326,51 +333,53 @@ module _ (ls : Levels) (le : ℕ → ℕ → Bool) (ds : List Decl) (es : List E
           ∙ ap (λ (l : List (List Bool)). row_of es (tree.touches ds home c) ∷ l) (all_rows m (own_of what e) arms p.1)
 
       all_rows : (m : ℕ) (asked : Option ℕ) (arms : Arms) → arms_faults ls.names what asked arms ≡ []
-          → arms_rows (filled_arms w at (arms_of ls here m arms)) ≡ pointed (hang.arms_points home arms)
+          → arms_rows (filled_arms w at (arms_of ls here m arms)) ≡ told_rows (points.arms_points arms)
       all_rows m asked (Last b) f = body_rows m b f
       all_rows m asked (Arm constants b arms) f =
           let p = none_three (constants_faults what asked constants) (block_faults ls.names what b) (arms_faults ls.names what asked arms) f in
-          parts (hang.block_points home b) (hang.arms_points home arms) _ _ (body_rows m b p.1) (all_rows (m + length (block_sites here b)) asked arms p.2)
+          parts command_at (points.block_points b) (points.arms_points arms) _ _ (body_rows m b p.1) (all_rows (m + length (block_sites here b)) asked arms p.2)
 
       body_rows : (m : ℕ) (b : CommandBlock) → block_faults ls.names what b ≡ []
-          → block_rows (filled_block w at (block_of ls here m b)) ≡ pointed (hang.block_points home b)
+          → block_rows (filled_block w at (block_of ls here m b)) ≡ told_rows (points.block_points b)
       body_rows m (Commands cs after) f = list_rows m cs f
 
       else_rows : (m : ℕ) (b : ElseBlock) → else_faults ls.names what b ≡ []
-          → block_rows (filled_block w at (else_of ls here m b)) ≡ pointed (hang.else_points home b)
+          → block_rows (filled_block w at (else_of ls here m b)) ≡ told_rows (points.else_points b)
       else_rows m NoElse f = refl
       else_rows m (Else b) f = body_rows m b f
 
       list_rows : (m : ℕ) (cs : CommandList) → commands_faults ls.names what cs ≡ []
-          → block_rows (filled_block w at (list_of ls here m cs)) ≡ pointed (hang.list_points home cs)
+          → block_rows (filled_block w at (list_of ls here m cs)) ≡ told_rows (points.list_points cs)
       list_rows m NoCommand f = refl
       list_rows m (AndCommand c cs) f =
           let p = none_two (command_faults ls.names what c) (commands_faults ls.names what cs) f in
-          parts (hang.command_points home c) (hang.list_points home cs) _ _ (command_rows m c p.0) (list_rows (m + length (command_sites here c)) cs p.1)
+          parts command_at (points.command_points c) (points.list_points cs) _ _ (command_rows m c p.0) (list_rows (m + length (command_sites here c)) cs p.1)
 
   mutual
-    unfolding pointed
+    unfolding pointed told_rows
 
     tree_rows : (parent m a y : ℕ) (s : StateTree) → LaidState ls es w a y s → state_faults ls.names le what s ≡ []
-        → state_rows (filled_state w parent (state_of ls es m y s)) ≡ pointed (hang.state_points s)
+        → state_rows (filled_state w parent (state_of ls es m y s)) ≡ pointed (points.state_points s)
     tree_rows parent m a y (StateOf place name kind body children) l f =
         let p = none_three (kind_faults ls.names le kind) (block_faults ls.names what body) (states_faults ls.names le what children) f in
         let home = tree.home_of (StateOf place name kind body children) in
-        let h : Context = record { entities = es; home = home } in
+        let h : Surroundings = record { entities = es; home = home } in
         let i = m + length (block_sites h body) in
         let below = laid_below ls es w a y place name kind body children l in
-        parts (hang.block_points home body) (hang.states_points children) _ _
+        let at = points.point home in
+        parts (point_row ds es) (map at (points.block_points body)) (points.states_points children) _ _
         (body_rows home y parent (group_of ls es i (y + 1) children)
         (λ x z. own_same ls le ds es w k kinds x (same x z) (store x z) a y place name kind body children l)
-        (λ x z. falls_same ls le ds es w k kinds x (same x z) (store x z) i 0 (y + 1) children below p.2) m body p.1)
+        (λ x z. falls_same ls le ds es w k kinds x (same x z) (store x z) i 0 (y + 1) children below p.2) m body p.1
+        ∙ sym (map-map (point_row ds es) at (points.block_points body)))
         (trees_rows y i 0 (y + 1) children below p.2)
 
     trees_rows : (parent m a y : ℕ) (g : StateList) → Laid ls es w a y g → states_faults ls.names le what g ≡ []
-        → group_rows (filled_group w parent (group_of ls es m y g)) ≡ pointed (hang.states_points g)
+        → group_rows (filled_group w parent (group_of ls es m y g)) ≡ pointed (points.states_points g)
     trees_rows parent m a y NoState l f = refl
     trees_rows parent m a y (AndState s rest) l f =
         let p = none_two (state_faults ls.names le what s) (states_faults ls.names le what rest) f in
-        parts (hang.state_points s) (hang.states_points rest) _ _ (tree_rows parent m a y s (laid_first ls es w a y s rest l) p.0)
+        parts (point_row ds es) (points.state_points s) (points.states_points rest) _ _ (tree_rows parent m a y s (laid_first ls es w a y s rest l) p.0)
         (trees_rows parent (m + length (state_sites es s)) (suc a) (y + states_in s) rest (laid_rest ls es w a y s rest l) p.1)
 
 -- a name and a number are those of one entity, or neither

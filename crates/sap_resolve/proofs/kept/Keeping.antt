@@ -23,7 +23,7 @@ use Rattle.sap_meaning.specs.Program.{World, entity, kind_is_state}
 use Rattle.sap_meaning.specs.Program as program
 use Rattle.sap_meaning.specs.Checks.{Spot}
 use Rattle.sap_resolve.specs.Worlds.{states_in, declared_level, authority_level, authority_of, is_dynamic_kind}
-use Rattle.sap_shape.specs.Sites.{Context, simple_sites, command_sites, block_sites, state_sites}
+use Rattle.sap_shape.specs.Sites.{Surroundings, simple_sites, command_sites, block_sites, state_sites}
 use Rattle.sap_resolve.specs.Terms.{known, entity_number, widened, term_of, parts_of, level_term, level_terms}
 use Rattle.sap_resolve.specs.Resolve.{site_number, step_of, number_of, numbers_of, command_of, arms_of, block_of, else_of, list_of, state_of, group_of}
 use Rattle.sap_resolve.specs.Fill.{filled_step, filled, filled_arms, filled_block, filled_state, filled_group}
@@ -180,7 +180,7 @@ constants_kept NoPart = tt
 constants_kept (AndPart e parts) = (constant_kept e, constants_kept parts)
 
 -- commands in the body of a state
-module _ (ls : Levels) (h : Context) (k : Known h.entities) (w : World) (at : Spot) where
+module _ (ls : Levels) (h : Surroundings) (k : Known h.entities) (w : World) (at : Spot) where
   abbrev names : List Entity
   names = h.entities
 
@@ -266,7 +266,7 @@ module _ (ls : Levels) (le : ℕ → ℕ → Bool) (es : List Entity) (w : World
     state_kept : (p n m x : ℕ) (s : StateTree) → LaidState ls es w m x s → state_faults ls.names le (what_is es) s ≡ []
         → IsState ls es w s (filled_state w p (state_of ls es n x s))
     state_kept p n m x (StateOf place name kind body children) laid f =
-        let h : Context = record { entities = es; home = record { name = name.name; kind = kind; children = children } } in
+        let h : Surroundings = record { entities = es; home = record { name = name.name; kind = kind; children = children } } in
         let j = none_three (kind_faults ls.names le kind) (block_faults ls.names (what_is es) body) (states_faults ls.names le (what_is es) children) f in
         let e : entity w x ≡ state_entity ls m x kind children = laid_entity ls es w m x place name kind body children laid in
         let i : IsOfKind ls kind (entity w x) = record {

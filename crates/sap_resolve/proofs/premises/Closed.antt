@@ -7,10 +7,10 @@ use Rattle.sap_lattice.specs.Levels.{Levels}
 use Rattle.sap_names.specs.declared.fault.Fault.{Fault}
 use Rattle.sap_shape.specs.Closing.{transfer_faults, then_faults, open_faults, open_arms_faults, open_block_faults, open_else_faults, open_list_faults, last_simple_faults, last_faults, closing_arms_faults, closing_faults, closing_else_faults, closing_list_faults}
 use Rattle.sap_meaning.specs.Fine.{transfers, Open, OpenArms, OpenBlock, Closes, Final, ClosingArms}
-use Rattle.sap_shape.specs.Sites.{Context, simple_sites, block_sites, command_sites}
+use Rattle.sap_shape.specs.Sites.{Surroundings, simple_sites, block_sites, command_sites}
 use Rattle.sap_resolve.specs.Resolve.{site_number, step_of, command_of, arms_of, block_of, else_of, list_of}
 
-module _ (ls : Levels) (h : Context) where
+module _ (ls : Levels) (h : Surroundings) where
   pub open_step : (n : ℕ) (c : SimpleCommand) → transfer_faults c ≡ [] → transfers (step_of ls h n c) ≡ false
   open_step n (Assign target e) f = refl
   open_step n (Write target index e) f = refl

@@ -14,7 +14,7 @@ use Rattle.sap_meaning.specs.Program.{World, Block, Group, last}
 use Rattle.sap_meaning.specs.Touches.{among}
 use Rattle.sap_meaning.specs.Fine.{FineNode, FineState, FineGroup, number_of}
 use Rattle.sap_resolve.specs.Worlds.{states_in}
-use Rattle.sap_shape.specs.Sites.{Context, block_sites, state_sites}
+use Rattle.sap_shape.specs.Sites.{Surroundings, block_sites, state_sites}
 use Rattle.sap_resolve.specs.Resolve.{block_of, state_of, group_of}
 use Rattle.sap_resolve.specs.Terms.{entity_number}
 use Rattle.sap_resolve.specs.Named.{NamedState, NamedGroup}
@@ -40,7 +40,7 @@ module _ (ls : Levels) (levels : List (List ℕ)) (le : ℕ → ℕ → Bool) (e
         → state_faults levels le (what_is es) s ≡ [] → state_shape es group above s ≡ []
         → NamedState w (state_of ls es k x s) → FineState w q n (state_of ls es k x s)
     fine_state k n x q group above (StateOf place name kind body children) laid targets f s i =
-        let h : Context = record { entities = es; home = record { name = name.name; kind = kind; children = children } } in
+        let h : Surroundings = record { entities = es; home = record { name = name.name; kind = kind; children = children } } in
         let at : Body = record { home = record { name = name.name; kind = kind; children = children }; group = group; above = above } in
         let b : Block = block_of ls h k body in
         let k' : ℕ = k + length (block_sites h body) in

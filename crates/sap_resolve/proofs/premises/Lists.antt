@@ -14,7 +14,7 @@ use Rattle.sap_meaning.specs.Checks.{Spot}
 use Rattle.sap_meaning.specs.Touches.{among, step_assigns, assigns, arms_assign, block_assigns, state_assigns, group_assigns, step_hangs, hangs, arms_hang, block_hangs, touches, root_touches}
 use Rattle.sap_meaning.specs.Fine.{ExactStep, Exact, ExactArms, ExactBlock, ExactState, ExactGroup, ExactProgram}
 use Rattle.sap_resolve.specs.Worlds.{states_in, states_below, group_entities, world_of}
-use Rattle.sap_shape.specs.Sites.{Context, simple_sites, block_sites, command_sites, state_sites}
+use Rattle.sap_shape.specs.Sites.{Surroundings, simple_sites, block_sites, command_sites, state_sites}
 use Rattle.sap_resolve.specs.Resolve.{site_number, step_of, command_of, arms_of, block_of, else_of, list_of, state_of, group_of}
 use Rattle.sap_resolve.specs.Terms.{known, entity_number}
 use Rattle.sap_resolve.specs.Fill.{table, filled_step, filled, filled_arms, filled_block, filled_state, filled_group, program_of}
@@ -87,7 +87,7 @@ module _ (r x : ℕ) where
   low_equal : (y : ℕ) → y < r → Low (nat_eq x y)
   low_equal y l h = let e = eqb-true x y h in omega arith
 
-  module _ (ls : Levels) (h : Context) (bound : (name : List ℕ) → entity_number h.entities name < r) where
+  module _ (ls : Levels) (h : Surroundings) (bound : (name : List ℕ) → entity_number h.entities name < r) where
     step_assigned : (n : ℕ) (c : SimpleCommand) → Low (step_assigns (step_of ls h n c) x)
     step_assigned n (Assign target e) = low_equal (entity_number h.entities target.name) (bound target.name)
     step_assigned n (Write target index e) = low_equal (entity_number h.entities target.name) (bound target.name)
@@ -179,7 +179,7 @@ module _ (r x : ℕ) where
     mutual
       state_assigned : (k n : ℕ) (t : StateTree) → ((name : List ℕ) → entity_number es name < r) → Low (state_assigns (state_of ls es k n t) x)
       state_assigned k n (StateOf place name kind body children) bound =
-          let h : Context = record { entities = es; home = record { name = name.name; kind = kind; children = children } } in
+          let h : Surroundings = record { entities = es; home = record { name = name.name; kind = kind; children = children } } in
           low_or (block_assigns (block_of ls h k body) x) (group_assigns (group_of ls es (k + length (block_sites h body)) (n + 1) children) x)
           (block_assigned ls h bound k body) (group_assigned (k + length (block_sites h body)) (n + 1) children bound)
 
@@ -199,7 +199,7 @@ module _ (r x : ℕ) where
         (group_low (k + length (state_sites es t)) (n + states_in t) rest later)
 
 module _ (ls : Levels) (w : World) where
-  module _ (h : Context) (bound : (name : List ℕ) → entity_number h.entities name < root w) (s p : ℕ) (own : s < root w) (g : Group)
+  module _ (h : Surroundings) (bound : (name : List ℕ) → entity_number h.entities name < root w) (s p : ℕ) (own : s < root w) (g : Group)
       (kids : (x : ℕ) → Low (root w) x (among g x)) (below : (x : ℕ) → Low (root w) x (group_assigns g x)) where
     abbrev Before : Spot
     Before = record { state = s; parent = p; children = g }
@@ -253,7 +253,7 @@ module _ (ls : Levels) (w : World) where
     mutual
       exact_state : (k n p : ℕ) (t : StateTree) → n + states_in t ≤ root w → ExactState w p (filled_state w p (state_of ls es k n t))
       exact_state k n p (StateOf place name kind body children) within =
-          let h : Context = record { entities = es; home = record { name = name.name; kind = kind; children = children } } in
+          let h : Surroundings = record { entities = es; home = record { name = name.name; kind = kind; children = children } } in
           let k' : ℕ = k + length (block_sites h body) in
           let g : Group = group_of ls es k' (n + 1) children in
           let own : n < root w = omega arith in

@@ -15,7 +15,7 @@ use Rattle.sap_meaning.specs.Program.{World, Entity, is_state, is_dynamic, root,
 use Rattle.sap_meaning.specs.Touches.{among}
 use Rattle.sap_meaning.specs.Fine.{size, inside, number_of}
 use Rattle.sap_resolve.specs.Worlds.{states_in, states_below, group_length, is_dynamic_kind}
-use Rattle.sap_shape.specs.Sites.{Context, block_sites, state_sites}
+use Rattle.sap_shape.specs.Sites.{Surroundings, block_sites, state_sites}
 use Rattle.sap_resolve.specs.Resolve.{state_of, group_of}
 use Rattle.sap_resolve.specs.Terms.{entity_number}
 use Rattle.sap_resolve.proofs.premises.Places.{Laid, LaidState, laid_first, laid_rest, laid_below, laid_entity, laid_name, laid_named, laid_within, name_at}
@@ -42,9 +42,9 @@ module _ (ls : Levels) (es : List declared_entity.Entity) (w : World) where
   inside_of k n x NoState laid y h = cc
   inside_of k n x (AndState (StateOf p name kind body children) rest) laid y h =
       let s : StateTree = StateOf p name kind body children in
-      let context : Context = record { entities = es; home = record { name = name.name; kind = kind; children = children } } in
+      let surroundings : Surroundings = record { entities = es; home = record { name = name.name; kind = kind; children = children } } in
       let mine : LaidState ls es w n x s = laid_first ls es w n x s rest laid in
-      let here : Group = group_of ls es (k + length (block_sites context body)) (x + 1) children in
+      let here : Group = group_of ls es (k + length (block_sites surroundings body)) (x + 1) children in
       let later : Group = group_of ls es (k + length (state_sites es s)) (x + states_in s) rest in
       elim (or_cases (nat_eq y x) (inside here y || inside later y) h) [
         | inl e ↦
@@ -60,7 +60,7 @@ module _ (ls : Levels) (es : List declared_entity.Entity) (w : World) where
             })
         | inr e ↦ elim (or_cases (inside here y) (inside later y) e) [
           | inl i ↦
-              let r : Inside (x + 1) children y = inside_of (k + length (block_sites context body)) 0 (x + 1) children (laid_below ls es w n x p name kind body children mine) y i in
+              let r : Inside (x + 1) children y = inside_of (k + length (block_sites surroundings body)) 0 (x + 1) children (laid_below ls es w n x p name kind body children mine) y i in
               let f = r.from in
               let t = r.to in
               record {

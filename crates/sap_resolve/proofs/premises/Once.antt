@@ -21,7 +21,7 @@ use Rattle.sap_shape.specs.ShapeFaults.{state_shape, states_shape}
 use Rattle.sap_meaning.specs.Program.{World, Group}
 use Rattle.sap_meaning.specs.Fine.{step_writes, step_reaching, reaching, arms_reaching, block_reaching, state_reaches, group_reaches, OnceStep, Once, OnceArms, OnceBlock, OnceState, OnceGroup}
 use Rattle.sap_resolve.specs.Worlds.{states_in}
-use Rattle.sap_shape.specs.Sites.{Context, simple_sites, block_sites, command_sites, state_sites}
+use Rattle.sap_shape.specs.Sites.{Surroundings, simple_sites, block_sites, command_sites, state_sites}
 use Rattle.sap_resolve.specs.Resolve.{site_number, step_of, command_of, arms_of, block_of, else_of, list_of, state_of, group_of}
 use Rattle.sap_resolve.specs.Terms.{entity_number}
 use Rattle.sap_resolve.proofs.Lookup.{AllMatch}
@@ -59,7 +59,7 @@ module _ (a : List ℕ) where
     past_commands NoCommand p h = h
     past_commands (AndCommand c cs) p h = past_commands cs (past c p) (past_command c p h)
 
-module _ (ls : Levels) (levels : List (List ℕ)) (h : Context) (w : World) (match : AllMatch h.entities w.entities) where
+module _ (ls : Levels) (levels : List (List ℕ)) (h : Surroundings) (w : World) (match : AllMatch h.entities w.entities) where
   abbrev What : Lookup
   What = what_is h.entities
 
@@ -399,7 +399,7 @@ module _ (ls : Levels) (levels : List (List ℕ)) (le : ℕ → ℕ → Bool) (e
     state_unreached : (k x : ℕ) (s : StateTree) → state_faults levels le (what_is es) s ≡ [] → (p : Written) → p (name_at es m) ≡ true → second_state s p ≡ []
         → state_reaches (state_of ls es k x s) m ≡ false
     state_unreached k x (StateOf place name kind body children) f p i s =
-        let h : Context = record { entities = es; home = record { name = name.name; kind = kind; children = children } } in
+        let h : Surroundings = record { entities = es; home = record { name = name.name; kind = kind; children = children } } in
         let g : Group = group_of ls es (k + length (block_sites h body)) (x + 1) children in
         body_unreached ls levels h w match (group_reaches g) m k body
         (body_fits levels (what_is es) le place name kind body children f)
@@ -421,7 +421,7 @@ module _ (ls : Levels) (levels : List (List ℕ)) (le : ℕ → ℕ → Bool) (e
     once_state : (k x : ℕ) (group : StateList) (above : List (List ℕ)) (s : StateTree) → state_faults levels le (what_is es) s ≡ [] → state_shape es group above s ≡ []
         → (p : Written) → second_state s p ≡ [] → OnceState (state_of ls es k x s)
     once_state k x group above (StateOf place name kind body children) f s p once =
-        let h : Context = record { entities = es; home = record { name = name.name; kind = kind; children = children } } in
+        let h : Surroundings = record { entities = es; home = record { name = name.name; kind = kind; children = children } } in
         let g : Group = group_of ls es (k + length (block_sites h body)) (x + 1) children in
         let fitting = below_fits levels (what_is es) le place name kind body children f in
         let closing : closing_faults body ≡ [] = nil_left _ _ (nil_left _ _ s) in

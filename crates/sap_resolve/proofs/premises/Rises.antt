@@ -12,7 +12,7 @@ use Rattle.sap_names.specs.Entities.{what_is}
 use Rattle.sap_names.specs.Widths.{own as own_width}
 use Rattle.sap_names.specs.declared.kind.Use.TheVariants.{Assigned as assigned, Indexed as indexed, Entered as entered}
 use Rattle.sap_names.specs.NameFaults.{simple_faults, command_faults, block_faults, arms_faults, else_faults, commands_faults, state_faults, states_faults}
-use Rattle.sap_shape.specs.Sites.{is_enforced, is_enforced_kind, any_enforced, Context, CheckSite, simple_sites}
+use Rattle.sap_shape.specs.Sites.{is_enforced, is_enforced_kind, any_enforced, Surroundings, CheckSite, simple_sites}
 use Rattle.sap_shape.specs.Sites as shape
 use Rattle.sap_meaning.specs.Program as program
 use Rattle.sap_meaning.specs.Program.{World, is_dynamic, Step, Block, State, Node, Group, None, More}
@@ -66,7 +66,7 @@ module _ (ls : Levels) (es : List declared_entity.Entity) (w : World) where
       (ap (λ (b : Bool). not b) (here_dynamic ls es w n x place name kind body children mine) ∙ enforced_kind kind)
       (some_same (k + length (shape.state_sites es s)) (suc n) (x + states_in s) rest (laid_rest ls es w n x s rest laid))
 
-module _ (ls : Levels) (levels : List (List ℕ)) (h : Context) (w : World) (match : AllMatch h.entities w.entities)
+module _ (ls : Levels) (levels : List (List ℕ)) (h : Surroundings) (w : World) (match : AllMatch h.entities w.entities)
     (x : ℕ) (g : Group) (own : not (is_dynamic w x) ≡ is_enforced_kind h.home.kind) (kids : some_enforced w g ≡ any_enforced h.home.children) where
   abbrev What : tree.Lookup
   What = what_is h.entities
@@ -99,7 +99,7 @@ module _ (ls : Levels) (levels : List (List ℕ)) (h : Context) (w : World) (mat
   step_counted k c f =
       ap (λ (b : Bool). if b then site_of (step_of ls h (site_number h k c) c) ∷ [] else []) (site_same (site_number h k c) c f)
       ∙ ap (λ (n : ℕ). if shape.is_site h.entities h.home.kind h.home.children c then n ∷ [] else []) (site_is (site_number h k c) c)
-      ∙ one_site k (shape.is_site h.entities h.home.kind h.home.children c) (record { context = h; command = c })
+      ∙ one_site k (shape.is_site h.entities h.home.kind h.home.children c) (record { surroundings = h; command = c })
 
   mutual
     command_counted : (k : ℕ) (c : Command) → command_faults levels What c ≡ []
@@ -157,7 +157,7 @@ module _ (ls : Levels) (levels : List (List ℕ)) (le : ℕ → ℕ → Bool) (e
     state_counted : (k n x : ℕ) (s : StateTree) → LaidState ls es w n x s → state_faults levels le (what_is es) s ≡ []
         → state_sites w (state_of ls es k x s) ≡ count_from (length (shape.state_sites es s)) k
     state_counted k n x (StateOf place name kind body children) laid f =
-        let h : Context = record { entities = es; home = record { name = name.name; kind = kind; children = children } } in
+        let h : Surroundings = record { entities = es; home = record { name = name.name; kind = kind; children = children } } in
         let k' : ℕ = k + length (shape.block_sites h body) in
         let g : Group = group_of ls es k' (x + 1) children in
         let below : Laid ls es w 0 (x + 1) children = laid_below ls es w n x place name kind body children laid in

@@ -14,7 +14,7 @@ use Rattle.sap_names.specs.Widths.{own}
 use Rattle.sap_names.specs.declared.kind.Use.TheVariants.{Indexed as indexed, Retagged as retagged}
 use Rattle.sap_names.specs.NameFaults.{fault_if, simple_faults, command_faults, block_faults, arms_faults, else_faults, commands_faults, state_faults, states_faults}
 use Rattle.sap_shape.specs.Closing.{transfer_faults, closing_faults}
-use Rattle.sap_shape.specs.Sites.{is_dynamic, Context, simple_sites, block_sites, command_sites, state_sites}
+use Rattle.sap_shape.specs.Sites.{is_dynamic, Surroundings, simple_sites, block_sites, command_sites, state_sites}
 use Rattle.sap_shape.specs.ShapeFaults.{Body, is_among, is_in, is_leaf, is_comparable, simple_shape, then_shape, command_shape, block_shape, arms_shape, else_shape, list_shape, state_shape, states_shape}
 use Rattle.sap_meaning.specs.Program.{World, Group}
 use Rattle.sap_meaning.specs.Touches.{among}
@@ -33,7 +33,7 @@ pub some_child : (ls : Levels) (es : List Entity) (k x : ℕ) (g : StateList) �
 some_child ls es k x NoState h = cc
 some_child ls es k x (AndState s rest) h = omega arith
 
-module _ (ls : Levels) (levels : List (List ℕ)) (h : Context) (w : World) (match : AllMatch h.entities w.entities) where
+module _ (ls : Levels) (levels : List (List ℕ)) (h : Surroundings) (w : World) (match : AllMatch h.entities w.entities) where
   abbrev What : Lookup
   What = what_is h.entities
 
@@ -204,7 +204,7 @@ module _ (ls : Levels) (levels : List (List ℕ)) (le : ℕ → ℕ → Bool) (e
     state_unmarked : (k x : ℕ) (group : StateList) (above : List (List ℕ)) (s : StateTree) → is_in above (name_at es y) ≡ true
         → state_faults levels le (what_is es) s ≡ [] → state_shape es group above s ≡ [] → state_retags (state_of ls es k x s) y ≡ false
     state_unmarked k x group above (StateOf place name kind body children) high f s =
-        let h : Context = record { entities = es; home = record { name = name.name; kind = kind; children = children } } in
+        let h : Surroundings = record { entities = es; home = record { name = name.name; kind = kind; children = children } } in
         let at : Body = record { home = record { name = name.name; kind = kind; children = children }; group = group; above = above } in
         let front : closing_faults body ++ block_shape es at body ≡ [] = nil_left _ _ s in
         or_from (block_retags (block_of ls h k body) y) (group_retags (group_of ls es (k + length (block_sites h body)) (x + 1) children) y)

@@ -17,7 +17,7 @@ use Rattle.sap_meaning.specs.Program.{World, entity, width, is_register, is_memo
 use Rattle.sap_meaning.specs.Expressions.{width_of}
 use Rattle.sap_meaning.specs.Sized.{SizedTerm, Indexes, AreWithin, SizedStep, Sized, SizedArms, SizedBlock, SizedState, SizedGroup}
 use Rattle.sap_meaning.specs.Fine.{FineTerm}
-use Rattle.sap_shape.specs.Sites.{Context, simple_sites, command_sites, block_sites, state_sites}
+use Rattle.sap_shape.specs.Sites.{Surroundings, simple_sites, command_sites, block_sites, state_sites}
 use Rattle.sap_resolve.specs.Worlds.{states_in}
 use Rattle.sap_resolve.specs.Terms.{entity_number, term_of}
 use Rattle.sap_resolve.specs.Resolve.{site_number, step_of, number_of, numbers_of, command_of, arms_of, block_of, else_of, list_of, state_of, group_of}
@@ -57,7 +57,7 @@ retagged_as w State n h i = or_true (is_register w n) (is_state w n) i.0
 retagged_as w (Input u) n h i = cc
 retagged_as w (Memory u b) n h i = cc
 
-module _ (ls : Levels) (h : Context) (w : World) (r : Ready ls h.entities w) where
+module _ (ls : Levels) (h : Surroundings) (w : World) (r : Ready ls h.entities w) where
   abbrev es : List Entity
   es = h.entities
 
@@ -211,7 +211,7 @@ module _ (ls : Levels) (le : ℕ → ℕ → Bool) (es : List Entity) (w : World
         → NamedState w (state_of ls es k x s) × SizedState w (state_of ls es k x s)
     state_fits k x (StateOf place name kind body children) f =
         let n = none_three (kind_faults ls.names le kind) (block_faults ls.names (what_is es) body) (states_faults ls.names le (what_is es) children) f in
-        let h : Context = record { entities = es; home = record { name = name.name; kind = kind; children = children } } in
+        let h : Surroundings = record { entities = es; home = record { name = name.name; kind = kind; children = children } } in
         let a = block_fits ls h w r k body n.1 in
         let b = group_fits (k + length (block_sites h body)) (x + 1) children n.2 in
         ((a.0, b.0), (a.1, b.1))

@@ -18,7 +18,7 @@ use Rattle.sap_names.specs.declared.kind.Use.TheVariants.{Indexed as indexed, As
 use Rattle.sap_names.specs.NameFaults.{name_faults, expression_faults, tag_faults, tags_faults, simple_faults, command_faults, constants_faults, arms_faults, block_faults, else_faults, commands_faults, kind_faults, state_faults, states_faults}
 use Rattle.sap_names.specs.Widths.{own, register_width, cell_width, index_width}
 use Rattle.sap_meaning.specs.Program.{World}
-use Rattle.sap_shape.specs.Sites.{Context, simple_sites, command_sites, block_sites, state_sites}
+use Rattle.sap_shape.specs.Sites.{Surroundings, simple_sites, command_sites, block_sites, state_sites}
 use Rattle.sap_resolve.specs.Worlds.{states_in}
 use Rattle.sap_resolve.specs.Terms.{term_of, level_term, level_terms}
 use Rattle.sap_resolve.specs.Resolve.{site_number, step_of, command_of, arms_of, block_of, else_of, list_of, state_of, group_of}
@@ -54,7 +54,7 @@ module _ (version : Version) (ls : Levels) (es : List Entity) (w : World) (r : R
   outer_tag_ranged : (t : TagExpression) → is_outermost_tag version t ≡ true → tag_faults ls.names (what_is es) t ≡ [] → RangedLevel w (level_term ls es t)
   outer_tag_ranged t i h = tag_ranged t (and_parts (is_tag version t) (tag_fits t) i).0 h
 
-module _ (version : Version) (ls : Levels) (h : Context) (w : World) (r : Resolved h.entities w) where
+module _ (version : Version) (ls : Levels) (h : Surroundings) (w : World) (r : Resolved h.entities w) where
   abbrev es : List Entity
   es = h.entities
 
@@ -142,7 +142,7 @@ module _ (version : Version) (ls : Levels) (le : ℕ → ℕ → Bool) (es : Lis
     state_ranged : (k x : ℕ) (s : StateTree) → is_state version s ≡ true → state_faults ls.names le (what_is es) s ≡ [] → RangedState w (state_of ls es k x s)
     state_ranged k x (StateOf place name kind body children) i f =
         let n = none_three (kind_faults ls.names le kind) (block_faults ls.names (what_is es) body) (states_faults ls.names le (what_is es) children) f in
-        let h : Context = record { entities = es; home = record { name = name.name; kind = kind; children = children } } in
+        let h : Surroundings = record { entities = es; home = record { name = name.name; kind = kind; children = children } } in
         let j = and_parts (is_name version name.name && is_kind version kind && is_block version body && nat_le (block_depth body) most_blocks) (are_states version children) i in
         let m = and_parts (is_name version name.name && is_kind version kind && is_block version body) (nat_le (block_depth body) most_blocks) j.0 in
         let b = and_parts (is_name version name.name && is_kind version kind) (is_block version body) m.0 in

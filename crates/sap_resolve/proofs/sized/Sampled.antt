@@ -8,7 +8,8 @@ use Rattle.sap_tree.specs.Extent.{tokens, part_tokens, brackets, part_brackets, 
 use Rattle.sap_tree.specs.Precedence.{precedence_of}
 use Rattle.sap_tree.specs.Whole.{is_expression, are_expressions, is_tag, are_tags, is_simple, is_command, is_block, is_else, are_commands, command_depth, block_depth, else_depth, list_depth, is_state, are_states}
 use Rattle.sap_lattice.specs.Levels.{order_of, order_by, level_in, is_below, every, first}
-use Rattle.sap_resolve.specs.Sized.Examples.{levels, Lawful, Whole, NoFault}
+use Rattle.sap_lattice.specs.Examples.{low_high}
+use Rattle.sap_resolve.specs.Sized.Examples.{Lawful, Whole, NoFault}
 
 pub no_fault : NoFault
 no_fault = refl
@@ -33,7 +34,7 @@ by_level : (P : ℕ → Type 0) → P 0 → P 1 → (x : ℕ) → P (level_in 2 
 by_level P low high x = elim (level_cases x) [ inl e ↦ subst P (sym e) low | inr e ↦ subst P (sym e) high ]
 
 abbrev below : ℕ → ℕ → Bool
-below a b = is_below levels.table a b
+below a b = is_below low_high.table a b
 
 -- the join by the levels that its two numbers stand for
 abbrev joined : ℕ → ℕ → ℕ

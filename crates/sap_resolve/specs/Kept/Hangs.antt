@@ -2,11 +2,11 @@
 use Rattle.std.specs.Prelude.{ℕ, Bool, true, false, List, [], ◌∷◌, ◌++◌, map}
 use Rattle.sap_tree.specs.declared.syntax.Decl.{Decl}
 use Rattle.sap_tree.specs.Syntax.{DesignTree}
+use Rattle.sap_tree.specs.Points as tree_points
 use Rattle.sap_tree.specs.Touches as tree
 use Rattle.sap_lattice.specs.Levels.{Levels}
 use Rattle.sap_names.specs.declared.entity.Entity.{Entity}
 use Rattle.sap_names.specs.Entities.{entities_of}
-use Rattle.sap_hang.specs.Points as hang
 use Rattle.sap_meaning.specs.Program.{Step, Set, Write, Retag, RetagCell, Goto, Fall, Command, Do, Try, If, TryThen, Case, Arms, Last, Arm, Block, End, Then, State, Node, Group, None, More}
 use Rattle.sap_resolve.specs.Fill.{program_of}
 
@@ -105,8 +105,8 @@ abbrev mutual
 abbrev pub row_of : List Entity → (List ℕ → Bool) → List Bool
 row_of es test = map (λ e. test e.name.name) es
 
-abbrev pub point_row : List Decl → List Entity → hang.Point → List Bool
+abbrev pub point_row : List Decl → List Entity → tree_points.Point → List Bool
 point_row ds es p = row_of es (tree.touches ds p.home p.command)
 
 abbrev pub rows_of : DesignTree → List (List Bool)
-rows_of d = map (point_row d.declarations (entities_of d)) (hang.points_of d)
+rows_of d = map (point_row d.declarations (entities_of d)) (tree_points.points_of d)

@@ -6,7 +6,7 @@ use Rattle.sap_tree.specs.Syntax as tree
 use Rattle.sap_lattice.specs.Levels.{Levels}
 use Rattle.sap_names.specs.declared.entity.Entity.{Entity}
 use Rattle.sap_shape.specs.Sites as shape
-use Rattle.sap_shape.specs.Sites.{Context, CheckSite, simple_sites}
+use Rattle.sap_shape.specs.Sites.{Surroundings, CheckSite, simple_sites}
 use Rattle.sap_meaning.specs.Program.{World, Step, Set, Write, Retag, RetagCell, Goto, Fall, Command, Do, Try, If, TryThen, Case, Arms, Last, Arm, Block, End, Then, State, Node, Group, None, More}
 use Rattle.sap_meaning.specs.Checks.{Spot, site_of}
 use Rattle.sap_resolve.specs.Worlds.{states_in}
@@ -113,7 +113,7 @@ one_mark k n true s p e =
 one_mark k n false s p e = subst (λ (m : ℕ). (if nat_eq m 0 then [] else m ∷ []) ≡ []) (sym e) refl
 
 module _ (ls : Levels) where
-  module _ (h : Context) where
+  module _ (h : Surroundings) where
     number_is : (n : ℕ) (c : SimpleCommand) → site_of (step_of ls h n c) ≡ n
     number_is n (Assign target e) = refl
     number_is n (tree.Write target index e) = refl
@@ -124,7 +124,7 @@ module _ (ls : Levels) where
 
     simple_marked : (k : ℕ) → 1 ≤ k → (c : SimpleCommand) → own_site (step_of ls h (site_number h k c) c) ≡ numbers_from k (length (simple_sites h c))
     simple_marked k p c =
-        one_mark k (site_of (step_of ls h (site_number h k c) c)) (shape.is_site h.entities h.home.kind h.home.children c) (record { context = h; command = c }) p (number_is (site_number h k c) c)
+        one_mark k (site_of (step_of ls h (site_number h k c) c)) (shape.is_site h.entities h.home.kind h.home.children c) (record { surroundings = h; command = c }) p (number_is (site_number h k c) c)
 
     mutual
       command_marked : (k : ℕ) → 1 ≤ k → (c : tree.Command) → marks (command_of ls h k c) ≡ numbers_from k (length (shape.command_sites h c))
@@ -168,7 +168,7 @@ module _ (ls : Levels) where
   mutual
     state_marked : (es : List Entity) (k x : ℕ) → 1 ≤ k → (s : StateTree) → state_marks (state_of ls es k x s) ≡ numbers_from k (length (shape.state_sites es s))
     state_marked es k x p (StateOf place name kind body children) =
-        let h : Context = record { entities = es; home = record { name = name.name; kind = kind; children = children } } in
+        let h : Surroundings = record { entities = es; home = record { name = name.name; kind = kind; children = children } } in
         joined k (shape.block_sites h body) (shape.states_sites es children) (block_marks (block_of ls h k body))
         (group_marks (group_of ls es (k + length (shape.block_sites h body)) (x + 1) children)) (block_marked h k p body)
         (group_marked es (k + length (shape.block_sites h body)) (x + 1) (omega arith) children)

@@ -8,7 +8,7 @@ use Rattle.sap_names.specs.declared.entity.Entity.{Entity}
 use Rattle.sap_names.specs.Entities.{Lookup, what_is}
 use Rattle.sap_names.specs.Widths.{own as own_width}
 use Rattle.sap_names.specs.NameFaults.{simple_faults, command_faults, block_faults, else_faults, arms_faults, commands_faults, state_faults, states_faults}
-use Rattle.sap_shape.specs.Sites.{is_enforced_kind, any_enforced, Context, CheckSite, simple_sites}
+use Rattle.sap_shape.specs.Sites.{is_enforced_kind, any_enforced, Surroundings, CheckSite, simple_sites}
 use Rattle.sap_shape.specs.Sites as shape
 use Rattle.sap_check.specs.declared.site.SiteKind.{SiteKind}
 use Rattle.sap_check.specs.Sites as check
@@ -35,7 +35,7 @@ one_site k n e s true h i =
     ap (λ (m : ℕ). record { number = m; kind = (told s).kind; entity = e } ∷ []) h ∙ ap (λ (x : ℕ). record { number = k; kind = (told s).kind; entity = x } ∷ []) i
 one_site k n e s false h i = refl
 
-module _ (ls : Levels) (levels : List (List ℕ)) (h : Context) (w : World) (match : AllMatch h.entities w.entities)
+module _ (ls : Levels) (levels : List (List ℕ)) (h : Surroundings) (w : World) (match : AllMatch h.entities w.entities)
     (x : ℕ) (g : Group) (own : not (is_dynamic w x) ≡ is_enforced_kind h.home.kind) (kids : some_enforced w g ≡ any_enforced h.home.children)
     (mine : x ≡ check.entity_number h.entities h.home.name) where
   abbrev What : Lookup
@@ -65,7 +65,7 @@ module _ (ls : Levels) (levels : List (List ℕ)) (h : Context) (w : World) (mat
       (site_same ls levels h w match x g own kids (site_number h k c) c f)
       ∙ ap (λ (z : SiteKind). if shape.is_site h.entities h.home.kind h.home.children c then (let s : ProgramSite = record { number = site_of t; kind = z; entity = entity_of x t } in s ∷ []) else [])
       (kind_is (site_number h k c) c)
-      ∙ one_site k (site_of t) (entity_of x t) (record { context = h; command = c }) (shape.is_site h.entities h.home.kind h.home.children c) (site_is ls levels h w match x g own kids (site_number h k c) c) (entity_is (site_number h k c) c)
+      ∙ one_site k (site_of t) (entity_of x t) (record { surroundings = h; command = c }) (shape.is_site h.entities h.home.kind h.home.children c) (site_is ls levels h w match x g own kids (site_number h k c) c) (entity_is (site_number h k c) c)
 
   mutual
     command_numbered : (k : ℕ) (c : Command) → command_faults levels What c ≡ []
@@ -119,7 +119,7 @@ module _ (ls : Levels) (levels : List (List ℕ)) (le : ℕ → ℕ → Bool) (e
     state_numbered : (k n x : ℕ) (s : StateTree) → LaidState ls es w n x s → state_faults levels le (what_is es) s ≡ []
         → state_sites w (state_of ls es k x s) ≡ numbered k (map told (shape.state_sites es s))
     state_numbered k n x (StateOf place name kind body children) laid f =
-        let h : Context = record { entities = es; home = record { name = name.name; kind = kind; children = children } } in
+        let h : Surroundings = record { entities = es; home = record { name = name.name; kind = kind; children = children } } in
         let k' : ℕ = k + length (shape.block_sites h body) in
         let g : Group = group_of ls es k' (x + 1) children in
         let below : Laid ls es w 0 (x + 1) children = laid_below ls es w n x place name kind body children laid in

@@ -1,6 +1,7 @@
 //! A small design, and that the premises of the laws can be met.
 
-ghost use Rattle.sap_secure.specs.Designs.Examples.{Lawful, Formed, SampleServes};
+ghost use Rattle.sap_resolve.specs.Sized.Examples.{Lawful};
+ghost use Rattle.sap_secure.specs.Designs.Examples.{Formed, SampleServes};
 
 use sap_resolve::premises::well_formed_serves;
 

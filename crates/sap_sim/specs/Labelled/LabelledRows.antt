@@ -11,6 +11,7 @@ use Rattle.sap_resolve.specs.Fill.{program_of}
 use Rattle.sap_interface.specs.StandsFor.{Named, name, world}
 use Rattle.sap_interface.specs.Designs.{named_of}
 use Rattle.sap_stim.specs.Rows.{Shown, row_text}
+use Rattle.sap_sim.specs.Told.{told_from}
 
 -- the name of a level; a number that is none counts as level 0
 abbrev pub level_name : Levels → ℕ → List ℕ
@@ -32,8 +33,7 @@ abbrev pub labelled_row : Levels → Named → (cycle : ℕ) → Store → List 
 labelled_row ls d cycle s = row_text cycle (registers_shown ls d s 0 (world d).entities)
 
 abbrev pub rows_of_run : Levels → Named → (cycle : ℕ) → List After → List ℕ
-rows_of_run ls d cycle [] = []
-rows_of_run ls d cycle (a ∷ rest) = labelled_row ls d cycle a.store ++ rows_of_run ls d (cycle + 1) rest
+rows_of_run ls d = told_from (λ cycle (a : After). labelled_row ls d cycle a.store)
 
 -- the rows of a design's labelled run on a stream, its cycles counted from 1
 abbrev pub labelled_rows : Levels → DesignTree → List (List Tagged) → List ℕ

@@ -11,9 +11,10 @@ use Rattle.sap_size.specs.Programs.{group_size, states_below}
 use Rattle.sap_interface.specs.StandsFor.{Named, world}
 use Rattle.sap_tagged.specs.Setting.{setting_of}
 use Rattle.sap_tagged.specs.Few.{FewGroup}
-use Rattle.sap_tagged.specs.Plain.{value_var, tag_var, seat_var, level_at_start, for_entities, has_own_tag, shown_registers, tag_registers, seat_registers, registers_of, site_wires, memory_of, tags_of, memories_of, names_of, plain_of}
+use Rattle.sap_tagged.specs.Plain.{value_var, tag_var, seat_var, level_at_start, for_entities, has_own_tag, shown_registers, tag_registers, seat_registers, registers_of, site_wires, memory_of, tags_of, memories_of, plain_of}
 use Rattle.sap_tagged.proofs.small.Tags.{Roomy}
 use Rattle.sap_tagged.proofs.small.States.{program_weighs}
+use Rattle.sap_ir.specs.IsGuarded.{variable_names}
 
 -- what is declared for entities that are picked, at most so many for each
 for_each_short : {A : Type 0} (picks : ℕ → Bool) (f : ℕ → List A) (most : ℕ) → ((x : ℕ) → length (f x) ≤ most) → (x : ℕ) (es : List Entity) → length (for_entities picks f x es) ≤ length es * most
@@ -62,7 +63,7 @@ module _ (d : Named) (tag sites : ℕ) where
   ports_short =
       let a = shown_short in
       let b = sites_long 1 sites in
-      let l = length-append (names_of (shown_registers d tag)) (names_of (site_wires d tag 1 sites)) in
+      let l = length-append (variable_names (shown_registers d tag)) (variable_names (site_wires d tag 1 sites)) in
       let m = length-map (shown_registers d tag) (λ (x : Var). x.name) in
       let n = length-map (site_wires d tag 1 sites) (λ (x : Var). x.name) in
       omega (arith, a, b, l, m, n)

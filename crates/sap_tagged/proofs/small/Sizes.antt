@@ -11,7 +11,7 @@ use Rattle.sap_names.specs.declared.entity.Entity.{Entity}
 use Rattle.sap_names.specs.Widths.{own, width_of, family, asked_left, asked_right, asked_one, register_width, cell_width, index_width}
 use Rattle.sap_maps.specs.Term.{Term}
 use Rattle.sap_lattice.specs.Levels.{Levels}
-use Rattle.sap_shape.specs.Sites.{Context, simple_sites, command_sites, arms_sites, block_sites, else_sites, list_sites, state_sites, states_sites}
+use Rattle.sap_shape.specs.Sites.{Surroundings, simple_sites, command_sites, arms_sites, block_sites, else_sites, list_sites, state_sites, states_sites}
 use Rattle.sap_shape.proofs.SiteCounts.{simple_few}
 use Rattle.sap_meaning.specs.Program.{World, Step, Set, Retag, RetagCell, Goto, Fall, Command, Do, Try, If, TryThen, Case, Arms, Last, Arm, Block, End, Then, State, Node, Group, More}
 use Rattle.sap_meaning.specs.Program as program
@@ -81,7 +81,7 @@ mutual
 
 -- commands
 
-step_within : (ls : Levels) (h : Context) (n : ℕ) (c : SimpleCommand) → step_size (step_of ls h n c) ≤ operand_nodes c
+step_within : (ls : Levels) (h : Surroundings) (n : ℕ) (c : SimpleCommand) → step_size (step_of ls h n c) ≤ operand_nodes c
 step_within ls h n (Assign target e) = term_within h.entities e (register_width (what_is h.entities target.name))
 step_within ls h n (tree.Write target index e) =
     let r = term_within h.entities index (index_width (what_is h.entities target.name)) in
@@ -115,7 +115,7 @@ constants_within (AndPart e constants) =
     omega (arith, q, r)
 
 mutual
-  command_within : (ls : Levels) (h : Context) (k : ℕ) (c : tree.Command) → command_size (command_of ls h k c) ≤ command_nodes c
+  command_within : (ls : Levels) (h : Surroundings) (k : ℕ) (c : tree.Command) → command_size (command_of ls h k c) ≤ command_nodes c
   command_within ls h k (tree.Do c) = let r = step_within ls h (site_number h k c) c in omega (arith, r)
   command_within ls h k (tree.Try c place handler) =
       let r = step_within ls h (site_number h k c) c in
@@ -136,7 +136,7 @@ mutual
       let r = arms_within ls h k arms in
       omega (arith, q, r)
 
-  arms_within : (ls : Levels) (h : Context) (k : ℕ) (arms : tree.Arms) → arms_size (arms_of ls h k arms) ≤ arms_nodes arms
+  arms_within : (ls : Levels) (h : Surroundings) (k : ℕ) (arms : tree.Arms) → arms_size (arms_of ls h k arms) ≤ arms_nodes arms
   arms_within ls h k (tree.Last b) = block_within ls h k b
   arms_within ls h k (tree.Arm constants b arms) =
       let q = constants_within constants in
@@ -144,14 +144,14 @@ mutual
       let s = arms_within ls h (k + length (block_sites h b)) arms in
       omega (arith, q, r, s)
 
-  block_within : (ls : Levels) (h : Context) (k : ℕ) (b : CommandBlock) → block_size (block_of ls h k b) ≤ block_nodes b
+  block_within : (ls : Levels) (h : Surroundings) (k : ℕ) (b : CommandBlock) → block_size (block_of ls h k b) ≤ block_nodes b
   block_within ls h k (Commands cs after) = list_within ls h k cs
 
-  else_within : (ls : Levels) (h : Context) (k : ℕ) (b : ElseBlock) → block_size (else_of ls h k b) ≤ else_nodes b
+  else_within : (ls : Levels) (h : Surroundings) (k : ℕ) (b : ElseBlock) → block_size (else_of ls h k b) ≤ else_nodes b
   else_within ls h k NoElse = omega arith
   else_within ls h k (Else b) = block_within ls h k b
 
-  list_within : (ls : Levels) (h : Context) (k : ℕ) (cs : CommandList) → block_size (list_of ls h k cs) ≤ list_nodes cs
+  list_within : (ls : Levels) (h : Surroundings) (k : ℕ) (cs : CommandList) → block_size (list_of ls h k cs) ≤ list_nodes cs
   list_within ls h k NoCommand = omega arith
   list_within ls h k (AndCommand c cs) =
       let r = command_within ls h k c in
@@ -160,13 +160,13 @@ mutual
 
 -- states
 
-abbrev context : List Entity → List ℕ → Kind → StateList → Context
-context es name kind children = record { entities = es; home = record { name = name; kind = kind; children = children } }
+abbrev surroundings : List Entity → List ℕ → Kind → StateList → Surroundings
+surroundings es name kind children = record { entities = es; home = record { name = name; kind = kind; children = children } }
 
 mutual
   state_within : (ls : Levels) (es : List Entity) (k x : ℕ) (s : StateTree) → state_size (state_of ls es k x s) ≤ state_nodes s
   state_within ls es k x (StateOf place name kind body children) =
-      let h = context es name.name kind children in
+      let h = surroundings es name.name kind children in
       let r = block_within ls h k body in
       let s = group_within ls es (k + length (block_sites h body)) (x + 1) children in
       omega (arith, r, s)
@@ -183,7 +183,7 @@ mutual
 mutual
   state_counted : (ls : Levels) (es : List Entity) (k x : ℕ) (s : StateTree) → states_of (state_of ls es k x s) ≡ states_in s
   state_counted ls es k x (StateOf place name kind body children) =
-      let h = context es name.name kind children in
+      let h = surroundings es name.name kind children in
       ap (λ (n : ℕ). 1 + n) (group_counted ls es (k + length (block_sites h body)) (x + 1) children)
 
   pub group_counted : (ls : Levels) (es : List Entity) (k x : ℕ) (g : StateList) → states_below (group_of ls es k x g) ≡ worlds.states_below g
@@ -218,7 +218,7 @@ mutual
 -- check sites are commands
 
 mutual
-  command_sited : (h : Context) (c : tree.Command) → length (command_sites h c) ≤ command_nodes c
+  command_sited : (h : Surroundings) (c : tree.Command) → length (command_sites h c) ≤ command_nodes c
   command_sited h (tree.Do c) = let r = simple_few h c in omega (arith, r)
   command_sited h (tree.Try c place handler) =
       let r = simple_few h c in let s = block_sited h handler in omega (arith, r, s, length-append (simple_sites h c) (block_sites h handler))
@@ -231,19 +231,19 @@ mutual
       omega (arith, q, r, s, length-append (simple_sites h c) (block_sites h one ++ block_sites h other), length-append (block_sites h one) (block_sites h other))
   command_sited h (tree.Case place e arms) = let r = arms_sited h arms in omega (arith, r)
 
-  arms_sited : (h : Context) (arms : tree.Arms) → length (arms_sites h arms) ≤ arms_nodes arms
+  arms_sited : (h : Surroundings) (arms : tree.Arms) → length (arms_sites h arms) ≤ arms_nodes arms
   arms_sited h (tree.Last b) = block_sited h b
   arms_sited h (tree.Arm constants b arms) =
       let r = block_sited h b in let s = arms_sited h arms in omega (arith, r, s, length-append (block_sites h b) (arms_sites h arms))
 
-  block_sited : (h : Context) (b : CommandBlock) → length (block_sites h b) ≤ block_nodes b
+  block_sited : (h : Surroundings) (b : CommandBlock) → length (block_sites h b) ≤ block_nodes b
   block_sited h (Commands cs after) = list_sited h cs
 
-  else_sited : (h : Context) (b : ElseBlock) → length (else_sites h b) ≤ else_nodes b
+  else_sited : (h : Surroundings) (b : ElseBlock) → length (else_sites h b) ≤ else_nodes b
   else_sited h NoElse = omega arith
   else_sited h (Else b) = block_sited h b
 
-  list_sited : (h : Context) (cs : CommandList) → length (list_sites h cs) ≤ list_nodes cs
+  list_sited : (h : Surroundings) (cs : CommandList) → length (list_sites h cs) ≤ list_nodes cs
   list_sited h NoCommand = omega arith
   list_sited h (AndCommand c cs) =
       let r = command_sited h c in let s = list_sited h cs in omega (arith, r, s, length-append (command_sites h c) (list_sites h cs))
@@ -251,7 +251,7 @@ mutual
 mutual
   state_sited : (es : List Entity) (s : StateTree) → length (state_sites es s) ≤ state_nodes s
   state_sited es (StateOf place name kind body children) =
-      let h = context es name.name kind children in
+      let h = surroundings es name.name kind children in
       let r = block_sited h body in
       let s = group_sited es children in
       omega (arith, r, s, length-append (block_sites h body) (states_sites es children))

@@ -4,7 +4,7 @@ use Rattle.std.specs.Prelude.{◌||◌, flat_map, is_some, unwrap_or}
 use Rattle.std.specs.List.{AllByRecursion, list_any}
 use Rattle.std.specs.Str.{bytes_eq}
 use Rattle.std.proofs.lemmas.Bool.{cases_Bool}
-use Rattle.sap_lemmas.proofs.Everywhere.{all_parts}
+use Rattle.sap_lemmas.proofs.Everywhere.{all_parts, all_append}
 use Rattle.sap_lemmas.proofs.Texts.{equal_of_bytes_eq}
 use Rattle.sap_maps.specs.Maps.{Name}
 use Rattle.sap_maps.specs.Scope.{Scope}
@@ -69,10 +69,7 @@ when_given x n a b e =
 
 all_flat : {A B : Type 0} (P : B → Type 0) (g : A → List B) (xs : List A) → ((x : A) → Among x xs → AllByRecursion P (g x)) → AllByRecursion P (flat_map g xs)
 all_flat P g [] k = tt
-all_flat P g (x ∷ xs) k = joined P (g x) (flat_map g xs) (k x (inl refl)) (all_flat P g xs (λ y m. k y (inr m))) where
-  joined : {B : Type 0} (Q : B → Type 0) (ys zs : List B) → AllByRecursion Q ys → AllByRecursion Q zs → AllByRecursion Q (ys ++ zs)
-  joined Q [] zs p q = q
-  joined Q (y ∷ ys) zs p q = (p.0, joined Q ys zs p.1 q)
+all_flat P g (x ∷ xs) k = all_append P (g x) (flat_map g xs) (k x (inl refl)) (all_flat P g xs (λ y m. k y (inr m)))
 
 initial_there : (n : Name) (x : Item) → is_target initial n (target_of x) ≡ true → is_some (initial_number n x) ≡ true
 initial_there n (item.initial x value) t = when_there x.name n value.value t

@@ -1,40 +1,30 @@
 use Rattle.std.proofs.lemmas.Result.{err_from_is_err_and}
 use Rattle.sap_check.specs.Checked.{levels_in, tree_in}
-use Rattle.sap_commands.proofs.Streams.{one_length}
-use Rattle.sap_commands.proofs.StreamEnds.{at_first, at_second, no_first, no_second, no_verdict, told}
+use Rattle.sap_files.proofs.Streams.{one_length}
+use Rattle.sap_commands.proofs.StreamEnds.{no_first, no_second, no_verdict, told}
 use Rattle.sap_commands.proofs.comparing.compare.Goals as goal
-
-pub returns-in_err-lines : goal.returns-in_err-lines
-returns-in_err-lines g c = λ lattice ls net written of_file is some.
-    let p = err_from_is_err_and c.from_residual.result c.from_residual.ensures.1 in
-    rw (p.1, p.2) (at_first lattice ls (levels_in c.args.checked.now) (tree_in c.args.checked.now) of_file is c.args.first.now c.args.second.now c.args.word.now c.args.level _ _ _ c.in_err-lines.ensures.read)
 
 pub returns-in_err-one : goal.returns-in_err-one
 returns-in_err-one g c = λ lattice ls net written of_file is some.
-    let p = err_from_is_err_and c.from_residual-in_err-one.result c.from_residual-in_err-one.ensures.1 in
-    rw (p.1, p.2) (no_first lattice ls (levels_in c.args.checked.now) (tree_in c.args.checked.now) of_file is c.args.first.now c.args.second.now c.args.word.now c.args.level _ c.in_ok-lines.lines _ c.in_ok-lines.ensures.read _ c.in_err-one.ensures)
-
-pub returns-in_err-more : goal.returns-in_err-more
-returns-in_err-more g c = λ lattice ls net written of_file is some.
-    let p = err_from_is_err_and c.from_residual-in_err-more.result c.from_residual-in_err-more.ensures.1 in
-    rw (p.1, p.2) (at_second lattice ls (levels_in c.args.checked.now) (tree_in c.args.checked.now) of_file is c.args.first.now c.args.second.now c.args.word.now c.args.level _ c.in_ok-lines.lines _ c.in_ok-lines.ensures.read c.in_ok-one.one c.in_ok-one.ensures _ _ c.in_err-more.ensures.read)
+    let p = err_from_is_err_and c.from_residual.result c.from_residual.ensures.1 in
+    rw (p.1, p.2) (no_first lattice ls (levels_in c.args.checked.now) (tree_in c.args.checked.now) of_file is c.args.first.now c.args.second.now c.args.word.now c.args.level _ _ _ c.in_err-one.ensures)
 
 pub returns-in_err-other : goal.returns-in_err-other
 returns-in_err-other g c = λ lattice ls net written of_file is some.
     let p = err_from_is_err_and c.from_residual-in_err-other.result c.from_residual-in_err-other.ensures.1 in
-    rw (p.1, p.2) (no_second lattice ls (levels_in c.args.checked.now) (tree_in c.args.checked.now) of_file is c.args.first.now c.args.second.now c.args.word.now c.args.level _ c.in_ok-lines.lines _ c.in_ok-lines.ensures.read c.in_ok-one.one c.in_ok-one.ensures c.in_ok-more.more _ c.in_ok-more.ensures.read _ c.in_err-other.ensures)
+    rw (p.1, p.2) (no_second lattice ls (levels_in c.args.checked.now) (tree_in c.args.checked.now) of_file is c.args.first.now c.args.second.now c.args.word.now c.args.level _ c.in_ok-one.one _ c.in_ok-one.ensures _ _ c.in_err-other.ensures)
 
 pub returns-in_err-text : goal.returns-in_err-text
 returns-in_err-text g c = λ lattice ls net written of_file is some.
     let p = err_from_is_err_and c.from_residual-in_err-text.result c.from_residual-in_err-text.ensures.1 in
-    rw (p.1, p.2) (no_verdict lattice ls (levels_in c.args.checked.now) (tree_in c.args.checked.now) of_file is c.args.first.now c.args.second.now c.args.word.now c.args.level _ c.in_ok-lines.lines _ c.in_ok-lines.ensures.read c.in_ok-one.one c.in_ok-one.ensures c.in_ok-more.more _ c.in_ok-more.ensures.read c.in_ok-other.other c.in_ok-other.ensures _ c.in_err-text.ensures)
+    rw (p.1, p.2) (no_verdict lattice ls (levels_in c.args.checked.now) (tree_in c.args.checked.now) of_file is c.args.first.now c.args.second.now c.args.word.now c.args.level _ c.in_ok-one.one _ c.in_ok-one.ensures c.in_ok-other.other _ c.in_ok-other.ensures _ c.in_err-text.ensures)
 
 pub verdict-requires : goal.verdict-requires
 verdict-requires g c =
     let (lattice, of_file) = c.requires in
-    one_length lattice (levels_in c.args.checked.now) of_file (tree_in c.args.checked.now) c.in_ok-lines.lines c.in_ok-more.more c.in_ok-one.one c.in_ok-other.other
-    c.in_ok-one.ensures c.in_ok-other.ensures
+    one_length lattice (levels_in c.args.checked.now) of_file (tree_in c.args.checked.now) c.in_ok-one.ensures.0 c.in_ok-other.ensures.0 c.in_ok-one.one c.in_ok-other.other
+    c.in_ok-one.ensures.2 c.in_ok-other.ensures.2
 
 pub returns : goal.returns
 returns g c = λ lattice ls net written of_file is some.
-    told lattice ls (levels_in c.args.checked.now) (tree_in c.args.checked.now) of_file is c.args.first.now c.args.second.now c.args.word.now c.args.level _ c.in_ok-lines.lines _ c.in_ok-lines.ensures.read c.in_ok-one.one c.in_ok-one.ensures c.in_ok-more.more _ c.in_ok-more.ensures.read c.in_ok-other.other c.in_ok-other.ensures net written c.in_ok-text.text _ _ some c.in_ok-text.ensures c.put.ensures
+    told lattice ls (levels_in c.args.checked.now) (tree_in c.args.checked.now) of_file is c.args.first.now c.args.second.now c.args.word.now c.args.level _ c.in_ok-one.one _ c.in_ok-one.ensures c.in_ok-other.other _ c.in_ok-other.ensures net written c.in_ok-text.text _ _ some c.in_ok-text.ensures c.put.ensures

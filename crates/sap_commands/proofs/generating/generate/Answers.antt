@@ -1,7 +1,7 @@
 use Rattle.std.proofs.Common.{refl}
 use Rattle.std.proofs.lemmas.Result.{err_from_is_err_and}
-use Rattle.sap_commands.specs.Ending.{done}
-use Rattle.sap_commands.proofs.Ended.{gave, quiet_self, starved}
+use Rattle.sap_files.specs.Ending.{done}
+use Rattle.sap_files.proofs.Ended.{gave, quiet_self, starved}
 use Rattle.sap_commands.proofs.generating.generate.Goals as goal
 
 pub returns-in_err-text : goal.returns-in_err-text

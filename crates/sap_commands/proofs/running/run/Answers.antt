@@ -14,36 +14,23 @@ use Rattle.sap_sim.specs.Simulated.{read_for as module_stimulus}
 use Rattle.sap_sim.specs.Labelled.Fields.{design_fields}
 use Rattle.sap_sim.specs.Labelled.RunOf.{GivesRuns, read_for as design_stimulus}
 use Rattle.sap_compile.specs.Parts.{design_of, levels_of, netlist_of}
-use Rattle.sap_commands.specs.Commands.{AreDesignRows, AreModuleRows}
-use Rattle.sap_commands.specs.Steps.{ending, whole}
-use Rattle.sap_commands.proofs.Alike.{read_in, run_in}
-use Rattle.sap_commands.proofs.CompiledDesigns.{compiled_past}
-use Rattle.sap_commands.proofs.Designs.{compiled_same}
-use Rattle.sap_commands.proofs.Ended.{not_given, past, stopped}
-use Rattle.sap_commands.proofs.Fronts.{compiled_whole, refused_design}
-use Rattle.sap_commands.proofs.PrintedEnds.{printed_same}
+use Rattle.sap_files.specs.StimulusTexts.{AreDesignRows, AreModuleRows}
+use Rattle.sap_files.specs.Steps.{whole}
+use Rattle.sap_files.proofs.Alike.{read_in, run_in}
+use Rattle.sap_files.proofs.Ended.{past, reading_ended}
+use Rattle.sap_files.proofs.PrintedEnds.{printed_same}
+use Rattle.sap_commands.proofs.CompiledDesigns.{compiled_past, compiled_same}
 use Rattle.sap_commands.proofs.running.run.Goals as goal
 
-pub returns-in_err-bytes : goal.returns-in_err-bytes
-returns-in_err-bytes g c =
+pub returns-in_err-file : goal.returns-in_err-file
+returns-in_err-file g c =
     let p = err_from_is_err_and c.from_residual.result c.from_residual.ensures.1 in
-    rw (p.1, p.2) (stopped c.in_err-bytes.ensures.read)
-
-pub returns-in_err-_levels : goal.returns-in_err-_levels
-returns-in_err-_levels g c =
-    let p = err_from_is_err_and c.from_residual-in_err-_levels.result c.from_residual-in_err-_levels.ensures.1 in
-    rw (p.1, p.2) (not_given (ending c.in_err-_levels.field-0.0) c.in_ok-bytes.ensures.read c.in_err-_levels.ensures)
-
-pub returns-in_err-source : goal.returns-in_err-source
-returns-in_err-source g c =
-    let p = err_from_is_err_and c.from_residual-in_err-source.result c.from_residual-in_err-source.ensures.1 in
-    rw (p.1, p.2) (past (whole c.in_ok-_levels._levels) c.in_ok-bytes.ensures.read c.in_ok-_levels.ensures (stopped c.in_err-source.ensures))
+    rw (p.1, p.2) (reading_ended c.in_err-file.ensures)
 
 pub returns-in_err-compiled : goal.returns-in_err-compiled
 returns-in_err-compiled g c =
     let p = err_from_is_err_and c.from_residual-in_err-compiled.result c.from_residual-in_err-compiled.ensures.1 in
-    rw (p.1, p.2) (past (whole c.in_ok-_levels._levels) c.in_ok-bytes.ensures.read c.in_ok-_levels.ensures
-    (not_given (ending c.in_err-compiled.field-0.0) c.in_ok-source.ensures.1 (refused_design _ c.in_ok-source.ensures.2 (c.in_err-compiled.ensures (whole c.in_ok-_levels._levels) c.in_ok-_levels.ensures))))
+    rw (p.1, p.2) (past (whole c.in_ok-file.file.lattice) c.in_ok-file.ensures.0 c.in_ok-file.ensures.1 (reading_ended (c.in_err-compiled.ensures (whole c.in_ok-file.file.lattice) c.in_ok-file.ensures.1)))
 
 pub rows_of_run-requires : goal.rows_of_run-requires
 rows_of_run-requires g c =
@@ -55,7 +42,7 @@ rows_of_run-requires g c =
       stands =
           subst (λ (ls : Levels). StandsForDesign ls (tree_of c.design.result.now) n) (sym levels)
           (subst (λ (d : DesignTree). StandsForDesign (levels_of m) d n) (sym tree)
-          (subst (λ (x : Net). StandsForDesign (levels_of m) (design_of m) x) (sym c.into_parts-checked.ensures.netlist) c.in_ok-compiled.ensures.is_module.stands));
+          (subst (λ (x : Net). StandsForDesign (levels_of m) (design_of m) x) (sym c.into_parts-checked.ensures.netlist) c.in_ok-compiled.ensures.2.is_module.stands));
     }
 
 pub returns : goal.returns
@@ -64,13 +51,14 @@ returns g c =
     let k = levels_of m in
     let d = design_of m in
     let n = netlist_of m in
-    let ls = whole c.in_ok-_levels._levels in
-    let same = compiled_same c.in_ok-bytes.bytes c.in_ok-source.source m ls c.in_ok-compiled.ensures c.in_ok-_levels.ensures in
+    let ls = whole c.in_ok-file.file.lattice in
+    let (source, reads, compiled) = c.in_ok-compiled.ensures in
+    let same = compiled_same c.in_ok-file.file.bytes source m ls compiled c.in_ok-file.ensures.1 in
     let runs : GivesRuns k d n = rw (c.lattice.ensures, c.design.ensures, c.into_parts-checked.ensures.checked, c.into_parts-checked.ensures.netlist) at c.rows_of_run.ensures.runs in
     let fields : fields_of k n ≡ design_fields k d = rw (c.lattice.ensures, c.design.ensures, c.into_parts-checked.ensures.checked, c.into_parts-checked.ensures.netlist) at c.rows_of_run.ensures.fields in
     let printed = rw (c.lattice-2.ensures, c.into_parts-checked.ensures.checked, c.into_parts-checked.ensures.netlist) at c.print_rows.ensures in
-    past ls c.in_ok-bytes.ensures.read c.in_ok-_levels.ensures
-    (compiled_past c.in_ok-_levels.ensures c.in_ok-source.ensures.1 (compiled_whole c.in_ok-source.ensures.2 c.in_ok-compiled.ensures)
+    past ls c.in_ok-file.ensures.0 c.in_ok-file.ensures.1
+    (compiled_past c.in_ok-file.ensures.1 c.in_ok-compiled.ensures
     (printed_same c.args.stimulus.now (AreModuleRows k n) (AreDesignRows ls d) (λ bytes. (module_stimulus k n bytes).fault) (λ bytes. (design_stimulus ls d bytes).fault)
     (λ bytes given rows. (rows.0, run_in k ls same d bytes _ (runs bytes _ rows.1)))
     (λ bytes. ap (λ (fs : List Field). (stimulus_of k fs bytes).fault) fields ∙ ap (λ (p : Parsed). p.fault) (read_in k ls same d bytes)) _ _ _ printed))

@@ -2,7 +2,7 @@ use Rattle.std.proofs.Common.{◌≡◌, true, subst, rules}
 use Rattle.std.specs.Str.{bytes_eq}
 use Rattle.std.specs.HashSet as bag
 use Rattle.sap_maps.specs.Maps.{Name}
-use Rattle.sap_share.proofs.Maps.{same_bytes}
+use Rattle.sap_net.proofs.NameMaps.{same_bytes}
 use Rattle.sap_fold.proofs.Sets.{adds_name}
 use Rattle.sap_fold.proofs.names.add.Goals as goal
 

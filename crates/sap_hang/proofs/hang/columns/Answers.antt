@@ -1,5 +1,5 @@
 use Rattle.sap_tree.specs.Designs.{design_of}
-use Rattle.sap_hang.specs.Points.{points_of}
+use Rattle.sap_tree.specs.Points.{points_of}
 use Rattle.sap_hang.proofs.Tables.{columns_step}
 use Rattle.sap_hang.proofs.hang.columns.Goals as goal
 

@@ -1,7 +1,7 @@
 use Rattle.std.proofs.Common.{◌≡◌, ◌++◌, drop}
 use Rattle.sap_tree.specs.Designs.{design_of}
 use Rattle.sap_hang.specs.Columns.{columns_of, items_of}
-use Rattle.sap_hang.specs.Points.{points_of}
+use Rattle.sap_tree.specs.Points.{points_of}
 use Rattle.sap_hang.proofs.hang.columns.Given as goal
 
 -- with the columns of the entities that are left

@@ -1,9 +1,10 @@
 use Rattle.std.proofs.Common.{◌≡◌, ◌∙◌, ◌<◌, List, sym, ap, length, arith}
+use Rattle.std.specs.Map.{keys_of}
 use Rattle.sap_maps.specs.Maps.{Name}
 use Rattle.sap_ir.specs.Calcs.{command_of, commands_of}
 use Rattle.sap_lower.specs.Commands.{State, low_command, low_commands}
 use Rattle.sap_lower.specs.Lookup.{shapes_of}
-use Rattle.sap_lower.specs.Places.{names_of, place_in}
+use Rattle.sap_lower.specs.Places.{place_in}
 use Rattle.sap_lower.proofs.Steps.{commands_step, entries_named, ports_named}
 use Rattle.sap_lower.proofs.commands.lower_commands.Goals as goal
 
@@ -20,6 +21,6 @@ loop-cmd-preserved c =
     let p : new.ports ≡ (low_command ms now (command_of item)).ports = c.in_ok-lower_command.ensures.ports in
     let l : c.loop-cmd.cmd-index < length c.args.cmds.now = omega arith in (
       commands_step ms now new (low_commands ms first (commands_of c.args.cmds.now)) c.args.cmds.now c.loop-cmd.cmd-index item l c.cmd-item.is w n p i.0,
-      λ x. i.1 x ∙ ap (λ (ns : List Name). place_in ns x) (sym (ap names_of n ∙ entries_named ms now item)),
-      λ x. i.2 x ∙ ap (λ (ns : List Name). place_in ns x) (sym (ap names_of p ∙ ports_named ms now item)),
+      λ x. i.1 x ∙ ap (λ (ns : List Name). place_in ns x) (sym (ap keys_of n ∙ entries_named ms now item)),
+      λ x. i.2 x ∙ ap (λ (ns : List Name). place_in ns x) (sym (ap keys_of p ∙ ports_named ms now item)),
     )

@@ -1,4 +1,5 @@
 use Rattle.std.proofs.Common.{◌≡◌, ◌∙◌, ◌^◌, ◌<◌, ◌≤◌, List, [], length, sym, ap, subst, rules, arith}
+use Rattle.std.specs.Map.{keys_of}
 use Rattle.sap_maps.specs.Maps.{Name}
 use Rattle.sap_net.specs.Net.{Net, net_of}
 use Rattle.sap_net.specs.IsNetlist.{IsNetlist}
@@ -8,7 +9,7 @@ use Rattle.sap_ir.specs.Program.{source_of}
 use Rattle.sap_size.specs.Flat.{source_weight}
 use Rattle.sap_size.specs.Items.{items}
 use Rattle.sap_lower.specs.Lowered.{all_wires}
-use Rattle.sap_lower.specs.Places.{names_of, place_in}
+use Rattle.sap_lower.specs.Places.{place_in}
 use Rattle.sap_lower.specs.Same.{CopiesPorts, Declares, RunsAlike, SharesWires}
 use Rattle.sap_lower.proofs.Copied.{copies_ports}
 use Rattle.sap_lower.proofs.Cycle.{runs_alike}
@@ -21,7 +22,7 @@ use Rattle.sap_lower.proofs.lower.lower.Goals as goal
 pub lower_commands-requires-clause-ports : goal.lower_commands-requires-clause-ports
 lower_commands-requires-clause-ports c = λ n.
     c.in_ok-store_places.ensures {u = tt} n
-    ∙ ap (λ (ns : List Name). place_in ns n) (sym (ap names_of (c.in_ok-ports.ensures {u = tt}) ∙ first_ports_named c.memories-stores.result.now))
+    ∙ ap (λ (ns : List Name). place_in ns n) (sym (ap keys_of (c.in_ok-ports.ensures {u = tt}) ∙ first_ports_named c.memories-stores.result.now))
 
 pub new-requires : goal.new-requires
 new-requires c =

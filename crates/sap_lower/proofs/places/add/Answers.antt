@@ -3,9 +3,9 @@ use Rattle.std.specs.Str.{bytes_eq}
 use Rattle.std.specs.HashMap as hash
 use Rattle.sap_lemmas.proofs.Options.{none_of_test}
 use Rattle.sap_maps.specs.Maps.{Name}
-use Rattle.sap_share.proofs.Maps.{same_bytes}
+use Rattle.sap_net.proofs.NameMaps.{same_bytes}
+use Rattle.sap_net.specs.NameMaps.{at_name}
 use Rattle.sap_lower.proofs.Index.{added_new, added_old, is_there}
-use Rattle.sap_lower.specs.Index.{at_name}
 use Rattle.sap_lower.proofs.places.add.Goals as goal
 
 pub returns-in_ok-insert : goal.returns-in_ok-insert

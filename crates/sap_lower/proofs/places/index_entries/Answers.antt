@@ -1,6 +1,6 @@
 use Rattle.std.proofs.Common.{◌≡◌, ◌∙◌, ◌+◌, ◌++◌, [], ◌∷◌, take, length, sym, ap, arith}
 use Rattle.std.proofs.lemmas.List.{take_more, length-take-le}
-use Rattle.sap_lower.specs.Places.{names_of}
+use Rattle.std.specs.Map.{keys_of}
 use Rattle.sap_lower.proofs.Lookups.{named_push, names_long}
 use Rattle.sap_lower.proofs.places.index_entries.Goals as goal
 
@@ -9,6 +9,6 @@ loop-k-preserved c =
     let es = c.args.entries.now in
     let xs = take c.loop-k.k es in
     let y = c.index-entries-k.result in
-    let l : length (names_of xs) ≡ c.loop-k.k = names_long xs ∙ length-take-le c.loop-k.k es (omega arith) in
+    let l : length (keys_of xs) ≡ c.loop-k.k = names_long xs ∙ length-take-le c.loop-k.k es (omega arith) in
     let e : take (c.loop-k.k + 1) es ≡ xs ++ y ∷ [] = take_more es c.loop-k.k y (omega arith) ∙ ap (λ z. xs ++ z ∷ []) (sym c.index-entries-k.is) in
-    rw (e, named_push xs y) (c.in_ok-add.ensures {u = tt} (names_of xs) l c.loop-k.invariant)
+    rw (e, named_push xs y) (c.in_ok-add.ensures {u = tt} (keys_of xs) l c.loop-k.invariant)

@@ -1,5 +1,5 @@
 use Rattle.std.proofs.Common.{arith, length}
-use Rattle.sap_resolver.specs.Contexts.{known_rows}
+use Rattle.sap_resolver.specs.Surroundings.{known_rows}
 use Rattle.sap_program.specs.Views.{group_of}
 use Rattle.sap_resolver.proofs.Groups.{whole_states, whole_sites}
 use Rattle.sap_resolver.proofs.Limits.{sites_fit, points_fit, states_fit}

@@ -1,5 +1,5 @@
 use Rattle.std.proofs.Common.{◌∙◌, ◌^◌, arith, length}
-use Rattle.sap_resolver.specs.Contexts.{known_rows}
+use Rattle.sap_resolver.specs.Surroundings.{known_rows}
 use Rattle.sap_resolver.proofs.Lighter.{children_lighter, state_lighter}
 use Rattle.sap_resolver.proofs.Groups.{states_step, states_end, group_sites_step, group_sites_end, group_sites_within, group_points_step, group_points_end, group_points_within, below_step, below_end, below_within, rest_sites, rest_points, rest_states}
 use Rattle.sap_resolver.proofs.states.+states.Goals as goal

@@ -6,8 +6,9 @@ use Rattle.sap_net.specs.Runs.{InputsFit}
 use Rattle.sap_stream.specs.Spans.{Span, cycles_in, cycles_of}
 use Rattle.sap_sim.specs.Fields.{fields_of}
 use Rattle.sap_sim.specs.Numbers.{numbers_of}
+use Rattle.sap_sim.specs.Shown.{shown_registers, row_of}
 use Rattle.sap_sim.proofs.Following.{Follows, Tells, follows_none, follows_more, tells_none, tells_more}
-use Rattle.sap_sim.proofs.Runs.{rows_told, told_split, fits_at}
+use Rattle.sap_sim.proofs.Runs.{fits_at}
 use Rattle.sap_sim.proofs.Spans.{count_more, count_within, cycle_here, mapped_span}
 use Rattle.sap_sim.proofs.steps.rows.Goals as goal
 use Rattle.sap_sim.proofs.steps.rows.Goals.{After-count-count}
@@ -20,7 +21,7 @@ loop-span-init c =
       netlist = refl;
       done = refl;
       shows = follows_none n c.args.runner.now;
-      rows = subst (Tells (rows_told ls n) c.args.runner.now n 0 [] []) (sym c.new-out.ensures.items) (tells_none n (rows_told ls n) (λ c. refl) (told_split ls n) c.args.runner.now 0 []);
+      rows = subst (Tells (row_of ls (shown_registers ls n)) c.args.runner.now n 0 [] []) (sym c.new-out.ensures.items) (tells_none n (row_of ls (shown_registers ls n)) c.args.runner.now 0 []);
     }
 
 within : (c : After-count-count) → c.loop-span.done + c.span-item.result.count ≤ length (cycles_of c.args.spans.now)
@@ -75,15 +76,15 @@ loop-span-preserved c =
     let more = mapped_span f ss i s c.loop-span-test.true c.span-item.is in
     let shows : Follows c.loop-span.runner c.args.runner.now.net (map (numbers_of c.args.lattice.now c.args.runner.now.net) (cycles_in c.span-item.result)) c.span_rows.new.runner
     = subst (λ (m : Net). Follows mid m (map (numbers_of ls m) (cycles_in s)) c.span_rows.new.runner) c.loop-span.invariant.netlist c.in_ok-span_rows.ensures.shows in
-    let rows = subst (λ (k : ℕ). Tells (rows_told ls n) mid n k next c.loop-span.out.items c.span_rows.new.out.items) done
-    (subst (λ (m : Net). Tells (rows_told ls m) mid m c.loop-span.done (map (numbers_of ls m) (cycles_in s)) c.loop-span.out.items c.span_rows.new.out.items) c.loop-span.invariant.netlist c.in_ok-span_rows.ensures.rows) in
+    let rows = subst (λ (k : ℕ). Tells (row_of ls (shown_registers ls n)) mid n k next c.loop-span.out.items c.span_rows.new.out.items) done
+    (subst (λ (m : Net). Tells (row_of ls (shown_registers ls m)) mid m c.loop-span.done (map (numbers_of ls m) (cycles_in s)) c.loop-span.out.items c.span_rows.new.out.items) c.loop-span.invariant.netlist c.in_ok-span_rows.ensures.rows) in
     record {
       netlist = c.span_rows.ensures.netlist ∙ c.loop-span.invariant.netlist;
       done = omega (arith, count, c.loop-span.invariant.done, c.from-done.ensures, c.count-count.ensures.number);
       shows = subst (λ (xss : List (List ℕ)). Follows c.args.runner.now n xss c.span_rows.new.runner) more
           (follows_more n c.args.runner.now mid c.span_rows.new.runner front next c.loop-span.invariant.shows shows);
-      rows = subst (λ (xss : List (List ℕ)). Tells (rows_told ls n) c.args.runner.now n 0 xss [] c.span_rows.new.out.items) more
-          (tells_more n (rows_told ls n) (λ c. refl) (told_split ls n) c.args.runner.now mid 0 front next [] c.loop-span.out.items c.span_rows.new.out.items
+      rows = subst (λ (xss : List (List ℕ)). Tells (row_of ls (shown_registers ls n)) c.args.runner.now n 0 xss [] c.span_rows.new.out.items) more
+          (tells_more n (row_of ls (shown_registers ls n)) c.args.runner.now mid 0 front next [] c.loop-span.out.items c.span_rows.new.out.items
           c.loop-span.invariant.shows c.loop-span.invariant.rows rows);
     }
 
@@ -92,4 +93,4 @@ returns c = λ vs run.
     let n = c.args.runner.now.net in
     let ls = c.args.lattice.now in
     let all : take c.loop-span.span-index c.args.spans.now ≡ c.args.spans.now = take_all c.loop-span.span-index c.args.spans.now c.loop-span-test.false in
-    subst (λ (ss : List Span). Tells (rows_told ls n) c.args.runner.now n 0 (map (numbers_of ls n) (cycles_of ss)) [] c.loop-span.out.items) all c.loop-span.invariant.rows None vs c.requires.unstepped run
+    subst (λ (ss : List Span). Tells (row_of ls (shown_registers ls n)) c.args.runner.now n 0 (map (numbers_of ls n) (cycles_of ss)) [] c.loop-span.out.items) all c.loop-span.invariant.rows None vs c.requires.unstepped run

@@ -1,4 +1,4 @@
-use Rattle.std.proofs.Common.{◌≡◌, ℕ, ◌+◌, List, ◌++◌, Option, map, replicate, refl, sym, ap, ◌∙◌, subst, append-nil, arith}
+use Rattle.std.proofs.Common.{◌≡◌, ℕ, ◌+◌, List, ◌++◌, Option, map, replicate, refl, sym, ap, ◌∙◌, subst, arith}
 use Rattle.sap_maps.specs.Maps.{Valuation}
 use Rattle.sap_meaning.specs.Cycle.{Tagged as Given}
 use Rattle.sap_net.specs.Net.{Net}
@@ -6,7 +6,6 @@ use Rattle.sap_net.specs.Runs.{InputsFit, IsCycle, observed}
 use Rattle.sap_sim.specs.Numbers.{numbers_of}
 use Rattle.sap_sim.specs.Shown.{shown_registers, row_of}
 use Rattle.sap_sim.proofs.Following.{Follows, Tells, follows_none, follows_again, tells_none, tells_again}
-use Rattle.sap_sim.proofs.Runs.{rows_told, told_split}
 use Rattle.sap_sim.proofs.steps.span_rows.Goals as goal
 use Rattle.sap_sim.proofs.steps.span_rows.Goals.{After-values}
 
@@ -17,7 +16,7 @@ loop-k-init c =
     record {
       netlist = refl;
       shows = follows_none n c.args.runner.now;
-      rows = tells_none n (rows_told ls n) (λ c. refl) (told_split ls n) c.args.runner.now c.args.done c.args.out.now.items;
+      rows = tells_none n (row_of ls (shown_registers ls n)) c.args.runner.now c.args.done c.args.out.now.items;
     }
 
 same_line : (c : After-values) → c.values.result.now ≡ c.args.span.now.inputs
@@ -45,12 +44,11 @@ loop-k-preserved c =
       netlist = c.step.ensures.netlist ∙ c.loop-k.invariant.netlist;
       shows = follows_again n (numbers_of ls n) k x c.args.runner.now c.loop-k.runner c.step.new.runner c.loop-k.invariant.shows
           (λ before v shows cycle. c.in_ok-step.ensures.shows before v shows (to_cycle before v cycle));
-      rows = tells_again n (rows_told ls n) (λ c. refl) (told_split ls n) (numbers_of ls n) k x c.args.runner.now c.loop-k.runner c.args.done c.args.out.now.items told c.step.new.out.items
+      rows = tells_again n (row_of ls (shown_registers ls n)) (numbers_of ls n) k x c.args.runner.now c.loop-k.runner c.args.done c.args.out.now.items told c.step.new.out.items
           c.loop-k.invariant.shows c.loop-k.invariant.rows
           (λ before v shows cycle. c.in_ok-step.ensures.row before v shows (to_cycle before v cycle)
           ∙ ap (λ (m : Net). told ++ row_of ls (shown_registers ls m) (c.args.done + c.from.result + 1) (observed m v)) c.loop-k.invariant.netlist
-          ∙ ap (λ (j : ℕ). told ++ row_of ls (shown_registers ls n) j (observed n v)) number
-          ∙ ap (λ (text : List ℕ). told ++ text) (sym (append-nil (row_of ls (shown_registers ls n) (c.args.done + k + 1) (observed n v)))));
+          ∙ ap (λ (j : ℕ). told ++ row_of ls (shown_registers ls n) j (observed n v)) number);
     }
 
 pub returns : goal.returns
@@ -63,5 +61,5 @@ returns c =
     record {
       netlist = c.loop-k.invariant.netlist;
       shows = subst (λ (k : ℕ). Follows c.args.runner.now n (map f (replicate k x)) c.loop-k.runner) all c.loop-k.invariant.shows;
-      rows = subst (λ (k : ℕ). Tells (rows_told ls n) c.args.runner.now n c.args.done (map f (replicate k x)) c.args.out.now.items c.loop-k.out.items) all c.loop-k.invariant.rows;
+      rows = subst (λ (k : ℕ). Tells (row_of ls (shown_registers ls n)) c.args.runner.now n c.args.done (map f (replicate k x)) c.args.out.now.items c.loop-k.out.items) all c.loop-k.invariant.rows;
     }

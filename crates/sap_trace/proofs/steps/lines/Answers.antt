@@ -10,8 +10,7 @@ use Rattle.sap_sim.proofs.Following.{Follows, Tells, follows_none, follows_more,
 use Rattle.sap_sim.proofs.Runs.{fits_at}
 use Rattle.sap_sim.proofs.Spans.{count_more, count_within, cycle_here, mapped_span}
 use Rattle.sap_trace.specs.Fields.{given}
-use Rattle.sap_trace.specs.Seen.{AreWires, lines_from}
-use Rattle.sap_trace.proofs.Runs.{lines_split}
+use Rattle.sap_trace.specs.Seen.{AreWires, cycle_lines}
 use Rattle.sap_trace.proofs.steps.lines.Goals as goal
 use Rattle.sap_trace.proofs.steps.lines.Goals.{After-count-count}
 
@@ -24,7 +23,7 @@ loop-span-init c =
       netlist = refl;
       done = refl;
       shows = follows_none n c.args.runner.now;
-      lines = subst (Tells (lines_from ls t n) c.args.runner.now n 0 [] []) (sym c.new-out.ensures.items) (tells_none n (lines_from ls t n) (λ c. refl) (lines_split ls t n) c.args.runner.now 0 []);
+      lines = subst (Tells (cycle_lines ls t) c.args.runner.now n 0 [] []) (sym c.new-out.ensures.items) (tells_none n (cycle_lines ls t) c.args.runner.now 0 []);
     }
 
 within : (c : After-count-count) → c.loop-span.done + c.span-item.result.count ≤ length (cycles_of c.args.spans.now)
@@ -75,15 +74,15 @@ loop-span-preserved c =
     let more = mapped_span (given ls) ss i s c.loop-span-test.true c.span-item.is in
     let shows : Follows c.loop-span.runner c.args.runner.now.net (map (given (levels_in c.args.checked.now)) (cycles_in c.span-item.result)) c.span_lines.new.runner
     = subst (λ (m : Net). Follows mid m next c.span_lines.new.runner) c.loop-span.invariant.netlist c.in_ok-span_lines.ensures.shows in
-    let lines = subst (λ (k : ℕ). Tells (lines_from ls t n) mid n k next c.loop-span.out.items c.span_lines.new.out.items) done
-    (subst (λ (m : Net). Tells (lines_from ls t m) mid m c.loop-span.done next c.loop-span.out.items c.span_lines.new.out.items) c.loop-span.invariant.netlist c.in_ok-span_lines.ensures.lines) in
+    let lines = subst (λ (k : ℕ). Tells (cycle_lines ls t) mid n k next c.loop-span.out.items c.span_lines.new.out.items) done
+    (subst (λ (m : Net). Tells (cycle_lines ls t) mid m c.loop-span.done next c.loop-span.out.items c.span_lines.new.out.items) c.loop-span.invariant.netlist c.in_ok-span_lines.ensures.lines) in
     record {
       netlist = c.span_lines.ensures.netlist ∙ c.loop-span.invariant.netlist;
       done = omega (arith, count, c.loop-span.invariant.done, c.from-done.ensures, c.count-count.ensures.number);
       shows = subst (λ (xss : List (List ℕ)). Follows c.args.runner.now n xss c.span_lines.new.runner) more
           (follows_more n c.args.runner.now mid c.span_lines.new.runner front next c.loop-span.invariant.shows shows);
-      lines = subst (λ (xss : List (List ℕ)). Tells (lines_from ls t n) c.args.runner.now n 0 xss [] c.span_lines.new.out.items) more
-          (tells_more n (lines_from ls t n) (λ c. refl) (lines_split ls t n) c.args.runner.now mid 0 front next [] c.loop-span.out.items c.span_lines.new.out.items
+      lines = subst (λ (xss : List (List ℕ)). Tells (cycle_lines ls t) c.args.runner.now n 0 xss [] c.span_lines.new.out.items) more
+          (tells_more n (cycle_lines ls t) c.args.runner.now mid 0 front next [] c.loop-span.out.items c.span_lines.new.out.items
           c.loop-span.invariant.shows c.loop-span.invariant.lines lines);
     }
 
@@ -93,4 +92,4 @@ returns c = λ vs run.
     let ls = levels_in c.args.checked.now in
     let t = tree_in c.args.checked.now in
     let all : take c.loop-span.span-index c.args.spans.now ≡ c.args.spans.now = take_all c.loop-span.span-index c.args.spans.now c.loop-span-test.false in
-    subst (λ (ss : List Span). Tells (lines_from ls t n) c.args.runner.now n 0 (map (given ls) (cycles_of ss)) [] c.loop-span.out.items) all c.loop-span.invariant.lines None vs c.requires.unstepped run
+    subst (λ (ss : List Span). Tells (cycle_lines ls t) c.args.runner.now n 0 (map (given ls) (cycles_of ss)) [] c.loop-span.out.items) all c.loop-span.invariant.lines None vs c.requires.unstepped run

@@ -1,14 +1,13 @@
-use Rattle.std.proofs.Common.{◌≡◌, ℕ, ◌+◌, List, ◌++◌, Option, length, map, replicate, refl, sym, ap, ◌∙◌, subst, append-nil, arith}
+use Rattle.std.proofs.Common.{◌≡◌, ℕ, ◌+◌, List, ◌++◌, Option, length, map, replicate, refl, sym, ap, ◌∙◌, subst, arith}
 use Rattle.sap_maps.specs.Maps.{Valuation}
 use Rattle.sap_meaning.specs.Cycle.{Tagged}
 use Rattle.sap_net.specs.Net.{Net}
-use Rattle.sap_net.specs.Runs.{InputsFit, IsCycle}
+use Rattle.sap_net.specs.Runs.{InputsFit, IsCycle, observed}
 use Rattle.sap_check.specs.Checked.{levels_in, tree_in}
 use Rattle.sap_check.specs.Sites.{sites_of}
 use Rattle.sap_sim.proofs.Following.{Follows, Tells, follows_none, follows_again, tells_none, tells_again}
 use Rattle.sap_trace.specs.Fields.{given}
-use Rattle.sap_trace.specs.Seen.{AreWires, lines_from}
-use Rattle.sap_trace.proofs.Runs.{cycle_lines, lines_split}
+use Rattle.sap_trace.specs.Seen.{AreWires, cycle_lines}
 use Rattle.sap_trace.proofs.steps.span_lines.Goals as goal
 use Rattle.sap_trace.proofs.steps.span_lines.Goals.{After-values}
 
@@ -20,7 +19,7 @@ loop-k-init c =
     record {
       netlist = refl;
       shows = follows_none n c.args.runner.now;
-      lines = tells_none n (lines_from ls t n) (λ c. refl) (lines_split ls t n) c.args.runner.now c.args.done c.args.out.now.items;
+      lines = tells_none n (cycle_lines ls t) c.args.runner.now c.args.done c.args.out.now.items;
     }
 
 same_line : (c : After-values) → c.values.result.now ≡ c.args.span.now.inputs
@@ -53,12 +52,11 @@ loop-k-preserved c =
       netlist = c.step.ensures.netlist ∙ c.loop-k.invariant.netlist;
       shows = follows_again n (given ls) k x c.args.runner.now c.loop-k.runner c.step.new.runner c.loop-k.invariant.shows
           (λ before v shows cycle. c.in_ok-step.ensures.shows before v shows (to_cycle before v cycle));
-      lines = tells_again n (lines_from ls t n) (λ c. refl) (lines_split ls t n) (given ls) k x c.args.runner.now c.loop-k.runner c.args.done c.args.out.now.items told c.step.new.out.items
+      lines = tells_again n (cycle_lines ls t) (given ls) k x c.args.runner.now c.loop-k.runner c.args.done c.args.out.now.items told c.step.new.out.items
           c.loop-k.invariant.shows c.loop-k.invariant.lines
           (λ before v shows cycle. c.in_ok-step.ensures.lines before v shows (to_cycle before v cycle)
-          ∙ ap (λ (m : Net). told ++ cycle_lines ls t m (c.args.done + c.from.result + 1) v) c.loop-k.invariant.netlist
-          ∙ ap (λ (j : ℕ). told ++ cycle_lines ls t n j v) number
-          ∙ ap (λ (text : List ℕ). told ++ text) (sym (append-nil (cycle_lines ls t n (c.args.done + k + 1) v))));
+          ∙ ap (λ (m : Net). told ++ cycle_lines ls t (c.args.done + c.from.result + 1) (observed m v)) c.loop-k.invariant.netlist
+          ∙ ap (λ (j : ℕ). told ++ cycle_lines ls t j (observed n v)) number);
     }
 
 pub returns : goal.returns
@@ -71,5 +69,5 @@ returns c =
     record {
       netlist = c.loop-k.invariant.netlist;
       shows = subst (λ (k : ℕ). Follows c.args.runner.now n (map (given ls) (replicate k x)) c.loop-k.runner) all c.loop-k.invariant.shows;
-      lines = subst (λ (k : ℕ). Tells (lines_from ls t n) c.args.runner.now n c.args.done (map (given ls) (replicate k x)) c.args.out.now.items c.loop-k.out.items) all c.loop-k.invariant.lines;
+      lines = subst (λ (k : ℕ). Tells (cycle_lines ls t) c.args.runner.now n c.args.done (map (given ls) (replicate k x)) c.args.out.now.items c.loop-k.out.items) all c.loop-k.invariant.lines;
     }

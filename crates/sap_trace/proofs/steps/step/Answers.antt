@@ -1,12 +1,11 @@
-use Rattle.std.proofs.Common.{◌≡◌, ◌++◌, List, ℕ, Some, length, sym, ap, ◌∙◌, subst}
+use Rattle.std.proofs.Common.{◌≡◌, ◌++◌, List, ℕ, Some, sym, ap, ◌∙◌, subst}
 use Rattle.sap_lattice.specs.Levels.{Levels}
 use Rattle.sap_net.specs.Net.{Net}
 use Rattle.sap_net.specs.Runs.{IsCycle, observed}
 use Rattle.sap_check.specs.Checked.{levels_in, tree_in}
-use Rattle.sap_check.specs.Sites.{sites_of}
 use Rattle.sap_cycle.specs.Running.{Shows}
 use Rattle.sap_trace.specs.Fields.{given}
-use Rattle.sap_trace.specs.Seen.{seen_lines}
+use Rattle.sap_trace.specs.Seen.{cycle_lines}
 use Rattle.sap_trace.proofs.steps.step.Goals as goal
 
 pub returns-clause-lines : goal.returns-clause-lines
@@ -18,4 +17,4 @@ returns-clause-lines c = λ before v shows cycle.
     let after : Shows c.step.new.self (Some v) =
     c.step.ensures.next before v shows (subst (λ (xs : List ℕ). IsCycle c.args.runner.now.net before xs v) (sym right) cycle) in
     c.in_ok-push_refused.ensures.text (Some v) after
-    ∙ ap (λ (m : Net). c.args.out.now.items ++ seen_lines ls d c.args.cycle 1 (length (sites_of d)) (observed m v)) c.step.ensures.netlist
+    ∙ ap (λ (m : Net). c.args.out.now.items ++ cycle_lines ls d c.args.cycle (observed m v)) c.step.ensures.netlist

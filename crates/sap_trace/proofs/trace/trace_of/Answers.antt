@@ -1,7 +1,7 @@
 use Rattle.std.proofs.Common.{◌≡◌, ◌<◌, ◌^◌, length, ℕ, List, map, sym, ap, ◌∙◌, subst}
 use Rattle.sap_meaning.specs.Cycle.{Tagged}
 use Rattle.sap_net.specs.Net.{Net}
-use Rattle.sap_net.specs.Runs.{AllFit, IsRun}
+use Rattle.sap_net.specs.Runs.{AllFit, IsRun, observed}
 use Rattle.sap_check.specs.Checked.{levels_in, tree_in}
 use Rattle.sap_stream.specs.Spans.{cycles_of}
 use Rattle.sap_stim.specs.declared.stimulus.Parsed.{Parsed}
@@ -61,7 +61,7 @@ returns c =
         fault = ap (λ (p : Parsed). p.fault) c.in_ok-parsed.ensures;
         text =
             c.new.ensures ∙ c.in_ok-text.ensures w.0 there
-            ∙ ap (λ (n : Net). lines_from ls d n 1 w.0) c.in_ok-runner.ensures.netlist
+            ∙ ap (λ (n : Net). lines_from ls d 1 (map (observed n) w.0)) c.in_ok-runner.ensures.netlist
             ∙ trace_is ls d c.args.netlist c.requires.stands c.known.ensures.order c.stimulus_fits.ensures c.args.stimulus.now c.known.ensures.codes
             c.known.ensures.some c.known.ensures.numbering c.known.ensures.in_order w.0 w.1;
       };

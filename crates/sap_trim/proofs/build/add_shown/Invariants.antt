@@ -1,8 +1,8 @@
 use Rattle.std.proofs.Common.{◌≡◌, ◌++◌, drop, map, filter}
 use Rattle.sap_fold.specs.Names.{holds}
-use Rattle.sap_trim.specs.Replaced.{stands_in}
 use Rattle.sap_trim.specs.Built.{wire_of}
 use Rattle.sap_trim.proofs.build.add_shown.Given as goal
+use Rattle.sap_net.specs.NameMaps.{at_name}
 
 abbrev pub invariant-loop-shown : goal.invariant-loop-shown
-invariant-loop-shown l = l.made.items ++ map (wire_of (stands_in l.stands)) (filter (λ w. holds l.ports w.name) (drop l.shown-index l.wires)) ≡ l.fn.made.items ++ map (wire_of (stands_in l.stands)) (filter (λ w. holds l.ports w.name) l.wires)
+invariant-loop-shown l = l.made.items ++ map (wire_of (at_name l.stands)) (filter (λ w. holds l.ports w.name) (drop l.shown-index l.wires)) ≡ l.fn.made.items ++ map (wire_of (at_name l.stands)) (filter (λ w. holds l.ports w.name) l.wires)

@@ -1,7 +1,7 @@
 use Rattle.std.proofs.Common.{◌≡◌, ◌++◌, drop, map}
-use Rattle.sap_trim.specs.Replaced.{stands_in}
 use Rattle.sap_trim.specs.Built.{memory_of}
 use Rattle.sap_trim.proofs.build.memories.Given as goal
+use Rattle.sap_net.specs.NameMaps.{at_name}
 
 abbrev pub invariant-loop-given : goal.invariant-loop-given
-invariant-loop-given l = l.made.items ++ map (memory_of (stands_in l.stands)) (drop l.given-index l.memories) ≡ map (memory_of (stands_in l.stands)) l.memories
+invariant-loop-given l = l.made.items ++ map (memory_of (at_name l.stands)) (drop l.given-index l.memories) ≡ map (memory_of (at_name l.stands)) l.memories

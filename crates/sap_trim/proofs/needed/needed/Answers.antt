@@ -2,8 +2,9 @@ use Rattle.std.proofs.Common.{◌≡◌, ◌∙◌, ◌-◌, ◌++◌, ◌∷◌
 use Rattle.sap_maps.specs.Maps.{Name}
 use Rattle.sap_net.specs.Names.{is_among}
 use Rattle.sap_net.specs.declared.parts.Wire.{Wire}
+use Rattle.sap_net.specs.IsNetlist.{names_of}
 use Rattle.sap_fold.specs.Names.{holds}
-use Rattle.sap_trim.specs.Names.{names_of, port_names}
+use Rattle.sap_trim.specs.Names.{port_names}
 use Rattle.sap_trim.specs.Reads.{wire_reads, edge_reads}
 use Rattle.sap_trim.specs.Needed.{needed}
 use Rattle.sap_trim.proofs.Loops.{drop_less, marked, marked_needed}

@@ -1,6 +1,7 @@
 use Rattle.std.proofs.Common.{[]}
-use Rattle.sap_trim.specs.Stays.{AllStay, stays_in}
+use Rattle.sap_trim.specs.Stays.{AllStay}
 use Rattle.sap_trim.proofs.stays.put_registers.Given as goal
+use Rattle.sap_net.specs.NameMaps.{at_name}
 
 abbrev pub invariant-loop-register : goal.invariant-loop-register
-invariant-loop-register l = AllStay [] (stays_in l.stays)
+invariant-loop-register l = AllStay [] (at_name l.stays)

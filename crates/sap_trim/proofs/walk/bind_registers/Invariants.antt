@@ -3,9 +3,9 @@ use Rattle.std.specs.Prelude.{if◌then◌else◌}
 use Rattle.sap_maps.specs.Maps.{Name}
 use Rattle.sap_net.specs.Names.{is_among}
 use Rattle.sap_net.specs.declared.parts.Operand.TheVariants.{Named}
-use Rattle.sap_trim.specs.Replaced.{stands_in}
+use Rattle.sap_net.specs.NameMaps.{at_name}
 use Rattle.sap_trim.proofs.walk.bind_registers.Given as goal
 
 abbrev pub invariant-loop-register : goal.invariant-loop-register
 invariant-loop-register l =
-    (x : Name) → stands_in l.stands x ≡ (if is_among x (map (λ y. y.name) (take l.register-index l.registers)) then Some (Named x) else stands_in l.fn.stands x)
+    (x : Name) → at_name l.stands x ≡ (if is_among x (map (λ y. y.name) (take l.register-index l.registers)) then Some (Named x) else at_name l.fn.stands x)

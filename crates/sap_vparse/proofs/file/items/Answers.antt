@@ -4,7 +4,7 @@ use Rattle.sap_modtext.specs.Grammar as g
 use Rattle.sap_modtext.specs.Grammar.{AreItems}
 use Rattle.sap_modtext.specs.Items as item
 use Rattle.sap_vparse.specs.Views.{item_of, items_of}
-use Rattle.sap_vparse.proofs.Laws.{items_more}
+use Rattle.sap_vparse.proofs.ItemLaws.{items_more}
 use Rattle.sap_vparse.proofs.Lists.{pushed}
 use Rattle.sap_walk.proofs.Walking.{bind_ok, bind_pure}
 use Rattle.sap_vparse.proofs.file.items.Goals as goal

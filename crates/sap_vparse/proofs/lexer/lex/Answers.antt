@@ -1,5 +1,5 @@
 use Rattle.std.proofs.Common.{◌≡◌, ◌-◌, ◌∙◌, ◌+◌, ◌<◌, ◌++◌, ◌∷◌, [], ℕ, List, sym, ap, subst, arith, length-drop, length, take, drop, append_assoc}
-use Rattle.std.proofs.lemmas.List.{drop-drop, map-append, append-nil, take_rest}
+use Rattle.std.proofs.lemmas.List.{drop-drop, drop_all, map-append, append-nil, take_rest}
 use Rattle.sap_modtext.specs.Lexing.{Lexed, Front, end, blank_first, token_first, front}
 use Rattle.sap_modtext.specs.Lexing as l
 use Rattle.sap_modtext.specs.Tokens as t
@@ -11,8 +11,6 @@ use Rattle.sap_vparse.specs.Text as x
 use Rattle.sap_vparse.specs.declared.lexeme.Lexeme.{Lexeme}
 use Rattle.sap_vparse.specs.declared.token.Token.{Token}
 use Rattle.sap_vparse.proofs.FrontIs.{front_is}
-use Rattle.std.proofs.Common.{◌≤◌}
-use Rattle.std.proofs.lemmas.Grind.{common_steps}
 use Rattle.sap_vparse.proofs.lexer.lex.Goals as goal
 
 length_rest : (xs : List ℕ) (n : ℕ) → n < length xs → 0 < length (drop n xs)
@@ -62,12 +60,9 @@ returns-in-Bad-clause-fault c =
     let stands : front (drop n text) ≡ l.bad = is_front text n c.in_ok-len.field-0 (c.lexemes-test.true) c.in_ok-len.ensures.value ∙ ap front_of c.in-Bad.is in
     c.lexemes.invariant.first n (x.here (length_rest text n c.lexemes-test.true) stands)
 
-drop_all : (xs : List ℕ) (n : ℕ) → length xs ≤ n → drop n xs ≡ []
-drop_all xs n h = grind (arith, common_steps)
-
 pub returns-clause-tokens : goal.returns-clause-tokens
 returns-clause-tokens c =
     let text = c.args.text.now in
     let n = c.lexemes.n in
     subst (Lexed 0 text) (append-nil (tokens_of c.lexemes.tokens.items))
-    (c.lexemes.invariant.so_far [] (subst (λ bs. Lexed n bs []) (sym (drop_all text n (c.lexemes-test.false))) end))
+    (c.lexemes.invariant.so_far [] (subst (λ bs. Lexed n bs []) (sym (drop_all n text (c.lexemes-test.false))) end))

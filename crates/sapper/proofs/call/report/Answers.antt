@@ -1,6 +1,6 @@
 use Rattle.std.proofs.Common.{◌≡◌, rules, refl}
-use Rattle.sap_commands.specs.Ending.{failed}
-use Rattle.sap_commands.specs.declared.failure.Failure.TheVariants.{Desk}
+use Rattle.sap_files.specs.Ending.{failed}
+use Rattle.sap_files.specs.declared.failure.Failure.TheVariants.{Desk}
 use Rattle.sapper.proofs.Calls.{told_as}
 use Rattle.sapper.proofs.call.report.Goals as goal
 

@@ -1,6 +1,6 @@
 use Rattle.std.proofs.Common.{refl, ◌∙◌, ap}
-use Rattle.sap_commands.specs.Ending.{line, refused, stimulus_refused}
-use Rattle.sap_commands.specs.Steps.{reason}
+use Rattle.sap_files.specs.Ending.{line, refused, stimulus_refused}
+use Rattle.sap_files.specs.Steps.{reason}
 use Rattle.sapper.proofs.Calls.{told_as}
 use Rattle.sapper.proofs.call.report_refusal.Goals as goal
 

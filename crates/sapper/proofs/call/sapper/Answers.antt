@@ -1,9 +1,9 @@
 use Rattle.std.proofs.Common.{rules, refl, subst, inl}
 use Rattle.std.specs.Prelude.{map, string_bytes}
 use Rattle.sap_desk.specs.Whole.{LostAtMostOne}
-use Rattle.sap_commands.specs.Ending.{done, no_command, refused, line_of}
+use Rattle.sap_files.specs.Ending.{done, no_command, refused, line_of}
 use Rattle.sap_words.specs.Called.{words_of}
-use Rattle.sap_commands.specs.Steps.{ending, seen}
+use Rattle.sap_files.specs.Steps.{ending, seen}
 use Rattle.sapper.specs.Lines.{Tells}
 use Rattle.sapper.proofs.Calls.{answers, exact, full_lines, lost_once, may_answer, named, no_words, outside, same_end, silent, told_end, two_words}
 use Rattle.sapper.proofs.Headline.{headline_told}

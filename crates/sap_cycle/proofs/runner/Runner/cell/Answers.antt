@@ -2,8 +2,8 @@ use Rattle.std.proofs.Common.{◌≡◌, ◌+◌, ◌<◌, Some, None, length, g
 use Rattle.std.specs.Prelude.{slice_get}
 use Rattle.sap_net.specs.declared.parts.Memory.{Memory}
 use Rattle.sap_net.specs.IsNetlist.{memory_names}
+use Rattle.sap_net.specs.NameMaps.{at_name}
 use Rattle.sap_cycle.specs.declared.steps.WritePort.{WritePort}
-use Rattle.sap_cycle.specs.Places.{place_in}
 use Rattle.sap_cycle.specs.Running.{Running, GivesCell, value_names, cells_of, seen}
 use Rattle.sap_cycle.specs.Means.{cell_count}
 use Rattle.sap_cycle.proofs.Kept.{IsAt, is_at, memory_is, at_within, ports_long, base_is, kept_within, kept_is, cell_seen_there, cell_not_seen, cell_nowhere}
@@ -13,8 +13,8 @@ pub offset_bounds-memories-k : goal.offset_bounds-memories-k
 offset_bounds-memories-k c =
     let i = c.self.invariant in
     let n = c.self.inside.netlist in
-    let f : place_in c.self.inside.memories c.args.name.now ≡ Some c.in-Some.k =
-    ap (place_in c.self.inside.memories) (sym c.as_bytes.ensures.value) ∙ sym c.place_of.ensures ∙ c.in-Some.is in
+    let f : at_name c.self.inside.memories c.args.name.now ≡ Some c.in-Some.k =
+    ap (at_name c.self.inside.memories) (sym c.as_bytes.ensures.value) ∙ sym c.place_of.ensures ∙ c.in-Some.is in
     let k = at_within n.memories c.in-Some.k c.args.name.now (i.memories_found.found c.args.name.now c.in-Some.k f) in
     let e = ap length c.memories.ensures in
     omega arith
@@ -23,8 +23,8 @@ pub bounds-memories-k : goal.bounds-memories-k
 bounds-memories-k c =
     let i = c.self.invariant in
     let n = c.self.inside.netlist in
-    let f : place_in c.self.inside.memories c.args.name.now ≡ Some c.in-Some.k =
-    ap (place_in c.self.inside.memories) (sym c.as_bytes.ensures.value) ∙ sym c.place_of.ensures ∙ c.in-Some.is in
+    let f : at_name c.self.inside.memories c.args.name.now ≡ Some c.in-Some.k =
+    ap (at_name c.self.inside.memories) (sym c.as_bytes.ensures.value) ∙ sym c.place_of.ensures ∙ c.in-Some.is in
     let k = at_within n.memories c.in-Some.k c.args.name.now (i.memories_found.found c.args.name.now c.in-Some.k f) in
     rw c.memories.ensures k
 
@@ -32,8 +32,8 @@ pub bounds-memories-k-in-Some : goal.bounds-memories-k-in-Some
 bounds-memories-k-in-Some c =
     let i = c.self.invariant in
     let n = c.self.inside.netlist in
-    let f : place_in c.self.inside.memories c.args.name.now ≡ Some c.in-Some.k =
-    ap (place_in c.self.inside.memories) (sym c.as_bytes.ensures.value) ∙ sym c.place_of.ensures ∙ c.in-Some.is in
+    let f : at_name c.self.inside.memories c.args.name.now ≡ Some c.in-Some.k =
+    ap (at_name c.self.inside.memories) (sym c.as_bytes.ensures.value) ∙ sym c.place_of.ensures ∙ c.in-Some.is in
     let k = at_within n.memories c.in-Some.k c.args.name.now (i.memories_found.found c.args.name.now c.in-Some.k f) in
     rw c.memories.ensures k
 
@@ -42,8 +42,8 @@ index-requires c =
     let i = c.self.invariant in
     let n = c.self.inside.netlist in
     let x = c.args.name.now in
-    let f : place_in c.self.inside.memories x ≡ Some c.in-Some.k =
-    ap (place_in c.self.inside.memories) (sym c.as_bytes.ensures.value) ∙ sym c.place_of.ensures ∙ c.in-Some.is in
+    let f : at_name c.self.inside.memories x ≡ Some c.in-Some.k =
+    ap (at_name c.self.inside.memories) (sym c.as_bytes.ensures.value) ∙ sym c.place_of.ensures ∙ c.in-Some.is in
     let h : slice_get (memory_names n) c.in-Some.k ≡ Some x = i.memories_found.found x c.in-Some.k f in
     let k = at_within n.memories c.in-Some.k x h in
     let l = ports_long (value_names n) c.self.inside.program.ports.items n.memories 0 i.program.ports in
@@ -54,8 +54,8 @@ overflow_add-index c =
     let i = c.self.invariant in
     let n = c.self.inside.netlist in
     let x = c.args.name.now in
-    let f : place_in c.self.inside.memories x ≡ Some c.in-Some.k =
-    ap (place_in c.self.inside.memories) (sym c.as_bytes.ensures.value) ∙ sym c.place_of.ensures ∙ c.in-Some.is in
+    let f : at_name c.self.inside.memories x ≡ Some c.in-Some.k =
+    ap (at_name c.self.inside.memories) (sym c.as_bytes.ensures.value) ∙ sym c.place_of.ensures ∙ c.in-Some.is in
     let h : slice_get (memory_names n) c.in-Some.k ≡ Some x = i.memories_found.found x c.in-Some.k f in
     let a : IsAt n.memories c.in-Some.k x = is_at n.memories c.in-Some.k x h in
     let deep : (get_or c.memories.result.now c.in-Some.k c.index-memories-k.result).depth ≡ a.memory.depth =
@@ -72,8 +72,8 @@ index-requires-then-index-memories c =
     let i = c.self.invariant in
     let n = c.self.inside.netlist in
     let x = c.args.name.now in
-    let f : place_in c.self.inside.memories x ≡ Some c.in-Some.k =
-    ap (place_in c.self.inside.memories) (sym c.as_bytes.ensures.value) ∙ sym c.place_of.ensures ∙ c.in-Some.is in
+    let f : at_name c.self.inside.memories x ≡ Some c.in-Some.k =
+    ap (at_name c.self.inside.memories) (sym c.as_bytes.ensures.value) ∙ sym c.place_of.ensures ∙ c.in-Some.is in
     let h : slice_get (memory_names n) c.in-Some.k ≡ Some x = i.memories_found.found x c.in-Some.k f in
     let a : IsAt n.memories c.in-Some.k x = is_at n.memories c.in-Some.k x h in
     let deep : (get_or c.memories.result.now c.in-Some.k c.index-memories-k.result).depth ≡ a.memory.depth =
@@ -89,8 +89,8 @@ pub returns-in-None : goal.returns-in-None
 returns-in-None c =
     let i = c.self.invariant in
     let n = c.self.inside.netlist in
-    let f : place_in c.self.inside.memories c.args.name.now ≡ None =
-    ap (place_in c.self.inside.memories) (sym c.as_bytes.ensures.value) ∙ sym c.place_of.ensures ∙ c.in-None.is in
+    let f : at_name c.self.inside.memories c.args.name.now ≡ None =
+    ap (at_name c.self.inside.memories) (sym c.as_bytes.ensures.value) ∙ sym c.place_of.ensures ∙ c.in-None.is in
     subst (λ (r : Running). GivesCell r c.args.name.now c.args.index None) c.self.view_is
     (λ cycle shows. sym (cell_nowhere n c.self.inside.memories i.memories_found c.args.name.now f cycle c.args.index))
 
@@ -99,8 +99,8 @@ returns-then-index-memories c =
     let i = c.self.invariant in
     let n = c.self.inside.netlist in
     let x = c.args.name.now in
-    let f : place_in c.self.inside.memories x ≡ Some c.in-Some.k =
-    ap (place_in c.self.inside.memories) (sym c.as_bytes.ensures.value) ∙ sym c.place_of.ensures ∙ c.in-Some.is in
+    let f : at_name c.self.inside.memories x ≡ Some c.in-Some.k =
+    ap (at_name c.self.inside.memories) (sym c.as_bytes.ensures.value) ∙ sym c.place_of.ensures ∙ c.in-Some.is in
     let h : slice_get (memory_names n) c.in-Some.k ≡ Some x = i.memories_found.found x c.in-Some.k f in
     let a : IsAt n.memories c.in-Some.k x = is_at n.memories c.in-Some.k x h in
     let deep : (get_or c.memories.result.now c.in-Some.k c.index-memories-k.result).depth ≡ a.memory.depth =
@@ -122,8 +122,8 @@ returns-else-index-memories c =
     let i = c.self.invariant in
     let n = c.self.inside.netlist in
     let x = c.args.name.now in
-    let f : place_in c.self.inside.memories x ≡ Some c.in-Some.k =
-    ap (place_in c.self.inside.memories) (sym c.as_bytes.ensures.value) ∙ sym c.place_of.ensures ∙ c.in-Some.is in
+    let f : at_name c.self.inside.memories x ≡ Some c.in-Some.k =
+    ap (at_name c.self.inside.memories) (sym c.as_bytes.ensures.value) ∙ sym c.place_of.ensures ∙ c.in-Some.is in
     let h : slice_get (memory_names n) c.in-Some.k ≡ Some x = i.memories_found.found x c.in-Some.k f in
     let a : IsAt n.memories c.in-Some.k x = is_at n.memories c.in-Some.k x h in
     let deep : (get_or c.memories.result.now c.in-Some.k c.index-memories-k.result).depth ≡ a.memory.depth =

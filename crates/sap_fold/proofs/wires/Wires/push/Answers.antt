@@ -5,7 +5,7 @@ use Rattle.sap_net.specs.declared.parts.Wire.{Wire}
 use Rattle.sap_share.specs.Keys.{key}
 use Rattle.sap_share.specs.Names.{helper}
 use Rattle.sap_share.specs.Rights.{NamesRights}
-use Rattle.sap_share.proofs.Maps.{same_bytes}
+use Rattle.sap_net.proofs.NameMaps.{same_bytes}
 use Rattle.sap_share.proofs.RightMaps.{one_more}
 use Rattle.sap_fold.proofs.wires.Wires.push.Goals as goal
 

@@ -1,18 +1,17 @@
-use Rattle.std.proofs.Common.{◌≡◌, ℕ, List, None, map, sym, ap, ◌∙◌, subst}
+use Rattle.std.proofs.Common.{◌≡◌, ℕ, List, map, sym, ap, ◌∙◌, subst}
 use Rattle.std.specs.Prelude.{All}
-use Rattle.std.specs.List.{last_or}
-use Rattle.sap_maps.specs.Maps.{Name, Valuation}
+use Rattle.sap_maps.specs.Maps.{Name}
 use Rattle.sap_net.specs.declared.parts.Input.{Input}
 use Rattle.sap_net.specs.Net.{Net}
-use Rattle.sap_cycle.specs.Running.{Shows}
 use Rattle.sap_stim.specs.declared.field.Field.{Field}
 use Rattle.sap_stim.specs.Line.{IsSized}
 use Rattle.sap_stim.specs.Rows.{HoldsRows}
 use Rattle.sap_sim.specs.Fields.{tag_width, with_field, field_of, fields_of}
 use Rattle.sap_sim.specs.Layout.{source_of}
+use Rattle.sap_sim.specs.Numbers.{numbers_of}
 use Rattle.sap_sim.specs.Shown.{register_ports, shown_among}
 use Rattle.sap_sim.proofs.Fits.{fields_sized}
-use Rattle.sap_sim.proofs.OneMore.{no_run}
+use Rattle.sap_sim.proofs.Stepped.{unstepped_shows}
 use Rattle.sap_sim.proofs.simulation.Simulation.new.Goals as goal
 use Rattle.sap_sim.proofs.simulation.Simulation.new.Goals.{In_ok-line}
 
@@ -46,7 +45,7 @@ returns-clause-after c =
             (subst (λ (tag : ℕ). All IsSized (map (field_of tag n.inputs) (with_field tag n.inputs))) c.width-tag.ensures (fields_sized c.width-tag.result n c.rules.ensures));
         room = subst (λ (names : List Name). HoldsRows ls names c.in-Some.room) c.deref-2.ensures.value c.in-Some.ensures.holds;
       };
-      shows = λ run h. subst (λ (vs : List Valuation). Shows c.in-Ok.runner (last_or None vs)) (sym (no_run n None run h)) c.in-Ok.ensures.unstepped;
+      shows = unstepped_shows n (numbers_of ls n) c.in-Ok.runner c.in-Ok.ensures.unstepped;
     }
 
 pub returns-clause-least : goal.returns-clause-least

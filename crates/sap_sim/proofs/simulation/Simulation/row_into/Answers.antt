@@ -10,20 +10,22 @@ use Rattle.sap_stim.specs.Rows.{HoldsRows, row_text, shown_of}
 use Rattle.sap_sim.specs.declared.sources.Source.{Source}
 use Rattle.sap_sim.specs.Layout.{number_from, seen_at, source_place}
 use Rattle.sap_sim.specs.Numbers.{numbers_of}
-use Rattle.sap_sim.specs.Stepping.{IsAfter, IsPlanned, Stepped}
+use Rattle.sap_sim.specs.declared.steps.Plan.{Plan}
+use Rattle.sap_sim.specs.Stepped.{Stepped}
+use Rattle.sap_sim.specs.Stepping.{IsAfter, IsPlanned}
 use Rattle.sap_sim.proofs.Stepping.{after_more, inputs_right, numbers_right, row_more, sources_there, tags_count, values_count}
 use Rattle.sap_sim.proofs.simulation.Simulation.row_into.Goals as goal
 use Rattle.sap_sim.proofs.simulation.Simulation.row_into.Goals.{After-deref-2, After-values}
 
 -- what the call finds
-abbrev the : After-values → Stepped
+abbrev the : After-values → Stepped Plan
 the c = record { runner = c.self.inside.runner; plan = c.self.inside.plan; fields = c.self.inside.fields; room = c.self.inside.room }
 
 planned : (c : After-values) → IsPlanned c.args.lattice.now (the c)
 planned c = subst (IsPlanned c.args.lattice.now) (sym c.self.view_is) c.requires.planned
 
 fits : (c : After-values) → LineFits c.args.lattice.now (the c).fields c.args.line.now
-fits c = subst (λ (s : Stepped). LineFits c.args.lattice.now s.fields c.args.line.now) (sym c.self.view_is) c.requires.line
+fits c = subst (λ (s : Stepped Plan). LineFits c.args.lattice.now s.fields c.args.line.now) (sym c.self.view_is) c.requires.line
 
 pub take_numbers-requires-clause-places : goal.take_numbers-requires-clause-places
 take_numbers-requires-clause-places c =
@@ -56,7 +58,7 @@ push_held-requires-clause-room c =
     let d = (goal.at.push_held-requires-clause-room c).After-values in (
       c.self.inside.room,
       subst (λ (names : List Name). HoldsRows c.args.lattice.now names c.self.inside.room) (sym c.deref-5.ensures.value) (planned d).room,
-      subst (λ (s : Stepped). length c.args.out.now.bytes + s.room ≤ c.args.out.now.room) (sym c.self.view_is) c.requires.room,
+      subst (λ (s : Stepped Plan). length c.args.out.now.bytes + s.room ≤ c.args.out.now.room) (sym c.self.view_is) c.requires.room,
     )
 
 pub returns-clause-after : goal.returns-clause-after

@@ -9,20 +9,22 @@ use Rattle.sap_cycle.specs.Running.{ShowsNext}
 use Rattle.sap_stim.specs.Fits.{LineFits}
 use Rattle.sap_trace.specs.Fields.{given}
 use Rattle.sap_trace.specs.Seen.{AreWires}
-use Rattle.sap_trace.specs.Stepping.{IsAfter, IsPlanned, Stepped}
+use Rattle.sap_sim.specs.Stepped.{Stepped}
+use Rattle.sap_trace.specs.declared.wires.Wires.{Wires}
+use Rattle.sap_trace.specs.Stepping.{IsAfter, IsPlanned}
 use Rattle.sap_trace.proofs.Stepping.{after_more, fields_count, inputs_right, lines_more}
 use Rattle.sap_trace.proofs.tracing.Tracing.lines_into.Goals as goal
 use Rattle.sap_trace.proofs.tracing.Tracing.lines_into.Goals.{After-deref, After-deref_mut}
 
 -- what the call finds
-abbrev the : After-deref_mut → Stepped
-the c = record { runner = c.self.inside.runner; wires = c.self.inside.wires; fields = c.self.inside.fields; room = c.self.inside.room }
+abbrev the : After-deref_mut → Stepped Wires
+the c = record { runner = c.self.inside.runner; plan = c.self.inside.wires; fields = c.self.inside.fields; room = c.self.inside.room }
 
 planned : (c : After-deref_mut) → IsPlanned (levels_in c.args.checked.now) (tree_in c.args.checked.now) (the c)
 planned c = subst (IsPlanned (levels_in c.args.checked.now) (tree_in c.args.checked.now)) (sym c.self.view_is) c.requires.planned
 
 fits : (c : After-deref_mut) → LineFits (levels_in c.args.checked.now) (the c).fields c.args.line.now
-fits c = subst (λ (s : Stepped). LineFits (levels_in c.args.checked.now) s.fields c.args.line.now) (sym c.self.view_is) c.requires.line
+fits c = subst (λ (s : Stepped Wires). LineFits (levels_in c.args.checked.now) s.fields c.args.line.now) (sym c.self.view_is) c.requires.line
 
 pub take_numbers-requires : goal.take_numbers-requires
 take_numbers-requires c =
@@ -48,7 +50,7 @@ refused_into-requires-clause-wires c =
 pub refused_into-requires-clause-fits : goal.refused_into-requires-clause-fits
 refused_into-requires-clause-fits c =
     let d = (goal.at.refused_into-requires-clause-fits c).After-deref_mut in
-    (c.self.inside.room, (planned d).room, subst (λ (s : Stepped). length c.args.out.now.bytes + s.room ≤ c.args.out.now.room) (sym c.self.view_is) c.requires.room)
+    (c.self.inside.room, (planned d).room, subst (λ (s : Stepped Wires). length c.args.out.now.bytes + s.room ≤ c.args.out.now.room) (sym c.self.view_is) c.requires.room)
 
 pub returns-clause-after : goal.returns-clause-after
 returns-clause-after c = λ n lines at.

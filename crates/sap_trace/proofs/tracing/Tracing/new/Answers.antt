@@ -1,15 +1,12 @@
-use Rattle.std.proofs.Common.{ℕ, List, None, sym, ap, ◌∙◌, subst}
+use Rattle.std.proofs.Common.{ℕ, List, sym, ap, ◌∙◌, subst}
 use Rattle.std.specs.Prelude.{All}
-use Rattle.std.specs.List.{last_or}
-use Rattle.sap_maps.specs.Maps.{Valuation}
 use Rattle.sap_net.specs.Net.{Net}
 use Rattle.sap_check.specs.Checked.{levels_in, tree_in}
-use Rattle.sap_cycle.specs.Running.{Shows}
 use Rattle.sap_interface.specs.Designs.{StandsForDesign}
 use Rattle.sap_stim.specs.declared.field.Field.{Field}
 use Rattle.sap_stim.specs.Line.{IsSized}
-use Rattle.sap_sim.proofs.OneMore.{no_run}
-use Rattle.sap_trace.specs.Fields.{fields_among}
+use Rattle.sap_sim.proofs.Stepped.{unstepped_shows}
+use Rattle.sap_trace.specs.Fields.{fields_among, given}
 use Rattle.sap_trace.specs.Seen.{AreReadable, AreWires}
 use Rattle.sap_trace.proofs.Designs.{site_wires}
 use Rattle.sap_trace.proofs.FieldLists.{all_sized, fields_are}
@@ -37,7 +34,7 @@ returns-clause-after c =
         sized = subst (λ (fs : List Field). All IsSized fs) (sym c.in_ok-fields.ensures) (all_sized c.names-names.result.now c.have_widths.ensures);
         room = c.in-Some.ensures.holds;
       };
-      shows = λ run h. subst (λ (vs : List Valuation). Shows c.in_ok-runner.runner (last_or None vs)) (sym (no_run c.args.netlist None run h)) c.in_ok-runner.ensures.unstepped;
+      shows = unstepped_shows c.args.netlist (given ls) c.in_ok-runner.runner c.in_ok-runner.ensures.unstepped;
     }
 
 pub returns-clause-least : goal.returns-clause-least

@@ -1,6 +1,6 @@
 use Rattle.std.proofs.Common.{◌∙◌, refl}
 use Rattle.sap_vread.specs.Build.Firsts.{number_of}
-use Rattle.sap_vread.proofs.build.Tabled.{put_entry}
+use Rattle.sap_vjudge.proofs.Tabled.{put_entry}
 use Rattle.sap_vread.proofs.build.firsts.Firsts.put.Goals as goal
 
 pub returns : goal.returns

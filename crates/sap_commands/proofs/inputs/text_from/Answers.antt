@@ -1,6 +1,0 @@
-use Rattle.sap_commands.proofs.Designs.{text_unread}
-use Rattle.sap_commands.proofs.inputs.text_from.Goals as goal
-
-pub returns-in-Err : goal.returns-in-Err
-returns-in-Err c =
-    rw c.as_slice.ensures at (text_unread c.as_slice.result.now c.in-Err.fault c.read_failure.result c.read_failure.ensures c.in-Err.ensures.fault)

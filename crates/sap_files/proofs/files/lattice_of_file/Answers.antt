@@ -1,0 +1,11 @@
+use Rattle.std.proofs.Common.{inl, inr}
+use Rattle.std.proofs.lemmas.Result.{err_from_is_err_and}
+use Rattle.sap_files.proofs.files.lattice_of_file.Goals as goal
+
+pub returns-in_err-bytes : goal.returns-in_err-bytes
+returns-in_err-bytes g c =
+    let p = err_from_is_err_and c.from_residual.result c.from_residual.ensures.1 in
+    rw (p.1, p.2) (inl c.in_err-bytes.ensures.read)
+
+pub returns-in-Ok : goal.returns-in-Ok
+returns-in-Ok g c = (c.in_ok-bytes.ensures.read, c.in-Ok.ensures)

@@ -1,0 +1,108 @@
+-- The kinds of files that commands read.
+use Rattle.std.specs.Prelude.{◌≡◌, ◌≢◌, ℕ, Bool, List, length, map, Option, Some, None}
+use Rattle.sap_desk.specs.Desk.{Told}
+use Rattle.sap_lattice.specs.Levels.{Levels, numbers, order_of}
+use Rattle.sap_latfile.specs.LatticeFile.{IsLatticeOfFile, FirstFault}
+use Rattle.sap_latfile.specs.declared.fault.LatFileFault.{LatFileFault}
+use Rattle.sap_latfile.specs.declared.fault.LatFileFault.TheVariants as lattice_fault
+use Rattle.sap_tree.specs.Syntax.{DesignTree}
+use Rattle.sap_parse.specs.Limits.{most_bytes}
+use Rattle.sap_parse.specs.Text.{IsText, IsReadFault}
+use Rattle.sap_parse.specs.declared.fault.ReadFault.{ReadFault}
+use Rattle.sap_shape.specs.WellFormed.{WellFormed}
+use Rattle.sap_meaning.specs.Cycle.{Tagged}
+use Rattle.sap_stim.specs.declared.fault.StimFault.{StimFault}
+use Rattle.sap_sim.specs.Labelled.RunOf.{read_for}
+use Rattle.sap_net.specs.Net.{Net}
+use Rattle.sap_modtext.specs.Modules.{IsModule}
+use Rattle.sap_vread.specs.ModuleFault.{IsModuleFault}
+use Rattle.sap_vread.specs.declared.fault.ModFault.{ModFault}
+use Rattle.sap_vread.specs.declared.fault.ModFault.TheVariants as module_fault
+use Rattle.sap_files.specs.DesignFaults.{IsDesignFault}
+use Rattle.sap_files.specs.declared.fault.DesignFault.{DesignFault}
+use Rattle.sap_files.specs.declared.fault.DesignFault.TheVariants as design_fault
+use Rattle.sap_files.specs.Ending.{Refusal, lattice_refused, design_refused, stimulus_refused, module_refused, status_of_refusal}
+
+-- What a file is read as: the number of bytes behind which it is read no further, if any; when its bytes stand for a value; and when they are
+-- refused, and why.
+pub record Kind : Type 1 where
+  pub most : Option ℕ
+  pub Value : Type 0
+  pub Stands : List ℕ → Value → Type 0
+  pub Refused : List ℕ → Refusal → Type 0
+
+-- Bytes stand for at most one value, or are refused with at most one status, and not both.
+pub record IsLawful (k : Kind) : Type 0 where
+  pub one_value : (bytes : List ℕ) (v w : k.Value) → k.Stands bytes v → k.Stands bytes w → v ≡ w
+  pub one_status : (bytes : List ℕ) (why other : Refusal) → k.Refused bytes why → k.Refused bytes other → status_of_refusal why ≡ status_of_refusal other
+  pub not_both : (bytes : List ℕ) (v : k.Value) (why : Refusal) → k.Stands bytes v → k.Refused bytes why → ⊥
+
+-- there is a file of this name, and its bytes stand for this value
+pub record Has (t : Told) (name : List ℕ) (k : Kind) (v : k.Value) : Type 0 where
+  pub bytes : List ℕ
+  pub file : t.files name ≡ Some bytes
+  pub stands : k.Stands bytes v
+
+-- there is one, and its bytes are refused
+pub record IsRefused (t : Told) (name : List ℕ) (k : Kind) (why : Refusal) : Type 0 where
+  pub bytes : List ℕ
+  pub file : t.files name ≡ Some bytes
+  pub refused : k.Refused bytes why
+
+-- Lattice files. Of the tables that say which level is at or below which, the one with a row for each level and in it a place for each.
+
+abbrev pub table_by : ℕ → (ℕ → ℕ → Bool) → List (List Bool)
+table_by count le = map (λ x. map (le x) (numbers count)) (numbers count)
+
+pub record IsLatticeFile (bytes : List ℕ) (ls : Levels) : Type 0 where
+  pub lattice : IsLatticeOfFile bytes ls
+  pub table : ls.table ≡ table_by (length ls.names) (order_of ls).le
+
+abbrev pub lattice_file : Kind
+lattice_file = record {
+  most = None;
+  Value = Levels;
+  Stands = IsLatticeFile;
+  Refused = λ bytes why. (fault : LatFileFault) × (why ≡ lattice_refused fault) × (fault ≢ lattice_fault.Memory) × FirstFault bytes fault;
+}
+
+-- Design files whose design is well formed over the levels of a lattice. They are read no further than shows that they are too long.
+
+pub record IsWellFormedText (ls : Levels) (source : List ℕ) (d : DesignTree) : Type 0 where
+  pub is_text : IsText source d
+  pub well_formed : WellFormed ls d
+
+abbrev pub design_file : Levels → Kind
+design_file ls = record {
+  most = Some most_bytes;
+  Value = DesignTree;
+  Stands = IsWellFormedText ls;
+  Refused = λ source why. (fault : DesignFault) × (why ≡ design_refused fault) × IsDesignFault ls source fault;
+}
+
+-- design files without a lattice: the text of a design within the limits
+abbrev pub design_text_file : Kind
+design_text_file = record {
+  most = Some most_bytes;
+  Value = DesignTree;
+  Stands = IsText;
+  Refused = λ source why. (fault : ReadFault) × (why ≡ design_refused (design_fault.Read fault)) × IsReadFault source fault;
+}
+
+-- module files
+abbrev pub module_file : Kind
+module_file = record {
+  most = None;
+  Value = Net;
+  Stands = IsModule;
+  Refused = λ text why. (fault : ModFault) × (why ≡ module_refused fault) × (fault ≢ module_fault.Memory) × IsModuleFault text fault;
+}
+
+-- stimulus files of a design whose every line is taken, the first or the second of the words
+abbrev pub stream_file : (place : ℕ) → Levels → DesignTree → Kind
+stream_file place ls d = record {
+  most = None;
+  Value = List (List Tagged);
+  Stands = λ bytes stream. read_for ls d bytes ≡ record { stream = stream; fault = None };
+  Refused = λ bytes why. (fault : StimFault) × (why ≡ stimulus_refused place fault) × ((read_for ls d bytes).fault ≡ Some fault);
+}

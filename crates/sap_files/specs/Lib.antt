@@ -1,0 +1,10 @@
+pub mod DesignFaults
+pub mod Ending
+pub mod Kinds
+pub mod Asks
+pub mod After
+pub mod Outside
+pub mod Steps
+pub mod Compared
+pub mod StimulusTexts
+pub mod Uncompiled

@@ -1,0 +1,28 @@
+-- Where a fault on a file or on channel 1 may come from, over a desk on which no call is still to fail by its number.
+use Rattle.std.specs.Prelude.{◌≡◌, ◌⊎◌, ℕ, List, length, Option, Some, None}
+use Rattle.sap_desk.specs.Desk.{Told, bytes_of, stream}
+use Rattle.sap_desk.specs.Whole.{MissingOrLong}
+use Rattle.sap_files.specs.Kinds.{Has}
+use Rattle.sap_files.specs.Asks.{Asks, file, by, gives, prints, writes, stops}
+
+-- a file holds as much as there is room for
+abbrev pub FullFile : (name : List ℕ) → Told → Told → Type 0
+FullFile name t n = length (bytes_of n name) ≡ n.room
+
+-- channel 1, open before the call, holds as much as there is room for
+abbrev pub FullOutput : Told → Told → Type 0
+FullOutput t n = t.uses 1 ≡ stream → length (n.written 1) ≡ n.room
+
+-- why a file can't be read: it is missing; or so long that its end is never read, where it is read to its end
+abbrev pub IsUnreadable : (most : Option ℕ) → (name : List ℕ) → Told → Type 0
+IsUnreadable None name t = MissingOrLong name t
+IsUnreadable (Some most) name t = t.files name ≡ None
+
+-- a file that the command reads can't be read, those before it standing for values; or what it writes fills the room
+abbrev pub OutsideOf : Asks → Told → Told → Type 0
+OutsideOf (file name k rest) t n = IsUnreadable k.most name t ⊎ ((v : k.Value) × Has t name k v × OutsideOf (rest v) t n)
+OutsideOf (by V Holds rest) t n = (v : V) × Holds v × OutsideOf (rest v) t n
+OutsideOf (gives text last) t n = FullOutput t n
+OutsideOf (prints name text fault) t n = MissingOrLong name t ⊎ FullOutput t n
+OutsideOf (writes name text) t n = FullFile name t n
+OutsideOf (stops why) t n = ⊥

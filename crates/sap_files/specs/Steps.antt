@@ -1,0 +1,218 @@
+-- What the steps of a command leave: the words of the contracts of its calls.
+use Rattle.std.specs.Prelude.{◌≡◌, ◌≢◌, ◌⊎◌, ◌++◌, ℕ, List, length, Option, Some, None, Result, Ok, Err, IfSome}
+use Rattle.sap_desk.specs.Desk.{Told, Use}
+use Rattle.sap_desk.specs.Cause.{counted}
+use Rattle.sap_desk.specs.Whole.{Between, IsFront, OpenAfterFault}
+use Rattle.sap_lattice.specs.Levels.{Levels, order_of}
+use Rattle.sap_latfile.specs.declared.fault.LatFileFault.{LatFileFault}
+use Rattle.sap_latfile.specs.declared.fault.LatFileFault.TheVariants as lattice_fault
+use Rattle.sap_parse.specs.Limits.{most_bytes}
+use Rattle.sap_parse.specs.declared.fault.ReadFault.{ReadFault}
+use Rattle.sap_parse.specs.declared.fault.ReadFault.TheVariants as read_fault
+use Rattle.sap_names.specs.declared.fault.CheckFault.{CheckFault}
+use Rattle.sap_names.specs.declared.fault.CheckFault.TheVariants as check_fault
+use Rattle.sap_check.specs.Checked.{levels_in, tree_in}
+use Rattle.sap_check.specs.declared.checked.Checked.{Checked}
+use Rattle.sap_vread.specs.declared.fault.ModFault.{ModFault}
+use Rattle.sap_vread.specs.declared.fault.ModFault.TheVariants as module_fault
+use Rattle.sap_files.specs.declared.fault.DesignFault.TheVariants as design_fault
+use Rattle.sap_files.specs.Ending.{Ending, Refusal as Reason, done, refused, failed, no_memory, lattice_refused, design_refused, stimulus_refused, module_refused, level_refused, lengths_apart, inputs_apart, IsFree}
+use Rattle.sap_files.specs.Kinds.{Kind, IsLatticeFile, IsWellFormedText, design_file, lattice_file, table_by}
+use Rattle.sap_stim.specs.declared.fault.StimFault.{StimFault}
+use Rattle.sap_stim.specs.declared.field.Field.{Field}
+use Rattle.sap_stim.specs.Stimulus.{stimulus_of}
+use Rattle.sap_lines.specs.Stepping.Followed.{IsPartShown, Shows as ShowsOf}
+use Rattle.sap_files.specs.Asks.{Asks, Cause, IsPrefix, Leaves, MayEnd, Output}
+use Rattle.sap_files.specs.After.{Blames, Opens}
+use Rattle.sap_files.specs.Outside.{IsUnreadable, OutsideOf}
+use Rattle.sap_files.specs.declared.files.LatticeFile.{LatticeFile}
+use Rattle.sap_files.specs.declared.failure.Failure.{Failure}
+use Rattle.sap_files.specs.declared.failure.Failure.TheVariants.{Refused, Desk, Memory}
+use Rattle.sap_files.specs.declared.refusal.Refusal.{Refusal}
+use Rattle.sap_files.specs.declared.refusal.Refusal.TheVariants.{Lattice, Design, Stimulus, Module, Level, Lengths, Input}
+
+abbrev pub reason : Refusal → Reason
+reason (Lattice fault) = lattice_refused fault
+reason (Design fault) = design_refused fault
+reason (Stimulus place fault) = stimulus_refused place fault
+reason (Module fault) = module_refused fault
+reason (Level word) = level_refused word.now
+reason (Lengths one other) = lengths_apart one other
+reason (Input cycle name) = inputs_apart cycle name
+
+-- why the bytes of a lattice file, of a design file and of a module file end a command
+
+abbrev pub lattice_failure : LatFileFault → Failure
+lattice_failure lattice_fault.Memory = Memory
+lattice_failure fault = Refused (Lattice fault)
+
+abbrev pub read_failure : ReadFault → Failure
+read_failure read_fault.Memory = Memory
+read_failure fault = Refused (Design (design_fault.Read fault))
+
+abbrev pub check_failure : CheckFault → Failure
+check_failure check_fault.Memory = Memory
+check_failure fault = Refused (Design (design_fault.Check fault))
+
+abbrev pub module_failure : ModFault → Failure
+module_failure module_fault.Memory = Memory
+module_failure fault = Refused (Module fault)
+
+abbrev pub ending : Failure → Ending
+ending (Refused why) = refused (reason why)
+ending (Desk name) = failed name.now
+ending Memory = no_memory
+
+abbrev pub ending_of : {T : Type 0} → Result T Failure → Ending
+ending_of (Ok x) = done
+ending_of (Err e) = ending e
+
+-- Moments
+
+-- what is seen of a desk at one time
+pub record Moment : Type 1 where
+  pub told : Option Told
+  pub faults : ℕ
+  pub lost : ℕ
+  pub sure : Type 0
+
+abbrev pub seen : {D : Type 0} → (D → Option Told) → (D → ℕ) → (D → ℕ) → (D → Type 0) → D → Moment
+seen told faults lost sure desk = record { told = told desk; faults = faults desk; lost = lost desk; sure = sure desk }
+
+-- nothing changed between them
+pub record Quiet (before after : Moment) : Type 0 where
+  pub told : after.told ≡ before.told
+  pub faults : after.faults ≡ before.faults
+  pub lost : after.lost ≡ before.lost
+  pub sure : before.sure → after.sure
+
+-- the count of faults rose, and no call was still to fail by its number
+abbrev pub FaultRose : Moment → Moment → Type 0
+FaultRose before after = (after.faults ≢ before.faults) × before.sure
+
+-- The end of a command
+
+-- the count of faults: it rises where a call on a file or on channel 1 failed, and else stands
+abbrev pub Counted : (faults now : ℕ) → Ending → Type 0
+Counted faults now done = now ≡ faults
+Counted faults now (refused why) = now ≡ faults
+Counted faults now (failed name) = now ≡ counted faults
+Counted faults now no_memory = now ≡ faults
+
+-- what no step changes
+pub record Same (t n : Told) : Type 0 where
+  pub lines : n.written 2 ≡ t.written 2
+  pub lines_use : n.uses 2 ≡ t.uses 2
+  pub room : n.room ≡ t.room
+
+-- what a command left that ended so
+pub record Left (a : Asks) (e : Ending) (rose : Type 0) (t n : Told) : Type 0 where
+  pub leaves : Leaves a t n.files e
+  pub gained : List ℕ
+  pub output : n.written 1 ≡ t.written 1 ++ gained
+  pub shows : Output a t gained e
+  pub blames : Blames n.blame e
+  pub opens : Opens a t e t.uses n.uses
+  pub same : Same t n
+  pub cause : IsFree e ⊎ Cause a t e
+  pub outside : rose → OutsideOf a t n
+
+-- a command ended so, and its line isn't written yet
+pub record Ends (a : Asks) (e : Ending) (before after : Moment) : Type 0 where
+  pub told : Between before.told after.told (Left a e (FaultRose before after))
+  pub faults : Counted before.faults after.faults e
+  pub lost : after.lost ≡ before.lost
+  pub sure : before.sure → after.sure
+  pub may : IsFree e ⊎ MayEnd a e
+
+-- Files
+
+-- what is open where the file of a name could not be read
+abbrev pub OpensUnread : (name : List ℕ) → Ending → (before after : ℕ → Use) → Type 0
+OpensUnread name done before after = after ≡ before
+OpensUnread name (refused why) before after = after ≡ before
+OpensUnread name (failed blamed) before after = (blamed ≡ name) × OpenAfterFault name before after
+OpensUnread name no_memory before after = after ≡ before
+
+-- a file could not be read: all is as before but the blame, and what a failed call left open
+pub record NotRead (most : Option ℕ) (name : List ℕ) (e : Ending) (rose : Type 0) (t n : Told) : Type 0 where
+  pub files : n.files ≡ t.files
+  pub output : n.written 1 ≡ t.written 1
+  pub same : Same t n
+  pub blames : Blames n.blame e
+  pub opens : OpensUnread name e t.uses n.uses
+  pub outside : rose → IsUnreadable most name t
+
+-- and so the command ended
+pub record Stops (most : Option ℕ) (name : List ℕ) (e : Ending) (before after : Moment) : Type 0 where
+  pub free : IsFree e
+  pub told : Between before.told after.told (NotRead most name e (FaultRose before after))
+  pub faults : Counted before.faults after.faults e
+  pub lost : after.lost ≡ before.lost
+  pub sure : before.sure → after.sure
+
+-- a file was read, and has these bytes
+pub record Reads (name bytes : List ℕ) (before after : Moment) : Type 0 where
+  pub quiet : Quiet before after
+  pub file : IfSome before.told (λ t. t.files name ≡ Some bytes)
+
+abbrev pub Read : (name : List ℕ) → Result (List ℕ) Failure → Moment → Moment → Type 0
+Read name (Ok bytes) before after = Reads name bytes before after
+Read name (Err e) before after = Stops None name (ending e) before after
+
+-- A design file was read until more bytes were got than a design may have, or its end.
+abbrev pub ReadDesign : (name : List ℕ) → Result (List ℕ) Failure → Moment → Moment → Type 0
+ReadDesign name (Ok front) before after = (bytes : List ℕ) × Reads name bytes before after × IsFront most_bytes bytes front
+ReadDesign name (Err e) before after = Stops (Some most_bytes) name (ending e) before after
+
+-- the bytes of a file of a kind are refused so, or there was no memory
+abbrev pub Refuses : (k : Kind) → (bytes : List ℕ) → Ending → Type 0
+Refuses k bytes e = (e ≡ no_memory) ⊎ ((why : Reason) × (e ≡ refused why) × k.Refused bytes why)
+
+-- what the bytes of a file of a kind give: a value, or why there is none
+abbrev pub Gives : (k : Kind) → {T : Type 0} → (T → k.Value) → (bytes : List ℕ) → Result T Failure → Type 0
+Gives k value bytes (Ok x) = k.Stands bytes (value x)
+Gives k value bytes (Err e) = Refuses k bytes (ending e)
+
+-- the levels of a lattice with the table that a lattice file has
+abbrev pub whole : Levels → Levels
+whole ls = record { names = ls.names; table = table_by (length ls.names) (order_of ls).le }
+
+-- what a design file gives over the levels of a lattice
+abbrev pub IsChecked : Levels → (source : List ℕ) → Result Checked Failure → Type 0
+IsChecked ls source (Ok c) = IsWellFormedText ls source (tree_in c) × (levels_in c ≡ ls)
+IsChecked ls source (Err e) = Refuses (design_file ls) source (ending e)
+
+-- A file read as one of a kind
+
+-- the command ends at a file of a kind: it could not be read, or its bytes are refused
+abbrev pub EndsReading : (name : List ℕ) → Kind → Ending → Moment → Moment → Type 0
+EndsReading name k e before after = Stops k.most name e before after ⊎ ((bytes : List ℕ) × Reads name bytes before after × Refuses k bytes e)
+
+-- its bytes stand for a value, or the command ends there
+abbrev pub Gets : (name : List ℕ) (k : Kind) → {T : Type 0} → (T → k.Value) → Result T Failure → Moment → Moment → Type 0
+Gets name k value (Ok x) before after = (bytes : List ℕ) × Reads name bytes before after × k.Stands bytes (value x)
+Gets name k value (Err e) before after = EndsReading name k (ending e) before after
+
+-- the same of a lattice file, whose bytes are kept
+abbrev pub GetsLattice : (name : List ℕ) → Result LatticeFile Failure → Moment → Moment → Type 0
+GetsLattice name (Ok f) before after = Reads name f.bytes before after × IsLatticeFile f.bytes (whole f.lattice)
+GetsLattice name (Err e) before after = EndsReading name lattice_file (ending e) before after
+
+-- and of a design file over the levels of a lattice
+abbrev pub GetsChecked : Levels → (name : List ℕ) → Result Checked Failure → Moment → Moment → Type 0
+GetsChecked ls name (Ok c) before after = (bytes : List ℕ) × Reads name bytes before after × IsWellFormedText ls bytes (tree_in c) × (levels_in c ≡ ls)
+GetsChecked ls name (Err e) before after = EndsReading name (design_file ls) (ending e) before after
+
+-- A stimulus that is printed
+
+-- what is printed of bytes, and the fault that it ends by
+abbrev pub printed_text : ShowsOf → Levels → List Field → (bytes given : List ℕ) → Type 0
+printed_text shows ls fs bytes given = shows (stimulus_of ls fs bytes).stream given
+
+abbrev pub printed_fault : Levels → List Field → (bytes : List ℕ) → Option StimFault
+printed_fault ls fs bytes = (stimulus_of ls fs bytes).fault
+
+-- there is a whole text for each part
+abbrev pub HasWhole : ShowsOf → Levels → List Field → Type 0
+HasWhole shows ls fs = (bytes gained : List ℕ) → IsPartShown shows ls fs bytes gained → (whole : List ℕ) × shows (stimulus_of ls fs bytes).stream whole × IsPrefix gained whole

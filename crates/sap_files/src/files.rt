@@ -1,0 +1,90 @@
+//! A file read as one of a kind: what its bytes stand for, or how the command ends there.
+
+ghost use Rattle.sap_check.specs.Checked.{levels_in, tree_in};
+ghost use Rattle.sap_tree.specs.Designs.{design_of as tree_of};
+ghost use Rattle.sap_files.specs.Kinds.{design_text_file, module_file, stream_file};
+ghost use Rattle.sap_files.specs.Steps.{Gets, GetsChecked, GetsLattice, seen};
+
+use crate::comparing::stream_of;
+use crate::failure::Failure;
+use crate::inputs::{checked_from, lattice_from, module_from, read, read_design, text_from};
+use sap_check::Checked;
+use sap_desk::{Bytes, Desk};
+use sap_lattice::Lattice;
+use sap_net::netlist::Netlist;
+use sap_stream::Stream;
+use sap_tree::design::Design;
+use std::alloc::Global;
+
+/// A lattice file that was read.
+#[derive(Drop)]
+pub struct LatticeFile {
+    pub bytes: Bytes,
+    pub lattice: Lattice,
+}
+
+/// Reads a lattice file.
+pub fn lattice_of_file<'a, D: Desk>(
+    alloc: Global,
+    desk: &mut D,
+    name: &'a str,
+) -> Result<LatticeFile, Failure<'a>>
+    ensures { GetsLattice name.now result (seen D.told D.faults D.lost D.sure desk.old) (seen D.told D.faults D.lost D.sure desk.new) }
+{
+    let bytes = read(alloc, desk, name)?;
+    match lattice_from(alloc, &bytes) {
+        Ok(lattice) => Ok(LatticeFile { bytes, lattice }),
+        Err(failure) => Err(failure),
+    }
+}
+
+/// Reads a design file, without a lattice.
+pub fn text_of_file<'a, D: Desk>(
+    alloc: Global,
+    desk: &mut D,
+    name: &'a str,
+) -> Result<Design, Failure<'a>>
+    ensures { Gets name.now design_text_file tree_of result (seen D.told D.faults D.lost D.sure desk.old) (seen D.told D.faults D.lost D.sure desk.new) }
+{
+    let source = read_design(alloc, desk, name)?;
+    text_from(alloc, &source)
+}
+
+/// Reads a design file, and checks its design over a lattice.
+pub fn checked_of_file<'a, D: Desk>(
+    alloc: Global,
+    desk: &mut D,
+    lattice: &Lattice,
+    name: &'a str,
+) -> Result<Checked, Failure<'a>>
+    ensures { GetsChecked lattice.now name.now result (seen D.told D.faults D.lost D.sure desk.old) (seen D.told D.faults D.lost D.sure desk.new) }
+{
+    let source = read_design(alloc, desk, name)?;
+    checked_from(alloc, lattice, &source)
+}
+
+/// Reads a module file.
+pub fn module_of_file<'a, D: Desk>(
+    alloc: Global,
+    desk: &mut D,
+    name: &'a str,
+) -> Result<Netlist, Failure<'a>>
+    ensures { Gets name.now module_file (λ n. n) result (seen D.told D.faults D.lost D.sure desk.old) (seen D.told D.faults D.lost D.sure desk.new) }
+{
+    let text = read(alloc, desk, name)?;
+    module_from(alloc, &text)
+}
+
+/// Reads a stimulus file of a checked design, the first or the second of the words.
+pub fn stream_of_file<'a, D: Desk>(
+    alloc: Global,
+    desk: &mut D,
+    checked: &Checked,
+    place: u64,
+    name: &'a str,
+) -> Result<Stream, Failure<'a>>
+    ensures { Gets name.now (stream_file place (levels_in checked.now) (tree_in checked.now)) (λ stream. stream) result (seen D.told D.faults D.lost D.sure desk.old) (seen D.told D.faults D.lost D.sure desk.new) }
+{
+    let lines = read(alloc, desk, name)?;
+    stream_of(alloc, checked, place, &lines)
+}

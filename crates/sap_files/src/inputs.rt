@@ -1,0 +1,135 @@
+//! What a command reads: the bytes of files, and what they stand for.
+
+ghost use Rattle.std.specs.Prelude.{◌≡◌, ◌<◌, ◌^◌, IfOk, length};
+ghost use Rattle.sap_check.specs.Checked.{tree_in};
+ghost use Rattle.sap_tree.specs.Designs.{design_of as tree_of};
+ghost use Rattle.sap_files.specs.Kinds.{lattice_file, design_file, design_text_file, module_file};
+ghost use Rattle.sap_files.specs.Steps.{Gives, IsChecked, Read, ReadDesign, check_failure, lattice_failure, module_failure, read_failure, seen, whole};
+
+use crate::failure::Failure;
+use crate::fault::DesignFault;
+use crate::refusal::Refusal;
+use sap_check::Checked;
+use sap_check::check::check;
+use sap_desk::{Bytes, Desk, DeskError, read_file, read_front};
+use sap_latfile::{LatFileFault, read_lattice};
+use sap_lattice::Lattice;
+use sap_names::fault::CheckFault;
+use sap_net::netlist::Netlist;
+use sap_parse::fault::ReadFault;
+use sap_parse::parse;
+use sap_tree::design::Design;
+use sap_vread::fault::ModFault;
+use sap_vread::read as read_module;
+use std::alloc::Global;
+
+/// The bytes of a file.
+pub fn read<'a, D: Desk>(alloc: Global, desk: &mut D, name: &'a str) -> Result<Bytes, Failure<'a>>
+    ensures read { Read name.now result (seen D.told D.faults D.lost D.sure desk.old) (seen D.told D.faults D.lost D.sure desk.new) }
+    ensures short { IfOk result (λ bytes. length bytes < 2 ^ 32) }
+{
+    match read_file(alloc, desk, name) {
+        Ok(bytes) => Ok(bytes),
+        Err(DeskError::Failed) => Err(Failure::Desk(name)),
+        Err(DeskError::Memory) => Err(Failure::Memory),
+    }
+}
+
+// A design file of more bytes is refused, whatever they are.
+const MOST_DESIGN_BYTES: usize = 1_048_576;
+
+/// The bytes of a design file; of one that is too long, no more than show it.
+pub fn read_design<'a, D: Desk>(
+    alloc: Global,
+    desk: &mut D,
+    name: &'a str,
+) -> Result<Bytes, Failure<'a>>
+    ensures { ReadDesign name.now result (seen D.told D.faults D.lost D.sure desk.old) (seen D.told D.faults D.lost D.sure desk.new) }
+{
+    match read_front(alloc, desk, name, MOST_DESIGN_BYTES) {
+        Ok(bytes) => Ok(bytes),
+        Err(DeskError::Failed) => Err(Failure::Desk(name)),
+        Err(DeskError::Memory) => Err(Failure::Memory),
+    }
+}
+
+fn lattice_failure<'a>(fault: LatFileFault) -> Failure<'a>
+    ensures { result ≡ lattice_failure fault }
+{
+    match fault {
+        LatFileFault::Memory => Failure::Memory,
+        fault => Failure::Refused(Refusal::Lattice(fault)),
+    }
+}
+
+/// The lattice of a lattice file's bytes.
+pub fn lattice_from<'a>(alloc: Global, bytes: &Bytes) -> Result<Lattice, Failure<'a>>
+    ensures { Gives lattice_file whole bytes.now result }
+{
+    match read_lattice(alloc, bytes.as_slice()) {
+        Ok(lattice) => Ok(lattice),
+        Err(fault) => Err(lattice_failure(fault)),
+    }
+}
+
+fn read_failure<'a>(fault: ReadFault) -> Failure<'a>
+    ensures { result ≡ read_failure fault }
+{
+    match fault {
+        ReadFault::Memory => Failure::Memory,
+        fault => Failure::Refused(Refusal::Design(DesignFault::Read(fault))),
+    }
+}
+
+/// The design of a design file's bytes.
+pub fn text_from<'a>(alloc: Global, source: &Bytes) -> Result<Design, Failure<'a>>
+    ensures { Gives design_text_file tree_of source.now result }
+{
+    match parse(alloc, source.as_slice()) {
+        Ok(design) => Ok(design),
+        Err(fault) => Err(read_failure(fault)),
+    }
+}
+
+fn check_failure<'a>(fault: CheckFault) -> Failure<'a>
+    ensures { result ≡ check_failure fault }
+{
+    match fault {
+        CheckFault::Memory => Failure::Memory,
+        fault => Failure::Refused(Refusal::Design(DesignFault::Check(fault))),
+    }
+}
+
+/// The design of a design file's bytes, checked over a lattice.
+pub fn checked_from<'a>(
+    alloc: Global,
+    lattice: &Lattice,
+    source: &Bytes,
+) -> Result<Checked, Failure<'a>>
+    ensures { IsChecked lattice.now source.now result }
+{
+    let design = text_from(alloc, source)?;
+    match check(alloc, design, lattice) {
+        Ok(checked) => Ok(checked),
+        Err(refused) => Err(check_failure(refused.fault)),
+    }
+}
+
+fn module_failure<'a>(fault: ModFault) -> Failure<'a>
+    ensures { result ≡ module_failure fault }
+{
+    match fault {
+        ModFault::Memory => Failure::Memory,
+        fault => Failure::Refused(Refusal::Module(fault)),
+    }
+}
+
+/// The netlist of a module file's bytes.
+pub fn module_from<'a>(alloc: Global, text: &Bytes) -> Result<Netlist, Failure<'a>>
+    ensures { Gives module_file (λ n. n) text.now result }
+{
+    match read_module(alloc, text.as_slice()) {
+        Ok(netlist) => Ok(netlist),
+        Err(fault) => Err(module_failure(fault)),
+    }
+}

@@ -1,0 +1,40 @@
+//! What a command prints of a stimulus, line by line.
+
+ghost use Rattle.std.specs.Prelude.{◌≡◌, ◌≤◌, []};
+ghost use Rattle.sap_lines.specs.Reader.{IsNew};
+ghost use Rattle.sap_lines.specs.declared.stepping.TheConstants.{LARGE_BYTES};
+ghost use Rattle.sap_files.specs.Asks.{prints};
+ghost use Rattle.sap_files.specs.Steps.{Ends, HasWhole, ending_of, printed_fault, printed_text, seen};
+
+use crate::failure::Failure;
+use crate::output::end;
+use sap_desk::{Desk, RowBuf};
+use sap_lines::{Lines, Steps, Stopped, print};
+
+/// Prints what the steps on the lines of a stimulus file show, and ends as its lines do. Each step is put into `out`, and
+/// what it shows waits in `waiting` to be written.
+pub fn print_steps<'a, D: Desk, S: Steps>(
+    desk: &mut D,
+    stimulus: &'a str,
+    steps: &mut S,
+    lines: &mut Lines,
+    out: &mut RowBuf,
+    waiting: &mut RowBuf,
+) -> Result<(), Failure<'a>>
+    requires lines { IsNew (S.fields steps.old) lines.old }
+    requires behind { S.behind steps.old [] }
+    requires shows { S.shows steps.old [] [] }
+    requires room { S.room steps.old ≤ out.old.room }
+    requires waiting { waiting.old.bytes ≡ [] }
+    requires large { LARGE_BYTES ≤ waiting.old.room }
+    requires whole { HasWhole (S.shows steps.old) (S.levels steps.old) (S.fields steps.old) }
+    ensures { Ends (prints stimulus.now (printed_text (S.shows steps.old) (S.levels steps.old) (S.fields steps.old)) (printed_fault (S.levels steps.old) (S.fields steps.old)))
+        (ending_of result) (seen D.told D.faults D.lost D.sure desk.old) (seen D.told D.faults D.lost D.sure desk.new) }
+{
+    match print(desk, stimulus, steps, lines, out, waiting) {
+        Ok(fault) => end(fault),
+        Err(Stopped::Input) => Err(Failure::Desk(stimulus)),
+        Err(Stopped::Output) => Err(Failure::Desk("output")),
+        Err(Stopped::Memory) => Err(Failure::Memory),
+    }
+}

@@ -1,0 +1,19 @@
+-- Maps from names.
+use Rattle.std.specs.Prelude.{◌≡◌, ℕ, Option, Some, bytes_eq, if◌then◌else◌}
+use Rattle.std.specs.HashMap.{HashMap, get_by}
+use Rattle.std.specs.declared.hash.FoldHasher.{FoldHasher}
+use Rattle.std.specs.declared.hash.BuildHasherDefault.{BuildHasherDefault}
+use Rattle.std.specs.declared.vec.Vec.{Vec}
+use Rattle.std.specs.declared.alloc.Global.{Global}
+use Rattle.sap_maps.specs.Maps.{Name}
+
+abbrev pub NameMap : Type 0 → Type 0
+NameMap X = HashMap (Vec ℕ Global) X (BuildHasherDefault FoldHasher)
+
+-- what the map has for a name
+abbrev pub at_name : {X : Type 0} → NameMap X → Name → Option X
+at_name m n = get_by (λ k. bytes_eq n k.items) m
+
+-- one name has this, the others what they had
+abbrev pub Puts : {X : Type 0} → (before : Name → Option X) → Name → X → (after : Name → Option X) → Type 0
+Puts e x o f = (n : Name) → f n ≡ (if bytes_eq x n then Some o else e n)

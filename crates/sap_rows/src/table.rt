@@ -1,0 +1,91 @@
+//! Rows of a table: calls over a desk, and what has to come of them.
+
+/// A file of a desk, or a text that several rows share.
+#[derive(Drop)]
+pub struct File {
+    pub name: String,
+    pub bytes: Vec<u8>,
+}
+
+/// What is called: the top call, or the call for what is asked beside the commands.
+#[derive(Clone, Copy)]
+pub enum Target {
+    TopCall,
+    Help,
+}
+
+/// What a call answers. The one for the help may leave the words to the other.
+#[derive(Clone, Copy, PartialEq, Eq)]
+pub enum Answer {
+    Status(u8),
+    Nothing,
+}
+
+/// What a channel has to gain.
+#[derive(Drop)]
+pub enum Wanted {
+    Exactly(Vec<u8>),
+    Beginning(Vec<u8>),
+    Part(Vec<u8>),
+}
+
+/// What a file has to be after a call.
+#[derive(Drop)]
+pub enum State {
+    Exactly(Vec<u8>),
+    Missing,
+    /// Something else than before, whatever it is.
+    Changed,
+    /// A word stands in it at least and at most so many times.
+    Words { word: String, least: u64, most: u64 },
+}
+
+/// A file that a call may leave otherwise than it was.
+#[derive(Drop)]
+pub struct Held {
+    pub name: String,
+    pub state: State,
+}
+
+/// A call with the files that are put before it.
+#[derive(Drop)]
+pub struct Step {
+    pub files: Vec<File>,
+    /// The numbers of the calls on the desk that are to fail.
+    pub failing: Vec<u64>,
+    pub target: Target,
+    pub words: Vec<String>,
+    pub answer: Answer,
+    pub output: Wanted,
+    pub faults: Wanted,
+    pub held: Vec<Held>,
+    /// The file or channel of each call on the desk, where each is to fail in turn; else empty.
+    pub turns: String,
+    pub cut: Option<Cut>,
+}
+
+/// What comes of a call where only a beginning of a file is there, whatever its length: this answer, and one of these
+/// at the head of the line on channel 2. A beginning that is whole comes out as the step says.
+#[derive(Drop)]
+pub struct Cut {
+    pub file: String,
+    pub answer: Answer,
+    pub lines: Vec<String>,
+}
+
+/// Calls one after another over one desk.
+#[derive(Drop)]
+pub struct Row {
+    pub name: String,
+    pub steps: Vec<Step>,
+}
+
+/// The bytes of the first file with a name.
+pub(crate) fn bytes_of<'a>(files: &'a [File], name: &str) -> Option<&'a [u8]> {
+    for file in files {
+        if file.name.as_str() == name {
+            return Some(file.bytes.as_slice());
+        }
+    }
+    None
+}
