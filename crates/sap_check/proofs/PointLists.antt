@@ -12,7 +12,7 @@ use Rattle.sap_tree.specs.declared.version.Version.{Version}
 use Rattle.sap_text.specs.declared.place.Place.{Place}
 use Rattle.sap_tree.specs.Points.{simple_points, command_points, block_points, else_points, state_points}
 use Rattle.sap_tree.specs.Points as points
-use Rattle.sap_tree.specs.Syntax.{Expression, SimpleCommand, Command, If, TryThen, Case, ElseBlock, StateTree}
+use Rattle.sap_tree.specs.Syntax.{Expression, SimpleCommand, Command, if_else, try_then, case_of, ElseBlock, StateTree}
 use Rattle.sap_tree.specs.Touches.{Home}
 use Rattle.sap_check.specs.declared.point.PointKind.TheVariants as kind
 use Rattle.sap_tree.specs.Trees.{command_of, commands_of, block_of, arm_block_of, arms_of, else_of, state_of, states_of}
@@ -131,12 +131,12 @@ pub group_end : (ss : List State) (n : ℕ) (new all : List Point) → length ss
 group_end ss n new all l h = sym (append-nil new) ∙ ap (λ (r : List Point). new ++ r) (sym (group_points-past ss n l)) ∙ h
 
 if_whole : (x : Expression) (place : Place) (one : Block) (other : ElseBlock)
-    → words_of (command_points (If place x (block_of one) other)) ≡ (point kind.If place ∷ []) ++ (list_points one.commands.items ++ words_of (else_points other))
+    → words_of (command_points (if_else place x (block_of one) other)) ≡ (point kind.If place ∷ []) ++ (list_points one.commands.items ++ words_of (else_points other))
 unfolding list_points
 if_whole x place one other = ap (λ (l : List Point). point kind.If place ∷ l) (words-both (block_points (block_of one)) (else_points other))
 
 pub if_points : (c : Command) (x : Expression) (place : Place) (one : Block) (list : List Cmd) (other : ElseBlock) (old first second new : List Point)
-    → c ≡ If place x (block_of one) other → list ≡ one.commands.items → first ≡ old ++ point kind.If place ∷ [] → second ≡ first ++ list_points list
+    → c ≡ if_else place x (block_of one) other → list ≡ one.commands.items → first ≡ old ++ point kind.If place ∷ [] → second ≡ first ++ list_points list
     → new ≡ second ++ words_of (else_points other) → new ≡ old ++ words_of (command_points c)
 if_points c x place one list other old first second new h e a b d =
     let p = point kind.If place ∷ [] in
@@ -148,14 +148,14 @@ if_points c x place one list other old first second new h e a b d =
     rw (d, b, a, e, all, h, if_whole x place one other) refl
 
 then_whole : (k : SimpleCommand) (place : Place) (a b : Block)
-    → words_of (command_points (TryThen k place (block_of a) (block_of b))) ≡ words_of (simple_points k) ++ ((point kind.Then place ∷ []) ++ (list_points a.commands.items ++ list_points b.commands.items))
+    → words_of (command_points (try_then k place (block_of a) (block_of b))) ≡ words_of (simple_points k) ++ ((point kind.Then place ∷ []) ++ (list_points a.commands.items ++ list_points b.commands.items))
 unfolding list_points
 then_whole k place a b =
     words-both (simple_points k) _
     ∙ ap (λ (l : List Point). words_of (simple_points k) ++ point kind.Then place ∷ l) (words-both (block_points (block_of a)) (block_points (block_of b)))
 
 pub then_points : (c : Command) (k : SimpleCommand) (place : Place) (a b : Block) (la lb : List Cmd) (old first second third new : List Point)
-    → c ≡ TryThen k place (block_of a) (block_of b) → la ≡ a.commands.items → lb ≡ b.commands.items → first ≡ old ++ words_of (simple_points k) → second ≡ first ++ point kind.Then place ∷ []
+    → c ≡ try_then k place (block_of a) (block_of b) → la ≡ a.commands.items → lb ≡ b.commands.items → first ≡ old ++ words_of (simple_points k) → second ≡ first ++ point kind.Then place ∷ []
     → third ≡ second ++ list_points la → new ≡ third ++ list_points lb → new ≡ old ++ words_of (command_points c)
 then_points c k place a b la lb old first second third new h e f i j m n =
     let s = words_of (simple_points k) in
@@ -168,7 +168,7 @@ then_points c k place a b la lb old first second third new h e f i j m n =
     ∙ ap (λ (t : List Point). old ++ t) (sym (then_whole k place a b)) ∙ ap (λ (x : Command). old ++ words_of (command_points x)) (sym h)
 
 pub case_points : (c : Command) (place : Place) (x : Expression) (arms : List Arm) (last : Block) (la : List Arm) (lb : List Cmd) (old first second new : List Point)
-    → c ≡ Case place x (arms_of arms (block_of last)) → la ≡ arms → lb ≡ last.commands.items → first ≡ old ++ point kind.Case place ∷ [] → second ≡ first ++ arms_points la
+    → c ≡ case_of place x (arms_of arms (block_of last)) → la ≡ arms → lb ≡ last.commands.items → first ≡ old ++ point kind.Case place ∷ [] → second ≡ first ++ arms_points la
     → new ≡ second ++ list_points lb → new ≡ old ++ words_of (command_points c)
 case_points c place x arms last la lb old first second new h e f i j n =
     let p = point kind.Case place ∷ [] in

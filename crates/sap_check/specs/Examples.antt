@@ -2,7 +2,7 @@
 use Rattle.std.specs.Prelude.{◌≡◌, ℕ, [], ◌∷◌, Some, codes}
 use Rattle.sap_tree.specs.Making.{at, spot, mention, numeral_at}
 use Rattle.sap_tree.specs.declared.syntax.Decl.TheVariants.{Register}
-use Rattle.sap_tree.specs.Syntax.{Read, Assign, Goto, Fall, Command, Do, Try, If, CommandBlock, Else, StateOf, NoState, AndState, DesignTree, AndCommand, NoCommand}
+use Rattle.sap_tree.specs.Syntax.{variable, assign, go_to, fall_to_child, Command, lone, try, if_else, CommandBlock, with_else, state_node, no_state, and_state, DesignTree, and_command, no_command}
 use Rattle.sap_tree.specs.declared.version.Version.TheVariants.{One}
 use Rattle.sap_check.specs.declared.point.PointKind.TheVariants as points
 use Rattle.sap_check.specs.declared.site.Site.{Site}
@@ -17,22 +17,22 @@ site column kind entity = record { place = at column; kind = kind; entity = enti
 
 -- x := 0; goto S;
 abbrev pub assigning : CommandBlock
-assigning = block 56 (AndCommand (Do (Assign (mention (at 40) (codes "x")) (number 45 0))) (AndCommand (home 48) NoCommand))
+assigning = block 56 (and_command (lone (assign (mention (at 40) (codes "x")) (number 45 0))) (and_command (home 48) no_command))
 
 -- goto S otherwise { goto S; }
 abbrev pub leaving : CommandBlock
-leaving = one 87 (Try (Goto (at 60) (mention (at 65) (codes "S"))) (at 67) (one 85 (home 77)))
+leaving = one 87 (try (go_to (at 60) (mention (at 65) (codes "S"))) (at 67) (one 85 (home 77)))
 
 -- if (x) { x := 0; goto S; } else { goto S otherwise { goto S; } }
 abbrev pub choosing : Command
-choosing = If (at 30) (Read (spot (at 34)) (codes "x")) assigning (Else leaving)
+choosing = if_else (at 30) (variable (spot (at 34)) (codes "x")) assigning (with_else leaving)
 
 -- reg x : 1 enforced low = START; state S enforced low { .. }
 abbrev pub small : ℕ → DesignTree
 small start = record {
   version = One;
   declarations = Register (at 1) (mention (at 5) (codes "x")) (numeral_at (at 9) 1) low (Some (numeral_at (at 21) start)) ∷ [];
-  states = AndState (leaf (codes "S") low (one 90 choosing)) NoState;
+  states = and_state (leaf (codes "S") low (one 90 choosing)) no_state;
 }
 
 abbrev pub SmallSites : Type 0
@@ -46,10 +46,10 @@ abbrev pub nested : DesignTree
 nested = record {
   version = One;
   declarations = [];
-  states = AndState
-      (StateOf (at 1) (mention (at 7) (codes "P")) low (one 60 (Try (Fall (at 25)) (at 30) (one 50 (Do (Goto (at 42) (mention (at 47) (codes "P")))))))
-      (AndState (leaf (codes "S") low (one 90 (home 80))) NoState))
-      NoState;
+  states = and_state
+      (state_node (at 1) (mention (at 7) (codes "P")) low (one 60 (try (fall_to_child (at 25)) (at 30) (one 50 (lone (go_to (at 42) (mention (at 47) (codes "P")))))))
+      (and_state (leaf (codes "S") low (one 90 (home 80))) no_state))
+      no_state;
 }
 
 -- a `fall` is a site of its own state

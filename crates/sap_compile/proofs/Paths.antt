@@ -1,7 +1,7 @@
 -- What two cycles show of active paths that agree.
 use Rattle.std.proofs.Common.{◌≡◌, ◌<◌, ◌≤◌, ℕ, zero, suc, List, inl, inr, sym, ap, ◌∙◌, subst, arith}
 use Rattle.sap_maps.specs.Maps.{Name, Valuation}
-use Rattle.sap_meaning.specs.Program.{Node, Group, None, More, Block, children, last, root}
+use Rattle.sap_meaning.specs.Program.{state_node, Group, no_node, and_node, Block, children, last, root}
 use Rattle.sap_meaning.specs.Store.{Store, Refusal, own, level, child}
 use Rattle.sap_meaning.specs.Checks.{child_level}
 use Rattle.sap_meaning.specs.Fine.{FineNode, FineGroup, FineProgram, size}
@@ -40,11 +40,11 @@ module _ (d : Named) (l : ℕ) where
 
     high_tag : (q : Group) (m : ℕ) (g : Group) (n : ℕ) → FineGroup (world d) q m g → n < size g → High (world d).order l (child_level (world d) g n s)
         → HasHighTag d l v g n
-    high_tag q m None n f i h = absurd (omega arith)
-    high_tag q m (More (Node c b k) None) zero f i h = high_shown q m c b k f.0.0 h
-    high_tag q m (More (Node c b k) None) (suc n) f i h = absurd (omega arith)
-    high_tag q m (More (Node c b k) (More t g)) zero f i h = high_shown q m c b k f.0.0 h
-    high_tag q m (More (Node c b k) (More t g)) (suc n) f i h = high_tag q (suc m) (More t g) n f.1 (omega arith) h
+    high_tag q m no_node n f i h = absurd (omega arith)
+    high_tag q m (and_node (state_node c b k) no_node) zero f i h = high_shown q m c b k f.0.0 h
+    high_tag q m (and_node (state_node c b k) no_node) (suc n) f i h = absurd (omega arith)
+    high_tag q m (and_node (state_node c b k) (and_node t g)) zero f i h = high_shown q m c b k f.0.0 h
+    high_tag q m (and_node (state_node c b k) (and_node t g)) (suc n) f i h = high_tag q (suc m) (and_node t g) n f.1 (omega arith) h
 
     -- the current child of what has children is one of them
     seated : (p : ℕ) (g : Group) → children (world d) p ≡ size g → 0 < size g → child p s < size g
@@ -63,21 +63,21 @@ module _ (d : Named) (l : ℕ) where
         → ((n : ℕ) → Onward (world d) l g n c.one.store c.other.store → WalksGoOn d l g n v u)
         → PathsMeet (world d) l p g c.one.store c.other.store (λ n. Onward (world d) l g n c.one.store c.other.store)
         → WalksMeet d l seat g v u (λ n. WalksGoOn d l g n v u)
-    walks_meet p seat None f e one other onward h = tt
-    walks_meet p seat (More a g) f e one other onward (inl h) =
-        let i : 0 < size (More a g) = omega arith in
-        inl (one i ∙ h.0 ∙ sym (other i), subst (λ (n : ℕ). WalksGoOn d l (More a g) n v u) (sym (one i)) (onward (child p c.one.store) h.1))
-    walks_meet p seat (More a g) f e one other onward (inr h) =
-        let i : 0 < size (More a g) = omega arith in
+    walks_meet p seat no_node f e one other onward h = tt
+    walks_meet p seat (and_node a g) f e one other onward (inl h) =
+        let i : 0 < size (and_node a g) = omega arith in
+        inl (one i ∙ h.0 ∙ sym (other i), subst (λ (n : ℕ). WalksGoOn d l (and_node a g) n v u) (sym (one i)) (onward (child p c.one.store) h.1))
+    walks_meet p seat (and_node a g) f e one other onward (inr h) =
+        let i : 0 < size (and_node a g) = omega arith in
         inr (
-          current_high sites v c.one.store c.one.refused c.one_stands c.one_is_state p seat (More a g) f e i (one i) h.0,
-          current_high sites u c.other.store c.other.refused c.other_stands c.other_is_state p seat (More a g) f e i (other i) h.1,
+          current_high sites v c.one.store c.one.refused c.one_stands c.one_is_state p seat (and_node a g) f e i (one i) h.0,
+          current_high sites u c.other.store c.other.refused c.other_stands c.other_is_state p seat (and_node a g) f e i (other i) h.1,
         )
 
     walks_go_on : (q : Group) (m : ℕ) (g : Group) (n : ℕ) → FineGroup (world d) q m g → Onward (world d) l g n c.one.store c.other.store
         → WalksGoOn d l g n v u
-    walks_go_on q m None n f h = h
-    walks_go_on q m (More (Node a b k) g) zero f h = (
+    walks_go_on q m no_node n f h = h
+    walks_go_on q m (and_node (state_node a b k) g) zero f h = (
       tag_shown sites v c.one.store c.one.refused c.one_stands c.one_is_state q m a b k f.0.0
           ∙ ap (λ (x : ℕ). d.code x) h.0
           ∙ sym (tag_shown sites u c.other.store c.other.refused c.other_stands c.other_is_state q m a b k f.0.0),
@@ -87,7 +87,7 @@ module _ (d : Named) (l : ℕ) where
           (seat_shown sites u c.other.store c.other.refused c.other_stands c.other_is_state q m a b k f.0.0)
           (λ n. walks_go_on k 0 k n f.0.1) h.2,
     )
-    walks_go_on q m (More (Node a b k) g) (suc n) f h = walks_go_on q (suc m) g n f.1 h
+    walks_go_on q m (and_node (state_node a b k) g) (suc n) f h = walks_go_on q (suc m) g n f.1 h
 
     pub paths_look_alike : FineProgram d.program → PathsLookAlike d l v u
     paths_look_alike fine =

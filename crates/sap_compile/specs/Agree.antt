@@ -4,7 +4,7 @@ use Rattle.std.specs.List.{AllZip}
 use Rattle.sap_lattice.specs.Levels.{Levels, order_of}
 use Rattle.sap_maps.specs.Maps.{Name, Valuation}
 use Rattle.sap_tree.specs.Syntax.{DesignTree}
-use Rattle.sap_meaning.specs.Program.{root, is_register, is_memory, is_state, is_dynamic, authority, Node, Group, None, More}
+use Rattle.sap_meaning.specs.Program.{root, is_register, is_memory, is_state, is_dynamic, authority, state_node, Group, no_node, and_node}
 use Rattle.sap_meaning.specs.Store.{Store, After}
 use Rattle.sap_meaning.specs.Cycle.{Tagged}
 use Rattle.sap_meaning.specs.State.{Resting, Fits, StreamFits}
@@ -54,26 +54,26 @@ MemoriesLookAlike d l m v u =
 
 -- The n-th of a group has a tag that is the code of a level not at or below l.
 abbrev pub HasHighTag : Named → (l : ℕ) → Valuation → Group → (n : ℕ) → Type 0
-HasHighTag d l v None n = ⊥
-HasHighTag d l v (More (Node c b k) g) zero = IsHighCode d l (v.value (tag_name (name d c)))
-HasHighTag d l v (More a g) (suc n) = HasHighTag d l v g n
+HasHighTag d l v no_node n = ⊥
+HasHighTag d l v (and_node (state_node c b k) g) zero = IsHighCode d l (v.value (tag_name (name d c)))
+HasHighTag d l v (and_node a g) (suc n) = HasHighTag d l v g n
 
 -- How the walk goes on from a parent, the number of whose current child is at `seat`: at a leaf it ends; both cycles show the
 -- same current child, from which `onward` tells more; or the tag of the one that each shows is the code of a level not at or
 -- below l, and it ends.
 abbrev pub WalksMeet : Named → (l : ℕ) → (seat : Name) → Group → Valuation → Valuation → (onward : ℕ → Type 0) → Type 0
-WalksMeet d l seat None v u onward = Unit {0}
-WalksMeet d l seat (More a g) v u onward =
+WalksMeet d l seat no_node v u onward = Unit {0}
+WalksMeet d l seat (and_node a g) v u onward =
     ((v.value seat ≡ u.value seat) × onward (v.value seat))
-    ⊎ (HasHighTag d l v (More a g) (v.value seat) × HasHighTag d l u (More a g) (u.value seat))
+    ⊎ (HasHighTag d l v (and_node a g) (v.value seat) × HasHighTag d l u (and_node a g) (u.value seat))
 
 -- The n-th of a group has equal tags, the code of a level at or below l, and the walk goes on below it.
 abbrev pub WalksGoOn : Named → (l : ℕ) → Group → (n : ℕ) → Valuation → Valuation → Type 0
-WalksGoOn d l None n v u = ⊥
-WalksGoOn d l (More (Node c b k) g) zero v u =
+WalksGoOn d l no_node n v u = ⊥
+WalksGoOn d l (and_node (state_node c b k) g) zero v u =
     (v.value (tag_name (name d c)) ≡ u.value (tag_name (name d c))) × IsLowCode d l (v.value (tag_name (name d c)))
     × WalksMeet d l (seat_name (name d c)) k v u (λ n. WalksGoOn d l k n v u)
-WalksGoOn d l (More a g) (suc n) v u = WalksGoOn d l g n v u
+WalksGoOn d l (and_node a g) (suc n) v u = WalksGoOn d l g n v u
 
 -- The active paths from the root down, as the numbers of current children and the tags of the states on them show them. A
 -- number that is no child's is on no path that looks alike.

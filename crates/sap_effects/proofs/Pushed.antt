@@ -7,7 +7,7 @@ use Rattle.sap_ir.specs.Plain.Views.{body_of, command_before, follow}
 use Rattle.sap_ir.proofs.plain.Views.{body_of-none, body_of-more, follow-before, follow-more}
 use Rattle.sap_maps.specs.Maps.{Name}
 use Rattle.sap_maps.specs.Term.{Term}
-use Rattle.sap_tagged.specs.Keys.{Key, Tag, Wire}
+use Rattle.sap_tagged.specs.Keys.{Key, tag_key, wire_key}
 use Rattle.sap_tagged.specs.Setting.{Setting}
 use Rattle.sap_tagged.specs.Levels.{var, bits}
 use Rattle.sap_tagged.specs.Commands.{gives, for_each, resets, effect_of}
@@ -37,19 +37,19 @@ for_each_follow d key picks term b = sym (sweep_follow d key term picks 0 (root 
 
 -- a goto behind the resets
 pub goto_effect : (d : Setting) (sp : Spot) (n k : ℕ) (st : Step) (site target : ℕ) (b0 b1 b2 : Body) → st ≡ step.Goto site target
-    → b1 ≡ follow b0 (for_each d Tag (resets d.world target) (λ x. bits d d.world.order.bottom) stop)
-    → b2 ≡ follow b1 (if is_dynamic d.world target then gives d (Tag target) (var d (Wire (k + 3))) stop else stop)
+    → b1 ≡ follow b0 (for_each d tag_key (resets d.world target) (λ x. bits d d.world.order.bottom) stop)
+    → b2 ≡ follow b1 (if is_dynamic d.world target then gives d (tag_key target) (var d (wire_key (k + 3))) stop else stop)
     → follow b2 (goto (d.state_name target) stop) ≡ follow b0 (effect_of d sp k (step_of n st))
 goto_effect d sp n k st site target b0 b1 b2 i e f =
     let go : Body = goto (d.state_name target) stop in
-    let own : Body = gives d (Tag target) (var d (Wire (k + 3))) stop in
-    let sweeps : Body = for_each d Tag (resets d.world target) (λ x. bits d d.world.order.bottom) stop in
+    let own : Body = gives d (tag_key target) (var d (wire_key (k + 3))) stop in
+    let sweeps : Body = for_each d tag_key (resets d.world target) (λ x. bits d d.world.order.bottom) stop in
     let tagged : Body = if is_dynamic d.world target then own else stop in
     ap (λ (b : Body). follow b go) (f ∙ ap (λ (b : Body). follow b tagged) e)
     ∙ follow-more (follow b0 sweeps) tagged go
     ∙ follow-more b0 sweeps (follow tagged go)
     ∙ ap (λ (b : Body). follow b0 (follow sweeps b)) (follow_if (is_dynamic d.world target) own go)
-    ∙ ap (follow b0) (for_each_follow d Tag (resets d.world target) (λ x. bits d d.world.order.bottom) (if is_dynamic d.world target then follow own go else go))
+    ∙ ap (follow b0) (for_each_follow d tag_key (resets d.world target) (λ x. bits d d.world.order.bottom) (if is_dynamic d.world target then follow own go else go))
     ∙ ap (λ (s : Step). follow b0 (effect_of d sp k (step_of n s))) (sym i)
 
 pub empty : (cs : List PlainCmd) → cs ≡ [] → body_of cs ≡ stop

@@ -8,7 +8,7 @@ use Rattle.sap_resolve.proofs.FillLemmas.{table_at}
 use Rattle.sap_ir.proofs.PlainLemmas.{follow_stop}
 use Rattle.sap_maps.specs.Maps.{Name}
 use Rattle.sap_maps.specs.Term.{Term}
-use Rattle.sap_meaning.specs.Program.{root, is_dynamic, listed, Goto}
+use Rattle.sap_meaning.specs.Program.{root, is_dynamic, listed, go_to}
 use Rattle.sap_meaning.specs.Checks.{Spot}
 use Rattle.sap_meaning.specs.Runs.{listed_alone}
 use Rattle.sap_ir.specs.Plain.Nested.{Body, stop}
@@ -19,7 +19,7 @@ use Rattle.sap_program.specs.declared.program.Step.{Step}
 use Rattle.sap_program.specs.declared.program.Step.TheVariants as step
 use Rattle.sap_program.specs.Views.{entity_of, step_of}
 use Rattle.sap_program.specs.declared.program.Entity.{Entity}
-use Rattle.sap_tagged.specs.Keys.{Key, Tag, Wire}
+use Rattle.sap_tagged.specs.Keys.{Key, tag_key, wire_key}
 use Rattle.sap_tagged.specs.Setting.{Setting}
 use Rattle.sap_tagged.specs.Levels.{var, lub}
 use Rattle.sap_tagged.specs.Commands.{gives, sweep, raises}
@@ -144,30 +144,30 @@ module _ (d : Setting) (key : ℕ → Key) (term : ℕ → Term Name) where
 
 -- the raise of an entity
 abbrev pub raised : Setting → (wire : ℕ) → ℕ → Term Name
-raised d j x = lub (var d (Tag x)) (var d (Wire j))
+raised d j x = lub (var d (tag_key x)) (var d (wire_key j))
 
-pub raises_listed : (d : Setting) (n : ℕ) (xs : List ℕ) (j : ℕ) → root d.world ≡ n → rises xs ≡ true → raises d (listed (flags n xs)) j stop ≡ walk d Tag (raised d j) n xs
-raises_listed d n xs j e r = rw e (walk_is d Tag (raised d j) (listed (flags n xs)) n xs r (λ y l. table_at n (hangs xs) y l))
+pub raises_listed : (d : Setting) (n : ℕ) (xs : List ℕ) (j : ℕ) → root d.world ≡ n → rises xs ≡ true → raises d (listed (flags n xs)) j stop ≡ walk d tag_key (raised d j) n xs
+raises_listed d n xs j e r = rw e (walk_is d tag_key (raised d j) (listed (flags n xs)) n xs r (λ y l. table_at n (hangs xs) y l))
 
 pub raises_follow : (d : Setting) (picks : ℕ → Bool) (j : ℕ) (b : Body) → raises d picks j b ≡ follow (raises d picks j stop) b
-raises_follow d picks j b = sweep_follow d Tag (raised d j) picks 0 (root d.world) b
+raises_follow d picks j b = sweep_follow d tag_key (raised d j) picks 0 (root d.world) b
 
 -- a step alone raises but the state that it leaves
 pub alone_dynamic : (d : Setting) (at : Spot) (j n site target : ℕ) → root d.world ≡ n → is_dynamic d.world at.state ≡ true
-    → raises d (listed_alone d.world at (Goto site target)) j stop ≡ (if nat_lt at.state n then gives d (Tag at.state) (raised d j at.state) stop else stop)
+    → raises d (listed_alone d.world at (go_to site target)) j stop ≡ (if nat_lt at.state n then gives d (tag_key at.state) (raised d j at.state) stop else stop)
 alone_dynamic d at j n site target e t =
-    rw e (walk_is d Tag (raised d j) (listed_alone d.world at (Goto site target)) n (at.state ∷ []) refl picked)
+    rw e (walk_is d tag_key (raised d j) (listed_alone d.world at (go_to site target)) n (at.state ∷ []) refl picked)
   where
-    picked : (y : ℕ) → y < n → listed_alone d.world at (Goto site target) y ≡ hangs (at.state ∷ []) y
+    picked : (y : ℕ) → y < n → listed_alone d.world at (go_to site target) y ≡ hangs (at.state ∷ []) y
     picked y l = elim (cases_Bool (nat_eq y at.state)) [
       | inl i ↦ (let k = eqb-true y at.state i in rw (k, t, eq-eqb at.state at.state refl) refl)
       | inr i ↦ and_right (is_dynamic d.world y) (nat_eq y at.state) i ∙ sym (ap (λ (b : Bool). b || false) (test_symmetric at.state y ∙ i))
     ]
 
-pub alone_enforced : (d : Setting) (at : Spot) (j site target : ℕ) → is_dynamic d.world at.state ≡ false → raises d (listed_alone d.world at (Goto site target)) j stop ≡ stop
-alone_enforced d at j site target t = walk_is d Tag (raised d j) (listed_alone d.world at (Goto site target)) (root d.world) [] refl picked
+pub alone_enforced : (d : Setting) (at : Spot) (j site target : ℕ) → is_dynamic d.world at.state ≡ false → raises d (listed_alone d.world at (go_to site target)) j stop ≡ stop
+alone_enforced d at j site target t = walk_is d tag_key (raised d j) (listed_alone d.world at (go_to site target)) (root d.world) [] refl picked
   where
-    picked : (y : ℕ) → y < root d.world → listed_alone d.world at (Goto site target) y ≡ false
+    picked : (y : ℕ) → y < root d.world → listed_alone d.world at (go_to site target) y ≡ false
     picked y l = elim (cases_Bool (nat_eq y at.state)) [
       | inl i ↦ and_left (is_dynamic d.world y) (nat_eq y at.state) (ap (is_dynamic d.world) (eqb-true y at.state i) ∙ t)
       | inr i ↦ and_right (is_dynamic d.world y) (nat_eq y at.state) i
@@ -179,7 +179,7 @@ entities_count es = length_map entity_of es
 -- a step as the code takes it
 
 pub goto_dynamic : (d : Setting) (at : Spot) (j n : ℕ) (k : Step) (site target : ℕ) → k ≡ step.Goto site target → root d.world ≡ n → is_dynamic d.world at.state ≡ true
-    → (if nat_lt at.state n then gives d (Tag at.state) (raised d j at.state) stop else stop) ≡ raises d (listed_alone d.world at (step_of n k)) j stop
+    → (if nat_lt at.state n then gives d (tag_key at.state) (raised d j at.state) stop else stop) ≡ raises d (listed_alone d.world at (step_of n k)) j stop
 goto_dynamic d at j n k site target i e t = rw i (sym (alone_dynamic d at j n site target e t))
 
 pub goto_enforced : (d : Setting) (at : Spot) (j n : ℕ) (k : Step) (site target : ℕ) (b : Body) → k ≡ step.Goto site target → is_dynamic d.world at.state ≡ false
@@ -189,6 +189,6 @@ goto_enforced d at j n k site target b i t = rw i (sym (ap (follow b) (alone_enf
 pub quiet : (d : Setting) (at : Spot) (j n : ℕ) (k : Step) (b : Body) → ((x : ℕ) → listed_alone d.world at (step_of n k) x ≡ false)
     → b ≡ follow b (raises d (listed_alone d.world at (step_of n k)) j stop)
 quiet d at j n k b h =
-    sym (ap (follow b) (walk_is d Tag (raised d j) (listed_alone d.world at (step_of n k)) (root d.world) [] refl (λ y l. h y)) ∙ follow_stop b)
+    sym (ap (follow b) (walk_is d tag_key (raised d j) (listed_alone d.world at (step_of n k)) (root d.world) [] refl (λ y l. h y)) ∙ follow_stop b)
 
 pub ruleset sweeps = (sweep_next, sweep_rest, entities_count, follow_stop, follow-more)

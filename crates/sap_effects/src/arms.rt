@@ -59,7 +59,7 @@ pub fn pick(
     arms: &[Arm],
 ) -> Result<(), AllocError>
     ensures { OnOk result (body_of out.new.items ≡ follow (body_of out.old.items)
-        (spec.picks (setting_in setting.now) number.now.width number.now.wire pick.now.width pick.now.wire 0 (views.arms_before (entities_in setting.now) arms.now (program.Last program.End)) stop)) }
+        (spec.picks (setting_in setting.now) number.now.width number.now.wire pick.now.width pick.now.wire 0 (views.arms_before (entities_in setting.now) arms.now (program.last_arm program.end_block)) stop)) }
 {
     let last = Calc::Constant {
         width: pick.width,

@@ -9,7 +9,7 @@ ghost use Rattle.sap_ir.specs.Plain.Views.{body_of, follow};
 ghost use Rattle.sap_program.specs.Views as views;
 ghost use Rattle.sap_resolve.specs.Sized.Ranges.{RangedStep, RangedTerm};
 ghost use Rattle.sap_tagged.specs.Commands as spec;
-ghost use Rattle.sap_tagged.specs.Keys.{Tag, Value, Wire};
+ghost use Rattle.sap_tagged.specs.Keys.{tag_key, value_key, wire_key};
 ghost use Rattle.sap_tagged.specs.Levels as levels;
 ghost use Rattle.sap_terms.specs.Code.{entities_in, setting_in, spot_in, world_in};
 
@@ -44,7 +44,7 @@ fn kept(
     x: usize,
     now: Calc,
 ) -> Result<Calc, AllocError>
-    ensures { IfOk result (λ c. term_of c ≡ term.choose (levels.var (setting_in setting.now) (Wire wire)) (term_of now) (term.constant (program.width (world_in setting.now) x) 0)) }
+    ensures { IfOk result (λ c. term_of c ≡ term.choose (levels.var (setting_in setting.now) (wire_key wire)) (term_of now) (term.constant (program.width (world_in setting.now) x) 0)) }
 {
     let stays = wire_variable(alloc, setting, wire)?;
     Calc::choose(alloc, stays, now, zero(setting, x))
@@ -58,7 +58,7 @@ fn cell(
     index: Calc,
 ) -> Result<Calc, AllocError>
     ensures { let d = setting_in setting.now in
-        IfOk result (λ c. term_of c ≡ term.cell (d.name (Value memory)) (term_of index)) }
+        IfOk result (λ c. term_of c ≡ term.cell (d.name (value_key memory)) (term_of index)) }
 {
     let name = value_name(alloc, setting, memory)?;
     Calc::cell(alloc, name, index)
@@ -74,7 +74,7 @@ fn follow_wire(
     wire: u32,
 ) -> Result<(), AllocError>
     ensures { let d = setting_in setting.now in
-        OnOk result (body_of out.new.items ≡ follow (body_of out.old.items) (if program.is_dynamic d.world x then spec.gives d (Tag x) (levels.var d (Wire wire)) stop else stop)) }
+        OnOk result (body_of out.new.items ≡ follow (body_of out.old.items) (if program.is_dynamic d.world x then spec.gives d (tag_key x) (levels.var d (wire_key wire)) stop else stop)) }
 {
     if is_dynamic(setting, x) {
         let level = wire_variable(alloc, setting, wire)?;
@@ -94,7 +94,7 @@ fn join_wire(
     wire: u32,
 ) -> Result<(), AllocError>
     ensures { let d = setting_in setting.now in
-        OnOk result (body_of out.new.items ≡ follow (body_of out.old.items) (if program.is_dynamic d.world x then spec.gives d (Tag x) (levels.lub (levels.var d (Tag x)) (levels.var d (Wire wire))) stop else stop)) }
+        OnOk result (body_of out.new.items ≡ follow (body_of out.old.items) (if program.is_dynamic d.world x then spec.gives d (tag_key x) (levels.lub (levels.var d (tag_key x)) (levels.var d (wire_key wire))) stop else stop)) }
 {
     if is_dynamic(setting, x) {
         let own = tag_variable(alloc, setting, x)?;
@@ -116,7 +116,7 @@ fn keep_register(
     wire: u32,
 ) -> Result<(), AllocError>
     ensures { let d = setting_in setting.now in
-        OnOk result (body_of out.new.items ≡ follow (body_of out.old.items) (if program.is_register d.world x then spec.gives d (Value x) (term.choose (levels.var d (Wire wire)) (levels.var d (Value x)) (term.constant (program.width d.world x) 0)) stop else stop)) }
+        OnOk result (body_of out.new.items ≡ follow (body_of out.old.items) (if program.is_register d.world x then spec.gives d (value_key x) (term.choose (levels.var d (wire_key wire)) (levels.var d (value_key x)) (term.constant (program.width d.world x) 0)) stop else stop)) }
 {
     if is_register(setting, x) {
         let now = value_variable(alloc, setting, x)?;
@@ -139,7 +139,7 @@ fn keep_cell(
     requires { RangedTerm (world_in setting.now) (views.term_of index.now) }
     ensures { let d = setting_in setting.now in
         let i = levels.expr d (views.term_of index.now) in
-        OnOk result (body_of out.new.items ≡ follow (body_of out.old.items) (spec.stores d (Value memory) i (term.choose (levels.var d (Wire wire)) (term.cell (d.name (Value memory)) i) (term.constant (program.width d.world memory) 0)) stop)) }
+        OnOk result (body_of out.new.items ≡ follow (body_of out.old.items) (spec.stores d (value_key memory) i (term.choose (levels.var d (wire_key wire)) (term.cell (d.name (value_key memory)) i) (term.constant (program.width d.world memory) 0)) stop)) }
 {
     let place = expr(alloc, setting, index)?;
     let now = cell(alloc, setting, memory, place)?;

@@ -5,7 +5,7 @@ ghost use Rattle.sap_ir.specs.Calcs.{action_of, term_of};
 ghost use Rattle.sap_ir.specs.Plain.Nested.{act, stop};
 ghost use Rattle.sap_ir.specs.Plain.Views.{body_of, follow};
 ghost use Rattle.sap_tagged.specs.Commands.{gives, stores};
-ghost use Rattle.sap_tagged.specs.Keys.{Inner, Tag, Value, Wire};
+ghost use Rattle.sap_tagged.specs.Keys.{inner_key, tag_key, value_key, wire_key};
 ghost use Rattle.sap_tagged.specs.Levels.{var};
 ghost use Rattle.sap_terms.specs.Code.{setting_in};
 
@@ -32,7 +32,7 @@ pub fn set_wire(
     wire: u32,
     value: Calc,
 ) -> Result<(), AllocError>
-    ensures { OnOk result (body_of out.new.items ≡ follow (body_of out.old.items) (gives (setting_in setting.now) (Wire wire) (term_of value) stop)) }
+    ensures { OnOk result (body_of out.new.items ≡ follow (body_of out.old.items) (gives (setting_in setting.now) (wire_key wire) (term_of value) stop)) }
 {
     let name = wire_name(alloc, setting, wire)?;
     push(out, Act::Set(name, value))
@@ -46,7 +46,7 @@ pub(crate) fn set_inner(
     state: usize,
     context: Calc,
 ) -> Result<(), AllocError>
-    ensures { OnOk result (body_of out.new.items ≡ follow (body_of out.old.items) (gives (setting_in setting.now) (Inner state) (term_of context) stop)) }
+    ensures { OnOk result (body_of out.new.items ≡ follow (body_of out.old.items) (gives (setting_in setting.now) (inner_key state) (term_of context) stop)) }
 {
     let name = inner_name(alloc, setting, state)?;
     push(out, Act::Set(name, context))
@@ -60,7 +60,7 @@ pub(crate) fn set_value(
     x: usize,
     value: Calc,
 ) -> Result<(), AllocError>
-    ensures { OnOk result (body_of out.new.items ≡ follow (body_of out.old.items) (gives (setting_in setting.now) (Value x) (term_of value) stop)) }
+    ensures { OnOk result (body_of out.new.items ≡ follow (body_of out.old.items) (gives (setting_in setting.now) (value_key x) (term_of value) stop)) }
 {
     let name = value_name(alloc, setting, x)?;
     push(out, Act::Set(name, value))
@@ -74,7 +74,7 @@ pub(crate) fn set_tag(
     x: usize,
     value: Calc,
 ) -> Result<(), AllocError>
-    ensures { OnOk result (body_of out.new.items ≡ follow (body_of out.old.items) (gives (setting_in setting.now) (Tag x) (term_of value) stop)) }
+    ensures { OnOk result (body_of out.new.items ≡ follow (body_of out.old.items) (gives (setting_in setting.now) (tag_key x) (term_of value) stop)) }
 {
     let name = tag_name(alloc, setting, x)?;
     push(out, Act::Set(name, value))
@@ -89,7 +89,7 @@ pub(crate) fn put_value(
     index: Calc,
     value: Calc,
 ) -> Result<(), AllocError>
-    ensures { OnOk result (body_of out.new.items ≡ follow (body_of out.old.items) (stores (setting_in setting.now) (Value x) (term_of index) (term_of value) stop)) }
+    ensures { OnOk result (body_of out.new.items ≡ follow (body_of out.old.items) (stores (setting_in setting.now) (value_key x) (term_of index) (term_of value) stop)) }
 {
     let memory = value_name(alloc, setting, x)?;
     push(
@@ -111,7 +111,7 @@ pub(crate) fn put_tag(
     index: Calc,
     value: Calc,
 ) -> Result<(), AllocError>
-    ensures { OnOk result (body_of out.new.items ≡ follow (body_of out.old.items) (stores (setting_in setting.now) (Tag x) (term_of index) (term_of value) stop)) }
+    ensures { OnOk result (body_of out.new.items ≡ follow (body_of out.old.items) (stores (setting_in setting.now) (tag_key x) (term_of index) (term_of value) stop)) }
 {
     let memory = tag_name(alloc, setting, x)?;
     push(
@@ -126,7 +126,7 @@ pub(crate) fn put_tag(
 
 /// The number in a wire.
 pub fn wire_variable(alloc: Global, setting: &Setting<'_>, wire: u32) -> Result<Calc, AllocError>
-    ensures { IfOk result (λ c. term_of c ≡ var (setting_in setting.now) (Wire wire)) }
+    ensures { IfOk result (λ c. term_of c ≡ var (setting_in setting.now) (wire_key wire)) }
 {
     Ok(Calc::Read(wire_name(alloc, setting, wire)?))
 }
@@ -137,7 +137,7 @@ pub fn inner_variable(
     setting: &Setting<'_>,
     state: usize,
 ) -> Result<Calc, AllocError>
-    ensures { IfOk result (λ c. term_of c ≡ var (setting_in setting.now) (Inner state)) }
+    ensures { IfOk result (λ c. term_of c ≡ var (setting_in setting.now) (inner_key state)) }
 {
     Ok(Calc::Read(inner_name(alloc, setting, state)?))
 }
@@ -148,7 +148,7 @@ pub(crate) fn value_variable(
     setting: &Setting<'_>,
     x: usize,
 ) -> Result<Calc, AllocError>
-    ensures { IfOk result (λ c. term_of c ≡ var (setting_in setting.now) (Value x)) }
+    ensures { IfOk result (λ c. term_of c ≡ var (setting_in setting.now) (value_key x)) }
 {
     Ok(Calc::Read(value_name(alloc, setting, x)?))
 }

@@ -8,7 +8,7 @@ ghost use Rattle.sap_ir.specs.Plain.Views.{body_of, follow};
 ghost use Rattle.sap_program.specs.Hangs.{flags, rises};
 ghost use Rattle.sap_program.specs.Views as views;
 ghost use Rattle.sap_tagged.specs.Commands as spec;
-ghost use Rattle.sap_tagged.specs.Keys.{First, Tag, Wire};
+ghost use Rattle.sap_tagged.specs.Keys.{first_key, tag_key, wire_key};
 ghost use Rattle.sap_tagged.specs.Levels as levels;
 ghost use Rattle.sap_tagged.specs.States as states;
 ghost use Rattle.sap_terms.specs.Code.{entities_in, setting_in, spot_in, world_in};
@@ -32,7 +32,7 @@ fn raise(
     wire: u32,
 ) -> Result<(), AllocError>
     ensures { let d = setting_in setting.now in
-        OnOk result (body_of out.new.items ≡ follow (body_of out.old.items) (spec.gives d (Tag x) (levels.lub (levels.var d (Tag x)) (levels.var d (Wire wire))) stop)) }
+        OnOk result (body_of out.new.items ≡ follow (body_of out.old.items) (spec.gives d (tag_key x) (levels.lub (levels.var d (tag_key x)) (levels.var d (wire_key wire))) stop)) }
 {
     let own = tag_variable(alloc, setting, x)?;
     let level = wire_variable(alloc, setting, wire)?;
@@ -50,7 +50,7 @@ fn raise_entity(
     wire: u32,
 ) -> Result<(), AllocError>
     ensures { let d = setting_in setting.now in
-        OnOk result (body_of out.new.items ≡ follow (body_of out.old.items) (if nat_lt x (entities_in setting.now) then spec.gives d (Tag x) (levels.lub (levels.var d (Tag x)) (levels.var d (Wire wire))) stop else stop)) }
+        OnOk result (body_of out.new.items ≡ follow (body_of out.old.items) (if nat_lt x (entities_in setting.now) then spec.gives d (tag_key x) (levels.lub (levels.var d (tag_key x)) (levels.var d (wire_key wire))) stop else stop)) }
 {
     if x < setting.program.entities.len() {
         raise(alloc, setting, out, x, wire)
@@ -135,7 +135,7 @@ fn reset(
     x: usize,
 ) -> Result<(), AllocError>
     ensures { let d = setting_in setting.now in
-        OnOk result (body_of out.new.items ≡ follow (body_of out.old.items) (if spec.resets d.world target x then spec.gives d (Tag x) (levels.bits d d.world.order.bottom) stop else stop)) }
+        OnOk result (body_of out.new.items ≡ follow (body_of out.old.items) (if spec.resets d.world target x then spec.gives d (tag_key x) (levels.bits d d.world.order.bottom) stop else stop)) }
 {
     if is_reset(setting, target, x) {
         set_tag(
@@ -159,7 +159,7 @@ pub(crate) fn reset_below(
     target: usize,
 ) -> Result<(), AllocError>
     ensures { let d = setting_in setting.now in
-        OnOk result (body_of out.new.items ≡ follow (body_of out.old.items) (spec.for_each d Tag (spec.resets d.world target) (λ x. levels.bits d d.world.order.bottom) stop)) }
+        OnOk result (body_of out.new.items ≡ follow (body_of out.old.items) (spec.for_each d tag_key (spec.resets d.world target) (λ x. levels.bits d d.world.order.bottom) stop)) }
 {
     for x in 0..setting.program.entities.len() {
         reset(alloc, setting, out, target, x)?;
@@ -176,7 +176,7 @@ fn save(
     x: usize,
 ) -> Result<(), AllocError>
     ensures { let d = setting_in setting.now in
-        OnOk result (body_of out.new.items ≡ follow (body_of out.old.items) (if states.saved d.world x then spec.gives d (First x) (levels.var d (Tag x)) stop else stop)) }
+        OnOk result (body_of out.new.items ≡ follow (body_of out.old.items) (if states.saved d.world x then spec.gives d (first_key x) (levels.var d (tag_key x)) stop else stop)) }
 {
     if is_memory(setting, x) && is_dynamic(setting, x) {
         let name = first_name(alloc, setting, x)?;

@@ -10,7 +10,7 @@ use Rattle.sap_tree.specs.declared.syntax.Kind.{Kind}
 use Rattle.sap_tree.specs.declared.syntax.Kind.TheVariants.{Dynamic, Enforced}
 use Rattle.sap_tree.specs.declared.syntax.Decl.{Decl}
 use Rattle.sap_tree.specs.declared.syntax.Decl.TheVariants.{Input, Register, Memory}
-use Rattle.sap_tree.specs.Syntax.{TagExpression, Level, TagOf, LevelAt, Join, TagExpressions, NoTag, AndTag, SimpleCommand, Assign, Write, SetTag, SetCellTag, CommandBlock, Commands, ElseBlock, NoElse, Else, CommandList, NoCommand, AndCommand, StateTree, StateOf, StateList, NoState, AndState, DesignTree}
+use Rattle.sap_tree.specs.Syntax.{TagExpression, level_of, tag_at, level_at, join_of, TagExpressions, no_tag, and_tag, SimpleCommand, assign, write, set_tag, set_cell_tag, CommandBlock, command_block, ElseBlock, no_else, with_else, CommandList, no_command, and_command, StateTree, state_node, StateList, no_state, and_state, DesignTree}
 use Rattle.sap_tree.specs.Syntax as tree
 use Rattle.sap_names.specs.Entities.{entities_of}
 use Rattle.sap_names.specs.declared.entity.Entity.{Entity as Named}
@@ -54,11 +54,11 @@ module _ (l m : Levels) (same : AreSame l m) where
 
   mutual
     state_in : (n x : ℕ) (s : StateTree) → state_entities l n x s ≡ state_entities m n x s
-    state_in n x (StateOf place name kind body children) = rw (level_in kind, authority_in kind, group_in 0 (x + 1) children) refl
+    state_in n x (state_node place name kind body children) = rw (level_in kind, authority_in kind, group_in 0 (x + 1) children) refl
 
     group_in : (n x : ℕ) (g : StateList) → group_entities l n x g ≡ group_entities m n x g
-    group_in n x NoState = refl
-    group_in n x (AndState s rest) = rw (state_in n x s, group_in (n + 1) (x + states_in s) rest) refl
+    group_in n x no_state = refl
+    group_in n x (and_state s rest) = rw (state_in n x s, group_in (n + 1) (x + states_in s) rest) refl
 
   pub world_in : (d : DesignTree) → world_of l d ≡ world_of m d
   world_in d = rw (same.order, all_in d.declarations, group_in 0 (length d.declarations) d.states) refl
@@ -67,58 +67,58 @@ module _ (l m : Levels) (same : AreSame l m) where
 
   mutual
     term_in : (es : List Named) (e : TagExpression) → level_term l es e ≡ level_term m es e
-    term_in es (Level level) = rw (number_in level) refl
-    term_in es (TagOf place e) = refl
-    term_in es (LevelAt place e) = refl
-    term_in es (Join place parts) = terms_in es parts
+    term_in es (level_of level) = rw (number_in level) refl
+    term_in es (tag_at place e) = refl
+    term_in es (level_at place e) = refl
+    term_in es (join_of place parts) = terms_in es parts
 
     terms_in : (es : List Named) (parts : TagExpressions) → level_terms l es parts ≡ level_terms m es parts
-    terms_in es NoTag = rw bottom_in refl
-    terms_in es (AndTag t NoTag) = term_in es t
-    terms_in es (AndTag t (AndTag u parts)) = rw (term_in es t, terms_in es (AndTag u parts)) refl
+    terms_in es no_tag = rw bottom_in refl
+    terms_in es (and_tag t no_tag) = term_in es t
+    terms_in es (and_tag t (and_tag u parts)) = rw (term_in es t, terms_in es (and_tag u parts)) refl
 
   step_in : (h : Surroundings) (n : ℕ) (c : SimpleCommand) → step_of l h n c ≡ step_of m h n c
-  step_in h n (Assign target e) = refl
-  step_in h n (Write target index e) = refl
-  step_in h n (SetTag place target tag) = rw (term_in h.entities tag) refl
-  step_in h n (SetCellTag place target index tag) = rw (term_in h.entities tag) refl
-  step_in h n (tree.Goto place target) = refl
-  step_in h n (tree.Fall place) = refl
+  step_in h n (assign target e) = refl
+  step_in h n (write target index e) = refl
+  step_in h n (set_tag place target tag) = rw (term_in h.entities tag) refl
+  step_in h n (set_cell_tag place target index tag) = rw (term_in h.entities tag) refl
+  step_in h n (tree.go_to place target) = refl
+  step_in h n (tree.fall_to_child place) = refl
 
   mutual
     command_in : (h : Surroundings) (k : ℕ) (c : tree.Command) → command_of l h k c ≡ command_of m h k c
-    command_in h k (tree.Do c) = rw (step_in h (site_number h k c) c) refl
-    command_in h k (tree.Try c place handler) = rw (step_in h (site_number h k c) c, block_in h (k + length (simple_sites h c)) handler) refl
-    command_in h k (tree.If place condition then_block else_block) =
+    command_in h k (tree.lone c) = rw (step_in h (site_number h k c) c) refl
+    command_in h k (tree.try c place handler) = rw (step_in h (site_number h k c) c, block_in h (k + length (simple_sites h c)) handler) refl
+    command_in h k (tree.if_else place condition then_block else_block) =
         rw (block_in h k then_block, else_in h (k + length (block_sites h then_block)) else_block) refl
-    command_in h k (tree.TryThen c then accepted refused) =
+    command_in h k (tree.try_then c then accepted refused) =
         rw (step_in h (site_number h k c) c, block_in h (k + length (simple_sites h c)) accepted, block_in h (k + length (simple_sites h c) + length (block_sites h accepted)) refused) refl
-    command_in h k (tree.Case place e arms) = rw (arms_in h k arms) refl
+    command_in h k (tree.case_of place e arms) = rw (arms_in h k arms) refl
 
     block_in : (h : Surroundings) (k : ℕ) (b : CommandBlock) → block_of l h k b ≡ block_of m h k b
-    block_in h k (Commands cs after) = list_in h k cs
+    block_in h k (command_block cs after) = list_in h k cs
 
     else_in : (h : Surroundings) (k : ℕ) (b : ElseBlock) → else_of l h k b ≡ else_of m h k b
-    else_in h k NoElse = refl
-    else_in h k (Else b) = block_in h k b
+    else_in h k no_else = refl
+    else_in h k (with_else b) = block_in h k b
 
     arms_in : (h : Surroundings) (k : ℕ) (arms : tree.Arms) → arms_of l h k arms ≡ arms_of m h k arms
-    arms_in h k (tree.Last b) = rw (block_in h k b) refl
-    arms_in h k (tree.Arm constants b arms) = rw (block_in h k b, arms_in h (k + length (block_sites h b)) arms) refl
+    arms_in h k (tree.last_arm b) = rw (block_in h k b) refl
+    arms_in h k (tree.and_arm constants b arms) = rw (block_in h k b, arms_in h (k + length (block_sites h b)) arms) refl
 
     list_in : (h : Surroundings) (k : ℕ) (cs : CommandList) → list_of l h k cs ≡ list_of m h k cs
-    list_in h k NoCommand = refl
-    list_in h k (AndCommand c cs) = rw (command_in h k c, list_in h (k + length (command_sites h c)) cs) refl
+    list_in h k no_command = refl
+    list_in h k (and_command c cs) = rw (command_in h k c, list_in h (k + length (command_sites h c)) cs) refl
 
   mutual
     node_in : (es : List Named) (k x : ℕ) (s : StateTree) → state_of l es k x s ≡ state_of m es k x s
-    node_in es k x (StateOf place name kind body children) =
+    node_in es k x (state_node place name kind body children) =
         let h : Surroundings = record { entities = es; home = record { name = name.name; kind = kind; children = children } } in
         rw (block_in h k body, nodes_in es (k + length (block_sites h body)) (x + 1) children) refl
 
     nodes_in : (es : List Named) (k x : ℕ) (g : StateList) → group_of l es k x g ≡ group_of m es k x g
-    nodes_in es k x NoState = refl
-    nodes_in es k x (AndState s rest) = rw (node_in es k x s, nodes_in es (k + length (state_sites es s)) (x + states_in s) rest) refl
+    nodes_in es k x no_state = refl
+    nodes_in es k x (and_state s rest) = rw (node_in es k x s, nodes_in es (k + length (state_sites es s)) (x + states_in s) rest) refl
 
   states_same : (d : DesignTree) → states_of l d ≡ states_of m d
   states_same d = nodes_in (entities_of d) 1 (length d.declarations) d.states

@@ -11,7 +11,7 @@ use Rattle.sap_tree.specs.declared.syntax.Decl.TheVariants.{Input, Register, Mem
 use Rattle.sap_tree.specs.declared.syntax.Kind.{Kind}
 use Rattle.sap_tree.specs.declared.syntax.Kind.TheVariants.{Dynamic, Enforced}
 use Rattle.sap_tree.specs.declared.syntax.Under.{Under}
-use Rattle.sap_tree.specs.Syntax.{TagExpression, Level, TagOf, LevelAt, Join, TagExpressions, NoTag, AndTag, SimpleCommand, Assign, Write, SetTag, SetCellTag, Goto, Fall, Command, Do, Try, If, TryThen, Case, Arms, Last, Arm, CommandBlock, Commands, ElseBlock, NoElse, Else, CommandList, NoCommand, AndCommand, StateTree, StateOf, StateList, NoState, AndState, DesignTree}
+use Rattle.sap_tree.specs.Syntax.{TagExpression, level_of, tag_at, level_at, join_of, TagExpressions, no_tag, and_tag, SimpleCommand, assign, write, set_tag, set_cell_tag, go_to, fall_to_child, Command, lone, try, if_else, try_then, case_of, Arms, last_arm, and_arm, CommandBlock, command_block, ElseBlock, no_else, with_else, CommandList, no_command, and_command, StateTree, state_node, StateList, no_state, and_state, DesignTree}
 use Rattle.sap_names.specs.declared.entity.Entity as tree
 use Rattle.sap_names.specs.Entities.{entities_of, what_is}
 use Rattle.sap_names.specs.Widths.{index_width}
@@ -68,14 +68,14 @@ module _ (l m : Levels) (names : l.names ≡ m.names) (order : order_of l ≡ or
 
   mutual
     state_entities_same : (n x : ℕ) (s : StateTree) → state_entities l n x s ≡ state_entities m n x s
-    state_entities_same n x (StateOf place name kind body children) =
+    state_entities_same n x (state_node place name kind body children) =
         ap₂ (λ (e : Entity) (es : List Entity). e ∷ es)
         (ap₂ (with_levels (record { kind = program.state n (x + states_below children); width = 0; dynamic = is_dynamic_kind kind; declared = 0; authority = 0; initial = 0 })) (declared_level_same kind) (authority_same kind))
         (group_entities_same 0 (x + 1) children)
 
     group_entities_same : (n x : ℕ) (g : StateList) → group_entities l n x g ≡ group_entities m n x g
-    group_entities_same n x NoState = refl
-    group_entities_same n x (AndState s rest) =
+    group_entities_same n x no_state = refl
+    group_entities_same n x (and_state s rest) =
         ap₂ (λ (es fs : List Entity). es ++ fs) (state_entities_same n x s) (group_entities_same (n + 1) (x + states_in s) rest)
 
   world_same : (d : DesignTree) → world_of l d ≡ world_of m d
@@ -87,68 +87,68 @@ module _ (l m : Levels) (names : l.names ≡ m.names) (order : order_of l ≡ or
 
   mutual
     tag_same : (es : List tree.Entity) (t : TagExpression) → level_term l es t ≡ level_term m es t
-    tag_same es (Level x) = ap program.fixed (level_same x)
-    tag_same es (TagOf place e) = refl
-    tag_same es (LevelAt place e) = refl
-    tag_same es (Join place parts) = tags_same es parts
+    tag_same es (level_of x) = ap program.fixed (level_same x)
+    tag_same es (tag_at place e) = refl
+    tag_same es (level_at place e) = refl
+    tag_same es (join_of place parts) = tags_same es parts
 
     tags_same : (es : List tree.Entity) (ts : TagExpressions) → level_terms l es ts ≡ level_terms m es ts
-    tags_same es NoTag = ap program.fixed bottom_same
-    tags_same es (AndTag t NoTag) = tag_same es t
-    tags_same es (AndTag t (AndTag u parts)) = ap₂ program.both (tag_same es t) (tags_same es (AndTag u parts))
+    tags_same es no_tag = ap program.fixed bottom_same
+    tags_same es (and_tag t no_tag) = tag_same es t
+    tags_same es (and_tag t (and_tag u parts)) = ap₂ program.both (tag_same es t) (tags_same es (and_tag u parts))
 
   step_same : (h : Surroundings) (n : ℕ) (k : SimpleCommand) → resolve.step_of l h n k ≡ resolve.step_of m h n k
-  step_same h n (Assign target e) = refl
-  step_same h n (Write target index e) = refl
-  step_same h n (SetTag place target tag) = ap (program.Retag n (entity_number h.entities target.name)) (tag_same h.entities tag)
-  step_same h n (SetCellTag place target index tag) =
-      ap (program.RetagCell n (entity_number h.entities target.name) (term_of h.entities index (index_width (what_is h.entities target.name)))) (tag_same h.entities tag)
-  step_same h n (Goto place target) = refl
-  step_same h n (Fall place) = refl
+  step_same h n (assign target e) = refl
+  step_same h n (write target index e) = refl
+  step_same h n (set_tag place target tag) = ap (program.retag n (entity_number h.entities target.name)) (tag_same h.entities tag)
+  step_same h n (set_cell_tag place target index tag) =
+      ap (program.retag_cell n (entity_number h.entities target.name) (term_of h.entities index (index_width (what_is h.entities target.name)))) (tag_same h.entities tag)
+  step_same h n (go_to place target) = refl
+  step_same h n (fall_to_child place) = refl
 
   mutual
     command_same : (h : Surroundings) (k : ℕ) (c : Command) → resolve.command_of l h k c ≡ resolve.command_of m h k c
-    command_same h k (Do c) = ap program.Do (step_same h (resolve.site_number h k c) c)
-    command_same h k (Try c place handler) =
-        ap₂ (λ (s : program.Step) (b : Block). program.Try s [] b) (step_same h (resolve.site_number h k c) c) (block_same h (k + length (simple_sites h c)) handler)
-    command_same h k (If place condition one other) =
-        ap₂ (λ (a b : Block). program.If [] (term_of h.entities condition (Some 1)) a b) (block_same h k one) (else_same h (k + length (block_sites h one)) other)
-    command_same h k (TryThen c place accepted refused) =
-        ap (λ (s : program.Step). program.TryThen s [] (resolve.block_of l h (k + length (simple_sites h c)) accepted) (resolve.block_of l h (k + length (simple_sites h c) + length (block_sites h accepted)) refused))
+    command_same h k (lone c) = ap program.lone (step_same h (resolve.site_number h k c) c)
+    command_same h k (try c place handler) =
+        ap₂ (λ (s : program.Step) (b : Block). program.try s [] b) (step_same h (resolve.site_number h k c) c) (block_same h (k + length (simple_sites h c)) handler)
+    command_same h k (if_else place condition one other) =
+        ap₂ (λ (a b : Block). program.if_else [] (term_of h.entities condition (Some 1)) a b) (block_same h k one) (else_same h (k + length (block_sites h one)) other)
+    command_same h k (try_then c place accepted refused) =
+        ap (λ (s : program.Step). program.try_then s [] (resolve.block_of l h (k + length (simple_sites h c)) accepted) (resolve.block_of l h (k + length (simple_sites h c) + length (block_sites h accepted)) refused))
         (step_same h (resolve.site_number h k c) c)
-        ∙ ap₂ (λ (a b : Block). program.TryThen (resolve.step_of m h (resolve.site_number h k c) c) [] a b) (block_same h (k + length (simple_sites h c)) accepted)
+        ∙ ap₂ (λ (a b : Block). program.try_then (resolve.step_of m h (resolve.site_number h k c) c) [] a b) (block_same h (k + length (simple_sites h c)) accepted)
         (block_same h (k + length (simple_sites h c) + length (block_sites h accepted)) refused)
-    command_same h k (Case place e arms) = ap (λ (list : program.Arms). program.Case [] (term_of h.entities e None) list) (arms_same h k arms)
+    command_same h k (case_of place e arms) = ap (λ (list : program.Arms). program.case_of [] (term_of h.entities e None) list) (arms_same h k arms)
 
     arms_same : (h : Surroundings) (k : ℕ) (arms : Arms) → resolve.arms_of l h k arms ≡ resolve.arms_of m h k arms
-    arms_same h k (Last b) = ap program.Last (block_same h k b)
-    arms_same h k (Arm constants b arms) =
-        ap₂ (λ (x : Block) (list : program.Arms). program.Arm (resolve.numbers_of constants) x list) (block_same h k b) (arms_same h (k + length (block_sites h b)) arms)
+    arms_same h k (last_arm b) = ap program.last_arm (block_same h k b)
+    arms_same h k (and_arm constants b arms) =
+        ap₂ (λ (x : Block) (list : program.Arms). program.and_arm (resolve.numbers_of constants) x list) (block_same h k b) (arms_same h (k + length (block_sites h b)) arms)
 
     block_same : (h : Surroundings) (k : ℕ) (b : CommandBlock) → resolve.block_of l h k b ≡ resolve.block_of m h k b
-    block_same h k (Commands cs after) = list_same h k cs
+    block_same h k (command_block cs after) = list_same h k cs
 
     else_same : (h : Surroundings) (k : ℕ) (b : ElseBlock) → resolve.else_of l h k b ≡ resolve.else_of m h k b
-    else_same h k NoElse = refl
-    else_same h k (Else b) = block_same h k b
+    else_same h k no_else = refl
+    else_same h k (with_else b) = block_same h k b
 
     list_same : (h : Surroundings) (k : ℕ) (cs : CommandList) → resolve.list_of l h k cs ≡ resolve.list_of m h k cs
-    list_same h k NoCommand = refl
-    list_same h k (AndCommand c cs) =
-        ap₂ (λ (x : program.Command) (b : Block). program.Then x b) (command_same h k c) (list_same h (k + length (command_sites h c)) cs)
+    list_same h k no_command = refl
+    list_same h k (and_command c cs) =
+        ap₂ (λ (x : program.Command) (b : Block). program.command_then x b) (command_same h k c) (list_same h (k + length (command_sites h c)) cs)
 
   -- states
 
   mutual
     state_same : (es : List tree.Entity) (k x : ℕ) (s : StateTree) → resolve.state_of l es k x s ≡ resolve.state_of m es k x s
-    state_same es k x (StateOf place name kind body children) =
-        ap₂ (λ (b : Block) (g : Group). program.Node x b g) (block_same (record { entities = es; home = record { name = name.name; kind = kind; children = children } }) k body)
+    state_same es k x (state_node place name kind body children) =
+        ap₂ (λ (b : Block) (g : Group). program.state_node x b g) (block_same (record { entities = es; home = record { name = name.name; kind = kind; children = children } }) k body)
         (group_same es (k + length (block_sites (record { entities = es; home = record { name = name.name; kind = kind; children = children } }) body)) (x + 1) children)
 
     group_same : (es : List tree.Entity) (k x : ℕ) (g : StateList) → resolve.group_of l es k x g ≡ resolve.group_of m es k x g
-    group_same es k x NoState = refl
-    group_same es k x (AndState s rest) =
-        ap₂ (λ (t : program.State) (g : Group). program.More t g) (state_same es k x s) (group_same es (k + length (state_sites es s)) (x + states_in s) rest)
+    group_same es k x no_state = refl
+    group_same es k x (and_state s rest) =
+        ap₂ (λ (t : program.State) (g : Group). program.and_node t g) (state_same es k x s) (group_same es (k + length (state_sites es s)) (x + states_in s) rest)
 
   pub program_same : (d : DesignTree) → program_of l d ≡ program_of m d
   program_same d =

@@ -4,7 +4,7 @@ use Rattle.std.specs.List.{range_with_len}
 use Rattle.std.proofs.lemmas.List.{map-append}
 use Rattle.std.proofs.lemmas.List.FromFn.{map-range_with_len_more}
 use Rattle.sap_tree.specs.Bare.{nowhere}
-use Rattle.sap_tree.specs.Syntax.{Command, Commands, CommandList, DesignTree, StateList, AndCommand, AndState}
+use Rattle.sap_tree.specs.Syntax.{Command, command_block, CommandList, DesignTree, StateList, and_command, and_state}
 use Rattle.sap_tree.specs.Trees.{command_of, commands_of, state_of, states_of}
 use Rattle.sap_text.specs.declared.place.Place.{Place}
 use Rattle.sap_tree.specs.declared.syntax.Cmd.{Cmd}
@@ -32,18 +32,18 @@ one_declared old new x n before grown is =
 
 pub commands_each : (cs : List Cmd) → commands_of cs ≡ commands (map command_of cs)
 commands_each [] = refl
-commands_each (c ∷ cs) = ap (λ (rest : CommandList). AndCommand (command_of c) rest) (commands_each cs)
+commands_each (c ∷ cs) = ap (λ (rest : CommandList). and_command (command_of c) rest) (commands_each cs)
 
 -- a body of its assignments and its goto
 pub body_built : (r t j : ℕ) (old new : List Cmd) (x : Cmd) (place : Place) → map command_of old ≡ map (assignment r j) (range_with_len 0 r) → new ≡ old ++ x ∷ [] → command_of x ≡ transfer t j → place ≡ nowhere
-    → Commands (commands_of new) place ≡ body r t j
+    → command_block (commands_of new) place ≡ body r t j
 body_built r t j old new x place before grown is here =
-    ap₂ (λ (cs : CommandList) (p : Place). Commands cs p)
+    ap₂ (λ (cs : CommandList) (p : Place). command_block cs p)
     (commands_each new ∙ ap commands (ap (map command_of) grown ∙ map-append command_of old (x ∷ []) ∙ ap₂ (λ (xs : List Command) (y : Command). xs ++ y ∷ []) before is)) here
 
 pub states_each : (ss : List State) → states_of ss ≡ states (map state_of ss)
 states_each [] = refl
-states_each (s ∷ ss) = ap (λ (rest : StateList). AndState (state_of s) rest) (states_each ss)
+states_each (s ∷ ss) = ap (λ (rest : StateList). and_state (state_of s) rest) (states_each ss)
 
 -- the whole
 pub design_built : (r t : ℕ) (ds : List Decl) (ss : List State) → ds ≡ declared_input ∷ map declared_register (range_with_len 0 r) → map state_of ss ≡ map (state r t) (range_with_len 0 t)

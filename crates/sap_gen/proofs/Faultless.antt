@@ -3,7 +3,7 @@ use Rattle.std.proofs.Common.{◌≡◌, ℕ, zero, suc, ◌+◌, ◌%◌, ◌<�
 use Rattle.std.specs.Prelude.{◌==◌, codes}
 use Rattle.std.specs.List.{range_with_len}
 use Rattle.sap_tree.specs.Bare.{nowhere, no_spot}
-use Rattle.sap_tree.specs.Syntax.{Read, Binary, Assign, Goto}
+use Rattle.sap_tree.specs.Syntax.{variable, binary_of, assign, go_to}
 use Rattle.sap_tree.specs.declared.syntax.BinaryOperator.TheVariants.{Add}
 use Rattle.sap_tree.specs.declared.syntax.Kind.TheVariants.{Dynamic}
 use Rattle.sap_names.specs.declared.fault.Fault.{Fault}
@@ -33,10 +33,10 @@ registers_faultless le a (suc k) =
 -- commands
 
 sum_faultless : (what : Lookup) (target operand input : List ℕ) → what target ≡ Some (d.Register 8) → what operand ≡ Some (d.Register 8) → what input ≡ Some (d.Input 8)
-    → simple_faults level_names what (Assign (named target) (Binary no_spot Add (Read no_spot operand) (Read no_spot input))) ≡ []
+    → simple_faults level_names what (assign (named target) (binary_of no_spot Add (variable no_spot operand) (variable no_spot input))) ≡ []
 sum_faultless what target operand input a b c = rw (a, b, c) refl
 
-goto_faultless : (what : Lookup) (target : List ℕ) → what target ≡ Some d.State → simple_faults level_names what (Goto nowhere (named target)) ++ [] ≡ []
+goto_faultless : (what : Lookup) (target : List ℕ) → what target ≡ Some d.State → simple_faults level_names what (go_to nowhere (named target)) ++ [] ≡ []
 goto_faultless what target a = rw a refl
 
 module _ (r t : ℕ) (some : 0 < r) (more : 0 < t) (what : Lookup) (input : what input_name ≡ Some (d.Input 8)) (registers : (i : ℕ) → i < r → what (register_name i) ≡ Some (d.Register 8)) (places : (j : ℕ) → j < t → what (state_name j) ≡ Some d.State) where

@@ -5,7 +5,7 @@ use Rattle.std.specs.List.{range_with_len}
 use Rattle.std.specs.Str.{bytes_eq}
 use Rattle.std.proofs.lemmas.Bool.{cases_eq, or_left, or_right}
 use Rattle.sap_tree.specs.Bare.{nowhere}
-use Rattle.sap_tree.specs.Syntax.{CommandList, NoState, StateList}
+use Rattle.sap_tree.specs.Syntax.{CommandList, no_state, StateList}
 use Rattle.sap_names.specs.declared.fault.Fault.{Fault}
 use Rattle.sap_names.specs.declared.kind.Code.TheVariants.{E11}
 use Rattle.sap_names.specs.declared.entity.Entity.{Entity}
@@ -46,8 +46,8 @@ module _ (es : List Entity) (r t : ℕ) (group : StateList) (siblings : (j : ℕ
   states_shaped a (suc k) =
       none_of _ (states_shape es group [] (states (map (state r t) (range_with_len (a + 1) k))))
       (none_of _ []
-      (none_of (closing_list_faults (rest_of_body r t a 0 r) nowhere) (list_shape es (record { home = record { name = state_name a; kind = enforced (codes "low"); children = NoState }; group = group; above = [] }) (rest_of_body r t a 0 r)) (closes r t a 0 r)
-      (shaped es (record { home = record { name = state_name a; kind = enforced (codes "low"); children = NoState }; group = group; above = [] }) r t a 0 r (siblings a))) refl)
+      (none_of (closing_list_faults (rest_of_body r t a 0 r) nowhere) (list_shape es (record { home = record { name = state_name a; kind = enforced (codes "low"); children = no_state }; group = group; above = [] }) (rest_of_body r t a 0 r)) (closes r t a 0 r)
+      (shaped es (record { home = record { name = state_name a; kind = enforced (codes "low"); children = no_state }; group = group; above = [] }) r t a 0 r (siblings a))) refl)
       (states_shaped (a + 1) k)
 
 among : (r t a k j : ℕ) → a ≤ j → j < a + k → is_among (states (map (state r t) (range_with_len a k))) (state_name j) ≡ true

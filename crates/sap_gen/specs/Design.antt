@@ -4,7 +4,7 @@ use Rattle.std.specs.Fmt.{decimal}
 use Rattle.sap_lattice.specs.Levels.{numbers}
 use Rattle.sap_tree.specs.Making.{named, numeral, read, enforced, block, states}
 use Rattle.sap_tree.specs.Bare.{nowhere, no_spot}
-use Rattle.sap_tree.specs.Syntax.{Expression, Binary, Assign, Goto, Command, Do, CommandBlock, StateTree, StateOf, NoState, DesignTree}
+use Rattle.sap_tree.specs.Syntax.{Expression, binary_of, assign, go_to, Command, lone, CommandBlock, StateTree, state_node, no_state, DesignTree}
 use Rattle.sap_tree.specs.declared.syntax.BinaryOperator.TheVariants.{Add}
 use Rattle.sap_tree.specs.declared.syntax.Decl.{Decl}
 use Rattle.sap_tree.specs.declared.syntax.Decl.TheVariants.{Input, Register}
@@ -48,22 +48,22 @@ declared_register i = Register nowhere (named (register_name i)) eight_bits (reg
 
 -- xK + d
 abbrev pub sum : (k : ℕ) → Expression
-sum k = Binary no_spot Add (read (register_name k)) (read input_name)
+sum k = binary_of no_spot Add (read (register_name k)) (read input_name)
 
 -- of r registers, in the state Sj: xI := xK + d; with K = (i + j) mod r
 abbrev pub assignment : (r j i : ℕ) → Command
-assignment r j i = Do (Assign (named (register_name i)) (sum ((i + j) % r)))
+assignment r j i = lone (assign (named (register_name i)) (sum ((i + j) % r)))
 
 -- of t states, in the state Sj: goto SM; with M = (j + 1) mod t
 abbrev pub transfer : (t j : ℕ) → Command
-transfer t j = Do (Goto nowhere (named (state_name ((j + 1) % t))))
+transfer t j = lone (go_to nowhere (named (state_name ((j + 1) % t))))
 
 abbrev pub body : (r t j : ℕ) → CommandBlock
 body r t j = block (map (assignment r j) (numbers r) ++ transfer t j ∷ [])
 
 -- state SJ enforced low { an assignment to each register, and the goto }
 abbrev pub state : (r t j : ℕ) → StateTree
-state r t j = StateOf nowhere (named (state_name j)) (enforced (codes "low")) (body r t j) NoState
+state r t j = state_node nowhere (named (state_name j)) (enforced (codes "low")) (body r t j) no_state
 
 -- with r registers and t states
 abbrev pub design_of_counts : (r t : ℕ) → DesignTree

@@ -4,18 +4,18 @@ use Rattle.std.proofs.lemmas.List.{take_rest}
 use Rattle.sap_bits.specs.declared.Op2.TheVariants.{Eq}
 use Rattle.sap_maps.specs.Maps.{Name}
 use Rattle.sap_maps.specs.Term.{Term, constant, two, choose}
-use Rattle.sap_meaning.specs.Program.{World, is_dynamic, Node, More}
+use Rattle.sap_meaning.specs.Program.{World, is_dynamic, state_node, and_node}
 use Rattle.sap_meaning.specs.Program as program
 use Rattle.sap_program.specs.declared.program.State.{State, out-State}
 use Rattle.sap_program.specs.Views.{block_of, group_of}
 use Rattle.sap_program.proofs.Shown.{state_of-out, group_of-none}
-use Rattle.sap_tagged.specs.Keys.{Tag}
+use Rattle.sap_tagged.specs.Keys.{tag_key}
 use Rattle.sap_tagged.specs.Setting.{Setting}
 use Rattle.sap_tagged.specs.Levels.{var, bits, yes, enters, child_tag, child_enters, all_dynamic}
 
-pub group_of-more : (n : ℕ) (s : State) (ss : List State) → group_of n (s ∷ ss) ≡ More (Node (out-State s).number (block_of n (out-State s).body.items) (group_of n (out-State s).children.items)) (group_of n ss)
+pub group_of-more : (n : ℕ) (s : State) (ss : List State) → group_of n (s ∷ ss) ≡ and_node (state_node (out-State s).number (block_of n (out-State s).body.items) (group_of n (out-State s).children.items)) (group_of n ss)
 unfolding group_of
-group_of-more n s ss = ap (λ (t : program.State). More t (group_of n ss)) (state_of-out n s)
+group_of-more n s ss = ap (λ (t : program.State). and_node t (group_of n ss)) (state_of-out n s)
 
 -- lists by their length
 
@@ -35,21 +35,21 @@ module _ (n : ℕ) (d : Setting) (u : ℕ) (seat : Term Name) where
   pub child_tag-none : (ss : List State) (i : ℕ) → length ss < 1 → child_tag d u seat (group_of n ss) i ≡ bits d d.world.order.bottom
   child_tag-none ss i h = rw (empty_list ss h, group_of-none n) refl
 
-  pub child_tag-one : (ss : List State) (s : State) (i : ℕ) → length ss < 2 → 1 ≤ length ss → s ≡ get_or ss 0 s → child_tag d u seat (group_of n ss) i ≡ var d (Tag (out-State s).number)
+  pub child_tag-one : (ss : List State) (s : State) (i : ℕ) → length ss < 2 → 1 ≤ length ss → s ≡ get_or ss 0 s → child_tag d u seat (group_of n ss) i ≡ var d (tag_key (out-State s).number)
   child_tag-one ss s i h k e = rw (one_list ss s h k e, group_of-more n s [], group_of-none n) refl
 
   tag_step : (s r : State) (ss : List State) (i : ℕ)
-      → child_tag d u seat (group_of n (s ∷ r ∷ ss)) i ≡ choose (two Eq seat (constant u i)) (var d (Tag (out-State s).number)) (child_tag d u seat (group_of n (r ∷ ss)) (i + 1))
+      → child_tag d u seat (group_of n (s ∷ r ∷ ss)) i ≡ choose (two Eq seat (constant u i)) (var d (tag_key (out-State s).number)) (child_tag d u seat (group_of n (r ∷ ss)) (i + 1))
   tag_step s r ss i = rw (group_of-more n s (r ∷ ss), group_of-more n r ss) refl
 
   pub child_tag-more : (ss : List State) (s : State) (i : ℕ) → 2 ≤ length ss → s ≡ get_or ss 0 s
-      → child_tag d u seat (group_of n ss) i ≡ choose (two Eq seat (constant u i)) (var d (Tag (out-State s).number)) (child_tag d u seat (group_of n (take (length ss - 1) (drop 1 ss))) (i + 1))
+      → child_tag d u seat (group_of n ss) i ≡ choose (two Eq seat (constant u i)) (var d (tag_key (out-State s).number)) (child_tag d u seat (group_of n (take (length ss - 1) (drop 1 ss))) (i + 1))
   child_tag-more [] s i h e = absurd (omega (arith, h))
   child_tag-more (r ∷ []) s i h e = absurd (omega (arith, h))
   child_tag-more (r ∷ t ∷ ss) s i h e =
       ap (λ (xs : List State). child_tag d u seat (group_of n xs) i) (ap (λ (x : State). x ∷ t ∷ ss) (sym e))
       ∙ tag_step s t ss i
-      ∙ ap (λ (xs : List State). choose (two Eq seat (constant u i)) (var d (Tag (out-State s).number)) (child_tag d u seat (group_of n xs) (i + 1))) (sym (take_rest (r ∷ t ∷ ss) 1))
+      ∙ ap (λ (xs : List State). choose (two Eq seat (constant u i)) (var d (tag_key (out-State s).number)) (child_tag d u seat (group_of n xs) (i + 1))) (sym (take_rest (r ∷ t ∷ ss) 1))
 
   pub child_enters-none : (pc : Term Name) (ss : List State) (i : ℕ) → length ss < 1 → child_enters d pc u seat (group_of n ss) i ≡ yes
   child_enters-none pc ss i h = rw (empty_list ss h, group_of-none n) refl

@@ -7,7 +7,7 @@ ghost use Rattle.sap_meaning.specs.Checks.{entry};
 ghost use Rattle.sap_meaning.specs.Program as program;
 ghost use Rattle.sap_program.specs.Views as views;
 ghost use Rattle.sap_resolve.specs.Sized.Ranges.{RangedLevel, RangedStep};
-ghost use Rattle.sap_tagged.specs.Keys.{Tag};
+ghost use Rattle.sap_tagged.specs.Keys.{tag_key};
 ghost use Rattle.sap_tagged.specs.Levels as spec;
 ghost use Rattle.sap_terms.specs.Code.{entities_in, setting_in, spot_in, world_in};
 
@@ -253,7 +253,7 @@ fn may_leave(
     target: usize,
 ) -> Result<Calc, AllocError>
     ensures { let s = setting_in setting.now in let w = world_in setting.now in
-        IfOk result (λ c. calcs.term_of c ≡ (if program.is_dynamic w state then spec.yes else spec.below_or_at (spec.lub (calcs.term_of context) (spec.bits s (entry w target))) (spec.var s (Tag state)))) }
+        IfOk result (λ c. calcs.term_of c ≡ (if program.is_dynamic w state then spec.yes else spec.below_or_at (spec.lub (calcs.term_of context) (spec.bits s (entry w target))) (spec.var s (tag_key state)))) }
 {
     if is_dynamic(setting, state) {
         Ok(yes())

@@ -11,7 +11,7 @@ use Rattle.sap_tree.specs.declared.syntax.Decl.{Decl}
 use Rattle.sap_tree.specs.declared.syntax.State.{State, out-State}
 use Rattle.sap_tree.specs.Parts.{tree_of}
 use Rattle.sap_tree.specs.declared.version.Version.{Version}
-use Rattle.sap_tree.specs.Syntax.{Expression, SimpleCommand, Fall, Command, Try, If, TryThen, Case, ElseBlock, StateTree}
+use Rattle.sap_tree.specs.Syntax.{Expression, SimpleCommand, fall_to_child, Command, try, if_else, try_then, case_of, ElseBlock, StateTree}
 use Rattle.sap_tree.specs.Touches.{Home, touches, simple_touches, block_touches, else_touches, is_dynamic_child, is_dynamic_store, states_assign, fall_touches}
 use Rattle.sap_tree.specs.Touches as tree
 use Rattle.sap_tree.specs.Points.{Point, point, command_points, simple_points, block_points, arms_points, else_points, state_points, points_of}
@@ -158,40 +158,40 @@ module _ (ds : List Decl) (h : Home) (x : List ℕ) where
       ∙ sym (append_assoc (touching ds h x (block_points (arm_block_of arm))) (arms_column ds h x arms) (touching ds h x (points.list_points (commands_of last.commands.items))))
 
   then_column : (k : SimpleCommand) (place : Place) (a b : Block)
-      → touching ds h x (command_points (TryThen k place (block_of a) (block_of b)))
-      ≡ touching ds h x (simple_points k) ++ touches ds h (TryThen k place (block_of a) (block_of b)) x ∷ (list_column ds h x a.commands.items ++ list_column ds h x b.commands.items)
+      → touching ds h x (command_points (try_then k place (block_of a) (block_of b)))
+      ≡ touching ds h x (simple_points k) ++ touches ds h (try_then k place (block_of a) (block_of b)) x ∷ (list_column ds h x a.commands.items ++ list_column ds h x b.commands.items)
   unfolding list_column
   then_column k place a b =
       touching-both ds h x (simple_points k) _
-      ∙ ap (λ (l : List Bool). touching ds h x (simple_points k) ++ touches ds h (TryThen k place (block_of a) (block_of b)) x ∷ l)
+      ∙ ap (λ (l : List Bool). touching ds h x (simple_points k) ++ touches ds h (try_then k place (block_of a) (block_of b)) x ∷ l)
       (touching-both ds h x (points.list_points (commands_of a.commands.items)) (points.list_points (commands_of b.commands.items)))
 
   case_column : (place : Place) (e : Expression) (arms : List Arm) (last : Block)
-      → touching ds h x (command_points (Case place e (arms_of arms (block_of last))))
-      ≡ touches ds h (Case place e (arms_of arms (block_of last))) x ∷ (arms_column ds h x arms ++ list_column ds h x last.commands.items)
-  case_column place e arms last = ap (λ (l : List Bool). touches ds h (Case place e (arms_of arms (block_of last))) x ∷ l) (arms_column-of arms last)
+      → touching ds h x (command_points (case_of place e (arms_of arms (block_of last))))
+      ≡ touches ds h (case_of place e (arms_of arms (block_of last))) x ∷ (arms_column ds h x arms ++ list_column ds h x last.commands.items)
+  case_column place e arms last = ap (λ (l : List Bool). touches ds h (case_of place e (arms_of arms (block_of last))) x ∷ l) (arms_column-of arms last)
 
   try_column : (k : SimpleCommand) (place : Place) (b : Block)
-      → touching ds h x (command_points (Try k place (block_of b))) ≡ touching ds h x (simple_points k) ++ touches ds h (Try k place (block_of b)) x ∷ list_column ds h x b.commands.items
+      → touching ds h x (command_points (try k place (block_of b))) ≡ touching ds h x (simple_points k) ++ touches ds h (try k place (block_of b)) x ∷ list_column ds h x b.commands.items
   unfolding list_column
   try_column k place b = touching-both ds h x (simple_points k) _
 
   if_column : (place : Place) (e : Expression) (one : Block) (other : ElseBlock)
-      → touching ds h x (command_points (If place e (block_of one) other))
-      ≡ touches ds h (If place e (block_of one) other) x ∷ list_column ds h x one.commands.items ++ touching ds h x (else_points other)
+      → touching ds h x (command_points (if_else place e (block_of one) other))
+      ≡ touches ds h (if_else place e (block_of one) other) x ∷ list_column ds h x one.commands.items ++ touching ds h x (else_points other)
   unfolding list_column
   if_column place e one other =
-      ap (λ (l : List Bool). touches ds h (If place e (block_of one) other) x ∷ l) (touching-both ds h x (points.list_points (commands_of one.commands.items)) (else_points other))
+      ap (λ (l : List Bool). touches ds h (if_else place e (block_of one) other) x ∷ l) (touching-both ds h x (points.list_points (commands_of one.commands.items)) (else_points other))
 
-  pub fall_column : (c : SimpleCommand) (place : Place) (b : Bool) (old new : List Bool) → c ≡ Fall place → b ≡ simple_touches ds h c x → new ≡ old ++ b ∷ []
+  pub fall_column : (c : SimpleCommand) (place : Place) (b : Bool) (old new : List Bool) → c ≡ fall_to_child place → b ≡ simple_touches ds h c x → new ≡ old ++ b ∷ []
       → new ≡ old ++ touching ds h x (simple_points c)
   fall_column c place b old new ec eb en =
-      en ∙ ap (λ (z : Bool). old ++ z ∷ []) (eb ∙ ap (λ (k : SimpleCommand). simple_touches ds h k x) ec ∙ sym (touches-do ds h (Fall place) x))
+      en ∙ ap (λ (z : Bool). old ++ z ∷ []) (eb ∙ ap (λ (k : SimpleCommand). simple_touches ds h k x) ec ∙ sym (touches-do ds h (fall_to_child place) x))
       ∙ ap (λ (k : SimpleCommand). old ++ touching ds h x (simple_points k)) (sym ec)
 
   -- a column with a place that is filled in at the end
   pub try_filled : (c : Command) (k : SimpleCommand) (place : Place) (b : Block) (list : List Cmd) (own handled : Bool) (old simple pushed inside : List Bool) (at : ℕ)
-      → c ≡ Try k place (block_of b) → list ≡ b.commands.items → simple ≡ old ++ touching ds h x (simple_points k) → at ≡ length simple → pushed ≡ simple ++ false ∷ []
+      → c ≡ try k place (block_of b) → list ≡ b.commands.items → simple ≡ old ++ touching ds h x (simple_points k) → at ≡ length simple → pushed ≡ simple ++ false ∷ []
       → inside ≡ pushed ++ list_column ds h x list → own ≡ simple_touches ds h k x → handled ≡ list_touches ds h list x
       → set inside at (own || handled) ≡ old ++ touching ds h x (command_points c)
   try_filled c k place b list own handled old simple pushed inside at ec el es ea ep ei eo eh =
@@ -199,7 +199,7 @@ module _ (ds : List Decl) (h : Home) (x : List ℕ) where
       let l = list_column ds h x b.commands.items in
       let i : inside ≡ simple ++ false ∷ l =
       ei ∙ ap (λ (z : List Cmd). pushed ++ list_column ds h x z) el ∙ ap (λ (z : List Bool). z ++ l) ep ∙ append_assoc simple (false ∷ []) l in
-      let en : new ≡ touches ds h (Try k place (block_of b)) x =
+      let en : new ≡ touches ds h (try k place (block_of b)) x =
       ap (λ (a : Bool). a || handled) eo ∙ ap (λ (a : Bool). simple_touches ds h k x || a) (eh ∙ ap (λ (z : List Cmd). list_touches ds h z x) el) ∙ sym (touches-try ds h k place b x) in
       ap (λ (z : List Bool). set z at new) i ∙ ap (λ (z : ℕ). set (simple ++ false ∷ l) z new) ea ∙ set-append_seam simple false l new
       ∙ ap (λ (z : List Bool). z ++ new ∷ l) es ∙ append_assoc old (touching ds h x (simple_points k)) (new ∷ l)
@@ -207,7 +207,7 @@ module _ (ds : List Decl) (h : Home) (x : List ℕ) where
       ∙ ap (λ (z : List Bool). old ++ z) (sym (try_column k place b)) ∙ ap (λ (z : Command). old ++ touching ds h x (command_points z)) (sym ec)
 
   pub then_filled : (c : Command) (k : SimpleCommand) (place : Place) (a b : Block) (la lb : List Cmd) (own taken left : Bool) (old simple pushed first second : List Bool) (at : ℕ)
-      → c ≡ TryThen k place (block_of a) (block_of b) → la ≡ a.commands.items → lb ≡ b.commands.items → simple ≡ old ++ touching ds h x (simple_points k) → at ≡ length simple
+      → c ≡ try_then k place (block_of a) (block_of b) → la ≡ a.commands.items → lb ≡ b.commands.items → simple ≡ old ++ touching ds h x (simple_points k) → at ≡ length simple
       → pushed ≡ simple ++ false ∷ [] → first ≡ pushed ++ list_column ds h x la → second ≡ first ++ list_column ds h x lb → own ≡ simple_touches ds h k x
       → taken ≡ list_touches ds h la x → left ≡ list_touches ds h lb x → set second at (own || (taken || left)) ≡ old ++ touching ds h x (command_points c)
   then_filled c k place a b la lb own taken left old simple pushed first second at ec el em es ea ep ei ej eo et er =
@@ -218,7 +218,7 @@ module _ (ds : List Decl) (h : Home) (x : List ℕ) where
       ej ∙ ap (λ (z : List Cmd). first ++ list_column ds h x z) em
       ∙ ap (λ (z : List Bool). z ++ r) (ei ∙ ap (λ (z : List Cmd). pushed ++ list_column ds h x z) el ∙ ap (λ (z : List Bool). z ++ l) ep ∙ append_assoc simple (false ∷ []) l)
       ∙ append_assoc simple (false ∷ l) r in
-      let en : new ≡ touches ds h (TryThen k place (block_of a) (block_of b)) x =
+      let en : new ≡ touches ds h (try_then k place (block_of a) (block_of b)) x =
       ap (λ (z : Bool). z || (taken || left)) eo ∙ ap (λ (z : Bool). simple_touches ds h k x || (z || left)) (et ∙ ap (λ (z : List Cmd). list_touches ds h z x) el)
       ∙ ap (λ (z : Bool). simple_touches ds h k x || (list_touches ds h a.commands.items x || z)) (er ∙ ap (λ (z : List Cmd). list_touches ds h z x) em)
       ∙ sym (touches-then ds h k place a b x) in
@@ -228,7 +228,7 @@ module _ (ds : List Decl) (h : Home) (x : List ℕ) where
       ∙ ap (λ (z : List Bool). old ++ z) (sym (then_column k place a b)) ∙ ap (λ (z : Command). old ++ touching ds h x (command_points z)) (sym ec)
 
   pub case_filled : (c : Command) (place : Place) (e : Expression) (arms : List Arm) (last : Block) (la : List Arm) (lb : List Cmd) (taken left : Bool) (old pushed first second : List Bool) (at : ℕ)
-      → c ≡ Case place e (arms_of arms (block_of last)) → la ≡ arms → lb ≡ last.commands.items → at ≡ length old → pushed ≡ old ++ false ∷ []
+      → c ≡ case_of place e (arms_of arms (block_of last)) → la ≡ arms → lb ≡ last.commands.items → at ≡ length old → pushed ≡ old ++ false ∷ []
       → first ≡ pushed ++ arms_column ds h x la → second ≡ first ++ list_column ds h x lb → taken ≡ arms_touch ds h la x → left ≡ list_touches ds h lb x
       → set second at (taken || left) ≡ old ++ touching ds h x (command_points c)
   case_filled c place e arms last la lb taken left old pushed first second at ec el em ea ep ei ej et er =
@@ -239,7 +239,7 @@ module _ (ds : List Decl) (h : Home) (x : List ℕ) where
       ej ∙ ap (λ (z : List Cmd). first ++ list_column ds h x z) em
       ∙ ap (λ (z : List Bool). z ++ r) (ei ∙ ap (λ (z : List Arm). pushed ++ arms_column ds h x z) el ∙ ap (λ (z : List Bool). z ++ l) ep ∙ append_assoc old (false ∷ []) l)
       ∙ append_assoc old (false ∷ l) r in
-      let en : new ≡ touches ds h (Case place e (arms_of arms (block_of last))) x =
+      let en : new ≡ touches ds h (case_of place e (arms_of arms (block_of last))) x =
       ap (λ (z : Bool). z || left) (et ∙ ap (λ (z : List Arm). arms_touch ds h z x) el) ∙ ap (λ (z : Bool). arms_touch ds h arms x || z) (er ∙ ap (λ (z : List Cmd). list_touches ds h z x) em)
       ∙ sym (touches-case ds h place e arms last x) in
       ap (λ (z : List Bool). set z at new) i ∙ ap (λ (z : ℕ). set (old ++ false ∷ (l ++ r)) z new) ea ∙ set-append_seam old false (l ++ r) new
@@ -247,7 +247,7 @@ module _ (ds : List Decl) (h : Home) (x : List ℕ) where
       ∙ ap (λ (z : List Bool). old ++ z) (sym (case_column place e arms last)) ∙ ap (λ (z : Command). old ++ touching ds h x (command_points z)) (sym ec)
 
   pub if_filled : (c : Command) (place : Place) (e : Expression) (one : Block) (list : List Cmd) (other : ElseBlock) (taken left : Bool) (old pushed first second : List Bool) (at : ℕ)
-      → c ≡ If place e (block_of one) other → list ≡ one.commands.items → at ≡ length old → pushed ≡ old ++ false ∷ []
+      → c ≡ if_else place e (block_of one) other → list ≡ one.commands.items → at ≡ length old → pushed ≡ old ++ false ∷ []
       → first ≡ pushed ++ list_column ds h x list → second ≡ first ++ touching ds h x (else_points other) → taken ≡ list_touches ds h list x → left ≡ else_touches ds h other x
       → set second at (taken || left) ≡ old ++ touching ds h x (command_points c)
   if_filled c place e one list other taken left old pushed first second at ec el ea ep ei ej et er =
@@ -257,7 +257,7 @@ module _ (ds : List Decl) (h : Home) (x : List ℕ) where
       let i : second ≡ old ++ false ∷ (l ++ r) =
       ej ∙ ap (λ (z : List Bool). z ++ r) (ei ∙ ap (λ (z : List Cmd). pushed ++ list_column ds h x z) el ∙ ap (λ (z : List Bool). z ++ l) ep ∙ append_assoc old (false ∷ []) l)
       ∙ append_assoc old (false ∷ l) r in
-      let en : new ≡ touches ds h (If place e (block_of one) other) x =
+      let en : new ≡ touches ds h (if_else place e (block_of one) other) x =
       ap (λ (a : Bool). a || left) (et ∙ ap (λ (z : List Cmd). list_touches ds h z x) el) ∙ ap (λ (a : Bool). list_touches ds h one.commands.items x || a) er
       ∙ sym (touches-if ds h place e one other x) in
       ap (λ (z : List Bool). set z at new) i ∙ ap (λ (z : ℕ). set (old ++ false ∷ (l ++ r)) z new) ea ∙ set-append_seam old false (l ++ r) new

@@ -7,7 +7,7 @@ use Rattle.sap_tree.specs.declared.syntax.Arm.{Arm}
 use Rattle.sap_tree.specs.declared.syntax.Cmd.{Cmd}
 use Rattle.sap_tree.specs.declared.syntax.Decl.{Decl}
 use Rattle.sap_tree.specs.declared.syntax.State.{State, out-State}
-use Rattle.sap_tree.specs.Syntax.{Expression, SimpleCommand, Command, Do, Try, If, TryThen, Case, CommandBlock, ElseBlock, NoElse, Else, StateTree, StateOf, StateList, NoState, AndState}
+use Rattle.sap_tree.specs.Syntax.{Expression, SimpleCommand, Command, lone, try, if_else, try_then, case_of, CommandBlock, ElseBlock, no_else, with_else, StateTree, state_node, StateList, no_state, and_state}
 use Rattle.sap_tree.specs.Touches.{Home, is_dynamic_kind, is_dynamic_child, simple_assigns, assigns, block_assigns, else_assigns, list_assigns, state_assigns, states_assign, simple_touches, touches, block_touches, else_touches}
 use Rattle.sap_tree.specs.Touches as tree
 use Rattle.sap_tree.specs.Trees.{command_of, commands_of, block_of, arm_block_of, arms_of, else_of, state_of, states_of}
@@ -66,13 +66,13 @@ states_past name ss n h = any_past (λ (s : State). state_assigns (state_of s) n
 -- states of which one is the dynamic one of this name
 
 abbrev bears : List ℕ → StateTree → Bool
-bears name (StateOf place other kind body children) = bytes_eq other.name name && is_dynamic_kind kind
+bears name (state_node place other kind body children) = bytes_eq other.name name && is_dynamic_kind kind
 
-child_more : (name : List ℕ) (s : StateTree) (l : StateList) → is_dynamic_child (AndState s l) name ≡ (bears name s || is_dynamic_child l name)
+child_more : (name : List ℕ) (s : StateTree) (l : StateList) → is_dynamic_child (and_state s l) name ≡ (bears name s || is_dynamic_child l name)
 unfolding is_dynamic_child
-child_more name (StateOf place other kind body children) l = refl
+child_more name (state_node place other kind body children) l = refl
 
-child_none : (name : List ℕ) → is_dynamic_child NoState name ≡ false
+child_none : (name : List ℕ) → is_dynamic_child no_state name ≡ false
 unfolding is_dynamic_child
 child_none name = refl
 
@@ -90,21 +90,21 @@ pub ruleset pasts = (commands_past, arms_past, states_past, child_past)
 
 -- what is assigned
 
-pub assigns-do : (k : SimpleCommand) (x : List ℕ) → assigns (Do k) x ≡ simple_assigns k x
+pub assigns-do : (k : SimpleCommand) (x : List ℕ) → assigns (lone k) x ≡ simple_assigns k x
 unfolding assigns
 assigns-do k x = refl
 
-pub assigns-try : (k : SimpleCommand) (place : Place) (h : Block) (x : List ℕ) → assigns (Try k place (block_of h)) x ≡ (simple_assigns k x || list_assigns (commands_of h.commands.items) x)
+pub assigns-try : (k : SimpleCommand) (place : Place) (h : Block) (x : List ℕ) → assigns (try k place (block_of h)) x ≡ (simple_assigns k x || list_assigns (commands_of h.commands.items) x)
 unfolding assigns block_assigns
 assigns-try k place h x = refl
 
 pub assigns-if : (place : Place) (e : Expression) (one : Block) (other : ElseBlock) (x : List ℕ)
-    → assigns (If place e (block_of one) other) x ≡ (list_assigns (commands_of one.commands.items) x || else_assigns other x)
+    → assigns (if_else place e (block_of one) other) x ≡ (list_assigns (commands_of one.commands.items) x || else_assigns other x)
 unfolding assigns block_assigns
 assigns-if place e one other x = refl
 
 pub assigns-then : (k : SimpleCommand) (place : Place) (a b : Block) (x : List ℕ)
-    → assigns (TryThen k place (block_of a) (block_of b)) x ≡ (simple_assigns k x || (list_assigns (commands_of a.commands.items) x || list_assigns (commands_of b.commands.items) x))
+    → assigns (try_then k place (block_of a) (block_of b)) x ≡ (simple_assigns k x || (list_assigns (commands_of a.commands.items) x || list_assigns (commands_of b.commands.items) x))
 unfolding assigns block_assigns
 assigns-then k place a b x = refl
 
@@ -115,11 +115,11 @@ arms_assign-of (arm ∷ arms) last x =
     ap (λ (b : Bool). block_assigns (arm_block_of arm) x || b) (arms_assign-of arms last x) ∙ or_assoc (block_assigns (arm_block_of arm) x) (arms_assign arms x) (list_assigns (commands_of last.commands.items) x)
 
 pub assigns-case : (place : Place) (e : Expression) (arms : List Arm) (last : Block) (x : List ℕ)
-    → assigns (Case place e (arms_of arms (block_of last))) x ≡ (arms_assign arms x || list_assigns (commands_of last.commands.items) x)
+    → assigns (case_of place e (arms_of arms (block_of last))) x ≡ (arms_assign arms x || list_assigns (commands_of last.commands.items) x)
 unfolding assigns
 assigns-case place e arms last x = arms_assign-of arms last x
 
-pub else_assigns-none : (x : List ℕ) → else_assigns NoElse x ≡ false
+pub else_assigns-none : (x : List ℕ) → else_assigns no_else x ≡ false
 unfolding else_assigns
 else_assigns-none x = refl
 
@@ -136,22 +136,22 @@ pub ruleset assigning = (assigns-do, assigns-try, assigns-if, assigns-then, assi
 
 -- what is touched
 
-pub touches-do : (ds : List Decl) (h : Home) (k : SimpleCommand) (x : List ℕ) → touches ds h (Do k) x ≡ simple_touches ds h k x
+pub touches-do : (ds : List Decl) (h : Home) (k : SimpleCommand) (x : List ℕ) → touches ds h (lone k) x ≡ simple_touches ds h k x
 unfolding touches
 touches-do ds h k x = refl
 
 pub touches-try : (ds : List Decl) (h : Home) (k : SimpleCommand) (place : Place) (b : Block) (x : List ℕ)
-    → touches ds h (Try k place (block_of b)) x ≡ (simple_touches ds h k x || list_touches ds h b.commands.items x)
+    → touches ds h (try k place (block_of b)) x ≡ (simple_touches ds h k x || list_touches ds h b.commands.items x)
 unfolding touches block_touches list_touches
 touches-try ds h k place b x = refl
 
 pub touches-if : (ds : List Decl) (h : Home) (place : Place) (e : Expression) (one : Block) (other : ElseBlock) (x : List ℕ)
-    → touches ds h (If place e (block_of one) other) x ≡ (list_touches ds h one.commands.items x || else_touches ds h other x)
+    → touches ds h (if_else place e (block_of one) other) x ≡ (list_touches ds h one.commands.items x || else_touches ds h other x)
 unfolding touches block_touches list_touches
 touches-if ds h place e one other x = refl
 
 pub touches-then : (ds : List Decl) (h : Home) (k : SimpleCommand) (place : Place) (a b : Block) (x : List ℕ)
-    → touches ds h (TryThen k place (block_of a) (block_of b)) x ≡ (simple_touches ds h k x || (list_touches ds h a.commands.items x || list_touches ds h b.commands.items x))
+    → touches ds h (try_then k place (block_of a) (block_of b)) x ≡ (simple_touches ds h k x || (list_touches ds h a.commands.items x || list_touches ds h b.commands.items x))
 unfolding touches block_touches list_touches
 touches-then ds h k place a b x = refl
 
@@ -163,11 +163,11 @@ arms_touch-of ds h (arm ∷ arms) last x =
     ap (λ (b : Bool). block_touches ds h (arm_block_of arm) x || b) (arms_touch-of ds h arms last x) ∙ or_assoc (block_touches ds h (arm_block_of arm) x) (arms_touch ds h arms x) _
 
 pub touches-case : (ds : List Decl) (h : Home) (place : Place) (e : Expression) (arms : List Arm) (last : Block) (x : List ℕ)
-    → touches ds h (Case place e (arms_of arms (block_of last))) x ≡ (arms_touch ds h arms x || list_touches ds h last.commands.items x)
+    → touches ds h (case_of place e (arms_of arms (block_of last))) x ≡ (arms_touch ds h arms x || list_touches ds h last.commands.items x)
 unfolding touches
 touches-case ds h place e arms last x = arms_touch-of ds h arms last x
 
-pub else_touches-none : (ds : List Decl) (h : Home) (x : List ℕ) → else_touches ds h NoElse x ≡ false
+pub else_touches-none : (ds : List Decl) (h : Home) (x : List ℕ) → else_touches ds h no_else x ≡ false
 unfolding else_touches
 else_touches-none ds h x = refl
 

@@ -6,7 +6,7 @@ use Rattle.std.proofs.lemmas.Grind.{common_steps}
 use Rattle.sap_lattice.specs.Order.{Laws}
 use Rattle.sap_maps.specs.Term.{Term, constant, read, cell, one, two, choose, join, part}
 use Rattle.sap_maps.proofs.Terms.{term_within}
-use Rattle.sap_meaning.specs.Program.{World, Program, Entity, nothing, kind_is_input, is_dynamic, is_input, width, root, LevelTerm, fixed, of, at_place, both, Step, Set, Write, Retag, RetagCell, Goto, Fall, Command, Do, Try, If, TryThen, Case, Arms, Last, Arm, Block, End, Then, State, Node, Group, None, More}
+use Rattle.sap_meaning.specs.Program.{World, Program, Entity, nothing, kind_is_input, is_dynamic, is_input, width, root, LevelTerm, fixed, of, at_place, both, Step, assign, write, retag, retag_cell, go_to, fall_to_child, Command, lone, try, if_else, try_then, case_of, Arms, last_arm, and_arm, Block, end_block, command_then, State, state_node, Group, no_node, and_node}
 use Rattle.sap_meaning.specs.Store.{Slot, own, start, next, start_whole, next_whole, Store, owner, home, number, level, child, same_slot, put_number, put_level, put_child, raised, raise, lowered, reset, source, settle, After, stay}
 use Rattle.sap_meaning.specs.Expressions.{value, tag, level_at, new_level, width_of}
 use Rattle.sap_meaning.specs.Checks.{Spot, guard, test, child_level}
@@ -102,26 +102,26 @@ module _ (w : World) (laws : Laws w.order) where
 
   module _ (at : Spot) (q : Group) (enter : ℕ → ℕ → Store → After) (entering : (n pc : ℕ) → Level pc → Fitting (enter n pc)) where
     child_level_fits : (g : Group) (n : ℕ) (s : Store) → Fits w s → Level (child_level w g n s)
-    child_level_fits None n s f = laws.bottom_is_level
-    child_level_fits (More (Node c b k) g) zero s f = f.levels _
-    child_level_fits (More (Node c b k) g) (suc n) s f = child_level_fits g n s f
+    child_level_fits no_node n s f = laws.bottom_is_level
+    child_level_fits (and_node (state_node c b k) g) zero s f = f.levels _
+    child_level_fits (and_node (state_node c b k) g) (suc n) s f = child_level_fits g n s f
 
     effect_fits : (k : Step) → FineStep w q at.children k → SizedStep w k → (pc : ℕ) (b s : Store) → Level pc → Fits w b → Fits w s → Fits w (effect w at enter k pc b s).store
     unfolding effect
-    effect_fits (Set site x e) fine sized pc b s lp fb f =
+    effect_fits (assign site x e) fine sized pc b s lp fb f =
         fits_level _ (own x) _ (picked (is_dynamic w x) _ _ _ (laws.join_is_level _ _) (f.levels _)) (fits_number s (own x) _ (subst (λ (u : ℕ). value w e b < 2 ^ u) sized.1 (value_fits e sized.0 b fb)) f)
-    effect_fits (Write site m i e) fine sized pc b s lp fb f = elim (cases_Bool (is_dynamic w m)) [
+    effect_fits (write site m i e) fine sized pc b s lp fb f = elim (cases_Bool (is_dynamic w m)) [
       | inl d ↦ rw d (fits_number _ (next m (value w i b)) _ (subst (λ (u : ℕ). value w e b < 2 ^ u) sized.3 (value_fits e sized.2 b fb)) (fits_raise s _ _ f))
       | inr d ↦ rw d (fits_number s (next m (value w i b)) _ (subst (λ (u : ℕ). value w e b < 2 ^ u) sized.3 (value_fits e sized.2 b fb)) f)
     ]
-    effect_fits (Retag site x n) fine sized pc b s lp fb f =
+    effect_fits (retag site x n) fine sized pc b s lp fb f =
         fits_level _ (own x) _ (level_fits n fine.2 b fb) (fits_number s (own x) _ (picked (w.order.le (level w (own x) b) (new_level w n b)) _ _ _ (fb.numbers (own x)) (zero_fits (width w x))) f)
-    effect_fits (RetagCell site m j n) fine sized pc b s lp fb f =
+    effect_fits (retag_cell site m j n) fine sized pc b s lp fb f =
         fits_level _ (next m (value w j b)) _ (level_fits n fine.3 b fb) (fits_number s (next m (value w j b)) _ (picked (w.order.le (level w (start m (value w j b)) b) (new_level w n b)) _ _ _ (fb.numbers (start m (value w j b))) (zero_fits (width w m))) f)
-    effect_fits (Goto site target) fine sized pc b s lp fb f =
+    effect_fits (go_to site target) fine sized pc b s lp fb f =
         let moved = fits_reset _ target (fits_child s at.parent _ f) in
         elim (cases_Bool (is_dynamic w target)) [ inl d ↦ rw d (fits_level _ (own target) pc lp moved) | inr d ↦ rw d moved ]
-    effect_fits (Fall site hang) fine sized pc b s lp fb f = entering _ _ (laws.join_is_level _ _) s f
+    effect_fits (fall_to_child site hang) fine sized pc b s lp fb f = entering _ _ (laws.join_is_level _ _) s f
 
     attempt_fits : (k : Step) → FineStep w q at.children k → SizedStep w k → (hang : ℕ → Bool) (h : ℕ → Store → After) → ((p : ℕ) → Level p → Fitting (h p)) → (pc : ℕ) → Level pc → Fitting (attempt w at enter k hang h pc)
     unfolding attempt
@@ -147,44 +147,44 @@ module _ (w : World) (laws : Laws w.order) where
       unfolding does does_arms does_block
 
       does_fits : (c : Command) → FineCommand w q at.children c → Sized w c → (pc : ℕ) → Level pc → Fitting (does w at enter c pc)
-      does_fits (Do k) fine sized pc lp s f = attempt_fits k fine sized (raised_alone w at k) (λ p t. stay t) (λ p lq t h. h) pc lp s f
-      does_fits (Try k hang h) fine sized pc lp s f = attempt_fits k fine.0 sized.0 (touches w at (Try k hang h)) (does_block w at enter h) (λ p lq t i. block_fits h fine.1 sized.1 p lq t i) pc lp s f
-      does_fits (If hang e a b) fine sized pc lp s f =
-          select_fits e (touches w at (If hang e a b)) (branch (does_block w at enter a) (does_block w at enter b))
+      does_fits (lone k) fine sized pc lp s f = attempt_fits k fine sized (raised_alone w at k) (λ p t. stay t) (λ p lq t h. h) pc lp s f
+      does_fits (try k hang h) fine sized pc lp s f = attempt_fits k fine.0 sized.0 (touches w at (try k hang h)) (does_block w at enter h) (λ p lq t i. block_fits h fine.1 sized.1 p lq t i) pc lp s f
+      does_fits (if_else hang e a b) fine sized pc lp s f =
+          select_fits e (touches w at (if_else hang e a b)) (branch (does_block w at enter a) (does_block w at enter b))
           (λ v p lq t i. branch_all (λ z. Fits w z.store) (does_block w at enter a) (does_block w at enter b) v p t (block_fits a fine.1 sized.2 p lq t i) (block_fits b fine.2 sized.3 p lq t i)) pc s f
-      does_fits (TryThen k hang a b) fine sized pc lp s f =
-          attempt_then_fits k fine.0 sized.0 (touches w at (TryThen k hang a b)) (does_block w at enter a) (does_block w at enter b)
+      does_fits (try_then k hang a b) fine sized pc lp s f =
+          attempt_then_fits k fine.0 sized.0 (touches w at (try_then k hang a b)) (does_block w at enter a) (does_block w at enter b)
           (λ p lq t i. block_fits a fine.1 sized.1 p lq t i) (λ p lq t i. block_fits b fine.2 sized.2 p lq t i) pc lp s f
-      does_fits (Case hang e arms) fine sized pc lp s f =
-          select_fits e (touches w at (Case hang e arms)) (does_arms w at enter arms) (λ v p lq t i. arms_fit (width_of w e) arms fine.1 sized.1 v p lq t i) pc s f
+      does_fits (case_of hang e arms) fine sized pc lp s f =
+          select_fits e (touches w at (case_of hang e arms)) (does_arms w at enter arms) (λ v p lq t i. arms_fit (width_of w e) arms fine.1 sized.1 v p lq t i) pc s f
 
       arms_fit : (u : ℕ) (arms : Arms) → FineArms w q at.children arms → SizedArms w u arms → (v pc : ℕ) → Level pc → Fitting (does_arms w at enter arms v pc)
-      arms_fit u (Last b) fine sized v pc lp s f = block_fits b fine sized pc lp s f
-      arms_fit u (Arm cs b arms) fine sized v pc lp s f =
+      arms_fit u (last_arm b) fine sized v pc lp s f = block_fits b fine sized pc lp s f
+      arms_fit u (and_arm cs b arms) fine sized v pc lp s f =
           choose_all (λ z. Fits w z.store) cs (does_block w at enter b) (does_arms w at enter arms) v pc s
           (block_fits b fine.0 sized.1 pc lp s f) (arms_fit u arms fine.1 sized.2 v pc lp s f)
 
       pub block_fits : (b : Block) → FineBlock w q at.children b → SizedBlock w b → (pc : ℕ) → Level pc → Fitting (does_block w at enter b pc)
-      block_fits End fine sized pc lp s f = f
-      block_fits (Then c cs) fine sized pc lp s f = block_fits cs fine.1 sized.1 pc lp _ (does_fits c fine.0 sized.0 pc lp s f)
+      block_fits end_block fine sized pc lp s f = f
+      block_fits (command_then c cs) fine sized pc lp s f = block_fits cs fine.1 sized.1 pc lp _ (does_fits c fine.0 sized.0 pc lp s f)
 
   mutual
     unfolding does_state does_child
 
     state_fits : (t : State) (p : ℕ) (q : Group) (n : ℕ) → FineState w q n t → SizedState w t → (pc : ℕ) → Level pc → Fitting (does_state w t p pc)
-    state_fits (Node e b g) p q n fine sized pc lp s f =
+    state_fits (state_node e b g) p q n fine sized pc lp s f =
         block_fits (record { state = e; parent = p; children = g }) q (does_child w g e) (λ m z lz s f. child_fits g e g 0 fine.1 sized.1 m z lz s f) b fine.0.steps sized.0 pc lp s f
 
     child_fits : (g : Group) (p : ℕ) (q : Group) (n : ℕ) → FineGroup w q n g → SizedGroup w g → (m pc : ℕ) → Level pc → Fitting (does_child w g p m pc)
-    child_fits None p q n fine sized m pc lp s f = f
-    child_fits (More t g) p q n fine sized zero pc lp s f = state_fits t p q n fine.0 sized.0 pc lp s f
-    child_fits (More t g) p q n fine sized (suc m) pc lp s f = child_fits g p q (suc n) fine.1 sized.1 m pc lp s f
+    child_fits no_node p q n fine sized m pc lp s f = f
+    child_fits (and_node t g) p q n fine sized zero pc lp s f = state_fits t p q n fine.0 sized.0 pc lp s f
+    child_fits (and_node t g) p q n fine sized (suc m) pc lp s f = child_fits g p q (suc n) fine.1 sized.1 m pc lp s f
 
   root_fits : (hang : ℕ → Bool) (p : ℕ) (g : Group) (q : Group) (n : ℕ) → FineGroup w q n g → SizedGroup w g → (m : ℕ) → Fitting (root_fall w hang (λ t. does_state w t p) g m)
   unfolding root_fall
-  root_fits hang p None q n fine sized m s f = f
-  root_fits hang p (More (Node c b k) g) q n fine sized zero s f = state_fits (Node c b k) p q n fine.0 sized.0 _ (f.levels _) _ (fits_raise s hang _ f)
-  root_fits hang p (More t g) q n fine sized (suc m) s f = root_fits hang p g q (suc n) fine.1 sized.1 m s f
+  root_fits hang p no_node q n fine sized m s f = f
+  root_fits hang p (and_node (state_node c b k) g) q n fine sized zero s f = state_fits (state_node c b k) p q n fine.0 sized.0 _ (f.levels _) _ (fits_raise s hang _ f)
+  root_fits hang p (and_node t g) q n fine sized (suc m) s f = root_fits hang p g q (suc n) fine.1 sized.1 m s f
 
 abbrev Fit : ℕ → ℕ → Tagged → Type 0
 Fit count u t = (t.number < 2 ^ u) × (t.level < count)

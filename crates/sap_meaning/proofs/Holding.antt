@@ -1,7 +1,7 @@
 -- The first state and every cycle keep what every state keeps.
 use Rattle.std.proofs.Common.{ℕ, zero, suc, Bool, refl, sym, ap, ◌∙◌, List, if◌then◌else◌}
 use Rattle.sap_lemmas.proofs.Bools.{and_left}
-use Rattle.sap_meaning.specs.Program.{World, Program, entity, is_dynamic, root, Node, Group, None, More}
+use Rattle.sap_meaning.specs.Program.{World, Program, entity, is_dynamic, root, state_node, Group, no_node, and_node}
 use Rattle.sap_meaning.specs.Store.{start, next, Store, child}
 use Rattle.sap_meaning.specs.Touches.{root_touches}
 use Rattle.sap_meaning.specs.Does.{does_state}
@@ -14,9 +14,9 @@ use Rattle.sap_meaning.proofs.Keeps.{OfDynamic, Keeps, Lands, holds_raise, holds
 
 root_holds : (w : World) (hang : ℕ → Bool) (p : ℕ) (q : Group) (n : ℕ) (g : Group) → OfDynamic w hang → Lands w p q → FineGroup w q n g → (m : ℕ) → Keeps w (root_fall w hang (λ t. does_state w t p) g m)
 unfolding root_fall
-root_holds w hang p q n None dyn landing fine m s r = r
-root_holds w hang p q n (More (Node c b k) g) dyn landing fine zero s r = state_holds w (Node c b k) p q n landing fine.0 _ _ (holds_raise w s hang _ dyn r)
-root_holds w hang p q n (More t g) dyn landing fine (suc m) s r = root_holds w hang p q (suc n) g dyn landing fine.1 m s r
+root_holds w hang p q n no_node dyn landing fine m s r = r
+root_holds w hang p q n (and_node (state_node c b k) g) dyn landing fine zero s r = state_holds w (state_node c b k) p q n landing fine.0 _ _ (holds_raise w s hang _ dyn r)
+root_holds w hang p q n (and_node t g) dyn landing fine (suc m) s r = root_holds w hang p q (suc n) g dyn landing fine.1 m s r
 
 pub cycle_rests : (p : Program) → FineProgram p → (inputs : List Tagged) (s : Store) → Resting p.world s → Resting p.world (cycle p inputs s).store
 unfolding cycle

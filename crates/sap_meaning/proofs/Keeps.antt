@@ -4,7 +4,7 @@ use Rattle.std.proofs.lemmas.Bool.{cases_Bool, eqb-true}
 use Rattle.std.proofs.lemmas.Grind.{common_steps}
 use Rattle.sap_lemmas.proofs.Bools.{and_left, and_right}
 use Rattle.sap_maps.specs.Term.{Term}
-use Rattle.sap_meaning.specs.Program.{World, entity, is_dynamic, is_input, authority, children, place, below, Step, Set, Write, Retag, RetagCell, Goto, Fall, Command, Do, Try, If, TryThen, Case, Arms, Last, Arm, Block, End, Then, State, Node, Group, None, More}
+use Rattle.sap_meaning.specs.Program.{World, entity, is_dynamic, is_input, authority, children, place, below, Step, assign, write, retag, retag_cell, go_to, fall_to_child, Command, lone, try, if_else, try_then, case_of, Arms, last_arm, and_arm, Block, end_block, command_then, State, state_node, Group, no_node, and_node}
 use Rattle.sap_meaning.specs.Store.{Slot, own, start, next, start_whole, next_whole, Store, owner, home, level, child, same_slot, put_number, put_level, put_child, raised, raise, lowered, reset, source, settle, held, After, stay}
 use Rattle.sap_meaning.specs.Expressions.{tag, told}
 use Rattle.sap_meaning.specs.Checks.{Spot, guard, test}
@@ -120,17 +120,17 @@ module _ (w : World) where
 module _ (w : World) (at : Spot) (q : Group) (landing : (target : ℕ) → among q target ≡ true → place w target < children w at.parent) (enter : ℕ → ℕ → Store → After) (entering : (n pc : ℕ) → Keeps w (enter n pc)) where
   pub effect_holds : (k : Step) → FineStep w q at.children k → (pc : ℕ) (b s : Store) → test w at k pc b ≡ true → Holds w s → Holds w (effect w at enter k pc b s).store
   unfolding effect
-  effect_holds (Set site x e) fine pc b s t r = holds_level w _ (own x) _ (holds_number w s (own x) _ r) (λ d. rw d (r.above (own x) (held_register w x fine.0) d))
-  effect_holds (Write site m i e) fine pc b s t r = elim (cases_Bool (is_dynamic w m)) [
+  effect_holds (assign site x e) fine pc b s t r = holds_level w _ (own x) _ (holds_number w s (own x) _ r) (λ d. rw d (r.above (own x) (held_register w x fine.0) d))
+  effect_holds (write site m i e) fine pc b s t r = elim (cases_Bool (is_dynamic w m)) [
     | inl d ↦ rw d (holds_number w _ _ _ (holds_raise w s (λ x. nat_eq x m) _ (λ x h. subst (λ y. is_dynamic w y ≡ true) (sym (eqb-true x m h)) d) r))
     | inr d ↦ rw d (holds_number w s _ _ r)
   ]
-  effect_holds (Retag site x n) fine pc b s t r = holds_level w _ (own x) _ (holds_number w s (own x) _ r) (λ d. and_right _ _ t)
-  effect_holds (RetagCell site m j n) fine pc b s t r = holds_level w _ (next m _) _ (holds_number w s (next m _) _ r) (λ d. and_right (w.order.le (w.order.join pc (w.order.join (told w n b) (tag w j b))) (authority w m)) _ t)
-  effect_holds (Goto site target) fine pc b s t r =
+  effect_holds (retag site x n) fine pc b s t r = holds_level w _ (own x) _ (holds_number w s (own x) _ r) (λ d. and_right _ _ t)
+  effect_holds (retag_cell site m j n) fine pc b s t r = holds_level w _ (next m _) _ (holds_number w s (next m _) _ r) (λ d. and_right (w.order.le (w.order.join pc (w.order.join (told w n b) (tag w j b))) (authority w m)) _ t)
+  effect_holds (go_to site target) fine pc b s t r =
       let moved = holds_reset w _ target (holds_child w s at.parent (place w target) (landing target fine) r) in
       elim (cases_Bool (is_dynamic w target)) [ inl d ↦ rw d (holds_level w _ (own target) pc moved (λ no. cc)) | inr d ↦ rw d moved ]
-  effect_holds (Fall site hang) fine pc b s t r = entering _ _ s r
+  effect_holds (fall_to_child site hang) fine pc b s t r = entering _ _ s r
 
   pub attempt_holds : (k : Step) → FineStep w q at.children k → (hang : ℕ → Bool) (h : ℕ → Store → After) → OfDynamic w hang → ((p : ℕ) → Keeps w (h p)) → (pc : ℕ) → Keeps w (attempt w at enter k hang h pc)
   unfolding attempt
@@ -150,36 +150,36 @@ module _ (w : World) (at : Spot) (q : Group) (landing : (target : ℕ) → among
   select_holds e hang pick dyn f pc s r = f _ _ _ (holds_raise w s hang (tag w e s) dyn r)
 
   pub alone_dynamic : (k : Step) → OfDynamic w (raised_alone w at k)
-  alone_dynamic (Set site y e) x h = cc
-  alone_dynamic (Write site m i e) x h = cc
-  alone_dynamic (Retag site y n) x h = cc
-  alone_dynamic (RetagCell site m j n) x h = cc
-  alone_dynamic (Goto site target) x h = and_left (is_dynamic w x) _ h
-  alone_dynamic (Fall site hang) x h = and_left (is_dynamic w x) _ h
+  alone_dynamic (assign site y e) x h = cc
+  alone_dynamic (write site m i e) x h = cc
+  alone_dynamic (retag site y n) x h = cc
+  alone_dynamic (retag_cell site m j n) x h = cc
+  alone_dynamic (go_to site target) x h = and_left (is_dynamic w x) _ h
+  alone_dynamic (fall_to_child site hang) x h = and_left (is_dynamic w x) _ h
 
   mutual
     unfolding does does_arms does_block
 
     pub does_holds : (c : Command) → FineCommand w q at.children c → (pc : ℕ) → Keeps w (does w at enter c pc)
-    does_holds (Do k) fine pc s r = attempt_holds k fine (raised_alone w at k) (λ p t. stay t) (alone_dynamic k) (λ p t h. h) pc s r
-    does_holds (Try k hang h) fine pc s r = attempt_holds k fine.0 (touches w at (Try k hang h)) (does_block w at enter h) (λ x i. and_left (is_dynamic w x) _ i) (λ p t i. block_holds h fine.1 p t i) pc s r
-    does_holds (If hang e a b) fine pc s r =
-        select_holds e (touches w at (If hang e a b)) (branch (does_block w at enter a) (does_block w at enter b)) (λ x i. and_left (is_dynamic w x) _ i)
+    does_holds (lone k) fine pc s r = attempt_holds k fine (raised_alone w at k) (λ p t. stay t) (alone_dynamic k) (λ p t h. h) pc s r
+    does_holds (try k hang h) fine pc s r = attempt_holds k fine.0 (touches w at (try k hang h)) (does_block w at enter h) (λ x i. and_left (is_dynamic w x) _ i) (λ p t i. block_holds h fine.1 p t i) pc s r
+    does_holds (if_else hang e a b) fine pc s r =
+        select_holds e (touches w at (if_else hang e a b)) (branch (does_block w at enter a) (does_block w at enter b)) (λ x i. and_left (is_dynamic w x) _ i)
         (λ v p t i. branch_all (λ z. Holds w z.store) (does_block w at enter a) (does_block w at enter b) v p t (block_holds a fine.1 p t i) (block_holds b fine.2 p t i)) pc s r
-    does_holds (TryThen k hang a b) fine pc s r =
-        attempt_then_holds k fine.0 (touches w at (TryThen k hang a b)) (does_block w at enter a) (does_block w at enter b) (λ x i. and_left (is_dynamic w x) _ i)
+    does_holds (try_then k hang a b) fine pc s r =
+        attempt_then_holds k fine.0 (touches w at (try_then k hang a b)) (does_block w at enter a) (does_block w at enter b) (λ x i. and_left (is_dynamic w x) _ i)
         (λ p t i. block_holds a fine.1 p t i) (λ p t i. block_holds b fine.2 p t i) pc s r
-    does_holds (Case hang e arms) fine pc s r =
-        select_holds e (touches w at (Case hang e arms)) (does_arms w at enter arms) (λ x i. and_left (is_dynamic w x) _ i) (λ v p t i. arms_hold arms fine.1 v p t i) pc s r
+    does_holds (case_of hang e arms) fine pc s r =
+        select_holds e (touches w at (case_of hang e arms)) (does_arms w at enter arms) (λ x i. and_left (is_dynamic w x) _ i) (λ v p t i. arms_hold arms fine.1 v p t i) pc s r
 
     pub arms_hold : (arms : Arms) → FineArms w q at.children arms → (v pc : ℕ) → Keeps w (does_arms w at enter arms v pc)
-    arms_hold (Last b) fine v pc s r = block_holds b fine pc s r
-    arms_hold (Arm cs b arms) fine v pc s r =
+    arms_hold (last_arm b) fine v pc s r = block_holds b fine pc s r
+    arms_hold (and_arm cs b arms) fine v pc s r =
         choose_all (λ z. Holds w z.store) cs (does_block w at enter b) (does_arms w at enter arms) v pc s (block_holds b fine.0 pc s r) (arms_hold arms fine.1 v pc s r)
 
     pub block_holds : (b : Block) → FineBlock w q at.children b → (pc : ℕ) → Keeps w (does_block w at enter b pc)
-    block_holds End fine pc s r = r
-    block_holds (Then c cs) fine pc s r = block_holds cs fine.1 pc _ (does_holds c fine.0 pc s r)
+    block_holds end_block fine pc s r = r
+    block_holds (command_then c cs) fine pc s r = block_holds cs fine.1 pc _ (does_holds c fine.0 pc s r)
 
 abbrev pub Lands : World → (parent : ℕ) → Group → Type 0
 Lands w p q = (target : ℕ) → among q target ≡ true → place w target < children w p
@@ -189,11 +189,11 @@ module _ (w : World) where
     unfolding does_state does_child
 
     pub state_holds : (t : State) (p : ℕ) (q : Group) (n : ℕ) → Lands w p q → FineState w q n t → (pc : ℕ) → Keeps w (does_state w t p pc)
-    state_holds (Node e b g) p q n landing fine pc s r =
+    state_holds (state_node e b g) p q n landing fine pc s r =
         block_holds w (record { state = e; parent = p; children = g }) q landing (does_child w g e)
         (λ m z s r. child_holds g e g 0 (lands w e g fine.1 fine.0.count) fine.1 m z s r) b fine.0.steps pc s r
 
     pub child_holds : (g : Group) (p : ℕ) (q : Group) (n : ℕ) → Lands w p q → FineGroup w q n g → (m pc : ℕ) → Keeps w (does_child w g p m pc)
-    child_holds None p q n landing fine m pc s r = r
-    child_holds (More t g) p q n landing fine zero pc s r = state_holds t p q n landing fine.0 pc s r
-    child_holds (More t g) p q n landing fine (suc m) pc s r = child_holds g p q (suc n) landing fine.1 m pc s r
+    child_holds no_node p q n landing fine m pc s r = r
+    child_holds (and_node t g) p q n landing fine zero pc s r = state_holds t p q n landing fine.0 pc s r
+    child_holds (and_node t g) p q n landing fine (suc m) pc s r = child_holds g p q (suc n) landing fine.1 m pc s r

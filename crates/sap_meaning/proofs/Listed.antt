@@ -2,7 +2,7 @@
 use Rattle.std.proofs.Common.{◌≡◌, ℕ, zero, suc, Bool, List, ◌∷◌, ◌++◌, refl, ap, nat_eq, inl, inr}
 use Rattle.std.proofs.lemmas.Bool.{cases_Bool}
 use Rattle.sap_maps.specs.Term.{Term}
-use Rattle.sap_meaning.specs.Program.{World, root, listed, Step, Set, Write, Retag, RetagCell, Goto, Fall, Command, Do, Try, If, TryThen, Case, Arms, Last, Arm, Block, End, Then, State, Node, Group, None, More}
+use Rattle.sap_meaning.specs.Program.{World, root, listed, Step, assign, write, retag, retag_cell, go_to, fall_to_child, Command, lone, try, if_else, try_then, case_of, Arms, last_arm, and_arm, Block, end_block, command_then, State, state_node, Group, no_node, and_node}
 use Rattle.sap_meaning.specs.Store.{Store, child, settle, After, and_then}
 use Rattle.sap_meaning.specs.Expressions.{value}
 use Rattle.sap_meaning.specs.Checks.{Spot, site_of, guard, test}
@@ -25,12 +25,12 @@ then_same a b f g e h = rw e (ap (λ (r : After). let z : After = record { store
 module _ (w : World) (at : Spot) (enter enter' : ℕ → ℕ → Store → After) (same : (n : ℕ) → Alike (enter n) (enter' n)) where
   effect_same : (k : Step) (pc : ℕ) (b s : Store) → effect w at enter k pc b s ≡ effect w at enter' k pc b s
   unfolding effect
-  effect_same (Set site x e) pc b s = refl
-  effect_same (Write site m i e) pc b s = refl
-  effect_same (Retag site x n) pc b s = refl
-  effect_same (RetagCell site m j n) pc b s = refl
-  effect_same (Goto site target) pc b s = refl
-  effect_same (Fall site hang) pc b s = same _ _ s
+  effect_same (assign site x e) pc b s = refl
+  effect_same (write site m i e) pc b s = refl
+  effect_same (retag site x n) pc b s = refl
+  effect_same (retag_cell site m j n) pc b s = refl
+  effect_same (go_to site target) pc b s = refl
+  effect_same (fall_to_child site hang) pc b s = same _ _ s
 
   attempt_same : (k : Step) (h i : ℕ → Bool) (f g : ℕ → Store → After) → ((x : ℕ) → h x ≡ i x) → Alike f g → Alike (attempt w at enter k h f) (attempt w at enter' k i g)
   unfolding attempt
@@ -59,49 +59,49 @@ module _ (w : World) (at : Spot) (enter enter' : ℕ → ℕ → Store → After
   select_same e h i f g j k c a b pc s = rw (same_test h i c) (elim (cases_Bool (nat_eq (value w e s) 0)) [ inl t ↦ rw t (b _ _) | inr t ↦ rw t (a _ _) ])
 
   alone_same : (k : Step) → ExactStep w at k → (x : ℕ) → listed_alone w at k x ≡ raised_alone w at k x
-  alone_same (Set site y e) fine x = refl
-  alone_same (Write site m i e) fine x = refl
-  alone_same (Retag site y n) fine x = refl
-  alone_same (RetagCell site m j n) fine x = refl
-  alone_same (Goto site target) fine x = refl
-  alone_same (Fall site hang) fine x = fine x
+  alone_same (assign site y e) fine x = refl
+  alone_same (write site m i e) fine x = refl
+  alone_same (retag site y n) fine x = refl
+  alone_same (retag_cell site m j n) fine x = refl
+  alone_same (go_to site target) fine x = refl
+  alone_same (fall_to_child site hang) fine x = fine x
 
   mutual
     unfolding run run_arms run_block does does_arms does_block
 
     run_same : (c : Command) → Exact w at c → Alike (run w at enter c) (does w at enter' c)
-    run_same (Do k) fine = attempt_same k _ _ _ _ (alone_same k fine) (λ pc s. refl)
-    run_same (Try k hang h) fine = attempt_same k _ _ _ _ fine.0 (block_same h fine.1)
-    run_same (If hang e a b) fine = select_same e _ _ _ _ _ _ fine.0 (block_same a fine.1) (block_same b fine.2)
-    run_same (TryThen k hang a b) fine = attempt_then_same k _ _ _ _ _ _ fine.0 (block_same a fine.1) (block_same b fine.2)
-    run_same (Case hang e arms) fine = pick_same e _ _ _ _ fine.0 (λ v. arms_same arms fine.1 v)
+    run_same (lone k) fine = attempt_same k _ _ _ _ (alone_same k fine) (λ pc s. refl)
+    run_same (try k hang h) fine = attempt_same k _ _ _ _ fine.0 (block_same h fine.1)
+    run_same (if_else hang e a b) fine = select_same e _ _ _ _ _ _ fine.0 (block_same a fine.1) (block_same b fine.2)
+    run_same (try_then k hang a b) fine = attempt_then_same k _ _ _ _ _ _ fine.0 (block_same a fine.1) (block_same b fine.2)
+    run_same (case_of hang e arms) fine = pick_same e _ _ _ _ fine.0 (λ v. arms_same arms fine.1 v)
 
     arms_same : (arms : Arms) → ExactArms w at arms → (v : ℕ) → Alike (run_arms w at enter arms v) (does_arms w at enter' arms v)
-    arms_same (Last b) fine v = block_same b fine
-    arms_same (Arm cs b arms) fine v =
+    arms_same (last_arm b) fine v = block_same b fine
+    arms_same (and_arm cs b arms) fine v =
         choose_same cs _ _ (run_arms w at enter arms) (does_arms w at enter' arms) v (block_same b fine.0) (arms_same arms fine.1 v)
 
     pub block_same : (b : Block) → ExactBlock w at b → Alike (run_block w at enter b) (does_block w at enter' b)
-    block_same End fine pc s = refl
-    block_same (Then c cs) fine pc s = then_same _ _ _ _ (run_same c fine.0 pc s) (λ r. block_same cs fine.1 pc r)
+    block_same end_block fine pc s = refl
+    block_same (command_then c cs) fine pc s = then_same _ _ _ _ (run_same c fine.0 pc s) (λ r. block_same cs fine.1 pc r)
 
 module _ (w : World) where
   mutual
     unfolding run_state run_child does_state does_child
 
     pub state_same : (t : State) (p : ℕ) → ExactState w p t → Alike (run_state w t p) (does_state w t p)
-    state_same (Node e b g) p fine pc s = block_same w (record { state = e; parent = p; children = g }) (run_child w g e) (does_child w g e) (λ n. child_same g e fine.1 n) b fine.0 pc s
+    state_same (state_node e b g) p fine pc s = block_same w (record { state = e; parent = p; children = g }) (run_child w g e) (does_child w g e) (λ n. child_same g e fine.1 n) b fine.0 pc s
 
     pub child_same : (g : Group) (p : ℕ) → ExactGroup w p g → (n : ℕ) → Alike (run_child w g p n) (does_child w g p n)
-    child_same None p fine n pc s = refl
-    child_same (More t g) p fine zero pc s = state_same t p fine.0 pc s
-    child_same (More t g) p fine (suc n) pc s = child_same g p fine.1 n pc s
+    child_same no_node p fine n pc s = refl
+    child_same (and_node t g) p fine zero pc s = state_same t p fine.0 pc s
+    child_same (and_node t g) p fine (suc n) pc s = child_same g p fine.1 n pc s
 
 root_same : (w : World) (h i : ℕ → Bool) (p : ℕ) → ((x : ℕ) → h x ≡ i x) → (g : Group) → ExactGroup w p g → (n : ℕ) (s : Store) → root_fall w h (λ t. run_state w t p) g n s ≡ root_fall w i (λ t. does_state w t p) g n s
 unfolding root_fall
-root_same w h i p e None fine n s = refl
-root_same w h i p e (More (Node c b k) g) fine zero s = rw (same_test h i e) (state_same w (Node c b k) p fine.0 _ _)
-root_same w h i p e (More t g) fine (suc n) s = root_same w h i p e g fine.1 n s
+root_same w h i p e no_node fine n s = refl
+root_same w h i p e (and_node (state_node c b k) g) fine zero s = rw (same_test h i e) (state_same w (state_node c b k) p fine.0 _ _)
+root_same w h i p e (and_node t g) fine (suc n) s = root_same w h i p e g fine.1 n s
 
 pub lists_law : ListsServe
 unfolding cycle cycle_listed

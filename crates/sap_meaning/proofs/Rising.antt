@@ -4,7 +4,7 @@ use Rattle.std.proofs.lemmas.Bool.{cases_Bool, and_from, not-false, or_left}
 use Rattle.sap_lemmas.proofs.Bools.{neither_left, neither_right}
 use Rattle.sap_meaning.proofs.SitesLemmas.{sublist_append, sublist_behind, sublist_between, sublist_front}
 use Rattle.sap_maps.specs.Term.{Term}
-use Rattle.sap_meaning.specs.Program.{World, is_dynamic, root, Step, Set, Write, Retag, RetagCell, Goto, Fall, Command, Do, Try, If, TryThen, Case, Arms, Last, Arm, Block, End, Then, State, Node, Group, None, More}
+use Rattle.sap_meaning.specs.Program.{World, is_dynamic, root, Step, assign, write, retag, retag_cell, go_to, fall_to_child, Command, lone, try, if_else, try_then, case_of, Arms, last_arm, and_arm, Block, end_block, command_then, State, state_node, Group, no_node, and_node}
 use Rattle.sap_meaning.specs.Store.{Store, child, raise, Refusal, After, stay}
 use Rattle.sap_meaning.specs.Checks.{Spot, child_opens, guard, test}
 use Rattle.sap_meaning.specs.Touches.{touches, raised_alone, root_touches}
@@ -33,19 +33,19 @@ sublist_rises (x ∷ xs) (y ∷ ys) n h r = elim h [
 
 module _ (w : World) where
   opens_all : (g : Group) → some_enforced w g ≡ false → (n pc : ℕ) (s : Store) → child_opens w g n pc s ≡ true
-  opens_all None h n pc s = refl
-  opens_all (More (Node c b k) g) h zero pc s = or_left _ _ (not-false (is_dynamic w c) (neither_left _ _ h))
-  opens_all (More (Node c b k) g) h (suc n) pc s = opens_all g (neither_right (not (is_dynamic w c)) _ h) n pc s
+  opens_all no_node h n pc s = refl
+  opens_all (and_node (state_node c b k) g) h zero pc s = or_left _ _ (not-false (is_dynamic w c) (neither_left _ _ h))
+  opens_all (and_node (state_node c b k) g) h (suc n) pc s = opens_all g (neither_right (not (is_dynamic w c)) _ h) n pc s
 
   -- what is no check site is not refused
   serves : (at : Spot) (k : Step) → is_site w at.state at.children k ≡ false → (pc : ℕ) (s : Store) → test w at k pc s ≡ true
-  serves at (Set site x e) h pc s = or_left _ _ (not-false (is_dynamic w x) h)
-  serves at (Write site m i e) h pc s = or_left _ _ (not-false (is_dynamic w m) h)
-  serves at (Retag site x n) h pc s = cc
-  serves at (RetagCell site m j n) h pc s = cc
-  serves at (Goto site target) h pc s =
+  serves at (assign site x e) h pc s = or_left _ _ (not-false (is_dynamic w x) h)
+  serves at (write site m i e) h pc s = or_left _ _ (not-false (is_dynamic w m) h)
+  serves at (retag site x n) h pc s = cc
+  serves at (retag_cell site m j n) h pc s = cc
+  serves at (go_to site target) h pc s =
       and_from _ _ (or_left _ _ (not-false (is_dynamic w target) (neither_right (not (is_dynamic w at.state)) _ h))) (or_left _ _ (not-false (is_dynamic w at.state) (neither_left _ _ h)))
-  serves at (Fall site hang) h pc s = opens_all at.children h (child at.state s) pc s
+  serves at (fall_to_child site hang) h pc s = opens_all at.children h (child at.state s) pc s
 
   -- what is refused
   abbrev From : After → List ℕ → Type 0
@@ -63,21 +63,21 @@ module _ (w : World) where
 
     effect_from : (k : Step) (pc : ℕ) (b s : Store) → From (effect w at enter k pc b s) below
     unfolding effect
-    effect_from (Set site x e) pc b s = tt
-    effect_from (Write site m i e) pc b s = tt
-    effect_from (Retag site x n) pc b s = tt
-    effect_from (RetagCell site m j n) pc b s = tt
-    effect_from (Goto site target) pc b s = tt
-    effect_from (Fall site hang) pc b s = entering _ _ s
+    effect_from (assign site x e) pc b s = tt
+    effect_from (write site m i e) pc b s = tt
+    effect_from (retag site x n) pc b s = tt
+    effect_from (retag_cell site m j n) pc b s = tt
+    effect_from (go_to site target) pc b s = tt
+    effect_from (fall_to_child site hang) pc b s = entering _ _ s
 
     effect_none : (k : Step) → transfers k ≡ false → (pc : ℕ) (b s : Store) → From (effect w at enter k pc b s) []
     unfolding effect
-    effect_none (Set site x e) plain pc b s = tt
-    effect_none (Write site m i e) plain pc b s = tt
-    effect_none (Retag site x n) plain pc b s = tt
-    effect_none (RetagCell site m j n) plain pc b s = tt
-    effect_none (Goto site target) plain pc b s = cc
-    effect_none (Fall site hang) plain pc b s = cc
+    effect_none (assign site x e) plain pc b s = tt
+    effect_none (write site m i e) plain pc b s = tt
+    effect_none (retag site x n) plain pc b s = tt
+    effect_none (retag_cell site m j n) plain pc b s = tt
+    effect_none (go_to site target) plain pc b s = cc
+    effect_none (fall_to_child site hang) plain pc b s = cc
 
     -- a step whose effect refuses some of ys, and whose handler some of zs
     attempt_from : (k : Step) (hang : ℕ → Bool) (h : ℕ → Store → After) (ys zs : List ℕ) → ((pc : ℕ) (b s : Store) → From (effect w at enter k pc b s) ys) → ((xs : List ℕ) → Sublist xs ys → Sublist xs zs) → ((p : ℕ) (t : Store) → From (h p t) zs) → (pc : ℕ) (s : Store) → From (attempt w at enter k hang h pc s) (Own k ++ zs)
@@ -123,78 +123,78 @@ module _ (w : World) where
       unfolding does does_arms does_block
 
       open_from : (c : Command) → Open c → (pc : ℕ) (s : Store) → From (does w at enter c pc s) (sites w at.state at.children c)
-      open_from (Do k) plain pc s = subst (λ ys. From (attempt w at enter k (raised_alone w at k) (λ p t. stay t) pc s) ys) (append-nil (Own k)) (attempt_from k (raised_alone w at k) (λ p t. stay t) [] [] (effect_none k plain) (λ xs h. h) (λ p t. tt) pc s)
-      open_from (Try k hang h) plain pc s = attempt_from k (touches w at (Try k hang h)) (does_block w at enter h) [] (OwnBlock h) (effect_none k plain.0) (λ xs i. none xs (OwnBlock h) i) (λ p t. open_list h plain.1 p t) pc s
-      open_from (If hang e a b) plain pc s = select_from e (touches w at (If hang e a b)) (does_block w at enter a) (does_block w at enter b) (OwnBlock a ++ OwnBlock b) (λ p t. sublist_front _ (OwnBlock a) (OwnBlock b) (open_list a plain.0 p t)) (λ p t. sublist_behind _ (OwnBlock a) (OwnBlock b) (open_list b plain.1 p t)) pc s
-      open_from (TryThen k hang a b) plain pc s =
-          attempt_then_from k plain.0 (touches w at (TryThen k hang a b)) (does_block w at enter a) (does_block w at enter b) (OwnBlock a ++ OwnBlock b)
+      open_from (lone k) plain pc s = subst (λ ys. From (attempt w at enter k (raised_alone w at k) (λ p t. stay t) pc s) ys) (append-nil (Own k)) (attempt_from k (raised_alone w at k) (λ p t. stay t) [] [] (effect_none k plain) (λ xs h. h) (λ p t. tt) pc s)
+      open_from (try k hang h) plain pc s = attempt_from k (touches w at (try k hang h)) (does_block w at enter h) [] (OwnBlock h) (effect_none k plain.0) (λ xs i. none xs (OwnBlock h) i) (λ p t. open_list h plain.1 p t) pc s
+      open_from (if_else hang e a b) plain pc s = select_from e (touches w at (if_else hang e a b)) (does_block w at enter a) (does_block w at enter b) (OwnBlock a ++ OwnBlock b) (λ p t. sublist_front _ (OwnBlock a) (OwnBlock b) (open_list a plain.0 p t)) (λ p t. sublist_behind _ (OwnBlock a) (OwnBlock b) (open_list b plain.1 p t)) pc s
+      open_from (try_then k hang a b) plain pc s =
+          attempt_then_from k plain.0 (touches w at (try_then k hang a b)) (does_block w at enter a) (does_block w at enter b) (OwnBlock a ++ OwnBlock b)
           (λ p t. sublist_front _ (OwnBlock a) (OwnBlock b) (open_list a plain.1 p t)) (λ p t. sublist_behind _ (OwnBlock a) (OwnBlock b) (open_list b plain.2 p t)) pc s
-      open_from (Case hang e arms) plain pc s = pick_from e (touches w at (Case hang e arms)) (does_arms w at enter arms) (OwnArms arms) (λ v p t. open_arms arms plain v p t) pc s
+      open_from (case_of hang e arms) plain pc s = pick_from e (touches w at (case_of hang e arms)) (does_arms w at enter arms) (OwnArms arms) (λ v p t. open_arms arms plain v p t) pc s
 
       open_arms : (arms : Arms) → OpenArms arms → (v pc : ℕ) (s : Store) → From (does_arms w at enter arms v pc s) (OwnArms arms)
-      open_arms (Last b) plain v pc s = open_list b plain pc s
-      open_arms (Arm cs b arms) plain v pc s =
+      open_arms (last_arm b) plain v pc s = open_list b plain pc s
+      open_arms (and_arm cs b arms) plain v pc s =
           choose_all (λ z. From z (OwnBlock b ++ OwnArms arms)) cs (does_block w at enter b) (does_arms w at enter arms) v pc s
           (sublist_front _ (OwnBlock b) (OwnArms arms) (open_list b plain.0 pc s)) (sublist_behind _ (OwnBlock b) (OwnArms arms) (open_arms arms plain.1 v pc s))
 
       open_list : (b : Block) → OpenBlock b → (pc : ℕ) (s : Store) → From (does_block w at enter b pc s) (OwnBlock b)
-      open_list End plain pc s = tt
-      open_list (Then c cs) plain pc s = rw (refused-append (does w at enter c pc s).refused) (sublist_append _ (sites w at.state at.children c) _ (OwnBlock cs) (open_from c plain.0 pc s) (open_list cs plain.1 pc _))
+      open_list end_block plain pc s = tt
+      open_list (command_then c cs) plain pc s = rw (refused-append (does w at enter c pc s).refused) (sublist_append _ (sites w at.state at.children c) _ (OwnBlock cs) (open_from c plain.0 pc s) (open_list cs plain.1 pc _))
 
     mutual
       unfolding does does_arms does_block
 
       final_from : (c : Command) → Final c → (pc : ℕ) (s : Store) → From (does w at enter c pc s) (sites w at.state at.children c ++ below)
-      final_from (Do k) final pc s = attempt_from k (raised_alone w at k) (λ p t. stay t) below below (effect_from k) (λ xs h. h) (λ p t. tt) pc s
-      final_from (Try k hang h) final pc s =
-          subst (λ ys. From (attempt w at enter k (touches w at (Try k hang h)) (does_block w at enter h) pc s) ys) (sym (append_assoc (Own k) (OwnBlock h) below))
-          (attempt_from k (touches w at (Try k hang h)) (does_block w at enter h) below (OwnBlock h ++ below) (effect_from k) (λ xs i. sublist_behind xs (OwnBlock h) below i) (λ p t. closing_from h final.1 p t) pc s)
-      final_from (If hang e a b) final pc s =
-          select_from e (touches w at (If hang e a b)) (does_block w at enter a) (does_block w at enter b) ((OwnBlock a ++ OwnBlock b) ++ below)
+      final_from (lone k) final pc s = attempt_from k (raised_alone w at k) (λ p t. stay t) below below (effect_from k) (λ xs h. h) (λ p t. tt) pc s
+      final_from (try k hang h) final pc s =
+          subst (λ ys. From (attempt w at enter k (touches w at (try k hang h)) (does_block w at enter h) pc s) ys) (sym (append_assoc (Own k) (OwnBlock h) below))
+          (attempt_from k (touches w at (try k hang h)) (does_block w at enter h) below (OwnBlock h ++ below) (effect_from k) (λ xs i. sublist_behind xs (OwnBlock h) below i) (λ p t. closing_from h final.1 p t) pc s)
+      final_from (if_else hang e a b) final pc s =
+          select_from e (touches w at (if_else hang e a b)) (does_block w at enter a) (does_block w at enter b) ((OwnBlock a ++ OwnBlock b) ++ below)
           (λ p t. sublist_between _ (OwnBlock a) (OwnBlock b) below (closing_from a final.0 p t))
           (λ p t. subst (λ ys. From (does_block w at enter b p t) ys) (sym (append_assoc (OwnBlock a) (OwnBlock b) below)) (sublist_behind _ (OwnBlock a) (OwnBlock b ++ below) (closing_from b final.1 p t))) pc s
-      final_from (TryThen k hang a b) final pc s =
-          subst (λ ys. From (attempt_then w at enter k (touches w at (TryThen k hang a b)) (does_block w at enter a) (does_block w at enter b) pc s) ys)
+      final_from (try_then k hang a b) final pc s =
+          subst (λ ys. From (attempt_then w at enter k (touches w at (try_then k hang a b)) (does_block w at enter a) (does_block w at enter b) pc s) ys)
           (sym (append_assoc (Own k) (OwnBlock a ++ OwnBlock b) below))
-          (attempt_then_from k final.0 (touches w at (TryThen k hang a b)) (does_block w at enter a) (does_block w at enter b) ((OwnBlock a ++ OwnBlock b) ++ below)
+          (attempt_then_from k final.0 (touches w at (try_then k hang a b)) (does_block w at enter a) (does_block w at enter b) ((OwnBlock a ++ OwnBlock b) ++ below)
           (λ p t. sublist_between _ (OwnBlock a) (OwnBlock b) below (closing_from a final.1 p t))
           (λ p t. subst (λ ys. From (does_block w at enter b p t) ys) (sym (append_assoc (OwnBlock a) (OwnBlock b) below)) (sublist_behind _ (OwnBlock a) (OwnBlock b ++ below) (closing_from b final.2 p t))) pc s)
-      final_from (Case hang e arms) final pc s =
-          pick_from e (touches w at (Case hang e arms)) (does_arms w at enter arms) (OwnArms arms ++ below) (λ v p t. closing_arms arms final v p t) pc s
+      final_from (case_of hang e arms) final pc s =
+          pick_from e (touches w at (case_of hang e arms)) (does_arms w at enter arms) (OwnArms arms ++ below) (λ v p t. closing_arms arms final v p t) pc s
 
       closing_arms : (arms : Arms) → ClosingArms arms → (v pc : ℕ) (s : Store) → From (does_arms w at enter arms v pc s) (OwnArms arms ++ below)
-      closing_arms (Last b) closes v pc s = closing_from b closes pc s
-      closing_arms (Arm cs b arms) closes v pc s =
+      closing_arms (last_arm b) closes v pc s = closing_from b closes pc s
+      closing_arms (and_arm cs b arms) closes v pc s =
           choose_all (λ z. From z ((OwnBlock b ++ OwnArms arms) ++ below)) cs (does_block w at enter b) (does_arms w at enter arms) v pc s
           (sublist_between _ (OwnBlock b) (OwnArms arms) below (closing_from b closes.0 pc s))
           (subst (λ ys. From (does_arms w at enter arms v pc s) ys) (sym (append_assoc (OwnBlock b) (OwnArms arms) below))
           (sublist_behind _ (OwnBlock b) (OwnArms arms ++ below) (closing_arms arms closes.1 v pc s)))
 
       pub closing_from : (b : Block) → Closes b → (pc : ℕ) (s : Store) → From (does_block w at enter b pc s) (OwnBlock b ++ below)
-      closing_from End closes pc s = absurd closes
-      closing_from (Then c End) closes pc s =
+      closing_from end_block closes pc s = absurd closes
+      closing_from (command_then c end_block) closes pc s =
           rw (refused-append (does w at enter c pc s).refused, append-nil (refused_sites (does w at enter c pc s).refused), append-nil (sites w at.state at.children c)) (final_from c closes pc s)
-      closing_from (Then c (Then d ds)) closes pc s =
+      closing_from (command_then c (command_then d ds)) closes pc s =
           rw (refused-append (does w at enter c pc s).refused)
-          (subst (λ ys. Sublist (refused_sites (does w at enter c pc s).refused ++ refused_sites (does_block w at enter (Then d ds) pc (does w at enter c pc s).store).refused) ys) (sym (append_assoc (sites w at.state at.children c) (OwnBlock (Then d ds)) below))
-          (sublist_append _ (sites w at.state at.children c) _ (OwnBlock (Then d ds) ++ below) (open_from c closes.0 pc s) (closing_from (Then d ds) closes.1 pc _)))
+          (subst (λ ys. Sublist (refused_sites (does w at enter c pc s).refused ++ refused_sites (does_block w at enter (command_then d ds) pc (does w at enter c pc s).store).refused) ys) (sym (append_assoc (sites w at.state at.children c) (OwnBlock (command_then d ds)) below))
+          (sublist_append _ (sites w at.state at.children c) _ (OwnBlock (command_then d ds) ++ below) (open_from c closes.0 pc s) (closing_from (command_then d ds) closes.1 pc _)))
 
   mutual
     unfolding does_state does_child
 
     state_from : (t : State) (p : ℕ) (q : Group) (n : ℕ) → FineState w q n t → (pc : ℕ) (s : Store) → From (does_state w t p pc s) (state_sites w t)
-    state_from (Node e b g) p q n fine pc s = closing_from (record { state = e; parent = p; children = g }) (does_child w g e) (group_sites w g) (λ m z u. child_from g e g 0 fine.1 m z u) b fine.0.closes pc s
+    state_from (state_node e b g) p q n fine pc s = closing_from (record { state = e; parent = p; children = g }) (does_child w g e) (group_sites w g) (λ m z u. child_from g e g 0 fine.1 m z u) b fine.0.closes pc s
 
     child_from : (g : Group) (p : ℕ) (q : Group) (n : ℕ) → FineGroup w q n g → (m pc : ℕ) (s : Store) → From (does_child w g p m pc s) (group_sites w g)
-    child_from None p q n fine m pc s = tt
-    child_from (More t g) p q n fine zero pc s = sublist_front _ (state_sites w t) (group_sites w g) (state_from t p q n fine.0 pc s)
-    child_from (More t g) p q n fine (suc m) pc s = sublist_behind _ (state_sites w t) (group_sites w g) (child_from g p q (suc n) fine.1 m pc s)
+    child_from no_node p q n fine m pc s = tt
+    child_from (and_node t g) p q n fine zero pc s = sublist_front _ (state_sites w t) (group_sites w g) (state_from t p q n fine.0 pc s)
+    child_from (and_node t g) p q n fine (suc m) pc s = sublist_behind _ (state_sites w t) (group_sites w g) (child_from g p q (suc n) fine.1 m pc s)
 
   root_from : (hang : ℕ → Bool) (p : ℕ) (g : Group) (q : Group) (n : ℕ) → FineGroup w q n g → (m : ℕ) (s : Store) → From (root_fall w hang (λ t. does_state w t p) g m s) (group_sites w g)
   unfolding root_fall
-  root_from hang p None q n fine m s = tt
-  root_from hang p (More (Node c b k) g) q n fine zero s = sublist_front _ (state_sites w (Node c b k)) (group_sites w g) (state_from (Node c b k) p q n fine.0 _ _)
-  root_from hang p (More (Node c b k) g) q n fine (suc m) s = sublist_behind _ (state_sites w (Node c b k)) (group_sites w g) (root_from hang p g q (suc n) fine.1 m s)
+  root_from hang p no_node q n fine m s = tt
+  root_from hang p (and_node (state_node c b k) g) q n fine zero s = sublist_front _ (state_sites w (state_node c b k)) (group_sites w g) (state_from (state_node c b k) p q n fine.0 _ _)
+  root_from hang p (and_node (state_node c b k) g) q n fine (suc m) s = sublist_behind _ (state_sites w (state_node c b k)) (group_sites w g) (root_from hang p g q (suc n) fine.1 m s)
 
 pub sites_law : SitesInOrder
 unfolding cycle

@@ -6,7 +6,7 @@ use Rattle.sap_lemmas.proofs.Bools.{and_false}
 use Rattle.sap_lattice.specs.Order.{Laws}
 use Rattle.sap_maps.specs.Term.{constant, read, cell, two}
 use Rattle.sap_bits.specs.declared.Op2.TheVariants.{Eq}
-use Rattle.sap_meaning.specs.Program.{entity, is_dynamic, is_input, authority, width, below, listed, Set, Write, Goto, Fall, Command, Do, Try, If, End, Then, Node, None, More}
+use Rattle.sap_meaning.specs.Program.{entity, is_dynamic, is_input, authority, width, below, listed, assign, write, go_to, fall_to_child, Command, lone, try, if_else, end_block, command_then, state_node, no_node, and_node}
 use Rattle.sap_meaning.specs.Checks.{Spot}
 use Rattle.sap_meaning.specs.Touches.{touches, root_touches}
 use Rattle.sap_meaning.specs.Fine.{FineNode, FineProgram, ExactProgram, ExactList, reaches, block_reaches, OnceState, inside}
@@ -84,13 +84,13 @@ abbrev spot_p : Spot
 spot_p = record { state = 5; parent = 9; children = sample_kids }
 
 abbrev handled : Command
-handled = Try (Set 1 2 (cell 3 (read 0))) [] (Then (Do (Set 2 2 (constant 8 9))) End)
+handled = try (assign 1 2 (cell 3 (read 0))) [] (command_then (lone (assign 2 2 (constant 8 9))) end_block)
 
 abbrev falling : Command
-falling = Try (Fall 5 on_fall) on_fall (Then (Do (Goto 6 5)) End)
+falling = try (fall_to_child 5 on_fall) on_fall (command_then (lone (go_to 6 5)) end_block)
 
 abbrev choosing : Command
-choosing = If on_fall (two Eq (read 0) (constant 2 1)) (Then (Do (Goto 4 8)) End) (Then falling End)
+choosing = if_else on_fall (two Eq (read 0) (constant 2 1)) (command_then (lone (go_to 4 8)) end_block) (command_then falling end_block)
 
 handled_exact : ExactList sample_world spot_p [] handled
 handled_exact = each (listed []) (touches sample_world spot_p handled) refl refl refl refl refl refl refl refl refl (λ x. rw (far x 2 (omega arith)) refl)
@@ -143,16 +143,16 @@ in_kids x h = elim (or_cases (nat_eq x 6) _ h) [
 differ : (m j k : ℕ) → nat_eq j k ≡ false → nat_eq m j ≡ true → nat_eq m k ≡ false
 differ m j k e h = rw (eqb-true m j h) e
 
-apart : (m : ℕ) → (reaches sample_kids (Do (Write 3 4 (read 0) (read 1))) m && block_reaches sample_kids (Then choosing End) m) ≡ false
+apart : (m : ℕ) → (reaches sample_kids (lone (write 3 4 (read 0) (read 1))) m && block_reaches sample_kids (command_then choosing end_block) m) ≡ false
 apart m = elim (cases_Bool (nat_eq m 4)) [
   | inl e ↦ rw (e, differ m 4 3 refl e) refl
   | inr e ↦ rw e refl
 ]
 
-after_seven : (x : ℕ) → inside (More (Node 8 body_q None) None) x ≡ true → 7 < x
+after_seven : (x : ℕ) → inside (and_node (state_node 8 body_q no_node) no_node) x ≡ true → 7 < x
 after_seven x h = elim (or_cases (nat_eq x 8) false h) [ inl e ↦ (let f = eqb-true x 8 e in omega arith) | inr e ↦ cc ]
 
-after_six : (x : ℕ) → inside (More (Node 7 body_d None) None) x ≡ true → 6 < x
+after_six : (x : ℕ) → inside (and_node (state_node 7 body_d no_node) no_node) x ≡ true → 6 < x
 after_six x h = elim (or_cases (nat_eq x 7) false h) [ inl e ↦ (let f = eqb-true x 7 e in omega arith) | inr e ↦ cc ]
 
 node_p : FineNode sample_world sample_states 0 5 body_p sample_kids
@@ -169,7 +169,7 @@ node_p = record {
   retags_below = λ x h. refl;
 }
 
-node_c : FineNode sample_world sample_kids 0 6 body_c None
+node_c : FineNode sample_world sample_kids 0 6 body_c no_node
 node_c = record {
   kind = refl;
   placed = refl;
@@ -183,7 +183,7 @@ node_c = record {
   retags_below = λ x h. cc;
 }
 
-node_d : FineNode sample_world sample_kids 1 7 body_d None
+node_d : FineNode sample_world sample_kids 1 7 body_d no_node
 node_d = record {
   kind = refl;
   placed = refl;
@@ -197,7 +197,7 @@ node_d = record {
   retags_below = λ x h. cc;
 }
 
-node_q : FineNode sample_world sample_states 1 8 body_q None
+node_q : FineNode sample_world sample_states 1 8 body_q no_node
 node_q = record {
   kind = refl;
   placed = refl;
@@ -211,16 +211,16 @@ node_q = record {
   retags_below = λ x h. cc;
 }
 
-once_c : OnceState (Node 6 body_c None)
+once_c : OnceState (state_node 6 body_c no_node)
 once_c = (tt, (tt, (tt, tt, λ m. refl), λ m. refl), λ m. and_false (nat_eq m 3))
 
-once_d : OnceState (Node 7 body_d None)
+once_d : OnceState (state_node 7 body_d no_node)
 once_d = (tt, (tt, tt, λ m. refl), λ m. refl)
 
-once_q : OnceState (Node 8 body_q None)
+once_q : OnceState (state_node 8 body_q no_node)
 once_q = (tt, (tt, (tt, tt, λ m. refl), λ m. refl), λ m. and_false (nat_eq m 4))
 
-once_p : OnceState (Node 5 body_p sample_kids)
+once_p : OnceState (state_node 5 body_p sample_kids)
 once_p = (
   (tt, (tt, tt, λ m. refl), λ m. refl),
   (tt, (((tt, tt, λ m. refl), (((once_c, (once_d, tt)), (tt, tt, λ m. refl), λ m. refl), tt, λ m. and_false _)), tt, λ m. and_false _), apart),

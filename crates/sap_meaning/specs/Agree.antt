@@ -1,7 +1,7 @@
 -- When streams, states and refusals agree at a level l.
 use Rattle.std.specs.Prelude.{◌≡◌, ℕ, zero, suc, true, false, List, [], ◌∷◌, ◌⊎◌, if◌then◌else◌}
 use Rattle.sap_lattice.specs.Order.{Order}
-use Rattle.sap_meaning.specs.Program.{World, Program, is_dynamic, is_register, is_memory, authority, root, Node, Group, None, More}
+use Rattle.sap_meaning.specs.Program.{World, Program, is_dynamic, is_register, is_memory, authority, root, state_node, Group, no_node, and_node}
 use Rattle.sap_meaning.specs.Store.{Store, Slot, own, start, next, start_whole, next_whole, owner, held, number, level, child, Refusal, After}
 use Rattle.sap_meaning.specs.Cycle.{Tagged}
 
@@ -36,10 +36,10 @@ pub record ActiveState : Type 0 where
 -- What is seen at l of the active path from the n-th of a group on: where its level is at or below l, the state with its level,
 -- and what is seen below it; else nothing.
 abbrev pub seen_from : World → ℕ → Group → ℕ → Store → List ActiveState
-seen_from w l None n s = []
-seen_from w l (More (Node c b k) g) zero s =
+seen_from w l no_node n s = []
+seen_from w l (and_node (state_node c b k) g) zero s =
     if w.order.le (level w (own c) s) l then record { state = c; level = level w (own c) s } ∷ seen_from w l k (child c s) s else []
-seen_from w l (More t g) (suc n) s = seen_from w l g n s
+seen_from w l (and_node t g) (suc n) s = seen_from w l g n s
 
 -- what is seen at l of the active path, from the root on
 abbrev pub seen_path : Program → ℕ → Store → List ActiveState

@@ -1,6 +1,6 @@
 -- The test and the guard of each step.
 use Rattle.std.specs.Prelude.{ℕ, zero, suc, Bool, true, ◌&&◌, ◌||◌, if◌then◌else◌}
-use Rattle.sap_meaning.specs.Program.{World, is_dynamic, authority, Step, Set, Write, Retag, RetagCell, Goto, Fall, Node, Group, None, More}
+use Rattle.sap_meaning.specs.Program.{World, is_dynamic, authority, Step, assign, write, retag, retag_cell, go_to, fall_to_child, state_node, Group, no_node, and_node}
 use Rattle.sap_meaning.specs.Store.{Store, own, start, level, child}
 use Rattle.sap_meaning.specs.Expressions.{value, tag, new_level, told}
 
@@ -11,12 +11,12 @@ pub record Spot : Type 0 where
   pub children : Group
 
 abbrev pub site_of : Step → ℕ
-site_of (Set site x e) = site
-site_of (Write site m i e) = site
-site_of (Retag site x n) = site
-site_of (RetagCell site m j n) = site
-site_of (Goto site target) = site
-site_of (Fall site hang) = site
+site_of (assign site x e) = site
+site_of (write site m i e) = site
+site_of (retag site x n) = site
+site_of (retag_cell site m j n) = site
+site_of (go_to site target) = site
+site_of (fall_to_child site hang) = site
 
 -- what entering a state tells at least: its authority, the bottom where it is dynamic
 abbrev pub entry : World → ℕ → ℕ
@@ -24,9 +24,9 @@ entry w x = if is_dynamic w x then w.order.bottom else authority w x
 
 -- the level of the n-th child; where there is none, the bottom
 abbrev pub child_level : World → Group → ℕ → Store → ℕ
-child_level w None n s = w.order.bottom
-child_level w (More (Node c b k) g) zero s = level w (own c) s
-child_level w (More t g) (suc n) s = child_level w g n s
+child_level w no_node n s = w.order.bottom
+child_level w (and_node (state_node c b k) g) zero s = level w (own c) s
+child_level w (and_node t g) (suc n) s = child_level w g n s
 
 -- whether a fall may enter a child in the context pc
 abbrev pub opens : World → ℕ → ℕ → Store → Bool
@@ -34,27 +34,27 @@ opens w c pc s = is_dynamic w c || w.order.le pc (level w (own c) s)
 
 -- whether a fall may enter the n-th child; where there is none, it may
 abbrev pub child_opens : World → Group → ℕ → ℕ → Store → Bool
-child_opens w None n pc s = true
-child_opens w (More (Node c b k) g) zero pc s = opens w c pc s
-child_opens w (More t g) (suc n) pc s = child_opens w g n pc s
+child_opens w no_node n pc s = true
+child_opens w (and_node (state_node c b k) g) zero pc s = opens w c pc s
+child_opens w (and_node t g) (suc n) pc s = child_opens w g n pc s
 
 abbrev pub guard : World → Spot → Step → Store → ℕ
-guard w at (Set site x e) s = if is_dynamic w x then w.order.bottom else level w (own x) s
-guard w at (Write site m i e) s = if is_dynamic w m then w.order.bottom else w.order.join (tag w i s) (level w (start m (value w i s)) s)
-guard w at (Retag site x n) s = authority w x
-guard w at (RetagCell site m j n) s = authority w m
-guard w at (Goto site target) s = entry w target
-guard w at (Fall site hang) s = child_level w at.children (child at.state s) s
+guard w at (assign site x e) s = if is_dynamic w x then w.order.bottom else level w (own x) s
+guard w at (write site m i e) s = if is_dynamic w m then w.order.bottom else w.order.join (tag w i s) (level w (start m (value w i s)) s)
+guard w at (retag site x n) s = authority w x
+guard w at (retag_cell site m j n) s = authority w m
+guard w at (go_to site target) s = entry w target
+guard w at (fall_to_child site hang) s = child_level w at.children (child at.state s) s
 
 abbrev pub test : World → Spot → Step → ℕ → Store → Bool
-test w at (Set site x e) pc s = is_dynamic w x || w.order.le (w.order.join pc (tag w e s)) (level w (own x) s)
-test w at (Write site m i e) pc s =
+test w at (assign site x e) pc s = is_dynamic w x || w.order.le (w.order.join pc (tag w e s)) (level w (own x) s)
+test w at (write site m i e) pc s =
     is_dynamic w m || w.order.le (w.order.join pc (w.order.join (tag w i s) (tag w e s))) (level w (start m (value w i s)) s)
-test w at (Retag site x n) pc s =
+test w at (retag site x n) pc s =
     w.order.le (w.order.join pc (told w n s)) (authority w x) && w.order.le (authority w x) (new_level w n s)
-test w at (RetagCell site m j n) pc s =
+test w at (retag_cell site m j n) pc s =
     w.order.le (w.order.join pc (w.order.join (told w n s) (tag w j s))) (authority w m) && w.order.le (authority w m) (new_level w n s)
-test w at (Goto site target) pc s =
+test w at (go_to site target) pc s =
     (is_dynamic w target || w.order.le pc (level w (own target) s))
     && (is_dynamic w at.state || w.order.le (w.order.join pc (entry w target)) (level w (own at.state) s))
-test w at (Fall site hang) pc s = child_opens w at.children (child at.state s) pc s
+test w at (fall_to_child site hang) pc s = child_opens w at.children (child at.state s) pc s

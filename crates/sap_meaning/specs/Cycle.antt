@@ -1,6 +1,6 @@
 -- One cycle, and a run over a stream.
 use Rattle.std.specs.Prelude.{ℕ, zero, suc, Bool, List, [], ◌∷◌, get_or, if◌then◌else◌}
-use Rattle.sap_meaning.specs.Program.{World, Entity, kind_is_input, is_input, root, listed, State, Node, Group, None, More, Program}
+use Rattle.sap_meaning.specs.Program.{World, Entity, kind_is_input, is_input, root, listed, State, state_node, Group, no_node, and_node, Program}
 use Rattle.sap_meaning.specs.Store.{Store, Slot, own, start, next, start_whole, next_whole, level, child, raise, settle, After, stay}
 use Rattle.sap_meaning.specs.Touches.{root_touches}
 use Rattle.sap_meaning.specs.Does.{does_state}
@@ -38,11 +38,11 @@ set_inputs w inputs s = record s {
 -- The root's fall into the n-th top-level state: all that it touches is raised by that state's level, and its body,
 -- `body t`, runs in that level.
 unfoldable pub root_fall : World → (ℕ → Bool) → (State → ℕ → Store → After) → Group → (n : ℕ) → Store → After
-root_fall w hangs body None n s = stay s
-root_fall w hangs body (More (Node c b k) g) zero s =
+root_fall w hangs body no_node n s = stay s
+root_fall w hangs body (and_node (state_node c b k) g) zero s =
     let t = level w (own c) s in
-    body (Node c b k) t (raise w.order hangs t s)
-root_fall w hangs body (More t g) (suc n) s = root_fall w hangs body g n s
+    body (state_node c b k) t (raise w.order hangs t s)
+root_fall w hangs body (and_node t g) (suc n) s = root_fall w hangs body g n s
 
 -- the inputs are set, the root falls, and the next parts become the start parts
 unfoldable pub cycle : Program → List Tagged → Store → After

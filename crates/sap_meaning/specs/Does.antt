@@ -3,7 +3,7 @@
 use Rattle.std.specs.Prelude.{ℕ, zero, suc, Bool, List, ◌∷◌, if◌then◌else◌, nat_eq}
 use Rattle.std.specs.List.{list_any}
 use Rattle.sap_maps.specs.Term.{Term}
-use Rattle.sap_meaning.specs.Program.{World, is_dynamic, place, Step, Set, Write, Retag, RetagCell, Goto, Fall, Command, Do, Try, If, TryThen, Case, Arms, Last, Arm, Block, End, Then, State, Node, Group, None, More}
+use Rattle.sap_meaning.specs.Program.{World, is_dynamic, place, Step, assign, write, retag, retag_cell, go_to, fall_to_child, Command, lone, try, if_else, try_then, case_of, Arms, last_arm, and_arm, Block, end_block, command_then, State, state_node, Group, no_node, and_node}
 use Rattle.sap_meaning.specs.Store.{Store, own, start, next, number, level, child, put_number, put_level, put_child, raise, reset, Refusal, After, stay, and_then}
 use Rattle.sap_meaning.specs.Expressions.{value, tag, new_level}
 use Rattle.sap_meaning.specs.Checks.{Spot, site_of, child_level, guard, test}
@@ -12,23 +12,23 @@ use Rattle.sap_meaning.specs.Touches.{touches, raised_alone}
 -- The effect of a step whose test held in `before`, on the store after the raises. `enter n` is what the body of the
 -- n-th child does in a context.
 unfoldable pub effect : World → Spot → (ℕ → ℕ → Store → After) → Step → ℕ → (before : Store) → Store → After
-effect w at enter (Set site x e) pc before s =
+effect w at enter (assign site x e) pc before s =
     let t = if is_dynamic w x then w.order.join pc (tag w e before) else level w (own x) s in
     stay (put_level w (own x) t (put_number (own x) (value w e before) s))
-effect w at enter (Write site m i e) pc before s =
+effect w at enter (write site m i e) pc before s =
     let t = w.order.join pc (w.order.join (tag w i before) (tag w e before)) in
     stay (put_number (next m (value w i before)) (value w e before) (if is_dynamic w m then raise w.order (λ x. nat_eq x m) t s else s))
-effect w at enter (Retag site x n) pc before s =
+effect w at enter (retag site x n) pc before s =
     let t = new_level w n before in
     stay (put_level w (own x) t (put_number (own x) (if w.order.le (level w (own x) before) t then number (own x) before else 0) s))
-effect w at enter (RetagCell site m j n) pc before s =
+effect w at enter (retag_cell site m j n) pc before s =
     let t = new_level w n before in
     let i = value w j before in
     stay (put_level w (next m i) t (put_number (next m i) (if w.order.le (level w (start m i) before) t then number (start m i) before else 0) s))
-effect w at enter (Goto site target) pc before s =
+effect w at enter (go_to site target) pc before s =
     let moved = reset w target (put_child at.parent (place w target) s) in
     stay (if is_dynamic w target then put_level w (own target) pc moved else moved)
-effect w at enter (Fall site hang) pc before s =
+effect w at enter (fall_to_child site hang) pc before s =
     enter (child at.state before) (w.order.join pc (child_level w at.children (child at.state before) before)) s
 
 -- A step: what it raises is raised by its guard. A refused site is told before what the handler refuses, which runs in
@@ -76,29 +76,29 @@ choose_arm constants arm others n pc s = if is_constant constants n then arm pc 
 
 unfoldable mutual
   pub does : World → Spot → (ℕ → ℕ → Store → After) → Command → ℕ → Store → After
-  does w at enter (Do k) = attempt w at enter k (raised_alone w at k) (λ pc s. stay s)
-  does w at enter (Try k hang h) = attempt w at enter k (touches w at (Try k hang h)) (does_block w at enter h)
-  does w at enter (If hang e a b) = select w e (touches w at (If hang e a b)) (branch (does_block w at enter a) (does_block w at enter b))
-  does w at enter (TryThen k hang a b) = attempt_then w at enter k (touches w at (TryThen k hang a b)) (does_block w at enter a) (does_block w at enter b)
-  does w at enter (Case hang e arms) = select w e (touches w at (Case hang e arms)) (does_arms w at enter arms)
+  does w at enter (lone k) = attempt w at enter k (raised_alone w at k) (λ pc s. stay s)
+  does w at enter (try k hang h) = attempt w at enter k (touches w at (try k hang h)) (does_block w at enter h)
+  does w at enter (if_else hang e a b) = select w e (touches w at (if_else hang e a b)) (branch (does_block w at enter a) (does_block w at enter b))
+  does w at enter (try_then k hang a b) = attempt_then w at enter k (touches w at (try_then k hang a b)) (does_block w at enter a) (does_block w at enter b)
+  does w at enter (case_of hang e arms) = select w e (touches w at (case_of hang e arms)) (does_arms w at enter arms)
 
   -- the block of the first arm that has the number, else the last block
   pub does_arms : World → Spot → (ℕ → ℕ → Store → After) → Arms → ℕ → ℕ → Store → After
-  does_arms w at enter (Last b) = λ n. does_block w at enter b
-  does_arms w at enter (Arm constants b arms) = choose_arm constants (does_block w at enter b) (does_arms w at enter arms)
+  does_arms w at enter (last_arm b) = λ n. does_block w at enter b
+  does_arms w at enter (and_arm constants b arms) = choose_arm constants (does_block w at enter b) (does_arms w at enter arms)
 
   -- a list of commands, in order
   pub does_block : World → Spot → (ℕ → ℕ → Store → After) → Block → ℕ → Store → After
-  does_block w at enter End pc s = stay s
-  does_block w at enter (Then c cs) pc s = and_then (does w at enter c pc s) (does_block w at enter cs pc)
+  does_block w at enter end_block pc s = stay s
+  does_block w at enter (command_then c cs) pc s = and_then (does w at enter c pc s) (does_block w at enter cs pc)
 
 unfoldable mutual
   -- a state's body
   pub does_state : World → State → (parent : ℕ) → ℕ → Store → After
-  does_state w (Node s b g) parent pc st = does_block w (record { state = s; parent = parent; children = g }) (does_child w g s) b pc st
+  does_state w (state_node s b g) parent pc st = does_block w (record { state = s; parent = parent; children = g }) (does_child w g s) b pc st
 
   -- the body of the n-th state of the parent's group
   pub does_child : World → Group → (parent n : ℕ) → ℕ → Store → After
-  does_child w None parent n pc st = stay st
-  does_child w (More t g) parent zero pc st = does_state w t parent pc st
-  does_child w (More t g) parent (suc n) pc st = does_child w g parent n pc st
+  does_child w no_node parent n pc st = stay st
+  does_child w (and_node t g) parent zero pc st = does_state w t parent pc st
+  does_child w (and_node t g) parent (suc n) pc st = does_child w g parent n pc st

@@ -2,7 +2,7 @@
 use Rattle.std.specs.Prelude.{◌≡◌, ℕ, zero, suc, ◌<◌, ◌≤◌, Bool, true, false, ◌&&◌, ◌||◌, List, nat_eq}
 use Rattle.sap_lattice.specs.Order.{Laws}
 use Rattle.sap_maps.specs.Term.{Term, constant, read, cell, one, two, choose, join, part}
-use Rattle.sap_meaning.specs.Program.{World, Program, entity, is_dynamic, is_input, is_register, is_memory, is_state, authority, children, root, place, last, below, listed, LevelTerm, fixed, of, at_place, both, Step, Set, Write, Retag, RetagCell, Goto, Fall, Command, Do, Try, If, TryThen, Case, Arms, Last, Arm, Block, End, Then, State, Node, Group, None, More}
+use Rattle.sap_meaning.specs.Program.{World, Program, entity, is_dynamic, is_input, is_register, is_memory, is_state, authority, children, root, place, last, below, listed, LevelTerm, fixed, of, at_place, both, Step, assign, write, retag, retag_cell, go_to, fall_to_child, Command, lone, try, if_else, try_then, case_of, Arms, last_arm, and_arm, Block, end_block, command_then, State, state_node, Group, no_node, and_node}
 use Rattle.sap_meaning.specs.Checks.{Spot}
 use Rattle.sap_meaning.specs.Touches.{among, touches, root_touches}
 
@@ -26,138 +26,138 @@ FineLevel w (both a b) = FineLevel w a × FineLevel w b
 
 -- how many states a group has
 abbrev pub size : Group → ℕ
-size None = 0
-size (More t g) = suc (size g)
+size no_node = 0
+size (and_node t g) = suc (size g)
 
 -- What is assigned is a register or a memory, what gets a level is enforced, and a goto's target is one of the states
 -- of the group in which the body's state is. A fall has children to fall into.
 abbrev pub FineStep : World → (siblings children : Group) → Step → Type 0
-FineStep w q g (Set site x e) = (is_register w x ≡ true) × FineTerm w e
-FineStep w q g (Write site m i e) = (is_memory w m ≡ true) × FineTerm w i × FineTerm w e
-FineStep w q g (Retag site x n) = ((is_register w x || is_state w x) ≡ true) × (is_dynamic w x ≡ false) × FineLevel w n
-FineStep w q g (RetagCell site m j n) = (is_memory w m ≡ true) × (is_dynamic w m ≡ false) × FineTerm w j × FineLevel w n
-FineStep w q g (Goto site target) = among q target ≡ true
-FineStep w q g (Fall site hang) = 0 < size g
+FineStep w q g (assign site x e) = (is_register w x ≡ true) × FineTerm w e
+FineStep w q g (write site m i e) = (is_memory w m ≡ true) × FineTerm w i × FineTerm w e
+FineStep w q g (retag site x n) = ((is_register w x || is_state w x) ≡ true) × (is_dynamic w x ≡ false) × FineLevel w n
+FineStep w q g (retag_cell site m j n) = (is_memory w m ≡ true) × (is_dynamic w m ≡ false) × FineTerm w j × FineLevel w n
+FineStep w q g (go_to site target) = among q target ≡ true
+FineStep w q g (fall_to_child site hang) = 0 < size g
 
 abbrev mutual
   pub FineCommand : World → (siblings children : Group) → Command → Type 0
-  FineCommand w q g (Do k) = FineStep w q g k
-  FineCommand w q g (Try k hang h) = FineStep w q g k × FineBlock w q g h
-  FineCommand w q g (If hang e a b) = FineTerm w e × FineBlock w q g a × FineBlock w q g b
-  FineCommand w q g (TryThen k hang a b) = FineStep w q g k × FineBlock w q g a × FineBlock w q g b
-  FineCommand w q g (Case hang e arms) = FineTerm w e × FineArms w q g arms
+  FineCommand w q g (lone k) = FineStep w q g k
+  FineCommand w q g (try k hang h) = FineStep w q g k × FineBlock w q g h
+  FineCommand w q g (if_else hang e a b) = FineTerm w e × FineBlock w q g a × FineBlock w q g b
+  FineCommand w q g (try_then k hang a b) = FineStep w q g k × FineBlock w q g a × FineBlock w q g b
+  FineCommand w q g (case_of hang e arms) = FineTerm w e × FineArms w q g arms
 
   pub FineArms : World → (siblings children : Group) → Arms → Type 0
-  FineArms w q g (Last b) = FineBlock w q g b
-  FineArms w q g (Arm constants b arms) = FineBlock w q g b × FineArms w q g arms
+  FineArms w q g (last_arm b) = FineBlock w q g b
+  FineArms w q g (and_arm constants b arms) = FineBlock w q g b × FineArms w q g arms
 
   pub FineBlock : World → (siblings children : Group) → Block → Type 0
-  FineBlock w q g End = Unit {0}
-  FineBlock w q g (Then c cs) = FineCommand w q g c × FineBlock w q g cs
+  FineBlock w q g end_block = Unit {0}
+  FineBlock w q g (command_then c cs) = FineCommand w q g c × FineBlock w q g cs
 
 -- a goto or a fall
 abbrev pub transfers : Step → Bool
-transfers (Set site x e) = false
-transfers (Write site m i e) = false
-transfers (Retag site x n) = false
-transfers (RetagCell site m j n) = false
-transfers (Goto site target) = true
-transfers (Fall site hang) = true
+transfers (assign site x e) = false
+transfers (write site m i e) = false
+transfers (retag site x n) = false
+transfers (retag_cell site m j n) = false
+transfers (go_to site target) = true
+transfers (fall_to_child site hang) = true
 
 -- no transfer stands in it
 abbrev mutual
   pub Open : Command → Type 0
-  Open (Do k) = transfers k ≡ false
-  Open (Try k hang h) = (transfers k ≡ false) × OpenBlock h
-  Open (If hang e a b) = OpenBlock a × OpenBlock b
-  Open (TryThen k hang a b) = (transfers k ≡ false) × OpenBlock a × OpenBlock b
-  Open (Case hang e arms) = OpenArms arms
+  Open (lone k) = transfers k ≡ false
+  Open (try k hang h) = (transfers k ≡ false) × OpenBlock h
+  Open (if_else hang e a b) = OpenBlock a × OpenBlock b
+  Open (try_then k hang a b) = (transfers k ≡ false) × OpenBlock a × OpenBlock b
+  Open (case_of hang e arms) = OpenArms arms
 
   pub OpenArms : Arms → Type 0
-  OpenArms (Last b) = OpenBlock b
-  OpenArms (Arm constants b arms) = OpenBlock b × OpenArms arms
+  OpenArms (last_arm b) = OpenBlock b
+  OpenArms (and_arm constants b arms) = OpenBlock b × OpenArms arms
 
   pub OpenBlock : Block → Type 0
-  OpenBlock End = Unit {0}
-  OpenBlock (Then c cs) = Open c × OpenBlock cs
+  OpenBlock end_block = Unit {0}
+  OpenBlock (command_then c cs) = Open c × OpenBlock cs
 
 -- A list closes: its last command is a transfer, whose handler closes, or an `if` whose branches close, or a `then` whose
 -- command is no transfer or a `case`, whose blocks close, and all before it are open.
 abbrev mutual
   pub Closes : Block → Type 0
-  Closes End = ⊥
-  Closes (Then c End) = Final c
-  Closes (Then c (Then d ds)) = Open c × Closes (Then d ds)
+  Closes end_block = ⊥
+  Closes (command_then c end_block) = Final c
+  Closes (command_then c (command_then d ds)) = Open c × Closes (command_then d ds)
 
   pub Final : Command → Type 0
-  Final (Do k) = transfers k ≡ true
-  Final (Try k hang h) = (transfers k ≡ true) × Closes h
-  Final (If hang e a b) = Closes a × Closes b
-  Final (TryThen k hang a b) = (transfers k ≡ false) × Closes a × Closes b
-  Final (Case hang e arms) = ClosingArms arms
+  Final (lone k) = transfers k ≡ true
+  Final (try k hang h) = (transfers k ≡ true) × Closes h
+  Final (if_else hang e a b) = Closes a × Closes b
+  Final (try_then k hang a b) = (transfers k ≡ false) × Closes a × Closes b
+  Final (case_of hang e arms) = ClosingArms arms
 
   pub ClosingArms : Arms → Type 0
-  ClosingArms (Last b) = Closes b
-  ClosingArms (Arm constants b arms) = Closes b × ClosingArms arms
+  ClosingArms (last_arm b) = Closes b
+  ClosingArms (and_arm constants b arms) = Closes b × ClosingArms arms
 
 -- a step writes or retags a cell of the memory m
 abbrev pub step_writes : Step → ℕ → Bool
-step_writes (Set site x e) m = false
-step_writes (Write site n i e) m = nat_eq m n
-step_writes (Retag site x n) m = false
-step_writes (RetagCell site n j t) m = nat_eq m n
-step_writes (Goto site target) m = false
-step_writes (Fall site hang) m = false
+step_writes (assign site x e) m = false
+step_writes (write site n i e) m = nat_eq m n
+step_writes (retag site x n) m = false
+step_writes (retag_cell site n j t) m = nat_eq m n
+step_writes (go_to site target) m = false
+step_writes (fall_to_child site hang) m = false
 
 abbrev mutual
   pub writes : Command → ℕ → Bool
-  writes (Do k) m = step_writes k m
-  writes (Try k hang h) m = step_writes k m || block_writes h m
-  writes (If hang e a b) m = block_writes a m || block_writes b m
-  writes (TryThen k hang a b) m = step_writes k m || (block_writes a m || block_writes b m)
-  writes (Case hang e arms) m = arms_write arms m
+  writes (lone k) m = step_writes k m
+  writes (try k hang h) m = step_writes k m || block_writes h m
+  writes (if_else hang e a b) m = block_writes a m || block_writes b m
+  writes (try_then k hang a b) m = step_writes k m || (block_writes a m || block_writes b m)
+  writes (case_of hang e arms) m = arms_write arms m
 
   pub arms_write : Arms → ℕ → Bool
-  arms_write (Last b) m = block_writes b m
-  arms_write (Arm constants b arms) m = block_writes b m || arms_write arms m
+  arms_write (last_arm b) m = block_writes b m
+  arms_write (and_arm constants b arms) m = block_writes b m || arms_write arms m
 
   pub block_writes : Block → ℕ → Bool
-  block_writes End m = false
-  block_writes (Then c cs) m = writes c m || block_writes cs m
+  block_writes end_block m = false
+  block_writes (command_then c cs) m = writes c m || block_writes cs m
 
 -- it writes m, or falls, where m is written by what a fall leads to
 abbrev pub step_reaching : (falls : ℕ → Bool) → Step → ℕ → Bool
-step_reaching falls (Set site x e) m = false
-step_reaching falls (Write site n i e) m = nat_eq m n
-step_reaching falls (Retag site x n) m = false
-step_reaching falls (RetagCell site n j t) m = nat_eq m n
-step_reaching falls (Goto site target) m = false
-step_reaching falls (Fall site hang) m = falls m
+step_reaching falls (assign site x e) m = false
+step_reaching falls (write site n i e) m = nat_eq m n
+step_reaching falls (retag site x n) m = false
+step_reaching falls (retag_cell site n j t) m = nat_eq m n
+step_reaching falls (go_to site target) m = false
+step_reaching falls (fall_to_child site hang) m = falls m
 
 abbrev mutual
   pub reaching : (falls : ℕ → Bool) → Command → ℕ → Bool
-  reaching falls (Do k) m = step_reaching falls k m
-  reaching falls (Try k hang h) m = step_reaching falls k m || block_reaching falls h m
-  reaching falls (If hang e a b) m = block_reaching falls a m || block_reaching falls b m
-  reaching falls (TryThen k hang a b) m = step_reaching falls k m || (block_reaching falls a m || block_reaching falls b m)
-  reaching falls (Case hang e arms) m = arms_reaching falls arms m
+  reaching falls (lone k) m = step_reaching falls k m
+  reaching falls (try k hang h) m = step_reaching falls k m || block_reaching falls h m
+  reaching falls (if_else hang e a b) m = block_reaching falls a m || block_reaching falls b m
+  reaching falls (try_then k hang a b) m = step_reaching falls k m || (block_reaching falls a m || block_reaching falls b m)
+  reaching falls (case_of hang e arms) m = arms_reaching falls arms m
 
   pub arms_reaching : (falls : ℕ → Bool) → Arms → ℕ → Bool
-  arms_reaching falls (Last b) m = block_reaching falls b m
-  arms_reaching falls (Arm constants b arms) m = block_reaching falls b m || arms_reaching falls arms m
+  arms_reaching falls (last_arm b) m = block_reaching falls b m
+  arms_reaching falls (and_arm constants b arms) m = block_reaching falls b m || arms_reaching falls arms m
 
   pub block_reaching : (falls : ℕ → Bool) → Block → ℕ → Bool
-  block_reaching falls End m = false
-  block_reaching falls (Then c cs) m = reaching falls c m || block_reaching falls cs m
+  block_reaching falls end_block m = false
+  block_reaching falls (command_then c cs) m = reaching falls c m || block_reaching falls cs m
 
 -- the body of a state writes m, or one that it may fall into does
 abbrev mutual
   pub state_reaches : State → ℕ → Bool
-  state_reaches (Node s b g) m = block_reaching (group_reaches g) b m
+  state_reaches (state_node s b g) m = block_reaching (group_reaches g) b m
 
   pub group_reaches : Group → ℕ → Bool
-  group_reaches None m = false
-  group_reaches (More t g) m = state_reaches t m || group_reaches g m
+  group_reaches no_node m = false
+  group_reaches (and_node t g) m = state_reaches t m || group_reaches g m
 
 -- it writes m, or a body that it may fall into does, where g are the children
 abbrev pub step_reaches : Group → Step → ℕ → Bool
@@ -171,91 +171,91 @@ block_reaches g b m = block_reaching (group_reaches g) b m
 
 -- a fall asks for what has to hold where it leads
 abbrev pub OnceStep : (below : Type 0) → Step → Type 0
-OnceStep below (Set site x e) = Unit {0}
-OnceStep below (Write site m i e) = Unit {0}
-OnceStep below (Retag site x n) = Unit {0}
-OnceStep below (RetagCell site m j n) = Unit {0}
-OnceStep below (Goto site target) = Unit {0}
-OnceStep below (Fall site hang) = below
+OnceStep below (assign site x e) = Unit {0}
+OnceStep below (write site m i e) = Unit {0}
+OnceStep below (retag site x n) = Unit {0}
+OnceStep below (retag_cell site m j n) = Unit {0}
+OnceStep below (go_to site target) = Unit {0}
+OnceStep below (fall_to_child site hang) = below
 
 -- No memory is written after it was written, on any path: a refused fall has entered no child before its handler. What comes
 -- behind an accepted step comes behind all that the step reaches.
 abbrev mutual
   pub Once : Group → (below : Type 0) → Command → Type 0
-  Once g below (Do k) = OnceStep below k
-  Once g below (Try k hang h) = OnceStep below k × OnceBlock g below h × ((m : ℕ) → (step_writes k m && block_reaches g h m) ≡ false)
-  Once g below (If hang e a b) = OnceBlock g below a × OnceBlock g below b
-  Once g below (TryThen k hang a b) =
+  Once g below (lone k) = OnceStep below k
+  Once g below (try k hang h) = OnceStep below k × OnceBlock g below h × ((m : ℕ) → (step_writes k m && block_reaches g h m) ≡ false)
+  Once g below (if_else hang e a b) = OnceBlock g below a × OnceBlock g below b
+  Once g below (try_then k hang a b) =
       OnceStep below k × OnceBlock g below a × OnceBlock g below b
       × ((m : ℕ) → (step_reaches g k m && block_reaches g a m) ≡ false) × ((m : ℕ) → (step_writes k m && block_reaches g b m) ≡ false)
-  Once g below (Case hang e arms) = OnceArms g below arms
+  Once g below (case_of hang e arms) = OnceArms g below arms
 
   pub OnceArms : Group → (below : Type 0) → Arms → Type 0
-  OnceArms g below (Last b) = OnceBlock g below b
-  OnceArms g below (Arm constants b arms) = OnceBlock g below b × OnceArms g below arms
+  OnceArms g below (last_arm b) = OnceBlock g below b
+  OnceArms g below (and_arm constants b arms) = OnceBlock g below b × OnceArms g below arms
 
   pub OnceBlock : Group → (below : Type 0) → Block → Type 0
-  OnceBlock g below End = Unit {0}
-  OnceBlock g below (Then c cs) = Once g below c × OnceBlock g below cs × ((m : ℕ) → (reaches g c m && block_reaches g cs m) ≡ false)
+  OnceBlock g below end_block = Unit {0}
+  OnceBlock g below (command_then c cs) = Once g below c × OnceBlock g below cs × ((m : ℕ) → (reaches g c m && block_reaches g cs m) ≡ false)
 
 -- So it is in the bodies of these states, and in all bodies that they may fall into. No path comes to any other.
 abbrev mutual
   pub OnceState : State → Type 0
-  OnceState (Node s b g) = OnceBlock g (OnceGroup g) b
+  OnceState (state_node s b g) = OnceBlock g (OnceGroup g) b
 
   pub OnceGroup : Group → Type 0
-  OnceGroup None = Unit {0}
-  OnceGroup (More t g) = OnceState t × OnceGroup g
+  OnceGroup no_node = Unit {0}
+  OnceGroup (and_node t g) = OnceState t × OnceGroup g
 
 -- a step gives the register or state x a level
 abbrev pub step_retags : Step → ℕ → Bool
-step_retags (Set site y e) x = false
-step_retags (Write site m i e) x = false
-step_retags (Retag site y n) x = nat_eq x y
-step_retags (RetagCell site m j n) x = false
-step_retags (Goto site target) x = false
-step_retags (Fall site hang) x = false
+step_retags (assign site y e) x = false
+step_retags (write site m i e) x = false
+step_retags (retag site y n) x = nat_eq x y
+step_retags (retag_cell site m j n) x = false
+step_retags (go_to site target) x = false
+step_retags (fall_to_child site hang) x = false
 
 abbrev mutual
   pub retags : Command → ℕ → Bool
-  retags (Do k) x = step_retags k x
-  retags (Try k hang h) x = step_retags k x || block_retags h x
-  retags (If hang e a b) x = block_retags a x || block_retags b x
-  retags (TryThen k hang a b) x = step_retags k x || (block_retags a x || block_retags b x)
-  retags (Case hang e arms) x = arms_retag arms x
+  retags (lone k) x = step_retags k x
+  retags (try k hang h) x = step_retags k x || block_retags h x
+  retags (if_else hang e a b) x = block_retags a x || block_retags b x
+  retags (try_then k hang a b) x = step_retags k x || (block_retags a x || block_retags b x)
+  retags (case_of hang e arms) x = arms_retag arms x
 
   pub arms_retag : Arms → ℕ → Bool
-  arms_retag (Last b) x = block_retags b x
-  arms_retag (Arm constants b arms) x = block_retags b x || arms_retag arms x
+  arms_retag (last_arm b) x = block_retags b x
+  arms_retag (and_arm constants b arms) x = block_retags b x || arms_retag arms x
 
   pub block_retags : Block → ℕ → Bool
-  block_retags End x = false
-  block_retags (Then c cs) x = retags c x || block_retags cs x
+  block_retags end_block x = false
+  block_retags (command_then c cs) x = retags c x || block_retags cs x
 
 abbrev mutual
   pub state_retags : State → ℕ → Bool
-  state_retags (Node s b g) x = block_retags b x || group_retags g x
+  state_retags (state_node s b g) x = block_retags b x || group_retags g x
 
   pub group_retags : Group → ℕ → Bool
-  group_retags None x = false
-  group_retags (More t g) x = state_retags t x || group_retags g x
+  group_retags no_node x = false
+  group_retags (and_node t g) x = state_retags t x || group_retags g x
 
 -- x is a state of the group, or below one
 abbrev pub inside : Group → ℕ → Bool
-inside None x = false
-inside (More (Node s b k) g) x = nat_eq x s || (inside k x || inside g x)
+inside no_node x = false
+inside (and_node (state_node s b k) g) x = nat_eq x s || (inside k x || inside g x)
 
 abbrev pub number_of : State → ℕ
-number_of (Node s b g) = s
+number_of (state_node s b g) = s
 
 abbrev pub kids_of : State → Group
-kids_of (Node s b g) = g
+kids_of (state_node s b g) = g
 
 -- the state is the n-th of the group
 abbrev pub Nth : Group → ℕ → State → Type 0
-Nth None n t = ⊥
-Nth (More a g) zero t = a ≡ t
-Nth (More a g) (suc n) t = Nth g n t
+Nth no_node n t = ⊥
+Nth (and_node a g) zero t = a ≡ t
+Nth (and_node a g) (suc n) t = Nth g n t
 
 -- A state with its body and its children g, the n-th of its group q.
 pub record FineNode (w : World) (q : Group) (n s : ℕ) (b : Block) (g : Group) : Type 0 where
@@ -274,48 +274,48 @@ pub record FineNode (w : World) (q : Group) (n s : ℕ) (b : Block) (g : Group) 
 
 abbrev mutual
   pub FineState : World → (siblings : Group) → (place : ℕ) → State → Type 0
-  FineState w q n (Node s b g) = FineNode w q n s b g × FineGroup w g 0 g
+  FineState w q n (state_node s b g) = FineNode w q n s b g × FineGroup w g 0 g
 
   -- the states of q from the n-th on, each with numbers before those of the later ones
   pub FineGroup : World → (siblings : Group) → (place : ℕ) → Group → Type 0
-  FineGroup w q n None = Unit {0}
-  FineGroup w q n (More t g) = FineState w q n t × FineGroup w q (suc n) g × ((x : ℕ) → inside g x ≡ true → last w (number_of t) < x)
+  FineGroup w q n no_node = Unit {0}
+  FineGroup w q n (and_node t g) = FineState w q n t × FineGroup w q (suc n) g × ((x : ℕ) → inside g x ≡ true → last w (number_of t) < x)
 
 -- each list in the program has exactly what hangs
 abbrev pub ExactList : World → Spot → List Bool → Command → Type 0
 ExactList w at hang c = (x : ℕ) → listed hang x ≡ touches w at c x
 
 abbrev pub ExactStep : World → Spot → Step → Type 0
-ExactStep w at (Set site x e) = Unit {0}
-ExactStep w at (Write site m i e) = Unit {0}
-ExactStep w at (Retag site x n) = Unit {0}
-ExactStep w at (RetagCell site m j n) = Unit {0}
-ExactStep w at (Goto site target) = Unit {0}
-ExactStep w at (Fall site hang) = ExactList w at hang (Do (Fall site hang))
+ExactStep w at (assign site x e) = Unit {0}
+ExactStep w at (write site m i e) = Unit {0}
+ExactStep w at (retag site x n) = Unit {0}
+ExactStep w at (retag_cell site m j n) = Unit {0}
+ExactStep w at (go_to site target) = Unit {0}
+ExactStep w at (fall_to_child site hang) = ExactList w at hang (lone (fall_to_child site hang))
 
 abbrev mutual
   pub Exact : World → Spot → Command → Type 0
-  Exact w at (Do k) = ExactStep w at k
-  Exact w at (Try k hang h) = ExactList w at hang (Try k hang h) × ExactBlock w at h
-  Exact w at (If hang e a b) = ExactList w at hang (If hang e a b) × ExactBlock w at a × ExactBlock w at b
-  Exact w at (TryThen k hang a b) = ExactList w at hang (TryThen k hang a b) × ExactBlock w at a × ExactBlock w at b
-  Exact w at (Case hang e arms) = ExactList w at hang (Case hang e arms) × ExactArms w at arms
+  Exact w at (lone k) = ExactStep w at k
+  Exact w at (try k hang h) = ExactList w at hang (try k hang h) × ExactBlock w at h
+  Exact w at (if_else hang e a b) = ExactList w at hang (if_else hang e a b) × ExactBlock w at a × ExactBlock w at b
+  Exact w at (try_then k hang a b) = ExactList w at hang (try_then k hang a b) × ExactBlock w at a × ExactBlock w at b
+  Exact w at (case_of hang e arms) = ExactList w at hang (case_of hang e arms) × ExactArms w at arms
 
   pub ExactArms : World → Spot → Arms → Type 0
-  ExactArms w at (Last b) = ExactBlock w at b
-  ExactArms w at (Arm constants b arms) = ExactBlock w at b × ExactArms w at arms
+  ExactArms w at (last_arm b) = ExactBlock w at b
+  ExactArms w at (and_arm constants b arms) = ExactBlock w at b × ExactArms w at arms
 
   pub ExactBlock : World → Spot → Block → Type 0
-  ExactBlock w at End = Unit {0}
-  ExactBlock w at (Then c cs) = Exact w at c × ExactBlock w at cs
+  ExactBlock w at end_block = Unit {0}
+  ExactBlock w at (command_then c cs) = Exact w at c × ExactBlock w at cs
 
 abbrev mutual
   pub ExactState : World → (parent : ℕ) → State → Type 0
-  ExactState w p (Node s b g) = ExactBlock w (record { state = s; parent = p; children = g }) b × ExactGroup w s g
+  ExactState w p (state_node s b g) = ExactBlock w (record { state = s; parent = p; children = g }) b × ExactGroup w s g
 
   pub ExactGroup : World → (parent : ℕ) → Group → Type 0
-  ExactGroup w p None = Unit {0}
-  ExactGroup w p (More t g) = ExactState w p t × ExactGroup w p g
+  ExactGroup w p no_node = Unit {0}
+  ExactGroup w p (and_node t g) = ExactState w p t × ExactGroup w p g
 
 pub record ExactProgram (p : Program) : Type 0 where
   pub lists : ExactGroup p.world (root p.world) p.states

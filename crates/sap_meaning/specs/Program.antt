@@ -126,40 +126,40 @@ pub data LevelTerm : Type 0 where
 -- A command that may be a check site, with the site's number where it is one: `x := e`, `m[i] := e`, `setTag(x, n)`
 -- on a register or a state, `setTag(m[j], n)`, `goto s`, and `fall`, with what hangs on it.
 pub data Step : Type 0 where
-  Set : (site register : ℕ) → Term ℕ → Step
-  Write : (site memory : ℕ) → (index value : Term ℕ) → Step
-  Retag : (site entity : ℕ) → LevelTerm → Step
-  RetagCell : (site memory : ℕ) → (index : Term ℕ) → LevelTerm → Step
-  Goto : (site target : ℕ) → Step
-  Fall : (site : ℕ) → (hang : List Bool) → Step
+  assign : (site register : ℕ) → Term ℕ → Step
+  write : (site memory : ℕ) → (index value : Term ℕ) → Step
+  retag : (site entity : ℕ) → LevelTerm → Step
+  retag_cell : (site memory : ℕ) → (index : Term ℕ) → LevelTerm → Step
+  go_to : (site target : ℕ) → Step
+  fall_to_child : (site : ℕ) → (hang : List Bool) → Step
 
 mutual
   -- A step alone, a step with `otherwise`, `if`, a step with `then` and `otherwise`, and `case`, all but the first with what
   -- hangs on them: at each entity's number whether it hangs.
   pub data Command : Type 0 where
-    Do : Step → Command
-    Try : Step → (hang : List Bool) → (handler : Block) → Command
-    If : (hang : List Bool) → (condition : Term ℕ) → (then_part else_part : Block) → Command
-    TryThen : Step → (hang : List Bool) → (accepted refused : Block) → Command
-    Case : (hang : List Bool) → (number : Term ℕ) → Arms → Command
+    lone : Step → Command
+    try : Step → (hang : List Bool) → (handler : Block) → Command
+    if_else : (hang : List Bool) → (condition : Term ℕ) → (then_part else_part : Block) → Command
+    try_then : Step → (hang : List Bool) → (accepted refused : Block) → Command
+    case_of : (hang : List Bool) → (number : Term ℕ) → Arms → Command
 
   -- the arms of a `case`, each with the numbers of its constants, and the block after `else`
   pub data Arms : Type 0 where
-    Last : Block → Arms
-    Arm : (constants : List ℕ) → Block → Arms → Arms
+    last_arm : Block → Arms
+    and_arm : (constants : List ℕ) → Block → Arms → Arms
 
   pub data Block : Type 0 where
-    End : Block
-    Then : Command → Block → Block
+    end_block : Block
+    command_then : Command → Block → Block
 
 mutual
   -- a state with its number, its body and its children
   pub data State : Type 0 where
-    Node : (number : ℕ) → (body : Block) → (children : Group) → State
+    state_node : (number : ℕ) → (body : Block) → (children : Group) → State
 
   pub data Group : Type 0 where
-    None : Group
-    More : State → Group → Group
+    no_node : Group
+    and_node : State → Group → Group
 
 -- `states` are the top-level states, `hang` is what hangs on the root's fall.
 pub record Program : Type 0 where

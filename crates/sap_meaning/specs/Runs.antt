@@ -1,6 +1,6 @@
 -- The same with what hangs taken from the lists in the program, as the machine and the compiler take it.
 use Rattle.std.specs.Prelude.{ℕ, zero, suc, Bool, false}
-use Rattle.sap_meaning.specs.Program.{World, listed, Step, Set, Write, Retag, RetagCell, Goto, Fall, Command, Do, Try, If, TryThen, Case, Arms, Last, Arm, Block, End, Then, State, Node, Group, None, More}
+use Rattle.sap_meaning.specs.Program.{World, listed, Step, assign, write, retag, retag_cell, go_to, fall_to_child, Command, lone, try, if_else, try_then, case_of, Arms, last_arm, and_arm, Block, end_block, command_then, State, state_node, Group, no_node, and_node}
 use Rattle.sap_meaning.specs.Store.{Store, After, stay, and_then}
 use Rattle.sap_meaning.specs.Checks.{Spot}
 use Rattle.sap_meaning.specs.Touches.{touches}
@@ -8,34 +8,34 @@ use Rattle.sap_meaning.specs.Does.{attempt, attempt_then, select, branch, choose
 
 -- what a step with no handler raises: for a goto the state in whose body it stands, if dynamic
 abbrev pub listed_alone : World → Spot → Step → ℕ → Bool
-listed_alone w at (Set site y e) x = false
-listed_alone w at (Write site m i e) x = false
-listed_alone w at (Retag site y n) x = false
-listed_alone w at (RetagCell site m j n) x = false
-listed_alone w at (Goto site target) x = touches w at (Do (Goto site target)) x
-listed_alone w at (Fall site hang) x = listed hang x
+listed_alone w at (assign site y e) x = false
+listed_alone w at (write site m i e) x = false
+listed_alone w at (retag site y n) x = false
+listed_alone w at (retag_cell site m j n) x = false
+listed_alone w at (go_to site target) x = touches w at (lone (go_to site target)) x
+listed_alone w at (fall_to_child site hang) x = listed hang x
 
 unfoldable mutual
   pub run : World → Spot → (ℕ → ℕ → Store → After) → Command → ℕ → Store → After
-  run w at enter (Do k) = attempt w at enter k (listed_alone w at k) (λ pc s. stay s)
-  run w at enter (Try k hang h) = attempt w at enter k (listed hang) (run_block w at enter h)
-  run w at enter (If hang e a b) = select w e (listed hang) (branch (run_block w at enter a) (run_block w at enter b))
-  run w at enter (TryThen k hang a b) = attempt_then w at enter k (listed hang) (run_block w at enter a) (run_block w at enter b)
-  run w at enter (Case hang e arms) = select w e (listed hang) (run_arms w at enter arms)
+  run w at enter (lone k) = attempt w at enter k (listed_alone w at k) (λ pc s. stay s)
+  run w at enter (try k hang h) = attempt w at enter k (listed hang) (run_block w at enter h)
+  run w at enter (if_else hang e a b) = select w e (listed hang) (branch (run_block w at enter a) (run_block w at enter b))
+  run w at enter (try_then k hang a b) = attempt_then w at enter k (listed hang) (run_block w at enter a) (run_block w at enter b)
+  run w at enter (case_of hang e arms) = select w e (listed hang) (run_arms w at enter arms)
 
   pub run_arms : World → Spot → (ℕ → ℕ → Store → After) → Arms → ℕ → ℕ → Store → After
-  run_arms w at enter (Last b) = λ n. run_block w at enter b
-  run_arms w at enter (Arm constants b arms) = choose_arm constants (run_block w at enter b) (run_arms w at enter arms)
+  run_arms w at enter (last_arm b) = λ n. run_block w at enter b
+  run_arms w at enter (and_arm constants b arms) = choose_arm constants (run_block w at enter b) (run_arms w at enter arms)
 
   pub run_block : World → Spot → (ℕ → ℕ → Store → After) → Block → ℕ → Store → After
-  run_block w at enter End pc s = stay s
-  run_block w at enter (Then c cs) pc s = and_then (run w at enter c pc s) (run_block w at enter cs pc)
+  run_block w at enter end_block pc s = stay s
+  run_block w at enter (command_then c cs) pc s = and_then (run w at enter c pc s) (run_block w at enter cs pc)
 
 unfoldable mutual
   pub run_state : World → State → (parent : ℕ) → ℕ → Store → After
-  run_state w (Node s b g) parent pc st = run_block w (record { state = s; parent = parent; children = g }) (run_child w g s) b pc st
+  run_state w (state_node s b g) parent pc st = run_block w (record { state = s; parent = parent; children = g }) (run_child w g s) b pc st
 
   pub run_child : World → Group → (parent n : ℕ) → ℕ → Store → After
-  run_child w None parent n pc st = stay st
-  run_child w (More t g) parent zero pc st = run_state w t parent pc st
-  run_child w (More t g) parent (suc n) pc st = run_child w g parent n pc st
+  run_child w no_node parent n pc st = stay st
+  run_child w (and_node t g) parent zero pc st = run_state w t parent pc st
+  run_child w (and_node t g) parent (suc n) pc st = run_child w g parent n pc st

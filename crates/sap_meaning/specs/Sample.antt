@@ -2,7 +2,7 @@
 use Rattle.std.specs.Prelude.{Bool, true, false, List, [], ◌∷◌}
 use Rattle.sap_maps.specs.Term.{constant, read, cell, two}
 use Rattle.sap_bits.specs.declared.Op2.TheVariants.{Eq}
-use Rattle.sap_meaning.specs.Program.{Entity, World, fixed, of, at_place, Set, Write, Retag, RetagCell, Goto, Fall, Do, Try, If, Block, End, Then, Node, Group, None, More, Program}
+use Rattle.sap_meaning.specs.Program.{Entity, World, fixed, of, at_place, assign, write, retag, retag_cell, go_to, fall_to_child, lone, try, if_else, Block, end_block, command_then, state_node, Group, no_node, and_node, Program}
 use Rattle.sap_meaning.specs.Examples.{two_levels, an_input, a_register, held_register, a_memory, held_memory, a_state, held_state}
 use Rattle.sap_meaning.specs.Fine.{FineProgram, ExactProgram}
 use Rattle.sap_meaning.specs.Sized.{SizedProgram}
@@ -26,27 +26,27 @@ on_root = false ∷ true ∷ false ∷ true ∷ []
 
 -- m[a] := 5; x := m[a]; goto D;
 abbrev pub body_c : Block
-body_c = Then (Do (Write 0 3 (read 0) (constant 8 5))) (Then (Do (Set 0 1 (cell 3 (read 0)))) (Then (Do (Goto 7 7)) End))
+body_c = command_then (lone (write 0 3 (read 0) (constant 8 5))) (command_then (lone (assign 0 1 (cell 3 (read 0)))) (command_then (lone (go_to 7 7)) end_block))
 
 -- setTag(y, high); goto C;
 abbrev pub body_d : Block
-body_d = Then (Do (Retag 8 2 (fixed 1))) (Then (Do (Goto 9 6)) End)
+body_d = command_then (lone (retag 8 2 (fixed 1))) (command_then (lone (go_to 9 6)) end_block)
 
 -- setTag(k[a], level(a)); setTag(D, tag(x)); goto P;
 abbrev pub body_q : Block
-body_q = Then (Do (RetagCell 10 4 (read 0) (at_place (read 0)))) (Then (Do (Retag 11 7 (of (read 1)))) (Then (Do (Goto 12 5)) End))
+body_q = command_then (lone (retag_cell 10 4 (read 0) (at_place (read 0)))) (command_then (lone (retag 11 7 (of (read 1)))) (command_then (lone (go_to 12 5)) end_block))
 
 -- y := m[a] otherwise { y := 9; } k[a] := x; if (a == 1) { goto Q; } else { fall otherwise { goto P; } }
 abbrev pub body_p : Block
-body_p = Then (Try (Set 1 2 (cell 3 (read 0))) [] (Then (Do (Set 2 2 (constant 8 9))) End))
-    (Then (Do (Write 3 4 (read 0) (read 1)))
-    (Then (If on_fall (two Eq (read 0) (constant 2 1)) (Then (Do (Goto 4 8)) End) (Then (Try (Fall 5 on_fall) on_fall (Then (Do (Goto 6 5)) End)) End)) End))
+body_p = command_then (try (assign 1 2 (cell 3 (read 0))) [] (command_then (lone (assign 2 2 (constant 8 9))) end_block))
+    (command_then (lone (write 3 4 (read 0) (read 1)))
+    (command_then (if_else on_fall (two Eq (read 0) (constant 2 1)) (command_then (lone (go_to 4 8)) end_block) (command_then (try (fall_to_child 5 on_fall) on_fall (command_then (lone (go_to 6 5)) end_block)) end_block)) end_block))
 
 abbrev pub sample_kids : Group
-sample_kids = More (Node 6 body_c None) (More (Node 7 body_d None) None)
+sample_kids = and_node (state_node 6 body_c no_node) (and_node (state_node 7 body_d no_node) no_node)
 
 abbrev pub sample_states : Group
-sample_states = More (Node 5 body_p sample_kids) (More (Node 8 body_q None) None)
+sample_states = and_node (state_node 5 body_p sample_kids) (and_node (state_node 8 body_q no_node) no_node)
 
 abbrev pub sample : Program
 sample = record { world = sample_world; states = sample_states; hang = on_root }

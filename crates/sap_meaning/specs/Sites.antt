@@ -1,50 +1,50 @@
 -- The check sites of a program, in the order of the text.
 use Rattle.std.specs.Prelude.{◌≡◌, ℕ, ◌≤◌, suc, Bool, true, false, not, ◌||◌, List, [], ◌∷◌, ◌++◌, ◌⊎◌, if◌then◌else◌}
-use Rattle.sap_meaning.specs.Program.{World, Program, is_dynamic, Step, Set, Write, Retag, RetagCell, Goto, Fall, Command, Do, Try, If, TryThen, Case, Arms, Last, Arm, Block, End, Then, State, Node, Group, None, More}
+use Rattle.sap_meaning.specs.Program.{World, Program, is_dynamic, Step, assign, write, retag, retag_cell, go_to, fall_to_child, Command, lone, try, if_else, try_then, case_of, Arms, last_arm, and_arm, Block, end_block, command_then, State, state_node, Group, no_node, and_node}
 use Rattle.sap_meaning.specs.Store.{Refusal}
 use Rattle.sap_meaning.specs.Checks.{site_of}
 
 -- one of the states of a group is enforced
 abbrev pub some_enforced : World → Group → Bool
-some_enforced w None = false
-some_enforced w (More (Node c b k) g) = not (is_dynamic w c) || some_enforced w g
+some_enforced w no_node = false
+some_enforced w (and_node (state_node c b k) g) = not (is_dynamic w c) || some_enforced w g
 
 -- A step in the body of the state s with children g may be refused: an assignment or a write to what is enforced, every
 -- setTag, a goto from or to an enforced state, a fall where a child is enforced.
 abbrev pub is_site : World → ℕ → Group → Step → Bool
-is_site w s g (Set site x e) = not (is_dynamic w x)
-is_site w s g (Write site m i e) = not (is_dynamic w m)
-is_site w s g (Retag site x n) = true
-is_site w s g (RetagCell site m j n) = true
-is_site w s g (Goto site target) = not (is_dynamic w s) || not (is_dynamic w target)
-is_site w s g (Fall site hang) = some_enforced w g
+is_site w s g (assign site x e) = not (is_dynamic w x)
+is_site w s g (write site m i e) = not (is_dynamic w m)
+is_site w s g (retag site x n) = true
+is_site w s g (retag_cell site m j n) = true
+is_site w s g (go_to site target) = not (is_dynamic w s) || not (is_dynamic w target)
+is_site w s g (fall_to_child site hang) = some_enforced w g
 
 abbrev pub step_sites : World → ℕ → Group → Step → List ℕ
 step_sites w s g k = if is_site w s g k then site_of k ∷ [] else []
 
 abbrev mutual
   pub sites : World → ℕ → Group → Command → List ℕ
-  sites w s g (Do k) = step_sites w s g k
-  sites w s g (Try k hang h) = step_sites w s g k ++ block_sites w s g h
-  sites w s g (If hang e a b) = block_sites w s g a ++ block_sites w s g b
-  sites w s g (TryThen k hang a b) = step_sites w s g k ++ (block_sites w s g a ++ block_sites w s g b)
-  sites w s g (Case hang e arms) = arms_sites w s g arms
+  sites w s g (lone k) = step_sites w s g k
+  sites w s g (try k hang h) = step_sites w s g k ++ block_sites w s g h
+  sites w s g (if_else hang e a b) = block_sites w s g a ++ block_sites w s g b
+  sites w s g (try_then k hang a b) = step_sites w s g k ++ (block_sites w s g a ++ block_sites w s g b)
+  sites w s g (case_of hang e arms) = arms_sites w s g arms
 
   pub arms_sites : World → ℕ → Group → Arms → List ℕ
-  arms_sites w s g (Last b) = block_sites w s g b
-  arms_sites w s g (Arm constants b arms) = block_sites w s g b ++ arms_sites w s g arms
+  arms_sites w s g (last_arm b) = block_sites w s g b
+  arms_sites w s g (and_arm constants b arms) = block_sites w s g b ++ arms_sites w s g arms
 
   pub block_sites : World → ℕ → Group → Block → List ℕ
-  block_sites w s g End = []
-  block_sites w s g (Then c cs) = sites w s g c ++ block_sites w s g cs
+  block_sites w s g end_block = []
+  block_sites w s g (command_then c cs) = sites w s g c ++ block_sites w s g cs
 
 abbrev mutual
   pub state_sites : World → State → List ℕ
-  state_sites w (Node s b g) = block_sites w s g b ++ group_sites w g
+  state_sites w (state_node s b g) = block_sites w s g b ++ group_sites w g
 
   pub group_sites : World → Group → List ℕ
-  group_sites w None = []
-  group_sites w (More t g) = state_sites w t ++ group_sites w g
+  group_sites w no_node = []
+  group_sites w (and_node t g) = state_sites w t ++ group_sites w g
 
 abbrev pub program_sites : Program → List ℕ
 program_sites p = group_sites p.world p.states

@@ -1,7 +1,7 @@
 -- The widths of a program: what has a width fits where it stands.
 use Rattle.std.specs.Prelude.{◌≡◌, ℕ, ◌<◌, ◌^◌, List, [], ◌∷◌}
 use Rattle.sap_maps.specs.Term.{Term, constant, read, cell, one, two, choose, join, part, TermFits}
-use Rattle.sap_meaning.specs.Program.{World, Program, entity, width, depth_of, LevelTerm, fixed, of, at_place, both, Step, Set, Write, Retag, RetagCell, Goto, Fall, Command, Do, Try, If, TryThen, Case, Arms, Last, Arm, Block, End, Then, State, Node, Group, None, More}
+use Rattle.sap_meaning.specs.Program.{World, Program, entity, width, depth_of, LevelTerm, fixed, of, at_place, both, Step, assign, write, retag, retag_cell, go_to, fall_to_child, Command, lone, try, if_else, try_then, case_of, Arms, last_arm, and_arm, Block, end_block, command_then, State, state_node, Group, no_node, and_node}
 use Rattle.sap_meaning.specs.Expressions.{width_of}
 
 abbrev pub depth : World → ℕ → ℕ
@@ -32,12 +32,12 @@ SizedLevel w (at_place e) = SizedTerm w e
 SizedLevel w (both a b) = SizedLevel w a × SizedLevel w b
 
 abbrev pub SizedStep : World → Step → Type 0
-SizedStep w (Set site x e) = SizedTerm w e × (width_of w e ≡ width w x)
-SizedStep w (Write site m i e) = SizedTerm w i × Indexes w m i × SizedTerm w e × (width_of w e ≡ width w m)
-SizedStep w (Retag site x n) = SizedLevel w n
-SizedStep w (RetagCell site m j n) = SizedTerm w j × Indexes w m j × SizedLevel w n
-SizedStep w (Goto site target) = Unit {0}
-SizedStep w (Fall site hang) = Unit {0}
+SizedStep w (assign site x e) = SizedTerm w e × (width_of w e ≡ width w x)
+SizedStep w (write site m i e) = SizedTerm w i × Indexes w m i × SizedTerm w e × (width_of w e ≡ width w m)
+SizedStep w (retag site x n) = SizedLevel w n
+SizedStep w (retag_cell site m j n) = SizedTerm w j × Indexes w m j × SizedLevel w n
+SizedStep w (go_to site target) = Unit {0}
+SizedStep w (fall_to_child site hang) = Unit {0}
 
 -- numbers that a width can hold
 abbrev pub AreWithin : (width : ℕ) → List ℕ → Type 0
@@ -46,28 +46,28 @@ AreWithin u (n ∷ ns) = (n < 2 ^ u) × AreWithin u ns
 
 abbrev mutual
   pub Sized : World → Command → Type 0
-  Sized w (Do k) = SizedStep w k
-  Sized w (Try k hang h) = SizedStep w k × SizedBlock w h
-  Sized w (If hang e a b) = SizedTerm w e × (width_of w e ≡ 1) × SizedBlock w a × SizedBlock w b
-  Sized w (TryThen k hang a b) = SizedStep w k × SizedBlock w a × SizedBlock w b
-  Sized w (Case hang e arms) = SizedTerm w e × SizedArms w (width_of w e) arms
+  Sized w (lone k) = SizedStep w k
+  Sized w (try k hang h) = SizedStep w k × SizedBlock w h
+  Sized w (if_else hang e a b) = SizedTerm w e × (width_of w e ≡ 1) × SizedBlock w a × SizedBlock w b
+  Sized w (try_then k hang a b) = SizedStep w k × SizedBlock w a × SizedBlock w b
+  Sized w (case_of hang e arms) = SizedTerm w e × SizedArms w (width_of w e) arms
 
   -- constants that are compared with numbers of this width
   pub SizedArms : World → (width : ℕ) → Arms → Type 0
-  SizedArms w u (Last b) = SizedBlock w b
-  SizedArms w u (Arm constants b arms) = AreWithin u constants × SizedBlock w b × SizedArms w u arms
+  SizedArms w u (last_arm b) = SizedBlock w b
+  SizedArms w u (and_arm constants b arms) = AreWithin u constants × SizedBlock w b × SizedArms w u arms
 
   pub SizedBlock : World → Block → Type 0
-  SizedBlock w End = Unit {0}
-  SizedBlock w (Then c cs) = Sized w c × SizedBlock w cs
+  SizedBlock w end_block = Unit {0}
+  SizedBlock w (command_then c cs) = Sized w c × SizedBlock w cs
 
 abbrev mutual
   pub SizedState : World → State → Type 0
-  SizedState w (Node s b g) = SizedBlock w b × SizedGroup w g
+  SizedState w (state_node s b g) = SizedBlock w b × SizedGroup w g
 
   pub SizedGroup : World → Group → Type 0
-  SizedGroup w None = Unit {0}
-  SizedGroup w (More t g) = SizedState w t × SizedGroup w g
+  SizedGroup w no_node = Unit {0}
+  SizedGroup w (and_node t g) = SizedState w t × SizedGroup w g
 
 pub record SizedProgram (p : Program) : Type 0 where
   pub states : SizedGroup p.world p.states

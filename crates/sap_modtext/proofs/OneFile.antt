@@ -49,7 +49,7 @@ port_one e (g.output_reg a b c d) (g.output_wire a' b' c' d') = let k = (same_to
 port_one e (g.output_wire a b c d) (g.output_reg a' b' c' d') = let k = (same_token (after_word e a a') b.is b'.is).kind in absurd (cc)
 
 -- the lists end before the sign that closes them
-ports_one : {ts us r s m n : List Token} {xs ys : List Port} → ts ≡ us → ArePorts ts xs r → IsSign r t.CloseParen m → ArePorts us ys s → IsSign s t.CloseParen n
+ports_one : {ts us r s m n : List Token} {xs ys : List Port} → ts ≡ us → ArePorts ts xs r → IsSign r t.close_paren m → ArePorts us ys s → IsSign s t.close_paren n
     → Same xs ys r s
 ports_one e g.no_port h g.no_port h' = record { is = refl; others = e }
 ports_one e g.no_port h (g.next_port a b c) h' = let k = one_sign e h a in absurd (cc)
@@ -60,7 +60,7 @@ ports_one e (g.next_port a b c) h (g.next_port a' b' c') h' =
     let p = x.is in let q = xs.is in
     record { is = cc; others = xs.others }
 
-parts_one : {ts us r s m n : List Token} {xs ys : List Operand} → ts ≡ us → AreParts ts xs r → IsSign r t.CloseBrace m → AreParts us ys s → IsSign s t.CloseBrace n
+parts_one : {ts us r s m n : List Token} {xs ys : List Operand} → ts ≡ us → AreParts ts xs r → IsSign r t.close_brace m → AreParts us ys s → IsSign s t.close_brace n
     → Same xs ys r s
 parts_one e g.no_part h g.no_part h' = record { is = refl; others = e }
 parts_one e g.no_part h (g.next_part a b c) h' = let k = one_sign e h a in absurd (cc)
@@ -81,18 +81,18 @@ unary_same o p e = absurd (cc)
 
 -- an operator back from its sign
 operator_of : Sign → Option Op2
-operator_of t.Plus = Some binary.Add
-operator_of t.Minus = Some binary.Sub
-operator_of t.Star = Some binary.Mul
-operator_of t.Ampersand = Some binary.And
-operator_of t.Bar = Some binary.Or
-operator_of t.Caret = Some binary.Xor
-operator_of t.Equal = Some binary.Eq
-operator_of t.NotEqual = Some binary.Ne
-operator_of t.Less = Some binary.Lt
-operator_of t.LessOrEqual = Some binary.Le
-operator_of t.ShiftLeft = Some binary.Shl
-operator_of t.ShiftRight = Some binary.Shr
+operator_of t.plus = Some binary.Add
+operator_of t.minus = Some binary.Sub
+operator_of t.star = Some binary.Mul
+operator_of t.ampersand = Some binary.And
+operator_of t.bar = Some binary.Or
+operator_of t.caret = Some binary.Xor
+operator_of t.equal = Some binary.Eq
+operator_of t.not_equal = Some binary.Ne
+operator_of t.less = Some binary.Lt
+operator_of t.less_or_equal = Some binary.Le
+operator_of t.shift_left = Some binary.Shl
+operator_of t.shift_right = Some binary.Shr
 operator_of _ = None
 
 operator_is : (o : Op2) → operator_of (binary_sign o) ≡ Some o
@@ -118,10 +118,10 @@ binary_same o p e = let v = operator_is o in let w = operator_is p in let u = ap
 
 -- which right side begins with these three tokens
 behind_sign : Sign → Option Kind → ℕ
-behind_sign t.Semicolon k = 0
-behind_sign t.Question k = 1
-behind_sign t.OpenBracket (Some (t.number n d)) = 2
-behind_sign t.OpenBracket _ = 3
+behind_sign t.semicolon k = 0
+behind_sign t.question k = 1
+behind_sign t.open_bracket (Some (t.number n d)) = 2
+behind_sign t.open_bracket _ = 3
 behind_sign _ k = 4
 
 behind_operand : Option Kind → Option Kind → ℕ
@@ -130,7 +130,7 @@ behind_operand (Some (t.sign s)) k = behind_sign s k
 behind_operand _ k = 7
 
 from_sign : Sign → ℕ
-from_sign t.OpenBrace = 5
+from_sign t.open_brace = 5
 from_sign _ = 6
 
 tag_of : Option Kind → Option Kind → Option Kind → ℕ
@@ -166,7 +166,7 @@ record OperandToken (ts : List Token) (r : List Token) : Type 0 where
   kind : Kind
   is : IsToken ts place kind r
   tag : (k l : Option Kind) → tag_of (Some kind) k l ≡ behind_operand k l
-  index : (k : Option Kind) → behind_operand (Some (t.sign t.OpenBracket)) (Some kind) ≡ 3
+  index : (k : Option Kind) → behind_operand (Some (t.sign t.open_bracket)) (Some kind) ≡ 3
 
 operand_token : {ts r : List Token} {x : Operand} → IsOperand ts x r → OperandToken ts r
 unfolding tag_of behind_operand behind_sign
@@ -196,7 +196,7 @@ sign_in_front unary.AllOnes k l = refl
 sign_in_front unary.AnyOne k l = refl
 sign_in_front unary.Odd k l = refl
 
-tag_is : {ts r m : List Token} {x : Right} (h : IsRight ts x r) → IsSign r t.Semicolon m → right_tag ts ≡ tag h
+tag_is : {ts r m : List Token} {x : Right} (h : IsRight ts x r) → IsSign r t.semicolon m → right_tag ts ≡ tag h
 unfolding tag_of behind_operand behind_sign from_sign
 tag_is (g.copy a) z =
     let w = operand_token a in
@@ -214,10 +214,10 @@ tag_is (g.two o a b c) z =
 tag_is {ts} (g.concat a b c d e f) z = tag_from ts (kind_first a.is) refl refl
 tag_is {ts} (g.one o a b) z = tag_from ts (kind_first a.is) refl refl ∙ sign_in_front o (first_kind (others_of ts)) (first_kind (others_of (others_of ts)))
 
-same_tag : {ts us r s m n : List Token} {x y : Right} → ts ≡ us → (h : IsRight ts x r) → IsSign r t.Semicolon m → (i : IsRight us y s) → IsSign s t.Semicolon n → tag h ≡ tag i
+same_tag : {ts us r s m n : List Token} {x y : Right} → ts ≡ us → (h : IsRight ts x r) → IsSign r t.semicolon m → (i : IsRight us y s) → IsSign s t.semicolon n → tag h ≡ tag i
 same_tag e h z i z' = sym (tag_is h z) ∙ ap right_tag e ∙ tag_is i z'
 
-right_one : {ts us r s m n : List Token} {x y : Right} → ts ≡ us → IsRight ts x r → IsSign r t.Semicolon m → IsRight us y s → IsSign s t.Semicolon n → Same x y r s
+right_one : {ts us r s m n : List Token} {x y : Right} → ts ≡ us → IsRight ts x r → IsSign r t.semicolon m → IsRight us y s → IsSign s t.semicolon n → Same x y r s
 right_one e (g.copy a) z (g.copy a') z' = let w = operand_one e a a' in record { is = ap item.copy w.is; others = w.others }
 right_one e (g.two o a b c) z (g.two o' a' b' c') z' =
     let x = operand_one e a a' in
@@ -274,12 +274,12 @@ loop_one e (g.loop a b c d f h i j k l m n o p q u) (g.loop a' b' c' d' f' h' i'
 
 -- which item begins with this token
 item_tag : Option Kind → ℕ
-item_tag (Some (t.word t.Wire)) = 0
-item_tag (Some (t.word t.Reg)) = 1
-item_tag (Some (t.word t.Integer)) = 2
-item_tag (Some (t.word t.Assign)) = 3
-item_tag (Some (t.word t.Initial)) = 4
-item_tag (Some (t.word t.Always)) = 5
+item_tag (Some (t.word t.wire_word)) = 0
+item_tag (Some (t.word t.reg_word)) = 1
+item_tag (Some (t.word t.integer_word)) = 2
+item_tag (Some (t.word t.assign_word)) = 3
+item_tag (Some (t.word t.initial_word)) = 4
+item_tag (Some (t.word t.always_word)) = 5
 item_tag _ = 6
 
 abbrev first_tag : {ts r : List Token} {x : Item} → IsItem ts x r → ℕ
@@ -293,7 +293,7 @@ first_tag (g.initial_cells a b c d e f h i j) = 4
 first_tag (g.always a b c d e) = 5
 first_tag (g.always_cell a b c d e f h i j k l m) = 5
 
-clocked_first : {ts r : List Token} → IsClocked ts r → first_kind ts ≡ Some (t.word t.Always)
+clocked_first : {ts r : List Token} → IsClocked ts r → first_kind ts ≡ Some (t.word t.always_word)
 clocked_first (g.clocked a b c d f z) = kind_first a.is
 
 first_tag_is : {ts r : List Token} {x : Item} (h : IsItem ts x r) → item_tag (first_kind ts) ≡ first_tag h
@@ -308,21 +308,21 @@ first_tag_is (g.initial_cells a b c d e f h i j) = ap item_tag (kind_first a.is)
 first_tag_is (g.always a b c d e) = ap item_tag (clocked_first a)
 first_tag_is (g.always_cell a b c d e f h i j k l m) = ap item_tag (clocked_first a)
 
-loop_first : {ts r : List Token} {p : ℕ} {n : Number} → IsLoop ts p n r → first_kind ts ≡ Some (t.word t.For)
+loop_first : {ts r : List Token} {p : ℕ} {n : Number} → IsLoop ts p n r → first_kind ts ≡ Some (t.word t.for_word)
 loop_first (g.loop a b c d f h i j k l m n o p q u) = kind_first a.is
 
 -- two items that begin alike are told apart further on
-not_initial : {ts us a b c d : List Token} {p : ℕ} {n : Number} {x : Mention} → ts ≡ us → IsWord ts t.Initial a → IsName a x b → IsWord us t.Initial c → IsLoop c p n d → ⊥
+not_initial : {ts us a b c d : List Token} {p : ℕ} {n : Number} {x : Mention} → ts ≡ us → IsWord ts t.initial_word a → IsName a x b → IsWord us t.initial_word c → IsLoop c p n d → ⊥
 not_initial e a b c d = let q = ap first_kind (after_word e a c) in let k = kind_first b in let l = loop_first d in absurd (cc)
 
-not_register : {ts us a b c d a' b' c' d' : List Token} {n n' : Number} {x x' : Mention} → ts ≡ us → IsWord ts t.Reg a → IsRange a n b → IsName b x c → IsSign c t.Semicolon d
-    → IsWord us t.Reg a' → IsRange a' n' b' → IsName b' x' c' → IsSign c' t.OpenBracket d' → ⊥
+not_register : {ts us a b c d a' b' c' d' : List Token} {n n' : Number} {x x' : Mention} → ts ≡ us → IsWord ts t.reg_word a → IsRange a n b → IsName b x c → IsSign c t.semicolon d
+    → IsWord us t.reg_word a' → IsRange a' n' b' → IsName b' x' c' → IsSign c' t.open_bracket d' → ⊥
 not_register e a b c d a' b' c' d' =
     let n = range_one (after_word e a a') b b' in
     let x = one_name n.others c c' in
     let k = one_sign x.others d d' in absurd (cc)
 
-not_always : {ts us a b c d : List Token} {x : Mention} → ts ≡ us → IsClocked ts a → IsName a x b → IsClocked us c → IsWord c t.If d → ⊥
+not_always : {ts us a b c d : List Token} {x : Mention} → ts ≡ us → IsClocked ts a → IsName a x b → IsClocked us c → IsWord c t.if_word d → ⊥
 not_always e a b c d = let k = (same_token (clocked_one e a c) b d.is).kind in absurd (cc)
 
 item_one : {ts us r s : List Token} {x y : Item} → ts ≡ us → IsItem ts x r → IsItem us y s → Same x y r s
@@ -381,7 +381,7 @@ item_one e (g.always a b c d f) (g.always_cell a' b' c' d' f' h' i' j' k' l' m' 
 item_one e (g.always_cell a' b' c' d' f' h' i' j' k' l' m' n') (g.always a b c d f) = absurd (not_always (sym e) a b a' b')
 item_one e x y = let v = first_tag_is x in let w = first_tag_is y in let u = ap (λ ts. item_tag (first_kind ts)) e in absurd (cc)
 
-no_end : {ts us r s : List Token} {x : Item} → ts ≡ us → IsItem ts x r → IsWord us t.Endmodule s → ⊥
+no_end : {ts us r s : List Token} {x : Item} → ts ≡ us → IsItem ts x r → IsWord us t.endmodule_word s → ⊥
 unfolding item_tag
 no_end e (g.wire a b c d) z = let k = (same_token e a.is z.is).kind in absurd (cc)
 no_end e (g.register a b c d) z = let k = (same_token e a.is z.is).kind in absurd (cc)
@@ -393,7 +393,7 @@ no_end e (g.initial_cells a b c d f h i j k) z = let l = (same_token e a.is z.is
 no_end e (g.always a b c d f) z = let k = clocked_first a in let l = kind_first z.is in let u = ap first_kind e in absurd (cc)
 no_end e (g.always_cell a b c d f h i j k l m n) z = let o = clocked_first a in let p = kind_first z.is in let u = ap first_kind e in absurd (cc)
 
-items_one : {ts us r s m n : List Token} {xs ys : List Item} → ts ≡ us → AreItems ts xs r → IsWord r t.Endmodule m → AreItems us ys s → IsWord s t.Endmodule n → Same xs ys r s
+items_one : {ts us r s m n : List Token} {xs ys : List Item} → ts ≡ us → AreItems ts xs r → IsWord r t.endmodule_word m → AreItems us ys s → IsWord s t.endmodule_word n → Same xs ys r s
 items_one e g.no_item z g.no_item z' = record { is = refl; others = e }
 items_one e g.no_item z (g.next_item a b) z' = absurd (no_end (sym e) a z)
 items_one e (g.next_item a b) z g.no_item z' = absurd (no_end e a z')

@@ -33,25 +33,25 @@ abbrev pub IsConstant : List Token → Constant → List Token → Type 0
 IsConstant ts c r = IsToken ts c.place (t.constant c.width c.value) r
 
 abbrev pub unary_sign : Op1 → Sign
-unary_sign unary.Not = t.Tilde
-unary_sign unary.Neg = t.Minus
-unary_sign unary.AllOnes = t.Ampersand
-unary_sign unary.AnyOne = t.Bar
-unary_sign unary.Odd = t.Caret
+unary_sign unary.Not = t.tilde
+unary_sign unary.Neg = t.minus
+unary_sign unary.AllOnes = t.ampersand
+unary_sign unary.AnyOne = t.bar
+unary_sign unary.Odd = t.caret
 
 abbrev pub binary_sign : Op2 → Sign
-binary_sign binary.Add = t.Plus
-binary_sign binary.Sub = t.Minus
-binary_sign binary.Mul = t.Star
-binary_sign binary.And = t.Ampersand
-binary_sign binary.Or = t.Bar
-binary_sign binary.Xor = t.Caret
-binary_sign binary.Eq = t.Equal
-binary_sign binary.Ne = t.NotEqual
-binary_sign binary.Lt = t.Less
-binary_sign binary.Le = t.LessOrEqual
-binary_sign binary.Shl = t.ShiftLeft
-binary_sign binary.Shr = t.ShiftRight
+binary_sign binary.Add = t.plus
+binary_sign binary.Sub = t.minus
+binary_sign binary.Mul = t.star
+binary_sign binary.And = t.ampersand
+binary_sign binary.Or = t.bar
+binary_sign binary.Xor = t.caret
+binary_sign binary.Eq = t.equal
+binary_sign binary.Ne = t.not_equal
+binary_sign binary.Lt = t.less
+binary_sign binary.Le = t.less_or_equal
+binary_sign binary.Shl = t.shift_left
+binary_sign binary.Shr = t.shift_right
 
 pub data IsOperand : List Token → Operand → List Token → Type 0 where
   name : {ts r : List Token} {n : Mention} → IsName ts n r → IsOperand ts (item.named n) r
@@ -59,26 +59,26 @@ pub data IsOperand : List Token → Operand → List Token → Type 0 where
 
 -- "[" NUM ":" "0" "]"
 pub data IsRange : List Token → Number → List Token → Type 0 where
-  range : {ts a b c d r : List Token} {n : Number} → IsSign ts t.OpenBracket a → IsNumber a n b → IsSign b t.Colon c → IsDigit c 0 d
-      → IsSign d t.CloseBracket r → IsRange ts n r
+  range : {ts a b c d r : List Token} {n : Number} → IsSign ts t.open_bracket a → IsNumber a n b → IsSign b t.colon c → IsDigit c 0 d
+      → IsSign d t.close_bracket r → IsRange ts n r
 
 pub data IsPort : List Token → Port → List Token → Type 0 where
-  input : {ts a b r : List Token} {n : Number} {x : Mention} → IsWord ts t.Input a → IsRange a n b → IsName b x r
+  input : {ts a b r : List Token} {n : Number} {x : Mention} → IsWord ts t.input_word a → IsRange a n b → IsName b x r
       → IsPort ts (record { direction = item.input; range = n; name = x }) r
-  output_reg : {ts a b c r : List Token} {n : Number} {x : Mention} → IsWord ts t.Output a → IsWord a t.Reg b → IsRange b n c → IsName c x r
+  output_reg : {ts a b c r : List Token} {n : Number} {x : Mention} → IsWord ts t.output_word a → IsWord a t.reg_word b → IsRange b n c → IsName c x r
       → IsPort ts (record { direction = item.output_register; range = n; name = x }) r
-  output_wire : {ts a b c r : List Token} {n : Number} {x : Mention} → IsWord ts t.Output a → IsWord a t.Wire b → IsRange b n c → IsName c x r
+  output_wire : {ts a b c r : List Token} {n : Number} {x : Mention} → IsWord ts t.output_word a → IsWord a t.wire_word b → IsRange b n c → IsName c x r
       → IsPort ts (record { direction = item.output_wire; range = n; name = x }) r
 
 -- ( "," port )*
 pub data ArePorts : List Token → List Port → List Token → Type 0 where
   no_port : {r : List Token} → ArePorts r [] r
-  next_port : {ts a b r : List Token} {p : Port} {ps : List Port} → IsSign ts t.Comma a → IsPort a p b → ArePorts b ps r → ArePorts ts (p ∷ ps) r
+  next_port : {ts a b r : List Token} {p : Port} {ps : List Port} → IsSign ts t.comma a → IsPort a p b → ArePorts b ps r → ArePorts ts (p ∷ ps) r
 
 -- ( "," OPD )*
 pub data AreParts : List Token → List Operand → List Token → Type 0 where
   no_part : {r : List Token} → AreParts r [] r
-  next_part : {ts a b r : List Token} {o : Operand} {os : List Operand} → IsSign ts t.Comma a → IsOperand a o b → AreParts b os r
+  next_part : {ts a b r : List Token} {o : Operand} {os : List Operand} → IsSign ts t.comma a → IsOperand a o b → AreParts b os r
       → AreParts ts (o ∷ os) r
 
 pub data IsRight : List Token → Right → List Token → Type 0 where
@@ -86,50 +86,50 @@ pub data IsRight : List Token → Right → List Token → Type 0 where
   two : {ts m n r : List Token} {x y : Operand} (op : Op2) → IsOperand ts x m → IsSign m (binary_sign op) n → IsOperand n y r
       → IsRight ts (item.two op x y) r
   one : {ts m r : List Token} {x : Operand} (op : Op1) → IsSign ts (unary_sign op) m → IsOperand m x r → IsRight ts (item.one op x) r
-  choose : {ts a b c d r : List Token} {x y z : Operand} → IsOperand ts x a → IsSign a t.Question b → IsOperand b y c → IsSign c t.Colon d
+  choose : {ts a b c d r : List Token} {x y z : Operand} → IsOperand ts x a → IsSign a t.question b → IsOperand b y c → IsSign c t.colon d
       → IsOperand d z r → IsRight ts (item.choose x y z) r
-  concat : {ts a b c d e r : List Token} {x y : Operand} {zs : List Operand} → IsSign ts t.OpenBrace a → IsOperand a x b → IsSign b t.Comma c
-      → IsOperand c y d → AreParts d zs e → IsSign e t.CloseBrace r → IsRight ts (item.concat (x ∷ y ∷ zs)) r
-  slice : {ts a b c d e r : List Token} {n : Mention} {high low : Number} → IsName ts n a → IsSign a t.OpenBracket b → IsNumber b high c
-      → IsSign c t.Colon d → IsNumber d low e → IsSign e t.CloseBracket r → IsRight ts (item.slice n high.value low.value) r
-  cell : {ts a b c r : List Token} {m : Mention} {i : Operand} → IsName ts m a → IsSign a t.OpenBracket b → IsOperand b i c
-      → IsSign c t.CloseBracket r → IsRight ts (item.cell m i) r
+  concat : {ts a b c d e r : List Token} {x y : Operand} {zs : List Operand} → IsSign ts t.open_brace a → IsOperand a x b → IsSign b t.comma c
+      → IsOperand c y d → AreParts d zs e → IsSign e t.close_brace r → IsRight ts (item.concat (x ∷ y ∷ zs)) r
+  slice : {ts a b c d e r : List Token} {n : Mention} {high low : Number} → IsName ts n a → IsSign a t.open_bracket b → IsNumber b high c
+      → IsSign c t.colon d → IsNumber d low e → IsSign e t.close_bracket r → IsRight ts (item.slice n high.value low.value) r
+  cell : {ts a b c r : List Token} {m : Mention} {i : Operand} → IsName ts m a → IsSign a t.open_bracket b → IsOperand b i c
+      → IsSign c t.close_bracket r → IsRight ts (item.cell m i) r
 
 -- "always" "@" "(" "posedge" "clk" ")"
 pub data IsClocked : List Token → List Token → Type 0 where
-  clocked : {ts a b c d e r : List Token} → IsWord ts t.Always a → IsSign a t.At b → IsSign b t.OpenParen c → IsWord c t.Posedge d
-      → IsWord d t.Clk e → IsSign e t.CloseParen r → IsClocked ts r
+  clocked : {ts a b c d e r : List Token} → IsWord ts t.always_word a → IsSign a t.at b → IsSign b t.open_paren c → IsWord c t.posedge_word d
+      → IsWord d t.clk_word e → IsSign e t.close_paren r → IsClocked ts r
 
 -- "for" "(" "i" "=" "0" ";" "i" "<" NUM ";" "i" "=" "i" "+" "1" ")", with the place of the first `i` and the number
 pub data IsLoop : List Token → ℕ → Number → List Token → Type 0 where
-  loop : {ts a b c d e f g h i j k l m n o r : List Token} {place : ℕ} {bound : Number} → IsWord ts t.For a → IsSign a t.OpenParen b
-      → IsToken b place (t.word t.I) c → IsSign c t.Is d → IsDigit d 0 e → IsSign e t.Semicolon f
-      → IsWord f t.I g → IsSign g t.Less h → IsNumber h bound i → IsSign i t.Semicolon j
-      → IsWord j t.I k → IsSign k t.Is l → IsWord l t.I m → IsSign m t.Plus n → IsDigit n 1 o → IsSign o t.CloseParen r
+  loop : {ts a b c d e f g h i j k l m n o r : List Token} {place : ℕ} {bound : Number} → IsWord ts t.for_word a → IsSign a t.open_paren b
+      → IsToken b place (t.word t.i_word) c → IsSign c t.is d → IsDigit d 0 e → IsSign e t.semicolon f
+      → IsWord f t.i_word g → IsSign g t.less h → IsNumber h bound i → IsSign i t.semicolon j
+      → IsWord j t.i_word k → IsSign k t.is l → IsWord l t.i_word m → IsSign m t.plus n → IsDigit n 1 o → IsSign o t.close_paren r
       → IsLoop ts place bound r
 
 pub data IsItem : List Token → Item → List Token → Type 0 where
-  wire : {ts a b c r : List Token} {n : Number} {x : Mention} → IsWord ts t.Wire a → IsRange a n b → IsName b x c → IsSign c t.Semicolon r
+  wire : {ts a b c r : List Token} {n : Number} {x : Mention} → IsWord ts t.wire_word a → IsRange a n b → IsName b x c → IsSign c t.semicolon r
       → IsItem ts (item.wire n x) r
-  register : {ts a b c r : List Token} {n : Number} {x : Mention} → IsWord ts t.Reg a → IsRange a n b → IsName b x c → IsSign c t.Semicolon r
+  register : {ts a b c r : List Token} {n : Number} {x : Mention} → IsWord ts t.reg_word a → IsRange a n b → IsName b x c → IsSign c t.semicolon r
       → IsItem ts (item.register n x) r
-  memory : {ts a b c d e f g h r : List Token} {n last : Number} {x : Mention} → IsWord ts t.Reg a → IsRange a n b → IsName b x c
-      → IsSign c t.OpenBracket d → IsDigit d 0 e → IsSign e t.Colon f → IsNumber f last g → IsSign g t.CloseBracket h → IsSign h t.Semicolon r
+  memory : {ts a b c d e f g h r : List Token} {n last : Number} {x : Mention} → IsWord ts t.reg_word a → IsRange a n b → IsName b x c
+      → IsSign c t.open_bracket d → IsDigit d 0 e → IsSign e t.colon f → IsNumber f last g → IsSign g t.close_bracket h → IsSign h t.semicolon r
       → IsItem ts (item.memory n x last) r
-  integer : {ts a b r : List Token} {place : ℕ} → IsToken ts place (t.word t.Integer) a → IsWord a t.I b → IsSign b t.Semicolon r
+  integer : {ts a b r : List Token} {place : ℕ} → IsToken ts place (t.word t.integer_word) a → IsWord a t.i_word b → IsSign b t.semicolon r
       → IsItem ts (item.integer place) r
-  assign : {ts a b c d r : List Token} {x : Mention} {right : Right} → IsWord ts t.Assign a → IsName a x b → IsSign b t.Is c → IsRight c right d
-      → IsSign d t.Semicolon r → IsItem ts (item.assign x right) r
-  initial : {ts a b c d r : List Token} {x : Mention} {value : Constant} → IsWord ts t.Initial a → IsName a x b → IsSign b t.Is c
-      → IsConstant c value d → IsSign d t.Semicolon r → IsItem ts (item.initial x value) r
-  initial_cells : {ts a b c d e f g h r : List Token} {place : ℕ} {bound : Number} {x : Mention} {value : Constant} → IsWord ts t.Initial a
-      → IsLoop a place bound b → IsName b x c → IsSign c t.OpenBracket d → IsWord d t.I e → IsSign e t.CloseBracket f → IsSign f t.Is g
-      → IsConstant g value h → IsSign h t.Semicolon r → IsItem ts (item.initial_cells place bound x value) r
-  always : {ts a b c d r : List Token} {x : Mention} {next : Operand} → IsClocked ts a → IsName a x b → IsSign b t.LessOrEqual c
-      → IsOperand c next d → IsSign d t.Semicolon r → IsItem ts (item.always x next) r
-  always_cell : {ts a b c d e f g h i j k r : List Token} {x : Mention} {condition index value : Operand} → IsClocked ts a → IsWord a t.If b
-      → IsSign b t.OpenParen c → IsOperand c condition d → IsSign d t.CloseParen e → IsName e x f → IsSign f t.OpenBracket g → IsOperand g index h
-      → IsSign h t.CloseBracket i → IsSign i t.LessOrEqual j → IsOperand j value k → IsSign k t.Semicolon r
+  assign : {ts a b c d r : List Token} {x : Mention} {right : Right} → IsWord ts t.assign_word a → IsName a x b → IsSign b t.is c → IsRight c right d
+      → IsSign d t.semicolon r → IsItem ts (item.assign x right) r
+  initial : {ts a b c d r : List Token} {x : Mention} {value : Constant} → IsWord ts t.initial_word a → IsName a x b → IsSign b t.is c
+      → IsConstant c value d → IsSign d t.semicolon r → IsItem ts (item.initial x value) r
+  initial_cells : {ts a b c d e f g h r : List Token} {place : ℕ} {bound : Number} {x : Mention} {value : Constant} → IsWord ts t.initial_word a
+      → IsLoop a place bound b → IsName b x c → IsSign c t.open_bracket d → IsWord d t.i_word e → IsSign e t.close_bracket f → IsSign f t.is g
+      → IsConstant g value h → IsSign h t.semicolon r → IsItem ts (item.initial_cells place bound x value) r
+  always : {ts a b c d r : List Token} {x : Mention} {next : Operand} → IsClocked ts a → IsName a x b → IsSign b t.less_or_equal c
+      → IsOperand c next d → IsSign d t.semicolon r → IsItem ts (item.always x next) r
+  always_cell : {ts a b c d e f g h i j k r : List Token} {x : Mention} {condition index value : Operand} → IsClocked ts a → IsWord a t.if_word b
+      → IsSign b t.open_paren c → IsOperand c condition d → IsSign d t.close_paren e → IsName e x f → IsSign f t.open_bracket g → IsOperand g index h
+      → IsSign h t.close_bracket i → IsSign i t.less_or_equal j → IsOperand j value k → IsSign k t.semicolon r
       → IsItem ts (item.always_cell condition x index value) r
 
 pub data AreItems : List Token → List Item → List Token → Type 0 where
@@ -137,6 +137,6 @@ pub data AreItems : List Token → List Item → List Token → Type 0 where
   next_item : {ts m r : List Token} {x : Item} {xs : List Item} → IsItem ts x m → AreItems m xs r → AreItems ts (x ∷ xs) r
 
 pub data IsFile : List Token → File → List Token → Type 0 where
-  file : {ts a b c d e f g h r : List Token} {x : Mention} {ps : List Port} {xs : List Item} → IsWord ts t.Module a → IsName a x b
-      → IsSign b t.OpenParen c → IsWord c t.Input d → IsWord d t.Clk e → ArePorts e ps f → IsSign f t.CloseParen g → IsSign g t.Semicolon h
-      → AreItems h xs r → {z : List Token} → IsWord r t.Endmodule z → IsFile ts (record { module_name = x.name; ports = ps; items = xs }) z
+  file : {ts a b c d e f g h r : List Token} {x : Mention} {ps : List Port} {xs : List Item} → IsWord ts t.module_word a → IsName a x b
+      → IsSign b t.open_paren c → IsWord c t.input_word d → IsWord d t.clk_word e → ArePorts e ps f → IsSign f t.close_paren g → IsSign g t.semicolon h
+      → AreItems h xs r → {z : List Token} → IsWord r t.endmodule_word z → IsFile ts (record { module_name = x.name; ports = ps; items = xs }) z

@@ -6,60 +6,60 @@ use Rattle.std.specs.Str.{bytes_eq}
 use Rattle.std.specs.Str.Parse.{digits_value}
 pub use Rattle.sap_text.specs.Blanks.{is_blank, is_in_line}
 use Rattle.sap_net.specs.Names.{is_initial, is_inner}
-use Rattle.sap_modtext.specs.Tokens.{Word, Module, Endmodule, Input, Output, Reg, Wire, Assign, Initial, Always, Posedge, If, For, Integer, Clk, I, Sign, OpenParen, CloseParen, OpenBrace, CloseBrace, OpenBracket, CloseBracket, Comma, Semicolon, Colon, Question, At, Is, Equal, NotEqual, Less, LessOrEqual, ShiftLeft, ShiftRight, Plus, Minus, Star, Ampersand, Bar, Caret, Tilde, Kind, word, sign, name, number, constant, Token}
+use Rattle.sap_modtext.specs.Tokens.{Word, module_word, endmodule_word, input_word, output_word, reg_word, wire_word, assign_word, initial_word, always_word, posedge_word, if_word, for_word, integer_word, clk_word, i_word, Sign, open_paren, close_paren, open_brace, close_brace, open_bracket, close_bracket, comma, semicolon, colon, question, at, is, equal, not_equal, less, less_or_equal, shift_left, shift_right, plus, minus, star, ampersand, bar, caret, tilde, Kind, word, sign, name, number, constant, Token}
 
 abbrev pub word_text : Word → List ℕ
-word_text Module = codes "module"
-word_text Endmodule = codes "endmodule"
-word_text Input = codes "input"
-word_text Output = codes "output"
-word_text Reg = codes "reg"
-word_text Wire = codes "wire"
-word_text Assign = codes "assign"
-word_text Initial = codes "initial"
-word_text Always = codes "always"
-word_text Posedge = codes "posedge"
-word_text If = codes "if"
-word_text For = codes "for"
-word_text Integer = codes "integer"
-word_text Clk = codes "clk"
-word_text I = codes "i"
+word_text module_word = codes "module"
+word_text endmodule_word = codes "endmodule"
+word_text input_word = codes "input"
+word_text output_word = codes "output"
+word_text reg_word = codes "reg"
+word_text wire_word = codes "wire"
+word_text assign_word = codes "assign"
+word_text initial_word = codes "initial"
+word_text always_word = codes "always"
+word_text posedge_word = codes "posedge"
+word_text if_word = codes "if"
+word_text for_word = codes "for"
+word_text integer_word = codes "integer"
+word_text clk_word = codes "clk"
+word_text i_word = codes "i"
 
 abbrev pub words : List Word
-words = Module ∷ Endmodule ∷ Input ∷ Output ∷ Reg ∷ Wire ∷ Assign ∷ Initial ∷ Always ∷ Posedge ∷ If ∷ For ∷ Integer ∷ Clk ∷ I ∷ []
+words = module_word ∷ endmodule_word ∷ input_word ∷ output_word ∷ reg_word ∷ wire_word ∷ assign_word ∷ initial_word ∷ always_word ∷ posedge_word ∷ if_word ∷ for_word ∷ integer_word ∷ clk_word ∷ i_word ∷ []
 
 abbrev pub sign_text : Sign → List ℕ
-sign_text OpenParen = codes "("
-sign_text CloseParen = codes ")"
-sign_text OpenBrace = codes "{"
-sign_text CloseBrace = codes "}"
-sign_text OpenBracket = codes "["
-sign_text CloseBracket = codes "]"
-sign_text Comma = codes ","
-sign_text Semicolon = codes ";"
-sign_text Colon = codes ":"
-sign_text Question = codes "?"
-sign_text At = codes "@"
-sign_text Is = codes "="
-sign_text Equal = codes "=="
-sign_text NotEqual = codes "!="
-sign_text Less = codes "<"
-sign_text LessOrEqual = codes "<="
-sign_text ShiftLeft = codes "<<"
-sign_text ShiftRight = codes ">>"
-sign_text Plus = codes "+"
-sign_text Minus = codes "-"
-sign_text Star = codes "*"
-sign_text Ampersand = codes "&"
-sign_text Bar = codes "|"
-sign_text Caret = codes "^"
-sign_text Tilde = codes "~"
+sign_text open_paren = codes "("
+sign_text close_paren = codes ")"
+sign_text open_brace = codes "{"
+sign_text close_brace = codes "}"
+sign_text open_bracket = codes "["
+sign_text close_bracket = codes "]"
+sign_text comma = codes ","
+sign_text semicolon = codes ";"
+sign_text colon = codes ":"
+sign_text question = codes "?"
+sign_text at = codes "@"
+sign_text is = codes "="
+sign_text equal = codes "=="
+sign_text not_equal = codes "!="
+sign_text less = codes "<"
+sign_text less_or_equal = codes "<="
+sign_text shift_left = codes "<<"
+sign_text shift_right = codes ">>"
+sign_text plus = codes "+"
+sign_text minus = codes "-"
+sign_text star = codes "*"
+sign_text ampersand = codes "&"
+sign_text bar = codes "|"
+sign_text caret = codes "^"
+sign_text tilde = codes "~"
 
 -- the signs, those of two bytes first, so that the longest is found first
 abbrev pub signs : List Sign
 signs =
-    Equal ∷ NotEqual ∷ LessOrEqual ∷ ShiftLeft ∷ ShiftRight ∷ OpenParen ∷ CloseParen ∷ OpenBrace ∷ CloseBrace ∷ OpenBracket ∷ CloseBracket ∷ Comma ∷ Semicolon
-    ∷ Colon ∷ Question ∷ At ∷ Is ∷ Less ∷ Plus ∷ Minus ∷ Star ∷ Ampersand ∷ Bar ∷ Caret ∷ Tilde ∷ []
+    equal ∷ not_equal ∷ less_or_equal ∷ shift_left ∷ shift_right ∷ open_paren ∷ close_paren ∷ open_brace ∷ close_brace ∷ open_bracket ∷ close_bracket ∷ comma ∷ semicolon
+    ∷ colon ∷ question ∷ at ∷ is ∷ less ∷ plus ∷ minus ∷ star ∷ ampersand ∷ bar ∷ caret ∷ tilde ∷ []
 
 -- what stands at the front of a text, and how long it is: white space or a comment; a token; or neither
 pub data Front : Type 0 where

@@ -3,12 +3,12 @@ use Rattle.std.specs.Prelude.{◌≡◌, ℕ, List, [], ◌∷◌}
 
 -- the keywords
 pub data Word : Type 0 where
-  Module Endmodule Input Output Reg Wire Assign Initial Always Posedge If For Integer Clk I : Word
+  module_word endmodule_word input_word output_word reg_word wire_word assign_word initial_word always_word posedge_word if_word for_word integer_word clk_word i_word : Word
 
 -- the signs
 pub data Sign : Type 0 where
-  OpenParen CloseParen OpenBrace CloseBrace OpenBracket CloseBracket Comma Semicolon Colon Question At Is : Sign
-  Equal NotEqual Less LessOrEqual ShiftLeft ShiftRight Plus Minus Star Ampersand Bar Caret Tilde : Sign
+  open_paren close_paren open_brace close_brace open_bracket close_bracket comma semicolon colon question at is : Sign
+  equal not_equal less less_or_equal shift_left shift_right plus minus star ampersand bar caret tilde : Sign
 
 -- what a token is: a keyword; a sign; a name, which is no keyword; a number, and with how many digits it is written; a constant of a width and a
 -- number

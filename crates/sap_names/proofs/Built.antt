@@ -9,7 +9,7 @@ use Rattle.sap_names.proofs.FaultLemmas.{nil_left, nil_right}
 use Rattle.sap_tree.specs.declared.syntax.Numeral.{Numeral}
 use Rattle.sap_tree.specs.declared.syntax.Decl.{Decl}
 use Rattle.sap_tree.specs.declared.syntax.Decl.TheVariants.{Input, Register, Memory}
-use Rattle.sap_tree.specs.Syntax.{StateTree, StateOf, StateList, NoState, AndState, DesignTree}
+use Rattle.sap_tree.specs.Syntax.{StateTree, state_node, StateList, no_state, and_state, DesignTree}
 use Rattle.sap_tree.specs.Whole.{is_whole, is_tree, is_input, is_register, is_memory, state_count, states_count, states_depth, states_commands}
 use Rattle.sap_names.specs.Entities.{Entity, HasWidth, HaveWidths, declared_width, declared_in, entities_of, entity_of, group_entities, state_entities}
 use Rattle.sap_names.specs.NameFaults.{declaration_faults, declarations_faults, design_name_faults, width_faults}
@@ -42,11 +42,11 @@ have_widths-append (e ∷ es) fs h k = (h.0, have_widths-append es fs h.1 k)
 
 mutual
   state-fit : (s : StateTree) → HaveWidths (state_entities s)
-  state-fit (StateOf place name kind body children) = (tt, group-fit children)
+  state-fit (state_node place name kind body children) = (tt, group-fit children)
 
   group-fit : (ss : StateList) → HaveWidths (group_entities ss)
-  group-fit NoState = tt
-  group-fit (AndState s rest) = have_widths-append (state_entities s) (group_entities rest) (state-fit s) (group-fit rest)
+  group-fit no_state = tt
+  group-fit (and_state s rest) = have_widths-append (state_entities s) (group_entities rest) (state-fit s) (group-fit rest)
 
 -- without faults, all entities that need one have a width
 pub faultless-fit : (levels : List (List ℕ)) (le : ℕ → ℕ → Bool) (x : DesignTree) → design_name_faults levels le x ≡ [] → HaveWidths (entities_of x)
@@ -77,11 +77,11 @@ mutual
   unfolding state_count states_count
 
   length-state : (s : StateTree) → length (state_entities s) ≡ state_count s
-  length-state (StateOf place name kind body children) = let r = length-group children in omega arith
+  length-state (state_node place name kind body children) = let r = length-group children in omega arith
 
   length-group : (ss : StateList) → length (group_entities ss) ≡ states_count ss
-  length-group NoState = refl
-  length-group (AndState s rest) = let q = length-state s in let r = length-group rest in omega (arith, length-append (state_entities s) (group_entities rest))
+  length-group no_state = refl
+  length-group (and_state s rest) = let q = length-state s in let r = length-group rest in omega (arith, length-append (state_entities s) (group_entities rest))
 
 limited : (t : Bool) (i r m s d c : ℕ) → IsTrue (t && (nat_le i 64 && nat_le r 256 && nat_le m 16 && nat_le s 256 && nat_le d 16 && nat_le c 4096)) → i + r + m + s ≤ 592
 limited t i r m s d c h = grind (arith, common_steps)

@@ -11,7 +11,7 @@ use Rattle.sap_names.specs.declared.fault.Fault.{Fault}
 use Rattle.sap_names.specs.declared.kind.Code.TheVariants.{E7}
 use Rattle.sap_names.proofs.Faults.{both}
 use Rattle.sap_tree.specs.declared.place.Spot.{Spot}
-use Rattle.sap_tree.specs.Syntax.{Expression, Concat, Expressions}
+use Rattle.sap_tree.specs.Syntax.{Expression, concat, Expressions}
 
 pub parts_first : (what : Lookup) (xs : List Expr) (d : Expr) → 1 ≤ length xs → d ≡ get_or xs 0 d
     → parts_faults what (expressions_of xs)
@@ -37,17 +37,17 @@ pub ruleset parts = (parts_none)
 
 -- the faults of a concatenation, one after another
 pub concat_noted : (what : Lookup) (asked mine : Option ℕ) (operands one two : Bool) (o m n k : Option Fault) (x : Expression) (spot : Spot) (list seen : Expressions)
-    → x ≡ Concat spot list → list ≡ seen → mine ≡ own what x → operands ≡ all_sound what seen
+    → x ≡ concat spot list → list ≡ seen → mine ≡ own what x → operands ≡ all_sound what seen
     → one ≡ unsettled mine asked → two ≡ (not (is_sound mine) && operands)
     → m ≡ best_of o (fault_if one E7 spot.first) → n ≡ best_of m (fault_if two E7 spot.first)
     → k ≡ best_of n (parts_faults what seen) → k ≡ best_of o (expression_faults what x asked)
 concat_noted what asked mine operands one two o m n k x spot list seen view same is all first second p q r =
-    rw (view ∙ ap (λ (l : Expressions). Concat spot l) same) (both o n k _ (parts_faults what seen) _
-    (both o m n (fault_if (unsettled (own what (Concat spot seen)) asked) E7 spot.first)
-    (fault_if (not (is_sound (own what (Concat spot seen))) && all_sound what seen) E7 spot.first) _
+    rw (view ∙ ap (λ (l : Expressions). concat spot l) same) (both o n k _ (parts_faults what seen) _
+    (both o m n (fault_if (unsettled (own what (concat spot seen)) asked) E7 spot.first)
+    (fault_if (not (is_sound (own what (concat spot seen))) && all_sound what seen) E7 spot.first) _
     (p ∙ ap (λ (b : Bool). best_of o (fault_if b E7 spot.first)) (first ∙ ap (λ (w : Option ℕ). unsettled w asked) own_is))
     (q ∙ ap (λ (b : Bool). best_of m (fault_if b E7 spot.first)) (second ∙ ap₂ (λ (w : Option ℕ) (b : Bool). not (is_sound w) && b) own_is all)) refl)
     r refl)
   where
-    own_is : mine ≡ own what (Concat spot seen)
-    own_is = is ∙ ap (λ (e : Expression). own what e) (view ∙ ap (λ (l : Expressions). Concat spot l) same)
+    own_is : mine ≡ own what (concat spot seen)
+    own_is = is ∙ ap (λ (e : Expression). own what e) (view ∙ ap (λ (l : Expressions). concat spot l) same)

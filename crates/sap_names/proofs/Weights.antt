@@ -14,67 +14,67 @@ use Rattle.sap_tree.specs.declared.syntax.Cmd.{Cmd}
 use Rattle.sap_tree.specs.declared.syntax.TagExpr.{TagExpr}
 use Rattle.sap_tree.specs.declared.syntax.State.{State}
 use Rattle.sap_tree.specs.Trees.{tag_of, tags_of, command_of, commands_of, block_of, arm_block_of, arms_before, arms_of, state_of, states_of}
-use Rattle.sap_tree.specs.Syntax.{Expression, Number, Sized, Read, Cell, Unary, Binary, Choose, Slice, Concat, Zext, Expressions, NoPart, AndPart, TagExpression, Level, TagOf, LevelAt, Join, TagExpressions, NoTag, AndTag, Command, Do, Try, If, TryThen, Case, Arms, Last, CommandBlock, Commands, ElseBlock, NoElse, Else, CommandList, NoCommand, AndCommand, StateTree, StateOf, StateList, NoState, AndState}
+use Rattle.sap_tree.specs.Syntax.{Expression, literal, sized_literal, variable, cell_at, unary_of, binary_of, choice, slice, concat, zero_extend, Expressions, no_part, and_part, TagExpression, level_of, tag_at, level_at, join_of, TagExpressions, no_tag, and_tag, Command, lone, try, if_else, try_then, case_of, Arms, last_arm, CommandBlock, command_block, ElseBlock, no_else, with_else, CommandList, no_command, and_command, StateTree, state_node, StateList, no_state, and_state}
 use Rattle.sap_tree.specs.Syntax as tree
 
 abbrev mutual
   pub weight : Expression → ℕ
-  weight (Number spot n) = 1
-  weight (Sized spot w n) = 1
-  weight (Read spot name) = 1
-  weight (Cell spot name i) = weight i + 1
-  weight (Unary spot o x) = weight x + 1
-  weight (Binary spot o x y) = weight x + weight y + 1
-  weight (Choose spot x y z) = weight x + weight y + weight z + 1
-  weight (Slice spot x high low) = weight x + 1
-  weight (Concat spot parts) = parts_weight parts + 1
-  weight (Zext spot x w) = weight x + 1
+  weight (literal spot n) = 1
+  weight (sized_literal spot w n) = 1
+  weight (variable spot name) = 1
+  weight (cell_at spot name i) = weight i + 1
+  weight (unary_of spot o x) = weight x + 1
+  weight (binary_of spot o x y) = weight x + weight y + 1
+  weight (choice spot x y z) = weight x + weight y + weight z + 1
+  weight (slice spot x high low) = weight x + 1
+  weight (concat spot parts) = parts_weight parts + 1
+  weight (zero_extend spot x w) = weight x + 1
 
   pub parts_weight : Expressions → ℕ
-  parts_weight NoPart = 1
-  parts_weight (AndPart x parts) = weight x + parts_weight parts + 1
+  parts_weight no_part = 1
+  parts_weight (and_part x parts) = weight x + parts_weight parts + 1
 
 abbrev mutual
   pub tag_weight : TagExpression → ℕ
-  tag_weight (Level m) = 1
-  tag_weight (TagOf place x) = 1
-  tag_weight (LevelAt place x) = 1
-  tag_weight (Join place parts) = tags_weight parts + 1
+  tag_weight (level_of m) = 1
+  tag_weight (tag_at place x) = 1
+  tag_weight (level_at place x) = 1
+  tag_weight (join_of place parts) = tags_weight parts + 1
 
   pub tags_weight : TagExpressions → ℕ
-  tags_weight NoTag = 1
-  tags_weight (AndTag t parts) = tag_weight t + tags_weight parts + 1
+  tags_weight no_tag = 1
+  tags_weight (and_tag t parts) = tag_weight t + tags_weight parts + 1
 
 abbrev mutual
   pub command_weight : Command → ℕ
-  command_weight (Do k) = 1
-  command_weight (Try k place handler) = block_weight handler + 2
-  command_weight (If place x yes_block no_block) = block_weight yes_block + else_weight no_block + 2
-  command_weight (TryThen k place accepted refused) = block_weight accepted + block_weight refused + 2
-  command_weight (Case place x arms) = arms_weight arms + 2
+  command_weight (lone k) = 1
+  command_weight (try k place handler) = block_weight handler + 2
+  command_weight (if_else place x yes_block no_block) = block_weight yes_block + else_weight no_block + 2
+  command_weight (try_then k place accepted refused) = block_weight accepted + block_weight refused + 2
+  command_weight (case_of place x arms) = arms_weight arms + 2
 
   pub arms_weight : Arms → ℕ
-  arms_weight (Last b) = block_weight b
-  arms_weight (tree.Arm constants b arms) = block_weight b + arms_weight arms + 1
+  arms_weight (last_arm b) = block_weight b
+  arms_weight (tree.and_arm constants b arms) = block_weight b + arms_weight arms + 1
 
   pub block_weight : CommandBlock → ℕ
-  block_weight (Commands cs after) = commands_weight cs
+  block_weight (command_block cs after) = commands_weight cs
 
   pub else_weight : ElseBlock → ℕ
-  else_weight NoElse = 1
-  else_weight (Else b) = block_weight b
+  else_weight no_else = 1
+  else_weight (with_else b) = block_weight b
 
   pub commands_weight : CommandList → ℕ
-  commands_weight NoCommand = 1
-  commands_weight (AndCommand c cs) = command_weight c + commands_weight cs + 1
+  commands_weight no_command = 1
+  commands_weight (and_command c cs) = command_weight c + commands_weight cs + 1
 
 abbrev mutual
   pub state_weight : StateTree → ℕ
-  state_weight (StateOf place name kind body children) = states_weight children + 1
+  state_weight (state_node place name kind body children) = states_weight children + 1
 
   pub states_weight : StateList → ℕ
-  states_weight NoState = 1
-  states_weight (AndState s rest) = state_weight s + states_weight rest + 1
+  states_weight no_state = 1
+  states_weight (and_state s rest) = state_weight s + states_weight rest + 1
 
 -- of the arms that code has in a list
 abbrev pub arm_list_weight : List Arm → ℕ
@@ -121,12 +121,12 @@ refused_lighter x k place a b is =
 
 pub arms_lighter : (x : Cmd) (place : Place) (e : Expr) (arms : Vec Arm Global) (last : Block) → x ≡ c.Case place e arms last → arm_list_weight arms.items < command_weight (command_of x)
 arms_lighter x place e arms last is =
-    let w = arms_weight-of arms.items (Last (block_of last)) in
+    let w = arms_weight-of arms.items (last_arm (block_of last)) in
     subst (λ (y : Command). arm_list_weight arms.items < command_weight y) (sym (ap command_of is ∙ command_of-case place e arms last)) (omega (arith, w))
 
 pub last_lighter : (x : Cmd) (place : Place) (e : Expr) (arms : Vec Arm Global) (last : Block) → x ≡ c.Case place e arms last → block_weight (block_of last) < command_weight (command_of x)
 last_lighter x place e arms last is =
-    let w = arms_weight-of arms.items (Last (block_of last)) in
+    let w = arms_weight-of arms.items (last_arm (block_of last)) in
     subst (λ (y : Command). block_weight (block_of last) < command_weight y) (sym (ap command_of is ∙ command_of-case place e arms last)) (omega (arith, w))
 
 pub ruleset weights = (tags_weight-in, commands_weight-in, arms_weight-in, states_weight-in)

@@ -6,7 +6,7 @@ use Rattle.sap_names.specs.declared.kind.EntityKind.{EntityKind}
 use Rattle.sap_names.specs.declared.kind.EntityKind.TheVariants as kinds
 use Rattle.sap_tree.specs.declared.syntax.Decl.{Decl}
 use Rattle.sap_tree.specs.declared.syntax.Decl.TheVariants.{Input, Register, Memory}
-use Rattle.sap_tree.specs.Syntax.{StateTree, StateOf, StateList, NoState, AndState, DesignTree}
+use Rattle.sap_tree.specs.Syntax.{StateTree, state_node, StateList, no_state, and_state, DesignTree}
 pub use Rattle.sap_tree.specs.Touches.{is_dynamic_kind}
 -- a declared name: where it is declared, what it is, and whether it is dynamic, as inputs are
 pub use Rattle.sap_names.specs.declared.entity.Entity.{Entity}
@@ -24,12 +24,12 @@ declared_in (d ∷ ds) = entity_of d ∷ declared_in ds
 -- a state stands before its children
 abbrev mutual
   pub state_entities : StateTree → List Entity
-  state_entities (StateOf place name kind body children) =
+  state_entities (state_node place name kind body children) =
       let e : Entity = record { name = name; what = what.State; dynamic = is_dynamic_kind kind } in e ∷ group_entities children
 
   pub group_entities : StateList → List Entity
-  group_entities NoState = []
-  group_entities (AndState s rest) = state_entities s ++ group_entities rest
+  group_entities no_state = []
+  group_entities (and_state s rest) = state_entities s ++ group_entities rest
 
 abbrev pub entities_of : DesignTree → List Entity
 entities_of d = declared_in d.declarations ++ group_entities d.states

@@ -6,7 +6,7 @@ use Rattle.sap_tree.specs.declared.syntax.Kind.{Kind}
 use Rattle.sap_tree.specs.declared.syntax.Kind.TheVariants.{Dynamic, Enforced}
 use Rattle.sap_tree.specs.declared.syntax.Decl.TheVariants.{Register}
 use Rattle.sap_tree.specs.declared.syntax.BinaryOperator.TheVariants.{Add}
-use Rattle.sap_tree.specs.Syntax.{Number, Sized, Read, Binary, TagOf, Assign, Goto, Command, Do, Commands, CommandList, NoCommand, AndCommand, StateOf, StateList, NoState, AndState, DesignTree}
+use Rattle.sap_tree.specs.Syntax.{literal, sized_literal, variable, binary_of, tag_at, assign, go_to, Command, lone, command_block, CommandList, no_command, and_command, state_node, StateList, no_state, and_state, DesignTree}
 use Rattle.sap_tree.specs.declared.version.Version.TheVariants.{One}
 use Rattle.sap_names.specs.Fault.{Fault}
 use Rattle.sap_names.specs.declared.kind.Code.{Code}
@@ -33,17 +33,17 @@ abbrev pub low : ℕ → Kind
 low column = Enforced (mention (at column) (codes "low")) None
 
 abbrev pub body : CommandList → StateList
-body cs = AndState (StateOf (at 1) (mention (at 1) (codes "S")) (low 1) (Commands cs (at 90)) NoState) NoState
+body cs = and_state (state_node (at 1) (mention (at 1) (codes "S")) (low 1) (command_block cs (at 90)) no_state) no_state
 
 abbrev pub only : Command → StateList
-only c = body (AndCommand c NoCommand)
+only c = body (and_command c no_command)
 
 -- reg x : 8 dynamic = START; and a state
 abbrev pub starting : (start : ℕ) → DesignTree
 starting start = record {
   version = One;
   declarations = Register (at 1) (mention (at 5) (codes "x")) (numeral_at (at 9) 8) (Dynamic (at 11)) (Some (numeral_at (at 21) start)) ∷ [];
-  states = only (Do (Goto (at 30) (mention (at 35) (codes "S"))));
+  states = only (lone (go_to (at 30) (mention (at 35) (codes "S"))));
 }
 
 -- reg x : 8 dynamic = 256;
@@ -55,16 +55,16 @@ abbrev pub WideNumber : Type 0
 WideNumber = design_name_faults levels below (record {
   version = One;
   declarations = Register (at 1) (mention (at 5) (codes "x")) (numeral_at (at 9) 8) (Dynamic (at 11)) None ∷ [];
-  states = only (Do (Assign (mention (at 43) (codes "x")) (Sized (spot (at 48)) 99 300)));
+  states = only (lone (assign (mention (at 43) (codes "x")) (sized_literal (spot (at 48)) 99 300)));
 }) ≡ fault E7 48 ∷ []
 
 -- tag(zz), tag((zz)) and tag(1 + zz)
 abbrev pub UnknownPlain : Type 0
-UnknownPlain = tag_faults levels nothing (TagOf (at 1) (Read (spot (at 5)) (codes "zz"))) ≡ fault E7 5 ∷ fault E4 5 ∷ []
+UnknownPlain = tag_faults levels nothing (tag_at (at 1) (variable (spot (at 5)) (codes "zz"))) ≡ fault E7 5 ∷ fault E4 5 ∷ []
 
 abbrev pub UnknownInside : Type 0
-UnknownInside = tag_faults levels nothing (TagOf (at 1) (Read (inside 5 6) (codes "zz"))) ≡ fault E7 5 ∷ fault E4 6 ∷ []
+UnknownInside = tag_faults levels nothing (tag_at (at 1) (variable (inside 5 6) (codes "zz"))) ≡ fault E7 5 ∷ fault E4 6 ∷ []
 
 abbrev pub UnknownBehind : Type 0
-UnknownBehind = tag_faults levels nothing (TagOf (at 1) (Binary (inside 5 7) Add (Number (spot (at 5)) 1) (Read (spot (at 9)) (codes "zz"))))
+UnknownBehind = tag_faults levels nothing (tag_at (at 1) (binary_of (inside 5 7) Add (literal (spot (at 5)) 1) (variable (spot (at 9)) (codes "zz"))))
     ≡ fault E7 5 ∷ fault E7 5 ∷ fault E7 9 ∷ fault E4 9 ∷ []

@@ -8,7 +8,7 @@ use Rattle.sap_tree.specs.declared.syntax.Kind.{Kind}
 use Rattle.sap_tree.specs.declared.syntax.Kind.TheVariants.{Dynamic, Enforced}
 use Rattle.sap_tree.specs.declared.syntax.Decl.{Decl}
 use Rattle.sap_tree.specs.declared.syntax.Decl.TheVariants.{Input, Register, Memory}
-use Rattle.sap_tree.specs.Syntax.{Expression, Number, Sized, Read, Cell, Unary, Binary, Choose, Slice, Concat, Zext, Expressions, NoPart, AndPart, TagExpression, Level, TagOf, LevelAt, Join, TagExpressions, NoTag, AndTag, SimpleCommand, Assign, Write, SetTag, SetCellTag, Goto, Fall, Command, Do, Try, If, TryThen, Case, Arms, Last, Arm, CommandBlock, Commands, ElseBlock, NoElse, Else, CommandList, NoCommand, AndCommand, StateTree, StateOf, StateList, NoState, AndState, DesignTree}
+use Rattle.sap_tree.specs.Syntax.{Expression, literal, sized_literal, variable, cell_at, unary_of, binary_of, choice, slice, concat, zero_extend, Expressions, no_part, and_part, TagExpression, level_of, tag_at, level_at, join_of, TagExpressions, no_tag, and_tag, SimpleCommand, assign, write, set_tag, set_cell_tag, go_to, fall_to_child, Command, lone, try, if_else, try_then, case_of, Arms, last_arm, and_arm, CommandBlock, command_block, ElseBlock, no_else, with_else, CommandList, no_command, and_command, StateTree, state_node, StateList, no_state, and_state, DesignTree}
 use Rattle.sap_names.specs.Fault.{Fault}
 use Rattle.sap_names.specs.declared.kind.Declared.{Declared}
 use Rattle.sap_names.specs.declared.kind.Declared.TheVariants as d
@@ -68,56 +68,56 @@ name_faults how what m = use_faults how (what m.name) m.place
 -- what stands in an expression, where its place asks for a width or for none
 abbrev mutual
   pub expression_faults : Lookup → Expression → (asked : Option ℕ) → List Fault
-  expression_faults what (Number spot value) asked =
+  expression_faults what (literal spot value) asked =
       fault_if (unsettled None asked) E7 spot.first ++ fault_if (too_large asked value) E8 spot.at
-  expression_faults what (Sized spot width value) asked =
+  expression_faults what (sized_literal spot width value) asked =
       fault_if (unsettled (sound_width width) asked) E7 spot.first
       ++ fault_if (not (is_sound (sound_width width))) E7 spot.at
       ++ fault_if (too_large (sound_width width) value) E8 spot.at
-  expression_faults what (Read spot name) asked =
-      fault_if (unsettled (own what (Read spot name)) asked) E7 spot.first ++ use_faults u.Read (what name) spot.at
-  expression_faults what (Cell spot name index) asked =
-      fault_if (unsettled (own what (Cell spot name index)) asked) E7 spot.first
+  expression_faults what (variable spot name) asked =
+      fault_if (unsettled (own what (variable spot name)) asked) E7 spot.first ++ use_faults u.Read (what name) spot.at
+  expression_faults what (cell_at spot name index) asked =
+      fault_if (unsettled (own what (cell_at spot name index)) asked) E7 spot.first
       ++ use_faults u.Indexed (what name) spot.at
       ++ expression_faults what index (index_width (what name))
-  expression_faults what (Unary spot operator e) asked =
-      let whole = width_of what (Unary spot operator e) asked in
-      fault_if (unsettled (own what (Unary spot operator e)) asked) E7 spot.first
+  expression_faults what (unary_of spot operator e) asked =
+      let whole = width_of what (unary_of spot operator e) asked in
+      fault_if (unsettled (own what (unary_of spot operator e)) asked) E7 spot.first
       ++ expression_faults what e (asked_one operator whole)
-  expression_faults what (Binary spot operator a b) asked =
-      let whole = width_of what (Binary spot operator a b) asked in
-      fault_if (unsettled (own what (Binary spot operator a b)) asked) E7 spot.first
+  expression_faults what (binary_of spot operator a b) asked =
+      let whole = width_of what (binary_of spot operator a b) asked in
+      fault_if (unsettled (own what (binary_of spot operator a b)) asked) E7 spot.first
       ++ expression_faults what a (asked_left (family operator) whole (own what a) (own what b))
       ++ expression_faults what b (asked_right (family operator) whole (own what a) (own what b))
-  expression_faults what (Choose spot condition a b) asked =
-      let whole = width_of what (Choose spot condition a b) asked in
-      fault_if (unsettled (own what (Choose spot condition a b)) asked) E7 spot.first
+  expression_faults what (choice spot condition a b) asked =
+      let whole = width_of what (choice spot condition a b) asked in
+      fault_if (unsettled (own what (choice spot condition a b)) asked) E7 spot.first
       ++ expression_faults what condition (Some 1)
       ++ expression_faults what a whole
       ++ expression_faults what b whole
-  expression_faults what (Slice spot e high low) asked =
-      let mine = own what (Slice spot e high low) in
+  expression_faults what (slice spot e high low) asked =
+      let mine = own what (slice spot e high low) in
       fault_if (unsettled mine asked) E7 spot.first
       ++ fault_if (not (is_sound mine) && is_sound (own what e)) E7 spot.first
       ++ expression_faults what e None
-  expression_faults what (Concat spot parts) asked =
-      let mine = own what (Concat spot parts) in
+  expression_faults what (concat spot parts) asked =
+      let mine = own what (concat spot parts) in
       fault_if (unsettled mine asked) E7 spot.first
       ++ fault_if (not (is_sound mine) && all_sound what parts) E7 spot.first
       ++ parts_faults what parts
-  expression_faults what (Zext spot e width) asked =
-      let mine = own what (Zext spot e width) in
+  expression_faults what (zero_extend spot e width) asked =
+      let mine = own what (zero_extend spot e width) in
       fault_if (unsettled mine asked) E7 spot.first
       ++ fault_if (not (is_sound mine) && is_sound (own what e)) E7 spot.first
       ++ expression_faults what e None
 
   pub parts_faults : Lookup → Expressions → List Fault
-  parts_faults what NoPart = []
-  parts_faults what (AndPart e parts) = expression_faults what e None ++ parts_faults what parts
+  parts_faults what no_part = []
+  parts_faults what (and_part e parts) = expression_faults what e None ++ parts_faults what parts
 
 abbrev pub constants_faults : Lookup → (asked : Option ℕ) → Expressions → List Fault
-constants_faults what asked NoPart = []
-constants_faults what asked (AndPart e parts) = expression_faults what e asked ++ constants_faults what asked parts
+constants_faults what asked no_part = []
+constants_faults what asked (and_part e parts) = expression_faults what e asked ++ constants_faults what asked parts
 
 -- the number of a level's name, from 0, where the levels begin with the number n
 abbrev pub level_from : (n : ℕ) → List (List ℕ) → List ℕ → Option ℕ
@@ -146,56 +146,56 @@ level_faults levels m = fault_if (not (is_level levels m.name)) E6 m.place
 
 abbrev mutual
   pub tag_faults : List (List ℕ) → Lookup → TagExpression → List Fault
-  tag_faults levels what (Level m) = level_faults levels m
-  tag_faults levels what (TagOf place e) = expression_faults what e None
-  tag_faults levels what (LevelAt place e) = expression_faults what e None
-  tag_faults levels what (Join place parts) = tags_faults levels what parts
+  tag_faults levels what (level_of m) = level_faults levels m
+  tag_faults levels what (tag_at place e) = expression_faults what e None
+  tag_faults levels what (level_at place e) = expression_faults what e None
+  tag_faults levels what (join_of place parts) = tags_faults levels what parts
 
   pub tags_faults : List (List ℕ) → Lookup → TagExpressions → List Fault
-  tags_faults levels what NoTag = []
-  tags_faults levels what (AndTag t parts) = tag_faults levels what t ++ tags_faults levels what parts
+  tags_faults levels what no_tag = []
+  tags_faults levels what (and_tag t parts) = tag_faults levels what t ++ tags_faults levels what parts
 
 abbrev pub simple_faults : List (List ℕ) → Lookup → SimpleCommand → List Fault
-simple_faults levels what (Assign target e) =
+simple_faults levels what (assign target e) =
     name_faults u.Assigned what target ++ expression_faults what e (register_width (what target.name))
-simple_faults levels what (Write target index e) =
+simple_faults levels what (write target index e) =
     name_faults u.Indexed what target
     ++ expression_faults what index (index_width (what target.name))
     ++ expression_faults what e (cell_width (what target.name))
-simple_faults levels what (SetTag place target tag) = name_faults u.Retagged what target ++ tag_faults levels what tag
-simple_faults levels what (SetCellTag place target index tag) =
+simple_faults levels what (set_tag place target tag) = name_faults u.Retagged what target ++ tag_faults levels what tag
+simple_faults levels what (set_cell_tag place target index tag) =
     name_faults u.Indexed what target
     ++ expression_faults what index (index_width (what target.name))
     ++ tag_faults levels what tag
-simple_faults levels what (Goto place target) = name_faults u.Entered what target
-simple_faults levels what (Fall place) = []
+simple_faults levels what (go_to place target) = name_faults u.Entered what target
+simple_faults levels what (fall_to_child place) = []
 
 abbrev mutual
   pub command_faults : List (List ℕ) → Lookup → Command → List Fault
-  command_faults levels what (Do k) = simple_faults levels what k
-  command_faults levels what (Try k place handler) = simple_faults levels what k ++ block_faults levels what handler
-  command_faults levels what (If place condition then_block else_block) =
+  command_faults levels what (lone k) = simple_faults levels what k
+  command_faults levels what (try k place handler) = simple_faults levels what k ++ block_faults levels what handler
+  command_faults levels what (if_else place condition then_block else_block) =
       expression_faults what condition (Some 1) ++ block_faults levels what then_block ++ else_faults levels what else_block
-  command_faults levels what (TryThen k place accepted refused) =
+  command_faults levels what (try_then k place accepted refused) =
       simple_faults levels what k ++ block_faults levels what accepted ++ block_faults levels what refused
-  command_faults levels what (Case place e arms) = expression_faults what e None ++ arms_faults levels what (own what e) arms
+  command_faults levels what (case_of place e arms) = expression_faults what e None ++ arms_faults levels what (own what e) arms
 
   pub block_faults : List (List ℕ) → Lookup → CommandBlock → List Fault
-  block_faults levels what (Commands cs after) = commands_faults levels what cs
+  block_faults levels what (command_block cs after) = commands_faults levels what cs
 
   pub else_faults : List (List ℕ) → Lookup → ElseBlock → List Fault
-  else_faults levels what NoElse = []
-  else_faults levels what (Else b) = block_faults levels what b
+  else_faults levels what no_else = []
+  else_faults levels what (with_else b) = block_faults levels what b
 
   -- each constant is asked for the width of the number that it is compared with
   pub arms_faults : List (List ℕ) → Lookup → (asked : Option ℕ) → Arms → List Fault
-  arms_faults levels what asked (Last block) = block_faults levels what block
-  arms_faults levels what asked (Arm constants block arms) =
+  arms_faults levels what asked (last_arm block) = block_faults levels what block
+  arms_faults levels what asked (and_arm constants block arms) =
       constants_faults what asked constants ++ block_faults levels what block ++ arms_faults levels what asked arms
 
   pub commands_faults : List (List ℕ) → Lookup → CommandList → List Fault
-  commands_faults levels what NoCommand = []
-  commands_faults levels what (AndCommand c cs) = command_faults levels what c ++ commands_faults levels what cs
+  commands_faults levels what no_command = []
+  commands_faults levels what (and_command c cs) = command_faults levels what c ++ commands_faults levels what cs
 
 -- what a kind says: E6 at a level name that is no level, E9 where the authority isn't at or below the level; `le` is the order of the levels
 abbrev pub under_faults : List (List ℕ) → (le : ℕ → ℕ → Bool) → Mention → Option Under → List Fault
@@ -230,12 +230,12 @@ declarations_faults levels le (d ∷ ds) = declaration_faults levels le d ++ dec
 
 abbrev mutual
   pub state_faults : List (List ℕ) → (le : ℕ → ℕ → Bool) → Lookup → StateTree → List Fault
-  state_faults levels le what (StateOf place name kind body children) =
+  state_faults levels le what (state_node place name kind body children) =
       kind_faults levels le kind ++ block_faults levels what body ++ states_faults levels le what children
 
   pub states_faults : List (List ℕ) → (le : ℕ → ℕ → Bool) → Lookup → StateList → List Fault
-  states_faults levels le what NoState = []
-  states_faults levels le what (AndState s rest) = state_faults levels le what s ++ states_faults levels le what rest
+  states_faults levels le what no_state = []
+  states_faults levels le what (and_state s rest) = state_faults levels le what s ++ states_faults levels le what rest
 
 -- E3: a declared name that is declared earlier
 abbrev pub is_declared : List Entity → List ℕ → Bool

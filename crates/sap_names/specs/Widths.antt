@@ -4,7 +4,7 @@ use Rattle.sap_tree.specs.declared.syntax.UnaryOperator.{UnaryOperator}
 use Rattle.sap_tree.specs.declared.syntax.UnaryOperator.TheVariants.{Not, Neg, AllOnes, AnyOne, Odd}
 use Rattle.sap_tree.specs.declared.syntax.BinaryOperator.{BinaryOperator}
 use Rattle.sap_tree.specs.declared.syntax.BinaryOperator.TheVariants.{Or, Xor, And, Eq, Ne, Lt, Le, Shl, Shr, Add, Sub, Mul}
-use Rattle.sap_tree.specs.Syntax.{Expression, Number, Sized, Read, Cell, Unary, Binary, Choose, Slice, Concat, Zext, Expressions, NoPart, AndPart}
+use Rattle.sap_tree.specs.Syntax.{Expression, literal, sized_literal, variable, cell_at, unary_of, binary_of, choice, slice, concat, zero_extend, Expressions, no_part, and_part}
 use Rattle.sap_names.specs.declared.kind.Declared.{Declared}
 use Rattle.sap_names.specs.declared.kind.Declared.TheVariants.{Input, Register, Memory, State}
 use Rattle.sap_names.specs.declared.kind.Family.{Family}
@@ -102,21 +102,21 @@ is_reduction Odd = true
 
 abbrev mutual
   pub own : Lookup → Expression → Option ℕ
-  own what (Number spot value) = None
-  own what (Sized spot width value) = sound_width width
-  own what (Read spot name) = plain_width (what name)
-  own what (Cell spot name index) = cell_width (what name)
-  own what (Unary spot operator e) = if is_reduction operator then Some 1 else own what e
-  own what (Binary spot operator a b) = own_binary (family operator) (own what a) (own what b)
-  own what (Choose spot condition a b) = else_of (own what a) (own what b)
-  own what (Slice spot e high low) = sliced (own what e) high low
-  own what (Concat spot parts) = own_parts what parts
-  own what (Zext spot e width) = extended (own what e) width
+  own what (literal spot value) = None
+  own what (sized_literal spot width value) = sound_width width
+  own what (variable spot name) = plain_width (what name)
+  own what (cell_at spot name index) = cell_width (what name)
+  own what (unary_of spot operator e) = if is_reduction operator then Some 1 else own what e
+  own what (binary_of spot operator a b) = own_binary (family operator) (own what a) (own what b)
+  own what (choice spot condition a b) = else_of (own what a) (own what b)
+  own what (slice spot e high low) = sliced (own what e) high low
+  own what (concat spot parts) = own_parts what parts
+  own what (zero_extend spot e width) = extended (own what e) width
 
   -- of parts one behind the other
   pub own_parts : Lookup → Expressions → Option ℕ
-  own_parts what NoPart = Some 0
-  own_parts what (AndPart e parts) = joined (own what e) (own_parts what parts)
+  own_parts what no_part = Some 0
+  own_parts what (and_part e parts) = joined (own what e) (own_parts what parts)
 
 -- the width of an expression where a place asks for a width, or for none
 abbrev pub width_of : Lookup → Expression → (asked : Option ℕ) → Option ℕ
@@ -146,5 +146,5 @@ is_sound None = false
 is_sound (Some w) = true
 
 abbrev pub all_sound : Lookup → Expressions → Bool
-all_sound what NoPart = true
-all_sound what (AndPart e parts) = is_sound (own what e) && all_sound what parts
+all_sound what no_part = true
+all_sound what (and_part e parts) = is_sound (own what e) && all_sound what parts

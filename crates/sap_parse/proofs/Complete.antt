@@ -25,7 +25,7 @@ use Rattle.sap_tree.specs.declared.syntax.UnaryOperator.{UnaryOperator}
 use Rattle.sap_parse.proofs.ExprLaws.{bin_tail, bin_unary, expr_bin, unary_full}
 use Rattle.sap_parse.proofs.Known.{R, Rs, at_token_of, at_kind, at_none, stands_here, steps_append, takes, first_kind, first_is, goes_with, name_reads, number_reads, optional_taken, or_taken, sign_reads, sized_reads, skipped, word_reads, Taken}
 use Rattle.sap_walk.specs.Rows.{push, optional, ◌or◌, first_then, firsts}
-use Rattle.sap_walk.specs.Walk.{Next, Take, Skip, Stop, ◌>>=◌}
+use Rattle.sap_walk.specs.Walk.{Next, begins, empty_here, cannot_stand, ◌>>=◌}
 use Rattle.sap_walk.proofs.Walking.{bind_ok, bind_pure}
 
 -- where an expression may end: no operator of this precedence or a tighter one is next, and no `[`
@@ -89,22 +89,22 @@ no_question i h e = let z : ends_expr (Some (k.Sign j.Question)) ≡ true = subs
 
 -- rows that are skipped there
 
-skip_level : (l : ℕ) (o : Option BinaryOperator) → ends_at l o ≡ true → s.same_level l o ≡ Skip
+skip_level : (l : ℕ) (o : Option BinaryOperator) → ends_at l o ≡ true → s.same_level l o ≡ empty_here
 skip_level l None h = refl
 skip_level l (Some o) h = grind (arith, nat_tests)
 
-skip_sign : (l : ℕ) (x : SignOf) → ends_at_sign l x ≡ true → s.tail_next l (k.Sign x) ≡ Skip
+skip_sign : (l : ℕ) (x : SignOf) → ends_at_sign l x ≡ true → s.tail_next l (k.Sign x) ≡ empty_here
 skip_sign l j.OpenBracket h = absurd (cc)
 skip_sign l x h = skip_level l (operator_of x) h
 
-skip_tail : (l : ℕ) (i : Kind) → ends l (Some i) ≡ true → s.tail_next l i ≡ Skip
+skip_tail : (l : ℕ) (i : Kind) → ends l (Some i) ≡ true → s.tail_next l i ≡ empty_here
 skip_tail l (k.Sign x) h = skip_sign l x h
 skip_tail l (k.Word x) h = refl
 skip_tail l (k.Name x) h = refl
 skip_tail l (k.Number x) h = refl
 skip_tail l (k.Sized x n) h = refl
 
-skip_slices : (i : Kind) → i ≢ k.Sign j.OpenBracket → s.slices_next i ≡ Skip
+skip_slices : (i : Kind) → i ≢ k.Sign j.OpenBracket → s.slices_next i ≡ empty_here
 skip_slices (k.Sign j.OpenBracket) ne = absurd (ne refl)
 skip_slices (k.Sign _) ne = refl
 skip_slices (k.Word x) ne = refl
@@ -112,7 +112,7 @@ skip_slices (k.Name x) ne = refl
 skip_slices (k.Number x) ne = refl
 skip_slices (k.Sized x n) ne = refl
 
-skip_after_name : (i : Kind) → i ≢ k.Sign j.OpenBracket → s.after_name_next i ≡ Skip
+skip_after_name : (i : Kind) → i ≢ k.Sign j.OpenBracket → s.after_name_next i ≡ empty_here
 skip_after_name (k.Sign j.OpenBracket) ne = absurd (ne refl)
 skip_after_name (k.Sign _) ne = refl
 skip_after_name (k.Word x) ne = refl
@@ -120,7 +120,7 @@ skip_after_name (k.Name x) ne = refl
 skip_after_name (k.Number x) ne = refl
 skip_after_name (k.Sized x n) ne = refl
 
-skip_choice : (i : Kind) → i ≢ k.Sign j.Question → s.choice_next i ≡ Skip
+skip_choice : (i : Kind) → i ≢ k.Sign j.Question → s.choice_next i ≡ empty_here
 skip_choice (k.Sign j.Question) ne = absurd (ne refl)
 skip_choice (k.Sign _) ne = refl
 skip_choice (k.Word x) ne = refl
@@ -128,7 +128,7 @@ skip_choice (k.Name x) ne = refl
 skip_choice (k.Number x) ne = refl
 skip_choice (k.Sized x n) ne = refl
 
-skip_parts : (i : Kind) → i ≢ k.Sign j.Comma → next s.Parts i ≡ Skip
+skip_parts : (i : Kind) → i ≢ k.Sign j.Comma → next s.parts i ≡ empty_here
 skip_parts (k.Sign j.Comma) ne = absurd (ne refl)
 skip_parts (k.Sign _) ne = refl
 skip_parts (k.Word x) ne = refl
@@ -142,8 +142,8 @@ not_kind j p ne e same = ne (e ∙ ap (λ x. Some x) same)
 
 -- rows of operators
 
-operator_row : (o : BinaryOperator) → next (s.Tail (precedence o)) (k.Sign (sign_of o))
-    ≡ firsts (λ y. next y (k.Sign (sign_of o))) (s.Sign r.Inner (sign_of o) ∷ s.Bin (precedence o + 1) ∷ s.Tail (precedence o) ∷ [])
+operator_row : (o : BinaryOperator) → next (s.tail (precedence o)) (k.Sign (sign_of o))
+    ≡ firsts (λ y. next y (k.Sign (sign_of o))) (s.sign r.Inner (sign_of o) ∷ s.bin (precedence o + 1) ∷ s.tail (precedence o) ∷ [])
 operator_row b.Or = refl
 operator_row b.Xor = refl
 operator_row b.And = refl
@@ -158,10 +158,10 @@ operator_row b.Sub = refl
 operator_row b.Mul = refl
 
 operator_row_at : (o : BinaryOperator) (l : ℕ) → precedence o ≡ l
-    → next (s.Tail l) (k.Sign (sign_of o)) ≡ firsts (λ y. next y (k.Sign (sign_of o))) (s.Sign r.Inner (sign_of o) ∷ s.Bin (l + 1) ∷ s.Tail l ∷ [])
-operator_row_at o l e = subst (λ n. next (s.Tail n) (k.Sign (sign_of o)) ≡ firsts (λ y. next y (k.Sign (sign_of o))) (s.Sign r.Inner (sign_of o) ∷ s.Bin (n + 1) ∷ s.Tail n ∷ [])) e (operator_row o)
+    → next (s.tail l) (k.Sign (sign_of o)) ≡ firsts (λ y. next y (k.Sign (sign_of o))) (s.sign r.Inner (sign_of o) ∷ s.bin (l + 1) ∷ s.tail l ∷ [])
+operator_row_at o l e = subst (λ n. next (s.tail n) (k.Sign (sign_of o)) ≡ firsts (λ y. next y (k.Sign (sign_of o))) (s.sign r.Inner (sign_of o) ∷ s.bin (n + 1) ∷ s.tail n ∷ [])) e (operator_row o)
 
-unary_row : (o : UnaryOperator) → next s.Unary (k.Sign (unary_sign_of o)) ≡ firsts (λ y. next y (k.Sign (unary_sign_of o))) (s.Sign r.Inner (unary_sign_of o) ∷ s.Unary ∷ [])
+unary_row : (o : UnaryOperator) → next s.unary (k.Sign (unary_sign_of o)) ≡ firsts (λ y. next y (k.Sign (unary_sign_of o))) (s.sign r.Inner (unary_sign_of o) ∷ s.unary ∷ [])
 unary_row u.Not = refl
 unary_row u.Neg = refl
 unary_row u.AllOnes = refl
@@ -170,7 +170,7 @@ unary_row u.Odd = refl
 
 -- an index behind a name: it may begin with a number, but no `:` follows that
 
-row_after_number : (i : Kind) → i ≢ k.Sign j.Colon → next s.AfterNumber i ≡ firsts (λ y. next y i) index_symbols
+row_after_number : (i : Kind) → i ≢ k.Sign j.Colon → next s.behind_number i ≡ firsts (λ y. next y i) index_symbols
 row_after_number (k.Sign j.Colon) ne = absurd (ne refl)
 row_after_number (k.Sign _) ne = refl
 row_after_number (k.Word x) ne = refl
@@ -178,30 +178,30 @@ row_after_number (k.Name x) ne = refl
 row_after_number (k.Number x) ne = refl
 row_after_number (k.Sized x n) ne = refl
 
-row_push : (n m : Row) {role : Role} {ρ : List Symbol} (σ : List Symbol) → n ≡ Take role ρ → push n σ ≡ first_then n σ m
+row_push : (n m : Row) {role : Role} {ρ : List Symbol} (σ : List Symbol) → n ≡ begins role ρ → push n σ ≡ first_then n σ m
 row_push n m σ e = ap (λ x. push x σ) e ∙ sym (ap (λ x. first_then x σ m) e)
 
 close : List Symbol
-close = s.Sign r.Closing j.CloseBracket ∷ s.Slices ∷ []
+close = s.sign r.Closing j.CloseBracket ∷ s.slices ∷ []
 
-row_after_bracket : (i : Kind) {role : Role} {ρ : List Symbol} → ((n : ℕ) → i ≢ k.Number n) → next s.Expr i ≡ Take role ρ → next s.AfterBracket i ≡ firsts (λ y. next y i) (s.Expr ∷ close)
+row_after_bracket : (i : Kind) {role : Role} {ρ : List Symbol} → ((n : ℕ) → i ≢ k.Number n) → next s.expr i ≡ begins role ρ → next s.behind_bracket i ≡ firsts (λ y. next y i) (s.expr ∷ close)
 unfolding close
 row_after_bracket (k.Number x) ne e = absurd (ne x refl)
-row_after_bracket (k.Sign x) ne e = row_push (next s.Expr (k.Sign x)) (firsts (λ y. next y (k.Sign x)) close) close e
-row_after_bracket (k.Word x) ne e = row_push (next s.Expr (k.Word x)) (firsts (λ y. next y (k.Word x)) close) close e
-row_after_bracket (k.Name x) ne e = row_push (next s.Expr (k.Name x)) (firsts (λ y. next y (k.Name x)) close) close e
-row_after_bracket (k.Sized x n) ne e = row_push (next s.Expr (k.Sized x n)) (firsts (λ y. next y (k.Sized x n)) close) close e
+row_after_bracket (k.Sign x) ne e = row_push (next s.expr (k.Sign x)) (firsts (λ y. next y (k.Sign x)) close) close e
+row_after_bracket (k.Word x) ne e = row_push (next s.expr (k.Word x)) (firsts (λ y. next y (k.Word x)) close) close e
+row_after_bracket (k.Name x) ne e = row_push (next s.expr (k.Name x)) (firsts (λ y. next y (k.Name x)) close) close e
+row_after_bracket (k.Sized x n) ne e = row_push (next s.expr (k.Sized x n)) (firsts (λ y. next y (k.Sized x n)) close) close e
 
 -- behind the first operand of an expression
 behind : List Symbol
-behind = s.Slices ∷ (tails 1 ++ s.Choice ∷ [])
+behind = s.slices ∷ (tails 1 ++ s.choice ∷ [])
 
-expr_full : (i : Kind) → next s.Expr i ≢ Skip
+expr_full : (i : Kind) → next s.expr i ≢ empty_here
 expr_full i = by_row (s.unary_next i) (unary_full leniently i) where
-  by_row : (n : Row) → n ≢ Skip → first_then n (tails 1 ++ s.Choice ∷ []) (firsts (s.operand_next i) (tails 1 ++ s.Choice ∷ [])) ≢ Skip
-  by_row (Take role σ) ne e = cc
-  by_row Skip ne e = ne refl
-  by_row Stop ne e = cc
+  by_row : (n : Row) → n ≢ empty_here → first_then n (tails 1 ++ s.choice ∷ []) (firsts (s.operand_next i) (tails 1 ++ s.choice ∷ [])) ≢ empty_here
+  by_row (begins role σ) ne e = cc
+  by_row empty_here ne e = ne refl
+  by_row cannot_stand ne e = cc
 
 some_one : {a b : Kind} (i : Option Kind) → i ≡ Some a → i ≡ Some b → a ≡ b
 some_one i e f = cc
@@ -209,41 +209,41 @@ some_one i e f = cc
 colon_skips : (m : Stage) → first_kind m ≡ Some (k.Sign j.Colon) → Rs behind m ≡ Ok m
 unfolding behind
 colon_skips m e =
-    bind_ok _ _ _ (skip s.Slices refl refl) ∙ bind_ok _ _ _ (skip (s.Tail 8) refl refl) ∙ bind_ok _ _ _ (skip (s.Tail 7) refl refl)
-    ∙ bind_ok _ _ _ (skip (s.Tail 6) refl refl) ∙ bind_ok _ _ _ (skip (s.Tail 5) refl refl) ∙ bind_ok _ _ _ (skip (s.Tail 4) refl refl)
-    ∙ bind_ok _ _ _ (skip (s.Tail 3) refl refl) ∙ bind_ok _ _ _ (skip (s.Tail 2) refl refl) ∙ bind_ok _ _ _ (skip (s.Tail 1) refl refl)
-    ∙ bind_ok _ _ _ (skip s.Choice refl refl) where
-      skip : (x : Symbol) → s.may_be_empty x ≡ true → next x (k.Sign j.Colon) ≡ Skip → R x m ≡ Ok m
-      skip x h row = skipped x m h (λ i f. subst (λ i. next x i ≡ Skip) (some_one (first_kind m) e f) row)
+    bind_ok _ _ _ (skip s.slices refl refl) ∙ bind_ok _ _ _ (skip (s.tail 8) refl refl) ∙ bind_ok _ _ _ (skip (s.tail 7) refl refl)
+    ∙ bind_ok _ _ _ (skip (s.tail 6) refl refl) ∙ bind_ok _ _ _ (skip (s.tail 5) refl refl) ∙ bind_ok _ _ _ (skip (s.tail 4) refl refl)
+    ∙ bind_ok _ _ _ (skip (s.tail 3) refl refl) ∙ bind_ok _ _ _ (skip (s.tail 2) refl refl) ∙ bind_ok _ _ _ (skip (s.tail 1) refl refl)
+    ∙ bind_ok _ _ _ (skip s.choice refl refl) where
+      skip : (x : Symbol) → s.may_be_empty x ≡ true → next x (k.Sign j.Colon) ≡ empty_here → R x m ≡ Ok m
+      skip x h row = skipped x m h (λ i f. subst (λ i. next x i ≡ empty_here) (some_one (first_kind m) e f) row)
 
 -- a number that begins an index isn't followed by `:`
-pub no_colon : (p m q : Stage) (n : ℕ) → IsToken p r.Inner (k.Number n) m → R s.Expr p ≡ Ok q → first_kind q ≡ Some (k.Sign j.CloseBracket)
+pub no_colon : (p m q : Stage) (n : ℕ) → IsToken p r.Inner (k.Number n) m → R s.expr p ≡ Ok q → first_kind q ≡ Some (k.Sign j.CloseBracket)
     → first_kind m ≢ Some (k.Sign j.Colon)
 unfolding behind
 no_colon p m q n t h e f =
-    let rest : Rs behind m ≡ Ok q = sym (at_token_of s.Expr (s.Number r.Inner ∷ behind) t refl ∙ bind_ok _ _ _ (number_reads t)) ∙ h in
+    let rest : Rs behind m ≡ Ok q = sym (at_token_of s.expr (s.number r.Inner ∷ behind) t refl ∙ bind_ok _ _ _ (number_reads t)) ∙ h in
     let same : m ≡ q = ok_one (Rs behind m) (colon_skips m f) rest in
     let both : k.Sign j.Colon ≡ k.Sign j.CloseBracket = some_one (first_kind m) f (ap first_kind same ∙ e) in
     absurd (cc)
 
-number_index : (p m q : Stage) (n : ℕ) → IsToken p r.Inner (k.Number n) m → R s.Expr p ≡ Ok q → first_kind q ≡ Some (k.Sign j.CloseBracket) → R s.AfterBracket p ≡ Rs close q
+number_index : (p m q : Stage) (n : ℕ) → IsToken p r.Inner (k.Number n) m → R s.expr p ≡ Ok q → first_kind q ≡ Some (k.Sign j.CloseBracket) → R s.behind_bracket p ≡ Rs close q
 unfolding close behind
 number_index p m q n t h e =
-    at_token_of s.AfterBracket (s.Number r.Inner ∷ s.AfterNumber ∷ []) t refl ∙ bind_ok _ _ _ (number_reads t) ∙ bind_pure (R s.AfterNumber m)
+    at_token_of s.behind_bracket (s.number r.Inner ∷ s.behind_number ∷ []) t refl ∙ bind_ok _ _ _ (number_reads t) ∙ bind_pure (R s.behind_number m)
     ∙ by_kind (first_kind m) refl ∙ steps_append behind close m ∙ bind_ok _ _ _ rest where
       rest : Rs behind m ≡ Ok q
-      rest = sym (at_token_of s.Expr (s.Number r.Inner ∷ behind) t refl ∙ bind_ok _ _ _ (number_reads t)) ∙ h
+      rest = sym (at_token_of s.expr (s.number r.Inner ∷ behind) t refl ∙ bind_ok _ _ _ (number_reads t)) ∙ h
 
-      by_kind : (i : Option Kind) → first_kind m ≡ i → R s.AfterNumber m ≡ Rs (behind ++ close) m
-      by_kind None f = at_none s.AfterNumber (behind ++ close) m f refl
-      by_kind (Some i) f = at_kind s.AfterNumber (behind ++ close) i m f (row_after_number i (λ c. no_colon p m q n t h e (f ∙ ap (λ x. Some x) c)))
+      by_kind : (i : Option Kind) → first_kind m ≡ i → R s.behind_number m ≡ Rs (behind ++ close) m
+      by_kind None f = at_none s.behind_number (behind ++ close) m f refl
+      by_kind (Some i) f = at_kind s.behind_number (behind ++ close) i m f (row_after_number i (λ c. no_colon p m q n t h e (f ∙ ap (λ x. Some x) c)))
 
-index_reads : (p q : Stage) → R s.Expr p ≡ Ok q → first_kind q ≡ Some (k.Sign j.CloseBracket) → R s.AfterBracket p ≡ Rs close q
-index_reads p q h e = let t = takes s.Expr p q refl expr_full h in by_kind t.kind t.here t.row where
-  not_number : {role : Role} {ρ : List Symbol} (i : Kind) → first_kind p ≡ Some i → next s.Expr i ≡ Take role ρ → ((n : ℕ) → i ≢ k.Number n) → R s.AfterBracket p ≡ Rs close q
-  not_number i f row ne = at_kind s.AfterBracket (s.Expr ∷ close) i p f (row_after_bracket i ne row) ∙ bind_ok _ _ _ h
+index_reads : (p q : Stage) → R s.expr p ≡ Ok q → first_kind q ≡ Some (k.Sign j.CloseBracket) → R s.behind_bracket p ≡ Rs close q
+index_reads p q h e = let t = takes s.expr p q refl expr_full h in by_kind t.kind t.here t.row where
+  not_number : {role : Role} {ρ : List Symbol} (i : Kind) → first_kind p ≡ Some i → next s.expr i ≡ begins role ρ → ((n : ℕ) → i ≢ k.Number n) → R s.behind_bracket p ≡ Rs close q
+  not_number i f row ne = at_kind s.behind_bracket (s.expr ∷ close) i p f (row_after_bracket i ne row) ∙ bind_ok _ _ _ h
 
-  by_kind : {role : Role} {ρ : List Symbol} (i : Kind) → first_kind p ≡ Some i → next s.Expr i ≡ Take role ρ → R s.AfterBracket p ≡ Rs close q
+  by_kind : {role : Role} {ρ : List Symbol} (i : Kind) → first_kind p ≡ Some i → next s.expr i ≡ begins role ρ → R s.behind_bracket p ≡ Rs close q
   by_kind (k.Number n) f row = let t = stands_here p r.Inner (k.Number n) f in number_index p t.0 q n t.1 h e
   by_kind (k.Sign x) f row = not_number (k.Sign x) f row (λ n c. absurd (cc))
   by_kind (k.Word x) f row = not_number (k.Word x) f row (λ n c. absurd (cc))
@@ -252,24 +252,24 @@ index_reads p q h e = let t = takes s.Expr p q refl expr_full h in by_kind t.kin
 
 -- the rules
 
-pub bounds_read : {p q : Stage} {high low : ℕ} → g.Bounds p high low q → R s.Slice p ≡ Ok q
+pub bounds_read : {p q : Stage} {high low : ℕ} → g.Bounds p high low q → R s.slice p ≡ Ok q
 bounds_read (g.bounds o high c low z) =
-    at_token_of s.Slice (s.Sign r.Opening j.OpenBracket ∷ s.Number r.Inner ∷ s.Sign r.Inner j.Colon ∷ s.Number r.Inner ∷ s.Sign r.Closing j.CloseBracket ∷ []) o refl
+    at_token_of s.slice (s.sign r.Opening j.OpenBracket ∷ s.number r.Inner ∷ s.sign r.Inner j.Colon ∷ s.number r.Inner ∷ s.sign r.Closing j.CloseBracket ∷ []) o refl
     ∙ bind_ok _ _ _ (sign_reads o) ∙ bind_ok _ _ _ (number_reads high) ∙ bind_ok _ _ _ (sign_reads c) ∙ bind_ok _ _ _ (number_reads low) ∙ bind_ok _ _ _ (sign_reads z)
 
 pub bounds_first : {p q : Stage} {high low : ℕ} → g.Bounds p high low q → first_kind p ≡ Some (k.Sign j.OpenBracket)
 bounds_first (g.bounds o high c low z) = first_is o
 
-pub cuts_read : {p q : Stage} {x y : t.Expression} → g.Cuts x p y q → first_kind q ≢ Some (k.Sign j.OpenBracket) → R s.Slices p ≡ Ok q
-cuts_read {p} g.no_cut ne = skipped s.Slices p refl (λ i e. skip_slices i (not_kind (k.Sign j.OpenBracket) p ne e))
-cuts_read {p} (g.cut b c) ne = at_kind s.Slices (s.Slice ∷ s.Slices ∷ []) (k.Sign j.OpenBracket) p (bounds_first b) refl ∙ bind_ok _ _ _ (bounds_read b) ∙ bind_ok _ _ _ (cuts_read c ne)
+pub cuts_read : {p q : Stage} {x y : t.Expression} → g.Cuts x p y q → first_kind q ≢ Some (k.Sign j.OpenBracket) → R s.slices p ≡ Ok q
+cuts_read {p} g.no_cut ne = skipped s.slices p refl (λ i e. skip_slices i (not_kind (k.Sign j.OpenBracket) p ne e))
+cuts_read {p} (g.cut b c) ne = at_kind s.slices (s.slice ∷ s.slices ∷ []) (k.Sign j.OpenBracket) p (bounds_first b) refl ∙ bind_ok _ _ _ (bounds_read b) ∙ bind_ok _ _ _ (cuts_read c ne)
 
-after_name_reads : {p q : Stage} {x y : t.Expression} → g.Cuts x p y q → first_kind q ≢ Some (k.Sign j.OpenBracket) → R s.AfterName p ≡ Ok q
-after_name_reads {p} g.no_cut ne = skipped s.AfterName p refl (λ i e. skip_after_name i (not_kind (k.Sign j.OpenBracket) p ne e))
+after_name_reads : {p q : Stage} {x y : t.Expression} → g.Cuts x p y q → first_kind q ≢ Some (k.Sign j.OpenBracket) → R s.behind_name p ≡ Ok q
+after_name_reads {p} g.no_cut ne = skipped s.behind_name p refl (λ i e. skip_after_name i (not_kind (k.Sign j.OpenBracket) p ne e))
 after_name_reads {p} (g.cut (g.bounds o high m low z) c) ne =
-    at_token_of s.AfterName (s.Sign r.Opening j.OpenBracket ∷ s.AfterBracket ∷ []) o refl ∙ bind_ok _ _ _ (sign_reads o)
-    ∙ bind_ok _ _ _ (at_token_of s.AfterBracket (s.Number r.Inner ∷ s.AfterNumber ∷ []) high refl ∙ bind_ok _ _ _ (number_reads high)
-    ∙ bind_ok _ _ _ (at_token_of s.AfterNumber (s.Sign r.Inner j.Colon ∷ s.Number r.Inner ∷ s.Sign r.Closing j.CloseBracket ∷ s.Slices ∷ []) m refl
+    at_token_of s.behind_name (s.sign r.Opening j.OpenBracket ∷ s.behind_bracket ∷ []) o refl ∙ bind_ok _ _ _ (sign_reads o)
+    ∙ bind_ok _ _ _ (at_token_of s.behind_bracket (s.number r.Inner ∷ s.behind_number ∷ []) high refl ∙ bind_ok _ _ _ (number_reads high)
+    ∙ bind_ok _ _ _ (at_token_of s.behind_number (s.sign r.Inner j.Colon ∷ s.number r.Inner ∷ s.sign r.Closing j.CloseBracket ∷ s.slices ∷ []) m refl
     ∙ bind_ok _ _ _ (sign_reads m) ∙ bind_ok _ _ _ (number_reads low) ∙ bind_ok _ _ _ (sign_reads z) ∙ bind_ok _ _ _ (cuts_read c ne)))
 
 pub others_end : {l : ℕ} {p q : Stage} {x y : t.Expression} → g.Others l x p y q → ends l (first_kind q) ≡ true → ends (l + 1) (first_kind p) ≡ true
@@ -281,73 +281,73 @@ parts_end g.no_part h = h
 parts_end (g.part comma x more) h = ap ends_expr (first_is comma)
 
 -- an operand begins with no unary operator
-unary_post : {p q : Stage} {x : t.Expression} → g.Prim p x q → R s.Unary p ≡ Rs (s.Post ∷ []) p
-unary_post (g.number n) = at_token_of s.Unary (s.Post ∷ []) n refl
-unary_post (g.sized n) = at_token_of s.Unary (s.Post ∷ []) n refl
-unary_post (g.read n) = at_token_of s.Unary (s.Post ∷ []) n refl
-unary_post (g.cell n o x z) = at_token_of s.Unary (s.Post ∷ []) n refl
-unary_post (g.parentheses o x z) = at_token_of s.Unary (s.Post ∷ []) o refl
-unary_post (g.concat o x c y more z) = at_token_of s.Unary (s.Post ∷ []) o refl
-unary_post (g.zext word o x c n z) = at_token_of s.Unary (s.Post ∷ []) word refl
+unary_post : {p q : Stage} {x : t.Expression} → g.Prim p x q → R s.unary p ≡ Rs (s.post ∷ []) p
+unary_post (g.number n) = at_token_of s.unary (s.post ∷ []) n refl
+unary_post (g.sized n) = at_token_of s.unary (s.post ∷ []) n refl
+unary_post (g.read n) = at_token_of s.unary (s.post ∷ []) n refl
+unary_post (g.cell n o x z) = at_token_of s.unary (s.post ∷ []) n refl
+unary_post (g.parentheses o x z) = at_token_of s.unary (s.post ∷ []) o refl
+unary_post (g.concat o x c y more z) = at_token_of s.unary (s.post ∷ []) o refl
+unary_post (g.zext word o x c n z) = at_token_of s.unary (s.post ∷ []) word refl
 
 closes : {p m q : Stage} {x y : t.Expression} → IsSign p r.Closing j.CloseBracket m → g.Cuts x m y q → first_kind q ≢ Some (k.Sign j.OpenBracket) → Rs close p ≡ Ok q
 unfolding close
 closes z c ne = bind_ok _ _ _ (sign_reads z) ∙ bind_ok _ _ _ (cuts_read c ne)
 
 mutual
-  pub expr_reads : {p q : Stage} {x : t.Expression} → g.Expr p x q → ends_expr (first_kind q) ≡ true → R s.Expr p ≡ Ok q
+  pub expr_reads : {p q : Stage} {x : t.Expression} → g.Expr p x q → ends_expr (first_kind q) ≡ true → R s.expr p ≡ Ok q
   expr_reads {p} {q} (g.only x) h =
       expr_bin leniently p ∙ bind_ok _ _ _ (bin_reads x (expr_bin_ends (first_kind q) h))
-      ∙ bind_ok _ _ _ (skipped s.Choice q refl (λ i e. skip_choice i (not_kind (k.Sign j.Question) q (no_question (first_kind q) h) e)))
+      ∙ bind_ok _ _ _ (skipped s.choice q refl (λ i e. skip_choice i (not_kind (k.Sign j.Question) q (no_question (first_kind q) h) e)))
   expr_reads {p} (g.choice x question y colon z) h =
       expr_bin leniently p ∙ bind_ok _ _ _ (bin_reads x (ap (ends 1) (first_is question)))
-      ∙ bind_ok _ _ _ (at_token_of s.Choice (s.Sign r.Inner j.Question ∷ s.Expr ∷ s.Sign r.Inner j.Colon ∷ s.Expr ∷ []) question refl
+      ∙ bind_ok _ _ _ (at_token_of s.choice (s.sign r.Inner j.Question ∷ s.expr ∷ s.sign r.Inner j.Colon ∷ s.expr ∷ []) question refl
       ∙ bind_ok _ _ _ (sign_reads question) ∙ bind_ok _ _ _ (expr_reads y (ap ends_expr (first_is colon))) ∙ bind_ok _ _ _ (sign_reads colon) ∙ bind_ok _ _ _ (expr_reads z h))
 
-  pub bin_reads : {l : ℕ} {p q : Stage} {x : t.Expression} → g.Bin l p x q → ends l (first_kind q) ≡ true → R (s.Bin l) p ≡ Ok q
+  pub bin_reads : {l : ℕ} {p q : Stage} {x : t.Expression} → g.Bin l p x q → ends l (first_kind q) ≡ true → R (s.bin l) p ≡ Ok q
   bin_reads {p = p} {q = q} (g.operand x) h = bin_unary leniently p ∙ unary_reads x (no_bracket unary_precedence (first_kind q) h)
   bin_reads {l} {p} (g.chain lt x more) h = bin_tail leniently p l lt ∙ bind_ok _ _ _ (bin_reads x (others_end more h)) ∙ bind_ok _ _ _ (others_read more h)
 
-  pub others_read : {l : ℕ} {p q : Stage} {x y : t.Expression} → g.Others l x p y q → ends l (first_kind q) ≡ true → R (s.Tail l) p ≡ Ok q
-  others_read {l} {p} g.no_other h = skipped (s.Tail l) p refl (λ i e. skip_tail l i (subst (λ x. ends l x ≡ true) e h))
+  pub others_read : {l : ℕ} {p q : Stage} {x y : t.Expression} → g.Others l x p y q → ends l (first_kind q) ≡ true → R (s.tail l) p ≡ Ok q
+  others_read {l} {p} g.no_other h = skipped (s.tail l) p refl (λ i e. skip_tail l i (subst (λ x. ends l x ≡ true) e h))
   others_read {l} (g.other o at sign y more) h =
-      at_token_of (s.Tail l) (s.Sign r.Inner (sign_of o) ∷ s.Bin (l + 1) ∷ s.Tail l ∷ []) sign (operator_row_at o l at)
+      at_token_of (s.tail l) (s.sign r.Inner (sign_of o) ∷ s.bin (l + 1) ∷ s.tail l ∷ []) sign (operator_row_at o l at)
       ∙ bind_ok _ _ _ (sign_reads sign) ∙ bind_ok _ _ _ (bin_reads y (others_end more h)) ∙ bind_ok _ _ _ (others_read more h)
 
-  pub unary_reads : {p q : Stage} {x : t.Expression} → g.Unary p x q → first_kind q ≢ Some (k.Sign j.OpenBracket) → R s.Unary p ≡ Ok q
+  pub unary_reads : {p q : Stage} {x : t.Expression} → g.Unary p x q → first_kind q ≢ Some (k.Sign j.OpenBracket) → R s.unary p ≡ Ok q
   unary_reads (g.signed o sign x) ne =
-      at_token_of s.Unary (s.Sign r.Inner (unary_sign_of o) ∷ s.Unary ∷ []) sign (unary_row o) ∙ bind_ok _ _ _ (sign_reads sign) ∙ bind_ok _ _ _ (unary_reads x ne)
+      at_token_of s.unary (s.sign r.Inner (unary_sign_of o) ∷ s.unary ∷ []) sign (unary_row o) ∙ bind_ok _ _ _ (sign_reads sign) ∙ bind_ok _ _ _ (unary_reads x ne)
   unary_reads (g.unsigned (g.post x c)) ne = unary_post x ∙ bind_ok _ _ _ (post_reads x c ne)
 
-  pub post_reads : {p m q : Stage} {x y : t.Expression} → g.Prim p x m → g.Cuts x m y q → first_kind q ≢ Some (k.Sign j.OpenBracket) → R s.Post p ≡ Ok q
-  post_reads (g.number n) c ne = at_token_of s.Post (s.Prim ∷ s.Slices ∷ []) n refl ∙ bind_ok _ _ _ (at_token_of s.Prim (s.Number r.Inner ∷ []) n refl ∙ bind_ok _ _ _ (number_reads n)) ∙ bind_ok _ _ _ (cuts_read c ne)
-  post_reads (g.sized n) c ne = at_token_of s.Post (s.Prim ∷ s.Slices ∷ []) n refl ∙ bind_ok _ _ _ (at_token_of s.Prim (s.Sized r.Inner ∷ []) n refl ∙ bind_ok _ _ _ (sized_reads n)) ∙ bind_ok _ _ _ (cuts_read c ne)
-  post_reads (g.read n) c ne = at_token_of s.Post (s.Name r.Inner ∷ s.AfterName ∷ []) n refl ∙ bind_ok _ _ _ (name_reads n) ∙ bind_ok _ _ _ (after_name_reads c ne)
+  pub post_reads : {p m q : Stage} {x y : t.Expression} → g.Prim p x m → g.Cuts x m y q → first_kind q ≢ Some (k.Sign j.OpenBracket) → R s.post p ≡ Ok q
+  post_reads (g.number n) c ne = at_token_of s.post (s.prim ∷ s.slices ∷ []) n refl ∙ bind_ok _ _ _ (at_token_of s.prim (s.number r.Inner ∷ []) n refl ∙ bind_ok _ _ _ (number_reads n)) ∙ bind_ok _ _ _ (cuts_read c ne)
+  post_reads (g.sized n) c ne = at_token_of s.post (s.prim ∷ s.slices ∷ []) n refl ∙ bind_ok _ _ _ (at_token_of s.prim (s.sized r.Inner ∷ []) n refl ∙ bind_ok _ _ _ (sized_reads n)) ∙ bind_ok _ _ _ (cuts_read c ne)
+  post_reads (g.read n) c ne = at_token_of s.post (s.any_name r.Inner ∷ s.behind_name ∷ []) n refl ∙ bind_ok _ _ _ (name_reads n) ∙ bind_ok _ _ _ (after_name_reads c ne)
   post_reads (g.cell n o x z) c ne =
-      at_token_of s.Post (s.Name r.Inner ∷ s.AfterName ∷ []) n refl ∙ bind_ok _ _ _ (name_reads n)
-      ∙ bind_ok _ _ _ (at_token_of s.AfterName (s.Sign r.Opening j.OpenBracket ∷ s.AfterBracket ∷ []) o refl ∙ bind_ok _ _ _ (sign_reads o)
+      at_token_of s.post (s.any_name r.Inner ∷ s.behind_name ∷ []) n refl ∙ bind_ok _ _ _ (name_reads n)
+      ∙ bind_ok _ _ _ (at_token_of s.behind_name (s.sign r.Opening j.OpenBracket ∷ s.behind_bracket ∷ []) o refl ∙ bind_ok _ _ _ (sign_reads o)
       ∙ bind_ok _ _ _ (index_reads _ _ (expr_reads x (ap ends_expr (first_is z))) (first_is z) ∙ closes z c ne))
   post_reads (g.parentheses o x z) c ne =
-      at_token_of s.Post (s.Prim ∷ s.Slices ∷ []) o refl
-      ∙ bind_ok _ _ _ (at_token_of s.Prim (s.Sign r.Opening j.OpenParen ∷ s.Expr ∷ s.Sign r.Closing j.CloseParen ∷ []) o refl
+      at_token_of s.post (s.prim ∷ s.slices ∷ []) o refl
+      ∙ bind_ok _ _ _ (at_token_of s.prim (s.sign r.Opening j.OpenParen ∷ s.expr ∷ s.sign r.Closing j.CloseParen ∷ []) o refl
       ∙ bind_ok _ _ _ (sign_reads o) ∙ bind_ok _ _ _ (expr_reads x (ap ends_expr (first_is z))) ∙ bind_ok _ _ _ (sign_reads z))
       ∙ bind_ok _ _ _ (cuts_read c ne)
   post_reads (g.concat o x comma y more z) c ne =
-      at_token_of s.Post (s.Prim ∷ s.Slices ∷ []) o refl
-      ∙ bind_ok _ _ _ (at_token_of s.Prim (s.Sign r.Opening j.OpenBrace ∷ s.Expr ∷ s.Sign r.Inner j.Comma ∷ s.Expr ∷ s.Parts ∷ s.Sign r.Closing j.CloseBrace ∷ []) o refl
+      at_token_of s.post (s.prim ∷ s.slices ∷ []) o refl
+      ∙ bind_ok _ _ _ (at_token_of s.prim (s.sign r.Opening j.OpenBrace ∷ s.expr ∷ s.sign r.Inner j.Comma ∷ s.expr ∷ s.parts ∷ s.sign r.Closing j.CloseBrace ∷ []) o refl
       ∙ bind_ok _ _ _ (sign_reads o) ∙ bind_ok _ _ _ (expr_reads x (ap ends_expr (first_is comma))) ∙ bind_ok _ _ _ (sign_reads comma)
       ∙ bind_ok _ _ _ (expr_reads y (parts_end more (ap ends_expr (first_is z))))
       ∙ bind_ok _ _ _ (parts_read more (ap ends_expr (first_is z)) (λ e. let f = first_is z in absurd (cc))) ∙ bind_ok _ _ _ (sign_reads z))
       ∙ bind_ok _ _ _ (cuts_read c ne)
   post_reads (g.zext word o x comma n z) c ne =
-      at_token_of s.Post (s.Prim ∷ s.Slices ∷ []) word refl
-      ∙ bind_ok _ _ _ (at_token_of s.Prim (s.Word r.Inner w.Zext ∷ s.Sign r.Opening j.OpenParen ∷ s.Expr ∷ s.Sign r.Inner j.Comma ∷ s.Number r.Inner ∷ s.Sign r.Closing j.CloseParen ∷ []) word refl
+      at_token_of s.post (s.prim ∷ s.slices ∷ []) word refl
+      ∙ bind_ok _ _ _ (at_token_of s.prim (s.word r.Inner w.Zext ∷ s.sign r.Opening j.OpenParen ∷ s.expr ∷ s.sign r.Inner j.Comma ∷ s.number r.Inner ∷ s.sign r.Closing j.CloseParen ∷ []) word refl
       ∙ bind_ok _ _ _ (word_reads word) ∙ bind_ok _ _ _ (sign_reads o) ∙ bind_ok _ _ _ (expr_reads x (ap ends_expr (first_is comma))) ∙ bind_ok _ _ _ (sign_reads comma)
       ∙ bind_ok _ _ _ (number_reads n) ∙ bind_ok _ _ _ (sign_reads z))
       ∙ bind_ok _ _ _ (cuts_read c ne)
 
-  pub parts_read : {p q : Stage} {xs : t.Expressions} → g.Parts p xs q → ends_expr (first_kind q) ≡ true → first_kind q ≢ Some (k.Sign j.Comma) → R s.Parts p ≡ Ok q
-  parts_read {p} g.no_part h ne = skipped s.Parts p refl (λ i e. skip_parts i (not_kind (k.Sign j.Comma) p ne e))
+  pub parts_read : {p q : Stage} {xs : t.Expressions} → g.Parts p xs q → ends_expr (first_kind q) ≡ true → first_kind q ≢ Some (k.Sign j.Comma) → R s.parts p ≡ Ok q
+  parts_read {p} g.no_part h ne = skipped s.parts p refl (λ i e. skip_parts i (not_kind (k.Sign j.Comma) p ne e))
   parts_read (g.part comma x more) h ne =
-      at_token_of s.Parts (s.Sign r.Inner j.Comma ∷ s.Expr ∷ s.Parts ∷ []) comma refl
+      at_token_of s.parts (s.sign r.Inner j.Comma ∷ s.expr ∷ s.parts ∷ []) comma refl
       ∙ bind_ok _ _ _ (sign_reads comma) ∙ bind_ok _ _ _ (expr_reads x (parts_end more h)) ∙ bind_ok _ _ _ (parts_read more h ne)

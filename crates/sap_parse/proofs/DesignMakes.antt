@@ -61,22 +61,22 @@ memory_tree {p1 = p1} {p2 = p2} {p4 = p4} {p6 = p6} {q = q} {n = n} {width = wid
 
 pub state_tree : {depth : ℕ} {p1 p2 p3 p4 p5 p6 p7 q : Stage} {place after : Place} {n : Mention} {kind kind' : Kind} {cs : t.CommandList} {children : t.StateList} {x : t.StateTree}
     → IsWord p1 (r.State depth) w.State p2 → IsName p2 r.Plain n.name p3 → g.KindOf p3 kind p4 → IsSign p4 r.Plain s.OpenBrace p5 → g.Cmds 1 p5 cs p6 → g.States (depth + 1) p6 children p7 → IsSign p7 r.Plain s.CloseBrace q
-    → place ≡ here p1 → n ≡ mention p2 n.name → kind' ≡ kind → after ≡ here p6 → x ≡ t.StateOf place n kind' (t.Commands cs after) children → g.State depth p1 x q
+    → place ≡ here p1 → n ≡ mention p2 n.name → kind' ≡ kind → after ≡ here p6 → x ≡ t.state_node place n kind' (t.command_block cs after) children → g.State depth p1 x q
 state_tree {depth = depth} {p1 = p1} {p2 = p2} {p6 = p6} {q = q} {place = place} {after = after} {n = n} {kind = kind} {kind' = kind'} {cs = cs} {children = children} a b c e f h l at there same last made =
     subst (λ x. g.State depth p1 x q)
-    (sym (made ∙ ap (λ place. t.StateOf place n kind' (t.Commands cs after) children) at ∙ ap (λ m. t.StateOf (here p1) m kind' (t.Commands cs after) children) there
-    ∙ ap (λ kind. t.StateOf (here p1) (mention p2 n.name) kind (t.Commands cs after) children) same ∙ ap (λ after. t.StateOf (here p1) (mention p2 n.name) kind (t.Commands cs after) children) last))
+    (sym (made ∙ ap (λ place. t.state_node place n kind' (t.command_block cs after) children) at ∙ ap (λ m. t.state_node (here p1) m kind' (t.command_block cs after) children) there
+    ∙ ap (λ kind. t.state_node (here p1) (mention p2 n.name) kind (t.command_block cs after) children) same ∙ ap (λ after. t.state_node (here p1) (mention p2 n.name) kind (t.command_block cs after) children) last))
     (g.state a b c e f h l)
 
-pub join_states_push : (xs : List State) (x : State) (ys : t.StateList) → join_states (states_of (xs ++ x ∷ [])) ys ≡ join_states (states_of xs) (t.AndState (state_of x) ys)
+pub join_states_push : (xs : List State) (x : State) (ys : t.StateList) → join_states (states_of (xs ++ x ∷ [])) ys ≡ join_states (states_of xs) (t.and_state (state_of x) ys)
 join_states_push [] x ys = refl
-join_states_push (y ∷ xs) x ys = ap (λ zs. t.AndState (state_of y) zs) (join_states_push xs x ys)
+join_states_push (y ∷ xs) x ys = ap (λ zs. t.and_state (state_of y) zs) (join_states_push xs x ys)
 
-pub join_states_none : (xs : t.StateList) → join_states xs t.NoState ≡ xs
-join_states_none t.NoState = refl
-join_states_none (t.AndState x xs) = ap (λ zs. t.AndState x zs) (join_states_none xs)
+pub join_states_none : (xs : t.StateList) → join_states xs t.no_state ≡ xs
+join_states_none t.no_state = refl
+join_states_none (t.and_state x xs) = ap (λ zs. t.and_state x zs) (join_states_none xs)
 
 pub design_tree : {p1 p2 p3 p4 q : Stage} {version : Version} {declarations : List Decl} {x : t.StateTree} {xs all : t.StateList} → g.Header p1 version p2 → g.Declarations p2 declarations p3 → g.State 1 p3 x p4 → g.States 1 p4 xs q
-    → all ≡ t.AndState x xs → g.Design p1 (record { version = version; declarations = declarations; states = all }) q
+    → all ≡ t.and_state x xs → g.Design p1 (record { version = version; declarations = declarations; states = all }) q
 design_tree {p1 = p1} {q = q} {version = version} {declarations = declarations} h a b c same =
     subst (λ states. g.Design p1 (record { version = version; declarations = declarations; states = states }) q) (sym same) (g.design h a b c)

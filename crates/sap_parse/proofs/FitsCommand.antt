@@ -43,7 +43,7 @@ pub record FitsTags (version : Version) (xs : t.TagExpressions) (c d : Counts) :
   pub states : d.states ≡ c.states
   pub commands : d.commands ≡ c.commands
 
-level_fits : {version : Version} {m : Mention} {c d : Counts} → is_name version m.name ≡ true → RoleFact r.Inner c d → FitsTag version (t.Level m) c d
+level_fits : {version : Version} {m : Mention} {c d : Counts} → is_name version m.name ≡ true → RoleFact r.Inner c d → FitsTag version (t.level_of m) c d
 unfolding is_tag tag_tokens tag_brackets
 level_fits is a = let a0 = a.0 in let a1 = a.1 in
     record { is = is; size = omega arith; room = a0.room; even = a1; depth = λ h. omega arith; states = a0.states; commands = a0.commands }
@@ -63,25 +63,25 @@ word_fits x w same size nest a b c d =
       commands = omega (arith, c.commands);
     }
 
-tag_of_fits : {version : Version} {x : t.Expression} {p : Place} {c1 c2 c3 c4 c5 : Counts} → RoleFact r.Inner c1 c2 → RoleFact r.Opening c2 c3 → Fits version 0 x c3 c4 → RoleFact r.Closing c4 c5 → FitsTag version (t.TagOf p x) c1 c5
+tag_of_fits : {version : Version} {x : t.Expression} {p : Place} {c1 c2 c3 c4 c5 : Counts} → RoleFact r.Inner c1 c2 → RoleFact r.Opening c2 c3 → Fits version 0 x c3 c4 → RoleFact r.Closing c4 c5 → FitsTag version (t.tag_at p x) c1 c5
 unfolding is_tag tag_tokens tag_brackets
-tag_of_fits {x} {p} a b c d = word_fits x (t.TagOf p x) refl refl refl a b c d
+tag_of_fits {x} {p} a b c d = word_fits x (t.tag_at p x) refl refl refl a b c d
 
-level_at_fits : {version : Version} {x : t.Expression} {p : Place} {c1 c2 c3 c4 c5 : Counts} → RoleFact r.Inner c1 c2 → RoleFact r.Opening c2 c3 → Fits version 0 x c3 c4 → RoleFact r.Closing c4 c5 → FitsTag version (t.LevelAt p x) c1 c5
+level_at_fits : {version : Version} {x : t.Expression} {p : Place} {c1 c2 c3 c4 c5 : Counts} → RoleFact r.Inner c1 c2 → RoleFact r.Opening c2 c3 → Fits version 0 x c3 c4 → RoleFact r.Closing c4 c5 → FitsTag version (t.level_at p x) c1 c5
 unfolding is_tag tag_tokens tag_brackets
-level_at_fits {x} {p} a b c d = word_fits x (t.LevelAt p x) refl refl refl a b c d
+level_at_fits {x} {p} a b c d = word_fits x (t.level_at p x) refl refl refl a b c d
 
-join_tokens : (p : Place) (x y : t.TagExpression) (xs : t.TagExpressions) → tag_tokens (t.Join p (t.AndTag x (t.AndTag y xs))) ≡ 2 + (tag_tokens x + 1 + (tag_tokens y + 1 + tag_part_tokens xs))
+join_tokens : (p : Place) (x y : t.TagExpression) (xs : t.TagExpressions) → tag_tokens (t.join_of p (t.and_tag x (t.and_tag y xs))) ≡ 2 + (tag_tokens x + 1 + (tag_tokens y + 1 + tag_part_tokens xs))
 unfolding tag_tokens
 join_tokens p x y xs = refl
 
 join_brackets : (p : Place) (x y : t.TagExpression) (xs : t.TagExpressions)
-    → tag_brackets (t.Join p (t.AndTag x (t.AndTag y xs))) ≡ 1 + max (tag_brackets x) (max (tag_brackets y) (tag_part_brackets xs))
+    → tag_brackets (t.join_of p (t.and_tag x (t.and_tag y xs))) ≡ 1 + max (tag_brackets x) (max (tag_brackets y) (tag_part_brackets xs))
 unfolding tag_brackets
 join_brackets p x y xs = refl
 
 join_fits : {version : Version} {x y : t.TagExpression} {xs : t.TagExpressions} {p : Place} {c1 c2 c3 c4 c5 c6 c7 c8 : Counts} → RoleFact r.Inner c1 c2 → RoleFact r.Opening c2 c3 → FitsTag version x c3 c4 → RoleFact r.Inner c4 c5
-    → FitsTag version y c5 c6 → FitsTags version xs c6 c7 → RoleFact r.Closing c7 c8 → FitsTag version (t.Join p (t.AndTag x (t.AndTag y xs))) c1 c8
+    → FitsTag version y c5 c6 → FitsTags version xs c6 c7 → RoleFact r.Closing c7 c8 → FitsTag version (t.join_of p (t.and_tag x (t.and_tag y xs))) c1 c8
 unfolding is_tag
 join_fits {x} {y} {xs} {p} o a b c d e f =
     let size = join_tokens p x y xs in
@@ -99,19 +99,19 @@ join_fits {x} {y} {xs} {p} o a b c d e f =
       commands = omega (arith, b.commands, d.commands, e.commands);
     }
 
-no_tags_fit : {version : Version} (c : Counts) → FitsTags version t.NoTag c c
+no_tags_fit : {version : Version} (c : Counts) → FitsTags version t.no_tag c c
 unfolding is_tag tag_tokens tag_brackets
 no_tags_fit c = record { are = refl; size = omega arith; room = λ h. h; even = refl; depth = λ h. omega arith; states = refl; commands = refl }
 
-tag_part_tokens_are : (x : t.TagExpression) (xs : t.TagExpressions) → tag_part_tokens (t.AndTag x xs) ≡ tag_tokens x + 1 + tag_part_tokens xs
+tag_part_tokens_are : (x : t.TagExpression) (xs : t.TagExpressions) → tag_part_tokens (t.and_tag x xs) ≡ tag_tokens x + 1 + tag_part_tokens xs
 unfolding tag_tokens
 tag_part_tokens_are x xs = refl
 
-tag_part_brackets_are : (x : t.TagExpression) (xs : t.TagExpressions) → tag_part_brackets (t.AndTag x xs) ≡ max (tag_brackets x) (tag_part_brackets xs)
+tag_part_brackets_are : (x : t.TagExpression) (xs : t.TagExpressions) → tag_part_brackets (t.and_tag x xs) ≡ max (tag_brackets x) (tag_part_brackets xs)
 unfolding tag_brackets
 tag_part_brackets_are x xs = refl
 
-tag_fits : {version : Version} {x : t.TagExpression} {xs : t.TagExpressions} {c1 c2 c3 c4 : Counts} → RoleFact r.Inner c1 c2 → FitsTag version x c2 c3 → FitsTags version xs c3 c4 → FitsTags version (t.AndTag x xs) c1 c4
+tag_fits : {version : Version} {x : t.TagExpression} {xs : t.TagExpressions} {c1 c2 c3 c4 : Counts} → RoleFact r.Inner c1 c2 → FitsTag version x c2 c3 → FitsTags version xs c3 c4 → FitsTags version (t.and_tag x xs) c1 c4
 unfolding is_tag
 tag_fits {x} {xs} a b c =
     let size = tag_part_tokens_are x xs in
@@ -171,21 +171,21 @@ pub record FitsCommands (depth : ℕ) (is : Bool) (number deepest : ℕ) (c d : 
   pub states : d.states ≡ c.states
 
 assign_fits : {version : Version} {n : ℕ} {m : Mention} {x : t.Expression} {c1 c2 c3 c4 : Counts} → is_name version m.name ≡ true → RoleFact (r.Command n) c1 c2 → RoleFact r.Plain c2 c3 → Fits version 0 x c3 c4
-    → FitsSimple version n (t.Assign m x) c1 c4
+    → FitsSimple version n (t.assign m x) c1 c4
 unfolding is_simple
 assign_fits is a b x =
     let a0 = a.0 in let a1 = a.1 in let a2 = a.2 in let s = x.states in let n = x.commands in
     record { is = all_true is (outermost b.tokens b.brackets x); count = omega arith; room = omega arith; level = a2; states = omega arith }
 
 write_fits : {version : Version} {n : ℕ} {m : Mention} {i x : t.Expression} {c1 c2 c3 c4 c5 c6 c7 : Counts} → is_name version m.name ≡ true → RoleFact (r.Command n) c1 c2 → RoleFact r.Plain c2 c3 → Fits version 0 i c3 c4
-    → RoleFact r.Plain c4 c5 → RoleFact r.Plain c5 c6 → Fits version 0 x c6 c7 → FitsSimple version n (t.Write m i x) c1 c7
+    → RoleFact r.Plain c4 c5 → RoleFact r.Plain c5 c6 → Fits version 0 x c6 c7 → FitsSimple version n (t.write m i x) c1 c7
 unfolding is_simple
 write_fits is a b i c d x =
     let a0 = a.0 in let a1 = a.1 in let a2 = a.2 in let s = x.states in let n = x.commands in let s' = i.states in let n' = i.commands in
     record { is = all_true (all_true is (outermost b.tokens b.brackets i)) (outermost d.tokens d.brackets x); count = omega arith; room = omega arith; level = a2; states = omega arith }
 
 set_tag_fits : {version : Version} {n : ℕ} {p : Place} {m : Mention} {x : t.TagExpression} {c1 c2 c3 c4 c5 c6 c7 : Counts} → RoleFact (r.Command n) c1 c2 → RoleFact r.Plain c2 c3 → is_name version m.name ≡ true → RoleFact r.Plain c3 c4
-    → RoleFact r.Plain c4 c5 → FitsTag version x c5 c6 → RoleFact r.Plain c6 c7 → FitsSimple version n (t.SetTag p m x) c1 c7
+    → RoleFact r.Plain c4 c5 → FitsTag version x c5 c6 → RoleFact r.Plain c6 c7 → FitsSimple version n (t.set_tag p m x) c1 c7
 unfolding is_simple
 set_tag_fits a b is c d x e =
     let a0 = a.0 in let a1 = a.1 in let a2 = a.2 in let s = x.states in let n = x.commands in
@@ -193,17 +193,17 @@ set_tag_fits a b is c d x e =
 
 set_cell_tag_fits : {version : Version} {n : ℕ} {p : Place} {m : Mention} {i : t.Expression} {x : t.TagExpression} {c1 c2 c3 c4 c5 c6 c7 c8 c9 c10 : Counts} → RoleFact (r.Command n) c1 c2 → RoleFact r.Plain c2 c3
     → is_name version m.name ≡ true → RoleFact r.Plain c3 c4 → RoleFact r.Plain c4 c5 → Fits version 0 i c5 c6 → RoleFact r.Plain c6 c7 → RoleFact r.Plain c7 c8 → FitsTag version x c8 c9 → RoleFact r.Plain c9 c10
-    → FitsSimple version n (t.SetCellTag p m i x) c1 c10
+    → FitsSimple version n (t.set_cell_tag p m i x) c1 c10
 unfolding is_simple
 set_cell_tag_fits a b is c d i e f x o =
     let a0 = a.0 in let a1 = a.1 in let a2 = a.2 in let s = x.states in let n = x.commands in let s' = i.states in let n' = i.commands in
     record { is = all_true (all_true is (outermost d.tokens d.brackets i)) (outermost_tag f.tokens f.brackets x); count = omega arith; room = omega arith; level = a2; states = omega arith }
 
-goto_fits : {version : Version} {n : ℕ} {p : Place} {m : Mention} {c1 c2 c3 : Counts} → RoleFact (r.Command n) c1 c2 → is_name version m.name ≡ true → RoleFact r.Plain c2 c3 → FitsSimple version n (t.Goto p m) c1 c3
+goto_fits : {version : Version} {n : ℕ} {p : Place} {m : Mention} {c1 c2 c3 : Counts} → RoleFact (r.Command n) c1 c2 → is_name version m.name ≡ true → RoleFact r.Plain c2 c3 → FitsSimple version n (t.go_to p m) c1 c3
 unfolding is_simple
 goto_fits a is b = let a0 = a.0 in let a1 = a.1 in let a2 = a.2 in record { is = is; count = omega arith; room = omega arith; level = a2; states = omega arith }
 
-fall_fits : {version : Version} {n : ℕ} {p : Place} {c1 c2 : Counts} → RoleFact (r.Command n) c1 c2 → FitsSimple version n (t.Fall p) c1 c2
+fall_fits : {version : Version} {n : ℕ} {p : Place} {c1 c2 : Counts} → RoleFact (r.Command n) c1 c2 → FitsSimple version n (t.fall_to_child p) c1 c2
 unfolding is_simple
 fall_fits a = let a0 = a.0 in let a1 = a.1 in let a2 = a.2 in record { is = refl; count = omega arith; room = omega arith; level = a2; states = omega arith }
 
@@ -221,14 +221,14 @@ simple_between (g.set_cell_tag a b c d i e o x h) =
 simple_between (g.goto a b) = gives (stands a then stands b) (λ f. goto_fits f.0.1 f.1.0 f.1.1)
 simple_between (g.fall a) = gives (stands a) (λ f. fall_fits f.1)
 
-do_fits : {version : Version} {n : ℕ} {x : t.SimpleCommand} {c1 c2 c3 : Counts} → FitsSimple version n x c1 c2 → RoleFact r.Plain c2 c3 → FitsCommand version n (t.Do x) c1 c3
+do_fits : {version : Version} {n : ℕ} {x : t.SimpleCommand} {c1 c2 c3 : Counts} → FitsSimple version n x c1 c2 → RoleFact r.Plain c2 c3 → FitsCommand version n (t.lone x) c1 c3
 unfolding is_command command_count command_depth
 do_fits a b =
     let n = a.count in let m = a.room in let l = a.level in let s = a.states in
     record { is = a.is; count = omega arith; room = omega arith; level = omega arith; states = omega arith }
 
 try_fits : {version : Version} {n : ℕ} {p : Place} {x : t.SimpleCommand} {h : t.CommandBlock} {c1 c2 c3 c4 : Counts} → FitsSimple version n x c1 c2 → RoleFact r.Plain c2 c3
-    → FitsCommands (n + 1) (is_block version h) (block_count h) (block_depth h) c3 c4 → FitsCommand version n (t.Try x p h) c1 c4
+    → FitsCommands (n + 1) (is_block version h) (block_count h) (block_depth h) c3 c4 → FitsCommand version n (t.try x p h) c1 c4
 unfolding is_command command_count command_depth
 try_fits a b c =
     let n = a.count in let m = a.room in let l = a.level in let s = a.states in let n' = c.count in let m' = c.room (omega arith) in let l' = c.level (omega arith) in let s' = c.states in
@@ -236,7 +236,7 @@ try_fits a b c =
 
 if_fits : {version : Version} {n : ℕ} {p : Place} {x : t.Expression} {h : t.CommandBlock} {o : t.ElseBlock} {c1 c2 c3 c4 c5 c6 c7 : Counts} → RoleFact (r.Command n) c1 c2 → RoleFact r.Plain c2 c3 → Fits version 0 x c3 c4
     → RoleFact r.Plain c4 c5 → FitsCommands (n + 1) (is_block version h) (block_count h) (block_depth h) c5 c6 → FitsCommands (n + 1) (is_else version o) (else_count o) (else_depth o) c6 c7
-    → FitsCommand version n (t.If p x h o) c1 c7
+    → FitsCommand version n (t.if_else p x h o) c1 c7
 unfolding is_command command_count command_depth
 if_fits a b x d h o =
     let a0 = a.0 in let a1 = a.1 in let a2 = a.2 in let sx = x.states in let nx = x.commands in
@@ -250,7 +250,7 @@ second_of v.Two h = refl
 
 try_then_fits : {version : Version} {n : ℕ} {p : Place} {x : t.SimpleCommand} {a b : t.CommandBlock} {c1 c2 c3 c4 c5 c6 : Counts} → is_second version ≡ true → FitsSimple version n x c1 c2 → RoleFact r.Plain c2 c3
     → FitsCommands (n + 1) (is_block version a) (block_count a) (block_depth a) c3 c4 → RoleFact r.Plain c4 c5 → FitsCommands (n + 1) (is_block version b) (block_count b) (block_depth b) c5 c6
-    → FitsCommand version n (t.TryThen x p a b) c1 c6
+    → FitsCommand version n (t.try_then x p a b) c1 c6
 unfolding is_command command_count command_depth
 try_then_fits second x d a e b =
     let n = x.count in let m = x.room in let l = x.level in let s = x.states in
@@ -262,18 +262,18 @@ try_then_fits second x d a e b =
 plain_fits : {n : ℕ} {b : Bool} {c d : Counts} → b ≡ true → RoleFact r.Plain c d → FitsCommands n b 0 0 c d
 plain_fits h a = record { are = h; count = omega arith; room = λ m. omega arith; level = λ l. omega arith; states = omega arith }
 
-no_constants_fit : (n : ℕ) (c : Counts) → FitsCommands n (are_constants t.NoPart) 0 0 c c
+no_constants_fit : (n : ℕ) (c : Counts) → FitsCommands n (are_constants t.no_part) 0 0 c c
 no_constants_fit n c = record { are = refl; count = omega arith; room = λ m. m; level = λ l. omega arith; states = refl }
 
 constants_fit : {n : ℕ} (x : t.Expression) (xs : t.Expressions) {c1 c2 c3 c4 : Counts} → RoleFact r.Plain c1 c2 → FitsCommands n (is_constant x) 0 0 c2 c3 → FitsCommands n (are_constants xs) 0 0 c3 c4
-    → FitsCommands n (are_constants (t.AndPart x xs)) 0 0 c1 c4
+    → FitsCommands n (are_constants (t.and_part x xs)) 0 0 c1 c4
 constants_fit x xs a b d =
     let nb = b.count in let sb = b.states in let nd = d.count in let sd = d.states in
     record { are = all_true b.are d.are; count = omega arith; room = λ m. let r1 = b.room (omega arith) in d.room r1; level = λ l. omega arith; states = omega arith }
 
 arm_fits : (version : Version) {n : ℕ} (x : t.Expression) (xs : t.Expressions) (k : t.CommandBlock) {c1 c2 c3 c4 c5 : Counts} → FitsCommands n (is_constant x) 0 0 c1 c2
     → FitsCommands n (are_constants xs) 0 0 c2 c3 → RoleFact r.Plain c3 c4 → FitsCommands n (is_block version k) (block_count k) (block_depth k) c4 c5
-    → FitsCommands n (are_constants (t.AndPart x xs) && is_block version k) (block_count k) (block_depth k) c1 c5
+    → FitsCommands n (are_constants (t.and_part x xs) && is_block version k) (block_count k) (block_depth k) c1 c5
 arm_fits version x xs k a b d h =
     let na = a.count in let sa = a.states in let nb = b.count in let sb = b.states in let nh = h.count in let sh = h.states in
     record {
@@ -285,7 +285,7 @@ arm_fits version x xs k a b d h =
     }
 
 last_fits : (version : Version) {n : ℕ} (h : t.CommandBlock) {c1 c2 c3 : Counts} → RoleFact r.Plain c1 c2 → FitsCommands n (is_block version h) (block_count h) (block_depth h) c2 c3
-    → FitsCommands n (are_arms version (t.Last h)) (arms_count (t.Last h)) (arms_depth (t.Last h)) c1 c3
+    → FitsCommands n (are_arms version (t.last_arm h)) (arms_count (t.last_arm h)) (arms_depth (t.last_arm h)) c1 c3
 unfolding is_command command_count command_depth
 last_fits version h a b =
     let n = b.count in let s = b.states in
@@ -293,7 +293,7 @@ last_fits version h a b =
 
 arms_fit : (version : Version) {n : ℕ} (cs : t.Expressions) (h : t.CommandBlock) (arms : t.Arms) {c1 c2 c3 : Counts} → has_constant cs ≡ true
     → FitsCommands n (are_constants cs && is_block version h) (block_count h) (block_depth h) c1 c2 → FitsCommands n (are_arms version arms) (arms_count arms) (arms_depth arms) c2 c3
-    → FitsCommands n (are_arms version (t.Arm cs h arms)) (arms_count (t.Arm cs h arms)) (arms_depth (t.Arm cs h arms)) c1 c3
+    → FitsCommands n (are_arms version (t.and_arm cs h arms)) (arms_count (t.and_arm cs h arms)) (arms_depth (t.and_arm cs h arms)) c1 c3
 unfolding is_command command_count command_depth
 arms_fit version cs h arms some a b =
     let n = a.count in let s = a.states in let n' = b.count in let s' = b.states in
@@ -314,7 +314,7 @@ arms_fit version cs h arms some a b =
 
 case_fits : {version : Version} {n : ℕ} {p : Place} {x : t.Expression} (arms : t.Arms) {c1 c2 c3 c4 c5 c6 c7 c8 : Counts} → is_second version ≡ true → RoleFact (r.Command n) c1 c2 → RoleFact r.Plain c2 c3
     → Fits version 0 x c3 c4 → RoleFact r.Plain c4 c5 → RoleFact r.Plain c5 c6 → has_arm arms ≡ true → arm_count arms ≤ most_arms
-    → FitsCommands (n + 1) (are_arms version arms) (arms_count arms) (arms_depth arms) c6 c7 → RoleFact r.Plain c7 c8 → FitsCommand version n (t.Case p x arms) c1 c8
+    → FitsCommands (n + 1) (are_arms version arms) (arms_count arms) (arms_depth arms) c6 c7 → RoleFact r.Plain c7 c8 → FitsCommand version n (t.case_of p x arms) c1 c8
 unfolding is_command command_count command_depth
 case_fits arms second a b x d e some few f h =
     let a0 = a.0 in let a1 = a.1 in let a2 = a.2 in let sx = x.states in let nx = x.commands in
@@ -327,30 +327,30 @@ case_fits arms second a b x d e some few f h =
       states = omega arith;
     }
 
-no_else_fits : (version : Version) (n : ℕ) (c : Counts) → FitsCommands n (is_else version t.NoElse) (else_count t.NoElse) (else_depth t.NoElse) c c
+no_else_fits : (version : Version) (n : ℕ) (c : Counts) → FitsCommands n (is_else version t.no_else) (else_count t.no_else) (else_depth t.no_else) c c
 unfolding is_command command_count command_depth
 no_else_fits version n c = record { are = refl; count = omega arith; room = λ h. h; level = λ h. omega arith; states = refl }
 
 else_fits : (version : Version) {n : ℕ} (h : t.CommandBlock) {c1 c2 c3 : Counts} → RoleFact r.Plain c1 c2 → FitsCommands n (is_block version h) (block_count h) (block_depth h) c2 c3
-    → FitsCommands n (is_else version (t.Else h)) (else_count (t.Else h)) (else_depth (t.Else h)) c1 c3
+    → FitsCommands n (is_else version (t.with_else h)) (else_count (t.with_else h)) (else_depth (t.with_else h)) c1 c3
 unfolding is_command command_count command_depth
 else_fits version h a b =
     let n = b.count in let s = b.states in
     record { are = b.are; count = omega arith; room = λ m. b.room (omega arith); level = b.level; states = omega arith }
 
 block_fits : (version : Version) {n : ℕ} (cs : t.CommandList) (p : Place) {c1 c2 c3 c4 : Counts} → RoleFact r.Plain c1 c2 → FitsCommands n (are_commands version cs) (list_count cs) (list_depth cs) c2 c3 → RoleFact r.Plain c3 c4
-    → FitsCommands n (is_block version (t.Commands cs p)) (block_count (t.Commands cs p)) (block_depth (t.Commands cs p)) c1 c4
+    → FitsCommands n (is_block version (t.command_block cs p)) (block_count (t.command_block cs p)) (block_depth (t.command_block cs p)) c1 c4
 unfolding is_command command_count command_depth
 block_fits version cs p a b d =
     let n = b.count in let s = b.states in
     record { are = b.are; count = omega arith; room = λ h. let m = b.room (omega arith) in omega arith; level = b.level; states = omega arith }
 
-no_commands_fit : (version : Version) (n : ℕ) (c : Counts) → FitsCommands n (are_commands version t.NoCommand) (list_count t.NoCommand) (list_depth t.NoCommand) c c
+no_commands_fit : (version : Version) (n : ℕ) (c : Counts) → FitsCommands n (are_commands version t.no_command) (list_count t.no_command) (list_depth t.no_command) c c
 unfolding is_command command_count command_depth
 no_commands_fit version n c = record { are = refl; count = omega arith; room = λ h. h; level = λ h. omega arith; states = refl }
 
 commands_fit : {version : Version} {n : ℕ} {x : t.Command} (cs : t.CommandList) {c1 c2 c3 : Counts} → FitsCommand version n x c1 c2 → FitsCommands n (are_commands version cs) (list_count cs) (list_depth cs) c2 c3
-    → FitsCommands n (are_commands version (t.AndCommand x cs)) (list_count (t.AndCommand x cs)) (list_depth (t.AndCommand x cs)) c1 c3
+    → FitsCommands n (are_commands version (t.and_command x cs)) (list_count (t.and_command x cs)) (list_depth (t.and_command x cs)) c1 c3
 unfolding is_command command_count command_depth
 commands_fit cs a b =
     let n = a.count in let s = a.states in let l = a.level in let n' = b.count in let s' = b.states in
@@ -380,8 +380,8 @@ mutual
       let m = k.1 in
       let l1 = one_less a in let l2 = one_less b in let l3 = (expr_between {version = version} x).less in let l4 = one_less d in let l5 = one_less e in
       let l6 = arm_less version y in let l7 = arms_less version z in
-      let few : arm_count (t.Arm cs h arms) ≤ most_arms = omega arith in
-      case_fits (t.Arm cs h arms) (second_of version k.0.0.0) k.0.0.1 k.0.1.0.1 k.0.1.1.0 k.0.1.1.1.0.1 k.0.1.1.1.1.0.1 refl few
+      let few : arm_count (t.and_arm cs h arms) ≤ most_arms = omega arith in
+      case_fits (t.and_arm cs h arms) (second_of version k.0.0.0) k.0.0.1 k.0.1.0.1 k.0.1.1.0 k.0.1.1.1.0.1 k.0.1.1.1.1.0.1 refl few
       (arms_fit version cs h arms k.0.1.1.1.1.1.0.0 k.0.1.1.1.1.1.0.1 k.0.1.1.1.1.1.1.0) k.0.1.1.1.1.1.1.1.1)
 
   arm_less : (version : Version) {n : ℕ} {p q : Stage} {cs : t.Expressions} {h : t.CommandBlock} → g.Arm n p cs h q → length q.left + 1 ≤ length p.left

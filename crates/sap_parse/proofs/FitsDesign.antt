@@ -208,8 +208,8 @@ pub record FitsStates (depth : ℕ) (is : Bool) (number within deepest : ℕ) (c
 state_fits : (version : Version) {n : ℕ} (p : Place) (m : Mention) (k : Kind) (cs : t.CommandList) (after : Place) (xs : t.StateList) {c1 c2 c3 c4 c5 c6 c7 c8 : Counts} → RoleFact (r.State n) c1 c2 → is_name version m.name ≡ true
     → RoleFact r.Plain c2 c3 → Rests (is_kind version k) c3 c4 → RoleFact r.Plain c4 c5 → FitsCommands 1 (are_commands version cs) (list_count cs) (list_depth cs) c5 c6
     → FitsStates (n + 1) (are_states version xs) (states_count xs) (states_commands xs) (states_depth xs) c6 c7 → RoleFact r.Plain c7 c8
-    → FitsStates n (is_state version (t.StateOf p m k (t.Commands cs after) xs)) (state_count (t.StateOf p m k (t.Commands cs after) xs)) (state_commands (t.StateOf p m k (t.Commands cs after) xs))
-    (state_depth (t.StateOf p m k (t.Commands cs after) xs)) c1 c8
+    → FitsStates n (is_state version (t.state_node p m k (t.command_block cs after) xs)) (state_count (t.state_node p m k (t.command_block cs after) xs)) (state_commands (t.state_node p m k (t.command_block cs after) xs))
+    (state_depth (t.state_node p m k (t.command_block cs after) xs)) c1 c8
 unfolding is_state is_block block_count block_depth state_count state_commands state_depth
 state_fits version p m k cs after xs a is b kind e body children f =
     let a0 = a.0 in let a1 = a.1 in let a2 = a.2 in
@@ -227,13 +227,13 @@ state_fits version p m k cs after xs a is b kind e body children f =
       level = λ h. omega arith;
     }
 
-no_states_fit : (version : Version) (n : ℕ) (c : Counts) → FitsStates n (are_states version t.NoState) (states_count t.NoState) (states_commands t.NoState) (states_depth t.NoState) c c
+no_states_fit : (version : Version) (n : ℕ) (c : Counts) → FitsStates n (are_states version t.no_state) (states_count t.no_state) (states_commands t.no_state) (states_depth t.no_state) c c
 unfolding is_state state_count state_commands state_depth
 no_states_fit version n c = record { test = refl; states = omega arith; commands = omega arith; state_room = λ h. h; command_room = λ h. h; level = λ h. omega arith }
 
 states_fit : (version : Version) {n : ℕ} (x : t.StateTree) (xs : t.StateList) {c1 c2 c3 : Counts} → FitsStates n (is_state version x) (state_count x) (state_commands x) (state_depth x) c1 c2
     → FitsStates n (are_states version xs) (states_count xs) (states_commands xs) (states_depth xs) c2 c3
-    → FitsStates n (are_states version (t.AndState x xs)) (states_count (t.AndState x xs)) (states_commands (t.AndState x xs)) (states_depth (t.AndState x xs)) c1 c3
+    → FitsStates n (are_states version (t.and_state x xs)) (states_count (t.and_state x xs)) (states_commands (t.and_state x xs)) (states_depth (t.and_state x xs)) c1 c3
 unfolding is_state state_count state_commands state_depth
 states_fit version x xs a b =
     let n1 = a.states in let n2 = b.states in let m1 = a.commands in let m2 = b.commands in
@@ -261,8 +261,8 @@ mutual
 
 whole_fits : (version : Version) (ds : List Decl) (x : t.StateTree) (xs : t.StateList) (c1 : Counts) {c2 c4 : Counts} → c1.inputs ≡ 0 → c1.registers ≡ 0 → c1.memories ≡ 0 → c1.states ≡ 0 → c1.commands ≡ 0
     → Declares (list_all (is_declaration version) ds) (count_by is_input ds) (count_by is_register ds) (count_by is_memory ds) c1 c2
-    → FitsStates 1 (are_states version (t.AndState x xs)) (states_count (t.AndState x xs)) (states_commands (t.AndState x xs)) (states_depth (t.AndState x xs)) c2 c4
-    → is_whole (record { version = version; declarations = ds; states = t.AndState x xs }) ≡ true
+    → FitsStates 1 (are_states version (t.and_state x xs)) (states_count (t.and_state x xs)) (states_commands (t.and_state x xs)) (states_depth (t.and_state x xs)) c2 c4
+    → is_whole (record { version = version; declarations = ds; states = t.and_state x xs }) ≡ true
 unfolding is_whole
 whole_fits version ds x xs c1 i0 r0 m0 s0 n0 a b =
     let i = a.inputs in let ir = a.input_room (omega arith) in
@@ -275,9 +275,9 @@ whole_fits version ds x xs c1 i0 r0 m0 s0 n0 a b =
     let e1 : count_by is_input ds ≤ 64 = omega arith in
     let e2 : count_by is_register ds ≤ 256 = omega arith in
     let e3 : count_by is_memory ds ≤ 16 = omega arith in
-    let e4 : states_count (t.AndState x xs) ≤ 256 = omega arith in
-    let e5 : states_depth (t.AndState x xs) ≤ 16 = omega arith in
-    let e6 : states_commands (t.AndState x xs) ≤ 4096 = omega arith in
+    let e4 : states_count (t.and_state x xs) ≤ 256 = omega arith in
+    let e5 : states_depth (t.and_state x xs) ≤ 16 = omega arith in
+    let e6 : states_commands (t.and_state x xs) ≤ 4096 = omega arith in
     all_true (all_true (all_true a.test refl) b.test)
     (all_true (all_true (all_true (all_true (all_true (le_true e1) (le_true e2)) (le_true e3)) (le_true e4)) (le_true e5)) (le_true e6))
 

@@ -53,63 +53,63 @@ no_opens l x h = grind (arith, nat_tests)
 
 -- what each construct has
 
-cell_tokens : (s : Spot) (n : List ℕ) (i : t.Expression) → tokens (t.Cell s n i) ≡ tokens i + 3
+cell_tokens : (s : Spot) (n : List ℕ) (i : t.Expression) → tokens (t.cell_at s n i) ≡ tokens i + 3
 unfolding tokens
 cell_tokens s n i = refl
 
-cell_brackets : (s : Spot) (n : List ℕ) (i : t.Expression) → brackets (t.Cell s n i) ≡ 1 + brackets i
+cell_brackets : (s : Spot) (n : List ℕ) (i : t.Expression) → brackets (t.cell_at s n i) ≡ 1 + brackets i
 unfolding brackets
 cell_brackets s n i = refl
 
-unary_tokens : (s : Spot) (o : UnaryOperator) (x : t.Expression) → tokens (t.Unary s o x) ≡ 1 + (pars unary_precedence x + tokens x)
+unary_tokens : (s : Spot) (o : UnaryOperator) (x : t.Expression) → tokens (t.unary_of s o x) ≡ 1 + (pars unary_precedence x + tokens x)
 unfolding tokens pars
 unary_tokens s o x = refl
 
-unary_brackets : (s : Spot) (o : UnaryOperator) (x : t.Expression) → brackets (t.Unary s o x) ≡ opens unary_precedence x + brackets x
+unary_brackets : (s : Spot) (o : UnaryOperator) (x : t.Expression) → brackets (t.unary_of s o x) ≡ opens unary_precedence x + brackets x
 unfolding brackets opens
 unary_brackets s o x = refl
 
 binary_tokens : (s : Spot) (o : BinaryOperator) (x y : t.Expression)
-    → tokens (t.Binary s o x y) ≡ pars (precedence o) x + tokens x + 1 + (pars (precedence o + 1) y + tokens y)
+    → tokens (t.binary_of s o x y) ≡ pars (precedence o) x + tokens x + 1 + (pars (precedence o + 1) y + tokens y)
 unfolding tokens pars
 binary_tokens s o x y = refl
 
 binary_brackets : (s : Spot) (o : BinaryOperator) (x y : t.Expression)
-    → brackets (t.Binary s o x y) ≡ max (opens (precedence o) x + brackets x) (opens (precedence o + 1) y + brackets y)
+    → brackets (t.binary_of s o x y) ≡ max (opens (precedence o) x + brackets x) (opens (precedence o + 1) y + brackets y)
 unfolding brackets opens
 binary_brackets s o x y = refl
 
-choose_tokens : (s : Spot) (x y z : t.Expression) → tokens (t.Choose s x y z) ≡ pars 1 x + tokens x + 1 + tokens y + 1 + tokens z
+choose_tokens : (s : Spot) (x y z : t.Expression) → tokens (t.choice s x y z) ≡ pars 1 x + tokens x + 1 + tokens y + 1 + tokens z
 unfolding tokens pars
 choose_tokens s x y z = refl
 
-choose_brackets : (s : Spot) (x y z : t.Expression) → brackets (t.Choose s x y z) ≡ max (opens 1 x + brackets x) (max (brackets y) (brackets z))
+choose_brackets : (s : Spot) (x y z : t.Expression) → brackets (t.choice s x y z) ≡ max (opens 1 x + brackets x) (max (brackets y) (brackets z))
 unfolding brackets opens
 choose_brackets s x y z = refl
 
-slice_tokens : (s : Spot) (x : t.Expression) (h l : ℕ) → tokens (t.Slice s x h l) ≡ pars slice_precedence x + tokens x + 5
+slice_tokens : (s : Spot) (x : t.Expression) (h l : ℕ) → tokens (t.slice s x h l) ≡ pars slice_precedence x + tokens x + 5
 unfolding tokens pars
 slice_tokens s x h l = refl
 
-slice_brackets : (s : Spot) (x : t.Expression) (h l : ℕ) → brackets (t.Slice s x h l) ≡ max (opens slice_precedence x + brackets x) 1
+slice_brackets : (s : Spot) (x : t.Expression) (h l : ℕ) → brackets (t.slice s x h l) ≡ max (opens slice_precedence x + brackets x) 1
 unfolding brackets opens
 slice_brackets s x h l = refl
 
 concat_tokens : (s : Spot) (x y : t.Expression) (xs : t.Expressions)
-    → tokens (t.Concat s (t.AndPart x (t.AndPart y xs))) ≡ 1 + (tokens x + 1 + (tokens y + 1 + part_tokens xs))
+    → tokens (t.concat s (t.and_part x (t.and_part y xs))) ≡ 1 + (tokens x + 1 + (tokens y + 1 + part_tokens xs))
 unfolding tokens
 concat_tokens s x y xs = refl
 
 concat_brackets : (s : Spot) (x y : t.Expression) (xs : t.Expressions)
-    → brackets (t.Concat s (t.AndPart x (t.AndPart y xs))) ≡ 1 + max (brackets x) (max (brackets y) (part_brackets xs))
+    → brackets (t.concat s (t.and_part x (t.and_part y xs))) ≡ 1 + max (brackets x) (max (brackets y) (part_brackets xs))
 unfolding brackets
 concat_brackets s x y xs = refl
 
-zext_tokens : (s : Spot) (x : t.Expression) (w : ℕ) → tokens (t.Zext s x w) ≡ tokens x + 5
+zext_tokens : (s : Spot) (x : t.Expression) (w : ℕ) → tokens (t.zero_extend s x w) ≡ tokens x + 5
 unfolding tokens
 zext_tokens s x w = refl
 
-zext_brackets : (s : Spot) (x : t.Expression) (w : ℕ) → brackets (t.Zext s x w) ≡ 1 + brackets x
+zext_brackets : (s : Spot) (x : t.Expression) (w : ℕ) → brackets (t.zero_extend s x w) ≡ 1 + brackets x
 unfolding brackets
 zext_brackets s x w = refl
 
@@ -117,42 +117,42 @@ zext_brackets s x w = refl
 
 enclosed_tokens : (p : Place) (x : t.Expression) → tokens (enclosed p x) ≡ tokens x
 unfolding enclosed tokens
-enclosed_tokens p (t.Number s n) = refl
-enclosed_tokens p (t.Sized s w n) = refl
-enclosed_tokens p (t.Read s n) = refl
-enclosed_tokens p (t.Cell s n i) = refl
-enclosed_tokens p (t.Unary s o x) = refl
-enclosed_tokens p (t.Binary s o x y) = refl
-enclosed_tokens p (t.Choose s x y z) = refl
-enclosed_tokens p (t.Slice s x h l) = refl
-enclosed_tokens p (t.Concat s xs) = refl
-enclosed_tokens p (t.Zext s x w) = refl
+enclosed_tokens p (t.literal s n) = refl
+enclosed_tokens p (t.sized_literal s w n) = refl
+enclosed_tokens p (t.variable s n) = refl
+enclosed_tokens p (t.cell_at s n i) = refl
+enclosed_tokens p (t.unary_of s o x) = refl
+enclosed_tokens p (t.binary_of s o x y) = refl
+enclosed_tokens p (t.choice s x y z) = refl
+enclosed_tokens p (t.slice s x h l) = refl
+enclosed_tokens p (t.concat s xs) = refl
+enclosed_tokens p (t.zero_extend s x w) = refl
 
 enclosed_brackets : (p : Place) (x : t.Expression) → brackets (enclosed p x) ≡ brackets x
 unfolding enclosed brackets
-enclosed_brackets p (t.Number s n) = refl
-enclosed_brackets p (t.Sized s w n) = refl
-enclosed_brackets p (t.Read s n) = refl
-enclosed_brackets p (t.Cell s n i) = refl
-enclosed_brackets p (t.Unary s o x) = refl
-enclosed_brackets p (t.Binary s o x y) = refl
-enclosed_brackets p (t.Choose s x y z) = refl
-enclosed_brackets p (t.Slice s x h l) = refl
-enclosed_brackets p (t.Concat s xs) = refl
-enclosed_brackets p (t.Zext s x w) = refl
+enclosed_brackets p (t.literal s n) = refl
+enclosed_brackets p (t.sized_literal s w n) = refl
+enclosed_brackets p (t.variable s n) = refl
+enclosed_brackets p (t.cell_at s n i) = refl
+enclosed_brackets p (t.unary_of s o x) = refl
+enclosed_brackets p (t.binary_of s o x y) = refl
+enclosed_brackets p (t.choice s x y z) = refl
+enclosed_brackets p (t.slice s x h l) = refl
+enclosed_brackets p (t.concat s xs) = refl
+enclosed_brackets p (t.zero_extend s x w) = refl
 
 enclosed_is : (version : Version) (p : Place) (x : t.Expression) → is_expression version (enclosed p x) ≡ is_expression version x
 unfolding enclosed is_expression
-enclosed_is version p (t.Number s n) = refl
-enclosed_is version p (t.Sized s w n) = refl
-enclosed_is version p (t.Read s n) = refl
-enclosed_is version p (t.Cell s n i) = refl
-enclosed_is version p (t.Unary s o x) = refl
-enclosed_is version p (t.Binary s o x y) = refl
-enclosed_is version p (t.Choose s x y z) = refl
-enclosed_is version p (t.Slice s x h l) = refl
-enclosed_is version p (t.Concat s xs) = refl
-enclosed_is version p (t.Zext s x w) = refl
+enclosed_is version p (t.literal s n) = refl
+enclosed_is version p (t.sized_literal s w n) = refl
+enclosed_is version p (t.variable s n) = refl
+enclosed_is version p (t.cell_at s n i) = refl
+enclosed_is version p (t.unary_of s o x) = refl
+enclosed_is version p (t.binary_of s o x y) = refl
+enclosed_is version p (t.choice s x y z) = refl
+enclosed_is version p (t.slice s x h l) = refl
+enclosed_is version p (t.concat s xs) = refl
+enclosed_is version p (t.zero_extend s x w) = refl
 
 -- what an expression from one stage to another gives of their counts, where its place asks for this precedence
 pub record Fits (version : Version) (l : ℕ) (x : t.Expression) (c d : Counts) : Type 0 where
@@ -237,13 +237,13 @@ bounds_between : {version : Version} {p q : Stage} {high low : ℕ} → g.Bounds
 bounds_between (g.bounds a b c d e) =
     gives (stands a then (stands b then (stands c then (stands d then stands e)))) (λ f. bounds_fit f.0.1 f.1.0.0 f.1.0.1 f.1.1.0.1 f.1.1.1.0.0 f.1.1.1.0.1 f.1.1.1.1.1)
 
-cut_grows : {version : Version} {x y : t.Expression} {s : Spot} {high low : ℕ} {c d e : Counts} → FitsBounds high low c d → Grows version slice_precedence (t.Slice s x high low) y d e → Grows version slice_precedence x y c e
+cut_grows : {version : Version} {x y : t.Expression} {s : Spot} {high low : ℕ} {c d e : Counts} → FitsBounds high low c d → Grows version slice_precedence (t.slice s x high low) y d e → Grows version slice_precedence x y c e
 unfolding is_expression precedence_of
 cut_grows {x} {y} {s} {high} {low} b m =
     let size = slice_tokens s x high low in
     let nest = slice_brackets s x high low in
-    let bare = no_pars slice_precedence (t.Slice s x high low) (omega arith) in
-    let shut = no_opens slice_precedence (t.Slice s x high low) (omega arith) in
+    let bare = no_pars slice_precedence (t.slice s x high low) (omega arith) in
+    let shut = no_opens slice_precedence (t.slice s x high low) (omega arith) in
     let even = b.even in let deep = b.depth in let u = m.size in let v = b.size in
     record {
       is = λ h. m.is (all_true (all_true h b.high_is) b.low_is);
@@ -256,15 +256,15 @@ cut_grows {x} {y} {s} {high} {low} b m =
     }
 
 other_grows : {version : Version} {l : ℕ} {x y z : t.Expression} {s : Spot} (o : BinaryOperator) {c1 c2 c3 c4 : Counts} → precedence o ≡ l → RoleFact r.Inner c1 c2 → Fits version (l + 1) y c2 c3
-    → Grows version l (t.Binary s o x y) z c3 c4 → Grows version l x z c1 c4
+    → Grows version l (t.binary_of s o x y) z c3 c4 → Grows version l x z c1 c4
 unfolding is_expression precedence_of
 other_grows {l} {x} {y} {z} {s} o level a b m =
-    let size : tokens (t.Binary s o x y) ≡ pars l x + tokens x + 1 + (pars (l + 1) y + tokens y)
-    = subst (λ k. tokens (t.Binary s o x y) ≡ pars k x + tokens x + 1 + (pars (k + 1) y + tokens y)) level (binary_tokens s o x y) in
-    let nest : brackets (t.Binary s o x y) ≡ max (opens l x + brackets x) (opens (l + 1) y + brackets y)
-    = subst (λ k. brackets (t.Binary s o x y) ≡ max (opens k x + brackets x) (opens (k + 1) y + brackets y)) level (binary_brackets s o x y) in
-    let bare = no_pars l (t.Binary s o x y) (omega arith) in
-    let shut = no_opens l (t.Binary s o x y) (omega arith) in
+    let size : tokens (t.binary_of s o x y) ≡ pars l x + tokens x + 1 + (pars (l + 1) y + tokens y)
+    = subst (λ k. tokens (t.binary_of s o x y) ≡ pars k x + tokens x + 1 + (pars (k + 1) y + tokens y)) level (binary_tokens s o x y) in
+    let nest : brackets (t.binary_of s o x y) ≡ max (opens l x + brackets x) (opens (l + 1) y + brackets y)
+    = subst (λ k. brackets (t.binary_of s o x y) ≡ max (opens k x + brackets x) (opens (k + 1) y + brackets y)) level (binary_brackets s o x y) in
+    let bare = no_pars l (t.binary_of s o x y) (omega arith) in
+    let shut = no_opens l (t.binary_of s o x y) (omega arith) in
     let a0 = a.0 in let a1 = a.1 in let even = b.even in let u = m.size in let v = b.size in
     record {
       is = λ h. m.is (all_true h b.is);
@@ -277,13 +277,13 @@ other_grows {l} {x} {y} {z} {s} o level a b m =
     }
 
 choose_fits : {version : Version} {x y z : t.Expression} {s : Spot} {c1 c2 c3 c4 c5 c6 : Counts} → Fits version 1 x c1 c2 → RoleFact r.Inner c2 c3 → Fits version 0 y c3 c4 → RoleFact r.Inner c4 c5 → Fits version 0 z c5 c6
-    → Fits version 0 (t.Choose s x y z) c1 c6
+    → Fits version 0 (t.choice s x y z) c1 c6
 unfolding is_expression precedence_of
 choose_fits {x} {y} {z} {s} a b c d e =
     let size = choose_tokens s x y z in
     let nest = choose_brackets s x y z in
-    let bare = no_pars 0 (t.Choose s x y z) (omega arith) in
-    let shut = no_opens 0 (t.Choose s x y z) (omega arith) in
+    let bare = no_pars 0 (t.choice s x y z) (omega arith) in
+    let shut = no_opens 0 (t.choice s x y z) (omega arith) in
     let b0 = b.0 in let b1 = b.1 in let d0 = d.0 in let d1 = d.1 in
     let e1 = a.even in let e2 = c.even in let e3 = e.even in
     let s1 = a.size in let s2 = c.size in let s3 = e.size in
@@ -297,13 +297,13 @@ choose_fits {x} {y} {z} {s} a b c d e =
       commands = omega (arith, a.commands, c.commands, e.commands);
     }
 
-unary_fits : {version : Version} {x : t.Expression} {s : Spot} {o : UnaryOperator} {c1 c2 c3 : Counts} → RoleFact r.Inner c1 c2 → Fits version unary_precedence x c2 c3 → Fits version unary_precedence (t.Unary s o x) c1 c3
+unary_fits : {version : Version} {x : t.Expression} {s : Spot} {o : UnaryOperator} {c1 c2 c3 : Counts} → RoleFact r.Inner c1 c2 → Fits version unary_precedence x c2 c3 → Fits version unary_precedence (t.unary_of s o x) c1 c3
 unfolding is_expression precedence_of
 unary_fits {x} {s} {o} a b =
     let size = unary_tokens s o x in
     let nest = unary_brackets s o x in
-    let bare = no_pars unary_precedence (t.Unary s o x) (omega arith) in
-    let shut = no_opens unary_precedence (t.Unary s o x) (omega arith) in
+    let bare = no_pars unary_precedence (t.unary_of s o x) (omega arith) in
+    let shut = no_opens unary_precedence (t.unary_of s o x) (omega arith) in
     let a0 = a.0 in let a1 = a.1 in let e1 = b.even in let s1 = b.size in
     record {
       is = b.is;
@@ -332,13 +332,13 @@ one_fits x is size nest level a =
     }
 
 cell_fits : {version : Version} {n : List ℕ} {i : t.Expression} {s : Spot} {c1 c2 c3 c4 c5 : Counts} → is_name version n ≡ true → RoleFact r.Inner c1 c2 → RoleFact r.Opening c2 c3 → Fits version 0 i c3 c4 → RoleFact r.Closing c4 c5
-    → Fits version primary_precedence (t.Cell s n i) c1 c5
+    → Fits version primary_precedence (t.cell_at s n i) c1 c5
 unfolding is_expression precedence_of
 cell_fits {n} {i} {s} is a b c d =
     let size = cell_tokens s n i in
     let nest = cell_brackets s n i in
-    let bare = no_pars primary_precedence (t.Cell s n i) (omega arith) in
-    let shut = no_opens primary_precedence (t.Cell s n i) (omega arith) in
+    let bare = no_pars primary_precedence (t.cell_at s n i) (omega arith) in
+    let shut = no_opens primary_precedence (t.cell_at s n i) (omega arith) in
     let a0 = a.0 in let a1 = a.1 in let b0 = b.0 in let b1 = b.1 in let b2 = b.2 in let d0 = d.0 in let d1 = d.1 in let e1 = c.even in let s1 = c.size in
     record {
       is = all_true is c.is;
@@ -368,13 +368,13 @@ enclosed_fits x p a b c =
     }
 
 concat_fits : {version : Version} {x y : t.Expression} {xs : t.Expressions} {s : Spot} {c1 c2 c3 c4 c5 c6 c7 : Counts} → RoleFact r.Opening c1 c2 → Fits version 0 x c2 c3 → RoleFact r.Inner c3 c4 → Fits version 0 y c4 c5
-    → FitsParts version xs c5 c6 → RoleFact r.Closing c6 c7 → Fits version primary_precedence (t.Concat s (t.AndPart x (t.AndPart y xs))) c1 c7
+    → FitsParts version xs c5 c6 → RoleFact r.Closing c6 c7 → Fits version primary_precedence (t.concat s (t.and_part x (t.and_part y xs))) c1 c7
 unfolding is_expression precedence_of
 concat_fits {x} {y} {xs} {s} a b c d e f =
     let size = concat_tokens s x y xs in
     let nest = concat_brackets s x y xs in
-    let bare = no_pars primary_precedence (t.Concat s (t.AndPart x (t.AndPart y xs))) (omega arith) in
-    let shut = no_opens primary_precedence (t.Concat s (t.AndPart x (t.AndPart y xs))) (omega arith) in
+    let bare = no_pars primary_precedence (t.concat s (t.and_part x (t.and_part y xs))) (omega arith) in
+    let shut = no_opens primary_precedence (t.concat s (t.and_part x (t.and_part y xs))) (omega arith) in
     let a0 = a.0 in let a1 = a.1 in let a2 = a.2 in let c0 = c.0 in let c1 = c.1 in let f0 = f.0 in let f1 = f.1 in
     let e1 = b.even in let e2 = d.even in let e3 = e.even in let s1 = b.size in let s2 = d.size in let s3 = e.size in
     record {
@@ -388,13 +388,13 @@ concat_fits {x} {y} {xs} {s} a b c d e f =
     }
 
 zext_fits : {version : Version} {x : t.Expression} {w : ℕ} {s : Spot} {c1 c2 c3 c4 c5 c6 c7 : Counts} → RoleFact r.Inner c1 c2 → RoleFact r.Opening c2 c3 → Fits version 0 x c3 c4 → RoleFact r.Inner c4 c5 → is_number w ≡ true
-    → RoleFact r.Inner c5 c6 → RoleFact r.Closing c6 c7 → Fits version primary_precedence (t.Zext s x w) c1 c7
+    → RoleFact r.Inner c5 c6 → RoleFact r.Closing c6 c7 → Fits version primary_precedence (t.zero_extend s x w) c1 c7
 unfolding is_expression precedence_of
 zext_fits {x} {w} {s} a b c d is e f =
     let size = zext_tokens s x w in
     let nest = zext_brackets s x w in
-    let bare = no_pars primary_precedence (t.Zext s x w) (omega arith) in
-    let shut = no_opens primary_precedence (t.Zext s x w) (omega arith) in
+    let bare = no_pars primary_precedence (t.zero_extend s x w) (omega arith) in
+    let shut = no_opens primary_precedence (t.zero_extend s x w) (omega arith) in
     let a0 = a.0 in let a1 = a.1 in let b0 = b.0 in let b1 = b.1 in let b2 = b.2 in let d0 = d.0 in let d1 = d.1 in let e0 = e.0 in let e1 = e.1 in let f0 = f.0 in let f1 = f.1 in
     let even = c.even in let s1 = c.size in
     record {
@@ -407,19 +407,19 @@ zext_fits {x} {w} {s} a b c d is e f =
       commands = omega (arith, c.commands);
     }
 
-no_parts_fit : {version : Version} (c : Counts) → FitsParts version t.NoPart c c
+no_parts_fit : {version : Version} (c : Counts) → FitsParts version t.no_part c c
 unfolding is_expression tokens brackets
 no_parts_fit c = record { are = refl; size = omega arith; room = λ h. h; even = refl; depth = λ h. omega arith; states = refl; commands = refl }
 
-part_tokens_are : (x : t.Expression) (xs : t.Expressions) → part_tokens (t.AndPart x xs) ≡ tokens x + 1 + part_tokens xs
+part_tokens_are : (x : t.Expression) (xs : t.Expressions) → part_tokens (t.and_part x xs) ≡ tokens x + 1 + part_tokens xs
 unfolding tokens
 part_tokens_are x xs = refl
 
-part_brackets_are : (x : t.Expression) (xs : t.Expressions) → part_brackets (t.AndPart x xs) ≡ max (brackets x) (part_brackets xs)
+part_brackets_are : (x : t.Expression) (xs : t.Expressions) → part_brackets (t.and_part x xs) ≡ max (brackets x) (part_brackets xs)
 unfolding brackets
 part_brackets_are x xs = refl
 
-part_fits : {version : Version} {x : t.Expression} {xs : t.Expressions} {c1 c2 c3 c4 : Counts} → RoleFact r.Inner c1 c2 → Fits version 0 x c2 c3 → FitsParts version xs c3 c4 → FitsParts version (t.AndPart x xs) c1 c4
+part_fits : {version : Version} {x : t.Expression} {xs : t.Expressions} {c1 c2 c3 c4 : Counts} → RoleFact r.Inner c1 c2 → Fits version 0 x c2 c3 → FitsParts version xs c3 c4 → FitsParts version (t.and_part x xs) c1 c4
 unfolding is_expression
 part_fits {x} {xs} a b c =
     let size = part_tokens_are x xs in
@@ -435,17 +435,17 @@ part_fits {x} {xs} a b c =
       commands = omega (arith, b.commands, c.commands);
     }
 
-number_fits : {version : Version} {n : ℕ} {s : Spot} {c d : Counts} → is_number n ≡ true → RoleFact r.Inner c d → Fits version primary_precedence (t.Number s n) c d
+number_fits : {version : Version} {n : ℕ} {s : Spot} {c d : Counts} → is_number n ≡ true → RoleFact r.Inner c d → Fits version primary_precedence (t.literal s n) c d
 unfolding is_expression tokens brackets precedence_of
-number_fits {n} {s} is a = one_fits (t.Number s n) is refl refl refl a
+number_fits {n} {s} is a = one_fits (t.literal s n) is refl refl refl a
 
-sized_fits : {version : Version} {w n : ℕ} {s : Spot} {c d : Counts} → is_number w ≡ true → is_number n ≡ true → RoleFact r.Inner c d → Fits version primary_precedence (t.Sized s w n) c d
+sized_fits : {version : Version} {w n : ℕ} {s : Spot} {c d : Counts} → is_number w ≡ true → is_number n ≡ true → RoleFact r.Inner c d → Fits version primary_precedence (t.sized_literal s w n) c d
 unfolding is_expression tokens brackets precedence_of
-sized_fits {w} {n} {s} is other a = one_fits (t.Sized s w n) (all_true is other) refl refl refl a
+sized_fits {w} {n} {s} is other a = one_fits (t.sized_literal s w n) (all_true is other) refl refl refl a
 
-read_fits : {version : Version} {n : List ℕ} {s : Spot} {c d : Counts} → is_name version n ≡ true → RoleFact r.Inner c d → Fits version primary_precedence (t.Read s n) c d
+read_fits : {version : Version} {n : List ℕ} {s : Spot} {c d : Counts} → is_name version n ≡ true → RoleFact r.Inner c d → Fits version primary_precedence (t.variable s n) c d
 unfolding is_expression tokens brackets precedence_of
-read_fits {n} {s} is a = one_fits (t.Read s n) is refl refl refl a
+read_fits {n} {s} is a = one_fits (t.variable s n) is refl refl refl a
 
 cuts_between : {version : Version} {p q : Stage} {x y : t.Expression} → g.Cuts x p y q → Between version p q (Grows version slice_precedence x y p.past.counts q.past.counts)
 cuts_between {p} {x = x} g.no_cut = still (grows_none slice_precedence x p.past.counts)

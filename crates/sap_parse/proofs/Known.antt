@@ -15,7 +15,7 @@ use Rattle.sap_parse.specs.declared.token.Token.{Token}
 use Rattle.sap_tree.specs.declared.word.Word.{Word as WordOf}
 use Rattle.sap_walk.specs.Limits.{Past, passed}
 use Rattle.sap_walk.specs.Rows.{push, optional, ◌or◌, firsts, first_then}
-use Rattle.sap_walk.specs.Walk.{Next, Take, Skip, Stop, at_token, ◌>>=◌, steps}
+use Rattle.sap_walk.specs.Walk.{Next, begins, empty_here, cannot_stand, at_token, ◌>>=◌, steps}
 use Rattle.sap_walk.proofs.Rows.{all_empty, becomes, end_as, push_first, read_as}
 use Rattle.sap_walk.proofs.Walking.{bind_bind, bind_same, read_empty, read_skip, read_stop, read_end, read_take}
 
@@ -88,32 +88,32 @@ stands_for x σ row e p = becomes (table leniently) x σ (λ t. row t.kind) e p 
 
 -- single tokens
 
-token_reads : (x : Symbol) {p q : Stage} {role : Role} {kind : Kind} → IsToken p role kind q → next x kind ≡ Take role [] → R x p ≡ Ok q
+token_reads : (x : Symbol) {p q : Stage} {role : Role} {kind : Kind} → IsToken p role kind q → next x kind ≡ begins role [] → R x p ≡ Ok q
 unfolding read_by leniently
 token_reads x {p} {q} {role} {kind} h row =
-    let here : next x h.token.kind ≡ Take role [] = subst (λ i. next x i ≡ Take role []) (sym h.is) row in
+    let here : next x h.token.kind ≡ begins role [] = subst (λ i. next x i ≡ begins role []) (sym h.is) row in
     ap (λ l. R x (record { past = p.past; left = l })) h.left
     ∙ read_take (table leniently) x h.token q.left p.past role [] (passed tally breach role h.token p.past) here refl
     ∙ ap (λ past. Ok (record { past = past; left = q.left })) (sym h.past)
 
-pub sign_reads : {p q : Stage} {role : Role} {sign : SignOf} → IsToken p role (k.Sign sign) q → R (s.Sign role sign) p ≡ Ok q
-sign_reads {role = role} {sign = sign} h = token_reads (s.Sign role sign) h (ap (s.if_same role) (test_of_same (s.sign_number sign)))
+pub sign_reads : {p q : Stage} {role : Role} {sign : SignOf} → IsToken p role (k.Sign sign) q → R (s.sign role sign) p ≡ Ok q
+sign_reads {role = role} {sign = sign} h = token_reads (s.sign role sign) h (ap (s.if_same role) (test_of_same (s.sign_number sign)))
 
-pub word_reads : {p q : Stage} {role : Role} {word : WordOf} → IsToken p role (k.Word word) q → R (s.Word role word) p ≡ Ok q
-word_reads {role = role} {word = word} h = token_reads (s.Word role word) h (ap (s.if_same role) (test_of_same (s.word_number word)))
+pub word_reads : {p q : Stage} {role : Role} {word : WordOf} → IsToken p role (k.Word word) q → R (s.word role word) p ≡ Ok q
+word_reads {role = role} {word = word} h = token_reads (s.word role word) h (ap (s.if_same role) (test_of_same (s.word_number word)))
 
-pub name_reads : {p q : Stage} {role : Role} {name : List ℕ} → IsToken p role (k.Name name) q → R (s.Name role) p ≡ Ok q
-name_reads {role = role} h = token_reads (s.Name role) h refl
+pub name_reads : {p q : Stage} {role : Role} {name : List ℕ} → IsToken p role (k.Name name) q → R (s.any_name role) p ≡ Ok q
+name_reads {role = role} h = token_reads (s.any_name role) h refl
 
-pub sized_reads : {p q : Stage} {role : Role} {width n : ℕ} → IsToken p role (k.Sized width n) q → R (s.Sized role) p ≡ Ok q
-sized_reads {role = role} h = token_reads (s.Sized role) h refl
+pub sized_reads : {p q : Stage} {role : Role} {width n : ℕ} → IsToken p role (k.Sized width n) q → R (s.sized role) p ≡ Ok q
+sized_reads {role = role} h = token_reads (s.sized role) h refl
 
-pub number_reads : {p q : Stage} {role : Role} {n : ℕ} → IsToken p role (k.Number n) q → R (s.Number role) p ≡ Ok q
-number_reads {role = role} h = token_reads (s.Number role) h refl
+pub number_reads : {p q : Stage} {role : Role} {n : ℕ} → IsToken p role (k.Number n) q → R (s.number role) p ≡ Ok q
+number_reads {role = role} h = token_reads (s.number role) h refl
 
 -- what is left out
 
-pub skipped : (x : Symbol) (p : Stage) → may_be_empty x ≡ true → ((i : Kind) → first_kind p ≡ Some i → next x i ≡ Skip) → R x p ≡ Ok p
+pub skipped : (x : Symbol) (p : Stage) → may_be_empty x ≡ true → ((i : Kind) → first_kind p ≡ Some i → next x i ≡ empty_here) → R x p ≡ Ok p
 unfolding read_by
 skipped x p e row = by_left p.left refl where
   by_left : (left : List Token) → p.left ≡ left → R x p ≡ Ok p
@@ -128,32 +128,32 @@ pub record Taken (x : Symbol) (p : Stage) : Type 0 where
   pub here : first_kind p ≡ Some kind
   pub role : Role
   pub behind : List Symbol
-  pub row : next x kind ≡ Take role behind
+  pub row : next x kind ≡ begins role behind
 
-pub takes : (x : Symbol) (p q : Stage) → may_be_empty x ≡ false → ((i : Kind) → next x i ≢ Skip) → R x p ≡ Ok q → Taken x p
+pub takes : (x : Symbol) (p q : Stage) → may_be_empty x ≡ false → ((i : Kind) → next x i ≢ empty_here) → R x p ≡ Ok q → Taken x p
 unfolding read_by
 takes x p q e full h = by_left p.left refl where
   ok_not : {a : Stage} (o : Outcome) → o ≡ Ok q → o ≡ Err (at_token a) → ⊥
   ok_not o f g = cc
 
   by_next : (t : Token) (ts : List Token) → p.left ≡ t ∷ ts → (n : Row) → next x t.kind ≡ n → Taken x p
-  by_next t ts some (Take role σ) w = record { kind = t.kind; here = ap kind_in some; role = role; behind = σ; row = w }
-  by_next t ts some Skip w = absurd (full t.kind w)
-  by_next t ts some Stop w = absurd (ok_not (R x p) h (ap (λ l. R x (record { past = p.past; left = l })) some ∙ read_stop (table leniently) x t ts p.past w))
+  by_next t ts some (begins role σ) w = record { kind = t.kind; here = ap kind_in some; role = role; behind = σ; row = w }
+  by_next t ts some empty_here w = absurd (full t.kind w)
+  by_next t ts some cannot_stand w = absurd (ok_not (R x p) h (ap (λ l. R x (record { past = p.past; left = l })) some ∙ read_stop (table leniently) x t ts p.past w))
 
   by_left : (left : List Token) → p.left ≡ left → Taken x p
   by_left [] none = absurd (ok_not (R x p) h (ap (λ l. R x (record { past = p.past; left = l })) none ∙ read_end (table leniently) x p.past e))
   by_left (t ∷ ts) some = by_next t ts some (next x t.kind) refl
 
 -- so a repetition, an option or a choice whose first symbol it is goes on with it
-pub goes_with : (x f : Symbol) (σ : List Symbol) (p q : Stage) → may_be_empty f ≡ false → ((i : Kind) → next f i ≢ Skip) → R f p ≡ Ok q
-    → ((i : Kind) (role : Role) (ρ : List Symbol) → next f i ≡ Take role ρ → next x i ≡ push (next f i) σ) → R x p ≡ Rs (f ∷ σ) p
+pub goes_with : (x f : Symbol) (σ : List Symbol) (p q : Stage) → may_be_empty f ≡ false → ((i : Kind) → next f i ≢ empty_here) → R f p ≡ Ok q
+    → ((i : Kind) (role : Role) (ρ : List Symbol) → next f i ≡ begins role ρ → next x i ≡ push (next f i) σ) → R x p ≡ Rs (f ∷ σ) p
 goes_with x f σ p q e full h row =
     let t = takes f p q e full h in
     at_kind x (f ∷ σ) t.kind p t.here (row t.kind t.role t.behind t.row ∙ push_first (next f t.kind) σ (firsts (λ y. next y t.kind) σ) (full t.kind))
 
-pub optional_taken : (n : Row) {role : Role} {ρ : List Symbol} (σ : List Symbol) → n ≡ Take role ρ → optional (push n σ) ≡ push n σ
+pub optional_taken : (n : Row) {role : Role} {ρ : List Symbol} (σ : List Symbol) → n ≡ begins role ρ → optional (push n σ) ≡ push n σ
 optional_taken n σ e = ap (λ m. optional (push m σ)) e ∙ ap (λ m. push m σ) (sym e)
 
-pub or_taken : (n m : Row) {role : Role} {ρ : List Symbol} (σ : List Symbol) → n ≡ Take role ρ → (push n σ) or m ≡ push n σ
+pub or_taken : (n m : Row) {role : Role} {ρ : List Symbol} (σ : List Symbol) → n ≡ begins role ρ → (push n σ) or m ≡ push n σ
 or_taken n m σ e = ap (λ x. (push x σ) or m) e ∙ ap (λ x. push x σ) (sym e)

@@ -21,14 +21,14 @@ use Rattle.sap_parse.specs.declared.cursor.Fault.{Fault}
 abbrev pub both : Place → Spot
 both place = record { first = place; at = place }
 
-pub number_tree : {p q : Stage} {n : ℕ} {place : Place} {spot : Spot} {x : t.Expression} → IsNumber p r.Inner n q → place ≡ here p → spot ≡ both place → x ≡ t.Number spot n → g.Prim p x q
-number_tree {p = p} {q = q} {n = n} is at same made = subst (λ x. g.Prim p x q) (sym (made ∙ ap (λ s. t.Number s n) (same ∙ ap both at))) (g.number is)
+pub number_tree : {p q : Stage} {n : ℕ} {place : Place} {spot : Spot} {x : t.Expression} → IsNumber p r.Inner n q → place ≡ here p → spot ≡ both place → x ≡ t.literal spot n → g.Prim p x q
+number_tree {p = p} {q = q} {n = n} is at same made = subst (λ x. g.Prim p x q) (sym (made ∙ ap (λ s. t.literal s n) (same ∙ ap both at))) (g.number is)
 
-pub sized_tree : {p q : Stage} {width n : ℕ} {place : Place} {spot : Spot} {x : t.Expression} → IsSized p r.Inner width n q → place ≡ here p → spot ≡ both place → x ≡ t.Sized spot width n → g.Prim p x q
-sized_tree {p = p} {q = q} {width = width} {n = n} is at same made = subst (λ x. g.Prim p x q) (sym (made ∙ ap (λ s. t.Sized s width n) (same ∙ ap both at))) (g.sized is)
+pub sized_tree : {p q : Stage} {width n : ℕ} {place : Place} {spot : Spot} {x : t.Expression} → IsSized p r.Inner width n q → place ≡ here p → spot ≡ both place → x ≡ t.sized_literal spot width n → g.Prim p x q
+sized_tree {p = p} {q = q} {width = width} {n = n} is at same made = subst (λ x. g.Prim p x q) (sym (made ∙ ap (λ s. t.sized_literal s width n) (same ∙ ap both at))) (g.sized is)
 
-pub read_tree : {p q : Stage} {name : List ℕ} {place : Place} {spot : Spot} {x : t.Expression} → IsName p r.Inner name q → place ≡ here p → spot ≡ both place → x ≡ t.Read spot name → g.Prim p x q
-read_tree {p = p} {q = q} {name = name} is at same made = subst (λ x. g.Prim p x q) (sym (made ∙ ap (λ s. t.Read s name) (same ∙ ap both at))) (g.read is)
+pub read_tree : {p q : Stage} {name : List ℕ} {place : Place} {spot : Spot} {x : t.Expression} → IsName p r.Inner name q → place ≡ here p → spot ≡ both place → x ≡ t.variable spot name → g.Prim p x q
+read_tree {p = p} {q = q} {name = name} is at same made = subst (λ x. g.Prim p x q) (sym (made ∙ ap (λ s. t.variable s name) (same ∙ ap both at))) (g.read is)
 
 pub paren_tree : {p1 p2 p3 q : Stage} {x y : t.Expression} {place : Place} → IsSign p1 r.Opening s.OpenParen p2 → g.Expr p2 x p3 → IsSign p3 r.Closing s.CloseParen q
     → place ≡ here p1 → y ≡ enclosed place x → g.Prim p1 y q
@@ -36,19 +36,19 @@ paren_tree {p1 = p1} {q = q} {x = x} a b c at made = subst (λ y. g.Prim p1 y q)
 
 pub concat_tree : {p1 p2 p3 p4 p5 p6 q : Stage} {x y z : t.Expression} {xs all : t.Expressions} {place : Place} {spot : Spot}
     → IsSign p1 r.Opening s.OpenBrace p2 → g.Expr p2 x p3 → IsSign p3 r.Inner s.Comma p4 → g.Expr p4 y p5 → g.Parts p5 xs p6 → IsSign p6 r.Closing s.CloseBrace q
-    → place ≡ here p1 → spot ≡ both place → all ≡ t.AndPart x (t.AndPart y xs) → z ≡ t.Concat spot all → g.Prim p1 z q
+    → place ≡ here p1 → spot ≡ both place → all ≡ t.and_part x (t.and_part y xs) → z ≡ t.concat spot all → g.Prim p1 z q
 concat_tree {p1 = p1} {q = q} {all = all} a b c d e f at same items made =
-    subst (λ z. g.Prim p1 z q) (sym (made ∙ ap (λ s. t.Concat s all) (same ∙ ap both at) ∙ ap (λ xs. t.Concat (spot_here p1) xs) items)) (g.concat a b c d e f)
+    subst (λ z. g.Prim p1 z q) (sym (made ∙ ap (λ s. t.concat s all) (same ∙ ap both at) ∙ ap (λ xs. t.concat (spot_here p1) xs) items)) (g.concat a b c d e f)
 
 pub zext_tree : {p1 p2 p3 p4 p5 p6 q : Stage} {x z : t.Expression} {width : ℕ} {place : Place} {spot : Spot}
     → IsWord p1 r.Inner w.Zext p2 → IsSign p2 r.Opening s.OpenParen p3 → g.Expr p3 x p4 → IsSign p4 r.Inner s.Comma p5 → IsNumber p5 r.Inner width p6 → IsSign p6 r.Closing s.CloseParen q
-    → place ≡ here p1 → spot ≡ both place → z ≡ t.Zext spot x width → g.Prim p1 z q
+    → place ≡ here p1 → spot ≡ both place → z ≡ t.zero_extend spot x width → g.Prim p1 z q
 zext_tree {p1 = p1} {q = q} {x = x} {width = width} a b c d e f at same made =
-    subst (λ z. g.Prim p1 z q) (sym (made ∙ ap (λ s. t.Zext s x width) (same ∙ ap both at))) (g.zext a b c d e f)
+    subst (λ z. g.Prim p1 z q) (sym (made ∙ ap (λ s. t.zero_extend s x width) (same ∙ ap both at))) (g.zext a b c d e f)
 
 pub unary_tree : {p1 p2 q : Stage} {x z : t.Expression} {place : Place} {spot : Spot} (o : UnaryOperator) → IsSign p1 r.Inner (g.unary_sign_of o) p2 → g.Unary p2 x q
-    → place ≡ here p1 → spot ≡ both place → z ≡ t.Unary spot o x → g.Unary p1 z q
-unary_tree {p1 = p1} {q = q} {x = x} o a b at same made = subst (λ z. g.Unary p1 z q) (sym (made ∙ ap (λ s. t.Unary s o x) (same ∙ ap both at))) (g.signed o a b)
+    → place ≡ here p1 → spot ≡ both place → z ≡ t.unary_of spot o x → g.Unary p1 z q
+unary_tree {p1 = p1} {q = q} {x = x} o a b at same made = subst (λ z. g.Unary p1 z q) (sym (made ∙ ap (λ s. t.unary_of s o x) (same ∙ ap both at))) (g.signed o a b)
 
 -- an expression named after the operator that stands here
 abbrev pub from_to : Place → Place → Spot
@@ -56,38 +56,38 @@ from_to first at = record { first = first; at = at }
 
 pub choice_tree : {p1 p2 p3 p4 p5 q : Stage} {x y z all : t.Expression} {place first : Place}
     → g.Bin 1 p1 x p2 → IsSign p2 r.Inner s.Question p3 → g.Expr p3 y p4 → IsSign p4 r.Inner s.Colon p5 → g.Expr p5 z q
-    → place ≡ here p2 → first ≡ first_of x → all ≡ t.Choose (from_to first place) x y z → g.Expr p1 all q
+    → place ≡ here p2 → first ≡ first_of x → all ≡ t.choice (from_to first place) x y z → g.Expr p1 all q
 choice_tree {p1 = p1} {q = q} {x = x} {y = y} {z = z} {place = place} a b c d e at begins made =
-    subst (λ all. g.Expr p1 all q) (sym (made ∙ ap (λ f. t.Choose (from_to f place) x y z) begins ∙ ap (λ at. t.Choose (from_to (first_of x) at) x y z) at)) (g.choice a b c d e)
+    subst (λ all. g.Expr p1 all q) (sym (made ∙ ap (λ f. t.choice (from_to f place) x y z) begins ∙ ap (λ at. t.choice (from_to (first_of x) at) x y z) at)) (g.choice a b c d e)
 
 pub other_tree : {l : ℕ} {p1 p2 p3 q : Stage} {x y z all : t.Expression} {place first : Place} (o : BinaryOperator) → precedence o ≡ l → IsSign p1 r.Inner (g.sign_of o) p2 → g.Bin (l + 1) p2 y p3
-    → place ≡ here p1 → first ≡ first_of x → all ≡ t.Binary (from_to first place) o x y → g.Others l all p3 z q → g.Others l x p1 z q
+    → place ≡ here p1 → first ≡ first_of x → all ≡ t.binary_of (from_to first place) o x y → g.Others l all p3 z q → g.Others l x p1 z q
 other_tree {l = l} {p3 = p3} {q = q} {x = x} {y = y} {z = z} {place = place} o level a b at begins made rest =
-    g.other o level a b (subst (λ all. g.Others l all p3 z q) (made ∙ ap (λ f. t.Binary (from_to f place) o x y) begins ∙ ap (λ at. t.Binary (from_to (first_of x) at) o x y) at) rest)
+    g.other o level a b (subst (λ all. g.Others l all p3 z q) (made ∙ ap (λ f. t.binary_of (from_to f place) o x y) begins ∙ ap (λ at. t.binary_of (from_to (first_of x) at) o x y) at) rest)
 
 pub cut_tree : {p1 p2 q : Stage} {x y all : t.Expression} {high low : ℕ} {place first : Place} → g.Bounds p1 high low p2
-    → place ≡ here p1 → first ≡ first_of x → all ≡ t.Slice (from_to first place) x high low → g.Cuts all p2 y q → g.Cuts x p1 y q
+    → place ≡ here p1 → first ≡ first_of x → all ≡ t.slice (from_to first place) x high low → g.Cuts all p2 y q → g.Cuts x p1 y q
 cut_tree {p2 = p2} {q = q} {x = x} {y = y} {high = high} {low = low} {place = place} a at begins made rest =
-    g.cut a (subst (λ all. g.Cuts all p2 y q) (made ∙ ap (λ f. t.Slice (from_to f place) x high low) begins ∙ ap (λ at. t.Slice (from_to (first_of x) at) x high low) at) rest)
+    g.cut a (subst (λ all. g.Cuts all p2 y q) (made ∙ ap (λ f. t.slice (from_to f place) x high low) begins ∙ ap (λ at. t.slice (from_to (first_of x) at) x high low) at) rest)
 
 -- an operand that begins with a name
 
 sliced_one : {p1 p2 p3 q : Stage} {name : List ℕ} {first at : Place} {y : t.Expression} → IsName p1 r.Inner name p2 → first ≡ here p1 → IsSign p2 r.Opening s.OpenBracket p3 → at ≡ here p2
-    → Slices (from_to first at) (t.Read (both first) name) p3 y q → g.Post p1 y q
+    → Slices (from_to first at) (t.variable (both first) name) p3 y q → g.Post p1 y q
 unfolding first_of spot_of
 sliced_one {p1 = p1} {p2 = p2} {name = name} {first = first} {at = at} a begins b there (slices {p5 = p5} {q = q} {high = high} {low = low} {x = x} c d e f rest) =
-    let moved : g.Cuts (t.Slice (from_to (here p1) (here p2)) (t.Read (spot_here p1) name) high low) p5 x q
-    = subst (λ place. g.Cuts (t.Slice (from_to (here p1) place) (t.Read (spot_here p1) name) high low) p5 x q) there
-    (subst (λ place. g.Cuts (t.Slice (from_to place at) (t.Read (both place) name) high low) p5 x q) begins rest) in
+    let moved : g.Cuts (t.slice (from_to (here p1) (here p2)) (t.variable (spot_here p1) name) high low) p5 x q
+    = subst (λ place. g.Cuts (t.slice (from_to (here p1) place) (t.variable (spot_here p1) name) high low) p5 x q) there
+    (subst (λ place. g.Cuts (t.slice (from_to place at) (t.variable (both place) name) high low) p5 x q) begins rest) in
     g.post (g.read a) (g.cut (g.bounds b c d e f) moved)
 
 indexed_one : {p1 p2 p3 q : Stage} {name : List ℕ} {first : Place} {y : t.Expression} → IsName p1 r.Inner name p2 → first ≡ here p1 → IsSign p2 r.Opening s.OpenBracket p3
     → Indexes (both first) name p3 y q → g.Post p1 y q
 indexed_one {p1 = p1} {name = name} a begins b (indexes {p3 = p5} {q = q} {i = i} {x = x} c d rest) =
-    g.post (g.cell a b c d) (subst (λ place. g.Cuts (t.Cell (both place) name i) p5 x q) begins rest)
+    g.post (g.cell a b c d) (subst (λ place. g.Cuts (t.cell_at (both place) name i) p5 x q) begins rest)
 
 pub sliced_post : (o : Result Expr Fault) (q : Stage) {p1 p2 p3 : Stage} {name : List ℕ} {first at : Place} → IsName p1 r.Inner name p2 → first ≡ here p1 → IsSign p2 r.Opening s.OpenBracket p3
-    → at ≡ here p2 → IfOk o (λ x. Slices (from_to first at) (t.Read (both first) name) p3 (expression_of x) q) → IfOk o (λ x. g.Post p1 (expression_of x) q)
+    → at ≡ here p2 → IfOk o (λ x. Slices (from_to first at) (t.variable (both first) name) p3 (expression_of x) q) → IfOk o (λ x. g.Post p1 (expression_of x) q)
 sliced_post (Ok x) q a begins b there h = sliced_one a begins b there h
 sliced_post (Err e) q a begins b there h = tt
 
@@ -98,12 +98,12 @@ indexed_post (Err e) q a begins b h = tt
 
 pub slices_tree : (o : Result Expr Fault) (q : Stage) (spot : Spot) (x : t.Expression) {y : t.Expression} {p1 p2 p3 p4 p5 : Stage} {high low : ℕ}
     → IsNumber p1 r.Inner high p2 → IsSign p2 r.Inner s.Colon p3 → IsNumber p3 r.Inner low p4 → IsSign p4 r.Closing s.CloseBracket p5
-    → y ≡ t.Slice spot x high low → IfOk o (λ z. g.Cuts y p5 (expression_of z) q) → IfOk o (λ z. Slices spot x p1 (expression_of z) q)
+    → y ≡ t.slice spot x high low → IfOk o (λ z. g.Cuts y p5 (expression_of z) q) → IfOk o (λ z. Slices spot x p1 (expression_of z) q)
 slices_tree (Ok z) q spot x {p5 = p5} a b c d made h = slices a b c d (subst (λ y. g.Cuts y p5 (expression_of z) q) made h)
 slices_tree (Err e) q spot x a b c d made h = tt
 
 pub indexes_tree : (o : Result Expr Fault) (q : Stage) (spot : Spot) (name : List ℕ) {i y : t.Expression} {p1 p2 p3 : Stage} → g.Expr p1 i p2 → IsSign p2 r.Closing s.CloseBracket p3
-    → y ≡ t.Cell spot name i → IfOk o (λ z. g.Cuts y p3 (expression_of z) q) → IfOk o (λ z. Indexes spot name p1 (expression_of z) q)
+    → y ≡ t.cell_at spot name i → IfOk o (λ z. g.Cuts y p3 (expression_of z) q) → IfOk o (λ z. Indexes spot name p1 (expression_of z) q)
 indexes_tree (Ok z) q spot name {p3 = p3} a b made h = indexes a b (subst (λ y. g.Cuts y p3 (expression_of z) q) made h)
 indexes_tree (Err e) q spot name a b made h = tt
 
@@ -121,10 +121,10 @@ operand_tree (Err e) p q l same h = tt
 
 -- rows of expressions
 
-pub join_push : (xs : List Expr) (x : Expr) (ys : t.Expressions) → join (expressions_of (xs ++ x ∷ [])) ys ≡ join (expressions_of xs) (t.AndPart (expression_of x) ys)
+pub join_push : (xs : List Expr) (x : Expr) (ys : t.Expressions) → join (expressions_of (xs ++ x ∷ [])) ys ≡ join (expressions_of xs) (t.and_part (expression_of x) ys)
 join_push [] x ys = refl
-join_push (y ∷ xs) x ys = ap (λ zs. t.AndPart (expression_of y) zs) (join_push xs x ys)
+join_push (y ∷ xs) x ys = ap (λ zs. t.and_part (expression_of y) zs) (join_push xs x ys)
 
-pub join_none : (xs : t.Expressions) → join xs t.NoPart ≡ xs
-join_none t.NoPart = refl
-join_none (t.AndPart x xs) = ap (λ zs. t.AndPart x zs) (join_none xs)
+pub join_none : (xs : t.Expressions) → join xs t.no_part ≡ xs
+join_none t.no_part = refl
+join_none (t.and_part x xs) = ap (λ zs. t.and_part x zs) (join_none xs)

@@ -31,7 +31,7 @@ use Rattle.sap_walk.proofs.Prefixes as prefix
 
 -- the walk and the grammar
 
-reading : prefix.Reading grammar s.Design (at_start []).past SpellsSome
+reading : prefix.Reading grammar s.design (at_start []).past SpellsSome
 unfolding read_by leniently
 reading = record {
   fresh = refl;
@@ -40,22 +40,22 @@ reading = record {
   goes_on = goes_on;
 }
 
-unexpected_there : (ts : List Token) (p : Stage) → reads s.Design (at_start ts) ≡ Err (at_token p) → IsUnexpected ts p.left
+unexpected_there : (ts : List Token) (p : Stage) → reads s.design (at_start ts) ≡ Err (at_token p) → IsUnexpected ts p.left
 unfolding read_by strictly
-unexpected_there ts p e = prefix.unexpected grammar s.Design (at_start []).past SpellsSome reading ts p e
+unexpected_there ts p e = prefix.unexpected grammar s.design (at_start []).past SpellsSome reading ts p e
 
-over_there : (ts : List Token) (p : Stage) (limit : Limit) → reads s.Design (at_start ts) ≡ Err (at_limit limit p) → IsOver ts p.left limit
+over_there : (ts : List Token) (p : Stage) (limit : Limit) → reads s.design (at_start ts) ≡ Err (at_limit limit p) → IsOver ts p.left limit
 unfolding read_by strictly
-over_there ts p limit e = prefix.is_over grammar s.Design (at_start []).past SpellsSome reading ts p limit e
+over_there ts p limit e = prefix.is_over grammar s.design (at_start []).past SpellsSome reading ts p limit e
 
-reads_design : (ts : List Token) (d : DesignTree) → IsDesign ts d → (last : Past Counts Limit) × (reads s.Design (at_start ts) ≡ Ok (record { past = last; left = [] }))
+reads_design : (ts : List Token) (d : DesignTree) → IsDesign ts d → (last : Past Counts Limit) × (reads s.design (at_start ts) ≡ Ok (record { past = last; left = [] }))
 unfolding read_by strictly
-reads_design ts d h = prefix.whole_ok grammar s.Design (at_start []).past SpellsSome reading ts (d, h)
+reads_design ts d h = prefix.whole_ok grammar s.design (at_start []).past SpellsSome reading ts (d, h)
 
 stops_over : (ts left : List Token) (limit : Limit) → IsOver ts left limit
-    → (kept : Past Counts Limit) × (reads s.Design (at_start ts) ≡ Err (at_limit limit (record { past = kept; left = left })))
+    → (kept : Past Counts Limit) × (reads s.design (at_start ts) ≡ Err (at_limit limit (record { past = kept; left = left })))
 unfolding read_by strictly
-stops_over ts left limit h = prefix.over_stops grammar s.Design (at_start []).past SpellsSome reading ts left limit h
+stops_over ts left limit h = prefix.over_stops grammar s.design (at_start []).past SpellsSome reading ts left limit h
 
 -- what the reader answers is the read fault
 
@@ -65,11 +65,11 @@ ok_or_err e f = cc
 token_or_limit : {p q : Stage} {limit : Limit} {o : Outcome} → o ≡ Err (at_token p) → o ≡ Err (at_limit limit q) → ⊥
 token_or_limit e f = cc
 
-pub fault_unexpected : (text : List ℕ) (ts : List Token) (p : Stage) → length text ≤ most_bytes → AreTokens text ts → reads s.Design (at_start ts) ≡ Err (at_token p)
+pub fault_unexpected : (text : List ℕ) (ts : List Token) (p : Stage) → length text ≤ most_bytes → AreTokens text ts → reads s.design (at_start ts) ≡ Err (at_token p)
     → IsReadFault text (f.E2 (fault_place text p.left))
 fault_unexpected text ts p fits lexed e = unexpected fits lexed (unexpected_there ts p e) (λ rest limit o. token_or_limit e (stops_over ts rest limit o).1)
 
-pub fault_over : (text : List ℕ) (ts : List Token) (p : Stage) (limit : Limit) → length text ≤ most_bytes → AreTokens text ts → reads s.Design (at_start ts) ≡ Err (at_limit limit p)
+pub fault_over : (text : List ℕ) (ts : List Token) (p : Stage) (limit : Limit) → length text ≤ most_bytes → AreTokens text ts → reads s.design (at_start ts) ≡ Err (at_limit limit p)
     → IsReadFault text (f.E18 (fault_place text p.left) limit)
 fault_over text ts p limit fits lexed e = over fits lexed (over_there ts p limit e)
 
@@ -100,16 +100,16 @@ text_whole text x t =
     design_is_whole text t.tokens x (omega (arith, few, fits)) (texts_are text t.tokens t.lexed) t.whole
 
 pub fault_at_token : {A : Type 0} (text : List ℕ) (ts : List Token) (p q : Stage) (place : Place) (r : Result A Fault) → length text ≤ most_bytes → AreTokens text ts → p ≡ at_start ts
-    → Goes s.Design p r q → r ≡ Err h.Token → place ≡ fault_place text q.left → IsReadFault text (f.E2 place)
+    → Goes s.design p r q → r ≡ Err h.Token → place ≡ fault_place text q.left → IsReadFault text (f.E2 place)
 fault_at_token text ts p q place r fits lexed start goes is there =
-    let stops : reads s.Design p ≡ Err (at_token q) = subst (λ r. Goes s.Design p r q) is goes in
-    subst (λ l. IsReadFault text (f.E2 l)) (sym there) (fault_unexpected text ts q fits lexed (ap (reads s.Design) (sym start) ∙ stops))
+    let stops : reads s.design p ≡ Err (at_token q) = subst (λ r. Goes s.design p r q) is goes in
+    subst (λ l. IsReadFault text (f.E2 l)) (sym there) (fault_unexpected text ts q fits lexed (ap (reads s.design) (sym start) ∙ stops))
 
 pub fault_at_limit : {A : Type 0} (text : List ℕ) (ts : List Token) (p q : Stage) (place : Place) (limit : Limit) (r : Result A Fault) → length text ≤ most_bytes → AreTokens text ts
-    → p ≡ at_start ts → Goes s.Design p r q → r ≡ Err (h.Limit limit) → place ≡ fault_place text q.left → IsReadFault text (f.E18 place limit)
+    → p ≡ at_start ts → Goes s.design p r q → r ≡ Err (h.Limit limit) → place ≡ fault_place text q.left → IsReadFault text (f.E18 place limit)
 fault_at_limit text ts p q place limit r fits lexed start goes is there =
-    let stops : reads s.Design p ≡ Err (at_limit limit q) = subst (λ r. Goes s.Design p r q) is goes in
-    subst (λ l. IsReadFault text (f.E18 l limit)) (sym there) (fault_over text ts q limit fits lexed (ap (reads s.Design) (sym start) ∙ stops))
+    let stops : reads s.design p ≡ Err (at_limit limit q) = subst (λ r. Goes s.design p r q) is goes in
+    subst (λ l. IsReadFault text (f.E18 l limit)) (sym there) (fault_over text ts q limit fits lexed (ap (reads s.design) (sym start) ∙ stops))
 
 pub in_err : {A : Type 0} (P : ReadFault → Type 0) (r : Result A ReadFault) (e : ReadFault) → r ≡ Err e → P e → IfErr r P
 in_err P r e is h = subst (λ r. IfErr r P) (sym is) h

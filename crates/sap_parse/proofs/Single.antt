@@ -5,7 +5,7 @@ use Rattle.std.specs.Prelude.{◌==◌, if◌then◌else◌, IfErr, IfOk}
 use Rattle.sap_parse.specs.Limits.{breach, tally}
 use Rattle.sap_parse.specs.Reading.{Breaks, Goes, IsBroken, Passes, ahead, ahead_of, front_name, front_number, front_sized, name_in, number_in, read_by, reads, sized_in, strictly, table}
 use Rattle.sap_parse.specs.Stages.{Stage, IsToken}
-use Rattle.sap_parse.specs.Table.{Symbol, Sign, Word, Name, Number, Sized, grammar, next, may_be_empty, sign_number, word_number, if_same}
+use Rattle.sap_parse.specs.Table.{Symbol, sign, word, any_name, number, sized, grammar, next, may_be_empty, sign_number, word_number, if_same}
 use Rattle.sap_parse.specs.declared.cursor.Ahead.TheVariants as a
 use Rattle.sap_parse.specs.declared.cursor.Ahead.{Ahead}
 use Rattle.sap_parse.specs.declared.cursor.Fault.TheVariants as f
@@ -20,25 +20,25 @@ use Rattle.sap_parse.specs.declared.token.Token.{Token}
 use Rattle.sap_tree.specs.declared.word.Word.TheVariants as w
 use Rattle.sap_tree.specs.declared.word.Word.{Word as WordOf}
 use Rattle.sap_walk.specs.Limits.{passed, unless_broken}
-use Rattle.sap_walk.specs.Walk.{Take, Stop, at_token, at_limit}
+use Rattle.sap_walk.specs.Walk.{begins, cannot_stand, at_token, at_limit}
 use Rattle.sap_walk.proofs.Walking.{read_take, read_break, read_stop, read_end}
 
 -- one token is all that s is
-taken : (s : Symbol) (p : Stage) (role : Role) (t : Token) (q : Stage) → next s t.kind ≡ Take role [] → Passes p role t q → reads s p ≡ Ok q
+taken : (s : Symbol) (p : Stage) (role : Role) (t : Token) (q : Stage) → next s t.kind ≡ begins role [] → Passes p role t q → reads s p ≡ Ok q
 unfolding read_by strictly
 taken s p role t q h passes =
     let entered : unless_broken (breach p.past.counts role t) (passed tally breach role t p.past) ≡ Ok q.past
     = ap (λ b. unless_broken b (passed tally breach role t p.past)) passes.free ∙ ap (λ past. Ok past) (sym passes.past) in
     ap (λ left. reads s (record { past = p.past; left = left })) passes.left ∙ read_take (table strictly) s t q.left p.past role [] q.past h entered
 
-broken : (s : Symbol) (p : Stage) (role : Role) (limit : Limit) → (b : Breaks p role limit) → next s b.token.kind ≡ Take role [] → reads s p ≡ Err (at_limit limit p)
+broken : (s : Symbol) (p : Stage) (role : Role) (limit : Limit) → (b : Breaks p role limit) → next s b.token.kind ≡ begins role [] → reads s p ≡ Err (at_limit limit p)
 unfolding read_by strictly
 broken s p role limit b h =
     ap (λ left. reads s (record { past = p.past; left = left })) b.left
     ∙ read_break (table strictly) s b.token b.rest p.past role [] limit h (ap (λ x. unless_broken x (passed tally breach role b.token p.past)) b.broken)
     ∙ ap (λ left. Err (at_limit limit (record { past = p.past; left = left }))) (sym b.left)
 
-refused : (s : Symbol) (p : Stage) → may_be_empty s ≡ false → ((t : Token) (ts : List Token) → p.left ≡ t ∷ ts → next s t.kind ≡ Stop) → reads s p ≡ Err (at_token p)
+refused : (s : Symbol) (p : Stage) → may_be_empty s ≡ false → ((t : Token) (ts : List Token) → p.left ≡ t ∷ ts → next s t.kind ≡ cannot_stand) → reads s p ≡ Err (at_token p)
 unfolding read_by strictly
 refused s p full h = by_left p.left refl where
   by_left : (left : List Token) → p.left ≡ left → reads s p ≡ Err (at_token p)
@@ -177,10 +177,10 @@ token_is {t = t} passes e = record { token = t; left = passes.left; past = passe
 
 -- signs
 
-pub next_sign : (role : Role) (j : SignOf) (i : Kind) → i ≡ k.Sign j → next (Sign role j) i ≡ Take role []
-next_sign role j i e = ap (next (Sign role j)) e ∙ ap (if_same role) (same_number (sign_number j))
+pub next_sign : (role : Role) (j : SignOf) (i : Kind) → i ≡ k.Sign j → next (sign role j) i ≡ begins role []
+next_sign role j i e = ap (next (sign role j)) e ∙ ap (if_same role) (same_number (sign_number j))
 
-pub next_not_sign : (role : Role) (j : SignOf) (i : Kind) → ahead_of i ≢ a.Sign j → next (Sign role j) i ≡ Stop
+pub next_not_sign : (role : Role) (j : SignOf) (i : Kind) → ahead_of i ≢ a.Sign j → next (sign role j) i ≡ cannot_stand
 next_not_sign role j (k.Sign i) ne = ap (if_same role) (signs_apart i j (λ e. ne (ap a.Sign e)))
 next_not_sign role j (k.Word i) ne = refl
 next_not_sign role j (k.Name i) ne = refl
@@ -190,27 +190,27 @@ next_not_sign role j (k.Sized i n) ne = refl
 pub sign_is : (p q : Stage) (role : Role) (j : SignOf) (t : Token) → ahead p.left ≡ a.Sign j → Passes p role t q → IsToken p role (k.Sign j) q
 sign_is p q role j t e passes = token_is passes (kind_ahead t.kind j (ahead_front t q.left e passes.left))
 
-pub sign_read : (p q : Stage) (role : Role) (j : SignOf) (t : Token) → ahead p.left ≡ a.Sign j → Passes p role t q → reads (Sign role j) p ≡ Ok q
-sign_read p q role j t e passes = taken (Sign role j) p role t q (next_sign role j t.kind (kind_ahead t.kind j (ahead_front t q.left e passes.left))) passes
+pub sign_read : (p q : Stage) (role : Role) (j : SignOf) (t : Token) → ahead p.left ≡ a.Sign j → Passes p role t q → reads (sign role j) p ≡ Ok q
+sign_read p q role j t e passes = taken (sign role j) p role t q (next_sign role j t.kind (kind_ahead t.kind j (ahead_front t q.left e passes.left))) passes
 
-pub sign_broken : (p : Stage) (role : Role) (j : SignOf) (limit : Limit) → ahead p.left ≡ a.Sign j → Breaks p role limit → reads (Sign role j) p ≡ Err (at_limit limit p)
-sign_broken p role j limit e b = broken (Sign role j) p role limit b (next_sign role j b.token.kind (kind_ahead b.token.kind j (ahead_front b.token b.rest e b.left)))
+pub sign_broken : (p : Stage) (role : Role) (j : SignOf) (limit : Limit) → ahead p.left ≡ a.Sign j → Breaks p role limit → reads (sign role j) p ≡ Err (at_limit limit p)
+sign_broken p role j limit e b = broken (sign role j) p role limit b (next_sign role j b.token.kind (kind_ahead b.token.kind j (ahead_front b.token b.rest e b.left)))
 
 pub ahead_back : {left : List Token} {x : Ahead} (t : Token) (ts : List Token) → ahead_of t.kind ≡ x → left ≡ t ∷ ts → ahead left ≡ x
 unfolding ahead
 ahead_back t ts h e = ap ahead e ∙ h
 
-pub sign_refused : (p : Stage) (role : Role) (j : SignOf) → ahead p.left ≢ a.Sign j → reads (Sign role j) p ≡ Err (at_token p)
-sign_refused p role j ne = refused (Sign role j) p refl (λ t ts e. next_not_sign role j t.kind (λ h. ne (ahead_back t ts h e)))
+pub sign_refused : (p : Stage) (role : Role) (j : SignOf) → ahead p.left ≢ a.Sign j → reads (sign role j) p ≡ Err (at_token p)
+sign_refused p role j ne = refused (sign role j) p refl (λ t ts e. next_not_sign role j t.kind (λ h. ne (ahead_back t ts h e)))
 
 pub ruleset signs = (sign_is, sign_read, sign_broken, sign_refused)
 
 -- words
 
-pub next_word : (role : Role) (j : WordOf) (i : Kind) → i ≡ k.Word j → next (Word role j) i ≡ Take role []
-next_word role j i e = ap (next (Word role j)) e ∙ ap (if_same role) (same_number (word_number j))
+pub next_word : (role : Role) (j : WordOf) (i : Kind) → i ≡ k.Word j → next (word role j) i ≡ begins role []
+next_word role j i e = ap (next (word role j)) e ∙ ap (if_same role) (same_number (word_number j))
 
-pub next_not_word : (role : Role) (j : WordOf) (i : Kind) → ahead_of i ≢ a.Word j → next (Word role j) i ≡ Stop
+pub next_not_word : (role : Role) (j : WordOf) (i : Kind) → ahead_of i ≢ a.Word j → next (word role j) i ≡ cannot_stand
 next_not_word role j (k.Word i) ne = ap (if_same role) (words_apart i j (λ e. ne (ap a.Word e)))
 next_not_word role j (k.Sign i) ne = refl
 next_not_word role j (k.Name i) ne = refl
@@ -220,20 +220,20 @@ next_not_word role j (k.Sized i n) ne = refl
 pub word_is : (p q : Stage) (role : Role) (j : WordOf) (t : Token) → ahead p.left ≡ a.Word j → Passes p role t q → IsToken p role (k.Word j) q
 word_is p q role j t e passes = token_is passes (word_kind_ahead t.kind j (ahead_front t q.left e passes.left))
 
-pub word_read : (p q : Stage) (role : Role) (j : WordOf) (t : Token) → ahead p.left ≡ a.Word j → Passes p role t q → reads (Word role j) p ≡ Ok q
-word_read p q role j t e passes = taken (Word role j) p role t q (next_word role j t.kind (word_kind_ahead t.kind j (ahead_front t q.left e passes.left))) passes
+pub word_read : (p q : Stage) (role : Role) (j : WordOf) (t : Token) → ahead p.left ≡ a.Word j → Passes p role t q → reads (word role j) p ≡ Ok q
+word_read p q role j t e passes = taken (word role j) p role t q (next_word role j t.kind (word_kind_ahead t.kind j (ahead_front t q.left e passes.left))) passes
 
-pub word_broken : (p : Stage) (role : Role) (j : WordOf) (limit : Limit) → ahead p.left ≡ a.Word j → Breaks p role limit → reads (Word role j) p ≡ Err (at_limit limit p)
-word_broken p role j limit e b = broken (Word role j) p role limit b (next_word role j b.token.kind (word_kind_ahead b.token.kind j (ahead_front b.token b.rest e b.left)))
+pub word_broken : (p : Stage) (role : Role) (j : WordOf) (limit : Limit) → ahead p.left ≡ a.Word j → Breaks p role limit → reads (word role j) p ≡ Err (at_limit limit p)
+word_broken p role j limit e b = broken (word role j) p role limit b (next_word role j b.token.kind (word_kind_ahead b.token.kind j (ahead_front b.token b.rest e b.left)))
 
-pub word_refused : (p : Stage) (role : Role) (j : WordOf) → ahead p.left ≢ a.Word j → reads (Word role j) p ≡ Err (at_token p)
-word_refused p role j ne = refused (Word role j) p refl (λ t ts e. next_not_word role j t.kind (λ h. ne (ahead_back t ts h e)))
+pub word_refused : (p : Stage) (role : Role) (j : WordOf) → ahead p.left ≢ a.Word j → reads (word role j) p ≡ Err (at_token p)
+word_refused p role j ne = refused (word role j) p refl (λ t ts e. next_not_word role j t.kind (λ h. ne (ahead_back t ts h e)))
 
 pub ruleset words = (word_is, word_read, word_broken, word_refused)
 
 -- numbers
 
-next_not_number : (role : Role) (i : Kind) → number_in i ≡ None → next (Number role) i ≡ Stop
+next_not_number : (role : Role) (i : Kind) → number_in i ≡ None → next (number role) i ≡ cannot_stand
 next_not_number role (k.Number n) e = absurd (cc)
 next_not_number role (k.Word i) e = refl
 next_not_number role (k.Sign i) e = refl
@@ -243,20 +243,20 @@ next_not_number role (k.Sized i n) e = refl
 pub number_is : (p q : Stage) (role : Role) (n : ℕ) (t : Token) → front_number p.left ≡ Some n → Passes p role t q → IsToken p role (k.Number n) q
 number_is p q role n t e passes = token_is passes (number_kind t.kind n (number_front t q.left e passes.left))
 
-pub number_read : (p q : Stage) (role : Role) (n : ℕ) (t : Token) → front_number p.left ≡ Some n → Passes p role t q → reads (Number role) p ≡ Ok q
-number_read p q role n t e passes = taken (Number role) p role t q (ap (next (Number role)) (number_kind t.kind n (number_front t q.left e passes.left))) passes
+pub number_read : (p q : Stage) (role : Role) (n : ℕ) (t : Token) → front_number p.left ≡ Some n → Passes p role t q → reads (number role) p ≡ Ok q
+number_read p q role n t e passes = taken (number role) p role t q (ap (next (number role)) (number_kind t.kind n (number_front t q.left e passes.left))) passes
 
-pub number_broken : (p : Stage) (role : Role) (n : ℕ) (limit : Limit) → front_number p.left ≡ Some n → Breaks p role limit → reads (Number role) p ≡ Err (at_limit limit p)
-number_broken p role n limit e b = broken (Number role) p role limit b (ap (next (Number role)) (number_kind b.token.kind n (number_front b.token b.rest e b.left)))
+pub number_broken : (p : Stage) (role : Role) (n : ℕ) (limit : Limit) → front_number p.left ≡ Some n → Breaks p role limit → reads (number role) p ≡ Err (at_limit limit p)
+number_broken p role n limit e b = broken (number role) p role limit b (ap (next (number role)) (number_kind b.token.kind n (number_front b.token b.rest e b.left)))
 
-pub number_refused : (p : Stage) (role : Role) → front_number p.left ≡ None → reads (Number role) p ≡ Err (at_token p)
-number_refused p role e = refused (Number role) p refl (λ t ts h. next_not_number role t.kind (number_front t ts e h))
+pub number_refused : (p : Stage) (role : Role) → front_number p.left ≡ None → reads (number role) p ≡ Err (at_token p)
+number_refused p role e = refused (number role) p refl (λ t ts h. next_not_number role t.kind (number_front t ts e h))
 
 pub ruleset numbers = (number_is, number_read, number_broken, number_refused)
 
 -- names
 
-next_not_name : (role : Role) (i : Kind) → name_in i ≡ None → next (Name role) i ≡ Stop
+next_not_name : (role : Role) (i : Kind) → name_in i ≡ None → next (any_name role) i ≡ cannot_stand
 next_not_name role (k.Name n) e = absurd (cc)
 next_not_name role (k.Word i) e = refl
 next_not_name role (k.Sign i) e = refl
@@ -266,20 +266,20 @@ next_not_name role (k.Sized i n) e = refl
 pub name_is : (p q : Stage) (role : Role) (n : List ℕ) (t : Token) → front_name p.left ≡ Some n → Passes p role t q → IsToken p role (k.Name n) q
 name_is p q role n t e passes = token_is passes (name_kind t.kind n (name_front t q.left e passes.left))
 
-pub name_read : (p q : Stage) (role : Role) (n : List ℕ) (t : Token) → front_name p.left ≡ Some n → Passes p role t q → reads (Name role) p ≡ Ok q
-name_read p q role n t e passes = taken (Name role) p role t q (ap (next (Name role)) (name_kind t.kind n (name_front t q.left e passes.left))) passes
+pub name_read : (p q : Stage) (role : Role) (n : List ℕ) (t : Token) → front_name p.left ≡ Some n → Passes p role t q → reads (any_name role) p ≡ Ok q
+name_read p q role n t e passes = taken (any_name role) p role t q (ap (next (any_name role)) (name_kind t.kind n (name_front t q.left e passes.left))) passes
 
-pub name_broken : (p : Stage) (role : Role) (n : List ℕ) (limit : Limit) → front_name p.left ≡ Some n → Breaks p role limit → reads (Name role) p ≡ Err (at_limit limit p)
-name_broken p role n limit e b = broken (Name role) p role limit b (ap (next (Name role)) (name_kind b.token.kind n (name_front b.token b.rest e b.left)))
+pub name_broken : (p : Stage) (role : Role) (n : List ℕ) (limit : Limit) → front_name p.left ≡ Some n → Breaks p role limit → reads (any_name role) p ≡ Err (at_limit limit p)
+name_broken p role n limit e b = broken (any_name role) p role limit b (ap (next (any_name role)) (name_kind b.token.kind n (name_front b.token b.rest e b.left)))
 
-pub name_refused : (p : Stage) (role : Role) → front_name p.left ≡ None → reads (Name role) p ≡ Err (at_token p)
-name_refused p role e = refused (Name role) p refl (λ t ts h. next_not_name role t.kind (name_front t ts e h))
+pub name_refused : (p : Stage) (role : Role) → front_name p.left ≡ None → reads (any_name role) p ≡ Err (at_token p)
+name_refused p role e = refused (any_name role) p refl (λ t ts h. next_not_name role t.kind (name_front t ts e h))
 
 pub ruleset names = (name_is, name_read, name_broken, name_refused)
 
 -- numbers with a width
 
-next_not_sized : (role : Role) (i : Kind) → sized_in i ≡ None → next (Sized role) i ≡ Stop
+next_not_sized : (role : Role) (i : Kind) → sized_in i ≡ None → next (sized role) i ≡ cannot_stand
 next_not_sized role (k.Sized n m) e = absurd (cc)
 next_not_sized role (k.Word i) e = refl
 next_not_sized role (k.Sign i) e = refl
@@ -289,49 +289,49 @@ next_not_sized role (k.Number i) e = refl
 pub sized_is : (p q : Stage) (role : Role) (v : ℕ × ℕ) (t : Token) → front_sized p.left ≡ Some v → Passes p role t q → IsToken p role (k.Sized v.0 v.1) q
 sized_is p q role v t e passes = token_is passes (sized_kind t.kind v (sized_front t q.left e passes.left))
 
-pub sized_read : (p q : Stage) (role : Role) (v : ℕ × ℕ) (t : Token) → front_sized p.left ≡ Some v → Passes p role t q → reads (Sized role) p ≡ Ok q
-sized_read p q role v t e passes = taken (Sized role) p role t q (ap (next (Sized role)) (sized_kind t.kind v (sized_front t q.left e passes.left))) passes
+pub sized_read : (p q : Stage) (role : Role) (v : ℕ × ℕ) (t : Token) → front_sized p.left ≡ Some v → Passes p role t q → reads (sized role) p ≡ Ok q
+sized_read p q role v t e passes = taken (sized role) p role t q (ap (next (sized role)) (sized_kind t.kind v (sized_front t q.left e passes.left))) passes
 
-pub sized_broken : (p : Stage) (role : Role) (v : ℕ × ℕ) (limit : Limit) → front_sized p.left ≡ Some v → Breaks p role limit → reads (Sized role) p ≡ Err (at_limit limit p)
-sized_broken p role v limit e b = broken (Sized role) p role limit b (ap (next (Sized role)) (sized_kind b.token.kind v (sized_front b.token b.rest e b.left)))
+pub sized_broken : (p : Stage) (role : Role) (v : ℕ × ℕ) (limit : Limit) → front_sized p.left ≡ Some v → Breaks p role limit → reads (sized role) p ≡ Err (at_limit limit p)
+sized_broken p role v limit e b = broken (sized role) p role limit b (ap (next (sized role)) (sized_kind b.token.kind v (sized_front b.token b.rest e b.left)))
 
-pub sized_refused : (p : Stage) (role : Role) → front_sized p.left ≡ None → reads (Sized role) p ≡ Err (at_token p)
-sized_refused p role e = refused (Sized role) p refl (λ t ts h. next_not_sized role t.kind (sized_front t ts e h))
+pub sized_refused : (p : Stage) (role : Role) → front_sized p.left ≡ None → reads (sized role) p ≡ Err (at_token p)
+sized_refused p role e = refused (sized role) p refl (λ t ts h. next_not_sized role t.kind (sized_front t ts e h))
 
 pub ruleset sizeds = (sized_is, sized_read, sized_broken, sized_refused)
 
 -- whatever passing it answers
 
 pub sign_goes : {A : Type 0} (r : Result A Fault) (old new : Stage) (role : Role) (j : SignOf) → ahead old.left ≡ a.Sign j
-    → IfOk r (λ x. (t : Token) × Passes old role t new) → IfErr r (IsBroken old role new) → Goes (Sign role j) old r new
+    → IfOk r (λ x. (t : Token) × Passes old role t new) → IfErr r (IsBroken old role new) → Goes (sign role j) old r new
 sign_goes (Ok x) old new role j e passes breaks = sign_read old new role j passes.0 e passes.1
 sign_goes (Err f.Token) old new role j e passes breaks = absurd breaks
 sign_goes (Err f.Memory) old new role j e passes breaks = absurd breaks
 sign_goes (Err (f.Limit limit)) old new role j e passes breaks = sign_broken old role j limit e breaks.0 ∙ ap (λ p. Err (at_limit limit p)) (sym breaks.1)
 
 pub word_goes : {A : Type 0} (r : Result A Fault) (old new : Stage) (role : Role) (j : WordOf) → ahead old.left ≡ a.Word j
-    → IfOk r (λ x. (t : Token) × Passes old role t new) → IfErr r (IsBroken old role new) → Goes (Word role j) old r new
+    → IfOk r (λ x. (t : Token) × Passes old role t new) → IfErr r (IsBroken old role new) → Goes (word role j) old r new
 word_goes (Ok x) old new role j e passes breaks = word_read old new role j passes.0 e passes.1
 word_goes (Err f.Token) old new role j e passes breaks = absurd breaks
 word_goes (Err f.Memory) old new role j e passes breaks = absurd breaks
 word_goes (Err (f.Limit limit)) old new role j e passes breaks = word_broken old role j limit e breaks.0 ∙ ap (λ p. Err (at_limit limit p)) (sym breaks.1)
 
 pub number_goes : {A : Type 0} (r : Result A Fault) (old new : Stage) (role : Role) (n : ℕ) → front_number old.left ≡ Some n
-    → IfOk r (λ x. (t : Token) × Passes old role t new) → IfErr r (IsBroken old role new) → Goes (Number role) old r new
+    → IfOk r (λ x. (t : Token) × Passes old role t new) → IfErr r (IsBroken old role new) → Goes (number role) old r new
 number_goes (Ok x) old new role n e passes breaks = number_read old new role n passes.0 e passes.1
 number_goes (Err f.Token) old new role n e passes breaks = absurd breaks
 number_goes (Err f.Memory) old new role n e passes breaks = absurd breaks
 number_goes (Err (f.Limit limit)) old new role n e passes breaks = number_broken old role n limit e breaks.0 ∙ ap (λ p. Err (at_limit limit p)) (sym breaks.1)
 
 pub sized_goes : {A : Type 0} (r : Result A Fault) (old new : Stage) (role : Role) (v : ℕ × ℕ) → front_sized old.left ≡ Some v
-    → IfOk r (λ x. (t : Token) × Passes old role t new) → IfErr r (IsBroken old role new) → Goes (Sized role) old r new
+    → IfOk r (λ x. (t : Token) × Passes old role t new) → IfErr r (IsBroken old role new) → Goes (sized role) old r new
 sized_goes (Ok x) old new role v e passes breaks = sized_read old new role v passes.0 e passes.1
 sized_goes (Err f.Token) old new role v e passes breaks = absurd breaks
 sized_goes (Err f.Memory) old new role v e passes breaks = absurd breaks
 sized_goes (Err (f.Limit limit)) old new role v e passes breaks = sized_broken old role v limit e breaks.0 ∙ ap (λ p. Err (at_limit limit p)) (sym breaks.1)
 
 pub name_goes : {A : Type 0} (r : Result A Fault) (old new : Stage) (role : Role) (n : List ℕ) → front_name old.left ≡ Some n
-    → IfOk r (λ x. (t : Token) × Passes old role t new) → IfErr r (IsBroken old role new) → Goes (Name role) old r new
+    → IfOk r (λ x. (t : Token) × Passes old role t new) → IfErr r (IsBroken old role new) → Goes (any_name role) old r new
 name_goes (Ok x) old new role n e passes breaks = name_read old new role n passes.0 e passes.1
 name_goes (Err f.Token) old new role n e passes breaks = absurd breaks
 name_goes (Err f.Memory) old new role n e passes breaks = absurd breaks

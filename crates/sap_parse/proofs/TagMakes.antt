@@ -12,26 +12,26 @@ use Rattle.sap_tree.specs.declared.name.Mention.{Mention}
 use Rattle.sap_text.specs.declared.place.Place.{Place}
 use Rattle.sap_tree.specs.declared.syntax.TagExpr.{TagExpr}
 
-pub level_tree : {p q : Stage} {n : Mention} {x : t.TagExpression} → IsName p r.Inner n.name q → n ≡ mention p n.name → x ≡ t.Level n → g.Texpr p x q
-level_tree {p = p} {q = q} a at made = subst (λ x. g.Texpr p x q) (sym (made ∙ ap (λ n. t.Level n) at)) (g.level a)
+pub level_tree : {p q : Stage} {n : Mention} {x : t.TagExpression} → IsName p r.Inner n.name q → n ≡ mention p n.name → x ≡ t.level_of n → g.Texpr p x q
+level_tree {p = p} {q = q} a at made = subst (λ x. g.Texpr p x q) (sym (made ∙ ap (λ n. t.level_of n) at)) (g.level a)
 
 pub tag_tree : {p1 p2 p3 p4 q : Stage} {e : t.Expression} {x : t.TagExpression} {place : Place} → IsWord p1 r.Inner w.Tag p2 → IsSign p2 r.Opening s.OpenParen p3 → g.Expr p3 e p4 → IsSign p4 r.Closing s.CloseParen q
-    → place ≡ here p1 → x ≡ t.TagOf place e → g.Texpr p1 x q
-tag_tree {p1 = p1} {q = q} {e = e} a b c d at made = subst (λ x. g.Texpr p1 x q) (sym (made ∙ ap (λ place. t.TagOf place e) at)) (g.tag_of a b c d)
+    → place ≡ here p1 → x ≡ t.tag_at place e → g.Texpr p1 x q
+tag_tree {p1 = p1} {q = q} {e = e} a b c d at made = subst (λ x. g.Texpr p1 x q) (sym (made ∙ ap (λ place. t.tag_at place e) at)) (g.tag_of a b c d)
 
 pub level_at_tree : {p1 p2 p3 p4 q : Stage} {e : t.Expression} {x : t.TagExpression} {place : Place} → IsWord p1 r.Inner w.Level p2 → IsSign p2 r.Opening s.OpenParen p3 → g.Expr p3 e p4 → IsSign p4 r.Closing s.CloseParen q
-    → place ≡ here p1 → x ≡ t.LevelAt place e → g.Texpr p1 x q
-level_at_tree {p1 = p1} {q = q} {e = e} a b c d at made = subst (λ x. g.Texpr p1 x q) (sym (made ∙ ap (λ place. t.LevelAt place e) at)) (g.level_at a b c d)
+    → place ≡ here p1 → x ≡ t.level_at place e → g.Texpr p1 x q
+level_at_tree {p1 = p1} {q = q} {e = e} a b c d at made = subst (λ x. g.Texpr p1 x q) (sym (made ∙ ap (λ place. t.level_at place e) at)) (g.level_at a b c d)
 
 pub join_tree : {p1 p2 p3 p4 p5 p6 p7 q : Stage} {x y z : t.TagExpression} {xs all : t.TagExpressions} {place : Place}
     → IsWord p1 r.Inner w.Join p2 → IsSign p2 r.Opening s.OpenParen p3 → g.Texpr p3 x p4 → IsSign p4 r.Inner s.Comma p5 → g.Texpr p5 y p6 → g.Texprs p6 xs p7 → IsSign p7 r.Closing s.CloseParen q
-    → place ≡ here p1 → all ≡ t.AndTag x (t.AndTag y xs) → z ≡ t.Join place all → g.Texpr p1 z q
-join_tree {p1 = p1} {q = q} {all = all} a b c d e f h at items made = subst (λ z. g.Texpr p1 z q) (sym (made ∙ ap (λ place. t.Join place all) at ∙ ap (λ xs. t.Join (here p1) xs) items)) (g.join a b c d e f h)
+    → place ≡ here p1 → all ≡ t.and_tag x (t.and_tag y xs) → z ≡ t.join_of place all → g.Texpr p1 z q
+join_tree {p1 = p1} {q = q} {all = all} a b c d e f h at items made = subst (λ z. g.Texpr p1 z q) (sym (made ∙ ap (λ place. t.join_of place all) at ∙ ap (λ xs. t.join_of (here p1) xs) items)) (g.join a b c d e f h)
 
-pub join_tags_push : (xs : List TagExpr) (x : TagExpr) (ys : t.TagExpressions) → join_tags (tags_of (xs ++ x ∷ [])) ys ≡ join_tags (tags_of xs) (t.AndTag (tag_of x) ys)
+pub join_tags_push : (xs : List TagExpr) (x : TagExpr) (ys : t.TagExpressions) → join_tags (tags_of (xs ++ x ∷ [])) ys ≡ join_tags (tags_of xs) (t.and_tag (tag_of x) ys)
 join_tags_push [] x ys = refl
-join_tags_push (y ∷ xs) x ys = ap (λ zs. t.AndTag (tag_of y) zs) (join_tags_push xs x ys)
+join_tags_push (y ∷ xs) x ys = ap (λ zs. t.and_tag (tag_of y) zs) (join_tags_push xs x ys)
 
-pub join_tags_none : (xs : t.TagExpressions) → join_tags xs t.NoTag ≡ xs
-join_tags_none t.NoTag = refl
-join_tags_none (t.AndTag x xs) = ap (λ zs. t.AndTag x zs) (join_tags_none xs)
+pub join_tags_none : (xs : t.TagExpressions) → join_tags xs t.no_tag ≡ xs
+join_tags_none t.no_tag = refl
+join_tags_none (t.and_tag x xs) = ap (λ zs. t.and_tag x zs) (join_tags_none xs)

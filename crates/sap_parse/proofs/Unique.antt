@@ -213,16 +213,16 @@ not_signed e o sign h =
 
 -- equal parts make equal trees
 
-binary_same : {s s' : Spot} {o o' : BinaryOperator} {x x' y y' : t.Expression} → s ≡ s' → o ≡ o' → x ≡ x' → y ≡ y' → t.Binary s o x y ≡ t.Binary s' o' x' y'
+binary_same : {s s' : Spot} {o o' : BinaryOperator} {x x' y y' : t.Expression} → s ≡ s' → o ≡ o' → x ≡ x' → y ≡ y' → t.binary_of s o x y ≡ t.binary_of s' o' x' y'
 binary_same a b c d = cc
 
-unary_tree : {s s' : Spot} {o o' : UnaryOperator} {x x' : t.Expression} → s ≡ s' → o ≡ o' → x ≡ x' → t.Unary s o x ≡ t.Unary s' o' x'
+unary_tree : {s s' : Spot} {o o' : UnaryOperator} {x x' : t.Expression} → s ≡ s' → o ≡ o' → x ≡ x' → t.unary_of s o x ≡ t.unary_of s' o' x'
 unary_tree a b c = cc
 
-choose_same : {s s' : Spot} {x x' y y' z z' : t.Expression} → s ≡ s' → x ≡ x' → y ≡ y' → z ≡ z' → t.Choose s x y z ≡ t.Choose s' x' y' z'
+choose_same : {s s' : Spot} {x x' y y' z z' : t.Expression} → s ≡ s' → x ≡ x' → y ≡ y' → z ≡ z' → t.choice s x y z ≡ t.choice s' x' y' z'
 choose_same a b c d = cc
 
-slice_same : {s s' : Spot} {x x' : t.Expression} {h h' l l' : ℕ} → s ≡ s' → x ≡ x' → h ≡ h' → l ≡ l' → t.Slice s x h l ≡ t.Slice s' x' h' l'
+slice_same : {s s' : Spot} {x x' : t.Expression} {h h' l l' : ℕ} → s ≡ s' → x ≡ x' → h ≡ h' → l ≡ l' → t.slice s x h l ≡ t.slice s' x' h' l'
 slice_same a b c d = cc
 
 spot_same : {p p' q q' : Place} → p ≡ p' → q ≡ q' → ◌≡◌ {A = Spot} (record { first = p; at = q }) (record { first = p'; at = q' })
@@ -237,35 +237,35 @@ spot_here_same e = spot_same (here_same e) (here_same e)
 joined_spot : {p p' : Stage} {x x' : t.Expression} → p ≡ p' → x ≡ x' → ◌≡◌ {A = Spot} (record { first = first_of x; at = here p }) (record { first = first_of x'; at = here p' })
 joined_spot e f = spot_same (ap first_of f) (here_same e)
 
-number_tree : {p p' : Stage} {n n' : ℕ} → p ≡ p' → n ≡ n' → t.Number (spot_here p) n ≡ t.Number (spot_here p') n'
+number_tree : {p p' : Stage} {n n' : ℕ} → p ≡ p' → n ≡ n' → t.literal (spot_here p) n ≡ t.literal (spot_here p') n'
 number_tree e f = let s = spot_here_same e in cc
 
-sized_tree : {p p' : Stage} {v v' n n' : ℕ} → p ≡ p' → v ≡ v' → n ≡ n' → t.Sized (spot_here p) v n ≡ t.Sized (spot_here p') v' n'
+sized_tree : {p p' : Stage} {v v' n n' : ℕ} → p ≡ p' → v ≡ v' → n ≡ n' → t.sized_literal (spot_here p) v n ≡ t.sized_literal (spot_here p') v' n'
 sized_tree e f h = let s = spot_here_same e in cc
 
-read_tree : {p p' : Stage} {n n' : List ℕ} → p ≡ p' → n ≡ n' → t.Read (spot_here p) n ≡ t.Read (spot_here p') n'
+read_tree : {p p' : Stage} {n n' : List ℕ} → p ≡ p' → n ≡ n' → t.variable (spot_here p) n ≡ t.variable (spot_here p') n'
 read_tree e f = let s = spot_here_same e in cc
 
-cell_tree : {p p' : Stage} {n n' : List ℕ} {x x' : t.Expression} → p ≡ p' → n ≡ n' → x ≡ x' → t.Cell (spot_here p) n x ≡ t.Cell (spot_here p') n' x'
+cell_tree : {p p' : Stage} {n n' : List ℕ} {x x' : t.Expression} → p ≡ p' → n ≡ n' → x ≡ x' → t.cell_at (spot_here p) n x ≡ t.cell_at (spot_here p') n' x'
 cell_tree e f h = let s = spot_here_same e in cc
 
 enclosed_tree : {p p' : Stage} {x x' : t.Expression} → p ≡ p' → x ≡ x' → enclosed (here p) x ≡ enclosed (here p') x'
 enclosed_tree e f = let s = here_same e in cc
 
 concat_tree : {p p' : Stage} {x x' y y' : t.Expression} {xs xs' : t.Expressions} → p ≡ p' → x ≡ x' → y ≡ y' → xs ≡ xs'
-    → t.Concat (spot_here p) (t.AndPart x (t.AndPart y xs)) ≡ t.Concat (spot_here p') (t.AndPart x' (t.AndPart y' xs'))
+    → t.concat (spot_here p) (t.and_part x (t.and_part y xs)) ≡ t.concat (spot_here p') (t.and_part x' (t.and_part y' xs'))
 concat_tree e f h i = let s = spot_here_same e in cc
 
-zext_tree : {p p' : Stage} {x x' : t.Expression} {n n' : ℕ} → p ≡ p' → x ≡ x' → n ≡ n' → t.Zext (spot_here p) x n ≡ t.Zext (spot_here p') x' n'
+zext_tree : {p p' : Stage} {x x' : t.Expression} {n n' : ℕ} → p ≡ p' → x ≡ x' → n ≡ n' → t.zero_extend (spot_here p) x n ≡ t.zero_extend (spot_here p') x' n'
 zext_tree e f h = let s = spot_here_same e in cc
 
 -- behind a name no text is both slices and an index
-read_cell : {p p' q m o : Stage} {x y : t.Expression} → p ≡ p' → g.Cuts x p y q → IsSign p' r.Opening j.OpenBracket m → R s.Expr m ≡ Ok o
+read_cell : {p p' q m o : Stage} {x y : t.Expression} → p ≡ p' → g.Cuts x p y q → IsSign p' r.Opening j.OpenBracket m → R s.expr m ≡ Ok o
     → first_kind o ≡ Some (k.Sign j.CloseBracket) → first_kind q ≢ Some (k.Sign j.OpenBracket) → ⊥
 read_cell e g.no_cut sign h f ne = ne (ap first_kind e ∙ first_is sign)
 read_cell {m = m} {o = o} e (g.cut (g.bounds b high colon low z) c) sign h f ne =
     let same = same_behind e b sign in
-    no_colon _ _ o _ high (ap (λ x. R s.Expr x) same ∙ h) f (first_is colon)
+    no_colon _ _ o _ high (ap (λ x. R s.expr x) same ∙ h) f (first_is colon)
 
 -- the numbers of a slice
 bounds_one : {p p' q q' : Stage} {h h' l l' : ℕ} → p ≡ p' → g.Bounds p h l q → g.Bounds p' h' l' q' → (h ≡ h') × (l ≡ l')
@@ -281,23 +281,23 @@ cuts_one e f g.no_cut (g.cut b c) h h' = absurd (h (ap first_kind e ∙ bounds_f
 cuts_one e f (g.cut b c) g.no_cut h h' = absurd (h' (sym (ap first_kind e) ∙ bounds_first b))
 cuts_one e f (g.cut b c) (g.cut b' c') h h' =
     let n = bounds_one e b b' in
-    cuts_one (same_rest s.Slice e (bounds_read b) (bounds_read b')) (slice_same (joined_spot e f) f n.0 n.1) c c' h h'
+    cuts_one (same_rest s.slice e (bounds_read b) (bounds_read b')) (slice_same (joined_spot e f) f n.0 n.1) c c' h h'
 
 mutual
   pub expr_one : {p p' q q' : Stage} {x y : t.Expression} → p ≡ p' → g.Expr p x q → g.Expr p' y q' → ends_expr (first_kind q) ≡ true → ends_expr (first_kind q') ≡ true → x ≡ y
   expr_one {q = q} {q' = q'} e (g.only x) (g.only x') h h' = bin_one e x x' (expr_bin_ends (first_kind q) h) (expr_bin_ends (first_kind q') h')
   expr_one {q = q} e (g.only x) (g.choice x' o y' c z') h h' =
-      let m = same_rest (s.Bin 1) e (bin_reads x (expr_bin_ends (first_kind q) h)) (bin_reads x' (ap (ends 1) (first_is o))) in
+      let m = same_rest (s.bin 1) e (bin_reads x (expr_bin_ends (first_kind q) h)) (bin_reads x' (ap (ends 1) (first_is o))) in
       absurd (no_question (first_kind q) h (ap first_kind m ∙ first_is o))
   expr_one {q' = q'} e (g.choice x o y c z) (g.only x') h h' =
-      let m = same_rest (s.Bin 1) e (bin_reads x (ap (ends 1) (first_is o))) (bin_reads x' (expr_bin_ends (first_kind q') h')) in
+      let m = same_rest (s.bin 1) e (bin_reads x (ap (ends 1) (first_is o))) (bin_reads x' (expr_bin_ends (first_kind q') h')) in
       absurd (no_question (first_kind q') h' (sym (ap first_kind m) ∙ first_is o))
   expr_one e (g.choice x o y c z) (g.choice x' o' y' c' z') h h' =
       let ex = ap (ends 1) (first_is o) in let ex' = ap (ends 1) (first_is o') in
       let ey = ap ends_expr (first_is c) in let ey' = ap ends_expr (first_is c') in
-      let m2 = same_rest (s.Bin 1) e (bin_reads x ex) (bin_reads x' ex') in
+      let m2 = same_rest (s.bin 1) e (bin_reads x ex) (bin_reads x' ex') in
       let m3 = same_behind m2 o o' in
-      let m4 = same_rest s.Expr m3 (expr_reads y ey) (expr_reads y' ey') in
+      let m4 = same_rest s.expr m3 (expr_reads y ey) (expr_reads y' ey') in
       let m5 = same_behind m4 c c' in
       let tree = bin_one e x x' ex ex' in
       choose_same (joined_spot m2 tree) tree (expr_one m3 y y' ey ey') (expr_one m5 z z' h h')
@@ -307,7 +307,7 @@ mutual
   bin_one e (g.operand x) (g.chain lt x' more') h h' = absurd (omega arith)
   bin_one e (g.chain lt x more) (g.operand x') h h' = absurd (omega arith)
   bin_one {l} e (g.chain lt x more) (g.chain lt' x' more') h h' =
-      let m = same_rest (s.Bin (l + 1)) e (bin_reads x (others_end more h)) (bin_reads x' (others_end more' h')) in
+      let m = same_rest (s.bin (l + 1)) e (bin_reads x (others_end more h)) (bin_reads x' (others_end more' h')) in
       others_one m (bin_one e x x' (others_end more h) (others_end more' h')) more more' h h'
 
   others_one : {l : ℕ} {p p' q q' : Stage} {x x' y y' : t.Expression} → p ≡ p' → x ≡ x' → g.Others l x p y q → g.Others l x' p' y' q' → ends l (first_kind q) ≡ true → ends l (first_kind q') ≡ true → y ≡ y'
@@ -316,7 +316,7 @@ mutual
   others_one e f (g.other o at sign y more) g.no_other h h' = absurd (not_end (sym e) o at sign h')
   others_one {l} e f (g.other o at sign y more) (g.other o' at' sign' y' more') h h' =
       let m = same_behind e sign sign' in
-      let n = same_rest (s.Bin (l + 1)) m (bin_reads y (others_end more h)) (bin_reads y' (others_end more' h')) in
+      let n = same_rest (s.bin (l + 1)) m (bin_reads y (others_end more h)) (bin_reads y' (others_end more' h')) in
       others_one n (binary_same (joined_spot e f) (operator_same o o' (sign_same (same_token e sign sign'))) f (bin_one m y y' (others_end more h) (others_end more' h'))) more more' h h'
 
   unary_one : {p p' q q' : Stage} {x y : t.Expression} → p ≡ p' → g.Unary p x q → g.Unary p' y q' → first_kind q ≢ Some (k.Sign j.OpenBracket) → first_kind q' ≢ Some (k.Sign j.OpenBracket) → x ≡ y
@@ -337,21 +337,21 @@ mutual
       let ex = ap ends_expr (first_is z) in let ex' = ap ends_expr (first_is z') in
       let m2 = same_behind e n n' in
       let m3 = same_behind m2 o o' in
-      let m4 = same_rest s.Expr m3 (expr_reads x ex) (expr_reads x' ex') in
+      let m4 = same_rest s.expr m3 (expr_reads x ex) (expr_reads x' ex') in
       cuts_one (same_behind m4 z z') (cell_tree e (name_same (same_token e n n')) (expr_one m3 x x' ex ex')) c c' h h'
   post_one e (g.parentheses o x z) c (g.parentheses o' x' z') c' h h' =
       let ex = ap ends_expr (first_is z) in let ex' = ap ends_expr (first_is z') in
       let m2 = same_behind e o o' in
-      let m3 = same_rest s.Expr m2 (expr_reads x ex) (expr_reads x' ex') in
+      let m3 = same_rest s.expr m2 (expr_reads x ex) (expr_reads x' ex') in
       cuts_one (same_behind m3 z z') (enclosed_tree e (expr_one m2 x x' ex ex')) c c' h h'
   post_one e (g.concat o x a y more z) c (g.concat o' x' a' y' more' z') c' h h' =
       let ex = ap ends_expr (first_is a) in let ex' = ap ends_expr (first_is a') in
       let ez = ap ends_expr (first_is z) in let ez' = ap ends_expr (first_is z') in
       let m2 = same_behind e o o' in
-      let m3 = same_rest s.Expr m2 (expr_reads x ex) (expr_reads x' ex') in
+      let m3 = same_rest s.expr m2 (expr_reads x ex) (expr_reads x' ex') in
       let m4 = same_behind m3 a a' in
-      let m5 = same_rest s.Expr m4 (expr_reads y (parts_end more ez)) (expr_reads y' (parts_end more' ez')) in
-      let m6 = same_rest s.Parts m5 (parts_read more ez (λ e. let f = first_is z in absurd (cc))) (parts_read more' ez' (λ e. let f = first_is z' in absurd (cc))) in
+      let m5 = same_rest s.expr m4 (expr_reads y (parts_end more ez)) (expr_reads y' (parts_end more' ez')) in
+      let m6 = same_rest s.parts m5 (parts_read more ez (λ e. let f = first_is z in absurd (cc))) (parts_read more' ez' (λ e. let f = first_is z' in absurd (cc))) in
       cuts_one (same_behind m6 z z')
       (concat_tree e (expr_one m2 x x' ex ex') (expr_one m4 y y' (parts_end more ez) (parts_end more' ez'))
       (parts_one m5 more more' ez ez' (λ e. let f = first_is z in absurd (cc)) (λ e. let f = first_is z' in absurd (cc))))
@@ -360,7 +360,7 @@ mutual
       let ex = ap ends_expr (first_is a) in let ex' = ap ends_expr (first_is a') in
       let m2 = same_behind e word word' in
       let m3 = same_behind m2 o o' in
-      let m4 = same_rest s.Expr m3 (expr_reads x ex) (expr_reads x' ex') in
+      let m4 = same_rest s.expr m3 (expr_reads x ex) (expr_reads x' ex') in
       let m5 = same_behind m4 a a' in
       let m6 = same_behind m5 n n' in
       cuts_one (same_behind m6 z z') (zext_tree e (expr_one m3 x x' ex ex') (number_same (same_token m5 n n'))) c c' h h'
@@ -373,5 +373,5 @@ mutual
   parts_one e (g.part a x more) g.no_part h h' n n' = absurd (n' (sym (ap first_kind e) ∙ first_is a))
   parts_one e (g.part a x more) (g.part a' x' more') h h' n n' =
       let m2 = same_behind e a a' in
-      let m3 = same_rest s.Expr m2 (expr_reads x (parts_end more h)) (expr_reads x' (parts_end more' h')) in
+      let m3 = same_rest s.expr m2 (expr_reads x (parts_end more h)) (expr_reads x' (parts_end more' h')) in
       and_part (expr_one m2 x x' (parts_end more h) (parts_end more' h')) (parts_one m3 more more' h h' n n')

@@ -49,20 +49,20 @@ some_same e = cc
 same_first : {p p' q q' : Stage} {x y : t.TagExpression} → p ≡ p' → (a : g.Texpr p x q) (b : g.Texpr p' y q') → tag_kind a ≡ tag_kind b
 same_first e a b = some_same (sym (tag_first a) ∙ ap first_kind e ∙ tag_first b)
 
-level_tree : {m m' : Mention} → m ≡ m' → t.Level m ≡ t.Level m'
+level_tree : {m m' : Mention} → m ≡ m' → t.level_of m ≡ t.level_of m'
 level_tree e = cc
 
-tag_of_tree : {p p' : Place} {x x' : t.Expression} → p ≡ p' → x ≡ x' → t.TagOf p x ≡ t.TagOf p' x'
+tag_of_tree : {p p' : Place} {x x' : t.Expression} → p ≡ p' → x ≡ x' → t.tag_at p x ≡ t.tag_at p' x'
 tag_of_tree e f = cc
 
-level_at_tree : {p p' : Place} {x x' : t.Expression} → p ≡ p' → x ≡ x' → t.LevelAt p x ≡ t.LevelAt p' x'
+level_at_tree : {p p' : Place} {x x' : t.Expression} → p ≡ p' → x ≡ x' → t.level_at p x ≡ t.level_at p' x'
 level_at_tree e f = cc
 
 join_tree : {p p' : Place} {x x' y y' : t.TagExpression} {xs xs' : t.TagExpressions} → p ≡ p' → x ≡ x' → y ≡ y' → xs ≡ xs'
-    → t.Join p (t.AndTag x (t.AndTag y xs)) ≡ t.Join p' (t.AndTag x' (t.AndTag y' xs'))
+    → t.join_of p (t.and_tag x (t.and_tag y xs)) ≡ t.join_of p' (t.and_tag x' (t.and_tag y' xs'))
 join_tree e f h i = cc
 
-and_tag : {x x' : t.TagExpression} {xs xs' : t.TagExpressions} → x ≡ x' → xs ≡ xs' → t.AndTag x xs ≡ t.AndTag x' xs'
+and_tag : {x x' : t.TagExpression} {xs xs' : t.TagExpressions} → x ≡ x' → xs ≡ xs' → t.and_tag x xs ≡ t.and_tag x' xs'
 and_tag e f = cc
 
 mutual
@@ -74,8 +74,8 @@ mutual
       level_at_tree (here_same e) (expr_one (same_behind (same_behind e word word') o o') x x' (ap ends_expr (first_is z)) (ap ends_expr (first_is z')))
   texpr_one e (g.join word o x c y more z) (g.join word' o' x' c' y' more' z') =
       let m3 = same_behind (same_behind e word word') o o' in
-      let m5 = same_behind (same_rest s.Texpr m3 (texpr_reads x) (texpr_reads x')) c c' in
-      let m6 = same_rest s.Texpr m5 (texpr_reads y) (texpr_reads y') in
+      let m5 = same_behind (same_rest s.texpr m3 (texpr_reads x) (texpr_reads x')) c c' in
+      let m6 = same_rest s.texpr m5 (texpr_reads y) (texpr_reads y') in
       join_tree (here_same e) (texpr_one m3 x x') (texpr_one m5 y y')
       (texprs_one m6 more more' (λ e. let f = first_is z in absurd (cc)) (λ e. let f = first_is z' in absurd (cc)))
   texpr_one e a b = let t = same_first e a b in absurd (cc)
@@ -86,7 +86,7 @@ mutual
   texprs_one e (g.tag c x more) g.no_tag n n' = absurd (n' (sym (ap first_kind e) ∙ first_is c))
   texprs_one e (g.tag c x more) (g.tag c' x' more') n n' =
       let m2 = same_behind e c c' in
-      and_tag (texpr_one m2 x x') (texprs_one (same_rest s.Texpr m2 (texpr_reads x) (texpr_reads x')) more more' n n')
+      and_tag (texpr_one m2 x x') (texprs_one (same_rest s.texpr m2 (texpr_reads x) (texpr_reads x')) more more' n n')
 
 -- simple commands
 
@@ -109,19 +109,19 @@ simple_first (g.fall word) = first_is word
 simple_same : {depth : ℕ} {p p' q q' : Stage} {c c' : t.SimpleCommand} → p ≡ p' → (a : g.Simple depth p c q) (b : g.Simple depth p' c' q') → simple_kind a ≡ simple_kind b
 simple_same e a b = some_same (sym (simple_first a) ∙ ap first_kind e ∙ simple_first b)
 
-assign_tree : {m m' : Mention} {x x' : t.Expression} → m ≡ m' → x ≡ x' → t.Assign m x ≡ t.Assign m' x'
+assign_tree : {m m' : Mention} {x x' : t.Expression} → m ≡ m' → x ≡ x' → t.assign m x ≡ t.assign m' x'
 assign_tree e f = cc
 
-write_tree : {m m' : Mention} {i i' x x' : t.Expression} → m ≡ m' → i ≡ i' → x ≡ x' → t.Write m i x ≡ t.Write m' i' x'
+write_tree : {m m' : Mention} {i i' x x' : t.Expression} → m ≡ m' → i ≡ i' → x ≡ x' → t.write m i x ≡ t.write m' i' x'
 write_tree e f h = cc
 
-set_tag_tree : {p p' : Place} {m m' : Mention} {x x' : t.TagExpression} → p ≡ p' → m ≡ m' → x ≡ x' → t.SetTag p m x ≡ t.SetTag p' m' x'
+set_tag_tree : {p p' : Place} {m m' : Mention} {x x' : t.TagExpression} → p ≡ p' → m ≡ m' → x ≡ x' → t.set_tag p m x ≡ t.set_tag p' m' x'
 set_tag_tree e f h = cc
 
-set_cell_tag_tree : {p p' : Place} {m m' : Mention} {i i' : t.Expression} {x x' : t.TagExpression} → p ≡ p' → m ≡ m' → i ≡ i' → x ≡ x' → t.SetCellTag p m i x ≡ t.SetCellTag p' m' i' x'
+set_cell_tag_tree : {p p' : Place} {m m' : Mention} {i i' : t.Expression} {x x' : t.TagExpression} → p ≡ p' → m ≡ m' → i ≡ i' → x ≡ x' → t.set_cell_tag p m i x ≡ t.set_cell_tag p' m' i' x'
 set_cell_tag_tree e f h i = cc
 
-goto_tree : {p p' : Place} {m m' : Mention} → p ≡ p' → m ≡ m' → t.Goto p m ≡ t.Goto p' m'
+goto_tree : {p p' : Place} {m m' : Mention} → p ≡ p' → m ≡ m' → t.go_to p m ≡ t.go_to p' m'
 goto_tree e f = cc
 
 pub simple_one : {depth : ℕ} {p p' q q' : Stage} {c c' : t.SimpleCommand} → p ≡ p' → g.Simple depth p c q → g.Simple depth p' c' q' → ends_expr (first_kind q) ≡ true → ends_expr (first_kind q') ≡ true → c ≡ c'
@@ -132,7 +132,7 @@ simple_one e (g.write n o i z b x) (g.assign n' b' x') h h' = let t = same_token
 simple_one e (g.write n o i z b x) (g.write n' o' i' z' b' x') h h' =
     let ez = ap ends_expr (first_is z) in let ez' = ap ends_expr (first_is z') in
     let m3 = same_behind (same_behind e n n') o o' in
-    let m4 = same_rest s.Expr m3 (expr_reads i ez) (expr_reads i' ez') in
+    let m4 = same_rest s.expr m3 (expr_reads i ez) (expr_reads i' ez') in
     write_tree (mention_same e (name_same (same_token e n n'))) (expr_one m3 i i' ez ez') (expr_one (same_behind (same_behind m4 z z') b b') x x' h h')
 simple_one e (g.set_tag word o n c x z) (g.set_tag word' o' n' c' x' z') h h' =
     let m3 = same_behind (same_behind e word word') o o' in
@@ -147,10 +147,10 @@ simple_one e (g.set_cell_tag word o n b i z c x y) (g.set_cell_tag word' o' n' b
     let ez = ap ends_expr (first_is z) in let ez' = ap ends_expr (first_is z') in
     let m3 = same_behind (same_behind e word word') o o' in
     let m5 = same_behind (same_behind m3 n n') b b' in
-    let m6 = same_rest s.Expr m5 (expr_reads i ez) (expr_reads i' ez') in
+    let m6 = same_rest s.expr m5 (expr_reads i ez) (expr_reads i' ez') in
     set_cell_tag_tree (here_same e) (mention_same m3 (name_same (same_token m3 n n'))) (expr_one m5 i i' ez ez') (texpr_one (same_behind (same_behind m6 z z') c c') x x')
 simple_one e (g.goto word n) (g.goto word' n') h h' = let m2 = same_behind e word word' in goto_tree (here_same e) (mention_same m2 (name_same (same_token m2 n n')))
-simple_one e (g.fall word) (g.fall word') h h' = ap t.Fall (here_same e)
+simple_one e (g.fall word) (g.fall word') h h' = ap t.fall_to_child (here_same e)
 simple_one e a b h h' = let t = simple_same e a b in absurd (cc)
 
 -- commands
@@ -177,10 +177,10 @@ not_case e h f = by_kind h (some_same (sym (simple_first h) ∙ ap first_kind e 
 
 -- constants of a `case`
 
-number_tree : {p p' : Stage} {n n' : ℕ} → p ≡ p' → k.Number n ≡ k.Number n' → t.Number (spot_here p) n ≡ t.Number (spot_here p') n'
+number_tree : {p p' : Stage} {n n' : ℕ} → p ≡ p' → k.Number n ≡ k.Number n' → t.literal (spot_here p) n ≡ t.literal (spot_here p') n'
 number_tree e f = let h = here_same e in cc
 
-sized_tree : {p p' : Stage} {u u' n n' : ℕ} → p ≡ p' → k.Sized u n ≡ k.Sized u' n' → t.Sized (spot_here p) u n ≡ t.Sized (spot_here p') u' n'
+sized_tree : {p p' : Stage} {u u' n n' : ℕ} → p ≡ p' → k.Sized u n ≡ k.Sized u' n' → t.sized_literal (spot_here p) u n ≡ t.sized_literal (spot_here p') u' n'
 sized_tree e f = let h = here_same e in cc
 
 constant_one : {p p' q q' : Stage} {x x' : t.Expression} → p ≡ p' → g.Constant p x q → g.Constant p' x' q' → x ≡ x'
@@ -195,7 +195,7 @@ constants_one e g.no_constant (g.constant c x more) n n' = absurd (n (ap first_k
 constants_one e (g.constant c x more) g.no_constant n n' = absurd (n' (sym (ap first_kind e) ∙ first_is c))
 constants_one e (g.constant c x more) (g.constant c' x' more') n n' =
     let m2 = same_behind e c c' in
-    and_part (constant_one m2 x x') (constants_one (same_rest s.Constant m2 (constant_reads x) (constant_reads x')) more more' n n')
+    and_part (constant_one m2 x x') (constants_one (same_rest s.constant m2 (constant_reads x) (constant_reads x')) more more' n n')
 
 simple_begins : {depth : ℕ} {p q : Stage} {c : t.SimpleCommand} → g.Simple depth p c q → ends_cmds (first_kind p) ≡ false
 simple_begins (g.assign n b x) = ap ends_cmds (first_is n)
@@ -215,38 +215,38 @@ cmd_begins (g.case word o x z b first arms end) = ap ends_cmds (first_is word)
 no_begin : {depth : ℕ} {p p' q : Stage} {c : t.Command} → p ≡ p' → ends_cmds (first_kind p) ≡ true → g.Cmd depth p' c q → ⊥
 no_begin e h c = let t : true ≡ false = sym h ∙ ap (λ z. ends_cmds (first_kind z)) e ∙ cmd_begins c in cc
 
-try_tree : {c c' : t.SimpleCommand} {p p' : Place} {b b' : t.CommandBlock} → c ≡ c' → p ≡ p' → b ≡ b' → t.Try c p b ≡ t.Try c' p' b'
+try_tree : {c c' : t.SimpleCommand} {p p' : Place} {b b' : t.CommandBlock} → c ≡ c' → p ≡ p' → b ≡ b' → t.try c p b ≡ t.try c' p' b'
 try_tree e f h = cc
 
-try_then_tree : {c c' : t.SimpleCommand} {p p' : Place} {a a' b b' : t.CommandBlock} → c ≡ c' → p ≡ p' → a ≡ a' → b ≡ b' → t.TryThen c p a b ≡ t.TryThen c' p' a' b'
+try_then_tree : {c c' : t.SimpleCommand} {p p' : Place} {a a' b b' : t.CommandBlock} → c ≡ c' → p ≡ p' → a ≡ a' → b ≡ b' → t.try_then c p a b ≡ t.try_then c' p' a' b'
 try_then_tree e f h i = cc
 
-case_tree : {p p' : Place} {x x' : t.Expression} {arms arms' : t.Arms} → p ≡ p' → x ≡ x' → arms ≡ arms' → t.Case p x arms ≡ t.Case p' x' arms'
+case_tree : {p p' : Place} {x x' : t.Expression} {arms arms' : t.Arms} → p ≡ p' → x ≡ x' → arms ≡ arms' → t.case_of p x arms ≡ t.case_of p' x' arms'
 case_tree e f h = cc
 
-arm_tree : {cs cs' : t.Expressions} {b b' : t.CommandBlock} {arms arms' : t.Arms} → cs ≡ cs' → b ≡ b' → arms ≡ arms' → t.Arm cs b arms ≡ t.Arm cs' b' arms'
+arm_tree : {cs cs' : t.Expressions} {b b' : t.CommandBlock} {arms arms' : t.Arms} → cs ≡ cs' → b ≡ b' → arms ≡ arms' → t.and_arm cs b arms ≡ t.and_arm cs' b' arms'
 arm_tree e f h = cc
 
-if_tree : {p p' : Place} {x x' : t.Expression} {b b' : t.CommandBlock} {o o' : t.ElseBlock} → p ≡ p' → x ≡ x' → b ≡ b' → o ≡ o' → t.If p x b o ≡ t.If p' x' b' o'
+if_tree : {p p' : Place} {x x' : t.Expression} {b b' : t.CommandBlock} {o o' : t.ElseBlock} → p ≡ p' → x ≡ x' → b ≡ b' → o ≡ o' → t.if_else p x b o ≡ t.if_else p' x' b' o'
 if_tree e f h i = cc
 
-commands_tree : {cs cs' : t.CommandList} {p p' : Place} → cs ≡ cs' → p ≡ p' → t.Commands cs p ≡ t.Commands cs' p'
+commands_tree : {cs cs' : t.CommandList} {p p' : Place} → cs ≡ cs' → p ≡ p' → t.command_block cs p ≡ t.command_block cs' p'
 commands_tree e f = cc
 
-and_command : {c c' : t.Command} {cs cs' : t.CommandList} → c ≡ c' → cs ≡ cs' → t.AndCommand c cs ≡ t.AndCommand c' cs'
+and_command : {c c' : t.Command} {cs cs' : t.CommandList} → c ≡ c' → cs ≡ cs' → t.and_command c cs ≡ t.and_command c' cs'
 and_command e f = cc
 
 mutual
   pub cmd_one : {depth : ℕ} {p p' q q' : Stage} {c c' : t.Command} → p ≡ p' → g.Cmd depth p c q → g.Cmd depth p' c' q' → first_kind q ≢ Some (k.Word w.Else) → first_kind q' ≢ Some (k.Word w.Else) → c ≡ c'
-  cmd_one e (g.unhandled c z) (g.unhandled c' z') n n' = ap t.Do (simple_one e c c' (ap ends_expr (first_is z)) (ap ends_expr (first_is z')))
+  cmd_one e (g.unhandled c z) (g.unhandled c' z') n n' = ap t.lone (simple_one e c c' (ap ends_expr (first_is z)) (ap ends_expr (first_is z')))
   cmd_one {depth} e (g.unhandled c z) (g.handled c' word' h') n n' =
-      let m = same_rest (s.Simple depth) e (simple_reads c (ap ends_expr (first_is z))) (simple_reads c' (ap ends_expr (first_is word'))) in
+      let m = same_rest (s.simple depth) e (simple_reads c (ap ends_expr (first_is z))) (simple_reads c' (ap ends_expr (first_is word'))) in
       let t = same_token m z word' in absurd (cc)
   cmd_one {depth} e (g.handled c word h) (g.unhandled c' z') n n' =
-      let m = same_rest (s.Simple depth) e (simple_reads c (ap ends_expr (first_is word))) (simple_reads c' (ap ends_expr (first_is z'))) in
+      let m = same_rest (s.simple depth) e (simple_reads c (ap ends_expr (first_is word))) (simple_reads c' (ap ends_expr (first_is z'))) in
       let t = same_token m word z' in absurd (cc)
   cmd_one {depth} e (g.handled c word h) (g.handled c' word' h') n n' =
-      let m = same_rest (s.Simple depth) e (simple_reads c (ap ends_expr (first_is word))) (simple_reads c' (ap ends_expr (first_is word'))) in
+      let m = same_rest (s.simple depth) e (simple_reads c (ap ends_expr (first_is word))) (simple_reads c' (ap ends_expr (first_is word'))) in
       try_tree (simple_one e c c' (ap ends_expr (first_is word)) (ap ends_expr (first_is word'))) (here_same m) (block_one (same_behind m word word') h h')
   cmd_one e (g.unhandled c z) (g.branch word' o' x' z' one' other') n n' = absurd (not_if e c (first_is word'))
   cmd_one e (g.handled c word h) (g.branch word' o' x' z' one' other') n n' = absurd (not_if e c (first_is word'))
@@ -255,25 +255,25 @@ mutual
   cmd_one {depth} e (g.branch word o x z one other) (g.branch word' o' x' z' one' other') n n' =
       let ez = ap ends_expr (first_is z) in let ez' = ap ends_expr (first_is z') in
       let m3 = same_behind (same_behind e word word') o o' in
-      let m5 = same_behind (same_rest s.Expr m3 (expr_reads x ez) (expr_reads x' ez')) z z' in
-      let m6 = same_rest (s.Block (depth + 1)) m5 (block_reads one) (block_reads one') in
+      let m5 = same_behind (same_rest s.expr m3 (expr_reads x ez) (expr_reads x' ez')) z z' in
+      let m6 = same_rest (s.block (depth + 1)) m5 (block_reads one) (block_reads one') in
       if_tree (here_same e) (expr_one m3 x x' ez ez') (block_one m5 one one') (else_one m6 other other' n n')
   cmd_one {depth} e (g.unhandled c z) (g.decided c' word' a' o' b') n n' =
-      let m = same_rest (s.Simple depth) e (simple_reads c (ap ends_expr (first_is z))) (simple_reads c' (ap ends_expr (first_is word'))) in
+      let m = same_rest (s.simple depth) e (simple_reads c (ap ends_expr (first_is z))) (simple_reads c' (ap ends_expr (first_is word'))) in
       let t = same_token m z word' in absurd (cc)
   cmd_one {depth} e (g.handled c word h) (g.decided c' word' a' o' b') n n' =
-      let m = same_rest (s.Simple depth) e (simple_reads c (ap ends_expr (first_is word))) (simple_reads c' (ap ends_expr (first_is word'))) in
+      let m = same_rest (s.simple depth) e (simple_reads c (ap ends_expr (first_is word))) (simple_reads c' (ap ends_expr (first_is word'))) in
       let t = same_token m word word' in absurd (cc)
   cmd_one {depth} e (g.decided c word a o b) (g.unhandled c' z') n n' =
-      let m = same_rest (s.Simple depth) e (simple_reads c (ap ends_expr (first_is word))) (simple_reads c' (ap ends_expr (first_is z'))) in
+      let m = same_rest (s.simple depth) e (simple_reads c (ap ends_expr (first_is word))) (simple_reads c' (ap ends_expr (first_is z'))) in
       let t = same_token m word z' in absurd (cc)
   cmd_one {depth} e (g.decided c word a o b) (g.handled c' word' h') n n' =
-      let m = same_rest (s.Simple depth) e (simple_reads c (ap ends_expr (first_is word))) (simple_reads c' (ap ends_expr (first_is word'))) in
+      let m = same_rest (s.simple depth) e (simple_reads c (ap ends_expr (first_is word))) (simple_reads c' (ap ends_expr (first_is word'))) in
       let t = same_token m word word' in absurd (cc)
   cmd_one {depth} e (g.decided c word a o b) (g.decided c' word' a' o' b') n n' =
-      let m = same_rest (s.Simple depth) e (simple_reads c (ap ends_expr (first_is word))) (simple_reads c' (ap ends_expr (first_is word'))) in
+      let m = same_rest (s.simple depth) e (simple_reads c (ap ends_expr (first_is word))) (simple_reads c' (ap ends_expr (first_is word'))) in
       let m1 = same_behind m word word' in
-      let m2 = same_rest (s.Block (depth + 1)) m1 (block_reads a) (block_reads a') in
+      let m2 = same_rest (s.block (depth + 1)) m1 (block_reads a) (block_reads a') in
       try_then_tree (simple_one e c c' (ap ends_expr (first_is word)) (ap ends_expr (first_is word'))) (here_same m) (block_one m1 a a') (block_one (same_behind m2 o o') b b')
   cmd_one e (g.decided c word a o b) (g.branch word' o' x' z' one' other') n n' = absurd (not_if e c (first_is word'))
   cmd_one e (g.branch word o x z one other) (g.decided c' word' a' o' b') n n' = absurd (not_if (sym e) c' (first_is word))
@@ -288,28 +288,28 @@ mutual
   cmd_one {depth} e (g.case word o x z b first arms end) (g.case word' o' x' z' b' first' arms' end') n n' =
       let ez = ap ends_expr (first_is z) in let ez' = ap ends_expr (first_is z') in
       let m3 = same_behind (same_behind e word word') o o' in
-      let m5 = same_behind (same_rest s.Expr m3 (expr_reads x ez) (expr_reads x' ez')) z z' in
+      let m5 = same_behind (same_rest s.expr m3 (expr_reads x ez) (expr_reads x' ez')) z z' in
       let m6 = same_behind m5 b b' in
-      let m7 = same_rest (s.Arm (depth + 1)) m6 (arm_reads first) (arm_reads first') in
+      let m7 = same_rest (s.arm (depth + 1)) m6 (arm_reads first) (arm_reads first') in
       let one = arm_one m6 first first' in
       case_tree (here_same e) (expr_one m3 x x' ez ez') (arm_tree one.0 one.1 (arms_one m7 arms arms'))
 
   arm_one : {depth : ℕ} {p p' q q' : Stage} {cs cs' : t.Expressions} {h h' : t.CommandBlock} → p ≡ p' → g.Arm depth p cs h q → g.Arm depth p' cs' h' q' → (cs ≡ cs') × (h ≡ h')
   arm_one e (g.arm x xs z h) (g.arm x' xs' z' h') =
-      let m2 = same_rest s.Constant e (constant_reads x) (constant_reads x') in
-      let m3 = same_rest s.Constants m2 (constants_read xs (λ e. let f = first_is z in absurd (cc))) (constants_read xs' (λ e. let f = first_is z' in absurd (cc))) in (
+      let m2 = same_rest s.constant e (constant_reads x) (constant_reads x') in
+      let m3 = same_rest s.constants m2 (constants_read xs (λ e. let f = first_is z in absurd (cc))) (constants_read xs' (λ e. let f = first_is z' in absurd (cc))) in (
         and_part (constant_one e x x') (constants_one m2 xs xs' (λ e. let f = first_is z in absurd (cc)) (λ e. let f = first_is z' in absurd (cc))),
         block_one (same_behind m3 z z') h h',
       )
 
   arms_one : {depth : ℕ} {p p' q q' : Stage} {x x' : t.Arms} → p ≡ p' → g.Arms depth p x q → g.Arms depth p' x' q' → x ≡ x'
-  arms_one e (g.last word h) (g.last word' h') = ap t.Last (block_one (same_behind e word word') h h')
+  arms_one e (g.last word h) (g.last word' h') = ap t.last_arm (block_one (same_behind e word word') h h')
   arms_one e (g.last word h) (g.and_arm (g.arm (g.plain m) xs' z' h') more') = let t = same_token e word m in absurd (cc)
   arms_one e (g.last word h) (g.and_arm (g.arm (g.wide m) xs' z' h') more') = let t = same_token e word m in absurd (cc)
   arms_one e (g.and_arm (g.arm (g.plain m) xs z h) more) (g.last word' h') = let t = same_token e m word' in absurd (cc)
   arms_one e (g.and_arm (g.arm (g.wide m) xs z h) more) (g.last word' h') = let t = same_token e m word' in absurd (cc)
   arms_one {depth} e (g.and_arm a more) (g.and_arm a' more') =
-      let m2 = same_rest (s.Arm depth) e (arm_reads a) (arm_reads a') in
+      let m2 = same_rest (s.arm depth) e (arm_reads a) (arm_reads a') in
       let one = arm_one e a a' in
       arm_tree one.0 one.1 (arms_one m2 more more')
 
@@ -317,13 +317,13 @@ mutual
   else_one e g.no_else g.no_else n n' = refl
   else_one e g.no_else (g.else word b) n n' = absurd (n (ap first_kind e ∙ first_is word))
   else_one e (g.else word b) g.no_else n n' = absurd (n' (sym (ap first_kind e) ∙ first_is word))
-  else_one e (g.else word b) (g.else word' b') n n' = ap t.Else (block_one (same_behind e word word') b b')
+  else_one e (g.else word b) (g.else word' b') n n' = ap t.with_else (block_one (same_behind e word word') b b')
 
   pub block_one : {depth : ℕ} {p p' q q' : Stage} {x x' : t.CommandBlock} → p ≡ p' → g.Block depth p x q → g.Block depth p' x' q' → x ≡ x'
   block_one {depth} e (g.block o cs z) (g.block o' cs' z') =
       let m2 = same_behind e o o' in
       let ez = ap ends_cmds (first_is z) in let ez' = ap ends_cmds (first_is z') in
-      commands_tree (cmds_one m2 cs cs' ez ez') (here_same (same_rest (s.Cmds depth) m2 (cmds_read cs ez) (cmds_read cs' ez')))
+      commands_tree (cmds_one m2 cs cs' ez ez') (here_same (same_rest (s.cmds depth) m2 (cmds_read cs ez) (cmds_read cs' ez')))
 
   pub cmds_one : {depth : ℕ} {p p' q q' : Stage} {cs cs' : t.CommandList} → p ≡ p' → g.Cmds depth p cs q → g.Cmds depth p' cs' q' → ends_cmds (first_kind q) ≡ true → ends_cmds (first_kind q') ≡ true → cs ≡ cs'
   cmds_one e g.no_cmd g.no_cmd h h' = refl
@@ -331,7 +331,7 @@ mutual
   cmds_one e (g.cmd c more) g.no_cmd h h' = absurd (no_begin (sym e) h' c)
   cmds_one {depth} e (g.cmd c more) (g.cmd c' more') h h' =
       let n = cmds_not_else more h in let n' = cmds_not_else more' h' in
-      and_command (cmd_one e c c' n n') (cmds_one (same_rest (s.Cmd depth) e (cmd_reads c n) (cmd_reads c' n')) more more' h h')
+      and_command (cmd_one e c c' n n') (cmds_one (same_rest (s.cmd depth) e (cmd_reads c n) (cmd_reads c' n')) more more' h h')
 
 -- kinds and declarations
 
@@ -382,7 +382,7 @@ declaration_one e (g.register word n c v kind start z) (g.register word' n' c' v
     let m5 = same_behind m4 v v' in
     let u = initial_not_under start (λ e. let f = first_is z in absurd (cc)) in
     let u' = initial_not_under start' (λ e. let f = first_is z' in absurd (cc)) in
-    let m6 = same_rest s.KindOf m5 (kind_reads kind u) (kind_reads kind' u') in
+    let m6 = same_rest s.kind_of m5 (kind_reads kind u) (kind_reads kind' u') in
     register_tree (here_same e) (mention_same m2 (name_same (same_token m2 n n'))) (numeral_same m4 (number_same (same_token m4 v v'))) (kind_one m5 kind kind' u u')
     (initial_one m6 start start' (λ e. let f = first_is z in absurd (cc)) (λ e. let f = first_is z' in absurd (cc)))
 declaration_one e (g.memory word n c v o depth b kind z) (g.memory word' n' c' v' o' depth' b' kind' z') =
@@ -412,14 +412,14 @@ declarations_one e g.no_declaration g.no_declaration h h' = refl
 declarations_one e g.no_declaration (g.declaration x more) h h' = absurd (declaration_not_state x (sym (ap first_kind e) ∙ h))
 declarations_one e (g.declaration x more) g.no_declaration h h' = absurd (declaration_not_state x (ap first_kind e ∙ h'))
 declarations_one e (g.declaration x more) (g.declaration x' more') h h' =
-    and_declaration (declaration_one e x x') (declarations_one (same_rest s.Declaration e (declaration_reads x) (declaration_reads x')) more more' h h')
+    and_declaration (declaration_one e x x') (declarations_one (same_rest s.declaration e (declaration_reads x) (declaration_reads x')) more more' h h')
 
 -- states
 
-state_tree : {p p' : Place} {m m' : Mention} {x x' : KindTree} {b b' : t.CommandBlock} {c c' : t.StateList} → p ≡ p' → m ≡ m' → x ≡ x' → b ≡ b' → c ≡ c' → t.StateOf p m x b c ≡ t.StateOf p' m' x' b' c'
+state_tree : {p p' : Place} {m m' : Mention} {x x' : KindTree} {b b' : t.CommandBlock} {c c' : t.StateList} → p ≡ p' → m ≡ m' → x ≡ x' → b ≡ b' → c ≡ c' → t.state_node p m x b c ≡ t.state_node p' m' x' b' c'
 state_tree e f h i l = cc
 
-and_state : {x x' : t.StateTree} {xs xs' : t.StateList} → x ≡ x' → xs ≡ xs' → t.AndState x xs ≡ t.AndState x' xs'
+and_state : {x x' : t.StateTree} {xs xs' : t.StateList} → x ≡ x' → xs ≡ xs' → t.and_state x xs ≡ t.and_state x' xs'
 and_state e f = cc
 
 mutual
@@ -427,10 +427,10 @@ mutual
   state_one {depth} e (g.state word n kind o cs children z) (g.state word' n' kind' o' cs' children' z') =
       let m2 = same_behind e word word' in
       let m3 = same_behind m2 n n' in
-      let m5 = same_behind (same_rest s.KindOf m3 (kind_reads kind (λ e. let f = first_is o in absurd (cc))) (kind_reads kind' (λ e. let f = first_is o' in absurd (cc)))) o o' in
+      let m5 = same_behind (same_rest s.kind_of m3 (kind_reads kind (λ e. let f = first_is o in absurd (cc))) (kind_reads kind' (λ e. let f = first_is o' in absurd (cc)))) o o' in
       let h = states_end_cmds children (ap ends_cmds (first_is z)) in
       let h' = states_end_cmds children' (ap ends_cmds (first_is z')) in
-      let m6 = same_rest (s.Cmds 1) m5 (cmds_read cs h) (cmds_read cs' h') in
+      let m6 = same_rest (s.cmds 1) m5 (cmds_read cs h) (cmds_read cs' h') in
       state_tree (here_same e) (mention_same m2 (name_same (same_token m2 n n'))) (kind_one m3 kind kind' (λ e. let f = first_is o in absurd (cc)) (λ e. let f = first_is o' in absurd (cc)))
       (commands_tree (cmds_one m5 cs cs' h h') (here_same m6))
       (states_one m6 children children' (λ e. let f = first_is z in absurd (cc)) (λ e. let f = first_is z' in absurd (cc)))
@@ -440,10 +440,10 @@ mutual
   states_one e g.no_state (g.and_state x more) n n' = absurd (n (ap first_kind e ∙ state_first x))
   states_one e (g.and_state x more) g.no_state n n' = absurd (n' (sym (ap first_kind e) ∙ state_first x))
   states_one {depth} e (g.and_state x more) (g.and_state x' more') n n' =
-      and_state (state_one e x x') (states_one (same_rest (s.State depth) e (state_reads x) (state_reads x')) more more' n n')
+      and_state (state_one e x x') (states_one (same_rest (s.state depth) e (state_reads x) (state_reads x')) more more' n n')
 
 design_tree : {v v' : Version} {xs xs' : List Decl} {y y' : t.StateTree} {ys ys' : t.StateList} → v ≡ v' → xs ≡ xs' → y ≡ y' → ys ≡ ys'
-    → ◌≡◌ {A = t.DesignTree} (record { version = v; declarations = xs; states = t.AndState y ys }) (record { version = v'; declarations = xs'; states = t.AndState y' ys' })
+    → ◌≡◌ {A = t.DesignTree} (record { version = v; declarations = xs; states = t.and_state y ys }) (record { version = v'; declarations = xs'; states = t.and_state y' ys' })
 design_tree d e f h = cc
 
 header_one : {p p' q q' : Stage} {v v' : Version} → p ≡ p' → g.Header p v q → g.Header p' v' q' → first_kind q ≢ Some (k.Word w.Sapper) → first_kind q' ≢ Some (k.Word w.Sapper) → v ≡ v'
@@ -455,8 +455,8 @@ header_one e (g.header word two z) (g.header word' two' z') n n' = refl
 pub design_one : {p p' q q' : Stage} {x y : t.DesignTree} → p ≡ p' → g.Design p x q → g.Design p' y q' → q.left ≡ [] → q'.left ≡ [] → x ≡ y
 design_one e (g.design v ds x more) (g.design v' ds' x' more') h h' =
     let n = declarations_not_sapper ds (state_first x) in let n' = declarations_not_sapper ds' (state_first x') in
-    let m1 = same_rest s.Header e (header_reads v n) (header_reads v' n') in
-    let m2 = same_rest s.Declarations m1 (declarations_read ds (state_first x)) (declarations_read ds' (state_first x')) in
-    let m3 = same_rest (s.State 1) m2 (state_reads x) (state_reads x') in
+    let m1 = same_rest s.header e (header_reads v n) (header_reads v' n') in
+    let m2 = same_rest s.declarations m1 (declarations_read ds (state_first x)) (declarations_read ds' (state_first x')) in
+    let m3 = same_rest (s.state 1) m2 (state_reads x) (state_reads x') in
     design_tree (header_one e v v' n n') (declarations_one m1 ds ds' (state_first x) (state_first x')) (state_one m2 x x')
     (states_one m3 more more' (λ e. let f : None ≡ Some (k.Word w.State) = sym (ap kind_in h) ∙ e in absurd (cc)) (λ e. let f : None ≡ Some (k.Word w.State) = sym (ap kind_in h') ∙ e in absurd (cc)))

@@ -22,7 +22,7 @@ use std::alloc::Global;
 #[tactic(auto, using(crate::proofs::Walks::targets))]
 fn assign(alloc: Global, tokens: &mut Cursor<'_>, depth: u64) -> Result<Simple, Fault>
     requires { command_head (ahead tokens.old.left) ≡ CommandHead.Name }
-    ensures goes { Goes (s.Simple depth) tokens.old result tokens.new }
+    ensures goes { Goes (s.simple depth) tokens.old result tokens.new }
     ensures tree { IfOk result (λ c. g.Simple depth tokens.old (simple_of c) tokens.new) }
     ensures shorter { IfOk result (λ _. length tokens.new.left < length tokens.old.left) }
 {
@@ -43,7 +43,7 @@ fn assign(alloc: Global, tokens: &mut Cursor<'_>, depth: u64) -> Result<Simple, 
 
 #[tactic(auto, using(crate::proofs::Walks::tag_setting))]
 fn set_tag(alloc: Global, tokens: &mut Cursor<'_>, depth: u64) -> Result<Simple, Fault>
-    ensures goes { Goes (s.SetTag depth) tokens.old result tokens.new }
+    ensures goes { Goes (s.set_tag depth) tokens.old result tokens.new }
     ensures tree { IfOk result (λ c. g.Simple depth tokens.old (simple_of c) tokens.new) }
     ensures shorter { IfOk result (λ _. length tokens.new.left < length tokens.old.left) }
 {
@@ -70,7 +70,7 @@ fn set_tag(alloc: Global, tokens: &mut Cursor<'_>, depth: u64) -> Result<Simple,
 
 #[tactic(auto, using(crate::proofs::Walks::going))]
 fn goto(alloc: Global, tokens: &mut Cursor<'_>, depth: u64) -> Result<Simple, Fault>
-    ensures goes { Goes (s.Goto depth) tokens.old result tokens.new }
+    ensures goes { Goes (s.goto depth) tokens.old result tokens.new }
     ensures tree { IfOk result (λ c. g.Simple depth tokens.old (simple_of c) tokens.new) }
     ensures shorter { IfOk result (λ _. length tokens.new.left < length tokens.old.left) }
 {
@@ -81,7 +81,7 @@ fn goto(alloc: Global, tokens: &mut Cursor<'_>, depth: u64) -> Result<Simple, Fa
 
 #[tactic(auto, using(crate::proofs::Walks::binding))]
 fn fall(tokens: &mut Cursor<'_>, depth: u64) -> Result<Simple, Fault>
-    ensures goes { Goes (s.Word (Role.Command depth) Word.Fall) tokens.old result tokens.new }
+    ensures goes { Goes (s.word (Role.Command depth) Word.Fall) tokens.old result tokens.new }
     ensures tree { IfOk result (λ c. g.Simple depth tokens.old (simple_of c) tokens.new) }
     ensures shorter { IfOk result (λ _. length tokens.new.left < length tokens.old.left) }
 {
@@ -92,7 +92,7 @@ fn fall(tokens: &mut Cursor<'_>, depth: u64) -> Result<Simple, Fault>
 /// A command that can have a handler.
 #[tactic(auto, using(crate::proofs::Walks::simples))]
 fn simple(alloc: Global, tokens: &mut Cursor<'_>, depth: u64) -> Result<Simple, Fault>
-    ensures goes { Goes (s.Simple depth) tokens.old result tokens.new }
+    ensures goes { Goes (s.simple depth) tokens.old result tokens.new }
     ensures tree { IfOk result (λ c. g.Simple depth tokens.old (simple_of c) tokens.new) }
     ensures shorter { IfOk result (λ _. length tokens.new.left < length tokens.old.left) }
 {
@@ -123,7 +123,7 @@ fn at_constant(tokens: &Cursor<'_>) -> bool
 
 #[tactic(auto, using(crate::proofs::Walks::binding))]
 fn plain_constant(tokens: &mut Cursor<'_>) -> Result<Expr, Fault>
-    ensures goes { Goes (s.Number Role.Plain) tokens.old result tokens.new }
+    ensures goes { Goes (s.number Role.Plain) tokens.old result tokens.new }
     ensures tree { IfOk result (λ x. g.Constant tokens.old (expression_of x) tokens.new) }
     ensures shorter { IfOk result (λ _. length tokens.new.left < length tokens.old.left) }
 {
@@ -133,7 +133,7 @@ fn plain_constant(tokens: &mut Cursor<'_>) -> Result<Expr, Fault>
 
 #[tactic(auto, using(crate::proofs::Walks::binding))]
 fn wide_constant(tokens: &mut Cursor<'_>) -> Result<Expr, Fault>
-    ensures goes { Goes (s.Sized Role.Plain) tokens.old result tokens.new }
+    ensures goes { Goes (s.sized Role.Plain) tokens.old result tokens.new }
     ensures tree { IfOk result (λ x. g.Constant tokens.old (expression_of x) tokens.new) }
     ensures shorter { IfOk result (λ _. length tokens.new.left < length tokens.old.left) }
 {
@@ -145,7 +145,7 @@ fn wide_constant(tokens: &mut Cursor<'_>) -> Result<Expr, Fault>
 /// A number with or without a width.
 #[tactic(auto, using(crate::proofs::Walks::constants))]
 fn constant(tokens: &mut Cursor<'_>) -> Result<Expr, Fault>
-    ensures goes { Goes s.Constant tokens.old result tokens.new }
+    ensures goes { Goes s.constant tokens.old result tokens.new }
     ensures tree { IfOk result (λ x. g.Constant tokens.old (expression_of x) tokens.new) }
     ensures shorter { IfOk result (λ _. length tokens.new.left < length tokens.old.left) }
 {
@@ -162,7 +162,7 @@ fn constant(tokens: &mut Cursor<'_>) -> Result<Expr, Fault>
 /// The constants that follow, each behind a comma.
 #[tactic(auto, using(crate::proofs::Walks::constant_list))]
 fn more_constants(tokens: &mut Cursor<'_>, constants: &mut Vec<Expr>) -> Result<(), Fault>
-    ensures goes { Goes s.Constants tokens.old result tokens.new }
+    ensures goes { Goes s.constants tokens.old result tokens.new }
     ensures tree { IfOk result (λ _. CollectsConstants tokens.old constants.old.items constants.new.items tokens.new) }
     ensures no_longer { IfOk result (λ _. length tokens.new.left ≤ length tokens.old.left) }
 {
@@ -187,7 +187,7 @@ fn at_command(tokens: &Cursor<'_>) -> bool
 #[tactic(auto, using(crate::proofs::Walks::command_list))]
 pub fn commands(alloc: Global, tokens: &mut Cursor<'_>, depth: u64) -> Result<Vec<Cmd>, Fault>
     requires { depth + length tokens.old.left < 2 ^ 64 }
-    ensures goes { Goes (s.Cmds depth) tokens.old result tokens.new }
+    ensures goes { Goes (s.cmds depth) tokens.old result tokens.new }
     ensures tree { IfOk result (λ list. g.Cmds depth tokens.old (commands_of list.items) tokens.new) }
     ensures no_longer { IfOk result (λ _. length tokens.new.left ≤ length tokens.old.left) }
 {
@@ -203,7 +203,7 @@ pub fn commands(alloc: Global, tokens: &mut Cursor<'_>, depth: u64) -> Result<Ve
 #[tactic(auto, using(crate::proofs::Walks::one_command))]
 fn command(alloc: Global, tokens: &mut Cursor<'_>, depth: u64) -> Result<Cmd, Fault>
     requires { depth + length tokens.old.left < 2 ^ 64 }
-    ensures goes { Goes (s.Cmd depth) tokens.old result tokens.new }
+    ensures goes { Goes (s.cmd depth) tokens.old result tokens.new }
     ensures tree { IfOk result (λ c. g.Cmd depth tokens.old (command_of c) tokens.new) }
     ensures shorter { IfOk result (λ _. length tokens.new.left < length tokens.old.left) }
 {
@@ -235,7 +235,7 @@ fn command(alloc: Global, tokens: &mut Cursor<'_>, depth: u64) -> Result<Cmd, Fa
 #[tactic(auto, using(crate::proofs::Walks::branching))]
 fn branch(alloc: Global, tokens: &mut Cursor<'_>, depth: u64) -> Result<Cmd, Fault>
     requires { depth + length tokens.old.left < 2 ^ 64 }
-    ensures goes { Goes (s.If depth) tokens.old result tokens.new }
+    ensures goes { Goes (s.if_command depth) tokens.old result tokens.new }
     ensures tree { IfOk result (λ c. g.Cmd depth tokens.old (command_of c) tokens.new) }
     ensures shorter { IfOk result (λ _. length tokens.new.left < length tokens.old.left) }
 {
@@ -253,7 +253,7 @@ fn branch(alloc: Global, tokens: &mut Cursor<'_>, depth: u64) -> Result<Cmd, Fau
 #[tactic(auto, using(crate::proofs::Walks::cases))]
 fn case(alloc: Global, tokens: &mut Cursor<'_>, depth: u64) -> Result<Cmd, Fault>
     requires { depth + length tokens.old.left < 2 ^ 64 }
-    ensures goes { Goes (s.Case depth) tokens.old result tokens.new }
+    ensures goes { Goes (s.case_command depth) tokens.old result tokens.new }
     ensures tree { IfOk result (λ c. g.Cmd depth tokens.old (command_of c) tokens.new) }
     ensures shorter { IfOk result (λ _. length tokens.new.left < length tokens.old.left) }
 {
@@ -281,7 +281,7 @@ fn more_arms(
     arms: &mut Vec<Arm>,
 ) -> Result<Block, Fault>
     requires { depth + length tokens.old.left < 2 ^ 64 }
-    ensures goes { Goes (s.Arms depth) tokens.old result tokens.new }
+    ensures goes { Goes (s.arms depth) tokens.old result tokens.new }
     ensures tree { IfOk result (λ last. CollectsArms depth tokens.old arms.old.items arms.new.items (block_of last) tokens.new) }
     ensures shorter { IfOk result (λ _. length tokens.new.left < length tokens.old.left) }
 {
@@ -297,7 +297,7 @@ fn more_arms(
 #[tactic(auto, using(crate::proofs::Walks::one_arm))]
 fn arm(alloc: Global, tokens: &mut Cursor<'_>, depth: u64) -> Result<Arm, Fault>
     requires { depth + length tokens.old.left < 2 ^ 64 }
-    ensures goes { Goes (s.Arm depth) tokens.old result tokens.new }
+    ensures goes { Goes (s.arm depth) tokens.old result tokens.new }
     ensures tree { IfOk result (λ a. g.Arm depth tokens.old (constants_of a) (arm_block_of a) tokens.new) }
     ensures shorter { IfOk result (λ _. length tokens.new.left < length tokens.old.left) }
 {
@@ -315,7 +315,7 @@ fn arm(alloc: Global, tokens: &mut Cursor<'_>, depth: u64) -> Result<Arm, Fault>
 #[tactic(auto, using(crate::proofs::Walks::elses))]
 fn otherwise(alloc: Global, tokens: &mut Cursor<'_>, depth: u64) -> Result<Option<Block>, Fault>
     requires { depth + length tokens.old.left < 2 ^ 64 }
-    ensures goes { Goes (s.Else depth) tokens.old result tokens.new }
+    ensures goes { Goes (s.else_part depth) tokens.old result tokens.new }
     ensures tree { IfOk result (λ other. g.Else depth tokens.old (else_of other) tokens.new) }
     ensures no_longer { IfOk result (λ _. length tokens.new.left ≤ length tokens.old.left) }
 {
@@ -331,7 +331,7 @@ fn otherwise(alloc: Global, tokens: &mut Cursor<'_>, depth: u64) -> Result<Optio
 #[tactic(auto, using(crate::proofs::Walks::blocks))]
 fn block(alloc: Global, tokens: &mut Cursor<'_>, depth: u64) -> Result<Block, Fault>
     requires { depth + length tokens.old.left < 2 ^ 64 }
-    ensures goes { Goes (s.Block depth) tokens.old result tokens.new }
+    ensures goes { Goes (s.block depth) tokens.old result tokens.new }
     ensures tree { IfOk result (λ b. g.Block depth tokens.old (block_of b) tokens.new) }
     ensures shorter { IfOk result (λ _. length tokens.new.left < length tokens.old.left) }
 {

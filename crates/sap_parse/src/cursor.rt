@@ -258,7 +258,7 @@ impl<'a> Cursor<'a> {
     /// Takes this sign.
     #[tactic(auto, using(crate::proofs::Fronts::somes))]
     pub fn sign(&mut self, role: Role, sign: Sign) -> Result<Place, Fault>
-        ensures goes { Goes (s.Sign role sign) self.old result self.new }
+        ensures goes { Goes (s.sign role sign) self.old result self.new }
         ensures tree { IfOk result (λ place. IsSign self.old role sign self.new) }
         ensures place { IfOk result (λ place. place ≡ here self.old) }
         ensures shorter { IfOk result (λ _. length self.new.left < length self.old.left) }
@@ -273,7 +273,7 @@ impl<'a> Cursor<'a> {
     /// Takes this word.
     #[tactic(auto, using(crate::proofs::Fronts::somes))]
     pub fn word(&mut self, role: Role, word: Word) -> Result<Place, Fault>
-        ensures goes { Goes (s.Word role word) self.old result self.new }
+        ensures goes { Goes (s.word role word) self.old result self.new }
         ensures tree { IfOk result (λ place. IsWord self.old role word self.new) }
         ensures place { IfOk result (λ place. place ≡ here self.old) }
         ensures shorter { IfOk result (λ _. length self.new.left < length self.old.left) }
@@ -288,7 +288,7 @@ impl<'a> Cursor<'a> {
     /// Takes a number.
     #[tactic(auto, using(crate::proofs::Single::numbers, crate::proofs::Fronts::somes))]
     pub fn number(&mut self, role: Role) -> Result<Numeral, Fault>
-        ensures goes { Goes (s.Number role) self.old result self.new }
+        ensures goes { Goes (s.number role) self.old result self.new }
         ensures tree { IfOk result (λ n. IsNumber self.old role n.value self.new) }
         ensures place { IfOk result (λ n. n ≡ numeral self.old n.value) }
         ensures shorter { IfOk result (λ _. length self.new.left < length self.old.left) }
@@ -305,7 +305,7 @@ impl<'a> Cursor<'a> {
     /// Takes a number with a width, and gives the width, then the number.
     #[tactic(auto, using(crate::proofs::Single::sizeds, crate::proofs::Fronts::somes))]
     pub fn sized(&mut self, role: Role) -> Result<(u64, u64), Fault>
-        ensures goes { Goes (s.Sized role) self.old result self.new }
+        ensures goes { Goes (s.sized role) self.old result self.new }
         ensures tree { IfOk result (λ n. IsSized self.old role n.0 n.1 self.new) }
         ensures shorter { IfOk result (λ _. length self.new.left < length self.old.left) }
     {
@@ -330,7 +330,7 @@ impl<'a> Cursor<'a> {
     /// Takes a name.
     #[tactic(auto, using(crate::proofs::Single::names, crate::proofs::Fronts::somes))]
     pub fn name(&mut self, alloc: Global, role: Role) -> Result<Mention, Fault>
-        ensures goes { Goes (s.Name role) self.old result self.new }
+        ensures goes { Goes (s.any_name role) self.old result self.new }
         ensures tree { IfOk result (λ n. IsName self.old role n.name self.new) }
         ensures place { IfOk result (λ n. n ≡ mention self.old n.name) }
         ensures shorter { IfOk result (λ _. length self.new.left < length self.old.left) }

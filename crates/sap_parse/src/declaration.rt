@@ -17,7 +17,7 @@ use std::alloc::Global;
 /// The written authority, where there is one.
 #[tactic(auto, using(crate::proofs::Walks::authorities))]
 fn authority(alloc: Global, tokens: &mut Cursor<'_>) -> Result<Option<Under>, Fault>
-    ensures goes { Goes s.Authority tokens.old result tokens.new }
+    ensures goes { Goes s.authority tokens.old result tokens.new }
     ensures tree { IfOk result (λ under. g.Authority tokens.old under tokens.new) }
     ensures no_longer { IfOk result (λ _. length tokens.new.left ≤ length tokens.old.left) }
 {
@@ -31,7 +31,7 @@ fn authority(alloc: Global, tokens: &mut Cursor<'_>) -> Result<Option<Under>, Fa
 
 #[tactic(auto, using(crate::proofs::Walks::enforcing))]
 fn enforced(alloc: Global, tokens: &mut Cursor<'_>) -> Result<Kind, Fault>
-    ensures goes { Goes s.Enforced tokens.old result tokens.new }
+    ensures goes { Goes s.enforced tokens.old result tokens.new }
     ensures tree { IfOk result (λ kind. g.KindOf tokens.old kind tokens.new) }
     ensures shorter { IfOk result (λ _. length tokens.new.left < length tokens.old.left) }
 {
@@ -43,7 +43,7 @@ fn enforced(alloc: Global, tokens: &mut Cursor<'_>) -> Result<Kind, Fault>
 
 #[tactic(auto, using(crate::proofs::Walks::binding))]
 fn dynamic(tokens: &mut Cursor<'_>) -> Result<Kind, Fault>
-    ensures goes { Goes (s.Word Role.Plain Word.Dynamic) tokens.old result tokens.new }
+    ensures goes { Goes (s.word Role.Plain Word.Dynamic) tokens.old result tokens.new }
     ensures tree { IfOk result (λ kind. g.KindOf tokens.old kind tokens.new) }
     ensures shorter { IfOk result (λ _. length tokens.new.left < length tokens.old.left) }
 {
@@ -54,7 +54,7 @@ fn dynamic(tokens: &mut Cursor<'_>) -> Result<Kind, Fault>
 /// The kind of an entity.
 #[tactic(auto, using(crate::proofs::Walks::kinds))]
 pub fn kind(alloc: Global, tokens: &mut Cursor<'_>) -> Result<Kind, Fault>
-    ensures goes { Goes s.KindOf tokens.old result tokens.new }
+    ensures goes { Goes s.kind_of tokens.old result tokens.new }
     ensures tree { IfOk result (λ kind. g.KindOf tokens.old kind tokens.new) }
     ensures shorter { IfOk result (λ _. length tokens.new.left < length tokens.old.left) }
 {
@@ -68,7 +68,7 @@ pub fn kind(alloc: Global, tokens: &mut Cursor<'_>) -> Result<Kind, Fault>
 /// The initial number, where one is written.
 #[tactic(auto, using(crate::proofs::Walks::initials))]
 fn initial(tokens: &mut Cursor<'_>) -> Result<Option<Numeral>, Fault>
-    ensures goes { Goes s.Initial tokens.old result tokens.new }
+    ensures goes { Goes s.initial tokens.old result tokens.new }
     ensures tree { IfOk result (λ start. g.Initial tokens.old start tokens.new) }
     ensures no_longer { IfOk result (λ _. length tokens.new.left ≤ length tokens.old.left) }
 {
@@ -82,7 +82,7 @@ fn initial(tokens: &mut Cursor<'_>) -> Result<Option<Numeral>, Fault>
 
 #[tactic(auto, using(crate::proofs::Walks::inputs))]
 fn input(alloc: Global, tokens: &mut Cursor<'_>) -> Result<Decl, Fault>
-    ensures goes { Goes s.Input tokens.old result tokens.new }
+    ensures goes { Goes s.input tokens.old result tokens.new }
     ensures tree { IfOk result (λ d. g.Declaration tokens.old d tokens.new) }
     ensures shorter { IfOk result (λ _. length tokens.new.left < length tokens.old.left) }
 {
@@ -96,7 +96,7 @@ fn input(alloc: Global, tokens: &mut Cursor<'_>) -> Result<Decl, Fault>
 
 #[tactic(auto, using(crate::proofs::Walks::registers))]
 fn register(alloc: Global, tokens: &mut Cursor<'_>) -> Result<Decl, Fault>
-    ensures goes { Goes s.Register tokens.old result tokens.new }
+    ensures goes { Goes s.register tokens.old result tokens.new }
     ensures tree { IfOk result (λ d. g.Declaration tokens.old d tokens.new) }
     ensures shorter { IfOk result (λ _. length tokens.new.left < length tokens.old.left) }
 {
@@ -113,7 +113,7 @@ fn register(alloc: Global, tokens: &mut Cursor<'_>) -> Result<Decl, Fault>
 
 #[tactic(auto, using(crate::proofs::Walks::memories))]
 fn memory(alloc: Global, tokens: &mut Cursor<'_>) -> Result<Decl, Fault>
-    ensures goes { Goes s.Memory tokens.old result tokens.new }
+    ensures goes { Goes s.memory tokens.old result tokens.new }
     ensures tree { IfOk result (λ d. g.Declaration tokens.old d tokens.new) }
     ensures shorter { IfOk result (λ _. length tokens.new.left < length tokens.old.left) }
 {
@@ -132,7 +132,7 @@ fn memory(alloc: Global, tokens: &mut Cursor<'_>) -> Result<Decl, Fault>
 
 #[tactic(auto, using(crate::proofs::Walks::one_declaration))]
 fn declaration(alloc: Global, tokens: &mut Cursor<'_>) -> Result<Decl, Fault>
-    ensures goes { Goes s.Declaration tokens.old result tokens.new }
+    ensures goes { Goes s.declaration tokens.old result tokens.new }
     ensures tree { IfOk result (λ d. g.Declaration tokens.old d tokens.new) }
     ensures shorter { IfOk result (λ _. length tokens.new.left < length tokens.old.left) }
 {
@@ -155,7 +155,7 @@ fn at_declaration(tokens: &Cursor<'_>) -> bool
 /// The declarations that come next.
 #[tactic(auto, using(crate::proofs::Walks::declaration_list))]
 pub fn declarations(alloc: Global, tokens: &mut Cursor<'_>) -> Result<Vec<Decl>, Fault>
-    ensures goes { Goes s.Declarations tokens.old result tokens.new }
+    ensures goes { Goes s.declarations tokens.old result tokens.new }
     ensures tree { IfOk result (λ list. g.Declarations tokens.old list.items tokens.new) }
     ensures no_longer { IfOk result (λ _. length tokens.new.left ≤ length tokens.old.left) }
 {

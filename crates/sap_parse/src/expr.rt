@@ -38,7 +38,7 @@ struct Cut {
 
 #[tactic(auto, using(crate::proofs::Walks::bounding))]
 fn bounds(tokens: &mut Cursor<'_>) -> Result<Cut, Fault>
-    ensures goes { Goes s.Slice tokens.old result tokens.new }
+    ensures goes { Goes s.slice tokens.old result tokens.new }
     ensures tree { IfOk result (λ b. g.Bounds tokens.old b.high b.low tokens.new) }
     ensures place { IfOk result (λ b. b.place ≡ here tokens.old) }
     ensures shorter { IfOk result (λ _. length tokens.new.left < length tokens.old.left) }
@@ -58,7 +58,7 @@ fn bounds(tokens: &mut Cursor<'_>) -> Result<Cut, Fault>
 /// The slices that follow an expression.
 #[tactic(auto, using(crate::proofs::Walks::cutting))]
 fn slices(alloc: Global, tokens: &mut Cursor<'_>, operand: Expr) -> Result<Expr, Fault>
-    ensures goes { Goes s.Slices tokens.old result tokens.new }
+    ensures goes { Goes s.slices tokens.old result tokens.new }
     ensures tree { IfOk result (λ x. g.Cuts (expression_of operand) tokens.old (expression_of x) tokens.new) }
     ensures no_longer { IfOk result (λ _. length tokens.new.left ≤ length tokens.old.left) }
 {
@@ -77,7 +77,7 @@ fn slices(alloc: Global, tokens: &mut Cursor<'_>, operand: Expr) -> Result<Expr,
 
 #[tactic(auto, using(crate::proofs::Walks::binding))]
 fn numeral(tokens: &mut Cursor<'_>) -> Result<Expr, Fault>
-    ensures goes { Goes (s.Number Role.Inner) tokens.old result tokens.new }
+    ensures goes { Goes (s.number Role.Inner) tokens.old result tokens.new }
     ensures tree { IfOk result (λ x. g.Prim tokens.old (expression_of x) tokens.new) }
     ensures shorter { IfOk result (λ _. length tokens.new.left < length tokens.old.left) }
 {
@@ -87,7 +87,7 @@ fn numeral(tokens: &mut Cursor<'_>) -> Result<Expr, Fault>
 
 #[tactic(auto, using(crate::proofs::Walks::binding))]
 fn sized(tokens: &mut Cursor<'_>) -> Result<Expr, Fault>
-    ensures goes { Goes (s.Sized Role.Inner) tokens.old result tokens.new }
+    ensures goes { Goes (s.sized Role.Inner) tokens.old result tokens.new }
     ensures tree { IfOk result (λ x. g.Prim tokens.old (expression_of x) tokens.new) }
     ensures shorter { IfOk result (λ _. length tokens.new.left < length tokens.old.left) }
 {
@@ -100,7 +100,7 @@ fn sized(tokens: &mut Cursor<'_>) -> Result<Expr, Fault>
 #[cycle(expr)]
 #[tactic(auto, using(crate::proofs::Walks::choosing))]
 pub fn expr(alloc: Global, tokens: &mut Cursor<'_>) -> Result<Expr, Fault>
-    ensures goes { Goes s.Expr tokens.old result tokens.new }
+    ensures goes { Goes s.expr tokens.old result tokens.new }
     ensures tree { IfOk result (λ x. g.Expr tokens.old (expression_of x) tokens.new) }
     ensures shorter { IfOk result (λ _. length tokens.new.left < length tokens.old.left) }
 {
@@ -126,7 +126,7 @@ pub fn expr(alloc: Global, tokens: &mut Cursor<'_>) -> Result<Expr, Fault>
 #[tactic(auto, using(crate::proofs::Walks::joining))]
 fn bin(alloc: Global, tokens: &mut Cursor<'_>, level: u32) -> Result<Expr, Fault>
     requires { level ≤ 9 }
-    ensures goes { Goes (s.Bin level) tokens.old result tokens.new }
+    ensures goes { Goes (s.bin level) tokens.old result tokens.new }
     ensures tree { IfOk result (λ x. g.Bin level tokens.old (expression_of x) tokens.new) }
     ensures shorter { IfOk result (λ _. length tokens.new.left < length tokens.old.left) }
 {
@@ -151,7 +151,7 @@ fn bin(alloc: Global, tokens: &mut Cursor<'_>, level: u32) -> Result<Expr, Fault
 #[cycle(expr)]
 #[tactic(auto, using(crate::proofs::Walks::signing))]
 fn unary(alloc: Global, tokens: &mut Cursor<'_>) -> Result<Expr, Fault>
-    ensures goes { Goes s.Unary tokens.old result tokens.new }
+    ensures goes { Goes s.unary tokens.old result tokens.new }
     ensures tree { IfOk result (λ x. g.Unary tokens.old (expression_of x) tokens.new) }
     ensures shorter { IfOk result (λ _. length tokens.new.left < length tokens.old.left) }
 {
@@ -168,7 +168,7 @@ fn unary(alloc: Global, tokens: &mut Cursor<'_>) -> Result<Expr, Fault>
 #[cycle(expr)]
 #[tactic(auto, using(crate::proofs::Walks::posting))]
 fn post(alloc: Global, tokens: &mut Cursor<'_>) -> Result<Expr, Fault>
-    ensures goes { Goes s.Post tokens.old result tokens.new }
+    ensures goes { Goes s.post tokens.old result tokens.new }
     ensures tree { IfOk result (λ x. g.Post tokens.old (expression_of x) tokens.new) }
     ensures shorter { IfOk result (λ _. length tokens.new.left < length tokens.old.left) }
 {
@@ -185,7 +185,7 @@ fn post(alloc: Global, tokens: &mut Cursor<'_>) -> Result<Expr, Fault>
 #[tactic(auto, using(crate::proofs::Walks::naming))]
 fn named(alloc: Global, tokens: &mut Cursor<'_>) -> Result<Expr, Fault>
     requires { ahead tokens.old.left ≡ Ahead.Name }
-    ensures goes { Goes s.Post tokens.old result tokens.new }
+    ensures goes { Goes s.post tokens.old result tokens.new }
     ensures tree { IfOk result (λ x. g.Post tokens.old (expression_of x) tokens.new) }
     ensures shorter { IfOk result (λ _. length tokens.new.left < length tokens.old.left) }
 {
@@ -206,8 +206,8 @@ fn named(alloc: Global, tokens: &mut Cursor<'_>) -> Result<Expr, Fault>
 fn slice(alloc: Global, tokens: &mut Cursor<'_>, name: Mention, place: Place) -> Result<Expr, Fault>
     requires number { ahead tokens.old.left ≡ Ahead.Number }
     requires colon { second tokens.old.left ≡ Ahead.Sign Sign.Colon }
-    ensures goes { Goes s.AfterBracket tokens.old result tokens.new }
-    ensures tree { IfOk result (λ x. Slices (record { first = name.place; at = place }) (t.Read (record { first = name.place; at = name.place }) name.name) tokens.old (expression_of x) tokens.new) }
+    ensures goes { Goes s.behind_bracket tokens.old result tokens.new }
+    ensures tree { IfOk result (λ x. Slices (record { first = name.place; at = place }) (t.variable (record { first = name.place; at = name.place }) name.name) tokens.old (expression_of x) tokens.new) }
     ensures shorter { IfOk result (λ _. length tokens.new.left < length tokens.old.left) }
 {
     let high = tokens.number(Role::Inner)?;
@@ -231,7 +231,7 @@ fn slice(alloc: Global, tokens: &mut Cursor<'_>, name: Mention, place: Place) ->
 #[tactic(auto, using(crate::proofs::Walks::indexing))]
 fn cell(alloc: Global, tokens: &mut Cursor<'_>, name: Mention) -> Result<Expr, Fault>
     requires { ahead tokens.old.left ≡ Ahead.Number → second tokens.old.left ≢ Ahead.Sign Sign.Colon }
-    ensures goes { Goes s.AfterBracket tokens.old result tokens.new }
+    ensures goes { Goes s.behind_bracket tokens.old result tokens.new }
     ensures tree { IfOk result (λ x. Indexes (record { first = name.place; at = name.place }) name.name tokens.old (expression_of x) tokens.new) }
     ensures shorter { IfOk result (λ _. length tokens.new.left < length tokens.old.left) }
 {
@@ -249,7 +249,7 @@ fn cell(alloc: Global, tokens: &mut Cursor<'_>, name: Mention) -> Result<Expr, F
 #[cycle(expr)]
 #[tactic(auto, using(crate::proofs::Walks::primary))]
 fn prim(alloc: Global, tokens: &mut Cursor<'_>) -> Result<Expr, Fault>
-    ensures goes { Goes s.Prim tokens.old result tokens.new }
+    ensures goes { Goes s.prim tokens.old result tokens.new }
     ensures tree { IfOk result (λ x. g.Prim tokens.old (expression_of x) tokens.new) }
     ensures shorter { IfOk result (λ _. length tokens.new.left < length tokens.old.left) }
 {
@@ -266,7 +266,7 @@ fn prim(alloc: Global, tokens: &mut Cursor<'_>) -> Result<Expr, Fault>
 #[cycle(expr)]
 #[tactic(auto, using(crate::proofs::Walks::wrapping))]
 fn paren(alloc: Global, tokens: &mut Cursor<'_>) -> Result<Expr, Fault>
-    ensures goes { Goes s.Paren tokens.old result tokens.new }
+    ensures goes { Goes s.paren tokens.old result tokens.new }
     ensures tree { IfOk result (λ x. g.Prim tokens.old (expression_of x) tokens.new) }
     ensures shorter { IfOk result (λ _. length tokens.new.left < length tokens.old.left) }
 {
@@ -280,7 +280,7 @@ fn paren(alloc: Global, tokens: &mut Cursor<'_>) -> Result<Expr, Fault>
 #[cycle(expr)]
 #[tactic(auto, using(crate::proofs::Walks::bracing))]
 fn braces(alloc: Global, tokens: &mut Cursor<'_>) -> Result<Expr, Fault>
-    ensures goes { Goes s.Braces tokens.old result tokens.new }
+    ensures goes { Goes s.braces tokens.old result tokens.new }
     ensures tree { IfOk result (λ x. g.Prim tokens.old (expression_of x) tokens.new) }
     ensures shorter { IfOk result (λ _. length tokens.new.left < length tokens.old.left) }
 {
@@ -299,7 +299,7 @@ fn braces(alloc: Global, tokens: &mut Cursor<'_>) -> Result<Expr, Fault>
 #[cycle(expr)]
 #[tactic(auto, using(crate::proofs::Walks::listing))]
 fn more_parts(alloc: Global, tokens: &mut Cursor<'_>, parts: &mut Vec<Expr>) -> Result<(), Fault>
-    ensures goes { Goes s.Parts tokens.old result tokens.new }
+    ensures goes { Goes s.parts tokens.old result tokens.new }
     ensures tree { IfOk result (λ _. Collects tokens.old parts.old.items parts.new.items tokens.new) }
     ensures no_longer { IfOk result (λ _. length tokens.new.left ≤ length tokens.old.left) }
 {
@@ -314,7 +314,7 @@ fn more_parts(alloc: Global, tokens: &mut Cursor<'_>, parts: &mut Vec<Expr>) -> 
 #[cycle(expr)]
 #[tactic(auto, using(crate::proofs::Walks::extending))]
 fn zext(alloc: Global, tokens: &mut Cursor<'_>) -> Result<Expr, Fault>
-    ensures goes { Goes s.Zext tokens.old result tokens.new }
+    ensures goes { Goes s.zext tokens.old result tokens.new }
     ensures tree { IfOk result (λ x. g.Prim tokens.old (expression_of x) tokens.new) }
     ensures shorter { IfOk result (λ _. length tokens.new.left < length tokens.old.left) }
 {

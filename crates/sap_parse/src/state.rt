@@ -24,7 +24,7 @@ use std::alloc::Global;
 #[tactic(auto, using(crate::proofs::Walks::state_list))]
 fn states(alloc: Global, tokens: &mut Cursor<'_>, depth: u64) -> Result<Vec<State>, Fault>
     requires { depth + length tokens.old.left < 2 ^ 64 }
-    ensures goes { Goes (s.States depth) tokens.old result tokens.new }
+    ensures goes { Goes (s.states depth) tokens.old result tokens.new }
     ensures tree { IfOk result (λ list. g.States depth tokens.old (states_of list.items) tokens.new) }
     ensures no_longer { IfOk result (λ _. length tokens.new.left ≤ length tokens.old.left) }
 {
@@ -40,7 +40,7 @@ fn states(alloc: Global, tokens: &mut Cursor<'_>, depth: u64) -> Result<Vec<Stat
 #[tactic(auto, using(crate::proofs::Walks::one_state))]
 fn state(alloc: Global, tokens: &mut Cursor<'_>, depth: u64) -> Result<State, Fault>
     requires { depth + length tokens.old.left < 2 ^ 64 }
-    ensures goes { Goes (s.State depth) tokens.old result tokens.new }
+    ensures goes { Goes (s.state depth) tokens.old result tokens.new }
     ensures tree { IfOk result (λ x. g.State depth tokens.old (state_of x) tokens.new) }
     ensures shorter { IfOk result (λ _. length tokens.new.left < length tokens.old.left) }
 {
@@ -59,7 +59,7 @@ fn state(alloc: Global, tokens: &mut Cursor<'_>, depth: u64) -> Result<State, Fa
 #[tactic(auto, using(crate::proofs::Walks::binding))]
 fn body(alloc: Global, tokens: &mut Cursor<'_>) -> Result<Block, Fault>
     requires { 1 + length tokens.old.left < 2 ^ 64 }
-    ensures goes { Goes (s.Cmds 1) tokens.old result tokens.new }
+    ensures goes { Goes (s.cmds 1) tokens.old result tokens.new }
     ensures tree { IfOk result (λ b. g.Cmds 1 tokens.old (commands_of b.commands.items) tokens.new) }
     ensures after { IfOk result (λ b. b.after ≡ here tokens.new) }
     ensures no_longer { IfOk result (λ _. length tokens.new.left ≤ length tokens.old.left) }
@@ -73,7 +73,7 @@ fn body(alloc: Global, tokens: &mut Cursor<'_>) -> Result<Block, Fault>
 #[tactic(auto, using(crate::proofs::Walks::last_states))]
 fn last_states(alloc: Global, tokens: &mut Cursor<'_>, list: &mut Vec<State>) -> Result<(), Fault>
     requires { 1 + length tokens.old.left < 2 ^ 64 }
-    ensures goes { Goes s.LastStates tokens.old result tokens.new }
+    ensures goes { Goes s.last_states tokens.old result tokens.new }
     ensures tree { IfOk result (λ _. CollectsStates tokens.old list.old.items list.new.items tokens.new) }
     ensures end { IfOk result (λ _. tokens.new.left ≡ []) }
 {
@@ -91,7 +91,7 @@ fn last_states(alloc: Global, tokens: &mut Cursor<'_>, list: &mut Vec<State>) ->
 /// The first line of a text of the second version, where one is written.
 #[tactic(auto, using(crate::proofs::Walks::headers))]
 fn header(tokens: &mut Cursor<'_>) -> Result<Version, Fault>
-    ensures goes { Goes s.Header tokens.old result tokens.new }
+    ensures goes { Goes s.header tokens.old result tokens.new }
     ensures tree { IfOk result (λ version. g.Header tokens.old version tokens.new) }
     ensures no_longer { IfOk result (λ _. length tokens.new.left ≤ length tokens.old.left) }
 {
@@ -116,7 +116,7 @@ pub struct Parts {
 #[tactic(auto, using(crate::proofs::Walks::designs))]
 pub fn design(alloc: Global, tokens: &mut Cursor<'_>) -> Result<Parts, Fault>
     requires { 1 + length tokens.old.left < 2 ^ 64 }
-    ensures goes { Goes s.Design tokens.old result tokens.new }
+    ensures goes { Goes s.design tokens.old result tokens.new }
     ensures tree { IfOk result (λ d. g.Design tokens.old (tree_of d.version d.declarations.items d.states.items) tokens.new) }
     ensures end { IfOk result (λ _. tokens.new.left ≡ []) }
 {

@@ -20,7 +20,7 @@ use std::alloc::Global;
 #[cycle(tag)]
 #[tactic(auto, using(crate::proofs::Walks::tagging))]
 pub fn tag_expr(alloc: Global, tokens: &mut Cursor<'_>) -> Result<TagExpr, Fault>
-    ensures goes { Goes s.Texpr tokens.old result tokens.new }
+    ensures goes { Goes s.texpr tokens.old result tokens.new }
     ensures tree { IfOk result (λ x. g.Texpr tokens.old (tag_of x) tokens.new) }
     ensures shorter { IfOk result (λ _. length tokens.new.left < length tokens.old.left) }
 {
@@ -35,7 +35,7 @@ pub fn tag_expr(alloc: Global, tokens: &mut Cursor<'_>) -> Result<TagExpr, Fault
 
 #[tactic(auto, using(crate::proofs::Walks::binding))]
 fn level(alloc: Global, tokens: &mut Cursor<'_>) -> Result<TagExpr, Fault>
-    ensures goes { Goes (s.Name Role.Inner) tokens.old result tokens.new }
+    ensures goes { Goes (s.any_name Role.Inner) tokens.old result tokens.new }
     ensures tree { IfOk result (λ x. g.Texpr tokens.old (tag_of x) tokens.new) }
     ensures shorter { IfOk result (λ _. length tokens.new.left < length tokens.old.left) }
 {
@@ -45,7 +45,7 @@ fn level(alloc: Global, tokens: &mut Cursor<'_>) -> Result<TagExpr, Fault>
 
 #[tactic(auto, using(crate::proofs::Walks::tag_of))]
 fn tag(alloc: Global, tokens: &mut Cursor<'_>) -> Result<TagExpr, Fault>
-    ensures goes { Goes s.TagOf tokens.old result tokens.new }
+    ensures goes { Goes s.tag_of tokens.old result tokens.new }
     ensures tree { IfOk result (λ x. g.Texpr tokens.old (tag_of x) tokens.new) }
     ensures shorter { IfOk result (λ _. length tokens.new.left < length tokens.old.left) }
 {
@@ -59,7 +59,7 @@ fn tag(alloc: Global, tokens: &mut Cursor<'_>) -> Result<TagExpr, Fault>
 
 #[tactic(auto, using(crate::proofs::Walks::level_at))]
 fn level_at(alloc: Global, tokens: &mut Cursor<'_>) -> Result<TagExpr, Fault>
-    ensures goes { Goes s.LevelAt tokens.old result tokens.new }
+    ensures goes { Goes s.level_at tokens.old result tokens.new }
     ensures tree { IfOk result (λ x. g.Texpr tokens.old (tag_of x) tokens.new) }
     ensures shorter { IfOk result (λ _. length tokens.new.left < length tokens.old.left) }
 {
@@ -74,7 +74,7 @@ fn level_at(alloc: Global, tokens: &mut Cursor<'_>) -> Result<TagExpr, Fault>
 #[cycle(tag)]
 #[tactic(auto, using(crate::proofs::Walks::tag_join))]
 fn join(alloc: Global, tokens: &mut Cursor<'_>) -> Result<TagExpr, Fault>
-    ensures goes { Goes s.Join tokens.old result tokens.new }
+    ensures goes { Goes s.join tokens.old result tokens.new }
     ensures tree { IfOk result (λ x. g.Texpr tokens.old (tag_of x) tokens.new) }
     ensures shorter { IfOk result (λ _. length tokens.new.left < length tokens.old.left) }
 {
@@ -94,7 +94,7 @@ fn join(alloc: Global, tokens: &mut Cursor<'_>) -> Result<TagExpr, Fault>
 #[cycle(tag)]
 #[tactic(auto, using(crate::proofs::Walks::tag_list))]
 fn more_tags(alloc: Global, tokens: &mut Cursor<'_>, parts: &mut Vec<TagExpr>) -> Result<(), Fault>
-    ensures goes { Goes s.Texprs tokens.old result tokens.new }
+    ensures goes { Goes s.texprs tokens.old result tokens.new }
     ensures tree { IfOk result (λ _. CollectsTags tokens.old parts.old.items parts.new.items tokens.new) }
     ensures no_longer { IfOk result (λ _. length tokens.new.left ≤ length tokens.old.left) }
 {

@@ -1,7 +1,7 @@
 -- What the parts of a program are seen as. What hangs on a command is told of each of n entities.
 use Rattle.std.specs.Prelude.{ℕ, List, [], ◌∷◌, length, map}
 use Rattle.sap_maps.specs.Term.{Term, constant, read, cell, one, two, choose, join, part}
-use Rattle.sap_meaning.specs.Program.{LevelTerm, fixed, of, at_place, both, Arms, Last, Block, End, Then, Group, None, More}
+use Rattle.sap_meaning.specs.Program.{LevelTerm, fixed, of, at_place, both, Arms, last_arm, Block, end_block, command_then, Group, no_node, and_node}
 use Rattle.sap_meaning.specs.Program as program
 use Rattle.sap_meaning.specs.Checks as checks
 use Rattle.sap_lattice.specs.Order.{Order}
@@ -48,33 +48,33 @@ level_of (tag.AtPlace e) = at_place (term_of e)
 level_of (tag.Both' p a q b) = both (level_of a) (level_of b)
 
 abbrev pub step_of : (n : ℕ) → Step → program.Step
-step_of n (step.Set k x e) = program.Set k x (term_of e)
-step_of n (step.Write k m i e) = program.Write k m (term_of i) (term_of e)
-step_of n (step.Retag k x t) = program.Retag k x (level_of t)
-step_of n (step.RetagCell k m i t) = program.RetagCell k m (term_of i) (level_of t)
-step_of n (step.Goto k s) = program.Goto k s
-step_of n (step.Fall k hang) = program.Fall k (flags n hang)
+step_of n (step.Set k x e) = program.assign k x (term_of e)
+step_of n (step.Write k m i e) = program.write k m (term_of i) (term_of e)
+step_of n (step.Retag k x t) = program.retag k x (level_of t)
+step_of n (step.RetagCell k m i t) = program.retag_cell k m (term_of i) (level_of t)
+step_of n (step.Goto k s) = program.go_to k s
+step_of n (step.Fall k hang) = program.fall_to_child k (flags n hang)
 
 unfoldable mutual
   pub command_of : (n : ℕ) → Command → program.Command
-  command_of n (command.Do s) = program.Do (step_of n s)
-  command_of n (command.Try' s hang k handler) = program.Try (step_of n s) (flags n hang) (row_block n handler)
-  command_of n (command.If' hang e k then_part m else_part) = program.If (flags n hang) (term_of e) (row_block n then_part) (row_block n else_part)
-  command_of n (command.TryThen' s hang k accepted m refused) = program.TryThen (step_of n s) (flags n hang) (row_block n accepted) (row_block n refused)
-  command_of n (command.Case' hang e k arms m last_part) = program.Case (flags n hang) (term_of e) (row_arms n arms (Last (row_block n last_part)))
+  command_of n (command.Do s) = program.lone (step_of n s)
+  command_of n (command.Try' s hang k handler) = program.try (step_of n s) (flags n hang) (row_block n handler)
+  command_of n (command.If' hang e k then_part m else_part) = program.if_else (flags n hang) (term_of e) (row_block n then_part) (row_block n else_part)
+  command_of n (command.TryThen' s hang k accepted m refused) = program.try_then (step_of n s) (flags n hang) (row_block n accepted) (row_block n refused)
+  command_of n (command.Case' hang e k arms m last_part) = program.case_of (flags n hang) (term_of e) (row_arms n arms (last_arm (row_block n last_part)))
 
   -- arms in front of others
   pub row_arms : (n : ℕ) → {k : _} → Row_of-Arm k → Arms → Arms
   row_arms n end_of-Arm others = others
-  row_arms n (more_of-Arm constants m block rest) others = program.Arm constants.items (row_block n block) (row_arms n rest others)
+  row_arms n (more_of-Arm constants m block rest) others = program.and_arm constants.items (row_block n block) (row_arms n rest others)
 
   pub row_block : (n : ℕ) → {k : _} → Row_of-Command k → Block
-  row_block n end_of-Command = End
-  row_block n (more_of-Command c rest) = Then (command_of n c) (row_block n rest)
+  row_block n end_of-Command = end_block
+  row_block n (more_of-Command c rest) = command_then (command_of n c) (row_block n rest)
 
 unfoldable pub block_of : (n : ℕ) → List Command → Block
-block_of n [] = End
-block_of n (c ∷ cs) = Then (command_of n c) (block_of n cs)
+block_of n [] = end_block
+block_of n (c ∷ cs) = command_then (command_of n c) (block_of n cs)
 
 -- the constants of an arm, and its commands
 
@@ -89,19 +89,19 @@ arm_block n arm = block_of n arm.block.items
 
 unfoldable pub arms_before : (n : ℕ) → List Arm → Arms → Arms
 arms_before n [] others = others
-arms_before n (arm ∷ arms) others = program.Arm (constants_of arm) (arm_block n arm) (arms_before n arms others)
+arms_before n (arm ∷ arms) others = program.and_arm (constants_of arm) (arm_block n arm) (arms_before n arms others)
 
 unfoldable mutual
   pub state_of : (n : ℕ) → State → program.State
-  state_of n (State' x body k children) = program.Node x (block_of n body.items) (row_group n children)
+  state_of n (State' x body k children) = program.state_node x (block_of n body.items) (row_group n children)
 
   pub row_group : (n : ℕ) → {k : _} → Row_of-State k → Group
-  row_group n end_of-State = None
-  row_group n (more_of-State s rest) = More (state_of n s) (row_group n rest)
+  row_group n end_of-State = no_node
+  row_group n (more_of-State s rest) = and_node (state_of n s) (row_group n rest)
 
 unfoldable pub group_of : (n : ℕ) → List State → Group
-group_of n [] = None
-group_of n (s ∷ ss) = More (state_of n s) (group_of n ss)
+group_of n [] = no_node
+group_of n (s ∷ ss) = and_node (state_of n s) (group_of n ss)
 
 -- where a body stands
 abbrev pub spot_of : (n : ℕ) → Spot → checks.Spot
@@ -109,13 +109,13 @@ spot_of n at = record { state = at.state; parent = at.parent; children = group_o
 
 -- one block behind another
 abbrev pub followed : Block → Block → Block
-followed End b = b
-followed (Then c cs) b = Then c (followed cs b)
+followed end_block b = b
+followed (command_then c cs) b = command_then c (followed cs b)
 
 -- one group behind another
 abbrev pub joined : Group → Group → Group
-joined None g = g
-joined (More s rest) g = More s (joined rest g)
+joined no_node g = g
+joined (and_node s rest) g = and_node s (joined rest g)
 
 -- how many entities there are
 abbrev pub count : Program → ℕ

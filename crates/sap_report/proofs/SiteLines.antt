@@ -4,7 +4,7 @@ use Rattle.std.specs.Prelude.{Option, Some, None, map, slice_get, unwrap_or, opt
 use Rattle.std.specs.Str.{bytes_eq}
 use Rattle.std.proofs.lemmas.List.{length-append, map-append}
 use Rattle.sap_lemmas.proofs.Lists.{after_part, drop_past}
-use Rattle.sap_tree.specs.Syntax.{SimpleCommand, Command, Do, Try, If, TryThen, Case, Arms, Last, Arm, CommandBlock, Commands, ElseBlock, NoElse, Else, CommandList, NoCommand, AndCommand, StateTree, StateOf, StateList, NoState, AndState, DesignTree}
+use Rattle.sap_tree.specs.Syntax.{SimpleCommand, Command, lone, try, if_else, try_then, case_of, Arms, last_arm, and_arm, CommandBlock, command_block, ElseBlock, no_else, with_else, CommandList, no_command, and_command, StateTree, state_node, StateList, no_state, and_state, DesignTree}
 use Rattle.sap_names.specs.declared.entity.Entity.{Entity}
 use Rattle.sap_names.specs.Entities.{entities_of, declared_in, group_entities, number_of}
 use Rattle.sap_shape.specs.Sites.{is_site, Surroundings, CheckSite, simple_sites, command_sites, block_sites, else_sites, arms_sites, list_sites, state_sites, states_sites}
@@ -89,53 +89,53 @@ module _ (h : Surroundings) (p : 0 < length h.entities) where
     unfolding Small
 
     command-small : (c : Command) → Small (length h.entities) (map site_of (command_sites h c))
-    command-small (Do k) = simple-small k
-    command-small (Try k place handler) = small-parts (length h.entities) (simple_sites h k) (block_sites h handler) (simple-small k) (block-small handler)
-    command-small (If place condition one other) = small-parts (length h.entities) (block_sites h one) (else_sites h other) (block-small one) (else-small other)
-    command-small (TryThen k place accepted refused) =
+    command-small (lone k) = simple-small k
+    command-small (try k place handler) = small-parts (length h.entities) (simple_sites h k) (block_sites h handler) (simple-small k) (block-small handler)
+    command-small (if_else place condition one other) = small-parts (length h.entities) (block_sites h one) (else_sites h other) (block-small one) (else-small other)
+    command-small (try_then k place accepted refused) =
         small-parts (length h.entities) (simple_sites h k) (block_sites h accepted ++ block_sites h refused) (simple-small k)
         (small-parts (length h.entities) (block_sites h accepted) (block_sites h refused) (block-small accepted) (block-small refused))
-    command-small (Case place e arms) = arms-small arms
+    command-small (case_of place e arms) = arms-small arms
 
     arms-small : (arms : Arms) → Small (length h.entities) (map site_of (arms_sites h arms))
-    arms-small (Last b) = block-small b
-    arms-small (Arm constants b arms) = small-parts (length h.entities) (block_sites h b) (arms_sites h arms) (block-small b) (arms-small arms)
+    arms-small (last_arm b) = block-small b
+    arms-small (and_arm constants b arms) = small-parts (length h.entities) (block_sites h b) (arms_sites h arms) (block-small b) (arms-small arms)
 
     block-small : (b : CommandBlock) → Small (length h.entities) (map site_of (block_sites h b))
-    block-small (Commands cs after) = list-small cs
+    block-small (command_block cs after) = list-small cs
 
     else-small : (b : ElseBlock) → Small (length h.entities) (map site_of (else_sites h b))
-    else-small NoElse = tt
-    else-small (Else b) = block-small b
+    else-small no_else = tt
+    else-small (with_else b) = block-small b
 
     list-small : (cs : CommandList) → Small (length h.entities) (map site_of (list_sites h cs))
-    list-small NoCommand = tt
-    list-small (AndCommand c cs) = small-parts (length h.entities) (command_sites h c) (list_sites h cs) (command-small c) (list-small cs)
+    list-small no_command = tt
+    list-small (and_command c cs) = small-parts (length h.entities) (command_sites h c) (list_sites h cs) (command-small c) (list-small cs)
 
 module _ (es : List Entity) (p : 0 < length es) where
   mutual
     unfolding Small
 
     state-small : (s : StateTree) → Small (length es) (map site_of (state_sites es s))
-    state-small (StateOf place name kind body children) =
+    state-small (state_node place name kind body children) =
         let h : Surroundings = record { entities = es; home = record { name = name.name; kind = kind; children = children } } in
         small-parts (length es) (block_sites h body) (states_sites es children) (block-small h p body) (states-small children)
 
     states-small : (ss : StateList) → Small (length es) (map site_of (states_sites es ss))
-    states-small NoState = tt
-    states-small (AndState s ss) = small-parts (length es) (state_sites es s) (states_sites es ss) (state-small s) (states-small ss)
+    states-small no_state = tt
+    states-small (and_state s ss) = small-parts (length es) (state_sites es s) (states_sites es ss) (state-small s) (states-small ss)
 
 -- a design with a state has an entity
-some-entity : (s : StateTree) (ss : StateList) (es : List Entity) → 0 < length (es ++ group_entities (AndState s ss))
-some-entity (StateOf place name kind body children) ss es =
-    let n = length-append es (group_entities (AndState (StateOf place name kind body children) ss)) in omega (arith, n)
+some-entity : (s : StateTree) (ss : StateList) (es : List Entity) → 0 < length (es ++ group_entities (and_state s ss))
+some-entity (state_node place name kind body children) ss es =
+    let n = length-append es (group_entities (and_state (state_node place name kind body children) ss)) in omega (arith, n)
 
 all-small : (d : DesignTree) (ss : StateList) → d.states ≡ ss → Small (length (entities_of d)) (map site_of (states_sites (entities_of d) ss))
 unfolding Small
-all-small d NoState e = tt
-all-small d (AndState s ss) e =
+all-small d no_state e = tt
+all-small d (and_state s ss) e =
     let some : 0 < length (entities_of d) = subst (λ (g : StateList). 0 < length (declared_in d.declarations ++ group_entities g)) (sym e) (some-entity s ss (declared_in d.declarations)) in
-    states-small (entities_of d) some (AndState s ss)
+    states-small (entities_of d) some (and_state s ss)
 
 pub site-within : (d : DesignTree) (k : ℕ) (s : Site) → slice_get (sites_of d) k ≡ Some s → s.entity < length (entities_of d)
 site-within d k s h = small-at (length (entities_of d)) (sites_of d) k s (all-small d d.states refl) h

@@ -6,7 +6,7 @@ use Rattle.sap_tree.specs.Making.{on, spot, mention, numeral_at}
 use Rattle.sap_tree.specs.declared.syntax.Kind.TheVariants.{Dynamic, Enforced}
 use Rattle.sap_tree.specs.declared.syntax.Decl.TheVariants.{Input, Register}
 use Rattle.sap_tree.specs.declared.syntax.BinaryOperator.TheVariants as operator
-use Rattle.sap_tree.specs.Syntax.{Number, Read, Binary, Assign, Goto, Command, Do, If, Commands, NoElse, NoCommand, AndCommand, StateOf, NoState, AndState, DesignTree}
+use Rattle.sap_tree.specs.Syntax.{literal, variable, binary_of, assign, go_to, Command, lone, if_else, command_block, no_else, no_command, and_command, state_node, no_state, and_state, DesignTree}
 use Rattle.sap_tree.specs.declared.version.Version.TheVariants.{One}
 use Rattle.sap_report.specs.Report.{report_text}
 
@@ -20,8 +20,8 @@ four_levels = record {
 -- if (a == 1) { x := 1; }
 abbrev pub choosing : Command
 choosing =
-    If (on 4 3) (Binary (record { first = on 4 7; at = on 4 9 }) operator.Eq (Read (spot (on 4 7)) (codes "a")) (Number (spot (on 4 12)) 1))
-    (Commands (AndCommand (Do (Assign (mention (on 4 17) (codes "x")) (Number (spot (on 4 22)) 1))) NoCommand) (on 4 25)) NoElse
+    if_else (on 4 3) (binary_of (record { first = on 4 7; at = on 4 9 }) operator.Eq (variable (spot (on 4 7)) (codes "a")) (literal (spot (on 4 12)) 1))
+    (command_block (and_command (lone (assign (mention (on 4 17) (codes "x")) (literal (spot (on 4 22)) 1))) no_command) (on 4 25)) no_else
 
 -- On six lines: input a : 8; reg x : 8 dynamic; state S enforced low { if (a == 1) { x := 1; } goto S; }
 abbrev pub assigns_under_if : DesignTree
@@ -29,8 +29,8 @@ assigns_under_if = record {
   version = One;
   declarations = Input (on 1 1) (mention (on 1 7) (codes "a")) (numeral_at (on 1 11) 8)
       ∷ Register (on 2 1) (mention (on 2 5) (codes "x")) (numeral_at (on 2 9) 8) (Dynamic (on 2 11)) None ∷ [];
-  states = AndState (StateOf (on 3 1) (mention (on 3 7) (codes "S")) (Enforced (mention (on 3 18) (codes "low")) None)
-      (Commands (AndCommand choosing (AndCommand (Do (Goto (on 5 3) (mention (on 5 8) (codes "S")))) NoCommand)) (on 6 1)) NoState) NoState;
+  states = and_state (state_node (on 3 1) (mention (on 3 7) (codes "S")) (Enforced (mention (on 3 18) (codes "low")) None)
+      (command_block (and_command choosing (and_command (lone (go_to (on 5 3) (mention (on 5 8) (codes "S")))) no_command)) (on 6 1)) no_state) no_state;
 }
 
 abbrev pub OnePoint : Type 0
@@ -51,8 +51,8 @@ abbrev pub staying : DesignTree
 staying = record {
   version = One;
   declarations = [];
-  states = AndState (StateOf (on 1 1) (mention (on 1 7) (codes "S")) (Enforced (mention (on 1 18) (codes "bot")) None)
-      (Commands (AndCommand (Do (Goto (on 1 24) (mention (on 1 29) (codes "S")))) NoCommand) (on 1 32)) NoState) NoState;
+  states = and_state (state_node (on 1 1) (mention (on 1 7) (codes "S")) (Enforced (mention (on 1 18) (codes "bot")) None)
+      (command_block (and_command (lone (go_to (on 1 24) (mention (on 1 29) (codes "S")))) no_command) (on 1 32)) no_state) no_state;
 }
 
 abbrev pub FiveLevels : Type 0

@@ -5,7 +5,7 @@ use Rattle.sap_tree.specs.declared.syntax.Kind.{Kind}
 use Rattle.sap_tree.specs.declared.syntax.Kind.TheVariants.{Dynamic, Enforced}
 use Rattle.sap_tree.specs.declared.syntax.Decl.{Decl}
 use Rattle.sap_tree.specs.declared.syntax.Decl.TheVariants as decl
-use Rattle.sap_tree.specs.Syntax.{StateTree, StateOf, StateList, NoState, AndState, DesignTree}
+use Rattle.sap_tree.specs.Syntax.{StateTree, state_node, StateList, no_state, and_state, DesignTree}
 use Rattle.sap_lattice.specs.Levels.{Levels}
 use Rattle.sap_names.specs.declared.kind.Declared.{Declared}
 use Rattle.sap_names.specs.declared.kind.Declared.TheVariants.{Input, Register, Memory, State}
@@ -63,12 +63,12 @@ all_declared_match ls (d ∷ ds) = (declared_match ls d, all_declared_match ls d
 
 mutual
   pub state_match : (ls : Levels) (n x : ℕ) (s : StateTree) → AllMatch (tree.state_entities s) (world.state_entities ls n x s)
-  state_match ls n x (StateOf place name kind body children) =
+  state_match ls n x (state_node place name kind body children) =
       (record { what = (refl, refl); dynamic = same_dynamic kind }, group_match ls 0 (x + 1) children)
 
   pub group_match : (ls : Levels) (n x : ℕ) (g : StateList) → AllMatch (tree.group_entities g) (world.group_entities ls n x g)
-  group_match ls n x NoState = tt
-  group_match ls n x (AndState s rest) =
+  group_match ls n x no_state = tt
+  group_match ls n x (and_state s rest) =
       match_append (tree.state_entities s) (tree.group_entities rest) (world.state_entities ls n x s)
       (world.group_entities ls (n + 1) (x + world.states_in s) rest) (state_match ls n x s)
       (group_match ls (n + 1) (x + world.states_in s) rest)

@@ -5,12 +5,12 @@ use Rattle.sap_tree.specs.Making.{at, spot, mention, numeral_at}
 use Rattle.sap_tree.specs.declared.syntax.Kind.TheVariants.{Dynamic, Enforced}
 use Rattle.sap_tree.specs.declared.syntax.Decl.TheVariants.{Input, Register}
 use Rattle.sap_tree.specs.declared.syntax.BinaryOperator.TheVariants as operator
-use Rattle.sap_tree.specs.Syntax.{Number, Read, Binary, Commands, NoCommand, AndCommand, StateOf, NoState, AndState, DesignTree}
+use Rattle.sap_tree.specs.Syntax.{literal, variable, binary_of, command_block, no_command, and_command, state_node, no_state, and_state, DesignTree}
 use Rattle.sap_tree.specs.Syntax as tree
 use Rattle.sap_tree.specs.declared.version.Version.TheVariants.{One}
 use Rattle.sap_lattice.specs.Examples.{low_high}
 use Rattle.sap_maps.specs.Term as term
-use Rattle.sap_meaning.specs.Program.{Entity, None as NoGroup, More, Node, Then, End, Do, Set, Goto}
+use Rattle.sap_meaning.specs.Program.{Entity, no_node as NoGroup, and_node, state_node, command_then, end_block, lone, assign, go_to}
 use Rattle.sap_meaning.specs.Program as program
 use Rattle.sap_resolve.specs.Fill.{program_of}
 
@@ -20,11 +20,11 @@ adder = record {
   version = One;
   declarations = Input (at 1) (mention (at 7) (codes "a")) (numeral_at (at 11) 8)
       ∷ Register (at 14) (mention (at 18) (codes "x")) (numeral_at (at 22) 8) (Dynamic (at 24)) None ∷ [];
-  states = AndState (StateOf (at 33) (mention (at 39) (codes "S")) (Enforced (mention (at 50) (codes "high")) None)
-      (Commands
-      (AndCommand (tree.Do (tree.Assign (mention (at 57) (codes "x")) (Binary (spot (at 64)) operator.Add (Read (spot (at 62)) (codes "a")) (Number (spot (at 66)) 1))))
-      (AndCommand (tree.Do (tree.Goto (at 69) (mention (at 74) (codes "S")))) NoCommand))
-      (at 77)) NoState) NoState;
+  states = and_state (state_node (at 33) (mention (at 39) (codes "S")) (Enforced (mention (at 50) (codes "high")) None)
+      (command_block
+      (and_command (tree.lone (tree.assign (mention (at 57) (codes "x")) (binary_of (spot (at 64)) operator.Add (variable (spot (at 62)) (codes "a")) (literal (spot (at 66)) 1))))
+      (and_command (tree.lone (tree.go_to (at 69) (mention (at 74) (codes "S")))) no_command))
+      (at 77)) no_state) no_state;
 }
 
 abbrev pub entity : program.Kind → (width : ℕ) → Bool → (declared : ℕ) → Entity
@@ -38,8 +38,8 @@ Entities = (program_of low_high adder).world.entities
 -- its states: the assignment is no check site, and the goto is site 1
 abbrev pub States : Type 0
 States = (program_of low_high adder).states
-    ≡ More (Node 2
-    (Then (Do (Set 0 1 (term.two two.Add (term.read 0) (term.constant 8 1)))) (Then (Do (Goto 1 2)) End)) NoGroup) NoGroup
+    ≡ and_node (state_node 2
+    (command_then (lone (assign 0 1 (term.two two.Add (term.read 0) (term.constant 8 1)))) (command_then (lone (go_to 1 2)) end_block)) NoGroup) NoGroup
 
 -- what hangs on the root's fall: the register
 abbrev pub Hangs : Type 0

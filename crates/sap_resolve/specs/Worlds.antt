@@ -7,7 +7,7 @@ use Rattle.sap_tree.specs.declared.syntax.Kind.{Kind}
 use Rattle.sap_tree.specs.declared.syntax.Kind.TheVariants.{Dynamic, Enforced}
 use Rattle.sap_tree.specs.declared.syntax.Decl.{Decl}
 use Rattle.sap_tree.specs.declared.syntax.Decl.TheVariants.{Input, Register, Memory}
-use Rattle.sap_tree.specs.Syntax.{StateTree, StateOf, StateList, NoState, AndState, DesignTree}
+use Rattle.sap_tree.specs.Syntax.{StateTree, state_node, StateList, no_state, and_state, DesignTree}
 pub use Rattle.sap_tree.specs.Touches.{is_dynamic_kind}
 use Rattle.sap_lattice.specs.Levels.{Levels, order_of}
 use Rattle.sap_meaning.specs.Program.{World, Entity}
@@ -72,21 +72,21 @@ all_declared ls (d ∷ ds) = declared ls d ∷ all_declared ls ds
 -- how many states there are in a state, itself included, and in a group
 abbrev mutual
   pub states_in : StateTree → ℕ
-  states_in (StateOf place name kind body children) = 1 + states_below children
+  states_in (state_node place name kind body children) = 1 + states_below children
 
   pub states_below : StateList → ℕ
-  states_below NoState = 0
-  states_below (AndState s rest) = states_in s + states_below rest
+  states_below no_state = 0
+  states_below (and_state s rest) = states_in s + states_below rest
 
 -- the length of a group
 abbrev pub group_length : StateList → ℕ
-group_length NoState = 0
-group_length (AndState s rest) = 1 + group_length rest
+group_length no_state = 0
+group_length (and_state s rest) = 1 + group_length rest
 
 -- The states of a group, the first of them with this place in the group and this number; a state stands before its children.
 abbrev mutual
   pub state_entities : Levels → (place number : ℕ) → StateTree → List Entity
-  state_entities ls n x (StateOf place name kind body children) =
+  state_entities ls n x (state_node place name kind body children) =
       let e : Entity = record {
         kind = program.state n (x + states_below children);
         width = 0;
@@ -98,17 +98,17 @@ abbrev mutual
       e ∷ group_entities ls 0 (x + 1) children
 
   pub group_entities : Levels → (place number : ℕ) → StateList → List Entity
-  group_entities ls n x NoState = []
-  group_entities ls n x (AndState s rest) = state_entities ls n x s ++ group_entities ls (n + 1) (x + states_in s) rest
+  group_entities ls n x no_state = []
+  group_entities ls n x (and_state s rest) = state_entities ls n x s ++ group_entities ls (n + 1) (x + states_in s) rest
 
 -- the number of children of each state, in the order of the text
 abbrev mutual
   pub state_children : StateTree → List ℕ
-  state_children (StateOf place name kind body children) = group_length children ∷ group_children children
+  state_children (state_node place name kind body children) = group_length children ∷ group_children children
 
   pub group_children : StateList → List ℕ
-  group_children NoState = []
-  group_children (AndState s rest) = state_children s ++ group_children rest
+  group_children no_state = []
+  group_children (and_state s rest) = state_children s ++ group_children rest
 
 abbrev pub no_children : List Decl → List ℕ
 no_children [] = []

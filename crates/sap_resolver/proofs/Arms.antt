@@ -7,7 +7,7 @@ use Rattle.sap_tree.specs.declared.syntax.Cmd.{Cmd}
 use Rattle.sap_tree.specs.declared.syntax.Expr.{Expr}
 use Rattle.sap_tree.specs.Trees as trees
 use Rattle.sap_lattice.specs.Levels.{Levels}
-use Rattle.sap_meaning.specs.Program.{Arms, Last, End}
+use Rattle.sap_meaning.specs.Program.{Arms, last_arm, end_block}
 use Rattle.sap_meaning.specs.Program as program
 use Rattle.sap_resolve.specs.Resolve as resolve
 use Rattle.sap_shape.specs.Lists as shape_lists
@@ -49,11 +49,11 @@ numbers_end es n made all l e =
 module _ (ls : Levels) (h : Surroundings) where
   arms_from-more : (k : ℕ) (d : ArmTree) (rest : List ArmTree) (last : program.Block)
       → arms_from ls h k (d ∷ rest) last
-      ≡ program.Arm (resolve.numbers_of (trees.constants_of d)) (resolve.block_of ls h k (trees.arm_block_of d)) (arms_from ls h (k + length (sites.block_sites h (trees.arm_block_of d))) rest last)
+      ≡ program.and_arm (resolve.numbers_of (trees.constants_of d)) (resolve.block_of ls h k (trees.arm_block_of d)) (arms_from ls h (k + length (sites.block_sites h (trees.arm_block_of d))) rest last)
   unfolding arms_from
   arms_from-more k d rest last = refl
 
-  arms_from-none : (k : ℕ) (last : program.Block) → arms_from ls h k [] last ≡ Last last
+  arms_from-none : (k : ℕ) (last : program.Block) → arms_from ls h k [] last ≡ last_arm last
   unfolding arms_from
   arms_from-none k last = refl
 
@@ -76,12 +76,12 @@ module _ (ls : Levels) (h : Surroundings) where
     module _ (arms : List ArmTree) (n k : ℕ) (l : n < length arms) (e : d ≡ get_or arms n d) where
       arms_drop : (j : ℕ) (last : program.Block) → j ≡ k + list_site_count h seen
           → arms_from ls h k (drop n arms) last
-          ≡ program.Arm (resolve.numbers_of (trees.constants_of d)) (resolve.block_of ls h k (trees.arm_block_of d)) (arms_from ls h j (drop (n + 1) arms) last)
+          ≡ program.and_arm (resolve.numbers_of (trees.constants_of d)) (resolve.block_of ls h k (trees.arm_block_of d)) (arms_from ls h j (drop (n + 1) arms) last)
       arms_drop j last q =
           let here = resolve.block_of ls h k (trees.arm_block_of d) in
           let to : k + length (sites.block_sites h (trees.arm_block_of d)) ≡ j = ap (λ (i : ℕ). k + i) (sym arm_sites) ∙ sym q in
           ap (λ (l : List ArmTree). arms_from ls h k l last) (item_drop arms n d l e) ∙ arms_from-more k d (drop (n + 1) arms) last
-          ∙ ap (λ (i : ℕ). program.Arm (resolve.numbers_of (trees.constants_of d)) here (arms_from ls h i (drop (n + 1) arms) last)) to
+          ∙ ap (λ (i : ℕ). program.and_arm (resolve.numbers_of (trees.constants_of d)) here (arms_from ls h i (drop (n + 1) arms) last)) to
 
       -- one arm more is made
       pub arms_step : (m : ℕ) (r : Rows) (es : List Expr) (j p u : ℕ) (old new : List Arm) (it : Arm) → es ≡ d.constants.items → new ≡ old ++ it ∷ []
@@ -97,20 +97,20 @@ module _ (ls : Levels) (h : Surroundings) where
           let point : u ≡ p + block_points here = w ∙ ap (λ (b : program.Block). p + block_points b) (arm_block k) in
           ap (λ (a : List Arm). views.arms_before m a (arms_with r u rest)) g
           ∙ before-push m old it (arms_with r u rest)
-          ∙ ap (λ (l : List ℕ). views.arms_before m old (program.Arm l (views.block_of m it.block.items) (arms_with r u rest))) ns
-          ∙ ap (λ (b : program.Block). views.arms_before m old (program.Arm numbers b (arms_with r u rest))) block
-          ∙ ap (λ (i : ℕ). views.arms_before m old (program.Arm numbers (block_with r p here) (arms_with r i rest))) point
+          ∙ ap (λ (l : List ℕ). views.arms_before m old (program.and_arm l (views.block_of m it.block.items) (arms_with r u rest))) ns
+          ∙ ap (λ (b : program.Block). views.arms_before m old (program.and_arm numbers b (arms_with r u rest))) block
+          ∙ ap (λ (i : ℕ). views.arms_before m old (program.and_arm numbers (block_with r p here) (arms_with r i rest))) point
           ∙ ap (λ (a : Arms). views.arms_before m old (arms_with r p a)) (sym (arms_drop j last q))
 
       pub arms_points_step : (j p u : ℕ) → j ≡ k + list_site_count h seen → u ≡ p + block_points (list_from ls h k seen)
-          → u + arms_points (arms_from ls h j (drop (n + 1) arms) End) ≡ p + arms_points (arms_from ls h k (drop n arms) End)
+          → u + arms_points (arms_from ls h j (drop (n + 1) arms) end_block) ≡ p + arms_points (arms_from ls h k (drop n arms) end_block)
       arms_points_step j p u q w =
-          (let a = ap (λ (x : Arms). arms_points x) (arms_drop j End q) in let b = ap (λ (x : program.Block). block_points x) (arm_block k) in omega (arith, a, b, w))
+          (let a = ap (λ (x : Arms). arms_points x) (arms_drop j end_block q) in let b = ap (λ (x : program.Block). block_points x) (arm_block k) in omega (arith, a, b, w))
 
       -- the points of one arm are among those that are left
-      pub arms_points_within : (p all limit : ℕ) → p + arms_points (arms_from ls h k (drop n arms) End) ≡ all → all < limit → p + block_points (list_from ls h k seen) < limit
+      pub arms_points_within : (p all limit : ℕ) → p + arms_points (arms_from ls h k (drop n arms) end_block) ≡ all → all < limit → p + block_points (list_from ls h k seen) < limit
       arms_points_within p all limit i f =
-          (let a = ap (λ (x : Arms). arms_points x) (arms_drop (k + list_site_count h seen) End refl) in
+          (let a = ap (λ (x : Arms). arms_points x) (arms_drop (k + list_site_count h seen) end_block refl) in
           let b = ap (λ (x : program.Block). block_points x) (arm_block k) in omega (arith, a, b, i, f))
 
       arms_sites_drop : arms_site_count h (drop n arms) ≡ list_site_count h seen + arms_site_count h (drop (n + 1) arms)
@@ -124,16 +124,16 @@ module _ (ls : Levels) (h : Surroundings) where
       arms_sites_within all limit i f = (let a = arms_sites_drop in omega (arith, a, i, f))
 
   pub arms_end : (m : ℕ) (r : Rows) (arms : List ArmTree) (n k p : ℕ) (made : List Arm) (last : program.Block) (all : Arms) → length arms ≤ n
-      → views.arms_before m made (arms_with r p (arms_from ls h k (drop n arms) last)) ≡ all → views.arms_before m made (Last (block_with r p last)) ≡ all
+      → views.arms_before m made (arms_with r p (arms_from ls h k (drop n arms) last)) ≡ all → views.arms_before m made (last_arm (block_with r p last)) ≡ all
   arms_end m r arms n k p made last all l e =
       ap (λ (a : Arms). views.arms_before m made (arms_with r p a))
       (sym (ap (λ (x : List ArmTree). arms_from ls h k x last) (drop_past arms n l) ∙ arms_from-none k last))
       ∙ e
 
-  pub arms_points_end : (arms : List ArmTree) (n k p all : ℕ) → length arms ≤ n → p + arms_points (arms_from ls h k (drop n arms) End) ≡ all → p ≡ all
+  pub arms_points_end : (arms : List ArmTree) (n k p all : ℕ) → length arms ≤ n → p + arms_points (arms_from ls h k (drop n arms) end_block) ≡ all → p ≡ all
   arms_points_end arms n k p all l e =
-      (let z : arms_points (arms_from ls h k (drop n arms) End) ≡ 0 =
-      ap (λ (a : Arms). arms_points a) (ap (λ (x : List ArmTree). arms_from ls h k x End) (drop_past arms n l) ∙ arms_from-none k End) in omega (arith, z, e))
+      (let z : arms_points (arms_from ls h k (drop n arms) end_block) ≡ 0 =
+      ap (λ (a : Arms). arms_points a) (ap (λ (x : List ArmTree). arms_from ls h k x end_block) (drop_past arms n l) ∙ arms_from-none k end_block) in omega (arith, z, e))
 
   pub arms_sites_end : (arms : List ArmTree) (n k all : ℕ) → length arms ≤ n → k + arms_site_count h (drop n arms) ≡ all → k ≡ all
   arms_sites_end arms n k all l e = (let z : arms_site_count h (drop n arms) ≡ 0 = ap (arms_site_count h) (drop_past arms n l) ∙ arms_site_count-none in omega (arith, z, e))
@@ -152,15 +152,15 @@ module _ (ls : Levels) (h : Surroundings) where
   pub arms_from-of : (k : ℕ) (arms : List ArmTree) (last : Block)
       → resolve.arms_of ls h k (trees.arms_of arms (trees.block_of last)) ≡ arms_from ls h k arms (list_from ls h (k + arms_site_count h arms) last.commands.items)
   unfolding arms_from arms_site_count list_from shape_lists.arms_sites
-  arms_from-of k [] last = (let z : k ≡ k + 0 = omega arith in ap (λ (n : ℕ). Last (resolve.list_of ls h n (trees.commands_of last.commands.items))) z)
+  arms_from-of k [] last = (let z : k ≡ k + 0 = omega arith in ap (λ (n : ℕ). last_arm (resolve.list_of ls h n (trees.commands_of last.commands.items))) z)
   arms_from-of k (arm ∷ arms) last =
       let j = k + length (sites.block_sites h (trees.arm_block_of arm)) in
       let to : j + arms_site_count h arms ≡ k + arms_site_count h (arm ∷ arms) =
       (let a = length-append (sites.block_sites h (trees.arm_block_of arm)) (shape_lists.arms_sites h arms) in omega (arith, a)) in
-      ap (λ (a : Arms). program.Arm (resolve.numbers_of (trees.constants_of arm)) (resolve.block_of ls h k (trees.arm_block_of arm)) a)
+      ap (λ (a : Arms). program.and_arm (resolve.numbers_of (trees.constants_of arm)) (resolve.block_of ls h k (trees.arm_block_of arm)) a)
       (arms_from-of j arms last ∙ ap (λ (n : ℕ). arms_from ls h j arms (resolve.list_of ls h n (trees.commands_of last.commands.items))) to)
 
-  pub arms_points-from : (k : ℕ) (arms : List ArmTree) (last : program.Block) → arms_points (arms_from ls h k arms last) ≡ arms_points (arms_from ls h k arms End) + block_points last
+  pub arms_points-from : (k : ℕ) (arms : List ArmTree) (last : program.Block) → arms_points (arms_from ls h k arms last) ≡ arms_points (arms_from ls h k arms end_block) + block_points last
   unfolding arms_from
   arms_points-from k [] last = omega arith
   arms_points-from k (arm ∷ arms) last = (let r = arms_points-from (k + length (sites.block_sites h (trees.arm_block_of arm))) arms last in omega (arith, r))

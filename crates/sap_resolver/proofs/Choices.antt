@@ -12,7 +12,7 @@ use Rattle.sap_shape.specs.Sites as sites
 use Rattle.sap_shape.specs.Sites.{Surroundings}
 use Rattle.sap_resolve.specs.Terms.{term_of}
 use Rattle.sap_maps.specs.Term.{Term}
-use Rattle.sap_meaning.specs.Program.{Arms, Block as Block', End}
+use Rattle.sap_meaning.specs.Program.{Arms, Block as Block', end_block}
 use Rattle.sap_meaning.specs.Program as program
 use Rattle.sap_resolver.specs.Lists.{list_from, list_site_count, arms_from, arms_site_count}
 use Rattle.sap_resolver.specs.Rows.{Rows, step_points, block_points, arms_points, command_points, step_with, block_with, arms_with, command_with}
@@ -21,17 +21,17 @@ use Rattle.sap_resolver.proofs.Arms.{arms_site_count-of, arms_from-of, arms_poin
 -- how many sites a command has, by its parts
 module _ (h : Surroundings) where
   try_count : (s : tree.SimpleCommand) (place : Place) (b : Block)
-      → length (sites.command_sites h (tree.Try s place (trees.block_of b))) ≡ length (sites.simple_sites h s) + list_site_count h b.commands.items
+      → length (sites.command_sites h (tree.try s place (trees.block_of b))) ≡ length (sites.simple_sites h s) + list_site_count h b.commands.items
   unfolding list_site_count
   try_count s place b = length-append (sites.simple_sites h s) (sites.block_sites h (trees.block_of b))
 
   if_count : (place : Place) (x : tree.Expression) (one : Block) (other : tree.ElseBlock)
-      → length (sites.command_sites h (tree.If place x (trees.block_of one) other)) ≡ list_site_count h one.commands.items + length (sites.else_sites h other)
+      → length (sites.command_sites h (tree.if_else place x (trees.block_of one) other)) ≡ list_site_count h one.commands.items + length (sites.else_sites h other)
   unfolding list_site_count
   if_count place x one other = length-append (sites.block_sites h (trees.block_of one)) (sites.else_sites h other)
 
   then_count : (s : tree.SimpleCommand) (place : Place) (a b : Block)
-      → length (sites.command_sites h (tree.TryThen s place (trees.block_of a) (trees.block_of b)))
+      → length (sites.command_sites h (tree.try_then s place (trees.block_of a) (trees.block_of b)))
       ≡ length (sites.simple_sites h s) + (list_site_count h a.commands.items + list_site_count h b.commands.items)
   unfolding list_site_count
   then_count s place a b =
@@ -41,7 +41,7 @@ module _ (h : Surroundings) where
 module _ (ls : Levels) (h : Surroundings) (k p limit : ℕ) (t : tree.Command) (few_sites : k + length (sites.command_sites h t) < limit)
     (few_points : p + command_points (resolve.command_of ls h k t) < limit) where
   -- a command with a handler: the command itself, the `otherwise` and the handler
-  module _ (s : tree.SimpleCommand) (place : Place) (b : Block) (is : t ≡ tree.Try s place (trees.block_of b)) where
+  module _ (s : tree.SimpleCommand) (place : Place) (b : Block) (is : t ≡ tree.try s place (trees.block_of b)) where
     pub try_sites : (seen : List Cmd) (j : ℕ) → seen ≡ b.commands.items → j ≡ k + length (sites.simple_sites h s) → j + list_site_count h seen < limit
     unfolding list_site_count
     try_sites seen j same g =
@@ -57,7 +57,7 @@ module _ (ls : Levels) (h : Surroundings) (k p limit : ℕ) (t : tree.Command) (
         omega (arith, e, a, f, u, v, few_points))
 
   -- an `if` with its two blocks
-  module _ (place : Place) (x : tree.Expression) (one : Block) (other : tree.ElseBlock) (is : t ≡ tree.If place x (trees.block_of one) other) where
+  module _ (place : Place) (x : tree.Expression) (one : Block) (other : tree.ElseBlock) (is : t ≡ tree.if_else place x (trees.block_of one) other) where
     pub if_sites : (seen : List Cmd) → seen ≡ one.commands.items → k + list_site_count h seen < limit
     unfolding list_site_count
     if_sites seen same =
@@ -84,7 +84,7 @@ module _ (ls : Levels) (h : Surroundings) (k p limit : ℕ) (t : tree.Command) (
         omega (arith, e, f, i, u, v, few_points))
 
   -- a command with what follows it where it is accepted and where it is refused
-  module _ (s : tree.SimpleCommand) (place : Place) (a b : Block) (is : t ≡ tree.TryThen s place (trees.block_of a) (trees.block_of b)) where
+  module _ (s : tree.SimpleCommand) (place : Place) (a b : Block) (is : t ≡ tree.try_then s place (trees.block_of a) (trees.block_of b)) where
     pub accepted_sites : (seen : List Cmd) (j : ℕ) → seen ≡ a.commands.items → j ≡ k + length (sites.simple_sites h s) → j + list_site_count h seen < limit
     unfolding list_site_count
     accepted_sites seen j same g =
@@ -120,11 +120,11 @@ module _ (ls : Levels) (h : Surroundings) (k p limit : ℕ) (t : tree.Command) (
         omega (arith, e, d, m, o, y, z, v, few_points))
 
   -- a `case` with its arms and its last block
-  module _ (place : Place) (x : tree.Expression) (arms : List Arm) (last : Block) (is : t ≡ tree.Case place x (trees.arms_of arms (trees.block_of last))) where
+  module _ (place : Place) (x : tree.Expression) (arms : List Arm) (last : Block) (is : t ≡ tree.case_of place x (trees.arms_of arms (trees.block_of last))) where
     sites_in : k + (arms_site_count h arms + list_site_count h last.commands.items) < limit
     sites_in = (let e = ap (λ (c : tree.Command). k + length (sites.command_sites h c)) is in let f = arms_site_count-of ls h arms last in omega (arith, e, f, few_sites))
 
-    points_in : p + (1 + (arms_points (arms_from ls h k arms End) + block_points (list_from ls h (k + arms_site_count h arms) last.commands.items))) < limit
+    points_in : p + (1 + (arms_points (arms_from ls h k arms end_block) + block_points (list_from ls h (k + arms_site_count h arms) last.commands.items))) < limit
     points_in =
         (let e = ap (λ (c : tree.Command). p + command_points (resolve.command_of ls h k c)) is in
         let f = ap (λ (a : Arms). arms_points a) (arms_from-of ls h k arms last) in
@@ -133,34 +133,34 @@ module _ (ls : Levels) (h : Surroundings) (k p limit : ℕ) (t : tree.Command) (
     pub case_sites : (seen : List Arm) → seen ≡ arms → k + arms_site_count h seen < limit
     case_sites seen same = (let e = ap (arms_site_count h) same in let a = sites_in in omega (arith, e, a))
 
-    pub case_points : (seen : List Arm) (q : ℕ) → seen ≡ arms → q ≡ p + 1 → q + arms_points (arms_from ls h k seen End) < limit
-    case_points seen q same u = (let e = ap (λ (l : List Arm). arms_points (arms_from ls h k l End)) same in let a = points_in in omega (arith, e, a, u))
+    pub case_points : (seen : List Arm) (q : ℕ) → seen ≡ arms → q ≡ p + 1 → q + arms_points (arms_from ls h k seen end_block) < limit
+    case_points seen q same u = (let e = ap (λ (l : List Arm). arms_points (arms_from ls h k l end_block)) same in let a = points_in in omega (arith, e, a, u))
 
     pub last_sites : (seen : List Arm) (after : List Cmd) (j : ℕ) → seen ≡ arms → after ≡ last.commands.items → j ≡ k + arms_site_count h seen → j + list_site_count h after < limit
     last_sites seen after j same end g =
         (let e = ap (arms_site_count h) same in let f = ap (list_site_count h) end in let a = sites_in in omega (arith, e, f, g, a))
 
     pub last_points : (seen : List Arm) (after : List Cmd) (j q w : ℕ) → seen ≡ arms → after ≡ last.commands.items → j ≡ k + arms_site_count h seen → q ≡ p + 1
-        → w ≡ q + arms_points (arms_from ls h k seen End) → w + block_points (list_from ls h j after) < limit
+        → w ≡ q + arms_points (arms_from ls h k seen end_block) → w + block_points (list_from ls h j after) < limit
     last_points seen after j q w same end g u v =
-        (let e = ap (λ (l : List Arm). arms_points (arms_from ls h k l End)) same in
+        (let e = ap (λ (l : List Arm). arms_points (arms_from ls h k l end_block)) same in
         let f = ap (λ (l : List Cmd). block_points (list_from ls h j l)) end
         ∙ ap (λ (n : ℕ). block_points (list_from ls h n last.commands.items)) (g ∙ ap (λ (l : List Arm). k + arms_site_count h l) same) in
         let a = points_in in omega (arith, e, f, u, v, a))
 
 -- a `case` as it is made
 pub case_made : (ls : Levels) (h : Surroundings) (k p : ℕ) (r : Rows) (t : tree.Command) (place : Place) (x : tree.Expression) (arms : List Arm) (last : Block)
-    → t ≡ tree.Case place x (trees.arms_of arms (trees.block_of last)) → (seen : List Arm) (after : List Cmd) (j q w : ℕ) → seen ≡ arms → after ≡ last.commands.items
+    → t ≡ tree.case_of place x (trees.arms_of arms (trees.block_of last)) → (seen : List Arm) (after : List Cmd) (j q w : ℕ) → seen ≡ arms → after ≡ last.commands.items
     → j ≡ k + arms_site_count h seen → q ≡ p + 1 → (hang : List Bool) (e : Term ℕ) (made : Block' → Arms) (end : Block') → hang ≡ r p → e ≡ term_of h.entities x None
     → ((b : Block') → made (block_with r w b) ≡ arms_with r q (arms_from ls h k seen b)) → end ≡ block_with r w (list_from ls h j after)
-    → program.Case hang e (made end) ≡ command_with r p (resolve.command_of ls h k t)
+    → program.case_of hang e (made end) ≡ command_with r p (resolve.command_of ls h k t)
 case_made ls h k p r t place x arms last is seen after j q w same end' g u hang e made end a b c d =
     let tail = list_from ls h (k + arms_site_count h arms) last.commands.items in
     let f : list_from ls h j after ≡ tail =
     ap (list_from ls h j) end' ∙ ap (λ (n : ℕ). list_from ls h n last.commands.items) (g ∙ ap (λ (l : List Arm). k + arms_site_count h l) same) in
-    ap (λ (l : List Bool). program.Case l e (made end)) a
-    ∙ ap (λ (y : Term ℕ). program.Case (r p) y (made end)) b
-    ∙ ap (λ (m : Arms). program.Case (r p) (term_of h.entities x None) m)
+    ap (λ (l : List Bool). program.case_of l e (made end)) a
+    ∙ ap (λ (y : Term ℕ). program.case_of (r p) y (made end)) b
+    ∙ ap (λ (m : Arms). program.case_of (r p) (term_of h.entities x None) m)
     (ap made d ∙ c (list_from ls h j after) ∙ ap (λ (n : ℕ). arms_with r n (arms_from ls h k seen (list_from ls h j after))) u
     ∙ ap (λ (l : List Arm). arms_with r (p + 1) (arms_from ls h k l (list_from ls h j after))) same
     ∙ ap (λ (y : Block'). arms_with r (p + 1) (arms_from ls h k arms y)) f
@@ -169,7 +169,7 @@ case_made ls h k p r t place x arms last is seen after j q w same end' g u hang 
 
 -- how many sites and points a `case` has in all
 pub case_all_sites : (ls : Levels) (h : Surroundings) (k : ℕ) (t : tree.Command) (place : Place) (x : tree.Expression) (arms : List Arm) (last : Block)
-    → t ≡ tree.Case place x (trees.arms_of arms (trees.block_of last)) → (seen : List Arm) (after : List Cmd) (j i : ℕ) → seen ≡ arms → after ≡ last.commands.items
+    → t ≡ tree.case_of place x (trees.arms_of arms (trees.block_of last)) → (seen : List Arm) (after : List Cmd) (j i : ℕ) → seen ≡ arms → after ≡ last.commands.items
     → j ≡ k + arms_site_count h seen → i ≡ j + list_site_count h after → i ≡ k + length (sites.command_sites h t)
 case_all_sites ls h k t place x arms last is seen after j i same end g f =
     (let e = ap (λ (c : tree.Command). k + length (sites.command_sites h c)) is in
@@ -178,29 +178,29 @@ case_all_sites ls h k t place x arms last is seen after j i same end g f =
     let c = ap (list_site_count h) end in omega (arith, e, a, b, c, f, g))
 
 pub case_all_points : (ls : Levels) (h : Surroundings) (k p : ℕ) (t : tree.Command) (place : Place) (x : tree.Expression) (arms : List Arm) (last : Block)
-    → t ≡ tree.Case place x (trees.arms_of arms (trees.block_of last)) → (seen : List Arm) (after : List Cmd) (j q w u : ℕ) → seen ≡ arms → after ≡ last.commands.items
-    → j ≡ k + arms_site_count h seen → q ≡ p + 1 → w ≡ q + arms_points (arms_from ls h k seen End) → u ≡ w + block_points (list_from ls h j after)
+    → t ≡ tree.case_of place x (trees.arms_of arms (trees.block_of last)) → (seen : List Arm) (after : List Cmd) (j q w u : ℕ) → seen ≡ arms → after ≡ last.commands.items
+    → j ≡ k + arms_site_count h seen → q ≡ p + 1 → w ≡ q + arms_points (arms_from ls h k seen end_block) → u ≡ w + block_points (list_from ls h j after)
     → u ≡ p + command_points (resolve.command_of ls h k t)
 case_all_points ls h k p t place x arms last is seen after j q w u same end g i v z =
     (let e = ap (λ (c : tree.Command). p + command_points (resolve.command_of ls h k c)) is in
     let a = ap (λ (m : Arms). arms_points m) (arms_from-of ls h k arms last) in
     let b = arms_points-from ls h k arms (list_from ls h (k + arms_site_count h arms) last.commands.items) in
-    let c = ap (λ (l : List Arm). arms_points (arms_from ls h k l End)) same in
+    let c = ap (λ (l : List Arm). arms_points (arms_from ls h k l end_block)) same in
     let d = ap (λ (l : List Cmd). block_points (list_from ls h j l)) end
     ∙ ap (λ (n : ℕ). block_points (list_from ls h n last.commands.items)) (g ∙ ap (λ (l : List Arm). k + arms_site_count h l) same) in
     omega (arith, e, a, b, c, d, i, v, z))
 
 -- a command with `then` as it is made
 
-then_same : (s t : program.Step) (a b : List Bool) (x y u v : Block') → s ≡ t → a ≡ b → x ≡ y → u ≡ v → program.TryThen s a x u ≡ program.TryThen t b y v
+then_same : (s t : program.Step) (a b : List Bool) (x y u v : Block') → s ≡ t → a ≡ b → x ≡ y → u ≡ v → program.try_then s a x u ≡ program.try_then t b y v
 then_same s t a b x y u v h i j k = cc
 
 pub then_made : (ls : Levels) (h : Surroundings) (k p : ℕ) (r : Rows) (t : tree.Command) (s : tree.SimpleCommand) (place : Place) (a b : Block)
-    → t ≡ tree.TryThen s place (trees.block_of a) (trees.block_of b) → (seen after : List Cmd) (j i q w u site : ℕ) → seen ≡ a.commands.items → after ≡ b.commands.items
+    → t ≡ tree.try_then s place (trees.block_of a) (trees.block_of b) → (seen after : List Cmd) (j i q w u site : ℕ) → seen ≡ a.commands.items → after ≡ b.commands.items
     → j ≡ k + length (sites.simple_sites h s) → i ≡ j + list_site_count h seen → site ≡ resolve.site_number h k s → q ≡ p + step_points (resolve.step_of ls h site s) → w ≡ q + 1
     → u ≡ w + block_points (list_from ls h j seen) → (step : program.Step) (hang : List Bool) (one other : Block') → step ≡ step_with r p (resolve.step_of ls h site s)
     → hang ≡ r q → one ≡ block_with r w (list_from ls h j seen) → other ≡ block_with r u (list_from ls h i after)
-    → program.TryThen step hang one other ≡ command_with r p (resolve.command_of ls h k t)
+    → program.try_then step hang one other ≡ command_with r p (resolve.command_of ls h k t)
 unfolding list_from list_site_count
 then_made ls h k p r t s place a b is seen after j i q w u site same last g f x y z v step hang one other c d e m =
     let first = k + length (sites.simple_sites h s) in
@@ -219,7 +219,7 @@ then_made ls h k p r t s place a b is seen after j i q w u site same last g f x 
     ∙ ap (λ (l : tree.Command). command_with r p (resolve.command_of ls h k l)) (sym is)
 
 -- how many sites and points there are with `then`
-pub then_all_sites : (h : Surroundings) (k : ℕ) (t : tree.Command) (s : tree.SimpleCommand) (place : Place) (a b : Block) → t ≡ tree.TryThen s place (trees.block_of a) (trees.block_of b)
+pub then_all_sites : (h : Surroundings) (k : ℕ) (t : tree.Command) (s : tree.SimpleCommand) (place : Place) (a b : Block) → t ≡ tree.try_then s place (trees.block_of a) (trees.block_of b)
     → (seen after : List Cmd) (j i n : ℕ) → seen ≡ a.commands.items → after ≡ b.commands.items → j ≡ k + length (sites.simple_sites h s) → i ≡ j + list_site_count h seen
     → n ≡ i + list_site_count h after → n ≡ k + length (sites.command_sites h t)
 unfolding list_site_count
@@ -229,7 +229,7 @@ then_all_sites h k t s place a b is seen after j i n same last g f m =
     let v = ap (λ (l : List Cmd). list_site_count h l) last in omega (arith, e, f, g, u, v, m, then_count h s place a b))
 
 pub then_all_points : (ls : Levels) (h : Surroundings) (k p : ℕ) (t : tree.Command) (s : tree.SimpleCommand) (place : Place) (a b : Block)
-    → t ≡ tree.TryThen s place (trees.block_of a) (trees.block_of b) → (seen after : List Cmd) (j i q w u n site : ℕ) → seen ≡ a.commands.items → after ≡ b.commands.items
+    → t ≡ tree.try_then s place (trees.block_of a) (trees.block_of b) → (seen after : List Cmd) (j i q w u n site : ℕ) → seen ≡ a.commands.items → after ≡ b.commands.items
     → j ≡ k + length (sites.simple_sites h s) → i ≡ j + list_site_count h seen → site ≡ resolve.site_number h k s → q ≡ p + step_points (resolve.step_of ls h site s) → w ≡ q + 1
     → u ≡ w + block_points (list_from ls h j seen) → n ≡ u + block_points (list_from ls h i after) → n ≡ p + command_points (resolve.command_of ls h k t)
 unfolding list_from list_site_count
@@ -243,14 +243,14 @@ then_all_points ls h k p t s place a b is seen after j i q w u n site same last 
 
 -- an `if` as it is made
 
-if_same : (a b : List Bool) (e f : Term ℕ) (x y u v : Block') → a ≡ b → e ≡ f → x ≡ y → u ≡ v → program.If a e x u ≡ program.If b f y v
+if_same : (a b : List Bool) (e f : Term ℕ) (x y u v : Block') → a ≡ b → e ≡ f → x ≡ y → u ≡ v → program.if_else a e x u ≡ program.if_else b f y v
 if_same a b e f x y u v h i j k = cc
 
 pub if_made : (ls : Levels) (h : Surroundings) (k p : ℕ) (r : Rows) (t : tree.Command) (place : Place) (x : tree.Expression) (one : Block) (other : tree.ElseBlock)
-    → t ≡ tree.If place x (trees.block_of one) other → (seen : List Cmd) (j q w : ℕ) → seen ≡ one.commands.items → j ≡ k + list_site_count h seen → q ≡ p + 1
+    → t ≡ tree.if_else place x (trees.block_of one) other → (seen : List Cmd) (j q w : ℕ) → seen ≡ one.commands.items → j ≡ k + list_site_count h seen → q ≡ p + 1
     → w ≡ q + block_points (list_from ls h k seen) → (hang : List Bool) (e : Term ℕ) (m n : Block') → hang ≡ r p → e ≡ term_of h.entities x (Some 1)
     → m ≡ block_with r q (list_from ls h k seen) → n ≡ block_with r w (resolve.else_of ls h j other)
-    → program.If hang e m n ≡ command_with r p (resolve.command_of ls h k t)
+    → program.if_else hang e m n ≡ command_with r p (resolve.command_of ls h k t)
 unfolding list_from list_site_count
 if_made ls h k p r t place x one other is seen j q w same g u v hang e m n a b c d =
     let first = list_from ls h k one.commands.items in
@@ -261,14 +261,14 @@ if_made ls h k p r t place x one other is seen j q w same g u v hang e m n a b c
     ∙ ap (λ (l : tree.Command). command_with r p (resolve.command_of ls h k l)) (sym is)
 
 -- how many sites and points it has in all
-pub all_sites : (h : Surroundings) (k : ℕ) (t : tree.Command) (place : Place) (x : tree.Expression) (one : Block) (other : tree.ElseBlock) → t ≡ tree.If place x (trees.block_of one) other
+pub all_sites : (h : Surroundings) (k : ℕ) (t : tree.Command) (place : Place) (x : tree.Expression) (one : Block) (other : tree.ElseBlock) → t ≡ tree.if_else place x (trees.block_of one) other
     → (seen : List Cmd) (j i : ℕ) → seen ≡ one.commands.items → j ≡ k + list_site_count h seen → i ≡ j + length (sites.else_sites h other) → i ≡ k + length (sites.command_sites h t)
 unfolding list_site_count
 all_sites h k t place x one other is seen j i same g f =
     (let e = ap (λ (c : tree.Command). k + length (sites.command_sites h c)) is in let u = ap (λ (l : List Cmd). list_site_count h l) same in omega (arith, e, f, g, u, if_count h place x one other))
 
 pub all_points : (ls : Levels) (h : Surroundings) (k p : ℕ) (t : tree.Command) (place : Place) (x : tree.Expression) (one : Block) (other : tree.ElseBlock)
-    → t ≡ tree.If place x (trees.block_of one) other → (seen : List Cmd) (j q w u : ℕ) → seen ≡ one.commands.items → j ≡ k + list_site_count h seen → q ≡ p + 1
+    → t ≡ tree.if_else place x (trees.block_of one) other → (seen : List Cmd) (j q w u : ℕ) → seen ≡ one.commands.items → j ≡ k + list_site_count h seen → q ≡ p + 1
     → w ≡ q + block_points (list_from ls h k seen) → u ≡ w + block_points (resolve.else_of ls h j other) → u ≡ p + command_points (resolve.command_of ls h k t)
 unfolding list_from list_site_count
 all_points ls h k p t place x one other is seen j q w u same g a v z =

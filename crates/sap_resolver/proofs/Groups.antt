@@ -13,7 +13,7 @@ use Rattle.sap_tree.specs.Trees.{states_of}
 use Rattle.sap_tree.proofs.Views.{state_of-out}
 use Rattle.sap_names.specs.declared.entity.Entity.{Entity}
 use Rattle.sap_lattice.specs.Levels.{Levels}
-use Rattle.sap_meaning.specs.Program.{None, More, Node, Group}
+use Rattle.sap_meaning.specs.Program.{no_node, and_node, state_node, Group}
 use Rattle.sap_meaning.specs.Program as program
 use Rattle.sap_resolve.specs.Resolve as resolve
 use Rattle.sap_shape.specs.Sites as sites
@@ -33,21 +33,21 @@ surroundings es s = record { entities = es; home = record { name = (out-State s)
 module _ (ls : Levels) (es : List Entity) where
   group_from-more : (k x : ℕ) (d : State) (rest : List State)
       → group_from ls es k x (d ∷ rest)
-      ≡ More (resolve.state_of ls es k x (trees.state_of d)) (group_from ls es (k + length (sites.state_sites es (trees.state_of d))) (x + worlds.states_in (trees.state_of d)) rest)
+      ≡ and_node (resolve.state_of ls es k x (trees.state_of d)) (group_from ls es (k + length (sites.state_sites es (trees.state_of d))) (x + worlds.states_in (trees.state_of d)) rest)
   unfolding group_from
   group_from-more k x d rest = refl
 
-  group_from-none : (k x : ℕ) → group_from ls es k x [] ≡ None
+  group_from-none : (k x : ℕ) → group_from ls es k x [] ≡ no_node
   unfolding group_from
   group_from-none k x = refl
 
   group_drop : (ss : List State) (n : ℕ) (d : State) (k j x y : ℕ) → n < length ss → d ≡ get_or ss n d → j ≡ k + length (sites.state_sites es (trees.state_of d))
       → y ≡ x + worlds.states_in (trees.state_of d)
-      → group_from ls es k x (drop n ss) ≡ More (resolve.state_of ls es k x (trees.state_of d)) (group_from ls es j y (drop (n + 1) ss))
+      → group_from ls es k x (drop n ss) ≡ and_node (resolve.state_of ls es k x (trees.state_of d)) (group_from ls es j y (drop (n + 1) ss))
   group_drop ss n d k j x y l e q r =
       ap (group_from ls es k x) (item_drop ss n d l e) ∙ group_from-more k x d (drop (n + 1) ss)
-      ∙ ap (λ (i : ℕ). More (resolve.state_of ls es k x (trees.state_of d)) (group_from ls es i (x + worlds.states_in (trees.state_of d)) (drop (n + 1) ss))) (sym q)
-      ∙ ap (λ (i : ℕ). More (resolve.state_of ls es k x (trees.state_of d)) (group_from ls es j i (drop (n + 1) ss))) (sym r)
+      ∙ ap (λ (i : ℕ). and_node (resolve.state_of ls es k x (trees.state_of d)) (group_from ls es i (x + worlds.states_in (trees.state_of d)) (drop (n + 1) ss))) (sym q)
+      ∙ ap (λ (i : ℕ). and_node (resolve.state_of ls es k x (trees.state_of d)) (group_from ls es j i (drop (n + 1) ss))) (sym r)
 
   -- one state more is made
   pub states_step : (m : ℕ) (rows : Rows) (ss : List State) (n : ℕ) (d : State) (k j x y p u : ℕ) (old new : List code.State) (s : code.State) → n < length ss → d ≡ get_or ss n d
@@ -60,8 +60,8 @@ module _ (ls : Levels) (es : List Entity) where
       let it = resolve.state_of ls es k x (trees.state_of d) in
       ap (λ (v : List code.State). views.joined (views.group_of m v) (group_with rows u rest)) g
       ∙ joined-push m old s (group_with rows u rest)
-      ∙ ap (λ (z : program.State). views.joined (views.group_of m old) (More z (group_with rows u rest))) v
-      ∙ ap (λ (i : ℕ). views.joined (views.group_of m old) (More (state_with rows p it) (group_with rows i rest))) w
+      ∙ ap (λ (z : program.State). views.joined (views.group_of m old) (and_node z (group_with rows u rest))) v
+      ∙ ap (λ (i : ℕ). views.joined (views.group_of m old) (and_node (state_with rows p it) (group_with rows i rest))) w
       ∙ ap (λ (b : Group). views.joined (views.group_of m old) (group_with rows p b)) (sym (group_drop ss n d k j x y l e q r))
 
   pub states_end : (m : ℕ) (rows : Rows) (ss : List State) (n k x p : ℕ) (made : List code.State) (all : Group) → length ss ≤ n
@@ -92,7 +92,7 @@ module _ (ls : Levels) (es : List Entity) where
 
   pub state_from : (k x : ℕ) (s : State)
       → resolve.state_of ls es k x (trees.state_of s)
-      ≡ Node x (list_from ls (surroundings es s) k (out-State s).body.commands.items) (group_from ls es (k + list_site_count (surroundings es s) (out-State s).body.commands.items) (x + 1) (out-State s).children.items)
+      ≡ state_node x (list_from ls (surroundings es s) k (out-State s).body.commands.items) (group_from ls es (k + list_site_count (surroundings es s) (out-State s).body.commands.items) (x + 1) (out-State s).children.items)
   unfolding list_from list_site_count group_from
   state_from k x s = ap (λ (t : StateTree). resolve.state_of ls es k x t) (state_of-out s)
 

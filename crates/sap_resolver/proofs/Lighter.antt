@@ -6,37 +6,37 @@ use Rattle.sap_tree.specs.declared.syntax.Block.{Block}
 use Rattle.sap_tree.specs.declared.syntax.Cmd.{Cmd}
 use Rattle.sap_tree.specs.declared.syntax.State.{State, out-State}
 use Rattle.sap_tree.specs.Syntax as tree
-use Rattle.sap_tree.specs.Syntax.{Last}
+use Rattle.sap_tree.specs.Syntax.{last_arm}
 use Rattle.sap_tree.specs.Trees.{command_of, commands_of, block_of, arms_of, else_of, state_of, states_of}
 use Rattle.sap_tree.proofs.Views.{state_of-out}
 use Rattle.sap_names.proofs.Weights.{command_weight, commands_weight, arm_list_weight, else_weight, state_weight, states_weight, commands_weight-in, arms_weight-of, arms_weight-in, states_weight-in}
 
-pub try_lighter : (t : tree.Command) (s : tree.SimpleCommand) (place : Place) (b : Block) (seen : List Cmd) → t ≡ tree.Try s place (block_of b) → seen ≡ b.commands.items
+pub try_lighter : (t : tree.Command) (s : tree.SimpleCommand) (place : Place) (b : Block) (seen : List Cmd) → t ≡ tree.try s place (block_of b) → seen ≡ b.commands.items
     → commands_weight (commands_of seen) < command_weight t
 try_lighter t s place b seen is same =
     (let e = ap (λ (c : tree.Command). command_weight c) is in let f = ap (λ (l : List Cmd). commands_weight (commands_of l)) same in omega (arith, e, f))
 
-pub if_lighter : (t : tree.Command) (place : Place) (x : tree.Expression) (one : Block) (other : tree.ElseBlock) (seen : List Cmd) → t ≡ tree.If place x (block_of one) other → seen ≡ one.commands.items
+pub if_lighter : (t : tree.Command) (place : Place) (x : tree.Expression) (one : Block) (other : tree.ElseBlock) (seen : List Cmd) → t ≡ tree.if_else place x (block_of one) other → seen ≡ one.commands.items
     → commands_weight (commands_of seen) < command_weight t
 if_lighter t place x one other seen is same =
     (let e = ap (λ (c : tree.Command). command_weight c) is in let f = ap (λ (l : List Cmd). commands_weight (commands_of l)) same in omega (arith, e, f))
 
-pub else_lighter : (t : tree.Command) (place : Place) (x : tree.Expression) (one : Block) (other : tree.ElseBlock) → t ≡ tree.If place x (block_of one) other → else_weight other + 1 < command_weight t
+pub else_lighter : (t : tree.Command) (place : Place) (x : tree.Expression) (one : Block) (other : tree.ElseBlock) → t ≡ tree.if_else place x (block_of one) other → else_weight other + 1 < command_weight t
 else_lighter t place x one other is = (let e = ap (λ (c : tree.Command). command_weight c) is in omega (arith, e))
 
-pub accepted_lighter : (t : tree.Command) (s : tree.SimpleCommand) (place : Place) (a b : Block) (seen : List Cmd) → t ≡ tree.TryThen s place (block_of a) (block_of b) → seen ≡ a.commands.items
+pub accepted_lighter : (t : tree.Command) (s : tree.SimpleCommand) (place : Place) (a b : Block) (seen : List Cmd) → t ≡ tree.try_then s place (block_of a) (block_of b) → seen ≡ a.commands.items
     → commands_weight (commands_of seen) < command_weight t
 accepted_lighter t s place a b seen is same =
     (let e = ap (λ (c : tree.Command). command_weight c) is in let f = ap (λ (l : List Cmd). commands_weight (commands_of l)) same in omega (arith, e, f))
 
-pub refused_lighter : (t : tree.Command) (s : tree.SimpleCommand) (place : Place) (a b : Block) (seen : List Cmd) → t ≡ tree.TryThen s place (block_of a) (block_of b) → seen ≡ b.commands.items
+pub refused_lighter : (t : tree.Command) (s : tree.SimpleCommand) (place : Place) (a b : Block) (seen : List Cmd) → t ≡ tree.try_then s place (block_of a) (block_of b) → seen ≡ b.commands.items
     → commands_weight (commands_of seen) < command_weight t
 refused_lighter t s place a b seen is same =
     (let e = ap (λ (c : tree.Command). command_weight c) is in let f = ap (λ (l : List Cmd). commands_weight (commands_of l)) same in omega (arith, e, f))
 
-module _ (t : tree.Command) (place : Place) (x : tree.Expression) (arms : List Arm) (last : Block) (is : t ≡ tree.Case place x (arms_of arms (block_of last))) where
+module _ (t : tree.Command) (place : Place) (x : tree.Expression) (arms : List Arm) (last : Block) (is : t ≡ tree.case_of place x (arms_of arms (block_of last))) where
   whole : command_weight t ≡ arm_list_weight arms + commands_weight (commands_of last.commands.items) + 2
-  whole = (let e = ap (λ (c : tree.Command). command_weight c) is in let w = arms_weight-of arms (Last (block_of last)) in omega (arith, e, w))
+  whole = (let e = ap (λ (c : tree.Command). command_weight c) is in let w = arms_weight-of arms (last_arm (block_of last)) in omega (arith, e, w))
 
   pub arms_lighter : (seen : List Arm) → seen ≡ arms → arm_list_weight seen < command_weight t
   arms_lighter seen same = (let f = ap (λ (l : List Arm). arm_list_weight l) same in let w = whole in omega (arith, f, w))

@@ -7,7 +7,7 @@ use Rattle.std.specs.Prelude.{nat_le}
 use Rattle.sap_tree.proofs.DeclLemmas.{count_more}
 use Rattle.sap_tree.specs.declared.syntax.Decl.{Decl}
 use Rattle.sap_tree.specs.declared.syntax.Decl.TheVariants as d
-use Rattle.sap_tree.specs.Syntax.{SimpleCommand, Assign, Write, SetTag, SetCellTag, Goto, Fall, Command, Do, Try, If, TryThen, Case, Arms, Last, Arm, CommandBlock, Commands, ElseBlock, NoElse, Else, CommandList, NoCommand, AndCommand, StateTree, StateOf, StateList, NoState, AndState, DesignTree}
+use Rattle.sap_tree.specs.Syntax.{SimpleCommand, assign, write, set_tag, set_cell_tag, go_to, fall_to_child, Command, lone, try, if_else, try_then, case_of, Arms, last_arm, and_arm, CommandBlock, command_block, ElseBlock, no_else, with_else, CommandList, no_command, and_command, StateTree, state_node, StateList, no_state, and_state, DesignTree}
 use Rattle.sap_tree.specs.Whole.{command_count, block_count, arms_count, else_count, list_count, state_commands, states_commands, state_count, states_count, states_depth, is_whole, is_tree, is_input, is_register, is_memory}
 use Rattle.sap_tree.specs.declared.syntax.State.{State}
 use Rattle.sap_tree.specs.Parts.{tree_of}
@@ -23,67 +23,67 @@ use Rattle.sap_resolver.specs.Lists as lists
 use Rattle.sap_resolver.specs.Rows.{step_points, command_points, arms_points, block_points, state_points, group_points}
 
 step_points-few : (ls : Levels) (h : Surroundings) (n : ℕ) (k : SimpleCommand) → step_points (resolve.step_of ls h n k) ≤ 1
-step_points-few ls h n (Assign target e) = omega arith
-step_points-few ls h n (Write target index e) = omega arith
-step_points-few ls h n (SetTag place target tag) = omega arith
-step_points-few ls h n (SetCellTag place target index tag) = omega arith
-step_points-few ls h n (Goto place target) = omega arith
-step_points-few ls h n (Fall place) = omega arith
+step_points-few ls h n (assign target e) = omega arith
+step_points-few ls h n (write target index e) = omega arith
+step_points-few ls h n (set_tag place target tag) = omega arith
+step_points-few ls h n (set_cell_tag place target index tag) = omega arith
+step_points-few ls h n (go_to place target) = omega arith
+step_points-few ls h n (fall_to_child place) = omega arith
 
 module _ (ls : Levels) (h : Surroundings) where
   mutual
     unfolding command_count block_count arms_count else_count list_count
 
     command_points-few : (k : ℕ) (c : Command) → command_points (resolve.command_of ls h k c) ≤ 2 * command_count c
-    command_points-few k (Do c) = let a = step_points-few ls h (resolve.site_number h k c) c in omega arith
-    command_points-few k (Try c place handler) =
+    command_points-few k (lone c) = let a = step_points-few ls h (resolve.site_number h k c) c in omega arith
+    command_points-few k (try c place handler) =
         let a = step_points-few ls h (resolve.site_number h k c) c in let b = block_points-few (k + length (sites.simple_sites h c)) handler in omega arith
-    command_points-few k (If place e one other) = let a = block_points-few k one in let b = else_points-few (k + length (sites.block_sites h one)) other in omega arith
-    command_points-few k (TryThen c place accepted refused) =
+    command_points-few k (if_else place e one other) = let a = block_points-few k one in let b = else_points-few (k + length (sites.block_sites h one)) other in omega arith
+    command_points-few k (try_then c place accepted refused) =
         let a = step_points-few ls h (resolve.site_number h k c) c in
         let b = block_points-few (k + length (sites.simple_sites h c)) accepted in
         let d = block_points-few (k + length (sites.simple_sites h c) + length (sites.block_sites h accepted)) refused in omega arith
-    command_points-few k (Case place e arms) = let a = arms_points-few k arms in omega arith
+    command_points-few k (case_of place e arms) = let a = arms_points-few k arms in omega arith
 
     arms_points-few : (k : ℕ) (arms : Arms) → arms_points (resolve.arms_of ls h k arms) ≤ 2 * arms_count arms
-    arms_points-few k (Last b) = block_points-few k b
-    arms_points-few k (Arm constants b arms) =
+    arms_points-few k (last_arm b) = block_points-few k b
+    arms_points-few k (and_arm constants b arms) =
         let a = block_points-few k b in let c = arms_points-few (k + length (sites.block_sites h b)) arms in omega arith
 
     block_points-few : (k : ℕ) (b : CommandBlock) → block_points (resolve.block_of ls h k b) ≤ 2 * block_count b
-    block_points-few k (Commands cs after) = list_points-few k cs
+    block_points-few k (command_block cs after) = list_points-few k cs
 
     else_points-few : (k : ℕ) (b : ElseBlock) → block_points (resolve.else_of ls h k b) ≤ 2 * else_count b
-    else_points-few k NoElse = omega arith
-    else_points-few k (Else b) = block_points-few k b
+    else_points-few k no_else = omega arith
+    else_points-few k (with_else b) = block_points-few k b
 
     list_points-few : (k : ℕ) (cs : CommandList) → block_points (resolve.list_of ls h k cs) ≤ 2 * list_count cs
-    list_points-few k NoCommand = omega arith
-    list_points-few k (AndCommand c cs) = let a = command_points-few k c in let b = list_points-few (k + length (sites.command_sites h c)) cs in omega arith
+    list_points-few k no_command = omega arith
+    list_points-few k (and_command c cs) = let a = command_points-few k c in let b = list_points-few (k + length (sites.command_sites h c)) cs in omega arith
 
 module _ (ls : Levels) (es : List Entity) where
   mutual
     unfolding state_commands states_commands
 
     state_points-few : (k x : ℕ) (s : StateTree) → state_points (resolve.state_of ls es k x s) ≤ 2 * state_commands s
-    state_points-few k x (StateOf place name kind body children) =
+    state_points-few k x (state_node place name kind body children) =
         let h : Surroundings = record { entities = es; home = record { name = name.name; kind = kind; children = children } } in
         let a = block_points-few ls h k body in let b = group_points-few (k + length (sites.block_sites h body)) (x + 1) children in omega arith
 
     group_points-few : (k x : ℕ) (ss : StateList) → group_points (resolve.group_of ls es k x ss) ≤ 2 * states_commands ss
-    group_points-few k x NoState = omega arith
-    group_points-few k x (AndState s ss) =
+    group_points-few k x no_state = omega arith
+    group_points-few k x (and_state s ss) =
         let a = state_points-few k x s in let b = group_points-few (k + length (sites.state_sites es s)) (x + worlds.states_in s) ss in omega arith
 
 mutual
   unfolding state_count states_count
 
   states_in-few : (s : StateTree) → worlds.states_in s ≤ state_count s
-  states_in-few (StateOf place name kind body children) = let a = states_below-few children in omega arith
+  states_in-few (state_node place name kind body children) = let a = states_below-few children in omega arith
 
   states_below-few : (ss : StateList) → worlds.states_below ss ≤ states_count ss
-  states_below-few NoState = omega arith
-  states_below-few (AndState s ss) = let a = states_in-few s in let b = states_below-few ss in omega arith
+  states_below-few no_state = omega arith
+  states_below-few (and_state s ss) = let a = states_in-few s in let b = states_below-few ss in omega arith
 
 declarations-few : (ds : List Decl) → length ds ≤ count_by is_input ds + count_by is_register ds + count_by is_memory ds
 declarations-few [] = omega arith

@@ -5,7 +5,7 @@ use Rattle.sap_tree.specs.declared.syntax.Block.{Block}
 use Rattle.sap_tree.specs.declared.syntax.Cmd.{Cmd}
 use Rattle.sap_tree.specs.Trees as trees
 use Rattle.sap_lattice.specs.Levels.{Levels}
-use Rattle.sap_meaning.specs.Program.{End, Then}
+use Rattle.sap_meaning.specs.Program.{end_block, command_then}
 use Rattle.sap_meaning.specs.Program as program
 use Rattle.sap_resolve.specs.Resolve as resolve
 use Rattle.sap_shape.specs.Sites as sites
@@ -26,19 +26,19 @@ add_add a b c = omega arith
 
 module _ (ls : Levels) (h : Surroundings) where
   list_from-more : (k : ℕ) (d : Cmd) (rest : List Cmd)
-      → list_from ls h k (d ∷ rest) ≡ Then (resolve.command_of ls h k (trees.command_of d)) (list_from ls h (k + length (sites.command_sites h (trees.command_of d))) rest)
+      → list_from ls h k (d ∷ rest) ≡ command_then (resolve.command_of ls h k (trees.command_of d)) (list_from ls h (k + length (sites.command_sites h (trees.command_of d))) rest)
   unfolding list_from
   list_from-more k d rest = refl
 
-  pub list_from-none : (k : ℕ) → list_from ls h k [] ≡ End
+  pub list_from-none : (k : ℕ) → list_from ls h k [] ≡ end_block
   unfolding list_from
   list_from-none k = refl
 
   list_drop : (cs : List Cmd) (n : ℕ) (d : Cmd) (k j : ℕ) → n < length cs → d ≡ get_or cs n d → j ≡ k + length (sites.command_sites h (trees.command_of d))
-      → list_from ls h k (drop n cs) ≡ Then (resolve.command_of ls h k (trees.command_of d)) (list_from ls h j (drop (n + 1) cs))
+      → list_from ls h k (drop n cs) ≡ command_then (resolve.command_of ls h k (trees.command_of d)) (list_from ls h j (drop (n + 1) cs))
   list_drop cs n d k j l e q =
       ap (list_from ls h k) (item_drop cs n d l e) ∙ list_from-more k d (drop (n + 1) cs)
-      ∙ ap (λ (i : ℕ). Then (resolve.command_of ls h k (trees.command_of d)) (list_from ls h i (drop (n + 1) cs))) (sym q)
+      ∙ ap (λ (i : ℕ). command_then (resolve.command_of ls h k (trees.command_of d)) (list_from ls h i (drop (n + 1) cs))) (sym q)
 
   -- one command more is made
   pub commands_step : (m : ℕ) (r : Rows) (cs : List Cmd) (n : ℕ) (d : Cmd) (k j p u : ℕ) (old new : List Command) (c : Command) → n < length cs → d ≡ get_or cs n d
@@ -50,8 +50,8 @@ module _ (ls : Levels) (h : Surroundings) where
       let it = resolve.command_of ls h k (trees.command_of d) in
       ap (λ (v : List Command). views.followed (views.block_of m v) (block_with r u rest)) g
       ∙ followed-push m old c (block_with r u rest)
-      ∙ ap (λ (x : program.Command). views.followed (views.block_of m old) (Then x (block_with r u rest))) v
-      ∙ ap (λ (i : ℕ). views.followed (views.block_of m old) (Then (command_with r p it) (block_with r i rest))) w
+      ∙ ap (λ (x : program.Command). views.followed (views.block_of m old) (command_then x (block_with r u rest))) v
+      ∙ ap (λ (i : ℕ). views.followed (views.block_of m old) (command_then (command_with r p it) (block_with r i rest))) w
       ∙ ap (λ (b : program.Block). views.followed (views.block_of m old) (block_with r p b)) (sym (list_drop cs n d k j l e q))
 
   pub commands_end : (m : ℕ) (r : Rows) (cs : List Cmd) (n k p : ℕ) (made : List Command) (all : program.Block) → length cs ≤ n

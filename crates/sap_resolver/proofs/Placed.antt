@@ -9,7 +9,7 @@ use Rattle.sap_lattice.specs.Levels.{Levels}
 use Rattle.sap_names.specs.declared.entity.Entity.{Entity}
 use Rattle.sap_names.specs.Entities.{entities_of}
 use Rattle.sap_maps.specs.Term.{Term}
-use Rattle.sap_meaning.specs.Program.{World, Step, Set, Write, Retag, RetagCell, Goto, Fall, Command, Do, Try, If, TryThen, Case, Arms, Last, Arm, Block, End, Then, State, Node, Group, None as NoState, More, root}
+use Rattle.sap_meaning.specs.Program.{World, Step, assign, write, retag, retag_cell, go_to, fall_to_child, Command, lone, try, if_else, try_then, case_of, Arms, last_arm, and_arm, Block, end_block, command_then, State, state_node, Group, no_node as NoState, and_node, root}
 use Rattle.sap_meaning.specs.Checks.{Spot}
 use Rattle.sap_meaning.specs.Touches.{touches}
 use Rattle.sap_hang.specs.Hang.{Table, says, touches_entity, IsHangTable}
@@ -36,39 +36,39 @@ module _ (r : Rows) where
   module _ (w : World) where
     step_placed : (at : Spot) (k : Step) (p : ℕ) (more : List (List Bool)) → Follow r p (step_rows (filled_step w at k) ++ more)
         → (step_with r p k ≡ filled_step w at k) × Follow r (p + step_points k) more
-    step_placed at (Set site x e) p more h = (refl, at_point p (p + 0) more (omega arith) h)
-    step_placed at (Write site m i e) p more h = (refl, at_point p (p + 0) more (omega arith) h)
-    step_placed at (Retag site x n) p more h = (refl, at_point p (p + 0) more (omega arith) h)
-    step_placed at (RetagCell site m j n) p more h = (refl, at_point p (p + 0) more (omega arith) h)
-    step_placed at (Goto site target) p more h = (refl, at_point p (p + 0) more (omega arith) h)
-    step_placed at (Fall site hang) p more h = (ap (Fall site) (sym h.0), h.1)
+    step_placed at (assign site x e) p more h = (refl, at_point p (p + 0) more (omega arith) h)
+    step_placed at (write site m i e) p more h = (refl, at_point p (p + 0) more (omega arith) h)
+    step_placed at (retag site x n) p more h = (refl, at_point p (p + 0) more (omega arith) h)
+    step_placed at (retag_cell site m j n) p more h = (refl, at_point p (p + 0) more (omega arith) h)
+    step_placed at (go_to site target) p more h = (refl, at_point p (p + 0) more (omega arith) h)
+    step_placed at (fall_to_child site hang) p more h = (ap (fall_to_child site) (sym h.0), h.1)
 
-    try_same : (s t : Step) (a b : List Bool) (x y : Block) → s ≡ t → a ≡ b → x ≡ y → Try s a x ≡ Try t b y
+    try_same : (s t : Step) (a b : List Bool) (x y : Block) → s ≡ t → a ≡ b → x ≡ y → try s a x ≡ try t b y
     try_same s t a b x y h i j = cc
 
-    if_same : (a b : List Bool) (e : Term ℕ) (x y u v : Block) → a ≡ b → x ≡ y → u ≡ v → If a e x u ≡ If b e y v
+    if_same : (a b : List Bool) (e : Term ℕ) (x y u v : Block) → a ≡ b → x ≡ y → u ≡ v → if_else a e x u ≡ if_else b e y v
     if_same a b e x y u v h i j = cc
 
-    then_same : (s t : Step) (a b : List Bool) (x y u v : Block) → s ≡ t → a ≡ b → x ≡ y → u ≡ v → TryThen s a x u ≡ TryThen t b y v
+    then_same : (s t : Step) (a b : List Bool) (x y u v : Block) → s ≡ t → a ≡ b → x ≡ y → u ≡ v → try_then s a x u ≡ try_then t b y v
     then_same s t a b x y u v h i j k = cc
 
     mutual
       command_placed : (at : Spot) (c : Command) (p : ℕ) (more : List (List Bool)) → Follow r p (rows (filled w at c) ++ more)
           → (command_with r p c ≡ filled w at c) × Follow r (p + command_points c) more
-      command_placed at (Do k) p more h = let s = step_placed at k p more h in (ap Do s.0, s.1)
-      command_placed at (Try k hang handler) p more h =
-          let row = table (root w) (touches w at (Try k hang handler)) in
+      command_placed at (lone k) p more h = let s = step_placed at k p more h in (ap lone s.0, s.1)
+      command_placed at (try k hang handler) p more h =
+          let row = table (root w) (touches w at (try k hang handler)) in
           let s = step_placed at k p (row ∷ (block_rows (filled_block w at handler) ++ more))
           (joined_rows p (step_rows (filled_step w at k)) (row ∷ block_rows (filled_block w at handler)) more h) in
           let b = block_placed at handler (p + step_points k + 1) more s.1.1 in
           (try_same _ _ _ _ _ _ s.0 (sym s.1.0) b.0, at_point (p + step_points k + 1 + block_points handler) (p + (step_points k + 1 + block_points handler)) more (omega arith) b.1)
-      command_placed at (If hang condition a b) p more h =
+      command_placed at (if_else hang condition a b) p more h =
           let x = block_placed at a (p + 1) (block_rows (filled_block w at b) ++ more)
           (joined_rows (p + 1) (block_rows (filled_block w at a)) (block_rows (filled_block w at b)) more h.1) in
           let y = block_placed at b (p + 1 + block_points a) more x.1 in
           (if_same _ _ condition _ _ _ _ (sym h.0) x.0 y.0, at_point (p + 1 + block_points a + block_points b) (p + (1 + block_points a + block_points b)) more (omega arith) y.1)
-      command_placed at (TryThen k hang a b) p more h =
-          let row = table (root w) (touches w at (TryThen k hang a b)) in
+      command_placed at (try_then k hang a b) p more h =
+          let row = table (root w) (touches w at (try_then k hang a b)) in
           let blocks = block_rows (filled_block w at a) ++ block_rows (filled_block w at b) in
           let s = step_placed at k p (row ∷ (blocks ++ more)) (joined_rows p (step_rows (filled_step w at k)) (row ∷ blocks) more h) in
           let q = p + step_points k + 1 in
@@ -77,42 +77,42 @@ module _ (r : Rows) where
             then_same _ _ _ _ _ _ _ _ s.0 (sym s.1.0) x.0 y.0,
             at_point (q + block_points a + block_points b) (p + (step_points k + 1 + block_points a + block_points b)) more (omega arith) y.1,
           )
-      command_placed at (Case hang e arms) p more h =
+      command_placed at (case_of hang e arms) p more h =
           let x = arms_placed at arms (p + 1) more h.1 in
-          (ap₂ (λ (l : List Bool) (u : Arms). Case l e u) (sym h.0) x.0, at_point (p + 1 + arms_points arms) (p + (1 + arms_points arms)) more (omega arith) x.1)
+          (ap₂ (λ (l : List Bool) (u : Arms). case_of l e u) (sym h.0) x.0, at_point (p + 1 + arms_points arms) (p + (1 + arms_points arms)) more (omega arith) x.1)
 
       arms_placed : (at : Spot) (arms : Arms) (p : ℕ) (more : List (List Bool)) → Follow r p (arms_rows (filled_arms w at arms) ++ more)
           → (arms_with r p arms ≡ filled_arms w at arms) × Follow r (p + arms_points arms) more
-      arms_placed at (Last b) p more h = let x = block_placed at b p more h in (ap Last x.0, x.1)
-      arms_placed at (Arm constants b arms) p more h =
+      arms_placed at (last_arm b) p more h = let x = block_placed at b p more h in (ap last_arm x.0, x.1)
+      arms_placed at (and_arm constants b arms) p more h =
           let x = block_placed at b p (arms_rows (filled_arms w at arms) ++ more) (joined_rows p (block_rows (filled_block w at b)) (arms_rows (filled_arms w at arms)) more h) in
           let y = arms_placed at arms (p + block_points b) more x.1 in
-          (ap₂ (Arm constants) x.0 y.0, at_point (p + block_points b + arms_points arms) (p + (block_points b + arms_points arms)) more (omega arith) y.1)
+          (ap₂ (and_arm constants) x.0 y.0, at_point (p + block_points b + arms_points arms) (p + (block_points b + arms_points arms)) more (omega arith) y.1)
 
       block_placed : (at : Spot) (b : Block) (p : ℕ) (more : List (List Bool)) → Follow r p (block_rows (filled_block w at b) ++ more)
           → (block_with r p b ≡ filled_block w at b) × Follow r (p + block_points b) more
-      block_placed at End p more h = (refl, at_point p (p + 0) more (omega arith) h)
-      block_placed at (Then c cs) p more h =
+      block_placed at end_block p more h = (refl, at_point p (p + 0) more (omega arith) h)
+      block_placed at (command_then c cs) p more h =
           let x = command_placed at c p (block_rows (filled_block w at cs) ++ more) (joined_rows p (rows (filled w at c)) (block_rows (filled_block w at cs)) more h) in
           let y = block_placed at cs (p + command_points c) more x.1 in
-          (ap₂ Then x.0 y.0, at_point (p + command_points c + block_points cs) (p + (command_points c + block_points cs)) more (omega arith) y.1)
+          (ap₂ command_then x.0 y.0, at_point (p + command_points c + block_points cs) (p + (command_points c + block_points cs)) more (omega arith) y.1)
 
     mutual
       state_placed : (parent : ℕ) (s : State) (p : ℕ) (more : List (List Bool)) → Follow r p (state_rows (filled_state w parent s) ++ more)
           → (state_with r p s ≡ filled_state w parent s) × Follow r (p + state_points s) more
-      state_placed parent (Node s body children) p more h =
+      state_placed parent (state_node s body children) p more h =
           let at : Spot = record { state = s; parent = parent; children = children } in
           let x = block_placed at body p (group_rows (filled_group w s children) ++ more) (joined_rows p (block_rows (filled_block w at body)) (group_rows (filled_group w s children)) more h) in
           let y = group_placed s children (p + block_points body) more x.1 in
-          (ap₂ (Node s) x.0 y.0, at_point (p + block_points body + group_points children) (p + (block_points body + group_points children)) more (omega arith) y.1)
+          (ap₂ (state_node s) x.0 y.0, at_point (p + block_points body + group_points children) (p + (block_points body + group_points children)) more (omega arith) y.1)
 
       group_placed : (parent : ℕ) (g : Group) (p : ℕ) (more : List (List Bool)) → Follow r p (group_rows (filled_group w parent g) ++ more)
           → (group_with r p g ≡ filled_group w parent g) × Follow r (p + group_points g) more
       group_placed parent NoState p more h = (refl, at_point p (p + 0) more (omega arith) h)
-      group_placed parent (More s rest) p more h =
+      group_placed parent (and_node s rest) p more h =
           let x = state_placed parent s p (group_rows (filled_group w parent rest) ++ more) (joined_rows p (state_rows (filled_state w parent s)) (group_rows (filled_group w parent rest)) more h) in
           let y = group_placed parent rest (p + state_points s) more x.1 in
-          (ap₂ More x.0 y.0, at_point (p + state_points s + group_points rest) (p + (state_points s + group_points rest)) more (omega arith) y.1)
+          (ap₂ and_node x.0 y.0, at_point (p + state_points s + group_points rest) (p + (state_points s + group_points rest)) more (omega arith) y.1)
 
   follow_map : (p : ℕ) (xs : List Point) (f : Point → List Bool) → ((i : ℕ) (x : Point) → slice_get xs i ≡ Some x → r (p + i) ≡ f x) → Follow r p (map f xs)
   follow_map p [] f h = tt

@@ -7,7 +7,7 @@ use Rattle.sap_tree.specs.declared.syntax.State.{State}
 use Rattle.sap_tree.specs.Trees.{arm_block_of, commands_of, constants_of, expressions_of, states_of}
 use Rattle.sap_names.specs.declared.entity.Entity.{Entity}
 use Rattle.sap_lattice.specs.Levels.{Levels}
-use Rattle.sap_meaning.specs.Program.{Arms, Last, Block, Group}
+use Rattle.sap_meaning.specs.Program.{Arms, last_arm, Block, Group}
 use Rattle.sap_meaning.specs.Program as program
 use Rattle.sap_names.specs.Entities as names
 use Rattle.sap_program.specs.declared.program.Entity as code
@@ -27,9 +27,9 @@ list_site_count h cs = length (shape_lists.list_sites h cs)
 
 -- with this block for no arm
 unfoldable pub arms_from : Levels → Surroundings → (k : ℕ) → List Arm → Block → Arms
-arms_from ls h k [] last = Last last
+arms_from ls h k [] last = last_arm last
 arms_from ls h k (arm ∷ arms) last =
-    program.Arm (resolve.numbers_of (constants_of arm)) (resolve.block_of ls h k (arm_block_of arm)) (arms_from ls h (k + length (sites.block_sites h (arm_block_of arm))) arms last)
+    program.and_arm (resolve.numbers_of (constants_of arm)) (resolve.block_of ls h k (arm_block_of arm)) (arms_from ls h (k + length (sites.block_sites h (arm_block_of arm))) arms last)
 
 unfoldable pub arms_site_count : Surroundings → List Arm → ℕ
 arms_site_count h arms = length (shape_lists.arms_sites h arms)

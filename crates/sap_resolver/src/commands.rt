@@ -144,11 +144,11 @@ fn arms(
     list: &[ArmTree],
 ) -> Result<Vec<Arm>, AllocError>
     requires sites { next.old + lists.arms_site_count (surroundings_of seat.now) list.now < 2 ^ 32 }
-    requires points { point.old + arms_points (lists.arms_from seat.now.lattice.now (surroundings_of seat.now) next.old list.now meaning.End) < 2 ^ 32 }
-    ensures arms { IfOk result (λ r. (last : meaning.Block) → views.arms_before (length seat.now.names.now) r.items (meaning.Last (block_with (rows_of seat.now) point.new last))
+    requires points { point.old + arms_points (lists.arms_from seat.now.lattice.now (surroundings_of seat.now) next.old list.now meaning.end_block) < 2 ^ 32 }
+    ensures arms { IfOk result (λ r. (last : meaning.Block) → views.arms_before (length seat.now.names.now) r.items (meaning.last_arm (block_with (rows_of seat.now) point.new last))
         ≡ arms_with (rows_of seat.now) point.old (lists.arms_from seat.now.lattice.now (surroundings_of seat.now) next.old list.now last)) }
     ensures next { OnOk result (next.new ≡ next.old + lists.arms_site_count (surroundings_of seat.now) list.now) }
-    ensures point { OnOk result (point.new ≡ point.old + arms_points (lists.arms_from seat.now.lattice.now (surroundings_of seat.now) next.old list.now meaning.End)) }
+    ensures point { OnOk result (point.new ≡ point.old + arms_points (lists.arms_from seat.now.lattice.now (surroundings_of seat.now) next.old list.now meaning.end_block)) }
 {
     let mut made = Vec::new(alloc);
     for arm in list {

@@ -44,7 +44,7 @@ fn set(
     target: &Mention,
     e: &Expr,
 ) -> Result<Step, AllocError>
-    ensures { IfOk result (λ s. step_of (length seat.now.names.now) s ≡ resolve.step_of seat.now.lattice.now (surroundings_of seat.now) site (tree.Assign target.now (expression_of e.now))) }
+    ensures { IfOk result (λ s. step_of (length seat.now.names.now) s ≡ resolve.step_of seat.now.lattice.now (surroundings_of seat.now) site (tree.assign target.now (expression_of e.now))) }
 {
     let asked = register_width(seat.names.look(&target.name));
     Ok(Step::Set {
@@ -62,7 +62,7 @@ fn write(
     index: &Expr,
     e: &Expr,
 ) -> Result<Step, AllocError>
-    ensures { IfOk result (λ s. step_of (length seat.now.names.now) s ≡ resolve.step_of seat.now.lattice.now (surroundings_of seat.now) site (tree.Write target.now (expression_of index.now) (expression_of e.now))) }
+    ensures { IfOk result (λ s. step_of (length seat.now.names.now) s ≡ resolve.step_of seat.now.lattice.now (surroundings_of seat.now) site (tree.write target.now (expression_of index.now) (expression_of e.now))) }
 {
     let what = seat.names.look(&target.name);
     let at = number(alloc, seat.names, index, index_width(what))?;
@@ -83,7 +83,7 @@ fn retag_cell(
     index: &Expr,
     t: &TagExpr,
 ) -> Result<Step, AllocError>
-    ensures { IfOk result (λ s. step_of (length seat.now.names.now) s ≡ resolve.step_of seat.now.lattice.now (surroundings_of seat.now) site (tree.SetCellTag target.now.place target.now (expression_of index.now) (tag_of t.now))) }
+    ensures { IfOk result (λ s. step_of (length seat.now.names.now) s ≡ resolve.step_of seat.now.lattice.now (surroundings_of seat.now) site (tree.set_cell_tag target.now.place target.now (expression_of index.now) (tag_of t.now))) }
 {
     let asked = index_width(seat.names.look(&target.name));
     let at = number(alloc, seat.names, index, asked)?;
@@ -98,7 +98,7 @@ fn retag_cell(
 /// A fall, with what hangs on it; `point` is the number of the next point.
 fn fall(alloc: Global, seat: &Seat<'_>, site: u32, point: &mut u32) -> Result<Step, AllocError>
     requires { point.old + 1 < 2 ^ 32 }
-    ensures step { IfOk result (λ s. step_of (length seat.now.names.now) s ≡ step_with (rows_of seat.now) point.old (meaning.Fall site [])) }
+    ensures step { IfOk result (λ s. step_of (length seat.now.names.now) s ≡ step_with (rows_of seat.now) point.old (meaning.fall_to_child site [])) }
     ensures point { OnOk result (point.new ≡ point.old + 1) }
 {
     let hang = row(alloc, seat.table, seat.names.count(), *point)?;

@@ -4,7 +4,7 @@ use Rattle.sap_lemmas.proofs.Bools.{and_left}
 use Rattle.std.proofs.lemmas.Bool.{eqb-true, false_from_ne_true, ne_eqb, or_cases, or_from, or_left, or_right}
 use Rattle.sap_meaning.proofs.ProgramLemmas.{memory_no_state, register_no_memory, register_no_state}
 use Rattle.sap_meaning.proofs.FineLemmas.{inside_among}
-use Rattle.sap_meaning.specs.Program.{World, is_dynamic, entity, is_register, is_memory, is_state, Step, Set, Write, Retag, RetagCell, Goto, Fall, Command, Do, Try, If, TryThen, Case, Arms, Last, Arm, Block, End, Then, State, Node, Group, None, More}
+use Rattle.sap_meaning.specs.Program.{World, is_dynamic, entity, is_register, is_memory, is_state, Step, assign, write, retag, retag_cell, go_to, fall_to_child, Command, lone, try, if_else, try_then, case_of, Arms, last_arm, and_arm, Block, end_block, command_then, State, state_node, Group, no_node, and_node}
 use Rattle.sap_meaning.specs.Touches.{among, step_assigns, assigns, arms_assign, block_assigns, state_assigns, group_assigns, step_hangs, hangs, arms_hang, block_hangs}
 use Rattle.sap_meaning.specs.Fine.{FineStep, FineCommand, FineArms, FineBlock, FineState, FineGroup, inside, step_writes, writes, arms_write, block_writes, step_reaches, reaches, arms_reaching, block_reaches, group_reaches}
 use Rattle.sap_secure.proofs.Concerns.{parted_of, group_parted, step_concerns, concerns, arms_concern, block_concerns}
@@ -34,120 +34,120 @@ module _ (w : World) where
   -- what is neither register nor memory is assigned nowhere
   module _ (x : ℕ) (r : is_register w x ≡ false) (m : is_memory w x ≡ false) where
     step_unassigned : (q j : Group) (k : Step) → FineStep w q j k → step_assigns k x ≡ false
-    step_unassigned q j (Set site y e) fine = ne_eqb x y (λ h. let yes : is_register w y ≡ true = fine.0 in let r' = rw h at r in cc)
-    step_unassigned q j (Write site n i e) fine = ne_eqb x n (λ h. let yes : is_memory w n ≡ true = fine.0 in let m' = rw h at m in cc)
-    step_unassigned q j (Retag site y n) fine = refl
-    step_unassigned q j (RetagCell site n d t) fine = refl
-    step_unassigned q j (Goto site target) fine = refl
-    step_unassigned q j (Fall site hang) fine = refl
+    step_unassigned q j (assign site y e) fine = ne_eqb x y (λ h. let yes : is_register w y ≡ true = fine.0 in let r' = rw h at r in cc)
+    step_unassigned q j (write site n i e) fine = ne_eqb x n (λ h. let yes : is_memory w n ≡ true = fine.0 in let m' = rw h at m in cc)
+    step_unassigned q j (retag site y n) fine = refl
+    step_unassigned q j (retag_cell site n d t) fine = refl
+    step_unassigned q j (go_to site target) fine = refl
+    step_unassigned q j (fall_to_child site hang) fine = refl
 
     mutual
       pub unassigned : (q j : Group) (c : Command) → FineCommand w q j c → assigns c x ≡ false
-      unassigned q j (Do k) fine = step_unassigned q j k fine
-      unassigned q j (Try k hang h) fine = or_from _ _ (step_unassigned q j k fine.0) (block_unassigned q j h fine.1)
-      unassigned q j (If hang e a b) fine = or_from _ _ (block_unassigned q j a fine.1) (block_unassigned q j b fine.2)
-      unassigned q j (TryThen k hang a b) fine = or_from _ _ (step_unassigned q j k fine.0) (or_from _ _ (block_unassigned q j a fine.1) (block_unassigned q j b fine.2))
-      unassigned q j (Case hang e arms) fine = arms_unassigned q j arms fine.1
+      unassigned q j (lone k) fine = step_unassigned q j k fine
+      unassigned q j (try k hang h) fine = or_from _ _ (step_unassigned q j k fine.0) (block_unassigned q j h fine.1)
+      unassigned q j (if_else hang e a b) fine = or_from _ _ (block_unassigned q j a fine.1) (block_unassigned q j b fine.2)
+      unassigned q j (try_then k hang a b) fine = or_from _ _ (step_unassigned q j k fine.0) (or_from _ _ (block_unassigned q j a fine.1) (block_unassigned q j b fine.2))
+      unassigned q j (case_of hang e arms) fine = arms_unassigned q j arms fine.1
 
       arms_unassigned : (q j : Group) (arms : Arms) → FineArms w q j arms → arms_assign arms x ≡ false
-      arms_unassigned q j (Last b) fine = block_unassigned q j b fine
-      arms_unassigned q j (Arm constants b arms) fine = or_from _ _ (block_unassigned q j b fine.0) (arms_unassigned q j arms fine.1)
+      arms_unassigned q j (last_arm b) fine = block_unassigned q j b fine
+      arms_unassigned q j (and_arm constants b arms) fine = or_from _ _ (block_unassigned q j b fine.0) (arms_unassigned q j arms fine.1)
 
       pub block_unassigned : (q j : Group) (b : Block) → FineBlock w q j b → block_assigns b x ≡ false
-      block_unassigned q j End fine = refl
-      block_unassigned q j (Then c cs) fine = or_from _ _ (unassigned q j c fine.0) (block_unassigned q j cs fine.1)
+      block_unassigned q j end_block fine = refl
+      block_unassigned q j (command_then c cs) fine = or_from _ _ (unassigned q j c fine.0) (block_unassigned q j cs fine.1)
 
     mutual
       pub state_unassigned : (q : Group) (n : ℕ) (t : State) → FineState w q n t → state_assigns t x ≡ false
-      state_unassigned q n (Node e b g) fine = or_from _ _ (block_unassigned q g b fine.0.steps) (group_unassigned g 0 g fine.1)
+      state_unassigned q n (state_node e b g) fine = or_from _ _ (block_unassigned q g b fine.0.steps) (group_unassigned g 0 g fine.1)
 
       pub group_unassigned : (q : Group) (n : ℕ) (g : Group) → FineGroup w q n g → group_assigns g x ≡ false
-      group_unassigned q n None fine = refl
-      group_unassigned q n (More t g) fine = or_from _ _ (state_unassigned q n t fine.0) (group_unassigned q (suc n) g fine.1)
+      group_unassigned q n no_node fine = refl
+      group_unassigned q n (and_node t g) fine = or_from _ _ (state_unassigned q n t fine.0) (group_unassigned q (suc n) g fine.1)
 
   -- an enforced memory that concerns a body is reached
   module _ (m : ℕ) (mem : is_memory w m ≡ true) (d : is_dynamic w m ≡ false) (e : ℕ) (g : Group) (own : nat_eq m e ≡ false) (kids : among g m ≡ false) where
     step_hung : (q j : Group) (k : Step) → FineStep w q j k → step_concerns w e g k m ≡ true → step_reaches g k m ≡ true
-    step_hung q j (Set site y e') fine h = let no = cell_apart m y mem fine.0 in cc
-    step_hung q j (Write site n i e') fine h = h
-    step_hung q j (Retag site y n) fine h = cc
-    step_hung q j (RetagCell site n i t) fine h = cc
-    step_hung q j (Goto site target) fine h = cc
-    step_hung q j (Fall site hang) fine h = sym (group_parted w m (parted_of w m mem d) g) ∙ rw kids at h
+    step_hung q j (assign site y e') fine h = let no = cell_apart m y mem fine.0 in cc
+    step_hung q j (write site n i e') fine h = h
+    step_hung q j (retag site y n) fine h = cc
+    step_hung q j (retag_cell site n i t) fine h = cc
+    step_hung q j (go_to site target) fine h = cc
+    step_hung q j (fall_to_child site hang) fine h = sym (group_parted w m (parted_of w m mem d) g) ∙ rw kids at h
 
     mutual
       pub hung : (q j : Group) (c : Command) → FineCommand w q j c → concerns w e g c m ≡ true → reaches g c m ≡ true
-      hung q j (Do k) fine h = step_hung q j k fine h
-      hung q j (Try k hang b) fine h = either_of (step_concerns w e g k m) (block_concerns w e g b m) (step_reaches g k m) (block_reaches g b m) (step_hung q j k fine.0) (block_hung q j b fine.1) h
-      hung q j (If hang t a b) fine h = either_of (block_concerns w e g a m) (block_concerns w e g b m) (block_reaches g a m) (block_reaches g b m) (block_hung q j a fine.1) (block_hung q j b fine.2) h
-      hung q j (TryThen k hang a b) fine h =
+      hung q j (lone k) fine h = step_hung q j k fine h
+      hung q j (try k hang b) fine h = either_of (step_concerns w e g k m) (block_concerns w e g b m) (step_reaches g k m) (block_reaches g b m) (step_hung q j k fine.0) (block_hung q j b fine.1) h
+      hung q j (if_else hang t a b) fine h = either_of (block_concerns w e g a m) (block_concerns w e g b m) (block_reaches g a m) (block_reaches g b m) (block_hung q j a fine.1) (block_hung q j b fine.2) h
+      hung q j (try_then k hang a b) fine h =
           either_of (step_concerns w e g k m) (block_concerns w e g a m || block_concerns w e g b m) (step_reaches g k m) (block_reaches g a m || block_reaches g b m) (step_hung q j k fine.0)
           (either_of (block_concerns w e g a m) (block_concerns w e g b m) (block_reaches g a m) (block_reaches g b m) (block_hung q j a fine.1) (block_hung q j b fine.2)) h
-      hung q j (Case hang t arms) fine h = arms_hung q j arms fine.1 h
+      hung q j (case_of hang t arms) fine h = arms_hung q j arms fine.1 h
 
       arms_hung : (q j : Group) (arms : Arms) → FineArms w q j arms → arms_concern w e g arms m ≡ true → arms_reaching (group_reaches g) arms m ≡ true
-      arms_hung q j (Last b) fine h = block_hung q j b fine h
-      arms_hung q j (Arm constants b arms) fine h =
+      arms_hung q j (last_arm b) fine h = block_hung q j b fine h
+      arms_hung q j (and_arm constants b arms) fine h =
           either_of (block_concerns w e g b m) (arms_concern w e g arms m) (block_reaches g b m) (arms_reaching (group_reaches g) arms m) (block_hung q j b fine.0) (arms_hung q j arms fine.1) h
 
       pub block_hung : (q j : Group) (b : Block) → FineBlock w q j b → block_concerns w e g b m ≡ true → block_reaches g b m ≡ true
-      block_hung q j End fine h = h
-      block_hung q j (Then c cs) fine h = either_of (concerns w e g c m) (block_concerns w e g cs m) (reaches g c m) (block_reaches g cs m) (hung q j c fine.0) (block_hung q j cs fine.1) h
+      block_hung q j end_block fine h = h
+      block_hung q j (command_then c cs) fine h = either_of (concerns w e g c m) (block_concerns w e g cs m) (reaches g c m) (block_reaches g cs m) (hung q j c fine.0) (block_hung q j cs fine.1) h
 
   -- a state that is neither the body's own nor a child hangs on nothing
   module _ (x : ℕ) (s : is_state w x ≡ true) (e : ℕ) (g : Group) (own : nat_eq x e ≡ false) (kids : among g x ≡ false) (free : group_assigns g x ≡ false) where
     pub step_unhung : (q : Group) (k : Step) → FineStep w q g k → step_hangs e g k x ≡ false
-    step_unhung q (Set site y t) fine = register_apart x y s fine.0
-    step_unhung q (Write site m i t) fine = memory_apart x m s fine.0
-    step_unhung q (Retag site y n) fine = refl
-    step_unhung q (RetagCell site m j n) fine = refl
-    step_unhung q (Goto site target) fine = own
-    step_unhung q (Fall site hang) fine = or_from _ _ kids free
+    step_unhung q (assign site y t) fine = register_apart x y s fine.0
+    step_unhung q (write site m i t) fine = memory_apart x m s fine.0
+    step_unhung q (retag site y n) fine = refl
+    step_unhung q (retag_cell site m j n) fine = refl
+    step_unhung q (go_to site target) fine = own
+    step_unhung q (fall_to_child site hang) fine = or_from _ _ kids free
 
     mutual
       pub unhung : (q : Group) (c : Command) → FineCommand w q g c → hangs e g c x ≡ false
-      unhung q (Do k) fine = step_unhung q k fine
-      unhung q (Try k hang h) fine = or_from _ _ (step_unhung q k fine.0) (block_unhung q h fine.1)
-      unhung q (If hang t a b) fine = or_from _ _ (block_unhung q a fine.1) (block_unhung q b fine.2)
-      unhung q (TryThen k hang a b) fine = or_from _ _ (step_unhung q k fine.0) (or_from _ _ (block_unhung q a fine.1) (block_unhung q b fine.2))
-      unhung q (Case hang t arms) fine = arms_unhung q arms fine.1
+      unhung q (lone k) fine = step_unhung q k fine
+      unhung q (try k hang h) fine = or_from _ _ (step_unhung q k fine.0) (block_unhung q h fine.1)
+      unhung q (if_else hang t a b) fine = or_from _ _ (block_unhung q a fine.1) (block_unhung q b fine.2)
+      unhung q (try_then k hang a b) fine = or_from _ _ (step_unhung q k fine.0) (or_from _ _ (block_unhung q a fine.1) (block_unhung q b fine.2))
+      unhung q (case_of hang t arms) fine = arms_unhung q arms fine.1
 
       arms_unhung : (q : Group) (arms : Arms) → FineArms w q g arms → arms_hang e g arms x ≡ false
-      arms_unhung q (Last b) fine = block_unhung q b fine
-      arms_unhung q (Arm constants b arms) fine = or_from _ _ (block_unhung q b fine.0) (arms_unhung q arms fine.1)
+      arms_unhung q (last_arm b) fine = block_unhung q b fine
+      arms_unhung q (and_arm constants b arms) fine = or_from _ _ (block_unhung q b fine.0) (arms_unhung q arms fine.1)
 
       pub block_unhung : (q : Group) (b : Block) → FineBlock w q g b → block_hangs e g b x ≡ false
-      block_unhung q End fine = refl
-      block_unhung q (Then c cs) fine = or_from _ _ (unhung q c fine.0) (block_unhung q cs fine.1)
+      block_unhung q end_block fine = refl
+      block_unhung q (command_then c cs) fine = or_from _ _ (unhung q c fine.0) (block_unhung q cs fine.1)
 
   -- what writes, reaches
   module _ (g : Group) (m : ℕ) where
     step_within : (k : Step) → step_writes k m ≡ true → step_reaches g k m ≡ true
-    step_within (Set site y e) h = cc
-    step_within (Write site n i e) h = h
-    step_within (Retag site y n) h = cc
-    step_within (RetagCell site n d t) h = h
-    step_within (Goto site target) h = cc
-    step_within (Fall site hang) h = cc
+    step_within (assign site y e) h = cc
+    step_within (write site n i e) h = h
+    step_within (retag site y n) h = cc
+    step_within (retag_cell site n d t) h = h
+    step_within (go_to site target) h = cc
+    step_within (fall_to_child site hang) h = cc
 
     mutual
       pub writes_within : (c : Command) → writes c m ≡ true → reaches g c m ≡ true
-      writes_within (Do k) h = step_within k h
-      writes_within (Try k hang b) h = either_of (step_writes k m) (block_writes b m) (step_reaches g k m) (block_reaches g b m) (step_within k) (block_within b) h
-      writes_within (If hang e a b) h = either_of (block_writes a m) (block_writes b m) (block_reaches g a m) (block_reaches g b m) (block_within a) (block_within b) h
-      writes_within (TryThen k hang a b) h =
+      writes_within (lone k) h = step_within k h
+      writes_within (try k hang b) h = either_of (step_writes k m) (block_writes b m) (step_reaches g k m) (block_reaches g b m) (step_within k) (block_within b) h
+      writes_within (if_else hang e a b) h = either_of (block_writes a m) (block_writes b m) (block_reaches g a m) (block_reaches g b m) (block_within a) (block_within b) h
+      writes_within (try_then k hang a b) h =
           either_of (step_writes k m) (block_writes a m || block_writes b m) (step_reaches g k m) (block_reaches g a m || block_reaches g b m) (step_within k)
           (either_of (block_writes a m) (block_writes b m) (block_reaches g a m) (block_reaches g b m) (block_within a) (block_within b)) h
-      writes_within (Case hang e arms) h = arms_within arms h
+      writes_within (case_of hang e arms) h = arms_within arms h
 
       arms_within : (arms : Arms) → arms_write arms m ≡ true → arms_reaching (group_reaches g) arms m ≡ true
-      arms_within (Last b) h = block_within b h
-      arms_within (Arm constants b arms) h =
+      arms_within (last_arm b) h = block_within b h
+      arms_within (and_arm constants b arms) h =
           either_of (block_writes b m) (arms_write arms m) (block_reaches g b m) (arms_reaching (group_reaches g) arms m) (block_within b) (arms_within arms) h
 
       block_within : (b : Block) → block_writes b m ≡ true → block_reaches g b m ≡ true
-      block_within End h = h
-      block_within (Then c cs) h = either_of (writes c m) (block_writes cs m) (reaches g c m) (block_reaches g cs m) (writes_within c) (block_within cs) h
+      block_within end_block h = h
+      block_within (command_then c cs) h = either_of (writes c m) (block_writes cs m) (reaches g c m) (block_reaches g cs m) (writes_within c) (block_within cs) h
 
 -- a register or memory that hangs on a block is assigned in it or in a body below
 module _ (e : ℕ) (g : Group) (x : ℕ) (own : nat_eq x e ≡ false) (kids : among g x ≡ false) where
@@ -161,36 +161,36 @@ module _ (e : ℕ) (g : Group) (x : ℕ) (own : nat_eq x e ≡ false) (kids : am
   either_side false i false b f k j = k j
 
   step_found : (k : Step) → Found (step_hangs e g k x) (step_assigns k x)
-  step_found (Set site y t) h = or_left _ _ h
-  step_found (Write site m i t) h = or_left _ _ h
-  step_found (Retag site y n) h = cc
-  step_found (RetagCell site m d n) h = cc
-  step_found (Goto site target) h = cc
-  step_found (Fall site hang) h = rw kids at h
+  step_found (assign site y t) h = or_left _ _ h
+  step_found (write site m i t) h = or_left _ _ h
+  step_found (retag site y n) h = cc
+  step_found (retag_cell site m d n) h = cc
+  step_found (go_to site target) h = cc
+  step_found (fall_to_child site hang) h = rw kids at h
 
   mutual
     pub found : (c : Command) → Found (hangs e g c x) (assigns c x)
-    found (Do k) = step_found k
-    found (Try k hang h) = either_side (step_hangs e g k x) (block_hangs e g h x) (step_assigns k x) (block_assigns h x) (step_found k) (block_found h)
-    found (If hang t a b) = either_side (block_hangs e g a x) (block_hangs e g b x) (block_assigns a x) (block_assigns b x) (block_found a) (block_found b)
-    found (TryThen k hang a b) =
+    found (lone k) = step_found k
+    found (try k hang h) = either_side (step_hangs e g k x) (block_hangs e g h x) (step_assigns k x) (block_assigns h x) (step_found k) (block_found h)
+    found (if_else hang t a b) = either_side (block_hangs e g a x) (block_hangs e g b x) (block_assigns a x) (block_assigns b x) (block_found a) (block_found b)
+    found (try_then k hang a b) =
         either_side (step_hangs e g k x) (block_hangs e g a x || block_hangs e g b x) (step_assigns k x) (block_assigns a x || block_assigns b x) (step_found k)
         (either_side (block_hangs e g a x) (block_hangs e g b x) (block_assigns a x) (block_assigns b x) (block_found a) (block_found b))
-    found (Case hang t arms) = arms_found arms
+    found (case_of hang t arms) = arms_found arms
 
     arms_found : (arms : Arms) → Found (arms_hang e g arms x) (arms_assign arms x)
-    arms_found (Last b) = block_found b
-    arms_found (Arm constants b arms) = either_side (block_hangs e g b x) (arms_hang e g arms x) (block_assigns b x) (arms_assign arms x) (block_found b) (arms_found arms)
+    arms_found (last_arm b) = block_found b
+    arms_found (and_arm constants b arms) = either_side (block_hangs e g b x) (arms_hang e g arms x) (block_assigns b x) (arms_assign arms x) (block_found b) (arms_found arms)
 
     pub block_found : (b : Block) → Found (block_hangs e g b x) (block_assigns b x)
-    block_found End = λ h. cc
-    block_found (Then c cs) = either_side (hangs e g c x) (block_hangs e g cs x) (assigns c x) (block_assigns cs x) (found c) (block_found cs)
+    block_found end_block = λ h. cc
+    block_found (command_then c cs) = either_side (hangs e g c x) (block_hangs e g cs x) (assigns c x) (block_assigns cs x) (found c) (block_found cs)
 
 module _ (w : World) where
   -- and are states
   pub inside_state : (q : Group) (n : ℕ) (g : Group) → FineGroup w q n g → (x : ℕ) → inside g x ≡ true → is_state w x ≡ true
-  inside_state q n None fine x h = cc
-  inside_state q n (More (Node c b k) g) fine x h = elim (or_cases (nat_eq x c) _ h) [
+  inside_state q n no_node fine x h = cc
+  inside_state q n (and_node (state_node c b k) g) fine x h = elim (or_cases (nat_eq x c) _ h) [
     | inl e ↦ rw (eqb-true x c e) fine.0.0.kind
     | inr e ↦ elim (or_cases (inside k x) (inside g x) e) [
       | inl i ↦ and_left _ _ (fine.0.0.numbers x i)

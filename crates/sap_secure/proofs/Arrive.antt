@@ -3,7 +3,7 @@ use Rattle.std.proofs.Common.{◌≡◌, ℕ, Bool, true, false, ◌||◌, refl,
 use Rattle.std.proofs.lemmas.Bool.{cases_Bool, eqb-true, or_cases, or_left, or_right}
 use Rattle.sap_meaning.proofs.FineLemmas.{inside_among}
 use Rattle.sap_lattice.specs.Order.{Laws}
-use Rattle.sap_meaning.specs.Program.{World, is_dynamic, is_state, place, below, Goto, State, Node, Group, None, More}
+use Rattle.sap_meaning.specs.Program.{World, is_dynamic, is_state, place, below, go_to, State, state_node, Group, no_node, and_node}
 use Rattle.sap_meaning.specs.Store.{own, Store, level, child, put_level, put_child, reset, After}
 use Rattle.sap_meaning.specs.State.{Holds}
 use Rattle.sap_meaning.specs.Does.{effect}
@@ -22,7 +22,7 @@ pub record Arrived (w : World) (l p : ℕ) (q : Group) (s t : Store) : Type 0 wh
   pub same : Agree w l s t
   pub path : path w l p q s ≡ path w l p q t
 
-module _ (w : World) (laws : Laws w.order) (l : ℕ) (c : Scene w l) (site target : ℕ) (fine : ProperStep w c.site (Goto site target)) where
+module _ (w : World) (laws : Laws w.order) (l : ℕ) (c : Scene w l) (site target : ℕ) (fine : ProperStep w c.site (go_to site target)) where
   moved : Store → Store
   moved s = reset w target (put_child c.site.parent (place w target) s)
 
@@ -58,25 +58,25 @@ module _ (w : World) (laws : Laws w.order) (l : ℕ) (c : Scene w l) (site targe
   target_state = inside_state w c.site.siblings 0 c.site.siblings c.site.around.fine target (inside_among c.site.siblings target fine.0)
 
   -- x is the target or below it
-  spanned : (a : State) → Nth c.site.siblings (place w target) a → number_of a ≡ target → (x : ℕ) → inside (More a None) x ≡ true → (nat_eq x target || below w target x) ≡ true
-  spanned (Node e b k) nth name x h =
-      let f = nth_fine w c.site.siblings 0 c.site.siblings (place w target) (Node e b k) nth c.site.around.fine in
+  spanned : (a : State) → Nth c.site.siblings (place w target) a → number_of a ≡ target → (x : ℕ) → inside (and_node a no_node) x ≡ true → (nat_eq x target || below w target x) ≡ true
+  spanned (state_node e b k) nth name x h =
+      let f = nth_fine w c.site.siblings 0 c.site.siblings (place w target) (state_node e b k) nth c.site.around.fine in
       elim (or_cases (nat_eq x e) _ h) [
         | inl i ↦ or_left _ _ (subst (λ y. nat_eq x y ≡ true) name i)
         | inr i ↦ or_right (nat_eq x target) _ (subst (λ y. below w y x ≡ true) name (f.0.numbers x (elim (or_cases (inside k x) false i) [ inl j ↦ j | inr j ↦ cc ])))
       ]
 
-  spanned_state : (a : State) → Nth c.site.siblings (place w target) a → (x : ℕ) → inside (More a None) x ≡ true → is_state w x ≡ true
-  spanned_state (Node e b k) nth x h =
-      let f = nth_fine w c.site.siblings 0 c.site.siblings (place w target) (Node e b k) nth c.site.around.fine in
+  spanned_state : (a : State) → Nth c.site.siblings (place w target) a → (x : ℕ) → inside (and_node a no_node) x ≡ true → is_state w x ≡ true
+  spanned_state (state_node e b k) nth x h =
+      let f = nth_fine w c.site.siblings 0 c.site.siblings (place w target) (state_node e b k) nth c.site.around.fine in
       elim (or_cases (nat_eq x e) _ h) [
         | inl i ↦ rw (eqb-true x e i) f.0.kind
         | inr i ↦ inside_state w k 0 k f.1 x (elim (or_cases (inside k x) false i) [ inl j ↦ j | inr j ↦ cc ])
       ]
 
-  same_path : (a : State) → Nth c.site.siblings (place w target) a → (s t : Store) → Agree w l s t → Holds w s → Holds w t → child c.site.parent s ≡ place w target → child c.site.parent t ≡ place w target → ((x : ℕ) → inside (More a None) x ≡ true → child x s ≡ child x t) → ((x : ℕ) → inside (More a None) x ≡ true → is_dynamic w x ≡ true → level w (own x) s ≡ level w (own x) t) → path w l c.site.parent c.site.siblings s ≡ path w l c.site.parent c.site.siblings t
+  same_path : (a : State) → Nth c.site.siblings (place w target) a → (s t : Store) → Agree w l s t → Holds w s → Holds w t → child c.site.parent s ≡ place w target → child c.site.parent t ≡ place w target → ((x : ℕ) → inside (and_node a no_node) x ≡ true → child x s ≡ child x t) → ((x : ℕ) → inside (and_node a no_node) x ≡ true → is_dynamic w x ≡ true → level w (own x) s ≡ level w (own x) t) → path w l c.site.parent c.site.siblings s ≡ path w l c.site.parent c.site.siblings t
   same_path a nth s t like hs ht here there f d =
-      rw (here, there) (from_nth w l c.site.siblings (place w target) (place w target) a s nth ∙ from_settled w laws l (More a None) 0 (place w target) s t like hs ht (λ x i. held_state w x (spanned_state a nth x i)) f d ∙ sym (from_nth w l c.site.siblings (place w target) (place w target) a t nth))
+      rw (here, there) (from_nth w l c.site.siblings (place w target) (place w target) a s nth ∙ from_settled w laws l (and_node a no_node) 0 (place w target) s t like hs ht (λ x i. held_state w x (spanned_state a nth x i)) f d ∙ sym (from_nth w l c.site.siblings (place w target) (place w target) a t nth))
 
   seat : (u : Store) → child c.site.parent (moved u) ≡ place w target
   unfolding moved
@@ -126,6 +126,6 @@ module _ (w : World) (laws : Laws w.order) (l : ℕ) (c : Scene w l) (site targe
       still x d y (inr e) = level_moved x s e y ∙ sym (level_moved x t e y)
 
   -- a goto that succeeds in both runs
-  pub goto_pair : (pc : ℕ) (enter : ℕ → ℕ → Store → After) (b d s t : Store) → Holds w s → Holds w t → Agree w l s t → Arrived w l c.site.parent c.site.siblings (effect w (spot c.site) enter (Goto site target) pc b s).store (effect w (spot c.site) enter (Goto site target) pc d t).store
+  pub goto_pair : (pc : ℕ) (enter : ℕ → ℕ → Store → After) (b d s t : Store) → Holds w s → Holds w t → Agree w l s t → Arrived w l c.site.parent c.site.siblings (effect w (spot c.site) enter (go_to site target) pc b s).store (effect w (spot c.site) enter (go_to site target) pc d t).store
   unfolding effect arrived moved
   goto_pair pc enter b d s t hs ht like = arrive pc s t hs ht like

@@ -2,7 +2,7 @@
 use Rattle.std.proofs.Common.{◌≡◌, ℕ, Bool, true, false, not, ◌&&◌, ◌||◌, refl, sym, ap, ◌∙◌, nat_eq, if◌then◌else◌}
 use Rattle.sap_lemmas.proofs.Bools.{or_equal}
 use Rattle.std.proofs.lemmas.Bool.{and_from}
-use Rattle.sap_meaning.specs.Program.{World, is_dynamic, is_memory, Step, Set, Write, Retag, RetagCell, Goto, Fall, Command, Do, Try, If, TryThen, Case, Arms, Last, Arm, Block, End, Then, State, Node, Group, None, More}
+use Rattle.sap_meaning.specs.Program.{World, is_dynamic, is_memory, Step, assign, write, retag, retag_cell, go_to, fall_to_child, Command, lone, try, if_else, try_then, case_of, Arms, last_arm, and_arm, Block, end_block, command_then, State, state_node, Group, no_node, and_node}
 use Rattle.sap_meaning.specs.Touches.{among, block_assigns, state_assigns, group_assigns, step_hangs, hangs, block_hangs, arms_hang}
 use Rattle.sap_meaning.specs.Fine.{block_reaches, state_reaches, group_reaches}
 
@@ -11,35 +11,35 @@ abbrev pub parted : World → ℕ → Bool
 parted w x = is_memory w x && not (is_dynamic w x)
 
 abbrev pub state_concerns : World → State → ℕ → Bool
-state_concerns w (Node s b g) x = if parted w x then block_reaches g b x else block_assigns b x || group_assigns g x
+state_concerns w (state_node s b g) x = if parted w x then block_reaches g b x else block_assigns b x || group_assigns g x
 
 abbrev pub group_concerns : World → Group → ℕ → Bool
-group_concerns w None x = false
-group_concerns w (More t g) x = state_concerns w t x || group_concerns w g x
+group_concerns w no_node x = false
+group_concerns w (and_node t g) x = state_concerns w t x || group_concerns w g x
 
 abbrev pub step_concerns : World → ℕ → Group → Step → ℕ → Bool
-step_concerns w s g (Set site y e) x = nat_eq x y
-step_concerns w s g (Write site m i e) x = nat_eq x m
-step_concerns w s g (Retag site y n) x = false
-step_concerns w s g (RetagCell site m j n) x = false
-step_concerns w s g (Goto site target) x = nat_eq x s
-step_concerns w s g (Fall site hang) x = among g x || group_concerns w g x
+step_concerns w s g (assign site y e) x = nat_eq x y
+step_concerns w s g (write site m i e) x = nat_eq x m
+step_concerns w s g (retag site y n) x = false
+step_concerns w s g (retag_cell site m j n) x = false
+step_concerns w s g (go_to site target) x = nat_eq x s
+step_concerns w s g (fall_to_child site hang) x = among g x || group_concerns w g x
 
 abbrev mutual
   pub concerns : World → ℕ → Group → Command → ℕ → Bool
-  concerns w s g (Do k) x = step_concerns w s g k x
-  concerns w s g (Try k hang h) x = step_concerns w s g k x || block_concerns w s g h x
-  concerns w s g (If hang e a b) x = block_concerns w s g a x || block_concerns w s g b x
-  concerns w s g (TryThen k hang a b) x = step_concerns w s g k x || (block_concerns w s g a x || block_concerns w s g b x)
-  concerns w s g (Case hang e arms) x = arms_concern w s g arms x
+  concerns w s g (lone k) x = step_concerns w s g k x
+  concerns w s g (try k hang h) x = step_concerns w s g k x || block_concerns w s g h x
+  concerns w s g (if_else hang e a b) x = block_concerns w s g a x || block_concerns w s g b x
+  concerns w s g (try_then k hang a b) x = step_concerns w s g k x || (block_concerns w s g a x || block_concerns w s g b x)
+  concerns w s g (case_of hang e arms) x = arms_concern w s g arms x
 
   pub arms_concern : World → ℕ → Group → Arms → ℕ → Bool
-  arms_concern w s g (Last b) x = block_concerns w s g b x
-  arms_concern w s g (Arm constants b arms) x = block_concerns w s g b x || arms_concern w s g arms x
+  arms_concern w s g (last_arm b) x = block_concerns w s g b x
+  arms_concern w s g (and_arm constants b arms) x = block_concerns w s g b x || arms_concern w s g arms x
 
   pub block_concerns : World → ℕ → Group → Block → ℕ → Bool
-  block_concerns w s g End x = false
-  block_concerns w s g (Then c cs) x = concerns w s g c x || block_concerns w s g cs x
+  block_concerns w s g end_block x = false
+  block_concerns w s g (command_then c cs) x = concerns w s g c x || block_concerns w s g cs x
 
 module _ (w : World) (x : ℕ) where
   pub parted_of : is_memory w x ≡ true → is_dynamic w x ≡ false → parted w x ≡ true
@@ -54,43 +54,43 @@ module _ (w : World) (x : ℕ) where
 
   -- of an enforced memory
   pub group_parted : parted w x ≡ true → (g : Group) → group_concerns w g x ≡ group_reaches g x
-  group_parted p None = refl
-  group_parted p (More (Node s b k) g) =
-      or_equal (state_concerns w (Node s b k) x) (group_concerns w g x) (state_reaches (Node s b k) x) (group_reaches g x) (rw p refl) (group_parted p g)
+  group_parted p no_node = refl
+  group_parted p (and_node (state_node s b k) g) =
+      or_equal (state_concerns w (state_node s b k) x) (group_concerns w g x) (state_reaches (state_node s b k) x) (group_reaches g x) (rw p refl) (group_parted p g)
 
   -- of what is none
   module _ (p : parted w x ≡ false) where
     group_whole : (g : Group) → group_concerns w g x ≡ group_assigns g x
-    group_whole None = refl
-    group_whole (More (Node s b k) g) =
-        or_equal (state_concerns w (Node s b k) x) (group_concerns w g x) (state_assigns (Node s b k) x) (group_assigns g x) (rw p refl) (group_whole g)
+    group_whole no_node = refl
+    group_whole (and_node (state_node s b k) g) =
+        or_equal (state_concerns w (state_node s b k) x) (group_concerns w g x) (state_assigns (state_node s b k) x) (group_assigns g x) (rw p refl) (group_whole g)
 
     step_whole : (s : ℕ) (g : Group) (k : Step) → step_concerns w s g k x ≡ step_hangs s g k x
-    step_whole s g (Set site y e) = refl
-    step_whole s g (Write site m i e) = refl
-    step_whole s g (Retag site y n) = refl
-    step_whole s g (RetagCell site m j n) = refl
-    step_whole s g (Goto site target) = refl
-    step_whole s g (Fall site hang) = ap (λ (r : Bool). among g x || r) (group_whole g)
+    step_whole s g (assign site y e) = refl
+    step_whole s g (write site m i e) = refl
+    step_whole s g (retag site y n) = refl
+    step_whole s g (retag_cell site m j n) = refl
+    step_whole s g (go_to site target) = refl
+    step_whole s g (fall_to_child site hang) = ap (λ (r : Bool). among g x || r) (group_whole g)
 
     mutual
       pub whole : (s : ℕ) (g : Group) (c : Command) → concerns w s g c x ≡ hangs s g c x
-      whole s g (Do k) = step_whole s g k
-      whole s g (Try k hang h) = or_equal (step_concerns w s g k x) (block_concerns w s g h x) (step_hangs s g k x) (block_hangs s g h x) (step_whole s g k) (block_whole s g h)
-      whole s g (If hang e a b) = or_equal (block_concerns w s g a x) (block_concerns w s g b x) (block_hangs s g a x) (block_hangs s g b x) (block_whole s g a) (block_whole s g b)
-      whole s g (TryThen k hang a b) =
+      whole s g (lone k) = step_whole s g k
+      whole s g (try k hang h) = or_equal (step_concerns w s g k x) (block_concerns w s g h x) (step_hangs s g k x) (block_hangs s g h x) (step_whole s g k) (block_whole s g h)
+      whole s g (if_else hang e a b) = or_equal (block_concerns w s g a x) (block_concerns w s g b x) (block_hangs s g a x) (block_hangs s g b x) (block_whole s g a) (block_whole s g b)
+      whole s g (try_then k hang a b) =
           or_equal (step_concerns w s g k x) (block_concerns w s g a x || block_concerns w s g b x) (step_hangs s g k x) (block_hangs s g a x || block_hangs s g b x) (step_whole s g k)
           (or_equal (block_concerns w s g a x) (block_concerns w s g b x) (block_hangs s g a x) (block_hangs s g b x) (block_whole s g a) (block_whole s g b))
-      whole s g (Case hang e arms) = arms_whole s g arms
+      whole s g (case_of hang e arms) = arms_whole s g arms
 
       arms_whole : (s : ℕ) (g : Group) (arms : Arms) → arms_concern w s g arms x ≡ arms_hang s g arms x
-      arms_whole s g (Last b) = block_whole s g b
-      arms_whole s g (Arm constants b arms) =
+      arms_whole s g (last_arm b) = block_whole s g b
+      arms_whole s g (and_arm constants b arms) =
           or_equal (block_concerns w s g b x) (arms_concern w s g arms x) (block_hangs s g b x) (arms_hang s g arms x) (block_whole s g b) (arms_whole s g arms)
 
       pub block_whole : (s : ℕ) (g : Group) (b : Block) → block_concerns w s g b x ≡ block_hangs s g b x
-      block_whole s g End = refl
-      block_whole s g (Then c cs) = or_equal (concerns w s g c x) (block_concerns w s g cs x) (hangs s g c x) (block_hangs s g cs x) (whole s g c) (block_whole s g cs)
+      block_whole s g end_block = refl
+      block_whole s g (command_then c cs) = or_equal (concerns w s g c x) (block_concerns w s g cs x) (hangs s g c x) (block_hangs s g cs x) (whole s g c) (block_whole s g cs)
 
 with_both : (a b c : Bool) → (a ≡ true → b ≡ c) → (a && b) ≡ true → (a && c) ≡ true
 with_both true b c f h = sym (f refl) ∙ h

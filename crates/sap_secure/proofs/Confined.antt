@@ -7,7 +7,7 @@ use Rattle.sap_meaning.proofs.ProgramLemmas.{state_no_value}
 use Rattle.sap_meaning.proofs.FineLemmas.{inside_among}
 use Rattle.sap_lattice.specs.Order.{Laws}
 use Rattle.sap_maps.specs.Term.{Term}
-use Rattle.sap_meaning.specs.Program.{World, entity, is_dynamic, is_input, is_register, is_memory, is_state, authority, children, place, Step, Set, Write, Retag, RetagCell, Goto, Fall, Command, Do, Try, If, TryThen, Case, Arms, Last, Arm, Block, End, Then, State, Node, Group, None, More, LevelTerm}
+use Rattle.sap_meaning.specs.Program.{World, entity, is_dynamic, is_input, is_register, is_memory, is_state, authority, children, place, Step, assign, write, retag, retag_cell, go_to, fall_to_child, Command, lone, try, if_else, try_then, case_of, Arms, last_arm, and_arm, Block, end_block, command_then, State, state_node, Group, no_node, and_node, LevelTerm}
 use Rattle.sap_meaning.specs.Store.{Slot, own, start, next, start_whole, next_whole, Store, owner, home, level, child, put_child, raised, raise, reset, held, After, stay}
 use Rattle.sap_meaning.specs.State.{Holds}
 use Rattle.sap_meaning.specs.Expressions.{value, tag, new_level, told}
@@ -170,11 +170,11 @@ module _ (w : World) (laws : Laws w.order) (l : ℕ) where
     up_join pc k b (inl h) = high_left w.order laws l pc _ h
     up_join pc k b (inr h) = high_right w.order laws l pc _ h
 
-    pub set_high : (site x : ℕ) (e : Term ℕ) (pc : ℕ) (b : Store) → is_dynamic w x ≡ false → test w At (Set site x e) pc b ≡ true → Up pc (Set site x e) b → High w.order l (level w (own x) b)
+    pub set_high : (site x : ℕ) (e : Term ℕ) (pc : ℕ) (b : Store) → is_dynamic w x ≡ false → test w At (assign site x e) pc b ≡ true → Up pc (assign site x e) b → High w.order l (level w (own x) b)
     set_high site x e pc b d t (inl h) = let t' = rw d at t in high_above w.order laws l pc _ (laws.trans _ _ _ (laws.left pc (tag w e b)) t') h
     set_high site x e pc b d t (inr h) = let h' = rw d at h in h'
 
-    write_high : (site m : ℕ) (j e : Term ℕ) (pc : ℕ) (b : Store) → is_dynamic w m ≡ false → test w At (Write site m j e) pc b ≡ true → Up pc (Write site m j e) b → High w.order l (level w (start m (value w j b)) b)
+    write_high : (site m : ℕ) (j e : Term ℕ) (pc : ℕ) (b : Store) → is_dynamic w m ≡ false → test w At (write site m j e) pc b ≡ true → Up pc (write site m j e) b → High w.order l (level w (start m (value w j b)) b)
     write_high site m j e pc b d t (inl h) =
         let t' = rw d at t in
         high_above w.order laws l pc _ (laws.trans _ _ _ (laws.left pc (w.order.join (tag w j b) (tag w e b))) t') h
@@ -188,11 +188,11 @@ module _ (w : World) (laws : Laws w.order) (l : ℕ) where
               let no = low_join w.order laws l _ _ (laws.trans _ _ _ a y) y in cc)
         ]
 
-    retag_high : (site x : ℕ) (n : LevelTerm) (pc : ℕ) (b : Store) → test w At (Retag site x n) pc b ≡ true → Up pc (Retag site x n) b → High w.order l (authority w x)
+    retag_high : (site x : ℕ) (n : LevelTerm) (pc : ℕ) (b : Store) → test w At (retag site x n) pc b ≡ true → Up pc (retag site x n) b → High w.order l (authority w x)
     retag_high site x n pc b t (inl h) = high_above w.order laws l pc _ (laws.trans _ _ _ (laws.left pc (told w n b)) (and_left _ _ t)) h
     retag_high site x n pc b t (inr h) = h
 
-    cell_high : (site m : ℕ) (j : Term ℕ) (n : LevelTerm) (pc : ℕ) (b : Store) → test w At (RetagCell site m j n) pc b ≡ true → Up pc (RetagCell site m j n) b → High w.order l (authority w m)
+    cell_high : (site m : ℕ) (j : Term ℕ) (n : LevelTerm) (pc : ℕ) (b : Store) → test w At (retag_cell site m j n) pc b ≡ true → Up pc (retag_cell site m j n) b → High w.order l (authority w m)
     cell_high site m j n pc b t (inl h) = high_above w.order laws l pc _ (laws.trans _ _ _ (laws.left pc (w.order.join (told w n b) (tag w j b))) (and_left _ _ t)) h
     cell_high site m j n pc b t (inr h) = h
 
@@ -202,7 +202,7 @@ module _ (w : World) (laws : Laws w.order) (l : ℕ) where
     -- the effect of a step, from the raised store r
     pub step_confined : (k : Step) → ProperStep w i k → (pc : ℕ) (b r : Store) → ((z : Slot) → is_dynamic w (owner z) ≡ false → level w z r ≡ level w z b) → Holds w r → Quiet w l (step_concerns w i.state i.kids k) r → test w At k pc b ≡ true → Up pc k b → Confined w l r (effect w At i.enter k pc b r)
     unfolding effect
-    step_confined (Set site x e) fine pc b r kept holds quiet t up =
+    step_confined (assign site x e) fine pc b r kept holds quiet t up =
         let over = agree_over w laws l r (own x) (value w e b) in
         elim (cases_Bool (is_dynamic w x)) [
           | inl d ↦ rw d (
@@ -214,10 +214,10 @@ module _ (w : World) (laws : Laws w.order) (l : ℕ) where
               record { same = over _ (sole_own w x) (λ _. same_high w.order laws l _ _ _ _ was was) (λ _ _. refl); quiet = refl })
         ]
       where
-        pc_high : is_dynamic w x ≡ true → Up pc (Set site x e) b → High w.order l pc
+        pc_high : is_dynamic w x ≡ true → Up pc (assign site x e) b → High w.order l pc
         pc_high d (inl h) = h
         pc_high d (inr h) = let h' = rw d at h in let low = laws.least_of_all l in cc
-    step_confined (Write site m j e) fine pc b r kept holds quiet t up = elim (cases_Bool (is_dynamic w m)) [
+    step_confined (write site m j e) fine pc b r kept holds quiet t up = elim (cases_Bool (is_dynamic w m)) [
       | inl d ↦ rw d (
           let v = w.order.join pc (w.order.join (tag w j b) (tag w e b)) in
           let dyn : OfDynamic w (λ y. nat_eq y m) = λ y h. rw (eqb-true y m h) d in
@@ -239,24 +239,24 @@ module _ (w : World) (laws : Laws w.order) (l : ℕ) where
             let same : level w (start m (value w j b)) b ≡ level w (next m (value w j b)) r = sym (kept (start m (value w j b)) d) ∙ q in
             rw (← same) (write_high site m j e pc b d t up)
         cell_was d (inr h) = high_above w.order laws l _ _ (holds.above (next m (value w j b)) fine.0.0 d) h
-    step_confined (Retag site x n) fine pc b r kept holds quiet t up =
+    step_confined (retag site x n) fine pc b r kept holds quiet t up =
         let a = retag_high site x n pc b t up in
         let high : High w.order l (new_level w n b) = high_above w.order laws l (authority w x) (new_level w n b) (and_right (w.order.le (w.order.join pc (told w n b)) (authority w x)) _ t) a in
         let was = high_above w.order laws l _ _ (holds.above (own x) (held_target x fine.0.0) fine.0.1) a in
         record { same = agree_over w laws l r (own x) _ (new_level w n b) (sole_own w x) (λ _. same_high w.order laws l _ _ _ _ was high) (λ _ low. cc); quiet = refl }
-    step_confined (RetagCell site m j n) fine pc b r kept holds quiet t up =
+    step_confined (retag_cell site m j n) fine pc b r kept holds quiet t up =
         let a = cell_high site m j n pc b t up in
         let high : High w.order l (new_level w n b) = high_above w.order laws l _ _ (and_right (w.order.le (w.order.join pc (w.order.join (told w n b) (tag w j b))) (authority w m)) _ t) a in
         let was = high_above w.order laws l _ _ (holds.above (next m (value w j b)) fine.0.0 fine.0.1) a in
         record { same = agree_over w laws l r (next m (value w j b)) _ (new_level w n b) (sole_cell w m _ fine.0.1) (λ _. same_high w.order laws l _ _ _ _ was high) (λ _ low. cc); quiet = refl }
-    step_confined (Goto site target) fine pc b r kept holds quiet t up =
+    step_confined (go_to site target) fine pc b r kept holds quiet t up =
         let two = agree_next w laws l _ _ _ (agree_child w laws l r i.parent (place w target)) (agree_reset w laws l (put_child i.parent (place w target) r) target) in
         elim (cases_Bool (is_dynamic w target)) [
           | inl d ↦ rw d (record { same = agree_next w laws l _ _ _ two (agree_state w laws l (reset w target (put_child i.parent (place w target) r)) target pc (inside_state w i.siblings 0 i.siblings i.around.fine target (inside_among i.siblings target fine.0)) d); quiet = refl })
           | inr d ↦ rw d (record { same = two; quiet = refl })
         ]
-    step_confined (Fall site hang) fine pc b r kept holds quiet t up =
-        entering (child i.state b) _ r holds (up_join pc (Fall site hang) b up) (λ z g h. quiet z g (or_right (among i.kids (owner z)) _ h))
+    step_confined (fall_to_child site hang) fine pc b r kept holds quiet t up =
+        entering (child i.state b) _ r holds (up_join pc (fall_to_child site hang) b up) (λ z g h. quiet z g (or_right (among i.kids (owner z)) _ h))
 
     -- from the raised store on, with the handler h
     pub attempt_confined : (k : Step) → ProperStep w i k → (hang : ℕ → Bool) (h : ℕ → Store → After) (pc : ℕ) (s : Store) → OfDynamic w hang → Holds w s → Quiet w l (step_concerns w i.state i.kids k) (raise w.order hang (guard w At k s) s) → Up pc k s → ((q : ℕ) → High w.order l q → Confined w l (raise w.order hang (guard w At k s) s) (h q (raise w.order hang (guard w At k s) s))) → Confined w l (raise w.order hang (guard w At k s) s) (attempt w At i.enter k hang h pc s)
@@ -298,12 +298,12 @@ module _ (w : World) (laws : Laws w.order) (l : ℕ) where
     touches_dynamic c x h = and_left (is_dynamic w x) _ h
 
     pub alone_within : (k : Step) (x : ℕ) → raised_alone w At k x ≡ true → (is_dynamic w x && step_hangs i.state i.kids k x) ≡ true
-    alone_within (Set site y e) x h = cc
-    alone_within (Write site m j e) x h = cc
-    alone_within (Retag site y n) x h = cc
-    alone_within (RetagCell site m j n) x h = cc
-    alone_within (Goto site target) x h = h
-    alone_within (Fall site hang) x h = h
+    alone_within (assign site y e) x h = cc
+    alone_within (write site m j e) x h = cc
+    alone_within (retag site y n) x h = cc
+    alone_within (retag_cell site m j n) x h = cc
+    alone_within (go_to site target) x h = h
+    alone_within (fall_to_child site hang) x h = h
 
     pub quiet_left : (a b : ℕ → Bool) (s : Store) → Quiet w l (λ x. a x || b x) s → Quiet w l a s
     quiet_left a b s q z g h = q z g (or_left (a (owner z)) (b (owner z)) h)
@@ -318,35 +318,35 @@ module _ (w : World) (laws : Laws w.order) (l : ℕ) where
       unfolding does does_arms does_block
 
       pub does_confined : (c : Command) → Proper w i c → (pc : ℕ) (s : Store) → Holds w s → High w.order l pc → Quiet w l (concerns w i.state i.kids c) s → Confined w l s (does w At i.enter c pc s)
-      does_confined (Do k) fine pc s holds high quiet =
+      does_confined (lone k) fine pc s holds high quiet =
           let hang = raised_alone w At k in
           let dyn : OfDynamic w hang = alone_dynamic w At i.siblings landing i.enter holding k in
-          let e = agree_raise w laws l s hang (guard w At k s) dyn (hushed (step_concerns w i.state i.kids k) hang s (λ x j. concerned w i.state i.kids (Do k) x (alone_within k x j)) quiet) in
+          let e = agree_raise w laws l s hang (guard w At k s) dyn (hushed (step_concerns w i.state i.kids k) hang s (λ x j. concerned w i.state i.kids (lone k) x (alone_within k x j)) quiet) in
           confined_from s _ _ e (attempt_confined k fine hang (λ q s. stay s) pc s dyn holds (quiet_kept (step_concerns w i.state i.kids k) hang (guard w At k s) s dyn quiet) (inl high) (λ q up. confined_self _))
-      does_confined (Try k hang h) fine pc s holds high quiet =
-          let hung = touches w At (Try k hang h) in
-          let dyn : OfDynamic w hung = touches_dynamic (Try k hang h) in
-          let e = agree_raise w laws l s hung (guard w At k s) dyn (hushed (concerns w i.state i.kids (Try k hang h)) hung s (concerned w i.state i.kids (Try k hang h)) quiet) in
+      does_confined (try k hang h) fine pc s holds high quiet =
+          let hung = touches w At (try k hang h) in
+          let dyn : OfDynamic w hung = touches_dynamic (try k hang h) in
+          let e = agree_raise w laws l s hung (guard w At k s) dyn (hushed (concerns w i.state i.kids (try k hang h)) hung s (concerned w i.state i.kids (try k hang h)) quiet) in
           let r' = raise w.order hung (guard w At k s) s in
-          let q = quiet_kept (concerns w i.state i.kids (Try k hang h)) hung (guard w At k s) s dyn quiet in
+          let q = quiet_kept (concerns w i.state i.kids (try k hang h)) hung (guard w At k s) s dyn quiet in
           confined_from s _ _ e (attempt_confined k fine.0 hung (does_block w At i.enter h) pc s dyn holds (quiet_left (step_concerns w i.state i.kids k) (block_concerns w i.state i.kids h) r' q) (inl high)
           (λ r up. block_confined h fine.1 r _ (holds_raise w s hung _ dyn holds) up (quiet_right (step_concerns w i.state i.kids k) (block_concerns w i.state i.kids h) r' q)))
-      does_confined (If hang e a b) fine pc s holds high quiet =
-          let hung = touches w At (If hang e a b) in
-          let dyn : OfDynamic w hung = touches_dynamic (If hang e a b) in
-          let same = agree_raise w laws l s hung (tag w e s) dyn (hushed (concerns w i.state i.kids (If hang e a b)) hung s (concerned w i.state i.kids (If hang e a b)) quiet) in
+      does_confined (if_else hang e a b) fine pc s holds high quiet =
+          let hung = touches w At (if_else hang e a b) in
+          let dyn : OfDynamic w hung = touches_dynamic (if_else hang e a b) in
+          let same = agree_raise w laws l s hung (tag w e s) dyn (hushed (concerns w i.state i.kids (if_else hang e a b)) hung s (concerned w i.state i.kids (if_else hang e a b)) quiet) in
           let r' = raise w.order hung (tag w e s) s in
-          let q = quiet_kept (concerns w i.state i.kids (If hang e a b)) hung (tag w e s) s dyn quiet in
+          let q = quiet_kept (concerns w i.state i.kids (if_else hang e a b)) hung (tag w e s) s dyn quiet in
           confined_from s _ _ same (select_confined e hung (branch (does_block w At i.enter a) (does_block w At i.enter b)) pc s (high_left w.order laws l pc _ high)
           (λ v r up. branch_all (λ z. Confined w l (raise w.order hung (tag w e s) s) z) (does_block w At i.enter a) (does_block w At i.enter b) v r (raise w.order hung (tag w e s) s)
           (block_confined a fine.1 r _ (holds_raise w s hung _ dyn holds) up (quiet_left (block_concerns w i.state i.kids a) (block_concerns w i.state i.kids b) r' q))
           (block_confined b fine.2 r _ (holds_raise w s hung _ dyn holds) up (quiet_right (block_concerns w i.state i.kids a) (block_concerns w i.state i.kids b) r' q))))
-      does_confined (TryThen k hang a b) fine pc s holds high quiet =
-          let hung = touches w At (TryThen k hang a b) in
-          let dyn : OfDynamic w hung = touches_dynamic (TryThen k hang a b) in
-          let e = agree_raise w laws l s hung (guard w At k s) dyn (hushed (concerns w i.state i.kids (TryThen k hang a b)) hung s (concerned w i.state i.kids (TryThen k hang a b)) quiet) in
+      does_confined (try_then k hang a b) fine pc s holds high quiet =
+          let hung = touches w At (try_then k hang a b) in
+          let dyn : OfDynamic w hung = touches_dynamic (try_then k hang a b) in
+          let e = agree_raise w laws l s hung (guard w At k s) dyn (hushed (concerns w i.state i.kids (try_then k hang a b)) hung s (concerned w i.state i.kids (try_then k hang a b)) quiet) in
           let r' = raise w.order hung (guard w At k s) s in
-          let q = quiet_kept (concerns w i.state i.kids (TryThen k hang a b)) hung (guard w At k s) s dyn quiet in
+          let q = quiet_kept (concerns w i.state i.kids (try_then k hang a b)) hung (guard w At k s) s dyn quiet in
           let own = step_concerns w i.state i.kids k in
           let one = block_concerns w i.state i.kids a in
           let other = block_concerns w i.state i.kids b in
@@ -354,25 +354,25 @@ module _ (w : World) (laws : Laws w.order) (l : ℕ) where
           confined_from s _ _ e (attempt_then_confined k fine.0 hung (does_block w At i.enter a) (does_block w At i.enter b) pc s dyn holds (quiet_left own (λ x. one x || other x) r' q) (inl high)
           (λ r u up hold same. block_confined a fine.1 r u hold up (λ z g h. hush_next r' u same z g (quiet_left one other r' behind z g h)))
           (λ r up. block_confined b fine.2 r _ (holds_raise w s hung _ dyn holds) up (quiet_right one other r' behind)))
-      does_confined (Case hang e arms) fine pc s holds high quiet =
-          let hung = touches w At (Case hang e arms) in
-          let dyn : OfDynamic w hung = touches_dynamic (Case hang e arms) in
-          let same = agree_raise w laws l s hung (tag w e s) dyn (hushed (concerns w i.state i.kids (Case hang e arms)) hung s (concerned w i.state i.kids (Case hang e arms)) quiet) in
-          let q = quiet_kept (concerns w i.state i.kids (Case hang e arms)) hung (tag w e s) s dyn quiet in
+      does_confined (case_of hang e arms) fine pc s holds high quiet =
+          let hung = touches w At (case_of hang e arms) in
+          let dyn : OfDynamic w hung = touches_dynamic (case_of hang e arms) in
+          let same = agree_raise w laws l s hung (tag w e s) dyn (hushed (concerns w i.state i.kids (case_of hang e arms)) hung s (concerned w i.state i.kids (case_of hang e arms)) quiet) in
+          let q = quiet_kept (concerns w i.state i.kids (case_of hang e arms)) hung (tag w e s) s dyn quiet in
           confined_from s _ _ same (select_confined e hung (does_arms w At i.enter arms) pc s (high_left w.order laws l pc _ high)
           (λ v r up. arms_confined arms fine.1 v r _ (holds_raise w s hung _ dyn holds) up q))
 
       pub arms_confined : (arms : Arms) → ProperArms w i arms → (v pc : ℕ) (s : Store) → Holds w s → High w.order l pc → Quiet w l (arms_concern w i.state i.kids arms) s
           → Confined w l s (does_arms w At i.enter arms v pc s)
-      arms_confined (Last b) fine v pc s holds high quiet = block_confined b fine pc s holds high quiet
-      arms_confined (Arm cs b arms) fine v pc s holds high quiet =
+      arms_confined (last_arm b) fine v pc s holds high quiet = block_confined b fine pc s holds high quiet
+      arms_confined (and_arm cs b arms) fine v pc s holds high quiet =
           choose_all (λ z. Confined w l s z) cs (does_block w At i.enter b) (does_arms w At i.enter arms) v pc s
           (block_confined b fine.0 pc s holds high (quiet_left (block_concerns w i.state i.kids b) (arms_concern w i.state i.kids arms) s quiet))
           (arms_confined arms fine.1 v pc s holds high (quiet_right (block_concerns w i.state i.kids b) (arms_concern w i.state i.kids arms) s quiet))
 
       pub block_confined : (b : Block) → ProperBlock w i b → (pc : ℕ) (s : Store) → Holds w s → High w.order l pc → Quiet w l (block_concerns w i.state i.kids b) s → Confined w l s (does_block w At i.enter b pc s)
-      block_confined End fine pc s holds high quiet = confined_self s
-      block_confined (Then c cs) fine pc s holds high quiet =
+      block_confined end_block fine pc s holds high quiet = confined_self s
+      block_confined (command_then c cs) fine pc s holds high quiet =
           let f = does_confined c fine.0 pc s holds high (quiet_left (concerns w i.state i.kids c) (block_concerns w i.state i.kids cs) s quiet) in
           let s' = (does w At i.enter c pc s).store in
           let g = block_confined cs fine.1 pc s' (keeps c fine.0 pc s holds) high (λ z g h. hush_next s s' f.same z g (quiet z g (or_right (concerns w i.state i.kids c (owner z)) _ h))) in
@@ -388,20 +388,20 @@ changing_no_state w (next_whole m) g = cc
 
 module _ (w : World) (laws : Laws w.order) (l : ℕ) where
   -- what concerns a state's body, concerns the state
-  body_concerned : (i : Site w) (x : ℕ) → is_state w x ≡ false → block_concerns w i.state i.kids i.body x ≡ true → state_concerns w (Node i.state i.body i.kids) x ≡ true
+  body_concerned : (i : Site w) (x : ℕ) → is_state w x ≡ false → block_concerns w i.state i.kids i.body x ≡ true → state_concerns w (state_node i.state i.body i.kids) x ≡ true
   body_concerned i x st h = elim (cases_Bool (parted w x)) [
     | inl p ↦ rw p (block_hung w x (and_left (is_memory w x) _ p) (false_from_ne_true (is_dynamic w x) (λ d. let no = dynamic_whole w x d in cc)) i.state i.kids (not_own w i x st) (no_kid w i x st) i.siblings i.kids i.body (node w i).steps h)
     | inr p ↦ rw p (block_found i.state i.kids x (not_own w i x st) (no_kid w i x st) i.body (sym (block_whole w x p i.state i.kids i.body) ∙ h))
   ]
 
-  pub body_quiet : (i : Site w) (s : Store) → Quiet w l (state_concerns w (Node i.state i.body i.kids)) s → Quiet w l (block_concerns w i.state i.kids i.body) s
+  pub body_quiet : (i : Site w) (s : Store) → Quiet w l (state_concerns w (state_node i.state i.body i.kids)) s → Quiet w l (block_concerns w i.state i.kids i.body) s
   body_quiet i s q z g h = q z g (body_concerned i (owner z) (changing_no_state w z g) h)
 
-  pub body_even : (i : Site w) (s : Store) → Even w (state_concerns w (Node i.state i.body i.kids)) s → Even w (block_concerns w i.state i.kids i.body) s
+  pub body_even : (i : Site w) (s : Store) → Even w (state_concerns w (state_node i.state i.body i.kids)) s → Even w (block_concerns w i.state i.kids i.body) s
   body_even i s q z g d h = q z g d (body_concerned i (owner z) (changing_no_state w z g) h)
 
 -- the state that is the n-th of a group, with what its children do
-abbrev pub site_at : (w : World) (p n e : ℕ) (b : Block) (g q : Group) → Around w p q → Nth q n (Node e b g) → Site w
+abbrev pub site_at : (w : World) (p n e : ℕ) (b : Block) (g q : Group) → Around w p q → Nth q n (state_node e b g) → Site w
 site_at w p n e b g q around self = record { state = e; parent = p; index = n; body = b; kids = g; siblings = q; around = around; self = self; enter = does_child w g e }
 
 module _ (w : World) (laws : Laws w.order) (l : ℕ) where
@@ -412,16 +412,16 @@ module _ (w : World) (laws : Laws w.order) (l : ℕ) where
     unfolding does_state does_child
 
     state_confined : (t : State) (p n : ℕ) (q : Group) → Around w p q → Nth q n t → (pc : ℕ) (s : Store) → Holds w s → High w.order l pc → Quiet w l (state_concerns w t) s → Confined w l s (does_state w t p pc s)
-    state_confined (Node e b g) p n q around self pc s holds high quiet =
+    state_confined (state_node e b g) p n q around self pc s holds high quiet =
         let i = site_at w p n e b g q around self in
         let kids = kids_around w i in
         block_confined w laws l i (λ m r t. from_confined g e g 0 kids (λ m a h. let e : 0 + m ≡ m = omega arith in rw e h) m r t) (kids_hold e g kids) b (proper_body w i) pc s holds high (body_quiet w laws l i s quiet)
 
     -- the states of the parent's group q from the k-th on
     from_confined : (g : Group) (p : ℕ) (q : Group) (k : ℕ) → Around w p q → ((m : ℕ) (a : State) → Nth g m a → Nth q (k + m) a) → (m pc : ℕ) (s : Store) → Holds w s → High w.order l pc → Quiet w l (group_concerns w g) s → Confined w l s (does_child w g p m pc s)
-    from_confined None p q k around place m pc s holds high quiet = confined_self w laws l s
-    from_confined (More t g) p q k around place zero pc s holds high quiet = state_confined t p (k + 0) q around (place zero t refl) pc s holds high (λ z j h. quiet z j (or_left _ _ h))
-    from_confined (More t g) p q k around place (suc m) pc s holds high quiet =
+    from_confined no_node p q k around place m pc s holds high quiet = confined_self w laws l s
+    from_confined (and_node t g) p q k around place zero pc s holds high quiet = state_confined t p (k + 0) q around (place zero t refl) pc s holds high (λ z j h. quiet z j (or_left _ _ h))
+    from_confined (and_node t g) p q k around place (suc m) pc s holds high quiet =
         from_confined g p q (suc k) around (λ m a h. let e : suc k + m ≡ k + suc m = omega arith in rw e (place (suc m) a h)) m pc s holds high (λ z j h. quiet z j (or_right (state_concerns w t (owner z)) _ h))
 
   pub child_confined : (p : ℕ) (q : Group) → Around w p q → Entering w l q (does_child w q p)

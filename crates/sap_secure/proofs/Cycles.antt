@@ -3,7 +3,7 @@ use Rattle.std.proofs.Common.{◌≡◌, ℕ, zero, suc, ◌<◌, Bool, [], refl
 use Rattle.std.proofs.lemmas.Bool.{cases_Bool, and_from, or_right}
 use Rattle.sap_lemmas.proofs.Bools.{and_left, and_right}
 use Rattle.sap_lattice.specs.Order.{Laws}
-use Rattle.sap_meaning.specs.Program.{World, is_dynamic, children, State, Node, Group, None, More}
+use Rattle.sap_meaning.specs.Program.{World, is_dynamic, children, State, state_node, Group, no_node, and_node}
 use Rattle.sap_meaning.specs.Store.{own, Store, owner, level, child, raise, After}
 use Rattle.sap_meaning.specs.State.{Holds}
 use Rattle.sap_meaning.specs.Touches.{among, root_touches}
@@ -24,9 +24,9 @@ use Rattle.sap_secure.proofs.Twin.{twin_confined}
 use Rattle.sap_secure.proofs.Pairs.{Pair, Paired, falls, block_pair}
 
 nth_once : (g : Group) (m : ℕ) (a : State) → Nth g m a → OnceGroup g → OnceState a
-nth_once None m a h once = absurd h
-nth_once (More t g) zero a h once = subst OnceState h once.0
-nth_once (More t g) (suc m) a h once = nth_once g m a h once.1
+nth_once no_node m a h once = absurd h
+nth_once (and_node t g) zero a h once = subst OnceState h once.0
+nth_once (and_node t g) (suc m) a h once = nth_once g m a h once.1
 
 module _ (w : World) (laws : Laws w.order) (l : ℕ) where
   -- two runs of a state that is current and low
@@ -42,15 +42,15 @@ module _ (w : World) (laws : Laws w.order) (l : ℕ) where
     unfolding does_state scene_at
 
     state_pair : (t : State) → Law t
-    state_pair (Node e b g) once p n q around self pc s u hs hu low like es eu path here there down =
+    state_pair (state_node e b g) once p n q around self pc s u hs hu low like es eu path here there down =
         let i = site_at w p n e b g q around self in
         block_pair w laws l (scene_at w laws l p n e b g q around self) (OnceGroup g) (lift g e (kids_around w i) (λ m a h. group_pair g m a h)) b (proper_body w i) once (node w i).closes pc s u low
         (record { first = hs; second = hu; like = like; path = path; here = here; there = there; low = down; even = body_even w laws l i s es; even2 = body_even w laws l i u eu })
 
     group_pair : (g : Group) (m : ℕ) (a : State) → Nth g m a → Law a
-    group_pair None m a h = absurd h
-    group_pair (More c g) zero a h = subst Law h (state_pair c)
-    group_pair (More c g) (suc m) a h = group_pair g m a h
+    group_pair no_node m a h = absurd h
+    group_pair (and_node c g) zero a h = subst Law h (state_pair c)
+    group_pair (and_node c g) (suc m) a h = group_pair g m a h
 
   pub paired_by : (g : Group) (e : ℕ) → Around w e g → OnceGroup g → Paired w l e g (does_child w g e)
   paired_by g e around = lift g e around (λ m a h. group_pair g m a h)
@@ -58,9 +58,9 @@ module _ (w : World) (laws : Laws w.order) (l : ℕ) where
 -- the root's fall is the body of the current top-level state, after the raises
 pub root_nth : (w : World) (hang : ℕ → Bool) (p : ℕ) (g : Group) (n : ℕ) (a : State) (s : Store) → Nth g n a → root_fall w hang (λ t. does_state w t p) g n s ≡ does_child w g p n (level w (own (number_of a)) s) (raise w.order hang (level w (own (number_of a)) s) s)
 unfolding root_fall does_child
-root_nth w hang p None n a s h = absurd h
-root_nth w hang p (More (Node c b k) g) zero a s h = ap (λ x. does_state w (Node c b k) p (level w (own (number_of x)) s) (raise w.order hang (level w (own (number_of x)) s) s)) h
-root_nth w hang p (More t g) (suc n) a s h = root_nth w hang p g n a s h
+root_nth w hang p no_node n a s h = absurd h
+root_nth w hang p (and_node (state_node c b k) g) zero a s h = ap (λ x. does_state w (state_node c b k) p (level w (own (number_of x)) s) (raise w.order hang (level w (own (number_of x)) s) s)) h
+root_nth w hang p (and_node t g) (suc n) a s h = root_nth w hang p g n a s h
 
 module _ (w : World) (laws : Laws w.order) (l : ℕ) (p : ℕ) (g : Group) (around : Around w p g) (once : OnceGroup g) where
   abbrev Hung : ℕ → Bool
@@ -116,9 +116,9 @@ module _ (w : World) (laws : Laws w.order) (l : ℕ) (p : ℕ) (g : Group) (arou
 module _ (w : World) (laws : Laws w.order) (l : ℕ) where
   pub fall_pair : (p : ℕ) (g : Group) (around : Around w p g) (once : OnceGroup g) (s u : Store) → Holds w s → Holds w u → Agree w l s u → Even w (group_concerns w g) s → Even w (group_concerns w g) u → path w l p g s ≡ path w l p g u → Pair w l p g (root_fall w (root_touches w g) (λ t. does_state w t p) g (child p s) s) (root_fall w (root_touches w g) (λ t. does_state w t p) g (child p u) u)
   unfolding root_fall
-  fall_pair p None around once s u hs hu like es eu e = record { twin = record { same = like; refused = refl }; path = e }
-  fall_pair p (More t g) around once s u hs hu like es eu e =
+  fall_pair p no_node around once s u hs hu like es eu e = record { twin = record { same = like; refused = refl }; path = e }
+  fall_pair p (and_node t g) around once s u hs hu like es eu e =
       let some : 0 < children w p = rw around.count (omega arith) in
-      let a = nth_of (More t g) (child p s) (rw around.count at (hs.seated p some)) in
-      let b = nth_of (More t g) (child p u) (rw around.count at (hu.seated p some)) in
-      fall_with w laws l p (More t g) around once s u a.0 b.0 a.1 b.1 hs hu like es eu e
+      let a = nth_of (and_node t g) (child p s) (rw around.count at (hs.seated p some)) in
+      let b = nth_of (and_node t g) (child p u) (rw around.count at (hu.seated p some)) in
+      fall_with w laws l p (and_node t g) around once s u a.0 b.0 a.1 b.1 hs hu like es eu e

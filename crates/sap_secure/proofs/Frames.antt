@@ -5,7 +5,7 @@ use Rattle.sap_lemmas.proofs.Bools.{neither_left, neither_right}
 use Rattle.sap_lemmas.proofs.Numbers.{test_of_same}
 use Rattle.sap_meaning.proofs.FineLemmas.{inside_among}
 use Rattle.sap_maps.specs.Term.{Term}
-use Rattle.sap_meaning.specs.Program.{World, is_dynamic, is_memory, is_state, place, below, Step, Set, Write, Retag, RetagCell, Goto, Fall, Command, Do, Try, If, TryThen, Case, Arms, Last, Arm, Block, End, Then, State, Node, Group, None, More}
+use Rattle.sap_meaning.specs.Program.{World, is_dynamic, is_memory, is_state, place, below, Step, assign, write, retag, retag_cell, go_to, fall_to_child, Command, lone, try, if_else, try_then, case_of, Arms, last_arm, and_arm, Block, end_block, command_then, State, state_node, Group, no_node, and_node}
 use Rattle.sap_meaning.specs.Store.{Slot, own, start, next, Store, owner, home, level, child, same_slot, put_number, put_level, put_child, raised, raise, lowered, reset, After, stay}
 use Rattle.sap_meaning.specs.Expressions.{value, tag}
 use Rattle.sap_meaning.specs.Checks.{Spot, guard, test}
@@ -82,50 +82,50 @@ module _ (w : World) (i : Site w) (q : ℕ) where
   module _ (x : ℕ) (s : is_state w x ≡ true) where
     pub open_step : (k : Step) → ProperStep w i k → transfers k ≡ false → step_retags k x ≡ false → (pc : ℕ) (b t : Store) → Kept w (own x) q t (effect w (spot i) i.enter k pc b t).store
     unfolding effect
-    open_step (Set site y e) fine plain un pc b t = kept_next w (own x) q _ _ _ (kept_number w (own x) q t (own y) _) (kept_level w (own x) q _ (own y) _ (register_apart w x y s fine.0.0))
-    open_step (Write site m j e) fine plain un pc b t = elim (cases_Bool (is_dynamic w m)) [
+    open_step (assign site y e) fine plain un pc b t = kept_next w (own x) q _ _ _ (kept_number w (own x) q t (own y) _) (kept_level w (own x) q _ (own y) _ (register_apart w x y s fine.0.0))
+    open_step (write site m j e) fine plain un pc b t = elim (cases_Bool (is_dynamic w m)) [
       | inl d ↦ rw d (kept_next w (own x) q _ _ _ (kept_raise w (own x) q t (λ y. nat_eq y m) _ (memory_apart w x m s fine.0.0)) (kept_number w (own x) q _ (next m _) _))
       | inr d ↦ rw d (kept_number w (own x) q t (next m _) _)
     ]
-    open_step (Retag site y n) fine plain un pc b t = kept_next w (own x) q _ _ _ (kept_number w (own x) q t (own y) _) (kept_level w (own x) q _ (own y) _ un)
-    open_step (RetagCell site m j n) fine plain un pc b t = kept_next w (own x) q _ _ _ (kept_number w (own x) q t (next m _) _) (kept_level w (own x) q _ (next m _) _ (cells_apart m (value w j b)))
+    open_step (retag site y n) fine plain un pc b t = kept_next w (own x) q _ _ _ (kept_number w (own x) q t (own y) _) (kept_level w (own x) q _ (own y) _ un)
+    open_step (retag_cell site m j n) fine plain un pc b t = kept_next w (own x) q _ _ _ (kept_number w (own x) q t (next m _) _) (kept_level w (own x) q _ (next m _) _ (cells_apart m (value w j b)))
       where
         cells_apart : (m j : ℕ) → same_slot (own x) (home w (next m j)) ≡ false
         cells_apart m j = elim (cases_Bool (is_dynamic w m)) [ inl d ↦ rw d refl | inr d ↦ rw d refl ]
-    open_step (Goto site target) fine plain un pc b t = cc
-    open_step (Fall site hang) fine plain un pc b t = cc
+    open_step (go_to site target) fine plain un pc b t = cc
+    open_step (fall_to_child site hang) fine plain un pc b t = cc
 
     step_off : (k : Step) → ProperStep w i k → transfers k ≡ false → step_hangs i.state i.kids k x ≡ false
-    step_off (Set site y e) fine plain = register_apart w x y s fine.0.0
-    step_off (Write site m j e) fine plain = memory_apart w x m s fine.0.0
-    step_off (Retag site y n) fine plain = refl
-    step_off (RetagCell site m j n) fine plain = refl
-    step_off (Goto site target) fine plain = cc
-    step_off (Fall site hang) fine plain = cc
+    step_off (assign site y e) fine plain = register_apart w x y s fine.0.0
+    step_off (write site m j e) fine plain = memory_apart w x m s fine.0.0
+    step_off (retag site y n) fine plain = refl
+    step_off (retag_cell site m j n) fine plain = refl
+    step_off (go_to site target) fine plain = cc
+    step_off (fall_to_child site hang) fine plain = cc
 
     alone_off : (k : Step) → transfers k ≡ false → raised_alone w (spot i) k x ≡ false
-    alone_off (Set site y e) plain = refl
-    alone_off (Write site m j e) plain = refl
-    alone_off (Retag site y n) plain = refl
-    alone_off (RetagCell site m j n) plain = refl
-    alone_off (Goto site target) plain = cc
-    alone_off (Fall site hang) plain = cc
+    alone_off (assign site y e) plain = refl
+    alone_off (write site m j e) plain = refl
+    alone_off (retag site y n) plain = refl
+    alone_off (retag_cell site m j n) plain = refl
+    alone_off (go_to site target) plain = cc
+    alone_off (fall_to_child site hang) plain = cc
 
     mutual
       command_off : (c : Command) → Proper w i c → Open c → hangs i.state i.kids c x ≡ false
-      command_off (Do k) fine plain = step_off k fine plain
-      command_off (Try k hang h) fine plain = or_from _ _ (step_off k fine.0 plain.0) (block_off h fine.1 plain.1)
-      command_off (If hang e a b) fine plain = or_from _ _ (block_off a fine.1 plain.0) (block_off b fine.2 plain.1)
-      command_off (TryThen k hang a b) fine plain = or_from _ _ (step_off k fine.0 plain.0) (or_from _ _ (block_off a fine.1 plain.1) (block_off b fine.2 plain.2))
-      command_off (Case hang e arms) fine plain = arms_off arms fine.1 plain
+      command_off (lone k) fine plain = step_off k fine plain
+      command_off (try k hang h) fine plain = or_from _ _ (step_off k fine.0 plain.0) (block_off h fine.1 plain.1)
+      command_off (if_else hang e a b) fine plain = or_from _ _ (block_off a fine.1 plain.0) (block_off b fine.2 plain.1)
+      command_off (try_then k hang a b) fine plain = or_from _ _ (step_off k fine.0 plain.0) (or_from _ _ (block_off a fine.1 plain.1) (block_off b fine.2 plain.2))
+      command_off (case_of hang e arms) fine plain = arms_off arms fine.1 plain
 
       arms_off : (arms : Arms) → ProperArms w i arms → OpenArms arms → arms_hang i.state i.kids arms x ≡ false
-      arms_off (Last b) fine plain = block_off b fine plain
-      arms_off (Arm constants b arms) fine plain = or_from _ _ (block_off b fine.0 plain.0) (arms_off arms fine.1 plain.1)
+      arms_off (last_arm b) fine plain = block_off b fine plain
+      arms_off (and_arm constants b arms) fine plain = or_from _ _ (block_off b fine.0 plain.0) (arms_off arms fine.1 plain.1)
 
       block_off : (b : Block) → ProperBlock w i b → OpenBlock b → block_hangs i.state i.kids b x ≡ false
-      block_off End fine plain = refl
-      block_off (Then c cs) fine plain = or_from _ _ (command_off c fine.0 plain.0) (block_off cs fine.1 plain.1)
+      block_off end_block fine plain = refl
+      block_off (command_then c cs) fine plain = or_from _ _ (command_off c fine.0 plain.0) (block_off cs fine.1 plain.1)
 
     untouched : (d a : Bool) → a ≡ false → (d && a) ≡ false
     untouched true a h = h
@@ -135,81 +135,81 @@ module _ (w : World) (i : Site w) (q : ℕ) where
       unfolding does does_arms does_block
 
       pub open_kept : (c : Command) → Proper w i c → Open c → retags c x ≡ false → (pc : ℕ) (t : Store) → Kept w (own x) q t (does w (spot i) i.enter c pc t).store
-      open_kept (Do k) fine plain un pc t =
+      open_kept (lone k) fine plain un pc t =
           kept_attempt w (own x) q (spot i) i.enter k (raised_alone w (spot i) k) (λ p t. stay t) pc t (alone_off k plain) (λ b r. open_step k fine plain un pc b r) (λ p t. kept_self w (own x) q t)
-      open_kept (Try k hang h) fine plain un pc t =
-          kept_attempt w (own x) q (spot i) i.enter k (touches w (spot i) (Try k hang h)) (does_block w (spot i) i.enter h) pc t (untouched (is_dynamic w x) _ (command_off (Try k hang h) fine plain))
+      open_kept (try k hang h) fine plain un pc t =
+          kept_attempt w (own x) q (spot i) i.enter k (touches w (spot i) (try k hang h)) (does_block w (spot i) i.enter h) pc t (untouched (is_dynamic w x) _ (command_off (try k hang h) fine plain))
           (λ b r. open_step k fine.0 plain.0 (neither_left _ _ un) pc b r) (λ p t. open_list h fine.1 plain.1 (neither_right (step_retags k x) _ un) p t)
-      open_kept (If hang e a b) fine plain un pc t =
-          kept_select w (own x) q e (touches w (spot i) (If hang e a b)) (does_block w (spot i) i.enter a) (does_block w (spot i) i.enter b) pc t (untouched (is_dynamic w x) _ (command_off (If hang e a b) fine plain))
+      open_kept (if_else hang e a b) fine plain un pc t =
+          kept_select w (own x) q e (touches w (spot i) (if_else hang e a b)) (does_block w (spot i) i.enter a) (does_block w (spot i) i.enter b) pc t (untouched (is_dynamic w x) _ (command_off (if_else hang e a b) fine plain))
           (λ p t. open_list a fine.1 plain.0 (neither_left _ _ un) p t) (λ p t. open_list b fine.2 plain.1 (neither_right (block_retags a x) _ un) p t)
-      open_kept (TryThen k hang a b) fine plain un pc t =
-          kept_attempt_then w (own x) q (spot i) i.enter k (touches w (spot i) (TryThen k hang a b)) (does_block w (spot i) i.enter a) (does_block w (spot i) i.enter b) pc t
-          (untouched (is_dynamic w x) _ (command_off (TryThen k hang a b) fine plain)) (λ b' r. open_step k fine.0 plain.0 (neither_left _ _ un) pc b' r)
+      open_kept (try_then k hang a b) fine plain un pc t =
+          kept_attempt_then w (own x) q (spot i) i.enter k (touches w (spot i) (try_then k hang a b)) (does_block w (spot i) i.enter a) (does_block w (spot i) i.enter b) pc t
+          (untouched (is_dynamic w x) _ (command_off (try_then k hang a b) fine plain)) (λ b' r. open_step k fine.0 plain.0 (neither_left _ _ un) pc b' r)
           (λ p t. open_list a fine.1 plain.1 (neither_left _ _ (neither_right (step_retags k x) _ un)) p t)
           (λ p t. open_list b fine.2 plain.2 (neither_right (block_retags a x) _ (neither_right (step_retags k x) _ un)) p t)
-      open_kept (Case hang e arms) fine plain un pc t =
-          kept_pick w (own x) q e (touches w (spot i) (Case hang e arms)) (does_arms w (spot i) i.enter arms) pc t (untouched (is_dynamic w x) _ (command_off (Case hang e arms) fine plain))
+      open_kept (case_of hang e arms) fine plain un pc t =
+          kept_pick w (own x) q e (touches w (spot i) (case_of hang e arms)) (does_arms w (spot i) i.enter arms) pc t (untouched (is_dynamic w x) _ (command_off (case_of hang e arms) fine plain))
           (λ v p t. open_arms arms fine.1 plain un v p t)
 
       open_arms : (arms : Arms) → ProperArms w i arms → OpenArms arms → arms_retag arms x ≡ false → (v pc : ℕ) (t : Store) → Kept w (own x) q t (does_arms w (spot i) i.enter arms v pc t).store
-      open_arms (Last b) fine plain un v pc t = open_list b fine plain un pc t
-      open_arms (Arm cs b arms) fine plain un v pc t =
+      open_arms (last_arm b) fine plain un v pc t = open_list b fine plain un pc t
+      open_arms (and_arm cs b arms) fine plain un v pc t =
           choose_all (λ r. Kept w (own x) q t r.store) cs (does_block w (spot i) i.enter b) (does_arms w (spot i) i.enter arms) v pc t (open_list b fine.0 plain.0 (neither_left _ _ un) pc t)
           (open_arms arms fine.1 plain.1 (neither_right (block_retags b x) _ un) v pc t)
 
       open_list : (b : Block) → ProperBlock w i b → OpenBlock b → block_retags b x ≡ false → (pc : ℕ) (t : Store) → Kept w (own x) q t (does_block w (spot i) i.enter b pc t).store
-      open_list End fine plain un pc t = kept_self w (own x) q t
-      open_list (Then c cs) fine plain un pc t = kept_next w (own x) q _ _ _ (open_kept c fine.0 plain.0 (neither_left _ _ un) pc t) (open_list cs fine.1 plain.1 (neither_right (retags c x) _ un) pc _)
+      open_list end_block fine plain un pc t = kept_self w (own x) q t
+      open_list (command_then c cs) fine plain un pc t = kept_next w (own x) q _ _ _ (open_kept c fine.0 plain.0 (neither_left _ _ un) pc t) (open_list cs fine.1 plain.1 (neither_right (retags c x) _ un) pc _)
 
   -- a cell z of the enforced memory m
   module _ (m : ℕ) (mem : is_memory w m ≡ true) (d : is_dynamic w m ≡ false) (z : Slot) (cell : (h : ℕ → Bool) → raised h (home w z) ≡ false) (at : owner z ≡ m) (lone : (x : ℕ) → same_slot (home w z) (own x) ≡ false) where
     pub cell_step : (k : Step) → transfers k ≡ false → step_writes k m ≡ false → (pc : ℕ) (b t : Store) → Kept w z q t (effect w (spot i) i.enter k pc b t).store
     unfolding effect
-    cell_step (Set site y e) plain un pc b t = kept_next w z q _ _ _ (kept_number w z q t (own y) _) (kept_level w z q _ (own y) _ (lone y))
-    cell_step (Write site n j e) plain un pc b t = elim (cases_Bool (is_dynamic w n)) [
+    cell_step (assign site y e) plain un pc b t = kept_next w z q _ _ _ (kept_number w z q t (own y) _) (kept_level w z q _ (own y) _ (lone y))
+    cell_step (write site n j e) plain un pc b t = elim (cases_Bool (is_dynamic w n)) [
       | inl y ↦ rw y (kept_next w z q _ _ _ (kept_raise w z q t (λ y. nat_eq y n) _ (cell (λ y. nat_eq y n))) (kept_number w z q _ (next n _) _))
       | inr y ↦ rw y (kept_number w z q t (next n _) _)
     ]
-    cell_step (Retag site y n) plain un pc b t = kept_next w z q _ _ _ (kept_number w z q t (own y) _) (kept_level w z q _ (own y) _ (lone y))
-    cell_step (RetagCell site n j t') plain un pc b t = kept_next w z q _ _ _ (kept_number w z q t (next n _) _) (kept_level w z q _ (next n _) _ (other (value w j b)))
+    cell_step (retag site y n) plain un pc b t = kept_next w z q _ _ _ (kept_number w z q t (own y) _) (kept_level w z q _ (own y) _ (lone y))
+    cell_step (retag_cell site n j t') plain un pc b t = kept_next w z q _ _ _ (kept_number w z q t (next n _) _) (kept_level w z q _ (next n _) _ (other (value w j b)))
       where
         other : (j : ℕ) → same_slot (home w z) (home w (next n j)) ≡ false
         other j = false_from_ne_true _ (λ h.
             let e : owner (home w z) ≡ owner (home w (next n j)) = ap owner (slot_same (home w z) (home w (next n j)) h) in
             let f : m ≡ n = sym at ∙ sym (owner_home w z) ∙ e ∙ owner_home w (next n j) in
             let g : nat_eq m n ≡ true = rw f (test_of_same n) in cc)
-    cell_step (Goto site target) plain un pc b t = cc
-    cell_step (Fall site hang) plain un pc b t = cc
+    cell_step (go_to site target) plain un pc b t = cc
+    cell_step (fall_to_child site hang) plain un pc b t = cc
 
     mutual
       unfolding does does_arms does_block
 
       pub cell_kept : (c : Command) → Open c → writes c m ≡ false → (pc : ℕ) (t : Store) → Kept w z q t (does w (spot i) i.enter c pc t).store
-      cell_kept (Do k) plain un pc t =
+      cell_kept (lone k) plain un pc t =
           kept_attempt w z q (spot i) i.enter k (raised_alone w (spot i) k) (λ p t. stay t) pc t (cell _) (λ b r. cell_step k plain un pc b r) (λ p t. kept_self w z q t)
-      cell_kept (Try k hang h) plain un pc t =
-          kept_attempt w z q (spot i) i.enter k (touches w (spot i) (Try k hang h)) (does_block w (spot i) i.enter h) pc t (cell _)
+      cell_kept (try k hang h) plain un pc t =
+          kept_attempt w z q (spot i) i.enter k (touches w (spot i) (try k hang h)) (does_block w (spot i) i.enter h) pc t (cell _)
           (λ b r. cell_step k plain.0 (neither_left _ _ un) pc b r) (λ p t. cell_list h plain.1 (neither_right (step_writes k m) _ un) p t)
-      cell_kept (If hang e a b) plain un pc t =
-          kept_select w z q e (touches w (spot i) (If hang e a b)) (does_block w (spot i) i.enter a) (does_block w (spot i) i.enter b) pc t (cell _)
+      cell_kept (if_else hang e a b) plain un pc t =
+          kept_select w z q e (touches w (spot i) (if_else hang e a b)) (does_block w (spot i) i.enter a) (does_block w (spot i) i.enter b) pc t (cell _)
           (λ p t. cell_list a plain.0 (neither_left _ _ un) p t) (λ p t. cell_list b plain.1 (neither_right (block_writes a m) _ un) p t)
-      cell_kept (TryThen k hang a b) plain un pc t =
-          kept_attempt_then w z q (spot i) i.enter k (touches w (spot i) (TryThen k hang a b)) (does_block w (spot i) i.enter a) (does_block w (spot i) i.enter b) pc t (cell _)
+      cell_kept (try_then k hang a b) plain un pc t =
+          kept_attempt_then w z q (spot i) i.enter k (touches w (spot i) (try_then k hang a b)) (does_block w (spot i) i.enter a) (does_block w (spot i) i.enter b) pc t (cell _)
           (λ b' r. cell_step k plain.0 (neither_left _ _ un) pc b' r) (λ p t. cell_list a plain.1 (neither_left _ _ (neither_right (step_writes k m) _ un)) p t)
           (λ p t. cell_list b plain.2 (neither_right (block_writes a m) _ (neither_right (step_writes k m) _ un)) p t)
-      cell_kept (Case hang e arms) plain un pc t =
-          kept_pick w z q e (touches w (spot i) (Case hang e arms)) (does_arms w (spot i) i.enter arms) pc t (cell _) (λ v p t. cell_arms arms plain un v p t)
+      cell_kept (case_of hang e arms) plain un pc t =
+          kept_pick w z q e (touches w (spot i) (case_of hang e arms)) (does_arms w (spot i) i.enter arms) pc t (cell _) (λ v p t. cell_arms arms plain un v p t)
 
       cell_arms : (arms : Arms) → OpenArms arms → arms_write arms m ≡ false → (v pc : ℕ) (t : Store) → Kept w z q t (does_arms w (spot i) i.enter arms v pc t).store
-      cell_arms (Last b) plain un v pc t = cell_list b plain un pc t
-      cell_arms (Arm cs b arms) plain un v pc t =
+      cell_arms (last_arm b) plain un v pc t = cell_list b plain un pc t
+      cell_arms (and_arm cs b arms) plain un v pc t =
           choose_all (λ r. Kept w z q t r.store) cs (does_block w (spot i) i.enter b) (does_arms w (spot i) i.enter arms) v pc t (cell_list b plain.0 (neither_left _ _ un) pc t)
           (cell_arms arms plain.1 (neither_right (block_writes b m) _ un) v pc t)
 
       cell_list : (b : Block) → OpenBlock b → block_writes b m ≡ false → (pc : ℕ) (t : Store) → Kept w z q t (does_block w (spot i) i.enter b pc t).store
-      cell_list End plain un pc t = kept_self w z q t
-      cell_list (Then c cs) plain un pc t = kept_next w z q _ _ _ (cell_kept c plain.0 (neither_left _ _ un) pc t) (cell_list cs plain.1 (neither_right (writes c m) _ un) pc _)
+      cell_list end_block plain un pc t = kept_self w z q t
+      cell_list (command_then c cs) plain un pc t = kept_next w z q _ _ _ (cell_kept c plain.0 (neither_left _ _ un) pc t) (cell_list cs plain.1 (neither_right (writes c m) _ un) pc _)
 
 -- the parts of an enforced memory's cell
 module _ (w : World) (i : Site w) (q m : ℕ) (mem : is_memory w m ≡ true) (d : is_dynamic w m ≡ false) (c : Command) (plain : Open c) (un : writes c m ≡ false) (pc : ℕ) (t : Store) where
@@ -243,17 +243,17 @@ module _ (w : World) (e p : ℕ) (s : is_state w e ≡ true) where
 
     under_step : (j : Step) → FineStep w g k j → step_retags j e ≡ false → (pc : ℕ) (b t : Store) → Kept w (own e) p t (effect w Here enter j pc b t).store
     unfolding effect
-    under_step (Set site y t') fine un pc b t = kept_next w (own e) p _ _ _ (kept_number w (own e) p t (own y) _) (kept_level w (own e) p _ (own y) _ (register_apart w e y s fine.0))
-    under_step (Write site m j t') fine un pc b t = elim (cases_Bool (is_dynamic w m)) [
+    under_step (assign site y t') fine un pc b t = kept_next w (own e) p _ _ _ (kept_number w (own e) p t (own y) _) (kept_level w (own e) p _ (own y) _ (register_apart w e y s fine.0))
+    under_step (write site m j t') fine un pc b t = elim (cases_Bool (is_dynamic w m)) [
       | inl d ↦ rw d (kept_next w (own e) p _ _ _ (kept_raise w (own e) p t (λ y. nat_eq y m) _ (memory_apart w e m s fine.0)) (kept_number w (own e) p _ (next m _) _))
       | inr d ↦ rw d (kept_number w (own e) p t (next m _) _)
     ]
-    under_step (Retag site y n) fine un pc b t = kept_next w (own e) p _ _ _ (kept_number w (own e) p t (own y) _) (kept_level w (own e) p _ (own y) _ un)
-    under_step (RetagCell site m j n) fine un pc b t = kept_next w (own e) p _ _ _ (kept_number w (own e) p t (next m _) _) (kept_level w (own e) p _ (next m _) _ (cells_apart m (value w j b)))
+    under_step (retag site y n) fine un pc b t = kept_next w (own e) p _ _ _ (kept_number w (own e) p t (own y) _) (kept_level w (own e) p _ (own y) _ un)
+    under_step (retag_cell site m j n) fine un pc b t = kept_next w (own e) p _ _ _ (kept_number w (own e) p t (next m _) _) (kept_level w (own e) p _ (next m _) _ (cells_apart m (value w j b)))
       where
         cells_apart : (m j : ℕ) → same_slot (own e) (home w (next m j)) ≡ false
         cells_apart m j = elim (cases_Bool (is_dynamic w m)) [ inl d ↦ rw d refl | inr d ↦ rw d refl ]
-    under_step (Goto site target) fine un pc b t =
+    under_step (go_to site target) fine un pc b t =
         let f = out target (inside_among g target fine) in
         let one = kept_child w (own e) p t r (place w target) away in
         let two = kept_reset w (own e) p (put_child r (place w target) t) target (unlowered (below w target e) (is_dynamic w e) (neither_right (nat_eq e target) (below w target e) f.0)) f.1 in
@@ -266,50 +266,50 @@ module _ (w : World) (e p : ℕ) (s : is_state w e ≡ true) where
         unlowered : (a b : Bool) → a ≡ false → (a && b) ≡ false
         unlowered true b h = cc
         unlowered false b h = refl
-    under_step (Fall site hang) fine un pc b t = entering _ _ t
+    under_step (fall_to_child site hang) fine un pc b t = entering _ _ t
 
     not_touched : (d a : Bool) → a ≡ false → (d && a) ≡ false
     not_touched true a h = h
     not_touched false a h = refl
 
     alone_free : (j : Step) → FineStep w g k j → raised_alone w Here j e ≡ false
-    alone_free (Set site y t) fine = refl
-    alone_free (Write site m i t) fine = refl
-    alone_free (Retag site y n) fine = refl
-    alone_free (RetagCell site m i n) fine = refl
-    alone_free (Goto site target) fine = not_touched (is_dynamic w e) _ own_out
-    alone_free (Fall site hang) fine = not_touched (is_dynamic w e) _ (or_from _ _ kids_out free)
+    alone_free (assign site y t) fine = refl
+    alone_free (write site m i t) fine = refl
+    alone_free (retag site y n) fine = refl
+    alone_free (retag_cell site m i n) fine = refl
+    alone_free (go_to site target) fine = not_touched (is_dynamic w e) _ own_out
+    alone_free (fall_to_child site hang) fine = not_touched (is_dynamic w e) _ (or_from _ _ kids_out free)
 
     mutual
       unfolding does does_arms does_block
 
       pub under_kept : (j : Command) → FineCommand w g k j → retags j e ≡ false → (pc : ℕ) (t : Store) → Kept w (own e) p t (does w Here enter j pc t).store
-      under_kept (Do j) fine un pc t =
+      under_kept (lone j) fine un pc t =
           kept_attempt w (own e) p Here enter j (raised_alone w Here j) (λ q t. stay t) pc t (alone_free j fine) (λ b r. under_step j fine un pc b r) (λ q t. kept_self w (own e) p t)
-      under_kept (Try j hang h) fine un pc t =
-          kept_attempt w (own e) p Here enter j (touches w Here (Try j hang h)) (does_block w Here enter h) pc t (not_touched (is_dynamic w e) _ (unhung w e s c k own_out kids_out free g (Try j hang h) fine))
+      under_kept (try j hang h) fine un pc t =
+          kept_attempt w (own e) p Here enter j (touches w Here (try j hang h)) (does_block w Here enter h) pc t (not_touched (is_dynamic w e) _ (unhung w e s c k own_out kids_out free g (try j hang h) fine))
           (λ b r. under_step j fine.0 (neither_left _ _ un) pc b r) (λ q t. under_list h fine.1 (neither_right (step_retags j e) _ un) q t)
-      under_kept (If hang u a b) fine un pc t =
-          kept_select w (own e) p u (touches w Here (If hang u a b)) (does_block w Here enter a) (does_block w Here enter b) pc t (not_touched (is_dynamic w e) _ (unhung w e s c k own_out kids_out free g (If hang u a b) fine))
+      under_kept (if_else hang u a b) fine un pc t =
+          kept_select w (own e) p u (touches w Here (if_else hang u a b)) (does_block w Here enter a) (does_block w Here enter b) pc t (not_touched (is_dynamic w e) _ (unhung w e s c k own_out kids_out free g (if_else hang u a b) fine))
           (λ q t. under_list a fine.1 (neither_left _ _ un) q t) (λ q t. under_list b fine.2 (neither_right (block_retags a e) _ un) q t)
-      under_kept (TryThen j hang a b) fine un pc t =
-          kept_attempt_then w (own e) p Here enter j (touches w Here (TryThen j hang a b)) (does_block w Here enter a) (does_block w Here enter b) pc t
-          (not_touched (is_dynamic w e) _ (unhung w e s c k own_out kids_out free g (TryThen j hang a b) fine)) (λ b' r. under_step j fine.0 (neither_left _ _ un) pc b' r)
+      under_kept (try_then j hang a b) fine un pc t =
+          kept_attempt_then w (own e) p Here enter j (touches w Here (try_then j hang a b)) (does_block w Here enter a) (does_block w Here enter b) pc t
+          (not_touched (is_dynamic w e) _ (unhung w e s c k own_out kids_out free g (try_then j hang a b) fine)) (λ b' r. under_step j fine.0 (neither_left _ _ un) pc b' r)
           (λ q t. under_list a fine.1 (neither_left _ _ (neither_right (step_retags j e) _ un)) q t)
           (λ q t. under_list b fine.2 (neither_right (block_retags a e) _ (neither_right (step_retags j e) _ un)) q t)
-      under_kept (Case hang u arms) fine un pc t =
-          kept_pick w (own e) p u (touches w Here (Case hang u arms)) (does_arms w Here enter arms) pc t
-          (not_touched (is_dynamic w e) _ (unhung w e s c k own_out kids_out free g (Case hang u arms) fine)) (λ v q t. under_arms arms fine.1 un v q t)
+      under_kept (case_of hang u arms) fine un pc t =
+          kept_pick w (own e) p u (touches w Here (case_of hang u arms)) (does_arms w Here enter arms) pc t
+          (not_touched (is_dynamic w e) _ (unhung w e s c k own_out kids_out free g (case_of hang u arms) fine)) (λ v q t. under_arms arms fine.1 un v q t)
 
       under_arms : (arms : Arms) → FineArms w g k arms → arms_retag arms e ≡ false → (v pc : ℕ) (t : Store) → Kept w (own e) p t (does_arms w Here enter arms v pc t).store
-      under_arms (Last b) fine un v pc t = under_list b fine un pc t
-      under_arms (Arm cs b arms) fine un v pc t =
+      under_arms (last_arm b) fine un v pc t = under_list b fine un pc t
+      under_arms (and_arm cs b arms) fine un v pc t =
           choose_all (λ r. Kept w (own e) p t r.store) cs (does_block w Here enter b) (does_arms w Here enter arms) v pc t (under_list b fine.0 (neither_left _ _ un) pc t)
           (under_arms arms fine.1 (neither_right (block_retags b e) _ un) v pc t)
 
       under_list : (b : Block) → FineBlock w g k b → block_retags b e ≡ false → (pc : ℕ) (t : Store) → Kept w (own e) p t (does_block w Here enter b pc t).store
-      under_list End fine un pc t = kept_self w (own e) p t
-      under_list (Then j js) fine un pc t = kept_next w (own e) p _ _ _ (under_kept j fine.0 (neither_left _ _ un) pc t) (under_list js fine.1 (neither_right (retags j e) _ un) pc _)
+      under_list end_block fine un pc t = kept_self w (own e) p t
+      under_list (command_then j js) fine un pc t = kept_next w (own e) p _ _ _ (under_kept j fine.0 (neither_left _ _ un) pc t) (under_list js fine.1 (neither_right (retags j e) _ un) pc _)
 
   outside : (g : Group) → Under g → among g e ≡ false
   outside g out = false_from_ne_true (among g e) (λ h. let f = neither_left (nat_eq e e) _ (out e (inside_among g e h)).0 in let k = test_of_same e in cc)
@@ -317,8 +317,8 @@ module _ (w : World) (e p : ℕ) (s : is_state w e ≡ true) where
   mutual
     unfolding does_state does_child
 
-    state_under : (t : State) (r : ℕ) (q : Group) (n : ℕ) → FineState w q n t → Under q → ((x : ℕ) → inside (More t None) x ≡ true → inside q x ≡ true) → nat_eq p r ≡ false → state_retags t e ≡ false → (pc : ℕ) (u : Store) → Kept w (own e) p u (does_state w t r pc u).store
-    state_under (Node c b k) r q n fine out within away un pc u =
+    state_under : (t : State) (r : ℕ) (q : Group) (n : ℕ) → FineState w q n t → Under q → ((x : ℕ) → inside (and_node t no_node) x ≡ true → inside q x ≡ true) → nat_eq p r ≡ false → state_retags t e ≡ false → (pc : ℕ) (u : Store) → Kept w (own e) p u (does_state w t r pc u).store
+    state_under (state_node c b k) r q n fine out within away un pc u =
         let below_out : Under k = λ x h. out x (within x (or_right (nat_eq x c) _ (or_left _ _ h))) in
         let here = out c (within c (or_left (nat_eq c c) _ (test_of_same c))) in
         under_list c r k q (does_child w k c) out (neither_left _ _ here.0) (outside k below_out) (group_unassigned w e (state_no_register w e s) (state_no_memory w e s) k 0 k fine.1) away
@@ -326,14 +326,14 @@ module _ (w : World) (e p : ℕ) (s : is_state w e ≡ true) where
         b fine.0.steps (neither_left _ _ un) pc u
 
     pub child_under : (g : Group) (r : ℕ) (q : Group) (n : ℕ) → FineGroup w q n g → Under q → ((x : ℕ) → inside g x ≡ true → inside q x ≡ true) → nat_eq p r ≡ false → group_retags g e ≡ false → (m pc : ℕ) (u : Store) → Kept w (own e) p u (does_child w g r m pc u).store
-    child_under None r q n fine out within away un m pc u = kept_self w (own e) p u
-    child_under (More (Node c b k) g) r q n fine out within away un zero pc u =
-        state_under (Node c b k) r q n fine.0 out (λ x h. within x (first x h)) away (neither_left _ _ un) pc u
+    child_under no_node r q n fine out within away un m pc u = kept_self w (own e) p u
+    child_under (and_node (state_node c b k) g) r q n fine out within away un zero pc u =
+        state_under (state_node c b k) r q n fine.0 out (λ x h. within x (first x h)) away (neither_left _ _ un) pc u
       where
-        first : (x : ℕ) → inside (More (Node c b k) None) x ≡ true → inside (More (Node c b k) g) x ≡ true
+        first : (x : ℕ) → inside (and_node (state_node c b k) no_node) x ≡ true → inside (and_node (state_node c b k) g) x ≡ true
         first x h = elim (or_cases (nat_eq x c) _ h) [
           | inl i ↦ or_left _ _ i
           | inr i ↦ or_right (nat_eq x c) _ (elim (or_cases (inside k x) false i) [ inl j ↦ or_left _ _ j | inr j ↦ cc ])
         ]
-    child_under (More (Node c b k) g) r q n fine out within away un (suc m) pc u =
-        child_under g r q (suc n) fine.1 out (λ x h. within x (or_right (nat_eq x c) _ (or_right (inside k x) _ h))) away (neither_right (state_retags (Node c b k) e) _ un) m pc u
+    child_under (and_node (state_node c b k) g) r q n fine out within away un (suc m) pc u =
+        child_under g r q (suc n) fine.1 out (λ x h. within x (or_right (nat_eq x c) _ (or_right (inside k x) _ h))) away (neither_right (state_retags (state_node c b k) e) _ un) m pc u

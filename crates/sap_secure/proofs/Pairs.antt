@@ -4,7 +4,7 @@ use Rattle.std.proofs.lemmas.Bool.{cases_Bool, or_left, or_right}
 use Rattle.sap_meaning.proofs.FineLemmas.{inside_among}
 use Rattle.sap_lattice.specs.Order.{Laws}
 use Rattle.sap_maps.specs.Term.{Term}
-use Rattle.sap_meaning.specs.Program.{World, is_dynamic, Step, Set, Write, Retag, RetagCell, Goto, Fall, Command, Do, Try, If, TryThen, Case, Arms, Last, Arm, Block, End, Then, State, Node, Group}
+use Rattle.sap_meaning.specs.Program.{World, is_dynamic, Step, assign, write, retag, retag_cell, go_to, fall_to_child, Command, lone, try, if_else, try_then, case_of, Arms, last_arm, and_arm, Block, end_block, command_then, State, state_node, Group}
 use Rattle.sap_meaning.specs.Store.{Slot, own, Store, owner, level, child, raise, After, stay, and_then}
 use Rattle.sap_meaning.specs.State.{Holds}
 use Rattle.sap_meaning.specs.Expressions.{value, tag}
@@ -39,7 +39,7 @@ Paired w l e g enter = (m r : ℕ) (s t : Store) (a : State) → Nth g m a → H
 module _ (w : World) (laws : Laws w.order) (l : ℕ) where
   -- the current children in two stores with the same path
   pub falls : (e n m : ℕ) (g : Group) (s t : Store) (a b : State) → child e s ≡ n → child e t ≡ m → Nth g n a → Nth g m b → path w l e g s ≡ path w l e g t → Like w.order l (level w (own (number_of a)) s) (level w (own (number_of b)) t) × (Low w.order l (level w (own (number_of a)) s) → n ≡ m)
-  falls e n m g s t (Node c i h) (Node d j k) here there na nb p =
+  falls e n m g s t (state_node c i h) (state_node d j k) here there na nb p =
       let p' : one w l n c h s ≡ one w l m d k t = sym (path_here w l e n c i h g s na here) ∙ p ∙ path_here w l e m d j k g t nb there in
       ((heads_low w laws l n m c d h k s t p', λ low. (heads w laws l n m c d h k s t p' low).1), λ low. (heads w laws l n m c d h k s t p' low).0)
 
@@ -96,7 +96,7 @@ module _ (w : World) (laws : Laws w.order) (l : ℕ) where
     }
 
     -- the current children at a fall
-    fall_like : (h : ℕ → Bool) (site : ℕ) (hang : List Bool) (fine : ProperStep w c.site (Fall site hang)) (s t : Store) (m : Meets h s t) → Like w.order l (child_level w c.site.kids (child c.site.state s) s) (child_level w c.site.kids (child c.site.state t) t) × (Low w.order l (child_level w c.site.kids (child c.site.state s) s) → child c.site.state s ≡ child c.site.state t)
+    fall_like : (h : ℕ → Bool) (site : ℕ) (hang : List Bool) (fine : ProperStep w c.site (fall_to_child site hang)) (s t : Store) (m : Meets h s t) → Like w.order l (child_level w c.site.kids (child c.site.state s) s) (child_level w c.site.kids (child c.site.state t) t) × (Low w.order l (child_level w c.site.kids (child c.site.state s) s) → child c.site.state s ≡ child c.site.state t)
     fall_like h site hang fine s t m =
         let f = current w laws l c site hang fine s m.first in
         let g = current w laws l c site hang fine t m.second in
@@ -104,25 +104,25 @@ module _ (w : World) (laws : Laws w.order) (l : ℕ) where
         rw (child_level_nth w c.site.kids (child c.site.state s) f.0 s f.1, child_level_nth w c.site.kids (child c.site.state t) g.0 t g.1) r
 
     guard_like : (h : ℕ → Bool) (k : Step) → transfers k ≡ true → ProperStep w c.site k → (s t : Store) → Meets h s t → Like w.order l (guard w At k s) (guard w At k t)
-    guard_like h (Set site x e) moves fine s t m = cc
-    guard_like h (Write site x j e) moves fine s t m = cc
-    guard_like h (Retag site x n) moves fine s t m = cc
-    guard_like h (RetagCell site x j n) moves fine s t m = cc
-    guard_like h (Goto site target) moves fine s t m = (refl, λ y. refl)
-    guard_like h (Fall site hang) moves fine s t m = (fall_like h site hang fine s t m).0
+    guard_like h (assign site x e) moves fine s t m = cc
+    guard_like h (write site x j e) moves fine s t m = cc
+    guard_like h (retag site x n) moves fine s t m = cc
+    guard_like h (retag_cell site x j n) moves fine s t m = cc
+    guard_like h (go_to site target) moves fine s t m = (refl, λ y. refl)
+    guard_like h (fall_to_child site hang) moves fine s t m = (fall_like h site hang fine s t m).0
 
     test_same : (h : ℕ → Bool) (k : Step) → transfers k ≡ true → ProperStep w c.site k → (pc : ℕ) (s t : Store) → Meets h s t → IsLow (guard w At k s) → test w At k pc s ≡ test w At k pc t
-    test_same h (Set site x e) moves fine pc s t m low = cc
-    test_same h (Write site x j e) moves fine pc s t m low = cc
-    test_same h (Retag site x n) moves fine pc s t m low = cc
-    test_same h (RetagCell site x j n) moves fine pc s t m low = cc
-    test_same h (Goto site target) moves fine pc s t m low =
+    test_same h (assign site x e) moves fine pc s t m low = cc
+    test_same h (write site x j e) moves fine pc s t m low = cc
+    test_same h (retag site x n) moves fine pc s t m low = cc
+    test_same h (retag_cell site x j n) moves fine pc s t m low = cc
+    test_same h (go_to site target) moves fine pc s t m low =
         let e = (own_heads h s t m).1 in
         elim (cases_Bool (is_dynamic w target)) [
           | inl d ↦ rw (d, e) refl
           | inr d ↦ (let f = m.like.tags (own target) (held_state w target (inside_state w c.site.siblings 0 c.site.siblings c.site.around.fine target (inside_among c.site.siblings target fine.0))) d (rw d at low) in rw (d, e, f) refl)
         ]
-    test_same h (Fall site hang) moves fine pc s t m low =
+    test_same h (fall_to_child site hang) moves fine pc s t m low =
         let a = current w laws l c site hang fine s m.first in
         let b = current w laws l c site hang fine t m.second in
         let f = fall_like h site hang fine s t m in
@@ -140,14 +140,14 @@ module _ (w : World) (laws : Laws w.order) (l : ℕ) where
     -- the effects of a transfer under a low guard, from the raised stores
     effect_pair : (h : ℕ → Bool) (k : Step) → ((x : ℕ) → step_concerns w c.site.state c.site.kids k x ≡ true → h x ≡ true) → transfers k ≡ true → ProperStep w c.site k → OnceStep below k → (pc : ℕ) (s t r u : Store) → child c.site.state r ≡ child c.site.state s → child c.site.state u ≡ child c.site.state t → Meets h s t → Meets h r u → IsLow pc → IsLow (guard w At k s) → ((z : Slot) → Low w.order l (level w z s) → Low w.order l (level w z r)) → Both (effect w At c.site.enter k pc s r) (effect w At c.site.enter k pc t u)
     unfolding effect
-    effect_pair h (Set site x e) inn moves fine once pc s t r u cs ct m v lowpc low up = cc
-    effect_pair h (Write site x j e) inn moves fine once pc s t r u cs ct m v lowpc low up = cc
-    effect_pair h (Retag site x n) inn moves fine once pc s t r u cs ct m v lowpc low up = cc
-    effect_pair h (RetagCell site x j n) inn moves fine once pc s t r u cs ct m v lowpc low up = cc
-    effect_pair h (Goto site target) inn moves fine once pc s t r u cs ct m v lowpc low up =
+    effect_pair h (assign site x e) inn moves fine once pc s t r u cs ct m v lowpc low up = cc
+    effect_pair h (write site x j e) inn moves fine once pc s t r u cs ct m v lowpc low up = cc
+    effect_pair h (retag site x n) inn moves fine once pc s t r u cs ct m v lowpc low up = cc
+    effect_pair h (retag_cell site x j n) inn moves fine once pc s t r u cs ct m v lowpc low up = cc
+    effect_pair h (go_to site target) inn moves fine once pc s t r u cs ct m v lowpc low up =
         let a = goto_pair w laws l c site target fine pc c.site.enter s t r u v.first v.second v.like in
         record { twin = record { same = a.same; refused = refl }; path = a.path }
-    effect_pair h (Fall site hang) inn moves fine once pc s t r u cs ct m v lowpc low up =
+    effect_pair h (fall_to_child site hang) inn moves fine once pc s t r u cs ct m v lowpc low up =
         let f = fall_like h site hang fine s t m in
         let g = current w laws l c site hang fine s m.first in
         let q = w.order.join pc (child_level w c.site.kids (child c.site.state s) s) in
@@ -218,12 +218,12 @@ module _ (w : World) (laws : Laws w.order) (l : ℕ) where
 
     -- a step alone raises all that it touches
     alone_all : (k : Step) → transfers k ≡ true → (x : ℕ) → (is_dynamic w x && step_hangs c.site.state c.site.kids k x) ≡ true → raised_alone w At k x ≡ true
-    alone_all (Set site y e) moves x h = cc
-    alone_all (Write site y j e) moves x h = cc
-    alone_all (Retag site y n) moves x h = cc
-    alone_all (RetagCell site y j n) moves x h = cc
-    alone_all (Goto site target) moves x h = h
-    alone_all (Fall site hang) moves x h = h
+    alone_all (assign site y e) moves x h = cc
+    alone_all (write site y j e) moves x h = cc
+    alone_all (retag site y n) moves x h = cc
+    alone_all (retag_cell site y j n) moves x h = cc
+    alone_all (go_to site target) moves x h = h
+    alone_all (fall_to_child site hang) moves x h = h
 
     high_side : (b : Block) → ProperBlock w c.site b → Closes b → (hang : ℕ → Bool) (a : ℕ) → ((x : ℕ) → (is_dynamic w x && block_hangs c.site.state c.site.kids b x) ≡ true → hang x ≡ true) → OfDynamic w hang → (r : ℕ) (v : Store) → Far r → Far a → Holds w v → Even w (block_concerns w c.site.state c.site.kids b) v → child c.site.parent v ≡ c.site.index → Side (does_block w At c.site.enter b r) (raise w.order hang a v)
     high_side b fine closes hang a inn dyn r v far fa hv ev here =
@@ -244,7 +244,7 @@ module _ (w : World) (laws : Laws w.order) (l : ℕ) where
       where
         side : (v : Store) → Far (guard w At k v) → Holds w v → Even w h v → child c.site.parent v ≡ c.site.index → Side (λ r. attempt w At c.site.enter k hang f pc v) (raise w.order hang (guard w At k v) v)
         side v high holds ev here =
-            let q : Quiet w l (step_concerns w c.site.state c.site.kids k) (raise w.order hang (guard w At k v) v) = quiet_raise w laws l (step_concerns w c.site.state c.site.kids k) hang _ v (λ x j. inn x (hanging w c.site.state c.site.kids (Do k) x j)) dyn high (λ z g d j. ev z g d (zin (owner z) j)) in (
+            let q : Quiet w l (step_concerns w c.site.state c.site.kids k) (raise w.order hang (guard w At k v) v) = quiet_raise w laws l (step_concerns w c.site.state c.site.kids k) hang _ v (λ x j. inn x (hanging w c.site.state c.site.kids (lone k) x j)) dyn high (λ z g d j. ev z g d (zin (owner z) j)) in (
               attempt_confined w laws l c.site c.entering c.holding k fine hang f pc v dyn holds q (inr high) (λ r far. (side' r (guard w At k v) v far high holds ev here).0),
               attempt_still w laws l c k moves fine hang f pc v dyn holds q here (cover_raised _ hang _ v inn high) (inr high) (λ r far. (side' r (guard w At k v) v far high holds ev here).1),
             )
@@ -269,8 +269,8 @@ module _ (w : World) (laws : Laws w.order) (l : ℕ) where
     arms_side : (arms : Arms) → ProperArms w c.site arms → ClosingArms arms → (hang : ℕ → Bool) (a : ℕ) → ((x : ℕ) → (is_dynamic w x && arms_hang c.site.state c.site.kids arms x) ≡ true → hang x ≡ true) → OfDynamic w hang → (i r : ℕ) (v : Store) → Far r → Far a → Holds w v
         → Even w (arms_concern w c.site.state c.site.kids arms) v → child c.site.parent v ≡ c.site.index → Side (does_arms w At c.site.enter arms i r) (raise w.order hang a v)
     unfolding does_arms
-    arms_side (Last b) fine closes hang a inn dyn i r v far fa hv ev here = high_side b fine closes hang a inn dyn r v far fa hv ev here
-    arms_side (Arm cs b arms) fine closes hang a inn dyn i r v far fa hv ev here =
+    arms_side (last_arm b) fine closes hang a inn dyn i r v far fa hv ev here = high_side b fine closes hang a inn dyn r v far fa hv ev here
+    arms_side (and_arm cs b arms) fine closes hang a inn dyn i r v far fa hv ev here =
         choose_all (λ z. Confined w l (raise w.order hang a v) z × (Path z.store ≡ Path (raise w.order hang a v))) cs (does_block w At c.site.enter b) (does_arms w At c.site.enter arms) i r (raise w.order hang a v)
         (high_side b fine.0 closes.0 hang a (λ x j. inn x (touched_in (is_dynamic w x) _ _ (λ i. or_left _ (arms_hang c.site.state c.site.kids arms x) i) j)) dyn r v far fa hv (λ z g d i. ev z g d (or_left _ (arms_concern w c.site.state c.site.kids arms (owner z)) i)) here)
         (arms_side arms fine.1 closes.1 hang a (λ x j. inn x (touched_in (is_dynamic w x) _ _ (λ i. or_right (block_hangs c.site.state c.site.kids b x) _ i) j)) dyn i r v far fa hv (λ z g d i. ev z g d (or_right (block_concerns w c.site.state c.site.kids b (owner z)) _ i)) here)
@@ -327,17 +327,17 @@ module _ (w : World) (laws : Laws w.order) (l : ℕ) where
             record { twin = record { same = d.twin.same; refused = rw up (ap (λ rs. record { site = site_of k; level = w.order.join pc (guard w At k s) } ∷ rs) d.twin.refused) }; path = d.path })
 
     -- the same under a high guard, from the raised store
-    then_side : (k : Step) (hang : List Bool) (a b : Block) → Proper w c.site (TryThen k hang a b) → Final (TryThen k hang a b) → (pc : ℕ) (v : Store) → Far (guard w At k v) → Holds w v → Even w (concerns w c.site.state c.site.kids (TryThen k hang a b)) v → child c.site.parent v ≡ c.site.index
-        → Side (λ r. does w At c.site.enter (TryThen k hang a b) pc v) (raise w.order (touches w At (TryThen k hang a b)) (guard w At k v) v)
+    then_side : (k : Step) (hang : List Bool) (a b : Block) → Proper w c.site (try_then k hang a b) → Final (try_then k hang a b) → (pc : ℕ) (v : Store) → Far (guard w At k v) → Holds w v → Even w (concerns w c.site.state c.site.kids (try_then k hang a b)) v → child c.site.parent v ≡ c.site.index
+        → Side (λ r. does w At c.site.enter (try_then k hang a b) pc v) (raise w.order (touches w At (try_then k hang a b)) (guard w At k v) v)
     unfolding does
     then_side k hang a b fine final pc v high hv ev here =
-        let hung = touches w At (TryThen k hang a b) in
-        let dyn : OfDynamic w hung = touches_dynamic w laws l c.site c.entering c.holding (TryThen k hang a b) in
+        let hung = touches w At (try_then k hang a b) in
+        let dyn : OfDynamic w hung = touches_dynamic w laws l c.site c.entering c.holding (try_then k hang a b) in
         let r = raise w.order hung (guard w At k v) v in
         let mine_now = step_concerns w c.site.state c.site.kids k in
         let one = block_concerns w c.site.state c.site.kids a in
         let other = block_concerns w c.site.state c.site.kids b in
-        let q : Quiet w l (concerns w c.site.state c.site.kids (TryThen k hang a b)) r = quiet_raise w laws l (concerns w c.site.state c.site.kids (TryThen k hang a b)) hung _ v (hanging w c.site.state c.site.kids (TryThen k hang a b)) dyn high ev in
+        let q : Quiet w l (concerns w c.site.state c.site.kids (try_then k hang a b)) r = quiet_raise w laws l (concerns w c.site.state c.site.kids (try_then k hang a b)) hung _ v (hanging w c.site.state c.site.kids (try_then k hang a b)) dyn high ev in
         let first = quiet_left w laws l c.site c.entering c.holding mine_now (λ x. one x || other x) r q in
         let behind = quiet_right w laws l c.site c.entering c.holding mine_now (λ x. one x || other x) r q in
         let cov = cover_raised hung hung (guard w At k v) v (λ x i. i) high in
@@ -360,33 +360,33 @@ module _ (w : World) (laws : Laws w.order) (l : ℕ) where
       unfolding does does_arms does_block
 
       pub does_pair : (d : Command) → Proper w c.site d → Once c.site.kids below d → Final d → (pc : ℕ) (s t : Store) → IsLow pc → Meets (concerns w c.site.state c.site.kids d) s t → Both (does w At c.site.enter d pc s) (does w At c.site.enter d pc t)
-      does_pair (Do k) fine once final pc s t low m =
+      does_pair (lone k) fine once final pc s t low m =
           let hang = raised_alone w At k in
           let dyn : OfDynamic w hang = alone_dynamic w At c.site.siblings (landing w laws l c.site c.entering c.holding) c.site.enter c.holding k in
           attempt_pair (step_concerns w c.site.state c.site.kids k) k (λ x i. i) final fine once hang (λ r v. stay v) pc s t dyn (alone_all k final) m low
           (λ r v z lr mv. record { twin = record { same = mv.like; refused = refl }; path = mv.path })
           (λ r a v far fa hv ev here. (confined_self w laws l _, refl))
-      does_pair (Try k hang h) fine once final pc s t low m =
-          let hung = touches w At (Try k hang h) in
-          let dyn : OfDynamic w hung = touches_dynamic w laws l c.site c.entering c.holding (Try k hang h) in
-          attempt_pair (concerns w c.site.state c.site.kids (Try k hang h)) k (λ x i. or_left _ (block_concerns w c.site.state c.site.kids h x) i) final.0 fine.0 once.0 hung (does_block w At c.site.enter h) pc s t dyn
+      does_pair (try k hang h) fine once final pc s t low m =
+          let hung = touches w At (try k hang h) in
+          let dyn : OfDynamic w hung = touches_dynamic w laws l c.site c.entering c.holding (try k hang h) in
+          attempt_pair (concerns w c.site.state c.site.kids (try k hang h)) k (λ x i. or_left _ (block_concerns w c.site.state c.site.kids h x) i) final.0 fine.0 once.0 hung (does_block w At c.site.enter h) pc s t dyn
           (λ x. touched_in (is_dynamic w x) _ _ (λ i. or_left _ (block_hangs c.site.state c.site.kids h x) i)) m low
-          (λ r v z lr mv. block_pair h fine.1 once.1 final.1 r v z lr (meets_part (concerns w c.site.state c.site.kids (Try k hang h)) (block_concerns w c.site.state c.site.kids h) v z (λ x i. or_right (step_concerns w c.site.state c.site.kids k x) _ i) mv))
+          (λ r v z lr mv. block_pair h fine.1 once.1 final.1 r v z lr (meets_part (concerns w c.site.state c.site.kids (try k hang h)) (block_concerns w c.site.state c.site.kids h) v z (λ x i. or_right (step_concerns w c.site.state c.site.kids k x) _ i) mv))
           (λ r a v far fa hv ev here. high_side h fine.1 final.1 hung a (λ x. touched_in (is_dynamic w x) _ _ (λ i. or_right (step_hangs c.site.state c.site.kids k x) _ i)) dyn r v far fa hv (λ z g d i. ev z g d (or_right (step_concerns w c.site.state c.site.kids k (owner z)) _ i)) here)
-      does_pair (If hang e a b) fine once final pc s t low m =
-          let hung = touches w At (If hang e a b) in
-          let dyn : OfDynamic w hung = touches_dynamic w laws l c.site c.entering c.holding (If hang e a b) in
-          select_pair (concerns w c.site.state c.site.kids (If hang e a b)) e fine.0 hung (branch (does_block w At c.site.enter a) (does_block w At c.site.enter b)) pc s t dyn m low
+      does_pair (if_else hang e a b) fine once final pc s t low m =
+          let hung = touches w At (if_else hang e a b) in
+          let dyn : OfDynamic w hung = touches_dynamic w laws l c.site c.entering c.holding (if_else hang e a b) in
+          select_pair (concerns w c.site.state c.site.kids (if_else hang e a b)) e fine.0 hung (branch (does_block w At c.site.enter a) (does_block w At c.site.enter b)) pc s t dyn m low
           (λ i r v z lr mv. branch_both (λ x y. Both x y) (does_block w At c.site.enter a) (does_block w At c.site.enter b) i r v z
-          (block_pair a fine.1 once.0 final.0 r v z lr (meets_part (concerns w c.site.state c.site.kids (If hang e a b)) (block_concerns w c.site.state c.site.kids a) v z (λ x i. or_left _ (block_concerns w c.site.state c.site.kids b x) i) mv))
-          (block_pair b fine.2 once.1 final.1 r v z lr (meets_part (concerns w c.site.state c.site.kids (If hang e a b)) (block_concerns w c.site.state c.site.kids b) v z (λ x i. or_right (block_concerns w c.site.state c.site.kids a x) _ i) mv)))
+          (block_pair a fine.1 once.0 final.0 r v z lr (meets_part (concerns w c.site.state c.site.kids (if_else hang e a b)) (block_concerns w c.site.state c.site.kids a) v z (λ x i. or_left _ (block_concerns w c.site.state c.site.kids b x) i) mv))
+          (block_pair b fine.2 once.1 final.1 r v z lr (meets_part (concerns w c.site.state c.site.kids (if_else hang e a b)) (block_concerns w c.site.state c.site.kids b) v z (λ x i. or_right (block_concerns w c.site.state c.site.kids a x) _ i) mv)))
           (λ i r q v far fa hv ev here. branch_all (λ z. Confined w l (raise w.order hung q v) z × (Path z.store ≡ Path (raise w.order hung q v))) (does_block w At c.site.enter a) (does_block w At c.site.enter b) i r (raise w.order hung q v)
           (high_side a fine.1 final.0 hung q (λ x. touched_in (is_dynamic w x) _ _ (λ i. or_left _ (block_hangs c.site.state c.site.kids b x) i)) dyn r v far fa hv (λ z g d i. ev z g d (or_left _ (block_concerns w c.site.state c.site.kids b (owner z)) i)) here)
           (high_side b fine.2 final.1 hung q (λ x. touched_in (is_dynamic w x) _ _ (λ i. or_right (block_hangs c.site.state c.site.kids a x) _ i)) dyn r v far fa hv (λ z g d i. ev z g d (or_right (block_concerns w c.site.state c.site.kids a (owner z)) _ i)) here))
-      does_pair (TryThen k hang a b) fine once final pc s t low m =
-          let hung = touches w At (TryThen k hang a b) in
-          let dyn : OfDynamic w hung = touches_dynamic w laws l c.site c.entering c.holding (TryThen k hang a b) in
-          let all = concerns w c.site.state c.site.kids (TryThen k hang a b) in
+      does_pair (try_then k hang a b) fine once final pc s t low m =
+          let hung = touches w At (try_then k hang a b) in
+          let dyn : OfDynamic w hung = touches_dynamic w laws l c.site c.entering c.holding (try_then k hang a b) in
+          let all = concerns w c.site.state c.site.kids (try_then k hang a b) in
           let mine_now = step_concerns w c.site.state c.site.kids k in
           let one = block_concerns w c.site.state c.site.kids a in
           let other = block_concerns w c.site.state c.site.kids b in
@@ -401,35 +401,35 @@ module _ (w : World) (laws : Laws w.order) (l : ℕ) where
                 pair_sides (raise w.order hung (guard w At k s) s) (raise w.order hung (guard w At k t) t) _ _ (agree_raised w laws l s t hung _ _ dyn m.like like) (path_raised all s t hung _ _ m like)
                 (then_side k hang a b fine final pc s g m.first m.even m.here) (then_side k hang a b fine final pc t (sym same ∙ g) m.second m.even2 m.there))
           ]
-      does_pair (Case hang e arms) fine once final pc s t low m =
-          let hung = touches w At (Case hang e arms) in
-          let dyn : OfDynamic w hung = touches_dynamic w laws l c.site c.entering c.holding (Case hang e arms) in
-          select_pair (arms_concern w c.site.state c.site.kids arms) e fine.0 hung (does_arms w At c.site.enter arms) pc s t dyn (meets_part (concerns w c.site.state c.site.kids (Case hang e arms)) (arms_concern w c.site.state c.site.kids arms) s t (λ x i. i) m) low
+      does_pair (case_of hang e arms) fine once final pc s t low m =
+          let hung = touches w At (case_of hang e arms) in
+          let dyn : OfDynamic w hung = touches_dynamic w laws l c.site c.entering c.holding (case_of hang e arms) in
+          select_pair (arms_concern w c.site.state c.site.kids arms) e fine.0 hung (does_arms w At c.site.enter arms) pc s t dyn (meets_part (concerns w c.site.state c.site.kids (case_of hang e arms)) (arms_concern w c.site.state c.site.kids arms) s t (λ x i. i) m) low
           (λ i r v z lr mv. arms_pair arms fine.1 once final i r v z lr mv)
           (λ i r q v far fa hv ev here. arms_side arms fine.1 final hung q (λ x j. j) dyn i r v far fa hv ev here)
 
       arms_pair : (arms : Arms) → ProperArms w c.site arms → OnceArms c.site.kids below arms → ClosingArms arms → (v pc : ℕ) (s t : Store) → IsLow pc → Meets (arms_concern w c.site.state c.site.kids arms) s t → Both (does_arms w At c.site.enter arms v pc s) (does_arms w At c.site.enter arms v pc t)
-      arms_pair (Last b) fine once closes v pc s t low m = block_pair b fine once closes pc s t low (meets_part (arms_concern w c.site.state c.site.kids (Last b)) (block_concerns w c.site.state c.site.kids b) s t (λ x i. i) m)
-      arms_pair (Arm cs b arms) fine once closes v pc s t low m =
+      arms_pair (last_arm b) fine once closes v pc s t low m = block_pair b fine once closes pc s t low (meets_part (arms_concern w c.site.state c.site.kids (last_arm b)) (block_concerns w c.site.state c.site.kids b) s t (λ x i. i) m)
+      arms_pair (and_arm cs b arms) fine once closes v pc s t low m =
           let here = block_concerns w c.site.state c.site.kids b in
           let rest = arms_concern w c.site.state c.site.kids arms in
           choose_both (λ x y. Both x y) cs (does_block w At c.site.enter b) (does_arms w At c.site.enter arms) v pc s t
-          (block_pair b fine.0 once.0 closes.0 pc s t low (meets_part (arms_concern w c.site.state c.site.kids (Arm cs b arms)) here s t (λ x i. or_left _ (rest x) i) m))
-          (arms_pair arms fine.1 once.1 closes.1 v pc s t low (meets_part (arms_concern w c.site.state c.site.kids (Arm cs b arms)) rest s t (λ x i. or_right (here x) _ i) m))
+          (block_pair b fine.0 once.0 closes.0 pc s t low (meets_part (arms_concern w c.site.state c.site.kids (and_arm cs b arms)) here s t (λ x i. or_left _ (rest x) i) m))
+          (arms_pair arms fine.1 once.1 closes.1 v pc s t low (meets_part (arms_concern w c.site.state c.site.kids (and_arm cs b arms)) rest s t (λ x i. or_right (here x) _ i) m))
 
       pub block_pair : (b : Block) → ProperBlock w c.site b → OnceBlock c.site.kids below b → Closes b → (pc : ℕ) (s t : Store) → IsLow pc → Meets (block_concerns w c.site.state c.site.kids b) s t → Both (does_block w At c.site.enter b pc s) (does_block w At c.site.enter b pc t)
-      block_pair End fine once closes pc s t low m = absurd closes
-      block_pair (Then d End) fine once closes pc s t low m =
-          let f = does_pair d fine.0 once.0 closes pc s t low (meets_part (block_concerns w c.site.state c.site.kids (Then d End)) (concerns w c.site.state c.site.kids d) s t (λ x i. or_left _ false i) m) in
+      block_pair end_block fine once closes pc s t low m = absurd closes
+      block_pair (command_then d end_block) fine once closes pc s t low m =
+          let f = does_pair d fine.0 once.0 closes pc s t low (meets_part (block_concerns w c.site.state c.site.kids (command_then d end_block)) (concerns w c.site.state c.site.kids d) s t (λ x i. or_left _ false i) m) in
           record { twin = record { same = f.twin.same; refused = seen_parts w.order laws l _ [] _ [] f.twin.refused refl }; path = f.path }
-      block_pair (Then d (Then j js)) fine once closes pc s t low m =
-          let apart = apart_from w c.site d (Then j js) (fine_block w c.site (Then j js) fine.1) closes.0 once.2 in
+      block_pair (command_then d (command_then j js)) fine once closes pc s t low m =
+          let apart = apart_from w c.site d (command_then j js) (fine_block w c.site (command_then j js) fine.1) closes.0 once.2 in
           let f = does_twin w laws l c.site c.entering c.holding below d fine.0 once.0 closes.0 pc s t m.first m.second low m.like
-          (λ z g e i. m.even z g e (or_left _ (block_concerns w c.site.state c.site.kids (Then j js) (owner z)) i))
-          (λ z g e i. m.even2 z g e (or_left _ (block_concerns w c.site.state c.site.kids (Then j js) (owner z)) i)) in
+          (λ z g e i. m.even z g e (or_left _ (block_concerns w c.site.state c.site.kids (command_then j js) (owner z)) i))
+          (λ z g e i. m.even2 z g e (or_left _ (block_concerns w c.site.state c.site.kids (command_then j js) (owner z)) i)) in
           let a = clear_own w laws l c d fine.0 closes.0 pc s in
           let b = clear_own w laws l c d fine.0 closes.0 pc t in
-          let next : Meets (block_concerns w c.site.state c.site.kids (Then j js)) (does w At c.site.enter d pc s).store (does w At c.site.enter d pc t).store = record {
+          let next : Meets (block_concerns w c.site.state c.site.kids (command_then j js)) (does w At c.site.enter d pc s).store (does w At c.site.enter d pc t).store = record {
             first = keeps w laws l c.site c.entering c.holding d fine.0 pc s m.first;
             second = keeps w laws l c.site c.entering c.holding d fine.0 pc t m.second;
             like = f.same;
@@ -437,8 +437,8 @@ module _ (w : World) (laws : Laws w.order) (l : ℕ) where
             here = a.seat ∙ m.here;
             there = b.seat ∙ m.there;
             low = subst (λ v. Low w.order l v) (sym a.level) m.low;
-            even = even_next w laws l c.site c.entering c.holding d (Then j js) apart pc s (λ z g e i. m.even z g e (or_right (concerns w c.site.state c.site.kids d (owner z)) _ i));
-            even2 = even_next w laws l c.site c.entering c.holding d (Then j js) apart pc t (λ z g e i. m.even2 z g e (or_right (concerns w c.site.state c.site.kids d (owner z)) _ i));
+            even = even_next w laws l c.site c.entering c.holding d (command_then j js) apart pc s (λ z g e i. m.even z g e (or_right (concerns w c.site.state c.site.kids d (owner z)) _ i));
+            even2 = even_next w laws l c.site c.entering c.holding d (command_then j js) apart pc t (λ z g e i. m.even2 z g e (or_right (concerns w c.site.state c.site.kids d (owner z)) _ i));
           } in
-          let g = block_pair (Then j js) fine.1 once.1 closes.1 pc (does w At c.site.enter d pc s).store (does w At c.site.enter d pc t).store low next in
+          let g = block_pair (command_then j js) fine.1 once.1 closes.1 pc (does w At c.site.enter d pc s).store (does w At c.site.enter d pc t).store low next in
           record { twin = record { same = g.twin.same; refused = seen_parts w.order laws l _ _ _ _ f.refused g.twin.refused }; path = g.path }

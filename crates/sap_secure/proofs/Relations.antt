@@ -2,7 +2,7 @@
 use Rattle.std.proofs.Common.{◌≡◌, ℕ, zero, suc, ◌+◌, true, false, [], map, refl, sym, ap, ◌∙◌, subst, arith, inl, inr}
 use Rattle.std.proofs.lemmas.Bool.{cases_Bool, or_right}
 use Rattle.sap_lattice.specs.Order.{Order, Laws}
-use Rattle.sap_meaning.specs.Program.{World, Program, is_dynamic, is_input, root, place, Block, State, Node, Group, None, More}
+use Rattle.sap_meaning.specs.Program.{World, Program, is_dynamic, is_input, root, place, Block, State, state_node, Group, no_node, and_node}
 use Rattle.sap_meaning.specs.Store.{Slot, own, start, next, start_whole, next_whole, Store, owner, home, number, level, child}
 use Rattle.sap_meaning.specs.Agree.{Low, Alike, PartsAlike, StatesAgree, ActiveState, seen_from}
 use Rattle.sap_meaning.specs.Fine.{FineGroup, number_of, kids_of}
@@ -23,26 +23,26 @@ alike_of o l n t m u r = elim (cases_Bool (o.le t l)) [
 ]
 
 module _ (w : World) (laws : Laws w.order) (l : ℕ) where
-  kids_around : (p : ℕ) (g : Group) (n c : ℕ) (b : Block) (k : Group) → Nth g n (Node c b k) → Around w p g → Around w c k
-  kids_around p g n c b k h around = around_kids w g (0 + n) c b k (nth_fine w g 0 g n (Node c b k) h around.fine)
+  kids_around : (p : ℕ) (g : Group) (n c : ℕ) (b : Block) (k : Group) → Nth g n (state_node c b k) → Around w p g → Around w c k
+  kids_around p g n c b k h around = around_kids w g (0 + n) c b k (nth_fine w g 0 g n (state_node c b k) h around.fine)
 
   pub kid_around : (p : ℕ) (g : Group) (n : ℕ) (x : State) → Nth g n x → Around w p g → Around w (number_of x) (kids_of x)
-  kid_around p g n (Node c b k) h around = kids_around p g n c b k h around
+  kid_around p g n (state_node c b k) h around = kids_around p g n c b k h around
 
   -- a state that is seen, by its place
   abbrev stop_of : ActiveState → Stop
   stop_of x = stop (place w x.state) x.level
 
   from_seen : (q : Group) (m : ℕ) (g : Group) (n i : ℕ) (s : Store) → FineGroup w q m g → i ≡ m + n → from w l g n i s ≡ map stop_of (seen_from w l g n s)
-  from_seen q m None n i s fine e = refl
-  from_seen q m (More (Node c b k) g) zero i s fine e = elim (cases_Bool (w.order.le (level w (own c) s) l)) [
+  from_seen q m no_node n i s fine e = refl
+  from_seen q m (and_node (state_node c b k) g) zero i s fine e = elim (cases_Bool (w.order.le (level w (own c) s) l)) [
     | inl low ↦ (
         let here : place w c ≡ m = fine.0.0.placed in
         let at : i ≡ place w c = omega arith in
         rw (low, at, from_seen k 0 k (child c s) (child c s) s fine.0.1 (omega arith)) refl)
     | inr high ↦ rw high refl
   ]
-  from_seen q m (More (Node c b k) g) (suc n) i s fine e = from_seen q (suc m) g n i s fine.1 (omega arith)
+  from_seen q m (and_node (state_node c b k) g) (suc n) i s fine e = from_seen q (suc m) g n i s fine.1 (omega arith)
 
   -- where the same is seen, paths are the same, ..
   pub paths_same : (p : ℕ) (g : Group) → FineGroup w g 0 g → (s t : Store) → seen_from w l g (child p s) s ≡ seen_from w l g (child p t) t → path w l p g s ≡ path w l p g t
@@ -50,9 +50,9 @@ module _ (w : World) (laws : Laws w.order) (l : ℕ) where
       from_seen g 0 g (child p s) (child p s) s fine (omega arith) ∙ ap (λ xs. map stop_of xs) e ∙ sym (from_seen g 0 g (child p t) (child p t) t fine (omega arith))
 
   unseen : (g : Group) (n i : ℕ) (s : Store) → from w l g n i s ≡ [] → seen_from w l g n s ≡ []
-  unseen None n i s e = refl
-  unseen (More (Node c b k) g) zero i s e = elim (cases_Bool (w.order.le (level w (own c) s) l)) [ inl low ↦ (let e' = rw low at e in cc) | inr high ↦ rw high refl ]
-  unseen (More (Node c b k) g) (suc n) i s e = unseen g n i s e
+  unseen no_node n i s e = refl
+  unseen (and_node (state_node c b k) g) zero i s e = elim (cases_Bool (w.order.le (level w (own c) s) l)) [ inl low ↦ (let e' = rw low at e in cc) | inr high ↦ rw high refl ]
+  unseen (and_node (state_node c b k) g) (suc n) i s e = unseen g n i s e
 
   seen_below : (p : ℕ) (g : Group) (s t : Store) → ((n i : ℕ) → from w l g n i s ≡ from w l g n i t → seen_from w l g n s ≡ seen_from w l g n t) → path w l p g s ≡ path w l p g t → seen_from w l g (child p s) s ≡ seen_from w l g (child p t) t
   seen_below p g s t below e = elim (path_cases w laws l g p p s t e) [
@@ -61,15 +61,15 @@ module _ (w : World) (laws : Laws w.order) (l : ℕ) where
   ]
 
   seen_same : (g : Group) (n i : ℕ) (s t : Store) → from w l g n i s ≡ from w l g n i t → seen_from w l g n s ≡ seen_from w l g n t
-  seen_same None n i s t e = refl
-  seen_same (More (Node c b k) g) zero i s t e = elim (cases_Bool (w.order.le (level w (own c) s) l)) [
+  seen_same no_node n i s t e = refl
+  seen_same (and_node (state_node c b k) g) zero i s t e = elim (cases_Bool (w.order.le (level w (own c) s) l)) [
     | inl low ↦ (
         let h = heads w laws l i i c c k k s t e low in
         let low' : Low w.order l (level w (own c) t) = subst (λ v. Low w.order l v) h.1 low in
         rw (h.1, low', seen_below c k s t (λ n i. seen_same k n i s t) h.2) refl)
     | inr high ↦ (let high' = sym (heads_low w laws l i i c c k k s t e) ∙ high in rw (high, high') refl)
   ]
-  seen_same (More (Node c b k) g) (suc n) i s t e = seen_same g n i s t e
+  seen_same (and_node (state_node c b k) g) (suc n) i s t e = seen_same g n i s t e
 
   -- .. and where they are, the same is seen.
   pub same_paths : (p : ℕ) (g : Group) (s t : Store) → path w l p g s ≡ path w l p g t → seen_from w l g (child p s) s ≡ seen_from w l g (child p t) t

@@ -3,7 +3,7 @@ use Rattle.std.proofs.Common.{◌≡◌, ℕ, suc, ◌+◌, ◌<◌, ◌≤◌, 
 use Rattle.std.proofs.lemmas.Grind.{common_steps}
 use Rattle.sap_lemmas.proofs.Bools.{and_left, and_right, neither_left, neither_right}
 use Rattle.std.proofs.lemmas.Bool.{eqb-true, false_from_ne_true, or_cases, or_from, or_right}
-use Rattle.sap_meaning.specs.Program.{World, children, is_dynamic, is_memory, is_state, last, below, root, Step, Command, Do, Try, If, TryThen, Case, Arms, Last, Arm, Block, End, Then, Node, Group, None, More}
+use Rattle.sap_meaning.specs.Program.{World, children, is_dynamic, is_memory, is_state, last, below, root, Step, Command, lone, try, if_else, try_then, case_of, Arms, last_arm, and_arm, Block, end_block, command_then, state_node, Group, no_node, and_node}
 use Rattle.sap_meaning.specs.Store.{Store, After}
 use Rattle.sap_meaning.specs.Checks.{Spot}
 use Rattle.sap_meaning.specs.Touches.{among}
@@ -28,7 +28,7 @@ pub record Site (w : World) : Type 0 where
   pub kids : Group
   pub siblings : Group
   pub around : Around w parent siblings
-  pub self : Nth siblings index (Node state body kids)
+  pub self : Nth siblings index (state_node state body kids)
   pub enter : ℕ → ℕ → Store → After
 
 abbrev pub spot : {w : World} → Site w → Spot
@@ -39,10 +39,10 @@ abbrev pub mine : {w : World} → Site w → ℕ → Bool
 mine i x = nat_eq x i.state || inside i.kids x
 
 module _ (w : World) where
-  pub own_fine : (i : Site w) → FineState w i.siblings i.index (Node i.state i.body i.kids)
+  pub own_fine : (i : Site w) → FineState w i.siblings i.index (state_node i.state i.body i.kids)
   own_fine i =
       let e : 0 + i.index ≡ i.index = omega arith in
-      rw e at (nth_fine w i.siblings 0 i.siblings i.index (Node i.state i.body i.kids) i.self i.around.fine)
+      rw e at (nth_fine w i.siblings 0 i.siblings i.index (state_node i.state i.body i.kids) i.self i.around.fine)
 
   pub node : (i : Site w) → FineNode w i.siblings i.index i.state i.body i.kids
   node i = (own_fine i).0
@@ -63,15 +63,15 @@ module _ (w : World) where
       or_from _ _ (not_same e x k) (and_falsely (is_state w e) (nat_lt x e) (nat_le e (last w x)) (not_after e x k))
 
   -- the children of a state with the state
-  pub around_kids : (q : Group) (n e : ℕ) (b : Block) (g : Group) → FineState w q n (Node e b g) → Around w e g
+  pub around_kids : (q : Group) (n e : ℕ) (b : Block) (g : Group) → FineState w q n (state_node e b g) → Around w e g
   around_kids q n e b g fine = record { fine = fine.1; count = fine.0.count; apart = kids_apart e g fine.0.numbers }
 
   pub kids_around : (i : Site w) → Around w i.state i.kids
   kids_around i = around_kids i.siblings i.index i.state i.body i.kids (own_fine i)
 
   inside_root : (q : Group) (n : ℕ) (g : Group) → FineGroup w q n g → (x : ℕ) → inside g x ≡ true → x ≤ last w x × (last w x < root w)
-  inside_root q n None fine x h = cc
-  inside_root q n (More (Node c b k) g) fine x h = elim (or_cases (nat_eq x c) _ h) [
+  inside_root q n no_node fine x h = cc
+  inside_root q n (and_node (state_node c b k) g) fine x h = elim (or_cases (nat_eq x c) _ h) [
     | inl e ↦ rw (eqb-true x c e) (fine.0.0.itself, fine.0.0.declared)
     | inr e ↦ elim (or_cases (inside k x) (inside g x) e) [
       | inl i ↦ inside_root k 0 k fine.0.1 x i
@@ -113,19 +113,19 @@ Disjoint w i c cs = (m : ℕ) → is_memory w m ≡ true → is_dynamic w m ≡ 
 
 abbrev mutual
   pub Proper : (w : World) → Site w → Command → Type 0
-  Proper w i (Do k) = ProperStep w i k
-  Proper w i (Try k hang h) = ProperStep w i k × ProperBlock w i h
-  Proper w i (If hang e a b) = FineTerm w e × ProperBlock w i a × ProperBlock w i b
-  Proper w i (TryThen k hang a b) = ProperStep w i k × ProperBlock w i a × ProperBlock w i b
-  Proper w i (Case hang e arms) = FineTerm w e × ProperArms w i arms
+  Proper w i (lone k) = ProperStep w i k
+  Proper w i (try k hang h) = ProperStep w i k × ProperBlock w i h
+  Proper w i (if_else hang e a b) = FineTerm w e × ProperBlock w i a × ProperBlock w i b
+  Proper w i (try_then k hang a b) = ProperStep w i k × ProperBlock w i a × ProperBlock w i b
+  Proper w i (case_of hang e arms) = FineTerm w e × ProperArms w i arms
 
   pub ProperArms : (w : World) → Site w → Arms → Type 0
-  ProperArms w i (Last b) = ProperBlock w i b
-  ProperArms w i (Arm constants b arms) = ProperBlock w i b × ProperArms w i arms
+  ProperArms w i (last_arm b) = ProperBlock w i b
+  ProperArms w i (and_arm constants b arms) = ProperBlock w i b × ProperArms w i arms
 
   pub ProperBlock : (w : World) → Site w → Block → Type 0
-  ProperBlock w i End = Unit {0}
-  ProperBlock w i (Then c cs) = Proper w i c × ProperBlock w i cs
+  ProperBlock w i end_block = Unit {0}
+  ProperBlock w i (command_then c cs) = Proper w i c × ProperBlock w i cs
 
 -- whether it closes or is open
 abbrev pub Shut : Block → Type 0
@@ -150,31 +150,31 @@ module _ (w : World) (i : Site w) where
 
   mutual
     pub proper : (c : Command) → FineCommand w i.siblings i.kids c → Unmarked c → Proper w i c
-    proper (Do k) fine un = (fine, un)
-    proper (Try k hang h) fine un = (
+    proper (lone k) fine un = (fine, un)
+    proper (try k hang h) fine un = (
       (fine.0, λ x m. neither_left _ _ (un x m)),
       proper_block h fine.1 (λ x m. neither_right (step_retags k x) _ (un x m)),
     )
-    proper (If hang e a b) fine un = (
+    proper (if_else hang e a b) fine un = (
       fine.0,
       proper_block a fine.1 (λ x m. neither_left _ _ (un x m)),
       proper_block b fine.2 (λ x m. neither_right (block_retags a x) _ (un x m)),
     )
-    proper (TryThen k hang a b) fine un = (
+    proper (try_then k hang a b) fine un = (
       (fine.0, λ x m. neither_left _ _ (un x m)),
       proper_block a fine.1 (λ x m. neither_left _ _ (neither_right (step_retags k x) _ (un x m))),
       proper_block b fine.2 (λ x m. neither_right (block_retags a x) _ (neither_right (step_retags k x) _ (un x m))),
     )
-    proper (Case hang e arms) fine un = (fine.0, proper_arms arms fine.1 un)
+    proper (case_of hang e arms) fine un = (fine.0, proper_arms arms fine.1 un)
 
     proper_arms : (arms : Arms) → FineArms w i.siblings i.kids arms → ((x : ℕ) → mine i x ≡ true → arms_retag arms x ≡ false) → ProperArms w i arms
-    proper_arms (Last b) fine un = proper_block b fine un
-    proper_arms (Arm constants b arms) fine un =
+    proper_arms (last_arm b) fine un = proper_block b fine un
+    proper_arms (and_arm constants b arms) fine un =
         (proper_block b fine.0 (λ x m. neither_left _ _ (un x m)), proper_arms arms fine.1 (λ x m. neither_right (block_retags b x) _ (un x m)))
 
     pub proper_block : (b : Block) → FineBlock w i.siblings i.kids b → UnmarkedBlock b → ProperBlock w i b
-    proper_block End fine un = tt
-    proper_block (Then c cs) fine un =
+    proper_block end_block fine un = tt
+    proper_block (command_then c cs) fine un =
         (proper c fine.0 (λ x m. neither_left _ _ (un x m)), proper_block cs fine.1 (λ x m. neither_right (retags c x) _ (un x m)))
 
   body_unmarked : UnmarkedBlock i.body
@@ -189,33 +189,33 @@ module _ (w : World) (i : Site w) where
 -- what the keeping of states asks of it
 mutual
   pub fine_command : (w : World) (i : Site w) (c : Command) → Proper w i c → FineCommand w i.siblings i.kids c
-  fine_command w i (Do k) p = p.0
-  fine_command w i (Try k hang h) p = (p.0.0, fine_block w i h p.1)
-  fine_command w i (If hang e a b) p = (p.0, fine_block w i a p.1, fine_block w i b p.2)
-  fine_command w i (TryThen k hang a b) p = (p.0.0, fine_block w i a p.1, fine_block w i b p.2)
-  fine_command w i (Case hang e arms) p = (p.0, fine_arms w i arms p.1)
+  fine_command w i (lone k) p = p.0
+  fine_command w i (try k hang h) p = (p.0.0, fine_block w i h p.1)
+  fine_command w i (if_else hang e a b) p = (p.0, fine_block w i a p.1, fine_block w i b p.2)
+  fine_command w i (try_then k hang a b) p = (p.0.0, fine_block w i a p.1, fine_block w i b p.2)
+  fine_command w i (case_of hang e arms) p = (p.0, fine_arms w i arms p.1)
 
   pub fine_arms : (w : World) (i : Site w) (arms : Arms) → ProperArms w i arms → FineArms w i.siblings i.kids arms
-  fine_arms w i (Last b) p = fine_block w i b p
-  fine_arms w i (Arm constants b arms) p = (fine_block w i b p.0, fine_arms w i arms p.1)
+  fine_arms w i (last_arm b) p = fine_block w i b p
+  fine_arms w i (and_arm constants b arms) p = (fine_block w i b p.0, fine_arms w i arms p.1)
 
   pub fine_block : (w : World) (i : Site w) (b : Block) → ProperBlock w i b → FineBlock w i.siblings i.kids b
-  fine_block w i End p = tt
-  fine_block w i (Then c cs) p = (fine_command w i c p.0, fine_block w i cs p.1)
+  fine_block w i end_block p = tt
+  fine_block w i (command_then c cs) p = (fine_command w i c p.0, fine_block w i cs p.1)
 
 -- nor does it retag the state or one below it
 mutual
   pub unmarked : (w : World) (i : Site w) (c : Command) → Proper w i c → (x : ℕ) → mine i x ≡ true → retags c x ≡ false
-  unmarked w i (Do k) p x m = p.1 x m
-  unmarked w i (Try k hang h) p x m = or_from _ _ (p.0.1 x m) (block_unmarked w i h p.1 x m)
-  unmarked w i (If hang e a b) p x m = or_from _ _ (block_unmarked w i a p.1 x m) (block_unmarked w i b p.2 x m)
-  unmarked w i (TryThen k hang a b) p x m = or_from _ _ (p.0.1 x m) (or_from _ _ (block_unmarked w i a p.1 x m) (block_unmarked w i b p.2 x m))
-  unmarked w i (Case hang e arms) p x m = arms_unmarked w i arms p.1 x m
+  unmarked w i (lone k) p x m = p.1 x m
+  unmarked w i (try k hang h) p x m = or_from _ _ (p.0.1 x m) (block_unmarked w i h p.1 x m)
+  unmarked w i (if_else hang e a b) p x m = or_from _ _ (block_unmarked w i a p.1 x m) (block_unmarked w i b p.2 x m)
+  unmarked w i (try_then k hang a b) p x m = or_from _ _ (p.0.1 x m) (or_from _ _ (block_unmarked w i a p.1 x m) (block_unmarked w i b p.2 x m))
+  unmarked w i (case_of hang e arms) p x m = arms_unmarked w i arms p.1 x m
 
   arms_unmarked : (w : World) (i : Site w) (arms : Arms) → ProperArms w i arms → (x : ℕ) → mine i x ≡ true → arms_retag arms x ≡ false
-  arms_unmarked w i (Last b) p x m = block_unmarked w i b p x m
-  arms_unmarked w i (Arm constants b arms) p x m = or_from _ _ (block_unmarked w i b p.0 x m) (arms_unmarked w i arms p.1 x m)
+  arms_unmarked w i (last_arm b) p x m = block_unmarked w i b p x m
+  arms_unmarked w i (and_arm constants b arms) p x m = or_from _ _ (block_unmarked w i b p.0 x m) (arms_unmarked w i arms p.1 x m)
 
   pub block_unmarked : (w : World) (i : Site w) (b : Block) → ProperBlock w i b → (x : ℕ) → mine i x ≡ true → block_retags b x ≡ false
-  block_unmarked w i End p x m = refl
-  block_unmarked w i (Then c cs) p x m = or_from _ _ (unmarked w i c p.0 x m) (block_unmarked w i cs p.1 x m)
+  block_unmarked w i end_block p x m = refl
+  block_unmarked w i (command_then c cs) p x m = or_from _ _ (unmarked w i c p.0 x m) (block_unmarked w i cs p.1 x m)

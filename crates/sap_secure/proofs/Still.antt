@@ -7,7 +7,7 @@ use Rattle.sap_lemmas.proofs.Numbers.{test_of_same}
 use Rattle.sap_meaning.proofs.FineLemmas.{inside_among}
 use Rattle.sap_lattice.specs.Order.{Laws}
 use Rattle.sap_maps.specs.Term.{Term}
-use Rattle.sap_meaning.specs.Program.{World, is_dynamic, is_state, children, place, last, below, Step, Set, Write, Retag, RetagCell, Goto, Fall, Command, Do, Try, If, TryThen, Case, Arms, Last, Arm, Block, End, Then, State, Node, Group, None, More}
+use Rattle.sap_meaning.specs.Program.{World, is_dynamic, is_state, children, place, last, below, Step, assign, write, retag, retag_cell, go_to, fall_to_child, Command, lone, try, if_else, try_then, case_of, Arms, last_arm, and_arm, Block, end_block, command_then, State, state_node, Group, no_node, and_node}
 use Rattle.sap_meaning.specs.Store.{Slot, own, Store, owner, level, child, put_level, put_child, raise, reset, After, stay}
 use Rattle.sap_meaning.specs.State.{Holds}
 use Rattle.sap_meaning.specs.Expressions.{tag}
@@ -46,14 +46,14 @@ pub record Cover (w : World) (l e : ℕ) (g : Group) (h : ℕ → Bool) (s : Sto
   pub kid_high : (a : State) → Nth g (child e s) a → Low w.order l (level w (own e) s) → h (number_of a) ≡ true → High w.order l (level w (own (number_of a)) s)
 
 pub child_level_nth : (w : World) (g : Group) (n : ℕ) (a : State) (s : Store) → Nth g n a → child_level w g n s ≡ level w (own (number_of a)) s
-child_level_nth w None n a s h = absurd h
-child_level_nth w (More (Node c b k) g) zero a s h = ap (λ x. level w (own (number_of x)) s) h
-child_level_nth w (More (Node c b k) g) (suc n) a s h = child_level_nth w g n a s h
+child_level_nth w no_node n a s h = absurd h
+child_level_nth w (and_node (state_node c b k) g) zero a s h = ap (λ x. level w (own (number_of x)) s) h
+child_level_nth w (and_node (state_node c b k) g) (suc n) a s h = child_level_nth w g n a s h
 
 pub child_opens_nth : (w : World) (g : Group) (n : ℕ) (a : State) (pc : ℕ) (s : Store) → Nth g n a → child_opens w g n pc s ≡ opens w (number_of a) pc s
-child_opens_nth w None n a pc s h = absurd h
-child_opens_nth w (More (Node c b k) g) zero a pc s h = ap (λ x. opens w (number_of x) pc s) h
-child_opens_nth w (More (Node c b k) g) (suc n) a pc s h = child_opens_nth w g n a pc s h
+child_opens_nth w no_node n a pc s h = absurd h
+child_opens_nth w (and_node (state_node c b k) g) zero a pc s h = ap (λ x. opens w (number_of x) pc s) h
+child_opens_nth w (and_node (state_node c b k) g) (suc n) a pc s h = child_opens_nth w g n a pc s h
 
 pub touched_in : (d a b : Bool) → (a ≡ true → b ≡ true) → (d && a) ≡ true → (d && b) ≡ true
 touched_in true a b f h = f h
@@ -111,7 +111,7 @@ module _ (w : World) (laws : Laws w.order) (l : ℕ) where
     UpAt pc k b = Up w laws l c.site c.entering c.holding pc k b
 
     pub high_path : (s : Store) → Here s → MyHigh s → PathOf s ≡ []
-    high_path s here high = path_high w laws l c.site.parent c.site.index c.site.siblings (Node c.site.state c.site.body c.site.kids) s c.site.self here high
+    high_path s here high = path_high w laws l c.site.parent c.site.index c.site.siblings (state_node c.site.state c.site.body c.site.kids) s c.site.self here high
 
     pub here_path : (s : Store) → Here s → PathOf s ≡ one w l c.site.index c.site.state c.site.kids s
     here_path s here = path_here w l c.site.parent c.site.index c.site.state c.site.body c.site.kids c.site.siblings s c.site.self here
@@ -121,13 +121,13 @@ module _ (w : World) (laws : Laws w.order) (l : ℕ) where
     like_path s t hs ht e f = here_path s hs ∙ rw (e, f) refl ∙ sym (here_path t ht)
 
     -- the target of a goto
-    pub target_of : (site target : ℕ) → ProperStep w c.site (Goto site target) → (a : State) × Nth c.site.siblings (place w target) a × (number_of a ≡ target)
+    pub target_of : (site target : ℕ) → ProperStep w c.site (go_to site target) → (a : State) × Nth c.site.siblings (place w target) a × (number_of a ≡ target)
     target_of site target fine = placed w c.site.siblings target c.site.around.fine fine.0
 
-    pub target_apart : (site target : ℕ) → ProperStep w c.site (Goto site target) → (nat_eq c.site.parent target || below w target c.site.parent) ≡ false
+    pub target_apart : (site target : ℕ) → ProperStep w c.site (go_to site target) → (nat_eq c.site.parent target || below w target c.site.parent) ≡ false
     target_apart site target fine = c.site.around.apart target (inside_among c.site.siblings target fine.0)
 
-    pub moved_child : (site target : ℕ) → ProperStep w c.site (Goto site target) → (s : Store) → child c.site.parent (reset w target (put_child c.site.parent (place w target) s)) ≡ place w target
+    pub moved_child : (site target : ℕ) → ProperStep w c.site (go_to site target) → (s : Store) → child c.site.parent (reset w target (put_child c.site.parent (place w target) s)) ≡ place w target
     moved_child site target fine s =
         let f = target_apart site target fine in
         child_reset w c.site.parent target (put_child c.site.parent (place w target) s)
@@ -135,14 +135,14 @@ module _ (w : World) (laws : Laws w.order) (l : ℕ) where
         (child_put c.site.parent c.site.parent (place w target) s ∙ rw (test_of_same c.site.parent) refl)
 
     -- a goto where it succeeds: the state left is high, and so is the one that is entered
-    pub goto_source : (site target pc : ℕ) (b r : Store) → ((z : Slot) → is_dynamic w (owner z) ≡ false → level w z r ≡ level w z b) → Mine (λ x. is_dynamic w x && step_hangs c.site.state c.site.kids (Goto site target) x) r → test w At (Goto site target) pc b ≡ true → UpAt pc (Goto site target) b → MyHigh r
+    pub goto_source : (site target pc : ℕ) (b r : Store) → ((z : Slot) → is_dynamic w (owner z) ≡ false → level w z r ≡ level w z b) → Mine (λ x. is_dynamic w x && step_hangs c.site.state c.site.kids (go_to site target) x) r → test w At (go_to site target) pc b ≡ true → UpAt pc (go_to site target) b → MyHigh r
     goto_source site target pc b r same cover t up = elim (cases_Bool (is_dynamic w c.site.state)) [
       | inl d ↦ cover.own_high (and_from _ _ d (test_of_same c.site.state))
       | inr d ↦ subst (λ v. High w.order l v) (sym (same (own c.site.state) d))
-          (high_above w.order laws l _ _ (rw d at (and_right (is_dynamic w target || w.order.le pc (level w (own target) b)) _ t)) (up_join w laws l c.site c.entering c.holding pc (Goto site target) b up))
+          (high_above w.order laws l _ _ (rw d at (and_right (is_dynamic w target || w.order.le pc (level w (own target) b)) _ t)) (up_join w laws l c.site c.entering c.holding pc (go_to site target) b up))
     ]
 
-    pub goto_lands : (site target : ℕ) → ProperStep w c.site (Goto site target) → (pc : ℕ) (b r : Store) → Holds w r → ((z : Slot) → is_dynamic w (owner z) ≡ false → level w z r ≡ level w z b) → test w At (Goto site target) pc b ≡ true → UpAt pc (Goto site target) b → PathOf (effect w At c.site.enter (Goto site target) pc b r).store ≡ []
+    pub goto_lands : (site target : ℕ) → ProperStep w c.site (go_to site target) → (pc : ℕ) (b r : Store) → Holds w r → ((z : Slot) → is_dynamic w (owner z) ≡ false → level w z r ≡ level w z b) → test w At (go_to site target) pc b ≡ true → UpAt pc (go_to site target) b → PathOf (effect w At c.site.enter (go_to site target) pc b r).store ≡ []
     unfolding effect
     goto_lands site target fine pc b r holds same t up =
         let a = target_of site target fine in
@@ -157,18 +157,18 @@ module _ (w : World) (laws : Laws w.order) (l : ℕ) where
               (subst (λ v. High w.order l v) (sym (reset_keeps w (put_child c.site.parent (place w target) r) target (own target) d ∙ level_child w (own target) c.site.parent (place w target) r)) (enforced_up d up))))
         ]
       where
-        dynamic_up : is_dynamic w target ≡ true → UpAt pc (Goto site target) b → High w.order l pc
+        dynamic_up : is_dynamic w target ≡ true → UpAt pc (go_to site target) b → High w.order l pc
         dynamic_up d (inl h) = h
         dynamic_up d (inr h) = let h' = rw d at h in let low = laws.least_of_all l in cc
 
-        enforced_up : is_dynamic w target ≡ false → UpAt pc (Goto site target) b → High w.order l (level w (own target) r)
+        enforced_up : is_dynamic w target ≡ false → UpAt pc (go_to site target) b → High w.order l (level w (own target) r)
         enforced_up d (inl h) =
             let up' : w.order.le pc (level w (own target) b) ≡ true = rw d at (and_left (is_dynamic w target || w.order.le pc (level w (own target) b)) _ t) in
             subst (λ v. High w.order l v) (sym (same (own target) d)) (high_above w.order laws l pc (level w (own target) b) up' h)
         enforced_up d (inr h) = high_above w.order laws l _ _ (holds.above (own target) (held_state w target (inside_state w c.site.siblings 0 c.site.siblings c.site.around.fine target (inside_among c.site.siblings target fine.0))) d) (rw d at h)
 
     -- the current child
-    pub current : (site : ℕ) (hang : List Bool) → ProperStep w c.site (Fall site hang) → (s : Store) → Holds w s → (a : State) × Nth c.site.kids (child c.site.state s) a
+    pub current : (site : ℕ) (hang : List Bool) → ProperStep w c.site (fall_to_child site hang) → (s : Store) → Holds w s → (a : State) × Nth c.site.kids (child c.site.state s) a
     current site hang fine s holds =
         let n : 0 < children w c.site.state = rw (node w c.site).count fine.0 in
         nth_of c.site.kids (child c.site.state s) (rw (node w c.site).count at (holds.seated c.site.state n))
@@ -176,17 +176,17 @@ module _ (w : World) (laws : Laws w.order) (l : ℕ) where
     -- the effect of a transfer, from the raised store r
     step_still : (k : Step) → transfers k ≡ true → ProperStep w c.site k → (pc : ℕ) (b r : Store) → child c.site.state r ≡ child c.site.state b → ((z : Slot) → is_dynamic w (owner z) ≡ false → level w z r ≡ level w z b) → Holds w r → Quiet w l (step_concerns w c.site.state c.site.kids k) r → Here r → Mine (λ x. is_dynamic w x && step_hangs c.site.state c.site.kids k x) r → test w At k pc b ≡ true → UpAt pc k b → PathOf (effect w At c.site.enter k pc b r).store ≡ PathOf r
     unfolding effect
-    step_still (Set site x e) moves fine pc b r seats same holds quiet here cover t up = cc
-    step_still (Write site m j e) moves fine pc b r seats same holds quiet here cover t up = cc
-    step_still (Retag site x n) moves fine pc b r seats same holds quiet here cover t up = cc
-    step_still (RetagCell site m j n) moves fine pc b r seats same holds quiet here cover t up = cc
-    step_still (Goto site target) moves fine pc b r seats same holds quiet here cover t up =
+    step_still (assign site x e) moves fine pc b r seats same holds quiet here cover t up = cc
+    step_still (write site m j e) moves fine pc b r seats same holds quiet here cover t up = cc
+    step_still (retag site x n) moves fine pc b r seats same holds quiet here cover t up = cc
+    step_still (retag_cell site m j n) moves fine pc b r seats same holds quiet here cover t up = cc
+    step_still (go_to site target) moves fine pc b r seats same holds quiet here cover t up =
         goto_lands site target fine pc b r holds same t up ∙ sym (high_path r here (goto_source site target pc b r same cover t up))
-    step_still (Fall site hang) moves fine pc b r seats same holds quiet here cover t up = elim (cases_Bool (w.order.le (level w (own c.site.state) r) l)) [
+    step_still (fall_to_child site hang) moves fine pc b r seats same holds quiet here cover t up = elim (cases_Bool (w.order.le (level w (own c.site.state) r) l)) [
       | inl low ↦ (
           let high = kid low (cases_Bool (is_dynamic w (number_of a.0))) in
           like_path after r (k.seat ∙ here) here k.level
-          (c.covered m (w.order.join pc (child_level w c.site.kids (child c.site.state b) b)) r a.0 a.1 holds (up_join w laws l c.site c.entering c.holding pc (Fall site hang) b up) quieter seats high ∙ sym (path_high w laws l c.site.state m c.site.kids a.0 r a.1 seats high)))
+          (c.covered m (w.order.join pc (child_level w c.site.kids (child c.site.state b) b)) r a.0 a.1 holds (up_join w laws l c.site c.entering c.holding pc (fall_to_child site hang) b up) quieter seats high ∙ sym (path_high w laws l c.site.state m c.site.kids a.0 r a.1 seats high)))
       | inr high ↦ high_path after (k.seat ∙ here) (subst (λ v. High w.order l v) (sym k.level) high) ∙ sym (high_path r here high)
     ]
       where
@@ -210,7 +210,7 @@ module _ (w : World) (laws : Laws w.order) (l : ℕ) where
             cover.kid_high a.0 (subst (λ n. Nth c.site.kids n a.0) (sym seats) a.1) low (and_from _ _ d (or_left _ _ (nth_among c.site.kids (child c.site.state b) a.0 a.1)))
         kid low (inr d) = subst (λ v. High w.order l v) (sym (same (own (number_of a.0)) d)) (upper up)
           where
-            upper : UpAt pc (Fall site hang) b → High w.order l (level w (own (number_of a.0)) b)
+            upper : UpAt pc (fall_to_child site hang) b → High w.order l (level w (own (number_of a.0)) b)
             upper (inl h) =
                 let t' = subst (λ v. v ≡ true) (child_opens_nth w c.site.kids (child c.site.state b) a.0 pc b a.1) t in
                 high_above w.order laws l pc _ (rw d at t') h
@@ -326,28 +326,28 @@ module _ (w : World) (laws : Laws w.order) (l : ℕ) where
       unfolding does does_arms does_block
 
       pub does_still : (d : Command) → Proper w c.site d → Final d → (pc : ℕ) (s : Store) → Holds w s → High w.order l pc → Quiet w l (concerns w c.site.state c.site.kids d) s → Here s → Mine (touches w At d) s → PathOf (does w At c.site.enter d pc s).store ≡ PathOf s
-      does_still (Do k) fine final pc s holds high quiet here cover =
+      does_still (lone k) fine final pc s holds high quiet here cover =
           let hang = raised_alone w At k in
           let dyn : OfDynamic w hang = alone_dynamic w At c.site.siblings (landing w laws l c.site c.entering c.holding) c.site.enter c.holding k in
           let inn = alone_within w laws l c.site c.entering c.holding k in
           attempt_still k final fine hang (λ r t. stay t) pc s dyn holds (quiet_kept w laws l c.site c.entering c.holding (step_concerns w c.site.state c.site.kids k) hang _ s dyn quiet) here (cover_raise _ _ _ s _ _ cover) (inl high) (λ r u. refl)
-          ∙ raised_path hang _ s here (cover_part _ _ _ _ s inn cover) (λ x h. false_from_ne_true _ (λ i. let no = shallow (Do k) fine x h in let yes = inn x i in cc))
-      does_still (Try k hang h) fine final pc s holds high quiet here cover =
-          let hung = touches w At (Try k hang h) in
-          let dyn : OfDynamic w hung = touches_dynamic w laws l c.site c.entering c.holding (Try k hang h) in
+          ∙ raised_path hang _ s here (cover_part _ _ _ _ s inn cover) (λ x h. false_from_ne_true _ (λ i. let no = shallow (lone k) fine x h in let yes = inn x i in cc))
+      does_still (try k hang h) fine final pc s holds high quiet here cover =
+          let hung = touches w At (try k hang h) in
+          let dyn : OfDynamic w hung = touches_dynamic w laws l c.site c.entering c.holding (try k hang h) in
           let r' = raise w.order hung (guard w At k s) s in
-          let q = quiet_kept w laws l c.site c.entering c.holding (concerns w c.site.state c.site.kids (Try k hang h)) hung (guard w At k s) s dyn quiet in
+          let q = quiet_kept w laws l c.site c.entering c.holding (concerns w c.site.state c.site.kids (try k hang h)) hung (guard w At k s) s dyn quiet in
           let cov = cover_raise _ _ _ s hung (guard w At k s) cover in
           attempt_still k final.0 fine.0 hung (does_block w At c.site.enter h) pc s dyn holds (quiet_left w laws l c.site c.entering c.holding (step_concerns w c.site.state c.site.kids k) (block_concerns w c.site.state c.site.kids h) r' q) here
           (cover_part _ _ _ _ r' (λ x. touched_in (is_dynamic w x) _ _ (λ i. or_left _ (block_hangs c.site.state c.site.kids h x) i)) cov) (inl high)
           (λ r u. block_still h fine.1 final.1 r _ (holds_raise w s hung _ dyn holds) u (quiet_right w laws l c.site c.entering c.holding (step_concerns w c.site.state c.site.kids k) (block_concerns w c.site.state c.site.kids h) r' q) (child_raise w.order c.site.parent hung (guard w At k s) s ∙ here)
           (cover_part _ _ _ _ r' (λ x. touched_in (is_dynamic w x) _ _ (λ i. or_right (step_hangs c.site.state c.site.kids k x) _ i)) cov))
-          ∙ raised_path hung _ s here cover (shallow (Try k hang h) fine)
-      does_still (If hang e a b) fine final pc s holds high quiet here cover =
-          let hung = touches w At (If hang e a b) in
-          let dyn : OfDynamic w hung = touches_dynamic w laws l c.site c.entering c.holding (If hang e a b) in
+          ∙ raised_path hung _ s here cover (shallow (try k hang h) fine)
+      does_still (if_else hang e a b) fine final pc s holds high quiet here cover =
+          let hung = touches w At (if_else hang e a b) in
+          let dyn : OfDynamic w hung = touches_dynamic w laws l c.site c.entering c.holding (if_else hang e a b) in
           let r' = raise w.order hung (tag w e s) s in
-          let q = quiet_kept w laws l c.site c.entering c.holding (concerns w c.site.state c.site.kids (If hang e a b)) hung (tag w e s) s dyn quiet in
+          let q = quiet_kept w laws l c.site c.entering c.holding (concerns w c.site.state c.site.kids (if_else hang e a b)) hung (tag w e s) s dyn quiet in
           let cov = cover_raise _ _ _ s hung (tag w e s) cover in
           let here' = child_raise w.order c.site.parent hung (tag w e s) s ∙ here in
           select_still e hung (branch (does_block w At c.site.enter a) (does_block w At c.site.enter b)) pc s (high_left w.order laws l pc _ high)
@@ -356,12 +356,12 @@ module _ (w : World) (laws : Laws w.order) (l : ℕ) where
           (cover_part _ _ _ _ r' (λ x. touched_in (is_dynamic w x) _ _ (λ i. or_left _ (block_hangs c.site.state c.site.kids b x) i)) cov))
           (block_still b fine.2 final.1 r _ (holds_raise w s hung _ dyn holds) u (quiet_right w laws l c.site c.entering c.holding (block_concerns w c.site.state c.site.kids a) (block_concerns w c.site.state c.site.kids b) r' q) here'
           (cover_part _ _ _ _ r' (λ x. touched_in (is_dynamic w x) _ _ (λ i. or_right (block_hangs c.site.state c.site.kids a x) _ i)) cov)))
-          ∙ raised_path hung _ s here cover (shallow (If hang e a b) fine)
-      does_still (TryThen k hang a b) fine final pc s holds high quiet here cover =
-          let hung = touches w At (TryThen k hang a b) in
-          let dyn : OfDynamic w hung = touches_dynamic w laws l c.site c.entering c.holding (TryThen k hang a b) in
+          ∙ raised_path hung _ s here cover (shallow (if_else hang e a b) fine)
+      does_still (try_then k hang a b) fine final pc s holds high quiet here cover =
+          let hung = touches w At (try_then k hang a b) in
+          let dyn : OfDynamic w hung = touches_dynamic w laws l c.site c.entering c.holding (try_then k hang a b) in
           let r' = raise w.order hung (guard w At k s) s in
-          let q = quiet_kept w laws l c.site c.entering c.holding (concerns w c.site.state c.site.kids (TryThen k hang a b)) hung (guard w At k s) s dyn quiet in
+          let q = quiet_kept w laws l c.site c.entering c.holding (concerns w c.site.state c.site.kids (try_then k hang a b)) hung (guard w At k s) s dyn quiet in
           let cov = cover_raise _ _ _ s hung (guard w At k s) cover in
           let mine_now = step_concerns w c.site.state c.site.kids k in
           let one = block_concerns w c.site.state c.site.kids a in
@@ -376,21 +376,21 @@ module _ (w : World) (laws : Laws w.order) (l : ℕ) where
           (λ r up. block_still b fine.2 final.2 r _ (holds_raise w s hung _ dyn holds) up (quiet_right w laws l c.site c.entering c.holding one other r' behind)
           (child_raise w.order c.site.parent hung (guard w At k s) s ∙ here)
           (cover_part _ _ _ _ r' (λ x. touched_in (is_dynamic w x) _ _ (λ i. or_right (step_hangs c.site.state c.site.kids k x) _ (or_right (block_hangs c.site.state c.site.kids a x) _ i))) cov))
-          ∙ raised_path hung _ s here cover (shallow (TryThen k hang a b) fine)
-      does_still (Case hang e arms) fine final pc s holds high quiet here cover =
-          let hung = touches w At (Case hang e arms) in
-          let dyn : OfDynamic w hung = touches_dynamic w laws l c.site c.entering c.holding (Case hang e arms) in
-          let q = quiet_kept w laws l c.site c.entering c.holding (concerns w c.site.state c.site.kids (Case hang e arms)) hung (tag w e s) s dyn quiet in
+          ∙ raised_path hung _ s here cover (shallow (try_then k hang a b) fine)
+      does_still (case_of hang e arms) fine final pc s holds high quiet here cover =
+          let hung = touches w At (case_of hang e arms) in
+          let dyn : OfDynamic w hung = touches_dynamic w laws l c.site c.entering c.holding (case_of hang e arms) in
+          let q = quiet_kept w laws l c.site c.entering c.holding (concerns w c.site.state c.site.kids (case_of hang e arms)) hung (tag w e s) s dyn quiet in
           let cov = cover_raise _ _ _ s hung (tag w e s) cover in
           let here' = child_raise w.order c.site.parent hung (tag w e s) s ∙ here in
           select_still e hung (does_arms w At c.site.enter arms) pc s (high_left w.order laws l pc _ high)
           (λ v r u. arms_still arms fine.1 final v r _ (holds_raise w s hung _ dyn holds) u q here' cov)
-          ∙ raised_path hung _ s here cover (shallow (Case hang e arms) fine)
+          ∙ raised_path hung _ s here cover (shallow (case_of hang e arms) fine)
 
       arms_still : (arms : Arms) → ProperArms w c.site arms → ClosingArms arms → (v pc : ℕ) (s : Store) → Holds w s → High w.order l pc → Quiet w l (arms_concern w c.site.state c.site.kids arms) s → Here s
           → Mine (λ x. is_dynamic w x && arms_hang c.site.state c.site.kids arms x) s → PathOf (does_arms w At c.site.enter arms v pc s).store ≡ PathOf s
-      arms_still (Last b) fine final v pc s holds high quiet here cover = block_still b fine final pc s holds high quiet here cover
-      arms_still (Arm cs b arms) fine final v pc s holds high quiet here cover =
+      arms_still (last_arm b) fine final v pc s holds high quiet here cover = block_still b fine final pc s holds high quiet here cover
+      arms_still (and_arm cs b arms) fine final v pc s holds high quiet here cover =
           choose_all (λ z. PathOf z.store ≡ PathOf s) cs (does_block w At c.site.enter b) (does_arms w At c.site.enter arms) v pc s
           (block_still b fine.0 final.0 pc s holds high (quiet_left w laws l c.site c.entering c.holding (block_concerns w c.site.state c.site.kids b) (arms_concern w c.site.state c.site.kids arms) s quiet) here
           (cover_part _ _ _ _ s (λ x. touched_in (is_dynamic w x) _ _ (λ i. or_left _ (arms_hang c.site.state c.site.kids arms x) i)) cover))
@@ -398,14 +398,14 @@ module _ (w : World) (laws : Laws w.order) (l : ℕ) where
           (cover_part _ _ _ _ s (λ x. touched_in (is_dynamic w x) _ _ (λ i. or_right (block_hangs c.site.state c.site.kids b x) _ i)) cover))
 
       pub block_still : (b : Block) → ProperBlock w c.site b → Closes b → (pc : ℕ) (s : Store) → Holds w s → High w.order l pc → Quiet w l (block_concerns w c.site.state c.site.kids b) s → Here s → Mine (λ x. is_dynamic w x && block_hangs c.site.state c.site.kids b x) s → PathOf (does_block w At c.site.enter b pc s).store ≡ PathOf s
-      block_still End fine closes pc s holds high quiet here cover = absurd closes
-      block_still (Then d End) fine closes pc s holds high quiet here cover =
+      block_still end_block fine closes pc s holds high quiet here cover = absurd closes
+      block_still (command_then d end_block) fine closes pc s holds high quiet here cover =
           does_still d fine.0 closes pc s holds high (λ z g h. quiet z g (or_left _ false h)) here (cover_part _ _ _ _ s (λ x. touched_in (is_dynamic w x) _ _ (λ i. or_left _ false i)) cover)
-      block_still (Then d (Then j js)) fine closes pc s holds high quiet here cover =
-          let f = does_confined w laws l c.site c.entering c.holding d fine.0 pc s holds high (quiet_left w laws l c.site c.entering c.holding (concerns w c.site.state c.site.kids d) (block_concerns w c.site.state c.site.kids (Then j js)) s quiet) in
+      block_still (command_then d (command_then j js)) fine closes pc s holds high quiet here cover =
+          let f = does_confined w laws l c.site c.entering c.holding d fine.0 pc s holds high (quiet_left w laws l c.site c.entering c.holding (concerns w c.site.state c.site.kids d) (block_concerns w c.site.state c.site.kids (command_then j js)) s quiet) in
           let s' = (does w At c.site.enter d pc s).store in
           let k = clear_own d fine.0 closes.0 pc s in
-          block_still (Then j js) fine.1 closes.1 pc s' (keeps w laws l c.site c.entering c.holding d fine.0 pc s holds) high
+          block_still (command_then j js) fine.1 closes.1 pc s' (keeps w laws l c.site c.entering c.holding d fine.0 pc s holds) high
           (λ z g h. hush_next w laws l s s' f.same z g (quiet z g (or_right (concerns w c.site.state c.site.kids d (owner z)) _ h)))
           (k.seat ∙ here)
           (cover_kept c.site _ s s' (λ x m. clear d fine.0 closes.0 pc s c.site.state x m) (cover_part _ _ _ _ s (λ x. touched_in (is_dynamic w x) _ _ (λ i. or_right (hangs c.site.state c.site.kids d x) _ i)) cover))

@@ -5,7 +5,7 @@ use Rattle.sap_lemmas.proofs.Bools.{and_left, iff_same}
 use Rattle.sap_lemmas.proofs.Numbers.{test_of_same}
 use Rattle.sap_lattice.specs.Order.{Laws}
 use Rattle.sap_maps.specs.Term.{Term, constant, read, cell, one, two, choose, join, part}
-use Rattle.sap_meaning.specs.Program.{World, is_dynamic, authority, LevelTerm, fixed, of, at_place, both, Step, Set, Write, Retag, RetagCell, Goto, Fall, Command, Do, Try, If, TryThen, Case, Arms, Last, Arm, Block, End, Then, is_memory}
+use Rattle.sap_meaning.specs.Program.{World, is_dynamic, authority, LevelTerm, fixed, of, at_place, both, Step, assign, write, retag, retag_cell, go_to, fall_to_child, Command, lone, try, if_else, try_then, case_of, Arms, last_arm, and_arm, Block, end_block, command_then, is_memory}
 use Rattle.sap_meaning.specs.Store.{Slot, own, start, next, start_whole, next_whole, Store, owner, number, level, put_number, raise, After, stay, and_then}
 use Rattle.sap_meaning.specs.State.{Holds}
 use Rattle.sap_meaning.specs.Expressions.{value, tag, level_at, new_level, told}
@@ -115,20 +115,20 @@ module _ (w : World) (laws : Laws w.order) (l : ℕ) where
     At = spot i
 
     pub guard_same : (k : Step) → ProperStep w i k → transfers k ≡ false → (s t : Store) → Agree w l s t → w.order.le (guard w At k s) l ≡ w.order.le (guard w At k t) l
-    guard_same (Set site x e) fine plain s t r = elim (cases_Bool (is_dynamic w x)) [ inl d ↦ rw d refl | inr d ↦ rw d (r.cells (own x) (or_right _ _ fine.0.0)).low ]
-    guard_same (Write site m j e) fine plain s t r = elim (cases_Bool (is_dynamic w m)) [ inl d ↦ rw d refl | inr d ↦ rw d (tag_same (cell m j) (fine.0.0, fine.0.1) s t r) ]
-    guard_same (Retag site x n) fine plain s t r = refl
-    guard_same (RetagCell site m j n) fine plain s t r = refl
-    guard_same (Goto site target) fine plain s t r = cc
-    guard_same (Fall site hang) fine plain s t r = cc
+    guard_same (assign site x e) fine plain s t r = elim (cases_Bool (is_dynamic w x)) [ inl d ↦ rw d refl | inr d ↦ rw d (r.cells (own x) (or_right _ _ fine.0.0)).low ]
+    guard_same (write site m j e) fine plain s t r = elim (cases_Bool (is_dynamic w m)) [ inl d ↦ rw d refl | inr d ↦ rw d (tag_same (cell m j) (fine.0.0, fine.0.1) s t r) ]
+    guard_same (retag site x n) fine plain s t r = refl
+    guard_same (retag_cell site m j n) fine plain s t r = refl
+    guard_same (go_to site target) fine plain s t r = cc
+    guard_same (fall_to_child site hang) fine plain s t r = cc
 
     pub guard_low : (k : Step) → ProperStep w i k → transfers k ≡ false → (s t : Store) → Agree w l s t → IsLow (guard w At k s) → guard w At k s ≡ guard w At k t
-    guard_low (Set site x e) fine plain s t r h = elim (cases_Bool (is_dynamic w x)) [ inl d ↦ rw d refl | inr d ↦ rw d ((r.cells (own x) (or_right _ _ fine.0.0)).level (rw d at h)) ]
-    guard_low (Write site m j e) fine plain s t r h = elim (cases_Bool (is_dynamic w m)) [ inl d ↦ rw d refl | inr d ↦ rw d (tag_low (cell m j) (fine.0.0, fine.0.1) s t r (rw d at h)) ]
-    guard_low (Retag site x n) fine plain s t r h = refl
-    guard_low (RetagCell site m j n) fine plain s t r h = refl
-    guard_low (Goto site target) fine plain s t r h = cc
-    guard_low (Fall site hang) fine plain s t r h = cc
+    guard_low (assign site x e) fine plain s t r h = elim (cases_Bool (is_dynamic w x)) [ inl d ↦ rw d refl | inr d ↦ rw d ((r.cells (own x) (or_right _ _ fine.0.0)).level (rw d at h)) ]
+    guard_low (write site m j e) fine plain s t r h = elim (cases_Bool (is_dynamic w m)) [ inl d ↦ rw d refl | inr d ↦ rw d (tag_low (cell m j) (fine.0.0, fine.0.1) s t r (rw d at h)) ]
+    guard_low (retag site x n) fine plain s t r h = refl
+    guard_low (retag_cell site m j n) fine plain s t r h = refl
+    guard_low (go_to site target) fine plain s t r h = cc
+    guard_low (fall_to_child site hang) fine plain s t r h = cc
 
     told_joined : (n : LevelTerm) (j : Term ℕ) → FineLevel w n → FineTerm w j → (s t : Store) → Agree w l s t → w.order.le (w.order.join (told w n s) (tag w j s)) l ≡ w.order.le (w.order.join (told w n t) (tag w j t)) l
     told_joined n j fn fj s t r = iff_same _ _ (λ h. one_way s t r h) (λ h. one_way t s (agree_flip w laws l s t r) h)
@@ -138,7 +138,7 @@ module _ (w : World) (laws : Laws w.order) (l : ℕ) where
 
     -- under a low guard both tests tell the same
     pub test_low : (k : Step) → ProperStep w i k → transfers k ≡ false → (pc : ℕ) (s t : Store) → Agree w l s t → IsLow (guard w At k s) → test w At k pc s ≡ test w At k pc t
-    test_low (Set site x e) fine plain pc s t r h = elim (cases_Bool (is_dynamic w x)) [
+    test_low (assign site x e) fine plain pc s t r h = elim (cases_Bool (is_dynamic w x)) [
       | inl d ↦ rw d refl
       | inr d ↦ rw d (
           let low : Low w.order l (level w (own x) s) = rw d at h in
@@ -150,7 +150,7 @@ module _ (w : World) (laws : Laws w.order) (l : ℕ) where
                 let b = not_below w.order laws l _ (level w (own x) t) (high_right w.order laws l pc (tag w e t) (sym (tag_same e fine.0.1 s t r) ∙ y)) (sym same.low ∙ low) in cc)
           ])
     ]
-    test_low (Write site m j e) fine plain pc s t r h = elim (cases_Bool (is_dynamic w m)) [
+    test_low (write site m j e) fine plain pc s t r h = elim (cases_Bool (is_dynamic w m)) [
       | inl d ↦ rw d refl
       | inr d ↦ rw d (
           let h' = rw d at h in
@@ -166,23 +166,23 @@ module _ (w : World) (laws : Laws w.order) (l : ℕ) where
                 let b = not_below w.order laws l _ (level w (start m (value w j s)) t) (high_right w.order laws l pc _ (high_right w.order laws l (tag w j s) (tag w e t) (sym (tag_same e fine.0.2 s t r) ∙ y))) (sym same.low ∙ place) in rw (a, b) refl)
           ]))
     ]
-    test_low (Retag site x n) fine plain pc s t r h = elim (cases_Bool (w.order.le (told w n s) l)) [
+    test_low (retag site x n) fine plain pc s t r h = elim (cases_Bool (w.order.le (told w n s) l)) [
       | inl y ↦ (let f = told_low n fine.0.2 s t r y in let f0 = f.0 in let f1 = f.1 in cc)
       | inr y ↦ (let a = not_below w.order laws l _ (authority w x) (high_right w.order laws l pc (told w n s) y) h in
           let b = not_below w.order laws l _ (authority w x) (high_right w.order laws l pc (told w n t) (sym (told_same n fine.0.2 s t r) ∙ y)) h in rw (a, b) refl)
     ]
-    test_low (RetagCell site m j n) fine plain pc s t r h = elim (cases_Bool (w.order.le (w.order.join (told w n s) (tag w j s)) l)) [
+    test_low (retag_cell site m j n) fine plain pc s t r h = elim (cases_Bool (w.order.le (w.order.join (told w n s) (tag w j s)) l)) [
       | inl y ↦ (let f = told_low n fine.0.3 s t r (left_low _ _ y) in let g = tag_low j fine.0.2 s t r (right_low (told w n s) _ y) in let f0 = f.0 in let f1 = f.1 in cc)
       | inr y ↦ (let a = not_below w.order laws l _ (authority w m) (high_right w.order laws l pc _ y) h in
           let b = not_below w.order laws l _ (authority w m) (high_right w.order laws l pc _ (sym (told_joined n j fine.0.3 fine.0.2 s t r) ∙ y)) h in rw (a, b) refl)
     ]
-    test_low (Goto site target) fine plain pc s t r h = cc
-    test_low (Fall site hang) fine plain pc s t r h = cc
+    test_low (go_to site target) fine plain pc s t r h = cc
+    test_low (fall_to_child site hang) fine plain pc s t r h = cc
 
     -- under a low guard the effects look alike
     pub effect_low : (k : Step) → ProperStep w i k → transfers k ≡ false → (pc : ℕ) (s t r u : Store) → IsLow pc → Agree w l s t → Agree w l r u → IsLow (guard w At k s) → test w At k pc s ≡ true → Twin w l (effect w At i.enter k pc s r) (effect w At i.enter k pc t u)
     unfolding effect
-    effect_low (Set site x e) fine plain pc s t r u lowpc like lifts h ts = elim (cases_Bool (is_dynamic w x)) [
+    effect_low (assign site x e) fine plain pc s t r u lowpc like lifts h ts = elim (cases_Bool (is_dynamic w x)) [
       | inl d ↦ rw d (record {
         same = agree_write w laws l r u (own x) _ _ _ _ (sole_own w x) lifts (λ _. dynamic_cell (cases_Bool (w.order.le (tag w e s) l))) (λ no _. cc);
         refused = refl;
@@ -201,7 +201,7 @@ module _ (w : World) (laws : Laws w.order) (l : ℕ) where
         dynamic_cell : (Low w.order l (tag w e s) ⊎ High w.order l (tag w e s)) → Same w.order l (value w e s) (w.order.join pc (tag w e s)) (value w e t) (w.order.join pc (tag w e t))
         dynamic_cell (inl y) = let a = tag_low e fine.0.1 s t like y in let b = value_low e fine.0.1 s t like y in record { low = cc; number = λ _. b; level = λ _. cc }
         dynamic_cell (inr y) = same_high w.order laws l _ _ _ _ (high_right w.order laws l pc _ y) (high_right w.order laws l pc _ (sym (tag_same e fine.0.1 s t like) ∙ y))
-    effect_low (Write site m j e) fine plain pc s t r u lowpc like lifts h ts = elim (cases_Bool (is_dynamic w m)) [
+    effect_low (write site m j e) fine plain pc s t r u lowpc like lifts h ts = elim (cases_Bool (is_dynamic w m)) [
       | inl d ↦ rw d (dynamic_write d (cases_Bool (w.order.le (v s) l)))
       | inr d ↦ rw d (
           let h' = rw d at h in
@@ -247,7 +247,7 @@ module _ (w : World) (laws : Laws w.order) (l : ℕ) where
           same = agree_next w laws l _ _ _ (agree_flip w laws l _ _ (hidden d s r high)) (agree_next w laws l _ _ _ (lifted d) (hidden d t u (sym v_like.0 ∙ high)));
           refused = refl;
         }
-    effect_low (Retag site x n) fine plain pc s t r u lowpc like lifts h ts =
+    effect_low (retag site x n) fine plain pc s t r u lowpc like lifts h ts =
         let y : Low w.order l (told w n s) = right_low pc _ (low_below w.order laws l _ _ (and_left _ _ ts) h) in
         let f = told_low n fine.0.2 s t like y in
         let lev = like.tags (own x) (held_target w laws l i entering holding x fine.0.0) fine.0.1 h in
@@ -259,7 +259,7 @@ module _ (w : World) (laws : Laws w.order) (l : ℕ) where
         kept_number : compared w (own x) ≡ true → Low w.order l (new_level w n s) → ((w.order.le (level w (own x) s) (new_level w n s) ≡ true) ⊎ (w.order.le (level w (own x) s) (new_level w n s) ≡ false)) → (if w.order.le (level w (own x) s) (new_level w n s) then number (own x) s else 0) ≡ (if w.order.le (level w (own x) s) (new_level w n s) then number (own x) t else 0)
         kept_number reg z (inl b) = rw b ((like.cells (own x) reg).number (low_below w.order laws l _ _ b z))
         kept_number reg z (inr b) = rw b refl
-    effect_low (RetagCell site m j n) fine plain pc s t r u lowpc like lifts h ts =
+    effect_low (retag_cell site m j n) fine plain pc s t r u lowpc like lifts h ts =
         let y : Low w.order l (w.order.join (told w n s) (tag w j s)) = right_low pc _ (low_below w.order laws l _ _ (and_left _ _ ts) h) in
         let f = told_low n fine.0.3 s t like (left_low _ _ y) in
         let k = value_low j fine.0.2 s t like (right_low (told w n s) _ y) in
@@ -272,8 +272,8 @@ module _ (w : World) (laws : Laws w.order) (l : ℕ) where
         kept_number : Low w.order l (new_level w n s) → ((w.order.le (level w (start m (value w j s)) s) (new_level w n s) ≡ true) ⊎ (w.order.le (level w (start m (value w j s)) s) (new_level w n s) ≡ false)) → (if w.order.le (level w (start m (value w j s)) s) (new_level w n s) then number (start m (value w j s)) s else 0) ≡ (if w.order.le (level w (start m (value w j s)) s) (new_level w n s) then number (start m (value w j s)) t else 0)
         kept_number z (inl b) = rw b ((like.cells (start m (value w j s)) fine.0.0).number (low_below w.order laws l _ _ b z))
         kept_number z (inr b) = rw b refl
-    effect_low (Goto site target) fine plain pc s t r u lowpc like lifts h ts = cc
-    effect_low (Fall site hang) fine plain pc s t r u lowpc like lifts h ts = cc
+    effect_low (go_to site target) fine plain pc s t r u lowpc like lifts h ts = cc
+    effect_low (fall_to_child site hang) fine plain pc s t r u lowpc like lifts h ts = cc
 
     -- under a low guard
     attempt_low : (k : Step) → ProperStep w i k → transfers k ≡ false → (hang : ℕ → Bool) (h : ℕ → Store → After) (pc : ℕ) (s t : Store) → OfDynamic w hang → Holds w s → Holds w t → IsLow pc → Agree w l s t → IsLow (guard w At k s) → (eh : ℕ → Bool) → Even w eh s → Even w eh t → ((q : ℕ) (r u : Store) → Holds w r → Holds w u → IsLow q → Agree w l r u → Even w eh r → Even w eh u → Twin w l (h q r) (h q u)) → Twin w l (attempt w At i.enter k hang h pc s) (attempt w At i.enter k hang h pc t)
@@ -378,18 +378,18 @@ module _ (w : World) (laws : Laws w.order) (l : ℕ) where
 
     -- a step alone whose guard is high touches nothing that it does not raise
     alone_quiet : (k : Step) → ProperStep w i k → transfers k ≡ false → (s : Store) → Even w (step_concerns w i.state i.kids k) s → High w.order l (guard w At k s) → Quiet w l (step_concerns w i.state i.kids k) (raise w.order (raised_alone w At k) (guard w At k s) s)
-    alone_quiet (Set site x e) fine plain s even high z g h = (
+    alone_quiet (assign site x e) fine plain s even high z g h = (
       λ d. (let dx : is_dynamic w x ≡ true = rw (eqb-true (owner z) x h) at d in let high' = rw dx at high in let low = laws.least_of_all l in cc),
-      λ d. inl (even_raise w laws l (step_concerns w i.state i.kids (Set site x e)) (λ y. false) s _ (λ y h. cc) even z g d h),
+      λ d. inl (even_raise w laws l (step_concerns w i.state i.kids (assign site x e)) (λ y. false) s _ (λ y h. cc) even z g d h),
     )
-    alone_quiet (Write site m j e) fine plain s even high z g h = (
+    alone_quiet (write site m j e) fine plain s even high z g h = (
       λ d. (let dx : is_dynamic w m ≡ true = rw (eqb-true (owner z) m h) at d in let high' = rw dx at high in let low = laws.least_of_all l in cc),
-      λ d. inl (even_raise w laws l (step_concerns w i.state i.kids (Write site m j e)) (λ y. false) s _ (λ y h. cc) even z g d h),
+      λ d. inl (even_raise w laws l (step_concerns w i.state i.kids (write site m j e)) (λ y. false) s _ (λ y h. cc) even z g d h),
     )
-    alone_quiet (Retag site x n) fine plain s even high z g h = cc
-    alone_quiet (RetagCell site m j n) fine plain s even high z g h = cc
-    alone_quiet (Goto site target) fine plain s even high z g h = cc
-    alone_quiet (Fall site hang) fine plain s even high z g h = cc
+    alone_quiet (retag site x n) fine plain s even high z g h = cc
+    alone_quiet (retag_cell site m j n) fine plain s even high z g h = cc
+    alone_quiet (go_to site target) fine plain s even high z g h = cc
+    alone_quiet (fall_to_child site hang) fine plain s even high z g h = cc
 
     -- the parts of what a command touches
     pub even_left : (a b : ℕ → Bool) (s : Store) → Even w (λ x. a x || b x) s → Even w a s
@@ -398,36 +398,36 @@ module _ (w : World) (laws : Laws w.order) (l : ℕ) where
     pub even_right : (a b : ℕ → Bool) (s : Store) → Even w (λ x. a x || b x) s → Even w b s
     even_right a b s e z g d h = e z g d (or_right (a (owner z)) (b (owner z)) h)
 
-    pub try_side : (k : Step) (hang : List Bool) (h : Block) → Proper w i (Try k hang h) → (pc : ℕ) (s : Store) → Holds w s → Even w (concerns w i.state i.kids (Try k hang h)) s → High w.order l (guard w At k s) → Confined w l (raise w.order (touches w At (Try k hang h)) (guard w At k s) s) (does w At i.enter (Try k hang h) pc s)
+    pub try_side : (k : Step) (hang : List Bool) (h : Block) → Proper w i (try k hang h) → (pc : ℕ) (s : Store) → Holds w s → Even w (concerns w i.state i.kids (try k hang h)) s → High w.order l (guard w At k s) → Confined w l (raise w.order (touches w At (try k hang h)) (guard w At k s) s) (does w At i.enter (try k hang h) pc s)
     unfolding does
     try_side k hang h fine pc s hs even g =
-        let hung = touches w At (Try k hang h) in
-        let dyn : OfDynamic w hung = touches_dynamic w laws l i entering holding (Try k hang h) in
+        let hung = touches w At (try k hang h) in
+        let dyn : OfDynamic w hung = touches_dynamic w laws l i entering holding (try k hang h) in
         let r = raise w.order hung (guard w At k s) s in
-        let q : Quiet w l (concerns w i.state i.kids (Try k hang h)) r = quiet_raise w laws l (concerns w i.state i.kids (Try k hang h)) hung _ s (hanging w i.state i.kids (Try k hang h)) dyn g even in
+        let q : Quiet w l (concerns w i.state i.kids (try k hang h)) r = quiet_raise w laws l (concerns w i.state i.kids (try k hang h)) hung _ s (hanging w i.state i.kids (try k hang h)) dyn g even in
         attempt_confined w laws l i entering holding k fine.0 hung (does_block w At i.enter h) pc s dyn hs (quiet_left w laws l i entering holding (step_concerns w i.state i.kids k) (block_concerns w i.state i.kids h) r q) (inr g)
         (λ z up. block_confined w laws l i entering holding h fine.1 z r (holds_raise w s hung _ dyn hs) up (quiet_right w laws l i entering holding (step_concerns w i.state i.kids k) (block_concerns w i.state i.kids h) r q))
 
-    pub if_side : (hang : List Bool) (e : Term ℕ) (a b : Block) → Proper w i (If hang e a b) → (pc : ℕ) (s : Store) → Holds w s → Even w (concerns w i.state i.kids (If hang e a b)) s → High w.order l (tag w e s) → Confined w l (raise w.order (touches w At (If hang e a b)) (tag w e s) s) (does w At i.enter (If hang e a b) pc s)
+    pub if_side : (hang : List Bool) (e : Term ℕ) (a b : Block) → Proper w i (if_else hang e a b) → (pc : ℕ) (s : Store) → Holds w s → Even w (concerns w i.state i.kids (if_else hang e a b)) s → High w.order l (tag w e s) → Confined w l (raise w.order (touches w At (if_else hang e a b)) (tag w e s) s) (does w At i.enter (if_else hang e a b) pc s)
     unfolding does
     if_side hang e a b fine pc s hs even g =
-        let hung = touches w At (If hang e a b) in
-        let dyn : OfDynamic w hung = touches_dynamic w laws l i entering holding (If hang e a b) in
+        let hung = touches w At (if_else hang e a b) in
+        let dyn : OfDynamic w hung = touches_dynamic w laws l i entering holding (if_else hang e a b) in
         let r = raise w.order hung (tag w e s) s in
-        let q : Quiet w l (concerns w i.state i.kids (If hang e a b)) r = quiet_raise w laws l (concerns w i.state i.kids (If hang e a b)) hung _ s (hanging w i.state i.kids (If hang e a b)) dyn g even in
+        let q : Quiet w l (concerns w i.state i.kids (if_else hang e a b)) r = quiet_raise w laws l (concerns w i.state i.kids (if_else hang e a b)) hung _ s (hanging w i.state i.kids (if_else hang e a b)) dyn g even in
         select_confined w laws l i entering holding e hung (branch (does_block w At i.enter a) (does_block w At i.enter b)) pc s (high_right w.order laws l pc _ g)
         (λ v z up. branch_all (λ y. Confined w l r y) (does_block w At i.enter a) (does_block w At i.enter b) v z r
         (block_confined w laws l i entering holding a fine.1 z r (holds_raise w s hung _ dyn hs) up (quiet_left w laws l i entering holding (block_concerns w i.state i.kids a) (block_concerns w i.state i.kids b) r q))
         (block_confined w laws l i entering holding b fine.2 z r (holds_raise w s hung _ dyn hs) up (quiet_right w laws l i entering holding (block_concerns w i.state i.kids a) (block_concerns w i.state i.kids b) r q)))
 
-    pub try_then_side : (k : Step) (hang : List Bool) (a b : Block) → Proper w i (TryThen k hang a b) → (pc : ℕ) (s : Store) → Holds w s → Even w (concerns w i.state i.kids (TryThen k hang a b)) s → High w.order l (guard w At k s)
-        → Confined w l (raise w.order (touches w At (TryThen k hang a b)) (guard w At k s) s) (does w At i.enter (TryThen k hang a b) pc s)
+    pub try_then_side : (k : Step) (hang : List Bool) (a b : Block) → Proper w i (try_then k hang a b) → (pc : ℕ) (s : Store) → Holds w s → Even w (concerns w i.state i.kids (try_then k hang a b)) s → High w.order l (guard w At k s)
+        → Confined w l (raise w.order (touches w At (try_then k hang a b)) (guard w At k s) s) (does w At i.enter (try_then k hang a b) pc s)
     unfolding does
     try_then_side k hang a b fine pc s hs even g =
-        let hung = touches w At (TryThen k hang a b) in
-        let dyn : OfDynamic w hung = touches_dynamic w laws l i entering holding (TryThen k hang a b) in
+        let hung = touches w At (try_then k hang a b) in
+        let dyn : OfDynamic w hung = touches_dynamic w laws l i entering holding (try_then k hang a b) in
         let r = raise w.order hung (guard w At k s) s in
-        let q : Quiet w l (concerns w i.state i.kids (TryThen k hang a b)) r = quiet_raise w laws l (concerns w i.state i.kids (TryThen k hang a b)) hung _ s (hanging w i.state i.kids (TryThen k hang a b)) dyn g even in
+        let q : Quiet w l (concerns w i.state i.kids (try_then k hang a b)) r = quiet_raise w laws l (concerns w i.state i.kids (try_then k hang a b)) hung _ s (hanging w i.state i.kids (try_then k hang a b)) dyn g even in
         let mine = step_concerns w i.state i.kids k in
         let one = block_concerns w i.state i.kids a in
         let other = block_concerns w i.state i.kids b in
@@ -436,28 +436,28 @@ module _ (w : World) (laws : Laws w.order) (l : ℕ) where
         (λ z u up hold same. block_confined w laws l i entering holding a fine.1 z u hold up (λ y c d. hush_next w laws l r u same y c (quiet_left w laws l i entering holding one other r behind y c d)))
         (λ z up. block_confined w laws l i entering holding b fine.2 z r (holds_raise w s hung _ dyn hs) up (quiet_right w laws l i entering holding one other r behind))
 
-    pub case_side : (hang : List Bool) (e : Term ℕ) (arms : Arms) → Proper w i (Case hang e arms) → (pc : ℕ) (s : Store) → Holds w s → Even w (concerns w i.state i.kids (Case hang e arms)) s → High w.order l (tag w e s)
-        → Confined w l (raise w.order (touches w At (Case hang e arms)) (tag w e s) s) (does w At i.enter (Case hang e arms) pc s)
+    pub case_side : (hang : List Bool) (e : Term ℕ) (arms : Arms) → Proper w i (case_of hang e arms) → (pc : ℕ) (s : Store) → Holds w s → Even w (concerns w i.state i.kids (case_of hang e arms)) s → High w.order l (tag w e s)
+        → Confined w l (raise w.order (touches w At (case_of hang e arms)) (tag w e s) s) (does w At i.enter (case_of hang e arms) pc s)
     unfolding does
     case_side hang e arms fine pc s hs even g =
-        let hung = touches w At (Case hang e arms) in
-        let dyn : OfDynamic w hung = touches_dynamic w laws l i entering holding (Case hang e arms) in
+        let hung = touches w At (case_of hang e arms) in
+        let dyn : OfDynamic w hung = touches_dynamic w laws l i entering holding (case_of hang e arms) in
         let r = raise w.order hung (tag w e s) s in
-        let q : Quiet w l (concerns w i.state i.kids (Case hang e arms)) r = quiet_raise w laws l (concerns w i.state i.kids (Case hang e arms)) hung _ s (hanging w i.state i.kids (Case hang e arms)) dyn g even in
+        let q : Quiet w l (concerns w i.state i.kids (case_of hang e arms)) r = quiet_raise w laws l (concerns w i.state i.kids (case_of hang e arms)) hung _ s (hanging w i.state i.kids (case_of hang e arms)) dyn g even in
         select_confined w laws l i entering holding e hung (does_arms w At i.enter arms) pc s (high_right w.order laws l pc _ g)
         (λ v z up. arms_confined w laws l i entering holding arms fine.1 v z r (holds_raise w s hung _ dyn hs) up q)
 
     -- what the accepted part writes the step does not
     pub apart_step : (k : Step) (a : Block) → ProperBlock w i a → transfers k ≡ false → ((m : ℕ) → (step_reaches i.kids k m && block_reaches i.kids a m) ≡ false)
         → (m : ℕ) → is_memory w m ≡ true → is_dynamic w m ≡ false → block_concerns w i.state i.kids a m ≡ true → step_writes k m ≡ false
-    apart_step k a fine plain once m mem d h = (apart_from w i (Do k) a (fine_block w i a fine) plain once m mem d h).1
+    apart_step k a fine plain once m mem d h = (apart_from w i (lone k) a (fine_block w i a fine) plain once m mem d h).1
 
     module _ (below : Type 0) where
       mutual
         unfolding does does_arms does_block
 
         pub does_twin : (c : Command) → Proper w i c → Once i.kids below c → Open c → (pc : ℕ) (s t : Store) → Holds w s → Holds w t → IsLow pc → Agree w l s t → Even w (concerns w i.state i.kids c) s → Even w (concerns w i.state i.kids c) t → Twin w l (does w At i.enter c pc s) (does w At i.enter c pc t)
-        does_twin (Do k) fine once plain pc s t hs ht low like es et =
+        does_twin (lone k) fine once plain pc s t hs ht low like es et =
             let hang = raised_alone w At k in
             let dyn : OfDynamic w hang = alone_dynamic w At i.siblings (landing w laws l i entering holding) i.enter holding k in
             elim (cases_Bool (w.order.le (guard w At k s) l)) [
@@ -468,9 +468,9 @@ module _ (w : World) (laws : Laws w.order) (l : ℕ) where
                   (attempt_confined w laws l i entering holding k fine hang (λ q s. stay s) pc s dyn hs (alone_quiet k fine plain s es g) (inr g) (λ q up. confined_self w laws l _))
                   (attempt_confined w laws l i entering holding k fine hang (λ q s. stay s) pc t dyn ht (alone_quiet k fine plain t et g') (inr g') (λ q up. confined_self w laws l _)))
             ]
-        does_twin (Try k hang h) fine once plain pc s t hs ht low like es et =
-            let hung = touches w At (Try k hang h) in
-            let dyn : OfDynamic w hung = touches_dynamic w laws l i entering holding (Try k hang h) in
+        does_twin (try k hang h) fine once plain pc s t hs ht low like es et =
+            let hung = touches w At (try k hang h) in
+            let dyn : OfDynamic w hung = touches_dynamic w laws l i entering holding (try k hang h) in
             elim (cases_Bool (w.order.le (guard w At k s) l)) [
               | inl g ↦ attempt_low k fine.0 plain.0 hung (does_block w At i.enter h) pc s t dyn hs ht low like g (block_concerns w i.state i.kids h)
                   (even_right (step_concerns w i.state i.kids k) (block_concerns w i.state i.kids h) s es) (even_right (step_concerns w i.state i.kids k) (block_concerns w i.state i.kids h) t et)
@@ -481,11 +481,11 @@ module _ (w : World) (laws : Laws w.order) (l : ℕ) where
                   (try_side k hang h fine pc s hs es g)
                   (try_side k hang h fine pc t ht et g'))
             ]
-        does_twin (If hang e a b) fine once plain pc s t hs ht low like es et =
-            let hung = touches w At (If hang e a b) in
-            let dyn : OfDynamic w hung = touches_dynamic w laws l i entering holding (If hang e a b) in
+        does_twin (if_else hang e a b) fine once plain pc s t hs ht low like es et =
+            let hung = touches w At (if_else hang e a b) in
+            let dyn : OfDynamic w hung = touches_dynamic w laws l i entering holding (if_else hang e a b) in
             elim (cases_Bool (w.order.le (tag w e s) l)) [
-              | inl g ↦ select_low e fine.0 hung (branch (does_block w At i.enter a) (does_block w At i.enter b)) pc s t dyn hs ht low like g (concerns w i.state i.kids (If hang e a b)) es et
+              | inl g ↦ select_low e fine.0 hung (branch (does_block w At i.enter a) (does_block w At i.enter b)) pc s t dyn hs ht low like g (concerns w i.state i.kids (if_else hang e a b)) es et
                   (λ v q r u hr hu lq k er eu. branch_both (λ y z. Twin w l y z) (does_block w At i.enter a) (does_block w At i.enter b) v q r u
                   (block_twin a fine.1 once.0 plain.0 q r u hr hu lq k (even_left (block_concerns w i.state i.kids a) (block_concerns w i.state i.kids b) r er) (even_left (block_concerns w i.state i.kids a) (block_concerns w i.state i.kids b) u eu))
                   (block_twin b fine.2 once.1 plain.1 q r u hr hu lq k (even_right (block_concerns w i.state i.kids a) (block_concerns w i.state i.kids b) r er) (even_right (block_concerns w i.state i.kids a) (block_concerns w i.state i.kids b) u eu)))
@@ -493,9 +493,9 @@ module _ (w : World) (laws : Laws w.order) (l : ℕ) where
                   (if_side hang e a b fine pc s hs es g)
                   (if_side hang e a b fine pc t ht et (sym (tag_same e fine.0 s t like) ∙ g))
             ]
-        does_twin (TryThen k hang a b) fine once plain pc s t hs ht low like es et =
-            let hung = touches w At (TryThen k hang a b) in
-            let dyn : OfDynamic w hung = touches_dynamic w laws l i entering holding (TryThen k hang a b) in
+        does_twin (try_then k hang a b) fine once plain pc s t hs ht low like es et =
+            let hung = touches w At (try_then k hang a b) in
+            let dyn : OfDynamic w hung = touches_dynamic w laws l i entering holding (try_then k hang a b) in
             let mine = step_concerns w i.state i.kids k in
             let one = block_concerns w i.state i.kids a in
             let other = block_concerns w i.state i.kids b in
@@ -513,9 +513,9 @@ module _ (w : World) (laws : Laws w.order) (l : ℕ) where
                   (try_then_side k hang a b fine pc s hs es g)
                   (try_then_side k hang a b fine pc t ht et g'))
             ]
-        does_twin (Case hang e arms) fine once plain pc s t hs ht low like es et =
-            let hung = touches w At (Case hang e arms) in
-            let dyn : OfDynamic w hung = touches_dynamic w laws l i entering holding (Case hang e arms) in
+        does_twin (case_of hang e arms) fine once plain pc s t hs ht low like es et =
+            let hung = touches w At (case_of hang e arms) in
+            let dyn : OfDynamic w hung = touches_dynamic w laws l i entering holding (case_of hang e arms) in
             elim (cases_Bool (w.order.le (tag w e s) l)) [
               | inl g ↦ select_low e fine.0 hung (does_arms w At i.enter arms) pc s t dyn hs ht low like g (arms_concern w i.state i.kids arms) es et
                   (λ v q r u hr hu lq k er eu. arms_twin arms fine.1 once plain v q r u hr hu lq k er eu)
@@ -526,8 +526,8 @@ module _ (w : World) (laws : Laws w.order) (l : ℕ) where
 
         arms_twin : (arms : Arms) → ProperArms w i arms → OnceArms i.kids below arms → OpenArms arms → (v pc : ℕ) (s t : Store) → Holds w s → Holds w t → IsLow pc → Agree w l s t → Even w (arms_concern w i.state i.kids arms) s → Even w (arms_concern w i.state i.kids arms) t
             → Twin w l (does_arms w At i.enter arms v pc s) (does_arms w At i.enter arms v pc t)
-        arms_twin (Last b) fine once plain v pc s t hs ht low like es et = block_twin b fine once plain pc s t hs ht low like es et
-        arms_twin (Arm cs b arms) fine once plain v pc s t hs ht low like es et =
+        arms_twin (last_arm b) fine once plain v pc s t hs ht low like es et = block_twin b fine once plain pc s t hs ht low like es et
+        arms_twin (and_arm cs b arms) fine once plain v pc s t hs ht low like es et =
             let here = block_concerns w i.state i.kids b in
             let rest = arms_concern w i.state i.kids arms in
             choose_both (λ y z. Twin w l y z) cs (does_block w At i.enter b) (does_arms w At i.enter arms) v pc s t
@@ -535,8 +535,8 @@ module _ (w : World) (laws : Laws w.order) (l : ℕ) where
             (arms_twin arms fine.1 once.1 plain.1 v pc s t hs ht low like (even_right here rest s es) (even_right here rest t et))
 
         pub block_twin : (b : Block) → ProperBlock w i b → OnceBlock i.kids below b → OpenBlock b → (pc : ℕ) (s t : Store) → Holds w s → Holds w t → IsLow pc → Agree w l s t → Even w (block_concerns w i.state i.kids b) s → Even w (block_concerns w i.state i.kids b) t → Twin w l (does_block w At i.enter b pc s) (does_block w At i.enter b pc t)
-        block_twin End fine once plain pc s t hs ht low like es et = record { same = like; refused = refl }
-        block_twin (Then c cs) fine once plain pc s t hs ht low like es et =
+        block_twin end_block fine once plain pc s t hs ht low like es et = record { same = like; refused = refl }
+        block_twin (command_then c cs) fine once plain pc s t hs ht low like es et =
             let apart = apart_from w i c cs (fine_block w i cs fine.1) plain.0 once.2 in
             let f = does_twin c fine.0 once.0 plain.0 pc s t hs ht low like (even_left (concerns w i.state i.kids c) (block_concerns w i.state i.kids cs) s es) (even_left (concerns w i.state i.kids c) (block_concerns w i.state i.kids cs) t et) in
             let g = block_twin cs fine.1 once.1 plain.1 pc (does w At i.enter c pc s).store (does w At i.enter c pc t).store (keeps w laws l i entering holding c fine.0 pc s hs) (keeps w laws l i entering holding c fine.0 pc t ht) low f.same

@@ -6,7 +6,7 @@ use Rattle.sap_lemmas.proofs.Numbers.{test_of_same}
 use Rattle.sap_meaning.proofs.ProgramLemmas.{register_no_memory}
 use Rattle.sap_meaning.proofs.FineLemmas.{inside_among}
 use Rattle.sap_lattice.specs.Order.{Laws}
-use Rattle.sap_meaning.specs.Program.{World, Kind, input, register, memory, state, entity, kind_is_input, kind_is_register, kind_is_memory, is_dynamic, is_register, is_memory, is_state, root, below, Step, Set, Write, Retag, RetagCell, Goto, Fall, Command, Do, Try, If, TryThen, Case, Arms, Last, Arm, Block, End, Then, State, Node, Group, None, More}
+use Rattle.sap_meaning.specs.Program.{World, Kind, input, register, memory, state, entity, kind_is_input, kind_is_register, kind_is_memory, is_dynamic, is_register, is_memory, is_state, root, below, Step, assign, write, retag, retag_cell, go_to, fall_to_child, Command, lone, try, if_else, try_then, case_of, Arms, last_arm, and_arm, Block, end_block, command_then, State, state_node, Group, no_node, and_node}
 use Rattle.sap_meaning.specs.Store.{own, start, next, start_whole, next_whole, Store, home, level, child}
 use Rattle.sap_meaning.specs.Touches.{among, step_hangs, hangs, block_hangs, touches, group_assigns, arms_hang}
 use Rattle.sap_meaning.specs.Does.{does, does_child}
@@ -27,46 +27,46 @@ use Rattle.sap_secure.proofs.Relations.{kid_around, states_agree}
 module _ (w : World) (i : Site w) where
   mutual
     proper_in : (c d : Command) → StandsIn c d → Proper w i d → Ended d → Proper w i c × Ended c
-    proper_in c (Do k) h p e = subst (λ x. Proper w i x × Ended x) (sym h) (p, e)
-    proper_in c (Try k hang b) h p e = elim h [
+    proper_in c (lone k) h p e = subst (λ x. Proper w i x × Ended x) (sym h) (p, e)
+    proper_in c (try k hang b) h p e = elim h [
       | inl q ↦ subst (λ x. Proper w i x × Ended x) (sym q) (p, e)
       | inr q ↦ proper_in_block c b q p.1 (elim e [ inl f ↦ inl f.1 | inr f ↦ inr f.1 ])
     ]
-    proper_in c (If hang t a b) h p e = elim h [
+    proper_in c (if_else hang t a b) h p e = elim h [
       | inl q ↦ subst (λ x. Proper w i x × Ended x) (sym q) (p, e)
       | inr q ↦ elim q [
         | inl r ↦ proper_in_block c a r p.1 (elim e [ inl f ↦ inl f.0 | inr f ↦ inr f.0 ])
         | inr r ↦ proper_in_block c b r p.2 (elim e [ inl f ↦ inl f.1 | inr f ↦ inr f.1 ])
       ]
     ]
-    proper_in c (TryThen k hang a b) h p e = elim h [
+    proper_in c (try_then k hang a b) h p e = elim h [
       | inl q ↦ subst (λ x. Proper w i x × Ended x) (sym q) (p, e)
       | inr q ↦ elim q [
         | inl r ↦ proper_in_block c a r p.1 (elim e [ inl f ↦ inl f.1 | inr f ↦ inr f.1 ])
         | inr r ↦ proper_in_block c b r p.2 (elim e [ inl f ↦ inl f.2 | inr f ↦ inr f.2 ])
       ]
     ]
-    proper_in c (Case hang t arms) h p e = elim h [
+    proper_in c (case_of hang t arms) h p e = elim h [
       | inl q ↦ subst (λ x. Proper w i x × Ended x) (sym q) (p, e)
       | inr q ↦ proper_in_arms c arms q p.1 e
     ]
 
     proper_in_arms : (c : Command) (arms : Arms) → StandsInArms c arms → ProperArms w i arms → ClosingArms arms ⊎ OpenArms arms → Proper w i c × Ended c
-    proper_in_arms c (Last b) h p e = proper_in_block c b h p e
-    proper_in_arms c (Arm constants b arms) h p e = elim h [
+    proper_in_arms c (last_arm b) h p e = proper_in_block c b h p e
+    proper_in_arms c (and_arm constants b arms) h p e = elim h [
       | inl q ↦ proper_in_block c b q p.0 (elim e [ inl f ↦ inl f.0 | inr f ↦ inr f.0 ])
       | inr q ↦ proper_in_arms c arms q p.1 (elim e [ inl f ↦ inl f.1 | inr f ↦ inr f.1 ])
     ]
 
     proper_in_block : (c : Command) (b : Block) → StandsInBlock c b → ProperBlock w i b → Shut b → Proper w i c × Ended c
-    proper_in_block c End h p e = absurd h
-    proper_in_block c (Then d End) h p e = elim h [
+    proper_in_block c end_block h p e = absurd h
+    proper_in_block c (command_then d end_block) h p e = elim h [
       | inl q ↦ proper_in c d q p.0 (elim e [ inl f ↦ inl f | inr f ↦ inr f.0 ])
       | inr q ↦ absurd q
     ]
-    proper_in_block c (Then d (Then j js)) h p e = elim h [
+    proper_in_block c (command_then d (command_then j js)) h p e = elim h [
       | inl q ↦ proper_in c d q p.0 (elim e [ inl f ↦ inr f.0 | inr f ↦ inr f.0 ])
-      | inr q ↦ proper_in_block c (Then j js) q p.1 (elim e [ inl f ↦ inl f.1 | inr f ↦ inr f.1 ])
+      | inr q ↦ proper_in_block c (command_then j js) q p.1 (elim e [ inl f ↦ inl f.1 | inr f ↦ inr f.1 ])
     ]
 
 -- by which steps a state and its children hang on a command
@@ -78,62 +78,62 @@ module _ (w : World) (i : Site w) where
   own_out = false_from_ne_true _ (λ h. let f = neither_left (nat_eq i.state i.state) _ ((kids_around w i).apart i.state (inside_among i.kids i.state h)) in let k = test_of_same i.state in cc)
 
   step_own : (k : Step) → FineStep w i.siblings i.kids k → step_hangs i.state i.kids k i.state ≡ true → is_goto k ≡ true
-  step_own (Set site y t) fine h = let no = register_apart w i.state y (node w i).kind fine.0 in cc
-  step_own (Write site m j t) fine h = let no = memory_apart w i.state m (node w i).kind fine.0 in cc
-  step_own (Retag site y n) fine h = cc
-  step_own (RetagCell site m j n) fine h = cc
-  step_own (Goto site target) fine h = refl
-  step_own (Fall site hang) fine h = let no = or_from _ _ own_out (out i.state (node w i).kind) in cc
+  step_own (assign site y t) fine h = let no = register_apart w i.state y (node w i).kind fine.0 in cc
+  step_own (write site m j t) fine h = let no = memory_apart w i.state m (node w i).kind fine.0 in cc
+  step_own (retag site y n) fine h = cc
+  step_own (retag_cell site m j n) fine h = cc
+  step_own (go_to site target) fine h = refl
+  step_own (fall_to_child site hang) fine h = let no = or_from _ _ own_out (out i.state (node w i).kind) in cc
 
   either : (a b c d : Bool) → (a ≡ true → c ≡ true) → (b ≡ true → d ≡ true) → (a || b) ≡ true → (c || d) ≡ true
   either a b c d f g h = elim (or_cases a b h) [ inl x ↦ or_left c d (f x) | inr x ↦ or_right c d (g x) ]
 
   mutual
     own_goto : (c : Command) → FineCommand w i.siblings i.kids c → hangs i.state i.kids c i.state ≡ true → has_goto c ≡ true
-    own_goto (Do k) fine h = step_own k fine h
-    own_goto (Try k hang b) fine h = either (step_hangs i.state i.kids k i.state) (block_hangs i.state i.kids b i.state) (is_goto k) (block_has_goto b) (step_own k fine.0) (block_own b fine.1) h
-    own_goto (If hang t a b) fine h = either (block_hangs i.state i.kids a i.state) (block_hangs i.state i.kids b i.state) (block_has_goto a) (block_has_goto b) (block_own a fine.1) (block_own b fine.2) h
-    own_goto (TryThen k hang a b) fine h =
+    own_goto (lone k) fine h = step_own k fine h
+    own_goto (try k hang b) fine h = either (step_hangs i.state i.kids k i.state) (block_hangs i.state i.kids b i.state) (is_goto k) (block_has_goto b) (step_own k fine.0) (block_own b fine.1) h
+    own_goto (if_else hang t a b) fine h = either (block_hangs i.state i.kids a i.state) (block_hangs i.state i.kids b i.state) (block_has_goto a) (block_has_goto b) (block_own a fine.1) (block_own b fine.2) h
+    own_goto (try_then k hang a b) fine h =
         either (step_hangs i.state i.kids k i.state) (block_hangs i.state i.kids a i.state || block_hangs i.state i.kids b i.state) (is_goto k) (block_has_goto a || block_has_goto b) (step_own k fine.0)
         (either (block_hangs i.state i.kids a i.state) (block_hangs i.state i.kids b i.state) (block_has_goto a) (block_has_goto b) (block_own a fine.1) (block_own b fine.2)) h
-    own_goto (Case hang t arms) fine h = arms_own arms fine.1 h
+    own_goto (case_of hang t arms) fine h = arms_own arms fine.1 h
 
     arms_own : (arms : Arms) → FineArms w i.siblings i.kids arms → arms_hang i.state i.kids arms i.state ≡ true → arms_have_goto arms ≡ true
-    arms_own (Last b) fine h = block_own b fine h
-    arms_own (Arm constants b arms) fine h =
+    arms_own (last_arm b) fine h = block_own b fine h
+    arms_own (and_arm constants b arms) fine h =
         either (block_hangs i.state i.kids b i.state) (arms_hang i.state i.kids arms i.state) (block_has_goto b) (arms_have_goto arms) (block_own b fine.0) (arms_own arms fine.1) h
 
     block_own : (b : Block) → FineBlock w i.siblings i.kids b → block_hangs i.state i.kids b i.state ≡ true → block_has_goto b ≡ true
-    block_own End fine h = h
-    block_own (Then c cs) fine h = either (hangs i.state i.kids c i.state) (block_hangs i.state i.kids cs i.state) (has_goto c) (block_has_goto cs) (own_goto c fine.0) (block_own cs fine.1) h
+    block_own end_block fine h = h
+    block_own (command_then c cs) fine h = either (hangs i.state i.kids c i.state) (block_hangs i.state i.kids cs i.state) (has_goto c) (block_has_goto cs) (own_goto c fine.0) (block_own cs fine.1) h
 
   module _ (x : ℕ) (s : is_state w x ≡ true) (other : nat_eq x i.state ≡ false) where
     step_kid : (k : Step) → FineStep w i.siblings i.kids k → step_hangs i.state i.kids k x ≡ true → is_fall k ≡ true
-    step_kid (Set site y t) fine h = let no = register_apart w x y s fine.0 in cc
-    step_kid (Write site m j t) fine h = let no = memory_apart w x m s fine.0 in cc
-    step_kid (Retag site y n) fine h = cc
-    step_kid (RetagCell site m j n) fine h = cc
-    step_kid (Goto site target) fine h = cc
-    step_kid (Fall site hang) fine h = refl
+    step_kid (assign site y t) fine h = let no = register_apart w x y s fine.0 in cc
+    step_kid (write site m j t) fine h = let no = memory_apart w x m s fine.0 in cc
+    step_kid (retag site y n) fine h = cc
+    step_kid (retag_cell site m j n) fine h = cc
+    step_kid (go_to site target) fine h = cc
+    step_kid (fall_to_child site hang) fine h = refl
 
     mutual
       kid_fall : (c : Command) → FineCommand w i.siblings i.kids c → hangs i.state i.kids c x ≡ true → has_fall c ≡ true
-      kid_fall (Do k) fine h = step_kid k fine h
-      kid_fall (Try k hang b) fine h = either (step_hangs i.state i.kids k x) (block_hangs i.state i.kids b x) (is_fall k) (block_has_fall b) (step_kid k fine.0) (block_kid b fine.1) h
-      kid_fall (If hang t a b) fine h = either (block_hangs i.state i.kids a x) (block_hangs i.state i.kids b x) (block_has_fall a) (block_has_fall b) (block_kid a fine.1) (block_kid b fine.2) h
-      kid_fall (TryThen k hang a b) fine h =
+      kid_fall (lone k) fine h = step_kid k fine h
+      kid_fall (try k hang b) fine h = either (step_hangs i.state i.kids k x) (block_hangs i.state i.kids b x) (is_fall k) (block_has_fall b) (step_kid k fine.0) (block_kid b fine.1) h
+      kid_fall (if_else hang t a b) fine h = either (block_hangs i.state i.kids a x) (block_hangs i.state i.kids b x) (block_has_fall a) (block_has_fall b) (block_kid a fine.1) (block_kid b fine.2) h
+      kid_fall (try_then k hang a b) fine h =
           either (step_hangs i.state i.kids k x) (block_hangs i.state i.kids a x || block_hangs i.state i.kids b x) (is_fall k) (block_has_fall a || block_has_fall b) (step_kid k fine.0)
           (either (block_hangs i.state i.kids a x) (block_hangs i.state i.kids b x) (block_has_fall a) (block_has_fall b) (block_kid a fine.1) (block_kid b fine.2)) h
-      kid_fall (Case hang t arms) fine h = arms_kid arms fine.1 h
+      kid_fall (case_of hang t arms) fine h = arms_kid arms fine.1 h
 
       arms_kid : (arms : Arms) → FineArms w i.siblings i.kids arms → arms_hang i.state i.kids arms x ≡ true → arms_have_fall arms ≡ true
-      arms_kid (Last b) fine h = block_kid b fine h
-      arms_kid (Arm constants b arms) fine h =
+      arms_kid (last_arm b) fine h = block_kid b fine h
+      arms_kid (and_arm constants b arms) fine h =
           either (block_hangs i.state i.kids b x) (arms_hang i.state i.kids arms x) (block_has_fall b) (arms_have_fall arms) (block_kid b fine.0) (arms_kid arms fine.1) h
 
       block_kid : (b : Block) → FineBlock w i.siblings i.kids b → block_hangs i.state i.kids b x ≡ true → block_has_fall b ≡ true
-      block_kid End fine h = h
-      block_kid (Then c cs) fine h = either (hangs i.state i.kids c x) (block_hangs i.state i.kids cs x) (has_fall c) (block_has_fall cs) (kid_fall c fine.0) (block_kid cs fine.1) h
+      block_kid end_block fine h = h
+      block_kid (command_then c cs) fine h = either (hangs i.state i.kids c x) (block_hangs i.state i.kids cs x) (has_fall c) (block_has_fall cs) (kid_fall c fine.0) (block_kid cs fine.1) h
 
 -- an input is no register and no memory
 input_alone : (k : Kind) → kind_is_register k ≡ false → (kind_is_input k || kind_is_register k) ≡ true → (kind_is_register k ≡ false) × (kind_is_memory k ≡ false)
@@ -145,48 +145,48 @@ input_alone (state p n) r h = cc
 -- a command of a block retags what the block retags
 mutual
   retags_in : (c d : Command) → StandsIn c d → (x : ℕ) → retags d x ≡ false → retags c x ≡ false
-  retags_in c (Do k) h x n = subst (λ y. retags y x ≡ false) (sym h) n
-  retags_in c (Try k hang b) h x n = elim h [
+  retags_in c (lone k) h x n = subst (λ y. retags y x ≡ false) (sym h) n
+  retags_in c (try k hang b) h x n = elim h [
     | inl q ↦ subst (λ y. retags y x ≡ false) (sym q) n
     | inr q ↦ retags_in_block c b q x (neither_right (step_retags k x) _ n)
   ]
-  retags_in c (If hang t a b) h x n = elim h [
+  retags_in c (if_else hang t a b) h x n = elim h [
     | inl q ↦ subst (λ y. retags y x ≡ false) (sym q) n
     | inr q ↦ elim q [
       | inl r ↦ retags_in_block c a r x (neither_left _ _ n)
       | inr r ↦ retags_in_block c b r x (neither_right (block_retags a x) _ n)
     ]
   ]
-  retags_in c (TryThen k hang a b) h x n = elim h [
+  retags_in c (try_then k hang a b) h x n = elim h [
     | inl q ↦ subst (λ y. retags y x ≡ false) (sym q) n
     | inr q ↦ elim q [
       | inl r ↦ retags_in_block c a r x (neither_left _ _ (neither_right (step_retags k x) _ n))
       | inr r ↦ retags_in_block c b r x (neither_right (block_retags a x) _ (neither_right (step_retags k x) _ n))
     ]
   ]
-  retags_in c (Case hang t arms) h x n = elim h [
+  retags_in c (case_of hang t arms) h x n = elim h [
     | inl q ↦ subst (λ y. retags y x ≡ false) (sym q) n
     | inr q ↦ retags_in_arms c arms q x n
   ]
 
   retags_in_arms : (c : Command) (arms : Arms) → StandsInArms c arms → (x : ℕ) → arms_retag arms x ≡ false → retags c x ≡ false
-  retags_in_arms c (Last b) h x n = retags_in_block c b h x n
-  retags_in_arms c (Arm constants b arms) h x n = elim h [
+  retags_in_arms c (last_arm b) h x n = retags_in_block c b h x n
+  retags_in_arms c (and_arm constants b arms) h x n = elim h [
     | inl q ↦ retags_in_block c b q x (neither_left _ _ n)
     | inr q ↦ retags_in_arms c arms q x (neither_right (block_retags b x) _ n)
   ]
 
   retags_in_block : (c : Command) (b : Block) → StandsInBlock c b → (x : ℕ) → block_retags b x ≡ false → retags c x ≡ false
-  retags_in_block c End h x n = absurd h
-  retags_in_block c (Then d ds) h x n = elim h [
+  retags_in_block c end_block h x n = absurd h
+  retags_in_block c (command_then d ds) h x n = elim h [
     | inl q ↦ retags_in c d q x (neither_left _ _ n)
     | inr q ↦ retags_in_block c ds q x (neither_right (retags d x) _ n)
   ]
 
 nth_retags : (g : Group) (n : ℕ) (t : State) → Nth g n t → (x : ℕ) → group_retags g x ≡ false → state_retags t x ≡ false
-nth_retags None n t h x r = absurd h
-nth_retags (More a g) zero t h x r = subst (λ y. state_retags y x ≡ false) h (neither_left _ _ r)
-nth_retags (More a g) (suc n) t h x r = nth_retags g n t h x (neither_right (state_retags a x) _ r)
+nth_retags no_node n t h x r = absurd h
+nth_retags (and_node a g) zero t h x r = subst (λ y. state_retags y x ≡ false) h (neither_left _ _ r)
+nth_retags (and_node a g) (suc n) t h x r = nth_retags g n t h x (neither_right (state_retags a x) _ r)
 
 -- the groups down the way
 module _ (w : World) (laws : Laws w.order) (l : ℕ) where
@@ -200,18 +200,18 @@ module _ (w : World) (laws : Laws w.order) (l : ℕ) where
 
   last_inside : (p : ℕ) (g : Group) (s : Store) (way : List State) (t : State) → Active p g s way t → (x : ℕ) → inside (last_group g way) x ≡ true → inside g x ≡ true
   last_inside p g s [] t a x h = h
-  last_inside p g s (Node c b k ∷ way) t a x h = nth_below g (child p s) c b k a.0 x (last_inside c k s way t a.1 x h)
+  last_inside p g s (state_node c b k ∷ way) t a x h = nth_below g (child p s) c b k a.0 x (last_inside c k s way t a.1 x h)
 
   last_within : (p : ℕ) (g : Group) (s : Store) (way : List State) (t : State) → Active p g s way t → (last_parent p way ≡ p) ⊎ (inside g (last_parent p way) ≡ true)
   last_within p g s [] t a = inl refl
-  last_within p g s (Node c b k ∷ way) t a = elim (last_within c k s way t a.1) [
+  last_within p g s (state_node c b k ∷ way) t a = elim (last_within c k s way t a.1) [
     | inl e ↦ inr (subst (λ x. inside g x ≡ true) (sym e) (nth_inside g (child p s) c b k a.0))
     | inr i ↦ inr (nth_below g (child p s) c b k a.0 (last_parent c way) i)
   ]
 
   last_retags : (p : ℕ) (g : Group) (s : Store) (way : List State) (t : State) → Active p g s way t → (x : ℕ) → group_retags g x ≡ false → state_retags t x ≡ false
   last_retags p g s [] t a x r = nth_retags g (child p s) t a x r
-  last_retags p g s (Node c b k ∷ way) t a x r = last_retags c k s way t a.1 x (neither_right (block_retags b x) _ (nth_retags g (child p s) (Node c b k) a.0 x r))
+  last_retags p g s (state_node c b k ∷ way) t a x r = last_retags c k s way t a.1 x (neither_right (block_retags b x) _ (nth_retags g (child p s) (state_node c b k) a.0 x r))
 
   -- the levels of the states of a way, and the current children that it takes
   abbrev Kepts : Store → Store → ℕ → List State → Type 0
@@ -221,18 +221,18 @@ module _ (w : World) (laws : Laws w.order) (l : ℕ) where
   -- the path stays, if it ends on the way or stays below it
   way_path : (p : ℕ) (g : Group) (s u : Store) (way : List State) (t : State) → Active p g s way t → Kepts s u p way → SomeHigh w l s way ⊎ (path w l (last_parent p way) (last_group g way) u ≡ path w l (last_parent p way) (last_group g way) s) → path w l p g u ≡ path w l p g s
   way_path p g s u [] t a k e = elim e [ inl h ↦ absurd h | inr q ↦ q ]
-  way_path p g s u (Node c b j ∷ way) t a k e = elim (cases_Bool (w.order.le (level w (own c) s) l)) [
+  way_path p g s u (state_node c b j ∷ way) t a k e = elim (cases_Bool (w.order.le (level w (own c) s) l)) [
     | inl low ↦ (
         let rest : path w l c j u ≡ path w l c j s = way_path c j s u way t a.1 k.1 (elim e [ inl h ↦ elim h [ inl y ↦ cc | inr y ↦ inl y ] | inr q ↦ inr q ]) in
         path_here w l p (child p s) c b j g u a.0 k.0.seat ∙ rw (k.0.level, rest) refl ∙ sym (path_here w l p (child p s) c b j g s a.0 refl))
     | inr high ↦
-        path_high w laws l p (child p s) g (Node c b j) u a.0 k.0.seat (subst (λ v. High w.order l v) (sym k.0.level) high)
-        ∙ sym (path_high w laws l p (child p s) g (Node c b j) s a.0 refl high)
+        path_high w laws l p (child p s) g (state_node c b j) u a.0 k.0.seat (subst (λ v. High w.order l v) (sym k.0.level) high)
+        ∙ sym (path_high w laws l p (child p s) g (state_node c b j) s a.0 refl high)
   ]
 
   module _ (s : Store) (e : ℕ) (b : Block) (g : Group) (d : Command) (inn : StandsInBlock d b) (pc : ℕ) where
     -- a command in the body of the last state leaves a state above it as it was
-    above_kept : (p : ℕ) (q : Group) (around : Around w p q) (c : ℕ) (b' : Block) (k : Group) → Nth q (child p s) (Node c b' k) → (way : List State) → (act : Active c k s way (Node e b g)) → (u : Store) → Kept w (own c) p u (does w (record { state = e; parent = last_parent c way; children = g }) (does_child w g e) d pc u).store
+    above_kept : (p : ℕ) (q : Group) (around : Around w p q) (c : ℕ) (b' : Block) (k : Group) → Nth q (child p s) (state_node c b' k) → (way : List State) → (act : Active c k s way (state_node e b g)) → (u : Store) → Kept w (own c) p u (does w (record { state = e; parent = last_parent c way; children = g }) (does_child w g e) d pc u).store
     above_kept p q around c b' k nth way act u =
         under_kept w c p (node w i).kind e (last_parent c way) g (last_group k way) (does_child w g e) out own_out kids_out free away
         (λ m z v. child_under w c p (node w i).kind g e g 0 (own_fine w j).1 (λ x h. out x (nth_below (last_group k way) (child (last_parent c way) s) e b g self x h)) (λ x h. h) kid_away (neither_right (block_retags b c) _ untagged) m z v)
@@ -242,23 +242,23 @@ module _ (w : World) (laws : Laws w.order) (l : ℕ) where
         i = site_at w p (child p s) c b' k q around nth
 
         last : Around w (last_parent c way) (last_group k way)
-        last = around_last c k s way (Node e b g) (kids_around w i) act
+        last = around_last c k s way (state_node e b g) (kids_around w i) act
 
-        self : Nth (last_group k way) (child (last_parent c way) s) (Node e b g)
-        self = last_nth c k s way (Node e b g) act
+        self : Nth (last_group k way) (child (last_parent c way) s) (state_node e b g)
+        self = last_nth c k s way (state_node e b g) act
 
         j : Site w
         j = site_at w (last_parent c way) (child (last_parent c way) s) e b g (last_group k way) last self
 
         away : nat_eq p (last_parent c way) ≡ false
-        away = elim (last_within c k s way (Node e b g) act) [
+        away = elim (last_within c k s way (state_node e b g) act) [
           | inl z ↦ subst (λ x. nat_eq p x ≡ false) (sym z) (neither_left (nat_eq p c) (below w c p) (around.apart c (nth_inside q (child p s) c b' k nth)))
           | inr z ↦ neither_left (nat_eq p (last_parent c way)) (below w (last_parent c way) p) (around.apart (last_parent c way) (nth_below q (child p s) c b' k nth (last_parent c way) z))
         ]
 
         out : (x : ℕ) → inside (last_group k way) x ≡ true → ((nat_eq c x || below w x c) ≡ false) × ((nat_eq p x || below w x p) ≡ false)
         out x h =
-            let y = last_inside c k s way (Node e b g) act x h in
+            let y = last_inside c k s way (state_node e b g) act x h in
             ((kids_around w i).apart x y, around.apart x (nth_below q (child p s) c b' k nth x y))
 
         e_inside : inside (last_group k way) e ≡ true
@@ -279,11 +279,11 @@ module _ (w : World) (laws : Laws w.order) (l : ℕ) where
         free = group_unassigned w c (state_no_register w c (node w i).kind) (state_no_memory w c (node w i).kind) g 0 g (own_fine w j).1
 
         untagged : (block_retags b c || group_retags g c) ≡ false
-        untagged = last_retags c k s way (Node e b g) act c (neither_right (block_retags b' c) _ (node w i).retags_itself)
+        untagged = last_retags c k s way (state_node e b g) act c (neither_right (block_retags b' c) _ (node w i).retags_itself)
 
-    all_kept : (p : ℕ) (q : Group) (around : Around w p q) (way : List State) → (act : Active p q s way (Node e b g)) → Kepts s (does w (record { state = e; parent = last_parent p way; children = g }) (does_child w g e) d pc s).store p way
+    all_kept : (p : ℕ) (q : Group) (around : Around w p q) (way : List State) → (act : Active p q s way (state_node e b g)) → Kepts s (does w (record { state = e; parent = last_parent p way; children = g }) (does_child w g e) d pc s).store p way
     all_kept p q around [] act = tt
-    all_kept p q around (Node c b' k ∷ way) act =
+    all_kept p q around (state_node c b' k ∷ way) act =
         (above_kept p q around c b' k act.0 way act.1 s, all_kept c k (kids_around w (site_at w p (child p s) c b' k q around act.0)) way act.1)
 
 module _ (w : World) (laws : Laws w.order) (l : ℕ) (i : Site w) (c : Command) (fine : Proper w i c) (s : Store) where
@@ -331,7 +331,7 @@ module _ (w : World) (laws : Laws w.order) (l : ℕ) (i : Site w) (c : Command) 
 pub confinement_law : Confinement
 unfolding scene_at
 confinement_law p fine l s way e b g c pc h =
-    (states_agree p fine.order l s _ conf.same (sym (way_path w laws l (root w) p.states s _ way (Node e b g) h.active (all_kept w laws l s e b g c h.command pc (root w) p.states top way h.active) below')), conf.quiet)
+    (states_agree p fine.order l s _ conf.same (sym (way_path w laws l (root w) p.states s _ way (state_node e b g) h.active (all_kept w laws l s e b g c h.command pc (root w) p.states top way h.active) below')), conf.quiet)
   where
     w : World
     w = p.world
@@ -343,10 +343,10 @@ confinement_law p fine l s way e b g c pc h =
     top = around_root p.world p.states fine.states fine.count
 
     last : Around p.world (last_parent (root p.world) way) (last_group p.states way)
-    last = around_last p.world fine.order l (root p.world) p.states s way (Node e b g) top h.active
+    last = around_last p.world fine.order l (root p.world) p.states s way (state_node e b g) top h.active
 
-    self : Nth (last_group p.states way) (child (last_parent (root p.world) way) s) (Node e b g)
-    self = last_nth p.world fine.order l (root p.world) p.states s way (Node e b g) h.active
+    self : Nth (last_group p.states way) (child (last_parent (root p.world) way) s) (state_node e b g)
+    self = last_nth p.world fine.order l (root p.world) p.states s way (state_node e b g) h.active
 
     i : Site p.world
     i = site_at p.world (last_parent (root p.world) way) (child (last_parent (root p.world) way) s) e b g (last_group p.states way) last self

@@ -1,6 +1,6 @@
 -- What a command does in a context that is not at or below l, as far as can be seen at l.
 use Rattle.std.specs.Prelude.{◌≡◌, ℕ, Bool, true, false, ◌||◌, List, [], ◌∷◌, ◌⊎◌, if◌then◌else◌}
-use Rattle.sap_meaning.specs.Program.{World, Program, is_dynamic, is_register, is_memory, root, Step, Set, Write, Retag, RetagCell, Goto, Fall, Command, Do, Try, If, TryThen, Case, Arms, Last, Arm, Block, End, Then, State, Node, Group}
+use Rattle.sap_meaning.specs.Program.{World, Program, is_dynamic, is_register, is_memory, root, Step, assign, write, retag, retag_cell, go_to, fall_to_child, Command, lone, try, if_else, try_then, case_of, Arms, last_arm, and_arm, Block, end_block, command_then, State, state_node, Group}
 use Rattle.sap_meaning.specs.Store.{Store, Slot, own, start, next, next_whole, number, level, child}
 use Rattle.sap_meaning.specs.Touches.{touches}
 use Rattle.sap_meaning.specs.Does.{does, does_child}
@@ -25,69 +25,69 @@ Active p g s (a ∷ way) t = Nth g (child p s) a × Active (number_of a) (kids_o
 -- c stands in a command, or in a list
 abbrev mutual
   pub StandsIn : Command → Command → Type 0
-  StandsIn c (Do k) = c ≡ Do k
-  StandsIn c (Try k hang h) = (c ≡ Try k hang h) ⊎ StandsInBlock c h
-  StandsIn c (If hang e a b) = (c ≡ If hang e a b) ⊎ (StandsInBlock c a ⊎ StandsInBlock c b)
-  StandsIn c (TryThen k hang a b) = (c ≡ TryThen k hang a b) ⊎ (StandsInBlock c a ⊎ StandsInBlock c b)
-  StandsIn c (Case hang e arms) = (c ≡ Case hang e arms) ⊎ StandsInArms c arms
+  StandsIn c (lone k) = c ≡ lone k
+  StandsIn c (try k hang h) = (c ≡ try k hang h) ⊎ StandsInBlock c h
+  StandsIn c (if_else hang e a b) = (c ≡ if_else hang e a b) ⊎ (StandsInBlock c a ⊎ StandsInBlock c b)
+  StandsIn c (try_then k hang a b) = (c ≡ try_then k hang a b) ⊎ (StandsInBlock c a ⊎ StandsInBlock c b)
+  StandsIn c (case_of hang e arms) = (c ≡ case_of hang e arms) ⊎ StandsInArms c arms
 
   pub StandsInArms : Command → Arms → Type 0
-  StandsInArms c (Last b) = StandsInBlock c b
-  StandsInArms c (Arm constants b arms) = StandsInBlock c b ⊎ StandsInArms c arms
+  StandsInArms c (last_arm b) = StandsInBlock c b
+  StandsInArms c (and_arm constants b arms) = StandsInBlock c b ⊎ StandsInArms c arms
 
   pub StandsInBlock : Command → Block → Type 0
-  StandsInBlock c End = ⊥
-  StandsInBlock c (Then d ds) = StandsIn c d ⊎ StandsInBlock c ds
+  StandsInBlock c end_block = ⊥
+  StandsInBlock c (command_then d ds) = StandsIn c d ⊎ StandsInBlock c ds
 
 abbrev pub is_goto : Step → Bool
-is_goto (Set site x e) = false
-is_goto (Write site m i e) = false
-is_goto (Retag site x n) = false
-is_goto (RetagCell site m j n) = false
-is_goto (Goto site target) = true
-is_goto (Fall site hang) = false
+is_goto (assign site x e) = false
+is_goto (write site m i e) = false
+is_goto (retag site x n) = false
+is_goto (retag_cell site m j n) = false
+is_goto (go_to site target) = true
+is_goto (fall_to_child site hang) = false
 
 abbrev pub is_fall : Step → Bool
-is_fall (Set site x e) = false
-is_fall (Write site m i e) = false
-is_fall (Retag site x n) = false
-is_fall (RetagCell site m j n) = false
-is_fall (Goto site target) = false
-is_fall (Fall site hang) = true
+is_fall (assign site x e) = false
+is_fall (write site m i e) = false
+is_fall (retag site x n) = false
+is_fall (retag_cell site m j n) = false
+is_fall (go_to site target) = false
+is_fall (fall_to_child site hang) = true
 
 -- a goto stands in it
 abbrev mutual
   pub has_goto : Command → Bool
-  has_goto (Do k) = is_goto k
-  has_goto (Try k hang h) = is_goto k || block_has_goto h
-  has_goto (If hang e a b) = block_has_goto a || block_has_goto b
-  has_goto (TryThen k hang a b) = is_goto k || (block_has_goto a || block_has_goto b)
-  has_goto (Case hang e arms) = arms_have_goto arms
+  has_goto (lone k) = is_goto k
+  has_goto (try k hang h) = is_goto k || block_has_goto h
+  has_goto (if_else hang e a b) = block_has_goto a || block_has_goto b
+  has_goto (try_then k hang a b) = is_goto k || (block_has_goto a || block_has_goto b)
+  has_goto (case_of hang e arms) = arms_have_goto arms
 
   pub arms_have_goto : Arms → Bool
-  arms_have_goto (Last b) = block_has_goto b
-  arms_have_goto (Arm constants b arms) = block_has_goto b || arms_have_goto arms
+  arms_have_goto (last_arm b) = block_has_goto b
+  arms_have_goto (and_arm constants b arms) = block_has_goto b || arms_have_goto arms
 
   pub block_has_goto : Block → Bool
-  block_has_goto End = false
-  block_has_goto (Then c cs) = has_goto c || block_has_goto cs
+  block_has_goto end_block = false
+  block_has_goto (command_then c cs) = has_goto c || block_has_goto cs
 
 -- a fall stands in it
 abbrev mutual
   pub has_fall : Command → Bool
-  has_fall (Do k) = is_fall k
-  has_fall (Try k hang h) = is_fall k || block_has_fall h
-  has_fall (If hang e a b) = block_has_fall a || block_has_fall b
-  has_fall (TryThen k hang a b) = is_fall k || (block_has_fall a || block_has_fall b)
-  has_fall (Case hang e arms) = arms_have_fall arms
+  has_fall (lone k) = is_fall k
+  has_fall (try k hang h) = is_fall k || block_has_fall h
+  has_fall (if_else hang e a b) = block_has_fall a || block_has_fall b
+  has_fall (try_then k hang a b) = is_fall k || (block_has_fall a || block_has_fall b)
+  has_fall (case_of hang e arms) = arms_have_fall arms
 
   pub arms_have_fall : Arms → Bool
-  arms_have_fall (Last b) = block_has_fall b
-  arms_have_fall (Arm constants b arms) = block_has_fall b || arms_have_fall arms
+  arms_have_fall (last_arm b) = block_has_fall b
+  arms_have_fall (and_arm constants b arms) = block_has_fall b || arms_have_fall arms
 
   pub block_has_fall : Block → Bool
-  block_has_fall End = false
-  block_has_fall (Then c cs) = has_fall c || block_has_fall cs
+  block_has_fall end_block = false
+  block_has_fall (command_then c cs) = has_fall c || block_has_fall cs
 
 -- the slot of an entity's level; of a memory its next part counts
 abbrev pub level_slot : World → ℕ → Slot
@@ -112,7 +112,7 @@ Guarded w l e g c s = (has_goto c ≡ true → is_dynamic w e ≡ false)
 -- stands in its body; the context, ..
 pub record Hidden (p : Program) (l : ℕ) (s : Store) (way : List State) (e : ℕ) (b : Block) (g : Group) (c : Command) (pc : ℕ) : Type 0 where
   pub holds : Holds p.world s
-  pub active : Active (root p.world) p.states s way (Node e b g)
+  pub active : Active (root p.world) p.states s way (state_node e b g)
   pub command : StandsInBlock c b
   pub context : High p.world.order l pc
   -- .. and each dynamic register or memory that c touches, is not at or below l;
@@ -121,7 +121,7 @@ pub record Hidden (p : Program) (l : ℕ) (s : Store) (way : List State) (e : �
   -- each enforced memory that c writes, or a body that it may fall into, has equal parts;
   pub parts : (m : ℕ) → is_memory p.world m ≡ true → is_dynamic p.world m ≡ false → reaches g c m ≡ true → EqualParts p.world m s
   -- and the state or one above it is not at or below l, or its goto and its fall are guarded
-  pub above : SomeHigh p.world l s (Node e b g ∷ way) ⊎ Guarded p.world l e g c s
+  pub above : SomeHigh p.world l s (state_node e b g ∷ way) ⊎ Guarded p.world l e g c s
 
 -- Then what c does leaves a state that agrees at l with the one before, and nothing that is refused is at or below l.
 abbrev pub Confines : Program → Type 0

@@ -7,7 +7,7 @@ use Rattle.sap_lemmas.proofs.Numbers.{test_of_same}
 use Rattle.std.proofs.lemmas.List.{get_or_past}
 use Rattle.sap_meaning.proofs.FineLemmas.{inside_among}
 use Rattle.sap_maps.specs.Term.{Term}
-use Rattle.sap_meaning.specs.Program.{World, Program, Entity, nothing, entity, kind_is_register, kind_is_memory, root, is_register, is_memory, is_dynamic, last, LevelTerm, fixed, of, at_place, both, Step, Set, Write, Retag, RetagCell, Goto, Fall, Command, Do, Try, If, TryThen, Case, Arms, Last, Arm, Block, End, Then, State, Node, Group, None, More}
+use Rattle.sap_meaning.specs.Program.{World, Program, Entity, nothing, entity, kind_is_register, kind_is_memory, root, is_register, is_memory, is_dynamic, last, LevelTerm, fixed, of, at_place, both, Step, assign, write, retag, retag_cell, go_to, fall_to_child, Command, lone, try, if_else, try_then, case_of, Arms, last_arm, and_arm, Block, end_block, command_then, State, state_node, Group, no_node, and_node}
 use Rattle.sap_meaning.specs.Expressions.{width_of}
 use Rattle.sap_meaning.specs.Touches.{among}
 use Rattle.sap_meaning.specs.Fine.{FineStep, FineCommand, FineArms, FineBlock, FineState, FineGroup, FineProgram, FineNode}
@@ -60,59 +60,59 @@ module _ (w : World) where
 
     -- states stand behind the ones before them in their group
     able_target : (q g : Group) (n x : ℕ) → FineGroup w q n g → ((y : ℕ) → among g y ≡ true → n ≤ y) → among g x ≡ true → AbleTarget w x
-    able_target q None n x fine least h = cc
-    able_target q (More (Node s b k) g) n x fine least h = elim (cases_Bool (nat_eq x s)) [
+    able_target q no_node n x fine least h = cc
+    able_target q (and_node (state_node s b k) g) n x fine least h = elim (cases_Bool (nat_eq x s)) [
       | inl e ↦ subst (AbleTarget w) (sym (eqb-true x s e)) (itself q n s b k fine.0.0 (least s (rw (test_of_same s) refl)))
       | inr e ↦ able_target q g (suc n) x fine.1 (λ y i. later q n s b k fine.0.0 (least s (rw (test_of_same s) refl)) y (fine.2 y (inside_among g y i))) (or_other (nat_eq x s) (among g x) h e)
     ]
 
     able_step : (q g : Group) → FineGroup w q 0 q → (k : Step) → FineStep w q g k → SizedStep w k → RangedStep w k → AbleStep w k
-    able_step q g fq (Set site x e) f s r = record { entity = register_within x f.0; value = able_term e s.0 r; same = s.1 }
-    able_step q g fq (Write site m i e) f s r = (
+    able_step q g fq (assign site x e) f s r = record { entity = register_within x f.0; value = able_term e s.0 r; same = s.1 }
+    able_step q g fq (write site m i e) f s r = (
       record { memory = memory_within m f.0; index = able_term i s.0 r.0; within = s.1 },
       record { entity = memory_within m f.0; value = able_term e s.2 r.1; same = s.3 },
     )
-    able_step q g fq (Retag site x n) f s r = (enforced_within x f.1, able_level n s r)
-    able_step q g fq (RetagCell site m j n) f s r = (
+    able_step q g fq (retag site x n) f s r = (enforced_within x f.1, able_level n s r)
+    able_step q g fq (retag_cell site m j n) f s r = (
       record { memory = memory_within m f.0; index = able_term j s.0 r.0; within = s.1 },
       f.1,
       able_level n s.2 r.1,
     )
-    able_step q g fq (Goto site target) f s r = able_target q q 0 target fq (λ y i. omega arith) f
-    able_step q g fq (Fall site hang) f s r = tt
+    able_step q g fq (go_to site target) f s r = able_target q q 0 target fq (λ y i. omega arith) f
+    able_step q g fq (fall_to_child site hang) f s r = tt
 
     module _ (q g : Group) (fq : FineGroup w q 0 q) where
       mutual
         unfolding AbleCommand AbleArms AbleBlock
 
         able_command : (c : Command) → FineCommand w q g c → Sized w c → Ranged w c → AbleCommand w c
-        able_command (Do k) f s r = able_step q g fq k f s r
-        able_command (Try k hang h) f s r = (able_step q g fq k f.0 s.0 r.0, able_block h f.1 s.1 r.1)
-        able_command (If hang e a b) f s r = (able_term e s.0 r.0, able_block a f.1 s.2 r.1, able_block b f.2 s.3 r.2)
-        able_command (TryThen k hang a b) f s r = (able_step q g fq k f.0 s.0 r.0, able_block a f.1 s.1 r.1, able_block b f.2 s.2 r.2)
-        able_command (Case hang e arms) f s r = (able_term e s.0 r.0, able_arms (width_of w e) arms f.1 s.1 r.1)
+        able_command (lone k) f s r = able_step q g fq k f s r
+        able_command (try k hang h) f s r = (able_step q g fq k f.0 s.0 r.0, able_block h f.1 s.1 r.1)
+        able_command (if_else hang e a b) f s r = (able_term e s.0 r.0, able_block a f.1 s.2 r.1, able_block b f.2 s.3 r.2)
+        able_command (try_then k hang a b) f s r = (able_step q g fq k f.0 s.0 r.0, able_block a f.1 s.1 r.1, able_block b f.2 s.2 r.2)
+        able_command (case_of hang e arms) f s r = (able_term e s.0 r.0, able_arms (width_of w e) arms f.1 s.1 r.1)
 
         able_arms : (u : ℕ) (arms : Arms) → FineArms w q g arms → SizedArms w u arms → RangedArms w arms → AbleArms w arms
-        able_arms u (Last b) f s r = able_block b f s r
-        able_arms u (Arm constants b arms) f s r = (able_block b f.0 s.1 r.0, able_arms u arms f.1 s.2 r.1)
+        able_arms u (last_arm b) f s r = able_block b f s r
+        able_arms u (and_arm constants b arms) f s r = (able_block b f.0 s.1 r.0, able_arms u arms f.1 s.2 r.1)
 
         able_block : (b : Block) → FineBlock w q g b → SizedBlock w b → RangedBlock w b → AbleBlock w b
-        able_block End f s r = tt
-        able_block (Then c cs) f s r = (able_command c f.0 s.0 r.0, able_block cs f.1 s.1 r.1)
+        able_block end_block f s r = tt
+        able_block (command_then c cs) f s r = (able_command c f.0 s.0 r.0, able_block cs f.1 s.1 r.1)
 
     mutual
       unfolding AbleState AbleGroup
 
       able_state : (t : State) (q : Group) (n : ℕ) → FineGroup w q 0 q → FineState w q n t → SizedState w t → RangedState w t → AbleState w t
-      able_state (Node s b g) q n fq f t r = (
+      able_state (state_node s b g) q n fq f t r = (
         (let a = f.0.itself in let l = f.0.declared in omega (arith, a, l)),
         able_block q g fq b f.0.steps t.0 r.0,
         able_group g g 0 f.1 f.1 t.1 r.1,
       )
 
       able_group : (g q : Group) (n : ℕ) → FineGroup w q 0 q → FineGroup w q n g → SizedGroup w g → RangedGroup w g → AbleGroup w g
-      able_group None q n fq f t r = tt
-      able_group (More a g) q n fq f t r = (able_state a q n fq f.0 t.0 r.0, able_group g q (suc n) fq f.1 t.1 r.1)
+      able_group no_node q n fq f t r = tt
+      able_group (and_node a g) q n fq f t r = (able_state a q n fq f.0 t.0 r.0, able_group g q (suc n) fq f.1 t.1 r.1)
 
 pub able_program : (p : Program) → FineProgram p → SizedProgram p → RangedProgram p → root p.world < 2 ^ 32 → AbleGroup p.world p.states
 able_program p f s r few = able_group p.world few p.states p.states 0 f.states f.states s.states r.states

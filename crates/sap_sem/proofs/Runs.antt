@@ -4,7 +4,7 @@ use Rattle.std.proofs.lemmas.Bool.{cases_Bool}
 use Rattle.std.specs.declared.vec.Vec.{Vec}
 use Rattle.std.specs.declared.alloc.Global.{Global}
 use Rattle.sap_meaning.proofs.StoreLemmas.{and_stay}
-use Rattle.sap_meaning.specs.Program.{World, Block, Last, root, listed}
+use Rattle.sap_meaning.specs.Program.{World, Block, last_arm, root, listed}
 use Rattle.sap_meaning.specs.Program as program
 use Rattle.sap_meaning.specs.Checks.{test}
 use Rattle.sap_meaning.specs.Checks as checks
@@ -60,7 +60,7 @@ module _ (d : Setting) (at : Spot) (pc : ℕ) (s : Store) where
   run-if hang e a b = rw (command_of-if (entities_in d) hang e a b) refl
 
   picked-run : (arms : List Arm) (last : List Command) (n p : ℕ) (t : Store)
-      → run_arms (world_in d) (spot_in d at) (entered d at.state at.children.now) (arms_before (entities_in d) arms (Last (block_of (entities_in d) last))) n p t
+      → run_arms (world_in d) (spot_in d at) (entered d at.state at.children.now) (arms_before (entities_in d) arms (last_arm (block_of (entities_in d) last))) n p t
       ≡ block_run d at (picked_in arms last n) p t
   unfolding run_arms arms_before block_run
   picked-run [] last n p t = refl

@@ -3,7 +3,7 @@ use Rattle.std.proofs.Common.{◌≡◌, ℕ, zero, suc, ◌+◌, ◌<◌, ◌�
 use Rattle.std.proofs.lemmas.Bool.{cases_Bool}
 use Rattle.std.specs.declared.vec.Vec.{Vec}
 use Rattle.std.specs.declared.alloc.Global.{Global}
-use Rattle.sap_meaning.specs.Program.{Command, Do, Try, If, TryThen, Case, Arms, Last, Arm, Block, End, Then, State, Node, Group, None, More}
+use Rattle.sap_meaning.specs.Program.{Command, lone, try, if_else, try_then, case_of, Arms, last_arm, and_arm, Block, end_block, command_then, State, state_node, Group, no_node, and_node}
 use Rattle.sap_program.specs.declared.program.Number.{Number}
 use Rattle.sap_program.specs.declared.program.Step.{Step}
 use Rattle.sap_program.specs.declared.program.Arm.{Arm as ArmCode}
@@ -18,27 +18,27 @@ use Rattle.sap_sem.proofs.Views.{command_of-do, command_of-try, command_of-if, c
 
 unfoldable mutual
   pub of_command : Command → ℕ
-  of_command (Do k) = 3
-  of_command (Try k hang h) = of_block h + 3
-  of_command (If hang e a b) = of_block a + of_block b + 3
-  of_command (TryThen k hang a b) = of_block a + of_block b + 3
-  of_command (Case hang e arms) = of_arms arms + 3
+  of_command (lone k) = 3
+  of_command (try k hang h) = of_block h + 3
+  of_command (if_else hang e a b) = of_block a + of_block b + 3
+  of_command (try_then k hang a b) = of_block a + of_block b + 3
+  of_command (case_of hang e arms) = of_arms arms + 3
 
   pub of_arms : Arms → ℕ
-  of_arms (Last b) = of_block b
-  of_arms (Arm constants b arms) = of_block b + of_arms arms
+  of_arms (last_arm b) = of_block b
+  of_arms (and_arm constants b arms) = of_block b + of_arms arms
 
   pub of_block : Block → ℕ
-  of_block End = 0
-  of_block (Then c cs) = of_command c + of_block cs + 1
+  of_block end_block = 0
+  of_block (command_then c cs) = of_command c + of_block cs + 1
 
 unfoldable mutual
   pub of_state : State → ℕ
-  of_state (Node s b g) = of_block b + of_group g + 1
+  of_state (state_node s b g) = of_block b + of_group g + 1
 
   pub of_group : Group → ℕ
-  of_group None = 0
-  of_group (More t g) = of_state t + of_group g + 1
+  of_group no_node = 0
+  of_group (and_node t g) = of_state t + of_group g + 1
 
 -- what hangs does not count
 pub command_weight : CommandCode → ℕ
@@ -48,7 +48,7 @@ pub commands_weight : List CommandCode → ℕ
 commands_weight cs = of_block (block_of 0 cs)
 
 pub arms_weight : List ArmCode → List CommandCode → ℕ
-arms_weight arms last = of_arms (arms_before 0 arms (Last (block_of 0 last)))
+arms_weight arms last = of_arms (arms_before 0 arms (last_arm (block_of 0 last)))
 
 pub state_weight : StateCode → ℕ
 state_weight k = of_state (state_of 0 k)

@@ -4,7 +4,7 @@ use Rattle.std.proofs.Props.{props}
 use Rattle.sap_bits.specs.declared.Op2.{Op2}
 use Rattle.sap_bits.specs.declared.Op2.TheVariants.{Add, Sub, Mul, And, Or, Xor, Eq, Ne, Lt, Le, Shl, Shr}
 use Rattle.sap_maps.specs.Term.{Term, constant, read, cell, one, two, choose, join, part, CountFits, TermFits}
-use Rattle.sap_meaning.specs.Program.{World, width, LevelTerm, fixed, of, at_place, both, Step, Set, Write, Retag, RetagCell, Goto, Fall, Command, Do, Try, If, TryThen, Case, Arms, Last, Arm, Block, End, Then, State, Node, Group, None, More}
+use Rattle.sap_meaning.specs.Program.{World, width, LevelTerm, fixed, of, at_place, both, Step, assign, write, retag, retag_cell, go_to, fall_to_child, Command, lone, try, if_else, try_then, case_of, Arms, last_arm, and_arm, Block, end_block, command_then, State, state_node, Group, no_node, and_node}
 use Rattle.sap_meaning.specs.Checks.{Spot}
 use Rattle.sap_lattice.specs.Levels.{Levels}
 use Rattle.sap_meaning.specs.Fine.{FineTerm, FineLevel, FineStep, FineCommand, FineArms, FineBlock, Open, OpenArms, OpenBlock, Closes, Final, ClosingArms, OnceStep, Once, OnceArms, OnceBlock, OnceState, OnceGroup, FineState, FineGroup, ExactStep, Exact, ExactArms, ExactBlock, ExactState, ExactGroup}
@@ -40,69 +40,69 @@ fits_prop widths (part a hi lo) = hlevel (props, fits_prop widths a)
 
 mutual
   open_prop : (c : Command) → IsProp (Open c)
-  open_prop (Do k) = hlevel props
-  open_prop (Try k hang h) = hlevel (props, open_block_prop h)
-  open_prop (If hang e a b) = hlevel (props, open_block_prop a, open_block_prop b)
-  open_prop (TryThen k hang a b) = hlevel (props, open_block_prop a, open_block_prop b)
-  open_prop (Case hang e arms) = open_arms_prop arms
+  open_prop (lone k) = hlevel props
+  open_prop (try k hang h) = hlevel (props, open_block_prop h)
+  open_prop (if_else hang e a b) = hlevel (props, open_block_prop a, open_block_prop b)
+  open_prop (try_then k hang a b) = hlevel (props, open_block_prop a, open_block_prop b)
+  open_prop (case_of hang e arms) = open_arms_prop arms
 
   open_arms_prop : (arms : Arms) → IsProp (OpenArms arms)
-  open_arms_prop (Last b) = open_block_prop b
-  open_arms_prop (Arm constants b arms) = hlevel (props, open_block_prop b, open_arms_prop arms)
+  open_arms_prop (last_arm b) = open_block_prop b
+  open_arms_prop (and_arm constants b arms) = hlevel (props, open_block_prop b, open_arms_prop arms)
 
   open_block_prop : (b : Block) → IsProp (OpenBlock b)
-  open_block_prop End = hlevel props
-  open_block_prop (Then c cs) = hlevel (props, open_prop c, open_block_prop cs)
+  open_block_prop end_block = hlevel props
+  open_block_prop (command_then c cs) = hlevel (props, open_prop c, open_block_prop cs)
 
 mutual
   closes_prop : (b : Block) → IsProp (Closes b)
-  closes_prop End = hlevel props
-  closes_prop (Then c End) = final_prop c
-  closes_prop (Then c (Then d ds)) = hlevel (props, open_prop c, closes_prop (Then d ds))
+  closes_prop end_block = hlevel props
+  closes_prop (command_then c end_block) = final_prop c
+  closes_prop (command_then c (command_then d ds)) = hlevel (props, open_prop c, closes_prop (command_then d ds))
 
   final_prop : (c : Command) → IsProp (Final c)
-  final_prop (Do k) = hlevel props
-  final_prop (Try k hang h) = hlevel (props, closes_prop h)
-  final_prop (If hang e a b) = hlevel (props, closes_prop a, closes_prop b)
-  final_prop (TryThen k hang a b) = hlevel (props, closes_prop a, closes_prop b)
-  final_prop (Case hang e arms) = closing_arms_prop arms
+  final_prop (lone k) = hlevel props
+  final_prop (try k hang h) = hlevel (props, closes_prop h)
+  final_prop (if_else hang e a b) = hlevel (props, closes_prop a, closes_prop b)
+  final_prop (try_then k hang a b) = hlevel (props, closes_prop a, closes_prop b)
+  final_prop (case_of hang e arms) = closing_arms_prop arms
 
   closing_arms_prop : (arms : Arms) → IsProp (ClosingArms arms)
-  closing_arms_prop (Last b) = closes_prop b
-  closing_arms_prop (Arm constants b arms) = hlevel (props, closes_prop b, closing_arms_prop arms)
+  closing_arms_prop (last_arm b) = closes_prop b
+  closing_arms_prop (and_arm constants b arms) = hlevel (props, closes_prop b, closing_arms_prop arms)
 
 module _ (g : Group) (below : Type 0) (below_prop : IsProp below) where
   once_step_prop : (k : Step) → IsProp (OnceStep below k)
-  once_step_prop (Set site x e) = hlevel props
-  once_step_prop (Write site m i e) = hlevel props
-  once_step_prop (Retag site x n) = hlevel props
-  once_step_prop (RetagCell site m j n) = hlevel props
-  once_step_prop (Goto site target) = hlevel props
-  once_step_prop (Fall site hang) = below_prop
+  once_step_prop (assign site x e) = hlevel props
+  once_step_prop (write site m i e) = hlevel props
+  once_step_prop (retag site x n) = hlevel props
+  once_step_prop (retag_cell site m j n) = hlevel props
+  once_step_prop (go_to site target) = hlevel props
+  once_step_prop (fall_to_child site hang) = below_prop
 
   mutual
     once_prop : (c : Command) → IsProp (Once g below c)
-    once_prop (Do k) = once_step_prop k
-    once_prop (Try k hang h) = hlevel (props, once_step_prop k, once_block_prop h)
-    once_prop (If hang e a b) = hlevel (props, once_block_prop a, once_block_prop b)
-    once_prop (TryThen k hang a b) = hlevel (props, once_step_prop k, once_block_prop a, once_block_prop b)
-    once_prop (Case hang e arms) = once_arms_prop arms
+    once_prop (lone k) = once_step_prop k
+    once_prop (try k hang h) = hlevel (props, once_step_prop k, once_block_prop h)
+    once_prop (if_else hang e a b) = hlevel (props, once_block_prop a, once_block_prop b)
+    once_prop (try_then k hang a b) = hlevel (props, once_step_prop k, once_block_prop a, once_block_prop b)
+    once_prop (case_of hang e arms) = once_arms_prop arms
 
     once_arms_prop : (arms : Arms) → IsProp (OnceArms g below arms)
-    once_arms_prop (Last b) = once_block_prop b
-    once_arms_prop (Arm constants b arms) = hlevel (props, once_block_prop b, once_arms_prop arms)
+    once_arms_prop (last_arm b) = once_block_prop b
+    once_arms_prop (and_arm constants b arms) = hlevel (props, once_block_prop b, once_arms_prop arms)
 
     once_block_prop : (b : Block) → IsProp (OnceBlock g below b)
-    once_block_prop End = hlevel props
-    once_block_prop (Then c cs) = hlevel (props, once_prop c, once_block_prop cs)
+    once_block_prop end_block = hlevel props
+    once_block_prop (command_then c cs) = hlevel (props, once_prop c, once_block_prop cs)
 
 mutual
   once_state_prop : (t : State) → IsProp (OnceState t)
-  once_state_prop (Node s b g) = once_block_prop g (OnceGroup g) (once_group_prop g) b
+  once_state_prop (state_node s b g) = once_block_prop g (OnceGroup g) (once_group_prop g) b
 
   once_group_prop : (g : Group) → IsProp (OnceGroup g)
-  once_group_prop None = hlevel props
-  once_group_prop (More t g) = hlevel (props, once_state_prop t, once_group_prop g)
+  once_group_prop no_node = hlevel props
+  once_group_prop (and_node t g) = hlevel (props, once_state_prop t, once_group_prop g)
 
 module _ (w : World) where
   indexed_prop : (e : Term ℕ) → IsProp (Indexed w e)
@@ -135,72 +135,72 @@ module _ (w : World) where
   level_prop (both a b) = hlevel (props, level_prop a, level_prop b)
 
   step_prop : (k : Step) → IsProp (AbleStep w k)
-  step_prop (Set site x e) = hlevel (props, term_prop e)
-  step_prop (Write site m i e) = hlevel (props, term_prop i, term_prop e)
-  step_prop (Retag site x n) = hlevel (props, level_prop n)
-  step_prop (RetagCell site m j n) = hlevel (props, term_prop j, level_prop n)
-  step_prop (Goto site target) = hlevel props
-  step_prop (Fall site hang) = hlevel props
+  step_prop (assign site x e) = hlevel (props, term_prop e)
+  step_prop (write site m i e) = hlevel (props, term_prop i, term_prop e)
+  step_prop (retag site x n) = hlevel (props, level_prop n)
+  step_prop (retag_cell site m j n) = hlevel (props, term_prop j, level_prop n)
+  step_prop (go_to site target) = hlevel props
+  step_prop (fall_to_child site hang) = hlevel props
 
   mutual
     unfolding AbleCommand AbleArms AbleBlock
 
     command_prop : (c : Command) → IsProp (AbleCommand w c)
-    command_prop (Do k) = step_prop k
-    command_prop (Try k hang h) = hlevel (props, step_prop k, block_prop h)
-    command_prop (If hang e a b) = hlevel (props, term_prop e, block_prop a, block_prop b)
-    command_prop (TryThen k hang a b) = hlevel (props, step_prop k, block_prop a, block_prop b)
-    command_prop (Case hang e arms) = hlevel (props, term_prop e, arms_prop arms)
+    command_prop (lone k) = step_prop k
+    command_prop (try k hang h) = hlevel (props, step_prop k, block_prop h)
+    command_prop (if_else hang e a b) = hlevel (props, term_prop e, block_prop a, block_prop b)
+    command_prop (try_then k hang a b) = hlevel (props, step_prop k, block_prop a, block_prop b)
+    command_prop (case_of hang e arms) = hlevel (props, term_prop e, arms_prop arms)
 
     arms_prop : (arms : Arms) → IsProp (AbleArms w arms)
-    arms_prop (Last b) = block_prop b
-    arms_prop (Arm constants b arms) = hlevel (props, block_prop b, arms_prop arms)
+    arms_prop (last_arm b) = block_prop b
+    arms_prop (and_arm constants b arms) = hlevel (props, block_prop b, arms_prop arms)
 
     block_prop : (b : Block) → IsProp (AbleBlock w b)
-    block_prop End = hlevel props
-    block_prop (Then c cs) = hlevel (props, command_prop c, block_prop cs)
+    block_prop end_block = hlevel props
+    block_prop (command_then c cs) = hlevel (props, command_prop c, block_prop cs)
 
   mutual
     unfolding AbleState AbleGroup
 
     state_prop : (t : State) → IsProp (AbleState w t)
-    state_prop (Node s b g) = hlevel (props, block_prop b, group_prop g)
+    state_prop (state_node s b g) = hlevel (props, block_prop b, group_prop g)
 
     group_prop : (g : Group) → IsProp (AbleGroup w g)
-    group_prop None = hlevel props
-    group_prop (More t g) = hlevel (props, state_prop t, group_prop g)
+    group_prop no_node = hlevel props
+    group_prop (and_node t g) = hlevel (props, state_prop t, group_prop g)
 
   exact_step_prop : (at : Spot) (k : Step) → IsProp (ExactStep w at k)
-  exact_step_prop at (Set site x e) = hlevel props
-  exact_step_prop at (Write site m i e) = hlevel props
-  exact_step_prop at (Retag site x n) = hlevel props
-  exact_step_prop at (RetagCell site m j n) = hlevel props
-  exact_step_prop at (Goto site target) = hlevel props
-  exact_step_prop at (Fall site hang) = hlevel props
+  exact_step_prop at (assign site x e) = hlevel props
+  exact_step_prop at (write site m i e) = hlevel props
+  exact_step_prop at (retag site x n) = hlevel props
+  exact_step_prop at (retag_cell site m j n) = hlevel props
+  exact_step_prop at (go_to site target) = hlevel props
+  exact_step_prop at (fall_to_child site hang) = hlevel props
 
   mutual
     exact_prop : (at : Spot) (c : Command) → IsProp (Exact w at c)
-    exact_prop at (Do k) = exact_step_prop at k
-    exact_prop at (Try k hang h) = hlevel (props, exact_block_prop at h)
-    exact_prop at (If hang e a b) = hlevel (props, exact_block_prop at a, exact_block_prop at b)
-    exact_prop at (TryThen k hang a b) = hlevel (props, exact_block_prop at a, exact_block_prop at b)
-    exact_prop at (Case hang e arms) = hlevel (props, exact_arms_prop at arms)
+    exact_prop at (lone k) = exact_step_prop at k
+    exact_prop at (try k hang h) = hlevel (props, exact_block_prop at h)
+    exact_prop at (if_else hang e a b) = hlevel (props, exact_block_prop at a, exact_block_prop at b)
+    exact_prop at (try_then k hang a b) = hlevel (props, exact_block_prop at a, exact_block_prop at b)
+    exact_prop at (case_of hang e arms) = hlevel (props, exact_arms_prop at arms)
 
     exact_arms_prop : (at : Spot) (arms : Arms) → IsProp (ExactArms w at arms)
-    exact_arms_prop at (Last b) = exact_block_prop at b
-    exact_arms_prop at (Arm constants b arms) = hlevel (props, exact_block_prop at b, exact_arms_prop at arms)
+    exact_arms_prop at (last_arm b) = exact_block_prop at b
+    exact_arms_prop at (and_arm constants b arms) = hlevel (props, exact_block_prop at b, exact_arms_prop at arms)
 
     exact_block_prop : (at : Spot) (b : Block) → IsProp (ExactBlock w at b)
-    exact_block_prop at End = hlevel props
-    exact_block_prop at (Then c cs) = hlevel (props, exact_prop at c, exact_block_prop at cs)
+    exact_block_prop at end_block = hlevel props
+    exact_block_prop at (command_then c cs) = hlevel (props, exact_prop at c, exact_block_prop at cs)
 
   mutual
     exact_state_prop : (p : ℕ) (t : State) → IsProp (ExactState w p t)
-    exact_state_prop p (Node s b g) = hlevel (props, exact_block_prop (record { state = s; parent = p; children = g }) b, exact_group_prop s g)
+    exact_state_prop p (state_node s b g) = hlevel (props, exact_block_prop (record { state = s; parent = p; children = g }) b, exact_group_prop s g)
 
     exact_group_prop : (p : ℕ) (g : Group) → IsProp (ExactGroup w p g)
-    exact_group_prop p None = hlevel props
-    exact_group_prop p (More t g) = hlevel (props, exact_state_prop p t, exact_group_prop p g)
+    exact_group_prop p no_node = hlevel props
+    exact_group_prop p (and_node t g) = hlevel (props, exact_state_prop p t, exact_group_prop p g)
 
   fine_term_prop : (e : Term ℕ) → IsProp (FineTerm w e)
   fine_term_prop (constant u n) = hlevel props
@@ -220,36 +220,36 @@ module _ (w : World) where
 
   module _ (q g : Group) where
     fine_step_prop : (k : Step) → IsProp (FineStep w q g k)
-    fine_step_prop (Set site x e) = hlevel (props, fine_term_prop e)
-    fine_step_prop (Write site m i e) = hlevel (props, fine_term_prop i, fine_term_prop e)
-    fine_step_prop (Retag site x n) = hlevel (props, fine_level_prop n)
-    fine_step_prop (RetagCell site m j n) = hlevel (props, fine_term_prop j, fine_level_prop n)
-    fine_step_prop (Goto site target) = hlevel props
-    fine_step_prop (Fall site hang) = hlevel props
+    fine_step_prop (assign site x e) = hlevel (props, fine_term_prop e)
+    fine_step_prop (write site m i e) = hlevel (props, fine_term_prop i, fine_term_prop e)
+    fine_step_prop (retag site x n) = hlevel (props, fine_level_prop n)
+    fine_step_prop (retag_cell site m j n) = hlevel (props, fine_term_prop j, fine_level_prop n)
+    fine_step_prop (go_to site target) = hlevel props
+    fine_step_prop (fall_to_child site hang) = hlevel props
 
     mutual
       fine_command_prop : (c : Command) → IsProp (FineCommand w q g c)
-      fine_command_prop (Do k) = fine_step_prop k
-      fine_command_prop (Try k hang h) = hlevel (props, fine_step_prop k, fine_block_prop h)
-      fine_command_prop (If hang e a b) = hlevel (props, fine_term_prop e, fine_block_prop a, fine_block_prop b)
-      fine_command_prop (TryThen k hang a b) = hlevel (props, fine_step_prop k, fine_block_prop a, fine_block_prop b)
-      fine_command_prop (Case hang e arms) = hlevel (props, fine_term_prop e, fine_arms_prop arms)
+      fine_command_prop (lone k) = fine_step_prop k
+      fine_command_prop (try k hang h) = hlevel (props, fine_step_prop k, fine_block_prop h)
+      fine_command_prop (if_else hang e a b) = hlevel (props, fine_term_prop e, fine_block_prop a, fine_block_prop b)
+      fine_command_prop (try_then k hang a b) = hlevel (props, fine_step_prop k, fine_block_prop a, fine_block_prop b)
+      fine_command_prop (case_of hang e arms) = hlevel (props, fine_term_prop e, fine_arms_prop arms)
 
       fine_arms_prop : (arms : Arms) → IsProp (FineArms w q g arms)
-      fine_arms_prop (Last b) = fine_block_prop b
-      fine_arms_prop (Arm constants b arms) = hlevel (props, fine_block_prop b, fine_arms_prop arms)
+      fine_arms_prop (last_arm b) = fine_block_prop b
+      fine_arms_prop (and_arm constants b arms) = hlevel (props, fine_block_prop b, fine_arms_prop arms)
 
       fine_block_prop : (b : Block) → IsProp (FineBlock w q g b)
-      fine_block_prop End = hlevel props
-      fine_block_prop (Then c cs) = hlevel (props, fine_command_prop c, fine_block_prop cs)
+      fine_block_prop end_block = hlevel props
+      fine_block_prop (command_then c cs) = hlevel (props, fine_command_prop c, fine_block_prop cs)
 
   mutual
     fine_state_prop : (q : Group) (n : ℕ) (t : State) → IsProp (FineState w q n t)
-    fine_state_prop q n (Node s b g) = hlevel (props, fine_block_prop q g b, closes_prop b, fine_group_prop g 0 g)
+    fine_state_prop q n (state_node s b g) = hlevel (props, fine_block_prop q g b, closes_prop b, fine_group_prop g 0 g)
 
     fine_group_prop : (q : Group) (n : ℕ) (g : Group) → IsProp (FineGroup w q n g)
-    fine_group_prop q n None = hlevel props
-    fine_group_prop q n (More t g) = hlevel (props, fine_state_prop q n t, fine_group_prop q (suc n) g)
+    fine_group_prop q n no_node = hlevel props
+    fine_group_prop q n (and_node t g) = hlevel (props, fine_state_prop q n t, fine_group_prop q (suc n) g)
 
 pub sound_prop : (ls : Levels) (p : code.Program) → IsProp (IsSound ls p)
 sound_prop ls p = hlevel (props, group_prop, fine_group_prop, once_group_prop, exact_group_prop)

@@ -1,7 +1,7 @@
 -- What the code's parts do, in the words of the labelled meaning.
 use Rattle.std.specs.Prelude.{ℕ, ◌<◌, ◌≤◌, List, [], ◌∷◌, Option, Some, nat_eq, slice_set, if◌then◌else◌}
 use Rattle.sap_maps.specs.Term.{Term}
-use Rattle.sap_meaning.specs.Program.{World, root, is_dynamic, place, listed, LevelTerm, Last, Block}
+use Rattle.sap_meaning.specs.Program.{World, root, is_dynamic, place, listed, LevelTerm, last_arm, Block}
 use Rattle.sap_meaning.specs.Program as program
 use Rattle.sap_meaning.specs.Store.{Store, own, start, next, number, level, child, put_number, put_level, put_child, raise, reset, Refusal, After}
 use Rattle.sap_meaning.specs.Expressions.{value, tag, new_level}
@@ -55,12 +55,12 @@ goto_done w parent target pc s =
     if is_dynamic w target then put_level w (own target) pc moved else moved
 
 abbrev pub step_done : World → (parent : ℕ) → program.Step → ℕ → (before : Store) → Store → Store
-step_done w parent (program.Set site x e) pc before s = set_done w x e pc before s
-step_done w parent (program.Write site m i e) pc before s = write_done w m i e pc before s
-step_done w parent (program.Retag site x n) pc before s = retag_done w x n before s
-step_done w parent (program.RetagCell site m j n) pc before s = retag_cell_done w m j n before s
-step_done w parent (program.Goto site target) pc before s = goto_done w parent target pc s
-step_done w parent (program.Fall site hang) pc before s = s
+step_done w parent (program.assign site x e) pc before s = set_done w x e pc before s
+step_done w parent (program.write site m i e) pc before s = write_done w m i e pc before s
+step_done w parent (program.retag site x n) pc before s = retag_done w x n before s
+step_done w parent (program.retag_cell site m j n) pc before s = retag_cell_done w m j n before s
+step_done w parent (program.go_to site target) pc before s = goto_done w parent target pc s
+step_done w parent (program.fall_to_child site hang) pc before s = s
 
 abbrev pub acted : Setting → Spot → Step → ℕ → (before : Store) → Store → Store
 acted d at k pc before s = step_done (world_in d) at.parent (step_of (entities_in d) k) pc before s
@@ -124,7 +124,7 @@ unfoldable pub BlockAble : Setting → List Command → Type 0
 BlockAble d cs = AbleBlock (world_in d) (block_of (entities_in d) cs)
 
 unfoldable pub ArmsAble : Setting → List Arm → (last : List Command) → Type 0
-ArmsAble d arms last = AbleArms (world_in d) (arms_before (entities_in d) arms (Last (block_of (entities_in d) last)))
+ArmsAble d arms last = AbleArms (world_in d) (arms_before (entities_in d) arms (last_arm (block_of (entities_in d) last)))
 
 unfoldable pub StateAble : Setting → State → Type 0
 StateAble d k = AbleState (world_in d) (state_of (entities_in d) k)

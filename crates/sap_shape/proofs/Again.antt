@@ -1,7 +1,7 @@
 -- The faults that the walk finds are those of which the paths say so.
 use Rattle.std.proofs.Common.{◌≡◌, ◌⊎◌, inl, inr, ℕ, List, [], ◌∷◌, ◌++◌, Bool, true, false, Some, refl, ap, sym, subst, ◌∙◌, append_assoc, if◌then◌else◌}
 use Rattle.sap_text.specs.declared.place.Place.{Place}
-use Rattle.sap_tree.specs.Syntax.{SimpleCommand, Assign, Write, SetTag, SetCellTag, Goto, Fall, Command, Do, Try, If, TryThen, Case, Arms, Last, Arm, CommandBlock, Commands, ElseBlock, NoElse, Else, CommandList, NoCommand, AndCommand, StateTree, StateOf, StateList, NoState, AndState, DesignTree}
+use Rattle.sap_tree.specs.Syntax.{SimpleCommand, assign, write, set_tag, set_cell_tag, go_to, fall_to_child, Command, lone, try, if_else, try_then, case_of, Arms, last_arm, and_arm, CommandBlock, command_block, ElseBlock, no_else, with_else, CommandList, no_command, and_command, StateTree, state_node, StateList, no_state, and_state, DesignTree}
 use Rattle.sap_names.specs.declared.fault.Fault.{Fault}
 use Rattle.sap_names.specs.declared.kind.Code.TheVariants.{E14}
 use Rattle.sap_names.specs.Fault.{StandsIn, Before, BeforeAll, First}
@@ -59,31 +59,31 @@ fault_stands true place f (inr h) = absurd h
 fault_stands false place f h = absurd h
 
 step_found : (k : SimpleCommand) (p : Written) (f : Fault) → StandsIn f (second_simple k p) → Late p (k ∷ []) k × (f ≡ twice_at (place_of k))
-step_found (Assign target e) p f h = absurd h
-step_found (Write target index e) p f h =
+step_found (assign target e) p f h = absurd h
+step_found (write target index e) p f h =
     let s = fault_stands (p target.name) target.place f h in
     (([], [], refl, target.name, refl, inl s.0), s.1)
-step_found (SetTag place target tag) p f h = absurd h
-step_found (SetCellTag place target index tag) p f h =
+step_found (set_tag place target tag) p f h = absurd h
+step_found (set_cell_tag place target index tag) p f h =
     let s = fault_stands (p target.name) place f h in
     (([], [], refl, target.name, refl, inl s.0), s.1)
-step_found (Goto place target) p f h = absurd h
-step_found (Fall place) p f h = absurd h
+step_found (go_to place target) p f h = absurd h
+step_found (fall_to_child place) p f h = absurd h
 
 mutual
   found_in : (c : Command) (p : Written) (f : Fault) → StandsIn f (second c p) → Found p (λ path. Through c path) f
-  found_in (Do k) p f h = let s = step_found k p f h in (k, k ∷ [], refl, s.0, s.1)
-  found_in (Try k place b) p f h = elim (stands_parts f (second_simple k p) (second_block b (past_simple k p)) h) [
+  found_in (lone k) p f h = let s = step_found k p f h in (k, k ∷ [], refl, s.0, s.1)
+  found_in (try k place b) p f h = elim (stands_parts f (second_simple k p) (second_block b (past_simple k p)) h) [
     | inl i ↦ (let s = step_found k p f i in (k, k ∷ [], inl refl, s.0, s.1))
     | inr i ↦ (
         let s = found_in_block b (past_simple k p) f i in
         (s.0, k ∷ s.1, inr (s.1, s.2, refl), late_more k p s.1 s.0 s.3, s.4))
   ]
-  found_in (If place e b other) p f h = elim (stands_parts f (second_block b p) (second_else other p) h) [
+  found_in (if_else place e b other) p f h = elim (stands_parts f (second_block b p) (second_else other p) h) [
     | inl i ↦ (let s = found_in_block b p f i in (s.0, s.1, inl s.2, s.3, s.4))
     | inr i ↦ (let s = found_in_else other p f i in (s.0, s.1, inr s.2, s.3, s.4))
   ]
-  found_in (TryThen k place a b) p f h = elim (stands_parts f (second_simple k p ++ second_block a (past_simple k p)) (second_block b (past_simple k p)) h) [
+  found_in (try_then k place a b) p f h = elim (stands_parts f (second_simple k p ++ second_block a (past_simple k p)) (second_block b (past_simple k p)) h) [
     | inl i ↦ elim (stands_parts f (second_simple k p) (second_block a (past_simple k p)) i) [
       | inl j ↦ (
           let s = step_found k p f j in
@@ -97,25 +97,25 @@ mutual
         let s = found_in_block b (past_simple k p) f i in
         (s.0, k ∷ s.1, inr (s.1, s.2, refl), late_more k p s.1 s.0 s.3, s.4))
   ]
-  found_in (Case place e arms) p f h = found_in_arms arms p f h
+  found_in (case_of place e arms) p f h = found_in_arms arms p f h
 
   found_in_arms : (arms : Arms) (p : Written) (f : Fault) → StandsIn f (second_arms arms p) → Found p (λ path. ThroughArms arms path) f
-  found_in_arms (Last b) p f h = found_in_block b p f h
-  found_in_arms (Arm constants b arms) p f h = elim (stands_parts f (second_block b p) (second_arms arms p) h) [
+  found_in_arms (last_arm b) p f h = found_in_block b p f h
+  found_in_arms (and_arm constants b arms) p f h = elim (stands_parts f (second_block b p) (second_arms arms p) h) [
     | inl i ↦ (let s = found_in_block b p f i in (s.0, s.1, inl s.2, s.3, s.4))
     | inr i ↦ (let s = found_in_arms arms p f i in (s.0, s.1, inr s.2, s.3, s.4))
   ]
 
   found_in_block : (b : CommandBlock) (p : Written) (f : Fault) → StandsIn f (second_block b p) → Found p (λ path. ThroughBlock b path) f
-  found_in_block (Commands cs after) p f h = found_in_list cs p f h
+  found_in_block (command_block cs after) p f h = found_in_list cs p f h
 
   found_in_else : (b : ElseBlock) (p : Written) (f : Fault) → StandsIn f (second_else b p) → Found p (λ path. ThroughElse b path) f
-  found_in_else NoElse p f h = absurd h
-  found_in_else (Else b) p f h = found_in_block b p f h
+  found_in_else no_else p f h = absurd h
+  found_in_else (with_else b) p f h = found_in_block b p f h
 
   found_in_list : (cs : CommandList) (p : Written) (f : Fault) → StandsIn f (second_list cs p) → Found p (λ path. ThroughList cs path) f
-  found_in_list NoCommand p f h = absurd h
-  found_in_list (AndCommand c cs) p f h = elim (stands_parts f (second c p) (second_list cs (past c p)) h) [
+  found_in_list no_command p f h = absurd h
+  found_in_list (and_command c cs) p f h = elim (stands_parts f (second c p) (second_list cs (past c p)) h) [
     | inl i ↦ (
         let s = found_in c p f i in
         let g = some_list cs in
@@ -138,7 +138,7 @@ none_if_not false f fs h = absurd h
 
 mutual
   found_from : (s : StateTree) (p : Written) (f : Fault) → StandsIn f (second_state s p) → Found p (λ path. FromState s path) f
-  found_from (StateOf place name kind body children) p f h =
+  found_from (state_node place name kind body children) p f h =
       elim (stands_parts f (second_block body p) (if falls_block body then second_states children (entering_block body p) else []) h) [
         | inl i ↦ (let s = found_in_block body p f i in (s.0, s.1, inl s.2, s.3, s.4))
         | inr i ↦ (
@@ -155,8 +155,8 @@ mutual
       ]
 
   found_from_any : (g : StateList) (p : Written) (f : Fault) → StandsIn f (second_states g p) → Found p (λ path. FromAny g path) f
-  found_from_any NoState p f h = absurd h
-  found_from_any (AndState s rest) p f h = elim (stands_parts f (second_state s p) (second_states rest p) h) [
+  found_from_any no_state p f h = absurd h
+  found_from_any (and_state s rest) p f h = elim (stands_parts f (second_state s p) (second_states rest p) h) [
     | inl i ↦ (let r = found_from s p f i in (r.0, r.1, inl r.2, r.3, r.4))
     | inr i ↦ (let r = found_from_any rest p f i in (r.0, r.1, inr r.2, r.3, r.4))
   ]
@@ -202,12 +202,12 @@ fault_at true place h = inl refl
 fault_at false place h = cc
 
 step_stands : (k : SimpleCommand) (p : Written) (m : List ℕ) → IsOfMemory k m → p m ≡ true → StandsIn (twice_at (place_of k)) (second_simple k p)
-step_stands (Assign target e) p m w h = absurd w
-step_stands (Write target index e) p m w h = fault_at (p target.name) target.place (ap p w ∙ h)
-step_stands (SetTag place target tag) p m w h = absurd w
-step_stands (SetCellTag place target index tag) p m w h = fault_at (p target.name) place (ap p w ∙ h)
-step_stands (Goto place target) p m w h = absurd w
-step_stands (Fall place) p m w h = absurd w
+step_stands (assign target e) p m w h = absurd w
+step_stands (write target index e) p m w h = fault_at (p target.name) target.place (ap p w ∙ h)
+step_stands (set_tag place target tag) p m w h = absurd w
+step_stands (set_cell_tag place target index tag) p m w h = fault_at (p target.name) place (ap p w ∙ h)
+step_stands (go_to place target) p m w h = absurd w
+step_stands (fall_to_child place) p m w h = absurd w
 
 -- a path of one command
 one_stands : (j k : SimpleCommand) (p : Written) (path : Path) → path ≡ j ∷ [] → Behind p path k → StandsIn (twice_at (place_of k)) (second_simple j p)
@@ -231,45 +231,45 @@ module _ (k : SimpleCommand) where
 
   mutual
     stands_in : (c : Command) (p : Written) (path : Path) → Through c path → Behind p path k → StandsIn (twice_at (place_of k)) (second c p)
-    stands_in (Do j) p path t h = one_stands j k p path t h
-    stands_in (Try j place b) p path (inl t) h =
+    stands_in (lone j) p path t h = one_stands j k p path t h
+    stands_in (try j place b) p path (inl t) h =
         stands_left (twice_at (place_of k)) (second_simple j p) (second_block b (past_simple j p)) (one_stands j k p path t h)
-    stands_in (Try j place b) p path (inr t) h =
+    stands_in (try j place b) p path (inr t) h =
         both_stand j k p t.0 (second_block b (past_simple j p)) (λ i. stands_in_block b (past_simple j p) t.0 t.1 i)
         (subst (λ (x : Path). Behind p x k) t.2 h)
-    stands_in (If place e b other) p path (inl t) h =
+    stands_in (if_else place e b other) p path (inl t) h =
         stands_left (twice_at (place_of k)) (second_block b p) (second_else other p) (stands_in_block b p path t h)
-    stands_in (If place e b other) p path (inr t) h =
+    stands_in (if_else place e b other) p path (inr t) h =
         stands_right (twice_at (place_of k)) (second_block b p) (second_else other p) (stands_in_else other p path t h)
-    stands_in (TryThen j place a b) p path (inl t) h =
+    stands_in (try_then j place a b) p path (inl t) h =
         stands_left (twice_at (place_of k)) (second_simple j p ++ second_block a (past_simple j p)) (second_block b (past_simple j p))
         (both_stand j k p t.0 (second_block a (past_simple j p)) (λ i. stands_in_block a (past_simple j p) t.0 t.1 i) (subst (λ (x : Path). Behind p x k) t.2 h))
-    stands_in (TryThen j place a b) p path (inr t) h =
+    stands_in (try_then j place a b) p path (inr t) h =
         let w = both_stand j k p t.0 (second_block b (past_simple j p)) (λ i. stands_in_block b (past_simple j p) t.0 t.1 i) (subst (λ (x : Path). Behind p x k) t.2 h) in
         elim (stands_parts (twice_at (place_of k)) (second_simple j p) (second_block b (past_simple j p)) w) [
           | inl x ↦ stands_left (twice_at (place_of k)) (second_simple j p ++ second_block a (past_simple j p)) (second_block b (past_simple j p))
               (stands_left (twice_at (place_of k)) (second_simple j p) (second_block a (past_simple j p)) x)
           | inr x ↦ stands_right (twice_at (place_of k)) (second_simple j p ++ second_block a (past_simple j p)) (second_block b (past_simple j p)) x
         ]
-    stands_in (Case place e arms) p path t h = stands_in_arms arms p path t h
+    stands_in (case_of place e arms) p path t h = stands_in_arms arms p path t h
 
     stands_in_arms : (arms : Arms) (p : Written) (path : Path) → ThroughArms arms path → Behind p path k → StandsIn (twice_at (place_of k)) (second_arms arms p)
-    stands_in_arms (Last b) p path t h = stands_in_block b p path t h
-    stands_in_arms (Arm constants b arms) p path (inl t) h =
+    stands_in_arms (last_arm b) p path t h = stands_in_block b p path t h
+    stands_in_arms (and_arm constants b arms) p path (inl t) h =
         stands_left (twice_at (place_of k)) (second_block b p) (second_arms arms p) (stands_in_block b p path t h)
-    stands_in_arms (Arm constants b arms) p path (inr t) h =
+    stands_in_arms (and_arm constants b arms) p path (inr t) h =
         stands_right (twice_at (place_of k)) (second_block b p) (second_arms arms p) (stands_in_arms arms p path t h)
 
     stands_in_block : (b : CommandBlock) (p : Written) (path : Path) → ThroughBlock b path → Behind p path k → StandsIn (twice_at (place_of k)) (second_block b p)
-    stands_in_block (Commands cs after) p path t h = stands_in_list cs p path t h
+    stands_in_block (command_block cs after) p path t h = stands_in_list cs p path t h
 
     stands_in_else : (b : ElseBlock) (p : Written) (path : Path) → ThroughElse b path → Behind p path k → StandsIn (twice_at (place_of k)) (second_else b p)
-    stands_in_else NoElse p path t h = subst (λ (x : Path). Behind p x k) t h
-    stands_in_else (Else b) p path t h = stands_in_block b p path t h
+    stands_in_else no_else p path t h = subst (λ (x : Path). Behind p x k) t h
+    stands_in_else (with_else b) p path t h = stands_in_block b p path t h
 
     stands_in_list : (cs : CommandList) (p : Written) (path : Path) → ThroughList cs path → Behind p path k → StandsIn (twice_at (place_of k)) (second_list cs p)
-    stands_in_list NoCommand p path t h = subst (λ (x : Path). Behind p x k) t h
-    stands_in_list (AndCommand c cs) p path t h = elim (behind_parts t.0 t.1 p k (subst (λ (x : Path). Behind p x k) t.4 h)) [
+    stands_in_list no_command p path t h = subst (λ (x : Path). Behind p x k) t h
+    stands_in_list (and_command c cs) p path t h = elim (behind_parts t.0 t.1 p k (subst (λ (x : Path). Behind p x k) t.4 h)) [
       | inl i ↦ stands_left (twice_at (place_of k)) (second c p) (second_list cs (past c p)) (stands_in c p t.0 t.2 i)
       | inr i ↦ stands_right (twice_at (place_of k)) (second c p) (second_list cs (past c p))
           (stands_in_list cs (past c p) t.1 t.3
@@ -282,10 +282,10 @@ module _ (k : SimpleCommand) where
 
   mutual
     stands_from : (s : StateTree) (p : Written) (path : Path) → FromState s path → Behind p path k → StandsIn (twice_at (place_of k)) (second_state s p)
-    stands_from (StateOf place name kind body children) p path (inl t) h =
+    stands_from (state_node place name kind body children) p path (inl t) h =
         stands_left (twice_at (place_of k)) (second_block body p) (if falls_block body then second_states children (entering_block body p) else [])
         (stands_in_block body p path t h)
-    stands_from (StateOf place name kind body children) p path (inr t) h = elim (behind_parts t.0 t.1 p k (subst (λ (x : Path). Behind p x k) t.4 h)) [
+    stands_from (state_node place name kind body children) p path (inr t) h = elim (behind_parts t.0 t.1 p k (subst (λ (x : Path). Behind p x k) t.4 h)) [
       | inl i ↦ (
           let on = onward_block body t.0 t.2 in
           stands_left (twice_at (place_of k)) (second_block body p) (if falls_block body then second_states children (entering_block body p) else [])
@@ -297,10 +297,10 @@ module _ (k : SimpleCommand) where
     ]
 
     stands_from_any : (g : StateList) (p : Written) (path : Path) → FromAny g path → Behind p path k → StandsIn (twice_at (place_of k)) (second_states g p)
-    stands_from_any NoState p path t h = absurd t
-    stands_from_any (AndState s rest) p path (inl t) h =
+    stands_from_any no_state p path t h = absurd t
+    stands_from_any (and_state s rest) p path (inl t) h =
         stands_left (twice_at (place_of k)) (second_state s p) (second_states rest p) (stands_from s p path t h)
-    stands_from_any (AndState s rest) p path (inr t) h =
+    stands_from_any (and_state s rest) p path (inr t) h =
         stands_right (twice_at (place_of k)) (second_state s p) (second_states rest p) (stands_from_any rest p path t h)
 
 -- a command of the memory, and what is on either side of it

@@ -1,13 +1,13 @@
 -- Whether some state of a list passes a test, from a place on.
 use Rattle.std.proofs.Common.{◌≡◌, ℕ, zero, suc, ◌+◌, ◌<◌, ◌≤◌, List, [], ◌∷◌, ◌||◌, Bool, true, false, length, get_or, drop, refl, sym, ap, ◌∙◌, arith, add-one, bytes_eq}
 use Rattle.sap_tree.specs.declared.syntax.State.{State, out-State}
-use Rattle.sap_tree.specs.Syntax.{StateTree, StateList, NoState, AndState}
+use Rattle.sap_tree.specs.Syntax.{StateTree, StateList, no_state, and_state}
 use Rattle.sap_tree.specs.Trees.{state_of, states_of}
 use Rattle.sap_tree.proofs.Views.{state_of-out}
 use Rattle.sap_shape.specs.Sites.{any_enforced, is_enforced_kind, kind_of_state}
 use Rattle.sap_shape.specs.ShapeFaults.{is_among, name_of, is_in_group, is_within, is_leaf}
 
-module _ (test : StateTree → Bool) (any : StateList → Bool) (none : any NoState ≡ false) (more : (s : StateTree) (rest : StateList) → any (AndState s rest) ≡ (test s || any rest)) where
+module _ (test : StateTree → Bool) (any : StateList → Bool) (none : any no_state ≡ false) (more : (s : StateTree) (rest : StateList) → any (and_state s rest) ≡ (test s || any rest)) where
   any_drop : (ss : List State) (n : ℕ) (d : State) → n < length ss → any (states_of (drop n ss)) ≡ (test (state_of (get_or ss n d)) || any (states_of (drop (n + 1) ss)))
   any_drop [] n d h = absurd (omega arith)
   any_drop (s ∷ ss) zero d h = more (state_of s) (states_of ss)

@@ -5,7 +5,7 @@ use Rattle.sap_text.specs.declared.place.Place.{Place}
 use Rattle.sap_tree.specs.declared.syntax.Arm.{Arm}
 use Rattle.sap_tree.specs.declared.syntax.Cmd.{Cmd}
 use Rattle.sap_tree.specs.declared.syntax.Block.{Block}
-use Rattle.sap_tree.specs.Syntax.{Expression, Command, If, ElseBlock}
+use Rattle.sap_tree.specs.Syntax.{Expression, Command, if_else, ElseBlock}
 use Rattle.sap_tree.specs.Trees.{command_of, block_of, arm_block_of, arms_of, else_of}
 use Rattle.sap_names.specs.declared.fault.Fault.{Fault}
 use Rattle.sap_names.specs.declared.kind.Code.TheVariants.{E10}
@@ -74,7 +74,7 @@ pub closing_last : (cs : List Cmd) (d : Cmd) (after : Place) → 1 ≤ length cs
 closing_last cs d after h e = closing_at cs (length cs - 1) d after (omega arith) e
 
 pub closing_if : (c : Command) (x : Expression) (place after : Place) (one : Block) (list : List Cmd) (other : ElseBlock)
-    → c ≡ If place x (block_of one) other → list ≡ one.commands.items
+    → c ≡ if_else place x (block_of one) other → list ≡ one.commands.items
     → last_faults c after ≡ closing_list list one.after ++ closing_else_faults other place
 unfolding closing_list
 closing_if c x place after one list other h e =

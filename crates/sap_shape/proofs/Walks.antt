@@ -5,7 +5,7 @@ use Rattle.sap_tree.specs.declared.syntax.Arm.{Arm}
 use Rattle.sap_tree.specs.declared.syntax.Cmd.{Cmd}
 use Rattle.sap_tree.specs.declared.syntax.Block.{Block}
 use Rattle.sap_text.specs.declared.place.Place.{Place}
-use Rattle.sap_tree.specs.Syntax.{Expression, Command, Case}
+use Rattle.sap_tree.specs.Syntax.{Expression, Command, case_of}
 use Rattle.sap_tree.specs.Trees.{command_of, block_of, arm_block_of, arms_of, else_of}
 use Rattle.sap_names.specs.declared.fault.Fault.{Fault}
 use Rattle.sap_names.specs.Best.{best_of}
@@ -194,7 +194,7 @@ second_arms-of (arm ∷ arms) last p =
 
 -- a `case`, whose blocks all begin at p
 
-module _ (c : Command) (place : Place) (e : Expression) (arms xs : List Arm) (last : Block) (cs : List Cmd) (p : Written) (is : c ≡ Case place e (arms_of arms (block_of last)))
+module _ (c : Command) (place : Place) (e : Expression) (arms xs : List Arm) (last : Block) (cs : List Cmd) (p : Written) (is : c ≡ case_of place e (arms_of arms (block_of last)))
     (same : xs ≡ arms) (end : cs ≡ last.commands.items) where
   pub case_past : (none past_all here new : Written) → none ≡ fresh → past_all ≡ either none (past_arms xs p) → here ≡ past_list cs p → new ≡ either past_all here → new ≡ past c p
   case_past none past_all here new n a h j =

@@ -6,38 +6,38 @@ use Rattle.sap_tree.specs.declared.syntax.State.{State, out-State}
 use Rattle.sap_tree.specs.Trees.{command_of, commands_of, arm_block_of, arms_before, state_of, states_of}
 use Rattle.sap_tree.proofs.Views.{state_of-out}
 use Rattle.sap_tree.specs.Syntax as tree
-use Rattle.sap_tree.specs.Syntax.{Command, Do, Try, If, TryThen, Case, Arms, Last, CommandBlock, Commands, ElseBlock, NoElse, Else, CommandList, NoCommand, AndCommand, StateTree, StateOf, StateList, NoState, AndState}
+use Rattle.sap_tree.specs.Syntax.{Command, lone, try, if_else, try_then, case_of, Arms, last_arm, CommandBlock, command_block, ElseBlock, no_else, with_else, CommandList, no_command, and_command, StateTree, state_node, StateList, no_state, and_state}
 
 abbrev mutual
   pub command_weight : Command → ℕ
-  command_weight (Do k) = 1
-  command_weight (Try k place handler) = block_weight handler + 3
-  command_weight (If place x yes_block no_block) = block_weight yes_block + else_weight no_block + 2
-  command_weight (TryThen k place accepted refused) = block_weight accepted + block_weight refused + 2
-  command_weight (Case place x arms) = arms_weight arms + 2
+  command_weight (lone k) = 1
+  command_weight (try k place handler) = block_weight handler + 3
+  command_weight (if_else place x yes_block no_block) = block_weight yes_block + else_weight no_block + 2
+  command_weight (try_then k place accepted refused) = block_weight accepted + block_weight refused + 2
+  command_weight (case_of place x arms) = arms_weight arms + 2
 
   pub arms_weight : Arms → ℕ
-  arms_weight (Last b) = block_weight b
-  arms_weight (tree.Arm constants b arms) = block_weight b + arms_weight arms + 1
+  arms_weight (last_arm b) = block_weight b
+  arms_weight (tree.and_arm constants b arms) = block_weight b + arms_weight arms + 1
 
   pub block_weight : CommandBlock → ℕ
-  block_weight (Commands cs after) = commands_weight cs
+  block_weight (command_block cs after) = commands_weight cs
 
   pub else_weight : ElseBlock → ℕ
-  else_weight NoElse = 1
-  else_weight (Else b) = block_weight b
+  else_weight no_else = 1
+  else_weight (with_else b) = block_weight b
 
   pub commands_weight : CommandList → ℕ
-  commands_weight NoCommand = 1
-  commands_weight (AndCommand c cs) = command_weight c + commands_weight cs + 1
+  commands_weight no_command = 1
+  commands_weight (and_command c cs) = command_weight c + commands_weight cs + 1
 
 abbrev mutual
   pub state_weight : StateTree → ℕ
-  state_weight (StateOf place name kind body children) = states_weight children + 1
+  state_weight (state_node place name kind body children) = states_weight children + 1
 
   pub states_weight : StateList → ℕ
-  states_weight NoState = 1
-  states_weight (AndState s rest) = state_weight s + states_weight rest + 1
+  states_weight no_state = 1
+  states_weight (and_state s rest) = state_weight s + states_weight rest + 1
 
 -- of the arms that code has in a list
 abbrev pub arm_list_weight : List Arm → ℕ

@@ -1,26 +1,26 @@
 -- E10: a body must close. A transfer is a `goto` or a `fall`; it stands last, and only there.
 use Rattle.std.specs.Prelude.{List, [], ◌++◌, Bool, true, false, if◌then◌else◌}
 use Rattle.sap_text.specs.declared.place.Place.{Place}
-use Rattle.sap_tree.specs.Syntax.{SimpleCommand, Assign, Write, SetTag, SetCellTag, Goto, Fall, Command, Do, Try, If, TryThen, Case, Arms, Last, Arm, CommandBlock, Commands, ElseBlock, NoElse, Else, CommandList, NoCommand, AndCommand}
+use Rattle.sap_tree.specs.Syntax.{SimpleCommand, assign, write, set_tag, set_cell_tag, go_to, fall_to_child, Command, lone, try, if_else, try_then, case_of, Arms, last_arm, and_arm, CommandBlock, command_block, ElseBlock, no_else, with_else, CommandList, no_command, and_command}
 use Rattle.sap_names.specs.declared.fault.Fault.{Fault}
 use Rattle.sap_names.specs.declared.kind.Code.TheVariants.{E10}
 use Rattle.sap_names.specs.NameFaults.{fault_if}
 
 abbrev pub transfer_faults : SimpleCommand → List Fault
-transfer_faults (Assign target e) = []
-transfer_faults (Write target index e) = []
-transfer_faults (SetTag place target tag) = []
-transfer_faults (SetCellTag place target index tag) = []
-transfer_faults (Goto place target) = fault_if true E10 place
-transfer_faults (Fall place) = fault_if true E10 place
+transfer_faults (assign target e) = []
+transfer_faults (write target index e) = []
+transfer_faults (set_tag place target tag) = []
+transfer_faults (set_cell_tag place target index tag) = []
+transfer_faults (go_to place target) = fault_if true E10 place
+transfer_faults (fall_to_child place) = fault_if true E10 place
 
 abbrev pub is_transfer : SimpleCommand → Bool
-is_transfer (Assign target e) = false
-is_transfer (Write target index e) = false
-is_transfer (SetTag place target tag) = false
-is_transfer (SetCellTag place target index tag) = false
-is_transfer (Goto place target) = true
-is_transfer (Fall place) = true
+is_transfer (assign target e) = false
+is_transfer (write target index e) = false
+is_transfer (set_tag place target tag) = false
+is_transfer (set_cell_tag place target index tag) = false
+is_transfer (go_to place target) = true
+is_transfer (fall_to_child place) = true
 
 -- of a `then`: where its command is a transfer, E10 stands at the `then`, and the command has no other; else it is the blocks that count
 abbrev pub then_faults : SimpleCommand → (place : Place) → (blocks : List Fault) → List Fault
@@ -29,72 +29,72 @@ then_faults k place blocks = if is_transfer k then fault_if true E10 place else 
 -- a command that must be open: no transfer in it
 abbrev mutual
   pub open_faults : Command → List Fault
-  open_faults (Do k) = transfer_faults k
-  open_faults (Try k place handler) = transfer_faults k ++ open_block_faults handler
-  open_faults (If place condition then_block else_block) = open_block_faults then_block ++ open_else_faults else_block
-  open_faults (TryThen k place accepted refused) = then_faults k place (open_block_faults accepted ++ open_block_faults refused)
-  open_faults (Case place e arms) = open_arms_faults arms
+  open_faults (lone k) = transfer_faults k
+  open_faults (try k place handler) = transfer_faults k ++ open_block_faults handler
+  open_faults (if_else place condition then_block else_block) = open_block_faults then_block ++ open_else_faults else_block
+  open_faults (try_then k place accepted refused) = then_faults k place (open_block_faults accepted ++ open_block_faults refused)
+  open_faults (case_of place e arms) = open_arms_faults arms
 
   pub open_block_faults : CommandBlock → List Fault
-  open_block_faults (Commands cs after) = open_list_faults cs
+  open_block_faults (command_block cs after) = open_list_faults cs
 
   pub open_else_faults : ElseBlock → List Fault
-  open_else_faults NoElse = []
-  open_else_faults (Else b) = open_block_faults b
+  open_else_faults no_else = []
+  open_else_faults (with_else b) = open_block_faults b
 
   pub open_arms_faults : Arms → List Fault
-  open_arms_faults (Last b) = open_block_faults b
-  open_arms_faults (Arm constants b arms) = open_block_faults b ++ open_arms_faults arms
+  open_arms_faults (last_arm b) = open_block_faults b
+  open_arms_faults (and_arm constants b arms) = open_block_faults b ++ open_arms_faults arms
 
   pub open_list_faults : CommandList → List Fault
-  open_list_faults NoCommand = []
-  open_list_faults (AndCommand c cs) = open_faults c ++ open_list_faults cs
+  open_list_faults no_command = []
+  open_list_faults (and_command c cs) = open_faults c ++ open_list_faults cs
 
 -- the last command of a list that must close; `after` is the place of the token after the list
 abbrev pub last_simple_faults : SimpleCommand → (after : Place) → List Fault
-last_simple_faults (Assign target e) after = fault_if true E10 after
-last_simple_faults (Write target index e) after = fault_if true E10 after
-last_simple_faults (SetTag place target tag) after = fault_if true E10 after
-last_simple_faults (SetCellTag place target index tag) after = fault_if true E10 after
-last_simple_faults (Goto place target) after = []
-last_simple_faults (Fall place) after = []
+last_simple_faults (assign target e) after = fault_if true E10 after
+last_simple_faults (write target index e) after = fault_if true E10 after
+last_simple_faults (set_tag place target tag) after = fault_if true E10 after
+last_simple_faults (set_cell_tag place target index tag) after = fault_if true E10 after
+last_simple_faults (go_to place target) after = []
+last_simple_faults (fall_to_child place) after = []
 
 -- the handler of the last command: that of a transfer must close, another must be open
 abbrev pub last_handler_faults : SimpleCommand → (opened closing : List Fault) → List Fault
-last_handler_faults (Assign target e) opened closing = opened
-last_handler_faults (Write target index e) opened closing = opened
-last_handler_faults (SetTag place target tag) opened closing = opened
-last_handler_faults (SetCellTag place target index tag) opened closing = opened
-last_handler_faults (Goto place target) opened closing = closing
-last_handler_faults (Fall place) opened closing = closing
+last_handler_faults (assign target e) opened closing = opened
+last_handler_faults (write target index e) opened closing = opened
+last_handler_faults (set_tag place target tag) opened closing = opened
+last_handler_faults (set_cell_tag place target index tag) opened closing = opened
+last_handler_faults (go_to place target) opened closing = closing
+last_handler_faults (fall_to_child place) opened closing = closing
 
 abbrev pub is_end : CommandList → Bool
-is_end NoCommand = true
-is_end (AndCommand c cs) = false
+is_end no_command = true
+is_end (and_command c cs) = false
 
 abbrev mutual
   pub last_faults : Command → (after : Place) → List Fault
-  last_faults (Do k) after = last_simple_faults k after
-  last_faults (Try k place handler) after =
+  last_faults (lone k) after = last_simple_faults k after
+  last_faults (try k place handler) after =
       last_simple_faults k after ++ last_handler_faults k (open_block_faults handler) (closing_faults handler)
-  last_faults (If place condition then_block else_block) after = closing_faults then_block ++ closing_else_faults else_block place
-  last_faults (TryThen k place accepted refused) after = then_faults k place (closing_faults accepted ++ closing_faults refused)
-  last_faults (Case place e arms) after = closing_arms_faults arms
+  last_faults (if_else place condition then_block else_block) after = closing_faults then_block ++ closing_else_faults else_block place
+  last_faults (try_then k place accepted refused) after = then_faults k place (closing_faults accepted ++ closing_faults refused)
+  last_faults (case_of place e arms) after = closing_arms_faults arms
 
   -- without `else` the fault is at the `if`
   pub closing_else_faults : ElseBlock → Place → List Fault
-  closing_else_faults NoElse place = fault_if true E10 place
-  closing_else_faults (Else b) place = closing_faults b
+  closing_else_faults no_else place = fault_if true E10 place
+  closing_else_faults (with_else b) place = closing_faults b
 
   pub closing_arms_faults : Arms → List Fault
-  closing_arms_faults (Last b) = closing_faults b
-  closing_arms_faults (Arm constants b arms) = closing_faults b ++ closing_arms_faults arms
+  closing_arms_faults (last_arm b) = closing_faults b
+  closing_arms_faults (and_arm constants b arms) = closing_faults b ++ closing_arms_faults arms
 
   -- a list that must close: every command but the last must be open
   pub closing_faults : CommandBlock → List Fault
-  closing_faults (Commands cs after) = closing_list_faults cs after
+  closing_faults (command_block cs after) = closing_list_faults cs after
 
   pub closing_list_faults : CommandList → (after : Place) → List Fault
-  closing_list_faults NoCommand after = fault_if true E10 after
-  closing_list_faults (AndCommand c cs) after =
+  closing_list_faults no_command after = fault_if true E10 after
+  closing_list_faults (and_command c cs) after =
       if is_end cs then last_faults c after else (open_faults c ++ closing_list_faults cs after)

@@ -6,7 +6,7 @@ use Rattle.sap_tree.specs.declared.syntax.Kind.{Kind}
 use Rattle.sap_tree.specs.declared.syntax.Kind.TheVariants.{Dynamic, Enforced}
 use Rattle.sap_tree.specs.declared.syntax.Decl.TheVariants.{Memory}
 use Rattle.sap_tree.specs.declared.version.Version.TheVariants.{One}
-use Rattle.sap_tree.specs.Syntax.{Number, SimpleCommand, Assign, Write, SetTag, SetCellTag, Goto, Fall, Command, Do, Try, If, TryThen, Case, Arms, Last, Arm, CommandBlock, Commands, ElseBlock, NoElse, Else, CommandList, NoCommand, AndCommand, StateTree, StateOf, StateList, NoState, AndState, DesignTree}
+use Rattle.sap_tree.specs.Syntax.{literal, SimpleCommand, assign, write, set_tag, set_cell_tag, go_to, fall_to_child, Command, lone, try, if_else, try_then, case_of, Arms, last_arm, and_arm, CommandBlock, command_block, ElseBlock, no_else, with_else, CommandList, no_command, and_command, StateTree, state_node, StateList, no_state, and_state, DesignTree}
 use Rattle.sap_names.specs.declared.fault.Fault.{Fault}
 use Rattle.sap_names.specs.declared.kind.Code.TheVariants.{E14}
 
@@ -18,76 +18,76 @@ Path = List SimpleCommand
 -- `k then { a } otherwise { b }` k and then a, or k and then b; for a `case` a path through any one of its blocks.
 abbrev mutual
   pub Through : Command → Path → Type 0
-  Through (Do k) path = path ≡ k ∷ []
-  Through (Try k place handler) path = (path ≡ k ∷ []) ⊎ ((handled : Path) × ThroughBlock handler handled × (path ≡ k ∷ handled))
-  Through (If place condition then_block else_block) path = ThroughBlock then_block path ⊎ ThroughElse else_block path
-  Through (TryThen k place accepted refused) path =
+  Through (lone k) path = path ≡ k ∷ []
+  Through (try k place handler) path = (path ≡ k ∷ []) ⊎ ((handled : Path) × ThroughBlock handler handled × (path ≡ k ∷ handled))
+  Through (if_else place condition then_block else_block) path = ThroughBlock then_block path ⊎ ThroughElse else_block path
+  Through (try_then k place accepted refused) path =
       ((behind : Path) × ThroughBlock accepted behind × (path ≡ k ∷ behind)) ⊎ ((behind : Path) × ThroughBlock refused behind × (path ≡ k ∷ behind))
-  Through (Case place e arms) path = ThroughArms arms path
+  Through (case_of place e arms) path = ThroughArms arms path
 
   pub ThroughBlock : CommandBlock → Path → Type 0
-  ThroughBlock (Commands cs after) path = ThroughList cs path
+  ThroughBlock (command_block cs after) path = ThroughList cs path
 
   pub ThroughElse : ElseBlock → Path → Type 0
-  ThroughElse NoElse path = path ≡ []
-  ThroughElse (Else b) path = ThroughBlock b path
+  ThroughElse no_else path = path ≡ []
+  ThroughElse (with_else b) path = ThroughBlock b path
 
   pub ThroughArms : Arms → Path → Type 0
-  ThroughArms (Last b) path = ThroughBlock b path
-  ThroughArms (Arm constants b arms) path = ThroughBlock b path ⊎ ThroughArms arms path
+  ThroughArms (last_arm b) path = ThroughBlock b path
+  ThroughArms (and_arm constants b arms) path = ThroughBlock b path ⊎ ThroughArms arms path
 
   -- one command after another
   pub ThroughList : CommandList → Path → Type 0
-  ThroughList NoCommand path = path ≡ []
-  ThroughList (AndCommand c cs) path = (first : Path) × (rest : Path) × Through c first × ThroughList cs rest × (path ≡ first ++ rest)
+  ThroughList no_command path = path ≡ []
+  ThroughList (and_command c cs) path = (first : Path) × (rest : Path) × Through c first × ThroughList cs rest × (path ≡ first ++ rest)
 
 abbrev pub IsFall : SimpleCommand → Type 0
-IsFall (Assign target e) = ⊥
-IsFall (Write target index e) = ⊥
-IsFall (SetTag place target tag) = ⊥
-IsFall (SetCellTag place target index tag) = ⊥
-IsFall (Goto place target) = ⊥
-IsFall (Fall place) = Unit {0}
+IsFall (assign target e) = ⊥
+IsFall (write target index e) = ⊥
+IsFall (set_tag place target tag) = ⊥
+IsFall (set_cell_tag place target index tag) = ⊥
+IsFall (go_to place target) = ⊥
+IsFall (fall_to_child place) = Unit {0}
 
 -- Up to a `fall` that enters a child. In `fall otherwise { h }` it is this one, or it is refused, has entered no child, and the path goes
 -- on up to a `fall` in h. With `then` it goes on up to a `fall` in either block.
 abbrev mutual
   pub UpToFall : Command → Path → Type 0
-  UpToFall (Do k) path = IsFall k × (path ≡ k ∷ [])
-  UpToFall (Try k place handler) path =
+  UpToFall (lone k) path = IsFall k × (path ≡ k ∷ [])
+  UpToFall (try k place handler) path =
       (IsFall k × (path ≡ k ∷ [])) ⊎ ((handled : Path) × UpToFallBlock handler handled × (path ≡ k ∷ handled))
-  UpToFall (If place condition then_block else_block) path = UpToFallBlock then_block path ⊎ UpToFallElse else_block path
-  UpToFall (TryThen k place accepted refused) path =
+  UpToFall (if_else place condition then_block else_block) path = UpToFallBlock then_block path ⊎ UpToFallElse else_block path
+  UpToFall (try_then k place accepted refused) path =
       (IsFall k × (path ≡ k ∷ []))
       ⊎ (((behind : Path) × UpToFallBlock accepted behind × (path ≡ k ∷ behind)) ⊎ ((behind : Path) × UpToFallBlock refused behind × (path ≡ k ∷ behind)))
-  UpToFall (Case place e arms) path = UpToFallArms arms path
+  UpToFall (case_of place e arms) path = UpToFallArms arms path
 
   pub UpToFallBlock : CommandBlock → Path → Type 0
-  UpToFallBlock (Commands cs after) path = UpToFallList cs path
+  UpToFallBlock (command_block cs after) path = UpToFallList cs path
 
   pub UpToFallElse : ElseBlock → Path → Type 0
-  UpToFallElse NoElse path = ⊥
-  UpToFallElse (Else b) path = UpToFallBlock b path
+  UpToFallElse no_else path = ⊥
+  UpToFallElse (with_else b) path = UpToFallBlock b path
 
   pub UpToFallArms : Arms → Path → Type 0
-  UpToFallArms (Last b) path = UpToFallBlock b path
-  UpToFallArms (Arm constants b arms) path = UpToFallBlock b path ⊎ UpToFallArms arms path
+  UpToFallArms (last_arm b) path = UpToFallBlock b path
+  UpToFallArms (and_arm constants b arms) path = UpToFallBlock b path ⊎ UpToFallArms arms path
 
   -- in the first command, or through it and then in one of the others
   pub UpToFallList : CommandList → Path → Type 0
-  UpToFallList NoCommand path = ⊥
-  UpToFallList (AndCommand c cs) path =
+  UpToFallList no_command path = ⊥
+  UpToFallList (and_command c cs) path =
       UpToFall c path ⊎ ((first : Path) × (rest : Path) × Through c first × UpToFallList cs rest × (path ≡ first ++ rest))
 
 abbrev mutual
   -- From a state on: through its body, or up to a `fall` in it and then from any of its children on.
   pub FromState : StateTree → Path → Type 0
-  FromState (StateOf place name kind body children) path =
+  FromState (state_node place name kind body children) path =
       ThroughBlock body path ⊎ ((above : Path) × (below : Path) × UpToFallBlock body above × FromAny children below × (path ≡ above ++ below))
 
   pub FromAny : StateList → Path → Type 0
-  FromAny NoState path = ⊥
-  FromAny (AndState s rest) path = FromState s path ⊎ FromAny rest path
+  FromAny no_state path = ⊥
+  FromAny (and_state s rest) path = FromState s path ⊎ FromAny rest path
 
 -- A path of a design begins with any top-level state.
 abbrev pub IsPath : DesignTree → Path → Type 0
@@ -95,12 +95,12 @@ IsPath d path = FromAny d.states path
 
 -- a write or a `setTag` of a cell of this memory
 abbrev pub IsOfMemory : SimpleCommand → List ℕ → Type 0
-IsOfMemory (Assign target e) memory = ⊥
-IsOfMemory (Write target index e) memory = target.name ≡ memory
-IsOfMemory (SetTag place target tag) memory = ⊥
-IsOfMemory (SetCellTag place target index tag) memory = target.name ≡ memory
-IsOfMemory (Goto place target) memory = ⊥
-IsOfMemory (Fall place) memory = ⊥
+IsOfMemory (assign target e) memory = ⊥
+IsOfMemory (write target index e) memory = target.name ≡ memory
+IsOfMemory (set_tag place target tag) memory = ⊥
+IsOfMemory (set_cell_tag place target index tag) memory = target.name ≡ memory
+IsOfMemory (go_to place target) memory = ⊥
+IsOfMemory (fall_to_child place) memory = ⊥
 
 -- Some path comes to the command `again` behind another one of the same memory, `first`.
 pub record WritesAgain (d : DesignTree) (again : SimpleCommand) : Type 0 where
@@ -115,12 +115,12 @@ pub record WritesAgain (d : DesignTree) (again : SimpleCommand) : Type 0 where
 
 -- the place of a command's first token
 abbrev pub place_of : SimpleCommand → Place
-place_of (Assign target e) = target.place
-place_of (Write target index e) = target.place
-place_of (SetTag place target tag) = place
-place_of (SetCellTag place target index tag) = place
-place_of (Goto place target) = place
-place_of (Fall place) = place
+place_of (assign target e) = target.place
+place_of (write target index e) = target.place
+place_of (set_tag place target tag) = place
+place_of (set_cell_tag place target index tag) = place
+place_of (go_to place target) = place
+place_of (fall_to_child place) = place
 
 abbrev pub twice_at : Place → Fault
 twice_at p = record { code = E14; place = p }
@@ -140,10 +140,10 @@ PathFault d f = (again : SimpleCommand) × WritesAgain d again × (f ≡ twice_a
 
 -- m[index] := value
 abbrev pub put : (line column index value : ℕ) → SimpleCommand
-put l c index value = Write (mention (on l c) (codes "m")) (Number (spot (on l (c + 2))) index) (Number (spot (on l (c + 8))) value)
+put l c index value = write (mention (on l c) (codes "m")) (literal (spot (on l (c + 2))) index) (literal (spot (on l (c + 8))) value)
 
 abbrev pub goto : (line column : ℕ) → (target : List ℕ) → SimpleCommand
-goto l c target = Goto (on l c) (mention (on l (c + 5)) target)
+goto l c target = go_to (on l c) (mention (on l (c + 5)) target)
 
 abbrev pub low : Place → Kind
 low p = Enforced (mention p (codes "low")) None
@@ -152,20 +152,20 @@ abbrev pub two_states : (parent child : CommandBlock) → DesignTree
 two_states parent child = record {
   version = One;
   declarations = Memory (on 1 1) (mention (on 1 5) (codes "m")) (numeral_at (on 1 9) 8) (numeral_at (on 1 11) 4) (Dynamic (on 1 14)) ∷ [];
-  states = AndState (StateOf (on 2 1) (mention (on 2 7) (codes "P")) (low (on 2 18)) parent
-      (AndState (StateOf (on 4 1) (mention (on 4 7) (codes "C")) (low (on 4 18)) child NoState) NoState)) NoState;
+  states = and_state (state_node (on 2 1) (mention (on 2 7) (codes "P")) (low (on 2 18)) parent
+      (and_state (state_node (on 4 1) (mention (on 4 7) (codes "C")) (low (on 4 18)) child no_state) no_state)) no_state;
 }
 
 abbrev pub without_fall : DesignTree
 without_fall = two_states
-    (Commands (AndCommand (Do (goto 3 1 (codes "P"))) NoCommand) (on 4 1))
-    (Commands (AndCommand (Do (put 4 24 0 1)) (AndCommand (Do (put 4 35 1 2)) (AndCommand (Do (goto 4 46 (codes "C"))) NoCommand))) (on 4 54))
+    (command_block (and_command (lone (goto 3 1 (codes "P"))) no_command) (on 4 1))
+    (command_block (and_command (lone (put 4 24 0 1)) (and_command (lone (put 4 35 1 2)) (and_command (lone (goto 4 46 (codes "C"))) no_command))) (on 4 54))
 
 abbrev pub with_handler : DesignTree
 with_handler = two_states
-    (Commands (AndCommand (Do (put 3 1 0 1)) (AndCommand (Try (Fall (on 3 12)) (on 3 17)
-    (Commands (AndCommand (Do (put 3 29 1 2)) (AndCommand (Do (goto 3 40 (codes "P"))) NoCommand)) (on 3 48))) NoCommand)) (on 4 1))
-    (Commands (AndCommand (Do (goto 4 24 (codes "C"))) NoCommand) (on 4 32))
+    (command_block (and_command (lone (put 3 1 0 1)) (and_command (try (fall_to_child (on 3 12)) (on 3 17)
+    (command_block (and_command (lone (put 3 29 1 2)) (and_command (lone (goto 3 40 (codes "P"))) no_command)) (on 3 48))) no_command)) (on 4 1))
+    (command_block (and_command (lone (goto 4 24 (codes "C"))) no_command) (on 4 32))
 
 -- In the first no path enters C, so E14 stands nowhere.
 abbrev pub NoneWithoutFall : Type 0

@@ -1,7 +1,7 @@
 -- The faults of shape, E10 to E17: each sentence once, over the tree of a design without faults of names and widths.
 use Rattle.std.specs.Prelude.{◌⊎◌, ℕ, List, [], ◌∷◌, ◌++◌, Bool, true, false, not, ◌||◌, if◌then◌else◌, bytes_eq}
 use Rattle.sap_text.specs.declared.place.Place.{Place}
-use Rattle.sap_tree.specs.Syntax.{SimpleCommand, Assign, Write, SetTag, SetCellTag, Goto, Fall, Command, Do, Try, If, TryThen, Case, Arms, Last, Arm, CommandBlock, Commands, ElseBlock, NoElse, Else, CommandList, NoCommand, AndCommand, StateTree, StateOf, StateList, NoState, AndState, DesignTree}
+use Rattle.sap_tree.specs.Syntax.{SimpleCommand, assign, write, set_tag, set_cell_tag, go_to, fall_to_child, Command, lone, try, if_else, try_then, case_of, Arms, last_arm, and_arm, CommandBlock, command_block, ElseBlock, no_else, with_else, CommandList, no_command, and_command, StateTree, state_node, StateList, no_state, and_state, DesignTree}
 use Rattle.sap_tree.specs.Touches.{Home, home_of}
 use Rattle.sap_names.specs.declared.fault.Fault.{Fault}
 use Rattle.sap_names.specs.declared.kind.Code.TheVariants.{E11, E12, E15, E16, E17}
@@ -20,28 +20,28 @@ pub record Body : Type 0 where
   pub above : List (List ℕ)
 
 abbrev pub name_of : StateTree → List ℕ
-name_of (StateOf place name kind body children) = name.name
+name_of (state_node place name kind body children) = name.name
 
 abbrev pub is_among : StateList → List ℕ → Bool
-is_among NoState name = false
-is_among (AndState s rest) name = bytes_eq (name_of s) name || is_among rest name
+is_among no_state name = false
+is_among (and_state s rest) name = bytes_eq (name_of s) name || is_among rest name
 
 -- in this state or below it
 abbrev mutual
   pub is_within : StateTree → List ℕ → Bool
-  is_within (StateOf place own kind body children) name = bytes_eq own.name name || is_in_group children name
+  is_within (state_node place own kind body children) name = bytes_eq own.name name || is_in_group children name
 
   pub is_in_group : StateList → List ℕ → Bool
-  is_in_group NoState name = false
-  is_in_group (AndState s rest) name = is_within s name || is_in_group rest name
+  is_in_group no_state name = false
+  is_in_group (and_state s rest) name = is_within s name || is_in_group rest name
 
 abbrev pub is_in : List (List ℕ) → List ℕ → Bool
 is_in [] name = false
 is_in (n ∷ ns) name = bytes_eq n name || is_in ns name
 
 abbrev pub is_leaf : StateList → Bool
-is_leaf NoState = true
-is_leaf (AndState s rest) = false
+is_leaf no_state = true
+is_leaf (and_state s rest) = false
 
 -- the state of a body, an ancestor of it, or a descendant
 abbrev pub is_comparable : Body → List ℕ → Bool
@@ -49,13 +49,13 @@ is_comparable at name = bytes_eq at.home.name name || is_in at.above name || is_
 
 -- E11 a target of a `goto` in another group; E12 a `fall` in a leaf; E16 a `setTag` of a dynamic entity; E17 a `setTag` of a comparable state
 abbrev pub simple_shape : List Entity → Body → SimpleCommand → List Fault
-simple_shape es at (Assign target e) = []
-simple_shape es at (Write target index e) = []
-simple_shape es at (SetTag place target tag) =
+simple_shape es at (assign target e) = []
+simple_shape es at (write target index e) = []
+simple_shape es at (set_tag place target tag) =
     fault_if (is_dynamic es target.name) E16 target.place ++ fault_if (is_comparable at target.name) E17 target.place
-simple_shape es at (SetCellTag place target index tag) = fault_if (is_dynamic es target.name) E16 target.place
-simple_shape es at (Goto place target) = fault_if (not (is_among at.group target.name)) E11 target.place
-simple_shape es at (Fall place) = fault_if (is_leaf at.home.children) E12 place
+simple_shape es at (set_cell_tag place target index tag) = fault_if (is_dynamic es target.name) E16 target.place
+simple_shape es at (go_to place target) = fault_if (not (is_among at.group target.name)) E11 target.place
+simple_shape es at (fall_to_child place) = fault_if (is_leaf at.home.children) E12 place
 
 -- A command with `then`: E15 stands at the `then` where the command can't be refused. Of a transfer nothing stands here: it has E10 at its `then`.
 abbrev pub then_shape : List Entity → Body → SimpleCommand → Place → List Fault
@@ -63,40 +63,40 @@ then_shape es at k place = if is_transfer k then [] else (simple_shape es at k +
 
 abbrev mutual
   pub command_shape : List Entity → Body → Command → List Fault
-  command_shape es at (Do k) = simple_shape es at k
+  command_shape es at (lone k) = simple_shape es at k
   -- E15: a handler that can never run
-  command_shape es at (Try k place handler) =
+  command_shape es at (try k place handler) =
       simple_shape es at k ++ fault_if (not (is_site es at.home.kind at.home.children k)) E15 place ++ block_shape es at handler
-  command_shape es at (If place condition then_block else_block) = block_shape es at then_block ++ else_shape es at else_block
-  command_shape es at (TryThen k place accepted refused) = then_shape es at k place ++ block_shape es at accepted ++ block_shape es at refused
-  command_shape es at (Case place e arms) = arms_shape es at arms
+  command_shape es at (if_else place condition then_block else_block) = block_shape es at then_block ++ else_shape es at else_block
+  command_shape es at (try_then k place accepted refused) = then_shape es at k place ++ block_shape es at accepted ++ block_shape es at refused
+  command_shape es at (case_of place e arms) = arms_shape es at arms
 
   pub block_shape : List Entity → Body → CommandBlock → List Fault
-  block_shape es at (Commands cs after) = list_shape es at cs
+  block_shape es at (command_block cs after) = list_shape es at cs
 
   pub else_shape : List Entity → Body → ElseBlock → List Fault
-  else_shape es at NoElse = []
-  else_shape es at (Else b) = block_shape es at b
+  else_shape es at no_else = []
+  else_shape es at (with_else b) = block_shape es at b
 
   pub arms_shape : List Entity → Body → Arms → List Fault
-  arms_shape es at (Last b) = block_shape es at b
-  arms_shape es at (Arm constants b arms) = block_shape es at b ++ arms_shape es at arms
+  arms_shape es at (last_arm b) = block_shape es at b
+  arms_shape es at (and_arm constants b arms) = block_shape es at b ++ arms_shape es at arms
 
   pub list_shape : List Entity → Body → CommandList → List Fault
-  list_shape es at NoCommand = []
-  list_shape es at (AndCommand c cs) = command_shape es at c ++ list_shape es at cs
+  list_shape es at no_command = []
+  list_shape es at (and_command c cs) = command_shape es at c ++ list_shape es at cs
 
 -- a state of a group, and a group, with the states above
 abbrev mutual
   pub state_shape : List Entity → (group : StateList) → (above : List (List ℕ)) → StateTree → List Fault
-  state_shape es group above (StateOf place name kind body children) =
+  state_shape es group above (state_node place name kind body children) =
       closing_faults body
-      ++ block_shape es (record { home = home_of (StateOf place name kind body children); group = group; above = above }) body
+      ++ block_shape es (record { home = home_of (state_node place name kind body children); group = group; above = above }) body
       ++ states_shape es children (name.name ∷ above) children
 
   pub states_shape : List Entity → (group : StateList) → (above : List (List ℕ)) → StateList → List Fault
-  states_shape es group above NoState = []
-  states_shape es group above (AndState s rest) = state_shape es group above s ++ states_shape es group above rest
+  states_shape es group above no_state = []
+  states_shape es group above (and_state s rest) = state_shape es group above s ++ states_shape es group above rest
 
 -- Of a design: those of its states, and E14 where a path writes a memory again.
 abbrev pub IsShapeFault : DesignTree → Fault → Type 0

@@ -3,7 +3,7 @@
 use Rattle.std.specs.Prelude.{List, [], ◌∷◌, ◌++◌, Bool, true, false, ◌||◌, ℕ, if◌then◌else◌}
 use Rattle.sap_tree.specs.declared.syntax.Kind.{Kind}
 use Rattle.sap_tree.specs.declared.syntax.Kind.TheVariants.{Dynamic, Enforced}
-use Rattle.sap_tree.specs.Syntax.{SimpleCommand, Assign, Write, SetTag, SetCellTag, Goto, Fall, Command, Do, Try, If, TryThen, Case, Arms, Last, Arm, CommandBlock, Commands, ElseBlock, NoElse, Else, CommandList, NoCommand, AndCommand, StateTree, StateOf, StateList, NoState, AndState, DesignTree}
+use Rattle.sap_tree.specs.Syntax.{SimpleCommand, assign, write, set_tag, set_cell_tag, go_to, fall_to_child, Command, lone, try, if_else, try_then, case_of, Arms, last_arm, and_arm, CommandBlock, command_block, ElseBlock, no_else, with_else, CommandList, no_command, and_command, StateTree, state_node, StateList, no_state, and_state, DesignTree}
 use Rattle.sap_tree.specs.Touches.{Home, home_of}
 use Rattle.sap_names.specs.declared.entity.Entity.{Entity}
 use Rattle.sap_names.specs.Entities.{find, enforced_of, dynamic_of, entities_of}
@@ -21,20 +21,20 @@ is_dynamic es name = dynamic_of (find es name)
 
 -- the kind of a state
 abbrev pub kind_of_state : StateTree → Kind
-kind_of_state (StateOf place name kind body children) = kind
+kind_of_state (state_node place name kind body children) = kind
 
 abbrev pub any_enforced : StateList → Bool
-any_enforced NoState = false
-any_enforced (AndState s rest) = is_enforced_kind (kind_of_state s) || any_enforced rest
+any_enforced no_state = false
+any_enforced (and_state s rest) = is_enforced_kind (kind_of_state s) || any_enforced rest
 
 -- in the body of a state of this kind with these children
 abbrev pub is_site : List Entity → Kind → StateList → SimpleCommand → Bool
-is_site es here children (Assign target e) = is_enforced es target.name
-is_site es here children (Write target index e) = is_enforced es target.name
-is_site es here children (SetTag place target tag) = true
-is_site es here children (SetCellTag place target index tag) = true
-is_site es here children (Goto place target) = is_enforced_kind here || is_enforced es target.name
-is_site es here children (Fall place) = any_enforced children
+is_site es here children (assign target e) = is_enforced es target.name
+is_site es here children (write target index e) = is_enforced es target.name
+is_site es here children (set_tag place target tag) = true
+is_site es here children (set_cell_tag place target index tag) = true
+is_site es here children (go_to place target) = is_enforced_kind here || is_enforced es target.name
+is_site es here children (fall_to_child place) = any_enforced children
 
 -- where a command stands: the entities of its design, and the state in whose body it is
 pub record Surroundings : Type 0 where
@@ -50,36 +50,36 @@ simple_sites h k = let s : CheckSite = record { surroundings = h; command = k } 
 
 abbrev mutual
   pub command_sites : Surroundings → Command → List CheckSite
-  command_sites h (Do k) = simple_sites h k
-  command_sites h (Try k place handler) = simple_sites h k ++ block_sites h handler
-  command_sites h (If place condition then_block else_block) = block_sites h then_block ++ else_sites h else_block
-  command_sites h (TryThen k place accepted refused) = simple_sites h k ++ (block_sites h accepted ++ block_sites h refused)
-  command_sites h (Case place e arms) = arms_sites h arms
+  command_sites h (lone k) = simple_sites h k
+  command_sites h (try k place handler) = simple_sites h k ++ block_sites h handler
+  command_sites h (if_else place condition then_block else_block) = block_sites h then_block ++ else_sites h else_block
+  command_sites h (try_then k place accepted refused) = simple_sites h k ++ (block_sites h accepted ++ block_sites h refused)
+  command_sites h (case_of place e arms) = arms_sites h arms
 
   pub block_sites : Surroundings → CommandBlock → List CheckSite
-  block_sites h (Commands cs after) = list_sites h cs
+  block_sites h (command_block cs after) = list_sites h cs
 
   pub else_sites : Surroundings → ElseBlock → List CheckSite
-  else_sites h NoElse = []
-  else_sites h (Else b) = block_sites h b
+  else_sites h no_else = []
+  else_sites h (with_else b) = block_sites h b
 
   pub arms_sites : Surroundings → Arms → List CheckSite
-  arms_sites h (Last b) = block_sites h b
-  arms_sites h (Arm constants b arms) = block_sites h b ++ arms_sites h arms
+  arms_sites h (last_arm b) = block_sites h b
+  arms_sites h (and_arm constants b arms) = block_sites h b ++ arms_sites h arms
 
   pub list_sites : Surroundings → CommandList → List CheckSite
-  list_sites h NoCommand = []
-  list_sites h (AndCommand c cs) = command_sites h c ++ list_sites h cs
+  list_sites h no_command = []
+  list_sites h (and_command c cs) = command_sites h c ++ list_sites h cs
 
 -- those of a body stand before those of the children
 abbrev mutual
   pub state_sites : List Entity → StateTree → List CheckSite
-  state_sites es (StateOf place name kind body children) =
-      block_sites (record { entities = es; home = home_of (StateOf place name kind body children) }) body ++ states_sites es children
+  state_sites es (state_node place name kind body children) =
+      block_sites (record { entities = es; home = home_of (state_node place name kind body children) }) body ++ states_sites es children
 
   pub states_sites : List Entity → StateList → List CheckSite
-  states_sites es NoState = []
-  states_sites es (AndState s rest) = state_sites es s ++ states_sites es rest
+  states_sites es no_state = []
+  states_sites es (and_state s rest) = state_sites es s ++ states_sites es rest
 
 abbrev pub check_sites : DesignTree → List CheckSite
 check_sites d = states_sites (entities_of d) d.states

@@ -11,7 +11,7 @@ use Rattle.sap_tree.specs.declared.word.Word.TheVariants as w
 use Rattle.sap_show.specs.Canonical.{unary_text, binary_text, operand_text, bounds_text, expression_text, parts_text, more_parts_text, tag_text, tags_text, more_tags_text, cell_text, simple_text, command_text, block_text, else_text, arms_text, commands_text, authority_text, kind_text, start_text, declaration_text, head_text, body_text, state_text, states_text, version_text, canonical_text}
 use Rattle.sap_show.proofs.Pieces.{Piece, space, line, bytes_of, sign, word, name, number, wrapped, bounds, expression, parts, more_parts, tag, tags, more_tags, constant, more_constants, constants, cell, simple, margin, command, arms, block, else_part, commands, authority, kind, start, declaration, declarations, body, state, states, header, parts_of, design}
 use Rattle.sap_tree.specs.Precedence.{precedence, unary_precedence, slice_precedence, precedence_of}
-use Rattle.sap_tree.specs.Syntax.{Expression, Expressions, Number, Sized, Read, Cell, Unary, Binary, Choose, Slice, Concat, Zext, NoPart, AndPart, TagExpression, TagExpressions, Level, TagOf, LevelAt, Join, NoTag, AndTag, SimpleCommand, Assign, Write, SetTag, SetCellTag, Goto, Fall, Command, Do, Try, If, TryThen, Case, Arms, Last, Arm, CommandBlock, Commands, ElseBlock, NoElse, Else, CommandList, NoCommand, AndCommand, StateTree, StateOf, StateList, NoState, AndState, DesignTree}
+use Rattle.sap_tree.specs.Syntax.{Expression, Expressions, literal, sized_literal, variable, cell_at, unary_of, binary_of, choice, slice, concat, zero_extend, no_part, and_part, TagExpression, TagExpressions, level_of, tag_at, level_at, join_of, no_tag, and_tag, SimpleCommand, assign, write, set_tag, set_cell_tag, go_to, fall_to_child, Command, lone, try, if_else, try_then, case_of, Arms, last_arm, and_arm, CommandBlock, command_block, ElseBlock, no_else, with_else, CommandList, no_command, and_command, StateTree, state_node, StateList, no_state, and_state, DesignTree}
 use Rattle.sap_tree.specs.declared.syntax.BinaryOperator.TheVariants as b
 use Rattle.sap_tree.specs.declared.syntax.BinaryOperator.{BinaryOperator}
 use Rattle.sap_tree.specs.declared.syntax.Decl.TheVariants as d
@@ -75,49 +75,49 @@ mutual
   unfolding expression_text
 
   pub expression_says : (x : Expression) → Says (expression x) (expression_text x)
-  expression_says (Number spot n) rest = refl
-  expression_says (Sized spot width n) rest = refl
-  expression_says (Read spot n) rest = refl
-  expression_says (Cell spot n i) rest =
+  expression_says (literal spot n) rest = refl
+  expression_says (sized_literal spot width n) rest = refl
+  expression_says (variable spot n) rest = refl
+  expression_says (cell_at spot n i) rest =
       cat n (codes "[" ++ (expression_text i ++ codes "]")) (bytes_of rest) _ (ap (λ z. 91 ∷ z)
       (expression_says i (sign r.Closing s.CloseBracket ∷ rest) ∙ sym (append_assoc (expression_text i) (codes "]") (bytes_of rest))))
-  expression_says (Unary spot o x) rest =
+  expression_says (unary_of spot o x) rest =
       ap (λ z. z ++ bytes_of (wrapped (nat_lt (precedence_of x) unary_precedence) (λ ps. expression x ps) rest)) (unary_is o)
       ∙ cat (unary_text o) (operand_text unary_precedence x (expression_text x)) (bytes_of rest) _
       (wrapped_says unary_precedence x (λ ps. expression x ps) (expression_text x) (λ ps. expression_says x ps) rest)
-  expression_says (Binary spot o x y) rest =
+  expression_says (binary_of spot o x y) rest =
       wrapped_says (precedence o) x (λ ps. expression x ps) (expression_text x) (λ ps. expression_says x ps)
       (space ∷ sign r.Inner (sign_of o) ∷ space ∷ wrapped (nat_lt (precedence_of y) (precedence o + 1)) (λ ps. expression y ps) rest)
       ∙ cat (operand_text (precedence o) x (expression_text x)) (binary_text o ++ operand_text (precedence o + 1) y (expression_text y)) (bytes_of rest) _
       (binary_before o (bytes_of (wrapped (nat_lt (precedence_of y) (precedence o + 1)) (λ ps. expression y ps) rest))
       ∙ cat (binary_text o) (operand_text (precedence o + 1) y (expression_text y)) (bytes_of rest) _
       (wrapped_says (precedence o + 1) y (λ ps. expression y ps) (expression_text y) (λ ps. expression_says y ps) rest))
-  expression_says (Choose spot x y z) rest =
+  expression_says (choice spot x y z) rest =
       wrapped_says 1 x (λ ps. expression x ps) (expression_text x) (λ ps. expression_says x ps)
       (space ∷ sign r.Inner s.Question ∷ space ∷ expression y (space ∷ sign r.Inner s.Colon ∷ space ∷ expression z rest))
       ∙ cat (operand_text 1 x (expression_text x)) (codes " ? " ++ (expression_text y ++ (codes " : " ++ expression_text z))) (bytes_of rest) _
       (ap (λ v. codes " ? " ++ v)
       (expression_says y (space ∷ sign r.Inner s.Colon ∷ space ∷ expression z rest)
       ∙ cat (expression_text y) (codes " : " ++ expression_text z) (bytes_of rest) _ (ap (λ v. codes " : " ++ v) (expression_says z rest))))
-  expression_says (Slice spot x high low) rest =
+  expression_says (slice spot x high low) rest =
       wrapped_says slice_precedence x (λ ps. expression x ps) (expression_text x) (λ ps. expression_says x ps) (bounds high low rest)
       ∙ cat (operand_text slice_precedence x (expression_text x)) (bounds_text high low) (bytes_of rest) _ (bounds_say high low rest)
-  expression_says (Concat spot xs) rest =
+  expression_says (concat spot xs) rest =
       ap (λ z. 123 ∷ z) (parts_say xs (sign r.Closing s.CloseBrace ∷ rest) ∙ sym (append_assoc (parts_text xs) (codes "}") (bytes_of rest)))
-  expression_says (Zext spot x width) rest =
+  expression_says (zero_extend spot x width) rest =
       ap (λ z. codes "zext(" ++ z)
       (expression_says x (sign r.Inner s.Comma ∷ space ∷ number r.Inner width ∷ sign r.Closing s.CloseParen ∷ rest)
       ∙ cat (expression_text x) (codes ", " ++ (decimal width ++ codes ")")) (bytes_of rest) _
       (ap (λ z. codes ", " ++ z) (sym (append_assoc (decimal width) (codes ")") (bytes_of rest)))))
 
   parts_say : (xs : Expressions) → Says (parts xs) (parts_text xs)
-  parts_say NoPart rest = refl
-  parts_say (AndPart x xs) rest =
+  parts_say no_part rest = refl
+  parts_say (and_part x xs) rest =
       expression_says x (more_parts xs rest) ∙ cat (expression_text x) (more_parts_text xs) (bytes_of rest) _ (more_parts_say xs rest)
 
   more_parts_say : (xs : Expressions) → Says (more_parts xs) (more_parts_text xs)
-  more_parts_say NoPart rest = refl
-  more_parts_say (AndPart x xs) rest =
+  more_parts_say no_part rest = refl
+  more_parts_say (and_part x xs) rest =
       ap (λ z. codes ", " ++ z)
       (expression_says x (more_parts xs rest) ∙ cat (expression_text x) (more_parts_text xs) (bytes_of rest) _ (more_parts_say xs rest))
 
@@ -125,47 +125,47 @@ mutual
   unfolding tag_text
 
   pub tag_says : (x : TagExpression) → Says (tag x) (tag_text x)
-  tag_says (Level n) rest = refl
-  tag_says (TagOf place x) rest =
+  tag_says (level_of n) rest = refl
+  tag_says (tag_at place x) rest =
       ap (λ z. codes "tag(" ++ z) (expression_says x (sign r.Closing s.CloseParen ∷ rest) ∙ sym (append_assoc (expression_text x) (codes ")") (bytes_of rest)))
-  tag_says (LevelAt place x) rest =
+  tag_says (level_at place x) rest =
       ap (λ z. codes "level(" ++ z) (expression_says x (sign r.Closing s.CloseParen ∷ rest) ∙ sym (append_assoc (expression_text x) (codes ")") (bytes_of rest)))
-  tag_says (Join place xs) rest =
+  tag_says (join_of place xs) rest =
       ap (λ z. codes "join(" ++ z) (tags_say xs (sign r.Closing s.CloseParen ∷ rest) ∙ sym (append_assoc (tags_text xs) (codes ")") (bytes_of rest)))
 
   tags_say : (xs : TagExpressions) → Says (tags xs) (tags_text xs)
-  tags_say NoTag rest = refl
-  tags_say (AndTag x xs) rest = tag_says x (more_tags xs rest) ∙ cat (tag_text x) (more_tags_text xs) (bytes_of rest) _ (more_tags_say xs rest)
+  tags_say no_tag rest = refl
+  tags_say (and_tag x xs) rest = tag_says x (more_tags xs rest) ∙ cat (tag_text x) (more_tags_text xs) (bytes_of rest) _ (more_tags_say xs rest)
 
   more_tags_say : (xs : TagExpressions) → Says (more_tags xs) (more_tags_text xs)
-  more_tags_say NoTag rest = refl
-  more_tags_say (AndTag x xs) rest =
+  more_tags_say no_tag rest = refl
+  more_tags_say (and_tag x xs) rest =
       ap (λ z. codes ", " ++ z) (tag_says x (more_tags xs rest) ∙ cat (tag_text x) (more_tags_text xs) (bytes_of rest) _ (more_tags_say xs rest))
 
 constant_says : (x : Expression) → Says (constant x) (expression_text x)
 unfolding expression_text
-constant_says (Number spot n) rest = refl
-constant_says (Sized spot width n) rest = refl
-constant_says (Read spot n) rest = expression_says (Read spot n) rest
-constant_says (Cell spot n i) rest = expression_says (Cell spot n i) rest
-constant_says (Unary spot o x) rest = expression_says (Unary spot o x) rest
-constant_says (Binary spot o x y) rest = expression_says (Binary spot o x y) rest
-constant_says (Choose spot x y z) rest = expression_says (Choose spot x y z) rest
-constant_says (Slice spot x high low) rest = expression_says (Slice spot x high low) rest
-constant_says (Concat spot xs) rest = expression_says (Concat spot xs) rest
-constant_says (Zext spot x width) rest = expression_says (Zext spot x width) rest
+constant_says (literal spot n) rest = refl
+constant_says (sized_literal spot width n) rest = refl
+constant_says (variable spot n) rest = expression_says (variable spot n) rest
+constant_says (cell_at spot n i) rest = expression_says (cell_at spot n i) rest
+constant_says (unary_of spot o x) rest = expression_says (unary_of spot o x) rest
+constant_says (binary_of spot o x y) rest = expression_says (binary_of spot o x y) rest
+constant_says (choice spot x y z) rest = expression_says (choice spot x y z) rest
+constant_says (slice spot x high low) rest = expression_says (slice spot x high low) rest
+constant_says (concat spot xs) rest = expression_says (concat spot xs) rest
+constant_says (zero_extend spot x width) rest = expression_says (zero_extend spot x width) rest
 
 more_constants_say : (xs : Expressions) → Says (more_constants xs) (more_parts_text xs)
 unfolding expression_text
-more_constants_say NoPart rest = refl
-more_constants_say (AndPart x xs) rest =
+more_constants_say no_part rest = refl
+more_constants_say (and_part x xs) rest =
     ap (λ z. codes ", " ++ z)
     (constant_says x (more_constants xs rest) ∙ cat (expression_text x) (more_parts_text xs) (bytes_of rest) _ (more_constants_say xs rest))
 
 constants_say : (xs : Expressions) → Says (constants xs) (parts_text xs)
 unfolding expression_text
-constants_say NoPart rest = refl
-constants_say (AndPart x xs) rest =
+constants_say no_part rest = refl
+constants_say (and_part x xs) rest =
     constant_says x (more_constants xs rest) ∙ cat (expression_text x) (more_parts_text xs) (bytes_of rest) _ (more_constants_say xs rest)
 
 cell_says : (role : Role) (n : List ℕ) (i : Expression) → Says (cell role n i) (cell_text n i)
@@ -180,19 +180,19 @@ new_tag_says x rest = ap (λ z. codes ", " ++ z) (tag_says x (sign r.Plain s.Clo
 
 simple_says : (depth : ℕ) (c : SimpleCommand) → Says (simple depth c) (simple_text c)
 unfolding simple_text
-simple_says depth (Assign n x) rest =
+simple_says depth (assign n x) rest =
     cat n.name (codes " := " ++ expression_text x) (bytes_of rest) _ (ap (λ z. codes " := " ++ z) (expression_says x rest))
-simple_says depth (Write n i x) rest =
+simple_says depth (write n i x) rest =
     cell_says (r.Command depth) n.name i (space ∷ sign r.Plain s.Becomes ∷ space ∷ expression x rest)
     ∙ cat (cell_text n.name i) (codes " := " ++ expression_text x) (bytes_of rest) _ (ap (λ z. codes " := " ++ z) (expression_says x rest))
-simple_says depth (SetTag place n x) rest =
+simple_says depth (set_tag place n x) rest =
     ap (λ z. codes "setTag(" ++ z) (cat n.name (codes ", " ++ (tag_text x ++ codes ")")) (bytes_of rest) _ (new_tag_says x rest))
-simple_says depth (SetCellTag place n i x) rest =
+simple_says depth (set_cell_tag place n i x) rest =
     ap (λ z. codes "setTag(" ++ z)
     (cell_says r.Plain n.name i (sign r.Plain s.Comma ∷ space ∷ tag x (sign r.Plain s.CloseParen ∷ rest))
     ∙ cat (cell_text n.name i) (codes ", " ++ (tag_text x ++ codes ")")) (bytes_of rest) _ (new_tag_says x rest))
-simple_says depth (Goto place n) rest = refl
-simple_says depth (Fall place) rest = refl
+simple_says depth (go_to place n) rest = refl
+simple_says depth (fall_to_child place) rest = refl
 
 -- the spaces of a level
 abbrev pub spaces : ℕ → List ℕ
@@ -211,18 +211,18 @@ mutual
   unfolding command_text
 
   command_says : (c : Command) (level depth : ℕ) → Says (command c level depth) (command_text (spaces level) c)
-  command_says (Do c) level depth rest =
+  command_says (lone c) level depth rest =
       margin_says level (simple depth c (sign r.Plain s.Semicolon ∷ line ∷ rest))
       ∙ cat (spaces level) (simple_text c ++ codes ";\n") (bytes_of rest) _
       (simple_says depth c (sign r.Plain s.Semicolon ∷ line ∷ rest) ∙ sym (append_assoc (simple_text c) (codes ";\n") (bytes_of rest)))
-  command_says (Try c place handler) level depth rest =
+  command_says (try c place handler) level depth rest =
       margin_says level (simple depth c (space ∷ word r.Plain w.Otherwise ∷ block handler level depth (line ∷ rest)))
       ∙ cat (spaces level) (simple_text c ++ (codes " otherwise" ++ (block_text (spaces level) handler ++ codes "\n"))) (bytes_of rest) _
       (simple_says depth c (space ∷ word r.Plain w.Otherwise ∷ block handler level depth (line ∷ rest))
       ∙ cat (simple_text c) (codes " otherwise" ++ (block_text (spaces level) handler ++ codes "\n")) (bytes_of rest) _
       (ap (λ z. codes " otherwise" ++ z)
       (block_says handler level depth (line ∷ rest) ∙ sym (append_assoc (block_text (spaces level) handler) (codes "\n") (bytes_of rest)))))
-  command_says (If place x one other) level depth rest =
+  command_says (if_else place x one other) level depth rest =
       margin_says level (word (r.Command depth) w.If ∷ space ∷ sign r.Plain s.OpenParen
       ∷ expression x (sign r.Plain s.CloseParen ∷ block one level depth (else_part other level depth (line ∷ rest))))
       ∙ cat (spaces level) (codes "if (" ++ (expression_text x ++ (codes ")" ++ (block_text (spaces level) one ++ (else_text (spaces level) other ++ codes "\n"))))) (bytes_of rest) _
@@ -233,7 +233,7 @@ mutual
       (block_says one level depth (else_part other level depth (line ∷ rest))
       ∙ cat (block_text (spaces level) one) (else_text (spaces level) other ++ codes "\n") (bytes_of rest) _
       (else_says other level depth (line ∷ rest) ∙ sym (append_assoc (else_text (spaces level) other) (codes "\n") (bytes_of rest)))))))
-  command_says (TryThen c place one other) level depth rest =
+  command_says (try_then c place one other) level depth rest =
       let m = spaces level in
       let last = space ∷ word r.Plain w.Otherwise ∷ block other level depth (line ∷ rest) in
       let foot = block_text m other ++ codes "\n" in
@@ -246,7 +246,7 @@ mutual
       ∙ cat (block_text m one) (codes " otherwise" ++ foot) (bytes_of rest) _
       (ap (λ z. codes " otherwise" ++ z)
       (block_says other level depth (line ∷ rest) ∙ sym (append_assoc (block_text m other) (codes "\n") (bytes_of rest)))))))
-  command_says (Case place x list) level depth rest =
+  command_says (case_of place x list) level depth rest =
       let m = spaces level in
       let foot = margin level (sign r.Plain s.CloseBrace ∷ line ∷ rest) in
       let end = m ++ codes "}\n" in
@@ -263,12 +263,12 @@ mutual
       ∙ ap (λ y. (arms_text y list ++ end) ++ bytes_of rest) (sym (deeper level))))))
 
   arms_say : (list : Arms) (level depth : ℕ) → Says (arms list level depth) (arms_text (spaces level) list)
-  arms_say (Last b) level depth rest =
+  arms_say (last_arm b) level depth rest =
       let m = spaces level in
       margin_says level (word r.Plain w.Else ∷ block b level depth (line ∷ rest))
       ∙ cat m (codes "else" ++ (block_text m b ++ codes "\n")) (bytes_of rest) _
       (ap (λ z. codes "else" ++ z) (block_says b level depth (line ∷ rest) ∙ sym (append_assoc (block_text m b) (codes "\n") (bytes_of rest))))
-  arms_say (Arm xs b list) level depth rest =
+  arms_say (and_arm xs b list) level depth rest =
       let m = spaces level in
       let behind = line ∷ arms list level depth rest in
       let end = codes "\n" ++ arms_text m list in
@@ -280,7 +280,7 @@ mutual
       (block_says b level depth behind ∙ cat (block_text m b) end (bytes_of rest) _ (ap (λ z. codes "\n" ++ z) (arms_say list level depth rest)))))
 
   block_says : (x : CommandBlock) (level depth : ℕ) → Says (block x level depth) (block_text (spaces level) x)
-  block_says (Commands cs after) level depth rest =
+  block_says (command_block cs after) level depth rest =
       ap (λ z. codes " {\n" ++ z)
       (commands_say cs (suc level) (depth + 1) (margin level (sign r.Plain s.CloseBrace ∷ rest))
       ∙ cat (commands_text (spaces (suc level)) cs) (spaces level ++ codes "}") (bytes_of rest) _
@@ -288,12 +288,12 @@ mutual
       ∙ ap (λ m. (commands_text m cs ++ (spaces level ++ codes "}")) ++ bytes_of rest) (sym (deeper level)))
 
   else_says : (x : ElseBlock) (level depth : ℕ) → Says (else_part x level depth) (else_text (spaces level) x)
-  else_says NoElse level depth rest = refl
-  else_says (Else x) level depth rest = ap (λ z. codes " else" ++ z) (block_says x level depth rest)
+  else_says no_else level depth rest = refl
+  else_says (with_else x) level depth rest = ap (λ z. codes " else" ++ z) (block_says x level depth rest)
 
   commands_say : (cs : CommandList) (level depth : ℕ) → Says (commands cs level depth) (commands_text (spaces level) cs)
-  commands_say NoCommand level depth rest = refl
-  commands_say (AndCommand c cs) level depth rest =
+  commands_say no_command level depth rest = refl
+  commands_say (and_command c cs) level depth rest =
       command_says c level depth (commands cs level depth rest)
       ∙ cat (command_text (spaces level) c) (commands_text (spaces level) cs) (bytes_of rest) _ (commands_say cs level depth rest)
 
@@ -344,7 +344,7 @@ declarations_say (x ∷ xs) rest =
     ∙ cat (declaration_text x) (flat_map declaration_text xs) (bytes_of rest) _ (declarations_say xs rest)
 
 body_says : (x : CommandBlock) (level : ℕ) → Says (body x level) (body_text (spaces level) x)
-body_says (Commands cs after) level rest = commands_say cs level 1 rest
+body_says (command_block cs after) level rest = commands_say cs level 1 rest
 
 head_says : (n : List ℕ) (x : KindTree) (depth : ℕ)
     → Says (λ rest. word (r.State depth) w.State ∷ space ∷ name r.Plain n ∷ space ∷ kind x (space ∷ sign r.Plain s.OpenBrace ∷ line ∷ rest)) (head_text n x)
@@ -358,7 +358,7 @@ mutual
   unfolding state_text
 
   state_says : (x : StateTree) (level depth : ℕ) → Says (state x level depth) (state_text (spaces level) x)
-  state_says (StateOf place n x inner children) level depth rest =
+  state_says (state_node place n x inner children) level depth rest =
       let last = margin level (sign r.Plain s.CloseBrace ∷ line ∷ rest) in
       let below = states children (suc level) (depth + 1) last in
       let m = spaces (suc level) in
@@ -376,8 +376,8 @@ mutual
       ∙ sym (append_assoc (spaces level) (head_text n.name x ++ (body_text (spaces level ++ codes "  ") inner ++ (states_text (spaces level ++ codes "  ") children ++ foot))) (bytes_of rest))
 
   states_say : (xs : StateList) (level depth : ℕ) → Says (states xs level depth) (states_text (spaces level) xs)
-  states_say NoState level depth rest = refl
-  states_say (AndState x xs) level depth rest =
+  states_say no_state level depth rest = refl
+  states_say (and_state x xs) level depth rest =
       state_says x level depth (states xs level depth rest)
       ∙ cat (state_text (spaces level) x) (states_text (spaces level) xs) (bytes_of rest) _ (states_say xs level depth rest)
 

@@ -12,7 +12,7 @@ use Rattle.sap_parse.specs.declared.token.Sign.{Sign}
 use Rattle.sap_tree.specs.declared.word.Word.TheVariants as w
 use Rattle.sap_tree.specs.declared.word.Word.{Word}
 use Rattle.sap_tree.specs.Precedence.{precedence, unary_precedence, slice_precedence, precedence_of}
-use Rattle.sap_tree.specs.Syntax.{Expression, Expressions, Number, Sized, Read, Cell, Unary, Binary, Choose, Slice, Concat, Zext, NoPart, AndPart, TagExpression, TagExpressions, Level, TagOf, LevelAt, Join, NoTag, AndTag, SimpleCommand, Assign, Write, SetTag, SetCellTag, Goto, Fall, Command, Do, Try, If, TryThen, Case, Arms, Last, Arm, CommandBlock, Commands, ElseBlock, NoElse, Else, CommandList, NoCommand, AndCommand, StateTree, StateOf, StateList, NoState, AndState, DesignTree}
+use Rattle.sap_tree.specs.Syntax.{Expression, Expressions, literal, sized_literal, variable, cell_at, unary_of, binary_of, choice, slice, concat, zero_extend, no_part, and_part, TagExpression, TagExpressions, level_of, tag_at, level_at, join_of, no_tag, and_tag, SimpleCommand, assign, write, set_tag, set_cell_tag, go_to, fall_to_child, Command, lone, try, if_else, try_then, case_of, Arms, last_arm, and_arm, CommandBlock, command_block, ElseBlock, no_else, with_else, CommandList, no_command, and_command, StateTree, state_node, StateList, no_state, and_state, DesignTree}
 use Rattle.sap_tree.specs.declared.syntax.Decl.TheVariants as d
 use Rattle.sap_tree.specs.declared.syntax.Decl.{Decl}
 use Rattle.sap_tree.specs.declared.syntax.Kind.TheVariants as how
@@ -65,60 +65,60 @@ bounds high low rest = sign r.Opening s.OpenBracket ∷ number r.Inner high ∷ 
 
 abbrev mutual
   pub expression : Expression → List Piece → List Piece
-  expression (Number spot n) rest = number r.Inner n ∷ rest
-  expression (Sized spot width n) rest = token r.Inner (k.Sized width n) ∷ rest
-  expression (Read spot n) rest = name r.Inner n ∷ rest
-  expression (Cell spot n i) rest = name r.Inner n ∷ sign r.Opening s.OpenBracket ∷ expression i (sign r.Closing s.CloseBracket ∷ rest)
-  expression (Unary spot o x) rest = sign r.Inner (unary_sign_of o) ∷ wrapped (nat_lt (precedence_of x) unary_precedence) (λ ps. expression x ps) rest
-  expression (Binary spot o x y) rest =
+  expression (literal spot n) rest = number r.Inner n ∷ rest
+  expression (sized_literal spot width n) rest = token r.Inner (k.Sized width n) ∷ rest
+  expression (variable spot n) rest = name r.Inner n ∷ rest
+  expression (cell_at spot n i) rest = name r.Inner n ∷ sign r.Opening s.OpenBracket ∷ expression i (sign r.Closing s.CloseBracket ∷ rest)
+  expression (unary_of spot o x) rest = sign r.Inner (unary_sign_of o) ∷ wrapped (nat_lt (precedence_of x) unary_precedence) (λ ps. expression x ps) rest
+  expression (binary_of spot o x y) rest =
       wrapped (nat_lt (precedence_of x) (precedence o)) (λ ps. expression x ps)
       (space ∷ sign r.Inner (sign_of o) ∷ space ∷ wrapped (nat_lt (precedence_of y) (precedence o + 1)) (λ ps. expression y ps) rest)
-  expression (Choose spot x y z) rest =
+  expression (choice spot x y z) rest =
       wrapped (nat_lt (precedence_of x) 1) (λ ps. expression x ps)
       (space ∷ sign r.Inner s.Question ∷ space ∷ expression y (space ∷ sign r.Inner s.Colon ∷ space ∷ expression z rest))
-  expression (Slice spot x high low) rest = wrapped (nat_lt (precedence_of x) slice_precedence) (λ ps. expression x ps) (bounds high low rest)
-  expression (Concat spot xs) rest = sign r.Opening s.OpenBrace ∷ parts xs (sign r.Closing s.CloseBrace ∷ rest)
-  expression (Zext spot x width) rest =
+  expression (slice spot x high low) rest = wrapped (nat_lt (precedence_of x) slice_precedence) (λ ps. expression x ps) (bounds high low rest)
+  expression (concat spot xs) rest = sign r.Opening s.OpenBrace ∷ parts xs (sign r.Closing s.CloseBrace ∷ rest)
+  expression (zero_extend spot x width) rest =
       word r.Inner w.Zext ∷ sign r.Opening s.OpenParen
       ∷ expression x (sign r.Inner s.Comma ∷ space ∷ number r.Inner width ∷ sign r.Closing s.CloseParen ∷ rest)
 
   pub parts : Expressions → List Piece → List Piece
-  parts NoPart rest = rest
-  parts (AndPart x xs) rest = expression x (more_parts xs rest)
+  parts no_part rest = rest
+  parts (and_part x xs) rest = expression x (more_parts xs rest)
 
   pub more_parts : Expressions → List Piece → List Piece
-  more_parts NoPart rest = rest
-  more_parts (AndPart x xs) rest = sign r.Inner s.Comma ∷ space ∷ expression x (more_parts xs rest)
+  more_parts no_part rest = rest
+  more_parts (and_part x xs) rest = sign r.Inner s.Comma ∷ space ∷ expression x (more_parts xs rest)
 
 abbrev mutual
   pub tag : TagExpression → List Piece → List Piece
-  tag (Level n) rest = name r.Inner n.name ∷ rest
-  tag (TagOf place x) rest = word r.Inner w.Tag ∷ sign r.Opening s.OpenParen ∷ expression x (sign r.Closing s.CloseParen ∷ rest)
-  tag (LevelAt place x) rest = word r.Inner w.Level ∷ sign r.Opening s.OpenParen ∷ expression x (sign r.Closing s.CloseParen ∷ rest)
-  tag (Join place xs) rest = word r.Inner w.Join ∷ sign r.Opening s.OpenParen ∷ tags xs (sign r.Closing s.CloseParen ∷ rest)
+  tag (level_of n) rest = name r.Inner n.name ∷ rest
+  tag (tag_at place x) rest = word r.Inner w.Tag ∷ sign r.Opening s.OpenParen ∷ expression x (sign r.Closing s.CloseParen ∷ rest)
+  tag (level_at place x) rest = word r.Inner w.Level ∷ sign r.Opening s.OpenParen ∷ expression x (sign r.Closing s.CloseParen ∷ rest)
+  tag (join_of place xs) rest = word r.Inner w.Join ∷ sign r.Opening s.OpenParen ∷ tags xs (sign r.Closing s.CloseParen ∷ rest)
 
   pub tags : TagExpressions → List Piece → List Piece
-  tags NoTag rest = rest
-  tags (AndTag x xs) rest = tag x (more_tags xs rest)
+  tags no_tag rest = rest
+  tags (and_tag x xs) rest = tag x (more_tags xs rest)
 
   pub more_tags : TagExpressions → List Piece → List Piece
-  more_tags NoTag rest = rest
-  more_tags (AndTag x xs) rest = sign r.Inner s.Comma ∷ space ∷ tag x (more_tags xs rest)
+  more_tags no_tag rest = rest
+  more_tags (and_tag x xs) rest = sign r.Inner s.Comma ∷ space ∷ tag x (more_tags xs rest)
 
 -- the constants of an arm
 
 abbrev pub constant : Expression → List Piece → List Piece
-constant (Number spot n) rest = number r.Plain n ∷ rest
-constant (Sized spot width n) rest = token r.Plain (k.Sized width n) ∷ rest
+constant (literal spot n) rest = number r.Plain n ∷ rest
+constant (sized_literal spot width n) rest = token r.Plain (k.Sized width n) ∷ rest
 constant x rest = expression x rest
 
 abbrev pub more_constants : Expressions → List Piece → List Piece
-more_constants NoPart rest = rest
-more_constants (AndPart x xs) rest = sign r.Plain s.Comma ∷ space ∷ constant x (more_constants xs rest)
+more_constants no_part rest = rest
+more_constants (and_part x xs) rest = sign r.Plain s.Comma ∷ space ∷ constant x (more_constants xs rest)
 
 abbrev pub constants : Expressions → List Piece → List Piece
-constants NoPart rest = rest
-constants (AndPart x xs) rest = constant x (more_constants xs rest)
+constants no_part rest = rest
+constants (and_part x xs) rest = constant x (more_constants xs rest)
 
 -- commands, at a level of indentation and at a depth
 
@@ -126,14 +126,14 @@ abbrev pub cell : Role → List ℕ → Expression → List Piece → List Piece
 cell role n i rest = name role n ∷ sign r.Plain s.OpenBracket ∷ expression i (sign r.Plain s.CloseBracket ∷ rest)
 
 abbrev pub simple : ℕ → SimpleCommand → List Piece → List Piece
-simple depth (Assign n x) rest = name (r.Command depth) n.name ∷ space ∷ sign r.Plain s.Becomes ∷ space ∷ expression x rest
-simple depth (Write n i x) rest = cell (r.Command depth) n.name i (space ∷ sign r.Plain s.Becomes ∷ space ∷ expression x rest)
-simple depth (SetTag place n x) rest =
+simple depth (assign n x) rest = name (r.Command depth) n.name ∷ space ∷ sign r.Plain s.Becomes ∷ space ∷ expression x rest
+simple depth (write n i x) rest = cell (r.Command depth) n.name i (space ∷ sign r.Plain s.Becomes ∷ space ∷ expression x rest)
+simple depth (set_tag place n x) rest =
     word (r.Command depth) w.SetTag ∷ sign r.Plain s.OpenParen ∷ name r.Plain n.name ∷ sign r.Plain s.Comma ∷ space ∷ tag x (sign r.Plain s.CloseParen ∷ rest)
-simple depth (SetCellTag place n i x) rest =
+simple depth (set_cell_tag place n i x) rest =
     word (r.Command depth) w.SetTag ∷ sign r.Plain s.OpenParen ∷ cell r.Plain n.name i (sign r.Plain s.Comma ∷ space ∷ tag x (sign r.Plain s.CloseParen ∷ rest))
-simple depth (Goto place n) rest = word (r.Command depth) w.Goto ∷ space ∷ name r.Plain n.name ∷ rest
-simple depth (Fall place) rest = word (r.Command depth) w.Fall ∷ rest
+simple depth (go_to place n) rest = word (r.Command depth) w.Goto ∷ space ∷ name r.Plain n.name ∷ rest
+simple depth (fall_to_child place) rest = word (r.Command depth) w.Fall ∷ rest
 
 abbrev pub margin : ℕ → List Piece → List Piece
 margin zero rest = rest
@@ -141,35 +141,35 @@ margin (suc level) rest = space ∷ space ∷ margin level rest
 
 abbrev mutual
   pub command : Command → ℕ → ℕ → List Piece → List Piece
-  command (Do c) level depth rest = margin level (simple depth c (sign r.Plain s.Semicolon ∷ line ∷ rest))
-  command (Try c place handler) level depth rest = margin level (simple depth c (space ∷ word r.Plain w.Otherwise ∷ block handler level depth (line ∷ rest)))
-  command (If place x one other) level depth rest =
+  command (lone c) level depth rest = margin level (simple depth c (sign r.Plain s.Semicolon ∷ line ∷ rest))
+  command (try c place handler) level depth rest = margin level (simple depth c (space ∷ word r.Plain w.Otherwise ∷ block handler level depth (line ∷ rest)))
+  command (if_else place x one other) level depth rest =
       margin level (word (r.Command depth) w.If ∷ space ∷ sign r.Plain s.OpenParen
       ∷ expression x (sign r.Plain s.CloseParen ∷ block one level depth (else_part other level depth (line ∷ rest))))
-  command (TryThen c place accepted refused) level depth rest =
+  command (try_then c place accepted refused) level depth rest =
       margin level (simple depth c (space ∷ word r.Plain w.Then
       ∷ block accepted level depth (space ∷ word r.Plain w.Otherwise ∷ block refused level depth (line ∷ rest))))
-  command (Case place x list) level depth rest =
+  command (case_of place x list) level depth rest =
       margin level (word (r.Command depth) w.Case ∷ space ∷ sign r.Plain s.OpenParen
       ∷ expression x (sign r.Plain s.CloseParen ∷ space ∷ sign r.Plain s.OpenBrace ∷ line
       ∷ arms list (suc level) depth (margin level (sign r.Plain s.CloseBrace ∷ line ∷ rest))))
 
   -- arms, and the block after `else`
   pub arms : Arms → ℕ → ℕ → List Piece → List Piece
-  arms (Last b) level depth rest = margin level (word r.Plain w.Else ∷ block b level depth (line ∷ rest))
-  arms (Arm xs b list) level depth rest = margin level (constants xs (sign r.Plain s.Colon ∷ block b level depth (line ∷ arms list level depth rest)))
+  arms (last_arm b) level depth rest = margin level (word r.Plain w.Else ∷ block b level depth (line ∷ rest))
+  arms (and_arm xs b list) level depth rest = margin level (constants xs (sign r.Plain s.Colon ∷ block b level depth (line ∷ arms list level depth rest)))
 
   pub block : CommandBlock → ℕ → ℕ → List Piece → List Piece
-  block (Commands cs after) level depth rest =
+  block (command_block cs after) level depth rest =
       space ∷ sign r.Plain s.OpenBrace ∷ line ∷ commands cs (suc level) (depth + 1) (margin level (sign r.Plain s.CloseBrace ∷ rest))
 
   pub else_part : ElseBlock → ℕ → ℕ → List Piece → List Piece
-  else_part NoElse level depth rest = rest
-  else_part (Else b) level depth rest = space ∷ word r.Plain w.Else ∷ block b level depth rest
+  else_part no_else level depth rest = rest
+  else_part (with_else b) level depth rest = space ∷ word r.Plain w.Else ∷ block b level depth rest
 
   pub commands : CommandList → ℕ → ℕ → List Piece → List Piece
-  commands NoCommand level depth rest = rest
-  commands (AndCommand c cs) level depth rest = command c level depth (commands cs level depth rest)
+  commands no_command level depth rest = rest
+  commands (and_command c cs) level depth rest = command c level depth (commands cs level depth rest)
 
 -- declarations
 
@@ -203,17 +203,17 @@ declarations (x ∷ xs) rest = declaration x (declarations xs rest)
 -- states
 
 abbrev pub body : CommandBlock → ℕ → List Piece → List Piece
-body (Commands cs after) level rest = commands cs level 1 rest
+body (command_block cs after) level rest = commands cs level 1 rest
 
 abbrev mutual
   pub state : StateTree → ℕ → ℕ → List Piece → List Piece
-  state (StateOf place n x inner children) level depth rest =
+  state (state_node place n x inner children) level depth rest =
       margin level (word (r.State depth) w.State ∷ space ∷ name r.Plain n.name ∷ space ∷ kind x (space ∷ sign r.Plain s.OpenBrace ∷ line
       ∷ body inner (suc level) (states children (suc level) (depth + 1) (margin level (sign r.Plain s.CloseBrace ∷ line ∷ rest)))))
 
   pub states : StateList → ℕ → ℕ → List Piece → List Piece
-  states NoState level depth rest = rest
-  states (AndState x xs) level depth rest = state x level depth (states xs level depth rest)
+  states no_state level depth rest = rest
+  states (and_state x xs) level depth rest = state x level depth (states xs level depth rest)
 
 -- the first line
 abbrev pub header : Version → List Piece → List Piece

@@ -4,7 +4,7 @@ use Rattle.std.specs.Prelude.{codes, decimal, nat_lt, flat_map, map}
 use Rattle.sap_show.specs.Canonical.{unary_text, binary_text, operand_text, bounds_text, expression_text, parts_text, more_parts_text, tag_text, tags_text, more_tags_text, cell_text, simple_text, command_text, block_text, else_text, arms_text, commands_text, authority_text, kind_text, start_text, declaration_text, head_text, body_text, state_text, states_text, version_text, canonical_text}
 use Rattle.sap_tree.specs.Bare.{bare_expression, bare_expressions, bare_tag, bare_tags, bare_simple, bare_command, bare_block, bare_else, bare_arms, bare_list, bare_authority, bare_kind, bare_start, bare_declaration, bare_state, bare_states, bare}
 use Rattle.sap_tree.specs.Precedence.{precedence, unary_precedence, slice_precedence, precedence_of}
-use Rattle.sap_tree.specs.Syntax.{Expression, Expressions, Number, Sized, Read, Cell, Unary, Binary, Choose, Slice, Concat, Zext, NoPart, AndPart, TagExpression, TagExpressions, Level, TagOf, LevelAt, Join, NoTag, AndTag, SimpleCommand, Assign, Write, SetTag, SetCellTag, Goto, Fall, Command, Do, Try, If, TryThen, Case, Arms, Last, Arm, CommandBlock, Commands, ElseBlock, NoElse, Else, CommandList, NoCommand, AndCommand, StateTree, StateOf, StateList, NoState, AndState, DesignTree}
+use Rattle.sap_tree.specs.Syntax.{Expression, Expressions, literal, sized_literal, variable, cell_at, unary_of, binary_of, choice, slice, concat, zero_extend, no_part, and_part, TagExpression, TagExpressions, level_of, tag_at, level_at, join_of, no_tag, and_tag, SimpleCommand, assign, write, set_tag, set_cell_tag, go_to, fall_to_child, Command, lone, try, if_else, try_then, case_of, Arms, last_arm, and_arm, CommandBlock, command_block, ElseBlock, no_else, with_else, CommandList, no_command, and_command, StateTree, state_node, StateList, no_state, and_state, DesignTree}
 use Rattle.sap_tree.specs.declared.syntax.Decl.TheVariants as d
 use Rattle.sap_tree.specs.declared.syntax.Decl.{Decl}
 use Rattle.sap_tree.specs.declared.syntax.Kind.TheVariants as how
@@ -14,16 +14,16 @@ use Rattle.sap_tree.specs.declared.syntax.Under.{Under}
 
 same_precedence : (x : Expression) → precedence_of (bare_expression x) ≡ precedence_of x
 unfolding bare_expression precedence_of
-same_precedence (Number spot n) = refl
-same_precedence (Sized spot width n) = refl
-same_precedence (Read spot n) = refl
-same_precedence (Cell spot n i) = refl
-same_precedence (Unary spot o x) = refl
-same_precedence (Binary spot o x y) = refl
-same_precedence (Choose spot x y z) = refl
-same_precedence (Slice spot x high low) = refl
-same_precedence (Concat spot xs) = refl
-same_precedence (Zext spot x width) = refl
+same_precedence (literal spot n) = refl
+same_precedence (sized_literal spot width n) = refl
+same_precedence (variable spot n) = refl
+same_precedence (cell_at spot n i) = refl
+same_precedence (unary_of spot o x) = refl
+same_precedence (binary_of spot o x y) = refl
+same_precedence (choice spot x y z) = refl
+same_precedence (slice spot x high low) = refl
+same_precedence (concat spot xs) = refl
+same_precedence (zero_extend spot x width) = refl
 
 operand_same : (asked : ℕ) (x : Expression) → expression_text (bare_expression x) ≡ expression_text x
     → operand_text asked (bare_expression x) (expression_text (bare_expression x)) ≡ operand_text asked x (expression_text x)
@@ -36,48 +36,48 @@ mutual
   unfolding expression_text bare_expression
 
   expression_same : (x : Expression) → expression_text (bare_expression x) ≡ expression_text x
-  expression_same (Number spot n) = refl
-  expression_same (Sized spot width n) = refl
-  expression_same (Read spot n) = refl
-  expression_same (Cell spot n i) = ap (λ t. n ++ (codes "[" ++ (t ++ codes "]"))) (expression_same i)
-  expression_same (Unary spot o x) = ap (λ t. unary_text o ++ t) (operand_same unary_precedence x (expression_same x))
-  expression_same (Binary spot o x y) =
+  expression_same (literal spot n) = refl
+  expression_same (sized_literal spot width n) = refl
+  expression_same (variable spot n) = refl
+  expression_same (cell_at spot n i) = ap (λ t. n ++ (codes "[" ++ (t ++ codes "]"))) (expression_same i)
+  expression_same (unary_of spot o x) = ap (λ t. unary_text o ++ t) (operand_same unary_precedence x (expression_same x))
+  expression_same (binary_of spot o x y) =
       ap (λ t. t ++ (binary_text o ++ operand_text (precedence o + 1) (bare_expression y) (expression_text (bare_expression y)))) (operand_same (precedence o) x (expression_same x))
       ∙ ap (λ t. operand_text (precedence o) x (expression_text x) ++ (binary_text o ++ t)) (operand_same (precedence o + 1) y (expression_same y))
-  expression_same (Choose spot x y z) =
+  expression_same (choice spot x y z) =
       ap (λ t. t ++ (codes " ? " ++ (expression_text (bare_expression y) ++ (codes " : " ++ expression_text (bare_expression z))))) (operand_same 1 x (expression_same x))
       ∙ ap (λ t. operand_text 1 x (expression_text x) ++ (codes " ? " ++ (t ++ (codes " : " ++ expression_text (bare_expression z))))) (expression_same y)
       ∙ ap (λ t. operand_text 1 x (expression_text x) ++ (codes " ? " ++ (expression_text y ++ (codes " : " ++ t)))) (expression_same z)
-  expression_same (Slice spot x high low) = ap (λ t. t ++ bounds_text high low) (operand_same slice_precedence x (expression_same x))
-  expression_same (Concat spot xs) = ap (λ t. codes "{" ++ (t ++ codes "}")) (parts_same xs)
-  expression_same (Zext spot x width) = ap (λ t. codes "zext(" ++ (t ++ (codes ", " ++ (decimal width ++ codes ")")))) (expression_same x)
+  expression_same (slice spot x high low) = ap (λ t. t ++ bounds_text high low) (operand_same slice_precedence x (expression_same x))
+  expression_same (concat spot xs) = ap (λ t. codes "{" ++ (t ++ codes "}")) (parts_same xs)
+  expression_same (zero_extend spot x width) = ap (λ t. codes "zext(" ++ (t ++ (codes ", " ++ (decimal width ++ codes ")")))) (expression_same x)
 
   parts_same : (xs : Expressions) → parts_text (bare_expressions xs) ≡ parts_text xs
-  parts_same NoPart = refl
-  parts_same (AndPart x xs) =
+  parts_same no_part = refl
+  parts_same (and_part x xs) =
       ap (λ t. t ++ more_parts_text (bare_expressions xs)) (expression_same x) ∙ ap (λ t. expression_text x ++ t) (more_parts_same xs)
 
   more_parts_same : (xs : Expressions) → more_parts_text (bare_expressions xs) ≡ more_parts_text xs
-  more_parts_same NoPart = refl
-  more_parts_same (AndPart x xs) =
+  more_parts_same no_part = refl
+  more_parts_same (and_part x xs) =
       ap (λ t. codes ", " ++ (t ++ more_parts_text (bare_expressions xs))) (expression_same x) ∙ ap (λ t. codes ", " ++ (expression_text x ++ t)) (more_parts_same xs)
 
 mutual
   unfolding tag_text bare_tag
 
   tag_same : (x : TagExpression) → tag_text (bare_tag x) ≡ tag_text x
-  tag_same (Level n) = refl
-  tag_same (TagOf place x) = ap (λ t. codes "tag(" ++ (t ++ codes ")")) (expression_same x)
-  tag_same (LevelAt place x) = ap (λ t. codes "level(" ++ (t ++ codes ")")) (expression_same x)
-  tag_same (Join place xs) = ap (λ t. codes "join(" ++ (t ++ codes ")")) (tags_same xs)
+  tag_same (level_of n) = refl
+  tag_same (tag_at place x) = ap (λ t. codes "tag(" ++ (t ++ codes ")")) (expression_same x)
+  tag_same (level_at place x) = ap (λ t. codes "level(" ++ (t ++ codes ")")) (expression_same x)
+  tag_same (join_of place xs) = ap (λ t. codes "join(" ++ (t ++ codes ")")) (tags_same xs)
 
   tags_same : (xs : TagExpressions) → tags_text (bare_tags xs) ≡ tags_text xs
-  tags_same NoTag = refl
-  tags_same (AndTag x xs) = ap (λ t. t ++ more_tags_text (bare_tags xs)) (tag_same x) ∙ ap (λ t. tag_text x ++ t) (more_tags_same xs)
+  tags_same no_tag = refl
+  tags_same (and_tag x xs) = ap (λ t. t ++ more_tags_text (bare_tags xs)) (tag_same x) ∙ ap (λ t. tag_text x ++ t) (more_tags_same xs)
 
   more_tags_same : (xs : TagExpressions) → more_tags_text (bare_tags xs) ≡ more_tags_text xs
-  more_tags_same NoTag = refl
-  more_tags_same (AndTag x xs) =
+  more_tags_same no_tag = refl
+  more_tags_same (and_tag x xs) =
       ap (λ t. codes ", " ++ (t ++ more_tags_text (bare_tags xs))) (tag_same x) ∙ ap (λ t. codes ", " ++ (tag_text x ++ t)) (more_tags_same xs)
 
 cell_same : (n : List ℕ) (i : Expression) → cell_text n (bare_expression i) ≡ cell_text n i
@@ -86,55 +86,55 @@ cell_same n i = ap (λ t. n ++ (codes "[" ++ (t ++ codes "]"))) (expression_same
 
 simple_same : (c : SimpleCommand) → simple_text (bare_simple c) ≡ simple_text c
 unfolding simple_text bare_simple
-simple_same (Assign n x) = ap (λ t. n.name ++ (codes " := " ++ t)) (expression_same x)
-simple_same (Write n i x) =
+simple_same (assign n x) = ap (λ t. n.name ++ (codes " := " ++ t)) (expression_same x)
+simple_same (write n i x) =
     ap (λ t. t ++ (codes " := " ++ expression_text (bare_expression x))) (cell_same n.name i) ∙ ap (λ t. cell_text n.name i ++ (codes " := " ++ t)) (expression_same x)
-simple_same (SetTag place n x) = ap (λ t. codes "setTag(" ++ (n.name ++ (codes ", " ++ (t ++ codes ")")))) (tag_same x)
-simple_same (SetCellTag place n i x) =
+simple_same (set_tag place n x) = ap (λ t. codes "setTag(" ++ (n.name ++ (codes ", " ++ (t ++ codes ")")))) (tag_same x)
+simple_same (set_cell_tag place n i x) =
     ap (λ t. codes "setTag(" ++ (t ++ (codes ", " ++ (tag_text (bare_tag x) ++ codes ")")))) (cell_same n.name i)
     ∙ ap (λ t. codes "setTag(" ++ (cell_text n.name i ++ (codes ", " ++ (t ++ codes ")")))) (tag_same x)
-simple_same (Goto place n) = refl
-simple_same (Fall place) = refl
+simple_same (go_to place n) = refl
+simple_same (fall_to_child place) = refl
 
 mutual
   unfolding command_text bare_command
 
   command_same : (margin : List ℕ) (c : Command) → command_text margin (bare_command c) ≡ command_text margin c
-  command_same margin (Do c) = ap (λ t. margin ++ (t ++ codes ";\n")) (simple_same c)
-  command_same margin (Try c place handler) =
+  command_same margin (lone c) = ap (λ t. margin ++ (t ++ codes ";\n")) (simple_same c)
+  command_same margin (try c place handler) =
       ap (λ t. margin ++ (t ++ (codes " otherwise" ++ (block_text margin (bare_block handler) ++ codes "\n")))) (simple_same c)
       ∙ ap (λ t. margin ++ (simple_text c ++ (codes " otherwise" ++ (t ++ codes "\n")))) (block_same margin handler)
-  command_same margin (If place x one other) =
+  command_same margin (if_else place x one other) =
       ap (λ t. margin ++ (codes "if (" ++ (t ++ (codes ")" ++ (block_text margin (bare_block one) ++ (else_text margin (bare_else other) ++ codes "\n")))))) (expression_same x)
       ∙ ap (λ t. margin ++ (codes "if (" ++ (expression_text x ++ (codes ")" ++ (t ++ (else_text margin (bare_else other) ++ codes "\n")))))) (block_same margin one)
       ∙ ap (λ t. margin ++ (codes "if (" ++ (expression_text x ++ (codes ")" ++ (block_text margin one ++ (t ++ codes "\n")))))) (else_same margin other)
-  command_same margin (TryThen c place one other) =
+  command_same margin (try_then c place one other) =
       ap (λ t. margin ++ (t ++ (codes " then" ++ (block_text margin (bare_block one) ++ (codes " otherwise" ++ (block_text margin (bare_block other) ++ codes "\n")))))) (simple_same c)
       ∙ ap (λ t. margin ++ (simple_text c ++ (codes " then" ++ (t ++ (codes " otherwise" ++ (block_text margin (bare_block other) ++ codes "\n")))))) (block_same margin one)
       ∙ ap (λ t. margin ++ (simple_text c ++ (codes " then" ++ (block_text margin one ++ (codes " otherwise" ++ (t ++ codes "\n")))))) (block_same margin other)
-  command_same margin (Case place x arms) =
+  command_same margin (case_of place x arms) =
       let m = margin ++ codes "  " in
       let foot = margin ++ codes "}\n" in
       ap (λ t. margin ++ (codes "case (" ++ (t ++ (codes ") {\n" ++ (arms_text m (bare_arms arms) ++ foot))))) (expression_same x)
       ∙ ap (λ t. margin ++ (codes "case (" ++ (expression_text x ++ (codes ") {\n" ++ (t ++ foot))))) (arms_same m arms)
 
   arms_same : (margin : List ℕ) (arms : Arms) → arms_text margin (bare_arms arms) ≡ arms_text margin arms
-  arms_same margin (Last block) = ap (λ t. margin ++ (codes "else" ++ (t ++ codes "\n"))) (block_same margin block)
-  arms_same margin (Arm constants block arms) =
+  arms_same margin (last_arm block) = ap (λ t. margin ++ (codes "else" ++ (t ++ codes "\n"))) (block_same margin block)
+  arms_same margin (and_arm constants block arms) =
       ap (λ t. margin ++ (t ++ (codes ":" ++ (block_text margin (bare_block block) ++ (codes "\n" ++ arms_text margin (bare_arms arms)))))) (parts_same constants)
       ∙ ap (λ t. margin ++ (parts_text constants ++ (codes ":" ++ (t ++ (codes "\n" ++ arms_text margin (bare_arms arms)))))) (block_same margin block)
       ∙ ap (λ t. margin ++ (parts_text constants ++ (codes ":" ++ (block_text margin block ++ (codes "\n" ++ t))))) (arms_same margin arms)
 
   block_same : (margin : List ℕ) (x : CommandBlock) → block_text margin (bare_block x) ≡ block_text margin x
-  block_same margin (Commands cs after) = ap (λ t. codes " {\n" ++ (t ++ (margin ++ codes "}"))) (commands_same (margin ++ codes "  ") cs)
+  block_same margin (command_block cs after) = ap (λ t. codes " {\n" ++ (t ++ (margin ++ codes "}"))) (commands_same (margin ++ codes "  ") cs)
 
   else_same : (margin : List ℕ) (x : ElseBlock) → else_text margin (bare_else x) ≡ else_text margin x
-  else_same margin NoElse = refl
-  else_same margin (Else x) = ap (λ t. codes " else" ++ t) (block_same margin x)
+  else_same margin no_else = refl
+  else_same margin (with_else x) = ap (λ t. codes " else" ++ t) (block_same margin x)
 
   commands_same : (margin : List ℕ) (cs : CommandList) → commands_text margin (bare_list cs) ≡ commands_text margin cs
-  commands_same margin NoCommand = refl
-  commands_same margin (AndCommand c cs) =
+  commands_same margin no_command = refl
+  commands_same margin (and_command c cs) =
       ap (λ t. t ++ commands_text margin (bare_list cs)) (command_same margin c) ∙ ap (λ t. command_text margin c ++ t) (commands_same margin cs)
 
 authority_same : (x : Option Under) → authority_text (bare_authority x) ≡ authority_text x
@@ -169,13 +169,13 @@ head_same n x = ap (λ t. codes "state " ++ (n ++ (codes " " ++ (t ++ codes " {\
 
 body_same : (margin : List ℕ) (x : CommandBlock) → body_text margin (bare_block x) ≡ body_text margin x
 unfolding bare_command
-body_same margin (Commands cs after) = commands_same margin cs
+body_same margin (command_block cs after) = commands_same margin cs
 
 mutual
   unfolding state_text bare_state
 
   state_same : (margin : List ℕ) (x : StateTree) → state_text margin (bare_state x) ≡ state_text margin x
-  state_same margin (StateOf place n x inside children) =
+  state_same margin (state_node place n x inside children) =
       let m = margin ++ codes "  " in
       let foot = margin ++ codes "}\n" in
       ap (λ t. margin ++ (t ++ (body_text m (bare_block inside) ++ (states_text m (bare_states children) ++ foot)))) (head_same n.name x)
@@ -183,8 +183,8 @@ mutual
       ∙ ap (λ t. margin ++ (head_text n.name x ++ (body_text m inside ++ (t ++ foot)))) (states_same m children)
 
   states_same : (margin : List ℕ) (xs : StateList) → states_text margin (bare_states xs) ≡ states_text margin xs
-  states_same margin NoState = refl
-  states_same margin (AndState x xs) =
+  states_same margin no_state = refl
+  states_same margin (and_state x xs) =
       ap (λ t. t ++ states_text margin (bare_states xs)) (state_same margin x) ∙ ap (λ t. state_text margin x ++ t) (states_same margin xs)
 
 design_same : (x : DesignTree) → canonical_text (bare x) ≡ canonical_text x

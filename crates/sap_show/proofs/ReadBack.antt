@@ -12,7 +12,7 @@ use Rattle.sap_show.proofs.Pieces.{Piece, space, line, token, sign, wrapped, bou
 use Rattle.sap_tree.specs.Bare.{bare_expression, bare_expressions, no_spot}
 use Rattle.sap_tree.specs.Precedence.{precedence, unary_precedence, slice_precedence, primary_precedence, precedence_of}
 use Rattle.sap_tree.specs.Spots.{first_of, enclosed}
-use Rattle.sap_tree.specs.Syntax.{Expression, Expressions, Number, Sized, Read, Cell, Unary, Binary, Choose, Slice, Concat, Zext, NoPart, AndPart}
+use Rattle.sap_tree.specs.Syntax.{Expression, Expressions, literal, sized_literal, variable, cell_at, unary_of, binary_of, choice, slice, concat, zero_extend, no_part, and_part}
 use Rattle.sap_tree.specs.Whole.{is_expression, are_expressions, has_two_parts, is_number}
 use Rattle.sap_tree.specs.Words.{is_name}
 use Rattle.sap_text.specs.declared.place.Place.{Place}
@@ -69,22 +69,22 @@ as_tight le (tight a) = a
 -- repetitions grow at their ends
 
 other_last : {l : ℕ} {p1 p2 p3 q : Stage} {x y z : Expression} (o : BinaryOperator) → precedence o ≡ l → g.Others l x p1 y p2 → IsSign p2 r.Inner (sign_of o) p3
-    → g.Bin (l + 1) p3 z q → g.Others l x p1 (Binary (record { first = first_of y; at = here p2 }) o y z) q
+    → g.Bin (l + 1) p3 z q → g.Others l x p1 (binary_of (record { first = first_of y; at = here p2 }) o y z) q
 other_last o at g.no_other s h = g.other o at s h g.no_other
 other_last o at (g.other o' at' s' h' others) s h = g.other o' at' s' h' (other_last o at others s h)
 
 two_joined : {l : ℕ} {p p2 p3 q : Stage} {x y : Expression} (o : BinaryOperator) → precedence o ≡ l → l < unary_precedence → g.Bin l p x p2
-    → IsSign p2 r.Inner (sign_of o) p3 → g.Bin (l + 1) p3 y q → g.Bin l p (Binary (record { first = first_of x; at = here p2 }) o x y) q
+    → IsSign p2 r.Inner (sign_of o) p3 → g.Bin (l + 1) p3 y q → g.Bin l p (binary_of (record { first = first_of x; at = here p2 }) o x y) q
 two_joined o at lt (g.operand u) s h = absurd (omega arith)
 two_joined o at lt (g.chain lt' a others) s h = g.chain lt a (other_last o at others s h)
 
 cut_last : {p1 p2 q : Stage} {x y : Expression} {high low : ℕ} → g.Cuts x p1 y p2 → g.Bounds p2 high low q
-    → g.Cuts x p1 (Slice (record { first = first_of y; at = here p2 }) y high low) q
+    → g.Cuts x p1 (slice (record { first = first_of y; at = here p2 }) y high low) q
 cut_last g.no_cut s = g.cut s g.no_cut
 cut_last (g.cut s' cuts) s = g.cut s' (cut_last cuts s)
 
 cut_behind : {p p2 q : Stage} {y : Expression} {high low : ℕ} → g.Post p y p2 → g.Bounds p2 high low q
-    → g.Post p (Slice (record { first = first_of y; at = here p2 }) y high low) q
+    → g.Post p (slice (record { first = first_of y; at = here p2 }) y high low) q
 cut_behind (g.post prim cuts) s = g.post prim (cut_last cuts s)
 
 precedence_small : (o : BinaryOperator) → (1 ≤ precedence o) × (precedence o < unary_precedence)
@@ -103,16 +103,16 @@ precedence_small b.Mul = (omega arith, omega arith)
 
 bare_enclosed : (place : Place) (x : Expression) → bare_expression (enclosed place x) ≡ bare_expression x
 unfolding bare_expression enclosed
-bare_enclosed place (Number spot n) = refl
-bare_enclosed place (Sized spot width n) = refl
-bare_enclosed place (Read spot n) = refl
-bare_enclosed place (Cell spot n i) = refl
-bare_enclosed place (Unary spot o x) = refl
-bare_enclosed place (Binary spot o x y) = refl
-bare_enclosed place (Choose spot x y z) = refl
-bare_enclosed place (Slice spot x high low) = refl
-bare_enclosed place (Concat spot xs) = refl
-bare_enclosed place (Zext spot x width) = refl
+bare_enclosed place (literal spot n) = refl
+bare_enclosed place (sized_literal spot width n) = refl
+bare_enclosed place (variable spot n) = refl
+bare_enclosed place (cell_at spot n i) = refl
+bare_enclosed place (unary_of spot o x) = refl
+bare_enclosed place (binary_of spot o x y) = refl
+bare_enclosed place (choice spot x y z) = refl
+bare_enclosed place (slice spot x high low) = refl
+bare_enclosed place (concat spot xs) = refl
+bare_enclosed place (zero_extend spot x width) = refl
 
 -- the same tree is read between two stages, and then stand the pieces that follow
 pub record Reads (x : Expression) (least : ℕ) (rest : List Piece) (p q : Stage) : Type 0 where
@@ -160,7 +160,7 @@ pub record ReadsTwo (xs : Expressions) (rest : List Piece) (p q : Stage) : Type 
   pub first : Expression
   pub second : Expression
   pub others : Expressions
-  pub same : bare_expressions (AndPart first (AndPart second others)) ≡ bare_expressions xs
+  pub same : bare_expressions (and_part first (and_part second others)) ≡ bare_expressions xs
   pub before : Stage
   pub after : Stage
   pub behind : Stage
@@ -175,44 +175,44 @@ mutual
   unfolding bare_expression is_expression precedence_of
 
   pub expression_reads : (version : Version) (x : Expression) → is_expression version x ≡ true → (rest : List Piece) (p q : Stage) → Stand (expression x rest) p q → Reads x (precedence_of x) rest p q
-  expression_reads version (Number spot n) d rest p q h =
-      record { tree = Number (spot_here p) n; same = refl; level = primary_precedence; tightly = omega arith; end = h.0; read = tight (g.post (g.number h.1) g.no_cut); follow = h.2 }
-  expression_reads version (Sized spot width n) d rest p q h =
-      record { tree = Sized (spot_here p) width n; same = refl; level = primary_precedence; tightly = omega arith; end = h.0; read = tight (g.post (g.sized h.1) g.no_cut); follow = h.2 }
-  expression_reads version (Read spot n) d rest p q h =
-      record { tree = Read (spot_here p) n; same = refl; level = primary_precedence; tightly = omega arith; end = h.0; read = tight (g.post (g.read h.1) g.no_cut); follow = h.2 }
-  expression_reads version (Cell spot n i) d rest p q h =
+  expression_reads version (literal spot n) d rest p q h =
+      record { tree = literal (spot_here p) n; same = refl; level = primary_precedence; tightly = omega arith; end = h.0; read = tight (g.post (g.number h.1) g.no_cut); follow = h.2 }
+  expression_reads version (sized_literal spot width n) d rest p q h =
+      record { tree = sized_literal (spot_here p) width n; same = refl; level = primary_precedence; tightly = omega arith; end = h.0; read = tight (g.post (g.sized h.1) g.no_cut); follow = h.2 }
+  expression_reads version (variable spot n) d rest p q h =
+      record { tree = variable (spot_here p) n; same = refl; level = primary_precedence; tightly = omega arith; end = h.0; read = tight (g.post (g.read h.1) g.no_cut); follow = h.2 }
+  expression_reads version (cell_at spot n i) d rest p q h =
       let c = h.2 in
       let a = expression_reads version i (and_parts (is_name version n) (is_expression version i) d).1 (sign r.Closing s.CloseBracket ∷ rest) c.0 q c.2 in
       record {
-        tree = Cell (spot_here p) n a.tree;
-        same = ap (λ z. Cell no_spot n z) a.same;
+        tree = cell_at (spot_here p) n a.tree;
+        same = ap (λ z. cell_at no_spot n z) a.same;
         level = primary_precedence;
         tightly = omega arith;
         end = a.follow.0;
         read = tight (g.post (g.cell h.1 c.1 (as_expression a.read) a.follow.1) g.no_cut);
         follow = a.follow.2;
       }
-  expression_reads version (Unary spot o x) d rest p q h =
+  expression_reads version (unary_of spot o x) d rest p q h =
       let a = in_place unary_precedence x (λ ps. expression x ps) (λ ps p q k. expression_reads version x d ps p q k) (omega arith) rest h.0 q h.2 in
       record {
-        tree = Unary (spot_here p) o a.tree;
-        same = ap (λ z. Unary no_spot o z) a.same;
+        tree = unary_of (spot_here p) o a.tree;
+        same = ap (λ z. unary_of no_spot o z) a.same;
         level = unary_precedence;
         tightly = omega arith;
         end = a.end;
         read = joined (omega arith) (omega arith) (g.operand (g.signed o h.1 (as_unary a.tightly a.read)));
         follow = a.follow;
       }
-  expression_reads version (Binary spot o x y) d rest p q h =
+  expression_reads version (binary_of spot o x y) d rest p q h =
       let small = precedence_small o in
       let e = and_parts (is_expression version x) (is_expression version y) d in
       let a = in_place (precedence o) x (λ ps. expression x ps) (λ ps p q k. expression_reads version x e.0 ps p q k) (omega arith) _ p q h in
       let c = a.follow in
       let v = in_place (precedence o + 1) y (λ ps. expression y ps) (λ ps p q k. expression_reads version y e.1 ps p q k) (omega arith) rest c.0 q c.2 in
       record {
-        tree = Binary (record { first = first_of a.tree; at = here a.end }) o a.tree v.tree;
-        same = ap (λ z. Binary no_spot o z (bare_expression v.tree)) a.same ∙ ap (λ z. Binary no_spot o (bare_expression x) z) v.same;
+        tree = binary_of (record { first = first_of a.tree; at = here a.end }) o a.tree v.tree;
+        same = ap (λ z. binary_of no_spot o z (bare_expression v.tree)) a.same ∙ ap (λ z. binary_of no_spot o (bare_expression x) z) v.same;
         level = precedence o;
         tightly = omega arith;
         end = v.end;
@@ -220,7 +220,7 @@ mutual
             (as_joined (precedence o + 1) (omega arith) (omega arith) v.tightly v.read));
         follow = v.follow;
       }
-  expression_reads version (Choose spot x y z) d rest p q h =
+  expression_reads version (choice spot x y z) d rest p q h =
       let e = and_parts (is_expression version x && is_expression version y) (is_expression version z) d in
       let f = and_parts (is_expression version x) (is_expression version y) e.0 in
       let a = in_place 1 x (λ ps. expression x ps) (λ ps p q k. expression_reads version x f.0 ps p q k) (omega arith) _ p q h in
@@ -229,46 +229,46 @@ mutual
       let k = v.follow in
       let t = expression_reads version z e.1 rest k.0 q k.2 in
       record {
-        tree = Choose (record { first = first_of a.tree; at = here a.end }) a.tree v.tree t.tree;
-        same = ap (λ u. Choose no_spot u (bare_expression v.tree) (bare_expression t.tree)) a.same
-            ∙ ap (λ u. Choose no_spot (bare_expression x) u (bare_expression t.tree)) v.same ∙ ap (λ u. Choose no_spot (bare_expression x) (bare_expression y) u) t.same;
+        tree = choice (record { first = first_of a.tree; at = here a.end }) a.tree v.tree t.tree;
+        same = ap (λ u. choice no_spot u (bare_expression v.tree) (bare_expression t.tree)) a.same
+            ∙ ap (λ u. choice no_spot (bare_expression x) u (bare_expression t.tree)) v.same ∙ ap (λ u. choice no_spot (bare_expression x) (bare_expression y) u) t.same;
         level = 0;
         tightly = omega arith;
         end = t.end;
         read = loose (g.choice (as_joined 1 (omega arith) (omega arith) a.tightly a.read) c.1 (as_expression v.read) k.1 (as_expression t.read));
         follow = t.follow;
       }
-  expression_reads version (Slice spot x high low) d rest p q h =
+  expression_reads version (slice spot x high low) d rest p q h =
       let a = in_place slice_precedence x (λ ps. expression x ps) (λ ps p q k. expression_reads version x (and_parts (is_expression version x) (is_number high) (and_parts (is_expression version x && is_number high) (is_number low) d).0).0 ps p q k) (omega arith) (bounds high low rest) p q h in
       let i = a.follow in let j = i.2 in let k = j.2 in let l = k.2 in let m = l.2 in
       record {
-        tree = Slice (record { first = first_of a.tree; at = here a.end }) a.tree high low;
-        same = ap (λ z. Slice no_spot z high low) a.same;
+        tree = slice (record { first = first_of a.tree; at = here a.end }) a.tree high low;
+        same = ap (λ z. slice no_spot z high low) a.same;
         level = slice_precedence;
         tightly = omega arith;
         end = m.0;
         read = tight (cut_behind (as_tight a.tightly a.read) (g.bounds i.1 j.1 k.1 l.1 m.1));
         follow = m.2;
       }
-  expression_reads version (Concat spot xs) d rest p q h =
+  expression_reads version (concat spot xs) d rest p q h =
       let e = and_parts (has_two_parts xs) (are_expressions version xs) d in
       let a = two_read version xs e.0 e.1 (sign r.Closing s.CloseBrace ∷ rest) h.0 q h.2 in
       record {
-        tree = Concat (spot_here p) (AndPart a.first (AndPart a.second a.others));
-        same = ap (λ z. Concat no_spot z) a.same;
+        tree = concat (spot_here p) (and_part a.first (and_part a.second a.others));
+        same = ap (λ z. concat no_spot z) a.same;
         level = primary_precedence;
         tightly = omega arith;
         end = a.follow.0;
         read = tight (g.post (g.concat h.1 a.one a.comma a.two a.more a.follow.1) g.no_cut);
         follow = a.follow.2;
       }
-  expression_reads version (Zext spot x width) d rest p q h =
+  expression_reads version (zero_extend spot x width) d rest p q h =
       let c = h.2 in
       let a = expression_reads version x (and_parts (is_expression version x) (is_number width) d).0 _ c.0 q c.2 in
       let i = a.follow in let j = i.2 in let k = j.2 in
       record {
-        tree = Zext (spot_here p) a.tree width;
-        same = ap (λ z. Zext no_spot z width) a.same;
+        tree = zero_extend (spot_here p) a.tree width;
+        same = ap (λ z. zero_extend no_spot z width) a.same;
         level = primary_precedence;
         tightly = omega arith;
         end = k.0;
@@ -277,12 +277,12 @@ mutual
       }
 
   two_read : (version : Version) (xs : Expressions) → has_two_parts xs ≡ true → are_expressions version xs ≡ true → (rest : List Piece) (p q : Stage) → Stand (parts xs rest) p q → ReadsTwo xs rest p q
-  two_read version NoPart t d rest p q h = absurd (cc)
-  two_read version (AndPart x NoPart) t d rest p q h = absurd (cc)
-  two_read version (AndPart x (AndPart y xs)) t d rest p q h =
-      let e = and_parts (is_expression version x) (are_expressions version (AndPart y xs)) d in
+  two_read version no_part t d rest p q h = absurd (cc)
+  two_read version (and_part x no_part) t d rest p q h = absurd (cc)
+  two_read version (and_part x (and_part y xs)) t d rest p q h =
+      let e = and_parts (is_expression version x) (are_expressions version (and_part y xs)) d in
       let f = and_parts (is_expression version y) (are_expressions version xs) e.1 in
-      let a = expression_reads version x e.0 (more_parts (AndPart y xs) rest) p q h in
+      let a = expression_reads version x e.0 (more_parts (and_part y xs) rest) p q h in
       let c = a.follow in
       let v = expression_reads version y f.0 (more_parts xs rest) c.0 q c.2 in
       let t = parts_read version xs f.1 rest v.end q v.follow in
@@ -290,8 +290,8 @@ mutual
         first = a.tree;
         second = v.tree;
         others = t.tree;
-        same = ap (λ z. AndPart z (AndPart (bare_expression v.tree) (bare_expressions t.tree))) a.same
-            ∙ ap (λ z. AndPart (bare_expression x) (AndPart z (bare_expressions t.tree))) v.same ∙ ap (λ z. AndPart (bare_expression x) (AndPart (bare_expression y) z)) t.same;
+        same = ap (λ z. and_part z (and_part (bare_expression v.tree) (bare_expressions t.tree))) a.same
+            ∙ ap (λ z. and_part (bare_expression x) (and_part z (bare_expressions t.tree))) v.same ∙ ap (λ z. and_part (bare_expression x) (and_part (bare_expression y) z)) t.same;
         before = a.end;
         after = c.0;
         behind = v.end;
@@ -304,14 +304,14 @@ mutual
       }
 
   parts_read : (version : Version) (xs : Expressions) → are_expressions version xs ≡ true → (rest : List Piece) (p q : Stage) → Stand (more_parts xs rest) p q → ReadsParts xs rest p q
-  parts_read version NoPart d rest p q h = record { tree = NoPart; same = refl; end = p; read = g.no_part; follow = h }
-  parts_read version (AndPart x xs) d rest p q h =
+  parts_read version no_part d rest p q h = record { tree = no_part; same = refl; end = p; read = g.no_part; follow = h }
+  parts_read version (and_part x xs) d rest p q h =
       let e = and_parts (is_expression version x) (are_expressions version xs) d in
       let a = expression_reads version x e.0 (more_parts xs rest) h.0 q h.2 in
       let t = parts_read version xs e.1 rest a.end q a.follow in
       record {
-        tree = AndPart a.tree t.tree;
-        same = ap (λ z. AndPart z (bare_expressions t.tree)) a.same ∙ ap (λ z. AndPart (bare_expression x) z) t.same;
+        tree = and_part a.tree t.tree;
+        same = ap (λ z. and_part z (bare_expressions t.tree)) a.same ∙ ap (λ z. and_part (bare_expression x) z) t.same;
         end = t.end;
         read = g.part h.1 (as_expression a.read) t.read;
         follow = t.follow;

@@ -13,7 +13,7 @@ use Rattle.sap_show.proofs.Pieces.{Piece, space, line, sign, word, name, express
 use Rattle.sap_show.proofs.ReadBack.{Stand, expression_reads, as_expression}
 use Rattle.sap_tree.specs.Bare.{nowhere, bare_name, bare_number, bare_expression, bare_expressions, bare_tag, bare_tags, bare_simple, bare_command, bare_block, bare_else, bare_arms, bare_list, bare_authority, bare_kind, bare_start, bare_declaration, bare_state, bare_states, bare}
 use Rattle.sap_tree.specs.Limits.{most_arms, most_blocks}
-use Rattle.sap_tree.specs.Syntax.{Expression, Number, Sized, Read, Cell, Unary, Binary, Choose, Slice, Concat, Zext, Expressions, NoPart, AndPart, TagExpression, TagExpressions, Level, TagOf, LevelAt, Join, NoTag, AndTag, SimpleCommand, Assign, Write, SetTag, SetCellTag, Goto, Fall, Command, Do, Try, If, TryThen, Case, Arms, Last, Arm, CommandBlock, Commands, ElseBlock, NoElse, Else, CommandList, NoCommand, AndCommand, StateTree, StateOf, StateList, NoState, AndState, DesignTree}
+use Rattle.sap_tree.specs.Syntax.{Expression, literal, sized_literal, variable, cell_at, unary_of, binary_of, choice, slice, concat, zero_extend, Expressions, no_part, and_part, TagExpression, TagExpressions, level_of, tag_at, level_at, join_of, no_tag, and_tag, SimpleCommand, assign, write, set_tag, set_cell_tag, go_to, fall_to_child, Command, lone, try, if_else, try_then, case_of, Arms, last_arm, and_arm, CommandBlock, command_block, ElseBlock, no_else, with_else, CommandList, no_command, and_command, StateTree, state_node, StateList, no_state, and_state, DesignTree}
 use Rattle.sap_tree.specs.Whole.{is_tag, are_tags, has_two_tags, is_outermost, is_outermost_tag, is_simple, is_command, is_block, is_else, is_constant, are_constants, has_constant, arm_count, are_arms, are_commands, is_kind, is_state, are_states, has_state, block_depth, is_tree, is_declaration}
 use Rattle.sap_tree.specs.Words.{is_name, is_second}
 use Rattle.sap_tree.specs.declared.syntax.Decl.TheVariants as d
@@ -45,7 +45,7 @@ pub record ReadsTwoTags (xs : TagExpressions) (rest : List Piece) (p q : Stage) 
   pub first : TagExpression
   pub second : TagExpression
   pub others : TagExpressions
-  pub same : bare_tags (AndTag first (AndTag second others)) ≡ bare_tags xs
+  pub same : bare_tags (and_tag first (and_tag second others)) ≡ bare_tags xs
   pub before : Stage
   pub after : Stage
   pub behind : Stage
@@ -60,47 +60,47 @@ mutual
   unfolding bare_tag is_tag
 
   pub tag_reads : (version : Version) (x : TagExpression) → is_tag version x ≡ true → (rest : List Piece) (p q : Stage) → Stand (tag x rest) p q → ReadsTag x rest p q
-  tag_reads version (Level n) h rest p q o =
-      record { tree = Level (mention p n.name); same = refl; end = o.0; read = g.level o.1; follow = o.2 }
-  tag_reads version (TagOf place x) h rest p q o =
+  tag_reads version (level_of n) h rest p q o =
+      record { tree = level_of (mention p n.name); same = refl; end = o.0; read = g.level o.1; follow = o.2 }
+  tag_reads version (tag_at place x) h rest p q o =
       let i = o.2 in
       let a = expression_reads version x h (sign r.Closing s.CloseParen ∷ rest) i.0 q i.2 in
       record {
-        tree = TagOf (here p) a.tree;
-        same = ap (λ z. TagOf nowhere z) a.same;
+        tree = tag_at (here p) a.tree;
+        same = ap (λ z. tag_at nowhere z) a.same;
         end = a.follow.0;
         read = g.tag_of o.1 i.1 (as_expression a.read) a.follow.1;
         follow = a.follow.2;
       }
-  tag_reads version (LevelAt place x) h rest p q o =
+  tag_reads version (level_at place x) h rest p q o =
       let i = o.2 in
       let a = expression_reads version x h (sign r.Closing s.CloseParen ∷ rest) i.0 q i.2 in
       record {
-        tree = LevelAt (here p) a.tree;
-        same = ap (λ z. LevelAt nowhere z) a.same;
+        tree = level_at (here p) a.tree;
+        same = ap (λ z. level_at nowhere z) a.same;
         end = a.follow.0;
         read = g.level_at o.1 i.1 (as_expression a.read) a.follow.1;
         follow = a.follow.2;
       }
-  tag_reads version (Join place xs) h rest p q o =
+  tag_reads version (join_of place xs) h rest p q o =
       let e = and_parts (has_two_tags xs) (are_tags version xs) h in
       let i = o.2 in
       let a = two_read version xs e.0 e.1 (sign r.Closing s.CloseParen ∷ rest) i.0 q i.2 in
       record {
-        tree = Join (here p) (AndTag a.first (AndTag a.second a.others));
-        same = ap (λ z. Join nowhere z) a.same;
+        tree = join_of (here p) (and_tag a.first (and_tag a.second a.others));
+        same = ap (λ z. join_of nowhere z) a.same;
         end = a.follow.0;
         read = g.join o.1 i.1 a.one a.comma a.two a.more a.follow.1;
         follow = a.follow.2;
       }
 
   two_read : (version : Version) (xs : TagExpressions) → has_two_tags xs ≡ true → are_tags version xs ≡ true → (rest : List Piece) (p q : Stage) → Stand (tags xs rest) p q → ReadsTwoTags xs rest p q
-  two_read version NoTag t h rest p q o = absurd (cc)
-  two_read version (AndTag x NoTag) t h rest p q o = absurd (cc)
-  two_read version (AndTag x (AndTag y xs)) t h rest p q o =
-      let e = and_parts (is_tag version x) (are_tags version (AndTag y xs)) h in
+  two_read version no_tag t h rest p q o = absurd (cc)
+  two_read version (and_tag x no_tag) t h rest p q o = absurd (cc)
+  two_read version (and_tag x (and_tag y xs)) t h rest p q o =
+      let e = and_parts (is_tag version x) (are_tags version (and_tag y xs)) h in
       let f = and_parts (is_tag version y) (are_tags version xs) e.1 in
-      let a = tag_reads version x e.0 (more_tags (AndTag y xs) rest) p q o in
+      let a = tag_reads version x e.0 (more_tags (and_tag y xs) rest) p q o in
       let i = a.follow in
       let v = tag_reads version y f.0 (more_tags xs rest) i.0 q i.2 in
       let l = tags_read version xs f.1 rest v.end q v.follow in
@@ -108,8 +108,8 @@ mutual
         first = a.tree;
         second = v.tree;
         others = l.tree;
-        same = ap (λ z. AndTag z (AndTag (bare_tag v.tree) (bare_tags l.tree))) a.same
-            ∙ ap (λ z. AndTag (bare_tag x) (AndTag z (bare_tags l.tree))) v.same ∙ ap (λ z. AndTag (bare_tag x) (AndTag (bare_tag y) z)) l.same;
+        same = ap (λ z. and_tag z (and_tag (bare_tag v.tree) (bare_tags l.tree))) a.same
+            ∙ ap (λ z. and_tag (bare_tag x) (and_tag z (bare_tags l.tree))) v.same ∙ ap (λ z. and_tag (bare_tag x) (and_tag (bare_tag y) z)) l.same;
         before = a.end;
         after = i.0;
         behind = v.end;
@@ -122,14 +122,14 @@ mutual
       }
 
   tags_read : (version : Version) (xs : TagExpressions) → are_tags version xs ≡ true → (rest : List Piece) (p q : Stage) → Stand (more_tags xs rest) p q → ReadsTags xs rest p q
-  tags_read version NoTag h rest p q o = record { tree = NoTag; same = refl; end = p; read = g.no_tag; follow = o }
-  tags_read version (AndTag x xs) h rest p q o =
+  tags_read version no_tag h rest p q o = record { tree = no_tag; same = refl; end = p; read = g.no_tag; follow = o }
+  tags_read version (and_tag x xs) h rest p q o =
       let e = and_parts (is_tag version x) (are_tags version xs) h in
       let a = tag_reads version x e.0 (more_tags xs rest) o.0 q o.2 in
       let l = tags_read version xs e.1 rest a.end q a.follow in
       record {
-        tree = AndTag a.tree l.tree;
-        same = ap (λ z. AndTag z (bare_tags l.tree)) a.same ∙ ap (λ z. AndTag (bare_tag x) z) l.same;
+        tree = and_tag a.tree l.tree;
+        same = ap (λ z. and_tag z (bare_tags l.tree)) a.same ∙ ap (λ z. and_tag (bare_tag x) z) l.same;
         end = l.end;
         read = g.tag o.1 a.read l.read;
         follow = l.follow;
@@ -146,17 +146,17 @@ pub record ReadsSimple (depth : ℕ) (c : SimpleCommand) (rest : List Piece) (p 
 
 simple_reads : (version : Version) (depth : ℕ) (c : SimpleCommand) → is_simple version c ≡ true → (rest : List Piece) (p q : Stage) → Stand (simple depth c rest) p q → ReadsSimple depth c rest p q
 unfolding bare_simple is_simple
-simple_reads version depth (Assign n x) h rest p q o =
+simple_reads version depth (assign n x) h rest p q o =
     let i = o.2 in
     let a = expression_reads version x (expression_of_outermost version x (and_parts (is_name version n.name) (is_outermost version x) h).1) rest i.0 q i.2 in
     record {
-      tree = Assign (mention p n.name) a.tree;
-      same = ap (λ z. Assign (bare_name n) z) a.same;
+      tree = assign (mention p n.name) a.tree;
+      same = ap (λ z. assign (bare_name n) z) a.same;
       end = a.end;
       read = g.assign o.1 i.1 (as_expression a.read);
       follow = a.follow;
     }
-simple_reads version depth (Write n y x) h rest p q o =
+simple_reads version depth (write n y x) h rest p q o =
     let e = and_parts (is_name version n.name && is_outermost version y) (is_outermost version x) h in
     let f = and_parts (is_name version n.name) (is_outermost version y) e.0 in
     let i = o.2 in
@@ -165,23 +165,23 @@ simple_reads version depth (Write n y x) h rest p q o =
     let l = j.2 in
     let v = expression_reads version x (expression_of_outermost version x e.1) rest l.0 q l.2 in
     record {
-      tree = Write (mention p n.name) a.tree v.tree;
-      same = ap (λ z. Write (bare_name n) z (bare_expression v.tree)) a.same ∙ ap (λ z. Write (bare_name n) (bare_expression y) z) v.same;
+      tree = write (mention p n.name) a.tree v.tree;
+      same = ap (λ z. write (bare_name n) z (bare_expression v.tree)) a.same ∙ ap (λ z. write (bare_name n) (bare_expression y) z) v.same;
       end = v.end;
       read = g.write o.1 i.1 (as_expression a.read) j.1 l.1 (as_expression v.read);
       follow = v.follow;
     }
-simple_reads version depth (SetTag place n x) h rest p q o =
+simple_reads version depth (set_tag place n x) h rest p q o =
     let i = o.2 in let j = i.2 in let l = j.2 in
     let a = tag_reads version x (tag_of_outermost version x (and_parts (is_name version n.name) (is_outermost_tag version x) h).1) (sign r.Plain s.CloseParen ∷ rest) l.0 q l.2 in
     record {
-      tree = SetTag (here p) (mention i.0 n.name) a.tree;
-      same = ap (λ z. SetTag nowhere (bare_name n) z) a.same;
+      tree = set_tag (here p) (mention i.0 n.name) a.tree;
+      same = ap (λ z. set_tag nowhere (bare_name n) z) a.same;
       end = a.follow.0;
       read = g.set_tag o.1 i.1 j.1 l.1 a.read a.follow.1;
       follow = a.follow.2;
     }
-simple_reads version depth (SetCellTag place n y x) h rest p q o =
+simple_reads version depth (set_cell_tag place n y x) h rest p q o =
     let e = and_parts (is_name version n.name && is_outermost version y) (is_outermost_tag version x) h in
     let f = and_parts (is_name version n.name) (is_outermost version y) e.0 in
     let i = o.2 in let j = i.2 in let l = j.2 in
@@ -189,16 +189,16 @@ simple_reads version depth (SetCellTag place n y x) h rest p q o =
     let m = a.follow in let u = m.2 in
     let v = tag_reads version x (tag_of_outermost version x e.1) (sign r.Plain s.CloseParen ∷ rest) u.0 q u.2 in
     record {
-      tree = SetCellTag (here p) (mention i.0 n.name) a.tree v.tree;
-      same = ap (λ z. SetCellTag nowhere (bare_name n) z (bare_tag v.tree)) a.same ∙ ap (λ z. SetCellTag nowhere (bare_name n) (bare_expression y) z) v.same;
+      tree = set_cell_tag (here p) (mention i.0 n.name) a.tree v.tree;
+      same = ap (λ z. set_cell_tag nowhere (bare_name n) z (bare_tag v.tree)) a.same ∙ ap (λ z. set_cell_tag nowhere (bare_name n) (bare_expression y) z) v.same;
       end = v.follow.0;
       read = g.set_cell_tag o.1 i.1 j.1 l.1 (as_expression a.read) m.1 u.1 v.read v.follow.1;
       follow = v.follow.2;
     }
-simple_reads version depth (Goto place n) h rest p q o =
+simple_reads version depth (go_to place n) h rest p q o =
     let i = o.2 in
-    record { tree = Goto (here p) (mention o.0 n.name); same = refl; end = i.0; read = g.goto o.1 i.1; follow = i.2 }
-simple_reads version depth (Fall place) h rest p q o = record { tree = Fall (here p); same = refl; end = o.0; read = g.fall o.1; follow = o.2 }
+    record { tree = go_to (here p) (mention o.0 n.name); same = refl; end = i.0; read = g.goto o.1 i.1; follow = i.2 }
+simple_reads version depth (fall_to_child place) h rest p q o = record { tree = fall_to_child (here p); same = refl; end = o.0; read = g.fall o.1; follow = o.2 }
 
 -- constants
 
@@ -211,16 +211,16 @@ pub record ReadsConstant (x : Expression) (rest : List Piece) (p q : Stage) : Ty
 
 constant_reads : (x : Expression) → is_constant x ≡ true → (rest : List Piece) (p q : Stage) → Stand (constant x rest) p q → ReadsConstant x rest p q
 unfolding bare_expression
-constant_reads (Number spot n) h rest p q o = record { tree = Number (spot_here p) n; same = refl; end = o.0; read = g.plain o.1; follow = o.2 }
-constant_reads (Sized spot width n) h rest p q o = record { tree = Sized (spot_here p) width n; same = refl; end = o.0; read = g.wide o.1; follow = o.2 }
-constant_reads (Read spot n) h rest p q o = absurd (cc)
-constant_reads (Cell spot n i) h rest p q o = absurd (cc)
-constant_reads (Unary spot o x) h rest p q i = absurd (cc)
-constant_reads (Binary spot o x y) h rest p q i = absurd (cc)
-constant_reads (Choose spot x y z) h rest p q o = absurd (cc)
-constant_reads (Slice spot x high low) h rest p q o = absurd (cc)
-constant_reads (Concat spot xs) h rest p q o = absurd (cc)
-constant_reads (Zext spot x width) h rest p q o = absurd (cc)
+constant_reads (literal spot n) h rest p q o = record { tree = literal (spot_here p) n; same = refl; end = o.0; read = g.plain o.1; follow = o.2 }
+constant_reads (sized_literal spot width n) h rest p q o = record { tree = sized_literal (spot_here p) width n; same = refl; end = o.0; read = g.wide o.1; follow = o.2 }
+constant_reads (variable spot n) h rest p q o = absurd (cc)
+constant_reads (cell_at spot n i) h rest p q o = absurd (cc)
+constant_reads (unary_of spot o x) h rest p q i = absurd (cc)
+constant_reads (binary_of spot o x y) h rest p q i = absurd (cc)
+constant_reads (choice spot x y z) h rest p q o = absurd (cc)
+constant_reads (slice spot x high low) h rest p q o = absurd (cc)
+constant_reads (concat spot xs) h rest p q o = absurd (cc)
+constant_reads (zero_extend spot x width) h rest p q o = absurd (cc)
 
 pub record ReadsConstants (xs : Expressions) (rest : List Piece) (p q : Stage) : Type 0 where
   pub tree : Expressions
@@ -231,14 +231,14 @@ pub record ReadsConstants (xs : Expressions) (rest : List Piece) (p q : Stage) :
 
 constants_read : (xs : Expressions) → are_constants xs ≡ true → (rest : List Piece) (p q : Stage) → Stand (more_constants xs rest) p q → ReadsConstants xs rest p q
 unfolding bare_expression
-constants_read NoPart h rest p q o = record { tree = NoPart; same = refl; end = p; read = g.no_constant; follow = o }
-constants_read (AndPart x xs) h rest p q o =
+constants_read no_part h rest p q o = record { tree = no_part; same = refl; end = p; read = g.no_constant; follow = o }
+constants_read (and_part x xs) h rest p q o =
     let e = and_parts (is_constant x) (are_constants xs) h in
     let a = constant_reads x e.0 (more_constants xs rest) o.0 q o.2 in
     let v = constants_read xs e.1 rest a.end q a.follow in
     record {
-      tree = AndPart a.tree v.tree;
-      same = ap (λ z. AndPart z (bare_expressions v.tree)) a.same ∙ ap (λ z. AndPart (bare_expression x) z) v.same;
+      tree = and_part a.tree v.tree;
+      same = ap (λ z. and_part z (bare_expressions v.tree)) a.same ∙ ap (λ z. and_part (bare_expression x) z) v.same;
       end = v.end;
       read = g.constant o.1 a.read v.read;
       follow = v.follow;
@@ -297,15 +297,15 @@ no_arm h = cc
 values_read : (xs : Expressions) → (has_constant xs && are_constants xs) ≡ true → (rest : List Piece) (p q : Stage) → Stand (constants xs (sign r.Plain s.Colon ∷ rest)) p q
     → ReadsValues xs rest p q
 unfolding bare_expression
-values_read NoPart h rest p q o = absurd (no_arm h)
-values_read (AndPart x xs) h rest p q o =
+values_read no_part h rest p q o = absurd (no_arm h)
+values_read (and_part x xs) h rest p q o =
     let f = and_parts (is_constant x) (are_constants xs) h in
     let a = constant_reads x f.0 (more_constants xs (sign r.Plain s.Colon ∷ rest)) p q o in
     let v = constants_read xs f.1 (sign r.Plain s.Colon ∷ rest) a.end q a.follow in
     let i = v.follow in
     record {
-      tree = AndPart a.tree v.tree;
-      same = ap (λ z. AndPart z (bare_expressions v.tree)) a.same ∙ ap (λ z. AndPart (bare_expression x) z) v.same;
+      tree = and_part a.tree v.tree;
+      same = ap (λ z. and_part z (bare_expressions v.tree)) a.same ∙ ap (λ z. and_part (bare_expression x) z) v.same;
       end = i.0;
       read = λ depth b m z. g.arm a.read v.read i.1 z;
       follow = i.2;
@@ -315,22 +315,22 @@ mutual
   unfolding bare_command is_command bare_expression
 
   command_reads : (version : Version) (c : Command) (level depth : ℕ) → is_command version c ≡ true → (rest : List Piece) (p q : Stage) → Stand (command c level depth rest) p q → ReadsCommand depth c rest p q
-  command_reads version (Do c) level depth h rest p q o =
+  command_reads version (lone c) level depth h rest p q o =
       let a = simple_reads version depth c h (sign r.Plain s.Semicolon ∷ line ∷ rest) p q (behind_margin level _ p q o) in
-      record { tree = Do a.tree; same = ap (λ z. Do z) a.same; end = a.follow.0; read = g.unhandled a.read a.follow.1; follow = a.follow.2 }
-  command_reads version (Try c place handler) level depth h rest p q o =
+      record { tree = lone a.tree; same = ap (λ z. lone z) a.same; end = a.follow.0; read = g.unhandled a.read a.follow.1; follow = a.follow.2 }
+  command_reads version (try c place handler) level depth h rest p q o =
       let e = and_parts (is_simple version c) (is_block version handler) h in
       let a = simple_reads version depth c e.0 (space ∷ word r.Plain w.Otherwise ∷ block handler level depth (line ∷ rest)) p q (behind_margin level _ p q o) in
       let i = a.follow in
       let v = block_reads version handler level depth e.1 (line ∷ rest) i.0 q i.2 in
       record {
-        tree = Try a.tree (here a.end) v.tree;
-        same = ap (λ z. Try z nowhere (bare_block v.tree)) a.same ∙ ap (λ z. Try (bare_simple c) nowhere z) v.same;
+        tree = try a.tree (here a.end) v.tree;
+        same = ap (λ z. try z nowhere (bare_block v.tree)) a.same ∙ ap (λ z. try (bare_simple c) nowhere z) v.same;
         end = v.end;
         read = g.handled a.read i.1 v.read;
         follow = v.follow;
       }
-  command_reads version (If place x one other) level depth h rest p q o =
+  command_reads version (if_else place x one other) level depth h rest p q o =
       let e = and_parts (is_outermost version x && is_block version one) (is_else version other) h in
       let f = and_parts (is_outermost version x) (is_block version one) e.0 in
       let i = behind_margin level (word (r.Command depth) w.If ∷ space ∷ sign r.Plain s.OpenParen
@@ -341,14 +341,14 @@ mutual
       let v = block_reads version one level depth f.1 (else_part other level depth (line ∷ rest)) l.0 q l.2 in
       let u = else_reads version other level depth e.1 (line ∷ rest) v.end q v.follow in
       record {
-        tree = If (here p) a.tree v.tree u.tree;
-        same = ap (λ z. If nowhere z (bare_block v.tree) (bare_else u.tree)) a.same
-            ∙ ap (λ z. If nowhere (bare_expression x) z (bare_else u.tree)) v.same ∙ ap (λ z. If nowhere (bare_expression x) (bare_block one) z) u.same;
+        tree = if_else (here p) a.tree v.tree u.tree;
+        same = ap (λ z. if_else nowhere z (bare_block v.tree) (bare_else u.tree)) a.same
+            ∙ ap (λ z. if_else nowhere (bare_expression x) z (bare_else u.tree)) v.same ∙ ap (λ z. if_else nowhere (bare_expression x) (bare_block one) z) u.same;
         end = u.end;
         read = g.branch i.1 j.1 (as_expression a.read) l.1 v.read u.read;
         follow = u.follow;
       }
-  command_reads version (TryThen c place one other) level depth h rest p q o =
+  command_reads version (try_then c place one other) level depth h rest p q o =
       let e = and_parts (is_second version && is_simple version c && is_block version one) (is_block version other) h in
       let f = and_parts (is_second version && is_simple version c) (is_block version one) e.0 in
       let i = and_parts (is_second version) (is_simple version c) f.0 in
@@ -359,26 +359,26 @@ mutual
       let l = v.follow in
       let u = block_reads version other level depth e.1 (line ∷ rest) l.0 q l.2 in
       record {
-        tree = TryThen a.tree (here a.end) v.tree u.tree;
-        same = ap (λ z. TryThen z nowhere (bare_block v.tree) (bare_block u.tree)) a.same
-            ∙ ap (λ z. TryThen (bare_simple c) nowhere z (bare_block u.tree)) v.same ∙ ap (λ z. TryThen (bare_simple c) nowhere (bare_block one) z) u.same;
+        tree = try_then a.tree (here a.end) v.tree u.tree;
+        same = ap (λ z. try_then z nowhere (bare_block v.tree) (bare_block u.tree)) a.same
+            ∙ ap (λ z. try_then (bare_simple c) nowhere z (bare_block u.tree)) v.same ∙ ap (λ z. try_then (bare_simple c) nowhere (bare_block one) z) u.same;
         end = u.end;
         read = g.decided a.read j.1 v.read l.1 u.read;
         follow = u.follow;
       }
-  command_reads version (Case place x (Last b)) level depth h rest p q o =
+  command_reads version (case_of place x (last_arm b)) level depth h rest p q o =
       let f = and_parts (is_second version && is_outermost version x && false && nat_le 0 most_arms) (is_block version b) h in
       let g = and_parts (is_second version && is_outermost version x && false) (nat_le 0 most_arms) f.0 in
       absurd (no_arm (and_parts (is_second version && is_outermost version x) false g.0).1)
-  command_reads version (Case place x (Arm xs b list)) level depth h rest p q o =
-      let f = and_parts (is_second version && is_outermost version x && true && nat_le (1 + arm_count list) most_arms) (are_arms version (Arm xs b list)) h in
+  command_reads version (case_of place x (and_arm xs b list)) level depth h rest p q o =
+      let f = and_parts (is_second version && is_outermost version x && true && nat_le (1 + arm_count list) most_arms) (are_arms version (and_arm xs b list)) h in
       let i = and_parts (is_second version && is_outermost version x && true) (nat_le (1 + arm_count list) most_arms) f.0 in
       let j = and_parts (is_second version && is_outermost version x) true i.0 in
       let l = and_parts (is_second version) (is_outermost version x) j.0 in
       let m = and_parts (has_constant xs && are_constants xs && is_block version b) (are_arms version list) f.1 in
       let foot = margin level (sign r.Plain s.CloseBrace ∷ line ∷ rest) in
       let more = arms list (suc level) depth foot in
-      let first = arms (Arm xs b list) (suc level) depth foot in
+      let first = arms (and_arm xs b list) (suc level) depth foot in
       let n = behind_margin level (word (r.Command depth) w.Case ∷ space ∷ sign r.Plain s.OpenParen
       ∷ expression x (sign r.Plain s.CloseParen ∷ space ∷ sign r.Plain s.OpenBrace ∷ line ∷ first)) p q o in
       let t = n.2 in
@@ -391,22 +391,22 @@ mutual
       let v = arms_read version list (suc level) depth m.1 foot k.end q k.follow in
       let end = behind_margin level (sign r.Plain s.CloseBrace ∷ line ∷ rest) v.end q v.follow in
       record {
-        tree = Case (here p) a.tree (Arm c.tree k.tree v.tree);
-        same = ap (λ z. Case nowhere z (Arm (bare_expressions c.tree) (bare_block k.tree) (bare_arms v.tree))) a.same
-            ∙ ap (λ z. Case nowhere (bare_expression x) (Arm z (bare_block k.tree) (bare_arms v.tree))) c.same
-            ∙ ap (λ z. Case nowhere (bare_expression x) (Arm (bare_expressions xs) z (bare_arms v.tree))) k.same
-            ∙ ap (λ z. Case nowhere (bare_expression x) (Arm (bare_expressions xs) (bare_block b) z)) v.same;
+        tree = case_of (here p) a.tree (and_arm c.tree k.tree v.tree);
+        same = ap (λ z. case_of nowhere z (and_arm (bare_expressions c.tree) (bare_block k.tree) (bare_arms v.tree))) a.same
+            ∙ ap (λ z. case_of nowhere (bare_expression x) (and_arm z (bare_block k.tree) (bare_arms v.tree))) c.same
+            ∙ ap (λ z. case_of nowhere (bare_expression x) (and_arm (bare_expressions xs) z (bare_arms v.tree))) k.same
+            ∙ ap (λ z. case_of nowhere (bare_expression x) (and_arm (bare_expressions xs) (bare_block b) z)) v.same;
         end = end.0;
         read = g.case n.1 t.1 (as_expression a.read) u.1 y.1 (c.read (depth + 1) k.tree k.end k.read) v.read end.1;
         follow = end.2;
       }
 
   arms_read : (version : Version) (list : Arms) (level depth : ℕ) → are_arms version list ≡ true → (rest : List Piece) (p q : Stage) → Stand (arms list level depth rest) p q → ReadsArms (depth + 1) list rest p q
-  arms_read version (Last b) level depth h rest p q o =
+  arms_read version (last_arm b) level depth h rest p q o =
       let i = behind_margin level (word r.Plain w.Else ∷ block b level depth (line ∷ rest)) p q o in
       let a = block_reads version b level depth h (line ∷ rest) i.0 q i.2 in
-      record { tree = Last a.tree; same = ap (λ z. Last z) a.same; end = a.end; read = g.last i.1 a.read; follow = a.follow }
-  arms_read version (Arm xs b list) level depth h rest p q o =
+      record { tree = last_arm a.tree; same = ap (λ z. last_arm z) a.same; end = a.end; read = g.last i.1 a.read; follow = a.follow }
+  arms_read version (and_arm xs b list) level depth h rest p q o =
       let e = and_parts (has_constant xs && are_constants xs && is_block version b) (are_arms version list) h in
       let more = arms list level depth rest in
       let f = and_parts (has_constant xs && are_constants xs) (is_block version b) e.0 in
@@ -414,35 +414,35 @@ mutual
       let i = block_reads version b level depth f.1 (line ∷ more) c.end q c.follow in
       let v = arms_read version list level depth e.1 rest i.end q i.follow in
       record {
-        tree = Arm c.tree i.tree v.tree;
-        same = ap (λ z. Arm z (bare_block i.tree) (bare_arms v.tree)) c.same
-            ∙ ap (λ z. Arm (bare_expressions xs) z (bare_arms v.tree)) i.same ∙ ap (λ z. Arm (bare_expressions xs) (bare_block b) z) v.same;
+        tree = and_arm c.tree i.tree v.tree;
+        same = ap (λ z. and_arm z (bare_block i.tree) (bare_arms v.tree)) c.same
+            ∙ ap (λ z. and_arm (bare_expressions xs) z (bare_arms v.tree)) i.same ∙ ap (λ z. and_arm (bare_expressions xs) (bare_block b) z) v.same;
         end = v.end;
         read = g.and_arm (c.read (depth + 1) i.tree i.end i.read) v.read;
         follow = v.follow;
       }
 
   block_reads : (version : Version) (x : CommandBlock) (level depth : ℕ) → is_block version x ≡ true → (rest : List Piece) (p q : Stage) → Stand (block x level depth rest) p q → ReadsBlock (depth + 1) x rest p q
-  block_reads version (Commands cs after) level depth h rest p q o =
+  block_reads version (command_block cs after) level depth h rest p q o =
       let a = commands_read version cs (suc level) (depth + 1) h (margin level (sign r.Plain s.CloseBrace ∷ rest)) o.0 q o.2 in
       let i = behind_margin level (sign r.Plain s.CloseBrace ∷ rest) a.end q a.follow in
-      record { tree = Commands a.tree (here a.end); same = ap (λ z. Commands z nowhere) a.same; end = i.0; read = g.block o.1 a.read i.1; follow = i.2 }
+      record { tree = command_block a.tree (here a.end); same = ap (λ z. command_block z nowhere) a.same; end = i.0; read = g.block o.1 a.read i.1; follow = i.2 }
 
   else_reads : (version : Version) (x : ElseBlock) (level depth : ℕ) → is_else version x ≡ true → (rest : List Piece) (p q : Stage) → Stand (else_part x level depth rest) p q → ReadsElse (depth + 1) x rest p q
-  else_reads version NoElse level depth h rest p q o = record { tree = NoElse; same = refl; end = p; read = g.no_else; follow = o }
-  else_reads version (Else x) level depth h rest p q o =
+  else_reads version no_else level depth h rest p q o = record { tree = no_else; same = refl; end = p; read = g.no_else; follow = o }
+  else_reads version (with_else x) level depth h rest p q o =
       let a = block_reads version x level depth h rest o.0 q o.2 in
-      record { tree = Else a.tree; same = ap (λ z. Else z) a.same; end = a.end; read = g.else o.1 a.read; follow = a.follow }
+      record { tree = with_else a.tree; same = ap (λ z. with_else z) a.same; end = a.end; read = g.else o.1 a.read; follow = a.follow }
 
   commands_read : (version : Version) (cs : CommandList) (level depth : ℕ) → are_commands version cs ≡ true → (rest : List Piece) (p q : Stage) → Stand (commands cs level depth rest) p q → ReadsCommands depth cs rest p q
-  commands_read version NoCommand level depth h rest p q o = record { tree = NoCommand; same = refl; end = p; read = g.no_cmd; follow = o }
-  commands_read version (AndCommand c cs) level depth h rest p q o =
+  commands_read version no_command level depth h rest p q o = record { tree = no_command; same = refl; end = p; read = g.no_cmd; follow = o }
+  commands_read version (and_command c cs) level depth h rest p q o =
       let e = and_parts (is_command version c) (are_commands version cs) h in
       let a = command_reads version c level depth e.0 (commands cs level depth rest) p q o in
       let v = commands_read version cs level depth e.1 rest a.end q a.follow in
       record {
-        tree = AndCommand a.tree v.tree;
-        same = ap (λ z. AndCommand z (bare_list v.tree)) a.same ∙ ap (λ z. AndCommand (bare_command c) z) v.same;
+        tree = and_command a.tree v.tree;
+        same = ap (λ z. and_command z (bare_list v.tree)) a.same ∙ ap (λ z. and_command (bare_command c) z) v.same;
         end = v.end;
         read = g.cmd a.read v.read;
         follow = v.follow;
@@ -582,8 +582,8 @@ mutual
   unfolding bare_state is_state is_command bare_command
 
   state_reads : (version : Version) (x : StateTree) (level depth : ℕ) → is_state version x ≡ true → (rest : List Piece) (p q : Stage) → Stand (state x level depth rest) p q → ReadsState depth x rest p q
-  state_reads version (StateOf place n x (Commands cs after) children) level depth h rest p q o =
-      let b = Commands cs after in
+  state_reads version (state_node place n x (command_block cs after) children) level depth h rest p q o =
+      let b = command_block cs after in
       let e = and_parts (is_name version n.name && is_kind version x && is_block version b && nat_le (block_depth b) most_blocks) (are_states version children) h in
       let f = and_parts (is_name version n.name && is_kind version x && is_block version b) (nat_le (block_depth b) most_blocks) e.0 in
       let u = and_parts (is_name version n.name && is_kind version x) (is_block version b) f.0 in
@@ -598,24 +598,24 @@ mutual
       let t = states_read version children (suc level) (depth + 1) e.1 last v.end q v.follow in
       let m = behind_margin level (sign r.Plain s.CloseBrace ∷ line ∷ rest) t.end q t.follow in
       record {
-        tree = StateOf (here p) (mention i.0 n.name) a.tree (Commands v.tree (here v.end)) t.tree;
-        same = ap (λ z. StateOf nowhere (bare_name n) z (Commands (bare_list v.tree) nowhere) (bare_states t.tree)) a.same
-            ∙ ap (λ z. StateOf nowhere (bare_name n) (bare_kind x) (Commands z nowhere) (bare_states t.tree)) v.same
-            ∙ ap (λ z. StateOf nowhere (bare_name n) (bare_kind x) (Commands (bare_list cs) nowhere) z) t.same;
+        tree = state_node (here p) (mention i.0 n.name) a.tree (command_block v.tree (here v.end)) t.tree;
+        same = ap (λ z. state_node nowhere (bare_name n) z (command_block (bare_list v.tree) nowhere) (bare_states t.tree)) a.same
+            ∙ ap (λ z. state_node nowhere (bare_name n) (bare_kind x) (command_block z nowhere) (bare_states t.tree)) v.same
+            ∙ ap (λ z. state_node nowhere (bare_name n) (bare_kind x) (command_block (bare_list cs) nowhere) z) t.same;
         end = m.0;
         read = g.state i.1 j.1 a.read l.1 v.read t.read m.1;
         follow = m.2;
       }
 
   states_read : (version : Version) (xs : StateList) (level depth : ℕ) → are_states version xs ≡ true → (rest : List Piece) (p q : Stage) → Stand (states xs level depth rest) p q → ReadsStates depth xs rest p q
-  states_read version NoState level depth h rest p q o = record { tree = NoState; same = refl; end = p; read = g.no_state; follow = o }
-  states_read version (AndState x xs) level depth h rest p q o =
+  states_read version no_state level depth h rest p q o = record { tree = no_state; same = refl; end = p; read = g.no_state; follow = o }
+  states_read version (and_state x xs) level depth h rest p q o =
       let e = and_parts (is_state version x) (are_states version xs) h in
       let a = state_reads version x level depth e.0 (states xs level depth rest) p q o in
       let v = states_read version xs level depth e.1 rest a.end q a.follow in
       record {
-        tree = AndState a.tree v.tree;
-        same = ap (λ z. AndState z (bare_states v.tree)) a.same ∙ ap (λ z. AndState (bare_state x) z) v.same;
+        tree = and_state a.tree v.tree;
+        same = ap (λ z. and_state z (bare_states v.tree)) a.same ∙ ap (λ z. and_state (bare_state x) z) v.same;
         end = v.end;
         read = g.and_state a.read v.read;
         follow = v.follow;
@@ -645,17 +645,17 @@ unfolding bare bare_state is_state
 design_reads x h p q o = by_states x.states (and_parts (list_all (is_declaration x.version) x.declarations && has_state x.states) (are_states x.version x.states) h) o where
   by_states : (ss : StateList) → ((list_all (is_declaration x.version) x.declarations && has_state ss) ≡ true) × (are_states x.version ss ≡ true)
       → Stand (header x.version (declarations x.declarations (states ss 0 1 []))) p q → ReadsDesign (with_parts x.version x.declarations ss) p q
-  by_states NoState e o = absurd (no_arm (and_parts (list_all (is_declaration x.version) x.declarations) false e.0).1)
-  by_states (AndState y ys) e o =
+  by_states no_state e o = absurd (no_arm (and_parts (list_all (is_declaration x.version) x.declarations) false e.0).1)
+  by_states (and_state y ys) e o =
       let f = and_parts (is_state x.version y) (are_states x.version ys) e.1 in
-      let first = header_reads x.version (declarations x.declarations (states (AndState y ys) 0 1 [])) p q o in
-      let a = declarations_read x.declarations (states (AndState y ys) 0 1 []) first.end q first.follow in
+      let first = header_reads x.version (declarations x.declarations (states (and_state y ys) 0 1 [])) p q o in
+      let a = declarations_read x.declarations (states (and_state y ys) 0 1 []) first.end q first.follow in
       let v = state_reads x.version y 0 1 f.0 (states ys 0 1 []) a.end q a.follow in
       let t = states_read x.version ys 0 1 f.1 [] v.end q v.follow in
       record {
-        tree = with_parts x.version a.tree (AndState v.tree t.tree);
-        same = ap (λ z. with_parts x.version z (AndState (bare_state v.tree) (bare_states t.tree))) a.same
-            ∙ ap (λ z. with_parts x.version (map bare_declaration x.declarations) (AndState z (bare_states t.tree))) v.same
-            ∙ ap (λ z. with_parts x.version (map bare_declaration x.declarations) (AndState (bare_state y) z)) t.same;
-        read = subst (λ m. g.Design p (with_parts x.version a.tree (AndState v.tree t.tree)) m) t.follow (g.design first.read a.read v.read t.read);
+        tree = with_parts x.version a.tree (and_state v.tree t.tree);
+        same = ap (λ z. with_parts x.version z (and_state (bare_state v.tree) (bare_states t.tree))) a.same
+            ∙ ap (λ z. with_parts x.version (map bare_declaration x.declarations) (and_state z (bare_states t.tree))) v.same
+            ∙ ap (λ z. with_parts x.version (map bare_declaration x.declarations) (and_state (bare_state y) z)) t.same;
+        read = subst (λ m. g.Design p (with_parts x.version a.tree (and_state v.tree t.tree)) m) t.follow (g.design first.read a.read v.read t.read);
       }

@@ -31,7 +31,7 @@ use Rattle.sap_show.proofs.Within.{Within, after, tally_is}
 use Rattle.sap_show.proofs.WithinDesign.{design_within}
 use Rattle.sap_show.specs.Canonical.{canonical_text}
 use Rattle.sap_show.specs.Reading.{ReadsAs, IsTextOfSame, ShownAgain}
-use Rattle.sap_tree.specs.Syntax.{StateOf, StateList, NoState, AndState, DesignTree}
+use Rattle.sap_tree.specs.Syntax.{state_node, StateList, no_state, and_state, DesignTree}
 use Rattle.sap_tree.specs.Whole.{is_whole, is_tree, is_within_limits}
 use Rattle.sap_tree.specs.Words.{word_text}
 use Rattle.sap_tree.specs.declared.syntax.Decl.TheVariants as d
@@ -159,8 +159,8 @@ same_tokens text n (token role kind ∷ ps) a =
 -- a design of the first version doesn't begin with the name `sapper`
 first_kept : (text : List ℕ) (xs : List Decl) (ss : StateList) → keyed (raw_tokens_at text 0 (declarations xs (states ss 0 1 []))) ≡ raw_tokens_at text 0 (declarations xs (states ss 0 1 []))
 unfolding keyed
-first_kept text [] NoState = refl
-first_kept text [] (AndState (StateOf place n x inner children) ss) = refl
+first_kept text [] no_state = refl
+first_kept text [] (and_state (state_node place n x inner children) ss) = refl
 first_kept text (d.Input place n width ∷ xs) ss = refl
 first_kept text (d.Register place n width x initial ∷ xs) ss = refl
 first_kept text (d.Memory place n width depth x ∷ xs) ss = refl

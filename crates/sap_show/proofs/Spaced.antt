@@ -15,7 +15,7 @@ use Rattle.sap_tree.specs.declared.word.Word.{Word}
 use Rattle.sap_show.proofs.Pieces.{Piece, space, line, token, sign, word, name, number, wrapped, bounds, expression, parts, more_parts, tag, tags, more_tags, constant, more_constants, constants, cell, simple, margin, command, arms, block, else_part, commands, authority, kind, start, declared, declaration, declarations, state, states, parts_of}
 use Rattle.sap_tree.specs.Limits.{most_arms, most_blocks}
 use Rattle.sap_tree.specs.Precedence.{precedence, unary_precedence, slice_precedence, precedence_of}
-use Rattle.sap_tree.specs.Syntax.{Expression, Expressions, Number, Sized, Read, Cell, Unary, Binary, Choose, Slice, Concat, Zext, NoPart, AndPart, TagExpression, TagExpressions, Level, TagOf, LevelAt, Join, NoTag, AndTag, SimpleCommand, Assign, Write, SetTag, SetCellTag, Goto, Fall, Command, Do, Try, If, TryThen, Case, Arms, Last, Arm, CommandBlock, Commands, ElseBlock, NoElse, Else, CommandList, NoCommand, AndCommand, StateTree, StateOf, StateList, NoState, AndState, DesignTree}
+use Rattle.sap_tree.specs.Syntax.{Expression, Expressions, literal, sized_literal, variable, cell_at, unary_of, binary_of, choice, slice, concat, zero_extend, no_part, and_part, TagExpression, TagExpressions, level_of, tag_at, level_at, join_of, no_tag, and_tag, SimpleCommand, assign, write, set_tag, set_cell_tag, go_to, fall_to_child, Command, lone, try, if_else, try_then, case_of, Arms, last_arm, and_arm, CommandBlock, command_block, ElseBlock, no_else, with_else, CommandList, no_command, and_command, StateTree, state_node, StateList, no_state, and_state, DesignTree}
 use Rattle.sap_tree.specs.Whole.{is_expression, are_expressions, has_two_parts, is_number, is_tag, are_tags, has_two_tags, is_outermost, is_outermost_tag, is_simple, is_command, is_block, is_else, is_constant, are_constants, has_constant, has_arm, arm_count, are_arms, are_commands, is_kind, is_authority, is_start, is_state, are_states, has_state, block_depth, is_tree, is_declaration}
 use Rattle.sap_tree.specs.Words.{is_name, is_second}
 use Rattle.sap_tree.specs.declared.syntax.BinaryOperator.TheVariants as b
@@ -126,79 +126,79 @@ mutual
   unfolding is_expression
 
   expression_apart : (version : Version) (x : Expression) → is_expression version x ≡ true → Apart version (expression x)
-  expression_apart version (Number spot n) h rest e a = a_number version r.Inner n h rest e a
-  expression_apart version (Sized spot width n) h rest e a = three (is_number width && is_number n) (ends_run rest) (apart version rest) h e a
-  expression_apart version (Read spot n) h rest e a = a_name version r.Inner n h rest e a
-  expression_apart version (Cell spot n i) h rest e a =
+  expression_apart version (literal spot n) h rest e a = a_number version r.Inner n h rest e a
+  expression_apart version (sized_literal spot width n) h rest e a = three (is_number width && is_number n) (ends_run rest) (apart version rest) h e a
+  expression_apart version (variable spot n) h rest e a = a_name version r.Inner n h rest e a
+  expression_apart version (cell_at spot n i) h rest e a =
       let f = and_parts (is_name version n) (is_expression version i) h in
       a_name version r.Inner n f.0 (sign r.Opening s.OpenBracket ∷ expression i (sign r.Closing s.CloseBracket ∷ rest)) refl
       (expression_apart version i f.1 (sign r.Closing s.CloseBracket ∷ rest) refl a)
-  expression_apart version (Unary spot o x) h rest e a =
+  expression_apart version (unary_of spot o x) h rest e a =
       unary_apart version o (wrapped (nat_lt (precedence_of x) unary_precedence) (λ ps. expression x ps) rest)
       (wrapped_apart version (nat_lt (precedence_of x) unary_precedence) (λ ps. expression x ps) (λ ps i j. expression_apart version x h ps i j) rest e a)
-  expression_apart version (Binary spot o x y) h rest e a =
+  expression_apart version (binary_of spot o x y) h rest e a =
       let f = and_parts (is_expression version x) (is_expression version y) h in
       let behind = wrapped (nat_lt (precedence_of y) (precedence o + 1)) (λ ps. expression y ps) rest in
       wrapped_apart version (nat_lt (precedence_of x) (precedence o)) (λ ps. expression x ps) (λ ps i j. expression_apart version x f.0 ps i j)
       (space ∷ sign r.Inner (sign_of o) ∷ space ∷ behind) refl
       (binary_apart version o behind
       (wrapped_apart version (nat_lt (precedence_of y) (precedence o + 1)) (λ ps. expression y ps) (λ ps i j. expression_apart version y f.1 ps i j) rest e a))
-  expression_apart version (Choose spot x y z) h rest e a =
+  expression_apart version (choice spot x y z) h rest e a =
       let f = and_parts (is_expression version x && is_expression version y) (is_expression version z) h in
       let g = and_parts (is_expression version x) (is_expression version y) f.0 in
       wrapped_apart version (nat_lt (precedence_of x) 1) (λ ps. expression x ps) (λ ps i j. expression_apart version x g.0 ps i j)
       (space ∷ sign r.Inner s.Question ∷ space ∷ expression y (space ∷ sign r.Inner s.Colon ∷ space ∷ expression z rest)) refl
       (expression_apart version y g.1 (space ∷ sign r.Inner s.Colon ∷ space ∷ expression z rest) refl (expression_apart version z f.1 rest e a))
-  expression_apart version (Slice spot x high low) h rest e a =
+  expression_apart version (slice spot x high low) h rest e a =
       let f = and_parts (is_expression version x && is_number high) (is_number low) h in
       let g = and_parts (is_expression version x) (is_number high) f.0 in
       wrapped_apart version (nat_lt (precedence_of x) slice_precedence) (λ ps. expression x ps) (λ ps i j. expression_apart version x g.0 ps i j)
       (bounds high low rest) refl (bounds_apart version high low g.1 f.1 rest e a)
-  expression_apart version (Concat spot xs) h rest e a =
+  expression_apart version (concat spot xs) h rest e a =
       parts_apart version xs (and_parts (has_two_parts xs) (are_expressions version xs) h).1 (sign r.Closing s.CloseBrace ∷ rest) refl a
-  expression_apart version (Zext spot x width) h rest e a =
+  expression_apart version (zero_extend spot x width) h rest e a =
       let f = and_parts (is_expression version x) (is_number width) h in
       expression_apart version x f.0 (sign r.Inner s.Comma ∷ space ∷ number r.Inner width ∷ sign r.Closing s.CloseParen ∷ rest) refl
       (a_number version r.Inner width f.1 (sign r.Closing s.CloseParen ∷ rest) refl a)
 
   parts_apart : (version : Version) (xs : Expressions) → are_expressions version xs ≡ true → Apart version (parts xs)
-  parts_apart version NoPart h rest e a = a
-  parts_apart version (AndPart x xs) h rest e a =
+  parts_apart version no_part h rest e a = a
+  parts_apart version (and_part x xs) h rest e a =
       let f = and_parts (is_expression version x) (are_expressions version xs) h in
       expression_apart version x f.0 (more_parts xs rest) (more_parts_end xs rest e) (more_parts_apart version xs f.1 rest e a)
 
   more_parts_apart : (version : Version) (xs : Expressions) → are_expressions version xs ≡ true → Apart version (more_parts xs)
-  more_parts_apart version NoPart h rest e a = a
-  more_parts_apart version (AndPart x xs) h rest e a =
+  more_parts_apart version no_part h rest e a = a
+  more_parts_apart version (and_part x xs) h rest e a =
       let f = and_parts (is_expression version x) (are_expressions version xs) h in
       expression_apart version x f.0 (more_parts xs rest) (more_parts_end xs rest e) (more_parts_apart version xs f.1 rest e a)
 
   more_parts_end : (xs : Expressions) (rest : List Piece) → ends_run rest ≡ true → ends_run (more_parts xs rest) ≡ true
-  more_parts_end NoPart rest e = e
-  more_parts_end (AndPart x xs) rest e = refl
+  more_parts_end no_part rest e = e
+  more_parts_end (and_part x xs) rest e = refl
 
 more_tags_end : (xs : TagExpressions) (rest : List Piece) → ends_run rest ≡ true → ends_run (more_tags xs rest) ≡ true
-more_tags_end NoTag rest e = e
-more_tags_end (AndTag x xs) rest e = refl
+more_tags_end no_tag rest e = e
+more_tags_end (and_tag x xs) rest e = refl
 
 mutual
   unfolding is_tag
 
   tag_apart : (version : Version) (x : TagExpression) → is_tag version x ≡ true → Apart version (tag x)
-  tag_apart version (Level n) h rest e a = a_name version r.Inner n.name h rest e a
-  tag_apart version (TagOf place x) h rest e a = expression_apart version x h (sign r.Closing s.CloseParen ∷ rest) refl a
-  tag_apart version (LevelAt place x) h rest e a = expression_apart version x h (sign r.Closing s.CloseParen ∷ rest) refl a
-  tag_apart version (Join place xs) h rest e a = tags_apart version xs (and_parts (has_two_tags xs) (are_tags version xs) h).1 (sign r.Closing s.CloseParen ∷ rest) refl a
+  tag_apart version (level_of n) h rest e a = a_name version r.Inner n.name h rest e a
+  tag_apart version (tag_at place x) h rest e a = expression_apart version x h (sign r.Closing s.CloseParen ∷ rest) refl a
+  tag_apart version (level_at place x) h rest e a = expression_apart version x h (sign r.Closing s.CloseParen ∷ rest) refl a
+  tag_apart version (join_of place xs) h rest e a = tags_apart version xs (and_parts (has_two_tags xs) (are_tags version xs) h).1 (sign r.Closing s.CloseParen ∷ rest) refl a
 
   tags_apart : (version : Version) (xs : TagExpressions) → are_tags version xs ≡ true → Apart version (tags xs)
-  tags_apart version NoTag h rest e a = a
-  tags_apart version (AndTag x xs) h rest e a =
+  tags_apart version no_tag h rest e a = a
+  tags_apart version (and_tag x xs) h rest e a =
       let f = and_parts (is_tag version x) (are_tags version xs) h in
       tag_apart version x f.0 (more_tags xs rest) (more_tags_end xs rest e) (more_tags_apart version xs f.1 rest e a)
 
   more_tags_apart : (version : Version) (xs : TagExpressions) → are_tags version xs ≡ true → Apart version (more_tags xs)
-  more_tags_apart version NoTag h rest e a = a
-  more_tags_apart version (AndTag x xs) h rest e a =
+  more_tags_apart version no_tag h rest e a = a
+  more_tags_apart version (and_tag x xs) h rest e a =
       let f = and_parts (is_tag version x) (are_tags version xs) h in
       tag_apart version x f.0 (more_tags xs rest) (more_tags_end xs rest e) (more_tags_apart version xs f.1 rest e a)
 
@@ -209,52 +209,52 @@ cell_apart version role n i h f rest e a =
 
 simple_apart : (version : Version) (depth : ℕ) (c : SimpleCommand) → is_simple version c ≡ true → Apart version (simple depth c)
 unfolding is_simple
-simple_apart version depth (Assign n x) h rest e a =
+simple_apart version depth (assign n x) h rest e a =
     let f = and_parts (is_name version n.name) (is_outermost version x) h in
     a_name version (r.Command depth) n.name f.0 (space ∷ sign r.Plain s.Becomes ∷ space ∷ expression x rest) refl (expression_apart version x (expression_of_outermost version x f.1) rest e a)
-simple_apart version depth (Write n i x) h rest e a =
+simple_apart version depth (write n i x) h rest e a =
     let f = and_parts (is_name version n.name && is_outermost version i) (is_outermost version x) h in
     let g = and_parts (is_name version n.name) (is_outermost version i) f.0 in
     cell_apart version (r.Command depth) n.name i g.0 g.1 (space ∷ sign r.Plain s.Becomes ∷ space ∷ expression x rest) refl (expression_apart version x (expression_of_outermost version x f.1) rest e a)
-simple_apart version depth (SetTag place n x) h rest e a =
+simple_apart version depth (set_tag place n x) h rest e a =
     let f = and_parts (is_name version n.name) (is_outermost_tag version x) h in
     a_name version r.Plain n.name f.0 (sign r.Plain s.Comma ∷ space ∷ tag x (sign r.Plain s.CloseParen ∷ rest)) refl
     (tag_apart version x (tag_of_outermost version x f.1) (sign r.Plain s.CloseParen ∷ rest) refl a)
-simple_apart version depth (SetCellTag place n i x) h rest e a =
+simple_apart version depth (set_cell_tag place n i x) h rest e a =
     let f = and_parts (is_name version n.name && is_outermost version i) (is_outermost_tag version x) h in
     let g = and_parts (is_name version n.name) (is_outermost version i) f.0 in
     cell_apart version r.Plain n.name i g.0 g.1 (sign r.Plain s.Comma ∷ space ∷ tag x (sign r.Plain s.CloseParen ∷ rest)) refl
     (tag_apart version x (tag_of_outermost version x f.1) (sign r.Plain s.CloseParen ∷ rest) refl a)
-simple_apart version depth (Goto place n) h rest e a = a_name version r.Plain n.name h rest e a
-simple_apart version depth (Fall place) h rest e a = three true (ends_run rest) (apart version rest) refl e a
+simple_apart version depth (go_to place n) h rest e a = a_name version r.Plain n.name h rest e a
+simple_apart version depth (fall_to_child place) h rest e a = three true (ends_run rest) (apart version rest) refl e a
 
 -- constants
 
 constant_apart : (version : Version) (x : Expression) → is_constant x ≡ true → Apart version (constant x)
-constant_apart version (Number spot n) h rest e a = a_number version r.Plain n h rest e a
-constant_apart version (Sized spot width n) h rest e a = three (is_number width && is_number n) (ends_run rest) (apart version rest) h e a
-constant_apart version (Read spot n) h rest e a = absurd (cc)
-constant_apart version (Cell spot n i) h rest e a = absurd (cc)
-constant_apart version (Unary spot o x) h rest e a = absurd (cc)
-constant_apart version (Binary spot o x y) h rest e a = absurd (cc)
-constant_apart version (Choose spot x y z) h rest e a = absurd (cc)
-constant_apart version (Slice spot x high low) h rest e a = absurd (cc)
-constant_apart version (Concat spot xs) h rest e a = absurd (cc)
-constant_apart version (Zext spot x width) h rest e a = absurd (cc)
+constant_apart version (literal spot n) h rest e a = a_number version r.Plain n h rest e a
+constant_apart version (sized_literal spot width n) h rest e a = three (is_number width && is_number n) (ends_run rest) (apart version rest) h e a
+constant_apart version (variable spot n) h rest e a = absurd (cc)
+constant_apart version (cell_at spot n i) h rest e a = absurd (cc)
+constant_apart version (unary_of spot o x) h rest e a = absurd (cc)
+constant_apart version (binary_of spot o x y) h rest e a = absurd (cc)
+constant_apart version (choice spot x y z) h rest e a = absurd (cc)
+constant_apart version (slice spot x high low) h rest e a = absurd (cc)
+constant_apart version (concat spot xs) h rest e a = absurd (cc)
+constant_apart version (zero_extend spot x width) h rest e a = absurd (cc)
 
 more_constants_end : (xs : Expressions) (rest : List Piece) → ends_run rest ≡ true → ends_run (more_constants xs rest) ≡ true
-more_constants_end NoPart rest e = e
-more_constants_end (AndPart x xs) rest e = refl
+more_constants_end no_part rest e = e
+more_constants_end (and_part x xs) rest e = refl
 
 more_constants_apart : (version : Version) (xs : Expressions) → are_constants xs ≡ true → Apart version (more_constants xs)
-more_constants_apart version NoPart h rest e a = a
-more_constants_apart version (AndPart x xs) h rest e a =
+more_constants_apart version no_part h rest e a = a
+more_constants_apart version (and_part x xs) h rest e a =
     let f = and_parts (is_constant x) (are_constants xs) h in
     constant_apart version x f.0 (more_constants xs rest) (more_constants_end xs rest e) (more_constants_apart version xs f.1 rest e a)
 
 constants_apart : (version : Version) (xs : Expressions) → are_constants xs ≡ true → Apart version (constants xs)
-constants_apart version NoPart h rest e a = a
-constants_apart version (AndPart x xs) h rest e a =
+constants_apart version no_part h rest e a = a
+constants_apart version (and_part x xs) h rest e a =
     let f = and_parts (is_constant x) (are_constants xs) h in
     constant_apart version x f.0 (more_constants xs rest) (more_constants_end xs rest e) (more_constants_apart version xs f.1 rest e a)
 
@@ -263,27 +263,27 @@ margin_apart version zero rest a = a
 margin_apart version (suc level) rest a = margin_apart version level rest a
 
 else_ends : (x : ElseBlock) (level depth : ℕ) (rest : List Piece) → ends_run rest ≡ true → ends_run (else_part x level depth rest) ≡ true
-else_ends NoElse level depth rest e = e
-else_ends (Else x) level depth rest e = refl
+else_ends no_else level depth rest e = e
+else_ends (with_else x) level depth rest e = refl
 
 mutual
   unfolding is_command
 
   command_apart : (version : Version) (c : Command) (level depth : ℕ) → is_command version c ≡ true → (rest : List Piece) → apart version rest ≡ true → apart version (command c level depth rest) ≡ true
-  command_apart version (Do c) level depth h rest a =
+  command_apart version (lone c) level depth h rest a =
       margin_apart version level _ (simple_apart version depth c h (sign r.Plain s.Semicolon ∷ line ∷ rest) refl a)
-  command_apart version (Try c place handler) level depth h rest a =
+  command_apart version (try c place handler) level depth h rest a =
       let f = and_parts (is_simple version c) (is_block version handler) h in
       margin_apart version level _
       (simple_apart version depth c f.0 (space ∷ word r.Plain w.Otherwise ∷ block handler level depth (line ∷ rest)) refl
       (three true _ _ refl (block_ends handler level depth (line ∷ rest)) (block_apart version handler level depth f.1 (line ∷ rest) a)))
-  command_apart version (If place x one other) level depth h rest a =
+  command_apart version (if_else place x one other) level depth h rest a =
       let f = and_parts (is_outermost version x && is_block version one) (is_else version other) h in
       let g = and_parts (is_outermost version x) (is_block version one) f.0 in
       margin_apart version level _
       (expression_apart version x (expression_of_outermost version x g.0) (sign r.Plain s.CloseParen ∷ block one level depth (else_part other level depth (line ∷ rest))) refl
       (block_apart version one level depth g.1 (else_part other level depth (line ∷ rest)) (else_apart version other level depth f.1 (line ∷ rest) a)))
-  command_apart version (TryThen c place one other) level depth h rest a =
+  command_apart version (try_then c place one other) level depth h rest a =
       let f = and_parts (is_second version && is_simple version c && is_block version one) (is_block version other) h in
       let g = and_parts (is_second version && is_simple version c) (is_block version one) f.0 in
       let i = and_parts (is_second version) (is_simple version c) g.0 in
@@ -293,7 +293,7 @@ mutual
       (three (is_second version) _ _ i.0 (block_ends one level depth last)
       (block_apart version one level depth g.1 last
       (three true _ _ refl (block_ends other level depth (line ∷ rest)) (block_apart version other level depth f.1 (line ∷ rest) a)))))
-  command_apart version (Case place x list) level depth h rest a =
+  command_apart version (case_of place x list) level depth h rest a =
       let f = and_parts (is_second version && is_outermost version x && has_arm list && nat_le (arm_count list) most_arms) (are_arms version list) h in
       let g = and_parts (is_second version && is_outermost version x && has_arm list) (nat_le (arm_count list) most_arms) f.0 in
       let i = and_parts (is_second version && is_outermost version x) (has_arm list) g.0 in
@@ -305,9 +305,9 @@ mutual
       (arms_apart version list (suc level) depth f.1 foot (margin_apart version level _ a))))
 
   arms_apart : (version : Version) (list : Arms) (level depth : ℕ) → are_arms version list ≡ true → (rest : List Piece) → apart version rest ≡ true → apart version (arms list level depth rest) ≡ true
-  arms_apart version (Last b) level depth h rest a =
+  arms_apart version (last_arm b) level depth h rest a =
       margin_apart version level _ (three true _ _ refl (block_ends b level depth (line ∷ rest)) (block_apart version b level depth h (line ∷ rest) a))
-  arms_apart version (Arm xs b list) level depth h rest a =
+  arms_apart version (and_arm xs b list) level depth h rest a =
       let f = and_parts (has_constant xs && are_constants xs && is_block version b) (are_arms version list) h in
       let g = and_parts (has_constant xs && are_constants xs) (is_block version b) f.0 in
       let i = and_parts (has_constant xs) (are_constants xs) g.0 in
@@ -317,22 +317,22 @@ mutual
       (three true _ _ refl (block_ends_sign b level depth behind) (block_apart version b level depth g.1 behind (arms_apart version list level depth f.1 rest a))))
 
   block_ends_sign : (x : CommandBlock) (level depth : ℕ) (rest : List Piece) → ends_sign (block x level depth rest) ≡ true
-  block_ends_sign (Commands cs after) level depth rest = refl
+  block_ends_sign (command_block cs after) level depth rest = refl
 
   block_ends : (x : CommandBlock) (level depth : ℕ) (rest : List Piece) → ends_run (block x level depth rest) ≡ true
-  block_ends (Commands cs after) level depth rest = refl
+  block_ends (command_block cs after) level depth rest = refl
 
   block_apart : (version : Version) (x : CommandBlock) (level depth : ℕ) → is_block version x ≡ true → (rest : List Piece) → apart version rest ≡ true → apart version (block x level depth rest) ≡ true
-  block_apart version (Commands cs after) level depth h rest a =
+  block_apart version (command_block cs after) level depth h rest a =
       commands_apart version cs (suc level) (depth + 1) h (margin level (sign r.Plain s.CloseBrace ∷ rest)) (margin_apart version level _ a)
 
   else_apart : (version : Version) (x : ElseBlock) (level depth : ℕ) → is_else version x ≡ true → (rest : List Piece) → apart version rest ≡ true → apart version (else_part x level depth rest) ≡ true
-  else_apart version NoElse level depth h rest a = a
-  else_apart version (Else x) level depth h rest a = three true _ _ refl (block_ends x level depth rest) (block_apart version x level depth h rest a)
+  else_apart version no_else level depth h rest a = a
+  else_apart version (with_else x) level depth h rest a = three true _ _ refl (block_ends x level depth rest) (block_apart version x level depth h rest a)
 
   commands_apart : (version : Version) (cs : CommandList) (level depth : ℕ) → are_commands version cs ≡ true → (rest : List Piece) → apart version rest ≡ true → apart version (commands cs level depth rest) ≡ true
-  commands_apart version NoCommand level depth h rest a = a
-  commands_apart version (AndCommand c cs) level depth h rest a =
+  commands_apart version no_command level depth h rest a = a
+  commands_apart version (and_command c cs) level depth h rest a =
       let f = and_parts (is_command version c) (are_commands version cs) h in
       command_apart version c level depth f.0 (commands cs level depth rest) (commands_apart version cs level depth f.1 rest a)
 
@@ -394,8 +394,8 @@ mutual
   unfolding is_state is_command
 
   state_apart : (version : Version) (x : StateTree) (level depth : ℕ) → is_state version x ≡ true → (rest : List Piece) → apart version rest ≡ true → apart version (state x level depth rest) ≡ true
-  state_apart version (StateOf place n x (Commands cs after) children) level depth h rest a =
-      let inside = Commands cs after in
+  state_apart version (state_node place n x (command_block cs after) children) level depth h rest a =
+      let inside = command_block cs after in
       let f = and_parts (is_name version n.name && is_kind version x && is_block version inside && nat_le (block_depth inside) most_blocks) (are_states version children) h in
       let g = and_parts (is_name version n.name && is_kind version x && is_block version inside) (nat_le (block_depth inside) most_blocks) f.0 in
       let i = and_parts (is_name version n.name && is_kind version x) (is_block version inside) g.0 in
@@ -408,8 +408,8 @@ mutual
       (commands_apart version cs (suc level) 1 i.1 below (states_apart version children (suc level) (depth + 1) f.1 last (margin_apart version level _ a)))))
 
   states_apart : (version : Version) (xs : StateList) (level depth : ℕ) → are_states version xs ≡ true → (rest : List Piece) → apart version rest ≡ true → apart version (states xs level depth rest) ≡ true
-  states_apart version NoState level depth h rest a = a
-  states_apart version (AndState x xs) level depth h rest a =
+  states_apart version no_state level depth h rest a = a
+  states_apart version (and_state x xs) level depth h rest a =
       let f = and_parts (is_state version x) (are_states version xs) h in
       state_apart version x level depth f.0 (states xs level depth rest) (states_apart version xs level depth f.1 rest a)
 

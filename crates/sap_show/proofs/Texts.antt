@@ -40,49 +40,49 @@ operand_bare asked x text h = let e : nat_lt (precedence_of x) asked ≡ false =
 
 -- expressions
 
-pub text_number : (spot : Spot) (n : ℕ) → expression_text (Syntax.Number spot n) ≡ decimal n
+pub text_number : (spot : Spot) (n : ℕ) → expression_text (Syntax.literal spot n) ≡ decimal n
 unfolding expression_text
 text_number spot n = refl
 
-pub text_sized : (spot : Spot) (w n : ℕ) → expression_text (Syntax.Sized spot w n) ≡ decimal w ++ (codes "'d" ++ decimal n)
+pub text_sized : (spot : Spot) (w n : ℕ) → expression_text (Syntax.sized_literal spot w n) ≡ decimal w ++ (codes "'d" ++ decimal n)
 unfolding expression_text
 text_sized spot w n = refl
 
-pub text_read : (spot : Spot) (name : List ℕ) → expression_text (Syntax.Read spot name) ≡ name
+pub text_read : (spot : Spot) (name : List ℕ) → expression_text (Syntax.variable spot name) ≡ name
 unfolding expression_text
 text_read spot name = refl
 
-pub text_cell : (spot : Spot) (name : List ℕ) (i : Expression) → expression_text (Syntax.Cell spot name i) ≡ name ++ (codes "[" ++ (expression_text i ++ codes "]"))
+pub text_cell : (spot : Spot) (name : List ℕ) (i : Expression) → expression_text (Syntax.cell_at spot name i) ≡ name ++ (codes "[" ++ (expression_text i ++ codes "]"))
 unfolding expression_text
 text_cell spot name i = refl
 
 pub text_unary : (spot : Spot) (o : UnaryOperator) (x : Expression)
-    → expression_text (Syntax.Unary spot o x) ≡ unary_text o ++ operand_text unary_precedence x (expression_text x)
+    → expression_text (Syntax.unary_of spot o x) ≡ unary_text o ++ operand_text unary_precedence x (expression_text x)
 unfolding expression_text
 text_unary spot o x = refl
 
 pub text_binary : (spot : Spot) (o : BinaryOperator) (x y : Expression)
-    → expression_text (Syntax.Binary spot o x y)
+    → expression_text (Syntax.binary_of spot o x y)
     ≡ operand_text (precedence o) x (expression_text x) ++ (binary_text o ++ operand_text (precedence o + 1) y (expression_text y))
 unfolding expression_text
 text_binary spot o x y = refl
 
 pub text_choose : (spot : Spot) (x y z : Expression)
-    → expression_text (Syntax.Choose spot x y z) ≡ operand_text 1 x (expression_text x) ++ (codes " ? " ++ (expression_text y ++ (codes " : " ++ expression_text z)))
+    → expression_text (Syntax.choice spot x y z) ≡ operand_text 1 x (expression_text x) ++ (codes " ? " ++ (expression_text y ++ (codes " : " ++ expression_text z)))
 unfolding expression_text
 text_choose spot x y z = refl
 
 pub text_slice : (spot : Spot) (x : Expression) (high low : ℕ)
-    → expression_text (Syntax.Slice spot x high low) ≡ operand_text slice_precedence x (expression_text x) ++ bounds_text high low
+    → expression_text (Syntax.slice spot x high low) ≡ operand_text slice_precedence x (expression_text x) ++ bounds_text high low
 unfolding expression_text
 text_slice spot x high low = refl
 
-pub text_concat : (spot : Spot) (parts : Expressions) → expression_text (Syntax.Concat spot parts) ≡ codes "{" ++ (parts_text parts ++ codes "}")
+pub text_concat : (spot : Spot) (parts : Expressions) → expression_text (Syntax.concat spot parts) ≡ codes "{" ++ (parts_text parts ++ codes "}")
 unfolding expression_text
 text_concat spot parts = refl
 
 pub text_zext : (spot : Spot) (x : Expression) (w : ℕ)
-    → expression_text (Syntax.Zext spot x w) ≡ codes "zext(" ++ (expression_text x ++ (codes ", " ++ (decimal w ++ codes ")")))
+    → expression_text (Syntax.zero_extend spot x w) ≡ codes "zext(" ++ (expression_text x ++ (codes ", " ++ (decimal w ++ codes ")")))
 unfolding expression_text
 text_zext spot x w = refl
 
@@ -175,96 +175,96 @@ more_tags_first (x ∷ xs) d h e =
 
 -- tag expressions
 
-pub text_level : (level : Mention) → tag_text (Syntax.Level level) ≡ level.name
+pub text_level : (level : Mention) → tag_text (Syntax.level_of level) ≡ level.name
 unfolding tag_text
 text_level level = refl
 
-pub text_tag_of : (place : Place) (x : Expression) → tag_text (Syntax.TagOf place x) ≡ codes "tag(" ++ (expression_text x ++ codes ")")
+pub text_tag_of : (place : Place) (x : Expression) → tag_text (Syntax.tag_at place x) ≡ codes "tag(" ++ (expression_text x ++ codes ")")
 unfolding tag_text
 text_tag_of place x = refl
 
-pub text_level_at : (place : Place) (x : Expression) → tag_text (Syntax.LevelAt place x) ≡ codes "level(" ++ (expression_text x ++ codes ")")
+pub text_level_at : (place : Place) (x : Expression) → tag_text (Syntax.level_at place x) ≡ codes "level(" ++ (expression_text x ++ codes ")")
 unfolding tag_text
 text_level_at place x = refl
 
-pub text_join : (place : Place) (parts : TagExpressions) → tag_text (Syntax.Join place parts) ≡ codes "join(" ++ (tags_text parts ++ codes ")")
+pub text_join : (place : Place) (parts : TagExpressions) → tag_text (Syntax.join_of place parts) ≡ codes "join(" ++ (tags_text parts ++ codes ")")
 unfolding tag_text
 text_join place parts = refl
 
 -- commands
 
-pub text_assign : (name : Mention) (x : Expression) → simple_text (Syntax.Assign name x) ≡ name.name ++ (codes " := " ++ expression_text x)
+pub text_assign : (name : Mention) (x : Expression) → simple_text (Syntax.assign name x) ≡ name.name ++ (codes " := " ++ expression_text x)
 unfolding simple_text
 text_assign name x = refl
 
-pub text_write : (name : Mention) (i x : Expression) → simple_text (Syntax.Write name i x) ≡ cell_text name.name i ++ (codes " := " ++ expression_text x)
+pub text_write : (name : Mention) (i x : Expression) → simple_text (Syntax.write name i x) ≡ cell_text name.name i ++ (codes " := " ++ expression_text x)
 unfolding simple_text
 text_write name i x = refl
 
 pub text_set_tag : (place : Place) (name : Mention) (x : TagExpression)
-    → simple_text (Syntax.SetTag place name x) ≡ codes "setTag(" ++ (name.name ++ (codes ", " ++ (tag_text x ++ codes ")")))
+    → simple_text (Syntax.set_tag place name x) ≡ codes "setTag(" ++ (name.name ++ (codes ", " ++ (tag_text x ++ codes ")")))
 unfolding simple_text
 text_set_tag place name x = refl
 
 pub text_set_cell_tag : (place : Place) (name : Mention) (i : Expression) (x : TagExpression)
-    → simple_text (Syntax.SetCellTag place name i x) ≡ codes "setTag(" ++ (cell_text name.name i ++ (codes ", " ++ (tag_text x ++ codes ")")))
+    → simple_text (Syntax.set_cell_tag place name i x) ≡ codes "setTag(" ++ (cell_text name.name i ++ (codes ", " ++ (tag_text x ++ codes ")")))
 unfolding simple_text
 text_set_cell_tag place name i x = refl
 
-pub text_goto : (place : Place) (name : Mention) → simple_text (Syntax.Goto place name) ≡ codes "goto " ++ name.name
+pub text_goto : (place : Place) (name : Mention) → simple_text (Syntax.go_to place name) ≡ codes "goto " ++ name.name
 unfolding simple_text
 text_goto place name = refl
 
-pub text_fall : (place : Place) → simple_text (Syntax.Fall place) ≡ codes "fall"
+pub text_fall : (place : Place) → simple_text (Syntax.fall_to_child place) ≡ codes "fall"
 unfolding simple_text
 text_fall place = refl
 
-pub text_do : (margin : List ℕ) (c : Syntax.SimpleCommand) → command_text margin (Syntax.Do c) ≡ margin ++ (simple_text c ++ codes ";\n")
+pub text_do : (margin : List ℕ) (c : Syntax.SimpleCommand) → command_text margin (Syntax.lone c) ≡ margin ++ (simple_text c ++ codes ";\n")
 unfolding command_text
 text_do margin c = refl
 
 pub text_try : (margin : List ℕ) (c : Syntax.SimpleCommand) (place : Place) (handler : Syntax.CommandBlock)
-    → command_text margin (Syntax.Try c place handler) ≡ margin ++ (simple_text c ++ (codes " otherwise" ++ (block_text margin handler ++ codes "\n")))
+    → command_text margin (Syntax.try c place handler) ≡ margin ++ (simple_text c ++ (codes " otherwise" ++ (block_text margin handler ++ codes "\n")))
 unfolding command_text
 text_try margin c place handler = refl
 
 pub text_if : (margin : List ℕ) (place : Place) (x : Expression) (one : Syntax.CommandBlock) (other : Syntax.ElseBlock)
-    → command_text margin (Syntax.If place x one other)
+    → command_text margin (Syntax.if_else place x one other)
     ≡ margin ++ (codes "if (" ++ (expression_text x ++ (codes ")" ++ (block_text margin one ++ (else_text margin other ++ codes "\n")))))
 unfolding command_text
 text_if margin place x one other = refl
 
 pub if_grows : (margin : List ℕ) (whole : Syntax.Command) (place : Place) (x : Expression) (one : Syntax.CommandBlock) (other : Syntax.ElseBlock) (old a b c d e f : List ℕ)
-    → whole ≡ Syntax.If place x one other → a ≡ old ++ margin → b ≡ a ++ codes "if (" → c ≡ b ++ expression_text x → d ≡ c ++ codes ")" → e ≡ d ++ block_text margin one
+    → whole ≡ Syntax.if_else place x one other → a ≡ old ++ margin → b ≡ a ++ codes "if (" → c ≡ b ++ expression_text x → d ≡ c ++ codes ")" → e ≡ d ++ block_text margin one
     → f ≡ e ++ else_text margin other → f ++ codes "\n" ≡ old ++ command_text margin whole
 if_grows margin whole place x one other old a b c d e f w h i j k l m =
     grow_seven old a b c d e f (f ++ codes "\n") margin (codes "if (") (expression_text x) (codes ")") (block_text margin one) (else_text margin other) (codes "\n") _ h i j k l m refl
     (ap (command_text margin) w ∙ text_if margin place x one other)
 
 text_decided : (margin : List ℕ) (c : Syntax.SimpleCommand) (place : Place) (one other : Syntax.CommandBlock)
-    → command_text margin (Syntax.TryThen c place one other)
+    → command_text margin (Syntax.try_then c place one other)
     ≡ margin ++ (simple_text c ++ (codes " then" ++ (block_text margin one ++ (codes " otherwise" ++ (block_text margin other ++ codes "\n")))))
 unfolding command_text
 text_decided margin c place one other = refl
 
 pub decided_grows : (margin : List ℕ) (whole : Syntax.Command) (x : Syntax.SimpleCommand) (place : Place) (one other : Syntax.CommandBlock) (old a b c d e f : List ℕ)
-    → whole ≡ Syntax.TryThen x place one other → a ≡ old ++ margin → b ≡ a ++ simple_text x → c ≡ b ++ codes " then" → d ≡ c ++ block_text margin one → e ≡ d ++ codes " otherwise"
+    → whole ≡ Syntax.try_then x place one other → a ≡ old ++ margin → b ≡ a ++ simple_text x → c ≡ b ++ codes " then" → d ≡ c ++ block_text margin one → e ≡ d ++ codes " otherwise"
     → f ≡ e ++ block_text margin other → f ++ codes "\n" ≡ old ++ command_text margin whole
 decided_grows margin whole x place one other old a b c d e f w h i j k l m =
     grow_seven old a b c d e f (f ++ codes "\n") margin (simple_text x) (codes " then") (block_text margin one) (codes " otherwise") (block_text margin other) (codes "\n") _ h i j k l m refl
     (ap (command_text margin) w ∙ text_decided margin x place one other)
 
-pub text_last : (margin : List ℕ) (b : Syntax.CommandBlock) → arms_text margin (Syntax.Last b) ≡ margin ++ (codes "else" ++ (block_text margin b ++ codes "\n"))
+pub text_last : (margin : List ℕ) (b : Syntax.CommandBlock) → arms_text margin (Syntax.last_arm b) ≡ margin ++ (codes "else" ++ (block_text margin b ++ codes "\n"))
 unfolding command_text
 text_last margin b = refl
 
 -- the arms, and the block after `else`
-arms_are : (margin : List ℕ) (arms : List Arm) (last : Syntax.CommandBlock) → arms_text margin (arms_of arms last) ≡ list_arms_text margin arms ++ arms_text margin (Syntax.Last last)
+arms_are : (margin : List ℕ) (arms : List Arm) (last : Syntax.CommandBlock) → arms_text margin (arms_of arms last) ≡ list_arms_text margin arms ++ arms_text margin (Syntax.last_arm last)
 unfolding command_text list_arms_text
 arms_are margin [] last = refl
 arms_are margin (arm ∷ arms) last =
     let m = list_arms_text margin arms in
-    let end = arms_text margin (Syntax.Last last) in
+    let end = arms_text margin (Syntax.last_arm last) in
     let block = block_text margin (arm_block_of arm) in
     ap (λ t. margin ++ (parts_text (constants_of arm) ++ (codes ":" ++ (block ++ (codes "\n" ++ t))))) (arms_are margin arms last)
     ∙ ap (λ t. margin ++ (parts_text (constants_of arm) ++ (codes ":" ++ t))) (sym (append_assoc block (codes "\n" ++ m) end))
@@ -272,26 +272,26 @@ arms_are margin (arm ∷ arms) last =
     ∙ sym (append_assoc margin (parts_text (constants_of arm) ++ (codes ":" ++ (block ++ (codes "\n" ++ m)))) end)
 
 text_case : (margin : List ℕ) (place : Place) (x : Expression) (arms : List Arm) (last : Syntax.CommandBlock)
-    → command_text margin (Syntax.Case place x (arms_of arms last))
+    → command_text margin (Syntax.case_of place x (arms_of arms last))
     ≡ margin
     ++ (codes "case (" ++ (expression_text x ++ (codes ") {\n"
-    ++ (list_arms_text (margin ++ codes "  ") arms ++ (arms_text (margin ++ codes "  ") (Syntax.Last last) ++ (margin ++ codes "}\n"))))))
+    ++ (list_arms_text (margin ++ codes "  ") arms ++ (arms_text (margin ++ codes "  ") (Syntax.last_arm last) ++ (margin ++ codes "}\n"))))))
 unfolding command_text
 text_case margin place x arms last =
     let m = margin ++ codes "  " in
     let foot = margin ++ codes "}\n" in
     ap (λ t. margin ++ (codes "case (" ++ (expression_text x ++ (codes ") {\n" ++ (t ++ foot))))) (arms_are m arms last)
-    ∙ ap (λ t. margin ++ (codes "case (" ++ (expression_text x ++ (codes ") {\n" ++ t)))) (append_assoc (list_arms_text m arms) (arms_text m (Syntax.Last last)) foot)
+    ∙ ap (λ t. margin ++ (codes "case (" ++ (expression_text x ++ (codes ") {\n" ++ t)))) (append_assoc (list_arms_text m arms) (arms_text m (Syntax.last_arm last)) foot)
 
 pub case_grows : (margin one two : List ℕ) (whole : Syntax.Command) (place : Place) (x : Expression) (arms listed : List Arm) (last : Syntax.CommandBlock) (old a b c d e f g : List ℕ)
-    → whole ≡ Syntax.Case place x (arms_of arms last) → one ≡ margin ++ codes "  " → two ≡ margin ++ codes "  " → listed ≡ arms → a ≡ old ++ margin → b ≡ a ++ codes "case ("
-    → c ≡ b ++ expression_text x → d ≡ c ++ codes ") {\n" → e ≡ d ++ list_arms_text one listed → f ≡ e ++ arms_text two (Syntax.Last last) → g ≡ f ++ margin
+    → whole ≡ Syntax.case_of place x (arms_of arms last) → one ≡ margin ++ codes "  " → two ≡ margin ++ codes "  " → listed ≡ arms → a ≡ old ++ margin → b ≡ a ++ codes "case ("
+    → c ≡ b ++ expression_text x → d ≡ c ++ codes ") {\n" → e ≡ d ++ list_arms_text one listed → f ≡ e ++ arms_text two (Syntax.last_arm last) → g ≡ f ++ margin
     → g ++ codes "}\n" ≡ old ++ command_text margin whole
 case_grows margin one two whole place x arms listed last old a b c d e f g w o t s h i j k l m n =
     grow_eight old a b c d e f g (g ++ codes "}\n") margin (codes "case (") (expression_text x) (codes ") {\n") (list_arms_text (margin ++ codes "  ") arms)
-    (arms_text (margin ++ codes "  ") (Syntax.Last last)) margin (codes "}\n") _ h i j k
+    (arms_text (margin ++ codes "  ") (Syntax.last_arm last)) margin (codes "}\n") _ h i j k
     (l ∙ ap (λ z. d ++ list_arms_text z listed) o ∙ ap (λ z. d ++ list_arms_text (margin ++ codes "  ") z) s)
-    (m ∙ ap (λ z. e ++ arms_text z (Syntax.Last last)) t) n refl (ap (command_text margin) w ∙ text_case margin place x arms last)
+    (m ∙ ap (λ z. e ++ arms_text z (Syntax.last_arm last)) t) n refl (ap (command_text margin) w ∙ text_case margin place x arms last)
 
 pub text_block : (margin : List ℕ) (b : Block)
     → block_text margin (block_of b) ≡ codes " {\n" ++ (list_text (margin ++ codes "  ") b.commands.items ++ (margin ++ codes "}"))

@@ -19,7 +19,7 @@ use Rattle.sap_show.proofs.Pieces.{Piece, space, line, token, sign, wrapped, bou
 use Rattle.sap_tree.specs.Extent.{tokens, part_tokens, brackets, part_brackets, parentheses, opened}
 use Rattle.sap_tree.specs.Limits.{most_name_bytes, most_brackets, most_tokens}
 use Rattle.sap_tree.specs.Precedence.{precedence, unary_precedence, slice_precedence, precedence_of}
-use Rattle.sap_tree.specs.Syntax.{Expression, Expressions, Number, Sized, Read, Cell, Unary, Binary, Choose, Slice, Concat, Zext, NoPart, AndPart}
+use Rattle.sap_tree.specs.Syntax.{Expression, Expressions, literal, sized_literal, variable, cell_at, unary_of, binary_of, choice, slice, concat, zero_extend, no_part, and_part}
 use Rattle.sap_tree.specs.Whole.{is_expression, are_expressions, has_two_parts, is_number}
 use Rattle.sap_tree.specs.Words.{is_name, is_word, is_keyword}
 use Rattle.sap_tree.specs.declared.version.Version.{Version}
@@ -144,10 +144,10 @@ module _ (c : Counts) where
     unfolding is_expression tokens brackets
 
     pub expression_counted : (version : Version) (x : Expression) → is_expression version x ≡ true → Counted (tokens x) (brackets x) (expression x)
-    expression_counted version (Number spot n) d t u b rest e top room h = inner_step t u b (k.Number n) rest refl e top h
-    expression_counted version (Sized spot width n) d t u b rest e top room h = inner_step t u b (k.Sized width n) rest refl e top h
-    expression_counted version (Read spot n) d t u b rest e top room h = inner_step t u b (k.Name n) rest (short_name version n d) e top h
-    expression_counted version (Cell spot n i) d t u b rest e top room h =
+    expression_counted version (literal spot n) d t u b rest e top room h = inner_step t u b (k.Number n) rest refl e top h
+    expression_counted version (sized_literal spot width n) d t u b rest e top room h = inner_step t u b (k.Sized width n) rest refl e top h
+    expression_counted version (variable spot n) d t u b rest e top room h = inner_step t u b (k.Name n) rest (short_name version n d) e top h
+    expression_counted version (cell_at spot n i) d t u b rest e top room h =
         let f = and_parts (is_name version n) (is_expression version i) d in
         let same : u ≡ t + (tokens i + 3) = e in
         let fits : b + (1 + brackets i) ≤ most_brackets = room in (
@@ -158,11 +158,11 @@ module _ (c : Counts) where
                 (closing_step (t + 1 + 1 + tokens i) u b s.CloseBracket rest (omega arith) top h)),
           ),
         )
-    expression_counted version (Unary spot o x) d t u b rest e top room h =
+    expression_counted version (unary_of spot o x) d t u b rest e top room h =
         let same : u ≡ t + (1 + (parentheses unary_precedence x + tokens x)) = e in
         let fits : b + (opened unary_precedence x + brackets x) ≤ most_brackets = room in
         (inner_free t (k.Sign (unary_sign_of o)) refl (omega arith), (wrapped_counted unary_precedence x (λ ps. expression x ps) (expression_counted version x d) (t + 1) u b rest (omega arith) top fits h))
-    expression_counted version (Binary spot o x y) d t u b rest e top room h =
+    expression_counted version (binary_of spot o x y) d t u b rest e top room h =
         let f = and_parts (is_expression version x) (is_expression version y) d in
         let n = parentheses (precedence o) x + tokens x in
         let m = parentheses (precedence o + 1) y + tokens y in
@@ -172,7 +172,7 @@ module _ (c : Counts) where
         (space ∷ sign r.Inner (sign_of o) ∷ space ∷ wrapped (nat_lt (precedence_of y) (precedence o + 1)) (λ ps. expression y ps) rest) refl
         (first_le t n m u same top) (left_fits b _ _ fits)
         (inner_free (t + n) (k.Sign (sign_of o)) refl (both_le t n m u same top), (wrapped_counted (precedence o + 1) y (λ ps. expression y ps) (expression_counted version y f.1) (t + n + 1) u b rest (rest_is t n m u same) top (right_fits b _ _ fits) h))
-    expression_counted version (Choose spot x y z) d t u b rest e top room h =
+    expression_counted version (choice spot x y z) d t u b rest e top room h =
         let f = and_parts (is_expression version x && is_expression version y) (is_expression version z) d in
         let g = and_parts (is_expression version x) (is_expression version y) f.0 in
         let n = parentheses 1 x + tokens x in
@@ -187,19 +187,19 @@ module _ (c : Counts) where
             expression_counted version z f.1 (t + n + 1 + tokens y + 1) u b rest (choice_is t n (tokens y) (tokens z) u same) top (right_fits b _ _ others) h,
           ),
         )
-    expression_counted version (Slice spot x high low) d t u b rest e top room h =
+    expression_counted version (slice spot x high low) d t u b rest e top room h =
         let f = and_parts (is_expression version x) (is_number high) (and_parts (is_expression version x && is_number high) (is_number low) d).0 in
         let n = parentheses slice_precedence x + tokens x in
         let same : u ≡ t + (n + 5) = e in
         let fits : b + max (opened slice_precedence x + brackets x) 1 ≤ most_brackets = room in
         wrapped_counted slice_precedence x (λ ps. expression x ps) (expression_counted version x f.0) t (t + n) b (bounds high low rest) refl (first_of t n 5 u same top) (left_fits b _ _ fits)
         (bounds_counted high low (t + n) u b rest (sum_is t n 5 u same) top (right_fits b _ _ fits) h)
-    expression_counted version (Concat spot xs) d t u b rest e top room h =
+    expression_counted version (concat spot xs) d t u b rest e top room h =
         let f = and_parts (has_two_parts xs) (are_expressions version xs) d in
         let same : u ≡ t + (1 + part_tokens xs) = e in
         let fits : b + (1 + part_brackets xs) ≤ most_brackets = room in
         (opening_free t b (omega arith) (omega arith), (parts_counted version xs f.0 f.1 (t + 1) u b rest (omega arith) top (omega arith) h))
-    expression_counted version (Zext spot x width) d t u b rest e top room h =
+    expression_counted version (zero_extend spot x width) d t u b rest e top room h =
         let f = and_parts (is_expression version x) (is_number width) d in
         let same : u ≡ t + (tokens x + 5) = e in
         let fits : b + (1 + brackets x) ≤ most_brackets = room in (
@@ -214,8 +214,8 @@ module _ (c : Counts) where
     -- parts, and the `}` behind them
     parts_counted : (version : Version) (xs : Expressions) → has_two_parts xs ≡ true → are_expressions version xs ≡ true → (t u b : ℕ) (rest : List Piece) → u ≡ t + part_tokens xs → u ≤ most_tokens
         → b + (1 + part_brackets xs) ≤ most_brackets → Within (at c u b) rest → Within (at c t (b + 1)) (parts xs (sign r.Closing s.CloseBrace ∷ rest))
-    parts_counted version NoPart two d t u b rest e top room h = absurd (cc)
-    parts_counted version (AndPart x xs) two d t u b rest e top room h =
+    parts_counted version no_part two d t u b rest e top room h = absurd (cc)
+    parts_counted version (and_part x xs) two d t u b rest e top room h =
         let f = and_parts (is_expression version x) (are_expressions version xs) d in
         let same : u ≡ t + (tokens x + 1 + part_tokens xs) = e in
         let fits : b + (1 + max (brackets x) (part_brackets xs)) ≤ most_brackets = room in
@@ -224,8 +224,8 @@ module _ (c : Counts) where
 
     more_parts_counted : (version : Version) (xs : Expressions) → are_expressions version xs ≡ true → (t u b : ℕ) (rest : List Piece) → u ≡ t + (1 + part_tokens xs) → u ≤ most_tokens
         → b + (1 + part_brackets xs) ≤ most_brackets → Within (at c u b) rest → Within (at c t (b + 1)) (more_parts xs (sign r.Closing s.CloseBrace ∷ rest))
-    more_parts_counted version NoPart d t u b rest e top room h = closing_step t u b s.CloseBrace rest e top h
-    more_parts_counted version (AndPart x xs) d t u b rest e top room h =
+    more_parts_counted version no_part d t u b rest e top room h = closing_step t u b s.CloseBrace rest e top h
+    more_parts_counted version (and_part x xs) d t u b rest e top room h =
         let f = and_parts (is_expression version x) (are_expressions version xs) d in
         let same : u ≡ t + (1 + (tokens x + 1 + part_tokens xs)) = e in
         let fits : b + (1 + max (brackets x) (part_brackets xs)) ≤ most_brackets = room in (

@@ -15,7 +15,7 @@ use Rattle.sap_show.proofs.Pieces.{Piece, space, line, token, sign, word, name, 
 use Rattle.sap_show.proofs.Within.{Within, at, Counted, inner_step, inner_free, opening_free, closing_step, not_above, short_name, expression_counted}
 use Rattle.sap_tree.specs.Extent.{tokens, brackets, tag_tokens, tag_part_tokens, tag_brackets, tag_part_brackets, fits, tag_fits}
 use Rattle.sap_tree.specs.Limits.{most_brackets, most_tokens, most_commands, most_arms, most_blocks, most_states, most_nesting, most_inputs, most_registers, most_memories}
-use Rattle.sap_tree.specs.Syntax.{Expression, Number, Sized, Read, Cell, Unary, Binary, Choose, Slice, Concat, Zext, Expressions, NoPart, AndPart, TagExpression, TagExpressions, Level, TagOf, LevelAt, Join, NoTag, AndTag, SimpleCommand, Assign, Write, SetTag, SetCellTag, Goto, Fall, Command, Do, Try, If, TryThen, Case, Arms, Last, Arm, CommandBlock, Commands, ElseBlock, NoElse, Else, CommandList, NoCommand, AndCommand, StateTree, StateOf, StateList, NoState, AndState, DesignTree}
+use Rattle.sap_tree.specs.Syntax.{Expression, literal, sized_literal, variable, cell_at, unary_of, binary_of, choice, slice, concat, zero_extend, Expressions, no_part, and_part, TagExpression, TagExpressions, level_of, tag_at, level_at, join_of, no_tag, and_tag, SimpleCommand, assign, write, set_tag, set_cell_tag, go_to, fall_to_child, Command, lone, try, if_else, try_then, case_of, Arms, last_arm, and_arm, CommandBlock, command_block, ElseBlock, no_else, with_else, CommandList, no_command, and_command, StateTree, state_node, StateList, no_state, and_state, DesignTree}
 use Rattle.sap_tree.specs.Whole.{is_expression, is_tag, are_tags, has_two_tags, is_outermost, is_outermost_tag, is_simple, is_command, is_block, is_else, is_constant, are_constants, has_constant, has_arm, arm_count, are_arms, are_commands, is_kind, is_authority, is_start, is_number, is_declaration, is_input, is_register, is_memory, is_state, are_states, has_state, command_count, block_count, else_count, arms_count, list_count, command_depth, block_depth, else_depth, arms_depth, list_depth, state_count, states_count, state_depth, states_depth, state_commands, states_commands, is_tree, is_within_limits, is_whole}
 use Rattle.sap_tree.specs.Words.{is_name, is_second}
 use Rattle.sap_tree.specs.declared.syntax.Decl.TheVariants as d
@@ -33,8 +33,8 @@ module _ (c : Counts) where
     unfolding is_tag tag_tokens tag_brackets
 
     pub tag_counted : (version : Version) (x : TagExpression) → is_tag version x ≡ true → Counted c (tag_tokens x) (tag_brackets x) (tag x)
-    tag_counted version (Level n) h t u b rest e top room a = inner_step c t u b (k.Name n.name) rest (short_name version n.name h) e top a
-    tag_counted version (TagOf place x) h t u b rest e top room a =
+    tag_counted version (level_of n) h t u b rest e top room a = inner_step c t u b (k.Name n.name) rest (short_name version n.name h) e top a
+    tag_counted version (tag_at place x) h t u b rest e top room a =
         let same : u ≡ t + (tokens x + 3) = e in
         let fits : b + (1 + brackets x) ≤ most_brackets = room in (
           inner_free t (k.Word w.Tag) refl (omega arith),
@@ -44,7 +44,7 @@ module _ (c : Counts) where
                 (closing_step c (t + 1 + 1 + tokens x) u b s.CloseParen rest (omega arith) top a)),
           ),
         )
-    tag_counted version (LevelAt place x) h t u b rest e top room a =
+    tag_counted version (level_at place x) h t u b rest e top room a =
         let same : u ≡ t + (tokens x + 3) = e in
         let fits : b + (1 + brackets x) ≤ most_brackets = room in (
           inner_free t (k.Word w.Level) refl (omega arith),
@@ -54,7 +54,7 @@ module _ (c : Counts) where
                 (closing_step c (t + 1 + 1 + tokens x) u b s.CloseParen rest (omega arith) top a)),
           ),
         )
-    tag_counted version (Join place xs) h t u b rest e top room a =
+    tag_counted version (join_of place xs) h t u b rest e top room a =
         let f = and_parts (has_two_tags xs) (are_tags version xs) h in
         let same : u ≡ t + (2 + tag_part_tokens xs) = e in
         let fits : b + (1 + tag_part_brackets xs) ≤ most_brackets = room in
@@ -62,8 +62,8 @@ module _ (c : Counts) where
 
     tags_counted : (version : Version) (xs : TagExpressions) → has_two_tags xs ≡ true → are_tags version xs ≡ true → (t u b : ℕ) (rest : List Piece) → u ≡ t + tag_part_tokens xs → u ≤ most_tokens
         → b + (1 + tag_part_brackets xs) ≤ most_brackets → Within (at c u b) rest → Within (at c t (b + 1)) (tags xs (sign r.Closing s.CloseParen ∷ rest))
-    tags_counted version NoTag two h t u b rest e top room a = absurd (cc)
-    tags_counted version (AndTag x xs) two h t u b rest e top room a =
+    tags_counted version no_tag two h t u b rest e top room a = absurd (cc)
+    tags_counted version (and_tag x xs) two h t u b rest e top room a =
         let f = and_parts (is_tag version x) (are_tags version xs) h in
         let same : u ≡ t + (tag_tokens x + 1 + tag_part_tokens xs) = e in
         let fits : b + (1 + max (tag_brackets x) (tag_part_brackets xs)) ≤ most_brackets = room in
@@ -72,8 +72,8 @@ module _ (c : Counts) where
 
     more_tags_counted : (version : Version) (xs : TagExpressions) → are_tags version xs ≡ true → (t u b : ℕ) (rest : List Piece) → u ≡ t + (1 + tag_part_tokens xs) → u ≤ most_tokens
         → b + (1 + tag_part_brackets xs) ≤ most_brackets → Within (at c u b) rest → Within (at c t (b + 1)) (more_tags xs (sign r.Closing s.CloseParen ∷ rest))
-    more_tags_counted version NoTag h t u b rest e top room a = closing_step c t u b s.CloseParen rest e top a
-    more_tags_counted version (AndTag x xs) h t u b rest e top room a =
+    more_tags_counted version no_tag h t u b rest e top room a = closing_step c t u b s.CloseParen rest e top a
+    more_tags_counted version (and_tag x xs) h t u b rest e top room a =
         let f = and_parts (is_tag version x) (are_tags version xs) h in
         let same : u ≡ t + (1 + (tag_tokens x + 1 + tag_part_tokens xs)) = e in
         let fits : b + (1 + max (tag_brackets x) (tag_part_brackets xs)) ≤ most_brackets = room in (
@@ -139,11 +139,11 @@ begins_command c depth kind ps free n m h t b = (
 simple_within : (version : Version) (depth : ℕ) (x : SimpleCommand) → is_simple version x ≡ true → (c : Counts) (rest : List Piece) → c.commands + 1 ≤ most_commands → depth ≤ most_blocks
     → Always (with_commands c (c.commands + 1)) rest → Always c (simple depth x rest)
 unfolding is_simple
-simple_within version depth (Assign n x) h c rest m p a =
+simple_within version depth (assign n x) h c rest m p a =
     let f = and_parts (is_name version n.name) (is_outermost version x) h in
     let c' : Counts = with_commands c (c.commands + 1) in
     (λ t b. (begins_free c depth (k.Name n.name) (short_name version n.name f.0) m p, (plain_free (k.Sign s.Becomes) refl, (outermost version c' x rest f.1 a))))
-simple_within version depth (Write n i x) h c rest m p a =
+simple_within version depth (write n i x) h c rest m p a =
     let f = and_parts (is_name version n.name && is_outermost version i) (is_outermost version x) h in
     let g = and_parts (is_name version n.name) (is_outermost version i) f.0 in
     let c' : Counts = with_commands c (c.commands + 1) in
@@ -156,11 +156,11 @@ simple_within version depth (Write n i x) h c rest m p a =
             (plain c' (k.Sign s.Becomes) (space ∷ expression x rest) refl (outermost version c' x rest f.1 a) 0 0))),
       ),
     ))
-simple_within version depth (SetTag place n x) h c rest m p a =
+simple_within version depth (set_tag place n x) h c rest m p a =
     let f = and_parts (is_name version n.name) (is_outermost_tag version x) h in
     let c' : Counts = with_commands c (c.commands + 1) in
     (λ t b. (begins_free c depth (k.Word w.SetTag) refl m p, (plain_free (k.Sign s.OpenParen) refl, (plain_free (k.Name n.name) (short_name version n.name f.0), (plain_free (k.Sign s.Comma) refl, (outermost_tag version c' x (sign r.Plain s.CloseParen ∷ rest) f.1 (plain c' (k.Sign s.CloseParen) rest refl (a 0 0))))))))
-simple_within version depth (SetCellTag place n i x) h c rest m p a =
+simple_within version depth (set_cell_tag place n i x) h c rest m p a =
     let f = and_parts (is_name version n.name && is_outermost version i) (is_outermost_tag version x) h in
     let g = and_parts (is_name version n.name) (is_outermost version i) f.0 in
     let c' : Counts = with_commands c (c.commands + 1) in
@@ -180,35 +180,35 @@ simple_within version depth (SetCellTag place n i x) h c rest m p a =
         ),
       ),
     ))
-simple_within version depth (Goto place n) h c rest m p a =
+simple_within version depth (go_to place n) h c rest m p a =
     let c' : Counts = with_commands c (c.commands + 1) in
     (λ t b. (begins_free c depth (k.Word w.Goto) refl m p, (plain c' (k.Name n.name) rest (short_name version n.name h) (a 0 0) 0 0)))
-simple_within version depth (Fall place) h c rest m p a = begins_command c depth (k.Word w.Fall) rest refl m p (a 0 0)
+simple_within version depth (fall_to_child place) h c rest m p a = begins_command c depth (k.Word w.Fall) rest refl m p (a 0 0)
 
 -- constants
 
 constant_within : (c : Counts) (x : Expression) → is_constant x ≡ true → (rest : List Piece) → Within (at c 0 0) rest → Always c (constant x rest)
-constant_within c (Number spot n) h rest a t b = plain c (k.Number n) rest refl a t b
-constant_within c (Sized spot width n) h rest a t b = plain c (k.Sized width n) rest refl a t b
-constant_within c (Read spot n) h rest a t b = absurd (cc)
-constant_within c (Cell spot n i) h rest a t b = absurd (cc)
-constant_within c (Unary spot o x) h rest a t b = absurd (cc)
-constant_within c (Binary spot o x y) h rest a t b = absurd (cc)
-constant_within c (Choose spot x y z) h rest a t b = absurd (cc)
-constant_within c (Slice spot x high low) h rest a t b = absurd (cc)
-constant_within c (Concat spot xs) h rest a t b = absurd (cc)
-constant_within c (Zext spot x width) h rest a t b = absurd (cc)
+constant_within c (literal spot n) h rest a t b = plain c (k.Number n) rest refl a t b
+constant_within c (sized_literal spot width n) h rest a t b = plain c (k.Sized width n) rest refl a t b
+constant_within c (variable spot n) h rest a t b = absurd (cc)
+constant_within c (cell_at spot n i) h rest a t b = absurd (cc)
+constant_within c (unary_of spot o x) h rest a t b = absurd (cc)
+constant_within c (binary_of spot o x y) h rest a t b = absurd (cc)
+constant_within c (choice spot x y z) h rest a t b = absurd (cc)
+constant_within c (slice spot x high low) h rest a t b = absurd (cc)
+constant_within c (concat spot xs) h rest a t b = absurd (cc)
+constant_within c (zero_extend spot x width) h rest a t b = absurd (cc)
 
 more_constants_within : (c : Counts) (xs : Expressions) → are_constants xs ≡ true → (rest : List Piece) → Within (at c 0 0) rest → Within (at c 0 0) (more_constants xs rest)
-more_constants_within c NoPart h rest a = a
-more_constants_within c (AndPart x xs) h rest a =
+more_constants_within c no_part h rest a = a
+more_constants_within c (and_part x xs) h rest a =
     let f = and_parts (is_constant x) (are_constants xs) h in
     (plain_free (k.Sign s.Comma) refl, constant_within c x f.0 (more_constants xs rest) (more_constants_within c xs f.1 rest a) 0 0)
 
 -- behind whatever is counted before
 constants_within : (c : Counts) (xs : Expressions) → has_constant xs ≡ true → are_constants xs ≡ true → (rest : List Piece) → Within (at c 0 0) rest → Always c (constants xs rest)
-constants_within c NoPart some h rest a t b = absurd (cc)
-constants_within c (AndPart x xs) some h rest a t b =
+constants_within c no_part some h rest a t b = absurd (cc)
+constants_within c (and_part x xs) some h rest a t b =
     let f = and_parts (is_constant x) (are_constants xs) h in
     constant_within c x f.0 (more_constants xs rest) (more_constants_within c xs f.1 rest a) t b
 
@@ -221,11 +221,11 @@ mutual
 
   command_within : (version : Version) (x : Command) (level depth : ℕ) → is_command version x ≡ true → (c : Counts) (n m : ℕ) (rest : List Piece) → m ≡ n + command_count x → m ≤ most_commands
       → depth + command_depth x ≤ most_blocks + 1 → Always (with_commands c m) rest → Always (with_commands c n) (command x level depth rest)
-  command_within version (Do x) level depth h c n m rest e top deep a t b =
+  command_within version (lone x) level depth h c n m rest e top deep a t b =
       margin_within level _ _
       (simple_within version depth x h (with_commands c n) (sign r.Plain s.Semicolon ∷ line ∷ rest) (omega arith) (omega arith)
       (plain (with_commands c (n + 1)) (k.Sign s.Semicolon) (line ∷ rest) refl (subst (λ i. Within (at (with_commands c i) 0 0) rest) e (a 0 0))) t b)
-  command_within version (Try x place handler) level depth h c n m rest e top deep a t b =
+  command_within version (try x place handler) level depth h c n m rest e top deep a t b =
       let f = and_parts (is_simple version x) (is_block version handler) h in
       let same : m ≡ n + (1 + block_count handler) = e in
       let fits : depth + (1 + block_depth handler) ≤ most_blocks + 1 = deep in
@@ -233,7 +233,7 @@ mutual
       (simple_within version depth x f.0 (with_commands c n) (space ∷ word r.Plain w.Otherwise ∷ block handler level depth (line ∷ rest)) (omega arith) (omega arith)
       (plain (with_commands c (n + 1)) (k.Word w.Otherwise) (block handler level depth (line ∷ rest)) refl
       (block_within version handler level depth f.1 c (n + 1) m (line ∷ rest) (omega arith) top (omega arith) a 0 0)) t b)
-  command_within version (If place x one other) level depth h c n m rest e top deep a t b =
+  command_within version (if_else place x one other) level depth h c n m rest e top deep a t b =
       let f = and_parts (is_outermost version x && is_block version one) (is_else version other) h in
       let g = and_parts (is_outermost version x) (is_block version one) f.0 in
       let same : m ≡ n + (1 + block_count one + else_count other) = e in
@@ -250,7 +250,7 @@ mutual
               (else_within version other level depth f.1 c (n + 1 + block_count one) m (line ∷ rest) (omega arith) top (omega arith) a) 0 0)),
         ),
       )
-  command_within version (TryThen x place one other) level depth h c n m rest e top deep a t b =
+  command_within version (try_then x place one other) level depth h c n m rest e top deep a t b =
       let f = and_parts (is_second version && is_simple version x && is_block version one) (is_block version other) h in
       let g = and_parts (is_second version && is_simple version x) (is_block version one) f.0 in
       let i = and_parts (is_second version) (is_simple version x) g.0 in
@@ -264,7 +264,7 @@ mutual
       (block_within version one level depth g.1 c (n + 1) (n + 1 + block_count one) last refl (omega arith) (omega arith)
       (plain c' (k.Word w.Otherwise) (block other level depth (line ∷ rest)) refl
       (block_within version other level depth f.1 c (n + 1 + block_count one) m (line ∷ rest) (omega arith) top (omega arith) a 0 0)) 0 0)) t b)
-  command_within version (Case place x list) level depth h c n m rest e top deep a t b =
+  command_within version (case_of place x list) level depth h c n m rest e top deep a t b =
       let f = and_parts (is_second version && is_outermost version x && has_arm list && nat_le (arm_count list) most_arms) (are_arms version list) h in
       let g = and_parts (is_second version && is_outermost version x && has_arm list) (nat_le (arm_count list) most_arms) f.0 in
       let i = and_parts (is_second version && is_outermost version x) (has_arm list) g.0 in
@@ -288,10 +288,10 @@ mutual
 
   arms_within : (version : Version) (list : Arms) (level depth : ℕ) → are_arms version list ≡ true → (c : Counts) (n m : ℕ) (rest : List Piece) → m ≡ n + arms_count list → m ≤ most_commands
       → depth + 1 + arms_depth list ≤ most_blocks + 1 → Always (with_commands c m) rest → Always (with_commands c n) (arms list level depth rest)
-  arms_within version (Last b) level depth h c n m rest e top deep a t u =
+  arms_within version (last_arm b) level depth h c n m rest e top deep a t u =
       margin_within level _ _
       (plain (with_commands c n) (k.Word w.Else) (block b level depth (line ∷ rest)) refl (block_within version b level depth h c n m (line ∷ rest) e top deep a 0 0) t u)
-  arms_within version (Arm xs b list) level depth h c n m rest e top deep a t u =
+  arms_within version (and_arm xs b list) level depth h c n m rest e top deep a t u =
       let f = and_parts (has_constant xs && are_constants xs && is_block version b) (are_arms version list) h in
       let g = and_parts (has_constant xs && are_constants xs) (is_block version b) f.0 in
       let i = and_parts (has_constant xs) (are_constants xs) g.0 in
@@ -306,7 +306,7 @@ mutual
 
   block_within : (version : Version) (x : CommandBlock) (level depth : ℕ) → is_block version x ≡ true → (c : Counts) (n m : ℕ) (rest : List Piece) → m ≡ n + block_count x → m ≤ most_commands
       → depth + 1 + block_depth x ≤ most_blocks + 1 → Always (with_commands c m) rest → Always (with_commands c n) (block x level depth rest)
-  block_within version (Commands cs behind) level depth h c n m rest e top deep a =
+  block_within version (command_block cs behind) level depth h c n m rest e top deep a =
       (λ t b. (
         plain_free (k.Sign s.OpenBrace) refl,
         (commands_within version cs (suc level) (depth + 1) h c n m (margin level (sign r.Plain s.CloseBrace ∷ rest)) e top deep
@@ -315,16 +315,16 @@ mutual
 
   else_within : (version : Version) (x : ElseBlock) (level depth : ℕ) → is_else version x ≡ true → (c : Counts) (n m : ℕ) (rest : List Piece) → m ≡ n + else_count x → m ≤ most_commands
       → depth + 1 + else_depth x ≤ most_blocks + 1 → Always (with_commands c m) rest → Always (with_commands c n) (else_part x level depth rest)
-  else_within version NoElse level depth h c n m rest e top deep a =
+  else_within version no_else level depth h c n m rest e top deep a =
       let same : m ≡ n = omega arith in subst (λ i. Always (with_commands c i) rest) same a
-  else_within version (Else x) level depth h c n m rest e top deep a =
+  else_within version (with_else x) level depth h c n m rest e top deep a =
       (λ t b. (plain_free (k.Word w.Else) refl, (block_within version x level depth h c n m rest e top deep a 0 0)))
 
   commands_within : (version : Version) (cs : CommandList) (level depth : ℕ) → are_commands version cs ≡ true → (c : Counts) (n m : ℕ) (rest : List Piece) → m ≡ n + list_count cs → m ≤ most_commands
       → depth + list_depth cs ≤ most_blocks + 1 → Always (with_commands c m) rest → Always (with_commands c n) (commands cs level depth rest)
-  commands_within version NoCommand level depth h c n m rest e top deep a =
+  commands_within version no_command level depth h c n m rest e top deep a =
       let same : m ≡ n = omega arith in subst (λ i. Always (with_commands c i) rest) same a
-  commands_within version (AndCommand x cs) level depth h c n m rest e top deep a =
+  commands_within version (and_command x cs) level depth h c n m rest e top deep a =
       let f = and_parts (is_command version x) (are_commands version cs) h in
       let same : m ≡ n + (command_count x + list_count cs) = e in
       let fits : depth + max (command_depth x) (list_depth cs) ≤ most_blocks + 1 = deep in
@@ -435,8 +435,8 @@ mutual
   state_within : (version : Version) (x : StateTree) (level depth : ℕ) → is_state version x ≡ true → (c : Counts) (i j n m : ℕ) (rest : List Piece) → j ≡ i + state_count x → j ≤ most_states
       → m ≡ n + state_commands x → m ≤ most_commands → depth + state_depth x ≤ most_nesting + 1
       → Always (with_states c j m) rest → Always (with_states c i n) (state x level depth rest)
-  state_within version (StateOf place name x (Commands cs behind) children) level depth h c i j n m rest e top f much deep a t b =
-      let inside = Commands cs behind in
+  state_within version (state_node place name x (command_block cs behind) children) level depth h c i j n m rest e top f much deep a t b =
+      let inside = command_block cs behind in
       let u = and_parts (is_name version name.name && is_kind version x && is_block version inside && nat_le (block_depth inside) most_blocks) (are_states version children) h in
       let v = and_parts (is_name version name.name && is_kind version x && is_block version inside) (nat_le (block_depth inside) most_blocks) u.0 in
       let y = and_parts (is_name version name.name && is_kind version x) (is_block version inside) v.0 in
@@ -464,11 +464,11 @@ mutual
   states_within : (version : Version) (xs : StateList) (level depth : ℕ) → are_states version xs ≡ true → (c : Counts) (i j n m : ℕ) (rest : List Piece) → j ≡ i + states_count xs → j ≤ most_states
       → m ≡ n + states_commands xs → m ≤ most_commands → depth + states_depth xs ≤ most_nesting + 1
       → Always (with_states c j m) rest → Always (with_states c i n) (states xs level depth rest)
-  states_within version NoState level depth h c i j n m rest e top f much deep a =
+  states_within version no_state level depth h c i j n m rest e top f much deep a =
       let x : j ≡ i = omega arith in
       let y : m ≡ n = omega arith in
       subst (λ v. Always (with_states c i v) rest) y (subst (λ v. Always (with_states c v m) rest) x a)
-  states_within version (AndState x xs) level depth h c i j n m rest e top f much deep a =
+  states_within version (and_state x xs) level depth h c i j n m rest e top f much deep a =
       let g = and_parts (is_state version x) (are_states version xs) h in
       let states_are : j ≡ i + (state_count x + states_count xs) = e in
       let commands_are : m ≡ n + (state_commands x + states_commands xs) = f in

@@ -2,7 +2,7 @@
 -- what holds it. Each construct is one clause.
 use Rattle.std.specs.Prelude.{ℕ, ◌+◌, List, [], ◌++◌, Option, Some, None, if◌then◌else◌, nat_lt, codes, decimal, flat_map}
 use Rattle.sap_tree.specs.Precedence.{precedence, unary_precedence, slice_precedence, precedence_of}
-use Rattle.sap_tree.specs.Syntax.{Expression, Expressions, Number, Sized, Read, Cell, Unary, Binary, Choose, Slice, Concat, Zext, NoPart, AndPart, TagExpression, TagExpressions, Level, TagOf, LevelAt, Join, NoTag, AndTag, SimpleCommand, Assign, Write, SetTag, SetCellTag, Goto, Fall, Command, Do, Try, If, TryThen, Case, Arms, Last, Arm, CommandBlock, Commands, ElseBlock, NoElse, Else, CommandList, NoCommand, AndCommand, StateTree, StateOf, StateList, NoState, AndState, DesignTree}
+use Rattle.sap_tree.specs.Syntax.{Expression, Expressions, literal, sized_literal, variable, cell_at, unary_of, binary_of, choice, slice, concat, zero_extend, no_part, and_part, TagExpression, TagExpressions, level_of, tag_at, level_at, join_of, no_tag, and_tag, SimpleCommand, assign, write, set_tag, set_cell_tag, go_to, fall_to_child, Command, lone, try, if_else, try_then, case_of, Arms, last_arm, and_arm, CommandBlock, command_block, ElseBlock, no_else, with_else, CommandList, no_command, and_command, StateTree, state_node, StateList, no_state, and_state, DesignTree}
 use Rattle.sap_tree.specs.declared.syntax.BinaryOperator.TheVariants as b
 use Rattle.sap_tree.specs.declared.syntax.BinaryOperator.{BinaryOperator}
 use Rattle.sap_tree.specs.declared.syntax.Decl.TheVariants as d
@@ -51,42 +51,42 @@ bounds_text high low = codes "[" ++ (decimal high ++ (codes ":" ++ (decimal low 
 
 unfoldable mutual
   pub expression_text : Expression → List ℕ
-  expression_text (Number spot n) = decimal n
-  expression_text (Sized spot w n) = decimal w ++ (codes "'d" ++ decimal n)
-  expression_text (Read spot name) = name
-  expression_text (Cell spot name index) = name ++ (codes "[" ++ (expression_text index ++ codes "]"))
-  expression_text (Unary spot o x) = unary_text o ++ operand_text unary_precedence x (expression_text x)
-  expression_text (Binary spot o x y) =
+  expression_text (literal spot n) = decimal n
+  expression_text (sized_literal spot w n) = decimal w ++ (codes "'d" ++ decimal n)
+  expression_text (variable spot name) = name
+  expression_text (cell_at spot name index) = name ++ (codes "[" ++ (expression_text index ++ codes "]"))
+  expression_text (unary_of spot o x) = unary_text o ++ operand_text unary_precedence x (expression_text x)
+  expression_text (binary_of spot o x y) =
       operand_text (precedence o) x (expression_text x) ++ (binary_text o ++ operand_text (precedence o + 1) y (expression_text y))
-  expression_text (Choose spot x y z) = operand_text 1 x (expression_text x) ++ (codes " ? " ++ (expression_text y ++ (codes " : " ++ expression_text z)))
-  expression_text (Slice spot x high low) = operand_text slice_precedence x (expression_text x) ++ bounds_text high low
-  expression_text (Concat spot parts) = codes "{" ++ (parts_text parts ++ codes "}")
-  expression_text (Zext spot x w) = codes "zext(" ++ (expression_text x ++ (codes ", " ++ (decimal w ++ codes ")")))
+  expression_text (choice spot x y z) = operand_text 1 x (expression_text x) ++ (codes " ? " ++ (expression_text y ++ (codes " : " ++ expression_text z)))
+  expression_text (slice spot x high low) = operand_text slice_precedence x (expression_text x) ++ bounds_text high low
+  expression_text (concat spot parts) = codes "{" ++ (parts_text parts ++ codes "}")
+  expression_text (zero_extend spot x w) = codes "zext(" ++ (expression_text x ++ (codes ", " ++ (decimal w ++ codes ")")))
 
   -- with commas between them
   pub parts_text : Expressions → List ℕ
-  parts_text NoPart = []
-  parts_text (AndPart x parts) = expression_text x ++ more_parts_text parts
+  parts_text no_part = []
+  parts_text (and_part x parts) = expression_text x ++ more_parts_text parts
 
   pub more_parts_text : Expressions → List ℕ
-  more_parts_text NoPart = []
-  more_parts_text (AndPart x parts) = codes ", " ++ (expression_text x ++ more_parts_text parts)
+  more_parts_text no_part = []
+  more_parts_text (and_part x parts) = codes ", " ++ (expression_text x ++ more_parts_text parts)
 
 unfoldable mutual
   pub tag_text : TagExpression → List ℕ
-  tag_text (Level level) = level.name
-  tag_text (TagOf place x) = codes "tag(" ++ (expression_text x ++ codes ")")
-  tag_text (LevelAt place x) = codes "level(" ++ (expression_text x ++ codes ")")
-  tag_text (Join place parts) = codes "join(" ++ (tags_text parts ++ codes ")")
+  tag_text (level_of level) = level.name
+  tag_text (tag_at place x) = codes "tag(" ++ (expression_text x ++ codes ")")
+  tag_text (level_at place x) = codes "level(" ++ (expression_text x ++ codes ")")
+  tag_text (join_of place parts) = codes "join(" ++ (tags_text parts ++ codes ")")
 
   -- with commas between them
   pub tags_text : TagExpressions → List ℕ
-  tags_text NoTag = []
-  tags_text (AndTag x parts) = tag_text x ++ more_tags_text parts
+  tags_text no_tag = []
+  tags_text (and_tag x parts) = tag_text x ++ more_tags_text parts
 
   pub more_tags_text : TagExpressions → List ℕ
-  more_tags_text NoTag = []
-  more_tags_text (AndTag x parts) = codes ", " ++ (tag_text x ++ more_tags_text parts)
+  more_tags_text no_tag = []
+  more_tags_text (and_tag x parts) = codes ", " ++ (tag_text x ++ more_tags_text parts)
 
 -- commands; the margin is the spaces at the front of their lines
 
@@ -94,41 +94,41 @@ unfoldable pub cell_text : List ℕ → Expression → List ℕ
 cell_text memory index = memory ++ (codes "[" ++ (expression_text index ++ codes "]"))
 
 unfoldable pub simple_text : SimpleCommand → List ℕ
-simple_text (Assign register x) = register.name ++ (codes " := " ++ expression_text x)
-simple_text (Write memory index x) = cell_text memory.name index ++ (codes " := " ++ expression_text x)
-simple_text (SetTag place name n) = codes "setTag(" ++ (name.name ++ (codes ", " ++ (tag_text n ++ codes ")")))
-simple_text (SetCellTag place memory index n) = codes "setTag(" ++ (cell_text memory.name index ++ (codes ", " ++ (tag_text n ++ codes ")")))
-simple_text (Goto place target) = codes "goto " ++ target.name
-simple_text (Fall place) = codes "fall"
+simple_text (assign register x) = register.name ++ (codes " := " ++ expression_text x)
+simple_text (write memory index x) = cell_text memory.name index ++ (codes " := " ++ expression_text x)
+simple_text (set_tag place name n) = codes "setTag(" ++ (name.name ++ (codes ", " ++ (tag_text n ++ codes ")")))
+simple_text (set_cell_tag place memory index n) = codes "setTag(" ++ (cell_text memory.name index ++ (codes ", " ++ (tag_text n ++ codes ")")))
+simple_text (go_to place target) = codes "goto " ++ target.name
+simple_text (fall_to_child place) = codes "fall"
 
 unfoldable mutual
   pub command_text : List ℕ → Command → List ℕ
-  command_text margin (Do c) = margin ++ (simple_text c ++ codes ";\n")
-  command_text margin (Try c place handler) = margin ++ (simple_text c ++ (codes " otherwise" ++ (block_text margin handler ++ codes "\n")))
-  command_text margin (If place x one other) =
+  command_text margin (lone c) = margin ++ (simple_text c ++ codes ";\n")
+  command_text margin (try c place handler) = margin ++ (simple_text c ++ (codes " otherwise" ++ (block_text margin handler ++ codes "\n")))
+  command_text margin (if_else place x one other) =
       margin ++ (codes "if (" ++ (expression_text x ++ (codes ")" ++ (block_text margin one ++ (else_text margin other ++ codes "\n")))))
-  command_text margin (TryThen c place accepted refused) =
+  command_text margin (try_then c place accepted refused) =
       margin ++ (simple_text c ++ (codes " then" ++ (block_text margin accepted ++ (codes " otherwise" ++ (block_text margin refused ++ codes "\n")))))
-  command_text margin (Case place x arms) =
+  command_text margin (case_of place x arms) =
       margin ++ (codes "case (" ++ (expression_text x ++ (codes ") {\n" ++ (arms_text (margin ++ codes "  ") arms ++ (margin ++ codes "}\n")))))
 
   -- an arm and the last block begin a line each
   pub arms_text : List ℕ → Arms → List ℕ
-  arms_text margin (Last block) = margin ++ (codes "else" ++ (block_text margin block ++ codes "\n"))
-  arms_text margin (Arm constants block arms) =
+  arms_text margin (last_arm block) = margin ++ (codes "else" ++ (block_text margin block ++ codes "\n"))
+  arms_text margin (and_arm constants block arms) =
       margin ++ (parts_text constants ++ (codes ":" ++ (block_text margin block ++ (codes "\n" ++ arms_text margin arms))))
 
   -- from the space before its `{` up to its `}`
   pub block_text : List ℕ → CommandBlock → List ℕ
-  block_text margin (Commands list after) = codes " {\n" ++ (commands_text (margin ++ codes "  ") list ++ (margin ++ codes "}"))
+  block_text margin (command_block list after) = codes " {\n" ++ (commands_text (margin ++ codes "  ") list ++ (margin ++ codes "}"))
 
   pub else_text : List ℕ → ElseBlock → List ℕ
-  else_text margin NoElse = []
-  else_text margin (Else block) = codes " else" ++ block_text margin block
+  else_text margin no_else = []
+  else_text margin (with_else block) = codes " else" ++ block_text margin block
 
   pub commands_text : List ℕ → CommandList → List ℕ
-  commands_text margin NoCommand = []
-  commands_text margin (AndCommand c list) = command_text margin c ++ commands_text margin list
+  commands_text margin no_command = []
+  commands_text margin (and_command c list) = command_text margin c ++ commands_text margin list
 
 -- declarations
 
@@ -160,17 +160,17 @@ head_text name kind = codes "state " ++ (name ++ (codes " " ++ (kind_text kind +
 
 -- the commands of a body
 abbrev pub body_text : List ℕ → CommandBlock → List ℕ
-body_text margin (Commands list after) = commands_text margin list
+body_text margin (command_block list after) = commands_text margin list
 
 unfoldable mutual
   pub state_text : List ℕ → StateTree → List ℕ
-  state_text margin (StateOf place name kind body children) =
+  state_text margin (state_node place name kind body children) =
       margin
       ++ (head_text name.name kind ++ (body_text (margin ++ codes "  ") body ++ (states_text (margin ++ codes "  ") children ++ (margin ++ codes "}\n"))))
 
   pub states_text : List ℕ → StateList → List ℕ
-  states_text margin NoState = []
-  states_text margin (AndState s states) = state_text margin s ++ states_text margin states
+  states_text margin no_state = []
+  states_text margin (and_state s states) = state_text margin s ++ states_text margin states
 
 abbrev pub version_text : Version → List ℕ
 version_text v.One = []

@@ -2,7 +2,7 @@
 use Rattle.std.specs.Prelude.{◌≡◌, ℕ, List, [], ◌∷◌, ◌++◌, Some, None, codes}
 use Rattle.sap_tree.specs.Making.{named, numeral, number, read, enforced, block}
 use Rattle.sap_tree.specs.Bare.{nowhere, no_spot}
-use Rattle.sap_tree.specs.Syntax.{Expression, Sized, Unary, Binary, Choose, Slice, Concat, Zext, NoPart, AndPart, Level, TagOf, Join, NoTag, AndTag, Assign, Write, SetCellTag, Goto, Fall, Command, Do, Try, If, TryThen, Case, Last, Arm, Else, StateOf, NoState, AndState, DesignTree}
+use Rattle.sap_tree.specs.Syntax.{Expression, sized_literal, unary_of, binary_of, choice, slice, concat, zero_extend, no_part, and_part, level_of, tag_at, join_of, no_tag, and_tag, assign, write, set_cell_tag, go_to, fall_to_child, Command, lone, try, if_else, try_then, case_of, last_arm, and_arm, with_else, state_node, no_state, and_state, DesignTree}
 use Rattle.sap_tree.specs.declared.syntax.BinaryOperator.TheVariants as b
 use Rattle.sap_tree.specs.declared.syntax.Decl.TheVariants as d
 use Rattle.sap_tree.specs.declared.syntax.Kind.TheVariants as k
@@ -15,9 +15,9 @@ abbrev pub adder : DesignTree
 adder = record {
   version = One;
   declarations = d.Input nowhere (named (codes "a")) (numeral 8) ∷ d.Register nowhere (named (codes "x")) (numeral 8) (k.Dynamic nowhere) None ∷ [];
-  states = AndState (StateOf nowhere (named (codes "S")) (enforced (codes "low")) (block (Do (Assign (named (codes "x"))
-      (Binary no_spot b.And (Binary no_spot b.Add (read (codes "a")) (number 1)) (Binary no_spot b.Or (read (codes "a")) (read (codes "x"))))) ∷ Do (Goto nowhere (named (codes "S"))) ∷ []))
-      NoState) NoState;
+  states = and_state (state_node nowhere (named (codes "S")) (enforced (codes "low")) (block (lone (assign (named (codes "x"))
+      (binary_of no_spot b.And (binary_of no_spot b.Add (read (codes "a")) (number 1)) (binary_of no_spot b.Or (read (codes "a")) (read (codes "x"))))) ∷ lone (go_to nowhere (named (codes "S"))) ∷ []))
+      no_state) no_state;
 }
 
 abbrev pub Adder : Type 0
@@ -25,24 +25,24 @@ Adder = canonical_text adder ≡ codes "input a : 8;\nreg x : 8 dynamic;\nstate 
 
 -- the four low bits of x
 abbrev pub low_bits : Expression
-low_bits = Slice no_spot (read (codes "x")) 3 0
+low_bits = slice no_spot (read (codes "x")) 3 0
 
 -- a command that stores a cell, and one that chooses, with an empty handler
 abbrev pub stores : Command
-stores = Do (Write (named (codes "m")) (read (codes "i")) (Zext no_spot low_bits 8))
+stores = lone (write (named (codes "m")) (read (codes "i")) (zero_extend no_spot low_bits 8))
 
 abbrev pub chooses : Command
-chooses = Try
-    (Assign (named (codes "x")) (Choose no_spot (read (codes "i"))
-    (Concat no_spot (AndPart (Sized no_spot 4 1) (AndPart low_bits NoPart)))
-    (Unary no_spot u.Neg (Unary no_spot u.Neg (read (codes "x"))))))
+chooses = try
+    (assign (named (codes "x")) (choice no_spot (read (codes "i"))
+    (concat no_spot (and_part (sized_literal no_spot 4 1) (and_part low_bits no_part)))
+    (unary_of no_spot u.Neg (unary_of no_spot u.Neg (read (codes "x"))))))
     nowhere (block [])
 
 abbrev pub retags : Command
-retags = Try
-    (SetCellTag nowhere (named (codes "m")) (number 0)
-    (Join nowhere (AndTag (Level (named (codes "high"))) (AndTag (TagOf nowhere (read (codes "x"))) NoTag))))
-    nowhere (block (Do (Fall nowhere) ∷ []))
+retags = try
+    (set_cell_tag nowhere (named (codes "m")) (number 0)
+    (join_of nowhere (and_tag (level_of (named (codes "high"))) (and_tag (tag_at nowhere (read (codes "x"))) no_tag))))
+    nowhere (block (lone (fall_to_child nowhere) ∷ []))
 
 abbrev pub nested : DesignTree
 nested = record {
@@ -51,10 +51,10 @@ nested = record {
       ∷ d.Register nowhere (named (codes "x")) (numeral 8)
       (k.Enforced (named (codes "low")) (Some (record { place = nowhere; level = named (codes "low") }))) (Some (numeral 7))
       ∷ d.Memory nowhere (named (codes "m")) (numeral 8) (numeral 4) (k.Dynamic nowhere) ∷ [];
-  states = AndState (StateOf nowhere (named (codes "S")) (k.Dynamic nowhere)
-      (block (If nowhere (Binary no_spot b.Lt (read (codes "i")) (number 3)) (block (stores ∷ [])) (Else (block (chooses ∷ []))) ∷ retags ∷ []))
-      (AndState (StateOf nowhere (named (codes "T")) (enforced (codes "high")) (block (Do (Goto nowhere (named (codes "T"))) ∷ [])) NoState) NoState))
-      NoState;
+  states = and_state (state_node nowhere (named (codes "S")) (k.Dynamic nowhere)
+      (block (if_else nowhere (binary_of no_spot b.Lt (read (codes "i")) (number 3)) (block (stores ∷ [])) (with_else (block (chooses ∷ []))) ∷ retags ∷ []))
+      (and_state (state_node nowhere (named (codes "T")) (enforced (codes "high")) (block (lone (go_to nowhere (named (codes "T"))) ∷ [])) no_state) no_state))
+      no_state;
 }
 
 -- each line with its end
@@ -86,18 +86,18 @@ Nested = canonical_text nested
 
 -- a command of the second version that stores, and one that looks at a number, in a block of the first
 abbrev pub looks : Command
-looks = Case nowhere (read (codes "a"))
-    (Arm (AndPart (number 0) (AndPart (Sized no_spot 2 3) NoPart)) (block (Do (Assign (named (codes "x")) (number 7)) ∷ []))
-    (Arm (AndPart (number 1) NoPart) (block []) (Last (block (Do (Goto nowhere (named (codes "S"))) ∷ [])))))
+looks = case_of nowhere (read (codes "a"))
+    (and_arm (and_part (number 0) (and_part (sized_literal no_spot 2 3) no_part)) (block (lone (assign (named (codes "x")) (number 7)) ∷ []))
+    (and_arm (and_part (number 1) no_part) (block []) (last_arm (block (lone (go_to nowhere (named (codes "S"))) ∷ [])))))
 
 abbrev pub decides : Command
-decides = TryThen (Assign (named (codes "y")) (read (codes "a"))) nowhere (block (looks ∷ [])) (block (Do (Fall nowhere) ∷ []))
+decides = try_then (assign (named (codes "y")) (read (codes "a"))) nowhere (block (looks ∷ [])) (block (lone (fall_to_child nowhere) ∷ []))
 
 abbrev pub second : DesignTree
 second = record {
   version = Two;
   declarations = d.Input nowhere (named (codes "a")) (numeral 2) ∷ [];
-  states = AndState (StateOf nowhere (named (codes "S")) (enforced (codes "low")) (block (decides ∷ [])) NoState) NoState;
+  states = and_state (state_node nowhere (named (codes "S")) (enforced (codes "low")) (block (decides ∷ [])) no_state) no_state;
 }
 
 abbrev pub Second : Type 0

@@ -3,7 +3,7 @@
 ghost use Rattle.std.specs.Prelude.{◌≡◌, ◌++◌, OnOk, codes};
 ghost use Rattle.sap_show.specs.Canonical.{arms_text, cell_text, simple_text, tag_text, command_text, block_text, else_text};
 ghost use Rattle.sap_show.specs.Lists.{list_arms_text, list_text};
-ghost use Rattle.sap_tree.specs.Syntax.{Last};
+ghost use Rattle.sap_tree.specs.Syntax.{last_arm};
 ghost use Rattle.sap_tree.specs.Trees.{expression_of, tag_of, simple_of, command_of, block_of, else_of};
 
 use crate::expression::{expression, parts, tag};
@@ -151,7 +151,7 @@ fn last_block(
     margin: &[u8],
     last: &Block,
 ) -> Result<(), AllocError>
-    ensures { OnOk result (out.new.items ≡ out.old.items ++ arms_text margin.now (Last (block_of last.now))) }
+    ensures { OnOk result (out.new.items ≡ out.old.items ++ arms_text margin.now (last_arm (block_of last.now))) }
 {
     out.extend_from_slice(margin)?;
     out.extend_from_slice(b"else")?;

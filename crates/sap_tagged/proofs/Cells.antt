@@ -4,7 +4,7 @@ use Rattle.std.specs.Prelude.{◌==◌}
 use Rattle.std.proofs.lemmas.Bool.{cases_Bool, eqb-true}
 use Rattle.sap_maps.specs.Maps.{Name}
 use Rattle.sap_maps.specs.Term.{Term}
-use Rattle.sap_meaning.specs.Program.{is_dynamic, is_memory, LevelTerm, Write, RetagCell, Group}
+use Rattle.sap_meaning.specs.Program.{is_dynamic, is_memory, LevelTerm, write, retag_cell, Group}
 use Rattle.sap_meaning.specs.Store.{Slot, own, start, next, start_whole, next_whole, Store, number, level, home, same_slot, put_number, put_level, raise, After}
 use Rattle.sap_meaning.specs.Expressions.{value, tag, new_level}
 use Rattle.sap_meaning.specs.Checks.{Spot}
@@ -12,7 +12,7 @@ use Rattle.sap_meaning.specs.Does.{effect}
 use Rattle.sap_meaning.specs.Fine.{FineStep}
 use Rattle.sap_ir.specs.Guarded.{Going, value_in, set_cell}
 use Rattle.sap_ir.specs.Plain.Does.{body_does}
-use Rattle.sap_tagged.specs.Keys.{Key, Value, Tag, Seat, Wire, First, same}
+use Rattle.sap_tagged.specs.Keys.{Key, value_key, tag_key, seat_key, wire_key, first_key, same}
 use Rattle.sap_tagged.specs.Setting.{Setting}
 use Rattle.sap_tagged.specs.Levels.{var, lub, expr}
 use Rattle.sap_tagged.specs.Commands.{effect_of}
@@ -36,34 +36,34 @@ module _ (d : Setting) (widths : Name → ℕ) (laws : Lawful d widths) where
 
   -- a number in one cell
   stands_number : (g g' : Going) (s : Store) (m n v : ℕ) → Stands d g s → g'.now ≡ g.now
-      → ((k j : ℕ) → g'.next (d.name (Value k)) j ≡ (if cell_is k m j n then v else g.next (d.name (Value k)) j))
-      → ((k j : ℕ) → g'.next (d.name (Tag k)) j ≡ g.next (d.name (Tag k)) j) → Stands d g' (put_number (next m n) v s)
+      → ((k j : ℕ) → g'.next (d.name (value_key k)) j ≡ (if cell_is k m j n then v else g.next (d.name (value_key k)) j))
+      → ((k j : ℕ) → g'.next (d.name (tag_key k)) j ≡ g.next (d.name (tag_key k)) j) → Stands d g' (put_number (next m n) v s)
   unfolding put_number
   stands_number g g' s m n v st e vs ts = record {
-    value = λ x h. ap (λ w. w.value (d.name (Value x))) e ∙ st.value x h;
-    tag = λ x h. ap (λ w. w.value (d.name (Tag x))) e ∙ st.tag x h;
-    seat = λ x h. ap (λ w. w.value (d.name (Seat x))) e ∙ st.seat x h;
+    value = λ x h. ap (λ w. w.value (d.name (value_key x))) e ∙ st.value x h;
+    tag = λ x h. ap (λ w. w.value (d.name (tag_key x))) e ∙ st.tag x h;
+    seat = λ x h. ap (λ w. w.value (d.name (seat_key x))) e ∙ st.seat x h;
     seated = st.seated;
-    starts = λ k j h. ap (λ w. w.cell (d.name (Value k)) j) e ∙ st.starts k j h;
-    start_tags = λ k j h t. ap (λ w. w.cell (d.name (Tag k)) j) e ∙ st.start_tags k j h t;
-    start_tag = λ k h. ap (λ w. w.value (d.name (First k))) e ∙ st.start_tag k h;
+    starts = λ k j h. ap (λ w. w.cell (d.name (value_key k)) j) e ∙ st.starts k j h;
+    start_tags = λ k j h t. ap (λ w. w.cell (d.name (tag_key k)) j) e ∙ st.start_tags k j h t;
+    start_tag = λ k h. ap (λ w. w.value (d.name (first_key k))) e ∙ st.start_tag k h;
     nexts = λ k j h. vs k j ∙ ap (λ (z : ℕ). if cell_is k m j n then v else z) (st.nexts k j h);
     next_tags = λ k j h t. ts k j ∙ st.next_tags k j h t;
   }
 
   -- a level in one cell of an enforced memory
   stands_mark : (g g' : Going) (s : Store) (m n t : ℕ) → Stands d g s → is_dynamic d.world m ≡ false → g'.now ≡ g.now
-      → ((k j : ℕ) → g'.next (d.name (Value k)) j ≡ g.next (d.name (Value k)) j)
-      → ((k j : ℕ) → g'.next (d.name (Tag k)) j ≡ (if cell_is k m j n then d.code t else g.next (d.name (Tag k)) j)) → Stands d g' (put_level d.world (next m n) t s)
+      → ((k j : ℕ) → g'.next (d.name (value_key k)) j ≡ g.next (d.name (value_key k)) j)
+      → ((k j : ℕ) → g'.next (d.name (tag_key k)) j ≡ (if cell_is k m j n then d.code t else g.next (d.name (tag_key k)) j)) → Stands d g' (put_level d.world (next m n) t s)
   unfolding put_level
   stands_mark g g' s m n t st f e vs ts = record {
-    value = λ x h. ap (λ w. w.value (d.name (Value x))) e ∙ st.value x h;
-    tag = λ x h. ap (λ w. w.value (d.name (Tag x))) e ∙ st.tag x h ∙ ap d.code (sym (other (tag_slot d.world x) (no_cell x)));
-    seat = λ x h. ap (λ w. w.value (d.name (Seat x))) e ∙ st.seat x h;
+    value = λ x h. ap (λ w. w.value (d.name (value_key x))) e ∙ st.value x h;
+    tag = λ x h. ap (λ w. w.value (d.name (tag_key x))) e ∙ st.tag x h ∙ ap d.code (sym (other (tag_slot d.world x) (no_cell x)));
+    seat = λ x h. ap (λ w. w.value (d.name (seat_key x))) e ∙ st.seat x h;
     seated = st.seated;
-    starts = λ k j h. ap (λ w. w.cell (d.name (Value k)) j) e ∙ st.starts k j h;
-    start_tags = λ k j h q. ap (λ w. w.cell (d.name (Tag k)) j) e ∙ st.start_tags k j h q ∙ ap d.code (sym (other (start k j) refl));
-    start_tag = λ k h. ap (λ w. w.value (d.name (First k))) e ∙ st.start_tag k h ∙ ap d.code (sym (other (start_whole k) refl));
+    starts = λ k j h. ap (λ w. w.cell (d.name (value_key k)) j) e ∙ st.starts k j h;
+    start_tags = λ k j h q. ap (λ w. w.cell (d.name (tag_key k)) j) e ∙ st.start_tags k j h q ∙ ap d.code (sym (other (start k j) refl));
+    start_tag = λ k h. ap (λ w. w.value (d.name (first_key k))) e ∙ st.start_tag k h ∙ ap d.code (sym (other (start_whole k) refl));
     nexts = λ k j h. vs k j ∙ st.nexts k j h;
     next_tags = λ k j h q.
         ts k j ∙ ap (λ (z : ℕ). if cell_is k m j n then d.code t else z) (st.next_tags k j h q) ∙ coded (cell_is k m j n) (s.level (next k j))
@@ -87,18 +87,18 @@ module _ (d : Setting) (widths : Name → ℕ) (laws : Lawful d widths) where
       coded true l = refl
       coded false l = refl
 
-  number_next : (g : Going) (s : Store) (m n i x v : ℕ) → Stands d g s → i ≡ n → x ≡ v → Stands d (put_next d g (Value m) i x) (put_number (next m n) v s)
+  number_next : (g : Going) (s : Store) (m n i x v : ℕ) → Stands d g s → i ≡ n → x ≡ v → Stands d (put_next d g (value_key m) i x) (put_number (next m n) v s)
   number_next g s m n i x v st ei ex =
       stands_number g _ s m n v st refl
-      (λ k j. at_next g (Value m) (Value k) i x j ∙ ap₂ (λ (p q : ℕ). if cell_is k m j p then q else g.next (d.name (Value k)) j) ei ex)
-      (λ k j. at_next g (Value m) (Tag k) i x j)
+      (λ k j. at_next g (value_key m) (value_key k) i x j ∙ ap₂ (λ (p q : ℕ). if cell_is k m j p then q else g.next (d.name (value_key k)) j) ei ex)
+      (λ k j. at_next g (value_key m) (tag_key k) i x j)
 
   mark_next : (g : Going) (s : Store) (m n i x t : ℕ) → Stands d g s → is_dynamic d.world m ≡ false → i ≡ n → x ≡ d.code t
-      → Stands d (put_next d g (Tag m) i x) (put_level d.world (next m n) t s)
+      → Stands d (put_next d g (tag_key m) i x) (put_level d.world (next m n) t s)
   mark_next g s m n i x t st f ei ex =
       stands_mark g _ s m n t st f refl
-      (λ k j. at_next g (Tag m) (Value k) i x j)
-      (λ k j. at_next g (Tag m) (Tag k) i x j ∙ ap₂ (λ (p q : ℕ). if cell_is k m j p then q else g.next (d.name (Tag k)) j) ei ex)
+      (λ k j. at_next g (tag_key m) (value_key k) i x j)
+      (λ k j. at_next g (tag_key m) (tag_key k) i x j ∙ ap₂ (λ (p q : ℕ). if cell_is k m j p then q else g.next (d.name (tag_key k)) j) ei ex)
 
   raised_first : (m n v t : ℕ) (s : Store) → raise d.world.order (λ x. nat_eq x m) t (put_number (next m n) v s) ≡ put_number (next m n) v (raise d.world.order (λ x. nat_eq x m) t s)
   unfolding raise put_number
@@ -109,44 +109,44 @@ module _ (d : Setting) (widths : Name → ℕ) (laws : Lawful d widths) where
   swapped m n v t s f = refl
 
   pub write_effect : (f : Going → Going) (go : Name → Going → Going) (enter : ℕ → ℕ → Store → After) (q : Group) (k free : ℕ) (sp : Spot) (site m : ℕ) (i e : Term ℕ) (l : ℕ) (b r : Store) (g : Going)
-      → FineStep d.world q sp.children (Write site m i e) → Begins d k sp (Write site m i e) l b r g
-      → Turns d free g (body_does widths f go (effect_of d sp k (Write site m i e)) g) (effect d.world sp enter (Write site m i e) l b r)
+      → FineStep d.world q sp.children (write site m i e) → Begins d k sp (write site m i e) l b r g
+      → Turns d free g (body_does widths f go (effect_of d sp k (write site m i e)) g) (effect d.world sp enter (write site m i e) l b r)
   unfolding effect put_to put_number
   write_effect f go enter q k free sp site m i e l b r g fine h =
       let n = value d.world i b in
       let v = value d.world e b in
-      let g1 = put_next d g (Value m) (value_in widths g (expr d i)) (value_in widths g (expr d e)) in
+      let g1 = put_next d g (value_key m) (value_in widths g (expr d i)) (value_in widths g (expr d e)) in
       let s1 = put_number (next m n) v r in
       let st1 : Stands d g1 s1 = number_next g r m n _ _ v h.stands (expr_value d widths laws g b h.reads h.starts i fine.1) (expr_value d widths laws g b h.reads h.starts e fine.2) in
       elim (cases_Bool (is_dynamic d.world m)) [
         | inl t ↦
             rw t
             (let c = d.world.order.join l (d.world.order.join (tag d.world i b) (tag d.world e b)) in
-            let z = value_in widths g1 (lub (var d (Tag m)) (var d (Wire (k + 3)))) in
+            let z = value_in widths g1 (lub (var d (tag_key m)) (var d (wire_key (k + 3)))) in
             let old = r.level (tag_slot d.world m) in
             let ez : z ≡ d.code (d.world.order.join old c) =
-            lub_value d widths laws g1 (var d (Tag m)) (var d (Wire (k + 3))) old c (h.stands.tag m (tagged_memory d.world m fine.0 t)) h.new in
-            let g2 = put_to d g1 (Tag m) z in
+            lub_value d widths laws g1 (var d (tag_key m)) (var d (wire_key (k + 3))) old c (h.stands.tag m (tagged_memory d.world m fine.0 t)) h.new in
+            let g2 = put_to d g1 (tag_key m) z in
             let quiet = quiet_tag d widths laws free m g1 z in
             turns_stay d free g g2 _ (record { kept = quiet.kept; refused = quiet.refused; levels = quiet.levels })
             (subst (λ (s : Store). Stands d g2 s) (raised_first m n v c r)
-            (stands_raise d g1 g2 s1 (λ x. nat_eq x m) c st1 (λ y. at_put d widths laws g1 (Tag m) (Value y) z) (λ y w. at_put d widths laws g1 (Tag m) (Tag y) z ∙ level_at y (nat_eq y m) refl z ez)
-            (λ y. at_put d widths laws g1 (Tag m) (Seat y) z) (kept_put d widths laws g1 (Tag m) z (λ y. refl)))))
+            (stands_raise d g1 g2 s1 (λ x. nat_eq x m) c st1 (λ y. at_put d widths laws g1 (tag_key m) (value_key y) z) (λ y w. at_put d widths laws g1 (tag_key m) (tag_key y) z ∙ level_at y (nat_eq y m) refl z ez)
+            (λ y. at_put d widths laws g1 (tag_key m) (seat_key y) z) (kept_put d widths laws g1 (tag_key m) z (λ y. refl)))))
         | inr t ↦ rw t (turns_stay d free g g1 s1 (record { kept = λ j i. refl; refused = λ n. refl; levels = λ n. refl }) st1)
       ]
     where
       level_at : (y : ℕ) (c : Bool) → nat_eq y m ≡ c → (z : ℕ)
           → z ≡ d.code (d.world.order.join (r.level (tag_slot d.world m)) (d.world.order.join l (d.world.order.join (tag d.world i b) (tag d.world e b))))
-          → (if c then z else at d g (Tag y))
-          ≡ (if c then d.code (d.world.order.join (r.level (tag_slot d.world y)) (d.world.order.join l (d.world.order.join (tag d.world i b) (tag d.world e b)))) else at d g (Tag y))
+          → (if c then z else at d g (tag_key y))
+          ≡ (if c then d.code (d.world.order.join (r.level (tag_slot d.world y)) (d.world.order.join l (d.world.order.join (tag d.world i b) (tag d.world e b)))) else at d g (tag_key y))
       level_at y true p z ez =
           ez
           ∙ ap (λ (x : ℕ). d.code (d.world.order.join (r.level (tag_slot d.world x)) (d.world.order.join l (d.world.order.join (tag d.world i b) (tag d.world e b))))) (sym (eqb-true y m p))
       level_at y false p z ez = refl
 
   pub retag_cell_effect : (f : Going → Going) (go : Name → Going → Going) (enter : ℕ → ℕ → Store → After) (q : Group) (k free : ℕ) (sp : Spot) (site m : ℕ) (j : Term ℕ) (n : LevelTerm) (l : ℕ) (b r : Store) (g : Going)
-      → FineStep d.world q sp.children (RetagCell site m j n) → Begins d k sp (RetagCell site m j n) l b r g
-      → Turns d free g (body_does widths f go (effect_of d sp k (RetagCell site m j n)) g) (effect d.world sp enter (RetagCell site m j n) l b r)
+      → FineStep d.world q sp.children (retag_cell site m j n) → Begins d k sp (retag_cell site m j n) l b r g
+      → Turns d free g (body_does widths f go (effect_of d sp k (retag_cell site m j n)) g) (effect d.world sp enter (retag_cell site m j n) l b r)
   unfolding effect
   retag_cell_effect f go enter q k free sp site m j n l b r g fine h =
       let i = value d.world j b in
@@ -155,13 +155,13 @@ module _ (d : Setting) (widths : Name → ℕ) (laws : Lawful d widths) where
       let v : ℕ = if keep then number (start m i) b else 0 in
       let x = value_in widths g (expr d j) in
       let ex : x ≡ i = expr_value d widths laws g b h.reads h.starts j fine.2 in
-      let w = at d g (Wire (k + 3)) in
-      let g1 = put_next d g (Tag m) x w in
-      let y : ℕ = if at d g (Wire (k + 4)) == 0 then 0 else g.now.cell (d.name (Value m)) x in
+      let w = at d g (wire_key (k + 3)) in
+      let g1 = put_next d g (tag_key m) x w in
+      let y : ℕ = if at d g (wire_key (k + 4)) == 0 then 0 else g.now.cell (d.name (value_key m)) x in
       let ey : y ≡ v =
-      ap (λ (z : ℕ). if z == 0 then 0 else g.now.cell (d.name (Value m)) x) h.keeps ∙ chosen keep (g.now.cell (d.name (Value m)) x) 0
-      ∙ ap (λ (z : ℕ). if keep then z else 0) (ap (g.now.cell (d.name (Value m))) ex ∙ h.starts m i fine.0) in
-      let g2 = put_next d g1 (Value m) x y in
+      ap (λ (z : ℕ). if z == 0 then 0 else g.now.cell (d.name (value_key m)) x) h.keeps ∙ chosen keep (g.now.cell (d.name (value_key m)) x) 0
+      ∙ ap (λ (z : ℕ). if keep then z else 0) (ap (g.now.cell (d.name (value_key m))) ex ∙ h.starts m i fine.0) in
+      let g2 = put_next d g1 (value_key m) x y in
       turns_stay d free g g2 _ (record { kept = λ j i. refl; refused = λ n. refl; levels = λ n. refl })
       (subst (λ (s : Store). Stands d g2 s) (swapped m i v c r fine.1)
       (number_next g1 (put_level d.world (next m i) c r) m i x y v (mark_next g r m i x w c h.stands fine.1 ex h.new) ex ey))

@@ -4,7 +4,7 @@ use Rattle.std.proofs.Common.{◌≡◌, ℕ, ◌+◌, List, [], length, Bool, n
 use Rattle.std.specs.Prelude.{eqb}
 use Rattle.std.proofs.lemmas.Bool.{cases_Bool}
 use Rattle.sap_tree.specs.Syntax as tree
-use Rattle.sap_tree.specs.Syntax.{Expression, Number, Sized, Read, Cell, Unary, Binary, Choose, Slice, Concat, Zext, Expressions, NoPart, AndPart}
+use Rattle.sap_tree.specs.Syntax.{Expression, literal, sized_literal, variable, cell_at, unary_of, binary_of, choice, slice, concat, zero_extend, Expressions, no_part, and_part}
 use Rattle.sap_names.specs.declared.entity.Entity.{Entity}
 use Rattle.sap_names.specs.declared.kind.Declared.{Declared}
 use Rattle.sap_names.specs.declared.kind.Code.TheVariants.{E7}
@@ -16,7 +16,7 @@ use Rattle.sap_names.specs.Widths as widths
 use Rattle.sap_names.specs.Widths.{own, own_parts, register_width, cell_width, index_width, sliced, extended, family, asked_left, asked_right, asked_one, is_sound, all_sound}
 use Rattle.sap_maps.specs.Term.{Term, constant, read, cell, one, two, choose, join, part}
 use Rattle.sap_meaning.specs.Program as program
-use Rattle.sap_meaning.specs.Program.{World, LevelTerm, fixed, of, at_place, both, Step, Set, Write, Retag, RetagCell, Goto, Fall, Block, End, Then, State, Node, Group, None, More}
+use Rattle.sap_meaning.specs.Program.{World, LevelTerm, fixed, of, at_place, both, Step, assign, write, retag, retag_cell, go_to, fall_to_child, Block, end_block, command_then, State, state_node, Group, no_node, and_node}
 use Rattle.sap_meaning.specs.Checks.{Spot}
 use Rattle.sap_meaning.specs.Expressions as meaning
 use Rattle.sap_lattice.specs.Levels.{Levels}
@@ -49,36 +49,36 @@ LevelConditions w (at_place e) = Conditions w e
 LevelConditions w (both a b) = LevelConditions w a × LevelConditions w b
 
 abbrev pub StepConditions : World → Step → Type 0
-StepConditions w (Set site x e) = Conditions w e
-StepConditions w (Write site m i e) = Conditions w i × Conditions w e
-StepConditions w (Retag site x n) = LevelConditions w n
-StepConditions w (RetagCell site m j n) = Conditions w j × LevelConditions w n
-StepConditions w (Goto site target) = Unit {0}
-StepConditions w (Fall site hang) = Unit {0}
+StepConditions w (assign site x e) = Conditions w e
+StepConditions w (write site m i e) = Conditions w i × Conditions w e
+StepConditions w (retag site x n) = LevelConditions w n
+StepConditions w (retag_cell site m j n) = Conditions w j × LevelConditions w n
+StepConditions w (go_to site target) = Unit {0}
+StepConditions w (fall_to_child site hang) = Unit {0}
 
 abbrev mutual
   pub CommandConditions : World → program.Command → Type 0
-  CommandConditions w (program.Do k) = StepConditions w k
-  CommandConditions w (program.Try k hang h) = StepConditions w k × BlockConditions w h
-  CommandConditions w (program.If hang e a b) = Conditions w e × BlockConditions w a × BlockConditions w b
-  CommandConditions w (program.TryThen k hang a b) = StepConditions w k × BlockConditions w a × BlockConditions w b
-  CommandConditions w (program.Case hang e arms) = Conditions w e × ArmsConditions w arms
+  CommandConditions w (program.lone k) = StepConditions w k
+  CommandConditions w (program.try k hang h) = StepConditions w k × BlockConditions w h
+  CommandConditions w (program.if_else hang e a b) = Conditions w e × BlockConditions w a × BlockConditions w b
+  CommandConditions w (program.try_then k hang a b) = StepConditions w k × BlockConditions w a × BlockConditions w b
+  CommandConditions w (program.case_of hang e arms) = Conditions w e × ArmsConditions w arms
 
   pub ArmsConditions : World → program.Arms → Type 0
-  ArmsConditions w (program.Last b) = BlockConditions w b
-  ArmsConditions w (program.Arm constants b arms) = BlockConditions w b × ArmsConditions w arms
+  ArmsConditions w (program.last_arm b) = BlockConditions w b
+  ArmsConditions w (program.and_arm constants b arms) = BlockConditions w b × ArmsConditions w arms
 
   pub BlockConditions : World → Block → Type 0
-  BlockConditions w End = Unit {0}
-  BlockConditions w (Then c cs) = CommandConditions w c × BlockConditions w cs
+  BlockConditions w end_block = Unit {0}
+  BlockConditions w (command_then c cs) = CommandConditions w c × BlockConditions w cs
 
 abbrev mutual
   pub StateConditions : World → State → Type 0
-  StateConditions w (Node s b g) = BlockConditions w b × GroupConditions w g
+  StateConditions w (state_node s b g) = BlockConditions w b × GroupConditions w g
 
   pub GroupConditions : World → Group → Type 0
-  GroupConditions w None = Unit {0}
-  GroupConditions w (More t g) = StateConditions w t × GroupConditions w g
+  GroupConditions w no_node = Unit {0}
+  GroupConditions w (and_node t g) = StateConditions w t × GroupConditions w g
 
 widened_conditions : (w : World) (t : Term ℕ) (from u : ℕ) → Conditions w t → Conditions w (widened from u t)
 widened_conditions w t from u c = elim (cases_Bool (eqb from u)) [ inl q ↦ rw q c | inr q ↦ rw q (tt, c) ]
@@ -89,165 +89,165 @@ module _ (es : List Entity) (w : World) (r : Resolved es w) where
 
   mutual
     pub conditions : (e : Expression) (asked : Option ℕ) → expression_faults what e asked ≡ [] → Conditions w (term_of es e asked)
-    conditions (Number spot value) asked h = tt
-    conditions (Sized spot u value) asked h = tt
-    conditions (Read spot name) asked h = tt
-    conditions (Cell spot name index) asked h =
+    conditions (literal spot value) asked h = tt
+    conditions (sized_literal spot u value) asked h = tt
+    conditions (variable spot name) asked h = tt
+    conditions (cell_at spot name index) asked h =
         conditions index (index_width (what name))
         (none_three (fault_if (unsettled (cell_width (what name)) asked) E7 spot.first) (use_faults indexed (what name) spot.at)
         (expression_faults what index (index_width (what name))) h).2
-    conditions (Unary spot o e) asked h =
-        let whole = widths.width_of what (Unary spot o e) asked in
-        conditions e (asked_one o whole) (none_two (fault_if (unsettled (own what (Unary spot o e)) asked) E7 spot.first) (expression_faults what e (asked_one o whole)) h).1
-    conditions (Binary spot o x y) asked h =
-        let whole = widths.width_of what (Binary spot o x y) asked in
+    conditions (unary_of spot o e) asked h =
+        let whole = widths.width_of what (unary_of spot o e) asked in
+        conditions e (asked_one o whole) (none_two (fault_if (unsettled (own what (unary_of spot o e)) asked) E7 spot.first) (expression_faults what e (asked_one o whole)) h).1
+    conditions (binary_of spot o x y) asked h =
+        let whole = widths.width_of what (binary_of spot o x y) asked in
         let left = asked_left (family o) whole (own what x) (own what y) in
         let right = asked_right (family o) whole (own what x) (own what y) in
-        let n = none_three (fault_if (unsettled (own what (Binary spot o x y)) asked) E7 spot.first) (expression_faults what x left)
+        let n = none_three (fault_if (unsettled (own what (binary_of spot o x y)) asked) E7 spot.first) (expression_faults what x left)
         (expression_faults what y right) h in
         (conditions x left n.1, conditions y right n.2)
-    conditions (Choose spot c x y) asked h =
-        let whole = widths.width_of what (Choose spot c x y) asked in
-        let n = none_four (fault_if (unsettled (own what (Choose spot c x y)) asked) E7 spot.first) (expression_faults what c (Some 1))
+    conditions (choice spot c x y) asked h =
+        let whole = widths.width_of what (choice spot c x y) asked in
+        let n = none_four (fault_if (unsettled (own what (choice spot c x y)) asked) E7 spot.first) (expression_faults what c (Some 1))
         (expression_faults what x whole) (expression_faults what y whole) h in (
           asked_width w (term_of es c (Some 1)) (own what c) (Some 1) 1 refl (expression_fitted es w r c (Some 1) n.1),
           conditions c (Some 1) n.1,
           conditions x whole n.2,
           conditions y whole n.3,
         )
-    conditions (Slice spot e high low) asked h =
+    conditions (slice spot e high low) asked h =
         let mine = sliced (own what e) high low in
         conditions e common.None (none_three (fault_if (unsettled mine asked) E7 spot.first) (fault_if (not (is_sound mine) && is_sound (own what e)) E7 spot.first)
         (expression_faults what e common.None) h).2
-    conditions (Concat spot parts) asked h =
+    conditions (concat spot parts) asked h =
         let mine = own_parts what parts in
         parts_conditions parts (none_three (fault_if (unsettled mine asked) E7 spot.first) (fault_if (not (is_sound mine) && all_sound what parts) E7 spot.first)
         (parts_faults what parts) h).2
-    conditions (Zext spot e u) asked h =
+    conditions (zero_extend spot e u) asked h =
         let mine = extended (own what e) u in
         widened_conditions w (term_of es e common.None) (known (own what e)) u
         (conditions e common.None (none_three (fault_if (unsettled mine asked) E7 spot.first) (fault_if (not (is_sound mine) && is_sound (own what e)) E7 spot.first)
         (expression_faults what e common.None) h).2)
 
     parts_conditions : (ps : Expressions) → parts_faults what ps ≡ [] → Conditions w (parts_of es ps)
-    parts_conditions NoPart h = tt
-    parts_conditions (AndPart e NoPart) h = conditions e common.None (none_two (expression_faults what e common.None) [] h).0
-    parts_conditions (AndPart e (AndPart g ps)) h =
-        let n = none_two (expression_faults what e common.None) (parts_faults what (AndPart g ps)) h in
-        (conditions e common.None n.0, parts_conditions (AndPart g ps) n.1)
+    parts_conditions no_part h = tt
+    parts_conditions (and_part e no_part) h = conditions e common.None (none_two (expression_faults what e common.None) [] h).0
+    parts_conditions (and_part e (and_part g ps)) h =
+        let n = none_two (expression_faults what e common.None) (parts_faults what (and_part g ps)) h in
+        (conditions e common.None n.0, parts_conditions (and_part g ps) n.1)
 
   mutual
     tag_conditions : (ls : Levels) (t : tree.TagExpression) → tag_faults ls.names what t ≡ [] → LevelConditions w (level_term ls es t)
-    tag_conditions ls (tree.Level m) h = tt
-    tag_conditions ls (tree.TagOf place e) h = conditions e common.None h
-    tag_conditions ls (tree.LevelAt place e) h = conditions e common.None h
-    tag_conditions ls (tree.Join place parts) h = tags_conditions ls parts h
+    tag_conditions ls (tree.level_of m) h = tt
+    tag_conditions ls (tree.tag_at place e) h = conditions e common.None h
+    tag_conditions ls (tree.level_at place e) h = conditions e common.None h
+    tag_conditions ls (tree.join_of place parts) h = tags_conditions ls parts h
 
     tags_conditions : (ls : Levels) (ts : tree.TagExpressions) → tags_faults ls.names what ts ≡ [] → LevelConditions w (level_terms ls es ts)
-    tags_conditions ls tree.NoTag h = tt
-    tags_conditions ls (tree.AndTag t tree.NoTag) h = tag_conditions ls t (none_two (tag_faults ls.names what t) [] h).0
-    tags_conditions ls (tree.AndTag t (tree.AndTag u parts)) h =
-        let n = none_two (tag_faults ls.names what t) (tags_faults ls.names what (tree.AndTag u parts)) h in
-        (tag_conditions ls t n.0, tags_conditions ls (tree.AndTag u parts) n.1)
+    tags_conditions ls tree.no_tag h = tt
+    tags_conditions ls (tree.and_tag t tree.no_tag) h = tag_conditions ls t (none_two (tag_faults ls.names what t) [] h).0
+    tags_conditions ls (tree.and_tag t (tree.and_tag u parts)) h =
+        let n = none_two (tag_faults ls.names what t) (tags_faults ls.names what (tree.and_tag u parts)) h in
+        (tag_conditions ls t n.0, tags_conditions ls (tree.and_tag u parts) n.1)
 
 module _ (ls : Levels) (h : Surroundings) (w : World) (r : Resolved h.entities w) where
   abbrev known_as : List ℕ → Option Declared
   known_as = what_is h.entities
 
   step_conditions : (n : ℕ) (c : tree.SimpleCommand) → simple_faults ls.names known_as c ≡ [] → StepConditions w (step_of ls h n c)
-  step_conditions n (tree.Assign target e) f =
+  step_conditions n (tree.assign target e) f =
       conditions h.entities w r e (register_width (known_as target.name)) (none_two (name_faults uses.Assigned known_as target) (expression_faults known_as e (register_width (known_as target.name))) f).1
-  step_conditions n (tree.Write target i e) f =
+  step_conditions n (tree.write target i e) f =
       let s = none_three (name_faults uses.Indexed known_as target) (expression_faults known_as i (index_width (known_as target.name)))
       (expression_faults known_as e (cell_width (known_as target.name))) f in
       (conditions h.entities w r i (index_width (known_as target.name)) s.1, conditions h.entities w r e (cell_width (known_as target.name)) s.2)
-  step_conditions n (tree.SetTag place target t) f =
+  step_conditions n (tree.set_tag place target t) f =
       tag_conditions h.entities w r ls t (none_two (name_faults uses.Retagged known_as target) (tag_faults ls.names known_as t) f).1
-  step_conditions n (tree.SetCellTag place target i t) f =
+  step_conditions n (tree.set_cell_tag place target i t) f =
       let s = none_three (name_faults uses.Indexed known_as target) (expression_faults known_as i (index_width (known_as target.name))) (tag_faults ls.names known_as t) f in
       (conditions h.entities w r i (index_width (known_as target.name)) s.1, tag_conditions h.entities w r ls t s.2)
-  step_conditions n (tree.Goto place target) f = tt
-  step_conditions n (tree.Fall place) f = tt
+  step_conditions n (tree.go_to place target) f = tt
+  step_conditions n (tree.fall_to_child place) f = tt
 
   mutual
     command_conditions : (k : ℕ) (c : tree.Command) → command_faults ls.names known_as c ≡ [] → CommandConditions w (command_of ls h k c)
-    command_conditions k (tree.Do c) f = step_conditions (site_number h k c) c f
-    command_conditions k (tree.Try c place b) f =
+    command_conditions k (tree.lone c) f = step_conditions (site_number h k c) c f
+    command_conditions k (tree.try c place b) f =
         let s = none_two (simple_faults ls.names known_as c) (block_faults ls.names known_as b) f in
         (step_conditions (site_number h k c) c s.0, block_conditions (k + length (simple_sites h c)) b s.1)
-    command_conditions k (tree.If place e a b) f =
+    command_conditions k (tree.if_else place e a b) f =
         let s = none_three (expression_faults known_as e (Some 1)) (block_faults ls.names known_as a) (else_faults ls.names known_as b) f in
         (conditions h.entities w r e (Some 1) s.0, block_conditions k a s.1, else_conditions (k + length (block_sites h a)) b s.2)
-    command_conditions k (tree.TryThen c place a b) f =
+    command_conditions k (tree.try_then c place a b) f =
         let s = none_three (simple_faults ls.names known_as c) (block_faults ls.names known_as a) (block_faults ls.names known_as b) f in
         (step_conditions (site_number h k c) c s.0, block_conditions (k + length (simple_sites h c)) a s.1, block_conditions (k + length (simple_sites h c) + length (block_sites h a)) b s.2)
-    command_conditions k (tree.Case place e arms) f =
+    command_conditions k (tree.case_of place e arms) f =
         let s = none_two (expression_faults known_as e common.None) (arms_faults ls.names known_as (own known_as e) arms) f in
         (conditions h.entities w r e common.None s.0, arms_conditions k (own known_as e) arms s.1)
 
     arms_conditions : (k : ℕ) (asked : Option ℕ) (arms : tree.Arms) → arms_faults ls.names known_as asked arms ≡ [] → ArmsConditions w (arms_of ls h k arms)
-    arms_conditions k asked (tree.Last b) f = block_conditions k b f
-    arms_conditions k asked (tree.Arm constants b arms) f =
+    arms_conditions k asked (tree.last_arm b) f = block_conditions k b f
+    arms_conditions k asked (tree.and_arm constants b arms) f =
         let s = none_three (constants_faults known_as asked constants) (block_faults ls.names known_as b) (arms_faults ls.names known_as asked arms) f in
         (block_conditions k b s.1, arms_conditions (k + length (block_sites h b)) asked arms s.2)
 
     block_conditions : (k : ℕ) (b : tree.CommandBlock) → block_faults ls.names known_as b ≡ [] → BlockConditions w (block_of ls h k b)
-    block_conditions k (tree.Commands cs after) f = list_conditions k cs f
+    block_conditions k (tree.command_block cs after) f = list_conditions k cs f
 
     else_conditions : (k : ℕ) (b : tree.ElseBlock) → else_faults ls.names known_as b ≡ [] → BlockConditions w (else_of ls h k b)
-    else_conditions k tree.NoElse f = tt
-    else_conditions k (tree.Else b) f = block_conditions k b f
+    else_conditions k tree.no_else f = tt
+    else_conditions k (tree.with_else b) f = block_conditions k b f
 
     list_conditions : (k : ℕ) (cs : tree.CommandList) → commands_faults ls.names known_as cs ≡ [] → BlockConditions w (list_of ls h k cs)
-    list_conditions k tree.NoCommand f = tt
-    list_conditions k (tree.AndCommand c cs) f =
+    list_conditions k tree.no_command f = tt
+    list_conditions k (tree.and_command c cs) f =
         let s = none_two (command_faults ls.names known_as c) (commands_faults ls.names known_as cs) f in
         (command_conditions k c s.0, list_conditions (k + length (command_sites h c)) cs s.1)
 
 module _ (ls : Levels) (le : ℕ → ℕ → Bool) (es : List Entity) (w : World) (r : Resolved es w) where
   mutual
     state_conditions : (k x : ℕ) (s : tree.StateTree) → state_faults ls.names le (what_is es) s ≡ [] → StateConditions w (state_of ls es k x s)
-    state_conditions k x (tree.StateOf place name kind body children) f =
+    state_conditions k x (tree.state_node place name kind body children) f =
         let h : Surroundings = record { entities = es; home = record { name = name.name; kind = kind; children = children } } in
         let s = none_three (kind_faults ls.names le kind) (block_faults ls.names (what_is es) body) (states_faults ls.names le (what_is es) children) f in
         (block_conditions ls h w r k body s.1, group_conditions (k + length (block_sites h body)) (x + 1) children s.2)
 
     pub group_conditions : (k x : ℕ) (g : tree.StateList) → states_faults ls.names le (what_is es) g ≡ [] → GroupConditions w (group_of ls es k x g)
-    group_conditions k x tree.NoState f = tt
-    group_conditions k x (tree.AndState s rest) f =
+    group_conditions k x tree.no_state f = tt
+    group_conditions k x (tree.and_state s rest) f =
         let n = none_two (state_faults ls.names le (what_is es) s) (states_faults ls.names le (what_is es) rest) f in
         (state_conditions k x s n.0, group_conditions (k + length (state_sites es s)) (x + states_in s) rest n.1)
 
 -- filling in what hangs changes none
 module _ (w : World) where
   filled_step_conditions : (at : Spot) (k : Step) → StepConditions w k → StepConditions w (filled_step w at k)
-  filled_step_conditions at (Set site x e) h = h
-  filled_step_conditions at (Write site m i e) h = h
-  filled_step_conditions at (Retag site x n) h = h
-  filled_step_conditions at (RetagCell site m j n) h = h
-  filled_step_conditions at (Goto site target) h = h
-  filled_step_conditions at (Fall site hang) h = h
+  filled_step_conditions at (assign site x e) h = h
+  filled_step_conditions at (write site m i e) h = h
+  filled_step_conditions at (retag site x n) h = h
+  filled_step_conditions at (retag_cell site m j n) h = h
+  filled_step_conditions at (go_to site target) h = h
+  filled_step_conditions at (fall_to_child site hang) h = h
 
   mutual
     filled_conditions : (at : Spot) (c : program.Command) → CommandConditions w c → CommandConditions w (filled w at c)
-    filled_conditions at (program.Do k) h = filled_step_conditions at k h
-    filled_conditions at (program.Try k hang b) h = (filled_step_conditions at k h.0, filled_block_conditions at b h.1)
-    filled_conditions at (program.If hang e a b) h = (h.0, filled_block_conditions at a h.1, filled_block_conditions at b h.2)
-    filled_conditions at (program.TryThen k hang a b) h = (filled_step_conditions at k h.0, filled_block_conditions at a h.1, filled_block_conditions at b h.2)
-    filled_conditions at (program.Case hang e arms) h = (h.0, filled_arms_conditions at arms h.1)
+    filled_conditions at (program.lone k) h = filled_step_conditions at k h
+    filled_conditions at (program.try k hang b) h = (filled_step_conditions at k h.0, filled_block_conditions at b h.1)
+    filled_conditions at (program.if_else hang e a b) h = (h.0, filled_block_conditions at a h.1, filled_block_conditions at b h.2)
+    filled_conditions at (program.try_then k hang a b) h = (filled_step_conditions at k h.0, filled_block_conditions at a h.1, filled_block_conditions at b h.2)
+    filled_conditions at (program.case_of hang e arms) h = (h.0, filled_arms_conditions at arms h.1)
 
     filled_arms_conditions : (at : Spot) (arms : program.Arms) → ArmsConditions w arms → ArmsConditions w (filled_arms w at arms)
-    filled_arms_conditions at (program.Last b) h = filled_block_conditions at b h
-    filled_arms_conditions at (program.Arm constants b arms) h = (filled_block_conditions at b h.0, filled_arms_conditions at arms h.1)
+    filled_arms_conditions at (program.last_arm b) h = filled_block_conditions at b h
+    filled_arms_conditions at (program.and_arm constants b arms) h = (filled_block_conditions at b h.0, filled_arms_conditions at arms h.1)
 
     filled_block_conditions : (at : Spot) (b : Block) → BlockConditions w b → BlockConditions w (filled_block w at b)
-    filled_block_conditions at End h = h
-    filled_block_conditions at (Then c cs) h = (filled_conditions at c h.0, filled_block_conditions at cs h.1)
+    filled_block_conditions at end_block h = h
+    filled_block_conditions at (command_then c cs) h = (filled_conditions at c h.0, filled_block_conditions at cs h.1)
 
   mutual
     filled_state_conditions : (p : ℕ) (t : State) → StateConditions w t → StateConditions w (filled_state w p t)
-    filled_state_conditions p (Node s b g) h = (filled_block_conditions (record { state = s; parent = p; children = g }) b h.0, filled_group_conditions s g h.1)
+    filled_state_conditions p (state_node s b g) h = (filled_block_conditions (record { state = s; parent = p; children = g }) b h.0, filled_group_conditions s g h.1)
 
     pub filled_group_conditions : (p : ℕ) (g : Group) → GroupConditions w g → GroupConditions w (filled_group w p g)
-    filled_group_conditions p None h = h
-    filled_group_conditions p (More t g) h = (filled_state_conditions p t h.0, filled_group_conditions p g h.1)
+    filled_group_conditions p no_node h = h
+    filled_group_conditions p (and_node t g) h = (filled_state_conditions p t h.0, filled_group_conditions p g h.1)

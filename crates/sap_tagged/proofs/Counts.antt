@@ -2,13 +2,13 @@
 use Rattle.std.proofs.Common.{◌≡◌, ℕ, suc, ◌+◌, ◌<◌, ◌≤◌, Bool, true, false, ◌&&◌, ◌||◌, List, [], length, nat_eq, nat_lt, nat_le, ◌∙◌, arith, inl, inr}
 use Rattle.std.proofs.lemmas.Bool.{cases_Bool, and_parts, or_left, or_right}
 use Rattle.std.proofs.lemmas.Grind.{common_steps}
-use Rattle.sap_tree.specs.Syntax.{StateTree, StateOf, StateList, NoState, AndState, DesignTree}
+use Rattle.sap_tree.specs.Syntax.{StateTree, state_node, StateList, no_state, and_state, DesignTree}
 use Rattle.sap_lattice.specs.Levels.{Levels, order_of}
 use Rattle.sap_names.specs.Entities.{what_is, entities_of}
 use Rattle.sap_names.specs.declared.entity.Entity as declared_entity
 use Rattle.sap_names.specs.NameFaults.{states_faults}
 use Rattle.sap_shape.specs.Sites.{Surroundings, block_sites, state_sites, check_sites}
-use Rattle.sap_meaning.specs.Program.{World, root, children, last, is_state, Node, Group, None, More}
+use Rattle.sap_meaning.specs.Program.{World, root, children, last, is_state, state_node, Group, no_node, and_node}
 use Rattle.sap_meaning.specs.Sites as meaning
 use Rattle.sap_meaning.specs.Fine.{inside}
 use Rattle.sap_resolve.specs.Worlds.{states_in, states_below, world_of}
@@ -39,9 +39,9 @@ later_than x y a b m t = (grind (arith, common_steps), omega arith)
 
 module _ (ls : Levels) (es : List declared_entity.Entity) where
   stands_inside : (k x : ℕ) (g : StateList) (y : ℕ) → x ≤ y → y < x + states_below g → inside (group_of ls es k x g) y ≡ true
-  stands_inside k x NoState y l m = absurd (omega arith)
-  stands_inside k x (AndState (StateOf p name kind body children) rest) y l m =
-      let s : StateTree = StateOf p name kind body children in
+  stands_inside k x no_state y l m = absurd (omega arith)
+  stands_inside k x (and_state (state_node p name kind body children) rest) y l m =
+      let s : StateTree = state_node p name kind body children in
       let h : Surroundings = record { entities = es; home = record { name = name.name; kind = kind; children = children } } in
       let here : Group = group_of ls es (k + length (block_sites h body)) (x + 1) children in
       let later : Group = group_of ls es (k + length (state_sites es s)) (x + states_in s) rest in
@@ -64,7 +64,7 @@ module _ (ls : Levels) (es : List declared_entity.Entity) where
   module _ (w : World) where
     mutual
       tidy_state : (k n x : ℕ) (s : StateTree) → LaidState ls es w n x s → TidyState w (state_of ls es k x s)
-      tidy_state k n x (StateOf p name kind body kids) laid = (
+      tidy_state k n x (state_node p name kind body kids) laid = (
         λ y b c.
             let h : Surroundings = record { entities = es; home = record { name = name.name; kind = kind; children = kids } } in
             let r = in_bounds x (last w x) y (is_state w y) b in
@@ -78,13 +78,13 @@ module _ (ls : Levels) (es : List declared_entity.Entity) where
           before x y l a e m = omega arith
 
       pub tidy_group : (k n x : ℕ) (g : StateList) → Laid ls es w n x g → Tidy w (group_of ls es k x g)
-      tidy_group k n x NoState laid = tt
-      tidy_group k n x (AndState s rest) laid =
+      tidy_group k n x no_state laid = tt
+      tidy_group k n x (and_state s rest) laid =
           (tidy_state k n x s (laid_first ls es w n x s rest laid), tidy_group (k + length (state_sites es s)) (suc n) (x + states_in s) rest (laid_rest ls es w n x s rest laid))
 
 tidy_filled : (w : World) (p : ℕ) (g : Group) → Tidy w g → Tidy w (filled_group w p g)
-tidy_filled w p None h = tt
-tidy_filled w p (More (Node s b k) g) h = (((λ q i c. inside_filled w s k q ∙ h.0.0 q i c), tidy_filled w s k h.0.1), tidy_filled w p g h.1)
+tidy_filled w p no_node h = tt
+tidy_filled w p (and_node (state_node s b k) g) h = (((λ q i c. inside_filled w s k q ∙ h.0.0 q i c), tidy_filled w s k h.0.1), tidy_filled w p g h.1)
 
 pub tidy : (ls : Levels) (d : DesignTree) → Tidy (world_of ls d) (program_of ls d).states
 tidy ls d =

@@ -31,7 +31,7 @@ use Rattle.sap_ir.specs.Plain.Does as plain
 use Rattle.sap_interface.specs.PortNames as ports
 use Rattle.sap_interface.specs.StandsFor.{Named, name, world, depth, StandsFor, IsRefusedAt}
 use Rattle.sap_interface.specs.Compiled.{coded, coded_stream, CyclesStand}
-use Rattle.sap_tagged.specs.Keys.{Value, Tag, Seat, Refused, Level, key_name, numeral}
+use Rattle.sap_tagged.specs.Keys.{value_key, tag_key, seat_key, refused_key, level_key, key_name, numeral}
 use Rattle.sap_tagged.specs.Setting.{Setting, setting_of}
 use Rattle.sap_tagged.specs.States.{top_plain}
 use Rattle.sap_tagged.specs.Plain.{variable, level_at_start, value_var, tag_var, seat_var, all_entities, shown_registers, has_own_tag, tag_registers, seat_registers, site_wires, memory_of, tags_of, plain_of}
@@ -52,36 +52,36 @@ lt_not x n h = grind (arith, common_steps)
 
 -- the names of ports
 module _ (d : Named) where
-  pub value_known : (x : ℕ) → nat_lt x (root (world d)) ≡ true → key_name d (Value x) ≡ ports.value_name (name d x)
+  pub value_known : (x : ℕ) → nat_lt x (root (world d)) ≡ true → key_name d (value_key x) ≡ ports.value_name (name d x)
   value_known x h = rw h refl
 
-  pub tag_known : (x : ℕ) → nat_lt x (root (world d)) ≡ true → key_name d (Tag x) ≡ ports.tag_name (name d x)
+  pub tag_known : (x : ℕ) → nat_lt x (root (world d)) ≡ true → key_name d (tag_key x) ≡ ports.tag_name (name d x)
   tag_known x h = rw h refl
 
-  pub seat_known : (x : ℕ) → nat_lt x (root (world d)) ≡ true → key_name d (Seat x) ≡ nested.seat_name (name d x)
+  pub seat_known : (x : ℕ) → nat_lt x (root (world d)) ≡ true → key_name d (seat_key x) ≡ nested.seat_name (name d x)
   seat_known x h = rw (lt_not x (root (world d)) h, h) refl
 
-  pub root_known : key_name d (Seat (root (world d))) ≡ nested.root_seat
+  pub root_known : key_name d (seat_key (root (world d))) ≡ nested.root_seat
   root_known = rw (eq-eqb (root (world d)) (root (world d)) refl) refl
 
-  pub refused_known : (k : ℕ) → k < 2 ^ 64 → key_name d (Refused k) ≡ ports.refused_name k
+  pub refused_known : (k : ℕ) → k < 2 ^ 64 → key_name d (refused_key k) ≡ ports.refused_name k
   refused_known k h = ap (λ (n : Name). codes "c_" ++ n) (numeral_decimal k h)
 
-  pub level_known : (k : ℕ) → k < 2 ^ 64 → key_name d (Level k) ≡ ports.level_name k
+  pub level_known : (k : ℕ) → k < 2 ^ 64 → key_name d (level_key k) ≡ ports.level_name k
   level_known k h = ap (λ (n : Name). codes "l_" ++ n) (numeral_decimal k h)
 
 -- the wires of a site
-pub refused_in : (d : Named) (u j k n : ℕ) → k ≤ j → j < k + n → In (site_wires d u k n) (variable (key_name d (Refused j)) 1 0)
+pub refused_in : (d : Named) (u j k n : ℕ) → k ≤ j → j < k + n → In (site_wires d u k n) (variable (key_name d (refused_key j)) 1 0)
 refused_in d u j k zero l m = absurd (omega arith)
 refused_in d u j k (suc n) l m = elim (reached k j l) [
-  | inl e ↦ inl (ap (λ (i : ℕ). variable (key_name d (Refused i)) 1 0) e)
+  | inl e ↦ inl (ap (λ (i : ℕ). variable (key_name d (refused_key i)) 1 0) e)
   | inr e ↦ inr (inr (refused_in d u j (k + 1) n e (omega arith)))
 ]
 
-pub level_in : (d : Named) (u j k n : ℕ) → k ≤ j → j < k + n → In (site_wires d u k n) (variable (key_name d (Level j)) u 0)
+pub level_in : (d : Named) (u j k n : ℕ) → k ≤ j → j < k + n → In (site_wires d u k n) (variable (key_name d (level_key j)) u 0)
 level_in d u j k zero l m = absurd (omega arith)
 level_in d u j k (suc n) l m = elim (reached k j l) [
-  | inl e ↦ inr (inl (ap (λ (i : ℕ). variable (key_name d (Level i)) u 0) e))
+  | inl e ↦ inr (inl (ap (λ (i : ℕ). variable (key_name d (level_key i)) u 0) e))
   | inr e ↦ inr (inr (level_in d u j (k + 1) n e (omega arith)))
 ]
 
@@ -146,7 +146,7 @@ module _ (d : Named) (tag sites : ℕ) (design : Design d tag sites) where
   in_memory m h = in_all (is_memory w) (λ m. memory_of d m ∷ tags_of d tag m) (memory_of d m) m (memory_within w m h) h (inl refl)
 
   abbrev tags_store : ℕ → stores.Store
-  tags_store m = record { name = key_name d (Tag m); width = tag; depth = depth d m; start = level_at_start d m }
+  tags_store m = record { name = key_name d (tag_key m); width = tag; depth = depth d m; start = level_at_start d m }
 
   pub in_tags : (m : ℕ) → is_memory w m ≡ true → is_dynamic w m ≡ false → In src.memories (tags_store m)
   in_tags m h t = in_all (is_memory w) (λ m. memory_of d m ∷ tags_of d tag m) (tags_store m) m (memory_within w m h) h (inr (rw t (inl refl)))
@@ -185,14 +185,14 @@ module _ (d : Named) (tag sites : ℕ) (design : Design d tag sites) where
   abbrev widths : Name → ℕ
   widths = width_of (declarations (plain_of d tag sites))
 
-  input_width : (x : ℕ) → is_input w x ≡ true → nat_lt x n ≡ true → widths (key_name d (Value x)) ≡ width w x
+  input_width : (x : ℕ) → is_input w x ≡ true → nat_lt x n ≡ true → widths (key_name d (value_key x)) ≡ width w x
   input_width x i l =
       let inputs = map (λ (v : Var). (v.name, v.width)) src.inputs in
       let registers = map (λ (v : Var). (v.name, v.width)) src.registers in
       let wires = map (λ (v : Var). (v.name, v.width)) src.wires in
-      readable_width src (key_name d (Value x)) (width w x)
-      (found_first (inputs ++ registers) wires (key_name d (Value x)) (width w x)
-      (found_first inputs registers (key_name d (Value x)) (width w x) (find_in src.inputs (value_var d x 0) inputs_once (in_input x i l))))
+      readable_width src (key_name d (value_key x)) (width w x)
+      (found_first (inputs ++ registers) wires (key_name d (value_key x)) (width w x)
+      (found_first inputs registers (key_name d (value_key x)) (width w x) (find_in src.inputs (value_var d x 0) inputs_once (in_input x i l))))
 
   not_input_name : (v : Var) → In src.registers v → is_among v.name input_names ≡ false
   not_input_name v i =
@@ -208,11 +208,11 @@ module _ (d : Named) (tag sites : ℕ) (design : Design d tag sites) where
       (found_first (inputs ++ registers) wires v.name v.width
       (found_second inputs registers v.name (not_found (λ (v : Var). v.name) (λ v. v.width) src.inputs v.name (not_input_name v i)) ∙ find_in src.registers v registers_once i))
 
-  memory_width : (m : ℕ) → is_memory w m ≡ true → widths (key_name d (Value m)) ≡ width w m
+  memory_width : (m : ℕ) → is_memory w m ≡ true → widths (key_name d (value_key m)) ≡ width w m
   memory_width m h =
       ap (λ (o : Option ℕ). unwrap_or o 0)
-      (found_second (readable src) (map (λ (s : stores.Store). (s.name, s.width)) src.memories) (key_name d (Value m))
-      (not_readable src design.distinct (key_name d (Value m)) (among_store src.memories (memory_of d m) (in_memory m h)))
+      (found_second (readable src) (map (λ (s : stores.Store). (s.name, s.width)) src.memories) (key_name d (value_key m))
+      (not_readable src design.distinct (key_name d (value_key m)) (among_store src.memories (memory_of d m) (in_memory m h)))
       ∙ find_store src.memories (memory_of d m) stores_once (in_memory m h))
 
   pub lawful : Lawful set widths
@@ -319,21 +319,21 @@ module _ (d : Named) (tag sites : ℕ) (design : Design d tag sites) where
       ∙ number_out before src.registers v.name (apart_lists register_names (wire_names ++ store_names) behind_inputs v.name m)
 
   input_starts : (before : Option Valuation) (inputs : List Tagged) → InputsFit w inputs → (x : ℕ) → is_input w x ≡ true → nat_lt x n ≡ true
-      → (start_at before inputs (key_name d (Value x)) ≡ (given w inputs x).number) × (start_at before inputs (key_name d (Tag x)) ≡ d.code (given w inputs x).level)
+      → (start_at before inputs (key_name d (value_key x)) ≡ (given w inputs x).number) × (start_at before inputs (key_name d (tag_key x)) ≡ d.code (given w inputs x).level)
   input_starts before inputs fit x i l =
       let z : 0 + x ≡ x = omega arith in
       let m : 0 + length w.entities ≤ n = omega arith in
       let r : GivenAt d tag src before 0 w.entities inputs x default =
       given_at d tag src before design.names default w.order.count 0 w.entities inputs x from_first fit m (ltb-true x n l) (ap (is_input w) z ∙ i) in (
-        ap (λ (y : ℕ). start_at before inputs (key_name d (Value y))) (sym z) ∙ r.number,
-        ap (λ (y : ℕ). start_at before inputs (key_name d (Tag y))) (sym z) ∙ r.level,
+        ap (λ (y : ℕ). start_at before inputs (key_name d (value_key y))) (sym z) ∙ r.number,
+        ap (λ (y : ℕ). start_at before inputs (key_name d (tag_key y))) (sym z) ∙ r.level,
       )
 
   abbrev going : Option Valuation → List Tagged → Going
   going before inputs = begun src before (coded d.code inputs)
 
   tag_starts : (before : Option Valuation) (inputs : List Tagged) (t : Store) → Rests before t → (x : ℕ) → has_tag w x ≡ true → is_input w x ≡ false
-      → start_at before inputs (key_name d (Tag x)) ≡ d.code (t.level (tag_slot w x))
+      → start_at before inputs (key_name d (tag_key x)) ≡ d.code (t.level (tag_slot w x))
   tag_starts before inputs t r x h i = elim (cases_Bool (is_register w x)) [
     | inl e ↦ register_starts before inputs (tag_register x) (in_tag x e) ∙ r.levels x h i
     | inr e ↦
@@ -419,7 +419,7 @@ module _ (d : Named) (tag sites : ℕ) (design : Design d tag sites) where
   abbrev shown : Option Valuation → List Tagged → Valuation
   shown before inputs = plain.cycle (plain_of d tag sites) before (coded d.code inputs)
 
-  own_level : (g : Going) (t : Store) → Loose set g t → (x : ℕ) → nat_lt x n ≡ true → is_memory w x ≡ false → at set g (Tag x) ≡ d.code (t.level (own x))
+  own_level : (g : Going) (t : Store) → Loose set g t → (x : ℕ) → nat_lt x n ≡ true → is_memory w x ≡ false → at set g (tag_key x) ≡ d.code (t.level (own x))
   own_level g t l x h m =
       l.tag x (rw (h, m) refl) ∙ ap (λ (b : Bool). d.code (t.level (if b then next_whole x else own x))) m
 
@@ -461,7 +461,7 @@ module _ (d : Named) (tag sites : ℕ) (design : Design d tag sites) where
         refusals = λ k l m.
             refusals_told k a.refused (g.now.value (ports.refused_name k))
             (ap g.now.value (sym (refused_known d k (site_bound k m))) ∙ c.refused k
-            ∙ ap (refused_after k a.refused) (wire_starts before inputs (variable (key_name d (Refused k)) 1 0) (in_front (site_wires d tag 1 sites) _ _ (refused_in d tag k 1 sites l (omega (arith, m))))));
+            ∙ ap (refused_after k a.refused) (wire_starts before inputs (variable (key_name d (refused_key k)) 1 0) (in_front (site_wires d tag 1 sites) _ _ (refused_in d tag k 1 sites l (omega (arith, m))))));
         refusal_levels = λ k u h.
             let b = few k u h in
             ap g.now.value (sym (level_known d k (site_bound k b.1))) ∙ c.levels k ∙ levels_told d.code k u 1 a.refused _ rises h;

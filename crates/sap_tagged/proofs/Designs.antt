@@ -9,7 +9,7 @@ use Rattle.sap_resolve.proofs.WorldsLemmas.{children_length, declared_length}
 use Rattle.sap_names.proofs.FaultLemmas.{nil_left, nil_right}
 use Rattle.sap_tree.specs.declared.syntax.Decl.{Decl}
 use Rattle.sap_tree.specs.declared.syntax.Decl.TheVariants as decl
-use Rattle.sap_tree.specs.Syntax.{StateTree, StateOf, StateList, NoState, AndState, DesignTree}
+use Rattle.sap_tree.specs.Syntax.{StateTree, state_node, StateList, no_state, and_state, DesignTree}
 use Rattle.sap_tree.specs.Words as words
 use Rattle.sap_tree.specs.Whole.{is_declaration, has_state, are_states, is_state, is_tree, is_within_limits, is_whole, state_count, states_count, states_commands}
 use Rattle.sap_tree.specs.Limits.{most_name_bytes, most_states, most_commands}
@@ -92,12 +92,12 @@ mutual
   unfolding is_state are_states
 
   state_named : (version : Version) (s : StateTree) → is_state version s ≡ true → AllNamed version (state_entities s)
-  state_named version (StateOf place name kind body children) h =
+  state_named version (state_node place name kind body children) h =
       (and_left _ _ (and_left _ _ (and_left _ _ (and_left _ _ h))), states_named version children (and_right _ (are_states version children) h))
 
   states_named : (version : Version) (g : StateList) → are_states version g ≡ true → AllNamed version (group_entities g)
-  states_named version NoState h = tt
-  states_named version (AndState s rest) h =
+  states_named version no_state h = tt
+  states_named version (and_state s rest) h =
       let i = and_parts (is_state version s) (are_states version rest) h in
       named_join version (state_entities s) (group_entities rest) (state_named version s i.0) (states_named version rest i.1)
 
@@ -128,18 +128,18 @@ length_last (x ∷ xs) y = ap (λ (n : ℕ). suc n) (length_last xs y)
 -- a group is no longer than there are states
 
 length_below : (g : StateList) → group_length g ≤ states_below g
-length_below NoState = omega arith
-length_below (AndState (StateOf place name kind body kids) rest) = let i = length_below rest in omega arith
+length_below no_state = omega arith
+length_below (and_state (state_node place name kind body kids) rest) = let i = length_below rest in omega arith
 
 mutual
   unfolding state_count states_count
 
   counted_state : (s : StateTree) → states_in s ≡ state_count s
-  counted_state (StateOf place name kind body kids) = ap (λ (n : ℕ). 1 + n) (counted_states kids)
+  counted_state (state_node place name kind body kids) = ap (λ (n : ℕ). 1 + n) (counted_states kids)
 
   counted_states : (g : StateList) → states_below g ≡ states_count g
-  counted_states NoState = refl
-  counted_states (AndState s rest) = let i = counted_state s in let j = counted_states rest in omega arith
+  counted_states no_state = refl
+  counted_states (and_state s rest) = let i = counted_state s in let j = counted_states rest in omega arith
 
 abbrev AllAtMost : ℕ → List ℕ → Type 0
 AllAtMost n [] = Unit {0}
@@ -155,15 +155,15 @@ most_join n (x ∷ xs) ys h k = (h.0, most_join n xs ys h.1 k)
 
 mutual
   kids_state : (s : StateTree) → AllAtMost (states_in s) (state_children s)
-  kids_state (StateOf place name kind body kids) =
+  kids_state (state_node place name kind body kids) =
       (let i = length_below kids in omega arith, most_more (states_below kids) (1 + states_below kids) (group_children kids) (omega arith) (kids_group kids))
 
   kids_group : (g : StateList) → AllAtMost (states_below g) (group_children g)
-  kids_group NoState = tt
-  kids_group (AndState s rest) =
-      most_join (states_below (AndState s rest)) (state_children s) (group_children rest)
-      (most_more (states_in s) (states_below (AndState s rest)) (state_children s) (omega arith) (kids_state s))
-      (most_more (states_below rest) (states_below (AndState s rest)) (group_children rest) (omega arith) (kids_group rest))
+  kids_group no_state = tt
+  kids_group (and_state s rest) =
+      most_join (states_below (and_state s rest)) (state_children s) (group_children rest)
+      (most_more (states_in s) (states_below (and_state s rest)) (state_children s) (omega arith) (kids_state s))
+      (most_more (states_below rest) (states_below (and_state s rest)) (group_children rest) (omega arith) (kids_group rest))
 
 no_kids : (n : ℕ) (ds : List Decl) → AllAtMost n (no_children ds)
 no_kids n [] = tt
@@ -181,11 +181,11 @@ site_limit : (m : ℕ) → m ≤ 4096 → 1 + m ≤ 2 ^ 64
 site_limit m h = omega arith
 
 some_states : (g : StateList) → has_state g ≡ true → 0 < group_length g
-some_states NoState h = absurd (impossible h)
+some_states no_state h = absurd (impossible h)
   where
     impossible : false ≡ true → ⊥
     impossible e = cc
-some_states (AndState s rest) h = omega arith
+some_states (and_state s rest) h = omega arith
 
 module _ (ls : Levels) (D : DesignTree) (sg : IsSound ls D) where
   abbrev es : List Entity

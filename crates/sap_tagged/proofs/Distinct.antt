@@ -5,14 +5,14 @@ use Rattle.sap_lemmas.proofs.Bools.{true_is_not_false}
 use Rattle.std.proofs.lemmas.List.{map-append}
 use Rattle.sap_maps.specs.Maps.{Name}
 use Rattle.sap_meaning.specs.Program as program
-use Rattle.sap_meaning.specs.Program.{World, Kind, Entity, entity, root, children, is_input, is_register, is_memory, is_dynamic, kind_is_input, kind_is_register, kind_is_memory, kind_is_state, Command, Do, Try, If, TryThen, Case, Arms, Last, Arm, Block, End, Then, State, Node, Group, None, More}
+use Rattle.sap_meaning.specs.Program.{World, Kind, Entity, entity, root, children, is_input, is_register, is_memory, is_dynamic, kind_is_input, kind_is_register, kind_is_memory, kind_is_state, Command, lone, try, if_else, try_then, case_of, Arms, last_arm, and_arm, Block, end_block, command_then, State, state_node, Group, no_node, and_node}
 use Rattle.sap_net.specs.Names.{is_among, AreDistinct}
 use Rattle.sap_ir.specs.declared.guarded.Var.{Var}
 use Rattle.sap_ir.specs.declared.guarded.Store.{Store}
 use Rattle.sap_ir.specs.IsGuarded.{declared, variable_names}
 use Rattle.sap_ir.specs.Plain.Nested.{declarations}
 use Rattle.sap_interface.specs.StandsFor.{Named, world, depth}
-use Rattle.sap_tagged.specs.Keys.{Key, Value, Tag, Seat, Refused, Level, Wire, First, Inner, index, same, key_name}
+use Rattle.sap_tagged.specs.Keys.{Key, value_key, tag_key, seat_key, refused_key, level_key, wire_key, first_key, inner_key, index, same, key_name}
 use Rattle.sap_tagged.specs.Commands.{wires, wires_arms, wires_block}
 use Rattle.sap_tagged.specs.States.{wires_state, wires_group, saved}
 use Rattle.sap_tagged.specs.Plain.{level_at_start, for_entities, shown_registers, has_own_tag, tag_registers, seat_var, seat_registers, site_wires, step_wires, command_wires, arms_wires, block_wires, state_wires, group_wires, first_wires, inner_wires, memory_of, tags_of, plain_of}
@@ -127,11 +127,11 @@ entities_named f d picks of keys e x (u ∷ es) =
 
 abbrev pub site_keys : (k sites : ℕ) → List Key
 site_keys k zero = []
-site_keys k (suc n) = Refused k ∷ Level k ∷ site_keys (k + 1) n
+site_keys k (suc n) = refused_key k ∷ level_key k ∷ site_keys (k + 1) n
 
 abbrev pub wire_keys : (k n : ℕ) → List Key
 wire_keys k zero = []
-wire_keys k (suc n) = Wire k ∷ wire_keys (k + 1) n
+wire_keys k (suc n) = wire_key k ∷ wire_keys (k + 1) n
 
 sites_from : (k n : ℕ) → Every (IndexFrom k) (site_keys k n)
 sites_from k zero = tt
@@ -156,11 +156,11 @@ behind a ks h = every_map (IndexFrom (index a + 1)) (Other a) ks (λ b l. other_
 pub sites_once : (k n : ℕ) → OnceEach (site_keys k n)
 sites_once k zero = tt
 sites_once k (suc n) =
-    ((refl, behind (Refused k) (site_keys (k + 1) n) (sites_from (k + 1) n)), (behind (Level k) (site_keys (k + 1) n) (sites_from (k + 1) n), sites_once (k + 1) n))
+    ((refl, behind (refused_key k) (site_keys (k + 1) n) (sites_from (k + 1) n)), (behind (level_key k) (site_keys (k + 1) n) (sites_from (k + 1) n), sites_once (k + 1) n))
 
 wires_once : (k n : ℕ) → OnceEach (wire_keys k n)
 wires_once k zero = tt
-wires_once k (suc n) = (behind (Wire k) (wire_keys (k + 1) n) (wires_from (k + 1) n), wires_once (k + 1) n)
+wires_once k (suc n) = (behind (wire_key k) (wire_keys (k + 1) n) (wires_from (k + 1) n), wires_once (k + 1) n)
 
 wires_join : (k m n : ℕ) → wire_keys k m ++ wire_keys (k + m) n ≡ wire_keys k (m + n)
 wires_join k zero n = ap₂ (λ (i j : ℕ). wire_keys i j) (plus k) (minus n)
@@ -171,7 +171,7 @@ wires_join k zero n = ap₂ (λ (i j : ℕ). wire_keys i j) (plus k) (minus n)
     minus : (n : ℕ) → n ≡ zero + n
     minus n = omega arith
 wires_join k (suc m) n =
-    ap (λ (i : ℕ). Wire k ∷ (wire_keys (k + 1) m ++ wire_keys i n)) (plus k m) ∙ ap (λ (ks : List Key). Wire k ∷ ks) (wires_join (k + 1) m n)
+    ap (λ (i : ℕ). wire_key k ∷ (wire_keys (k + 1) m ++ wire_keys i n)) (plus k m) ∙ ap (λ (ks : List Key). wire_key k ∷ ks) (wires_join (k + 1) m n)
     ∙ ap (wire_keys k) (more m n)
   where
     plus : (k m : ℕ) → k + suc m ≡ k + 1 + m
@@ -186,14 +186,14 @@ module _ (d : Named) (tag : ℕ) where
 
   pub sites_named : (k n : ℕ) → variable_names (site_wires d tag k n) ≡ keyed (site_keys k n)
   sites_named k zero = refl
-  sites_named k (suc n) = ap (λ (ns : List Name). key_name d (Refused k) ∷ key_name d (Level k) ∷ ns) (sites_named (k + 1) n)
+  sites_named k (suc n) = ap (λ (ns : List Name). key_name d (refused_key k) ∷ key_name d (level_key k) ∷ ns) (sites_named (k + 1) n)
 
   two_lists : (xs ys : List Var) (k m n : ℕ) → variable_names xs ≡ keyed (wire_keys k m) → variable_names ys ≡ keyed (wire_keys (k + m) n) → variable_names (xs ++ ys) ≡ keyed (wire_keys k (m + n))
   two_lists xs ys k m n e f =
       map-append (λ (x : Var). x.name) xs ys ∙ ap₂ (λ (a b : List Name). a ++ b) e f ∙ sym (map-append (key_name d) (wire_keys k m) (wire_keys (k + m) n)) ∙ ap keyed (wires_join k m n)
 
-  one_more : (xs : List Var) (k n u : ℕ) → variable_names xs ≡ keyed (wire_keys (k + 1) n) → key_name d (Wire k) ∷ variable_names xs ≡ keyed (wire_keys k (1 + n))
-  one_more xs k n u e = ap (λ (ns : List Name). key_name d (Wire k) ∷ ns) e ∙ ap (λ (i : ℕ). keyed (wire_keys k i)) (more n)
+  one_more : (xs : List Var) (k n u : ℕ) → variable_names xs ≡ keyed (wire_keys (k + 1) n) → key_name d (wire_key k) ∷ variable_names xs ≡ keyed (wire_keys k (1 + n))
+  one_more xs k n u e = ap (λ (ns : List Name). key_name d (wire_key k) ∷ ns) e ∙ ap (λ (i : ℕ). keyed (wire_keys k i)) (more n)
     where
       more : (n : ℕ) → suc n ≡ 1 + n
       more n = omega arith
@@ -207,20 +207,20 @@ module _ (d : Named) (tag : ℕ) where
 
   mutual
     command_named : (k : ℕ) (c : Command) → variable_names (command_wires d tag k c) ≡ keyed (wire_keys k (wires c))
-    command_named k (Do s) = step_named k
-    command_named k (Try s hang h) = two_lists (step_wires d tag k) (block_wires d tag (k + 5) h) k 5 (wires_block h) (step_named k) (block_named (k + 5) h)
-    command_named k (If hang e a b) =
+    command_named k (lone s) = step_named k
+    command_named k (try s hang h) = two_lists (step_wires d tag k) (block_wires d tag (k + 5) h) k 5 (wires_block h) (step_named k) (block_named (k + 5) h)
+    command_named k (if_else hang e a b) =
         let m = wires_block a in
         let n = wires_block b in
         let two : k + 2 ≡ k + 1 + 1 = omega arith in
         let r : variable_names (block_wires d tag (k + 2) a ++ block_wires d tag (k + 2 + m) b) ≡ keyed (wire_keys (k + 2) (m + n)) =
         two_lists (block_wires d tag (k + 2) a) (block_wires d tag (k + 2 + m) b) (k + 2) m n (block_named (k + 2) a) (block_named (k + 2 + m) b) in
-        ap (λ (ns : List Name). key_name d (Wire k) ∷ key_name d (Wire (k + 1)) ∷ ns) (r ∙ ap (λ (i : ℕ). keyed (wire_keys i (m + n))) two)
+        ap (λ (ns : List Name). key_name d (wire_key k) ∷ key_name d (wire_key (k + 1)) ∷ ns) (r ∙ ap (λ (i : ℕ). keyed (wire_keys i (m + n))) two)
         ∙ ap (λ (i : ℕ). keyed (wire_keys k i)) (count m n)
       where
         count : (m n : ℕ) → suc (suc (m + n)) ≡ 2 + m + n
         count m n = omega arith
-    command_named k (TryThen s hang a b) =
+    command_named k (try_then s hang a b) =
         let m = wires_block a in
         let n = wires_block b in
         two_lists (step_wires d tag k) (block_wires d tag (k + 5) a ++ block_wires d tag (k + 5 + m) b) k 5 (m + n) (step_named k)
@@ -229,32 +229,32 @@ module _ (d : Named) (tag : ℕ) where
       where
         count : (m n : ℕ) → 5 + (m + n) ≡ 5 + m + n
         count m n = omega arith
-    command_named k (Case hang e arms) =
+    command_named k (case_of hang e arms) =
         let n = wires_arms arms in
         let two : k + 2 ≡ k + 1 + 1 = omega arith in
         let three : k + 3 ≡ k + 1 + 1 + 1 = omega arith in
         let four : k + 4 ≡ k + 1 + 1 + 1 + 1 = omega arith in
-        ap (λ (ns : List Name). key_name d (Wire k) ∷ key_name d (Wire (k + 1)) ∷ key_name d (Wire (k + 2)) ∷ key_name d (Wire (k + 3)) ∷ ns) (arms_named (k + 4) arms)
-        ∙ ap₂ (λ (i j : ℕ). key_name d (Wire k) ∷ key_name d (Wire (k + 1)) ∷ key_name d (Wire i) ∷ key_name d (Wire j) ∷ keyed (wire_keys (k + 4) n)) two three
-        ∙ ap (λ (i : ℕ). key_name d (Wire k) ∷ key_name d (Wire (k + 1)) ∷ key_name d (Wire (k + 1 + 1)) ∷ key_name d (Wire (k + 1 + 1 + 1)) ∷ keyed (wire_keys i n)) four
+        ap (λ (ns : List Name). key_name d (wire_key k) ∷ key_name d (wire_key (k + 1)) ∷ key_name d (wire_key (k + 2)) ∷ key_name d (wire_key (k + 3)) ∷ ns) (arms_named (k + 4) arms)
+        ∙ ap₂ (λ (i j : ℕ). key_name d (wire_key k) ∷ key_name d (wire_key (k + 1)) ∷ key_name d (wire_key i) ∷ key_name d (wire_key j) ∷ keyed (wire_keys (k + 4) n)) two three
+        ∙ ap (λ (i : ℕ). key_name d (wire_key k) ∷ key_name d (wire_key (k + 1)) ∷ key_name d (wire_key (k + 1 + 1)) ∷ key_name d (wire_key (k + 1 + 1 + 1)) ∷ keyed (wire_keys i n)) four
         ∙ ap (λ (i : ℕ). keyed (wire_keys k i)) (count n)
       where
         count : (n : ℕ) → suc (suc (suc (suc n))) ≡ 4 + n
         count n = omega arith
 
     arms_named : (k : ℕ) (arms : Arms) → variable_names (arms_wires d tag k arms) ≡ keyed (wire_keys k (wires_arms arms))
-    arms_named k (Last b) = block_named k b
-    arms_named k (Arm constants b arms) =
+    arms_named k (last_arm b) = block_named k b
+    arms_named k (and_arm constants b arms) =
         two_lists (block_wires d tag k b) (arms_wires d tag (k + wires_block b) arms) k (wires_block b) (wires_arms arms) (block_named k b) (arms_named (k + wires_block b) arms)
 
     block_named : (k : ℕ) (b : Block) → variable_names (block_wires d tag k b) ≡ keyed (wire_keys k (wires_block b))
-    block_named k End = refl
-    block_named k (Then c cs) =
+    block_named k end_block = refl
+    block_named k (command_then c cs) =
         two_lists (command_wires d tag k c) (block_wires d tag (k + wires c) cs) k (wires c) (wires_block cs) (command_named k c) (block_named (k + wires c) cs)
 
   mutual
     state_named : (k : ℕ) (t : State) → variable_names (state_wires d tag k t) ≡ keyed (wire_keys k (wires_state t))
-    state_named k (Node s b g) =
+    state_named k (state_node s b g) =
         let m = wires_block b in
         let n = wires_group g in
         one_more (block_wires d tag (k + 1) b ++ group_wires d tag (k + 1 + m) g) k (m + n) tag
@@ -265,10 +265,10 @@ module _ (d : Named) (tag : ℕ) where
         count m n = omega arith
 
     group_named : (k : ℕ) (g : Group) → variable_names (group_wires d tag k g) ≡ keyed (wire_keys k (wires_group g))
-    group_named k None = refl
-    group_named k (More (Node s b g) rest) =
+    group_named k no_node = refl
+    group_named k (and_node (state_node s b g) rest) =
         let n = 1 + wires_block b + wires_group g in
-        two_lists (state_wires d tag k (Node s b g)) (group_wires d tag (k + n) rest) k n (wires_group rest) (state_named k (Node s b g)) (group_named (k + n) rest)
+        two_lists (state_wires d tag k (state_node s b g)) (group_wires d tag (k + n) rest) k n (wires_group rest) (state_named k (state_node s b g)) (group_named (k + n) rest)
 
 -- the list on which a key stands
 abbrev pub value_list : Kind → ℕ
@@ -284,14 +284,14 @@ tag_list (program.memory depth) b = if b then 2 else 9
 tag_list (program.state place last) b = 2
 
 abbrev pub list_number : World → Key → ℕ
-list_number w (Value x) = value_list (entity w x).kind
-list_number w (Tag x) = tag_list (entity w x).kind (is_dynamic w x)
-list_number w (Seat p) = if nat_eq p (root w) then 4 else 3
-list_number w (Refused k) = 5
-list_number w (Level k) = 5
-list_number w (First m) = 6
-list_number w (Inner s) = 7
-list_number w (Wire k) = 8
+list_number w (value_key x) = value_list (entity w x).kind
+list_number w (tag_key x) = tag_list (entity w x).kind (is_dynamic w x)
+list_number w (seat_key p) = if nat_eq p (root w) then 4 else 3
+list_number w (refused_key k) = 5
+list_number w (level_key k) = 5
+list_number w (first_key m) = 6
+list_number w (inner_key s) = 7
+list_number w (wire_key k) = 8
 
 input_lists : (k : Kind) (b : Bool) → kind_is_input k ≡ true → (value_list k ≡ 0) × (tag_list k b ≡ 0)
 input_lists program.input b h = (refl, refl)
@@ -322,22 +322,22 @@ module _ (d : Named) (tag sites : ℕ) (names : NamesApart d) where
   list_of a = list_number (world d) a
 
   abbrev two_keys : ℕ → List Key
-  two_keys x = Value x ∷ Tag x ∷ []
+  two_keys x = value_key x ∷ tag_key x ∷ []
 
   abbrev tag_keys : ℕ → List Key
-  tag_keys x = Tag x ∷ []
+  tag_keys x = tag_key x ∷ []
 
   abbrev seat_keys : ℕ → List Key
-  seat_keys p = Seat p ∷ []
+  seat_keys p = seat_key p ∷ []
 
   abbrev first_keys : ℕ → List Key
-  first_keys m = First m ∷ []
+  first_keys m = first_key m ∷ []
 
   abbrev inner_keys : ℕ → List Key
-  inner_keys p = Inner p ∷ []
+  inner_keys p = inner_key p ∷ []
 
   abbrev pub store_keys : ℕ → List Key
-  store_keys m = Value m ∷ (if is_dynamic (world d) m then [] else Tag m ∷ [])
+  store_keys m = value_key m ∷ (if is_dynamic (world d) m then [] else tag_key m ∷ [])
 
   abbrev pub of_entities : (ℕ → Bool) → (ℕ → List Key) → List Key
   of_entities picks of = for_entities picks of 0 (world d).entities
@@ -345,7 +345,7 @@ module _ (d : Named) (tag sites : ℕ) (names : NamesApart d) where
   abbrev pub all_keys : List Key
   all_keys =
       of_entities (is_input (world d)) two_keys
-      ++ ((of_entities (is_register (world d)) two_keys ++ (of_entities (has_own_tag d) tag_keys ++ (of_entities (λ p. nat_lt 0 (children (world d) p)) seat_keys ++ Seat (root (world d)) ∷ [])))
+      ++ ((of_entities (is_register (world d)) two_keys ++ (of_entities (has_own_tag d) tag_keys ++ (of_entities (λ p. nat_lt 0 (children (world d) p)) seat_keys ++ seat_key (root (world d)) ∷ [])))
       ++ ((site_keys 1 sites ++ (of_entities (saved (world d)) first_keys ++ (of_entities (λ p. nat_lt 0 (children (world d) p)) inner_keys ++ wire_keys 0 (wires_group d.program.states))))
       ++ of_entities (is_memory (world d)) store_keys))
 
@@ -376,14 +376,14 @@ module _ (d : Named) (tag sites : ℕ) (names : NamesApart d) where
   of_sites k zero = tt
   of_sites k (suc n) = (refl, (refl, of_sites (k + 1) n))
 
-  seat_list : (q : ℕ) → nat_eq q (root (world d)) ≡ false → list_of (Seat q) ≡ 3
+  seat_list : (q : ℕ) → nat_eq q (root (world d)) ≡ false → list_of (seat_key q) ≡ 3
   seat_list q e = rw e refl
 
-  store_once : (m : ℕ) (b : Bool) → OnceEach (Value m ∷ (if b then [] else Tag m ∷ []))
+  store_once : (m : ℕ) (b : Bool) → OnceEach (value_key m ∷ (if b then [] else tag_key m ∷ []))
   store_once m true = (tt, tt)
   store_once m false = ((refl, tt), (tt, tt))
 
-  store_index : (m : ℕ) (b : Bool) → Every (IndexIs m) (Value m ∷ (if b then [] else Tag m ∷ []))
+  store_index : (m : ℕ) (b : Bool) → Every (IndexIs m) (value_key m ∷ (if b then [] else tag_key m ∷ []))
   store_index m true = (refl, tt)
   store_index m false = (refl, (refl, tt))
 
@@ -392,7 +392,7 @@ module _ (d : Named) (tag sites : ℕ) (names : NamesApart d) where
       let r = memory_lists (entity (world d) m).kind (is_dynamic (world d) m) h in
       (r.0, if_other (is_dynamic (world d) m) r.1 refl)
     where
-      if_other : (b : Bool) → (is_dynamic (world d) m ≡ false → tag_list (entity (world d) m).kind (is_dynamic (world d) m) ≡ 9) → is_dynamic (world d) m ≡ b → Every (λ a. list_of a ≡ 9) (if b then [] else Tag m ∷ [])
+      if_other : (b : Bool) → (is_dynamic (world d) m ≡ false → tag_list (entity (world d) m).kind (is_dynamic (world d) m) ≡ 9) → is_dynamic (world d) m ≡ b → Every (λ a. list_of a ≡ 9) (if b then [] else tag_key m ∷ [])
       if_other true f e = tt
       if_other false f e = (f e, tt)
 
@@ -426,7 +426,7 @@ module _ (d : Named) (tag sites : ℕ) (names : NamesApart d) where
       let fs = ordered_join 6 (of_entities (saved (world d)) first_keys) _ (entities_once (saved (world d)) first_keys (λ m. (refl, tt)) (λ m. (tt, tt)) 0 entities)
       (entities_all (λ a. list_of a ≡ 6) (saved (world d)) first_keys (λ m h. (refl, tt)) 0 entities) cs in
       let ss = ordered_join 5 (site_keys 1 sites) _ (sites_once 1 sites) (of_sites 1 sites) fs in
-      let rs = ordered_join 4 (Seat (root (world d)) ∷ []) _ (tt, tt) (rw (eq-eqb (root (world d)) (root (world d)) refl) (refl, tt)) ss in
+      let rs = ordered_join 4 (seat_key (root (world d)) ∷ []) _ (tt, tt) (rw (eq-eqb (root (world d)) (root (world d)) refl) (refl, tt)) ss in
       let seats = ordered_join 3 (of_entities (λ p. nat_lt 0 (children (world d) p)) seat_keys) _
       (entities_once (λ p. nat_lt 0 (children (world d) p)) seat_keys (λ p. (refl, tt)) (λ p. (tt, tt)) 0 entities) (seats_list 0 entities (omega arith)) rs in
       let ts = ordered_join 2 (of_entities (has_own_tag d) tag_keys) _ (entities_once (has_own_tag d) tag_keys (λ m. (refl, tt)) (λ m. (tt, tt)) 0 entities)
@@ -439,7 +439,7 @@ module _ (d : Named) (tag sites : ℕ) (names : NamesApart d) where
       (entities_all (λ a. list_of a ≡ 0) (is_input (world d)) two_keys (λ x h. let r = input_lists (entity (world d) x).kind (is_dynamic (world d) x) h in (r.0, (r.1, tt))) 0 entities) regs in
       subst OnceEach
       (regroup (of_entities (is_input (world d)) two_keys) (of_entities (is_register (world d)) two_keys) (of_entities (has_own_tag d) tag_keys)
-      (of_entities (λ p. nat_lt 0 (children (world d) p)) seat_keys) (Seat (root (world d)) ∷ []) (site_keys 1 sites) (of_entities (saved (world d)) first_keys)
+      (of_entities (λ p. nat_lt 0 (children (world d) p)) seat_keys) (seat_key (root (world d)) ∷ []) (site_keys 1 sites) (of_entities (saved (world d)) first_keys)
       (of_entities (λ p. nat_lt 0 (children (world d) p)) inner_keys) (wire_keys 0 (wires_group d.program.states)) (of_entities (is_memory (world d)) store_keys))
       ins.once
     where
@@ -455,11 +455,11 @@ module _ (d : Named) (tag sites : ℕ) (names : NamesApart d) where
           ∙ ap (λ (z : List Key). e ++ (f ++ z)) (append_assoc g (h ++ (i ++ j)) k ∙ ap (λ (z : List Key). g ++ z) (append_assoc h (i ++ j) k ∙ ap (λ (z : List Key). h ++ z) (append_assoc i j k)))))))
 
   store_named : (m : ℕ) → map (λ (s : Store). s.name) (memory_of d m ∷ tags_of d tag m) ≡ map (key_name d) (store_keys m)
-  store_named m = ap (λ (ns : List Name). key_name d (Value m) ∷ ns) (by (is_dynamic (world d) m))
+  store_named m = ap (λ (ns : List Name). key_name d (value_key m) ∷ ns) (by (is_dynamic (world d) m))
     where
       by : (b : Bool)
-          → map (λ (s : Store). s.name) (if b then [] else record { name = key_name d (Tag m); width = tag; depth = depth d m; start = level_at_start d m } ∷ [])
-          ≡ map (key_name d) (if b then [] else Tag m ∷ [])
+          → map (λ (s : Store). s.name) (if b then [] else record { name = key_name d (tag_key m); width = tag; depth = depth d m; start = level_at_start d m } ∷ [])
+          ≡ map (key_name d) (if b then [] else tag_key m ∷ [])
       by true = refl
       by false = refl
 
@@ -480,14 +480,14 @@ module _ (d : Named) (tag sites : ℕ) (names : NamesApart d) where
       ap₂ (λ (a b : List Name). a ++ b) ins
       (ap₂ (λ (a b : List Name). a ++ b)
       (joined_names var_name (shown_registers d tag) (tag_registers d tag ++ seat_registers d) _ _ regs
-      (joined_names var_name (tag_registers d tag) (seat_registers d) _ _ ts (joined_names var_name _ (seat_var d (root (world d)) ∷ []) _ (Seat (root (world d)) ∷ []) seats refl)))
+      (joined_names var_name (tag_registers d tag) (seat_registers d) _ _ ts (joined_names var_name _ (seat_var d (root (world d)) ∷ []) _ (seat_key (root (world d)) ∷ []) seats refl)))
       (ap₂ (λ (a b : List Name). a ++ b)
       (joined_names var_name (site_wires d tag 1 sites) (first_wires d tag ++ (inner_wires d tag ++ group_wires d tag 0 d.program.states)) _ _ (sites_named d tag 1 sites)
       (joined_names var_name (first_wires d tag) (inner_wires d tag ++ group_wires d tag 0 d.program.states) _ _ fs
       (joined_names var_name (inner_wires d tag) (group_wires d tag 0 d.program.states) _ _ inners (group_named d tag 0 d.program.states))))
       ms))
       ∙ sym (map_four (of_entities (is_input (world d)) two_keys)
-      (of_entities (is_register (world d)) two_keys ++ (of_entities (has_own_tag d) tag_keys ++ (of_entities (λ p. nat_lt 0 (children (world d) p)) seat_keys ++ Seat (root (world d)) ∷ [])))
+      (of_entities (is_register (world d)) two_keys ++ (of_entities (has_own_tag d) tag_keys ++ (of_entities (λ p. nat_lt 0 (children (world d) p)) seat_keys ++ seat_key (root (world d)) ∷ [])))
       (site_keys 1 sites ++ (of_entities (saved (world d)) first_keys ++ (of_entities (λ p. nat_lt 0 (children (world d) p)) inner_keys ++ wire_keys 0 (wires_group d.program.states))))
       (of_entities (is_memory (world d)) store_keys))
     where

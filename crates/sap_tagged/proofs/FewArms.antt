@@ -10,7 +10,7 @@ use Rattle.sap_tree.specs.Words.{is_name, is_second}
 use Rattle.sap_tree.specs.declared.version.Version.{Version}
 use Rattle.sap_lattice.specs.Levels.{Levels}
 use Rattle.sap_names.specs.declared.entity.Entity.{Entity}
-use Rattle.sap_meaning.specs.Program.{World, Command, Do, Try, If, TryThen, Case, Arms, Last, Arm, Block, End, Then, State, Node, Group, None, More}
+use Rattle.sap_meaning.specs.Program.{World, Command, lone, try, if_else, try_then, case_of, Arms, last_arm, and_arm, Block, end_block, command_then, State, state_node, Group, no_node, and_node}
 use Rattle.sap_meaning.specs.Checks.{Spot}
 use Rattle.sap_resolve.specs.Worlds.{states_in}
 use Rattle.sap_shape.specs.Sites.{Surroundings, simple_sites, command_sites, block_sites, state_sites}
@@ -22,48 +22,48 @@ use Rattle.sap_tagged.specs.Few.{Few, FewArms, FewBlock, FewState, FewGroup}
 -- resolving keeps the arms and their constants
 
 some_number : (constants : tree.Expressions) → has_constant constants ≡ true → 1 ≤ length (numbers_of constants)
-some_number tree.NoPart h = cc
-some_number (tree.AndPart e constants) h = omega arith
+some_number tree.no_part h = cc
+some_number (tree.and_part e constants) h = omega arith
 
 module _ (version : Version) (ls : Levels) (h : Surroundings) where
   arms_counted : (k : ℕ) (arms : tree.Arms) → arm_count (arms_of ls h k arms) ≡ whole.arm_count arms
-  arms_counted k (tree.Last b) = refl
-  arms_counted k (tree.Arm constants b arms) = let i = arms_counted (k + length (block_sites h b)) arms in omega (arith, i)
+  arms_counted k (tree.last_arm b) = refl
+  arms_counted k (tree.and_arm constants b arms) = let i = arms_counted (k + length (block_sites h b)) arms in omega (arith, i)
 
   mutual
     unfolding is_command is_block is_else are_arms are_commands
 
     command_few : (k : ℕ) (c : tree.Command) → is_command version c ≡ true → Few (command_of ls h k c)
-    command_few k (tree.Do c) i = tt
-    command_few k (tree.Try c place b) i = block_few (k + length (simple_sites h c)) b (and_right (is_simple version c) (is_block version b) i)
-    command_few k (tree.If place x a b) i =
+    command_few k (tree.lone c) i = tt
+    command_few k (tree.try c place b) i = block_few (k + length (simple_sites h c)) b (and_right (is_simple version c) (is_block version b) i)
+    command_few k (tree.if_else place x a b) i =
         let j = and_parts (is_outermost version x && is_block version a) (is_else version b) i in
         (block_few k a (and_right (is_outermost version x) (is_block version a) j.0), else_few (k + length (block_sites h a)) b j.1)
-    command_few k (tree.TryThen c place a b) i =
+    command_few k (tree.try_then c place a b) i =
         let j = and_parts (is_second version && is_simple version c && is_block version a) (is_block version b) i in
         (block_few (k + length (simple_sites h c)) a (and_right (is_second version && is_simple version c) (is_block version a) j.0), block_few (k + length (simple_sites h c) + length (block_sites h a)) b j.1)
-    command_few k (tree.Case place x arms) i =
+    command_few k (tree.case_of place x arms) i =
         let j = and_parts (is_second version && is_outermost version x && has_arm arms && nat_le (whole.arm_count arms) most_arms) (are_arms version arms) i in
         let l = leb-true (whole.arm_count arms) most_arms (and_right (is_second version && is_outermost version x && has_arm arms) (nat_le (whole.arm_count arms) most_arms) j.0) in
         (subst (λ (n : ℕ). n ≤ most_arms) (sym (arms_counted k arms)) l, arms_few k arms j.1)
 
     arms_few : (k : ℕ) (arms : tree.Arms) → are_arms version arms ≡ true → FewArms (arms_of ls h k arms)
-    arms_few k (tree.Last b) i = block_few k b i
-    arms_few k (tree.Arm constants b arms) i =
+    arms_few k (tree.last_arm b) i = block_few k b i
+    arms_few k (tree.and_arm constants b arms) i =
         let j = and_parts (has_constant constants && are_constants constants && is_block version b) (are_arms version arms) i in
         let m = and_parts (has_constant constants && are_constants constants) (is_block version b) j.0 in
         (some_number constants (and_left (has_constant constants) (are_constants constants) m.0), block_few k b m.1, arms_few (k + length (block_sites h b)) arms j.1)
 
     block_few : (k : ℕ) (b : tree.CommandBlock) → is_block version b ≡ true → FewBlock (block_of ls h k b)
-    block_few k (tree.Commands cs after) i = list_few k cs i
+    block_few k (tree.command_block cs after) i = list_few k cs i
 
     else_few : (k : ℕ) (b : tree.ElseBlock) → is_else version b ≡ true → FewBlock (else_of ls h k b)
-    else_few k tree.NoElse i = tt
-    else_few k (tree.Else b) i = block_few k b i
+    else_few k tree.no_else i = tt
+    else_few k (tree.with_else b) i = block_few k b i
 
     list_few : (k : ℕ) (cs : tree.CommandList) → are_commands version cs ≡ true → FewBlock (list_of ls h k cs)
-    list_few k tree.NoCommand i = tt
-    list_few k (tree.AndCommand c cs) i =
+    list_few k tree.no_command i = tt
+    list_few k (tree.and_command c cs) i =
         let j = and_parts (is_command version c) (are_commands version cs) i in (command_few k c j.0, list_few (k + length (command_sites h c)) cs j.1)
 
 module _ (version : Version) (ls : Levels) (es : List Entity) where
@@ -71,43 +71,43 @@ module _ (version : Version) (ls : Levels) (es : List Entity) where
     unfolding is_state are_states
 
     state_few : (k x : ℕ) (s : tree.StateTree) → is_state version s ≡ true → FewState (state_of ls es k x s)
-    state_few k x (tree.StateOf place name kind body children) i =
+    state_few k x (tree.state_node place name kind body children) i =
         let h : Surroundings = record { entities = es; home = record { name = name.name; kind = kind; children = children } } in
         let j = and_parts (is_name version name.name && is_kind version kind && is_block version body && nat_le (block_depth body) most_blocks) (are_states version children) i in
         let m = and_left (is_name version name.name && is_kind version kind && is_block version body) (nat_le (block_depth body) most_blocks) j.0 in
         (block_few version ls h k body (and_right (is_name version name.name && is_kind version kind) (is_block version body) m), group_few (k + length (block_sites h body)) (x + 1) children j.1)
 
     pub group_few : (k x : ℕ) (g : tree.StateList) → are_states version g ≡ true → FewGroup (group_of ls es k x g)
-    group_few k x tree.NoState i = tt
-    group_few k x (tree.AndState s rest) i =
+    group_few k x tree.no_state i = tt
+    group_few k x (tree.and_state s rest) i =
         let j = and_parts (is_state version s) (are_states version rest) i in (state_few k x s j.0, group_few (k + length (state_sites es s)) (x + states_in s) rest j.1)
 
 -- and so does filling in what hangs
 module _ (w : World) where
   arms_filled : (at : Spot) (arms : Arms) → arm_count (filled_arms w at arms) ≡ arm_count arms
-  arms_filled at (Last b) = refl
-  arms_filled at (Arm constants b arms) = ap (λ (n : ℕ). suc n) (arms_filled at arms)
+  arms_filled at (last_arm b) = refl
+  arms_filled at (and_arm constants b arms) = ap (λ (n : ℕ). suc n) (arms_filled at arms)
 
   mutual
     filled_few : (at : Spot) (c : Command) → Few c → Few (filled w at c)
-    filled_few at (Do k) f = tt
-    filled_few at (Try k hang b) f = filled_block_few at b f
-    filled_few at (If hang e a b) f = (filled_block_few at a f.0, filled_block_few at b f.1)
-    filled_few at (TryThen k hang a b) f = (filled_block_few at a f.0, filled_block_few at b f.1)
-    filled_few at (Case hang e arms) f = (subst (λ (n : ℕ). n ≤ most_arms) (sym (arms_filled at arms)) f.0, filled_arms_few at arms f.1)
+    filled_few at (lone k) f = tt
+    filled_few at (try k hang b) f = filled_block_few at b f
+    filled_few at (if_else hang e a b) f = (filled_block_few at a f.0, filled_block_few at b f.1)
+    filled_few at (try_then k hang a b) f = (filled_block_few at a f.0, filled_block_few at b f.1)
+    filled_few at (case_of hang e arms) f = (subst (λ (n : ℕ). n ≤ most_arms) (sym (arms_filled at arms)) f.0, filled_arms_few at arms f.1)
 
     filled_arms_few : (at : Spot) (arms : Arms) → FewArms arms → FewArms (filled_arms w at arms)
-    filled_arms_few at (Last b) f = filled_block_few at b f
-    filled_arms_few at (Arm constants b arms) f = (f.0, filled_block_few at b f.1, filled_arms_few at arms f.2)
+    filled_arms_few at (last_arm b) f = filled_block_few at b f
+    filled_arms_few at (and_arm constants b arms) f = (f.0, filled_block_few at b f.1, filled_arms_few at arms f.2)
 
     filled_block_few : (at : Spot) (b : Block) → FewBlock b → FewBlock (filled_block w at b)
-    filled_block_few at End f = tt
-    filled_block_few at (Then c cs) f = (filled_few at c f.0, filled_block_few at cs f.1)
+    filled_block_few at end_block f = tt
+    filled_block_few at (command_then c cs) f = (filled_few at c f.0, filled_block_few at cs f.1)
 
   mutual
     filled_state_few : (p : ℕ) (t : State) → FewState t → FewState (filled_state w p t)
-    filled_state_few p (Node s b g) f = (filled_block_few (record { state = s; parent = p; children = g }) b f.0, filled_group_few s g f.1)
+    filled_state_few p (state_node s b g) f = (filled_block_few (record { state = s; parent = p; children = g }) b f.0, filled_group_few s g f.1)
 
     pub filled_group_few : (p : ℕ) (g : Group) → FewGroup g → FewGroup (filled_group w p g)
-    filled_group_few p None f = tt
-    filled_group_few p (More t g) f = (filled_state_few p t f.0, filled_group_few p g f.1)
+    filled_group_few p no_node f = tt
+    filled_group_few p (and_node t g) f = (filled_state_few p t f.0, filled_group_few p g f.1)

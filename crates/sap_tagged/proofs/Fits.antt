@@ -9,7 +9,7 @@ use Rattle.sap_bits.specs.declared.Op2.TheVariants.{And, Eq}
 use Rattle.sap_maps.specs.Maps.{Name}
 use Rattle.sap_maps.specs.Scope.{find}
 use Rattle.sap_maps.specs.Term.{Term, constant, read, cell, one, two, choose, join, part}
-use Rattle.sap_meaning.specs.Program.{World, root, is_dynamic, is_memory, is_register, is_state, authority, width, children, LevelTerm, fixed, of, at_place, both, Step, Set, Write, Retag, RetagCell, Goto, Fall, Node, Group, None, More}
+use Rattle.sap_meaning.specs.Program.{World, root, is_dynamic, is_memory, is_register, is_state, authority, width, children, LevelTerm, fixed, of, at_place, both, Step, assign, write, retag, retag_cell, go_to, fall_to_child, state_node, Group, no_node, and_node}
 use Rattle.sap_meaning.specs.Expressions.{width_of}
 use Rattle.sap_meaning.specs.Checks.{Spot, entry}
 use Rattle.sap_meaning.specs.Fine.{FineTerm, FineLevel, FineStep, size}
@@ -19,7 +19,7 @@ use Rattle.sap_ir.specs.Source.{Source, readable, shapes}
 use Rattle.sap_ir.specs.IsGuarded.{TermFine}
 use Rattle.sap_ir.specs.Plain.Nested.{seat_width}
 use Rattle.sap_ir.proofs.plain.SeatWidths.{seat_positive, seat_within}
-use Rattle.sap_tagged.specs.Keys.{Value, Tag, Seat, First, Inner}
+use Rattle.sap_tagged.specs.Keys.{value_key, tag_key, seat_key, first_key, inner_key}
 use Rattle.sap_tagged.specs.Setting.{Setting}
 use Rattle.sap_tagged.specs.Levels.{var, bits, lub, below_or_at, yes, expr, cell_tag, tag_of, place_width, widened, placed, new_tag, told_tag, child_tag, enters, child_enters, seat_bits, seat_of, guard_of, test_of, written, stays}
 use Rattle.sap_tagged.specs.States.{saved}
@@ -31,13 +31,13 @@ use Rattle.sap_tagged.proofs.Conditions.{Conditions, LevelConditions, StepCondit
 
 -- what a program declares for a design, with what levels are like
 pub record Declares (d : Setting) (s : Source) : Type 0 where
-  pub values : (x : ℕ) → is_value d.world x ≡ true → find (readable s) (d.name (Value x)) ≡ Some (width d.world x)
-  pub tags : (x : ℕ) → has_tag d.world x ≡ true → find (readable s) (d.name (Tag x)) ≡ Some d.tag
-  pub seats : (p : ℕ) → 0 < children d.world p → find (readable s) (d.name (Seat p)) ≡ Some (seat_width (children d.world p))
-  pub firsts : (m : ℕ) → saved d.world m ≡ true → find (readable s) (d.name (First m)) ≡ Some d.tag
-  pub inners : (x : ℕ) → nat_lt x (root d.world) ≡ true → 0 < children d.world x → find (readable s) (d.name (Inner x)) ≡ Some d.tag
-  pub stores : (m : ℕ) → is_memory d.world m ≡ true → find (shapes s) (d.name (Value m)) ≡ Some (width d.world m, depth d.world m)
-  pub marks : (m : ℕ) → is_memory d.world m ≡ true → is_dynamic d.world m ≡ false → find (shapes s) (d.name (Tag m)) ≡ Some (d.tag, depth d.world m)
+  pub values : (x : ℕ) → is_value d.world x ≡ true → find (readable s) (d.name (value_key x)) ≡ Some (width d.world x)
+  pub tags : (x : ℕ) → has_tag d.world x ≡ true → find (readable s) (d.name (tag_key x)) ≡ Some d.tag
+  pub seats : (p : ℕ) → 0 < children d.world p → find (readable s) (d.name (seat_key p)) ≡ Some (seat_width (children d.world p))
+  pub firsts : (m : ℕ) → saved d.world m ≡ true → find (readable s) (d.name (first_key m)) ≡ Some d.tag
+  pub inners : (x : ℕ) → nat_lt x (root d.world) ≡ true → 0 < children d.world x → find (readable s) (d.name (inner_key x)) ≡ Some d.tag
+  pub stores : (m : ℕ) → is_memory d.world m ≡ true → find (shapes s) (d.name (value_key m)) ≡ Some (width d.world m, depth d.world m)
+  pub marks : (m : ℕ) → is_memory d.world m ≡ true → is_dynamic d.world m ≡ false → find (shapes s) (d.name (tag_key m)) ≡ Some (d.tag, depth d.world m)
   pub wide : IsWidth d.tag
   pub small : (x : ℕ) → d.code x < 2 ^ d.tag
   pub few_levels : d.world.order.count ≤ 64
@@ -125,7 +125,7 @@ module _ (d : Setting) (s : Source) (h : Declares d s) where
   pub yes_fine : Fine 1 yes
   yes_fine = (refl, omega arith)
 
-  mark_fine : (m : ℕ) (i : Term ℕ) → is_memory d.world m ≡ true → is_dynamic d.world m ≡ false → Fit d.world i → Indexes d.world m i → Fine d.tag (cell (d.name (Tag m)) (expr d i))
+  mark_fine : (m : ℕ) (i : Term ℕ) → is_memory d.world m ≡ true → is_dynamic d.world m ≡ false → Fit d.world i → Indexes d.world m i → Fine d.tag (cell (d.name (tag_key m)) (expr d i))
   mark_fine m i e t f x = (width_of d.world i, ranged_width d.world i f.ranged, h.marks m e t ∙ ap (λ (n : ℕ). Some (d.tag, n)) (sym x), expr_fine i f)
 
   cell_tag_fine : (m : ℕ) (i : Term ℕ) → is_memory d.world m ≡ true → Fit d.world i → Indexes d.world m i → Fine d.tag (cell_tag d m i)
@@ -134,7 +134,7 @@ module _ (d : Setting) (s : Source) (h : Declares d s) where
     | inr t ↦ rw t (mark_fine m i e t f x)
   ]
 
-  own_tag_fine : (x : ℕ) → is_value d.world x ≡ true → Fine d.tag (var d (Tag x))
+  own_tag_fine : (x : ℕ) → is_value d.world x ≡ true → Fine d.tag (var d (tag_key x))
   own_tag_fine x v = h.tags x (tagged d.world x (value_within d.world x v) (value_no_memory d.world x v))
 
   pub level_fine : (e : Term ℕ) → FineTerm d.world e → SizedTerm d.world e → RangedTerm d.world e → Conditions d.world e → Fine d.tag (tag_of d e)
@@ -214,7 +214,7 @@ module _ (d : Setting) (s : Source) (h : Declares d s) where
   enters_fine : (pc : Term Name) (c : ℕ) → Fine d.tag pc → has_tag d.world c ≡ true → Fine 1 (enters d pc c)
   enters_fine pc c p t = elim (cases_Bool (is_dynamic d.world c)) [
     | inl q ↦ rw q yes_fine
-    | inr q ↦ rw q (below_fine pc (var d (Tag c)) p (h.tags c t))
+    | inr q ↦ rw q (below_fine pc (var d (tag_key c)) p (h.tags c t))
   ]
 
   seat_wide : (n : ℕ) → IsWidth (seat_width n)
@@ -223,29 +223,29 @@ module _ (d : Setting) (s : Source) (h : Declares d s) where
   is_child : (u : ℕ) (seat : Term Name) (i : ℕ) → IsWidth u → Fine u seat → i < 2 ^ u → Fine 1 (two Eq seat (constant u i))
   is_child u seat i w f l = (u, u, w, w, f, (refl, l), refl, refl)
 
-  first_tagged : (c : ℕ) (b : _) (k g : Group) → AllTagged d.world (More (Node c b k) g) → has_tag d.world c ≡ true
+  first_tagged : (c : ℕ) (b : _) (k g : Group) → AllTagged d.world (and_node (state_node c b k) g) → has_tag d.world c ≡ true
   first_tagged c b k g f = (f c (or_left _ _ (eq-eqb c c refl))).0
 
-  rest_tagged : (c : ℕ) (b : _) (k g : Group) → AllTagged d.world (More (Node c b k) g) → AllTagged d.world g
+  rest_tagged : (c : ℕ) (b : _) (k g : Group) → AllTagged d.world (and_node (state_node c b k) g) → AllTagged d.world g
   rest_tagged c b k g f n i = f n (or_right _ _ i)
 
   child_tag_fine : (u : ℕ) (seat : Term Name) (g : Group) (i : ℕ) → IsWidth u → Fine u seat → i + size g ≤ 2 ^ u → AllTagged d.world g → Fine d.tag (child_tag d u seat g i)
-  child_tag_fine u seat None i w f l t = bits_fine d.world.order.bottom
-  child_tag_fine u seat (More (Node c b k) None) i w f l t = h.tags c (first_tagged c b k None t)
-  child_tag_fine u seat (More (Node c b k) (More s g)) i w f l t = (
+  child_tag_fine u seat no_node i w f l t = bits_fine d.world.order.bottom
+  child_tag_fine u seat (and_node (state_node c b k) no_node) i w f l t = h.tags c (first_tagged c b k no_node t)
+  child_tag_fine u seat (and_node (state_node c b k) (and_node s g)) i w f l t = (
     is_child u seat i w f (omega (arith, l)),
-    h.tags c (first_tagged c b k (More s g) t),
-    child_tag_fine u seat (More s g) (i + 1) w f (omega (arith, l)) (rest_tagged c b k (More s g) t),
+    h.tags c (first_tagged c b k (and_node s g) t),
+    child_tag_fine u seat (and_node s g) (i + 1) w f (omega (arith, l)) (rest_tagged c b k (and_node s g) t),
   )
 
   child_enters_fine : (pc : Term Name) (u : ℕ) (seat : Term Name) (g : Group) (i : ℕ) → Fine d.tag pc → IsWidth u → Fine u seat → i + size g ≤ 2 ^ u → AllTagged d.world g
       → Fine 1 (child_enters d pc u seat g i)
-  child_enters_fine pc u seat None i p w f l t = yes_fine
-  child_enters_fine pc u seat (More (Node c b k) None) i p w f l t = enters_fine pc c p (first_tagged c b k None t)
-  child_enters_fine pc u seat (More (Node c b k) (More s g)) i p w f l t = (
+  child_enters_fine pc u seat no_node i p w f l t = yes_fine
+  child_enters_fine pc u seat (and_node (state_node c b k) no_node) i p w f l t = enters_fine pc c p (first_tagged c b k no_node t)
+  child_enters_fine pc u seat (and_node (state_node c b k) (and_node s g)) i p w f l t = (
     is_child u seat i w f (omega (arith, l)),
-    enters_fine pc c p (first_tagged c b k (More s g) t),
-    child_enters_fine pc u seat (More s g) (i + 1) p w f (omega (arith, l)) (rest_tagged c b k (More s g) t),
+    enters_fine pc c p (first_tagged c b k (and_node s g) t),
+    child_enters_fine pc u seat (and_node s g) (i + 1) p w f (omega (arith, l)) (rest_tagged c b k (and_node s g) t),
   )
 
   module _ (q : Group) (sp : Spot) (placed : Placed d.world q sp) where
@@ -258,80 +258,80 @@ module _ (d : Setting) (s : Source) (h : Declares d s) where
     term_fit : (e : Term ℕ) → FineTerm d.world e → SizedTerm d.world e → RangedTerm d.world e → Conditions d.world e → Fit d.world e
     term_fit e f t r c = record { fine = f; sized = t; ranged = r; conditions = c }
 
-    register_tag : (x : ℕ) → is_register d.world x ≡ true → Fine d.tag (var d (Tag x))
+    register_tag : (x : ℕ) → is_register d.world x ≡ true → Fine d.tag (var d (tag_key x))
     register_tag x r = own_tag_fine x (or_right _ (is_register d.world x) r)
 
-    retagged_fine : (x : ℕ) → (is_register d.world x || is_state d.world x) ≡ true → is_dynamic d.world x ≡ false → Fine d.tag (var d (Tag x))
+    retagged_fine : (x : ℕ) → (is_register d.world x || is_state d.world x) ≡ true → is_dynamic d.world x ≡ false → Fine d.tag (var d (tag_key x))
     retagged_fine x k t = h.tags x (tagged d.world x (enforced_within d.world x t) (kept_no_memory d.world x k))
 
     pub guard_fine : (k : Step) → FineStep d.world q sp.children k → SizedStep d.world k → RangedStep d.world k → StepConditions d.world k → Fine d.tag (guard_of d sp k)
-    guard_fine (Set site x e) f t r c = elim (cases_Bool (is_dynamic d.world x)) [
+    guard_fine (assign site x e) f t r c = elim (cases_Bool (is_dynamic d.world x)) [
       | inl i ↦ rw i (bits_fine d.world.order.bottom)
       | inr i ↦ rw i (register_tag x f.0)
     ]
-    guard_fine (Write site m i e) f t r c = elim (cases_Bool (is_dynamic d.world m)) [
+    guard_fine (write site m i e) f t r c = elim (cases_Bool (is_dynamic d.world m)) [
       | inl j ↦ rw j (bits_fine d.world.order.bottom)
       | inr j ↦
           rw j
-          (lub_fine (tag_of d i) (cell (d.name (Tag m)) (expr d i)) (level_fine i f.1 t.0 r.0 c.0) (mark_fine m i f.0 j (term_fit i f.1 t.0 r.0 c.0) t.1))
+          (lub_fine (tag_of d i) (cell (d.name (tag_key m)) (expr d i)) (level_fine i f.1 t.0 r.0 c.0) (mark_fine m i f.0 j (term_fit i f.1 t.0 r.0 c.0) t.1))
     ]
-    guard_fine (Retag site x n) f t r c = bits_fine (authority d.world x)
-    guard_fine (RetagCell site m j n) f t r c = bits_fine (authority d.world m)
-    guard_fine (Goto site target) f t r c = bits_fine (entry d.world target)
-    guard_fine (Fall site hang) f t r c =
+    guard_fine (retag site x n) f t r c = bits_fine (authority d.world x)
+    guard_fine (retag_cell site m j n) f t r c = bits_fine (authority d.world m)
+    guard_fine (go_to site target) f t r c = bits_fine (entry d.world target)
+    guard_fine (fall_to_child site hang) f t r c =
         child_tag_fine (seat_bits d sp.state) (seat_of d sp.state) sp.children 0 (seat_wide (children d.world sp.state)) (seat_fine f) children_fit placed.kids
 
     pub test_fine : (pc : Term Name) (k : Step) → Fine d.tag pc → FineStep d.world q sp.children k → SizedStep d.world k → RangedStep d.world k → StepConditions d.world k
         → Fine 1 (test_of d sp pc k)
-    test_fine pc (Set site x e) p f t r c = elim (cases_Bool (is_dynamic d.world x)) [
+    test_fine pc (assign site x e) p f t r c = elim (cases_Bool (is_dynamic d.world x)) [
       | inl i ↦ rw i yes_fine
-      | inr i ↦ rw i (below_fine (lub pc (tag_of d e)) (var d (Tag x)) (lub_fine pc (tag_of d e) p (level_fine e f.1 t.0 r c)) (register_tag x f.0))
+      | inr i ↦ rw i (below_fine (lub pc (tag_of d e)) (var d (tag_key x)) (lub_fine pc (tag_of d e) p (level_fine e f.1 t.0 r c)) (register_tag x f.0))
     ]
-    test_fine pc (Write site m i e) p f t r c = elim (cases_Bool (is_dynamic d.world m)) [
+    test_fine pc (write site m i e) p f t r c = elim (cases_Bool (is_dynamic d.world m)) [
       | inl j ↦ rw j yes_fine
       | inr j ↦
           rw j
-          (below_fine (lub pc (lub (tag_of d i) (tag_of d e))) (cell (d.name (Tag m)) (expr d i))
+          (below_fine (lub pc (lub (tag_of d i) (tag_of d e))) (cell (d.name (tag_key m)) (expr d i))
           (lub_fine pc (lub (tag_of d i) (tag_of d e)) p (lub_fine (tag_of d i) (tag_of d e) (level_fine i f.1 t.0 r.0 c.0) (level_fine e f.2 t.2 r.1 c.1)))
           (mark_fine m i f.0 j (term_fit i f.1 t.0 r.0 c.0) t.1))
     ]
-    test_fine pc (Retag site x n) p f t r c =
+    test_fine pc (retag site x n) p f t r c =
         both_fine (below_or_at (lub pc (told_tag d n)) (bits d (authority d.world x))) (below_or_at (bits d (authority d.world x)) (new_tag d n))
         (below_fine (lub pc (told_tag d n)) (bits d (authority d.world x)) (lub_fine pc (told_tag d n) p (told_fine n f.2 t r c)) (bits_fine (authority d.world x)))
         (below_fine (bits d (authority d.world x)) (new_tag d n) (bits_fine (authority d.world x)) (new_fine n f.2 t r c))
-    test_fine pc (RetagCell site m j n) p f t r c =
+    test_fine pc (retag_cell site m j n) p f t r c =
         both_fine (below_or_at (lub pc (lub (told_tag d n) (tag_of d j))) (bits d (authority d.world m))) (below_or_at (bits d (authority d.world m)) (new_tag d n))
         (below_fine (lub pc (lub (told_tag d n) (tag_of d j))) (bits d (authority d.world m))
         (lub_fine pc (lub (told_tag d n) (tag_of d j)) p (lub_fine (told_tag d n) (tag_of d j) (told_fine n f.3 t.2 r.1 c.1) (level_fine j f.2 t.0 r.0 c.0)))
         (bits_fine (authority d.world m)))
         (below_fine (bits d (authority d.world m)) (new_tag d n) (bits_fine (authority d.world m)) (new_fine n f.3 t.2 r.1 c.1))
-    test_fine pc (Goto site target) p f t r c =
+    test_fine pc (go_to site target) p f t r c =
         both_fine (enters d pc target) _ (enters_fine pc target p (placed.siblings target f).0)
-        (unless (is_dynamic d.world sp.state) (below_or_at (lub pc (bits d (entry d.world target))) (var d (Tag sp.state)))
-        (below_fine (lub pc (bits d (entry d.world target))) (var d (Tag sp.state)) (lub_fine pc (bits d (entry d.world target)) p (bits_fine (entry d.world target)))
+        (unless (is_dynamic d.world sp.state) (below_or_at (lub pc (bits d (entry d.world target))) (var d (tag_key sp.state)))
+        (below_fine (lub pc (bits d (entry d.world target))) (var d (tag_key sp.state)) (lub_fine pc (bits d (entry d.world target)) p (bits_fine (entry d.world target)))
         (h.tags sp.state (placed.siblings sp.state placed.here).0)))
       where
         unless : (b : Bool) (t : Term Name) → Fine 1 t → Fine 1 (if b then yes else t)
         unless true t e = yes_fine
         unless false t e = e
-    test_fine pc (Fall site hang) p f t r c =
+    test_fine pc (fall_to_child site hang) p f t r c =
         child_enters_fine pc (seat_bits d sp.state) (seat_of d sp.state) sp.children 0 p (seat_wide (children d.world sp.state)) (seat_fine f) children_fit placed.kids
 
     pub written_fine : (pc : Term Name) (k : Step) → Fine d.tag pc → FineStep d.world q sp.children k → SizedStep d.world k → RangedStep d.world k → StepConditions d.world k
         → Fine d.tag (written d pc k)
-    written_fine pc (Set site x e) p f t r c = lub_fine pc (tag_of d e) p (level_fine e f.1 t.0 r c)
-    written_fine pc (Write site m i e) p f t r c =
+    written_fine pc (assign site x e) p f t r c = lub_fine pc (tag_of d e) p (level_fine e f.1 t.0 r c)
+    written_fine pc (write site m i e) p f t r c =
         lub_fine pc (lub (tag_of d i) (tag_of d e)) p (lub_fine (tag_of d i) (tag_of d e) (level_fine i f.1 t.0 r.0 c.0) (level_fine e f.2 t.2 r.1 c.1))
-    written_fine pc (Retag site x n) p f t r c = new_fine n f.2 t r c
-    written_fine pc (RetagCell site m j n) p f t r c = new_fine n f.3 t.2 r.1 c.1
-    written_fine pc (Goto site target) p f t r c = p
-    written_fine pc (Fall site hang) p f t r c = p
+    written_fine pc (retag site x n) p f t r c = new_fine n f.2 t r c
+    written_fine pc (retag_cell site m j n) p f t r c = new_fine n f.3 t.2 r.1 c.1
+    written_fine pc (go_to site target) p f t r c = p
+    written_fine pc (fall_to_child site hang) p f t r c = p
 
     pub stays_fine : (k : Step) → FineStep d.world q sp.children k → SizedStep d.world k → RangedStep d.world k → StepConditions d.world k → Fine 1 (stays d k)
-    stays_fine (Set site x e) f t r c = yes_fine
-    stays_fine (Write site m i e) f t r c = yes_fine
-    stays_fine (Retag site x n) f t r c = below_fine (var d (Tag x)) (new_tag d n) (retagged_fine x f.0 f.1) (new_fine n f.2 t r c)
-    stays_fine (RetagCell site m j n) f t r c =
-        below_fine (cell (d.name (Tag m)) (expr d j)) (new_tag d n) (mark_fine m j f.0 f.1 (term_fit j f.2 t.0 r.0 c.0) t.1) (new_fine n f.3 t.2 r.1 c.1)
-    stays_fine (Goto site target) f t r c = yes_fine
-    stays_fine (Fall site hang) f t r c = yes_fine
+    stays_fine (assign site x e) f t r c = yes_fine
+    stays_fine (write site m i e) f t r c = yes_fine
+    stays_fine (retag site x n) f t r c = below_fine (var d (tag_key x)) (new_tag d n) (retagged_fine x f.0 f.1) (new_fine n f.2 t r c)
+    stays_fine (retag_cell site m j n) f t r c =
+        below_fine (cell (d.name (tag_key m)) (expr d j)) (new_tag d n) (mark_fine m j f.0 f.1 (term_fit j f.2 t.0 r.0 c.0) t.1) (new_fine n f.3 t.2 r.1 c.1)
+    stays_fine (go_to site target) f t r c = yes_fine
+    stays_fine (fall_to_child site hang) f t r c = yes_fine

@@ -10,7 +10,7 @@ use Rattle.sap_lattice.specs.Levels.{Levels, order_of}
 use Rattle.sap_lattice.specs.Codes.{width_of}
 use Rattle.sap_names.specs.Entities.{entities_of}
 use Rattle.sap_names.specs.declared.entity.Entity.{Entity}
-use Rattle.sap_meaning.specs.Program.{World, root, Command, Do, Try, If, TryThen, Case, Arms, Last, Arm, Block, End, Then, State, Node, Group, None, More}
+use Rattle.sap_meaning.specs.Program.{World, root, Command, lone, try, if_else, try_then, case_of, Arms, last_arm, and_arm, Block, end_block, command_then, State, state_node, Group, no_node, and_node}
 use Rattle.sap_meaning.specs.Checks.{Spot}
 use Rattle.sap_resolve.specs.Worlds.{world_of, states_in}
 use Rattle.sap_shape.specs.Sites.{Surroundings, simple_sites, command_sites, block_sites, state_sites}
@@ -35,28 +35,28 @@ use Rattle.sap_tagged.proofs.Designs.{design, some_child}
 module _ (w : World) where
   mutual
     wires_filled : (at : Spot) (c : Command) → wires (filled w at c) ≡ wires c
-    wires_filled at (Do k) = refl
-    wires_filled at (Try k hang h) = ap (λ (n : ℕ). 5 + n) (block_filled at h)
-    wires_filled at (If hang e a b) = ap₂ (λ (m n : ℕ). 2 + m + n) (block_filled at a) (block_filled at b)
-    wires_filled at (TryThen k hang a b) = ap₂ (λ (m n : ℕ). 5 + m + n) (block_filled at a) (block_filled at b)
-    wires_filled at (Case hang e arms) = ap (λ (n : ℕ). 4 + n) (arms_filled at arms)
+    wires_filled at (lone k) = refl
+    wires_filled at (try k hang h) = ap (λ (n : ℕ). 5 + n) (block_filled at h)
+    wires_filled at (if_else hang e a b) = ap₂ (λ (m n : ℕ). 2 + m + n) (block_filled at a) (block_filled at b)
+    wires_filled at (try_then k hang a b) = ap₂ (λ (m n : ℕ). 5 + m + n) (block_filled at a) (block_filled at b)
+    wires_filled at (case_of hang e arms) = ap (λ (n : ℕ). 4 + n) (arms_filled at arms)
 
     arms_filled : (at : Spot) (arms : Arms) → wires_arms (filled_arms w at arms) ≡ wires_arms arms
-    arms_filled at (Last b) = block_filled at b
-    arms_filled at (Arm constants b arms) = ap₂ (λ (m n : ℕ). m + n) (block_filled at b) (arms_filled at arms)
+    arms_filled at (last_arm b) = block_filled at b
+    arms_filled at (and_arm constants b arms) = ap₂ (λ (m n : ℕ). m + n) (block_filled at b) (arms_filled at arms)
 
     block_filled : (at : Spot) (b : Block) → wires_block (filled_block w at b) ≡ wires_block b
-    block_filled at End = refl
-    block_filled at (Then c cs) = ap₂ (λ (m n : ℕ). m + n) (wires_filled at c) (block_filled at cs)
+    block_filled at end_block = refl
+    block_filled at (command_then c cs) = ap₂ (λ (m n : ℕ). m + n) (wires_filled at c) (block_filled at cs)
 
   mutual
     state_filled : (p : ℕ) (t : State) → wires_state (filled_state w p t) ≡ wires_state t
-    state_filled p (Node s b g) =
+    state_filled p (state_node s b g) =
         ap₂ (λ (m n : ℕ). 1 + m + n) (block_filled (record { state = s; parent = p; children = g }) b) (group_filled s g)
 
     pub group_filled : (p : ℕ) (g : Group) → wires_group (filled_group w p g) ≡ wires_group g
-    group_filled p None = refl
-    group_filled p (More t g) = ap₂ (λ (m n : ℕ). m + n) (state_filled p t) (group_filled p g)
+    group_filled p no_node = refl
+    group_filled p (and_node t g) = ap₂ (λ (m n : ℕ). m + n) (state_filled p t) (group_filled p g)
 
 -- five wires a command, and one a state
 
@@ -65,42 +65,42 @@ module _ (ls : Levels) (h : Surroundings) where
     unfolding command_count arms_count block_count else_count list_count
 
     command_few : (k : ℕ) (c : tree.Command) → wires (command_of ls h k c) ≤ 5 * command_count c
-    command_few k (tree.Do c) = omega arith
-    command_few k (tree.Try c place b) = let i = block_few (k + length (simple_sites h c)) b in omega (arith, i)
-    command_few k (tree.If place e a b) = let i = block_few k a in let j = else_few (k + length (block_sites h a)) b in omega (arith, i, j)
-    command_few k (tree.TryThen c place a b) =
+    command_few k (tree.lone c) = omega arith
+    command_few k (tree.try c place b) = let i = block_few (k + length (simple_sites h c)) b in omega (arith, i)
+    command_few k (tree.if_else place e a b) = let i = block_few k a in let j = else_few (k + length (block_sites h a)) b in omega (arith, i, j)
+    command_few k (tree.try_then c place a b) =
         let i = block_few (k + length (simple_sites h c)) a in let j = block_few (k + length (simple_sites h c) + length (block_sites h a)) b in omega (arith, i, j)
-    command_few k (tree.Case place e arms) = let i = arms_few k arms in omega (arith, i)
+    command_few k (tree.case_of place e arms) = let i = arms_few k arms in omega (arith, i)
 
     arms_few : (k : ℕ) (arms : tree.Arms) → wires_arms (arms_of ls h k arms) ≤ 5 * arms_count arms
-    arms_few k (tree.Last b) = block_few k b
-    arms_few k (tree.Arm constants b arms) = let i = block_few k b in let j = arms_few (k + length (block_sites h b)) arms in omega (arith, i, j)
+    arms_few k (tree.last_arm b) = block_few k b
+    arms_few k (tree.and_arm constants b arms) = let i = block_few k b in let j = arms_few (k + length (block_sites h b)) arms in omega (arith, i, j)
 
     block_few : (k : ℕ) (b : tree.CommandBlock) → wires_block (block_of ls h k b) ≤ 5 * block_count b
-    block_few k (tree.Commands cs after) = list_few k cs
+    block_few k (tree.command_block cs after) = list_few k cs
 
     else_few : (k : ℕ) (b : tree.ElseBlock) → wires_block (else_of ls h k b) ≤ 5 * else_count b
-    else_few k tree.NoElse = omega arith
-    else_few k (tree.Else b) = block_few k b
+    else_few k tree.no_else = omega arith
+    else_few k (tree.with_else b) = block_few k b
 
     list_few : (k : ℕ) (cs : tree.CommandList) → wires_block (list_of ls h k cs) ≤ 5 * list_count cs
-    list_few k tree.NoCommand = omega arith
-    list_few k (tree.AndCommand c cs) = let i = command_few k c in let j = list_few (k + length (command_sites h c)) cs in omega (arith, i, j)
+    list_few k tree.no_command = omega arith
+    list_few k (tree.and_command c cs) = let i = command_few k c in let j = list_few (k + length (command_sites h c)) cs in omega (arith, i, j)
 
 module _ (ls : Levels) (es : List Entity) where
   mutual
     unfolding state_count states_count state_commands states_commands
 
     state_few : (k x : ℕ) (s : tree.StateTree) → wires_state (state_of ls es k x s) ≤ 5 * state_commands s + state_count s
-    state_few k x (tree.StateOf place name kind body kids) =
+    state_few k x (tree.state_node place name kind body kids) =
         let h : Surroundings = record { entities = es; home = record { name = name.name; kind = kind; children = kids } } in
         let i = block_few ls h k body in
         let j = group_few (k + length (block_sites h body)) (x + 1) kids in
         omega (arith, i, j)
 
     pub group_few : (k x : ℕ) (g : tree.StateList) → wires_group (group_of ls es k x g) ≤ 5 * states_commands g + states_count g
-    group_few k x tree.NoState = omega arith
-    group_few k x (tree.AndState s rest) =
+    group_few k x tree.no_state = omega arith
+    group_few k x (tree.and_state s rest) =
         let i = state_few k x s in let j = group_few (k + length (state_sites es s)) (x + states_in s) rest in omega (arith, i, j)
 
 limited : (t : Bool) (i r m s d c : ℕ) → IsTrue (t && (nat_le i 64 && nat_le r 256 && nat_le m 16 && nat_le s 256 && nat_le d 16 && nat_le c 4096)) → (s ≤ 256) × (c ≤ 4096)

@@ -5,7 +5,7 @@ use Rattle.sap_lemmas.proofs.Bools.{or_other, true_is_not_false}
 use Rattle.sap_lemmas.proofs.Texts.{bytes_eq_same}
 use Rattle.sap_maps.specs.Maps.{Name}
 use Rattle.sap_maps.specs.Scope.{find}
-use Rattle.sap_meaning.specs.Program.{World, root, is_dynamic, is_memory, children, Command, Do, Try, If, TryThen, Case, Arms, Last, Arm, Block, End, Then, Node, Group, None, More}
+use Rattle.sap_meaning.specs.Program.{World, root, is_dynamic, is_memory, children, Command, lone, try, if_else, try_then, case_of, Arms, last_arm, and_arm, Block, end_block, command_then, state_node, Group, no_node, and_node}
 use Rattle.sap_meaning.specs.Expressions.{width_of}
 use Rattle.sap_meaning.specs.Checks.{Spot}
 use Rattle.sap_meaning.specs.Touches.{among}
@@ -21,7 +21,7 @@ use Rattle.sap_ir.specs.Plain.Nested.{Body, Forest, none, state, has_states, gro
 use Rattle.sap_ir.specs.Plain.Nested as nested
 use Rattle.sap_ir.specs.Plain.IsPlain.{BodyFine, ForestFine, SeatFine, IsSeat}
 use Rattle.sap_interface.specs.StandsFor.{Named, world}
-use Rattle.sap_tagged.specs.Keys.{Tag, Seat, Wire, First, Inner}
+use Rattle.sap_tagged.specs.Keys.{tag_key, seat_key, wire_key, first_key, inner_key}
 use Rattle.sap_tagged.specs.Setting.{Setting, setting_of}
 use Rattle.sap_tagged.specs.Levels.{var, lub}
 use Rattle.sap_tagged.specs.Commands.{gives, raises, pick_width, wires, wires_block, block_plain}
@@ -65,16 +65,16 @@ module _ (nd : Named) (tag : ℕ) (s : Source) where
 
   mutual
     command_found : (k : ℕ) (c : Command) → AllFound s (command_wires nd tag k c) → CommandWires (setting_of nd tag) s k c
-    command_found k (Do t) f = step_found k f
-    command_found k (Try t hang h) f =
+    command_found k (lone t) f = step_found k f
+    command_found k (try t hang h) f =
         (step_found k (front_found s (step_wires nd tag k) (block_wires nd tag (k + 5) h) f), block_found (k + 5) h (behind_found s (step_wires nd tag k) (block_wires nd tag (k + 5) h) f))
-    command_found k (If hang e a b) f = (
+    command_found k (if_else hang e a b) f = (
       f (wire nd k tag) (inl refl),
       f (wire nd (k + 1) tag) (inr (inl refl)),
       block_found (k + 2) a (λ v i. f v (inr (inr (in_front (block_wires nd tag (k + 2) a) (block_wires nd tag (k + 2 + wires_block a) b) v i)))),
       block_found (k + 2 + wires_block a) b (λ v i. f v (inr (inr (in_behind (block_wires nd tag (k + 2) a) (block_wires nd tag (k + 2 + wires_block a) b) v i)))),
     )
-    command_found k (TryThen t hang a b) f =
+    command_found k (try_then t hang a b) f =
         let one = block_wires nd tag (k + 5) a in
         let other = block_wires nd tag (k + 5 + wires_block a) b in
         let later = behind_found s (step_wires nd tag k) (one ++ other) f in (
@@ -82,7 +82,7 @@ module _ (nd : Named) (tag : ℕ) (s : Source) where
           block_found (k + 5) a (front_found s one other later),
           block_found (k + 5 + wires_block a) b (behind_found s one other later),
         )
-    command_found k (Case hang e arms) f = (
+    command_found k (case_of hang e arms) f = (
       f (wire nd k tag) (inl refl),
       f (wire nd (k + 1) tag) (inr (inl refl)),
       f (wire nd (k + 2) (width_of (world nd) e)) (inr (inr (inl refl))),
@@ -91,15 +91,15 @@ module _ (nd : Named) (tag : ℕ) (s : Source) where
     )
 
     arms_found : (k : ℕ) (arms : Arms) → AllFound s (arms_wires nd tag k arms) → ArmsWires (setting_of nd tag) s k arms
-    arms_found k (Last b) f = block_found k b f
-    arms_found k (Arm constants b arms) f = (
+    arms_found k (last_arm b) f = block_found k b f
+    arms_found k (and_arm constants b arms) f = (
       block_found k b (front_found s (block_wires nd tag k b) (arms_wires nd tag (k + wires_block b) arms) f),
       arms_found (k + wires_block b) arms (behind_found s (block_wires nd tag k b) (arms_wires nd tag (k + wires_block b) arms) f),
     )
 
     block_found : (k : ℕ) (b : Block) → AllFound s (block_wires nd tag k b) → BlockWires (setting_of nd tag) s k b
-    block_found k End f = tt
-    block_found k (Then c cs) f = (
+    block_found k end_block f = tt
+    block_found k (command_then c cs) f = (
       command_found k c (front_found s (command_wires nd tag k c) (block_wires nd tag (k + wires c) cs) f),
       block_found (k + wires c) cs (behind_found s (command_wires nd tag k c) (block_wires nd tag (k + wires c) cs) f),
     )
@@ -107,10 +107,10 @@ module _ (nd : Named) (tag : ℕ) (s : Source) where
 -- groups of forests
 
 pub group_has : (d : Setting) (g : Group) (f : Forest) → Shaped d g f → (t : ℕ) → among g t ≡ true → is_among (d.state_name t) (group_names f) ≡ true
-group_has d None none h t i = absurd (true_is_not_false (sym i))
-group_has d None (state x b kids rest) h t i = absurd h
-group_has d (More u g) none h t i = absurd h
-group_has d (More (Node s c k) g) (state x b kids rest) h t i = elim (cases_Bool (nat_eq t s)) [
+group_has d no_node none h t i = absurd (true_is_not_false (sym i))
+group_has d no_node (state x b kids rest) h t i = absurd h
+group_has d (and_node u g) none h t i = absurd h
+group_has d (and_node (state_node s c k) g) (state x b kids rest) h t i = elim (cases_Bool (nat_eq t s)) [
   | inl e ↦
       (let n : bytes_eq (d.state_name t) x ≡ true = ap (λ (a : ℕ). bytes_eq (d.state_name a) x) (eqb-true t s e) ∙ ap (bytes_eq (d.state_name s)) h.0 ∙ bytes_eq_same (d.state_name s) in
       rw n refl)
@@ -118,30 +118,30 @@ group_has d (More (Node s c k) g) (state x b kids rest) h t i = elim (cases_Bool
 ]
 
 pub some_states : (d : Setting) (g : Group) (f : Forest) → Shaped d g f → 0 < size g → has_states f ≡ true
-some_states d None none h l = absurd (omega (arith, l))
-some_states d None (state x b kids rest) h l = absurd h
-some_states d (More u g) none h l = absurd h
-some_states d (More u g) (state x b kids rest) h l = refl
+some_states d no_node none h l = absurd (omega (arith, l))
+some_states d no_node (state x b kids rest) h l = absurd h
+some_states d (and_node u g) none h l = absurd h
+some_states d (and_node u g) (state x b kids rest) h l = refl
 
 same_size : (d : Setting) (g : Group) (f : Forest) → Shaped d g f → nested.size f ≡ size g
-same_size d None none h = refl
-same_size d None (state x b kids rest) h = absurd h
-same_size d (More u g) none h = absurd h
-same_size d (More (Node s c k) g) (state x b kids rest) h = ap (λ (n : ℕ). suc n) (same_size d g rest h.2)
+same_size d no_node none h = refl
+same_size d no_node (state x b kids rest) h = absurd h
+same_size d (and_node u g) none h = absurd h
+same_size d (and_node (state_node s c k) g) (state x b kids rest) h = ap (λ (n : ℕ). suc n) (same_size d g rest h.2)
 
 -- the registers of current children
 abbrev pub SeatRegisters : Setting → Source → Type 0
 SeatRegisters d s =
     (p : ℕ) → 0 < children d.world p
-    → find {X = ℕ × ℕ} (map (λ (r : Var). (r.name, (r.width, r.start))) s.registers) (d.name (Seat p)) ≡ Some (seat_width (children d.world p), 0)
+    → find {X = ℕ × ℕ} (map (λ (r : Var). (r.name, (r.width, r.start))) s.registers) (d.name (seat_key p)) ≡ Some (seat_width (children d.world p), 0)
 
 pub seat_is_fine : (d : Setting) (s : Source) → SeatRegisters d s → ((p : ℕ) → children d.world p ≤ 2 ^ seat_width (children d.world p)) → (p : ℕ) (x : Name) (g : Group) (f : Forest)
-    → x ≡ d.name (Seat p) → children d.world p ≡ size g → Shaped d g f → SeatFine s x f
-seat_is_fine d s regs few p x None none e c h = tt
-seat_is_fine d s regs few p x None (state y b kids rest) e c h = absurd h
-seat_is_fine d s regs few p x (More u g) none e c h = absurd h
-seat_is_fine d s regs few p x (More u g) (state y b kids rest) e c h =
-    let z : children d.world p ≡ nested.size (state y b kids rest) = c ∙ sym (same_size d (More u g) (state y b kids rest) h) in
+    → x ≡ d.name (seat_key p) → children d.world p ≡ size g → Shaped d g f → SeatFine s x f
+seat_is_fine d s regs few p x no_node none e c h = tt
+seat_is_fine d s regs few p x no_node (state y b kids rest) e c h = absurd h
+seat_is_fine d s regs few p x (and_node u g) none e c h = absurd h
+seat_is_fine d s regs few p x (and_node u g) (state y b kids rest) e c h =
+    let z : children d.world p ≡ nested.size (state y b kids rest) = c ∙ sym (same_size d (and_node u g) (state y b kids rest) h) in
     subst (λ (n : ℕ). IsSeat s x n) z (subst (λ (a : Name). IsSeat s a (children d.world p)) (sym e) (regs p (some (children d.world p) (size g) c), few p))
   where
     some : (m n : ℕ) → m ≡ suc n → 0 < m
@@ -163,15 +163,15 @@ module _ (nd : Named) (tag : ℕ) (s : Source) (fixed : List Name) (decl : Decla
     count : children w x ≡ size q
 
   some_among : (q : Group) (x : ℕ) → among q x ≡ true → 0 < size q
-  some_among None x h = absurd (true_is_not_false (sym h))
-  some_among (More t g) x h = omega arith
+  some_among no_node x h = absurd (true_is_not_false (sym h))
+  some_among (and_node t g) x h = omega arith
 
   group_fine : (grp q : Group) (n0 parent k : ℕ) (group : List Name) → FineGroup w q 0 q → FineGroup w q n0 grp → ((t : ℕ) → among grp t ≡ true → among q t ≡ true)
       → ((t : ℕ) → among q t ≡ true → is_among (d.state_name t) group ≡ true) → IsParent q parent → AllFound s (group_wires nd tag k grp) → ExactGroup w parent grp → SitesOf (sites.group_sites w grp)
       → SizedGroup w grp → RangedGroup w grp → GroupConditions w grp → FewGroup grp → ForestFine s fixed group (group_plain d parent k grp)
   unfolding group_plain
-  group_fine None q n0 parent k group whole fine part named above ws exact site z r c few = tt
-  group_fine (More (Node x b kids) rest) q n0 parent k group whole fine part named above ws exact site z r c few =
+  group_fine no_node q n0 parent k group whole fine part named above ws exact site z r c few = tt
+  group_fine (and_node (state_node x b kids) rest) q n0 parent k group whole fine part named above ws exact site z r c few =
       let base = k + 1 + wires_block b in
       let node = fine.0.0 in
       let i : among q x ≡ true = part x (rw (eq-eqb x x refl) refl) in
@@ -180,12 +180,12 @@ module _ (nd : Named) (tag : ℕ) (s : Source) (fixed : List Name) (decl : Decla
       let placed = placed_in w q n0 x parent b kids whole i node fine.0.1 in
       let below = group_plain d x base kids in
       let shape = shaped_group d x base kids in
-      let own = state_wires nd tag k (Node x b kids) in
+      let own = state_wires nd tag k (state_node x b kids) in
       let later = group_wires nd tag (k + (1 + wires_block b + wires_group kids)) rest in
       let mine : AllFound s own = front_found s own later ws in
       let pc : IsWire d s k tag = mine (wire nd k tag) (inl refl) in
       let body = block_plain d sp k (k + 1) b in (
-        wire_gives d s decl fixed group assigns (has_states below) k tag (var d (Inner parent)) body pc (decl.inners parent above.declared (rw above.count (some_among q x i)))
+        wire_gives d s decl fixed group assigns (has_states below) k tag (var d (inner_key parent)) body pc (decl.inners parent above.declared (rw above.count (some_among q x i)))
             (block_fine d s decl fixed group assigns (has_states below) q sp placed named (λ l. some_states d kids below shape l) k (k + 1) b pc
             (block_found nd tag s (k + 1) b (λ v a. mine v (inr (in_front (block_wires nd tag (k + 1) b) (group_wires nd tag base kids) v a))))
             (body_hangs w q sp me fine.0.1 b node.steps exact.0.0)
@@ -204,15 +204,15 @@ module _ (nd : Named) (tag : ℕ) (s : Source) (fixed : List Name) (decl : Decla
   -- the kept tags
   saves_fine : (group : List Name) (nested : Bool) (rest : Body) → BodyFine s fixed group nested rest → BodyFine s fixed group nested (saves d rest)
   saves_fine group nested rest g =
-      sweep_fine d s decl fixed group assigns nested First (saved w) (λ m. var d (Tag m)) 0 (root w) rest
+      sweep_fine d s decl fixed group assigns nested first_key (saved w) (λ m. var d (tag_key m)) 0 (root w) rest
       (λ y l k e. let b = and_parts (is_memory w y) (is_dynamic w y) e in (tag, assigns.firsts y e, decl.tags y (tagged_memory w y b.0 b.1))) (λ y e. omega arith) g
 
   pub top_fine : (grp q : Group) (n0 k : ℕ) (hangs : ℕ → Bool) (group : List Name) → FineGroup w q 0 q → FineGroup w q n0 grp → ((t : ℕ) → among grp t ≡ true → among q t ≡ true)
       → ((t : ℕ) → among q t ≡ true → is_among (d.state_name t) group ≡ true) → Hangs w hangs → AllFound s (group_wires nd tag k grp) → ExactGroup w (root w) grp → SitesOf (sites.group_sites w grp)
       → SizedGroup w grp → RangedGroup w grp → GroupConditions w grp → FewGroup grp → ForestFine s fixed group (top_plain d hangs k grp)
   unfolding top_plain
-  top_fine None q n0 k hangs group whole fine part named hs ws exact site z r c few = tt
-  top_fine (More (Node x b kids) rest) q n0 k hangs group whole fine part named hs ws exact site z r c few =
+  top_fine no_node q n0 k hangs group whole fine part named hs ws exact site z r c few = tt
+  top_fine (and_node (state_node x b kids) rest) q n0 k hangs group whole fine part named hs ws exact site z r c few =
       let base = k + 1 + wires_block b in
       let node = fine.0.0 in
       let i : among q x ≡ true = part x (rw (eq-eqb x x refl) refl) in
@@ -221,7 +221,7 @@ module _ (nd : Named) (tag : ℕ) (s : Source) (fixed : List Name) (decl : Decla
       let placed = placed_in w q n0 x (root w) b kids whole i node fine.0.1 in
       let below = group_plain d x base kids in
       let shape = shaped_group d x base kids in
-      let own = state_wires nd tag k (Node x b kids) in
+      let own = state_wires nd tag k (state_node x b kids) in
       let later = group_wires nd tag (k + (1 + wires_block b + wires_group kids)) rest in
       let mine : AllFound s own = front_found s own later ws in
       let pc : IsWire d s k tag = mine (wire nd k tag) (inl refl) in
@@ -231,11 +231,11 @@ module _ (nd : Named) (tag : ℕ) (s : Source) (fixed : List Name) (decl : Decla
       (body_hangs w q sp me fine.0.1 b node.steps exact.0.0)
       (λ n a. site n (among_left (sites.block_sites w x kids b ++ sites.group_sites w kids) (sites.group_sites w rest) n (among_left (sites.block_sites w x kids b) (sites.group_sites w kids) n a)))
       node.steps z.0.0 r.0.0 c.0.0 few.0.0 in (
-        saves_fine group (has_states below) (gives d (Wire k) (var d (Tag x)) (raises d hangs k body))
-            (wire_gives d s decl fixed group assigns (has_states below) k tag (var d (Tag x)) (raises d hangs k body) pc (decl.tags x (placed.siblings x i).0)
+        saves_fine group (has_states below) (gives d (wire_key k) (var d (tag_key x)) (raises d hangs k body))
+            (wire_gives d s decl fixed group assigns (has_states below) k tag (var d (tag_key x)) (raises d hangs k body) pc (decl.tags x (placed.siblings x i).0)
             (raises_fine d s decl fixed group assigns (has_states below) hangs k body hs pc good)),
-        sweep_ends d First (saved w) (λ m. var d (Tag m)) 0 (root w) (gives d (Wire k) (var d (Tag x)) (raises d hangs k body))
-            (sweep_ends d Tag hangs (λ x. lub (var d (Tag x)) (var d (Wire k))) 0 (root w) body (block_ends d sp k (k + 1) b node.closes)),
+        sweep_ends d first_key (saved w) (λ m. var d (tag_key m)) 0 (root w) (gives d (wire_key k) (var d (tag_key x)) (raises d hangs k body))
+            (sweep_ends d tag_key hangs (λ x. lub (var d (tag_key x)) (var d (wire_key k))) 0 (root w) body (block_ends d sp k (k + 1) b node.closes)),
         seat_is_fine d s regs decl.few_children x (seat_name (d.state_name x)) kids below (states.seats x me.declared) node.count shape,
         group_fine kids kids 0 x base (group_names below) fine.0.1 fine.0.1 (λ t h. h) (group_has d kids below shape) (record { declared = me.declared; count = node.count })
             (λ v a. mine v (inr (in_behind (block_wires nd tag (k + 1) b) (group_wires nd tag base kids) v a))) exact.0.1

@@ -4,7 +4,7 @@ use Rattle.std.proofs.lemmas.Bool.{eqb-true}
 use Rattle.sap_meaning.proofs.ProgramLemmas.{memory_no_state, state_no_value}
 use Rattle.sap_maps.specs.Maps.{Name}
 use Rattle.sap_maps.specs.Term.{Term}
-use Rattle.sap_meaning.specs.Program.{World, root, entity, is_dynamic, is_state, is_memory, place, last, below, Goto, Group}
+use Rattle.sap_meaning.specs.Program.{World, root, entity, is_dynamic, is_state, is_memory, place, last, below, go_to, Group}
 use Rattle.sap_meaning.specs.Store.{own, next_whole, Store, put_number, put_level, put_child, lowered, reset, After, stay}
 use Rattle.sap_meaning.specs.Checks.{Spot}
 use Rattle.sap_meaning.specs.Touches.{among}
@@ -12,7 +12,7 @@ use Rattle.sap_meaning.specs.Does.{effect}
 use Rattle.sap_ir.specs.Guarded.{Going}
 use Rattle.sap_ir.specs.Plain.Nested.{Body, stop, goto}
 use Rattle.sap_ir.specs.Plain.Does.{body_does}
-use Rattle.sap_tagged.specs.Keys.{Value, Tag, Seat, Refused, Level, Wire, First}
+use Rattle.sap_tagged.specs.Keys.{value_key, tag_key, seat_key, refused_key, level_key, wire_key, first_key}
 use Rattle.sap_tagged.specs.Setting.{Setting}
 use Rattle.sap_tagged.specs.Levels.{var, bits}
 use Rattle.sap_tagged.specs.Commands.{gives, for_each, resets, effect_of}
@@ -50,11 +50,11 @@ levelled w parent target l s = refl
 module _ (d : Setting) (widths : Name → ℕ) (laws : Lawful d widths) where
   -- a level alone, of a state
   state_put : (g : Going) (s : Store) (x l z : ℕ) → Stands d g s → is_memory d.world x ≡ false → is_value d.world x ≡ false → z ≡ d.code l
-      → Stands d (put_to d g (Tag x) z) (put_level d.world (own x) l s)
+      → Stands d (put_to d g (tag_key x) z) (put_level d.world (own x) l s)
   unfolding put_level put_number
   state_put g s x l z st m v e =
       let r = tag_put d widths laws g s x (s.number (own x)) l z st m v e in
-      stands_changed d (put_to d g (Tag x) z) (put_to d g (Tag x) z) (put_level d.world (own x) l (put_number (own x) (s.number (own x)) s)) (put_level d.world (own x) l s) r
+      stands_changed d (put_to d g (tag_key x) z) (put_to d g (tag_key x) z) (put_level d.world (own x) l (put_number (own x) (s.number (own x)) s)) (put_level d.world (own x) l s) r
       (record { cell = refl; next = refl; first = λ i. refl })
       (record { starts = λ m i. refl; start_tags = λ m i. refl; start_tag = λ m. refl; nexts = λ m i. refl; next_tags = λ m i. refl })
       (λ k h. r.value k h ∙ same k (nat_eq k x) refl) (λ k h. r.tag k h) (λ p h. r.seat p h) r.seated
@@ -75,7 +75,7 @@ module _ (d : Setting) (widths : Name → ℕ) (laws : Lawful d widths) where
   module _ (f : Going → Going) (go : Name → Going → Going) where
     -- the tags of the dynamic states below the target
     empties : (target : ℕ) (g : Going) (s : Store) (rest : Body) → Stands d g s
-        → (g' : Going) × (body_does widths f go (for_each d Tag (resets d.world target) (λ x. bits d d.world.order.bottom) rest) g ≡ body_does widths f go rest g')
+        → (g' : Going) × (body_does widths f go (for_each d tag_key (resets d.world target) (λ x. bits d d.world.order.bottom) rest) g ≡ body_does widths f go rest g')
         × Stands d g' (emptied d.world target s) × ((n : ℕ) → Quiet d n g g')
     unfolding emptied
     empties target g s rest st =
@@ -83,38 +83,38 @@ module _ (d : Setting) (widths : Name → ℕ) (laws : Lawful d widths) where
         let low = d.code d.world.order.bottom in
         let term : ℕ → Term Name = λ x. bits d d.world.order.bottom in
         let h = resets d.world target in
-        let r = swept_is d widths laws Tag (λ y x. refl) h term (λ y z. low) (λ g. Unit {0}) (λ y z g i. tt) (λ y g i e. refl) 0 n g tt in
-        let g' = swept d widths Tag h term 0 n g in (
+        let r = swept_is d widths laws tag_key (λ y x. refl) h term (λ y z. low) (λ g. Unit {0}) (λ y z g i. tt) (λ y g i e. refl) 0 n g tt in
+        let g' = swept d widths tag_key h term 0 n g in (
           g',
-          does_sweep d widths f go Tag h term 0 n rest g,
-          stands_changed d g g' s (emptied d.world target s) st (record { cell = r.memory.0; next = r.memory.1; first = λ m. r.there (First m) (λ y. refl) })
+          does_sweep d widths f go tag_key h term 0 n rest g,
+          stands_changed d g g' s (emptied d.world target s) st (record { cell = r.memory.0; next = r.memory.1; first = λ m. r.there (first_key m) (λ y. refl) })
               (record { starts = λ m i. refl; start_tags = λ m i. refl; start_tag = λ m. refl; nexts = λ m i. refl; next_tags = λ m i. refl })
-              (λ k q. r.there (Value k) (λ y. refl) ∙ st.value k q)
+              (λ k q. r.there (value_key k) (λ y. refl) ∙ st.value k q)
               (λ k q. r.here k ∙ new k q (h k) ∙ ap (λ (b : Bool). d.code (if b then d.world.order.bottom else s.level (tag_slot d.world k))) (sym (lowered_is target k)))
-              (λ p q. r.there (Seat p) (λ y. refl) ∙ st.seat p q) st.seated,
-          λ i. record { kept = λ j l. r.there (Wire j) (λ y. refl); refused = λ n. r.there (Refused n) (λ y. refl); levels = λ n. r.there (Level n) (λ y. refl) },
+              (λ p q. r.there (seat_key p) (λ y. refl) ∙ st.seat p q) st.seated,
+          λ i. record { kept = λ j l. r.there (wire_key j) (λ y. refl); refused = λ n. r.there (refused_key n) (λ y. refl); levels = λ n. r.there (level_key n) (λ y. refl) },
         )
       where
         new : (k : ℕ) → has_tag d.world k ≡ true → (b : Bool)
-            → (if b && between 0 (root d.world) k then d.code d.world.order.bottom else at d g (Tag k)) ≡ d.code (if b then d.world.order.bottom else s.level (tag_slot d.world k))
-        new k q true = ap (λ (b : Bool). if b then d.code d.world.order.bottom else at d g (Tag k)) (within_all k (root d.world) (tagged_within d.world k q))
+            → (if b && between 0 (root d.world) k then d.code d.world.order.bottom else at d g (tag_key k)) ≡ d.code (if b then d.world.order.bottom else s.level (tag_slot d.world k))
+        new k q true = ap (λ (b : Bool). if b then d.code d.world.order.bottom else at d g (tag_key k)) (within_all k (root d.world) (tagged_within d.world k q))
         new k q false = st.tag k q
 
     -- the target's tag, if it is dynamic, and the seats
     arrives : (q : Group) (parent k free target l : ℕ) (g g1 : Going) (s : Store) → GoesRun d go parent q → among q target ≡ true
         → is_memory d.world target ≡ false → is_value d.world target ≡ false → Stands d g1 (emptied d.world target s)
-        → ((n : ℕ) → Quiet d n g g1) → at d g (Wire (k + 3)) ≡ d.code l → (b : Bool)
+        → ((n : ℕ) → Quiet d n g g1) → at d g (wire_key (k + 3)) ≡ d.code l → (b : Bool)
         → Turns d free g
-        (body_does widths f go (if b then gives d (Tag target) (var d (Wire (k + 3))) (goto (d.state_name target) stop) else goto (d.state_name target) stop) g1)
+        (body_does widths f go (if b then gives d (tag_key target) (var d (wire_key (k + 3))) (goto (d.state_name target) stop) else goto (d.state_name target) stop) g1)
         (stay (if b then put_level d.world (own target) l (reset d.world target (put_child parent (place d.world target) s)) else reset d.world target (put_child parent (place d.world target) s)))
     arrives q parent k free target l g g1 s goes i m v st quiet new true =
-        let z = at d g1 (Wire (k + 3)) in
-        let g2 = put_to d g1 (Tag target) z in
+        let z = at d g1 (wire_key (k + 3)) in
+        let g2 = put_to d g1 (tag_key target) z in
         let s2 = put_level d.world (own target) l (emptied d.world target s) in
         let st2 : Stands d g2 s2 = state_put g1 (emptied d.world target s) target l z st m v ((quiet (k + 4)).kept (k + 3) (omega arith) ∙ new) in
         let r = goes target i g2 s2 st2 in
         let g3 = go (d.state_name target) g2 in
-        rw (does_gives d widths f go g1 (Tag target) (var d (Wire (k + 3))) (goto (d.state_name target) stop))
+        rw (does_gives d widths f go g1 (tag_key target) (var d (wire_key (k + 3))) (goto (d.state_name target) stop))
         (turns_stay d free g g3 _
         (quiet_next d free g g1 g3 (quiet free) (quiet_next d free g1 g2 g3 (quiet_tag d widths laws free target g1 z) (r.1 free)))
         (subst (λ (t : Store). Stands d g3 t) (levelled d.world parent target l s) r.0))
@@ -125,12 +125,12 @@ module _ (d : Setting) (widths : Name → ℕ) (laws : Lawful d widths) where
         (subst (λ (t : Store). Stands d g3 t) (goes_apart d.world parent target s) r.0)
 
     pub goto_effect : (enter : ℕ → ℕ → Store → After) (q : Group) (k free : ℕ) (sp : Spot) (site target l : ℕ) (b r : Store) (g : Going) → GoesRun d go sp.parent q
-        → among q target ≡ true → is_state d.world target ≡ true → is_memory d.world target ≡ false → Stands d g r → at d g (Wire (k + 3)) ≡ d.code l
-        → Turns d free g (body_does widths f go (effect_of d sp k (Goto site target)) g) (effect d.world sp enter (Goto site target) l b r)
+        → among q target ≡ true → is_state d.world target ≡ true → is_memory d.world target ≡ false → Stands d g r → at d g (wire_key (k + 3)) ≡ d.code l
+        → Turns d free g (body_does widths f go (effect_of d sp k (go_to site target)) g) (effect d.world sp enter (go_to site target) l b r)
     unfolding effect
     goto_effect enter q k free sp site target l b r g goes i state m st new =
         let end : Body =
-        if is_dynamic d.world target then gives d (Tag target) (var d (Wire (k + 3))) (goto (d.state_name target) stop) else goto (d.state_name target) stop in
+        if is_dynamic d.world target then gives d (tag_key target) (var d (wire_key (k + 3))) (goto (d.state_name target) stop) else goto (d.state_name target) stop in
         let e = empties target g r end st in
         rw e.1
         (arrives q sp.parent k free target l g e.0 r goes i m (state_no_value (entity d.world target).kind state) e.2 e.3 new (is_dynamic d.world target))

@@ -5,7 +5,7 @@ use Rattle.std.proofs.lemmas.Grind.{common_steps}
 use Rattle.sap_lemmas.proofs.Bools.{or_other, true_is_not_false}
 use Rattle.sap_lemmas.proofs.Numbers.{test_symmetric}
 use Rattle.sap_maps.specs.Maps.{Name}
-use Rattle.sap_meaning.specs.Program.{World, root, is_state, is_memory, children, place, last, below, Block, State, Node, Group, None, More}
+use Rattle.sap_meaning.specs.Program.{World, root, is_state, is_memory, children, place, last, below, Block, State, state_node, Group, no_node, and_node}
 use Rattle.sap_meaning.specs.Store.{child}
 use Rattle.sap_meaning.specs.Touches.{among}
 use Rattle.sap_meaning.specs.Fine.{FineNode, FineGroup, inside, size}
@@ -14,7 +14,7 @@ use Rattle.sap_ir.specs.Guarded.{Going}
 use Rattle.sap_ir.specs.Plain.Nested.{Body, Forest, none, state, seat_name, root_seat}
 use Rattle.sap_ir.specs.Plain.Nested as nested
 use Rattle.sap_ir.specs.Plain.Does.{put_value, first_child, restart, enter}
-use Rattle.sap_tagged.specs.Keys.{Key, Value, Tag, Seat, Refused, Level, Wire, First, same}
+use Rattle.sap_tagged.specs.Keys.{Key, value_key, tag_key, seat_key, refused_key, level_key, wire_key, first_key, same}
 use Rattle.sap_tagged.specs.Setting.{Setting}
 use Rattle.sap_tagged.specs.Stands.{Lawful, at}
 use Rattle.sap_tagged.proofs.Bools.{tagged, kept_no_memory}
@@ -25,24 +25,24 @@ use Rattle.sap_tagged.proofs.Gotos.{moved, GoesRun}
 -- the names of states
 pub record LawfulStates (d : Setting) : Type 0 where
   pub apart : (s t : ℕ) → nat_lt s (root d.world) ≡ true → nat_lt t (root d.world) ≡ true → bytes_eq (d.state_name s) (d.state_name t) ≡ nat_eq s t
-  pub seats : (s : ℕ) → nat_lt s (root d.world) ≡ true → seat_name (d.state_name s) ≡ d.name (Seat s)
-  pub root_seat : root_seat ≡ d.name (Seat (root d.world))
+  pub seats : (s : ℕ) → nat_lt s (root d.world) ≡ true → seat_name (d.state_name s) ≡ d.name (seat_key s)
+  pub root_seat : root_seat ≡ d.name (seat_key (root d.world))
 
 -- a forest with the states of a group, and of the groups below them
 abbrev pub Shaped : Setting → Group → Forest → Type 0
-Shaped d None none = Unit {0}
-Shaped d None (state x b kids rest) = ⊥
-Shaped d (More t g) none = ⊥
-Shaped d (More (Node s c k) g) (state x b kids rest) = (x ≡ d.state_name s) × Shaped d k kids × Shaped d g rest
+Shaped d no_node none = Unit {0}
+Shaped d no_node (state x b kids rest) = ⊥
+Shaped d (and_node t g) none = ⊥
+Shaped d (and_node (state_node s c k) g) (state x b kids rest) = (x ≡ d.state_name s) × Shaped d k kids × Shaped d g rest
 
 -- what has a seat and is below a state stands in its children
 abbrev mutual
   pub TidyState : World → State → Type 0
-  TidyState w (Node s b g) = ((p : ℕ) → below w s p ≡ true → 0 < children w p → inside g p ≡ true) × Tidy w g
+  TidyState w (state_node s b g) = ((p : ℕ) → below w s p ≡ true → 0 < children w p → inside g p ≡ true) × Tidy w g
 
   pub Tidy : World → Group → Type 0
-  Tidy w None = Unit {0}
-  Tidy w (More t g) = TidyState w t × Tidy w g
+  Tidy w no_node = Unit {0}
+  Tidy w (and_node t g) = TidyState w t × Tidy w g
 
 -- a state of a group
 pub record IsState (w : World) (t : ℕ) : Type 0 where
@@ -59,8 +59,8 @@ pub node_state : (w : World) (q : Group) (n s : ℕ) (b : Block) (g : Group) →
 node_state w q n s b g f = record { kind = f.kind; declared = lt_test s (last w s) (root w) f.itself f.declared }
 
 pub group_states : (w : World) (q : Group) (n : ℕ) (g : Group) → FineGroup w q n g → (t : ℕ) → among g t ≡ true → IsState w t
-group_states w q n None f t h = absurd (true_is_not_false (sym h))
-group_states w q n (More (Node s b k) g) f t h = elim (cases_Bool (nat_eq t s)) [
+group_states w q n no_node f t h = absurd (true_is_not_false (sym h))
+group_states w q n (and_node (state_node s b k) g) f t h = elim (cases_Bool (nat_eq t s)) [
   | inl e ↦ subst (λ (x : ℕ). IsState w x) (sym (eqb-true t s e)) (node_state w q n s b k f.0.0)
   | inr e ↦ group_states w q (suc n) g f.1 t (or_other (nat_eq t s) (among g t) h e)
 ]
@@ -70,14 +70,14 @@ group_tagged w q n g f t h = let i = group_states w q n g f t h in let m = no_me
 
 -- the seats that become 0, where nothing else changes
 pub record Restarted (d : Setting) (picks : ℕ → Bool) (g g' : Going) : Type 0 where
-  pub seats : (p : ℕ) → 0 < children d.world p → at d g' (Seat p) ≡ (if picks p then 0 else at d g (Seat p))
-  pub there : (a : Key) → ((p : ℕ) → same a (Seat p) ≡ false) → at d g' a ≡ at d g a
+  pub seats : (p : ℕ) → 0 < children d.world p → at d g' (seat_key p) ≡ (if picks p then 0 else at d g (seat_key p))
+  pub there : (a : Key) → ((p : ℕ) → same a (seat_key p) ≡ false) → at d g' a ≡ at d g a
   pub cell : g'.now.cell ≡ g.now.cell
   pub next : g'.next ≡ g.next
 
 restarted_none : (d : Setting) (g : Going) (picks : ℕ → Bool) → ((p : ℕ) → 0 < children d.world p → picks p ≡ false) → Restarted d picks g g
 restarted_none d g picks f = record {
-  seats = λ p h. ap (λ (b : Bool). if b then 0 else at d g (Seat p)) (sym (f p h));
+  seats = λ p h. ap (λ (b : Bool). if b then 0 else at d g (seat_key p)) (sym (f p h));
   there = λ a n. refl;
   cell = refl;
   next = refl;
@@ -86,8 +86,8 @@ restarted_none d g picks f = record {
 restarted_next : (d : Setting) (p1 p2 picks : ℕ → Bool) (g g1 g2 : Going) → ((p : ℕ) → picks p ≡ (p1 p || p2 p)) → Restarted d p1 g g1 → Restarted d p2 g1 g2 → Restarted d picks g g2
 restarted_next d p1 p2 picks g g1 g2 e a b = record {
   seats = λ p h.
-      b.seats p h ∙ ap (λ (v : ℕ). if p2 p then 0 else v) (a.seats p h) ∙ merged (p1 p) (p2 p) (at d g (Seat p))
-      ∙ ap (λ (c : Bool). if c then 0 else at d g (Seat p)) (sym (e p));
+      b.seats p h ∙ ap (λ (v : ℕ). if p2 p then 0 else v) (a.seats p h) ∙ merged (p1 p) (p2 p) (at d g (seat_key p))
+      ∙ ap (λ (c : Bool). if c then 0 else at d g (seat_key p)) (sym (e p));
   there = λ k n. b.there k n ∙ a.there k n;
   cell = b.cell ∙ a.cell;
   next = b.next ∙ a.next;
@@ -103,31 +103,31 @@ module _ (d : Setting) (widths : Name → ℕ) (laws : Lawful d widths) (names :
   unfolding put_to
   put_is g x a n e = ap (λ (y : Name). put_value g y n) e
 
-  one_seat : (g : Going) (s : ℕ) → Restarted d (λ p. nat_eq p s) g (put_to d g (Seat s) 0)
+  one_seat : (g : Going) (s : ℕ) → Restarted d (λ p. nat_eq p s) g (put_to d g (seat_key s) 0)
   one_seat g s = record {
-    seats = λ p h. at_put d widths laws g (Seat s) (Seat p) 0;
-    there = λ a n. at_put d widths laws g (Seat s) a 0 ∙ ap (λ (b : Bool). if b then 0 else at d g a) (n s);
-    cell = (memory_put d g (Seat s) 0).0;
-    next = (memory_put d g (Seat s) 0).1;
+    seats = λ p h. at_put d widths laws g (seat_key s) (seat_key p) 0;
+    there = λ a n. at_put d widths laws g (seat_key s) a 0 ∙ ap (λ (b : Bool). if b then 0 else at d g a) (n s);
+    cell = (memory_put d g (seat_key s) 0).0;
+    next = (memory_put d g (seat_key s) 0).1;
   }
 
   first_child_is : (s : ℕ) (x : Name) (k : Group) (kids : Forest) (g : Going) → nat_lt s (root d.world) ≡ true → x ≡ d.state_name s → children d.world s ≡ size k → Shaped d k kids
       → Restarted d (λ p. nat_eq p s) g (first_child x kids g)
-  first_child_is s x None none g l e c h =
+  first_child_is s x no_node none g l e c h =
       restarted_none d g (λ p. nat_eq p s) (λ p i. false_from_ne_true (nat_eq p s) (λ q. no_child p i (eqb-true p s q)))
     where
       no_child : (p : ℕ) → 0 < children d.world p → p ≡ s → ⊥
       no_child p i q = let z : children d.world p ≡ 0 = ap (children d.world) q ∙ c in omega (arith, i, z)
-  first_child_is s x None (state y b kids rest) g l e c h = absurd h
-  first_child_is s x (More t k) none g l e c h = absurd h
-  first_child_is s x (More (Node u i k) r) (state y b kids rest) g l e c h =
-      subst (λ (z : Going). Restarted d (λ p. nat_eq p s) g z) (sym (put_is g (seat_name x) (Seat s) 0 (ap seat_name e ∙ names.seats s l))) (one_seat g s)
+  first_child_is s x no_node (state y b kids rest) g l e c h = absurd h
+  first_child_is s x (and_node t k) none g l e c h = absurd h
+  first_child_is s x (and_node (state_node u i k) r) (state y b kids rest) g l e c h =
+      subst (λ (z : Going). Restarted d (λ p. nat_eq p s) g z) (sym (put_is g (seat_name x) (seat_key s) 0 (ap seat_name e ∙ names.seats s l))) (one_seat g s)
 
   pub restart_is : (q : Group) (n : ℕ) (k : Group) (kids : Forest) → FineGroup d.world q n k → Shaped d k kids → (g : Going) → Restarted d (inside k) g (restart kids g)
-  restart_is q n None none f h g = restarted_none d g (λ p. false) (λ p i. refl)
-  restart_is q n None (state y b kids rest) f h g = absurd h
-  restart_is q n (More t k) none f h g = absurd h
-  restart_is q n (More (Node s c k) r) (state y b kids rest) f h g =
+  restart_is q n no_node none f h g = restarted_none d g (λ p. false) (λ p i. refl)
+  restart_is q n no_node (state y b kids rest) f h g = absurd h
+  restart_is q n (and_node t k) none f h g = absurd h
+  restart_is q n (and_node (state_node s c k) r) (state y b kids rest) f h g =
       let i = node_state d.world q n s c k f.0.0 in
       let g1 = first_child y kids g in
       let g2 = restart kids g1 in
@@ -156,7 +156,7 @@ module _ (d : Setting) (widths : Name → ℕ) (laws : Lawful d widths) (names :
   same_tests false true f g = g refl
   same_tests false false f g = refl
 
-  found_here : (q : Group) (n s : ℕ) (b : Block) (k : Group) (x : Name) (body : Body) (kids rest : Forest) → FineNode d.world q n s b k → FineGroup d.world k 0 k → TidyState d.world (Node s b k)
+  found_here : (q : Group) (n s : ℕ) (b : Block) (k : Group) (x : Name) (body : Body) (kids rest : Forest) → FineNode d.world q n s b k → FineGroup d.world k 0 k → TidyState d.world (state_node s b k)
       → x ≡ d.state_name s → Shaped d k kids → Found s n (state x body kids rest)
   found_here q n s b k x body kids rest f g tidy e h =
       let i = node_state d.world q n s b k f in
@@ -171,10 +171,10 @@ module _ (d : Setting) (widths : Name → ℕ) (laws : Lawful d widths) (names :
       }
 
   pub found : (q : Group) (n : ℕ) (g : Group) (forest : Forest) → FineGroup d.world q n g → Tidy d.world g → Shaped d g forest → (target : ℕ) → among g target ≡ true → Found target n forest
-  found q n None none f t h target i = absurd (true_is_not_false (sym i))
-  found q n None (state y b kids rest) f t h target i = absurd h
-  found q n (More s g) none f t h target i = absurd h
-  found q n (More (Node s c k) g) (state x b kids rest) f t h target i = elim (cases_Bool (nat_eq target s)) [
+  found q n no_node none f t h target i = absurd (true_is_not_false (sym i))
+  found q n no_node (state y b kids rest) f t h target i = absurd h
+  found q n (and_node s g) none f t h target i = absurd h
+  found q n (and_node (state_node s c k) g) (state x b kids rest) f t h target i = elim (cases_Bool (nat_eq target s)) [
     | inl e ↦
         subst (λ (z : ℕ). Found z n (state x b kids rest)) (sym (eqb-true target s e))
         (found_here q n s c k x b kids rest f.0.0 f.0.1 t.0 h.0 h.1)
@@ -201,7 +201,7 @@ module _ (d : Setting) (widths : Name → ℕ) (laws : Lawful d widths) (names :
       after n m = omega arith
 
   -- a goto among the states of a group
-  pub goes_run : (parent : ℕ) (seat : Name) (q : Group) (forest : Forest) → seat ≡ d.name (Seat parent) → children d.world parent ≡ size q → FineGroup d.world q 0 q → Tidy d.world q
+  pub goes_run : (parent : ℕ) (seat : Name) (q : Group) (forest : Forest) → seat ≡ d.name (seat_key parent) → children d.world parent ≡ size q → FineGroup d.world q 0 q → Tidy d.world q
       → Shaped d q forest → GoesRun d (enter seat forest) parent q
   unfolding moved
   goes_run parent seat q forest e count f t h target i g s st =
@@ -213,29 +213,29 @@ module _ (d : Setting) (widths : Name → ℕ) (laws : Lawful d widths) (names :
       let g1 = put_value g seat n in
       let g2 = first_child x kids g1 in
       let g3 = restart kids g2 in
-      let e1 : g1 ≡ put_to d g (Seat parent) n = put_is g seat (Seat parent) n e in
+      let e1 : g1 ≡ put_to d g (seat_key parent) n = put_is g seat (seat_key parent) n e in
       let a = first_child_is target x r.kids kids g1 it.declared refl r.count r.shaped in
       let b = restart_is r.kids 0 r.kids kids r.fine r.shaped g2 in
-      let first : (k : Key) → at d g1 k ≡ (if same k (Seat parent) then n else at d g k) = λ k. ap (λ (z : Going). at d z k) e1 ∙ at_put d widths laws g (Seat parent) k n in
-      let there : (k : Key) → ((p : ℕ) → same k (Seat p) ≡ false) → at d g3 k ≡ at d g k =
+      let first : (k : Key) → at d g1 k ≡ (if same k (seat_key parent) then n else at d g k) = λ k. ap (λ (z : Going). at d z k) e1 ∙ at_put d widths laws g (seat_key parent) k n in
+      let there : (k : Key) → ((p : ℕ) → same k (seat_key p) ≡ false) → at d g3 k ≡ at d g k =
       λ k no. b.there k no ∙ a.there k no ∙ first k ∙ ap (λ (c : Bool). if c then n else at d g k) (no parent) in (
         stands_changed d g g3 s (moved d.world parent target s) st
             (record {
-              cell = b.cell ∙ a.cell ∙ ap (λ (z : Going). z.now.cell) e1 ∙ (memory_put d g (Seat parent) n).0;
-              next = b.next ∙ a.next ∙ ap (λ (z : Going). z.next) e1 ∙ (memory_put d g (Seat parent) n).1;
-              first = λ m. there (First m) (λ p. refl);
+              cell = b.cell ∙ a.cell ∙ ap (λ (z : Going). z.now.cell) e1 ∙ (memory_put d g (seat_key parent) n).0;
+              next = b.next ∙ a.next ∙ ap (λ (z : Going). z.next) e1 ∙ (memory_put d g (seat_key parent) n).1;
+              first = λ m. there (first_key m) (λ p. refl);
             })
             (record { starts = λ m i. refl; start_tags = λ m i. refl; start_tag = λ m. refl; nexts = λ m i. refl; next_tags = λ m i. refl })
-            (λ k c. there (Value k) (λ p. refl) ∙ st.value k c)
-            (λ k c. there (Tag k) (λ p. refl) ∙ st.tag k c)
+            (λ k c. there (value_key k) (λ p. refl) ∙ st.value k c)
+            (λ k c. there (tag_key k) (λ p. refl) ∙ st.tag k c)
             (λ p c.
-            b.seats p c ∙ ap (λ (v : ℕ). if inside r.kids p then 0 else v) (a.seats p c ∙ ap (λ (v : ℕ). if nat_eq p target then 0 else v) (first (Seat p)))
-            ∙ ap (λ (q : Bool). if q then 0 else (if nat_eq p target then 0 else (if nat_eq p parent then n else at d g (Seat p)))) (r.here p c)
-            ∙ swapped (below d.world target p) (nat_eq p target) (if nat_eq p parent then n else at d g (Seat p))
-            ∙ ap (λ (v : ℕ). if nat_eq p target then 0 else (if below d.world target p then 0 else (if nat_eq p parent then v else at d g (Seat p)))) (at_zero n ∙ r.placed)
+            b.seats p c ∙ ap (λ (v : ℕ). if inside r.kids p then 0 else v) (a.seats p c ∙ ap (λ (v : ℕ). if nat_eq p target then 0 else v) (first (seat_key p)))
+            ∙ ap (λ (q : Bool). if q then 0 else (if nat_eq p target then 0 else (if nat_eq p parent then n else at d g (seat_key p)))) (r.here p c)
+            ∙ swapped (below d.world target p) (nat_eq p target) (if nat_eq p parent then n else at d g (seat_key p))
+            ∙ ap (λ (v : ℕ). if nat_eq p target then 0 else (if below d.world target p then 0 else (if nat_eq p parent then v else at d g (seat_key p)))) (at_zero n ∙ r.placed)
             ∙ ap (λ (v : ℕ). if nat_eq p target then 0 else (if below d.world target p then 0 else (if nat_eq p parent then place d.world target else v))) (st.seat p c))
             (λ p c. seated p c (nat_eq p target) (below d.world target p) (nat_eq p parent) refl),
-        λ k. record { kept = λ j l. there (Wire j) (λ p. refl); refused = λ m. there (Refused m) (λ p. refl); levels = λ m. there (Level m) (λ p. refl) },
+        λ k. record { kept = λ j l. there (wire_key j) (λ p. refl); refused = λ m. there (refused_key m) (λ p. refl); levels = λ m. there (level_key m) (λ p. refl) },
       )
     where
       swapped : (a b : Bool) (v : ℕ) → (if a then 0 else (if b then 0 else v)) ≡ (if b then 0 else (if a then 0 else v))

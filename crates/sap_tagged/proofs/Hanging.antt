@@ -2,7 +2,7 @@
 use Rattle.std.proofs.Common.{◌≡◌, ℕ, suc, Bool, true, false, ◌||◌, List, refl, sym, ◌∙◌, subst, nat_lt, nat_eq, inl, inr}
 use Rattle.std.proofs.lemmas.Bool.{cases_Bool, eqb-true, and_parts}
 use Rattle.sap_lemmas.proofs.Bools.{true_is_not_false}
-use Rattle.sap_meaning.specs.Program.{World, Kind, entity, root, is_dynamic, is_input, is_memory, is_register, is_state, listed, Step, Set, Write, Retag, RetagCell, Goto, Fall, Command, Do, Try, If, TryThen, Case, Arms, Last, Arm, Block, End, Then, State, Node, Group, None, More, kind_is_input, kind_is_register, kind_is_memory, kind_is_state}
+use Rattle.sap_meaning.specs.Program.{World, Kind, entity, root, is_dynamic, is_input, is_memory, is_register, is_state, listed, Step, assign, write, retag, retag_cell, go_to, fall_to_child, Command, lone, try, if_else, try_then, case_of, Arms, last_arm, and_arm, Block, end_block, command_then, State, state_node, Group, no_node, and_node, kind_is_input, kind_is_register, kind_is_memory, kind_is_state}
 use Rattle.sap_meaning.specs.Program as program
 use Rattle.sap_meaning.specs.Checks.{Spot}
 use Rattle.sap_meaning.specs.Touches.{step_assigns, assigns, arms_assign, block_assigns, group_assigns, among, step_hangs, hangs, arms_hang, block_hangs, touches, root_touches}
@@ -54,63 +54,63 @@ moved w x y e c = subst (CanHang w) (sym (eqb-true x y e)) c
 module _ (w : World) (x : ℕ) where
   module _ (q g : Group) where
     step_assigned : (k : Step) → FineStep w q g k → step_assigns k x ≡ true → CanHang w x
-    step_assigned (Set site y e) f h = moved w x y h (register_can w y f.0)
-    step_assigned (Write site m i e) f h = moved w x m h (memory_can w m f.0)
-    step_assigned (Retag site y n) f h = absurd (true_is_not_false (sym h))
-    step_assigned (RetagCell site m j n) f h = absurd (true_is_not_false (sym h))
-    step_assigned (Goto site target) f h = absurd (true_is_not_false (sym h))
-    step_assigned (Fall site hang) f h = absurd (true_is_not_false (sym h))
+    step_assigned (assign site y e) f h = moved w x y h (register_can w y f.0)
+    step_assigned (write site m i e) f h = moved w x m h (memory_can w m f.0)
+    step_assigned (retag site y n) f h = absurd (true_is_not_false (sym h))
+    step_assigned (retag_cell site m j n) f h = absurd (true_is_not_false (sym h))
+    step_assigned (go_to site target) f h = absurd (true_is_not_false (sym h))
+    step_assigned (fall_to_child site hang) f h = absurd (true_is_not_false (sym h))
 
     mutual
       assigned : (c : Command) → FineCommand w q g c → assigns c x ≡ true → CanHang w x
-      assigned (Do k) f h = step_assigned k f h
-      assigned (Try k hang b) f h = either (step_assigns k x) (block_assigns b x) h (step_assigned k f.0) (block_assigned b f.1)
-      assigned (If hang e a b) f h = either (block_assigns a x) (block_assigns b x) h (block_assigned a f.1) (block_assigned b f.2)
-      assigned (TryThen k hang a b) f h =
+      assigned (lone k) f h = step_assigned k f h
+      assigned (try k hang b) f h = either (step_assigns k x) (block_assigns b x) h (step_assigned k f.0) (block_assigned b f.1)
+      assigned (if_else hang e a b) f h = either (block_assigns a x) (block_assigns b x) h (block_assigned a f.1) (block_assigned b f.2)
+      assigned (try_then k hang a b) f h =
           either (step_assigns k x) (block_assigns a x || block_assigns b x) h (step_assigned k f.0)
           (λ i. either (block_assigns a x) (block_assigns b x) i (block_assigned a f.1) (block_assigned b f.2))
-      assigned (Case hang e arms) f h = arms_assigned arms f.1 h
+      assigned (case_of hang e arms) f h = arms_assigned arms f.1 h
 
       arms_assigned : (arms : Arms) → FineArms w q g arms → arms_assign arms x ≡ true → CanHang w x
-      arms_assigned (Last b) f h = block_assigned b f h
-      arms_assigned (Arm constants b arms) f h = either (block_assigns b x) (arms_assign arms x) h (block_assigned b f.0) (arms_assigned arms f.1)
+      arms_assigned (last_arm b) f h = block_assigned b f h
+      arms_assigned (and_arm constants b arms) f h = either (block_assigns b x) (arms_assign arms x) h (block_assigned b f.0) (arms_assigned arms f.1)
 
       block_assigned : (b : Block) → FineBlock w q g b → block_assigns b x ≡ true → CanHang w x
-      block_assigned End f h = absurd (true_is_not_false (sym h))
-      block_assigned (Then c cs) f h = either (assigns c x) (block_assigns cs x) h (assigned c f.0) (block_assigned cs f.1)
+      block_assigned end_block f h = absurd (true_is_not_false (sym h))
+      block_assigned (command_then c cs) f h = either (assigns c x) (block_assigns cs x) h (assigned c f.0) (block_assigned cs f.1)
 
   group_assigned : (q : Group) (n : ℕ) (g : Group) → FineGroup w q n g → group_assigns g x ≡ true → CanHang w x
-  group_assigned q n None f h = absurd (true_is_not_false (sym h))
-  group_assigned q n (More (Node s b k) g) f h =
+  group_assigned q n no_node f h = absurd (true_is_not_false (sym h))
+  group_assigned q n (and_node (state_node s b k) g) f h =
       either (block_assigns b x || group_assigns k x) (group_assigns g x) h
       (λ i. either (block_assigns b x) (group_assigns k x) i (block_assigned q k b f.0.0.steps) (group_assigned k 0 k f.0.1)) (group_assigned q (suc n) g f.1)
 
   module _ (q : Group) (s : ℕ) (g : Group) (here : IsState w s) (kids : FineGroup w g 0 g) where
     step_hung : (k : Step) → FineStep w q g k → step_hangs s g k x ≡ true → CanHang w x
-    step_hung (Set site y e) f h = moved w x y h (register_can w y f.0)
-    step_hung (Write site m i e) f h = moved w x m h (memory_can w m f.0)
-    step_hung (Retag site y n) f h = absurd (true_is_not_false (sym h))
-    step_hung (RetagCell site m j n) f h = absurd (true_is_not_false (sym h))
-    step_hung (Goto site target) f h = moved w x s h (state_can w s here)
-    step_hung (Fall site hang) f h = either (among g x) (group_assigns g x) h (λ i. state_can w x (group_states w g 0 g kids x i)) (group_assigned g 0 g kids)
+    step_hung (assign site y e) f h = moved w x y h (register_can w y f.0)
+    step_hung (write site m i e) f h = moved w x m h (memory_can w m f.0)
+    step_hung (retag site y n) f h = absurd (true_is_not_false (sym h))
+    step_hung (retag_cell site m j n) f h = absurd (true_is_not_false (sym h))
+    step_hung (go_to site target) f h = moved w x s h (state_can w s here)
+    step_hung (fall_to_child site hang) f h = either (among g x) (group_assigns g x) h (λ i. state_can w x (group_states w g 0 g kids x i)) (group_assigned g 0 g kids)
 
     mutual
       hung : (c : Command) → FineCommand w q g c → hangs s g c x ≡ true → CanHang w x
-      hung (Do k) f h = step_hung k f h
-      hung (Try k hang b) f h = either (step_hangs s g k x) (block_hangs s g b x) h (step_hung k f.0) (block_hung b f.1)
-      hung (If hang e a b) f h = either (block_hangs s g a x) (block_hangs s g b x) h (block_hung a f.1) (block_hung b f.2)
-      hung (TryThen k hang a b) f h =
+      hung (lone k) f h = step_hung k f h
+      hung (try k hang b) f h = either (step_hangs s g k x) (block_hangs s g b x) h (step_hung k f.0) (block_hung b f.1)
+      hung (if_else hang e a b) f h = either (block_hangs s g a x) (block_hangs s g b x) h (block_hung a f.1) (block_hung b f.2)
+      hung (try_then k hang a b) f h =
           either (step_hangs s g k x) (block_hangs s g a x || block_hangs s g b x) h (step_hung k f.0)
           (λ i. either (block_hangs s g a x) (block_hangs s g b x) i (block_hung a f.1) (block_hung b f.2))
-      hung (Case hang e arms) f h = arms_hung arms f.1 h
+      hung (case_of hang e arms) f h = arms_hung arms f.1 h
 
       arms_hung : (arms : Arms) → FineArms w q g arms → arms_hang s g arms x ≡ true → CanHang w x
-      arms_hung (Last b) f h = block_hung b f h
-      arms_hung (Arm constants b arms) f h = either (block_hangs s g b x) (arms_hang s g arms x) h (block_hung b f.0) (arms_hung arms f.1)
+      arms_hung (last_arm b) f h = block_hung b f h
+      arms_hung (and_arm constants b arms) f h = either (block_hangs s g b x) (arms_hang s g arms x) h (block_hung b f.0) (arms_hung arms f.1)
 
       block_hung : (b : Block) → FineBlock w q g b → block_hangs s g b x ≡ true → CanHang w x
-      block_hung End f h = absurd (true_is_not_false (sym h))
-      block_hung (Then c cs) f h = either (hangs s g c x) (block_hangs s g cs x) h (hung c f.0) (block_hung cs f.1)
+      block_hung end_block f h = absurd (true_is_not_false (sym h))
+      block_hung (command_then c cs) f h = either (hangs s g c x) (block_hangs s g cs x) h (hung c f.0) (block_hung cs f.1)
 
 -- a dynamic entity that can hang has a tag
 dynamic_tag : (w : World) (x : ℕ) → is_dynamic w x ≡ true → CanHang w x → has_tag w x ≡ true × (is_input w x ≡ false)
@@ -129,28 +129,28 @@ module _ (w : World) (q : Group) (sp : Spot) (here : IsState w sp.state) (kids :
   exact_hangs c list f e x h = touched c f x (sym (e x) ∙ h)
 
   alone_hangs : (k : Step) → FineStep w q sp.children k → ExactStep w sp k → Hangs w (listed_alone w sp k)
-  alone_hangs (Set site y e) f i x h = absurd (true_is_not_false (sym h))
-  alone_hangs (Write site m j e) f i x h = absurd (true_is_not_false (sym h))
-  alone_hangs (Retag site y n) f i x h = absurd (true_is_not_false (sym h))
-  alone_hangs (RetagCell site m j n) f i x h = absurd (true_is_not_false (sym h))
-  alone_hangs (Goto site target) f i x h = touched (Do (Goto site target)) f x h
-  alone_hangs (Fall site hang) f i x h = exact_hangs (Do (Fall site hang)) hang f i x h
+  alone_hangs (assign site y e) f i x h = absurd (true_is_not_false (sym h))
+  alone_hangs (write site m j e) f i x h = absurd (true_is_not_false (sym h))
+  alone_hangs (retag site y n) f i x h = absurd (true_is_not_false (sym h))
+  alone_hangs (retag_cell site m j n) f i x h = absurd (true_is_not_false (sym h))
+  alone_hangs (go_to site target) f i x h = touched (lone (go_to site target)) f x h
+  alone_hangs (fall_to_child site hang) f i x h = exact_hangs (lone (fall_to_child site hang)) hang f i x h
 
   mutual
     command_hangs : (c : Command) → FineCommand w q sp.children c → Exact w sp c → CommandHangs w sp c
-    command_hangs (Do k) f e = alone_hangs k f e
-    command_hangs (Try k hang b) f e = (exact_hangs (Try k hang b) hang f e.0, body_hangs b f.1 e.1)
-    command_hangs (If hang e a b) f i = (exact_hangs (If hang e a b) hang f i.0, body_hangs a f.1 i.1, body_hangs b f.2 i.2)
-    command_hangs (TryThen k hang a b) f i = (exact_hangs (TryThen k hang a b) hang f i.0, body_hangs a f.1 i.1, body_hangs b f.2 i.2)
-    command_hangs (Case hang e arms) f i = (exact_hangs (Case hang e arms) hang f i.0, arms_hangs arms f.1 i.1)
+    command_hangs (lone k) f e = alone_hangs k f e
+    command_hangs (try k hang b) f e = (exact_hangs (try k hang b) hang f e.0, body_hangs b f.1 e.1)
+    command_hangs (if_else hang e a b) f i = (exact_hangs (if_else hang e a b) hang f i.0, body_hangs a f.1 i.1, body_hangs b f.2 i.2)
+    command_hangs (try_then k hang a b) f i = (exact_hangs (try_then k hang a b) hang f i.0, body_hangs a f.1 i.1, body_hangs b f.2 i.2)
+    command_hangs (case_of hang e arms) f i = (exact_hangs (case_of hang e arms) hang f i.0, arms_hangs arms f.1 i.1)
 
     arms_hangs : (arms : Arms) → FineArms w q sp.children arms → ExactArms w sp arms → ArmsHang w sp arms
-    arms_hangs (Last b) f e = body_hangs b f e
-    arms_hangs (Arm constants b arms) f e = (body_hangs b f.0 e.0, arms_hangs arms f.1 e.1)
+    arms_hangs (last_arm b) f e = body_hangs b f e
+    arms_hangs (and_arm constants b arms) f e = (body_hangs b f.0 e.0, arms_hangs arms f.1 e.1)
 
     pub body_hangs : (b : Block) → FineBlock w q sp.children b → ExactBlock w sp b → BlockHangs w sp b
-    body_hangs End f e = tt
-    body_hangs (Then c cs) f e = (command_hangs c f.0 e.0, body_hangs cs f.1 e.1)
+    body_hangs end_block f e = tt
+    body_hangs (command_then c cs) f e = (command_hangs c f.0 e.0, body_hangs cs f.1 e.1)
 
 pub root_hangs : (w : World) (g : Group) (list : List Bool) → FineGroup w g 0 g → ((x : ℕ) → listed list x ≡ root_touches w g x) → Hangs w (listed list)
 root_hangs w g list f e x h =

@@ -12,7 +12,7 @@ use Rattle.sap_ir.specs.Guarded.{number_at_start}
 use Rattle.sap_interface.specs.StandsFor.{Named, world}
 use Rattle.sap_interface.specs.Compiled.{coded}
 use Rattle.sap_ir.specs.declared.guarded.Var.{Var}
-use Rattle.sap_tagged.specs.Keys.{Key, Value, Tag, key_name}
+use Rattle.sap_tagged.specs.Keys.{Key, value_key, tag_key, key_name}
 use Rattle.sap_tagged.specs.Plain.{for_entities, value_var, tag_var}
 use Rattle.sap_tagged.proofs.KeyNames.{NamesApart, names_apart}
 
@@ -30,8 +30,8 @@ pub from_here : (d : Named) (x : ℕ) (e : Entity) (es : List Entity) → From d
 from_here d x e es f = let i : x + 0 ≡ x = omega arith in f 0 ∙ ap (λ (y : ℕ). entity (world d) y) i
 
 pub record GivenAt (d : Named) (u : ℕ) (s : Source) (before : Option Valuation) (x : ℕ) (es : List Entity) (ts : List Tagged) (k : ℕ) (default : Tagged) : Type 0 where
-  pub number : number_at_start s before (for_entities (is_input (world d)) (input_of d u) x es) (coded d.code ts) (key_name d (Value (x + k))) ≡ (get_or ts (inputs_before es k) default).number
-  pub level : number_at_start s before (for_entities (is_input (world d)) (input_of d u) x es) (coded d.code ts) (key_name d (Tag (x + k)))
+  pub number : number_at_start s before (for_entities (is_input (world d)) (input_of d u) x es) (coded d.code ts) (key_name d (value_key (x + k))) ≡ (get_or ts (inputs_before es k) default).number
+  pub level : number_at_start s before (for_entities (is_input (world d)) (input_of d u) x es) (coded d.code ts) (key_name d (tag_key (x + k)))
       ≡ d.code (get_or ts (inputs_before es k) default).level
 
 module _ (d : Named) (u : ℕ) (s : Source) (before : Option Valuation) (names : NamesApart d) (default : Tagged) where
@@ -50,20 +50,20 @@ module _ (d : Named) (u : ℕ) (s : Source) (before : Option Valuation) (names :
   before_if q es k = if q then suc (inputs_before es k) else inputs_before es k
 
   -- past an input
-  past_value : (x y : ℕ) (es : List Entity) (t : Tagged) (ts : List Tagged) → x < n → y < n → (x ≡ y → ⊥) → starts_if true x es (t ∷ ts) (Value y) ≡ starts (x + 1) es ts (Value y)
+  past_value : (x y : ℕ) (es : List Entity) (t : Tagged) (ts : List Tagged) → x < n → y < n → (x ≡ y → ⊥) → starts_if true x es (t ∷ ts) (value_key y) ≡ starts (x + 1) es ts (value_key y)
   past_value x y es t ts l m f =
-      rw (names_apart d names (Value x) (Value y) ∙ ne_eqb x y f, names_apart d names (Tag x) (Value y)) refl
+      rw (names_apart d names (value_key x) (value_key y) ∙ ne_eqb x y f, names_apart d names (tag_key x) (value_key y)) refl
 
-  past_tag : (x y : ℕ) (es : List Entity) (t : Tagged) (ts : List Tagged) → x < n → y < n → (x ≡ y → ⊥) → starts_if true x es (t ∷ ts) (Tag y) ≡ starts (x + 1) es ts (Tag y)
+  past_tag : (x y : ℕ) (es : List Entity) (t : Tagged) (ts : List Tagged) → x < n → y < n → (x ≡ y → ⊥) → starts_if true x es (t ∷ ts) (tag_key y) ≡ starts (x + 1) es ts (tag_key y)
   past_tag x y es t ts l m f =
-      rw (names_apart d names (Tag x) (Tag y) ∙ ne_eqb x y f) refl
+      rw (names_apart d names (tag_key x) (tag_key y) ∙ ne_eqb x y f) refl
 
-  here_value : (x : ℕ) (es : List Entity) (t : Tagged) (ts : List Tagged) → x < n → starts_if true x es (t ∷ ts) (Value x) ≡ t.number
-  here_value x es t ts l = rw (names_apart d names (Value x) (Value x) ∙ (Decides-eqb x x).1 refl) refl
+  here_value : (x : ℕ) (es : List Entity) (t : Tagged) (ts : List Tagged) → x < n → starts_if true x es (t ∷ ts) (value_key x) ≡ t.number
+  here_value x es t ts l = rw (names_apart d names (value_key x) (value_key x) ∙ (Decides-eqb x x).1 refl) refl
 
-  here_tag : (x : ℕ) (es : List Entity) (t : Tagged) (ts : List Tagged) → x < n → starts_if true x es (t ∷ ts) (Tag x) ≡ d.code t.level
+  here_tag : (x : ℕ) (es : List Entity) (t : Tagged) (ts : List Tagged) → x < n → starts_if true x es (t ∷ ts) (tag_key x) ≡ d.code t.level
   here_tag x es t ts l =
-      rw (names_apart d names (Tag x) (Tag x) ∙ (Decides-eqb x x).1 refl) refl
+      rw (names_apart d names (tag_key x) (tag_key x) ∙ (Decides-eqb x x).1 refl) refl
 
   -- the inputs that stand in a list of entities and what is given fit
   abbrev FitIf : Bool → (levels : ℕ) → Entity → List Entity → List Tagged → Type 0
@@ -89,10 +89,10 @@ module _ (d : Named) (u : ℕ) (s : Source) (before : Option Valuation) (names :
       rest ts k (from_next d x e es from) fit' (omega arith) (omega arith) (ap (is_input (world d)) (sym z) ∙ i) in
       record {
         number =
-            ap (λ (q : Bool). starts_if q x es ts (Value (x + suc k))) (h' ∙ h) ∙ ap (λ (y : ℕ). starts (x + 1) es ts (Value y)) z ∙ r.number
+            ap (λ (q : Bool). starts_if q x es ts (value_key (x + suc k))) (h' ∙ h) ∙ ap (λ (y : ℕ). starts (x + 1) es ts (value_key y)) z ∙ r.number
             ∙ ap (λ (q : Bool). (get_or ts (before_if q es k) default).number) (sym h);
         level =
-            ap (λ (q : Bool). starts_if q x es ts (Tag (x + suc k))) (h' ∙ h) ∙ ap (λ (y : ℕ). starts (x + 1) es ts (Tag y)) z ∙ r.level
+            ap (λ (q : Bool). starts_if q x es ts (tag_key (x + suc k))) (h' ∙ h) ∙ ap (λ (y : ℕ). starts (x + 1) es ts (tag_key y)) z ∙ r.level
             ∙ ap (λ (q : Bool). d.code (get_or ts (before_if q es k) default).level) (sym h);
       }
   given_if levels x e es rest [] k true h h' from fit l m i = absurd (subst (λ (q : Bool). FitIf q levels e es []) h fit)
@@ -101,8 +101,8 @@ module _ (d : Named) (u : ℕ) (s : Source) (before : Option Valuation) (names :
       let k : x < n = omega arith in
       record {
         number =
-            ap (λ (q : Bool). starts_if q x es (t ∷ ts) (Value (x + 0))) (h' ∙ h) ∙ ap (λ (y : ℕ). starts_if true x es (t ∷ ts) (Value y)) z ∙ here_value x es t ts k;
-        level = ap (λ (q : Bool). starts_if q x es (t ∷ ts) (Tag (x + 0))) (h' ∙ h) ∙ ap (λ (y : ℕ). starts_if true x es (t ∷ ts) (Tag y)) z ∙ here_tag x es t ts k;
+            ap (λ (q : Bool). starts_if q x es (t ∷ ts) (value_key (x + 0))) (h' ∙ h) ∙ ap (λ (y : ℕ). starts_if true x es (t ∷ ts) (value_key y)) z ∙ here_value x es t ts k;
+        level = ap (λ (q : Bool). starts_if q x es (t ∷ ts) (tag_key (x + 0))) (h' ∙ h) ∙ ap (λ (y : ℕ). starts_if true x es (t ∷ ts) (tag_key y)) z ∙ here_tag x es t ts k;
       }
   given_if levels x e es rest (t ∷ ts) (suc k) true h h' from fit l m i =
       let z : x + suc k ≡ x + 1 + k = omega arith in
@@ -114,11 +114,11 @@ module _ (d : Named) (u : ℕ) (s : Source) (before : Option Valuation) (names :
       rest ts k (from_next d x e es from) fit'.2 (omega arith) (omega arith) (ap (is_input (world d)) (sym z) ∙ i) in
       record {
         number =
-            ap (λ (q : Bool). starts_if q x es (t ∷ ts) (Value (x + suc k))) (h' ∙ h) ∙ past_value x (x + suc k) es t ts o p f
-            ∙ ap (λ (y : ℕ). starts (x + 1) es ts (Value y)) z ∙ r.number ∙ ap (λ (q : Bool). (get_or (t ∷ ts) (before_if q es k) default).number) (sym h);
+            ap (λ (q : Bool). starts_if q x es (t ∷ ts) (value_key (x + suc k))) (h' ∙ h) ∙ past_value x (x + suc k) es t ts o p f
+            ∙ ap (λ (y : ℕ). starts (x + 1) es ts (value_key y)) z ∙ r.number ∙ ap (λ (q : Bool). (get_or (t ∷ ts) (before_if q es k) default).number) (sym h);
         level =
-            ap (λ (q : Bool). starts_if q x es (t ∷ ts) (Tag (x + suc k))) (h' ∙ h) ∙ past_tag x (x + suc k) es t ts o p f
-            ∙ ap (λ (y : ℕ). starts (x + 1) es ts (Tag y)) z ∙ r.level ∙ ap (λ (q : Bool). d.code (get_or (t ∷ ts) (before_if q es k) default).level) (sym h);
+            ap (λ (q : Bool). starts_if q x es (t ∷ ts) (tag_key (x + suc k))) (h' ∙ h) ∙ past_tag x (x + suc k) es t ts o p f
+            ∙ ap (λ (y : ℕ). starts (x + 1) es ts (tag_key y)) z ∙ r.level ∙ ap (λ (q : Bool). d.code (get_or (t ∷ ts) (before_if q es k) default).level) (sym h);
       }
 
   pub given_at : (levels : ℕ) (x : ℕ) (es : List Entity) (ts : List Tagged) (k : ℕ) → From d x es → AllFit levels (input_widths es) ts → x + length es ≤ n → k < length es

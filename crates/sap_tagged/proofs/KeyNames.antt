@@ -13,7 +13,7 @@ use Rattle.sap_tree.specs.Words.{is_name}
 use Rattle.sap_tree.specs.declared.version.Version.TheVariants.{One}
 use Rattle.sap_net.specs.Names.{is_initial, is_word}
 use Rattle.sap_interface.specs.StandsFor.{Named, name, world}
-use Rattle.sap_tagged.specs.Keys.{Key, Value, Tag, Seat, Refused, Level, Wire, First, Inner, sort, index, same, numeral, entity_word, seat_word, key_name}
+use Rattle.sap_tagged.specs.Keys.{Key, value_key, tag_key, seat_key, refused_key, level_key, wire_key, first_key, inner_key, sort, index, same, numeral, entity_word, seat_word, key_name}
 use Rattle.sap_tagged.proofs.Numerals.{numeral_injective, numeral_digits, numeral_zero}
 
 numerals_apart : (j k : ℕ) → bytes_eq (numeral j) (numeral k) ≡ nat_eq j k
@@ -89,91 +89,91 @@ module _ (d : Named) (names : NamesApart d) where
   ]
 
   pub names_apart : (a b : Key) → bytes_eq (key_name d a) (key_name d b) ≡ same a b
-  names_apart (Value x) (Value y) = entities_apart x y
-  names_apart (Value x) (Tag y) = refl
-  names_apart (Value x) (Seat y) = refl
-  names_apart (Value x) (Refused y) = refl
-  names_apart (Value x) (Level y) = refl
-  names_apart (Value x) (Wire y) = refl
-  names_apart (Value x) (First y) = refl
-  names_apart (Value x) (Inner y) = refl
-  names_apart (Tag x) (Value y) = refl
-  names_apart (Tag x) (Tag y) = entities_apart x y
-  names_apart (Tag x) (Seat y) = refl
-  names_apart (Tag x) (Refused y) = refl
-  names_apart (Tag x) (Level y) = refl
-  names_apart (Tag x) (Wire y) = refl
-  names_apart (Tag x) (First y) = refl
-  names_apart (Tag x) (Inner y) = refl
-  names_apart (Seat x) (Value y) = refl
-  names_apart (Seat x) (Tag y) = refl
-  names_apart (Seat x) (Seat y) = seats_apart x y
-  names_apart (Seat x) (Refused y) = refl
-  names_apart (Seat x) (Level y) = refl
-  names_apart (Seat x) (Wire y) = refl
-  names_apart (Seat x) (First y) = refl
-  names_apart (Seat x) (Inner y) = refl
-  names_apart (Refused x) (Value y) = refl
-  names_apart (Refused x) (Tag y) = refl
-  names_apart (Refused x) (Seat y) = refl
-  names_apart (Refused x) (Refused y) = numerals_apart x y
-  names_apart (Refused x) (Level y) = refl
-  names_apart (Refused x) (Wire y) = refl
-  names_apart (Refused x) (First y) = refl
-  names_apart (Refused x) (Inner y) = refl
-  names_apart (Level x) (Value y) = refl
-  names_apart (Level x) (Tag y) = refl
-  names_apart (Level x) (Seat y) = refl
-  names_apart (Level x) (Refused y) = refl
-  names_apart (Level x) (Level y) = numerals_apart x y
-  names_apart (Level x) (Wire y) = refl
-  names_apart (Level x) (First y) = refl
-  names_apart (Level x) (Inner y) = refl
-  names_apart (Wire x) (Value y) = refl
-  names_apart (Wire x) (Tag y) = refl
-  names_apart (Wire x) (Seat y) = refl
-  names_apart (Wire x) (Refused y) = refl
-  names_apart (Wire x) (Level y) = refl
-  names_apart (Wire x) (Wire y) = numerals_apart x y
-  names_apart (Wire x) (First y) = refl
-  names_apart (Wire x) (Inner y) = refl
-  names_apart (First x) (Value y) = refl
-  names_apart (First x) (Tag y) = refl
-  names_apart (First x) (Seat y) = refl
-  names_apart (First x) (Refused y) = refl
-  names_apart (First x) (Level y) = refl
-  names_apart (First x) (Wire y) = refl
-  names_apart (First x) (First y) = numerals_apart x y
-  names_apart (First x) (Inner y) = refl
-  names_apart (Inner x) (Value y) = refl
-  names_apart (Inner x) (Tag y) = refl
-  names_apart (Inner x) (Seat y) = refl
-  names_apart (Inner x) (Refused y) = refl
-  names_apart (Inner x) (Level y) = refl
-  names_apart (Inner x) (Wire y) = refl
-  names_apart (Inner x) (First y) = refl
-  names_apart (Inner x) (Inner y) = numerals_apart x y
+  names_apart (value_key x) (value_key y) = entities_apart x y
+  names_apart (value_key x) (tag_key y) = refl
+  names_apart (value_key x) (seat_key y) = refl
+  names_apart (value_key x) (refused_key y) = refl
+  names_apart (value_key x) (level_key y) = refl
+  names_apart (value_key x) (wire_key y) = refl
+  names_apart (value_key x) (first_key y) = refl
+  names_apart (value_key x) (inner_key y) = refl
+  names_apart (tag_key x) (value_key y) = refl
+  names_apart (tag_key x) (tag_key y) = entities_apart x y
+  names_apart (tag_key x) (seat_key y) = refl
+  names_apart (tag_key x) (refused_key y) = refl
+  names_apart (tag_key x) (level_key y) = refl
+  names_apart (tag_key x) (wire_key y) = refl
+  names_apart (tag_key x) (first_key y) = refl
+  names_apart (tag_key x) (inner_key y) = refl
+  names_apart (seat_key x) (value_key y) = refl
+  names_apart (seat_key x) (tag_key y) = refl
+  names_apart (seat_key x) (seat_key y) = seats_apart x y
+  names_apart (seat_key x) (refused_key y) = refl
+  names_apart (seat_key x) (level_key y) = refl
+  names_apart (seat_key x) (wire_key y) = refl
+  names_apart (seat_key x) (first_key y) = refl
+  names_apart (seat_key x) (inner_key y) = refl
+  names_apart (refused_key x) (value_key y) = refl
+  names_apart (refused_key x) (tag_key y) = refl
+  names_apart (refused_key x) (seat_key y) = refl
+  names_apart (refused_key x) (refused_key y) = numerals_apart x y
+  names_apart (refused_key x) (level_key y) = refl
+  names_apart (refused_key x) (wire_key y) = refl
+  names_apart (refused_key x) (first_key y) = refl
+  names_apart (refused_key x) (inner_key y) = refl
+  names_apart (level_key x) (value_key y) = refl
+  names_apart (level_key x) (tag_key y) = refl
+  names_apart (level_key x) (seat_key y) = refl
+  names_apart (level_key x) (refused_key y) = refl
+  names_apart (level_key x) (level_key y) = numerals_apart x y
+  names_apart (level_key x) (wire_key y) = refl
+  names_apart (level_key x) (first_key y) = refl
+  names_apart (level_key x) (inner_key y) = refl
+  names_apart (wire_key x) (value_key y) = refl
+  names_apart (wire_key x) (tag_key y) = refl
+  names_apart (wire_key x) (seat_key y) = refl
+  names_apart (wire_key x) (refused_key y) = refl
+  names_apart (wire_key x) (level_key y) = refl
+  names_apart (wire_key x) (wire_key y) = numerals_apart x y
+  names_apart (wire_key x) (first_key y) = refl
+  names_apart (wire_key x) (inner_key y) = refl
+  names_apart (first_key x) (value_key y) = refl
+  names_apart (first_key x) (tag_key y) = refl
+  names_apart (first_key x) (seat_key y) = refl
+  names_apart (first_key x) (refused_key y) = refl
+  names_apart (first_key x) (level_key y) = refl
+  names_apart (first_key x) (wire_key y) = refl
+  names_apart (first_key x) (first_key y) = numerals_apart x y
+  names_apart (first_key x) (inner_key y) = refl
+  names_apart (inner_key x) (value_key y) = refl
+  names_apart (inner_key x) (tag_key y) = refl
+  names_apart (inner_key x) (seat_key y) = refl
+  names_apart (inner_key x) (refused_key y) = refl
+  names_apart (inner_key x) (level_key y) = refl
+  names_apart (inner_key x) (wire_key y) = refl
+  names_apart (inner_key x) (first_key y) = refl
+  names_apart (inner_key x) (inner_key y) = numerals_apart x y
 
 -- keys by their sort and index
 abbrev key_at : ℕ → ℕ → Key
-key_at zero i = Value i
-key_at (suc zero) i = Tag i
-key_at (suc (suc zero)) i = Seat i
-key_at (suc (suc (suc zero))) i = Refused i
-key_at (suc (suc (suc (suc zero)))) i = Level i
-key_at (suc (suc (suc (suc (suc zero))))) i = Wire i
-key_at (suc (suc (suc (suc (suc (suc zero)))))) i = First i
-key_at (suc (suc (suc (suc (suc (suc (suc k))))))) i = Inner i
+key_at zero i = value_key i
+key_at (suc zero) i = tag_key i
+key_at (suc (suc zero)) i = seat_key i
+key_at (suc (suc (suc zero))) i = refused_key i
+key_at (suc (suc (suc (suc zero)))) i = level_key i
+key_at (suc (suc (suc (suc (suc zero))))) i = wire_key i
+key_at (suc (suc (suc (suc (suc (suc zero)))))) i = first_key i
+key_at (suc (suc (suc (suc (suc (suc (suc k))))))) i = inner_key i
 
 key_back : (a : Key) → key_at (sort a) (index a) ≡ a
-key_back (Value x) = refl
-key_back (Tag x) = refl
-key_back (Seat x) = refl
-key_back (Refused x) = refl
-key_back (Level x) = refl
-key_back (Wire x) = refl
-key_back (First x) = refl
-key_back (Inner x) = refl
+key_back (value_key x) = refl
+key_back (tag_key x) = refl
+key_back (seat_key x) = refl
+key_back (refused_key x) = refl
+key_back (level_key x) = refl
+key_back (wire_key x) = refl
+key_back (first_key x) = refl
+key_back (inner_key x) = refl
 
 pub same_is : (a b : Key) → same a b ≡ true → a ≡ b
 same_is a b h =

@@ -10,7 +10,7 @@ use Rattle.sap_meaning.specs.Fine.{FineStep}
 use Rattle.sap_ir.specs.Guarded.{Going, value_in}
 use Rattle.sap_ir.specs.Plain.Nested.{Body}
 use Rattle.sap_ir.specs.Plain.Does.{body_does}
-use Rattle.sap_tagged.specs.Keys.{Key, Value, Tag, Seat, Refused, Level, Wire, First, Inner}
+use Rattle.sap_tagged.specs.Keys.{Key, value_key, tag_key, seat_key, refused_key, level_key, wire_key, first_key, inner_key}
 use Rattle.sap_tagged.specs.Setting.{Setting}
 use Rattle.sap_tagged.specs.Levels.{var, lub, guard_of, test_of, written, stays}
 use Rattle.sap_tagged.specs.Commands.{raises, looks}
@@ -22,9 +22,9 @@ use Rattle.sap_tagged.proofs.Puts.{put_to, at_put, Kept, kept_put, swept, does_s
 
 -- what is not in a store stays, but for the wires from k on
 pub record Quiet (d : Setting) (k : ℕ) (g g' : Going) : Type 0 where
-  pub kept : (j : ℕ) → j < k → at d g' (Wire j) ≡ at d g (Wire j)
-  pub refused : (n : ℕ) → at d g' (Refused n) ≡ at d g (Refused n)
-  pub levels : (n : ℕ) → at d g' (Level n) ≡ at d g (Level n)
+  pub kept : (j : ℕ) → j < k → at d g' (wire_key j) ≡ at d g (wire_key j)
+  pub refused : (n : ℕ) → at d g' (refused_key n) ≡ at d g (refused_key n)
+  pub levels : (n : ℕ) → at d g' (level_key n) ≡ at d g (level_key n)
 
 pub quiet_none : (d : Setting) (k : ℕ) (g : Going) → Quiet d k g g
 quiet_none d k g = record { kept = λ j l. refl; refused = λ n. refl; levels = λ n. refl }
@@ -51,8 +51,8 @@ pub turns_then : (d : Setting) (k j : ℕ) (g g1 g2 : Going) (a : After) (f : St
 turns_then d k j g g1 g2 a f l p q = record {
   stands = q.stands;
   kept = λ i m. q.kept i (omega arith) ∙ p.kept i m;
-  refused = λ n. q.refused n ∙ ap (refused_after n (f a.store).refused) (p.refused n) ∙ sym (refused_more n a.refused (f a.store).refused (at d g (Refused n)));
-  levels = λ n. q.levels n ∙ ap (level_after d.code n (f a.store).refused) (p.levels n) ∙ sym (levels_more d.code n a.refused (f a.store).refused (at d g (Level n)));
+  refused = λ n. q.refused n ∙ ap (refused_after n (f a.store).refused) (p.refused n) ∙ sym (refused_more n a.refused (f a.store).refused (at d g (refused_key n)));
+  levels = λ n. q.levels n ∙ ap (level_after d.code n (f a.store).refused) (p.levels n) ∙ sym (levels_more d.code n a.refused (f a.store).refused (at d g (level_key n)));
 }
 
 -- after what is quiet
@@ -72,51 +72,51 @@ pub turns_stay : (d : Setting) (k : ℕ) (g g' : Going) (s : Store) → Quiet d 
 turns_stay d k g g' s q r = record { stands = r; kept = q.kept; refused = q.refused; levels = q.levels }
 
 module _ (d : Setting) (widths : Name → ℕ) (laws : Lawful d widths) where
-  quiet_wire : (k j : ℕ) (g : Going) (x : ℕ) → k ≤ j → Quiet d k g (put_to d g (Wire j) x)
+  quiet_wire : (k j : ℕ) (g : Going) (x : ℕ) → k ≤ j → Quiet d k g (put_to d g (wire_key j) x)
   quiet_wire k j g x l = record {
-    kept = λ i m. at_put d widths laws g (Wire j) (Wire i) x ∙ ap (λ (b : Bool). if b then x else at d g (Wire i)) (ne_eqb i j (λ e. omega arith));
-    refused = λ n. at_put d widths laws g (Wire j) (Refused n) x;
-    levels = λ n. at_put d widths laws g (Wire j) (Level n) x;
+    kept = λ i m. at_put d widths laws g (wire_key j) (wire_key i) x ∙ ap (λ (b : Bool). if b then x else at d g (wire_key i)) (ne_eqb i j (λ e. omega arith));
+    refused = λ n. at_put d widths laws g (wire_key j) (refused_key n) x;
+    levels = λ n. at_put d widths laws g (wire_key j) (level_key n) x;
   }
 
-  aside_wire : (j : ℕ) (g : Going) (x : ℕ) → Aside d g (put_to d g (Wire j) x)
+  aside_wire : (j : ℕ) (g : Going) (x : ℕ) → Aside d g (put_to d g (wire_key j) x)
   aside_wire j g x = record {
-    value = λ n. at_put d widths laws g (Wire j) (Value n) x;
-    tag = λ n. at_put d widths laws g (Wire j) (Tag n) x;
-    seat = λ n. at_put d widths laws g (Wire j) (Seat n) x;
-    memory = kept_put d widths laws g (Wire j) x (λ m. refl);
+    value = λ n. at_put d widths laws g (wire_key j) (value_key n) x;
+    tag = λ n. at_put d widths laws g (wire_key j) (tag_key n) x;
+    seat = λ n. at_put d widths laws g (wire_key j) (seat_key n) x;
+    memory = kept_put d widths laws g (wire_key j) x (λ m. refl);
   }
 
-  here_wire : (j : ℕ) (g : Going) (x : ℕ) → at d (put_to d g (Wire j) x) (Wire j) ≡ x
-  here_wire j g x = at_put d widths laws g (Wire j) (Wire j) x ∙ ap (λ (b : Bool). if b then x else at d g (Wire j)) (eq-eqb j j refl)
+  here_wire : (j : ℕ) (g : Going) (x : ℕ) → at d (put_to d g (wire_key j) x) (wire_key j) ≡ x
+  here_wire j g x = at_put d widths laws g (wire_key j) (wire_key j) x ∙ ap (λ (b : Bool). if b then x else at d g (wire_key j)) (eq-eqb j j refl)
 
   -- a context for children
 
-  pub quiet_inner : (k s : ℕ) (g : Going) (x : ℕ) → Quiet d k g (put_to d g (Inner s) x)
+  pub quiet_inner : (k s : ℕ) (g : Going) (x : ℕ) → Quiet d k g (put_to d g (inner_key s) x)
   quiet_inner k s g x = record {
-    kept = λ j l. at_put d widths laws g (Inner s) (Wire j) x;
-    refused = λ n. at_put d widths laws g (Inner s) (Refused n) x;
-    levels = λ n. at_put d widths laws g (Inner s) (Level n) x;
+    kept = λ j l. at_put d widths laws g (inner_key s) (wire_key j) x;
+    refused = λ n. at_put d widths laws g (inner_key s) (refused_key n) x;
+    levels = λ n. at_put d widths laws g (inner_key s) (level_key n) x;
   }
 
-  pub aside_inner : (s : ℕ) (g : Going) (x : ℕ) → Aside d g (put_to d g (Inner s) x)
+  pub aside_inner : (s : ℕ) (g : Going) (x : ℕ) → Aside d g (put_to d g (inner_key s) x)
   aside_inner s g x = record {
-    value = λ n. at_put d widths laws g (Inner s) (Value n) x;
-    tag = λ n. at_put d widths laws g (Inner s) (Tag n) x;
-    seat = λ n. at_put d widths laws g (Inner s) (Seat n) x;
-    memory = kept_put d widths laws g (Inner s) x (λ m. refl);
+    value = λ n. at_put d widths laws g (inner_key s) (value_key n) x;
+    tag = λ n. at_put d widths laws g (inner_key s) (tag_key n) x;
+    seat = λ n. at_put d widths laws g (inner_key s) (seat_key n) x;
+    memory = kept_put d widths laws g (inner_key s) x (λ m. refl);
   }
 
-  pub here_inner : (s : ℕ) (g : Going) (x : ℕ) → at d (put_to d g (Inner s) x) (Inner s) ≡ x
-  here_inner s g x = at_put d widths laws g (Inner s) (Inner s) x ∙ ap (λ (b : Bool). if b then x else at d g (Inner s)) (eq-eqb s s refl)
+  pub here_inner : (s : ℕ) (g : Going) (x : ℕ) → at d (put_to d g (inner_key s) x) (inner_key s) ≡ x
+  here_inner s g x = at_put d widths laws g (inner_key s) (inner_key s) x ∙ ap (λ (b : Bool). if b then x else at d g (inner_key s)) (eq-eqb s s refl)
 
   -- one wire more
   pub record Wired (s : Store) (j : ℕ) (g g' : Going) (x : ℕ) : Type 0 where
     pub stands : Stands d g' s
-    pub here : at d g' (Wire j) ≡ x
+    pub here : at d g' (wire_key j) ≡ x
     pub quiet : (i : ℕ) → i ≤ j → Quiet d i g g'
 
-  pub wired : (s : Store) (j : ℕ) (g : Going) (x y : ℕ) → Stands d g s → x ≡ y → Wired s j g (put_to d g (Wire j) x) y
+  pub wired : (s : Store) (j : ℕ) (g : Going) (x y : ℕ) → Stands d g s → x ≡ y → Wired s j g (put_to d g (wire_key j) x) y
   wired s j g x y st e = record {
     stands = stands_aside d g _ s st (aside_wire j g x);
     here = here_wire j g x ∙ e;
@@ -127,11 +127,11 @@ module _ (d : Setting) (widths : Name → ℕ) (laws : Lawful d widths) where
 
   pub record Looked (sp : Spot) (k : ℕ) (t : Step) (l : ℕ) (s : Store) (g g' : Going) : Type 0 where
     pub stands : Stands d g' s
-    pub tested : at d g' (Wire k) ≡ bit (test d.world sp t l s)
-    pub guarded : at d g' (Wire (k + 1)) ≡ d.code (guard d.world sp t s)
-    pub inside : at d g' (Wire (k + 2)) ≡ d.code (d.world.order.join l (guard d.world sp t s))
-    pub new : at d g' (Wire (k + 3)) ≡ d.code (level_written d.world t l s)
-    pub keeps : at d g' (Wire (k + 4)) ≡ bit (number_stays d.world t s)
+    pub tested : at d g' (wire_key k) ≡ bit (test d.world sp t l s)
+    pub guarded : at d g' (wire_key (k + 1)) ≡ d.code (guard d.world sp t s)
+    pub inside : at d g' (wire_key (k + 2)) ≡ d.code (d.world.order.join l (guard d.world sp t s))
+    pub new : at d g' (wire_key (k + 3)) ≡ d.code (level_written d.world t l s)
+    pub keeps : at d g' (wire_key (k + 4)) ≡ bit (number_stays d.world t s)
     pub quiet : Quiet d k g g'
 
   module _ (f : Going → Going) (go : Name → Going → Going) where
@@ -140,38 +140,38 @@ module _ (d : Setting) (widths : Name → ℕ) (laws : Lawful d widths) where
 
     does_looks : (sp : Spot) (p k : ℕ) (t : Step) (g : Going) (rest : Body) → body_does widths f go (looks d sp p k t rest) g
         ≡ body_does widths f go rest
-        (given (Wire (k + 4)) (stays d t)
-        (given (Wire (k + 3)) (written d (var d (Wire p)) t)
-        (given (Wire (k + 2)) (lub (var d (Wire p)) (var d (Wire (k + 1))))
-        (given (Wire (k + 1)) (guard_of d sp t) (given (Wire k) (test_of d sp (var d (Wire p)) t) g)))))
+        (given (wire_key (k + 4)) (stays d t)
+        (given (wire_key (k + 3)) (written d (var d (wire_key p)) t)
+        (given (wire_key (k + 2)) (lub (var d (wire_key p)) (var d (wire_key (k + 1))))
+        (given (wire_key (k + 1)) (guard_of d sp t) (given (wire_key k) (test_of d sp (var d (wire_key p)) t) g)))))
     unfolding put_to
     does_looks sp p k t g rest = refl
 
     pub looked : (q : Group) (sp : Spot) (p k : ℕ) (t : Step) (l : ℕ) (s : Store) (g : Going) (rest : Body) → p < k → Placed d.world q sp → FineStep d.world q sp.children t
-        → Stands d g s → at d g (Wire p) ≡ d.code l
+        → Stands d g s → at d g (wire_key p) ≡ d.code l
         → (g' : Going) × (body_does widths f go (looks d sp p k t rest) g ≡ body_does widths f go rest g') × Looked sp k t l s g g'
     looked q sp p k t l s g rest pk placed fine st pc =
         let o = d.world.order in
-        let P = var d (Wire p) in
+        let P = var d (wire_key p) in
         let x0 = value_in widths g (test_of d sp P t) in
-        let g1 = put_to d g (Wire k) x0 in
+        let g1 = put_to d g (wire_key k) x0 in
         let r0 = wired s k g x0 (bit (test d.world sp t l s)) st (test_value d widths laws g s st q sp t P l placed fine pc) in
         let x1 = value_in widths g1 (guard_of d sp t) in
-        let g2 = put_to d g1 (Wire (k + 1)) x1 in
+        let g2 = put_to d g1 (wire_key (k + 1)) x1 in
         let r1 = wired s (k + 1) g1 x1 (d.code (guard d.world sp t s)) r0.stands (guard_value d widths laws g1 s r0.stands q sp t placed fine) in
         let q1 = r0.quiet k (omega arith) in
         let q2 = quiet_next d k g g1 g2 q1 (r1.quiet k (omega arith)) in
-        let x2 = value_in widths g2 (lub P (var d (Wire (k + 1)))) in
-        let g3 = put_to d g2 (Wire (k + 2)) x2 in
+        let x2 = value_in widths g2 (lub P (var d (wire_key (k + 1)))) in
+        let g3 = put_to d g2 (wire_key (k + 2)) x2 in
         let r2 = wired s (k + 2) g2 x2 (d.code (o.join l (guard d.world sp t s))) r1.stands
-        (lub_value d widths laws g2 P (var d (Wire (k + 1))) l (guard d.world sp t s) (q2.kept p pk ∙ pc) r1.here) in
+        (lub_value d widths laws g2 P (var d (wire_key (k + 1))) l (guard d.world sp t s) (q2.kept p pk ∙ pc) r1.here) in
         let q3 = quiet_next d k g g2 g3 q2 (r2.quiet k (omega arith)) in
         let x3 = value_in widths g3 (written d P t) in
-        let g4 = put_to d g3 (Wire (k + 3)) x3 in
+        let g4 = put_to d g3 (wire_key (k + 3)) x3 in
         let r3 = wired s (k + 3) g3 x3 (d.code (level_written d.world t l s)) r2.stands (written_value d widths laws g3 s r2.stands q sp t P l fine (q3.kept p pk ∙ pc)) in
         let q4 = quiet_next d k g g3 g4 q3 (r3.quiet k (omega arith)) in
         let x4 = value_in widths g4 (stays d t) in
-        let g5 = put_to d g4 (Wire (k + 4)) x4 in
+        let g5 = put_to d g4 (wire_key (k + 4)) x4 in
         let r4 = wired s (k + 4) g4 x4 (bit (number_stays d.world t s)) r3.stands (stays_value d widths laws g4 s r3.stands q sp t fine) in (
           g5,
           does_looks sp p k t g rest,
@@ -193,40 +193,40 @@ module _ (d : Setting) (widths : Name → ℕ) (laws : Lawful d widths) where
   -- raises
 
   pub record Raised (g g' : Going) : Type 0 where
-    pub value : (x : ℕ) → at d g' (Value x) ≡ at d g (Value x)
-    pub wire : (x : ℕ) → at d g' (Wire x) ≡ at d g (Wire x)
-    pub refused : (x : ℕ) → at d g' (Refused x) ≡ at d g (Refused x)
-    pub levels : (x : ℕ) → at d g' (Level x) ≡ at d g (Level x)
+    pub value : (x : ℕ) → at d g' (value_key x) ≡ at d g (value_key x)
+    pub wire : (x : ℕ) → at d g' (wire_key x) ≡ at d g (wire_key x)
+    pub refused : (x : ℕ) → at d g' (refused_key x) ≡ at d g (refused_key x)
+    pub levels : (x : ℕ) → at d g' (level_key x) ≡ at d g (level_key x)
     pub memory : Kept d g g'
 
   pub raised_quiet : (k : ℕ) (g g' : Going) → Raised g g' → Quiet d k g g'
   raised_quiet k g g' r = record { kept = λ j l. r.wire j; refused = r.refused; levels = r.levels }
 
   module _ (f : Going → Going) (go : Name → Going → Going) where
-    pub raises_turn : (h : ℕ → Bool) (j t : ℕ) (s : Store) (g : Going) (rest : Body) → Stands d g s → at d g (Wire j) ≡ d.code t
+    pub raises_turn : (h : ℕ → Bool) (j t : ℕ) (s : Store) (g : Going) (rest : Body) → Stands d g s → at d g (wire_key j) ≡ d.code t
         → (g' : Going) × (body_does widths f go (raises d h j rest) g ≡ body_does widths f go rest g') × Stands d g' (raise d.world.order h t s) × Raised g g'
     raises_turn h j t s g rest st e =
         let n = root d.world in
-        let term : ℕ → Term Name = λ x. lub (var d (Tag x)) (var d (Wire j)) in
-        let r = swept_is d widths laws Tag (λ y x. refl) h term (λ y z. bit_or z (d.code t)) (λ z. at d z (Wire j) ≡ d.code t)
-        (λ y z h i. at_put d widths laws h (Tag y) (Wire j) z ∙ i) (λ y g1 i e. ap (bit_or (at d g1 (Tag y))) i) 0 n g e in
-        let g' = swept d widths Tag h term 0 n g in
-        let kept : Kept d g g' = record { cell = r.memory.0; next = r.memory.1; first = λ m. r.there (First m) (λ y. refl) } in (
+        let term : ℕ → Term Name = λ x. lub (var d (tag_key x)) (var d (wire_key j)) in
+        let r = swept_is d widths laws tag_key (λ y x. refl) h term (λ y z. bit_or z (d.code t)) (λ z. at d z (wire_key j) ≡ d.code t)
+        (λ y z h i. at_put d widths laws h (tag_key y) (wire_key j) z ∙ i) (λ y g1 i e. ap (bit_or (at d g1 (tag_key y))) i) 0 n g e in
+        let g' = swept d widths tag_key h term 0 n g in
+        let kept : Kept d g g' = record { cell = r.memory.0; next = r.memory.1; first = λ m. r.there (first_key m) (λ y. refl) } in (
           g',
-          does_sweep d widths f go Tag h term 0 n rest g,
-          stands_raise d g g' s h t st (λ y. r.there (Value y) (λ x. refl)) (λ y w. r.here y ∙ new y w (h y)) (λ y. r.there (Seat y) (λ x. refl)) kept,
+          does_sweep d widths f go tag_key h term 0 n rest g,
+          stands_raise d g g' s h t st (λ y. r.there (value_key y) (λ x. refl)) (λ y w. r.here y ∙ new y w (h y)) (λ y. r.there (seat_key y) (λ x. refl)) kept,
           record {
-            value = λ x. r.there (Value x) (λ y. refl);
-            wire = λ x. r.there (Wire x) (λ y. refl);
-            refused = λ x. r.there (Refused x) (λ y. refl);
-            levels = λ x. r.there (Level x) (λ y. refl);
+            value = λ x. r.there (value_key x) (λ y. refl);
+            wire = λ x. r.there (wire_key x) (λ y. refl);
+            refused = λ x. r.there (refused_key x) (λ y. refl);
+            levels = λ x. r.there (level_key x) (λ y. refl);
             memory = kept;
           },
         )
       where
-        new : (y : ℕ) → has_tag d.world y ≡ true → (b : Bool) → (if b && between 0 (root d.world) y then bit_or (at d g (Tag y)) (d.code t) else at d g (Tag y))
-            ≡ (if b then d.code (d.world.order.join (s.level (tag_slot d.world y)) t) else at d g (Tag y))
+        new : (y : ℕ) → has_tag d.world y ≡ true → (b : Bool) → (if b && between 0 (root d.world) y then bit_or (at d g (tag_key y)) (d.code t) else at d g (tag_key y))
+            ≡ (if b then d.code (d.world.order.join (s.level (tag_slot d.world y)) t) else at d g (tag_key y))
         new y w true =
-            ap (λ (b : Bool). if b then bit_or (at d g (Tag y)) (d.code t) else at d g (Tag y)) (within_all y (root d.world) (tagged_within d.world y w))
+            ap (λ (b : Bool). if b then bit_or (at d g (tag_key y)) (d.code t) else at d g (tag_key y)) (within_all y (root d.world) (tagged_within d.world y w))
             ∙ ap (λ (z : ℕ). bit_or z (d.code t)) (st.tag y w) ∙ sym (laws.joined (s.level (tag_slot d.world y)) t)
         new y w false = refl

@@ -10,7 +10,7 @@ use Rattle.sap_ir.specs.declared.guarded.Var.{Var}
 use Rattle.sap_ir.specs.declared.guarded.Store.{Store}
 use Rattle.sap_interface.specs.StandsFor.{Named, world}
 use Rattle.sap_interface.specs.InterfaceNames.{holds_numbers, IsInterfaceName, value_of, tag_of, state_tag_of, child_of, child_of_root}
-use Rattle.sap_tagged.specs.Keys.{Value, Tag, Seat, key_name}
+use Rattle.sap_tagged.specs.Keys.{value_key, tag_key, seat_key, key_name}
 use Rattle.sap_tagged.specs.Plain.{for_entities, tag_var, seat_var, level_at_start, shown_registers, has_own_tag, tag_registers, seat_registers, registers_of, memory_of, tags_of, memories_of}
 use Rattle.sap_tagged.proofs.Cycle.{value_known, tag_known, seat_known, root_known}
 use Rattle.sap_tagged.proofs.Premises.{Design}
@@ -37,19 +37,19 @@ module _ (d : Named) (tag sites : ℕ) (design : Design d tag sites) where
   abbrev IsNamed : Name → Type 0
   IsNamed n = IsInterfaceName d sites n
 
-  value_named : (x : ℕ) → x < root w → holds_numbers w x ≡ true → IsNamed (key_name d (Value x))
+  value_named : (x : ℕ) → x < root w → holds_numbers w x ≡ true → IsNamed (key_name d (value_key x))
   value_named x l h = subst (λ (n : Name). IsNamed n) (sym (value_known d x (lt-ltb x (root w) l))) (value_of x h)
 
-  tag_named : (x : ℕ) → x < root w → holds_numbers w x ≡ true → IsNamed (key_name d (Tag x))
+  tag_named : (x : ℕ) → x < root w → holds_numbers w x ≡ true → IsNamed (key_name d (tag_key x))
   tag_named x l h = subst (λ (n : Name). IsNamed n) (sym (tag_known d x (lt-ltb x (root w) l))) (tag_of x h)
 
-  state_tag_named : (x : ℕ) → x < root w → is_state w x ≡ true → IsNamed (key_name d (Tag x))
+  state_tag_named : (x : ℕ) → x < root w → is_state w x ≡ true → IsNamed (key_name d (tag_key x))
   state_tag_named x l h = subst (λ (n : Name). IsNamed n) (sym (tag_known d x (lt-ltb x (root w) l))) (state_tag_of x h l)
 
-  child_named : (p : ℕ) → p < root w → 0 < children w p → IsNamed (key_name d (Seat p))
+  child_named : (p : ℕ) → p < root w → 0 < children w p → IsNamed (key_name d (seat_key p))
   child_named p l h = subst (λ (n : Name). IsNamed n) (sym (seat_known d p (lt-ltb p (root w) l))) (child_of p l h)
 
-  root_named : IsNamed (key_name d (Seat (root w)))
+  root_named : IsNamed (key_name d (seat_key (root w)))
   root_named = subst (λ (n : Name). IsNamed n) (sym (root_known d)) child_of_root
 
   register_holds : (x : ℕ) → is_register w x ≡ true → holds_numbers w x ≡ true
@@ -58,7 +58,7 @@ module _ (d : Named) (tag sites : ℕ) (design : Design d tag sites) where
   memory_holds : (x : ℕ) → is_memory w x ≡ true → holds_numbers w x ≡ true
   memory_holds x h = or_right (is_input w x) _ (or_right (is_register w x) (is_memory w x) h)
 
-  own_tag_named : (x : ℕ) → x < root w → has_own_tag d x ≡ true → IsNamed (key_name d (Tag x))
+  own_tag_named : (x : ℕ) → x < root w → has_own_tag d x ≡ true → IsNamed (key_name d (tag_key x))
   own_tag_named x l h = elim (cases_Bool (is_memory w x)) [
     | inl t ↦ tag_named x l (memory_holds x t)
     | inr f ↦ state_tag_named x l (rw f at h)

@@ -8,14 +8,14 @@ use Rattle.sap_lemmas.proofs.Everywhere.{all_append}
 use Rattle.sap_net.proofs.NamesLemmas.{among_append}
 use Rattle.sap_text.proofs.NamesLemmas.{digits_inner, initial_inner}
 use Rattle.sap_maps.specs.Maps.{Name}
-use Rattle.sap_meaning.specs.Program.{World, root, is_state, below, last, Node, Group, None, More}
+use Rattle.sap_meaning.specs.Program.{World, root, is_state, below, last, state_node, Group, no_node, and_node}
 use Rattle.sap_meaning.specs.Fine.{FineGroup, inside}
 use Rattle.sap_net.specs.Names.{is_initial, is_inner, is_word, is_name, is_among, AreDistinct}
 use Rattle.sap_ir.specs.IsGuarded.{is_helping}
 use Rattle.sap_ir.specs.Plain.Nested.{Forest, none, state, state_names}
 use Rattle.sap_ir.specs.Plain.IsPlain.{is_gate}
 use Rattle.sap_interface.specs.StandsFor.{Named, name, world}
-use Rattle.sap_tagged.specs.Keys.{Key, Value, Tag, Seat, Refused, Level, Wire, First, Inner, numeral, entity_word, seat_word, key_name}
+use Rattle.sap_tagged.specs.Keys.{Key, value_key, tag_key, seat_key, refused_key, level_key, wire_key, first_key, inner_key, numeral, entity_word, seat_word, key_name}
 use Rattle.sap_tagged.specs.Setting.{Setting}
 use Rattle.sap_tagged.proofs.KeyNames.{NamesApart}
 use Rattle.sap_tagged.proofs.Numerals.{numeral_digits}
@@ -23,10 +23,10 @@ use Rattle.sap_tagged.proofs.Groups.{LawfulStates, Shaped, IsState, node_state}
 
 -- the names of the states of a forest
 pub all_states : (d : Setting) (P : Name → Type 0) (g : Group) (f : Forest) → Shaped d g f → ((t : ℕ) → inside g t ≡ true → P (d.state_name t)) → AllByRecursion P (state_names f)
-all_states d P None none h p = tt
-all_states d P None (state x b kids rest) h p = absurd h
-all_states d P (More u g) none h p = absurd h
-all_states d P (More (Node s c k) g) (state x b kids rest) h p = (
+all_states d P no_node none h p = tt
+all_states d P no_node (state x b kids rest) h p = absurd h
+all_states d P (and_node u g) none h p = absurd h
+all_states d P (and_node (state_node s c k) g) (state x b kids rest) h p = (
   subst P (sym h.0) (p s (or_left (nat_eq s s) (inside k s || inside g s) (eq-eqb s s refl))),
   all_append P (state_names kids) (state_names rest)
       (all_states d P k kids h.1 (λ t i. p t (or_right (nat_eq t s) (inside k t || inside g t) (or_left (inside k t) (inside g t) i))))
@@ -34,8 +34,8 @@ all_states d P (More (Node s c k) g) (state x b kids rest) h p = (
 )
 
 pub inside_state : (w : World) (q : Group) (n : ℕ) (g : Group) → FineGroup w q n g → (t : ℕ) → inside g t ≡ true → IsState w t
-inside_state w q n None f t h = absurd (true_is_not_false (sym h))
-inside_state w q n (More (Node s b k) g) f t h = elim (cases_Bool (nat_eq t s)) [
+inside_state w q n no_node f t h = absurd (true_is_not_false (sym h))
+inside_state w q n (and_node (state_node s b k) g) f t h = elim (cases_Bool (nat_eq t s)) [
   | inl e ↦ subst (λ (x : ℕ). IsState w x) (sym (eqb-true t s e)) (node_state w q n s b k f.0.0)
   | inr e ↦
       (let i = or_other (nat_eq t s) (inside k t || inside g t) h e in
@@ -64,10 +64,10 @@ module _ (d : Setting) (names : LawfulStates d) where
   -- a state outside a group
   outside_among : (q : Group) (n : ℕ) (g : Group) (f : Forest) → FineGroup d.world q n g → Shaped d g f → (t : ℕ) → nat_lt t (root d.world) ≡ true → inside g t ≡ false
       → is_among (d.state_name t) (state_names f) ≡ false
-  outside_among q n None none f h t l i = refl
-  outside_among q n None (state x b kids rest) f h t l i = absurd h
-  outside_among q n (More u g) none f h t l i = absurd h
-  outside_among q n (More (Node s c k) g) (state x b kids rest) f h t l i =
+  outside_among q n no_node none f h t l i = refl
+  outside_among q n no_node (state x b kids rest) f h t l i = absurd h
+  outside_among q n (and_node u g) none f h t l i = absurd h
+  outside_among q n (and_node (state_node s c k) g) (state x b kids rest) f h t l i =
       let e = or_false (nat_eq t s) (inside k t || inside g t) i in
       let j = or_false (inside k t) (inside g t) e.1 in
       let me = node_state d.world q n s c k f.0.0 in
@@ -81,10 +81,10 @@ module _ (d : Setting) (names : LawfulStates d) where
       or_false false b h = (refl, h)
 
   pub states_once : (q : Group) (n : ℕ) (g : Group) (f : Forest) → FineGroup d.world q n g → Shaped d g f → AreDistinct (state_names f)
-  states_once q n None none f h = tt
-  states_once q n None (state x b kids rest) f h = absurd h
-  states_once q n (More u g) none f h = absurd h
-  states_once q n (More (Node s c k) g) (state x b kids rest) f h =
+  states_once q n no_node none f h = tt
+  states_once q n no_node (state x b kids rest) f h = absurd h
+  states_once q n (and_node u g) none f h = absurd h
+  states_once q n (and_node (state_node s c k) g) (state x b kids rest) f h =
       let me = node_state d.world q n s c k f.0.0 in
       let node = f.0.0 in
       let own : inside k s ≡ false = false_from_ne_true (inside k s) (λ i. clash s s (below_bounds d.world s s (node.numbers s i)).0 refl) in
@@ -136,31 +136,31 @@ module _ (d : Named) (names : NamesApart d) where
 
   pub key_is_name : (a : Key) → is_name (key_name d a) ≡ true
   unfolding is_name
-  key_is_name (Value x) = rw (entity_inner x) refl
-  key_is_name (Tag x) = rw (entity_inner x) refl
-  key_is_name (Seat p) = rw (seat_inner p) refl
-  key_is_name (Refused k) = rw (numeral_inner k) refl
-  key_is_name (Level k) = rw (numeral_inner k) refl
-  key_is_name (Wire k) = rw (numeral_inner k) refl
-  key_is_name (First k) = rw (numeral_inner k) refl
-  key_is_name (Inner k) = rw (numeral_inner k) refl
+  key_is_name (value_key x) = rw (entity_inner x) refl
+  key_is_name (tag_key x) = rw (entity_inner x) refl
+  key_is_name (seat_key p) = rw (seat_inner p) refl
+  key_is_name (refused_key k) = rw (numeral_inner k) refl
+  key_is_name (level_key k) = rw (numeral_inner k) refl
+  key_is_name (wire_key k) = rw (numeral_inner k) refl
+  key_is_name (first_key k) = rw (numeral_inner k) refl
+  key_is_name (inner_key k) = rw (numeral_inner k) refl
 
   pub key_no_help : (a : Key) → is_helping (key_name d a) ≡ false
-  key_no_help (Value x) = refl
-  key_no_help (Tag x) = refl
-  key_no_help (Seat p) = refl
-  key_no_help (Refused k) = refl
-  key_no_help (Level k) = refl
-  key_no_help (Wire k) = no_help 104 (numeral k) refl
-  key_no_help (First k) = no_help 98 (numeral k) refl
-  key_no_help (Inner k) = no_help 117 (numeral k) refl
+  key_no_help (value_key x) = refl
+  key_no_help (tag_key x) = refl
+  key_no_help (seat_key p) = refl
+  key_no_help (refused_key k) = refl
+  key_no_help (level_key k) = refl
+  key_no_help (wire_key k) = no_help 104 (numeral k) refl
+  key_no_help (first_key k) = no_help 98 (numeral k) refl
+  key_no_help (inner_key k) = no_help 117 (numeral k) refl
 
   pub key_no_gate : (a : Key) → is_gate (key_name d a) ≡ false
-  key_no_gate (Value x) = refl
-  key_no_gate (Tag x) = refl
-  key_no_gate (Seat p) = refl
-  key_no_gate (Refused k) = refl
-  key_no_gate (Level k) = refl
-  key_no_gate (Wire k) = no_gate 104 (numeral k) refl
-  key_no_gate (First k) = no_gate 98 (numeral k) refl
-  key_no_gate (Inner k) = no_gate 117 (numeral k) refl
+  key_no_gate (value_key x) = refl
+  key_no_gate (tag_key x) = refl
+  key_no_gate (seat_key p) = refl
+  key_no_gate (refused_key k) = refl
+  key_no_gate (level_key k) = refl
+  key_no_gate (wire_key k) = no_gate 104 (numeral k) refl
+  key_no_gate (first_key k) = no_gate 98 (numeral k) refl
+  key_no_gate (inner_key k) = no_gate 117 (numeral k) refl

@@ -5,7 +5,7 @@ use Rattle.std.proofs.lemmas.Bool.{cases_Bool, eqb-true, eq-eqb, or_left, or_rig
 use Rattle.sap_lemmas.proofs.Bools.{true_is_not_false}
 use Rattle.sap_maps.specs.Maps.{Name}
 use Rattle.sap_maps.specs.Term.{Term, part}
-use Rattle.sap_meaning.specs.Program.{root, is_dynamic, is_register, listed, Step, Set, Write, Retag, RetagCell, Goto, Fall, Command, Do, Try, If, TryThen, Case, Arms, Last, Arm, Block, End, Then, Node, Group, None, More}
+use Rattle.sap_meaning.specs.Program.{root, is_dynamic, is_register, listed, Step, assign, write, retag, retag_cell, go_to, fall_to_child, Command, lone, try, if_else, try_then, case_of, Arms, last_arm, and_arm, Block, end_block, command_then, state_node, Group, no_node, and_node}
 use Rattle.sap_meaning.specs.Expressions.{width_of as number_width}
 use Rattle.sap_meaning.specs.Checks.{Spot}
 use Rattle.sap_meaning.specs.Runs.{listed_alone}
@@ -18,7 +18,7 @@ use Rattle.sap_ir.specs.Plain.Nested.{Body, stop, act, cases, goto, fall, seat_n
 use Rattle.sap_ir.specs.Plain.Does.{body_does, falls_of, enter}
 use Rattle.sap_ir.specs.Plain.Views.{follow}
 use Rattle.sap_ir.specs.Plain.Writes.{body_writes, child_writes, PlainWritesOnce}
-use Rattle.sap_tagged.specs.Keys.{Key, Value, Tag, First, Wire, Inner, same}
+use Rattle.sap_tagged.specs.Keys.{Key, value_key, tag_key, first_key, wire_key, inner_key, same}
 use Rattle.sap_interface.specs.StandsFor.{Named}
 use Rattle.sap_tagged.specs.Setting.{Setting, setting_of}
 use Rattle.sap_tagged.specs.Plain.{plain_of}
@@ -31,7 +31,7 @@ use Rattle.sap_tagged.proofs.KeyNames.{NamesApart, names_apart}
 pub record OfMemory (d : Setting) (P : ℕ → Bool) (n : Name) : Type 0 where
   pub memory : ℕ
   pub picked : P memory ≡ true
-  pub named : (n ≡ d.name (Value memory)) ⊎ (n ≡ d.name (Tag memory))
+  pub named : (n ≡ d.name (value_key memory)) ⊎ (n ≡ d.name (tag_key memory))
 
 abbrev pub AllOf : Setting → (ℕ → Bool) → List Name → Type 0
 AllOf d P [] = Unit {0}
@@ -58,11 +58,11 @@ module _ (d : Setting) (apart : (a b : Key) → bytes_eq (d.name a) (d.name b) �
   of_join P (x ∷ xs) ys h k = (h.0, of_join P xs ys h.1 k)
 
   -- names of different memories
-  memory_of : (a b : ℕ) (x y : Name) → ((x ≡ d.name (Value a)) ⊎ (x ≡ d.name (Tag a))) → ((y ≡ d.name (Value b)) ⊎ (y ≡ d.name (Tag b))) → bytes_eq x y ≡ true → nat_eq a b ≡ true
-  memory_of a b x y (inl e) (inl f) h = sym (ap₂ (λ (p q : Name). bytes_eq p q) e f ∙ apart (Value a) (Value b)) ∙ h
-  memory_of a b x y (inl e) (inr f) h = absurd (true_is_not_false (sym (sym (ap₂ (λ (p q : Name). bytes_eq p q) e f ∙ apart (Value a) (Tag b)) ∙ h)))
-  memory_of a b x y (inr e) (inl f) h = absurd (true_is_not_false (sym (sym (ap₂ (λ (p q : Name). bytes_eq p q) e f ∙ apart (Tag a) (Value b)) ∙ h)))
-  memory_of a b x y (inr e) (inr f) h = sym (ap₂ (λ (p q : Name). bytes_eq p q) e f ∙ apart (Tag a) (Tag b)) ∙ h
+  memory_of : (a b : ℕ) (x y : Name) → ((x ≡ d.name (value_key a)) ⊎ (x ≡ d.name (tag_key a))) → ((y ≡ d.name (value_key b)) ⊎ (y ≡ d.name (tag_key b))) → bytes_eq x y ≡ true → nat_eq a b ≡ true
+  memory_of a b x y (inl e) (inl f) h = sym (ap₂ (λ (p q : Name). bytes_eq p q) e f ∙ apart (value_key a) (value_key b)) ∙ h
+  memory_of a b x y (inl e) (inr f) h = absurd (true_is_not_false (sym (sym (ap₂ (λ (p q : Name). bytes_eq p q) e f ∙ apart (value_key a) (tag_key b)) ∙ h)))
+  memory_of a b x y (inr e) (inl f) h = absurd (true_is_not_false (sym (sym (ap₂ (λ (p q : Name). bytes_eq p q) e f ∙ apart (tag_key a) (value_key b)) ∙ h)))
+  memory_of a b x y (inr e) (inr f) h = sym (ap₂ (λ (p q : Name). bytes_eq p q) e f ∙ apart (tag_key a) (tag_key b)) ∙ h
 
   and_true : (a b : Bool) → a ≡ true → b ≡ true → (a && b) ≡ true
   and_true a b e f = rw (e, f) refl
@@ -130,40 +130,40 @@ module _ (d : Setting) (apart : (a b : Key) → bytes_eq (d.name a) (d.name b) �
       | inr e ↦ rw e (subst (λ (ns : List Name). Written d P ns) (sym (append_none (body_writes widths f below go x g))) (h g))
     ]
 
-    one_written : (P : ℕ → Bool) (m : ℕ) → P m ≡ true → Written d P (d.name (Value m) ∷ [])
+    one_written : (P : ℕ → Bool) (m : ℕ) → P m ≡ true → Written d P (d.name (value_key m) ∷ [])
     one_written P m h = record { once = (refl, tt); all = (record { memory = m; picked = h; named = inl refl }, tt) }
 
-    two_written : (P : ℕ → Bool) (m : ℕ) → P m ≡ true → Written d P (d.name (Tag m) ∷ d.name (Value m) ∷ [])
+    two_written : (P : ℕ → Bool) (m : ℕ) → P m ≡ true → Written d P (d.name (tag_key m) ∷ d.name (value_key m) ∷ [])
     two_written P m h = record {
-      once = (rw (apart (Tag m) (Value m)) refl, (refl, tt));
+      once = (rw (apart (tag_key m) (value_key m)) refl, (refl, tt));
       all = (record { memory = m; picked = h; named = inr refl }, (record { memory = m; picked = h; named = inl refl }, tt));
     }
 
     module _ (reach : ℕ → Bool) (beyond : Type 0) (falls : beyond → (g : Going) → Written d reach (below g)) where
       effect_writes : (sp : Spot) (k : ℕ) (t : Step) → OnceStep beyond t → Writes (step_reaching reach t) (effect_of d sp k t)
-      effect_writes sp k (Set site x e) o g = elim (cases_Bool (is_dynamic d.world x)) [
-        | inl i ↦ rw i (written_none (step_reaching reach (Set site x e)))
-        | inr i ↦ rw i (written_none (step_reaching reach (Set site x e)))
+      effect_writes sp k (assign site x e) o g = elim (cases_Bool (is_dynamic d.world x)) [
+        | inl i ↦ rw i (written_none (step_reaching reach (assign site x e)))
+        | inr i ↦ rw i (written_none (step_reaching reach (assign site x e)))
       ]
-      effect_writes sp k (Write site m i e) o g = elim (cases_Bool (is_dynamic d.world m)) [
-        | inl j ↦ rw j (one_written (step_reaching reach (Write site m i e)) m (eq-eqb m m refl))
-        | inr j ↦ rw j (one_written (step_reaching reach (Write site m i e)) m (eq-eqb m m refl))
+      effect_writes sp k (write site m i e) o g = elim (cases_Bool (is_dynamic d.world m)) [
+        | inl j ↦ rw j (one_written (step_reaching reach (write site m i e)) m (eq-eqb m m refl))
+        | inr j ↦ rw j (one_written (step_reaching reach (write site m i e)) m (eq-eqb m m refl))
       ]
-      effect_writes sp k (Retag site x n) o g = elim (cases_Bool (is_register d.world x)) [
-        | inl i ↦ rw i (written_none (step_reaching reach (Retag site x n)))
-        | inr i ↦ rw i (written_none (step_reaching reach (Retag site x n)))
+      effect_writes sp k (retag site x n) o g = elim (cases_Bool (is_register d.world x)) [
+        | inl i ↦ rw i (written_none (step_reaching reach (retag site x n)))
+        | inr i ↦ rw i (written_none (step_reaching reach (retag site x n)))
       ]
-      effect_writes sp k (RetagCell site m j n) o g = two_written (step_reaching reach (RetagCell site m j n)) m (eq-eqb m m refl)
-      effect_writes sp k (Goto site target) o g0 =
-          sweep_writes (step_reaching reach (Goto site target)) Tag (resets d.world target) (λ x. bits d d.world.order.bottom) 0 (root d.world)
-          (if is_dynamic d.world target then gives d (Tag target) (var d (Wire (k + 3))) (goto (d.state_name target) stop) else goto (d.state_name target) stop)
+      effect_writes sp k (retag_cell site m j n) o g = two_written (step_reaching reach (retag_cell site m j n)) m (eq-eqb m m refl)
+      effect_writes sp k (go_to site target) o g0 =
+          sweep_writes (step_reaching reach (go_to site target)) tag_key (resets d.world target) (λ x. bits d d.world.order.bottom) 0 (root d.world)
+          (if is_dynamic d.world target then gives d (tag_key target) (var d (wire_key (k + 3))) (goto (d.state_name target) stop) else goto (d.state_name target) stop)
           (λ g. elim (cases_Bool (is_dynamic d.world target)) [
-            | inl i ↦ rw i (written_none (step_reaching reach (Goto site target)))
-            | inr i ↦ rw i (written_none (step_reaching reach (Goto site target)))
+            | inl i ↦ rw i (written_none (step_reaching reach (go_to site target)))
+            | inr i ↦ rw i (written_none (step_reaching reach (go_to site target)))
           ]) g0
-      effect_writes sp k (Fall site hang) o g =
-          let g1 = after_action widths g (set (d.name (Inner sp.state)) (var d (Wire (k + 2)))) in
-          subst (λ (ns : List Name). Written d (step_reaching reach (Fall site hang)) ns) (sym (append_none (below g1))) (falls o g1)
+      effect_writes sp k (fall_to_child site hang) o g =
+          let g1 = after_action widths g (set (d.name (inner_key sp.state)) (var d (wire_key (k + 2)))) in
+          subst (λ (ns : List Name). Written d (step_reaching reach (fall_to_child site hang)) ns) (sym (append_none (below g1))) (falls o g1)
 
       module _ (sp : Spot) where
         attempt_writes : (p k : ℕ) (t : Step) (o : OnceStep beyond t) (hangs : ℕ → Bool) (h : Body) (P : ℕ → Bool) → ((m : ℕ) → step_reaching reach t m ≡ true → P m ≡ true) → Writes P h
@@ -174,14 +174,14 @@ module _ (d : Setting) (apart : (a b : Key) → bytes_eq (d.name a) (d.name b) �
             let after : Writes P (outcome d sp k t h) =
             λ g. elim (cases_Bool (always d.world sp t)) [
               | inl i ↦ rw i (e g)
-              | inr i ↦ rw i (choice_writes P (var d (Wire k)) (effect_of d sp k t) (refusal d k t h) e (λ g. w _) g)
+              | inr i ↦ rw i (choice_writes P (var d (wire_key k)) (effect_of d sp k t) (refusal d k t h) e (λ g. w _) g)
             ] in
-            sweep_writes P Tag hangs (λ x. lub (var d (Tag x)) (var d (Wire (k + 1)))) 0 (root d.world) (outcome d sp k t h) after _
+            sweep_writes P tag_key hangs (λ x. lub (var d (tag_key x)) (var d (wire_key (k + 1)))) 0 (root d.world) (outcome d sp k t h) after _
 
         select_writes : (p k : ℕ) (e : Term ℕ) (hangs : ℕ → Bool) (x y : Body) (P : ℕ → Bool) → Writes P x → Writes P y → Writes P (select_of d p k e hangs x y)
         unfolding select_of
         select_writes p k e hangs x y P h i g0 =
-            sweep_writes P Tag hangs (λ x. lub (var d (Tag x)) (var d (Wire k))) 0 (root d.world) (cases (expr d e) x y stop) (choice_writes P (expr d e) x y h i) _
+            sweep_writes P tag_key hangs (λ x. lub (var d (tag_key x)) (var d (wire_key k))) 0 (root d.world) (cases (expr d e) x y stop) (choice_writes P (expr d e) x y h i) _
 
         -- what comes behind an accepted step's effect, which writes other memories
         attempt_then_writes : (p k : ℕ) (t : Step) (o : OnceStep beyond t) (hangs : ℕ → Bool) (x y : Body) (P Q : ℕ → Bool) → ((m : ℕ) → (step_reaching reach t m && Q m) ≡ false)
@@ -194,9 +194,9 @@ module _ (d : Setting) (apart : (a b : Key) → bytes_eq (d.name a) (d.name b) �
             let after : Writes P (outcome_then d sp k t x y) =
             λ g. elim (cases_Bool (always d.world sp t)) [
               | inl i ↦ rw i (e g)
-              | inr i ↦ rw i (choice_writes P (var d (Wire k)) (follow (effect_of d sp k t) x) (refusal d k t y) e (λ g. wy _) g)
+              | inr i ↦ rw i (choice_writes P (var d (wire_key k)) (follow (effect_of d sp k t) x) (refusal d k t y) e (λ g. wy _) g)
             ] in
-            sweep_writes P Tag hangs (λ x. lub (var d (Tag x)) (var d (Wire (k + 1)))) 0 (root d.world) (outcome_then d sp k t x y) after _
+            sweep_writes P tag_key hangs (λ x. lub (var d (tag_key x)) (var d (wire_key (k + 1)))) 0 (root d.world) (outcome_then d sp k t x y) after _
 
         -- the number of a block, and the block that has it
 
@@ -205,8 +205,8 @@ module _ (d : Setting) (apart : (a b : Key) → bytes_eq (d.name a) (d.name b) �
         picks_arm_writes P u n w j i (c ∷ cs) rest r g = picks_arm_writes P u n w j i cs rest r _
 
         picks_writes : (P : ℕ → Bool) (u n w j i : ℕ) (arms : Arms) (rest : Body) → Writes P rest → Writes P (picks d u n w j i arms rest)
-        picks_writes P u n w j i (Last b) rest r g = r _
-        picks_writes P u n w j i (Arm constants b arms) rest r g =
+        picks_writes P u n w j i (last_arm b) rest r g = r _
+        picks_writes P u n w j i (and_arm constants b arms) rest r g =
             picks_writes P u n w j (suc i) arms (picks_arm d u n w j i constants rest) (picks_arm_writes P u n w j i constants rest r) g
 
         abbrev AllWrite : (ℕ → Bool) → List Body → Type 0
@@ -234,7 +234,7 @@ module _ (d : Setting) (apart : (a b : Key) → bytes_eq (d.name a) (d.name b) �
           | inl t ↦ rw t (decides_writes P j m bs h g)
           | inr t ↦
               rw t
-              (choice_writes P (part (var d (Wire j)) m m) (decides d j m (drop (2 ^ m) bs)) (decides d j m (take (2 ^ m) bs))
+              (choice_writes P (part (var d (wire_key j)) m m) (decides d j m (drop (2 ^ m) bs)) (decides d j m (take (2 ^ m) bs))
               (decides_writes P j m (drop (2 ^ m) bs) (drop_write P (2 ^ m) bs h)) (decides_writes P j m (take (2 ^ m) bs) (take_write P (2 ^ m) bs h)) g)
         ]
 
@@ -243,57 +243,57 @@ module _ (d : Setting) (apart : (a b : Key) → bytes_eq (d.name a) (d.name b) �
         pick_writes p k e hangs arms blocks P h g0 =
             let w = pick_width arms in
             let choice = decides d (k + 3) w blocks in
-            sweep_writes P Tag hangs (λ x. lub (var d (Tag x)) (var d (Wire k))) 0 (root d.world) (picks d (number_width d.world e) (k + 2) w (k + 3) 0 arms choice)
+            sweep_writes P tag_key hangs (λ x. lub (var d (tag_key x)) (var d (wire_key k))) 0 (root d.world) (picks d (number_width d.world e) (k + 2) w (k + 3) 0 arms choice)
             (picks_writes P (number_width d.world e) (k + 2) w (k + 3) 0 arms choice (decides_writes P (k + 3) w blocks h)) _
 
         mutual
           unfolding command_plain arms_plain block_plain
 
           command_writes : (grp : Group) (same_reach : (m : ℕ) → reach m ≡ group_reaches grp m) (p k : ℕ) (c : Command) → Once grp beyond c → Writes (reaching reach c) (command_plain d sp p k c)
-          command_writes grp e p k (Do t) o = attempt_writes p k t o (listed_alone d.world sp t) stop (reaching reach (Do t)) (λ m h. h) (λ g. written_none (reaching reach (Do t)))
-          command_writes grp e p k (Try t hang b) o =
-              attempt_writes p k t o.0 (listed hang) (block_plain d sp (k + 2) (k + 5) b) (reaching reach (Try t hang b))
+          command_writes grp e p k (lone t) o = attempt_writes p k t o (listed_alone d.world sp t) stop (reaching reach (lone t)) (λ m h. h) (λ g. written_none (reaching reach (lone t)))
+          command_writes grp e p k (try t hang b) o =
+              attempt_writes p k t o.0 (listed hang) (block_plain d sp (k + 2) (k + 5) b) (reaching reach (try t hang b))
               (λ m h. or_left (step_reaching reach t m) (block_reaching reach b m) h)
-              (λ g. written_more (block_reaching reach b) (reaching reach (Try t hang b)) (λ m h. or_right (step_reaching reach t m) (block_reaching reach b m) h) _
+              (λ g. written_more (block_reaching reach b) (reaching reach (try t hang b)) (λ m h. or_right (step_reaching reach t m) (block_reaching reach b m) h) _
               (block_writes_once grp e (k + 2) (k + 5) b o.1 g))
-          command_writes grp e p k (If hang c a b) o =
-              select_writes p k c (listed hang) (block_plain d sp (k + 1) (k + 2) a) (block_plain d sp (k + 1) (k + 2 + wires_block a) b) (reaching reach (If hang c a b))
-              (λ g. written_more (block_reaching reach a) (reaching reach (If hang c a b)) (λ m h. or_left (block_reaching reach a m) (block_reaching reach b m) h) _
+          command_writes grp e p k (if_else hang c a b) o =
+              select_writes p k c (listed hang) (block_plain d sp (k + 1) (k + 2) a) (block_plain d sp (k + 1) (k + 2 + wires_block a) b) (reaching reach (if_else hang c a b))
+              (λ g. written_more (block_reaching reach a) (reaching reach (if_else hang c a b)) (λ m h. or_left (block_reaching reach a m) (block_reaching reach b m) h) _
               (block_writes_once grp e (k + 1) (k + 2) a o.0 g))
-              (λ g. written_more (block_reaching reach b) (reaching reach (If hang c a b)) (λ m h. or_right (block_reaching reach a m) (block_reaching reach b m) h) _
+              (λ g. written_more (block_reaching reach b) (reaching reach (if_else hang c a b)) (λ m h. or_right (block_reaching reach a m) (block_reaching reach b m) h) _
               (block_writes_once grp e (k + 1) (k + 2 + wires_block a) b o.1 g))
-          command_writes grp e p k (TryThen t hang a b) o =
+          command_writes grp e p k (try_then t hang a b) o =
               let same : reach ≡ group_reaches grp = λ i m. e m i in
               let both : ℕ → Bool = λ m. block_reaching reach a m || block_reaching reach b m in
-              attempt_then_writes p k t o.0 (listed hang) (block_plain d sp (k + 2) (k + 5) a) (block_plain d sp (k + 2) (k + 5 + wires_block a) b) (reaching reach (TryThen t hang a b))
+              attempt_then_writes p k t o.0 (listed hang) (block_plain d sp (k + 2) (k + 5) a) (block_plain d sp (k + 2) (k + 5 + wires_block a) b) (reaching reach (try_then t hang a b))
               (block_reaching reach a) (λ m. ap (λ (r : ℕ → Bool). step_reaching r t m && block_reaching r a m) same ∙ o.3 m)
               (λ m h. or_left (step_reaching reach t m) (both m) h)
               (λ m h. or_right (step_reaching reach t m) (both m) (or_left (block_reaching reach a m) (block_reaching reach b m) h))
               (block_writes_once grp e (k + 2) (k + 5) a o.1)
-              (λ g. written_more (block_reaching reach b) (reaching reach (TryThen t hang a b))
+              (λ g. written_more (block_reaching reach b) (reaching reach (try_then t hang a b))
               (λ m h. or_right (step_reaching reach t m) (both m) (or_right (block_reaching reach a m) (block_reaching reach b m) h)) _
               (block_writes_once grp e (k + 2) (k + 5 + wires_block a) b o.2 g))
-          command_writes grp e p k (Case hang c arms) o =
-              pick_writes p k c (listed hang) arms (arms_plain d sp (k + 1) (k + 4) arms) (reaching reach (Case hang c arms)) (arms_write_once grp e (k + 1) (k + 4) arms o)
+          command_writes grp e p k (case_of hang c arms) o =
+              pick_writes p k c (listed hang) arms (arms_plain d sp (k + 1) (k + 4) arms) (reaching reach (case_of hang c arms)) (arms_write_once grp e (k + 1) (k + 4) arms o)
 
           arms_write_once : (grp : Group) (same_reach : (m : ℕ) → reach m ≡ group_reaches grp m) (p k : ℕ) (arms : Arms) → OnceArms grp beyond arms
               → AllWrite (arms_reaching reach arms) (arms_plain d sp p k arms)
-          arms_write_once grp e p k (Last b) o = (block_writes_once grp e p k b o, tt)
-          arms_write_once grp e p k (Arm constants b arms) o = (
-            λ g. written_more (block_reaching reach b) (arms_reaching reach (Arm constants b arms)) (λ m h. or_left (block_reaching reach b m) (arms_reaching reach arms m) h) _
+          arms_write_once grp e p k (last_arm b) o = (block_writes_once grp e p k b o, tt)
+          arms_write_once grp e p k (and_arm constants b arms) o = (
+            λ g. written_more (block_reaching reach b) (arms_reaching reach (and_arm constants b arms)) (λ m h. or_left (block_reaching reach b m) (arms_reaching reach arms m) h) _
                 (block_writes_once grp e p k b o.0 g),
-            all_more (arms_reaching reach arms) (arms_reaching reach (Arm constants b arms)) (λ m h. or_right (block_reaching reach b m) (arms_reaching reach arms m) h)
+            all_more (arms_reaching reach arms) (arms_reaching reach (and_arm constants b arms)) (λ m h. or_right (block_reaching reach b m) (arms_reaching reach arms m) h)
                 (arms_plain d sp p (k + wires_block b) arms) (arms_write_once grp e p (k + wires_block b) arms o.1),
           )
 
           block_writes_once : (grp : Group) (same_reach : (m : ℕ) → reach m ≡ group_reaches grp m) (p k : ℕ) (b : Block) → OnceBlock grp beyond b → Writes (block_reaching reach b) (block_plain d sp p k b)
-          block_writes_once grp e p k End o g = written_none (block_reaching reach End)
-          block_writes_once grp e p k (Then c cs) o g =
+          block_writes_once grp e p k end_block o g = written_none (block_reaching reach end_block)
+          block_writes_once grp e p k (command_then c cs) o g =
               let a = command_plain d sp p k c in
               let b = block_plain d sp p (k + wires c) cs in
               let same : reach ≡ group_reaches grp = λ i m. e m i in
-              subst (λ (ns : List Name). Written d (block_reaching reach (Then c cs)) ns) (sym (follow_writes a b g))
-              (written_join (reaching reach c) (block_reaching reach cs) (block_reaching reach (Then c cs))
+              subst (λ (ns : List Name). Written d (block_reaching reach (command_then c cs)) ns) (sym (follow_writes a b g))
+              (written_join (reaching reach c) (block_reaching reach cs) (block_reaching reach (command_then c cs))
               (λ m. ap (λ (r : ℕ → Bool). reaching r c m && block_reaching r cs m) same ∙ o.2 m)
               (λ m h. or_left (reaching reach c m) (block_reaching reach cs m) h) (λ m h. or_right (reaching reach c m) (block_reaching reach cs m) h) _ _
               (command_writes grp e p k c o.0 g) (block_writes_once grp e p (k + wires c) cs o.1 (body_does widths f go a g)))
@@ -302,24 +302,24 @@ module _ (d : Setting) (apart : (a b : Key) → bytes_eq (d.name a) (d.name b) �
   group_writes : (widths : Name → ℕ) (grp : Group) (parent k : ℕ) (go : Name → Going → Going) → OnceGroup grp → (n : ℕ) (g : Going)
       → Written d (group_reaches grp) (child_writes widths go (group_plain d parent k grp) n g)
   unfolding group_plain
-  group_writes widths None parent k go once n g = written_none (group_reaches None)
-  group_writes widths (More (Node x b kids) rest) parent k go once zero g =
+  group_writes widths no_node parent k go once n g = written_none (group_reaches no_node)
+  group_writes widths (and_node (state_node x b kids) rest) parent k go once zero g =
       let base = k + 1 + wires_block b in
       let forest = group_plain d x base kids in
       let seat = seat_name (d.state_name x) in
       let below : Going → List Name = λ h. child_writes widths (enter seat forest) forest (h.now.value seat) h in
-      written_more (block_reaching (group_reaches kids) b) (group_reaches (More (Node x b kids) rest)) (λ m h. or_left (block_reaching (group_reaches kids) b m) (group_reaches rest m) h) _
+      written_more (block_reaching (group_reaches kids) b) (group_reaches (and_node (state_node x b kids) rest)) (λ m h. or_left (block_reaching (group_reaches kids) b m) (group_reaches rest m) h) _
       (block_writes_once widths (falls_of widths seat forest) below go (group_reaches kids) (OnceGroup kids)
       (λ o h. group_writes widths kids x base (enter seat forest) o (h.now.value seat) h) (record { state = x; parent = parent; children = kids }) kids (λ m. refl) k (k + 1) b once.0 _)
-  group_writes widths (More (Node x b kids) rest) parent k go once (suc n) g =
-      written_more (group_reaches rest) (group_reaches (More (Node x b kids) rest)) (λ m h. or_right (block_reaching (group_reaches kids) b m) (group_reaches rest m) h) _
+  group_writes widths (and_node (state_node x b kids) rest) parent k go once (suc n) g =
+      written_more (group_reaches rest) (group_reaches (and_node (state_node x b kids) rest)) (λ m h. or_right (block_reaching (group_reaches kids) b m) (group_reaches rest m) h) _
       (group_writes widths rest parent (k + (1 + wires_block b + wires_group kids)) go once.1 n g)
 
   pub top_writes : (widths : Name → ℕ) (hangs : ℕ → Bool) (grp : Group) (k : ℕ) (go : Name → Going → Going) → OnceGroup grp → (n : ℕ) (g : Going)
       → Written d (group_reaches grp) (child_writes widths go (top_plain d hangs k grp) n g)
   unfolding top_plain
-  top_writes widths hangs None k go once n g = written_none (group_reaches None)
-  top_writes widths hangs (More (Node x b kids) rest) k go once zero g =
+  top_writes widths hangs no_node k go once n g = written_none (group_reaches no_node)
+  top_writes widths hangs (and_node (state_node x b kids) rest) k go once zero g =
       let base = k + 1 + wires_block b in
       let forest = group_plain d x base kids in
       let seat = seat_name (d.state_name x) in
@@ -331,11 +331,11 @@ module _ (d : Setting) (apart : (a b : Key) → bytes_eq (d.name a) (d.name b) �
       λ g. block_writes_once widths f below go (group_reaches kids) (OnceGroup kids) (λ o h. group_writes widths kids x base (enter seat forest) o (h.now.value seat) h)
       (record { state = x; parent = root d.world; children = kids }) kids (λ m. refl) k (k + 1) b once.0 g in
       let raised : (g : Going) → Written d P (body_writes widths f below go (raises d hangs k body) g) =
-      sweep_writes widths f below go P Tag hangs (λ x. lub (var d (Tag x)) (var d (Wire k))) 0 (root d.world) body own in
-      written_more P (group_reaches (More (Node x b kids) rest)) (λ m h. or_left (P m) (group_reaches rest m) h) _
-      (sweep_writes widths f below go P First (saved d.world) (λ m. var d (Tag m)) 0 (root d.world) (gives d (Wire k) (var d (Tag x)) (raises d hangs k body)) (λ g. raised _) g)
-  top_writes widths hangs (More (Node x b kids) rest) k go once (suc n) g =
-      written_more (group_reaches rest) (group_reaches (More (Node x b kids) rest)) (λ m h. or_right (block_reaching (group_reaches kids) b m) (group_reaches rest m) h) _
+      sweep_writes widths f below go P tag_key hangs (λ x. lub (var d (tag_key x)) (var d (wire_key k))) 0 (root d.world) body own in
+      written_more P (group_reaches (and_node (state_node x b kids) rest)) (λ m h. or_left (P m) (group_reaches rest m) h) _
+      (sweep_writes widths f below go P first_key (saved d.world) (λ m. var d (tag_key m)) 0 (root d.world) (gives d (wire_key k) (var d (tag_key x)) (raises d hangs k body)) (λ g. raised _) g)
+  top_writes widths hangs (and_node (state_node x b kids) rest) k go once (suc n) g =
+      written_more (group_reaches rest) (group_reaches (and_node (state_node x b kids) rest)) (λ m h. or_right (block_reaching (group_reaches kids) b m) (group_reaches rest m) h) _
       (top_writes widths hangs rest (k + (1 + wires_block b + wires_group kids)) go once.1 n g)
 
 pub writes_once : (d : Named) (tag sites : ℕ) → NamesApart d → FineProgram d.program → PlainWritesOnce (plain_of d tag sites)

@@ -7,13 +7,13 @@ use Rattle.std.proofs.lemmas.Nat.{div-mul-add}
 use Rattle.std.proofs.Math.Nat.{pow-suc}
 use Rattle.sap_bits.specs.Arithmetic.{slice_of}
 use Rattle.sap_maps.specs.Maps.{Name}
-use Rattle.sap_meaning.specs.Program.{Arms, Last, Arm}
+use Rattle.sap_meaning.specs.Program.{Arms, last_arm, and_arm}
 use Rattle.sap_meaning.specs.Store.{Store}
 use Rattle.sap_meaning.specs.Does.{is_constant}
 use Rattle.sap_ir.specs.Guarded.{Going}
 use Rattle.sap_ir.specs.Plain.Nested.{Body, stop}
 use Rattle.sap_ir.specs.Plain.Does.{body_does}
-use Rattle.sap_tagged.specs.Keys.{Wire}
+use Rattle.sap_tagged.specs.Keys.{wire_key}
 use Rattle.sap_tagged.specs.Setting.{Setting}
 use Rattle.sap_tagged.specs.Commands.{arm_count, picks_arm, picks, decides}
 use Rattle.sap_tagged.specs.Stands.{Lawful, at, Stands}
@@ -23,12 +23,12 @@ use Rattle.sap_tagged.proofs.Effects.{chosen}
 
 -- the number of the first arm that has a number among its constants, of the last block where none has
 abbrev pub arm_place : Arms → ℕ → ℕ
-arm_place (Last b) n = 0
-arm_place (Arm constants b arms) n = if is_constant constants n then 0 else suc (arm_place arms n)
+arm_place (last_arm b) n = 0
+arm_place (and_arm constants b arms) n = if is_constant constants n then 0 else suc (arm_place arms n)
 
 pub arm_within : (arms : Arms) (n : ℕ) → arm_place arms n ≤ arm_count arms
-arm_within (Last b) n = omega arith
-arm_within (Arm constants b arms) n = elim (cases_Bool (is_constant constants n)) [
+arm_within (last_arm b) n = omega arith
+arm_within (and_arm constants b arms) n = elim (cases_Bool (is_constant constants n)) [
   | inl t ↦ rw t (omega arith)
   | inr t ↦ rw t (let i = arm_within arms n in omega (arith, i))
 ]
@@ -67,7 +67,7 @@ half n m h = let e = pow-suc 2 m in omega (arith, h, e)
 
 module _ (d : Setting) (widths : Name → ℕ) (f : Going → Going) (go : Name → Going → Going) where
   -- the r-th body runs, where the wire's lowest bits are r
-  pub decided : (j m : ℕ) (bs : List Body) (v q r : ℕ) (g : Going) → at d g (Wire j) ≡ v → v ≡ q * 2 ^ m + r → r < length bs → length bs ≤ 2 ^ m
+  pub decided : (j m : ℕ) (bs : List Body) (v q r : ℕ) (g : Going) → at d g (wire_key j) ≡ v → v ≡ q * 2 ^ m + r → r < length bs → length bs ≤ 2 ^ m
       → body_does widths f go (decides d j m bs) g ≡ body_does widths f go (get_or bs r stop) g
   decided j zero [] v q r g e s l h = absurd (omega (arith, l))
   decided j zero (b ∷ bs) v q r g e s l h = let z : r ≡ 0 = omega (arith, l, h) in rw z refl
@@ -79,7 +79,7 @@ module _ (d : Setting) (widths : Name → ℕ) (f : Going → Going) (go : Name 
           | inl i ↦
               (let below : r < 2 ^ m = ltb-true r (2 ^ m) i in
               let size : length (take (2 ^ m) bs) ≡ 2 ^ m = length-take-le (2 ^ m) bs (let a = leb-false (length bs) (2 ^ m) t in omega (arith, a)) in
-              let bit : slice_of (at d g (Wire j)) m m ≡ 0 = ap (λ (n : ℕ). slice_of n m m) e ∙ low_bit v m q r (lower v m q r s) below in
+              let bit : slice_of (at d g (wire_key j)) m m ≡ 0 = ap (λ (n : ℕ). slice_of n m m) e ∙ low_bit v m q r (lower v m q r s) below in
               rw bit
               (decided j m (take (2 ^ m) bs) v (2 * q) r g e (lower v m q r s) (omega (arith, size, below)) (omega (arith, size))
               ∙ ap (λ (b : Body). body_does widths f go b g) (get_or-take (2 ^ m) bs r stop below)))
@@ -89,7 +89,7 @@ module _ (d : Setting) (widths : Name → ℕ) (f : Going → Going) (go : Name 
               let most : length bs ≤ 2 ^ m + 2 ^ m = half (length bs) m h in
               let rest : r - 2 ^ m < 2 ^ m = omega (arith, l, most, beyond) in
               let place : 2 ^ m + (r - 2 ^ m) ≡ r = omega (arith, beyond) in
-              let bit : slice_of (at d g (Wire j)) m m ≡ 1 = ap (λ (n : ℕ). slice_of n m m) e ∙ high_bit v m q (r - 2 ^ m) (upper v m q r s beyond) rest in
+              let bit : slice_of (at d g (wire_key j)) m m ≡ 1 = ap (λ (n : ℕ). slice_of n m m) e ∙ high_bit v m q (r - 2 ^ m) (upper v m q r s beyond) rest in
               rw bit
               (decided j m (drop (2 ^ m) bs) v (2 * q + 1) (r - 2 ^ m) g e (upper v m q r s beyond) (omega (arith, size, l, beyond)) (omega (arith, size, most))
               ∙ ap (λ (b : Body). body_does widths f go b g) (get_or-drop (2 ^ m) bs (r - 2 ^ m) stop ∙ ap (λ (n : ℕ). get_or bs n stop) place)))
@@ -100,7 +100,7 @@ module _ (d : Setting) (widths : Name → ℕ) (laws : Lawful d widths) (f : Goi
   -- The wire j is x, and wires before it are as they were.
   pub record Picked (s : Store) (j x : ℕ) (g g' : Going) : Type 0 where
     pub stands : Stands d g' s
-    pub here : at d g' (Wire j) ≡ x
+    pub here : at d g' (wire_key j) ≡ x
     pub quiet : Quiet d j g g'
 
   either : (a b : Bool) (i y : ℕ) → (if b then i else (if a then i else y)) ≡ (if a || b then i else y)
@@ -108,18 +108,18 @@ module _ (d : Setting) (widths : Name → ℕ) (laws : Lawful d widths) (f : Goi
   either true false i y = refl
   either false b i y = refl
 
-  arm_picked : (u n w j i v : ℕ) (cs : List ℕ) (rest : Body) (g : Going) (s : Store) → n < j → at d g (Wire n) ≡ v → Stands d g s
+  arm_picked : (u n w j i v : ℕ) (cs : List ℕ) (rest : Body) (g : Going) (s : Store) → n < j → at d g (wire_key n) ≡ v → Stands d g s
       → (g' : Going) × (body_does widths f go (picks_arm d u n w j i cs rest) g ≡ body_does widths f go rest g')
-      × Picked s j (if is_constant cs v then i else at d g (Wire j)) g g'
+      × Picked s j (if is_constant cs v then i else at d g (wire_key j)) g g'
   unfolding put_to
   arm_picked u n w j i v [] rest g s l e st = (g, refl, record { stands = st; here = refl; quiet = quiet_none d j g })
   arm_picked u n w j i v (c ∷ cs) rest g s l e st =
-      let old = at d g (Wire j) in
-      let x : ℕ = if (if at d g (Wire n) == c then 1 else 0) == 0 then old else i in
+      let old = at d g (wire_key j) in
+      let x : ℕ = if (if at d g (wire_key n) == c then 1 else 0) == 0 then old else i in
       let y : ℕ = if v == c then i else old in
       let ex : x ≡ y = ap (λ (z : ℕ). if (if z == c then 1 else 0) == 0 then old else i) e ∙ chosen (v == c) i old in
       let r = wired d widths laws s j g x y st ex in
-      let g1 = put_to d g (Wire j) x in
+      let g1 = put_to d g (wire_key j) x in
       let q1 = r.quiet j (omega arith) in
       let a = arm_picked u n w j i v cs rest g1 s l (q1.kept n l ∙ e) r.stands in
       let p = a.2 in (
@@ -132,17 +132,17 @@ module _ (d : Setting) (widths : Name → ℕ) (laws : Lawful d widths) (f : Goi
         },
       )
 
-  pub arms_picked : (u n w j i v : ℕ) (arms : Arms) (rest : Body) (g : Going) (s : Store) → n < j → at d g (Wire n) ≡ v → Stands d g s
+  pub arms_picked : (u n w j i v : ℕ) (arms : Arms) (rest : Body) (g : Going) (s : Store) → n < j → at d g (wire_key n) ≡ v → Stands d g s
       → (g' : Going) × (body_does widths f go (picks d u n w j i arms rest) g ≡ body_does widths f go rest g') × Picked s j (i + arm_place arms v) g g'
   unfolding put_to
-  arms_picked u n w j i v (Last b) rest g s l e st =
+  arms_picked u n w j i v (last_arm b) rest g s l e st =
       let zero_more : i ≡ i + 0 = omega arith in
       let r = wired d widths laws s j g i (i + 0) st zero_more in (
-        put_to d g (Wire j) i,
+        put_to d g (wire_key j) i,
         refl,
         record { stands = r.stands; here = r.here; quiet = r.quiet j (omega arith) },
       )
-  arms_picked u n w j i v (Arm constants b arms) rest g s l e st =
+  arms_picked u n w j i v (and_arm constants b arms) rest g s l e st =
       let a = arms_picked u n w j (suc i) v arms (picks_arm d u n w j i constants rest) g s l e st in
       let g1 = a.0 in
       let p = a.2 in

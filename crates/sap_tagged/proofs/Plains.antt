@@ -24,7 +24,7 @@ use Rattle.sap_ir.specs.Plain.Nested as nested
 use Rattle.sap_ir.specs.Plain.IsPlain.{IsPlain, is_gate}
 use Rattle.sap_ir.proofs.plain.SeatWidths.{seat_holds}
 use Rattle.sap_interface.specs.StandsFor.{Named, name, world}
-use Rattle.sap_tagged.specs.Keys.{numeral, entity_word, Key, Seat, First, Inner, sort, index, same, key_name}
+use Rattle.sap_tagged.specs.Keys.{numeral, entity_word, Key, seat_key, first_key, inner_key, sort, index, same, key_name}
 use Rattle.sap_tagged.specs.Setting.{Setting, setting_of}
 use Rattle.sap_tagged.specs.States.{saved, top_plain}
 use Rattle.sap_tagged.specs.Plain.{variable, level_at_start, value_var, tag_var, seat_var, site_wires, group_wires, first_wires, inner_wires, memory_of, plain_of}
@@ -148,7 +148,7 @@ module _ (d : Named) (tag sites : ℕ) (design : Design d tag sites) (fit : Fitt
   ]
 
   abbrev first_wire : ℕ → Var
-  first_wire m = variable (key_name d (First m)) tag 0
+  first_wire m = variable (key_name d (first_key m)) tag 0
 
   in_first : (m : ℕ) → saved w m ≡ true → In src.wires (first_wire m)
   in_first m h =
@@ -157,7 +157,7 @@ module _ (d : Named) (tag sites : ℕ) (design : Design d tag sites) (fit : Fitt
       (in_all d tag sites design (saved w) (λ m. first_wire m ∷ []) (first_wire m) m (memory_within w m (and_parts (is_memory w m) (is_dynamic w m) h).0) h (inl refl)))
 
   abbrev inner_wire : ℕ → Var
-  inner_wire x = variable (key_name d (Inner x)) tag 0
+  inner_wire x = variable (key_name d (inner_key x)) tag 0
 
   in_inner : (x : ℕ) → nat_lt x (root w) ≡ true → 0 < children w x → In src.wires (inner_wire x)
   in_inner x l h =
@@ -218,9 +218,9 @@ module _ (d : Named) (tag sites : ℕ) (design : Design d tag sites) (fit : Fitt
   states : LawfulStates set
   states = lawful_states d tag sites design
 
-  no_seat : (a : Key) (q : ℕ) (n : Name) → (sort a ≡ 2 → ⊥) → n ≡ key_name d (Seat q) → bytes_eq (key_name d a) n ≡ false
+  no_seat : (a : Key) (q : ℕ) (n : Name) → (sort a ≡ 2 → ⊥) → n ≡ key_name d (seat_key q) → bytes_eq (key_name d a) n ≡ false
   no_seat a q n f e =
-      ap (bytes_eq (key_name d a)) e ∙ names_apart d design.names a (Seat q) ∙ false_from_ne_true (same a (Seat q)) (λ s. f (eqb-true (sort a) 2 (and_parts (nat_eq (sort a) 2) (nat_eq (index a) q) s).0))
+      ap (bytes_eq (key_name d a)) e ∙ names_apart d design.names a (seat_key q) ∙ false_from_ne_true (same a (seat_key q)) (λ s. f (eqb-true (sort a) 2 (and_parts (nat_eq (sort a) 2) (nat_eq (index a) q) s).0))
 
   none_of : (n : Name) (xs : List Name) → AllByRecursion (λ (x : Name). bytes_eq n (seat_name x) ≡ false) xs → is_among n (map seat_name xs) ≡ false
   none_of n [] h = refl

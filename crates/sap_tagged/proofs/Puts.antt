@@ -11,7 +11,7 @@ use Rattle.sap_ir.specs.Guarded.{Going, value_in}
 use Rattle.sap_ir.specs.Plain.Nested.{Body, stop, act, cases, goto, fall}
 use Rattle.sap_ir.specs.Plain.Does.{body_does}
 use Rattle.sap_ir.specs.Plain.Views.{follow}
-use Rattle.sap_tagged.specs.Keys.{Key, Value, Tag, Seat, First, same}
+use Rattle.sap_tagged.specs.Keys.{Key, value_key, tag_key, seat_key, first_key, same}
 use Rattle.sap_tagged.specs.Setting.{Setting}
 use Rattle.sap_tagged.specs.Commands.{gives, sweep}
 use Rattle.sap_tagged.specs.Stands.{Lawful, at, is_value, has_tag, tag_slot, Stands}
@@ -29,7 +29,7 @@ at_put d widths laws g a b x = rw (laws.apart b a) refl
 pub record Kept (d : Setting) (g g' : Going) : Type 0 where
   pub cell : g'.now.cell ≡ g.now.cell
   pub next : g'.next ≡ g.next
-  pub first : (m : ℕ) → at d g' (First m) ≡ at d g (First m)
+  pub first : (m : ℕ) → at d g' (first_key m) ≡ at d g (first_key m)
 
 pub kept_none : (d : Setting) (g : Going) → Kept d g g
 kept_none d g = record { cell = refl; next = refl; first = λ m. refl }
@@ -41,11 +41,11 @@ pub memory_put : (d : Setting) (g : Going) (a : Key) (x : ℕ) → ((put_to d g 
 unfolding put_to
 memory_put d g a x = (refl, refl)
 
-pub kept_put : (d : Setting) (widths : Name → ℕ) → Lawful d widths → (g : Going) (a : Key) (x : ℕ) → ((m : ℕ) → same (First m) a ≡ false) → Kept d g (put_to d g a x)
+pub kept_put : (d : Setting) (widths : Name → ℕ) → Lawful d widths → (g : Going) (a : Key) (x : ℕ) → ((m : ℕ) → same (first_key m) a ≡ false) → Kept d g (put_to d g a x)
 kept_put d widths laws g a x n = record {
   cell = (memory_put d g a x).0;
   next = (memory_put d g a x).1;
-  first = λ m. at_put d widths laws g a (First m) x ∙ ap (λ (b : Bool). if b then x else at d g (First m)) (n m);
+  first = λ m. at_put d widths laws g a (first_key m) x ∙ ap (λ (b : Bool). if b then x else at d g (first_key m)) (n m);
 }
 
 module _ (d : Setting) (widths : Name → ℕ) (f : Going → Going) (go : Name → Going → Going) where
@@ -162,27 +162,27 @@ pub record SameMemories (s s' : Store) : Type 0 where
   pub next_tags : (m i : ℕ) → s'.level (next m i) ≡ s.level (next m i)
 
 pub record Aside (d : Setting) (g g' : Going) : Type 0 where
-  pub value : (x : ℕ) → at d g' (Value x) ≡ at d g (Value x)
-  pub tag : (x : ℕ) → at d g' (Tag x) ≡ at d g (Tag x)
-  pub seat : (x : ℕ) → at d g' (Seat x) ≡ at d g (Seat x)
+  pub value : (x : ℕ) → at d g' (value_key x) ≡ at d g (value_key x)
+  pub tag : (x : ℕ) → at d g' (tag_key x) ≡ at d g (tag_key x)
+  pub seat : (x : ℕ) → at d g' (seat_key x) ≡ at d g (seat_key x)
   pub memory : Kept d g g'
 
 module _ (d : Setting) (g g' : Going) (s : Store) where
   pub stands_changed : (s' : Store) → Stands d g s → Kept d g g' → SameMemories s s'
-      → ((x : ℕ) → is_value d.world x ≡ true → at d g' (Value x) ≡ number (own x) s')
-      → ((x : ℕ) → has_tag d.world x ≡ true → at d g' (Tag x) ≡ d.code (s'.level (tag_slot d.world x)))
-      → ((p : ℕ) → 0 < children d.world p → at d g' (Seat p) ≡ child p s')
+      → ((x : ℕ) → is_value d.world x ≡ true → at d g' (value_key x) ≡ number (own x) s')
+      → ((x : ℕ) → has_tag d.world x ≡ true → at d g' (tag_key x) ≡ d.code (s'.level (tag_slot d.world x)))
+      → ((p : ℕ) → 0 < children d.world p → at d g' (seat_key p) ≡ child p s')
       → ((p : ℕ) → 0 < children d.world p → child p s' < children d.world p) → Stands d g' s'
   stands_changed s' r k e vs ts ss cs = record {
     value = vs;
     tag = ts;
     seat = ss;
     seated = cs;
-    starts = λ m i q. ap (λ (c : Name → ℕ → ℕ). c (d.name (Value m)) i) k.cell ∙ r.starts m i q ∙ sym (e.starts m i);
-    start_tags = λ m i q t. ap (λ (c : Name → ℕ → ℕ). c (d.name (Tag m)) i) k.cell ∙ r.start_tags m i q t ∙ ap d.code (sym (e.start_tags m i));
+    starts = λ m i q. ap (λ (c : Name → ℕ → ℕ). c (d.name (value_key m)) i) k.cell ∙ r.starts m i q ∙ sym (e.starts m i);
+    start_tags = λ m i q t. ap (λ (c : Name → ℕ → ℕ). c (d.name (tag_key m)) i) k.cell ∙ r.start_tags m i q t ∙ ap d.code (sym (e.start_tags m i));
     start_tag = λ m q. k.first m ∙ r.start_tag m q ∙ ap d.code (sym (e.start_tag m));
-    nexts = λ m i q. ap (λ (c : Name → ℕ → ℕ). c (d.name (Value m)) i) k.next ∙ r.nexts m i q ∙ sym (e.nexts m i);
-    next_tags = λ m i q t. ap (λ (c : Name → ℕ → ℕ). c (d.name (Tag m)) i) k.next ∙ r.next_tags m i q t ∙ ap d.code (sym (e.next_tags m i));
+    nexts = λ m i q. ap (λ (c : Name → ℕ → ℕ). c (d.name (value_key m)) i) k.next ∙ r.nexts m i q ∙ sym (e.nexts m i);
+    next_tags = λ m i q t. ap (λ (c : Name → ℕ → ℕ). c (d.name (tag_key m)) i) k.next ∙ r.next_tags m i q t ∙ ap d.code (sym (e.next_tags m i));
   }
 
   pub stands_aside : Stands d g s → Aside d g g' → Stands d g' s
@@ -203,9 +203,9 @@ module _ (d : Setting) (g g' : Going) (s : Store) where
       by false e = refl
 
   pub stands_set : (x n t : ℕ) → Stands d g s → is_memory d.world x ≡ false
-      → ((k : ℕ) → is_value d.world k ≡ true → at d g' (Value k) ≡ (if nat_eq k x then n else at d g (Value k)))
-      → ((k : ℕ) → has_tag d.world k ≡ true → at d g' (Tag k) ≡ (if nat_eq k x then d.code t else at d g (Tag k)))
-      → ((k : ℕ) → at d g' (Seat k) ≡ at d g (Seat k)) → Kept d g g' → Stands d g' (put_level d.world (own x) t (put_number (own x) n s))
+      → ((k : ℕ) → is_value d.world k ≡ true → at d g' (value_key k) ≡ (if nat_eq k x then n else at d g (value_key k)))
+      → ((k : ℕ) → has_tag d.world k ≡ true → at d g' (tag_key k) ≡ (if nat_eq k x then d.code t else at d g (tag_key k)))
+      → ((k : ℕ) → at d g' (seat_key k) ≡ at d g (seat_key k)) → Kept d g g' → Stands d g' (put_level d.world (own x) t (put_number (own x) n s))
   unfolding put_level put_number
   stands_set x n t r m vs ts ss ks =
       stands_changed (put_level d.world (own x) t (put_number (own x) n s)) r ks
@@ -227,9 +227,9 @@ module _ (d : Setting) (g g' : Going) (s : Store) where
       by true = refl
       by false = refl
 
-  pub stands_raise : (h : ℕ → Bool) (t : ℕ) → Stands d g s → ((k : ℕ) → at d g' (Value k) ≡ at d g (Value k))
-      → ((k : ℕ) → has_tag d.world k ≡ true → at d g' (Tag k) ≡ (if h k then d.code (d.world.order.join (s.level (tag_slot d.world k)) t) else at d g (Tag k)))
-      → ((k : ℕ) → at d g' (Seat k) ≡ at d g (Seat k)) → Kept d g g' → Stands d g' (raise d.world.order h t s)
+  pub stands_raise : (h : ℕ → Bool) (t : ℕ) → Stands d g s → ((k : ℕ) → at d g' (value_key k) ≡ at d g (value_key k))
+      → ((k : ℕ) → has_tag d.world k ≡ true → at d g' (tag_key k) ≡ (if h k then d.code (d.world.order.join (s.level (tag_slot d.world k)) t) else at d g (tag_key k)))
+      → ((k : ℕ) → at d g' (seat_key k) ≡ at d g (seat_key k)) → Kept d g g' → Stands d g' (raise d.world.order h t s)
   unfolding raise
   stands_raise h t r vs ts ss ks =
       stands_changed (raise d.world.order h t s) r ks

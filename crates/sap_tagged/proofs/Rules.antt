@@ -12,7 +12,7 @@ use Rattle.sap_net.proofs.NamesLemmas.{among_behind, among_front, apart_by_membe
 use Rattle.sap_maps.specs.Maps.{Name}
 use Rattle.sap_maps.specs.Scope.{find}
 use Rattle.sap_meaning.specs.Program as program
-use Rattle.sap_meaning.specs.Program.{World, Kind, entity, root, children, width, is_input, is_register, is_memory, is_dynamic, State, Node, Group, More, Command, Do, Try, If, TryThen, Case, Arms, Last, Arm, Block, End, Then, kind_is_input, kind_is_register, kind_is_memory, kind_is_state}
+use Rattle.sap_meaning.specs.Program.{World, Kind, entity, root, children, width, is_input, is_register, is_memory, is_dynamic, State, state_node, Group, and_node, Command, lone, try, if_else, try_then, case_of, Arms, last_arm, and_arm, Block, end_block, command_then, kind_is_input, kind_is_register, kind_is_memory, kind_is_state}
 use Rattle.sap_meaning.specs.Sized.{SizedProgram}
 use Rattle.sap_resolve.specs.Sized.Ranges.{IsWidth, Ranged, RangedArms, RangedBlock, RangedState, RangedGroup, RangedProgram}
 use Rattle.sap_net.specs.Names.{is_name, is_among, AreDistinct}
@@ -22,7 +22,7 @@ use Rattle.sap_ir.specs.IsGuarded.{IsGuarded, IsPlainVar, IsRegisterVar, IsStore
 use Rattle.sap_ir.specs.Plain.Nested.{Nested, declarations, seat_width}
 use Rattle.sap_ir.proofs.plain.SeatWidths.{seat_positive, seat_within}
 use Rattle.sap_interface.specs.StandsFor.{Named, world, depth}
-use Rattle.sap_tagged.specs.Keys.{Key, Value, Tag, First, Inner, key_name}
+use Rattle.sap_tagged.specs.Keys.{Key, value_key, tag_key, first_key, inner_key, key_name}
 use Rattle.sap_tagged.specs.Setting.{Setting, setting_of}
 use Rattle.sap_tagged.specs.Commands.{arm_count, wires, wires_block}
 use Rattle.sap_tagged.specs.States.{saved, wires_group}
@@ -133,34 +133,34 @@ module _ (d : Named) (tag sites : ℕ) (design : Design d tag sites) (fit : Fitt
 
   mutual
     command_vars : (k : ℕ) (c : Command) → Ranged w c → Every IsPlainVar (command_wires d tag k c)
-    command_vars k (Do t) r = step_vars k
-    command_vars k (Try t hang h) r = every_join IsPlainVar (step_wires d tag k) (block_wires d tag (k + 5) h) (step_vars k) (block_vars (k + 5) h r.1)
-    command_vars k (If hang e a b) r =
+    command_vars k (lone t) r = step_vars k
+    command_vars k (try t hang h) r = every_join IsPlainVar (step_wires d tag k) (block_wires d tag (k + 5) h) (step_vars k) (block_vars (k + 5) h r.1)
+    command_vars k (if_else hang e a b) r =
         (tag_wire k, (tag_wire (k + 1), every_join IsPlainVar (block_wires d tag (k + 2) a) (block_wires d tag (k + 2 + wires_block a) b) (block_vars (k + 2) a r.1) (block_vars (k + 2 + wires_block a) b r.2)))
-    command_vars k (TryThen t hang a b) r =
+    command_vars k (try_then t hang a b) r =
         every_join IsPlainVar (step_wires d tag k) (block_wires d tag (k + 5) a ++ block_wires d tag (k + 5 + wires_block a) b) (step_vars k)
         (every_join IsPlainVar (block_wires d tag (k + 5) a) (block_wires d tag (k + 5 + wires_block a) b) (block_vars (k + 5) a r.1) (block_vars (k + 5 + wires_block a) b r.2))
-    command_vars k (Case hang e arms) r =
+    command_vars k (case_of hang e arms) r =
         (tag_wire k, (tag_wire (k + 1), ((ranged_width w e r.0, refl), (((seat_positive (suc (arm_count arms)), seat_within (suc (arm_count arms))), refl), arms_vars (k + 4) arms r.1))))
 
     arms_vars : (k : ℕ) (arms : Arms) → RangedArms w arms → Every IsPlainVar (arms_wires d tag k arms)
-    arms_vars k (Last b) r = block_vars k b r
-    arms_vars k (Arm constants b arms) r =
+    arms_vars k (last_arm b) r = block_vars k b r
+    arms_vars k (and_arm constants b arms) r =
         every_join IsPlainVar (block_wires d tag k b) (arms_wires d tag (k + wires_block b) arms) (block_vars k b r.0) (arms_vars (k + wires_block b) arms r.1)
 
     block_vars : (k : ℕ) (b : Block) → RangedBlock w b → Every IsPlainVar (block_wires d tag k b)
-    block_vars k End r = tt
-    block_vars k (Then c cs) r = every_join IsPlainVar (command_wires d tag k c) (block_wires d tag (k + wires c) cs) (command_vars k c r.0) (block_vars (k + wires c) cs r.1)
+    block_vars k end_block r = tt
+    block_vars k (command_then c cs) r = every_join IsPlainVar (command_wires d tag k c) (block_wires d tag (k + wires c) cs) (command_vars k c r.0) (block_vars (k + wires c) cs r.1)
 
   mutual
     state_vars : (k : ℕ) (t : State) → RangedState w t → Every IsPlainVar (state_wires d tag k t)
-    state_vars k (Node s b g) r =
+    state_vars k (state_node s b g) r =
         (tag_wire k, every_join IsPlainVar (block_wires d tag (k + 1) b) (group_wires d tag (k + 1 + wires_block b) g) (block_vars (k + 1) b r.0) (group_vars (k + 1 + wires_block b) g r.1))
 
     group_vars : (k : ℕ) (g : Group) → RangedGroup w g → Every IsPlainVar (group_wires d tag k g)
-    group_vars k program.None r = tt
-    group_vars k (More (Node s b g) rest) r =
-        every_join IsPlainVar (state_wires d tag k (Node s b g)) (group_wires d tag (k + (1 + wires_block b + wires_group g)) rest) (state_vars k (Node s b g) r.0)
+    group_vars k program.no_node r = tt
+    group_vars k (and_node (state_node s b g) rest) r =
+        every_join IsPlainVar (state_wires d tag k (state_node s b g)) (group_wires d tag (k + (1 + wires_block b + wires_group g)) rest) (state_vars k (state_node s b g) r.0)
         (group_vars (k + (1 + wires_block b + wires_group g)) rest r.1)
 
   site_vars : (k n : ℕ) → Every IsPlainVar (site_wires d tag k n)
@@ -172,9 +172,9 @@ module _ (d : Named) (tag sites : ℕ) (design : Design d tag sites) (fit : Fitt
       all_of IsPlainVar src.wires
       (every_join IsPlainVar (site_wires d tag 1 sites) (first_wires d tag ++ (inner_wires d tag ++ group_wires d tag 0 d.program.states)) (site_vars 1 sites)
       (every_join IsPlainVar (first_wires d tag) (inner_wires d tag ++ group_wires d tag 0 d.program.states)
-      (each IsPlainVar (saved w) (λ m. variable (key_name d (First m)) tag 0 ∷ []) (λ x h. ((fit.wide, refl), tt)))
+      (each IsPlainVar (saved w) (λ m. variable (key_name d (first_key m)) tag 0 ∷ []) (λ x h. ((fit.wide, refl), tt)))
       (every_join IsPlainVar (inner_wires d tag) (group_wires d tag 0 d.program.states)
-      (each IsPlainVar (λ q. nat_lt 0 (children w q)) (λ q. variable (key_name d (Inner q)) tag 0 ∷ []) (λ x h. ((fit.wide, refl), tt))) (group_vars 0 d.program.states fit.ranged.states))))
+      (each IsPlainVar (λ q. nat_lt 0 (children w q)) (λ q. variable (key_name d (inner_key q)) tag 0 ∷ []) (λ x h. ((fit.wide, refl), tt))) (group_vars 0 d.program.states fit.ranged.states))))
 
   memories_fine : AllByRecursion IsStore src.memories
   memories_fine =
@@ -185,7 +185,7 @@ module _ (d : Named) (tag sites : ℕ) (design : Design d tag sites) (fit : Fitt
         by m h (is_dynamic w m),
       )))
     where
-      by : (m : ℕ) → is_memory w m ≡ true → (b : Bool) → Every IsStore (if b then [] else record { name = key_name d (Tag m); width = tag; depth = depth d m; start = level_at_start d m } ∷ [])
+      by : (m : ℕ) → is_memory w m ≡ true → (b : Bool) → Every IsStore (if b then [] else record { name = key_name d (tag_key m); width = tag; depth = depth d m; start = level_at_start d m } ∷ [])
       by m h true = tt
       by m h false = ((fit.wide, fit.ranged.depths m h, design.small _), tt)
 
@@ -214,21 +214,21 @@ module _ (d : Named) (tag sites : ℕ) (design : Design d tag sites) (fit : Fitt
   of_all picks of = for_entities picks of 0 w.entities
 
   abbrev port_keys : List Key
-  port_keys = of_all (is_register w) (λ x. Value x ∷ Tag x ∷ []) ++ site_keys 1 sites
+  port_keys = of_all (is_register w) (λ x. value_key x ∷ tag_key x ∷ []) ++ site_keys 1 sites
 
   ports_keys : src.ports ≡ map (key_name d) port_keys
   ports_keys =
-      ap₂ (λ (a b : List Name). a ++ b) (entities_named {A = Var} (λ x. x.name) d (is_register w) (λ x. value_var d x (entity w x).initial ∷ tag_var d tag x (level_at_start d x) ∷ []) (λ x. Value x ∷ Tag x ∷ []) (λ x. refl) 0 w.entities) (sites_named d tag 1 sites)
-      ∙ sym (map-append (key_name d) (of_all (is_register w) (λ x. Value x ∷ Tag x ∷ [])) (site_keys 1 sites))
+      ap₂ (λ (a b : List Name). a ++ b) (entities_named {A = Var} (λ x. x.name) d (is_register w) (λ x. value_var d x (entity w x).initial ∷ tag_var d tag x (level_at_start d x) ∷ []) (λ x. value_key x ∷ tag_key x ∷ []) (λ x. refl) 0 w.entities) (sites_named d tag 1 sites)
+      ∙ sym (map-append (key_name d) (of_all (is_register w) (λ x. value_key x ∷ tag_key x ∷ [])) (site_keys 1 sites))
 
   ports_once : AreDistinct src.ports
   ports_once =
       subst AreDistinct (sym ports_keys)
       (distinct_keys d design.names port_keys
-      (once_join (of_all (is_register w) (λ x. Value x ∷ Tag x ∷ [])) (site_keys 1 sites)
-      (entities_once (is_register w) (λ x. Value x ∷ Tag x ∷ []) (λ m. (refl, (refl, tt))) (λ m. ((refl, tt), (tt, tt))) 0 w.entities) (sites_once 1 sites)
-      (lists_apart (list_number w) 1 (of_all (is_register w) (λ x. Value x ∷ Tag x ∷ [])) (site_keys 1 sites)
-      (entities_all (λ a. list_number w a ≡ 1) (is_register w) (λ x. Value x ∷ Tag x ∷ [])
+      (once_join (of_all (is_register w) (λ x. value_key x ∷ tag_key x ∷ [])) (site_keys 1 sites)
+      (entities_once (is_register w) (λ x. value_key x ∷ tag_key x ∷ []) (λ m. (refl, (refl, tt))) (λ m. ((refl, tt), (tt, tt))) 0 w.entities) (sites_once 1 sites)
+      (lists_apart (list_number w) 1 (of_all (is_register w) (λ x. value_key x ∷ tag_key x ∷ [])) (site_keys 1 sites)
+      (entities_all (λ a. list_number w a ≡ 1) (is_register w) (λ x. value_key x ∷ tag_key x ∷ [])
       (λ x h. let r = register_lists (entity w x).kind (is_dynamic w x) h in (r.0, (r.1, tt))) 0 w.entities) (of_sites 1 sites))))
 
   pub guarded : IsGuarded (declarations (plain_of d tag sites))

@@ -5,7 +5,7 @@ use Rattle.sap_lemmas.proofs.Numbers.{test_symmetric}
 use Rattle.sap_tree.specs.Limits.{most_arms}
 use Rattle.sap_maps.specs.Maps.{Name}
 use Rattle.sap_maps.specs.Term.{Term}
-use Rattle.sap_meaning.specs.Program.{listed, Step, Set, Write, Retag, RetagCell, Goto, Fall, Command, Do, Try, If, TryThen, Case, Arms, Last, Arm, Block, End, Then, Group}
+use Rattle.sap_meaning.specs.Program.{listed, Step, assign, write, retag, retag_cell, go_to, fall_to_child, Command, lone, try, if_else, try_then, case_of, Arms, last_arm, and_arm, Block, end_block, command_then, Group}
 use Rattle.sap_meaning.specs.Store.{Store, raise, Refusal, After, stay, and_then}
 use Rattle.sap_meaning.specs.Expressions.{value, tag, width_of}
 use Rattle.sap_meaning.specs.Checks.{Spot, site_of, guard, test}
@@ -17,7 +17,7 @@ use Rattle.sap_ir.specs.Plain.Nested.{Body, stop, cases}
 use Rattle.sap_ir.specs.Plain.Does.{body_does}
 use Rattle.sap_ir.specs.Plain.Views.{follow}
 use Rattle.sap_ir.proofs.plain.SeatWidths.{seat_holds}
-use Rattle.sap_tagged.specs.Keys.{Value, Tag, Seat, Refused, Level, Wire}
+use Rattle.sap_tagged.specs.Keys.{value_key, tag_key, seat_key, refused_key, level_key, wire_key}
 use Rattle.sap_tagged.specs.Setting.{Setting}
 use Rattle.sap_tagged.specs.Levels.{var, lub, expr, tag_of, always}
 use Rattle.sap_tagged.specs.Commands.{raises, looks, effect_of, refusal, outcome, attempt_of, outcome_then, attempt_then_of, arm_count, pick_width, picks, decides, pick_of, select_of, wires, wires_arms, wires_block, command_plain, arms_plain, block_plain}
@@ -35,7 +35,7 @@ use Rattle.sap_tagged.proofs.Picks.{arm_place, arm_within, decided, arms_picked}
 -- what a body does, with its context in the wire p and the wires from k on free
 abbrev pub BodyRuns : Setting → (Name → ℕ) → (Going → Going) → (Name → Going → Going) → (p k : ℕ) → Body → (ℕ → Store → After) → Type 0
 BodyRuns d widths f go p k b m =
-    (g : Going) (s : Store) (l : ℕ) → Stands d g s → at d g (Wire p) ≡ d.code l → Turns d k g (body_does widths f go b g) (m l s)
+    (g : Going) (s : Store) (l : ℕ) → Stands d g s → at d g (wire_key p) ≡ d.code l → Turns d k g (body_does widths f go b g) (m l s)
 
 child_raise : (d : Setting) (h : ℕ → Bool) (t : ℕ) (s : Store) → (raise d.world.order h t s).child ≡ s.child
 unfolding raise
@@ -48,21 +48,21 @@ with_refusal n l a = let refusal : Refusal = record { site = n; level = l } in r
 module _ (d : Setting) (widths : Name → ℕ) (laws : Lawful d widths) (f : Going → Going) (go : Name → Going → Going) where
   -- the wires of a refusal, and then the handler
   refusal_turns : (k from : ℕ) (t : Step) (h : Body) (m : ℕ → Store → After) → k ≤ from → BodyRuns d widths f go (k + 2) from h m → (g : Going) (r : Store) (l : ℕ) → Stands d g r
-      → at d g (Wire (k + 2)) ≡ d.code l → Turns d k g (body_does widths f go (refusal d k t h) g) (with_refusal (site_of t) l (m l r))
+      → at d g (wire_key (k + 2)) ≡ d.code l → Turns d k g (body_does widths f go (refusal d k t h) g) (with_refusal (site_of t) l (m l r))
   unfolding put_to
   refusal_turns k from t h m above runs g r l st e =
       let n = site_of t in
-      let g1 = put_to d g (Refused n) 1 in
-      let x = at d g1 (Wire (k + 2)) in
-      let ex : x ≡ d.code l = at_put d widths laws g (Refused n) (Wire (k + 2)) 1 ∙ e in
-      let g2 = put_to d g1 (Level n) x in
+      let g1 = put_to d g (refused_key n) 1 in
+      let x = at d g1 (wire_key (k + 2)) in
+      let ex : x ≡ d.code l = at_put d widths laws g (refused_key n) (wire_key (k + 2)) 1 ∙ e in
+      let g2 = put_to d g1 (level_key n) x in
       let aside : Aside d g g2 = record {
-        value = λ y. at_put d widths laws g1 (Level n) (Value y) x ∙ at_put d widths laws g (Refused n) (Value y) 1;
-        tag = λ y. at_put d widths laws g1 (Level n) (Tag y) x ∙ at_put d widths laws g (Refused n) (Tag y) 1;
-        seat = λ y. at_put d widths laws g1 (Level n) (Seat y) x ∙ at_put d widths laws g (Refused n) (Seat y) 1;
-        memory = kept_next d g g1 g2 (kept_put d widths laws g (Refused n) 1 (λ m. refl)) (kept_put d widths laws g1 (Level n) x (λ m. refl));
+        value = λ y. at_put d widths laws g1 (level_key n) (value_key y) x ∙ at_put d widths laws g (refused_key n) (value_key y) 1;
+        tag = λ y. at_put d widths laws g1 (level_key n) (tag_key y) x ∙ at_put d widths laws g (refused_key n) (tag_key y) 1;
+        seat = λ y. at_put d widths laws g1 (level_key n) (seat_key y) x ∙ at_put d widths laws g (refused_key n) (seat_key y) 1;
+        memory = kept_next d g g1 g2 (kept_put d widths laws g (refused_key n) 1 (λ m. refl)) (kept_put d widths laws g1 (level_key n) x (λ m. refl));
       } in
-      let wire : (j : ℕ) → at d g2 (Wire j) ≡ at d g (Wire j) = λ j. at_put d widths laws g1 (Level n) (Wire j) x ∙ at_put d widths laws g (Refused n) (Wire j) 1 in
+      let wire : (j : ℕ) → at d g2 (wire_key j) ≡ at d g (wire_key j) = λ j. at_put d widths laws g1 (level_key n) (wire_key j) x ∙ at_put d widths laws g (refused_key n) (wire_key j) 1 in
       let q = runs g2 r l (stands_aside d g g2 r st aside) (wire (k + 2) ∙ e) in
       record {
         stands = q.stands;
@@ -70,28 +70,28 @@ module _ (d : Setting) (widths : Name → ℕ) (laws : Lawful d widths) (f : Goi
         refused = λ j.
             q.refused j
             ∙ ap (refused_after j (m l r).refused)
-            (at_put d widths laws g1 (Level n) (Refused j) x ∙ at_put d widths laws g (Refused n) (Refused j) 1 ∙ ap (λ (b : Bool). if b then 1 else at d g (Refused j)) (test_symmetric j n));
+            (at_put d widths laws g1 (level_key n) (refused_key j) x ∙ at_put d widths laws g (refused_key n) (refused_key j) 1 ∙ ap (λ (b : Bool). if b then 1 else at d g (refused_key j)) (test_symmetric j n));
         levels = λ j.
             q.levels j
             ∙ ap (level_after d.code j (m l r).refused)
-            (at_put d widths laws g1 (Level n) (Level j) x ∙ ap (λ (z : ℕ). if nat_eq j n then z else at d g1 (Level j)) ex
-            ∙ ap (λ (z : ℕ). if nat_eq j n then d.code l else z) (at_put d widths laws g (Refused n) (Level j) 1)
-            ∙ ap (λ (b : Bool). if b then d.code l else at d g (Level j)) (test_symmetric j n));
+            (at_put d widths laws g1 (level_key n) (level_key j) x ∙ ap (λ (z : ℕ). if nat_eq j n then z else at d g1 (level_key j)) ex
+            ∙ ap (λ (z : ℕ). if nat_eq j n then d.code l else z) (at_put d widths laws g (refused_key n) (level_key j) 1)
+            ∙ ap (λ (b : Bool). if b then d.code l else at d g (level_key j)) (test_symmetric j n));
       }
 
   module _ (q : Group) (sp : Spot) (placed : Placed d.world q sp) (goes : GoesRun d go sp.parent q) (base : ℕ) (enter : ℕ → ℕ → Store → After) (falls : FallsRun d f base sp.state enter) where
     effect_turns : (k free : ℕ) (t : Step) (l : ℕ) (b r : Store) (g : Going) → free ≤ base → FineStep d.world q sp.children t → Begins d k sp t l b r g
         → Turns d free g (body_does widths f go (effect_of d sp k t) g) (effect d.world sp enter t l b r)
-    effect_turns k free (Set site x e) l b r g fb fine h = set_effect d widths laws f go enter q k free sp site x e l b r g fine h
-    effect_turns k free (Write site m i e) l b r g fb fine h = write_effect d widths laws f go enter q k free sp site m i e l b r g fine h
-    effect_turns k free (Retag site x n) l b r g fb fine h = retag_effect d widths laws f go enter q k free sp site x n l b r g fine h
-    effect_turns k free (RetagCell site m j n) l b r g fb fine h = retag_cell_effect d widths laws f go enter q k free sp site m j n l b r g fine h
-    effect_turns k free (Goto site target) l b r g fb fine h =
+    effect_turns k free (assign site x e) l b r g fb fine h = set_effect d widths laws f go enter q k free sp site x e l b r g fine h
+    effect_turns k free (write site m i e) l b r g fb fine h = write_effect d widths laws f go enter q k free sp site m i e l b r g fine h
+    effect_turns k free (retag site x n) l b r g fb fine h = retag_effect d widths laws f go enter q k free sp site x n l b r g fine h
+    effect_turns k free (retag_cell site m j n) l b r g fb fine h = retag_cell_effect d widths laws f go enter q k free sp site m j n l b r g fine h
+    effect_turns k free (go_to site target) l b r g fb fine h =
         goto_effect d widths laws f go enter q k free sp site target l b r g goes fine (placed.states target fine) (placed.siblings target fine).1 h.stands h.new
-    effect_turns k free (Fall site hang) l b r g fb fine h = fall_effect d widths laws f go enter base k free sp site hang l b r g fb falls h
+    effect_turns k free (fall_to_child site hang) l b r g fb fine h = fall_effect d widths laws f go enter base k free sp site hang l b r g fb falls h
 
     outcome_turns : (k : ℕ) (t : Step) (h : Body) (m : ℕ → Store → After) → k ≤ base → FineStep d.world q sp.children t → BodyRuns d widths f go (k + 2) (k + 5) h m
-        → (b r : Store) (l : ℕ) (g : Going) → at d g (Wire k) ≡ bit (test d.world sp t l b) → Begins d k sp t l b r g
+        → (b r : Store) (l : ℕ) (g : Going) → at d g (wire_key k) ≡ bit (test d.world sp t l b) → Begins d k sp t l b r g
         → Turns d k g (body_does widths f go (outcome d sp k t h) g)
         (if test d.world sp t l b then effect d.world sp enter t l b r
         else with_refusal (site_of t) (d.world.order.join l (guard d.world sp t b)) (m (d.world.order.join l (guard d.world sp t b)) r))
@@ -100,15 +100,15 @@ module _ (d : Setting) (widths : Name → ℕ) (laws : Lawful d widths) (f : Goi
       | inr a ↦
           rw a
           (elim (cases_Bool (test d.world sp t l b)) [
-            | inl e ↦ (let z : at d g (Wire k) ≡ 1 = tested ∙ ap bit e in rw (e, z) (effect_turns k k t l b r g kb fine begins))
-            | inr e ↦ (let z : at d g (Wire k) ≡ 0 = tested ∙ ap bit e in rw (e, z) (refusal_turns k (k + 5) t h m (omega arith) runs g r _ begins.stands begins.inside))
+            | inl e ↦ (let z : at d g (wire_key k) ≡ 1 = tested ∙ ap bit e in rw (e, z) (effect_turns k k t l b r g kb fine begins))
+            | inr e ↦ (let z : at d g (wire_key k) ≡ 0 = tested ∙ ap bit e in rw (e, z) (refusal_turns k (k + 5) t h m (omega arith) runs g r _ begins.stands begins.inside))
           ])
     ]
 
     -- behind an accepted step's effect the accepted part
     outcome_then_turns : (k from later : ℕ) (t : Step) (x h : Body) (mx m : ℕ → Store → After) → k + 5 ≤ from → k + 5 ≤ later → k + 5 ≤ base → FineStep d.world q sp.children t
         → BodyRuns d widths f go (k + 2) from x mx → BodyRuns d widths f go (k + 2) later h m
-        → (b r : Store) (l : ℕ) (g : Going) → at d g (Wire k) ≡ bit (test d.world sp t l b) → Begins d k sp t l b r g
+        → (b r : Store) (l : ℕ) (g : Going) → at d g (wire_key k) ≡ bit (test d.world sp t l b) → Begins d k sp t l b r g
         → Turns d k g (body_does widths f go (outcome_then d sp k t x h) g)
         (if test d.world sp t l b then and_then (effect d.world sp enter t l b r) (mx (d.world.order.join l (guard d.world sp t b)))
         else with_refusal (site_of t) (d.world.order.join l (guard d.world sp t b)) (m (d.world.order.join l (guard d.world sp t b)) r))
@@ -126,16 +126,16 @@ module _ (d : Setting) (widths : Name → ℕ) (laws : Lawful d widths) (f : Goi
           | inr a ↦
               rw a
               (elim (cases_Bool (test d.world sp t l b)) [
-                | inl e ↦ (let z : at d g (Wire k) ≡ 1 = tested ∙ ap bit e in rw (e, z) accepted)
-                | inr e ↦ (let z : at d g (Wire k) ≡ 0 = tested ∙ ap bit e in rw (e, z) (refusal_turns k later t h m (omega (arith, kh)) rh g r _ begins.stands begins.inside))
+                | inl e ↦ (let z : at d g (wire_key k) ≡ 1 = tested ∙ ap bit e in rw (e, z) accepted)
+                | inr e ↦ (let z : at d g (wire_key k) ≡ 0 = tested ∙ ap bit e in rw (e, z) (refusal_turns k later t h m (omega (arith, kh)) rh g r _ begins.stands begins.inside))
               ])
         ]
 
     -- what is looked at, and the raises
     readied : (p k : ℕ) (t : Step) (hang : ℕ → Bool) (rest : Body) (l : ℕ) (s : Store) (g : Going) → p < k → FineStep d.world q sp.children t → Stands d g s
-        → at d g (Wire p) ≡ d.code l
+        → at d g (wire_key p) ≡ d.code l
         → (g' : Going) × (body_does widths f go (looks d sp p k t (raises d hang (k + 1) rest)) g ≡ body_does widths f go rest g')
-        × (at d g' (Wire k) ≡ bit (test d.world sp t l s)) × Begins d k sp t l s (raise d.world.order hang (guard d.world sp t s) s) g' × Quiet d k g g'
+        × (at d g' (wire_key k) ≡ bit (test d.world sp t l s)) × Begins d k sp t l s (raise d.world.order hang (guard d.world sp t s) s) g' × Quiet d k g g'
     readied p k t hang rest l s g pk fine st pc =
         let a = looked d widths laws f go q sp p k t l s g (raises d hang (k + 1) rest) pk placed fine st pc in
         let g1 = a.0 in
@@ -147,7 +147,7 @@ module _ (d : Setting) (widths : Name → ℕ) (laws : Lawful d widths) (f : Goi
         let begins : Begins d k sp t l s (raise d.world.order hang gd s) g2 = record {
           stands = b.2;
           reads = λ x i. up.value x ∙ look.stands.value x i;
-          starts = λ m i e. ap (λ (c : Name → ℕ → ℕ). c (d.name (Value m)) i) up.memory.cell ∙ look.stands.starts m i e;
+          starts = λ m i e. ap (λ (c : Name → ℕ → ℕ). c (d.name (value_key m)) i) up.memory.cell ∙ look.stands.starts m i e;
           seats = child_raise d hang gd s;
           inside = up.wire (k + 2) ∙ look.inside;
           new = up.wire (k + 3) ∙ look.new;
@@ -183,12 +183,12 @@ module _ (d : Setting) (widths : Name → ℕ) (laws : Lawful d widths) (f : Goi
         let tg = tag d.world e s in
         let x0 = value_in widths g (tag_of d e) in
         let r0 = wired d widths laws s k g x0 (d.code tg) st (tag_value d widths laws g s st e fine) in
-        let g1 = put_to d g (Wire k) x0 in
+        let g1 = put_to d g (wire_key k) x0 in
         let q1 = r0.quiet k (omega arith) in
-        let x1 = value_in widths g1 (lub (var d (Wire p)) (var d (Wire k))) in
+        let x1 = value_in widths g1 (lub (var d (wire_key p)) (var d (wire_key k))) in
         let r1 = wired d widths laws s (k + 1) g1 x1 (d.code (o.join l tg)) r0.stands
-        (lub_value d widths laws g1 (var d (Wire p)) (var d (Wire k)) l tg (q1.kept p pk ∙ pc) r0.here) in
-        let g2 = put_to d g1 (Wire (k + 1)) x1 in
+        (lub_value d widths laws g1 (var d (wire_key p)) (var d (wire_key k)) l tg (q1.kept p pk ∙ pc) r0.here) in
+        let g2 = put_to d g1 (wire_key (k + 1)) x1 in
         let q2 = quiet_next d k g g1 g2 q1 (r1.quiet k (omega arith)) in
         let rest = cases (expr d e) x y stop in
         let b = raises_turn d widths laws f go hang k tg s g2 rest r1.stands ((r1.quiet (k + 1) (omega arith)).kept k (omega arith) ∙ r0.here) in
@@ -196,8 +196,8 @@ module _ (d : Setting) (widths : Name → ℕ) (laws : Lawful d widths) (f : Goi
         let up = b.3 in
         let v : value_in widths g3 (expr d e) ≡ value d.world e s =
         expr_value d widths laws g3 s (λ n i. up.value n ∙ r1.stands.value n i)
-        (λ m i h. ap (λ (c : Name → ℕ → ℕ). c (d.name (Value m)) i) up.memory.cell ∙ r1.stands.starts m i h) e fine in
-        let pc' : at d g3 (Wire (k + 1)) ≡ d.code (o.join l tg) = up.wire (k + 1) ∙ r1.here in
+        (λ m i h. ap (λ (c : Name → ℕ → ℕ). c (d.name (value_key m)) i) up.memory.cell ∙ r1.stands.starts m i h) e fine in
+        let pc' : at d g3 (wire_key (k + 1)) ≡ d.code (o.join l tg) = up.wire (k + 1) ∙ r1.here in
         let quiet = quiet_next d k g g2 g3 q2 (raised_quiet d widths laws k g2 g3 up) in
         rw b.1
         (rw v
@@ -218,16 +218,16 @@ module _ (d : Setting) (widths : Name → ℕ) (laws : Lawful d widths) (f : Goi
         let v = value d.world e s in
         let x0 = value_in widths g (tag_of d e) in
         let r0 = wired d widths laws s k g x0 (d.code tg) st (tag_value d widths laws g s st e fine) in
-        let g1 = put_to d g (Wire k) x0 in
+        let g1 = put_to d g (wire_key k) x0 in
         let q1 = r0.quiet k (omega arith) in
-        let x1 = value_in widths g1 (lub (var d (Wire p)) (var d (Wire k))) in
+        let x1 = value_in widths g1 (lub (var d (wire_key p)) (var d (wire_key k))) in
         let r1 = wired d widths laws s (k + 1) g1 x1 (d.code (o.join l tg)) r0.stands
-        (lub_value d widths laws g1 (var d (Wire p)) (var d (Wire k)) l tg (q1.kept p pk ∙ pc) r0.here) in
-        let g2 = put_to d g1 (Wire (k + 1)) x1 in
+        (lub_value d widths laws g1 (var d (wire_key p)) (var d (wire_key k)) l tg (q1.kept p pk ∙ pc) r0.here) in
+        let g2 = put_to d g1 (wire_key (k + 1)) x1 in
         let q2 = quiet_next d k g g1 g2 q1 (r1.quiet k (omega arith)) in
         let x2 = value_in widths g2 (expr d e) in
         let r2 = wired d widths laws s (k + 2) g2 x2 v r1.stands (expr_value d widths laws g2 s r1.stands.value r1.stands.starts e fine) in
-        let g3 = put_to d g2 (Wire (k + 2)) x2 in
+        let g3 = put_to d g2 (wire_key (k + 2)) x2 in
         let q3 = quiet_next d k g g2 g3 q2 (r2.quiet k (omega arith)) in
         let here = r2.quiet (k + 2) (omega arith) in
         let choice = picks d (width_of d.world e) (k + 2) (pick_width arms) (k + 3) 0 arms (decides d (k + 3) (pick_width arms) blocks) in
@@ -241,18 +241,18 @@ module _ (d : Setting) (widths : Name → ℕ) (laws : Lawful d widths) (f : Goi
         let g5 = a.0 in
         let chosen = a.2 in
         let place = arm_place arms v in
-        let here_place : at d g5 (Wire (k + 3)) ≡ place = let z : 0 + place ≡ place = omega arith in chosen.here ∙ z in
+        let here_place : at d g5 (wire_key (k + 3)) ≡ place = let z : 0 + place ≡ place = omega arith in chosen.here ∙ z in
         let alone : place ≡ 0 * 2 ^ pick_width arms + place = omega arith in
         let chose = decided d widths f go (k + 3) (pick_width arms) blocks place 0 place g5 here_place alone (let i = arm_within arms v in omega (arith, size, i)) few in
-        let pc' : at d g5 (Wire (k + 1)) ≡ d.code (o.join l tg) = chosen.quiet.kept (k + 1) (omega arith) ∙ up.wire (k + 1) ∙ here.kept (k + 1) (omega arith) ∙ r1.here in
+        let pc' : at d g5 (wire_key (k + 1)) ≡ d.code (o.join l tg) = chosen.quiet.kept (k + 1) (omega arith) ∙ up.wire (k + 1) ∙ here.kept (k + 1) (omega arith) ∙ r1.here in
         let quiet = quiet_next d k g g4 g5 (quiet_next d k g g3 g4 q3 (raised_quiet d widths laws k g3 g4 up)) (quiet_less d k (k + 3) g4 g5 (omega arith) chosen.quiet) in
         rw (b.1, a.1, chose) (turns_after d k (k + 4) g g5 _ _ (omega arith) quiet (runs v g5 raised _ chosen.stands pc'))
 
     -- as many blocks as arms and one
     blocks_counted : (p k : ℕ) (arms : Arms) → length (arms_plain d sp p k arms) ≡ suc (arm_count arms)
     unfolding arms_plain
-    blocks_counted p k (Last b) = refl
-    blocks_counted p k (Arm constants b arms) = ap suc (blocks_counted p (k + wires_block b) arms)
+    blocks_counted p k (last_arm b) = refl
+    blocks_counted p k (and_arm constants b arms) = ap suc (blocks_counted p (k + wires_block b) arms)
 
     blocks_hold : (p k : ℕ) (arms : Arms) → arm_count arms ≤ most_arms → length (arms_plain d sp p k arms) ≤ 2 ^ pick_width arms
     blocks_hold p k arms few = rw (blocks_counted p k arms) (seat_holds (suc (arm_count arms)) (omega (arith, few)))
@@ -265,28 +265,28 @@ module _ (d : Setting) (widths : Name → ℕ) (laws : Lawful d widths) (f : Goi
 
       pub command_runs : (c : Command) → FineCommand d.world q sp.children c → Few c → (p k : ℕ) → p < k → k + wires c ≤ base
           → BodyRuns d widths f go p k (command_plain d sp p k c) (run d.world sp enter c)
-      command_runs (Do t) fine few p k pk kb =
+      command_runs (lone t) fine few p k pk kb =
           attempt_runs p k t _ stop (λ l s. stay s) pk (omega arith) fine (λ g s l st pc. turns_stay d (k + 5) g g s (quiet_none d (k + 5) g) st)
-      command_runs (Try t hang h) fine few p k pk kb =
+      command_runs (try t hang h) fine few p k pk kb =
           attempt_runs p k t (listed hang) (block_plain d sp (k + 2) (k + 5) h) (run_block d.world sp enter h) pk (omega arith) fine.0
           (block_runs h fine.1 few (k + 2) (k + 5) (omega arith) (omega arith))
-      command_runs (If hang e a b) fine few p k pk kb =
+      command_runs (if_else hang e a b) fine few p k pk kb =
           select_runs p k e (listed hang) (block_plain d sp (k + 1) (k + 2) a) (block_plain d sp (k + 1) (k + 2 + wires_block a) b) (run_block d.world sp enter a)
           (run_block d.world sp enter b) (k + 2) (k + 2 + wires_block a) pk (omega arith) (omega arith) fine.0
           (block_runs a fine.1 few.0 (k + 1) (k + 2) (omega arith) (omega arith)) (block_runs b fine.2 few.1 (k + 1) (k + 2 + wires_block a) (omega arith) (omega arith))
-      command_runs (TryThen t hang a b) fine few p k pk kb =
+      command_runs (try_then t hang a b) fine few p k pk kb =
           attempt_then_runs p k (k + 5) (k + 5 + wires_block a) t (listed hang) (block_plain d sp (k + 2) (k + 5) a) (block_plain d sp (k + 2) (k + 5 + wires_block a) b)
           (run_block d.world sp enter a) (run_block d.world sp enter b) pk (omega arith) (omega arith) (omega arith) fine.0
           (block_runs a fine.1 few.0 (k + 2) (k + 5) (omega arith) (omega arith)) (block_runs b fine.2 few.1 (k + 2) (k + 5 + wires_block a) (omega arith) (omega arith))
-      command_runs (Case hang e arms) fine few p k pk kb =
+      command_runs (case_of hang e arms) fine few p k pk kb =
           pick_runs p k e (listed hang) arms (arms_plain d sp (k + 1) (k + 4) arms) (run_arms d.world sp enter arms) pk fine.0 (blocks_counted (k + 1) (k + 4) arms)
           (blocks_hold (k + 1) (k + 4) arms few.0) (λ n. arms_run arms fine.1 few.1 (k + 1) (k + 4) (omega arith) (omega arith) n)
 
       -- the block that the number picks
       arms_run : (arms : Arms) → FineArms d.world q sp.children arms → FewArms arms → (p k : ℕ) → p < k → k + wires_arms arms ≤ base → (n : ℕ)
           → BodyRuns d widths f go p k (get_or (arms_plain d sp p k arms) (arm_place arms n) stop) (run_arms d.world sp enter arms n)
-      arms_run (Last b) fine few p k pk kb n = block_runs b fine few p k pk kb
-      arms_run (Arm constants b arms) fine few p k pk kb n = elim (cases_Bool (is_constant constants n)) [
+      arms_run (last_arm b) fine few p k pk kb n = block_runs b fine few p k pk kb
+      arms_run (and_arm constants b arms) fine few p k pk kb n = elim (cases_Bool (is_constant constants n)) [
         | inl t ↦ rw t (block_runs b fine.0 few.1 p k pk (omega arith))
         | inr t ↦
             rw t
@@ -296,8 +296,8 @@ module _ (d : Setting) (widths : Name → ℕ) (laws : Lawful d widths) (f : Goi
 
       pub block_runs : (c : Block) → FineBlock d.world q sp.children c → FewBlock c → (p k : ℕ) → p < k → k + wires_block c ≤ base
           → BodyRuns d widths f go p k (block_plain d sp p k c) (run_block d.world sp enter c)
-      block_runs End fine few p k pk kb g s l st pc = turns_stay d k g g s (quiet_none d k g) st
-      block_runs (Then c cs) fine few p k pk kb g s l st pc =
+      block_runs end_block fine few p k pk kb g s l st pc = turns_stay d k g g s (quiet_none d k g) st
+      block_runs (command_then c cs) fine few p k pk kb g s l st pc =
           let r = command_runs c fine.0 few.0 p k pk (omega arith) g s l st pc in
           let g1 = body_does widths f go (command_plain d sp p k c) g in
           let t = block_runs cs fine.1 few.1 p (k + wires c) (omega arith) (omega arith) g1 _ l r.stands (r.kept p pk ∙ pc) in

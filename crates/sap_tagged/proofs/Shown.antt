@@ -18,7 +18,7 @@ use Rattle.sap_ir.proofs.plain.SeatWidths.{seat_positive, seat_holds, seat_least
 use Rattle.sap_interface.specs.PortNames.{value_name, tag_name, refused_name, level_name}
 use Rattle.sap_interface.specs.StandsFor.{Named, name, world, depth}
 use Rattle.sap_interface.specs.Interface.{Shown, pairs_of, site_ports, ports_of}
-use Rattle.sap_tagged.specs.Keys.{Value, Tag, Seat, key_name}
+use Rattle.sap_tagged.specs.Keys.{value_key, tag_key, seat_key, key_name}
 use Rattle.sap_tagged.specs.Plain.{for_entities, value_var, tag_var, seat_var, level_at_start, shown_registers, tag_registers, seat_registers, site_wires, first_wires, inner_wires, group_wires, memory_of, plain_of}
 use Rattle.sap_tagged.specs.Law.{HasVariable, HasStore, HasSeatRegister, shows, shown, PlainInterface}
 use Rattle.sap_tagged.proofs.Bools.{value_within, register_within, memory_within}
@@ -65,7 +65,7 @@ module _ (d : Named) (tag sites : ℕ) (design : Design d tag sites) where
       by_test false g = refl
 
   abbrev pair_keys : PortKind → ℕ → List Shown
-  pair_keys k x = (key_name d (Value x), k) ∷ (key_name d (Tag x), k) ∷ []
+  pair_keys k x = (key_name d (value_key x), k) ∷ (key_name d (tag_key x), k) ∷ []
 
   pair_named : (k : PortKind) (x : ℕ) → nat_lt x (root w) ≡ true → pair_keys k x ≡ pair_at k x
   pair_named k x l = ap₂ (λ (a b : Name). let r : List Shown = (a, k) ∷ (b, k) ∷ [] in r) (value_known d x l) (tag_known d x l)
@@ -121,7 +121,7 @@ module _ (d : Named) (tag sites : ℕ) (design : Design d tag sites) where
   in_input_tag : (x : ℕ) → is_input w x ≡ true → nat_lt x (root w) ≡ true → In p.inputs (tag_var d tag x 0)
   in_input_tag x i l = in_all d tag sites design (is_input w) (λ x. value_var d x 0 ∷ tag_var d tag x 0 ∷ []) (tag_var d tag x 0) x l i (inr (inl refl))
 
-  seat_has : (q : ℕ) (n : Name) → key_name d (Seat q) ≡ n → 0 < children w q → HasSeatRegister p.registers (children w q) n
+  seat_has : (q : ℕ) (n : Name) → key_name d (seat_key q) ≡ n → 0 < children w q → HasSeatRegister p.registers (children w q) n
   seat_has q n e h = (
     seat_width (children w q),
     record {

@@ -6,14 +6,14 @@ use Rattle.std.proofs.lemmas.Grind.{common_steps}
 use Rattle.sap_bits.specs.Arithmetic.{value1, value2, width1, width2, slice_of, joined}
 use Rattle.sap_maps.specs.Maps.{Name}
 use Rattle.sap_maps.specs.Term.{Term, constant, read, cell, one, two, choose, join, part, term_width}
-use Rattle.sap_meaning.specs.Program.{World, is_dynamic, is_memory, children, LevelTerm, fixed, of, at_place, both, Node, Group, None, More}
+use Rattle.sap_meaning.specs.Program.{World, is_dynamic, is_memory, children, LevelTerm, fixed, of, at_place, both, state_node, Group, no_node, and_node}
 use Rattle.sap_meaning.specs.Store.{Store, own, start, start_whole, next_whole, number, level, child}
 use Rattle.sap_meaning.specs.Expressions.{width_of, value, tag, level_at, new_level, told}
 use Rattle.sap_meaning.specs.Checks.{child_level, opens, child_opens}
 use Rattle.sap_meaning.specs.Touches.{among}
 use Rattle.sap_meaning.specs.Fine.{FineTerm, FineLevel, size}
 use Rattle.sap_ir.specs.Guarded.{Going, value_in}
-use Rattle.sap_tagged.specs.Keys.{Value, Tag, First}
+use Rattle.sap_tagged.specs.Keys.{value_key, tag_key, first_key}
 use Rattle.sap_tagged.specs.Setting.{Setting}
 use Rattle.sap_tagged.specs.Levels.{var, lub, below_or_at, expr, cell_tag, tag_of, place_width, widened, placed, new_tag, told_tag, child_tag, enters, child_enters, seat_of}
 use Rattle.sap_tagged.specs.Stands.{Lawful, at, is_value, has_tag, Stands}
@@ -43,12 +43,12 @@ module _ (d : Setting) (widths : Name → ℕ) (laws : Lawful d widths) where
   expr_width (join a b) f = ap₂ (λ (m n : ℕ). m + n) (expr_width a f.0) (expr_width b f.1)
   expr_width (part a hi lo) f = refl
 
-  module _ (g : Going) (s : Store) (reads : (x : ℕ) → is_value d.world x ≡ true → at d g (Value x) ≡ number (own x) s) (starts : (m i : ℕ) → is_memory d.world m ≡ true → g.now.cell (d.name (Value m)) i ≡ number (start m i) s) where
+  module _ (g : Going) (s : Store) (reads : (x : ℕ) → is_value d.world x ≡ true → at d g (value_key x) ≡ number (own x) s) (starts : (m i : ℕ) → is_memory d.world m ≡ true → g.now.cell (d.name (value_key m)) i ≡ number (start m i) s) where
     -- an expression's number depends on no tag
     pub expr_value : (e : Term ℕ) → FineTerm d.world e → value_in widths g (expr d e) ≡ value d.world e s
     expr_value (constant u n) f = refl
     expr_value (read x) f = reads x f
-    expr_value (cell m i) f = ap (g.now.cell (d.name (Value m))) (expr_value i f.1) ∙ starts m (value d.world i s) f.0
+    expr_value (cell m i) f = ap (g.now.cell (d.name (value_key m))) (expr_value i f.1) ∙ starts m (value d.world i s) f.0
     expr_value (one op a) f = ap₂ (λ (u n : ℕ). value1 op u n) (expr_width a f) (expr_value a f)
     expr_value (two op a b) f =
         ap₂ (λ (u n : ℕ). value2 op u n (value_in widths g (expr d b))) (expr_width a f.0) (expr_value a f.0)
@@ -77,21 +77,21 @@ module _ (d : Setting) (widths : Name → ℕ) (laws : Lawful d widths) where
 
     -- the tag of an enforced memory's cell
     pub mark : (m : ℕ) (i : Term ℕ) → is_memory d.world m ≡ true → FineTerm d.world i → is_dynamic d.world m ≡ false
-        → value_in widths g (cell (d.name (Tag m)) (expr d i)) ≡ d.code (level d.world (start m (value d.world i s)) s)
+        → value_in widths g (cell (d.name (tag_key m)) (expr d i)) ≡ d.code (level d.world (start m (value d.world i s)) s)
     mark m i e f t =
-        ap (g.now.cell (d.name (Tag m))) (number_of i f) ∙ stands.start_tags m (value d.world i s) e t
+        ap (g.now.cell (d.name (tag_key m))) (number_of i f) ∙ stands.start_tags m (value d.world i s) e t
         ∙ ap (λ (q : Bool). d.code (s.level (if q then start_whole m else start m (value d.world i s)))) (sym t)
 
     cell_tag_value : (m : ℕ) (i : Term ℕ) → is_memory d.world m ≡ true → FineTerm d.world i → value_in widths g (cell_tag d m i) ≡ d.code (level d.world (start m (value d.world i s)) s)
     cell_tag_value m i e f = elim (cases_Bool (is_dynamic d.world m)) [
       | inl t ↦ rw t (stands.start_tag m (rw (e, t) refl) ∙ ap (λ (q : Bool). d.code (s.level (if q then start_whole m else start m (value d.world i s)))) (sym t))
-      | inr t ↦ ap (λ (q : Bool). value_in widths g (if q then var d (First m) else cell (d.name (Tag m)) (expr d i))) t ∙ mark m i e f t
+      | inr t ↦ ap (λ (q : Bool). value_in widths g (if q then var d (first_key m) else cell (d.name (tag_key m)) (expr d i))) t ∙ mark m i e f t
     ]
 
-    pub own_tag : (x : ℕ) → has_tag d.world x ≡ true → is_memory d.world x ≡ false → at d g (Tag x) ≡ d.code (s.level (own x))
+    pub own_tag : (x : ℕ) → has_tag d.world x ≡ true → is_memory d.world x ≡ false → at d g (tag_key x) ≡ d.code (s.level (own x))
     own_tag x h m = stands.tag x h ∙ ap (λ (q : Bool). d.code (s.level (if q then next_whole x else own x))) m
 
-    pub value_tag : (x : ℕ) → is_value d.world x ≡ true → at d g (Tag x) ≡ d.code (s.level (own x))
+    pub value_tag : (x : ℕ) → is_value d.world x ≡ true → at d g (tag_key x) ≡ d.code (s.level (own x))
     value_tag x h = let m = value_no_memory d.world x h in own_tag x (tagged d.world x (value_within d.world x h) m) m
 
     pub tag_value : (e : Term ℕ) → FineTerm d.world e → value_in widths g (tag_of d e) ≡ d.code (tag d.world e s)
@@ -145,36 +145,36 @@ module _ (d : Setting) (widths : Name → ℕ) (laws : Lawful d widths) where
     pub enters_value : (pc : Term Name) (l c : ℕ) → value_in widths g pc ≡ d.code l → has_tag d.world c ≡ true → is_memory d.world c ≡ false → value_in widths g (enters d pc c) ≡ bit (opens d.world c l s)
     enters_value pc l c h t m = elim (cases_Bool (is_dynamic d.world c)) [
       | inl q ↦ rw q refl
-      | inr q ↦ rw q (below_value g pc (var d (Tag c)) l (s.level (own c)) h (own_tag c t m))
+      | inr q ↦ rw q (below_value g pc (var d (tag_key c)) l (s.level (own c)) h (own_tag c t m))
     ]
 
-    rest_tagged : (c : ℕ) (b : _) (k g' : Group) → AllTagged d.world (More (Node c b k) g') → AllTagged d.world g'
+    rest_tagged : (c : ℕ) (b : _) (k g' : Group) → AllTagged d.world (and_node (state_node c b k) g') → AllTagged d.world g'
     rest_tagged c b k g' f n h = f n (or_right _ (among g' n) h)
 
-    first_tagged : (c : ℕ) (b : _) (k g' : Group) → AllTagged d.world (More (Node c b k) g') → has_tag d.world c ≡ true × (is_memory d.world c ≡ false)
+    first_tagged : (c : ℕ) (b : _) (k g' : Group) → AllTagged d.world (and_node (state_node c b k) g') → has_tag d.world c ≡ true × (is_memory d.world c ≡ false)
     first_tagged c b k g' f = f c (or_left _ (among g' c) (eq-eqb c c refl))
 
     -- The last child is compared with nothing, so the numbers are the meaning's where there is a child at the place.
     pub child_tag_value : (u : ℕ) (seat : Term Name) (k : Group) (n i : ℕ) → n < size k → value_in widths g seat ≡ i + n → AllTagged d.world k
         → value_in widths g (child_tag d u seat k i) ≡ d.code (child_level d.world k n s)
-    child_tag_value u seat None n i l h f = refl
-    child_tag_value u seat (More (Node c b k) None) zero i l h f = let q = first_tagged c b k None f in own_tag c q.0 q.1
-    child_tag_value u seat (More (Node c b k) None) (suc n) i l h f = absurd (omega (arith, l))
-    child_tag_value u seat (More (Node c b k) (More t k')) zero i l h f =
-        let q = first_tagged c b k (More t k') f in rw (h, eq-eqb (i + 0) i (omega arith)) (own_tag c q.0 q.1)
-    child_tag_value u seat (More (Node c b k) (More t k')) (suc n) i l h f =
-        let r = child_tag_value u seat (More t k') n (i + 1) (omega (arith, l)) (h ∙ omega arith) (rest_tagged c b k (More t k') f) in
+    child_tag_value u seat no_node n i l h f = refl
+    child_tag_value u seat (and_node (state_node c b k) no_node) zero i l h f = let q = first_tagged c b k no_node f in own_tag c q.0 q.1
+    child_tag_value u seat (and_node (state_node c b k) no_node) (suc n) i l h f = absurd (omega (arith, l))
+    child_tag_value u seat (and_node (state_node c b k) (and_node t k')) zero i l h f =
+        let q = first_tagged c b k (and_node t k') f in rw (h, eq-eqb (i + 0) i (omega arith)) (own_tag c q.0 q.1)
+    child_tag_value u seat (and_node (state_node c b k) (and_node t k')) (suc n) i l h f =
+        let r = child_tag_value u seat (and_node t k') n (i + 1) (omega (arith, l)) (h ∙ omega arith) (rest_tagged c b k (and_node t k') f) in
         rw (h, ne_eqb (i + suc n) i (λ e. omega arith)) r
 
     pub child_enters_value : (pc : Term Name) (u : ℕ) (seat : Term Name) (l : ℕ) (k : Group) (n i : ℕ) → n < size k → value_in widths g pc ≡ d.code l → value_in widths g seat ≡ i + n
         → AllTagged d.world k → value_in widths g (child_enters d pc u seat k i) ≡ bit (child_opens d.world k n l s)
-    child_enters_value pc u seat l None n i b p h f = refl
-    child_enters_value pc u seat l (More (Node c b k) None) zero i m p h f = let q = first_tagged c b k None f in enters_value pc l c p q.0 q.1
-    child_enters_value pc u seat l (More (Node c b k) None) (suc n) i m p h f = absurd (omega (arith, m))
-    child_enters_value pc u seat l (More (Node c b k) (More t k')) zero i m p h f =
-        let q = first_tagged c b k (More t k') f in rw (h, eq-eqb (i + 0) i (omega arith)) (enters_value pc l c p q.0 q.1)
-    child_enters_value pc u seat l (More (Node c b k) (More t k')) (suc n) i m p h f =
-        let r = child_enters_value pc u seat l (More t k') n (i + 1) (omega (arith, m)) p (h ∙ omega arith) (rest_tagged c b k (More t k') f) in
+    child_enters_value pc u seat l no_node n i b p h f = refl
+    child_enters_value pc u seat l (and_node (state_node c b k) no_node) zero i m p h f = let q = first_tagged c b k no_node f in enters_value pc l c p q.0 q.1
+    child_enters_value pc u seat l (and_node (state_node c b k) no_node) (suc n) i m p h f = absurd (omega (arith, m))
+    child_enters_value pc u seat l (and_node (state_node c b k) (and_node t k')) zero i m p h f =
+        let q = first_tagged c b k (and_node t k') f in rw (h, eq-eqb (i + 0) i (omega arith)) (enters_value pc l c p q.0 q.1)
+    child_enters_value pc u seat l (and_node (state_node c b k) (and_node t k')) (suc n) i m p h f =
+        let r = child_enters_value pc u seat l (and_node t k') n (i + 1) (omega (arith, m)) p (h ∙ omega arith) (rest_tagged c b k (and_node t k') f) in
         rw (h, ne_eqb (i + suc n) i (λ e. omega arith)) r
 
     pub seat_value : (p : ℕ) → 0 < children d.world p → value_in widths g (seat_of d p) ≡ 0 + child p s

@@ -8,40 +8,40 @@ use Rattle.sap_interface.specs.StandsFor.{Named, name, world}
 
 pub data Key : Type 0 where
   -- the number of an input or a register, the contents of a memory
-  Value : ℕ → Key
+  value_key : ℕ → Key
   -- the tag of an input, a register, a state or a dynamic memory, the tags of an enforced memory's cells
-  Tag : ℕ → Key
+  tag_key : ℕ → Key
   -- the current child of a state, or of the root
-  Seat : ℕ → Key
+  seat_key : ℕ → Key
   -- whether a check site is refused, and at which level
-  Refused : ℕ → Key
-  Level : ℕ → Key
+  refused_key : ℕ → Key
+  level_key : ℕ → Key
   -- a wire of the program's own
-  Wire : ℕ → Key
+  wire_key : ℕ → Key
   -- the tag of a dynamic memory as the cycle began
-  First : ℕ → Key
+  first_key : ℕ → Key
   -- the context of the children of a state
-  Inner : ℕ → Key
+  inner_key : ℕ → Key
 
 abbrev pub sort : Key → ℕ
-sort (Value x) = 0
-sort (Tag x) = 1
-sort (Seat p) = 2
-sort (Refused k) = 3
-sort (Level k) = 4
-sort (Wire k) = 5
-sort (First m) = 6
-sort (Inner s) = 7
+sort (value_key x) = 0
+sort (tag_key x) = 1
+sort (seat_key p) = 2
+sort (refused_key k) = 3
+sort (level_key k) = 4
+sort (wire_key k) = 5
+sort (first_key m) = 6
+sort (inner_key s) = 7
 
 abbrev pub index : Key → ℕ
-index (Value x) = x
-index (Tag x) = x
-index (Seat p) = p
-index (Refused k) = k
-index (Level k) = k
-index (Wire k) = k
-index (First m) = m
-index (Inner s) = s
+index (value_key x) = x
+index (tag_key x) = x
+index (seat_key p) = p
+index (refused_key k) = k
+index (level_key k) = k
+index (wire_key k) = k
+index (first_key m) = m
+index (inner_key s) = s
 
 abbrev pub same : Key → Key → Bool
 same a b = nat_eq (sort a) (sort b) && nat_eq (index a) (index b)
@@ -65,11 +65,11 @@ seat_word d p = if nat_eq p (root (world d)) then codes "0" else entity_word d p
 
 -- Those of an interface are as it has them; the others are a letter and digits.
 abbrev pub key_name : Named → Key → Name
-key_name d (Value x) = value_name (entity_word d x)
-key_name d (Tag x) = tag_name (entity_word d x)
-key_name d (Seat p) = seat_name (seat_word d p)
-key_name d (Refused k) = codes "c_" ++ numeral k
-key_name d (Level k) = codes "l_" ++ numeral k
-key_name d (Wire k) = codes "h" ++ numeral k
-key_name d (First m) = codes "b" ++ numeral m
-key_name d (Inner s) = codes "u" ++ numeral s
+key_name d (value_key x) = value_name (entity_word d x)
+key_name d (tag_key x) = tag_name (entity_word d x)
+key_name d (seat_key p) = seat_name (seat_word d p)
+key_name d (refused_key k) = codes "c_" ++ numeral k
+key_name d (level_key k) = codes "l_" ++ numeral k
+key_name d (wire_key k) = codes "h" ++ numeral k
+key_name d (first_key m) = codes "b" ++ numeral m
+key_name d (inner_key s) = codes "u" ++ numeral s

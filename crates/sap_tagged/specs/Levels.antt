@@ -3,11 +3,11 @@ use Rattle.std.specs.Prelude.{ℕ, zero, suc, ◌+◌, ◌-◌, nat_lt, ◌&&◌
 use Rattle.sap_bits.specs.declared.Op2.TheVariants.{Or, And, Eq}
 use Rattle.sap_maps.specs.Maps.{Name}
 use Rattle.sap_maps.specs.Term.{Term, constant, read, cell, one, two, choose, join, part, map_term}
-use Rattle.sap_meaning.specs.Program.{World, is_dynamic, authority, children, LevelTerm, fixed, of, at_place, both, Step, Set, Write, Retag, RetagCell, Goto, Fall, Node, Group, None, More}
+use Rattle.sap_meaning.specs.Program.{World, is_dynamic, authority, children, LevelTerm, fixed, of, at_place, both, Step, assign, write, retag, retag_cell, go_to, fall_to_child, state_node, Group, no_node, and_node}
 use Rattle.sap_meaning.specs.Expressions.{width_of}
 use Rattle.sap_meaning.specs.Checks.{Spot, entry}
 use Rattle.sap_ir.specs.Plain.Nested.{seat_width}
-use Rattle.sap_tagged.specs.Keys.{Key, Value, Tag, Seat, First}
+use Rattle.sap_tagged.specs.Keys.{Key, value_key, tag_key, seat_key, first_key}
 use Rattle.sap_tagged.specs.Setting.{Setting}
 
 abbrev pub var : Setting → Key → Term Name
@@ -31,15 +31,15 @@ yes = constant 1 1
 -- expressions
 
 abbrev pub expr : Setting → Term ℕ → Term Name
-expr d e = map_term (λ x. d.name (Value x)) e
+expr d e = map_term (λ x. d.name (value_key x)) e
 
 -- the tag of the cell that an index picks
 abbrev pub cell_tag : Setting → (memory : ℕ) → Term ℕ → Term Name
-cell_tag d m i = if is_dynamic d.world m then var d (First m) else cell (d.name (Tag m)) (expr d i)
+cell_tag d m i = if is_dynamic d.world m then var d (first_key m) else cell (d.name (tag_key m)) (expr d i)
 
 abbrev pub tag_of : Setting → Term ℕ → Term Name
 tag_of d (constant u n) = bits d d.world.order.bottom
-tag_of d (read x) = var d (Tag x)
+tag_of d (read x) = var d (tag_key x)
 tag_of d (cell m i) = lub (tag_of d i) (cell_tag d m i)
 tag_of d (one op a) = tag_of d a
 tag_of d (two op a b) = lub (tag_of d a) (tag_of d b)
@@ -77,78 +77,78 @@ told_tag d (both a b) = lub (told_tag d a) (told_tag d b)
 -- compared with nothing.
 
 abbrev pub child_tag : Setting → (u : ℕ) → (seat : Term Name) → Group → (i : ℕ) → Term Name
-child_tag d u seat None i = bits d d.world.order.bottom
-child_tag d u seat (More (Node c b k) None) i = var d (Tag c)
-child_tag d u seat (More (Node c b k) (More t g)) i = choose (two Eq seat (constant u i)) (var d (Tag c)) (child_tag d u seat (More t g) (i + 1))
+child_tag d u seat no_node i = bits d d.world.order.bottom
+child_tag d u seat (and_node (state_node c b k) no_node) i = var d (tag_key c)
+child_tag d u seat (and_node (state_node c b k) (and_node t g)) i = choose (two Eq seat (constant u i)) (var d (tag_key c)) (child_tag d u seat (and_node t g) (i + 1))
 
 -- a state may be entered in the context pc
 abbrev pub enters : Setting → (pc : Term Name) → (state : ℕ) → Term Name
-enters d pc c = if is_dynamic d.world c then yes else below_or_at pc (var d (Tag c))
+enters d pc c = if is_dynamic d.world c then yes else below_or_at pc (var d (tag_key c))
 
 abbrev pub child_enters : Setting → (pc : Term Name) → (u : ℕ) → (seat : Term Name) → Group → (i : ℕ) → Term Name
-child_enters d pc u seat None i = yes
-child_enters d pc u seat (More (Node c b k) None) i = enters d pc c
-child_enters d pc u seat (More (Node c b k) (More t g)) i =
-    choose (two Eq seat (constant u i)) (enters d pc c) (child_enters d pc u seat (More t g) (i + 1))
+child_enters d pc u seat no_node i = yes
+child_enters d pc u seat (and_node (state_node c b k) no_node) i = enters d pc c
+child_enters d pc u seat (and_node (state_node c b k) (and_node t g)) i =
+    choose (two Eq seat (constant u i)) (enters d pc c) (child_enters d pc u seat (and_node t g) (i + 1))
 
 -- the width of the number of a state's current child, and that number
 abbrev pub seat_bits : Setting → ℕ → ℕ
 seat_bits d s = seat_width (children d.world s)
 
 abbrev pub seat_of : Setting → ℕ → Term Name
-seat_of d s = var d (Seat s)
+seat_of d s = var d (seat_key s)
 
 -- steps
 
 abbrev pub guard_of : Setting → Spot → Step → Term Name
-guard_of d at (Set site x e) = if is_dynamic d.world x then bits d d.world.order.bottom else var d (Tag x)
-guard_of d at (Write site m i e) = if is_dynamic d.world m then bits d d.world.order.bottom else lub (tag_of d i) (cell (d.name (Tag m)) (expr d i))
-guard_of d at (Retag site x n) = bits d (authority d.world x)
-guard_of d at (RetagCell site m j n) = bits d (authority d.world m)
-guard_of d at (Goto site target) = bits d (entry d.world target)
-guard_of d at (Fall site hang) = child_tag d (seat_bits d at.state) (seat_of d at.state) at.children 0
+guard_of d at (assign site x e) = if is_dynamic d.world x then bits d d.world.order.bottom else var d (tag_key x)
+guard_of d at (write site m i e) = if is_dynamic d.world m then bits d d.world.order.bottom else lub (tag_of d i) (cell (d.name (tag_key m)) (expr d i))
+guard_of d at (retag site x n) = bits d (authority d.world x)
+guard_of d at (retag_cell site m j n) = bits d (authority d.world m)
+guard_of d at (go_to site target) = bits d (entry d.world target)
+guard_of d at (fall_to_child site hang) = child_tag d (seat_bits d at.state) (seat_of d at.state) at.children 0
 
 -- in the context pc
 abbrev pub test_of : Setting → Spot → (pc : Term Name) → Step → Term Name
-test_of d at pc (Set site x e) = if is_dynamic d.world x then yes else below_or_at (lub pc (tag_of d e)) (var d (Tag x))
-test_of d at pc (Write site m i e) =
-    if is_dynamic d.world m then yes else below_or_at (lub pc (lub (tag_of d i) (tag_of d e))) (cell (d.name (Tag m)) (expr d i))
-test_of d at pc (Retag site x n) =
+test_of d at pc (assign site x e) = if is_dynamic d.world x then yes else below_or_at (lub pc (tag_of d e)) (var d (tag_key x))
+test_of d at pc (write site m i e) =
+    if is_dynamic d.world m then yes else below_or_at (lub pc (lub (tag_of d i) (tag_of d e))) (cell (d.name (tag_key m)) (expr d i))
+test_of d at pc (retag site x n) =
     two And (below_or_at (lub pc (told_tag d n)) (bits d (authority d.world x))) (below_or_at (bits d (authority d.world x)) (new_tag d n))
-test_of d at pc (RetagCell site m j n) =
+test_of d at pc (retag_cell site m j n) =
     two And (below_or_at (lub pc (lub (told_tag d n) (tag_of d j))) (bits d (authority d.world m))) (below_or_at (bits d (authority d.world m)) (new_tag d n))
-test_of d at pc (Goto site target) =
-    two And (enters d pc target) (if is_dynamic d.world at.state then yes else below_or_at (lub pc (bits d (entry d.world target))) (var d (Tag at.state)))
-test_of d at pc (Fall site hang) = child_enters d pc (seat_bits d at.state) (seat_of d at.state) at.children 0
+test_of d at pc (go_to site target) =
+    two And (enters d pc target) (if is_dynamic d.world at.state then yes else below_or_at (lub pc (bits d (entry d.world target))) (var d (tag_key at.state)))
+test_of d at pc (fall_to_child site hang) = child_enters d pc (seat_bits d at.state) (seat_of d at.state) at.children 0
 
 -- the level that a step writes
 abbrev pub written : Setting → (pc : Term Name) → Step → Term Name
-written d pc (Set site x e) = lub pc (tag_of d e)
-written d pc (Write site m i e) = lub pc (lub (tag_of d i) (tag_of d e))
-written d pc (Retag site x n) = new_tag d n
-written d pc (RetagCell site m j n) = new_tag d n
-written d pc (Goto site target) = pc
-written d pc (Fall site hang) = pc
+written d pc (assign site x e) = lub pc (tag_of d e)
+written d pc (write site m i e) = lub pc (lub (tag_of d i) (tag_of d e))
+written d pc (retag site x n) = new_tag d n
+written d pc (retag_cell site m j n) = new_tag d n
+written d pc (go_to site target) = pc
+written d pc (fall_to_child site hang) = pc
 
 -- the number stays where the level does not fall
 abbrev pub stays : Setting → Step → Term Name
-stays d (Set site x e) = yes
-stays d (Write site m i e) = yes
-stays d (Retag site x n) = below_or_at (var d (Tag x)) (new_tag d n)
-stays d (RetagCell site m j n) = below_or_at (cell (d.name (Tag m)) (expr d j)) (new_tag d n)
-stays d (Goto site target) = yes
-stays d (Fall site hang) = yes
+stays d (assign site x e) = yes
+stays d (write site m i e) = yes
+stays d (retag site x n) = below_or_at (var d (tag_key x)) (new_tag d n)
+stays d (retag_cell site m j n) = below_or_at (cell (d.name (tag_key m)) (expr d j)) (new_tag d n)
+stays d (go_to site target) = yes
+stays d (fall_to_child site hang) = yes
 
 -- each child is dynamic
 abbrev pub all_dynamic : World → Group → Bool
-all_dynamic w None = true
-all_dynamic w (More (Node c b k) g) = is_dynamic w c && all_dynamic w g
+all_dynamic w no_node = true
+all_dynamic w (and_node (state_node c b k) g) = is_dynamic w c && all_dynamic w g
 
 -- the step is no check site
 abbrev pub always : World → Spot → Step → Bool
-always w at (Set site x e) = is_dynamic w x
-always w at (Write site m i e) = is_dynamic w m
-always w at (Retag site x n) = false
-always w at (RetagCell site m j n) = false
-always w at (Goto site target) = is_dynamic w target && is_dynamic w at.state
-always w at (Fall site hang) = all_dynamic w at.children
+always w at (assign site x e) = is_dynamic w x
+always w at (write site m i e) = is_dynamic w m
+always w at (retag site x n) = false
+always w at (retag_cell site m j n) = false
+always w at (go_to site target) = is_dynamic w target && is_dynamic w at.state
+always w at (fall_to_child site hang) = all_dynamic w at.children

@@ -2,7 +2,7 @@
 use Rattle.std.specs.Prelude.{ℕ, zero, suc, ◌+◌, nat_lt, Bool, List, [], ◌∷◌, ◌++◌, map, if◌then◌else◌}
 use Rattle.sap_maps.specs.Maps.{Name}
 use Rattle.sap_meaning.specs.Program as program
-use Rattle.sap_meaning.specs.Program.{Entity, root, children, width, is_input, is_register, is_memory, is_state, is_dynamic, listed, Command, Do, Try, If, TryThen, Case, Arms, Last, Arm, Block, End, Then, State, Node, Group, None, More}
+use Rattle.sap_meaning.specs.Program.{Entity, root, children, width, is_input, is_register, is_memory, is_state, is_dynamic, listed, Command, lone, try, if_else, try_then, case_of, Arms, last_arm, and_arm, Block, end_block, command_then, State, state_node, Group, no_node, and_node}
 use Rattle.sap_meaning.specs.Expressions.{width_of}
 use Rattle.sap_meaning.specs.Store.{own}
 use Rattle.sap_meaning.specs.State.{first_level}
@@ -11,7 +11,7 @@ use Rattle.sap_ir.specs.declared.guarded.Store.{Store}
 use Rattle.sap_ir.specs.IsGuarded.{variable_names}
 use Rattle.sap_ir.specs.Plain.Nested.{Nested, seat_width}
 use Rattle.sap_interface.specs.StandsFor.{Named, world, depth}
-use Rattle.sap_tagged.specs.Keys.{Value, Tag, Seat, Refused, Level, Wire, First, Inner, key_name}
+use Rattle.sap_tagged.specs.Keys.{value_key, tag_key, seat_key, refused_key, level_key, wire_key, first_key, inner_key, key_name}
 use Rattle.sap_tagged.specs.Setting.{setting_of}
 use Rattle.sap_tagged.specs.Commands.{wires, wires_block, pick_width}
 use Rattle.sap_tagged.specs.States.{wires_group, saved, top_plain}
@@ -25,13 +25,13 @@ level_at_start d x = d.code (first_level (world d) (own x))
 
 -- an entity's number, its tag, and its current child
 abbrev pub value_var : Named → (x start : ℕ) → Var
-value_var d x start = variable (key_name d (Value x)) (width (world d) x) start
+value_var d x start = variable (key_name d (value_key x)) (width (world d) x) start
 
 abbrev pub tag_var : Named → (tag x start : ℕ) → Var
-tag_var d tag x start = variable (key_name d (Tag x)) tag start
+tag_var d tag x start = variable (key_name d (tag_key x)) tag start
 
 abbrev pub seat_var : Named → ℕ → Var
-seat_var d p = variable (key_name d (Seat p)) (seat_width (children (world d) p)) 0
+seat_var d p = variable (key_name d (seat_key p)) (seat_width (children (world d) p)) 0
 
 -- what is declared for each entity that is picked, of those from number x on
 abbrev pub for_entities : {A : Type 0} → (picks : ℕ → Bool) → (of : ℕ → List A) → (x : ℕ) → List Entity → List A
@@ -65,62 +65,62 @@ registers_of d tag = shown_registers d tag ++ (tag_registers d tag ++ seat_regis
 -- whether a site is refused, and at which level; of so many sites from site k on
 abbrev pub site_wires : Named → (tag k sites : ℕ) → List Var
 site_wires d tag k zero = []
-site_wires d tag k (suc n) = variable (key_name d (Refused k)) 1 0 ∷ variable (key_name d (Level k)) tag 0 ∷ site_wires d tag (k + 1) n
+site_wires d tag k (suc n) = variable (key_name d (refused_key k)) 1 0 ∷ variable (key_name d (level_key k)) tag 0 ∷ site_wires d tag (k + 1) n
 
 -- The program's own wires, each after what it holds: a level, one bit, or of a `case` the number and the number of the block.
 
 abbrev pub wire : Named → (k width : ℕ) → Var
-wire d k u = variable (key_name d (Wire k)) u 0
+wire d k u = variable (key_name d (wire_key k)) u 0
 
 abbrev pub step_wires : Named → (tag k : ℕ) → List Var
 step_wires d tag k = wire d k 1 ∷ wire d (k + 1) tag ∷ wire d (k + 2) tag ∷ wire d (k + 3) tag ∷ wire d (k + 4) 1 ∷ []
 
 abbrev mutual
   pub command_wires : Named → (tag k : ℕ) → Command → List Var
-  command_wires d tag k (Do s) = step_wires d tag k
-  command_wires d tag k (Try s hang h) = step_wires d tag k ++ block_wires d tag (k + 5) h
-  command_wires d tag k (If hang e a b) =
+  command_wires d tag k (lone s) = step_wires d tag k
+  command_wires d tag k (try s hang h) = step_wires d tag k ++ block_wires d tag (k + 5) h
+  command_wires d tag k (if_else hang e a b) =
       wire d k tag ∷ wire d (k + 1) tag ∷ (block_wires d tag (k + 2) a ++ block_wires d tag (k + 2 + wires_block a) b)
-  command_wires d tag k (TryThen s hang a b) =
+  command_wires d tag k (try_then s hang a b) =
       step_wires d tag k ++ (block_wires d tag (k + 5) a ++ block_wires d tag (k + 5 + wires_block a) b)
-  command_wires d tag k (Case hang e arms) =
+  command_wires d tag k (case_of hang e arms) =
       wire d k tag ∷ wire d (k + 1) tag ∷ wire d (k + 2) (width_of (world d) e) ∷ wire d (k + 3) (pick_width arms) ∷ arms_wires d tag (k + 4) arms
 
   pub arms_wires : Named → (tag k : ℕ) → Arms → List Var
-  arms_wires d tag k (Last b) = block_wires d tag k b
-  arms_wires d tag k (Arm constants b arms) = block_wires d tag k b ++ arms_wires d tag (k + wires_block b) arms
+  arms_wires d tag k (last_arm b) = block_wires d tag k b
+  arms_wires d tag k (and_arm constants b arms) = block_wires d tag k b ++ arms_wires d tag (k + wires_block b) arms
 
   pub block_wires : Named → (tag k : ℕ) → Block → List Var
-  block_wires d tag k End = []
-  block_wires d tag k (Then c cs) = command_wires d tag k c ++ block_wires d tag (k + wires c) cs
+  block_wires d tag k end_block = []
+  block_wires d tag k (command_then c cs) = command_wires d tag k c ++ block_wires d tag (k + wires c) cs
 
 -- that of a state's own context, and those of its body
 abbrev mutual
   pub state_wires : Named → (tag k : ℕ) → State → List Var
-  state_wires d tag k (Node s b g) = wire d k tag ∷ (block_wires d tag (k + 1) b ++ group_wires d tag (k + 1 + wires_block b) g)
+  state_wires d tag k (state_node s b g) = wire d k tag ∷ (block_wires d tag (k + 1) b ++ group_wires d tag (k + 1 + wires_block b) g)
 
   pub group_wires : Named → (tag k : ℕ) → Group → List Var
-  group_wires d tag k None = []
-  group_wires d tag k (More (Node s b g) rest) = state_wires d tag k (Node s b g) ++ group_wires d tag (k + (1 + wires_block b + wires_group g)) rest
+  group_wires d tag k no_node = []
+  group_wires d tag k (and_node (state_node s b g) rest) = state_wires d tag k (state_node s b g) ++ group_wires d tag (k + (1 + wires_block b + wires_group g)) rest
 
 -- the tags of dynamic memories as the cycle began
 abbrev pub first_wires : Named → (tag : ℕ) → List Var
-first_wires d tag = all_entities d (saved (world d)) (λ m. variable (key_name d (First m)) tag 0 ∷ [])
+first_wires d tag = all_entities d (saved (world d)) (λ m. variable (key_name d (first_key m)) tag 0 ∷ [])
 
 -- the contexts of children
 abbrev pub inner_wires : Named → (tag : ℕ) → List Var
-inner_wires d tag = all_entities d (λ s. nat_lt 0 (children (world d) s)) (λ s. variable (key_name d (Inner s)) tag 0 ∷ [])
+inner_wires d tag = all_entities d (λ s. nat_lt 0 (children (world d) s)) (λ s. variable (key_name d (inner_key s)) tag 0 ∷ [])
 
 abbrev pub wires_of : Named → (tag sites : ℕ) → List Var
 wires_of d tag sites = site_wires d tag 1 sites ++ (first_wires d tag ++ (inner_wires d tag ++ group_wires d tag 0 d.program.states))
 
 -- A memory, and that of its cells' tags where it is enforced.
 abbrev pub memory_of : Named → ℕ → Store
-memory_of d m = record { name = key_name d (Value m); width = width (world d) m; depth = depth d m; start = 0 }
+memory_of d m = record { name = key_name d (value_key m); width = width (world d) m; depth = depth d m; start = 0 }
 
 abbrev pub tags_of : Named → (tag m : ℕ) → List Store
 tags_of d tag m =
-    if is_dynamic (world d) m then [] else record { name = key_name d (Tag m); width = tag; depth = depth d m; start = level_at_start d m } ∷ []
+    if is_dynamic (world d) m then [] else record { name = key_name d (tag_key m); width = tag; depth = depth d m; start = level_at_start d m } ∷ []
 
 abbrev pub memories_of : Named → (tag : ℕ) → List Store
 memories_of d tag = all_entities d (is_memory (world d)) (λ m. memory_of d m ∷ tags_of d tag m)

@@ -4,7 +4,7 @@ use Rattle.sap_maps.specs.Maps.{Name}
 use Rattle.sap_meaning.specs.Program.{World, root, is_dynamic, is_input, is_register, is_memory, width, children}
 use Rattle.sap_meaning.specs.Store.{Slot, own, start, next, start_whole, next_whole, Store, number, child, Refusal, After}
 use Rattle.sap_ir.specs.Guarded.{Going}
-use Rattle.sap_tagged.specs.Keys.{Key, Value, Tag, Seat, Refused, Level, Wire, First, same}
+use Rattle.sap_tagged.specs.Keys.{Key, value_key, tag_key, seat_key, refused_key, level_key, wire_key, first_key, same}
 use Rattle.sap_tagged.specs.Setting.{Setting}
 use Rattle.sap_tagged.specs.States.{saved}
 
@@ -16,8 +16,8 @@ pub record Lawful (d : Setting) (widths : Name → ℕ) : Type 0 where
   pub apart : (a b : Key) → bytes_eq (d.name a) (d.name b) ≡ same a b
   pub joined : (x y : ℕ) → d.code (d.world.order.join x y) ≡ bit_or (d.code x) (d.code y)
   pub order : (x y : ℕ) → (bit_or (d.code x) (d.code y) == d.code y) ≡ d.world.order.le x y
-  pub values : (x : ℕ) → is_value d.world x ≡ true → widths (d.name (Value x)) ≡ width d.world x
-  pub cells : (m : ℕ) → is_memory d.world m ≡ true → widths (d.name (Value m)) ≡ width d.world m
+  pub values : (x : ℕ) → is_value d.world x ≡ true → widths (d.name (value_key x)) ≡ width d.world x
+  pub cells : (m : ℕ) → is_memory d.world m ≡ true → widths (d.name (value_key m)) ≡ width d.world m
 
 abbrev pub at : Setting → Going → Key → ℕ
 at d g a = g.now.value (d.name a)
@@ -32,15 +32,15 @@ tag_slot w x = if is_memory w x then next_whole x else own x
 
 -- Memories are read as the cycle began; what is written is in their next parts. The current children have places.
 pub record Stands (d : Setting) (g : Going) (s : Store) : Type 0 where
-  pub value : (x : ℕ) → is_value d.world x ≡ true → at d g (Value x) ≡ number (own x) s
-  pub tag : (x : ℕ) → has_tag d.world x ≡ true → at d g (Tag x) ≡ d.code (s.level (tag_slot d.world x))
-  pub seat : (p : ℕ) → 0 < children d.world p → at d g (Seat p) ≡ child p s
+  pub value : (x : ℕ) → is_value d.world x ≡ true → at d g (value_key x) ≡ number (own x) s
+  pub tag : (x : ℕ) → has_tag d.world x ≡ true → at d g (tag_key x) ≡ d.code (s.level (tag_slot d.world x))
+  pub seat : (p : ℕ) → 0 < children d.world p → at d g (seat_key p) ≡ child p s
   pub seated : (p : ℕ) → 0 < children d.world p → child p s < children d.world p
-  pub starts : (m i : ℕ) → is_memory d.world m ≡ true → g.now.cell (d.name (Value m)) i ≡ number (start m i) s
-  pub start_tags : (m i : ℕ) → is_memory d.world m ≡ true → is_dynamic d.world m ≡ false → g.now.cell (d.name (Tag m)) i ≡ d.code (s.level (start m i))
-  pub start_tag : (m : ℕ) → saved d.world m ≡ true → at d g (First m) ≡ d.code (s.level (start_whole m))
-  pub nexts : (m i : ℕ) → is_memory d.world m ≡ true → g.next (d.name (Value m)) i ≡ number (next m i) s
-  pub next_tags : (m i : ℕ) → is_memory d.world m ≡ true → is_dynamic d.world m ≡ false → g.next (d.name (Tag m)) i ≡ d.code (s.level (next m i))
+  pub starts : (m i : ℕ) → is_memory d.world m ≡ true → g.now.cell (d.name (value_key m)) i ≡ number (start m i) s
+  pub start_tags : (m i : ℕ) → is_memory d.world m ≡ true → is_dynamic d.world m ≡ false → g.now.cell (d.name (tag_key m)) i ≡ d.code (s.level (start m i))
+  pub start_tag : (m : ℕ) → saved d.world m ≡ true → at d g (first_key m) ≡ d.code (s.level (start_whole m))
+  pub nexts : (m i : ℕ) → is_memory d.world m ≡ true → g.next (d.name (value_key m)) i ≡ number (next m i) s
+  pub next_tags : (m i : ℕ) → is_memory d.world m ≡ true → is_dynamic d.world m ≡ false → g.next (d.name (tag_key m)) i ≡ d.code (s.level (next m i))
 
 -- the number of a site's first wire after refusals, and of its second, from what they had before
 abbrev pub refused_after : ℕ → List Refusal → ℕ → ℕ
@@ -54,6 +54,6 @@ level_after code k (r ∷ rs) v = level_after code k rs (if nat_eq r.site k then
 -- The numbers after what gave `a`, from numbers g: they stand for its store and its refusals, and wires before k are as before.
 pub record Turns (d : Setting) (k : ℕ) (g after : Going) (a : After) : Type 0 where
   pub stands : Stands d after a.store
-  pub kept : (j : ℕ) → j < k → at d after (Wire j) ≡ at d g (Wire j)
-  pub refused : (n : ℕ) → at d after (Refused n) ≡ refused_after n a.refused (at d g (Refused n))
-  pub levels : (n : ℕ) → at d after (Level n) ≡ level_after d.code n a.refused (at d g (Level n))
+  pub kept : (j : ℕ) → j < k → at d after (wire_key j) ≡ at d g (wire_key j)
+  pub refused : (n : ℕ) → at d after (refused_key n) ≡ refused_after n a.refused (at d g (refused_key n))
+  pub levels : (n : ℕ) → at d after (level_key n) ≡ level_after d.code n a.refused (at d g (level_key n))

@@ -3,7 +3,7 @@ use Rattle.std.proofs.Common.{◌≡◌, ℕ, zero, suc, ◌+◌, ◌<◌, ◌�
 use Rattle.std.specs.declared.vec.Vec.{Vec}
 use Rattle.std.specs.declared.alloc.Global.{Global}
 use Rattle.sap_ir.proofs.PlainLemmas.{follow_stop}
-use Rattle.sap_meaning.specs.Program.{listed, Arms, Last, End}
+use Rattle.sap_meaning.specs.Program.{listed, Arms, last_arm, end_block}
 use Rattle.sap_meaning.specs.Expressions.{width_of}
 use Rattle.sap_meaning.specs.Program as program
 use Rattle.sap_meaning.specs.Runs.{listed_alone}
@@ -25,7 +25,7 @@ use Rattle.sap_terms.specs.Parts.{arm_wires, command_wires, commands_wires}
 use Rattle.sap_tags.specs.Built.{arm_bodies, command_body, commands_body, decided}
 use Rattle.sap_terms.specs.Code.{entities_in, setting_in, spot_in, world_in}
 use Rattle.sap_tagged.specs.Commands.{gives, looks, raises, effect_of, refusal, attempt_of, attempt_then_of, arm_count, pick_width, picks_arm, picks, decides, pick_of, select_of, wires_block, command_plain, arms_plain, block_plain}
-use Rattle.sap_tagged.specs.Keys.{Wire}
+use Rattle.sap_tagged.specs.Keys.{wire_key}
 use Rattle.sap_tagged.specs.Setting as pass
 use Rattle.sap_tagged.specs.Levels.{var, lub, expr, tag_of, always}
 use Rattle.sap_terms.specs.declared.setting.Setting.{Setting}
@@ -45,12 +45,12 @@ map_push (b ∷ made) block = ap (λ (l : List Body). body_of b.items ∷ l) (ma
 
 -- whatever is behind arms
 
-counts_same : (n : ℕ) (arms : List Arm) (b : program.Block) → arm_count (arms_before n arms (Last End)) ≡ arm_count (arms_before n arms (Last b))
+counts_same : (n : ℕ) (arms : List Arm) (b : program.Block) → arm_count (arms_before n arms (last_arm end_block)) ≡ arm_count (arms_before n arms (last_arm b))
 unfolding arms_before
 counts_same n [] b = refl
 counts_same n (a ∷ arms) b = ap (λ (m : ℕ). suc m) (counts_same n arms b)
 
-picks_same : (d : pass.Setting) (u j w k i n : ℕ) (arms : List Arm) (b : program.Block) (rest : Body) → picks d u j w k i (arms_before n arms (Last End)) rest ≡ picks d u j w k i (arms_before n arms (Last b)) rest
+picks_same : (d : pass.Setting) (u j w k i n : ℕ) (arms : List Arm) (b : program.Block) (rest : Body) → picks d u j w k i (arms_before n arms (last_arm end_block)) rest ≡ picks d u j w k i (arms_before n arms (last_arm b)) rest
 unfolding arms_before
 picks_same d u j w k i n [] b rest = refl
 picks_same d u j w k i n (a ∷ arms) b rest = picks_same d u j w k (suc i) n arms b (picks_arm d u j w k i (constants_of a) rest)
@@ -59,7 +59,7 @@ module _ (s : Setting) where
   -- arms, and the block behind them
 
   arms_are : (at : Spot) (p k : ℕ) (arms : List Arm) (b : program.Block)
-      → arms_plain (setting_in s) (spot_in s at) p k (arms_before (entities_in s) arms (Last b)) ≡ arm_bodies s at p k arms ++ block_plain (setting_in s) (spot_in s at) p (k + arm_wires arms) b ∷ []
+      → arms_plain (setting_in s) (spot_in s at) p k (arms_before (entities_in s) arms (last_arm b)) ≡ arm_bodies s at p k arms ++ block_plain (setting_in s) (spot_in s at) p (k + arm_wires arms) b ∷ []
   unfolding arm_bodies arms_plain arms_before arm_wires
   arms_are at p k [] b = let z : k ≡ k + 0 = omega arith in ap (λ (w : ℕ). block_plain (setting_in s) (spot_in s at) p w b ∷ []) z
   arms_are at p k (a ∷ arms) b =
@@ -69,7 +69,7 @@ module _ (s : Setting) where
       let first : Body = block_plain d here p k (arm_block n a) in
       let same : wires_block (arm_block n a) ≡ wires_block (arm_block 0 a) = wires_block_are n a.block.items ∙ sym (wires_block_are 0 a.block.items) in
       let next : k + wires_block (arm_block 0 a) + arm_wires arms ≡ k + arm_wires (a ∷ arms) = omega arith in
-      ap (λ (w : ℕ). first ∷ arms_plain d here p (k + w) (arms_before n arms (Last b))) same
+      ap (λ (w : ℕ). first ∷ arms_plain d here p (k + w) (arms_before n arms (last_arm b))) same
       ∙ ap (λ (l : List Body). first ∷ l) (arms_are at p (k + wires_block (arm_block 0 a)) arms b)
       ∙ ap (λ (w : ℕ). first ∷ (arm_bodies s at p (k + wires_block (arm_block 0 a)) arms ++ block_plain d here p w b ∷ [])) next
 
@@ -80,11 +80,11 @@ module _ (s : Setting) where
     decided_alone : (k : ℕ) (j : program.Step) (r : Body) → decided (setting_in s) (spot_in s at) k j stop r
         ≡ (let d = setting_in s in
         let e = effect_of d (spot_in s at) k j in
-        if always d.world (spot_in s at) j then e else cases (var d (Wire k)) e r stop)
+        if always d.world (spot_in s at) j then e else cases (var d (wire_key k)) e r stop)
     unfolding decided
     decided_alone k j r =
         let d = setting_in s in
-        ap (λ (x : Body). if always d.world (spot_in s at) j then x else cases (var d (Wire k)) x r stop) (follow_stop (effect_of d (spot_in s at) k j))
+        ap (λ (x : Body). if always d.world (spot_in s at) j then x else cases (var d (wire_key k)) x r stop) (follow_stop (effect_of d (spot_in s at) k j))
 
     -- what is looked at, the raises, and what is behind them
     step_made : (k : ℕ) (j : program.Step) (hangs : ℕ → Bool) (b0 b1 b2 end : Body) → b1 ≡ follow b0 (looks (setting_in s) (spot_in s at) p k j stop)
@@ -158,7 +158,7 @@ module _ (s : Setting) where
         ∙ ap (λ (y : program.Command). follow b0 (command_plain d here p k y)) (sym (ap (command_of n) i ∙ command_of-then n st hang ys ns))
 
     pub if_made : (k : ℕ) (c : Command) (hang hl : List ℕ) (t : Number) (ys ns : Vec Command Global) (yl nl : List Command) (b0 b1 b2 y1 n1 : Body) (m : ℕ) → c ≡ shown.If hang t ys ns → hl ≡ hang → yl ≡ ys.items → nl ≡ ns.items
-        → b1 ≡ follow b0 (gives (setting_in s) (Wire k) (tag_of (setting_in s) (term_of t)) (gives (setting_in s) (Wire (k + 1)) (lub (var (setting_in s) (Wire p)) (var (setting_in s) (Wire k))) stop))
+        → b1 ≡ follow b0 (gives (setting_in s) (wire_key k) (tag_of (setting_in s) (term_of t)) (gives (setting_in s) (wire_key (k + 1)) (lub (var (setting_in s) (wire_key p)) (var (setting_in s) (wire_key k))) stop))
         → b2 ≡ follow b1 (raises (setting_in s) (listed (flags (entities_in s) hl)) k stop)
         → y1 ≡ commands_body s at (k + 1) (k + 2) yl → m ≡ k + 2 + commands_wires yl → n1 ≡ commands_body s at (k + 1) m nl
         → follow b2 (cases (expr (setting_in s) (term_of t)) y1 n1 stop) ≡ follow b0 (command_body s at p k c)
@@ -168,7 +168,7 @@ module _ (s : Setting) where
         let n = entities_in s in
         let here = spot_in s at in
         let raise : Body = raises d (listed (flags n hl)) k stop in
-        let front : Body → Body = λ b. gives d (Wire k) (tag_of d (term_of t)) (gives d (Wire (k + 1)) (lub (var d (Wire p)) (var d (Wire k))) b) in
+        let front : Body → Body = λ b. gives d (wire_key k) (tag_of d (term_of t)) (gives d (wire_key (k + 1)) (lub (var d (wire_key p)) (var d (wire_key k))) b) in
         let end : Body = cases (expr d (term_of t)) y1 n1 stop in
         let first : Body = block_plain d here (k + 1) (k + 2) (block_of n ys.items) in
         let second : Body = block_plain d here (k + 1) (k + 2 + wires_block (block_of n ys.items)) (block_of n ns.items) in
@@ -186,8 +186,8 @@ module _ (s : Setting) where
     pub case_made : (k : ℕ) (c : Command) (hang hl : List ℕ) (t : Number) (arms : Vec Arm Global) (cs : Vec Command Global) (al : List Arm) (cl : List Command) (b0 b1 b2 b3 : Body) (number : Term Name) (m : ℕ)
         (made blocks : List (Vec PlainCmd Global)) (block : Vec PlainCmd Global) → c ≡ shown.Case hang t arms cs → hl ≡ hang → al ≡ arms.items → cl ≡ cs.items
         → map (λ b. body_of b.items) made ≡ arm_bodies s at (k + 1) (k + 4) al → m ≡ k + 4 + arm_wires al → body_of block.items ≡ commands_body s at (k + 1) m cl → blocks ≡ made ++ block ∷ []
-        → b1 ≡ follow b0 (gives (setting_in s) (Wire k) (tag_of (setting_in s) (term_of t)) (gives (setting_in s) (Wire (k + 1)) (lub (var (setting_in s) (Wire p)) (var (setting_in s) (Wire k))) stop))
-        → number ≡ expr (setting_in s) (term_of t) → b2 ≡ follow b1 (gives (setting_in s) (Wire (k + 2)) number stop)
+        → b1 ≡ follow b0 (gives (setting_in s) (wire_key k) (tag_of (setting_in s) (term_of t)) (gives (setting_in s) (wire_key (k + 1)) (lub (var (setting_in s) (wire_key p)) (var (setting_in s) (wire_key k))) stop))
+        → number ≡ expr (setting_in s) (term_of t) → b2 ≡ follow b1 (gives (setting_in s) (wire_key (k + 2)) number stop)
         → b3 ≡ follow b2 (raises (setting_in s) (listed (flags (entities_in s) hl)) k stop)
         → (let d = setting_in s in
         let all = alone (entities_in s) al in
@@ -200,11 +200,11 @@ module _ (s : Setting) where
         let here = spot_in s at in
         let u = width_of (world_in s) (term_of t) in
         let last : program.Block = block_of n cs.items in
-        let all : Arms = arms_before n arms.items (Last last) in
+        let all : Arms = arms_before n arms.items (last_arm last) in
         let w : ℕ = pick_width all in
         let bodies : List Body = arms_plain d here (k + 1) (k + 4) all in
-        let look : Body → Body = λ b. gives d (Wire k) (tag_of d (term_of t)) (gives d (Wire (k + 1)) (lub (var d (Wire p)) (var d (Wire k))) b) in
-        let own : Body → Body = λ b. gives d (Wire (k + 2)) (expr d (term_of t)) b in
+        let look : Body → Body = λ b. gives d (wire_key k) (tag_of d (term_of t)) (gives d (wire_key (k + 1)) (lub (var d (wire_key p)) (var d (wire_key k))) b) in
+        let own : Body → Body = λ b. gives d (wire_key (k + 2)) (expr d (term_of t)) b in
         let raise : Body = raises d (listed (flags n hl)) k stop in
         let width : pick_width (alone n al) ≡ w = ap (λ (l : List Arm). pick_width (alone n l)) ae ∙ ap (λ (q : ℕ). seat_width (suc q)) (counts_same n arms.items last) in
         let each : map (λ b. body_of b.items) blocks ≡ bodies =
@@ -220,7 +220,7 @@ module _ (s : Setting) where
         ∙ ap (λ (l : List Arm). picks d u (k + 2) w (k + 3) 0 (alone n l) choice) ae
         ∙ picks_same d u (k + 2) w (k + 3) 0 n arms.items last choice in
         ap (follow b3) fixed
-        ∙ ap (λ (b : Body). follow b end) (e3 ∙ ap (λ (b : Body). follow b raise) (e2 ∙ ap₂ (λ (b : Body) (q : Term Name). follow b (gives d (Wire (k + 2)) q stop)) e1 ne))
+        ∙ ap (λ (b : Body). follow b end) (e3 ∙ ap (λ (b : Body). follow b raise) (e2 ∙ ap₂ (λ (b : Body) (q : Term Name). follow b (gives d (wire_key (k + 2)) q stop)) e1 ne))
         ∙ follow-more (follow (follow b0 (look stop)) (own stop)) raise end
         ∙ follow-more (follow b0 (look stop)) (own stop) (follow raise end)
         ∙ follow-more b0 (look stop) (own (follow raise end))

@@ -1,7 +1,7 @@
 -- Cases have few arms, whatever hangs.
 use Rattle.std.proofs.Common.{◌≡◌, ℕ, suc, ◌≤◌, List, [], ◌∷◌, refl, ap, subst}
 use Rattle.sap_tree.specs.Limits.{most_arms}
-use Rattle.sap_meaning.specs.Program.{Arms, Last}
+use Rattle.sap_meaning.specs.Program.{Arms, last_arm}
 use Rattle.sap_program.specs.declared.program.Command.{Command, Row_of-Command, end_of-Command, more_of-Command, Row_of-Arm, end_of-Arm, more_of-Arm}
 use Rattle.sap_program.specs.declared.program.Command.TheVariants as command
 use Rattle.sap_program.specs.declared.program.State.{State, State', Row_of-State, end_of-State, more_of-State}
@@ -24,8 +24,8 @@ module _ (n : ℕ) where
     few_same (command.If' hang e k ys m ns) f = (few_row ys f.0, few_row ns f.1)
     few_same (command.TryThen' s hang k ys m ns) f = (few_row ys f.0, few_row ns f.1)
     few_same (command.Case' hang e k arms m cs) f = (
-      subst (λ (i : ℕ). i ≤ most_arms) (same_count arms (Last (row_block n cs)) (Last (row_block 0 cs)) refl) f.0,
-      few_arms arms (Last (row_block n cs)) (Last (row_block 0 cs)) (few_row cs) f.1,
+      subst (λ (i : ℕ). i ≤ most_arms) (same_count arms (last_arm (row_block n cs)) (last_arm (row_block 0 cs)) refl) f.0,
+      few_arms arms (last_arm (row_block n cs)) (last_arm (row_block 0 cs)) (few_row cs) f.1,
     )
 
     few_arms : {k : _} (row : Row_of-Arm k) (a b : Arms) → (FewArms a → FewArms b) → FewArms (row_arms n row a) → FewArms (row_arms 0 row b)

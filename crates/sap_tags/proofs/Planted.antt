@@ -2,7 +2,7 @@
 use Rattle.std.proofs.Common.{◌≡◌, ℕ, Bool, zero, suc, ◌+◌, ◌<◌, ◌≤◌, List, [], ◌∷◌, ◌++◌, length, get_or, drop, refl, sym, ap, ap₂, ◌∙◌, arith, add-one}
 use Rattle.sap_ir.proofs.PlainLemmas.{planted_end}
 use Rattle.sap_maps.specs.Maps.{Name}
-use Rattle.sap_meaning.specs.Program.{root, listed, Block, State, Node, Group, None, More}
+use Rattle.sap_meaning.specs.Program.{root, listed, Block, State, state_node, Group, no_node, and_node}
 use Rattle.sap_meaning.specs.Checks as checks
 use Rattle.sap_ir.specs.Plain.Nested.{Body, stop, Forest, none, state}
 use Rattle.sap_ir.specs.declared.plain.nested.PlainState.{PlainState, PlainState-F, roll-PlainState}
@@ -15,7 +15,7 @@ use Rattle.sap_program.specs.Views.{block_of, state_of, group_of}
 use Rattle.sap_terms.specs.Parts.{commands_wires, state_wires, states_wires}
 use Rattle.sap_tags.specs.Built.{commands_body, state_forest, states_forest, top_forest, tops_forest}
 use Rattle.sap_terms.specs.Code.{named_in, entities_in, setting_in, spot_in}
-use Rattle.sap_tagged.specs.Keys.{First, Tag, Wire, Inner, entity_word}
+use Rattle.sap_tagged.specs.Keys.{first_key, tag_key, wire_key, inner_key, entity_word}
 use Rattle.sap_tagged.specs.Levels.{var}
 use Rattle.sap_tagged.specs.Commands.{gives, raises, block_plain, wires_block}
 use Rattle.sap_tagged.specs.Setting as pass
@@ -33,19 +33,19 @@ planted_more : (a b c : Forest) → planted (planted a b) c ≡ planted a (plant
 planted_more none b c = refl
 planted_more (state x d kids rest) b c = ap (state x d kids) (planted_more rest b c)
 
-group_one : (d : pass.Setting) (parent k : ℕ) (t : State) (g : Group) → group_plain d parent k (More t g) ≡ planted (group_plain d parent k (More t None)) (group_plain d parent (k + wires_state t) g)
+group_one : (d : pass.Setting) (parent k : ℕ) (t : State) (g : Group) → group_plain d parent k (and_node t g) ≡ planted (group_plain d parent k (and_node t no_node)) (group_plain d parent (k + wires_state t) g)
 unfolding group_plain
-group_one d parent k (Node x b kids) g = refl
+group_one d parent k (state_node x b kids) g = refl
 
-top_one : (d : pass.Setting) (hangs : ℕ → Bool) (k : ℕ) (t : State) (g : Group) → top_plain d hangs k (More t g) ≡ planted (top_plain d hangs k (More t None)) (top_plain d hangs (k + wires_state t) g)
+top_one : (d : pass.Setting) (hangs : ℕ → Bool) (k : ℕ) (t : State) (g : Group) → top_plain d hangs k (and_node t g) ≡ planted (top_plain d hangs k (and_node t no_node)) (top_plain d hangs (k + wires_state t) g)
 unfolding top_plain
-top_one d hangs k (Node x b kids) g = refl
+top_one d hangs k (state_node x b kids) g = refl
 
 module _ (s : Setting) where
   -- a state
 
-  node_forest : (d : pass.Setting) (parent k x : ℕ) (b : Block) (kids : Group) → group_plain d parent k (More (Node x b kids) None)
-      ≡ state (d.state_name x) (gives d (Wire k) (var d (Inner parent)) (block_plain d (record { state = x; parent = parent; children = kids }) k (k + 1) b)) (group_plain d x (k + 1 + wires_block b) kids) none
+  node_forest : (d : pass.Setting) (parent k x : ℕ) (b : Block) (kids : Group) → group_plain d parent k (and_node (state_node x b kids) no_node)
+      ≡ state (d.state_name x) (gives d (wire_key k) (var d (inner_key parent)) (block_plain d (record { state = x; parent = parent; children = kids }) k (k + 1) b)) (group_plain d x (k + 1 + wires_block b) kids) none
   unfolding group_plain
   node_forest d parent k x b kids = refl
 
@@ -57,7 +57,7 @@ module _ (s : Setting) where
   pub state_made : (parent k m : ℕ) (t : StateCode) (at : Spot) (bl : List Command) (kl : List StateCode) (y : PlainState-F PlainState) (b1 : Body)
       → at.state ≡ (out-State t).number → at.parent ≡ parent → at.children.now ≡ kl → bl ≡ (out-State t).body.items → kl ≡ (out-State t).children.items → m ≡ k + 1 + commands_wires bl
       → y.name ≡ entity_word (named_in s) (out-State t).number
-      → b1 ≡ gives (setting_in s) (Wire k) (var (setting_in s) (Inner parent)) stop
+      → b1 ≡ gives (setting_in s) (wire_key k) (var (setting_in s) (inner_key parent)) stop
       → body_of y.cmds.items ≡ follow b1 (commands_body s at k (k + 1) bl)
       → forest_of y.children.items ≡ states_forest s (out-State t).number m kl
       → state_before (roll-PlainState y) none ≡ state_forest s parent k t
@@ -69,7 +69,7 @@ module _ (s : Setting) where
       let b = block_of n (out-State t).body.items in
       let g = group_of n (out-State t).children.items in
       let here : ℕ → ℕ → List StateCode → checks.Spot = λ q r l. record { state = q; parent = r; children = group_of n l } in
-      let front : Body → Body = λ c. gives d (Wire k) (var d (Inner parent)) c in
+      let front : Body → Body = λ c. gives d (wire_key k) (var d (inner_key parent)) c in
       let first : body_of y.cmds.items ≡ front (block_plain d (here x parent (out-State t).children.items) k (k + 1) b) =
       body
       ∙ ap (λ (c : Body). follow c (block_plain d (spot_in s at) k (k + 1) (block_of n bl))) e1
@@ -80,7 +80,7 @@ module _ (s : Setting) where
       state_before-roll y none
       ∙ ap₂ (λ (m : Name) (c : Body). state m c (forest_of y.children.items) none) ne first
       ∙ ap (λ (f : Forest). state (d.state_name x) (front (block_plain d (here x parent (out-State t).children.items) k (k + 1) b)) f none) second
-      ∙ sym (ap (λ (q : State). group_plain d parent k (More q None)) (state_of-out n t) ∙ node_forest d parent k x b g)
+      ∙ sym (ap (λ (q : State). group_plain d parent k (and_node q no_node)) (state_of-out n t) ∙ node_forest d parent k x b g)
 
   -- the states of a group
 
@@ -99,7 +99,7 @@ module _ (s : Setting) where
         let n = entities_in s in
         ap (group_plain d parent k) (group_of-more n t ts)
         ∙ group_one d parent k (state_of n t) (group_of n ts)
-        ∙ ap (λ (w : ℕ). planted (group_plain d parent k (More (state_of n t) None)) (group_plain d parent (k + w) (group_of n ts))) (wires_state_are n t)
+        ∙ ap (λ (w : ℕ). planted (group_plain d parent k (and_node (state_of n t) no_node)) (group_plain d parent (k + w) (group_of n ts))) (wires_state_are n t)
 
     forest_drop : (k : ℕ) (ts : List StateCode) (i : ℕ) (e : StateCode) → i < length ts → states_forest s parent k (drop i ts) ≡ planted (state_forest s parent k (get_or ts i e)) (states_forest s parent (k + state_wires (get_or ts i e)) (drop (i + 1) ts))
     forest_drop k [] i e l = absurd (omega arith)
@@ -119,33 +119,33 @@ module _ (s : Setting) where
 
   -- the top-level states
 
-  top_node : (d : pass.Setting) (hangs : ℕ → Bool) (k x : ℕ) (b : Block) (kids : Group) → top_plain d hangs k (More (Node x b kids) None)
-      ≡ state (d.state_name x) (saves d (gives d (Wire k) (var d (Tag x)) (raises d hangs k (block_plain d (record { state = x; parent = root d.world; children = kids }) k (k + 1) b)))) (group_plain d x (k + 1 + wires_block b) kids) none
+  top_node : (d : pass.Setting) (hangs : ℕ → Bool) (k x : ℕ) (b : Block) (kids : Group) → top_plain d hangs k (and_node (state_node x b kids) no_node)
+      ≡ state (d.state_name x) (saves d (gives d (wire_key k) (var d (tag_key x)) (raises d hangs k (block_plain d (record { state = x; parent = root d.world; children = kids }) k (k + 1) b)))) (group_plain d x (k + 1 + wires_block b) kids) none
   unfolding top_plain
   top_node d hangs k x b kids = refl
 
   -- the body of a top-level state
   top_body : (hl : List ℕ) (k x : ℕ) (b0 b1 b2 b3 b4 c : Body) → hl ≡ s.program.now.hang → b1 ≡ saves (setting_in s) stop
-      → b2 ≡ follow b1 (gives (setting_in s) (Wire k) (var (setting_in s) (Tag x)) stop)
+      → b2 ≡ follow b1 (gives (setting_in s) (wire_key k) (var (setting_in s) (tag_key x)) stop)
       → b3 ≡ follow b2 (raises (setting_in s) (listed (flags (entities_in s) hl)) k stop)
       → b4 ≡ follow b3 c
-      → b4 ≡ saves (setting_in s) (gives (setting_in s) (Wire k) (var (setting_in s) (Tag x)) (raises (setting_in s) (listed (flags (entities_in s) s.program.now.hang)) k c))
+      → b4 ≡ saves (setting_in s) (gives (setting_in s) (wire_key k) (var (setting_in s) (tag_key x)) (raises (setting_in s) (listed (flags (entities_in s) s.program.now.hang)) k c))
   top_body hl k x b0 b1 b2 b3 b4 c he e1 e2 e3 e4 =
       let d = setting_in s in
-      let level : Body = gives d (Wire k) (var d (Tag x)) stop in
+      let level : Body = gives d (wire_key k) (var d (tag_key x)) stop in
       let raise : Body = raises d (listed (flags (entities_in s) hl)) k stop in
       e4 ∙ ap (λ (b : Body). follow b c) (e3 ∙ ap (λ (b : Body). follow b raise) (e2 ∙ ap (λ (b : Body). follow b level) e1))
       ∙ follow-more (follow (saves d stop) level) raise c
       ∙ follow-more (saves d stop) level (follow raise c)
-      ∙ for_each_follow d First (saved d.world) (λ m. var d (Tag m)) (gives d (Wire k) (var d (Tag x)) (follow raise c))
-      ∙ ap (λ (b : Body). saves d (gives d (Wire k) (var d (Tag x)) b)) (sym (raises_follow d (listed (flags (entities_in s) hl)) k c))
-      ∙ ap (λ (l : List ℕ). saves d (gives d (Wire k) (var d (Tag x)) (raises d (listed (flags (entities_in s) l)) k c))) he
+      ∙ for_each_follow d first_key (saved d.world) (λ m. var d (tag_key m)) (gives d (wire_key k) (var d (tag_key x)) (follow raise c))
+      ∙ ap (λ (b : Body). saves d (gives d (wire_key k) (var d (tag_key x)) b)) (sym (raises_follow d (listed (flags (entities_in s) hl)) k c))
+      ∙ ap (λ (l : List ℕ). saves d (gives d (wire_key k) (var d (tag_key x)) (raises d (listed (flags (entities_in s) l)) k c))) he
 
   pub top_made : (k m : ℕ) (t : StateCode) (at : Spot) (hl : List ℕ) (bl : List Command) (kl : List StateCode) (y : PlainState-F PlainState) (b1 b2 b3 : Body)
       → at.state ≡ (out-State t).number → at.parent ≡ entities_in s → at.children.now ≡ kl → hl ≡ s.program.now.hang → bl ≡ (out-State t).body.items → kl ≡ (out-State t).children.items → m ≡ k + 1 + commands_wires bl
       → y.name ≡ entity_word (named_in s) (out-State t).number
       → b1 ≡ saves (setting_in s) stop
-      → b2 ≡ follow b1 (gives (setting_in s) (Wire k) (var (setting_in s) (Tag (out-State t).number)) stop)
+      → b2 ≡ follow b1 (gives (setting_in s) (wire_key k) (var (setting_in s) (tag_key (out-State t).number)) stop)
       → b3 ≡ follow b2 (raises (setting_in s) (listed (flags (entities_in s) hl)) k stop)
       → body_of y.cmds.items ≡ follow b3 (commands_body s at k (k + 1) bl)
       → forest_of y.children.items ≡ states_forest s (out-State t).number m kl
@@ -159,7 +159,7 @@ module _ (s : Setting) where
       let g = group_of n (out-State t).children.items in
       let here : ℕ → ℕ → List StateCode → checks.Spot = λ q r l. record { state = q; parent = r; children = group_of n l } in
       let r : at.parent ≡ root d.world = pe ∙ sym (entities_count s.program.now.entities.items) in
-      let front : Body → Body = λ c. saves d (gives d (Wire k) (var d (Tag x)) (raises d (listed (flags n s.program.now.hang)) k c)) in
+      let front : Body → Body = λ c. saves d (gives d (wire_key k) (var d (tag_key x)) (raises d (listed (flags n s.program.now.hang)) k c)) in
       let first : body_of y.cmds.items ≡ front (block_plain d (here x (root d.world) (out-State t).children.items) k (k + 1) b) =
       top_body hl k x stop b1 b2 b3 (body_of y.cmds.items) (block_plain d (spot_in s at) k (k + 1) (block_of n bl)) he e1 e2 e3 body
       ∙ ap₂ (λ (q r : ℕ). front (block_plain d (here q r at.children.now) k (k + 1) (block_of n bl))) xe r
@@ -169,7 +169,7 @@ module _ (s : Setting) where
       state_before-roll y none
       ∙ ap₂ (λ (m : Name) (c : Body). state m c (forest_of y.children.items) none) ne first
       ∙ ap (λ (f : Forest). state (d.state_name x) (front (block_plain d (here x (root d.world) (out-State t).children.items) k (k + 1) b)) f none) second
-      ∙ sym (ap (λ (q : State). top_plain d (listed (flags n s.program.now.hang)) k (More q None)) (state_of-out n t) ∙ top_node d (listed (flags n s.program.now.hang)) k x b g)
+      ∙ sym (ap (λ (q : State). top_plain d (listed (flags n s.program.now.hang)) k (and_node q no_node)) (state_of-out n t) ∙ top_node d (listed (flags n s.program.now.hang)) k x b g)
 
   tops_past : (k : ℕ) (ts : List StateCode) (i : ℕ) → length ts ≤ i → tops_forest s k (drop i ts) ≡ none
   unfolding tops_forest top_plain group_of
@@ -186,7 +186,7 @@ module _ (s : Setting) where
       let hangs = listed (flags n s.program.now.hang) in
       ap (top_plain d hangs k) (group_of-more n t ts)
       ∙ top_one d hangs k (state_of n t) (group_of n ts)
-      ∙ ap (λ (w : ℕ). planted (top_plain d hangs k (More (state_of n t) None)) (top_plain d hangs (k + w) (group_of n ts))) (wires_state_are n t)
+      ∙ ap (λ (w : ℕ). planted (top_plain d hangs k (and_node (state_of n t) no_node)) (top_plain d hangs (k + w) (group_of n ts))) (wires_state_are n t)
 
   tops_at : (k : ℕ) (ts : List StateCode) (i : ℕ) (e : StateCode) → i < length ts → tops_forest s k (drop i ts) ≡ planted (top_forest s k (get_or ts i e)) (tops_forest s (k + state_wires (get_or ts i e)) (drop (i + 1) ts))
   tops_at k [] i e l = absurd (omega arith)

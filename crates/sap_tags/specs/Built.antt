@@ -1,6 +1,6 @@
 -- Lists of commands and of states, and what becomes of them.
 use Rattle.std.specs.Prelude.{ℕ, ◌+◌, List, [], ◌∷◌, if◌then◌else◌}
-use Rattle.sap_meaning.specs.Program.{Step, None, More}
+use Rattle.sap_meaning.specs.Program.{Step, no_node, and_node}
 use Rattle.sap_meaning.specs.Checks as checks
 use Rattle.sap_ir.specs.Plain.Nested.{Body, stop, cases, Forest}
 use Rattle.sap_ir.specs.Plain.Views.{follow}
@@ -10,7 +10,7 @@ use Rattle.sap_program.specs.declared.program.State.{State}
 use Rattle.sap_program.specs.Hangs.{flags}
 use Rattle.sap_program.specs.Views.{command_of, block_of, arm_block, state_of, group_of}
 use Rattle.sap_meaning.specs.Program as program
-use Rattle.sap_tagged.specs.Keys.{Wire}
+use Rattle.sap_tagged.specs.Keys.{wire_key}
 use Rattle.sap_tagged.specs.Setting as pass
 use Rattle.sap_tagged.specs.Levels.{var, always}
 use Rattle.sap_tagged.specs.Commands.{effect_of, wires_block, command_plain, block_plain}
@@ -34,7 +34,7 @@ arm_bodies s at p k (arm ∷ arms) =
     block_plain (setting_in s) (spot_in s at) p k (arm_block (entities_in s) arm) ∷ arm_bodies s at p (k + wires_block (arm_block 0 arm)) arms
 
 unfoldable pub state_forest : Setting → (parent k : ℕ) → State → Forest
-state_forest s parent k t = group_plain (setting_in s) parent k (More (state_of (entities_in s) t) None)
+state_forest s parent k t = group_plain (setting_in s) parent k (and_node (state_of (entities_in s) t) no_node)
 
 unfoldable pub states_forest : Setting → (parent k : ℕ) → List State → Forest
 states_forest s parent k ts = group_plain (setting_in s) parent k (group_of (entities_in s) ts)
@@ -42,7 +42,7 @@ states_forest s parent k ts = group_plain (setting_in s) parent k (group_of (ent
 -- of a top-level state
 unfoldable pub top_forest : Setting → (k : ℕ) → State → Forest
 top_forest s k t =
-    top_plain (setting_in s) (program.listed (flags (entities_in s) s.program.now.hang)) k (More (state_of (entities_in s) t) None)
+    top_plain (setting_in s) (program.listed (flags (entities_in s) s.program.now.hang)) k (and_node (state_of (entities_in s) t) no_node)
 
 unfoldable pub tops_forest : Setting → (k : ℕ) → List State → Forest
 tops_forest s k ts =
@@ -51,4 +51,4 @@ tops_forest s k ts =
 -- what comes behind the raises of a step, where `accepted` comes behind its effect, and `refused` is what a refusal does
 unfoldable pub decided : pass.Setting → checks.Spot → (k : ℕ) → Step → (accepted refused : Body) → Body
 decided d at k s accepted refused =
-    if always d.world at s then follow (effect_of d at k s) accepted else cases (var d (Wire k)) (follow (effect_of d at k s) accepted) refused stop
+    if always d.world at s then follow (effect_of d at k s) accepted else cases (var d (wire_key k)) (follow (effect_of d at k s) accepted) refused stop

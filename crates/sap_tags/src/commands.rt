@@ -10,7 +10,7 @@ ghost use Rattle.sap_ir.specs.Plain.Views.{body_of, follow};
 ghost use Rattle.sap_program.specs.Views as views;
 ghost use Rattle.sap_resolve.specs.Sized.Ranges.{RangedStep, RangedTerm};
 ghost use Rattle.sap_tagged.specs.Commands as spec;
-ghost use Rattle.sap_tagged.specs.Keys.{Wire};
+ghost use Rattle.sap_tagged.specs.Keys.{wire_key};
 ghost use Rattle.sap_tagged.specs.Levels as levels;
 ghost use Rattle.sap_terms.specs.Parts.{ArmsFew, ArmsRanged, CommandFew, CommandRanged, CommandsFew, CommandsRanged, arm_wires, command_wires, commands_wires};
 ghost use Rattle.sap_tags.specs.Built.{arm_bodies, command_body, commands_body, decided};
@@ -35,7 +35,7 @@ use std::alloc::{AllocError, Global};
 /// A context inside another, which is in the wire `p`.
 fn inside(alloc: Global, setting: &Setting<'_>, p: u32, own: u32) -> Result<Calc, AllocError>
     ensures { let d = setting_in setting.now in
-        IfOk result (λ c. term_of c ≡ levels.lub (levels.var d (Wire p)) (levels.var d (Wire own))) }
+        IfOk result (λ c. term_of c ≡ levels.lub (levels.var d (wire_key p)) (levels.var d (wire_key own))) }
 {
     let context = wire_variable(alloc, setting, p)?;
     let own = wire_variable(alloc, setting, own)?;
@@ -150,7 +150,7 @@ fn choose(
     requires few { k + 2 < 2 ^ 32 }
     requires ranged { RangedTerm (world_in setting.now) (views.term_of condition.now) }
     ensures { let d = setting_in setting.now in
-        OnOk result (body_of out.new.items ≡ follow (body_of out.old.items) (spec.gives d (Wire k) (levels.tag_of d (views.term_of condition.now)) (spec.gives d (Wire (k + 1)) (levels.lub (levels.var d (Wire p)) (levels.var d (Wire k))) stop))) }
+        OnOk result (body_of out.new.items ≡ follow (body_of out.old.items) (spec.gives d (wire_key k) (levels.tag_of d (views.term_of condition.now)) (spec.gives d (wire_key (k + 1)) (levels.lub (levels.var d (wire_key p)) (levels.var d (wire_key k))) stop))) }
 {
     let level = tag_of(alloc, setting, condition)?;
     set_wire(alloc, setting, out, k, level)?;
@@ -293,7 +293,7 @@ fn pick_block(
     requires ranged { RangedTerm (world_in setting.now) (views.term_of number.now) }
     requires arms { length arms.now ≤ most_arms }
     ensures { let d = setting_in setting.now in
-        let all = views.arms_before (entities_in setting.now) arms.now (program.Last program.End) in
+        let all = views.arms_before (entities_in setting.now) arms.now (program.last_arm program.end_block) in
         OnOk result (body_of out.new.items ≡ follow (body_of out.old.items)
         (spec.picks d (term_width (world_in setting.now) (views.term_of number.now)) (k + 2) (spec.pick_width all) (k + 3) 0 all
         (spec.decides d (k + 3) (spec.pick_width all) (map (λ b. body_of b.items) blocks.items)))) }

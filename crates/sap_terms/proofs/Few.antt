@@ -3,7 +3,7 @@ use Rattle.std.proofs.Common.{◌≡◌, ℕ, zero, suc, ◌<◌, ◌≤◌, Lis
 use Rattle.std.specs.declared.vec.Vec.{Vec}
 use Rattle.std.specs.declared.alloc.Global.{Global}
 use Rattle.sap_tree.specs.Limits.{most_arms}
-use Rattle.sap_meaning.specs.Program.{Arms, Last, End}
+use Rattle.sap_meaning.specs.Program.{Arms, last_arm, end_block}
 use Rattle.sap_program.specs.declared.program.Number.{Number}
 use Rattle.sap_program.specs.declared.program.Step.{Step}
 use Rattle.sap_program.specs.declared.program.Arm.{Arm}
@@ -47,20 +47,20 @@ pub few_refused : (c : Command) (st : Step) (hang : List ℕ) (ys ns : Vec Comma
 unfolding CommandsFew
 few_refused c st hang ys ns l i f r = subst (λ (l : List Command). FewBlock (block_of 0 l)) (sym f) (few_then c st hang ys ns i r).1
 
-few_before : (n : ℕ) (arms : List Arm) (others : Arms) → FewArms (arms_before n arms others) → FewArms (arms_before n arms (Last End)) × FewArms others
+few_before : (n : ℕ) (arms : List Arm) (others : Arms) → FewArms (arms_before n arms others) → FewArms (arms_before n arms (last_arm end_block)) × FewArms others
 unfolding arms_before
 few_before n [] others r = (tt, r)
 few_before n (a ∷ arms) others r = let q = few_before n arms others r.2 in ((r.0, r.1, q.0), q.1)
 
 few_case : (c : Command) (hang : List ℕ) (e : Number) (arms : Vec Arm Global) (cs : Vec Command Global) → c ≡ shown.Case hang e arms cs → CommandFew c
-    → (let all = arms_before 0 arms.items (Last (block_of 0 cs.items)) in (arm_count all ≤ most_arms) × FewArms all)
+    → (let all = arms_before 0 arms.items (last_arm (block_of 0 cs.items)) in (arm_count all ≤ most_arms) × FewArms all)
 unfolding CommandFew
 few_case c hang e arms cs i r = subst Few (ap (command_of 0) i ∙ command_of-case 0 hang e arms cs) r
 
 pub few_arms : (c : Command) (hang : List ℕ) (e : Number) (arms : Vec Arm Global) (cs : Vec Command Global) (l : List Arm) → c ≡ shown.Case hang e arms cs → l ≡ arms.items → CommandFew c → ArmsFew l
 unfolding ArmsFew
 few_arms c hang e arms cs l i f r =
-    subst (λ (l : List Arm). FewArms (arms_before 0 l (Last End))) (sym f) (few_before 0 arms.items (Last (block_of 0 cs.items)) (few_case c hang e arms cs i r).1).0
+    subst (λ (l : List Arm). FewArms (arms_before 0 l (last_arm end_block))) (sym f) (few_before 0 arms.items (last_arm (block_of 0 cs.items)) (few_case c hang e arms cs i r).1).0
 
 pub few_count : (c : Command) (hang : List ℕ) (e : Number) (arms : Vec Arm Global) (cs : Vec Command Global) (l : List Arm) → c ≡ shown.Case hang e arms cs → l ≡ arms.items → CommandFew c → length l ≤ most_arms
 few_count c hang e arms cs l i f r =
@@ -69,7 +69,7 @@ few_count c hang e arms cs l i f r =
 pub few_last : (c : Command) (hang : List ℕ) (e : Number) (arms : Vec Arm Global) (cs : Vec Command Global) (l : List Command) → c ≡ shown.Case hang e arms cs → l ≡ cs.items → CommandFew c → CommandsFew l
 unfolding CommandsFew
 few_last c hang e arms cs l i f r =
-    subst (λ (l : List Command). FewBlock (block_of 0 l)) (sym f) (few_before 0 arms.items (Last (block_of 0 cs.items)) (few_case c hang e arms cs i r).1).1
+    subst (λ (l : List Command). FewBlock (block_of 0 l)) (sym f) (few_before 0 arms.items (last_arm (block_of 0 cs.items)) (few_case c hang e arms cs i r).1).1
 
 pub few_arm : (arms : List Arm) (i : ℕ) (e : Arm) → i < length arms → ArmsFew arms → CommandsFew (commands_in (get_or arms i e))
 unfolding ArmsFew CommandsFew arms_before

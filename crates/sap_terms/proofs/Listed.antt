@@ -11,18 +11,18 @@ use Rattle.sap_program.specs.declared.program.Command.TheViews as shown
 use Rattle.sap_program.specs.declared.program.State.{State, State', Row_of-State, end_of-State, more_of-State, out-State}
 use Rattle.sap_program.specs.Views.{command_of, row_arms, row_block, block_of, commands_in, arms_before, state_of, row_group, group_of}
 use Rattle.sap_program.proofs.Shown.{command_of-do, command_of-try, command_of-if, command_of-then, command_of-case, block_of-none, state_of-out, group_of-none}
-use Rattle.sap_meaning.specs.Program.{Arms, Last, End, Then, More}
+use Rattle.sap_meaning.specs.Program.{Arms, last_arm, end_block, command_then, and_node}
 use Rattle.sap_tagged.specs.Commands.{wires, wires_arms, wires_block}
 use Rattle.sap_tagged.specs.States.{wires_state, wires_group}
 use Rattle.sap_terms.specs.Parts.{command_wires, commands_wires, arm_wires, state_wires, states_wires}
 
 -- one in front
 
-pub block_of-more : (n : ℕ) (c : Command) (cs : List Command) → block_of n (c ∷ cs) ≡ Then (command_of n c) (block_of n cs)
+pub block_of-more : (n : ℕ) (c : Command) (cs : List Command) → block_of n (c ∷ cs) ≡ command_then (command_of n c) (block_of n cs)
 unfolding block_of
 block_of-more n c cs = refl
 
-pub group_of-more : (n : ℕ) (s : State) (ss : List State) → group_of n (s ∷ ss) ≡ More (state_of n s) (group_of n ss)
+pub group_of-more : (n : ℕ) (s : State) (ss : List State) → group_of n (s ∷ ss) ≡ and_node (state_of n s) (group_of n ss)
 unfolding group_of
 group_of-more n s ss = refl
 
@@ -37,7 +37,7 @@ module _ (n : ℕ) where
     same_wires (command.Try' s hang k handler) = ap (λ (m : ℕ). 5 + m) (same_row handler)
     same_wires (command.If' hang e k ys m ns) = ap₂ (λ (a b : ℕ). 2 + a + b) (same_row ys) (same_row ns)
     same_wires (command.TryThen' s hang k ys m ns) = ap₂ (λ (a b : ℕ). 5 + a + b) (same_row ys) (same_row ns)
-    same_wires (command.Case' hang e k arms m cs) = ap (λ (a : ℕ). 4 + a) (same_arms arms (Last (row_block n cs)) (Last (row_block 0 cs)) (same_row cs))
+    same_wires (command.Case' hang e k arms m cs) = ap (λ (a : ℕ). 4 + a) (same_arms arms (last_arm (row_block n cs)) (last_arm (row_block 0 cs)) (same_row cs))
 
     same_arms : {k : _} (row : Row_of-Arm k) (a b : Arms) → wires_arms a ≡ wires_arms b → wires_arms (row_arms n row a) ≡ wires_arms (row_arms 0 row b)
     same_arms end_of-Arm a b e = e
@@ -58,12 +58,12 @@ module _ (n : ℕ) where
 
 -- arms, whatever is behind them
 
-pub wires_before : (n : ℕ) (arms : List Arm) (others : Arms) → wires_arms (arms_before n arms others) ≡ wires_arms (arms_before n arms (Last End)) + wires_arms others
+pub wires_before : (n : ℕ) (arms : List Arm) (others : Arms) → wires_arms (arms_before n arms others) ≡ wires_arms (arms_before n arms (last_arm end_block)) + wires_arms others
 unfolding arms_before
 wires_before n [] others = omega arith
 wires_before n (a ∷ arms) others = let r = wires_before n arms others in omega (arith, r)
 
-pub wires_arms_are : (n : ℕ) (arms : List Arm) → wires_arms (arms_before n arms (Last End)) ≡ arm_wires arms
+pub wires_arms_are : (n : ℕ) (arms : List Arm) → wires_arms (arms_before n arms (last_arm end_block)) ≡ arm_wires arms
 unfolding arm_wires arms_before
 wires_arms_are n [] = refl
 wires_arms_are n (a ∷ arms) = ap₂ (λ (x y : ℕ). x + y) (wires_block_are n a.block.items ∙ sym (wires_block_are 0 a.block.items)) (wires_arms_are n arms)
@@ -112,7 +112,7 @@ pub wires_case : (hang : List ℕ) (e : Number) (arms : Vec Arm Global) (cs : Ve
 unfolding command_wires commands_wires arm_wires
 wires_case hang e arms cs =
     let a = ap wires (command_of-case 0 hang e arms cs) in
-    let b = wires_before 0 arms.items (Last (block_of 0 cs.items)) in
+    let b = wires_before 0 arms.items (last_arm (block_of 0 cs.items)) in
     omega (arith, a, b)
 
 pub wires_none : commands_wires [] ≡ 0

@@ -2,7 +2,7 @@
 use Rattle.std.proofs.Common.{◌≡◌, ℕ, zero, suc, ◌<◌, List, [], ◌∷◌, length, get_or, sym, ap, ◌∙◌, subst, arith}
 use Rattle.std.specs.declared.vec.Vec.{Vec}
 use Rattle.std.specs.declared.alloc.Global.{Global}
-use Rattle.sap_meaning.specs.Program.{Arms, Last, End}
+use Rattle.sap_meaning.specs.Program.{Arms, last_arm, end_block}
 use Rattle.sap_program.specs.declared.program.Number.{Number}
 use Rattle.sap_program.specs.declared.program.Step.{Step}
 use Rattle.sap_program.specs.declared.program.Arm.{Arm}
@@ -69,13 +69,13 @@ module _ (s : Setting) where
   ranged_refused c st hang ys ns l i f r = subst (λ (l : List Command). RangedBlock (world_in s) (block_of (entities_in s) l)) (sym f) (ranged_then c st hang ys ns i r).2
 
   ranged_before : (arms : List Arm) (others : Arms) → RangedArms (world_in s) (arms_before (entities_in s) arms others)
-      → RangedArms (world_in s) (arms_before (entities_in s) arms (Last End)) × RangedArms (world_in s) others
+      → RangedArms (world_in s) (arms_before (entities_in s) arms (last_arm end_block)) × RangedArms (world_in s) others
   unfolding arms_before
   ranged_before [] others r = (tt, r)
   ranged_before (a ∷ arms) others r = let q = ranged_before arms others r.1 in ((r.0, q.0), q.1)
 
   ranged_case : (c : Command) (hang : List ℕ) (e : Number) (arms : Vec Arm Global) (cs : Vec Command Global) → c ≡ shown.Case hang e arms cs → CommandRanged s c
-      → RangedTerm (world_in s) (term_of e) × RangedArms (world_in s) (arms_before (entities_in s) arms.items (Last (block_of (entities_in s) cs.items)))
+      → RangedTerm (world_in s) (term_of e) × RangedArms (world_in s) (arms_before (entities_in s) arms.items (last_arm (block_of (entities_in s) cs.items)))
   unfolding CommandRanged
   ranged_case c hang e arms cs i r = subst (Ranged (world_in s)) (ap (command_of (entities_in s)) i ∙ command_of-case (entities_in s) hang e arms cs) r
 
@@ -85,12 +85,12 @@ module _ (s : Setting) where
   pub ranged_arms : (c : Command) (hang : List ℕ) (e : Number) (arms : Vec Arm Global) (cs : Vec Command Global) (l : List Arm) → c ≡ shown.Case hang e arms cs → l ≡ arms.items → CommandRanged s c → ArmsRanged s l
   unfolding ArmsRanged
   ranged_arms c hang e arms cs l i f r =
-      subst (λ (l : List Arm). RangedArms (world_in s) (arms_before (entities_in s) l (Last End))) (sym f) (ranged_before arms.items (Last (block_of (entities_in s) cs.items)) (ranged_case c hang e arms cs i r).1).0
+      subst (λ (l : List Arm). RangedArms (world_in s) (arms_before (entities_in s) l (last_arm end_block))) (sym f) (ranged_before arms.items (last_arm (block_of (entities_in s) cs.items)) (ranged_case c hang e arms cs i r).1).0
 
   pub ranged_last : (c : Command) (hang : List ℕ) (e : Number) (arms : Vec Arm Global) (cs : Vec Command Global) (l : List Command) → c ≡ shown.Case hang e arms cs → l ≡ cs.items → CommandRanged s c → CommandsRanged s l
   unfolding CommandsRanged
   ranged_last c hang e arms cs l i f r =
-      subst (λ (l : List Command). RangedBlock (world_in s) (block_of (entities_in s) l)) (sym f) (ranged_before arms.items (Last (block_of (entities_in s) cs.items)) (ranged_case c hang e arms cs i r).1).1
+      subst (λ (l : List Command). RangedBlock (world_in s) (block_of (entities_in s) l)) (sym f) (ranged_before arms.items (last_arm (block_of (entities_in s) cs.items)) (ranged_case c hang e arms cs i r).1).1
 
   pub ranged_arm : (arms : List Arm) (i : ℕ) (e : Arm) → i < length arms → ArmsRanged s arms → CommandsRanged s (commands_in (get_or arms i e))
   unfolding ArmsRanged CommandsRanged arms_before

@@ -12,7 +12,7 @@ use Rattle.sap_meaning.specs.Program.{World, entity, nothing}
 use Rattle.sap_program.specs.declared.program.Entity.{Entity}
 use Rattle.sap_program.specs.declared.program.Program.{Program}
 use Rattle.sap_program.specs.Views.{entity_of}
-use Rattle.sap_tagged.specs.Keys.{Seat, numeral, entity_word, key_name}
+use Rattle.sap_tagged.specs.Keys.{seat_key, numeral, entity_word, key_name}
 use Rattle.sap_bits.specs.declared.Op2.TheVariants.{Eq}
 use Rattle.sap_maps.specs.Maps.{Name}
 use Rattle.sap_maps.specs.Term.{Term, constant, two, choose, part}
@@ -29,10 +29,10 @@ pub word_past : (ls : Levels) (p : Program) (x : ℕ) → length p.entities.item
 word_past ls p x l =
     ap (λ (b : Bool). if b then name (named_over ls p) x else numeral x) (ap (nat_lt x) (length_map entity_of p.entities.items) ∙ le-ltb x (length p.entities.items) l)
 
-pub seat_word_is : (ls : Levels) (p : Program) (x : ℕ) → (x == length p.entities.items) ≡ false → key_name (named_over ls p) (Seat x) ≡ codes "s_" ++ entity_word (named_over ls p) x
+pub seat_word_is : (ls : Levels) (p : Program) (x : ℕ) → (x == length p.entities.items) ≡ false → key_name (named_over ls p) (seat_key x) ≡ codes "s_" ++ entity_word (named_over ls p) x
 seat_word_is ls p x e = rw (length_map entity_of p.entities.items, e) refl
 
-pub root_word_is : (ls : Levels) (p : Program) (x : ℕ) → (x == length p.entities.items) ≡ true → key_name (named_over ls p) (Seat x) ≡ codes "s_" ++ codes "0"
+pub root_word_is : (ls : Levels) (p : Program) (x : ℕ) → (x == length p.entities.items) ≡ true → key_name (named_over ls p) (seat_key x) ≡ codes "s_" ++ codes "0"
 root_word_is ls p x e = rw (length_map entity_of p.entities.items, e) refl
 
 pub number_word : (k : ℕ) → k < 2 ^ 64 → numeral k ≡ decimal k

@@ -1,6 +1,6 @@
 -- Commands and states in lists: how many wires they have, that their widths are in range, that their cases have few arms.
 use Rattle.std.specs.Prelude.{ℕ, List}
-use Rattle.sap_meaning.specs.Program.{Last, End}
+use Rattle.sap_meaning.specs.Program.{last_arm, end_block}
 use Rattle.sap_resolve.specs.Sized.Ranges.{Ranged, RangedArms, RangedBlock, RangedState, RangedGroup}
 use Rattle.sap_program.specs.declared.program.Arm.{Arm}
 use Rattle.sap_program.specs.declared.program.Command.{Command}
@@ -21,7 +21,7 @@ unfoldable pub commands_wires : List Command → ℕ
 commands_wires cs = wires_block (block_of 0 cs)
 
 unfoldable pub arm_wires : List Arm → ℕ
-arm_wires arms = wires_arms (arms_before 0 arms (Last End))
+arm_wires arms = wires_arms (arms_before 0 arms (last_arm end_block))
 
 unfoldable pub state_wires : State → ℕ
 state_wires t = wires_state (state_of 0 t)
@@ -38,7 +38,7 @@ unfoldable pub CommandsRanged : Setting → List Command → Type 0
 CommandsRanged s cs = RangedBlock (world_in s) (block_of (entities_in s) cs)
 
 unfoldable pub ArmsRanged : Setting → List Arm → Type 0
-ArmsRanged s arms = RangedArms (world_in s) (arms_before (entities_in s) arms (Last End))
+ArmsRanged s arms = RangedArms (world_in s) (arms_before (entities_in s) arms (last_arm end_block))
 
 unfoldable pub StateRanged : Setting → State → Type 0
 StateRanged s t = RangedState (world_in s) (state_of (entities_in s) t)
@@ -55,7 +55,7 @@ unfoldable pub CommandsFew : List Command → Type 0
 CommandsFew cs = FewBlock (block_of 0 cs)
 
 unfoldable pub ArmsFew : List Arm → Type 0
-ArmsFew arms = FewArms (arms_before 0 arms (Last End))
+ArmsFew arms = FewArms (arms_before 0 arms (last_arm end_block))
 
 unfoldable pub StateFew : State → Type 0
 StateFew t = FewState (state_of 0 t)

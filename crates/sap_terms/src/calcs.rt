@@ -8,7 +8,7 @@ ghost use Rattle.sap_meaning.specs.Program as program;
 ghost use Rattle.sap_meaning.specs.Expressions as expressions;
 ghost use Rattle.sap_program.specs.Views as views;
 ghost use Rattle.sap_resolve.specs.Sized.Ranges.{RangedLevel, RangedTerm};
-ghost use Rattle.sap_tagged.specs.Keys.{First, Tag};
+ghost use Rattle.sap_tagged.specs.Keys.{first_key, tag_key};
 ghost use Rattle.sap_tagged.specs.Levels as spec;
 ghost use Rattle.sap_terms.specs.Code.{setting_in, world_in};
 
@@ -131,7 +131,7 @@ pub fn below_or_at(alloc: Global, a: Calc, b: Calc) -> Result<Calc, AllocError>
 
 /// The tag of an entity.
 pub fn tag_variable(alloc: Global, setting: &Setting<'_>, x: usize) -> Result<Calc, AllocError>
-    ensures { IfOk result (λ c. calcs.term_of c ≡ spec.var (setting_in setting.now) (Tag x)) }
+    ensures { IfOk result (λ c. calcs.term_of c ≡ spec.var (setting_in setting.now) (tag_key x)) }
 {
     Ok(Calc::Read(tag_name(alloc, setting, x)?))
 }
@@ -259,7 +259,7 @@ pub fn cell_variable(
 ) -> Result<Calc, AllocError>
     requires { RangedTerm (world_in setting.now) (views.term_of index.now) }
     ensures { let s = setting_in setting.now in
-        IfOk result (λ c. calcs.term_of c ≡ term.cell (s.name (Tag memory)) (spec.expr s (views.term_of index.now))) }
+        IfOk result (λ c. calcs.term_of c ≡ term.cell (s.name (tag_key memory)) (spec.expr s (views.term_of index.now))) }
 {
     let tags = tag_name(alloc, setting, memory)?;
     let index = expr(alloc, setting, index)?;

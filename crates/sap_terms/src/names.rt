@@ -1,7 +1,7 @@
 //! Names of a plain program, by what they name.
 
 ghost use Rattle.std.specs.Prelude.{◌≡◌, ◌++◌, IfOk};
-ghost use Rattle.sap_tagged.specs.Keys.{Value, Tag, Seat, Refused, Level, Wire, First, Inner, numeral, entity_word, key_name};
+ghost use Rattle.sap_tagged.specs.Keys.{value_key, tag_key, seat_key, refused_key, level_key, wire_key, first_key, inner_key, numeral, entity_word, key_name};
 ghost use Rattle.sap_terms.specs.Code.{named_in};
 
 use crate::setting::Setting;
@@ -50,14 +50,14 @@ pub fn state_name(alloc: Global, setting: &Setting<'_>, x: usize) -> Result<Name
 
 /// The number of an input or a register, or the contents of a memory.
 pub fn value_name(alloc: Global, setting: &Setting<'_>, x: usize) -> Result<Name, AllocError>
-    ensures { IfOk result (λ n. n ≡ key_name (named_in setting.now) (Value x)) }
+    ensures { IfOk result (λ n. n ≡ key_name (named_in setting.now) (value_key x)) }
 {
     entity_name(alloc, setting, b"v_", x)
 }
 
 /// The tag of an entity.
 pub fn tag_name(alloc: Global, setting: &Setting<'_>, x: usize) -> Result<Name, AllocError>
-    ensures { IfOk result (λ n. n ≡ key_name (named_in setting.now) (Tag x)) }
+    ensures { IfOk result (λ n. n ≡ key_name (named_in setting.now) (tag_key x)) }
 {
     entity_name(alloc, setting, b"t_", x)
 }
@@ -65,7 +65,7 @@ pub fn tag_name(alloc: Global, setting: &Setting<'_>, x: usize) -> Result<Name, 
 /// The current child of a state, or of the root.
 #[tactic(auto, using(crate::proofs::Words::words))]
 pub fn seat_name(alloc: Global, setting: &Setting<'_>, x: usize) -> Result<Name, AllocError>
-    ensures { IfOk result (λ n. n ≡ key_name (named_in setting.now) (Seat x)) }
+    ensures { IfOk result (λ n. n ≡ key_name (named_in setting.now) (seat_key x)) }
 {
     if x == setting.program.entities.len() {
         prefixed(alloc, b"s_", b"0")
@@ -76,35 +76,35 @@ pub fn seat_name(alloc: Global, setting: &Setting<'_>, x: usize) -> Result<Name,
 
 /// Whether a site is refused.
 pub fn refused_name(alloc: Global, setting: &Setting<'_>, site: u32) -> Result<Name, AllocError>
-    ensures { IfOk result (λ n. n ≡ key_name (named_in setting.now) (Refused site)) }
+    ensures { IfOk result (λ n. n ≡ key_name (named_in setting.now) (refused_key site)) }
 {
     numbered(alloc, b"c_", u64::from(site))
 }
 
 /// At which level a site is refused.
 pub fn level_name(alloc: Global, setting: &Setting<'_>, site: u32) -> Result<Name, AllocError>
-    ensures { IfOk result (λ n. n ≡ key_name (named_in setting.now) (Level site)) }
+    ensures { IfOk result (λ n. n ≡ key_name (named_in setting.now) (level_key site)) }
 {
     numbered(alloc, b"l_", u64::from(site))
 }
 
 /// A wire of the program's own.
 pub fn wire_name(alloc: Global, setting: &Setting<'_>, wire: u32) -> Result<Name, AllocError>
-    ensures { IfOk result (λ n. n ≡ key_name (named_in setting.now) (Wire wire)) }
+    ensures { IfOk result (λ n. n ≡ key_name (named_in setting.now) (wire_key wire)) }
 {
     numbered(alloc, b"h", u64::from(wire))
 }
 
 /// The tag of a dynamic memory as the cycle began.
 pub fn first_name(alloc: Global, setting: &Setting<'_>, x: usize) -> Result<Name, AllocError>
-    ensures { IfOk result (λ n. n ≡ key_name (named_in setting.now) (First x)) }
+    ensures { IfOk result (λ n. n ≡ key_name (named_in setting.now) (first_key x)) }
 {
     numbered(alloc, b"b", x as u64)
 }
 
 /// The context of the children of a state.
 pub fn inner_name(alloc: Global, setting: &Setting<'_>, x: usize) -> Result<Name, AllocError>
-    ensures { IfOk result (λ n. n ≡ key_name (named_in setting.now) (Inner x)) }
+    ensures { IfOk result (λ n. n ≡ key_name (named_in setting.now) (inner_key x)) }
 {
     numbered(alloc, b"u", x as u64)
 }

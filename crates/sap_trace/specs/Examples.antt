@@ -5,7 +5,7 @@ use Rattle.sap_tree.specs.Making.{named, numeral, number, read, enforced, block,
 use Rattle.sap_tree.specs.declared.syntax.Decl.{Decl}
 use Rattle.sap_tree.specs.declared.syntax.Decl.TheVariants.{Input, Register, Memory}
 use Rattle.sap_tree.specs.declared.syntax.BinaryOperator.TheVariants as operator
-use Rattle.sap_tree.specs.Syntax.{Expression, Binary, Assign, Write, Goto, Fall, Command, Do, Try, If, Else, NoState, DesignTree}
+use Rattle.sap_tree.specs.Syntax.{Expression, binary_of, assign, write, go_to, fall_to_child, Command, lone, try, if_else, with_else, no_state, DesignTree}
 use Rattle.sap_tree.specs.declared.version.Version.TheVariants.{One}
 use Rattle.sap_text.specs.Places.{line}
 use Rattle.sap_lattice.specs.Examples.{low_high}
@@ -13,7 +13,7 @@ use Rattle.sap_sim.specs.Labelled.Examples.{given}
 use Rattle.sap_trace.specs.Lines.{labelled_trace}
 
 abbrev pub goes : List ℕ → Command
-goes name = Do (Goto nowhere (named name))
+goes name = lone (go_to nowhere (named name))
 
 abbrev pub reads_a : Expression
 reads_a = read (codes "a")
@@ -30,7 +30,7 @@ handled = record {
       ∷ Memory nowhere (named (codes "k")) (numeral 8) (numeral 4) (enforced (codes "low"))
       ∷ Register nowhere (named (codes "y")) (numeral 8) (enforced (codes "low")) None ∷ [];
   states = states (state (codes "S") (enforced (codes "low"))
-      (Try (Write (named (codes "k")) reads_a (number 1)) nowhere (block (Do (Assign (named (codes "y")) (number 9)) ∷ [])) ∷ goes (codes "S") ∷ []) NoState ∷ []);
+      (try (write (named (codes "k")) reads_a (number 1)) nowhere (block (lone (assign (named (codes "y")) (number 9)) ∷ [])) ∷ goes (codes "S") ∷ []) no_state ∷ []);
 }
 
 -- 3@high: the write is refused at the level of the index, and so is that of its handler
@@ -40,7 +40,7 @@ InHandler = labelled_trace low_high handled (given 3 1 ∷ [])
 
 -- if (a == 1) { .. } else { .. }
 abbrev pub chooses : Command → Command → Command
-chooses one other = If nowhere (Binary no_spot operator.Eq reads_a (number 1)) (block (one ∷ [])) (Else (block (other ∷ [])))
+chooses one other = if_else nowhere (binary_of no_spot operator.Eq reads_a (number 1)) (block (one ∷ [])) (with_else (block (other ∷ [])))
 
 -- input a : 8; state S enforced low { if (a == 1) { goto T; } else { goto S; } } state T enforced high { goto T; }
 abbrev pub leaving : DesignTree
@@ -48,7 +48,7 @@ leaving = record {
   version = One;
   declarations = an_input 8 ∷ [];
   states = states
-      (state (codes "S") (enforced (codes "low")) (chooses (goes (codes "T")) (goes (codes "S")) ∷ []) NoState ∷ state (codes "T") (enforced (codes "high")) (goes (codes "T") ∷ []) NoState ∷ []);
+      (state (codes "S") (enforced (codes "low")) (chooses (goes (codes "T")) (goes (codes "S")) ∷ []) no_state ∷ state (codes "T") (enforced (codes "high")) (goes (codes "T") ∷ []) no_state ∷ []);
 }
 
 -- 1@high, then 0@low: a `goto` is told by its target
@@ -60,8 +60,8 @@ abbrev pub falling : DesignTree
 falling = record {
   version = One;
   declarations = an_input 8 ∷ [];
-  states = states (state (codes "P") (enforced (codes "low")) (chooses (Do (Fall nowhere)) (Do (Fall nowhere)) ∷ [])
-      (states (state (codes "C") (enforced (codes "low")) (goes (codes "C") ∷ []) NoState ∷ [])) ∷ []);
+  states = states (state (codes "P") (enforced (codes "low")) (chooses (lone (fall_to_child nowhere)) (lone (fall_to_child nowhere)) ∷ [])
+      (states (state (codes "C") (enforced (codes "low")) (goes (codes "C") ∷ []) no_state ∷ [])) ∷ []);
 }
 
 -- 1@low, then 1@high: a `fall` is told by the state in whose body it stands

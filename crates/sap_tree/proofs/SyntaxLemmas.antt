@@ -7,7 +7,7 @@ use Rattle.sap_tree.specs.Whole.{is_expression, is_outermost, is_outermost_tag, 
 use Rattle.sap_tree.specs.declared.version.Version.{Version}
 use Rattle.sap_tree.specs.Syntax as t
 
-pub and_part : {x x' : t.Expression} {xs xs' : t.Expressions} → x ≡ x' → xs ≡ xs' → t.AndPart x xs ≡ t.AndPart x' xs'
+pub and_part : {x x' : t.Expression} {xs xs' : t.Expressions} → x ≡ x' → xs ≡ xs' → t.and_part x xs ≡ t.and_part x' xs'
 and_part e f = cc
 
 pub expression_of_outermost : (version : Version) (x : Expression) → is_outermost version x ≡ true → is_expression version x ≡ true

@@ -2,7 +2,7 @@
 use Rattle.std.specs.Prelude.{ℕ, List, [], ◌∷◌, None}
 use Rattle.sap_text.specs.declared.place.Place.{Place}
 use Rattle.sap_tree.specs.Bare.{nowhere, no_spot}
-use Rattle.sap_tree.specs.Syntax.{Expression, Number, Read, Command, CommandBlock, Commands, CommandList, NoCommand, AndCommand, StateTree, StateOf, StateList, NoState, AndState}
+use Rattle.sap_tree.specs.Syntax.{Expression, literal, variable, Command, CommandBlock, command_block, CommandList, no_command, and_command, StateTree, state_node, StateList, no_state, and_state}
 use Rattle.sap_tree.specs.declared.name.Mention.{Mention}
 use Rattle.sap_tree.specs.declared.place.Spot.{Spot}
 use Rattle.sap_tree.specs.declared.syntax.Kind.{Kind}
@@ -33,25 +33,25 @@ abbrev pub numeral : ℕ → Numeral
 numeral n = numeral_at nowhere n
 
 abbrev pub number : ℕ → Expression
-number n = Number no_spot n
+number n = literal no_spot n
 
 abbrev pub read : List ℕ → Expression
-read name = Read no_spot name
+read name = variable no_spot name
 
 abbrev pub enforced : (level : List ℕ) → Kind
 enforced level = Enforced (named level) None
 
 abbrev pub commands : List Command → CommandList
-commands [] = NoCommand
-commands (c ∷ cs) = AndCommand c (commands cs)
+commands [] = no_command
+commands (c ∷ cs) = and_command c (commands cs)
 
 abbrev pub block : List Command → CommandBlock
-block cs = Commands (commands cs) nowhere
+block cs = command_block (commands cs) nowhere
 
 -- state NAME KIND { .. and its children }
 abbrev pub state : (name : List ℕ) → Kind → List Command → StateList → StateTree
-state name kind body children = StateOf nowhere (named name) kind (block body) children
+state name kind body children = state_node nowhere (named name) kind (block body) children
 
 abbrev pub states : List StateTree → StateList
-states [] = NoState
-states (s ∷ ss) = AndState s (states ss)
+states [] = no_state
+states (s ∷ ss) = and_state s (states ss)

@@ -1,6 +1,6 @@
 -- How tightly an expression binds. An operand stands in parentheses exactly where it binds looser than its place asks for.
 use Rattle.std.specs.Prelude.{ℕ}
-use Rattle.sap_tree.specs.Syntax.{Expression, Number, Sized, Read, Cell, Unary, Binary, Choose, Slice, Concat, Zext}
+use Rattle.sap_tree.specs.Syntax.{Expression, literal, sized_literal, variable, cell_at, unary_of, binary_of, choice, slice, concat, zero_extend}
 use Rattle.sap_tree.specs.declared.syntax.BinaryOperator.TheVariants as b
 use Rattle.sap_tree.specs.declared.syntax.BinaryOperator.{BinaryOperator}
 
@@ -29,13 +29,13 @@ abbrev pub primary_precedence : ℕ
 primary_precedence = 11
 
 unfoldable pub precedence_of : Expression → ℕ
-precedence_of (Number spot n) = primary_precedence
-precedence_of (Sized spot w n) = primary_precedence
-precedence_of (Read spot name) = primary_precedence
-precedence_of (Cell spot name index) = primary_precedence
-precedence_of (Unary spot o x) = unary_precedence
-precedence_of (Binary spot o x y) = precedence o
-precedence_of (Choose spot x y z) = 0
-precedence_of (Slice spot x high low) = slice_precedence
-precedence_of (Concat spot parts) = primary_precedence
-precedence_of (Zext spot x w) = primary_precedence
+precedence_of (literal spot n) = primary_precedence
+precedence_of (sized_literal spot w n) = primary_precedence
+precedence_of (variable spot name) = primary_precedence
+precedence_of (cell_at spot name index) = primary_precedence
+precedence_of (unary_of spot o x) = unary_precedence
+precedence_of (binary_of spot o x y) = precedence o
+precedence_of (choice spot x y z) = 0
+precedence_of (slice spot x high low) = slice_precedence
+precedence_of (concat spot parts) = primary_precedence
+precedence_of (zero_extend spot x w) = primary_precedence

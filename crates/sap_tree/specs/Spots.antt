@@ -1,19 +1,19 @@
 -- Where an expression stands.
-use Rattle.sap_tree.specs.Syntax.{Expression, Number, Sized, Read, Cell, Unary, Binary, Choose, Slice, Concat, Zext}
+use Rattle.sap_tree.specs.Syntax.{Expression, literal, sized_literal, variable, cell_at, unary_of, binary_of, choice, slice, concat, zero_extend}
 use Rattle.sap_text.specs.declared.place.Place.{Place}
 use Rattle.sap_tree.specs.declared.place.Spot.{Spot}
 
 unfoldable pub spot_of : Expression → Spot
-spot_of (Number spot n) = spot
-spot_of (Sized spot w n) = spot
-spot_of (Read spot name) = spot
-spot_of (Cell spot name index) = spot
-spot_of (Unary spot o x) = spot
-spot_of (Binary spot o x y) = spot
-spot_of (Choose spot x y z) = spot
-spot_of (Slice spot x high low) = spot
-spot_of (Concat spot parts) = spot
-spot_of (Zext spot x w) = spot
+spot_of (literal spot n) = spot
+spot_of (sized_literal spot w n) = spot
+spot_of (variable spot name) = spot
+spot_of (cell_at spot name index) = spot
+spot_of (unary_of spot o x) = spot
+spot_of (binary_of spot o x y) = spot
+spot_of (choice spot x y z) = spot
+spot_of (slice spot x high low) = spot
+spot_of (concat spot parts) = spot
+spot_of (zero_extend spot x w) = spot
 
 -- the place of its first token
 unfoldable pub first_of : Expression → Place
@@ -25,13 +25,13 @@ from_place place spot = record { first = place; at = spot.at }
 
 -- the expression in parentheses that begin at this place
 unfoldable pub enclosed : Place → Expression → Expression
-enclosed place (Number spot n) = Number (from_place place spot) n
-enclosed place (Sized spot w n) = Sized (from_place place spot) w n
-enclosed place (Read spot name) = Read (from_place place spot) name
-enclosed place (Cell spot name index) = Cell (from_place place spot) name index
-enclosed place (Unary spot o x) = Unary (from_place place spot) o x
-enclosed place (Binary spot o x y) = Binary (from_place place spot) o x y
-enclosed place (Choose spot x y z) = Choose (from_place place spot) x y z
-enclosed place (Slice spot x high low) = Slice (from_place place spot) x high low
-enclosed place (Concat spot parts) = Concat (from_place place spot) parts
-enclosed place (Zext spot x w) = Zext (from_place place spot) x w
+enclosed place (literal spot n) = literal (from_place place spot) n
+enclosed place (sized_literal spot w n) = sized_literal (from_place place spot) w n
+enclosed place (variable spot name) = variable (from_place place spot) name
+enclosed place (cell_at spot name index) = cell_at (from_place place spot) name index
+enclosed place (unary_of spot o x) = unary_of (from_place place spot) o x
+enclosed place (binary_of spot o x y) = binary_of (from_place place spot) o x y
+enclosed place (choice spot x y z) = choice (from_place place spot) x y z
+enclosed place (slice spot x high low) = slice (from_place place spot) x high low
+enclosed place (concat spot parts) = concat (from_place place spot) parts
+enclosed place (zero_extend spot x w) = zero_extend (from_place place spot) x w

@@ -13,76 +13,76 @@ use Rattle.sap_tree.specs.declared.version.Version.{Version}
 
 mutual
   pub data Expression : Type 0 where
-    Number : Spot → (value : ℕ) → Expression
-    Sized : Spot → (width value : ℕ) → Expression
-    Read : Spot → (name : List ℕ) → Expression
-    Cell : Spot → (memory : List ℕ) → (index : Expression) → Expression
-    Unary : Spot → UnaryOperator → Expression → Expression
-    Binary : Spot → BinaryOperator → Expression → Expression → Expression
-    Choose : Spot → (condition one other : Expression) → Expression
-    Slice : Spot → Expression → (high low : ℕ) → Expression
-    Concat : Spot → Expressions → Expression
-    Zext : Spot → Expression → (width : ℕ) → Expression
+    literal : Spot → (value : ℕ) → Expression
+    sized_literal : Spot → (width value : ℕ) → Expression
+    variable : Spot → (name : List ℕ) → Expression
+    cell_at : Spot → (memory : List ℕ) → (index : Expression) → Expression
+    unary_of : Spot → UnaryOperator → Expression → Expression
+    binary_of : Spot → BinaryOperator → Expression → Expression → Expression
+    choice : Spot → (condition one other : Expression) → Expression
+    slice : Spot → Expression → (high low : ℕ) → Expression
+    concat : Spot → Expressions → Expression
+    zero_extend : Spot → Expression → (width : ℕ) → Expression
 
   pub data Expressions : Type 0 where
-    NoPart : Expressions
-    AndPart : Expression → Expressions → Expressions
+    no_part : Expressions
+    and_part : Expression → Expressions → Expressions
 
 -- the places are those of the words `tag`, `level` and `join`
 mutual
   pub data TagExpression : Type 0 where
-    Level : Mention → TagExpression
-    TagOf : Place → Expression → TagExpression
-    LevelAt : Place → Expression → TagExpression
-    Join : Place → TagExpressions → TagExpression
+    level_of : Mention → TagExpression
+    tag_at : Place → Expression → TagExpression
+    level_at : Place → Expression → TagExpression
+    join_of : Place → TagExpressions → TagExpression
 
   pub data TagExpressions : Type 0 where
-    NoTag : TagExpressions
-    AndTag : TagExpression → TagExpressions → TagExpressions
+    no_tag : TagExpressions
+    and_tag : TagExpression → TagExpressions → TagExpressions
 
--- commands that can have a handler; the places are those of the first words, and `Assign` and `Write` begin with the name
+-- commands that can have a handler; the places are those of the first words, and `assign` and `write` begin with the name
 pub data SimpleCommand : Type 0 where
-  Assign : (register : Mention) → Expression → SimpleCommand
-  Write : (memory : Mention) → (index value : Expression) → SimpleCommand
-  SetTag : Place → Mention → TagExpression → SimpleCommand
-  SetCellTag : Place → (memory : Mention) → (index : Expression) → TagExpression → SimpleCommand
-  Goto : Place → (target : Mention) → SimpleCommand
-  Fall : Place → SimpleCommand
+  assign : (register : Mention) → Expression → SimpleCommand
+  write : (memory : Mention) → (index value : Expression) → SimpleCommand
+  set_tag : Place → Mention → TagExpression → SimpleCommand
+  set_cell_tag : Place → (memory : Mention) → (index : Expression) → TagExpression → SimpleCommand
+  go_to : Place → (target : Mention) → SimpleCommand
+  fall_to_child : Place → SimpleCommand
 
 mutual
   pub data Command : Type 0 where
-    Do : SimpleCommand → Command
-    Try : SimpleCommand → (otherwise : Place) → (handler : CommandBlock) → Command
-    If : Place → (condition : Expression) → (yes : CommandBlock) → (no : ElseBlock) → Command
-    TryThen : SimpleCommand → (then : Place) → (accepted : CommandBlock) → (refused : CommandBlock) → Command
-    Case : Place → (number : Expression) → Arms → Command
+    lone : SimpleCommand → Command
+    try : SimpleCommand → (otherwise : Place) → (handler : CommandBlock) → Command
+    if_else : Place → (condition : Expression) → (yes : CommandBlock) → (no : ElseBlock) → Command
+    try_then : SimpleCommand → (then : Place) → (accepted : CommandBlock) → (refused : CommandBlock) → Command
+    case_of : Place → (number : Expression) → Arms → Command
 
   -- commands, and the place of the token after them
   pub data CommandBlock : Type 0 where
-    Commands : CommandList → (after : Place) → CommandBlock
+    command_block : CommandList → (after : Place) → CommandBlock
 
   -- the block after `else`, where one is written
   pub data ElseBlock : Type 0 where
-    NoElse : ElseBlock
-    Else : CommandBlock → ElseBlock
+    no_else : ElseBlock
+    with_else : CommandBlock → ElseBlock
 
   -- the arms of a `case`, each with its constants, and the block after `else`
   pub data Arms : Type 0 where
-    Last : CommandBlock → Arms
-    Arm : (constants : Expressions) → CommandBlock → Arms → Arms
+    last_arm : CommandBlock → Arms
+    and_arm : (constants : Expressions) → CommandBlock → Arms → Arms
 
   pub data CommandList : Type 0 where
-    NoCommand : CommandList
-    AndCommand : Command → CommandList → CommandList
+    no_command : CommandList
+    and_command : Command → CommandList → CommandList
 
 -- a state and its children; the place is that of the word `state`
 mutual
   pub data StateTree : Type 0 where
-    StateOf : Place → (name : Mention) → Kind → (body : CommandBlock) → (children : StateList) → StateTree
+    state_node : Place → (name : Mention) → Kind → (body : CommandBlock) → (children : StateList) → StateTree
 
   pub data StateList : Type 0 where
-    NoState : StateList
-    AndState : StateTree → StateList → StateList
+    no_state : StateList
+    and_state : StateTree → StateList → StateList
 
 -- the version of the language, and the declarations and the top-level states in the order of the text
 pub record DesignTree : Type 0 where

@@ -2,7 +2,7 @@
 use Rattle.std.specs.Prelude.{ℕ, Bool, true, false, ◌&&◌, ◌||◌, List}
 use Rattle.std.specs.List.{list_any}
 use Rattle.std.specs.Str.{bytes_eq}
-use Rattle.sap_tree.specs.Syntax.{SimpleCommand, Assign, Write, SetTag, SetCellTag, Goto, Fall, Command, Do, Try, If, TryThen, Case, Arms, Last, Arm, CommandBlock, Commands, ElseBlock, NoElse, Else, CommandList, NoCommand, AndCommand, StateTree, StateOf, StateList, NoState, AndState, DesignTree}
+use Rattle.sap_tree.specs.Syntax.{SimpleCommand, assign, write, set_tag, set_cell_tag, go_to, fall_to_child, Command, lone, try, if_else, try_then, case_of, Arms, last_arm, and_arm, CommandBlock, command_block, ElseBlock, no_else, with_else, CommandList, no_command, and_command, StateTree, state_node, StateList, no_state, and_state, DesignTree}
 use Rattle.sap_tree.specs.declared.syntax.Decl.TheVariants as d
 use Rattle.sap_tree.specs.declared.syntax.Decl.{Decl}
 use Rattle.sap_tree.specs.declared.syntax.Kind.TheVariants as k
@@ -26,50 +26,50 @@ is_dynamic_store declarations x = list_any (declares_dynamic x) declarations
 
 -- whether x is one of these states and dynamic
 unfoldable pub is_dynamic_child : StateList → List ℕ → Bool
-is_dynamic_child NoState x = false
-is_dynamic_child (AndState (StateOf place name kind body children) states) x = (bytes_eq name.name x && is_dynamic_kind kind) || is_dynamic_child states x
+is_dynamic_child no_state x = false
+is_dynamic_child (and_state (state_node place name kind body children) states) x = (bytes_eq name.name x && is_dynamic_kind kind) || is_dynamic_child states x
 
 -- whether a command assigns x, as a register or as a memory
 
 abbrev pub simple_assigns : SimpleCommand → List ℕ → Bool
-simple_assigns (Assign register e) x = bytes_eq register.name x
-simple_assigns (Write memory index e) x = bytes_eq memory.name x
-simple_assigns (SetTag place name n) x = false
-simple_assigns (SetCellTag place memory index n) x = false
-simple_assigns (Goto place target) x = false
-simple_assigns (Fall place) x = false
+simple_assigns (assign register e) x = bytes_eq register.name x
+simple_assigns (write memory index e) x = bytes_eq memory.name x
+simple_assigns (set_tag place name n) x = false
+simple_assigns (set_cell_tag place memory index n) x = false
+simple_assigns (go_to place target) x = false
+simple_assigns (fall_to_child place) x = false
 
 unfoldable mutual
   pub assigns : Command → List ℕ → Bool
-  assigns (Do c) x = simple_assigns c x
-  assigns (Try c place handler) x = simple_assigns c x || block_assigns handler x
-  assigns (If place e one other) x = block_assigns one x || else_assigns other x
-  assigns (TryThen c place one other) x = simple_assigns c x || (block_assigns one x || block_assigns other x)
-  assigns (Case place e arms) x = arms_assign arms x
+  assigns (lone c) x = simple_assigns c x
+  assigns (try c place handler) x = simple_assigns c x || block_assigns handler x
+  assigns (if_else place e one other) x = block_assigns one x || else_assigns other x
+  assigns (try_then c place one other) x = simple_assigns c x || (block_assigns one x || block_assigns other x)
+  assigns (case_of place e arms) x = arms_assign arms x
 
   pub block_assigns : CommandBlock → List ℕ → Bool
-  block_assigns (Commands list after) x = list_assigns list x
+  block_assigns (command_block list after) x = list_assigns list x
 
   pub else_assigns : ElseBlock → List ℕ → Bool
-  else_assigns NoElse x = false
-  else_assigns (Else block) x = block_assigns block x
+  else_assigns no_else x = false
+  else_assigns (with_else block) x = block_assigns block x
 
   pub arms_assign : Arms → List ℕ → Bool
-  arms_assign (Last block) x = block_assigns block x
-  arms_assign (Arm constants block arms) x = block_assigns block x || arms_assign arms x
+  arms_assign (last_arm block) x = block_assigns block x
+  arms_assign (and_arm constants block arms) x = block_assigns block x || arms_assign arms x
 
   pub list_assigns : CommandList → List ℕ → Bool
-  list_assigns NoCommand x = false
-  list_assigns (AndCommand c list) x = assigns c x || list_assigns list x
+  list_assigns no_command x = false
+  list_assigns (and_command c list) x = assigns c x || list_assigns list x
 
 -- whether the body of one of these states or of their descendants assigns x
 unfoldable mutual
   pub state_assigns : StateTree → List ℕ → Bool
-  state_assigns (StateOf place name kind body children) x = block_assigns body x || states_assign children x
+  state_assigns (state_node place name kind body children) x = block_assigns body x || states_assign children x
 
   pub states_assign : StateList → List ℕ → Bool
-  states_assign NoState x = false
-  states_assign (AndState s states) x = state_assigns s x || states_assign states x
+  states_assign no_state x = false
+  states_assign (and_state s states) x = state_assigns s x || states_assign states x
 
 -- the state in whose body a command stands
 pub record Home : Type 0 where
@@ -78,43 +78,43 @@ pub record Home : Type 0 where
   pub children : StateList
 
 abbrev pub home_of : StateTree → Home
-home_of (StateOf place name kind body children) = record { name = name.name; kind = kind; children = children }
+home_of (state_node place name kind body children) = record { name = name.name; kind = kind; children = children }
 
 -- what a `fall` into one of these states touches: the dynamic ones of them, and each dynamic register or memory that they or their descendants assign
 unfoldable pub fall_touches : List Decl → StateList → List ℕ → Bool
 fall_touches declarations states x = is_dynamic_child states x || (is_dynamic_store declarations x && states_assign states x)
 
 unfoldable pub simple_touches : List Decl → Home → SimpleCommand → List ℕ → Bool
-simple_touches declarations home (Assign register e) x = is_dynamic_store declarations x && bytes_eq register.name x
-simple_touches declarations home (Write memory index e) x = is_dynamic_store declarations x && bytes_eq memory.name x
-simple_touches declarations home (SetTag place name n) x = false
-simple_touches declarations home (SetCellTag place memory index n) x = false
-simple_touches declarations home (Goto place target) x = is_dynamic_kind home.kind && bytes_eq home.name x
-simple_touches declarations home (Fall place) x = fall_touches declarations home.children x
+simple_touches declarations home (assign register e) x = is_dynamic_store declarations x && bytes_eq register.name x
+simple_touches declarations home (write memory index e) x = is_dynamic_store declarations x && bytes_eq memory.name x
+simple_touches declarations home (set_tag place name n) x = false
+simple_touches declarations home (set_cell_tag place memory index n) x = false
+simple_touches declarations home (go_to place target) x = is_dynamic_kind home.kind && bytes_eq home.name x
+simple_touches declarations home (fall_to_child place) x = fall_touches declarations home.children x
 
 unfoldable mutual
   pub touches : List Decl → Home → Command → List ℕ → Bool
-  touches declarations home (Do c) x = simple_touches declarations home c x
-  touches declarations home (Try c place handler) x = simple_touches declarations home c x || block_touches declarations home handler x
-  touches declarations home (If place e one other) x = block_touches declarations home one x || else_touches declarations home other x
-  touches declarations home (TryThen c place one other) x =
+  touches declarations home (lone c) x = simple_touches declarations home c x
+  touches declarations home (try c place handler) x = simple_touches declarations home c x || block_touches declarations home handler x
+  touches declarations home (if_else place e one other) x = block_touches declarations home one x || else_touches declarations home other x
+  touches declarations home (try_then c place one other) x =
       simple_touches declarations home c x || (block_touches declarations home one x || block_touches declarations home other x)
-  touches declarations home (Case place e arms) x = arms_touch declarations home arms x
+  touches declarations home (case_of place e arms) x = arms_touch declarations home arms x
 
   pub block_touches : List Decl → Home → CommandBlock → List ℕ → Bool
-  block_touches declarations home (Commands list after) x = list_touches declarations home list x
+  block_touches declarations home (command_block list after) x = list_touches declarations home list x
 
   pub else_touches : List Decl → Home → ElseBlock → List ℕ → Bool
-  else_touches declarations home NoElse x = false
-  else_touches declarations home (Else block) x = block_touches declarations home block x
+  else_touches declarations home no_else x = false
+  else_touches declarations home (with_else block) x = block_touches declarations home block x
 
   pub arms_touch : List Decl → Home → Arms → List ℕ → Bool
-  arms_touch declarations home (Last block) x = block_touches declarations home block x
-  arms_touch declarations home (Arm constants block arms) x = block_touches declarations home block x || arms_touch declarations home arms x
+  arms_touch declarations home (last_arm block) x = block_touches declarations home block x
+  arms_touch declarations home (and_arm constants block arms) x = block_touches declarations home block x || arms_touch declarations home arms x
 
   pub list_touches : List Decl → Home → CommandList → List ℕ → Bool
-  list_touches declarations home NoCommand x = false
-  list_touches declarations home (AndCommand c list) x = touches declarations home c x || list_touches declarations home list x
+  list_touches declarations home no_command x = false
+  list_touches declarations home (and_command c list) x = touches declarations home c x || list_touches declarations home list x
 
 -- the root's fall
 abbrev pub root_touches : DesignTree → List ℕ → Bool

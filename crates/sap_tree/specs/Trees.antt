@@ -16,77 +16,77 @@ use Rattle.sap_tree.specs.Syntax
 
 unfoldable mutual
   pub expression_of : Expr → Syntax.Expression
-  expression_of (e.Number spot n) = Syntax.Number spot n
-  expression_of (e.Sized spot w n) = Syntax.Sized spot w n
-  expression_of (e.Read spot name) = Syntax.Read spot name
-  expression_of (e.Cell' spot name p index) = Syntax.Cell spot name (expression_of index)
-  expression_of (e.Unary' spot o p x) = Syntax.Unary spot o (expression_of x)
-  expression_of (e.Binary' spot o p x q y) = Syntax.Binary spot o (expression_of x) (expression_of y)
-  expression_of (e.Choose' spot p x q y r z) = Syntax.Choose spot (expression_of x) (expression_of y) (expression_of z)
-  expression_of (e.Slice' spot p x high low) = Syntax.Slice spot (expression_of x) high low
-  expression_of (e.Concat' spot shape row) = Syntax.Concat spot (expression_row_of row)
-  expression_of (e.Zext' spot p x w) = Syntax.Zext spot (expression_of x) w
+  expression_of (e.Number spot n) = Syntax.literal spot n
+  expression_of (e.Sized spot w n) = Syntax.sized_literal spot w n
+  expression_of (e.Read spot name) = Syntax.variable spot name
+  expression_of (e.Cell' spot name p index) = Syntax.cell_at spot name (expression_of index)
+  expression_of (e.Unary' spot o p x) = Syntax.unary_of spot o (expression_of x)
+  expression_of (e.Binary' spot o p x q y) = Syntax.binary_of spot o (expression_of x) (expression_of y)
+  expression_of (e.Choose' spot p x q y r z) = Syntax.choice spot (expression_of x) (expression_of y) (expression_of z)
+  expression_of (e.Slice' spot p x high low) = Syntax.slice spot (expression_of x) high low
+  expression_of (e.Concat' spot shape row) = Syntax.concat spot (expression_row_of row)
+  expression_of (e.Zext' spot p x w) = Syntax.zero_extend spot (expression_of x) w
 
   pub expression_row_of : {n : _} → Row_of-Expr n → Syntax.Expressions
-  expression_row_of end_of-Expr = Syntax.NoPart
-  expression_row_of (more_of-Expr x rest) = Syntax.AndPart (expression_of x) (expression_row_of rest)
+  expression_row_of end_of-Expr = Syntax.no_part
+  expression_row_of (more_of-Expr x rest) = Syntax.and_part (expression_of x) (expression_row_of rest)
 
 abbrev pub expressions_of : List Expr → Syntax.Expressions
-expressions_of [] = Syntax.NoPart
-expressions_of (x ∷ xs) = Syntax.AndPart (expression_of x) (expressions_of xs)
+expressions_of [] = Syntax.no_part
+expressions_of (x ∷ xs) = Syntax.and_part (expression_of x) (expressions_of xs)
 
 unfoldable mutual
   pub tag_of : TagExpr → Syntax.TagExpression
-  tag_of (t.Level name) = Syntax.Level name
-  tag_of (t.TagOf place x) = Syntax.TagOf place (expression_of x)
-  tag_of (t.LevelAt place x) = Syntax.LevelAt place (expression_of x)
-  tag_of (t.Join' place shape row) = Syntax.Join place (tag_row_of row)
+  tag_of (t.Level name) = Syntax.level_of name
+  tag_of (t.TagOf place x) = Syntax.tag_at place (expression_of x)
+  tag_of (t.LevelAt place x) = Syntax.level_at place (expression_of x)
+  tag_of (t.Join' place shape row) = Syntax.join_of place (tag_row_of row)
 
   pub tag_row_of : {n : _} → Row_of-TagExpr n → Syntax.TagExpressions
-  tag_row_of end_of-TagExpr = Syntax.NoTag
-  tag_row_of (more_of-TagExpr x rest) = Syntax.AndTag (tag_of x) (tag_row_of rest)
+  tag_row_of end_of-TagExpr = Syntax.no_tag
+  tag_row_of (more_of-TagExpr x rest) = Syntax.and_tag (tag_of x) (tag_row_of rest)
 
 abbrev pub tags_of : List TagExpr → Syntax.TagExpressions
-tags_of [] = Syntax.NoTag
-tags_of (x ∷ xs) = Syntax.AndTag (tag_of x) (tags_of xs)
+tags_of [] = Syntax.no_tag
+tags_of (x ∷ xs) = Syntax.and_tag (tag_of x) (tags_of xs)
 
 abbrev pub simple_of : Simple → Syntax.SimpleCommand
-simple_of (s.Assign name x) = Syntax.Assign name (expression_of x)
-simple_of (s.Write name i x) = Syntax.Write name (expression_of i) (expression_of x)
-simple_of (s.SetTag place name n) = Syntax.SetTag place name (tag_of n)
-simple_of (s.SetCellTag place name i n) = Syntax.SetCellTag place name (expression_of i) (tag_of n)
-simple_of (s.Goto place target) = Syntax.Goto place target
-simple_of (s.Fall place) = Syntax.Fall place
+simple_of (s.Assign name x) = Syntax.assign name (expression_of x)
+simple_of (s.Write name i x) = Syntax.write name (expression_of i) (expression_of x)
+simple_of (s.SetTag place name n) = Syntax.set_tag place name (tag_of n)
+simple_of (s.SetCellTag place name i n) = Syntax.set_cell_tag place name (expression_of i) (tag_of n)
+simple_of (s.Goto place target) = Syntax.go_to place target
+simple_of (s.Fall place) = Syntax.fall_to_child place
 
 unfoldable mutual
   pub command_of : Cmd → Syntax.Command
-  command_of (c.Do k) = Syntax.Do (simple_of k)
-  command_of (c.Try' k place shape row after) = Syntax.Try (simple_of k) place (Syntax.Commands (command_row_of row) after)
-  command_of (c.If' place x shape row after other) = Syntax.If place (expression_of x) (Syntax.Commands (command_row_of row) after) (held_of other)
+  command_of (c.Do k) = Syntax.lone (simple_of k)
+  command_of (c.Try' k place shape row after) = Syntax.try (simple_of k) place (Syntax.command_block (command_row_of row) after)
+  command_of (c.If' place x shape row after other) = Syntax.if_else place (expression_of x) (Syntax.command_block (command_row_of row) after) (held_of other)
   command_of (c.TryThen' k place shape row after other_shape other_row other_after) =
-      Syntax.TryThen (simple_of k) place (Syntax.Commands (command_row_of row) after) (Syntax.Commands (command_row_of other_row) other_after)
+      Syntax.try_then (simple_of k) place (Syntax.command_block (command_row_of row) after) (Syntax.command_block (command_row_of other_row) other_after)
   command_of (c.Case' place x shape arms last_shape row after) =
-      Syntax.Case place (expression_of x) (arm_row_of arms (Syntax.Commands (command_row_of row) after))
+      Syntax.case_of place (expression_of x) (arm_row_of arms (Syntax.command_block (command_row_of row) after))
 
   pub held_of : Held-Cmd-If-3 → Syntax.ElseBlock
-  held_of None' = Syntax.NoElse
-  held_of (Some' shape row after) = Syntax.Else (Syntax.Commands (command_row_of row) after)
+  held_of None' = Syntax.no_else
+  held_of (Some' shape row after) = Syntax.with_else (Syntax.command_block (command_row_of row) after)
 
   -- arms with the block after `else`
   pub arm_row_of : {n : _} → Row_of-Arm n → Syntax.CommandBlock → Syntax.Arms
-  arm_row_of end_of-Arm last = Syntax.Last last
-  arm_row_of (more_of-Arm constants shape row after rest) last = Syntax.Arm (expressions_of constants.items) (Syntax.Commands (command_row_of row) after) (arm_row_of rest last)
+  arm_row_of end_of-Arm last = Syntax.last_arm last
+  arm_row_of (more_of-Arm constants shape row after rest) last = Syntax.and_arm (expressions_of constants.items) (Syntax.command_block (command_row_of row) after) (arm_row_of rest last)
 
   pub command_row_of : {n : _} → Row_of-Cmd n → Syntax.CommandList
-  command_row_of end_of-Cmd = Syntax.NoCommand
-  command_row_of (more_of-Cmd x rest) = Syntax.AndCommand (command_of x) (command_row_of rest)
+  command_row_of end_of-Cmd = Syntax.no_command
+  command_row_of (more_of-Cmd x rest) = Syntax.and_command (command_of x) (command_row_of rest)
 
 abbrev pub commands_of : List Cmd → Syntax.CommandList
-commands_of [] = Syntax.NoCommand
-commands_of (x ∷ xs) = Syntax.AndCommand (command_of x) (commands_of xs)
+commands_of [] = Syntax.no_command
+commands_of (x ∷ xs) = Syntax.and_command (command_of x) (commands_of xs)
 
 abbrev pub block_of : Block → Syntax.CommandBlock
-block_of b = Syntax.Commands (commands_of b.commands.items) b.after
+block_of b = Syntax.command_block (commands_of b.commands.items) b.after
 
 -- the constants of an arm, and its block
 
@@ -99,24 +99,24 @@ arm_block_of arm = block_of arm.block
 -- arms in front of others
 abbrev pub arms_before : List Arm → Syntax.Arms → Syntax.Arms
 arms_before [] others = others
-arms_before (arm ∷ arms) others = Syntax.Arm (constants_of arm) (arm_block_of arm) (arms_before arms others)
+arms_before (arm ∷ arms) others = Syntax.and_arm (constants_of arm) (arm_block_of arm) (arms_before arms others)
 
 -- arms, and the block after `else`
 abbrev pub arms_of : List Arm → Syntax.CommandBlock → Syntax.Arms
-arms_of arms last = arms_before arms (Syntax.Last last)
+arms_of arms last = arms_before arms (Syntax.last_arm last)
 
 abbrev pub else_of : Option Block → Syntax.ElseBlock
-else_of None = Syntax.NoElse
-else_of (Some b) = Syntax.Else (block_of b)
+else_of None = Syntax.no_else
+else_of (Some b) = Syntax.with_else (block_of b)
 
 unfoldable mutual
   pub state_of : State → Syntax.StateTree
-  state_of (State' place name kind body shape row) = Syntax.StateOf place name kind (block_of body) (state_row_of row)
+  state_of (State' place name kind body shape row) = Syntax.state_node place name kind (block_of body) (state_row_of row)
 
   pub state_row_of : {n : _} → Row_of-State n → Syntax.StateList
-  state_row_of end_of-State = Syntax.NoState
-  state_row_of (more_of-State x rest) = Syntax.AndState (state_of x) (state_row_of rest)
+  state_row_of end_of-State = Syntax.no_state
+  state_row_of (more_of-State x rest) = Syntax.and_state (state_of x) (state_row_of rest)
 
 abbrev pub states_of : List State → Syntax.StateList
-states_of [] = Syntax.NoState
-states_of (x ∷ xs) = Syntax.AndState (state_of x) (states_of xs)
+states_of [] = Syntax.no_state
+states_of (x ∷ xs) = Syntax.and_state (state_of x) (states_of xs)

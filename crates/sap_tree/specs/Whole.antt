@@ -3,7 +3,7 @@ use Rattle.std.specs.Prelude.{ℕ, ◌+◌, ◌^◌, max, nat_lt, nat_le, Bool, 
 use Rattle.std.specs.List.{list_all, count_by}
 use Rattle.sap_tree.specs.Extent.{fits, tag_fits}
 use Rattle.sap_tree.specs.Limits.{most_inputs, most_registers, most_memories, most_states, most_nesting, most_commands, most_blocks, most_arms}
-use Rattle.sap_tree.specs.Syntax.{Expression, Expressions, Number, Sized, Read, Cell, Unary, Binary, Choose, Slice, Concat, Zext, NoPart, AndPart, TagExpression, TagExpressions, Level, TagOf, LevelAt, Join, NoTag, AndTag, SimpleCommand, Assign, Write, SetTag, SetCellTag, Goto, Fall, Command, Do, Try, If, TryThen, Case, Arms, Last, Arm, CommandBlock, Commands, ElseBlock, NoElse, Else, CommandList, NoCommand, AndCommand, StateTree, StateOf, StateList, NoState, AndState, DesignTree}
+use Rattle.sap_tree.specs.Syntax.{Expression, Expressions, literal, sized_literal, variable, cell_at, unary_of, binary_of, choice, slice, concat, zero_extend, no_part, and_part, TagExpression, TagExpressions, level_of, tag_at, level_at, join_of, no_tag, and_tag, SimpleCommand, assign, write, set_tag, set_cell_tag, go_to, fall_to_child, Command, lone, try, if_else, try_then, case_of, Arms, last_arm, and_arm, CommandBlock, command_block, ElseBlock, no_else, with_else, CommandList, no_command, and_command, StateTree, state_node, StateList, no_state, and_state, DesignTree}
 use Rattle.sap_tree.specs.Words.{is_name, is_second}
 use Rattle.sap_tree.specs.declared.syntax.Decl.TheVariants as d
 use Rattle.sap_tree.specs.declared.syntax.Decl.{Decl}
@@ -21,40 +21,40 @@ is_number n = nat_lt n (2 ^ 64)
 -- expressions: each name is a name, each number a number, and a concatenation has two or more parts
 
 abbrev pub has_two_parts : Expressions → Bool
-has_two_parts (AndPart x (AndPart y parts)) = true
+has_two_parts (and_part x (and_part y parts)) = true
 has_two_parts parts = false
 
 unfoldable mutual
   pub is_expression : Version → Expression → Bool
-  is_expression version (Number spot n) = is_number n
-  is_expression version (Sized spot w n) = is_number w && is_number n
-  is_expression version (Read spot name) = is_name version name
-  is_expression version (Cell spot name index) = is_name version name && is_expression version index
-  is_expression version (Unary spot o x) = is_expression version x
-  is_expression version (Binary spot o x y) = is_expression version x && is_expression version y
-  is_expression version (Choose spot x y z) = is_expression version x && is_expression version y && is_expression version z
-  is_expression version (Slice spot x high low) = is_expression version x && is_number high && is_number low
-  is_expression version (Concat spot parts) = has_two_parts parts && are_expressions version parts
-  is_expression version (Zext spot x w) = is_expression version x && is_number w
+  is_expression version (literal spot n) = is_number n
+  is_expression version (sized_literal spot w n) = is_number w && is_number n
+  is_expression version (variable spot name) = is_name version name
+  is_expression version (cell_at spot name index) = is_name version name && is_expression version index
+  is_expression version (unary_of spot o x) = is_expression version x
+  is_expression version (binary_of spot o x y) = is_expression version x && is_expression version y
+  is_expression version (choice spot x y z) = is_expression version x && is_expression version y && is_expression version z
+  is_expression version (slice spot x high low) = is_expression version x && is_number high && is_number low
+  is_expression version (concat spot parts) = has_two_parts parts && are_expressions version parts
+  is_expression version (zero_extend spot x w) = is_expression version x && is_number w
 
   pub are_expressions : Version → Expressions → Bool
-  are_expressions version NoPart = true
-  are_expressions version (AndPart x parts) = is_expression version x && are_expressions version parts
+  are_expressions version no_part = true
+  are_expressions version (and_part x parts) = is_expression version x && are_expressions version parts
 
 abbrev pub has_two_tags : TagExpressions → Bool
-has_two_tags (AndTag x (AndTag y parts)) = true
+has_two_tags (and_tag x (and_tag y parts)) = true
 has_two_tags parts = false
 
 unfoldable mutual
   pub is_tag : Version → TagExpression → Bool
-  is_tag version (Level level) = is_name version level.name
-  is_tag version (TagOf place x) = is_expression version x
-  is_tag version (LevelAt place x) = is_expression version x
-  is_tag version (Join place parts) = has_two_tags parts && are_tags version parts
+  is_tag version (level_of level) = is_name version level.name
+  is_tag version (tag_at place x) = is_expression version x
+  is_tag version (level_at place x) = is_expression version x
+  is_tag version (join_of place parts) = has_two_tags parts && are_tags version parts
 
   pub are_tags : Version → TagExpressions → Bool
-  are_tags version NoTag = true
-  are_tags version (AndTag x parts) = is_tag version x && are_tags version parts
+  are_tags version no_tag = true
+  are_tags version (and_tag x parts) = is_tag version x && are_tags version parts
 
 -- commands: each expression in them that stands in no other is short enough
 
@@ -65,109 +65,109 @@ abbrev pub is_outermost_tag : Version → TagExpression → Bool
 is_outermost_tag version x = is_tag version x && tag_fits x
 
 unfoldable pub is_simple : Version → SimpleCommand → Bool
-is_simple version (Assign register x) = is_name version register.name && is_outermost version x
-is_simple version (Write memory index x) = is_name version memory.name && is_outermost version index && is_outermost version x
-is_simple version (SetTag place name n) = is_name version name.name && is_outermost_tag version n
-is_simple version (SetCellTag place memory index n) = is_name version memory.name && is_outermost version index && is_outermost_tag version n
-is_simple version (Goto place target) = is_name version target.name
-is_simple version (Fall place) = true
+is_simple version (assign register x) = is_name version register.name && is_outermost version x
+is_simple version (write memory index x) = is_name version memory.name && is_outermost version index && is_outermost version x
+is_simple version (set_tag place name n) = is_name version name.name && is_outermost_tag version n
+is_simple version (set_cell_tag place memory index n) = is_name version memory.name && is_outermost version index && is_outermost_tag version n
+is_simple version (go_to place target) = is_name version target.name
+is_simple version (fall_to_child place) = true
 
 -- a `case` has an arm, and an arm has a constant: a number with or without a width
 
 abbrev pub is_constant : Expression → Bool
-is_constant (Number spot n) = is_number n
-is_constant (Sized spot w n) = is_number w && is_number n
+is_constant (literal spot n) = is_number n
+is_constant (sized_literal spot w n) = is_number w && is_number n
 is_constant x = false
 
 abbrev pub are_constants : Expressions → Bool
-are_constants NoPart = true
-are_constants (AndPart x parts) = is_constant x && are_constants parts
+are_constants no_part = true
+are_constants (and_part x parts) = is_constant x && are_constants parts
 
 abbrev pub has_constant : Expressions → Bool
-has_constant NoPart = false
-has_constant (AndPart x parts) = true
+has_constant no_part = false
+has_constant (and_part x parts) = true
 
 abbrev pub arm_count : Arms → ℕ
-arm_count (Last block) = 0
-arm_count (Arm constants block arms) = 1 + arm_count arms
+arm_count (last_arm block) = 0
+arm_count (and_arm constants block arms) = 1 + arm_count arms
 
 abbrev pub has_arm : Arms → Bool
-has_arm (Last block) = false
-has_arm (Arm constants block arms) = true
+has_arm (last_arm block) = false
+has_arm (and_arm constants block arms) = true
 
 -- `then` and `case` stand in designs of the second version alone
 unfoldable mutual
   pub is_command : Version → Command → Bool
-  is_command version (Do c) = is_simple version c
-  is_command version (Try c place handler) = is_simple version c && is_block version handler
-  is_command version (If place x one other) = is_outermost version x && is_block version one && is_else version other
-  is_command version (TryThen c place one other) = is_second version && is_simple version c && is_block version one && is_block version other
-  is_command version (Case place x arms) = is_second version && is_outermost version x && has_arm arms && nat_le (arm_count arms) most_arms && are_arms version arms
+  is_command version (lone c) = is_simple version c
+  is_command version (try c place handler) = is_simple version c && is_block version handler
+  is_command version (if_else place x one other) = is_outermost version x && is_block version one && is_else version other
+  is_command version (try_then c place one other) = is_second version && is_simple version c && is_block version one && is_block version other
+  is_command version (case_of place x arms) = is_second version && is_outermost version x && has_arm arms && nat_le (arm_count arms) most_arms && are_arms version arms
 
   pub is_block : Version → CommandBlock → Bool
-  is_block version (Commands list after) = are_commands version list
+  is_block version (command_block list after) = are_commands version list
 
   pub is_else : Version → ElseBlock → Bool
-  is_else version NoElse = true
-  is_else version (Else block) = is_block version block
+  is_else version no_else = true
+  is_else version (with_else block) = is_block version block
 
   pub are_arms : Version → Arms → Bool
-  are_arms version (Last block) = is_block version block
-  are_arms version (Arm constants block arms) = has_constant constants && are_constants constants && is_block version block && are_arms version arms
+  are_arms version (last_arm block) = is_block version block
+  are_arms version (and_arm constants block arms) = has_constant constants && are_constants constants && is_block version block && are_arms version arms
 
   pub are_commands : Version → CommandList → Bool
-  are_commands version NoCommand = true
-  are_commands version (AndCommand c list) = is_command version c && are_commands version list
+  are_commands version no_command = true
+  are_commands version (and_command c list) = is_command version c && are_commands version list
 
 -- how many commands there are, those in blocks counted
 
 unfoldable mutual
   pub command_count : Command → ℕ
-  command_count (Do c) = 1
-  command_count (Try c place handler) = 1 + block_count handler
-  command_count (If place x one other) = 1 + block_count one + else_count other
-  command_count (TryThen c place one other) = 1 + block_count one + block_count other
-  command_count (Case place x arms) = 1 + arms_count arms
+  command_count (lone c) = 1
+  command_count (try c place handler) = 1 + block_count handler
+  command_count (if_else place x one other) = 1 + block_count one + else_count other
+  command_count (try_then c place one other) = 1 + block_count one + block_count other
+  command_count (case_of place x arms) = 1 + arms_count arms
 
   pub block_count : CommandBlock → ℕ
-  block_count (Commands list after) = list_count list
+  block_count (command_block list after) = list_count list
 
   pub else_count : ElseBlock → ℕ
-  else_count NoElse = 0
-  else_count (Else block) = block_count block
+  else_count no_else = 0
+  else_count (with_else block) = block_count block
 
   pub arms_count : Arms → ℕ
-  arms_count (Last block) = block_count block
-  arms_count (Arm constants block arms) = block_count block + arms_count arms
+  arms_count (last_arm block) = block_count block
+  arms_count (and_arm constants block arms) = block_count block + arms_count arms
 
   pub list_count : CommandList → ℕ
-  list_count NoCommand = 0
-  list_count (AndCommand c list) = command_count c + list_count list
+  list_count no_command = 0
+  list_count (and_command c list) = command_count c + list_count list
 
 -- the depth of the deepest command: 1 for a command in no block, and one more for those in its blocks
 
 unfoldable mutual
   pub command_depth : Command → ℕ
-  command_depth (Do c) = 1
-  command_depth (Try c place handler) = 1 + block_depth handler
-  command_depth (If place x one other) = 1 + max (block_depth one) (else_depth other)
-  command_depth (TryThen c place one other) = 1 + max (block_depth one) (block_depth other)
-  command_depth (Case place x arms) = 1 + arms_depth arms
+  command_depth (lone c) = 1
+  command_depth (try c place handler) = 1 + block_depth handler
+  command_depth (if_else place x one other) = 1 + max (block_depth one) (else_depth other)
+  command_depth (try_then c place one other) = 1 + max (block_depth one) (block_depth other)
+  command_depth (case_of place x arms) = 1 + arms_depth arms
 
   pub block_depth : CommandBlock → ℕ
-  block_depth (Commands list after) = list_depth list
+  block_depth (command_block list after) = list_depth list
 
   pub else_depth : ElseBlock → ℕ
-  else_depth NoElse = 0
-  else_depth (Else block) = block_depth block
+  else_depth no_else = 0
+  else_depth (with_else block) = block_depth block
 
   pub arms_depth : Arms → ℕ
-  arms_depth (Last block) = block_depth block
-  arms_depth (Arm constants block arms) = max (block_depth block) (arms_depth arms)
+  arms_depth (last_arm block) = block_depth block
+  arms_depth (and_arm constants block arms) = max (block_depth block) (arms_depth arms)
 
   pub list_depth : CommandList → ℕ
-  list_depth NoCommand = 0
-  list_depth (AndCommand c list) = max (command_depth c) (list_depth list)
+  list_depth no_command = 0
+  list_depth (and_command c list) = max (command_depth c) (list_depth list)
 
 -- kinds and declarations
 
@@ -204,43 +204,43 @@ is_memory declaration = false
 
 unfoldable mutual
   pub is_state : Version → StateTree → Bool
-  is_state version (StateOf place name kind body children) = is_name version name.name && is_kind version kind && is_block version body && nat_le (block_depth body) most_blocks && are_states version children
+  is_state version (state_node place name kind body children) = is_name version name.name && is_kind version kind && is_block version body && nat_le (block_depth body) most_blocks && are_states version children
 
   pub are_states : Version → StateList → Bool
-  are_states version NoState = true
-  are_states version (AndState s states) = is_state version s && are_states version states
+  are_states version no_state = true
+  are_states version (and_state s states) = is_state version s && are_states version states
 
 unfoldable mutual
   pub state_count : StateTree → ℕ
-  state_count (StateOf place name kind body children) = 1 + states_count children
+  state_count (state_node place name kind body children) = 1 + states_count children
 
   pub states_count : StateList → ℕ
-  states_count NoState = 0
-  states_count (AndState s states) = state_count s + states_count states
+  states_count no_state = 0
+  states_count (and_state s states) = state_count s + states_count states
 
 -- 1 for a state without children, and one more for each level of children
 unfoldable mutual
   pub state_depth : StateTree → ℕ
-  state_depth (StateOf place name kind body children) = 1 + states_depth children
+  state_depth (state_node place name kind body children) = 1 + states_depth children
 
   pub states_depth : StateList → ℕ
-  states_depth NoState = 0
-  states_depth (AndState s states) = max (state_depth s) (states_depth states)
+  states_depth no_state = 0
+  states_depth (and_state s states) = max (state_depth s) (states_depth states)
 
 -- the commands of all bodies
 unfoldable mutual
   pub state_commands : StateTree → ℕ
-  state_commands (StateOf place name kind body children) = block_count body + states_commands children
+  state_commands (state_node place name kind body children) = block_count body + states_commands children
 
   pub states_commands : StateList → ℕ
-  states_commands NoState = 0
-  states_commands (AndState s states) = state_commands s + states_commands states
+  states_commands no_state = 0
+  states_commands (and_state s states) = state_commands s + states_commands states
 
 -- designs
 
 abbrev pub has_state : StateList → Bool
-has_state NoState = false
-has_state (AndState s states) = true
+has_state no_state = false
+has_state (and_state s states) = true
 
 -- a tree that some text of the grammar has, whose parts are within their limits
 abbrev pub is_tree : DesignTree → Bool

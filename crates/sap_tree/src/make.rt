@@ -15,28 +15,28 @@ use std::alloc::{AllocError, Global};
 impl Expr {
     #[tactic(auto, using(crate::proofs::Views::views))]
     pub fn number(spot: Spot, value: u64) -> Expr
-        ensures { expression_of result ≡ Syntax.Number spot value }
+        ensures { expression_of result ≡ Syntax.literal spot value }
     {
         Expr::Number(spot, value)
     }
 
     #[tactic(auto, using(crate::proofs::Views::views))]
     pub fn sized(spot: Spot, width: u64, value: u64) -> Expr
-        ensures { expression_of result ≡ Syntax.Sized spot width value }
+        ensures { expression_of result ≡ Syntax.sized_literal spot width value }
     {
         Expr::Sized(spot, width, value)
     }
 
     #[tactic(auto, using(crate::proofs::Views::views))]
     pub fn read(spot: Spot, name: Name) -> Expr
-        ensures { expression_of result ≡ Syntax.Read spot name }
+        ensures { expression_of result ≡ Syntax.variable spot name }
     {
         Expr::Read(spot, name)
     }
 
     #[tactic(auto, using(crate::proofs::Views::views))]
     pub fn cell(spot: Spot, memory: Name, index: Box<Expr>) -> Expr
-        ensures { expression_of result ≡ Syntax.Cell spot memory (expression_of index.value) }
+        ensures { expression_of result ≡ Syntax.cell_at spot memory (expression_of index.value) }
     {
         Expr::Cell(spot, memory, index)
     }
@@ -48,7 +48,7 @@ impl Expr {
         operator: UnaryOperator,
         operand: Expr,
     ) -> Result<Expr, AllocError>
-        ensures { IfOk result (λ x. expression_of x ≡ Syntax.Unary spot operator (expression_of operand)) }
+        ensures { IfOk result (λ x. expression_of x ≡ Syntax.unary_of spot operator (expression_of operand)) }
     {
         Ok(Expr::Unary(spot, operator, Box::new(alloc, operand)?))
     }
@@ -61,7 +61,7 @@ impl Expr {
         left: Box<Expr>,
         right: Expr,
     ) -> Result<Expr, AllocError>
-        ensures { IfOk result (λ x. expression_of x ≡ Syntax.Binary spot operator (expression_of left.value) (expression_of right)) }
+        ensures { IfOk result (λ x. expression_of x ≡ Syntax.binary_of spot operator (expression_of left.value) (expression_of right)) }
     {
         Ok(Expr::Binary(spot, operator, left, Box::new(alloc, right)?))
     }
@@ -75,28 +75,28 @@ impl Expr {
         one: Box<Expr>,
         other: Expr,
     ) -> Result<Expr, AllocError>
-        ensures { IfOk result (λ x. expression_of x ≡ Syntax.Choose spot (expression_of condition.value) (expression_of one.value) (expression_of other)) }
+        ensures { IfOk result (λ x. expression_of x ≡ Syntax.choice spot (expression_of condition.value) (expression_of one.value) (expression_of other)) }
     {
         Ok(Expr::Choose(spot, condition, one, Box::new(alloc, other)?))
     }
 
     #[tactic(auto, using(crate::proofs::Views::views))]
     pub fn slice(spot: Spot, operand: Box<Expr>, high: u64, low: u64) -> Expr
-        ensures { expression_of result ≡ Syntax.Slice spot (expression_of operand.value) high low }
+        ensures { expression_of result ≡ Syntax.slice spot (expression_of operand.value) high low }
     {
         Expr::Slice(spot, operand, high, low)
     }
 
     #[tactic(auto, using(crate::proofs::Views::views))]
     pub fn concat(spot: Spot, parts: Vec<Expr>) -> Expr
-        ensures { expression_of result ≡ Syntax.Concat spot (expressions_of parts.items) }
+        ensures { expression_of result ≡ Syntax.concat spot (expressions_of parts.items) }
     {
         Expr::Concat(spot, parts)
     }
 
     #[tactic(auto, using(crate::proofs::Views::views))]
     pub fn zext(spot: Spot, operand: Box<Expr>, width: u64) -> Expr
-        ensures { expression_of result ≡ Syntax.Zext spot (expression_of operand.value) width }
+        ensures { expression_of result ≡ Syntax.zero_extend spot (expression_of operand.value) width }
     {
         Expr::Zext(spot, operand, width)
     }
@@ -179,28 +179,28 @@ fn from_place(place: Place, spot: Spot) -> Spot
 impl TagExpr {
     #[tactic(auto, using(crate::proofs::Views::views))]
     pub fn level(name: Mention) -> TagExpr
-        ensures { tag_of result ≡ Syntax.Level name }
+        ensures { tag_of result ≡ Syntax.level_of name }
     {
         TagExpr::Level(name)
     }
 
     #[tactic(auto, using(crate::proofs::Views::views))]
     pub fn tag(place: Place, operand: Expr) -> TagExpr
-        ensures { tag_of result ≡ Syntax.TagOf place (expression_of operand) }
+        ensures { tag_of result ≡ Syntax.tag_at place (expression_of operand) }
     {
         TagExpr::TagOf(place, operand)
     }
 
     #[tactic(auto, using(crate::proofs::Views::views))]
     pub fn level_at(place: Place, operand: Expr) -> TagExpr
-        ensures { tag_of result ≡ Syntax.LevelAt place (expression_of operand) }
+        ensures { tag_of result ≡ Syntax.level_at place (expression_of operand) }
     {
         TagExpr::LevelAt(place, operand)
     }
 
     #[tactic(auto, using(crate::proofs::Views::views))]
     pub fn join(place: Place, parts: Vec<TagExpr>) -> TagExpr
-        ensures { tag_of result ≡ Syntax.Join place (tags_of parts.items) }
+        ensures { tag_of result ≡ Syntax.join_of place (tags_of parts.items) }
     {
         TagExpr::Join(place, parts)
     }
@@ -209,21 +209,21 @@ impl TagExpr {
 impl Cmd {
     #[tactic(auto, using(crate::proofs::Views::views))]
     pub fn plain(command: Simple) -> Cmd
-        ensures { command_of result ≡ Syntax.Do (simple_of command) }
+        ensures { command_of result ≡ Syntax.lone (simple_of command) }
     {
         Cmd::Do(command)
     }
 
     #[tactic(auto, using(crate::proofs::Views::views))]
     pub fn handled(command: Simple, otherwise: Place, handler: Block) -> Cmd
-        ensures { command_of result ≡ Syntax.Try (simple_of command) otherwise (block_of handler) }
+        ensures { command_of result ≡ Syntax.try (simple_of command) otherwise (block_of handler) }
     {
         Cmd::Try(command, otherwise, handler)
     }
 
     #[tactic(auto, using(crate::proofs::Views::views))]
     pub fn branch(place: Place, condition: Expr, block: Block, other: Option<Block>) -> Cmd
-        ensures { command_of result ≡ Syntax.If place (expression_of condition) (block_of block) (else_of other) }
+        ensures { command_of result ≡ Syntax.if_else place (expression_of condition) (block_of block) (else_of other) }
     {
         Cmd::If(place, condition, block, other)
     }
@@ -231,14 +231,14 @@ impl Cmd {
     /// `command then { accepted } otherwise { refused }`.
     #[tactic(auto, using(crate::proofs::Views::views))]
     pub fn decided(command: Simple, then: Place, accepted: Block, refused: Block) -> Cmd
-        ensures { command_of result ≡ Syntax.TryThen (simple_of command) then (block_of accepted) (block_of refused) }
+        ensures { command_of result ≡ Syntax.try_then (simple_of command) then (block_of accepted) (block_of refused) }
     {
         Cmd::TryThen(command, then, accepted, refused)
     }
 
     #[tactic(auto, using(crate::proofs::Views::views))]
     pub fn case(place: Place, number: Expr, arms: Vec<Arm>, last: Block) -> Cmd
-        ensures { command_of result ≡ Syntax.Case place (expression_of number) (arms_of arms.items (block_of last)) }
+        ensures { command_of result ≡ Syntax.case_of place (expression_of number) (arms_of arms.items (block_of last)) }
     {
         Cmd::Case(place, number, arms, last)
     }
@@ -247,7 +247,7 @@ impl Cmd {
 impl State {
     #[tactic(auto, using(crate::proofs::Views::views))]
     pub fn new(place: Place, name: Mention, kind: Kind, body: Block, children: Vec<State>) -> State
-        ensures { state_of result ≡ Syntax.StateOf place name kind (block_of body) (states_of children.items) }
+        ensures { state_of result ≡ Syntax.state_node place name kind (block_of body) (states_of children.items) }
     {
         State {
             place,

@@ -15,7 +15,7 @@ use Rattle.sap_program.specs.Views.{entity_of}
 use Rattle.sap_resolve.specs.Sized.Ranges.{IsWidth, RangedProgram}
 use Rattle.sap_terms.specs.declared.setting.Setting.{Setting}
 use Rattle.sap_terms.specs.Code.{named_in, tag_width, world_in, entities_in}
-use Rattle.sap_tagged.specs.Keys.{First, Inner, key_name}
+use Rattle.sap_tagged.specs.Keys.{first_key, inner_key, key_name}
 use Rattle.sap_tagged.specs.Plain.{variable, value_var, tag_var, seat_var, level_at_start, seat_registers, memory_of, tags_of, for_entities, all_entities}
 
 -- of one entity more
@@ -83,10 +83,10 @@ abbrev pub of_parent : Setting → ℕ → List Var
 of_parent s p = seat_var (named_in s) p ∷ []
 
 abbrev pub of_saved : Setting → ℕ → List Var
-of_saved s m = variable (key_name (named_in s) (First m)) (tag_width s) 0 ∷ []
+of_saved s m = variable (key_name (named_in s) (first_key m)) (tag_width s) 0 ∷ []
 
 abbrev pub of_inner : Setting → ℕ → List Var
-of_inner s p = variable (key_name (named_in s) (Inner p)) (tag_width s) 0 ∷ []
+of_inner s p = variable (key_name (named_in s) (inner_key p)) (tag_width s) 0 ∷ []
 
 abbrev pub of_memory : Setting → ℕ → List Store
 of_memory s m = memory_of (named_in s) m ∷ tags_of (named_in s) (tag_width s) m

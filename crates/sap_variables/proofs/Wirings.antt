@@ -5,7 +5,7 @@ use Rattle.std.specs.declared.alloc.Global.{Global}
 use Rattle.std.proofs.lemmas.List.{append-nil}
 use Rattle.sap_ir.specs.declared.guarded.Var.{Var}
 use Rattle.sap_meaning.specs.Program as program
-use Rattle.sap_meaning.specs.Program.{Arms, Last, Block, End, Then, Group, None, More, Node}
+use Rattle.sap_meaning.specs.Program.{Arms, last_arm, Block, end_block, command_then, Group, no_node, and_node, state_node}
 use Rattle.sap_program.specs.declared.program.Number.{Number}
 use Rattle.sap_program.specs.declared.program.Step.{Step}
 use Rattle.sap_program.specs.declared.program.Arm.{Arm}
@@ -44,13 +44,13 @@ site_step d tag n front old new e f =
 -- lists from a place on
 
 pub block-drop : (n : ℕ) (cs : List Command) (i : ℕ) (c : Command) → i < length cs → c ≡ get_or cs i c
-    → block_of n (drop i cs) ≡ Then (command_of n c) (block_of n (drop (i + 1) cs))
+    → block_of n (drop i cs) ≡ command_then (command_of n c) (block_of n (drop (i + 1) cs))
 unfolding block_of
 block-drop n [] i c l e = absurd (omega arith)
-block-drop n (b ∷ cs) zero c l e = ap (λ (x : Command). Then (command_of n x) (block_of n cs)) (sym e)
+block-drop n (b ∷ cs) zero c l e = ap (λ (x : Command). command_then (command_of n x) (block_of n cs)) (sym e)
 block-drop n (b ∷ cs) (suc i) c l e = let r = block-drop n cs i c (omega arith) e in simp (add-one) (simp (add-one) at r)
 
-pub block-past : (n : ℕ) (cs : List Command) (i : ℕ) → length cs ≤ i → block_of n (drop i cs) ≡ End
+pub block-past : (n : ℕ) (cs : List Command) (i : ℕ) → length cs ≤ i → block_of n (drop i cs) ≡ end_block
 unfolding block_of
 block-past n [] zero l = refl
 block-past n [] (suc i) l = refl
@@ -58,13 +58,13 @@ block-past n (c ∷ cs) zero l = absurd (omega arith)
 block-past n (c ∷ cs) (suc i) l = block-past n cs i (omega arith)
 
 pub group-drop : (n : ℕ) (ss : List State) (i : ℕ) (s : State) → i < length ss → s ≡ get_or ss i s
-    → group_of n (drop i ss) ≡ More (state_of n s) (group_of n (drop (i + 1) ss))
+    → group_of n (drop i ss) ≡ and_node (state_of n s) (group_of n (drop (i + 1) ss))
 unfolding group_of
 group-drop n [] i s l e = absurd (omega arith)
-group-drop n (t ∷ ss) zero s l e = ap (λ (x : State). More (state_of n x) (group_of n ss)) (sym e)
+group-drop n (t ∷ ss) zero s l e = ap (λ (x : State). and_node (state_of n x) (group_of n ss)) (sym e)
 group-drop n (t ∷ ss) (suc i) s l e = let r = group-drop n ss i s (omega arith) e in simp (add-one) (simp (add-one) at r)
 
-pub group-past : (n : ℕ) (ss : List State) (i : ℕ) → length ss ≤ i → group_of n (drop i ss) ≡ None
+pub group-past : (n : ℕ) (ss : List State) (i : ℕ) → length ss ≤ i → group_of n (drop i ss) ≡ no_node
 unfolding group_of
 group-past n [] zero l = refl
 group-past n [] (suc i) l = refl
@@ -102,7 +102,7 @@ pub case_count : (n : ℕ) (c : Command) (hang : List ℕ) (e : Number) (arms : 
     → wires (command_of n c) ≡ 4 + arm_wires arms.items + wires_block (block_of n cs.items)
 case_count n c hang e arms cs f =
     let a = ap (λ (x : Command). wires (command_of n x)) f ∙ ap wires (command_of-case n hang e arms cs) in
-    let b = wires_before n arms.items (Last (block_of n cs.items)) in
+    let b = wires_before n arms.items (last_arm (block_of n cs.items)) in
     let m = wires_arms_are n arms.items in
     omega (arith, a, b, m)
 
@@ -112,8 +112,8 @@ state_count n s = ap wires_state (state_of-out n s)
 
 -- a state and those behind it
 
-group_wires-more : (d : Named) (tag k : ℕ) (t : program.State) (g : Group) → group_wires d tag k (More t g) ≡ state_wires d tag k t ++ group_wires d tag (k + wires_state t) g
-group_wires-more d tag k (Node s b kids) g = refl
+group_wires-more : (d : Named) (tag k : ℕ) (t : program.State) (g : Group) → group_wires d tag k (and_node t g) ≡ state_wires d tag k t ++ group_wires d tag (k + wires_state t) g
+group_wires-more d tag k (state_node s b kids) g = refl
 
 -- one part, and those behind it
 after_part : (old new part rest all : List Var) → new ≡ old ++ part → old ++ (part ++ rest) ≡ all → new ++ rest ≡ all
@@ -121,7 +121,7 @@ after_part old new part rest all h e = ap (λ (l : List Var). l ++ rest) h ∙ a
 
 module _ (d : Named) (tag n : ℕ) where
   -- the wires of arms, and of the block behind them
-  pub arms_before-wires : (k : ℕ) (arms : List Arm) (b : Block) → arms_wires d tag k (arms_before n arms (Last b)) ≡ arms_wires d tag k (alone n arms) ++ block_wires d tag (k + arm_wires arms) b
+  pub arms_before-wires : (k : ℕ) (arms : List Arm) (b : Block) → arms_wires d tag k (arms_before n arms (last_arm b)) ≡ arms_wires d tag k (alone n arms) ++ block_wires d tag (k + arm_wires arms) b
   unfolding arms_before arm_wires
   arms_before-wires k [] b = let z : k ≡ k + 0 = omega arith in ap (λ (w : ℕ). block_wires d tag w b) z
   arms_before-wires k (a ∷ arms) b =
@@ -140,7 +140,7 @@ module _ (d : Named) (tag n : ℕ) where
       → w5 ++ block_wires d tag next (block_of n cl) ≡ w0 ++ command_wires d tag k (command_of n c)
   case_wired k c hang e arms cs al cl w0 w1 w2 w3 w4 w5 next v u w i ae ce ve e1 e2 e3 ue e4 we e5 ne =
       let last : Block = block_of n cs.items in
-      let all : Arms = arms_before n arms.items (Last last) in
+      let all : Arms = arms_before n arms.items (last_arm last) in
       let front : List Var → List Var = λ l. wire d k v ∷ wire d (k + 1) v ∷ wire d (k + 2) u ∷ wire d (k + 3) w ∷ l in
       let rest : List Var = arms_wires d tag (k + 4) (alone n al) ++ block_wires d tag next (block_of n cl) in
       let four : w4 ≡ w0 ++ front [] =

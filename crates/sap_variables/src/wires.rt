@@ -65,7 +65,7 @@ fn add_first(
     wires: &mut Vec<Var>,
     m: usize,
 ) -> Result<(), AllocError>
-    ensures { OnOk result (wires.new.items ≡ wires.old.items ++ plain.variable (keys.key_name (named_in setting.now) (keys.First m)) (tag_width setting.now) 0 ∷ []) }
+    ensures { OnOk result (wires.new.items ≡ wires.old.items ++ plain.variable (keys.key_name (named_in setting.now) (keys.first_key m)) (tag_width setting.now) 0 ∷ []) }
 {
     let name = first_name(alloc, setting, m)?;
     let width = setting.lattice.width();
@@ -100,7 +100,7 @@ fn add_inner(
     wires: &mut Vec<Var>,
     state: usize,
 ) -> Result<(), AllocError>
-    ensures { OnOk result (wires.new.items ≡ wires.old.items ++ plain.variable (keys.key_name (named_in setting.now) (keys.Inner state)) (tag_width setting.now) 0 ∷ []) }
+    ensures { OnOk result (wires.new.items ≡ wires.old.items ++ plain.variable (keys.key_name (named_in setting.now) (keys.inner_key state)) (tag_width setting.now) 0 ∷ []) }
 {
     let name = inner_name(alloc, setting, state)?;
     let width = setting.lattice.width();
@@ -237,7 +237,7 @@ fn add_arms(
     requires few { k + arm_wires arms.now < 2 ^ 32 }
     requires ranged { ArmsRanged setting.now arms.now }
     requires arms { ArmsFew arms.now }
-    ensures wires { OnOk result (wires.new.items ≡ wires.old.items ++ plain.arms_wires (named_in setting.now) (tag_width setting.now) k (arms_before (entities_in setting.now) arms.now (program.Last program.End))) }
+    ensures wires { OnOk result (wires.new.items ≡ wires.old.items ++ plain.arms_wires (named_in setting.now) (tag_width setting.now) k (arms_before (entities_in setting.now) arms.now (program.last_arm program.end_block))) }
     ensures next { IfOk result (λ next. next ≡ k + arm_wires arms.now) }
 {
     let mut next = k;

@@ -11,311 +11,311 @@ use Rattle.sap_walk.proofs.Walking.{read_empty}
 use Rattle.sap_vparse.proofs.Single.{reads_stop}
 use Rattle.sap_vparse.proofs.Laws.{step_with, same_with}
 
-pub item_wire : (p : List t.Token) → item_head (head p) ≡ i.Wire → reads s.Item p ≡ steps (s.Word t.Wire ∷ s.Range ∷ s.Name ∷ s.Sign t.Semicolon ∷ []) p
+pub item_wire : (p : List t.Token) → item_head (head p) ≡ i.Wire → reads s.item p ≡ steps (s.word t.wire_word ∷ s.range ∷ s.name ∷ s.sign t.semicolon ∷ []) p
 unfolding head right_head after_head item_head
-item_wire p e = step_with s.Item (s.Word t.Wire) _ (λ h. item_head h ≡ i.Wire) refl refl by_kind p e where
-  by_kind : (k : t.Kind) → item_head (head_of k) ≡ i.Wire → next s.Item k ≡ push (next (s.Word t.Wire) k) (s.Range ∷ s.Name ∷ s.Sign t.Semicolon ∷ [])
-  by_kind (t.word t.Module) e = absurd (cc)
-  by_kind (t.word t.Endmodule) e = absurd (cc)
-  by_kind (t.word t.Input) e = absurd (cc)
-  by_kind (t.word t.Output) e = absurd (cc)
-  by_kind (t.word t.Reg) e = absurd (cc)
-  by_kind (t.word t.Wire) e = refl
-  by_kind (t.word t.Assign) e = absurd (cc)
-  by_kind (t.word t.Initial) e = absurd (cc)
-  by_kind (t.word t.Always) e = absurd (cc)
-  by_kind (t.word t.Posedge) e = absurd (cc)
-  by_kind (t.word t.If) e = absurd (cc)
-  by_kind (t.word t.For) e = absurd (cc)
-  by_kind (t.word t.Integer) e = absurd (cc)
-  by_kind (t.word t.Clk) e = absurd (cc)
-  by_kind (t.word t.I) e = absurd (cc)
+item_wire p e = step_with s.item (s.word t.wire_word) _ (λ h. item_head h ≡ i.Wire) refl refl by_kind p e where
+  by_kind : (k : t.Kind) → item_head (head_of k) ≡ i.Wire → next s.item k ≡ push (next (s.word t.wire_word) k) (s.range ∷ s.name ∷ s.sign t.semicolon ∷ [])
+  by_kind (t.word t.module_word) e = absurd (cc)
+  by_kind (t.word t.endmodule_word) e = absurd (cc)
+  by_kind (t.word t.input_word) e = absurd (cc)
+  by_kind (t.word t.output_word) e = absurd (cc)
+  by_kind (t.word t.reg_word) e = absurd (cc)
+  by_kind (t.word t.wire_word) e = refl
+  by_kind (t.word t.assign_word) e = absurd (cc)
+  by_kind (t.word t.initial_word) e = absurd (cc)
+  by_kind (t.word t.always_word) e = absurd (cc)
+  by_kind (t.word t.posedge_word) e = absurd (cc)
+  by_kind (t.word t.if_word) e = absurd (cc)
+  by_kind (t.word t.for_word) e = absurd (cc)
+  by_kind (t.word t.integer_word) e = absurd (cc)
+  by_kind (t.word t.clk_word) e = absurd (cc)
+  by_kind (t.word t.i_word) e = absurd (cc)
   by_kind (t.sign x) e = absurd (cc)
   by_kind (t.name x) e = absurd (cc)
   by_kind (t.number x n) e = absurd (cc)
   by_kind (t.constant x n) e = absurd (cc)
 
-pub item_register : (p : List t.Token) → item_head (head p) ≡ i.Register → reads s.Item p ≡ steps (s.Word t.Reg ∷ s.Range ∷ s.Name ∷ s.AfterRegister ∷ []) p
+pub item_register : (p : List t.Token) → item_head (head p) ≡ i.Register → reads s.item p ≡ steps (s.word t.reg_word ∷ s.range ∷ s.name ∷ s.after_register ∷ []) p
 unfolding head right_head after_head item_head
-item_register p e = step_with s.Item (s.Word t.Reg) _ (λ h. item_head h ≡ i.Register) refl refl by_kind p e where
-  by_kind : (k : t.Kind) → item_head (head_of k) ≡ i.Register → next s.Item k ≡ push (next (s.Word t.Reg) k) (s.Range ∷ s.Name ∷ s.AfterRegister ∷ [])
-  by_kind (t.word t.Module) e = absurd (cc)
-  by_kind (t.word t.Endmodule) e = absurd (cc)
-  by_kind (t.word t.Input) e = absurd (cc)
-  by_kind (t.word t.Output) e = absurd (cc)
-  by_kind (t.word t.Reg) e = refl
-  by_kind (t.word t.Wire) e = absurd (cc)
-  by_kind (t.word t.Assign) e = absurd (cc)
-  by_kind (t.word t.Initial) e = absurd (cc)
-  by_kind (t.word t.Always) e = absurd (cc)
-  by_kind (t.word t.Posedge) e = absurd (cc)
-  by_kind (t.word t.If) e = absurd (cc)
-  by_kind (t.word t.For) e = absurd (cc)
-  by_kind (t.word t.Integer) e = absurd (cc)
-  by_kind (t.word t.Clk) e = absurd (cc)
-  by_kind (t.word t.I) e = absurd (cc)
+item_register p e = step_with s.item (s.word t.reg_word) _ (λ h. item_head h ≡ i.Register) refl refl by_kind p e where
+  by_kind : (k : t.Kind) → item_head (head_of k) ≡ i.Register → next s.item k ≡ push (next (s.word t.reg_word) k) (s.range ∷ s.name ∷ s.after_register ∷ [])
+  by_kind (t.word t.module_word) e = absurd (cc)
+  by_kind (t.word t.endmodule_word) e = absurd (cc)
+  by_kind (t.word t.input_word) e = absurd (cc)
+  by_kind (t.word t.output_word) e = absurd (cc)
+  by_kind (t.word t.reg_word) e = refl
+  by_kind (t.word t.wire_word) e = absurd (cc)
+  by_kind (t.word t.assign_word) e = absurd (cc)
+  by_kind (t.word t.initial_word) e = absurd (cc)
+  by_kind (t.word t.always_word) e = absurd (cc)
+  by_kind (t.word t.posedge_word) e = absurd (cc)
+  by_kind (t.word t.if_word) e = absurd (cc)
+  by_kind (t.word t.for_word) e = absurd (cc)
+  by_kind (t.word t.integer_word) e = absurd (cc)
+  by_kind (t.word t.clk_word) e = absurd (cc)
+  by_kind (t.word t.i_word) e = absurd (cc)
   by_kind (t.sign x) e = absurd (cc)
   by_kind (t.name x) e = absurd (cc)
   by_kind (t.number x n) e = absurd (cc)
   by_kind (t.constant x n) e = absurd (cc)
 
-pub item_integer : (p : List t.Token) → item_head (head p) ≡ i.Integer → reads s.Item p ≡ steps (s.Word t.Integer ∷ s.Word t.I ∷ s.Sign t.Semicolon ∷ []) p
+pub item_integer : (p : List t.Token) → item_head (head p) ≡ i.Integer → reads s.item p ≡ steps (s.word t.integer_word ∷ s.word t.i_word ∷ s.sign t.semicolon ∷ []) p
 unfolding head right_head after_head item_head
-item_integer p e = step_with s.Item (s.Word t.Integer) _ (λ h. item_head h ≡ i.Integer) refl refl by_kind p e where
-  by_kind : (k : t.Kind) → item_head (head_of k) ≡ i.Integer → next s.Item k ≡ push (next (s.Word t.Integer) k) (s.Word t.I ∷ s.Sign t.Semicolon ∷ [])
-  by_kind (t.word t.Module) e = absurd (cc)
-  by_kind (t.word t.Endmodule) e = absurd (cc)
-  by_kind (t.word t.Input) e = absurd (cc)
-  by_kind (t.word t.Output) e = absurd (cc)
-  by_kind (t.word t.Reg) e = absurd (cc)
-  by_kind (t.word t.Wire) e = absurd (cc)
-  by_kind (t.word t.Assign) e = absurd (cc)
-  by_kind (t.word t.Initial) e = absurd (cc)
-  by_kind (t.word t.Always) e = absurd (cc)
-  by_kind (t.word t.Posedge) e = absurd (cc)
-  by_kind (t.word t.If) e = absurd (cc)
-  by_kind (t.word t.For) e = absurd (cc)
-  by_kind (t.word t.Integer) e = refl
-  by_kind (t.word t.Clk) e = absurd (cc)
-  by_kind (t.word t.I) e = absurd (cc)
+item_integer p e = step_with s.item (s.word t.integer_word) _ (λ h. item_head h ≡ i.Integer) refl refl by_kind p e where
+  by_kind : (k : t.Kind) → item_head (head_of k) ≡ i.Integer → next s.item k ≡ push (next (s.word t.integer_word) k) (s.word t.i_word ∷ s.sign t.semicolon ∷ [])
+  by_kind (t.word t.module_word) e = absurd (cc)
+  by_kind (t.word t.endmodule_word) e = absurd (cc)
+  by_kind (t.word t.input_word) e = absurd (cc)
+  by_kind (t.word t.output_word) e = absurd (cc)
+  by_kind (t.word t.reg_word) e = absurd (cc)
+  by_kind (t.word t.wire_word) e = absurd (cc)
+  by_kind (t.word t.assign_word) e = absurd (cc)
+  by_kind (t.word t.initial_word) e = absurd (cc)
+  by_kind (t.word t.always_word) e = absurd (cc)
+  by_kind (t.word t.posedge_word) e = absurd (cc)
+  by_kind (t.word t.if_word) e = absurd (cc)
+  by_kind (t.word t.for_word) e = absurd (cc)
+  by_kind (t.word t.integer_word) e = refl
+  by_kind (t.word t.clk_word) e = absurd (cc)
+  by_kind (t.word t.i_word) e = absurd (cc)
   by_kind (t.sign x) e = absurd (cc)
   by_kind (t.name x) e = absurd (cc)
   by_kind (t.number x n) e = absurd (cc)
   by_kind (t.constant x n) e = absurd (cc)
 
-pub item_assign : (p : List t.Token) → item_head (head p) ≡ i.Assign → reads s.Item p ≡ steps (s.Word t.Assign ∷ s.Name ∷ s.Sign t.Is ∷ s.Right ∷ []) p
+pub item_assign : (p : List t.Token) → item_head (head p) ≡ i.Assign → reads s.item p ≡ steps (s.word t.assign_word ∷ s.name ∷ s.sign t.is ∷ s.right ∷ []) p
 unfolding head right_head after_head item_head
-item_assign p e = step_with s.Item (s.Word t.Assign) _ (λ h. item_head h ≡ i.Assign) refl refl by_kind p e where
-  by_kind : (k : t.Kind) → item_head (head_of k) ≡ i.Assign → next s.Item k ≡ push (next (s.Word t.Assign) k) (s.Name ∷ s.Sign t.Is ∷ s.Right ∷ [])
-  by_kind (t.word t.Module) e = absurd (cc)
-  by_kind (t.word t.Endmodule) e = absurd (cc)
-  by_kind (t.word t.Input) e = absurd (cc)
-  by_kind (t.word t.Output) e = absurd (cc)
-  by_kind (t.word t.Reg) e = absurd (cc)
-  by_kind (t.word t.Wire) e = absurd (cc)
-  by_kind (t.word t.Assign) e = refl
-  by_kind (t.word t.Initial) e = absurd (cc)
-  by_kind (t.word t.Always) e = absurd (cc)
-  by_kind (t.word t.Posedge) e = absurd (cc)
-  by_kind (t.word t.If) e = absurd (cc)
-  by_kind (t.word t.For) e = absurd (cc)
-  by_kind (t.word t.Integer) e = absurd (cc)
-  by_kind (t.word t.Clk) e = absurd (cc)
-  by_kind (t.word t.I) e = absurd (cc)
+item_assign p e = step_with s.item (s.word t.assign_word) _ (λ h. item_head h ≡ i.Assign) refl refl by_kind p e where
+  by_kind : (k : t.Kind) → item_head (head_of k) ≡ i.Assign → next s.item k ≡ push (next (s.word t.assign_word) k) (s.name ∷ s.sign t.is ∷ s.right ∷ [])
+  by_kind (t.word t.module_word) e = absurd (cc)
+  by_kind (t.word t.endmodule_word) e = absurd (cc)
+  by_kind (t.word t.input_word) e = absurd (cc)
+  by_kind (t.word t.output_word) e = absurd (cc)
+  by_kind (t.word t.reg_word) e = absurd (cc)
+  by_kind (t.word t.wire_word) e = absurd (cc)
+  by_kind (t.word t.assign_word) e = refl
+  by_kind (t.word t.initial_word) e = absurd (cc)
+  by_kind (t.word t.always_word) e = absurd (cc)
+  by_kind (t.word t.posedge_word) e = absurd (cc)
+  by_kind (t.word t.if_word) e = absurd (cc)
+  by_kind (t.word t.for_word) e = absurd (cc)
+  by_kind (t.word t.integer_word) e = absurd (cc)
+  by_kind (t.word t.clk_word) e = absurd (cc)
+  by_kind (t.word t.i_word) e = absurd (cc)
   by_kind (t.sign x) e = absurd (cc)
   by_kind (t.name x) e = absurd (cc)
   by_kind (t.number x n) e = absurd (cc)
   by_kind (t.constant x n) e = absurd (cc)
 
-pub item_initial : (p : List t.Token) → item_head (head p) ≡ i.Initial → reads s.Item p ≡ steps (s.Word t.Initial ∷ s.AfterInitial ∷ []) p
+pub item_initial : (p : List t.Token) → item_head (head p) ≡ i.Initial → reads s.item p ≡ steps (s.word t.initial_word ∷ s.after_initial ∷ []) p
 unfolding head right_head after_head item_head
-item_initial p e = step_with s.Item (s.Word t.Initial) _ (λ h. item_head h ≡ i.Initial) refl refl by_kind p e where
-  by_kind : (k : t.Kind) → item_head (head_of k) ≡ i.Initial → next s.Item k ≡ push (next (s.Word t.Initial) k) (s.AfterInitial ∷ [])
-  by_kind (t.word t.Module) e = absurd (cc)
-  by_kind (t.word t.Endmodule) e = absurd (cc)
-  by_kind (t.word t.Input) e = absurd (cc)
-  by_kind (t.word t.Output) e = absurd (cc)
-  by_kind (t.word t.Reg) e = absurd (cc)
-  by_kind (t.word t.Wire) e = absurd (cc)
-  by_kind (t.word t.Assign) e = absurd (cc)
-  by_kind (t.word t.Initial) e = refl
-  by_kind (t.word t.Always) e = absurd (cc)
-  by_kind (t.word t.Posedge) e = absurd (cc)
-  by_kind (t.word t.If) e = absurd (cc)
-  by_kind (t.word t.For) e = absurd (cc)
-  by_kind (t.word t.Integer) e = absurd (cc)
-  by_kind (t.word t.Clk) e = absurd (cc)
-  by_kind (t.word t.I) e = absurd (cc)
+item_initial p e = step_with s.item (s.word t.initial_word) _ (λ h. item_head h ≡ i.Initial) refl refl by_kind p e where
+  by_kind : (k : t.Kind) → item_head (head_of k) ≡ i.Initial → next s.item k ≡ push (next (s.word t.initial_word) k) (s.after_initial ∷ [])
+  by_kind (t.word t.module_word) e = absurd (cc)
+  by_kind (t.word t.endmodule_word) e = absurd (cc)
+  by_kind (t.word t.input_word) e = absurd (cc)
+  by_kind (t.word t.output_word) e = absurd (cc)
+  by_kind (t.word t.reg_word) e = absurd (cc)
+  by_kind (t.word t.wire_word) e = absurd (cc)
+  by_kind (t.word t.assign_word) e = absurd (cc)
+  by_kind (t.word t.initial_word) e = refl
+  by_kind (t.word t.always_word) e = absurd (cc)
+  by_kind (t.word t.posedge_word) e = absurd (cc)
+  by_kind (t.word t.if_word) e = absurd (cc)
+  by_kind (t.word t.for_word) e = absurd (cc)
+  by_kind (t.word t.integer_word) e = absurd (cc)
+  by_kind (t.word t.clk_word) e = absurd (cc)
+  by_kind (t.word t.i_word) e = absurd (cc)
   by_kind (t.sign x) e = absurd (cc)
   by_kind (t.name x) e = absurd (cc)
   by_kind (t.number x n) e = absurd (cc)
   by_kind (t.constant x n) e = absurd (cc)
 
-pub item_always : (p : List t.Token) → item_head (head p) ≡ i.Always → reads s.Item p ≡ steps (s.Clocked ∷ s.AfterClock ∷ []) p
+pub item_always : (p : List t.Token) → item_head (head p) ≡ i.Always → reads s.item p ≡ steps (s.clocked ∷ s.after_clock ∷ []) p
 unfolding head right_head after_head item_head
-item_always p e = step_with s.Item (s.Clocked) _ (λ h. item_head h ≡ i.Always) refl refl by_kind p e where
-  by_kind : (k : t.Kind) → item_head (head_of k) ≡ i.Always → next s.Item k ≡ push (next (s.Clocked) k) (s.AfterClock ∷ [])
-  by_kind (t.word t.Module) e = refl
-  by_kind (t.word t.Endmodule) e = refl
-  by_kind (t.word t.Input) e = refl
-  by_kind (t.word t.Output) e = refl
-  by_kind (t.word t.Reg) e = absurd (cc)
-  by_kind (t.word t.Wire) e = absurd (cc)
-  by_kind (t.word t.Assign) e = absurd (cc)
-  by_kind (t.word t.Initial) e = absurd (cc)
-  by_kind (t.word t.Always) e = refl
-  by_kind (t.word t.Posedge) e = refl
-  by_kind (t.word t.If) e = refl
-  by_kind (t.word t.For) e = refl
-  by_kind (t.word t.Integer) e = absurd (cc)
-  by_kind (t.word t.Clk) e = refl
-  by_kind (t.word t.I) e = refl
+item_always p e = step_with s.item (s.clocked) _ (λ h. item_head h ≡ i.Always) refl refl by_kind p e where
+  by_kind : (k : t.Kind) → item_head (head_of k) ≡ i.Always → next s.item k ≡ push (next (s.clocked) k) (s.after_clock ∷ [])
+  by_kind (t.word t.module_word) e = refl
+  by_kind (t.word t.endmodule_word) e = refl
+  by_kind (t.word t.input_word) e = refl
+  by_kind (t.word t.output_word) e = refl
+  by_kind (t.word t.reg_word) e = absurd (cc)
+  by_kind (t.word t.wire_word) e = absurd (cc)
+  by_kind (t.word t.assign_word) e = absurd (cc)
+  by_kind (t.word t.initial_word) e = absurd (cc)
+  by_kind (t.word t.always_word) e = refl
+  by_kind (t.word t.posedge_word) e = refl
+  by_kind (t.word t.if_word) e = refl
+  by_kind (t.word t.for_word) e = refl
+  by_kind (t.word t.integer_word) e = absurd (cc)
+  by_kind (t.word t.clk_word) e = refl
+  by_kind (t.word t.i_word) e = refl
   by_kind (t.sign x) e = refl
   by_kind (t.name x) e = refl
   by_kind (t.number x n) e = refl
   by_kind (t.constant x n) e = refl
 
-pub register_end : (p : List t.Token) → head p ≢ of_sign t.OpenBracket → reads s.AfterRegister p ≡ reads (s.Sign t.Semicolon) p
+pub register_end : (p : List t.Token) → head p ≢ of_sign t.open_bracket → reads s.after_register p ≡ reads (s.sign t.semicolon) p
 unfolding head right_head after_head item_head
-register_end p e = same_with s.AfterRegister (s.Sign t.Semicolon) (λ h. h ≢ of_sign t.OpenBracket) refl refl by_kind p e where
-  by_kind : (k : t.Kind) → (head_of k) ≢ of_sign t.OpenBracket → next s.AfterRegister k ≡ push (next (s.Sign t.Semicolon) k) ([])
-  by_kind (t.sign t.OpenParen) e = refl
-  by_kind (t.sign t.CloseParen) e = refl
-  by_kind (t.sign t.OpenBrace) e = refl
-  by_kind (t.sign t.CloseBrace) e = refl
-  by_kind (t.sign t.OpenBracket) e = absurd (e refl)
-  by_kind (t.sign t.CloseBracket) e = refl
-  by_kind (t.sign t.Comma) e = refl
-  by_kind (t.sign t.Semicolon) e = refl
-  by_kind (t.sign t.Colon) e = refl
-  by_kind (t.sign t.Question) e = refl
-  by_kind (t.sign t.At) e = refl
-  by_kind (t.sign t.Is) e = refl
-  by_kind (t.sign t.Equal) e = refl
-  by_kind (t.sign t.NotEqual) e = refl
-  by_kind (t.sign t.Less) e = refl
-  by_kind (t.sign t.LessOrEqual) e = refl
-  by_kind (t.sign t.ShiftLeft) e = refl
-  by_kind (t.sign t.ShiftRight) e = refl
-  by_kind (t.sign t.Plus) e = refl
-  by_kind (t.sign t.Minus) e = refl
-  by_kind (t.sign t.Star) e = refl
-  by_kind (t.sign t.Ampersand) e = refl
-  by_kind (t.sign t.Bar) e = refl
-  by_kind (t.sign t.Caret) e = refl
-  by_kind (t.sign t.Tilde) e = refl
+register_end p e = same_with s.after_register (s.sign t.semicolon) (λ h. h ≢ of_sign t.open_bracket) refl refl by_kind p e where
+  by_kind : (k : t.Kind) → (head_of k) ≢ of_sign t.open_bracket → next s.after_register k ≡ push (next (s.sign t.semicolon) k) ([])
+  by_kind (t.sign t.open_paren) e = refl
+  by_kind (t.sign t.close_paren) e = refl
+  by_kind (t.sign t.open_brace) e = refl
+  by_kind (t.sign t.close_brace) e = refl
+  by_kind (t.sign t.open_bracket) e = absurd (e refl)
+  by_kind (t.sign t.close_bracket) e = refl
+  by_kind (t.sign t.comma) e = refl
+  by_kind (t.sign t.semicolon) e = refl
+  by_kind (t.sign t.colon) e = refl
+  by_kind (t.sign t.question) e = refl
+  by_kind (t.sign t.at) e = refl
+  by_kind (t.sign t.is) e = refl
+  by_kind (t.sign t.equal) e = refl
+  by_kind (t.sign t.not_equal) e = refl
+  by_kind (t.sign t.less) e = refl
+  by_kind (t.sign t.less_or_equal) e = refl
+  by_kind (t.sign t.shift_left) e = refl
+  by_kind (t.sign t.shift_right) e = refl
+  by_kind (t.sign t.plus) e = refl
+  by_kind (t.sign t.minus) e = refl
+  by_kind (t.sign t.star) e = refl
+  by_kind (t.sign t.ampersand) e = refl
+  by_kind (t.sign t.bar) e = refl
+  by_kind (t.sign t.caret) e = refl
+  by_kind (t.sign t.tilde) e = refl
   by_kind (t.word x) e = refl
   by_kind (t.name x) e = refl
   by_kind (t.number x n) e = refl
   by_kind (t.constant x n) e = refl
 
-pub register_memory : (p : List t.Token) → head p ≡ of_sign t.OpenBracket → reads s.AfterRegister p ≡ steps (s.Sign t.OpenBracket ∷ s.Digit 0 ∷ s.Sign t.Colon ∷ s.Number ∷ s.Sign t.CloseBracket ∷ s.Sign t.Semicolon ∷ []) p
+pub register_memory : (p : List t.Token) → head p ≡ of_sign t.open_bracket → reads s.after_register p ≡ steps (s.sign t.open_bracket ∷ s.digit 0 ∷ s.sign t.colon ∷ s.number ∷ s.sign t.close_bracket ∷ s.sign t.semicolon ∷ []) p
 unfolding head right_head after_head item_head
-register_memory p e = step_with s.AfterRegister (s.Sign t.OpenBracket) _ (λ h. h ≡ of_sign t.OpenBracket) refl refl by_kind p e where
-  by_kind : (k : t.Kind) → (head_of k) ≡ of_sign t.OpenBracket → next s.AfterRegister k ≡ push (next (s.Sign t.OpenBracket) k) (s.Digit 0 ∷ s.Sign t.Colon ∷ s.Number ∷ s.Sign t.CloseBracket ∷ s.Sign t.Semicolon ∷ [])
-  by_kind (t.sign t.OpenParen) e = absurd (cc)
-  by_kind (t.sign t.CloseParen) e = absurd (cc)
-  by_kind (t.sign t.OpenBrace) e = absurd (cc)
-  by_kind (t.sign t.CloseBrace) e = absurd (cc)
-  by_kind (t.sign t.OpenBracket) e = refl
-  by_kind (t.sign t.CloseBracket) e = absurd (cc)
-  by_kind (t.sign t.Comma) e = absurd (cc)
-  by_kind (t.sign t.Semicolon) e = absurd (cc)
-  by_kind (t.sign t.Colon) e = absurd (cc)
-  by_kind (t.sign t.Question) e = absurd (cc)
-  by_kind (t.sign t.At) e = absurd (cc)
-  by_kind (t.sign t.Is) e = absurd (cc)
-  by_kind (t.sign t.Equal) e = absurd (cc)
-  by_kind (t.sign t.NotEqual) e = absurd (cc)
-  by_kind (t.sign t.Less) e = absurd (cc)
-  by_kind (t.sign t.LessOrEqual) e = absurd (cc)
-  by_kind (t.sign t.ShiftLeft) e = absurd (cc)
-  by_kind (t.sign t.ShiftRight) e = absurd (cc)
-  by_kind (t.sign t.Plus) e = absurd (cc)
-  by_kind (t.sign t.Minus) e = absurd (cc)
-  by_kind (t.sign t.Star) e = absurd (cc)
-  by_kind (t.sign t.Ampersand) e = absurd (cc)
-  by_kind (t.sign t.Bar) e = absurd (cc)
-  by_kind (t.sign t.Caret) e = absurd (cc)
-  by_kind (t.sign t.Tilde) e = absurd (cc)
+register_memory p e = step_with s.after_register (s.sign t.open_bracket) _ (λ h. h ≡ of_sign t.open_bracket) refl refl by_kind p e where
+  by_kind : (k : t.Kind) → (head_of k) ≡ of_sign t.open_bracket → next s.after_register k ≡ push (next (s.sign t.open_bracket) k) (s.digit 0 ∷ s.sign t.colon ∷ s.number ∷ s.sign t.close_bracket ∷ s.sign t.semicolon ∷ [])
+  by_kind (t.sign t.open_paren) e = absurd (cc)
+  by_kind (t.sign t.close_paren) e = absurd (cc)
+  by_kind (t.sign t.open_brace) e = absurd (cc)
+  by_kind (t.sign t.close_brace) e = absurd (cc)
+  by_kind (t.sign t.open_bracket) e = refl
+  by_kind (t.sign t.close_bracket) e = absurd (cc)
+  by_kind (t.sign t.comma) e = absurd (cc)
+  by_kind (t.sign t.semicolon) e = absurd (cc)
+  by_kind (t.sign t.colon) e = absurd (cc)
+  by_kind (t.sign t.question) e = absurd (cc)
+  by_kind (t.sign t.at) e = absurd (cc)
+  by_kind (t.sign t.is) e = absurd (cc)
+  by_kind (t.sign t.equal) e = absurd (cc)
+  by_kind (t.sign t.not_equal) e = absurd (cc)
+  by_kind (t.sign t.less) e = absurd (cc)
+  by_kind (t.sign t.less_or_equal) e = absurd (cc)
+  by_kind (t.sign t.shift_left) e = absurd (cc)
+  by_kind (t.sign t.shift_right) e = absurd (cc)
+  by_kind (t.sign t.plus) e = absurd (cc)
+  by_kind (t.sign t.minus) e = absurd (cc)
+  by_kind (t.sign t.star) e = absurd (cc)
+  by_kind (t.sign t.ampersand) e = absurd (cc)
+  by_kind (t.sign t.bar) e = absurd (cc)
+  by_kind (t.sign t.caret) e = absurd (cc)
+  by_kind (t.sign t.tilde) e = absurd (cc)
   by_kind (t.word x) e = absurd (cc)
   by_kind (t.name x) e = absurd (cc)
   by_kind (t.number x n) e = absurd (cc)
   by_kind (t.constant x n) e = absurd (cc)
 
-pub initial_start : (p : List t.Token) → head p ≡ of_name → reads s.AfterInitial p ≡ steps (s.Name ∷ s.Sign t.Is ∷ s.Constant ∷ s.Sign t.Semicolon ∷ []) p
+pub initial_start : (p : List t.Token) → head p ≡ of_name → reads s.after_initial p ≡ steps (s.name ∷ s.sign t.is ∷ s.constant ∷ s.sign t.semicolon ∷ []) p
 unfolding head right_head after_head item_head
-initial_start p e = step_with s.AfterInitial (s.Name) _ (λ h. h ≡ of_name) refl refl by_kind p e where
-  by_kind : (k : t.Kind) → (head_of k) ≡ of_name → next s.AfterInitial k ≡ push (next (s.Name) k) (s.Sign t.Is ∷ s.Constant ∷ s.Sign t.Semicolon ∷ [])
+initial_start p e = step_with s.after_initial (s.name) _ (λ h. h ≡ of_name) refl refl by_kind p e where
+  by_kind : (k : t.Kind) → (head_of k) ≡ of_name → next s.after_initial k ≡ push (next (s.name) k) (s.sign t.is ∷ s.constant ∷ s.sign t.semicolon ∷ [])
   by_kind (t.name x) e = refl
   by_kind (t.word x) e = absurd (cc)
   by_kind (t.sign x) e = absurd (cc)
   by_kind (t.number x n) e = absurd (cc)
   by_kind (t.constant x n) e = absurd (cc)
 
-pub initial_cells : (p : List t.Token) → head p ≢ of_name → reads s.AfterInitial p ≡ steps (s.Loop ∷ s.Name ∷ s.Sign t.OpenBracket ∷ s.Word t.I ∷ s.Sign t.CloseBracket ∷ s.Sign t.Is ∷ s.Constant ∷ s.Sign t.Semicolon ∷ []) p
+pub initial_cells : (p : List t.Token) → head p ≢ of_name → reads s.after_initial p ≡ steps (s.loop ∷ s.name ∷ s.sign t.open_bracket ∷ s.word t.i_word ∷ s.sign t.close_bracket ∷ s.sign t.is ∷ s.constant ∷ s.sign t.semicolon ∷ []) p
 unfolding head right_head after_head item_head
-initial_cells p e = step_with s.AfterInitial (s.Loop) _ (λ h. h ≢ of_name) refl refl by_kind p e where
-  by_kind : (k : t.Kind) → (head_of k) ≢ of_name → next s.AfterInitial k ≡ push (next (s.Loop) k) (s.Name ∷ s.Sign t.OpenBracket ∷ s.Word t.I ∷ s.Sign t.CloseBracket ∷ s.Sign t.Is ∷ s.Constant ∷ s.Sign t.Semicolon ∷ [])
+initial_cells p e = step_with s.after_initial (s.loop) _ (λ h. h ≢ of_name) refl refl by_kind p e where
+  by_kind : (k : t.Kind) → (head_of k) ≢ of_name → next s.after_initial k ≡ push (next (s.loop) k) (s.name ∷ s.sign t.open_bracket ∷ s.word t.i_word ∷ s.sign t.close_bracket ∷ s.sign t.is ∷ s.constant ∷ s.sign t.semicolon ∷ [])
   by_kind (t.name x) e = absurd (e refl)
   by_kind (t.word x) e = refl
   by_kind (t.sign x) e = refl
   by_kind (t.number x n) e = refl
   by_kind (t.constant x n) e = refl
 
-pub clock_update : (p : List t.Token) → head p ≡ of_name → reads s.AfterClock p ≡ steps (s.Name ∷ s.Sign t.LessOrEqual ∷ s.Operand ∷ s.Sign t.Semicolon ∷ []) p
+pub clock_update : (p : List t.Token) → head p ≡ of_name → reads s.after_clock p ≡ steps (s.name ∷ s.sign t.less_or_equal ∷ s.operand ∷ s.sign t.semicolon ∷ []) p
 unfolding head right_head after_head item_head
-clock_update p e = step_with s.AfterClock (s.Name) _ (λ h. h ≡ of_name) refl refl by_kind p e where
-  by_kind : (k : t.Kind) → (head_of k) ≡ of_name → next s.AfterClock k ≡ push (next (s.Name) k) (s.Sign t.LessOrEqual ∷ s.Operand ∷ s.Sign t.Semicolon ∷ [])
+clock_update p e = step_with s.after_clock (s.name) _ (λ h. h ≡ of_name) refl refl by_kind p e where
+  by_kind : (k : t.Kind) → (head_of k) ≡ of_name → next s.after_clock k ≡ push (next (s.name) k) (s.sign t.less_or_equal ∷ s.operand ∷ s.sign t.semicolon ∷ [])
   by_kind (t.name x) e = refl
   by_kind (t.word x) e = absurd (cc)
   by_kind (t.sign x) e = absurd (cc)
   by_kind (t.number x n) e = absurd (cc)
   by_kind (t.constant x n) e = absurd (cc)
 
-pub clock_write : (p : List t.Token) → head p ≢ of_name → reads s.AfterClock p ≡ steps (s.Word t.If ∷ s.Sign t.OpenParen ∷ s.Operand ∷ s.Sign t.CloseParen ∷ s.Name ∷ s.Sign t.OpenBracket ∷ s.Operand ∷ s.Sign t.CloseBracket ∷ s.Sign t.LessOrEqual ∷ s.Operand ∷ s.Sign t.Semicolon ∷ []) p
+pub clock_write : (p : List t.Token) → head p ≢ of_name → reads s.after_clock p ≡ steps (s.word t.if_word ∷ s.sign t.open_paren ∷ s.operand ∷ s.sign t.close_paren ∷ s.name ∷ s.sign t.open_bracket ∷ s.operand ∷ s.sign t.close_bracket ∷ s.sign t.less_or_equal ∷ s.operand ∷ s.sign t.semicolon ∷ []) p
 unfolding head right_head after_head item_head
-clock_write p e = step_with s.AfterClock (s.Word t.If) _ (λ h. h ≢ of_name) refl refl by_kind p e where
-  by_kind : (k : t.Kind) → (head_of k) ≢ of_name → next s.AfterClock k ≡ push (next (s.Word t.If) k) (s.Sign t.OpenParen ∷ s.Operand ∷ s.Sign t.CloseParen ∷ s.Name ∷ s.Sign t.OpenBracket ∷ s.Operand ∷ s.Sign t.CloseBracket ∷ s.Sign t.LessOrEqual ∷ s.Operand ∷ s.Sign t.Semicolon ∷ [])
+clock_write p e = step_with s.after_clock (s.word t.if_word) _ (λ h. h ≢ of_name) refl refl by_kind p e where
+  by_kind : (k : t.Kind) → (head_of k) ≢ of_name → next s.after_clock k ≡ push (next (s.word t.if_word) k) (s.sign t.open_paren ∷ s.operand ∷ s.sign t.close_paren ∷ s.name ∷ s.sign t.open_bracket ∷ s.operand ∷ s.sign t.close_bracket ∷ s.sign t.less_or_equal ∷ s.operand ∷ s.sign t.semicolon ∷ [])
   by_kind (t.name x) e = absurd (e refl)
   by_kind (t.word x) e = refl
   by_kind (t.sign x) e = refl
   by_kind (t.number x n) e = refl
   by_kind (t.constant x n) e = refl
 
-pub items_more : (p : List t.Token) → head p ≢ of_word t.Endmodule → reads s.Items p ≡ steps (s.Item ∷ s.Items ∷ []) p
+pub items_more : (p : List t.Token) → head p ≢ of_word t.endmodule_word → reads s.items p ≡ steps (s.item ∷ s.items ∷ []) p
 unfolding head right_head after_head item_head
-items_more p e = step_with s.Items (s.Item) _ (λ h. h ≢ of_word t.Endmodule) refl refl by_kind p e where
-  by_kind : (k : t.Kind) → (head_of k) ≢ of_word t.Endmodule → next s.Items k ≡ push (next (s.Item) k) (s.Items ∷ [])
-  by_kind (t.word t.Module) e = refl
-  by_kind (t.word t.Endmodule) e = absurd (e refl)
-  by_kind (t.word t.Input) e = refl
-  by_kind (t.word t.Output) e = refl
-  by_kind (t.word t.Reg) e = refl
-  by_kind (t.word t.Wire) e = refl
-  by_kind (t.word t.Assign) e = refl
-  by_kind (t.word t.Initial) e = refl
-  by_kind (t.word t.Always) e = refl
-  by_kind (t.word t.Posedge) e = refl
-  by_kind (t.word t.If) e = refl
-  by_kind (t.word t.For) e = refl
-  by_kind (t.word t.Integer) e = refl
-  by_kind (t.word t.Clk) e = refl
-  by_kind (t.word t.I) e = refl
+items_more p e = step_with s.items (s.item) _ (λ h. h ≢ of_word t.endmodule_word) refl refl by_kind p e where
+  by_kind : (k : t.Kind) → (head_of k) ≢ of_word t.endmodule_word → next s.items k ≡ push (next (s.item) k) (s.items ∷ [])
+  by_kind (t.word t.module_word) e = refl
+  by_kind (t.word t.endmodule_word) e = absurd (e refl)
+  by_kind (t.word t.input_word) e = refl
+  by_kind (t.word t.output_word) e = refl
+  by_kind (t.word t.reg_word) e = refl
+  by_kind (t.word t.wire_word) e = refl
+  by_kind (t.word t.assign_word) e = refl
+  by_kind (t.word t.initial_word) e = refl
+  by_kind (t.word t.always_word) e = refl
+  by_kind (t.word t.posedge_word) e = refl
+  by_kind (t.word t.if_word) e = refl
+  by_kind (t.word t.for_word) e = refl
+  by_kind (t.word t.integer_word) e = refl
+  by_kind (t.word t.clk_word) e = refl
+  by_kind (t.word t.i_word) e = refl
   by_kind (t.sign x) e = refl
   by_kind (t.name x) e = refl
   by_kind (t.number x n) e = refl
   by_kind (t.constant x n) e = refl
 
-pub items_end : (p : List t.Token) → head p ≡ of_word t.Endmodule → reads s.Items p ≡ steps (s.Word t.Endmodule ∷ s.End ∷ []) p
+pub items_end : (p : List t.Token) → head p ≡ of_word t.endmodule_word → reads s.items p ≡ steps (s.word t.endmodule_word ∷ s.end ∷ []) p
 unfolding head right_head after_head item_head
-items_end p e = step_with s.Items (s.Word t.Endmodule) _ (λ h. h ≡ of_word t.Endmodule) refl refl by_kind p e where
-  by_kind : (k : t.Kind) → (head_of k) ≡ of_word t.Endmodule → next s.Items k ≡ push (next (s.Word t.Endmodule) k) (s.End ∷ [])
-  by_kind (t.word t.Module) e = absurd (cc)
-  by_kind (t.word t.Endmodule) e = refl
-  by_kind (t.word t.Input) e = absurd (cc)
-  by_kind (t.word t.Output) e = absurd (cc)
-  by_kind (t.word t.Reg) e = absurd (cc)
-  by_kind (t.word t.Wire) e = absurd (cc)
-  by_kind (t.word t.Assign) e = absurd (cc)
-  by_kind (t.word t.Initial) e = absurd (cc)
-  by_kind (t.word t.Always) e = absurd (cc)
-  by_kind (t.word t.Posedge) e = absurd (cc)
-  by_kind (t.word t.If) e = absurd (cc)
-  by_kind (t.word t.For) e = absurd (cc)
-  by_kind (t.word t.Integer) e = absurd (cc)
-  by_kind (t.word t.Clk) e = absurd (cc)
-  by_kind (t.word t.I) e = absurd (cc)
+items_end p e = step_with s.items (s.word t.endmodule_word) _ (λ h. h ≡ of_word t.endmodule_word) refl refl by_kind p e where
+  by_kind : (k : t.Kind) → (head_of k) ≡ of_word t.endmodule_word → next s.items k ≡ push (next (s.word t.endmodule_word) k) (s.end ∷ [])
+  by_kind (t.word t.module_word) e = absurd (cc)
+  by_kind (t.word t.endmodule_word) e = refl
+  by_kind (t.word t.input_word) e = absurd (cc)
+  by_kind (t.word t.output_word) e = absurd (cc)
+  by_kind (t.word t.reg_word) e = absurd (cc)
+  by_kind (t.word t.wire_word) e = absurd (cc)
+  by_kind (t.word t.assign_word) e = absurd (cc)
+  by_kind (t.word t.initial_word) e = absurd (cc)
+  by_kind (t.word t.always_word) e = absurd (cc)
+  by_kind (t.word t.posedge_word) e = absurd (cc)
+  by_kind (t.word t.if_word) e = absurd (cc)
+  by_kind (t.word t.for_word) e = absurd (cc)
+  by_kind (t.word t.integer_word) e = absurd (cc)
+  by_kind (t.word t.clk_word) e = absurd (cc)
+  by_kind (t.word t.i_word) e = absurd (cc)
   by_kind (t.sign x) e = absurd (cc)
   by_kind (t.name x) e = absurd (cc)
   by_kind (t.number x n) e = absurd (cc)
   by_kind (t.constant x n) e = absurd (cc)
 
-pub end_there : reads s.End [] ≡ Ok []
+pub end_there : reads s.end [] ≡ Ok []
 unfolding reads
-end_there = ap plain (read_empty grammar s.End tt refl)
+end_there = ap plain (read_empty grammar s.end tt refl)
 
-pub end_other : (p : List t.Token) → head p ≢ of_nothing → reads s.End p ≡ Err p
+pub end_other : (p : List t.Token) → head p ≢ of_nothing → reads s.end p ≡ Err p
 unfolding head
 end_other [] ne = absurd (ne refl)
-end_other (x ∷ ts) ne = reads_stop s.End x ts refl
+end_other (x ∷ ts) ne = reads_stop s.end x ts refl

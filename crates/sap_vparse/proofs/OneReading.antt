@@ -28,43 +28,43 @@ use Rattle.sap_walk.proofs.Running.{Halts, Runs, Stops, too_short, refuses, refu
 
 -- the walk and the grammar
 
-whole_reads : (ts : List Token) → p.IsWhole SpellsSome ts → reads s.File ts ≡ Ok []
+whole_reads : (ts : List Token) → p.IsWhole SpellsSome ts → reads s.file ts ≡ Ok []
 whole_reads ts w = file_reads w.1.1 refl
 
 apart : {A E : Type 0} {a : A} {e : E} (o : Result A E) → o ≡ Ok a → o ≡ Err e → ⊥
 apart o f g = cc
 
-begins : {front : List Token} {q : Unit {0}} {σ : List Symbol} → Runs grammar front tt (s.File ∷ []) q σ → p.Begins SpellsSome front
+begins : {front : List Token} {q : Unit {0}} {σ : List Symbol} → Runs grammar front tt (s.file ∷ []) q σ → p.Begins SpellsSome front
 begins h = let g = goes_on h in (g.0, (None, (g.1, g.2)))
 
-refused_reads : {front : List Token} {q : Unit {0}} {σ : List Symbol} {y : Token} → Runs grammar front tt (s.File ∷ []) q σ → walk.settle grammar y q σ ≡ walk.Refused
-    → (ts : List Token) → reads s.File (front ++ y ∷ ts) ≡ Err (y ∷ ts)
+refused_reads : {front : List Token} {q : Unit {0}} {σ : List Symbol} {y : Token} → Runs grammar front tt (s.file ∷ []) q σ → walk.settle grammar y q σ ≡ walk.rejected
+    → (ts : List Token) → reads s.file (front ++ y ∷ ts) ≡ Err (y ∷ ts)
 unfolding reads walk.read
 refused_reads runs never ts = ap plain (refused_there grammar runs never ts)
 
-there : (ts left : List Token) (e : reads s.File ts ≡ Err left) (q : Point grammar) → Halts grammar ts tt (s.File ∷ []) (at_token q) → q.left ≡ left → IsUnexpected ts left
+there : (ts left : List Token) (e : reads s.file ts ≡ Err left) (q : Point grammar) → Halts grammar ts tt (s.file ∷ []) (at_token q) → q.left ≡ left → IsUnexpected ts left
 there ts left e q halts same = by_stops halts.front halts.kept halts.to_come halts.runs q halts.parts halts.stops same where
-  by_stops : (front : List Token) (k : Unit {0}) (σ : List Symbol) → Runs grammar front tt (s.File ∷ []) k σ → (q : Point grammar) → ts ≡ front ++ q.left
+  by_stops : (front : List Token) (k : Unit {0}) (σ : List Symbol) → Runs grammar front tt (s.file ∷ []) k σ → (q : Point grammar) → ts ≡ front ++ q.left
       → Stops grammar k σ (at_token q) → q.left ≡ left → IsUnexpected ts left
   by_stops front k σ runs q parts (too_short short) same =
       let whole = parts ∙ append-nil front in
       subst (IsUnexpected ts) same
-      (p.end (subst (p.Begins SpellsSome) (sym whole) (begins runs)) (λ w. apart (reads s.File ts) (whole_reads ts w) e))
+      (p.end (subst (p.Begins SpellsSome) (sym whole) (begins runs)) (λ w. apart (reads s.file ts) (whole_reads ts w) e))
   by_stops front k σ runs q parts (refuses y rest never) same =
       subst (IsUnexpected ts) same
       (p.token front parts (begins runs)
-      (λ b. apart (reads s.File ((front ++ y ∷ []) ++ b.0)) (whole_reads ((front ++ y ∷ []) ++ b.0) b.1)
-      (ap (reads s.File) (append_assoc front (y ∷ []) b.0) ∙ refused_reads runs never b.0)))
+      (λ b. apart (reads s.file ((front ++ y ∷ []) ++ b.0)) (whole_reads ((front ++ y ∷ []) ++ b.0) b.1)
+      (ap (reads s.file) (append_assoc front (y ∷ []) b.0) ∙ refused_reads runs never b.0)))
 
-unexpected_there : (ts left : List Token) → reads s.File ts ≡ Err left → IsUnexpected ts left
+unexpected_there : (ts left : List Token) → reads s.file ts ≡ Err left → IsUnexpected ts left
 unfolding reads walk.read
-unexpected_there ts left e = by_outcome (walk.walk grammar ts tt (s.File ∷ [])) refl e where
+unexpected_there ts left e = by_outcome (walk.walk grammar ts tt (s.file ∷ [])) refl e where
   same_left : {a b : List Token} → ◌≡◌ {A = Outcome} (Err a) (Err b) → a ≡ b
   same_left e = cc
 
-  by_outcome : (o : walk.Outcome grammar) → walk.walk grammar ts tt (s.File ∷ []) ≡ o → plain o ≡ Err left → IsUnexpected ts left
+  by_outcome : (o : walk.Outcome grammar) → walk.walk grammar ts tt (s.file ∷ []) ≡ o → plain o ≡ Err left → IsUnexpected ts left
   by_outcome (Ok q) w e = absurd (cc)
-  by_outcome (Err (at_token q)) w e' = there ts left e q (walk_halts grammar ts tt (s.File ∷ []) (at_token q) w) (same_left e')
+  by_outcome (Err (at_token q)) w e' = there ts left e q (walk_halts grammar ts tt (s.file ∷ []) (at_token q) w) (same_left e')
   by_outcome (Err (at_limit limit q)) w e = absurd limit
 
 -- what the reader answers
@@ -75,10 +75,10 @@ fault_lexed text (f.V2 place) h known = absurd h
 fault_lexed text f.Memory h known = absurd (known refl)
 
 pub fault_at_token : {A : Type 0} (text : List ℕ) (ts start left : List Token) (place : ℕ) (r : Result A Fault) → Lexed 0 text ts → start ≡ ts
-    → Goes s.File start r left → r ≡ Err h.Token → place ≡ fault_place text left → IsReadFault text (f.V2 place)
+    → Goes s.file start r left → r ≡ Err h.Token → place ≡ fault_place text left → IsReadFault text (f.V2 place)
 fault_at_token text ts start left place r lexed begin goes is at =
-    let stops : reads s.File start ≡ Err left = subst (λ r. Goes s.File start r left) is goes in
-    subst (λ n. IsReadFault text (f.V2 n)) (sym at) (unexpected lexed (unexpected_there ts left (ap (reads s.File) (sym begin) ∙ stops)))
+    let stops : reads s.file start ≡ Err left = subst (λ r. Goes s.file start r left) is goes in
+    subst (λ n. IsReadFault text (f.V2 n)) (sym at) (unexpected lexed (unexpected_there ts left (ap (reads s.file) (sym begin) ∙ stops)))
 
 pub text_is : (text : List ℕ) (ts start left : List Token) (x : File) → Lexed 0 text ts → start ≡ ts → IsFile start x left → left ≡ [] → IsText text x
 text_is text ts start left x lexed begin spelled whole = record {

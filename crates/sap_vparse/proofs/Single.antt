@@ -16,7 +16,7 @@ use Rattle.sap_vparse.specs.declared.token.Sign.{Sign}
 use Rattle.sap_vparse.specs.declared.token.Word.TheVariants as w
 use Rattle.sap_vparse.specs.declared.token.Word.{Word}
 use Rattle.sap_walk.specs.Walk as walk
-use Rattle.sap_walk.specs.Walk.{Take, Stop, ◌>>=◌}
+use Rattle.sap_walk.specs.Walk.{begins, cannot_stand, ◌>>=◌}
 use Rattle.sap_walk.proofs.Walking.{read_take, read_stop, read_end}
 
 -- the laws of the walk, over plain lists of tokens
@@ -36,7 +36,7 @@ pub reads_first : (x : Symbol) (y : t.Token) (ts : List t.Token) (σ : List Symb
 unfolding reads
 reads_first x y ts σ e = ap plain (read_take grammar x y ts tt tt σ tt e refl) ∙ plain_steps σ (record { past = tt; left = ts })
 
-pub reads_stop : (x : Symbol) (y : t.Token) (ts : List t.Token) → next x y.kind ≡ Stop → reads x (y ∷ ts) ≡ Err (y ∷ ts)
+pub reads_stop : (x : Symbol) (y : t.Token) (ts : List t.Token) → next x y.kind ≡ cannot_stand → reads x (y ∷ ts) ≡ Err (y ∷ ts)
 unfolding reads
 reads_stop x y ts e = ap plain (read_stop grammar x y ts tt e)
 
@@ -48,7 +48,7 @@ reads_none x e = ap plain (read_end grammar x tt e)
 passed : (x : Symbol) {p q : List t.Token} {place : ℕ} (h : Passes p place q) → next x h.token.kind ≡ first [] → reads x p ≡ Ok q
 passed x {p} {q} h e = ap (reads x) h.parts ∙ reads_first x h.token q [] e
 
-pub refused : (x : Symbol) (p : List t.Token) → may_be_empty x ≡ false → ((y : t.Token) (ts : List t.Token) → p ≡ y ∷ ts → next x y.kind ≡ Stop) → reads x p ≡ Err p
+pub refused : (x : Symbol) (p : List t.Token) → may_be_empty x ≡ false → ((y : t.Token) (ts : List t.Token) → p ≡ y ∷ ts → next x y.kind ≡ cannot_stand) → reads x p ≡ Err p
 refused x [] full h = reads_none x full
 refused x (y ∷ ts) full h = reads_stop x y ts (h y ts refl)
 
@@ -62,56 +62,56 @@ passed_is {q = q} {place} {kind} h e = record {
 -- signs and words by number
 
 pub sign_by : ℕ → t.Sign
-sign_by n = if n == 0 then t.OpenParen else (if n == 1 then t.CloseParen else (if n == 2 then t.OpenBrace else (if n == 3 then t.CloseBrace else (if n == 4 then t.OpenBracket else (if n == 5 then t.CloseBracket else (if n == 6 then t.Comma else (if n == 7 then t.Semicolon else (if n == 8 then t.Colon else (if n == 9 then t.Question else (if n == 10 then t.At else (if n == 11 then t.Is else (if n == 12 then t.Equal else (if n == 13 then t.NotEqual else (if n == 14 then t.Less else (if n == 15 then t.LessOrEqual else (if n == 16 then t.ShiftLeft else (if n == 17 then t.ShiftRight else (if n == 18 then t.Plus else (if n == 19 then t.Minus else (if n == 20 then t.Star else (if n == 21 then t.Ampersand else (if n == 22 then t.Bar else (if n == 23 then t.Caret else (t.Tilde))))))))))))))))))))))))
+sign_by n = if n == 0 then t.open_paren else (if n == 1 then t.close_paren else (if n == 2 then t.open_brace else (if n == 3 then t.close_brace else (if n == 4 then t.open_bracket else (if n == 5 then t.close_bracket else (if n == 6 then t.comma else (if n == 7 then t.semicolon else (if n == 8 then t.colon else (if n == 9 then t.question else (if n == 10 then t.at else (if n == 11 then t.is else (if n == 12 then t.equal else (if n == 13 then t.not_equal else (if n == 14 then t.less else (if n == 15 then t.less_or_equal else (if n == 16 then t.shift_left else (if n == 17 then t.shift_right else (if n == 18 then t.plus else (if n == 19 then t.minus else (if n == 20 then t.star else (if n == 21 then t.ampersand else (if n == 22 then t.bar else (if n == 23 then t.caret else (t.tilde))))))))))))))))))))))))
 
 sign_back : (x : t.Sign) → sign_by (sign_number x) ≡ x
 unfolding sign_by
-sign_back t.OpenParen = refl
-sign_back t.CloseParen = refl
-sign_back t.OpenBrace = refl
-sign_back t.CloseBrace = refl
-sign_back t.OpenBracket = refl
-sign_back t.CloseBracket = refl
-sign_back t.Comma = refl
-sign_back t.Semicolon = refl
-sign_back t.Colon = refl
-sign_back t.Question = refl
-sign_back t.At = refl
-sign_back t.Is = refl
-sign_back t.Equal = refl
-sign_back t.NotEqual = refl
-sign_back t.Less = refl
-sign_back t.LessOrEqual = refl
-sign_back t.ShiftLeft = refl
-sign_back t.ShiftRight = refl
-sign_back t.Plus = refl
-sign_back t.Minus = refl
-sign_back t.Star = refl
-sign_back t.Ampersand = refl
-sign_back t.Bar = refl
-sign_back t.Caret = refl
-sign_back t.Tilde = refl
+sign_back t.open_paren = refl
+sign_back t.close_paren = refl
+sign_back t.open_brace = refl
+sign_back t.close_brace = refl
+sign_back t.open_bracket = refl
+sign_back t.close_bracket = refl
+sign_back t.comma = refl
+sign_back t.semicolon = refl
+sign_back t.colon = refl
+sign_back t.question = refl
+sign_back t.at = refl
+sign_back t.is = refl
+sign_back t.equal = refl
+sign_back t.not_equal = refl
+sign_back t.less = refl
+sign_back t.less_or_equal = refl
+sign_back t.shift_left = refl
+sign_back t.shift_right = refl
+sign_back t.plus = refl
+sign_back t.minus = refl
+sign_back t.star = refl
+sign_back t.ampersand = refl
+sign_back t.bar = refl
+sign_back t.caret = refl
+sign_back t.tilde = refl
 
 pub word_by : ℕ → t.Word
-word_by n = if n == 0 then t.Module else (if n == 1 then t.Endmodule else (if n == 2 then t.Input else (if n == 3 then t.Output else (if n == 4 then t.Reg else (if n == 5 then t.Wire else (if n == 6 then t.Assign else (if n == 7 then t.Initial else (if n == 8 then t.Always else (if n == 9 then t.Posedge else (if n == 10 then t.If else (if n == 11 then t.For else (if n == 12 then t.Integer else (if n == 13 then t.Clk else (t.I))))))))))))))
+word_by n = if n == 0 then t.module_word else (if n == 1 then t.endmodule_word else (if n == 2 then t.input_word else (if n == 3 then t.output_word else (if n == 4 then t.reg_word else (if n == 5 then t.wire_word else (if n == 6 then t.assign_word else (if n == 7 then t.initial_word else (if n == 8 then t.always_word else (if n == 9 then t.posedge_word else (if n == 10 then t.if_word else (if n == 11 then t.for_word else (if n == 12 then t.integer_word else (if n == 13 then t.clk_word else (t.i_word))))))))))))))
 
 word_back : (x : t.Word) → word_by (word_number x) ≡ x
 unfolding word_by
-word_back t.Module = refl
-word_back t.Endmodule = refl
-word_back t.Input = refl
-word_back t.Output = refl
-word_back t.Reg = refl
-word_back t.Wire = refl
-word_back t.Assign = refl
-word_back t.Initial = refl
-word_back t.Always = refl
-word_back t.Posedge = refl
-word_back t.If = refl
-word_back t.For = refl
-word_back t.Integer = refl
-word_back t.Clk = refl
-word_back t.I = refl
+word_back t.module_word = refl
+word_back t.endmodule_word = refl
+word_back t.input_word = refl
+word_back t.output_word = refl
+word_back t.reg_word = refl
+word_back t.wire_word = refl
+word_back t.assign_word = refl
+word_back t.initial_word = refl
+word_back t.always_word = refl
+word_back t.posedge_word = refl
+word_back t.if_word = refl
+word_back t.for_word = refl
+word_back t.integer_word = refl
+word_back t.clk_word = refl
+word_back t.i_word = refl
 
 pub sign_same : (x y : t.Sign) → eqb (sign_number x) (sign_number y) ≡ true → x ≡ y
 sign_same x y e = sym (sign_back x) ∙ ap sign_by (eqb-true (sign_number x) (sign_number y) e) ∙ sign_back y
@@ -211,21 +211,21 @@ sign_kind {q = q} x e h = kind_of_sign h.token.kind x (head_front h.token q e h.
 pub sign_is : (p q : List t.Token) (place : ℕ) (x : t.Sign) → head p ≡ of_sign x → Passes p place q → IsToken p place (t.sign x) q
 sign_is p q place x e h = passed_is h (sign_kind x e h)
 
-pub next_sign : (x : t.Sign) (i : t.Kind) → i ≡ t.sign x → next (s.Sign x) i ≡ first []
-next_sign x i e = ap (next (s.Sign x)) e ∙ ap if_same (test_of_same (sign_number x))
+pub next_sign : (x : t.Sign) (i : t.Kind) → i ≡ t.sign x → next (s.sign x) i ≡ first []
+next_sign x i e = ap (next (s.sign x)) e ∙ ap if_same (test_of_same (sign_number x))
 
-pub next_not_sign : (x : t.Sign) (i : t.Kind) → head_of i ≢ of_sign x → next (s.Sign x) i ≡ Stop
+pub next_not_sign : (x : t.Sign) (i : t.Kind) → head_of i ≢ of_sign x → next (s.sign x) i ≡ cannot_stand
 next_not_sign x (t.sign i) ne = ap if_same (signs_apart i x (λ e. ne (ap of_sign e)))
 next_not_sign x (t.word i) ne = refl
 next_not_sign x (t.name i) ne = refl
 next_not_sign x (t.number i n) ne = refl
 next_not_sign x (t.constant i n) ne = refl
 
-pub sign_read : (p q : List t.Token) (place : ℕ) (x : t.Sign) → head p ≡ of_sign x → Passes p place q → reads (s.Sign x) p ≡ Ok q
-sign_read p q place x e h = passed (s.Sign x) h (next_sign x h.token.kind (sign_kind x e h))
+pub sign_read : (p q : List t.Token) (place : ℕ) (x : t.Sign) → head p ≡ of_sign x → Passes p place q → reads (s.sign x) p ≡ Ok q
+sign_read p q place x e h = passed (s.sign x) h (next_sign x h.token.kind (sign_kind x e h))
 
-pub sign_refused : (p : List t.Token) (x : t.Sign) → head p ≢ of_sign x → reads (s.Sign x) p ≡ Err p
-sign_refused p x ne = refused (s.Sign x) p refl (λ y ts e. next_not_sign x y.kind (λ h. ne (head_back y ts h e)))
+pub sign_refused : (p : List t.Token) (x : t.Sign) → head p ≢ of_sign x → reads (s.sign x) p ≡ Err p
+sign_refused p x ne = refused (s.sign x) p refl (λ y ts e. next_not_sign x y.kind (λ h. ne (head_back y ts h e)))
 
 -- words
 
@@ -235,25 +235,25 @@ word_kind {q = q} x e h = kind_of_word h.token.kind x (head_front h.token q e h.
 pub word_is : (p q : List t.Token) (place : ℕ) (x : t.Word) → head p ≡ of_word x → Passes p place q → IsToken p place (t.word x) q
 word_is p q place x e h = passed_is h (word_kind x e h)
 
-pub next_word : (x : t.Word) (i : t.Kind) → i ≡ t.word x → next (s.Word x) i ≡ first []
-next_word x i e = ap (next (s.Word x)) e ∙ ap if_same (test_of_same (word_number x))
+pub next_word : (x : t.Word) (i : t.Kind) → i ≡ t.word x → next (s.word x) i ≡ first []
+next_word x i e = ap (next (s.word x)) e ∙ ap if_same (test_of_same (word_number x))
 
-pub next_not_word : (x : t.Word) (i : t.Kind) → head_of i ≢ of_word x → next (s.Word x) i ≡ Stop
+pub next_not_word : (x : t.Word) (i : t.Kind) → head_of i ≢ of_word x → next (s.word x) i ≡ cannot_stand
 next_not_word x (t.word i) ne = ap if_same (words_apart i x (λ e. ne (ap of_word e)))
 next_not_word x (t.sign i) ne = refl
 next_not_word x (t.name i) ne = refl
 next_not_word x (t.number i n) ne = refl
 next_not_word x (t.constant i n) ne = refl
 
-pub word_read : (p q : List t.Token) (place : ℕ) (x : t.Word) → head p ≡ of_word x → Passes p place q → reads (s.Word x) p ≡ Ok q
-word_read p q place x e h = passed (s.Word x) h (next_word x h.token.kind (word_kind x e h))
+pub word_read : (p q : List t.Token) (place : ℕ) (x : t.Word) → head p ≡ of_word x → Passes p place q → reads (s.word x) p ≡ Ok q
+word_read p q place x e h = passed (s.word x) h (next_word x h.token.kind (word_kind x e h))
 
-pub word_refused : (p : List t.Token) (x : t.Word) → head p ≢ of_word x → reads (s.Word x) p ≡ Err p
-word_refused p x ne = refused (s.Word x) p refl (λ y ts e. next_not_word x y.kind (λ h. ne (head_back y ts h e)))
+pub word_refused : (p : List t.Token) (x : t.Word) → head p ≢ of_word x → reads (s.word x) p ≡ Err p
+word_refused p x ne = refused (s.word x) p refl (λ y ts e. next_not_word x y.kind (λ h. ne (head_back y ts h e)))
 
 -- numbers
 
-next_not_number : (i : t.Kind) → number_in i ≡ None → next s.Number i ≡ Stop
+next_not_number : (i : t.Kind) → number_in i ≡ None → next s.number i ≡ cannot_stand
 next_not_number (t.number n digits) e = absurd (cc)
 next_not_number (t.word i) e = refl
 next_not_number (t.sign i) e = refl
@@ -263,32 +263,32 @@ next_not_number (t.constant i n) e = refl
 pub number_is : (p q : List t.Token) (place : ℕ) (v : ℕ × ℕ) → front_number p ≡ Some v → Passes p place q → IsToken p place (t.number v.0 v.1) q
 number_is p q place v e h = passed_is h (number_kind h.token.kind v (number_front h.token q e h.parts))
 
-pub number_read : (p q : List t.Token) (place : ℕ) (v : ℕ × ℕ) → front_number p ≡ Some v → Passes p place q → reads s.Number p ≡ Ok q
-number_read p q place v e h = passed s.Number h (ap (next s.Number) (number_kind h.token.kind v (number_front h.token q e h.parts)))
+pub number_read : (p q : List t.Token) (place : ℕ) (v : ℕ × ℕ) → front_number p ≡ Some v → Passes p place q → reads s.number p ≡ Ok q
+number_read p q place v e h = passed s.number h (ap (next s.number) (number_kind h.token.kind v (number_front h.token q e h.parts)))
 
-pub number_refused : (p : List t.Token) → front_number p ≡ None → reads s.Number p ≡ Err p
-number_refused p e = refused s.Number p refl (λ y ts h. next_not_number y.kind (number_front y ts e h))
+pub number_refused : (p : List t.Token) → front_number p ≡ None → reads s.number p ≡ Err p
+number_refused p e = refused s.number p refl (λ y ts h. next_not_number y.kind (number_front y ts e h))
 
-next_not_digit : (n : ℕ) (i : t.Kind) → number_in i ≡ None → next (s.Digit n) i ≡ Stop
+next_not_digit : (n : ℕ) (i : t.Kind) → number_in i ≡ None → next (s.digit n) i ≡ cannot_stand
 next_not_digit n (t.number i digits) e = absurd (cc)
 next_not_digit n (t.word i) e = refl
 next_not_digit n (t.sign i) e = refl
 next_not_digit n (t.name i) e = refl
 next_not_digit n (t.constant i m) e = refl
 
-pub digit_read : (p q : List t.Token) (place : ℕ) (n : ℕ) → front_number p ≡ Some (n, 1) → Passes p place q → reads (s.Digit n) p ≡ Ok q
+pub digit_read : (p q : List t.Token) (place : ℕ) (n : ℕ) → front_number p ≡ Some (n, 1) → Passes p place q → reads (s.digit n) p ≡ Ok q
 digit_read p q place n e h =
-    passed (s.Digit n) h (ap (next (s.Digit n)) (number_kind h.token.kind (n, 1) (number_front h.token q e h.parts)) ∙ ap (λ b. if_same (b && true)) (test_of_same n))
+    passed (s.digit n) h (ap (next (s.digit n)) (number_kind h.token.kind (n, 1) (number_front h.token q e h.parts)) ∙ ap (λ b. if_same (b && true)) (test_of_same n))
 
-pub digit_refused : (p : List t.Token) (n : ℕ) → front_number p ≡ None → reads (s.Digit n) p ≡ Err p
-digit_refused p n e = refused (s.Digit n) p refl (λ y ts h. next_not_digit n y.kind (number_front y ts e h))
+pub digit_refused : (p : List t.Token) (n : ℕ) → front_number p ≡ None → reads (s.digit n) p ≡ Err p
+digit_refused p n e = refused (s.digit n) p refl (λ y ts h. next_not_digit n y.kind (number_front y ts e h))
 
-pub digit_other : (p : List t.Token) (n : ℕ) (v : ℕ × ℕ) → front_number p ≡ Some v → (eqb v.0 n && eqb v.1 1) ≡ false → reads (s.Digit n) p ≡ Err p
-digit_other p n v e ne = refused (s.Digit n) p refl (λ y ts h. ap (next (s.Digit n)) (number_kind y.kind v (number_front y ts e h)) ∙ ap if_same ne)
+pub digit_other : (p : List t.Token) (n : ℕ) (v : ℕ × ℕ) → front_number p ≡ Some v → (eqb v.0 n && eqb v.1 1) ≡ false → reads (s.digit n) p ≡ Err p
+digit_other p n v e ne = refused (s.digit n) p refl (λ y ts h. ap (next (s.digit n)) (number_kind y.kind v (number_front y ts e h)) ∙ ap if_same ne)
 
 -- constants
 
-next_not_constant : (i : t.Kind) → constant_in i ≡ None → next s.Constant i ≡ Stop
+next_not_constant : (i : t.Kind) → constant_in i ≡ None → next s.constant i ≡ cannot_stand
 next_not_constant (t.constant n m) e = absurd (cc)
 next_not_constant (t.word i) e = refl
 next_not_constant (t.sign i) e = refl
@@ -298,15 +298,15 @@ next_not_constant (t.number i n) e = refl
 pub constant_is : (p q : List t.Token) (place : ℕ) (v : ℕ × ℕ) → front_constant p ≡ Some v → Passes p place q → IsToken p place (t.constant v.0 v.1) q
 constant_is p q place v e h = passed_is h (constant_kind h.token.kind v (constant_front h.token q e h.parts))
 
-pub constant_read : (p q : List t.Token) (place : ℕ) (v : ℕ × ℕ) → front_constant p ≡ Some v → Passes p place q → reads s.Constant p ≡ Ok q
-constant_read p q place v e h = passed s.Constant h (ap (next s.Constant) (constant_kind h.token.kind v (constant_front h.token q e h.parts)))
+pub constant_read : (p q : List t.Token) (place : ℕ) (v : ℕ × ℕ) → front_constant p ≡ Some v → Passes p place q → reads s.constant p ≡ Ok q
+constant_read p q place v e h = passed s.constant h (ap (next s.constant) (constant_kind h.token.kind v (constant_front h.token q e h.parts)))
 
-pub constant_refused : (p : List t.Token) → front_constant p ≡ None → reads s.Constant p ≡ Err p
-constant_refused p e = refused s.Constant p refl (λ y ts h. next_not_constant y.kind (constant_front y ts e h))
+pub constant_refused : (p : List t.Token) → front_constant p ≡ None → reads s.constant p ≡ Err p
+constant_refused p e = refused s.constant p refl (λ y ts h. next_not_constant y.kind (constant_front y ts e h))
 
 -- names
 
-next_not_name : (i : t.Kind) → name_in i ≡ None → next s.Name i ≡ Stop
+next_not_name : (i : t.Kind) → name_in i ≡ None → next s.name i ≡ cannot_stand
 next_not_name (t.name n) e = absurd (cc)
 next_not_name (t.word i) e = refl
 next_not_name (t.sign i) e = refl
@@ -316,11 +316,11 @@ next_not_name (t.constant i n) e = refl
 pub name_is : (p q : List t.Token) (place : ℕ) (n : List ℕ) → front_name p ≡ Some n → Passes p place q → IsToken p place (t.name n) q
 name_is p q place n e h = passed_is h (name_kind h.token.kind n (name_front h.token q e h.parts))
 
-pub name_read : (p q : List t.Token) (place : ℕ) (n : List ℕ) → front_name p ≡ Some n → Passes p place q → reads s.Name p ≡ Ok q
-name_read p q place n e h = passed s.Name h (ap (next s.Name) (name_kind h.token.kind n (name_front h.token q e h.parts)))
+pub name_read : (p q : List t.Token) (place : ℕ) (n : List ℕ) → front_name p ≡ Some n → Passes p place q → reads s.name p ≡ Ok q
+name_read p q place n e h = passed s.name h (ap (next s.name) (name_kind h.token.kind n (name_front h.token q e h.parts)))
 
-pub name_refused : (p : List t.Token) → front_name p ≡ None → reads s.Name p ≡ Err p
-name_refused p e = refused s.Name p refl (λ y ts h. next_not_name y.kind (name_front y ts e h))
+pub name_refused : (p : List t.Token) → front_name p ≡ None → reads s.name p ≡ Err p
+name_refused p e = refused s.name p refl (λ y ts h. next_not_name y.kind (name_front y ts e h))
 
 -- what the reader sees ahead, back from its head
 

@@ -11,12 +11,12 @@ use Rattle.sap_vparse.specs.declared.choice.RightHead.TheVariants as r
 use Rattle.sap_vparse.specs.declared.choice.RightHead.{RightHead}
 
 abbrev pub sign_right : t.Sign → RightHead
-sign_right t.Tilde = r.One unary.Not
-sign_right t.Minus = r.One unary.Neg
-sign_right t.Ampersand = r.One unary.AllOnes
-sign_right t.Bar = r.One unary.AnyOne
-sign_right t.Caret = r.One unary.Odd
-sign_right t.OpenBrace = r.Concat
+sign_right t.tilde = r.One unary.Not
+sign_right t.minus = r.One unary.Neg
+sign_right t.ampersand = r.One unary.AllOnes
+sign_right t.bar = r.One unary.AnyOne
+sign_right t.caret = r.One unary.Odd
+sign_right t.open_brace = r.Concat
 sign_right _ = r.Constant
 
 unfoldable pub right_head : Head → RightHead
@@ -25,19 +25,19 @@ right_head of_name = r.Name
 right_head _ = r.Constant
 
 abbrev pub sign_after : t.Sign → AfterHead
-sign_after t.Plus = a.Two binary.Add
-sign_after t.Minus = a.Two binary.Sub
-sign_after t.Star = a.Two binary.Mul
-sign_after t.Ampersand = a.Two binary.And
-sign_after t.Bar = a.Two binary.Or
-sign_after t.Caret = a.Two binary.Xor
-sign_after t.Equal = a.Two binary.Eq
-sign_after t.NotEqual = a.Two binary.Ne
-sign_after t.Less = a.Two binary.Lt
-sign_after t.LessOrEqual = a.Two binary.Le
-sign_after t.ShiftLeft = a.Two binary.Shl
-sign_after t.ShiftRight = a.Two binary.Shr
-sign_after t.Question = a.Choose
+sign_after t.plus = a.Two binary.Add
+sign_after t.minus = a.Two binary.Sub
+sign_after t.star = a.Two binary.Mul
+sign_after t.ampersand = a.Two binary.And
+sign_after t.bar = a.Two binary.Or
+sign_after t.caret = a.Two binary.Xor
+sign_after t.equal = a.Two binary.Eq
+sign_after t.not_equal = a.Two binary.Ne
+sign_after t.less = a.Two binary.Lt
+sign_after t.less_or_equal = a.Two binary.Le
+sign_after t.shift_left = a.Two binary.Shl
+sign_after t.shift_right = a.Two binary.Shr
+sign_after t.question = a.Choose
 sign_after _ = a.End
 
 unfoldable pub after_head : Head → AfterHead
@@ -45,11 +45,11 @@ after_head (of_sign sign) = sign_after sign
 after_head _ = a.End
 
 abbrev pub word_item : t.Word → ItemHead
-word_item t.Wire = i.Wire
-word_item t.Reg = i.Register
-word_item t.Integer = i.Integer
-word_item t.Assign = i.Assign
-word_item t.Initial = i.Initial
+word_item t.wire_word = i.Wire
+word_item t.reg_word = i.Register
+word_item t.integer_word = i.Integer
+word_item t.assign_word = i.Assign
+word_item t.initial_word = i.Initial
 word_item _ = i.Always
 
 unfoldable pub item_head : Head → ItemHead

@@ -15,14 +15,14 @@ use Rattle.sap_vparse.specs.declared.right.Behind.TheVariants as b
 
 -- `reg` or `wire`
 pub data IsOutput : List Token → Direction → List Token → Type 0 where
-  register : {ts r : List Token} → IsWord ts t.Reg r → IsOutput ts d.OutputRegister r
-  wire : {ts r : List Token} → IsWord ts t.Wire r → IsOutput ts d.OutputWire r
+  register : {ts r : List Token} → IsWord ts t.reg_word r → IsOutput ts d.OutputRegister r
+  wire : {ts r : List Token} → IsWord ts t.wire_word r → IsOutput ts d.OutputWire r
 
 -- the ports, each behind a comma, and `)`
 pub record PortsEnd (ts : List Token) (ps : List item.Port) (r : List Token) : Type 0 where
   pub last : List Token
   pub ports : ArePorts ts ps last
-  pub close : IsSign last t.CloseParen r
+  pub close : IsSign last t.close_paren r
 
 -- the operands that were added, each behind a comma, and `}`
 pub record PartsEnd (ts : List Token) (before after : List Operand) (r : List Token) : Type 0 where
@@ -30,21 +30,21 @@ pub record PartsEnd (ts : List Token) (before after : List Operand) (r : List To
   pub added : List item.Operand
   pub all : operands_of after ≡ operands_of before ++ added
   pub parts : AreParts ts added last
-  pub close : IsSign last t.CloseBrace r
+  pub close : IsSign last t.close_brace r
 
 -- a right side, and `;`
 pub record RightEnds (ts : List Token) (x : item.Right) (r : List Token) : Type 0 where
   pub last : List Token
   pub right : IsRight ts x last
-  pub close : IsSign last t.Semicolon r
+  pub close : IsSign last t.semicolon r
 
 -- what stands behind the first operand of a right side, up to the `;`
 pub data IsBehind : List Token → Behind → List Token → Type 0 where
-  nothing : {ts r : List Token} → IsSign ts t.Semicolon r → IsBehind ts b.Nothing r
-  two : {ts m n r : List Token} {y : Operand} (op : Op2) → IsSign ts (binary_sign op) m → IsOperand m (operand_of y) n → IsSign n t.Semicolon r
+  nothing : {ts r : List Token} → IsSign ts t.semicolon r → IsBehind ts b.Nothing r
+  two : {ts m n r : List Token} {y : Operand} (op : Op2) → IsSign ts (binary_sign op) m → IsOperand m (operand_of y) n → IsSign n t.semicolon r
       → IsBehind ts (b.Two op y) r
-  choose : {ts k l m n r : List Token} {y z : Operand} → IsSign ts t.Question k → IsOperand k (operand_of y) l → IsSign l t.Colon m → IsOperand m (operand_of z) n
-      → IsSign n t.Semicolon r → IsBehind ts (b.Choose y z) r
+  choose : {ts k l m n r : List Token} {y z : Operand} → IsSign ts t.question k → IsOperand k (operand_of y) l → IsSign l t.colon m → IsOperand m (operand_of z) n
+      → IsSign n t.semicolon r → IsBehind ts (b.Choose y z) r
 
 abbrev pub right_with : item.Operand → Behind → item.Right
 right_with x b.Nothing = item.copy x
@@ -53,12 +53,12 @@ right_with x (b.Choose y z) = item.choose x (operand_of y) (operand_of z)
 
 -- behind this name and `[`, the rest of a right side and `;`
 abbrev pub Indexes : Mention → List Token → item.Right → List Token → Type 0
-Indexes x old right new = (ts m : List Token) → IsName ts (mention_of x) m → IsSign m t.OpenBracket old → RightEnds ts right new
+Indexes x old right new = (ts m : List Token) → IsName ts (mention_of x) m → IsSign m t.open_bracket old → RightEnds ts right new
 
 -- behind `initial`, and behind `always` with its clock, the rest of an item
 
 abbrev pub AfterInitial : List Token → item.Item → List Token → Type 0
-AfterInitial old x new = (ts : List Token) → IsWord ts t.Initial old → IsItem ts x new
+AfterInitial old x new = (ts : List Token) → IsWord ts t.initial_word old → IsItem ts x new
 
 abbrev pub AfterClock : List Token → item.Item → List Token → Type 0
 AfterClock old x new = (ts : List Token) → IsClocked ts old → IsItem ts x new
@@ -67,4 +67,4 @@ AfterClock old x new = (ts : List Token) → IsClocked ts old → IsItem ts x ne
 pub record ItemsEnd (ts : List Token) (xs : List item.Item) (r : List Token) : Type 0 where
   pub last : List Token
   pub items : AreItems ts xs last
-  pub close : IsWord last t.Endmodule r
+  pub close : IsWord last t.endmodule_word r

@@ -224,7 +224,7 @@ impl<'a> Cursor<'a> {
 
     /// Takes this sign, and gives its place.
     pub fn sign(&mut self, sign: Sign) -> Result<u64, Fault>
-        ensures goes { Goes (s.Sign (sign_of sign)) self.old result self.new }
+        ensures goes { Goes (s.sign (sign_of sign)) self.old result self.new }
         ensures tree { IfOk result (λ _. IsSign self.old (sign_of sign) self.new) }
         ensures shorter { IfOk result (λ _. length self.new < length self.old) }
     {
@@ -236,7 +236,7 @@ impl<'a> Cursor<'a> {
 
     /// Takes this word, and gives its place.
     pub fn word(&mut self, word: Word) -> Result<u64, Fault>
-        ensures goes { Goes (s.Word (word_of word)) self.old result self.new }
+        ensures goes { Goes (s.word (word_of word)) self.old result self.new }
         ensures tree { IfOk result (λ _. IsWord self.old (word_of word) self.new) }
         ensures there { IfOk result (λ place. t.IsToken self.old place (t.word (word_of word)) self.new) }
         ensures shorter { IfOk result (λ _. length self.new < length self.old) }
@@ -249,7 +249,7 @@ impl<'a> Cursor<'a> {
 
     /// Takes a number.
     pub fn number(&mut self) -> Result<Number, Fault>
-        ensures goes { Goes s.Number self.old result self.new }
+        ensures goes { Goes s.number self.old result self.new }
         ensures tree { IfOk result (λ n. IsNumber self.old (number_of n) self.new) }
         ensures shorter { IfOk result (λ _. length self.new < length self.old) }
     {
@@ -264,7 +264,7 @@ impl<'a> Cursor<'a> {
 
     /// Takes this number, written with one digit, and gives its place.
     pub fn digit(&mut self, digit: u64) -> Result<u64, Fault>
-        ensures goes { Goes (s.Digit digit) self.old result self.new }
+        ensures goes { Goes (s.digit digit) self.old result self.new }
         ensures tree { IfOk result (λ _. IsDigit self.old digit self.new) }
         ensures shorter { IfOk result (λ _. length self.new < length self.old) }
     {
@@ -282,7 +282,7 @@ impl<'a> Cursor<'a> {
 
     /// Takes a constant.
     pub fn constant(&mut self) -> Result<Constant, Fault>
-        ensures goes { Goes s.Constant self.old result self.new }
+        ensures goes { Goes s.constant self.old result self.new }
         ensures tree { IfOk result (λ c. IsConstant self.old (constant_of c) self.new) }
         ensures shorter { IfOk result (λ _. length self.new < length self.old) }
     {
@@ -301,7 +301,7 @@ impl<'a> Cursor<'a> {
 
     /// Takes a name.
     pub fn name(&mut self, alloc: Global) -> Result<Mention, Fault>
-        ensures goes { Goes s.Name self.old result self.new }
+        ensures goes { Goes s.name self.old result self.new }
         ensures tree { IfOk result (λ x. IsName self.old (mention_of x) self.new) }
         ensures shorter { IfOk result (λ _. length self.new < length self.old) }
     {

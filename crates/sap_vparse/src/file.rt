@@ -17,7 +17,7 @@ use std::alloc::Global;
 /// The end of the tokens; gives 0.
 #[tactic(auto, using(crate::proofs::Walks::ending))]
 fn end(tokens: &mut Cursor<'_>) -> Result<u64, Fault>
-    ensures goes { Goes s.End tokens.old result tokens.new }
+    ensures goes { Goes s.end tokens.old result tokens.new }
     ensures end { IfOk result (λ _. tokens.old ≡ []) }
     ensures stays { tokens.new ≡ tokens.old }
 {
@@ -31,7 +31,7 @@ fn end(tokens: &mut Cursor<'_>) -> Result<u64, Fault>
 /// The items up to `endmodule`, and the end.
 #[tactic(auto, using(crate::proofs::Walks::item_list))]
 fn items(alloc: Global, tokens: &mut Cursor<'_>) -> Result<Vec<Item>, Fault>
-    ensures goes { Goes s.Items tokens.old result tokens.new }
+    ensures goes { Goes s.items tokens.old result tokens.new }
     ensures tree { IfOk result (λ list. ItemsEnd tokens.old (items_of list.items) tokens.new) }
     ensures end { IfOk result (λ _. tokens.new ≡ []) }
 {
@@ -48,7 +48,7 @@ fn items(alloc: Global, tokens: &mut Cursor<'_>) -> Result<Vec<Item>, Fault>
 /// A whole file.
 #[tactic(auto, using(crate::proofs::Walks::files))]
 pub fn file(alloc: Global, tokens: &mut Cursor<'_>) -> Result<File, Fault>
-    ensures goes { Goes s.File tokens.old result tokens.new }
+    ensures goes { Goes s.file tokens.old result tokens.new }
     ensures tree { IfOk result (λ f. IsFile tokens.old (file_of f) tokens.new) }
     ensures end { IfOk result (λ _. tokens.new ≡ []) }
 {

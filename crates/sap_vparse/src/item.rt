@@ -20,7 +20,7 @@ use std::alloc::Global;
 #[tactic(auto, using(crate::proofs::Walks::wires))]
 fn wire(alloc: Global, tokens: &mut Cursor<'_>) -> Result<Item, Fault>
     requires { item_head (head tokens.old) ≡ ItemHead.Wire }
-    ensures goes { Goes s.Item tokens.old result tokens.new }
+    ensures goes { Goes s.item tokens.old result tokens.new }
     ensures tree { IfOk result (λ x. IsItem tokens.old (item_of x) tokens.new) }
     ensures shorter { IfOk result (λ _. length tokens.new < length tokens.old) }
 {
@@ -35,7 +35,7 @@ fn wire(alloc: Global, tokens: &mut Cursor<'_>) -> Result<Item, Fault>
 #[tactic(auto, using(crate::proofs::Walks::registers))]
 fn register(alloc: Global, tokens: &mut Cursor<'_>) -> Result<Item, Fault>
     requires { item_head (head tokens.old) ≡ ItemHead.Register }
-    ensures goes { Goes s.Item tokens.old result tokens.new }
+    ensures goes { Goes s.item tokens.old result tokens.new }
     ensures tree { IfOk result (λ x. IsItem tokens.old (item_of x) tokens.new) }
     ensures shorter { IfOk result (λ _. length tokens.new < length tokens.old) }
 {
@@ -58,7 +58,7 @@ fn register(alloc: Global, tokens: &mut Cursor<'_>) -> Result<Item, Fault>
 #[tactic(auto, using(crate::proofs::Walks::integers))]
 fn integer(tokens: &mut Cursor<'_>) -> Result<Item, Fault>
     requires { item_head (head tokens.old) ≡ ItemHead.Integer }
-    ensures goes { Goes s.Item tokens.old result tokens.new }
+    ensures goes { Goes s.item tokens.old result tokens.new }
     ensures tree { IfOk result (λ x. IsItem tokens.old (item_of x) tokens.new) }
     ensures shorter { IfOk result (λ _. length tokens.new < length tokens.old) }
 {
@@ -71,7 +71,7 @@ fn integer(tokens: &mut Cursor<'_>) -> Result<Item, Fault>
 #[tactic(auto, using(crate::proofs::Walks::assigns))]
 fn assign(alloc: Global, tokens: &mut Cursor<'_>) -> Result<Item, Fault>
     requires { item_head (head tokens.old) ≡ ItemHead.Assign }
-    ensures goes { Goes s.Item tokens.old result tokens.new }
+    ensures goes { Goes s.item tokens.old result tokens.new }
     ensures tree { IfOk result (λ x. IsItem tokens.old (item_of x) tokens.new) }
     ensures shorter { IfOk result (λ _. length tokens.new < length tokens.old) }
 {
@@ -86,7 +86,7 @@ fn assign(alloc: Global, tokens: &mut Cursor<'_>) -> Result<Item, Fault>
 #[tactic(auto, using(crate::proofs::Walks::starts))]
 fn start(alloc: Global, tokens: &mut Cursor<'_>) -> Result<Item, Fault>
     requires { head tokens.old ≡ of_name }
-    ensures goes { Goes s.AfterInitial tokens.old result tokens.new }
+    ensures goes { Goes s.after_initial tokens.old result tokens.new }
     ensures tree { IfOk result (λ x. AfterInitial tokens.old (item_of x) tokens.new) }
     ensures shorter { IfOk result (λ _. length tokens.new < length tokens.old) }
 {
@@ -106,7 +106,7 @@ struct Head {
 
 #[tactic(auto, using(crate::proofs::Walks::loops))]
 fn for_head(tokens: &mut Cursor<'_>) -> Result<Head, Fault>
-    ensures goes { Goes s.Loop tokens.old result tokens.new }
+    ensures goes { Goes s.loop tokens.old result tokens.new }
     ensures tree { IfOk result (λ x. IsLoop tokens.old x.place (number_of x.bound) tokens.new) }
     ensures shorter { IfOk result (λ _. length tokens.new < length tokens.old) }
 {
@@ -133,7 +133,7 @@ fn for_head(tokens: &mut Cursor<'_>) -> Result<Head, Fault>
 #[tactic(auto, using(crate::proofs::Walks::contents))]
 fn cells(alloc: Global, tokens: &mut Cursor<'_>) -> Result<Item, Fault>
     requires { head tokens.old ≢ of_name }
-    ensures goes { Goes s.AfterInitial tokens.old result tokens.new }
+    ensures goes { Goes s.after_initial tokens.old result tokens.new }
     ensures tree { IfOk result (λ x. AfterInitial tokens.old (item_of x) tokens.new) }
     ensures shorter { IfOk result (λ _. length tokens.new < length tokens.old) }
 {
@@ -150,7 +150,7 @@ fn cells(alloc: Global, tokens: &mut Cursor<'_>) -> Result<Item, Fault>
 
 /// What stands behind `initial`.
 fn contents(alloc: Global, tokens: &mut Cursor<'_>) -> Result<Item, Fault>
-    ensures goes { Goes s.AfterInitial tokens.old result tokens.new }
+    ensures goes { Goes s.after_initial tokens.old result tokens.new }
     ensures tree { IfOk result (λ x. AfterInitial tokens.old (item_of x) tokens.new) }
     ensures shorter { IfOk result (λ _. length tokens.new < length tokens.old) }
 {
@@ -164,7 +164,7 @@ fn contents(alloc: Global, tokens: &mut Cursor<'_>) -> Result<Item, Fault>
 #[tactic(auto, using(crate::proofs::Walks::initials))]
 fn initial(alloc: Global, tokens: &mut Cursor<'_>) -> Result<Item, Fault>
     requires { item_head (head tokens.old) ≡ ItemHead.Initial }
-    ensures goes { Goes s.Item tokens.old result tokens.new }
+    ensures goes { Goes s.item tokens.old result tokens.new }
     ensures tree { IfOk result (λ x. IsItem tokens.old (item_of x) tokens.new) }
     ensures shorter { IfOk result (λ _. length tokens.new < length tokens.old) }
 {
@@ -176,7 +176,7 @@ fn initial(alloc: Global, tokens: &mut Cursor<'_>) -> Result<Item, Fault>
 /// `always`, and the clock; gives the place behind it.
 #[tactic(auto, using(crate::proofs::Walks::clocks))]
 fn clocked(tokens: &mut Cursor<'_>) -> Result<u64, Fault>
-    ensures goes { Goes s.Clocked tokens.old result tokens.new }
+    ensures goes { Goes s.clocked tokens.old result tokens.new }
     ensures tree { IfOk result (λ _. IsClocked tokens.old tokens.new) }
     ensures shorter { IfOk result (λ _. length tokens.new < length tokens.old) }
 {
@@ -193,7 +193,7 @@ fn clocked(tokens: &mut Cursor<'_>) -> Result<u64, Fault>
 #[tactic(auto, using(crate::proofs::Walks::updates))]
 fn update(alloc: Global, tokens: &mut Cursor<'_>) -> Result<Item, Fault>
     requires { head tokens.old ≡ of_name }
-    ensures goes { Goes s.AfterClock tokens.old result tokens.new }
+    ensures goes { Goes s.after_clock tokens.old result tokens.new }
     ensures tree { IfOk result (λ x. AfterClock tokens.old (item_of x) tokens.new) }
     ensures shorter { IfOk result (λ _. length tokens.new < length tokens.old) }
 {
@@ -208,7 +208,7 @@ fn update(alloc: Global, tokens: &mut Cursor<'_>) -> Result<Item, Fault>
 #[tactic(auto, using(crate::proofs::Walks::writes))]
 fn write(alloc: Global, tokens: &mut Cursor<'_>) -> Result<Item, Fault>
     requires { head tokens.old ≢ of_name }
-    ensures goes { Goes s.AfterClock tokens.old result tokens.new }
+    ensures goes { Goes s.after_clock tokens.old result tokens.new }
     ensures tree { IfOk result (λ x. AfterClock tokens.old (item_of x) tokens.new) }
     ensures shorter { IfOk result (λ _. length tokens.new < length tokens.old) }
 {
@@ -233,7 +233,7 @@ fn write(alloc: Global, tokens: &mut Cursor<'_>) -> Result<Item, Fault>
 
 /// What stands behind the clock.
 fn next_contents(alloc: Global, tokens: &mut Cursor<'_>) -> Result<Item, Fault>
-    ensures goes { Goes s.AfterClock tokens.old result tokens.new }
+    ensures goes { Goes s.after_clock tokens.old result tokens.new }
     ensures tree { IfOk result (λ x. AfterClock tokens.old (item_of x) tokens.new) }
     ensures shorter { IfOk result (λ _. length tokens.new < length tokens.old) }
 {
@@ -247,7 +247,7 @@ fn next_contents(alloc: Global, tokens: &mut Cursor<'_>) -> Result<Item, Fault>
 #[tactic(auto, using(crate::proofs::Walks::always))]
 fn always(alloc: Global, tokens: &mut Cursor<'_>) -> Result<Item, Fault>
     requires { item_head (head tokens.old) ≡ ItemHead.Always }
-    ensures goes { Goes s.Item tokens.old result tokens.new }
+    ensures goes { Goes s.item tokens.old result tokens.new }
     ensures tree { IfOk result (λ x. IsItem tokens.old (item_of x) tokens.new) }
     ensures shorter { IfOk result (λ _. length tokens.new < length tokens.old) }
 {
@@ -258,7 +258,7 @@ fn always(alloc: Global, tokens: &mut Cursor<'_>) -> Result<Item, Fault>
 
 /// An item.
 pub fn item(alloc: Global, tokens: &mut Cursor<'_>) -> Result<Item, Fault>
-    ensures goes { Goes s.Item tokens.old result tokens.new }
+    ensures goes { Goes s.item tokens.old result tokens.new }
     ensures tree { IfOk result (λ x. IsItem tokens.old (item_of x) tokens.new) }
     ensures shorter { IfOk result (λ _. length tokens.new < length tokens.old) }
 {

@@ -13,7 +13,7 @@ use std::alloc::Global;
 /// A name or a constant.
 #[tactic(auto, using(crate::proofs::Walks::operands))]
 pub fn operand(alloc: Global, tokens: &mut Cursor<'_>) -> Result<Box<Operand>, Fault>
-    ensures goes { Goes s.Operand tokens.old result tokens.new }
+    ensures goes { Goes s.operand tokens.old result tokens.new }
     ensures tree { IfOk result (λ x. IsOperand tokens.old (operand_of x.value) tokens.new) }
     ensures shorter { IfOk result (λ _. length tokens.new < length tokens.old) }
 {

@@ -16,7 +16,7 @@ use std::alloc::Global;
 /// The number of a range.
 #[tactic(auto, using(crate::proofs::Walks::ranges))]
 pub fn range(tokens: &mut Cursor<'_>) -> Result<Number, Fault>
-    ensures goes { Goes s.Range tokens.old result tokens.new }
+    ensures goes { Goes s.range tokens.old result tokens.new }
     ensures tree { IfOk result (λ n. IsRange tokens.old (number_of n) tokens.new) }
     ensures shorter { IfOk result (λ _. length tokens.new < length tokens.old) }
 {
@@ -31,7 +31,7 @@ pub fn range(tokens: &mut Cursor<'_>) -> Result<Number, Fault>
 /// `reg` or `wire`.
 #[tactic(auto, using(crate::proofs::Walks::kinds))]
 fn output_kind(tokens: &mut Cursor<'_>) -> Result<Direction, Fault>
-    ensures goes { Goes s.OutputKind tokens.old result tokens.new }
+    ensures goes { Goes s.output_kind tokens.old result tokens.new }
     ensures tree { IfOk result (λ d. IsOutput tokens.old d tokens.new) }
     ensures shorter { IfOk result (λ _. length tokens.new < length tokens.old) }
 {
@@ -45,8 +45,8 @@ fn output_kind(tokens: &mut Cursor<'_>) -> Result<Direction, Fault>
 
 #[tactic(auto, using(crate::proofs::Walks::inputs))]
 fn input(alloc: Global, tokens: &mut Cursor<'_>) -> Result<Port, Fault>
-    requires { head tokens.old ≡ of_word t.Input }
-    ensures goes { Goes s.Port tokens.old result tokens.new }
+    requires { head tokens.old ≡ of_word t.input_word }
+    ensures goes { Goes s.port tokens.old result tokens.new }
     ensures tree { IfOk result (λ p. IsPort tokens.old (port_of p) tokens.new) }
     ensures shorter { IfOk result (λ _. length tokens.new < length tokens.old) }
 {
@@ -62,8 +62,8 @@ fn input(alloc: Global, tokens: &mut Cursor<'_>) -> Result<Port, Fault>
 
 #[tactic(auto, using(crate::proofs::Walks::outputs))]
 fn output(alloc: Global, tokens: &mut Cursor<'_>) -> Result<Port, Fault>
-    requires { head tokens.old ≢ of_word t.Input }
-    ensures goes { Goes s.Port tokens.old result tokens.new }
+    requires { head tokens.old ≢ of_word t.input_word }
+    ensures goes { Goes s.port tokens.old result tokens.new }
     ensures tree { IfOk result (λ p. IsPort tokens.old (port_of p) tokens.new) }
     ensures shorter { IfOk result (λ _. length tokens.new < length tokens.old) }
 {
@@ -79,7 +79,7 @@ fn output(alloc: Global, tokens: &mut Cursor<'_>) -> Result<Port, Fault>
 }
 
 fn port(alloc: Global, tokens: &mut Cursor<'_>) -> Result<Port, Fault>
-    ensures goes { Goes s.Port tokens.old result tokens.new }
+    ensures goes { Goes s.port tokens.old result tokens.new }
     ensures tree { IfOk result (λ p. IsPort tokens.old (port_of p) tokens.new) }
     ensures shorter { IfOk result (λ _. length tokens.new < length tokens.old) }
 {
@@ -93,7 +93,7 @@ fn port(alloc: Global, tokens: &mut Cursor<'_>) -> Result<Port, Fault>
 /// The ports that come next, and `)`.
 #[tactic(auto, using(crate::proofs::Walks::port_list))]
 pub fn ports(alloc: Global, tokens: &mut Cursor<'_>) -> Result<Vec<Port>, Fault>
-    ensures goes { Goes s.Ports tokens.old result tokens.new }
+    ensures goes { Goes s.ports tokens.old result tokens.new }
     ensures tree { IfOk result (λ list. PortsEnd tokens.old (ports_of list.items) tokens.new) }
     ensures shorter { IfOk result (λ _. length tokens.new < length tokens.old) }
 {

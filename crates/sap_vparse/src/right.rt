@@ -36,7 +36,7 @@ fn joined(first: Operand, behind: Behind) -> Right
 
 /// The sign of a binary operator; gives its place.
 fn binary(tokens: &mut Cursor<'_>, op: Op2) -> Result<u64, Fault>
-    ensures goes { Goes (s.Sign (g.binary_sign op)) tokens.old result tokens.new }
+    ensures goes { Goes (s.sign (g.binary_sign op)) tokens.old result tokens.new }
     ensures tree { IfOk result (λ _. g.IsSign tokens.old (g.binary_sign op) tokens.new) }
     ensures shorter { IfOk result (λ _. length tokens.new < length tokens.old) }
 {
@@ -46,7 +46,7 @@ fn binary(tokens: &mut Cursor<'_>, op: Op2) -> Result<u64, Fault>
 #[tactic(auto)]
 fn two(alloc: Global, tokens: &mut Cursor<'_>, op: Op2) -> Result<Behind, Fault>
     requires { after_head (head tokens.old) ≡ AfterHead.Two op }
-    ensures goes { Goes s.AfterOperand tokens.old result tokens.new }
+    ensures goes { Goes s.after_operand tokens.old result tokens.new }
     ensures tree { IfOk result (λ x. IsBehind tokens.old x tokens.new) }
     ensures shorter { IfOk result (λ _. length tokens.new < length tokens.old) }
 {
@@ -59,7 +59,7 @@ fn two(alloc: Global, tokens: &mut Cursor<'_>, op: Op2) -> Result<Behind, Fault>
 #[tactic(auto, using(crate::proofs::Walks::choices))]
 fn choose(alloc: Global, tokens: &mut Cursor<'_>) -> Result<Behind, Fault>
     requires { after_head (head tokens.old) ≡ AfterHead.Choose }
-    ensures goes { Goes s.AfterOperand tokens.old result tokens.new }
+    ensures goes { Goes s.after_operand tokens.old result tokens.new }
     ensures tree { IfOk result (λ x. IsBehind tokens.old x tokens.new) }
     ensures shorter { IfOk result (λ _. length tokens.new < length tokens.old) }
 {
@@ -74,7 +74,7 @@ fn choose(alloc: Global, tokens: &mut Cursor<'_>) -> Result<Behind, Fault>
 #[tactic(auto, using(crate::proofs::Walks::ends))]
 fn end(tokens: &mut Cursor<'_>) -> Result<Behind, Fault>
     requires { after_head (head tokens.old) ≡ AfterHead.End }
-    ensures goes { Goes s.AfterOperand tokens.old result tokens.new }
+    ensures goes { Goes s.after_operand tokens.old result tokens.new }
     ensures tree { IfOk result (λ x. IsBehind tokens.old x tokens.new) }
     ensures shorter { IfOk result (λ _. length tokens.new < length tokens.old) }
 {
@@ -83,7 +83,7 @@ fn end(tokens: &mut Cursor<'_>) -> Result<Behind, Fault>
 }
 
 fn after_operand(alloc: Global, tokens: &mut Cursor<'_>) -> Result<Behind, Fault>
-    ensures goes { Goes s.AfterOperand tokens.old result tokens.new }
+    ensures goes { Goes s.after_operand tokens.old result tokens.new }
     ensures tree { IfOk result (λ x. IsBehind tokens.old x tokens.new) }
     ensures shorter { IfOk result (λ _. length tokens.new < length tokens.old) }
 {
@@ -98,7 +98,7 @@ fn after_operand(alloc: Global, tokens: &mut Cursor<'_>) -> Result<Behind, Fault
 #[tactic(auto, using(crate::proofs::Walks::slices))]
 fn slice(tokens: &mut Cursor<'_>, name: Mention) -> Result<Right, Fault>
     requires { head tokens.old ≡ of_number }
-    ensures goes { Goes s.AfterBracket tokens.old result tokens.new }
+    ensures goes { Goes s.after_bracket tokens.old result tokens.new }
     ensures tree { IfOk result (λ x. Indexes name tokens.old (right_of x) tokens.new) }
     ensures shorter { IfOk result (λ _. length tokens.new < length tokens.old) }
 {
@@ -114,7 +114,7 @@ fn slice(tokens: &mut Cursor<'_>, name: Mention) -> Result<Right, Fault>
 #[tactic(auto, using(crate::proofs::Walks::cells))]
 fn cell(alloc: Global, tokens: &mut Cursor<'_>, name: Mention) -> Result<Right, Fault>
     requires { head tokens.old ≢ of_number }
-    ensures goes { Goes s.AfterBracket tokens.old result tokens.new }
+    ensures goes { Goes s.after_bracket tokens.old result tokens.new }
     ensures tree { IfOk result (λ x. Indexes name tokens.old (right_of x) tokens.new) }
     ensures shorter { IfOk result (λ _. length tokens.new < length tokens.old) }
 {
@@ -125,7 +125,7 @@ fn cell(alloc: Global, tokens: &mut Cursor<'_>, name: Mention) -> Result<Right, 
 }
 
 fn indexed(alloc: Global, tokens: &mut Cursor<'_>, name: Mention) -> Result<Right, Fault>
-    ensures goes { Goes s.AfterBracket tokens.old result tokens.new }
+    ensures goes { Goes s.after_bracket tokens.old result tokens.new }
     ensures tree { IfOk result (λ x. Indexes name tokens.old (right_of x) tokens.new) }
     ensures shorter { IfOk result (λ _. length tokens.new < length tokens.old) }
 {
@@ -139,7 +139,7 @@ fn indexed(alloc: Global, tokens: &mut Cursor<'_>, name: Mention) -> Result<Righ
 #[tactic(auto, using(crate::proofs::Walks::names))]
 fn from_name(alloc: Global, tokens: &mut Cursor<'_>) -> Result<Right, Fault>
     requires { right_head (head tokens.old) ≡ RightHead.Name }
-    ensures goes { Goes s.Right tokens.old result tokens.new }
+    ensures goes { Goes s.right tokens.old result tokens.new }
     ensures tree { IfOk result (λ x. RightEnds tokens.old (right_of x) tokens.new) }
     ensures shorter { IfOk result (λ _. length tokens.new < length tokens.old) }
 {
@@ -156,7 +156,7 @@ fn from_name(alloc: Global, tokens: &mut Cursor<'_>) -> Result<Right, Fault>
 #[tactic(auto, using(crate::proofs::Walks::constants))]
 fn from_constant(alloc: Global, tokens: &mut Cursor<'_>) -> Result<Right, Fault>
     requires { right_head (head tokens.old) ≡ RightHead.Constant }
-    ensures goes { Goes s.Right tokens.old result tokens.new }
+    ensures goes { Goes s.right tokens.old result tokens.new }
     ensures tree { IfOk result (λ x. RightEnds tokens.old (right_of x) tokens.new) }
     ensures shorter { IfOk result (λ _. length tokens.new < length tokens.old) }
 {
@@ -167,7 +167,7 @@ fn from_constant(alloc: Global, tokens: &mut Cursor<'_>) -> Result<Right, Fault>
 
 /// The sign of a unary operator; gives its place.
 fn unary(tokens: &mut Cursor<'_>, op: Op1) -> Result<u64, Fault>
-    ensures goes { Goes (s.Sign (g.unary_sign op)) tokens.old result tokens.new }
+    ensures goes { Goes (s.sign (g.unary_sign op)) tokens.old result tokens.new }
     ensures tree { IfOk result (λ _. g.IsSign tokens.old (g.unary_sign op) tokens.new) }
     ensures shorter { IfOk result (λ _. length tokens.new < length tokens.old) }
 {
@@ -177,7 +177,7 @@ fn unary(tokens: &mut Cursor<'_>, op: Op1) -> Result<u64, Fault>
 #[tactic(auto)]
 fn one(alloc: Global, tokens: &mut Cursor<'_>, op: Op1) -> Result<Right, Fault>
     requires { right_head (head tokens.old) ≡ RightHead.One op }
-    ensures goes { Goes s.Right tokens.old result tokens.new }
+    ensures goes { Goes s.right tokens.old result tokens.new }
     ensures tree { IfOk result (λ x. RightEnds tokens.old (right_of x) tokens.new) }
     ensures shorter { IfOk result (λ _. length tokens.new < length tokens.old) }
 {
@@ -190,7 +190,7 @@ fn one(alloc: Global, tokens: &mut Cursor<'_>, op: Op1) -> Result<Right, Fault>
 /// Adds the operands that come next, and takes `}`; gives its place.
 #[tactic(auto, using(crate::proofs::Walks::part_list))]
 fn parts(alloc: Global, tokens: &mut Cursor<'_>, list: &mut Vec<Operand>) -> Result<u64, Fault>
-    ensures goes { Goes s.Parts tokens.old result tokens.new }
+    ensures goes { Goes s.parts tokens.old result tokens.new }
     ensures tree { IfOk result (λ _. PartsEnd tokens.old list.old.items list.new.items tokens.new) }
     ensures shorter { IfOk result (λ _. length tokens.new < length tokens.old) }
 {
@@ -206,7 +206,7 @@ fn parts(alloc: Global, tokens: &mut Cursor<'_>, list: &mut Vec<Operand>) -> Res
 #[tactic(auto, using(crate::proofs::Walks::braces))]
 fn concat(alloc: Global, tokens: &mut Cursor<'_>) -> Result<Right, Fault>
     requires { right_head (head tokens.old) ≡ RightHead.Concat }
-    ensures goes { Goes s.Right tokens.old result tokens.new }
+    ensures goes { Goes s.right tokens.old result tokens.new }
     ensures tree { IfOk result (λ x. RightEnds tokens.old (right_of x) tokens.new) }
     ensures shorter { IfOk result (λ _. length tokens.new < length tokens.old) }
 {
@@ -224,7 +224,7 @@ fn concat(alloc: Global, tokens: &mut Cursor<'_>) -> Result<Right, Fault>
 
 /// A right side, and `;`.
 pub fn right(alloc: Global, tokens: &mut Cursor<'_>) -> Result<Right, Fault>
-    ensures goes { Goes s.Right tokens.old result tokens.new }
+    ensures goes { Goes s.right tokens.old result tokens.new }
     ensures tree { IfOk result (λ x. RightEnds tokens.old (right_of x) tokens.new) }
     ensures shorter { IfOk result (λ _. length tokens.new < length tokens.old) }
 {

@@ -99,11 +99,11 @@ concat_same p q x y found zs e = ap item.concat (cons_same (bare_operand_at p x)
 
 -- behind the first two parts
 concat_read : (from : ℕ) (x y : Operand) (zs : List Operand) (qs : List Piece)
-    → ReadRight (tokens_at from (sign t.OpenBrace ∷ operand x ∷ sign t.Comma ∷ space ∷ operand y ∷ (flat_map part_pieces zs ++ (sign t.CloseBrace ∷ qs)))) (item.concat (x ∷ y ∷ zs)) qs
+    → ReadRight (tokens_at from (sign t.open_brace ∷ operand x ∷ sign t.comma ∷ space ∷ operand y ∷ (flat_map part_pieces zs ++ (sign t.close_brace ∷ qs)))) (item.concat (x ∷ y ∷ zs)) qs
 concat_read from x y zs qs =
     let p = from + 1 in
     let q = ((p + length (operand_text x)) + 1) + 1 in
-    let others = parts_read (q + length (operand_text y)) zs (sign t.CloseBrace ∷ qs) in
+    let others = parts_read (q + length (operand_text y)) zs (sign t.close_brace ∷ qs) in
     record {
       at = others.at + 1;
       found = item.concat (operand_at p x ∷ operand_at q y ∷ others.found);
@@ -132,8 +132,8 @@ right_read from (item.choose c x y) qs h =
 right_read from (item.concat []) qs h = absurd h
 right_read from (item.concat (x ∷ [])) qs h = absurd h
 right_read from (item.concat (x ∷ y ∷ zs)) qs h =
-    let e = append_assoc (flat_map part_pieces zs) (sign t.CloseBrace ∷ []) qs in
-    subst (λ rest. ReadRight (tokens_at from (sign t.OpenBrace ∷ operand x ∷ sign t.Comma ∷ space ∷ operand y ∷ rest)) (item.concat (x ∷ y ∷ zs)) qs) (sym e) (concat_read from x y zs qs)
+    let e = append_assoc (flat_map part_pieces zs) (sign t.close_brace ∷ []) qs in
+    subst (λ rest. ReadRight (tokens_at from (sign t.open_brace ∷ operand x ∷ sign t.comma ∷ space ∷ operand y ∷ rest)) (item.concat (x ∷ y ∷ zs)) qs) (sym e) (concat_read from x y zs qs)
 right_read from (item.slice x high low) qs h =
     record {
       at = _;
@@ -161,10 +161,10 @@ IsWhole (item.assign x right) = HasParts right
 IsWhole _ = Unit {0}
 
 assign_read : (from : ℕ) (x : Mention) (right : Right) (qs : List Piece) → HasParts right
-    → ReadItem (tokens_at from (word t.Assign ∷ space ∷ name x.name ∷ space ∷ sign t.Is ∷ space ∷ (right_pieces right ++ (sign t.Semicolon ∷ line ∷ qs)))) (item.assign x right) qs
+    → ReadItem (tokens_at from (word t.assign_word ∷ space ∷ name x.name ∷ space ∷ sign t.is ∷ space ∷ (right_pieces right ++ (sign t.semicolon ∷ line ∷ qs)))) (item.assign x right) qs
 assign_read from x right qs h =
     let p = (from + 6) + 1 in
-    let read = right_read ((((p + length x.name) + 1) + 1) + 1) right (sign t.Semicolon ∷ line ∷ qs) h in
+    let read = right_read ((((p + length x.name) + 1) + 1) + 1) right (sign t.semicolon ∷ line ∷ qs) h in
     record {
       at = (read.at + 1) + 1;
       found = item.assign (name_at p x.name) read.found;
@@ -202,8 +202,8 @@ item_read from (item.memory n x last) qs h = record {
 }
 item_read from (item.integer place) qs h = record { at = _; found = item.integer _; is = g.integer (word_at refl) (word_here refl) (sign_here refl); same = refl }
 item_read from (item.assign x right) qs h =
-    let e = append_assoc (right_pieces right) (sign t.Semicolon ∷ line ∷ []) qs in
-    subst (λ rest. ReadItem (tokens_at from (word t.Assign ∷ space ∷ name x.name ∷ space ∷ sign t.Is ∷ space ∷ rest)) (item.assign x right) qs) (sym e) (assign_read from x right qs h)
+    let e = append_assoc (right_pieces right) (sign t.semicolon ∷ line ∷ []) qs in
+    subst (λ rest. ReadItem (tokens_at from (word t.assign_word ∷ space ∷ name x.name ∷ space ∷ sign t.is ∷ space ∷ rest)) (item.assign x right) qs) (sym e) (assign_read from x right qs h)
 item_read from (item.initial x value) qs h = record {
   at = _;
   found = item.initial (name_at _ x.name) (constant_at _ value);
@@ -252,7 +252,7 @@ items_read from (x ∷ xs) qs h =
 record ReadPort (ts : List Token) (x : Port) (qs : List Piece) : Type 0 where
   at : ℕ
   comma : List Token
-  behind : IsSign ts t.Comma comma
+  behind : IsSign ts t.comma comma
   found : Port
   is : IsPort comma found (tokens_at at qs)
   same : bare_port found ≡ bare_port x

@@ -24,8 +24,8 @@ ends_run q = is_blank q
 
 -- the second may stand right behind the first
 abbrev pub may_follow : Piece → Piece → Bool
-may_follow (sign t.Is) q = is_blank q
-may_follow (sign t.Less) q = is_blank q
+may_follow (sign t.is) q = is_blank q
+may_follow (sign t.less) q = is_blank q
 may_follow (sign s) q = true
 may_follow space q = true
 may_follow line q = true
@@ -68,7 +68,7 @@ tokens_at from (operand x ∷ ps) = at_place from (kind_of_operand x) ∷ tokens
 
 -- no piece joins what may follow it
 behind_sign : (s : Sign) (rest : List ℕ) → (is_inner (slice_index (sign_text s ++ rest) 0) || eqb (slice_index (sign_text s ++ rest) 0) 39) ≡ false
-behind_sign t.OpenParen rest = refl
+behind_sign t.open_paren rest = refl
 behind_sign _ rest = refl
 
 behind_run : (q : Piece) (rest : List ℕ) → ends_run q ≡ true → (is_inner (slice_index (piece_text q ++ rest) 0) || eqb (slice_index (piece_text q ++ rest) 0) 39) ≡ false
@@ -85,11 +85,11 @@ behind_run (operand x) rest h = absurd (cc)
 behind_open : (s : Sign) (q : Piece) (rest : List ℕ) → is_blank q ≡ true → clings (sign s) (slice_index (piece_text q ++ rest) 0) ≡ false
 behind_open s space rest h = blank_byte s where
   blank_byte : (s : Sign) → clings (sign s) 32 ≡ false
-  blank_byte t.Is = refl
+  blank_byte t.is = refl
   blank_byte _ = refl
 behind_open s line rest h = line_byte s where
   line_byte : (s : Sign) → clings (sign s) 10 ≡ false
-  line_byte t.Is = refl
+  line_byte t.is = refl
   line_byte _ = refl
 behind_open s zero rest h = absurd (cc)
 behind_open s one rest h = absurd (cc)
@@ -100,8 +100,8 @@ behind_open s (number n) rest h = absurd (cc)
 behind_open s (operand x) rest h = absurd (cc)
 
 sign_apart : (s : Sign) (q : Piece) (rest : List ℕ) → may_follow (sign s) q ≡ true → clings (sign s) (slice_index (piece_text q ++ rest) 0) ≡ false
-sign_apart t.Is q rest h = behind_open t.Is q rest h
-sign_apart t.Less q rest h = behind_open t.Less q rest h
+sign_apart t.is q rest h = behind_open t.is q rest h
+sign_apart t.less q rest h = behind_open t.less q rest h
 sign_apart _ q rest h = refl
 
 apart : (p q : Piece) (rest : List ℕ) → may_follow p q ≡ true → clings p (slice_index (piece_text q ++ rest) 0) ≡ false
@@ -114,8 +114,8 @@ apart _ q rest h = behind_run q rest h
 behind : (p : Piece) (qs : List Piece) → follows p qs ≡ true → clings p (slice_index (text_of qs) 0) ≡ false
 behind p [] h = at_end p where
   at_end : (p : Piece) → clings p 0 ≡ false
-  at_end (sign t.Is) = refl
-  at_end (sign t.Less) = refl
+  at_end (sign t.is) = refl
+  at_end (sign t.less) = refl
   at_end (sign s) = refl
   at_end _ = refl
 behind p (q ∷ qs) h = apart p q (text_of qs) h

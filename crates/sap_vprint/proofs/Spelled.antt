@@ -21,8 +21,8 @@ use Rattle.sap_vprint.specs.Text.{Piece, space, line, zero, one, word, sign, nam
 
 -- a byte that would join what stands before it
 abbrev pub clings : Piece → ℕ → Bool
-clings (sign t.Is) b = eqb b 61
-clings (sign t.Less) b = eqb b 61 || eqb b 60
+clings (sign t.is) b = eqb b 61
+clings (sign t.less) b = eqb b 61 || eqb b 60
 clings (sign s) b = false
 clings space b = false
 clings line b = false
@@ -118,21 +118,21 @@ word_at w rest = word_taken (slice_index (word_text w) 0) (drop 1 (word_text w))
 
 word_spelled : (w : Word) (rest : List ℕ) → (is_inner (slice_index rest 0) || eqb (slice_index rest 0) 39) ≡ false
     → front (word_text w ++ rest) ≡ token (t.word w) (length (word_text w))
-word_spelled t.Module rest stop = word_at t.Module rest refl refl refl stop
-word_spelled t.Endmodule rest stop = word_at t.Endmodule rest refl refl refl stop
-word_spelled t.Input rest stop = word_at t.Input rest refl refl refl stop
-word_spelled t.Output rest stop = word_at t.Output rest refl refl refl stop
-word_spelled t.Reg rest stop = word_at t.Reg rest refl refl refl stop
-word_spelled t.Wire rest stop = word_at t.Wire rest refl refl refl stop
-word_spelled t.Assign rest stop = word_at t.Assign rest refl refl refl stop
-word_spelled t.Initial rest stop = word_at t.Initial rest refl refl refl stop
-word_spelled t.Always rest stop = word_at t.Always rest refl refl refl stop
-word_spelled t.Posedge rest stop = word_at t.Posedge rest refl refl refl stop
-word_spelled t.If rest stop = word_at t.If rest refl refl refl stop
-word_spelled t.For rest stop = word_at t.For rest refl refl refl stop
-word_spelled t.Integer rest stop = word_at t.Integer rest refl refl refl stop
-word_spelled t.Clk rest stop = word_at t.Clk rest refl refl refl stop
-word_spelled t.I rest stop = word_at t.I rest refl refl refl stop
+word_spelled t.module_word rest stop = word_at t.module_word rest refl refl refl stop
+word_spelled t.endmodule_word rest stop = word_at t.endmodule_word rest refl refl refl stop
+word_spelled t.input_word rest stop = word_at t.input_word rest refl refl refl stop
+word_spelled t.output_word rest stop = word_at t.output_word rest refl refl refl stop
+word_spelled t.reg_word rest stop = word_at t.reg_word rest refl refl refl stop
+word_spelled t.wire_word rest stop = word_at t.wire_word rest refl refl refl stop
+word_spelled t.assign_word rest stop = word_at t.assign_word rest refl refl refl stop
+word_spelled t.initial_word rest stop = word_at t.initial_word rest refl refl refl stop
+word_spelled t.always_word rest stop = word_at t.always_word rest refl refl refl stop
+word_spelled t.posedge_word rest stop = word_at t.posedge_word rest refl refl refl stop
+word_spelled t.if_word rest stop = word_at t.if_word rest refl refl refl stop
+word_spelled t.for_word rest stop = word_at t.for_word rest refl refl refl stop
+word_spelled t.integer_word rest stop = word_at t.integer_word rest refl refl refl stop
+word_spelled t.clk_word rest stop = word_at t.clk_word rest refl refl refl stop
+word_spelled t.i_word rest stop = word_at t.i_word rest refl refl refl stop
 
 -- digits, and what follows them
 record IsDigits (ds : List ℕ) : Type 0 where
@@ -224,13 +224,13 @@ not_less_sign b h = (grind (arith, nat_tests), grind (arith, nat_tests))
 
 sign_spelled : (s : Sign) (rest : List ℕ) → clings (sign s) (slice_index rest 0) ≡ false → front (sign_text s ++ rest) ≡ token (t.sign s) (length (sign_text s))
 unfolding front
-sign_spelled t.Is [] stop = refl
-sign_spelled t.Is (c ∷ rest) stop = ap (λ b. sign_or_bad (cond (b && true) (Some t.Equal) (Some t.Is))) (other_byte c 61 stop)
-sign_spelled t.Less [] stop = refl
-sign_spelled t.Less (c ∷ rest) stop =
+sign_spelled t.is [] stop = refl
+sign_spelled t.is (c ∷ rest) stop = ap (λ b. sign_or_bad (cond (b && true) (Some t.equal) (Some t.is))) (other_byte c 61 stop)
+sign_spelled t.less [] stop = refl
+sign_spelled t.less (c ∷ rest) stop =
     let w = not_less_sign c stop in
-    ap (λ b. sign_or_bad (cond (b && true) (Some t.LessOrEqual) (cond (eqb 60 c && true) (Some t.ShiftLeft) (Some t.Less)))) w.0
-    ∙ ap (λ b. sign_or_bad (cond (b && true) (Some t.ShiftLeft) (Some t.Less))) w.1
+    ap (λ b. sign_or_bad (cond (b && true) (Some t.less_or_equal) (cond (eqb 60 c && true) (Some t.shift_left) (Some t.less)))) w.0
+    ∙ ap (λ b. sign_or_bad (cond (b && true) (Some t.shift_left) (Some t.less))) w.1
 sign_spelled _ rest stop = refl
 
 pub piece_spelled : (p : Piece) (rest : List ℕ) → IsSpelled p → clings p (slice_index rest 0) ≡ false → front (piece_text p ++ rest) ≡ front_of p

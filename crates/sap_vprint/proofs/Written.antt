@@ -29,13 +29,13 @@ binary_follows : (op : Op2) → may_follow (sign (binary_sign op)) space ≡ tru
 binary_follows binary.Add = refl
 binary_follows _ = refl
 
-parts_spaced : (x : Operand) (zs : List Operand) (qs : List Piece) → is_spaced (sign t.CloseBrace ∷ qs) ≡ true
-    → is_spaced (operand x ∷ (flat_map part_pieces zs ++ (sign t.CloseBrace ∷ qs))) ≡ true
+parts_spaced : (x : Operand) (zs : List Operand) (qs : List Piece) → is_spaced (sign t.close_brace ∷ qs) ≡ true
+    → is_spaced (operand x ∷ (flat_map part_pieces zs ++ (sign t.close_brace ∷ qs))) ≡ true
 parts_spaced x [] qs h = h
 parts_spaced x (z ∷ zs) qs h = parts_spaced z zs qs h
 
 -- before a right side stands a space, and behind it `;`
-right_spaced : (right : Right) (qs : List Piece) → HasParts right → is_spaced (sign t.Semicolon ∷ qs) ≡ true → is_spaced (space ∷ (right_pieces right ++ (sign t.Semicolon ∷ qs))) ≡ true
+right_spaced : (right : Right) (qs : List Piece) → HasParts right → is_spaced (sign t.semicolon ∷ qs) ≡ true → is_spaced (space ∷ (right_pieces right ++ (sign t.semicolon ∷ qs))) ≡ true
 right_spaced (item.copy x) qs w h = h
 right_spaced (item.one op x) qs w h = and_from (may_follow (sign (unary_sign op)) (operand x)) _ (unary_follows op x) h
 right_spaced (item.two op x y) qs w h = and_from (may_follow (sign (binary_sign op)) space) _ (binary_follows op) h
@@ -43,8 +43,8 @@ right_spaced (item.choose c x y) qs w h = h
 right_spaced (item.concat []) qs w h = absurd w
 right_spaced (item.concat (x ∷ [])) qs w h = absurd w
 right_spaced (item.concat (x ∷ y ∷ zs)) qs w h =
-    let e = append_assoc (flat_map part_pieces zs) (sign t.CloseBrace ∷ []) (sign t.Semicolon ∷ qs) in
-    subst (λ rest. is_spaced (operand y ∷ rest) ≡ true) (sym e) (parts_spaced y zs (sign t.Semicolon ∷ qs) h)
+    let e = append_assoc (flat_map part_pieces zs) (sign t.close_brace ∷ []) (sign t.semicolon ∷ qs) in
+    subst (λ rest. is_spaced (operand y ∷ rest) ≡ true) (sym e) (parts_spaced y zs (sign t.semicolon ∷ qs) h)
 right_spaced (item.slice x high low) qs w h = h
 right_spaced (item.cell m index) qs w h = h
 
@@ -54,7 +54,7 @@ item_spaced (item.register n x) qs w h = behind_line qs h
 item_spaced (item.memory n x last) qs w h = behind_line qs h
 item_spaced (item.integer place) qs w h = behind_line qs h
 item_spaced (item.assign x right) qs w h =
-    let e = append_assoc (right_pieces right) (sign t.Semicolon ∷ line ∷ []) qs in
+    let e = append_assoc (right_pieces right) (sign t.semicolon ∷ line ∷ []) qs in
     subst (λ rest. is_spaced (space ∷ rest) ≡ true) (sym e) (right_spaced right (line ∷ qs) w (behind_line qs h))
 item_spaced (item.initial x value) qs w h = behind_line qs h
 item_spaced (item.initial_cells place n x value) qs w h = behind_line qs h
@@ -68,7 +68,7 @@ items_spaced (x ∷ xs) qs w h =
     subst (λ ps. is_spaced ps ≡ true) (sym e) (item_spaced x (flat_map item_pieces xs ++ qs) w.0 (items_spaced xs qs w.1 h))
 
 port_spaced : (d : Direction) (n : Number) (x : Mention) (qs : List Piece) → is_spaced (name x.name ∷ qs) ≡ true
-    → is_spaced (sign t.Comma ∷ line ∷ space ∷ space ∷ ((direction_pieces d ++ (range_pieces n.value ++ (name x.name ∷ []))) ++ qs)) ≡ true
+    → is_spaced (sign t.comma ∷ line ∷ space ∷ space ∷ ((direction_pieces d ++ (range_pieces n.value ++ (name x.name ∷ []))) ++ qs)) ≡ true
 port_spaced item.input n x qs h = h
 port_spaced item.output_register n x qs h = h
 port_spaced item.output_wire n x qs h = h
@@ -81,10 +81,10 @@ ports_spaced p follow (x ∷ xs) qs h =
     let rest = flat_map port_pieces xs ++ (line ∷ qs) in
     let e = append_assoc (port_pieces x) (flat_map port_pieces xs) (line ∷ qs) in
     let first = port_spaced x.direction x.range x.name rest (ports_spaced (name x.name.name) (λ q g. g) xs qs h) in
-    subst (λ ps. is_spaced (p ∷ ps) ≡ true) (sym e) (and_from (may_follow p (sign t.Comma)) _ (follow (sign t.Comma) refl) first)
+    subst (λ ps. is_spaced (p ∷ ps) ≡ true) (sym e) (and_from (may_follow p (sign t.comma)) _ (follow (sign t.comma) refl) first)
 
 file_spaced : (f : File) → AllByRecursion IsWhole f.items → is_spaced (file_pieces f) ≡ true
-file_spaced f w = ports_spaced (word t.Clk) (λ q h. h) f.ports (sign t.CloseParen ∷ sign t.Semicolon ∷ line ∷ (flat_map item_pieces f.items ++ end_of_file)) (behind_line (flat_map item_pieces f.items ++ end_of_file) (items_spaced f.items end_of_file w refl))
+file_spaced f w = ports_spaced (word t.clk_word) (λ q h. h) f.ports (sign t.close_paren ∷ sign t.semicolon ∷ line ∷ (flat_map item_pieces f.items ++ end_of_file)) (behind_line (flat_map item_pieces f.items ++ end_of_file) (items_spaced f.items end_of_file w refl))
 
 spelled_append : (ps qs : List Piece) → AreSpelled ps → AreSpelled qs → AreSpelled (ps ++ qs)
 spelled_append [] qs h g = g
@@ -171,7 +171,7 @@ right_spelled (item.one op x) h = (operand_spelled x h, tt)
 right_spelled (item.two op x y) h = (operand_spelled x h.0, (operand_spelled y h.1, tt))
 right_spelled (item.choose c x y) h = (operand_spelled c h.0, (operand_spelled x h.1, (operand_spelled y h.2, tt)))
 right_spelled (item.concat []) h = tt
-right_spelled (item.concat (x ∷ xs)) h = (operand_spelled x h.0.0, parts_spelled xs (sign t.CloseBrace ∷ []) h.0.1 tt)
+right_spelled (item.concat (x ∷ xs)) h = (operand_spelled x h.0.0, parts_spelled xs (sign t.close_brace ∷ []) h.0.1 tt)
 right_spelled (item.slice x high low) h = (h.0, (h.1, (h.2, tt)))
 right_spelled (item.cell m index) h = (h.0, (operand_spelled index h.1, tt))
 
@@ -180,7 +180,7 @@ item_spelled (item.wire n x) h = (h.0, (h.1, tt))
 item_spelled (item.register n x) h = (h.0, (h.1, tt))
 item_spelled (item.memory n x last) h = (h.0, (h.1, (h.2, tt)))
 item_spelled (item.integer place) h = tt
-item_spelled (item.assign x right) h = (h.0, spelled_append (right_pieces right) (sign t.Semicolon ∷ line ∷ []) (right_spelled right h.1) tt)
+item_spelled (item.assign x right) h = (h.0, spelled_append (right_pieces right) (sign t.semicolon ∷ line ∷ []) (right_spelled right h.1) tt)
 item_spelled (item.initial x value) h = (h.0, (h.1, tt))
 item_spelled (item.initial_cells place n x value) h = (h.0, (h.1, (h.2, tt)))
 item_spelled (item.always x next) h = (h.0, (operand_spelled next h.1, tt))

@@ -39,7 +39,7 @@ text_of ps = flat_map piece_text ps
 
 -- `[n:0] `
 abbrev pub range_pieces : ℕ → List Piece
-range_pieces n = sign t.OpenBracket ∷ number n ∷ sign t.Colon ∷ zero ∷ sign t.CloseBracket ∷ space ∷ []
+range_pieces n = sign t.open_bracket ∷ number n ∷ sign t.colon ∷ zero ∷ sign t.close_bracket ∷ space ∷ []
 
 abbrev pub unary_text : Op1 → List ℕ
 unary_text op = sign_text (unary_sign op)
@@ -49,7 +49,7 @@ abbrev pub binary_text : Op2 → List ℕ
 binary_text op = 32 ∷ (sign_text (binary_sign op) ++ (32 ∷ []))
 
 abbrev pub part_pieces : Operand → List Piece
-part_pieces x = sign t.Comma ∷ space ∷ operand x ∷ []
+part_pieces x = sign t.comma ∷ space ∷ operand x ∷ []
 
 -- the parts of a `{}`, with commas between them
 abbrev pub parts_pieces : List Operand → List Piece
@@ -60,44 +60,44 @@ abbrev pub right_pieces : Right → List Piece
 right_pieces (item.copy x) = operand x ∷ []
 right_pieces (item.one op x) = sign (unary_sign op) ∷ operand x ∷ []
 right_pieces (item.two op x y) = operand x ∷ space ∷ sign (binary_sign op) ∷ space ∷ operand y ∷ []
-right_pieces (item.choose c x y) = operand c ∷ space ∷ sign t.Question ∷ space ∷ operand x ∷ space ∷ sign t.Colon ∷ space ∷ operand y ∷ []
-right_pieces (item.concat xs) = sign t.OpenBrace ∷ (parts_pieces xs ++ (sign t.CloseBrace ∷ []))
-right_pieces (item.slice x high low) = name x.name ∷ sign t.OpenBracket ∷ number high ∷ sign t.Colon ∷ number low ∷ sign t.CloseBracket ∷ []
-right_pieces (item.cell m index) = name m.name ∷ sign t.OpenBracket ∷ operand index ∷ sign t.CloseBracket ∷ []
+right_pieces (item.choose c x y) = operand c ∷ space ∷ sign t.question ∷ space ∷ operand x ∷ space ∷ sign t.colon ∷ space ∷ operand y ∷ []
+right_pieces (item.concat xs) = sign t.open_brace ∷ (parts_pieces xs ++ (sign t.close_brace ∷ []))
+right_pieces (item.slice x high low) = name x.name ∷ sign t.open_bracket ∷ number high ∷ sign t.colon ∷ number low ∷ sign t.close_bracket ∷ []
+right_pieces (item.cell m index) = name m.name ∷ sign t.open_bracket ∷ operand index ∷ sign t.close_bracket ∷ []
 
 -- `always @(posedge clk) `
 abbrev pub clocked_pieces : List Piece
 clocked_pieces =
-    word t.Always ∷ space ∷ sign t.At ∷ sign t.OpenParen ∷ word t.Posedge ∷ space ∷ word t.Clk ∷ sign t.CloseParen ∷ space ∷ []
+    word t.always_word ∷ space ∷ sign t.at ∷ sign t.open_paren ∷ word t.posedge_word ∷ space ∷ word t.clk_word ∷ sign t.close_paren ∷ space ∷ []
 
 -- `for (i = 0; i < n; i = i + 1) `
 abbrev pub loop_pieces : ℕ → List Piece
 loop_pieces n =
-    word t.For ∷ space ∷ sign t.OpenParen ∷ word t.I ∷ space ∷ sign t.Is ∷ space ∷ zero ∷ sign t.Semicolon
-    ∷ space ∷ word t.I ∷ space ∷ sign t.Less ∷ space ∷ number n ∷ sign t.Semicolon
-    ∷ space ∷ word t.I ∷ space ∷ sign t.Is ∷ space ∷ word t.I ∷ space ∷ sign t.Plus ∷ space ∷ one ∷ sign t.CloseParen ∷ space ∷ []
+    word t.for_word ∷ space ∷ sign t.open_paren ∷ word t.i_word ∷ space ∷ sign t.is ∷ space ∷ zero ∷ sign t.semicolon
+    ∷ space ∷ word t.i_word ∷ space ∷ sign t.less ∷ space ∷ number n ∷ sign t.semicolon
+    ∷ space ∷ word t.i_word ∷ space ∷ sign t.is ∷ space ∷ word t.i_word ∷ space ∷ sign t.plus ∷ space ∷ one ∷ sign t.close_paren ∷ space ∷ []
 
 abbrev pub end_of_item : List Piece
-end_of_item = sign t.Semicolon ∷ line ∷ []
+end_of_item = sign t.semicolon ∷ line ∷ []
 
 abbrev pub item_pieces : Item → List Piece
-item_pieces (item.wire n x) = word t.Wire ∷ space ∷ (range_pieces n.value ++ (name x.name ∷ end_of_item))
-item_pieces (item.register n x) = word t.Reg ∷ space ∷ (range_pieces n.value ++ (name x.name ∷ end_of_item))
+item_pieces (item.wire n x) = word t.wire_word ∷ space ∷ (range_pieces n.value ++ (name x.name ∷ end_of_item))
+item_pieces (item.register n x) = word t.reg_word ∷ space ∷ (range_pieces n.value ++ (name x.name ∷ end_of_item))
 item_pieces (item.memory n x last) =
-    word t.Reg ∷ space ∷ (range_pieces n.value
-    ++ (name x.name ∷ space ∷ sign t.OpenBracket ∷ zero ∷ sign t.Colon ∷ number last.value ∷ sign t.CloseBracket ∷ end_of_item))
-item_pieces (item.integer place) = word t.Integer ∷ space ∷ word t.I ∷ end_of_item
-item_pieces (item.assign x right) = word t.Assign ∷ space ∷ name x.name ∷ space ∷ sign t.Is ∷ space ∷ (right_pieces right ++ end_of_item)
+    word t.reg_word ∷ space ∷ (range_pieces n.value
+    ++ (name x.name ∷ space ∷ sign t.open_bracket ∷ zero ∷ sign t.colon ∷ number last.value ∷ sign t.close_bracket ∷ end_of_item))
+item_pieces (item.integer place) = word t.integer_word ∷ space ∷ word t.i_word ∷ end_of_item
+item_pieces (item.assign x right) = word t.assign_word ∷ space ∷ name x.name ∷ space ∷ sign t.is ∷ space ∷ (right_pieces right ++ end_of_item)
 item_pieces (item.initial x value) =
-    word t.Initial ∷ space ∷ name x.name ∷ space ∷ sign t.Is ∷ space ∷ operand (item.constant value) ∷ end_of_item
+    word t.initial_word ∷ space ∷ name x.name ∷ space ∷ sign t.is ∷ space ∷ operand (item.constant value) ∷ end_of_item
 item_pieces (item.initial_cells place n x value) =
-    word t.Initial ∷ space ∷ (loop_pieces n.value
-    ++ (name x.name ∷ sign t.OpenBracket ∷ word t.I ∷ sign t.CloseBracket ∷ space ∷ sign t.Is ∷ space ∷ operand (item.constant value) ∷ end_of_item))
-item_pieces (item.always x next) = clocked_pieces ++ (name x.name ∷ space ∷ sign t.LessOrEqual ∷ space ∷ operand next ∷ end_of_item)
+    word t.initial_word ∷ space ∷ (loop_pieces n.value
+    ++ (name x.name ∷ sign t.open_bracket ∷ word t.i_word ∷ sign t.close_bracket ∷ space ∷ sign t.is ∷ space ∷ operand (item.constant value) ∷ end_of_item))
+item_pieces (item.always x next) = clocked_pieces ++ (name x.name ∷ space ∷ sign t.less_or_equal ∷ space ∷ operand next ∷ end_of_item)
 item_pieces (item.always_cell condition x index value) =
     clocked_pieces
-    ++ (word t.If ∷ space ∷ sign t.OpenParen ∷ operand condition ∷ sign t.CloseParen ∷ space ∷ name x.name ∷ sign t.OpenBracket ∷ operand index
-    ∷ sign t.CloseBracket ∷ space ∷ sign t.LessOrEqual ∷ space ∷ operand value ∷ end_of_item)
+    ++ (word t.if_word ∷ space ∷ sign t.open_paren ∷ operand condition ∷ sign t.close_paren ∷ space ∷ name x.name ∷ sign t.open_bracket ∷ operand index
+    ∷ sign t.close_bracket ∷ space ∷ sign t.less_or_equal ∷ space ∷ operand value ∷ end_of_item)
 
 unfoldable pub item_text : Item → List ℕ
 item_text x = text_of (item_pieces x)
@@ -113,12 +113,12 @@ loop_text n = text_of (loop_pieces n)
 
 -- before each port but `input clk`, and where it stands
 abbrev pub new_port : List Piece
-new_port = sign t.Comma ∷ line ∷ space ∷ space ∷ []
+new_port = sign t.comma ∷ line ∷ space ∷ space ∷ []
 
 abbrev pub direction_pieces : Direction → List Piece
-direction_pieces item.input = word t.Input ∷ space ∷ []
-direction_pieces item.output_register = word t.Output ∷ space ∷ word t.Reg ∷ space ∷ []
-direction_pieces item.output_wire = word t.Output ∷ space ∷ word t.Wire ∷ space ∷ []
+direction_pieces item.input = word t.input_word ∷ space ∷ []
+direction_pieces item.output_register = word t.output_word ∷ space ∷ word t.reg_word ∷ space ∷ []
+direction_pieces item.output_wire = word t.output_word ∷ space ∷ word t.wire_word ∷ space ∷ []
 
 abbrev pub port_pieces : Port → List Piece
 port_pieces p = new_port ++ (direction_pieces p.direction ++ (range_pieces p.range.value ++ (name p.name.name ∷ [])))
@@ -128,13 +128,13 @@ port_text p = text_of (port_pieces p)
 
 -- `module NAME(` and `input clk`
 abbrev pub head_pieces : List ℕ → List Piece
-head_pieces n = word t.Module ∷ space ∷ name n ∷ sign t.OpenParen ∷ line ∷ space ∷ space ∷ word t.Input ∷ space ∷ word t.Clk ∷ []
+head_pieces n = word t.module_word ∷ space ∷ name n ∷ sign t.open_paren ∷ line ∷ space ∷ space ∷ word t.input_word ∷ space ∷ word t.clk_word ∷ []
 
 abbrev pub end_of_ports : List Piece
-end_of_ports = line ∷ sign t.CloseParen ∷ sign t.Semicolon ∷ line ∷ []
+end_of_ports = line ∷ sign t.close_paren ∷ sign t.semicolon ∷ line ∷ []
 
 abbrev pub end_of_file : List Piece
-end_of_file = word t.Endmodule ∷ line ∷ []
+end_of_file = word t.endmodule_word ∷ line ∷ []
 
 abbrev pub file_pieces : File → List Piece
 file_pieces f = head_pieces f.module_name ++ (flat_map port_pieces f.ports ++ (end_of_ports ++ (flat_map item_pieces f.items ++ end_of_file)))

@@ -1,7 +1,7 @@
 -- How the walk that stops where a limit is broken and the one that goes past each belong together.
 use Rattle.std.proofs.Common.{◌≡◌, ◌≤◌, ◌+◌, ℕ, List, [], ◌∷◌, ◌++◌, length, Option, Some, None, Ok, Err, Bool, true, false, refl, sym, ap, subst, ◌∙◌, arith}
 use Rattle.sap_walk.specs.Limits.{Limited, Past, first_of, unless_broken, passed, lenient, strict}
-use Rattle.sap_walk.specs.Walk.{Next, Take, Skip, Stop, at_token, Move, Taken, Unneeded, Refused, Breaks, chosen, entered, if_empty, Point, settle, at_end, walk}
+use Rattle.sap_walk.specs.Walk.{Next, begins, empty_here, cannot_stand, at_token, Move, moved_past, not_needed, rejected, breaks_limit, chosen, entered, if_empty, Point, settle, at_end, walk}
 use Rattle.sap_walk.proofs.Running.{Runs, stay, take}
 use Rattle.sap_walk.proofs.Walking.{after}
 
@@ -11,43 +11,43 @@ module _ (G : Limited) where
 
   -- what the two walks do with one token, where no limit was broken before
   pub data Beside (past : Kept) : Move Kept G.Symbol G.Limit → Move Kept G.Symbol G.Limit → Type 0 where
-    both_take : {q : Kept} {σ : List G.Symbol} → q.first ≡ None → q.before ≡ past.before + 1 → Beside past (Taken q σ) (Taken q σ)
+    both_take : {q : Kept} {σ : List G.Symbol} → q.first ≡ None → q.before ≡ past.before + 1 → Beside past (moved_past q σ) (moved_past q σ)
     one_breaks : {q : Kept} {σ : List G.Symbol} {limit : G.Limit} → q.first ≡ Some (past.before, limit) → q.before ≡ past.before + 1
-        → Beside past (Breaks limit) (Taken q σ)
-    neither_needs : Beside past Unneeded Unneeded
-    both_refuse : Beside past Refused Refused
+        → Beside past (breaks_limit limit) (moved_past q σ)
+    neither_needs : Beside past not_needed not_needed
+    both_refuse : Beside past rejected rejected
 
   pub beside : (t : G.Token) (past : Kept) (γ : List G.Symbol) → past.first ≡ None → Beside past (settle (strict G) t past γ) (settle (lenient G) t past γ)
   unfolding settle
   beside t past [] fresh = neither_needs
   beside t past (s ∷ γ) fresh = by_next (G.next s t) (beside t past γ fresh) where
     by_breach : (role : G.Role) (σ : List G.Symbol) (b : Option G.Limit) → G.breach past.counts role t ≡ b
-        → Beside past (entered (unless_broken b (passed G.tally G.breach role t past)) σ) (Taken (passed G.tally G.breach role t past) σ)
+        → Beside past (entered (unless_broken b (passed G.tally G.breach role t past)) σ) (moved_past (passed G.tally G.breach role t past) σ)
     by_breach role σ None e = both_take (ap (λ b. first_of past.first past.before b) e ∙ ap (λ f. first_of f past.before None) fresh) refl
     by_breach role σ (Some limit) e = one_breaks (ap (λ b. first_of past.first past.before b) e ∙ ap (λ f. first_of f past.before (Some limit)) fresh) refl
 
     by_next : (n : Next G.Symbol G.Role) → Beside past (settle (strict G) t past γ) (settle (lenient G) t past γ)
         → Beside past
-        (chosen n (λ role σ. entered (unless_broken (G.breach past.counts role t) (passed G.tally G.breach role t past)) (σ ++ γ)) (settle (strict G) t past γ) Refused)
-        (chosen n (λ role σ. Taken (passed G.tally G.breach role t past) (σ ++ γ)) (settle (lenient G) t past γ) Refused)
-    by_next (Take role σ) h = by_breach role (σ ++ γ) (G.breach past.counts role t) refl
-    by_next Skip h = h
-    by_next Stop h = both_refuse
+        (chosen n (λ role σ. entered (unless_broken (G.breach past.counts role t) (passed G.tally G.breach role t past)) (σ ++ γ)) (settle (strict G) t past γ) rejected)
+        (chosen n (λ role σ. moved_past (passed G.tally G.breach role t past) (σ ++ γ)) (settle (lenient G) t past γ) rejected)
+    by_next (begins role σ) h = by_breach role (σ ++ γ) (G.breach past.counts role t) refl
+    by_next empty_here h = h
+    by_next cannot_stand h = both_refuse
 
   -- what is known of the lenient move from the strict one
   pub record TakesBoth (past q : Kept) (σ : List G.Symbol) (m : Move Kept G.Symbol G.Limit) : Type 0 where
-    pub move : m ≡ Taken q σ
+    pub move : m ≡ moved_past q σ
     pub fresh : q.first ≡ None
     pub before : q.before ≡ past.before + 1
 
   pub record BreaksOne (past : Kept) (limit : G.Limit) (m : Move Kept G.Symbol G.Limit) : Type 0 where
     pub kept : Kept
     pub to_come : List G.Symbol
-    pub move : m ≡ Taken kept to_come
+    pub move : m ≡ moved_past kept to_come
     pub first : kept.first ≡ Some (past.before, limit)
     pub before : kept.before ≡ past.before + 1
 
-  pub beside_taken : {past q : Kept} {σ : List G.Symbol} {n m : Move Kept G.Symbol G.Limit} → Beside past n m → n ≡ Taken q σ → TakesBoth past q σ m
+  pub beside_taken : {past q : Kept} {σ : List G.Symbol} {n m : Move Kept G.Symbol G.Limit} → Beside past n m → n ≡ moved_past q σ → TakesBoth past q σ m
   beside_taken {past} {q} {σ} (both_take {q = q'} {σ = σ'} f b) e =
       let same : q' ≡ q = cc in
       record { move = e; fresh = subst (λ (x : Kept). x.first ≡ None) same f; before = subst (λ (x : Kept). x.before ≡ past.before + 1) same b }
@@ -55,13 +55,13 @@ module _ (G : Limited) where
   beside_taken neither_needs e = absurd (cc)
   beside_taken both_refuse e = absurd (cc)
 
-  pub beside_refused : {past : Kept} {n m : Move Kept G.Symbol G.Limit} → Beside past n m → n ≡ Refused → m ≡ Refused
+  pub beside_refused : {past : Kept} {n m : Move Kept G.Symbol G.Limit} → Beside past n m → n ≡ rejected → m ≡ rejected
   beside_refused (both_take f b) e = absurd (cc)
   beside_refused (one_breaks f b) e = absurd (cc)
   beside_refused neither_needs e = absurd (cc)
   beside_refused both_refuse e = refl
 
-  pub beside_broken : {past : Kept} {n m : Move Kept G.Symbol G.Limit} {limit : G.Limit} → Beside past n m → n ≡ Breaks limit → BreaksOne past limit m
+  pub beside_broken : {past : Kept} {n m : Move Kept G.Symbol G.Limit} {limit : G.Limit} → Beside past n m → n ≡ breaks_limit limit → BreaksOne past limit m
   beside_broken (both_take f b) e = absurd (cc)
   beside_broken {past} {limit = limit} (one_breaks {q = q} {σ = σ} {limit = limit'} f b) e =
       let same : limit' ≡ limit = cc in
@@ -95,30 +95,30 @@ module _ (G : Limited) where
       by_empty true e g = g e
       by_empty false e g = absurd (cc)
   first_stays (t ∷ ts) past γ p f e h = by_move (settle (lenient G) t past γ) refl e (λ q σ. first_stays ts q σ p f) where
-    stays : (γ : List G.Symbol) (q : Kept) (σ : List G.Symbol) → settle (lenient G) t past γ ≡ Taken q σ → q.first ≡ Some f
+    stays : (γ : List G.Symbol) (q : Kept) (σ : List G.Symbol) → settle (lenient G) t past γ ≡ moved_past q σ → q.first ≡ Some f
     stays [] q σ e = absurd (cc)
     stays (s ∷ γ) q σ e = by_next (G.next s t) e (stays γ q σ) where
-      by_next : (n : Next G.Symbol G.Role) → chosen n (λ role ρ. Taken (passed G.tally G.breach role t past) (ρ ++ γ)) (settle (lenient G) t past γ) Refused ≡ Taken q σ
-          → (settle (lenient G) t past γ ≡ Taken q σ → q.first ≡ Some f) → q.first ≡ Some f
-      by_next (Take role ρ) e g =
+      by_next : (n : Next G.Symbol G.Role) → chosen n (λ role ρ. moved_past (passed G.tally G.breach role t past) (ρ ++ γ)) (settle (lenient G) t past γ) rejected ≡ moved_past q σ
+          → (settle (lenient G) t past γ ≡ moved_past q σ → q.first ≡ Some f) → q.first ≡ Some f
+      by_next (begins role ρ) e g =
           let same : passed G.tally G.breach role t past ≡ q = cc in
           subst (λ (x : Kept). x.first ≡ Some f) same (ap (λ x. first_of x past.before (G.breach past.counts role t)) h)
-      by_next Skip e g = g e
-      by_next Stop e g = absurd (cc)
+      by_next empty_here e g = g e
+      by_next cannot_stand e g = absurd (cc)
 
     by_move : (m : Move Kept G.Symbol G.Limit) → settle (lenient G) t past γ ≡ m → after (lenient G) t ts past m ≡ Ok p
         → ((q : Kept) (σ : List G.Symbol) → walk (lenient G) ts q σ ≡ Ok p → q.first ≡ Some f → p.past.first ≡ Some f) → p.past.first ≡ Some f
-    by_move (Taken q σ) m e g = g q σ e (stays γ q σ m)
-    by_move Unneeded m e g = let same : record { past = past; left = t ∷ ts } ≡ p = cc in subst (λ (x : Point (lenient G)). x.past.first ≡ Some f) same h
-    by_move Refused m e g = absurd (cc)
-    by_move (Breaks limit) m e g = absurd (cc)
+    by_move (moved_past q σ) m e g = g q σ e (stays γ q σ m)
+    by_move not_needed m e g = let same : record { past = past; left = t ∷ ts } ≡ p = cc in subst (λ (x : Point (lenient G)). x.past.first ≡ Some f) same h
+    by_move rejected m e g = absurd (cc)
+    by_move (breaks_limit limit) m e g = absurd (cc)
 
   -- what is known of the strict move from the lenient one
   pub data FromTaken (past q : Kept) (σ : List G.Symbol) : Move Kept G.Symbol G.Limit → Type 0 where
-    taken : q.first ≡ None → q.before ≡ past.before + 1 → FromTaken past q σ (Taken q σ)
-    broken : (limit : G.Limit) → q.first ≡ Some (past.before, limit) → FromTaken past q σ (Breaks limit)
+    taken : q.first ≡ None → q.before ≡ past.before + 1 → FromTaken past q σ (moved_past q σ)
+    broken : (limit : G.Limit) → q.first ≡ Some (past.before, limit) → FromTaken past q σ (breaks_limit limit)
 
-  pub beside_lenient : {past q : Kept} {σ : List G.Symbol} {n m : Move Kept G.Symbol G.Limit} → Beside past n m → m ≡ Taken q σ → FromTaken past q σ n
+  pub beside_lenient : {past q : Kept} {σ : List G.Symbol} {n m : Move Kept G.Symbol G.Limit} → Beside past n m → m ≡ moved_past q σ → FromTaken past q σ n
   beside_lenient {past} {q} {σ} (both_take {q = q'} {σ = σ'} f b) e =
       let same : q' ≡ q = cc in
       subst (FromTaken past q σ) (sym e) (taken (subst (λ (x : Kept). x.first ≡ None) same f) (subst (λ (x : Kept). x.before ≡ past.before + 1) same b))
@@ -128,7 +128,7 @@ module _ (G : Limited) where
   beside_lenient neither_needs e = absurd (cc)
   beside_lenient both_refuse e = absurd (cc)
 
-  pub beside_unneeded : {past : Kept} {n m : Move Kept G.Symbol G.Limit} → Beside past n m → m ≡ Unneeded → n ≡ Unneeded
+  pub beside_unneeded : {past : Kept} {n m : Move Kept G.Symbol G.Limit} → Beside past n m → m ≡ not_needed → n ≡ not_needed
   beside_unneeded (both_take f b) e = absurd (cc)
   beside_unneeded (one_breaks f b) e = absurd (cc)
   beside_unneeded neither_needs e = refl
@@ -196,10 +196,10 @@ module _ (G : Limited) where
     by_move : (m : Move Kept G.Symbol G.Limit) → settle (lenient G) t past γ ≡ m → after (lenient G) t ts past m ≡ Ok p
         → ((q : Kept) (σ : List G.Symbol) → walk (lenient G) ts q σ ≡ Ok p → q.first ≡ None → walk (strict G) ts q σ ≡ Ok p)
         → after (strict G) t ts past (settle (strict G) t past γ) ≡ Ok p
-    by_move (Taken q σ) m e g = by_taken q σ (settle (strict G) t past γ) (beside_lenient (beside t past γ fresh) m) e (g q σ e)
-    by_move Unneeded m e g = ap (after (strict G) t ts past) (beside_unneeded (beside t past γ fresh) m) ∙ e
-    by_move Refused m e g = absurd (cc)
-    by_move (Breaks limit) m e g = absurd (cc)
+    by_move (moved_past q σ) m e g = by_taken q σ (settle (strict G) t past γ) (beside_lenient (beside t past γ fresh) m) e (g q σ e)
+    by_move not_needed m e g = ap (after (strict G) t ts past) (beside_unneeded (beside t past γ fresh) m) ∙ e
+    by_move rejected m e g = absurd (cc)
+    by_move (breaks_limit limit) m e g = absurd (cc)
 
   -- no limit is broken before the walk begins
   first_later : (ts : List G.Token) (past : Kept) (γ : List G.Symbol) (p : Point (lenient G)) (n : ℕ) (limit : G.Limit)
@@ -214,17 +214,17 @@ module _ (G : Limited) where
 
     by_move : (m : Move Kept G.Symbol G.Limit) → settle (lenient G) t past γ ≡ m → after (lenient G) t ts past m ≡ Ok p
         → ((q : Kept) (σ : List G.Symbol) → walk (lenient G) ts q σ ≡ Ok p → q.first ≡ None → q.before ≤ n) → past.before ≤ n
-    by_move (Taken q σ) m e h = by_taken q σ (settle (strict G) t past γ) (beside_lenient (beside t past γ fresh) m) e (h q σ e)
-    by_move Unneeded m e h = absurd (kept_fresh past (t ∷ ts) p (n, limit) (cc) fresh f)
-    by_move Refused m e h = absurd (cc)
-    by_move (Breaks other) m e h = absurd (cc)
+    by_move (moved_past q σ) m e h = by_taken q σ (settle (strict G) t past γ) (beside_lenient (beside t past γ fresh) m) e (h q σ e)
+    by_move not_needed m e h = absurd (kept_fresh past (t ∷ ts) p (n, limit) (cc) fresh f)
+    by_move rejected m e h = absurd (cc)
+    by_move (breaks_limit other) m e h = absurd (cc)
 
   -- the strict walk stops at the token that is the first to break a limit in the lenient walk
   pub record StrictStops (front : List G.Token) (t : G.Token) (past : Kept) (γ : List G.Symbol) (limit : G.Limit) : Type 0 where
     pub kept : Kept
     pub to_come : List G.Symbol
     pub runs : Runs (strict G) front past γ kept to_come
-    pub breaks : settle (strict G) t kept to_come ≡ Breaks limit
+    pub breaks : settle (strict G) t kept to_come ≡ breaks_limit limit
 
   pub strict_stops : (front : List G.Token) (t : G.Token) (more : List G.Token) (past : Kept) (γ : List G.Symbol) (p : Point (lenient G)) (limit : G.Limit)
       → walk (lenient G) (front ++ t ∷ more) past γ ≡ Ok p → past.first ≡ None → p.past.first ≡ Some (past.before + length front, limit)
@@ -236,13 +236,13 @@ module _ (G : Limited) where
     by_taken q σ n w (taken g b) e = absurd (omega (arith, first_later more q σ p _ limit e g f, b))
     by_taken q σ n w (broken other g) e =
         let same = same_limit p.past.first (first_stays more q σ p (past.before, other) e g) f in
-        record { kept = past; to_come = γ; runs = stay; breaks = w ∙ ap (λ l. Breaks l) same }
+        record { kept = past; to_come = γ; runs = stay; breaks = w ∙ ap (λ l. breaks_limit l) same }
 
     by_move : (m : Move Kept G.Symbol G.Limit) → settle (lenient G) t past γ ≡ m → after (lenient G) t more past m ≡ Ok p → StrictStops [] t past γ limit
-    by_move (Taken q σ) m e = by_taken q σ (settle (strict G) t past γ) refl (beside_lenient (beside t past γ fresh) m) e
-    by_move Unneeded m e = absurd (kept_fresh past (t ∷ more) p _ (cc) fresh f)
-    by_move Refused m e = absurd (cc)
-    by_move (Breaks other) m e = absurd (cc)
+    by_move (moved_past q σ) m e = by_taken q σ (settle (strict G) t past γ) refl (beside_lenient (beside t past γ fresh) m) e
+    by_move not_needed m e = absurd (kept_fresh past (t ∷ more) p _ (cc) fresh f)
+    by_move rejected m e = absurd (cc)
+    by_move (breaks_limit other) m e = absurd (cc)
   strict_stops (u ∷ front) t more past γ p limit e fresh f = by_move (settle (lenient G) u past γ) refl e (λ q σ e g h. strict_stops front t more q σ p limit e g h) where
     by_taken : (q : Kept) (σ : List G.Symbol) (n : Move Kept G.Symbol G.Limit) → settle (strict G) u past γ ≡ n → FromTaken past q σ n
         → walk (lenient G) (front ++ t ∷ more) q σ ≡ Ok p
@@ -258,7 +258,7 @@ module _ (G : Limited) where
         → ((q : Kept) (σ : List G.Symbol) → walk (lenient G) (front ++ t ∷ more) q σ ≡ Ok p → q.first ≡ None
         → p.past.first ≡ Some (q.before + length front, limit) → StrictStops front t q σ limit)
         → StrictStops (u ∷ front) t past γ limit
-    by_move (Taken q σ) m e h = by_taken q σ (settle (strict G) u past γ) refl (beside_lenient (beside u past γ fresh) m) e (h q σ e)
-    by_move Unneeded m e h = absurd (kept_fresh past (u ∷ (front ++ t ∷ more)) p _ (cc) fresh f)
-    by_move Refused m e h = absurd (cc)
-    by_move (Breaks other) m e h = absurd (cc)
+    by_move (moved_past q σ) m e h = by_taken q σ (settle (strict G) u past γ) refl (beside_lenient (beside u past γ fresh) m) e (h q σ e)
+    by_move not_needed m e h = absurd (kept_fresh past (u ∷ (front ++ t ∷ more)) p _ (cc) fresh f)
+    by_move rejected m e h = absurd (cc)
+    by_move (breaks_limit other) m e h = absurd (cc)

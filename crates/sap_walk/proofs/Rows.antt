@@ -2,28 +2,28 @@
 use Rattle.std.proofs.Common.{◌≡◌, ◌≢◌, List, [], ◌∷◌, ◌++◌, Ok, Err, Bool, true, false, refl, sym, ap, ◌∙◌, append_assoc}
 use Rattle.std.proofs.lemmas.List.{append-nil}
 use Rattle.sap_walk.specs.Rows.{push, first_then, firsts}
-use Rattle.sap_walk.specs.Walk.{Next, Take, Skip, Stop, Table, at_token, Move, Unneeded, Refused, chosen, entered, if_empty, Point, settle, at_end, walk, read, steps}
+use Rattle.sap_walk.specs.Walk.{Next, begins, empty_here, cannot_stand, Table, at_token, Move, not_needed, rejected, chosen, entered, if_empty, Point, settle, at_end, walk, read, steps}
 use Rattle.sap_walk.proofs.Walking.{after, walk_steps}
 
-pub push_taken : {S R : Type 0} (n : Next S R) (σ : List S) → n ≢ Skip → push n σ ≢ Skip
-push_taken (Take role ρ) σ h e = cc
-push_taken Skip σ h e = h e
-push_taken Stop σ h e = cc
+pub push_taken : {S R : Type 0} (n : Next S R) (σ : List S) → n ≢ empty_here → push n σ ≢ empty_here
+push_taken (begins role ρ) σ h e = cc
+push_taken empty_here σ h e = h e
+push_taken cannot_stand σ h e = cc
 
 -- where the first symbol is never empty, the others come behind it
-pub push_first : {S R : Type 0} (n : Next S R) (σ : List S) (m : Next S R) → n ≢ Skip → push n σ ≡ first_then n σ m
-push_first (Take role ρ) σ m h = refl
-push_first Skip σ m h = absurd (h refl)
-push_first Stop σ m h = refl
+pub push_first : {S R : Type 0} (n : Next S R) (σ : List S) (m : Next S R) → n ≢ empty_here → push n σ ≡ first_then n σ m
+push_first (begins role ρ) σ m h = refl
+push_first empty_here σ m h = absurd (h refl)
+push_first cannot_stand σ m h = refl
 
 pub firsts_append : {S R : Type 0} (row : S → Next S R) (α γ : List S) → firsts row (α ++ γ) ≡ first_then (firsts row α) γ (firsts row γ)
 firsts_append row [] γ = refl
 firsts_append row (s ∷ α) γ = by_row (row s) (firsts_append row α γ) where
   by_row : (n : Next _ _) → firsts row (α ++ γ) ≡ first_then (firsts row α) γ (firsts row γ)
       → first_then n (α ++ γ) (firsts row (α ++ γ)) ≡ first_then (first_then n α (firsts row α)) γ (firsts row γ)
-  by_row (Take role σ) e = ap (λ x. Take role x) (sym (append_assoc σ α γ))
-  by_row Skip e = e
-  by_row Stop e = refl
+  by_row (begins role σ) e = ap (λ x. begins role x) (sym (append_assoc σ α γ))
+  by_row empty_here e = e
+  by_row cannot_stand e = refl
 
 module _ (W : Table) where
   -- whether each of the symbols may be empty
@@ -32,17 +32,17 @@ module _ (W : Table) where
   all_empty (s ∷ γ) = if_empty (W.may_be_empty s) (all_empty γ) false
 
   abbrev as_move : W.Token → W.Past → Next W.Symbol W.Role → Move W.Past W.Symbol W.Limit
-  as_move t past n = chosen n (λ role σ. entered (W.enter role t past) σ) Unneeded Refused
+  as_move t past n = chosen n (λ role σ. entered (W.enter role t past) σ) not_needed rejected
 
   pub settle_firsts : (t : W.Token) (past : W.Past) (γ : List W.Symbol) → settle W t past γ ≡ as_move t past (firsts (λ s. W.next s t) γ)
   unfolding settle
   settle_firsts t past [] = refl
   settle_firsts t past (s ∷ γ) = by_next (W.next s t) (settle_firsts t past γ) where
     by_next : (n : Next W.Symbol W.Role) → settle W t past γ ≡ as_move t past (firsts (λ s. W.next s t) γ)
-        → chosen n (λ role σ. entered (W.enter role t past) (σ ++ γ)) (settle W t past γ) Refused ≡ as_move t past (first_then n γ (firsts (λ s. W.next s t) γ))
-    by_next (Take role σ) e = refl
-    by_next Skip e = e
-    by_next Stop e = refl
+        → chosen n (λ role σ. entered (W.enter role t past) (σ ++ γ)) (settle W t past γ) rejected ≡ as_move t past (first_then n γ (firsts (λ s. W.next s t) γ))
+    by_next (begins role σ) e = refl
+    by_next empty_here e = e
+    by_next cannot_stand e = refl
 
   -- at a token that does with the symbol what it does with the others
   pub read_as : (s : W.Symbol) (γ : List W.Symbol) (t : W.Token) (ts : List W.Token) (past : W.Past) → W.next s t ≡ firsts (λ x. W.next x t) γ
@@ -52,10 +52,10 @@ module _ (W : Table) where
       ap (λ m. after W t ts past m)
       (settle_firsts t past (s ∷ []) ∙ ap (as_move t past) (alone (W.next s t)) ∙ ap (as_move t past) e ∙ sym (settle_firsts t past γ))
       ∙ walk_steps W γ (record { past = past; left = t ∷ ts }) where
-        alone : (n : Next W.Symbol W.Role) → first_then n [] Skip ≡ n
-        alone (Take role σ) = ap (λ x. Take role x) (append-nil σ)
-        alone Skip = refl
-        alone Stop = refl
+        alone : (n : Next W.Symbol W.Role) → first_then n [] empty_here ≡ n
+        alone (begins role σ) = ap (λ x. begins role x) (append-nil σ)
+        alone empty_here = refl
+        alone cannot_stand = refl
 
   end_of : (past : W.Past) (γ : List W.Symbol)
       → at_end W past γ ≡ if_empty (all_empty γ) (Ok (record { past = past; left = [] })) (Err (at_token (record { past = past; left = [] })))

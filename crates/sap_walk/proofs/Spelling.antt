@@ -1,12 +1,12 @@
 -- What is to come, spelled out: `Lang s p q` says that s, in the words of a grammar, stands from p to q.
 use Rattle.std.proofs.Common.{◌≡◌, List, [], ◌∷◌, ◌++◌, Result, Ok, Err, refl, sym, ap, subst, ◌∙◌, append_assoc}
-use Rattle.sap_walk.specs.Walk.{Next, Take, Skip, Stop, Table, Move, Taken, Refused, chosen, entered, Point, settle}
+use Rattle.sap_walk.specs.Walk.{Next, begins, empty_here, cannot_stand, Table, Move, moved_past, rejected, chosen, entered, Point, settle}
 use Rattle.sap_walk.proofs.Running.{Runs, stay, take}
 
-pub taken_past : {P S L : Type 0} {q q' : P} {σ σ' : List S} → ◌≡◌ {A = Move P S L} (Taken q σ) (Taken q' σ') → q ≡ q'
+pub taken_past : {P S L : Type 0} {q q' : P} {σ σ' : List S} → ◌≡◌ {A = Move P S L} (moved_past q σ) (moved_past q' σ') → q ≡ q'
 taken_past e = cc
 
-pub taken_symbols : {P S L : Type 0} {q q' : P} {σ σ' : List S} → ◌≡◌ {A = Move P S L} (Taken q σ) (Taken q' σ') → σ ≡ σ'
+pub taken_symbols : {P S L : Type 0} {q q' : P} {σ σ' : List S} → ◌≡◌ {A = Move P S L} (moved_past q σ) (moved_past q' σ') → σ ≡ σ'
 taken_symbols e = cc
 
 module _ (W : Table) (Lang : W.Symbol → Point W → Point W → Type 0) where
@@ -22,18 +22,18 @@ module _ (W : Table) (Lang : W.Symbol → Point W → Point W → Type 0) where
   -- a symbol spelled after its first token, an empty one, and the shortest way to spell one
   pub record Spells : Type 0 where
     pub keeps : (s : W.Symbol) (t : W.Token) (ts : List W.Token) (past q : W.Past) (r : Point W) (role : W.Role) (σ : List W.Symbol)
-        → W.next s t ≡ Take role σ → W.enter role t past ≡ Ok q → Langs σ (record { past = q; left = ts }) r → Lang s (record { past = past; left = t ∷ ts }) r
-    pub empties : (s : W.Symbol) (t : W.Token) (p : Point W) → W.next s t ≡ Skip → Lang s p p
+        → W.next s t ≡ begins role σ → W.enter role t past ≡ Ok q → Langs σ (record { past = q; left = ts }) r → Lang s (record { past = past; left = t ∷ ts }) r
+    pub empties : (s : W.Symbol) (t : W.Token) (p : Point W) → W.next s t ≡ empty_here → Lang s p p
     pub least : (s : W.Symbol) (past : W.Past)
         → (ts : List W.Token) × (q : W.Past) × ((rest : List W.Token) → Lang s (record { past = past; left = ts ++ rest }) (record { past = q; left = rest }))
 
   module _ (spells : Spells) where
-    settle_keeps : (t : W.Token) (ts : List W.Token) (past q : W.Past) (γ σ : List W.Symbol) (r : Point W) → settle W t past γ ≡ Taken q σ
+    settle_keeps : (t : W.Token) (ts : List W.Token) (past q : W.Past) (γ σ : List W.Symbol) (r : Point W) → settle W t past γ ≡ moved_past q σ
         → Langs σ (record { past = q; left = ts }) r → Langs γ (record { past = past; left = t ∷ ts }) r
     unfolding settle
     settle_keeps t ts past q [] σ r e h = absurd (cc)
     settle_keeps t ts past q (s ∷ γ) σ r e h = by_next (W.next s t) refl e (λ e. settle_keeps t ts past q γ σ r e h) where
-      by_enter : (role : W.Role) (ρ : List W.Symbol) → W.next s t ≡ Take role ρ → (o : Result W.Past W.Limit) → W.enter role t past ≡ o → entered o (ρ ++ γ) ≡ Taken q σ
+      by_enter : (role : W.Role) (ρ : List W.Symbol) → W.next s t ≡ begins role ρ → (o : Result W.Past W.Limit) → W.enter role t past ≡ o → entered o (ρ ++ γ) ≡ moved_past q σ
           → Langs (s ∷ γ) (record { past = past; left = t ∷ ts }) r
       by_enter role ρ n (Ok q') w e =
           let there = subst (λ x. Langs x (record { past = q; left = ts }) r) (sym (taken_symbols e)) h in
@@ -41,11 +41,11 @@ module _ (W : Table) (Lang : W.Symbol → Point W → Point W → Type 0) where
           (c.0, spells.keeps s t ts past q c.0 role ρ n (w ∙ ap (λ x. Ok x) (taken_past e)) c.1, c.2)
       by_enter role ρ n (Err limit) w e = absurd (cc)
 
-      by_next : (n : Next W.Symbol W.Role) → W.next s t ≡ n → chosen n (λ role ρ. entered (W.enter role t past) (ρ ++ γ)) (settle W t past γ) Refused ≡ Taken q σ
-          → (settle W t past γ ≡ Taken q σ → Langs γ (record { past = past; left = t ∷ ts }) r) → Langs (s ∷ γ) (record { past = past; left = t ∷ ts }) r
-      by_next (Take role ρ) n e g = by_enter role ρ n (W.enter role t past) refl e
-      by_next Skip n e g = (record { past = past; left = t ∷ ts }, spells.empties s t (record { past = past; left = t ∷ ts }) n, g e)
-      by_next Stop n e g = absurd (cc)
+      by_next : (n : Next W.Symbol W.Role) → W.next s t ≡ n → chosen n (λ role ρ. entered (W.enter role t past) (ρ ++ γ)) (settle W t past γ) rejected ≡ moved_past q σ
+          → (settle W t past γ ≡ moved_past q σ → Langs γ (record { past = past; left = t ∷ ts }) r) → Langs (s ∷ γ) (record { past = past; left = t ∷ ts }) r
+      by_next (begins role ρ) n e g = by_enter role ρ n (W.enter role t past) refl e
+      by_next empty_here n e g = (record { past = past; left = t ∷ ts }, spells.empties s t (record { past = past; left = t ∷ ts }) n, g e)
+      by_next cannot_stand n e g = absurd (cc)
 
     -- what is to come after some tokens is, with these, what was to come
     pub runs_keep : {front : List W.Token} {past q : W.Past} {γ σ : List W.Symbol} → Runs W front past γ q σ → (ts : List W.Token) (r : Point W)

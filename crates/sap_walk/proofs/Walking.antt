@@ -1,7 +1,7 @@
 -- Laws of the walk.
 use Rattle.std.proofs.Common.{◌≡◌, List, [], ◌∷◌, ◌++◌, Result, Ok, Err, Bool, true, false, refl, sym, ap, ◌∙◌, append_assoc}
 use Rattle.std.proofs.lemmas.List.{append-nil}
-use Rattle.sap_walk.specs.Walk.{Next, Take, Skip, Stop, Table, at_token, at_limit, Move, Taken, Unneeded, Refused, Breaks, ◌>>=◌, chosen, moved, entered, if_empty, Point, Outcome, settle, at_end, walk, read, steps}
+use Rattle.sap_walk.specs.Walk.{Next, begins, empty_here, cannot_stand, Table, at_token, at_limit, Move, moved_past, not_needed, rejected, breaks_limit, ◌>>=◌, chosen, moved, entered, if_empty, Point, Outcome, settle, at_end, walk, read, steps}
 
 pub bind_ok : {S E : Type 0} (o : Result S E) (f : S → Result S E) (p : S) → o ≡ Ok p → (o >>= f) ≡ f p
 bind_ok o f p e = ap (λ x. x >>= f) e
@@ -23,10 +23,10 @@ bind_bind (Err e) f g = refl
 
 -- what is to come behind: where the token is not needed before it, it decides
 abbrev pub then_with : {Past Symbol Limit : Type 0} → Move Past Symbol Limit → List Symbol → Move Past Symbol Limit → Move Past Symbol Limit
-then_with (Taken past σ) γ m = Taken past (σ ++ γ)
-then_with Unneeded γ m = m
-then_with Refused γ m = Refused
-then_with (Breaks limit) γ m = Breaks limit
+then_with (moved_past past σ) γ m = moved_past past (σ ++ γ)
+then_with not_needed γ m = m
+then_with rejected γ m = rejected
+then_with (breaks_limit limit) γ m = breaks_limit limit
 
 module _ (W : Table) where
   pub settle_append : (t : W.Token) (past : W.Past) (α γ : List W.Symbol) → settle W t past (α ++ γ) ≡ then_with (settle W t past α) γ (settle W t past γ)
@@ -34,15 +34,15 @@ module _ (W : Table) where
   settle_append t past [] γ = refl
   settle_append t past (s ∷ α) γ = by_next (W.next s t) (settle_append t past α γ) where
     by_enter : (r : Result W.Past W.Limit) (σ : List W.Symbol) → entered r (σ ++ (α ++ γ)) ≡ then_with (entered r (σ ++ α)) γ (settle W t past γ)
-    by_enter (Ok q) σ = ap (λ x. Taken q x) (sym (append_assoc σ α γ))
+    by_enter (Ok q) σ = ap (λ x. moved_past q x) (sym (append_assoc σ α γ))
     by_enter (Err limit) σ = refl
 
     by_next : (n : Next W.Symbol W.Role) → settle W t past (α ++ γ) ≡ then_with (settle W t past α) γ (settle W t past γ)
-        → chosen n (λ role σ. entered (W.enter role t past) (σ ++ (α ++ γ))) (settle W t past (α ++ γ)) Refused
-        ≡ then_with (chosen n (λ role σ. entered (W.enter role t past) (σ ++ α)) (settle W t past α) Refused) γ (settle W t past γ)
-    by_next (Take role σ) e = by_enter (W.enter role t past) σ
-    by_next Skip e = e
-    by_next Stop e = refl
+        → chosen n (λ role σ. entered (W.enter role t past) (σ ++ (α ++ γ))) (settle W t past (α ++ γ)) rejected
+        ≡ then_with (chosen n (λ role σ. entered (W.enter role t past) (σ ++ α)) (settle W t past α) rejected) γ (settle W t past γ)
+    by_next (begins role σ) e = by_enter (W.enter role t past) σ
+    by_next empty_here e = e
+    by_next cannot_stand e = refl
 
   end_append : (past : W.Past) (α γ : List W.Symbol) → at_end W past (α ++ γ) ≡ (at_end W past α >>= λ p. walk W p.left p.past γ)
   unfolding walk at_end
@@ -70,10 +70,10 @@ module _ (W : Table) where
       ap (after t ts past) (settle_append t past α γ) ∙ by_move (settle W t past α) (λ q σ. walk_append ts q σ γ) where
         by_move : (m : Move W.Past W.Symbol W.Limit) → ((q : W.Past) (σ : List W.Symbol) → walk W ts q (σ ++ γ) ≡ (walk W ts q σ >>= λ p. walk W p.left p.past γ))
             → after t ts past (then_with m γ (settle W t past γ)) ≡ (after t ts past m >>= λ p. walk W p.left p.past γ)
-        by_move (Taken q σ) h = h q σ
-        by_move Unneeded h = refl
-        by_move Refused h = refl
-        by_move (Breaks limit) h = refl
+        by_move (moved_past q σ) h = h q σ
+        by_move not_needed h = refl
+        by_move rejected h = refl
+        by_move (breaks_limit limit) h = refl
 
   pub walk_none : (ts : List W.Token) (past : W.Past) → walk W ts past [] ≡ Ok (record { past = past; left = ts })
   unfolding walk settle at_end
@@ -91,27 +91,27 @@ module _ (W : Table) where
 
   -- what one symbol reads at a token
   module _ (s : W.Symbol) (t : W.Token) (ts : List W.Token) (past : W.Past) where
-    pub read_take : (role : W.Role) (σ : List W.Symbol) (q : W.Past) → W.next s t ≡ Take role σ → W.enter role t past ≡ Ok q
+    pub read_take : (role : W.Role) (σ : List W.Symbol) (q : W.Past) → W.next s t ≡ begins role σ → W.enter role t past ≡ Ok q
         → read W s (record { past = past; left = t ∷ ts }) ≡ steps W σ (record { past = q; left = ts })
     unfolding read walk settle
     read_take role σ q h e =
-        ap (λ n. after t ts past (chosen n (λ role σ. entered (W.enter role t past) (σ ++ [])) Unneeded Refused)) h
+        ap (λ n. after t ts past (chosen n (λ role σ. entered (W.enter role t past) (σ ++ [])) not_needed rejected)) h
         ∙ ap (λ r. after t ts past (entered r (σ ++ []))) e ∙ ap (λ x. walk W ts q x) (append-nil σ) ∙ walk_steps σ (record { past = q; left = ts })
 
-    pub read_break : (role : W.Role) (σ : List W.Symbol) (limit : W.Limit) → W.next s t ≡ Take role σ → W.enter role t past ≡ Err limit
+    pub read_break : (role : W.Role) (σ : List W.Symbol) (limit : W.Limit) → W.next s t ≡ begins role σ → W.enter role t past ≡ Err limit
         → read W s (record { past = past; left = t ∷ ts }) ≡ Err (at_limit limit (record { past = past; left = t ∷ ts }))
     unfolding read walk settle
     read_break role σ limit h e =
-        ap (λ n. after t ts past (chosen n (λ role σ. entered (W.enter role t past) (σ ++ [])) Unneeded Refused)) h
+        ap (λ n. after t ts past (chosen n (λ role σ. entered (W.enter role t past) (σ ++ [])) not_needed rejected)) h
         ∙ ap (λ r. after t ts past (entered r (σ ++ []))) e
 
-    pub read_skip : W.next s t ≡ Skip → read W s (record { past = past; left = t ∷ ts }) ≡ Ok (record { past = past; left = t ∷ ts })
+    pub read_skip : W.next s t ≡ empty_here → read W s (record { past = past; left = t ∷ ts }) ≡ Ok (record { past = past; left = t ∷ ts })
     unfolding read walk settle
-    read_skip h = ap (λ n. after t ts past (chosen n (λ role σ. entered (W.enter role t past) (σ ++ [])) Unneeded Refused)) h
+    read_skip h = ap (λ n. after t ts past (chosen n (λ role σ. entered (W.enter role t past) (σ ++ [])) not_needed rejected)) h
 
-    pub read_stop : W.next s t ≡ Stop → read W s (record { past = past; left = t ∷ ts }) ≡ Err (at_token (record { past = past; left = t ∷ ts }))
+    pub read_stop : W.next s t ≡ cannot_stand → read W s (record { past = past; left = t ∷ ts }) ≡ Err (at_token (record { past = past; left = t ∷ ts }))
     unfolding read walk settle
-    read_stop h = ap (λ n. after t ts past (chosen n (λ role σ. entered (W.enter role t past) (σ ++ [])) Unneeded Refused)) h
+    read_stop h = ap (λ n. after t ts past (chosen n (λ role σ. entered (W.enter role t past) (σ ++ [])) not_needed rejected)) h
 
   pub read_empty : (s : W.Symbol) (past : W.Past) → W.may_be_empty s ≡ true → read W s (record { past = past; left = [] }) ≡ Ok (record { past = past; left = [] })
   unfolding read walk at_end

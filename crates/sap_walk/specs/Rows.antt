@@ -1,33 +1,33 @@
 -- Words for the rows of a table: what a token does with a symbol, from what it does with others.
 use Rattle.std.specs.Prelude.{List, [], ◌∷◌, ◌++◌}
-use Rattle.sap_walk.specs.Walk.{Next, Take, Skip, Stop}
+use Rattle.sap_walk.specs.Walk.{Next, begins, empty_here, cannot_stand}
 
 -- where the token is taken, these symbols come behind the others
 abbrev pub push : {S R : Type 0} → Next S R → List S → Next S R
-push (Take role σ) τ = Take role (σ ++ τ)
-push Skip τ = Skip
-push Stop τ = Stop
+push (begins role σ) τ = begins role (σ ++ τ)
+push empty_here τ = empty_here
+push cannot_stand τ = cannot_stand
 
 -- what the token can't begin is left out
 abbrev pub optional : {S R : Type 0} → Next S R → Next S R
-optional (Take role σ) = Take role σ
-optional Skip = Skip
-optional Stop = Skip
+optional (begins role σ) = begins role σ
+optional empty_here = empty_here
+optional cannot_stand = empty_here
 
 -- the first of the two that the token begins
 infixr 12 ◌or◌
 abbrev pub ◌or◌ : {S R : Type 0} → Next S R → Next S R → Next S R
-(Take role σ) or n = Take role σ
-Skip or n = Skip
-Stop or n = n
+(begins role σ) or n = begins role σ
+empty_here or n = empty_here
+cannot_stand or n = n
 
 -- one symbol and then others; what is last says what the token does with the others
 abbrev pub first_then : {S R : Type 0} → Next S R → List S → Next S R → Next S R
-first_then (Take role σ) τ n = Take role (σ ++ τ)
-first_then Skip τ n = n
-first_then Stop τ n = Stop
+first_then (begins role σ) τ n = begins role (σ ++ τ)
+first_then empty_here τ n = n
+first_then cannot_stand τ n = cannot_stand
 
 -- several symbols, one after another
 abbrev pub firsts : {S R : Type 0} → (S → Next S R) → List S → Next S R
-firsts row [] = Skip
+firsts row [] = empty_here
 firsts row (s ∷ σ) = first_then (row s) σ (firsts row σ)

@@ -4,8 +4,8 @@ use Rattle.std.specs.Prelude.{List, [], ◌∷◌, ◌++◌, Result, Ok, Err, Bo
 -- What the next token does with the symbol that is to come: it is the first token of it, in this role, and these symbols come behind it; the
 -- symbol is empty here; or the token cannot stand here.
 pub data Next (Symbol Role : Type 0) : Type 0 where
-  Take : Role → List Symbol → Next Symbol Role
-  Skip Stop : Next Symbol Role
+  begins : Role → List Symbol → Next Symbol Role
+  empty_here cannot_stand : Next Symbol Role
 
 -- A grammar as the walk reads it. `Past` is what is kept of the tokens that went by, and `enter` adds to it a token in its role, or says which
 -- limit that token breaks.
@@ -32,9 +32,9 @@ pub data Halt (S Limit : Type 0) : Type 0 where
 -- what a token does with all that is to come: it is taken, and then this is kept and that is to come; it is not needed; it cannot stand here;
 -- or it breaks a limit
 pub data Move (Past Symbol Limit : Type 0) : Type 0 where
-  Taken : Past → List Symbol → Move Past Symbol Limit
-  Unneeded Refused : Move Past Symbol Limit
-  Breaks : Limit → Move Past Symbol Limit
+  moved_past : Past → List Symbol → Move Past Symbol Limit
+  not_needed rejected : Move Past Symbol Limit
+  breaks_limit : Limit → Move Past Symbol Limit
 
 infixl 10 ◌>>=◌
 abbrev pub ◌>>=◌ : {S E : Type 0} → Result S E → (S → Result S E) → Result S E
@@ -42,19 +42,19 @@ abbrev pub ◌>>=◌ : {S E : Type 0} → Result S E → (S → Result S E) → 
 (Err e) >>= f = Err e
 
 abbrev pub entered : {Past Symbol Limit : Type 0} → Result Past Limit → List Symbol → Move Past Symbol Limit
-entered (Ok past) σ = Taken past σ
-entered (Err limit) σ = Breaks limit
+entered (Ok past) σ = moved_past past σ
+entered (Err limit) σ = breaks_limit limit
 
 abbrev pub chosen : {Symbol Role A : Type 0} → Next Symbol Role → (Role → List Symbol → A) → A → A → A
-chosen (Take role σ) take skip stop = take role σ
-chosen Skip take skip stop = skip
-chosen Stop take skip stop = stop
+chosen (begins role σ) take skip stop = take role σ
+chosen empty_here take skip stop = skip
+chosen cannot_stand take skip stop = stop
 
 abbrev pub moved : {Past Symbol Limit A : Type 0} → Move Past Symbol Limit → (Past → List Symbol → A) → A → A → (Limit → A) → A
-moved (Taken past σ) taken unneeded refused breaks = taken past σ
-moved Unneeded taken unneeded refused breaks = unneeded
-moved Refused taken unneeded refused breaks = refused
-moved (Breaks limit) taken unneeded refused breaks = breaks limit
+moved (moved_past past σ) taken unneeded refused breaks = taken past σ
+moved not_needed taken unneeded refused breaks = unneeded
+moved rejected taken unneeded refused breaks = refused
+moved (breaks_limit limit) taken unneeded refused breaks = breaks limit
 
 abbrev pub if_empty : {A : Type 0} → Bool → A → A → A
 if_empty true a b = a
@@ -68,8 +68,8 @@ module _ (W : Table) where
   Outcome = Result Point (Halt Point W.Limit)
 
   unfoldable pub settle : W.Token → W.Past → List W.Symbol → Move W.Past W.Symbol W.Limit
-  settle t past [] = Unneeded
-  settle t past (s ∷ γ) = chosen (W.next s t) (λ role σ. entered (W.enter role t past) (σ ++ γ)) (settle t past γ) Refused
+  settle t past [] = not_needed
+  settle t past (s ∷ γ) = chosen (W.next s t) (λ role σ. entered (W.enter role t past) (σ ++ γ)) (settle t past γ) rejected
 
   unfoldable pub at_end : W.Past → List W.Symbol → Outcome
   at_end past [] = Ok (record { past = past; left = [] })

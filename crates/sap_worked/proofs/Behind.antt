@@ -2,7 +2,7 @@
 use Rattle.std.proofs.Common.{◌≡◌, ℕ, Bool, refl, sym, inl, inr}
 use Rattle.std.proofs.lemmas.Bool.{cases_Bool}
 use Rattle.sap_meaning.proofs.StoreLemmas.{and_stay}
-use Rattle.sap_meaning.specs.Program.{World, Step, Try}
+use Rattle.sap_meaning.specs.Program.{World, Step, try}
 use Rattle.sap_meaning.specs.Store.{Store, After, stay}
 use Rattle.sap_meaning.specs.Checks.{Spot, test}
 use Rattle.sap_meaning.specs.Touches.{touches}
@@ -16,4 +16,4 @@ attempt_is w at enter k hangs h pc s = elim (cases_Bool (test w at k pc s)) [ in
 
 pub nothing_behind : NothingBehind
 unfolding does does_block
-nothing_behind w at enter k hang h pc s = attempt_is w at enter k (touches w at (Try k hang h)) (does_block w at enter h) pc s
+nothing_behind w at enter k hang h pc s = attempt_is w at enter k (touches w at (try k hang h)) (does_block w at enter h) pc s

@@ -1,7 +1,7 @@
 -- Commands with `then`, and `case`.
 use Rattle.std.specs.Prelude.{◌≡◌, ℕ, Bool, List, [], ◌∷◌}
 use Rattle.sap_maps.specs.Term.{read}
-use Rattle.sap_meaning.specs.Program.{World, Step, Block, Last, Arm, Case, Set, Do, Try, TryThen, End, Then, Node, None, More, Program}
+use Rattle.sap_meaning.specs.Program.{World, Step, Block, last_arm, and_arm, case_of, assign, lone, try, try_then, end_block, command_then, state_node, no_node, and_node, Program}
 use Rattle.sap_meaning.specs.Store.{Store, After, own}
 use Rattle.sap_meaning.specs.Checks.{Spot}
 use Rattle.sap_meaning.specs.Does.{does}
@@ -13,8 +13,8 @@ use Rattle.sap_worked.specs.Rows.{low, left, right, high, put, goes, Look, row, 
 -- state T enforced low { x := 3; goto S; }
 abbrev pub accepted_or_not : Program
 accepted_or_not = program_of four_levels (an_input 8 ∷ held_register 8 low 0 ∷ a_register 8 ∷ held_state 0 3 low ∷ held_state 1 4 low ∷ []) (0 ∷ 0 ∷ 0 ∷ 0 ∷ 0 ∷ 2 ∷ [])
-    (More (Node 3 (Then (TryThen (Set 1 1 (read 0)) [] (Then (put 0 2 1) (goes 2 4)) (Then (put 0 2 2) (goes 3 3))) End) None)
-    (More (Node 4 (Then (put 0 2 3) (goes 4 3)) None) None))
+    (and_node (state_node 3 (command_then (try_then (assign 1 1 (read 0)) [] (command_then (put 0 2 1) (goes 2 4)) (command_then (put 0 2 2) (goes 3 3))) end_block) no_node)
+    (and_node (state_node 4 (command_then (put 0 2 3) (goes 4 3)) no_node) no_node))
 
 -- y and x, and which state is current
 abbrev pub at_y_and_x : Look
@@ -32,7 +32,7 @@ AcceptedOrNot = rows accepted_or_not at_y_and_x ((at_level high 5 ∷ []) ∷ (a
 -- state S enforced low { y := a then { x := y; } otherwise { z := 6; } goto S; }
 abbrev pub in_guard : Program
 in_guard = program_of four_levels (an_input 8 ∷ held_register 8 left 1 ∷ a_register 8 ∷ a_register 8 ∷ held_state 0 4 low ∷ []) (0 ∷ 0 ∷ 0 ∷ 0 ∷ 0 ∷ 1 ∷ [])
-    (loop 4 2 (λ b. Then (TryThen (Set 1 1 (read 0)) [] (Then (Do (Set 0 2 (read 1))) End) (Then (put 0 3 6) End)) b))
+    (loop 4 2 (λ b. command_then (try_then (assign 1 1 (read 0)) [] (command_then (lone (assign 0 2 (read 1))) end_block) (command_then (put 0 3 6) end_block)) b))
 
 abbrev pub three_registers : Look
 three_registers = record { values = own 1 ∷ own 2 ∷ own 3 ∷ []; states = []; parents = [] }
@@ -51,7 +51,7 @@ RefusedInGuard = rows in_guard three_registers ((at_level right 9 ∷ []) ∷ []
 -- state S enforced low { y := a then { z := x; } otherwise { z := a; } goto S; }
 abbrev pub sites_in_blocks : Program
 sites_in_blocks = program_of four_levels (an_input 8 ∷ held_register 8 low 1 ∷ held_register 8 low 2 ∷ a_register 8 ∷ held_state 0 4 low ∷ []) (0 ∷ 0 ∷ 0 ∷ 0 ∷ 0 ∷ 1 ∷ [])
-    (loop 4 4 (λ b. Then (TryThen (Set 1 1 (read 0)) [] (Then (Do (Set 2 2 (read 3))) End) (Then (Do (Set 3 2 (read 0))) End)) b))
+    (loop 4 4 (λ b. command_then (try_then (assign 1 1 (read 0)) [] (command_then (lone (assign 2 2 (read 3))) end_block) (command_then (lone (assign 3 2 (read 0))) end_block)) b))
 
 abbrev pub two_registers : Look
 two_registers = record { values = own 1 ∷ own 2 ∷ []; states = []; parents = [] }
@@ -64,7 +64,7 @@ RefusedBeforeBlock = rows sites_in_blocks two_registers ((at_level high 5 ∷ []
 -- input a : 2; reg x : 8 dynamic; state S enforced low { case (a) { 0, 2: { x := 7; } else { x := 9; } } goto S; }
 abbrev pub decoder : Program
 decoder = program_of four_levels (an_input 2 ∷ a_register 8 ∷ held_state 0 2 low ∷ []) (0 ∷ 0 ∷ 0 ∷ 1 ∷ [])
-    (loop 2 1 (λ b. Then (Case [] (read 0) (Arm (0 ∷ 2 ∷ []) (Then (put 0 1 7) End) (Last (Then (put 0 1 9) End)))) b))
+    (loop 2 1 (λ b. command_then (case_of [] (read 0) (and_arm (0 ∷ 2 ∷ []) (command_then (put 0 1 7) end_block) (last_arm (command_then (put 0 1 9) end_block)))) b))
 
 abbrev pub at_x : Look
 at_x = record { values = own 1 ∷ []; states = []; parents = [] }
@@ -78,8 +78,8 @@ Decoded = rows decoder at_x ((at_level high 2 ∷ []) ∷ (at_level low 1 ∷ []
 -- state S enforced low { case (a) { 1: { x := 1; } 3, 1: { z := 2; } else { z := 3; } } goto S; }
 abbrev pub repeated : Program
 repeated = program_of four_levels (an_input 2 ∷ a_register 8 ∷ a_register 8 ∷ held_state 0 3 low ∷ []) (0 ∷ 0 ∷ 0 ∷ 0 ∷ 1 ∷ [])
-    (loop 3 1 (λ b. Then (Case [] (read 0)
-    (Arm (1 ∷ []) (Then (put 0 1 1) End) (Arm (3 ∷ 1 ∷ []) (Then (put 0 2 2) End) (Last (Then (put 0 2 3) End))))) b))
+    (loop 3 1 (λ b. command_then (case_of [] (read 0)
+    (and_arm (1 ∷ []) (command_then (put 0 1 1) end_block) (and_arm (3 ∷ 1 ∷ []) (command_then (put 0 2 2) end_block) (last_arm (command_then (put 0 2 3) end_block))))) b))
 
 -- Of two arms with one constant the first counts. What another block assigns is raised by the level of the number.
 abbrev pub FirstArm : Type 0
@@ -92,4 +92,4 @@ FirstArm = rows repeated two_registers ((at_level left 1 ∷ []) ∷ (at_level l
 -- A command without `then` does the same as with nothing in its first block.
 abbrev pub NothingBehind : Type 0
 NothingBehind = (w : World) (at : Spot) (enter : ℕ → ℕ → Store → After) (k : Step) (hang : List Bool) (h : Block) (pc : ℕ) (s : Store)
-    → does w at enter (Try k hang h) pc s ≡ does w at enter (TryThen k hang End h) pc s
+    → does w at enter (try k hang h) pc s ≡ does w at enter (try_then k hang end_block h) pc s

@@ -1,6 +1,6 @@
 -- A design whose states are compared, and how they are changed.
 use Rattle.std.specs.Prelude.{ℕ, [], ◌∷◌}
-use Rattle.sap_meaning.specs.Program.{World, Fall, Do, Block, End, Then, Node, None, More, Program}
+use Rattle.sap_meaning.specs.Program.{World, fall_to_child, lone, Block, end_block, command_then, state_node, no_node, and_node, Program}
 use Rattle.sap_meaning.specs.Store.{Store, Slot, own, start, next, put_number, put_level, put_child}
 use Rattle.sap_meaning.specs.State.{first}
 use Rattle.sap_meaning.specs.Examples.{four_levels, an_input, a_register, held_register, a_memory, held_memory, a_state, held_state}
@@ -78,17 +78,17 @@ ground_world = record {
 
 -- a body that falls
 abbrev pub falls : (site : ℕ) → Block
-falls site = Then (Do (Fall site [])) End
+falls site = command_then (lone (fall_to_child site [])) end_block
 
 abbrev pub ground : Program
 ground = record {
   world = ground_world;
   states =
-      More (Node state_p (falls 1)
-      (More (Node state_c (falls 0) (More (Node state_f (goes 0 state_g) None) (More (Node state_g (goes 0 state_f) None) None)))
-      (More (Node state_d (goes 2 state_e) None)
-      (More (Node state_e (goes 3 state_c) None) None))))
-      (More (Node state_q (falls 4) (More (Node state_i (goes 5 state_j) None) (More (Node state_j (goes 6 state_i) None) None))) None);
+      and_node (state_node state_p (falls 1)
+      (and_node (state_node state_c (falls 0) (and_node (state_node state_f (goes 0 state_g) no_node) (and_node (state_node state_g (goes 0 state_f) no_node) no_node)))
+      (and_node (state_node state_d (goes 2 state_e) no_node)
+      (and_node (state_node state_e (goes 3 state_c) no_node) no_node))))
+      (and_node (state_node state_q (falls 4) (and_node (state_node state_i (goes 5 state_j) no_node) (and_node (state_node state_j (goes 6 state_i) no_node) no_node))) no_node);
   hang = [];
 }
 

@@ -1,7 +1,7 @@
 -- Handlers of refused transfers, and several refusals in one cycle.
 use Rattle.std.specs.Prelude.{◌≡◌, [], ◌∷◌}
 use Rattle.sap_maps.specs.Term.{constant, read}
-use Rattle.sap_meaning.specs.Program.{Set, Goto, Fall, Do, Try, If, End, Then, Node, None, More, Program}
+use Rattle.sap_meaning.specs.Program.{assign, go_to, fall_to_child, lone, try, if_else, end_block, command_then, state_node, no_node, and_node, Program}
 use Rattle.sap_meaning.specs.Store.{own}
 use Rattle.sap_meaning.specs.Examples.{four_levels, an_input, a_register, held_register, a_state, held_state, at_level, refused_at, program_of, loop}
 use Rattle.sap_worked.specs.Rows.{low, left, right, high, state_under, put, goes, Look, row, rows}
@@ -13,8 +13,8 @@ use Rattle.sap_worked.specs.Rows.{low, left, right, high, state_under, put, goes
 -- }
 abbrev pub fall_handled : Program
 fall_handled = program_of four_levels (an_input 1 ∷ a_register 8 ∷ held_register 8 left 0 ∷ held_state 0 4 low ∷ held_state 0 4 right ∷ []) (0 ∷ 0 ∷ 0 ∷ 1 ∷ 0 ∷ 1 ∷ [])
-    (More (Node 3 (Then (If [] (read 0) (Then (Try (Fall 1 []) [] (Then (put 0 1 5) (Then (put 2 2 6) (goes 3 3)))) End) (goes 4 3)) End)
-    (More (Node 4 (goes 5 4) None) None)) None)
+    (and_node (state_node 3 (command_then (if_else [] (read 0) (command_then (try (fall_to_child 1 []) [] (command_then (put 0 1 5) (command_then (put 2 2 6) (goes 3 3)))) end_block) (goes 4 3)) end_block)
+    (and_node (state_node 4 (goes 5 4) no_node) no_node)) no_node)
 
 abbrev pub at_x_and_y : Look
 at_x_and_y = record { values = own 1 ∷ own 2 ∷ []; states = []; parents = [] }
@@ -35,14 +35,14 @@ HandlerRaises = rows fall_handled at_x_and_y ((at_level low 1 ∷ []) ∷ [])
 -- state T enforced left under left { goto T; }
 abbrev pub from_dynamic : Program
 from_dynamic = program_of four_levels (an_input 1 ∷ a_register 8 ∷ held_register 8 right 0 ∷ a_state 0 3 ∷ state_under 1 4 left left ∷ []) (0 ∷ 0 ∷ 0 ∷ 0 ∷ 0 ∷ 2 ∷ [])
-    (More (Node 3 (Then (If [] (read 0) (Then (Try (Goto 1 4) [] (Then (put 0 1 5) (Then (put 2 2 6) (goes 0 3)))) End) (goes 0 3)) End) None)
-    (More (Node 4 (goes 3 4) None) None))
+    (and_node (state_node 3 (command_then (if_else [] (read 0) (command_then (try (go_to 1 4) [] (command_then (put 0 1 5) (command_then (put 2 2 6) (goes 0 3)))) end_block) (goes 0 3)) end_block) no_node)
+    (and_node (state_node 4 (goes 3 4) no_node) no_node))
 
 -- state P enforced low { .. }, so that each goto in it is a check site
 abbrev pub from_enforced : Program
 from_enforced = program_of four_levels (an_input 1 ∷ a_register 8 ∷ held_register 8 right 0 ∷ held_state 0 3 low ∷ state_under 1 4 left left ∷ []) (0 ∷ 0 ∷ 0 ∷ 0 ∷ 0 ∷ 2 ∷ [])
-    (More (Node 3 (Then (If [] (read 0) (Then (Try (Goto 1 4) [] (Then (put 0 1 5) (Then (put 2 2 6) (goes 3 3)))) End) (goes 4 3)) End) None)
-    (More (Node 4 (goes 5 4) None) None))
+    (and_node (state_node 3 (command_then (if_else [] (read 0) (command_then (try (go_to 1 4) [] (command_then (put 0 1 5) (command_then (put 2 2 6) (goes 3 3)))) end_block) (goes 4 3)) end_block) no_node)
+    (and_node (state_node 4 (goes 5 4) no_node) no_node))
 
 -- x and y, the levels of P and T, and which is current
 abbrev pub at_p_and_t : Look
@@ -71,7 +71,7 @@ abbrev pub chained : Program
 chained = program_of four_levels
     (an_input 8 ∷ held_register 8 left 1 ∷ held_register 8 right 2 ∷ held_register 8 high 3 ∷ held_register 8 low 4 ∷ held_state 0 5 low ∷ [])
     (0 ∷ 0 ∷ 0 ∷ 0 ∷ 0 ∷ 0 ∷ 1 ∷ [])
-    (loop 5 5 (λ b. Then (Try (Set 1 1 (read 0)) [] (Then (Try (Set 2 2 (constant 8 8)) [] (Then (put 3 3 9) End)) End)) (Then (Do (Set 4 4 (read 0))) b)))
+    (loop 5 5 (λ b. command_then (try (assign 1 1 (read 0)) [] (command_then (try (assign 2 2 (constant 8 8)) [] (command_then (put 3 3 9) end_block)) end_block)) (command_then (lone (assign 4 4 (read 0))) b)))
 
 abbrev pub four_registers : Look
 four_registers = record { values = own 1 ∷ own 2 ∷ own 3 ∷ own 4 ∷ []; states = []; parents = [] }

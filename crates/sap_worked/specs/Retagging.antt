@@ -1,7 +1,7 @@
 -- What setTag does to cells and to states.
 use Rattle.std.specs.Prelude.{◌≡◌, ℕ, List, [], ◌∷◌}
 use Rattle.sap_maps.specs.Term.{constant, read}
-use Rattle.sap_meaning.specs.Program.{fixed, at_place, Write, Retag, RetagCell, Fall, Do, If, End, Then, Node, None, More, Program}
+use Rattle.sap_meaning.specs.Program.{fixed, at_place, write, retag, retag_cell, fall_to_child, lone, if_else, end_block, command_then, state_node, no_node, and_node, Program}
 use Rattle.sap_meaning.specs.Store.{own, start}
 use Rattle.sap_meaning.specs.Cycle.{Tagged}
 use Rattle.sap_meaning.specs.Examples.{four_levels, an_input, a_register, held_register, held_state, at_level, refused_at, program_of, loop}
@@ -11,7 +11,7 @@ use Rattle.sap_worked.specs.Rows.{low, left, right, high, memory_under, state_un
 -- state S enforced low { if (c) { k[j] := 7; } else { setTag(k[j], level(n)); } goto S; }
 abbrev pub retagged_cells : (level authority : ℕ) → Program
 retagged_cells t u = program_of four_levels (an_input 1 ∷ an_input 1 ∷ an_input 2 ∷ memory_under 8 2 t u ∷ held_state 0 4 low ∷ []) (0 ∷ 0 ∷ 0 ∷ 0 ∷ 0 ∷ 1 ∷ [])
-    (loop 4 3 (λ b. Then (If [] (read 0) (Then (Do (Write 1 3 (read 1) (constant 8 7))) End) (Then (Do (RetagCell 2 3 (read 1) (at_place (read 2)))) End)) b))
+    (loop 4 3 (λ b. command_then (if_else [] (read 0) (command_then (lone (write 1 3 (read 1) (constant 8 7))) end_block) (command_then (lone (retag_cell 2 3 (read 1) (at_place (read 2)))) end_block)) b))
 
 -- the two cells of k
 abbrev pub both_cells : Look
@@ -74,8 +74,8 @@ CellRefusedByLevel = rows (retagged_cells left left) both_cells (writes_seven �
 abbrev pub retagged_state : (authority : ℕ) → Program
 retagged_state u = program_of four_levels (an_input 1 ∷ an_input 2 ∷ a_register 8 ∷ held_register 8 left 0 ∷ held_state 0 4 low ∷ state_under 1 5 left u ∷ [])
     (0 ∷ 0 ∷ 0 ∷ 0 ∷ 0 ∷ 0 ∷ 2 ∷ [])
-    (More (Node 4 (Then (Do (Retag 1 5 (at_place (read 1)))) (Then (If [] (read 0) (goes 2 5) (goes 3 4)) End)) None)
-    (More (Node 5 (Then (put 4 3 1) (Then (put 0 2 2) (goes 5 4))) None) None))
+    (and_node (state_node 4 (command_then (lone (retag 1 5 (at_place (read 1)))) (command_then (if_else [] (read 0) (goes 2 5) (goes 3 4)) end_block)) no_node)
+    (and_node (state_node 5 (command_then (put 4 3 1) (command_then (put 0 2 2) (goes 5 4))) no_node) no_node))
 
 -- x and y, the level of Q, and which of P and Q is current
 abbrev pub into_q : Look
@@ -124,8 +124,8 @@ StateRefused = rows (retagged_state left) into_q
 -- state Q enforced low { setTag(C, left); goto P; }
 abbrev pub retagged_child : Program
 retagged_child = program_of four_levels (an_input 1 ∷ a_register 8 ∷ held_state 0 3 low ∷ held_state 0 3 low ∷ held_state 1 4 low ∷ []) (0 ∷ 0 ∷ 1 ∷ 0 ∷ 0 ∷ 2 ∷ [])
-    (More (Node 2 (Then (If [] (read 0) (Then (Do (Fall 1 [])) End) (goes 2 4)) End) (More (Node 3 (Then (put 0 1 1) (goes 3 3)) None) None))
-    (More (Node 4 (Then (Do (Retag 4 3 (fixed left))) (goes 5 2)) None) None))
+    (and_node (state_node 2 (command_then (if_else [] (read 0) (command_then (lone (fall_to_child 1 [])) end_block) (goes 2 4)) end_block) (and_node (state_node 3 (command_then (put 0 1 1) (goes 3 3)) no_node) no_node))
+    (and_node (state_node 4 (command_then (lone (retag 4 3 (fixed left))) (goes 5 2)) no_node) no_node))
 
 -- x, the level of C, and which of P and Q is current
 abbrev pub into_c : Look

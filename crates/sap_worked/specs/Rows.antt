@@ -1,7 +1,7 @@
 -- Four levels, entities over them, and what is looked at after each cycle of a run.
 use Rattle.std.specs.Prelude.{ℕ, false, List, map}
 use Rattle.sap_maps.specs.Term.{constant}
-use Rattle.sap_meaning.specs.Program.{World, Program, Entity, register, memory, state, Set, Goto, Command, Do, Block, End, Then}
+use Rattle.sap_meaning.specs.Program.{World, Program, Entity, register, memory, state, assign, go_to, Command, lone, Block, end_block, command_then}
 use Rattle.sap_meaning.specs.Store.{Slot, own, Store, Refusal, After, number, level, child}
 use Rattle.sap_meaning.specs.Cycle.{Tagged}
 use Rattle.sap_meaning.specs.State.{labelled_run}
@@ -32,11 +32,11 @@ state_under n m t a = record { kind = state n m; width = 0; dynamic = false; dec
 
 -- x := n, where x has 8 bits
 abbrev pub put : (site x n : ℕ) → Command
-put site x n = Do (Set site x (constant 8 n))
+put site x n = lone (assign site x (constant 8 n))
 
 -- the list that is a goto alone
 abbrev pub goes : (site target : ℕ) → Block
-goes site target = Then (Do (Goto site target)) End
+goes site target = command_then (lone (go_to site target)) end_block
 
 -- What is looked at: the numbers of registers and cells with their levels, the levels of states, and the places of the
 -- current children of states and of the root.

@@ -1,7 +1,7 @@
 -- What goto and fall raise and lower.
 use Rattle.std.specs.Prelude.{◌≡◌, [], ◌∷◌}
 use Rattle.sap_maps.specs.Term.{constant, read}
-use Rattle.sap_meaning.specs.Program.{Write, Fall, Do, If, End, Then, Node, None, More, Program}
+use Rattle.sap_meaning.specs.Program.{write, fall_to_child, lone, if_else, end_block, command_then, state_node, no_node, and_node, Program}
 use Rattle.sap_meaning.specs.Store.{own, start}
 use Rattle.sap_meaning.specs.Examples.{four_levels, an_input, a_register, a_memory, a_state, held_state, at_level, refused_at, program_of}
 use Rattle.sap_worked.specs.Rows.{low, left, right, high, state_under, put, goes, Look, row, rows}
@@ -18,11 +18,11 @@ abbrev pub lowers_below : Program
 lowers_below = program_of four_levels
     (an_input 1 ∷ an_input 1 ∷ a_register 8 ∷ held_state 0 7 low ∷ a_state 0 4 ∷ a_state 1 6 ∷ a_state 0 6 ∷ held_state 2 7 right ∷ held_state 1 8 low ∷ [])
     (0 ∷ 0 ∷ 0 ∷ 3 ∷ 0 ∷ 1 ∷ 0 ∷ 0 ∷ 0 ∷ 2 ∷ [])
-    (More (Node 3 (Then (If [] (read 0) (goes 1 8) (Then (Do (Fall 2 [])) End)) End)
-    (More (Node 4 (Then (If [] (read 1) (goes 0 5) (goes 0 4)) End) None)
-    (More (Node 5 (Then (Do (Fall 0 [])) End) (More (Node 6 (Then (put 0 2 2) (goes 0 6)) None) None))
-    (More (Node 7 (goes 3 7) None) None))))
-    (More (Node 8 (goes 4 3) None) None))
+    (and_node (state_node 3 (command_then (if_else [] (read 0) (goes 1 8) (command_then (lone (fall_to_child 2 [])) end_block)) end_block)
+    (and_node (state_node 4 (command_then (if_else [] (read 1) (goes 0 5) (goes 0 4)) end_block) no_node)
+    (and_node (state_node 5 (command_then (lone (fall_to_child 0 [])) end_block) (and_node (state_node 6 (command_then (put 0 2 2) (goes 0 6)) no_node) no_node))
+    (and_node (state_node 7 (goes 3 7) no_node) no_node))))
+    (and_node (state_node 8 (goes 4 3) no_node) no_node))
 
 -- x, the levels of C, D, G and E, and the current children of the root and of P
 abbrev pub below_p : Look
@@ -44,7 +44,7 @@ LowersBelow = rows lowers_below below_p
 -- state T enforced left under left { goto T; }
 abbrev pub to_enforced : Program
 to_enforced = program_of four_levels (an_input 1 ∷ a_state 0 1 ∷ state_under 1 2 left left ∷ []) (0 ∷ 0 ∷ 0 ∷ 2 ∷ [])
-    (More (Node 1 (Then (If [] (read 0) (goes 1 2) (goes 0 1)) End) None) (More (Node 2 (goes 2 2) None) None))
+    (and_node (state_node 1 (command_then (if_else [] (read 0) (goes 1 2) (goes 0 1)) end_block) no_node) (and_node (state_node 2 (goes 2 2) no_node) no_node))
 
 -- the levels of S and T, and which is current
 abbrev pub at_s_and_t : Look
@@ -70,9 +70,9 @@ RaisedWhereRefused = rows to_enforced at_s_and_t ((at_level right 1 ∷ []) ∷ 
 -- }
 abbrev pub falls : Program
 falls = program_of four_levels (an_input 1 ∷ a_register 8 ∷ a_memory 8 2 ∷ held_state 0 5 low ∷ held_state 0 4 right ∷ a_state 1 5 ∷ []) (0 ∷ 0 ∷ 0 ∷ 2 ∷ 0 ∷ 0 ∷ 1 ∷ [])
-    (More (Node 3 (Then (If [] (read 0) (Then (Do (Fall 1 [])) End) (goes 2 3)) End)
-    (More (Node 4 (goes 3 4) None)
-    (More (Node 5 (Then (put 0 1 1) (Then (Do (Write 0 2 (constant 1 0) (constant 8 2))) (goes 0 5))) None) None))) None)
+    (and_node (state_node 3 (command_then (if_else [] (read 0) (command_then (lone (fall_to_child 1 [])) end_block) (goes 2 3)) end_block)
+    (and_node (state_node 4 (goes 3 4) no_node)
+    (and_node (state_node 5 (command_then (put 0 1 1) (command_then (lone (write 0 2 (constant 1 0) (constant 8 2))) (goes 0 5))) no_node) no_node))) no_node)
 
 -- x and a cell of m, the levels of C and D, and which is current: what hangs on the fall but isn't touched in C
 abbrev pub hanging : Look

@@ -1,7 +1,7 @@
 -- Writes to memories.
 use Rattle.std.specs.Prelude.{◌≡◌, ℕ, List, [], ◌∷◌}
 use Rattle.sap_maps.specs.Term.{read}
-use Rattle.sap_meaning.specs.Program.{Entity, Write, Do, Then, Program}
+use Rattle.sap_meaning.specs.Program.{Entity, write, lone, command_then, Program}
 use Rattle.sap_meaning.specs.Store.{start}
 use Rattle.sap_meaning.specs.Cycle.{Tagged}
 use Rattle.sap_meaning.specs.Examples.{four_levels, an_input, a_memory, held_memory, held_state, at_level, refused_at, program_of, loop}
@@ -10,7 +10,7 @@ use Rattle.sap_worked.specs.Rows.{low, left, right, high, Look, row, rows}
 -- input i : 1; input a : 8; and the memory k; state S enforced low { k[i] := a; goto S; }, with the given check sites
 abbrev pub written : (memory : Entity) → (site goes : ℕ) → Program
 written k site goes = program_of four_levels (an_input 1 ∷ an_input 8 ∷ k ∷ held_state 0 3 low ∷ []) (0 ∷ 0 ∷ 0 ∷ 0 ∷ 1 ∷ [])
-    (loop 3 goes (λ b. Then (Do (Write site 2 (read 0) (read 1))) b))
+    (loop 3 goes (λ b. command_then (lone (write site 2 (read 0) (read 1))) b))
 
 -- mem k : 8[2] enforced left; the write is a check site
 abbrev pub written_enforced : Program

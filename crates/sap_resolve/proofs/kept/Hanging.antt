@@ -10,7 +10,7 @@ use Rattle.sap_text.specs.declared.place.Place.{Place}
 use Rattle.sap_tree.specs.declared.name.Mention.{Mention}
 use Rattle.sap_tree.specs.declared.syntax.Decl.{Decl}
 use Rattle.sap_tree.specs.declared.syntax.Kind.{Kind}
-use Rattle.sap_tree.specs.Syntax.{SimpleCommand, Assign, Write, SetTag, SetCellTag, Goto, Fall, Command, Do, Try, If, TryThen, Case, Arms, Last, Arm, CommandBlock, Commands, ElseBlock, NoElse, Else, CommandList, NoCommand, AndCommand, StateTree, StateOf, StateList, NoState, AndState}
+use Rattle.sap_tree.specs.Syntax.{SimpleCommand, assign, write, set_tag, set_cell_tag, go_to, fall_to_child, Command, lone, try, if_else, try_then, case_of, Arms, last_arm, and_arm, CommandBlock, command_block, ElseBlock, no_else, with_else, CommandList, no_command, and_command, StateTree, state_node, StateList, no_state, and_state}
 use Rattle.sap_tree.specs.Points as points
 use Rattle.sap_tree.specs.Touches as tree
 use Rattle.sap_tree.specs.Touches.{is_dynamic_store, is_dynamic_child, fall_touches, simple_touches, root_touches}
@@ -97,57 +97,57 @@ module _ (ls : Levels) (le : ℕ → ℕ → Bool) (ds : List Decl) (es : List E
 
     simple_same : (m : ℕ) (c : SimpleCommand) → simple_faults ls.names means c ≡ []
         → (is_dynamic_store ds n && tree.simple_assigns c n) ≡ (is_dynamic w x && step_assigns (step_of ls h m c) x)
-    simple_same m (Assign target e) f =
+    simple_same m (assign target e) f =
         let p = none_two (name_faults assigning means target) (expression_faults means e (register_width (means target.name))) f in
         stored (entity_number es target.name) target.name (k.named assigning target.name target.place p.0) (or_left _ _ (kinds.register target.name target.place p.0))
-    simple_same m (Write target index e) f =
+    simple_same m (write target index e) f =
         let p = none_three (name_faults indexed means target) (expression_faults means index (index_width (means target.name))) (expression_faults means e (cell_width (means target.name))) f in
         stored (entity_number es target.name) target.name (k.named indexed target.name target.place p.0) (or_right _ _ (kinds.memory target.name target.place p.0))
-    simple_same m (SetTag place target tag) f = both_none (is_dynamic_store ds n) (is_dynamic w x)
-    simple_same m (SetCellTag place target index tag) f = both_none (is_dynamic_store ds n) (is_dynamic w x)
-    simple_same m (Goto place target) f = both_none (is_dynamic_store ds n) (is_dynamic w x)
-    simple_same m (Fall place) f = both_none (is_dynamic_store ds n) (is_dynamic w x)
+    simple_same m (set_tag place target tag) f = both_none (is_dynamic_store ds n) (is_dynamic w x)
+    simple_same m (set_cell_tag place target index tag) f = both_none (is_dynamic_store ds n) (is_dynamic w x)
+    simple_same m (go_to place target) f = both_none (is_dynamic_store ds n) (is_dynamic w x)
+    simple_same m (fall_to_child place) f = both_none (is_dynamic_store ds n) (is_dynamic w x)
 
     mutual
       unfolding tree.assigns tree.block_assigns tree.else_assigns tree.arms_assign tree.list_assigns
 
       command_same : (m : ℕ) (c : Command) → command_faults ls.names means c ≡ []
           → (is_dynamic_store ds n && tree.assigns c n) ≡ (is_dynamic w x && assigns (command_of ls h m c) x)
-      command_same m (Do c) f = simple_same (site_number h m c) c f
-      command_same m (Try c place handler) f =
+      command_same m (lone c) f = simple_same (site_number h m c) c f
+      command_same m (try c place handler) f =
           let p = none_two (simple_faults ls.names means c) (block_faults ls.names means handler) f in
           and_or (is_dynamic_store ds n) (is_dynamic w x) _ _ _ _ (simple_same (site_number h m c) c p.0) (block_same (m + length (simple_sites h c)) handler p.1)
-      command_same m (If place condition one other) f =
+      command_same m (if_else place condition one other) f =
           let p = none_three (expression_faults means condition (Some 1)) (block_faults ls.names means one) (else_faults ls.names means other) f in
           and_or (is_dynamic_store ds n) (is_dynamic w x) _ _ _ _ (block_same m one p.1) (else_same (m + length (block_sites h one)) other p.2)
-      command_same m (TryThen c place one other) f =
+      command_same m (try_then c place one other) f =
           let p = none_three (simple_faults ls.names means c) (block_faults ls.names means one) (block_faults ls.names means other) f in
           and_or (is_dynamic_store ds n) (is_dynamic w x) _ _ _ _ (simple_same (site_number h m c) c p.0)
           (and_or (is_dynamic_store ds n) (is_dynamic w x) _ _ _ _ (block_same (m + length (simple_sites h c)) one p.1) (block_same (m + length (simple_sites h c) + length (block_sites h one)) other p.2))
-      command_same m (Case place e arms) f =
+      command_same m (case_of place e arms) f =
           let p = none_two (expression_faults means e None) (arms_faults ls.names means (own_of means e) arms) f in
           arms_same m (own_of means e) arms p.1
 
       arms_same : (m : ℕ) (asked : Option ℕ) (arms : Arms) → arms_faults ls.names means asked arms ≡ []
           → (is_dynamic_store ds n && tree.arms_assign arms n) ≡ (is_dynamic w x && arms_assign (arms_of ls h m arms) x)
-      arms_same m asked (Last b) f = block_same m b f
-      arms_same m asked (Arm constants b arms) f =
+      arms_same m asked (last_arm b) f = block_same m b f
+      arms_same m asked (and_arm constants b arms) f =
           let p = none_three (constants_faults means asked constants) (block_faults ls.names means b) (arms_faults ls.names means asked arms) f in
           and_or (is_dynamic_store ds n) (is_dynamic w x) _ _ _ _ (block_same m b p.1) (arms_same (m + length (block_sites h b)) asked arms p.2)
 
       block_same : (m : ℕ) (b : CommandBlock) → block_faults ls.names means b ≡ []
           → (is_dynamic_store ds n && tree.block_assigns b n) ≡ (is_dynamic w x && block_assigns (block_of ls h m b) x)
-      block_same m (Commands cs after) f = list_same m cs f
+      block_same m (command_block cs after) f = list_same m cs f
 
       else_same : (m : ℕ) (b : ElseBlock) → else_faults ls.names means b ≡ []
           → (is_dynamic_store ds n && tree.else_assigns b n) ≡ (is_dynamic w x && block_assigns (else_of ls h m b) x)
-      else_same m NoElse f = both_none (is_dynamic_store ds n) (is_dynamic w x)
-      else_same m (Else b) f = block_same m b f
+      else_same m no_else f = both_none (is_dynamic_store ds n) (is_dynamic w x)
+      else_same m (with_else b) f = block_same m b f
 
       list_same : (m : ℕ) (cs : CommandList) → commands_faults ls.names means cs ≡ []
           → (is_dynamic_store ds n && tree.list_assigns cs n) ≡ (is_dynamic w x && block_assigns (list_of ls h m cs) x)
-      list_same m NoCommand f = both_none (is_dynamic_store ds n) (is_dynamic w x)
-      list_same m (AndCommand c cs) f =
+      list_same m no_command f = both_none (is_dynamic_store ds n) (is_dynamic w x)
+      list_same m (and_command c cs) f =
           let p = none_two (command_faults ls.names means c) (commands_faults ls.names means cs) f in
           and_or (is_dynamic_store ds n) (is_dynamic w x) _ _ _ _ (command_same m c p.0) (list_same (m + length (command_sites h c)) cs p.1)
 
@@ -157,53 +157,53 @@ module _ (ls : Levels) (le : ℕ → ℕ → Bool) (ds : List Decl) (es : List E
       simple_touched : (m : ℕ) (c : SimpleCommand) → simple_faults ls.names means c ≡ []
           → simple_touches ds home c n ≡ (is_dynamic w x && step_hangs s g (step_of ls h m c) x)
       unfolding simple_touches
-      simple_touched m (Assign target e) f = simple_same m (Assign target e) f
-      simple_touched m (Write target index e) f = simple_same m (Write target index e) f
-      simple_touched m (SetTag place target tag) f = never (is_dynamic w x)
-      simple_touched m (SetCellTag place target index tag) f = never (is_dynamic w x)
-      simple_touched m (Goto place target) f = own
-      simple_touched m (Fall place) f = falls
+      simple_touched m (assign target e) f = simple_same m (assign target e) f
+      simple_touched m (write target index e) f = simple_same m (write target index e) f
+      simple_touched m (set_tag place target tag) f = never (is_dynamic w x)
+      simple_touched m (set_cell_tag place target index tag) f = never (is_dynamic w x)
+      simple_touched m (go_to place target) f = own
+      simple_touched m (fall_to_child place) f = falls
 
       mutual
         unfolding tree.touches tree.block_touches tree.else_touches tree.arms_touch tree.list_touches
 
         pub command_touched : (m : ℕ) (c : Command) → command_faults ls.names means c ≡ []
             → tree.touches ds home c n ≡ (is_dynamic w x && hangs s g (command_of ls h m c) x)
-        command_touched m (Do c) f = simple_touched (site_number h m c) c f
-        command_touched m (Try c place handler) f =
+        command_touched m (lone c) f = simple_touched (site_number h m c) c f
+        command_touched m (try c place handler) f =
             let p = none_two (simple_faults ls.names means c) (block_faults ls.names means handler) f in
             or_and (is_dynamic w x) _ _ _ _ (simple_touched (site_number h m c) c p.0) (block_touched (m + length (simple_sites h c)) handler p.1)
-        command_touched m (If place condition one other) f =
+        command_touched m (if_else place condition one other) f =
             let p = none_three (expression_faults means condition (Some 1)) (block_faults ls.names means one) (else_faults ls.names means other) f in
             or_and (is_dynamic w x) _ _ _ _ (block_touched m one p.1) (else_touched (m + length (block_sites h one)) other p.2)
-        command_touched m (TryThen c place one other) f =
+        command_touched m (try_then c place one other) f =
             let p = none_three (simple_faults ls.names means c) (block_faults ls.names means one) (block_faults ls.names means other) f in
             or_and (is_dynamic w x) _ _ _ _ (simple_touched (site_number h m c) c p.0)
             (or_and (is_dynamic w x) _ _ _ _ (block_touched (m + length (simple_sites h c)) one p.1) (block_touched (m + length (simple_sites h c) + length (block_sites h one)) other p.2))
-        command_touched m (Case place e arms) f =
+        command_touched m (case_of place e arms) f =
             let p = none_two (expression_faults means e None) (arms_faults ls.names means (own_of means e) arms) f in
             arms_touched m (own_of means e) arms p.1
 
         arms_touched : (m : ℕ) (asked : Option ℕ) (arms : Arms) → arms_faults ls.names means asked arms ≡ []
             → tree.arms_touch ds home arms n ≡ (is_dynamic w x && arms_hang s g (arms_of ls h m arms) x)
-        arms_touched m asked (Last b) f = block_touched m b f
-        arms_touched m asked (Arm constants b arms) f =
+        arms_touched m asked (last_arm b) f = block_touched m b f
+        arms_touched m asked (and_arm constants b arms) f =
             let p = none_three (constants_faults means asked constants) (block_faults ls.names means b) (arms_faults ls.names means asked arms) f in
             or_and (is_dynamic w x) _ _ _ _ (block_touched m b p.1) (arms_touched (m + length (block_sites h b)) asked arms p.2)
 
         block_touched : (m : ℕ) (b : CommandBlock) → block_faults ls.names means b ≡ []
             → tree.block_touches ds home b n ≡ (is_dynamic w x && block_hangs s g (block_of ls h m b) x)
-        block_touched m (Commands cs after) f = list_touched m cs f
+        block_touched m (command_block cs after) f = list_touched m cs f
 
         else_touched : (m : ℕ) (b : ElseBlock) → else_faults ls.names means b ≡ []
             → tree.else_touches ds home b n ≡ (is_dynamic w x && block_hangs s g (else_of ls h m b) x)
-        else_touched m NoElse f = never (is_dynamic w x)
-        else_touched m (Else b) f = block_touched m b f
+        else_touched m no_else f = never (is_dynamic w x)
+        else_touched m (with_else b) f = block_touched m b f
 
         list_touched : (m : ℕ) (cs : CommandList) → commands_faults ls.names means cs ≡ []
             → tree.list_touches ds home cs n ≡ (is_dynamic w x && block_hangs s g (list_of ls h m cs) x)
-        list_touched m NoCommand f = never (is_dynamic w x)
-        list_touched m (AndCommand c cs) f =
+        list_touched m no_command f = never (is_dynamic w x)
+        list_touched m (and_command c cs) f =
             let p = none_two (command_faults ls.names means c) (commands_faults ls.names means cs) f in
             or_and (is_dynamic w x) _ _ _ _ (command_touched m c p.0) (list_touched (m + length (command_sites h c)) cs p.1)
 
@@ -212,19 +212,19 @@ module _ (ls : Levels) (le : ℕ → ℕ → Bool) (ds : List Decl) (es : List E
 
     state_same : (m y : ℕ) (s : StateTree) → state_faults ls.names le means s ≡ []
         → (is_dynamic_store ds n && tree.state_assigns s n) ≡ (is_dynamic w x && state_assigns (state_of ls es m y s) x)
-    state_same m y (StateOf place name kind body children) f =
+    state_same m y (state_node place name kind body children) f =
         let p = none_three (kind_faults ls.names le kind) (block_faults ls.names means body) (states_faults ls.names le means children) f in
-        let h : Surroundings = record { entities = es; home = tree.home_of (StateOf place name kind body children) } in
+        let h : Surroundings = record { entities = es; home = tree.home_of (state_node place name kind body children) } in
         and_or (is_dynamic_store ds n) (is_dynamic w x) _ _ _ _ (block_same h.home m body p.1) (states_same (m + length (block_sites h body)) (y + 1) children p.2)
 
     states_same : (m y : ℕ) (g : StateList) → states_faults ls.names le means g ≡ []
         → (is_dynamic_store ds n && tree.states_assign g n) ≡ (is_dynamic w x && group_assigns (group_of ls es m y g) x)
-    states_same m y NoState f = both_none (is_dynamic_store ds n) (is_dynamic w x)
-    states_same m y (AndState s rest) f =
+    states_same m y no_state f = both_none (is_dynamic_store ds n) (is_dynamic w x)
+    states_same m y (and_state s rest) f =
         let p = none_two (state_faults ls.names le means s) (states_faults ls.names le means rest) f in
         and_or (is_dynamic_store ds n) (is_dynamic w x) _ _ _ _ (state_same m y s p.0) (states_same (m + length (state_sites es s)) (y + states_in s) rest p.1)
 
-  own_same : (a y : ℕ) (place : Place) (name : Mention) (kind : Kind) (body : CommandBlock) (children : StateList) → LaidState ls es w a y (StateOf place name kind body children)
+  own_same : (a y : ℕ) (place : Place) (name : Mention) (kind : Kind) (body : CommandBlock) (children : StateList) → LaidState ls es w a y (state_node place name kind body children)
       → (tree.is_dynamic_kind kind && bytes_eq name.name n) ≡ (is_dynamic w x && nat_eq x y)
   own_same a y place name kind body children l =
       of_state y name.name (tree.is_dynamic_kind kind) (named_at es y name.name (laid_named ls es w a y place name kind body children l) (laid_name ls es w a y place name kind body children l))
@@ -232,9 +232,9 @@ module _ (ls : Levels) (le : ℕ → ℕ → Bool) (ds : List Decl) (es : List E
 
   child_same : (m a y : ℕ) (g : StateList) → Laid ls es w a y g → is_dynamic_child g n ≡ (is_dynamic w x && among (group_of ls es m y g) x)
   unfolding is_dynamic_child
-  child_same m a y NoState l = never (is_dynamic w x)
-  child_same m a y (AndState (StateOf place name kind body children) rest) l =
-      let s = StateOf place name kind body children in
+  child_same m a y no_state l = never (is_dynamic w x)
+  child_same m a y (and_state (state_node place name kind body children) rest) l =
+      let s = state_node place name kind body children in
       or_and (is_dynamic w x) _ _ _ _
       (and_swap (bytes_eq name.name n) (tree.is_dynamic_kind kind) ∙ own_same a y place name kind body children (laid_first ls es w a y s rest l))
       (child_same (m + length (state_sites es s)) (suc a) (y + states_in s) rest (laid_rest ls es w a y s rest l))
@@ -291,67 +291,67 @@ module _ (ls : Levels) (le : ℕ → ℕ → Bool) (ds : List Decl) (es : List E
         (λ x l. command_touched ls le ds es w k kinds x (same x l) (store x l) home s g (own x l) (falls x l) m c f)
 
     simple_rows : (m : ℕ) (c : SimpleCommand) → simple_faults ls.names what c ≡ []
-        → rows (filled w at (command_of ls here m (Do c))) ≡ told_rows (points.simple_points c)
+        → rows (filled w at (command_of ls here m (lone c))) ≡ told_rows (points.simple_points c)
     unfolding told_rows
-    simple_rows m (Assign target e) f = refl
-    simple_rows m (Write target index e) f = refl
-    simple_rows m (SetTag place target tag) f = refl
-    simple_rows m (SetCellTag place target index tag) f = refl
-    simple_rows m (Goto place target) f = refl
-    simple_rows m (Fall place) f = ap (λ (l : List Bool). l ∷ []) (command_row m (Do (Fall place)) f)
+    simple_rows m (assign target e) f = refl
+    simple_rows m (write target index e) f = refl
+    simple_rows m (set_tag place target tag) f = refl
+    simple_rows m (set_cell_tag place target index tag) f = refl
+    simple_rows m (go_to place target) f = refl
+    simple_rows m (fall_to_child place) f = ap (λ (l : List Bool). l ∷ []) (command_row m (lone (fall_to_child place)) f)
 
     mutual
       unfolding told_rows
 
       command_rows : (m : ℕ) (c : Command) → command_faults ls.names what c ≡ []
           → rows (filled w at (command_of ls here m c)) ≡ told_rows (points.command_points c)
-      command_rows m (Do c) f = simple_rows m c f
-      command_rows m (Try c place handler) f =
+      command_rows m (lone c) f = simple_rows m c f
+      command_rows m (try c place handler) f =
           let p = none_two (simple_faults ls.names what c) (block_faults ls.names what handler) f in
-          parts command_at (points.simple_points c) (Try c place handler ∷ points.block_points handler) _ _ (simple_rows m c p.0)
-          (ap (λ (l : List Bool). l ∷ block_rows (filled_block w at (block_of ls here (m + length (simple_sites here c)) handler))) (command_row m (Try c place handler) f)
-          ∙ ap (λ (l : List (List Bool)). row_of es (tree.touches ds home (Try c place handler)) ∷ l) (body_rows (m + length (simple_sites here c)) handler p.1))
-      command_rows m (If place condition one other) f =
+          parts command_at (points.simple_points c) (try c place handler ∷ points.block_points handler) _ _ (simple_rows m c p.0)
+          (ap (λ (l : List Bool). l ∷ block_rows (filled_block w at (block_of ls here (m + length (simple_sites here c)) handler))) (command_row m (try c place handler) f)
+          ∙ ap (λ (l : List (List Bool)). row_of es (tree.touches ds home (try c place handler)) ∷ l) (body_rows (m + length (simple_sites here c)) handler p.1))
+      command_rows m (if_else place condition one other) f =
           let p = none_three (expression_faults what condition (Some 1)) (block_faults ls.names what one) (else_faults ls.names what other) f in
-          let c = If place condition one other in
+          let c = if_else place condition one other in
           ap (λ (l : List Bool). l ∷ (block_rows (filled_block w at (block_of ls here m one)) ++ block_rows (filled_block w at (else_of ls here (m + length (block_sites here one)) other)))) (command_row m c f)
           ∙ ap (λ (l : List (List Bool)). row_of es (tree.touches ds home c) ∷ l)
           (parts command_at (points.block_points one) (points.else_points other) _ _ (body_rows m one p.1) (else_rows (m + length (block_sites here one)) other p.2))
-      command_rows m (TryThen c place one other) f =
+      command_rows m (try_then c place one other) f =
           let p = none_three (simple_faults ls.names what c) (block_faults ls.names what one) (block_faults ls.names what other) f in
           let i = m + length (simple_sites here c) in
           let j = i + length (block_sites here one) in
-          let d = TryThen c place one other in
+          let d = try_then c place one other in
           parts command_at (points.simple_points c) (d ∷ (points.block_points one ++ points.block_points other)) _ _ (simple_rows m c p.0)
           (ap (λ (l : List Bool). l ∷ (block_rows (filled_block w at (block_of ls here i one)) ++ block_rows (filled_block w at (block_of ls here j other)))) (command_row m d f)
           ∙ ap (λ (l : List (List Bool)). row_of es (tree.touches ds home d) ∷ l)
           (parts command_at (points.block_points one) (points.block_points other) _ _ (body_rows i one p.1) (body_rows j other p.2)))
-      command_rows m (Case place e arms) f =
+      command_rows m (case_of place e arms) f =
           let p = none_two (expression_faults what e None) (arms_faults ls.names what (own_of what e) arms) f in
-          let c = Case place e arms in
+          let c = case_of place e arms in
           ap (λ (l : List Bool). l ∷ arms_rows (filled_arms w at (arms_of ls here m arms))) (command_row m c f)
           ∙ ap (λ (l : List (List Bool)). row_of es (tree.touches ds home c) ∷ l) (all_rows m (own_of what e) arms p.1)
 
       all_rows : (m : ℕ) (asked : Option ℕ) (arms : Arms) → arms_faults ls.names what asked arms ≡ []
           → arms_rows (filled_arms w at (arms_of ls here m arms)) ≡ told_rows (points.arms_points arms)
-      all_rows m asked (Last b) f = body_rows m b f
-      all_rows m asked (Arm constants b arms) f =
+      all_rows m asked (last_arm b) f = body_rows m b f
+      all_rows m asked (and_arm constants b arms) f =
           let p = none_three (constants_faults what asked constants) (block_faults ls.names what b) (arms_faults ls.names what asked arms) f in
           parts command_at (points.block_points b) (points.arms_points arms) _ _ (body_rows m b p.1) (all_rows (m + length (block_sites here b)) asked arms p.2)
 
       body_rows : (m : ℕ) (b : CommandBlock) → block_faults ls.names what b ≡ []
           → block_rows (filled_block w at (block_of ls here m b)) ≡ told_rows (points.block_points b)
-      body_rows m (Commands cs after) f = list_rows m cs f
+      body_rows m (command_block cs after) f = list_rows m cs f
 
       else_rows : (m : ℕ) (b : ElseBlock) → else_faults ls.names what b ≡ []
           → block_rows (filled_block w at (else_of ls here m b)) ≡ told_rows (points.else_points b)
-      else_rows m NoElse f = refl
-      else_rows m (Else b) f = body_rows m b f
+      else_rows m no_else f = refl
+      else_rows m (with_else b) f = body_rows m b f
 
       list_rows : (m : ℕ) (cs : CommandList) → commands_faults ls.names what cs ≡ []
           → block_rows (filled_block w at (list_of ls here m cs)) ≡ told_rows (points.list_points cs)
-      list_rows m NoCommand f = refl
-      list_rows m (AndCommand c cs) f =
+      list_rows m no_command f = refl
+      list_rows m (and_command c cs) f =
           let p = none_two (command_faults ls.names what c) (commands_faults ls.names what cs) f in
           parts command_at (points.command_points c) (points.list_points cs) _ _ (command_rows m c p.0) (list_rows (m + length (command_sites here c)) cs p.1)
 
@@ -360,9 +360,9 @@ module _ (ls : Levels) (le : ℕ → ℕ → Bool) (ds : List Decl) (es : List E
 
     tree_rows : (parent m a y : ℕ) (s : StateTree) → LaidState ls es w a y s → state_faults ls.names le what s ≡ []
         → state_rows (filled_state w parent (state_of ls es m y s)) ≡ pointed (points.state_points s)
-    tree_rows parent m a y (StateOf place name kind body children) l f =
+    tree_rows parent m a y (state_node place name kind body children) l f =
         let p = none_three (kind_faults ls.names le kind) (block_faults ls.names what body) (states_faults ls.names le what children) f in
-        let home = tree.home_of (StateOf place name kind body children) in
+        let home = tree.home_of (state_node place name kind body children) in
         let h : Surroundings = record { entities = es; home = home } in
         let i = m + length (block_sites h body) in
         let below = laid_below ls es w a y place name kind body children l in
@@ -376,8 +376,8 @@ module _ (ls : Levels) (le : ℕ → ℕ → Bool) (ds : List Decl) (es : List E
 
     trees_rows : (parent m a y : ℕ) (g : StateList) → Laid ls es w a y g → states_faults ls.names le what g ≡ []
         → group_rows (filled_group w parent (group_of ls es m y g)) ≡ pointed (points.states_points g)
-    trees_rows parent m a y NoState l f = refl
-    trees_rows parent m a y (AndState s rest) l f =
+    trees_rows parent m a y no_state l f = refl
+    trees_rows parent m a y (and_state s rest) l f =
         let p = none_two (state_faults ls.names le what s) (states_faults ls.names le what rest) f in
         parts (point_row ds es) (points.state_points s) (points.states_points rest) _ _ (tree_rows parent m a y s (laid_first ls es w a y s rest l) p.0)
         (trees_rows parent (m + length (state_sites es s)) (suc a) (y + states_in s) rest (laid_rest ls es w a y s rest l) p.1)

@@ -8,7 +8,7 @@ use Rattle.sap_text.specs.declared.place.Place.{Place}
 use Rattle.sap_tree.specs.declared.syntax.Under.{Under}
 use Rattle.sap_tree.specs.declared.syntax.Kind.{Kind}
 use Rattle.sap_tree.specs.declared.syntax.Kind.TheVariants.{Dynamic, Enforced}
-use Rattle.sap_tree.specs.Syntax.{Expression, Number, Sized, Read, Cell, Unary, Binary, Choose, Slice, Concat, Zext, Expressions, NoPart, AndPart, TagExpression, Level, TagOf, LevelAt, Join, TagExpressions, NoTag, AndTag, SimpleCommand, Assign, Write, SetTag, SetCellTag, Goto, Fall, Command, Do, Try, If, TryThen, Case, Arms, Last, Arm, CommandBlock, Commands, ElseBlock, NoElse, Else, CommandList, NoCommand, AndCommand, StateTree, StateOf, StateList, NoState, AndState}
+use Rattle.sap_tree.specs.Syntax.{Expression, literal, sized_literal, variable, cell_at, unary_of, binary_of, choice, slice, concat, zero_extend, Expressions, no_part, and_part, TagExpression, level_of, tag_at, level_at, join_of, TagExpressions, no_tag, and_tag, SimpleCommand, assign, write, set_tag, set_cell_tag, go_to, fall_to_child, Command, lone, try, if_else, try_then, case_of, Arms, last_arm, and_arm, CommandBlock, command_block, ElseBlock, no_else, with_else, CommandList, no_command, and_command, StateTree, state_node, StateList, no_state, and_state}
 use Rattle.sap_lattice.specs.Levels.{Levels}
 use Rattle.sap_maps.specs.Term.{Term, constant, join}
 use Rattle.sap_names.specs.declared.entity.Entity.{Entity}
@@ -38,10 +38,10 @@ pub record Known (es : List Entity) : Type 0 where
 
 -- zeros in front of what lacks them
 widened_is : (es : List Entity) (e : Expression) (width u : ℕ) (t : Term ℕ) → own (what_is es) e ≡ Some u → u ≤ width → IsTerm es e t
-    → (spot : _) → IsTerm es (Zext spot e width) (widened (known (own (what_is es) e)) width t)
-widened_is es e width u t o l h spot = subst (λ (m : Option ℕ). IsTerm es (Zext spot e width) (widened (known m) width t)) (sym o) (both (eqb u width) refl)
+    → (spot : _) → IsTerm es (zero_extend spot e width) (widened (known (own (what_is es) e)) width t)
+widened_is es e width u t o l h spot = subst (λ (m : Option ℕ). IsTerm es (zero_extend spot e width) (widened (known m) width t)) (sym o) (both (eqb u width) refl)
   where
-    both : (b : Bool) → eqb u width ≡ b → IsTerm es (Zext spot e width) (if b then t else join (constant (width - u) 0) t)
+    both : (b : Bool) → eqb u width ≡ b → IsTerm es (zero_extend spot e width) (if b then t else join (constant (width - u) 0) t)
     both true i = inl (o ∙ ap (λ (n : ℕ). Some n) (eqb-true u width i), h)
     both false i = inr (u, width - u, t, o, omega arith, refl, h)
 
@@ -51,87 +51,87 @@ module _ (es : List Entity) (k : Known es) where
 
   -- an expression of which no width is asked has one
   own_width : (e : Expression) → expression_faults what e None ≡ [] → (u : ℕ) × (own what e ≡ Some u)
-  own_width (Number spot value) h =
+  own_width (literal spot value) h =
       let n = none_two (fault_if (unsettled None None) E7 spot.first) (fault_if (too_large None value) E8 spot.at) h in
       settled_own None (no_fault (unsettled None None) E7 spot.first n.0)
-  own_width (Sized spot width value) h =
+  own_width (sized_literal spot width value) h =
       let n = none_three (fault_if (unsettled (sound_width width) None) E7 spot.first) (fault_if (not (is_sound (sound_width width))) E7 spot.at)
       (fault_if (too_large (sound_width width) value) E8 spot.at) h in
       settled_own (sound_width width) (no_fault (unsettled (sound_width width) None) E7 spot.first n.0)
-  own_width (Read spot name) h =
-      let o = own what (Read spot name) in
+  own_width (variable spot name) h =
+      let o = own what (variable spot name) in
       settled_own o (no_fault (unsettled o None) E7 spot.first (none_two (fault_if (unsettled o None) E7 spot.first) (use_faults reading (what name) spot.at) h).0)
-  own_width (Cell spot name index) h =
-      let o = own what (Cell spot name index) in
+  own_width (cell_at spot name index) h =
+      let o = own what (cell_at spot name index) in
       settled_own o (no_fault (unsettled o None) E7 spot.first
       (none_three (fault_if (unsettled o None) E7 spot.first) (use_faults indexed (what name) spot.at) (expression_faults what index (index_width (what name))) h).0)
-  own_width (Unary spot operator e) h =
-      let o = own what (Unary spot operator e) in
+  own_width (unary_of spot operator e) h =
+      let o = own what (unary_of spot operator e) in
       settled_own o (no_fault (unsettled o None) E7 spot.first
-      (none_two (fault_if (unsettled o None) E7 spot.first) (expression_faults what e (asked_one operator (width_of what (Unary spot operator e) None))) h).0)
-  own_width (Binary spot operator a b) h =
-      let o = own what (Binary spot operator a b) in
-      let whole = width_of what (Binary spot operator a b) None in
+      (none_two (fault_if (unsettled o None) E7 spot.first) (expression_faults what e (asked_one operator (width_of what (unary_of spot operator e) None))) h).0)
+  own_width (binary_of spot operator a b) h =
+      let o = own what (binary_of spot operator a b) in
+      let whole = width_of what (binary_of spot operator a b) None in
       settled_own o (no_fault (unsettled o None) E7 spot.first
       (none_three (fault_if (unsettled o None) E7 spot.first)
       (expression_faults what a (asked_left (family operator) whole (own what a) (own what b)))
       (expression_faults what b (asked_right (family operator) whole (own what a) (own what b))) h).0)
-  own_width (Choose spot c a b) h =
-      let o = own what (Choose spot c a b) in
-      let whole = width_of what (Choose spot c a b) None in
+  own_width (choice spot c a b) h =
+      let o = own what (choice spot c a b) in
+      let whole = width_of what (choice spot c a b) None in
       settled_own o (no_fault (unsettled o None) E7 spot.first
       (none_four (fault_if (unsettled o None) E7 spot.first) (expression_faults what c (Some 1)) (expression_faults what a whole) (expression_faults what b whole) h).0)
-  own_width (Slice spot e high low) h =
-      let o = own what (Slice spot e high low) in
+  own_width (slice spot e high low) h =
+      let o = own what (slice spot e high low) in
       settled_own o (no_fault (unsettled o None) E7 spot.first
       (none_three (fault_if (unsettled o None) E7 spot.first) (fault_if (not (is_sound o) && is_sound (own what e)) E7 spot.first) (expression_faults what e None) h).0)
-  own_width (Concat spot parts) h =
-      let o = own what (Concat spot parts) in
+  own_width (concat spot parts) h =
+      let o = own what (concat spot parts) in
       settled_own o (no_fault (unsettled o None) E7 spot.first
       (none_three (fault_if (unsettled o None) E7 spot.first) (fault_if (not (is_sound o) && all_sound what parts) E7 spot.first) (parts_faults what parts) h).0)
-  own_width (Zext spot e width) h =
-      let o = own what (Zext spot e width) in
+  own_width (zero_extend spot e width) h =
+      let o = own what (zero_extend spot e width) in
       settled_own o (no_fault (unsettled o None) E7 spot.first
       (none_three (fault_if (unsettled o None) E7 spot.first) (fault_if (not (is_sound o) && is_sound (own what e)) E7 spot.first) (expression_faults what e None) h).0)
 
   mutual
     pub term_kept : (e : Expression) (asked : Option ℕ) → expression_faults what e asked ≡ [] → IsTerm es e (term_of es e asked)
-    term_kept (Number spot value) asked h = refl
-    term_kept (Sized spot width value) asked h = (refl, refl)
-    term_kept (Read spot name) asked h =
-        k.named reading name spot.at (none_two (fault_if (unsettled (own what (Read spot name)) asked) E7 spot.first) (use_faults reading (what name) spot.at) h).1
-    term_kept (Cell spot name index) asked h =
-        let n = none_three (fault_if (unsettled (own what (Cell spot name index)) asked) E7 spot.first) (use_faults indexed (what name) spot.at)
+    term_kept (literal spot value) asked h = refl
+    term_kept (sized_literal spot width value) asked h = (refl, refl)
+    term_kept (variable spot name) asked h =
+        k.named reading name spot.at (none_two (fault_if (unsettled (own what (variable spot name)) asked) E7 spot.first) (use_faults reading (what name) spot.at) h).1
+    term_kept (cell_at spot name index) asked h =
+        let n = none_three (fault_if (unsettled (own what (cell_at spot name index)) asked) E7 spot.first) (use_faults indexed (what name) spot.at)
         (expression_faults what index (index_width (what name))) h in
         (k.named indexed name spot.at n.1, term_kept index (index_width (what name)) n.2)
-    term_kept (Unary spot operator e) asked h =
-        let inner = asked_one operator (width_of what (Unary spot operator e) asked) in
-        let n = none_two (fault_if (unsettled (own what (Unary spot operator e)) asked) E7 spot.first) (expression_faults what e inner) h in
+    term_kept (unary_of spot operator e) asked h =
+        let inner = asked_one operator (width_of what (unary_of spot operator e) asked) in
+        let n = none_two (fault_if (unsettled (own what (unary_of spot operator e)) asked) E7 spot.first) (expression_faults what e inner) h in
         (refl, term_kept e inner n.1)
-    term_kept (Binary spot operator a b) asked h =
-        let whole = width_of what (Binary spot operator a b) asked in
+    term_kept (binary_of spot operator a b) asked h =
+        let whole = width_of what (binary_of spot operator a b) asked in
         let left = asked_left (family operator) whole (own what a) (own what b) in
         let right = asked_right (family operator) whole (own what a) (own what b) in
-        let n = none_three (fault_if (unsettled (own what (Binary spot operator a b)) asked) E7 spot.first) (expression_faults what a left)
+        let n = none_three (fault_if (unsettled (own what (binary_of spot operator a b)) asked) E7 spot.first) (expression_faults what a left)
         (expression_faults what b right) h in
         (refl, term_kept a left n.1, term_kept b right n.2)
-    term_kept (Choose spot c a b) asked h =
-        let whole = width_of what (Choose spot c a b) asked in
-        let n = none_four (fault_if (unsettled (own what (Choose spot c a b)) asked) E7 spot.first) (expression_faults what c (Some 1))
+    term_kept (choice spot c a b) asked h =
+        let whole = width_of what (choice spot c a b) asked in
+        let n = none_four (fault_if (unsettled (own what (choice spot c a b)) asked) E7 spot.first) (expression_faults what c (Some 1))
         (expression_faults what a whole) (expression_faults what b whole) h in
         (term_kept c (Some 1) n.1, term_kept a whole n.2, term_kept b whole n.3)
-    term_kept (Slice spot e high low) asked h =
-        let o = own what (Slice spot e high low) in
+    term_kept (slice spot e high low) asked h =
+        let o = own what (slice spot e high low) in
         let n = none_three (fault_if (unsettled o asked) E7 spot.first) (fault_if (not (is_sound o) && is_sound (own what e)) E7 spot.first)
         (expression_faults what e None) h in
         (term_kept e None n.2, refl, refl)
-    term_kept (Concat spot parts) asked h =
-        let o = own what (Concat spot parts) in
+    term_kept (concat spot parts) asked h =
+        let o = own what (concat spot parts) in
         let n = none_three (fault_if (unsettled o asked) E7 spot.first) (fault_if (not (is_sound o) && all_sound what parts) E7 spot.first)
         (parts_faults what parts) h in
         parts_kept parts n.2
-    term_kept (Zext spot e width) asked h =
-        let o = own what (Zext spot e width) in
+    term_kept (zero_extend spot e width) asked h =
+        let o = own what (zero_extend spot e width) in
         let n = none_three (fault_if (unsettled o asked) E7 spot.first) (fault_if (not (is_sound o) && is_sound (own what e)) E7 spot.first)
         (expression_faults what e None) h in
         let u = own_width e n.2 in
@@ -141,43 +141,43 @@ module _ (es : List Entity) (k : Known es) where
         widened_is es e width x.0 (term_of es e None) x.1 x.2 (term_kept e None n.2) spot
 
     parts_kept : (parts : Expressions) → parts_faults what parts ≡ [] → AreParts es parts (parts_of es parts)
-    parts_kept NoPart h = refl
-    parts_kept (AndPart e NoPart) h = term_kept e None (none_two (expression_faults what e None) [] h).0
-    parts_kept (AndPart e (AndPart f parts)) h =
-        let n = none_two (expression_faults what e None) (parts_faults what (AndPart f parts)) h in
-        (term_kept e None n.0, parts_kept (AndPart f parts) n.1)
+    parts_kept no_part h = refl
+    parts_kept (and_part e no_part) h = term_kept e None (none_two (expression_faults what e None) [] h).0
+    parts_kept (and_part e (and_part f parts)) h =
+        let n = none_two (expression_faults what e None) (parts_faults what (and_part f parts)) h in
+        (term_kept e None n.0, parts_kept (and_part f parts) n.1)
 
   module _ (ls : Levels) where
     mutual
       tag_kept : (t : TagExpression) → tag_faults ls.names what t ≡ [] → IsTag ls es t (level_term ls es t)
-      tag_kept (Level m) h = level_named ls m h
-      tag_kept (TagOf place e) h = term_kept e None h
-      tag_kept (LevelAt place e) h = term_kept e None h
-      tag_kept (Join place parts) h = tags_kept parts h
+      tag_kept (level_of m) h = level_named ls m h
+      tag_kept (tag_at place e) h = term_kept e None h
+      tag_kept (level_at place e) h = term_kept e None h
+      tag_kept (join_of place parts) h = tags_kept parts h
 
       tags_kept : (ts : TagExpressions) → tags_faults ls.names what ts ≡ [] → AreTags ls es ts (level_terms ls es ts)
-      tags_kept NoTag h = refl
-      tags_kept (AndTag t NoTag) h = tag_kept t (none_two (tag_faults ls.names what t) [] h).0
-      tags_kept (AndTag t (AndTag u ts)) h =
-          let n = none_two (tag_faults ls.names what t) (tags_faults ls.names what (AndTag u ts)) h in
-          (tag_kept t n.0, tags_kept (AndTag u ts) n.1)
+      tags_kept no_tag h = refl
+      tags_kept (and_tag t no_tag) h = tag_kept t (none_two (tag_faults ls.names what t) [] h).0
+      tags_kept (and_tag t (and_tag u ts)) h =
+          let n = none_two (tag_faults ls.names what t) (tags_faults ls.names what (and_tag u ts)) h in
+          (tag_kept t n.0, tags_kept (and_tag u ts) n.1)
 
 -- constants
 constant_kept : (e : Expression) → IsConstant e (number_of e)
-constant_kept (Number spot value) = refl
-constant_kept (Sized spot width value) = refl
-constant_kept (Read spot name) = refl
-constant_kept (Cell spot name index) = refl
-constant_kept (Unary spot operator e) = refl
-constant_kept (Binary spot operator a b) = refl
-constant_kept (Choose spot c a b) = refl
-constant_kept (Slice spot e high low) = refl
-constant_kept (Concat spot parts) = refl
-constant_kept (Zext spot e width) = refl
+constant_kept (literal spot value) = refl
+constant_kept (sized_literal spot width value) = refl
+constant_kept (variable spot name) = refl
+constant_kept (cell_at spot name index) = refl
+constant_kept (unary_of spot operator e) = refl
+constant_kept (binary_of spot operator a b) = refl
+constant_kept (choice spot c a b) = refl
+constant_kept (slice spot e high low) = refl
+constant_kept (concat spot parts) = refl
+constant_kept (zero_extend spot e width) = refl
 
 constants_kept : (parts : Expressions) → AreConstants parts (numbers_of parts)
-constants_kept NoPart = tt
-constants_kept (AndPart e parts) = (constant_kept e, constants_kept parts)
+constants_kept no_part = tt
+constants_kept (and_part e parts) = (constant_kept e, constants_kept parts)
 
 -- commands in the body of a state
 module _ (ls : Levels) (h : Surroundings) (k : Known h.entities) (w : World) (at : Spot) where
@@ -188,55 +188,55 @@ module _ (ls : Levels) (h : Surroundings) (k : Known h.entities) (w : World) (at
   means = what_is h.entities
 
   step_kept : (n : ℕ) (c : SimpleCommand) → simple_faults ls.names means c ≡ [] → IsStep ls names c (filled_step w at (step_of ls h n c))
-  step_kept n (Assign target e) f =
+  step_kept n (assign target e) f =
       let asked = register_width (means target.name) in
       let p = none_two (name_faults assigned means target) (expression_faults means e asked) f in
       (k.named assigned target.name target.place p.0, term_kept names k e asked p.1)
-  step_kept n (Write target index e) f =
+  step_kept n (write target index e) f =
       let asked = cell_width (means target.name) in
       let p = none_three (name_faults indexed means target) (expression_faults means index (index_width (means target.name))) (expression_faults means e asked) f in
       (k.named indexed target.name target.place p.0, term_kept names k index (index_width (means target.name)) p.1, term_kept names k e asked p.2)
-  step_kept n (SetTag place target tag) f =
+  step_kept n (set_tag place target tag) f =
       let p = none_two (name_faults retagged means target) (tag_faults ls.names means tag) f in
       (k.named retagged target.name target.place p.0, tag_kept names k ls tag p.1)
-  step_kept n (SetCellTag place target index tag) f =
+  step_kept n (set_cell_tag place target index tag) f =
       let p = none_three (name_faults indexed means target) (expression_faults means index (index_width (means target.name))) (tag_faults ls.names means tag) f in
       (k.named indexed target.name target.place p.0, term_kept names k index (index_width (means target.name)) p.1, tag_kept names k ls tag p.2)
-  step_kept n (Goto place target) f = k.named entered target.name target.place f
-  step_kept n (Fall place) f = tt
+  step_kept n (go_to place target) f = k.named entered target.name target.place f
+  step_kept n (fall_to_child place) f = tt
 
   mutual
     command_kept : (n : ℕ) (c : Command) → command_faults ls.names means c ≡ [] → IsCommand ls names c (filled w at (command_of ls h n c))
-    command_kept n (Do c) f = step_kept (site_number h n c) c f
-    command_kept n (Try c place handler) f =
+    command_kept n (lone c) f = step_kept (site_number h n c) c f
+    command_kept n (try c place handler) f =
         let p = none_two (simple_faults ls.names means c) (block_faults ls.names means handler) f in
         (step_kept (site_number h n c) c p.0, block_kept (n + length (simple_sites h c)) handler p.1)
-    command_kept n (If place condition then_block else_block) f =
+    command_kept n (if_else place condition then_block else_block) f =
         let p = none_three (expression_faults means condition (Some 1)) (block_faults ls.names means then_block) (else_faults ls.names means else_block) f in
         (term_kept names k condition (Some 1) p.0, block_kept n then_block p.1, else_kept (n + length (block_sites h then_block)) else_block p.2)
-    command_kept n (TryThen c place accepted refused) f =
+    command_kept n (try_then c place accepted refused) f =
         let p = none_three (simple_faults ls.names means c) (block_faults ls.names means accepted) (block_faults ls.names means refused) f in
         (step_kept (site_number h n c) c p.0, block_kept (n + length (simple_sites h c)) accepted p.1, block_kept (n + length (simple_sites h c) + length (block_sites h accepted)) refused p.2)
-    command_kept n (Case place e arms) f =
+    command_kept n (case_of place e arms) f =
         let p = none_two (expression_faults means e None) (arms_faults ls.names means (own means e) arms) f in
         (term_kept names k e None p.0, arms_kept n (own means e) arms p.1)
 
     arms_kept : (n : ℕ) (asked : Option ℕ) (arms : Arms) → arms_faults ls.names means asked arms ≡ [] → AreArms ls names arms (filled_arms w at (arms_of ls h n arms))
-    arms_kept n asked (Last b) f = block_kept n b f
-    arms_kept n asked (Arm constants b arms) f =
+    arms_kept n asked (last_arm b) f = block_kept n b f
+    arms_kept n asked (and_arm constants b arms) f =
         let p = none_three (constants_faults means asked constants) (block_faults ls.names means b) (arms_faults ls.names means asked arms) f in
         (constants_kept constants, block_kept n b p.1, arms_kept (n + length (block_sites h b)) asked arms p.2)
 
     pub block_kept : (n : ℕ) (b : CommandBlock) → block_faults ls.names means b ≡ [] → IsBlock ls names b (filled_block w at (block_of ls h n b))
-    block_kept n (Commands cs after) f = list_kept n cs f
+    block_kept n (command_block cs after) f = list_kept n cs f
 
     else_kept : (n : ℕ) (b : ElseBlock) → else_faults ls.names means b ≡ [] → IsElse ls names b (filled_block w at (else_of ls h n b))
-    else_kept n NoElse f = refl
-    else_kept n (Else b) f = block_kept n b f
+    else_kept n no_else f = refl
+    else_kept n (with_else b) f = block_kept n b f
 
     list_kept : (n : ℕ) (cs : CommandList) → commands_faults ls.names means cs ≡ [] → IsList ls names cs (filled_block w at (list_of ls h n cs))
-    list_kept n NoCommand f = tt
-    list_kept n (AndCommand c cs) f =
+    list_kept n no_command f = tt
+    list_kept n (and_command c cs) f =
         let p = none_two (command_faults ls.names means c) (commands_faults ls.names means cs) f in
         (command_kept n c p.0, list_kept (n + length (command_sites h c)) cs p.1)
 
@@ -265,7 +265,7 @@ module _ (ls : Levels) (le : ℕ → ℕ → Bool) (es : List Entity) (w : World
   mutual
     state_kept : (p n m x : ℕ) (s : StateTree) → LaidState ls es w m x s → state_faults ls.names le (what_is es) s ≡ []
         → IsState ls es w s (filled_state w p (state_of ls es n x s))
-    state_kept p n m x (StateOf place name kind body children) laid f =
+    state_kept p n m x (state_node place name kind body children) laid f =
         let h : Surroundings = record { entities = es; home = record { name = name.name; kind = kind; children = children } } in
         let j = none_three (kind_faults ls.names le kind) (block_faults ls.names (what_is es) body) (states_faults ls.names le (what_is es) children) f in
         let e : entity w x ≡ state_entity ls m x kind children = laid_entity ls es w m x place name kind body children laid in
@@ -283,8 +283,8 @@ module _ (ls : Levels) (le : ℕ → ℕ → Bool) (es : List Entity) (w : World
 
     pub group_kept : (p n m x : ℕ) (g : StateList) → Laid ls es w m x g → states_faults ls.names le (what_is es) g ≡ []
         → IsGroup ls es w g (filled_group w p (group_of ls es n x g))
-    group_kept p n m x NoState laid f = tt
-    group_kept p n m x (AndState s rest) laid f =
+    group_kept p n m x no_state laid f = tt
+    group_kept p n m x (and_state s rest) laid f =
         let j = none_two (state_faults ls.names le (what_is es) s) (states_faults ls.names le (what_is es) rest) f in (
           state_kept p n m x s (laid_first ls es w m x s rest laid) j.0,
           group_kept p (n + length (state_sites es s)) (suc m) (x + states_in s) rest (laid_rest ls es w m x s rest laid) j.1,

@@ -7,7 +7,7 @@ use Rattle.std.proofs.lemmas.Bool.{false_from_ne_true}
 use Rattle.sap_text.specs.declared.place.Place.{Place}
 use Rattle.sap_tree.specs.declared.syntax.Decl.{Decl}
 use Rattle.sap_tree.specs.declared.syntax.Decl.TheVariants.{Input, Register, Memory}
-use Rattle.sap_tree.specs.Syntax.{StateTree, StateOf, StateList, NoState, AndState, DesignTree}
+use Rattle.sap_tree.specs.Syntax.{StateTree, state_node, StateList, no_state, and_state, DesignTree}
 use Rattle.sap_tree.specs.Touches.{is_dynamic_kind, declares_dynamic, is_dynamic_store}
 use Rattle.sap_lattice.specs.Levels.{Levels}
 use Rattle.sap_names.specs.declared.entity.Entity as tree
@@ -50,11 +50,11 @@ mutual
   unfolding NoStores is_store
 
   state_none : (ls : Levels) (n x : ℕ) (s : StateTree) → NoStores (state_entities ls n x s)
-  state_none ls n x (StateOf place name kind body children) = (refl, group_none ls 0 (x + 1) children)
+  state_none ls n x (state_node place name kind body children) = (refl, group_none ls 0 (x + 1) children)
 
   group_none : (ls : Levels) (n x : ℕ) (g : StateList) → NoStores (group_entities ls n x g)
-  group_none ls n x NoState = tt
-  group_none ls n x (AndState s rest) =
+  group_none ls n x no_state = tt
+  group_none ls n x (and_state s rest) =
       none_both (state_entities ls n x s) (group_entities ls (n + 1) (x + states_in s) rest) (state_none ls n x s) (group_none ls (n + 1) (x + states_in s) rest)
 
 -- declarations of a name

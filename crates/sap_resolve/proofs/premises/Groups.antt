@@ -3,7 +3,7 @@ use Rattle.std.proofs.Common.{◌≡◌, inr, ℕ, suc, ◌+◌, ◌<◌, Bool, 
 use Rattle.sap_lemmas.proofs.Texts.{bytes_eq_same}
 use Rattle.std.proofs.lemmas.Bool.{or_from, or_left, or_right}
 use Rattle.sap_names.proofs.FaultLemmas.{nil_left, nil_right}
-use Rattle.sap_tree.specs.Syntax.{StateTree, StateOf, StateList, NoState, AndState}
+use Rattle.sap_tree.specs.Syntax.{StateTree, state_node, StateList, no_state, and_state}
 use Rattle.sap_lattice.specs.Levels.{Levels}
 use Rattle.sap_names.specs.Entities.{what_is}
 use Rattle.sap_names.specs.declared.entity.Entity.{Entity}
@@ -27,7 +27,7 @@ use Rattle.sap_resolve.proofs.premises.Steps.{some_child, block_unmarked, group_
 
 last_before : (ls : Levels) (es : List Entity) (w : World) (k n x : ℕ) (s : StateTree) → LaidState ls es w n x s
     → last w (number_of (state_of ls es k x s)) < x + states_in s
-last_before ls es w k n x (StateOf place name kind body children) laid = let h = here_last ls es w n x place name kind body children laid in omega arith
+last_before ls es w k n x (state_node place name kind body children) laid = let h = here_last ls es w n x place name kind body children laid in omega arith
 
 module _ (ls : Levels) (levels : List (List ℕ)) (le : ℕ → ℕ → Bool) (es : List Entity) (w : World) (match : AllMatch es w.entities)
     (numbered : (y : ℕ) → y < length es → entity_number es (name_at es y) ≡ y) where
@@ -39,7 +39,7 @@ module _ (ls : Levels) (levels : List (List ℕ)) (le : ℕ → ℕ → Bool) (e
     fine_state : (k n x : ℕ) (q : Group) (group : StateList) (above : List (List ℕ)) (s : StateTree) → LaidState ls es w n x s → Targets q group
         → state_faults levels le (what_is es) s ≡ [] → state_shape es group above s ≡ []
         → NamedState w (state_of ls es k x s) → FineState w q n (state_of ls es k x s)
-    fine_state k n x q group above (StateOf place name kind body children) laid targets f s i =
+    fine_state k n x q group above (state_node place name kind body children) laid targets f s i =
         let h : Surroundings = record { entities = es; home = record { name = name.name; kind = kind; children = children } } in
         let at : Body = record { home = record { name = name.name; kind = kind; children = children }; group = group; above = above } in
         let b : Block = block_of ls h k body in
@@ -74,8 +74,8 @@ module _ (ls : Levels) (levels : List (List ℕ)) (le : ℕ → ℕ → Bool) (e
     pub fine_group : (k n x : ℕ) (q : Group) (group : StateList) (above : List (List ℕ)) (g : StateList) → Laid ls es w n x g → Targets q group
         → states_faults levels le (what_is es) g ≡ [] → states_shape es group above g ≡ []
         → NamedGroup w (group_of ls es k x g) → FineGroup w q n (group_of ls es k x g)
-    fine_group k n x q group above NoState laid targets f s i = tt
-    fine_group k n x q group above (AndState t rest) laid targets f s i = (
+    fine_group k n x q group above no_state laid targets f s i = tt
+    fine_group k n x q group above (and_state t rest) laid targets f s i = (
       fine_state k n x q group above t (laid_first ls es w n x t rest laid) targets (nil_left _ _ f)
           (nil_left _ _ s) i.0,
       fine_group (k + length (state_sites es t)) (suc n) (x + states_in t) q group above rest (laid_rest ls es w n x t rest laid) targets (nil_right _ _ f)

@@ -5,11 +5,11 @@ use Rattle.std.proofs.lemmas.List.{get_or-append-add}
 use Rattle.sap_lemmas.proofs.Bools.{and_right, or_equal}
 use Rattle.sap_lemmas.proofs.Lists.{get_early}
 use Rattle.sap_resolve.proofs.FillLemmas.{table_length}
-use Rattle.sap_tree.specs.Syntax.{SimpleCommand, Assign, Write, SetTag, SetCellTag, Goto, Fall, Command, Do, Try, If, TryThen, Case, Arms, Last, Arm, CommandBlock, Commands, ElseBlock, NoElse, Else, CommandList, NoCommand, AndCommand, StateTree, StateOf, StateList, NoState, AndState, DesignTree}
+use Rattle.sap_tree.specs.Syntax.{SimpleCommand, assign, write, set_tag, set_cell_tag, go_to, fall_to_child, Command, lone, try, if_else, try_then, case_of, Arms, last_arm, and_arm, CommandBlock, command_block, ElseBlock, no_else, with_else, CommandList, no_command, and_command, StateTree, state_node, StateList, no_state, and_state, DesignTree}
 use Rattle.sap_lattice.specs.Levels.{Levels}
 use Rattle.sap_names.specs.declared.entity.Entity as declared_entity
 use Rattle.sap_names.specs.Entities.{number_of, entities_of}
-use Rattle.sap_meaning.specs.Program.{World, is_dynamic, root, listed, Group, None}
+use Rattle.sap_meaning.specs.Program.{World, is_dynamic, root, listed, Group, no_node}
 use Rattle.sap_meaning.specs.Checks.{Spot}
 use Rattle.sap_meaning.specs.Touches.{among, step_assigns, assigns, arms_assign, block_assigns, state_assigns, group_assigns, step_hangs, hangs, arms_hang, block_hangs, touches, root_touches}
 use Rattle.sap_meaning.specs.Fine.{ExactStep, Exact, ExactArms, ExactBlock, ExactState, ExactGroup, ExactProgram}
@@ -56,7 +56,7 @@ listed_is n test below x = elim (cases_Bool (nat_lt x n)) [
 
 -- a number that stands for a name is below that of the root, where there are entities at all
 one_more : (l : ℕ) (o : Option ℕ) (n : ℕ) → ((m : ℕ) → o ≡ Some m → m < l) → option_map (λ m. m + 1) o ≡ Some n → n < suc l
-one_more l None n f k = cc
+one_more l no_node n f k = cc
 one_more l (Some m) n f k = let r : m < l = f m refl in let s : m + 1 ≡ n = cc in omega arith
 
 number_within : (es : List declared_entity.Entity) (name : List ℕ) (n : ℕ) → number_of es name ≡ Some n → n < length es
@@ -67,7 +67,7 @@ number_within (e ∷ es) name n h = elim (cases_Bool (bytes_eq e.name.name name)
 ]
 
 known_within : (l : ℕ) (o : Option ℕ) → 0 < l → ((n : ℕ) → o ≡ Some n → n < l) → known o < l
-known_within l None h f = h
+known_within l no_node h f = h
 known_within l (Some n) h f = f n refl
 
 entity_within : (es : List declared_entity.Entity) (name : List ℕ) → 0 < length es → entity_number es name < length es
@@ -89,110 +89,110 @@ module _ (r x : ℕ) where
 
   module _ (ls : Levels) (h : Surroundings) (bound : (name : List ℕ) → entity_number h.entities name < r) where
     step_assigned : (n : ℕ) (c : SimpleCommand) → Low (step_assigns (step_of ls h n c) x)
-    step_assigned n (Assign target e) = low_equal (entity_number h.entities target.name) (bound target.name)
-    step_assigned n (Write target index e) = low_equal (entity_number h.entities target.name) (bound target.name)
-    step_assigned n (SetTag place target tag) = low_false
-    step_assigned n (SetCellTag place target index tag) = low_false
-    step_assigned n (Goto place target) = low_false
-    step_assigned n (Fall place) = low_false
+    step_assigned n (assign target e) = low_equal (entity_number h.entities target.name) (bound target.name)
+    step_assigned n (write target index e) = low_equal (entity_number h.entities target.name) (bound target.name)
+    step_assigned n (set_tag place target tag) = low_false
+    step_assigned n (set_cell_tag place target index tag) = low_false
+    step_assigned n (go_to place target) = low_false
+    step_assigned n (fall_to_child place) = low_false
 
     mutual
       command_assigned : (k : ℕ) (c : Command) → Low (assigns (command_of ls h k c) x)
-      command_assigned k (Do c) = step_assigned (site_number h k c) c
-      command_assigned k (Try c place b) =
+      command_assigned k (lone c) = step_assigned (site_number h k c) c
+      command_assigned k (try c place b) =
           low_or (step_assigns (step_of ls h (site_number h k c) c) x) (block_assigns (block_of ls h (k + length (simple_sites h c)) b) x)
           (step_assigned (site_number h k c) c) (block_assigned (k + length (simple_sites h c)) b)
-      command_assigned k (If place e b other) =
+      command_assigned k (if_else place e b other) =
           low_or (block_assigns (block_of ls h k b) x) (block_assigns (else_of ls h (k + length (block_sites h b)) other) x) (block_assigned k b)
           (else_assigned (k + length (block_sites h b)) other)
-      command_assigned k (TryThen c place a b) =
+      command_assigned k (try_then c place a b) =
           let i = k + length (simple_sites h c) in
           let j = i + length (block_sites h a) in
           low_or (step_assigns (step_of ls h (site_number h k c) c) x) (block_assigns (block_of ls h i a) x || block_assigns (block_of ls h j b) x)
           (step_assigned (site_number h k c) c)
           (low_or (block_assigns (block_of ls h i a) x) (block_assigns (block_of ls h j b) x) (block_assigned i a) (block_assigned j b))
-      command_assigned k (Case place e arms) = arms_assigned k arms
+      command_assigned k (case_of place e arms) = arms_assigned k arms
 
       arms_assigned : (k : ℕ) (arms : Arms) → Low (arms_assign (arms_of ls h k arms) x)
-      arms_assigned k (Last b) = block_assigned k b
-      arms_assigned k (Arm constants b arms) =
+      arms_assigned k (last_arm b) = block_assigned k b
+      arms_assigned k (and_arm constants b arms) =
           low_or (block_assigns (block_of ls h k b) x) (arms_assign (arms_of ls h (k + length (block_sites h b)) arms) x) (block_assigned k b) (arms_assigned (k + length (block_sites h b)) arms)
 
       block_assigned : (k : ℕ) (b : CommandBlock) → Low (block_assigns (block_of ls h k b) x)
-      block_assigned k (Commands cs after) = list_assigned k cs
+      block_assigned k (command_block cs after) = list_assigned k cs
 
       else_assigned : (k : ℕ) (b : ElseBlock) → Low (block_assigns (else_of ls h k b) x)
-      else_assigned k NoElse = low_false
-      else_assigned k (Else b) = block_assigned k b
+      else_assigned k no_else = low_false
+      else_assigned k (with_else b) = block_assigned k b
 
       list_assigned : (k : ℕ) (cs : CommandList) → Low (block_assigns (list_of ls h k cs) x)
-      list_assigned k NoCommand = low_false
-      list_assigned k (AndCommand c cs) =
+      list_assigned k no_command = low_false
+      list_assigned k (and_command c cs) =
           low_or (assigns (command_of ls h k c) x) (block_assigns (list_of ls h (k + length (command_sites h c)) cs) x) (command_assigned k c)
           (list_assigned (k + length (command_sites h c)) cs)
 
     module _ (s : ℕ) (own : s < r) (g : Group) (kids : Low (among g x)) (below : Low (group_assigns g x)) where
       step_hung : (n : ℕ) (c : SimpleCommand) → Low (step_hangs s g (step_of ls h n c) x)
-      step_hung n (Assign target e) = low_equal (entity_number h.entities target.name) (bound target.name)
-      step_hung n (Write target index e) = low_equal (entity_number h.entities target.name) (bound target.name)
-      step_hung n (SetTag place target tag) = low_false
-      step_hung n (SetCellTag place target index tag) = low_false
-      step_hung n (Goto place target) = low_equal s own
-      step_hung n (Fall place) = low_or (among g x) (group_assigns g x) kids below
+      step_hung n (assign target e) = low_equal (entity_number h.entities target.name) (bound target.name)
+      step_hung n (write target index e) = low_equal (entity_number h.entities target.name) (bound target.name)
+      step_hung n (set_tag place target tag) = low_false
+      step_hung n (set_cell_tag place target index tag) = low_false
+      step_hung n (go_to place target) = low_equal s own
+      step_hung n (fall_to_child place) = low_or (among g x) (group_assigns g x) kids below
 
       mutual
         pub command_hung : (k : ℕ) (c : Command) → Low (hangs s g (command_of ls h k c) x)
-        command_hung k (Do c) = step_hung (site_number h k c) c
-        command_hung k (Try c place b) =
+        command_hung k (lone c) = step_hung (site_number h k c) c
+        command_hung k (try c place b) =
             low_or (step_hangs s g (step_of ls h (site_number h k c) c) x) (block_hangs s g (block_of ls h (k + length (simple_sites h c)) b) x)
             (step_hung (site_number h k c) c) (block_hung (k + length (simple_sites h c)) b)
-        command_hung k (If place e b other) =
+        command_hung k (if_else place e b other) =
             low_or (block_hangs s g (block_of ls h k b) x) (block_hangs s g (else_of ls h (k + length (block_sites h b)) other) x) (block_hung k b)
             (else_hung (k + length (block_sites h b)) other)
-        command_hung k (TryThen c place a b) =
+        command_hung k (try_then c place a b) =
             let i = k + length (simple_sites h c) in
             let j = i + length (block_sites h a) in
             low_or (step_hangs s g (step_of ls h (site_number h k c) c) x) (block_hangs s g (block_of ls h i a) x || block_hangs s g (block_of ls h j b) x)
             (step_hung (site_number h k c) c)
             (low_or (block_hangs s g (block_of ls h i a) x) (block_hangs s g (block_of ls h j b) x) (block_hung i a) (block_hung j b))
-        command_hung k (Case place e arms) = arms_hung k arms
+        command_hung k (case_of place e arms) = arms_hung k arms
 
         arms_hung : (k : ℕ) (arms : Arms) → Low (arms_hang s g (arms_of ls h k arms) x)
-        arms_hung k (Last b) = block_hung k b
-        arms_hung k (Arm constants b arms) =
+        arms_hung k (last_arm b) = block_hung k b
+        arms_hung k (and_arm constants b arms) =
             low_or (block_hangs s g (block_of ls h k b) x) (arms_hang s g (arms_of ls h (k + length (block_sites h b)) arms) x) (block_hung k b) (arms_hung (k + length (block_sites h b)) arms)
 
         block_hung : (k : ℕ) (b : CommandBlock) → Low (block_hangs s g (block_of ls h k b) x)
-        block_hung k (Commands cs after) = list_hung k cs
+        block_hung k (command_block cs after) = list_hung k cs
 
         else_hung : (k : ℕ) (b : ElseBlock) → Low (block_hangs s g (else_of ls h k b) x)
-        else_hung k NoElse = low_false
-        else_hung k (Else b) = block_hung k b
+        else_hung k no_else = low_false
+        else_hung k (with_else b) = block_hung k b
 
         list_hung : (k : ℕ) (cs : CommandList) → Low (block_hangs s g (list_of ls h k cs) x)
-        list_hung k NoCommand = low_false
-        list_hung k (AndCommand c cs) =
+        list_hung k no_command = low_false
+        list_hung k (and_command c cs) =
             low_or (hangs s g (command_of ls h k c) x) (block_hangs s g (list_of ls h (k + length (command_sites h c)) cs) x) (command_hung k c)
             (list_hung (k + length (command_sites h c)) cs)
 
   module _ (ls : Levels) (es : List declared_entity.Entity) where
     mutual
       state_assigned : (k n : ℕ) (t : StateTree) → ((name : List ℕ) → entity_number es name < r) → Low (state_assigns (state_of ls es k n t) x)
-      state_assigned k n (StateOf place name kind body children) bound =
+      state_assigned k n (state_node place name kind body children) bound =
           let h : Surroundings = record { entities = es; home = record { name = name.name; kind = kind; children = children } } in
           low_or (block_assigns (block_of ls h k body) x) (group_assigns (group_of ls es (k + length (block_sites h body)) (n + 1) children) x)
           (block_assigned ls h bound k body) (group_assigned (k + length (block_sites h body)) (n + 1) children bound)
 
       group_assigned : (k n : ℕ) (g : StateList) → ((name : List ℕ) → entity_number es name < r) → Low (group_assigns (group_of ls es k n g) x)
-      group_assigned k n NoState bound = low_false
-      group_assigned k n (AndState t rest) bound =
+      group_assigned k n no_state bound = low_false
+      group_assigned k n (and_state t rest) bound =
           low_or (state_assigns (state_of ls es k n t) x) (group_assigns (group_of ls es (k + length (state_sites es t)) (n + states_in t) rest) x)
           (state_assigned k n t bound) (group_assigned (k + length (state_sites es t)) (n + states_in t) rest bound)
 
     group_low : (k n : ℕ) (g : StateList) → n + states_below g ≤ r → Low (among (group_of ls es k n g) x)
-    group_low k n NoState h = low_false
-    group_low k n (AndState (StateOf place name kind body children) rest) h =
-        let t : StateTree = StateOf place name kind body children in
+    group_low k n no_state h = low_false
+    group_low k n (and_state (state_node place name kind body children) rest) h =
+        let t : StateTree = state_node place name kind body children in
         let own : n < r = omega arith in
         let later : (n + states_in t) + states_below rest ≤ r = omega arith in
         low_or (nat_eq x n) (among (group_of ls es (k + length (state_sites es t)) (n + states_in t) rest) x) (low_equal n own)
@@ -216,35 +216,35 @@ module _ (ls : Levels) (w : World) where
         (sym (hangs_filled w Before s g (filled_group w s g) (λ y. among_filled w s g y) (λ y. group_assigns_filled w s g y) (command_of ls h k c) x))
 
     exact_step : (k : ℕ) (c : SimpleCommand) → ExactStep w After (filled_step w Before (step_of ls h (site_number h k c) c))
-    exact_step k (Assign target e) = tt
-    exact_step k (Write target index e) = tt
-    exact_step k (SetTag place target tag) = tt
-    exact_step k (SetCellTag place target index tag) = tt
-    exact_step k (Goto place target) = tt
-    exact_step k (Fall place) = exact_list k (Do (Fall place))
+    exact_step k (assign target e) = tt
+    exact_step k (write target index e) = tt
+    exact_step k (set_tag place target tag) = tt
+    exact_step k (set_cell_tag place target index tag) = tt
+    exact_step k (go_to place target) = tt
+    exact_step k (fall_to_child place) = exact_list k (lone (fall_to_child place))
 
     mutual
       exact_command : (k : ℕ) (c : Command) → Exact w After (filled w Before (command_of ls h k c))
-      exact_command k (Do c) = exact_step k c
-      exact_command k (Try c place b) = (exact_list k (Try c place b), exact_block (k + length (simple_sites h c)) b)
-      exact_command k (If place e b other) = (exact_list k (If place e b other), exact_block k b, exact_else (k + length (block_sites h b)) other)
-      exact_command k (TryThen c place a b) = (exact_list k (TryThen c place a b), exact_block (k + length (simple_sites h c)) a, exact_block (k + length (simple_sites h c) + length (block_sites h a)) b)
-      exact_command k (Case place e arms) = (exact_list k (Case place e arms), exact_arms k arms)
+      exact_command k (lone c) = exact_step k c
+      exact_command k (try c place b) = (exact_list k (try c place b), exact_block (k + length (simple_sites h c)) b)
+      exact_command k (if_else place e b other) = (exact_list k (if_else place e b other), exact_block k b, exact_else (k + length (block_sites h b)) other)
+      exact_command k (try_then c place a b) = (exact_list k (try_then c place a b), exact_block (k + length (simple_sites h c)) a, exact_block (k + length (simple_sites h c) + length (block_sites h a)) b)
+      exact_command k (case_of place e arms) = (exact_list k (case_of place e arms), exact_arms k arms)
 
       exact_arms : (k : ℕ) (arms : Arms) → ExactArms w After (filled_arms w Before (arms_of ls h k arms))
-      exact_arms k (Last b) = exact_block k b
-      exact_arms k (Arm constants b arms) = (exact_block k b, exact_arms (k + length (block_sites h b)) arms)
+      exact_arms k (last_arm b) = exact_block k b
+      exact_arms k (and_arm constants b arms) = (exact_block k b, exact_arms (k + length (block_sites h b)) arms)
 
       exact_block : (k : ℕ) (b : CommandBlock) → ExactBlock w After (filled_block w Before (block_of ls h k b))
-      exact_block k (Commands cs after) = exact_commands k cs
+      exact_block k (command_block cs after) = exact_commands k cs
 
       exact_else : (k : ℕ) (b : ElseBlock) → ExactBlock w After (filled_block w Before (else_of ls h k b))
-      exact_else k NoElse = tt
-      exact_else k (Else b) = exact_block k b
+      exact_else k no_else = tt
+      exact_else k (with_else b) = exact_block k b
 
       exact_commands : (k : ℕ) (cs : CommandList) → ExactBlock w After (filled_block w Before (list_of ls h k cs))
-      exact_commands k NoCommand = tt
-      exact_commands k (AndCommand c cs) = (exact_command k c, exact_commands (k + length (command_sites h c)) cs)
+      exact_commands k no_command = tt
+      exact_commands k (and_command c cs) = (exact_command k c, exact_commands (k + length (command_sites h c)) cs)
 
   module _ (es : List declared_entity.Entity) (same : root w ≡ length es) where
     bounded : 0 < root w → (name : List ℕ) → entity_number es name < root w
@@ -252,7 +252,7 @@ module _ (ls : Levels) (w : World) where
 
     mutual
       exact_state : (k n p : ℕ) (t : StateTree) → n + states_in t ≤ root w → ExactState w p (filled_state w p (state_of ls es k n t))
-      exact_state k n p (StateOf place name kind body children) within =
+      exact_state k n p (state_node place name kind body children) within =
           let h : Surroundings = record { entities = es; home = record { name = name.name; kind = kind; children = children } } in
           let k' : ℕ = k + length (block_sites h body) in
           let g : Group = group_of ls es k' (n + 1) children in
@@ -265,17 +265,17 @@ module _ (ls : Levels) (w : World) where
           )
 
       exact_group : (k n p : ℕ) (g : StateList) → n + states_below g ≤ root w → ExactGroup w p (filled_group w p (group_of ls es k n g))
-      exact_group k n p NoState within = tt
-      exact_group k n p (AndState t rest) within =
+      exact_group k n p no_state within = tt
+      exact_group k n p (and_state t rest) within =
           let first : n + states_in t ≤ root w = omega arith in
           let later : (n + states_in t) + states_below rest ≤ root w = omega arith in
           (exact_state k n p t first, exact_group (k + length (state_sites es t)) (n + states_in t) p rest later)
 
     -- what hangs on the root's fall
     root_low : (k n : ℕ) (g : StateList) → n + states_below g ≤ root w → (x : ℕ) → root_touches w (group_of ls es k n g) x ≡ true → x < root w
-    root_low k n NoState within x h = let i = and_right (is_dynamic w x) false h in cc
-    root_low k n (AndState (StateOf place name kind body children) rest) within x h =
-        let t : StateList = AndState (StateOf place name kind body children) rest in
+    root_low k n no_state within x h = let i = and_right (is_dynamic w x) false h in cc
+    root_low k n (and_state (state_node place name kind body children) rest) within x h =
+        let t : StateList = and_state (state_node place name kind body children) rest in
         let some : 0 < root w = omega arith in
         low_or (root w) x (among (group_of ls es k n t) x) (group_assigns (group_of ls es k n t) x) (group_low (root w) x ls es k n t within)
         (group_assigned (root w) x ls es k n t (bounded some))

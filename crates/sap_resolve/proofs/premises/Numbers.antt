@@ -7,7 +7,7 @@ use Rattle.std.proofs.lemmas.Bool.{and_from, eqb-true, or_cases, or_left, or_rig
 use Rattle.sap_tree.specs.declared.name.Mention.{Mention}
 use Rattle.sap_text.specs.declared.place.Place.{Place}
 use Rattle.sap_tree.specs.declared.syntax.Kind.{Kind}
-use Rattle.sap_tree.specs.Syntax.{CommandBlock, StateTree, StateOf, StateList, NoState, AndState}
+use Rattle.sap_tree.specs.Syntax.{CommandBlock, StateTree, state_node, StateList, no_state, and_state}
 use Rattle.sap_lattice.specs.Levels.{Levels}
 use Rattle.sap_names.specs.declared.entity.Entity as declared_entity
 use Rattle.sap_shape.specs.ShapeFaults.{is_among, is_within, is_in_group}
@@ -21,11 +21,11 @@ use Rattle.sap_resolve.specs.Terms.{entity_number}
 use Rattle.sap_resolve.proofs.premises.Places.{Laid, LaidState, laid_first, laid_rest, laid_below, laid_entity, laid_name, laid_named, laid_within, name_at}
 
 pub size_of : (ls : Levels) (es : List declared_entity.Entity) (k x : ℕ) (g : StateList) → size (group_of ls es k x g) ≡ group_length g
-size_of ls es k x NoState = refl
-size_of ls es k x (AndState s rest) = let h = size_of ls es (k + length (state_sites es s)) (x + states_in s) rest in omega arith
+size_of ls es k x no_state = refl
+size_of ls es k x (and_state s rest) = let h = size_of ls es (k + length (state_sites es s)) (x + states_in s) rest in omega arith
 
 pub number_of_state : (ls : Levels) (es : List declared_entity.Entity) (k x : ℕ) (s : StateTree) → number_of (state_of ls es k x s) ≡ x
-number_of_state ls es k x (StateOf place name kind body children) = refl
+number_of_state ls es k x (state_node place name kind body children) = refl
 
 in_range : (x y l : ℕ) → x + 1 ≤ y → y < (x + 1) + l → (nat_lt x y && nat_le y (x + l)) ≡ true
 in_range x y l h k = grind (arith, common_steps)
@@ -39,9 +39,9 @@ module _ (ls : Levels) (es : List declared_entity.Entity) (w : World) where
     pub name : is_in_group g (name_at es y) ≡ true
 
   pub inside_of : (k n x : ℕ) (g : StateList) → Laid ls es w n x g → (y : ℕ) → inside (group_of ls es k x g) y ≡ true → Inside x g y
-  inside_of k n x NoState laid y h = cc
-  inside_of k n x (AndState (StateOf p name kind body children) rest) laid y h =
-      let s : StateTree = StateOf p name kind body children in
+  inside_of k n x no_state laid y h = cc
+  inside_of k n x (and_state (state_node p name kind body children) rest) laid y h =
+      let s : StateTree = state_node p name kind body children in
       let surroundings : Surroundings = record { entities = es; home = record { name = name.name; kind = kind; children = children } } in
       let mine : LaidState ls es w n x s = laid_first ls es w n x s rest laid in
       let here : Group = group_of ls es (k + length (block_sites surroundings body)) (x + 1) children in
@@ -49,7 +49,7 @@ module _ (ls : Levels) (es : List declared_entity.Entity) (w : World) where
       elim (or_cases (nat_eq y x) (inside here y || inside later y) h) [
         | inl e ↦
             let i : y ≡ x = eqb-true y x e in
-            subst (λ z. Inside x (AndState s rest) z) (sym i) (record {
+            subst (λ z. Inside x (and_state s rest) z) (sym i) (record {
               state = ap (λ (a : Entity). kind_is_state a.kind) (laid_entity ls es w n x p name kind body children mine);
               from = omega arith;
               to = omega arith;
@@ -86,9 +86,9 @@ module _ (ls : Levels) (es : List declared_entity.Entity) (w : World) where
   -- a name of a group's state is that of a number in the group
   pub among_of : ((y : ℕ) → y < length es → entity_number es (name_at es y) ≡ y) → (k n x : ℕ) (g : StateList) → Laid ls es w n x g → (name : List ℕ)
       → is_among g name ≡ true → among (group_of ls es k x g) (entity_number es name) ≡ true
-  among_of numbered k n x NoState laid called h = cc
-  among_of numbered k n x (AndState (StateOf p name kind body children) rest) laid called h =
-      let s : StateTree = StateOf p name kind body children in
+  among_of numbered k n x no_state laid called h = cc
+  among_of numbered k n x (and_state (state_node p name kind body children) rest) laid called h =
+      let s : StateTree = state_node p name kind body children in
       let mine : LaidState ls es w n x s = laid_first ls es w n x s rest laid in
       let later : Group = group_of ls es (k + length (state_sites es s)) (x + states_in s) rest in
       elim (or_cases (bytes_eq name.name called) (is_among rest called) h) [
@@ -101,7 +101,7 @@ module _ (ls : Levels) (es : List declared_entity.Entity) (w : World) where
       ]
 
   module _ (n x : ℕ) (p : Place) (name : Mention) (kind : Kind) (body : CommandBlock) (children : StateList)
-      (mine : LaidState ls es w n x (StateOf p name kind body children)) where
+      (mine : LaidState ls es w n x (state_node p name kind body children)) where
     pub here_state : is_state w x ≡ true
     here_state = ap (λ (a : Entity). kind_is_state a.kind) (laid_entity ls es w n x p name kind body children mine)
 

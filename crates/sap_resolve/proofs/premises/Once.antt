@@ -6,7 +6,7 @@ use Rattle.sap_names.proofs.NameFaultsLemmas.{no_fault}
 use Rattle.sap_names.proofs.FaultLemmas.{nil_left, nil_right}
 use Rattle.sap_tree.specs.declared.name.Mention.{Mention}
 use Rattle.sap_text.specs.declared.place.Place.{Place}
-use Rattle.sap_tree.specs.Syntax.{SimpleCommand, Assign, Write, SetTag, SetCellTag, Goto, Fall, Command, Do, Try, If, TryThen, Case, Arms, Last, Arm, CommandBlock, Commands, ElseBlock, NoElse, Else, CommandList, NoCommand, AndCommand, StateTree, StateOf, StateList, NoState, AndState}
+use Rattle.sap_tree.specs.Syntax.{SimpleCommand, assign, write, set_tag, set_cell_tag, go_to, fall_to_child, Command, lone, try, if_else, try_then, case_of, Arms, last_arm, and_arm, CommandBlock, command_block, ElseBlock, no_else, with_else, CommandList, no_command, and_command, StateTree, state_node, StateList, no_state, and_state}
 use Rattle.sap_lattice.specs.Levels.{Levels}
 use Rattle.sap_names.specs.declared.fault.Fault.{Fault}
 use Rattle.sap_names.specs.declared.kind.Code.TheVariants.{E14}
@@ -33,31 +33,31 @@ use Rattle.sap_resolve.proofs.premises.Shut.{Ended, Shut, ShutArms, ShutElse, Sh
 -- what was written before, is still afterwards
 module _ (a : List ℕ) where
   past_step : (c : SimpleCommand) (p : Written) → p a ≡ true → past_simple c p a ≡ true
-  past_step (Assign target e) p h = h
-  past_step (Write target index e) p h = or_right _ _ h
-  past_step (SetTag place target tag) p h = h
-  past_step (SetCellTag place target index tag) p h = or_right _ _ h
-  past_step (Goto place target) p h = h
-  past_step (Fall place) p h = h
+  past_step (assign target e) p h = h
+  past_step (write target index e) p h = or_right _ _ h
+  past_step (set_tag place target tag) p h = h
+  past_step (set_cell_tag place target index tag) p h = or_right _ _ h
+  past_step (go_to place target) p h = h
+  past_step (fall_to_child place) p h = h
 
   mutual
     past_command : (c : Command) (p : Written) → p a ≡ true → past c p a ≡ true
-    past_command (Do c) p h = past_step c p h
-    past_command (Try c place b) p h = or_left _ _ (past_step c p h)
-    past_command (If place e b other) p h = or_left _ _ (past_body b p h)
-    past_command (TryThen c place b other) p h = or_left _ _ (past_body b (past_simple c p) (past_step c p h))
-    past_command (Case place e arms) p h = past_all arms p h
+    past_command (lone c) p h = past_step c p h
+    past_command (try c place b) p h = or_left _ _ (past_step c p h)
+    past_command (if_else place e b other) p h = or_left _ _ (past_body b p h)
+    past_command (try_then c place b other) p h = or_left _ _ (past_body b (past_simple c p) (past_step c p h))
+    past_command (case_of place e arms) p h = past_all arms p h
 
     past_all : (arms : Arms) (p : Written) → p a ≡ true → past_arms arms p a ≡ true
-    past_all (Last b) p h = past_body b p h
-    past_all (Arm constants b arms) p h = or_left _ _ (past_body b p h)
+    past_all (last_arm b) p h = past_body b p h
+    past_all (and_arm constants b arms) p h = or_left _ _ (past_body b p h)
 
     past_body : (b : CommandBlock) (p : Written) → p a ≡ true → past_block b p a ≡ true
-    past_body (Commands cs after) p h = past_commands cs p h
+    past_body (command_block cs after) p h = past_commands cs p h
 
     past_commands : (cs : CommandList) (p : Written) → p a ≡ true → past_list cs p a ≡ true
-    past_commands NoCommand p h = h
-    past_commands (AndCommand c cs) p h = past_commands cs (past c p) (past_command c p h)
+    past_commands no_command p h = h
+    past_commands (and_command c cs) p h = past_commands cs (past c p) (past_command c p h)
 
 module _ (ls : Levels) (levels : List (List ℕ)) (h : Surroundings) (w : World) (match : AllMatch h.entities w.entities) where
   abbrev What : Lookup
@@ -79,41 +79,41 @@ module _ (ls : Levels) (levels : List (List ℕ)) (h : Surroundings) (w : World)
   -- what a step writes, is written behind it
   step_written : (n : ℕ) (c : SimpleCommand) → simple_faults levels What c ≡ [] → (m : ℕ) (p : Written) → step_writes (step_of ls h n c) m ≡ true
       → past_simple c p (name_at h.entities m) ≡ true
-  step_written n (Assign target e) f m p i = cc
-  step_written n (Write target index e) f m p i = writes_target target m p (write_named levels What target index e f) i
-  step_written n (SetTag place target tag) f m p i = cc
-  step_written n (SetCellTag place target index tag) f m p i = writes_target target m p (cell_named levels What place target index tag f) i
-  step_written n (Goto place target) f m p i = cc
-  step_written n (Fall place) f m p i = cc
+  step_written n (assign target e) f m p i = cc
+  step_written n (write target index e) f m p i = writes_target target m p (write_named levels What target index e f) i
+  step_written n (set_tag place target tag) f m p i = cc
+  step_written n (set_cell_tag place target index tag) f m p i = writes_target target m p (cell_named levels What place target index tag f) i
+  step_written n (go_to place target) f m p i = cc
+  step_written n (fall_to_child place) f m p i = cc
 
   module _ (falls : ℕ → Bool) where
     open_written : (n : ℕ) (c : SimpleCommand) → simple_faults levels What c ≡ [] → transfer_faults c ≡ [] → (m : ℕ) (p : Written)
         → step_reaching falls (step_of ls h n c) m ≡ true → past_simple c p (name_at h.entities m) ≡ true
-    open_written n (Assign target e) f o m p i = cc
-    open_written n (Write target index e) f o m p i = writes_target target m p (write_named levels What target index e f) i
-    open_written n (SetTag place target tag) f o m p i = cc
-    open_written n (SetCellTag place target index tag) f o m p i = writes_target target m p (cell_named levels What place target index tag f) i
-    open_written n (Goto place target) f o m p i = cc
-    open_written n (Fall place) f o m p i = cc
+    open_written n (assign target e) f o m p i = cc
+    open_written n (write target index e) f o m p i = writes_target target m p (write_named levels What target index e f) i
+    open_written n (set_tag place target tag) f o m p i = cc
+    open_written n (set_cell_tag place target index tag) f o m p i = writes_target target m p (cell_named levels What place target index tag f) i
+    open_written n (go_to place target) f o m p i = cc
+    open_written n (fall_to_child place) f o m p i = cc
 
     -- what an open command reaches, is written behind it
     mutual
       command_written : (k : ℕ) (c : Command) → command_faults levels What c ≡ [] → open_faults c ≡ [] → (m : ℕ) (p : Written)
           → reaching falls (command_of ls h k c) m ≡ true → past c p (name_at h.entities m) ≡ true
-      command_written k (Do c) f o m p i = open_written (site_number h k c) c f o m p i
-      command_written k (Try c place b) f o m p i =
+      command_written k (lone c) f o m p i = open_written (site_number h k c) c f o m p i
+      command_written k (try c place b) f o m p i =
           elim (or_cases (step_reaching falls (step_of ls h (site_number h k c) c) m) (block_reaching falls (block_of ls h (k + length (simple_sites h c)) b) m) i) [
             | inl j ↦ or_left _ _
                 (open_written (site_number h k c) c (nil_left _ _ f) (nil_left _ _ o) m p j)
             | inr j ↦ or_right _ _
                 (block_written (k + length (simple_sites h c)) b (nil_right _ _ f) (nil_right _ _ o) m (past_simple c p) j)
           ]
-      command_written k (If place e b other) f o m p i =
+      command_written k (if_else place e b other) f o m p i =
           elim (or_cases (block_reaching falls (block_of ls h k b) m) (block_reaching falls (else_of ls h (k + length (block_sites h b)) other) m) i) [
             | inl j ↦ or_left _ _ (block_written k b (if_first levels What place e b other f) (nil_left _ _ o) m p j)
             | inr j ↦ or_right _ _ (else_written (k + length (block_sites h b)) other (if_other levels What place e b other f) (nil_right _ _ o) m p j)
           ]
-      command_written k (TryThen c place a b) f o m p i =
+      command_written k (try_then c place a b) f o m p i =
           let q = past_simple c p in
           let x = k + length (simple_sites h c) in
           let y = x + length (block_sites h a) in
@@ -125,12 +125,12 @@ module _ (ls : Levels) (levels : List (List ℕ)) (h : Surroundings) (w : World)
               | inr t ↦ or_right _ _ (block_written y b (nil_right _ _ f) (nil_right _ _ opened.1) m q t)
             ]
           ]
-      command_written k (Case place e arms) f o m p i = arms_written (own What e) k arms (nil_right _ _ f) o m p i
+      command_written k (case_of place e arms) f o m p i = arms_written (own What e) k arms (nil_right _ _ f) o m p i
 
       arms_written : (asked : Option ℕ) (k : ℕ) (arms : Arms) → arms_faults levels What asked arms ≡ [] → open_arms_faults arms ≡ [] → (m : ℕ) (p : Written)
           → arms_reaching falls (arms_of ls h k arms) m ≡ true → past_arms arms p (name_at h.entities m) ≡ true
-      arms_written asked k (Last b) f o m p i = block_written k b f o m p i
-      arms_written asked k (Arm constants b arms) f o m p i =
+      arms_written asked k (last_arm b) f o m p i = block_written k b f o m p i
+      arms_written asked k (and_arm constants b arms) f o m p i =
           elim (or_cases (block_reaching falls (block_of ls h k b) m) (arms_reaching falls (arms_of ls h (k + length (block_sites h b)) arms) m) i) [
             | inl j ↦ or_left _ _ (block_written k b (nil_right _ _ (nil_left _ _ f)) (nil_left _ _ o) m p j)
             | inr j ↦ or_right _ _ (arms_written asked (k + length (block_sites h b)) arms (nil_right _ _ f) (nil_right _ _ o) m p j)
@@ -138,17 +138,17 @@ module _ (ls : Levels) (levels : List (List ℕ)) (h : Surroundings) (w : World)
 
       block_written : (k : ℕ) (b : CommandBlock) → Fits b → open_block_faults b ≡ [] → (m : ℕ) (p : Written)
           → block_reaching falls (block_of ls h k b) m ≡ true → past_block b p (name_at h.entities m) ≡ true
-      block_written k (Commands cs after) f o m p i = list_written k cs f o m p i
+      block_written k (command_block cs after) f o m p i = list_written k cs f o m p i
 
       else_written : (k : ℕ) (b : ElseBlock) → else_faults levels What b ≡ [] → open_else_faults b ≡ [] → (m : ℕ) (p : Written)
           → block_reaching falls (else_of ls h k b) m ≡ true → past_else b p (name_at h.entities m) ≡ true
-      else_written k NoElse f o m p i = cc
-      else_written k (Else b) f o m p i = block_written k b f o m p i
+      else_written k no_else f o m p i = cc
+      else_written k (with_else b) f o m p i = block_written k b f o m p i
 
       list_written : (k : ℕ) (cs : CommandList) → commands_faults levels What cs ≡ [] → open_list_faults cs ≡ [] → (m : ℕ) (p : Written)
           → block_reaching falls (list_of ls h k cs) m ≡ true → past_list cs p (name_at h.entities m) ≡ true
-      list_written k NoCommand f o m p i = cc
-      list_written k (AndCommand c cs) f o m p i =
+      list_written k no_command f o m p i = cc
+      list_written k (and_command c cs) f o m p i =
           elim (or_cases (reaching falls (command_of ls h k c) m) (block_reaching falls (list_of ls h (k + length (command_sites h c)) cs) m) i) [
             | inl j ↦ past_commands (name_at h.entities m) cs (past c p)
                 (command_written k c (nil_left _ _ f) (nil_left _ _ o) m p j)
@@ -170,28 +170,28 @@ module _ (ls : Levels) (levels : List (List ℕ)) (h : Surroundings) (w : World)
 
       step_unreached : (n : ℕ) (c : SimpleCommand) → simple_faults levels What c ≡ [] → (p : Written) → p (name_at h.entities m) ≡ true
           → second_simple c p ≡ [] → Safe (entering_simple c p (name_at h.entities m)) → step_reaching falls (step_of ls h n c) m ≡ false
-      step_unreached n (Assign target e) f p i s d = refl
-      step_unreached n (Write target index e) f p i s d = target_unwritten target target.place (write_named levels What target index e f) p i s
-      step_unreached n (SetTag place target tag) f p i s d = refl
-      step_unreached n (SetCellTag place target index tag) f p i s d = target_unwritten target place (cell_named levels What place target index tag f) p i s
-      step_unreached n (Goto place target) f p i s d = refl
-      step_unreached n (Fall place) f p i s d = d i
+      step_unreached n (assign target e) f p i s d = refl
+      step_unreached n (write target index e) f p i s d = target_unwritten target target.place (write_named levels What target index e f) p i s
+      step_unreached n (set_tag place target tag) f p i s d = refl
+      step_unreached n (set_cell_tag place target index tag) f p i s d = target_unwritten target place (cell_named levels What place target index tag f) p i s
+      step_unreached n (go_to place target) f p i s d = refl
+      step_unreached n (fall_to_child place) f p i s d = d i
 
       mutual
         command_unreached : (k : ℕ) (c : Command) → command_faults levels What c ≡ [] → (p : Written) → p (name_at h.entities m) ≡ true → second c p ≡ []
             → Safe (entering c p (name_at h.entities m)) → reaching falls (command_of ls h k c) m ≡ false
-        command_unreached k (Do c) f p i s d = step_unreached (site_number h k c) c f p i s d
-        command_unreached k (Try c place b) f p i s d =
+        command_unreached k (lone c) f p i s d = step_unreached (site_number h k c) c f p i s d
+        command_unreached k (try c place b) f p i s d =
             or_from (step_reaching falls (step_of ls h (site_number h k c) c) m) (block_reaching falls (block_of ls h (k + length (simple_sites h c)) b) m)
             (step_unreached (site_number h k c) c (nil_left _ _ f) p i (nil_left _ _ s)
             (λ j. d (or_left _ _ j)))
             (body_unreached (k + length (simple_sites h c)) b (nil_right _ _ f) (past_simple c p) (past_step (name_at h.entities m) c p i)
             (nil_right _ _ s) (λ j. d (or_right _ _ j)))
-        command_unreached k (If place e b other) f p i s d =
+        command_unreached k (if_else place e b other) f p i s d =
             or_from (block_reaching falls (block_of ls h k b) m) (block_reaching falls (else_of ls h (k + length (block_sites h b)) other) m)
             (body_unreached k b (if_first levels What place e b other f) p i (nil_left _ _ s) (λ j. d (or_left _ _ j)))
             (else_unreached (k + length (block_sites h b)) other (if_other levels What place e b other f) p i (nil_right _ _ s) (λ j. d (or_right _ _ j)))
-        command_unreached k (TryThen c place a b) f p i s d =
+        command_unreached k (try_then c place a b) f p i s d =
             let q = past_simple c p in
             let behind = past_step (name_at h.entities m) c p i in
             let x = k + length (simple_sites h c) in
@@ -201,29 +201,29 @@ module _ (ls : Levels) (levels : List (List ℕ)) (h : Surroundings) (w : World)
             (or_from (block_reaching falls (block_of ls h x a) m) (block_reaching falls (block_of ls h y b) m)
             (body_unreached x a (nil_right _ _ (nil_left _ _ f)) q behind (nil_right _ _ (nil_left _ _ s)) (λ j. d (or_right _ _ (or_left _ _ j))))
             (body_unreached y b (nil_right _ _ f) q behind (nil_right _ _ s) (λ j. d (or_right _ _ (or_right _ _ j)))))
-        command_unreached k (Case place e arms) f p i s d = arms_unreached (own What e) k arms (nil_right _ _ f) p i s d
+        command_unreached k (case_of place e arms) f p i s d = arms_unreached (own What e) k arms (nil_right _ _ f) p i s d
 
         arms_unreached : (asked : Option ℕ) (k : ℕ) (arms : Arms) → arms_faults levels What asked arms ≡ [] → (p : Written) → p (name_at h.entities m) ≡ true
             → second_arms arms p ≡ [] → Safe (entering_arms arms p (name_at h.entities m)) → arms_reaching falls (arms_of ls h k arms) m ≡ false
-        arms_unreached asked k (Last b) f p i s d = body_unreached k b f p i s d
-        arms_unreached asked k (Arm constants b arms) f p i s d =
+        arms_unreached asked k (last_arm b) f p i s d = body_unreached k b f p i s d
+        arms_unreached asked k (and_arm constants b arms) f p i s d =
             or_from (block_reaching falls (block_of ls h k b) m) (arms_reaching falls (arms_of ls h (k + length (block_sites h b)) arms) m)
             (body_unreached k b (nil_right _ _ (nil_left _ _ f)) p i (nil_left _ _ s) (λ j. d (or_left _ _ j)))
             (arms_unreached asked (k + length (block_sites h b)) arms (nil_right _ _ f) p i (nil_right _ _ s) (λ j. d (or_right _ _ j)))
 
         pub body_unreached : (k : ℕ) (b : CommandBlock) → Fits b → (p : Written) → p (name_at h.entities m) ≡ true → second_block b p ≡ []
             → Safe (entering_block b p (name_at h.entities m)) → block_reaching falls (block_of ls h k b) m ≡ false
-        body_unreached k (Commands cs after) f p i s d = list_unreached k cs f p i s d
+        body_unreached k (command_block cs after) f p i s d = list_unreached k cs f p i s d
 
         else_unreached : (k : ℕ) (b : ElseBlock) → else_faults levels What b ≡ [] → (p : Written) → p (name_at h.entities m) ≡ true → second_else b p ≡ []
             → Safe (entering_else b p (name_at h.entities m)) → block_reaching falls (else_of ls h k b) m ≡ false
-        else_unreached k NoElse f p i s d = refl
-        else_unreached k (Else b) f p i s d = body_unreached k b f p i s d
+        else_unreached k no_else f p i s d = refl
+        else_unreached k (with_else b) f p i s d = body_unreached k b f p i s d
 
         list_unreached : (k : ℕ) (cs : CommandList) → commands_faults levels What cs ≡ [] → (p : Written) → p (name_at h.entities m) ≡ true
             → second_list cs p ≡ [] → Safe (entering_list cs p (name_at h.entities m)) → block_reaching falls (list_of ls h k cs) m ≡ false
-        list_unreached k NoCommand f p i s d = refl
-        list_unreached k (AndCommand c cs) f p i s d =
+        list_unreached k no_command f p i s d = refl
+        list_unreached k (and_command c cs) f p i s d =
             or_from (reaching falls (command_of ls h k c) m) (block_reaching falls (list_of ls h (k + length (command_sites h c)) cs) m)
             (command_unreached k c (nil_left _ _ f) p i (nil_left _ _ s)
             (λ j. d (or_left _ _ j)))
@@ -237,12 +237,12 @@ module _ (ls : Levels) (levels : List (List ℕ)) (h : Surroundings) (w : World)
   module _ (g : Group) (below : Type 0) where
     -- what holds where a fall leads
     once_step : (n : ℕ) (c : SimpleCommand) → (is_fall c ≡ true → below) → OnceStep below (step_of ls h n c)
-    once_step n (Assign target e) f = tt
-    once_step n (Write target index e) f = tt
-    once_step n (SetTag place target tag) f = tt
-    once_step n (SetCellTag place target index tag) f = tt
-    once_step n (Goto place target) f = tt
-    once_step n (Fall place) f = f refl
+    once_step n (assign target e) f = tt
+    once_step n (write target index e) f = tt
+    once_step n (set_tag place target tag) f = tt
+    once_step n (set_cell_tag place target index tag) f = tt
+    once_step n (go_to place target) f = tt
+    once_step n (fall_to_child place) f = f refl
 
     -- where each fall leads to nothing that was written
     abbrev Free : Written → Type 0
@@ -251,8 +251,8 @@ module _ (ls : Levels) (levels : List (List ℕ)) (h : Surroundings) (w : World)
     mutual
       once_command : (k : ℕ) (c : Command) → command_faults levels What c ≡ [] → Ended c → (p : Written) → second c p ≡ [] → Free (entering c p)
           → (falls c ≡ true → below) → Once g below (command_of ls h k c)
-      once_command k (Do c) f o p s d i = once_step (site_number h k c) c i
-      once_command k (Try c place b) f o p s d i = (
+      once_command k (lone c) f o p s d i = once_step (site_number h k c) c i
+      once_command k (try c place b) f o p s d i = (
         once_step (site_number h k c) c (λ j. i (or_left _ _ j)),
         once_body (k + length (simple_sites h c)) b (nil_right _ _ f)
             (shut_handler c place b o) (past_simple c p) (nil_right _ _ s)
@@ -263,13 +263,13 @@ module _ (ls : Levels) (levels : List (List ℕ)) (h : Surroundings) (w : World)
             (nil_right _ _ s)
             (λ j. d m (or_right _ _ j))),
       )
-      once_command k (If place e b other) f o p s d i = (
+      once_command k (if_else place e b other) f o p s d i = (
         once_body k b (if_first levels What place e b other f)
             (shut_branch place e b other o) p (nil_left _ _ s) (λ m j. d m (or_left _ _ j)) (λ j. i (or_left _ _ j)),
         once_else (k + length (block_sites h b)) other (if_other levels What place e b other f)
             (shut_other place e b other o) p (nil_right _ _ s) (λ m j. d m (or_right _ _ j)) (λ j. i (or_right _ _ j)),
       )
-      once_command k (TryThen c place a b) f o p s d i =
+      once_command k (try_then c place a b) f o p s d i =
           let q = past_simple c p in
           let x = k + length (simple_sites h c) in
           let y = x + length (block_sites h a) in
@@ -291,13 +291,13 @@ module _ (ls : Levels) (levels : List (List ℕ)) (h : Surroundings) (w : World)
                 body_unreached (group_reaches g) m y b refused q (step_written (site_number h k c) c first m p w) there
                 (λ j. d m (or_right _ _ (or_right _ _ j)))),
           )
-      once_command k (Case place e arms) f o p s d i =
+      once_command k (case_of place e arms) f o p s d i =
           once_arms (own What e) k arms (nil_right _ _ f) (shut_arms place e arms o) p s d i
 
       once_arms : (asked : Option ℕ) (k : ℕ) (arms : Arms) → arms_faults levels What asked arms ≡ [] → ShutArms arms → (p : Written) → second_arms arms p ≡ []
           → Free (entering_arms arms p) → (falls_arms arms ≡ true → below) → OnceArms g below (arms_of ls h k arms)
-      once_arms asked k (Last b) f o p s d i = once_body k b f o p s d i
-      once_arms asked k (Arm constants b arms) f o p s d i = (
+      once_arms asked k (last_arm b) f o p s d i = once_body k b f o p s d i
+      once_arms asked k (and_arm constants b arms) f o p s d i = (
         once_body k b (nil_right _ _ (nil_left _ _ f))
             (shut_arm constants b arms o) p (nil_left _ _ s) (λ m j. d m (or_left _ _ j)) (λ j. i (or_left _ _ j)),
         once_arms asked (k + length (block_sites h b)) arms (nil_right _ _ f)
@@ -306,31 +306,31 @@ module _ (ls : Levels) (levels : List (List ℕ)) (h : Surroundings) (w : World)
 
       pub once_body : (k : ℕ) (b : CommandBlock) → Fits b → Shut b → (p : Written) → second_block b p ≡ [] → Free (entering_block b p)
           → (falls_block b ≡ true → below) → OnceBlock g below (block_of ls h k b)
-      once_body k (Commands cs after) f o p s d i = once_list k cs f (shut_list cs after o) p s d i
+      once_body k (command_block cs after) f o p s d i = once_list k cs f (shut_list cs after o) p s d i
 
       once_else : (k : ℕ) (b : ElseBlock) → else_faults levels What b ≡ [] → ShutElse b → (p : Written) → second_else b p ≡ [] → Free (entering_else b p)
           → (falls_else b ≡ true → below) → OnceBlock g below (else_of ls h k b)
-      once_else k NoElse f o p s d i = tt
-      once_else k (Else b) f o p s d i = once_body k b f (shut_else b o) p s d i
+      once_else k no_else f o p s d i = tt
+      once_else k (with_else b) f o p s d i = once_body k b f (shut_else b o) p s d i
 
       once_list : (k : ℕ) (cs : CommandList) → commands_faults levels What cs ≡ [] → ShutList cs → (p : Written) → second_list cs p ≡ []
           → Free (entering_list cs p) → (falls_list cs ≡ true → below) → OnceBlock g below (list_of ls h k cs)
-      once_list k NoCommand f o p s d i = tt
-      once_list k (AndCommand c NoCommand) f o p s d i = (
+      once_list k no_command f o p s d i = tt
+      once_list k (and_command c no_command) f o p s d i = (
         once_command k c (nil_left _ _ f)
-            (shut_first c NoCommand o) p (nil_left _ _ s) (λ m j. d m (or_left _ _ j)) (λ j. i (or_left _ _ j)),
+            (shut_first c no_command o) p (nil_left _ _ s) (λ m j. d m (or_left _ _ j)) (λ j. i (or_left _ _ j)),
         tt,
         λ m. and_if (reaching (group_reaches g) (command_of ls h k c) m) false (λ i. refl),
       )
-      once_list k (AndCommand c (AndCommand e es)) f o p s d i =
-          let cs : CommandList = AndCommand e es in
+      once_list k (and_command c (and_command e es)) f o p s d i =
+          let cs : CommandList = and_command e es in
           let opened : open_faults c ≡ [] = elim o [ inl i ↦ nil_left _ _ i | inr i ↦ nil_left _ _ i.1 ] in
           let first = nil_left _ _ f in
           let rest = nil_right _ _ f in
           let later = nil_right _ _ s in (
             once_command k c first (inl opened) p (nil_left _ _ s)
                 (λ m j. d m (or_left _ _ j)) (λ j. i (or_left _ _ j)),
-            once_list (k + length (command_sites h c)) (AndCommand e es) rest
+            once_list (k + length (command_sites h c)) (and_command e es) rest
                 (shut_rest c cs o) (past c p) later (λ m j. d m (or_right _ _ j)) (λ j. i (or_right _ _ j)),
             λ m. and_if (reaching (group_reaches g) (command_of ls h k c) m) (block_reaching (group_reaches g) (list_of ls h (k + length (command_sites h c)) cs) m)
                 (λ w.
@@ -341,44 +341,44 @@ module _ (ls : Levels) (levels : List (List ℕ)) (h : Surroundings) (w : World)
 -- where something is written up to a fall, a fall stands
 module _ (m : List ℕ) where
   step_falls : (c : SimpleCommand) (p : Written) → entering_simple c p m ≡ true → is_fall c ≡ true
-  step_falls (Assign target e) p h = cc
-  step_falls (Write target index e) p h = cc
-  step_falls (SetTag place target tag) p h = cc
-  step_falls (SetCellTag place target index tag) p h = cc
-  step_falls (Goto place target) p h = cc
-  step_falls (Fall place) p h = refl
+  step_falls (assign target e) p h = cc
+  step_falls (write target index e) p h = cc
+  step_falls (set_tag place target tag) p h = cc
+  step_falls (set_cell_tag place target index tag) p h = cc
+  step_falls (go_to place target) p h = cc
+  step_falls (fall_to_child place) p h = refl
 
   either_falls : (a b c d : Bool) → (a ≡ true → c ≡ true) → (b ≡ true → d ≡ true) → (a || b) ≡ true → (c || d) ≡ true
   either_falls a b c d f g h = elim (or_cases a b h) [ inl i ↦ or_left c d (f i) | inr i ↦ or_right c d (g i) ]
 
   mutual
     command_falls : (c : Command) (p : Written) → entering c p m ≡ true → falls c ≡ true
-    command_falls (Do c) p h = step_falls c p h
-    command_falls (Try c place b) p h =
+    command_falls (lone c) p h = step_falls c p h
+    command_falls (try c place b) p h =
         either_falls (entering_simple c p m) (entering_block b (past_simple c p) m) (is_fall c) (falls_block b) (step_falls c p) (body_falls b (past_simple c p)) h
-    command_falls (If place e b other) p h =
+    command_falls (if_else place e b other) p h =
         either_falls (entering_block b p m) (entering_else other p m) (falls_block b) (falls_else other) (body_falls b p) (else_falls other p) h
-    command_falls (TryThen c place a b) p h =
+    command_falls (try_then c place a b) p h =
         let q = past_simple c p in
         either_falls (entering_simple c p m) (entering_block a q m || entering_block b q m) (is_fall c) (falls_block a || falls_block b) (step_falls c p)
         (either_falls (entering_block a q m) (entering_block b q m) (falls_block a) (falls_block b) (body_falls a q) (body_falls b q)) h
-    command_falls (Case place e arms) p h = arms_fall arms p h
+    command_falls (case_of place e arms) p h = arms_fall arms p h
 
     arms_fall : (arms : Arms) (p : Written) → entering_arms arms p m ≡ true → falls_arms arms ≡ true
-    arms_fall (Last b) p h = body_falls b p h
-    arms_fall (Arm constants b arms) p h =
+    arms_fall (last_arm b) p h = body_falls b p h
+    arms_fall (and_arm constants b arms) p h =
         either_falls (entering_block b p m) (entering_arms arms p m) (falls_block b) (falls_arms arms) (body_falls b p) (arms_fall arms p) h
 
     body_falls : (b : CommandBlock) (p : Written) → entering_block b p m ≡ true → falls_block b ≡ true
-    body_falls (Commands cs after) p h = list_falls cs p h
+    body_falls (command_block cs after) p h = list_falls cs p h
 
     else_falls : (b : ElseBlock) (p : Written) → entering_else b p m ≡ true → falls_else b ≡ true
-    else_falls NoElse p h = cc
-    else_falls (Else b) p h = body_falls b p h
+    else_falls no_else p h = cc
+    else_falls (with_else b) p h = body_falls b p h
 
     list_falls : (cs : CommandList) (p : Written) → entering_list cs p m ≡ true → falls_list cs ≡ true
-    list_falls NoCommand p h = cc
-    list_falls (AndCommand c cs) p h =
+    list_falls no_command p h = cc
+    list_falls (and_command c cs) p h =
         either_falls (entering c p m) (entering_list cs (past c p) m) (falls c) (falls_list cs) (command_falls c p) (list_falls cs (past c p)) h
 
 -- the faults below a body that falls
@@ -398,7 +398,7 @@ module _ (ls : Levels) (levels : List (List ℕ)) (le : ℕ → ℕ → Bool) (e
   mutual
     state_unreached : (k x : ℕ) (s : StateTree) → state_faults levels le (what_is es) s ≡ [] → (p : Written) → p (name_at es m) ≡ true → second_state s p ≡ []
         → state_reaches (state_of ls es k x s) m ≡ false
-    state_unreached k x (StateOf place name kind body children) f p i s =
+    state_unreached k x (state_node place name kind body children) f p i s =
         let h : Surroundings = record { entities = es; home = record { name = name.name; kind = kind; children = children } } in
         let g : Group = group_of ls es (k + length (block_sites h body)) (x + 1) children in
         body_unreached ls levels h w match (group_reaches g) m k body
@@ -409,8 +409,8 @@ module _ (ls : Levels) (levels : List (List ℕ)) (le : ℕ → ℕ → Bool) (e
 
     pub group_unreached : (k x : ℕ) (g : StateList) → states_faults levels le (what_is es) g ≡ [] → (p : Written) → p (name_at es m) ≡ true
         → second_states g p ≡ [] → group_reaches (group_of ls es k x g) m ≡ false
-    group_unreached k x NoState f p i s = refl
-    group_unreached k x (AndState t rest) f p i s =
+    group_unreached k x no_state f p i s = refl
+    group_unreached k x (and_state t rest) f p i s =
         or_from (state_reaches (state_of ls es k x t) m) (group_reaches (group_of ls es (k + length (state_sites es t)) (x + states_in t) rest) m)
         (state_unreached k x t (nil_left _ _ f) p i (nil_left _ _ s))
         (group_unreached (k + length (state_sites es t)) (x + states_in t) rest (nil_right _ _ f) p i (nil_right _ _ s))
@@ -420,7 +420,7 @@ module _ (ls : Levels) (levels : List (List ℕ)) (le : ℕ → ℕ → Bool) (e
   mutual
     once_state : (k x : ℕ) (group : StateList) (above : List (List ℕ)) (s : StateTree) → state_faults levels le (what_is es) s ≡ [] → state_shape es group above s ≡ []
         → (p : Written) → second_state s p ≡ [] → OnceState (state_of ls es k x s)
-    once_state k x group above (StateOf place name kind body children) f s p once =
+    once_state k x group above (state_node place name kind body children) f s p once =
         let h : Surroundings = record { entities = es; home = record { name = name.name; kind = kind; children = children } } in
         let g : Group = group_of ls es (k + length (block_sites h body)) (x + 1) children in
         let fitting = below_fits levels (what_is es) le place name kind body children f in
@@ -434,8 +434,8 @@ module _ (ls : Levels) (levels : List (List ℕ)) (le : ℕ → ℕ → Bool) (e
 
     pub once_group : (k x : ℕ) (group : StateList) (above : List (List ℕ)) (g : StateList) → states_faults levels le (what_is es) g ≡ []
         → states_shape es group above g ≡ [] → (p : Written) → second_states g p ≡ [] → OnceGroup (group_of ls es k x g)
-    once_group k x group above NoState f s p once = tt
-    once_group k x group above (AndState t rest) f s p once = (
+    once_group k x group above no_state f s p once = tt
+    once_group k x group above (and_state t rest) f s p once = (
       once_state k x group above t (nil_left _ _ f)
           (nil_left _ _ s) p (nil_left _ _ once),
       once_group (k + length (state_sites es t)) (x + states_in t) group above rest (nil_right _ _ f)

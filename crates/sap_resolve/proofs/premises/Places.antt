@@ -5,7 +5,7 @@ use Rattle.std.proofs.lemmas.List.{get_or-append-add}
 use Rattle.sap_tree.specs.declared.name.Mention.{Mention}
 use Rattle.sap_text.specs.declared.place.Place.{Place}
 use Rattle.sap_tree.specs.declared.syntax.Kind.{Kind}
-use Rattle.sap_tree.specs.Syntax.{CommandBlock, StateTree, StateOf, StateList, NoState, AndState}
+use Rattle.sap_tree.specs.Syntax.{CommandBlock, StateTree, state_node, StateList, no_state, and_state}
 use Rattle.sap_lattice.specs.Levels.{Levels}
 use Rattle.sap_names.specs.declared.kind.Declared.TheVariants.{State}
 use Rattle.sap_names.specs.Entities as tree
@@ -53,32 +53,32 @@ part_within {A} xs x ys h =
 -- as many entities as states
 mutual
   state_names : (s : StateTree) → length (tree.state_entities s) ≡ states_in s
-  state_names (StateOf place name kind body children) = let h = group_names children in omega arith
+  state_names (state_node place name kind body children) = let h = group_names children in omega arith
 
   pub group_names : (g : StateList) → length (tree.group_entities g) ≡ states_below g
-  group_names NoState = refl
-  group_names (AndState s rest) =
+  group_names no_state = refl
+  group_names (and_state s rest) =
       length-append (tree.state_entities s) (tree.group_entities rest) ∙ ap (λ n. n + length (tree.group_entities rest)) (state_names s) ∙ ap
       (λ n. states_in s + n) (group_names rest)
 
 mutual
   state_count : (ls : Levels) (n x : ℕ) (s : StateTree) → length (world.state_entities ls n x s) ≡ states_in s
-  state_count ls n x (StateOf place name kind body children) = let h = group_count ls 0 (x + 1) children in omega arith
+  state_count ls n x (state_node place name kind body children) = let h = group_count ls 0 (x + 1) children in omega arith
 
   pub group_count : (ls : Levels) (n x : ℕ) (g : StateList) → length (world.group_entities ls n x g) ≡ states_below g
-  group_count ls n x NoState = refl
-  group_count ls n x (AndState s rest) =
+  group_count ls n x no_state = refl
+  group_count ls n x (and_state s rest) =
       length-append (world.state_entities ls n x s) (world.group_entities ls (n + 1) (x + states_in s) rest)
       ∙ ap (λ m. m + length (world.group_entities ls (n + 1) (x + states_in s) rest)) (state_count ls n x s)
       ∙ ap (λ m. states_in s + m) (group_count ls (n + 1) (x + states_in s) rest)
 
 mutual
   state_kids : (s : StateTree) → length (world.state_children s) ≡ states_in s
-  state_kids (StateOf place name kind body children) = let h = group_kids children in omega arith
+  state_kids (state_node place name kind body children) = let h = group_kids children in omega arith
 
   pub group_kids : (g : StateList) → length (world.group_children g) ≡ states_below g
-  group_kids NoState = refl
-  group_kids (AndState s rest) =
+  group_kids no_state = refl
+  group_kids (and_state s rest) =
       length-append (world.state_children s) (world.group_children rest) ∙ ap (λ n. n + length (world.group_children rest)) (state_kids s) ∙ ap
       (λ n. states_in s + n) (group_kids rest)
 
@@ -115,14 +115,14 @@ module _ (ls : Levels) (es : List declared_entity.Entity) (w : World) where
     pub entities : Part w.entities x (world.state_entities ls n x s)
     pub children : Part w.children x (world.state_children s)
 
-  pub laid_first : (n x : ℕ) (s : StateTree) (rest : StateList) → Laid n x (AndState s rest) → LaidState n x s
+  pub laid_first : (n x : ℕ) (s : StateTree) (rest : StateList) → Laid n x (and_state s rest) → LaidState n x s
   laid_first n x s rest h = record {
     names = part_left es x (tree.state_entities s) (tree.group_entities rest) h.names;
     entities = part_left w.entities x (world.state_entities ls n x s) (world.group_entities ls (n + 1) (x + states_in s) rest) h.entities;
     children = part_left w.children x (world.state_children s) (world.group_children rest) h.children;
   }
 
-  pub laid_rest : (n x : ℕ) (s : StateTree) (rest : StateList) → Laid n x (AndState s rest) → Laid (suc n) (x + states_in s) rest
+  pub laid_rest : (n x : ℕ) (s : StateTree) (rest : StateList) → Laid n x (and_state s rest) → Laid (suc n) (x + states_in s) rest
   laid_rest n x s rest h =
       let a : Part es (x + length (tree.state_entities s)) (tree.group_entities rest) = part_right es x (tree.state_entities s) (tree.group_entities rest) h.names in
       let b : Part w.entities (x + length (world.state_entities ls n x s)) (world.group_entities ls (n + 1) (x + states_in s) rest) =
@@ -138,7 +138,7 @@ module _ (ls : Levels) (es : List declared_entity.Entity) (w : World) where
       }
 
   module _ (n x : ℕ) (place : Place) (name : Mention) (kind : Kind) (body : CommandBlock) (children : StateList)
-      (h : LaidState n x (StateOf place name kind body children)) where
+      (h : LaidState n x (state_node place name kind body children)) where
     abbrev Head : declared_entity.Entity
     Head = record { name = name; what = State; dynamic = tree.is_dynamic_kind kind }
 
@@ -160,12 +160,12 @@ module _ (ls : Levels) (es : List declared_entity.Entity) (w : World) where
 
     pub laid_within : x + states_below children < root w
     laid_within =
-        let a = part_within w.entities x (world.state_entities ls n x (StateOf place name kind body children)) h.entities in
-        let b : length (world.state_entities ls n x (StateOf place name kind body children)) ≡ 1 + states_below children = state_count ls n x (StateOf place name kind body children) in
+        let a = part_within w.entities x (world.state_entities ls n x (state_node place name kind body children)) h.entities in
+        let b : length (world.state_entities ls n x (state_node place name kind body children)) ≡ 1 + states_below children = state_count ls n x (state_node place name kind body children) in
         omega arith
 
     pub laid_named : x < length es
     laid_named =
-        let a = part_within es x (tree.state_entities (StateOf place name kind body children)) h.names in
-        let b : length (tree.state_entities (StateOf place name kind body children)) ≡ 1 + states_below children = state_names (StateOf place name kind body children) in
+        let a = part_within es x (tree.state_entities (state_node place name kind body children)) h.names in
+        let b : length (tree.state_entities (state_node place name kind body children)) ≡ 1 + states_below children = state_names (state_node place name kind body children) in
         omega arith

@@ -2,7 +2,7 @@
 use Rattle.std.proofs.Common.{◌≡◌, ◌⊎◌, inl, inr, List, [], ◌++◌, refl}
 use Rattle.sap_names.proofs.FaultLemmas.{nil_left, nil_right}
 use Rattle.sap_text.specs.declared.place.Place.{Place}
-use Rattle.sap_tree.specs.Syntax.{Expression, Expressions, SimpleCommand, Assign, Write, SetTag, SetCellTag, Goto, Fall, Command, Try, If, TryThen, Case, Arms, Arm, CommandBlock, ElseBlock, Else, CommandList, NoCommand, AndCommand}
+use Rattle.sap_tree.specs.Syntax.{Expression, Expressions, SimpleCommand, assign, write, set_tag, set_cell_tag, go_to, fall_to_child, Command, try, if_else, try_then, case_of, Arms, and_arm, CommandBlock, ElseBlock, with_else, CommandList, no_command, and_command}
 use Rattle.sap_names.specs.declared.fault.Fault.{Fault}
 use Rattle.sap_shape.specs.Closing.{transfer_faults, then_faults, open_faults, open_block_faults, open_arms_faults, open_else_faults, open_list_faults, last_faults, closing_faults, closing_arms_faults, closing_else_faults, closing_list_faults}
 
@@ -25,50 +25,50 @@ ShutList cs = (open_list_faults cs ≡ []) ⊎ ((after : Place) × (closing_list
 pub shut_list : (cs : CommandList) (after : Place) → (open_list_faults cs ≡ []) ⊎ (closing_list_faults cs after ≡ []) → ShutList cs
 shut_list cs after o = elim o [ inl i ↦ inl i | inr i ↦ inr (after, i) ]
 
-pub shut_else : (b : CommandBlock) → ShutElse (Else b) → Shut b
+pub shut_else : (b : CommandBlock) → ShutElse (with_else b) → Shut b
 shut_else b o = elim o [ inl i ↦ inl i | inr i ↦ inr i.1 ]
 
 -- the first command of a list, and the others
-pub shut_first : (c : Command) (cs : CommandList) → ShutList (AndCommand c cs) → Ended c
-shut_first c NoCommand o = elim o [ inl i ↦ inl (nil_left _ _ i) | inr i ↦ inr i ]
-shut_first c (AndCommand d ds) o = elim o [ inl i ↦ inl (nil_left _ _ i) | inr i ↦ inl (nil_left _ _ i.1) ]
+pub shut_first : (c : Command) (cs : CommandList) → ShutList (and_command c cs) → Ended c
+shut_first c no_command o = elim o [ inl i ↦ inl (nil_left _ _ i) | inr i ↦ inr i ]
+shut_first c (and_command d ds) o = elim o [ inl i ↦ inl (nil_left _ _ i) | inr i ↦ inl (nil_left _ _ i.1) ]
 
-pub shut_rest : (c : Command) (cs : CommandList) → ShutList (AndCommand c cs) → ShutList cs
-shut_rest c NoCommand o = inl refl
-shut_rest c (AndCommand d ds) o = elim o [ inl i ↦ inl (nil_right _ _ i) | inr i ↦ inr (i.0, nil_right _ _ i.1) ]
+pub shut_rest : (c : Command) (cs : CommandList) → ShutList (and_command c cs) → ShutList cs
+shut_rest c no_command o = inl refl
+shut_rest c (and_command d ds) o = elim o [ inl i ↦ inl (nil_right _ _ i) | inr i ↦ inr (i.0, nil_right _ _ i.1) ]
 
 -- a handler closes or is open, as its command does
-handler_closed : (c : SimpleCommand) (place : Place) (b : CommandBlock) (after : Place) → last_faults (Try c place b) after ≡ [] → Shut b
-handler_closed (Assign target e) place b after f = absurd (cc f)
-handler_closed (Write target index e) place b after f = absurd (cc f)
-handler_closed (SetTag p target tag) place b after f = absurd (cc f)
-handler_closed (SetCellTag p target index tag) place b after f = absurd (cc f)
-handler_closed (Goto p target) place b after f = inr f
-handler_closed (Fall p) place b after f = inr f
+handler_closed : (c : SimpleCommand) (place : Place) (b : CommandBlock) (after : Place) → last_faults (try c place b) after ≡ [] → Shut b
+handler_closed (assign target e) place b after f = absurd (cc f)
+handler_closed (write target index e) place b after f = absurd (cc f)
+handler_closed (set_tag p target tag) place b after f = absurd (cc f)
+handler_closed (set_cell_tag p target index tag) place b after f = absurd (cc f)
+handler_closed (go_to p target) place b after f = inr f
+handler_closed (fall_to_child p) place b after f = inr f
 
-pub shut_handler : (c : SimpleCommand) (place : Place) (b : CommandBlock) → Ended (Try c place b) → Shut b
+pub shut_handler : (c : SimpleCommand) (place : Place) (b : CommandBlock) → Ended (try c place b) → Shut b
 shut_handler c place b o = elim o [ inl i ↦ inl (nil_right _ _ i) | inr i ↦ handler_closed c place b i.0 i.1 ]
 
-pub shut_branch : (place : Place) (e : Expression) (b : CommandBlock) (other : ElseBlock) → Ended (If place e b other) → Shut b
+pub shut_branch : (place : Place) (e : Expression) (b : CommandBlock) (other : ElseBlock) → Ended (if_else place e b other) → Shut b
 shut_branch place e b other o = elim o [ inl i ↦ inl (nil_left _ _ i) | inr i ↦ inr (nil_left _ _ i.1) ]
 
-pub shut_other : (place : Place) (e : Expression) (b : CommandBlock) (other : ElseBlock) → Ended (If place e b other) → ShutElse other
+pub shut_other : (place : Place) (e : Expression) (b : CommandBlock) (other : ElseBlock) → Ended (if_else place e b other) → ShutElse other
 shut_other place e b other o = elim o [ inl i ↦ inl (nil_right _ _ i) | inr i ↦ inr (place, nil_right _ _ i.1) ]
 
 -- a command with `then` is no transfer
 pub then_parts : (c : SimpleCommand) (place : Place) (rest : List Fault) → then_faults c place rest ≡ [] → (transfer_faults c ≡ []) × (rest ≡ [])
-then_parts (Assign target e) place rest f = (refl, f)
-then_parts (Write target index e) place rest f = (refl, f)
-then_parts (SetTag p target tag) place rest f = (refl, f)
-then_parts (SetCellTag p target index tag) place rest f = (refl, f)
-then_parts (Goto p target) place rest f = absurd (cc f)
-then_parts (Fall p) place rest f = absurd (cc f)
+then_parts (assign target e) place rest f = (refl, f)
+then_parts (write target index e) place rest f = (refl, f)
+then_parts (set_tag p target tag) place rest f = (refl, f)
+then_parts (set_cell_tag p target index tag) place rest f = (refl, f)
+then_parts (go_to p target) place rest f = absurd (cc f)
+then_parts (fall_to_child p) place rest f = absurd (cc f)
 
-module _ (c : SimpleCommand) (place : Place) (a b : CommandBlock) (o : Ended (TryThen c place a b)) where
-  opened : open_faults (TryThen c place a b) ≡ [] → (transfer_faults c ≡ []) × (open_block_faults a ++ open_block_faults b ≡ [])
+module _ (c : SimpleCommand) (place : Place) (a b : CommandBlock) (o : Ended (try_then c place a b)) where
+  opened : open_faults (try_then c place a b) ≡ [] → (transfer_faults c ≡ []) × (open_block_faults a ++ open_block_faults b ≡ [])
   opened f = then_parts c place (open_block_faults a ++ open_block_faults b) f
 
-  closed : (after : Place) → last_faults (TryThen c place a b) after ≡ [] → (transfer_faults c ≡ []) × (closing_faults a ++ closing_faults b ≡ [])
+  closed : (after : Place) → last_faults (try_then c place a b) after ≡ [] → (transfer_faults c ≡ []) × (closing_faults a ++ closing_faults b ≡ [])
   closed after f = then_parts c place (closing_faults a ++ closing_faults b) f
 
   pub no_transfer : transfer_faults c ≡ []
@@ -81,11 +81,11 @@ module _ (c : SimpleCommand) (place : Place) (a b : CommandBlock) (o : Ended (Tr
   shut_refused = elim o [ inl i ↦ inl (nil_right _ _ (opened i).1) | inr i ↦ inr (nil_right _ _ (closed i.0 i.1).1) ]
 
 -- the arms of a `case`
-pub shut_arms : (place : Place) (e : Expression) (arms : Arms) → Ended (Case place e arms) → ShutArms arms
+pub shut_arms : (place : Place) (e : Expression) (arms : Arms) → Ended (case_of place e arms) → ShutArms arms
 shut_arms place e arms o = elim o [ inl i ↦ inl i | inr i ↦ inr i.1 ]
 
-pub shut_arm : (constants : Expressions) (b : CommandBlock) (arms : Arms) → ShutArms (Arm constants b arms) → Shut b
+pub shut_arm : (constants : Expressions) (b : CommandBlock) (arms : Arms) → ShutArms (and_arm constants b arms) → Shut b
 shut_arm constants b arms o = elim o [ inl i ↦ inl (nil_left _ _ i) | inr i ↦ inr (nil_left _ _ i) ]
 
-pub shut_later : (constants : Expressions) (b : CommandBlock) (arms : Arms) → ShutArms (Arm constants b arms) → ShutArms arms
+pub shut_later : (constants : Expressions) (b : CommandBlock) (arms : Arms) → ShutArms (and_arm constants b arms) → ShutArms arms
 shut_later constants b arms o = elim o [ inl i ↦ inl (nil_right _ _ i) | inr i ↦ inr (nil_right _ _ i) ]

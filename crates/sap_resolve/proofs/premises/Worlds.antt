@@ -9,7 +9,7 @@ use Rattle.sap_tree.specs.declared.syntax.Kind.{Kind}
 use Rattle.sap_tree.specs.declared.syntax.Kind.TheVariants.{Dynamic, Enforced}
 use Rattle.sap_tree.specs.declared.syntax.Decl.{Decl}
 use Rattle.sap_tree.specs.declared.syntax.Decl.TheVariants.{Input, Register, Memory}
-use Rattle.sap_tree.specs.Syntax.{StateTree, StateOf, StateList, NoState, AndState, DesignTree}
+use Rattle.sap_tree.specs.Syntax.{StateTree, state_node, StateList, no_state, and_state, DesignTree}
 use Rattle.sap_lattice.specs.Order.{Order, Laws}
 use Rattle.sap_lattice.specs.Levels.{Levels, order_of}
 use Rattle.sap_names.specs.declared.kind.Code.TheVariants.{E6, E9}
@@ -140,7 +140,7 @@ module _ (ls : Levels) (laws : Laws (order_of ls)) where
   module _ (what : tree.Lookup) where
     mutual
       state_sound : (n x : ℕ) (s : StateTree) → state_faults ls.names O.le what s ≡ [] → AllSound O (state_entities ls n x s)
-      state_sound n x (StateOf place name kind body children) h = (
+      state_sound n x (state_node place name kind body children) h = (
         record {
           input = λ i. cc;
           above = kind_above kind (nil_left _ _ (nil_left _ _ h));
@@ -149,8 +149,8 @@ module _ (ls : Levels) (laws : Laws (order_of ls)) where
       )
 
       group_sound : (n x : ℕ) (g : StateList) → states_faults ls.names O.le what g ≡ [] → AllSound O (group_entities ls n x g)
-      group_sound n x NoState h = tt
-      group_sound n x (AndState s rest) h =
+      group_sound n x no_state h = tt
+      group_sound n x (and_state s rest) h =
           sound_append O (state_entities ls n x s) (group_entities ls (n + 1) (x + states_in s) rest)
           (state_sound n x s (nil_left _ _ h))
           (group_sound (n + 1) (x + states_in s) rest (nil_right _ _ h))

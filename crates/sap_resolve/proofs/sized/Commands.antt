@@ -3,7 +3,7 @@ use Rattle.std.proofs.Common.{◌≡◌, ℕ, ◌+◌, ◌^◌, ◌<◌, List, [
 use Rattle.std.proofs.Math.Pow.{pow_pos}
 use Rattle.sap_tree.specs.declared.name.Mention.{Mention}
 use Rattle.sap_tree.specs.Syntax as tree
-use Rattle.sap_tree.specs.Syntax.{Expression, Expressions, Number, NoPart, AndPart, SimpleCommand, Assign, Write, SetTag, SetCellTag, Goto, Fall, Command, Do, Try, If, TryThen, Case, Arms, Last, CommandBlock, Commands, ElseBlock, NoElse, Else, CommandList, NoCommand, AndCommand, StateTree, StateOf, StateList, NoState, AndState}
+use Rattle.sap_tree.specs.Syntax.{Expression, Expressions, literal, no_part, and_part, SimpleCommand, assign, write, set_tag, set_cell_tag, go_to, fall_to_child, Command, lone, try, if_else, try_then, case_of, Arms, last_arm, CommandBlock, command_block, ElseBlock, no_else, with_else, CommandList, no_command, and_command, StateTree, state_node, StateList, no_state, and_state}
 use Rattle.sap_lattice.specs.Levels.{Levels}
 use Rattle.sap_names.specs.declared.kind.Declared.{Declared}
 use Rattle.sap_names.specs.declared.kind.Declared.TheVariants.{Input, Register, Memory, State}
@@ -93,7 +93,7 @@ module _ (ls : Levels) (h : Surroundings) (w : World) (r : Ready ls h.entities w
       }
 
   step_fits : (k : ℕ) (c : SimpleCommand) → simple_faults ls.names what c ≡ [] → NamedStep w (step_of ls h k c) × SizedStep w (step_of ls h k c)
-  step_fits k (Assign target e) f =
+  step_fits k (assign target e) f =
       let asked = register_width (what target.name) in
       let n = none_two (name_faults assigned what target) (expression_faults what e asked) f in
       let u = used assigned (what target.name) target.place n.0 in
@@ -102,7 +102,7 @@ module _ (ls : Levels) (h : Surroundings) (w : World) (r : Ready ls h.entities w
       let t = expression_fitted es w r.names e asked n.1 in
       let i = asked_width w (term_of es e asked) (own what e) asked (width w x) (ap (λ o. register_width o) u.1 ∙ a.width) t in
       ((a.kind, t.fine), ((t.fits, t.indexed), i))
-  step_fits k (Write target index e) f =
+  step_fits k (write target index e) f =
       let asked = cell_width (what target.name) in
       let n = none_three (name_faults indexed what target) (expression_faults what index (index_width (what target.name)))
       (expression_faults what e asked) f in
@@ -110,20 +110,20 @@ module _ (ls : Levels) (h : Surroundings) (w : World) (r : Ready ls h.entities w
       let t = expression_fitted es w r.names e asked n.2 in
       let i = asked_width w (term_of es e asked) (own what e) asked (width w (entity_number es target.name)) m.cells t in
       ((m.memory, m.fine, t.fine), (m.sized, m.indexes, (t.fits, t.indexed), i))
-  step_fits k (SetTag place target tag) f =
+  step_fits k (set_tag place target tag) f =
       let n = none_two (name_faults retagged what target) (tag_faults ls.names what tag) f in
       let u = used retagged (what target.name) target.place n.0 in
       let t = tag_fitted ls es w r tag n.1 in
       ((retagged_as w u.0 (entity_number es target.name) u.2 (r.names.stands target.name u.0 u.1), t.0), t.1)
-  step_fits k (SetCellTag place target index tag) f =
+  step_fits k (set_cell_tag place target index tag) f =
       let n = none_three (name_faults indexed what target) (expression_faults what index (index_width (what target.name))) (tag_faults ls.names what tag) f in
       let m = indexing target index n.0 n.1 in
       let t = tag_fitted ls es w r tag n.2 in
       ((m.memory, m.fine, t.0), (m.sized, m.indexes, t.1))
-  step_fits k (Goto place target) f =
+  step_fits k (go_to place target) f =
       let u = used entered (what target.name) target.place f in
       (entered_as w u.0 (entity_number es target.name) u.2 (r.names.stands target.name u.0 u.1), tt)
-  step_fits k (Fall place) f = (tt, tt)
+  step_fits k (fall_to_child place) f = (tt, tt)
 
   -- constants that are compared with numbers of a width
 
@@ -131,22 +131,22 @@ module _ (ls : Levels) (h : Surroundings) (w : World) (r : Ready ls h.entities w
   some_number u = pow_pos u
 
   constant_within : (u : ℕ) (e : Expression) → expression_faults what e (Some u) ≡ [] → number_of e < 2 ^ u
-  constant_within u (Number spot n) f = (expression_fitted es w r.names (Number spot n) (Some u) f).fits
-  constant_within u (tree.Sized spot width n) f =
-      let t = expression_fitted es w r.names (tree.Sized spot width n) (Some u) f in
-      subst (λ (v : ℕ). n < 2 ^ v) (asked_width w (term_of es (tree.Sized spot width n) (Some u)) (own what (tree.Sized spot width n)) (Some u) u refl t) t.fits
-  constant_within u (tree.Read spot name) f = some_number u
-  constant_within u (tree.Cell spot name i) f = some_number u
-  constant_within u (tree.Unary spot o x) f = some_number u
-  constant_within u (tree.Binary spot o x y) f = some_number u
-  constant_within u (tree.Choose spot x y z) f = some_number u
-  constant_within u (tree.Slice spot x high low) f = some_number u
-  constant_within u (tree.Concat spot parts) f = some_number u
-  constant_within u (tree.Zext spot x v) f = some_number u
+  constant_within u (literal spot n) f = (expression_fitted es w r.names (literal spot n) (Some u) f).fits
+  constant_within u (tree.sized_literal spot width n) f =
+      let t = expression_fitted es w r.names (tree.sized_literal spot width n) (Some u) f in
+      subst (λ (v : ℕ). n < 2 ^ v) (asked_width w (term_of es (tree.sized_literal spot width n) (Some u)) (own what (tree.sized_literal spot width n)) (Some u) u refl t) t.fits
+  constant_within u (tree.variable spot name) f = some_number u
+  constant_within u (tree.cell_at spot name i) f = some_number u
+  constant_within u (tree.unary_of spot o x) f = some_number u
+  constant_within u (tree.binary_of spot o x y) f = some_number u
+  constant_within u (tree.choice spot x y z) f = some_number u
+  constant_within u (tree.slice spot x high low) f = some_number u
+  constant_within u (tree.concat spot parts) f = some_number u
+  constant_within u (tree.zero_extend spot x v) f = some_number u
 
   constants_within : (u : ℕ) (cs : Expressions) → constants_faults what (Some u) cs ≡ [] → AreWithin u (numbers_of cs)
-  constants_within u NoPart f = tt
-  constants_within u (AndPart e cs) f =
+  constants_within u no_part f = tt
+  constants_within u (and_part e cs) f =
       let n = none_two (expression_faults what e (Some u)) (constants_faults what (Some u) cs) f in
       (constant_within u e n.0, constants_within u cs n.1)
 
@@ -156,26 +156,26 @@ module _ (ls : Levels) (h : Surroundings) (w : World) (r : Ready ls h.entities w
 
   mutual
     command_fits : (k : ℕ) (c : Command) → command_faults ls.names what c ≡ [] → Fits (command_of ls h k c)
-    command_fits k (Do c) f = step_fits (site_number h k c) c f
-    command_fits k (Try c place handler) f =
+    command_fits k (lone c) f = step_fits (site_number h k c) c f
+    command_fits k (try c place handler) f =
         let n = none_two (simple_faults ls.names what c) (block_faults ls.names what handler) f in
         let s = step_fits (site_number h k c) c n.0 in
         let b = block_fits (k + length (simple_sites h c)) handler n.1 in
         ((s.0, b.0), (s.1, b.1))
-    command_fits k (If place condition one other) f =
+    command_fits k (if_else place condition one other) f =
         let n = none_three (expression_faults what condition (Some 1)) (block_faults ls.names what one) (else_faults ls.names what other) f in
         let t = expression_fitted es w r.names condition (Some 1) n.0 in
         let i = asked_width w (term_of es condition (Some 1)) (own what condition) (Some 1) 1 refl t in
         let a = block_fits k one n.1 in
         let b = else_fits (k + length (block_sites h one)) other n.2 in
         ((t.fine, a.0, b.0), ((t.fits, t.indexed), i, a.1, b.1))
-    command_fits k (TryThen c place one other) f =
+    command_fits k (try_then c place one other) f =
         let n = none_three (simple_faults ls.names what c) (block_faults ls.names what one) (block_faults ls.names what other) f in
         let s = step_fits (site_number h k c) c n.0 in
         let a = block_fits (k + length (simple_sites h c)) one n.1 in
         let b = block_fits (k + length (simple_sites h c) + length (block_sites h one)) other n.2 in
         ((s.0, a.0, b.0), (s.1, a.1, b.1))
-    command_fits k (Case place e arms) f =
+    command_fits k (case_of place e arms) f =
         let n = none_two (expression_faults what e None) (arms_faults ls.names what (own what e) arms) f in
         let t = expression_fitted es w r.names e None n.0 in
         let mine : own what e ≡ Some (width_of w (term_of es e None)) = sym (first_alone (own what e)) ∙ t.wide in
@@ -183,23 +183,23 @@ module _ (ls : Levels) (h : Surroundings) (w : World) (r : Ready ls h.entities w
         ((t.fine, a.0), ((t.fits, t.indexed), a.1))
 
     arms_fit : (u k : ℕ) (arms : Arms) → arms_faults ls.names what (Some u) arms ≡ [] → NamedArms w (arms_of ls h k arms) × SizedArms w u (arms_of ls h k arms)
-    arms_fit u k (Last b) f = block_fits k b f
-    arms_fit u k (tree.Arm constants b arms) f =
+    arms_fit u k (last_arm b) f = block_fits k b f
+    arms_fit u k (tree.and_arm constants b arms) f =
         let n = none_three (constants_faults what (Some u) constants) (block_faults ls.names what b) (arms_faults ls.names what (Some u) arms) f in
         let a = block_fits k b n.1 in
         let rest = arms_fit u (k + length (block_sites h b)) arms n.2 in
         ((a.0, rest.0), (constants_within u constants n.0, a.1, rest.1))
 
     pub block_fits : (k : ℕ) (b : CommandBlock) → block_faults ls.names what b ≡ [] → BlockFits (block_of ls h k b)
-    block_fits k (Commands cs after) f = list_fits k cs f
+    block_fits k (command_block cs after) f = list_fits k cs f
 
     else_fits : (k : ℕ) (b : ElseBlock) → else_faults ls.names what b ≡ [] → BlockFits (else_of ls h k b)
-    else_fits k NoElse f = (tt, tt)
-    else_fits k (Else b) f = block_fits k b f
+    else_fits k no_else f = (tt, tt)
+    else_fits k (with_else b) f = block_fits k b f
 
     list_fits : (k : ℕ) (cs : CommandList) → commands_faults ls.names what cs ≡ [] → BlockFits (list_of ls h k cs)
-    list_fits k NoCommand f = (tt, tt)
-    list_fits k (AndCommand c cs) f =
+    list_fits k no_command f = (tt, tt)
+    list_fits k (and_command c cs) f =
         let n = none_two (command_faults ls.names what c) (commands_faults ls.names what cs) f in
         let a = command_fits k c n.0 in
         let b = list_fits (k + length (command_sites h c)) cs n.1 in
@@ -209,7 +209,7 @@ module _ (ls : Levels) (le : ℕ → ℕ → Bool) (es : List Entity) (w : World
   mutual
     state_fits : (k x : ℕ) (s : StateTree) → state_faults ls.names le (what_is es) s ≡ []
         → NamedState w (state_of ls es k x s) × SizedState w (state_of ls es k x s)
-    state_fits k x (StateOf place name kind body children) f =
+    state_fits k x (state_node place name kind body children) f =
         let n = none_three (kind_faults ls.names le kind) (block_faults ls.names (what_is es) body) (states_faults ls.names le (what_is es) children) f in
         let h : Surroundings = record { entities = es; home = record { name = name.name; kind = kind; children = children } } in
         let a = block_fits ls h w r k body n.1 in
@@ -218,8 +218,8 @@ module _ (ls : Levels) (le : ℕ → ℕ → Bool) (es : List Entity) (w : World
 
     pub group_fits : (k x : ℕ) (g : StateList) → states_faults ls.names le (what_is es) g ≡ []
         → NamedGroup w (group_of ls es k x g) × SizedGroup w (group_of ls es k x g)
-    group_fits k x NoState f = (tt, tt)
-    group_fits k x (AndState s rest) f =
+    group_fits k x no_state f = (tt, tt)
+    group_fits k x (and_state s rest) f =
         let n = none_two (state_faults ls.names le (what_is es) s) (states_faults ls.names le (what_is es) rest) f in
         let a = state_fits k x s n.0 in
         let b = group_fits (k + length (state_sites es s)) (x + states_in s) rest n.1 in

@@ -5,7 +5,7 @@ use Rattle.sap_names.proofs.NameFaultsLemmas.{no_fault}
 use Rattle.sap_tree.specs.declared.syntax.Numeral.{Numeral}
 use Rattle.sap_tree.specs.declared.syntax.Decl.{Decl}
 use Rattle.sap_tree.specs.declared.syntax.Decl.TheVariants as decl
-use Rattle.sap_tree.specs.Syntax.{StateTree, StateOf, StateList, NoState, AndState, DesignTree}
+use Rattle.sap_tree.specs.Syntax.{StateTree, state_node, StateList, no_state, and_state, DesignTree}
 use Rattle.sap_lattice.specs.Levels.{Levels}
 use Rattle.sap_names.specs.declared.kind.Declared.{Declared}
 use Rattle.sap_names.specs.declared.kind.Declared.TheVariants.{Input, Register, Memory, State}
@@ -55,11 +55,11 @@ all_declared_sound levels le (d ∷ ds) h =
 
 mutual
   state_sound : (s : StateTree) → AllSound (state_entities s)
-  state_sound (StateOf place name kind body children) = (tt, group_sound children)
+  state_sound (state_node place name kind body children) = (tt, group_sound children)
 
   group_sound : (g : StateList) → AllSound (group_entities g)
-  group_sound NoState = tt
-  group_sound (AndState s rest) = sound_append (state_entities s) (group_entities rest) (state_sound s) (group_sound rest)
+  group_sound no_state = tt
+  group_sound (and_state s rest) = sound_append (state_entities s) (group_entities rest) (state_sound s) (group_sound rest)
 
 found_sound : (es : List Entity) (name : List ℕ) (e : Entity) → AllSound es → find es name ≡ Some e → Sound e.what
 found_sound [] name e a f = cc

@@ -4,7 +4,7 @@ use Rattle.sap_lemmas.proofs.Options.{some_same}
 use Rattle.std.proofs.lemmas.Bool.{not-false}
 use Rattle.sap_names.proofs.NameFaultsLemmas.{no_fault}
 use Rattle.sap_text.specs.declared.place.Place.{Place}
-use Rattle.sap_tree.specs.Syntax.{Expression, Number, Sized, Read, Cell, Unary, Binary, Choose, Slice, Concat, Zext, Expressions, NoPart, AndPart}
+use Rattle.sap_tree.specs.Syntax.{Expression, literal, sized_literal, variable, cell_at, unary_of, binary_of, choice, slice, concat, zero_extend, Expressions, no_part, and_part}
 use Rattle.sap_names.specs.declared.kind.Declared.{Declared}
 use Rattle.sap_names.specs.declared.kind.Declared.TheVariants.{Input, Register, Memory, State}
 use Rattle.sap_names.specs.declared.kind.Code.TheVariants.{E5, E7, E8}
@@ -86,11 +86,11 @@ module _ (es : List Entity) (w : World) (r : Resolved es w) where
 
   mutual
     pub expression_fitted : (e : Expression) (asked : Option ℕ) → expression_faults what e asked ≡ [] → Fitted w (term_of es e asked) (own what e) asked
-    expression_fitted (Number spot value) None h =
+    expression_fitted (literal spot value) None h =
         let n = none_two (fault_if (unsettled None None) E7 spot.first) (fault_if (too_large None value) E8 spot.at) h in
         let f = no_fault (unsettled None None) E7 spot.first n.0 in
         cc
-    expression_fitted (Number spot value) (Some u) h =
+    expression_fitted (literal spot value) (Some u) h =
         let n = none_two (fault_if (unsettled None (Some u)) E7 spot.first) (fault_if (too_large (Some u) value) E8 spot.at) h in
         record {
           settles = refl;
@@ -99,7 +99,7 @@ module _ (es : List Entity) (w : World) (r : Resolved es w) where
           fits = fits_width (Some u) u value refl (no_fault (too_large (Some u) value) E8 spot.at n.1);
           indexed = tt;
         }
-    expression_fitted (Sized spot u value) asked h =
+    expression_fitted (sized_literal spot u value) asked h =
         let n = none_three (fault_if (unsettled (sound_width u) asked) E7 spot.first) (fault_if (not (is_sound (sound_width u))) E7 spot.at)
         (fault_if (too_large (sound_width u) value) E8 spot.at) h in
         let s = sound_same u (not-false (is_sound (sound_width u)) (no_fault (not (is_sound (sound_width u))) E7 spot.at n.1)) in
@@ -110,7 +110,7 @@ module _ (es : List Entity) (w : World) (r : Resolved es w) where
           fits = fits_width (sound_width u) u value s (no_fault (too_large (sound_width u) value) E8 spot.at n.2);
           indexed = tt;
         }
-    expression_fitted (Read spot name) asked h =
+    expression_fitted (variable spot name) asked h =
         let n = none_two (fault_if (unsettled (plain_width (what name)) asked) E7 spot.first) (use_faults read (what name) spot.at) h in
         let u = used read (what name) spot.at n.1 in
         let i = read_as w u.0 (entity_number es name) u.2 (r.sound name u.0 u.1) (r.stands name u.0 u.1) in
@@ -121,7 +121,7 @@ module _ (es : List Entity) (w : World) (r : Resolved es w) where
           fits = tt;
           indexed = tt;
         }
-    expression_fitted (Cell spot name index) asked h =
+    expression_fitted (cell_at spot name index) asked h =
         let n = none_three (fault_if (unsettled (cell_width (what name)) asked) E7 spot.first) (use_faults indexed (what name) spot.at)
         (expression_faults what index (index_width (what name))) h in
         let u = indexed_name name spot.at n.1 in
@@ -135,27 +135,27 @@ module _ (es : List Entity) (w : World) (r : Resolved es w) where
           fits = f.fits;
           indexed = (ap (λ (k : ℕ). 2 ^ k) a ∙ u.2.deep, f.indexed);
         }
-    expression_fitted (Unary spot o e) asked h =
-        let whole = widths.width_of what (Unary spot o e) asked in
-        let n = none_two (fault_if (unsettled (own what (Unary spot o e)) asked) E7 spot.first) (expression_faults what e (asked_one o whole)) h in
+    expression_fitted (unary_of spot o e) asked h =
+        let whole = widths.width_of what (unary_of spot o e) asked in
+        let n = none_two (fault_if (unsettled (own what (unary_of spot o e)) asked) E7 spot.first) (expression_faults what e (asked_one o whole)) h in
         unary_fitted w o (is_reduction o) refl (own what e) asked (term_of es e (asked_one o whole))
-        (no_fault (unsettled (own what (Unary spot o e)) asked) E7 spot.first n.0) (expression_fitted e (asked_one o whole) n.1)
-    expression_fitted (Binary spot o a b) asked h =
-        let whole = widths.width_of what (Binary spot o a b) asked in
+        (no_fault (unsettled (own what (unary_of spot o e)) asked) E7 spot.first n.0) (expression_fitted e (asked_one o whole) n.1)
+    expression_fitted (binary_of spot o a b) asked h =
+        let whole = widths.width_of what (binary_of spot o a b) asked in
         let left = asked_left (family o) whole (own what a) (own what b) in
         let right = asked_right (family o) whole (own what a) (own what b) in
-        let n = none_three (fault_if (unsettled (own what (Binary spot o a b)) asked) E7 spot.first) (expression_faults what a left)
+        let n = none_three (fault_if (unsettled (own what (binary_of spot o a b)) asked) E7 spot.first) (expression_faults what a left)
         (expression_faults what b right) h in
         binary_fitted w o (family o) refl (own what a) (own what b) asked (term_of es a left) (term_of es b right)
-        (no_fault (unsettled (own what (Binary spot o a b)) asked) E7 spot.first n.0) (expression_fitted a left n.1) (expression_fitted b right n.2)
-    expression_fitted (Choose spot c a b) asked h =
-        let whole = widths.width_of what (Choose spot c a b) asked in
-        let n = none_four (fault_if (unsettled (own what (Choose spot c a b)) asked) E7 spot.first) (expression_faults what c (Some 1))
+        (no_fault (unsettled (own what (binary_of spot o a b)) asked) E7 spot.first n.0) (expression_fitted a left n.1) (expression_fitted b right n.2)
+    expression_fitted (choice spot c a b) asked h =
+        let whole = widths.width_of what (choice spot c a b) asked in
+        let n = none_four (fault_if (unsettled (own what (choice spot c a b)) asked) E7 spot.first) (expression_faults what c (Some 1))
         (expression_faults what a whole) (expression_faults what b whole) h in
         choose_fitted w (own what c) (own what a) (own what b) asked (term_of es c (Some 1)) (term_of es a whole) (term_of es b whole)
-        (no_fault (unsettled (own what (Choose spot c a b)) asked) E7 spot.first n.0) (expression_fitted c (Some 1) n.1) (expression_fitted a whole n.2)
+        (no_fault (unsettled (own what (choice spot c a b)) asked) E7 spot.first n.0) (expression_fitted c (Some 1) n.1) (expression_fitted a whole n.2)
         (expression_fitted b whole n.3)
-    expression_fitted (Slice spot e high low) asked h =
+    expression_fitted (slice spot e high low) asked h =
         let mine = sliced (own what e) high low in
         let n = none_three (fault_if (unsettled mine asked) E7 spot.first) (fault_if (not (is_sound mine) && is_sound (own what e)) E7 spot.first)
         (expression_faults what e None) h in
@@ -171,7 +171,7 @@ module _ (es : List Entity) (w : World) (r : Resolved es w) where
           fits = (f.fits, s.order);
           indexed = f.indexed;
         }
-    expression_fitted (Concat spot parts) asked h =
+    expression_fitted (concat spot parts) asked h =
         let mine = own_parts what parts in
         let n = none_three (fault_if (unsettled mine asked) E7 spot.first) (fault_if (not (is_sound mine) && all_sound what parts) E7 spot.first)
         (parts_faults what parts) h in
@@ -184,7 +184,7 @@ module _ (es : List Entity) (w : World) (r : Resolved es w) where
           fits = f.fits;
           indexed = f.indexed;
         }
-    expression_fitted (Zext spot e u) asked h =
+    expression_fitted (zero_extend spot e u) asked h =
         let mine = extended (own what e) u in
         let n = none_three (fault_if (unsettled mine asked) E7 spot.first) (fault_if (not (is_sound mine) && is_sound (own what e)) E7 spot.first)
         (expression_faults what e None) h in
@@ -200,8 +200,8 @@ module _ (es : List Entity) (w : World) (r : Resolved es w) where
         (no_fault (unsettled mine asked) E7 spot.first n.0) (l ∙ sym k) from f.fine f.fits f.indexed
 
     pub parts_fitted : (ps : Expressions) → parts_faults what ps ≡ [] → FittedParts w (parts_of es ps) (own_parts what ps) (all_sound what ps)
-    parts_fitted NoPart h = record { sound = refl; wide = λ u e. some_same 0 u e; fine = tt; fits = omega arith; indexed = tt }
-    parts_fitted (AndPart e NoPart) h =
+    parts_fitted no_part h = record { sound = refl; wide = λ u e. some_same 0 u e; fine = tt; fits = omega arith; indexed = tt }
+    parts_fitted (and_part e no_part) h =
         let n = none_two (expression_faults what e None) [] h in
         let f = expression_fitted e None n.0 in
         let i = settled_own (own what e) f.settles in
@@ -216,11 +216,11 @@ module _ (es : List Entity) (w : World) (r : Resolved es w) where
           fits = f.fits;
           indexed = f.indexed;
         }
-    parts_fitted (AndPart e (AndPart g ps)) h =
-        let rest = AndPart g ps in
+    parts_fitted (and_part e (and_part g ps)) h =
+        let rest = and_part g ps in
         let n = none_two (expression_faults what e None) (parts_faults what rest) h in
         let f = expression_fitted e None n.0 in
-        let q = parts_fitted (AndPart g ps) n.1 in
+        let q = parts_fitted (and_part g ps) n.1 in
         let i = settled_own (own what e) f.settles in
         record {
           sound = ap (λ b. b && all_sound what rest) (some_sound (own what e) i.0 i.1) ∙ q.sound;

@@ -3,7 +3,7 @@ use Rattle.std.proofs.Common.{◌≡◌, ℕ, ◌+◌, ◌-◌, ◌<◌, ◌≤�
 use Rattle.sap_lemmas.proofs.Bools.{three_parts}
 use Rattle.sap_lemmas.proofs.Options.{some_same}
 use Rattle.std.proofs.lemmas.Bool.{and_parts}
-use Rattle.sap_tree.specs.Syntax.{Expression, Number, Sized, Read, Cell, Unary, Binary, Choose, Slice, Concat, Zext, NoPart, AndPart}
+use Rattle.sap_tree.specs.Syntax.{Expression, literal, sized_literal, variable, cell_at, unary_of, binary_of, choice, slice, concat, zero_extend, no_part, and_part}
 use Rattle.sap_tree.specs.declared.version.Version.{Version}
 use Rattle.sap_tree.specs.Whole.{is_number, has_two_parts, is_expression, are_expressions}
 use Rattle.sap_names.specs.declared.kind.Declared.{Declared}
@@ -115,27 +115,27 @@ extended_ranges o width r u h =
 
 pub own_ranges : (version : Version) (what : Lookup) (e : Expression) → is_expression version e ≡ true → Ranges (own what e)
 unfolding is_expression are_expressions
-own_ranges version what (Number spot value) i = range_none
-own_ranges version what (Sized spot v value) i = sound_ranges v
-own_ranges version what (Read spot name) i = plain_ranges (what name)
-own_ranges version what (Cell spot name index) i = cell_ranges (what name)
-own_ranges version what (Unary spot o e) i = one_ranges (is_reduction o) (own what e) (own_ranges version what e i)
-own_ranges version what (Binary spot o a b) i =
+own_ranges version what (literal spot value) i = range_none
+own_ranges version what (sized_literal spot v value) i = sound_ranges v
+own_ranges version what (variable spot name) i = plain_ranges (what name)
+own_ranges version what (cell_at spot name index) i = cell_ranges (what name)
+own_ranges version what (unary_of spot o e) i = one_ranges (is_reduction o) (own what e) (own_ranges version what e i)
+own_ranges version what (binary_of spot o a b) i =
     let n = and_parts (is_expression version a) (is_expression version b) i in
     binary_ranges (family o) (own what a) (own what b) (own_ranges version what a n.0) (own_ranges version what b n.1)
-own_ranges version what (Choose spot c a b) i =
+own_ranges version what (choice spot c a b) i =
     let n = three_parts (is_expression version c) (is_expression version a) (is_expression version b) i in
     else_ranges (own what a) (own what b) (own_ranges version what a n.1) (own_ranges version what b n.2)
-own_ranges version what (Slice spot e high low) i =
+own_ranges version what (slice spot e high low) i =
     slice_ranges (own what e) high low (own_ranges version what e (three_parts (is_expression version e) (is_number high) (is_number low) i).0)
-own_ranges version what (Concat spot NoPart) i = cc
-own_ranges version what (Concat spot (AndPart e parts)) i =
-    let n = and_parts (has_two_parts (AndPart e parts)) (are_expressions version (AndPart e parts)) i in
+own_ranges version what (concat spot no_part) i = cc
+own_ranges version what (concat spot (and_part e parts)) i =
+    let n = and_parts (has_two_parts (and_part e parts)) (are_expressions version (and_part e parts)) i in
     let m = and_parts (is_expression version e) (are_expressions version parts) n.1 in
     λ u h. (let j = joined_is (own what e) (own_parts what parts) u h in
     let k = own_ranges version what e m.0 j.0 j.2 in
     let bottom : 1 ≤ j.0 = k.0 in
     let sum : j.0 + j.1 ≡ u = j.4 in
     (omega arith, j.5))
-own_ranges version what (Zext spot e width) i =
+own_ranges version what (zero_extend spot e width) i =
     extended_ranges (own what e) width (own_ranges version what e (and_parts (is_expression version e) (is_number width) i).0)

@@ -10,7 +10,7 @@ use Rattle.sap_names.specs.declared.kind.Declared.TheVariants.{Input, Register, 
 use Rattle.sap_names.specs.declared.entity.Entity as declared_entity
 use Rattle.sap_names.specs.Entities.{entities_of}
 use Rattle.sap_names.specs.Widths.{sound_width, index_bits, is_sound}
-use Rattle.sap_meaning.specs.Program.{World, Entity, nothing, root, kind_is_state, kind_is_memory, depth_of, Step, Set, Write, Retag, RetagCell, Goto, Fall, Command, Do, Try, If, TryThen, Case, Arms, Last, Arm, Block, End, Then, Node, Group, None, More}
+use Rattle.sap_meaning.specs.Program.{World, Entity, nothing, root, kind_is_state, kind_is_memory, depth_of, Step, assign, write, retag, retag_cell, go_to, fall_to_child, Command, lone, try, if_else, try_then, case_of, Arms, last_arm, and_arm, Block, end_block, command_then, state_node, Group, no_node, and_node}
 use Rattle.sap_meaning.specs.Program as program
 use Rattle.sap_meaning.specs.Checks.{Spot}
 use Rattle.sap_resolve.specs.Worlds.{world_of}
@@ -26,36 +26,36 @@ use Rattle.sap_resolve.proofs.sized.Programs.{faultless}
 
 module _ (w : World) where
   filled_step_ranged : (at : Spot) (k : Step) → RangedStep w k → RangedStep w (filled_step w at k)
-  filled_step_ranged at (Set site x e) h = h
-  filled_step_ranged at (Write site m i e) h = h
-  filled_step_ranged at (Retag site x n) h = h
-  filled_step_ranged at (RetagCell site m j n) h = h
-  filled_step_ranged at (Goto site target) h = h
-  filled_step_ranged at (Fall site hang) h = h
+  filled_step_ranged at (assign site x e) h = h
+  filled_step_ranged at (write site m i e) h = h
+  filled_step_ranged at (retag site x n) h = h
+  filled_step_ranged at (retag_cell site m j n) h = h
+  filled_step_ranged at (go_to site target) h = h
+  filled_step_ranged at (fall_to_child site hang) h = h
 
   mutual
     filled_ranged : (at : Spot) (c : Command) → Ranged w c → Ranged w (filled w at c)
-    filled_ranged at (Do k) h = filled_step_ranged at k h
-    filled_ranged at (Try k hang b) h = (filled_step_ranged at k h.0, filled_block_ranged at b h.1)
-    filled_ranged at (If hang e a b) h = (h.0, filled_block_ranged at a h.1, filled_block_ranged at b h.2)
-    filled_ranged at (TryThen k hang a b) h = (filled_step_ranged at k h.0, filled_block_ranged at a h.1, filled_block_ranged at b h.2)
-    filled_ranged at (Case hang e arms) h = (h.0, filled_arms_ranged at arms h.1)
+    filled_ranged at (lone k) h = filled_step_ranged at k h
+    filled_ranged at (try k hang b) h = (filled_step_ranged at k h.0, filled_block_ranged at b h.1)
+    filled_ranged at (if_else hang e a b) h = (h.0, filled_block_ranged at a h.1, filled_block_ranged at b h.2)
+    filled_ranged at (try_then k hang a b) h = (filled_step_ranged at k h.0, filled_block_ranged at a h.1, filled_block_ranged at b h.2)
+    filled_ranged at (case_of hang e arms) h = (h.0, filled_arms_ranged at arms h.1)
 
     filled_arms_ranged : (at : Spot) (arms : Arms) → RangedArms w arms → RangedArms w (filled_arms w at arms)
-    filled_arms_ranged at (Last b) h = filled_block_ranged at b h
-    filled_arms_ranged at (Arm constants b arms) h = (filled_block_ranged at b h.0, filled_arms_ranged at arms h.1)
+    filled_arms_ranged at (last_arm b) h = filled_block_ranged at b h
+    filled_arms_ranged at (and_arm constants b arms) h = (filled_block_ranged at b h.0, filled_arms_ranged at arms h.1)
 
     filled_block_ranged : (at : Spot) (b : Block) → RangedBlock w b → RangedBlock w (filled_block w at b)
-    filled_block_ranged at End h = h
-    filled_block_ranged at (Then c cs) h = (filled_ranged at c h.0, filled_block_ranged at cs h.1)
+    filled_block_ranged at end_block h = h
+    filled_block_ranged at (command_then c cs) h = (filled_ranged at c h.0, filled_block_ranged at cs h.1)
 
   mutual
     filled_state_ranged : (p : ℕ) (t : program.State) → RangedState w t → RangedState w (filled_state w p t)
-    filled_state_ranged p (Node s b g) h = (filled_block_ranged (record { state = s; parent = p; children = g }) b h.0, filled_group_ranged s g h.1)
+    filled_state_ranged p (state_node s b g) h = (filled_block_ranged (record { state = s; parent = p; children = g }) b h.0, filled_group_ranged s g h.1)
 
     pub filled_group_ranged : (p : ℕ) (g : Group) → RangedGroup w g → RangedGroup w (filled_group w p g)
-    filled_group_ranged p None h = h
-    filled_group_ranged p (More t g) h = (filled_state_ranged p t h.0, filled_group_ranged p g h.1)
+    filled_group_ranged p no_node h = h
+    filled_group_ranged p (and_node t g) h = (filled_state_ranged p t h.0, filled_group_ranged p g h.1)
 
 -- the width and the depth of an entity
 record RangedEntity (g : Entity) : Type 0 where

@@ -4,7 +4,7 @@ use Rattle.std.specs.Prelude.{eqb}
 use Rattle.std.proofs.lemmas.Bool.{cases_Bool, eq-eqb, and_parts}
 use Rattle.sap_lemmas.proofs.Bools.{three_parts}
 use Rattle.sap_names.proofs.NameFaultsLemmas.{no_fault}
-use Rattle.sap_tree.specs.Syntax.{Expression, Number, Sized, Read, Cell, Unary, Binary, Choose, Slice, Concat, Zext, Expressions, NoPart, AndPart}
+use Rattle.sap_tree.specs.Syntax.{Expression, literal, sized_literal, variable, cell_at, unary_of, binary_of, choice, slice, concat, zero_extend, Expressions, no_part, and_part}
 use Rattle.sap_tree.specs.declared.version.Version.{Version}
 use Rattle.sap_tree.specs.Whole.{is_number, has_two_parts, is_expression, are_expressions}
 use Rattle.sap_tree.specs.Words.{is_name}
@@ -41,12 +41,12 @@ widened_ranged w t from u i bottom l top r = elim (cases_Bool (eqb from u)) [
 
 -- there is a part
 abbrev has_part : Expressions → Bool
-has_part NoPart = false
-has_part (AndPart e ps) = true
+has_part no_part = false
+has_part (and_part e ps) = true
 
 part_of_two : (ps : Expressions) → has_two_parts ps ≡ true → has_part ps ≡ true
-part_of_two NoPart h = cc
-part_of_two (AndPart e ps) h = refl
+part_of_two no_part h = cc
+part_of_two (and_part e ps) h = refl
 
 module _ (version : Version) (es : List Entity) (w : World) (r : Resolved es w) where
   abbrev what : List ℕ → Option Declared
@@ -68,40 +68,40 @@ module _ (version : Version) (es : List Entity) (w : World) (r : Resolved es w) 
 
     pub term_ranged : (e : Expression) (asked : Option ℕ) → is_expression version e ≡ true → Ranges asked → expression_faults what e asked ≡ []
         → RangedTerm w (term_of es e asked)
-    term_ranged (Number spot value) asked i a h = width_range (Number spot value) asked i a h
-    term_ranged (Sized spot u value) asked i a h = width_range (Sized spot u value) asked i a h
-    term_ranged (Read spot name) asked i a h = width_range (Read spot name) asked i a h
-    term_ranged (Cell spot name index) asked i a h =
+    term_ranged (literal spot value) asked i a h = width_range (literal spot value) asked i a h
+    term_ranged (sized_literal spot u value) asked i a h = width_range (sized_literal spot u value) asked i a h
+    term_ranged (variable spot name) asked i a h = width_range (variable spot name) asked i a h
+    term_ranged (cell_at spot name index) asked i a h =
         let n = none_three (fault_if (unsettled (cell_width (what name)) asked) E7 spot.first) (use_faults indexed (what name) spot.at)
         (expression_faults what index (index_width (what name))) h in (
-          width_range (Cell spot name index) asked i a h,
+          width_range (cell_at spot name index) asked i a h,
           term_ranged index (index_width (what name)) (and_parts (is_name version name) (is_expression version index) i).1 (index_ranges (what name)) n.2,
         )
-    term_ranged (Unary spot o e) asked i a h =
-        let whole = whole_of (Unary spot o e) asked in
-        let n = none_two (fault_if (unsettled (own what (Unary spot o e)) asked) E7 spot.first) (expression_faults what e (asked_one o whole)) h in
-        term_ranged e (asked_one o whole) i (asked_one_ranges (is_reduction o) whole (whole_ranges (Unary spot o e) asked i a)) n.1
-    term_ranged (Binary spot o x y) asked i a h =
-        let whole = whole_of (Binary spot o x y) asked in
+    term_ranged (unary_of spot o e) asked i a h =
+        let whole = whole_of (unary_of spot o e) asked in
+        let n = none_two (fault_if (unsettled (own what (unary_of spot o e)) asked) E7 spot.first) (expression_faults what e (asked_one o whole)) h in
+        term_ranged e (asked_one o whole) i (asked_one_ranges (is_reduction o) whole (whole_ranges (unary_of spot o e) asked i a)) n.1
+    term_ranged (binary_of spot o x y) asked i a h =
+        let whole = whole_of (binary_of spot o x y) asked in
         let left = asked_left (family o) whole (own what x) (own what y) in
         let right = asked_right (family o) whole (own what x) (own what y) in
-        let n = none_three (fault_if (unsettled (own what (Binary spot o x y)) asked) E7 spot.first) (expression_faults what x left)
+        let n = none_three (fault_if (unsettled (own what (binary_of spot o x y)) asked) E7 spot.first) (expression_faults what x left)
         (expression_faults what y right) h in
         let j = and_parts (is_expression version x) (is_expression version y) i in
-        let q = whole_ranges (Binary spot o x y) asked i a in
+        let q = whole_ranges (binary_of spot o x y) asked i a in
         let s = own_ranges version what x j.0 in
         let t = own_ranges version what y j.1 in (
           term_ranged x left j.0 (left_ranges (family o) whole (own what x) (own what y) q s t) n.1,
           term_ranged y right j.1 (right_ranges (family o) whole (own what x) (own what y) q s t) n.2,
         )
-    term_ranged (Choose spot c x y) asked i a h =
-        let whole = whole_of (Choose spot c x y) asked in
-        let n = none_four (fault_if (unsettled (own what (Choose spot c x y)) asked) E7 spot.first) (expression_faults what c (Some 1))
+    term_ranged (choice spot c x y) asked i a h =
+        let whole = whole_of (choice spot c x y) asked in
+        let n = none_four (fault_if (unsettled (own what (choice spot c x y)) asked) E7 spot.first) (expression_faults what c (Some 1))
         (expression_faults what x whole) (expression_faults what y whole) h in
         let j = three_parts (is_expression version c) (is_expression version x) (is_expression version y) i in
-        let q = whole_ranges (Choose spot c x y) asked i a in
+        let q = whole_ranges (choice spot c x y) asked i a in
         (term_ranged c (Some 1) j.0 range_one n.1, term_ranged x whole j.1 q n.2, term_ranged y whole j.2 q n.3)
-    term_ranged (Slice spot e high low) asked i a h =
+    term_ranged (slice spot e high low) asked i a h =
         let mine = sliced (own what e) high low in
         let n = none_three (fault_if (unsettled mine asked) E7 spot.first) (fault_if (not (is_sound mine) && is_sound (own what e)) E7 spot.first)
         (expression_faults what e None) h in
@@ -113,7 +113,7 @@ module _ (version : Version) (es : List Entity) (w : World) (r : Resolved es w) 
         let v : width_of w (term_of es e None) ≡ s.whole = own_width w (term_of es e None) (own what e) None s.whole s.is f in
         let l : high < s.whole = s.within in
         (s.order, omega arith, term_ranged e None (three_parts (is_expression version e) (is_number high) (is_number low) i).0 range_none n.2)
-    term_ranged (Concat spot parts) asked i a h =
+    term_ranged (concat spot parts) asked i a h =
         let mine = own_parts what parts in
         let n = none_three (fault_if (unsettled mine asked) E7 spot.first) (fault_if (not (is_sound mine) && all_sound what parts) E7 spot.first)
         (parts_faults what parts) h in
@@ -121,7 +121,7 @@ module _ (version : Version) (es : List Entity) (w : World) (r : Resolved es w) 
         let u = sound_whole mine (all_sound what parts) (no_fault (not (is_sound mine) && all_sound what parts) E7 spot.first n.1) f.sound in
         let j = and_parts (has_two_parts parts) (are_expressions version parts) i in
         parts_ranged parts (part_of_two parts j.0) j.1 u.0 u.1 n.2
-    term_ranged (Zext spot e u) asked i a h =
+    term_ranged (zero_extend spot e u) asked i a h =
         let mine = extended (own what e) u in
         let n = none_three (fault_if (unsettled mine asked) E7 spot.first) (fault_if (not (is_sound mine) && is_sound (own what e)) E7 spot.first)
         (expression_faults what e None) h in
@@ -140,11 +140,11 @@ module _ (version : Version) (es : List Entity) (w : World) (r : Resolved es w) 
 
     parts_ranged : (ps : Expressions) → has_part ps ≡ true → are_expressions version ps ≡ true → (u : ℕ) → own_parts what ps ≡ Some u → parts_faults what ps ≡ []
         → RangedTerm w (parts_of es ps)
-    parts_ranged NoPart some i u o h = cc
-    parts_ranged (AndPart e NoPart) some i u o h =
+    parts_ranged no_part some i u o h = cc
+    parts_ranged (and_part e no_part) some i u o h =
         term_ranged e None (and_parts (is_expression version e) true i).0 range_none (none_two (expression_faults what e None) [] h).0
-    parts_ranged (AndPart e (AndPart g ps)) some i u o h =
-        let rest = AndPart g ps in
+    parts_ranged (and_part e (and_part g ps)) some i u o h =
+        let rest = and_part g ps in
         let m = and_parts (is_expression version e) (are_expressions version rest) i in
         let n = none_two (expression_faults what e None) (parts_faults what rest) h in
         let f = expression_fitted es w r e None n.0 in
@@ -156,4 +156,4 @@ module _ (version : Version) (es : List Entity) (w : World) (r : Resolved es w) 
         let top : u ≤ 64 = p.5 in
         let b = own_ranges version what e m.0 p.0 p.2 in
         let bottom : 1 ≤ p.0 = b.0 in
-        ((omega arith, omega arith), term_ranged e None m.0 range_none n.0, parts_ranged (AndPart g ps) refl m.1 p.1 p.3 n.1)
+        ((omega arith, omega arith), term_ranged e None m.0 range_none n.0, parts_ranged (and_part g ps) refl m.1 p.1 p.3 n.1)

@@ -7,7 +7,7 @@ use Rattle.sap_tree.specs.declared.syntax.Kind.{Kind}
 use Rattle.sap_tree.specs.declared.syntax.Kind.TheVariants.{Dynamic, Enforced}
 use Rattle.sap_tree.specs.declared.syntax.Decl.{Decl}
 use Rattle.sap_tree.specs.declared.syntax.Decl.TheVariants as decl
-use Rattle.sap_tree.specs.Syntax.{StateTree, StateOf, StateList, NoState, AndState, DesignTree}
+use Rattle.sap_tree.specs.Syntax.{StateTree, state_node, StateList, no_state, and_state, DesignTree}
 use Rattle.sap_lattice.specs.Order.{Laws}
 use Rattle.sap_lattice.specs.Levels.{Levels, order_of}
 use Rattle.sap_names.specs.declared.kind.Code.TheVariants.{E7, E8}
@@ -62,13 +62,13 @@ module _ (ls : Levels) (laws : Laws (order_of ls)) (le : ℕ → ℕ → Bool) w
 
   mutual
     state_starts : (what : Lookup) (n x : ℕ) (s : StateTree) → state_faults ls.names le what s ≡ [] → AllStart (state_entities ls n x s)
-    state_starts what n x (StateOf place name kind body children) h =
+    state_starts what n x (state_node place name kind body children) h =
         let f = none_three (kind_faults ls.names le kind) (block_faults ls.names what body) (states_faults ls.names le what children) h in
         ((pow_pos 0, level_starts kind f.0), group_starts what 0 (x + 1) children f.2)
 
     group_starts : (what : Lookup) (n x : ℕ) (g : StateList) → states_faults ls.names le what g ≡ [] → AllStart (group_entities ls n x g)
-    group_starts what n x NoState h = tt
-    group_starts what n x (AndState s rest) h =
+    group_starts what n x no_state h = tt
+    group_starts what n x (and_state s rest) h =
         let f = none_two (state_faults ls.names le what s) (states_faults ls.names le what rest) h in
         append_start (state_entities ls n x s) (group_entities ls (n + 1) (x + states_in s) rest) (state_starts what n x s f.0)
         (group_starts what (n + 1) (x + states_in s) rest f.1)

@@ -3,7 +3,7 @@ use Rattle.std.proofs.Common.{◌≡◌, ℕ, ◌+◌, ◌<◌, List, [], ◌∷
 use Rattle.std.proofs.lemmas.Bool.{cases_Bool, not-false}
 use Rattle.sap_names.proofs.NameFaultsLemmas.{no_fault}
 use Rattle.sap_tree.specs.declared.name.Mention.{Mention}
-use Rattle.sap_tree.specs.Syntax.{TagExpression, Level, TagOf, LevelAt, Join, TagExpressions, NoTag, AndTag}
+use Rattle.sap_tree.specs.Syntax.{TagExpression, level_of, tag_at, level_at, join_of, TagExpressions, no_tag, and_tag}
 use Rattle.sap_lattice.specs.Levels.{Levels, order_of, order_by}
 use Rattle.sap_names.specs.declared.kind.Code.TheVariants.{E6}
 use Rattle.sap_names.specs.Entities.{what_is}
@@ -44,16 +44,16 @@ pub record Ready (ls : Levels) (es : List Entity) (w : World) : Type 0 where
 module _ (ls : Levels) (es : List Entity) (w : World) (r : Ready ls es w) where
   mutual
     pub tag_fitted : (t : TagExpression) → tag_faults ls.names (what_is es) t ≡ [] → FineLevel w (level_term ls es t) × SizedLevel w (level_term ls es t)
-    tag_fitted (Level m) h = (subst (λ (k : ℕ). position ls.names m.name < k) (sym r.count) (known_level ls.names m h), tt)
-    tag_fitted (TagOf place e) h = let f = expression_fitted es w r.names e None h in (f.fine, (f.fits, f.indexed))
-    tag_fitted (LevelAt place e) h = let f = expression_fitted es w r.names e None h in (f.fine, (f.fits, f.indexed))
-    tag_fitted (Join place parts) h = tags_fitted parts h
+    tag_fitted (level_of m) h = (subst (λ (k : ℕ). position ls.names m.name < k) (sym r.count) (known_level ls.names m h), tt)
+    tag_fitted (tag_at place e) h = let f = expression_fitted es w r.names e None h in (f.fine, (f.fits, f.indexed))
+    tag_fitted (level_at place e) h = let f = expression_fitted es w r.names e None h in (f.fine, (f.fits, f.indexed))
+    tag_fitted (join_of place parts) h = tags_fitted parts h
 
     tags_fitted : (ts : TagExpressions) → tags_faults ls.names (what_is es) ts ≡ [] → FineLevel w (level_terms ls es ts) × SizedLevel w (level_terms ls es ts)
-    tags_fitted NoTag h = (r.bottom, tt)
-    tags_fitted (AndTag t NoTag) h = tag_fitted t (none_two (tag_faults ls.names (what_is es) t) [] h).0
-    tags_fitted (AndTag t (AndTag u ts)) h =
-        let n = none_two (tag_faults ls.names (what_is es) t) (tags_faults ls.names (what_is es) (AndTag u ts)) h in
+    tags_fitted no_tag h = (r.bottom, tt)
+    tags_fitted (and_tag t no_tag) h = tag_fitted t (none_two (tag_faults ls.names (what_is es) t) [] h).0
+    tags_fitted (and_tag t (and_tag u ts)) h =
+        let n = none_two (tag_faults ls.names (what_is es) t) (tags_faults ls.names (what_is es) (and_tag u ts)) h in
         let a = tag_fitted t n.0 in
-        let b = tags_fitted (AndTag u ts) n.1 in
+        let b = tags_fitted (and_tag u ts) n.1 in
         ((a.0, b.0), (a.1, b.1))

@@ -7,14 +7,14 @@ use Rattle.sap_tree.specs.declared.syntax.Kind.{Kind}
 use Rattle.sap_tree.specs.declared.syntax.Kind.TheVariants.{Dynamic, Enforced}
 use Rattle.sap_tree.specs.declared.syntax.Decl.{Decl}
 use Rattle.sap_tree.specs.declared.syntax.Decl.TheVariants.{Input, Register, Memory}
-use Rattle.sap_tree.specs.Syntax.{Expression, Number, Sized, Read, Cell, Unary, Binary, Choose, Slice, Concat, Zext, Expressions, NoPart, AndPart, TagExpression, Level, TagOf, LevelAt, Join, TagExpressions, NoTag, AndTag, SimpleCommand, Assign, SetTag, SetCellTag, CommandBlock, Commands, ElseBlock, NoElse, Else, CommandList, NoCommand, AndCommand, StateTree, StateOf, StateList, NoState, AndState}
+use Rattle.sap_tree.specs.Syntax.{Expression, literal, sized_literal, variable, cell_at, unary_of, binary_of, choice, slice, concat, zero_extend, Expressions, no_part, and_part, TagExpression, level_of, tag_at, level_at, join_of, TagExpressions, no_tag, and_tag, SimpleCommand, assign, set_tag, set_cell_tag, CommandBlock, command_block, ElseBlock, no_else, with_else, CommandList, no_command, and_command, StateTree, state_node, StateList, no_state, and_state}
 use Rattle.sap_tree.specs.Syntax as tree
 use Rattle.sap_names.specs.declared.entity.Entity.{Entity}
 use Rattle.sap_names.specs.Entities.{what_is}
 use Rattle.sap_names.specs.Widths.{own}
 use Rattle.sap_lattice.specs.Levels.{Levels, order_of}
 use Rattle.sap_maps.specs.Term.{Term, constant, read, cell, one, two, choose, join, part}
-use Rattle.sap_meaning.specs.Program.{World, entity, is_state, LevelTerm, fixed, of, at_place, both, Step, Set, Write, Retag, RetagCell, Goto, Fall, Command, Do, Try, If, TryThen, Case, Arms, Last, Arm, Block, End, Then, State, Node, Group, More}
+use Rattle.sap_meaning.specs.Program.{World, entity, is_state, LevelTerm, fixed, of, at_place, both, Step, assign, write, retag, retag_cell, go_to, fall_to_child, Command, lone, try, if_else, try_then, case_of, Arms, last_arm, and_arm, Block, end_block, command_then, State, state_node, Group, and_node}
 use Rattle.sap_meaning.specs.Program as program
 use Rattle.sap_resolve.specs.Terms.{one_of, two_of}
 
@@ -35,90 +35,90 @@ abbrev mutual
   -- An expression. A number without a width has some width. Parts stand in front of one another. What is widened has zeros in front, as many as
   -- it lacks, and none where it lacks none.
   pub IsTerm : List Entity → Expression → Term ℕ → Type 0
-  IsTerm es (Number spot value) (constant u n) = value ≡ n
-  IsTerm es (Sized spot width value) (constant u n) = (width ≡ u) × (value ≡ n)
-  IsTerm es (Read spot name) (read x) = IsNamed es x name
-  IsTerm es (Cell spot name index) (cell m i) = IsNamed es m name × IsTerm es index i
-  IsTerm es (Unary spot operator e) (one op a) = (one_of operator ≡ op) × IsTerm es e a
-  IsTerm es (Binary spot operator e f) (two op a b) = (two_of operator ≡ op) × IsTerm es e a × IsTerm es f b
-  IsTerm es (Choose spot condition e f) (choose c a b) = IsTerm es condition c × IsTerm es e a × IsTerm es f b
-  IsTerm es (Slice spot e high low) (part a hi lo) = IsTerm es e a × (high ≡ hi) × (low ≡ lo)
-  IsTerm es (Concat spot parts) t = AreParts es parts t
-  IsTerm es (Zext spot e width) t =
+  IsTerm es (literal spot value) (constant u n) = value ≡ n
+  IsTerm es (sized_literal spot width value) (constant u n) = (width ≡ u) × (value ≡ n)
+  IsTerm es (variable spot name) (read x) = IsNamed es x name
+  IsTerm es (cell_at spot name index) (cell m i) = IsNamed es m name × IsTerm es index i
+  IsTerm es (unary_of spot operator e) (one op a) = (one_of operator ≡ op) × IsTerm es e a
+  IsTerm es (binary_of spot operator e f) (two op a b) = (two_of operator ≡ op) × IsTerm es e a × IsTerm es f b
+  IsTerm es (choice spot condition e f) (choose c a b) = IsTerm es condition c × IsTerm es e a × IsTerm es f b
+  IsTerm es (slice spot e high low) (part a hi lo) = IsTerm es e a × (high ≡ hi) × (low ≡ lo)
+  IsTerm es (concat spot parts) t = AreParts es parts t
+  IsTerm es (zero_extend spot e width) t =
       ((own (what_is es) e ≡ Some width) × IsTerm es e t)
       ⊎ ((u : ℕ) × (zeros : ℕ) × (a : Term ℕ) × (own (what_is es) e ≡ Some u) × (zeros + u ≡ width) × (t ≡ join (constant zeros 0) a) × IsTerm es e a)
   IsTerm es _ _ = ⊥
 
   -- no parts, which the grammar hasn't, are a number without width
   pub AreParts : List Entity → Expressions → Term ℕ → Type 0
-  AreParts es NoPart t = t ≡ constant 0 0
-  AreParts es (AndPart e NoPart) t = IsTerm es e t
-  AreParts es (AndPart e (AndPart f parts)) (join a b) = IsTerm es e a × AreParts es (AndPart f parts) b
-  AreParts es (AndPart e (AndPart f parts)) _ = ⊥
+  AreParts es no_part t = t ≡ constant 0 0
+  AreParts es (and_part e no_part) t = IsTerm es e t
+  AreParts es (and_part e (and_part f parts)) (join a b) = IsTerm es e a × AreParts es (and_part f parts) b
+  AreParts es (and_part e (and_part f parts)) _ = ⊥
 
 -- a tag expression; a join of none, which the grammar hasn't, is the bottom
 abbrev mutual
   pub IsTag : Levels → List Entity → TagExpression → LevelTerm → Type 0
-  IsTag ls es (Level m) (fixed n) = IsLevel ls n m.name
-  IsTag ls es (TagOf place e) (of t) = IsTerm es e t
-  IsTag ls es (LevelAt place e) (at_place t) = IsTerm es e t
-  IsTag ls es (Join place parts) n = AreTags ls es parts n
+  IsTag ls es (level_of m) (fixed n) = IsLevel ls n m.name
+  IsTag ls es (tag_at place e) (of t) = IsTerm es e t
+  IsTag ls es (level_at place e) (at_place t) = IsTerm es e t
+  IsTag ls es (join_of place parts) n = AreTags ls es parts n
   IsTag ls es _ _ = ⊥
 
   pub AreTags : Levels → List Entity → TagExpressions → LevelTerm → Type 0
-  AreTags ls es NoTag n = n ≡ fixed (order_of ls).bottom
-  AreTags ls es (AndTag t NoTag) n = IsTag ls es t n
-  AreTags ls es (AndTag t (AndTag u tags)) (both a b) = IsTag ls es t a × AreTags ls es (AndTag u tags) b
-  AreTags ls es (AndTag t (AndTag u tags)) _ = ⊥
+  AreTags ls es no_tag n = n ≡ fixed (order_of ls).bottom
+  AreTags ls es (and_tag t no_tag) n = IsTag ls es t n
+  AreTags ls es (and_tag t (and_tag u tags)) (both a b) = IsTag ls es t a × AreTags ls es (and_tag u tags) b
+  AreTags ls es (and_tag t (and_tag u tags)) _ = ⊥
 
 -- a command that can have a handler
 abbrev pub IsStep : Levels → List Entity → SimpleCommand → Step → Type 0
-IsStep ls es (Assign target e) (Set site x t) = IsNamed es x target.name × IsTerm es e t
-IsStep ls es (tree.Write target index e) (Write site m i t) = IsNamed es m target.name × IsTerm es index i × IsTerm es e t
-IsStep ls es (SetTag place target tag) (Retag site x n) = IsNamed es x target.name × IsTag ls es tag n
-IsStep ls es (SetCellTag place target index tag) (RetagCell site m i n) = IsNamed es m target.name × IsTerm es index i × IsTag ls es tag n
-IsStep ls es (tree.Goto place target) (Goto site x) = IsNamed es x target.name
-IsStep ls es (tree.Fall place) (Fall site hang) = Unit {0}
+IsStep ls es (assign target e) (assign site x t) = IsNamed es x target.name × IsTerm es e t
+IsStep ls es (tree.write target index e) (write site m i t) = IsNamed es m target.name × IsTerm es index i × IsTerm es e t
+IsStep ls es (set_tag place target tag) (retag site x n) = IsNamed es x target.name × IsTag ls es tag n
+IsStep ls es (set_cell_tag place target index tag) (retag_cell site m i n) = IsNamed es m target.name × IsTerm es index i × IsTag ls es tag n
+IsStep ls es (tree.go_to place target) (go_to site x) = IsNamed es x target.name
+IsStep ls es (tree.fall_to_child place) (fall_to_child site hang) = Unit {0}
 IsStep ls es _ _ = ⊥
 
 -- The number of a constant, with or without a width. What is no number is no constant of a design that was read, and counts as 0.
 abbrev pub IsConstant : Expression → ℕ → Type 0
-IsConstant (Number spot value) n = value ≡ n
-IsConstant (Sized spot width value) n = value ≡ n
+IsConstant (literal spot value) n = value ≡ n
+IsConstant (sized_literal spot width value) n = value ≡ n
 IsConstant _ n = n ≡ 0
 
 abbrev pub AreConstants : Expressions → List ℕ → Type 0
-AreConstants NoPart [] = Unit {0}
-AreConstants (AndPart e parts) (n ∷ ns) = IsConstant e n × AreConstants parts ns
+AreConstants no_part [] = Unit {0}
+AreConstants (and_part e parts) (n ∷ ns) = IsConstant e n × AreConstants parts ns
 AreConstants _ _ = ⊥
 
 -- commands and lists of them; a missing `else` is an empty one
 abbrev mutual
   pub IsCommand : Levels → List Entity → tree.Command → Command → Type 0
-  IsCommand ls es (tree.Do c) (Do k) = IsStep ls es c k
-  IsCommand ls es (tree.Try c place handler) (Try k hang h) = IsStep ls es c k × IsBlock ls es handler h
-  IsCommand ls es (tree.If place condition then_block else_block) (If hang t a b) =
+  IsCommand ls es (tree.lone c) (lone k) = IsStep ls es c k
+  IsCommand ls es (tree.try c place handler) (try k hang h) = IsStep ls es c k × IsBlock ls es handler h
+  IsCommand ls es (tree.if_else place condition then_block else_block) (if_else hang t a b) =
       IsTerm es condition t × IsBlock ls es then_block a × IsElse ls es else_block b
-  IsCommand ls es (tree.TryThen c place accepted refused) (TryThen k hang a b) = IsStep ls es c k × IsBlock ls es accepted a × IsBlock ls es refused b
-  IsCommand ls es (tree.Case place e arms) (Case hang t others) = IsTerm es e t × AreArms ls es arms others
+  IsCommand ls es (tree.try_then c place accepted refused) (try_then k hang a b) = IsStep ls es c k × IsBlock ls es accepted a × IsBlock ls es refused b
+  IsCommand ls es (tree.case_of place e arms) (case_of hang t others) = IsTerm es e t × AreArms ls es arms others
   IsCommand ls es _ _ = ⊥
 
   pub AreArms : Levels → List Entity → tree.Arms → Arms → Type 0
-  AreArms ls es (tree.Last block) (Last b) = IsBlock ls es block b
-  AreArms ls es (tree.Arm constants block arms) (Arm numbers b others) =
+  AreArms ls es (tree.last_arm block) (last_arm b) = IsBlock ls es block b
+  AreArms ls es (tree.and_arm constants block arms) (and_arm numbers b others) =
       AreConstants constants numbers × IsBlock ls es block b × AreArms ls es arms others
   AreArms ls es _ _ = ⊥
 
   pub IsBlock : Levels → List Entity → CommandBlock → Block → Type 0
-  IsBlock ls es (Commands cs after) b = IsList ls es cs b
+  IsBlock ls es (command_block cs after) b = IsList ls es cs b
 
   pub IsElse : Levels → List Entity → ElseBlock → Block → Type 0
-  IsElse ls es NoElse b = b ≡ End
-  IsElse ls es (Else block) b = IsBlock ls es block b
+  IsElse ls es no_else b = b ≡ end_block
+  IsElse ls es (with_else block) b = IsBlock ls es block b
 
   pub IsList : Levels → List Entity → CommandList → Block → Type 0
-  IsList ls es NoCommand End = Unit {0}
-  IsList ls es (AndCommand c cs) (Then d ds) = IsCommand ls es c d × IsList ls es cs ds
+  IsList ls es no_command end_block = Unit {0}
+  IsList ls es (and_command c cs) (command_then d ds) = IsCommand ls es c d × IsList ls es cs ds
   IsList ls es _ _ = ⊥
 
 -- an authority; the bottom where none is written
@@ -155,10 +155,10 @@ AreDeclared ls es w x (d ∷ ds) = IsNamed es x (declared_name d) × IsDeclared 
 -- a state with its name, kind, body and children
 abbrev mutual
   pub IsState : Levels → List Entity → World → StateTree → State → Type 0
-  IsState ls es w (StateOf place name kind body children) (Node x b g) =
+  IsState ls es w (state_node place name kind body children) (state_node x b g) =
       IsNamed es x name.name × (is_state w x ≡ true) × HasKind ls kind (entity w x) × IsBlock ls es body b × IsGroup ls es w children g
 
   pub IsGroup : Levels → List Entity → World → StateList → Group → Type 0
-  IsGroup ls es w NoState program.None = Unit {0}
-  IsGroup ls es w (AndState s rest) (More t g) = IsState ls es w s t × IsGroup ls es w rest g
+  IsGroup ls es w no_state program.no_node = Unit {0}
+  IsGroup ls es w (and_state s rest) (and_node t g) = IsState ls es w s t × IsGroup ls es w rest g
   IsGroup ls es w _ _ = ⊥

@@ -6,7 +6,7 @@ use Rattle.sap_tree.specs.declared.syntax.Kind.TheVariants.{Dynamic, Enforced}
 use Rattle.sap_tree.specs.declared.syntax.Decl.TheVariants.{Input, Register, Memory}
 use Rattle.sap_tree.specs.declared.syntax.UnaryOperator.TheVariants.{Not}
 use Rattle.sap_tree.specs.declared.syntax.BinaryOperator.TheVariants.{Eq, Shl}
-use Rattle.sap_tree.specs.Syntax.{Number, Sized, Cell, Unary, Binary, Choose, Slice, Concat, Zext, NoPart, AndPart, Level, TagOf, Join, NoTag, AndTag, SimpleCommand, Assign, Write, SetTag, Goto, Do, CommandList, Commands, NoCommand, AndCommand, StateOf, NoState, AndState, DesignTree}
+use Rattle.sap_tree.specs.Syntax.{literal, sized_literal, cell_at, unary_of, binary_of, choice, slice, concat, zero_extend, no_part, and_part, level_of, tag_at, join_of, no_tag, and_tag, SimpleCommand, assign, write, set_tag, go_to, lone, CommandList, command_block, no_command, and_command, state_node, no_state, and_state, DesignTree}
 use Rattle.sap_tree.specs.Whole.{is_tree}
 use Rattle.sap_tree.specs.declared.version.Version.TheVariants.{One}
 use Rattle.sap_lattice.specs.Examples.{low_high}
@@ -15,22 +15,22 @@ use Rattle.sap_lattice.specs.Levels.{order_of}
 use Rattle.sap_names.specs.NameFaults.{design_name_faults}
 
 -- m[a[1:0]] := ~a << 1;
-abbrev pub write : SimpleCommand
-write = Write (named (codes "m")) (Slice no_spot (read (codes "a")) 1 0) (Binary no_spot Shl (Unary no_spot Not (read (codes "a"))) (Number no_spot 1))
+abbrev pub store : SimpleCommand
+store = write (named (codes "m")) (slice no_spot (read (codes "a")) 1 0) (binary_of no_spot Shl (unary_of no_spot Not (read (codes "a"))) (literal no_spot 1))
 
 -- x := {zext(a == 3 ? 1'd1 : 0, 4), m[2]};
-abbrev pub assign : SimpleCommand
-assign = Assign (named (codes "x"))
-    (Concat no_spot
-    (AndPart (Zext no_spot (Choose no_spot (Binary no_spot Eq (read (codes "a")) (Number no_spot 3)) (Sized no_spot 1 1) (Number no_spot 0)) 4)
-    (AndPart (Cell no_spot (codes "m") (Number no_spot 2)) NoPart)))
+abbrev pub mix : SimpleCommand
+mix = assign (named (codes "x"))
+    (concat no_spot
+    (and_part (zero_extend no_spot (choice no_spot (binary_of no_spot Eq (read (codes "a")) (literal no_spot 3)) (sized_literal no_spot 1 1) (literal no_spot 0)) 4)
+    (and_part (cell_at no_spot (codes "m") (literal no_spot 2)) no_part)))
 
 -- setTag(x, join(high, tag(a)));
 abbrev pub retag : SimpleCommand
-retag = SetTag nowhere (named (codes "x")) (Join nowhere (AndTag (Level (named (codes "high"))) (AndTag (TagOf nowhere (read (codes "a"))) NoTag)))
+retag = set_tag nowhere (named (codes "x")) (join_of nowhere (and_tag (level_of (named (codes "high"))) (and_tag (tag_at nowhere (read (codes "a"))) no_tag)))
 
 abbrev pub body : CommandList
-body = AndCommand (Do write) (AndCommand (Do assign) (AndCommand (Do retag) (AndCommand (Do (Goto nowhere (named (codes "S")))) NoCommand)))
+body = and_command (lone store) (and_command (lone mix) (and_command (lone retag) (and_command (lone (go_to nowhere (named (codes "S")))) no_command)))
 
 -- input a : 8; mem m : 8[4] enforced high; reg x : 12 enforced high = 5; state S dynamic { .. goto S; }
 abbrev pub mixer : DesignTree
@@ -39,7 +39,7 @@ mixer = record {
   declarations = Input nowhere (named (codes "a")) (numeral 8)
       ∷ Memory nowhere (named (codes "m")) (numeral 8) (numeral 4) (Enforced (named (codes "high")) None)
       ∷ Register nowhere (named (codes "x")) (numeral 12) (Enforced (named (codes "high")) None) (Some (numeral 5)) ∷ [];
-  states = AndState (StateOf nowhere (named (codes "S")) (Dynamic nowhere) (Commands body nowhere) NoState) NoState;
+  states = and_state (state_node nowhere (named (codes "S")) (Dynamic nowhere) (command_block body nowhere) no_state) no_state;
 }
 
 abbrev pub Lawful : Type 0

@@ -1,6 +1,6 @@
 -- Filling in what hangs leaves the sites as they are, and their numbers are those of the labelled meaning.
 use Rattle.std.proofs.Common.{◌≡◌, ℕ, Bool, true, false, not, ◌||◌, List, [], ◌∷◌, ◌++◌, refl, ap, ◌∙◌, if◌then◌else◌}
-use Rattle.sap_meaning.specs.Program.{World, is_dynamic, Step, Set, Write, Retag, RetagCell, Goto, Fall, Command, Do, Try, If, TryThen, Case, Arms, Last, Arm, Block, End, Then, State, Node, Group, None, More}
+use Rattle.sap_meaning.specs.Program.{World, is_dynamic, Step, assign, write, retag, retag_cell, go_to, fall_to_child, Command, lone, try, if_else, try_then, case_of, Arms, last_arm, and_arm, Block, end_block, command_then, State, state_node, Group, no_node, and_node}
 use Rattle.sap_meaning.specs.Checks.{Spot, site_of}
 use Rattle.sap_meaning.specs.Sites.{some_enforced, is_site}
 use Rattle.sap_meaning.specs.Sites as meaning
@@ -17,56 +17,56 @@ both_numbers a b c d e f =
 
 module _ (w : World) where
   some_filled : (p : ℕ) (g : Group) → some_enforced w (filled_group w p g) ≡ some_enforced w g
-  some_filled p None = refl
-  some_filled p (More (Node c b k) g) = ap (λ (r : Bool). not (is_dynamic w c) || r) (some_filled p g)
+  some_filled p no_node = refl
+  some_filled p (and_node (state_node c b k) g) = ap (λ (r : Bool). not (is_dynamic w c) || r) (some_filled p g)
 
   module _ (at : Spot) (s : ℕ) (g i : Group) (same : some_enforced w i ≡ some_enforced w g) where
     step_filled : (k : Step) → step_sites w s i (filled_step w at k) ≡ step_sites w s g k
-    step_filled (Set site x e) = refl
-    step_filled (Write site m j e) = refl
-    step_filled (Retag site x n) = refl
-    step_filled (RetagCell site m j n) = refl
-    step_filled (Goto site target) = refl
-    step_filled (Fall site hang) =
-        ap (λ (b : Bool). if b then (let t : ProgramSite = record { number = site; kind = kind_of_step (Fall site hang); entity = s } in t ∷ []) else []) same
+    step_filled (assign site x e) = refl
+    step_filled (write site m j e) = refl
+    step_filled (retag site x n) = refl
+    step_filled (retag_cell site m j n) = refl
+    step_filled (go_to site target) = refl
+    step_filled (fall_to_child site hang) =
+        ap (λ (b : Bool). if b then (let t : ProgramSite = record { number = site; kind = kind_of_step (fall_to_child site hang); entity = s } in t ∷ []) else []) same
 
     mutual
       command_filled : (c : Command) → command_sites w s i (filled w at c) ≡ command_sites w s g c
-      command_filled (Do k) = step_filled k
-      command_filled (Try k hang b) =
+      command_filled (lone k) = step_filled k
+      command_filled (try k hang b) =
           both (step_sites w s i (filled_step w at k)) (block_sites w s i (filled_block w at b)) (step_sites w s g k) (block_sites w s g b)
           (step_filled k) (block_filled b)
-      command_filled (If hang e a b) =
+      command_filled (if_else hang e a b) =
           both (block_sites w s i (filled_block w at a)) (block_sites w s i (filled_block w at b)) (block_sites w s g a) (block_sites w s g b)
           (block_filled a) (block_filled b)
-      command_filled (TryThen k hang a b) =
+      command_filled (try_then k hang a b) =
           both (step_sites w s i (filled_step w at k)) (block_sites w s i (filled_block w at a) ++ block_sites w s i (filled_block w at b))
           (step_sites w s g k) (block_sites w s g a ++ block_sites w s g b) (step_filled k)
           (both (block_sites w s i (filled_block w at a)) (block_sites w s i (filled_block w at b)) (block_sites w s g a) (block_sites w s g b) (block_filled a) (block_filled b))
-      command_filled (Case hang e arms) = arms_filled arms
+      command_filled (case_of hang e arms) = arms_filled arms
 
       arms_filled : (arms : Arms) → arms_sites w s i (filled_arms w at arms) ≡ arms_sites w s g arms
-      arms_filled (Last b) = block_filled b
-      arms_filled (Arm constants b arms) =
+      arms_filled (last_arm b) = block_filled b
+      arms_filled (and_arm constants b arms) =
           both (block_sites w s i (filled_block w at b)) (arms_sites w s i (filled_arms w at arms)) (block_sites w s g b) (arms_sites w s g arms)
           (block_filled b) (arms_filled arms)
 
       block_filled : (b : Block) → block_sites w s i (filled_block w at b) ≡ block_sites w s g b
-      block_filled End = refl
-      block_filled (Then c cs) =
+      block_filled end_block = refl
+      block_filled (command_then c cs) =
           both (command_sites w s i (filled w at c)) (block_sites w s i (filled_block w at cs)) (command_sites w s g c) (block_sites w s g cs)
           (command_filled c) (block_filled cs)
 
   mutual
     state_filled : (p : ℕ) (t : State) → state_sites w (filled_state w p t) ≡ state_sites w t
-    state_filled p (Node s b g) =
+    state_filled p (state_node s b g) =
         both (block_sites w s (filled_group w s g) (filled_block w (record { state = s; parent = p; children = g }) b)) (group_sites w (filled_group w s g))
         (block_sites w s g b) (group_sites w g)
         (block_filled (record { state = s; parent = p; children = g }) s g (filled_group w s g) (some_filled s g) b) (group_filled s g)
 
     pub group_filled : (p : ℕ) (g : Group) → group_sites w (filled_group w p g) ≡ group_sites w g
-    group_filled p None = refl
-    group_filled p (More t g) =
+    group_filled p no_node = refl
+    group_filled p (and_node t g) =
         both (state_sites w (filled_state w p t)) (group_sites w (filled_group w p g)) (state_sites w t) (group_sites w g) (state_filled p t)
         (group_filled p g)
 
@@ -80,38 +80,38 @@ module _ (w : World) where
 
     mutual
       command_numbers : (c : Command) → numbers_of (command_sites w s g c) ≡ meaning.sites w s g c
-      command_numbers (Do k) = step_numbers k
-      command_numbers (Try k hang h) =
+      command_numbers (lone k) = step_numbers k
+      command_numbers (try k hang h) =
           both_numbers (step_sites w s g k) (block_sites w s g h) (meaning.step_sites w s g k) (meaning.block_sites w s g h) (step_numbers k)
           (block_numbers h)
-      command_numbers (If hang e a b) =
+      command_numbers (if_else hang e a b) =
           both_numbers (block_sites w s g a) (block_sites w s g b) (meaning.block_sites w s g a) (meaning.block_sites w s g b) (block_numbers a)
           (block_numbers b)
-      command_numbers (TryThen k hang a b) =
+      command_numbers (try_then k hang a b) =
           both_numbers (step_sites w s g k) (block_sites w s g a ++ block_sites w s g b) (meaning.step_sites w s g k)
           (meaning.block_sites w s g a ++ meaning.block_sites w s g b) (step_numbers k)
           (both_numbers (block_sites w s g a) (block_sites w s g b) (meaning.block_sites w s g a) (meaning.block_sites w s g b) (block_numbers a) (block_numbers b))
-      command_numbers (Case hang e arms) = arms_numbers arms
+      command_numbers (case_of hang e arms) = arms_numbers arms
 
       arms_numbers : (arms : Arms) → numbers_of (arms_sites w s g arms) ≡ meaning.arms_sites w s g arms
-      arms_numbers (Last b) = block_numbers b
-      arms_numbers (Arm constants b arms) =
+      arms_numbers (last_arm b) = block_numbers b
+      arms_numbers (and_arm constants b arms) =
           both_numbers (block_sites w s g b) (arms_sites w s g arms) (meaning.block_sites w s g b) (meaning.arms_sites w s g arms) (block_numbers b)
           (arms_numbers arms)
 
       block_numbers : (b : Block) → numbers_of (block_sites w s g b) ≡ meaning.block_sites w s g b
-      block_numbers End = refl
-      block_numbers (Then c cs) =
+      block_numbers end_block = refl
+      block_numbers (command_then c cs) =
           both_numbers (command_sites w s g c) (block_sites w s g cs) (meaning.sites w s g c) (meaning.block_sites w s g cs) (command_numbers c)
           (block_numbers cs)
 
   mutual
     state_numbers : (t : State) → numbers_of (state_sites w t) ≡ meaning.state_sites w t
-    state_numbers (Node s b g) =
+    state_numbers (state_node s b g) =
         both_numbers (block_sites w s g b) (group_sites w g) (meaning.block_sites w s g b) (meaning.group_sites w g) (block_numbers s g b)
         (group_numbers g)
 
     pub group_numbers : (g : Group) → numbers_of (group_sites w g) ≡ meaning.group_sites w g
-    group_numbers None = refl
-    group_numbers (More t g) =
+    group_numbers no_node = refl
+    group_numbers (and_node t g) =
         both_numbers (state_sites w t) (group_sites w g) (meaning.state_sites w t) (meaning.group_sites w g) (state_numbers t) (group_numbers g)

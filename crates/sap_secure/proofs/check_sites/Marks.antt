@@ -1,13 +1,13 @@
 -- The numbers of a program's sites, as its commands have them.
 use Rattle.std.proofs.Common.{◌≡◌, ℕ, zero, suc, ◌+◌, ◌≤◌, Bool, true, false, List, [], ◌∷◌, ◌++◌, length, length-append, nat_eq, refl, sym, ap, ◌∙◌, subst, arith, if◌then◌else◌}
 use Rattle.std.proofs.lemmas.Bool.{ne_eqb}
-use Rattle.sap_tree.specs.Syntax.{SimpleCommand, Assign, SetTag, SetCellTag, CommandBlock, Commands, ElseBlock, NoElse, Else, CommandList, NoCommand, AndCommand, StateTree, StateOf, StateList, NoState, AndState}
+use Rattle.sap_tree.specs.Syntax.{SimpleCommand, assign, set_tag, set_cell_tag, CommandBlock, command_block, ElseBlock, no_else, with_else, CommandList, no_command, and_command, StateTree, state_node, StateList, no_state, and_state}
 use Rattle.sap_tree.specs.Syntax as tree
 use Rattle.sap_lattice.specs.Levels.{Levels}
 use Rattle.sap_names.specs.declared.entity.Entity.{Entity}
 use Rattle.sap_shape.specs.Sites as shape
 use Rattle.sap_shape.specs.Sites.{Surroundings, CheckSite, simple_sites}
-use Rattle.sap_meaning.specs.Program.{World, Step, Set, Write, Retag, RetagCell, Goto, Fall, Command, Do, Try, If, TryThen, Case, Arms, Last, Arm, Block, End, Then, State, Node, Group, None, More}
+use Rattle.sap_meaning.specs.Program.{World, Step, assign, write, retag, retag_cell, go_to, fall_to_child, Command, lone, try, if_else, try_then, case_of, Arms, last_arm, and_arm, Block, end_block, command_then, State, state_node, Group, no_node, and_node}
 use Rattle.sap_meaning.specs.Checks.{Spot, site_of}
 use Rattle.sap_resolve.specs.Worlds.{states_in}
 use Rattle.sap_resolve.specs.Resolve.{site_number, step_of, command_of, arms_of, block_of, else_of, list_of, state_of, group_of}
@@ -17,27 +17,27 @@ use Rattle.sap_secure.specs.CheckSites.Once.{own_site}
 
 abbrev mutual
   pub marks : Command → List ℕ
-  marks (Do k) = own_site k
-  marks (Try k hang h) = own_site k ++ block_marks h
-  marks (If hang e a b) = block_marks a ++ block_marks b
-  marks (TryThen k hang a b) = own_site k ++ (block_marks a ++ block_marks b)
-  marks (Case hang e arms) = arms_marks arms
+  marks (lone k) = own_site k
+  marks (try k hang h) = own_site k ++ block_marks h
+  marks (if_else hang e a b) = block_marks a ++ block_marks b
+  marks (try_then k hang a b) = own_site k ++ (block_marks a ++ block_marks b)
+  marks (case_of hang e arms) = arms_marks arms
 
   pub arms_marks : Arms → List ℕ
-  arms_marks (Last b) = block_marks b
-  arms_marks (Arm constants b arms) = block_marks b ++ arms_marks arms
+  arms_marks (last_arm b) = block_marks b
+  arms_marks (and_arm constants b arms) = block_marks b ++ arms_marks arms
 
   pub block_marks : Block → List ℕ
-  block_marks End = []
-  block_marks (Then c cs) = marks c ++ block_marks cs
+  block_marks end_block = []
+  block_marks (command_then c cs) = marks c ++ block_marks cs
 
 abbrev mutual
   pub state_marks : State → List ℕ
-  state_marks (Node s b g) = block_marks b ++ group_marks g
+  state_marks (state_node s b g) = block_marks b ++ group_marks g
 
   pub group_marks : Group → List ℕ
-  group_marks None = []
-  group_marks (More t g) = state_marks t ++ group_marks g
+  group_marks no_node = []
+  group_marks (and_node t g) = state_marks t ++ group_marks g
 
 both : (a b c d : List ℕ) → a ≡ c → b ≡ d → a ++ b ≡ c ++ d
 both a b c d e f = ap (λ (u : List ℕ). u ++ b) e ∙ ap (λ (u : List ℕ). c ++ u) f
@@ -46,44 +46,44 @@ both a b c d e f = ap (λ (u : List ℕ). u ++ b) e ∙ ap (λ (u : List ℕ). c
 module _ (w : World) where
   module _ (at : Spot) where
     step_filled : (k : Step) → own_site (filled_step w at k) ≡ own_site k
-    step_filled (Set site x e) = refl
-    step_filled (Write site m j e) = refl
-    step_filled (Retag site x n) = refl
-    step_filled (RetagCell site m j n) = refl
-    step_filled (Goto site target) = refl
-    step_filled (Fall site hang) = refl
+    step_filled (assign site x e) = refl
+    step_filled (write site m j e) = refl
+    step_filled (retag site x n) = refl
+    step_filled (retag_cell site m j n) = refl
+    step_filled (go_to site target) = refl
+    step_filled (fall_to_child site hang) = refl
 
     mutual
       command_filled : (c : Command) → marks (filled w at c) ≡ marks c
-      command_filled (Do k) = step_filled k
-      command_filled (Try k hang b) =
+      command_filled (lone k) = step_filled k
+      command_filled (try k hang b) =
           both (own_site (filled_step w at k)) (block_marks (filled_block w at b)) (own_site k) (block_marks b) (step_filled k) (block_filled b)
-      command_filled (If hang e a b) =
+      command_filled (if_else hang e a b) =
           both (block_marks (filled_block w at a)) (block_marks (filled_block w at b)) (block_marks a) (block_marks b) (block_filled a) (block_filled b)
-      command_filled (TryThen k hang a b) =
+      command_filled (try_then k hang a b) =
           both (own_site (filled_step w at k)) (block_marks (filled_block w at a) ++ block_marks (filled_block w at b)) (own_site k) (block_marks a ++ block_marks b)
           (step_filled k) (both (block_marks (filled_block w at a)) (block_marks (filled_block w at b)) (block_marks a) (block_marks b) (block_filled a) (block_filled b))
-      command_filled (Case hang e arms) = arms_filled arms
+      command_filled (case_of hang e arms) = arms_filled arms
 
       arms_filled : (arms : Arms) → arms_marks (filled_arms w at arms) ≡ arms_marks arms
-      arms_filled (Last b) = block_filled b
-      arms_filled (Arm constants b arms) =
+      arms_filled (last_arm b) = block_filled b
+      arms_filled (and_arm constants b arms) =
           both (block_marks (filled_block w at b)) (arms_marks (filled_arms w at arms)) (block_marks b) (arms_marks arms) (block_filled b) (arms_filled arms)
 
       block_filled : (b : Block) → block_marks (filled_block w at b) ≡ block_marks b
-      block_filled End = refl
-      block_filled (Then c cs) =
+      block_filled end_block = refl
+      block_filled (command_then c cs) =
           both (marks (filled w at c)) (block_marks (filled_block w at cs)) (marks c) (block_marks cs) (command_filled c) (block_filled cs)
 
   mutual
     state_filled : (p : ℕ) (t : State) → state_marks (filled_state w p t) ≡ state_marks t
-    state_filled p (Node s b g) =
+    state_filled p (state_node s b g) =
         both (block_marks (filled_block w (record { state = s; parent = p; children = g }) b)) (group_marks (filled_group w s g)) (block_marks b)
         (group_marks g) (block_filled (record { state = s; parent = p; children = g }) b) (group_filled s g)
 
     pub group_filled : (p : ℕ) (g : Group) → group_marks (filled_group w p g) ≡ group_marks g
-    group_filled p None = refl
-    group_filled p (More t g) =
+    group_filled p no_node = refl
+    group_filled p (and_node t g) =
         both (state_marks (filled_state w p t)) (group_marks (filled_group w p g)) (state_marks t) (group_marks g) (state_filled p t) (group_filled p g)
 
 numbers_join : (k m n : ℕ) → numbers_from k m ++ numbers_from (k + m) n ≡ numbers_from k (m + n)
@@ -115,12 +115,12 @@ one_mark k n false s p e = subst (λ (m : ℕ). (if nat_eq m 0 then [] else m �
 module _ (ls : Levels) where
   module _ (h : Surroundings) where
     number_is : (n : ℕ) (c : SimpleCommand) → site_of (step_of ls h n c) ≡ n
-    number_is n (Assign target e) = refl
-    number_is n (tree.Write target index e) = refl
-    number_is n (SetTag place target tag) = refl
-    number_is n (SetCellTag place target index tag) = refl
-    number_is n (tree.Goto place target) = refl
-    number_is n (tree.Fall place) = refl
+    number_is n (assign target e) = refl
+    number_is n (tree.write target index e) = refl
+    number_is n (set_tag place target tag) = refl
+    number_is n (set_cell_tag place target index tag) = refl
+    number_is n (tree.go_to place target) = refl
+    number_is n (tree.fall_to_child place) = refl
 
     simple_marked : (k : ℕ) → 1 ≤ k → (c : SimpleCommand) → own_site (step_of ls h (site_number h k c) c) ≡ numbers_from k (length (simple_sites h c))
     simple_marked k p c =
@@ -128,54 +128,54 @@ module _ (ls : Levels) where
 
     mutual
       command_marked : (k : ℕ) → 1 ≤ k → (c : tree.Command) → marks (command_of ls h k c) ≡ numbers_from k (length (shape.command_sites h c))
-      command_marked k p (tree.Do c) = simple_marked k p c
-      command_marked k p (tree.Try c place b) =
+      command_marked k p (tree.lone c) = simple_marked k p c
+      command_marked k p (tree.try c place b) =
           joined k (simple_sites h c) (shape.block_sites h b) (own_site (step_of ls h (site_number h k c) c))
           (block_marks (block_of ls h (k + length (simple_sites h c)) b)) (simple_marked k p c) (block_marked (k + length (simple_sites h c)) (omega arith) b)
-      command_marked k p (tree.If place e b other) =
+      command_marked k p (tree.if_else place e b other) =
           joined k (shape.block_sites h b) (shape.else_sites h other) (block_marks (block_of ls h k b))
           (block_marks (else_of ls h (k + length (shape.block_sites h b)) other)) (block_marked k p b)
           (else_marked (k + length (shape.block_sites h b)) (omega arith) other)
-      command_marked k p (tree.TryThen c place a b) =
+      command_marked k p (tree.try_then c place a b) =
           let i = k + length (simple_sites h c) in
           let j = i + length (shape.block_sites h a) in
           joined k (simple_sites h c) (shape.block_sites h a ++ shape.block_sites h b) (own_site (step_of ls h (site_number h k c) c))
           (block_marks (block_of ls h i a) ++ block_marks (block_of ls h j b)) (simple_marked k p c)
           (joined i (shape.block_sites h a) (shape.block_sites h b) (block_marks (block_of ls h i a)) (block_marks (block_of ls h j b))
           (block_marked i (omega arith) a) (block_marked j (omega arith) b))
-      command_marked k p (tree.Case place e arms) = arms_marked k p arms
+      command_marked k p (tree.case_of place e arms) = arms_marked k p arms
 
       arms_marked : (k : ℕ) → 1 ≤ k → (arms : tree.Arms) → arms_marks (arms_of ls h k arms) ≡ numbers_from k (length (shape.arms_sites h arms))
-      arms_marked k p (tree.Last b) = block_marked k p b
-      arms_marked k p (tree.Arm constants b arms) =
+      arms_marked k p (tree.last_arm b) = block_marked k p b
+      arms_marked k p (tree.and_arm constants b arms) =
           joined k (shape.block_sites h b) (shape.arms_sites h arms) (block_marks (block_of ls h k b)) (arms_marks (arms_of ls h (k + length (shape.block_sites h b)) arms))
           (block_marked k p b) (arms_marked (k + length (shape.block_sites h b)) (omega arith) arms)
 
       block_marked : (k : ℕ) → 1 ≤ k → (b : CommandBlock) → block_marks (block_of ls h k b) ≡ numbers_from k (length (shape.block_sites h b))
-      block_marked k p (Commands cs after) = list_marked k p cs
+      block_marked k p (command_block cs after) = list_marked k p cs
 
       else_marked : (k : ℕ) → 1 ≤ k → (b : ElseBlock) → block_marks (else_of ls h k b) ≡ numbers_from k (length (shape.else_sites h b))
-      else_marked k p NoElse = refl
-      else_marked k p (Else b) = block_marked k p b
+      else_marked k p no_else = refl
+      else_marked k p (with_else b) = block_marked k p b
 
       list_marked : (k : ℕ) → 1 ≤ k → (cs : CommandList) → block_marks (list_of ls h k cs) ≡ numbers_from k (length (shape.list_sites h cs))
-      list_marked k p NoCommand = refl
-      list_marked k p (AndCommand c cs) =
+      list_marked k p no_command = refl
+      list_marked k p (and_command c cs) =
           joined k (shape.command_sites h c) (shape.list_sites h cs) (marks (command_of ls h k c))
           (block_marks (list_of ls h (k + length (shape.command_sites h c)) cs)) (command_marked k p c)
           (list_marked (k + length (shape.command_sites h c)) (omega arith) cs)
 
   mutual
     state_marked : (es : List Entity) (k x : ℕ) → 1 ≤ k → (s : StateTree) → state_marks (state_of ls es k x s) ≡ numbers_from k (length (shape.state_sites es s))
-    state_marked es k x p (StateOf place name kind body children) =
+    state_marked es k x p (state_node place name kind body children) =
         let h : Surroundings = record { entities = es; home = record { name = name.name; kind = kind; children = children } } in
         joined k (shape.block_sites h body) (shape.states_sites es children) (block_marks (block_of ls h k body))
         (group_marks (group_of ls es (k + length (shape.block_sites h body)) (x + 1) children)) (block_marked h k p body)
         (group_marked es (k + length (shape.block_sites h body)) (x + 1) (omega arith) children)
 
     pub group_marked : (es : List Entity) (k x : ℕ) → 1 ≤ k → (g : StateList) → group_marks (group_of ls es k x g) ≡ numbers_from k (length (shape.states_sites es g))
-    group_marked es k x p NoState = refl
-    group_marked es k x p (AndState s rest) =
+    group_marked es k x p no_state = refl
+    group_marked es k x p (and_state s rest) =
         joined k (shape.state_sites es s) (shape.states_sites es rest) (state_marks (state_of ls es k x s))
         (group_marks (group_of ls es (k + length (shape.state_sites es s)) (x + states_in s) rest)) (state_marked es k x p s)
         (group_marked es (k + length (shape.state_sites es s)) (x + states_in s) (omega arith) rest)

@@ -2,7 +2,7 @@
 use Rattle.std.proofs.Common.{◌≡◌, ℕ, suc, ◌+◌, ◌<◌, Bool, true, false, not, List, [], ◌∷◌, ◌++◌, length, refl, sym, ap, ◌∙◌, if◌then◌else◌}
 use Rattle.std.specs.Prelude.{Option, map}
 use Rattle.sap_names.proofs.FaultLemmas.{nil_left, nil_right}
-use Rattle.sap_tree.specs.Syntax.{SimpleCommand, Assign, Write, SetTag, SetCellTag, Goto, Fall, Command, Do, Try, If, TryThen, Case, Arms, Last, Arm, CommandBlock, Commands, ElseBlock, NoElse, Else, CommandList, NoCommand, AndCommand, StateTree, StateOf, StateList, NoState, AndState}
+use Rattle.sap_tree.specs.Syntax.{SimpleCommand, assign, write, set_tag, set_cell_tag, go_to, fall_to_child, Command, lone, try, if_else, try_then, case_of, Arms, last_arm, and_arm, CommandBlock, command_block, ElseBlock, no_else, with_else, CommandList, no_command, and_command, StateTree, state_node, StateList, no_state, and_state}
 use Rattle.sap_lattice.specs.Levels.{Levels}
 use Rattle.sap_names.specs.declared.entity.Entity.{Entity}
 use Rattle.sap_names.specs.Entities.{Lookup, what_is}
@@ -42,20 +42,20 @@ module _ (ls : Levels) (levels : List (List ℕ)) (h : Surroundings) (w : World)
   What = what_is h.entities
 
   kind_is : (n : ℕ) (c : SimpleCommand) → kind_of_step (step_of ls h n c) ≡ check.kind_of_command c
-  kind_is n (Assign target e) = refl
-  kind_is n (Write target index e) = refl
-  kind_is n (SetTag place target tag) = refl
-  kind_is n (SetCellTag place target index tag) = refl
-  kind_is n (Goto place target) = refl
-  kind_is n (Fall place) = refl
+  kind_is n (assign target e) = refl
+  kind_is n (write target index e) = refl
+  kind_is n (set_tag place target tag) = refl
+  kind_is n (set_cell_tag place target index tag) = refl
+  kind_is n (go_to place target) = refl
+  kind_is n (fall_to_child place) = refl
 
   entity_is : (n : ℕ) (c : SimpleCommand) → entity_of x (step_of ls h n c) ≡ check.entity_number h.entities (check.target_of h c)
-  entity_is n (Assign target e) = refl
-  entity_is n (Write target index e) = refl
-  entity_is n (SetTag place target tag) = refl
-  entity_is n (SetCellTag place target index tag) = refl
-  entity_is n (Goto place target) = refl
-  entity_is n (Fall place) = mine
+  entity_is n (assign target e) = refl
+  entity_is n (write target index e) = refl
+  entity_is n (set_tag place target tag) = refl
+  entity_is n (set_cell_tag place target index tag) = refl
+  entity_is n (go_to place target) = refl
+  entity_is n (fall_to_child place) = mine
 
   step_numbered : (k : ℕ) (c : SimpleCommand) → simple_faults levels What c ≡ []
       → step_sites w x g (step_of ls h (site_number h k c) c) ≡ numbered k (map told (simple_sites h c))
@@ -70,45 +70,45 @@ module _ (ls : Levels) (levels : List (List ℕ)) (h : Surroundings) (w : World)
   mutual
     command_numbered : (k : ℕ) (c : Command) → command_faults levels What c ≡ []
         → command_sites w x g (command_of ls h k c) ≡ numbered k (map told (shape.command_sites h c))
-    command_numbered k (Do c) f = step_numbered k c f
-    command_numbered k (Try c place b) f =
+    command_numbered k (lone c) f = step_numbered k c f
+    command_numbered k (try c place b) f =
         joined k (step_sites w x g (step_of ls h (site_number h k c) c)) (block_sites w x g (block_of ls h (k + length (simple_sites h c)) b)) (simple_sites h c)
         (shape.block_sites h b) (step_numbered k c (nil_left _ _ f))
         (block_numbered (k + length (simple_sites h c)) b (nil_right _ _ f))
-    command_numbered k (If place e b other) f =
+    command_numbered k (if_else place e b other) f =
         joined k (block_sites w x g (block_of ls h k b)) (block_sites w x g (else_of ls h (k + length (shape.block_sites h b)) other)) (shape.block_sites h b)
         (shape.else_sites h other) (block_numbered k b (if_first levels What place e b other f))
         (else_numbered (k + length (shape.block_sites h b)) other (if_other levels What place e b other f))
-    command_numbered k (TryThen c place a b) f =
+    command_numbered k (try_then c place a b) f =
         let i = k + length (simple_sites h c) in
         let j = i + length (shape.block_sites h a) in
         joined k (step_sites w x g (step_of ls h (site_number h k c) c)) (block_sites w x g (block_of ls h i a) ++ block_sites w x g (block_of ls h j b))
         (simple_sites h c) (shape.block_sites h a ++ shape.block_sites h b) (step_numbered k c (nil_left _ _ (nil_left _ _ f)))
         (joined i (block_sites w x g (block_of ls h i a)) (block_sites w x g (block_of ls h j b)) (shape.block_sites h a) (shape.block_sites h b)
         (block_numbered i a (nil_right _ _ (nil_left _ _ f))) (block_numbered j b (nil_right _ _ f)))
-    command_numbered k (Case place e arms) f = arms_numbered k (own_width What e) arms (nil_right _ _ f)
+    command_numbered k (case_of place e arms) f = arms_numbered k (own_width What e) arms (nil_right _ _ f)
 
     arms_numbered : (k : ℕ) (asked : Option ℕ) (arms : Arms) → arms_faults levels What asked arms ≡ []
         → arms_sites w x g (arms_of ls h k arms) ≡ numbered k (map told (shape.arms_sites h arms))
-    arms_numbered k asked (Last b) f = block_numbered k b f
-    arms_numbered k asked (Arm constants b arms) f =
+    arms_numbered k asked (last_arm b) f = block_numbered k b f
+    arms_numbered k asked (and_arm constants b arms) f =
         joined k (block_sites w x g (block_of ls h k b)) (arms_sites w x g (arms_of ls h (k + length (shape.block_sites h b)) arms)) (shape.block_sites h b)
         (shape.arms_sites h arms) (block_numbered k b (nil_right _ _ (nil_left _ _ f)))
         (arms_numbered (k + length (shape.block_sites h b)) asked arms (nil_right _ _ f))
 
     pub block_numbered : (k : ℕ) (b : CommandBlock) → block_faults levels What b ≡ []
         → block_sites w x g (block_of ls h k b) ≡ numbered k (map told (shape.block_sites h b))
-    block_numbered k (Commands cs after) f = list_numbered k cs f
+    block_numbered k (command_block cs after) f = list_numbered k cs f
 
     else_numbered : (k : ℕ) (b : ElseBlock) → else_faults levels What b ≡ []
         → block_sites w x g (else_of ls h k b) ≡ numbered k (map told (shape.else_sites h b))
-    else_numbered k NoElse f = refl
-    else_numbered k (Else b) f = block_numbered k b f
+    else_numbered k no_else f = refl
+    else_numbered k (with_else b) f = block_numbered k b f
 
     list_numbered : (k : ℕ) (cs : CommandList) → commands_faults levels What cs ≡ []
         → block_sites w x g (list_of ls h k cs) ≡ numbered k (map told (shape.list_sites h cs))
-    list_numbered k NoCommand f = refl
-    list_numbered k (AndCommand c cs) f =
+    list_numbered k no_command f = refl
+    list_numbered k (and_command c cs) f =
         joined k (command_sites w x g (command_of ls h k c)) (block_sites w x g (list_of ls h (k + length (shape.command_sites h c)) cs))
         (shape.command_sites h c) (shape.list_sites h cs) (command_numbered k c (nil_left _ _ f))
         (list_numbered (k + length (shape.command_sites h c)) cs (nil_right _ _ f))
@@ -118,7 +118,7 @@ module _ (ls : Levels) (levels : List (List ℕ)) (le : ℕ → ℕ → Bool) (e
   mutual
     state_numbered : (k n x : ℕ) (s : StateTree) → LaidState ls es w n x s → state_faults levels le (what_is es) s ≡ []
         → state_sites w (state_of ls es k x s) ≡ numbered k (map told (shape.state_sites es s))
-    state_numbered k n x (StateOf place name kind body children) laid f =
+    state_numbered k n x (state_node place name kind body children) laid f =
         let h : Surroundings = record { entities = es; home = record { name = name.name; kind = kind; children = children } } in
         let k' : ℕ = k + length (shape.block_sites h body) in
         let g : Group = group_of ls es k' (x + 1) children in
@@ -135,8 +135,8 @@ module _ (ls : Levels) (levels : List (List ℕ)) (le : ℕ → ℕ → Bool) (e
 
     pub group_numbered : (k n x : ℕ) (g : StateList) → Laid ls es w n x g → states_faults levels le (what_is es) g ≡ []
         → group_sites w (group_of ls es k x g) ≡ numbered k (map told (shape.states_sites es g))
-    group_numbered k n x NoState laid f = refl
-    group_numbered k n x (AndState t rest) laid f =
+    group_numbered k n x no_state laid f = refl
+    group_numbered k n x (and_state t rest) laid f =
         joined k (state_sites w (state_of ls es k x t)) (group_sites w (group_of ls es (k + length (shape.state_sites es t)) (x + states_in t) rest))
         (shape.state_sites es t) (shape.states_sites es rest) (state_numbered k n x t (laid_first ls es w n x t rest laid) (nil_left _ _ f))
         (group_numbered (k + length (shape.state_sites es t)) (suc n) (x + states_in t) rest (laid_rest ls es w n x t rest laid) (nil_right _ _ f))

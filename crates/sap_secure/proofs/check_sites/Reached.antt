@@ -3,7 +3,7 @@ use Rattle.std.proofs.Common.{◌≡◌, ℕ, zero, suc, Bool, true, false, List
 use Rattle.std.proofs.lemmas.List.{append-nil}
 use Rattle.sap_meaning.proofs.SitesLemmas.{sublist_append, sublist_behind, sublist_between, sublist_front}
 use Rattle.sap_maps.specs.Term.{Term}
-use Rattle.sap_meaning.specs.Program.{World, root, Program, Step, Set, Write, Retag, RetagCell, Goto, Fall, Command, Do, Try, If, TryThen, Case, Arms, Last, Arm, Block, End, Then, State, Node, Group, None, More}
+use Rattle.sap_meaning.specs.Program.{World, root, Program, Step, assign, write, retag, retag_cell, go_to, fall_to_child, Command, lone, try, if_else, try_then, case_of, Arms, last_arm, and_arm, Block, end_block, command_then, State, state_node, Group, no_node, and_node}
 use Rattle.sap_meaning.specs.Store.{Store, child, raise}
 use Rattle.sap_meaning.specs.Expressions.{value, tag}
 use Rattle.sap_meaning.specs.Checks.{Spot, guard, test}
@@ -35,20 +35,20 @@ behind xs ys as' bs f g = subst (λ (u : List ℕ). Sublist u (as' ++ bs)) (sym 
 module _ (w : World) where
   module _ (at : Spot) (entered : ℕ → ℕ → Store → List Step) (below : List ℕ) (entering : (n pc : ℕ) (s : Store) → From (entered n pc s) below) where
     onward_from : (k : Step) (pc : ℕ) (b s : Store) → From (onward w at entered k pc b s) below
-    onward_from (Set site x e) pc b s = tt
-    onward_from (Write site m i e) pc b s = tt
-    onward_from (Retag site x n) pc b s = tt
-    onward_from (RetagCell site m j n) pc b s = tt
-    onward_from (Goto site target) pc b s = tt
-    onward_from (Fall site hang) pc b s = entering _ _ s
+    onward_from (assign site x e) pc b s = tt
+    onward_from (write site m i e) pc b s = tt
+    onward_from (retag site x n) pc b s = tt
+    onward_from (retag_cell site m j n) pc b s = tt
+    onward_from (go_to site target) pc b s = tt
+    onward_from (fall_to_child site hang) pc b s = entering _ _ s
 
     onward_none : (k : Step) → transfers k ≡ false → (pc : ℕ) (b s : Store) → From (onward w at entered k pc b s) []
-    onward_none (Set site x e) plain pc b s = tt
-    onward_none (Write site m i e) plain pc b s = tt
-    onward_none (Retag site x n) plain pc b s = tt
-    onward_none (RetagCell site m j n) plain pc b s = tt
-    onward_none (Goto site target) plain pc b s = tt
-    onward_none (Fall site hang) plain pc b s = cc
+    onward_none (assign site x e) plain pc b s = tt
+    onward_none (write site m i e) plain pc b s = tt
+    onward_none (retag site x n) plain pc b s = tt
+    onward_none (retag_cell site m j n) plain pc b s = tt
+    onward_none (go_to site target) plain pc b s = tt
+    onward_none (fall_to_child site hang) plain pc b s = cc
 
     -- a step that leads to some of ys, and whose handler to some of zs
     tried_from : (k : Step) (hangs : ℕ → Bool) (h : ℕ → Store → List Step) (ys zs : List ℕ) → ((pc : ℕ) (b s : Store) → From (onward w at entered k pc b s) ys)
@@ -91,30 +91,30 @@ module _ (w : World) where
       unfolding steps arms_steps block_steps
 
       open_from : (c : Command) → Open c → (pc : ℕ) (s : Store) → From (steps w at entered c pc s) (marks c)
-      open_from (Do k) plain pc s =
+      open_from (lone k) plain pc s =
           subst (λ (ys : List ℕ). From (tried w at entered k (raised_alone w at k) (λ p t. []) pc s) ys) (append-nil (own_site k))
           (tried_from k (raised_alone w at k) (λ p t. []) [] [] (onward_none k plain) (λ xs h. h) (λ p t. tt) pc s)
-      open_from (Try k hang h) plain pc s =
-          tried_from k (touches w at (Try k hang h)) (block_steps w at entered h) [] (block_marks h) (onward_none k plain.0)
+      open_from (try k hang h) plain pc s =
+          tried_from k (touches w at (try k hang h)) (block_steps w at entered h) [] (block_marks h) (onward_none k plain.0)
           (λ xs i. none xs (block_marks h) i) (λ p t. open_list h plain.1 p t) pc s
-      open_from (If hang e a b) plain pc s =
-          chosen_from e (touches w at (If hang e a b)) (block_steps w at entered a) (block_steps w at entered b) (block_marks a ++ block_marks b)
+      open_from (if_else hang e a b) plain pc s =
+          chosen_from e (touches w at (if_else hang e a b)) (block_steps w at entered a) (block_steps w at entered b) (block_marks a ++ block_marks b)
           (λ p t. sublist_front _ (block_marks a) (block_marks b) (open_list a plain.0 p t)) (λ p t. sublist_behind _ (block_marks a) (block_marks b) (open_list b plain.1 p t)) pc s
-      open_from (TryThen k hang a b) plain pc s =
-          tried_then_from k plain.0 (touches w at (TryThen k hang a b)) (block_steps w at entered a) (block_steps w at entered b) (block_marks a ++ block_marks b)
+      open_from (try_then k hang a b) plain pc s =
+          tried_then_from k plain.0 (touches w at (try_then k hang a b)) (block_steps w at entered a) (block_steps w at entered b) (block_marks a ++ block_marks b)
           (λ p t. sublist_front _ (block_marks a) (block_marks b) (open_list a plain.1 p t)) (λ p t. sublist_behind _ (block_marks a) (block_marks b) (open_list b plain.2 p t)) pc s
-      open_from (Case hang e arms) plain pc s =
-          picked_from e (touches w at (Case hang e arms)) (arms_steps w at entered arms) (arms_marks arms) (λ v p t. open_arms arms plain v p t) pc s
+      open_from (case_of hang e arms) plain pc s =
+          picked_from e (touches w at (case_of hang e arms)) (arms_steps w at entered arms) (arms_marks arms) (λ v p t. open_arms arms plain v p t) pc s
 
       open_arms : (arms : Arms) → OpenArms arms → (v pc : ℕ) (s : Store) → From (arms_steps w at entered arms v pc s) (arms_marks arms)
-      open_arms (Last b) plain v pc s = open_list b plain pc s
-      open_arms (Arm cs b arms) plain v pc s =
+      open_arms (last_arm b) plain v pc s = open_list b plain pc s
+      open_arms (and_arm cs b arms) plain v pc s =
           either (is_constant cs v) (block_steps w at entered b pc s) (arms_steps w at entered arms v pc s) (block_marks b ++ arms_marks arms)
           (sublist_front _ (block_marks b) (arms_marks arms) (open_list b plain.0 pc s)) (sublist_behind _ (block_marks b) (arms_marks arms) (open_arms arms plain.1 v pc s))
 
       open_list : (b : Block) → OpenBlock b → (pc : ℕ) (s : Store) → From (block_steps w at entered b pc s) (block_marks b)
-      open_list End plain pc s = tt
-      open_list (Then c cs) plain pc s =
+      open_list end_block plain pc s = tt
+      open_list (command_then c cs) plain pc s =
           behind (steps w at entered c pc s) (block_steps w at entered cs pc (does w at (does_child w at.children at.state) c pc s).store) (marks c)
           (block_marks cs) (open_from c plain.0 pc s) (open_list cs plain.1 pc _)
 
@@ -122,69 +122,69 @@ module _ (w : World) where
       unfolding steps arms_steps block_steps
 
       final_from : (c : Command) → Final c → (pc : ℕ) (s : Store) → From (steps w at entered c pc s) (marks c ++ below)
-      final_from (Do k) final pc s =
+      final_from (lone k) final pc s =
           tried_from k (raised_alone w at k) (λ p t. []) below below (onward_from k) (λ xs h. h) (λ p t. tt) pc s
-      final_from (Try k hang h) final pc s =
-          subst (λ (ys : List ℕ). From (tried w at entered k (touches w at (Try k hang h)) (block_steps w at entered h) pc s) ys)
+      final_from (try k hang h) final pc s =
+          subst (λ (ys : List ℕ). From (tried w at entered k (touches w at (try k hang h)) (block_steps w at entered h) pc s) ys)
           (sym (append_assoc (own_site k) (block_marks h) below))
-          (tried_from k (touches w at (Try k hang h)) (block_steps w at entered h) below (block_marks h ++ below) (onward_from k)
+          (tried_from k (touches w at (try k hang h)) (block_steps w at entered h) below (block_marks h ++ below) (onward_from k)
           (λ xs i. sublist_behind xs (block_marks h) below i) (λ p t. closing_from h final.1 p t) pc s)
-      final_from (If hang e a b) final pc s =
-          chosen_from e (touches w at (If hang e a b)) (block_steps w at entered a) (block_steps w at entered b) ((block_marks a ++ block_marks b) ++ below)
+      final_from (if_else hang e a b) final pc s =
+          chosen_from e (touches w at (if_else hang e a b)) (block_steps w at entered a) (block_steps w at entered b) ((block_marks a ++ block_marks b) ++ below)
           (λ p t. sublist_between _ (block_marks a) (block_marks b) below (closing_from a final.0 p t))
           (λ p t. subst (λ (ys : List ℕ). From (block_steps w at entered b p t) ys) (sym (append_assoc (block_marks a) (block_marks b) below))
           (sublist_behind _ (block_marks a) (block_marks b ++ below) (closing_from b final.1 p t))) pc s
-      final_from (TryThen k hang a b) final pc s =
+      final_from (try_then k hang a b) final pc s =
           let both = block_marks a ++ block_marks b in
-          subst (λ (ys : List ℕ). From (tried_then w at entered k (touches w at (TryThen k hang a b)) (block_steps w at entered a) (block_steps w at entered b) pc s) ys)
+          subst (λ (ys : List ℕ). From (tried_then w at entered k (touches w at (try_then k hang a b)) (block_steps w at entered a) (block_steps w at entered b) pc s) ys)
           (sym (append_assoc (own_site k) both below))
-          (tried_then_from k final.0 (touches w at (TryThen k hang a b)) (block_steps w at entered a) (block_steps w at entered b) (both ++ below)
+          (tried_then_from k final.0 (touches w at (try_then k hang a b)) (block_steps w at entered a) (block_steps w at entered b) (both ++ below)
           (λ p t. sublist_between _ (block_marks a) (block_marks b) below (closing_from a final.1 p t))
           (λ p t. subst (λ (ys : List ℕ). From (block_steps w at entered b p t) ys) (sym (append_assoc (block_marks a) (block_marks b) below))
           (sublist_behind _ (block_marks a) (block_marks b ++ below) (closing_from b final.2 p t))) pc s)
-      final_from (Case hang e arms) final pc s =
-          picked_from e (touches w at (Case hang e arms)) (arms_steps w at entered arms) (arms_marks arms ++ below) (λ v p t. closing_arms arms final v p t) pc s
+      final_from (case_of hang e arms) final pc s =
+          picked_from e (touches w at (case_of hang e arms)) (arms_steps w at entered arms) (arms_marks arms ++ below) (λ v p t. closing_arms arms final v p t) pc s
 
       closing_arms : (arms : Arms) → ClosingArms arms → (v pc : ℕ) (s : Store) → From (arms_steps w at entered arms v pc s) (arms_marks arms ++ below)
-      closing_arms (Last b) final v pc s = closing_from b final pc s
-      closing_arms (Arm cs b arms) final v pc s =
+      closing_arms (last_arm b) final v pc s = closing_from b final pc s
+      closing_arms (and_arm cs b arms) final v pc s =
           either (is_constant cs v) (block_steps w at entered b pc s) (arms_steps w at entered arms v pc s) ((block_marks b ++ arms_marks arms) ++ below)
           (sublist_between _ (block_marks b) (arms_marks arms) below (closing_from b final.0 pc s))
           (subst (λ (ys : List ℕ). From (arms_steps w at entered arms v pc s) ys) (sym (append_assoc (block_marks b) (arms_marks arms) below))
           (sublist_behind _ (block_marks b) (arms_marks arms ++ below) (closing_arms arms final.1 v pc s)))
 
       pub closing_from : (b : Block) → Closes b → (pc : ℕ) (s : Store) → From (block_steps w at entered b pc s) (block_marks b ++ below)
-      closing_from End closes pc s = absurd closes
-      closing_from (Then c End) closes pc s =
+      closing_from end_block closes pc s = absurd closes
+      closing_from (command_then c end_block) closes pc s =
           subst (λ (ys : List ℕ). Sublist ys ((marks c ++ []) ++ below)) (sym (met-append (steps w at entered c pc s) [] ∙ append-nil (sites_met (steps w at entered c pc s))))
           (subst (λ (ys : List ℕ). Sublist (sites_met (steps w at entered c pc s)) (ys ++ below)) (sym (append-nil (marks c))) (final_from c closes pc s))
-      closing_from (Then c (Then d ds)) closes pc s =
+      closing_from (command_then c (command_then d ds)) closes pc s =
           let after = (does w at (does_child w at.children at.state) c pc s).store in
-          subst (λ (ys : List ℕ). From (steps w at entered c pc s ++ block_steps w at entered (Then d ds) pc after) ys)
-          (sym (append_assoc (marks c) (block_marks (Then d ds)) below))
-          (behind (steps w at entered c pc s) (block_steps w at entered (Then d ds) pc after) (marks c) (block_marks (Then d ds) ++ below)
-          (open_from c closes.0 pc s) (closing_from (Then d ds) closes.1 pc after))
+          subst (λ (ys : List ℕ). From (steps w at entered c pc s ++ block_steps w at entered (command_then d ds) pc after) ys)
+          (sym (append_assoc (marks c) (block_marks (command_then d ds)) below))
+          (behind (steps w at entered c pc s) (block_steps w at entered (command_then d ds) pc after) (marks c) (block_marks (command_then d ds) ++ below)
+          (open_from c closes.0 pc s) (closing_from (command_then d ds) closes.1 pc after))
 
   mutual
     unfolding state_steps child_steps
 
     state_from : (t : State) (p : ℕ) (q : Group) (n : ℕ) → FineState w q n t → (pc : ℕ) (s : Store) → From (state_steps w t p pc s) (state_marks t)
-    state_from (Node e b g) p q n fine pc s =
+    state_from (state_node e b g) p q n fine pc s =
         closing_from (record { state = e; parent = p; children = g }) (child_steps w g e) (group_marks g) (λ m z u. child_from g e g 0 fine.1 m z u) b
         fine.0.closes pc s
 
     child_from : (g : Group) (p : ℕ) (q : Group) (n : ℕ) → FineGroup w q n g → (m pc : ℕ) (s : Store) → From (child_steps w g p m pc s) (group_marks g)
-    child_from None p q n fine m pc s = tt
-    child_from (More t g) p q n fine zero pc s = sublist_front _ (state_marks t) (group_marks g) (state_from t p q n fine.0 pc s)
-    child_from (More t g) p q n fine (suc m) pc s = sublist_behind _ (state_marks t) (group_marks g) (child_from g p q (suc n) fine.1 m pc s)
+    child_from no_node p q n fine m pc s = tt
+    child_from (and_node t g) p q n fine zero pc s = sublist_front _ (state_marks t) (group_marks g) (state_from t p q n fine.0 pc s)
+    child_from (and_node t g) p q n fine (suc m) pc s = sublist_behind _ (state_marks t) (group_marks g) (child_from g p q (suc n) fine.1 m pc s)
 
   root_from : (hangs : ℕ → Bool) (g : Group) (q : Group) (n : ℕ) → FineGroup w q n g → (m : ℕ) (s : Store) → From (root_steps w hangs g m s) (group_marks g)
   unfolding root_steps
-  root_from hangs None q n fine m s = tt
-  root_from hangs (More (Node c b k) g) q n fine zero s =
-      sublist_front _ (state_marks (Node c b k)) (group_marks g) (state_from (Node c b k) (root w) q n fine.0 _ _)
-  root_from hangs (More (Node c b k) g) q n fine (suc m) s =
-      sublist_behind _ (state_marks (Node c b k)) (group_marks g) (root_from hangs g q (suc n) fine.1 m s)
+  root_from hangs no_node q n fine m s = tt
+  root_from hangs (and_node (state_node c b k) g) q n fine zero s =
+      sublist_front _ (state_marks (state_node c b k)) (group_marks g) (state_from (state_node c b k) (root w) q n fine.0 _ _)
+  root_from hangs (and_node (state_node c b k) g) q n fine (suc m) s =
+      sublist_behind _ (state_marks (state_node c b k)) (group_marks g) (root_from hangs g q (suc n) fine.1 m s)
 
 pub sites_from : (p : Program) → FineProgram p → (inputs : List Tagged) (s : Store) → Sublist (sites_met (cycle_steps p inputs s)) (group_marks p.states)
 unfolding cycle_steps

@@ -2,7 +2,7 @@
 use Rattle.std.proofs.Common.{◌≡◌, ℕ, zero, suc, ◌+◌, ◌≤◌, Bool, true, false, ◌&&◌, List, [], ◌∷◌, ◌++◌, refl, sym, ◌∙◌, subst, arith, inl, inr, nat_eq, if◌then◌else◌}
 use Rattle.std.proofs.lemmas.Bool.{cases_Bool, ne_eqb}
 use Rattle.sap_maps.specs.Term.{Term}
-use Rattle.sap_meaning.specs.Program.{World, is_dynamic, root, place, Program, Step, Set, Write, Retag, RetagCell, Goto, Fall, Command, Do, Try, If, TryThen, Case, Arms, Last, Arm, Block, End, Then, State, Node, Group, None, More}
+use Rattle.sap_meaning.specs.Program.{World, is_dynamic, root, place, Program, Step, assign, write, retag, retag_cell, go_to, fall_to_child, Command, lone, try, if_else, try_then, case_of, Arms, last_arm, and_arm, Block, end_block, command_then, State, state_node, Group, no_node, and_node}
 use Rattle.sap_meaning.specs.Store.{own, start, next, start_whole, next_whole, source, Store, number, level, child, put_number, put_level, put_child, raise, reset, settle, After, stay, and_then}
 use Rattle.sap_meaning.specs.Expressions.{value, tag, new_level}
 use Rattle.sap_meaning.specs.Checks.{Spot, guard, test}
@@ -102,19 +102,19 @@ module _ (w : World) (m : ℕ) (at : Spot) (entered : ℕ → ℕ → Store → 
   effect_tracked : (k : Step) (pc : ℕ) (b s : Store)
       → Tracked m (writing m k + writes_to m (onward w at entered k pc b s)) s (effect w at (does_child w at.children at.state) k pc b s).store
   unfolding effect
-  effect_tracked (Set site x e) pc b s = tracked_all m _ s _ (λ j. own_same w m x _ _ s j)
-  effect_tracked (Write site n i e) pc b s =
+  effect_tracked (assign site x e) pc b s = tracked_all m _ s _ (λ j. own_same w m x _ _ s j)
+  effect_tracked (write site n i e) pc b s =
       let t = w.order.join pc (w.order.join (tag w i b) (tag w e b)) in
-      tracked_as m _ (writing m (Write site n i e)) s _ (omega arith)
-      (at_cell n (value w i b) (Write site n i e) s _ refl
+      tracked_as m _ (writing m (write site n i e)) s _ (omega arith)
+      (at_cell n (value w i b) (write site n i e) s _ refl
       (λ j h. write_same w m n (value w i b) j (value w e b) t (λ x. nat_eq x n) (is_dynamic w n) s h))
-  effect_tracked (Retag site x n) pc b s = tracked_all m _ s _ (λ j. own_same w m x _ _ s j)
-  effect_tracked (RetagCell site n i t) pc b s =
+  effect_tracked (retag site x n) pc b s = tracked_all m _ s _ (λ j. own_same w m x _ _ s j)
+  effect_tracked (retag_cell site n i t) pc b s =
       let v = if w.order.le (level w (start n (value w i b)) b) (new_level w t b) then number (start n (value w i b)) b else 0 in
-      tracked_as m _ (writing m (RetagCell site n i t)) s _ (omega arith)
-      (at_cell n (value w i b) (RetagCell site n i t) s _ refl (λ j h. retag_same w m n (value w i b) j v (new_level w t b) s h))
-  effect_tracked (Goto site target) pc b s = tracked_all m _ s _ (λ j. moved_same w m target at.parent (is_dynamic w target) pc (place w target) s j)
-  effect_tracked (Fall site hang) pc b s = tracked_as m _ _ s _ (omega arith) (below _ _ s)
+      tracked_as m _ (writing m (retag_cell site n i t)) s _ (omega arith)
+      (at_cell n (value w i b) (retag_cell site n i t) s _ refl (λ j h. retag_same w m n (value w i b) j v (new_level w t b) s h))
+  effect_tracked (go_to site target) pc b s = tracked_all m _ s _ (λ j. moved_same w m target at.parent (is_dynamic w target) pc (place w target) s j)
+  effect_tracked (fall_to_child site hang) pc b s = tracked_as m _ _ s _ (omega arith) (below _ _ s)
 
   either : (k : Step) (i : Bool) (xs ys : List Step) (s : Store) (p q : After) → Tracked m (writing m k + writes_to m xs) s p.store
       → Tracked m (writing m k + writes_to m ys) s q.store → Tracked m (writes_to m (k ∷ (if i then xs else ys))) s (if i then p else q).store
@@ -173,28 +173,28 @@ module _ (w : World) (m : ℕ) (at : Spot) (entered : ℕ → ℕ → Store → 
     unfolding steps arms_steps block_steps does does_arms does_block
 
     does_tracked : (c : Command) → EachTracked m (steps w at entered c) (does w at (does_child w at.children at.state) c)
-    does_tracked (Do k) pc s =
+    does_tracked (lone k) pc s =
         attempt_tracked k (raised_alone w at k) (λ pc s. []) (λ pc s. stay s) (λ pc s. tracked_all m _ s s (λ j. (refl, refl))) pc s
-    does_tracked (Try k hang h) pc s =
-        attempt_tracked k (touches w at (Try k hang h)) (block_steps w at entered h) (does_block w at (does_child w at.children at.state) h) (block_tracked h) pc s
-    does_tracked (If hang e a b) pc s =
-        select_tracked e (touches w at (If hang e a b)) (block_steps w at entered a) (block_steps w at entered b)
+    does_tracked (try k hang h) pc s =
+        attempt_tracked k (touches w at (try k hang h)) (block_steps w at entered h) (does_block w at (does_child w at.children at.state) h) (block_tracked h) pc s
+    does_tracked (if_else hang e a b) pc s =
+        select_tracked e (touches w at (if_else hang e a b)) (block_steps w at entered a) (block_steps w at entered b)
         (does_block w at (does_child w at.children at.state) a) (does_block w at (does_child w at.children at.state) b) (block_tracked a) (block_tracked b) pc s
-    does_tracked (TryThen k hang a b) pc s =
-        attempt_then_tracked k (touches w at (TryThen k hang a b)) (block_steps w at entered a) (block_steps w at entered b)
+    does_tracked (try_then k hang a b) pc s =
+        attempt_then_tracked k (touches w at (try_then k hang a b)) (block_steps w at entered a) (block_steps w at entered b)
         (does_block w at (does_child w at.children at.state) a) (does_block w at (does_child w at.children at.state) b) (block_tracked a) (block_tracked b) pc s
-    does_tracked (Case hang e arms) pc s =
-        pick_tracked e (touches w at (Case hang e arms)) (arms_steps w at entered arms) (does_arms w at (does_child w at.children at.state) arms) (arms_tracked arms) pc s
+    does_tracked (case_of hang e arms) pc s =
+        pick_tracked e (touches w at (case_of hang e arms)) (arms_steps w at entered arms) (does_arms w at (does_child w at.children at.state) arms) (arms_tracked arms) pc s
 
     arms_tracked : (arms : Arms) (v : ℕ) → EachTracked m (arms_steps w at entered arms v) (does_arms w at (does_child w at.children at.state) arms v)
-    arms_tracked (Last b) v pc s = block_tracked b pc s
-    arms_tracked (Arm cs b arms) v pc s =
+    arms_tracked (last_arm b) v pc s = block_tracked b pc s
+    arms_tracked (and_arm cs b arms) v pc s =
         one_of (is_constant cs v) (arms_steps w at entered arms v pc s) (block_steps w at entered b pc s) s (does_arms w at (does_child w at.children at.state) arms v pc s)
         (does_block w at (does_child w at.children at.state) b pc s) (arms_tracked arms v pc s) (block_tracked b pc s)
 
     pub block_tracked : (b : Block) → EachTracked m (block_steps w at entered b) (does_block w at (does_child w at.children at.state) b)
-    block_tracked End pc s = tracked_all m _ s s (λ j. (refl, refl))
-    block_tracked (Then c cs) pc s =
+    block_tracked end_block pc s = tracked_all m _ s s (λ j. (refl, refl))
+    block_tracked (command_then c cs) pc s =
         let t = (does w at (does_child w at.children at.state) c pc s).store in
         tracked_as m _ (writes_to m (steps w at entered c pc s) + writes_to m (block_steps w at entered cs pc t)) s _
         (writes_to-append m (steps w at entered c pc s) (block_steps w at entered cs pc t))
@@ -205,23 +205,23 @@ module _ (w : World) (m : ℕ) where
     unfolding state_steps child_steps does_state does_child
 
     state_tracked : (t : State) (parent : ℕ) → EachTracked m (state_steps w t parent) (does_state w t parent)
-    state_tracked (Node s b g) parent pc st =
+    state_tracked (state_node s b g) parent pc st =
         let at : Spot = record { state = s; parent = parent; children = g } in
         block_tracked w m at (child_steps w g s) (λ n. child_tracked g s n) b pc st
 
     child_tracked : (g : Group) (parent n : ℕ) → EachTracked m (child_steps w g parent n) (does_child w g parent n)
-    child_tracked None parent n pc st = tracked_all m _ st st (λ j. (refl, refl))
-    child_tracked (More t g) parent zero pc st = state_tracked t parent pc st
-    child_tracked (More t g) parent (suc n) pc st = child_tracked g parent n pc st
+    child_tracked no_node parent n pc st = tracked_all m _ st st (λ j. (refl, refl))
+    child_tracked (and_node t g) parent zero pc st = state_tracked t parent pc st
+    child_tracked (and_node t g) parent (suc n) pc st = child_tracked g parent n pc st
 
   root_tracked : (hangs : ℕ → Bool) (g : Group) (n : ℕ) (s : Store)
       → Tracked m (writes_to m (root_steps w hangs g n s)) s (root_fall w hangs (λ t. does_state w t (root w)) g n s).store
   unfolding root_steps root_fall
-  root_tracked hangs None n s = tracked_all m _ s s (λ j. (refl, refl))
-  root_tracked hangs (More (Node c b k) g) zero s =
+  root_tracked hangs no_node n s = tracked_all m _ s s (λ j. (refl, refl))
+  root_tracked hangs (and_node (state_node c b k) g) zero s =
       let t = level w (own c) s in
-      behind_raise w m _ hangs t s _ (state_tracked (Node c b k) (root w) t (raise w.order hangs t s))
-  root_tracked hangs (More (Node c b k) g) (suc n) s = root_tracked hangs g n s
+      behind_raise w m _ hangs t s _ (state_tracked (state_node c b k) (root w) t (raise w.order hangs t s))
+  root_tracked hangs (and_node (state_node c b k) g) (suc n) s = root_tracked hangs g n s
 
 -- inputs leave cells alone
 inputs_same : (w : World) (m : ℕ) (inputs : List Tagged) (s : Store) (j : ℕ) → Same m j s (set_inputs w inputs s)

@@ -3,7 +3,7 @@ use Rattle.std.proofs.Common.{◌≡◌, ℕ, zero, suc, ◌+◌, ◌≤◌, Boo
 use Rattle.std.proofs.lemmas.Bool.{cases_Bool, false_from_ne_true, or_from}
 use Rattle.sap_lemmas.proofs.Bools.{neither_left, neither_right}
 use Rattle.sap_maps.specs.Term.{Term}
-use Rattle.sap_meaning.specs.Program.{World, root, Program, Step, Set, Write, Retag, RetagCell, Goto, Fall, Command, Do, Try, If, TryThen, Case, Arms, Last, Arm, Block, End, Then, State, Node, Group, None, More}
+use Rattle.sap_meaning.specs.Program.{World, root, Program, Step, assign, write, retag, retag_cell, go_to, fall_to_child, Command, lone, try, if_else, try_then, case_of, Arms, last_arm, and_arm, Block, end_block, command_then, State, state_node, Group, no_node, and_node}
 use Rattle.sap_meaning.specs.Store.{Store, own, level, child, raise}
 use Rattle.sap_meaning.specs.Expressions.{value, tag}
 use Rattle.sap_meaning.specs.Checks.{Spot, guard, test}
@@ -24,29 +24,29 @@ module _ (w : World) (m : ℕ) (at : Spot) (entered : ℕ → ℕ → Store → 
     (beyond : Type 0) (below : beyond → (n : ℕ) → AllCounted m (group_reaches at.children m) (entered n)) where
   -- a step that writes leads to no other
   onward_nothing : (k : Step) (pc : ℕ) (b s : Store) → step_writes k m ≡ true → writes_to m (onward w at entered k pc b s) ≡ 0
-  onward_nothing (Set site x e) pc b s h = refl
-  onward_nothing (Write site n i e) pc b s h = refl
-  onward_nothing (Retag site x n) pc b s h = refl
-  onward_nothing (RetagCell site n j t) pc b s h = refl
-  onward_nothing (Goto site target) pc b s h = refl
-  onward_nothing (Fall site hang) pc b s h = cc
+  onward_nothing (assign site x e) pc b s h = refl
+  onward_nothing (write site n i e) pc b s h = refl
+  onward_nothing (retag site x n) pc b s h = refl
+  onward_nothing (retag_cell site n j t) pc b s h = refl
+  onward_nothing (go_to site target) pc b s h = refl
+  onward_nothing (fall_to_child site hang) pc b s h = cc
 
   onward_counted : (k : Step) → OnceStep beyond k → (pc : ℕ) (b s : Store) → Counted m (step_reaching (group_reaches at.children) k m) (onward w at entered k pc b s)
-  onward_counted (Set site x e) once pc b s = counted_nothing m
-  onward_counted (Write site n i e) once pc b s = counted_weaker m false (nat_eq m n) [] (λ h. refl) (counted_nothing m)
-  onward_counted (Retag site x n) once pc b s = counted_nothing m
-  onward_counted (RetagCell site n j t) once pc b s = counted_weaker m false (nat_eq m n) [] (λ h. refl) (counted_nothing m)
-  onward_counted (Goto site target) once pc b s = counted_nothing m
-  onward_counted (Fall site hang) once pc b s = below once _ _ _
+  onward_counted (assign site x e) once pc b s = counted_nothing m
+  onward_counted (write site n i e) once pc b s = counted_weaker m false (nat_eq m n) [] (λ h. refl) (counted_nothing m)
+  onward_counted (retag site x n) once pc b s = counted_nothing m
+  onward_counted (retag_cell site n j t) once pc b s = counted_weaker m false (nat_eq m n) [] (λ h. refl) (counted_nothing m)
+  onward_counted (go_to site target) once pc b s = counted_nothing m
+  onward_counted (fall_to_child site hang) once pc b s = below once _ _ _
 
   -- what may not be reached isn't written
   reached : (k : Step) → step_reaching (group_reaches at.children) k m ≡ false → step_writes k m ≡ false
-  reached (Set site x e) h = refl
-  reached (Write site n i e) h = h
-  reached (Retag site x n) h = refl
-  reached (RetagCell site n j t) h = h
-  reached (Goto site target) h = refl
-  reached (Fall site hang) h = refl
+  reached (assign site x e) h = refl
+  reached (write site n i e) h = h
+  reached (retag site x n) h = refl
+  reached (retag_cell site n j t) h = h
+  reached (go_to site target) h = refl
+  reached (fall_to_child site hang) h = refl
 
   -- what comes behind a step
   module _ (k : Step) (once : OnceStep beyond k) (may : Bool) (apart : (step_writes k m && may) ≡ false) where
@@ -158,31 +158,31 @@ module _ (w : World) (m : ℕ) (at : Spot) (entered : ℕ → ℕ → Store → 
     unfolding steps arms_steps block_steps
 
     steps_counted : (c : Command) → Once at.children beyond c → AllCounted m (reaching (group_reaches at.children) c m) (steps w at entered c)
-    steps_counted (Do k) once pc s =
+    steps_counted (lone k) once pc s =
         counted_weaker m (step_reaching (group_reaches at.children) k m || false) (step_reaching (group_reaches at.children) k m) _
         (or_nothing (step_reaching (group_reaches at.children) k m))
         (tried_counted k once false (alone k) (raised_alone w at k) (λ pc s. []) (λ pc s. counted_nothing m) pc s)
-    steps_counted (Try k hang h) once pc s =
-        tried_counted k once.0 (block_reaching (group_reaches at.children) h m) (once.2 m) (touches w at (Try k hang h)) (block_steps w at entered h)
+    steps_counted (try k hang h) once pc s =
+        tried_counted k once.0 (block_reaching (group_reaches at.children) h m) (once.2 m) (touches w at (try k hang h)) (block_steps w at entered h)
         (block_counted h once.1) pc s
-    steps_counted (If hang e a b) once pc s =
-        chosen_counted e (touches w at (If hang e a b)) (block_reaching (group_reaches at.children) a m) (block_reaching (group_reaches at.children) b m)
+    steps_counted (if_else hang e a b) once pc s =
+        chosen_counted e (touches w at (if_else hang e a b)) (block_reaching (group_reaches at.children) a m) (block_reaching (group_reaches at.children) b m)
         (block_steps w at entered a) (block_steps w at entered b) (block_counted a once.0) (block_counted b once.1) pc s
-    steps_counted (TryThen k hang a b) once pc s =
-        then_counted k once.0 (block_reaching (group_reaches at.children) a m) (block_reaching (group_reaches at.children) b m) (once.3 m) (once.4 m) (touches w at (TryThen k hang a b))
+    steps_counted (try_then k hang a b) once pc s =
+        then_counted k once.0 (block_reaching (group_reaches at.children) a m) (block_reaching (group_reaches at.children) b m) (once.3 m) (once.4 m) (touches w at (try_then k hang a b))
         (block_steps w at entered a) (block_steps w at entered b) (block_counted a once.1) (block_counted b once.2) pc s
-    steps_counted (Case hang e arms) once pc s =
-        picked_counted e (touches w at (Case hang e arms)) (arms_reaching (group_reaches at.children) arms m) (arms_steps w at entered arms) (arms_counted arms once) pc s
+    steps_counted (case_of hang e arms) once pc s =
+        picked_counted e (touches w at (case_of hang e arms)) (arms_reaching (group_reaches at.children) arms m) (arms_steps w at entered arms) (arms_counted arms once) pc s
 
     arms_counted : (arms : Arms) → OnceArms at.children beyond arms → (v : ℕ) → AllCounted m (arms_reaching (group_reaches at.children) arms m) (arms_steps w at entered arms v)
-    arms_counted (Last b) once v pc s = block_counted b once pc s
-    arms_counted (Arm cs b arms) once v pc s =
+    arms_counted (last_arm b) once v pc s = block_counted b once pc s
+    arms_counted (and_arm cs b arms) once v pc s =
         arm_counted (is_constant cs v) (block_reaching (group_reaches at.children) b m) (arms_reaching (group_reaches at.children) arms m) (block_steps w at entered b pc s)
         (arms_steps w at entered arms v pc s) (block_counted b once.0 pc s) (arms_counted arms once.1 v pc s)
 
     pub block_counted : (b : Block) → OnceBlock at.children beyond b → AllCounted m (block_reaching (group_reaches at.children) b m) (block_steps w at entered b)
-    block_counted End once pc s = counted_nothing m
-    block_counted (Then c cs) once pc s =
+    block_counted end_block once pc s = counted_nothing m
+    block_counted (command_then c cs) once pc s =
         counted_both m (reaching (group_reaches at.children) c m) (block_reaching (group_reaches at.children) cs m) (steps w at entered c pc s)
         (block_steps w at entered cs pc (does w at (does_child w at.children at.state) c pc s).store) (steps_counted c once.0 pc s)
         (block_counted cs once.1 pc _) (once.2 m)
@@ -192,25 +192,25 @@ module _ (w : World) (m : ℕ) where
     unfolding state_steps child_steps
 
     pub state_counted : (t : State) → OnceState t → (parent : ℕ) → AllCounted m (state_reaches t m) (state_steps w t parent)
-    state_counted (Node s b g) once parent pc st =
+    state_counted (state_node s b g) once parent pc st =
         let at : Spot = record { state = s; parent = parent; children = g } in
         block_counted w m at (child_steps w g s) (OnceGroup g) (λ o i. group_counted g o s i) b once pc st
 
     group_counted : (g : Group) → OnceGroup g → (parent i : ℕ) → AllCounted m (group_reaches g m) (child_steps w g parent i)
-    group_counted None once parent i pc st = counted_nothing m
-    group_counted (More t g) once parent zero pc st =
+    group_counted no_node once parent i pc st = counted_nothing m
+    group_counted (and_node t g) once parent zero pc st =
         counted_weaker m (state_reaches t m) (state_reaches t m || group_reaches g m) _ (neither_left (state_reaches t m) (group_reaches g m))
         (state_counted t once.0 parent pc st)
-    group_counted (More t g) once parent (suc i) pc st =
+    group_counted (and_node t g) once parent (suc i) pc st =
         counted_weaker m (group_reaches g m) (state_reaches t m || group_reaches g m) _ (neither_right (state_reaches t m) (group_reaches g m))
         (group_counted g once.1 parent i pc st)
 
   root_once : (hangs : ℕ → Bool) (g : Group) → OnceGroup g → (i : ℕ) (s : Store) → writes_to m (root_steps w hangs g i s) ≤ 1
   unfolding root_steps
-  root_once hangs None once i s = omega arith
-  root_once hangs (More (Node c b k) g) once zero s =
-      (state_counted (Node c b k) once.0 (root w) (level w (own c) s) (raise w.order hangs (level w (own c) s) s)).once
-  root_once hangs (More (Node c b k) g) once (suc i) s = root_once hangs g once.1 i s
+  root_once hangs no_node once i s = omega arith
+  root_once hangs (and_node (state_node c b k) g) once zero s =
+      (state_counted (state_node c b k) once.0 (root w) (level w (own c) s) (raise w.order hangs (level w (own c) s) s)).once
+  root_once hangs (and_node (state_node c b k) g) once (suc i) s = root_once hangs g once.1 i s
 
 pub writes_once : (p : Program) → FineProgram p → WritesOnce p
 unfolding cycle_steps

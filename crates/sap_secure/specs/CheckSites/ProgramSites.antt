@@ -2,7 +2,7 @@
 use Rattle.std.specs.Prelude.{ℕ, List, [], ◌∷◌, ◌++◌, if◌then◌else◌}
 use Rattle.sap_check.specs.declared.site.SiteKind.{SiteKind}
 use Rattle.sap_check.specs.declared.site.SiteKind.TheVariants as kind
-use Rattle.sap_meaning.specs.Program.{World, Program, Step, Set, Write, Retag, RetagCell, Goto, Fall, Command, Do, Try, If, TryThen, Case, Arms, Last, Arm, Block, End, Then, State, Node, Group, None, More}
+use Rattle.sap_meaning.specs.Program.{World, Program, Step, assign, write, retag, retag_cell, go_to, fall_to_child, Command, lone, try, if_else, try_then, case_of, Arms, last_arm, and_arm, Block, end_block, command_then, State, state_node, Group, no_node, and_node}
 use Rattle.sap_meaning.specs.Checks.{site_of}
 use Rattle.sap_meaning.specs.Sites.{is_site}
 
@@ -12,21 +12,21 @@ pub record ProgramSite : Type 0 where
   pub entity : ℕ
 
 abbrev pub kind_of_step : Step → SiteKind
-kind_of_step (Set site x e) = kind.Write
-kind_of_step (Write site m i e) = kind.Write
-kind_of_step (Retag site x n) = kind.SetTag
-kind_of_step (RetagCell site m j n) = kind.SetTag
-kind_of_step (Goto site target) = kind.Goto
-kind_of_step (Fall site hang) = kind.Fall
+kind_of_step (assign site x e) = kind.Write
+kind_of_step (write site m i e) = kind.Write
+kind_of_step (retag site x n) = kind.SetTag
+kind_of_step (retag_cell site m j n) = kind.SetTag
+kind_of_step (go_to site target) = kind.Goto
+kind_of_step (fall_to_child site hang) = kind.Fall
 
 -- its target, and of a fall the state in whose body it stands
 abbrev pub entity_of : (state : ℕ) → Step → ℕ
-entity_of s (Set site x e) = x
-entity_of s (Write site m i e) = m
-entity_of s (Retag site x n) = x
-entity_of s (RetagCell site m j n) = m
-entity_of s (Goto site target) = target
-entity_of s (Fall site hang) = s
+entity_of s (assign site x e) = x
+entity_of s (write site m i e) = m
+entity_of s (retag site x n) = x
+entity_of s (retag_cell site m j n) = m
+entity_of s (go_to site target) = target
+entity_of s (fall_to_child site hang) = s
 
 -- those of commands in the body of the state s with children g
 abbrev pub step_sites : World → (s : ℕ) → (g : Group) → Step → List ProgramSite
@@ -35,27 +35,27 @@ step_sites w s g k =
 
 abbrev mutual
   pub command_sites : World → (s : ℕ) → (g : Group) → Command → List ProgramSite
-  command_sites w s g (Do k) = step_sites w s g k
-  command_sites w s g (Try k hang h) = step_sites w s g k ++ block_sites w s g h
-  command_sites w s g (If hang e a b) = block_sites w s g a ++ block_sites w s g b
-  command_sites w s g (TryThen k hang a b) = step_sites w s g k ++ (block_sites w s g a ++ block_sites w s g b)
-  command_sites w s g (Case hang e arms) = arms_sites w s g arms
+  command_sites w s g (lone k) = step_sites w s g k
+  command_sites w s g (try k hang h) = step_sites w s g k ++ block_sites w s g h
+  command_sites w s g (if_else hang e a b) = block_sites w s g a ++ block_sites w s g b
+  command_sites w s g (try_then k hang a b) = step_sites w s g k ++ (block_sites w s g a ++ block_sites w s g b)
+  command_sites w s g (case_of hang e arms) = arms_sites w s g arms
 
   pub arms_sites : World → (s : ℕ) → (g : Group) → Arms → List ProgramSite
-  arms_sites w s g (Last b) = block_sites w s g b
-  arms_sites w s g (Arm constants b arms) = block_sites w s g b ++ arms_sites w s g arms
+  arms_sites w s g (last_arm b) = block_sites w s g b
+  arms_sites w s g (and_arm constants b arms) = block_sites w s g b ++ arms_sites w s g arms
 
   pub block_sites : World → (s : ℕ) → (g : Group) → Block → List ProgramSite
-  block_sites w s g End = []
-  block_sites w s g (Then c cs) = command_sites w s g c ++ block_sites w s g cs
+  block_sites w s g end_block = []
+  block_sites w s g (command_then c cs) = command_sites w s g c ++ block_sites w s g cs
 
 abbrev mutual
   pub state_sites : World → State → List ProgramSite
-  state_sites w (Node s b g) = block_sites w s g b ++ group_sites w g
+  state_sites w (state_node s b g) = block_sites w s g b ++ group_sites w g
 
   pub group_sites : World → Group → List ProgramSite
-  group_sites w None = []
-  group_sites w (More t g) = state_sites w t ++ group_sites w g
+  group_sites w no_node = []
+  group_sites w (and_node t g) = state_sites w t ++ group_sites w g
 
 abbrev pub sites_in : Program → List ProgramSite
 sites_in p = group_sites p.world p.states

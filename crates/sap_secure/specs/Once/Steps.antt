@@ -2,7 +2,7 @@
 -- is told by `does`; here stands which step comes next.
 use Rattle.std.specs.Prelude.{ℕ, zero, suc, Bool, List, [], ◌∷◌, ◌++◌, if◌then◌else◌, nat_eq}
 use Rattle.sap_maps.specs.Term.{Term}
-use Rattle.sap_meaning.specs.Program.{World, root, Step, Set, Write, Retag, RetagCell, Goto, Fall, Command, Do, Try, If, TryThen, Case, Arms, Last, Arm, Block, End, Then, State, Node, Group, None, More, Program}
+use Rattle.sap_meaning.specs.Program.{World, root, Step, assign, write, retag, retag_cell, go_to, fall_to_child, Command, lone, try, if_else, try_then, case_of, Arms, last_arm, and_arm, Block, end_block, command_then, State, state_node, Group, no_node, and_node, Program}
 use Rattle.sap_meaning.specs.Store.{Store, own, level, child, raise}
 use Rattle.sap_meaning.specs.Expressions.{value, tag}
 use Rattle.sap_meaning.specs.Checks.{Spot, child_level, guard, test}
@@ -13,12 +13,12 @@ use Rattle.sap_meaning.specs.Cycle.{Tagged, set_inputs}
 -- What comes after a step whose test held in `before`: for a fall the steps of the current child's body, `entered n` being those of
 -- the n-th child's in a context; for every other step nothing.
 abbrev pub onward : World → Spot → (entered : ℕ → ℕ → Store → List Step) → Step → ℕ → (before : Store) → Store → List Step
-onward w at entered (Set site x e) pc before s = []
-onward w at entered (Write site m i e) pc before s = []
-onward w at entered (Retag site x n) pc before s = []
-onward w at entered (RetagCell site m j n) pc before s = []
-onward w at entered (Goto site target) pc before s = []
-onward w at entered (Fall site hang) pc before s =
+onward w at entered (assign site x e) pc before s = []
+onward w at entered (write site m i e) pc before s = []
+onward w at entered (retag site x n) pc before s = []
+onward w at entered (retag_cell site m j n) pc before s = []
+onward w at entered (go_to site target) pc before s = []
+onward w at entered (fall_to_child site hang) pc before s =
     entered (child at.state before) (w.order.join pc (child_level w at.children (child at.state before) before)) s
 
 -- a step, and what comes after it; where it is refused, the steps of its handler
@@ -56,42 +56,42 @@ chosen w e hangs then_steps else_steps pc s =
 
 unfoldable mutual
   pub steps : World → Spot → (entered : ℕ → ℕ → Store → List Step) → Command → ℕ → Store → List Step
-  steps w at entered (Do k) = tried w at entered k (raised_alone w at k) (λ pc s. [])
-  steps w at entered (Try k hang h) = tried w at entered k (touches w at (Try k hang h)) (block_steps w at entered h)
-  steps w at entered (If hang e a b) = chosen w e (touches w at (If hang e a b)) (block_steps w at entered a) (block_steps w at entered b)
-  steps w at entered (TryThen k hang a b) =
-      tried_then w at entered k (touches w at (TryThen k hang a b)) (block_steps w at entered a) (block_steps w at entered b)
-  steps w at entered (Case hang e arms) = picked w e (touches w at (Case hang e arms)) (arms_steps w at entered arms)
+  steps w at entered (lone k) = tried w at entered k (raised_alone w at k) (λ pc s. [])
+  steps w at entered (try k hang h) = tried w at entered k (touches w at (try k hang h)) (block_steps w at entered h)
+  steps w at entered (if_else hang e a b) = chosen w e (touches w at (if_else hang e a b)) (block_steps w at entered a) (block_steps w at entered b)
+  steps w at entered (try_then k hang a b) =
+      tried_then w at entered k (touches w at (try_then k hang a b)) (block_steps w at entered a) (block_steps w at entered b)
+  steps w at entered (case_of hang e arms) = picked w e (touches w at (case_of hang e arms)) (arms_steps w at entered arms)
 
   -- of the first arm that has the number, else of the last block
   pub arms_steps : World → Spot → (entered : ℕ → ℕ → Store → List Step) → Arms → ℕ → ℕ → Store → List Step
-  arms_steps w at entered (Last b) = λ n. block_steps w at entered b
-  arms_steps w at entered (Arm constants b arms) = arm_steps constants (block_steps w at entered b) (arms_steps w at entered arms)
+  arms_steps w at entered (last_arm b) = λ n. block_steps w at entered b
+  arms_steps w at entered (and_arm constants b arms) = arm_steps constants (block_steps w at entered b) (arms_steps w at entered arms)
 
   -- of a list of commands, each in the store that the ones before it leave
   pub block_steps : World → Spot → (entered : ℕ → ℕ → Store → List Step) → Block → ℕ → Store → List Step
-  block_steps w at entered End pc s = []
-  block_steps w at entered (Then c cs) pc s =
+  block_steps w at entered end_block pc s = []
+  block_steps w at entered (command_then c cs) pc s =
       steps w at entered c pc s ++ block_steps w at entered cs pc (does w at (does_child w at.children at.state) c pc s).store
 
 unfoldable mutual
   -- of a state's body
   pub state_steps : World → State → (parent : ℕ) → ℕ → Store → List Step
-  state_steps w (Node s b g) parent pc st = block_steps w (record { state = s; parent = parent; children = g }) (child_steps w g s) b pc st
+  state_steps w (state_node s b g) parent pc st = block_steps w (record { state = s; parent = parent; children = g }) (child_steps w g s) b pc st
 
   -- of the body of the n-th state of the parent's group
   pub child_steps : World → Group → (parent n : ℕ) → ℕ → Store → List Step
-  child_steps w None parent n pc st = []
-  child_steps w (More t g) parent zero pc st = state_steps w t parent pc st
-  child_steps w (More t g) parent (suc n) pc st = child_steps w g parent n pc st
+  child_steps w no_node parent n pc st = []
+  child_steps w (and_node t g) parent zero pc st = state_steps w t parent pc st
+  child_steps w (and_node t g) parent (suc n) pc st = child_steps w g parent n pc st
 
 -- of the root's fall into the n-th top-level state
 unfoldable pub root_steps : World → (hangs : ℕ → Bool) → Group → (n : ℕ) → Store → List Step
-root_steps w hangs None n s = []
-root_steps w hangs (More (Node c b k) g) zero s =
+root_steps w hangs no_node n s = []
+root_steps w hangs (and_node (state_node c b k) g) zero s =
     let t = level w (own c) s in
-    state_steps w (Node c b k) (root w) t (raise w.order hangs t s)
-root_steps w hangs (More t g) (suc n) s = root_steps w hangs g n s
+    state_steps w (state_node c b k) (root w) t (raise w.order hangs t s)
+root_steps w hangs (and_node t g) (suc n) s = root_steps w hangs g n s
 
 -- of a cycle
 unfoldable pub cycle_steps : Program → List Tagged → Store → List Step

@@ -5,7 +5,7 @@ use Rattle.std.proofs.lemmas.Bool.{false≢true, or_left, or_right}
 use Rattle.sap_lemmas.proofs.Bools.{and_left, and_right}
 use Rattle.sap_tree.specs.Words as words
 use Rattle.sap_tree.specs.Whole.{is_whole, is_declaration}
-use Rattle.sap_tree.specs.Syntax.{StateTree, StateOf, StateList, NoState, AndState, DesignTree}
+use Rattle.sap_tree.specs.Syntax.{StateTree, state_node, StateList, no_state, and_state, DesignTree}
 use Rattle.sap_tree.specs.declared.syntax.Decl.{Decl}
 use Rattle.sap_tree.specs.declared.syntax.Decl.TheVariants as decl
 use Rattle.sap_tree.specs.declared.version.Version.{Version}
@@ -32,11 +32,11 @@ none_join (x ∷ xs) ys h k = (h.0, none_join xs ys h.1 k)
 
 mutual
   state_plain : (ls : Levels) (n x : ℕ) (t : StateTree) → NonePlain (state_entities ls n x t)
-  state_plain ls n x (StateOf place name kind body children) = (refl, group_plain ls 0 (x + 1) children)
+  state_plain ls n x (state_node place name kind body children) = (refl, group_plain ls 0 (x + 1) children)
 
   group_plain : (ls : Levels) (n x : ℕ) (g : StateList) → NonePlain (group_entities ls n x g)
-  group_plain ls n x NoState = tt
-  group_plain ls n x (AndState s rest) = none_join (state_entities ls n x s) _ (state_plain ls n x s) (group_plain ls _ _ rest)
+  group_plain ls n x no_state = tt
+  group_plain ls n x (and_state s rest) = none_join (state_entities ls n x s) _ (state_plain ls n x s) (group_plain ls _ _ rest)
 
 plain_none : (es : List Entity) → NonePlain es → (k : ℕ) → is_plain (get_or es k nothing) ≡ false
 plain_none [] h k = refl

@@ -4,7 +4,7 @@ use Rattle.sap_tree.specs.Making.{at, spot, mention, numeral_at}
 use Rattle.sap_tree.specs.declared.syntax.Kind.TheVariants.{Dynamic, Enforced}
 use Rattle.sap_tree.specs.declared.syntax.Decl.TheVariants.{Input, Register}
 use Rattle.sap_tree.specs.declared.syntax.BinaryOperator.TheVariants as operator
-use Rattle.sap_tree.specs.Syntax.{Number, Read, Binary, Do, Assign, Goto, Commands, NoCommand, AndCommand, StateOf, NoState, AndState, DesignTree}
+use Rattle.sap_tree.specs.Syntax.{literal, variable, binary_of, lone, assign, go_to, command_block, no_command, and_command, state_node, no_state, and_state, DesignTree}
 use Rattle.sap_tree.specs.declared.version.Version.TheVariants.{One}
 use Rattle.sap_text.specs.Places.{line}
 use Rattle.sap_lattice.specs.Examples.{low_high}
@@ -17,11 +17,11 @@ adder = record {
   version = One;
   declarations = Input (at 1) (mention (at 7) (codes "a")) (numeral_at (at 11) 8)
       ∷ Register (at 14) (mention (at 18) (codes "x")) (numeral_at (at 22) 8) (Dynamic (at 24)) None ∷ [];
-  states = AndState (StateOf (at 33) (mention (at 39) (codes "S")) (Enforced (mention (at 50) (codes "low")) None)
-      (Commands
-      (AndCommand (Do (Assign (mention (at 56) (codes "x")) (Binary (spot (at 63)) operator.Add (Read (spot (at 61)) (codes "a")) (Number (spot (at 65)) 1))))
-      (AndCommand (Do (Goto (at 68) (mention (at 73) (codes "S")))) NoCommand))
-      (at 76)) NoState) NoState;
+  states = and_state (state_node (at 33) (mention (at 39) (codes "S")) (Enforced (mention (at 50) (codes "low")) None)
+      (command_block
+      (and_command (lone (assign (mention (at 56) (codes "x")) (binary_of (spot (at 63)) operator.Add (variable (spot (at 61)) (codes "a")) (literal (spot (at 65)) 1))))
+      (and_command (lone (go_to (at 68) (mention (at 73) (codes "S")))) no_command))
+      (at 76)) no_state) no_state;
 }
 
 -- a number and a level on the one input

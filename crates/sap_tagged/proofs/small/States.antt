@@ -5,7 +5,7 @@ use Rattle.std.proofs.lemmas.List.{length-take-le, length-drop}
 use Rattle.std.proofs.Math.Pow.{pow_pos}
 use Rattle.sap_bits.specs.declared.Op2.TheVariants.{Eq}
 use Rattle.sap_maps.specs.Term.{Term, constant, two}
-use Rattle.sap_meaning.specs.Program.{root, listed, Command, Do, Try, If, TryThen, Case, Arms, Last, Arm, Block, End, Then, Node, Group, None, More}
+use Rattle.sap_meaning.specs.Program.{root, listed, Command, lone, try, if_else, try_then, case_of, Arms, last_arm, and_arm, Block, end_block, command_then, state_node, Group, no_node, and_node}
 use Rattle.sap_meaning.specs.Expressions.{width_of}
 use Rattle.sap_meaning.specs.Checks.{Spot}
 use Rattle.sap_meaning.specs.Runs.{listed_alone}
@@ -13,7 +13,7 @@ use Rattle.sap_ir.specs.Plain.Nested.{Body, stop, cases, Forest, state_names}
 use Rattle.sap_size.specs.Terms.{term_size}
 use Rattle.sap_size.specs.Nested.{states_in, body_weight, forest_weight}
 use Rattle.sap_size.specs.Programs.{command_size, arms_size, block_size, group_size, states_below}
-use Rattle.sap_tagged.specs.Keys.{Tag, Wire, First}
+use Rattle.sap_tagged.specs.Keys.{tag_key, wire_key, first_key}
 use Rattle.sap_tagged.specs.Setting.{Setting}
 use Rattle.sap_tagged.specs.Levels.{var, expr}
 use Rattle.sap_tagged.specs.Commands.{gives, raises, arm_count, pick_width, picks_arm, picks, decides, pick_of, select_of, wires, wires_block, command_plain, arms_plain, block_plain}
@@ -27,12 +27,12 @@ use Rattle.std.proofs.Math.Nat.{mul-le-mul_left}
 -- the constants of all arms, and all blocks
 
 abbrev constant_count : Arms → ℕ
-constant_count (Last b) = 0
-constant_count (Arm constants b arms) = length constants + constant_count arms
+constant_count (last_arm b) = 0
+constant_count (and_arm constants b arms) = length constants + constant_count arms
 
 arms_fewer : (arms : Arms) → FewArms arms → arm_count arms ≤ constant_count arms
-arms_fewer (Last b) n = omega arith
-arms_fewer (Arm constants b arms) n = let r = arms_fewer arms n.2 in let l = n.0 in omega (arith, r, l)
+arms_fewer (last_arm b) n = omega arith
+arms_fewer (and_arm constants b arms) n = let r = arms_fewer arms n.2 in let l = n.0 in omega (arith, r, l)
 
 abbrev total : Forest → List Body → ℕ
 total group [] = 0
@@ -52,7 +52,7 @@ module _ (d : Setting) (room : ℕ) (r : Roomy d room) where
         let v = r.levels in
         let t = tag_weighs d e in
         let o = expr_weighs d e in
-        let l = lub_weighs (var d (Wire p)) (var d (Wire k)) in
+        let l = lub_weighs (var d (wire_key p)) (var d (wire_key k)) in
         let s = raises_weigh group d hangs k (cases (expr d e) a b stop) in
         let m : term_size e * 22 ≤ term_size e * room = mul-le-mul_left (term_size e) (omega (arith, w, v)) in
         omega (arith, w, v, t, o, l, s, m)
@@ -63,13 +63,13 @@ module _ (d : Setting) (room : ℕ) (r : Roomy d room) where
     arm_picks_weigh u n w j i [] rest = omega arith
     arm_picks_weigh u n w j i (c ∷ cs) rest =
         let q = arm_picks_weigh u n w j i cs rest in
-        let e = two_weighs Eq (var d (Wire n)) (constant u c) in
-        let o = choose_weighs (two Eq (var d (Wire n)) (constant u c)) (constant w i) (var d (Wire j)) in
+        let e = two_weighs Eq (var d (wire_key n)) (constant u c) in
+        let o = choose_weighs (two Eq (var d (wire_key n)) (constant u c)) (constant w i) (var d (wire_key j)) in
         omega (arith, q, e, o)
 
     picks_weigh : (u n w j i : ℕ) (arms : Arms) (rest : Body) → body_weight group (picks d u n w j i arms rest) ≤ 1 + 3 * constant_count arms + body_weight group rest
-    picks_weigh u n w j i (Last b) rest = omega arith
-    picks_weigh u n w j i (Arm constants b arms) rest =
+    picks_weigh u n w j i (last_arm b) rest = omega arith
+    picks_weigh u n w j i (and_arm constants b arms) rest =
         let q = picks_weigh u n w j (suc i) arms (picks_arm d u n w j i constants rest) in
         let a = arm_picks_weigh u n w j i constants rest in
         omega (arith, q, a)
@@ -89,7 +89,7 @@ module _ (d : Setting) (room : ℕ) (r : Roomy d room) where
           let x = decides_weigh j m (take (2 ^ m) bs) (omega (arith, first, p)) in
           let y = decides_weigh j m (drop (2 ^ m) bs) (omega (arith, last, a)) in
           let z = total_split group (2 ^ m) bs in
-          let o = part_weighs (var d (Wire j)) m m in
+          let o = part_weighs (var d (wire_key j)) m m in
           omega (arith, a, first, last, x, y, z, o))
     ]
 
@@ -101,7 +101,7 @@ module _ (d : Setting) (room : ℕ) (r : Roomy d room) where
         let v = r.levels in
         let t = tag_weighs d e in
         let o = expr_weighs d e in
-        let l = lub_weighs (var d (Wire p)) (var d (Wire k)) in
+        let l = lub_weighs (var d (wire_key p)) (var d (wire_key k)) in
         let width = pick_width arms in
         let choice = decides d (k + 3) width blocks in
         let s = raises_weigh group d hangs k (picks d (width_of d.world e) (k + 2) width (k + 3) 0 arms choice) in
@@ -114,44 +114,44 @@ module _ (d : Setting) (room : ℕ) (r : Roomy d room) where
 
     blocks_counted : (p k : ℕ) (arms : Arms) → length (arms_plain d at p k arms) ≡ suc (arm_count arms)
     unfolding arms_plain
-    blocks_counted p k (Last b) = refl
-    blocks_counted p k (Arm constants b arms) = let i = blocks_counted p (k + wires_block b) arms in omega (arith, i)
+    blocks_counted p k (last_arm b) = refl
+    blocks_counted p k (and_arm constants b arms) = let i = blocks_counted p (k + wires_block b) arms in omega (arith, i)
 
     mutual
       unfolding command_plain arms_plain block_plain
 
       command_weighs : (p k : ℕ) (c : Command) → Few c → body_weight group (command_plain d at p k c) ≤ room * command_size c
-      command_weighs p k (Do s) n =
+      command_weighs p k (lone s) n =
           let a = attempt_weighs d room r at few group small p k s (listed_alone d.world at s) stop in omega (arith, a)
-      command_weighs p k (Try s hang h) n =
+      command_weighs p k (try s hang h) n =
           let a = attempt_weighs d room r at few group small p k s (listed hang) (block_plain d at (k + 2) (k + 5) h) in
           let b = block_weighs (k + 2) (k + 5) h n in
           omega (arith, a, b)
-      command_weighs p k (If hang e a b) n =
+      command_weighs p k (if_else hang e a b) n =
           let s = select_weighs p k e (listed hang) (block_plain d at (k + 1) (k + 2) a) (block_plain d at (k + 1) (k + 2 + wires_block a) b) in
           let x = block_weighs (k + 1) (k + 2) a n.0 in
           let y = block_weighs (k + 1) (k + 2 + wires_block a) b n.1 in
           omega (arith, s, x, y)
-      command_weighs p k (TryThen s hang a b) n =
+      command_weighs p k (try_then s hang a b) n =
           let q = attempt_then_weighs d room r at few group small p k s (listed hang) (block_plain d at (k + 2) (k + 5) a) (block_plain d at (k + 2) (k + 5 + wires_block a) b) in
           let x = block_weighs (k + 2) (k + 5) a n.0 in
           let y = block_weighs (k + 2) (k + 5 + wires_block a) b n.1 in
           omega (arith, q, x, y)
-      command_weighs p k (Case hang e arms) n =
+      command_weighs p k (case_of hang e arms) n =
           let q = pick_weighs p k e (listed hang) arms (arms_plain d at (k + 1) (k + 4) arms) n.1 (blocks_counted (k + 1) (k + 4) arms) in
           let x = arms_weigh (k + 1) (k + 4) arms n.1 in
           omega (arith, q, x)
 
       arms_weigh : (p k : ℕ) (arms : Arms) → FewArms arms → total group (arms_plain d at p k arms) + room * constant_count arms ≤ room * arms_size arms
-      arms_weigh p k (Last b) n = let x = block_weighs p k b n in omega (arith, x)
-      arms_weigh p k (Arm constants b arms) n =
+      arms_weigh p k (last_arm b) n = let x = block_weighs p k b n in omega (arith, x)
+      arms_weigh p k (and_arm constants b arms) n =
           let x = block_weighs p k b n.1 in
           let y = arms_weigh p (k + wires_block b) arms n.2 in
           omega (arith, x, y)
 
       block_weighs : (p k : ℕ) (b : Block) → FewBlock b → body_weight group (block_plain d at p k b) ≤ room * block_size b
-      block_weighs p k End n = omega arith
-      block_weighs p k (Then c cs) n =
+      block_weighs p k end_block n = omega arith
+      block_weighs p k (command_then c cs) n =
           let x = command_weighs p k c n.0 in
           let y = block_weighs p (k + wires c) cs n.1 in
           let f = follow_weighs group (command_plain d at p k c) (block_plain d at p (k + wires c) cs) in
@@ -161,8 +161,8 @@ module _ (d : Setting) (room : ℕ) (r : Roomy d room) where
 
   group_states : (parent k : ℕ) (g : Group) → states_in (group_plain d parent k g) ≡ states_below g
   unfolding group_plain
-  group_states parent k None = refl
-  group_states parent k (More (Node s b g) rest) =
+  group_states parent k no_node = refl
+  group_states parent k (and_node (state_node s b g) rest) =
       let kids = group_plain d s (k + 1 + wires_block b) g in
       let others = group_plain d parent (k + (1 + wires_block b + wires_group g)) rest in
       let x = group_states s (k + 1 + wires_block b) g in
@@ -172,8 +172,8 @@ module _ (d : Setting) (room : ℕ) (r : Roomy d room) where
 
   group_weighs : (group : Forest) → states_in group ≤ root d.world → (parent k : ℕ) (g : Group) → states_below g ≤ root d.world → FewGroup g → forest_weight group (group_plain d parent k g) ≤ room * group_size g
   unfolding group_plain
-  group_weighs group small parent k None few arms = omega arith
-  group_weighs group small parent k (More (Node s b g) rest) few arms =
+  group_weighs group small parent k no_node few arms = omega arith
+  group_weighs group small parent k (and_node (state_node s b g) rest) few arms =
       let w = r.wide in
       let v = r.levels in
       let at : Spot = record { state = s; parent = parent; children = g } in
@@ -186,8 +186,8 @@ module _ (d : Setting) (room : ℕ) (r : Roomy d room) where
 
   top_states : (hangs : ℕ → Bool) (k : ℕ) (g : Group) → states_in (top_plain d hangs k g) ≡ states_below g
   unfolding top_plain
-  top_states hangs k None = refl
-  top_states hangs k (More (Node s b g) rest) =
+  top_states hangs k no_node = refl
+  top_states hangs k (and_node (state_node s b g) rest) =
       let kids = group_plain d s (k + 1 + wires_block b) g in
       let others = top_plain d hangs (k + (1 + wires_block b + wires_group g)) rest in
       let x = group_states s (k + 1 + wires_block b) g in
@@ -197,8 +197,8 @@ module _ (d : Setting) (room : ℕ) (r : Roomy d room) where
 
   tops_weigh : (group : Forest) → states_in group ≤ root d.world → (hangs : ℕ → Bool) (k : ℕ) (g : Group) → states_below g ≤ root d.world → FewGroup g → forest_weight group (top_plain d hangs k g) ≤ room * group_size g
   unfolding top_plain
-  tops_weigh group small hangs k None few arms = omega arith
-  tops_weigh group small hangs k (More (Node s b g) rest) few arms =
+  tops_weigh group small hangs k no_node few arms = omega arith
+  tops_weigh group small hangs k (and_node (state_node s b g) rest) few arms =
       let w = r.wide in
       let v = r.levels in
       let at : Spot = record { state = s; parent = root d.world; children = g } in
@@ -208,7 +208,7 @@ module _ (d : Setting) (room : ℕ) (r : Roomy d room) where
       let raised = raises d hangs k body in
       let x = block_weighs at (omega (arith, few)) group small k (k + 1) b arms.0.0 in
       let q = raises_weigh group d hangs k body in
-      let u = sweep_weighs group d First (saved d.world) (λ m. var d (Tag m)) 1 (λ m. omega arith) 0 (root d.world) (gives d (Wire k) (var d (Tag s)) raised) in
+      let u = sweep_weighs group d first_key (saved d.world) (λ m. var d (tag_key m)) 1 (λ m. omega arith) 0 (root d.world) (gives d (wire_key k) (var d (tag_key s)) raised) in
       let y = group_weighs kids (omega (arith, few, n)) s (k + 1 + wires_block b) g (omega (arith, few)) arms.0.1 in
       let z = tops_weigh group small hangs (k + (1 + wires_block b + wires_group g)) rest (omega (arith, few)) arms.1 in
       omega (arith, w, v, x, q, u, y, z)

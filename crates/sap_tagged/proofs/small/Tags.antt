@@ -6,12 +6,12 @@ use Rattle.std.proofs.Math.Nat.{mul-le-mul_left}
 use Rattle.sap_bits.specs.declared.Op2.TheVariants.{Eq}
 use Rattle.sap_maps.specs.Maps.{Name}
 use Rattle.sap_maps.specs.Term.{Term, constant, read, cell, one, two, choose, join, part}
-use Rattle.sap_meaning.specs.Program.{root, is_dynamic, LevelTerm, fixed, of, at_place, both, Node, Group, None, More}
+use Rattle.sap_meaning.specs.Program.{root, is_dynamic, LevelTerm, fixed, of, at_place, both, state_node, Group, no_node, and_node}
 use Rattle.sap_meaning.specs.Expressions.{width_of}
 use Rattle.sap_size.specs.Terms.{operations_in, operations, term_size}
 use Rattle.sap_size.specs.Programs.{level_size, states_below}
 use Rattle.sap_size.proofs.Terms.{has, has_front, has_behind, operations_within}
-use Rattle.sap_tagged.specs.Keys.{Tag}
+use Rattle.sap_tagged.specs.Keys.{tag_key}
 use Rattle.sap_tagged.specs.Setting.{Setting}
 use Rattle.sap_tagged.specs.Levels.{var, lub, expr, cell_tag, tag_of, place_width, widened, placed, new_tag, told_tag, child_tag, enters, child_enters}
 use Rattle.sap_tagged.proofs.small.Held.{Held, Covers, held_none, held_first, held_rest, held_front, held_behind, held_more, held_both, two_weighs, choose_weighs, lub_weighs, below_weighs}
@@ -99,7 +99,7 @@ module _ (d : Setting) where
   cell_covered xs m i h k =
       elim (cases_Bool (is_dynamic d.world m)) [
         | inl t ↦ rw t (held_none xs)
-        | inr f ↦ rw f (held_more xs (cell (d.name (Tag m)) (expr d i)) (operations_in (expr d i)) (rw f at h) k)
+        | inr f ↦ rw f (held_more xs (cell (d.name (tag_key m)) (expr d i)) (operations_in (expr d i)) (rw f at h) k)
       ]
 
   tag_covered : (xs : List (Term Name)) (e : Term ℕ) → Held xs (tag_list e) → Covers xs (expr d e) → Covers xs (tag_of d e)
@@ -224,24 +224,24 @@ module _ (d : Setting) where
   -- the current child
 
   pub child_tag_weighs : (u : ℕ) (seat : Name) (g : Group) (i : ℕ) → operations (child_tag d u (read seat) g i) ≤ 2 * states_below g
-  child_tag_weighs u seat None i = omega arith
-  child_tag_weighs u seat (More (Node c b k) None) i = omega arith
-  child_tag_weighs u seat (More (Node c b k) (More t g)) i =
-      let r = child_tag_weighs u seat (More t g) (i + 1) in
+  child_tag_weighs u seat no_node i = omega arith
+  child_tag_weighs u seat (and_node (state_node c b k) no_node) i = omega arith
+  child_tag_weighs u seat (and_node (state_node c b k) (and_node t g)) i =
+      let r = child_tag_weighs u seat (and_node t g) (i + 1) in
       let p = two_weighs Eq (read seat) (constant u i) in
-      let q = choose_weighs (two Eq (read seat) (constant u i)) (var d (Tag c)) (child_tag d u (read seat) (More t g) (i + 1)) in
+      let q = choose_weighs (two Eq (read seat) (constant u i)) (var d (tag_key c)) (child_tag d u (read seat) (and_node t g) (i + 1)) in
       omega (arith, r, p, q)
 
   pub enters_weighs : (pc : Name) (c : ℕ) → operations (enters d (read pc) c) ≤ 2
   enters_weighs pc c =
-      let b = below_weighs (read pc) (var d (Tag c)) in either_weighs (is_dynamic d.world c) _ _ 2 (omega arith) (omega (arith, b))
+      let b = below_weighs (read pc) (var d (tag_key c)) in either_weighs (is_dynamic d.world c) _ _ 2 (omega arith) (omega (arith, b))
 
   pub child_enters_weighs : (pc : Name) (u : ℕ) (seat : Name) (g : Group) (i : ℕ) → operations (child_enters d (read pc) u (read seat) g i) ≤ 4 * states_below g
-  child_enters_weighs pc u seat None i = omega arith
-  child_enters_weighs pc u seat (More (Node c b k) None) i = let e = enters_weighs pc c in omega (arith, e)
-  child_enters_weighs pc u seat (More (Node c b k) (More t g)) i =
-      let r = child_enters_weighs pc u seat (More t g) (i + 1) in
+  child_enters_weighs pc u seat no_node i = omega arith
+  child_enters_weighs pc u seat (and_node (state_node c b k) no_node) i = let e = enters_weighs pc c in omega (arith, e)
+  child_enters_weighs pc u seat (and_node (state_node c b k) (and_node t g)) i =
+      let r = child_enters_weighs pc u seat (and_node t g) (i + 1) in
       let e = enters_weighs pc c in
       let p = two_weighs Eq (read seat) (constant u i) in
-      let q = choose_weighs (two Eq (read seat) (constant u i)) (enters d (read pc) c) (child_enters d (read pc) u (read seat) (More t g) (i + 1)) in
+      let q = choose_weighs (two Eq (read seat) (constant u i)) (enters d (read pc) c) (child_enters d (read pc) u (read seat) (and_node t g) (i + 1)) in
       omega (arith, r, e, p, q)

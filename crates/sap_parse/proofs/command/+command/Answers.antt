@@ -20,7 +20,7 @@ use Rattle.sap_parse.proofs.command.+command.Goals as goal
 
 pub commands-returns-in_err-next-clause-goes : goal.commands-returns-in_err-next-clause-goes
 commands-returns-in_err-next-clause-goes m c =
-    fault_goes (s.Cmds c.args.depth) (s.Cmd c.args.depth) c.args.tokens.now c.commands.tokens c.command.new.tokens (steps_by strictly (s.Cmds c.args.depth ∷ [])) c.in_err-next.field-0.0 c.from_residual.result (search rules)
+    fault_goes (s.cmds c.args.depth) (s.cmd c.args.depth) c.args.tokens.now c.commands.tokens c.command.new.tokens (steps_by strictly (s.cmds c.args.depth ∷ [])) c.in_err-next.field-0.0 c.from_residual.result (search rules)
     (c.commands.invariant.goes ∙ cmds_there strictly c.args.depth c.commands.tokens (c.commands-test.ensures.yes refl)) c.in_err-next.ensures.goes
 
 pub commands-commands-preserved : goal.commands-commands-preserved
@@ -28,17 +28,17 @@ commands-commands-preserved m c = record {
   goes = c.commands.invariant.goes ∙ cmds_there strictly c.args.depth c.commands.tokens (c.commands-test.ensures.yes refl) ∙ bind_ok _ _ _ c.in_ok-next.ensures.goes ∙ bind_pure _;
   tree = λ ys q rest.
       subst (λ xs. g.Cmds c.args.depth c.args.tokens.now xs q) (sym (ap (λ items. join_commands (commands_of items) ys) c.in_ok-push.ensures.items ∙ join_commands_push _ _ ys))
-      (c.commands.invariant.tree (t.AndCommand (command_of c.in_ok-next.next) ys) q (g.cmd c.in_ok-next.ensures.tree rest));
+      (c.commands.invariant.tree (t.and_command (command_of c.in_ok-next.next) ys) q (g.cmd c.in_ok-next.ensures.tree rest));
   no_longer = omega (arith, c.in_ok-next.ensures.shorter);
 }
 
 pub commands-returns-clause-tree : goal.commands-returns-clause-tree
 commands-returns-clause-tree m c =
-    subst (λ xs. g.Cmds c.args.depth c.args.tokens.now xs c.commands.tokens) (join_commands_none _) (c.commands.invariant.tree t.NoCommand c.commands.tokens g.no_cmd)
+    subst (λ xs. g.Cmds c.args.depth c.args.tokens.now xs c.commands.tokens) (join_commands_none _) (c.commands.invariant.tree t.no_command c.commands.tokens g.no_cmd)
 
 pub command-returns-in_err-sign-clause-goes : goal.command-returns-in_err-sign-clause-goes
 command-returns-in_err-sign-clause-goes m c =
-    fault_goes (s.Cmd c.args.depth) (s.Sign r.Plain j.Semicolon) c.args.tokens.now c.simple.new.tokens c.sign.new.self (steps_by strictly []) c.in_err-sign.field-0.0 c.from_residual-in_err-sign.result (search rules)
+    fault_goes (s.cmd c.args.depth) (s.sign r.Plain j.Semicolon) c.args.tokens.now c.simple.new.tokens c.sign.new.self (steps_by strictly []) c.in_err-sign.field-0.0 c.from_residual-in_err-sign.result (search rules)
     (cmd_simple strictly c.args.depth c.args.tokens.now (c.if-at_word.ensures.no refl) (c.if-at_word-2.ensures.no refl) ∙ bind_ok _ _ _ c.in_ok-read.ensures.goes ∙ ap (λ o. o >>= steps_by strictly []) (ending_unhandled strictly c.args.depth c.simple.new.tokens (c.if-at_word-3.ensures.no refl) (c.if-not-at_word.ensures.no refl)))
     c.in_err-sign.ensures.goes
 
@@ -83,11 +83,11 @@ pub more_arms-arms-preserved : goal.more_arms-arms-preserved
 more_arms-arms-preserved m c = record {
   goes = c.arms.invariant.goes ∙ arms_there strictly c.args.depth c.arms.tokens (sym c.arms-test.ensures) ∙ bind_ok _ _ _ c.in_ok-next.ensures.goes ∙ bind_pure _;
   tree = λ ys q rest.
-      let r = c.arms.invariant.tree (t.Arm (constants_of c.in_ok-next.next) (arm_block_of c.in_ok-next.next) ys) q (g.and_arm c.in_ok-next.ensures.tree rest) in
+      let r = c.arms.invariant.tree (t.and_arm (constants_of c.in_ok-next.next) (arm_block_of c.in_ok-next.next) ys) q (g.and_arm c.in_ok-next.ensures.tree rest) in
       (r.0, ap (λ items. arms_before items ys) c.in_ok-push.ensures.items ∙ arms_before_push _ _ ys ∙ r.1, r.2);
   no_longer = omega (arith, c.in_ok-next.ensures.shorter);
 }
 
 pub more_arms-returns-clause-tree : goal.more_arms-returns-clause-tree
 more_arms-returns-clause-tree m c =
-    IfOk-weaker c.block.result _ _ (λ last h. c.arms.invariant.tree (t.Last (block_of last)) c.block.new.tokens (g.last c.in_ok-word.ensures.tree h)) c.block.ensures.tree
+    IfOk-weaker c.block.result _ _ (λ last h. c.arms.invariant.tree (t.last_arm (block_of last)) c.block.new.tokens (g.last c.in_ok-word.ensures.tree h)) c.block.ensures.tree

@@ -26,7 +26,7 @@ decreases-block l = 6 * length l.tokens.now.left
 
 abbrev pub invariant-commands-commands : goal.invariant-commands-commands
 invariant-commands-commands l = record {
-  goes : reads (s.Cmds l.depth) l.fn.tokens ≡ reads (s.Cmds l.depth) l.tokens;
+  goes : reads (s.cmds l.depth) l.fn.tokens ≡ reads (s.cmds l.depth) l.tokens;
   tree : (ys : CommandList) (q : Stage) → g.Cmds l.depth l.tokens ys q → g.Cmds l.depth l.fn.tokens (join_commands (commands_of l.list.items) ys) q;
   no_longer : length l.tokens.left ≤ length l.fn.tokens.left;
 }
@@ -46,7 +46,7 @@ decreases-arm l = 6 * length l.tokens.now.left + 1
 -- the arms that were added, and what is left
 abbrev pub invariant-more_arms-arms : goal.invariant-more_arms-arms
 invariant-more_arms-arms l = record {
-  goes : reads (s.Arms l.depth) l.fn.tokens ≡ reads (s.Arms l.depth) l.tokens;
+  goes : reads (s.arms l.depth) l.fn.tokens ≡ reads (s.arms l.depth) l.tokens;
   tree : (ys : Arms) (q : Stage) → g.Arms l.depth l.tokens ys q → (xs : Arms) × (arms_before l.arms.items ys ≡ arms_before l.fn.arms.items xs) × g.Arms l.depth l.fn.tokens xs q;
   no_longer : length l.tokens.left ≤ length l.fn.tokens.left;
 }

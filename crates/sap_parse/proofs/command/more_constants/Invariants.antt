@@ -10,7 +10,7 @@ use Rattle.sap_parse.proofs.command.more_constants.Given as goal
 
 abbrev pub invariant-constants : goal.invariant-constants
 invariant-constants l = record {
-  goes : reads s.Constants l.fn.tokens ≡ reads s.Constants l.tokens;
+  goes : reads s.constants l.fn.tokens ≡ reads s.constants l.tokens;
   tree : (ys : Expressions) (q : Stage) → g.Constants l.tokens ys q
       → (xs : Expressions) × (join (expressions_of l.constants.items) ys ≡ join (expressions_of l.fn.constants.items) xs) × g.Constants l.fn.tokens xs q;
   no_longer : length l.tokens.left ≤ length l.fn.tokens.left;

@@ -11,7 +11,7 @@ use Rattle.sap_parse.proofs.declaration.declarations.Goals as goal
 
 pub returns-in_err-next-clause-goes : goal.returns-in_err-next-clause-goes
 returns-in_err-next-clause-goes c =
-    fault_goes s.Declarations s.Declaration c.args.tokens.now c.declarations.tokens c.declaration.new.tokens (steps_by strictly (s.Declarations ∷ [])) c.in_err-next.field-0.0 c.from_residual.result (search rules)
+    fault_goes s.declarations s.declaration c.args.tokens.now c.declarations.tokens c.declaration.new.tokens (steps_by strictly (s.declarations ∷ [])) c.in_err-next.field-0.0 c.from_residual.result (search rules)
     (c.declarations.invariant.goes ∙ declarations_there strictly c.declarations.tokens (c.declarations-test.ensures.yes refl)) c.in_err-next.ensures.goes
 
 pub declarations-preserved : goal.declarations-preserved

@@ -8,7 +8,7 @@ use Rattle.sap_parse.proofs.declaration.declarations.Given as goal
 
 abbrev pub invariant-declarations : goal.invariant-declarations
 invariant-declarations l = record {
-  goes : reads s.Declarations l.fn.tokens ≡ reads s.Declarations l.tokens;
+  goes : reads s.declarations l.fn.tokens ≡ reads s.declarations l.tokens;
   tree : (ys : List Decl) (q : Stage) → g.Declarations l.tokens ys q → g.Declarations l.fn.tokens (l.list.items ++ ys) q;
   no_longer : length l.tokens.left ≤ length l.fn.tokens.left;
 }

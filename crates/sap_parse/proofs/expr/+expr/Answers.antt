@@ -34,17 +34,17 @@ bin-operators-init m c = record {
 pub bin-returns-in_err-place-clause-goes : goal.bin-returns-in_err-place-clause-goes
 bin-returns-in_err-place-clause-goes m c =
     let there : operator_at c.args.level (ahead c.operators.tokens.left) ≡ Some c.in-Some.operator = ap (operator_at c.args.level) (sym c.peek.ensures) ∙ sym c.in-Some.ensures in
-    fault_goes (s.Bin c.args.level) (s.Sign r.Inner c.sign_of.result) c.args.tokens.now c.operators.tokens c.sign.new.self (steps_by strictly (s.Bin (c.args.level + 1) ∷ s.Tail c.args.level ∷ [])) c.in_err-place.field-0.0 c.from_residual-in_err-place.result (search rules)
+    fault_goes (s.bin c.args.level) (s.sign r.Inner c.sign_of.result) c.args.tokens.now c.operators.tokens c.sign.new.self (steps_by strictly (s.bin (c.args.level + 1) ∷ s.tail c.args.level ∷ [])) c.in_err-place.field-0.0 c.from_residual-in_err-place.result (search rules)
     (c.operators.invariant.goes ∙ tail_there strictly c.operators.tokens c.args.level c.in-Some.operator there
-    ∙ ap (λ x. steps_by strictly (s.Sign r.Inner x ∷ s.Bin (c.args.level + 1) ∷ s.Tail c.args.level ∷ []) c.operators.tokens) (sym c.sign_of.ensures))
+    ∙ ap (λ x. steps_by strictly (s.sign r.Inner x ∷ s.bin (c.args.level + 1) ∷ s.tail c.args.level ∷ []) c.operators.tokens) (sym c.sign_of.ensures))
     c.in_err-place.ensures.goes
 
 pub bin-returns-in_err-right-clause-goes : goal.bin-returns-in_err-right-clause-goes
 bin-returns-in_err-right-clause-goes m c =
     let there : operator_at c.args.level (ahead c.operators.tokens.left) ≡ Some c.in-Some.operator = ap (operator_at c.args.level) (sym c.peek.ensures) ∙ sym c.in-Some.ensures in
-    fault_goes (s.Bin c.args.level) (s.Bin (c.args.level + 1)) c.args.tokens.now c.sign.new.self c.bin-in-Some.new.tokens (steps_by strictly (s.Tail c.args.level ∷ [])) c.in_err-right.field-0.0 c.from_residual-in_err-right.result (search rules)
+    fault_goes (s.bin c.args.level) (s.bin (c.args.level + 1)) c.args.tokens.now c.sign.new.self c.bin-in-Some.new.tokens (steps_by strictly (s.tail c.args.level ∷ [])) c.in_err-right.field-0.0 c.from_residual-in_err-right.result (search rules)
     (c.operators.invariant.goes ∙ tail_there strictly c.operators.tokens c.args.level c.in-Some.operator there
-    ∙ ap (λ x. steps_by strictly (s.Sign r.Inner x ∷ s.Bin (c.args.level + 1) ∷ s.Tail c.args.level ∷ []) c.operators.tokens) (sym c.sign_of.ensures)
+    ∙ ap (λ x. steps_by strictly (s.sign r.Inner x ∷ s.bin (c.args.level + 1) ∷ s.tail c.args.level ∷ []) c.operators.tokens) (sym c.sign_of.ensures)
     ∙ bind_ok _ _ _ c.in_ok-place.ensures.goes)
     c.in_err-right.ensures.goes
 
@@ -54,7 +54,7 @@ bin-operators-preserved m c =
     record {
       below = c.operators.invariant.below;
       goes = c.operators.invariant.goes ∙ tail_there strictly c.operators.tokens c.args.level c.in-Some.operator there
-          ∙ ap (λ x. steps_by strictly (s.Sign r.Inner x ∷ s.Bin (c.args.level + 1) ∷ s.Tail c.args.level ∷ []) c.operators.tokens) (sym c.sign_of.ensures)
+          ∙ ap (λ x. steps_by strictly (s.sign r.Inner x ∷ s.bin (c.args.level + 1) ∷ s.tail c.args.level ∷ []) c.operators.tokens) (sym c.sign_of.ensures)
           ∙ bind_ok _ _ _ c.in_ok-place.ensures.goes ∙ bind_ok _ _ _ c.in_ok-right.ensures.goes ∙ bind_pure _;
       tree = λ y q rest. c.operators.invariant.tree y q
           (other_tree c.in-Some.operator (operator_level strictly c.operators.tokens c.args.level c.in-Some.operator there)
@@ -75,7 +75,7 @@ pub more_parts-others-preserved : goal.more_parts-others-preserved
 more_parts-others-preserved m c = record {
   goes = c.others.invariant.goes ∙ parts_there strictly c.others.tokens (c.others-test.ensures.yes refl) ∙ bind_ok _ _ _ c.in_ok-sign.ensures.goes ∙ bind_ok _ _ _ c.in_ok-part.ensures.goes ∙ bind_pure _;
   tree = λ ys q rest.
-      let h = c.others.invariant.tree (t.AndPart (expression_of c.in_ok-part.part) ys) q (g.part c.in_ok-sign.ensures.tree c.in_ok-part.ensures.tree rest) in
+      let h = c.others.invariant.tree (t.and_part (expression_of c.in_ok-part.part) ys) q (g.part c.in_ok-sign.ensures.tree c.in_ok-part.ensures.tree rest) in
       (h.0, ap (λ items. join (expressions_of items) ys) c.in_ok-push.ensures.items ∙ join_push _ _ ys ∙ h.1, h.2);
   no_longer = omega (arith, c.in_ok-part.ensures.shorter, c.in_ok-sign.ensures.shorter);
 }
@@ -85,7 +85,7 @@ more_parts-returns-clause-goes m c = c.others.invariant.goes ∙ parts_missing s
 
 pub more_parts-returns-clause-tree : goal.more_parts-returns-clause-tree
 more_parts-returns-clause-tree m c =
-    let h = c.others.invariant.tree t.NoPart c.others.tokens g.no_part in
+    let h = c.others.invariant.tree t.no_part c.others.tokens g.no_part in
     (h.0, sym (join_none _) ∙ h.1, h.2)
 
 pub braces-returns-clause-tree : goal.braces-returns-clause-tree
@@ -100,7 +100,7 @@ braces-returns-clause-tree m c =
 pub cell-returns-clause-tree : goal.cell-returns-clause-tree
 cell-returns-clause-tree m c =
     indexes_tree c.slices.result c.slices.new.tokens (both c.args.name.place) c.args.name.name c.in_ok-index.ensures.tree c.in_ok-sign.ensures.tree
-    (c.cell.ensures ∙ ap (λ spot. t.Cell spot c.args.name.name (expression_of c.in_ok-index-2.index.value)) c.spot.ensures ∙ ap (λ (x : Expr). t.Cell (both c.args.name.place) c.args.name.name (expression_of x)) c.in_ok-index-2.ensures.ok)
+    (c.cell.ensures ∙ ap (λ spot. t.cell_at spot c.args.name.name (expression_of c.in_ok-index-2.index.value)) c.spot.ensures ∙ ap (λ (x : Expr). t.cell_at (both c.args.name.place) c.args.name.name (expression_of x)) c.in_ok-index-2.ensures.ok)
     c.slices.ensures.tree
 
 pub named-returns-then-not-at_sign-clause-tree : goal.named-returns-then-not-at_sign-clause-tree
@@ -132,8 +132,8 @@ pub expr-returns-clause-tree : goal.expr-returns-clause-tree
 expr-returns-clause-tree m c =
     choice_tree c.in_ok-first.ensures.tree c.in_ok-place.ensures.tree c.in_ok-second.ensures.tree c.in_ok-sign.ensures.tree c.in_ok-other.ensures.tree c.in_ok-place.ensures.place
     (c.first.ensures ∙ ap (λ (x : Expr). first_of (expression_of x)) (search rules))
-    (c.in_ok-choose.ensures ∙ ap (λ (x : Expr). t.Choose (from_to c.first.result c.in_ok-place.place) (expression_of x) (expression_of c.in_ok-one.one.value) (expression_of c.in_ok-other.other)) c.in_ok-condition.ensures.ok
-    ∙ ap (λ (x : Expr). t.Choose (from_to c.first.result c.in_ok-place.place) (expression_of c.in_ok-first.first) (expression_of x) (expression_of c.in_ok-other.other)) c.in_ok-one.ensures.ok)
+    (c.in_ok-choose.ensures ∙ ap (λ (x : Expr). t.choice (from_to c.first.result c.in_ok-place.place) (expression_of x) (expression_of c.in_ok-one.one.value) (expression_of c.in_ok-other.other)) c.in_ok-condition.ensures.ok
+    ∙ ap (λ (x : Expr). t.choice (from_to c.first.result c.in_ok-place.place) (expression_of c.in_ok-first.first) (expression_of x) (expression_of c.in_ok-other.other)) c.in_ok-one.ensures.ok)
 
 pub paren-returns-clause-tree : goal.paren-returns-clause-tree
 paren-returns-clause-tree m c =
@@ -143,22 +143,22 @@ paren-returns-clause-tree m c =
 pub unary-returns-in_err-place-in-Some-clause-goes : goal.unary-returns-in_err-place-in-Some-clause-goes
 unary-returns-in_err-place-in-Some-clause-goes m c =
     let there : unary_at (ahead c.args.tokens.now.left) ≡ Some c.in-Some.operator = ap unary_at (sym c.peek.ensures) ∙ sym c.in-Some.ensures in
-    fault_goes s.Unary (s.Sign r.Inner c.unary_sign_of.result) c.args.tokens.now c.args.tokens.now c.sign.new.self (steps_by strictly (s.Unary ∷ [])) c.in_err-place-in-Some.field-0.0 c.from_residual.result (search rules)
-    (unary_there strictly c.args.tokens.now c.in-Some.operator there ∙ ap (λ x. steps_by strictly (s.Sign r.Inner x ∷ s.Unary ∷ []) c.args.tokens.now) (sym c.unary_sign_of.ensures))
+    fault_goes s.unary (s.sign r.Inner c.unary_sign_of.result) c.args.tokens.now c.args.tokens.now c.sign.new.self (steps_by strictly (s.unary ∷ [])) c.in_err-place-in-Some.field-0.0 c.from_residual.result (search rules)
+    (unary_there strictly c.args.tokens.now c.in-Some.operator there ∙ ap (λ x. steps_by strictly (s.sign r.Inner x ∷ s.unary ∷ []) c.args.tokens.now) (sym c.unary_sign_of.ensures))
     c.in_err-place-in-Some.ensures.goes
 
 pub unary-returns-in_err-operand-in-Some-clause-goes : goal.unary-returns-in_err-operand-in-Some-clause-goes
 unary-returns-in_err-operand-in-Some-clause-goes m c =
     let there : unary_at (ahead c.args.tokens.now.left) ≡ Some c.in-Some.operator = ap unary_at (sym c.peek.ensures) ∙ sym c.in-Some.ensures in
-    fault_goes s.Unary s.Unary c.args.tokens.now c.sign.new.self c.unary.new.tokens (steps_by strictly []) c.in_err-operand-in-Some.field-0.0 c.from_residual-in_err-operand-in-Some.result (search rules)
-    (unary_there strictly c.args.tokens.now c.in-Some.operator there ∙ ap (λ x. steps_by strictly (s.Sign r.Inner x ∷ s.Unary ∷ []) c.args.tokens.now) (sym c.unary_sign_of.ensures)
+    fault_goes s.unary s.unary c.args.tokens.now c.sign.new.self c.unary.new.tokens (steps_by strictly []) c.in_err-operand-in-Some.field-0.0 c.from_residual-in_err-operand-in-Some.result (search rules)
+    (unary_there strictly c.args.tokens.now c.in-Some.operator there ∙ ap (λ x. steps_by strictly (s.sign r.Inner x ∷ s.unary ∷ []) c.args.tokens.now) (sym c.unary_sign_of.ensures)
     ∙ bind_ok _ _ _ c.in_ok-place-in-Some.ensures.goes)
     c.in_err-operand-in-Some.ensures.goes
 
 pub unary-returns-in_ok-unary-in-Some-clause-goes : goal.unary-returns-in_ok-unary-in-Some-clause-goes
 unary-returns-in_ok-unary-in-Some-clause-goes m c =
     let there : unary_at (ahead c.args.tokens.now.left) ≡ Some c.in-Some.operator = ap unary_at (sym c.peek.ensures) ∙ sym c.in-Some.ensures in
-    unary_there strictly c.args.tokens.now c.in-Some.operator there ∙ ap (λ x. steps_by strictly (s.Sign r.Inner x ∷ s.Unary ∷ []) c.args.tokens.now) (sym c.unary_sign_of.ensures)
+    unary_there strictly c.args.tokens.now c.in-Some.operator there ∙ ap (λ x. steps_by strictly (s.sign r.Inner x ∷ s.unary ∷ []) c.args.tokens.now) (sym c.unary_sign_of.ensures)
     ∙ bind_ok _ _ _ c.in_ok-place-in-Some.ensures.goes ∙ bind_pure _ ∙ c.in_ok-operand-in-Some.ensures.goes
 
 pub unary-returns-in_ok-unary-in-Some-clause-tree : goal.unary-returns-in_ok-unary-in-Some-clause-tree
@@ -173,4 +173,4 @@ pub zext-returns-clause-tree : goal.zext-returns-clause-tree
 zext-returns-clause-tree m c =
     zext_tree c.in_ok-place.ensures.tree c.in_ok-sign.ensures.tree c.in_ok-inner.ensures.tree c.in_ok-sign-2.ensures.tree c.in_ok-width.ensures.tree c.in_ok-sign-3.ensures.tree
     c.in_ok-place.ensures.place c.spot.ensures
-    (c.zext.ensures ∙ ap (λ (x : Expr). t.Zext c.spot.result (expression_of x) c.in_ok-width.width.value) c.in_ok-operand.ensures.ok)
+    (c.zext.ensures ∙ ap (λ (x : Expr). t.zero_extend c.spot.result (expression_of x) c.in_ok-width.width.value) c.in_ok-operand.ensures.ok)

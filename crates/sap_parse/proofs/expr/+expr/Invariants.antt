@@ -45,7 +45,7 @@ decreases-zext l = 20 * length l.tokens.now.left + 1
 abbrev pub invariant-bin-operators : goal.invariant-bin-operators
 invariant-bin-operators l = record {
   below : l.level < 9;
-  goes : reads (s.Bin l.level) l.fn.tokens ≡ reads (s.Tail l.level) l.tokens;
+  goes : reads (s.bin l.level) l.fn.tokens ≡ reads (s.tail l.level) l.tokens;
   tree : (y : Expression) (q : Stage) → g.Others l.level (expression_of l.left.value) l.tokens y q → g.Bin l.level l.fn.tokens y q;
   shorter : length l.tokens.left < length l.fn.tokens.left;
 }
@@ -55,7 +55,7 @@ decreases-bin-operators l = length l.tokens.left
 
 abbrev pub invariant-more_parts-others : goal.invariant-more_parts-others
 invariant-more_parts-others l = record {
-  goes : reads s.Parts l.fn.tokens ≡ reads s.Parts l.tokens;
+  goes : reads s.parts l.fn.tokens ≡ reads s.parts l.tokens;
   tree : (ys : Expressions) (q : Stage) → g.Parts l.tokens ys q
       → (xs : Expressions) × (join (expressions_of l.parts.items) ys ≡ join (expressions_of l.fn.parts.items) xs) × g.Parts l.fn.tokens xs q;
   no_longer : length l.tokens.left ≤ length l.fn.tokens.left;

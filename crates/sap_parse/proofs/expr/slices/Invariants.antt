@@ -9,7 +9,7 @@ use Rattle.sap_parse.proofs.expr.slices.Given as goal
 
 abbrev pub invariant-cuts : goal.invariant-cuts
 invariant-cuts l = record {
-  goes : reads s.Slices l.fn.tokens ≡ reads s.Slices l.tokens;
+  goes : reads s.slices l.fn.tokens ≡ reads s.slices l.tokens;
   tree : (y : Expression) (q : Stage) → g.Cuts (expression_of l.all.value) l.tokens y q → g.Cuts (expression_of l.fn.operand) l.fn.tokens y q;
   no_longer : length l.tokens.left ≤ length l.fn.tokens.left;
 }

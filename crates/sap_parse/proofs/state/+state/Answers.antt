@@ -14,13 +14,13 @@ states-states-preserved m c = record {
   goes = c.states.invariant.goes ∙ states_there strictly c.args.depth c.states.tokens (c.states-test.ensures.yes refl) ∙ bind_ok _ _ _ c.in_ok-next.ensures.goes ∙ bind_pure _;
   tree = λ ys q rest.
       subst (λ xs. g.States c.args.depth c.args.tokens.now xs q) (sym (ap (λ items. join_states (states_of items) ys) c.in_ok-push.ensures.items ∙ join_states_push _ _ ys))
-      (c.states.invariant.tree (t.AndState (state_of c.in_ok-next.next) ys) q (g.and_state c.in_ok-next.ensures.tree rest));
+      (c.states.invariant.tree (t.and_state (state_of c.in_ok-next.next) ys) q (g.and_state c.in_ok-next.ensures.tree rest));
   no_longer = omega (arith, c.in_ok-next.ensures.shorter);
 }
 
 pub states-returns-clause-tree : goal.states-returns-clause-tree
 states-returns-clause-tree m c =
-    subst (λ xs. g.States c.args.depth c.args.tokens.now xs c.states.tokens) (join_states_none _) (c.states.invariant.tree t.NoState c.states.tokens g.no_state)
+    subst (λ xs. g.States c.args.depth c.args.tokens.now xs c.states.tokens) (join_states_none _) (c.states.invariant.tree t.no_state c.states.tokens g.no_state)
 
 pub state-returns-clause-tree : goal.state-returns-clause-tree
 state-returns-clause-tree m c =

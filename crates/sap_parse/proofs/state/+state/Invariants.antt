@@ -17,7 +17,7 @@ decreases-state l = 2 * length l.tokens.now.left
 
 abbrev pub invariant-states-states : goal.invariant-states-states
 invariant-states-states l = record {
-  goes : reads (s.States l.depth) l.fn.tokens ≡ reads (s.States l.depth) l.tokens;
+  goes : reads (s.states l.depth) l.fn.tokens ≡ reads (s.states l.depth) l.tokens;
   tree : (ys : StateList) (q : Stage) → g.States l.depth l.tokens ys q → g.States l.depth l.fn.tokens (join_states (states_of l.list.items) ys) q;
   no_longer : length l.tokens.left ≤ length l.fn.tokens.left;
 }

@@ -13,7 +13,7 @@ pub states-preserved : goal.states-preserved
 states-preserved c = record {
   goes = c.states.invariant.goes ∙ last_states_there strictly c.states.tokens (c.states-test.ensures.yes refl) ∙ bind_ok _ _ _ c.in_ok-next.ensures.goes ∙ bind_pure _;
   tree = λ ys q rest.
-      let h = c.states.invariant.tree (t.AndState (state_of c.in_ok-next.next) ys) q (g.and_state c.in_ok-next.ensures.tree rest) in
+      let h = c.states.invariant.tree (t.and_state (state_of c.in_ok-next.next) ys) q (g.and_state c.in_ok-next.ensures.tree rest) in
       (h.0, ap (λ items. join_states (states_of items) ys) c.in_ok-push.ensures.items ∙ join_states_push _ _ ys ∙ h.1, h.2);
   no_longer = omega (arith, c.in_ok-next.ensures.shorter);
 }
@@ -23,7 +23,7 @@ returns-then-at_end-clause-goes c = c.states.invariant.goes ∙ last_states_end 
 
 pub returns-then-at_end-clause-tree : goal.returns-then-at_end-clause-tree
 returns-then-at_end-clause-tree c =
-    let h = c.states.invariant.tree t.NoState c.states.tokens g.no_state in
+    let h = c.states.invariant.tree t.no_state c.states.tokens g.no_state in
     (h.0, sym (join_states_none _) ∙ h.1, h.2)
 
 pub returns-else-at_end-clause-goes : goal.returns-else-at_end-clause-goes

@@ -10,7 +10,7 @@ use Rattle.sap_parse.proofs.state.last_states.Given as goal
 
 abbrev pub invariant-states : goal.invariant-states
 invariant-states l = record {
-  goes : reads s.LastStates l.fn.tokens ≡ reads s.LastStates l.tokens;
+  goes : reads s.last_states l.fn.tokens ≡ reads s.last_states l.tokens;
   tree : (ys : StateList) (q : Stage) → g.States 1 l.tokens ys q
       → (xs : StateList) × (join_states (states_of l.list.items) ys ≡ join_states (states_of l.fn.list.items) xs) × g.States 1 l.fn.tokens xs q;
   no_longer : length l.tokens.left ≤ length l.fn.tokens.left;

@@ -14,7 +14,7 @@ pub more_tags-others-preserved : goal.more_tags-others-preserved
 more_tags-others-preserved m c = record {
   goes = c.others.invariant.goes ∙ texprs_there strictly c.others.tokens (c.others-test.ensures.yes refl) ∙ bind_ok _ _ _ c.in_ok-sign.ensures.goes ∙ bind_ok _ _ _ c.in_ok-part.ensures.goes ∙ bind_pure _;
   tree = λ ys q rest.
-      let h = c.others.invariant.tree (t.AndTag (tag_of c.in_ok-part.part) ys) q (g.tag c.in_ok-sign.ensures.tree c.in_ok-part.ensures.tree rest) in
+      let h = c.others.invariant.tree (t.and_tag (tag_of c.in_ok-part.part) ys) q (g.tag c.in_ok-sign.ensures.tree c.in_ok-part.ensures.tree rest) in
       (h.0, ap (λ items. join_tags (tags_of items) ys) c.in_ok-push.ensures.items ∙ join_tags_push _ _ ys ∙ h.1, h.2);
   no_longer = omega (arith, c.in_ok-part.ensures.shorter, c.in_ok-sign.ensures.shorter);
 }
@@ -24,7 +24,7 @@ more_tags-returns-clause-goes m c = c.others.invariant.goes ∙ texprs_missing s
 
 pub more_tags-returns-clause-tree : goal.more_tags-returns-clause-tree
 more_tags-returns-clause-tree m c =
-    let h = c.others.invariant.tree t.NoTag c.others.tokens g.no_tag in
+    let h = c.others.invariant.tree t.no_tag c.others.tokens g.no_tag in
     (h.0, sym (join_tags_none _) ∙ h.1, h.2)
 
 pub join-returns-clause-tree : goal.join-returns-clause-tree

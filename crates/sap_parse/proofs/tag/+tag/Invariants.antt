@@ -20,7 +20,7 @@ decreases-join l = 4 * length l.tokens.now.left
 
 abbrev pub invariant-more_tags-others : goal.invariant-more_tags-others
 invariant-more_tags-others l = record {
-  goes : reads s.Texprs l.fn.tokens ≡ reads s.Texprs l.tokens;
+  goes : reads s.texprs l.fn.tokens ≡ reads s.texprs l.tokens;
   tree : (ys : TagExpressions) (q : Stage) → g.Texprs l.tokens ys q
       → (xs : TagExpressions) × (join_tags (tags_of l.parts.items) ys ≡ join_tags (tags_of l.fn.parts.items) xs) × g.Texprs l.fn.tokens xs q;
   no_longer : length l.tokens.left ≤ length l.fn.tokens.left;

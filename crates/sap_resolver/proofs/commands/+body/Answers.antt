@@ -11,7 +11,7 @@ use Rattle.sap_resolver.proofs.Lists.{commands_step, commands_end, sites_step, s
 use Rattle.sap_resolver.proofs.Arms.{arms_step, arms_end, arms_sites_step, arms_sites_end, arms_sites_within, arms_points_step, arms_points_end, arms_points_within}
 use Rattle.sap_program.proofs.Shown.{command_of-case as shown_case, command_of-then as shown_then, command_of-if as shown_if, arms_before-none}
 use Rattle.sap_program.specs.Views.{arms_before}
-use Rattle.sap_meaning.specs.Program.{Last}
+use Rattle.sap_meaning.specs.Program.{last_arm}
 use Rattle.sap_resolver.proofs.commands.+body.Goals as goal
 
 pub command-commands-requires : goal.command-commands-requires
@@ -114,7 +114,7 @@ pub command-returns-in_ok-last-in-Case-clause-command : goal.command-returns-in_
 command-returns-in_ok-last-in-Case-clause-command t c =
     shown_case _ _ _ _ _
     ∙ case_made c.args.seat.now.lattice.now (surroundings_of c.args.seat.now) c.args.next.now c.args.point.now (rows_of c.args.seat.now) (command_of c.args.c.now) c.in-Case.field-0 (expression_of c.in-Case.e) c.in-Case.branches.items c.in-Case.other (ap command_of c.in-Case.is ∙ command_of-case _ _ _ _) c.as_slice-in-Case.result.now c.as_slice-in-Case-2.result.now c.arms.new.next c.take_row-in-Case.new.point c.arms.new.point c.as_slice-in-Case.ensures.value c.as_slice-in-Case-2.ensures.value
-    c.in_ok-arms-in-Case.ensures.next c.in_ok-hang-in-Case.ensures.point _ _ (λ b. arms_before (length c.args.seat.now.names.now) c.in_ok-arms-in-Case.arms.items (Last b)) _ c.in_ok-hang-in-Case.ensures.row c.in_ok-number-in-Case.ensures
+    c.in_ok-arms-in-Case.ensures.next c.in_ok-hang-in-Case.ensures.point _ _ (λ b. arms_before (length c.args.seat.now.names.now) c.in_ok-arms-in-Case.arms.items (last_arm b)) _ c.in_ok-hang-in-Case.ensures.row c.in_ok-number-in-Case.ensures
     c.in_ok-arms-in-Case.ensures.arms c.in_ok-last-in-Case.ensures.commands
 
 pub command-returns-in_ok-last-in-Case-clause-next : goal.command-returns-in_ok-last-in-Case-clause-next

@@ -1,7 +1,7 @@
 use Rattle.std.proofs.Common.{◌≡◌, ◌+◌, drop, length}
 use Rattle.sap_names.proofs.Weights.{arm_list_weight, command_weight, commands_weight, else_weight}
 use Rattle.sap_tree.specs.Trees.{command_of, commands_of, else_of}
-use Rattle.sap_meaning.specs.Program.{Block, End}
+use Rattle.sap_meaning.specs.Program.{Block, end_block}
 use Rattle.sap_resolver.specs.Surroundings.{surroundings_of, rows_of}
 use Rattle.sap_resolver.specs.Lists.{arms_from, arms_site_count, list_from, list_site_count}
 use Rattle.sap_resolver.specs.Rows.{arms_points, arms_with, block_points, block_with}
@@ -22,8 +22,8 @@ invariant-arms-loop-arm l =
     ((last : Block) → arms_before (length l.seat.names.now) l.made.items (arms_with (rows_of l.seat) l.point (arms_from l.seat.lattice.now (surroundings_of l.seat) l.next (drop l.arm-index l.list) last))
     ≡ arms_with (rows_of l.seat) l.initial.point (arms_from l.seat.lattice.now (surroundings_of l.seat) l.initial.next l.list last))
     × (l.next + arms_site_count (surroundings_of l.seat) (drop l.arm-index l.list) ≡ l.initial.next + arms_site_count (surroundings_of l.seat) l.list)
-    × (l.point + arms_points (arms_from l.seat.lattice.now (surroundings_of l.seat) l.next (drop l.arm-index l.list) End)
-    ≡ l.initial.point + arms_points (arms_from l.seat.lattice.now (surroundings_of l.seat) l.initial.next l.list End))
+    × (l.point + arms_points (arms_from l.seat.lattice.now (surroundings_of l.seat) l.next (drop l.arm-index l.list) end_block)
+    ≡ l.initial.point + arms_points (arms_from l.seat.lattice.now (surroundings_of l.seat) l.initial.next l.list end_block))
 
 abbrev pub decreases-arms : goal.decreases-arms
 decreases-arms l = arm_list_weight l.list.now

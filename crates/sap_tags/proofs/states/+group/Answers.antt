@@ -5,7 +5,7 @@ use Rattle.sap_program.specs.declared.program.State.{out-State}
 use Rattle.sap_terms.specs.Parts.{StateFew, StateRanged, state_wires}
 use Rattle.sap_terms.specs.Code.{setting_in}
 use Rattle.sap_tagged.specs.Commands.{gives}
-use Rattle.sap_tagged.specs.Keys.{Wire}
+use Rattle.sap_tagged.specs.Keys.{wire_key}
 use Rattle.sap_effects.proofs.Pushed.{fresh}
 use Rattle.sap_terms.proofs.Listed.{states_in, states_drop, states_past}
 use Rattle.sap_terms.proofs.Few.{few_body, few_children, few_one}
@@ -53,7 +53,7 @@ state-returns-clause-state t c =
     (body_of c.set_wire.new.out.items)
     refl refl refl c.as_slice-body.ensures.value c.as_slice-children.ensures.value c.in_ok-commands.ensures.wires
     c.in_ok-name.ensures
-    (fresh c.new-cmds.result.items _ _ c.new-cmds.ensures.items c.in_ok-set_wire.ensures ∙ ap (λ v. gives (setting_in s) (Wire k) v stop) c.in_ok-context.ensures)
+    (fresh c.new-cmds.result.items _ _ c.new-cmds.ensures.items c.in_ok-set_wire.ensures ∙ ap (λ v. gives (setting_in s) (wire_key k) v stop) c.in_ok-context.ensures)
     c.in_ok-commands.ensures.body
     c.in_ok-children.ensures.states
 

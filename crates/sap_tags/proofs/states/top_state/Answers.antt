@@ -4,7 +4,7 @@ use Rattle.sap_ir.specs.Plain.Views.{body_of, follow}
 use Rattle.sap_program.specs.declared.program.State.{out-State}
 use Rattle.sap_terms.specs.Code.{setting_in}
 use Rattle.sap_tagged.specs.Commands.{gives}
-use Rattle.sap_tagged.specs.Keys.{Wire}
+use Rattle.sap_tagged.specs.Keys.{wire_key}
 use Rattle.sap_effects.proofs.Pushed.{fresh}
 use Rattle.sap_terms.proofs.Few.{few_body, few_children}
 use Rattle.sap_terms.proofs.Ranged.{ranged_body, ranged_children}
@@ -51,7 +51,7 @@ returns-clause-state c =
     refl (omega (arith, c.len.ensures, s.program.now.entities.ok.0)) refl c.numbers.ensures.same c.as_slice-body.ensures.value c.as_slice-children.ensures.value c.in_ok-commands.ensures.wires
     c.in_ok-name.ensures
     (fresh c.new-cmds.result.items _ _ c.new-cmds.ensures.items c.in_ok-save_all.ensures)
-    (c.in_ok-set_wire.ensures ∙ ap (λ v. follow b1 (gives (setting_in s) (Wire k) v stop)) c.in_ok-level.ensures)
+    (c.in_ok-set_wire.ensures ∙ ap (λ v. follow b1 (gives (setting_in s) (wire_key k) v stop)) c.in_ok-level.ensures)
     c.in_ok-raise_all.ensures
     c.in_ok-commands.ensures.body
     c.in_ok-children.ensures.states

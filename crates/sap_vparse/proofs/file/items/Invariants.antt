@@ -9,7 +9,7 @@ use Rattle.sap_vparse.proofs.file.items.Given as goal
 
 abbrev pub invariant-items : goal.invariant-items
 invariant-items l = record {
-  goes : reads s.Items l.fn.tokens ≡ reads s.Items l.tokens;
+  goes : reads s.items l.fn.tokens ≡ reads s.items l.tokens;
   tree : (xs : List Item) (m : List Token) → AreItems l.tokens xs m → AreItems l.fn.tokens (items_of l.list.items ++ xs) m;
 }
 

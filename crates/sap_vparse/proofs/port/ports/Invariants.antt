@@ -9,7 +9,7 @@ use Rattle.sap_vparse.proofs.port.ports.Given as goal
 
 abbrev pub invariant-ports : goal.invariant-ports
 invariant-ports l = record {
-  goes : reads s.Ports l.fn.tokens ≡ reads s.Ports l.tokens;
+  goes : reads s.ports l.fn.tokens ≡ reads s.ports l.tokens;
   tree : (ps : List Port) (m : List Token) → ArePorts l.tokens ps m → ArePorts l.fn.tokens (ports_of l.list.items ++ ps) m;
   no_longer : length l.tokens ≤ length l.fn.tokens;
 }

@@ -11,17 +11,17 @@ use Rattle.sap_vparse.proofs.right.one.Goals as goal
 
 pub returns-in_err-unary-clause-goes : goal.returns-in_err-unary-clause-goes
 returns-in_err-unary-clause-goes c =
-    fault_goes s.Right (s.Sign (unary_sign c.args.op)) c.args.tokens.now c.args.tokens.now c.unary.new.tokens (steps (s.Operand ∷ s.Sign t.Semicolon ∷ [])) c.in_err-unary.field-0.0 c.from_residual.result
+    fault_goes s.right (s.sign (unary_sign c.args.op)) c.args.tokens.now c.args.tokens.now c.unary.new.tokens (steps (s.operand ∷ s.sign t.semicolon ∷ [])) c.in_err-unary.field-0.0 c.from_residual.result
     (search rules) (right_one c.args.tokens.now c.args.op c.requires) c.in_err-unary.ensures.goes
 
 pub returns-in_err-operand-clause-goes : goal.returns-in_err-operand-clause-goes
 returns-in_err-operand-clause-goes c =
-    fault_goes s.Right s.Operand c.args.tokens.now c.unary.new.tokens c.operand.new.tokens (steps (s.Sign t.Semicolon ∷ [])) c.in_err-operand.field-0.0 c.from_residual-in_err-operand.result
+    fault_goes s.right s.operand c.args.tokens.now c.unary.new.tokens c.operand.new.tokens (steps (s.sign t.semicolon ∷ [])) c.in_err-operand.field-0.0 c.from_residual-in_err-operand.result
     (search rules) (right_one c.args.tokens.now c.args.op c.requires ∙ bind_ok _ _ _ c.in_ok-unary.ensures.goes) c.in_err-operand.ensures.goes
 
 pub returns-in_err-sign-clause-goes : goal.returns-in_err-sign-clause-goes
 returns-in_err-sign-clause-goes c =
-    fault_goes s.Right (s.Sign t.Semicolon) c.args.tokens.now c.operand.new.tokens c.sign.new.self (steps []) c.in_err-sign.field-0.0 c.from_residual-in_err-sign.result
+    fault_goes s.right (s.sign t.semicolon) c.args.tokens.now c.operand.new.tokens c.sign.new.self (steps []) c.in_err-sign.field-0.0 c.from_residual-in_err-sign.result
     (search rules) (right_one c.args.tokens.now c.args.op c.requires ∙ bind_ok _ _ _ c.in_ok-unary.ensures.goes ∙ bind_ok _ _ _ c.in_ok-operand.ensures.goes) c.in_err-sign.ensures.goes
 
 pub returns-clause-goes : goal.returns-clause-goes

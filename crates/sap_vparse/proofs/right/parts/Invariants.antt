@@ -9,7 +9,7 @@ use Rattle.sap_vparse.proofs.right.parts.Given as goal
 
 abbrev pub invariant-parts : goal.invariant-parts
 invariant-parts l = record {
-  goes : reads s.Parts l.fn.tokens ≡ reads s.Parts l.tokens;
+  goes : reads s.parts l.fn.tokens ≡ reads s.parts l.tokens;
   tree : (xs : List Operand) (m : List Token) → AreParts l.tokens xs m
       → (ys : List Operand) × (operands_of l.list.items ++ xs ≡ operands_of l.fn.list.items ++ ys) × AreParts l.fn.tokens ys m;
   no_longer : length l.tokens ≤ length l.fn.tokens;

@@ -11,17 +11,17 @@ use Rattle.sap_vparse.proofs.right.two.Goals as goal
 
 pub returns-in_err-binary-clause-goes : goal.returns-in_err-binary-clause-goes
 returns-in_err-binary-clause-goes c =
-    fault_goes s.AfterOperand (s.Sign (binary_sign c.args.op)) c.args.tokens.now c.args.tokens.now c.binary.new.tokens (steps (s.Operand ∷ s.Sign t.Semicolon ∷ [])) c.in_err-binary.field-0.0 c.from_residual.result
+    fault_goes s.after_operand (s.sign (binary_sign c.args.op)) c.args.tokens.now c.args.tokens.now c.binary.new.tokens (steps (s.operand ∷ s.sign t.semicolon ∷ [])) c.in_err-binary.field-0.0 c.from_residual.result
     (search rules) (after_two c.args.tokens.now c.args.op c.requires) c.in_err-binary.ensures.goes
 
 pub returns-in_err-second-clause-goes : goal.returns-in_err-second-clause-goes
 returns-in_err-second-clause-goes c =
-    fault_goes s.AfterOperand s.Operand c.args.tokens.now c.binary.new.tokens c.operand.new.tokens (steps (s.Sign t.Semicolon ∷ [])) c.in_err-second.field-0.0 c.from_residual-in_err-second.result
+    fault_goes s.after_operand s.operand c.args.tokens.now c.binary.new.tokens c.operand.new.tokens (steps (s.sign t.semicolon ∷ [])) c.in_err-second.field-0.0 c.from_residual-in_err-second.result
     (search rules) (after_two c.args.tokens.now c.args.op c.requires ∙ bind_ok _ _ _ c.in_ok-binary.ensures.goes) c.in_err-second.ensures.goes
 
 pub returns-in_err-sign-clause-goes : goal.returns-in_err-sign-clause-goes
 returns-in_err-sign-clause-goes c =
-    fault_goes s.AfterOperand (s.Sign t.Semicolon) c.args.tokens.now c.operand.new.tokens c.sign.new.self (steps []) c.in_err-sign.field-0.0 c.from_residual-in_err-sign.result
+    fault_goes s.after_operand (s.sign t.semicolon) c.args.tokens.now c.operand.new.tokens c.sign.new.self (steps []) c.in_err-sign.field-0.0 c.from_residual-in_err-sign.result
     (search rules) (after_two c.args.tokens.now c.args.op c.requires ∙ bind_ok _ _ _ c.in_ok-binary.ensures.goes ∙ bind_ok _ _ _ c.in_ok-second.ensures.goes) c.in_err-sign.ensures.goes
 
 pub returns-clause-goes : goal.returns-clause-goes
