@@ -1,6 +1,5 @@
 -- The check sites of a design, as the check, the report and the trace tell of them. The walk that finds them stands in `sap_shape`, `Sites`.
 use Rattle.std.specs.Prelude.{ℕ, List, map}
-use Rattle.sap_text.specs.declared.place.Place.{Place}
 use Rattle.sap_tree.specs.Syntax.{SimpleCommand, assign, write, set_tag, set_cell_tag, go_to, fall_to_child, DesignTree}
 pub use Rattle.sap_names.specs.Entities.{entity_number}
 pub use Rattle.sap_shape.specs.Paths.{place_of}

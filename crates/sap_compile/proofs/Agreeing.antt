@@ -14,7 +14,7 @@ use Rattle.sap_meaning.specs.Store.{Store, own, start, start_whole, home, number
 use Rattle.sap_meaning.specs.Cycle.{Tagged, cycle, run_from}
 use Rattle.sap_meaning.specs.Fine.{FineProgram}
 use Rattle.sap_meaning.specs.State.{Resting, Fits, InputsFit, StreamFits, first, labelled_run}
-use Rattle.sap_meaning.specs.Agree.{Low, High, Alike, PartsAlike, seen}
+use Rattle.sap_meaning.specs.Agree.{Low, Alike, PartsAlike, seen}
 use Rattle.sap_meaning.specs.Agree as meaning
 use Rattle.sap_resolve.specs.Fill.{program_of}
 use Rattle.sap_resolve.specs.Premises.Premises.{ProgramsAreFine}

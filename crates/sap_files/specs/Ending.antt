@@ -5,7 +5,7 @@ use Rattle.sap_lattice.specs.declared.fault.LatFault.{LatFault}
 use Rattle.sap_lattice.specs.declared.fault.LatFault.TheVariants as rule
 use Rattle.sap_latfile.specs.declared.fault.LatFileFault.{LatFileFault}
 use Rattle.sap_latfile.specs.declared.fault.LatFileFault.TheVariants as lattice
-pub use Rattle.sap_text.specs.Places.{place_text}
+pub use Rattle.sap_text.specs.Places.{line, place_text}
 use Rattle.sap_parse.specs.declared.limit.Limit.{Limit}
 use Rattle.sap_parse.specs.declared.limit.Limit.TheVariants as limit
 use Rattle.sap_parse.specs.declared.fault.ReadFault.{ReadFault}
@@ -67,10 +67,6 @@ IsFree no_memory = Unit {0}
 
 abbrev pub blank : List ℕ
 blank = codes " "
-
--- a line and its end
-abbrev pub line : List ℕ → List ℕ
-line text = text ++ 10 ∷ []
 
 abbrev pub rule_text : LatFault → List ℕ
 rule_text (rule.Count n) = codes "L3 " ++ decimal n

@@ -1,8 +1,7 @@
 -- Comparisons of an operand with `|` of it and another.
-use Rattle.std.proofs.Common.{◌≡◌, ℕ, zero, suc, ◌+◌, ◌-◌, ◌*◌, ◌/◌, ◌%◌, ◌^◌, ◌<◌, ◌≤◌, ◌==◌, List, [], ◌∷◌, ◌++◌, Option, Some, None, Bool, true, false, sym, ap, ap₂, ◌∙◌, subst, refl, inl, inr, arith}
-use Rattle.std.specs.Prelude.{◌⊎◌, if◌then◌else◌, nat_lt, nat_le, bit_or, IfSome, max}
+use Rattle.std.proofs.Common.{◌≡◌, ℕ, ◌+◌, ◌-◌, ◌*◌, ◌/◌, ◌%◌, ◌^◌, ◌<◌, ◌≤◌, ◌==◌, List, [], ◌∷◌, ◌++◌, Option, Some, None, Bool, true, false, sym, ap, ap₂, ◌∙◌, subst, refl, inl, inr, arith}
+use Rattle.std.specs.Prelude.{◌⊎◌, if◌then◌else◌, nat_lt, nat_le, bit_or, IfSome}
 use Rattle.std.specs.Int.{bit_at}
-use Rattle.std.specs.Int.Bits.{or_self, or_zero_l, or_zero_r}
 use Rattle.std.proofs.lemmas.Nat.{or_comm, pow-add}
 use Rattle.std.proofs.Math.Nat.{add-mul}
 use Rattle.std.proofs.Math.Pow.{pow_pos}
@@ -11,7 +10,7 @@ use Rattle.std.proofs.lemmas.Bool.{cases_Bool, ltb-true}
 use Rattle.std.proofs.lemmas.Bool.Decides.{nat_tests}
 use Rattle.sap_lemmas.proofs.Numbers.{equal_of_test, test_of_equal}
 use Rattle.sap_net.proofs.RulesLemmas.{one_wide}
-use Rattle.sap_bits.specs.Arithmetic.{value2, width2, slice_of}
+use Rattle.sap_bits.specs.Arithmetic.{slice_of}
 use Rattle.sap_bits.specs.declared.Op1.TheVariants.{Not}
 use Rattle.sap_bits.specs.declared.Op2.TheVariants.{Or, Eq, Ne, Lt, Le}
 use Rattle.sap_bits.proofs.Within.{value2_below}
@@ -19,11 +18,10 @@ use Rattle.sap_maps.specs.Maps.{Name, Valuation}
 use Rattle.sap_maps.specs.Scope.{Scope, find}
 use Rattle.sap_net.specs.declared.parts.Operand.{Operand}
 use Rattle.sap_net.specs.declared.parts.Operand.TheVariants.{Named, Constant}
-use Rattle.sap_net.specs.declared.parts.Right.{Right}
-use Rattle.sap_net.specs.declared.parts.Right.TheVariants.{Copy, One, Two, Slice}
+use Rattle.sap_net.specs.declared.parts.Right.TheVariants.{One, Two, Slice}
 use Rattle.sap_net.specs.declared.parts.Wire.{Wire}
 use Rattle.sap_net.specs.Rules.{Shapes, IsWidth, IsOperand, IsRight, AreWires, readable_after}
-use Rattle.sap_net.specs.Values.{operand_value, operand_width, right_value}
+use Rattle.sap_net.specs.Values.{operand_value}
 use Rattle.sap_net.proofs.Within.{operand_below, operand_is_wide}
 use Rattle.sap_fold.specs.Equals.{Over, Equals}
 use Rattle.sap_fold.specs.Wires.{Provides}
@@ -31,11 +29,11 @@ use Rattle.sap_fold.specs.Gives.{Becomes}
 use Rattle.sap_fold.specs.Seen.{Defines}
 use Rattle.sap_fold.specs.Under.{other}
 use Rattle.sap_fold.specs.Slices.{HasWidth}
-use Rattle.sap_fold.specs.Order.{HasGap, JoinedWith, AsksBit, EitherAsks, BitBeside}
+use Rattle.sap_fold.specs.Order.{JoinedWith, AsksBit, EitherAsks, BitBeside}
 use Rattle.sap_fold.proofs.Folds.{bit_cases}
 use Rattle.sap_fold.proofs.Provided.{provided, provided_value, over_first}
 use Rattle.sap_fold.proofs.Sees.{defined_right, defined_same}
-use Rattle.sap_fold.proofs.Unders.{one_width, other_is}
+use Rattle.sap_fold.proofs.Unders.{other_is}
 
 -- tests
 

@@ -1,30 +1,28 @@
 -- Parts of concatenations: the same bits from fewer of them.
-use Rattle.std.proofs.Common.{◌≡◌, ℕ, zero, suc, ◌+◌, ◌-◌, ◌*◌, ◌/◌, ◌%◌, ◌^◌, ◌<◌, ◌≤◌, ◌==◌, List, [], ◌∷◌, ◌++◌, length, Option, Some, None, Bool, true, false, sym, ap, ap₂, ◌∙◌, subst, refl, inl, inr, arith, append_assoc}
+use Rattle.std.proofs.Common.{◌≡◌, ℕ, ◌+◌, ◌-◌, ◌*◌, ◌/◌, ◌%◌, ◌^◌, ◌<◌, ◌≤◌, ◌==◌, List, [], ◌∷◌, ◌++◌, length, Option, Some, None, Bool, true, false, sym, ap, ap₂, ◌∙◌, subst, refl, inl, inr, arith, append_assoc}
 use Rattle.std.specs.Prelude.{◌⊎◌, ◌&&◌, nat_le, if◌then◌else◌, IfSome}
 use Rattle.std.proofs.Math.Nat.{add-mul, mul_assoc}
 use Rattle.std.proofs.Math.Pow.{pow_pos, pow_mono}
 use Rattle.std.proofs.lemmas.Nat.{pow-add}
 use Rattle.std.proofs.lemmas.Bool.{cases_Bool, and_parts, leb-true}
-use Rattle.sap_bits.specs.Arithmetic.{joined}
 use Rattle.sap_maps.specs.Maps.{Name, Valuation}
-use Rattle.sap_maps.specs.Scope.{Scope, find}
+use Rattle.sap_maps.specs.Scope.{Scope}
 use Rattle.sap_net.specs.declared.parts.Operand.{Operand}
-use Rattle.sap_net.specs.declared.parts.Operand.TheVariants.{Named, Constant}
-use Rattle.sap_net.specs.declared.parts.Right.{Right}
+use Rattle.sap_net.specs.declared.parts.Operand.TheVariants.{Constant}
 use Rattle.sap_net.specs.declared.parts.Right.TheVariants.{Copy, Concat}
 use Rattle.sap_net.specs.declared.parts.Wire.{Wire}
-use Rattle.sap_net.specs.Rules.{Shapes, IsWidth, IsOperand, AreOperands, IsRight, AreWires, readable_after}
-use Rattle.sap_net.specs.Values.{operand_value, operand_width, operands_width, operands_value, right_value}
-use Rattle.sap_net.proofs.Within.{WidthsAre, operand_below, operand_is_wide}
+use Rattle.sap_net.specs.Rules.{IsWidth, IsOperand, AreOperands, readable_after}
+use Rattle.sap_net.specs.Values.{operand_value, operands_width, operands_value}
+use Rattle.sap_net.proofs.Within.{WidthsAre, operand_is_wide}
 use Rattle.sap_maps.proofs.Terms.{joined_below}
-use Rattle.sap_fold.specs.Equals.{Over, Equals}
+use Rattle.sap_fold.specs.Equals.{Equals}
 use Rattle.sap_fold.specs.Folding.{same_operand, fits}
 use Rattle.sap_fold.specs.Seen.{Defines}
 use Rattle.sap_fold.specs.Under.{number, bit, Under}
-use Rattle.sap_fold.specs.Parts.{Glues, GluesLast, AddsPart, put, SameParts, Whole}
+use Rattle.sap_fold.specs.Parts.{GluesLast, AddsPart, put, SameParts, Whole}
 use Rattle.sap_fold.proofs.Folds.{same_is}
 use Rattle.sap_fold.proofs.Sees.{defined_right, defined_same}
-use Rattle.sap_fold.proofs.Unders.{one_width, bit_fits, number_below}
+use Rattle.sap_fold.proofs.Unders.{one_width, bit_fits}
 
 -- lists of parts, one behind another
 

@@ -1,5 +1,5 @@
 -- Slices of slices, of parts of concatenations, and of whole wires.
-use Rattle.std.proofs.Common.{◌≡◌, ℕ, zero, suc, ◌+◌, ◌-◌, ◌*◌, ◌/◌, ◌%◌, ◌^◌, ◌<◌, ◌≤◌, ◌==◌, List, [], ◌∷◌, ◌++◌, length, take, drop, get_or, drop-cons, Option, Some, None, Bool, true, sym, ap, ap₂, ◌∙◌, subst, refl, arith}
+use Rattle.std.proofs.Common.{◌≡◌, ℕ, suc, ◌+◌, ◌-◌, ◌*◌, ◌/◌, ◌%◌, ◌^◌, ◌<◌, ◌≤◌, ◌==◌, List, [], ◌∷◌, ◌++◌, length, take, drop, get_or, drop-cons, Option, Some, None, true, sym, ap, ap₂, ◌∙◌, subst, refl, arith}
 use Rattle.std.specs.Prelude.{if◌then◌else◌, IfSome}
 use Rattle.std.proofs.Math.Nat.{add-mul, mul_assoc, mul_comm, div-add-mod, mod-lt, add-mul-mod_self_right, add-mul-div_right, mod-eq_of_lt}
 use Rattle.std.proofs.Math.Pow.{pow_pos}
@@ -13,18 +13,17 @@ use Rattle.sap_maps.specs.Scope.{Scope, find}
 use Rattle.sap_net.specs.declared.parts.Operand.{Operand}
 use Rattle.sap_net.specs.declared.parts.Operand.TheVariants.{Named, Constant}
 use Rattle.sap_net.specs.declared.parts.Right.{Right}
-use Rattle.sap_net.specs.declared.parts.Right.TheVariants.{Copy, One, Two, Choose, Concat, Slice, Cell}
+use Rattle.sap_net.specs.declared.parts.Right.TheVariants.{Copy, Concat, Slice}
 use Rattle.sap_net.specs.declared.parts.Wire.{Wire}
-use Rattle.sap_net.specs.Rules.{Shapes, IsWidth, IsOperand, AreOperands, IsRight, AreWires, readable_after}
-use Rattle.sap_net.specs.Values.{operand_value, operand_width, operands_width, operands_value, right_value}
-use Rattle.sap_net.proofs.Within.{WidthsAre, ValuesBelow, operand_below, operand_is_wide, operands_below}
-use Rattle.sap_fold.specs.Equals.{Over, Equals}
+use Rattle.sap_net.specs.Rules.{Shapes, IsWidth, IsOperand, AreOperands, IsRight, readable_after}
+use Rattle.sap_net.specs.Values.{operand_value, operands_width, operands_value, right_value}
+use Rattle.sap_net.proofs.Within.{operands_below}
+use Rattle.sap_fold.specs.Equals.{Equals}
 use Rattle.sap_fold.specs.Wires.{HasWire}
 use Rattle.sap_fold.specs.Seen.{Defines}
 use Rattle.sap_fold.specs.Slices.{sliced, HasWidth, HaveWidth, IsSpot, OfParts, SlicesRight}
-use Rattle.sap_fold.proofs.Parting.{BothAre, are_front, values_both, parts_wide}
+use Rattle.sap_fold.proofs.Parting.{are_front, values_both, parts_wide}
 use Rattle.sap_fold.proofs.Sees.{defined_right, defined_same, defined_behind}
-use Rattle.sap_fold.proofs.Unders.{one_width}
 
 -- numbers
 

@@ -1,24 +1,23 @@
 -- What operands are where a bit is known.
-use Rattle.std.proofs.Common.{◌≡◌, ℕ, zero, suc, ◌-◌, ◌^◌, ◌<◌, ◌==◌, List, [], ◌∷◌, Option, Some, None, Bool, true, false, sym, ap, ◌∙◌, subst, refl, inl, inr, arith}
+use Rattle.std.proofs.Common.{◌≡◌, ℕ, ◌-◌, ◌^◌, ◌<◌, ◌==◌, List, [], ◌∷◌, Option, Some, None, Bool, true, false, sym, ap, ◌∙◌, subst, refl, inl, inr, arith}
 use Rattle.std.specs.Prelude.{◌⊎◌, not, IfSome, if◌then◌else◌, bit_and, bit_or}
-use Rattle.std.specs.Int.Bits.{and_self, or_self, and_zero_l, and_zero_r, or_zero_l, or_zero_r}
+use Rattle.std.specs.Int.Bits.{and_zero_l, or_zero_l}
 use Rattle.std.proofs.lemmas.Nat.{and_comm, or_comm}
 use Rattle.std.proofs.lemmas.Bool.{cases_Bool}
-use Rattle.sap_bits.specs.Arithmetic.{value1, value2, width1, width2}
+use Rattle.sap_bits.specs.Arithmetic.{value2}
 use Rattle.sap_bits.specs.declared.Op1.TheVariants.{Not}
 use Rattle.sap_bits.specs.declared.Op2.{Op2}
-use Rattle.sap_bits.specs.declared.Op2.TheVariants.{Add, Sub, Mul, And, Or, Xor, Eq, Ne, Lt, Le, Shl, Shr}
-use Rattle.sap_maps.specs.Maps.{Name, Valuation}
-use Rattle.sap_maps.specs.Scope.{Scope, find}
+use Rattle.sap_bits.specs.declared.Op2.TheVariants.{And, Or}
+use Rattle.sap_maps.specs.Maps.{Valuation}
+use Rattle.sap_maps.specs.Scope.{Scope}
 use Rattle.sap_net.specs.declared.parts.Operand.{Operand}
 use Rattle.sap_net.specs.declared.parts.Operand.TheVariants.{Named, Constant}
 use Rattle.sap_net.specs.declared.parts.Right.{Right}
-use Rattle.sap_net.specs.declared.parts.Right.TheVariants.{Copy, One, Two, Choose, Concat, Slice, Cell}
+use Rattle.sap_net.specs.declared.parts.Right.TheVariants.{Copy, One, Two, Choose}
 use Rattle.sap_net.specs.declared.parts.Wire.{Wire}
-use Rattle.sap_net.specs.Rules.{Shapes, IsOperand, IsRight, AreWires, readable_after}
-use Rattle.sap_net.specs.Values.{operand_value, operand_width, right_value}
+use Rattle.sap_net.specs.Rules.{Shapes, IsOperand, AreWires, readable_after}
+use Rattle.sap_net.specs.Values.{operand_value, operand_width}
 use Rattle.sap_net.proofs.Within.{operand_below, operand_is_wide}
-use Rattle.sap_fold.specs.Equals.{Over}
 use Rattle.sap_fold.specs.Seen.{Defines}
 use Rattle.sap_fold.specs.Folding.{same_operand}
 use Rattle.sap_fold.specs.Under.{number, bit, other, chosen, decided, right_under, tells, Under}

@@ -2,7 +2,7 @@
 use Rattle.std.specs.Prelude.{◌≡◌, ℕ, ◌^◌, ◌<◌, List, Some}
 use Rattle.sap_maps.specs.Maps.{Name, Valuation}
 use Rattle.sap_maps.specs.Scope.{Scope, find}
-use Rattle.sap_net.specs.Rules.{Shapes, IsWidth, IsRight, AreWires, readable_after}
+use Rattle.sap_net.specs.Rules.{Shapes, IsRight, AreWires, readable_after}
 use Rattle.sap_net.specs.Values.{right_value, Holds}
 use Rattle.sap_net.specs.declared.parts.Right.{Right}
 use Rattle.sap_net.specs.declared.parts.Wire.{Wire}

@@ -7,7 +7,7 @@ use Rattle.sap_net.specs.Rules.{Shapes, IsOperand, AreOperands, AreWires, readab
 use Rattle.sap_net.specs.declared.parts.Operand.{Operand}
 use Rattle.sap_net.specs.declared.parts.Operand.TheVariants.{Named, Constant}
 use Rattle.sap_net.specs.declared.parts.Right.{Right}
-use Rattle.sap_net.specs.declared.parts.Right.TheVariants.{Copy, Slice, Concat}
+use Rattle.sap_net.specs.declared.parts.Right.TheVariants.{Copy, Slice}
 use Rattle.sap_net.specs.declared.parts.Wire.{Wire}
 use Rattle.sap_fold.specs.Equals.{Equals}
 use Rattle.sap_fold.specs.Seen.{Defines}

@@ -1,7 +1,8 @@
 -- What the input gets fits it.
 use Rattle.std.proofs.Common.{◌≡◌, ℕ, zero, suc, ◌+◌, List, [], ◌∷◌, ◌++◌, length, map, refl, sym, ap, ◌∙◌, subst, arith}
 use Rattle.std.specs.List.{range_with_len}
-use Rattle.sap_lattice.specs.Levels.{Levels, order_of, order_by}
+use Rattle.sap_lattice.proofs.KeptLemmas.{order_of-count}
+use Rattle.sap_lattice.specs.Levels.{Levels, order_of}
 use Rattle.sap_meaning.specs.Program.{Entity}
 use Rattle.sap_meaning.specs.State.{AllFit, InputsFit, input_widths}
 use Rattle.sap_resolve.specs.Fill.{program_of}
@@ -25,14 +26,10 @@ one_input ls r t =
     (no_input_among_registers ls 0 r (group_entities ls 0 (length (design_of_counts r t).declarations) (design_of_counts r t).states)
     ∙ no_input_among_states ls 0 (length (design_of_counts r t).declarations) r t 0 t)
 
-level_count : (ls : Levels) → (order_of ls).count ≡ length ls.names
-unfolding order_of order_by
-level_count ls = refl
-
 given_fits : (count n c : ℕ) → count ≡ 4 → AllFit count (8 ∷ []) (given n c ∷ [])
 given_fits count n c e = (omega arith, omega arith, tt)
 
 pub inputs_fit : (ls : Levels) → ls.names ≡ level_names → (r t n c : ℕ) → InputsFit (program_of ls (design_of_counts r t)).world (given n c ∷ [])
 inputs_fit ls names r t n c =
     subst (λ (ws : List ℕ). AllFit (order_of ls).count ws (given n c ∷ [])) (sym (one_input ls r t))
-    (given_fits (order_of ls).count n c (level_count ls ∙ ap length names))
+    (given_fits (order_of ls).count n c (order_of-count ls ∙ ap length names))

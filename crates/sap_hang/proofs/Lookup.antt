@@ -1,6 +1,6 @@
 -- Lookups of numbers in a table.
-use Rattle.std.proofs.Common.{◌≡◌, ℕ, Bool, List, map, refl, sym, ap, ◌∙◌}
-use Rattle.std.specs.Prelude.{Option, Some, None, Vec, slice_get, option_map, unwrap_or}
+use Rattle.std.proofs.Common.{◌≡◌, ℕ, Bool, List, map, ◌∙◌}
+use Rattle.std.specs.Prelude.{Vec, slice_get, option_map}
 use Rattle.std.specs.Global.{Global}
 use Rattle.std.proofs.lemmas.Option.{slice_get-map}
 use Rattle.sap_hang.specs.Columns.{items_of}

@@ -7,7 +7,7 @@ use Rattle.sap_tree.specs.declared.syntax.Arm.{Arm}
 use Rattle.sap_tree.specs.declared.syntax.Cmd.{Cmd}
 use Rattle.sap_tree.specs.declared.syntax.Decl.{Decl}
 use Rattle.sap_tree.specs.declared.syntax.State.{State, out-State}
-use Rattle.sap_tree.specs.Syntax.{Expression, SimpleCommand, Command, lone, try, if_else, try_then, case_of, CommandBlock, ElseBlock, no_else, with_else, StateTree, state_node, StateList, no_state, and_state}
+use Rattle.sap_tree.specs.Syntax.{Expression, SimpleCommand, lone, try, if_else, try_then, case_of, ElseBlock, no_else, StateTree, state_node, StateList, no_state, and_state}
 use Rattle.sap_tree.specs.Touches.{Home, is_dynamic_kind, is_dynamic_child, simple_assigns, assigns, block_assigns, else_assigns, list_assigns, state_assigns, states_assign, simple_touches, touches, block_touches, else_touches}
 use Rattle.sap_tree.specs.Touches as tree
 use Rattle.sap_tree.specs.Trees.{command_of, commands_of, block_of, arm_block_of, arms_of, else_of, state_of, states_of}

@@ -1,8 +1,7 @@
 -- Names on lists, and what is found under them.
-use Rattle.std.proofs.Common.{◌≡◌, ℕ, List, [], ◌∷◌, ◌++◌, ◌||◌, map, Option, Some, None, Bool, true, false, sym, ap, ◌∙◌, subst, refl, inl, inr, append_assoc}
+use Rattle.std.proofs.Common.{◌≡◌, ℕ, List, [], ◌∷◌, ◌++◌, ◌||◌, map, Some, None, true, false, sym, ap, ◌∙◌, subst, refl, inl, inr, append_assoc}
 use Rattle.std.specs.Prelude.{unwrap_or}
 use Rattle.std.specs.Str.{bytes_eq}
-use Rattle.std.specs.List.{AllByRecursion}
 use Rattle.std.proofs.lemmas.Bool.{cases_Bool}
 use Rattle.sap_lemmas.proofs.Texts.{equal_of_bytes_eq}
 use Rattle.sap_net.proofs.NamesLemmas.{among_append, among_behind, among_front, found_among, not_found}
@@ -10,7 +9,6 @@ use Rattle.sap_maps.proofs.ScopeLemmas.{found_first, found_second}
 use Rattle.sap_maps.specs.Maps.{Name}
 use Rattle.sap_maps.specs.Scope.{Scope, find}
 use Rattle.sap_net.specs.Names.{is_among, AreDistinct}
-use Rattle.sap_net.specs.Rules.{Shapes}
 use Rattle.sap_ir.specs.declared.guarded.Var.{Var}
 use Rattle.sap_ir.specs.declared.guarded.Store.{Store}
 use Rattle.sap_ir.specs.Source.{Source, readable, shapes, width_of}

@@ -1,8 +1,7 @@
 -- What passes the test is what the type keeps.
-use Rattle.std.proofs.Common.{◌≡◌, ℕ, zero, suc, ◌+◌, ◌-◌, ◌^◌, ◌≤◌, ◌&&◌, ◌||◌, ◌==◌, ◌++◌, Option, Some, None, Bool, true, not, sym, ap, ap₂, ◌∙◌, subst, refl, arith, ⊎_elim}
+use Rattle.std.proofs.Common.{◌≡◌, ℕ, zero, suc, ◌+◌, ◌-◌, ◌^◌, ◌≤◌, ◌&&◌, ◌||◌, ◌==◌, ◌++◌, Option, Some, None, Bool, true, not, ap, ap₂, ◌∙◌, refl, arith, ⊎_elim}
 use Rattle.std.specs.Prelude.{nat_lt, nat_le}
 use Rattle.std.proofs.lemmas.Bool.{and_parts, cases_Bool, leb-true, ltb-true, not-true}
-use Rattle.std.proofs.lemmas.Bool.Decides.{Decides-ltb}
 use Rattle.sap_lemmas.proofs.Bools.{five_parts, three_parts}
 use Rattle.sap_lemmas.proofs.Everywhere.{all_of_test}
 use Rattle.sap_lemmas.proofs.Numbers.{equal_of_test}
@@ -13,7 +12,7 @@ use Rattle.sap_maps.specs.Maps.{Name}
 use Rattle.sap_maps.specs.Scope.{Scope, find}
 use Rattle.sap_maps.specs.Term.{Term, constant, read, cell, one, two, choose, join, part, term_width, CountFits}
 use Rattle.sap_net.specs.Names.{is_name, is_among}
-use Rattle.sap_net.specs.Rules.{IsWidth, IsDepth, Shapes}
+use Rattle.sap_net.specs.Rules.{IsWidth, Shapes}
 use Rattle.sap_ir.specs.declared.guarded.Var.{Var}
 use Rattle.sap_ir.specs.declared.guarded.Store.{Store}
 use Rattle.sap_ir.specs.Source.{Action, set, put, Command, Source, readable, shapes, width_of}

@@ -1,19 +1,17 @@
 -- Two lattices of one file are the same.
-use Rattle.std.proofs.Common.{◌≡◌, ◌↔◌, ℕ, ◌<◌, ◌≤◌, List, length, sym, ap, ◌∙◌, subst, inl, inr, arith}
+use Rattle.std.proofs.Common.{◌≡◌, ◌↔◌, ℕ, ◌<◌, ◌≤◌, List, length, sym, ap, ◌∙◌, subst, arith}
 use Rattle.sap_lemmas.proofs.Bools.{iff_same}
 use Rattle.sap_lemmas.proofs.Options.{some_unique}
 use Rattle.sap_lattice.proofs.LevelsLemmas.{level_in_same}
 use mathlib.Core.Path.{fun_ext}
-use Rattle.toml.specs.Data.{Members}
 use Rattle.toml.specs.Parse.{parse_document}
 use Rattle.sap_lattice.specs.Built.{IsLatticeOf}
-use Rattle.sap_lattice.specs.Closure.{Below}
 use Rattle.sap_lattice.specs.Levels.{Levels, order_of, order_by, is_below, level_in}
 use Rattle.sap_lattice.specs.Rules.{KeepsAll}
 use Rattle.sap_lattice.specs.declared.pair.Pair.{Pair}
 use Rattle.sap_lattice.proofs.Orders.{level_in_below}
 use Rattle.sap_latfile.specs.Document.{Lists}
-use Rattle.sap_latfile.specs.LatticeFile.{IsFileOf, IsLatticeOfFile}
+use Rattle.sap_latfile.specs.LatticeFile.{IsFileOf}
 use Rattle.sap_latfile.specs.OneLattice.{AreSame, OneLattice}
 
 same_document : (bytes : List ℕ) (names others : List (List ℕ)) (pairs rest : List Pair) (f : IsFileOf bytes names pairs) (g : IsFileOf bytes others rest) → f.document ≡ g.document

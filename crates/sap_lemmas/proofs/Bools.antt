@@ -1,7 +1,7 @@
 -- Tests: conjunction, disjunction and negation.
-use Rattle.std.proofs.Common.{Bool, ap, cond, false, refl, sym, true, ◌&&◌, ◌||◌, ◌∙◌, ◌≡◌}
+use Rattle.std.proofs.Common.{Bool, ap, cond, false, inl, inr, refl, sym, true, ◌&&◌, ◌||◌, ◌∙◌, ◌≡◌}
 use Rattle.std.specs.Prelude.{not}
-use Rattle.std.proofs.lemmas.Bool.{and_from, and_parts}
+use Rattle.std.proofs.lemmas.Bool.{and_from, and_parts, or_cases, or_left, or_right}
 
 pub and_false : (b : Bool) → (b && false) ≡ false
 and_false true = refl
@@ -31,6 +31,9 @@ or_true false = refl
 
 pub or_equal : (a b c d : Bool) → a ≡ c → b ≡ d → (a || b) ≡ (c || d)
 or_equal a b c d e f = ap (λ (r : Bool). r || b) e ∙ ap (λ (r : Bool). c || r) f
+
+pub either_follows : (a b c d : Bool) → (a ≡ true → c ≡ true) → (b ≡ true → d ≡ true) → (a || b) ≡ true → (c || d) ≡ true
+either_follows a b c d f g h = elim (or_cases a b h) [ inl i ↦ or_left c d (f i) | inr i ↦ or_right c d (g i) ]
 
 pub or_follows : (r w a : Bool) → (w ≡ true → a ≡ true) → (r || w) ≡ true → (r || a) ≡ true
 or_follows true w a k h = refl

@@ -1,5 +1,5 @@
--- Options.
-use Rattle.std.proofs.Common.{Bool, None, Option, Some, ap, arith, false, inl, inr, is_some, refl, subst, suc, sym, true, zero, ℕ, ◌+◌, ◌<◌, ◌∙◌, ◌≡◌, ◌≤◌}
+-- Options and results.
+use Rattle.std.proofs.Common.{Bool, Err, None, Ok, OnOk, Option, Result, Some, ap, arith, false, inl, inr, is_some, refl, subst, suc, sym, true, zero, ℕ, ◌+◌, ◌<◌, ◌∙◌, ◌≡◌, ◌≤◌}
 use Rattle.std.specs.List.{range_with_len}
 use Rattle.std.specs.Prelude.{find}
 use Rattle.std.proofs.lemmas.Bool.{cases_eq, cond_both}
@@ -27,3 +27,8 @@ some_same a b h = cc
 
 pub some_unique : {A : Type 0} (o : Option A) (a b : A) → o ≡ Some a → o ≡ Some b → a ≡ b
 some_unique o a b p q = cc
+
+-- what holds where a call went well follows from what else holds there
+pub on_ok : {T E : Type 0} (r : Result T E) (P Q : Type 0) → (P → Q) → OnOk r P → OnOk r Q
+on_ok (Ok x) P Q f h = f h
+on_ok (Err e) P Q f h = tt

@@ -18,7 +18,7 @@ use Rattle.sap_net.proofs.Within.{WidthsAre, widths_are}
 use Rattle.sap_net.proofs.Observed.{observed_inputs, observed_registers, observed_wires, observed_memories}
 use Rattle.sap_ir.specs.declared.guarded.Var.{Var}
 use Rattle.sap_ir.specs.declared.guarded.Store.{Store}
-use Rattle.sap_ir.specs.Source.{Command, Source}
+use Rattle.sap_ir.specs.Source.{Source}
 use Rattle.sap_ir.specs.Source as source
 use Rattle.sap_ir.specs.Guarded.{Going, first_number, first_cell, begun, after, cycle, run_after}
 use Rattle.sap_ir.specs.IsGuarded.{variable_names, IsGuarded}

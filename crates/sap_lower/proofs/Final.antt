@@ -21,7 +21,7 @@ use Rattle.sap_ir.specs.declared.guarded.Store.{Store}
 use Rattle.sap_ir.specs.Source.{Source}
 use Rattle.sap_ir.specs.Source as source
 use Rattle.sap_ir.specs.IsGuarded as ir
-use Rattle.sap_ir.specs.IsGuarded.{variable_names, declared, IsGuarded, IsRegisterVar, IsStore}
+use Rattle.sap_ir.specs.IsGuarded.{variable_names, declared, IsGuarded}
 use Rattle.sap_ir.proofs.Declared.{distinct_front, distinct_behind, apart_lists, apart_lists_back}
 use Rattle.sap_lower.specs.Lowered.{listed, register_of, memory_of, input_port, port_shown, registers_declared, all_wires, names_declared, last_state, lowered}
 use Rattle.sap_lower.proofs.Order.{to_declared}

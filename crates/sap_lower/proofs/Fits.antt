@@ -1,11 +1,8 @@
 -- The wires of an expression are declared once, read after they are assigned, and fit.
 use Rattle.std.proofs.Common.{◌≡◌, ℕ, ◌+◌, ◌-◌, ◌/◌, ◌%◌, ◌^◌, ◌<◌, ◌≤◌, List, [], ◌∷◌, ◌++◌, Option, Some, None, Bool, true, false, length, sym, ap, ap₂, ◌∙◌, subst, refl, arith, inl, inr, length-append}
 use Rattle.std.specs.Prelude.{if◌then◌else◌, unwrap_or}
-use Rattle.std.specs.Str.{bytes_eq}
-use Rattle.std.specs.Fmt.{decimal}
 use Rattle.std.proofs.Math.Pow.{pow_pos}
 use Rattle.std.proofs.Math.Nat.{mod-lt}
-use Rattle.std.proofs.lemmas.Fmt.{decimal_injective}
 use Rattle.std.proofs.lemmas.Bool.{cases_Bool}
 use Rattle.sap_bits.specs.Arithmetic.{width1, width2, slice_of}
 use Rattle.sap_bits.specs.declared.Op2.{Op2}
@@ -27,7 +24,6 @@ use Rattle.sap_net.specs.Names.{is_name}
 use Rattle.sap_net.proofs.RulesLemmas.{Grows, operand_grows}
 use Rattle.std.specs.List.{AllByRecursion}
 use Rattle.sap_lemmas.proofs.Everywhere.{all_append}
-use Rattle.sap_lemmas.proofs.Texts.{equal_of_bytes_eq}
 use Rattle.sap_lower.specs.declared.parts.Part.{Part}
 use Rattle.sap_share.specs.Keys.{key}
 use Rattle.sap_share.specs.Names.{helper}

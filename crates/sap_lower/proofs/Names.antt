@@ -19,7 +19,7 @@ use Rattle.sap_net.specs.IsNetlist.{names_of}
 use Rattle.sap_ir.specs.declared.guarded.Var.{Var}
 use Rattle.sap_ir.specs.declared.guarded.Store.{Store}
 use Rattle.sap_ir.specs.IsGuarded as ir
-use Rattle.sap_ir.specs.IsGuarded.{variable_names, declared, IsGuarded}
+use Rattle.sap_ir.specs.IsGuarded.{variable_names}
 use Rattle.sap_lower.specs.declared.parts.Part.{Part}
 use Rattle.sap_lower.specs.declared.parts.WritePort.{WritePort}
 use Rattle.sap_lower.specs.Lowered.{out_wire, register_of, memory_of, input_of, picked, unlisted, unported}

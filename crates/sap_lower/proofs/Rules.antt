@@ -20,7 +20,7 @@ use Rattle.sap_ir.specs.declared.guarded.Store.{Store}
 use Rattle.sap_ir.specs.Source.{Source}
 use Rattle.sap_ir.specs.Source as source
 use Rattle.sap_ir.specs.IsGuarded as ir
-use Rattle.sap_ir.specs.IsGuarded.{variable_names, declared, is_helping, IsPlainVar, IsRegisterVar, IsStore, IsGuarded}
+use Rattle.sap_ir.specs.IsGuarded.{variable_names, declared}
 use Rattle.sap_ir.proofs.Declared.{distinct_behind, apart_lists, apart_lists_back}
 use Rattle.sap_lower.specs.declared.parts.Part.{Part}
 use Rattle.sap_lower.specs.declared.parts.WritePort.{WritePort}

@@ -1,16 +1,13 @@
 -- Faults don't depend on places: a file without its places has none where the file has none.
-use Rattle.std.proofs.Common.{◌≡◌, ◌≢◌, ℕ, ◌+◌, ◌^◌, ◌<◌, ◌≤◌, List, [], ◌∷◌, ◌++◌, Bool, true, false, cond, Option, Some, None, refl, sym, ap, ◌∙◌, subst}
+use Rattle.std.proofs.Common.{◌≡◌, ◌≢◌, ℕ, ◌+◌, ◌^◌, ◌<◌, ◌≤◌, List, [], ◌∷◌, ◌++◌, cond, Option, Some, refl, sym, ap, ◌∙◌, subst}
 use Rattle.std.specs.Prelude.{◌⊎◌, ◌||◌, map, flat_map, IsSome, option_map}
 use Rattle.std.specs.Str.{bytes_eq}
 use Rattle.std.proofs.Common.{inl, inr}
-use Rattle.std.specs.List.{list_any}
 use Rattle.std.proofs.lemmas.List.{map-append}
-use Rattle.sap_bits.specs.declared.Op1.{Op1}
-use Rattle.sap_bits.specs.declared.Op2.{Op2}
-use Rattle.sap_modtext.specs.Items.{Mention, Number, Operand, Constant, Right, Item, Port, Direction, File}
+use Rattle.sap_modtext.specs.Items.{Mention, Operand, Right, Item, Port, File}
 use Rattle.sap_modtext.specs.Items as item
 use Rattle.sap_modtext.specs.Faults
-use Rattle.sap_modtext.specs.Faults.{Shape, Declaration, port_declaration, item_declarations, declarations, shape_in, Above, IsItemOf, shape_above, Setting, Target, target_of, is_target, is_set, is_integer, has_integer, assign, value_width, unary_pairs, unary_rule, binary_pairs, binary_rule, slice_width, memory_width, wire_width, register_width, is_settable, Manner, Use, operand_uses, right_uses, uses, operand_constants, right_constants, constants, ranges, right_indexes, indexes, operand_place, operand_width, parts_width, right_pairs, pairs, add_widths, Differ, Among, V3, V4, V5, V6, V7, IsFaultless}
+use Rattle.sap_modtext.specs.Faults.{Declaration, port_declaration, item_declarations, declarations, shape_in, Above, IsItemOf, shape_above, Setting, Target, target_of, is_target, is_set, is_integer, has_integer, assign, value_width, unary_pairs, unary_rule, binary_pairs, binary_rule, slice_width, memory_width, wire_width, register_width, is_settable, Use, operand_uses, right_uses, uses, operand_constants, right_constants, constants, ranges, right_indexes, indexes, operand_place, operand_width, parts_width, right_pairs, pairs, add_widths, Among, V3, V4, V5, V6, V7, IsFaultless}
 use Rattle.sap_modtext.proofs.Bare.{bare_name, bare_number, bare_constant, bare_operand, bare_right, bare_item, bare_port, bare}
 
 abbrev pub bare_declaration : Declaration → Declaration

@@ -1,5 +1,5 @@
 -- A netlist doesn't depend on places.
-use Rattle.std.proofs.Common.{◌≡◌, ℕ, ◌+◌, List, [], ◌∷◌, ◌++◌, Option, Some, None, refl, sym, ap, ◌∙◌}
+use Rattle.std.proofs.Common.{◌≡◌, ℕ, ◌+◌, List, [], ◌∷◌, ◌++◌, Option, refl, ap, ◌∙◌}
 use Rattle.std.specs.Prelude.{map, flat_map, unwrap_or}
 use Rattle.sap_net.specs.declared.parts.Operand.{Operand as NetOperand}
 use Rattle.sap_net.specs.declared.parts.Right.TheVariants as right
@@ -9,12 +9,12 @@ use Rattle.sap_net.specs.declared.parts.Wire.{Wire}
 use Rattle.sap_net.specs.declared.parts.Register.{Register}
 use Rattle.sap_net.specs.declared.parts.Memory.{Memory}
 use Rattle.sap_net.specs.Net.{Net}
-use Rattle.sap_modtext.specs.Items.{Mention, Number, Operand, Constant, Right, Item, Port, Direction, File}
+use Rattle.sap_modtext.specs.Items.{Operand, Right, Item, File}
 use Rattle.sap_modtext.specs.Items as item
 use Rattle.sap_modtext.specs.Faults.{Shape, Declaration, declarations, shape_in}
 use Rattle.sap_modtext.specs.Faults as shape
-use Rattle.sap_modtext.specs.Modules.{net_operand, net_right, net_port, port_input, declared_width, net_wires, first_of, first_given, initial_number, next_operand, Write, cell_write, nothing, when, net_register, written_memory, net_memory, shape_registers, shape_memories, netlist_of}
-use Rattle.sap_modtext.proofs.Bare.{bare_name, bare_number, bare_constant, bare_operand, bare_right, bare_item, bare_port, bare}
+use Rattle.sap_modtext.specs.Modules.{net_operand, net_right, net_port, port_input, declared_width, net_wires, first_given, initial_number, next_operand, Write, cell_write, nothing, when, net_register, written_memory, net_memory, shape_registers, shape_memories, netlist_of}
+use Rattle.sap_modtext.proofs.Bare.{bare_operand, bare_right, bare_item, bare_port, bare}
 use Rattle.sap_modtext.proofs.BareFaults.{bare_declaration, all_declared, bare_shape_in}
 
 map_bare : {A B : Type 0} (h : A → A) (f : A → B) → ((x : A) → f (h x) ≡ f x) → (xs : List A) → map f (map h xs) ≡ map f xs

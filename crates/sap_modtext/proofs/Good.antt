@@ -1,14 +1,14 @@
 -- What a file without a fault has, item by item.
-use Rattle.std.proofs.Common.{◌≡◌, ◌≢◌, ℕ, ◌+◌, ◌^◌, ◌<◌, ◌≤◌, List, [], ◌∷◌, ◌++◌, true, false, cond, Option, Some, None, refl, sym, ap, ◌∙◌, subst, inl, inr, arith, append_assoc}
-use Rattle.std.specs.Prelude.{◌⊎◌, map, IsSome, is_some}
+use Rattle.std.proofs.Common.{◌≡◌, ◌≢◌, ℕ, ◌+◌, ◌^◌, ◌<◌, ◌≤◌, List, [], ◌∷◌, ◌++◌, true, false, cond, Some, None, refl, sym, ap, ◌∙◌, subst, inl, inr, arith, append_assoc}
+use Rattle.std.specs.Prelude.{◌⊎◌, map, is_some}
 use Rattle.std.specs.List.{AllByRecursion}
 use Rattle.std.specs.Str.{bytes_eq}
 use Rattle.std.proofs.lemmas.Bool.{or_parts}
 use Rattle.std.proofs.lemmas.List.{append-nil}
 use Rattle.sap_net.specs.Names.{is_among, AreDistinct}
-use Rattle.sap_modtext.specs.Items.{Mention, Number, Operand, Constant, Right, Item, Port, File}
+use Rattle.sap_modtext.specs.Items.{Mention, Operand, Item, Port, File}
 use Rattle.sap_modtext.specs.Items as item
-use Rattle.sap_modtext.specs.Faults.{Shape, memory, wire, Declaration, declarations, shape_in, shape_width, Above, IsItemOf, shape_above, Setting, assign, Target, target_of, is_set, is_integer, has_integer, Use, as_value, uses, suits, constants, ranges, indexes, constant_fits, operand_width, parts_width, pairs, Differ, Among, HasIndex, needs, V3, V4, V5, V6, V7, IsFaultless}
+use Rattle.sap_modtext.specs.Faults.{Shape, memory, wire, Declaration, declarations, shape_in, shape_width, Above, IsItemOf, shape_above, Setting, assign, Target, target_of, is_set, has_integer, Use, as_value, uses, suits, constants, ranges, indexes, constant_fits, operand_width, parts_width, pairs, Differ, Among, HasIndex, needs, V3, V4, V5, V6, V7, IsFaultless}
 use Rattle.sap_modtext.specs.Faults as fault
 
 pub record IsGoodUse (a : Above) (u : Use) : Type 0 where

@@ -6,7 +6,7 @@ use Rattle.sap_bits.specs.declared.Op2.{Op2}
 use Rattle.sap_bits.specs.declared.Op2.TheVariants as binary
 use Rattle.sap_modtext.specs.Items.{Mention, Number, Constant, Operand, Right, Port, Item, File}
 use Rattle.sap_modtext.specs.Items as item
-use Rattle.sap_modtext.specs.Tokens.{Word, Sign, Kind, Token, IsToken}
+use Rattle.sap_modtext.specs.Tokens.{Word, Sign, Token, IsToken}
 use Rattle.sap_modtext.specs.Tokens as t
 
 pub record IsWord (ts : List Token) (word : Word) (r : List Token) : Type 0 where

@@ -11,7 +11,7 @@ use Rattle.sap_tree.specs.declared.syntax.Block.{Block}
 use Rattle.sap_tree.specs.declared.syntax.Decl.{Decl}
 use Rattle.sap_tree.specs.declared.syntax.State.{State}
 use Rattle.sap_tree.specs.declared.syntax.TagExpr.{TagExpr}
-use Rattle.sap_tree.specs.Syntax.{CommandBlock, last_arm}
+use Rattle.sap_tree.specs.Syntax.{CommandBlock}
 use Rattle.sap_tree.specs.Trees.{expression_of, tag_of, tags_of, command_of, block_of, constants_of, arm_block_of, arms_of, else_of, state_of, states_of}
 use Rattle.sap_names.specs.Entities.{Lookup}
 use Rattle.sap_names.specs.NameFaults.{expression_faults, tag_faults, command_faults, block_faults, else_faults, declaration_faults, declarations_faults, state_faults}

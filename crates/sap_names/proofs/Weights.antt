@@ -13,7 +13,7 @@ use Rattle.sap_tree.proofs.Views.{command_of-if, command_of-try_then, command_of
 use Rattle.sap_tree.specs.declared.syntax.Cmd.{Cmd}
 use Rattle.sap_tree.specs.declared.syntax.TagExpr.{TagExpr}
 use Rattle.sap_tree.specs.declared.syntax.State.{State}
-use Rattle.sap_tree.specs.Trees.{tag_of, tags_of, command_of, commands_of, block_of, arm_block_of, arms_before, arms_of, state_of, states_of}
+use Rattle.sap_tree.specs.Trees.{tag_of, tags_of, command_of, commands_of, block_of, arm_block_of, arms_before, state_of, states_of}
 use Rattle.sap_tree.specs.Syntax.{Expression, literal, sized_literal, variable, cell_at, unary_of, binary_of, choice, slice, concat, zero_extend, Expressions, no_part, and_part, TagExpression, level_of, tag_at, level_at, join_of, TagExpressions, no_tag, and_tag, Command, lone, try, if_else, try_then, case_of, Arms, last_arm, CommandBlock, command_block, ElseBlock, no_else, with_else, CommandList, no_command, and_command, StateTree, state_node, StateList, no_state, and_state}
 use Rattle.sap_tree.specs.Syntax as tree
 

@@ -1,5 +1,5 @@
 -- The states and the sites of groups in code, from a place on.
-use Rattle.std.proofs.Common.{◌≡◌, ℕ, ◌+◌, ◌<◌, ◌≤◌, List, [], ◌∷◌, ◌++◌, length, get_or, drop, refl, sym, ap, ap₂, ◌∙◌, arith, Result, Ok, Err, OnOk, length-append}
+use Rattle.std.proofs.Common.{◌≡◌, ℕ, ◌+◌, ◌<◌, ◌≤◌, List, [], ◌∷◌, ◌++◌, length, get_or, drop, refl, sym, ap, ap₂, ◌∙◌, arith, length-append}
 use Rattle.sap_lemmas.proofs.Lists.{drop_past}
 use Rattle.sap_tree.specs.declared.syntax.Cmd.{Cmd}
 use Rattle.sap_tree.specs.declared.syntax.Decl.{Decl}
@@ -198,8 +198,4 @@ unfolding group_site_count
 whole_sites v ds ss es seen j count a b h k = (let e = ap₂ (λ (x : List Entity) (l : List State). group_site_count x l) a b in omega (arith, e, h, k))
 
 -- a call's clause as that of its caller
-pub on_ok : {T E : Type 0} (r : Result T E) (P Q : Type 0) → (P → Q) → OnOk r P → OnOk r Q
-on_ok (Ok x) P Q f h = f h
-on_ok (Err e) P Q f h = tt
-
 pub ruleset states = (state_from, state_sites-is, states_in-is, add_add)

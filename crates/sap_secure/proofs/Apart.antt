@@ -1,6 +1,6 @@
 -- What registers, memories and states have apart.
 use Rattle.std.proofs.Common.{◌≡◌, ℕ, suc, Bool, true, false, ◌||◌, refl, sym, ◌∙◌, nat_eq, inl, inr}
-use Rattle.sap_lemmas.proofs.Bools.{and_left}
+use Rattle.sap_lemmas.proofs.Bools.{and_left, either_follows}
 use Rattle.std.proofs.lemmas.Bool.{eqb-true, false_from_ne_true, ne_eqb, or_cases, or_from, or_left, or_right}
 use Rattle.sap_meaning.proofs.ProgramLemmas.{memory_no_state, register_no_memory, register_no_state}
 use Rattle.sap_meaning.proofs.FineLemmas.{inside_among}
@@ -8,9 +8,6 @@ use Rattle.sap_meaning.specs.Program.{World, is_dynamic, entity, is_register, is
 use Rattle.sap_meaning.specs.Touches.{among, step_assigns, assigns, arms_assign, block_assigns, state_assigns, group_assigns, step_hangs, hangs, arms_hang, block_hangs}
 use Rattle.sap_meaning.specs.Fine.{FineStep, FineCommand, FineArms, FineBlock, FineState, FineGroup, inside, step_writes, writes, arms_write, block_writes, step_reaches, reaches, arms_reaching, block_reaches, group_reaches}
 use Rattle.sap_secure.proofs.Concerns.{parted_of, group_parted, step_concerns, concerns, arms_concern, block_concerns}
-
-either_of : (a b c d : Bool) → (a ≡ true → c ≡ true) → (b ≡ true → d ≡ true) → (a || b) ≡ true → (c || d) ≡ true
-either_of a b c d f g h = elim (or_cases a b h) [ inl i ↦ or_left c d (f i) | inr i ↦ or_right c d (g i) ]
 
 module _ (w : World) where
   pub register_apart : (x y : ℕ) → is_state w x ≡ true → is_register w y ≡ true → nat_eq x y ≡ false
@@ -78,21 +75,21 @@ module _ (w : World) where
     mutual
       pub hung : (q j : Group) (c : Command) → FineCommand w q j c → concerns w e g c m ≡ true → reaches g c m ≡ true
       hung q j (lone k) fine h = step_hung q j k fine h
-      hung q j (try k hang b) fine h = either_of (step_concerns w e g k m) (block_concerns w e g b m) (step_reaches g k m) (block_reaches g b m) (step_hung q j k fine.0) (block_hung q j b fine.1) h
-      hung q j (if_else hang t a b) fine h = either_of (block_concerns w e g a m) (block_concerns w e g b m) (block_reaches g a m) (block_reaches g b m) (block_hung q j a fine.1) (block_hung q j b fine.2) h
+      hung q j (try k hang b) fine h = either_follows (step_concerns w e g k m) (block_concerns w e g b m) (step_reaches g k m) (block_reaches g b m) (step_hung q j k fine.0) (block_hung q j b fine.1) h
+      hung q j (if_else hang t a b) fine h = either_follows (block_concerns w e g a m) (block_concerns w e g b m) (block_reaches g a m) (block_reaches g b m) (block_hung q j a fine.1) (block_hung q j b fine.2) h
       hung q j (try_then k hang a b) fine h =
-          either_of (step_concerns w e g k m) (block_concerns w e g a m || block_concerns w e g b m) (step_reaches g k m) (block_reaches g a m || block_reaches g b m) (step_hung q j k fine.0)
-          (either_of (block_concerns w e g a m) (block_concerns w e g b m) (block_reaches g a m) (block_reaches g b m) (block_hung q j a fine.1) (block_hung q j b fine.2)) h
+          either_follows (step_concerns w e g k m) (block_concerns w e g a m || block_concerns w e g b m) (step_reaches g k m) (block_reaches g a m || block_reaches g b m) (step_hung q j k fine.0)
+          (either_follows (block_concerns w e g a m) (block_concerns w e g b m) (block_reaches g a m) (block_reaches g b m) (block_hung q j a fine.1) (block_hung q j b fine.2)) h
       hung q j (case_of hang t arms) fine h = arms_hung q j arms fine.1 h
 
       arms_hung : (q j : Group) (arms : Arms) → FineArms w q j arms → arms_concern w e g arms m ≡ true → arms_reaching (group_reaches g) arms m ≡ true
       arms_hung q j (last_arm b) fine h = block_hung q j b fine h
       arms_hung q j (and_arm constants b arms) fine h =
-          either_of (block_concerns w e g b m) (arms_concern w e g arms m) (block_reaches g b m) (arms_reaching (group_reaches g) arms m) (block_hung q j b fine.0) (arms_hung q j arms fine.1) h
+          either_follows (block_concerns w e g b m) (arms_concern w e g arms m) (block_reaches g b m) (arms_reaching (group_reaches g) arms m) (block_hung q j b fine.0) (arms_hung q j arms fine.1) h
 
       pub block_hung : (q j : Group) (b : Block) → FineBlock w q j b → block_concerns w e g b m ≡ true → block_reaches g b m ≡ true
       block_hung q j end_block fine h = h
-      block_hung q j (command_then c cs) fine h = either_of (concerns w e g c m) (block_concerns w e g cs m) (reaches g c m) (block_reaches g cs m) (hung q j c fine.0) (block_hung q j cs fine.1) h
+      block_hung q j (command_then c cs) fine h = either_follows (concerns w e g c m) (block_concerns w e g cs m) (reaches g c m) (block_reaches g cs m) (hung q j c fine.0) (block_hung q j cs fine.1) h
 
   -- a state that is neither the body's own nor a child hangs on nothing
   module _ (x : ℕ) (s : is_state w x ≡ true) (e : ℕ) (g : Group) (own : nat_eq x e ≡ false) (kids : among g x ≡ false) (free : group_assigns g x ≡ false) where
@@ -133,21 +130,21 @@ module _ (w : World) where
     mutual
       pub writes_within : (c : Command) → writes c m ≡ true → reaches g c m ≡ true
       writes_within (lone k) h = step_within k h
-      writes_within (try k hang b) h = either_of (step_writes k m) (block_writes b m) (step_reaches g k m) (block_reaches g b m) (step_within k) (block_within b) h
-      writes_within (if_else hang e a b) h = either_of (block_writes a m) (block_writes b m) (block_reaches g a m) (block_reaches g b m) (block_within a) (block_within b) h
+      writes_within (try k hang b) h = either_follows (step_writes k m) (block_writes b m) (step_reaches g k m) (block_reaches g b m) (step_within k) (block_within b) h
+      writes_within (if_else hang e a b) h = either_follows (block_writes a m) (block_writes b m) (block_reaches g a m) (block_reaches g b m) (block_within a) (block_within b) h
       writes_within (try_then k hang a b) h =
-          either_of (step_writes k m) (block_writes a m || block_writes b m) (step_reaches g k m) (block_reaches g a m || block_reaches g b m) (step_within k)
-          (either_of (block_writes a m) (block_writes b m) (block_reaches g a m) (block_reaches g b m) (block_within a) (block_within b)) h
+          either_follows (step_writes k m) (block_writes a m || block_writes b m) (step_reaches g k m) (block_reaches g a m || block_reaches g b m) (step_within k)
+          (either_follows (block_writes a m) (block_writes b m) (block_reaches g a m) (block_reaches g b m) (block_within a) (block_within b)) h
       writes_within (case_of hang e arms) h = arms_within arms h
 
       arms_within : (arms : Arms) → arms_write arms m ≡ true → arms_reaching (group_reaches g) arms m ≡ true
       arms_within (last_arm b) h = block_within b h
       arms_within (and_arm constants b arms) h =
-          either_of (block_writes b m) (arms_write arms m) (block_reaches g b m) (arms_reaching (group_reaches g) arms m) (block_within b) (arms_within arms) h
+          either_follows (block_writes b m) (arms_write arms m) (block_reaches g b m) (arms_reaching (group_reaches g) arms m) (block_within b) (arms_within arms) h
 
       block_within : (b : Block) → block_writes b m ≡ true → block_reaches g b m ≡ true
       block_within end_block h = h
-      block_within (command_then c cs) h = either_of (writes c m) (block_writes cs m) (reaches g c m) (block_reaches g cs m) (writes_within c) (block_within cs) h
+      block_within (command_then c cs) h = either_follows (writes c m) (block_writes cs m) (reaches g c m) (block_reaches g cs m) (writes_within c) (block_within cs) h
 
 -- a register or memory that hangs on a block is assigned in it or in a body below
 module _ (e : ℕ) (g : Group) (x : ℕ) (own : nat_eq x e ≡ false) (kids : among g x ≡ false) where

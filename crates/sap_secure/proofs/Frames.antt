@@ -163,15 +163,15 @@ module _ (w : World) (i : Site w) (q : ℕ) where
       open_list (command_then c cs) fine plain un pc t = kept_next w (own x) q _ _ _ (open_kept c fine.0 plain.0 (neither_left _ _ un) pc t) (open_list cs fine.1 plain.1 (neither_right (retags c x) _ un) pc _)
 
   -- a cell z of the enforced memory m
-  module _ (m : ℕ) (mem : is_memory w m ≡ true) (d : is_dynamic w m ≡ false) (z : Slot) (cell : (h : ℕ → Bool) → raised h (home w z) ≡ false) (at : owner z ≡ m) (lone : (x : ℕ) → same_slot (home w z) (own x) ≡ false) where
+  module _ (m : ℕ) (mem : is_memory w m ≡ true) (d : is_dynamic w m ≡ false) (z : Slot) (cell : (h : ℕ → Bool) → raised h (home w z) ≡ false) (at : owner z ≡ m) (unmixed : (x : ℕ) → same_slot (home w z) (own x) ≡ false) where
     pub cell_step : (k : Step) → transfers k ≡ false → step_writes k m ≡ false → (pc : ℕ) (b t : Store) → Kept w z q t (effect w (spot i) i.enter k pc b t).store
     unfolding effect
-    cell_step (assign site y e) plain un pc b t = kept_next w z q _ _ _ (kept_number w z q t (own y) _) (kept_level w z q _ (own y) _ (lone y))
+    cell_step (assign site y e) plain un pc b t = kept_next w z q _ _ _ (kept_number w z q t (own y) _) (kept_level w z q _ (own y) _ (unmixed y))
     cell_step (write site n j e) plain un pc b t = elim (cases_Bool (is_dynamic w n)) [
       | inl y ↦ rw y (kept_next w z q _ _ _ (kept_raise w z q t (λ y. nat_eq y n) _ (cell (λ y. nat_eq y n))) (kept_number w z q _ (next n _) _))
       | inr y ↦ rw y (kept_number w z q t (next n _) _)
     ]
-    cell_step (retag site y n) plain un pc b t = kept_next w z q _ _ _ (kept_number w z q t (own y) _) (kept_level w z q _ (own y) _ (lone y))
+    cell_step (retag site y n) plain un pc b t = kept_next w z q _ _ _ (kept_number w z q t (own y) _) (kept_level w z q _ (own y) _ (unmixed y))
     cell_step (retag_cell site n j t') plain un pc b t = kept_next w z q _ _ _ (kept_number w z q t (next n _) _) (kept_level w z q _ (next n _) _ (other (value w j b)))
       where
         other : (j : ℕ) → same_slot (home w z) (home w (next n j)) ≡ false

@@ -1,7 +1,7 @@
 -- Confinement of a command on the active path.
-use Rattle.std.proofs.Common.{◌≡◌, ℕ, zero, suc, Bool, true, false, ◌||◌, List, [], ◌∷◌, refl, sym, ◌∙◌, subst, nat_eq, inl, inr, ◌⊎◌}
-use Rattle.std.proofs.lemmas.Bool.{cases_Bool, and_from, false_from_ne_true, ne_eqb, or_cases, or_from, or_left, or_right}
-use Rattle.sap_lemmas.proofs.Bools.{and_left, and_right, neither_left, neither_right}
+use Rattle.std.proofs.Common.{◌≡◌, ℕ, zero, suc, true, false, ◌||◌, List, [], ◌∷◌, refl, sym, ◌∙◌, subst, nat_eq, inl, inr, ◌⊎◌}
+use Rattle.std.proofs.lemmas.Bool.{cases_Bool, and_from, false_from_ne_true, ne_eqb, or_from, or_left, or_right}
+use Rattle.sap_lemmas.proofs.Bools.{and_left, and_right, either_follows, neither_left, neither_right}
 use Rattle.sap_lemmas.proofs.Numbers.{test_of_same}
 use Rattle.sap_meaning.proofs.ProgramLemmas.{register_no_memory}
 use Rattle.sap_meaning.proofs.FineLemmas.{inside_among}
@@ -85,27 +85,24 @@ module _ (w : World) (i : Site w) where
   step_own (go_to site target) fine h = refl
   step_own (fall_to_child site hang) fine h = let no = or_from _ _ own_out (out i.state (node w i).kind) in cc
 
-  either : (a b c d : Bool) → (a ≡ true → c ≡ true) → (b ≡ true → d ≡ true) → (a || b) ≡ true → (c || d) ≡ true
-  either a b c d f g h = elim (or_cases a b h) [ inl x ↦ or_left c d (f x) | inr x ↦ or_right c d (g x) ]
-
   mutual
     own_goto : (c : Command) → FineCommand w i.siblings i.kids c → hangs i.state i.kids c i.state ≡ true → has_goto c ≡ true
     own_goto (lone k) fine h = step_own k fine h
-    own_goto (try k hang b) fine h = either (step_hangs i.state i.kids k i.state) (block_hangs i.state i.kids b i.state) (is_goto k) (block_has_goto b) (step_own k fine.0) (block_own b fine.1) h
-    own_goto (if_else hang t a b) fine h = either (block_hangs i.state i.kids a i.state) (block_hangs i.state i.kids b i.state) (block_has_goto a) (block_has_goto b) (block_own a fine.1) (block_own b fine.2) h
+    own_goto (try k hang b) fine h = either_follows (step_hangs i.state i.kids k i.state) (block_hangs i.state i.kids b i.state) (is_goto k) (block_has_goto b) (step_own k fine.0) (block_own b fine.1) h
+    own_goto (if_else hang t a b) fine h = either_follows (block_hangs i.state i.kids a i.state) (block_hangs i.state i.kids b i.state) (block_has_goto a) (block_has_goto b) (block_own a fine.1) (block_own b fine.2) h
     own_goto (try_then k hang a b) fine h =
-        either (step_hangs i.state i.kids k i.state) (block_hangs i.state i.kids a i.state || block_hangs i.state i.kids b i.state) (is_goto k) (block_has_goto a || block_has_goto b) (step_own k fine.0)
-        (either (block_hangs i.state i.kids a i.state) (block_hangs i.state i.kids b i.state) (block_has_goto a) (block_has_goto b) (block_own a fine.1) (block_own b fine.2)) h
+        either_follows (step_hangs i.state i.kids k i.state) (block_hangs i.state i.kids a i.state || block_hangs i.state i.kids b i.state) (is_goto k) (block_has_goto a || block_has_goto b) (step_own k fine.0)
+        (either_follows (block_hangs i.state i.kids a i.state) (block_hangs i.state i.kids b i.state) (block_has_goto a) (block_has_goto b) (block_own a fine.1) (block_own b fine.2)) h
     own_goto (case_of hang t arms) fine h = arms_own arms fine.1 h
 
     arms_own : (arms : Arms) → FineArms w i.siblings i.kids arms → arms_hang i.state i.kids arms i.state ≡ true → arms_have_goto arms ≡ true
     arms_own (last_arm b) fine h = block_own b fine h
     arms_own (and_arm constants b arms) fine h =
-        either (block_hangs i.state i.kids b i.state) (arms_hang i.state i.kids arms i.state) (block_has_goto b) (arms_have_goto arms) (block_own b fine.0) (arms_own arms fine.1) h
+        either_follows (block_hangs i.state i.kids b i.state) (arms_hang i.state i.kids arms i.state) (block_has_goto b) (arms_have_goto arms) (block_own b fine.0) (arms_own arms fine.1) h
 
     block_own : (b : Block) → FineBlock w i.siblings i.kids b → block_hangs i.state i.kids b i.state ≡ true → block_has_goto b ≡ true
     block_own end_block fine h = h
-    block_own (command_then c cs) fine h = either (hangs i.state i.kids c i.state) (block_hangs i.state i.kids cs i.state) (has_goto c) (block_has_goto cs) (own_goto c fine.0) (block_own cs fine.1) h
+    block_own (command_then c cs) fine h = either_follows (hangs i.state i.kids c i.state) (block_hangs i.state i.kids cs i.state) (has_goto c) (block_has_goto cs) (own_goto c fine.0) (block_own cs fine.1) h
 
   module _ (x : ℕ) (s : is_state w x ≡ true) (other : nat_eq x i.state ≡ false) where
     step_kid : (k : Step) → FineStep w i.siblings i.kids k → step_hangs i.state i.kids k x ≡ true → is_fall k ≡ true
@@ -119,21 +116,21 @@ module _ (w : World) (i : Site w) where
     mutual
       kid_fall : (c : Command) → FineCommand w i.siblings i.kids c → hangs i.state i.kids c x ≡ true → has_fall c ≡ true
       kid_fall (lone k) fine h = step_kid k fine h
-      kid_fall (try k hang b) fine h = either (step_hangs i.state i.kids k x) (block_hangs i.state i.kids b x) (is_fall k) (block_has_fall b) (step_kid k fine.0) (block_kid b fine.1) h
-      kid_fall (if_else hang t a b) fine h = either (block_hangs i.state i.kids a x) (block_hangs i.state i.kids b x) (block_has_fall a) (block_has_fall b) (block_kid a fine.1) (block_kid b fine.2) h
+      kid_fall (try k hang b) fine h = either_follows (step_hangs i.state i.kids k x) (block_hangs i.state i.kids b x) (is_fall k) (block_has_fall b) (step_kid k fine.0) (block_kid b fine.1) h
+      kid_fall (if_else hang t a b) fine h = either_follows (block_hangs i.state i.kids a x) (block_hangs i.state i.kids b x) (block_has_fall a) (block_has_fall b) (block_kid a fine.1) (block_kid b fine.2) h
       kid_fall (try_then k hang a b) fine h =
-          either (step_hangs i.state i.kids k x) (block_hangs i.state i.kids a x || block_hangs i.state i.kids b x) (is_fall k) (block_has_fall a || block_has_fall b) (step_kid k fine.0)
-          (either (block_hangs i.state i.kids a x) (block_hangs i.state i.kids b x) (block_has_fall a) (block_has_fall b) (block_kid a fine.1) (block_kid b fine.2)) h
+          either_follows (step_hangs i.state i.kids k x) (block_hangs i.state i.kids a x || block_hangs i.state i.kids b x) (is_fall k) (block_has_fall a || block_has_fall b) (step_kid k fine.0)
+          (either_follows (block_hangs i.state i.kids a x) (block_hangs i.state i.kids b x) (block_has_fall a) (block_has_fall b) (block_kid a fine.1) (block_kid b fine.2)) h
       kid_fall (case_of hang t arms) fine h = arms_kid arms fine.1 h
 
       arms_kid : (arms : Arms) → FineArms w i.siblings i.kids arms → arms_hang i.state i.kids arms x ≡ true → arms_have_fall arms ≡ true
       arms_kid (last_arm b) fine h = block_kid b fine h
       arms_kid (and_arm constants b arms) fine h =
-          either (block_hangs i.state i.kids b x) (arms_hang i.state i.kids arms x) (block_has_fall b) (arms_have_fall arms) (block_kid b fine.0) (arms_kid arms fine.1) h
+          either_follows (block_hangs i.state i.kids b x) (arms_hang i.state i.kids arms x) (block_has_fall b) (arms_have_fall arms) (block_kid b fine.0) (arms_kid arms fine.1) h
 
       block_kid : (b : Block) → FineBlock w i.siblings i.kids b → block_hangs i.state i.kids b x ≡ true → block_has_fall b ≡ true
       block_kid end_block fine h = h
-      block_kid (command_then c cs) fine h = either (hangs i.state i.kids c x) (block_hangs i.state i.kids cs x) (has_fall c) (block_has_fall cs) (kid_fall c fine.0) (block_kid cs fine.1) h
+      block_kid (command_then c cs) fine h = either_follows (hangs i.state i.kids c x) (block_hangs i.state i.kids cs x) (has_fall c) (block_has_fall cs) (kid_fall c fine.0) (block_kid cs fine.1) h
 
 -- an input is no register and no memory
 input_alone : (k : Kind) → kind_is_register k ≡ false → (kind_is_input k || kind_is_register k) ≡ true → (kind_is_register k ≡ false) × (kind_is_memory k ≡ false)

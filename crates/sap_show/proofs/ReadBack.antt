@@ -4,7 +4,7 @@ use Rattle.std.proofs.lemmas.Bool.Decides.{nat_tests}
 use Rattle.std.specs.Prelude.{nat_lt, ◌&&◌}
 use Rattle.std.proofs.lemmas.Bool.{and_parts}
 use Rattle.sap_parse.specs.Grammar as g
-use Rattle.sap_parse.specs.Grammar.{sign_of, unary_sign_of}
+use Rattle.sap_parse.specs.Grammar.{sign_of}
 use Rattle.sap_parse.specs.Stages.{Stage, IsToken, IsSign, here, spot_here}
 use Rattle.sap_parse.specs.declared.limit.Role.TheVariants as r
 use Rattle.sap_parse.specs.declared.token.Sign.TheVariants as s

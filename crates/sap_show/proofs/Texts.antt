@@ -1,5 +1,5 @@
 -- The text of each construct, from left to right.
-use Rattle.std.proofs.Common.{◌≡◌, ℕ, zero, suc, ◌+◌, ◌-◌, ◌<◌, ◌≤◌, List, [], ◌∷◌, ◌++◌, length, get_or, drop, take, refl, sym, ap, ◌∙◌, arith, add-one, append_assoc, Some, None, Result, Ok, Err, OnOk, true, false, cond, Bool}
+use Rattle.std.proofs.Common.{◌≡◌, ℕ, zero, suc, ◌+◌, ◌-◌, ◌<◌, ◌≤◌, List, [], ◌∷◌, ◌++◌, length, get_or, drop, take, refl, sym, ap, ◌∙◌, arith, add-one, append_assoc, Some, None, true, false, cond}
 use Rattle.std.proofs.lemmas.Bool.Decides.{nat_tests}
 use Rattle.std.specs.Prelude.{codes, decimal, nat_lt, flat_map}
 use Rattle.sap_lemmas.proofs.Lists.{after_part, take_rest_of}
@@ -87,10 +87,6 @@ unfolding expression_text
 text_zext spot x w = refl
 
 -- what is written behind what is there
-
-pub on_ok : {E : Type 0} (r : Result (Unit {0}) E) (P Q : Type 0) → (P → Q) → OnOk r P → OnOk r Q
-on_ok (Ok u) P Q f h = f h
-on_ok (Err e) P Q f h = tt
 
 pub grow_two : (old a new p q all : List ℕ) → a ≡ old ++ p → new ≡ a ++ q → all ≡ p ++ q → new ≡ old ++ all
 grow_two old a new p q all e f g = f ∙ ap (λ z. z ++ q) e ∙ append_assoc old p q ∙ ap (λ z. old ++ z) (sym g)

@@ -1,6 +1,6 @@
 -- The numbers of a line that fits its fields fit the inputs.
-use Rattle.std.proofs.Common.{◌≡◌, ℕ, ◌^◌, ◌<◌, List, [], ◌∷◌, ◌++◌, Bool, true, Some, None, length, get_or, map, sym, ◌∙◌, subst, refl, bytes_eq, inl, inr}
-use Rattle.std.specs.Prelude.{filter, All, not, ◌==◌}
+use Rattle.std.proofs.Common.{◌≡◌, ℕ, ◌^◌, ◌<◌, List, [], ◌∷◌, ◌++◌, true, Some, None, length, get_or, map, sym, ◌∙◌, subst, refl, bytes_eq, inl, inr}
+use Rattle.std.specs.Prelude.{All, not, ◌==◌}
 use Rattle.std.specs.List.{AllByRecursion}
 use Rattle.std.proofs.lemmas.Bool.{cases_Bool, false≢true}
 use Rattle.std.proofs.lemmas.Bool.Decides.{Decides-eqb}

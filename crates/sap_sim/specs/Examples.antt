@@ -1,6 +1,6 @@
 -- A worked example: a netlist with a tagged input, whose tag comes first, a plain input, a register with a tag and one without.
-use Rattle.std.specs.Prelude.{◌≡◌, ℕ, List, [], ◌∷◌, true, false, codes}
-use Rattle.sap_lattice.specs.Levels.{Levels}
+use Rattle.std.specs.Prelude.{◌≡◌, ℕ, List, [], ◌∷◌, codes}
+use Rattle.sap_lattice.specs.Examples.{low_high}
 use Rattle.sap_meaning.specs.Cycle.{Tagged as Given}
 use Rattle.sap_net.specs.declared.parts.Operand.TheVariants.{Constant}
 use Rattle.sap_net.specs.declared.parts.PortKind.TheVariants as kind
@@ -12,10 +12,6 @@ use Rattle.sap_stim.specs.declared.field.Field.TheVariants.{Tagged, Plain}
 use Rattle.sap_sim.specs.Fields.{fields_of}
 use Rattle.sap_sim.specs.Numbers.{numbers_of}
 use Rattle.sap_sim.specs.Shown.{shown_registers}
-
--- low is below high
-abbrev pub levels : Levels
-levels = record { names = codes "low" ∷ codes "high" ∷ []; table = (true ∷ true ∷ []) ∷ (false ∷ true ∷ []) ∷ [] }
 
 abbrev pub register : List ℕ → (width : ℕ) → Register
 register name width = record { name = name; width = width; start = 0; next = Constant width 0 }
@@ -56,11 +52,11 @@ abbrev pub given : (number level : ℕ) → Given
 given number level = record { number = number; level = level }
 
 abbrev pub Fields : Type 0
-Fields = fields_of levels small ≡ Tagged 8 ∷ Plain 4 ∷ []
+Fields = fields_of low_high small ≡ Tagged 8 ∷ Plain 4 ∷ []
 
 -- the line `5@high 3`: 1 is the code of high
 abbrev pub Numbers : Type 0
-Numbers = numbers_of levels small (given 5 1 ∷ given 3 0 ∷ []) ≡ 1 ∷ 5 ∷ 3 ∷ []
+Numbers = numbers_of low_high small (given 5 1 ∷ given 3 0 ∷ []) ≡ 1 ∷ 5 ∷ 3 ∷ []
 
 abbrev pub Registers : Type 0
-Registers = shown_registers levels small ≡ codes "x" ∷ []
+Registers = shown_registers low_high small ≡ codes "x" ∷ []

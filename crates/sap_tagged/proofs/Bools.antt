@@ -3,7 +3,7 @@ use Rattle.std.proofs.Common.{◌≡◌, ℕ, Bool, true, false, not, ◌||◌, 
 use Rattle.std.proofs.lemmas.Bool.{cases_Bool, and_parts, or_right}
 use Rattle.std.proofs.lemmas.Grind.{common_steps}
 use Rattle.sap_lemmas.proofs.Bools.{true_is_not_false}
-use Rattle.sap_meaning.specs.Program.{World, Entity, Kind, entity, nothing, root, is_dynamic, is_input, is_register, is_memory, is_state, kind_is_input, kind_is_register, kind_is_memory, kind_is_state}
+use Rattle.sap_meaning.specs.Program.{World, Entity, Kind, entity, nothing, root, is_dynamic, is_register, is_memory, is_state, kind_is_input, kind_is_register, kind_is_memory, kind_is_state}
 use Rattle.sap_meaning.specs.Program as program
 use Rattle.sap_tagged.specs.Stands.{is_value, has_tag}
 

@@ -6,6 +6,7 @@ use Rattle.sap_tree.proofs.SyntaxLemmas.{tree_of_whole}
 use Rattle.sap_tree.specs.Syntax as tree
 use Rattle.sap_tree.specs.Syntax.{DesignTree}
 use Rattle.sap_tree.specs.Whole.{is_tree, is_whole, is_input, is_register, is_memory, command_count, arms_count, block_count, else_count, list_count, state_count, states_count, states_depth, state_commands, states_commands}
+use Rattle.sap_lattice.proofs.KeptLemmas.{order_of-count}
 use Rattle.sap_lattice.specs.Levels.{Levels, order_of}
 use Rattle.sap_lattice.specs.Codes.{width_of}
 use Rattle.sap_names.specs.Entities.{entities_of}
@@ -20,7 +21,6 @@ use Rattle.sap_resolve.specs.Sized.Ranges.{IsWidth}
 use Rattle.sap_resolve.proofs.sized.Declared.{resolved}
 use Rattle.sap_resolve.proofs.sized.Programs.{faultless, sizes_fit_law}
 use Rattle.sap_resolve.proofs.sized.RangedPrograms.{widths_in_range_law}
-use Rattle.sap_resolve.proofs.sized.Tags.{level_count}
 use Rattle.sap_interface.specs.Designs.{named_of, sites_of}
 use Rattle.sap_tagged.specs.Commands.{wires, wires_arms, wires_block}
 use Rattle.sap_tagged.specs.States.{wires_state, wires_group}
@@ -113,7 +113,7 @@ limits d h =
 
 module _ (ls : Levels) (D : DesignTree) (sg : IsSound ls D) where
   levels_few : (order_of ls).count ≤ 64
-  levels_few = (let c : (order_of ls).count ≡ length ls.names = level_count ls in let e : length ls.names ≤ 64 = sg.lattice.names.before.not_too_many in omega arith)
+  levels_few = (let c : (order_of ls).count ≡ length ls.names = order_of-count ls in let e : length ls.names ≤ 64 = sg.lattice.names.before.not_too_many in omega arith)
 
   tag_wide : IsWidth (width_of (order_of ls))
   tag_wide =

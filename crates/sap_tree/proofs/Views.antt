@@ -20,7 +20,7 @@ use Rattle.sap_tree.specs.declared.syntax.TagExpr.{TagExpr, Row_of-TagExpr, end_
 use Rattle.sap_tree.specs.declared.syntax.TagExpr.TheBlock.{hidden-the_row-TagExpr-0}
 use Rattle.sap_tree.specs.declared.syntax.TagExpr.TheVariants as t
 use Rattle.sap_tree.specs.Syntax
-use Rattle.sap_tree.specs.Trees.{expression_of, expression_row_of, expressions_of, tag_of, tag_row_of, tags_of, simple_of, command_of, held_of, constants_of, arm_block_of, arm_row_of, command_row_of, commands_of, block_of, arms_before, arms_of, else_of, state_of, state_row_of, states_of}
+use Rattle.sap_tree.specs.Trees.{expression_of, expression_row_of, expressions_of, tag_of, tag_row_of, tags_of, simple_of, command_of, held_of, arm_row_of, command_row_of, commands_of, block_of, arms_of, else_of, state_of, state_row_of, states_of}
 use denote.Hole.Carrier.{out}
 
 -- rows and lists

@@ -1,5 +1,5 @@
 -- Helping wires: no two have the same width and right side, and they are numbered in order.
-use Rattle.std.proofs.Common.{◌≡◌, ℕ, suc, ◌+◌, List, [], ◌∷◌, ◌++◌, map, not, length, Some, None, Bool, true, false, sym, ap, ap₂, ◌∙◌, subst, refl, inl, inr, arith, append-nil, length-append}
+use Rattle.std.proofs.Common.{◌≡◌, ℕ, suc, ◌+◌, List, [], ◌∷◌, ◌++◌, map, not, length, Bool, true, false, sym, ap, ap₂, ◌∙◌, subst, refl, inl, inr, arith, append-nil, length-append}
 use Rattle.std.specs.List.{AllByRecursion}
 use Rattle.sap_lemmas.proofs.Everywhere.{all_follow}
 use Rattle.sap_maps.specs.Maps.{Name}

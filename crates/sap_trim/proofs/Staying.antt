@@ -14,7 +14,6 @@ use Rattle.sap_net.specs.declared.parts.Right.{Right}
 use Rattle.sap_net.specs.declared.parts.Right.TheVariants.{Copy, Choose}
 use Rattle.sap_net.specs.declared.parts.Register.{Register}
 use Rattle.sap_net.specs.declared.parts.Wire.{Wire}
-use Rattle.sap_net.proofs.NameMaps.{same_bytes, at_other}
 use Rattle.sap_net.specs.NameMaps.{at_name, Puts, NameMap}
 use Rattle.sap_fold.proofs.Provided.{holds_both}
 use Rattle.sap_trim.specs.declared.stays.Stay.{Stay}

@@ -88,10 +88,6 @@ module _ (old new : Table) (x : List ℕ) (e : Entry) (entries : (n : List ℕ) 
           ∙ ap (λ (b : Bool). entry_set (entry_of old n) t || b) (sym (and_true (same_setting t s)))
       sets t n false h = sym (ap (λ (b : Bool). entry_set (entry_of old n) t || b) (and_false (same_setting t s)) ∙ or_false _)
 
-pub on_ok : {T E P Q : Type 0} (r : Result T E) → (P → Q) → OnOk r P → OnOk r Q
-on_ok (Ok x) f h = f h
-on_ok (Err e) f h = h
-
 over : {X : Type 0} (b : Bool) (e d : X) (o : Option X) → cond b (Some e) o ≡ (if b then Some e else cond b (Some d) o)
 over true e d o = refl
 over false e d o = refl

@@ -6,10 +6,10 @@ use Rattle.sap_bits.specs.declared.Op1.{Op1}
 use Rattle.sap_bits.specs.declared.Op2.{Op2}
 use Rattle.sap_modtext.specs.Items.{Mention, Number, Operand, Constant, Right, Item, Port, Direction, File}
 use Rattle.sap_modtext.specs.Items as item
-use Rattle.sap_modtext.specs.Tokens.{Word, Sign, Kind, Token, IsToken}
+use Rattle.sap_modtext.specs.Tokens.{Word, Sign, Token, IsToken}
 use Rattle.sap_modtext.specs.Tokens as t
 use Rattle.sap_modtext.specs.Grammar as g
-use Rattle.sap_modtext.specs.Grammar.{IsWord, IsSign, IsName, IsNumber, IsDigit, IsConstant, unary_sign, binary_sign, IsOperand, IsRange, IsPort, ArePorts, AreParts, IsRight, IsClocked, IsLoop, IsItem, AreItems, IsFile}
+use Rattle.sap_modtext.specs.Grammar.{IsWord, IsSign, IsName, IsNumber, IsDigit, IsConstant, IsOperand, IsPort, ArePorts, AreParts, IsRight, IsItem, AreItems, IsFile}
 use Rattle.sap_vprint.specs.Text.{Piece, space, line, word, sign, name, operand, operand_text, part_pieces, right_pieces, item_pieces, port_pieces, file_pieces, end_of_ports, end_of_file}
 use Rattle.sap_vprint.proofs.Spaced.{tokens_at, kind_of_operand}
 use Rattle.sap_modtext.proofs.Bare.{bare_name, bare_operand, bare_right, bare_item, bare_port, bare}

@@ -1,5 +1,5 @@
 -- The texts of lines, from left to right.
-use Rattle.std.proofs.Common.{◌≡◌, ◌-◌, ◌+◌, ◌<◌, ℕ, List, [], ◌∷◌, ◌++◌, refl, sym, ap, ◌∙◌, append_assoc, Result, Ok, Err, OnOk}
+use Rattle.std.proofs.Common.{◌≡◌, ◌-◌, ◌+◌, ◌<◌, ℕ, List, [], ◌∷◌, ◌++◌, refl, sym, ap, ◌∙◌, append_assoc}
 use Rattle.std.specs.Prelude.{codes, decimal, map, flat_map}
 use Rattle.std.proofs.lemmas.Grind.{flat_map-append}
 use Rattle.std.proofs.lemmas.List.{append-nil}
@@ -45,10 +45,6 @@ parts_grow os rest o a b c e f g =
     ∙ append_assoc a (operand_text (operand_of o)) (flat_map (λ x. text_of (part_pieces (operand_of x))) rest)
     ∙ ap (λ z. a ++ (operand_text (operand_of o) ++ z)) (sym (more_parts_text rest))
     ∙ ap (λ z. a ++ text_of (parts_pieces (map operand_of z))) (sym e)
-
-pub on_ok : {E : Type 0} (r : Result (Unit {0}) E) (P Q : Type 0) → (P → Q) → OnOk r P → OnOk r Q
-on_ok (Ok u) P Q f h = f h
-on_ok (Err e) P Q f h = tt
 
 pub begin_grows : (n o a b : List ℕ) → a ≡ o ++ codes "module " → b ≡ a ++ n → b ++ codes "(\n  input clk" ≡ o ++ text_of (head_pieces n)
 begin_grows n o a b e f = rw (f, e) (simp append_assoc)

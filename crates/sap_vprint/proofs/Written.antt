@@ -8,7 +8,7 @@ use Rattle.sap_bits.specs.declared.Op1.TheVariants as unary
 use Rattle.sap_bits.specs.declared.Op2.{Op2}
 use Rattle.sap_bits.specs.declared.Op2.TheVariants as binary
 use Rattle.sap_modtext.specs.Grammar.{unary_sign, binary_sign}
-use Rattle.sap_modtext.specs.Items.{Mention, Number, Operand, Constant, Right, Item, Port, Direction, File}
+use Rattle.sap_modtext.specs.Items.{Mention, Number, Operand, Right, Item, Port, Direction, File}
 use Rattle.sap_modtext.specs.Items as item
 use Rattle.sap_modtext.specs.Lexing.{Lexed}
 use Rattle.sap_modtext.specs.Tokens as t

@@ -3,7 +3,7 @@ use Rattle.std.specs.Prelude.{ℕ, List, [], ◌∷◌, ◌++◌, codes, decimal
 use Rattle.sap_bits.specs.declared.Op1.{Op1}
 use Rattle.sap_bits.specs.declared.Op2.{Op2}
 use Rattle.sap_modtext.specs.Grammar.{unary_sign, binary_sign}
-use Rattle.sap_modtext.specs.Items.{Mention, Number, Constant, Operand, Right, Direction, Port, Item, File}
+use Rattle.sap_modtext.specs.Items.{Operand, Right, Direction, Port, Item, File}
 use Rattle.sap_modtext.specs.Items as item
 use Rattle.sap_modtext.specs.Lexing.{word_text, sign_text}
 use Rattle.sap_modtext.specs.Tokens.{Word, Sign}

@@ -1,5 +1,5 @@
 -- From the end of a command and its line to the answer of the call.
-use Rattle.std.proofs.Common.{◌≡◌, ◌≢◌, ◌≤◌, ℕ, List, [], ◌++◌, length, take, refl, sym, ◌∙◌, ap, subst, inl, inr, ◌⊎◌, arith}
+use Rattle.std.proofs.Common.{◌≡◌, ◌≢◌, ◌≤◌, ℕ, List, [], ◌++◌, length, take, refl, sym, ◌∙◌, ap, subst, inl, inr, ◌⊎◌}
 use Rattle.std.specs.Prelude.{◌↔◌, Option, Some, None, IfSome, unwrap_or, Result}
 use Rattle.std.proofs.lemmas.List.{append-nil}
 use Rattle.sap_desk.specs.Desk.{Told, Use}
@@ -7,12 +7,12 @@ use Rattle.sap_desk.specs.Cause.{counted}
 use Rattle.sap_desk.specs.Whole.{Between, Gained, LostAtMostOne}
 use Rattle.sap_stim.specs.declared.fault.StimFault.{StimFault}
 use Rattle.sap_words.specs.Words.{Words, IsTwin, command_of}
-use Rattle.sap_files.specs.Ending.{Ending, Refusal, done, refused, failed, no_memory, no_command, lattice_refused, design_refused, stimulus_refused, module_refused, level_refused, lengths_apart, inputs_apart, status_of, status_of_refusal, line_of, IsFree}
+use Rattle.sap_files.specs.Ending.{Ending, Refusal, done, refused, failed, no_memory, no_command, stimulus_refused, status_of, line_of, IsFree}
 use Rattle.sap_files.specs.Asks.{Asks, file, by, gives, prints, writes, stops, AreLawful, Cause, Files, Shows, Starved, end_of}
-use Rattle.sap_commands.specs.Commands.{asks, asks_for, asks_if}
+use Rattle.sap_commands.specs.Commands.{asks, asks_for}
 use Rattle.sap_files.specs.After.{Blames, Opens}
 use Rattle.sap_files.specs.Outside.{FullFile, FullOutput, OutsideOf}
-use Rattle.sap_files.specs.Steps.{Counted, Ends, FaultRose, Left, Moment, Same, ending_of}
+use Rattle.sap_files.specs.Steps.{Ends, FaultRose, Left, Moment, ending_of}
 use Rattle.sap_files.specs.declared.failure.Failure.{Failure}
 use Rattle.sapper.specs.Answers.{Answers, MayAnswer}
 use Rattle.sapper.specs.Exact.{Exact}

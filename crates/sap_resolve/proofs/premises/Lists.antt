@@ -9,7 +9,7 @@ use Rattle.sap_tree.specs.Syntax.{SimpleCommand, assign, write, set_tag, set_cel
 use Rattle.sap_lattice.specs.Levels.{Levels}
 use Rattle.sap_names.specs.declared.entity.Entity as declared_entity
 use Rattle.sap_names.specs.Entities.{number_of, entities_of}
-use Rattle.sap_meaning.specs.Program.{World, is_dynamic, root, listed, Group, no_node}
+use Rattle.sap_meaning.specs.Program.{World, is_dynamic, root, listed, Group}
 use Rattle.sap_meaning.specs.Checks.{Spot}
 use Rattle.sap_meaning.specs.Touches.{among, step_assigns, assigns, arms_assign, block_assigns, state_assigns, group_assigns, step_hangs, hangs, arms_hang, block_hangs, touches, root_touches}
 use Rattle.sap_meaning.specs.Fine.{ExactStep, Exact, ExactArms, ExactBlock, ExactState, ExactGroup, ExactProgram}
@@ -56,7 +56,7 @@ listed_is n test below x = elim (cases_Bool (nat_lt x n)) [
 
 -- a number that stands for a name is below that of the root, where there are entities at all
 one_more : (l : ℕ) (o : Option ℕ) (n : ℕ) → ((m : ℕ) → o ≡ Some m → m < l) → option_map (λ m. m + 1) o ≡ Some n → n < suc l
-one_more l no_node n f k = cc
+one_more l None n f k = cc
 one_more l (Some m) n f k = let r : m < l = f m refl in let s : m + 1 ≡ n = cc in omega arith
 
 number_within : (es : List declared_entity.Entity) (name : List ℕ) (n : ℕ) → number_of es name ≡ Some n → n < length es
@@ -67,7 +67,7 @@ number_within (e ∷ es) name n h = elim (cases_Bool (bytes_eq e.name.name name)
 ]
 
 known_within : (l : ℕ) (o : Option ℕ) → 0 < l → ((n : ℕ) → o ≡ Some n → n < l) → known o < l
-known_within l no_node h f = h
+known_within l None h f = h
 known_within l (Some n) h f = f n refl
 
 entity_within : (es : List declared_entity.Entity) (name : List ℕ) → 0 < length es → entity_number es name < length es

@@ -1,5 +1,6 @@
 -- Where no path writes a memory twice, no memory is written after it was written, with numbers for names.
 use Rattle.std.proofs.Common.{◌≡◌, ℕ, ◌+◌, Option, Bool, true, false, ◌&&◌, ◌||◌, List, [], ◌∷◌, ◌++◌, if◌then◌else◌, refl, ap, ◌∙◌, subst, nat_eq, inl, inr, bytes_eq, length}
+use Rattle.sap_lemmas.proofs.Bools.{either_follows}
 use Rattle.sap_lemmas.proofs.Texts.{bytes_eq_same}
 use Rattle.std.proofs.lemmas.Bool.{eqb-true, false_from_ne_true, or_cases, or_from, or_left, or_right}
 use Rattle.sap_names.proofs.NameFaultsLemmas.{no_fault}
@@ -348,26 +349,23 @@ module _ (m : List ℕ) where
   step_falls (go_to place target) p h = cc
   step_falls (fall_to_child place) p h = refl
 
-  either_falls : (a b c d : Bool) → (a ≡ true → c ≡ true) → (b ≡ true → d ≡ true) → (a || b) ≡ true → (c || d) ≡ true
-  either_falls a b c d f g h = elim (or_cases a b h) [ inl i ↦ or_left c d (f i) | inr i ↦ or_right c d (g i) ]
-
   mutual
     command_falls : (c : Command) (p : Written) → entering c p m ≡ true → falls c ≡ true
     command_falls (lone c) p h = step_falls c p h
     command_falls (try c place b) p h =
-        either_falls (entering_simple c p m) (entering_block b (past_simple c p) m) (is_fall c) (falls_block b) (step_falls c p) (body_falls b (past_simple c p)) h
+        either_follows (entering_simple c p m) (entering_block b (past_simple c p) m) (is_fall c) (falls_block b) (step_falls c p) (body_falls b (past_simple c p)) h
     command_falls (if_else place e b other) p h =
-        either_falls (entering_block b p m) (entering_else other p m) (falls_block b) (falls_else other) (body_falls b p) (else_falls other p) h
+        either_follows (entering_block b p m) (entering_else other p m) (falls_block b) (falls_else other) (body_falls b p) (else_falls other p) h
     command_falls (try_then c place a b) p h =
         let q = past_simple c p in
-        either_falls (entering_simple c p m) (entering_block a q m || entering_block b q m) (is_fall c) (falls_block a || falls_block b) (step_falls c p)
-        (either_falls (entering_block a q m) (entering_block b q m) (falls_block a) (falls_block b) (body_falls a q) (body_falls b q)) h
+        either_follows (entering_simple c p m) (entering_block a q m || entering_block b q m) (is_fall c) (falls_block a || falls_block b) (step_falls c p)
+        (either_follows (entering_block a q m) (entering_block b q m) (falls_block a) (falls_block b) (body_falls a q) (body_falls b q)) h
     command_falls (case_of place e arms) p h = arms_fall arms p h
 
     arms_fall : (arms : Arms) (p : Written) → entering_arms arms p m ≡ true → falls_arms arms ≡ true
     arms_fall (last_arm b) p h = body_falls b p h
     arms_fall (and_arm constants b arms) p h =
-        either_falls (entering_block b p m) (entering_arms arms p m) (falls_block b) (falls_arms arms) (body_falls b p) (arms_fall arms p) h
+        either_follows (entering_block b p m) (entering_arms arms p m) (falls_block b) (falls_arms arms) (body_falls b p) (arms_fall arms p) h
 
     body_falls : (b : CommandBlock) (p : Written) → entering_block b p m ≡ true → falls_block b ≡ true
     body_falls (command_block cs after) p h = list_falls cs p h
@@ -379,7 +377,7 @@ module _ (m : List ℕ) where
     list_falls : (cs : CommandList) (p : Written) → entering_list cs p m ≡ true → falls_list cs ≡ true
     list_falls no_command p h = cc
     list_falls (and_command c cs) p h =
-        either_falls (entering c p m) (entering_list cs (past c p) m) (falls c) (falls_list cs) (command_falls c p) (list_falls cs (past c p)) h
+        either_follows (entering c p m) (entering_list cs (past c p) m) (falls c) (falls_list cs) (command_falls c p) (list_falls cs (past c p)) h
 
 -- the faults below a body that falls
 nil_below : (test : Bool) (fs : List Fault) → (if test then fs else []) ≡ [] → test ≡ true → fs ≡ []

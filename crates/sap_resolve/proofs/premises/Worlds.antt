@@ -15,7 +15,7 @@ use Rattle.sap_lattice.specs.Levels.{Levels, order_of}
 use Rattle.sap_names.specs.declared.kind.Code.TheVariants.{E6, E9}
 use Rattle.sap_names.specs.Entities as tree
 use Rattle.sap_names.specs.Entities.{entities_of, what_is}
-use Rattle.sap_names.specs.NameFaults.{fault_if, level_from, is_some, is_level, not_below, level_faults, under_faults, kind_faults, width_faults, start_faults, declaration_faults, declarations_faults, block_faults, state_faults, states_faults}
+use Rattle.sap_names.specs.NameFaults.{level_from, is_some, is_level, not_below, level_faults, under_faults, kind_faults, declaration_faults, declarations_faults, state_faults, states_faults}
 use Rattle.sap_names.specs.NameFaults as faults
 use Rattle.sap_meaning.specs.Program.{World, Entity, nothing, entity, children, root, kind_is_input}
 use Rattle.sap_resolve.specs.Worlds.{position, level_number, declared_level, authority_of, is_dynamic_kind, declared, all_declared, states_in, group_length, state_entities, group_entities, group_children, no_children, world_of}

@@ -14,7 +14,7 @@ use Rattle.sap_names.specs.declared.kind.Use.{Use as Uses}
 use Rattle.sap_names.specs.declared.kind.Use.TheVariants.{Indexed as indexed, Read as read}
 use Rattle.sap_names.specs.NameFaults.{fits_use, use_faults, fault_if, unsettled, too_large, expression_faults, parts_faults}
 use Rattle.sap_names.specs.Widths as widths
-use Rattle.sap_names.specs.Widths.{own, own_parts, sound_width, index_bits, plain_width, cell_width, index_width, sliced, joined, extended, else_of, family, asked_left, asked_right, asked_one, is_reduction, is_sound, all_sound}
+use Rattle.sap_names.specs.Widths.{own, own_parts, sound_width, index_bits, plain_width, cell_width, index_width, sliced, extended, else_of, family, asked_left, asked_right, asked_one, is_reduction, is_sound, all_sound}
 use Rattle.sap_maps.specs.Term.{Term, TermFits}
 use Rattle.sap_meaning.specs.Program.{World, entity, width, is_input, is_register, is_memory, kind_is_input, kind_is_register, kind_is_memory, depth_of}
 use Rattle.sap_meaning.specs.Expressions.{width_of}

@@ -1,6 +1,7 @@
 -- The laws: the program of a design without faults of names and widths.
 use Rattle.std.proofs.Common.{◌≡◌, ℕ, [], length, Bool}
 use Rattle.sap_tree.specs.Syntax.{DesignTree}
+use Rattle.sap_lattice.proofs.KeptLemmas.{order_of-count}
 use Rattle.sap_lattice.specs.Order.{Laws}
 use Rattle.sap_lattice.specs.Levels.{Levels, order_of}
 use Rattle.sap_names.specs.Entities.{what_is, entities_of}
@@ -14,7 +15,7 @@ use Rattle.sap_resolve.specs.Named.{NamedGroup}
 use Rattle.sap_resolve.specs.Sized.Sound.{NamesFit, SizesFit}
 use Rattle.sap_resolve.proofs.sized.Faultless.{none_three}
 use Rattle.sap_resolve.proofs.sized.Declared.{resolved}
-use Rattle.sap_resolve.proofs.sized.Tags.{Ready, level_count}
+use Rattle.sap_resolve.proofs.sized.Tags.{Ready}
 use Rattle.sap_resolve.proofs.sized.Commands.{group_fits}
 use Rattle.sap_resolve.proofs.sized.Filled.{group_named, group_sized}
 use Rattle.sap_resolve.proofs.sized.Starts.{design_starts}
@@ -32,7 +33,7 @@ module _ (ls : Levels) (d : DesignTree) (laws : Laws (order_of ls)) (h : design_
   le = (order_of ls).le
 
   pub ready : Ready ls (entities_of d) (world_of ls d)
-  ready = record { names = resolved ls le d (faultless ls le d h).0; count = level_count ls; bottom = laws.bottom_is_level }
+  ready = record { names = resolved ls le d (faultless ls le d h).0; count = order_of-count ls; bottom = laws.bottom_is_level }
 
   -- before what hangs is filled in
   pub states_fit : NamedGroup (world_of ls d) (states_of ls d) × SizedGroup (world_of ls d) (states_of ls d)

@@ -15,7 +15,7 @@ use Rattle.sap_names.specs.declared.entity.Entity.{Entity}
 use Rattle.sap_names.specs.declared.kind.Use.TheVariants.{Indexed as indexed}
 use Rattle.sap_names.specs.NameFaults.{use_faults, fault_if, unsettled, expression_faults, parts_faults}
 use Rattle.sap_names.specs.Widths as widths
-use Rattle.sap_names.specs.Widths.{own, own_parts, sound_width, plain_width, cell_width, index_width, sliced, extended, else_of, family, asked_left, asked_right, asked_one, is_reduction, is_sound, all_sound}
+use Rattle.sap_names.specs.Widths.{own, own_parts, cell_width, index_width, sliced, extended, family, asked_left, asked_right, asked_one, is_reduction, is_sound, all_sound}
 use Rattle.sap_maps.specs.Term.{Term}
 use Rattle.sap_meaning.specs.Program.{World}
 use Rattle.sap_meaning.specs.Expressions.{width_of}

@@ -1,10 +1,10 @@
 -- A tag expression in which no fault stands has levels of the lattice, and expressions that fit.
-use Rattle.std.proofs.Common.{◌≡◌, ℕ, ◌+◌, ◌<◌, List, [], ◌∷◌, length, true, not, None, refl, sym, subst, arith, inl, inr, bytes_eq}
+use Rattle.std.proofs.Common.{◌≡◌, ℕ, ◌+◌, ◌<◌, List, [], ◌∷◌, length, true, not, None, sym, subst, arith, inl, inr, bytes_eq}
 use Rattle.std.proofs.lemmas.Bool.{cases_Bool, not-false}
 use Rattle.sap_names.proofs.NameFaultsLemmas.{no_fault}
 use Rattle.sap_tree.specs.declared.name.Mention.{Mention}
 use Rattle.sap_tree.specs.Syntax.{TagExpression, level_of, tag_at, level_at, join_of, TagExpressions, no_tag, and_tag}
-use Rattle.sap_lattice.specs.Levels.{Levels, order_of, order_by}
+use Rattle.sap_lattice.specs.Levels.{Levels, order_of}
 use Rattle.sap_names.specs.declared.kind.Code.TheVariants.{E6}
 use Rattle.sap_names.specs.Entities.{what_is}
 use Rattle.sap_names.specs.declared.entity.Entity.{Entity}
@@ -30,10 +30,6 @@ position_below n (l ∷ ls) name h = elim (cases_Bool (bytes_eq l name)) [
 -- the number of a name that is a level's
 pub known_level : (names : List (List ℕ)) (m : Mention) → level_faults names m ≡ [] → position names m.name < length names
 known_level names m h = position_below 0 names m.name (not-false (is_level names m.name) (no_fault (not (is_level names m.name)) E6 m.place h))
-
-pub level_count : (ls : Levels) → (order_of ls).count ≡ length ls.names
-unfolding order_of order_by
-level_count ls = refl
 
 -- What is known of the names of a design, its levels' names included.
 pub record Ready (ls : Levels) (es : List Entity) (w : World) : Type 0 where

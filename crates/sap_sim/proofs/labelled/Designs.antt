@@ -16,7 +16,7 @@ use Rattle.sap_maps.specs.Scope.{Scope, find}
 use Rattle.sap_maps.proofs.Scopes.{not_first, not_behind}
 use Rattle.sap_meaning.specs.Program.{Entity, width, is_input, is_register}
 use Rattle.sap_meaning.specs.Cycle.{Tagged as Given}
-use Rattle.sap_meaning.specs.State.{input_widths, StreamFits, labelled_run}
+use Rattle.sap_meaning.specs.State.{input_widths, StreamFits}
 use Rattle.sap_meaning.specs.State as state
 use Rattle.sap_net.specs.declared.parts.Input.{Input}
 use Rattle.sap_net.specs.Names.{is_among, AreDistinct}

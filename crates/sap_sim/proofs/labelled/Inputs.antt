@@ -24,9 +24,9 @@ use Rattle.sap_interface.specs.Compiled.{coded}
 use Rattle.sap_stim.specs.declared.field.Field.{Field}
 use Rattle.sap_stim.specs.declared.field.Field.TheVariants as field
 use Rattle.sap_sim.specs.Ports.{value_of, tag_of}
-use Rattle.sap_sim.specs.Fields.{tag_width, is_tag, is_tagged, with_field, field_of}
+use Rattle.sap_sim.specs.Fields.{tag_width, is_tag, is_tagged, field_of}
 use Rattle.sap_sim.specs.Fields as fields
-use Rattle.sap_sim.specs.Numbers.{place, given, value_for, number_for, field_names}
+use Rattle.sap_sim.specs.Numbers.{place, given, number_for}
 use Rattle.sap_sim.specs.Numbers as numbers
 use Rattle.sap_sim.proofs.labelled.Ports.{pair_names}
 

@@ -4,6 +4,7 @@ use Rattle.std.specs.Prelude.{option_map, ◌==◌, nat_lt, not}
 use Rattle.std.proofs.lemmas.Bool.{cases_Bool, cases_lt, lt-ltb, le-ltb, false≢true}
 use Rattle.std.proofs.lemmas.Bool.Decides.{Decides-eqb}
 use Rattle.sap_lemmas.proofs.Options.{find_only_from}
+use Rattle.sap_lattice.proofs.KeptLemmas.{order_of-count}
 use Rattle.sap_lattice.specs.Closure.{name_at}
 use Rattle.sap_lattice.specs.Levels.{Levels, level_in, order_of, order_by, is_below}
 use Rattle.sap_lattice.specs.Codes.{Codes, code_of, meet_irreducibles, number_of}
@@ -26,10 +27,6 @@ unfolding code_of order_of order_by
 code_in ls t =
     ap (λ (y : ℕ). number_of (map (λ m. not (is_below ls.table y (level_in (length ls.names) m))) (meet_irreducibles (order_of ls)))) (level_in_twice (length ls.names) t)
 
-count_is : (ls : Levels) → (order_of ls).count ≡ length ls.names
-unfolding order_of order_by
-count_is ls = refl
-
 bottom_level : (ls : Levels) → 0 < length ls.names → (t : ℕ) → level_in (length ls.names) t < length ls.names
 bottom_level ls h t =
     elim (cases_lt t (length ls.names)) [
@@ -50,4 +47,4 @@ name_coded ls codes h t =
     ap (λ (o : Option ℕ). option_map (name_at ls.names) o)
     (find_only_from (λ level. code_of (order_of ls) level == code_of (order_of ls) t) 0 (length ls.names) k (omega arith) (omega arith)
     ((Decides-eqb (code_of (order_of ls) k) (code_of (order_of ls) t)).1 c)
-    (λ j m u. codes.apart j k (rw count_is (omega arith)) (rw count_is small) ((Decides-eqb (code_of (order_of ls) j) (code_of (order_of ls) t)).0 u ∙ sym c)))
+    (λ j m u. codes.apart j k (rw order_of-count (omega arith)) (rw order_of-count small) ((Decides-eqb (code_of (order_of ls) j) (code_of (order_of ls) t)).0 u ∙ sym c)))

@@ -1,9 +1,10 @@
 -- The plain program of a design weighs no more than its module may have items.
-use Rattle.std.proofs.Common.{◌≡◌, ℕ, ◌+◌, ◌*◌, ◌≤◌, length, subst, refl, arith, length-append}
+use Rattle.std.proofs.Common.{◌≡◌, ℕ, ◌+◌, ◌*◌, ◌≤◌, length, subst, arith, length-append}
 use Rattle.std.proofs.Math.Nat.{mul-le-mul_left}
 use Rattle.sap_resolve.proofs.WorldsLemmas.{declared_length}
 use Rattle.sap_tree.specs.Syntax.{DesignTree}
-use Rattle.sap_lattice.specs.Levels.{Levels, order_by, order_of}
+use Rattle.sap_lattice.proofs.KeptLemmas.{order_of-count}
+use Rattle.sap_lattice.specs.Levels.{Levels, order_of}
 use Rattle.sap_lattice.specs.Codes.{width_of}
 use Rattle.sap_names.specs.Entities.{entities_of}
 use Rattle.sap_meaning.specs.Program.{root}
@@ -18,10 +19,6 @@ use Rattle.sap_tagged.specs.Law.{IsSound, plain_for}
 use Rattle.sap_tagged.proofs.Designs.{design}
 use Rattle.sap_tagged.proofs.small.Declared.{plain_weighs}
 use Rattle.sap_tagged.proofs.small.Sizes.{group_within, group_counted, group_entered, states_same, group_sited, group_filled, group_kept}
-
-levels_are : (ls : Levels) → (order_of ls).count ≡ length ls.names
-unfolding order_of order_by
-levels_are ls = refl
 
 summed : (n entities levels size sites nodes : ℕ) → size ≤ nodes → sites ≤ nodes → n ≤ (8 * (entities + levels) + 6) * size + (8 * entities + 1 + 2 * sites) → n ≤ 8 * (1 + nodes) * (1 + entities + levels)
 summed n entities levels size sites nodes h k l =
@@ -41,7 +38,7 @@ plain_small ls d sound =
     let both = length-append (all_declared ls d.declarations) (group_entities ls 0 (length d.declarations) d.states) in
     let kept = group_kept w (root w) g in
     let entities : root w ≡ entity_count d = omega (arith, both, declared, entered, same) in
-    let levels = levels_are ls in
+    let levels = order_of-count ls in
     let some = sound.lattice.narrow.some in
     let fewer = sound.lattice.narrow.few in
     let p = plain_weighs (named_of ls d) (width_of (order_of ls)) (sites_of d) (omega (arith, some, fewer)) (omega (arith, kept, states, entered, both)) (design ls d sound).few_arms in

@@ -1,4 +1,3 @@
-use Rattle.std.proofs.Common.{sym}
 use Rattle.sap_fold.proofs.Ordering.{some_beside}
 use Rattle.sap_fold.proofs.order.bit_beside.Goals as goal
 

@@ -1,6 +1,5 @@
-use Rattle.std.proofs.Common.{◌≡◌, ℕ, sym, subst}
+use Rattle.std.proofs.Common.{◌≡◌}
 use Rattle.sap_net.specs.declared.parts.Right.TheVariants.{Two}
-use Rattle.sap_fold.specs.Gives.{Becomes}
 use Rattle.sap_fold.specs.Names.{holds}
 use Rattle.sap_fold.proofs.Becoming.{becomes_equal}
 use Rattle.sap_fold.proofs.see.see_both.Goals as goal

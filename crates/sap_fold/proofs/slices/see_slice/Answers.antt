@@ -1,4 +1,4 @@
-use Rattle.std.proofs.Common.{◌≡◌, ℕ, sym, subst, arith, rules}
+use Rattle.std.proofs.Common.{◌≡◌, ℕ, sym, subst, arith}
 use Rattle.sap_net.specs.declared.parts.Operand.TheVariants.{Named}
 use Rattle.sap_net.specs.declared.parts.Right.TheVariants.{Copy, Slice}
 use Rattle.sap_fold.specs.Equals.{Equals}

@@ -1,6 +1,5 @@
 use Rattle.std.proofs.Common.{◌≡◌, ◌∙◌, sym, subst, rules}
 use Rattle.sap_bits.specs.declared.Op1.TheVariants.{Not}
-use Rattle.sap_net.specs.declared.parts.Right.{Right}
 use Rattle.sap_net.specs.declared.parts.Right.TheVariants.{One, Two}
 use Rattle.sap_fold.specs.Seen.{Defines}
 use Rattle.sap_fold.proofs.Unders.{some_caused_negation, some_caused_both}

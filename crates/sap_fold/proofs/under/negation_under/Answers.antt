@@ -2,7 +2,6 @@ use Rattle.std.proofs.Common.{◌≡◌, Option, subst, rules}
 use Rattle.std.specs.Prelude.{IfSome}
 use Rattle.sap_bits.specs.declared.Op1.TheVariants.{Not}
 use Rattle.sap_net.specs.declared.parts.Operand.{Operand}
-use Rattle.sap_net.specs.declared.parts.Right.{Right}
 use Rattle.sap_net.specs.declared.parts.Right.TheVariants.{Copy, One}
 use Rattle.sap_fold.specs.Seen.{Defines}
 use Rattle.sap_fold.specs.Under.{number, Under}

@@ -1,5 +1,5 @@
-use Rattle.std.proofs.Common.{◌≡◌, ◌∙◌, ◌+◌, ℕ, OnOk, length, map, ap, subst, arith}
-use Rattle.sap_ir.specs.Plain.Nested.{Body, seat_width}
+use Rattle.std.proofs.Common.{◌≡◌, ◌∙◌, ◌+◌, OnOk, length, map, subst, arith}
+use Rattle.sap_ir.specs.Plain.Nested.{Body}
 use Rattle.sap_ir.specs.Plain.Views.{body_of}
 use Rattle.sap_ir.proofs.plain.SeatWidths.{seat_least}
 use Rattle.sap_program.specs.Views.{term_of}

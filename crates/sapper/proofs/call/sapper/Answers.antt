@@ -1,11 +1,10 @@
-use Rattle.std.proofs.Common.{rules, refl, subst, inl}
+use Rattle.std.proofs.Common.{refl, subst, inl}
 use Rattle.std.specs.Prelude.{map, string_bytes}
 use Rattle.sap_desk.specs.Whole.{LostAtMostOne}
 use Rattle.sap_files.specs.Ending.{done, no_command, refused, line_of}
-use Rattle.sap_words.specs.Called.{words_of}
 use Rattle.sap_files.specs.Steps.{ending, seen}
 use Rattle.sapper.specs.Lines.{Tells}
-use Rattle.sapper.proofs.Calls.{answers, exact, full_lines, lost_once, may_answer, named, no_words, outside, same_end, silent, told_end, two_words}
+use Rattle.sapper.proofs.Calls.{answers, exact, full_lines, lost_once, may_answer, no_words, outside, same_end, silent, told_end, two_words}
 use Rattle.sapper.proofs.Headline.{headline_told}
 use Rattle.sap_commands.proofs.CommandLaws.{lawful_words}
 use Rattle.sapper.proofs.call.sapper.Goals as goal
