@@ -4,8 +4,10 @@
 //! that is refused, and prints the registers after each step.
 #![tactic(auto)]
 
+mod feed;
 mod fields;
 pub mod labelled;
+mod loading;
 mod lookup;
 mod ports;
 pub mod rows;

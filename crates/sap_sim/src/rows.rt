@@ -3,12 +3,10 @@
 ghost use Rattle.std.specs.Prelude.{◌<◌, ◌^◌, IfOk, length};
 ghost use Rattle.sap_sim.specs.Simulated.{IsSimulated};
 
-use crate::fields::line_of;
-use crate::lookup::input_widths;
+use crate::feed::feed_of;
+use crate::loading::loaded;
 use crate::shown::shown_of;
-use crate::sources::sources;
 use crate::steps::{Plan, rows};
-use sap_cycle::runner::Runner;
 use sap_desk::Bytes;
 use sap_lattice::Lattice;
 use sap_net::laws::one_run;
@@ -37,17 +35,14 @@ pub fn simulate(
     lattice.lawful();
     stimulus_fits();
     one_run(&netlist);
-    let tag = lattice.width();
-    let widths = input_widths(alloc, netlist.inputs())?;
-    let line = line_of(alloc, &widths, tag, netlist.inputs())?;
-    let parsed = parse_stream(alloc, stimulus, &line.fields, lattice)?;
-    let sources = sources(alloc, &widths, tag, netlist.inputs(), &line.names)?;
-    let mut runner = match Runner::load(alloc, netlist) {
-        Ok(runner) => runner,
-        Err((_, fault)) => return Err(fault),
+    let feed = feed_of(alloc, lattice, &netlist)?;
+    let parsed = parse_stream(alloc, stimulus, &feed.fields, lattice)?;
+    let mut runner = loaded(alloc, netlist)?;
+    let shown = shown_of(alloc, &runner, lattice.width())?;
+    let plan = Plan {
+        sources: feed.sources,
+        shown,
     };
-    let shown = shown_of(alloc, &runner, tag)?;
-    let plan = Plan { sources, shown };
     let text = rows(alloc, lattice, &mut runner, &plan, parsed.stream.spans())?;
     Ok(Rows {
         text: Bytes::new(text),

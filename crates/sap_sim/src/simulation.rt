@@ -7,10 +7,9 @@ ghost use Rattle.sap_stim.specs.Fits.{LineFits};
 ghost use Rattle.sap_stim.specs.Rows.{HoldsRows, row_text, shown_of};
 ghost use Rattle.sap_sim.specs.Stepping.{HasRowMore, IsAfter, IsPlanned, RowsAddUp};
 
-use crate::fields::line_of;
-use crate::lookup::input_widths;
+use crate::feed::feed_of;
+use crate::loading::loaded;
 use crate::shown::shown_of;
-use crate::sources::sources;
 use crate::steps::{Plan, take_numbers, take_seen};
 use sap_cycle::runner::Runner;
 use sap_desk::RowBuf;
@@ -58,6 +57,26 @@ fn zeros(alloc: Global, count: usize) -> Result<Vec<u64>, AllocError>
     Ok(zeros)
 }
 
+/// The numbers of the inputs of a cycle, and what its row shows.
+#[derive(Drop)]
+struct Held {
+    numbers: Vec<u64>,
+    values: Vec<u64>,
+    tags: Vec<u64>,
+}
+
+fn zeros_for(alloc: Global, plan: &Plan) -> Result<Held, AllocError>
+    ensures numbers { IfOk result (λ h. length h.numbers.items ≡ length plan.now.sources.items) }
+    ensures values { IfOk result (λ h. length h.values.items ≡ length plan.now.shown.values.items) }
+    ensures tags { IfOk result (λ h. length h.tags.items ≡ length plan.now.shown.tags.items) }
+{
+    Ok(Held {
+        numbers: zeros(alloc, plan.sources.len())?,
+        values: zeros(alloc, plan.shown.values.len())?,
+        tags: zeros(alloc, plan.shown.tags.len())?,
+    })
+}
+
 // Appends a row to a buffer that has room for any row.
 fn push_held(
     out: &mut RowBuf,
@@ -81,30 +100,25 @@ impl Simulation {
         ensures after { IfOk result (IsAfter lattice.now netlist []) }
         ensures least { IfOk result (λ s. (other : ℕ) → HoldsRows lattice.now s.plan.shown.names.items other → s.room ≤ other) }
     {
-        netlist.rules();
-        let tag = lattice.width();
-        let widths = input_widths(alloc, netlist.inputs())?;
-        let line = line_of(alloc, &widths, tag, netlist.inputs())?;
-        let sources = sources(alloc, &widths, tag, netlist.inputs(), &line.names)?;
-        let runner = match Runner::load(alloc, netlist) {
-            Ok(runner) => runner,
-            Err((_, fault)) => return Err(fault),
+        let feed = feed_of(alloc, lattice, &netlist)?;
+        let runner = loaded(alloc, netlist)?;
+        let shown = shown_of(alloc, &runner, lattice.width())?;
+        let plan = Plan {
+            sources: feed.sources,
+            shown,
         };
-        let shown = shown_of(alloc, &runner, tag)?;
-        let Some(room) = row_room(&shown.names, lattice) else {
+        let Some(room) = row_room(&plan.shown.names, lattice) else {
             return Err(AllocError);
         };
-        let numbers = zeros(alloc, sources.len())?;
-        let values = zeros(alloc, shown.values.len())?;
-        let tags = zeros(alloc, shown.tags.len())?;
+        let held = zeros_for(alloc, &plan)?;
         Ok(Simulation {
             runner,
-            plan: Plan { sources, shown },
-            fields: line.fields,
+            plan,
+            fields: feed.fields,
             room,
-            numbers,
-            values,
-            tags,
+            numbers: held.numbers,
+            values: held.values,
+            tags: held.tags,
         })
     }
 

@@ -392,7 +392,6 @@ module _ (f : File) (t : Tables) (h : AreNoted t (file_of f)) where
       cc
 
 -- The same through slices of the file's lists.
-
 pub names_whole : (f : File) (ps : List Port) (xs : List Item) (old first last : List (List ℕ)) → ps ≡ f.ports.items → xs ≡ f.items.items → old ≡ []
     → first ≡ old ++ map (λ p. p.name.name) ps → last ≡ first ++ flat_map (λ x. map (λ (d : Declaration). d.name.name) (item_declarations (item_of x))) xs
     → last ≡ (netlist_of (narrow_file (file_of f))).names
@@ -414,15 +413,3 @@ registers_whole f t h ps xs old first last p q e a c =
     ∙ ap (λ ys. flat_map (λ r. b.port_registers (number_of t.starts) (number_of t.nexts) ys (direction_of r.direction) r.name.name r.range.value) f.ports.items
     ++ flat_map (λ x. b.item_registers (number_of t.starts) (number_of t.nexts) ys (item_of x)) ys) q
     ∙ registers_built f t h
-
-pub net_whole : (f : File) (t : Tables) → AreNoted t (file_of f) → (p : Parts) (ps qs : List Port) (xs : List Item) → ps ≡ f.ports.items → qs ≡ f.ports.items → xs ≡ f.items.items
-    → p.module_name ≡ f.module_name → p.names.items ≡ (netlist_of (narrow_file (file_of f))).names
-    → p.ports.items ≡ map (λ q. net_port (narrow_port (port_of q))) ps → p.inputs.items ≡ flat_map (λ q. port_input (narrow_port (port_of q))) qs
-    → p.wires.items ≡ flat_map (λ x. b.built_wires (number_of t.ranges) (item_of x)) xs
-    → p.registers.items ≡ (netlist_of (narrow_file (file_of f))).registers
-    → p.memories.items ≡ flat_map (λ x. b.item_memories (number_of t.starts) (number_of t.writes) xs (item_of x)) xs
-    → net_of p ≡ netlist_of (narrow_file (file_of f))
-net_whole f t h p ps qs xs u v w a c d e g i j =
-    net_built f t h p a c (d ∙ ap (λ z. map (λ q. net_port (narrow_port (port_of q))) z) u) (e ∙ ap (λ z. flat_map (λ q. port_input (narrow_port (port_of q))) z) v)
-    (g ∙ ap (λ z. flat_map (λ x. b.built_wires (number_of t.ranges) (item_of x)) z) w) i
-    (j ∙ ap (λ z. flat_map (λ x. b.item_memories (number_of t.starts) (number_of t.writes) z (item_of x)) z) w)

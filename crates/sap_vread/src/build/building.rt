@@ -1,13 +1,15 @@
 //! From a file without a fault to its netlist.
 
-ghost use Rattle.std.specs.Prelude.{◌≡◌, IfOk};
+ghost use Rattle.std.specs.Prelude.{◌≡◌, IfOk, flat_map, map};
 ghost use Rattle.sap_modtext.specs.Faults.{IsFaultless};
-ghost use Rattle.sap_modtext.specs.Modules.{netlist_of};
+ghost use Rattle.sap_modtext.specs.Modules.{net_port, netlist_of, port_input};
 ghost use Rattle.sap_net.specs.Net.{net_of};
-ghost use Rattle.sap_vread.specs.Build.Narrow.{narrow_file};
+ghost use Rattle.sap_vread.specs.Build.Built as spec;
+ghost use Rattle.sap_vread.specs.Build.Firsts.{number_of};
+ghost use Rattle.sap_vread.specs.Build.Narrow.{narrow_file, narrow_port};
 ghost use Rattle.sap_vread.specs.Build.Spelled.{IsSpelled};
 ghost use Rattle.sap_vread.specs.Build.Tables.{AreNoted};
-ghost use Rattle.sap_vparse.specs.Views.{file_of};
+ghost use Rattle.sap_vparse.specs.Views.{file_of, item_of, port_of};
 
 use crate::build::edges::{memories, push_ports, push_registers};
 use crate::build::names::{push_item_names, push_port_names};
@@ -15,7 +17,7 @@ use crate::build::shown::{inputs, ports};
 use crate::build::tables::{Tables, tabled};
 use crate::build::wires::wires;
 use sap_net::netlist::Netlist;
-use sap_net::parts::{Name, Parts, Register};
+use sap_net::parts::{Input, Memory, Name, Parts, Port, Register, Wire};
 use sap_vparse::items::File;
 use std::alloc::{AllocError, Global};
 
@@ -39,26 +41,69 @@ fn registers(alloc: Global, tables: &Tables, file: &File) -> Result<Vec<Register
     Ok(registers)
 }
 
+// What the ports and declarations of a file give.
+#[derive(Drop)]
+struct Declared {
+    names: Vec<Name>,
+    ports: Vec<Port>,
+    inputs: Vec<Input>,
+}
+
+fn declared_in(alloc: Global, file: &File) -> Result<Declared, AllocError>
+    ensures names { IfOk result (λ d. d.names.items ≡ (netlist_of (narrow_file (file_of file.now))).names) }
+    ensures ports { IfOk result (λ d. d.ports.items ≡ map (λ p. net_port (narrow_port (port_of p))) file.now.ports.items) }
+    ensures inputs { IfOk result (λ d. d.inputs.items ≡ flat_map (λ p. port_input (narrow_port (port_of p))) file.now.ports.items) }
+{
+    let names = names(alloc, file)?;
+    let ports = ports(alloc, file.ports.as_slice())?;
+    let inputs = inputs(alloc, file.ports.as_slice())?;
+    Ok(Declared {
+        names,
+        ports,
+        inputs,
+    })
+}
+
+// What the items of a file give.
+#[derive(Drop)]
+struct Driven {
+    wires: Vec<Wire>,
+    registers: Vec<Register>,
+    memories: Vec<Memory>,
+}
+
+fn driven_in(alloc: Global, tables: &Tables, file: &File) -> Result<Driven, AllocError>
+    requires { AreNoted tables.now (file_of file.now) }
+    ensures wires { IfOk result (λ d. d.wires.items ≡ flat_map (λ x. spec.built_wires (number_of tables.now.ranges) (item_of x)) file.now.items.items) }
+    ensures registers { IfOk result (λ d. d.registers.items ≡ (netlist_of (narrow_file (file_of file.now))).registers) }
+    ensures memories { IfOk result (λ d. d.memories.items ≡ flat_map (λ x. spec.item_memories (number_of tables.now.starts) (number_of tables.now.writes) file.now.items.items (item_of x)) file.now.items.items) }
+{
+    let items = file.items.as_slice();
+    let wires = wires(alloc, &tables.ranges, items)?;
+    let registers = registers(alloc, tables, file)?;
+    let memories = memories(alloc, tables, items)?;
+    Ok(Driven {
+        wires,
+        registers,
+        memories,
+    })
+}
+
 fn parts(alloc: Global, file: &File) -> Result<Parts, AllocError>
     ensures { IfOk result (λ p. net_of p ≡ netlist_of (narrow_file (file_of file.now))) }
 {
     let tables = tabled(alloc, file)?;
-    let items = file.items.as_slice();
     let module_name = file.module_name.copy(alloc)?;
-    let names = names(alloc, file)?;
-    let ports = ports(alloc, file.ports.as_slice())?;
-    let inputs = inputs(alloc, file.ports.as_slice())?;
-    let wires = wires(alloc, &tables.ranges, items)?;
-    let registers = registers(alloc, &tables, file)?;
-    let memories = memories(alloc, &tables, items)?;
+    let declared = declared_in(alloc, file)?;
+    let driven = driven_in(alloc, &tables, file)?;
     Ok(Parts {
         module_name,
-        names,
-        ports,
-        inputs,
-        wires,
-        registers,
-        memories,
+        names: declared.names,
+        ports: declared.ports,
+        inputs: declared.inputs,
+        wires: driven.wires,
+        registers: driven.registers,
+        memories: driven.memories,
     })
 }
 

@@ -1,12 +1,14 @@
 //! What is noted of a whole file.
 
-ghost use Rattle.std.specs.Prelude.{IfOk};
+ghost use Rattle.std.specs.Prelude.{◌≡◌, IfOk, List, ℕ};
+ghost use Rattle.sap_vread.specs.Build.Firsts.{number_of};
+ghost use Rattle.sap_vread.specs.Build.Noted.{all_noted};
 ghost use Rattle.sap_vread.specs.Build.Tables.{AreNoted};
-ghost use Rattle.sap_vparse.specs.Views.{file_of};
+ghost use Rattle.sap_vparse.specs.Views.{file_of, items_of};
 
 use crate::build::firsts::Firsts;
 use crate::build::noting::{Noting, note_items, note_ports};
-use sap_vparse::items::File;
+use sap_vparse::items::{File, Item};
 use std::alloc::{AllocError, Global};
 
 /// Under each name the number of its range and its initial number, and the place of its `always` among the items.
@@ -18,6 +20,15 @@ pub struct Tables {
     pub writes: Firsts,
 }
 
+// Notes what the items of a file say of names.
+fn noted_items(alloc: Global, noting: Noting, items: &[Item]) -> Result<Firsts, AllocError>
+    ensures { IfOk result (λ f. (n : List ℕ) → number_of f n ≡ all_noted noting n 0 (items_of items.now)) }
+{
+    let mut firsts = Firsts::new(alloc);
+    note_items(alloc, &mut firsts, noting, items)?;
+    Ok(firsts)
+}
+
 /// Notes all names of a file.
 pub fn tabled(alloc: Global, file: &File) -> Result<Tables, AllocError>
     ensures { IfOk result (λ t. AreNoted t (file_of file.now)) }
@@ -26,12 +37,9 @@ pub fn tabled(alloc: Global, file: &File) -> Result<Tables, AllocError>
     let mut ranges = Firsts::new(alloc);
     note_ports(alloc, &mut ranges, file.ports.as_slice())?;
     note_items(alloc, &mut ranges, Noting::Range, items)?;
-    let mut starts = Firsts::new(alloc);
-    note_items(alloc, &mut starts, Noting::Start, items)?;
-    let mut nexts = Firsts::new(alloc);
-    note_items(alloc, &mut nexts, Noting::Next, items)?;
-    let mut writes = Firsts::new(alloc);
-    note_items(alloc, &mut writes, Noting::Write, items)?;
+    let starts = noted_items(alloc, Noting::Start, items)?;
+    let nexts = noted_items(alloc, Noting::Next, items)?;
+    let writes = noted_items(alloc, Noting::Write, items)?;
     Ok(Tables {
         ranges,
         starts,

@@ -17,67 +17,55 @@ use Rattle.sap_sim.specs.Simulated.{read_for}
 use Rattle.sap_sim.proofs.Few.{stimulus_few}
 use Rattle.sap_sim.proofs.Fits.{fields_sized, stream_fits, counts}
 use Rattle.sap_sim.proofs.rows.simulate.Goals as goal
-use Rattle.sap_sim.proofs.rows.simulate.Goals.{In_ok-line}
-
-fields_are : (c : In_ok-line) → c.in_ok-line.line.fields ≡ fields_of c.args.lattice.now c.args.netlist
-fields_are c =
-    c.in_ok-line.ensures.fields
-    ∙ ap (λ (is : List Input). map (field_of c.width-tag.result is) (with_field c.width-tag.result is)) c.inputs-2.ensures
-    ∙ ap (λ (tag : ℕ). map (field_of tag c.args.netlist.inputs) (with_field tag c.args.netlist.inputs)) c.width-tag.ensures
+use Rattle.sap_sim.proofs.rows.simulate.Goals.{In_ok-feed}
 
 pub parse_stream-requires : goal.parse_stream-requires
-parse_stream-requires c = record {
-  widths =
-      subst (λ (fs : List Field). All IsSized fs) (sym (fields_are (goal.at.parse_stream-requires c).In_ok-line))
-      (subst (λ (tag : ℕ). All IsSized (map (field_of tag c.args.netlist.inputs) (with_field tag c.args.netlist.inputs))) c.width-tag.ensures
-      (fields_sized c.width-tag.result c.args.netlist c.rules.ensures));
-  short = c.requires.short;
-}
+parse_stream-requires c = record { widths = c.in_ok-feed.ensures.sized; short = c.requires.short }
 
-parsed_is : (c : In_ok-line) (p : Parsed) → p ≡ stimulus_of c.args.lattice.now c.in_ok-line.line.fields c.args.stimulus.now → p ≡ read_for c.args.lattice.now c.args.netlist c.args.stimulus.now
-parsed_is c p e = e ∙ ap (λ (fs : List Field). stimulus_of c.args.lattice.now fs c.args.stimulus.now) (fields_are c)
+parsed_is : (c : In_ok-feed) (p : Parsed) → p ≡ stimulus_of c.args.lattice.now c.in_ok-feed.feed.fields c.args.stimulus.now → p ≡ read_for c.args.lattice.now c.args.netlist c.args.stimulus.now
+parsed_is c p e = e ∙ ap (λ (fs : List Field). stimulus_of c.args.lattice.now fs c.args.stimulus.now) c.in_ok-feed.ensures.fields
 
-fitting : (c : In_ok-line) → StreamFits c.args.lattice.now (fields_of c.args.lattice.now c.args.netlist) (read_for c.args.lattice.now c.args.netlist c.args.stimulus.now).stream
+fitting : (c : In_ok-feed) → StreamFits c.args.lattice.now (fields_of c.args.lattice.now c.args.netlist) (read_for c.args.lattice.now c.args.netlist c.args.stimulus.now).stream
 fitting c = c.stimulus_fits.ensures c.args.lattice.now (fields_of c.args.lattice.now c.args.netlist) c.args.stimulus.now c.lawful.ensures.order.bottom_is_level
 
 pub rows-requires-clause-counts : goal.rows-requires-clause-counts
 rows-requires-clause-counts c =
-    let d = (goal.at.rows-requires-clause-counts c).In_ok-line in
+    let d = (goal.at.rows-requires-clause-counts c).In_ok-feed in
     let ls = c.args.lattice.now in
     let e : cycles_of c.spans.result.now ≡ (read_for c.args.lattice.now c.args.netlist c.args.stimulus.now).stream =
     c.spans.ensures ∙ ap (λ (p : Parsed). p.stream) (parsed_is d c.in_ok-parsed.parsed c.in_ok-parsed.ensures.read) in
-    subst (λ (n : Net). All (λ (xs : List Given). length xs ≡ length (fields_of ls n)) (cycles_of c.spans.result.now)) (sym c.in-Ok.ensures.netlist)
+    subst (λ (n : Net). All (λ (xs : List Given). length xs ≡ length (fields_of ls n)) (cycles_of c.spans.result.now)) (sym c.in_ok-runner.ensures.netlist)
     (subst (λ (stream : List (List Given)). All (λ (xs : List Given). length xs ≡ length (fields_of ls c.args.netlist)) stream) (sym e) (counts ls (fields_of ls c.args.netlist) _ (fitting d)))
 
 pub rows-requires-clause-fits : goal.rows-requires-clause-fits
 rows-requires-clause-fits c =
-    let d = (goal.at.rows-requires-clause-fits c).In_ok-line in
+    let d = (goal.at.rows-requires-clause-fits c).In_ok-feed in
     let ls = c.args.lattice.now in
     let e : cycles_of c.spans.result.now ≡ (read_for c.args.lattice.now c.args.netlist c.args.stimulus.now).stream =
     c.spans.ensures ∙ ap (λ (p : Parsed). p.stream) (parsed_is d c.in_ok-parsed.parsed c.in_ok-parsed.ensures.read) in
-    subst (λ (n : Net). AllFit n.inputs (map (numbers_of ls n) (cycles_of c.spans.result.now))) (sym c.in-Ok.ensures.netlist)
+    subst (λ (n : Net). AllFit n.inputs (map (numbers_of ls n) (cycles_of c.spans.result.now))) (sym c.in_ok-runner.ensures.netlist)
     (subst (λ (stream : List (List Given)). AllFit c.args.netlist.inputs (map (numbers_of ls c.args.netlist) stream)) (sym e)
     (stream_fits ls c.lawful.ensures.codes c.args.netlist c.rules.ensures _ (fitting d)))
 
 pub rows-requires-clause-few : goal.rows-requires-clause-few
 rows-requires-clause-few c =
-    let d = (goal.at.rows-requires-clause-few c).In_ok-line in
+    let d = (goal.at.rows-requires-clause-few c).In_ok-feed in
     let e : cycles_of c.spans.result.now ≡ (read_for c.args.lattice.now c.args.netlist c.args.stimulus.now).stream =
     c.spans.ensures ∙ ap (λ (p : Parsed). p.stream) (parsed_is d c.in_ok-parsed.parsed c.in_ok-parsed.ensures.read) in
     subst (λ (stream : List (List Given)). length stream < 2 ^ 48) (sym e) (stimulus_few c.args.lattice.now (fields_of c.args.lattice.now c.args.netlist) c.args.stimulus.now c.requires.short)
 
 pub returns : goal.returns
 returns c =
-    let d = (goal.at.returns c).In_ok-line in
+    let d = (goal.at.returns c).In_ok-feed in
     let ls = c.args.lattice.now in
     let n = c.args.netlist in
-    let m = c.in-Ok.runner.net in
+    let m = c.in_ok-runner.runner.net in
     let p : c.in_ok-parsed.parsed ≡ read_for c.args.lattice.now c.args.netlist c.args.stimulus.now = parsed_is d c.in_ok-parsed.parsed c.in_ok-parsed.ensures.read in
     let stream = (read_for c.args.lattice.now c.args.netlist c.args.stimulus.now).stream in
     let e : cycles_of c.spans.result.now ≡ (read_for c.args.lattice.now c.args.netlist c.args.stimulus.now).stream = c.spans.ensures ∙ ap (λ (q : Parsed). q.stream) p in
     let w = c.one_run.ensures.some (map (numbers_of ls n) stream) (stream_fits ls c.lawful.ensures.codes n c.rules.ensures stream (fitting d)) in
-    let there : IsRun c.in-Ok.runner.net (map (numbers_of c.args.lattice.now c.in-Ok.runner.net) (cycles_of c.spans.result.now)) w.0 =
-    subst (λ (q : Net). IsRun q (map (numbers_of ls q) (cycles_of c.spans.result.now)) w.0) (sym c.in-Ok.ensures.netlist)
+    let there : IsRun c.in_ok-runner.runner.net (map (numbers_of c.args.lattice.now c.in_ok-runner.runner.net) (cycles_of c.spans.result.now)) w.0 =
+    subst (λ (q : Net). IsRun q (map (numbers_of ls q) (cycles_of c.spans.result.now)) w.0) (sym c.in_ok-runner.ensures.netlist)
     (subst (λ (s : List (List Given)). IsRun n (map (numbers_of ls n) s) w.0) (sym e) w.1) in
     record {
       rows = record {
@@ -86,6 +74,6 @@ returns c =
         is_run = w.1;
         text =
             c.new.ensures ∙ c.in_ok-text.ensures w.0 there
-            ∙ ap (λ (q : Net). rows_from ls (shown_registers ls q) 1 (map (observed q) w.0)) c.in-Ok.ensures.netlist;
+            ∙ ap (λ (q : Net). rows_from ls (shown_registers ls q) 1 (map (observed q) w.0)) c.in_ok-runner.ensures.netlist;
       };
     }
