@@ -1,5 +1,5 @@
 -- What writing a line makes of channel 2 and of the count of its failed calls.
-use Rattle.std.proofs.Common.{◌≡◌, ◌≤◌, ℕ, List, take, refl, sym, subst, inl, inr, ◌⊎◌}
+use Rattle.std.proofs.Common.{◌≡◌, ℕ, List, take, refl, sym, subst, inl, inr}
 use Rattle.std.specs.Prelude.{Option, Some, None, Result, Ok, Err, OnOk, OnErr, IsSomeAnd, option_map}
 use Rattle.sap_desk.specs.Desk.{Told, added}
 use Rattle.sap_desk.specs.Whole.{Between, CountsFailed, CutLine, Gained, LostAtMostOne}

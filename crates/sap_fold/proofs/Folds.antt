@@ -1,5 +1,5 @@
 -- Each rule gives a right side that fits where the given one does, and has its value.
-use Rattle.std.proofs.Common.{◌≡◌, ℕ, zero, suc, ◌+◌, ◌-◌, ◌*◌, ◌/◌, ◌%◌, ◌^◌, ◌<◌, ◌≤◌, ◌==◌, ◌&&◌, ◌||◌, List, [], ◌∷◌, Bool, true, false, sym, ap, ap₂, ◌∙◌, subst, refl, inl, inr, arith}
+use Rattle.std.proofs.Common.{◌≡◌, ℕ, zero, suc, ◌+◌, ◌-◌, ◌*◌, ◌/◌, ◌%◌, ◌^◌, ◌<◌, ◌≤◌, ◌==◌, ◌&&◌, ◌||◌, List, Bool, true, false, sym, ap, ap₂, ◌∙◌, subst, refl, inl, inr, arith}
 use Rattle.std.specs.Prelude.{◌⊎◌, nat_le, if◌then◌else◌, bit_and, bit_or, bit_xor}
 use Rattle.std.specs.Int.Bits.{and_self, or_self, xor_self, and_zero_l, and_zero_r, or_zero_l, or_zero_r, xor_zero_l, xor_zero_r}
 use Rattle.std.proofs.Math.Pow.{pow_pos}

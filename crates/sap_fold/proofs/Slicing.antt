@@ -1,6 +1,6 @@
 -- Slices of slices, of parts of concatenations, and of whole wires.
 use Rattle.std.proofs.Common.{◌≡◌, ℕ, suc, ◌+◌, ◌-◌, ◌*◌, ◌/◌, ◌%◌, ◌^◌, ◌<◌, ◌≤◌, ◌==◌, List, [], ◌∷◌, ◌++◌, length, take, drop, get_or, drop-cons, Option, Some, None, true, sym, ap, ap₂, ◌∙◌, subst, refl, arith}
-use Rattle.std.specs.Prelude.{if◌then◌else◌, IfSome}
+use Rattle.std.specs.Prelude.{IfSome}
 use Rattle.std.proofs.Math.Nat.{add-mul, mul_assoc, mul_comm, div-add-mod, mod-lt, add-mul-mod_self_right, add-mul-div_right, mod-eq_of_lt}
 use Rattle.std.proofs.Math.Pow.{pow_pos}
 use Rattle.std.proofs.lemmas.List.{take-append-drop, length-take}

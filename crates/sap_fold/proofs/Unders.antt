@@ -1,5 +1,5 @@
 -- What operands are where a bit is known.
-use Rattle.std.proofs.Common.{◌≡◌, ℕ, ◌-◌, ◌^◌, ◌<◌, ◌==◌, List, [], ◌∷◌, Option, Some, None, Bool, true, false, sym, ap, ◌∙◌, subst, refl, inl, inr, arith}
+use Rattle.std.proofs.Common.{◌≡◌, ℕ, ◌-◌, ◌^◌, ◌<◌, ◌==◌, List, Option, Some, None, Bool, true, false, sym, ap, ◌∙◌, subst, refl, inl, inr, arith}
 use Rattle.std.specs.Prelude.{◌⊎◌, not, IfSome, if◌then◌else◌, bit_and, bit_or}
 use Rattle.std.specs.Int.Bits.{and_zero_l, or_zero_l}
 use Rattle.std.proofs.lemmas.Nat.{and_comm, or_comm}

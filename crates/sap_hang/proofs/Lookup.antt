@@ -1,5 +1,5 @@
 -- Lookups of numbers in a table.
-use Rattle.std.proofs.Common.{◌≡◌, ℕ, Bool, List, map, ◌∙◌}
+use Rattle.std.proofs.Common.{◌≡◌, ℕ, Bool, List}
 use Rattle.std.specs.Prelude.{Vec, slice_get, option_map}
 use Rattle.std.specs.Global.{Global}
 use Rattle.std.proofs.lemmas.Option.{slice_get-map}

@@ -1,5 +1,5 @@
 -- What may be asked of the program beside its commands.
-use Rattle.std.specs.Prelude.{◌≡◌, ◌≤◌, ◌⊎◌, ℕ, Bool, false, not, List, [], ◌∷◌, ◌++◌, take, length, bytes_eq, codes, Option, None, option_map, if◌then◌else◌, nat_eq}
+use Rattle.std.specs.Prelude.{◌≡◌, ◌≤◌, ◌⊎◌, ℕ, Bool, false, not, List, [], ◌∷◌, ◌++◌, take, length, bytes_eq, codes, Option, Some, None, option_map, if◌then◌else◌, nat_eq}
 use Rattle.sap_desk.specs.Desk.{Told, added}
 use Rattle.sap_help.specs.Codes.{is_code, IsTextOf}
 use Rattle.sap_help.specs.declared.asking.Question.{Question}

@@ -1,5 +1,5 @@
 -- What passes the test is what the type keeps.
-use Rattle.std.proofs.Common.{◌≡◌, ℕ, zero, suc, ◌+◌, ◌-◌, ◌^◌, ◌≤◌, ◌&&◌, ◌||◌, ◌==◌, ◌++◌, Option, Some, None, Bool, true, not, ap, ap₂, ◌∙◌, refl, arith, ⊎_elim}
+use Rattle.std.proofs.Common.{◌≡◌, ℕ, zero, suc, ◌^◌, ◌≤◌, ◌&&◌, ◌==◌, ◌++◌, Option, Some, None, Bool, true, not, ap, ap₂, ◌∙◌, refl, arith, ⊎_elim}
 use Rattle.std.specs.Prelude.{nat_lt, nat_le}
 use Rattle.std.proofs.lemmas.Bool.{and_parts, cases_Bool, leb-true, ltb-true, not-true}
 use Rattle.sap_lemmas.proofs.Bools.{five_parts, three_parts}

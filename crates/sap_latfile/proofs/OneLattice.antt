@@ -1,5 +1,5 @@
 -- Two lattices of one file are the same.
-use Rattle.std.proofs.Common.{◌≡◌, ◌↔◌, ℕ, ◌<◌, ◌≤◌, List, length, sym, ap, ◌∙◌, subst, arith}
+use Rattle.std.proofs.Common.{◌≡◌, ℕ, ◌<◌, List, length, sym, ap, ◌∙◌, subst, arith}
 use Rattle.sap_lemmas.proofs.Bools.{iff_same}
 use Rattle.sap_lemmas.proofs.Options.{some_unique}
 use Rattle.sap_lattice.proofs.LevelsLemmas.{level_in_same}

@@ -1,5 +1,4 @@
 -- A file without its places.
-use Rattle.std.proofs.Common.{[], ◌∷◌}
 use Rattle.std.specs.Prelude.{map}
 use Rattle.sap_modtext.specs.Items.{Mention, Number, Operand, Constant, Right, Item, Port, File}
 use Rattle.sap_modtext.specs.Items as item

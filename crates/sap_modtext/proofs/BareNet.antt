@@ -1,5 +1,5 @@
 -- A netlist doesn't depend on places.
-use Rattle.std.proofs.Common.{◌≡◌, ℕ, ◌+◌, List, [], ◌∷◌, ◌++◌, Option, refl, ap, ◌∙◌}
+use Rattle.std.proofs.Common.{◌≡◌, ℕ, List, [], ◌∷◌, Option, refl, ap, ◌∙◌}
 use Rattle.std.specs.Prelude.{map, flat_map, unwrap_or}
 use Rattle.sap_net.specs.declared.parts.Operand.{Operand as NetOperand}
 use Rattle.sap_net.specs.declared.parts.Right.TheVariants as right

@@ -1,5 +1,5 @@
 -- A text has at most one list of tokens.
-use Rattle.std.proofs.Common.{◌≡◌, ℕ, ◌+◌, List, ◌∷◌, drop, refl, ap, ◌∙◌}
+use Rattle.std.proofs.Common.{◌≡◌, ℕ, ◌+◌, List, drop, refl, ap, ◌∙◌}
 use Rattle.sap_modtext.proofs.LexingLemmas.{front_at_end}
 use Rattle.sap_modtext.specs.Tokens.{Token}
 use Rattle.sap_modtext.specs.Lexing.{front, Lexed, end, blank_first, token_first}

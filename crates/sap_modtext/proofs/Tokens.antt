@@ -1,6 +1,6 @@
 -- Two readings of the front of one list of tokens.
 use Rattle.std.proofs.Common.{◌≡◌, ℕ, List, [], ◌∷◌, Option, Some, None, sym, ap, ◌∙◌}
-use Rattle.sap_modtext.specs.Tokens.{Word, Sign, Kind, Token, IsToken, name}
+use Rattle.sap_modtext.specs.Tokens.{Word, Sign, Kind, Token, IsToken}
 use Rattle.sap_modtext.specs.Items.{Mention, Number, Constant}
 use Rattle.sap_modtext.specs.Grammar.{IsWord, IsSign, IsName, IsNumber, IsDigit, IsConstant}
 

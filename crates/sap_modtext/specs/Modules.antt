@@ -19,7 +19,7 @@ use Rattle.sap_modtext.specs.Lexing.{Lexed}
 use Rattle.sap_modtext.specs.Items.{File}
 use Rattle.sap_modtext.specs.Items as item
 use Rattle.sap_modtext.specs.Grammar.{IsFile}
-use Rattle.sap_modtext.specs.Faults.{Shape, input, register, memory, Declaration, declarations, shape_in, shape_width, IsFaultless}
+use Rattle.sap_modtext.specs.Faults.{Shape, register, memory, Declaration, declarations, shape_in, shape_width, IsFaultless}
 
 -- The netlist of a file. Where no fault stands, all that is looked up here is there.
 

@@ -1,5 +1,5 @@
 -- The tokens of a module's text.
-use Rattle.std.specs.Prelude.{◌≡◌, ℕ, List, [], ◌∷◌}
+use Rattle.std.specs.Prelude.{◌≡◌, ℕ, List, ◌∷◌}
 
 -- the keywords
 pub data Word : Type 0 where

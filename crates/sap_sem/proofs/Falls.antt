@@ -8,11 +8,12 @@ use Rattle.sap_meaning.specs.Runs.{run_state}
 use Rattle.sap_program.specs.declared.program.State.{State, out-State}
 use Rattle.sap_program.specs.Hangs.{flags}
 use Rattle.sap_program.specs.Views.{group_of, state_of}
-use Rattle.sap_sem.specs.declared.setting.Setting.{Setting}
-use Rattle.sap_sem.specs.Code.{world_in, entities_in}
-use Rattle.sap_sem.specs.Runs.{fallen, state_run}
-use Rattle.sap_sem.proofs.Worlds.{root_is}
-use Rattle.sap_sem.proofs.Views.{state_of-out}
+use Rattle.sap_store.specs.declared.environment.Environment.{Environment}
+use Rattle.sap_store.specs.Code.{world_in, entities_in}
+use Rattle.sap_run.specs.Runs.{state_run}
+use Rattle.sap_sem.specs.Falls.{fallen}
+use Rattle.sap_store.proofs.Worlds.{root_is}
+use Rattle.sap_run.proofs.Views.{state_of-out}
 
 module _ (w : World) (n : ℕ) (h : ℕ → Bool) (p : ℕ) where
   fall_at : (kids : List State) (k : ℕ) (s : Store) (c : State) → k < length kids
@@ -28,7 +29,7 @@ module _ (w : World) (n : ℕ) (h : ℕ → Bool) (p : ℕ) where
   fall_past (j ∷ kids) zero s l = absurd (omega (arith, l))
   fall_past (j ∷ kids) (suc k) s l = rw (state_of-out n j) (fall_past kids k s (omega (arith, l)))
 
-pub fallen-at : (d : Setting) (s : Store) (k x : ℕ) (c : State) → k ≡ child (entities_in d) s → k < length d.program.now.states.items
+pub fallen-at : (d : Environment) (s : Store) (k x : ℕ) (c : State) → k ≡ child (entities_in d) s → k < length d.program.now.states.items
     → x ≡ (out-State (get_or d.program.now.states.items k c)).number
     → fallen d s ≡ state_run d (entities_in d) (get_or d.program.now.states.items k c) (level (world_in d) (own x) s) (raise (world_in d).order (listed (flags (entities_in d) d.program.now.hang)) (level (world_in d) (own x) s) s)
 unfolding fallen state_run
@@ -36,7 +37,7 @@ fallen-at d s k x c e l i =
     let r : root (world_in d) ≡ entities_in d = root_is (order_of d.lattice.now) d.program.now in
     rw (r, ← e, i) (fall_at (world_in d) (entities_in d) (listed (flags (entities_in d) d.program.now.hang)) (entities_in d) d.program.now.states.items k s c l)
 
-pub fallen-past : (d : Setting) (s : Store) (k : ℕ) → k ≡ child (entities_in d) s → length d.program.now.states.items ≤ k → fallen d s ≡ stay s
+pub fallen-past : (d : Environment) (s : Store) (k : ℕ) → k ≡ child (entities_in d) s → length d.program.now.states.items ≤ k → fallen d s ≡ stay s
 unfolding fallen
 fallen-past d s k e l =
     let r : root (world_in d) ≡ entities_in d = root_is (order_of d.lattice.now) d.program.now in

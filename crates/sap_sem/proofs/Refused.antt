@@ -6,7 +6,7 @@ use Rattle.std.proofs.lemmas.Bool.{cases_Bool, eqb-true, eq-eqb, ne_eqb}
 use Rattle.std.proofs.lemmas.Grind.{get_or-set_at}
 use Rattle.std.proofs.lemmas.List.{length-replicate}
 use Rattle.sap_meaning.specs.Store.{Refusal}
-use Rattle.sap_sem.specs.Runs.{marked}
+use Rattle.sap_run.specs.Runs.{marked}
 use Rattle.sap_meaning.specs.Sites.{refused_sites, Sublist}
 use Rattle.sap_secure.specs.CheckSites.Numbering.{numbers_from}
 use Rattle.sap_sem.specs.Machine.{refusal_before, refusals_from, refusal_of}

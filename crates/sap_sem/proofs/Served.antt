@@ -20,7 +20,7 @@ use Rattle.sap_shape.specs.Sites.{check_sites}
 use Rattle.sap_secure.specs.CheckSites.Numbering.{numbers_from}
 use Rattle.sap_program.specs.Design.{IsProgramOf}
 use Rattle.sap_program.specs.declared.program.Program as code
-use Rattle.sap_sem.specs.Able.{AbleGroup}
+use Rattle.sap_store.specs.Able.{AbleGroup}
 use Rattle.sap_sem.specs.Sound.{IsSound, meant}
 use Rattle.sap_sem.proofs.Programs.{able_program}
 

@@ -1,10 +1,4 @@
-pub mod Half
-pub mod Kept
-pub mod Passes
-pub mod Able
-pub mod Runs
-pub mod Code
-pub mod First
+pub mod Falls
 pub mod Sound
 pub mod Machine
 pub mod Props

@@ -5,7 +5,7 @@ use Rattle.sap_meaning.specs.Program.{Program}
 use Rattle.sap_meaning.specs.Store.{Store, Refusal}
 use Rattle.sap_program.specs.Views.{program_in}
 use Rattle.sap_sem.specs.declared.machine.Machine.{Machine}
-use Rattle.sap_sem.specs.Kept.{store_of}
+use Rattle.sap_store.specs.Kept.{store_of}
 
 abbrev pub levels_of : Machine → Levels
 levels_of m = m.lattice

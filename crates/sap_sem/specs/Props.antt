@@ -11,7 +11,7 @@ use Rattle.sap_meaning.specs.Fine.{FineTerm, FineLevel, FineStep, FineCommand, F
 use Rattle.sap_meaning.specs.Sized.{Indexed}
 use Rattle.sap_resolve.specs.Sized.Ranges.{RangedTerm}
 use Rattle.sap_program.specs.declared.program.Program as code
-use Rattle.sap_sem.specs.Able.{AbleTerm, AbleLevel, AbleStep, AbleCommand, AbleArms, AbleBlock, AbleState, AbleGroup}
+use Rattle.sap_store.specs.Able.{AbleTerm, AbleLevel, AbleStep, AbleCommand, AbleArms, AbleBlock, AbleState, AbleGroup}
 use Rattle.sap_sem.specs.Sound.{IsSound}
 
 count_prop : (op : Op2) (w u : ℕ) → IsProp (CountFits op w u)

@@ -8,9 +8,9 @@ use Rattle.sap_meaning.specs.State.{Resting}
 use Rattle.sap_secure.specs.CheckSites.Numbering.{numbers_from}
 use Rattle.sap_program.specs.declared.program.Program.{Program}
 use Rattle.sap_program.specs.Views.{program_in}
-use Rattle.sap_sem.specs.declared.store.Store.{Store}
-use Rattle.sap_sem.specs.Able.{AbleGroup}
-use Rattle.sap_sem.specs.Kept.{Ready, store_of}
+use Rattle.sap_store.specs.declared.store.Store.{Store}
+use Rattle.sap_store.specs.Able.{AbleGroup}
+use Rattle.sap_store.specs.Kept.{Ready, store_of}
 
 abbrev pub meant : Levels → Program → meaning.Program
 meant ls p = program_in (order_of ls) p

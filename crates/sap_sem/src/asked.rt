@@ -49,7 +49,7 @@ impl Machine {
         k == values.len()
     }
 
-    #[tactic(auto, using(crate::proofs::Worlds::entities))]
+    #[tactic(auto, using(sap_store::proofs::Worlds::entities))]
     pub fn is_register(&self, entity: u32) -> bool
         ensures { result ≡ program.is_register (program_of self.now).world entity }
     {
@@ -59,7 +59,7 @@ impl Machine {
         }
     }
 
-    #[tactic(auto, using(crate::proofs::Worlds::entities))]
+    #[tactic(auto, using(sap_store::proofs::Worlds::entities))]
     pub fn is_memory(&self, entity: u32) -> bool
         ensures { result ≡ program.is_memory (program_of self.now).world entity }
     {
@@ -69,7 +69,7 @@ impl Machine {
         }
     }
 
-    #[tactic(auto, using(crate::proofs::Worlds::entities, crate::proofs::Worlds::root_is))]
+    #[tactic(auto, using(sap_store::proofs::Worlds::entities, sap_store::proofs::Worlds::root_is))]
     pub fn is_state(&self, entity: u32) -> bool
         ensures within { IsTrue result → entity < program.root (program_of self.now).world }
         ensures state { IsTrue result → program.is_state (program_of self.now).world entity ≡ true }
@@ -82,7 +82,7 @@ impl Machine {
     }
 
     /// How many cells a memory has; 0 for what is none.
-    #[tactic(auto, using(crate::proofs::Worlds::entities))]
+    #[tactic(auto, using(sap_store::proofs::Worlds::entities))]
     pub fn depth(&self, entity: u32) -> u64
         ensures { result ≡ sized.depth (program_of self.now).world entity }
     {
@@ -98,7 +98,7 @@ impl Machine {
     }
 
     /// How many children a state has, or the root.
-    #[tactic(auto, using(crate::proofs::Worlds::root_is))]
+    #[tactic(auto, using(sap_store::proofs::Worlds::root_is))]
     pub fn child_count(&self, parent: Option<u32>) -> usize
         ensures { result ≡ program.children (program_of self.now).world (unwrap_or parent (program.root (program_of self.now).world)) }
     {
@@ -113,7 +113,7 @@ impl Machine {
     }
 
     /// How many inputs, registers, memories and states there are, which are numbered from 0.
-    #[tactic(auto, using(crate::proofs::Worlds::root_is))]
+    #[tactic(auto, using(sap_store::proofs::Worlds::root_is))]
     pub fn entity_count(&self) -> usize
         ensures { result ≡ program.root (program_of self.now).world }
     {

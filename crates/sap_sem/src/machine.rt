@@ -3,10 +3,10 @@
 ghost use Rattle.sap_sem.specs.Props.{sound_prop};
 ghost use Rattle.sap_sem.specs.Sound.{AreMarks, IsReady, IsSound};
 
-use crate::store::Store;
 use sap_lattice::lattice::Lattice;
 use sap_lattice::level::Level;
 use sap_program::program::Program;
+use sap_store::store::Store;
 
 /// A design that is stepped a cycle at a time, in its labelled meaning. Nothing but `new` takes memory.
 #[derive(Drop)]

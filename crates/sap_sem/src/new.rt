@@ -1,29 +1,30 @@
 //! Machines at their start.
 
-ghost use Rattle.std.specs.Prelude.{◌≡◌, ◌<◌, ◌^◌, ℕ, None, [], IfOk, length};
+ghost use Rattle.std.specs.Prelude.{◌≡◌, ◌+◌, ◌<◌, ◌^◌, ℕ, None, [], IfOk, length, replicate};
 ghost use Rattle.sap_check.specs.Checked.{levels_in, tree_in};
 ghost use Rattle.sap_check.specs.Sites as check;
 ghost use Rattle.sap_hang.specs.Hang.{IsHangTable};
 ghost use Rattle.sap_meaning.specs.Fine.{ExactProgram, FineProgram};
 ghost use Rattle.sap_meaning.specs.Program as program;
-ghost use Rattle.sap_meaning.specs.State.{first};
 ghost use Rattle.sap_meaning.specs.Sites.{program_sites};
+ghost use Rattle.sap_meaning.specs.State.{first};
 ghost use Rattle.sap_resolve.specs.Fill as resolve;
-ghost use Rattle.sap_shape.specs.Sites.{check_sites};
 ghost use Rattle.sap_secure.specs.CheckSites.Numbering.{numbers_from};
-ghost use Rattle.sap_sem.specs.Able.{AbleGroup};
 ghost use Rattle.sap_sem.specs.Machine.{levels_of, program_of, refusals_of, refused_at, sites_of, state_of};
+ghost use Rattle.sap_shape.specs.Sites.{check_sites};
+ghost use Rattle.sap_store.specs.Able.{AbleGroup};
 
-use crate::first::{first_store, no_refusals};
 use crate::machine::Machine;
-use crate::setting::Setting;
 use sap_check::Checked;
 use sap_hang::HangTable;
+use sap_lattice::level::Level;
 use sap_meaning::states_keep;
 use sap_resolve::premises::well_formed_serves;
 use sap_resolve::sized::{sizes_fit, widths_in_range};
 use sap_resolver::resolve::resolve;
 use sap_secure::check_sites::sites_agree;
+use sap_store::environment::Environment;
+use sap_store::first::first_store;
 use sap_tree::whole::design_is_whole;
 use std::alloc::{AllocError, Global};
 
@@ -49,6 +50,17 @@ fn program_serves(checked: &Checked)
     let _ = checked.entity_count();
 }
 
+/// No site refused, of so many.
+fn no_refusals(alloc: Global, sites: u32) -> Result<Vec<Option<Level>>, AllocError>
+    ensures { IfOk result (λ v. v.items ≡ replicate (sites + 1) None) }
+{
+    let mut refusals = Vec::new(alloc);
+    for i in 0..u64::from(sites) + 1 {
+        refusals.push(None)?;
+    }
+    Ok(refusals)
+}
+
 impl Machine {
     /// The design at its start. The table is of what hangs in the design.
     pub fn new(alloc: Global, checked: &Checked, table: &HangTable) -> Result<Machine, AllocError>
@@ -65,11 +77,11 @@ impl Machine {
         let levels = checked.lattice();
         let lattice = levels.copy(alloc)?;
         let program = resolve(alloc, checked, table)?;
-        let setting = Setting {
+        let environment = Environment {
             lattice: &lattice,
             program: &program,
         };
-        let store = first_store(alloc, &setting)?;
+        let store = first_store(alloc, &environment)?;
         let refusals = no_refusals(alloc, program.sites)?;
         Ok(Machine {
             lattice,

@@ -3,8 +3,8 @@
 ghost use Rattle.std.specs.Prelude.{◌≡◌, ℕ};
 ghost use Rattle.sap_meaning.specs.Agree.{InputsAgree, RefusalsAgree};
 ghost use Rattle.sap_meaning.specs.State.{InputsFit};
-ghost use Rattle.sap_sem.specs.Pair.Pair.{MachinesAgree, Steps};
 ghost use Rattle.sap_sem.specs.Machine.{program_of, refusals_of};
+ghost use Rattle.sap_sem.specs.Pair.Pair.{MachinesAgree, Steps};
 
 use crate::machine::Machine;
 use sap_secure::one_cycle;

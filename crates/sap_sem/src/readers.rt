@@ -8,17 +8,17 @@ ghost use Rattle.sap_meaning.specs.State.{Resting};
 ghost use Rattle.sap_meaning.specs.Store as meaning;
 ghost use Rattle.sap_sem.specs.Machine.{IsSite, program_of, refused_at, state_of};
 
-use crate::entries::{child, own, start_cell};
 use crate::machine::Machine;
-use crate::setting::Setting;
 use sap_lattice::level::Level;
+use sap_store::entries::{child, own, start_cell};
+use sap_store::environment::Environment;
 
 impl Machine {
-    fn setting(&self) -> Setting<'_>
+    fn environment(&self) -> Environment<'_>
         ensures lattice { result.lattice.now ≡ self.now.lattice }
         ensures program { result.program.now ≡ self.now.program }
     {
-        Setting {
+        Environment {
             lattice: &self.lattice,
             program: &self.program,
         }
@@ -37,7 +37,7 @@ impl Machine {
         ensures number { result.0 ≡ meaning.number (meaning.own entity) (state_of self.now) }
         ensures level { result.1 ≡ meaning.level (program_of self.now).world (meaning.own entity) (state_of self.now) }
     {
-        let cell = own(&self.setting(), &self.store, entity as usize);
+        let cell = own(&self.environment(), &self.store, entity as usize);
         (cell.number, cell.level)
     }
 
@@ -48,7 +48,12 @@ impl Machine {
         ensures number { result.0 ≡ meaning.number (meaning.start entity i) (state_of self.now) }
         ensures level { result.1 ≡ meaning.level (program_of self.now).world (meaning.start entity i) (state_of self.now) }
     {
-        let cell = start_cell(&self.setting(), &self.store, entity as usize, u64::from(i));
+        let cell = start_cell(
+            &self.environment(),
+            &self.store,
+            entity as usize,
+            u64::from(i),
+        );
         (cell.number, cell.level)
     }
 
@@ -58,7 +63,7 @@ impl Machine {
         requires state { program.is_state (program_of self.now).world entity ≡ true }
         ensures { result ≡ meaning.level (program_of self.now).world (meaning.own entity) (state_of self.now) }
     {
-        own(&self.setting(), &self.store, entity as usize).level
+        own(&self.environment(), &self.store, entity as usize).level
     }
 
     /// The place of the current child of a state that has children, or of the root, from 0.
@@ -70,7 +75,7 @@ impl Machine {
             Some(state) => state as usize,
             None => self.program.entities.len(),
         };
-        child(&self.setting(), &self.store, parent)
+        child(&self.environment(), &self.store, parent)
     }
 
     /// The level at which a check site was refused in the last cycle. None exactly where it wasn't, or where there was no cycle.

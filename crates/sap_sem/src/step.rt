@@ -6,9 +6,9 @@ ghost use Rattle.sap_meaning.specs.State.{InputsFit};
 ghost use Rattle.sap_sem.specs.Machine.{IsSite, levels_of, program_of, refusal_of, refusals_of, refused_at, sites_of, state_of};
 
 use crate::machine::Machine;
-use crate::setting::Setting;
 use crate::turn::turn;
 use sap_meaning::{lists_serve, refusals_in_order, states_keep};
+use sap_store::environment::Environment;
 use sap_stream::inputs::Inputs;
 
 impl Machine {
@@ -25,10 +25,10 @@ impl Machine {
         lists_serve();
         refusals_in_order();
         states_keep();
-        let setting = Setting {
+        let environment = Environment {
             lattice: &self.lattice,
             program: &self.program,
         };
-        turn(&setting, &mut self.store, &mut self.refusals, inputs);
+        turn(&environment, &mut self.store, &mut self.refusals, inputs);
     }
 }

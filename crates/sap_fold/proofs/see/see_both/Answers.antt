@@ -1,4 +1,3 @@
-use Rattle.std.proofs.Common.{◌≡◌}
 use Rattle.sap_net.specs.declared.parts.Right.TheVariants.{Two}
 use Rattle.sap_fold.specs.Names.{holds}
 use Rattle.sap_fold.proofs.Becoming.{becomes_equal}

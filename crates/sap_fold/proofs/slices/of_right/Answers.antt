@@ -1,4 +1,4 @@
-use Rattle.std.proofs.Common.{◌≡◌, List, subst}
+use Rattle.std.proofs.Common.{List, subst}
 use Rattle.std.specs.Prelude.{IfSome}
 use Rattle.sap_net.specs.declared.parts.Operand.{Operand}
 use Rattle.sap_fold.specs.Slices.{OfParts}

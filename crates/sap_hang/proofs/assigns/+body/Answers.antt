@@ -1,4 +1,4 @@
-use Rattle.std.proofs.Common.{◌≡◌, ◌∙◌, sym, arith}
+use Rattle.std.proofs.Common.{◌∙◌, sym, arith}
 use Rattle.sap_hang.proofs.Walks.{arms_here, commands_here}
 use Rattle.sap_hang.proofs.assigns.+body.Goals as goal
 

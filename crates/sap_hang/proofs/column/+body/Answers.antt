@@ -1,4 +1,4 @@
-use Rattle.std.proofs.Common.{◌≡◌, ◌∙◌, ap, refl, arith}
+use Rattle.std.proofs.Common.{◌∙◌, ap, refl, arith}
 use Rattle.sap_tree.specs.Trees.{command_of}
 use Rattle.sap_tree.proofs.Views.{command_of-if, command_of-try, command_of-try_then, command_of-case}
 use Rattle.sap_hang.specs.Columns.{home_of}

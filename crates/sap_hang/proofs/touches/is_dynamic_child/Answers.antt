@@ -1,4 +1,4 @@
-use Rattle.std.proofs.Common.{◌≡◌, ◌∙◌, sym, arith}
+use Rattle.std.proofs.Common.{◌∙◌, sym, arith}
 use Rattle.sap_hang.proofs.Walks.{child_here}
 use Rattle.sap_hang.proofs.touches.is_dynamic_child.Goals as goal
 

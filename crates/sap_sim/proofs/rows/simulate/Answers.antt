@@ -1,21 +1,19 @@
-use Rattle.std.proofs.Common.{◌≡◌, ◌<◌, ◌^◌, List, ℕ, map, length, sym, ap, ◌∙◌, subst}
+use Rattle.std.proofs.Common.{◌≡◌, ◌<◌, ◌^◌, List, map, length, sym, ap, ◌∙◌, subst}
 use Rattle.std.specs.Prelude.{All}
 use Rattle.sap_meaning.specs.Cycle.{Tagged as Given}
-use Rattle.sap_net.specs.declared.parts.Input.{Input}
 use Rattle.sap_net.specs.Net.{Net}
 use Rattle.sap_net.specs.Runs.{AllFit, IsRun, observed}
 use Rattle.sap_stream.specs.Spans.{cycles_of}
 use Rattle.sap_stim.specs.declared.field.Field.{Field}
 use Rattle.sap_stim.specs.declared.stimulus.Parsed.{Parsed}
-use Rattle.sap_stim.specs.Line.{IsSized}
 use Rattle.sap_stim.specs.Fits.{StreamFits}
 use Rattle.sap_stim.specs.Stimulus.{stimulus_of}
-use Rattle.sap_sim.specs.Fields.{with_field, field_of, fields_of}
+use Rattle.sap_sim.specs.Fields.{fields_of}
 use Rattle.sap_sim.specs.Numbers.{numbers_of}
 use Rattle.sap_sim.specs.Shown.{shown_registers, rows_from}
 use Rattle.sap_sim.specs.Simulated.{read_for}
 use Rattle.sap_sim.proofs.Few.{stimulus_few}
-use Rattle.sap_sim.proofs.Fits.{fields_sized, stream_fits, counts}
+use Rattle.sap_sim.proofs.Fits.{stream_fits, counts}
 use Rattle.sap_sim.proofs.rows.simulate.Goals as goal
 use Rattle.sap_sim.proofs.rows.simulate.Goals.{In_ok-feed}
 

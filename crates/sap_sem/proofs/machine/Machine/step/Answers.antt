@@ -6,7 +6,7 @@ use Rattle.sap_meaning.specs.State.{Resting}
 use Rattle.sap_meaning.specs.Store.{After, Store}
 use Rattle.sap_secure.specs.CheckSites.Numbering.{numbers_from}
 use Rattle.sap_sem.specs.Machine.{program_of, refusals_from, sites_of, state_of}
-use Rattle.sap_sem.specs.Runs.{GroupAble}
+use Rattle.sap_run.specs.Runs.{GroupAble}
 use Rattle.sap_sem.proofs.Refused.{told, told_again}
 use Rattle.sap_sem.proofs.machine.Machine.step.Goals as goal
 

@@ -1,0 +1,8 @@
+pub mod Views
+pub mod Children
+pub mod Arms
+pub mod Weights
+pub mod Marks
+pub mod Runs
+pub mod Alone
+pub mod Passed

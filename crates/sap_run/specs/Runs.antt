@@ -1,0 +1,138 @@
+-- What the code's parts do, in the words of the labelled meaning.
+use Rattle.std.specs.Prelude.{ℕ, ◌<◌, ◌≤◌, List, [], ◌∷◌, Option, Some, nat_eq, slice_set, if◌then◌else◌}
+use Rattle.sap_maps.specs.Term.{Term}
+use Rattle.sap_meaning.specs.Program.{World, root, is_dynamic, place, listed, LevelTerm, last_arm, Block}
+use Rattle.sap_meaning.specs.Program as program
+use Rattle.sap_meaning.specs.Store.{Store, own, start, next, number, level, put_number, put_level, put_child, raise, reset, Refusal, After}
+use Rattle.sap_meaning.specs.Expressions.{value, tag, new_level}
+use Rattle.sap_meaning.specs.Does.{effect, attempt_then, select, branch, is_constant}
+use Rattle.sap_meaning.specs.Runs.{run, run_block, run_state, run_child}
+use Rattle.sap_program.specs.Hangs.{flags}
+use Rattle.sap_program.specs.Views.{term_of, step_of, command_of, block_of, constants_of, commands_in, arms_before, state_of, group_of}
+use Rattle.sap_program.specs.declared.program.Number.{Number}
+use Rattle.sap_program.specs.declared.program.Arm.{Arm}
+use Rattle.sap_program.specs.declared.program.Command.{Command}
+use Rattle.sap_program.specs.declared.program.State.{State}
+use Rattle.sap_program.specs.declared.program.Step.{Step}
+use Rattle.sap_program.specs.declared.program.Step.TheVariants as step
+use Rattle.sap_store.specs.declared.environment.Environment.{Environment}
+use Rattle.sap_program.specs.declared.spot.Spot.{Spot}
+use Rattle.sap_run.specs.declared.effects.Raise.{Raise}
+use Rattle.sap_store.specs.Able.{AbleCommand, AbleArms, AbleBlock, AbleState, AbleGroup}
+use Rattle.sap_store.specs.Code.{world_in, entities_in, spot_in}
+
+-- what hangs is raised
+abbrev pub raised_by : Environment → Raise → Store → Store
+raised_by d r s = raise (world_in d).order (listed (flags (entities_in d) r.hang.now)) r.level s
+
+-- the effects of the steps that enter no child, on the store s behind the raises
+
+unfoldable pub set_done : World → ℕ → Term ℕ → ℕ → (before : Store) → Store → Store
+set_done w x e pc before s =
+    let t = if is_dynamic w x then w.order.join pc (tag w e before) else level w (own x) s in
+    put_level w (own x) t (put_number (own x) (value w e before) s)
+
+unfoldable pub write_done : World → ℕ → (index value : Term ℕ) → ℕ → (before : Store) → Store → Store
+write_done w m i e pc before s =
+    let t = w.order.join pc (w.order.join (tag w i before) (tag w e before)) in
+    put_number (next m (value w i before)) (value w e before) (if is_dynamic w m then raise w.order (λ x. nat_eq x m) t s else s)
+
+unfoldable pub retag_done : World → ℕ → LevelTerm → (before : Store) → Store → Store
+retag_done w x n before s =
+    let t = new_level w n before in
+    put_level w (own x) t (put_number (own x) (if w.order.le (level w (own x) before) t then number (own x) before else 0) s)
+
+unfoldable pub retag_cell_done : World → ℕ → Term ℕ → LevelTerm → (before : Store) → Store → Store
+retag_cell_done w m j n before s =
+    let t = new_level w n before in
+    let i = value w j before in
+    put_level w (next m i) t (put_number (next m i) (if w.order.le (level w (start m i) before) t then number (start m i) before else 0) s)
+
+unfoldable pub goto_done : World → (parent target : ℕ) → ℕ → Store → Store
+goto_done w parent target pc s =
+    let moved = reset w target (put_child parent (place w target) s) in
+    if is_dynamic w target then put_level w (own target) pc moved else moved
+
+abbrev pub step_done : World → (parent : ℕ) → program.Step → ℕ → (before : Store) → Store → Store
+step_done w parent (program.assign site x e) pc before s = set_done w x e pc before s
+step_done w parent (program.write site m i e) pc before s = write_done w m i e pc before s
+step_done w parent (program.retag site x n) pc before s = retag_done w x n before s
+step_done w parent (program.retag_cell site m j n) pc before s = retag_cell_done w m j n before s
+step_done w parent (program.go_to site target) pc before s = goto_done w parent target pc s
+step_done w parent (program.fall_to_child site hang) pc before s = s
+
+abbrev pub acted : Environment → Spot → Step → ℕ → (before : Store) → Store → Store
+acted d at k pc before s = step_done (world_in d) at.parent (step_of (entities_in d) k) pc before s
+
+-- every step but a fall
+abbrev pub IsEffect : Step → Type 0
+IsEffect (step.Set k x e) = Unit {0}
+IsEffect (step.Write k m i e) = Unit {0}
+IsEffect (step.Retag k x n) = Unit {0}
+IsEffect (step.RetagCell k m j n) = Unit {0}
+IsEffect (step.Goto k s) = Unit {0}
+IsEffect (step.Fall k hang) = ⊥
+
+-- what sites were refused at, with those of a list
+abbrev pub marked : List Refusal → List (Option ℕ) → List (Option ℕ)
+marked [] m = m
+marked (r ∷ rs) m = marked rs (slice_set m r.site (Some r.level))
+
+-- runs of the code's commands and states
+
+unfoldable pub entered : Environment → (parent : ℕ) → List State → ℕ → ℕ → Store → After
+entered d p kids = run_child (world_in d) (group_of (entities_in d) kids) p
+
+unfoldable pub block_run : Environment → Spot → List Command → ℕ → Store → After
+block_run d at cs = run_block (world_in d) (spot_in d at) (entered d at.state at.children.now) (block_of (entities_in d) cs)
+
+unfoldable pub command_run : Environment → Spot → Command → ℕ → Store → After
+command_run d at c = run (world_in d) (spot_in d at) (entered d at.state at.children.now) (command_of (entities_in d) c)
+
+-- the effect of a step, behind the raises
+unfoldable pub taken : Environment → Spot → Raise → Step → ℕ → Store → After
+taken d at r k pc s = effect (world_in d) (spot_in d at) (entered d at.state at.children.now) (step_of (entities_in d) k) pc s (raised_by d r s)
+
+-- a step, and what follows it where it is accepted and where it is refused
+unfoldable pub attempt_run : Environment → Spot → (hang : List ℕ) → Step → (accepted refused : List Command) → ℕ → Store → After
+attempt_run d at hang k accepted refused =
+    attempt_then (world_in d) (spot_in d at) (entered d at.state at.children.now) (step_of (entities_in d) k) (listed (flags (entities_in d) hang)) (block_run d at accepted) (block_run d at refused)
+
+unfoldable pub select_run : Environment → Spot → (hang : List ℕ) → Number → (then_part else_part : List Command) → ℕ → Store → After
+select_run d at hang e a b =
+    select (world_in d) (term_of e) (listed (flags (entities_in d) hang)) (branch (block_run d at a) (block_run d at b))
+
+-- the commands of the first arm that has the number, and the last ones where none has
+abbrev pub picked_in : List Arm → (last : List Command) → ℕ → List Command
+picked_in [] last n = last
+picked_in (arm ∷ arms) last n = if is_constant (constants_of arm) n then commands_in arm else picked_in arms last n
+
+unfoldable pub choose_run : Environment → Spot → (hang : List ℕ) → Number → List Arm → (last : List Command) → ℕ → Store → After
+choose_run d at hang e arms last =
+    select (world_in d) (term_of e) (listed (flags (entities_in d) hang)) (λ n. block_run d at (picked_in arms last n))
+
+unfoldable pub state_run : Environment → (parent : ℕ) → State → ℕ → Store → After
+state_run d p k = run_state (world_in d) (state_of (entities_in d) k) p
+
+-- what they need
+
+unfoldable pub CommandAble : Environment → Command → Type 0
+CommandAble d c = AbleCommand (world_in d) (command_of (entities_in d) c)
+
+unfoldable pub BlockAble : Environment → List Command → Type 0
+BlockAble d cs = AbleBlock (world_in d) (block_of (entities_in d) cs)
+
+unfoldable pub ArmsAble : Environment → List Arm → (last : List Command) → Type 0
+ArmsAble d arms last = AbleArms (world_in d) (arms_before (entities_in d) arms (last_arm (block_of (entities_in d) last)))
+
+unfoldable pub StateAble : Environment → State → Type 0
+StateAble d k = AbleState (world_in d) (state_of (entities_in d) k)
+
+unfoldable pub GroupAble : Environment → List State → Type 0
+GroupAble d kids = AbleGroup (world_in d) (group_of (entities_in d) kids)
+
+-- a state with its parent, an entity or the root, and with children that can run
+pub record SpotAble (d : Environment) (at : Spot) : Type 0 where
+  pub state : at.state < root (world_in d)
+  pub parent : at.parent ≤ root (world_in d)
+  pub children : GroupAble d at.children.now

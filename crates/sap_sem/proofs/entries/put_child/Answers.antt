@@ -1,9 +1,0 @@
-use Rattle.sap_sem.specs.Code.{world_in}
-use Rattle.sap_sem.proofs.Puts.{child_store, child_stays_ready}
-use Rattle.sap_sem.proofs.entries.put_child.Goals as goal
-
-pub returns-clause-store : goal.returns-clause-store
-returns-clause-store c = child_store (world_in c.args.setting.now) c.args.store.now c.args.parent c.args.place c.requires.within c.requires.ready
-
-pub returns-clause-ready : goal.returns-clause-ready
-returns-clause-ready c = child_stays_ready (world_in c.args.setting.now) c.args.store.now c.args.parent c.args.place c.requires.within c.requires.ready

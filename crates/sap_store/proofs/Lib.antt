@@ -1,0 +1,10 @@
+pub mod Worlds
+pub mod Stored
+pub mod Raised
+pub mod Resets
+pub mod Fits
+pub mod Firsts
+pub mod Writes
+pub mod Widths
+pub mod Settles
+pub mod Puts
